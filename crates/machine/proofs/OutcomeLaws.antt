@@ -1,0 +1,53 @@
+-- The laws of refusals in their order, and of an outcome that a refusal settles.
+-- Assumes nothing.
+use Prim.Native.Nat.{ℕ, zero, suc}
+use borrow.Author.Tests.{eq-eqb, ne-eqb}
+use lib.Dec.{eqb·suc-zero}
+use mathlib.Core.Bool.{true, false}
+use mathlib.Core.Path.{_≡_, refl}
+use Rattle.memory.specs.Buffers.{Buffers}
+use Rattle.machine.specs.Outcomes.{outcome, unless, first, settled}
+use Rattle.machine.specs.declared.State.{State}
+
+-- a refused call is the given state and memories
+pub refused : (number : ℕ) (s : State) (m : Buffers) (s′ : State) (m′ : Buffers) → (number ≡ 0 → ⊥) → settled number s m s′ m′ ≡ outcome number s m
+unfolding settled
+refused number s m s′ m′ ne = rw (ne-eqb number 0 ne)
+
+-- a call that is not refused is what it does
+pub accepted : (number : ℕ) (s : State) (m : Buffers) (s′ : State) (m′ : Buffers) → number ≡ 0 → settled number s m s′ m′ ≡ outcome 0 s′ m′
+unfolding settled
+accepted number s m s′ m′ e = rw (eq-eqb number 0 e)
+
+-- the number of an outcome is the number that settled it
+pub settled-number : (number : ℕ) (s : State) (m : Buffers) (s′ : State) (m′ : Buffers) → (settled number s m s′ m′) .number ≡ number
+unfolding settled
+settled-number zero s m s′ m′ = refl
+settled-number (suc n) s m s′ m′ = rw (eqb·suc-zero n)
+
+-- where the first is none, the second decides; where it is one, it does
+pub first-none : (a b : ℕ) → a ≡ 0 → first a b ≡ b
+unfolding first
+first-none a b e = rw (eq-eqb a 0 e)
+
+pub first-some : (a b : ℕ) → (a ≡ 0 → ⊥) → first a b ≡ a
+unfolding first
+first-some a b ne = rw (ne-eqb a 0 ne)
+
+pub first-zero : (b : ℕ) → first 0 b ≡ b
+unfolding first
+first-zero b = refl
+
+pub first-right : (a : ℕ) → first a 0 ≡ a
+unfolding first
+first-right zero = refl
+first-right (suc a) = rw (eqb·suc-zero a)
+
+-- a test that holds refuses nothing
+pub unless-true : (number : ℕ) → unless true number ≡ 0
+unfolding unless
+unless-true number = refl
+
+pub unless-false : (number : ℕ) → unless false number ≡ number
+unfolding unless
+unless-false number = refl

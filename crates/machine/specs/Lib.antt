@@ -1,0 +1,5 @@
+pub mod Psw
+pub mod Cc
+pub mod Registers
+pub mod States
+pub mod Outcomes

@@ -1,0 +1,33 @@
+-- What a call leaves, and its refusals in their order.
+use mathlib.Core.Bool.{Bool}
+use Prim.Native.Nat.{ℕ}
+use lib.Dec.{eqb}
+use Rattle.words.specs.Choice.{pick}
+use Rattle.memory.specs.Buffers.{Buffers, withinLimits}
+use Rattle.machine.specs.declared.State.{State}
+use Rattle.machine.specs.States.{sound}
+
+-- the number, the state and both memories after a call
+pub record Outcome : Type 0 where
+  pub number : ℕ
+  pub state : State
+  pub memory : Buffers
+
+abbrev pub outcome : ℕ → State → Buffers → Outcome
+outcome number s m = record { number = number; state = s; memory = m }
+
+-- a refusal by a number unless a test holds; 0 is none
+unfoldable pub unless : Bool → ℕ → ℕ
+unless ok number = pick ok 0 number
+
+-- the first refusal of two, in their order
+unfoldable pub first : ℕ → ℕ → ℕ
+first a b = pick (eqb a 0) b a
+
+-- "An attention or step that answers other than 0 returns the given state and changes no byte"
+unfoldable pub settled : ℕ → State → Buffers → State → Buffers → Outcome
+settled number s m s′ m′ = pick (eqb number 0) (outcome 0 s′ m′) (outcome number s m)
+
+-- what every attention and step asks of what it is given: 11, then 10
+unfoldable pub givenNumber : State → Buffers → ℕ
+givenNumber s m = first (unless (withinLimits m) 11) (unless (sound s) 10)

@@ -1,0 +1,55 @@
+-- The register file of a channel by RRR, "RRR 0-7: GA GB GC BC TP IX CC MC", with the rules of the tags; the bases by MM.
+use mathlib.Core.Bool.{Bool, true, false}
+use Prim.Native.Nat.{ℕ, _%_}
+use lib.Dec.{eqb, leb}
+use Rattle.words.specs.Choice.{pick}
+use Rattle.memory.specs.declared.Pointer.{Pointer}
+use Rattle.memory.specs.Values.{pointer}
+use Rattle.machine.specs.declared.Channel.{Channel}
+
+-- one of eight by RRR
+unfoldable pub byRRR {ℓ} : {A : Type ℓ} → ℕ → A → A → A → A → A → A → A → A → A
+byRRR r ga gb gc bc tp ix cc mc =
+    pick (eqb r 0) ga (pick (eqb r 1) gb (pick (eqb r 2) gc (pick (eqb r 3) bc (pick (eqb r 4) tp (pick (eqb r 5) ix (pick (eqb r 6) cc mc))))))
+
+-- the value of a register: a pointer's address, or 16 bits
+unfoldable pub registerOf : Channel → ℕ → ℕ
+registerOf c r = byRRR r (c .ga .address) (c .gb .address) (c .gc .address) (c .bc) (c .tp .address) (c .ix) (c .cc) (c .mc)
+
+-- the tag of a register that is a pointer
+unfoldable pub tagOf : Channel → ℕ → Bool
+tagOf c r = byRRR r (c .ga .tag) (c .gb .tag) (c .gc .tag) false (c .tp .tag) false false false
+
+-- a register written: "results lose their high bits"; a pointer takes the tag too
+unfoldable pub withRegister : Channel → ℕ → ℕ → Bool → Channel
+withRegister c r v tag =
+    record {
+      ga = pick (eqb r 0) (pointer (v % 1048576) tag) (c .ga);
+      gb = pick (eqb r 1) (pointer (v % 1048576) tag) (c .gb);
+      gc = pick (eqb r 2) (pointer (v % 1048576) tag) (c .gc);
+      tp = pick (eqb r 4) (pointer (v % 1048576) tag) (c .tp);
+      pp = c .pp;
+      bc = pick (eqb r 3) (v % 65536) (c .bc);
+      ix = pick (eqb r 5) (v % 65536) (c .ix);
+      cc = pick (eqb r 6) (v % 65536) (c .cc);
+      mc = pick (leb 7 r) (v % 65536) (c .mc);
+      psw = c .psw;
+      mode = c .mode;
+      armed = c .armed;
+    }
+
+-- "MOV and MOVI to a pointer set its tag"
+abbrev pub moved : Channel → ℕ → ℕ → Channel
+moved c r v = withRegister c r v true
+
+-- "arithmetic and logic keep it"
+abbrev pub worked : Channel → ℕ → ℕ → Channel
+worked c r v = withRegister c r v (tagOf c r)
+
+-- "LPD and LPDI clear it"
+abbrev pub loaded : Channel → ℕ → ℕ → Channel
+loaded c r v = withRegister c r v false
+
+-- "MM 0-3: GA GB GC PP as base"; PP is "always system"
+unfoldable pub baseOf : Channel → ℕ → Pointer
+baseOf c mm = pick (eqb mm 0) (c .ga) (pick (eqb mm 1) (c .gb) (pick (eqb mm 2) (c .gc) (pointer (c .pp) false)))

@@ -1,0 +1,74 @@
+-- The whole state: a fresh one, a sound one, and its channels, channel 1 named by false and channel 2 by true.
+use mathlib.Core.Bool.{Bool, true, false, _&&_, _||_}
+use Prim.Native.Nat.{ℕ}
+use lib.Dec.{ltb, eqb}
+use Rattle.words.specs.Choice.{pick}
+use Rattle.memory.specs.Values.{pointer}
+use Rattle.machine.specs.declared.Mode.the-variants.{Idle}
+use Rattle.machine.specs.declared.Channel.{Channel}
+use Rattle.machine.specs.declared.State.{State}
+use Rattle.machine.specs.declared.Answer.{Answer}
+
+-- a channel with all at 0 and idle
+unfoldable pub idleChannel : Channel
+idleChannel =
+    record {
+      ga = pointer 0 false;
+      gb = pointer 0 false;
+      gc = pointer 0 false;
+      tp = pointer 0 false;
+      pp = 0;
+      bc = 0;
+      ix = 0;
+      cc = 0;
+      mc = 0;
+      psw = 0;
+      mode = Idle;
+      armed = false;
+    }
+
+-- "A fresh state takes CP; all else is 0 or idle; "last" is channel 2"
+unfoldable pub freshState : ℕ → State
+freshState cp = record { first = idleChannel; second = idleChannel; cp = cp; last = true }
+
+-- "A fresh state with a bad CP answers 10 and the state made with CP 0"
+unfoldable pub freshOf : ℕ → Answer
+freshOf cp = pick (ltb cp 1048576) (record { number = 0; state = freshState cp }) (record { number = 10; state = freshState 0 })
+
+-- the channel of a name
+unfoldable pub channelOf : State → Bool → Channel
+channelOf s second = pick second (s .second) (s .first)
+
+-- the state with a channel put back under its name
+unfoldable pub withChannel : State → Bool → Channel → State
+withChannel s second c =
+    record { first = pick second (s .first) c; second = pick second c (s .second); cp = s .cp; last = s .last }
+
+-- the state with the channel that stepped last
+unfoldable pub withLast : State → Bool → State
+withLast s second = record { first = s .first; second = s .second; cp = s .cp; last = second }
+
+-- no pointer, nor PP, of a channel is 1,048,576 or more
+unfoldable pub soundChannel : Channel → Bool
+soundChannel c =
+    ltb (c .ga .address) 1048576
+    && ltb (c .gb .address) 1048576
+    && ltb (c .gc .address) 1048576
+    && ltb (c .tp .address) 1048576
+    && ltb (c .pp) 1048576
+
+-- "a pointer, PP or CP in the given state is 1,048,576 or more": not so (else 10)
+unfoldable pub sound : State → Bool
+sound s = soundChannel (s .first) && soundChannel (s .second) && ltb (s .cp) 1048576
+
+-- the numbers 1 and 2 name a channel (else 12)
+unfoldable pub isChannel : ℕ → Bool
+isChannel number = eqb number 1 || eqb number 2
+
+-- channel 2's number names it
+unfoldable pub isSecond : ℕ → Bool
+isSecond number = eqb number 2
+
+-- the number of a channel
+unfoldable pub numberOf : Bool → ℕ
+numberOf second = pick second 2 1

@@ -1,0 +1,48 @@
+// The machine's registers: two channels, the control block's address and the channel that stepped last, all by value.
+use memory::Pointer;
+
+// The fields of PSW.
+pub mod psw;
+// The fields of CC.
+pub mod cc;
+// The registers of a channel by RRR, and the bases by MM.
+pub mod registers;
+// A fresh state, a sound state, and its channels.
+pub mod states;
+
+// What a channel is doing.
+pub enum Mode {
+    Idle,
+    Running,
+    Suspended,
+}
+
+// The registers of a channel.
+pub struct Channel {
+    pub ga: Pointer,
+    pub gb: Pointer,
+    pub gc: Pointer,
+    pub tp: Pointer,
+    pub pp: u32,
+    pub bc: u16,
+    pub ix: u16,
+    pub cc: u16,
+    pub mc: u16,
+    pub psw: u8,
+    pub mode: Mode,
+    pub armed: bool,
+}
+
+// Both channels, the control block's address, and whether channel 2 was the last to step.
+pub struct State {
+    pub first: Channel,
+    pub second: Channel,
+    pub cp: u32,
+    pub last: bool,
+}
+
+// What a call answers: a number of the paper, 0 for done, and the state.
+pub struct Answer {
+    pub number: u32,
+    pub state: State,
+}

@@ -1,0 +1,140 @@
+// A fresh state, a sound state, and the channels of a state by their names and numbers.
+use crate::Answer;
+use crate::Channel;
+use crate::Mode;
+use crate::State;
+use memory::Pointer;
+ghost use mathlib.Core.Path.{_≡_};
+ghost use Rattle.memory.specs.Buffers.{buffers};
+ghost use Rattle.machine.specs.Outcomes.{givenNumber};
+ghost use Rattle.machine.specs.States as States;
+ghost use Rattle.machine.specs.States.{idleChannel, freshState, freshOf, channelOf, withChannel, withLast, soundChannel, isChannel, isSecond, numberOf};
+
+// A channel with all at 0 and idle.
+pub fn idle() -> Channel
+    ensures { λ r. ⌜ r ≡ idleChannel ⌝ }
+{
+    let p = Pointer {
+        address: 0,
+        tag: false,
+    };
+    Channel {
+        ga: p,
+        gb: p,
+        gc: p,
+        tp: p,
+        pp: 0,
+        bc: 0,
+        ix: 0,
+        cc: 0,
+        mc: 0,
+        psw: 0,
+        mode: Mode::Idle,
+        armed: false,
+    }
+}
+
+// The state that only a CP is known of.
+fn made(cp: u32) -> State
+    ensures { λ r. ⌜ r ≡ freshState cp ⌝ }
+{
+    let c = idle();
+    State {
+        first: c,
+        second: c,
+        cp,
+        last: true,
+    }
+}
+
+// A fresh state of a CP, or 10 and the one of CP 0.
+pub fn fresh(cp: u32) -> Answer
+    ensures { λ r. ⌜ r ≡ freshOf cp ⌝ }
+{
+    if cp < 1048576 {
+        let state = made(cp);
+        Answer { number: 0, state }
+    } else {
+        let state = made(0);
+        Answer { number: 10, state }
+    }
+}
+
+// Whether no pointer of a channel is past 20 bits.
+pub fn sound_channel(c: Channel) -> bool
+    ensures { λ r. ⌜ r ≡ soundChannel c ⌝ }
+{
+    (c.ga.address < 1048576)
+        & (c.gb.address < 1048576)
+        & (c.gc.address < 1048576)
+        & (c.tp.address < 1048576)
+        & (c.pp < 1048576)
+}
+
+// Whether no pointer of either channel, nor CP, is past 20 bits.
+pub fn sound(s: State) -> bool
+    ensures { λ r. ⌜ r ≡ States.sound s ⌝ }
+{
+    sound_channel(s.first) & sound_channel(s.second) & (s.cp < 1048576)
+}
+
+// The channel of a name: false is channel 1, true is channel 2.
+pub fn channel(s: State, second: bool) -> Channel
+    ensures { λ r. ⌜ r ≡ channelOf s second ⌝ }
+{
+    if second { s.second } else { s.first }
+}
+
+// The state with a channel put back under its name.
+pub fn with_channel(s: State, second: bool, c: Channel) -> State
+    ensures { λ r. ⌜ r ≡ withChannel s second c ⌝ }
+{
+    let mut next = s;
+    if second {
+        next.second = c;
+    } else {
+        next.first = c;
+    }
+    next
+}
+
+// The state with the channel that stepped last.
+pub fn with_last(s: State, second: bool) -> State
+    ensures { λ r. ⌜ r ≡ withLast s second ⌝ }
+{
+    let mut next = s;
+    next.last = second;
+    next
+}
+
+// Whether a number names a channel.
+pub fn is_channel(number: u32) -> bool
+    ensures { λ r. ⌜ r ≡ isChannel number ⌝ }
+{
+    (number == 1) | (number == 2)
+}
+
+// Whether a number names channel 2.
+pub fn is_second(number: u32) -> bool
+    ensures { λ r. ⌜ r ≡ isSecond number ⌝ }
+{
+    number == 2
+}
+
+// The number of a channel.
+pub fn number(second: bool) -> u32
+    ensures { λ r. ⌜ r ≡ numberOf second ⌝ }
+{
+    if second { 2 } else { 1 }
+}
+
+// The refusal of what a call is given: 11 for a buffer past its limit, then 10 for a state that is not sound, else 0.
+pub fn given_number(s: State, sys: &[u8], io: &[u8]) -> u32
+    ensures { λ r. ⌜ r ≡ givenNumber s (buffers (now (sys .entry)) (now (io .entry))) ⌝ }
+{
+    if memory::within_limits(sys, io) {
+        if sound(s) { 0 } else { 10 }
+    } else {
+        11
+    }
+}

@@ -1,0 +1,27 @@
+-- `memory::byte` meets its contract.
+-- Assumes nothing.
+use borrow.Author.Needs.{needs}
+use mathlib.Core.Path.{_∙_}
+use Rattle.memory.specs.Buffers.{spaceOf, byteAt}
+use Rattle.memory.proofs.byte.Statement.{statement}
+use Rattle.memory.proofs.byte.Tie as tie
+
+index-requires : tie.Need-index-requires
+index-requires c κs = search needs
+
+read-requires : tie.Need-read-requires
+read-requires c κs = search needs
+
+read-requires-2 : tie.Need-read-requires-2
+read-requires-2 c κs = search needs
+
+returns : tie.Need-returns
+unfolding byteAt spaceOf
+returns c = c .read .ensures ∙ rw (c .before .before .index .ensures, c .before .if1 .taken)
+
+returns-2 : tie.Need-returns-2
+unfolding byteAt spaceOf
+returns-2 c = c .read2 .ensures ∙ rw (c .before .before .index .ensures, c .before .if1 .left)
+
+pub byte-spec : {M : Type 1} → statement M
+byte-spec = tie.close (tie.spec index-requires read-requires read-requires-2 returns returns-2)

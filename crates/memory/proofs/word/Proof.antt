@@ -1,0 +1,30 @@
+-- `memory::word` meets its contract.
+-- Assumes nothing.
+use borrow.Author.Needs.{needs}
+use mathlib.Core.Path.{_∙_}
+use Rattle.words.specs.Sums.{sum20}
+use Rattle.memory.specs.Values.{wordAt}
+use Rattle.memory.proofs.PlaceLaws.{byte-reduced}
+use Rattle.memory.proofs.word.Statement.{statement}
+use Rattle.memory.proofs.word.Tie as tie
+
+byte-requires : tie.Need-byte-requires
+byte-requires c κs = search needs
+
+sum20-requires : tie.Need-sum20-requires
+sum20-requires c κs = search needs
+
+byte-requires-2 : tie.Need-byte-requires-2
+byte-requires-2 c κs = search needs
+
+word-requires : tie.Need-word-requires
+word-requires c κs = search needs
+
+returns : tie.Need-returns
+unfolding wordAt
+returns c =
+    c .word .ensures
+    ∙ rw (c .before .byte2 .ensures, c .before .before .sum20 .ensures, c .before .before .before .byte .ensures, byte-reduced)
+
+pub word-spec : {M : Type 1} → statement M
+word-spec = tie.close (tie.spec byte-requires sum20-requires byte-requires-2 word-requires returns)

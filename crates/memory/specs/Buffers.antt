@@ -1,0 +1,46 @@
+-- The two lent buffers, and all that is decided about a single byte: where it lies, whether it is lent, what a read gives and what a store does.
+use mathlib.Core.Bool.{Bool, true, false, _&&_}
+use mathlib.Core.List.{List}
+use Prim.Native.Nat.{ℕ, _%_}
+use lib.ListN.{length, getD, set}
+use lib.Dec.{ltb, leb}
+use Rattle.words.specs.Choice.{pick}
+
+-- system memory and I/O memory as they are lent, byte by byte
+pub record Buffers : Type 0 where
+  pub sys : List ℕ
+  pub io : List ℕ
+
+abbrev pub buffers : List ℕ → List ℕ → Buffers
+buffers sys io = record { sys = sys; io = io }
+
+-- "Tag 0 means system, 1 means I/O": the buffer that a tag names
+unfoldable pub spaceOf : Buffers → Bool → List ℕ
+spaceOf m tag = pick tag (m .io) (m .sys)
+
+-- the most bytes that a space has
+unfoldable pub limitOf : Bool → ℕ
+limitOf tag = pick tag 65536 1048576
+
+-- "Addresses count mod 1,048,576; in I/O space only the low 16 bits are used": where an address lies in its buffer
+unfoldable pub indexOf : Bool → ℕ → ℕ
+indexOf tag address = address % limitOf tag
+
+-- whether the byte at an address is lent
+unfoldable pub lentAt : Buffers → Bool → ℕ → Bool
+lentAt m tag address = ltb (indexOf tag address) (length (spaceOf m tag))
+
+-- what a read of the byte at an address gives; 0 beyond the lent end
+unfoldable pub byteAt : Buffers → Bool → ℕ → ℕ
+byteAt m tag address = getD (spaceOf m tag) (indexOf tag address) 0
+
+-- what a store of a byte at an address leaves; nothing happens beyond the lent end (`set` past a list's end is the list)
+unfoldable pub storeByte : Buffers → Bool → ℕ → ℕ → Buffers
+storeByte m tag address v =
+    pick tag
+    (buffers (m .sys) (set (m .io) (indexOf tag address) v))
+    (buffers (set (m .sys) (indexOf tag address) v) (m .io))
+
+-- no buffer is longer than its limit (else 11)
+unfoldable pub withinLimits : Buffers → Bool
+withinLimits m = leb (length (m .sys)) (limitOf false) && leb (length (m .io)) (limitOf true)

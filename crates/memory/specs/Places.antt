@@ -1,0 +1,25 @@
+-- Places, a space and an address each: which bytes a call touches is a list of them.
+use mathlib.Core.Bool.{Bool, true, _&&_}
+use mathlib.Core.List.{List, [], _∷_}
+use mathlib.Core.Path.{_≡_}
+use Prim.Native.Nat.{ℕ, zero, suc, _+_}
+use Rattle.memory.specs.Buffers.{Buffers, indexOf, lentAt}
+
+-- one byte's place
+pub record Place : Type 0 where
+  pub tag : Bool
+  pub address : ℕ
+
+-- the places of n bytes in a row
+unfoldable pub span : Bool → ℕ → ℕ → List Place
+span tag address zero = []
+span tag address (suc n) = record { tag = tag; address = address } ∷ span tag (address + 1) n
+
+-- every byte of a list is lent (else 2)
+unfoldable pub allLent : Buffers → List Place → Bool
+allLent m [] = true
+allLent m (p ∷ ps) = lentAt m (p .tag) (p .address) && allLent m ps
+
+-- two places that are different bytes
+abbrev pub Apart : Bool → ℕ → Bool → ℕ → Type 0
+Apart t a u b = t ≡ u → indexOf t a ≡ indexOf u b → ⊥

@@ -1,0 +1,166 @@
+// System and I/O memory as the caller lends them, two byte buffers of any length: every read and store has a meaning,
+// also beyond the lent end.
+ghost use mathlib.Core.Path.{_≡_};
+ghost use Prim.Native.Nat.{_+_};
+ghost use lib.ListN.{getD, set};
+ghost use Rattle.memory.specs.Buffers.{buffers, indexOf, lentAt, byteAt, storeByte, withinLimits};
+ghost use Rattle.memory.specs.Values.{wordAt, doublewordAt, pointerAt, storeWord, storeDoubleword, storePointer};
+ghost use Rattle.memory.specs.Places.{span, allLent};
+
+// A pointer: 20 bits of address, and the tag that names its space (false system, true I/O).
+pub struct Pointer {
+    pub address: u32,
+    pub tag: bool,
+}
+
+// Where an address lies in its buffer.
+fn index(tag: bool, address: u32) -> usize
+    ensures { λ r. ⌜ r ≡ indexOf tag address ⌝ }
+{
+    if tag {
+        (address % 65536) as usize
+    } else {
+        (address % 1048576) as usize
+    }
+}
+
+// The byte of a buffer, or 0 beyond its end.
+fn read(space: &[u8], at: usize) -> u8
+    ensures { λ r. ⌜ r ≡ getD (now (space .entry)) at 0 ⌝ }
+{
+    if at < space.len() { space[at] } else { 0 }
+}
+
+// A byte put into a buffer, or nothing beyond its end.
+fn write(buffer: &mut [u8], at: usize, v: u8)
+    ensures { λ r. ⌜ now (buffer .exit) ≡ set (now (buffer .entry)) at v ⌝ }
+{
+    if at < buffer.len() {
+        buffer[at] = v;
+    }
+}
+
+// Whether neither buffer is longer than its limit.
+pub fn within_limits(sys: &[u8], io: &[u8]) -> bool
+    ensures { λ r. ⌜ r ≡ withinLimits (buffers (now (sys .entry)) (now (io .entry))) ⌝ }
+{
+    (sys.len() <= 1048576) & (io.len() <= 65536)
+}
+
+// Whether the byte at an address is lent.
+pub fn lent(sys: &[u8], io: &[u8], tag: bool, address: u32) -> bool
+    ensures { λ r. ⌜ r ≡ lentAt (buffers (now (sys .entry)) (now (io .entry))) tag address ⌝ }
+{
+    let at = index(tag, address);
+    if tag { at < io.len() } else { at < sys.len() }
+}
+
+// Whether `count` bytes in a row are lent, wherever the addresses wrap.
+pub fn span_lent(sys: &[u8], io: &[u8], tag: bool, address: u32, count: u32) -> bool
+    ensures { λ r. ⌜ r ≡ allLent (buffers (now (sys .entry)) (now (io .entry))) (span tag address count) ⌝ }
+{
+    if count == 0 {
+        return true;
+    }
+    let end = index(tag, address) + count as usize;
+    if tag {
+        (end <= io.len()) | (65536 <= io.len())
+    } else {
+        (end <= sys.len()) | (1048576 <= sys.len())
+    }
+}
+
+// The byte at an address.
+pub fn byte(sys: &[u8], io: &[u8], tag: bool, address: u32) -> u8
+    ensures { λ r. ⌜ r ≡ byteAt (buffers (now (sys .entry)) (now (io .entry))) tag address ⌝ }
+{
+    let at = index(tag, address);
+    if tag { read(io, at) } else { read(sys, at) }
+}
+
+// The word at an address.
+pub fn word(sys: &[u8], io: &[u8], tag: bool, address: u32) -> u16
+    ensures { λ r. ⌜ r ≡ wordAt (buffers (now (sys .entry)) (now (io .entry))) tag address ⌝ }
+{
+    let low = byte(sys, io, tag, address);
+    let high = byte(sys, io, tag, words::sum20(address, 1));
+    words::word(low, high)
+}
+
+// The address that the doubleword pointer at an address gives.
+pub fn doubleword(sys: &[u8], io: &[u8], tag: bool, address: u32) -> u32
+    ensures { λ r. ⌜ r ≡ doublewordAt (buffers (now (sys .entry)) (now (io .entry))) tag address ⌝ }
+{
+    let offset = word(sys, io, tag, address);
+    let segment = word(sys, io, tag, words::sum20(address, 2));
+    words::address(offset, segment)
+}
+
+// The pointer that the three bytes at an address store.
+pub fn stored_pointer(sys: &[u8], io: &[u8], tag: bool, address: u32) -> Pointer
+    ensures { λ r. ⌜ r ≡ pointerAt (buffers (now (sys .entry)) (now (io .entry))) tag address ⌝ }
+{
+    let low = byte(sys, io, tag, address);
+    let middle = byte(sys, io, tag, words::sum20(address, 1));
+    let high = byte(sys, io, tag, words::sum20(address, 2));
+    Pointer {
+        address: words::stored_address(low, middle, high),
+        tag: words::stored_tag(high),
+    }
+}
+
+// A byte stored at an address.
+pub fn store_byte(sys: &mut [u8], io: &mut [u8], tag: bool, address: u32, v: u8)
+    ensures { λ r. ⌜ buffers (now (sys .exit)) (now (io .exit)) ≡ storeByte (buffers (now (sys .entry)) (now (io .entry))) tag address v ⌝ }
+{
+    let at = index(tag, address);
+    if tag {
+        write(io, at, v);
+    } else {
+        write(sys, at, v);
+    }
+}
+
+// A word stored at an address.
+pub fn store_word(sys: &mut [u8], io: &mut [u8], tag: bool, address: u32, v: u16)
+    ensures { λ r. ⌜ buffers (now (sys .exit)) (now (io .exit)) ≡ storeWord (buffers (now (sys .entry)) (now (io .entry))) tag address v ⌝ }
+{
+    store_byte(sys, io, tag, address, words::low_byte(v));
+    store_byte(sys, io, tag, words::sum20(address, 1), words::high_byte(v));
+}
+
+// A doubleword pointer stored at an address.
+pub fn store_doubleword(
+    sys: &mut [u8],
+    io: &mut [u8],
+    tag: bool,
+    address: u32,
+    offset: u16,
+    segment: u16,
+)
+    ensures { λ r. ⌜ buffers (now (sys .exit)) (now (io .exit)) ≡ storeDoubleword (buffers (now (sys .entry)) (now (io .entry))) tag address offset segment ⌝ }
+{
+    store_word(sys, io, tag, address, offset);
+    store_word(sys, io, tag, words::sum20(address, 2), segment);
+}
+
+// A pointer stored in three bytes at an address.
+pub fn store_pointer(sys: &mut [u8], io: &mut [u8], tag: bool, address: u32, p: Pointer)
+    ensures { λ r. ⌜ buffers (now (sys .exit)) (now (io .exit)) ≡ storePointer (buffers (now (sys .entry)) (now (io .entry))) tag address p ⌝ }
+{
+    store_byte(sys, io, tag, address, words::stored_low(p.address));
+    store_byte(
+        sys,
+        io,
+        tag,
+        words::sum20(address, 1),
+        words::stored_middle(p.address),
+    );
+    store_byte(
+        sys,
+        io,
+        tag,
+        words::sum20(address, 2),
+        words::stored_high(p.address, p.tag),
+    );
+}

@@ -1,0 +1,4 @@
+pub mod ChoiceLaws
+pub mod BitLaws
+pub mod SignLaws
+pub mod StoredLaws
