@@ -3,8 +3,10 @@ use mathlib.Core.Bool.{Bool, true, false, _&&_, _||_}
 use Prim.Native.Nat.{ℕ}
 use lib.Dec.{ltb, eqb}
 use Rattle.words.specs.Choice.{pick}
+use Rattle.words.specs.Sums.{sum20}
 use Rattle.memory.specs.Values.{pointer}
-use Rattle.machine.specs.declared.Mode.the-variants.{Idle}
+use Rattle.machine.specs.declared.Mode.{Mode}
+use Rattle.machine.specs.declared.Mode.the-variants.{Idle, Running, Suspended}
 use Rattle.machine.specs.declared.Channel.{Channel}
 use Rattle.machine.specs.declared.State.{State}
 use Rattle.machine.specs.declared.Answer.{Answer}
@@ -60,6 +62,22 @@ soundChannel c =
 -- "a pointer, PP or CP in the given state is 1,048,576 or more": not so (else 10)
 unfoldable pub sound : State → Bool
 sound s = soundChannel (s .first) && soundChannel (s .second) && ltb (s .cp) 1048576
+
+-- the mode alone says whether a channel runs
+unfoldable pub isRunning : Mode → Bool
+isRunning Idle = false
+isRunning Running = true
+isRunning Suspended = false
+
+-- the channel is suspended
+unfoldable pub isSuspended : Mode → Bool
+isSuspended Idle = false
+isSuspended Running = false
+isSuspended Suspended = true
+
+-- "Channel 1's block starts at CP, channel 2's at CP + 8"
+unfoldable pub blockOf : State → Bool → ℕ
+blockOf s second = pick second (sum20 (s .cp) 8) (s .cp)
 
 -- the numbers 1 and 2 name a channel (else 12)
 unfoldable pub isChannel : ℕ → Bool

@@ -8,7 +8,7 @@ ghost use mathlib.Core.Path.{_≡_};
 ghost use Rattle.memory.specs.Buffers.{buffers};
 ghost use Rattle.machine.specs.Outcomes.{givenNumber};
 ghost use Rattle.machine.specs.States as States;
-ghost use Rattle.machine.specs.States.{idleChannel, freshState, freshOf, channelOf, withChannel, withLast, soundChannel, isChannel, isSecond, numberOf};
+ghost use Rattle.machine.specs.States.{idleChannel, freshState, freshOf, channelOf, withChannel, withLast, soundChannel, isRunning, isSuspended, blockOf, isChannel, isSecond, numberOf};
 
 // A channel with all at 0 and idle.
 pub fn idle() -> Channel
@@ -105,6 +105,35 @@ pub fn with_last(s: State, second: bool) -> State
     let mut next = s;
     next.last = second;
     next
+}
+
+// Whether a channel of a mode runs.
+pub fn is_running(mode: Mode) -> bool
+    ensures { λ r. ⌜ r ≡ isRunning mode ⌝ }
+{
+    match mode {
+        Mode::Idle => false,
+        Mode::Running => true,
+        Mode::Suspended => false,
+    }
+}
+
+// Whether a channel of a mode is suspended.
+pub fn is_suspended(mode: Mode) -> bool
+    ensures { λ r. ⌜ r ≡ isSuspended mode ⌝ }
+{
+    match mode {
+        Mode::Idle => false,
+        Mode::Running => false,
+        Mode::Suspended => true,
+    }
+}
+
+// Where a channel's block starts.
+pub fn block(s: State, second: bool) -> u32
+    ensures { λ r. ⌜ r ≡ blockOf s second ⌝ }
+{
+    if second { words::sum20(s.cp, 8) } else { s.cp }
 }
 
 // Whether a number names a channel.

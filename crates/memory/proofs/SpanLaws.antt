@@ -4,8 +4,8 @@ use Prim.Native.Nat.{ℕ, zero, suc, _+_, _-_, _<_, _≤_}
 use borrow.Author.Tests.{lt-ltb, le-ltb, le-leb, lt-leb}
 use lib.Dec.{ltb, leb}
 use lib.ListN.{length}
-use mathlib.Core.Bool.{Bool, true, false, _&&_, _||_}
-use mathlib.Core.List.{List, [], _∷_}
+use mathlib.Core.Bool.{and-assoc, Bool, true, false, _&&_, _||_}
+use mathlib.Core.List.{List, [], _∷_, _++_}
 use mathlib.Core.Path.{_≡_, refl, sym, ap, ap₂, subst, _∙_}
 use native.Mathlib.Decide.{decLt}
 use native.Mathlib.Nat.{add-zero, lt-of-lt-of-le, not-suc-le-zero, le-of-suc-le-suc}
@@ -29,6 +29,14 @@ span-at m t a (suc n) (suc k) h hk =
 -- the first byte of a lent span is lent
 pub span-first : (m : Buffers) (t : Bool) (a n : ℕ) → allLent m (span t a n) ≡ true → 0 < n → lentAt m t a ≡ true
 span-first m t a n h hn = rw add-zero at (span-at m t a n 0 h hn)
+
+-- two lists are lent where each is
+pub all-append : (m : Buffers) (ps qs : List Place) → allLent m (ps ++ qs) ≡ (allLent m ps && allLent m qs)
+unfolding allLent
+all-append m [] qs = refl
+all-append m (p ∷ ps) qs =
+    ap (λ (b : Bool). lentAt m (p .tag) (p .address) && b) (all-append m ps qs)
+    ∙ sym (and-assoc (lentAt m (p .tag) (p .address)) (allLent m ps) (allLent m qs))
 
 -- a store leaves all lent that was
 pub all-store : (m : Buffers) (t : Bool) (a v : ℕ) (ps : List Place) → allLent (storeByte m t a v) ps ≡ allLent m ps

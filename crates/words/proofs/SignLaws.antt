@@ -1,19 +1,19 @@
 -- The laws of signed numbers, each once over the width: what a width's bits stand for, that sign extension keeps it, and that a displacement is the
 -- sum with the extended number.
 -- Assumes nothing.
-use mathlib.Core.Bool.{Bool, true, false}
-use mathlib.Core.Path.{_≡_, refl, sym, ap, subst, _∙_}
 use Prim.Native.Nat.{ℕ, suc, _+_, _-_, _*_, _%_, _^_, _<_, _≤_}
-use native.Mathlib.Nat.{mod-eq-of-lt, lt-of-lt-of-le}
-use native.Mathlib.Decide.{decLt}
-use native.Mathlib.Omega.{arith}
 use borrow.Author.Tests.{lt-ltb, le-ltb}
 use lib.Dec.{ltb}
-use lib.IntN.{ℤ, pos, negsuc, _+ℤ_}
-use lib.Pow.{pow-pos, pow-mono, pow-add}
+use lib.IntN.{pos, negsuc, _+ℤ_}
+use lib.Pow.{pow-mono, pow-add}
+use mathlib.Core.Bool.{Bool, true, false}
+use mathlib.Core.Path.{_≡_, refl, ap, _∙_}
+use mir.Facts.{toZ-ofZ, toZ-pos}
 use mir.Syntax.{w32}
 use mir.Val.{SFits, toZ, ofZ}
-use mir.Facts.{toZ-ofZ, toZ-pos}
+use native.Mathlib.Decide.{decLt}
+use native.Mathlib.Nat.{mod-eq-of-lt, lt-of-lt-of-le}
+use native.Mathlib.Omega.{arith}
 use Rattle.words.specs.Choice.{pick}
 use Rattle.words.specs.Signs.{signedOf, extended, displacedBy}
 
@@ -39,6 +39,18 @@ high-is k x n top h hx hn =
     let small : x < 2 ^ 31 = omega arith in
     toZ-ofZ (high-fits x n hx hn)
     ∙ rw (toZ-pos w32 small, negative x n hx, le-ltb x (2 ^ (k - 1)) h) (ap negsuc (omega (arith, top)))
+
+-- what k bits stand for fits an i32
+pub signed-fits : (k x : ℕ) → k ≤ 31 → x < 2 ^ k → SFits w32 (signedOf k x)
+unfolding signedOf
+signed-fits k x hk hx = go (ltb x (2 ^ (k - 1)))
+  where
+    most : 2 ^ k ≤ 2 ^ 31
+    most = pow-mono hk
+
+    go : (b : Bool) → SFits w32 (pick b (pos x) (negsuc (2 ^ k - 1 - x)))
+    go true = record { sfits = omega (arith, most, hx) }
+    go false = record { sfits = omega (arith, most, hx) }
 
 -- k bits are twice as many numbers as k - 1
 twice : (k : ℕ) → 1 ≤ k → 2 ^ k ≡ 2 ^ (k - 1) * 2

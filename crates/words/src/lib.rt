@@ -185,3 +185,17 @@ pub fn matches(byte: u8, mc: u16) -> bool
 {
     (byte ^ low_byte(mc)) & high_byte(mc) == 0
 }
+
+// A pointer moved by the signed displacement of one byte.
+pub fn displaced_byte(pointer: u32, x: u8) -> u32
+    ensures { λ r. ⌜ r ≡ displacedBy pointer (signedOf 8 x) ⌝ }
+{
+    displaced(pointer, displacement_byte(x))
+}
+
+// A pointer moved by the signed displacement of two bytes.
+pub fn displaced_word(pointer: u32, x: u16) -> u32
+    ensures { λ r. ⌜ r ≡ displacedBy pointer (signedOf 16 x) ⌝ }
+{
+    displaced(pointer, displacement_word(x))
+}

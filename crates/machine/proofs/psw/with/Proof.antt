@@ -1,4 +1,4 @@
--- `machine::psw/with` meets its contract.
+-- `machine::psw::with` meets its contract.
 -- Assumes nothing.
 use Prim.Native.Nat.{_<_}
 use borrow.Author.Needs.{needs}

@@ -1,4 +1,4 @@
--- `machine::registers/base` meets its contract.
+-- `machine::registers::base` meets its contract.
 -- Assumes nothing.
 use borrow.Author.Tests.{ne-eqb}
 use Rattle.machine.specs.Registers.{baseOf}

@@ -1,4 +1,4 @@
--- `machine::registers/tag` meets its contract.
+-- `machine::registers::tag` meets its contract.
 -- Assumes nothing.
 use borrow.Author.Tests.{ne-eqb}
 use Rattle.words.proofs.ChoiceLaws.{pick-same}

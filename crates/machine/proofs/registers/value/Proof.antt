@@ -1,4 +1,4 @@
--- `machine::registers/value` meets its contract.
+-- `machine::registers::value` meets its contract.
 -- Assumes nothing.
 use borrow.Author.Needs.{needs}
 use borrow.Author.Tests.{ne-eqb}

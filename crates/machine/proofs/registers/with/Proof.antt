@@ -1,4 +1,4 @@
--- `machine::registers/with` meets its contract.
+-- `machine::registers::with` meets its contract.
 -- Assumes nothing.
 use Prim.Native.Nat.{ℕ, suc, _≤_, zero-le}
 use borrow.Author.Needs.{needs}

@@ -1,4 +1,4 @@
--- `machine::registers/worked` meets its contract.
+-- `machine::registers::worked` meets its contract.
 -- Assumes nothing.
 use borrow.Author.Needs.{needs}
 use mathlib.Core.Path.{_∙_}

@@ -1,4 +1,4 @@
--- `machine::states/channel` meets its contract.
+-- `machine::states::channel` meets its contract.
 -- Assumes nothing.
 use Rattle.machine.specs.States.{channelOf}
 use Rattle.machine.proofs.states.channel.Statement.{statement}

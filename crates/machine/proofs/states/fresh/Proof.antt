@@ -1,4 +1,4 @@
--- `machine::states/fresh` meets its contract.
+-- `machine::states::fresh` meets its contract.
 -- Assumes nothing.
 use borrow.Author.Needs.{needs}
 use borrow.Author.Tests.{lt-ltb, le-ltb, le-leb, lt-leb}

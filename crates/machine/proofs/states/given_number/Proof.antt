@@ -1,4 +1,4 @@
--- `machine::states/given_number` meets its contract.
+-- `machine::states::given_number` meets its contract.
 -- Assumes nothing.
 use borrow.Author.Needs.{needs}
 use Rattle.machine.specs.Outcomes.{unless, first, givenNumber}

@@ -1,4 +1,4 @@
--- `machine::states/idle` meets its contract.
+-- `machine::states::idle` meets its contract.
 -- Assumes nothing.
 use mathlib.Core.Path.{refl}
 use Rattle.machine.specs.States.{idleChannel}

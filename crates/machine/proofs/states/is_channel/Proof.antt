@@ -1,4 +1,4 @@
--- `machine::states/is_channel` meets its contract.
+-- `machine::states::is_channel` meets its contract.
 -- Assumes nothing.
 use mathlib.Core.Path.{refl}
 use Rattle.machine.specs.States.{isChannel}

@@ -1,4 +1,4 @@
--- `machine::states/is_second` meets its contract.
+-- `machine::states::is_second` meets its contract.
 -- Assumes nothing.
 use mathlib.Core.Path.{refl}
 use Rattle.machine.specs.States.{isSecond}

@@ -1,4 +1,4 @@
--- `machine::states/made` meets its contract.
+-- `machine::states::made` meets its contract.
 -- Assumes nothing.
 use borrow.Author.Needs.{needs}
 use Rattle.machine.specs.States.{freshState}

@@ -1,4 +1,4 @@
--- `machine::states/number` meets its contract.
+-- `machine::states::number` meets its contract.
 -- Assumes nothing.
 use Rattle.machine.specs.States.{numberOf}
 use Rattle.machine.proofs.states.number.Statement.{statement}

@@ -1,4 +1,4 @@
--- `machine::states/sound` meets its contract.
+-- `machine::states::sound` meets its contract.
 -- Assumes nothing.
 use borrow.Author.Needs.{needs}
 use Rattle.machine.specs.States.{sound}

@@ -1,4 +1,4 @@
--- `machine::states/sound_channel` meets its contract.
+-- `machine::states::sound_channel` meets its contract.
 -- Assumes nothing.
 use mathlib.Core.Path.{refl}
 use Rattle.machine.specs.States.{soundChannel}

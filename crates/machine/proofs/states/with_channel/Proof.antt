@@ -1,4 +1,4 @@
--- `machine::states/with_channel` meets its contract.
+-- `machine::states::with_channel` meets its contract.
 -- Assumes nothing.
 use Rattle.machine.specs.States.{withChannel}
 use Rattle.machine.proofs.states.with_channel.Statement.{statement}

@@ -1,4 +1,4 @@
--- `machine::states/with_last` meets its contract.
+-- `machine::states::with_last` meets its contract.
 -- Assumes nothing.
 use mathlib.Core.Path.{refl}
 use Rattle.machine.specs.States.{withLast}

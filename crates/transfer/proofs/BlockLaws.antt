@@ -1,0 +1,247 @@
+-- One step of a transfer from block to block that the byte count ends: which bytes it stores where, and what the channel becomes.
+-- Assumes nothing.
+use Prim.Native.Nat.{ℕ, zero, suc, _+_, _/_, _%_}
+use borrow.Author.Tests.{lt-ltb, le-ltb, eq-eqb, ne-eqb}
+use lib.Dec.{eqb}
+use mathlib.Core.Bool.{Bool, true, false, _||_}
+use mathlib.Core.Path.{_≡_, refl, ap, ap₂, _∙_}
+use native.Mathlib.Omega.{arith}
+use Rattle.machine.specs.Cc.{destinationMoves, sourceMoves, translates, synchronised, sourceIsGB, singleTransfer, countEnd, matchEnd}
+use Rattle.machine.specs.Psw.{destinationWide, sourceWide}
+use Rattle.machine.specs.declared.Channel.{Channel}
+use Rattle.memory.proofs.PlaceLaws.{index-reduced, lent-index, byte-reduced, store-reduced}
+use Rattle.memory.specs.Buffers.{Buffers, lentAt, byteAt, storeByte}
+use Rattle.memory.specs.Places.{allLent}
+use Rattle.memory.specs.declared.Pointer.{Pointer}
+use Rattle.words.proofs.ChoiceLaws.{pick-same}
+use Rattle.words.specs.Bits.{bitOf}
+use Rattle.words.specs.Choice.{pick}
+use Rattle.words.specs.Sums.{sum20, countDown}
+use Rattle.transfer.specs.Ends.{withTransfer, meets, codeIf, larger, endedBy}
+use Rattle.transfer.specs.Reads.{fetched, fetchedSecond, delivered, dataOf}
+use Rattle.transfer.specs.Sides.{side, source, destination, wordSide, secondOf, gained, twoMove, storedSingly}
+use Rattle.transfer.specs.Steps.{transferred, touched, badMode, transferOf}
+use Rattle.transfer.specs.Stores.{firstMeets, matchMet, cutShort, storesTwo, bytesStored, bytesMoved, bytesCounted, countAfter, endCode, movedBy, channelAfter, putOn, memoryAfter, storedPlaces}
+use Rattle.transfer.specs.declared.Data.{Data}
+use Rattle.transfer.specs.declared.Side.{Side}
+use Rattle.transfer.proofs.KeptLaws.{ga-after, gb-after, ended-none}
+use Rattle.transfer.proofs.StepLaws.{outcome-0}
+use Rattle.transfer.proofs.TestLaws.{and-true, and-false, or-true, pick-under}
+use Rattle.transfer.proofs.TouchLaws.{reads-lent, places-lent, touched-lent}
+
+-- the CC of such a transfer: both sides move on, no translation, TMC off, TS 0, TBC on
+pub record Block (cc : ℕ) : Type 0 where
+  pub from : sourceMoves cc ≡ true
+  pub into : destinationMoves cc ≡ true
+  pub plain : translates cc ≡ false
+  pub unmatched : matchEnd cc % 4 ≡ 0
+  pub ongoing : singleTransfer cc ≡ false
+  pub counts : countEnd cc ≡ 0 → ⊥
+
+-- the bytes that such a step moves
+abbrev pub stride : Channel → ℕ
+stride c = pick (twoMove c) 2 1
+
+-- BC after it
+abbrev pub remaining : Channel → ℕ
+remaining c = countDown (c .bc) (stride c)
+
+-- the channel with both pointers on by the bytes moved, and BC lowered by them
+unfoldable pub onward : Channel → Channel
+onward c = withTransfer c (gained true (c .ga) (stride c)) (gained true (c .gb) (stride c)) (c .tp) (remaining c) (c .psw)
+
+-- the memory with one byte copied from source to destination, and with the next one too
+abbrev pub copied : Channel → Buffers → Buffers
+copied c m =
+    storeByte m ((destination c) .pointer .tag) ((destination c) .pointer .address)
+    (byteAt m ((source c) .pointer .tag) ((source c) .pointer .address))
+
+abbrev pub copiedTwo : Channel → Buffers → Buffers
+copiedTwo c m =
+    storeByte (copied c m) ((destination c) .pointer .tag) ((destination c) .pointer .address + 1)
+    (byteAt m ((source c) .pointer .tag) ((source c) .pointer .address + 1))
+
+-- ---- how many bytes move
+
+-- a side of 8 bits is no word side
+pub word-narrow : (s : Side) → s .wide ≡ false → wordSide s ≡ false
+unfolding wordSide
+word-narrow s h = rw h
+
+-- nor is one at an odd address
+pub word-odd : (s : Side) → s .pointer .address % 2 ≡ 1 → wordSide s ≡ false
+unfolding wordSide bitOf
+word-odd s h = rw (eq-eqb (s .pointer .address / 1 % 2) 1 (omega arith)) (and-false (s .wide))
+
+-- one of 16 bits at an even address is
+pub word-even : (s : Side) → s .wide ≡ true → s .pointer .address % 2 ≡ 0 → wordSide s ≡ true
+unfolding wordSide bitOf
+word-even s h e = rw (h, ne-eqb (s .pointer .address / 1 % 2) 1 (omega arith))
+
+-- one byte moves where neither side is a word side
+pub one-moves : (c : Channel) → wordSide (source c) ≡ false → wordSide (destination c) ≡ false → twoMove c ≡ false
+unfolding twoMove
+one-moves c h k = rw (h, k)
+
+-- one byte moves where TBC is on and one is left
+pub last-moves : (c : Channel) → (countEnd (c .cc) ≡ 0 → ⊥) → c .bc ≡ 1 → twoMove c ≡ false
+unfolding twoMove
+last-moves c ne e = rw (ne-eqb (countEnd (c .cc)) 0 ne, eq-eqb (c .bc) 1 e) (and-false (wordSide (source c) || wordSide (destination c)))
+
+-- two move where some side is a word side and not just one is left
+pub two-moves : (c : Channel) → wordSide (source c) || wordSide (destination c) ≡ true → (c .bc ≡ 1 → ⊥) → twoMove c ≡ true
+unfolding twoMove
+two-moves c h ne = rw (h, ne-eqb (c .bc) 1 ne, and-false)
+
+-- ---- no end but the byte count's
+
+-- no byte meets a TMC that is off
+off : (tmc mc byte : ℕ) → tmc % 4 ≡ 0 → meets tmc mc byte ≡ false
+unfolding meets
+off tmc mc byte h = rw (eq-eqb (tmc % 4) 0 h)
+
+-- so all bytes that move are stored
+pub block-stores : (c : Channel) (d : Data) → Block (c .cc) → storesTwo c d ≡ twoMove c
+unfolding storesTwo cutShort firstMeets
+block-stores c d k = rw (off (matchEnd (c .cc)) (c .mc) (d .first) (k .unmatched), and-false) (and-true (twoMove c))
+
+block-unmet : (c : Channel) (d : Data) → Block (c .cc) → matchMet c d ≡ false
+unfolding matchMet firstMeets
+block-unmet c d k = rw (off (matchEnd (c .cc)) (c .mc) (d .first) (k .unmatched), off (matchEnd (c .cc)) (c .mc) (d .second) (k .unmatched)) (and-false (storedSingly c))
+
+larger-left : (n : ℕ) → larger 0 n ≡ n
+unfolding larger
+larger-left zero = refl
+larger-left (suc n) = rw (lt-ltb 0 (suc n) (omega arith))
+
+larger-right : (n : ℕ) → larger n 0 ≡ n
+unfolding larger
+larger-right n = rw (le-ltb n 0 (omega arith))
+
+-- the step ends exactly where BC becomes 0
+pub block-end : (c : Channel) (d : Data) → Block (c .cc) → endCode c d ≡ codeIf (eqb (remaining c) 0) (countEnd (c .cc))
+unfolding endCode countAfter bytesCounted bytesStored codeIf
+block-end c d k = rw (block-unmet c d k, block-stores c d k, k .ongoing) (ends (codeIf (eqb (remaining c) 0) (countEnd (c .cc))))
+  where
+    ends : (n : ℕ) → larger (larger (codeIf false (matchEnd (c .cc) % 4)) n) (codeIf false 1) ≡ n
+    ends n = larger-right (larger 0 n) ∙ larger-left n
+
+-- ---- the channel
+
+block-stride : (c : Channel) (d : Data) → Block (c .cc) → bytesStored c d ≡ stride c
+unfolding bytesStored
+block-stride c d k = rw (block-stores c d k)
+
+block-moved : (c : Channel) → Block (c .cc) → movedBy c (stride c) (remaining c) ≡ onward c
+unfolding onward movedBy withTransfer
+block-moved c k =
+    ap₂ (λ (p q : Pointer). withTransfer c p q (c .tp) (remaining c) (c .psw))
+    (ga-after c (stride c) (remaining c) ∙ rw (k .from, k .into, pick-same))
+    (gb-after c (stride c) (remaining c) ∙ rw (k .from, k .into, pick-same))
+
+-- the channel after the step, in one: on by the bytes moved, ended where BC becomes 0
+pub block-channel : (c : Channel) (d : Data) → Block (c .cc) → channelAfter c d ≡ endedBy (onward c) (codeIf (eqb (remaining c) 0) (countEnd (c .cc)))
+unfolding channelAfter countAfter bytesMoved bytesCounted
+block-channel c d k = rw (block-end c d k, block-stride c d k, block-moved c k)
+
+-- its source is on by the bytes moved
+pub onward-source : (c : Channel) → source (onward c) ≡ side (gained true ((source c) .pointer) (stride c)) ((source c) .moves) ((source c) .wide)
+unfolding source onward withTransfer
+onward-source c =
+    ap (λ (p : Pointer). side p (sourceMoves (c .cc)) (sourceWide (c .psw)))
+    (pick-under (λ (p : Pointer). gained true p (stride c)) (sourceIsGB (c .cc)) (c .gb) (c .ga))
+
+-- and so is its destination
+pub onward-destination : (c : Channel) → destination (onward c) ≡ side (gained true ((destination c) .pointer) (stride c)) ((destination c) .moves) ((destination c) .wide)
+unfolding destination onward withTransfer
+onward-destination c =
+    ap (λ (p : Pointer). side p (destinationMoves (c .cc)) (destinationWide (c .psw)))
+    (pick-under (λ (p : Pointer). gained true p (stride c)) (sourceIsGB (c .cc)) (c .ga) (c .gb))
+
+-- while bytes remain, TP and PSW stay
+pub block-going : (c : Channel) (d : Data) → Block (c .cc) → (remaining c ≡ 0 → ⊥) → channelAfter c d ≡ onward c
+unfolding codeIf
+block-going c d k ne = block-channel c d k ∙ rw (ne-eqb (remaining c) 0 ne) (ended-none (onward c))
+
+-- with the last byte TBC ends the transfer
+pub block-last : (c : Channel) (d : Data) → Block (c .cc) → remaining c ≡ 0 → channelAfter c d ≡ endedBy (onward c) (countEnd (c .cc))
+unfolding codeIf
+block-last c d k e = block-channel c d k ∙ rw (eq-eqb (remaining c) 0 e)
+
+-- ---- the memory
+
+-- a reduced address is lent where the address itself is
+lent-reduced : (m : Buffers) (t : Bool) (a : ℕ) → lentAt m t (a % 1048576) ≡ lentAt m t a
+lent-reduced m t a = lent-index m t (a % 1048576) a (index-reduced t a)
+
+-- the second byte of a side that moves on is the next one
+next : (s : Side) → s .moves ≡ true → secondOf s ≡ sum20 (s .pointer .address) 1
+unfolding secondOf wordSide
+next s h = rw (h, or-true)
+
+next-source : (c : Channel) → Block (c .cc) → secondOf (source c) ≡ sum20 ((source c) .pointer .address) 1
+unfolding source
+next-source c k = next (source c) (k .from)
+
+next-destination : (c : Channel) → Block (c .cc) → secondOf (destination c) ≡ sum20 ((destination c) .pointer .address) 1
+unfolding destination
+next-destination c k = next (destination c) (k .into)
+
+first-is : (c : Channel) (m : Buffers) → Block (c .cc) → (dataOf c m) .first ≡ byteAt m ((source c) .pointer .tag) ((source c) .pointer .address)
+unfolding dataOf delivered fetched
+first-is c m k = rw (k .plain)
+
+second-is : (c : Channel) (m : Buffers) → Block (c .cc) → twoMove c ≡ true → (dataOf c m) .second ≡ byteAt m ((source c) .pointer .tag) ((source c) .pointer .address + 1)
+unfolding dataOf fetchedSecond
+second-is c m k h = rw (h, next-source c k) (byte-reduced m ((source c) .pointer .tag) ((source c) .pointer .address + 1))
+
+-- one byte is copied
+pub block-copies : (c : Channel) (m : Buffers) → Block (c .cc) → twoMove c ≡ false → memoryAfter c (dataOf c m) m ≡ copied c m
+unfolding memoryAfter putOn
+block-copies c m k h = rw (block-stores c (dataOf c m) k, h, first-is c m k)
+
+-- or two are
+pub block-copies-two : (c : Channel) (m : Buffers) → Block (c .cc) → twoMove c ≡ true → memoryAfter c (dataOf c m) m ≡ copiedTwo c m
+unfolding memoryAfter putOn
+block-copies-two c m k h =
+    rw (block-stores c (dataOf c m) k, h, first-is c m k, second-is c m k h, next-destination c k)
+    (store-reduced (copied c m) ((destination c) .pointer .tag) ((destination c) .pointer .address + 1) (byteAt m ((source c) .pointer .tag) ((source c) .pointer .address + 1)))
+
+-- ---- the step
+
+-- no such transfer is refused by 5, short of SYN 11
+pub block-mode : (c : Channel) → Block (c .cc) → (synchronised (c .cc) ≡ 3 → ⊥) → badMode c ≡ false
+unfolding badMode
+block-mode c k ne = rw (ne-eqb (synchronised (c .cc)) 3 ne, k .plain)
+
+-- the bytes that a step of one touches are lent where the two sides' are
+block-lent : (c : Channel) (m : Buffers) → Block (c .cc) → twoMove c ≡ false
+    → lentAt m ((source c) .pointer .tag) ((source c) .pointer .address) ≡ true → lentAt m ((destination c) .pointer .tag) ((destination c) .pointer .address) ≡ true
+    → allLent m (touched c m) ≡ true
+unfolding storedPlaces
+block-lent c m k h s d = touched-lent c m ∙ rw (reads-lent, places-lent, block-stores c (dataOf c m) k, h, k .plain, s, d)
+
+block-lent-two : (c : Channel) (m : Buffers) → Block (c .cc) → twoMove c ≡ true
+    → lentAt m ((source c) .pointer .tag) ((source c) .pointer .address) ≡ true → lentAt m ((source c) .pointer .tag) ((source c) .pointer .address + 1) ≡ true
+    → lentAt m ((destination c) .pointer .tag) ((destination c) .pointer .address) ≡ true → lentAt m ((destination c) .pointer .tag) ((destination c) .pointer .address + 1) ≡ true
+    → allLent m (touched c m) ≡ true
+unfolding storedPlaces
+block-lent-two c m k h s s′ d d′ =
+    let p = (source c) .pointer in
+    let q = (destination c) .pointer in
+    touched-lent c m
+    ∙ rw (reads-lent, places-lent, block-stores c (dataOf c m) k, h, k .plain, next-source c k, next-destination c k, s, d, lent-reduced m (p .tag) (p .address + 1), s′, lent-reduced m (q .tag) (q .address + 1), d′)
+
+-- a step of one byte, whole
+pub block-step : (c : Channel) (m : Buffers) → Block (c .cc) → (synchronised (c .cc) ≡ 3 → ⊥) → twoMove c ≡ false
+    → lentAt m ((source c) .pointer .tag) ((source c) .pointer .address) ≡ true → lentAt m ((destination c) .pointer .tag) ((destination c) .pointer .address) ≡ true
+    → transferOf c m ≡ transferred 0 (channelAfter c (dataOf c m)) (copied c m)
+block-step c m k ne h s d = outcome-0 c m (block-mode c k ne) (block-lent c m k h s d) ∙ ap (transferred 0 (channelAfter c (dataOf c m))) (block-copies c m k h)
+
+-- a step of two bytes, whole
+pub block-step-two : (c : Channel) (m : Buffers) → Block (c .cc) → (synchronised (c .cc) ≡ 3 → ⊥) → twoMove c ≡ true
+    → lentAt m ((source c) .pointer .tag) ((source c) .pointer .address) ≡ true → lentAt m ((source c) .pointer .tag) ((source c) .pointer .address + 1) ≡ true
+    → lentAt m ((destination c) .pointer .tag) ((destination c) .pointer .address) ≡ true → lentAt m ((destination c) .pointer .tag) ((destination c) .pointer .address + 1) ≡ true
+    → transferOf c m ≡ transferred 0 (channelAfter c (dataOf c m)) (copiedTwo c m)
+block-step-two c m k ne h s s′ d d′ =
+    outcome-0 c m (block-mode c k ne) (block-lent-two c m k h s s′ d d′) ∙ ap (transferred 0 (channelAfter c (dataOf c m))) (block-copies-two c m k h)

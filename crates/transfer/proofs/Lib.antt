@@ -1,0 +1,5 @@
+pub mod TestLaws
+pub mod TouchLaws
+pub mod StepLaws
+pub mod KeptLaws
+pub mod BlockLaws

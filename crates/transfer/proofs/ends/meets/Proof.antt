@@ -1,0 +1,23 @@
+-- `transfer::ends/meets` meets its contract.
+-- Assumes nothing.
+use borrow.Author.Needs.{needs}
+use Rattle.transfer.specs.Ends.{meets}
+use Rattle.transfer.proofs.ends.meets.Statement.{statement}
+use Rattle.transfer.proofs.ends.meets.Tie as tie
+
+matches-requires : tie.Need-matches-requires
+matches-requires c κs = search needs
+
+bit-requires : tie.Need-bit-requires
+bit-requires c κs = search needs
+
+returns : tie.Need-returns
+unfolding meets
+returns c = simp (c .if1 .taken, ← (c .before .bit .ensures), ← (c .before .before .matches .ensures))
+
+returns-2 : tie.Need-returns-2
+unfolding meets
+returns-2 c = simp (c .if1 .left, ← (c .before .bit .ensures), ← (c .before .before .matches .ensures))
+
+pub meets-spec : {M : Type 1} → statement M
+meets-spec = tie.close (tie.spec matches-requires bit-requires returns returns-2)

@@ -1,0 +1,62 @@
+-- `transfer::stores/finish` meets its contract.
+-- Assumes nothing.
+use borrow.Author.Needs.{needs}
+use Rattle.transfer.specs.Sides.{planOf}
+use Rattle.transfer.specs.Stores.{bytesStored, bytesMoved, bytesCounted, countAfter, endCode, channelAfter}
+use Rattle.transfer.proofs.stores.finish.Statement.{statement}
+use Rattle.transfer.proofs.stores.finish.Tie as tie
+
+compare-requires : tie.Need-compare-requires
+compare-requires c κs = search needs
+
+stored-requires : tie.Need-stored-requires
+stored-requires c κs = search needs
+
+count-down-requires : tie.Need-count-down-requires
+count-down-requires c κs = search needs
+
+code-if-requires : tie.Need-code-if-requires
+code-if-requires c κs = search needs
+
+single-transfer-requires : tie.Need-single-transfer-requires
+single-transfer-requires c κs = search needs
+
+code-if-requires-2 : tie.Need-code-if-requires-2
+code-if-requires-2 c κs = search needs
+
+larger-requires : tie.Need-larger-requires
+larger-requires c κs = search needs
+
+larger-requires-2 : tie.Need-larger-requires-2
+larger-requires-2 c κs = search needs
+
+cast-moved-by : tie.Need-cast-moved-by
+cast-moved-by c = search needs
+
+moved-by-requires : tie.Need-moved-by-requires
+moved-by-requires c κs = c .before .before .before .before .before .before .before .before .pre
+
+ended-requires : tie.Need-ended-requires
+ended-requires c κs = search needs
+
+returns : tie.Need-returns
+unfolding channelAfter endCode countAfter bytesCounted bytesMoved bytesStored planOf
+returns c =
+    rw (c .ended .ensures, c .before .moved-by .ensures, c .before .before .larger2 .ensures, c .before .before .before .larger .ensures, c .before .before .before .before .code-if2 .ensures, c .before .before .before .before .before .single-transfer .ensures, c .before .before .before .before .before .before .code-if .ensures, c .before .before .before .before .before .before .before .count-down .ensures, c .before .before .before .before .before .before .before .before .stored .ensures, c .before .before .before .before .before .before .before .before .before .compare .ensures, c .before .before .before .before .before .before .before .before .before .before .pre)
+
+pub finish-spec : {M : Type 1} → statement M
+finish-spec =
+    tie.close
+    (tie.spec
+    compare-requires
+    stored-requires
+    count-down-requires
+    code-if-requires
+    single-transfer-requires
+    code-if-requires-2
+    larger-requires
+    larger-requires-2
+    cast-moved-by
+    moved-by-requires
+    ended-requires
+    returns)

@@ -1,0 +1,55 @@
+-- One transfer step of a channel: the bytes it touches, its refusals and its outcome.
+use mathlib.Core.Bool.{Bool, true, false, not, _&&_, _||_}
+use mathlib.Core.List.{List, _++_}
+use mathlib.Core.Path.{_≡_}
+use Prim.Native.Nat.{ℕ}
+use lib.Dec.{eqb}
+use Rattle.words.specs.Choice.{pick}
+use Rattle.memory.specs.Buffers.{Buffers}
+use Rattle.memory.specs.Places.{Place, allLent}
+use Rattle.machine.specs.declared.Channel.{Channel}
+use Rattle.machine.specs.Cc.{translates, synchronised}
+use Rattle.machine.specs.Outcomes.{unless, first}
+use Rattle.transfer.specs.Sides.{source, destination}
+use Rattle.transfer.specs.Reads.{dataOf, readPlaces}
+use Rattle.transfer.specs.Stores.{channelAfter, memoryAfter, storedPlaces}
+
+-- the number, the channel and both memories after a transfer step
+pub record Transfer : Type 0 where
+  pub number : ℕ
+  pub channel : Channel
+  pub memory : Buffers
+
+abbrev pub transferred : ℕ → Channel → Buffers → Transfer
+transferred number c m = record { number = number; channel = c; memory = m }
+
+-- every byte that the step reads or stores, each access once
+unfoldable pub touched : Channel → Buffers → List Place
+touched c m = readPlaces c m ++ storedPlaces c (dataOf c m)
+
+-- "transfer with SYN 11, or translation with a 16-bit side" (5)
+unfoldable pub badMode : Channel → Bool
+badMode c = eqb (synchronised (c .cc)) 3 || translates (c .cc) && ((source c) .wide || (destination c) .wide)
+
+-- when 5 is given: a bad mode
+abbrev pub Given5 : Channel → Type 0
+Given5 c = badMode c ≡ true
+
+-- when 2 is given: no bad mode, and "a byte to be read or stored lies beyond lent memory"
+abbrev pub Given2 : Channel → Buffers → Type 0
+Given2 c m = (badMode c ≡ false) × (allLent m (touched c m) ≡ false)
+
+-- when 0 is given: neither
+abbrev pub Given0 : Channel → Buffers → Type 0
+Given0 c m = (badMode c ≡ false) × (allLent m (touched c m) ≡ true)
+
+-- "for a transfer 5, 2"
+unfoldable pub transferNumber : Channel → Buffers → ℕ
+transferNumber c m = first (unless (not (badMode c)) 5) (unless (allLent m (touched c m)) 2)
+
+-- the step: refused, the given channel and memories; done, what it makes of them
+unfoldable pub transferOf : Channel → Buffers → Transfer
+transferOf c m =
+    pick (eqb (transferNumber c m) 0)
+    (transferred 0 (channelAfter c (dataOf c m)) (memoryAfter c (dataOf c m) m))
+    (transferred (transferNumber c m) c m)

@@ -1,0 +1,88 @@
+-- What a transfer step stores of the bytes that it read, and what the channel becomes.
+use mathlib.Core.Bool.{Bool, not, _&&_, _||_}
+use mathlib.Core.List.{List, [], _∷_}
+use Prim.Native.Nat.{ℕ, _%_}
+use lib.Dec.{eqb}
+use Rattle.words.specs.Choice.{pick}
+use Rattle.words.specs.Sums.{countDown}
+use Rattle.memory.specs.Buffers.{Buffers, storeByte}
+use Rattle.memory.specs.Places.{Place}
+use Rattle.machine.specs.declared.Channel.{Channel}
+use Rattle.machine.specs.Cc.{sourceIsGB, singleTransfer, countEnd, matchEnd}
+use Rattle.transfer.specs.declared.Side.{Side}
+use Rattle.transfer.specs.declared.Data.{Data}
+use Rattle.transfer.specs.Sides.{source, destination, secondOf, advanced, twoMove, storedSingly}
+use Rattle.transfer.specs.Reads.{also}
+use Rattle.transfer.specs.Ends.{withTransfer, meets, codeIf, larger, endedBy}
+
+-- the first byte meets TMC, whether it is stored singly or as the low byte of a word
+unfoldable pub firstMeets : Channel → Data → Bool
+firstMeets c d = meets (matchEnd (c .cc)) (c .mc) (d .first)
+
+-- "It looks at each byte stored singly and at the low byte of a stored word"
+unfoldable pub matchMet : Channel → Data → Bool
+matchMet c d = firstMeets c d || storedSingly c && meets (matchEnd (c .cc)) (c .mc) (d .second)
+
+-- "If the first of two single stores meets TMC, the second is not made"
+unfoldable pub cutShort : Channel → Data → Bool
+cutShort c d = storedSingly c && firstMeets c d
+
+-- two bytes are stored
+unfoldable pub storesTwo : Channel → Data → Bool
+storesTwo c d = twoMove c && not (cutShort c d)
+
+-- the number of bytes stored
+unfoldable pub bytesStored : Channel → Data → ℕ
+bytesStored c d = pick (storesTwo c d) 2 1
+
+-- what moving sides gain: "the bytes moved", and where a match prevents the second store, 1
+unfoldable pub bytesMoved : Channel → Data → ℕ
+bytesMoved c d = bytesStored c d
+
+-- "BC falls by the bytes stored, mod 65,536, TBC on or off"
+unfoldable pub bytesCounted : Channel → Data → ℕ
+bytesCounted c d = bytesStored c d
+
+-- BC after the step
+unfoldable pub countAfter : Channel → Data → ℕ
+countAfter c d = countDown (c .bc) (bytesCounted c d)
+
+-- "Ends: TMC met; TBC on and BC now 0; TS (offset 0). Of several, the largest offset"; 0 where there is none
+unfoldable pub endCode : Channel → Data → ℕ
+endCode c d =
+    larger
+    (larger (codeIf (matchMet c d) (matchEnd (c .cc) % 4)) (codeIf (eqb (countAfter c d) 0) (countEnd (c .cc))))
+    (codeIf (singleTransfer (c .cc)) 1)
+
+-- the channel with its moving sides on by some bytes, and a new BC
+unfoldable pub movedBy : Channel → ℕ → ℕ → Channel
+movedBy c by bc =
+    withTransfer c
+    (pick (sourceIsGB (c .cc)) (advanced (destination c) by) (advanced (source c) by))
+    (pick (sourceIsGB (c .cc)) (advanced (source c) by) (advanced (destination c) by))
+    (c .tp) bc (c .psw)
+
+-- the channel after the step
+unfoldable pub channelAfter : Channel → Data → Channel
+channelAfter c d = endedBy (movedBy c (bytesMoved c d) (countAfter c d)) (endCode c d)
+
+-- one byte or two stored on a side, in order
+unfoldable pub putOn : Side → Bool → Data → Buffers → Buffers
+putOn s two d m =
+    pick two
+    (storeByte (storeByte m (s .pointer .tag) (s .pointer .address) (d .first)) (s .pointer .tag) (secondOf s) (d .second))
+    (storeByte m (s .pointer .tag) (s .pointer .address) (d .first))
+
+-- both memories after the step
+unfoldable pub memoryAfter : Channel → Data → Buffers → Buffers
+memoryAfter c d m = putOn (destination c) (storesTwo c d) d m
+
+-- the bytes of a side that a store of one or two takes
+unfoldable pub placesOn : Side → Bool → List Place
+placesOn s two =
+    record { tag = s .pointer .tag; address = s .pointer .address }
+    ∷ also two (record { tag = s .pointer .tag; address = secondOf s }) []
+
+-- the bytes that are stored: "a second single store that a match prevents is not tested"
+unfoldable pub storedPlaces : Channel → Data → List Place
+storedPlaces c d = placesOn (destination c) (storesTwo c d)

@@ -1,0 +1,91 @@
+// One transfer step of a channel, and the external end of a transfer.
+use machine::Channel;
+use memory::Pointer;
+ghost use mathlib.Core.Path.{_≡_};
+ghost use Rattle.memory.specs.Buffers.{buffers};
+ghost use Rattle.transfer.specs.Sides.{planOf};
+ghost use Rattle.transfer.specs.Ends.{externallyEnded};
+ghost use Rattle.transfer.specs.Steps.{badMode, transferred, transferOf};
+
+// The two sides, and what the channel says of a step.
+mod sides;
+// The bytes read.
+mod reads;
+// The masked compare, the codes of the ends, and what an end does.
+mod ends;
+// The bytes stored, and the channel after.
+mod stores;
+
+// One side of a transfer: its pointer, whether it moves on, and whether it is 16 bits wide.
+struct Side {
+    pointer: Pointer,
+    moves: bool,
+    wide: bool,
+}
+
+// What a channel says of its transfer before a byte is read, each field of CC taken out once.
+struct Plan {
+    source: Side,
+    destination: Side,
+    gb: bool,
+    translates: bool,
+    tbc: u32,
+    two: bool,
+    singly: bool,
+}
+
+// The bytes to be stored.
+struct Data {
+    first: u8,
+    second: u8,
+}
+
+// What a transfer step answers: a number of the paper, 0 for done, and the channel.
+pub struct Transferred {
+    pub number: u32,
+    pub channel: Channel,
+}
+
+// Whether the mode of the transfer is refused.
+fn bad_mode(c: Channel, p: Plan) -> bool
+    requires { ⌜ p ≡ planOf c ⌝ }
+    ensures { λ r. ⌜ r ≡ badMode c ⌝ }
+{
+    let source = p.source;
+    let destination = p.destination;
+    (machine::cc::synchronised(c.cc) == 3) | (p.translates & (source.wide | destination.wide))
+}
+
+// One transfer step.
+pub fn transfer(c: Channel, sys: &mut [u8], io: &mut [u8]) -> Transferred
+    ensures { λ r. ⌜ transferred (r .number) (r .channel) (buffers (now (sys .exit)) (now (io .exit))) ≡ transferOf c (buffers (now (sys .entry)) (now (io .entry))) ⌝ }
+{
+    let p = sides::plan(c);
+    if bad_mode(c, p) {
+        return Transferred {
+            number: 5,
+            channel: c,
+        };
+    }
+    let fetched = reads::fetch(c, p, sys, io);
+    let bytes = fetched.bytes;
+    let done = stores::finish(c, p, bytes);
+    let side = p.destination;
+    if fetched.lent & stores::lent(side, done.two, sys, io) {
+        stores::put(side, done.two, bytes, sys, io);
+        let channel = done.channel;
+        Transferred { number: 0, channel }
+    } else {
+        Transferred {
+            number: 2,
+            channel: c,
+        }
+    }
+}
+
+// The end that EXT brings: TP gains the offset of TX and XF clears; where TX is off nothing changes.
+pub fn external_end(c: Channel) -> Channel
+    ensures { λ r. ⌜ r ≡ externallyEnded c ⌝ }
+{
+    ends::ended(c, machine::cc::external_end(c.cc))
+}

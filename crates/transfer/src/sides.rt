@@ -1,0 +1,79 @@
+// The two sides of a transfer, and how many bytes move between them.
+use crate::Plan;
+use crate::Side;
+use machine::Channel;
+use memory::Pointer;
+ghost use mathlib.Core.Path.{_≡_};
+ghost use Rattle.words.specs.Choice.{pick};
+ghost use Rattle.transfer.specs.Sides as Sides;
+ghost use Rattle.transfer.specs.Sides.{wordSide, secondOf, planOf};
+
+// One of two pointers.
+pub(crate) fn chosen(test: bool, a: Pointer, b: Pointer) -> Pointer
+    ensures { λ r. ⌜ r ≡ pick test a b ⌝ }
+{
+    if test { a } else { b }
+}
+
+// Whether a side is a word side.
+pub(crate) fn word(s: Side) -> bool
+    ensures { λ r. ⌜ r ≡ wordSide s ⌝ }
+{
+    let p = s.pointer;
+    s.wide & !words::bit(p.address, 0)
+}
+
+// The address of a side's second byte.
+pub(crate) fn second(s: Side) -> u32
+    ensures { λ r. ⌜ r ≡ secondOf s ⌝ }
+{
+    let p = s.pointer;
+    if word(s) | s.moves {
+        words::sum20(p.address, 1)
+    } else {
+        p.address
+    }
+}
+
+// A pointer that gains some bytes, if it moves.
+pub(crate) fn gained(moves: bool, p: Pointer, by: u32) -> Pointer
+    ensures { λ r. ⌜ r ≡ Sides.gained moves p by ⌝ }
+{
+    if moves {
+        Pointer {
+            address: words::sum20(p.address, by),
+            tag: p.tag,
+        }
+    } else {
+        p
+    }
+}
+
+// What a channel says of its transfer.
+pub(crate) fn plan(c: Channel) -> Plan
+    ensures { λ r. ⌜ r ≡ planOf c ⌝ }
+{
+    let gb = machine::cc::source_is_gb(c.cc);
+    let source = Side {
+        pointer: chosen(gb, c.gb, c.ga),
+        moves: machine::cc::source_moves(c.cc),
+        wide: machine::psw::source_wide(c.psw),
+    };
+    let destination = Side {
+        pointer: chosen(gb, c.ga, c.gb),
+        moves: machine::cc::destination_moves(c.cc),
+        wide: machine::psw::destination_wide(c.psw),
+    };
+    let tbc = machine::cc::count_end(c.cc);
+    let whole = word(destination);
+    let two = (word(source) | whole) & !((tbc != 0) & (c.bc == 1));
+    Plan {
+        source,
+        destination,
+        gb,
+        translates: machine::cc::translates(c.cc),
+        tbc,
+        two,
+        singly: two & !whole,
+    }
+}

@@ -1,0 +1,103 @@
+// What a transfer step stores of the bytes that it read, and what the channel becomes.
+use crate::Data;
+use crate::Plan;
+use crate::Side;
+use machine::Channel;
+ghost use mathlib.Core.Path.{_≡_};
+ghost use Rattle.words.specs.Choice.{pick};
+ghost use Rattle.memory.specs.Buffers.{buffers};
+ghost use Rattle.memory.specs.Places.{allLent};
+ghost use Rattle.machine.specs.Cc.{matchEnd};
+ghost use Rattle.transfer.specs.Sides.{planOf};
+ghost use Rattle.transfer.specs.Ends.{codeIf};
+ghost use Rattle.transfer.specs.Stores.{matchMet, storesTwo, movedBy, channelAfter, putOn, placesOn};
+ghost use Prim.Native.Nat.{_%_};
+
+// What the masked compare decides: whether two bytes are stored, and the code of its end.
+struct Compared {
+    two: bool,
+    code: u32,
+}
+
+// What a step does with the bytes: whether two are stored, and the channel after.
+pub(crate) struct Done {
+    pub(crate) two: bool,
+    pub(crate) channel: Channel,
+}
+
+// What the masked compare decides.
+fn compare(c: Channel, p: Plan, d: Data) -> Compared
+    requires { ⌜ p ≡ planOf c ⌝ }
+    ensures { λ r. ⌜ r ≡ record { two = storesTwo c d; code = codeIf (matchMet c d) (matchEnd (c .cc) % 4) } ⌝ }
+{
+    let tmc = machine::cc::match_end(c.cc);
+    let first = crate::ends::meets(tmc, c.mc, d.first);
+    let second = crate::ends::meets(tmc, c.mc, d.second);
+    Compared {
+        two: p.two & !(p.singly & first),
+        code: crate::ends::code_if(first | (p.singly & second), tmc % 4),
+    }
+}
+
+// The number of bytes stored.
+fn stored(two: bool) -> u16
+    ensures { λ r. ⌜ r ≡ pick two 2 1 ⌝ }
+{
+    if two { 2 } else { 1 }
+}
+
+// The channel with its moving sides on by some bytes, and a new BC.
+fn moved_by(c: Channel, p: Plan, by: u32, bc: u16) -> Channel
+    requires { ⌜ p ≡ planOf c ⌝ }
+    ensures { λ r. ⌜ r ≡ movedBy c by bc ⌝ }
+{
+    let s = p.source;
+    let d = p.destination;
+    let source = crate::sides::gained(s.moves, s.pointer, by);
+    let destination = crate::sides::gained(d.moves, d.pointer, by);
+    let mut next = c;
+    next.ga = crate::sides::chosen(p.gb, destination, source);
+    next.gb = crate::sides::chosen(p.gb, source, destination);
+    next.bc = bc;
+    next
+}
+
+// What a step does with the bytes that it read.
+pub(crate) fn finish(c: Channel, p: Plan, d: Data) -> Done
+    requires { ⌜ p ≡ planOf c ⌝ }
+    ensures { λ r. ⌜ r ≡ record { two = storesTwo c d; channel = channelAfter c d } ⌝ }
+{
+    let k = compare(c, p, d);
+    let count = stored(k.two);
+    let before = c.bc;
+    let bc = words::count_down(before, count);
+    let counted = crate::ends::code_if(bc == 0, p.tbc);
+    let single = crate::ends::code_if(machine::cc::single_transfer(c.cc), 1);
+    let code = crate::ends::larger(crate::ends::larger(k.code, counted), single);
+    let next = moved_by(c, p, count as u32, bc);
+    Done {
+        two: k.two,
+        channel: crate::ends::ended(next, code),
+    }
+}
+
+// Whether the bytes of a side that a store of one or two takes are lent.
+pub(crate) fn lent(s: Side, two: bool, sys: &[u8], io: &[u8]) -> bool
+    ensures { λ r. ⌜ r ≡ allLent (buffers (now (sys .entry)) (now (io .entry))) (placesOn s two) ⌝ }
+{
+    let p = s.pointer;
+    memory::lent(sys, io, p.tag, p.address)
+        & (!two | memory::lent(sys, io, p.tag, crate::sides::second(s)))
+}
+
+// One byte or two stored on a side.
+pub(crate) fn put(s: Side, two: bool, d: Data, sys: &mut [u8], io: &mut [u8])
+    ensures { λ r. ⌜ buffers (now (sys .exit)) (now (io .exit)) ≡ putOn s two d (buffers (now (sys .entry)) (now (io .entry))) ⌝ }
+{
+    let p = s.pointer;
+    let next = crate::sides::second(s);
+    memory::store_byte(sys, io, p.tag, p.address, d.first);
+    if two {
+        memory::store_byte(sys, io, p.tag, next, d.second);
+    }
+}
