@@ -1,2 +1,3 @@
 pub mod ChannelLaws
 pub mod OutcomeLaws
+pub mod ConditionLaws

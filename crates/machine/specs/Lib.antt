@@ -3,3 +3,4 @@ pub mod Cc
 pub mod Registers
 pub mod States
 pub mod Outcomes
+pub mod Conditions

@@ -1,0 +1,65 @@
+-- The attention call: its number, a chain in the paper's order, and its whole outcome.
+use mathlib.Core.Bool.{Bool, false}
+use Prim.Native.Nat.{ℕ}
+use lib.Dec.{eqb}
+use Rattle.words.specs.Choice.{pick}
+use Rattle.memory.specs.Buffers.{Buffers}
+use Rattle.memory.specs.Places.{span, allLent}
+use Rattle.machine.specs.Outcomes.{Outcome, unless, first, settled, givenNumber}
+use Rattle.machine.specs.States.{channelOf, withChannel, isChannel, isSecond}
+use Rattle.machine.specs.declared.Channel.{Channel}
+use Rattle.machine.specs.declared.Mode.{Mode}
+use Rattle.machine.specs.declared.State.{State}
+use Rattle.attention.specs.declared.Effect.{Effect}
+use Rattle.attention.specs.declared.Order.{Order}
+use Rattle.attention.specs.Commands.{commandNumber}
+use Rattle.attention.specs.Blocks.{blockOf, orderOf}
+use Rattle.attention.specs.Touched.{others}
+use Rattle.attention.specs.Effects.{channelOrdered, writes, writesOf, written}
+
+-- the order that a channel's block holds
+unfoldable pub orderTo : State → Buffers → Bool → Order
+orderTo s m second = orderOf m (blockOf (s .cp) second) (channelOf s second .pp)
+
+-- "CCW readable (2), 6, then 7, 8 or 9, other bytes (2)"
+unfoldable pub orderNumber : Buffers → Order → Mode → ℕ
+orderNumber m o mode =
+    first (unless (allLent m (span false (o .block) 1)) 2)
+    (first (commandNumber (o .command) mode)
+    (unless (allLent m (others o)) 2))
+
+-- what an order to a channel comes to, unless it or what was given is refused: the channel after it, and what it stores
+unfoldable pub effectOf : Buffers → ℕ → ℕ → Channel → Effect
+effectOf m given block c =
+    let o = orderOf m block (c .pp) in
+    let number = first given (orderNumber m o (c .mode)) in
+    pick (eqb number 0)
+    (record { number = 0; channel = channelOrdered m o c; writes = writesOf (o .command) (o .block) (o .pb) c })
+    (record { number = number; channel = c; writes = writes false false 0 (o .block) (o .pb) c })
+
+-- the channel after the order that its block holds, where that is accepted
+unfoldable pub channelAfter : State → Buffers → Bool → Channel
+channelAfter s m second = channelOrdered m (orderTo s m second) (channelOf s second)
+
+-- both memories after it
+unfoldable pub memoryAfter : State → Buffers → Bool → Buffers
+memoryAfter s m second =
+    let o = orderTo s m second in
+    written m (writesOf (o .command) (o .block) (o .pb) (channelOf s second))
+
+-- "Order: 12, 11, 10"
+unfoldable pub givenTo : State → Buffers → ℕ → ℕ
+givenTo s m channel = first (unless (isChannel channel) 12) (givenNumber s m)
+
+-- then the order's own
+unfoldable pub attentionNumber : State → Buffers → ℕ → ℕ
+attentionNumber s m channel =
+    first (givenTo s m channel)
+    (orderNumber m (orderTo s m (isSecond channel)) (channelOf s (isSecond channel) .mode))
+
+-- what an attention to a channel leaves
+unfoldable pub attentionOf : State → Buffers → ℕ → Outcome
+attentionOf s m channel =
+    settled (attentionNumber s m channel) s m
+    (withChannel s (isSecond channel) (channelAfter s m (isSecond channel)))
+    (memoryAfter s m (isSecond channel))

@@ -1,0 +1,135 @@
+// The attention call: the order that a channel's block holds is read, tested, and carried out whole or not at all.
+use machine::Answer;
+use machine::Channel;
+use machine::Mode;
+use machine::State;
+use machine::states;
+use memory::Pointer;
+ghost use mathlib.Core.Path.{_≡_};
+ghost use Rattle.memory.specs.Buffers.{buffers};
+ghost use Rattle.machine.specs.Outcomes.{outcome, first};
+ghost use Rattle.attention.specs.Attention.{orderNumber, effectOf, givenTo, attentionOf};
+
+// The command of a CCW, what it asks of the mode, and what it does to PSW.
+pub mod commands;
+// A channel's block and the order that it holds.
+pub mod blocks;
+// Whether the bytes that an order touches are lent.
+pub mod touched;
+// What an accepted order makes of the channel and of memory.
+pub mod effects;
+
+// What a CCW commands.
+pub enum Command {
+    Update,
+    StartLocal,
+    StartSystem,
+    Suspend,
+    Resume,
+    Halt,
+    Unknown,
+}
+
+// What a block orders: the command, its CCW, the block itself and where PB lies.
+pub struct Order {
+    pub command: Command,
+    pub ccw: u8,
+    pub block: u32,
+    pub pb: u32,
+}
+
+// The registers that a command can change, besides PP.
+pub struct Control {
+    pub tp: Pointer,
+    pub psw: u8,
+    pub mode: Mode,
+    pub armed: bool,
+}
+
+// What an attention stores: TP and PSW at PB or not, then BUSY or not.
+pub struct Writes {
+    pub saves: bool,
+    pub pb: u32,
+    pub tp: Pointer,
+    pub psw: u8,
+    pub marks: bool,
+    pub block: u32,
+    pub busy: u8,
+}
+
+// What an order comes to: its number, the channel after it, and what it stores.
+pub struct Effect {
+    pub number: u32,
+    pub channel: Channel,
+    pub writes: Writes,
+}
+
+// The refusal of what an attention is given: 12, 11, then 10, else 0.
+fn given_number(s: State, sys: &[u8], io: &[u8], channel: u32) -> u32
+    ensures { λ r. ⌜ r ≡ givenTo s (buffers (now (sys .entry)) (now (io .entry))) channel ⌝ }
+{
+    if !states::is_channel(channel) {
+        return 12;
+    }
+    states::given_number(s, sys, io)
+}
+
+// The number of an order to a channel in some mode, after the refusal of what was given.
+fn number(sys: &[u8], io: &[u8], given: u32, o: Order, mode: Mode) -> u32
+    ensures { λ r. ⌜ r ≡ first given (orderNumber (buffers (now (sys .entry)) (now (io .entry))) o mode) ⌝ }
+{
+    if given != 0 {
+        return given;
+    }
+    if !memory::span_lent(sys, io, false, o.block, 1) {
+        return 2;
+    }
+    let command = o.command;
+    let refusal = commands::refusal(command, mode);
+    if refusal != 0 {
+        return refusal;
+    }
+    if touched::others(sys, io, o) { 0 } else { 2 }
+}
+
+// What the order in a block comes to for its channel.
+fn planned(sys: &[u8], io: &[u8], given: u32, block: u32, c: Channel) -> Effect
+    ensures { λ r. ⌜ r ≡ effectOf (buffers (now (sys .entry)) (now (io .entry))) given block c ⌝ }
+{
+    let o = blocks::order(sys, io, block, c.pp);
+    let mode = c.mode;
+    let number = number(sys, io, given, o, mode);
+    if number != 0 {
+        let writes = effects::writes(o, c, false, false, 0);
+        return Effect {
+            number,
+            channel: c,
+            writes,
+        };
+    }
+    let channel = effects::channel_ordered(sys, io, o, c);
+    let writes = effects::writes_of(o, c);
+    Effect {
+        number: 0,
+        channel,
+        writes,
+    }
+}
+
+// Gives a channel attention.
+pub fn attention(s: State, sys: &mut [u8], io: &mut [u8], channel: u32) -> Answer
+    ensures { λ r. ⌜ outcome (r .number) (r .state) (buffers (now (sys .exit)) (now (io .exit))) ≡ attentionOf s (buffers (now (sys .entry)) (now (io .entry))) channel ⌝ }
+{
+    let given = given_number(s, sys, io, channel);
+    let second = states::is_second(channel);
+    let c = states::channel(s, second);
+    let e = planned(sys, io, given, blocks::block(s.cp, second), c);
+    let writes = e.writes;
+    effects::write(sys, io, writes);
+    let after = e.channel;
+    let state = states::with_channel(s, second, after);
+    Answer {
+        number: e.number,
+        state,
+    }
+}

@@ -1,0 +1,4 @@
+pub mod TableLaws
+pub mod LengthLaws
+pub mod Outcomes
+pub mod LengthRule

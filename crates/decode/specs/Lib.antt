@@ -1,0 +1,4 @@
+pub mod Pairs
+pub mod Table
+pub mod Reading
+pub mod Lengths

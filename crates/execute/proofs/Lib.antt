@@ -1,0 +1,8 @@
+pub mod CodeLaws
+pub mod CheckLaws
+pub mod OutcomeLaws
+pub mod NumberLaws
+pub mod MemoryLaws
+pub mod PointerLaws
+pub mod ChannelLaws
+pub mod Cases

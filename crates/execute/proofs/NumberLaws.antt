@@ -1,0 +1,229 @@
+-- The number of an instruction: 2, 3, 4 and 0, each exactly under its own condition and no earlier one.
+-- Assumes nothing.
+use Prim.Native.Nat.{ℕ, _≤_}
+use borrow.Author.Tests.{ltb-true, ltb-false, eqb-false}
+use denote.Enum.Declared.{tagOf as variant}
+use lib.Dec.{ltb, eqb}
+use lib.ListN.{length}
+use mathlib.Core.Bool.{Bool, true, false, _&&_}
+use mathlib.Core.List.{List, [], _∷_}
+use mathlib.Core.Logic.{⊎-elim, inl, inr, _⊎_, _↔_}
+use mathlib.Core.Path.{_≡_, refl, sym, ap, _∙_}
+use native.Mathlib.Omega.{arith}
+use Rattle.decode.proofs.Shape.{the-type as shapes}
+use Rattle.decode.specs.Lengths.{lengthOf}
+use Rattle.decode.specs.declared.Decoded.{Decoded}
+use Rattle.decode.specs.declared.Decoded.the-variants.{Instruction, NoInstruction, ControlUsed}
+use Rattle.decode.specs.declared.Memory.{Memory}
+use Rattle.decode.specs.declared.Second.{Second}
+use Rattle.decode.specs.declared.Second.the-variants.{Operand, NoSecond}
+use Rattle.decode.specs.declared.Shape.the-variants.{Nop, Sintr, Xfer, Wid, Hlt, Lpdi, RegisterImmediate, Register, JumpRegister, RegisterMemory, MemoryRegister, MemoryImmediate, MemoryAlone, JumpMemory, Lpd, MovpLoad, MovpStore, MovMemory, Tsl, Call, JumpMasked, JumpBit, Bit}
+use Rattle.machine.proofs.OutcomeLaws.{first-some, first-zero, unless-true}
+use Rattle.machine.specs.Outcomes.{unless, first}
+use Rattle.machine.specs.declared.Channel.{Channel}
+use Rattle.memory.specs.Buffers.{Buffers, spaceOf, indexOf, lentAt}
+use Rattle.memory.specs.Places.{Place, allLent}
+use Rattle.words.proofs.ChoiceLaws.{apart}
+use Rattle.execute.specs.Changes.{placesOf}
+use Rattle.execute.specs.Conditions.{check, Given, Beyond, NoCode, ControlTouched, laterFrom, LaterBeyond, secondAt, NoSecondPair, ReadsBeyond, StoresBeyond, checksFrom, checks, Given4, Given3, Given2, Given0}
+use Rattle.execute.specs.Control.{nopDeed, sintrDeed, xferDeed, widDeed, hltDeed}
+use Rattle.execute.specs.Deeds.{Deed, effectOf}
+use Rattle.execute.specs.Execute.{decodedAt, performed, deedOf, laterBytes, deedFrom, shapeNumber, numberFrom, executeNumber, executeOf}
+use Rattle.execute.specs.JumpForms.{jumpRegisterDeed, jumpMemoryDeed, jumpByteDeed, jumpMaskedDeed, jumpBitDeed, tslDeed, callDeed}
+use Rattle.execute.specs.MemoryForms.{memoryWorkDeed, memoryRegisterDeed, memoryImmediateDeed, memoryAloneDeed, movpStoreDeed, bitDeed, movOperandDeed, movSecondDeed, movMemoryDeed}
+use Rattle.execute.specs.Operands.{byteHere, bytesAt, advanced, effective}
+use Rattle.execute.specs.RegisterForms.{registerImmediateDeed, registerDeed, registerMemoryDeed, lpdiDeed, lpdDeed, movpLoadDeed}
+use Rattle.execute.proofs.CheckLaws.{Told, step, last, rewritten, first-assoc, skip, hit, either, end, never}
+use Rattle.execute.proofs.OutcomeLaws.{number-is}
+
+-- ---- what each test tells
+
+told-true : {A : Type 0} → ¬ A → Told true A
+told-true h = record { holds = λ e. h; fails = λ e. apart e }
+
+told-false : {A : Type 0} → A → Told false A
+told-false h = record { holds = λ e. apart (sym e); fails = λ e. h }
+
+told-and : {a b : Bool} {A B : Type 0} → Told a A → Told b B → Told (a && b) (A ⊎ B)
+told-and {a = true} t u = record { holds = λ e. ⊎-elim (t .holds refl) (u .holds e); fails = λ e. inr (u .fails e) }
+told-and {a = false} t u = record { holds = λ e. apart (sym e); fails = λ e. inl (t .fails refl) }
+
+told-ltb : (a b : ℕ) → Told (ltb a b) (b ≤ a)
+told-ltb a b = record { holds = λ e h. omega (arith, ltb-true a b e); fails = λ e. ltb-false a b e }
+
+-- lent bytes: 2
+pub told-lent : (m : Buffers) (ps : List Place) → Told (allLent m ps) (Beyond m ps)
+unfolding allLent lentAt
+told-lent m [] = told-true (λ h. h)
+told-lent m (p ∷ ps) = told-and (told-ltb (indexOf (p .tag) (p .address)) (length (spaceOf m (p .tag)))) (told-lent m ps)
+
+-- the first two bytes are an instruction: else 3
+isCode : Decoded → Bool
+isCode (Instruction s) = true
+isCode NoInstruction = false
+isCode ControlUsed = true
+
+told-code : (d : Decoded) → Told (isCode d) (NoCode d)
+unfolding isCode
+told-code (Instruction s) = told-true (λ h. apart (ap isCode h))
+told-code NoInstruction = told-false refl
+told-code ControlUsed = told-true (λ h. apart (ap isCode h))
+
+-- they use CC by MOV and MOVI alone: else 4
+isFree : Decoded → Bool
+isFree (Instruction s) = true
+isFree NoInstruction = true
+isFree ControlUsed = false
+
+told-free : (d : Decoded) → Told (isFree d) (ControlTouched d)
+unfolding isFree
+told-free (Instruction s) = told-true (λ h. apart (ap isFree h))
+told-free NoInstruction = told-true (λ h. apart (ap isFree h))
+told-free ControlUsed = told-false refl
+
+-- the number of a second pair: 3 where it is none, and 0 for every other shape
+record Paired (d : Decoded) (m : Buffers) (c : Channel) (busy : ℕ) : Type 0 where
+  ok : Bool
+  chain : (deedFrom d m c busy) .wrong ≡ unless ok 3
+  told : Told ok (NoSecondPair d m c)
+
+shapeIn : Decoded → ℕ
+shapeIn (Instruction s) = variant shapes s
+shapeIn NoInstruction = 0
+shapeIn ControlUsed = 0
+
+-- one memory operand has not both kinds of a second pair
+clash : (f : Memory → Second) (o o′ q : Memory) → f o ≡ Operand q → Instruction (MovMemory o) ≡ Instruction (MovMemory o′) → f o′ ≡ NoSecond → ⊥
+clash f o o′ q e i n = let z : _≡_ {A = ℕ} 0 1 = cc in omega arith
+
+module _ (m : Buffers) (c : Channel) (busy : ℕ) where
+  alone : (d : Decoded) → (deedFrom d m c busy) .wrong ≡ 0 → eqb (shapeIn d) 17 ≡ false → Paired d m c busy
+  unfolding shapeIn
+  alone d e ne = record { ok = true; chain = e ∙ sym (unless-true 3); told = told-true (λ h. eqb-false (shapeIn d) 17 ne (ap shapeIn (h .1 .0))) }
+
+  paired : (o : Memory) → Paired (Instruction (MovMemory o)) m c busy
+  unfolding deedFrom deedOf performed movMemoryDeed movSecondDeed movOperandDeed unless
+  paired o = go (secondAt m c o) refl
+    where
+      go : (q : Second) → secondAt m c o ≡ q → Paired (Instruction (MovMemory o)) m c busy
+      go (Operand q) e = record { ok = true; chain = rw e; told = told-true (λ h. clash (secondAt m c) o (h .0) q e (h .1 .0) (h .1 .1)) }
+      go NoSecond e = record { ok = false; chain = rw e; told = told-false (o, (refl, e)) }
+
+  tsl-alone : (x : Channel) (o : Memory) (b : Bool) → eqb (byteHere m (effective m x o (c .tp))) 0 ≡ b → (tslDeed m x (c .tp) o) .wrong ≡ 0
+  unfolding tslDeed
+  tsl-alone x o true e = rw e
+  tsl-alone x o false e = rw e
+
+  paired-of : (d : Decoded) → Paired d m c busy
+  unfolding deedFrom deedOf performed nopDeed sintrDeed xferDeed widDeed hltDeed lpdiDeed registerImmediateDeed registerDeed jumpRegisterDeed registerMemoryDeed memoryRegisterDeed memoryImmediateDeed memoryWorkDeed memoryAloneDeed jumpMemoryDeed lpdDeed movpLoadDeed movpStoreDeed callDeed jumpMaskedDeed jumpBitDeed jumpByteDeed bitDeed shapeIn
+  paired-of NoInstruction = alone NoInstruction refl refl
+  paired-of ControlUsed = alone ControlUsed refl refl
+  paired-of (Instruction Nop) = alone (Instruction Nop) refl refl
+  paired-of (Instruction Sintr) = alone (Instruction Sintr) refl refl
+  paired-of (Instruction Xfer) = alone (Instruction Xfer) refl refl
+  paired-of (Instruction (Wid source destination)) = alone (Instruction (Wid source destination)) refl refl
+  paired-of (Instruction Hlt) = alone (Instruction Hlt) refl refl
+  paired-of (Instruction (Lpdi ppp)) = alone (Instruction (Lpdi ppp)) refl refl
+  paired-of (Instruction (RegisterImmediate work rrr wide)) = alone (Instruction (RegisterImmediate work rrr wide)) refl refl
+  paired-of (Instruction (Register single rrr)) = alone (Instruction (Register single rrr)) refl refl
+  paired-of (Instruction (JumpRegister test rrr two)) = alone (Instruction (JumpRegister test rrr two)) refl refl
+  paired-of (Instruction (RegisterMemory work rrr o)) = alone (Instruction (RegisterMemory work rrr o)) refl refl
+  paired-of (Instruction (MemoryRegister work rrr o)) = alone (Instruction (MemoryRegister work rrr o)) refl refl
+  paired-of (Instruction (MemoryImmediate work o)) = alone (Instruction (MemoryImmediate work o)) refl refl
+  paired-of (Instruction (MemoryAlone single o)) = alone (Instruction (MemoryAlone single o)) refl refl
+  paired-of (Instruction (JumpMemory test o two)) = alone (Instruction (JumpMemory test o two)) refl refl
+  paired-of (Instruction (Lpd ppp o)) = alone (Instruction (Lpd ppp o)) refl refl
+  paired-of (Instruction (MovpLoad ppp o)) = alone (Instruction (MovpLoad ppp o)) refl refl
+  paired-of (Instruction (MovpStore ppp o)) = alone (Instruction (MovpStore ppp o)) refl refl
+  paired-of (Instruction (MovMemory o)) = paired o
+  paired-of (Instruction (Tsl o)) = alone (Instruction (Tsl o)) (tsl-alone (advanced c (lengthOf (Tsl o))) o (eqb (byteHere m (effective m (advanced c (lengthOf (Tsl o))) o (c .tp))) 0) refl) refl
+  paired-of (Instruction (Call o two)) = alone (Instruction (Call o two)) refl refl
+  paired-of (Instruction (JumpMasked equal o two)) = alone (Instruction (JumpMasked equal o two)) refl refl
+  paired-of (Instruction (JumpBit test bit o two)) = alone (Instruction (JumpBit test bit o two)) refl refl
+  paired-of (Instruction (Bit on bit o)) = alone (Instruction (Bit on bit o)) refl refl
+
+  -- ---- the chain of checks
+
+  -- the number after the first two bytes, as the chain of its tests
+  chain-of : (d : Decoded) → numberFrom d m c busy
+      ≡ first (unless (isCode d) 3)
+      (first (unless (isFree d) 4)
+      (first (unless (allLent m (laterFrom d c)) 2)
+      (first (unless (paired-of d .ok) 3)
+      (first (unless (allLent m ((deedFrom d m c busy) .reads)) 2) (unless (allLent m (placesOf ((deedFrom d m c busy) .change))) 2)))))
+  unfolding numberFrom shapeNumber effectOf isCode isFree deedFrom unless
+  chain-of (Instruction s) =
+      ap (first (unless (allLent m (laterBytes s c)) 2))
+      (first-assoc (d .wrong) reads stores ∙ ap (λ (n : ℕ). first n (first reads stores)) (paired-of (Instruction s) .chain))
+      ∙ sym (first-zero _)
+      ∙ sym (first-zero _)
+    where
+      d : Deed
+      d = deedOf s m c busy
+
+      reads : ℕ
+      reads = unless (allLent m (d .reads)) 2
+
+      stores : ℕ
+      stores = unless (allLent m (placesOf (d .change))) 2
+  chain-of NoInstruction = sym (first-some 3 _ (eqb-false 3 0 refl))
+  chain-of ControlUsed = sym (first-some 4 _ (eqb-false 4 0 refl)) ∙ sym (first-zero _)
+
+  given-from : (d : Decoded) (n : ℕ) → (first (unless (allLent m (bytesAt (c .tp) 2)) 2) (numberFrom d m c busy) ≡ n) ↔ Given (checksFrom d m c busy) n
+  given-from d n =
+      step 2 refl (told-lent m (bytesAt (c .tp) 2))
+      (rewritten (chain-of d)
+      (step 3 refl (told-code d)
+      (step 4 refl (told-free d)
+      (step 2 refl (told-lent m (laterFrom d c))
+      (step 3 refl (paired-of d .told)
+      (step 2 refl (told-lent m ((deedFrom d m c busy) .reads)) (last n 2 refl (told-lent m (placesOf ((deedFrom d m c busy) .change))))))))))
+
+  -- the number handed back is that of the first check that applies, and 0 where none does
+  pub number-given : (n : ℕ) → (executeOf c busy m) .number ≡ n ↔ Given (checks m c busy) n
+  unfolding executeNumber
+  number-given n = rewritten (number-is c busy m) (given-from (decodedAt m (c .tp)) n)
+
+  both : {A B C : Type 0} → (A ↔ B) → (B ↔ C) → (A ↔ C)
+  both p q = (λ a. q .0 (p .0 a), λ x. p .1 (q .1 x))
+
+  -- 2 exactly where a byte to be read or stored lies beyond lent memory, and no earlier check applies
+  pub exactly-2 : (executeOf c busy m) .number ≡ 2 ↔ Given2 (decodedAt m (c .tp)) m c busy
+  exactly-2 = both (number-given 2) (either (skip refl (skip refl (either (skip refl (either (hit (never 2 [] refl))))))))
+
+  -- 3 exactly where the bytes are no instruction, and no earlier check applies
+  pub exactly-3 : (executeOf c busy m) .number ≡ 3 ↔ Given3 (decodedAt m (c .tp)) m c busy
+  exactly-3 =
+      both (number-given 3)
+      (skip refl (either (skip refl (skip refl (hit (never 3 (check 2 (ReadsBeyond d m c busy) ∷ check 2 (StoresBeyond d m c busy) ∷ []) refl))))))
+    where
+      d : Decoded
+      d = decodedAt m (c .tp)
+
+  -- 4 exactly where CC is used by anything but MOV or MOVI, and no earlier check applies
+  pub exactly-4 : (executeOf c busy m) .number ≡ 4 ↔ Given4 (decodedAt m (c .tp)) m c busy
+  exactly-4 =
+      both (number-given 4)
+      (skip refl
+      (skip refl
+      (hit (never 4 (check 2 (LaterBeyond d m c) ∷ check 3 (NoSecondPair d m c) ∷ check 2 (ReadsBeyond d m c busy) ∷ check 2 (StoresBeyond d m c busy) ∷ []) refl))))
+    where
+      d : Decoded
+      d = decodedAt m (c .tp)
+
+  -- 0 exactly where no check applies
+  pub exactly-0 : (executeOf c busy m) .number ≡ 0 ↔ Given0 (decodedAt m (c .tp)) m c busy
+  exactly-0 = both (number-given 0) (skip refl (skip refl (skip refl (skip refl (skip refl (skip refl (end refl refl)))))))
+
+  -- and there is no other number
+  pub one-of-four : (((executeOf c busy m) .number ≡ 0) ⊎ ((executeOf c busy m) .number ≡ 2)) ⊎ (((executeOf c busy m) .number ≡ 3) ⊎ ((executeOf c busy m) .number ≡ 4))
+  one-of-four = go ((executeOf c busy m) .number) (number-given ((executeOf c busy m) .number) .0 refl)
+    where
+      go : (n : ℕ) → Given (checks m c busy) n → ((n ≡ 0) ⊎ (n ≡ 2)) ⊎ ((n ≡ 3) ⊎ (n ≡ 4))
+      go n =
+          ⊎-elim (λ h. inl (inr (h .1)))
+          (λ h. ⊎-elim (λ k. inr (inl (k .1)))
+          (λ k. ⊎-elim (λ j. inr (inr (j .1)))
+          (λ j. ⊎-elim (λ i. inl (inr (i .1)))
+          (λ i. ⊎-elim (λ l. inr (inl (l .1)))
+          (λ l. ⊎-elim (λ r. inl (inr (r .1))) (λ r. ⊎-elim (λ s. inl (inr (s .1))) (λ s. inl (inl (s .1))) (r .1)) (l .1)) (i .1)) (j .1)) (k .1)) (h .1))

@@ -1,0 +1,16 @@
+-- `execute::operands::further` meets its contract.
+-- Assumes nothing.
+use borrow.Author.Needs.{needs}
+use Rattle.execute.specs.Operands.{onward, renewed, further}
+use Rattle.execute.proofs.operands.further.Statement.{statement}
+use Rattle.execute.proofs.operands.further.Tie as tie
+
+onward-requires : tie.Need-onward-requires
+onward-requires c κs = search needs
+
+returns : tie.Need-returns
+unfolding further renewed
+returns c = simp (c .onward .ensures)
+
+pub further-spec : {M : Type 1} → statement M
+further-spec = tie.close (tie.spec onward-requires returns)

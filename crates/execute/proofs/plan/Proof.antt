@@ -1,0 +1,89 @@
+-- `execute::plan` meets its contract.
+-- Assumes nothing.
+use Prim.Native.Nat.{ℕ}
+use borrow.Author.Needs.{needs}
+use borrow.Author.Tests.{not-true, not-false}
+use denote.Ref.{now}
+use mathlib.Core.Path.{_≡_, sym, ap, ap₂, _∙_}
+use Rattle.decode.specs.Reading.{decodeOf}
+use Rattle.machine.proofs.OutcomeLaws.{refused}
+use Rattle.memory.specs.Buffers.{buffers}
+use Rattle.execute.specs.Execute.{decodedAt, deedFrom, numberFrom}
+use Rattle.execute.specs.Operands.{onward, byteHere}
+use Rattle.execute.proofs.CodeLaws.{refusedEffect, plan-read, plan-beyond, plan-none}
+use Rattle.execute.proofs.plan.Statement.{statement}
+use Rattle.execute.proofs.plan.Tie as tie
+
+lent-requires : tie.Need-lent-requires
+lent-requires c κs = search needs
+
+refused-requires : tie.Need-refused-requires
+refused-requires c κs = search needs
+
+returns : tie.Need-returns
+returns c =
+    let a = c .before .before .before .before .before .before .args in
+    c .refused .ensures ∙ sym (plan-beyond (buffers (now (a .sys)) (now (a .io))) (a .c) (a .busy) (sym (c .before .before .lent .ensures) ∙ not-true _ (c .before .if1 .taken)))
+
+byte-requires : tie.Need-byte-requires
+byte-requires c κs = search needs
+
+onward-requires : tie.Need-onward-requires
+onward-requires c κs = search needs
+
+byte-requires-2 : tie.Need-byte-requires-2
+byte-requires-2 c κs = search needs
+
+decode-requires : tie.Need-decode-requires
+decode-requires c κs = search needs
+
+enum-known-decoded : tie.Need-enum-known-decoded
+enum-known-decoded c = search needs
+
+number-requires : tie.Need-number-requires
+number-requires c κs = search needs
+
+refused-requires-2 : tie.Need-refused-requires-2
+refused-requires-2 c κs = search needs
+
+returns-2 : tie.Need-returns-2
+unfolding decodedAt
+returns-2 c =
+    let a = c .before .before .before .before .before .before .before .before .before .before .before .before .args in
+    let m = buffers (now (a .sys)) (now (a .io)) in
+    let there = sym (c .before .before .before .before .before .before .before .before .lent .ensures) ∙ not-false _ (c .before .before .before .before .before .before .before .if1 .left) in
+    let e : decodedAt m (a .c .tp) ≡ c .before .before .before .decode .result = sym (c .before .before .before .decode .ensures ∙ ap₂ decodeOf (c .before .before .before .before .before .before .byte .ensures) (c .before .before .before .before .byte2 .ensures ∙ ap (byteHere m) (c .before .before .before .before .before .onward .ensures))) in
+    let d = c .before .before .before .decode .result in
+    c .refused2 .ensures
+    ∙ ap (λ (n : ℕ). refusedEffect n (a .c)) (c .before .number .ensures)
+    ∙ sym (plan-read m (a .c) (a .busy) d there e ∙ plan-none m (a .c) (a .busy) d (c .before .before .match .keys2))
+
+shaped-requires : tie.Need-shaped-requires
+shaped-requires c κs = search needs
+
+returns-3 : tie.Need-returns-3
+unfolding decodedAt numberFrom deedFrom
+returns-3 c =
+    let a = c .before .before .before .before .before .before .before .before .before .before .before .before .before .args in
+    let m = buffers (now (a .sys)) (now (a .io)) in
+    let there = sym (c .before .before .before .before .before .before .before .before .before .lent .ensures) ∙ not-false _ (c .before .before .before .before .before .before .before .before .if1 .left) in
+    let e : decodedAt m (a .c .tp) ≡ c .before .before .before .before .decode .result = sym (c .before .before .before .before .decode .ensures ∙ ap₂ decodeOf (c .before .before .before .before .before .before .before .byte .ensures) (c .before .before .before .before .before .byte2 .ensures ∙ ap (byteHere m) (c .before .before .before .before .before .before .onward .ensures))) in
+    c .shaped .ensures ∙ sym (plan-read m (a .c) (a .busy) _ there (e ∙ c .before .before .decoded .given .1))
+
+pub plan-spec : {M : Type 1} → statement M
+plan-spec =
+    tie.close
+    (tie.spec
+    lent-requires
+    refused-requires
+    returns
+    byte-requires
+    onward-requires
+    byte-requires-2
+    decode-requires
+    enum-known-decoded
+    number-requires
+    refused-requires-2
+    returns-2
+    shaped-requires
+    returns-3)

@@ -1,0 +1,123 @@
+-- The table of numbers for an instruction, "given exactly when, and no earlier check applies": each check's own condition, and their order.
+use mathlib.Core.List.{List, [], _∷_}
+use mathlib.Core.Logic.{_⊎_}
+use mathlib.Core.Path.{_≡_}
+use Prim.Native.Nat.{ℕ, _≤_}
+use lib.ListN.{length}
+use Rattle.memory.specs.Buffers.{Buffers, spaceOf, indexOf}
+use Rattle.memory.specs.Places.{Place}
+use Rattle.machine.specs.declared.Channel.{Channel}
+use Rattle.decode.specs.declared.Memory.{Memory}
+use Rattle.decode.specs.declared.Shape.the-variants.{MovMemory}
+use Rattle.decode.specs.declared.Decoded.{Decoded}
+use Rattle.decode.specs.declared.Decoded.the-variants.{Instruction, NoInstruction, ControlUsed}
+use Rattle.decode.specs.declared.Second.{Second}
+use Rattle.decode.specs.declared.Second.the-variants.{NoSecond}
+use Rattle.decode.specs.Reading.{secondOf}
+use Rattle.execute.specs.Operands.{onward, byteHere, bytesAt}
+use Rattle.execute.specs.MemoryForms.{afterPair}
+use Rattle.execute.specs.Changes.{placesOf}
+use Rattle.execute.specs.Deeds.{Deed}
+use Rattle.execute.specs.Execute.{decodedAt, laterBytes, deedFrom}
+
+-- a check: its number, and the condition under which it applies
+pub record Check : Type 1 where
+  pub number : ℕ
+  pub applies : Type 0
+
+abbrev pub check : ℕ → Type 0 → Check
+check number applies = record { number = number; applies = applies }
+
+-- number n is given by checks in their order: by the first that applies; 0 where none does
+abbrev pub Given : List Check → ℕ → Type 0
+Given [] n = n ≡ 0
+Given (k ∷ ks) n = (k .applies × (n ≡ k .number)) ⊎ (¬ (k .applies) × Given ks n)
+
+-- "a byte to be read or stored lies beyond lent memory"
+abbrev pub Beyond : Buffers → List Place → Type 0
+Beyond m [] = ⊥
+Beyond m (p ∷ ps) = (length (spaceOf m (p .tag)) ≤ indexOf (p .tag) (p .address)) ⊎ Beyond m ps
+
+-- 2, of "its first two bytes"
+abbrev pub PairBeyond : Buffers → Channel → Type 0
+PairBeyond m c = Beyond m (bytesAt (c .tp) 2)
+
+-- 3, "the bytes are no instruction", as far as the first two show; d is what they are
+abbrev pub NoCode : Decoded → Type 0
+NoCode d = d ≡ NoInstruction
+
+-- 4, "CC used by anything but MOV or MOVI"
+abbrev pub ControlTouched : Decoded → Type 0
+ControlTouched d = d ≡ ControlUsed
+
+-- the bytes after the first pair: offset byte, data, displacement, and a second pair
+abbrev pub laterFrom : Decoded → Channel → List Place
+laterFrom (Instruction s) c = laterBytes s c
+laterFrom NoInstruction c = []
+laterFrom ControlUsed c = []
+
+-- 2, of "later bytes up to and with a second pair"
+abbrev pub LaterBeyond : Decoded → Buffers → Channel → Type 0
+LaterBeyond d m c = Beyond m (laterFrom d c)
+
+-- what the second pair of a MOV M,M is
+abbrev pub secondAt : Buffers → Channel → Memory → Second
+secondAt m c o = secondOf (byteHere m (afterPair (c .tp) o)) (byteHere m (onward (afterPair (c .tp) o) 1)) (o .wide)
+
+-- "3 from that pair": it is a MOV M,M, whose second pair is none
+abbrev pub NoSecondPair : Decoded → Buffers → Channel → Type 0
+NoSecondPair d m c = (o : Memory) × ((d ≡ Instruction (MovMemory o)) × (secondAt m c o ≡ NoSecond))
+
+-- 2, of "its offset byte, operand bytes" that are read
+abbrev pub ReadsBeyond : Decoded → Buffers → Channel → ℕ → Type 0
+ReadsBeyond d m c busy = Beyond m ((deedFrom d m c busy) .reads)
+
+-- 2, of the operand bytes that are stored to, and "for HLT its BUSY byte"
+abbrev pub StoresBeyond : Decoded → Buffers → Channel → ℕ → Type 0
+StoresBeyond d m c busy = Beyond m (placesOf ((deedFrom d m c busy) .change))
+
+-- the checks of an instruction in their order, d being what its first two bytes are
+abbrev pub checksFrom : Decoded → Buffers → Channel → ℕ → List Check
+checksFrom d m c busy =
+    check 2 (PairBeyond m c)
+    ∷ check 3 (NoCode d)
+    ∷ check 4 (ControlTouched d)
+    ∷ check 2 (LaterBeyond d m c)
+    ∷ check 3 (NoSecondPair d m c)
+    ∷ check 2 (ReadsBeyond d m c busy)
+    ∷ check 2 (StoresBeyond d m c busy)
+    ∷ []
+
+-- "for an instruction its first two bytes (2), 3, then 4, as far as they show, later bytes up to and with a second pair (2), 3 from that pair, its
+-- offset byte, operand bytes, for HLT its BUSY byte (2)"
+abbrev pub checks : Buffers → Channel → ℕ → List Check
+checks m c busy = checksFrom (decodedAt m (c .tp)) m c busy
+
+-- 4 exactly where the pair is lent, is an instruction, and uses CC
+abbrev pub Given4 : Decoded → Buffers → Channel → ℕ → Type 0
+Given4 d m c busy = ¬ (PairBeyond m c) × (¬ (NoCode d) × ControlTouched d)
+
+-- 3 exactly where the pair is lent and none, or is MOV M,M with its later bytes lent and a second pair that is none
+abbrev pub Given3 : Decoded → Buffers → Channel → ℕ → Type 0
+Given3 d m c busy =
+    ¬ (PairBeyond m c)
+    × (NoCode d ⊎ (¬ (NoCode d) × (¬ (ControlTouched d) × (¬ (LaterBeyond d m c) × NoSecondPair d m c))))
+
+-- 2 exactly where a byte of the pair lies beyond, or else a later byte, or else a byte read, or else a byte stored to
+abbrev pub Given2 : Decoded → Buffers → Channel → ℕ → Type 0
+Given2 d m c busy =
+    PairBeyond m c
+    ⊎ (¬ (PairBeyond m c)
+    × (¬ (NoCode d)
+    × (¬ (ControlTouched d)
+    × (LaterBeyond d m c
+    ⊎ (¬ (LaterBeyond d m c)
+    × (¬ (NoSecondPair d m c) × (ReadsBeyond d m c busy ⊎ (¬ (ReadsBeyond d m c busy) × StoresBeyond d m c busy))))))))
+
+-- 0 exactly where none of these holds
+abbrev pub Given0 : Decoded → Buffers → Channel → ℕ → Type 0
+Given0 d m c busy =
+    ¬ (PairBeyond m c)
+    × (¬ (NoCode d)
+    × (¬ (ControlTouched d)
+    × (¬ (LaterBeyond d m c) × (¬ (NoSecondPair d m c) × (¬ (ReadsBeyond d m c busy) × ¬ (StoresBeyond d m c busy))))))

@@ -1,0 +1,33 @@
+-- Words for what an instruction does and leaves: bytes away from some places, the next instruction, and the registers that are pointers.
+use mathlib.Core.Bool.{Bool}
+use mathlib.Core.List.{List, [], _∷_}
+use mathlib.Core.Logic.{_⊎_}
+use mathlib.Core.Path.{_≡_}
+use Prim.Native.Nat.{ℕ}
+use Rattle.memory.specs.Buffers.{Buffers}
+use Rattle.memory.specs.Places.{Place, Apart}
+use Rattle.machine.specs.declared.Channel.{Channel}
+use Rattle.decode.specs.declared.Shape.the-variants.{Hlt, Xfer}
+use Rattle.decode.specs.declared.Decoded.the-variants.{Instruction}
+use Rattle.execute.specs.Deeds.{Deed}
+use Rattle.execute.specs.Execute.{decodedAt, deedFrom}
+
+-- a byte that is none of a list's
+abbrev pub Away : Bool → ℕ → List Place → Type 0
+Away u b [] = Unit
+Away u b (p ∷ ps) = Apart (p .tag) (p .address) u b × Away u b ps
+
+-- the deed of a channel's next instruction
+abbrev pub deedAt : Buffers → Channel → ℕ → Deed
+deedAt m c busy = deedFrom (decodedAt m (c .tp)) m c busy
+
+-- the next instruction is HLT, or XFER
+abbrev pub Halts : Buffers → Channel → Type 0
+Halts m c = decodedAt m (c .tp) ≡ Instruction Hlt
+
+abbrev pub Arms : Buffers → Channel → Type 0
+Arms m c = decodedAt m (c .tp) ≡ Instruction Xfer
+
+-- "PPP: GA, GB, GC, TP only"
+abbrev pub IsPointer : ℕ → Type 0
+IsPointer r = (r ≡ 0) ⊎ ((r ≡ 1) ⊎ ((r ≡ 2) ⊎ (r ≡ 4)))

@@ -1,0 +1,189 @@
+// One instruction of a channel: fetched, decoded, carried out on the registers, and its one store made last.
+use decode::Decoded;
+use decode::Shape;
+use machine::Channel;
+use memory::Pointer;
+
+// Places, operands and what is worked out of them.
+pub mod operands;
+// What an instruction stores.
+pub mod changes;
+// NOP, SINTR, XFER, WID and HLT.
+pub mod control;
+// Results that go into a register.
+pub mod registers;
+// Results that go into memory.
+pub mod stores;
+// Jumps.
+pub mod jumps;
+
+ghost use mathlib.Core.Path.{_≡_};
+ghost use Rattle.memory.specs.Buffers.{buffers};
+ghost use Rattle.execute.specs.Deeds.{effectOf};
+ghost use Rattle.execute.specs.Execute.{performed, deedOf, shapeNumber, settledEffect, planOf, executed, executeOf};
+
+// What an instruction stores, at one place.
+pub enum Change {
+    Nothing,
+    Byte(Pointer, u8),
+    Word(Pointer, u16),
+    Stored(Pointer, Pointer),
+}
+
+// What an instruction would do: a number other than 0 where it is refused, the channel after it, and what it stores.
+pub struct Effect {
+    pub number: u32,
+    pub channel: Channel,
+    pub change: Change,
+}
+
+// What an instruction answers: its number, and the channel after it.
+pub struct Done {
+    pub number: u32,
+    pub channel: Channel,
+}
+
+// What an instruction of some shape does: `c` has TP past it and its mark used up, `tp` is where it stands.
+fn perform(
+    shape: Shape,
+    c: Channel,
+    tp: Pointer,
+    armed: bool,
+    busy: u32,
+    sys: &[u8],
+    io: &[u8],
+) -> Effect
+    ensures { λ r. ⌜ r ≡ effectOf (buffers (now (sys .entry)) (now (io .entry))) (performed shape (buffers (now (sys .entry)) (now (io .entry))) c tp armed busy) ⌝ }
+{
+    match shape {
+        Shape::Nop => control::nop(c),
+        Shape::Sintr => control::sintr(c),
+        Shape::Xfer => control::xfer(c, armed),
+        Shape::Wid {
+            source,
+            destination,
+        } => control::wid(c, source, destination),
+        Shape::Hlt => control::hlt(c, busy),
+        Shape::Lpdi { ppp } => registers::lpdi(c, tp, ppp, sys, io),
+        Shape::RegisterImmediate { work, rrr, wide } => registers::register_immediate(
+            c,
+            tp,
+            work,
+            rrr,
+            wide,
+            sys,
+            io,
+        ),
+        Shape::Register { single, rrr } => registers::register(c, single, rrr),
+        Shape::JumpRegister { zero, rrr, two } => jumps::jump_register(
+            c,
+            tp,
+            zero,
+            rrr,
+            two,
+            sys,
+            io,
+        ),
+        Shape::RegisterMemory { work, rrr, m } => registers::register_memory(
+            c,
+            tp,
+            work,
+            rrr,
+            m,
+            sys,
+            io,
+        ),
+        Shape::MemoryRegister { work, rrr, m } => stores::memory_register(
+            c,
+            tp,
+            work,
+            rrr,
+            m,
+            sys,
+            io,
+        ),
+        Shape::MemoryImmediate { work, m } => stores::memory_immediate(c, tp, work, m, sys, io),
+        Shape::MemoryAlone { single, m } => stores::memory_alone(c, tp, single, m, sys, io),
+        Shape::JumpMemory { zero, m, two } => jumps::jump_memory(c, tp, zero, m, two, sys, io),
+        Shape::Lpd { ppp, m } => registers::lpd(c, tp, ppp, m, sys, io),
+        Shape::MovpLoad { ppp, m } => registers::movp_load(c, tp, ppp, m, sys, io),
+        Shape::MovpStore { ppp, m } => stores::movp_store(c, tp, ppp, m, sys, io),
+        Shape::MovMemory { m } => stores::mov_memory(c, tp, m, sys, io),
+        Shape::Tsl { m } => jumps::tsl(c, tp, m, sys, io),
+        Shape::Call { m, two } => jumps::call(c, tp, m, two, sys, io),
+        Shape::JumpMasked { equal, m, two } => jumps::jump_masked(c, tp, equal, m, two, sys, io),
+        Shape::JumpBit { set, bit, m, two } => jumps::jump_bit(c, tp, set, bit, m, two, sys, io),
+        Shape::Bit { on, bit, m } => stores::bit(c, tp, on, bit, m, sys, io),
+    }
+}
+
+// A refusal: the channel as it was, and nothing stored.
+fn refused(c: Channel, number: u32) -> Effect
+    ensures { λ r. ⌜ r ≡ record { number = number; channel = c; change = Change.Nothing } ⌝ }
+{
+    Effect {
+        number,
+        channel: c,
+        change: Change::Nothing,
+    }
+}
+
+// An instruction of a channel that was read, worked out and not yet stored.
+fn shaped(shape: Shape, c: Channel, busy: u32, sys: &[u8], io: &[u8]) -> Effect
+    ensures { λ r. ⌜ r ≡ settledEffect (shapeNumber shape (buffers (now (sys .entry)) (now (io .entry))) c busy) (deedOf shape (buffers (now (sys .entry)) (now (io .entry))) c busy) c ⌝ }
+{
+    let tp = c.tp;
+    let count = decode::length(shape);
+    if !operands::lent(operands::onward(tp, 2), count - 2, sys, io) {
+        return refused(c, 2);
+    }
+    let e = perform(
+        shape,
+        operands::advanced(c, count),
+        tp,
+        c.armed,
+        busy,
+        sys,
+        io,
+    );
+    if e.number != 0 {
+        return refused(c, e.number);
+    }
+    let change = e.change;
+    if !changes::lent(change, sys, io) {
+        return refused(c, 2);
+    }
+    e
+}
+
+// The next instruction of a channel, worked out and not yet stored; BUSY is at `busy` of system memory.
+pub fn plan(c: Channel, busy: u32, sys: &[u8], io: &[u8]) -> Effect
+    ensures { λ r. ⌜ r ≡ planOf (buffers (now (sys .entry)) (now (io .entry))) c busy ⌝ }
+{
+    let tp = c.tp;
+    if !operands::lent(tp, 2, sys, io) {
+        return refused(c, 2);
+    }
+    let decoded = decode::decode(
+        operands::byte(tp, sys, io),
+        operands::byte(operands::onward(tp, 1), sys, io),
+    );
+    let Decoded::Instruction(shape) = decoded else {
+        return refused(c, decode::number(decoded));
+    };
+    shaped(shape, c, busy, sys, io)
+}
+
+// One instruction of a channel, done or refused; BUSY is at `busy` of system memory.
+pub fn execute(c: Channel, busy: u32, sys: &mut [u8], io: &mut [u8]) -> Done
+    ensures { λ r. ⌜ executed (r .number) (r .channel) (buffers (now (sys .exit)) (now (io .exit))) ≡ executeOf c busy (buffers (now (sys .entry)) (now (io .entry))) ⌝ }
+{
+    let e = plan(c, busy, sys, io);
+    let change = e.change;
+    let channel = e.channel;
+    changes::make(change, sys, io);
+    Done {
+        number: e.number,
+        channel,
+    }
+}

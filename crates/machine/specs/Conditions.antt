@@ -1,0 +1,45 @@
+-- What every attention and step asks of what it is given, "given exactly when, and no earlier check applies": checks, their order, and the conditions of 11, 10 and 2.
+use mathlib.Core.List.{List, [], _∷_, _++_}
+use mathlib.Core.Logic.{_⊎_}
+use mathlib.Core.Path.{_≡_}
+use Prim.Native.Nat.{ℕ, _<_, _≤_}
+use lib.ListN.{length}
+use Rattle.memory.specs.Buffers.{Buffers, spaceOf, indexOf}
+use Rattle.memory.specs.Places.{Place}
+use Rattle.machine.specs.declared.Channel.{Channel}
+use Rattle.machine.specs.declared.State.{State}
+
+-- a check: its number, and the condition under which it applies
+pub record Check : Type 1 where
+  pub number : ℕ
+  pub applies : Type 0
+
+abbrev pub check : ℕ → Type 0 → Check
+check number applies = record { number = number; applies = applies }
+
+-- number n is given by checks in their order: by the first that applies; 0 where none does
+abbrev pub Given : List Check → ℕ → Type 0
+Given [] n = n ≡ 0
+Given (k ∷ ks) n = (k .applies × (n ≡ k .number)) ⊎ (¬ (k .applies) × Given ks n)
+
+-- 11: "a lent buffer longer than its limit"
+abbrev pub TooLong : Buffers → Type 0
+TooLong m = (1048576 < length (m .sys)) ⊎ (65536 < length (m .io))
+
+-- the pointers of a channel, and PP
+abbrev pub pointersOf : Channel → List ℕ
+pointersOf c = c .ga .address ∷ c .gb .address ∷ c .gc .address ∷ c .tp .address ∷ c .pp ∷ []
+
+-- one of some addresses is 1,048,576 or more
+abbrev pub SomePast : List ℕ → Type 0
+SomePast [] = ⊥
+SomePast (a ∷ rest) = (1048576 ≤ a) ⊎ SomePast rest
+
+-- 10: "a pointer, PP or CP in the given state is 1,048,576 or more"
+abbrev pub NotSound : State → Type 0
+NotSound s = SomePast (pointersOf (s .first) ++ (pointersOf (s .second) ++ (s .cp ∷ [])))
+
+-- 2: "a byte to be read or stored lies beyond lent memory"
+abbrev pub Beyond : Buffers → List Place → Type 0
+Beyond m [] = ⊥
+Beyond m (p ∷ ps) = (length (spaceOf m (p .tag)) ≤ indexOf (p .tag) (p .address)) ⊎ Beyond m ps

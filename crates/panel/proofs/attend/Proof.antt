@@ -1,0 +1,64 @@
+-- `panel::attend` meets its contract.
+-- Assumes nothing.
+use borrow.Author.Needs.{needs}
+use borrow.Author.Tests.{eq-eqb, ne-eqb}
+use denote.Ref.{now}
+use mathlib.Core.Path.{sym, ap, _∙_}
+use Rattle.attention.specs.Attention.{attentionOf}
+use Rattle.machine.specs.Outcomes.{Outcome}
+use Rattle.memory.specs.Buffers.{buffers}
+use Rattle.panel.specs.Run.{ran, stepsFrom, attended}
+use Rattle.panel.proofs.attend.Statement.{statement}
+use Rattle.panel.proofs.attend.Tie as tie
+
+attention-requires : tie.Need-attention-requires
+attention-requires c κs = search needs
+
+same-length : tie.Need-same-length
+same-length c = search needs
+
+same-length-2 : tie.Need-same-length-2
+same-length-2 c = search needs
+
+returns : tie.Need-returns
+unfolding attended
+returns c =
+    let a = c .before .before .before .before .before .before .before .before .before .before .before .args in
+    let m = buffers (now (a .sys)) (now (a .io)) in
+    let o = attentionOf (a .s) m (a .channel) in
+    let e = c .before .before .before .before .before .before .attention .ensures in
+    ap (λ (x : Outcome). ran (x .number) 0 (x .memory)) e
+    ∙ rw (ne-eqb (o .number) 0 (λ z. c .if1 .taken (ap (λ (x : Outcome). x .number) e ∙ z)))
+
+steps-requires : tie.Need-steps-requires
+steps-requires c κs = search needs
+
+same-length-3 : tie.Need-same-length-3
+same-length-3 c = search needs
+
+same-length-4 : tie.Need-same-length-4
+same-length-4 c = search needs
+
+returns-2 : tie.Need-returns-2
+unfolding attended
+returns-2 c =
+    let a = c .before .before .before .before .before .before .before .before .before .before .before .before .before .before .before .before .before .before .before .args in
+    let m = buffers (now (a .sys)) (now (a .io)) in
+    let o = attentionOf (a .s) m (a .channel) in
+    let e = c .before .before .before .before .before .before .before .before .before .before .before .before .before .before .attention .ensures in
+    c .before .before .before .before .steps .ensures
+    ∙ ap (λ (x : Outcome). stepsFrom (a .limit) (x .state) (x .memory) (a .lines) 0) e
+    ∙ rw (eq-eqb (o .number) 0 (sym (ap (λ (x : Outcome). x .number) e) ∙ c .before .before .before .before .before .before .before .before .if1 .left))
+
+pub attend-spec : {M : Type 1} → statement M
+attend-spec =
+    tie.close
+    (tie.spec
+    attention-requires
+    same-length
+    same-length-2
+    returns
+    steps-requires
+    same-length-3
+    same-length-4
+    returns-2)

@@ -1,0 +1,60 @@
+-- The panel's run: a fresh state, one attention, and steps until a number other than 0 or the limit.
+use mathlib.Core.Bool.{Bool, true, false, _&&_}
+use Prim.Native.Nat.{ℕ, zero, suc, _+_, _*_, _%_}
+use lib.Dec.{eqb, ltb}
+use Rattle.words.specs.Choice.{pick}
+use Rattle.memory.specs.Buffers.{Buffers, withinLimits}
+use Rattle.machine.specs.declared.State.{State}
+use Rattle.machine.specs.declared.Answer.{Answer}
+use Rattle.machine.specs.Outcomes.{Outcome, first, unless}
+use Rattle.machine.specs.States.{isChannel, freshOf}
+use Rattle.attention.specs.Attention.{attentionOf}
+use Rattle.step.specs.Step.{Step, stepOf}
+
+-- what a run leaves: the number that stopped it, the steps done, and both memories
+pub record Run : Type 0 where
+  pub number : ℕ
+  pub steps : ℕ
+  pub memory : Buffers
+
+abbrev pub ran : ℕ → ℕ → Buffers → Run
+ran number steps m = record { number = number; steps = steps; memory = m }
+
+-- "steps until a number other than 0 or the limit; steps before a refusal keep their effect": `left` steps may still be done, `done` were
+unfoldable pub stepsFrom : ℕ → State → Buffers → ℕ → ℕ → Run
+stepsFrom zero s m lines done = ran 0 done m
+stepsFrom (suc left) s m lines done =
+    let o = stepOf s m lines in
+    let rest = stepsFrom left (o .state) (o .memory) lines (done + 1) in
+    pick (eqb (o .number) 0) rest (ran (o .number) done (o .memory))
+
+-- the steps after an attention that was accepted
+unfoldable pub attended : Outcome → ℕ → ℕ → Run
+attended o lines limit = pick (eqb (o .number) 0) (stepsFrom limit (o .state) (o .memory) lines 0) (ran (o .number) 0 (o .memory))
+
+-- "makes a fresh state (10), gives that channel one attention"
+unfoldable pub started : Answer → Buffers → ℕ → ℕ → ℕ → Run
+started fresh m channel lines limit =
+    pick (eqb (fresh .number) 0) (attended (attentionOf (fresh .state) m channel) lines limit) (ran (fresh .number) 0 m)
+
+-- "It tests 12 and 11 before anything else"
+unfoldable pub callNumber : Buffers → ℕ → ℕ → ℕ → ℕ
+callNumber m channel lines limit =
+    first (unless (isChannel channel && ltb lines 16 && ltb limit 65536) 12) (unless (withinLimits m) 11)
+
+-- the whole run
+unfoldable pub runOf : Buffers → ℕ → ℕ → ℕ → ℕ → Run
+runOf m cp channel lines limit =
+    pick (eqb (callNumber m channel lines limit) 0) (started (freshOf cp) m channel lines limit) (ran (callNumber m channel lines limit) 0 m)
+
+-- "Answer: number × 65,536 + steps done", each in sixteen bits
+unfoldable pub answerOf : Run → ℕ
+answerOf r = r .number % 65536 * 65536 + r .steps % 65536
+
+-- the answer and both memories, as a caller gets them
+pub record Call : Type 0 where
+  pub answer : ℕ
+  pub memory : Buffers
+
+abbrev pub called : ℕ → Buffers → Call
+called answer m = record { answer = answer; memory = m }

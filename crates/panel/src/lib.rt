@@ -1,0 +1,116 @@
+// The panel's side: one call from C that runs a channel's program in two lent buffers.
+use machine::Answer;
+use machine::State;
+ghost use mathlib.Core.Path.{_≡_};
+ghost use Rattle.memory.specs.Buffers.{buffers};
+ghost use Rattle.machine.specs.Outcomes.{outcome};
+ghost use Rattle.panel.specs.Run.{ran, stepsFrom, attended, started, callNumber, runOf, answerOf, called};
+ghost use Rattle.attention.specs.Attention.{attentionOf};
+
+// How a run ended: the number that stopped it, 0 at the limit, and the steps done.
+pub struct Ran {
+    pub number: u32,
+    pub steps: u32,
+}
+
+// Steps until a number other than 0 or the limit, of at most 65,535.
+fn steps(s: State, sys: &mut [u8], io: &mut [u8], lines: u32, limit: u16) -> Ran
+    ensures { λ r. ⌜ ran (r .number) (r .steps) (buffers (now (sys .exit)) (now (io .exit))) ≡ stepsFrom limit s (buffers (now (sys .entry)) (now (io .entry))) lines 0 ⌝ }
+{
+    let mut state = s;
+    let mut done: u16 = 0;
+    while done < limit {
+        let r = step::step(state, sys, io, lines);
+        if r.number != 0 {
+            return Ran {
+                number: r.number,
+                steps: done as u32,
+            };
+        }
+        let next = r.state;
+        state = next;
+        done += 1;
+    }
+    Ran {
+        number: 0,
+        steps: done as u32,
+    }
+}
+
+// One attention, and the steps after it where it is accepted.
+fn attend(s: State, sys: &mut [u8], io: &mut [u8], channel: u32, lines: u32, limit: u16) -> Ran
+    ensures { λ r. ⌜ ran (r .number) (r .steps) (buffers (now (sys .exit)) (now (io .exit))) ≡ attended (attentionOf s (buffers (now (sys .entry)) (now (io .entry))) channel) lines limit ⌝ }
+{
+    let a = attention::attention(s, sys, io, channel);
+    if a.number != 0 {
+        return Ran {
+            number: a.number,
+            steps: 0,
+        };
+    }
+    let state = a.state;
+    steps(state, sys, io, lines, limit)
+}
+
+// A run from a fresh state, or 10.
+fn start(fresh: Answer, sys: &mut [u8], io: &mut [u8], channel: u32, lines: u32, limit: u16) -> Ran
+    ensures { λ r. ⌜ ran (r .number) (r .steps) (buffers (now (sys .exit)) (now (io .exit))) ≡ started fresh (buffers (now (sys .entry)) (now (io .entry))) channel lines limit ⌝ }
+{
+    if fresh.number != 0 {
+        return Ran {
+            number: fresh.number,
+            steps: 0,
+        };
+    }
+    let state = fresh.state;
+    attend(state, sys, io, channel, lines, limit)
+}
+
+// The refusal of what a run is given: 12 for a channel, line number or limit that is none, then 11, else 0.
+fn call_number(sys: &[u8], io: &[u8], channel: u32, lines: u32, limit: u32) -> u32
+    ensures { λ r. ⌜ r ≡ callNumber (buffers (now (sys .entry)) (now (io .entry))) channel lines limit ⌝ }
+{
+    if machine::states::is_channel(channel) & (lines < 16) & (limit < 65536) {
+        if memory::within_limits(sys, io) {
+            0
+        } else {
+            11
+        }
+    } else {
+        12
+    }
+}
+
+// A run of a channel: at `cp` its control block, `lines` held throughout, at most `limit` steps.
+pub fn run(sys: &mut [u8], io: &mut [u8], cp: u32, channel: u32, lines: u32, limit: u32) -> Ran
+    ensures { λ r. ⌜ ran (r .number) (r .steps) (buffers (now (sys .exit)) (now (io .exit))) ≡ runOf (buffers (now (sys .entry)) (now (io .entry))) cp channel lines limit ⌝ }
+{
+    let number = call_number(sys, io, channel, lines, limit);
+    if number != 0 {
+        return Ran { number, steps: 0 };
+    }
+    start(
+        machine::states::fresh(cp),
+        sys,
+        io,
+        channel,
+        lines,
+        (limit % 65536) as u16,
+    )
+}
+
+// The one call for C: number × 65,536 + steps done.
+#[no_mangle]
+pub extern "C" fn iop89_run(
+    sys: &mut [u8],
+    io: &mut [u8],
+    cp: u32,
+    channel: u32,
+    lines: u32,
+    limit: u32,
+) -> u32
+    ensures { λ r. ⌜ called r (buffers (now (sys .exit)) (now (io .exit))) ≡ called (answerOf (runOf (buffers (now (sys .entry)) (now (io .entry))) cp channel lines limit)) (runOf (buffers (now (sys .entry)) (now (io .entry))) cp channel lines limit .memory) ⌝ }
+{
+    let r = run(sys, io, cp, channel, lines, limit);
+    r.number % 65536 * 65536 + r.steps % 65536
+}

@@ -1,0 +1,10 @@
+pub mod CountLaws
+pub mod HeldLaws
+pub mod StageLaws
+pub mod CopyLaws
+pub mod Demand3
+pub mod CallLaws
+pub mod MachineLaws
+pub mod CaseLaws
+pub mod WitnessLaws
+pub mod CallWitness

@@ -1,0 +1,94 @@
+-- Demand 3 on the whole machine: calls in a row are, for one channel, a row of its transfer steps with other things between.
+-- Assumes nothing.
+use Prim.Native.Nat.{ℕ, suc}
+use mathlib.Core.Bool.{Bool, true}
+use mathlib.Core.Path.{_≡_, refl, sym, ap, subst, _∙_}
+use Rattle.attention.specs.Attention.{attentionOf}
+use Rattle.machine.specs.Cc.{externalEnd}
+use Rattle.machine.specs.Psw.{transferring}
+use Rattle.machine.specs.States.{channelOf, numberOf}
+use Rattle.machine.specs.declared.Channel.{Channel}
+use Rattle.machine.specs.declared.State.{State}
+use Rattle.memory.specs.Buffers.{Buffers}
+use Rattle.step.specs.Step.{Step, doneStep, stepOf}
+use Rattle.step.specs.declared.Kind.{Kind}
+use Rattle.step.specs.declared.Kind.the-variants.{Transfer}
+use Rattle.transfer.proofs.KeptLaws.{only-these}
+use Rattle.transfer.specs.Ends.{withTransfer}
+use Rattle.transfer.specs.Steps.{transferOf}
+use Rattle.promises.specs.Calls.{Turn, Calls, Moves, EndsAtCall, begin, transfer, step, attention, host}
+use Rattle.promises.specs.Premises.{into, Copy}
+use Rattle.promises.specs.Rows.{Untouched, Row, start, steps, other}
+use Rattle.promises.specs.Stages.{Within, Going}
+use Rattle.promises.specs.Totals.{total}
+use Rattle.promises.proofs.CallLaws.{turn-is, settled-done, transfer-channel, transfer-memory, step-kept, attention-kept}
+use Rattle.promises.proofs.Demand3.{going, ended}
+
+-- a transfer step leaves CC
+transfer-cc : (c : Channel) (m : Buffers) → (transferOf c m) .channel .cc ≡ c .cc
+unfolding withTransfer
+transfer-cc c m = ap (λ (x : Channel). x .cc) (only-these c m)
+
+-- and so over the row
+row-cc : {n : ℕ} {c₀ : Channel} {m₀ : Buffers} {k : ℕ} {c : Channel} {m : Buffers} → Row n c₀ m₀ k c m → c .cc ≡ c₀ .cc
+row-cc start = refl
+row-cc (steps {c = c} {m = m} r) = transfer-cc c m ∙ row-cc r
+row-cc (other r u) = row-cc r
+
+-- its transfer step, for the channel
+row-transfer : (b : Bool) (n : ℕ) (c₀ : Channel) (m₀ : Buffers) (k : ℕ) (s : State) (m : Buffers) (lines : ℕ) → Turn b s m lines
+    → transferring (channelOf s b .psw) ≡ true → Row n c₀ m₀ k (channelOf s b) m
+    → Row n c₀ m₀ (suc k) (channelOf ((stepOf s m lines) .state) b) ((stepOf s m lines) .memory)
+row-transfer b n c₀ m₀ k s m lines t x r = rw (turn-is b s m lines t x, transfer-channel b s m, transfer-memory b s m) (steps r)
+
+-- a step call that is not its turn
+row-step : (b : Bool) (n : ℕ) (c₀ : Channel) (m₀ : Buffers) (k : ℕ) (s : State) (m : Buffers) (lines : ℕ) → externalEnd (c₀ .cc) ≡ 0 → (Turn b s m lines → ⊥)
+    → Untouched c₀ n m ((stepOf s m lines) .memory) → Row n c₀ m₀ k (channelOf s b) m
+    → Row n c₀ m₀ k (channelOf ((stepOf s m lines) .state) b) ((stepOf s m lines) .memory)
+row-step b n c₀ m₀ k s m lines e ne u r = rw (step-kept b s m lines (ap externalEnd (row-cc r) ∙ e) ne) (other r u)
+
+-- an attention that is not to it
+row-attention : (b : Bool) (n : ℕ) (c₀ : Channel) (m₀ : Buffers) (k : ℕ) (s : State) (m : Buffers) (channel : ℕ) → (channel ≡ numberOf b → ⊥)
+    → Untouched c₀ n m ((attentionOf s m channel) .memory) → Row n c₀ m₀ k (channelOf s b) m
+    → Row n c₀ m₀ k (channelOf ((attentionOf s m channel) .state) b) ((attentionOf s m channel) .memory)
+row-attention b n c₀ m₀ k s m channel ne u r = rw (attention-kept b s m channel ne) (other r u)
+
+-- the calls, for the channel
+pub row-of : {b : Bool} {n : ℕ} {s₀ : State} {m₀ : Buffers} {k : ℕ} {s : State} {m : Buffers} → externalEnd (channelOf s₀ b .cc) ≡ 0
+    → Calls b n s₀ m₀ k s m → Row n (channelOf s₀ b) m₀ k (channelOf s b) m
+row-of e begin = start
+row-of {b} {n} {s₀} {m₀} e (transfer {k = k} {s = s} {m = m} r lines t x) = row-transfer b n (channelOf s₀ b) m₀ k s m lines t x (row-of e r)
+row-of {b} {n} {s₀} {m₀} e (step {k = k} {s = s} {m = m} r lines ne u) = row-step b n (channelOf s₀ b) m₀ k s m lines e ne u (row-of e r)
+row-of {b} {n} {s₀} {m₀} e (attention {k = k} {s = s} {m = m} r channel ne u) = row-attention b n (channelOf s₀ b) m₀ k s m channel ne u (row-of e r)
+row-of e (host r u) = other (row-of e r) u
+
+-- a turn on the way is a transfer step that is done
+moves : (b : Bool) (n : ℕ) (s₀ : State) (m₀ : Buffers) (k : ℕ) (s : State) (m : Buffers) (lines : ℕ) → Going n (channelOf s₀ b) m₀ k (channelOf s b) m
+    → Turn b s m lines → Moves b n s₀ s m lines
+moves b n s₀ m₀ k s m lines g t =
+    record { done = ap number e; channel = ap channel e; kind = ap kind e; spares = subst (λ (x : Buffers). Within (into (channelOf s₀ b)) n m x) (sym (ap memory e)) (g .spares) }
+  where
+    number : Step → ℕ
+    number x = x .number
+
+    channel : Step → ℕ
+    channel x = x .channel
+
+    kind : Step → Kind
+    kind x = x .kind
+
+    memory : Step → Buffers
+    memory x = x .memory
+
+    e : stepOf s m lines ≡ doneStep s b ((transferOf (channelOf s b) m) .channel) ((transferOf (channelOf s b) m) .memory) Transfer
+    e = turn-is b s m lines t (g .transfers) ∙ settled-done b s m (g .done)
+
+-- the demand on the whole machine: the transfer ends at the channel's transfer step that is the total, and not before
+pub demand3-calls : {b : Bool} {n : ℕ} {s : State} {m : Buffers} → Copy n (channelOf s b) m → EndsAtCall b n s m (total (channelOf s b) n)
+demand3-calls {b} {n} {s = s₀} {m = m₀} p =
+    let e : externalEnd (channelOf s₀ b .cc) ≡ 0 = p .plain .unended in
+    record {
+      before = λ r h. going p (row-of e r) h;
+      turns = λ {j} {s} {m} r h lines t. moves b n s₀ m₀ j s m lines (going p (row-of e r) h) t;
+      then = λ r. ended p (row-of e r) refl;
+    }

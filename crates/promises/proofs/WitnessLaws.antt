@@ -1,0 +1,124 @@
+-- The premises of demand 3 are met by transfers in numbers, computed through to their ends.
+-- Assumes nothing.
+use borrow.Author.Tests.{eqb-false}
+use lib.Dec.{lit≤}
+use mathlib.Core.Bool.{true, false}
+use mathlib.Core.Path.{_≡_, refl, subst}
+use native.Mathlib.Omega.{arith}
+use Rattle.machine.specs.Outcomes.{unless, first}
+use Rattle.machine.specs.Psw.{withPsw}
+use Rattle.machine.specs.States.{soundChannel, isRunning}
+use Rattle.machine.specs.declared.Channel.{Channel}
+use Rattle.memory.proofs.SpanLaws.{span-at}
+use Rattle.memory.specs.Buffers.{Buffers, spaceOf, limitOf, indexOf, lentAt, byteAt, storeByte}
+use Rattle.memory.specs.Places.{span, allLent}
+use Rattle.transfer.specs.Ends.{withTransfer, meets, codeIf, larger, offsetOf, endedTP, endedPSW, endedBy}
+use Rattle.transfer.specs.Reads.{fetched, fetchedSecond, entryOf, delivered, dataOf, also, readPlaces}
+use Rattle.transfer.specs.Sides.{source, destination, wordSide, secondOf, gained, twoMove, storedSingly}
+use Rattle.transfer.specs.Steps.{Transfer, touched, transferred, badMode, transferNumber, transferOf}
+use Rattle.transfer.specs.Stores.{channelAfter, memoryAfter, firstMeets, matchMet, cutShort, storesTwo, bytesStored, bytesMoved, bytesCounted, countAfter, endCode, movedBy, putOn, placesOn, storedPlaces}
+use Rattle.words.proofs.ChoiceLaws.{apart}
+use Rattle.words.specs.Bits.{fieldOf, bitOf, withBit}
+use Rattle.words.specs.Compare.{matchOf}
+use Rattle.promises.specs.Premises.{Plain, Copy}
+use Rattle.promises.specs.Rows.{after, EndsAt}
+use Rattle.promises.specs.Totals.{narrow, alone, total}
+use Rattle.promises.specs.Witness.{channelWith, narrowAt, narrowEnd, wideAt, wideEnd, memoryWith, six, memoryStart}
+use Rattle.promises.proofs.Demand3.{demand3}
+
+-- every premise on a channel, both widths 8
+narrow-plain : Plain (narrowAt 0 16 5)
+unfolding channelWith isRunning soundChannel bitOf fieldOf
+narrow-plain =
+    record {
+      runs = refl;
+      transfers = refl;
+      leaves = refl;
+      enters = refl;
+      unsynchronised = refl;
+      untranslated = refl;
+      counts = λ e. eqb-false 2 0 refl e;
+      unmatched = refl;
+      unended = refl;
+      ongoing = refl;
+      sound = refl;
+    }
+
+-- and both 16
+wide-plain : Plain (wideAt 8 0 5)
+unfolding channelWith isRunning soundChannel bitOf fieldOf
+wide-plain =
+    record {
+      runs = refl;
+      transfers = refl;
+      leaves = refl;
+      enters = refl;
+      unsynchronised = refl;
+      untranslated = refl;
+      counts = λ e. eqb-false 3 0 refl e;
+      unmatched = refl;
+      unended = refl;
+      ongoing = refl;
+      sound = refl;
+    }
+
+-- every premise on the start, both widths 8
+pub narrow-met : Copy 5 (narrowAt 0 16 5) memoryStart
+unfolding channelWith memoryWith source destination bitOf span allLent lentAt spaceOf indexOf limitOf
+narrow-met =
+    record {
+      plain = narrow-plain;
+      some = lit≤ tt;
+      most = lit≤ tt;
+      count = refl;
+      fromLent = λ i h. span-at memoryStart false 0 5 i refl h;
+      intoLent = λ i h. span-at memoryStart true 16 5 i refl h;
+      apart = λ i j h h′ e x. apart e;
+    }
+
+-- and both 16, in one space
+pub wide-met : Copy 5 (wideAt 8 0 5) memoryStart
+unfolding channelWith memoryWith source destination bitOf span allLent lentAt spaceOf indexOf limitOf
+wide-met =
+    record {
+      plain = wide-plain;
+      some = lit≤ tt;
+      most = lit≤ tt;
+      count = refl;
+      fromLent = λ i h. span-at memoryStart false 0 5 i refl h;
+      intoLent = λ i h. span-at memoryStart false 8 5 i refl h;
+      apart = λ i j h h′ e x. omega arith;
+    }
+
+-- a transfer step with all that it is made of laid open, so that it computes
+unfoldable pub transferOpen : Channel → Buffers → Transfer
+unfolding channelWith memoryWith transferOf transferNumber first unless badMode source destination touched readPlaces also entryOf storedPlaces placesOn allLent lentAt spaceOf indexOf limitOf dataOf delivered fetched fetchedSecond twoMove wordSide secondOf bitOf fieldOf storesTwo cutShort storedSingly firstMeets meets matchMet memoryAfter putOn storeByte byteAt channelAfter endedBy endedTP endedPSW movedBy withTransfer gained bytesMoved bytesStored bytesCounted countAfter endCode codeIf larger offsetOf withPsw withBit matchOf
+transferOpen c m = transferOf c m
+
+-- both widths 8: the total is five
+pub narrow-total : total (narrowAt 0 16 5) 5 ≡ 5
+unfolding total narrow channelWith source destination bitOf
+narrow-total = refl
+
+-- and five steps, computed, end it
+pub narrow-run : after 5 (narrowAt 0 16 5) memoryStart ≡ transferred 0 narrowEnd (memoryWith (six 0 0 0 0 0) (six 1 2 3 4 5))
+unfolding after transferOpen
+narrow-run = refl
+
+-- both widths 16 and even: the total is three
+pub wide-total : total (wideAt 8 0 5) 5 ≡ 3
+unfolding total narrow alone channelWith source destination bitOf wordSide
+wide-total = refl
+
+-- and three steps, computed, end it
+pub wide-run : after 3 (wideAt 8 0 5) memoryStart ≡ transferred 0 wideEnd (memoryWith (six 1 2 3 4 5) (six 0 0 0 0 0))
+unfolding after transferOpen
+wide-run = refl
+
+-- so says demand 3 of the one
+pub narrow-ends : EndsAt 5 (narrowAt 0 16 5) memoryStart 5
+narrow-ends = subst (EndsAt 5 (narrowAt 0 16 5) memoryStart) narrow-total (demand3 narrow-met)
+
+-- and of the other
+pub wide-ends : EndsAt 5 (wideAt 8 0 5) memoryStart 3
+wide-ends = subst (EndsAt 5 (wideAt 8 0 5) memoryStart) wide-total (demand3 wide-met)

@@ -1,0 +1,63 @@
+-- Demand 3, what is asked of the start: "a transfer of a running channel from block to block, unsynchronised, without translation, with byte count
+-- as its only enabled end and n as its first count".
+use mathlib.Core.Bool.{Bool, true, false}
+use mathlib.Core.Path.{_≡_}
+use Prim.Native.Nat.{ℕ, _+_, _%_, _<_, _≤_}
+use Rattle.memory.specs.declared.Pointer.{Pointer}
+use Rattle.memory.specs.Buffers.{Buffers, lentAt}
+use Rattle.memory.specs.Places.{Apart}
+use Rattle.machine.specs.declared.Channel.{Channel}
+use Rattle.machine.specs.Cc.{destinationMoves, sourceMoves, translates, synchronised, singleTransfer, externalEnd, countEnd, matchEnd}
+use Rattle.machine.specs.Psw.{transferring}
+use Rattle.machine.specs.States.{isRunning, soundChannel}
+use Rattle.transfer.specs.Sides.{source, destination}
+
+-- where the source's bytes begin
+abbrev pub from : Channel → Pointer
+from c = (source c) .pointer
+
+-- where the destination's bytes begin
+abbrev pub into : Channel → Pointer
+into c = (destination c) .pointer
+
+-- a range of n bytes, from a pointer on, lies in lent memory
+abbrev pub Lent : Buffers → Pointer → ℕ → Type 0
+Lent m p n = (i : ℕ) → i < n → lentAt m (p .tag) (p .address + i) ≡ true
+
+-- two ranges of n bytes share no byte
+abbrev pub ShareNone : Pointer → Pointer → ℕ → Type 0
+ShareNone p q n = (i j : ℕ) → i < n → j < n → Apart (q .tag) (q .address + j) (p .tag) (p .address + i)
+
+-- the channel: how its transfer goes, and how it may end
+pub record Plain (c : Channel) : Type 0 where
+  -- "of a running channel"
+  pub runs : isRunning (c .mode) ≡ true
+  -- "a transfer": XF is set
+  pub transfers : transferring (c .psw) ≡ true
+  -- "from block to block": both sides move on
+  pub leaves : sourceMoves (c .cc) ≡ true
+  pub enters : destinationMoves (c .cc) ≡ true
+  -- "unsynchronised": SYN 00
+  pub unsynchronised : synchronised (c .cc) ≡ 0
+  -- "without translation"
+  pub untranslated : translates (c .cc) ≡ false
+  -- "with byte count as its only enabled end": TBC on, TMC off, TX off, TS 0
+  pub counts : countEnd (c .cc) ≡ 0 → ⊥
+  pub unmatched : matchEnd (c .cc) % 4 ≡ 0
+  pub unended : externalEnd (c .cc) ≡ 0
+  pub ongoing : singleTransfer (c .cc) ≡ false
+  -- its pointers are of 20 bits; with any other every step is refused by 10
+  pub sound : soundChannel c ≡ true
+
+-- the start: the channel, "n as its first count (0 stands for 65,536)", and both ranges. That a range does not wrap is not asked: a range that wraps
+-- is copied just so
+pub record Copy (n : ℕ) (c : Channel) (m : Buffers) : Type 0 where
+  pub plain : Plain c
+  -- BC is n in 16 bits, with 0 for 65,536
+  pub some : 1 ≤ n
+  pub most : n ≤ 65536
+  pub count : c .bc ≡ n % 65536
+  -- "Let both ranges of n bytes lie in lent memory .. and share no byte"
+  pub fromLent : Lent m (from c) n
+  pub intoLent : Lent m (into c) n
+  pub apart : ShareNone (from c) (into c) n

@@ -1,0 +1,71 @@
+-- Demand 3, what holds on the way and at the end: the channel's registers and the bytes of both ranges.
+use mathlib.Core.Bool.{Bool, true, false}
+use mathlib.Core.Path.{_≡_}
+use Prim.Native.Nat.{ℕ, _+_, _-_, _%_, _<_, _≤_}
+use lib.ListN.{length}
+use Rattle.words.specs.Sums.{sum20}
+use Rattle.memory.specs.declared.Pointer.{Pointer}
+use Rattle.memory.specs.Values.{pointer}
+use Rattle.memory.specs.Buffers.{Buffers, spaceOf, byteAt}
+use Rattle.memory.specs.Places.{Apart}
+use Rattle.machine.specs.declared.Channel.{Channel}
+use Rattle.machine.specs.Cc.{countEnd}
+use Rattle.machine.specs.Psw.{transferring, withPsw}
+use Rattle.machine.specs.States.{isRunning}
+use Rattle.transfer.specs.Ends.{withTransfer, offsetOf}
+use Rattle.transfer.specs.Steps.{transferOf}
+use Rattle.promises.specs.Premises.{from, into, Lent}
+use Rattle.promises.specs.Totals.{moved}
+
+-- a pointer on by some bytes
+abbrev pub onBy : Pointer → ℕ → Pointer
+onBy p by = pointer (sum20 (p .address) by) (p .tag)
+
+-- the channel when j of n bytes have moved: GA and GB on by j, BC n - j, every other register as at the start
+unfoldable pub midway : Channel → ℕ → ℕ → Channel
+midway c n j = withTransfer c (onBy (c .ga) j) (onBy (c .gb) j) (c .tp) ((n - j) % 65536) (c .psw)
+
+-- the channel at the end: GA and GB on by n, "the count is 0", XF clear, "the task pointer has moved on by the chosen 0, 4 or 8", every other
+-- register as at the start
+unfoldable pub finished : Channel → ℕ → Channel
+finished c n =
+    withTransfer c (onBy (c .ga) n) (onBy (c .gb) n) (onBy (c .tp) (offsetOf (countEnd (c .cc)))) 0 (withPsw (c .psw) 6 false)
+
+-- the ranges of n bytes from p and into q when j bytes have moved, m₀ being memory as it was at the start: the first j bytes of the source have
+-- arrived in order, the others have not, the source is as it was, and all is lent
+pub record Held (p q : Pointer) (n : ℕ) (m₀ : Buffers) (j : ℕ) (m : Buffers) : Type 0 where
+  pub arrived : (i : ℕ) → i < j → byteAt m (q .tag) (q .address + i) ≡ byteAt m₀ (p .tag) (p .address + i)
+  pub waiting : (i : ℕ) → j ≤ i → i < n → byteAt m (q .tag) (q .address + i) ≡ byteAt m₀ (q .tag) (q .address + i)
+  pub kept : (i : ℕ) → i < n → byteAt m (p .tag) (p .address + i) ≡ byteAt m₀ (p .tag) (p .address + i)
+  pub fromLent : Lent m p n
+  pub intoLent : Lent m q n
+
+-- a byte that is none of a range of n
+abbrev pub Outside : Pointer → ℕ → Bool → ℕ → Type 0
+Outside q n u b = (i : ℕ) → i < n → Apart (q .tag) (q .address + i) u b
+
+-- m′ has each byte outside a range as m has it, and the same lengths
+pub record Within (q : Pointer) (n : ℕ) (m m′ : Buffers) : Type 0 where
+  pub others : (u : Bool) (b : ℕ) → Outside q n u b → byteAt m′ u b ≡ byteAt m u b
+  pub lengths : (u : Bool) → length (spaceOf m′ u) ≡ length (spaceOf m u)
+
+-- after k of the channel's transfer steps, short of the last: it still runs and transfers, its registers, the bytes, and of the next such step that
+-- it is not refused and changes no byte but the destination's
+pub record Going (n : ℕ) (c₀ : Channel) (m₀ : Buffers) (k : ℕ) (c : Channel) (m : Buffers) : Type 0 where
+  pub runs : isRunning (c .mode) ≡ true
+  pub transfers : transferring (c .psw) ≡ true
+  pub registers : c ≡ midway c₀ n (moved c₀ n k)
+  pub short : moved c₀ n k < n
+  pub bytes : Held (from c₀) (into c₀) n m₀ (moved c₀ n k) m
+  pub done : (transferOf c m) .number ≡ 0
+  pub spares : Within (into c₀) n m ((transferOf c m) .memory)
+
+-- at the last: "the destination holds the source bytes in order, the count is 0 .. and the task pointer has moved on by the chosen 0, 4 or 8"
+pub record Ended (n : ℕ) (c₀ : Channel) (m₀ : Buffers) (c : Channel) (m : Buffers) : Type 0 where
+  pub registers : c ≡ finished c₀ n
+  pub copied : (i : ℕ) → i < n → byteAt m (into c₀ .tag) (into c₀ .address + i) ≡ byteAt m₀ (from c₀ .tag) (from c₀ .address + i)
+  pub kept : (i : ℕ) → i < n → byteAt m (from c₀ .tag) (from c₀ .address + i) ≡ byteAt m₀ (from c₀ .tag) (from c₀ .address + i)
+  pub count : c .bc ≡ 0
+  pub over : transferring (c .psw) ≡ false
+  pub runs : isRunning (c .mode) ≡ true
+  pub pointer : c .tp ≡ onBy (c₀ .tp) (offsetOf (countEnd (c₀ .cc)))

@@ -1,0 +1,22 @@
+-- Demand 3, the counts: at which of the channel's transfer steps the transfer ends, and how many bytes have moved before.
+use mathlib.Core.Bool.{Bool, not, _&&_, _||_}
+use Prim.Native.Nat.{ℕ, _+_, _-_, _*_, _/_, min}
+use Rattle.words.specs.Choice.{pick}
+use Rattle.machine.specs.declared.Channel.{Channel}
+use Rattle.transfer.specs.Sides.{source, destination, wordSide}
+
+-- "both sides are eight bits wide"
+unfoldable pub narrow : Channel → Bool
+narrow c = not ((source c) .wide) && not ((destination c) .wide)
+
+-- "p is 0 if some sixteen-bit side starts at an even address and 1 if none does"
+unfoldable pub alone : Channel → ℕ
+alone c = pick (wordSide (source c) || wordSide (destination c)) 0 1
+
+-- "If both sides are eight bits wide, it ends at this channel's n-th transfer step. Otherwise it ends at step p + (n - p)/2, the half rounded up"
+unfoldable pub total : Channel → ℕ → ℕ
+total c n = pick (narrow c) n (alone c + (n - alone c + 1) / 2)
+
+-- the bytes that have moved after k of those steps: one at each, or two at each but the first p, and n at the most
+unfoldable pub moved : Channel → ℕ → ℕ → ℕ
+moved c n k = min (pick (narrow c) k (2 * k - alone c)) n

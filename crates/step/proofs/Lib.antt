@@ -1,0 +1,7 @@
+pub mod StepLaws
+pub mod ChoosingLaws
+pub mod OutcomeLaws
+pub mod NumberLaws
+pub mod TouchedLaws
+pub mod SoundLaws
+pub mod CaseLaws

@@ -1,0 +1,422 @@
+-- The number of a step: each is given exactly under its own condition, where no earlier check applies.
+-- Assumes nothing.
+use Prim.Native.Nat.{ℕ, zero, suc}
+use borrow.Author.Tests.{eqb-false}
+use lib.Dec.{eqb, ltb, eqb·suc-zero}
+use mathlib.Core.Bool.{Bool, true, false, not}
+use mathlib.Core.List.{[], _∷_}
+use mathlib.Core.Logic.{⊎-elim, inl, inr, _⊎_, _↔_, Iff·trans, Iff·rfl}
+use mathlib.Core.Path.{_≡_, refl, sym, ap, _∙_}
+use native.Mathlib.Decide.{ℕ-discrete}
+use Rattle.decode.specs.declared.Decoded.{Decoded}
+use Rattle.decode.specs.declared.Decoded.the-variants.{Instruction, NoInstruction, ControlUsed}
+use Rattle.decode.specs.declared.Memory.{Memory}
+use Rattle.decode.specs.declared.Second.{Second}
+use Rattle.decode.specs.declared.Second.the-variants.{Operand, NoSecond}
+use Rattle.decode.specs.declared.Shape.{Shape}
+use Rattle.decode.specs.declared.Shape.the-variants.{Nop, Sintr, Xfer, Wid, Hlt, Lpdi, RegisterImmediate, Register, JumpRegister, RegisterMemory, MemoryRegister, MemoryImmediate, MemoryAlone, JumpMemory, Lpd, MovpLoad, MovpStore, MovMemory, Tsl, Call, JumpMasked, JumpBit, Bit}
+use Rattle.execute.specs.Changes.{placesOf}
+use Rattle.execute.specs.Control.{nopDeed, sintrDeed, xferDeed, widDeed, hltDeed}
+use Rattle.execute.specs.Deeds.{Deed, effectOf}
+use Rattle.execute.specs.Execute.{decodedAt, performed, deedOf, deedFrom, laterBytes, shapeNumber, numberFrom, executeNumber, settledEffect, planOf, executeOf}
+use Rattle.execute.specs.JumpForms.{jumpRegisterDeed, jumpMemoryDeed, jumpByteDeed, jumpMaskedDeed, jumpBitDeed, tslDeed, callDeed}
+use Rattle.execute.specs.MemoryForms.{memoryWorkDeed, memoryRegisterDeed, memoryImmediateDeed, memoryAloneDeed, movpStoreDeed, bitDeed, movOperandDeed, movSecondDeed, movMemoryDeed}
+use Rattle.execute.specs.Operands.{bytesAt, effective, byteHere}
+use Rattle.execute.specs.RegisterForms.{registerImmediateDeed, registerDeed, registerMemoryDeed, lpdiDeed, lpdDeed, movpLoadDeed}
+use Rattle.execute.specs.declared.Change.{Change}
+use Rattle.execute.specs.declared.Effect.{Effect}
+use Rattle.machine.proofs.ConditionLaws.{Told, step, last, rewritten, first-assoc, skip, hit, end, never, told-ltb, told-limits, told-sound, told-lent, told-by, says-true, says-eqb, says-and, says-or}
+use Rattle.machine.specs.Cc.{synchronised, translates}
+use Rattle.machine.specs.Conditions.{check, Given, TooLong, NotSound, Beyond}
+use Rattle.machine.specs.Outcomes.{first, unless, givenNumber}
+use Rattle.machine.specs.Psw.{transferring, sourceWide, destinationWide}
+use Rattle.machine.specs.States.{channelOf, sound}
+use Rattle.machine.specs.declared.Channel.{Channel}
+use Rattle.machine.specs.declared.State.{State}
+use Rattle.memory.specs.Buffers.{Buffers, withinLimits}
+use Rattle.memory.specs.Places.{allLent}
+use Rattle.memory.specs.declared.Pointer.{Pointer}
+use Rattle.transfer.specs.Reads.{dataOf}
+use Rattle.transfer.specs.Sides.{source, destination}
+use Rattle.transfer.specs.Steps.{transferred, touched, badMode, transferNumber, transferOf}
+use Rattle.transfer.specs.Stores.{channelAfter, memoryAfter}
+use Rattle.words.proofs.ChoiceLaws.{apart}
+use Rattle.words.specs.Choice.{pick}
+use Rattle.step.specs.Choosing.{choiceOf}
+use Rattle.step.specs.Conditions.{LinesOver, NoneRuns, BadTransfer, transferChecks, instructionChecks, instructionNumber, chosenChecks, checks, AfterGiven, OnEnd, OnTransfer, OnInstruction}
+use Rattle.step.specs.Step.{Step, refusedStep, settledStep, busyOf, transferStep, instructionStep, externalStep, channelStep, chosenStep, entryNumber, stepOf}
+use Rattle.step.specs.declared.Choice.{Choice}
+use Rattle.step.specs.declared.Choice.the-variants.{Nobody, Ends, Steps}
+use Rattle.step.specs.declared.Kind.{Kind}
+use Rattle.step.proofs.ChoosingLaws.{ends-chosen, steps-chosen, nobody-runs}
+
+-- ---- the chain of a step
+
+refused-first : (k : ℕ) (o : Step) (s : State) (m : Buffers) → (pick (eqb k 0) o (refusedStep k s m)) .number ≡ first k (o .number)
+unfolding first
+refused-first zero o s m = refl
+refused-first (suc k) o s m = rw (eqb·suc-zero k)
+
+-- 12, 11, 10, then that of the choice
+chain : (s : State) (m : Buffers) (lines : ℕ)
+    → (stepOf s m lines) .number
+    ≡ first (unless (ltb lines 16) 12) (first (unless (withinLimits m) 11) (first (unless (sound s) 10) ((chosenStep (choiceOf s lines) s m) .number)))
+unfolding stepOf entryNumber givenNumber
+chain s m lines =
+    let x = chosenStep (choiceOf s lines) s m in
+    refused-first (first (unless (ltb lines 16) 12) (first (unless (withinLimits m) 11) (unless (sound s) 10))) x s m
+    ∙ first-assoc (unless (ltb lines 16) 12) (first (unless (withinLimits m) 11) (unless (sound s) 10)) (x .number)
+    ∙ ap (first (unless (ltb lines 16) 12)) (first-assoc (unless (withinLimits m) 11) (unless (sound s) 10) (x .number))
+
+-- ---- the number of who was chosen
+
+settled-number : (number : ℕ) (s : State) (m : Buffers) (b : Bool) (c : Channel) (m′ : Buffers) (kind : Kind) → (settledStep number s m b c m′ kind) .number ≡ number
+unfolding settledStep
+settled-number zero s m b c m′ kind = refl
+settled-number (suc n) s m b c m′ kind = rw (eqb·suc-zero n)
+
+-- a transfer step's
+moved-number : (c : Channel) (m : Buffers) → (transferOf c m) .number ≡ transferNumber c m
+unfolding transferOf
+moved-number c m = go (transferNumber c m)
+  where
+    go : (k : ℕ) → (pick (eqb k 0) (transferred 0 (channelAfter c (dataOf c m)) (memoryAfter c (dataOf c m) m)) (transferred k c m)) .number ≡ k
+    go zero = refl
+    go (suc k) = rw (eqb·suc-zero k)
+
+told-bad : (c : Channel) → Told (not (badMode c)) (BadTransfer c)
+unfolding badMode source destination
+told-bad c = told-by (says-or (says-eqb (synchronised (c .cc)) 3) (says-and (says-true (translates (c .cc))) (says-or (says-true (sourceWide (c .psw))) (says-true (destinationWide (c .psw))))))
+
+transfer-given : (c : Channel) (m : Buffers) (n : ℕ) → ((transferOf c m) .number ≡ n) ↔ Given (transferChecks c m) n
+unfolding transferNumber
+transfer-given c m n = rewritten (moved-number c m) (step 5 refl (told-bad c) (last n 2 refl (told-lent m (touched c m))))
+
+-- an instruction's
+executed-number : (c : Channel) (busy : ℕ) (m : Buffers) → (executeOf c busy m) .number ≡ executeNumber m c busy
+unfolding executeOf planOf settledEffect
+executed-number c busy m = go (executeNumber m c busy)
+  where
+    d : Deed
+    d = deedFrom (decodedAt m (c .tp)) m c busy
+
+    go : (k : ℕ) → (pick {A = Effect} (eqb k 0) (record { number = 0; channel = d .channel; change = d .change }) (record { number = k; channel = c; change = Change.Nothing })) .number ≡ k
+    go zero = refl
+    go (suc k) = rw (eqb·suc-zero k)
+
+own-given : (k n : ℕ) → (k ≡ n) ↔ Given (check k (¬ (k ≡ 0)) ∷ []) n
+own-given k n = go (ℕ-discrete k 0)
+  where
+    go : Dec (k ≡ 0) → (k ≡ n) ↔ ((¬ (k ≡ 0) × (n ≡ k)) ⊎ (¬ (¬ (k ≡ 0)) × (n ≡ 0)))
+    go (yes z) = (λ e. inr (λ h. h z, sym e ∙ z), ⊎-elim (λ h. sym (h .1)) (λ h. z ∙ sym (h .1)))
+    go (no ne) = (λ e. inl (ne, sym e), ⊎-elim (λ h. sym (h .1)) (λ h. absurd (h .0 ne)))
+
+instruction-given : (c : Channel) (busy : ℕ) (m : Buffers) (n : ℕ) → ((executeOf c busy m) .number ≡ n) ↔ Given (instructionChecks c busy m) n
+instruction-given c busy m n = rewritten (executed-number c busy m) (own-given (executeNumber m c busy) n)
+
+-- a check that does not apply
+passed : {A G : Type 0} {x n : ℕ} (k : ℕ) → ¬ A → ((x ≡ n) ↔ G) → (x ≡ n) ↔ ((A × (n ≡ k)) ⊎ (¬ A × G))
+passed k na q = (λ e. inr (na, q .0 e), ⊎-elim (λ h. absurd (na (h .0))) (λ h. q .1 (h .1)))
+
+turn-given : (s : State) (m : Buffers) (b : Bool) (n : ℕ) → ((channelStep s m b) .number ≡ n) ↔ Given (chosenChecks (Steps b) s m) n
+unfolding channelStep transferStep instructionStep
+turn-given s m b n = go (transferring (channelOf s b .psw))
+  where
+    go : (x : Bool) → ((pick x (transferStep s m b) (instructionStep s m b)) .number ≡ n)
+        ↔ Given (pick x (transferChecks (channelOf s b) m) (instructionChecks (channelOf s b) (busyOf s b) m)) n
+    go true =
+        let t = transferOf (channelOf s b) m in
+        rewritten (settled-number (t .number) s m b (t .channel) (t .memory) Kind.Transfer) (transfer-given (channelOf s b) m n)
+    go false =
+        let x = executeOf (channelOf s b) (busyOf s b) m in
+        rewritten (settled-number (x .number) s m b (x .channel) (x .memory) Kind.Instruction) (instruction-given (channelOf s b) (busyOf s b) m n)
+
+-- 1, then the checks of who was chosen
+chosen-given : (s : State) (m : Buffers) (lines n : ℕ) (x : Choice) → choiceOf s lines ≡ x
+    → ((chosenStep x s m) .number ≡ n) ↔ Given (check 1 (NoneRuns s lines) ∷ chosenChecks x s m) n
+unfolding chosenStep externalStep
+chosen-given s m lines n Nobody e =
+    let none = (nobody-runs s lines) .0 e in
+    (λ h. inl (none, sym h), ⊎-elim (λ h. sym (h .1)) (λ h. absurd (h .0 none)))
+chosen-given s m lines n (Ends b) e = passed 1 (λ h. h b (inl (ends-chosen s lines b e))) (sym, sym)
+chosen-given s m lines n (Steps b) e = passed 1 (λ h. h b (inr (steps-chosen s lines b e .1))) (turn-given s m b n)
+
+-- "given exactly when, and no earlier check applies": the number of a step is that of the first check that applies, 0 where none does
+pub number-given : (s : State) (m : Buffers) (lines n : ℕ) → ((stepOf s m lines) .number ≡ n) ↔ Given (checks s m lines) n
+number-given s m lines n =
+    rewritten (chain s m lines)
+    (step 12 refl (told-ltb lines 16)
+    (step 11 refl (told-limits m)
+    (step 10 refl (told-sound s)
+    (chosen-given s m lines n (choiceOf s lines) refl))))
+
+-- ---- an instruction's numbers
+
+-- an instruction's number is one of four
+abbrev pub Known : ℕ → Type 0
+Known k = (k ≡ 0) ⊎ ((k ≡ 2) ⊎ ((k ≡ 3) ⊎ (k ≡ 4)))
+
+-- a second pair gives 3 or nothing
+abbrev Wrong : ℕ → Type 0
+Wrong k = (k ≡ 0) ⊎ (k ≡ 3)
+
+second-wrong : (m : Buffers) (c : Channel) (tp : Pointer) (o : Memory) (x : Second) → Wrong ((movSecondDeed m c tp o x) .wrong)
+unfolding movSecondDeed movOperandDeed
+second-wrong m c tp o NoSecond = inr refl
+second-wrong m c tp o (Operand q) = inl refl
+
+either-wrong : (b : Bool) (x y : Deed) → Wrong (x .wrong) → Wrong (y .wrong) → Wrong ((pick b x y) .wrong)
+either-wrong true x y p q = p
+either-wrong false x y p q = q
+
+performed-wrong : (s : Shape) (m : Buffers) (c : Channel) (tp : Pointer) (armed : Bool) (busy : ℕ) → Wrong ((performed s m c tp armed busy) .wrong)
+unfolding performed nopDeed sintrDeed xferDeed widDeed hltDeed lpdiDeed registerImmediateDeed registerDeed jumpRegisterDeed registerMemoryDeed memoryRegisterDeed memoryImmediateDeed memoryWorkDeed memoryAloneDeed jumpMemoryDeed lpdDeed movpLoadDeed movpStoreDeed movMemoryDeed tslDeed callDeed jumpMaskedDeed jumpBitDeed jumpByteDeed bitDeed
+performed-wrong Nop m c tp armed busy = inl refl
+performed-wrong Sintr m c tp armed busy = inl refl
+performed-wrong Xfer m c tp armed busy = inl refl
+performed-wrong (Wid wide₁ wide₂) m c tp armed busy = inl refl
+performed-wrong Hlt m c tp armed busy = inl refl
+performed-wrong (Lpdi ppp) m c tp armed busy = inl refl
+performed-wrong (RegisterImmediate work rrr wide) m c tp armed busy = inl refl
+performed-wrong (Register single rrr) m c tp armed busy = inl refl
+performed-wrong (JumpRegister z rrr two) m c tp armed busy = inl refl
+performed-wrong (RegisterMemory work rrr o) m c tp armed busy = inl refl
+performed-wrong (MemoryRegister work rrr o) m c tp armed busy = inl refl
+performed-wrong (MemoryImmediate work o) m c tp armed busy = inl refl
+performed-wrong (MemoryAlone single o) m c tp armed busy = inl refl
+performed-wrong (JumpMemory z o two) m c tp armed busy = inl refl
+performed-wrong (Lpd ppp o) m c tp armed busy = inl refl
+performed-wrong (MovpLoad ppp o) m c tp armed busy = inl refl
+performed-wrong (MovpStore ppp o) m c tp armed busy = inl refl
+performed-wrong (MovMemory o) m c tp armed busy = second-wrong m c tp o _
+performed-wrong (Tsl o) m c tp armed busy = either-wrong (eqb (byteHere m (effective m c o tp)) 0) _ _ (inl refl) (inl refl)
+performed-wrong (Call o two) m c tp armed busy = inl refl
+performed-wrong (JumpMasked equal o two) m c tp armed busy = inl refl
+performed-wrong (JumpBit set bit o two) m c tp armed busy = inl refl
+performed-wrong (Bit on bit o) m c tp armed busy = inl refl
+
+-- a refusal by 2, then another
+two-known : (ok : Bool) (k : ℕ) → Known k → Known (first (unless ok 2) k)
+unfolding first unless
+two-known true k h = h
+two-known false k h = inr (inl refl)
+
+wrong-known : (w k : ℕ) → Wrong w → Known k → Known (first w k)
+unfolding first
+wrong-known w k h q = ⊎-elim (λ e. rw e q) (λ e. rw e (inr (inr (inl refl)))) h
+
+last-known : (ok : Bool) → Known (unless ok 2)
+unfolding unless
+last-known true = inl refl
+last-known false = inr (inl refl)
+
+from-known : (d : Decoded) (m : Buffers) (c : Channel) (busy : ℕ) → Known (numberFrom d m c busy)
+unfolding numberFrom shapeNumber effectOf deedOf
+from-known (Instruction s) m c busy =
+    let x = deedOf s m c busy in
+    two-known (allLent m (laterBytes s c)) _
+    (rw (first-assoc (x .wrong) (unless (allLent m (x .reads)) 2) (unless (allLent m (placesOf (x .change))) 2))
+    (wrong-known (x .wrong) _ (performed-wrong s m _ (c .tp) (c .armed) busy) (two-known (allLent m (x .reads)) _ (last-known (allLent m (placesOf (x .change)))))))
+from-known NoInstruction m c busy = inr (inr (inl refl))
+from-known ControlUsed m c busy = inr (inr (inr refl))
+
+pub executed-known : (m : Buffers) (c : Channel) (busy : ℕ) → Known (executeNumber m c busy)
+unfolding executeNumber
+executed-known m c busy = two-known (allLent m (bytesAt (c .tp) 2)) _ (from-known (decodedAt m (c .tp)) m c busy)
+
+-- ---- each number
+
+module _ (s : State) (m : Buffers) (lines : ℕ) where
+  -- who was chosen gives no number but these
+  chosen-never : (n : ℕ) → eqb n 0 ≡ false → eqb n 2 ≡ false → eqb n 3 ≡ false → eqb n 4 ≡ false → eqb n 5 ≡ false → (x : Choice) → ¬ (Given (chosenChecks x s m) n)
+  chosen-never n n₀ n₂ n₃ n₄ n₅ Nobody = eqb-false n 0 n₀
+  chosen-never n n₀ n₂ n₃ n₄ n₅ (Ends b) = eqb-false n 0 n₀
+  chosen-never n n₀ n₂ n₃ n₄ n₅ (Steps b) = go (transferring (channelOf s b .psw))
+    where
+      known : (k : ℕ) → Known k → ¬ (n ≡ k)
+      known k h e =
+          ⊎-elim (λ z. eqb-false n 0 n₀ (e ∙ z))
+          (⊎-elim (λ z. eqb-false n 2 n₂ (e ∙ z)) (⊎-elim (λ z. eqb-false n 3 n₃ (e ∙ z)) (λ z. eqb-false n 4 n₄ (e ∙ z)))) h
+
+      go : (x : Bool) → ¬ (Given (pick x (transferChecks (channelOf s b) m) (instructionChecks (channelOf s b) (busyOf s b) m)) n)
+      go true = ⊎-elim (λ h. eqb-false n 5 n₅ (h .1)) (λ h. ⊎-elim (λ k. eqb-false n 2 n₂ (k .1)) (λ k. eqb-false n 0 n₀ (k .1)) (h .1))
+      go false = ⊎-elim (λ h. known (executeNumber m (channelOf s b) (busyOf s b)) (executed-known m (channelOf s b) (busyOf s b)) (h .1)) (λ h. eqb-false n 0 n₀ (h .1))
+
+  -- 12: "line number over 15"
+  pub exactly-12 : ((stepOf s m lines) .number ≡ 12) ↔ LinesOver lines
+  exactly-12 =
+      Iff·trans (number-given s m lines 12)
+      (hit (λ g. chosen-never 12 refl refl refl refl refl (choiceOf s lines) ((skip refl (skip refl (skip refl Iff·rfl))) .0 g .1 .1 .1)))
+
+  -- 11: "a lent buffer longer than its limit"
+  pub exactly-11 : ((stepOf s m lines) .number ≡ 11) ↔ (¬ (LinesOver lines) × TooLong m)
+  exactly-11 =
+      Iff·trans (number-given s m lines 11)
+      (skip refl (hit (λ g. chosen-never 11 refl refl refl refl refl (choiceOf s lines) ((skip refl (skip refl Iff·rfl)) .0 g .1 .1))))
+
+  -- 10: "a pointer, PP or CP in the given state is 1,048,576 or more"
+  pub exactly-10 : ((stepOf s m lines) .number ≡ 10) ↔ (¬ (LinesOver lines) × (¬ (TooLong m) × NotSound s))
+  exactly-10 =
+      Iff·trans (number-given s m lines 10)
+      (skip refl (skip refl (hit (λ g. chosen-never 10 refl refl refl refl refl (choiceOf s lines) ((skip refl Iff·rfl) .0 g .1)))))
+
+  -- 1: "no channel can run"
+  pub exactly-1 : ((stepOf s m lines) .number ≡ 1) ↔ AfterGiven s m lines (NoneRuns s lines)
+  exactly-1 =
+      Iff·trans (number-given s m lines 1)
+      (skip refl (skip refl (skip refl (hit (chosen-never 1 refl refl refl refl refl (choiceOf s lines))))))
+
+  -- what is left once 12, 11, 10 and 1 do not apply: by what was chosen
+  Own : Choice → ℕ → Type 0
+  Own x n =
+      OnEnd x s (λ b. n ≡ 0)
+      ⊎ (OnTransfer x s (λ b. Given (transferChecks (channelOf s b) m) n) ⊎ OnInstruction x s (λ b. Given (instructionChecks (channelOf s b) (busyOf s b) m) n))
+
+  own-cases : (n : ℕ) (x : Choice) → eqb n 1 ≡ false → choiceOf s lines ≡ x
+      → ((NoneRuns s lines × (n ≡ 1)) ⊎ (¬ (NoneRuns s lines) × Given (chosenChecks x s m) n)) ↔ Own x n
+  unfolding Own
+  own-cases n Nobody ne e =
+      let none = (nobody-runs s lines) .0 e in
+      (⊎-elim (λ h. absurd (eqb-false n 1 ne (h .1))) (λ h. absurd (h .0 none)), ⊎-elim (λ h. absurd h) (⊎-elim (λ h. absurd h) (λ h. absurd h)))
+  own-cases n (Ends b) ne e = (
+    ⊎-elim (λ h. absurd (eqb-false n 1 ne (h .1))) (λ h. inl (h .1)),
+    ⊎-elim (λ h. inr (λ k. k b (inl (ends-chosen s lines b e)), h)) (⊎-elim (λ h. absurd h) (λ h. absurd h)),
+  )
+  own-cases n (Steps b) ne e = go (transferring (channelOf s b .psw)) refl
+    where
+      runs : ¬ (NoneRuns s lines)
+      runs h = h b (inr (steps-chosen s lines b e .1))
+
+      go : (x : Bool) → transferring (channelOf s b .psw) ≡ x
+          → ((NoneRuns s lines × (n ≡ 1)) ⊎ (¬ (NoneRuns s lines) × Given (pick x (transferChecks (channelOf s b) m) (instructionChecks (channelOf s b) (busyOf s b) m)) n))
+          ↔ (⊥ ⊎ (((x ≡ true) × Given (transferChecks (channelOf s b) m) n) ⊎ ((x ≡ false) × Given (instructionChecks (channelOf s b) (busyOf s b) m) n)))
+      go true f = (
+        ⊎-elim (λ h. absurd (eqb-false n 1 ne (h .1))) (λ h. inr (inl (refl, h .1))),
+        ⊎-elim (λ h. absurd h) (⊎-elim (λ h. inr (runs, h .1)) (λ h. apart (h .0))),
+      )
+      go false f = (
+        ⊎-elim (λ h. absurd (eqb-false n 1 ne (h .1))) (λ h. inr (inr (refl, h .1))),
+        ⊎-elim (λ h. absurd h) (⊎-elim (λ h. apart (sym (h .0))) (λ h. inr (runs, h .1))),
+      )
+
+  -- a condition of who was chosen may be written another way
+  on-end : {P Q : Bool → Type 0} (x : Choice) → ((b : Bool) → P b → Q b) → OnEnd x s P → OnEnd x s Q
+  on-end Nobody f h = h
+  on-end (Ends b) f h = f b h
+  on-end (Steps b) f h = h
+
+  on-transfer : {P Q : Bool → Type 0} (x : Choice) → ((b : Bool) → P b → Q b) → OnTransfer x s P → OnTransfer x s Q
+  on-transfer Nobody f h = h
+  on-transfer (Ends b) f h = h
+  on-transfer (Steps b) f h = (h .0, f b (h .1))
+
+  on-instruction : {P Q : Bool → Type 0} (x : Choice) → ((b : Bool) → P b → Q b) → OnInstruction x s P → OnInstruction x s Q
+  on-instruction Nobody f h = h
+  on-instruction (Ends b) f h = h
+  on-instruction (Steps b) f h = (h .0, f b (h .1))
+
+  no-end : {A : Type 0} {P : Bool → Type 0} (x : Choice) → ((b : Bool) → ¬ (P b)) → OnEnd x s P → A
+  no-end Nobody f h = absurd h
+  no-end (Ends b) f h = absurd (f b h)
+  no-end (Steps b) f h = absurd h
+
+  no-transfer : {A : Type 0} {P : Bool → Type 0} (x : Choice) → ((b : Bool) → ¬ (P b)) → OnTransfer x s P → A
+  no-transfer Nobody f h = absurd h
+  no-transfer (Ends b) f h = absurd h
+  no-transfer (Steps b) f h = absurd (f b (h .1))
+
+  no-instruction : {A : Type 0} {P : Bool → Type 0} (x : Choice) → ((b : Bool) → ¬ (P b)) → OnInstruction x s P → A
+  no-instruction Nobody f h = absurd h
+  no-instruction (Ends b) f h = absurd h
+  no-instruction (Steps b) f h = absurd (f b (h .1))
+
+  own-number : (n : ℕ) {Q : Type 0} → eqb n 12 ≡ false → eqb n 11 ≡ false → eqb n 10 ≡ false → eqb n 1 ≡ false → (Own (choiceOf s lines) n ↔ Q)
+      → ((stepOf s m lines) .number ≡ n) ↔ AfterGiven s m lines Q
+  own-number n n₁₂ n₁₁ n₁₀ n₁ q =
+      Iff·trans (number-given s m lines n)
+      (skip n₁₂ (skip n₁₁ (skip n₁₀ (Iff·trans (own-cases n (choiceOf s lines) n₁ refl) q))))
+
+  by-instruction : (n : ℕ) (b : Bool) → Given (instructionChecks (channelOf s b) (busyOf s b) m) n ↔ (instructionNumber s m b ≡ n)
+  by-instruction n b = let h = own-given (instructionNumber s m b) n in (h .1, h .0)
+
+  -- 5, of a transfer step: "transfer with SYN 11, or translation with a 16-bit side"
+  pub exactly-5 : ((stepOf s m lines) .number ≡ 5) ↔ AfterGiven s m lines (OnTransfer (choiceOf s lines) s (λ b. BadTransfer (channelOf s b)))
+  unfolding Own
+  exactly-5 =
+      let x = choiceOf s lines in
+      own-number 5 refl refl refl refl (
+        ⊎-elim (no-end x (λ b. eqb-false 5 0 refl))
+            (⊎-elim (on-transfer x (λ b. bad b .0)) (no-instruction x (λ b h. strange b ((by-instruction 5 b) .0 h)))),
+        λ h. inr (inl (on-transfer x (λ b. bad b .1) h)),
+      )
+    where
+      bad : (b : Bool) → Given (transferChecks (channelOf s b) m) 5 ↔ BadTransfer (channelOf s b)
+      bad b = hit (never 5 (check 2 (Beyond m (touched (channelOf s b) m)) ∷ []) refl)
+
+      strange : (b : Bool) → ¬ (instructionNumber s m b ≡ 5)
+      strange b e =
+          ⊎-elim (λ z. eqb-false 0 5 refl (sym z ∙ e)) (⊎-elim (λ z. eqb-false 2 5 refl (sym z ∙ e)) (⊎-elim (λ z. eqb-false 3 5 refl (sym z ∙ e)) (λ z. eqb-false 4 5 refl (sym z ∙ e))))
+          (executed-known m (channelOf s b) (busyOf s b))
+
+  -- 2, of a transfer step or an instruction: "a byte to be read or stored lies beyond lent memory"
+  pub exactly-2 : ((stepOf s m lines) .number ≡ 2)
+      ↔ AfterGiven s m lines
+      (OnTransfer (choiceOf s lines) s (λ b. ¬ (BadTransfer (channelOf s b)) × Beyond m (touched (channelOf s b) m)) ⊎ OnInstruction (choiceOf s lines) s (λ b. instructionNumber s m b ≡ 2))
+  unfolding Own
+  exactly-2 =
+      let x = choiceOf s lines in
+      own-number 2 refl refl refl refl (
+        ⊎-elim (no-end x (λ b. eqb-false 2 0 refl))
+            (⊎-elim (λ h. inl (on-transfer x (λ b. beyond b .0) h)) (λ h. inr (on-instruction x (λ b. (by-instruction 2 b) .0) h))),
+        ⊎-elim (λ h. inr (inl (on-transfer x (λ b. beyond b .1) h))) (λ h. inr (inr (on-instruction x (λ b. (by-instruction 2 b) .1) h))),
+      )
+    where
+      beyond : (b : Bool) → Given (transferChecks (channelOf s b) m) 2 ↔ (¬ (BadTransfer (channelOf s b)) × Beyond m (touched (channelOf s b) m))
+      beyond b = skip refl (hit (eqb-false 2 0 refl))
+
+  -- 3, of an instruction: "the bytes are no instruction below"
+  pub exactly-3 : ((stepOf s m lines) .number ≡ 3) ↔ AfterGiven s m lines (OnInstruction (choiceOf s lines) s (λ b. instructionNumber s m b ≡ 3))
+  unfolding Own
+  exactly-3 =
+      let x = choiceOf s lines in
+      own-number 3 refl refl refl refl (
+        ⊎-elim (no-end x (λ b. eqb-false 3 0 refl))
+            (⊎-elim (no-transfer x (λ b. never 3 (transferChecks (channelOf s b) m) refl)) (on-instruction x (λ b. (by-instruction 3 b) .0))),
+        λ h. inr (inr (on-instruction x (λ b. (by-instruction 3 b) .1) h)),
+      )
+
+  -- 4, of an instruction: "CC used by anything but MOV or MOVI"
+  pub exactly-4 : ((stepOf s m lines) .number ≡ 4) ↔ AfterGiven s m lines (OnInstruction (choiceOf s lines) s (λ b. instructionNumber s m b ≡ 4))
+  unfolding Own
+  exactly-4 =
+      let x = choiceOf s lines in
+      own-number 4 refl refl refl refl (
+        ⊎-elim (no-end x (λ b. eqb-false 4 0 refl))
+            (⊎-elim (no-transfer x (λ b. never 4 (transferChecks (channelOf s b) m) refl)) (on-instruction x (λ b. (by-instruction 4 b) .0))),
+        λ h. inr (inr (on-instruction x (λ b. (by-instruction 4 b) .1) h)),
+      )
+
+  -- 0 otherwise: an external end, a transfer step without 5 and 2, an instruction whose own number is 0
+  pub exactly-0 : ((stepOf s m lines) .number ≡ 0)
+      ↔ AfterGiven s m lines
+      (OnEnd (choiceOf s lines) s (λ b. Unit {0})
+      ⊎ (OnTransfer (choiceOf s lines) s (λ b. ¬ (BadTransfer (channelOf s b)) × ¬ (Beyond m (touched (channelOf s b) m))) ⊎ OnInstruction (choiceOf s lines) s (λ b. instructionNumber s m b ≡ 0)))
+  unfolding Own
+  exactly-0 =
+      let x = choiceOf s lines in
+      own-number 0 refl refl refl refl (
+        ⊎-elim (λ h. inl (on-end x (λ b k. tt) h))
+            (⊎-elim (λ h. inr (inl (on-transfer x (λ b. right b .0) h))) (λ h. inr (inr (on-instruction x (λ b. (by-instruction 0 b) .0) h)))),
+        ⊎-elim (λ h. inl (on-end x (λ b k. refl) h))
+            (⊎-elim (λ h. inr (inl (on-transfer x (λ b. right b .1) h))) (λ h. inr (inr (on-instruction x (λ b. (by-instruction 0 b) .1) h)))),
+      )
+    where
+      right : (b : Bool) → Given (transferChecks (channelOf s b) m) 0 ↔ (¬ (BadTransfer (channelOf s b)) × ¬ (Beyond m (touched (channelOf s b) m)))
+      right b = skip refl (end refl refl)
+
+  -- and no other number
+  pub no-other : (n : ℕ) → eqb n 0 ≡ false → eqb n 1 ≡ false → eqb n 2 ≡ false → eqb n 3 ≡ false → eqb n 4 ≡ false → eqb n 5 ≡ false
+      → eqb n 10 ≡ false → eqb n 11 ≡ false → eqb n 12 ≡ false → ¬ ((stepOf s m lines) .number ≡ n)
+  no-other n n₀ n₁ n₂ n₃ n₄ n₅ n₁₀ n₁₁ n₁₂ e =
+      chosen-never n n₀ n₂ n₃ n₄ n₅ (choiceOf s lines)
+      ((skip n₁₂ (skip n₁₁ (skip n₁₀ (skip n₁ Iff·rfl)))) .0 ((number-given s m lines n) .0 e) .1 .1 .1 .1)

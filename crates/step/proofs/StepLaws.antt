@@ -1,0 +1,62 @@
+-- The laws of a step that is refused or done: a refusal of a transfer step or of an instruction leaves memory as it was, so the whole step is settled.
+-- Assumes nothing.
+use Prim.Native.Nat.{ℕ}
+use borrow.Author.Tests.{eq-eqb, ne-eqb}
+use lib.Dec.{eqb}
+use mathlib.Core.Bool.{Bool, true, false}
+use mathlib.Core.Path.{_≡_, refl, ap, _∙_}
+use native.Mathlib.Decide.{ℕ-discrete}
+use Rattle.execute.specs.Changes.{changed}
+use Rattle.execute.specs.Deeds.{Deed}
+use Rattle.execute.specs.Execute.{planOf, decodedAt, deedFrom, executeNumber, settledEffect, executeOf}
+use Rattle.execute.specs.declared.Change.{Change}
+use Rattle.execute.specs.declared.Effect.{Effect}
+use Rattle.machine.specs.declared.Channel.{Channel}
+use Rattle.machine.specs.declared.State.{State}
+use Rattle.memory.specs.Buffers.{Buffers}
+use Rattle.transfer.specs.Reads.{dataOf}
+use Rattle.transfer.specs.Steps.{Transfer, transferred, transferNumber, transferOf}
+use Rattle.transfer.specs.Stores.{channelAfter, memoryAfter}
+use Rattle.words.specs.Choice.{pick}
+use Rattle.step.specs.Step.{stepped, doneAnswer, settledAnswer, settledStep}
+use Rattle.step.specs.declared.Kind.{Kind}
+use Rattle.step.specs.declared.Kind.the-variants.{Nothing}
+use Rattle.step.specs.declared.Stepped.{Stepped}
+
+-- a refused transfer step changes no byte
+pub transfer-kept : (c : Channel) (m : Buffers) → ((transferOf c m) .number ≡ 0 → ⊥) → (transferOf c m) .memory ≡ m
+unfolding transferOf
+transfer-kept c m ne = go (eqb (transferNumber c m) 0) ne
+  where
+    both : Bool → Transfer
+    both b = pick b (transferred 0 (channelAfter c (dataOf c m)) (memoryAfter c (dataOf c m) m)) (transferred (transferNumber c m) c m)
+
+    go : (b : Bool) → ((both b) .number ≡ 0 → ⊥) → (both b) .memory ≡ m
+    go true ne = absurd (ne refl)
+    go false ne = refl
+
+-- a refused instruction changes no byte
+pub execute-kept : (c : Channel) (busy : ℕ) (m : Buffers) → ((executeOf c busy m) .number ≡ 0 → ⊥) → (executeOf c busy m) .memory ≡ m
+unfolding executeOf planOf settledEffect changed
+execute-kept c busy m ne = go (eqb (executeNumber m c busy) 0) ne
+  where
+    d : Deed
+    d = deedFrom (decodedAt m (c .tp)) m c busy
+
+    both : Bool → Effect
+    both b = pick b (record { number = 0; channel = d .channel; change = d .change }) (record { number = executeNumber m c busy; channel = c; change = Change.Nothing })
+
+    go : (b : Bool) → ((both b) .number ≡ 0 → ⊥) → changed m ((both b) .change) ≡ m
+    go true ne = absurd (ne refl)
+    go false ne = refl
+
+-- what a settled answer and the memory after it come to
+pub settles : (number : ℕ) (s : State) (m : Buffers) (second : Bool) (c : Channel) (m′ : Buffers) (kind : Kind) → ((number ≡ 0 → ⊥) → m′ ≡ m)
+    → (a : Stepped) → a ≡ settledAnswer number s second c kind
+    → stepped (a .number) (a .state) m′ (a .channel) (a .kind) ≡ settledStep number s m second c m′ kind
+unfolding settledAnswer doneAnswer settledStep
+settles number s m second c m′ kind kept a e = ap (λ (x : Stepped). stepped (x .number) (x .state) m′ (x .channel) (x .kind)) e ∙ go (ℕ-discrete number 0)
+  where
+    go : Dec (number ≡ 0) → stepped ((settledAnswer number s second c kind) .number) ((settledAnswer number s second c kind) .state) m′ ((settledAnswer number s second c kind) .channel) ((settledAnswer number s second c kind) .kind) ≡ settledStep number s m second c m′ kind
+    go (yes z) = rw (eq-eqb number 0 z)
+    go (no ne) = rw (ne-eqb number 0 ne, kept ne)

@@ -1,0 +1,83 @@
+-- `step::chosen` meets its contract.
+-- Assumes nothing.
+use borrow.Author.Needs.{needs}
+use denote.Ref.{now}
+use mathlib.Core.Path.{sym, ap, _∙_}
+use Rattle.memory.specs.Buffers.{buffers}
+use Rattle.transfer.proofs.StepLaws.{refused, done}
+use Rattle.step.specs.Step.{stepped, doneAnswer, externalStep, chosenStep}
+use Rattle.step.specs.declared.Choice.{Choice}
+use Rattle.step.specs.declared.Stepped.{Stepped}
+use Rattle.step.proofs.chosen.Statement.{statement}
+use Rattle.step.proofs.chosen.Tie as tie
+
+enum-told : tie.Need-enum-told
+enum-told c = search needs
+
+refused-requires : tie.Need-refused-requires
+refused-requires c κs = search needs
+
+enum-known-choice : tie.Need-enum-known-choice
+enum-known-choice c = search needs
+
+channel-requires : tie.Need-channel-requires
+channel-requires c κs = search needs
+
+external-end-requires : tie.Need-external-end-requires
+external-end-requires c κs = search needs
+
+done-requires : tie.Need-done-requires
+done-requires c κs = search needs
+
+enum-known-choice-2 : tie.Need-enum-known-choice-2
+enum-known-choice-2 c = search needs
+
+channel-step-requires : tie.Need-channel-step-requires
+channel-step-requires c κs = search needs
+
+returns : tie.Need-returns
+unfolding chosenStep
+returns c =
+    let a = c .before .before .before .before .before .args in
+    let m = buffers (now (a .sys)) (now (a .io)) in
+    ap (λ (x : Stepped). stepped (x .number) (x .state) m (x .channel) (x .kind)) (c .refused .ensures) ∙ ap (λ (x : Choice). chosenStep x (a .s) m) (sym (c .before .enum-told .given .1))
+
+returns-2 : tie.Need-returns-2
+unfolding chosenStep externalStep doneAnswer
+returns-2 c =
+    let a = c .before .before .before .before .before .before .before .before .args in
+    let m = buffers (now (a .sys)) (now (a .io)) in
+    let e = simp (c .before .external-end .ensures, c .before .before .channel .ensures) at (c .done .ensures) in
+    ap (λ (x : Stepped). stepped (x .number) (x .state) m (x .channel) (x .kind)) e
+    ∙ ap (λ (x : Choice). chosenStep x (a .s) m) (sym (c .before .before .before .before .choice .given .1))
+
+same-length : tie.Need-same-length
+same-length c = search needs
+
+same-length-2 : tie.Need-same-length-2
+same-length-2 c = search needs
+
+returns-3 : tie.Need-returns-3
+unfolding chosenStep
+returns-3 c =
+    let a = c .before .before .before .before .before .before .before .before .before .before .before .before .args in
+    let m = buffers (now (a .sys)) (now (a .io)) in
+    c .before .before .before .before .channel-step .ensures ∙ ap (λ (x : Choice). chosenStep x (a .s) m) (sym (c .before .before .before .before .before .before .before .before .choice2 .given .1))
+
+pub chosen-spec : {M : Type 1} → statement M
+chosen-spec =
+    tie.close
+    (tie.spec
+    enum-told
+    refused-requires
+    enum-known-choice
+    channel-requires
+    external-end-requires
+    done-requires
+    enum-known-choice-2
+    channel-step-requires
+    returns
+    returns-2
+    same-length
+    same-length-2
+    returns-3)

@@ -1,0 +1,61 @@
+-- `step::instruction_step` meets its contract.
+-- Assumes nothing.
+use Prim.Native.Nat.{ℕ}
+use borrow.Author.Needs.{needs}
+use denote.Ref.{now}
+use mathlib.Core.Path.{ap, ap₂, _∙_}
+use Rattle.execute.specs.Execute.{Executed, executeOf}
+use Rattle.machine.specs.Outcomes.{settled}
+use Rattle.machine.specs.States.{channelOf}
+use Rattle.machine.specs.declared.Channel.{Channel}
+use Rattle.memory.specs.Buffers.{buffers}
+use Rattle.words.specs.Sums.{sum20}
+use Rattle.step.specs.Step.{settledStep, busyOf, instructionStep}
+use Rattle.step.specs.declared.Kind.{Kind}
+use Rattle.step.specs.declared.Kind.the-variants.{Instruction}
+use Rattle.step.proofs.StepLaws.{execute-kept, settles}
+use Rattle.step.proofs.instruction_step.Statement.{statement}
+use Rattle.step.proofs.instruction_step.Tie as tie
+
+block-requires : tie.Need-block-requires
+block-requires c κs = search needs
+
+sum20-requires : tie.Need-sum20-requires
+sum20-requires c κs = search needs
+
+channel-requires : tie.Need-channel-requires
+channel-requires c κs = search needs
+
+execute-requires : tie.Need-execute-requires
+execute-requires c κs = search needs
+
+settled-requires : tie.Need-settled-requires
+settled-requires c κs = search needs
+
+same-length : tie.Need-same-length
+same-length c = search needs
+
+same-length-2 : tie.Need-same-length-2
+same-length-2 c = search needs
+
+returns : tie.Need-returns
+unfolding instructionStep busyOf
+returns c =
+    let a = c .before .before .before .before .before .before .before .before .before .before .before .before .before .before .args in
+    let m = buffers (now (a .sys)) (now (a .io)) in
+    let e = c .before .before .before .before .before .before .execute .ensures ∙ ap₂ (λ (x : Channel) (y : ℕ). executeOf x y m) (c .before .before .before .before .before .before .before .before .before .channel .ensures) (c .before .before .before .before .before .before .before .before .before .before .sum20 .ensures ∙ ap (λ (x : ℕ). sum20 x 1) (c .before .before .before .before .before .before .before .before .before .before .before .block .ensures)) in
+    settles _ (a .s) m (a .second) _ _ Kind.Instruction (λ ne. ap (λ (x : Executed). x .memory) e ∙ execute-kept (channelOf (a .s) (a .second)) (busyOf (a .s) (a .second)) m (λ z. ne (ap (λ (x : Executed). x .number) e ∙ z))) (c .settled .result) (c .settled .ensures)
+    ∙ ap (λ (x : Executed). settledStep (x .number) (a .s) m (a .second) (x .channel) (x .memory) Kind.Instruction) e
+
+pub instruction-step-spec : {M : Type 1} → statement M
+instruction-step-spec =
+    tie.close
+    (tie.spec
+    block-requires
+    sum20-requires
+    channel-requires
+    execute-requires
+    settled-requires
+    same-length
+    same-length-2
+    returns)

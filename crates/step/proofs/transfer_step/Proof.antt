@@ -1,0 +1,53 @@
+-- `step::transfer_step` meets its contract.
+-- Assumes nothing.
+use borrow.Author.Needs.{needs}
+use denote.Ref.{now}
+use mathlib.Core.Path.{ap, _∙_}
+use Rattle.machine.specs.Outcomes.{settled}
+use Rattle.machine.specs.States.{channelOf}
+use Rattle.machine.specs.declared.Channel.{Channel}
+use Rattle.memory.specs.Buffers.{buffers}
+use Rattle.transfer.specs.Steps.{transferOf}
+use Rattle.step.specs.Step.{settledStep, transferStep}
+use Rattle.step.specs.declared.Choice.the-variants.{Steps}
+use Rattle.step.specs.declared.Kind.{Kind}
+use Rattle.step.specs.declared.Kind.the-variants.{Transfer}
+use Rattle.step.proofs.StepLaws.{transfer-kept, settles}
+use Rattle.transfer.specs.Steps as Steps
+use Rattle.step.proofs.transfer_step.Statement.{statement}
+use Rattle.step.proofs.transfer_step.Tie as tie
+
+channel-requires : tie.Need-channel-requires
+channel-requires c κs = search needs
+
+transfer-requires : tie.Need-transfer-requires
+transfer-requires c κs = search needs
+
+settled-requires : tie.Need-settled-requires
+settled-requires c κs = search needs
+
+same-length : tie.Need-same-length
+same-length c = search needs
+
+same-length-2 : tie.Need-same-length-2
+same-length-2 c = search needs
+
+returns : tie.Need-returns
+unfolding transferStep
+returns c =
+    let a = c .before .before .before .before .before .before .before .before .before .before .before .before .args in
+    let m = buffers (now (a .sys)) (now (a .io)) in
+    let e = c .before .before .before .before .before .before .transfer .ensures ∙ ap (λ (x : Channel). transferOf x m) (c .before .before .before .before .before .before .before .before .before .channel .ensures) in
+    settles _ (a .s) m (a .second) _ _ Kind.Transfer (λ ne. ap (λ (x : Steps.Transfer). x .memory) e ∙ transfer-kept (channelOf (a .s) (a .second)) m (λ z. ne (ap (λ (x : Steps.Transfer). x .number) e ∙ z))) (c .settled .result) (c .settled .ensures)
+    ∙ ap (λ (x : Steps.Transfer). settledStep (x .number) (a .s) m (a .second) (x .channel) (x .memory) Kind.Transfer) e
+
+pub transfer-step-spec : {M : Type 1} → statement M
+transfer-step-spec =
+    tie.close
+    (tie.spec
+    channel-requires
+    transfer-requires
+    settled-requires
+    same-length
+    same-length-2
+    returns)

@@ -1,0 +1,4 @@
+pub mod Choosing
+pub mod Step
+pub mod Conditions
+pub mod Touched

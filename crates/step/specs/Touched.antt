@@ -1,0 +1,32 @@
+-- Which bytes a step touches: those of the transfer step or of the instruction that was chosen, none for an external end.
+use Prim.Native.Nat.{ℕ}
+use mathlib.Core.Bool.{Bool}
+use mathlib.Core.List.{List, [], _∷_}
+use Rattle.execute.specs.Execute.{touched as executed}
+use Rattle.machine.specs.Psw.{transferring}
+use Rattle.machine.specs.States.{channelOf}
+use Rattle.machine.specs.declared.State.{State}
+use Rattle.memory.specs.Buffers.{Buffers}
+use Rattle.memory.specs.Places.{Place, Apart}
+use Rattle.transfer.specs.Steps.{touched as moved}
+use Rattle.words.specs.Choice.{pick}
+use Rattle.step.specs.Choosing.{choiceOf}
+use Rattle.step.specs.Step.{busyOf}
+use Rattle.step.specs.declared.Choice.{Choice}
+use Rattle.step.specs.declared.Choice.the-variants.{Nobody, Ends, Steps}
+
+-- the bytes of a choice, each access once
+unfoldable pub touchedIn : Choice → State → Buffers → List Place
+touchedIn Nobody s m = []
+touchedIn (Ends second) s m = []
+touchedIn (Steps second) s m =
+    pick (transferring (channelOf s second .psw)) (moved (channelOf s second) m) (executed m (channelOf s second) (busyOf s second))
+
+-- the bytes that a step reads or stores
+unfoldable pub touchedBy : State → Buffers → ℕ → List Place
+touchedBy s m lines = touchedIn (choiceOf s lines) s m
+
+-- a place that is none of some
+abbrev pub ApartFrom : List Place → Bool → ℕ → Type 0
+ApartFrom [] tag address = Unit {0}
+ApartFrom (p ∷ ps) tag address = Apart (p .tag) (p .address) tag address × ApartFrom ps tag address

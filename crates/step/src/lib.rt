@@ -1,0 +1,248 @@
+// Which channel steps, and the step call: one instruction, one transfer step or one external end.
+use machine::Channel;
+use machine::State;
+ghost use mathlib.Core.Path.{_≡_};
+ghost use Rattle.memory.specs.Buffers.{buffers};
+ghost use Rattle.step.specs.Choosing as Choosing;
+ghost use Rattle.step.specs.Choosing.{requested, endsNow, rankOf, secondWins, choiceOf};
+ghost use Rattle.step.specs.Step as Step;
+ghost use Rattle.step.specs.Step.{stepped, refusedStep, doneStep, settledStep, busyOf, transferStep, instructionStep, externalStep, channelStep, chosenStep, entryNumber, stepOf};
+
+// Who steps: nobody, or the channel whose transfer an external line ends, or the one that has its turn; false is channel 1.
+pub enum Choice {
+    Nobody,
+    Ends(bool),
+    Steps(bool),
+}
+
+// What a step was; nothing where it was refused.
+pub enum Kind {
+    Nothing,
+    Instruction,
+    Transfer,
+    External,
+}
+
+// What a step answers: a number of the paper, 0 for done, the state, and the number of the channel and the kind of its step.
+pub struct Stepped {
+    pub number: u32,
+    pub state: State,
+    pub channel: u32,
+    pub kind: Kind,
+}
+
+// Whether a channel's DRQ is up.
+fn request(lines: u32, second: bool) -> bool
+    ensures { λ r. ⌜ r ≡ requested lines second ⌝ }
+{
+    if second {
+        words::bit(lines, 1)
+    } else {
+        words::bit(lines, 0)
+    }
+}
+
+// Whether a channel's EXT is up.
+fn external(lines: u32, second: bool) -> bool
+    ensures { λ r. ⌜ r ≡ Choosing.external lines second ⌝ }
+{
+    if second {
+        words::bit(lines, 3)
+    } else {
+        words::bit(lines, 2)
+    }
+}
+
+// Whether a channel's transfer ends by its EXT.
+fn ends_now(c: Channel, ext: bool) -> bool
+    ensures { λ r. ⌜ r ≡ endsNow c ext ⌝ }
+{
+    let mode = c.mode;
+    machine::states::is_running(mode)
+        & machine::psw::transferring(c.psw)
+        & !(machine::cc::external_end(c.cc) == 0)
+        & ext
+}
+
+// The rank of a running channel with XF.
+fn transfer_rank(cc: u16, drq: bool) -> u32
+    ensures { λ r. ⌜ r ≡ Choosing.transferRank cc drq ⌝ }
+{
+    let syn = machine::cc::synchronised(cc);
+    if (syn == 0) | drq | (syn == 3) { 1 } else { 4 }
+}
+
+// The rank of a channel; 4 where it cannot step.
+fn rank(c: Channel, drq: bool) -> u32
+    ensures { λ r. ⌜ r ≡ rankOf c drq ⌝ }
+{
+    let mode = c.mode;
+    if !machine::states::is_running(mode) {
+        return 4;
+    }
+    if machine::psw::transferring(c.psw) {
+        return transfer_rank(c.cc, drq);
+    }
+    if machine::cc::chained(c.cc) { 1 } else { 3 }
+}
+
+// Whether channel 2 goes before channel 1.
+fn second_wins(rank1: u32, rank2: u32, priority1: bool, priority2: bool, last: bool) -> bool
+    ensures { λ r. ⌜ r ≡ secondWins rank1 rank2 priority1 priority2 last ⌝ }
+{
+    if rank1 < rank2 {
+        return false;
+    }
+    if rank2 < rank1 {
+        return true;
+    }
+    if priority1 & !priority2 {
+        return false;
+    }
+    if priority2 & !priority1 {
+        return true;
+    }
+    !last
+}
+
+// The choice where no transfer ends.
+fn ranked(s: State, rank1: u32, rank2: u32) -> Choice
+    ensures { λ r. ⌜ r ≡ Choosing.ranked s rank1 rank2 ⌝ }
+{
+    if (rank1 == 4) & (rank2 == 4) {
+        return Choice::Nobody;
+    }
+    let first = s.first;
+    let second = s.second;
+    let wins = second_wins(
+        rank1,
+        rank2,
+        machine::psw::priority(first.psw),
+        machine::psw::priority(second.psw),
+        s.last,
+    );
+    Choice::Steps(wins)
+}
+
+// Who steps, with the lines as given.
+pub fn choose(s: State, lines: u32) -> Choice
+    ensures { λ r. ⌜ r ≡ choiceOf s lines ⌝ }
+{
+    let first = s.first;
+    let second = s.second;
+    if ends_now(first, external(lines, false)) {
+        return Choice::Ends(false);
+    }
+    if ends_now(second, external(lines, true)) {
+        return Choice::Ends(true);
+    }
+    ranked(
+        s,
+        rank(first, request(lines, false)),
+        rank(second, request(lines, true)),
+    )
+}
+
+// A refused step: the state as it was.
+fn refused(s: State, number: u32) -> Stepped
+    ensures { λ r. ⌜ r ≡ record { number = number; state = s; channel = 0; kind = Kind.Nothing } ⌝ }
+{
+    Stepped {
+        number,
+        state: s,
+        channel: 0,
+        kind: Kind::Nothing,
+    }
+}
+
+// A done step: the channel is put back, and it was the last to step.
+fn done(s: State, second: bool, c: Channel, kind: Kind) -> Stepped
+    ensures { λ r. ⌜ r ≡ Step.doneAnswer s second c kind ⌝ }
+{
+    Stepped {
+        number: 0,
+        state: machine::states::with_last(machine::states::with_channel(s, second, c), second),
+        channel: machine::states::number(second),
+        kind,
+    }
+}
+
+// What a channel's own step came to.
+fn settled(number: u32, s: State, second: bool, c: Channel, kind: Kind) -> Stepped
+    ensures { λ r. ⌜ r ≡ Step.settledAnswer number s second c kind ⌝ }
+{
+    if number == 0 {
+        done(s, second, c, kind)
+    } else {
+        refused(s, number)
+    }
+}
+
+// One transfer step of a channel.
+fn transfer_step(s: State, second: bool, sys: &mut [u8], io: &mut [u8]) -> Stepped
+    ensures { λ r. ⌜ stepped (r .number) (r .state) (buffers (now (sys .exit)) (now (io .exit))) (r .channel) (r .kind) ≡ transferStep s (buffers (now (sys .entry)) (now (io .entry))) second ⌝ }
+{
+    let t = transfer::transfer(machine::states::channel(s, second), sys, io);
+    let c = t.channel;
+    settled(t.number, s, second, c, Kind::Transfer)
+}
+
+// One instruction of a channel.
+fn instruction_step(s: State, second: bool, sys: &mut [u8], io: &mut [u8]) -> Stepped
+    ensures { λ r. ⌜ stepped (r .number) (r .state) (buffers (now (sys .exit)) (now (io .exit))) (r .channel) (r .kind) ≡ instructionStep s (buffers (now (sys .entry)) (now (io .entry))) second ⌝ }
+{
+    let busy = words::sum20(machine::states::block(s, second), 1);
+    let e = execute::execute(machine::states::channel(s, second), busy, sys, io);
+    let c = e.channel;
+    settled(e.number, s, second, c, Kind::Instruction)
+}
+
+// One step of a channel that has its turn.
+fn channel_step(s: State, second: bool, sys: &mut [u8], io: &mut [u8]) -> Stepped
+    ensures { λ r. ⌜ stepped (r .number) (r .state) (buffers (now (sys .exit)) (now (io .exit))) (r .channel) (r .kind) ≡ channelStep s (buffers (now (sys .entry)) (now (io .entry))) second ⌝ }
+{
+    let c = machine::states::channel(s, second);
+    if machine::psw::transferring(c.psw) {
+        transfer_step(s, second, sys, io)
+    } else {
+        instruction_step(s, second, sys, io)
+    }
+}
+
+// The step of a choice.
+fn chosen(choice: Choice, s: State, sys: &mut [u8], io: &mut [u8]) -> Stepped
+    ensures { λ r. ⌜ stepped (r .number) (r .state) (buffers (now (sys .exit)) (now (io .exit))) (r .channel) (r .kind) ≡ chosenStep choice s (buffers (now (sys .entry)) (now (io .entry))) ⌝ }
+{
+    match choice {
+        Choice::Nobody => refused(s, 1),
+        Choice::Ends(second) => done(
+            s,
+            second,
+            transfer::external_end(machine::states::channel(s, second)),
+            Kind::External,
+        ),
+        Choice::Steps(second) => channel_step(s, second, sys, io),
+    }
+}
+
+// The refusal of what a step is given: 12 for lines past 15, then 11, then 10, else 0.
+fn entry_number(s: State, lines: u32, sys: &[u8], io: &[u8]) -> u32
+    ensures { λ r. ⌜ r ≡ entryNumber s (buffers (now (sys .entry)) (now (io .entry))) lines ⌝ }
+{
+    if lines < 16 {
+        machine::states::given_number(s, sys, io)
+    } else {
+        12
+    }
+}
+
+// One step of the machine.
+pub fn step(s: State, sys: &mut [u8], io: &mut [u8], lines: u32) -> Stepped
+    ensures { λ r. ⌜ stepped (r .number) (r .state) (buffers (now (sys .exit)) (now (io .exit))) (r .channel) (r .kind) ≡ stepOf s (buffers (now (sys .entry)) (now (io .entry))) lines ⌝ }
+{
+    let number = entry_number(s, lines, sys, io);
+    if number != 0 {
+        return refused(s, number);
+    }
+    chosen(choose(s, lines), s, sys, io)
+}

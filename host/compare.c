@@ -1,0 +1,342 @@
+/* Compares the library's run with the independent emulator's over random cases: the answer and every lent byte. */
+#include "cases.h"
+#include "emulator.h"
+#include "iop89.h"
+
+#include <inttypes.h>
+#include <signal.h>
+#include <stdlib.h>
+#include <string.h>
+#include <time.h>
+
+/* Bytes beside each buffer lent to the library, which must stay as they are. */
+#define FENCE 64u
+#define FENCE_BYTE 0xC7
+
+/* How many differences are shown in full, and how many bytes of each. */
+enum { SHOWN_DIFFERENCES = 3, SHOWN_BYTES = 16 };
+
+/* Cases after which everything that can be met must have been met. */
+#define CASES_TO_MEET_ALL 200000u
+
+/* Two buffers for one side of the comparison. */
+struct side {
+    uint8_t *sys, *io;
+};
+
+/* The case as it was made, and the emulator's and the library's copy of its buffers. */
+static struct side made, emulated, proved;
+static struct emu_coverage coverage;
+static unsigned long long numbers[EMU_NUMBERS];
+static uint64_t seed = 1, current;
+
+/* ---- Running one case ---- */
+
+/* Room with a fence before and behind. */
+static uint8_t *fenced(size_t length)
+{
+    uint8_t *bytes = malloc(length + 2 * FENCE);
+    if (bytes == NULL) {
+        fputs("compare: out of memory\n", stderr);
+        exit(2);
+    }
+    memset(bytes, FENCE_BYTE, length + 2 * FENCE);
+    return bytes + FENCE;
+}
+
+/* Room for one side. */
+static struct side new_side(void)
+{
+    struct side side = {fenced(CASE_SYSTEM_ROOM), fenced(CASE_IO_ROOM)};
+    return side;
+}
+
+/* Whether the fences before and behind a buffer are whole. */
+static bool fences_stand(const uint8_t *bytes, size_t length)
+{
+    for (size_t i = 0; i < FENCE; i++)
+        if ((bytes - FENCE)[i] != FENCE_BYTE || bytes[length + i] != FENCE_BYTE) return false;
+    return true;
+}
+
+/* Copies a case's lent bytes into the library's buffer, with the fence right behind them. */
+static void lend(uint8_t *to, const uint8_t *from, size_t length)
+{
+    memcpy(to, from, length);
+    memset(to + length, FENCE_BYTE, FENCE);
+}
+
+/* Makes a case in the given side's buffers. */
+static struct run_case make_in(const struct side *side, uint64_t number)
+{
+    struct run_case c = {side->sys, side->io, 0, 0, 0, 0, 0, 0};
+    make_case(&c, seed, number);
+    return c;
+}
+
+/* The emulator's answer. */
+static uint32_t run_emulator(const struct run_case *c, uint32_t limit)
+{
+    struct emu_memory memory = {emulated.sys, c->sys_len, emulated.io, c->io_len};
+    return emu_run(&memory, c->cp, c->channel, c->lines, limit);
+}
+
+/* The library's answer. */
+static uint32_t run_library(const struct run_case *c, uint32_t limit)
+{
+    return iop89_run(proved.sys, c->sys_len, proved.io, c->io_len, c->cp, c->channel, c->lines, limit);
+}
+
+/* Whether both sides hold the same lent bytes and the library left its fences alone. */
+static bool same_memory(const struct run_case *c)
+{
+    return memcmp(emulated.sys, proved.sys, c->sys_len) == 0 && memcmp(emulated.io, proved.io, c->io_len) == 0 &&
+           fences_stand(proved.sys, c->sys_len) && fences_stand(proved.io, c->io_len);
+}
+
+/* ---- Showing a difference ---- */
+
+/* Runs both sides on a case that was made before, under another limit. */
+static bool agrees_at(const struct run_case *c, uint32_t limit, uint32_t *emulator, uint32_t *library)
+{
+    memcpy(emulated.sys, made.sys, c->sys_len);
+    memcpy(emulated.io, made.io, c->io_len);
+    lend(proved.sys, made.sys, c->sys_len);
+    lend(proved.io, made.io, c->io_len);
+    *emulator = run_emulator(c, limit);
+    *library = run_library(c, limit);
+    return *emulator == *library && same_memory(c);
+}
+
+/* The smallest limit at which halving finds the sides to differ, so that its last step is the one to look at. */
+static uint32_t smallest_limit(const struct run_case *c)
+{
+    uint32_t low = 0, high = c->limit, emulator = 0, library = 0;
+    if (high > 65535) return high;
+    while (low < high) {
+        uint32_t middle = low + (high - low) / 2;
+        if (agrees_at(c, middle, &emulator, &library)) low = middle + 1;
+        else high = middle;
+    }
+    return high;
+}
+
+/* Prints an answer. */
+static void print_answer(const char *who, uint32_t answer)
+{
+    printf("  %-8s  %08" PRIX32 ": number %u, %u steps\n", who, answer, IOP89_NUMBER(answer), IOP89_STEPS(answer));
+}
+
+/* Prints lent bytes of one space as they now are, each at its own reduced address. */
+static void print_bytes(const char *what, const struct emu_memory *m, uint32_t address, bool in_io, unsigned count)
+{
+    printf("  %-8s  %s %05" PRIX32 ":", what, in_io ? "io    " : "system", address);
+    for (unsigned i = 0; i < count; i++) {
+        uint32_t at = (address + i) & (in_io ? 0xFFFFu : 0xFFFFFu);
+        if (at < (in_io ? m->io_len : m->sys_len)) printf(" %02X", (in_io ? m->io : m->sys)[at]);
+        else fputs(" --", stdout);
+    }
+    putchar('\n');
+}
+
+/* Prints the first bytes of one buffer on which the sides differ. */
+static void print_bytes_apart(const char *name, const uint8_t *old, const uint8_t *a, const uint8_t *b, size_t length)
+{
+    unsigned shown = 0;
+    for (size_t i = 0; i < length && shown < SHOWN_BYTES; i++) {
+        if (a[i] == b[i]) continue;
+        printf("  %s %05zX: was %02X, emulator %02X, library %02X\n", name, i, old[i], a[i], b[i]);
+        shown++;
+    }
+}
+
+/* Prints a pointer with its tag. */
+static void print_pointer(const char *name, struct emu_pointer p)
+{
+    printf(" %s %05" PRIX32 "%s", name, p.address, p.tag ? "/io" : "");
+}
+
+/* Prints a channel's registers. */
+static void print_channel(const struct emu_channel *ch)
+{
+    fputs("  before: ", stdout);
+    print_pointer("GA", ch->ga);
+    print_pointer("GB", ch->gb);
+    print_pointer("GC", ch->gc);
+    print_pointer("TP", ch->tp);
+    printf(" PP %05" PRIX32 "\n          ", ch->pp);
+    printf(" BC %04X IX %04X CC %04X MC %04X PSW %02X%s\n", ch->bc, ch->ix, ch->cc, ch->mc, ch->psw,
+           ch->armed ? " armed" : "");
+}
+
+/* Shows the emulator's channel, and the bytes that its pointers reach, before the last step under a limit. */
+static void print_before(const struct run_case *c, uint32_t limit)
+{
+    struct emu_memory m = {made.sys, c->sys_len, made.io, c->io_len};
+    struct emu_state state;
+    const struct emu_channel *ch = &state.channel[c->channel == 2];
+    print_bytes("block", &m, c->channel == 2 ? c->cp + 8 : c->cp, false, 6);
+    if (emu_fresh(c->cp, &state) != EMU_DONE || emu_attention(&state, &m, c->channel) != EMU_DONE) return;
+    for (uint32_t i = 1; i < limit; i++)
+        if (emu_step(&state, &m, c->lines).number != EMU_DONE) break;
+    print_channel(ch);
+    print_bytes("at PP", &m, ch->pp, false, 16);
+    print_bytes("at TP", &m, ch->tp.address, ch->tp.tag, 12);
+    print_bytes("at GA", &m, ch->ga.address, ch->ga.tag, 8);
+    print_bytes("at GB", &m, ch->gb.address, ch->gb.tag, 8);
+    print_bytes("at GC", &m, ch->gc.address, ch->gc.tag, 8);
+}
+
+/* Shows a case on which the sides differ, cut down to the smallest limit. */
+static void show_difference(uint64_t number)
+{
+    struct run_case c = make_in(&made, number);
+    uint32_t limit = smallest_limit(&c), emulator = 0, library = 0;
+    bool settled = !agrees_at(&c, limit, &emulator, &library);
+    printf("DIFFERENCE in case %" PRIu64 " of seed %" PRIu64 " (again: compare %" PRIu64 " 1 %" PRIu64 ")%s\n", number,
+           seed, seed, number, settled ? "" : ", not seen when run again");
+    printf("  sys_len %zu, io_len %zu, cp %" PRIX32 "h, channel %" PRIu32 ", lines %" PRIu32 ", limit %" PRIu32
+           " (first differs at %" PRIu32 ")\n",
+           c.sys_len, c.io_len, c.cp, c.channel, c.lines, c.limit, limit);
+    print_answer("emulator", emulator);
+    print_answer("library", library);
+    print_bytes_apart("system", made.sys, emulated.sys, proved.sys, c.sys_len);
+    print_bytes_apart("io    ", made.io, emulated.io, proved.io, c.io_len);
+    if (!fences_stand(proved.sys, c.sys_len)) puts("  the library stored beside system memory");
+    if (!fences_stand(proved.io, c.io_len)) puts("  the library stored beside I/O memory");
+    print_before(&c, limit);
+}
+
+/* Names the case in which the program was stopped. */
+static void on_stop(int signal_number)
+{
+    fprintf(stderr, "compare: signal %d in case %" PRIu64 " of seed %" PRIu64 "\n", signal_number, current, seed);
+    _Exit(1);
+}
+
+/* Compares one case; counts only what the emulator does for the comparison itself. */
+static bool agree(uint64_t number)
+{
+    struct run_case c = make_in(&emulated, number);
+    current = number;
+    lend(proved.sys, emulated.sys, c.sys_len);
+    lend(proved.io, emulated.io, c.io_len);
+    emu_coverage = &coverage;
+    uint32_t emulator = run_emulator(&c, c.limit);
+    emu_coverage = NULL;
+    uint32_t library = run_library(&c, c.limit);
+    numbers[IOP89_NUMBER(emulator)]++;
+    return emulator == library && same_memory(&c);
+}
+
+/* ---- What was met ---- */
+
+/* How many things that can be met were not. */
+static unsigned missing;
+
+/* Prints a count, and notes it where nothing was met. */
+static void print_count(const char *name, unsigned long long count)
+{
+    printf("%12llu  %s%s\n", count, name, count == 0 ? " (NEVER MET)" : "");
+    missing += count == 0;
+}
+
+/* Prints how often each number was answered; 8 cannot be, since every run starts with idle channels. */
+static void print_numbers(void)
+{
+    char name[120];
+    puts("answers, by number:");
+    for (unsigned i = 0; i < EMU_NUMBERS; i++) {
+        snprintf(name, sizeof name, "%u %s", i, iop89_words(i));
+        if (i != EMU_ALREADY_RUNNING) print_count(name, numbers[i]);
+    }
+}
+
+/* Prints the accepted commands that a fresh channel takes. */
+static void print_commands(void)
+{
+    puts("accepted commands:");
+    print_count("000 nothing", coverage.attention[0]);
+    print_count("001 start in I/O space", coverage.attention[1]);
+    print_count("011 start in system space", coverage.attention[3]);
+    print_count("111 halt", coverage.attention[7]);
+}
+
+/* Prints how often each format was carried out. */
+static void print_formats(void)
+{
+    puts("instructions carried out, by format:");
+    for (unsigned i = 0; i < EMU_ROWS; i++) print_count(emu_row_name(i), coverage.row[i]);
+}
+
+/* Prints how the bytes of transfer steps moved. */
+static void print_shapes(void)
+{
+    puts("transfer steps, by shape:");
+    print_count("byte to byte", coverage.shape[EMU_SHAPE_B_B]);
+    print_count("two bytes to word", coverage.shape[EMU_SHAPE_BB_W]);
+    print_count("word to two bytes", coverage.shape[EMU_SHAPE_W_BB]);
+    print_count("word to word", coverage.shape[EMU_SHAPE_W_W]);
+    print_count("two bytes, the first matched", coverage.shape[EMU_SHAPE_W_B_CUT]);
+    print_count("translated", coverage.translated);
+}
+
+/* Prints how transfers ended. */
+static void print_ends(void)
+{
+    static const char *const sets[EMU_END_SETS] = {"goes on",       "match",          "count",
+                                                   "match and count", "single",       "match and single",
+                                                   "count and single", "match, count and single"};
+    puts("transfer steps, by their ends:");
+    for (unsigned i = 0; i < EMU_END_SETS; i++) print_count(sets[i], coverage.end[i]);
+    print_count("ended at offset 0", coverage.end_offset[0]);
+    print_count("ended at offset 4", coverage.end_offset[1]);
+    print_count("ended at offset 8", coverage.end_offset[2]);
+    print_count("external end at offset 0", coverage.external[0]);
+    print_count("external end at offset 4", coverage.external[1]);
+    print_count("external end at offset 8", coverage.external[2]);
+}
+
+/* ---- The command line ---- */
+
+/* The number in one word of the command line, or the usual one where it is left out. */
+static uint64_t argument(int count, char **words, int at, uint64_t usual)
+{
+    char *end = NULL;
+    if (at >= count) return usual;
+    uint64_t value = strtoull(words[at], &end, 0);
+    if (*words[at] >= '0' && *words[at] <= '9' && *end == '\0' && count <= 4) return value;
+    fputs("usage: compare [SEED [CASES [FIRST]]]\n"
+          "  SEED   any number (1)\n"
+          "  CASES  how many cases (200000)\n"
+          "  FIRST  number of the first case (0)\n",
+          stderr);
+    exit(2);
+}
+
+int main(int count, char **words)
+{
+    unsigned long long differences = 0;
+    seed = argument(count, words, 1, 1);
+    uint64_t cases = argument(count, words, 2, CASES_TO_MEET_ALL), first = argument(count, words, 3, 0);
+    signal(SIGSEGV, on_stop);
+    signal(SIGILL, on_stop);
+    signal(SIGABRT, on_stop);
+    made = new_side();
+    emulated = new_side();
+    proved = new_side();
+    for (uint64_t i = first; i < first + cases; i++) {
+        if (agree(i)) continue;
+        if (differences++ < SHOWN_DIFFERENCES) show_difference(i);
+    }
+    printf("seed %" PRIu64 ", %" PRIu64 " cases from %" PRIu64 ", %.1f seconds of processor time\n", seed, cases, first,
+           (double)clock() / CLOCKS_PER_SEC);
+    print_numbers();
+    print_commands();
+    print_formats();
+    print_shapes();
+    print_ends();
+    printf("never met: %u%s\n", missing, cases < CASES_TO_MEET_ALL ? " (too few cases to ask for all)" : "");
+    printf("differences: %llu\n", differences);
+    return differences > 0 || (missing > 0 && cases >= CASES_TO_MEET_ALL) ? 1 : 0;
+}

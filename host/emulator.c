@@ -1,0 +1,1275 @@
+/* A plain-C emulator of the 8089 I/O processor: attention, the data sheet's rows as a table, transfers, the panel. */
+#include "emulator.h"
+
+#include <string.h>
+
+#define MASK20 0xFFFFFu
+#define MASK16 0xFFFFu
+#define MASK8 0xFFu
+
+/* RRR of the two registers that rules speak of by name. */
+enum { RRR_TP = 4, RRR_CC = 6 };
+
+struct emu_coverage *emu_coverage = NULL;
+
+/* ---- Work: a call on trial, whose state and stores count only if nothing refuses it ---- */
+
+/* The most bytes one call stores: suspend's four and BUSY. */
+#define MOST_STORES 5
+
+/* One byte that waits to be stored. */
+struct store {
+    uint8_t *cell;
+    uint8_t byte;
+};
+
+/* A copy of the given state that may be dropped, so that a refusal is all or nothing. */
+struct work {
+    struct emu_state state;
+    struct emu_channel *ch;
+    const struct emu_memory *memory;
+    uint32_t block;
+    unsigned number;
+    unsigned stores;
+    struct store store[MOST_STORES];
+    unsigned shape, ends, end_offset;
+    bool translated, jumped;
+};
+
+/* The first refusal stands, so the order of tests is the order in which they are made. */
+static void refuse(struct work *w, unsigned number)
+{
+    if (w->number == EMU_DONE) w->number = number;
+}
+
+/* Starts a call on one channel (1 or 2) with nothing refused and nothing stored. */
+static void begin(struct work *w, const struct emu_state *state, const struct emu_memory *memory, uint32_t channel)
+{
+    memset(w, 0, sizeof *w);
+    w->state = *state;
+    w->ch = &w->state.channel[channel - 1];
+    w->memory = memory;
+    w->block = channel == 1 ? state->cp : state->cp + 8;
+}
+
+/* Makes an accepted call count; a refused one leaves state and memory as given. */
+static unsigned finish(const struct work *w, struct emu_state *state)
+{
+    if (w->number != EMU_DONE) return w->number;
+    for (unsigned i = 0; i < w->stores; i++) *w->store[i].cell = w->store[i].byte;
+    *state = w->state;
+    return EMU_DONE;
+}
+
+/* ---- Addresses, bytes and stored pointers ---- */
+
+/* Addresses count in 20 bits whatever the tag; only the access drops the high four in I/O space. */
+static struct emu_pointer plus(struct emu_pointer p, uint32_t n)
+{
+    p.address = (p.address + n) & MASK20;
+    return p;
+}
+
+/* A place in system space, where control and parameter blocks lie. */
+static struct emu_pointer in_system(uint32_t address)
+{
+    struct emu_pointer p = {address & MASK20, false};
+    return p;
+}
+
+/* The lent byte at a place, or NULL where none is lent. */
+static uint8_t *cell(const struct emu_memory *memory, struct emu_pointer p)
+{
+    uint32_t at = p.tag ? p.address & MASK16 : p.address & MASK20;
+    if (at >= (p.tag ? memory->io_len : memory->sys_len)) return NULL;
+    return (p.tag ? memory->io : memory->sys) + at;
+}
+
+/* Reads n bytes, low byte first, each at its own reduced address. */
+static uint32_t read_bytes(struct work *w, struct emu_pointer p, unsigned n)
+{
+    uint32_t value = 0;
+    for (unsigned i = 0; i < n; i++) {
+        const uint8_t *c = cell(w->memory, plus(p, i));
+        if (c == NULL) refuse(w, EMU_BEYOND_LENT_MEMORY);
+        else value |= (uint32_t)*c << (8 * i);
+    }
+    return value;
+}
+
+/* Notes n bytes to be stored, low byte first; memory itself changes only when the call is accepted. */
+static void write_bytes(struct work *w, struct emu_pointer p, uint32_t value, unsigned n)
+{
+    for (unsigned i = 0; i < n; i++) {
+        uint8_t *c = cell(w->memory, plus(p, i));
+        if (c == NULL) {
+            refuse(w, EMU_BEYOND_LENT_MEMORY);
+        } else {
+            w->store[w->stores].cell = c;
+            w->store[w->stores].byte = (uint8_t)(value >> (8 * i));
+            w->stores++;
+        }
+    }
+}
+
+/* Byte and word operands are sign-extended to 20 bits. */
+static uint32_t sign_extend(uint32_t value, unsigned bytes)
+{
+    uint32_t sign = bytes == 1 ? 0x80u : 0x8000u;
+    uint32_t field = bytes == 1 ? MASK8 : MASK16;
+    return (((value & field) ^ sign) - sign) & MASK20;
+}
+
+/* A pointer's three-byte stored form. */
+static uint32_t to_stored(struct emu_pointer p)
+{
+    return (p.address & 0xFFFFu) | (p.address & 0xF0000u) << 4 | (p.tag ? 1u << 19 : 0);
+}
+
+/* The pointer that three stored bytes mean. */
+static struct emu_pointer from_stored(uint32_t bytes)
+{
+    struct emu_pointer p = {(bytes & 0xFFFFu) | (bytes >> 4 & 0xF0000u), (bytes >> 19 & 1u) != 0};
+    return p;
+}
+
+/* The address that a doubleword pointer means: offset word first, then segment. */
+static uint32_t from_doubleword(uint32_t bytes)
+{
+    return ((bytes >> 16) * 16 + (bytes & MASK16)) & MASK20;
+}
+
+/* ---- Registers ---- */
+
+/* The pointer that RRR names, or NULL for a 16-bit register. */
+static struct emu_pointer *pointer_register(struct emu_channel *ch, unsigned rrr)
+{
+    struct emu_pointer *named[8] = {&ch->ga, &ch->gb, &ch->gc, NULL, &ch->tp, NULL, NULL, NULL};
+    return named[rrr];
+}
+
+/* The 16-bit register that RRR names, or NULL for a pointer. */
+static uint16_t *word_register(struct emu_channel *ch, unsigned rrr)
+{
+    uint16_t *named[8] = {NULL, NULL, NULL, &ch->bc, NULL, &ch->ix, &ch->cc, &ch->mc};
+    return named[rrr];
+}
+
+/* A register's value as an operand. */
+static uint32_t read_register(struct emu_channel *ch, unsigned rrr)
+{
+    const struct emu_pointer *p = pointer_register(ch, rrr);
+    return p != NULL ? p->address : *word_register(ch, rrr);
+}
+
+/* Puts a result into a register, which keeps what it has room for; a move also makes a pointer an I/O pointer. */
+static void write_register(struct emu_channel *ch, unsigned rrr, uint32_t value, bool moved)
+{
+    struct emu_pointer *p = pointer_register(ch, rrr);
+    if (p == NULL) {
+        *word_register(ch, rrr) = (uint16_t)value;
+        return;
+    }
+    p->address = value & MASK20;
+    if (moved) p->tag = true;
+}
+
+/* The base that MM names; PP is always system. */
+static struct emu_pointer base(const struct emu_channel *ch, unsigned mm)
+{
+    struct emu_pointer named[4] = {ch->ga, ch->gb, ch->gc, in_system(ch->pp)};
+    return named[mm];
+}
+
+/* Masked compare: bits that MC's high byte leaves out agree by themselves. */
+static bool matches(uint16_t mc, uint32_t data)
+{
+    return ((data ^ mc) & (uint32_t)(mc >> 8) & MASK8) == 0;
+}
+
+/* BUSY is the block's second byte. */
+static void set_busy(struct work *w, uint8_t value)
+{
+    write_bytes(w, in_system(w->block + 1), value, 1);
+}
+
+/* What halt and HLT share. */
+static void halt(struct work *w)
+{
+    w->ch->mode = EMU_IDLE;
+    w->ch->psw &= (uint8_t) ~(EMU_PSW_TB | EMU_PSW_XF);
+    w->ch->armed = false;
+    set_busy(w, 0x00);
+}
+
+/* ---- Refusals that precede every other ---- */
+
+/* Refusal 11 looks at both buffers, whatever the call touches. */
+static bool buffers_fit(const struct emu_memory *memory)
+{
+    return memory->sys_len <= EMU_SYSTEM_LIMIT && memory->io_len <= EMU_IO_LIMIT;
+}
+
+/* Whether every 20-bit register of one channel is one. */
+static bool channel_sound(const struct emu_channel *ch)
+{
+    return ch->ga.address <= MASK20 && ch->gb.address <= MASK20 && ch->gc.address <= MASK20 &&
+           ch->tp.address <= MASK20 && ch->pp <= MASK20;
+}
+
+/* Refusals 12, 11 and 10, in this order. */
+static unsigned early_refusal(bool arguments_good, const struct emu_memory *memory, const struct emu_state *state)
+{
+    if (!arguments_good) return EMU_BAD_ARGUMENT;
+    if (!buffers_fit(memory)) return EMU_BAD_BUFFER;
+    if (state->cp > MASK20 || !channel_sound(&state->channel[0]) || !channel_sound(&state->channel[1]))
+        return EMU_BAD_POINTER;
+    return EMU_DONE;
+}
+
+/* ---- Fresh ---- */
+
+unsigned emu_fresh(uint32_t cp, struct emu_state *out)
+{
+    memset(out, 0, sizeof *out);
+    out->last = 2;
+    if (cp > MASK20) return EMU_BAD_POINTER;
+    out->cp = cp;
+    return EMU_DONE;
+}
+
+/* ---- Attention ---- */
+
+/* Commands of CCW bits 2-0 that are in use. */
+enum command {
+    COMMAND_NOTHING = 0,
+    COMMAND_START_IO = 1,
+    COMMAND_START_SYSTEM = 3,
+    COMMAND_RESUME = 5,
+    COMMAND_SUSPEND = 6,
+    COMMAND_HALT = 7
+};
+
+/* Refusals 6, 7, 8 and 9: whether a channel in this mode takes the command. */
+static unsigned command_refusal(unsigned command, enum emu_mode mode)
+{
+    switch (command) {
+    case COMMAND_START_IO:
+    case COMMAND_START_SYSTEM: return mode == EMU_RUNNING ? EMU_ALREADY_RUNNING : EMU_DONE;
+    case COMMAND_SUSPEND: return mode != EMU_RUNNING ? EMU_NOT_RUNNING : EMU_DONE;
+    case COMMAND_RESUME: return mode != EMU_SUSPENDED ? EMU_NOT_SUSPENDED : EMU_DONE;
+    case COMMAND_NOTHING:
+    case COMMAND_HALT: return EMU_DONE;
+    default: return EMU_BAD_COMMAND;
+    }
+}
+
+/* Start: PP from the block, TP from PB, then BUSY. */
+static void start(struct work *w, bool in_io)
+{
+    struct emu_channel *ch = w->ch;
+    ch->pp = from_doubleword(read_bytes(w, in_system(w->block + 2), 4));
+    if (in_io) ch->tp.address = read_bytes(w, in_system(ch->pp), 2);
+    else ch->tp.address = from_doubleword(read_bytes(w, in_system(ch->pp), 4));
+    ch->tp.tag = in_io;
+    ch->mode = EMU_RUNNING;
+    ch->psw = (uint8_t)((ch->psw & ~EMU_PSW_XF) | EMU_PSW_TB);
+    ch->armed = false;
+    set_busy(w, 0xFF);
+}
+
+/* Suspend: TP and the PSW as they were go into PB, and only then do TB and XF clear. */
+static void suspend(struct work *w)
+{
+    struct emu_channel *ch = w->ch;
+    write_bytes(w, in_system(ch->pp), to_stored(ch->tp), 3);
+    write_bytes(w, in_system(ch->pp + 3), ch->psw, 1);
+    ch->psw &= (uint8_t) ~(EMU_PSW_TB | EMU_PSW_XF);
+    ch->mode = EMU_SUSPENDED;
+    set_busy(w, 0x00);
+}
+
+/* Resume: TP and PSW come back as PB has them; no other register moves. */
+static void resume(struct work *w)
+{
+    struct emu_channel *ch = w->ch;
+    uint32_t saved = read_bytes(w, in_system(ch->pp), 4);
+    ch->tp = from_stored(saved & 0xFFFFFFu);
+    ch->psw = (uint8_t)(saved >> 24 | EMU_PSW_TB);
+    ch->mode = EMU_RUNNING;
+    set_busy(w, 0xFF);
+}
+
+/* Load limit, priority and ICF, which follow any reload of the PSW. */
+static void obey_upper_ccw(struct emu_channel *ch, unsigned ccw)
+{
+    const unsigned copied = EMU_PSW_LOAD_LIMIT | EMU_PSW_PRIORITY;
+    unsigned psw = (ch->psw & ~copied) | (ccw & copied);
+    switch (ccw >> 3 & 3) {
+    case 1: psw &= ~(unsigned)EMU_PSW_IS; break;
+    case 2: psw |= EMU_PSW_IC; break;
+    case 3: psw &= ~(unsigned)(EMU_PSW_IC | EMU_PSW_IS); break;
+    default: break;
+    }
+    ch->psw = (uint8_t)psw;
+}
+
+/* What each command does to its channel before the upper bits of the CCW are obeyed. */
+static void obey_command(struct work *w, unsigned command)
+{
+    switch (command) {
+    case COMMAND_START_IO: start(w, true); break;
+    case COMMAND_START_SYSTEM: start(w, false); break;
+    case COMMAND_RESUME: resume(w); break;
+    case COMMAND_SUSPEND: suspend(w); break;
+    case COMMAND_HALT: halt(w); break;
+    default: break;
+    }
+}
+
+/* An attention whose arguments, buffers and state passed. */
+static unsigned attend(struct emu_state *state, const struct emu_memory *memory, uint32_t channel)
+{
+    struct work w;
+    begin(&w, state, memory, channel);
+    unsigned ccw = read_bytes(&w, in_system(w.block), 1);
+    refuse(&w, command_refusal(ccw & 7, w.ch->mode));
+    if (w.number != EMU_DONE) return w.number;
+    obey_command(&w, ccw & 7);
+    obey_upper_ccw(w.ch, ccw);
+    if (emu_coverage != NULL && w.number == EMU_DONE) emu_coverage->attention[ccw & 7]++;
+    return finish(&w, state);
+}
+
+unsigned emu_attention(struct emu_state *state, struct emu_memory *memory, uint32_t channel)
+{
+    unsigned number = early_refusal(channel == 1 || channel == 2, memory, state);
+    if (number == EMU_DONE) number = attend(state, memory, channel);
+    if (emu_coverage != NULL && number != EMU_DONE) emu_coverage->attention_refused[number]++;
+    return number;
+}
+
+/* ---- Instructions: shapes ---- */
+
+struct instruction;
+
+/* What an operand's first byte bits 7-5 name. */
+enum field { FIXED, REGISTER, POINTER, BIT, WIDTHS };
+
+/* What stands behind pair and offset byte; wb and dd are the fields that the data sheet calls so. */
+enum follow { NOTHING, WB_LITERAL, DD_DISPLACEMENT, TSL_BYTES, LPDI_BYTES, SECOND_PAIR };
+
+/* How long the memory operand is: none, by W, or fixed; IX grows by it. */
+enum length { NO_MEMORY = 0, BYTE = 1, STORED_POINTER = 3, DOUBLEWORD = 4, BY_W = 5 };
+
+/* Whether CC may stand in RRR. */
+enum cc_use { CC_FREE, CC_BARRED };
+
+/* Where the operand comes from that is not the destination itself. */
+enum source { NO_SOURCE, FROM_R, FROM_M, FROM_I, FROM_BIT };
+
+/* The digits printed for both bytes: a mask of the fixed ones and their values. */
+struct digits {
+    uint8_t mask1, value1, mask2, value2;
+};
+
+/* One row of the data sheet's summary. */
+struct row {
+    const char *name;
+    struct digits digits;
+    enum field field;
+    enum follow follow;
+    enum length length;
+    enum cc_use cc;
+    void (*act)(struct work *w, const struct instruction *in);
+    enum source source;
+    uint32_t (*result)(uint32_t old, uint32_t operand);
+    bool (*condition)(const struct emu_channel *ch, const struct instruction *in, uint32_t operand);
+};
+
+/* A memory operand as the instruction writes it. */
+struct place {
+    unsigned aa, mm;
+    uint32_t offset;
+};
+
+/* An instruction that has been read into its shape. */
+struct instruction {
+    const struct row *row;
+    unsigned rrr;
+    unsigned bytes;
+    struct place place, second;
+    uint32_t data;
+    uint32_t displacement;
+    struct emu_pointer end;
+};
+
+/* ---- Instructions: results and conditions ---- */
+
+/* MOV: the operand itself. */
+static uint32_t take(uint32_t old, uint32_t operand)
+{
+    (void)old;
+    return operand;
+}
+
+/* ADD. */
+static uint32_t sum(uint32_t old, uint32_t operand)
+{
+    return old + operand;
+}
+
+/* OR, and SETB with its bit as operand. */
+static uint32_t either(uint32_t old, uint32_t operand)
+{
+    return old | operand;
+}
+
+/* AND. */
+static uint32_t both(uint32_t old, uint32_t operand)
+{
+    return old & operand;
+}
+
+/* CLR, with its bit as operand. */
+static uint32_t without(uint32_t old, uint32_t operand)
+{
+    return old & ~operand;
+}
+
+/* NOT of the destination. */
+static uint32_t not_old(uint32_t old, uint32_t operand)
+{
+    (void)operand;
+    return ~old;
+}
+
+/* NOT of memory into a register. */
+static uint32_t not_operand(uint32_t old, uint32_t operand)
+{
+    (void)old;
+    return ~operand;
+}
+
+/* INC. */
+static uint32_t one_more(uint32_t old, uint32_t operand)
+{
+    (void)operand;
+    return old + 1;
+}
+
+/* DEC. */
+static uint32_t one_less(uint32_t old, uint32_t operand)
+{
+    (void)operand;
+    return old - 1;
+}
+
+/* JZ; of a register only the low 16 bits are asked. */
+static bool is_zero(const struct emu_channel *ch, const struct instruction *in, uint32_t operand)
+{
+    (void)ch;
+    (void)in;
+    return (operand & MASK16) == 0;
+}
+
+/* JNZ. */
+static bool is_not_zero(const struct emu_channel *ch, const struct instruction *in, uint32_t operand)
+{
+    return !is_zero(ch, in, operand);
+}
+
+/* JBT; BBB names the bit. */
+static bool bit_true(const struct emu_channel *ch, const struct instruction *in, uint32_t operand)
+{
+    (void)ch;
+    return (operand >> in->rrr & 1u) != 0;
+}
+
+/* JNBT. */
+static bool bit_not_true(const struct emu_channel *ch, const struct instruction *in, uint32_t operand)
+{
+    return !bit_true(ch, in, operand);
+}
+
+/* JMCE. */
+static bool compares_equal(const struct emu_channel *ch, const struct instruction *in, uint32_t operand)
+{
+    (void)in;
+    return matches(ch->mc, operand);
+}
+
+/* JMCNE. */
+static bool compares_not_equal(const struct emu_channel *ch, const struct instruction *in, uint32_t operand)
+{
+    return !compares_equal(ch, in, operand);
+}
+
+/* ---- Instructions: actions, each with TP already past the instruction ---- */
+
+/* Forms an operand's address; with AA 11 IX grows right behind it. */
+static struct emu_pointer locate(struct emu_channel *ch, const struct place *place, unsigned bytes)
+{
+    struct emu_pointer p = base(ch, place->mm);
+    if (place->aa == 1) p = plus(p, place->offset);
+    if (place->aa >= 2) p = plus(p, ch->ix);
+    if (place->aa == 3) ch->ix = (uint16_t)(ch->ix + bytes);
+    return p;
+}
+
+/* Reads a memory operand. */
+static uint32_t read_operand(struct work *w, struct emu_pointer p, unsigned bytes)
+{
+    return sign_extend(read_bytes(w, p, bytes), bytes);
+}
+
+/* The operand that is not the destination; held is RRR's value from before IX grew. */
+static uint32_t source_value(struct work *w, const struct instruction *in, uint32_t held, struct emu_pointer where)
+{
+    switch (in->row->source) {
+    case FROM_R: return held;
+    case FROM_M: return read_operand(w, where, in->bytes);
+    case FROM_I: return in->data;
+    case FROM_BIT: return 1u << in->rrr;
+    default: return 0;
+    }
+}
+
+/* Instructions whose result goes into RRR; only moves set a pointer's tag. */
+static void to_register(struct work *w, const struct instruction *in)
+{
+    uint32_t old = read_register(w->ch, in->rrr);
+    struct emu_pointer where = {0, false};
+    if (in->row->length != NO_MEMORY) where = locate(w->ch, &in->place, in->bytes);
+    uint32_t operand = source_value(w, in, old, where);
+    write_register(w->ch, in->rrr, in->row->result(old, operand), in->row->result == take);
+}
+
+/* Instructions whose result goes into memory; a move does not read what it replaces. */
+static void to_memory(struct work *w, const struct instruction *in)
+{
+    uint32_t held = in->row->source == FROM_R ? read_register(w->ch, in->rrr) : 0;
+    struct emu_pointer where = locate(w->ch, &in->place, in->bytes);
+    uint32_t operand = source_value(w, in, held, where);
+    uint32_t old = in->row->result == take ? 0 : read_operand(w, where, in->bytes);
+    write_bytes(w, where, in->row->result(old, operand), in->bytes);
+}
+
+/* MOV M,M: the second address is formed from the IX that the first one left. */
+static void memory_to_memory(struct work *w, const struct instruction *in)
+{
+    struct emu_pointer from = locate(w->ch, &in->place, in->bytes);
+    struct emu_pointer to = locate(w->ch, &in->second, in->bytes);
+    write_bytes(w, to, read_bytes(w, from, in->bytes), in->bytes);
+}
+
+/* A displacement counts from the instruction's end, where TP stands. */
+static void jump(struct work *w, const struct instruction *in)
+{
+    w->ch->tp = plus(w->ch->tp, in->displacement);
+    w->jumped = true;
+}
+
+/* Jumps on a condition. */
+static void jump_if(struct work *w, const struct instruction *in)
+{
+    uint32_t held = in->row->source == FROM_R ? read_register(w->ch, in->rrr) : 0;
+    struct emu_pointer where = {0, false};
+    if (in->row->length != NO_MEMORY) where = locate(w->ch, &in->place, in->bytes);
+    if (in->row->condition(w->ch, in, source_value(w, in, held, where))) jump(w, in);
+}
+
+/* CALL: the way back is saved before the jump. */
+static void call(struct work *w, const struct instruction *in)
+{
+    write_bytes(w, locate(w->ch, &in->place, in->bytes), to_stored(w->ch->tp), 3);
+    jump(w, in);
+}
+
+/* TSL: a free lock is taken, a held one makes the program go elsewhere. */
+static void test_and_set(struct work *w, const struct instruction *in)
+{
+    struct emu_pointer where = locate(w->ch, &in->place, in->bytes);
+    if (read_bytes(w, where, 1) == 0) write_bytes(w, where, in->data, 1);
+    else jump(w, in);
+}
+
+/* LPD and LPDI share that the loaded pointer is a system pointer. */
+static void load_system_pointer(struct work *w, const struct instruction *in, uint32_t doubleword)
+{
+    *pointer_register(w->ch, in->rrr) = in_system(from_doubleword(doubleword));
+}
+
+/* LPD P,M. */
+static void load_doubleword(struct work *w, const struct instruction *in)
+{
+    load_system_pointer(w, in, read_bytes(w, locate(w->ch, &in->place, in->bytes), 4));
+}
+
+/* LPDI P,I. */
+static void load_immediate(struct work *w, const struct instruction *in)
+{
+    load_system_pointer(w, in, in->data);
+}
+
+/* MOVP M,P. */
+static void save_pointer(struct work *w, const struct instruction *in)
+{
+    struct emu_pointer held = *pointer_register(w->ch, in->rrr);
+    write_bytes(w, locate(w->ch, &in->place, in->bytes), to_stored(held), 3);
+}
+
+/* MOVP P,M. */
+static void restore_pointer(struct work *w, const struct instruction *in)
+{
+    uint32_t stored = read_bytes(w, locate(w->ch, &in->place, in->bytes), 3);
+    *pointer_register(w->ch, in->rrr) = from_stored(stored);
+}
+
+/* HLT acts as halt. */
+static void do_hlt(struct work *w, const struct instruction *in)
+{
+    (void)in;
+    halt(w);
+}
+
+/* SINTR, which does nothing where interrupts are off. */
+static void do_sintr(struct work *w, const struct instruction *in)
+{
+    (void)in;
+    if ((w->ch->psw & EMU_PSW_IC) != 0) w->ch->psw |= EMU_PSW_IS;
+}
+
+/* NOP. */
+static void do_nop(struct work *w, const struct instruction *in)
+{
+    (void)w;
+    (void)in;
+}
+
+/* XFER arms; what follows the next instruction is seen to behind every instruction. */
+static void do_xfer(struct work *w, const struct instruction *in)
+{
+    (void)in;
+    w->ch->armed = true;
+}
+
+/* WID: RRR is 1 S D. */
+static void do_wid(struct work *w, const struct instruction *in)
+{
+    const unsigned widths = EMU_PSW_S | EMU_PSW_D;
+    unsigned s = (in->rrr & 2) != 0 ? EMU_PSW_S : 0, d = (in->rrr & 1) != 0 ? EMU_PSW_D : 0;
+    w->ch->psw = (uint8_t)((w->ch->psw & ~widths) | s | d);
+}
+
+/* ---- Instructions: the data sheet's rows, in its order, letter by letter ---- */
+
+/* A printed 0 or 1 is fixed, a letter is free. */
+#define FIX_0 1u
+#define FIX_1 1u
+#define FIX_R 0u
+#define FIX_P 0u
+#define FIX_B 0u
+#define FIX_S 0u
+#define FIX_D 0u
+#define FIX_A 0u
+#define FIX_W 0u
+#define FIX_M 0u
+#define FIX_d 0u
+#define FIX_w 0u
+#define FIX_b 0u
+#define VAL_0 0u
+#define VAL_1 1u
+#define VAL_R 0u
+#define VAL_P 0u
+#define VAL_B 0u
+#define VAL_S 0u
+#define VAL_D 0u
+#define VAL_A 0u
+#define VAL_W 0u
+#define VAL_M 0u
+#define VAL_d 0u
+#define VAL_w 0u
+#define VAL_b 0u
+
+/* A byte from eight printed digits, once for which are fixed and once for their values. */
+#define OCTET(X, g, h, i, j, k, l, m, n)                                                                   \
+    (X##_##g << 7 | X##_##h << 6 | X##_##i << 5 | X##_##j << 4 | X##_##k << 3 | X##_##l << 2 | X##_##m << 1 | \
+     X##_##n)
+#define DIGITS(g, h, i, j, k, l, m, n, o, p, q, r, s, t, u, v)                                      \
+    {                                                                                               \
+        OCTET(FIX, g, h, i, j, k, l, m, n), OCTET(VAL, g, h, i, j, k, l, m, n),                     \
+        OCTET(FIX, o, p, q, r, s, t, u, v), OCTET(VAL, o, p, q, r, s, t, u, v)                      \
+    }
+
+static const struct row rows[] = {
+    /* Data transfers: pointers */
+    {"LPD P,M",  DIGITS(P,P,P,0,0,A,A,1, 1,0,0,0,1,0,M,M), POINTER,  NOTHING,         DOUBLEWORD,     CC_FREE,   load_doubleword,  NO_SOURCE, NULL, NULL},
+    {"LPDI P,I", DIGITS(P,P,P,1,0,0,0,1, 0,0,0,0,1,0,0,0), POINTER,  LPDI_BYTES,      NO_MEMORY,      CC_FREE,   load_immediate,   NO_SOURCE, NULL, NULL},
+    {"MOVP M,P", DIGITS(P,P,P,0,0,A,A,1, 1,0,0,1,1,0,M,M), POINTER,  NOTHING,         STORED_POINTER, CC_FREE,   save_pointer,     NO_SOURCE, NULL, NULL},
+    {"MOVP P,M", DIGITS(P,P,P,0,0,A,A,1, 1,0,0,0,1,1,M,M), POINTER,  NOTHING,         STORED_POINTER, CC_FREE,   restore_pointer,  NO_SOURCE, NULL, NULL},
+    /* Data transfers: data */
+    {"MOV M,M",  DIGITS(0,0,0,0,0,A,A,W, 1,0,0,1,0,0,M,M), FIXED,    SECOND_PAIR,     BY_W,           CC_FREE,   memory_to_memory, NO_SOURCE, NULL, NULL},
+    {"MOV R,M",  DIGITS(R,R,R,0,0,A,A,W, 1,0,0,0,0,0,M,M), REGISTER, NOTHING,         BY_W,           CC_FREE,   to_register,      FROM_M,    take, NULL},
+    {"MOV M,R",  DIGITS(R,R,R,0,0,A,A,W, 1,0,0,0,0,1,M,M), REGISTER, NOTHING,         BY_W,           CC_FREE,   to_memory,        FROM_R,    take, NULL},
+    {"MOVI R",   DIGITS(R,R,R,w,b,0,0,W, 0,0,1,1,0,0,0,0), REGISTER, WB_LITERAL,      NO_MEMORY,      CC_FREE,   to_register,      FROM_I,    take, NULL},
+    {"MOVI M",   DIGITS(0,0,0,w,b,A,A,W, 0,1,0,0,1,1,M,M), FIXED,    WB_LITERAL,      BY_W,           CC_FREE,   to_memory,        FROM_I,    take, NULL},
+    /* Control transfer; JMP is ADDI to TP, so its dd is a literal's and agrees with W */
+    {"CALL",     DIGITS(1,0,0,d,d,A,A,W, 1,0,0,1,1,1,M,M), FIXED,    DD_DISPLACEMENT, STORED_POINTER, CC_FREE,   call,             NO_SOURCE, NULL, NULL},
+    {"JMP",      DIGITS(1,0,0,d,d,0,0,W, 0,0,1,0,0,0,0,0), REGISTER, WB_LITERAL,      NO_MEMORY,      CC_FREE,   to_register,      FROM_I,    sum,  NULL},
+    {"JZ M",     DIGITS(0,0,0,d,d,A,A,W, 1,1,1,0,0,1,M,M), FIXED,    DD_DISPLACEMENT, BY_W,           CC_FREE,   jump_if,          FROM_M,    NULL, is_zero},
+    {"JZ R",     DIGITS(R,R,R,d,d,0,0,0, 0,1,0,0,0,1,0,0), REGISTER, DD_DISPLACEMENT, NO_MEMORY,      CC_BARRED, jump_if,          FROM_R,    NULL, is_zero},
+    {"JNZ M",    DIGITS(0,0,0,d,d,A,A,W, 1,1,1,0,0,0,M,M), FIXED,    DD_DISPLACEMENT, BY_W,           CC_FREE,   jump_if,          FROM_M,    NULL, is_not_zero},
+    {"JNZ R",    DIGITS(R,R,R,d,d,0,0,0, 0,1,0,0,0,0,0,0), REGISTER, DD_DISPLACEMENT, NO_MEMORY,      CC_BARRED, jump_if,          FROM_R,    NULL, is_not_zero},
+    {"JBT",      DIGITS(B,B,B,d,d,A,A,0, 1,0,1,1,1,1,M,M), BIT,      DD_DISPLACEMENT, BYTE,           CC_FREE,   jump_if,          FROM_M,    NULL, bit_true},
+    {"JNBT",     DIGITS(B,B,B,d,d,A,A,0, 1,0,1,1,1,0,M,M), BIT,      DD_DISPLACEMENT, BYTE,           CC_FREE,   jump_if,          FROM_M,    NULL, bit_not_true},
+    {"JMCE",     DIGITS(0,0,0,d,d,A,A,0, 1,0,1,1,0,0,M,M), FIXED,    DD_DISPLACEMENT, BYTE,           CC_FREE,   jump_if,          FROM_M,    NULL, compares_equal},
+    {"JMCNE",    DIGITS(0,0,0,d,d,A,A,0, 1,0,1,1,0,1,M,M), FIXED,    DD_DISPLACEMENT, BYTE,           CC_FREE,   jump_if,          FROM_M,    NULL, compares_not_equal},
+    /* Arithmetic and logic: increment, decrement */
+    {"INC M",    DIGITS(0,0,0,0,0,A,A,W, 1,1,1,0,1,0,M,M), FIXED,    NOTHING,         BY_W,           CC_FREE,   to_memory,        NO_SOURCE, one_more,    NULL},
+    {"INC R",    DIGITS(R,R,R,0,0,0,0,0, 0,0,1,1,1,0,0,0), REGISTER, NOTHING,         NO_MEMORY,      CC_BARRED, to_register,      NO_SOURCE, one_more,    NULL},
+    {"DEC M",    DIGITS(0,0,0,0,0,A,A,W, 1,1,1,0,1,1,M,M), FIXED,    NOTHING,         BY_W,           CC_FREE,   to_memory,        NO_SOURCE, one_less,    NULL},
+    {"DEC R",    DIGITS(R,R,R,0,0,0,0,0, 0,0,1,1,1,1,0,0), REGISTER, NOTHING,         NO_MEMORY,      CC_BARRED, to_register,      NO_SOURCE, one_less,    NULL},
+    /* ADD */
+    {"ADDI M,I", DIGITS(0,0,0,w,b,A,A,W, 1,1,0,0,0,0,M,M), FIXED,    WB_LITERAL,      BY_W,           CC_FREE,   to_memory,        FROM_I,    sum,         NULL},
+    {"ADDI R,I", DIGITS(R,R,R,w,b,0,0,W, 0,0,1,0,0,0,0,0), REGISTER, WB_LITERAL,      NO_MEMORY,      CC_BARRED, to_register,      FROM_I,    sum,         NULL},
+    {"ADD M,R",  DIGITS(R,R,R,0,0,A,A,W, 1,1,0,1,0,0,M,M), REGISTER, NOTHING,         BY_W,           CC_BARRED, to_memory,        FROM_R,    sum,         NULL},
+    {"ADD R,M",  DIGITS(R,R,R,0,0,A,A,W, 1,0,1,0,0,0,M,M), REGISTER, NOTHING,         BY_W,           CC_BARRED, to_register,      FROM_M,    sum,         NULL},
+    /* AND */
+    {"ANDI M,I", DIGITS(0,0,0,w,b,A,A,W, 1,1,0,0,1,0,M,M), FIXED,    WB_LITERAL,      BY_W,           CC_FREE,   to_memory,        FROM_I,    both,        NULL},
+    {"ANDI R,I", DIGITS(R,R,R,w,b,0,0,W, 0,0,1,0,1,0,0,0), REGISTER, WB_LITERAL,      NO_MEMORY,      CC_BARRED, to_register,      FROM_I,    both,        NULL},
+    {"AND M,R",  DIGITS(R,R,R,0,0,A,A,W, 1,1,0,1,1,0,M,M), REGISTER, NOTHING,         BY_W,           CC_BARRED, to_memory,        FROM_R,    both,        NULL},
+    {"AND R,M",  DIGITS(R,R,R,0,0,A,A,W, 1,0,1,0,1,0,M,M), REGISTER, NOTHING,         BY_W,           CC_BARRED, to_register,      FROM_M,    both,        NULL},
+    /* OR; the data sheet prints A A in ORI R,I where its sister rows print 0 0, and 0 0 is how it is read */
+    {"ORI M,I",  DIGITS(0,0,0,w,b,A,A,W, 1,1,0,0,0,1,M,M), FIXED,    WB_LITERAL,      BY_W,           CC_FREE,   to_memory,        FROM_I,    either,      NULL},
+    {"ORI R,I",  DIGITS(R,R,R,w,b,0,0,W, 0,0,1,0,0,1,0,0), REGISTER, WB_LITERAL,      NO_MEMORY,      CC_BARRED, to_register,      FROM_I,    either,      NULL},
+    {"OR M,R",   DIGITS(R,R,R,0,0,A,A,W, 1,1,0,1,0,1,M,M), REGISTER, NOTHING,         BY_W,           CC_BARRED, to_memory,        FROM_R,    either,      NULL},
+    {"OR R,M",   DIGITS(R,R,R,0,0,A,A,W, 1,0,1,0,0,1,M,M), REGISTER, NOTHING,         BY_W,           CC_BARRED, to_register,      FROM_M,    either,      NULL},
+    /* NOT; the scan drops one 0 in each of these rows */
+    {"NOT R",    DIGITS(R,R,R,0,0,0,0,0, 0,0,1,0,1,1,0,0), REGISTER, NOTHING,         NO_MEMORY,      CC_BARRED, to_register,      NO_SOURCE, not_old,     NULL},
+    {"NOT M",    DIGITS(0,0,0,0,0,A,A,W, 1,1,0,1,1,1,M,M), FIXED,    NOTHING,         BY_W,           CC_FREE,   to_memory,        NO_SOURCE, not_old,     NULL},
+    {"NOT R,M",  DIGITS(R,R,R,0,0,A,A,W, 1,0,1,0,1,1,M,M), REGISTER, NOTHING,         BY_W,           CC_BARRED, to_register,      FROM_M,    not_operand, NULL},
+    /* Bit manipulation and test */
+    {"SETB",     DIGITS(B,B,B,0,0,A,A,0, 1,1,1,1,0,1,M,M), BIT,      NOTHING,         BYTE,           CC_FREE,   to_memory,        FROM_BIT,  either,      NULL},
+    {"CLR",      DIGITS(B,B,B,0,0,A,A,0, 1,1,1,1,1,0,M,M), BIT,      NOTHING,         BYTE,           CC_FREE,   to_memory,        FROM_BIT,  without,     NULL},
+    {"TSL",      DIGITS(0,0,0,1,1,A,A,0, 1,0,0,1,0,1,M,M), FIXED,    TSL_BYTES,       BYTE,           CC_FREE,   test_and_set,     NO_SOURCE, NULL, NULL},
+    /* Control; the scan adds a 0 in some of these rows */
+    {"HLT",      DIGITS(0,0,1,0,0,0,0,0, 0,1,0,0,1,0,0,0), FIXED,    NOTHING,         NO_MEMORY,      CC_FREE,   do_hlt,           NO_SOURCE, NULL, NULL},
+    {"SINTR",    DIGITS(0,1,0,0,0,0,0,0, 0,0,0,0,0,0,0,0), FIXED,    NOTHING,         NO_MEMORY,      CC_FREE,   do_sintr,         NO_SOURCE, NULL, NULL},
+    {"NOP",      DIGITS(0,0,0,0,0,0,0,0, 0,0,0,0,0,0,0,0), FIXED,    NOTHING,         NO_MEMORY,      CC_FREE,   do_nop,           NO_SOURCE, NULL, NULL},
+    {"XFER",     DIGITS(0,1,1,0,0,0,0,0, 0,0,0,0,0,0,0,0), FIXED,    NOTHING,         NO_MEMORY,      CC_FREE,   do_xfer,          NO_SOURCE, NULL, NULL},
+    {"WID",      DIGITS(1,S,D,0,0,0,0,0, 0,0,0,0,0,0,0,0), WIDTHS,   NOTHING,         NO_MEMORY,      CC_FREE,   do_wid,           NO_SOURCE, NULL, NULL},
+};
+
+/* The destination's pair of MOV M,M, which is no instruction of its own. */
+static const struct digits second_pair = DIGITS(0,0,0,0,0,A,A,W, 1,1,0,0,1,1,M,M);
+
+_Static_assert(sizeof rows / sizeof rows[0] == EMU_ROWS, "the public count of rows");
+
+/* ---- Instructions: reading one into its shape ---- */
+
+/* Whether a pair has the printed digits. */
+static bool has_digits(const struct digits *d, uint8_t first, uint8_t second)
+{
+    return (first & d->mask1) == d->value1 && (second & d->mask2) == d->value2;
+}
+
+/* Whether PPP is a pointer, and dd or wb is one of its printed values, a literal's agreeing with W. */
+static bool fields_agree(const struct row *row, uint8_t first)
+{
+    unsigned rrr = first >> 5, dd = first >> 3 & 3u, width = first & 1u;
+    if (row->field == POINTER && rrr != 0 && rrr != 1 && rrr != 2 && rrr != RRR_TP) return false;
+    if (row->follow == DD_DISPLACEMENT) return dd == 1 || dd == 2;
+    if (row->follow == WB_LITERAL) return dd == width + 1;
+    return true;
+}
+
+/* Whether a first pair is this row. */
+static bool fits(const struct row *row, uint8_t first, uint8_t second)
+{
+    return has_digits(&row->digits, first, second) && fields_agree(row, first);
+}
+
+/* Refusal 4 for a pair that is this row. */
+static bool uses_cc(const struct row *row, uint8_t first)
+{
+    return row->cc == CC_BARRED && first >> 5 == RRR_CC;
+}
+
+unsigned emu_row_of(uint8_t first, uint8_t second)
+{
+    unsigned i = 0;
+    while (i < EMU_ROWS && !fits(&rows[i], first, second)) i++;
+    return i;
+}
+
+unsigned emu_rows_fitting(uint8_t first, uint8_t second)
+{
+    unsigned count = 0;
+    for (unsigned i = 0; i < EMU_ROWS; i++) count += fits(&rows[i], first, second);
+    return count;
+}
+
+const char *emu_row_name(unsigned row)
+{
+    return row < EMU_ROWS ? rows[row].name : "3";
+}
+
+const char *emu_format_name(uint8_t first, uint8_t second)
+{
+    unsigned row = emu_row_of(first, second);
+    if (row < EMU_ROWS && uses_cc(&rows[row], first)) return "4";
+    return emu_row_name(row);
+}
+
+/* Takes the instruction's next byte. */
+static uint8_t next_byte(struct work *w, struct instruction *in)
+{
+    uint8_t byte = (uint8_t)read_bytes(w, in->end, 1);
+    in->end = plus(in->end, 1);
+    return byte;
+}
+
+/* Takes the instruction's next n bytes, low byte first. */
+static uint32_t next_bytes(struct work *w, struct instruction *in, unsigned n)
+{
+    uint32_t value = 0;
+    for (unsigned i = 0; i < n; i++) value |= (uint32_t)next_byte(w, in) << (8 * i);
+    return value;
+}
+
+/* Takes a literal or displacement of n bytes. */
+static uint32_t next_signed(struct work *w, struct instruction *in, unsigned n)
+{
+    return sign_extend(next_bytes(w, in, n), n);
+}
+
+/* Takes AA and MM from a pair. */
+static struct place place_of(uint8_t first, uint8_t second)
+{
+    struct place p = {first >> 1 & 3u, second & 3u, 0};
+    return p;
+}
+
+/* Takes the offset byte that AA 01 announces. */
+static void take_offset(struct work *w, struct instruction *in, struct place *p)
+{
+    if (p->aa == 1) p->offset = next_byte(w, in);
+}
+
+/* Takes the second pair of MOV M,M and its offset byte; both bytes must be lent before either is judged. */
+static void take_second_pair(struct work *w, struct instruction *in)
+{
+    uint8_t first = next_byte(w, in);
+    uint8_t second = next_byte(w, in);
+    if (!has_digits(&second_pair, first, second) || (first & 1u) + 1 != in->bytes) refuse(w, EMU_NO_INSTRUCTION);
+    if (w->number != EMU_DONE) return;
+    in->second = place_of(first, second);
+    take_offset(w, in, &in->second);
+}
+
+/* Takes what stands behind pair and offset byte. */
+static void take_following(struct work *w, struct instruction *in, unsigned dd)
+{
+    switch (in->row->follow) {
+    case WB_LITERAL: in->data = next_signed(w, in, dd); break;
+    case DD_DISPLACEMENT: in->displacement = next_signed(w, in, dd); break;
+    case LPDI_BYTES: in->data = next_bytes(w, in, 4); break;
+    case TSL_BYTES:
+        in->data = next_byte(w, in);
+        in->displacement = next_signed(w, in, 1);
+        break;
+    case SECOND_PAIR: take_second_pair(w, in); break;
+    default: break;
+    }
+}
+
+/* Takes the first pair and finds its row; without one there is nothing more to read. */
+static bool take_first_pair(struct work *w, struct instruction *in, uint8_t *first)
+{
+    *first = next_byte(w, in);
+    uint8_t second = next_byte(w, in);
+    if (w->number != EMU_DONE) return false;
+    unsigned row = emu_row_of(*first, second);
+    if (row == EMU_NO_ROW) {
+        refuse(w, EMU_NO_INSTRUCTION);
+        return false;
+    }
+    in->row = &rows[row];
+    if (uses_cc(in->row, *first)) refuse(w, EMU_CC_USED);
+    in->place = place_of(*first, second);
+    return w->number == EMU_DONE;
+}
+
+/* Reads the instruction at TP into its shape, or refuses it. */
+static void read_instruction(struct work *w, struct instruction *in)
+{
+    uint8_t first = 0;
+    memset(in, 0, sizeof *in);
+    in->end = w->ch->tp;
+    if (!take_first_pair(w, in, &first)) return;
+    in->rrr = first >> 5;
+    in->bytes = in->row->length == BY_W ? (first & 1u) + 1 : (unsigned)in->row->length;
+    if (in->row->length != NO_MEMORY) take_offset(w, in, &in->place);
+    take_following(w, in, first >> 3 & 3u);
+}
+
+/* Counts a done instruction. */
+static void count_instruction(const struct work *w, const struct instruction *in)
+{
+    if (emu_coverage == NULL || w->number != EMU_DONE) return;
+    emu_coverage->row[in->row - rows]++;
+    if (w->jumped) emu_coverage->taken[in->row - rows]++;
+}
+
+/* One instruction; a mark from before it, unless it halts, becomes XF behind it. */
+static void instruction_step(struct work *w)
+{
+    struct instruction in;
+    bool was_armed = w->ch->armed;
+    read_instruction(w, &in);
+    if (w->number != EMU_DONE) return;
+    w->ch->tp = in.end;
+    in.row->act(w, &in);
+    if (was_armed && w->ch->mode == EMU_RUNNING) {
+        w->ch->psw |= EMU_PSW_XF;
+        w->ch->armed = false;
+    }
+    count_instruction(w, &in);
+}
+
+/* ---- Transfers ---- */
+
+/* The fields of CC, each named as the paper names it; bit 9 is LOCK, which is left out. */
+static bool cc_destination_moves(uint16_t cc) { return (cc >> 15 & 1u) != 0; }
+static bool cc_source_moves(uint16_t cc) { return (cc >> 14 & 1u) != 0; }
+static bool cc_translate(uint16_t cc) { return (cc >> 13 & 1u) != 0; }
+static unsigned cc_syn(uint16_t cc) { return cc >> 11 & 3u; }
+static bool cc_source_is_gb(uint16_t cc) { return (cc >> 10 & 1u) != 0; }
+static bool cc_chained(uint16_t cc) { return (cc >> 8 & 1u) != 0; }
+static bool cc_ts(uint16_t cc) { return (cc >> 7 & 1u) != 0; }
+static unsigned cc_tx(uint16_t cc) { return cc >> 5 & 3u; }
+static unsigned cc_tbc(uint16_t cc) { return cc >> 3 & 3u; }
+static bool cc_ends_on_no_match(uint16_t cc) { return (cc >> 2 & 1u) != 0; }
+static unsigned cc_tmc(uint16_t cc) { return cc & 3u; }
+
+/* What an end code that is on (01, 10, 11) adds to TP. */
+static unsigned end_offset(unsigned code)
+{
+    return (code - 1) * 4;
+}
+
+/* One side of a transfer. */
+struct side {
+    struct emu_pointer *pointer;
+    bool word, moves;
+};
+
+/* A side is a word side if it is 16 bits wide and its pointer is even. */
+static struct side make_side(struct emu_pointer *pointer, bool wide, bool moves)
+{
+    struct side s = {pointer, wide && (pointer->address & 1u) == 0, moves};
+    return s;
+}
+
+/* Where a side's second byte lies. */
+static struct emu_pointer second_place(const struct side *s)
+{
+    return s->word || s->moves ? plus(*s->pointer, 1) : *s->pointer;
+}
+
+/* Whether storing this byte ends the transfer by TMC. */
+static bool meets_tmc(const struct emu_channel *ch, uint32_t byte)
+{
+    return cc_tmc(ch->cc) != 0 && matches(ch->mc, byte) != cc_ends_on_no_match(ch->cc);
+}
+
+/* Refusal 5. */
+static bool bad_transfer(const struct emu_channel *ch)
+{
+    bool some_wide = (ch->psw & (EMU_PSW_S | EMU_PSW_D)) != 0;
+    return cc_syn(ch->cc) == 3 || (cc_translate(ch->cc) && some_wide);
+}
+
+/* Fetches the byte or the two bytes that are to be stored, low byte first. */
+static uint32_t fetch(struct work *w, const struct side *source, bool two)
+{
+    uint32_t data = read_bytes(w, *source->pointer, 1);
+    if (two) data |= read_bytes(w, second_place(source), 1) << 8;
+    if (!cc_translate(w->ch->cc)) return data;
+    w->translated = true;
+    return read_bytes(w, plus(w->ch->gc, data & MASK8), 1);
+}
+
+/* Stores singly: a first byte that meets TMC keeps the second from being stored or tested. */
+static unsigned store_singly(struct work *w, const struct side *destination, uint32_t data, bool two)
+{
+    uint32_t low = data & MASK8, high = data >> 8 & MASK8;
+    bool low_meets = meets_tmc(w->ch, low);
+    write_bytes(w, *destination->pointer, low, 1);
+    if (low_meets) w->ends |= EMU_END_TMC;
+    if (!two || low_meets) return 1;
+    write_bytes(w, second_place(destination), high, 1);
+    if (meets_tmc(w->ch, high)) w->ends |= EMU_END_TMC;
+    return 2;
+}
+
+/* Stores a word, of which only the low byte is looked at for a match. */
+static unsigned store_word(struct work *w, const struct side *destination, uint32_t data)
+{
+    write_bytes(w, *destination->pointer, data, 2);
+    if (meets_tmc(w->ch, data & MASK8)) w->ends |= EMU_END_TMC;
+    return 2;
+}
+
+/* Moves the pointers of moving sides on. */
+static void move_on(const struct side *s, unsigned bytes)
+{
+    if (s->moves) *s->pointer = plus(*s->pointer, bytes);
+}
+
+/* Of several ends the largest offset counts. */
+static void consider_end(struct work *w, unsigned end, unsigned offset)
+{
+    w->ends |= end;
+    if (offset > w->end_offset) w->end_offset = offset;
+}
+
+/* Ends the transfer if one of its reasons holds now, behind the move. */
+static void end_if_due(struct work *w)
+{
+    struct emu_channel *ch = w->ch;
+    if ((w->ends & EMU_END_TMC) != 0) consider_end(w, EMU_END_TMC, end_offset(cc_tmc(ch->cc)));
+    if (cc_tbc(ch->cc) != 0 && ch->bc == 0) consider_end(w, EMU_END_TBC, end_offset(cc_tbc(ch->cc)));
+    if (cc_ts(ch->cc)) consider_end(w, EMU_END_TS, 0);
+    if (w->ends == 0) return;
+    ch->psw &= (uint8_t)~EMU_PSW_XF;
+    ch->tp = plus(ch->tp, w->end_offset);
+}
+
+/* Names the way in which the bytes moved, for the counters. */
+static unsigned shape_of(const struct side *source, const struct side *destination, bool two, unsigned stored)
+{
+    if (!two) return EMU_SHAPE_B_B;
+    if (stored == 1) return EMU_SHAPE_W_B_CUT;
+    if (!destination->word) return EMU_SHAPE_W_BB;
+    return source->word ? EMU_SHAPE_W_W : EMU_SHAPE_BB_W;
+}
+
+/* Counts a done transfer step. */
+static void count_transfer(const struct work *w)
+{
+    if (emu_coverage == NULL || w->number != EMU_DONE) return;
+    emu_coverage->shape[w->shape]++;
+    emu_coverage->end[w->ends]++;
+    if (w->translated) emu_coverage->translated++;
+    if (w->ends != 0) emu_coverage->end_offset[w->end_offset / 4]++;
+}
+
+/* The side that is read from: GB or GA, as CC says. */
+static struct side source_side(struct emu_channel *ch)
+{
+    struct emu_pointer *pointer = cc_source_is_gb(ch->cc) ? &ch->gb : &ch->ga;
+    return make_side(pointer, (ch->psw & EMU_PSW_S) != 0, cc_source_moves(ch->cc));
+}
+
+/* The side that is stored to: the other one. */
+static struct side destination_side(struct emu_channel *ch)
+{
+    struct emu_pointer *pointer = cc_source_is_gb(ch->cc) ? &ch->ga : &ch->gb;
+    return make_side(pointer, (ch->psw & EMU_PSW_D) != 0, cc_destination_moves(ch->cc));
+}
+
+/* One transfer step; with one byte left to count, a word must not run past the count. */
+static void transfer_step(struct work *w)
+{
+    struct emu_channel *ch = w->ch;
+    if (bad_transfer(ch)) {
+        refuse(w, EMU_BAD_TRANSFER);
+        return;
+    }
+    struct side source = source_side(ch), destination = destination_side(ch);
+    bool one_left = cc_tbc(ch->cc) != 0 && ch->bc == 1;
+    bool two = (source.word || destination.word) && !one_left;
+    uint32_t data = fetch(w, &source, two);
+    unsigned stored = two && destination.word ? store_word(w, &destination, data)
+                                              : store_singly(w, &destination, data, two);
+    w->shape = shape_of(&source, &destination, two, stored);
+    move_on(&source, stored);
+    move_on(&destination, stored);
+    ch->bc = (uint16_t)(ch->bc - stored);
+    end_if_due(w);
+    count_transfer(w);
+}
+
+/* ---- Which channel steps ---- */
+
+/* The lines' bits for channel 1; channel 2 has the next bit up. */
+enum line { LINE_DRQ = 1, LINE_EXT = 4 };
+
+/* Ranks, of which the lower goes first. */
+enum rank { RANK_FIRST = 1, RANK_PLAIN = 3, RANK_NONE = 9 };
+
+/* Whether one of a channel's lines is up. */
+static bool line_up(uint32_t lines, enum line line, unsigned channel)
+{
+    return (lines & (uint32_t)line << (channel - 1)) != 0;
+}
+
+/* Whether a channel is in a transfer. */
+static bool transferring(const struct emu_channel *ch)
+{
+    return (ch->psw & EMU_PSW_XF) != 0;
+}
+
+/* Whether a channel's transfer is to be ended from outside. */
+static bool externally_ended(const struct emu_state *state, unsigned channel, uint32_t lines)
+{
+    const struct emu_channel *ch = &state->channel[channel - 1];
+    return ch->mode == EMU_RUNNING && transferring(ch) && cc_tx(ch->cc) != 0 && line_up(lines, LINE_EXT, channel);
+}
+
+/* A channel's rank; a transfer with SYN 11 does not wait, so that it can be refused. */
+static enum rank rank_of(const struct emu_state *state, unsigned channel, uint32_t lines)
+{
+    const struct emu_channel *ch = &state->channel[channel - 1];
+    if (ch->mode != EMU_RUNNING) return RANK_NONE;
+    if (!transferring(ch)) return cc_chained(ch->cc) ? RANK_FIRST : RANK_PLAIN;
+    bool waits = cc_syn(ch->cc) == 1 || cc_syn(ch->cc) == 2;
+    return !waits || line_up(lines, LINE_DRQ, channel) ? RANK_FIRST : RANK_NONE;
+}
+
+/* The channel that goes when neither is ended from outside, or 0: rank, then priority, then taking turns. */
+static unsigned choose(const struct emu_state *state, uint32_t lines)
+{
+    enum rank rank1 = rank_of(state, 1, lines), rank2 = rank_of(state, 2, lines);
+    unsigned priority1 = state->channel[0].psw & EMU_PSW_PRIORITY;
+    unsigned priority2 = state->channel[1].psw & EMU_PSW_PRIORITY;
+    if (rank1 == RANK_NONE && rank2 == RANK_NONE) return 0;
+    if (rank1 != rank2) return rank1 < rank2 ? 1 : 2;
+    if (priority1 != priority2) return priority1 > priority2 ? 1 : 2;
+    return state->last == 1 ? 2 : 1;
+}
+
+/* An external end: TP gains the TX offset and no byte moves. */
+static void external_step(struct work *w)
+{
+    unsigned offset = end_offset(cc_tx(w->ch->cc));
+    w->ch->tp = plus(w->ch->tp, offset);
+    w->ch->psw &= (uint8_t)~EMU_PSW_XF;
+    if (emu_coverage != NULL) emu_coverage->external[offset / 4]++;
+}
+
+/* Does the step that a channel has before it, and answers its number. */
+static unsigned do_step(struct emu_state *state, const struct emu_memory *memory, unsigned channel, char kind)
+{
+    struct work w;
+    begin(&w, state, memory, channel);
+    w.state.last = channel;
+    if (kind == 'X') external_step(&w);
+    else if (kind == 'T') transfer_step(&w);
+    else instruction_step(&w);
+    return finish(&w, state);
+}
+
+/* A step whose lines, buffers and state passed. */
+static struct emu_stepped step_soundly(struct emu_state *state, const struct emu_memory *memory, uint32_t lines)
+{
+    struct emu_stepped refused = {EMU_NO_CHANNEL_CAN_RUN, 0, 0}, done = {EMU_DONE, 0, 'X'};
+    if (externally_ended(state, 1, lines)) done.channel = 1;
+    else if (externally_ended(state, 2, lines)) done.channel = 2;
+    else {
+        done.channel = choose(state, lines);
+        if (done.channel == 0) return refused;
+        done.kind = transferring(&state->channel[done.channel - 1]) ? 'T' : 'I';
+    }
+    refused.number = do_step(state, memory, done.channel, done.kind);
+    return refused.number == EMU_DONE ? done : refused;
+}
+
+struct emu_stepped emu_step(struct emu_state *state, struct emu_memory *memory, uint32_t lines)
+{
+    struct emu_stepped stepped = {early_refusal(lines <= 15, memory, state), 0, 0};
+    if (stepped.number == EMU_DONE) stepped = step_soundly(state, memory, lines);
+    if (emu_coverage != NULL && stepped.number != EMU_DONE) emu_coverage->step_refused[stepped.number]++;
+    return stepped;
+}
+
+/* ---- The panel's side ---- */
+
+/* The panel's answer. */
+static uint32_t answer(unsigned number, uint32_t steps)
+{
+    return (uint32_t)number * 65536u + steps;
+}
+
+/* A fresh state and one attention, with which every run begins. */
+static unsigned set_going(struct emu_state *state, struct emu_memory *memory, uint32_t cp, uint32_t channel)
+{
+    unsigned number = emu_fresh(cp, state);
+    return number != EMU_DONE ? number : emu_attention(state, memory, channel);
+}
+
+uint32_t emu_run(struct emu_memory *memory, uint32_t cp, uint32_t channel, uint32_t lines, uint32_t limit)
+{
+    struct emu_state state;
+    uint32_t steps = 0;
+    if ((channel != 1 && channel != 2) || lines > 15 || limit > 65535) return answer(EMU_BAD_ARGUMENT, 0);
+    if (!buffers_fit(memory)) return answer(EMU_BAD_BUFFER, 0);
+    unsigned number = set_going(&state, memory, cp, channel);
+    while (number == EMU_DONE && steps < limit) {
+        number = emu_step(&state, memory, lines).number;
+        if (number == EMU_DONE) steps++;
+    }
+    return answer(number, steps);
+}
+
+/* Prints one done step. */
+static void print_step(FILE *out, unsigned long count, struct emu_stepped stepped, const struct emu_state *state)
+{
+    uint32_t tp = state->channel[stepped.channel - 1].tp.address;
+    fprintf(out, "%lu %u %c %05lX\n", count, stepped.channel, stepped.kind, (unsigned long)tp);
+}
+
+void emu_panel(const uint8_t *input, size_t length, FILE *out)
+{
+    static uint8_t sys[4096], io[256];
+    struct emu_memory memory = {sys, length, io, sizeof io};
+    struct emu_state state;
+    unsigned long steps = 0;
+    if (length > sizeof sys) {
+        fprintf(out, "end %u 0\n", (unsigned)EMU_BAD_BUFFER);
+        return;
+    }
+    if (length > 0) memcpy(sys, input, length);
+    memset(io, 0, sizeof io);
+    unsigned number = set_going(&state, &memory, 0, 1);
+    while (number == EMU_DONE && steps < 1000) {
+        struct emu_stepped stepped = emu_step(&state, &memory, 0);
+        number = stepped.number;
+        if (number == EMU_DONE) print_step(out, ++steps, stepped, &state);
+    }
+    fprintf(out, "end %u %lu\n", number, steps);
+}
+
+/* ---- Comparing states ---- */
+
+/* Whether two pointers agree. */
+static bool same_pointer(struct emu_pointer a, struct emu_pointer b)
+{
+    return a.address == b.address && a.tag == b.tag;
+}
+
+/* Whether two channels agree. */
+static bool same_channel(const struct emu_channel *a, const struct emu_channel *b)
+{
+    return same_pointer(a->ga, b->ga) && same_pointer(a->gb, b->gb) && same_pointer(a->gc, b->gc) &&
+           same_pointer(a->tp, b->tp) && a->pp == b->pp && a->bc == b->bc && a->ix == b->ix && a->cc == b->cc &&
+           a->mc == b->mc && a->psw == b->psw && a->mode == b->mode && a->armed == b->armed;
+}
+
+bool emu_same_state(const struct emu_state *a, const struct emu_state *b)
+{
+    return same_channel(&a->channel[0], &b->channel[0]) && same_channel(&a->channel[1], &b->channel[1]) &&
+           a->cp == b->cp && a->last == b->last;
+}

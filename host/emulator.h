@@ -1,0 +1,150 @@
+/* The public face of a plain-C emulator of the 8089 I/O processor, written from the documents alone. */
+#ifndef EMULATOR_H
+#define EMULATOR_H
+
+#include <stdbool.h>
+#include <stddef.h>
+#include <stdint.h>
+#include <stdio.h>
+
+/* Lent system memory may hold this many bytes; addresses in it have 20 bits. */
+#define EMU_SYSTEM_LIMIT 1048576u
+/* Lent I/O memory may hold this many bytes; addresses in it have 16 bits. */
+#define EMU_IO_LIMIT 65536u
+/* The rows of the data sheet's instruction summary, without the second pair of MOV M,M. */
+#define EMU_ROWS 46
+/* What emu_row_of answers for a pair that is no row. */
+#define EMU_NO_ROW EMU_ROWS
+
+/* The numbers handed back; 0 alone means that something was done. */
+enum emu_number {
+    EMU_DONE = 0,
+    EMU_NO_CHANNEL_CAN_RUN = 1,
+    EMU_BEYOND_LENT_MEMORY = 2,
+    EMU_NO_INSTRUCTION = 3,
+    EMU_CC_USED = 4,
+    EMU_BAD_TRANSFER = 5,
+    EMU_BAD_COMMAND = 6,
+    EMU_NOT_SUSPENDED = 7,
+    EMU_ALREADY_RUNNING = 8,
+    EMU_NOT_RUNNING = 9,
+    EMU_BAD_POINTER = 10,
+    EMU_BAD_BUFFER = 11,
+    EMU_BAD_ARGUMENT = 12,
+    EMU_NUMBERS = 13
+};
+
+/* Bits of the PSW. */
+enum emu_psw {
+    EMU_PSW_D = 0x01,
+    EMU_PSW_S = 0x02,
+    EMU_PSW_TB = 0x04,
+    EMU_PSW_IC = 0x08,
+    EMU_PSW_IS = 0x10,
+    EMU_PSW_LOAD_LIMIT = 0x20,
+    EMU_PSW_XF = 0x40,
+    EMU_PSW_PRIORITY = 0x80
+};
+
+/* Where a channel stands between attentions. */
+enum emu_mode { EMU_IDLE = 0, EMU_RUNNING = 1, EMU_SUSPENDED = 2 };
+
+/* A 20-bit address with its tag: 0 system, 1 I/O. */
+struct emu_pointer {
+    uint32_t address;
+    bool tag;
+};
+
+/* One channel's registers and marks; PP has no tag since it is always system. */
+struct emu_channel {
+    struct emu_pointer ga, gb, gc, tp;
+    uint32_t pp;
+    uint16_t bc, ix, cc, mc;
+    uint8_t psw;
+    enum emu_mode mode;
+    bool armed;
+};
+
+/* Both channels, the control block's address and the channel that stepped last (1 or 2). */
+struct emu_state {
+    struct emu_channel channel[2];
+    uint32_t cp;
+    unsigned last;
+};
+
+/* The two lent buffers; both start at address 0 of their space. */
+struct emu_memory {
+    uint8_t *sys;
+    size_t sys_len;
+    uint8_t *io;
+    size_t io_len;
+};
+
+/* What a step did: its number, and for a done step the channel and I, T or X (both 0 if refused). */
+struct emu_stepped {
+    unsigned number;
+    unsigned channel;
+    char kind;
+};
+
+/* Ways in which the bytes of one transfer step moved; the last is two bytes of which one was stored. */
+enum emu_shape {
+    EMU_SHAPE_B_B,
+    EMU_SHAPE_BB_W,
+    EMU_SHAPE_W_BB,
+    EMU_SHAPE_W_W,
+    EMU_SHAPE_W_B_CUT,
+    EMU_SHAPES
+};
+
+/* Reasons for which a transfer step ended its transfer; they can meet, so they add up. */
+enum emu_end { EMU_END_TMC = 1, EMU_END_TBC = 2, EMU_END_TS = 4, EMU_END_SETS = 8 };
+
+/* Counters that a comparison program may lend, to see what its calls reached. */
+struct emu_coverage {
+    unsigned long attention[8];             /* accepted, by command */
+    unsigned long attention_refused[EMU_NUMBERS];
+    unsigned long row[EMU_ROWS];            /* carried out, by row */
+    unsigned long taken[EMU_ROWS];          /* of these, jumps that were taken */
+    unsigned long shape[EMU_SHAPES];        /* done transfer steps, by shape */
+    unsigned long translated;               /* done transfer steps with translation */
+    unsigned long end[EMU_END_SETS];        /* done transfer steps, by the set of ends (0: goes on) */
+    unsigned long end_offset[3];            /* ended ones, by offset 0, 4, 8 */
+    unsigned long external[3];              /* external ends, by offset 0, 4, 8 */
+    unsigned long step_refused[EMU_NUMBERS];
+};
+
+/* The lent counters, or NULL for none. */
+extern struct emu_coverage *emu_coverage;
+
+/* Makes the fresh state for CP; answers 10, with the state for CP 0, where CP has more than 20 bits. */
+unsigned emu_fresh(uint32_t cp, struct emu_state *out);
+
+/* Gives a channel one attention. */
+unsigned emu_attention(struct emu_state *state, struct emu_memory *memory, uint32_t channel);
+
+/* Does one step under the given lines. */
+struct emu_stepped emu_step(struct emu_state *state, struct emu_memory *memory, uint32_t lines);
+
+/* The panel's call: fresh state, one attention, steps; answers number x 65,536 + steps done. */
+uint32_t emu_run(struct emu_memory *memory, uint32_t cp, uint32_t channel, uint32_t lines, uint32_t limit);
+
+/* The panel's program: prints the trace for these bytes of standard input. */
+void emu_panel(const uint8_t *input, size_t length, FILE *out);
+
+/* The name of the row that an instruction's first pair is, or "3" or "4" where it is refused. */
+const char *emu_format_name(uint8_t first, uint8_t second);
+
+/* The row that a first pair is, whether or not CC is then refused, or EMU_NO_ROW. */
+unsigned emu_row_of(uint8_t first, uint8_t second);
+
+/* How many rows a first pair fits: 0, 1, or 2 for JMP, which is ADDI to TP. */
+unsigned emu_rows_fitting(uint8_t first, uint8_t second);
+
+/* The name of a row. */
+const char *emu_row_name(unsigned row);
+
+/* Whether two states agree in every field (padding left aside). */
+bool emu_same_state(const struct emu_state *a, const struct emu_state *b);
+
+#endif

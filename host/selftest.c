@@ -1,0 +1,2969 @@
+/* Hand-thought cases for the emulator: the paper's twelve, its example, the decoder's counts, and every reading. */
+#include "emulator.h"
+
+#include <stdlib.h>
+#include <string.h>
+
+#define MIB EMU_SYSTEM_LIMIT
+
+/* A state with both memories at their full size, of which a case lends what it likes. */
+struct rig {
+    struct emu_state s;
+    struct emu_memory m;
+    uint8_t sys[MIB];
+    uint8_t io[EMU_IO_LIMIT];
+};
+
+/* What is, and what a case wants it to be after the call. */
+static struct rig now, want;
+static unsigned long checks, failures;
+
+/* Channel 1 and 2 as they are and as wanted. */
+#define N now.s.channel[0]
+#define N2 now.s.channel[1]
+#define W want.s.channel[0]
+#define W2 want.s.channel[1]
+#define CHECK(condition) check((condition), #condition, __LINE__)
+#define DONE(kind) done((kind), 1, 0, __LINE__)
+#define DONE_ON(kind, channel, lines) done((kind), (channel), (lines), __LINE__)
+#define REFUSED(number) refused((number), 0, __LINE__)
+#define REFUSED_ON(number, lines) refused((number), (lines), __LINE__)
+#define ATTEND(channel) attend((channel), 0, __LINE__)
+#define ATTEND_REFUSED(channel, number) attend((channel), (number), __LINE__)
+
+/* Counts a check and shows one that fails. */
+static void check(bool good, const char *what, int line)
+{
+    checks++;
+    if (good) return;
+    failures++;
+    printf("line %d: not so: %s\n", line, what);
+}
+
+/* ---- The rig ---- */
+
+/* Channel 1 runs at 100h in system space; both memories are full and hold bytes that are not 0. */
+static void reset(void)
+{
+    memset(now.sys, 0xA5, sizeof now.sys);
+    memset(now.io, 0x5A, sizeof now.io);
+    now.m = (struct emu_memory){now.sys, MIB, now.io, EMU_IO_LIMIT};
+    emu_fresh(0x40, &now.s);
+    N.mode = EMU_RUNNING;
+    N.psw = EMU_PSW_TB;
+    N.tp.address = 0x100;
+    N.pp = 0x400;
+    N.ga.address = 0x1000;
+    N.gb.address = 0x2000;
+    N.gc.address = 0x3000;
+}
+
+/* Puts bytes, written in hex, at an address of one memory, wrapping; answers how many. */
+static unsigned put(uint8_t *memory, size_t size, uint32_t at, const char *hex)
+{
+    unsigned n = 0;
+    char *next;
+    for (unsigned long byte = strtoul(hex, &next, 16); next != hex; byte = strtoul(hex, &next, 16)) {
+        memory[(at + n++) % size] = (uint8_t)byte;
+        hex = next;
+    }
+    return n;
+}
+
+/* Bytes that are there before the call, by space. */
+static unsigned sys(uint32_t at, const char *hex) { return put(now.sys, MIB, at, hex); }
+static unsigned io(uint32_t at, const char *hex) { return put(now.io, EMU_IO_LIMIT, at, hex); }
+
+/* Bytes that are wanted after the call, by space. */
+static void want_sys(uint32_t at, const char *hex) { put(want.sys, MIB, at, hex); }
+static void want_io(uint32_t at, const char *hex) { put(want.io, EMU_IO_LIMIT, at, hex); }
+
+/* Wants nothing to change. */
+static void want_same(void)
+{
+    memcpy(&want, &now, sizeof want);
+}
+
+/* Puts an instruction at channel 1's TP and wants nothing but TP past it. */
+static void code(const char *hex)
+{
+    unsigned n = N.tp.tag ? io(N.tp.address & 0xFFFF, hex) : sys(N.tp.address, hex);
+    want_same();
+    W.tp.address = (W.tp.address + n) & 0xFFFFF;
+    want.s.last = 1;
+}
+
+/* Whether state and every byte of both memories are as wanted. */
+static void check_all(int line)
+{
+    check(emu_same_state(&now.s, &want.s), "state as wanted", line);
+    check(memcmp(now.sys, want.sys, sizeof now.sys) == 0, "system memory as wanted", line);
+    check(memcmp(now.io, want.io, sizeof now.io) == 0, "I/O memory as wanted", line);
+}
+
+/* Steps and wants it done so. */
+static void done(char kind, unsigned channel, uint32_t lines, int line)
+{
+    struct emu_stepped stepped = emu_step(&now.s, &now.m, lines);
+    check(stepped.number == 0, "step done", line);
+    check(stepped.kind == kind && stepped.channel == channel, "kind and channel", line);
+    check_all(line);
+}
+
+/* Steps and wants it refused, with nothing changed. */
+static void refused(unsigned number, uint32_t lines, int line)
+{
+    want_same();
+    struct emu_stepped stepped = emu_step(&now.s, &now.m, lines);
+    check(stepped.number == number, "number of refusal", line);
+    check(stepped.kind == 0 && stepped.channel == 0, "no kind, no channel", line);
+    check_all(line);
+}
+
+/* Gives an attention and wants this number; a refused one changes nothing. */
+static void attend(uint32_t channel, unsigned number, int line)
+{
+    if (number != 0) want_same();
+    check(emu_attention(&now.s, &now.m, channel) == number, "number of attention", line);
+    check_all(line);
+}
+
+/* ---- The decoder ---- */
+
+/* The paper's prose, opcode by opcode, as a second reading beside the table. */
+static const char *by_the_paper(unsigned first, unsigned second)
+{
+    unsigned rrr = first >> 5, dd = first >> 3 & 3, aa = first >> 1 & 3, wide = first & 1, mm = second & 3;
+    bool pointer = rrr < 3 || rrr == 4, jumps = dd == 1 || dd == 2, agrees = dd == wide + 1;
+    const char *cc = rrr == 6 ? "4" : NULL;
+#define IF(condition, name) return (condition) ? (name) : "3"
+#define IF_NOT_CC(condition, name) return !(condition) ? "3" : cc ? cc : (name)
+    switch (second >> 2) {
+    case 0x00:
+        if (mm != 0 || (first & 0x1F) != 0 || rrr == 1) return "3";
+        return rrr == 0 ? "NOP" : rrr == 2 ? "SINTR" : rrr == 3 ? "XFER" : "WID";
+    case 0x02: IF(pointer && dd == 2 && aa == 0 && wide && mm == 0, "LPDI P,I");
+    case 0x08:
+        if (rrr == 4) IF(agrees && aa == 0 && mm == 0, "JMP");
+        IF_NOT_CC(agrees && aa == 0 && mm == 0, "ADDI R,I");
+    case 0x09: IF_NOT_CC(agrees && aa == 0 && mm == 0, "ORI R,I");
+    case 0x0A: IF_NOT_CC(agrees && aa == 0 && mm == 0, "ANDI R,I");
+    case 0x0B: IF_NOT_CC((first & 0x1F) == 0 && mm == 0, "NOT R");
+    case 0x0C: IF(agrees && aa == 0 && mm == 0, "MOVI R");
+    case 0x0E: IF_NOT_CC((first & 0x1F) == 0 && mm == 0, "INC R");
+    case 0x0F: IF_NOT_CC((first & 0x1F) == 0 && mm == 0, "DEC R");
+    case 0x10: IF_NOT_CC(jumps && aa == 0 && !wide && mm == 0, "JNZ R");
+    case 0x11: IF_NOT_CC(jumps && aa == 0 && !wide && mm == 0, "JZ R");
+    case 0x12: IF(first == 0x20 && mm == 0, "HLT");
+    case 0x13: IF(rrr == 0 && agrees, "MOVI M");
+    case 0x20: IF(dd == 0, "MOV R,M");
+    case 0x21: IF(dd == 0, "MOV M,R");
+    case 0x22: IF(pointer && dd == 0 && wide, "LPD P,M");
+    case 0x23: IF(pointer && dd == 0 && wide, "MOVP P,M");
+    case 0x24: IF(rrr == 0 && dd == 0, "MOV M,M");
+    case 0x25: IF(rrr == 0 && dd == 3 && !wide, "TSL");
+    case 0x26: IF(pointer && dd == 0 && wide, "MOVP M,P");
+    case 0x27: IF(rrr == 4 && jumps, "CALL");
+    case 0x28: IF_NOT_CC(dd == 0, "ADD R,M");
+    case 0x29: IF_NOT_CC(dd == 0, "OR R,M");
+    case 0x2A: IF_NOT_CC(dd == 0, "AND R,M");
+    case 0x2B: IF_NOT_CC(dd == 0, "NOT R,M");
+    case 0x2C: IF(rrr == 0 && jumps && !wide, "JMCE");
+    case 0x2D: IF(rrr == 0 && jumps && !wide, "JMCNE");
+    case 0x2E: IF(jumps && !wide, "JNBT");
+    case 0x2F: IF(jumps && !wide, "JBT");
+    case 0x30: IF(rrr == 0 && agrees, "ADDI M,I");
+    case 0x31: IF(rrr == 0 && agrees, "ORI M,I");
+    case 0x32: IF(rrr == 0 && agrees, "ANDI M,I");
+    case 0x34: IF_NOT_CC(dd == 0, "ADD M,R");
+    case 0x35: IF_NOT_CC(dd == 0, "OR M,R");
+    case 0x36: IF_NOT_CC(dd == 0, "AND M,R");
+    case 0x37: IF(rrr == 0 && dd == 0, "NOT M");
+    case 0x38: IF(rrr == 0 && jumps, "JNZ M");
+    case 0x39: IF(rrr == 0 && jumps, "JZ M");
+    case 0x3A: IF(rrr == 0 && dd == 0, "INC M");
+    case 0x3B: IF(rrr == 0 && dd == 0, "DEC M");
+    case 0x3D: IF(dd == 0 && !wide, "SETB");
+    case 0x3E: IF(dd == 0 && !wide, "CLR");
+    default: return "3";
+    }
+#undef IF
+#undef IF_NOT_CC
+}
+
+/* Whether a first pair has this name. */
+static bool named(unsigned first, unsigned second, const char *name)
+{
+    return strcmp(emu_format_name((uint8_t)first, (uint8_t)second), name) == 0;
+}
+
+/* All 65,536 first pairs. */
+static void test_decoder_counts(void)
+{
+    unsigned threes = 0, fours = 0, instructions = 0, unlike_paper = 0, doubled = 0, doubled_jmp = 0;
+    unsigned per_row[EMU_ROWS + 1] = {0};
+    for (unsigned pair = 0; pair < 65536; pair++) {
+        uint8_t first = (uint8_t)(pair >> 8), second = (uint8_t)pair;
+        const char *name = emu_format_name(first, second);
+        if (strcmp(name, "3") == 0) threes++;
+        else if (strcmp(name, "4") == 0) fours++;
+        else instructions++;
+        if (strcmp(name, by_the_paper(first, second)) != 0) unlike_paper++;
+        per_row[emu_row_of(first, second)]++;
+        if (emu_rows_fitting(first, second) == 2 && strcmp(name, "JMP") == 0) doubled_jmp++;
+        else if (emu_rows_fitting(first, second) > 1) doubled++;
+    }
+    printf("first pairs: %u instructions, %u answers 3, %u answers 4\n", instructions, threes, fours);
+    CHECK(instructions == 3687);
+    CHECK(threes == 61612);
+    CHECK(fours == 237);
+    CHECK(unlike_paper == 0);
+    CHECK(doubled == 0);
+    CHECK(doubled_jmp == 2);
+    CHECK(per_row[EMU_NO_ROW] == 61612);
+    for (unsigned row = 0; row < EMU_ROWS; row++) CHECK(per_row[row] > 0);
+}
+
+/* The step's own answers over all first pairs agree with the names; no pair is refused otherwise on full memory. */
+static void test_decoder_by_steps(void)
+{
+    unsigned unlike = 0;
+    reset();
+    for (unsigned pair = 0; pair < 65536; pair++) {
+        struct emu_state s = now.s;
+        now.sys[0x100] = (uint8_t)(pair >> 8);
+        now.sys[0x101] = (uint8_t)pair;
+        put(now.sys, MIB, 0x102, "00 00 00 00 00 00");
+        unsigned second_pair = (pair >> 9 & 3) == 1 ? 0x103 : 0x102;
+        now.sys[second_pair] = (uint8_t)(pair >> 8 & 1);
+        now.sys[second_pair + 1] = 0xCC;
+        const char *name = emu_format_name(now.sys[0x100], now.sys[0x101]);
+        unsigned number = emu_step(&s, &now.m, 0).number;
+        unsigned expected = strcmp(name, "3") == 0 ? 3 : strcmp(name, "4") == 0 ? 4 : 0;
+        if (number != expected) unlike++;
+    }
+    CHECK(unlike == 0);
+}
+
+/* Pairs that the maker's listings print. */
+static void test_decoder_listings(void)
+{
+    CHECK(named(0x0A, 0x4F, "MOVI M"));
+    CHECK(named(0xB1, 0x30, "MOVI R"));
+    CHECK(named(0x51, 0x30, "MOVI R"));
+    CHECK(named(0xEA, 0xBA, "JNBT"));
+    CHECK(named(0x0A, 0x4E, "MOVI M"));
+    CHECK(named(0x02, 0x93, "MOV M,M"));
+    CHECK(named(0xD1, 0x30, "MOVI R"));
+    CHECK(named(0xA0, 0x00, "WID"));
+    CHECK(named(0x23, 0x8B, "LPD P,M"));
+    CHECK(named(0x60, 0x00, "XFER"));
+    CHECK(named(0x6A, 0xBE, "JBT"));
+    CHECK(named(0xA0, 0x3C, "DEC R"));
+    CHECK(named(0xA8, 0x40, "JNZ R"));
+    CHECK(named(0x40, 0x00, "SINTR"));
+    CHECK(named(0x20, 0x48, "HLT"));
+}
+
+/* The readings on instruction codes, name by name. */
+static void test_decoder_readings(void)
+{
+    /* CALL with AA 11 is an instruction, its W is free */
+    CHECK(named(0x8E, 0x9C, "CALL") && named(0x8F, 0x9C, "CALL") && named(0x97, 0x9F, "CALL"));
+    CHECK(named(0x80, 0x9C, "3") && named(0x98, 0x9C, "3") && named(0x08, 0x9C, "3") && named(0xC8, 0x9C, "3"));
+    /* ORI to a register has AA 00 */
+    CHECK(named(0x08, 0x24, "ORI R,I") && named(0x11, 0x24, "ORI R,I"));
+    CHECK(named(0x0A, 0x24, "3") && named(0x0C, 0x24, "3") && named(0x0E, 0x24, "3") && named(0x13, 0x24, "3"));
+    /* JMP's dd agrees with W */
+    CHECK(named(0x88, 0x20, "JMP") && named(0x91, 0x20, "JMP"));
+    CHECK(named(0x90, 0x20, "3") && named(0x89, 0x20, "3") && named(0x98, 0x20, "3") && named(0x80, 0x20, "3"));
+    /* fixed digits count where there is no operand */
+    CHECK(named(0x00, 0x00, "NOP") && named(0x00, 0x01, "3") && named(0x01, 0x00, "3") && named(0x08, 0x00, "3"));
+    CHECK(named(0x20, 0x00, "3") && named(0x02, 0x00, "3") && named(0x41, 0x00, "3") && named(0x60, 0x02, "3"));
+    CHECK(named(0x80, 0x00, "WID") && named(0xC0, 0x00, "WID") && named(0xE0, 0x00, "WID") && named(0xE0, 0x03, "3"));
+    CHECK(named(0x20, 0x49, "3") && named(0x21, 0x48, "3") && named(0x40, 0x48, "3") && named(0x00, 0x48, "3"));
+    CHECK(named(0x11, 0x08, "LPDI P,I") && named(0x11, 0x09, "3") && named(0x10, 0x08, "3") && named(0x09, 0x08, "3"));
+    CHECK(named(0x11, 0x30, "MOVI R") && named(0x11, 0x31, "3") && named(0x08, 0x22, "3") && named(0x08, 0x2B, "3"));
+    /* W is 0 in register forms without it, bit instructions, JMCE, JMCNE, TSL */
+    CHECK(named(0x01, 0x2C, "3") && named(0x01, 0x38, "3") && named(0x01, 0x3C, "3") && named(0x00, 0x2C, "NOT R"));
+    CHECK(named(0x09, 0x40, "3") && named(0x09, 0x44, "3") && named(0x08, 0x40, "JNZ R") && named(0x10, 0x44, "JZ R"));
+    CHECK(named(0x01, 0xF4, "3") && named(0x01, 0xF8, "3") && named(0x00, 0xF4, "SETB") && named(0xE0, 0xF8, "CLR"));
+    CHECK(named(0x09, 0xBC, "3") && named(0x09, 0xB8, "3") && named(0x09, 0xB0, "3") && named(0x09, 0xB4, "3"));
+    CHECK(named(0x19, 0x94, "3") && named(0x18, 0x94, "TSL") && named(0x08, 0x94, "3") && named(0x38, 0x94, "3"));
+    /* W is 1 in LPD, LPDI and MOVP */
+    CHECK(named(0x00, 0x88, "3") && named(0x00, 0x8C, "3") && named(0x00, 0x98, "3"));
+    CHECK(named(0x01, 0x88, "LPD P,M") && named(0x01, 0x8C, "MOVP P,M") && named(0x01, 0x98, "MOVP M,P"));
+    /* PPP 3, 5, 6, 7 is 3, also 6 */
+    for (unsigned ppp = 0; ppp < 8; ppp++) {
+        bool pointer = ppp == 0 || ppp == 1 || ppp == 2 || ppp == 4;
+        CHECK(named(ppp << 5 | 0x01, 0x88, pointer ? "LPD P,M" : "3"));
+        CHECK(named(ppp << 5 | 0x11, 0x08, pointer ? "LPDI P,I" : "3"));
+        CHECK(named(ppp << 5 | 0x01, 0x8C, pointer ? "MOVP P,M" : "3"));
+        CHECK(named(ppp << 5 | 0x01, 0x98, pointer ? "MOVP M,P" : "3"));
+    }
+    /* opcode 33h as a first pair */
+    CHECK(named(0x00, 0xCC, "3") && named(0x01, 0xCF, "3"));
+    /* uses of CC */
+    CHECK(named(0xC0, 0xA0, "4") && named(0xC1, 0xA4, "4") && named(0xC0, 0xA8, "4") && named(0xC0, 0xAC, "4"));
+    CHECK(named(0xC0, 0xD0, "4") && named(0xC6, 0xD4, "4") && named(0xC0, 0xDB, "4"));
+    CHECK(named(0xC8, 0x20, "4") && named(0xD1, 0x24, "4") && named(0xC8, 0x28, "4"));
+    CHECK(named(0xC0, 0x2C, "4") && named(0xC0, 0x38, "4") && named(0xC0, 0x3C, "4"));
+    CHECK(named(0xC8, 0x40, "4") && named(0xD0, 0x44, "4"));
+    /* no uses of CC */
+    CHECK(named(0xC0, 0x80, "MOV R,M") && named(0xC1, 0x84, "MOV M,R") && named(0xC8, 0x30, "MOVI R"));
+    CHECK(named(0xC0, 0xF4, "SETB") && named(0xC0, 0xF8, "CLR") && named(0xC8, 0xBC, "JBT") && named(0xC8, 0xB8, "JNBT"));
+    /* 3 comes before 4 */
+    CHECK(named(0xC8, 0x3C, "3") && named(0xC1, 0x2C, "3") && named(0xC0, 0x20, "3") && named(0xD0, 0x20, "3"));
+    /* dd where it stands; the fixed 00 of memory forms */
+    CHECK(named(0x00, 0xE4, "3") && named(0x18, 0xE4, "3") && named(0x10, 0xE4, "JZ M") && named(0x09, 0xE0, "JNZ M"));
+    CHECK(named(0x08, 0x80, "3") && named(0x08, 0xE8, "3") && named(0x10, 0xD0, "3") && named(0x20, 0xEC, "3"));
+    CHECK(named(0x20, 0x90, "3") && named(0x08, 0x90, "3") && named(0x20, 0xDC, "3") && named(0x28, 0x4C, "3"));
+    CHECK(named(0x08, 0x4C, "MOVI M") && named(0x10, 0x4C, "3") && named(0x09, 0xC0, "3") && named(0x11, 0xC4, "ORI M,I"));
+}
+
+/* ---- The paper's twelve cases ---- */
+
+/* Counts the steps of a transfer of n bytes with both sides moving and the count alone ending it. */
+static unsigned long transfer_steps(unsigned widths, uint32_t from, uint32_t to, unsigned n)
+{
+    unsigned long steps = 0, bytes = n == 0 ? 65536 : n, wrong = 0;
+    reset();
+    for (unsigned long i = 0; i < bytes; i++) now.sys[from + i] = (uint8_t)(i * 7 + i / 256 + 1);
+    want_same();
+    N.psw = (uint8_t)(EMU_PSW_TB | EMU_PSW_XF | widths);
+    N.cc = 0xC008;
+    N.bc = (uint16_t)n;
+    N.ga.address = from;
+    N.gb.address = to;
+    while ((N.psw & EMU_PSW_XF) != 0 && steps < 70000) {
+        struct emu_stepped stepped = emu_step(&now.s, &now.m, 0);
+        CHECK(stepped.number == 0 && stepped.kind == 'T');
+        steps++;
+    }
+    memcpy(want.sys + to, want.sys + from, bytes);
+    wrong = (unsigned long)(memcmp(now.sys, want.sys, MIB) != 0);
+    CHECK(wrong == 0);
+    CHECK(N.ga.address == from + bytes && N.gb.address == to + bytes && N.bc == 0 && N.tp.address == 0x100);
+    return steps;
+}
+
+/* Cases 1 to 12 of the paper's table. */
+static void test_twelve_cases(void)
+{
+    /* 1 */
+    reset();
+    code("08 30 80");
+    W.ga = (struct emu_pointer){0xFFF80, true};
+    DONE('I');
+    /* 2 */
+    reset();
+    code("71 30 34 12");
+    W.bc = 0x1234;
+    DONE('I');
+    /* 3 */
+    reset();
+    code("88 20 FE");
+    W.tp.address = 0x101;
+    DONE('I');
+    /* 4 */
+    reset();
+    N.ga.address = 0;
+    code("08 20 FF");
+    W.ga.address = 0xFFFFF;
+    DONE('I');
+    /* 5 */
+    reset();
+    N.gb = (struct emu_pointer){0x12345, true};
+    code("21 98");
+    want_sys(0x1000, "45 23 18");
+    DONE('I');
+    reset();
+    N.gb = (struct emu_pointer){0x12345, false};
+    code("21 98");
+    want_sys(0x1000, "45 23 10");
+    DONE('I');
+    /* 6 */
+    reset();
+    code("11 08 10 00 FF FF");
+    W.ga.address = 0;
+    DONE('I');
+    /* 7 */
+    reset();
+    N.mc = 0xF041;
+    sys(0x1000, "4F");
+    code("08 B0 10");
+    W.tp.address += 0x10;
+    DONE('I');
+    reset();
+    N.mc = 0xF041;
+    sys(0x1000, "5F");
+    code("08 B0 10");
+    DONE('I');
+    /* 8 */
+    CHECK(transfer_steps(0, 0x1000, 0x2000, 5) == 5);
+    CHECK(transfer_steps(3, 0x1000, 0x2000, 5) == 3);
+    /* 9 */
+    CHECK(transfer_steps(3, 0x1001, 0x2001, 1) == 1);
+    CHECK(transfer_steps(3, 0x1001, 0x2001, 4) == 3);
+    /* 10 */
+    CHECK(transfer_steps(3, 0x10000, 0x40000, 0) == 32768);
+    CHECK(transfer_steps(3, 0x10001, 0x40001, 0) == 32769);
+    /* 11 */
+    CHECK(transfer_steps(2, 0x1001, 0x2000, 2) == 2);
+    /* 12 */
+    reset();
+    N2 = N;
+    N2.tp.address = 0x200;
+    sys(0x100, "00 00 00 00 00 00");
+    sys(0x200, "00 00 00 00 00 00");
+    for (unsigned i = 0; i < 4; i++) CHECK(emu_step(&now.s, &now.m, 0).channel == 1 + i % 2);
+}
+
+/* ---- Fresh and the early refusals ---- */
+
+/* A fresh state, good and bad. */
+static void test_fresh(void)
+{
+    struct emu_state a, b;
+    memset(&a, 0xEE, sizeof a);
+    CHECK(emu_fresh(0xFFFFF, &a) == 0);
+    CHECK(a.cp == 0xFFFFF && a.last == 2);
+    for (unsigned i = 0; i < 2; i++) {
+        const struct emu_channel *c = &a.channel[i];
+        CHECK(c->mode == EMU_IDLE && !c->armed && c->psw == 0 && c->pp == 0);
+        CHECK(c->bc == 0 && c->ix == 0 && c->cc == 0 && c->mc == 0);
+        CHECK(c->ga.address == 0 && !c->ga.tag && c->gb.address == 0 && !c->gb.tag);
+        CHECK(c->gc.address == 0 && !c->gc.tag && c->tp.address == 0 && !c->tp.tag);
+    }
+    CHECK(emu_fresh(0, &b) == 0);
+    memset(&a, 0xEE, sizeof a);
+    CHECK(emu_fresh(0x100000, &a) == 10);
+    CHECK(emu_same_state(&a, &b));
+    memset(&a, 0xEE, sizeof a);
+    CHECK(emu_fresh(0xFFFFFFFF, &a) == 10);
+    CHECK(emu_same_state(&a, &b));
+}
+
+/* 12 before 11 before 10 before all else. */
+static void test_early_order(void)
+{
+    reset();
+    sys(0x40, "00");
+    now.s.cp = 0x100000;
+    now.m.io_len = EMU_IO_LIMIT + 1;
+    REFUSED_ON(12, 16);
+    REFUSED_ON(12, 0xFFFFFFFF);
+    ATTEND_REFUSED(0, 12);
+    ATTEND_REFUSED(3, 12);
+    ATTEND_REFUSED(0xFFFFFFFF, 12);
+    REFUSED_ON(11, 15);
+    ATTEND_REFUSED(1, 11);
+    ATTEND_REFUSED(2, 11);
+    now.m.io_len = EMU_IO_LIMIT;
+    REFUSED(10);
+    ATTEND_REFUSED(1, 10);
+    now.m.sys_len = MIB + 1;
+    REFUSED(11);
+    ATTEND_REFUSED(1, 11);
+    now.m.sys_len = 0;
+    now.m.sys = NULL;
+    REFUSED(10);
+    now.s.cp = 0x40;
+    REFUSED(2);
+    ATTEND_REFUSED(1, 2);
+    /* 10 before 1 */
+    emu_fresh(0x40, &now.s);
+    REFUSED(1);
+    N2.gc.address = 0x100000;
+    REFUSED(10);
+}
+
+/* 10 looks at five registers of both channels, whatever their mode. */
+static void test_refusal_10(void)
+{
+    for (unsigned channel = 0; channel < 2; channel++) {
+        for (unsigned which = 0; which < 5; which++) {
+            for (unsigned mode = 0; mode < 3; mode++) {
+                reset();
+                sys(0x100, "00 00");
+                sys(0x40, "00");
+                struct emu_channel *c = &now.s.channel[channel];
+                uint32_t *named_registers[5] = {&c->ga.address, &c->gb.address, &c->gc.address, &c->tp.address, &c->pp};
+                c->mode = (enum emu_mode)mode;
+                *named_registers[which] = 0x100000;
+                struct emu_state given = now.s;
+                CHECK(emu_step(&now.s, &now.m, 0).number == 10);
+                CHECK(emu_attention(&now.s, &now.m, 1) == 10 && emu_attention(&now.s, &now.m, 2) == 10);
+                CHECK(emu_same_state(&now.s, &given));
+                *named_registers[which] = 0xFFFFF;
+                CHECK(emu_attention(&now.s, &now.m, 1) == 0);
+            }
+        }
+    }
+    reset();
+    now.s.cp = 0x100000;
+    REFUSED(10);
+    ATTEND_REFUSED(1, 10);
+}
+
+/* ---- Attention ---- */
+
+/* Puts a control block with this CCW and PB at 500h for one channel, and wants nothing else. */
+static void block(unsigned channel, unsigned ccw)
+{
+    uint32_t at = now.s.cp + (channel == 2 ? 8 : 0);
+    now.sys[at & 0xFFFFF] = (uint8_t)ccw;
+    sys(at + 2, "00 01 40 00");
+}
+
+/* Start, in both spaces and on both channels. */
+static void test_start(void)
+{
+    reset();
+    emu_fresh(0x40, &now.s);
+    block(1, 0x01);
+    sys(0x500, "CD AB");
+    want_same();
+    W.pp = 0x500;
+    W.tp = (struct emu_pointer){0x0ABCD, true};
+    W.mode = EMU_RUNNING;
+    W.psw = EMU_PSW_TB;
+    want_sys(0x41, "FF");
+    ATTEND(1);
+    /* channel 2's block is at CP + 8; the doubleword pointer wraps */
+    reset();
+    block(2, 0x03);
+    sys(0x500, "10 00 FF FF");
+    N2.tp.tag = true;
+    N2.armed = true;
+    N2.psw = EMU_PSW_XF | EMU_PSW_S | EMU_PSW_IC | EMU_PSW_IS;
+    want_same();
+    W2.pp = 0x500;
+    W2.tp = (struct emu_pointer){0, false};
+    W2.mode = EMU_RUNNING;
+    W2.psw = EMU_PSW_TB | EMU_PSW_S | EMU_PSW_IC | EMU_PSW_IS;
+    W2.armed = false;
+    want_sys(0x49, "FF");
+    ATTEND(2);
+    /* PB's own address wraps: offset 10h, segment FFFFh */
+    reset();
+    N.mode = EMU_IDLE;
+    sys(0x40, "01 00 10 00 FF FF");
+    sys(0, "34 12");
+    want_same();
+    W.pp = 0;
+    W.tp = (struct emu_pointer){0x1234, true};
+    W.mode = EMU_RUNNING;
+    want_sys(0x41, "FF");
+    ATTEND(1);
+    /* TP's word is not sign-extended */
+    reset();
+    N.mode = EMU_SUSPENDED;
+    N.armed = true;
+    block(1, 0x01);
+    sys(0x500, "FF FF");
+    want_same();
+    W.pp = 0x500;
+    W.tp = (struct emu_pointer){0xFFFF, true};
+    W.mode = EMU_RUNNING;
+    W.armed = false;
+    want_sys(0x41, "FF");
+    ATTEND(1);
+    /* refused while running, even for the other start */
+    reset();
+    block(1, 0x03);
+    ATTEND_REFUSED(1, 8);
+    block(1, 0x01);
+    ATTEND_REFUSED(1, 8);
+    /* the mode alone says that it runs: TB plays no part */
+    N.psw = 0;
+    ATTEND_REFUSED(1, 8);
+    N.mode = EMU_IDLE;
+    N.psw = EMU_PSW_TB;
+    CHECK(emu_attention(&now.s, &now.m, 1) == 0);
+}
+
+/* Start reads before BUSY is stored, also where PB is the block itself. */
+static void test_start_overlap(void)
+{
+    reset();
+    N.mode = EMU_IDLE;
+    sys(0x40, "03 12 40 00 00 00");
+    want_same();
+    W.pp = 0x40;
+    W.tp = (struct emu_pointer){0x1203 + 0x400, false};
+    W.mode = EMU_RUNNING;
+    want_sys(0x41, "FF");
+    ATTEND(1);
+}
+
+/* The control block wraps at the end of system space, byte by byte. */
+static void test_block_wraps(void)
+{
+    reset();
+    N.mode = EMU_IDLE;
+    now.s.cp = 0xFFFFE;
+    sys(0xFFFFE, "03 00 FF FF FF 0F");
+    sys(0xFEF, "00");
+    want_same();
+    /* offset FFFFh, segment 0FFFh: 1FFEFh */
+    sys(0x1FFEF, "78 56 34 12");
+    want_same();
+    W.pp = 0x1FFEF;
+    W.tp = (struct emu_pointer){0x12340 + 0x5678, false};
+    W.mode = EMU_RUNNING;
+    want_sys(0xFFFFF, "FF");
+    ATTEND(1);
+    /* channel 2's block at CP + 8 wraps as a whole */
+    reset();
+    now.s.cp = 0xFFFFA;
+    N2.mode = EMU_RUNNING;
+    sys(0x2, "07");
+    want_same();
+    W2.mode = EMU_IDLE;
+    want_sys(0x3, "00");
+    ATTEND(2);
+    /* PB wraps: suspend at FFFFEh */
+    reset();
+    block(1, 0x06);
+    N.pp = 0xFFFFE;
+    N.tp = (struct emu_pointer){0x9ABCD, true};
+    want_same();
+    want_sys(0xFFFFE, "CD AB 98 04");
+    want_sys(0x41, "00");
+    W.mode = EMU_SUSPENDED;
+    W.psw = 0;
+    ATTEND(1);
+    block(1, 0x05);
+    want_same();
+    want_sys(0x41, "FF");
+    W.mode = EMU_RUNNING;
+    W.psw = EMU_PSW_TB;
+    ATTEND(1);
+}
+
+/* Suspend and resume. */
+static void test_suspend_resume(void)
+{
+    /* the PSW is stored as it was, with TB and XF, before bits 5 and 7 and ICF */
+    reset();
+    block(1, 0xA0 | 0x18 | 0x06);
+    N.psw = EMU_PSW_TB | EMU_PSW_XF | EMU_PSW_IC | EMU_PSW_IS | EMU_PSW_D;
+    N.tp = (struct emu_pointer){0x12345, true};
+    N.armed = true;
+    want_same();
+    want_sys(0x400, "45 23 18 5D");
+    want_sys(0x41, "00");
+    W.mode = EMU_SUSPENDED;
+    W.psw = EMU_PSW_D | EMU_PSW_LOAD_LIMIT | EMU_PSW_PRIORITY;
+    ATTEND(1);
+    /* resume: all eight bits, then TB, then bits 5 and 7, then ICF; XF comes back, the mark stays */
+    block(1, 0x80 | 0x08 | 0x05);
+    want_same();
+    want_sys(0x41, "FF");
+    W.mode = EMU_RUNNING;
+    W.psw = 0x5D & ~EMU_PSW_IS;
+    W.psw |= EMU_PSW_PRIORITY;
+    ATTEND(1);
+    /* resume sets TB and ignores the zeros below the tag */
+    reset();
+    N.mode = EMU_SUSPENDED;
+    N.psw = 0xFF;
+    block(1, 0x05);
+    sys(0x400, "45 23 17 00");
+    want_same();
+    want_sys(0x41, "FF");
+    W.mode = EMU_RUNNING;
+    W.psw = EMU_PSW_TB;
+    W.tp = (struct emu_pointer){0x12345, false};
+    ATTEND(1);
+    /* a resume with priority in the stored byte follows the CCW */
+    reset();
+    N.mode = EMU_SUSPENDED;
+    block(1, 0x20 | 0x05);
+    sys(0x400, "00 00 0F 80");
+    want_same();
+    want_sys(0x41, "FF");
+    W.mode = EMU_RUNNING;
+    W.psw = EMU_PSW_TB | EMU_PSW_LOAD_LIMIT;
+    W.tp = (struct emu_pointer){0, true};
+    ATTEND(1);
+    /* BUSY within PB's four bytes ends as 0 */
+    for (unsigned i = 0; i < 4; i++) {
+        static const char *const after[4] = {"00 23 18 04", "45 00 18 04", "45 23 00 04", "45 23 18 00"};
+        reset();
+        block(1, 0x06);
+        N.pp = 0x41 - i;
+        N.tp = (struct emu_pointer){0x12345, true};
+        want_same();
+        want_sys(N.pp, after[i]);
+        W.mode = EMU_SUSPENDED;
+        W.psw = 0;
+        ATTEND(1);
+    }
+    /* resume reads before BUSY is stored */
+    reset();
+    N.mode = EMU_SUSPENDED;
+    block(1, 0x05);
+    N.pp = 0x41;
+    sys(0x41, "45 23 18 03");
+    want_same();
+    want_sys(0x41, "FF");
+    W.mode = EMU_RUNNING;
+    W.psw = EMU_PSW_TB | EMU_PSW_S | EMU_PSW_D;
+    W.tp = (struct emu_pointer){0x12345, true};
+    ATTEND(1);
+    /* PB is taken at PP, not at the block's pointer, and the channel is the one asked */
+    reset();
+    N2 = N;
+    N2.pp = 0x600;
+    N2.tp.address = 0x54321;
+    block(2, 0x06);
+    want_same();
+    want_sys(0x600, "21 43 50 04");
+    want_sys(0x49, "00");
+    W2.mode = EMU_SUSPENDED;
+    W2.psw = 0;
+    ATTEND(2);
+}
+
+/* Commands in modes that do not take them. */
+static void test_command_refusals(void)
+{
+    for (unsigned command = 0; command < 8; command++) {
+        for (unsigned mode = 0; mode < 3; mode++) {
+            reset();
+            block(1, command);
+            N.mode = (enum emu_mode)mode;
+            unsigned expected = command == 2 || command == 4               ? 6
+                                : command == 5 && mode != EMU_SUSPENDED    ? 7
+                                : (command & 5) == 1 && mode == EMU_RUNNING ? 8
+                                : command == 6 && mode != EMU_RUNNING      ? 9
+                                                                           : 0;
+            if (command == 5) expected = mode != EMU_SUSPENDED ? 7 : 0;
+            if (expected != 0) ATTEND_REFUSED(1, expected);
+            else CHECK(emu_attention(&now.s, &now.m, 1) == 0);
+        }
+    }
+    /* 6 comes before other bytes, and a CCW beyond memory before 6 */
+    reset();
+    block(1, 0x02);
+    now.m.sys_len = 0x41;
+    ATTEND_REFUSED(1, 6);
+    now.m.sys_len = 0x40;
+    ATTEND_REFUSED(1, 2);
+    /* 7, 8 and 9 come before other bytes */
+    now.m.sys_len = 0x41;
+    block(1, 0x05);
+    ATTEND_REFUSED(1, 7);
+    block(1, 0x03);
+    ATTEND_REFUSED(1, 8);
+    N.mode = EMU_IDLE;
+    block(1, 0x06);
+    ATTEND_REFUSED(1, 9);
+    /* CCW bit 6 says nothing */
+    reset();
+    block(1, 0x40);
+    want_same();
+    ATTEND(1);
+}
+
+/* Which bytes an attention needs, to the byte. */
+static void test_attention_bytes(void)
+{
+    /* 000 needs the CCW alone, and neither reads nor stores BUSY */
+    reset();
+    block(1, 0x00);
+    now.m.sys_len = 0x41;
+    want_same();
+    ATTEND(1);
+    /* halt needs BUSY */
+    block(1, 0x07);
+    ATTEND_REFUSED(1, 2);
+    now.m.sys_len = 0x42;
+    want_same();
+    W.mode = EMU_IDLE;
+    W.psw = 0;
+    want_sys(0x41, "00");
+    ATTEND(1);
+    /* start 001: the block's four pointer bytes, PB's first two, BUSY */
+    reset();
+    N.mode = EMU_IDLE;
+    sys(0x40, "01 00 10 00 00 00");
+    now.m.sys_len = 0x45;
+    ATTEND_REFUSED(1, 2);
+    now.m.sys_len = 0x46;
+    CHECK(emu_attention(&now.s, &now.m, 1) == 0);
+    reset();
+    N.mode = EMU_IDLE;
+    block(1, 0x01);
+    now.m.sys_len = 0x501;
+    ATTEND_REFUSED(1, 2);
+    now.m.sys_len = 0x502;
+    CHECK(emu_attention(&now.s, &now.m, 1) == 0);
+    /* start 011: PB's first four */
+    reset();
+    N.mode = EMU_IDLE;
+    block(1, 0x03);
+    now.m.sys_len = 0x502;
+    ATTEND_REFUSED(1, 2);
+    now.m.sys_len = 0x503;
+    ATTEND_REFUSED(1, 2);
+    now.m.sys_len = 0x504;
+    CHECK(emu_attention(&now.s, &now.m, 1) == 0);
+    /* suspend and resume: PB's four at PP and BUSY */
+    for (unsigned i = 0; i < 2; i++) {
+        reset();
+        N.mode = i == 0 ? EMU_RUNNING : EMU_SUSPENDED;
+        block(1, i == 0 ? 0x06 : 0x05);
+        now.m.sys_len = 0x403;
+        ATTEND_REFUSED(1, 2);
+        now.m.sys_len = 0x404;
+        CHECK(emu_attention(&now.s, &now.m, 1) == 0);
+        reset();
+        N.mode = i == 0 ? EMU_RUNNING : EMU_SUSPENDED;
+        N.pp = 0;
+        block(1, i == 0 ? 0x06 : 0x05);
+        now.m.sys_len = 0x41;
+        ATTEND_REFUSED(1, 2);
+        now.m.sys_len = 0x42;
+        CHECK(emu_attention(&now.s, &now.m, 1) == 0);
+    }
+    /* BUSY that wraps past a short memory's end */
+    reset();
+    now.s.cp = 0xFFFFF;
+    now.sys[0xFFFFF] = 0x07;
+    want_same();
+    W.mode = EMU_IDLE;
+    W.psw = 0;
+    want_sys(0, "00");
+    ATTEND(1);
+}
+
+/* ICF, load limit and priority on a command that does nothing more, and on halt. */
+static void test_icf(void)
+{
+    for (unsigned upper = 0; upper < 32; upper++) {
+        for (unsigned bits = 0; bits < 16; bits++) {
+            unsigned psw = (bits & 1 ? 0x08u : 0) | (bits & 2 ? 0x10u : 0) | (bits & 4 ? 0x20u : 0) | (bits & 8 ? 0x80u : 0);
+            unsigned icf = upper & 3, expected = (psw & 0x18) | (upper << 3 & 0xA0) | 0x47;
+            if (icf == 1 || icf == 3) expected &= ~0x10u;
+            if (icf == 2) expected |= 0x08;
+            if (icf == 3) expected &= ~0x08u;
+            reset();
+            block(1, upper << 3);
+            N.psw = (uint8_t)(psw | 0x47);
+            CHECK(emu_attention(&now.s, &now.m, 1) == 0 && N.psw == expected && N.mode == EMU_RUNNING);
+            block(1, upper << 3 | 7);
+            CHECK(emu_attention(&now.s, &now.m, 1) == 0 && N.psw == (expected & ~0x44u) && N.mode == EMU_IDLE);
+        }
+    }
+    /* halt from any mode takes the mark; a command leaves "last" and the other channel alone */
+    for (unsigned mode = 0; mode < 3; mode++) {
+        reset();
+        block(1, 0x07);
+        N.mode = (enum emu_mode)mode;
+        N.armed = true;
+        now.s.last = 1;
+        want_same();
+        W.mode = EMU_IDLE;
+        W.armed = false;
+        W.psw = 0;
+        want_sys(0x41, "00");
+        ATTEND(1);
+    }
+}
+
+/* ---- Instructions: order of tests ---- */
+
+/* First bytes, 3, 4, later bytes, the second pair, operands, BUSY. */
+static void test_order_of_tests(void)
+{
+    /* the first two bytes */
+    reset();
+    sys(0x100, "04 04");
+    now.m.sys_len = 0x100;
+    REFUSED(2);
+    now.m.sys_len = 0x101;
+    REFUSED(2);
+    now.m.sys_len = 0x102;
+    REFUSED(3);
+    /* 4 before later bytes */
+    sys(0x100, "C8 20");
+    REFUSED(4);
+    /* 3 before 4 */
+    sys(0x100, "C0 20");
+    REFUSED(3);
+    /* data bytes */
+    sys(0x100, "71 30 34 12");
+    REFUSED(2);
+    now.m.sys_len = 0x103;
+    REFUSED(2);
+    now.m.sys_len = 0x104;
+    CHECK(emu_step(&now.s, &now.m, 0).number == 0);
+    /* displacement bytes count where the jump is not taken */
+    reset();
+    N.bc = 1;
+    sys(0x100, "70 44 00 00");
+    now.m.sys_len = 0x103;
+    REFUSED(2);
+    now.m.sys_len = 0x104;
+    CHECK(emu_step(&now.s, &now.m, 0).number == 0 && N.tp.address == 0x104);
+    /* TSL's displacement counts where the lock is free */
+    reset();
+    N.ga = (struct emu_pointer){0, true};
+    io(0, "00");
+    sys(0x100, "18 94 FF 10");
+    now.m.sys_len = 0x103;
+    REFUSED(2);
+    now.m.sys_len = 0x104;
+    CHECK(emu_step(&now.s, &now.m, 0).number == 0 && now.io[0] == 0xFF);
+    /* offset byte */
+    reset();
+    N.ga.address = 0;
+    sys(0x100, "62 80 01");
+    now.m.sys_len = 0x102;
+    REFUSED(2);
+    now.m.sys_len = 0x103;
+    CHECK(emu_step(&now.s, &now.m, 0).number == 0);
+    /* LPDI's six bytes */
+    reset();
+    sys(0x100, "11 08 00 00 00 00");
+    now.m.sys_len = 0x105;
+    REFUSED(2);
+    now.m.sys_len = 0x106;
+    CHECK(emu_step(&now.s, &now.m, 0).number == 0);
+    /* operand bytes: the last one of each length */
+    reset();
+    sys(0x100, "61 80");
+    N.ga.address = 0x1FF;
+    now.m.sys_len = 0x200;
+    REFUSED(2);
+    sys(0x100, "60 80");
+    CHECK(emu_step(&now.s, &now.m, 0).number == 0);
+    reset();
+    sys(0x100, "21 88");
+    now.m.sys_len = 0x1003;
+    REFUSED(2);
+    sys(0x100, "21 8C");
+    CHECK(emu_step(&now.s, &now.m, 0).number == 0);
+    reset();
+    sys(0x100, "21 98");
+    now.m.sys_len = 0x1002;
+    REFUSED(2);
+    sys(0x100, "88 9C 00");
+    REFUSED(2);
+    now.m.sys_len = 0x1003;
+    CHECK(emu_step(&now.s, &now.m, 0).number == 0);
+    reset();
+    sys(0x100, "88 9C 00");
+    now.m.sys_len = 0x1003;
+    CHECK(emu_step(&now.s, &now.m, 0).number == 0);
+    /* a read beyond memory refuses a jump that could not be judged */
+    reset();
+    sys(0x100, "08 E4 10");
+    now.m.sys_len = 0x1000;
+    REFUSED(2);
+    /* HLT's BUSY */
+    reset();
+    sys(0x100, "20 48");
+    now.s.cp = 0x200;
+    now.m.sys_len = 0x201;
+    REFUSED(2);
+    now.m.sys_len = 0x202;
+    CHECK(emu_step(&now.s, &now.m, 0).number == 0);
+    /* an instruction whose bytes all are beyond memory while the other channel could run: refused all the same */
+    reset();
+    N2 = N;
+    N.psw |= EMU_PSW_PRIORITY;
+    N.tp.address = 0x300;
+    sys(0x100, "00 00");
+    now.m.sys_len = 0x200;
+    REFUSED(2);
+}
+
+/* MOV M,M: its second pair. */
+static void test_second_pair(void)
+{
+    /* a second pair of which one byte is not lent is 2 even if the other is wrong */
+    reset();
+    sys(0x100, "00 90 FF 00");
+    now.m.sys_len = 0x103;
+    REFUSED(2);
+    now.m.sys_len = 0x104;
+    REFUSED(3);
+    sys(0x100, "00 90 00 CC");
+    now.m.sys_len = 0x102;
+    REFUSED(2);
+    /* the first offset byte stands before the second pair */
+    reset();
+    sys(0x100, "02 90 05 00 CD");
+    sys(0x1005, "77");
+    want_same();
+    W.tp.address = 0x105;
+    want.s.last = 1;
+    want_sys(0x2000, "77");
+    DONE('I');
+    reset();
+    sys(0x100, "02 90 05 00 CD");
+    now.m.sys_len = 0x104;
+    REFUSED(2);
+    /* 3 from that pair before its offset byte and before operands */
+    reset();
+    sys(0x100, "00 90 22 CC");
+    now.m.sys_len = 0x104;
+    REFUSED(3);
+    sys(0x100, "00 90 02 CC 01");
+    REFUSED(2);
+    now.m.sys_len = 0x105;
+    REFUSED(2);
+    /* the second pair's fixed digits and its W */
+    static const char *const wrong[] = {"00 90 01 CC", "01 90 00 CC", "00 90 08 CC", "00 90 20 CC", "00 90 80 CC",
+                                        "00 90 00 C8", "00 90 00 D0", "00 90 00 90", "00 90 10 CC", "00 90 40 CC"};
+    for (unsigned i = 0; i < sizeof wrong / sizeof wrong[0]; i++) {
+        reset();
+        sys(0x100, wrong[i]);
+        REFUSED(3);
+    }
+    /* words, with source and destination in different spaces and both offsets */
+    reset();
+    N.gb.tag = true;
+    sys(0x1004, "34 12");
+    code("03 90 04 03 CD 06");
+    want_io(0x2006, "34 12");
+    DONE('I');
+    /* the maker's listing: source first */
+    reset();
+    sys(0x408, "99");
+    N.gc = (struct emu_pointer){0xFF00, true};
+    code("02 93 08 02 CE 01");
+    want_io(0xFF01, "99");
+    DONE('I');
+    /* the second address uses the grown IX and may grow it again */
+    reset();
+    N.ix = 4;
+    sys(0x1004, "11 22");
+    code("07 90 07 CD");
+    W.ix = 8;
+    want_sys(0x2006, "11 22");
+    DONE('I');
+    reset();
+    N.ix = 4;
+    sys(0x1004, "33");
+    code("06 90 04 CD");
+    W.ix = 5;
+    want_sys(0x2005, "33");
+    DONE('I');
+    reset();
+    N.ix = 4;
+    sys(0x1004, "33");
+    code("04 90 06 CD");
+    W.ix = 5;
+    want_sys(0x2004, "33");
+    DONE('I');
+    /* overlap: the word is read whole before it is stored */
+    reset();
+    N.gb.address = 0x1001;
+    sys(0x1000, "11 22 33");
+    code("01 90 01 CD");
+    want_sys(0x1000, "11 11 22");
+    DONE('I');
+    /* destination beyond memory */
+    reset();
+    sys(0x100, "01 90 01 CD");
+    now.m.sys_len = 0x2001;
+    REFUSED(2);
+}
+
+/* ---- Instructions: addresses ---- */
+
+/* Wrapping in both spaces, byte by byte. */
+static void test_wrapping(void)
+{
+    /* a word at FFFFh of I/O space has its high byte at 0 */
+    reset();
+    N.ga = (struct emu_pointer){0x3FFFF, true};
+    io(0xFFFF, "34");
+    io(0, "12");
+    code("61 80");
+    W.bc = 0x1234;
+    DONE('I');
+    reset();
+    N.ga = (struct emu_pointer){0x3FFFF, true};
+    N.bc = 0x1234;
+    code("61 84");
+    want_io(0xFFFF, "34 12");
+    DONE('I');
+    /* a word at FFFFFh of system space */
+    reset();
+    N.ga = (struct emu_pointer){0xFFFFF, false};
+    N.bc = 0xBEEF;
+    code("61 84");
+    want_sys(0xFFFFF, "EF BE");
+    DONE('I');
+    /* instruction bytes wrap; TP counts in 20 bits whatever its tag */
+    reset();
+    N.tp.address = 0xFFFFE;
+    code("71 30 34 12");
+    CHECK(W.tp.address == 0x00002);
+    W.bc = 0x1234;
+    DONE('I');
+    reset();
+    N.tp = (struct emu_pointer){0x5FFFE, true};
+    code("71 30 34 12");
+    CHECK(W.tp.address == 0x60002);
+    W.bc = 0x1234;
+    DONE('I');
+    reset();
+    N.tp = (struct emu_pointer){0xFFFFF, true};
+    code("00 00");
+    CHECK(W.tp.address == 0x00001);
+    DONE('I');
+    /* stored pointers wrap */
+    reset();
+    N.ga = (struct emu_pointer){0x0FFFE, true};
+    N.gb = (struct emu_pointer){0x6789A, false};
+    code("21 98");
+    want_io(0xFFFE, "9A 78 60");
+    DONE('I');
+    reset();
+    N.ga = (struct emu_pointer){0xFFFFD, false};
+    sys(0xFFFFD, "10 32 54 76");
+    code("41 88");
+    W.gc = (struct emu_pointer){0x76540 + 0x3210, false};
+    DONE('I');
+    /* base + offset and base + IX count in 20 bits */
+    reset();
+    N.ga.address = 0xFFFF8;
+    sys(0x7, "44");
+    code("62 80 0F");
+    W.bc = 0x44;
+    DONE('I');
+    reset();
+    N.ga.address = 0xFFFF8;
+    N.ix = 0xFFFF;
+    sys(0xFFF7, "45");
+    code("64 80");
+    W.bc = 0x45;
+    DONE('I');
+    /* a short I/O buffer: 16-bit address beyond it */
+    reset();
+    N.ga = (struct emu_pointer){0x10000, true};
+    sys(0x100, "60 80");
+    now.m.io_len = 0;
+    REFUSED(2);
+    now.m.io_len = 1;
+    CHECK(emu_step(&now.s, &now.m, 0).number == 0 && N.bc == 0x5A);
+    /* PP is always system */
+    reset();
+    N.pp = 0x12345;
+    sys(0x12345, "78 56");
+    code("61 83");
+    W.bc = 0x5678;
+    DONE('I');
+    /* the offset byte is unsigned */
+    reset();
+    sys(0x10FF, "01");
+    code("62 80 FF");
+    W.bc = 1;
+    DONE('I');
+}
+
+/* ---- Instructions: moves and pointers ---- */
+
+/* MOV, MOVI, LPD, LPDI, MOVP. */
+static void test_moves(void)
+{
+    /* a byte into each kind of register is sign-extended; pointers get tag 1 */
+    reset();
+    sys(0x1000, "80");
+    code("20 80");
+    W.gb = (struct emu_pointer){0xFFF80, true};
+    DONE('I');
+    reset();
+    sys(0x1000, "7F");
+    code("20 80");
+    W.gb = (struct emu_pointer){0x0007F, true};
+    DONE('I');
+    reset();
+    sys(0x1000, "80");
+    code("60 80");
+    W.bc = 0xFF80;
+    DONE('I');
+    reset();
+    sys(0x1000, "00 80");
+    code("41 80");
+    W.gc = (struct emu_pointer){0xF8000, true};
+    DONE('I');
+    reset();
+    sys(0x1000, "FF 7F");
+    code("C1 80");
+    W.cc = 0x7FFF;
+    DONE('I');
+    reset();
+    sys(0x1000, "FF 7F");
+    code("E1 80");
+    W.mc = 0x7FFF;
+    DONE('I');
+    /* MOVI, byte and word, also to CC */
+    reset();
+    code("D1 30 20 88");
+    W.cc = 0x8820;
+    DONE('I');
+    reset();
+    code("C8 30 80");
+    W.cc = 0xFF80;
+    DONE('I');
+    reset();
+    code("E8 30 7F");
+    W.mc = 0x7F;
+    DONE('I');
+    /* writing TP jumps and sets the tag */
+    reset();
+    code("91 30 34 92");
+    W.tp = (struct emu_pointer){0xF9234, true};
+    DONE('I');
+    reset();
+    sys(0x1000, "34 12");
+    code("81 80");
+    W.tp = (struct emu_pointer){0x01234, true};
+    DONE('I');
+    /* TP as an operand is the address past the instruction */
+    reset();
+    code("83 84 02");
+    want_sys(0x1002, "03 01");
+    DONE('I');
+    /* MOV M,R stores the low bits only */
+    reset();
+    N.gb.address = 0xABCDE;
+    code("21 84");
+    want_sys(0x1000, "DE BC");
+    DONE('I');
+    reset();
+    N.gb.address = 0xABCDE;
+    code("20 84");
+    want_sys(0x1000, "DE");
+    DONE('I');
+    reset();
+    N.cc = 0x1234;
+    code("C1 84");
+    want_sys(0x1000, "34 12");
+    DONE('I');
+    /* MOVI M */
+    reset();
+    code("08 4D 99");
+    want_sys(0x2000, "99");
+    DONE('I');
+    reset();
+    code("13 4D 05 99 88");
+    want_sys(0x2005, "99 88");
+    DONE('I');
+    /* LPD and LPDI clear the tag */
+    reset();
+    N.gb.tag = true;
+    sys(0x1000, "05 00 34 12");
+    code("21 88");
+    W.gb = (struct emu_pointer){0x12345, false};
+    DONE('I');
+    reset();
+    N.tp.tag = true;
+    code("91 08 05 00 34 12");
+    W.tp = (struct emu_pointer){0x12345, false};
+    DONE('I');
+    /* MOVP loads the tag and ignores the low three bits */
+    reset();
+    sys(0x1000, "45 23 1F");
+    code("01 8C");
+    W.ga = (struct emu_pointer){0x12345, true};
+    DONE('I');
+    reset();
+    N.gb.tag = true;
+    sys(0x1000, "45 23 F7");
+    code("21 8C");
+    W.gb = (struct emu_pointer){0xF2345, false};
+    DONE('I');
+    /* MOVP TP returns */
+    reset();
+    sys(0x3000, "03 02 98");
+    code("81 8E");
+    W.tp = (struct emu_pointer){0x90203, true};
+    DONE('I');
+    /* MOVP M,TP saves the address past the instruction, with its tag */
+    reset();
+    N.tp = (struct emu_pointer){0x20100, true};
+    code("83 98 01");
+    want_sys(0x1001, "03 01 28");
+    DONE('I');
+}
+
+/* IX and its growth. */
+static void test_index(void)
+{
+    /* AA 10 leaves IX; AA 11 grows it by 1 or 2 */
+    reset();
+    N.ix = 0x10;
+    sys(0x1010, "11 22");
+    code("65 80");
+    W.bc = 0x2211;
+    DONE('I');
+    reset();
+    N.ix = 0x10;
+    sys(0x1010, "11 22");
+    code("67 80");
+    W.bc = 0x2211;
+    W.ix = 0x12;
+    DONE('I');
+    reset();
+    N.ix = 0x10;
+    sys(0x1010, "11");
+    code("66 80");
+    W.bc = 0x11;
+    W.ix = 0x11;
+    DONE('I');
+    /* IX wraps in 16 bits */
+    reset();
+    N.ix = 0xFFFF;
+    sys(0x10FFF, "11 22");
+    code("67 80");
+    W.bc = 0x2211;
+    W.ix = 1;
+    DONE('I');
+    /* growth 3: MOVP both ways, CALL with either W; growth 4: LPD */
+    reset();
+    N.ix = 8;
+    code("27 98");
+    want_sys(0x1008, "00 20 00");
+    W.ix = 11;
+    DONE('I');
+    reset();
+    N.ix = 8;
+    sys(0x1008, "45 23 18");
+    code("27 8C");
+    W.gb = (struct emu_pointer){0x12345, true};
+    W.ix = 11;
+    DONE('I');
+    reset();
+    N.ix = 8;
+    code("8E 9C 10");
+    want_sys(0x1008, "03 01 00");
+    W.tp.address += 0x10;
+    W.ix = 11;
+    DONE('I');
+    reset();
+    N.ix = 8;
+    code("97 9C 00 FF");
+    want_sys(0x1008, "04 01 00");
+    W.tp.address = 0x004;
+    W.ix = 11;
+    DONE('I');
+    reset();
+    N.ix = 8;
+    sys(0x1008, "00 00 00 10");
+    code("27 88");
+    W.gb.address = 0x10000;
+    W.ix = 12;
+    DONE('I');
+    /* MOV IX,[GA+IX+] ends with what was loaded */
+    reset();
+    N.ix = 8;
+    sys(0x1008, "34 12");
+    code("A7 80");
+    W.ix = 0x1234;
+    DONE('I');
+    /* ADD IX,[GA+IX+] ends with the old IX plus the operand */
+    reset();
+    N.ix = 8;
+    sys(0x1008, "00 01");
+    code("A7 A0");
+    W.ix = 0x108;
+    DONE('I');
+    /* NOT IX,[GA+IX+]; AND and OR read the old IX */
+    reset();
+    N.ix = 8;
+    sys(0x1008, "0F");
+    code("A6 AC");
+    W.ix = 0xFFF0;
+    DONE('I');
+    reset();
+    N.ix = 8;
+    sys(0x1008, "01");
+    code("A6 A4");
+    W.ix = 9;
+    DONE('I');
+    /* MOV [GA+IX+],IX stores the old IX; ADD [GA+IX+],IX adds the old IX */
+    reset();
+    N.ix = 8;
+    code("A7 84");
+    want_sys(0x1008, "08 00");
+    W.ix = 10;
+    DONE('I');
+    reset();
+    N.ix = 8;
+    sys(0x1008, "10");
+    code("A6 D0");
+    want_sys(0x1008, "18");
+    W.ix = 9;
+    DONE('I');
+    /* instructions without W on a byte grow IX by 1 */
+    static const char *const bytes[] = {"0E BC 00", "0E B8 00", "0E B0 00", "0E B4 00", "1E 94 00 00"};
+    for (unsigned i = 0; i < sizeof bytes / sizeof bytes[0]; i++) {
+        reset();
+        N.ix = 8;
+        code(bytes[i]);
+        W.ix = 9;
+        DONE('I');
+    }
+    reset();
+    N.ix = 8;
+    code("06 F4");
+    W.ix = 9;
+    DONE('I');
+    reset();
+    N.ix = 8;
+    code("06 F8");
+    want_sys(0x1008, "A4");
+    W.ix = 9;
+    DONE('I');
+    /* by W in JZ, INC, MOVI and ADDI on memory */
+    reset();
+    N.ix = 8;
+    code("0F E4 10");
+    W.ix = 10;
+    DONE('I');
+    reset();
+    N.ix = 8;
+    code("07 E8");
+    want_sys(0x1008, "A6 A5");
+    W.ix = 10;
+    DONE('I');
+    reset();
+    N.ix = 8;
+    code("17 4C 34 12");
+    want_sys(0x1008, "34 12");
+    W.ix = 10;
+    DONE('I');
+    reset();
+    N.ix = 8;
+    code("0E C0 01");
+    want_sys(0x1008, "A6");
+    W.ix = 9;
+    DONE('I');
+    /* a jump that is not taken grows IX too */
+    reset();
+    N.ix = 8;
+    sys(0x1008, "01");
+    code("0E E4 10");
+    W.ix = 9;
+    DONE('I');
+}
+
+/* ---- Instructions: arithmetic and logic ---- */
+
+/* On registers. */
+static void test_register_arithmetic(void)
+{
+    /* ADD keeps the tag, carries into 20 bits */
+    reset();
+    N.ga = (struct emu_pointer){0x0FFFF, true};
+    code("08 20 01");
+    W.ga.address = 0x10000;
+    DONE('I');
+    reset();
+    N.ga = (struct emu_pointer){0x00000, false};
+    code("11 20 00 80");
+    W.ga.address = 0xF8000;
+    DONE('I');
+    reset();
+    N.ga = (struct emu_pointer){0xFFFFF, true};
+    code("08 20 01");
+    W.ga.address = 0;
+    DONE('I');
+    /* a 16-bit register keeps the low 16 bits */
+    reset();
+    N.bc = 0xFFFF;
+    code("68 20 02");
+    W.bc = 1;
+    DONE('I');
+    reset();
+    N.bc = 0x0010;
+    code("68 20 80");
+    W.bc = 0xFF90;
+    DONE('I');
+    /* logic on all 20 bits with the operand sign-extended; the tag stays */
+    reset();
+    N.ga = (struct emu_pointer){0xABCDE, true};
+    code("08 28 F0");
+    W.ga.address = 0xABCD0;
+    DONE('I');
+    reset();
+    N.ga = (struct emu_pointer){0xABCDE, true};
+    code("08 28 0F");
+    W.ga.address = 0x0000E;
+    DONE('I');
+    reset();
+    N.ga = (struct emu_pointer){0x01234, false};
+    code("08 24 84");
+    W.ga.address = 0xFFFB4;
+    DONE('I');
+    reset();
+    N.gc.address = 0x1234;
+    code("51 24 84 00");
+    W.gc.address = 0x12B4;
+    DONE('I');
+    reset();
+    N.ga = (struct emu_pointer){0x12345, true};
+    code("00 2C");
+    W.ga.address = 0xEDCBA;
+    DONE('I');
+    reset();
+    N.bc = 0x1234;
+    code("60 2C");
+    W.bc = 0xEDCB;
+    DONE('I');
+    /* INC and DEC, wrapping */
+    reset();
+    N.gb = (struct emu_pointer){0xFFFFF, true};
+    code("20 38");
+    W.gb.address = 0;
+    DONE('I');
+    reset();
+    N.gb.address = 0;
+    code("20 3C");
+    W.gb.address = 0xFFFFF;
+    DONE('I');
+    reset();
+    N.mc = 0xFFFF;
+    code("E0 38");
+    W.mc = 0;
+    DONE('I');
+    reset();
+    N.ix = 0;
+    code("A0 3C");
+    W.ix = 0xFFFF;
+    DONE('I');
+    /* from memory, into each kind of register */
+    reset();
+    N.gb = (struct emu_pointer){0x10000, true};
+    sys(0x1000, "FF FF");
+    code("21 A0");
+    W.gb.address = 0x0FFFF;
+    DONE('I');
+    reset();
+    N.gb = (struct emu_pointer){0x10000, false};
+    sys(0x1000, "FF");
+    code("20 A4");
+    W.gb.address = 0xFFFFF;
+    DONE('I');
+    reset();
+    N.gb = (struct emu_pointer){0xABCDE, true};
+    sys(0x1000, "FF 7F");
+    code("21 A8");
+    W.gb.address = 0x03CDE;
+    DONE('I');
+    /* NOT R,M: of the sign-extended operand, and the tag stays */
+    reset();
+    N.gb = (struct emu_pointer){0x12345, false};
+    sys(0x1000, "0F");
+    code("20 AC");
+    W.gb.address = 0xFFFF0;
+    DONE('I');
+    reset();
+    N.gb = (struct emu_pointer){0x12345, true};
+    sys(0x1000, "00 80");
+    code("21 AC");
+    W.gb.address = 0x07FFF;
+    DONE('I');
+    reset();
+    N.gb.tag = true;
+    sys(0x1000, "80");
+    code("20 AC");
+    W.gb.address = 0x0007F;
+    DONE('I');
+    /* TP: INC skips a byte, AND keeps its tag */
+    reset();
+    code("80 38");
+    W.tp.address = 0x103;
+    DONE('I');
+    reset();
+    N.tp = (struct emu_pointer){0x20100, true};
+    code("88 28 F0");
+    W.tp = (struct emu_pointer){0x20100, true};
+    DONE('I');
+    reset();
+    sys(0x1000, "10");
+    code("80 A0");
+    W.tp.address = 0x112;
+    DONE('I');
+    reset();
+    code("80 2C");
+    W.tp.address = 0xFFEFD;
+    DONE('I');
+}
+
+/* On memory. */
+static void test_memory_arithmetic(void)
+{
+    reset();
+    sys(0x1000, "FF 00");
+    code("00 E8");
+    want_sys(0x1000, "00 00");
+    DONE('I');
+    reset();
+    sys(0x1000, "FF 00");
+    code("01 E8");
+    want_sys(0x1000, "00 01");
+    DONE('I');
+    reset();
+    sys(0x1000, "00 00");
+    code("01 EC");
+    want_sys(0x1000, "FF FF");
+    DONE('I');
+    reset();
+    sys(0x1000, "00 00");
+    code("00 EC");
+    want_sys(0x1000, "FF 00");
+    DONE('I');
+    reset();
+    sys(0x1000, "0F F0");
+    code("01 DC");
+    want_sys(0x1000, "F0 0F");
+    DONE('I');
+    reset();
+    sys(0x1000, "0F F0");
+    code("00 DC");
+    want_sys(0x1000, "F0 F0");
+    DONE('I');
+    reset();
+    sys(0x1000, "01 01");
+    code("11 C0 FF 00");
+    want_sys(0x1000, "00 02");
+    DONE('I');
+    reset();
+    sys(0x1000, "01 01");
+    code("08 C0 FF");
+    want_sys(0x1000, "00 01");
+    DONE('I');
+    reset();
+    sys(0x1000, "FF FF");
+    code("11 C8 F0 0F");
+    want_sys(0x1000, "F0 0F");
+    DONE('I');
+    reset();
+    sys(0x1000, "01 01");
+    code("08 C4 80");
+    want_sys(0x1000, "81 01");
+    DONE('I');
+    reset();
+    sys(0x1000, "FF 00");
+    N.bc = 0x0101;
+    code("61 D0");
+    want_sys(0x1000, "00 02");
+    DONE('I');
+    reset();
+    sys(0x1000, "F0 0F");
+    N.bc = 0x3C3C;
+    code("61 D8");
+    want_sys(0x1000, "30 0C");
+    DONE('I');
+    reset();
+    sys(0x1000, "F0 0F");
+    N.gb.address = 0xF0C03;
+    code("21 D4");
+    want_sys(0x1000, "F3 0F");
+    DONE('I');
+    reset();
+    sys(0x1000, "F0 0F");
+    N.bc = 0x3C3C;
+    code("60 D8");
+    want_sys(0x1000, "30 0F");
+    DONE('I');
+    reset();
+    sys(0x1000, "F1 0F");
+    code("11 C4 0F 30");
+    want_sys(0x1000, "FF 3F");
+    DONE('I');
+    reset();
+    sys(0x1000, "F0 0F");
+    N.gb.address = 0xF3003;
+    code("21 D4");
+    want_sys(0x1000, "F3 3F");
+    DONE('I');
+    /* in I/O space only the I/O byte changes */
+    reset();
+    N.ga.tag = true;
+    code("00 E8");
+    want_io(0x1000, "5B");
+    DONE('I');
+    /* TP as the register is the address past the instruction */
+    reset();
+    sys(0x1000, "01 00");
+    code("81 D0");
+    want_sys(0x1000, "03 01");
+    DONE('I');
+    /* every bit of SETB and CLR, BBB 6 among them */
+    for (unsigned bit = 0; bit < 8; bit++) {
+        char hex[16];
+        reset();
+        sys(0x1000, "00");
+        snprintf(hex, sizeof hex, "%02X F4", bit << 5);
+        code(hex);
+        want.sys[0x1000] = (uint8_t)(1u << bit);
+        DONE('I');
+        reset();
+        sys(0x1000, "FF");
+        snprintf(hex, sizeof hex, "%02X F8", bit << 5);
+        code(hex);
+        want.sys[0x1000] = (uint8_t) ~(1u << bit);
+        DONE('I');
+    }
+}
+
+/* A byte or word as a signed number. */
+static int64_t as_signed(uint32_t value, bool word)
+{
+    int64_t v = word ? value & 0xFFFF : value & 0xFF;
+    return v >= (word ? 0x8000 : 0x80) ? v - (word ? 0x10000 : 0x100) : v;
+}
+
+/* ADD, OR, AND and NOT by plain arithmetic: 0 to 3 in the order of their opcodes. */
+static uint32_t by_arithmetic(unsigned operation, int64_t old, int64_t operand)
+{
+    int64_t results[4] = {old + operand, old | operand, old & operand, -1 - operand};
+    return (uint32_t)(results[operation] & 0xFFFFF);
+}
+
+/* Where RRR's value lies, as pointer or as word. */
+static uint32_t register_value(struct emu_channel *c, unsigned rrr)
+{
+    uint32_t values[8] = {c->ga.address, c->gb.address, c->gc.address, c->bc, c->tp.address, c->ix, c->cc, c->mc};
+    return values[rrr];
+}
+
+/* Sets RRR's value, as much as it has room for. */
+static void set_register(struct emu_channel *c, unsigned rrr, uint32_t value)
+{
+    struct emu_pointer *pointers[8] = {&c->ga, &c->gb, &c->gc, NULL, &c->tp, NULL, NULL, NULL};
+    uint16_t *words[8] = {NULL, NULL, NULL, &c->bc, NULL, &c->ix, &c->cc, &c->mc};
+    if (pointers[rrr] != NULL) pointers[rrr]->address = value & 0xFFFFF;
+    else *words[rrr] = (uint16_t)value;
+}
+
+/* One of four forms (R,M; M,R; R,I; M,I) of one operation, with PP as base so that every register is free. */
+static void arithmetic_case(unsigned form, unsigned operation, unsigned rrr, bool word, uint32_t held, uint32_t other)
+{
+    static const unsigned opcode[4][4] = {
+        {0x28, 0x29, 0x2A, 0x2B}, {0x34, 0x35, 0x36, 0}, {0x08, 0x09, 0x0A, 0}, {0x30, 0x31, 0x32, 0}};
+    struct emu_state s;
+    uint8_t small[32] = {0};
+    struct emu_memory m = {small, sizeof small, NULL, 0};
+    bool immediate = form >= 2, to_register = form == 0 || form == 2, memory = form != 2;
+    uint32_t in_memory = form == 3 ? held : other, length = immediate ? (word ? 4 : 3) : 2;
+    emu_fresh(0x10, &s);
+    struct emu_channel *c = &s.channel[0];
+    c->mode = EMU_RUNNING;
+    c->pp = 0x18;
+    c->ga.tag = true;
+    set_register(c, rrr, held);
+    c->tp.address = rrr == 4 ? (0x20u - length) & 0x1F : 0x04;
+    uint32_t at = c->tp.address, old = rrr == 4 ? at + length : register_value(c, rrr);
+    small[at] = (uint8_t)((form == 3 ? 0 : rrr << 5) | (immediate ? (word ? 0x10u : 0x08u) : 0) | (word ? 1u : 0));
+    small[at + 1] = (uint8_t)(opcode[form][operation] << 2 | (memory ? 3u : 0));
+    if (immediate) put(small, 32, at + 2, "00 00");
+    if (immediate) small[at + 2] = (uint8_t)other;
+    if (immediate && word) small[at + 3] = (uint8_t)(other >> 8);
+    small[0x18] = (uint8_t)in_memory;
+    small[0x19] = (uint8_t)(in_memory >> 8);
+    CHECK(emu_step(&s, &m, 0).number == 0);
+    if (to_register) {
+        uint32_t result = by_arithmetic(operation, old, as_signed(other, word));
+        CHECK(register_value(c, rrr) == (rrr < 3 || rrr == 4 ? result : (result & 0xFFFF)));
+        CHECK(c->ga.tag && !c->gb.tag);
+    } else {
+        uint32_t operand = form == 3 ? (uint32_t)as_signed(other, word) : old;
+        uint32_t result = by_arithmetic(operation, as_signed(in_memory, word), operand);
+        CHECK(small[0x18] == (result & 0xFF) && small[0x19] == (word ? result >> 8 & 0xFF : in_memory >> 8));
+    }
+}
+
+/* Every form, operation, width and register over numbers at the edges. */
+static void test_arithmetic_sweep(void)
+{
+    static const uint32_t edges[] = {0, 1, 0x7F, 0x80, 0xFF, 0x100, 0x7FFF, 0x8000, 0xC35A, 0xFFFF};
+    const unsigned count = sizeof edges / sizeof edges[0];
+    for (unsigned form = 0; form < 4; form++)
+        for (unsigned operation = 0; operation < (form == 0 ? 4u : 3u); operation++)
+            for (unsigned rrr = 0; rrr < 8; rrr++)
+                for (unsigned i = 0; i < 2 * count * count && rrr != 6; i++) {
+                    uint32_t held = edges[i / 2 % count] | (i % 3 == 0 ? 0xA0000 : 0);
+                    if (form == 3 || (form == 1 && rrr == 4)) held &= 0xFFFF;
+                    arithmetic_case(form, operation, rrr, i % 2 != 0, held, edges[i / 2 / count]);
+                }
+}
+
+/* ---- Instructions: jumps ---- */
+
+/* One conditional jump on a byte or word at GA, taken or not. */
+static void jump_case(const char *at_ga, const char *hex, bool taken, uint32_t by)
+{
+    reset();
+    N.mc = 0xF041;
+    N.bc = 0;
+    N.gb.address = 0x10000;
+    N.gc.address = 0x00001;
+    sys(0x1000, at_ga);
+    code(hex);
+    if (taken) W.tp.address = (W.tp.address + by) & 0xFFFFF;
+    DONE('I');
+}
+
+/* Conditions and displacements. */
+static void test_jumps(void)
+{
+    jump_case("00 01", "08 E4 7F", true, 0x7F);
+    jump_case("00 01", "09 E4 7F", false, 0);
+    jump_case("00 00", "09 E4 80", true, 0xFFF80);
+    jump_case("00 00", "11 E4 00 80", true, 0xF8000);
+    jump_case("00 00", "10 E4 FF 7F", true, 0x7FFF);
+    jump_case("00 01", "08 E0 7F", false, 0);
+    jump_case("00 01", "09 E0 FD", true, 0xFFFFD);
+    jump_case("80", "08 E0 01", true, 1);
+    /* registers: low 16 bits only */
+    jump_case("00", "28 44 10", true, 0x10);
+    jump_case("00", "28 40 10", false, 0);
+    jump_case("00", "48 44 10", false, 0);
+    jump_case("00", "48 40 10", true, 0x10);
+    jump_case("00", "70 44 FE FF", true, 0xFFFFE);
+    jump_case("00", "68 40 10", false, 0);
+    jump_case("00", "E8 40 10", true, 0x10);
+    /* TP as tested register is past the instruction, never 0 here */
+    jump_case("00", "88 40 10", true, 0x10);
+    /* bits, BBB 6 among them */
+    jump_case("40", "C8 BC 10", true, 0x10);
+    jump_case("40", "C8 B8 10", false, 0);
+    jump_case("BF", "C8 BC 10", false, 0);
+    jump_case("BF", "D0 B8 10 00", true, 0x10);
+    jump_case("01", "08 BC 10", true, 0x10);
+    jump_case("80", "E8 BC 10", true, 0x10);
+    jump_case("7F", "E8 BC 10", false, 0);
+    /* masked compare */
+    jump_case("4F", "08 B4 10", false, 0);
+    jump_case("5F", "08 B4 10", true, 0x10);
+    jump_case("40", "10 B0 00 01", true, 0x100);
+    jump_case("C1", "08 B0 10", false, 0);
+    /* TP that tests to 0 */
+    reset();
+    N.tp.address = 0x0FFFD;
+    code("88 44 10");
+    W.tp.address = 0x10010;
+    DONE('I');
+    /* JMP both ways, and around the end of 20 bits; the tag stays */
+    reset();
+    N.tp = (struct emu_pointer){0xFFFF0, true};
+    code("88 20 7F");
+    W.tp.address = 0x00072;
+    DONE('I');
+    reset();
+    code("91 20 00 80");
+    W.tp.address = 0xF8104;
+    DONE('I');
+    /* CALL stores TP in stored form, then jumps */
+    reset();
+    N.tp = (struct emu_pointer){0x20100, true};
+    code("8A 9D 04 F0");
+    want_sys(0x2004, "04 01 28");
+    W.tp.address = 0x200F4;
+    DONE('I');
+    reset();
+    code("90 9F 00 10");
+    want_sys(0x400, "04 01 00");
+    W.tp.address = 0x1104;
+    DONE('I');
+    /* a displacement of one byte with W 1, and of two with W 0 */
+    reset();
+    code("89 9C 10");
+    want_sys(0x1000, "03 01 00");
+    W.tp.address = 0x113;
+    DONE('I');
+    /* TSL: 0 is replaced, otherwise jump */
+    reset();
+    sys(0x1000, "00");
+    code("18 94 FF FC");
+    want_sys(0x1000, "FF");
+    DONE('I');
+    reset();
+    sys(0x1000, "01");
+    code("18 94 FF FC");
+    W.tp.address = 0x100;
+    DONE('I');
+    reset();
+    sys(0x1005, "00");
+    code("1A 94 05 77 FB");
+    want_sys(0x1005, "77");
+    DONE('I');
+    reset();
+    sys(0x1005, "80");
+    code("1A 94 05 00 FB");
+    W.tp.address = 0x100;
+    DONE('I');
+}
+
+/* ---- Instructions: control ---- */
+
+/* NOP, SINTR, WID, HLT. */
+static void test_control(void)
+{
+    reset();
+    code("00 00");
+    DONE('I');
+    reset();
+    code("40 00");
+    DONE('I');
+    reset();
+    N.psw |= EMU_PSW_IC;
+    code("40 00");
+    W.psw |= EMU_PSW_IS;
+    DONE('I');
+    reset();
+    N.psw |= EMU_PSW_IS;
+    code("40 00");
+    DONE('I');
+    for (unsigned sd = 0; sd < 4; sd++) {
+        char hex[16];
+        reset();
+        N.psw = (uint8_t)(EMU_PSW_TB | (sd ^ 3));
+        snprintf(hex, sizeof hex, "%02X 00", 0x80 | sd << 5);
+        code(hex);
+        W.psw = (uint8_t)(EMU_PSW_TB | sd);
+        DONE('I');
+    }
+    /* HLT: TP past it, BUSY of its own block */
+    reset();
+    N.psw = 0xBF;
+    code("20 48");
+    W.mode = EMU_IDLE;
+    W.psw = 0xBF & ~EMU_PSW_TB;
+    want_sys(0x41, "00");
+    DONE('I');
+    reset();
+    N2 = N;
+    N.mode = EMU_IDLE;
+    sys(0x100, "20 48");
+    want_same();
+    W2.mode = EMU_IDLE;
+    W2.psw = 0;
+    W2.tp.address = 0x102;
+    want.s.last = 2;
+    want_sys(0x49, "00");
+    DONE_ON('I', 2, 0);
+    REFUSED(1);
+}
+
+/* XFER and the armed mark. */
+static void test_xfer(void)
+{
+    reset();
+    code("60 00");
+    W.armed = true;
+    DONE('I');
+    /* the next instruction sets XF and takes the mark */
+    code("E0 00");
+    W.psw = EMU_PSW_TB | EMU_PSW_XF | 3;
+    W.armed = false;
+    DONE('I');
+    /* a second XFER while armed is the next instruction */
+    reset();
+    N.armed = true;
+    code("60 00");
+    W.psw |= EMU_PSW_XF;
+    W.armed = false;
+    DONE('I');
+    /* HLT: no transfer */
+    reset();
+    N.armed = true;
+    code("20 48");
+    W.armed = false;
+    W.mode = EMU_IDLE;
+    W.psw = 0;
+    want_sys(0x41, "00");
+    DONE('I');
+    /* a refused instruction leaves the mark */
+    reset();
+    N.armed = true;
+    sys(0x100, "04 04");
+    REFUSED(3);
+    /* a jump may follow */
+    reset();
+    N.armed = true;
+    code("88 20 10");
+    W.tp.address += 0x10;
+    W.psw |= EMU_PSW_XF;
+    W.armed = false;
+    DONE('I');
+    /* the mark outlives suspend and resume */
+    reset();
+    N.armed = true;
+    block(1, 0x06);
+    CHECK(emu_attention(&now.s, &now.m, 1) == 0 && N.armed);
+    block(1, 0x05);
+    CHECK(emu_attention(&now.s, &now.m, 1) == 0 && N.armed);
+    /* a transfer step and an external end leave the mark alone */
+    reset();
+    N.armed = true;
+    N.psw |= EMU_PSW_XF;
+    N.cc = 0x0020;
+    want_same();
+    want.s.last = 1;
+    W.bc = 0xFFFF;
+    want_sys(0x2000, "A5");
+    DONE('T');
+    want_same();
+    W.psw = EMU_PSW_TB;
+    DONE_ON('X', 1, 4);
+    code("00 00");
+    W.psw |= EMU_PSW_XF;
+    W.armed = false;
+    DONE('I');
+}
+
+/* ---- Transfers ---- */
+
+/* Sets channel 1 to a transfer from GA at 1000h to GB at 2000h; the case then says what differs. */
+static void transfer(unsigned widths, unsigned cc, unsigned bc)
+{
+    reset();
+    N.psw = (uint8_t)(EMU_PSW_TB | EMU_PSW_XF | widths);
+    N.cc = (uint16_t)cc;
+    N.bc = (uint16_t)bc;
+    sys(0x1000, "11 22 33 44");
+}
+
+/* Wants a step that moved this many bytes on moving sides and ended by this offset (or went on, if negative). */
+static void want_moved(unsigned bytes, int end)
+{
+    want_same();
+    want.s.last = 1;
+    bool gb = (N.cc & 0x0400) != 0;
+    struct emu_pointer *source = gb ? &W.gb : &W.ga, *destination = gb ? &W.ga : &W.gb;
+    if ((N.cc & 0x4000) != 0) source->address = (source->address + bytes) & 0xFFFFF;
+    if ((N.cc & 0x8000) != 0) destination->address = (destination->address + bytes) & 0xFFFFF;
+    W.bc = (uint16_t)(N.bc - bytes);
+    if (end < 0) return;
+    W.psw &= (uint8_t)~EMU_PSW_XF;
+    W.tp.address = (W.tp.address + (unsigned)end) & 0xFFFFF;
+}
+
+/* Shapes: which bytes move where. */
+static void test_transfer_shapes(void)
+{
+    /* B-B in all four moves */
+    for (unsigned f = 0; f < 4; f++) {
+        transfer(0, f << 14, 9);
+        want_moved(1, -1);
+        want_sys(0x2000, "11");
+        DONE('T');
+    }
+    /* W-W */
+    for (unsigned f = 0; f < 4; f++) {
+        transfer(3, f << 14, 9);
+        want_moved(2, -1);
+        want_sys(0x2000, "11 22");
+        DONE('T');
+    }
+    /* B/B-W: a byte side that moves on takes a and a + 1, one that does not takes a twice */
+    transfer(EMU_PSW_D, 0xC000, 9);
+    want_moved(2, -1);
+    want_sys(0x2000, "11 22");
+    DONE('T');
+    transfer(EMU_PSW_D, 0x8000, 9);
+    want_moved(2, -1);
+    want_sys(0x2000, "11 11");
+    DONE('T');
+    /* a word side that does not move on takes a and a + 1 each time */
+    transfer(EMU_PSW_D, 0x4000, 9);
+    want_moved(2, -1);
+    want_sys(0x2000, "11 22");
+    DONE('T');
+    want_moved(2, -1);
+    want_sys(0x2000, "33 44");
+    DONE('T');
+    transfer(EMU_PSW_S, 0x8000, 9);
+    want_moved(2, -1);
+    want_sys(0x2000, "11 22");
+    DONE('T');
+    want_moved(2, -1);
+    want_sys(0x2002, "11 22");
+    DONE('T');
+    /* W-B/B to a byte side that does not move: the second byte stays */
+    transfer(EMU_PSW_S, 0x4000, 9);
+    want_moved(2, -1);
+    want_sys(0x2000, "22");
+    DONE('T');
+    /* odd addresses: 16 bits wide but no word side */
+    transfer(3, 0xC000, 9);
+    N.ga.address = 0x1001;
+    N.gb.address = 0x2001;
+    want_moved(1, -1);
+    want_sys(0x2001, "22");
+    DONE('T');
+    transfer(3, 0xC000, 9);
+    N.ga.address = 0x1001;
+    want_moved(2, -1);
+    want_sys(0x2000, "22 33");
+    DONE('T');
+    transfer(3, 0xC000, 9);
+    N.gb.address = 0x2001;
+    want_moved(2, -1);
+    want_sys(0x2001, "11 22");
+    DONE('T');
+    /* source 16 at an odd address that does not move, destination a word side: a twice */
+    transfer(3, 0x8000, 9);
+    N.ga.address = 0x1001;
+    want_moved(2, -1);
+    want_sys(0x2000, "22 22");
+    DONE('T');
+    /* destination 16 at an odd address that does not move */
+    transfer(3, 0x4000, 9);
+    N.gb.address = 0x2001;
+    want_moved(2, -1);
+    want_sys(0x2001, "22");
+    DONE('T');
+    /* source is GB */
+    transfer(0, 0xC400, 9);
+    sys(0x2000, "77");
+    want_moved(1, -1);
+    want_sys(0x1000, "77");
+    DONE('T');
+    transfer(EMU_PSW_S, 0x8400, 9);
+    sys(0x2000, "77 88");
+    want_moved(2, -1);
+    want_sys(0x1000, "77 88");
+    DONE('T');
+    /* spaces by tag; evenness is bit 0 of the 20-bit pointer */
+    transfer(3, 0xC000, 9);
+    N.ga = (struct emu_pointer){0x31000, true};
+    io(0x1000, "66 99");
+    want_moved(2, -1);
+    want_sys(0x2000, "66 99");
+    DONE('T');
+    transfer(0, 0xC000, 9);
+    N.gb.tag = true;
+    want_moved(1, -1);
+    want_io(0x2000, "11");
+    DONE('T');
+    /* pointers wrap; bytes at the end of each space wrap by themselves */
+    transfer(0, 0xC000, 9);
+    N.ga = (struct emu_pointer){0xFFFFF, true};
+    io(0xFFFF, "66");
+    want_moved(1, -1);
+    CHECK(W.ga.address == 0);
+    want_sys(0x2000, "66");
+    DONE('T');
+    transfer(EMU_PSW_D, 0xC000, 9);
+    N.ga = (struct emu_pointer){0x0FFFF, true};
+    io(0xFFFF, "66 77");
+    want_moved(2, -1);
+    CHECK(W.ga.address == 0x10001 && W.ga.tag);
+    want_sys(0x2000, "66 77");
+    DONE('T');
+    transfer(EMU_PSW_D, 0xC000, 9);
+    N.ga.address = 0xFFFFF;
+    sys(0xFFFFF, "66 77");
+    want_moved(2, -1);
+    CHECK(W.ga.address == 1);
+    want_sys(0x2000, "66 77");
+    DONE('T');
+    /* reads come first where the sides overlap */
+    transfer(3, 0xC000, 9);
+    N.gb.address = 0x1001;
+    want_moved(2, -1);
+    want_sys(0x1001, "11 22");
+    DONE('T');
+    transfer(EMU_PSW_D, 0xC000, 9);
+    N.ga.address = 0x1001;
+    N.gb.address = 0x1002;
+    want_moved(2, -1);
+    want_sys(0x1002, "22 33");
+    DONE('T');
+}
+
+/* The byte count, on and off. */
+static void test_transfer_count(void)
+{
+    /* TBC off: BC falls and wraps, and nothing ends */
+    transfer(0, 0xC000, 1);
+    want_moved(1, -1);
+    want_sys(0x2000, "11");
+    DONE('T');
+    CHECK(N.bc == 0);
+    want_moved(1, -1);
+    CHECK(W.bc == 0xFFFF);
+    want_sys(0x2001, "22");
+    DONE('T');
+    /* TBC off and BC 1: two bytes all the same */
+    transfer(3, 0xC000, 1);
+    want_moved(2, -1);
+    CHECK(W.bc == 0xFFFF);
+    want_sys(0x2000, "11 22");
+    DONE('T');
+    /* TBC on and BC 1: one byte, at each side's address, in every shape */
+    for (unsigned widths = 0; widths < 4; widths++) {
+        for (unsigned tbc = 1; tbc < 4; tbc++) {
+            transfer(widths, 0xC000 | tbc << 3, 1);
+            want_moved(1, (int)(tbc - 1) * 4);
+            want_sys(0x2000, "11");
+            DONE('T');
+        }
+    }
+    /* TBC on and BC 0 moves, and does not end */
+    transfer(0, 0xC008, 0);
+    want_moved(1, -1);
+    want_sys(0x2000, "11");
+    DONE('T');
+    transfer(3, 0xC008, 0);
+    want_moved(2, -1);
+    CHECK(W.bc == 0xFFFE);
+    want_sys(0x2000, "11 22");
+    DONE('T');
+    /* 2 ends with a word, 3 goes on, offset 8 */
+    transfer(3, 0xC018, 2);
+    want_moved(2, 8);
+    want_sys(0x2000, "11 22");
+    DONE('T');
+    transfer(3, 0xC018, 3);
+    want_moved(2, -1);
+    want_sys(0x2000, "11 22");
+    DONE('T');
+    want_moved(1, 8);
+    want_sys(0x2002, "33");
+    DONE('T');
+    /* TP's end offset wraps and keeps the tag */
+    transfer(0, 0xC018, 1);
+    N.tp = (struct emu_pointer){0xFFFFC, true};
+    want_moved(1, 8);
+    CHECK(W.tp.address == 4);
+    want_sys(0x2000, "11");
+    DONE('T');
+    /* TS ends each transfer, offset 0 */
+    transfer(3, 0xC080, 9);
+    want_moved(2, 0);
+    want_sys(0x2000, "11 22");
+    DONE('T');
+    /* TS and TBC: the larger offset */
+    transfer(3, 0xC090, 2);
+    want_moved(2, 4);
+    want_sys(0x2000, "11 22");
+    DONE('T');
+    transfer(3, 0xC090, 4);
+    want_moved(2, 0);
+    want_sys(0x2000, "11 22");
+    DONE('T');
+}
+
+/* Masked compare. */
+static void test_transfer_match(void)
+{
+    /* TMC 001, 010, 011 on a match: offsets 0, 4, 8; 101 to 111 on none */
+    for (unsigned tmc = 0; tmc < 8; tmc++) {
+        for (unsigned equal = 0; equal < 2; equal++) {
+            transfer(0, 0xC000 | tmc, 9);
+            N.mc = equal ? 0xFF11 : 0xFF12;
+            bool on = (tmc & 3) != 0, met = on && (equal != 0) == (tmc < 4);
+            want_moved(1, met ? (int)((tmc & 3) - 1) * 4 : -1);
+            want_sys(0x2000, "11");
+            DONE('T');
+        }
+    }
+    /* TMC 100 is off; a mask of 0 matches everything */
+    transfer(0, 0xC004, 9);
+    N.mc = 0xFF99;
+    want_moved(1, -1);
+    want_sys(0x2000, "11");
+    DONE('T');
+    transfer(0, 0xC001, 9);
+    N.mc = 0x0099;
+    want_moved(1, 0);
+    want_sys(0x2000, "11");
+    DONE('T');
+    transfer(0, 0xC005, 9);
+    N.mc = 0x0099;
+    want_moved(1, -1);
+    want_sys(0x2000, "11");
+    DONE('T');
+    /* of a stored word only the low byte is looked at */
+    transfer(3, 0xC002, 9);
+    N.mc = 0xFF22;
+    want_moved(2, -1);
+    want_sys(0x2000, "11 22");
+    DONE('T');
+    transfer(3, 0xC002, 9);
+    N.mc = 0xFF11;
+    want_moved(2, 4);
+    want_sys(0x2000, "11 22");
+    DONE('T');
+    transfer(EMU_PSW_D, 0xC002, 9);
+    N.mc = 0xFF22;
+    want_moved(2, -1);
+    want_sys(0x2000, "11 22");
+    DONE('T');
+    transfer(EMU_PSW_D, 0xC006, 9);
+    N.mc = 0xFF22;
+    want_moved(2, 4);
+    want_sys(0x2000, "11 22");
+    DONE('T');
+    /* W-B/B: the first single store meets TMC, the second is not made, BC falls by 1 */
+    transfer(EMU_PSW_S, 0xC002, 9);
+    N.mc = 0xFF11;
+    want_moved(1, 4);
+    CHECK(W.bc == 8);
+    want_sys(0x2000, "11");
+    DONE('T');
+    /* the same with the source fixed and with the destination fixed */
+    transfer(EMU_PSW_S, 0x8002, 9);
+    N.mc = 0xFF11;
+    want_moved(1, 4);
+    want_sys(0x2000, "11");
+    DONE('T');
+    transfer(EMU_PSW_S, 0x4002, 9);
+    N.mc = 0xFF11;
+    want_moved(1, 4);
+    want_sys(0x2000, "11");
+    DONE('T');
+    /* the second single store meets TMC: both made */
+    transfer(EMU_PSW_S, 0xC003, 9);
+    N.mc = 0xFF22;
+    want_moved(2, 8);
+    want_sys(0x2000, "11 22");
+    DONE('T');
+    /* "no match" on the first of two */
+    transfer(EMU_PSW_S, 0xC007, 9);
+    N.mc = 0xFF22;
+    want_moved(1, 8);
+    want_sys(0x2000, "11");
+    DONE('T');
+    transfer(EMU_PSW_S, 0xC007, 9);
+    N.mc = 0xFF11;
+    want_moved(2, 8);
+    want_sys(0x2000, "11 22");
+    DONE('T');
+    /* single stores also on a wide destination at an odd address */
+    transfer(3, 0xC001, 9);
+    N.gb.address = 0x2001;
+    N.mc = 0xFF11;
+    want_moved(1, 0);
+    want_sys(0x2001, "11");
+    DONE('T');
+    transfer(3, 0xC001, 9);
+    N.gb.address = 0x2001;
+    N.mc = 0xFF22;
+    want_moved(2, 0);
+    want_sys(0x2001, "11 22");
+    DONE('T');
+    /* a single byte forced by BC 1 is matched like any other */
+    transfer(3, 0xC00B, 1);
+    N.mc = 0xFF11;
+    want_moved(1, 8);
+    want_sys(0x2000, "11");
+    DONE('T');
+    transfer(3, 0xC01A, 1);
+    N.mc = 0xFF11;
+    want_moved(1, 8);
+    want_sys(0x2000, "11");
+    DONE('T');
+    /* of several ends the largest offset wins, also over the byte count */
+    transfer(0, 0xC08B, 1);
+    N.mc = 0xFF11;
+    want_moved(1, 8);
+    want_sys(0x2000, "11");
+    DONE('T');
+    transfer(3, 0xC00A, 2);
+    N.mc = 0xFF11;
+    want_moved(2, 4);
+    want_sys(0x2000, "11 22");
+    DONE('T');
+    transfer(EMU_PSW_S, 0xC082, 9);
+    N.mc = 0xFF11;
+    want_moved(1, 4);
+    want_sys(0x2000, "11");
+    DONE('T');
+    /* the first of two singles ends it: the count is then not 0 */
+    transfer(EMU_PSW_S, 0xC009, 2);
+    N.mc = 0xFF11;
+    want_moved(1, 0);
+    CHECK(W.bc == 1);
+    want_sys(0x2000, "11");
+    DONE('T');
+    /* with TX on but no EXT up nothing ends */
+    transfer(0, 0xC060, 9);
+    want_moved(1, -1);
+    want_sys(0x2000, "11");
+    DONE('T');
+}
+
+/* Translation. */
+static void test_transfer_translate(void)
+{
+    transfer(0, 0xE000, 9);
+    sys(0x3011, "99");
+    want_moved(1, -1);
+    want_sys(0x2000, "99");
+    DONE('T');
+    /* in GC's space, the byte as an unsigned offset, wrapping */
+    transfer(0, 0xE000, 9);
+    N.gc = (struct emu_pointer){0x3FFFF, true};
+    sys(0x1000, "F0");
+    io(0x00EF, "98");
+    want_moved(1, -1);
+    want_sys(0x2000, "98");
+    DONE('T');
+    transfer(0, 0xE000, 9);
+    N.gc.address = 0xFFFFF;
+    sys(0x1000, "F0");
+    sys(0x000EF, "97");
+    want_moved(1, -1);
+    want_sys(0x2000, "97");
+    DONE('T');
+    /* match looks at the translated byte */
+    transfer(0, 0xE002, 9);
+    N.mc = 0xFF99;
+    sys(0x3011, "99");
+    want_moved(1, 4);
+    want_sys(0x2000, "99");
+    DONE('T');
+    transfer(0, 0xE002, 9);
+    N.mc = 0xFF11;
+    sys(0x3011, "99");
+    want_moved(1, -1);
+    want_sys(0x2000, "99");
+    DONE('T');
+    /* a 16-bit side is the width bit, whatever the address */
+    for (unsigned widths = 1; widths < 4; widths++) {
+        transfer(widths, 0xE000, 9);
+        REFUSED(5);
+        N.ga.address = 0x1001;
+        N.gb.address = 0x2001;
+        REFUSED(5);
+        N.bc = 1;
+        N.cc |= 0x0008;
+        REFUSED(5);
+    }
+}
+
+/* Refusals 5 and 2 of a transfer. */
+static void test_transfer_refusals(void)
+{
+    transfer(0, 0xD800, 9);
+    REFUSED(5);
+    REFUSED_ON(5, 3);
+    now.m.sys_len = 0;
+    REFUSED(5);
+    /* 5 before 2, and not waited for */
+    transfer(3, 0xE000, 9);
+    now.m.sys_len = 0x10;
+    REFUSED(5);
+    /* source, destination, translated byte */
+    transfer(0, 0xC000, 9);
+    now.m.sys_len = 0x1000;
+    REFUSED(2);
+    now.m.sys_len = 0x2000;
+    REFUSED(2);
+    now.m.sys_len = 0x2001;
+    CHECK(emu_step(&now.s, &now.m, 0).number == 0);
+    transfer(0, 0xE000, 9);
+    now.m.sys_len = 0x3011;
+    REFUSED(2);
+    now.m.sys_len = 0x3012;
+    CHECK(emu_step(&now.s, &now.m, 0).number == 0);
+    /* the second byte of a word side */
+    transfer(3, 0xC000, 9);
+    now.m.sys_len = 0x2001;
+    REFUSED(2);
+    transfer(3, 0xC000, 9);
+    N.ga.address = 0x2FFE;
+    now.m.sys_len = 0x2FFF;
+    REFUSED(2);
+    /* both source bytes are tested, also where a match prevents the second store */
+    transfer(EMU_PSW_S, 0xC001, 9);
+    N.ga.address = 0x2FFE;
+    N.mc = 0x0000;
+    now.m.sys_len = 0x2FFF;
+    REFUSED(2);
+    /* a second single store that a match prevents is not tested */
+    transfer(EMU_PSW_S, 0xC001, 9);
+    N.mc = 0xFF11;
+    now.m.sys_len = 0x2001;
+    want_moved(1, 0);
+    want_sys(0x2000, "11");
+    DONE('T');
+    transfer(EMU_PSW_S, 0xC001, 9);
+    N.mc = 0xFF12;
+    now.m.sys_len = 0x2001;
+    REFUSED(2);
+    /* a second single store at the same address needs no more */
+    transfer(EMU_PSW_S, 0x4000, 9);
+    now.m.sys_len = 0x2001;
+    want_moved(2, -1);
+    want_sys(0x2000, "22");
+    DONE('T');
+    /* a byte forced by BC 1 needs one byte on each side */
+    transfer(3, 0xC008, 1);
+    now.m.sys_len = 0x2001;
+    want_moved(1, 0);
+    want_sys(0x2000, "11");
+    DONE('T');
+}
+
+/* ---- Which channel steps ---- */
+
+/* Both channels ready for a plain instruction. */
+static void both_ready(void)
+{
+    reset();
+    N2 = N;
+    N2.tp.address = 0x200;
+    sys(0x100, "00 00");
+    sys(0x200, "00 00");
+}
+
+/* The channel that the next step takes, or 0. */
+static unsigned goes(uint32_t lines)
+{
+    struct emu_state s = now.s;
+    struct emu_stepped stepped = emu_step(&s, &now.m, lines);
+    return stepped.number == 0 ? stepped.channel : 0;
+}
+
+/* Ranks, priority, turns. */
+static void test_choice(void)
+{
+    /* turns */
+    both_ready();
+    CHECK(goes(0) == 1);
+    now.s.last = 1;
+    CHECK(goes(0) == 2);
+    /* priority before turns */
+    N.psw |= EMU_PSW_PRIORITY;
+    CHECK(goes(0) == 1);
+    N2.psw |= EMU_PSW_PRIORITY;
+    CHECK(goes(0) == 2);
+    N.psw = EMU_PSW_TB;
+    now.s.last = 2;
+    CHECK(goes(0) == 2);
+    /* rank before priority: chained, transfer */
+    N.cc = 0x0100;
+    CHECK(goes(0) == 1);
+    N.cc = 0;
+    N.psw |= EMU_PSW_XF;
+    CHECK(goes(0) == 1);
+    /* a transfer and a chained program have one rank */
+    N2.cc = 0x0100;
+    CHECK(goes(0) == 2);
+    N2.psw = EMU_PSW_TB;
+    CHECK(goes(0) == 1);
+    now.s.last = 1;
+    CHECK(goes(0) == 2);
+    /* waiting for DRQ: none; each channel has its own DRQ */
+    both_ready();
+    N.psw |= EMU_PSW_XF;
+    N.cc = 0x0800;
+    CHECK(goes(0) == 2);
+    CHECK(goes(2) == 2);
+    CHECK(goes(1) == 1);
+    N.cc = 0x1000;
+    CHECK(goes(0) == 2);
+    CHECK(goes(1) == 1);
+    N.cc = 0x1100;
+    CHECK(goes(0) == 2);
+    N2.mode = EMU_IDLE;
+    REFUSED(1);
+    REFUSED_ON(1, 2);
+    REFUSED_ON(1, 4);
+    both_ready();
+    N2.psw |= EMU_PSW_XF;
+    N2.cc = 0x1000;
+    now.s.last = 1;
+    CHECK(goes(0) == 1);
+    CHECK(goes(1) == 1);
+    CHECK(goes(2) == 2);
+    /* SYN 11 does not wait: it goes, and is refused, and the other channel is not tried */
+    both_ready();
+    N2.psw |= EMU_PSW_XF;
+    N2.cc = 0x1800;
+    REFUSED(5);
+    /* a refused instruction is not tried on the other channel */
+    both_ready();
+    sys(0x100, "04 04");
+    REFUSED(3);
+    CHECK(now.s.last == 2);
+    /* idle and suspended channels do not run, whatever TB and XF */
+    both_ready();
+    N.mode = EMU_SUSPENDED;
+    CHECK(goes(0) == 2);
+    N2.mode = EMU_IDLE;
+    REFUSED(1);
+    N.psw |= EMU_PSW_XF;
+    N.cc = 0x0020;
+    REFUSED_ON(1, 15);
+    /* a running channel with TB 0 runs */
+    both_ready();
+    N.psw = 0;
+    N2.mode = EMU_IDLE;
+    CHECK(goes(0) == 1);
+}
+
+/* External ends. */
+static void test_external(void)
+{
+    for (unsigned tx = 1; tx < 4; tx++) {
+        transfer(3, 0xC000 | tx << 5, 9);
+        want_same();
+        want.s.last = 1;
+        W.psw &= (uint8_t)~EMU_PSW_XF;
+        W.tp.address += (tx - 1) * 4;
+        DONE_ON('X', 1, 4);
+    }
+    /* TX 00: EXT says nothing; another channel's EXT says nothing */
+    transfer(0, 0xC000, 9);
+    want_moved(1, -1);
+    want_sys(0x2000, "11");
+    DONE_ON('T', 1, 4);
+    transfer(0, 0xC020, 9);
+    want_moved(1, -1);
+    want_sys(0x2000, "11");
+    DONE_ON('T', 1, 8);
+    /* no XF: EXT says nothing */
+    reset();
+    N.cc = 0x0060;
+    code("00 00");
+    DONE_ON('I', 1, 4);
+    /* it goes first, before priority and DRQ; channel 1 before 2 */
+    transfer(0, 0xC060, 9);
+    N2 = N;
+    N2.tp.address = 0x200;
+    N2.psw |= EMU_PSW_PRIORITY;
+    N2.cc = 0xC040;
+    now.s.last = 1;
+    want_same();
+    W.psw &= (uint8_t)~EMU_PSW_XF;
+    W.tp.address = 0x108;
+    DONE_ON('X', 1, 15);
+    want_same();
+    want.s.last = 2;
+    W2.psw &= (uint8_t)~EMU_PSW_XF;
+    W2.tp.address = 0x204;
+    DONE_ON('X', 2, 15);
+    /* a waiting transfer is ended too */
+    transfer(0, 0xC820, 9);
+    want_same();
+    want.s.last = 1;
+    W.psw &= (uint8_t)~EMU_PSW_XF;
+    DONE_ON('X', 1, 4);
+    /* 5 is not asked, nor is memory */
+    transfer(3, 0xF860, 9);
+    N.tp = (struct emu_pointer){0xFFFFE, true};
+    now.m.sys_len = 0;
+    now.m.io_len = 0;
+    want_same();
+    want.s.last = 1;
+    W.psw &= (uint8_t)~EMU_PSW_XF;
+    W.tp.address = 6;
+    DONE_ON('X', 1, 4);
+    /* 12, 11 and 10 are */
+    transfer(0, 0xC020, 9);
+    REFUSED_ON(12, 20);
+    now.m.io_len = EMU_IO_LIMIT + 1;
+    REFUSED_ON(11, 4);
+    now.m.io_len = 0;
+    N2.pp = 0x100000;
+    REFUSED_ON(10, 4);
+}
+
+/* ---- The panel ---- */
+
+/* The 38-byte example. */
+static void example(uint8_t *bytes)
+{
+    memset(bytes, 0, 38);
+    put(bytes, 38, 0, "03 00 10 00 00 00");
+    put(bytes, 38, 0x10, "20");
+    put(bytes, 38, 0x20, "71 30 34 12 20 48");
+}
+
+/* Whether the program prints exactly this for an input. */
+static void check_trace(const uint8_t *input, size_t length, const char *expected, int line)
+{
+    static char text[65536];
+    FILE *out = tmpfile();
+    if (out == NULL) {
+        check(false, "a temporary file", line);
+        return;
+    }
+    emu_panel(input, length, out);
+    rewind(out);
+    size_t n = fread(text, 1, sizeof text - 1, out);
+    text[n] = 0;
+    fclose(out);
+    check(strcmp(text, expected) == 0, "trace as wanted", line);
+}
+
+/* The program's trace. */
+static void test_panel_program(void)
+{
+    static uint8_t input[8192];
+    static char long_trace[65536];
+    example(input);
+    check_trace(input, 38, "1 1 I 00024\n2 1 I 00026\nend 1 2\n", __LINE__);
+    check_trace(input, 37, "1 1 I 00024\nend 2 1\n", __LINE__);
+    check_trace(input, 0, "end 2 0\n", __LINE__);
+    check_trace(NULL, 0, "end 2 0\n", __LINE__);
+    check_trace(input, 4097, "end 11 0\n", __LINE__);
+    check_trace(input, 8192, "end 11 0\n", __LINE__);
+    /* 4,096 bytes are taken; an endless program meets the limit with number 0 */
+    put(input, sizeof input, 0x20, "88 20 FD");
+    size_t used = 0;
+    for (unsigned i = 1; i <= 1000; i++)
+        used += (size_t)snprintf(long_trace + used, sizeof long_trace - used, "%u 1 I 00020\n", i);
+    snprintf(long_trace + used, sizeof long_trace - used, "end 0 1000\n");
+    check_trace(input, 4096, long_trace, __LINE__);
+    /* command 000 is accepted and nothing runs; a refused attention */
+    input[0] = 0x00;
+    check_trace(input, 38, "end 1 0\n", __LINE__);
+    input[0] = 0x06;
+    check_trace(input, 38, "end 9 0\n", __LINE__);
+    input[0] = 0x04;
+    check_trace(input, 38, "end 6 0\n", __LINE__);
+    /* a transfer step is T: MOVI CC,C008h; MOVI BC,1; XFER; NOP; one byte GA to GB; HLT in I/O space is not reached */
+    input[0] = 0x03;
+    put(input, sizeof input, 0x20, "D1 30 08 C0 68 30 01 60 00 00 00 20 48");
+    check_trace(input, 0x2D,
+                "1 1 I 00024\n2 1 I 00027\n3 1 I 00029\n4 1 I 0002B\n5 1 T 0002B\n6 1 I 0002D\nend 1 6\n", __LINE__);
+    /* 256 bytes of I/O memory: start in I/O space at FEh runs one NOP and stops at its end */
+    input[0] = 0x01;
+    put(input, sizeof input, 0x10, "FE 00");
+    check_trace(input, 38, "1 1 I 00100\nend 2 1\n", __LINE__);
+}
+
+/* The run's answer over channel, lines and limit. */
+static void test_run(void)
+{
+    uint8_t system[64], device[4] = {0};
+    struct emu_memory m = {system, 38, device, 4};
+    memset(system, 0, sizeof system);
+    example(system);
+    CHECK(emu_run(&m, 0, 1, 0, 1000) == 1 * 65536 + 2);
+    CHECK(system[1] == 0x00);
+    example(system);
+    CHECK(emu_run(&m, 0, 1, 0, 1) == 1);
+    CHECK(system[1] == 0xFF);
+    /* at the limit the number is 0, and limit 0 still gives the attention */
+    example(system);
+    CHECK(emu_run(&m, 0, 1, 0, 2) == 2);
+    example(system);
+    CHECK(emu_run(&m, 0, 1, 0, 0) == 0);
+    CHECK(system[1] == 0xFF);
+    system[0] = 0x02;
+    CHECK(emu_run(&m, 0, 1, 0, 0) == 6 * 65536);
+    /* 12, then 11, then 10 */
+    example(system);
+    m.sys_len = MIB + 1;
+    CHECK(emu_run(&m, 0x100000, 0, 0, 5) == 12 * 65536);
+    CHECK(emu_run(&m, 0x100000, 3, 0, 5) == 12 * 65536);
+    CHECK(emu_run(&m, 0x100000, 1, 16, 5) == 12 * 65536);
+    CHECK(emu_run(&m, 0x100000, 1, 0, 65536) == 12 * 65536);
+    CHECK(emu_run(&m, 0x100000, 1, 15, 65535) == 11 * 65536);
+    m.sys_len = 38;
+    m.io_len = 65537;
+    CHECK(emu_run(&m, 0x100000, 1, 15, 65535) == 11 * 65536);
+    m.io_len = 4;
+    CHECK(emu_run(&m, 0x100000, 1, 15, 65535) == 10 * 65536);
+    CHECK(emu_run(&m, 0xFFFFF, 1, 15, 65535) == 2 * 65536);
+    CHECK(system[1] == 0x00);
+    /* steps before a refusal keep their effect */
+    example(system);
+    put(system, 64, 0x20, "0A 4F 02 77 04 04");
+    CHECK(emu_run(&m, 0, 1, 0, 1000) == 3 * 65536 + 1);
+    CHECK(system[0x12] == 0x77 && system[1] == 0xFF);
+    /* an endless program: 65,535 steps */
+    example(system);
+    put(system, 64, 0x20, "88 20 FD");
+    CHECK(emu_run(&m, 0, 1, 0, 65535) == 65535);
+    /* channel 2's block */
+    memset(system, 0, sizeof system);
+    put(system, 64, 8, "03 00 10 00 00 00");
+    put(system, 64, 0x10, "20");
+    put(system, 64, 0x20, "20 48");
+    CHECK(emu_run(&m, 0, 2, 0, 1000) == 1 * 65536 + 1);
+    CHECK(system[9] == 0x00);
+    /* lines are held throughout: a transfer that waits for DRQ, and one that EXT ends */
+    for (unsigned lines = 0; lines < 3; lines++) {
+        static const uint32_t held[3] = {0, 1, 5}, answers[3] = {1 * 65536 + 4, 1 * 65536 + 6, 1 * 65536 + 6};
+        memset(system, 0, sizeof system);
+        put(system, 64, 0, "03 00 10 00 00 00");
+        put(system, 64, 0x10, "18");
+        put(system, 64, 0x18, "D1 30 28 C8 68 30 01 60 00 00 00 20 48");
+        m.sys_len = 64;
+        CHECK(emu_run(&m, 0, 1, held[lines], 1000) == answers[lines]);
+    }
+}
+
+/* ---- Invariants over made-up calls ---- */
+
+/* A number from a fixed sequence. */
+static uint32_t made_up(void)
+{
+    static uint64_t seed = 88172645463325252u;
+    seed ^= seed << 13;
+    seed ^= seed >> 7;
+    seed ^= seed << 17;
+    return (uint32_t)(seed >> 16);
+}
+
+/* A small address, or now and then one at an edge. */
+static uint32_t made_up_address(void)
+{
+    static const uint32_t edges[] = {0xFFFFF, 0xFFFF, 0xFFFE, 0x10000, 0xFFFFC, 0x100000};
+    uint32_t r = made_up();
+    return r % 16 == 0 ? edges[r / 16 % 6] : r / 16 % 220;
+}
+
+/* A channel with anything in it. */
+static void made_up_channel(struct emu_channel *c)
+{
+    struct emu_pointer *pointers[4] = {&c->ga, &c->gb, &c->gc, &c->tp};
+    for (unsigned i = 0; i < 4; i++) *pointers[i] = (struct emu_pointer){made_up_address(), made_up() % 2 != 0};
+    c->pp = made_up_address() & 0xFFFFF;
+    c->bc = (uint16_t)(made_up() % 5);
+    c->ix = (uint16_t)(made_up() % 8);
+    c->cc = (uint16_t)made_up();
+    c->mc = (uint16_t)made_up();
+    c->psw = (uint8_t)made_up();
+    c->mode = (enum emu_mode)(made_up() % 3);
+    c->armed = made_up() % 4 == 0;
+}
+
+/* Whether every 20-bit register of a state is one. */
+static bool sound(const struct emu_state *s)
+{
+    bool good = s->cp <= 0xFFFFF;
+    for (unsigned i = 0; i < 2; i++) {
+        const struct emu_channel *c = &s->channel[i];
+        good = good && c->ga.address <= 0xFFFFF && c->gb.address <= 0xFFFFF && c->gc.address <= 0xFFFFF;
+        good = good && c->tp.address <= 0xFFFFF && c->pp <= 0xFFFFF;
+    }
+    return good;
+}
+
+/* A refusal changes nothing, a done call leaves a sound state, marks its channel and lets the other one be. */
+static void test_invariants(void)
+{
+    unsigned broken = 0, numbers[EMU_NUMBERS] = {0};
+    for (unsigned long i = 0; i < 200000; i++) {
+        uint8_t a[256], b[256], a0[256], b0[256];
+        struct emu_memory m = {a, made_up() % 257, b, made_up() % 257};
+        struct emu_state s, s0;
+        for (unsigned j = 0; j < 256; j++) a[j] = (uint8_t)made_up(), b[j] = (uint8_t)(made_up() % 2 ? made_up() : 0);
+        emu_fresh(made_up() % 200, &s);
+        made_up_channel(&s.channel[0]);
+        made_up_channel(&s.channel[1]);
+        if (made_up() % 2 != 0) a[s.channel[0].tp.address % 255 + 1] = (uint8_t)(made_up() % 0x40 << 2);
+        s0 = s;
+        memcpy(a0, a, sizeof a);
+        memcpy(b0, b, sizeof b);
+        bool attention = made_up() % 4 == 0;
+        unsigned channel = made_up() % 2 + 1, number;
+        if (attention) {
+            number = emu_attention(&s, &m, channel);
+        } else {
+            struct emu_stepped stepped = emu_step(&s, &m, made_up() % 17);
+            number = stepped.number;
+            channel = stepped.channel;
+        }
+        numbers[number]++;
+        bool changed = !emu_same_state(&s, &s0) || memcmp(a, a0, sizeof a) != 0 || memcmp(b, b0, sizeof b) != 0;
+        if (number != 0) {
+            broken += changed;
+            continue;
+        }
+        broken += !sound(&s) || s.cp != s0.cp || s.last != (attention ? s0.last : channel);
+        s0.channel[channel - 1] = s.channel[channel - 1];
+        s0.last = s.last;
+        broken += !emu_same_state(&s, &s0);
+    }
+    CHECK(broken == 0);
+    for (unsigned number = 0; number < EMU_NUMBERS; number++) CHECK(number == 11 || numbers[number] > 0);
+}
+
+/* ---- Counters ---- */
+
+/* The lent counters say what happened, and refused steps count as refusals only. */
+static void test_coverage(void)
+{
+    static struct emu_coverage c;
+    memset(&c, 0, sizeof c);
+    emu_coverage = &c;
+    reset();
+    sys(0x100, "88 20 00");
+    CHECK(emu_step(&now.s, &now.m, 0).number == 0);
+    sys(0x103, "04 04");
+    CHECK(emu_step(&now.s, &now.m, 0).number == 3);
+    transfer(EMU_PSW_S, 0xC09A, 9);
+    N.mc = 0xFF11;
+    CHECK(emu_step(&now.s, &now.m, 0).number == 0);
+    transfer(EMU_PSW_S, 0xC060, 9);
+    CHECK(emu_step(&now.s, &now.m, 4).number == 0);
+    block(1, 0x06);
+    CHECK(emu_attention(&now.s, &now.m, 1) == 0);
+    CHECK(emu_attention(&now.s, &now.m, 1) == 9);
+    emu_coverage = NULL;
+    CHECK(strcmp(emu_row_name(emu_row_of(0x88, 0x20)), "JMP") == 0);
+    CHECK(c.row[emu_row_of(0x88, 0x20)] == 1 && c.step_refused[3] == 1);
+    CHECK(c.shape[EMU_SHAPE_W_B_CUT] == 1 && c.end[EMU_END_TMC | EMU_END_TS] == 1 && c.end_offset[1] == 1);
+    CHECK(c.external[2] == 1 && c.attention[6] == 1 && c.attention_refused[9] == 1);
+    unsigned long all = 0;
+    for (unsigned row = 0; row < EMU_ROWS; row++) all += c.row[row];
+    CHECK(all == 1);
+    CHECK(strcmp(emu_row_name(EMU_NO_ROW), "3") == 0);
+}
+
+/* Runs every case and fails if one check did. */
+int main(void)
+{
+    test_decoder_counts();
+    test_decoder_by_steps();
+    test_decoder_listings();
+    test_decoder_readings();
+    test_twelve_cases();
+    test_fresh();
+    test_early_order();
+    test_refusal_10();
+    test_start();
+    test_start_overlap();
+    test_block_wraps();
+    test_suspend_resume();
+    test_command_refusals();
+    test_attention_bytes();
+    test_icf();
+    test_order_of_tests();
+    test_second_pair();
+    test_wrapping();
+    test_moves();
+    test_index();
+    test_register_arithmetic();
+    test_memory_arithmetic();
+    test_arithmetic_sweep();
+    test_jumps();
+    test_control();
+    test_xfer();
+    test_transfer_shapes();
+    test_transfer_count();
+    test_transfer_match();
+    test_transfer_translate();
+    test_transfer_refusals();
+    test_choice();
+    test_external();
+    test_panel_program();
+    test_run();
+    test_invariants();
+    test_coverage();
+    printf("%lu checks, %lu failures\n", checks, failures);
+    return failures == 0 ? 0 : 1;
+}
