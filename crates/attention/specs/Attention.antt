@@ -28,7 +28,7 @@ orderNumber m o mode =
     (first (commandNumber (o .command) mode)
     (unless (allLent m (others o)) 2))
 
--- what an order to a channel comes to, unless it or what was given is refused: the channel after it, and what it stores
+-- what the order in a block comes to before anything is stored: refused, also for what was given, it leaves the channel as it is and stores nothing
 unfoldable pub effectOf : Buffers → ℕ → ℕ → Channel → Effect
 effectOf m given block c =
     let o = orderOf m block (c .pp) in

@@ -17,7 +17,7 @@ use Rattle.attention.specs.declared.Writes.{Writes}
 use Rattle.attention.specs.Blocks.{busyOf}
 use Rattle.attention.specs.Commands.{ordered}
 
--- the registers of a channel that a command can change: TP, PP, PSW, the mode and the armed mark; "No other register moves"
+-- a channel with other TP, PP, PSW, mode and armed mark, which are all that a command can change; "No other register moves"
 unfoldable pub withControl : Channel → Pointer → ℕ → ℕ → Mode → Bool → Channel
 withControl c tp pp psw mode armed =
     record {
@@ -35,7 +35,7 @@ withControl c tp pp psw mode armed =
       armed = armed;
     }
 
--- all of those but PP
+-- what a command decides of those: all but PP
 abbrev pub control : Pointer → ℕ → Mode → Bool → Control
 control tp psw mode armed = record { tp = tp; psw = psw; mode = mode; armed = armed }
 

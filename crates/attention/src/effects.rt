@@ -9,9 +9,9 @@ use machine::Mode;
 use machine::psw;
 use memory::Pointer;
 ghost use mathlib.Core.Path.{_≡_};
+ghost use Rattle.words.specs.Choice.{pick};
 ghost use Rattle.memory.specs.Buffers.{buffers};
 ghost use Rattle.attention.specs.Effects as Effects;
-ghost use Rattle.words.specs.Choice.{pick};
 ghost use Rattle.attention.specs.Effects.{withControl, channelOrdered, writesOf, saved, marked, written};
 
 // The control registers after a start.
@@ -81,23 +81,6 @@ fn commanded(sys: &[u8], io: &[u8], command: Command, pb: u32, k: Control) -> Co
     }
 }
 
-// The channel after an accepted order.
-pub fn channel_ordered(sys: &[u8], io: &[u8], o: Order, c: Channel) -> Channel
-    ensures { λ r. ⌜ r ≡ channelOrdered (buffers (now (sys .entry)) (now (io .entry))) o c ⌝ }
-{
-    let command = o.command;
-    let tp = c.tp;
-    let mode = c.mode;
-    let before = Control {
-        tp,
-        psw: c.psw,
-        mode,
-        armed: c.armed,
-    };
-    let k = commanded(sys, io, command, o.pb, before);
-    with_control(c, k, o.pb, commands::ordered(o.ccw, k.psw))
-}
-
 // The channel with the registers changed that a command can change.
 fn with_control(c: Channel, k: Control, pp: u32, psw: u8) -> Channel
     ensures { λ r. ⌜ r ≡ withControl c (k .tp) pp psw (k .mode) (k .armed) ⌝ }
@@ -121,6 +104,23 @@ fn with_control(c: Channel, k: Control, pp: u32, psw: u8) -> Channel
         mode,
         armed: k.armed,
     }
+}
+
+// The channel after an accepted order.
+pub fn channel_ordered(sys: &[u8], io: &[u8], o: Order, c: Channel) -> Channel
+    ensures { λ r. ⌜ r ≡ channelOrdered (buffers (now (sys .entry)) (now (io .entry))) o c ⌝ }
+{
+    let command = o.command;
+    let tp = c.tp;
+    let mode = c.mode;
+    let before = Control {
+        tp,
+        psw: c.psw,
+        mode,
+        armed: c.armed,
+    };
+    let k = commanded(sys, io, command, o.pb, before);
+    with_control(c, k, o.pb, commands::ordered(o.ccw, k.psw))
 }
 
 // What an order stores, with what it needs for that.

@@ -1,7 +1,7 @@
 // Whether the bytes that an order touches are lent.
 use crate::Command;
 use crate::Order;
-ghost use mathlib.Core.Bool.{false, _&&_};
+ghost use mathlib.Core.Bool.{false};
 ghost use mathlib.Core.Path.{_≡_};
 ghost use mathlib.Core.List.{_++_};
 ghost use Prim.Native.Nat.{_+_};

@@ -2,7 +2,6 @@
 -- Assumes nothing.
 use borrow.Author.Needs.{needs}
 use denote.Ref.{now}
-use mathlib.Core.Path.{_∙_}
 use Rattle.memory.specs.Buffers.{buffers}
 use Rattle.attention.proofs.PlanLaws.{planned-settled}
 use Rattle.attention.proofs.attention.Statement.{statement}
@@ -40,8 +39,8 @@ returns c =
     let a = c .before .before .before .before .before .before .before .before .before .before .before .before .before .before .before .before .before .before .before .before .before .args in
     rw (c .with-channel .ensures, c .before .before .before .before .before .before .write .ensures, c .before .before .before .before .before .before .before .before .before .before .before .before .before .before .before .is-second .ensures)
     (planned-settled (a .s) (buffers (now (a .sys)) (now (a .io))) (a .channel) (c .before .before .before .before .before .before .before .before .before .before .planned .result)
-    (c .before .before .before .before .before .before .before .before .before .before .planned .ensures
-    ∙ rw (c .before .before .before .before .before .before .before .before .before .before .before .block .ensures, c .before .before .before .before .before .before .before .before .before .before .before .before .before .before .channel .ensures, c .before .before .before .before .before .before .before .before .before .before .before .before .before .before .before .is-second .ensures, c .before .before .before .before .before .before .before .before .before .before .before .before .before .before .before .before .given-number .ensures)))
+    (rw (← (c .before .before .before .before .before .before .before .before .before .before .before .before .before .before .before .before .given-number .ensures), ← (c .before .before .before .before .before .before .before .before .before .before .before .before .before .before .before .is-second .ensures), ← (c .before .before .before .before .before .before .before .before .before .before .before .before .before .before .channel .ensures), ← (c .before .before .before .before .before .before .before .before .before .before .before .block .ensures))
+    (c .before .before .before .before .before .before .before .before .before .before .planned .ensures)))
 
 pub attention-spec : {M : Type 1} → statement M
 attention-spec =

@@ -1,0 +1,68 @@
+-- Attentions worked out: the one of the example program, and a channel that is suspended and resumed.
+-- Assumes nothing.
+use Prim.Native.Nat.{ℕ, zero, suc, _+_, _<_}
+use lib.ListN.{set}
+use mathlib.Core.Bool.{true, false}
+use mathlib.Core.List.{List, [], _∷_}
+use mathlib.Core.Path.{_≡_, refl}
+use native.Mathlib.Omega.{arith}
+use Rattle.machine.proofs.OutcomeLaws.{accepted}
+use Rattle.machine.specs.Outcomes.{outcome, unless, first, settled, givenNumber}
+use Rattle.machine.specs.Psw.{withPsw}
+use Rattle.machine.specs.States.{idleChannel, freshState, channelOf, withChannel, soundChannel, sound, isChannel, isSecond}
+use Rattle.machine.specs.declared.Mode.the-variants.{Running}
+use Rattle.machine.specs.declared.State.{State}
+use Rattle.memory.specs.Buffers.{Buffers, buffers, spaceOf, limitOf, indexOf, lentAt, byteAt, storeByte, withinLimits}
+use Rattle.memory.specs.Places.{span, allLent}
+use Rattle.memory.specs.Values.{wordAt, doublewordAt, pointer, pointerAt, storePointer}
+use Rattle.words.specs.Bits.{fieldOf, bitOf, withBit}
+use Rattle.attention.specs.Attention.{orderTo, orderNumber, channelAfter, memoryAfter, givenTo, attentionNumber, attentionOf}
+use Rattle.attention.specs.Blocks.{blockOf, ccwOf, parameterBlock, orderOf}
+use Rattle.attention.specs.Commands.{commandCoded, isKnown, isRunning, isSuspended, modeNumber, commandNumber, copied, obeyed, ordered}
+use Rattle.attention.specs.Effects.{withControl, started, stopped, resumed, commanded, channelOrdered, writesOf, saved, marked, written}
+use Rattle.attention.specs.Pauses.{Pause}
+use Rattle.attention.specs.Touched.{readBy, storedBy, others}
+
+-- the example's system memory
+abbrev pub input : List ℕ
+input =
+    3 ∷ 0 ∷ 16 ∷ 0 ∷ 0 ∷ 0 ∷ 0 ∷ 0 ∷ 0 ∷ 0 ∷ 0 ∷ 0 ∷ 0 ∷ 0 ∷ 0 ∷ 0 ∷ 32 ∷ 0 ∷ 0 ∷ 0 ∷ 0 ∷ 0 ∷ 0 ∷ 0 ∷ 0 ∷ 0 ∷ 0 ∷ 0 ∷ 0 ∷ 0 ∷ 0 ∷ 0
+    ∷ 113 ∷ 48 ∷ 52 ∷ 18 ∷ 32 ∷ 72 ∷ []
+
+-- its attention starts channel 1 at 20h of system space, with PB at 10h, TB 1 and BUSY FFh
+pub example-starts : attentionOf (freshState 0) (buffers input []) 1
+    ≡ outcome 0 (withChannel (freshState 0) false (withControl idleChannel (pointer 32 false) 16 4 Running false)) (buffers (set input 1 255) [])
+unfolding freshState idleChannel attentionOf attentionNumber givenTo givenNumber unless first isChannel withinLimits limitOf sound soundChannel orderNumber orderTo orderOf blockOf channelOf isSecond ccwOf commandCoded fieldOf parameterBlock doublewordAt wordAt byteAt indexOf spaceOf allLent lentAt span commandNumber isKnown modeNumber isRunning isSuspended others readBy storedBy settled memoryAfter written writesOf saved storePointer marked storeByte channelAfter channelOrdered commanded started stopped resumed pointerAt ordered copied obeyed withPsw withBit bitOf withControl withChannel
+example-starts = refl
+
+-- a state whose channel 1 runs a transfer at 12345h of I/O space, with PB at 8
+abbrev pub running : State
+running = withChannel (freshState 0) false (withControl idleChannel (pointer 74565 true) 8 68 Running false)
+
+-- memory with the order to suspend it
+abbrev pub toSuspend : Buffers
+toSuspend = buffers (6 ∷ 255 ∷ 0 ∷ 0 ∷ 0 ∷ 0 ∷ 0 ∷ 0 ∷ 0 ∷ 0 ∷ 0 ∷ 0 ∷ []) []
+
+-- what suspend leaves of it, with the order to resume
+abbrev pub toResume : Buffers
+toResume = buffers (5 ∷ 0 ∷ 0 ∷ 0 ∷ 0 ∷ 0 ∷ 0 ∷ 0 ∷ 69 ∷ 35 ∷ 24 ∷ 68 ∷ []) []
+
+-- so a pause as it is defined can happen
+pub some-pause : Pause running toSuspend (attentionOf running toSuspend 1 .state) toResume 1
+unfolding freshState idleChannel attentionOf attentionNumber givenTo givenNumber unless first isChannel withinLimits limitOf sound soundChannel orderNumber orderTo orderOf blockOf channelOf isSecond ccwOf commandCoded fieldOf parameterBlock doublewordAt wordAt byteAt indexOf spaceOf allLent lentAt span commandNumber isKnown modeNumber isRunning isSuspended others readBy storedBy settled memoryAfter written writesOf saved storePointer marked storeByte channelAfter channelOrdered commanded started stopped resumed pointerAt ordered copied obeyed withPsw withBit bitOf withControl withChannel
+some-pause = record {
+  accepted = refl;
+  suspends = refl;
+  accepted′ = refl;
+  resumes = refl;
+  registers = refl;
+  bytes = bytes;
+  busy = ((λ e i. omega arith), ((λ e i. omega arith), ((λ e i. omega arith), ((λ e i. omega arith), tt))));
+}
+  where
+    bytes : (k : ℕ) → k < 4 → byteAt toResume false (8 + k) ≡ byteAt (attentionOf running toSuspend 1 .memory) false (8 + k)
+    bytes zero h = refl
+    bytes (suc zero) h = refl
+    bytes (suc (suc zero)) h = refl
+    bytes (suc (suc (suc zero))) h = refl
+    bytes (suc (suc (suc (suc k)))) h = absurd (omega arith)
