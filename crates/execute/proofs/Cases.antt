@@ -17,11 +17,11 @@ use Rattle.memory.specs.Places.{span, allLent}
 use Rattle.memory.specs.Values.{wordAt, pointer}
 use Rattle.words.specs.Bits.{fieldOf}
 use Rattle.words.specs.Signs.{extended}
-use Rattle.execute.specs.Changes.{placesOf}
-use Rattle.execute.specs.Deeds.{effectOf}
+use Rattle.operands.specs.Changes.{placesOf}
+use Rattle.deeds.specs.Deeds.{effectOf}
 use Rattle.execute.specs.Execute.{decodedAt, performed, deedOf, laterBytes, deedFrom, shapeNumber, numberFrom, executeNumber, settledEffect, planOf, Executed, executeOf}
-use Rattle.execute.specs.Operands.{onward, renewed, advanced, operandAt, workOf, isMove}
-use Rattle.execute.specs.RegisterForms.{written, registerImmediateDeed}
+use Rattle.operands.specs.Operands.{onward, renewed, advanced, operandAt, workOf, isMove}
+use Rattle.deeds.specs.RegisterForms.{written, registerImmediateDeed}
 
 -- a channel whose program stands at an address of system memory
 abbrev pub standing : Channel → ℕ → Channel

@@ -1,20 +1,17 @@
 -- The laws of an instruction that is read, refused or done.
 -- Assumes nothing.
-use Prim.Native.Nat.{ℕ, _≤_}
+use Prim.Native.Nat.{ℕ}
 use borrow.Author.Tests.{eqb-false, ne-eqb}
 use denote.Enum.Declared.{tagOf as variant}
-use lib.Dec.{eqb, lit≤}
-use mathlib.Core.Bool.{Bool, true, false}
+use mathlib.Core.Bool.{true, false}
 use mathlib.Core.List.{[], _∷_}
 use mathlib.Core.Logic.{⊎-elim}
 use mathlib.Core.Path.{_≡_, refl}
 use types.Run.{OneOf}
 use Rattle.decode.proofs.Decoded.{the-type}
-use Rattle.decode.specs.Lengths.{offsetLength}
 use Rattle.decode.specs.Reading.{numberOf}
 use Rattle.decode.specs.declared.Decoded.{Decoded}
 use Rattle.decode.specs.declared.Decoded.the-variants.{Instruction, NoInstruction, ControlUsed}
-use Rattle.decode.specs.declared.Memory.{Memory}
 use Rattle.decode.specs.declared.Shape.{Shape}
 use Rattle.machine.proofs.OutcomeLaws.{first-some, first-zero}
 use Rattle.machine.specs.Outcomes.{unless, first}
@@ -22,22 +19,13 @@ use Rattle.machine.specs.declared.Channel.{Channel}
 use Rattle.memory.specs.Buffers.{Buffers}
 use Rattle.memory.specs.Places.{allLent}
 use Rattle.words.specs.Choice.{pick}
-use Rattle.execute.specs.Changes.{placesOf}
-use Rattle.execute.specs.Deeds.{effectOf}
+use Rattle.operands.specs.Changes.{placesOf}
+use Rattle.deeds.specs.Deeds.{effectOf}
 use Rattle.execute.specs.Execute.{decodedAt, deedOf, laterBytes, deedFrom, shapeNumber, numberFrom, executeNumber, settledEffect, planOf}
-use Rattle.execute.specs.Operands.{bytesAt}
-use Rattle.execute.specs.declared.Change.{Change}
-use Rattle.execute.specs.declared.Change.the-variants.{Nothing}
-use Rattle.execute.specs.declared.Effect.{Effect}
-
--- an offset has at most one byte
-pub offset-small : (o : Memory) → offsetLength o ≤ 1
-unfolding offsetLength
-offset-small o = go (eqb (o .aa) 1)
-  where
-    go : (b : Bool) → pick b 1 0 ≤ 1
-    go true = lit≤ tt
-    go false = lit≤ tt
+use Rattle.operands.specs.Operands.{bytesAt}
+use Rattle.operands.specs.declared.Change.{Change}
+use Rattle.operands.specs.declared.Change.the-variants.{Nothing}
+use Rattle.deeds.specs.declared.Effect.{Effect}
 
 -- an effect by its parts; a refusal leaves the channel and stores nothing
 abbrev pub effectWith : ℕ → Channel → Change → Effect

@@ -17,12 +17,12 @@ use Rattle.memory.specs.Places.{Place, span, Apart}
 use Rattle.memory.specs.Values.{storeWord, storePointer}
 use Rattle.words.specs.Bytes.{lowByte, highByte}
 use Rattle.words.specs.Stored.{storedLow, storedMiddle, storedHigh}
-use Rattle.execute.specs.Changes.{placesOf, changed}
+use Rattle.operands.specs.Changes.{placesOf, changed}
 use Rattle.execute.specs.Execute.{decodedAt, deedOf, laterBytes, deedFrom, touchedFrom, touched, executeOf}
 use Rattle.execute.specs.Kept.{Away, deedAt}
-use Rattle.execute.specs.Operands.{bytesAt}
-use Rattle.execute.specs.declared.Change.{Change}
-use Rattle.execute.specs.declared.Change.the-variants.{Nothing, Byte, Word, Stored}
+use Rattle.operands.specs.Operands.{bytesAt}
+use Rattle.operands.specs.declared.Change.{Change}
+use Rattle.operands.specs.declared.Change.the-variants.{Nothing, Byte, Word, Stored}
 use Rattle.execute.proofs.OutcomeLaws.{by-number}
 
 -- a change alters no length

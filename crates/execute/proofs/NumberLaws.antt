@@ -24,15 +24,15 @@ use Rattle.machine.specs.declared.Channel.{Channel}
 use Rattle.memory.specs.Buffers.{Buffers, spaceOf, indexOf, lentAt}
 use Rattle.memory.specs.Places.{Place, allLent}
 use Rattle.words.proofs.ChoiceLaws.{apart}
-use Rattle.execute.specs.Changes.{placesOf}
+use Rattle.operands.specs.Changes.{placesOf}
 use Rattle.execute.specs.Conditions.{check, Given, Beyond, NoCode, ControlTouched, laterFrom, LaterBeyond, secondAt, NoSecondPair, ReadsBeyond, StoresBeyond, checksFrom, checks, Given4, Given3, Given2, Given0}
-use Rattle.execute.specs.Control.{nopDeed, sintrDeed, xferDeed, widDeed, hltDeed}
-use Rattle.execute.specs.Deeds.{Deed, effectOf}
+use Rattle.deeds.specs.Control.{nopDeed, sintrDeed, xferDeed, widDeed, hltDeed}
+use Rattle.deeds.specs.Deeds.{Deed, effectOf}
 use Rattle.execute.specs.Execute.{decodedAt, performed, deedOf, laterBytes, deedFrom, shapeNumber, numberFrom, executeNumber, executeOf}
-use Rattle.execute.specs.JumpForms.{jumpRegisterDeed, jumpMemoryDeed, jumpByteDeed, jumpMaskedDeed, jumpBitDeed, tslDeed, callDeed}
-use Rattle.execute.specs.MemoryForms.{memoryWorkDeed, memoryRegisterDeed, memoryImmediateDeed, memoryAloneDeed, movpStoreDeed, bitDeed, movOperandDeed, movSecondDeed, movMemoryDeed}
-use Rattle.execute.specs.Operands.{byteHere, bytesAt, advanced, effective}
-use Rattle.execute.specs.RegisterForms.{registerImmediateDeed, registerDeed, registerMemoryDeed, lpdiDeed, lpdDeed, movpLoadDeed}
+use Rattle.deeds.specs.JumpForms.{jumpRegisterDeed, jumpMemoryDeed, jumpByteDeed, jumpMaskedDeed, jumpBitDeed, tslDeed, callDeed}
+use Rattle.deeds.specs.MemoryForms.{memoryWorkDeed, memoryRegisterDeed, memoryImmediateDeed, memoryAloneDeed, movpStoreDeed, bitDeed, movOperandDeed, movSecondDeed, movMemoryDeed}
+use Rattle.operands.specs.Operands.{byteHere, bytesAt, advanced, effective}
+use Rattle.deeds.specs.RegisterForms.{registerImmediateDeed, registerDeed, registerMemoryDeed, lpdiDeed, lpdDeed, movpLoadDeed}
 use Rattle.execute.proofs.CheckLaws.{Told, step, last, rewritten, first-assoc, skip, hit, either, end, never}
 use Rattle.execute.proofs.OutcomeLaws.{number-is}
 

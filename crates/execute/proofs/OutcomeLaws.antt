@@ -12,10 +12,10 @@ use Rattle.machine.specs.Outcomes.{unless}
 use Rattle.machine.specs.declared.Channel.{Channel}
 use Rattle.memory.specs.Buffers.{Buffers}
 use Rattle.memory.specs.Places.{allLent}
-use Rattle.execute.specs.Changes.{changed}
+use Rattle.operands.specs.Changes.{changed}
 use Rattle.execute.specs.Execute.{decodedAt, deedOf, deedFrom, numberFrom, executeNumber, settledEffect, planOf, Executed, executed, executeOf}
 use Rattle.execute.specs.Kept.{deedAt}
-use Rattle.execute.specs.Operands.{bytesAt}
+use Rattle.operands.specs.Operands.{bytesAt}
 use Rattle.execute.proofs.CheckLaws.{first-none-right}
 
 -- no two outcomes meet the contract of `execute`

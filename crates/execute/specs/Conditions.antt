@@ -14,10 +14,10 @@ use Rattle.decode.specs.declared.Decoded.the-variants.{Instruction, NoInstructi
 use Rattle.decode.specs.declared.Second.{Second}
 use Rattle.decode.specs.declared.Second.the-variants.{NoSecond}
 use Rattle.decode.specs.Reading.{secondOf}
-use Rattle.execute.specs.Operands.{onward, byteHere, bytesAt}
-use Rattle.execute.specs.MemoryForms.{afterPair}
-use Rattle.execute.specs.Changes.{placesOf}
-use Rattle.execute.specs.Deeds.{Deed}
+use Rattle.operands.specs.Operands.{onward, byteHere, bytesAt}
+use Rattle.deeds.specs.MemoryForms.{afterPair}
+use Rattle.operands.specs.Changes.{placesOf}
+use Rattle.deeds.specs.Deeds.{Deed}
 use Rattle.execute.specs.Execute.{decodedAt, laterBytes, deedFrom}
 
 -- a check: its number, and the condition under which it applies

@@ -15,15 +15,15 @@ use Rattle.decode.specs.declared.Decoded.{Decoded}
 use Rattle.decode.specs.declared.Decoded.the-variants.{Instruction, NoInstruction, ControlUsed}
 use Rattle.decode.specs.Reading.{decodeOf}
 use Rattle.decode.specs.Lengths.{lengthOf}
-use Rattle.execute.specs.declared.Change.the-variants.{Nothing}
-use Rattle.execute.specs.declared.Effect.{Effect}
-use Rattle.execute.specs.Operands.{onward, byteHere, bytesAt, advanced}
-use Rattle.execute.specs.Changes.{placesOf, changed}
-use Rattle.execute.specs.Deeds.{Deed, deed, effectOf}
-use Rattle.execute.specs.Control.{nopDeed, sintrDeed, xferDeed, widDeed, hltDeed}
-use Rattle.execute.specs.RegisterForms.{registerImmediateDeed, registerDeed, registerMemoryDeed, lpdiDeed, lpdDeed, movpLoadDeed}
-use Rattle.execute.specs.MemoryForms.{memoryRegisterDeed, memoryImmediateDeed, memoryAloneDeed, movpStoreDeed, bitDeed, movMemoryDeed}
-use Rattle.execute.specs.JumpForms.{jumpRegisterDeed, jumpMemoryDeed, jumpMaskedDeed, jumpBitDeed, tslDeed, callDeed}
+use Rattle.operands.specs.declared.Change.the-variants.{Nothing}
+use Rattle.deeds.specs.declared.Effect.{Effect}
+use Rattle.operands.specs.Operands.{onward, byteHere, bytesAt, advanced}
+use Rattle.operands.specs.Changes.{placesOf, changed}
+use Rattle.deeds.specs.Deeds.{Deed, deed, effectOf}
+use Rattle.deeds.specs.Control.{nopDeed, sintrDeed, xferDeed, widDeed, hltDeed}
+use Rattle.deeds.specs.RegisterForms.{registerImmediateDeed, registerDeed, registerMemoryDeed, lpdiDeed, lpdDeed, movpLoadDeed}
+use Rattle.deeds.specs.MemoryForms.{memoryRegisterDeed, memoryImmediateDeed, memoryAloneDeed, movpStoreDeed, bitDeed, movMemoryDeed}
+use Rattle.deeds.specs.JumpForms.{jumpRegisterDeed, jumpMemoryDeed, jumpMaskedDeed, jumpBitDeed, tslDeed, callDeed}
 
 -- what the first two bytes of an instruction are
 unfoldable pub decodedAt : Buffers → Pointer → Decoded

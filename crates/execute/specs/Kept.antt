@@ -9,7 +9,7 @@ use Rattle.memory.specs.Places.{Place, Apart}
 use Rattle.machine.specs.declared.Channel.{Channel}
 use Rattle.decode.specs.declared.Shape.the-variants.{Hlt, Xfer}
 use Rattle.decode.specs.declared.Decoded.the-variants.{Instruction}
-use Rattle.execute.specs.Deeds.{Deed}
+use Rattle.deeds.specs.Deeds.{Deed}
 use Rattle.execute.specs.Execute.{decodedAt, deedFrom}
 
 -- a byte that is none of a list's

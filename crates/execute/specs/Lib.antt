@@ -1,10 +1,3 @@
-pub mod Operands
-pub mod Changes
-pub mod Deeds
-pub mod Control
-pub mod RegisterForms
-pub mod MemoryForms
-pub mod JumpForms
 pub mod Execute
 pub mod Conditions
 pub mod Kept

@@ -1,41 +1,19 @@
 // One instruction of a channel: fetched, decoded, carried out on the registers, and its one store made last.
 use decode::Decoded;
 use decode::Shape;
+use deeds::Effect;
+use deeds::control;
+use deeds::jumps;
+use deeds::registers;
+use deeds::stores;
 use machine::Channel;
 use memory::Pointer;
-
-// Places, operands and what is worked out of them.
-pub mod operands;
-// What an instruction stores.
-pub mod changes;
-// NOP, SINTR, XFER, WID and HLT.
-pub mod control;
-// Results that go into a register.
-pub mod registers;
-// Results that go into memory.
-pub mod stores;
-// Jumps.
-pub mod jumps;
-
+use operands::Change;
+use operands::changes;
 ghost use mathlib.Core.Path.{_≡_};
 ghost use Rattle.memory.specs.Buffers.{buffers};
-ghost use Rattle.execute.specs.Deeds.{effectOf};
+ghost use Rattle.deeds.specs.Deeds.{effectOf};
 ghost use Rattle.execute.specs.Execute.{performed, deedOf, shapeNumber, settledEffect, planOf, executed, executeOf};
-
-// What an instruction stores, at one place.
-pub enum Change {
-    Nothing,
-    Byte(Pointer, u8),
-    Word(Pointer, u16),
-    Stored(Pointer, Pointer),
-}
-
-// What an instruction would do: a number other than 0 where it is refused, the channel after it, and what it stores.
-pub struct Effect {
-    pub number: u32,
-    pub channel: Channel,
-    pub change: Change,
-}
 
 // What an instruction answers: its number, and the channel after it.
 pub struct Done {

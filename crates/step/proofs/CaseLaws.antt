@@ -9,11 +9,11 @@ use Rattle.decode.specs.Lengths.{lengthOf, dataLength, displacementLength, offs
 use Rattle.decode.specs.Pairs.{pairOf}
 use Rattle.decode.specs.Reading.{lookup, decodeOf}
 use Rattle.decode.specs.Table.{table}
-use Rattle.execute.specs.Changes.{placesOf, changed}
-use Rattle.execute.specs.Control.{nopDeed}
-use Rattle.execute.specs.Deeds.{effectOf}
+use Rattle.operands.specs.Changes.{placesOf, changed}
+use Rattle.deeds.specs.Control.{nopDeed}
+use Rattle.deeds.specs.Deeds.{effectOf}
 use Rattle.execute.specs.Execute.{decodedAt, performed, deedOf, laterBytes, deedFrom, shapeNumber, numberFrom, executeNumber, settledEffect, planOf, executeOf}
-use Rattle.execute.specs.Operands.{onward, renewed, usedUp, advanced}
+use Rattle.operands.specs.Operands.{onward, renewed, usedUp, advanced}
 use Rattle.machine.specs.Outcomes.{unless, first, givenNumber}
 use Rattle.machine.specs.Psw.{priority}
 use Rattle.machine.specs.States.{freshState, idleChannel, channelOf, withChannel, withLast, soundChannel, sound, isRunning, blockOf, numberOf}

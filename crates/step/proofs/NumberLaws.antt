@@ -15,16 +15,16 @@ use Rattle.decode.specs.declared.Second.{Second}
 use Rattle.decode.specs.declared.Second.the-variants.{Operand, NoSecond}
 use Rattle.decode.specs.declared.Shape.{Shape}
 use Rattle.decode.specs.declared.Shape.the-variants.{Nop, Sintr, Xfer, Wid, Hlt, Lpdi, RegisterImmediate, Register, JumpRegister, RegisterMemory, MemoryRegister, MemoryImmediate, MemoryAlone, JumpMemory, Lpd, MovpLoad, MovpStore, MovMemory, Tsl, Call, JumpMasked, JumpBit, Bit}
-use Rattle.execute.specs.Changes.{placesOf}
-use Rattle.execute.specs.Control.{nopDeed, sintrDeed, xferDeed, widDeed, hltDeed}
-use Rattle.execute.specs.Deeds.{Deed, effectOf}
+use Rattle.operands.specs.Changes.{placesOf}
+use Rattle.deeds.specs.Control.{nopDeed, sintrDeed, xferDeed, widDeed, hltDeed}
+use Rattle.deeds.specs.Deeds.{Deed, effectOf}
 use Rattle.execute.specs.Execute.{decodedAt, performed, deedOf, deedFrom, laterBytes, shapeNumber, numberFrom, executeNumber, settledEffect, planOf, executeOf}
-use Rattle.execute.specs.JumpForms.{jumpRegisterDeed, jumpMemoryDeed, jumpByteDeed, jumpMaskedDeed, jumpBitDeed, tslDeed, callDeed}
-use Rattle.execute.specs.MemoryForms.{memoryWorkDeed, memoryRegisterDeed, memoryImmediateDeed, memoryAloneDeed, movpStoreDeed, bitDeed, movOperandDeed, movSecondDeed, movMemoryDeed}
-use Rattle.execute.specs.Operands.{bytesAt, effective, byteHere}
-use Rattle.execute.specs.RegisterForms.{registerImmediateDeed, registerDeed, registerMemoryDeed, lpdiDeed, lpdDeed, movpLoadDeed}
-use Rattle.execute.specs.declared.Change.{Change}
-use Rattle.execute.specs.declared.Effect.{Effect}
+use Rattle.deeds.specs.JumpForms.{jumpRegisterDeed, jumpMemoryDeed, jumpByteDeed, jumpMaskedDeed, jumpBitDeed, tslDeed, callDeed}
+use Rattle.deeds.specs.MemoryForms.{memoryWorkDeed, memoryRegisterDeed, memoryImmediateDeed, memoryAloneDeed, movpStoreDeed, bitDeed, movOperandDeed, movSecondDeed, movMemoryDeed}
+use Rattle.operands.specs.Operands.{bytesAt, effective, byteHere}
+use Rattle.deeds.specs.RegisterForms.{registerImmediateDeed, registerDeed, registerMemoryDeed, lpdiDeed, lpdDeed, movpLoadDeed}
+use Rattle.operands.specs.declared.Change.{Change}
+use Rattle.deeds.specs.declared.Effect.{Effect}
 use Rattle.machine.proofs.ConditionLaws.{Told, step, last, rewritten, first-assoc, skip, hit, end, never, told-ltb, told-limits, told-sound, told-lent, told-by, says-true, says-eqb, says-and, says-or}
 use Rattle.machine.specs.Cc.{synchronised, translates}
 use Rattle.machine.specs.Conditions.{check, Given, TooLong, NotSound, Beyond}

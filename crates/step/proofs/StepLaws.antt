@@ -6,11 +6,11 @@ use lib.Dec.{eqb}
 use mathlib.Core.Bool.{Bool, true, false}
 use mathlib.Core.Path.{_≡_, refl, ap, _∙_}
 use native.Mathlib.Decide.{ℕ-discrete}
-use Rattle.execute.specs.Changes.{changed}
-use Rattle.execute.specs.Deeds.{Deed}
+use Rattle.operands.specs.Changes.{changed}
+use Rattle.deeds.specs.Deeds.{Deed}
 use Rattle.execute.specs.Execute.{planOf, decodedAt, deedFrom, executeNumber, settledEffect, executeOf}
-use Rattle.execute.specs.declared.Change.{Change}
-use Rattle.execute.specs.declared.Effect.{Effect}
+use Rattle.operands.specs.declared.Change.{Change}
+use Rattle.deeds.specs.declared.Effect.{Effect}
 use Rattle.machine.specs.declared.Channel.{Channel}
 use Rattle.machine.specs.declared.State.{State}
 use Rattle.memory.specs.Buffers.{Buffers}

@@ -9,13 +9,13 @@ use mathlib.Core.Path.{_≡_, refl, sym, subst, _∙_}
 use native.Mathlib.Omega.{arith}
 use Rattle.decode.specs.declared.Decoded.{Decoded}
 use Rattle.decode.specs.declared.Decoded.the-variants.{Instruction, NoInstruction, ControlUsed}
-use Rattle.execute.specs.Changes.{placesOf, changed}
+use Rattle.operands.specs.Changes.{placesOf, changed}
 use Rattle.execute.specs.Execute.{decodedAt, deedOf, laterBytes, deedFrom, executeNumber, settledEffect, planOf, executeOf, touchedFrom}
 use Rattle.execute.specs.Execute.{touched as executed}
-use Rattle.execute.specs.Operands.{bytesAt}
-use Rattle.execute.specs.declared.Change.{Change}
-use Rattle.execute.specs.declared.Change.the-variants.{Nothing, Byte, Word, Stored}
-use Rattle.execute.specs.declared.Effect.{Effect}
+use Rattle.operands.specs.Operands.{bytesAt}
+use Rattle.operands.specs.declared.Change.{Change}
+use Rattle.operands.specs.declared.Change.the-variants.{Nothing, Byte, Word, Stored}
+use Rattle.deeds.specs.declared.Effect.{Effect}
 use Rattle.machine.specs.States.{channelOf}
 use Rattle.machine.specs.declared.Channel.{Channel}
 use Rattle.machine.specs.declared.State.{State}

@@ -3,12 +3,12 @@
 use borrow.Author.Needs.{needs}
 use Rattle.machine.specs.Outcomes.{unless, first}
 use Rattle.memory.specs.Places.{allLent}
-use Rattle.execute.specs.Control.{nopDeed, sintrDeed, xferDeed, widDeed, hltDeed}
-use Rattle.execute.specs.Deeds.{effectOf}
+use Rattle.deeds.specs.Control.{nopDeed, sintrDeed, xferDeed, widDeed, hltDeed}
+use Rattle.deeds.specs.Deeds.{effectOf}
 use Rattle.execute.specs.Execute.{performed}
-use Rattle.execute.specs.JumpForms.{jumpRegisterDeed, callDeed}
-use Rattle.execute.specs.MemoryForms.{movpStoreDeed}
-use Rattle.execute.specs.RegisterForms.{registerImmediateDeed, registerDeed, lpdiDeed}
+use Rattle.deeds.specs.JumpForms.{jumpRegisterDeed, callDeed}
+use Rattle.deeds.specs.MemoryForms.{movpStoreDeed}
+use Rattle.deeds.specs.RegisterForms.{registerImmediateDeed, registerDeed, lpdiDeed}
 use Rattle.execute.proofs.perform.Statement.{statement}
 use Rattle.execute.proofs.perform.Tie as tie
 

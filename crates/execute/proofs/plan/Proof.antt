@@ -9,7 +9,7 @@ use Rattle.decode.specs.Reading.{decodeOf}
 use Rattle.machine.proofs.OutcomeLaws.{refused}
 use Rattle.memory.specs.Buffers.{buffers}
 use Rattle.execute.specs.Execute.{decodedAt, deedFrom, numberFrom}
-use Rattle.execute.specs.Operands.{onward, byteHere}
+use Rattle.operands.specs.Operands.{onward, byteHere}
 use Rattle.execute.proofs.CodeLaws.{refusedEffect, plan-read, plan-beyond, plan-none}
 use Rattle.execute.proofs.plan.Statement.{statement}
 use Rattle.execute.proofs.plan.Tie as tie

@@ -14,11 +14,11 @@ use Rattle.machine.specs.declared.Channel.{Channel}
 use Rattle.memory.proofs.PlaceLaws.{later}
 use Rattle.memory.specs.Buffers.{buffers}
 use Rattle.memory.specs.Places.{allLent}
-use Rattle.execute.specs.Changes.{placesOf}
-use Rattle.execute.specs.Deeds.{effectOf}
+use Rattle.operands.specs.Changes.{placesOf}
+use Rattle.deeds.specs.Deeds.{effectOf}
 use Rattle.execute.specs.Execute.{performed, deedOf, laterBytes}
-use Rattle.execute.specs.Operands.{onward, advanced}
-use Rattle.execute.specs.declared.Effect.{Effect}
+use Rattle.operands.specs.Operands.{onward, advanced}
+use Rattle.deeds.specs.declared.Effect.{Effect}
 use Rattle.execute.proofs.CodeLaws.{effectWith, refusedEffect, shape-beyond, shape-wrong, shape-unstored, shape-done}
 use Rattle.execute.proofs.shaped.Statement.{statement}
 use Rattle.execute.proofs.shaped.Tie as tie

@@ -1,0 +1,14 @@
+-- `deeds::control::with_status` meets its contract.
+-- Assumes nothing.
+use mathlib.Core.Path.{refl}
+use Rattle.deeds.specs.Control.{withStatus}
+use Rattle.operands.specs.Operands.{renewed}
+use Rattle.deeds.proofs.control.with_status.Statement.{statement}
+use Rattle.deeds.proofs.control.with_status.Tie as tie
+
+returns : tie.Need-returns
+unfolding withStatus renewed
+returns c = refl
+
+pub with-status-spec : {M : Type 1} → statement M
+with-status-spec = tie.close (tie.spec returns)

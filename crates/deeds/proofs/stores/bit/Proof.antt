@@ -1,0 +1,40 @@
+-- `deeds::stores::bit` meets its contract.
+-- Assumes nothing.
+use borrow.Author.Needs.{needs}
+use Rattle.machine.specs.Outcomes.{first}
+use Rattle.deeds.specs.Deeds.{effectOf}
+use Rattle.operands.specs.Operands.{readNumber}
+use Rattle.deeds.specs.MemoryForms.{bitDeed}
+use Rattle.operands.specs.Operands.{effective, grown}
+use Rattle.deeds.proofs.stores.bit.Statement.{statement}
+use Rattle.deeds.proofs.stores.bit.Tie as tie
+
+effective-requires : tie.Need-effective-requires
+effective-requires c κs = search needs
+
+byte-requires : tie.Need-byte-requires
+byte-requires c κs = search needs
+
+bit-written-requires : tie.Need-bit-written-requires
+bit-written-requires c κs = search needs
+
+read-number-requires : tie.Need-read-number-requires
+read-number-requires c κs = search needs
+
+grown-requires : tie.Need-grown-requires
+grown-requires c κs = search needs
+
+returns : tie.Need-returns
+unfolding bitDeed effectOf first readNumber
+returns c = simp (c .grown .ensures, c .before .read-number .ensures, c .before .before .bit-written .ensures, c .before .before .before .byte .ensures, c .before .before .before .before .effective .ensures)
+
+pub bit-spec : {M : Type 1} → statement M
+bit-spec =
+    tie.close
+    (tie.spec
+    effective-requires
+    byte-requires
+    bit-written-requires
+    read-number-requires
+    grown-requires
+    returns)
