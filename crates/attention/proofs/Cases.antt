@@ -9,7 +9,7 @@ use native.Mathlib.Omega.{arith}
 use Rattle.machine.proofs.OutcomeLaws.{accepted}
 use Rattle.machine.specs.Outcomes.{outcome, unless, first, settled, givenNumber}
 use Rattle.machine.specs.Psw.{withPsw}
-use Rattle.machine.specs.States.{idleChannel, freshState, channelOf, withChannel, soundChannel, sound, isChannel, isSecond}
+use Rattle.machine.specs.States.{idleChannel, freshState, channelOf, withChannel, soundChannel, sound, isChannel, isSecond, blockOf, isRunning, isSuspended}
 use Rattle.machine.specs.declared.Mode.the-variants.{Running}
 use Rattle.machine.specs.declared.State.{State}
 use Rattle.memory.specs.Buffers.{Buffers, buffers, spaceOf, limitOf, indexOf, lentAt, byteAt, storeByte, withinLimits}
@@ -17,8 +17,8 @@ use Rattle.memory.specs.Places.{span, allLent}
 use Rattle.memory.specs.Values.{wordAt, doublewordAt, pointer, pointerAt, storePointer}
 use Rattle.words.specs.Bits.{fieldOf, bitOf, withBit}
 use Rattle.attention.specs.Attention.{orderTo, orderNumber, channelAfter, memoryAfter, givenTo, attentionNumber, attentionOf}
-use Rattle.attention.specs.Blocks.{blockOf, ccwOf, parameterBlock, orderOf}
-use Rattle.attention.specs.Commands.{commandCoded, isKnown, isRunning, isSuspended, modeNumber, commandNumber, copied, obeyed, ordered}
+use Rattle.attention.specs.Blocks.{ccwOf, parameterBlock, orderOf}
+use Rattle.attention.specs.Commands.{commandCoded, isKnown, modeNumber, commandNumber, copied, obeyed, ordered}
 use Rattle.attention.specs.Effects.{withControl, started, stopped, resumed, commanded, channelOrdered, writesOf, saved, marked, written}
 use Rattle.attention.specs.Pauses.{Pause}
 use Rattle.attention.specs.Touched.{readBy, storedBy, others}

@@ -1,113 +1,25 @@
 -- What each test of an attention tells: the condition of its check, in the paper's words.
 -- Assumes nothing.
-use Prim.Native.Nat.{ℕ, zero, suc, _<_, _≤_}
-use borrow.Author.Tests.{ltb-true, ltb-false, leb-true, leb-false, eqb-true, eqb-false, not-true, not-false}
-use lib.Dec.{ltb, leb, eqb}
-use lib.ListN.{length}
-use mathlib.Core.Bool.{Bool, true, false, not, _&&_, _||_}
-use mathlib.Core.List.{List, [], _∷_, _++_}
-use mathlib.Core.Logic.{⊎-elim, inl, inr, _⊎_}
-use mathlib.Core.Path.{_≡_, refl, sym, ap, _∙_}
+use Prim.Native.Nat.{ℕ, zero, suc, _<_}
+use lib.Dec.{eqb}
+use mathlib.Core.Bool.{Bool, not, _&&_, _||_}
+use mathlib.Core.Path.{_≡_, refl, sym}
 use native.Mathlib.Omega.{arith}
+use Rattle.machine.proofs.ConditionLaws.{Told, told-eqb, told-not-eqb, told-and, told-or, told-running, told-not-running, told-suspended}
 use Rattle.machine.proofs.OutcomeLaws.{first-right}
 use Rattle.machine.specs.Outcomes.{unless, first}
-use Rattle.machine.specs.States.{soundChannel, sound, isChannel}
+use Rattle.machine.specs.States.{isChannel, isRunning, isSuspended}
 use Rattle.machine.specs.declared.Mode.{Mode}
-use Rattle.machine.specs.declared.Mode.the-variants.{Idle, Running, Suspended}
-use Rattle.machine.specs.declared.State.{State}
-use Rattle.memory.specs.Buffers.{Buffers, spaceOf, limitOf, indexOf, lentAt, withinLimits}
-use Rattle.memory.specs.Places.{Place, allLent}
-use Rattle.words.proofs.ChoiceLaws.{apart}
-use Rattle.attention.specs.Commands.{commandCoded, isKnown, isRunning, isSuspended, modeNumber, commandNumber}
-use Rattle.attention.specs.Conditions.{NoChannel, TooLong, pointersOf, SomePast, NotSound, Beyond, NoCommand, ResumesOther, StartsRunning, SuspendsOther}
-use Rattle.attention.proofs.CheckLaws.{Told}
-use Rattle.attention.proofs.ReducedLaws.{and-assoc}
+use Rattle.attention.specs.Commands.{commandCoded, isKnown, modeNumber, commandNumber}
+use Rattle.attention.specs.Conditions.{NoChannel, NoCommand, ResumesOther, StartsRunning, SuspendsOther}
 
--- ---- tests joined
-
-told-ltb : (a b : ℕ) → Told (ltb a b) (b ≤ a)
-told-ltb a b = record { holds = λ e h. omega (arith, ltb-true a b e); fails = λ e. ltb-false a b e }
-
-told-leb : (a b : ℕ) → Told (leb a b) (b < a)
-told-leb a b = record { holds = λ e h. omega (arith, leb-true a b e); fails = λ e. leb-false a b e }
-
-told-eqb : (a b : ℕ) → Told (eqb a b) (¬ (a ≡ b))
-told-eqb a b = record { holds = λ e h. h (eqb-true a b e); fails = λ e. eqb-false a b e }
-
-told-true : {A : Type 0} → ¬ A → Told true A
-told-true h = record { holds = λ e. h; fails = λ e. apart e }
-
-told-and : {a b : Bool} {A B : Type 0} → Told a A → Told b B → Told (a && b) (A ⊎ B)
-told-and {a = true} t u = record { holds = λ e. ⊎-elim (t .holds refl) (u .holds e); fails = λ e. inr (u .fails e) }
-told-and {a = false} t u = record { holds = λ e. apart (sym e); fails = λ e. inl (t .fails refl) }
-
-told-or : {a b : Bool} {A B : Type 0} → Told a A → Told b B → Told (a || b) (A × B)
-told-or {a = true} t u = record { holds = λ e h. t .holds refl (h .0); fails = λ e. apart e }
-told-or {a = false} t u = record { holds = λ e h. u .holds e (h .1); fails = λ e. (t .fails refl, u .fails e) }
-
--- ---- 12, 11, 10, 2
+-- ---- 12
 
 pub told-channel : (channel : ℕ) → Told (isChannel channel) (NoChannel channel)
 unfolding isChannel
 told-channel channel = told-or (told-eqb channel 1) (told-eqb channel 2)
 
-pub told-limits : (m : Buffers) → Told (withinLimits m) (TooLong m)
-unfolding withinLimits limitOf
-told-limits m = told-and (told-leb (length (m .sys)) 1048576) (told-leb (length (m .io)) 65536)
-
-allBelow : List ℕ → Bool
-allBelow [] = true
-allBelow (a ∷ rest) = ltb a 1048576 && allBelow rest
-
-told-below : (l : List ℕ) → Told (allBelow l) (SomePast l)
-unfolding allBelow
-told-below [] = told-true (λ h. h)
-told-below (a ∷ rest) = told-and (told-ltb a 1048576) (told-below rest)
-
-and-true : (b : Bool) → b && true ≡ b
-and-true true = refl
-and-true false = refl
-
-pub told-sound : (s : State) → Told (sound s) (NotSound s)
-unfolding sound soundChannel allBelow
-told-sound s = simp and-assoc (simp and-true at (told-below (pointersOf (s .first) ++ (pointersOf (s .second) ++ (s .cp ∷ [])))))
-
-pub told-lent : (m : Buffers) (ps : List Place) → Told (allLent m ps) (Beyond m ps)
-unfolding allLent lentAt
-told-lent m [] = told-true (λ h. h)
-told-lent m (p ∷ ps) = told-and (told-ltb (indexOf (p .tag) (p .address)) (length (spaceOf m (p .tag)))) (told-lent m ps)
-
 -- ---- 6, 7, 8, 9
-
-told-not-eqb : (a b : ℕ) → Told (not (eqb a b)) (a ≡ b)
-told-not-eqb a b = record { holds = λ e. eqb-false a b (not-true (eqb a b) e); fails = λ e. eqb-true a b (not-false (eqb a b) e) }
-
-pub running-is : (mode : Mode) → isRunning mode ≡ true → mode ≡ Running
-unfolding isRunning
-running-is Idle e = apart (sym e)
-running-is Running e = refl
-running-is Suspended e = apart (sym e)
-
-suspended-is : (mode : Mode) → isSuspended mode ≡ true → mode ≡ Suspended
-unfolding isSuspended
-suspended-is Idle e = apart (sym e)
-suspended-is Running e = apart (sym e)
-suspended-is Suspended e = refl
-
-told-running : (mode : Mode) → Told (isRunning mode) (¬ (mode ≡ Running))
-unfolding isRunning
-told-running mode = record { holds = λ e h. h (running-is mode e); fails = λ e q. apart (sym (ap isRunning q) ∙ e) }
-
-told-not-running : (mode : Mode) → Told (not (isRunning mode)) (mode ≡ Running)
-unfolding isRunning
-told-not-running mode = record {
-  holds = λ e q. apart (sym (ap isRunning q) ∙ not-true (isRunning mode) e);
-  fails = λ e. running-is mode (not-false (isRunning mode) e);
-}
-
-told-suspended : (mode : Mode) → Told (isSuspended mode) (¬ (mode ≡ Suspended))
-unfolding isSuspended
-told-suspended mode = record { holds = λ e h. h (suspended-is mode e); fails = λ e q. apart (sym (ap isSuspended q) ∙ e) }
 
 abbrev pub mayResume : ℕ → Mode → Bool
 mayResume n mode = not (eqb n 5) || isSuspended mode

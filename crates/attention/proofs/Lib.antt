@@ -1,6 +1,5 @@
 pub mod ReducedLaws
 pub mod PlanLaws
-pub mod CheckLaws
 pub mod ConditionLaws
 pub mod Outcomes
 pub mod Numbers

@@ -12,13 +12,13 @@ use Rattle.machine.proofs.ChannelLaws.{put-same, sound-channel-of}
 use Rattle.machine.proofs.OutcomeLaws.{accepted, settled-number}
 use Rattle.machine.specs.Outcomes.{Outcome, givenNumber}
 use Rattle.machine.specs.Psw.{withPsw}
-use Rattle.machine.specs.States.{channelOf, withChannel, soundChannel, sound, isSecond}
+use Rattle.machine.specs.States.{channelOf, withChannel, soundChannel, sound, isSecond, blockOf}
 use Rattle.machine.specs.declared.Channel.{Channel}
 use Rattle.machine.specs.declared.Mode.{Mode}
 use Rattle.machine.specs.declared.Mode.the-variants.{Running, Suspended}
 use Rattle.machine.specs.declared.State.{State}
 use Rattle.memory.proofs.PlaceLaws.{later, after}
-use Rattle.memory.proofs.SpanLaws.{span-at, span-first}
+use Rattle.memory.proofs.SpanLaws.{span-at, span-first, all-append, apart-at}
 use Rattle.memory.proofs.StoreLaws.{store-lent, read-same, read-other, pointer-back}
 use Rattle.memory.specs.Buffers.{Buffers, lentAt, byteAt, storeByte}
 use Rattle.memory.specs.Places.{span, allLent}
@@ -27,18 +27,15 @@ use Rattle.words.proofs.BitLaws.{bit-other}
 use Rattle.words.proofs.ChoiceLaws.{both-left, both-right}
 use Rattle.words.specs.Bits.{fieldOf, bitOf, withBit}
 use Rattle.words.specs.Choice.{pick}
+use Rattle.machine.proofs.ConditionLaws.{first-none-left, first-none-right, unless-none, running-is}
 use Rattle.attention.specs.Attention.{orderTo, orderNumber, channelAfter, memoryAfter, givenTo, attentionNumber, attentionOf}
-use Rattle.attention.specs.Blocks.{blockOf, busyOf, parameterBlock, orderOf}
+use Rattle.attention.specs.Blocks.{busyOf, parameterBlock, orderOf}
 use Rattle.attention.specs.Commands.{isKnown, modeNumber, commandNumber, copied, obeyed, ordered}
 use Rattle.attention.specs.Effects.{withControl, stopped, resumed, commanded, channelOrdered, writesOf, saved, marked, written}
 use Rattle.attention.specs.Pauses.{Pause}
 use Rattle.attention.specs.Touched.{readBy, storedBy, others}
 use Rattle.attention.specs.declared.Command.the-variants.{Suspend, Resume}
-use Rattle.attention.proofs.CheckLaws.{first-none-left, first-none-right, unless-none}
-use Rattle.attention.proofs.ConditionLaws.{running-is}
 use Rattle.attention.proofs.Outcomes.{accepted-order}
-use Rattle.attention.proofs.ReducedLaws.{all-joined}
-use Rattle.attention.proofs.Stores.{else-at}
 
 -- ---- what the saved bytes read
 
@@ -76,7 +73,7 @@ module _ (s : State) (m : Buffers) (b : Bool) where
   unfolding channelAfter channelOrdered orderTo orderOf commanded stopped parameterBlock
   suspend-channel e = rw e
 
-  suspend-memory : orderTo s m b .command ≡ Suspend → memoryAfter s m b ≡ marked (saved m (channelOf s b .pp) (channelOf s b .tp) (channelOf s b .psw)) (blockOf (s .cp) b) 0
+  suspend-memory : orderTo s m b .command ≡ Suspend → memoryAfter s m b ≡ marked (saved m (channelOf s b .pp) (channelOf s b .tp) (channelOf s b .psw)) (blockOf s b) 0
   unfolding memoryAfter orderTo orderOf written writesOf parameterBlock
   suspend-memory e = rw e
 
@@ -84,9 +81,9 @@ module _ (s : State) (m : Buffers) (b : Bool) where
   unfolding others orderTo orderOf parameterBlock readBy storedBy
   suspend-lent e h =
       let pp = channelOf s b .pp in
-      let busy = span false (busyOf (blockOf (s .cp) b)) 1 in
+      let busy = span false (busyOf (blockOf s b)) 1 in
       let both : allLent m (span false pp 4 ++ busy) ≡ true = rw e at h in
-      both-left (allLent m (span false pp 4)) (allLent m busy) (sym (all-joined m (span false pp 4) busy) ∙ both)
+      both-left (allLent m (span false pp 4)) (allLent m busy) (sym (all-append m (span false pp 4) busy) ∙ both)
 
   resume-channel : orderTo s m b .command ≡ Resume
       → channelAfter s m b ≡ withControl (channelOf s b) (pointerAt m false (channelOf s b .pp)) (channelOf s b .pp) (ordered (orderTo s m b .ccw) (withPsw (byteAt m false (channelOf s b .pp + 3)) 2 true)) Running (channelOf s b .armed)
@@ -170,8 +167,8 @@ module _ (s : State) (m : Buffers) (s′ : State) (m′ : Buffers) (channel : �
       p .bytes k h
       ∙ ap (λ (r : Outcome). byteAt (r .memory) false (before .pp + k)) (accepted-order s m channel (p .accepted))
       ∙ ap (λ (n : Buffers). byteAt n false (before .pp + k)) (suspend-memory s m b (p .suspends))
-      ∙ read-other (saved m (before .pp) (before .tp) (before .psw)) false (busyOf (blockOf (s .cp) b)) 0 false (before .pp + k)
-      (λ e i. else-at false (before .pp) 4 k false (busyOf (blockOf (s .cp) b)) (p .busy) h refl (sym i))
+      ∙ read-other (saved m (before .pp) (before .tp) (before .psw)) false (busyOf (blockOf s b)) 0 false (before .pp + k)
+      (λ e i. apart-at false (before .pp) 4 k false (busyOf (blockOf s b)) (p .busy) h refl (sym i))
 
   saved-lent : allLent m (span false (before .pp) 4) ≡ true
   unfolding before

@@ -6,20 +6,19 @@ use mathlib.Core.Bool.{Bool, true, false}
 use mathlib.Core.Path.{_≡_, refl, ap}
 use Rattle.machine.proofs.ChannelLaws.{put-back}
 use Rattle.machine.specs.Outcomes.{outcome, settled}
-use Rattle.machine.specs.States.{channelOf, withChannel, isSecond}
+use Rattle.machine.specs.States.{channelOf, withChannel, isSecond, blockOf}
 use Rattle.machine.specs.declared.Channel.{Channel}
 use Rattle.machine.specs.declared.State.{State}
 use Rattle.memory.specs.Buffers.{Buffers}
 use Rattle.words.specs.Choice.{pick}
 use Rattle.attention.specs.Attention.{orderTo, effectOf, channelAfter, memoryAfter, givenTo, attentionNumber, attentionOf}
-use Rattle.attention.specs.Blocks.{blockOf}
 use Rattle.attention.specs.Effects.{channelOrdered, writes, writesOf, written}
 use Rattle.attention.specs.declared.Effect.{Effect}
 use Rattle.attention.specs.declared.Order.{Order}
 
 -- the plan, put back into the state and written into memory, is the whole outcome
 pub planned-settled : (s : State) (m : Buffers) (channel : ℕ) (e : Effect)
-    → e ≡ effectOf m (givenTo s m channel) (blockOf (s .cp) (isSecond channel)) (channelOf s (isSecond channel))
+    → e ≡ effectOf m (givenTo s m channel) (blockOf s (isSecond channel)) (channelOf s (isSecond channel))
     → outcome (e .number) (withChannel s (isSecond channel) (e .channel)) (written m (e .writes)) ≡ attentionOf s m channel
 unfolding effectOf attentionOf attentionNumber channelAfter memoryAfter orderTo settled written
 planned-settled s m channel e is = rw is (go (eqb (attentionNumber s m channel) 0))

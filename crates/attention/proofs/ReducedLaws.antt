@@ -1,17 +1,16 @@
--- The laws of a reduced address for the values of several bytes, and of two lists of places joined.
+-- The laws of a reduced address for the values of several bytes.
 -- Assumes nothing.
 use Prim.Native.Nat.{ℕ, zero, suc, _+_, _%_}
 use lib.Dec.{leb}
 use lib.ListN.{length}
-use mathlib.Core.Bool.{Bool, true, false, _&&_, _||_}
-use mathlib.Core.List.{List, [], _∷_, _++_}
+use mathlib.Core.Bool.{Bool, _||_}
 use mathlib.Core.Path.{_≡_, refl, sym, ap, ap₂, _∙_}
 use native.Mathlib.Nat.{mod-add-mod}
 use native.Mathlib.Omega.{arith}
 use Rattle.memory.proofs.PlaceLaws.{index-reduced, word-reduced}
 use Rattle.memory.proofs.SpanLaws.{span-tests}
-use Rattle.memory.specs.Buffers.{Buffers, spaceOf, limitOf, lentAt}
-use Rattle.memory.specs.Places.{Place, span, allLent}
+use Rattle.memory.specs.Buffers.{Buffers, spaceOf, limitOf}
+use Rattle.memory.specs.Places.{span, allLent}
 use Rattle.memory.specs.Values.{wordAt, doublewordAt}
 use Rattle.words.specs.Sums.{addressOf}
 
@@ -30,16 +29,3 @@ span-reduced m t a (suc n) =
     sym (span-tests m t (a % 1048576) (suc n) (omega arith))
     ∙ ap (λ (i : ℕ). leb (i + suc n) (length (spaceOf m t)) || leb (limitOf t) (length (spaceOf m t))) (index-reduced t a)
     ∙ span-tests m t a (suc n) (omega arith)
-
--- tests joined, bracketed either way
-pub and-assoc : (a b d : Bool) → (a && b) && d ≡ a && (b && d)
-and-assoc true b d = refl
-and-assoc false b d = refl
-
--- two lists joined are lent where both are
-pub all-joined : (m : Buffers) (ps qs : List Place) → allLent m (ps ++ qs) ≡ allLent m ps && allLent m qs
-unfolding allLent
-all-joined m [] qs = refl
-all-joined m (p ∷ ps) qs =
-    ap (λ (b : Bool). lentAt m (p .tag) (p .address) && b) (all-joined m ps qs)
-    ∙ sym (and-assoc (lentAt m (p .tag) (p .address)) (allLent m ps) (allLent m qs))

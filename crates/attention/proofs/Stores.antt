@@ -1,56 +1,47 @@
 -- What an attention stores is at most the bytes that it touches.
 -- Assumes nothing.
-use Prim.Native.Nat.{ℕ, zero, suc, _+_, _<_}
+use Prim.Native.Nat.{ℕ, _+_, _<_}
 use lib.Dec.{lit<}
 use lib.ListN.{length}
 use mathlib.Core.Bool.{Bool, true, false}
 use mathlib.Core.List.{List}
-use mathlib.Core.Path.{_≡_, refl, subst, _∙_}
-use native.Mathlib.Nat.{add-zero, not-suc-le-zero, le-of-suc-le-suc}
-use native.Mathlib.Omega.{arith}
+use mathlib.Core.Path.{_≡_, refl, _∙_}
+use native.Mathlib.Nat.{add-zero}
 use Rattle.machine.specs.Outcomes.{Outcome}
 use Rattle.machine.specs.States.{channelOf, isSecond}
 use Rattle.machine.specs.declared.Channel.{Channel}
 use Rattle.machine.specs.declared.State.{State}
+use Rattle.memory.proofs.SpanLaws.{apart-at}
 use Rattle.memory.proofs.StoreLaws.{store-length, read-other}
 use Rattle.memory.specs.Buffers.{Buffers, spaceOf, byteAt, storeByte}
-use Rattle.memory.specs.Places.{Place, span, Apart}
+use Rattle.memory.specs.Places.{Place, span, Apart, ApartFrom}
 use Rattle.memory.specs.Values.{storePointer}
 use Rattle.memory.specs.declared.Pointer.{Pointer}
 use Rattle.words.specs.Stored.{storedLow, storedMiddle, storedHigh}
 use Rattle.attention.specs.Attention.{orderTo, memoryAfter, attentionOf}
 use Rattle.attention.specs.Blocks.{busyOf}
 use Rattle.attention.specs.Effects.{writesOf, saved, marked, written}
-use Rattle.attention.specs.Touched.{storedBy, ElseThan}
+use Rattle.attention.specs.Touched.{storedBy}
 use Rattle.attention.specs.declared.Command.{Command}
 use Rattle.attention.specs.declared.Command.the-variants.{Update, StartLocal, StartSystem, Suspend, Resume, Halt, Unknown}
 use Rattle.attention.specs.declared.Writes.{Writes}
 use Rattle.attention.proofs.Outcomes.{attention-by}
 
--- none of some bytes in a row is none of each of them
-pub else-at : (u : Bool) (a n k : ℕ) (t : Bool) (b : ℕ) → ElseThan (span u a n) t b → k < n → Apart u (a + k) t b
-unfolding span
-else-at u a zero k t b h hk = absurd (not-suc-le-zero hk)
-else-at u a (suc n) zero t b h hk = rw add-zero (h .0)
-else-at u a (suc n) (suc k) t b h hk =
-    let e : a + 1 + k ≡ a + suc k = omega arith in
-    subst (λ (x : ℕ). Apart u x t b) e (else-at u (a + 1) n k t b (h .1) (le-of-suc-le-suc hk))
-
 -- what is saved is in PB's first four bytes
-saved-else : (m : Buffers) (pb : ℕ) (tp : Pointer) (psw : ℕ) (t : Bool) (b : ℕ) → ElseThan (span false pb 4) t b → byteAt (saved m pb tp psw) t b ≡ byteAt m t b
+saved-else : (m : Buffers) (pb : ℕ) (tp : Pointer) (psw : ℕ) (t : Bool) (b : ℕ) → ApartFrom (span false pb 4) t b → byteAt (saved m pb tp psw) t b ≡ byteAt m t b
 unfolding saved storePointer
 saved-else m pb tp psw t b h =
     let m₁ = storeByte m false pb (storedLow (tp .address)) in
     let m₂ = storeByte m₁ false (pb + 1) (storedMiddle (tp .address)) in
     let m₃ = storeByte m₂ false (pb + 2) (storedHigh (tp .address) (tp .tag)) in
-    let at : (k : ℕ) → k < 4 → Apart false (pb + k) t b = λ k. else-at false pb 4 k t b h in
+    let at : (k : ℕ) → k < 4 → Apart false (pb + k) t b = λ k. apart-at false pb 4 k t b h in
     read-other m₃ false (pb + 3) psw t b (at 3 (lit< tt))
     ∙ read-other m₂ false (pb + 2) (storedHigh (tp .address) (tp .tag)) t b (at 2 (lit< tt))
     ∙ read-other m₁ false (pb + 1) (storedMiddle (tp .address)) t b (at 1 (lit< tt))
     ∙ read-other m false pb (storedLow (tp .address)) t b (rw add-zero at (at 0 (lit< tt)))
 
 -- every byte that a command does not store is as it was
-written-else : (k : Command) (m : Buffers) (block pb : ℕ) (c : Channel) (t : Bool) (b : ℕ) → ElseThan (storedBy k block pb) t b
+written-else : (k : Command) (m : Buffers) (block pb : ℕ) (c : Channel) (t : Bool) (b : ℕ) → ApartFrom (storedBy k block pb) t b
     → byteAt (written m (writesOf k block pb c)) t b ≡ byteAt m t b
 unfolding written writesOf storedBy marked span
 written-else Update m block pb c t b h = refl
@@ -80,7 +71,7 @@ module _ (s : State) (m : Buffers) (channel : ℕ) where
   storedPlaces = storedBy (orderTo s m (isSecond channel) .command) (orderTo s m (isSecond channel) .block) (orderTo s m (isSecond channel) .pb)
 
   -- every byte that is none of those is as it was
-  pub bytes-kept : (t : Bool) (b : ℕ) → ElseThan storedPlaces t b → byteAt (attentionOf s m channel .memory) t b ≡ byteAt m t b
+  pub bytes-kept : (t : Bool) (b : ℕ) → ApartFrom storedPlaces t b → byteAt (attentionOf s m channel .memory) t b ≡ byteAt m t b
   unfolding memoryAfter
   bytes-kept t b h =
       attention-by s m channel (λ (r : Outcome). byteAt (r .memory) t b ≡ byteAt m t b) refl

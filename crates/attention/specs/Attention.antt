@@ -6,20 +6,20 @@ use Rattle.words.specs.Choice.{pick}
 use Rattle.memory.specs.Buffers.{Buffers}
 use Rattle.memory.specs.Places.{span, allLent}
 use Rattle.machine.specs.Outcomes.{Outcome, unless, first, settled, givenNumber}
-use Rattle.machine.specs.States.{channelOf, withChannel, isChannel, isSecond}
+use Rattle.machine.specs.States.{channelOf, withChannel, isChannel, isSecond, blockOf}
 use Rattle.machine.specs.declared.Channel.{Channel}
 use Rattle.machine.specs.declared.Mode.{Mode}
 use Rattle.machine.specs.declared.State.{State}
 use Rattle.attention.specs.declared.Effect.{Effect}
 use Rattle.attention.specs.declared.Order.{Order}
 use Rattle.attention.specs.Commands.{commandNumber}
-use Rattle.attention.specs.Blocks.{blockOf, orderOf}
+use Rattle.attention.specs.Blocks.{orderOf}
 use Rattle.attention.specs.Touched.{others}
 use Rattle.attention.specs.Effects.{channelOrdered, writes, writesOf, written}
 
 -- the order that a channel's block holds
 unfoldable pub orderTo : State → Buffers → Bool → Order
-orderTo s m second = orderOf m (blockOf (s .cp) second) (channelOf s second .pp)
+orderTo s m second = orderOf m (blockOf s second) (channelOf s second .pp)
 
 -- "CCW readable (2), 6, then 7, 8 or 9, other bytes (2)"
 unfoldable pub orderNumber : Buffers → Order → Mode → ℕ

@@ -1,18 +1,12 @@
 -- A channel's block, "CCW, BUSY, PB offset, PB segment (words)", and the order that it gives.
-use mathlib.Core.Bool.{Bool, false}
+use mathlib.Core.Bool.{false}
 use Prim.Native.Nat.{ℕ, _+_}
-use Rattle.words.specs.Choice.{pick}
-use Rattle.words.specs.Sums.{sum20}
 use Rattle.memory.specs.Buffers.{Buffers, byteAt}
 use Rattle.memory.specs.Values.{doublewordAt}
 use Rattle.attention.specs.declared.Command.{Command}
 use Rattle.attention.specs.declared.Command.the-variants.{Update, StartLocal, StartSystem, Suspend, Resume, Halt, Unknown}
 use Rattle.attention.specs.declared.Order.{Order}
 use Rattle.attention.specs.Commands.{commandOf}
-
--- "Channel 1's block starts at CP, channel 2's at CP + 8"
-unfoldable pub blockOf : ℕ → Bool → ℕ
-blockOf cp second = pick second (sum20 cp 8) cp
 
 -- CCW is the block's first byte
 unfoldable pub ccwOf : Buffers → ℕ → ℕ

@@ -6,8 +6,8 @@ use Rattle.words.specs.Choice.{pick}
 use Rattle.words.specs.Bits.{fieldOf, bitOf}
 use Rattle.machine.specs.Outcomes.{unless, first}
 use Rattle.machine.specs.Psw.{withPsw}
+use Rattle.machine.specs.States.{isRunning, isSuspended}
 use Rattle.machine.specs.declared.Mode.{Mode}
-use Rattle.machine.specs.declared.Mode.the-variants.{Idle, Running, Suspended}
 use Rattle.attention.specs.declared.Command.{Command}
 use Rattle.attention.specs.declared.Command.the-variants.{Update, StartLocal, StartSystem, Suspend, Resume, Halt, Unknown}
 
@@ -38,18 +38,6 @@ isKnown Suspend = true
 isKnown Resume = true
 isKnown Halt = true
 isKnown Unknown = false
-
--- the channel is running
-unfoldable pub isRunning : Mode → Bool
-isRunning Idle = false
-isRunning Running = true
-isRunning Suspended = false
-
--- the channel is suspended
-unfoldable pub isSuspended : Mode → Bool
-isSuspended Idle = false
-isSuspended Running = false
-isSuspended Suspended = true
 
 -- 7 "resume, channel not suspended", 8 "start, channel running", 9 "suspend, channel not running"
 unfoldable pub modeNumber : Command → Mode → ℕ

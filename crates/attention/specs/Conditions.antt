@@ -1,64 +1,27 @@
 -- The table of numbers for an attention, "given exactly when, and no earlier check applies": each check's own condition, and their order.
 use mathlib.Core.Bool.{false}
-use mathlib.Core.List.{List, [], _∷_, _++_}
+use mathlib.Core.List.{List, [], _∷_}
 use mathlib.Core.Logic.{_⊎_}
 use mathlib.Core.Path.{_≡_}
-use Prim.Native.Nat.{ℕ, _<_, _≤_}
-use lib.ListN.{length}
-use Rattle.memory.specs.Buffers.{Buffers, spaceOf, indexOf}
-use Rattle.memory.specs.Places.{Place, span}
-use Rattle.machine.specs.States.{channelOf, isSecond}
-use Rattle.machine.specs.declared.Channel.{Channel}
+use Prim.Native.Nat.{ℕ}
+use Rattle.memory.specs.Buffers.{Buffers}
+use Rattle.memory.specs.Places.{span}
+use Rattle.machine.specs.Conditions.{Check, check, TooLong, NotSound, Beyond}
+use Rattle.machine.specs.States.{channelOf, isSecond, blockOf}
 use Rattle.machine.specs.declared.Mode.{Mode}
 use Rattle.machine.specs.declared.Mode.the-variants.{Running, Suspended}
 use Rattle.machine.specs.declared.State.{State}
 use Rattle.attention.specs.Attention.{orderTo}
-use Rattle.attention.specs.Blocks.{blockOf}
 use Rattle.attention.specs.Commands.{codeOf}
 use Rattle.attention.specs.Touched.{others}
-
--- a check: its number, and the condition under which it applies
-pub record Check : Type 1 where
-  pub number : ℕ
-  pub applies : Type 0
-
-abbrev pub check : ℕ → Type 0 → Check
-check number applies = record { number = number; applies = applies }
-
--- number n is given by checks in their order: by the first that applies; 0 where none does
-abbrev pub Given : List Check → ℕ → Type 0
-Given [] n = n ≡ 0
-Given (k ∷ ks) n = (k .applies × (n ≡ k .number)) ⊎ (¬ (k .applies) × Given ks n)
 
 -- 12: "channel neither 1 nor 2"
 abbrev pub NoChannel : ℕ → Type 0
 NoChannel channel = ¬ (channel ≡ 1) × ¬ (channel ≡ 2)
 
--- 11: "a lent buffer longer than its limit"
-abbrev pub TooLong : Buffers → Type 0
-TooLong m = (1048576 < length (m .sys)) ⊎ (65536 < length (m .io))
-
--- the pointers of a channel, and PP
-abbrev pub pointersOf : Channel → List ℕ
-pointersOf c = c .ga .address ∷ c .gb .address ∷ c .gc .address ∷ c .tp .address ∷ c .pp ∷ []
-
--- one of some addresses is 1,048,576 or more
-abbrev pub SomePast : List ℕ → Type 0
-SomePast [] = ⊥
-SomePast (a ∷ rest) = (1048576 ≤ a) ⊎ SomePast rest
-
--- 10: "a pointer, PP or CP in the given state is 1,048,576 or more"
-abbrev pub NotSound : State → Type 0
-NotSound s = SomePast (pointersOf (s .first) ++ (pointersOf (s .second) ++ (s .cp ∷ [])))
-
--- 2: "a byte to be read or stored lies beyond lent memory"
-abbrev pub Beyond : Buffers → List Place → Type 0
-Beyond m [] = ⊥
-Beyond m (p ∷ ps) = (length (spaceOf m (p .tag)) ≤ indexOf (p .tag) (p .address)) ⊎ Beyond m ps
-
 -- 2, of CCW
 abbrev pub CcwBeyond : State → Buffers → ℕ → Type 0
-CcwBeyond s m channel = Beyond m (span false (blockOf (s .cp) (isSecond channel)) 1)
+CcwBeyond s m channel = Beyond m (span false (blockOf s (isSecond channel)) 1)
 
 -- 2, of the other bytes
 abbrev pub OthersBeyond : State → Buffers → ℕ → Type 0

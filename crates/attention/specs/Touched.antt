@@ -1,8 +1,8 @@
 -- Which bytes an attention reads and stores, each access once.
-use mathlib.Core.Bool.{Bool, false}
-use mathlib.Core.List.{List, [], _∷_, _++_}
+use mathlib.Core.Bool.{false}
+use mathlib.Core.List.{List, [], _++_}
 use Prim.Native.Nat.{ℕ}
-use Rattle.memory.specs.Places.{Place, span, Apart}
+use Rattle.memory.specs.Places.{Place, span}
 use Rattle.attention.specs.declared.Command.{Command}
 use Rattle.attention.specs.declared.Command.the-variants.{Update, StartLocal, StartSystem, Suspend, Resume, Halt, Unknown}
 use Rattle.attention.specs.declared.Order.{Order}
@@ -35,8 +35,3 @@ others o = readBy (o .command) (o .block) (o .pb) ++ storedBy (o .command) (o .b
 -- all that it touches
 unfoldable pub touched : Order → List Place
 touched o = span false (o .block) 1 ++ others o
-
--- a byte that is none of some places
-abbrev pub ElseThan : List Place → Bool → ℕ → Type 0
-ElseThan [] tag address = Unit
-ElseThan (p ∷ ps) tag address = Apart (p .tag) (p .address) tag address × ElseThan ps tag address

@@ -4,14 +4,7 @@ use crate::Order;
 use crate::commands;
 ghost use mathlib.Core.Path.{_≡_};
 ghost use Rattle.memory.specs.Buffers.{buffers};
-ghost use Rattle.attention.specs.Blocks.{blockOf, parameterBlock, orderOf};
-
-// Where a channel's block starts.
-pub fn block(cp: u32, second: bool) -> u32
-    ensures { λ r. ⌜ r ≡ blockOf cp second ⌝ }
-{
-    if second { words::sum20(cp, 8) } else { cp }
-}
+ghost use Rattle.attention.specs.Blocks.{parameterBlock, orderOf};
 
 // Where PB lies: a start reads it in the block, any other command takes it at PP.
 fn parameter_block(sys: &[u8], io: &[u8], command: Command, block: u32, pp: u32) -> u32

@@ -2,10 +2,11 @@
 use crate::Command;
 use machine::Mode;
 use machine::psw;
+use machine::states;
 ghost use mathlib.Core.Path.{_≡_};
 ghost use Rattle.machine.specs.Outcomes.{unless};
 ghost use Rattle.attention.specs.Commands as Commands;
-ghost use Rattle.attention.specs.Commands.{commandOf, isRunning, isSuspended, commandNumber};
+ghost use Rattle.attention.specs.Commands.{commandOf, commandNumber};
 
 // The command of a CCW.
 pub fn command(ccw: u8) -> Command
@@ -22,28 +23,6 @@ pub fn command(ccw: u8) -> Command
     }
 }
 
-// Whether a channel is running.
-fn is_running(mode: Mode) -> bool
-    ensures { λ r. ⌜ r ≡ isRunning mode ⌝ }
-{
-    match mode {
-        Mode::Idle => false,
-        Mode::Running => true,
-        Mode::Suspended => false,
-    }
-}
-
-// Whether a channel is suspended.
-fn is_suspended(mode: Mode) -> bool
-    ensures { λ r. ⌜ r ≡ isSuspended mode ⌝ }
-{
-    match mode {
-        Mode::Idle => false,
-        Mode::Running => false,
-        Mode::Suspended => true,
-    }
-}
-
 // A refusal unless a test holds.
 fn refuse_unless(ok: bool, number: u32) -> u32
     ensures { λ r. ⌜ r ≡ unless ok number ⌝ }
@@ -57,10 +36,10 @@ pub fn refusal(command: Command, mode: Mode) -> u32
 {
     match command {
         Command::Update => 0,
-        Command::StartLocal => refuse_unless(!is_running(mode), 8),
-        Command::StartSystem => refuse_unless(!is_running(mode), 8),
-        Command::Suspend => refuse_unless(is_running(mode), 9),
-        Command::Resume => refuse_unless(is_suspended(mode), 7),
+        Command::StartLocal => refuse_unless(!states::is_running(mode), 8),
+        Command::StartSystem => refuse_unless(!states::is_running(mode), 8),
+        Command::Suspend => refuse_unless(states::is_running(mode), 9),
+        Command::Resume => refuse_unless(states::is_suspended(mode), 7),
         Command::Halt => 0,
         Command::Unknown => 6,
     }

@@ -123,7 +123,7 @@ pub fn attention(s: State, sys: &mut [u8], io: &mut [u8], channel: u32) -> Answe
     let given = given_number(s, sys, io, channel);
     let second = states::is_second(channel);
     let c = states::channel(s, second);
-    let e = planned(sys, io, given, blocks::block(s.cp, second), c);
+    let e = planned(sys, io, given, states::block(s, second), c);
     let writes = e.writes;
     effects::write(sys, io, writes);
     let after = e.channel;

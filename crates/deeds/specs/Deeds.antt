@@ -1,14 +1,12 @@
 -- What an instruction does once it is read: what it reads, what the channel becomes and what it stores.
-use mathlib.Core.List.{List, _++_}
+use mathlib.Core.List.{List}
 use Prim.Native.Nat.{ℕ}
 use Rattle.memory.specs.Buffers.{Buffers}
 use Rattle.memory.specs.Places.{Place, allLent}
-use Rattle.memory.specs.declared.Pointer.{Pointer}
 use Rattle.machine.specs.declared.Channel.{Channel}
 use Rattle.machine.specs.Outcomes.{first, unless}
 use Rattle.operands.specs.declared.Change.{Change}
 use Rattle.deeds.specs.declared.Effect.{Effect}
-use Rattle.operands.specs.Operands.{bytesAt}
 
 -- `wrong` is 3 where a second pair is none, else 0; `reads` are the operand bytes read, and the offset byte of a second pair
 pub record Deed : Type 0 where

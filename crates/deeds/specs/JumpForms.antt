@@ -1,7 +1,7 @@
 -- Instructions that jump.
 use mathlib.Core.Bool.{Bool, false}
 use mathlib.Core.List.{[]}
-use Prim.Native.Nat.{ℕ, _+_, _%_}
+use Prim.Native.Nat.{ℕ, _%_}
 use lib.Dec.{eqb}
 use Rattle.words.specs.Choice.{pick}
 use Rattle.words.specs.Bits.{bitOf}
@@ -11,7 +11,6 @@ use Rattle.memory.specs.declared.Pointer.{Pointer}
 use Rattle.machine.specs.declared.Channel.{Channel}
 use Rattle.machine.specs.Registers.{registerOf}
 use Rattle.decode.specs.declared.Memory.{Memory}
-use Rattle.decode.specs.Lengths.{offsetLength}
 use Rattle.operands.specs.declared.Change.the-variants.{Nothing, Byte, Stored}
 use Rattle.operands.specs.Operands.{onward, byteHere, bytesAt, sizeOf, effective, grown, operandAt, jumped, jumpedIf, agrees}
 use Rattle.deeds.specs.MemoryForms.{afterPair}

@@ -1,5 +1,5 @@
 -- Instructions whose result goes into a register.
-use mathlib.Core.Bool.{Bool, true}
+use mathlib.Core.Bool.{Bool}
 use mathlib.Core.List.{[]}
 use Prim.Native.Nat.{ℕ}
 use Rattle.words.specs.Choice.{pick}

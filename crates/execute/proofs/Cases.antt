@@ -19,9 +19,9 @@ use Rattle.words.specs.Bits.{fieldOf}
 use Rattle.words.specs.Signs.{extended}
 use Rattle.operands.specs.Changes.{placesOf}
 use Rattle.deeds.specs.Deeds.{effectOf}
-use Rattle.execute.specs.Execute.{decodedAt, performed, deedOf, laterBytes, deedFrom, shapeNumber, numberFrom, executeNumber, settledEffect, planOf, Executed, executeOf}
 use Rattle.operands.specs.Operands.{onward, renewed, advanced, operandAt, workOf, isMove}
 use Rattle.deeds.specs.RegisterForms.{written, registerImmediateDeed}
+use Rattle.execute.specs.Execute.{decodedAt, performed, deedOf, laterBytes, deedFrom, shapeNumber, numberFrom, executeNumber, settledEffect, planOf, Executed, executeOf}
 
 -- a channel whose program stands at an address of system memory
 abbrev pub standing : Channel → ℕ → Channel

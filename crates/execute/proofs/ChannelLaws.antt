@@ -35,13 +35,13 @@ use Rattle.words.specs.Signs.{displacedBy}
 use Rattle.operands.specs.Changes.{placesOf, changed}
 use Rattle.deeds.specs.Control.{withStatus, nopDeed, sintrDeed, xferDeed, widDeed, hltDeed}
 use Rattle.deeds.specs.Deeds.{effectOf}
-use Rattle.execute.specs.Execute.{decodedAt, performed, deedOf, laterBytes, shapeNumber, numberFrom, executeNumber, executeOf}
 use Rattle.deeds.specs.JumpForms.{jumpRegisterDeed, jumpMemoryDeed, jumpByteDeed, jumpMaskedDeed, jumpBitDeed, tslDeed, callDeed}
-use Rattle.execute.specs.Kept.{Halts, Arms}
 use Rattle.deeds.specs.MemoryForms.{afterPair, memoryWorkDeed, memoryRegisterDeed, memoryImmediateDeed, memoryAloneDeed, movpStoreDeed, bitDeed, movOperandDeed, movSecondDeed, movMemoryDeed}
 use Rattle.operands.specs.Operands.{onward, byteHere, bytesAt, renewed, usedUp, advanced, further, sizeOf, effective, grown, displacementAt, jumped, jumpedIf, isMove}
 use Rattle.deeds.specs.RegisterForms.{written, registerImmediateDeed, registerDeed, registerMemoryDeed, lpdiDeed, lpdDeed, movpLoadDeed}
-use Rattle.execute.proofs.CheckLaws.{first-none-right, unless-none}
+use Rattle.machine.proofs.ConditionLaws.{first-none-right, unless-none}
+use Rattle.execute.specs.Execute.{decodedAt, performed, deedOf, laterBytes, shapeNumber, numberFrom, executeNumber, executeOf}
+use Rattle.execute.specs.Kept.{Halts, Arms}
 use Rattle.execute.proofs.OutcomeLaws.{number-is, by-number, done}
 
 -- ---- soundness

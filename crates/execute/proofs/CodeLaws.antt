@@ -21,11 +21,11 @@ use Rattle.memory.specs.Places.{allLent}
 use Rattle.words.specs.Choice.{pick}
 use Rattle.operands.specs.Changes.{placesOf}
 use Rattle.deeds.specs.Deeds.{effectOf}
-use Rattle.execute.specs.Execute.{decodedAt, deedOf, laterBytes, deedFrom, shapeNumber, numberFrom, executeNumber, settledEffect, planOf}
 use Rattle.operands.specs.Operands.{bytesAt}
 use Rattle.operands.specs.declared.Change.{Change}
 use Rattle.operands.specs.declared.Change.the-variants.{Nothing}
 use Rattle.deeds.specs.declared.Effect.{Effect}
+use Rattle.execute.specs.Execute.{decodedAt, deedOf, laterBytes, deedFrom, shapeNumber, numberFrom, executeNumber, settledEffect, planOf}
 
 -- an effect by its parts; a refusal leaves the channel and stores nothing
 abbrev pub effectWith : ℕ → Channel → Change → Effect

@@ -1,5 +1,4 @@
 pub mod CodeLaws
-pub mod CheckLaws
 pub mod OutcomeLaws
 pub mod NumberLaws
 pub mod MemoryLaws

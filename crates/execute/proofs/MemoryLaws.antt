@@ -4,25 +4,26 @@ use Prim.Native.Nat.{ℕ, _+_}
 use lib.Dec.{ltb}
 use lib.ListN.{length}
 use mathlib.Core.Bool.{Bool}
-use mathlib.Core.List.{List, [], _∷_, _++_}
+use mathlib.Core.List.{_++_}
 use mathlib.Core.Path.{_≡_, refl, ap, subst, _∙_}
 use native.Mathlib.Nat.{add-assoc}
 use Rattle.decode.specs.declared.Decoded.{Decoded}
 use Rattle.decode.specs.declared.Decoded.the-variants.{Instruction}
 use Rattle.decode.specs.declared.Shape.{Shape}
 use Rattle.machine.specs.declared.Channel.{Channel}
+use Rattle.memory.proofs.SpanLaws.{apart-right}
 use Rattle.memory.proofs.StoreLaws.{store-length, read-other, word-other}
 use Rattle.memory.specs.Buffers.{Buffers, spaceOf, indexOf, lentAt, byteAt, storeByte}
-use Rattle.memory.specs.Places.{Place, span, Apart}
+use Rattle.memory.specs.Places.{span, Apart, ApartFrom}
 use Rattle.memory.specs.Values.{storeWord, storePointer}
 use Rattle.words.specs.Bytes.{lowByte, highByte}
 use Rattle.words.specs.Stored.{storedLow, storedMiddle, storedHigh}
 use Rattle.operands.specs.Changes.{placesOf, changed}
-use Rattle.execute.specs.Execute.{decodedAt, deedOf, laterBytes, deedFrom, touchedFrom, touched, executeOf}
-use Rattle.execute.specs.Kept.{Away, deedAt}
 use Rattle.operands.specs.Operands.{bytesAt}
 use Rattle.operands.specs.declared.Change.{Change}
 use Rattle.operands.specs.declared.Change.the-variants.{Nothing, Byte, Word, Stored}
+use Rattle.execute.specs.Execute.{decodedAt, deedOf, laterBytes, deedFrom, touchedFrom, touched, executeOf}
+use Rattle.execute.specs.Kept.{deedAt}
 use Rattle.execute.proofs.OutcomeLaws.{by-number}
 
 -- a change alters no length
@@ -40,7 +41,7 @@ change-length m (Stored at p) u =
     ∙ store-length m (at .tag) u (at .address) (storedLow (p .address))
 
 -- and no byte but those of its places
-change-other : (m : Buffers) (ch : Change) (u : Bool) (b : ℕ) → Away u b (placesOf ch) → byteAt (changed m ch) u b ≡ byteAt m u b
+change-other : (m : Buffers) (ch : Change) (u : Bool) (b : ℕ) → ApartFrom (placesOf ch) u b → byteAt (changed m ch) u b ≡ byteAt m u b
 unfolding changed placesOf span storePointer
 change-other m Nothing u b h = refl
 change-other m (Byte at v) u b h = read-other m (at .tag) (at .address) v u b (h .0)
@@ -51,10 +52,6 @@ change-other m (Stored at p) u b h =
     read-other (storeByte m₁ (at .tag) (at .address + 1) (storedMiddle (p .address))) (at .tag) (at .address + 2) (storedHigh (p .address) (p .tag)) u b third
     ∙ read-other m₁ (at .tag) (at .address + 1) (storedMiddle (p .address)) u b (h .1 .0)
     ∙ read-other m (at .tag) (at .address) (storedLow (p .address)) u b (h .0)
-
-away-right : (u : Bool) (b : ℕ) (ps qs : List Place) → Away u b (ps ++ qs) → Away u b qs
-away-right u b [] qs h = h
-away-right u b (p ∷ ps) qs h = away-right u b ps qs (h .1)
 
 module _ (c : Channel) (busy : ℕ) (m : Buffers) where
   -- an instruction changes no length
@@ -70,23 +67,23 @@ module _ (c : Channel) (busy : ℕ) (m : Buffers) where
   lent-kept u b = ap (λ (n : ℕ). ltb (indexOf u b) n) (lengths-kept u)
 
   -- every byte apart from each place that its change stores to is as it was
-  pub bytes-kept : (u : Bool) (b : ℕ) → Away u b (placesOf ((deedAt m c busy) .change)) → byteAt ((executeOf c busy m) .memory) u b ≡ byteAt m u b
+  pub bytes-kept : (u : Bool) (b : ℕ) → ApartFrom (placesOf ((deedAt m c busy) .change)) u b → byteAt ((executeOf c busy m) .memory) u b ≡ byteAt m u b
   unfolding deedFrom
   bytes-kept u b h =
       by-number c busy m (λ o. byteAt (o .memory) u b ≡ byteAt m u b)
       (λ n ne. refl)
-      (λ s e z. change-other m ((deedOf s m c busy) .change) u b (subst (λ (d : Decoded). Away u b (placesOf ((deedFrom d m c busy) .change))) e h))
+      (λ s e z. change-other m ((deedOf s m c busy) .change) u b (subst (λ (d : Decoded). ApartFrom (placesOf ((deedFrom d m c busy) .change)) u b) e h))
 
   -- and so is every byte apart from all that it touches
-  pub untouched-kept : (u : Bool) (b : ℕ) → Away u b (touched m c busy) → byteAt ((executeOf c busy m) .memory) u b ≡ byteAt m u b
+  pub untouched-kept : (u : Bool) (b : ℕ) → ApartFrom (touched m c busy) u b → byteAt ((executeOf c busy m) .memory) u b ≡ byteAt m u b
   unfolding touched touchedFrom
   untouched-kept u b h =
       by-number c busy m (λ o. byteAt (o .memory) u b ≡ byteAt m u b)
       (λ n ne. refl)
-      (λ s e z. change-other m ((deedOf s m c busy) .change) u b (stores s (subst (λ (d : Decoded). Away u b (touchedFrom d m c busy)) e later)))
+      (λ s e z. change-other m ((deedOf s m c busy) .change) u b (stores s (subst (λ (d : Decoded). ApartFrom (touchedFrom d m c busy) u b) e later)))
     where
-      later : Away u b (touchedFrom (decodedAt m (c .tp)) m c busy)
-      later = away-right u b (bytesAt (c .tp) 2) (touchedFrom (decodedAt m (c .tp)) m c busy) h
+      later : ApartFrom (touchedFrom (decodedAt m (c .tp)) m c busy) u b
+      later = apart-right (bytesAt (c .tp) 2) (touchedFrom (decodedAt m (c .tp)) m c busy) u b h
 
-      stores : (s : Shape) → Away u b (touchedFrom (Instruction s) m c busy) → Away u b (placesOf ((deedOf s m c busy) .change))
-      stores s k = away-right u b (laterBytes s c ++ (deedOf s m c busy) .reads) (placesOf ((deedOf s m c busy) .change)) k
+      stores : (s : Shape) → ApartFrom (touchedFrom (Instruction s) m c busy) u b → ApartFrom (placesOf ((deedOf s m c busy) .change)) u b
+      stores s k = apart-right (laterBytes s c ++ (deedOf s m c busy) .reads) (placesOf ((deedOf s m c busy) .change)) u b k

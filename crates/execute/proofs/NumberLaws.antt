@@ -1,12 +1,11 @@
 -- The number of an instruction: 2, 3, 4 and 0, each exactly under its own condition and no earlier one.
 -- Assumes nothing.
-use Prim.Native.Nat.{ℕ, _≤_}
-use borrow.Author.Tests.{ltb-true, ltb-false, eqb-false}
+use Prim.Native.Nat.{ℕ}
+use borrow.Author.Tests.{eqb-false}
 use denote.Enum.Declared.{tagOf as variant}
-use lib.Dec.{ltb, eqb}
-use lib.ListN.{length}
-use mathlib.Core.Bool.{Bool, true, false, _&&_}
-use mathlib.Core.List.{List, [], _∷_}
+use lib.Dec.{eqb}
+use mathlib.Core.Bool.{Bool, true, false}
+use mathlib.Core.List.{[], _∷_}
 use mathlib.Core.Logic.{⊎-elim, inl, inr, _⊎_, _↔_}
 use mathlib.Core.Path.{_≡_, refl, sym, ap, _∙_}
 use native.Mathlib.Omega.{arith}
@@ -21,41 +20,23 @@ use Rattle.decode.specs.declared.Shape.the-variants.{Nop, Sintr, Xfer, Wid, Hlt
 use Rattle.machine.proofs.OutcomeLaws.{first-some, first-zero, unless-true}
 use Rattle.machine.specs.Outcomes.{unless, first}
 use Rattle.machine.specs.declared.Channel.{Channel}
-use Rattle.memory.specs.Buffers.{Buffers, spaceOf, indexOf, lentAt}
-use Rattle.memory.specs.Places.{Place, allLent}
+use Rattle.memory.specs.Buffers.{Buffers}
+use Rattle.memory.specs.Places.{allLent}
 use Rattle.words.proofs.ChoiceLaws.{apart}
 use Rattle.operands.specs.Changes.{placesOf}
-use Rattle.execute.specs.Conditions.{check, Given, Beyond, NoCode, ControlTouched, laterFrom, LaterBeyond, secondAt, NoSecondPair, ReadsBeyond, StoresBeyond, checksFrom, checks, Given4, Given3, Given2, Given0}
 use Rattle.deeds.specs.Control.{nopDeed, sintrDeed, xferDeed, widDeed, hltDeed}
 use Rattle.deeds.specs.Deeds.{Deed, effectOf}
-use Rattle.execute.specs.Execute.{decodedAt, performed, deedOf, laterBytes, deedFrom, shapeNumber, numberFrom, executeNumber, executeOf}
 use Rattle.deeds.specs.JumpForms.{jumpRegisterDeed, jumpMemoryDeed, jumpByteDeed, jumpMaskedDeed, jumpBitDeed, tslDeed, callDeed}
 use Rattle.deeds.specs.MemoryForms.{memoryWorkDeed, memoryRegisterDeed, memoryImmediateDeed, memoryAloneDeed, movpStoreDeed, bitDeed, movOperandDeed, movSecondDeed, movMemoryDeed}
 use Rattle.operands.specs.Operands.{byteHere, bytesAt, advanced, effective}
 use Rattle.deeds.specs.RegisterForms.{registerImmediateDeed, registerDeed, registerMemoryDeed, lpdiDeed, lpdDeed, movpLoadDeed}
-use Rattle.execute.proofs.CheckLaws.{Told, step, last, rewritten, first-assoc, skip, hit, either, end, never}
+use Rattle.machine.proofs.ConditionLaws.{Told, step, last, rewritten, first-assoc, skip, hit, either, end, never, told-true, told-false, told-lent}
+use Rattle.machine.specs.Conditions.{check, Given}
+use Rattle.execute.specs.Conditions.{NoCode, ControlTouched, laterFrom, LaterBeyond, secondAt, NoSecondPair, ReadsBeyond, StoresBeyond, checksFrom, checks, Given4, Given3, Given2, Given0}
+use Rattle.execute.specs.Execute.{decodedAt, performed, deedOf, laterBytes, deedFrom, shapeNumber, numberFrom, executeNumber, executeOf}
 use Rattle.execute.proofs.OutcomeLaws.{number-is}
 
 -- ---- what each test tells
-
-told-true : {A : Type 0} → ¬ A → Told true A
-told-true h = record { holds = λ e. h; fails = λ e. apart e }
-
-told-false : {A : Type 0} → A → Told false A
-told-false h = record { holds = λ e. apart (sym e); fails = λ e. h }
-
-told-and : {a b : Bool} {A B : Type 0} → Told a A → Told b B → Told (a && b) (A ⊎ B)
-told-and {a = true} t u = record { holds = λ e. ⊎-elim (t .holds refl) (u .holds e); fails = λ e. inr (u .fails e) }
-told-and {a = false} t u = record { holds = λ e. apart (sym e); fails = λ e. inl (t .fails refl) }
-
-told-ltb : (a b : ℕ) → Told (ltb a b) (b ≤ a)
-told-ltb a b = record { holds = λ e h. omega (arith, ltb-true a b e); fails = λ e. ltb-false a b e }
-
--- lent bytes: 2
-pub told-lent : (m : Buffers) (ps : List Place) → Told (allLent m ps) (Beyond m ps)
-unfolding allLent lentAt
-told-lent m [] = told-true (λ h. h)
-told-lent m (p ∷ ps) = told-and (told-ltb (indexOf (p .tag) (p .address)) (length (spaceOf m (p .tag)))) (told-lent m ps)
 
 -- the first two bytes are an instruction: else 3
 isCode : Decoded → Bool

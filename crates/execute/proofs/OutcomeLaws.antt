@@ -13,10 +13,10 @@ use Rattle.machine.specs.declared.Channel.{Channel}
 use Rattle.memory.specs.Buffers.{Buffers}
 use Rattle.memory.specs.Places.{allLent}
 use Rattle.operands.specs.Changes.{changed}
+use Rattle.operands.specs.Operands.{bytesAt}
+use Rattle.machine.proofs.ConditionLaws.{first-none-right}
 use Rattle.execute.specs.Execute.{decodedAt, deedOf, deedFrom, numberFrom, executeNumber, settledEffect, planOf, Executed, executed, executeOf}
 use Rattle.execute.specs.Kept.{deedAt}
-use Rattle.operands.specs.Operands.{bytesAt}
-use Rattle.execute.proofs.CheckLaws.{first-none-right}
 
 -- no two outcomes meet the contract of `execute`
 pub unique : (c : Channel) (busy : ℕ) (m : Buffers) (o o′ : Executed) → o ≡ executeOf c busy m → o′ ≡ executeOf c busy m → o ≡ o′

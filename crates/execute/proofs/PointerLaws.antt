@@ -19,13 +19,13 @@ use Rattle.memory.specs.Values.{pointer, pointerAt, storePointer}
 use Rattle.memory.specs.declared.Pointer.{Pointer}
 use Rattle.words.specs.Sums.{sum20}
 use Rattle.operands.specs.Changes.{placesOf, changed}
-use Rattle.execute.specs.Execute.{performed, deedOf}
 use Rattle.deeds.specs.JumpForms.{callDeed}
-use Rattle.execute.specs.Kept.{IsPointer}
 use Rattle.deeds.specs.MemoryForms.{movpStoreDeed}
 use Rattle.operands.specs.Operands.{onward, bytesAt, renewed, advanced, effective, grown}
 use Rattle.deeds.specs.RegisterForms.{movpLoadDeed}
 use Rattle.operands.specs.declared.Change.the-variants.{Stored}
+use Rattle.execute.specs.Execute.{performed, deedOf}
+use Rattle.execute.specs.Kept.{IsPointer}
 
 -- a pointer register that was written holds 20 bits of the value, and the tag
 pub register-written : (c : Channel) (r v : ℕ) (tag : Bool) → IsPointer r → registerOf (withRegister c r v tag) r ≡ v % 1048576

@@ -2,10 +2,10 @@
 use mathlib.Core.List.{List, [], _∷_}
 use mathlib.Core.Logic.{_⊎_}
 use mathlib.Core.Path.{_≡_}
-use Prim.Native.Nat.{ℕ, _≤_}
-use lib.ListN.{length}
-use Rattle.memory.specs.Buffers.{Buffers, spaceOf, indexOf}
+use Prim.Native.Nat.{ℕ}
+use Rattle.memory.specs.Buffers.{Buffers}
 use Rattle.memory.specs.Places.{Place}
+use Rattle.machine.specs.Conditions.{Check, check, Beyond}
 use Rattle.machine.specs.declared.Channel.{Channel}
 use Rattle.decode.specs.declared.Memory.{Memory}
 use Rattle.decode.specs.declared.Shape.the-variants.{MovMemory}
@@ -17,26 +17,7 @@ use Rattle.decode.specs.Reading.{secondOf}
 use Rattle.operands.specs.Operands.{onward, byteHere, bytesAt}
 use Rattle.deeds.specs.MemoryForms.{afterPair}
 use Rattle.operands.specs.Changes.{placesOf}
-use Rattle.deeds.specs.Deeds.{Deed}
 use Rattle.execute.specs.Execute.{decodedAt, laterBytes, deedFrom}
-
--- a check: its number, and the condition under which it applies
-pub record Check : Type 1 where
-  pub number : ℕ
-  pub applies : Type 0
-
-abbrev pub check : ℕ → Type 0 → Check
-check number applies = record { number = number; applies = applies }
-
--- number n is given by checks in their order: by the first that applies; 0 where none does
-abbrev pub Given : List Check → ℕ → Type 0
-Given [] n = n ≡ 0
-Given (k ∷ ks) n = (k .applies × (n ≡ k .number)) ⊎ (¬ (k .applies) × Given ks n)
-
--- "a byte to be read or stored lies beyond lent memory"
-abbrev pub Beyond : Buffers → List Place → Type 0
-Beyond m [] = ⊥
-Beyond m (p ∷ ps) = (length (spaceOf m (p .tag)) ≤ indexOf (p .tag) (p .address)) ⊎ Beyond m ps
 
 -- 2, of "its first two bytes"
 abbrev pub PairBeyond : Buffers → Channel → Type 0

@@ -1,21 +1,13 @@
--- Words for what an instruction does and leaves: bytes away from some places, the next instruction, and the registers that are pointers.
-use mathlib.Core.Bool.{Bool}
-use mathlib.Core.List.{List, [], _∷_}
+-- Words for what an instruction does and leaves: its deed, the next instruction, and the registers that are pointers.
 use mathlib.Core.Logic.{_⊎_}
 use mathlib.Core.Path.{_≡_}
 use Prim.Native.Nat.{ℕ}
 use Rattle.memory.specs.Buffers.{Buffers}
-use Rattle.memory.specs.Places.{Place, Apart}
 use Rattle.machine.specs.declared.Channel.{Channel}
 use Rattle.decode.specs.declared.Shape.the-variants.{Hlt, Xfer}
 use Rattle.decode.specs.declared.Decoded.the-variants.{Instruction}
 use Rattle.deeds.specs.Deeds.{Deed}
 use Rattle.execute.specs.Execute.{decodedAt, deedFrom}
-
--- a byte that is none of a list's
-abbrev pub Away : Bool → ℕ → List Place → Type 0
-Away u b [] = Unit
-Away u b (p ∷ ps) = Apart (p .tag) (p .address) u b × Away u b ps
 
 -- the deed of a channel's next instruction
 abbrev pub deedAt : Buffers → Channel → ℕ → Deed

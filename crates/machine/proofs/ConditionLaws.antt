@@ -4,17 +4,17 @@ use Prim.Native.Nat.{ℕ, zero, suc, _<_, _≤_}
 use borrow.Author.Tests.{ltb-true, ltb-false, leb-true, leb-false, eqb-true, eqb-false, not-true, not-false}
 use lib.Dec.{ltb, leb, eqb, eqb·suc-zero}
 use lib.ListN.{length}
-use mathlib.Core.Bool.{Bool, true, false, not, _&&_, _||_}
+use mathlib.Core.Bool.{and-assoc, Bool, true, false, not, _&&_, _||_}
 use mathlib.Core.List.{List, [], _∷_, _++_}
 use mathlib.Core.Logic.{⊎-elim, inl, inr, _⊎_, _↔_}
 use mathlib.Core.Path.{_≡_, refl, sym, ap, _∙_}
 use native.Mathlib.Omega.{arith}
 use Rattle.memory.specs.Buffers.{Buffers, spaceOf, limitOf, indexOf, lentAt, withinLimits}
 use Rattle.memory.specs.Places.{Place, allLent}
-use Rattle.words.proofs.ChoiceLaws.{apart, both-left, both-right}
+use Rattle.words.proofs.ChoiceLaws.{apart, both-left, both-right, and-true}
 use Rattle.machine.specs.Conditions.{Check, check, Given, TooLong, pointersOf, SomePast, NotSound, Beyond}
 use Rattle.machine.specs.Outcomes.{unless, first}
-use Rattle.machine.specs.States.{soundChannel, sound, isRunning}
+use Rattle.machine.specs.States.{soundChannel, sound, isRunning, isSuspended}
 use Rattle.machine.specs.declared.Mode.{Mode}
 use Rattle.machine.specs.declared.Mode.the-variants.{Idle, Running, Suspended}
 use Rattle.machine.specs.declared.State.{State}
@@ -110,6 +110,9 @@ told-eqb a b = record { holds = λ e h. h (eqb-true a b e); fails = λ e. eqb-fa
 pub told-true : {A : Type 0} → ¬ A → Told true A
 told-true h = record { holds = λ e. h; fails = λ e. apart e }
 
+pub told-false : {A : Type 0} → A → Told false A
+told-false h = record { holds = λ e. apart (sym e); fails = λ e. h }
+
 pub told-and : {a b : Bool} {A B : Type 0} → Told a A → Told b B → Told (a && b) (A ⊎ B)
 told-and {a = true} t u = record { holds = λ e. ⊎-elim (t .holds refl) (u .holds e); fails = λ e. inr (u .fails e) }
 told-and {a = false} t u = record { holds = λ e. apart (sym e); fails = λ e. inl (t .fails refl) }
@@ -136,15 +139,6 @@ unfolding allBelow
 told-below [] = told-true (λ h. h)
 told-below (a ∷ rest) = told-and (told-ltb a 1048576) (told-below rest)
 
--- tests joined, bracketed either way
-pub and-assoc : (a b d : Bool) → (a && b) && d ≡ a && (b && d)
-and-assoc true b d = refl
-and-assoc false b d = refl
-
-and-true : (b : Bool) → b && true ≡ b
-and-true true = refl
-and-true false = refl
-
 pub told-sound : (s : State) → Told (sound s) (NotSound s)
 unfolding sound soundChannel allBelow
 told-sound s = simp and-assoc (simp and-true at (told-below (pointersOf (s .first) ++ (pointersOf (s .second) ++ (s .cp ∷ [])))))
@@ -165,6 +159,16 @@ running-is Suspended e = apart (sym e)
 pub told-running : (mode : Mode) → Told (isRunning mode) (¬ (mode ≡ Running))
 unfolding isRunning
 told-running mode = record { holds = λ e h. h (running-is mode e); fails = λ e q. apart (sym (ap isRunning q) ∙ e) }
+
+pub suspended-is : (mode : Mode) → isSuspended mode ≡ true → mode ≡ Suspended
+unfolding isSuspended
+suspended-is Idle e = apart (sym e)
+suspended-is Running e = apart (sym e)
+suspended-is Suspended e = refl
+
+pub told-suspended : (mode : Mode) → Told (isSuspended mode) (¬ (mode ≡ Suspended))
+unfolding isSuspended
+told-suspended mode = record { holds = λ e h. h (suspended-is mode e); fails = λ e q. apart (sym (ap isSuspended q) ∙ e) }
 
 pub told-not-running : (mode : Mode) → Told (not (isRunning mode)) (mode ≡ Running)
 unfolding isRunning

@@ -4,16 +4,16 @@ use Prim.Native.Nat.{ℕ, zero, suc, _+_, _-_, _<_, _≤_}
 use borrow.Author.Tests.{lt-ltb, le-ltb, le-leb, lt-leb}
 use lib.Dec.{ltb, leb}
 use lib.ListN.{length}
-use mathlib.Core.Bool.{and-assoc, Bool, true, false, _&&_, _||_}
+use mathlib.Core.Bool.{and-assoc, Bool, true, _&&_, _||_}
 use mathlib.Core.List.{List, [], _∷_, _++_}
 use mathlib.Core.Path.{_≡_, refl, sym, ap, ap₂, subst, _∙_}
 use native.Mathlib.Decide.{decLt}
 use native.Mathlib.Nat.{add-zero, lt-of-lt-of-le, not-suc-le-zero, le-of-suc-le-suc}
 use native.Mathlib.Numerals.{add-one}
 use native.Mathlib.Omega.{arith}
-use Rattle.words.proofs.ChoiceLaws.{both-left, both-right}
+use Rattle.words.proofs.ChoiceLaws.{both-left, both-right, and-true, or-true, or-false}
 use Rattle.memory.specs.Buffers.{Buffers, spaceOf, limitOf, indexOf, lentAt, storeByte}
-use Rattle.memory.specs.Places.{Place, span, allLent}
+use Rattle.memory.specs.Places.{Place, span, allLent, Apart, ApartFrom}
 use Rattle.memory.proofs.PlaceLaws.{index-lt, index-next}
 use Rattle.memory.proofs.StoreLaws.{store-lent}
 
@@ -38,6 +38,20 @@ all-append m (p ∷ ps) qs =
     ap (λ (b : Bool). lentAt m (p .tag) (p .address) && b) (all-append m ps qs)
     ∙ sym (and-assoc (lentAt m (p .tag) (p .address)) (allLent m ps) (allLent m qs))
 
+-- a byte that is none of two lists is none of the second
+pub apart-right : (ps qs : List Place) (u : Bool) (b : ℕ) → ApartFrom (ps ++ qs) u b → ApartFrom qs u b
+apart-right [] qs u b h = h
+apart-right (p ∷ ps) qs u b h = apart-right ps qs u b (h .1)
+
+-- a byte that is none of a span is none of its bytes
+pub apart-at : (u : Bool) (a n k : ℕ) (t : Bool) (b : ℕ) → ApartFrom (span u a n) t b → k < n → Apart u (a + k) t b
+unfolding span
+apart-at u a zero k t b h hk = absurd (not-suc-le-zero hk)
+apart-at u a (suc n) zero t b h hk = rw add-zero (h .0)
+apart-at u a (suc n) (suc k) t b h hk =
+    let e : a + 1 + k ≡ a + suc k = omega arith in
+    subst (λ (x : ℕ). Apart u x t b) e (apart-at u (a + 1) n k t b (h .1) (le-of-suc-le-suc hk))
+
 -- a store leaves all lent that was
 pub all-store : (m : Buffers) (t : Bool) (a v : ℕ) (ps : List Place) → allLent (storeByte m t a v) ps ≡ allLent m ps
 unfolding allLent
@@ -50,18 +64,6 @@ unfolding span allLent lentAt
 span-whole m t a zero h = refl
 span-whole m t a (suc n) h =
     ap₂ _&&_ (lt-ltb (indexOf t a) (length (spaceOf m t)) (lt-of-lt-of-le (index-lt t a) h)) (span-whole m t (a + 1) n h)
-
-and-true : (b : Bool) → b && true ≡ b
-and-true true = refl
-and-true false = refl
-
-or-false : (b : Bool) → b || false ≡ b
-or-false true = refl
-or-false false = refl
-
-or-true : (b : Bool) → b || true ≡ true
-or-true true = refl
-or-true false = refl
 
 -- short of that, a span is lent where its end is
 pub span-part : (m : Buffers) (t : Bool) (a n : ℕ) → length (spaceOf m t) < limitOf t

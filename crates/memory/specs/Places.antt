@@ -23,3 +23,8 @@ allLent m (p ∷ ps) = lentAt m (p .tag) (p .address) && allLent m ps
 -- two places that are different bytes
 abbrev pub Apart : Bool → ℕ → Bool → ℕ → Type 0
 Apart t a u b = t ≡ u → indexOf t a ≡ indexOf u b → ⊥
+
+-- a byte that is none of some places
+abbrev pub ApartFrom : List Place → Bool → ℕ → Type 0
+ApartFrom [] tag address = Unit {0}
+ApartFrom (p ∷ ps) tag address = Apart (p .tag) (p .address) tag address × ApartFrom ps tag address

@@ -23,10 +23,9 @@ use Rattle.step.specs.declared.Choice.the-variants.{Nobody, Ends, Steps}
 use Rattle.step.specs.declared.Kind.{Kind}
 use Rattle.step.specs.declared.Kind.the-variants.{Transfer, Instruction}
 use Rattle.transfer.proofs.StepLaws.{refused}
-use Rattle.transfer.proofs.TestLaws.{and-false}
+use Rattle.words.proofs.ChoiceLaws.{and-false, apart}
 use Rattle.transfer.specs.Ends.{externallyEnded}
 use Rattle.transfer.specs.Steps.{transferOf, Transfer as Taken}
-use Rattle.words.proofs.ChoiceLaws.{apart}
 use Rattle.words.specs.Choice.{pick}
 use Rattle.promises.specs.Calls.{Turn}
 

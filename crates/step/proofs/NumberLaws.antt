@@ -7,24 +7,10 @@ use mathlib.Core.Bool.{Bool, true, false, not}
 use mathlib.Core.List.{[], _∷_}
 use mathlib.Core.Logic.{⊎-elim, inl, inr, _⊎_, _↔_, Iff·trans, Iff·rfl}
 use mathlib.Core.Path.{_≡_, refl, sym, ap, _∙_}
-use native.Mathlib.Decide.{ℕ-discrete}
-use Rattle.decode.specs.declared.Decoded.{Decoded}
-use Rattle.decode.specs.declared.Decoded.the-variants.{Instruction, NoInstruction, ControlUsed}
-use Rattle.decode.specs.declared.Memory.{Memory}
-use Rattle.decode.specs.declared.Second.{Second}
-use Rattle.decode.specs.declared.Second.the-variants.{Operand, NoSecond}
-use Rattle.decode.specs.declared.Shape.{Shape}
-use Rattle.decode.specs.declared.Shape.the-variants.{Nop, Sintr, Xfer, Wid, Hlt, Lpdi, RegisterImmediate, Register, JumpRegister, RegisterMemory, MemoryRegister, MemoryImmediate, MemoryAlone, JumpMemory, Lpd, MovpLoad, MovpStore, MovMemory, Tsl, Call, JumpMasked, JumpBit, Bit}
-use Rattle.operands.specs.Changes.{placesOf}
-use Rattle.deeds.specs.Control.{nopDeed, sintrDeed, xferDeed, widDeed, hltDeed}
-use Rattle.deeds.specs.Deeds.{Deed, effectOf}
-use Rattle.execute.specs.Execute.{decodedAt, performed, deedOf, deedFrom, laterBytes, shapeNumber, numberFrom, executeNumber, settledEffect, planOf, executeOf}
-use Rattle.deeds.specs.JumpForms.{jumpRegisterDeed, jumpMemoryDeed, jumpByteDeed, jumpMaskedDeed, jumpBitDeed, tslDeed, callDeed}
-use Rattle.deeds.specs.MemoryForms.{memoryWorkDeed, memoryRegisterDeed, memoryImmediateDeed, memoryAloneDeed, movpStoreDeed, bitDeed, movOperandDeed, movSecondDeed, movMemoryDeed}
-use Rattle.operands.specs.Operands.{bytesAt, effective, byteHere}
-use Rattle.deeds.specs.RegisterForms.{registerImmediateDeed, registerDeed, registerMemoryDeed, lpdiDeed, lpdDeed, movpLoadDeed}
-use Rattle.operands.specs.declared.Change.{Change}
-use Rattle.deeds.specs.declared.Effect.{Effect}
+use Rattle.decode.specs.declared.Decoded.the-variants.{Instruction}
+use Rattle.execute.proofs.NumberLaws.{number-given as instruction-given, exactly-2 as own-2, exactly-3 as own-3, exactly-4 as own-4, exactly-0 as own-0}
+use Rattle.execute.specs.Conditions.{checks as instructionChecks, Given2, Given3, Given4, Given0}
+use Rattle.execute.specs.Execute.{decodedAt, executeOf}
 use Rattle.machine.proofs.ConditionLaws.{Told, step, last, rewritten, first-assoc, skip, hit, end, never, told-ltb, told-limits, told-sound, told-lent, told-by, says-true, says-eqb, says-and, says-or}
 use Rattle.machine.specs.Cc.{synchronised, translates}
 use Rattle.machine.specs.Conditions.{check, Given, TooLong, NotSound, Beyond}
@@ -34,8 +20,6 @@ use Rattle.machine.specs.States.{channelOf, sound}
 use Rattle.machine.specs.declared.Channel.{Channel}
 use Rattle.machine.specs.declared.State.{State}
 use Rattle.memory.specs.Buffers.{Buffers, withinLimits}
-use Rattle.memory.specs.Places.{allLent}
-use Rattle.memory.specs.declared.Pointer.{Pointer}
 use Rattle.transfer.specs.Reads.{dataOf}
 use Rattle.transfer.specs.Sides.{source, destination}
 use Rattle.transfer.specs.Steps.{transferred, touched, badMode, transferNumber, transferOf}
@@ -43,7 +27,7 @@ use Rattle.transfer.specs.Stores.{channelAfter, memoryAfter}
 use Rattle.words.proofs.ChoiceLaws.{apart}
 use Rattle.words.specs.Choice.{pick}
 use Rattle.step.specs.Choosing.{choiceOf}
-use Rattle.step.specs.Conditions.{LinesOver, NoneRuns, BadTransfer, transferChecks, instructionChecks, instructionNumber, chosenChecks, checks, AfterGiven, OnEnd, OnTransfer, OnInstruction}
+use Rattle.step.specs.Conditions.{LinesOver, NoneRuns, BadTransfer, transferChecks, chosenChecks, checks, AfterGiven, OnEnd, OnTransfer, OnInstruction}
 use Rattle.step.specs.Step.{Step, refusedStep, settledStep, busyOf, transferStep, instructionStep, externalStep, channelStep, chosenStep, entryNumber, stepOf}
 use Rattle.step.specs.declared.Choice.{Choice}
 use Rattle.step.specs.declared.Choice.the-variants.{Nobody, Ends, Steps}
@@ -92,28 +76,6 @@ transfer-given : (c : Channel) (m : Buffers) (n : ℕ) → ((transferOf c m) .nu
 unfolding transferNumber
 transfer-given c m n = rewritten (moved-number c m) (step 5 refl (told-bad c) (last n 2 refl (told-lent m (touched c m))))
 
--- an instruction's
-executed-number : (c : Channel) (busy : ℕ) (m : Buffers) → (executeOf c busy m) .number ≡ executeNumber m c busy
-unfolding executeOf planOf settledEffect
-executed-number c busy m = go (executeNumber m c busy)
-  where
-    d : Deed
-    d = deedFrom (decodedAt m (c .tp)) m c busy
-
-    go : (k : ℕ) → (pick {A = Effect} (eqb k 0) (record { number = 0; channel = d .channel; change = d .change }) (record { number = k; channel = c; change = Change.Nothing })) .number ≡ k
-    go zero = refl
-    go (suc k) = rw (eqb·suc-zero k)
-
-own-given : (k n : ℕ) → (k ≡ n) ↔ Given (check k (¬ (k ≡ 0)) ∷ []) n
-own-given k n = go (ℕ-discrete k 0)
-  where
-    go : Dec (k ≡ 0) → (k ≡ n) ↔ ((¬ (k ≡ 0) × (n ≡ k)) ⊎ (¬ (¬ (k ≡ 0)) × (n ≡ 0)))
-    go (yes z) = (λ e. inr (λ h. h z, sym e ∙ z), ⊎-elim (λ h. sym (h .1)) (λ h. z ∙ sym (h .1)))
-    go (no ne) = (λ e. inl (ne, sym e), ⊎-elim (λ h. sym (h .1)) (λ h. absurd (h .0 ne)))
-
-instruction-given : (c : Channel) (busy : ℕ) (m : Buffers) (n : ℕ) → ((executeOf c busy m) .number ≡ n) ↔ Given (instructionChecks c busy m) n
-instruction-given c busy m n = rewritten (executed-number c busy m) (own-given (executeNumber m c busy) n)
-
 -- a check that does not apply
 passed : {A G : Type 0} {x n : ℕ} (k : ℕ) → ¬ A → ((x ≡ n) ↔ G) → (x ≡ n) ↔ ((A × (n ≡ k)) ⊎ (¬ A × G))
 passed k na q = (λ e. inr (na, q .0 e), ⊎-elim (λ h. absurd (na (h .0))) (λ h. q .1 (h .1)))
@@ -123,13 +85,13 @@ unfolding channelStep transferStep instructionStep
 turn-given s m b n = go (transferring (channelOf s b .psw))
   where
     go : (x : Bool) → ((pick x (transferStep s m b) (instructionStep s m b)) .number ≡ n)
-        ↔ Given (pick x (transferChecks (channelOf s b) m) (instructionChecks (channelOf s b) (busyOf s b) m)) n
+        ↔ Given (pick x (transferChecks (channelOf s b) m) (instructionChecks m (channelOf s b) (busyOf s b))) n
     go true =
         let t = transferOf (channelOf s b) m in
         rewritten (settled-number (t .number) s m b (t .channel) (t .memory) Kind.Transfer) (transfer-given (channelOf s b) m n)
     go false =
         let x = executeOf (channelOf s b) (busyOf s b) m in
-        rewritten (settled-number (x .number) s m b (x .channel) (x .memory) Kind.Instruction) (instruction-given (channelOf s b) (busyOf s b) m n)
+        rewritten (settled-number (x .number) s m b (x .channel) (x .memory) Kind.Instruction) (instruction-given m (channelOf s b) (busyOf s b) n)
 
 -- 1, then the checks of who was chosen
 chosen-given : (s : State) (m : Buffers) (lines n : ℕ) (x : Choice) → choiceOf s lines ≡ x
@@ -150,80 +112,6 @@ number-given s m lines n =
     (step 10 refl (told-sound s)
     (chosen-given s m lines n (choiceOf s lines) refl))))
 
--- ---- an instruction's numbers
-
--- an instruction's number is one of four
-abbrev pub Known : ℕ → Type 0
-Known k = (k ≡ 0) ⊎ ((k ≡ 2) ⊎ ((k ≡ 3) ⊎ (k ≡ 4)))
-
--- a second pair gives 3 or nothing
-abbrev Wrong : ℕ → Type 0
-Wrong k = (k ≡ 0) ⊎ (k ≡ 3)
-
-second-wrong : (m : Buffers) (c : Channel) (tp : Pointer) (o : Memory) (x : Second) → Wrong ((movSecondDeed m c tp o x) .wrong)
-unfolding movSecondDeed movOperandDeed
-second-wrong m c tp o NoSecond = inr refl
-second-wrong m c tp o (Operand q) = inl refl
-
-either-wrong : (b : Bool) (x y : Deed) → Wrong (x .wrong) → Wrong (y .wrong) → Wrong ((pick b x y) .wrong)
-either-wrong true x y p q = p
-either-wrong false x y p q = q
-
-performed-wrong : (s : Shape) (m : Buffers) (c : Channel) (tp : Pointer) (armed : Bool) (busy : ℕ) → Wrong ((performed s m c tp armed busy) .wrong)
-unfolding performed nopDeed sintrDeed xferDeed widDeed hltDeed lpdiDeed registerImmediateDeed registerDeed jumpRegisterDeed registerMemoryDeed memoryRegisterDeed memoryImmediateDeed memoryWorkDeed memoryAloneDeed jumpMemoryDeed lpdDeed movpLoadDeed movpStoreDeed movMemoryDeed tslDeed callDeed jumpMaskedDeed jumpBitDeed jumpByteDeed bitDeed
-performed-wrong Nop m c tp armed busy = inl refl
-performed-wrong Sintr m c tp armed busy = inl refl
-performed-wrong Xfer m c tp armed busy = inl refl
-performed-wrong (Wid wide₁ wide₂) m c tp armed busy = inl refl
-performed-wrong Hlt m c tp armed busy = inl refl
-performed-wrong (Lpdi ppp) m c tp armed busy = inl refl
-performed-wrong (RegisterImmediate work rrr wide) m c tp armed busy = inl refl
-performed-wrong (Register single rrr) m c tp armed busy = inl refl
-performed-wrong (JumpRegister z rrr two) m c tp armed busy = inl refl
-performed-wrong (RegisterMemory work rrr o) m c tp armed busy = inl refl
-performed-wrong (MemoryRegister work rrr o) m c tp armed busy = inl refl
-performed-wrong (MemoryImmediate work o) m c tp armed busy = inl refl
-performed-wrong (MemoryAlone single o) m c tp armed busy = inl refl
-performed-wrong (JumpMemory z o two) m c tp armed busy = inl refl
-performed-wrong (Lpd ppp o) m c tp armed busy = inl refl
-performed-wrong (MovpLoad ppp o) m c tp armed busy = inl refl
-performed-wrong (MovpStore ppp o) m c tp armed busy = inl refl
-performed-wrong (MovMemory o) m c tp armed busy = second-wrong m c tp o _
-performed-wrong (Tsl o) m c tp armed busy = either-wrong (eqb (byteHere m (effective m c o tp)) 0) _ _ (inl refl) (inl refl)
-performed-wrong (Call o two) m c tp armed busy = inl refl
-performed-wrong (JumpMasked equal o two) m c tp armed busy = inl refl
-performed-wrong (JumpBit set bit o two) m c tp armed busy = inl refl
-performed-wrong (Bit on bit o) m c tp armed busy = inl refl
-
--- a refusal by 2, then another
-two-known : (ok : Bool) (k : ℕ) → Known k → Known (first (unless ok 2) k)
-unfolding first unless
-two-known true k h = h
-two-known false k h = inr (inl refl)
-
-wrong-known : (w k : ℕ) → Wrong w → Known k → Known (first w k)
-unfolding first
-wrong-known w k h q = ⊎-elim (λ e. rw e q) (λ e. rw e (inr (inr (inl refl)))) h
-
-last-known : (ok : Bool) → Known (unless ok 2)
-unfolding unless
-last-known true = inl refl
-last-known false = inr (inl refl)
-
-from-known : (d : Decoded) (m : Buffers) (c : Channel) (busy : ℕ) → Known (numberFrom d m c busy)
-unfolding numberFrom shapeNumber effectOf deedOf
-from-known (Instruction s) m c busy =
-    let x = deedOf s m c busy in
-    two-known (allLent m (laterBytes s c)) _
-    (rw (first-assoc (x .wrong) (unless (allLent m (x .reads)) 2) (unless (allLent m (placesOf (x .change))) 2))
-    (wrong-known (x .wrong) _ (performed-wrong s m _ (c .tp) (c .armed) busy) (two-known (allLent m (x .reads)) _ (last-known (allLent m (placesOf (x .change)))))))
-from-known NoInstruction m c busy = inr (inr (inl refl))
-from-known ControlUsed m c busy = inr (inr (inr refl))
-
-pub executed-known : (m : Buffers) (c : Channel) (busy : ℕ) → Known (executeNumber m c busy)
-unfolding executeNumber
-executed-known m c busy = two-known (allLent m (bytesAt (c .tp) 2)) _ (from-known (decodedAt m (c .tp)) m c busy)
-
 -- ---- each number
 
 module _ (s : State) (m : Buffers) (lines : ℕ) where
@@ -233,14 +121,9 @@ module _ (s : State) (m : Buffers) (lines : ℕ) where
   chosen-never n n₀ n₂ n₃ n₄ n₅ (Ends b) = eqb-false n 0 n₀
   chosen-never n n₀ n₂ n₃ n₄ n₅ (Steps b) = go (transferring (channelOf s b .psw))
     where
-      known : (k : ℕ) → Known k → ¬ (n ≡ k)
-      known k h e =
-          ⊎-elim (λ z. eqb-false n 0 n₀ (e ∙ z))
-          (⊎-elim (λ z. eqb-false n 2 n₂ (e ∙ z)) (⊎-elim (λ z. eqb-false n 3 n₃ (e ∙ z)) (λ z. eqb-false n 4 n₄ (e ∙ z)))) h
-
-      go : (x : Bool) → ¬ (Given (pick x (transferChecks (channelOf s b) m) (instructionChecks (channelOf s b) (busyOf s b) m)) n)
-      go true = ⊎-elim (λ h. eqb-false n 5 n₅ (h .1)) (λ h. ⊎-elim (λ k. eqb-false n 2 n₂ (k .1)) (λ k. eqb-false n 0 n₀ (k .1)) (h .1))
-      go false = ⊎-elim (λ h. known (executeNumber m (channelOf s b) (busyOf s b)) (executed-known m (channelOf s b) (busyOf s b)) (h .1)) (λ h. eqb-false n 0 n₀ (h .1))
+      go : (x : Bool) → ¬ (Given (pick x (transferChecks (channelOf s b) m) (instructionChecks m (channelOf s b) (busyOf s b))) n)
+      go true = never n (transferChecks (channelOf s b) m) (rw (n₀, n₂, n₅))
+      go false = never n (instructionChecks m (channelOf s b) (busyOf s b)) (rw (n₀, n₂, n₃, n₄))
 
   -- 12: "line number over 15"
   pub exactly-12 : ((stepOf s m lines) .number ≡ 12) ↔ LinesOver lines
@@ -270,7 +153,7 @@ module _ (s : State) (m : Buffers) (lines : ℕ) where
   Own : Choice → ℕ → Type 0
   Own x n =
       OnEnd x s (λ b. n ≡ 0)
-      ⊎ (OnTransfer x s (λ b. Given (transferChecks (channelOf s b) m) n) ⊎ OnInstruction x s (λ b. Given (instructionChecks (channelOf s b) (busyOf s b) m) n))
+      ⊎ (OnTransfer x s (λ b. Given (transferChecks (channelOf s b) m) n) ⊎ OnInstruction x s (λ b. Given (instructionChecks m (channelOf s b) (busyOf s b)) n))
 
   own-cases : (n : ℕ) (x : Choice) → eqb n 1 ≡ false → choiceOf s lines ≡ x
       → ((NoneRuns s lines × (n ≡ 1)) ⊎ (¬ (NoneRuns s lines) × Given (chosenChecks x s m) n)) ↔ Own x n
@@ -288,8 +171,8 @@ module _ (s : State) (m : Buffers) (lines : ℕ) where
       runs h = h b (inr (steps-chosen s lines b e .1))
 
       go : (x : Bool) → transferring (channelOf s b .psw) ≡ x
-          → ((NoneRuns s lines × (n ≡ 1)) ⊎ (¬ (NoneRuns s lines) × Given (pick x (transferChecks (channelOf s b) m) (instructionChecks (channelOf s b) (busyOf s b) m)) n))
-          ↔ (⊥ ⊎ (((x ≡ true) × Given (transferChecks (channelOf s b) m) n) ⊎ ((x ≡ false) × Given (instructionChecks (channelOf s b) (busyOf s b) m) n)))
+          → ((NoneRuns s lines × (n ≡ 1)) ⊎ (¬ (NoneRuns s lines) × Given (pick x (transferChecks (channelOf s b) m) (instructionChecks m (channelOf s b) (busyOf s b))) n))
+          ↔ (⊥ ⊎ (((x ≡ true) × Given (transferChecks (channelOf s b) m) n) ⊎ ((x ≡ false) × Given (instructionChecks m (channelOf s b) (busyOf s b)) n)))
       go true f = (
         ⊎-elim (λ h. absurd (eqb-false n 1 ne (h .1))) (λ h. inr (inl (refl, h .1))),
         ⊎-elim (λ h. absurd h) (⊎-elim (λ h. inr (runs, h .1)) (λ h. apart (h .0))),
@@ -336,8 +219,9 @@ module _ (s : State) (m : Buffers) (lines : ℕ) where
       Iff·trans (number-given s m lines n)
       (skip n₁₂ (skip n₁₁ (skip n₁₀ (Iff·trans (own-cases n (choiceOf s lines) n₁ refl) q))))
 
-  by-instruction : (n : ℕ) (b : Bool) → Given (instructionChecks (channelOf s b) (busyOf s b) m) n ↔ (instructionNumber s m b ≡ n)
-  by-instruction n b = let h = own-given (instructionNumber s m b) n in (h .1, h .0)
+  -- what an instruction's checks give is what its own law says of that number
+  by-instruction : {Q : Type 0} (n : ℕ) (b : Bool) → ((executeOf (channelOf s b) (busyOf s b) m) .number ≡ n ↔ Q) → Given (instructionChecks m (channelOf s b) (busyOf s b)) n ↔ Q
+  by-instruction n b q = let h = instruction-given m (channelOf s b) (busyOf s b) n in (λ g. q .0 (h .1 g), λ k. h .0 (q .1 k))
 
   -- 5, of a transfer step: "transfer with SYN 11, or translation with a 16-bit side"
   pub exactly-5 : ((stepOf s m lines) .number ≡ 5) ↔ AfterGiven s m lines (OnTransfer (choiceOf s lines) s (λ b. BadTransfer (channelOf s b)))
@@ -346,73 +230,80 @@ module _ (s : State) (m : Buffers) (lines : ℕ) where
       let x = choiceOf s lines in
       own-number 5 refl refl refl refl (
         ⊎-elim (no-end x (λ b. eqb-false 5 0 refl))
-            (⊎-elim (on-transfer x (λ b. bad b .0)) (no-instruction x (λ b h. strange b ((by-instruction 5 b) .0 h)))),
+            (⊎-elim (on-transfer x (λ b. bad b .0)) (no-instruction x (λ b. never 5 (instructionChecks m (channelOf s b) (busyOf s b)) refl))),
         λ h. inr (inl (on-transfer x (λ b. bad b .1) h)),
       )
     where
       bad : (b : Bool) → Given (transferChecks (channelOf s b) m) 5 ↔ BadTransfer (channelOf s b)
       bad b = hit (never 5 (check 2 (Beyond m (touched (channelOf s b) m)) ∷ []) refl)
 
-      strange : (b : Bool) → ¬ (instructionNumber s m b ≡ 5)
-      strange b e =
-          ⊎-elim (λ z. eqb-false 0 5 refl (sym z ∙ e)) (⊎-elim (λ z. eqb-false 2 5 refl (sym z ∙ e)) (⊎-elim (λ z. eqb-false 3 5 refl (sym z ∙ e)) (λ z. eqb-false 4 5 refl (sym z ∙ e))))
-          (executed-known m (channelOf s b) (busyOf s b))
-
   -- 2, of a transfer step or an instruction: "a byte to be read or stored lies beyond lent memory"
   pub exactly-2 : ((stepOf s m lines) .number ≡ 2)
       ↔ AfterGiven s m lines
-      (OnTransfer (choiceOf s lines) s (λ b. ¬ (BadTransfer (channelOf s b)) × Beyond m (touched (channelOf s b) m)) ⊎ OnInstruction (choiceOf s lines) s (λ b. instructionNumber s m b ≡ 2))
+      (OnTransfer (choiceOf s lines) s (λ b. ¬ (BadTransfer (channelOf s b)) × Beyond m (touched (channelOf s b) m)) ⊎ OnInstruction (choiceOf s lines) s (λ b. Given2 (decodedAt m (channelOf s b .tp)) m (channelOf s b) (busyOf s b)))
   unfolding Own
   exactly-2 =
       let x = choiceOf s lines in
       own-number 2 refl refl refl refl (
         ⊎-elim (no-end x (λ b. eqb-false 2 0 refl))
-            (⊎-elim (λ h. inl (on-transfer x (λ b. beyond b .0) h)) (λ h. inr (on-instruction x (λ b. (by-instruction 2 b) .0) h))),
-        ⊎-elim (λ h. inr (inl (on-transfer x (λ b. beyond b .1) h))) (λ h. inr (inr (on-instruction x (λ b. (by-instruction 2 b) .1) h))),
+            (⊎-elim (λ h. inl (on-transfer x (λ b. beyond b .0) h)) (λ h. inr (on-instruction x (λ b. (of-2 b) .0) h))),
+        ⊎-elim (λ h. inr (inl (on-transfer x (λ b. beyond b .1) h))) (λ h. inr (inr (on-instruction x (λ b. (of-2 b) .1) h))),
       )
     where
       beyond : (b : Bool) → Given (transferChecks (channelOf s b) m) 2 ↔ (¬ (BadTransfer (channelOf s b)) × Beyond m (touched (channelOf s b) m))
       beyond b = skip refl (hit (eqb-false 2 0 refl))
 
+      of-2 : (b : Bool) → Given (instructionChecks m (channelOf s b) (busyOf s b)) 2 ↔ Given2 (decodedAt m (channelOf s b .tp)) m (channelOf s b) (busyOf s b)
+      of-2 b = by-instruction 2 b (own-2 m (channelOf s b) (busyOf s b))
+
   -- 3, of an instruction: "the bytes are no instruction below"
-  pub exactly-3 : ((stepOf s m lines) .number ≡ 3) ↔ AfterGiven s m lines (OnInstruction (choiceOf s lines) s (λ b. instructionNumber s m b ≡ 3))
+  pub exactly-3 : ((stepOf s m lines) .number ≡ 3) ↔ AfterGiven s m lines (OnInstruction (choiceOf s lines) s (λ b. Given3 (decodedAt m (channelOf s b .tp)) m (channelOf s b) (busyOf s b)))
   unfolding Own
   exactly-3 =
       let x = choiceOf s lines in
       own-number 3 refl refl refl refl (
         ⊎-elim (no-end x (λ b. eqb-false 3 0 refl))
-            (⊎-elim (no-transfer x (λ b. never 3 (transferChecks (channelOf s b) m) refl)) (on-instruction x (λ b. (by-instruction 3 b) .0))),
-        λ h. inr (inr (on-instruction x (λ b. (by-instruction 3 b) .1) h)),
+            (⊎-elim (no-transfer x (λ b. never 3 (transferChecks (channelOf s b) m) refl)) (on-instruction x (λ b. (of-3 b) .0))),
+        λ h. inr (inr (on-instruction x (λ b. (of-3 b) .1) h)),
       )
+    where
+      of-3 : (b : Bool) → Given (instructionChecks m (channelOf s b) (busyOf s b)) 3 ↔ Given3 (decodedAt m (channelOf s b .tp)) m (channelOf s b) (busyOf s b)
+      of-3 b = by-instruction 3 b (own-3 m (channelOf s b) (busyOf s b))
 
   -- 4, of an instruction: "CC used by anything but MOV or MOVI"
-  pub exactly-4 : ((stepOf s m lines) .number ≡ 4) ↔ AfterGiven s m lines (OnInstruction (choiceOf s lines) s (λ b. instructionNumber s m b ≡ 4))
+  pub exactly-4 : ((stepOf s m lines) .number ≡ 4) ↔ AfterGiven s m lines (OnInstruction (choiceOf s lines) s (λ b. Given4 (decodedAt m (channelOf s b .tp)) m (channelOf s b) (busyOf s b)))
   unfolding Own
   exactly-4 =
       let x = choiceOf s lines in
       own-number 4 refl refl refl refl (
         ⊎-elim (no-end x (λ b. eqb-false 4 0 refl))
-            (⊎-elim (no-transfer x (λ b. never 4 (transferChecks (channelOf s b) m) refl)) (on-instruction x (λ b. (by-instruction 4 b) .0))),
-        λ h. inr (inr (on-instruction x (λ b. (by-instruction 4 b) .1) h)),
+            (⊎-elim (no-transfer x (λ b. never 4 (transferChecks (channelOf s b) m) refl)) (on-instruction x (λ b. (of-4 b) .0))),
+        λ h. inr (inr (on-instruction x (λ b. (of-4 b) .1) h)),
       )
+    where
+      of-4 : (b : Bool) → Given (instructionChecks m (channelOf s b) (busyOf s b)) 4 ↔ Given4 (decodedAt m (channelOf s b .tp)) m (channelOf s b) (busyOf s b)
+      of-4 b = by-instruction 4 b (own-4 m (channelOf s b) (busyOf s b))
 
-  -- 0 otherwise: an external end, a transfer step without 5 and 2, an instruction whose own number is 0
+  -- 0 otherwise: an external end, a transfer step without 5 and 2, an instruction without 2, 3 and 4
   pub exactly-0 : ((stepOf s m lines) .number ≡ 0)
       ↔ AfterGiven s m lines
       (OnEnd (choiceOf s lines) s (λ b. Unit {0})
-      ⊎ (OnTransfer (choiceOf s lines) s (λ b. ¬ (BadTransfer (channelOf s b)) × ¬ (Beyond m (touched (channelOf s b) m))) ⊎ OnInstruction (choiceOf s lines) s (λ b. instructionNumber s m b ≡ 0)))
+      ⊎ (OnTransfer (choiceOf s lines) s (λ b. ¬ (BadTransfer (channelOf s b)) × ¬ (Beyond m (touched (channelOf s b) m))) ⊎ OnInstruction (choiceOf s lines) s (λ b. Given0 (decodedAt m (channelOf s b .tp)) m (channelOf s b) (busyOf s b))))
   unfolding Own
   exactly-0 =
       let x = choiceOf s lines in
       own-number 0 refl refl refl refl (
         ⊎-elim (λ h. inl (on-end x (λ b k. tt) h))
-            (⊎-elim (λ h. inr (inl (on-transfer x (λ b. right b .0) h))) (λ h. inr (inr (on-instruction x (λ b. (by-instruction 0 b) .0) h)))),
+            (⊎-elim (λ h. inr (inl (on-transfer x (λ b. right b .0) h))) (λ h. inr (inr (on-instruction x (λ b. (of-0 b) .0) h)))),
         ⊎-elim (λ h. inl (on-end x (λ b k. refl) h))
-            (⊎-elim (λ h. inr (inl (on-transfer x (λ b. right b .1) h))) (λ h. inr (inr (on-instruction x (λ b. (by-instruction 0 b) .1) h)))),
+            (⊎-elim (λ h. inr (inl (on-transfer x (λ b. right b .1) h))) (λ h. inr (inr (on-instruction x (λ b. (of-0 b) .1) h)))),
       )
     where
       right : (b : Bool) → Given (transferChecks (channelOf s b) m) 0 ↔ (¬ (BadTransfer (channelOf s b)) × ¬ (Beyond m (touched (channelOf s b) m)))
       right b = skip refl (end refl refl)
+
+      of-0 : (b : Bool) → Given (instructionChecks m (channelOf s b) (busyOf s b)) 0 ↔ Given0 (decodedAt m (channelOf s b .tp)) m (channelOf s b) (busyOf s b)
+      of-0 b = by-instruction 0 b (own-0 m (channelOf s b) (busyOf s b))
 
   -- and no other number
   pub no-other : (n : ℕ) → eqb n 0 ≡ false → eqb n 1 ≡ false → eqb n 2 ≡ false → eqb n 3 ≡ false → eqb n 4 ≡ false → eqb n 5 ≡ false

@@ -6,11 +6,8 @@ use lib.Dec.{eqb}
 use mathlib.Core.Bool.{Bool, true, false}
 use mathlib.Core.Path.{_≡_, refl, ap, _∙_}
 use native.Mathlib.Decide.{ℕ-discrete}
-use Rattle.operands.specs.Changes.{changed}
-use Rattle.deeds.specs.Deeds.{Deed}
-use Rattle.execute.specs.Execute.{planOf, decodedAt, deedFrom, executeNumber, settledEffect, executeOf}
-use Rattle.operands.specs.declared.Change.{Change}
-use Rattle.deeds.specs.declared.Effect.{Effect}
+use Rattle.execute.proofs.OutcomeLaws.{refused}
+use Rattle.execute.specs.Execute.{Executed, executeOf}
 use Rattle.machine.specs.declared.Channel.{Channel}
 use Rattle.machine.specs.declared.State.{State}
 use Rattle.memory.specs.Buffers.{Buffers}
@@ -20,7 +17,6 @@ use Rattle.transfer.specs.Stores.{channelAfter, memoryAfter}
 use Rattle.words.specs.Choice.{pick}
 use Rattle.step.specs.Step.{stepped, doneAnswer, settledAnswer, settledStep}
 use Rattle.step.specs.declared.Kind.{Kind}
-use Rattle.step.specs.declared.Kind.the-variants.{Nothing}
 use Rattle.step.specs.declared.Stepped.{Stepped}
 
 -- a refused transfer step changes no byte
@@ -37,18 +33,7 @@ transfer-kept c m ne = go (eqb (transferNumber c m) 0) ne
 
 -- a refused instruction changes no byte
 pub execute-kept : (c : Channel) (busy : ℕ) (m : Buffers) → ((executeOf c busy m) .number ≡ 0 → ⊥) → (executeOf c busy m) .memory ≡ m
-unfolding executeOf planOf settledEffect changed
-execute-kept c busy m ne = go (eqb (executeNumber m c busy) 0) ne
-  where
-    d : Deed
-    d = deedFrom (decodedAt m (c .tp)) m c busy
-
-    both : Bool → Effect
-    both b = pick b (record { number = 0; channel = d .channel; change = d .change }) (record { number = executeNumber m c busy; channel = c; change = Change.Nothing })
-
-    go : (b : Bool) → ((both b) .number ≡ 0 → ⊥) → changed m ((both b) .change) ≡ m
-    go true ne = absurd (ne refl)
-    go false ne = refl
+execute-kept c busy m ne = ap (λ (o : Executed). o .memory) (refused c busy m ne)
 
 -- what a settled answer and the memory after it come to
 pub settles : (number : ℕ) (s : State) (m : Buffers) (second : Bool) (c : Channel) (m′ : Buffers) (kind : Kind) → ((number ≡ 0 → ⊥) → m′ ≡ m)

@@ -4,7 +4,7 @@ use mathlib.Core.Bool.{Bool, true, false}
 use mathlib.Core.List.{List, [], _∷_}
 use mathlib.Core.Logic.{_⊎_}
 use mathlib.Core.Path.{_≡_}
-use Rattle.execute.specs.Execute.{executeNumber}
+use Rattle.execute.specs.Conditions.{checks as instructionChecks}
 use Rattle.machine.specs.Cc.{synchronised, chained, externalEnd, translates}
 use Rattle.machine.specs.Conditions.{Check, check, TooLong, NotSound, Beyond}
 use Rattle.machine.specs.Psw.{transferring, sourceWide, destinationWide}
@@ -81,22 +81,14 @@ BadTransfer c = (synchronised (c .cc) ≡ 3) ⊎ ((translates (c .cc) ≡ true) 
 abbrev pub transferChecks : Channel → Buffers → List Check
 transferChecks c m = check 5 (BadTransfer c) ∷ check 2 (Beyond m (touched c m)) ∷ []
 
--- the number of the instruction of a channel
-abbrev pub instructionNumber : State → Buffers → Bool → ℕ
-instructionNumber s m second = executeNumber m (channelOf s second) (busyOf s second)
-
--- an instruction is refused by its own number
-abbrev pub instructionChecks : Channel → ℕ → Buffers → List Check
-instructionChecks c busy m = check (executeNumber m c busy) (¬ (executeNumber m c busy ≡ 0)) ∷ []
-
 -- the checks of who was chosen; an external end has none
 abbrev pub chosenChecks : Choice → State → Buffers → List Check
 chosenChecks Nobody s m = []
 chosenChecks (Ends second) s m = []
 chosenChecks (Steps second) s m =
-    pick (transferring (channelOf s second .psw)) (transferChecks (channelOf s second) m) (instructionChecks (channelOf s second) (busyOf s second) m)
+    pick (transferring (channelOf s second .psw)) (transferChecks (channelOf s second) m) (instructionChecks m (channelOf s second) (busyOf s second))
 
--- "Order: 12, 11, 10. .. Step then: 1; for a transfer 5, 2; for an instruction" its own
+-- "Order: 12, 11, 10. .. Step then: 1; for a transfer 5, 2; for an instruction" its own, in their order
 abbrev pub checks : State → Buffers → ℕ → List Check
 checks s m lines =
     check 12 (LinesOver lines)

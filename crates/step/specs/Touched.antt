@@ -1,13 +1,12 @@
 -- Which bytes a step touches: those of the transfer step or of the instruction that was chosen, none for an external end.
 use Prim.Native.Nat.{ℕ}
-use mathlib.Core.Bool.{Bool}
-use mathlib.Core.List.{List, [], _∷_}
+use mathlib.Core.List.{List, []}
 use Rattle.execute.specs.Execute.{touched as executed}
 use Rattle.machine.specs.Psw.{transferring}
 use Rattle.machine.specs.States.{channelOf}
 use Rattle.machine.specs.declared.State.{State}
 use Rattle.memory.specs.Buffers.{Buffers}
-use Rattle.memory.specs.Places.{Place, Apart}
+use Rattle.memory.specs.Places.{Place}
 use Rattle.transfer.specs.Steps.{touched as moved}
 use Rattle.words.specs.Choice.{pick}
 use Rattle.step.specs.Choosing.{choiceOf}
@@ -25,8 +24,3 @@ touchedIn (Steps second) s m =
 -- the bytes that a step reads or stores
 unfoldable pub touchedBy : State → Buffers → ℕ → List Place
 touchedBy s m lines = touchedIn (choiceOf s lines) s m
-
--- a place that is none of some
-abbrev pub ApartFrom : List Place → Bool → ℕ → Type 0
-ApartFrom [] tag address = Unit {0}
-ApartFrom (p ∷ ps) tag address = Apart (p .tag) (p .address) tag address × ApartFrom ps tag address

@@ -13,7 +13,7 @@ use Rattle.memory.proofs.PlaceLaws.{index-reduced, lent-index, byte-reduced, st
 use Rattle.memory.specs.Buffers.{Buffers, lentAt, byteAt, storeByte}
 use Rattle.memory.specs.Places.{allLent}
 use Rattle.memory.specs.declared.Pointer.{Pointer}
-use Rattle.words.proofs.ChoiceLaws.{pick-same}
+use Rattle.words.proofs.ChoiceLaws.{pick-same, and-true, and-false, or-true, pick-under}
 use Rattle.words.specs.Bits.{bitOf}
 use Rattle.words.specs.Choice.{pick}
 use Rattle.words.specs.Sums.{sum20, countDown}
@@ -26,7 +26,6 @@ use Rattle.transfer.specs.declared.Data.{Data}
 use Rattle.transfer.specs.declared.Side.{Side}
 use Rattle.transfer.proofs.KeptLaws.{ga-after, gb-after, ended-none}
 use Rattle.transfer.proofs.StepLaws.{outcome-0}
-use Rattle.transfer.proofs.TestLaws.{and-true, and-false, or-true, pick-under}
 use Rattle.transfer.proofs.TouchLaws.{reads-lent, places-lent, touched-lent}
 
 -- the CC of such a transfer: both sides move on, no translation, TMC off, TS 0, TBC on

@@ -17,7 +17,7 @@ use Rattle.memory.specs.Places.{Apart}
 use Rattle.memory.specs.Values.{pointer}
 use Rattle.memory.specs.declared.Pointer.{Pointer}
 use Rattle.words.proofs.BitLaws.{bit-same, bit-other}
-use Rattle.words.proofs.ChoiceLaws.{both-left, both-right}
+use Rattle.words.proofs.ChoiceLaws.{both-left, both-right, pick-back}
 use Rattle.words.specs.Bits.{bitOf, withBit}
 use Rattle.words.specs.Choice.{pick}
 use Rattle.words.specs.Sums.{sum20}
@@ -29,7 +29,6 @@ use Rattle.transfer.specs.Stores.{storesTwo, bytesMoved, countAfter, end
 use Rattle.transfer.specs.declared.Data.{Data}
 use Rattle.transfer.specs.declared.Side.{Side}
 use Rattle.transfer.proofs.StepLaws.{by-number}
-use Rattle.transfer.proofs.TestLaws.{pick-back}
 
 -- ---- memory
 

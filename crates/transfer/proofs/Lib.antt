@@ -1,4 +1,3 @@
-pub mod TestLaws
 pub mod TouchLaws
 pub mod StepLaws
 pub mod KeptLaws

@@ -5,8 +5,8 @@ use denote.Ref.{now}
 use mathlib.Core.Path.{ap, _∙_}
 use Rattle.memory.specs.Buffers.{buffers}
 use Rattle.operands.specs.Changes.{changed}
-use Rattle.execute.specs.Execute.{executed, executeOf}
 use Rattle.deeds.specs.declared.Effect.{Effect}
+use Rattle.execute.specs.Execute.{executed, executeOf}
 use Rattle.execute.proofs.execute.Statement.{statement}
 use Rattle.execute.proofs.execute.Tie as tie
 

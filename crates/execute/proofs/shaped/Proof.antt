@@ -16,9 +16,9 @@ use Rattle.memory.specs.Buffers.{buffers}
 use Rattle.memory.specs.Places.{allLent}
 use Rattle.operands.specs.Changes.{placesOf}
 use Rattle.deeds.specs.Deeds.{effectOf}
-use Rattle.execute.specs.Execute.{performed, deedOf, laterBytes}
 use Rattle.operands.specs.Operands.{onward, advanced}
 use Rattle.deeds.specs.declared.Effect.{Effect}
+use Rattle.execute.specs.Execute.{performed, deedOf, laterBytes}
 use Rattle.execute.proofs.CodeLaws.{effectWith, refusedEffect, shape-beyond, shape-wrong, shape-unstored, shape-done}
 use Rattle.execute.proofs.shaped.Statement.{statement}
 use Rattle.execute.proofs.shaped.Tie as tie

@@ -7,7 +7,6 @@ use lib.ListN.{length}
 use mathlib.Core.Path.{_≡_, refl, sym, ap, _∙_}
 use native.Mathlib.Nat.{sub-zero}
 use native.Mathlib.Omega.{arith}
-use Rattle.attention.proofs.CheckLaws.{step}
 use Rattle.memory.specs.Buffers.{buffers}
 use Rattle.step.specs.Step.{Step, stepOf}
 use Rattle.panel.specs.Run.{ran, stepsFrom}

@@ -6,7 +6,6 @@ use lib.Dec.{lit≤}
 use lib.ListN.{length}
 use mathlib.Core.Path.{_≡_, refl, _∙_}
 use native.Mathlib.Omega.{arith}
-use Rattle.attention.proofs.CheckLaws.{step}
 use Rattle.trace.proofs.steps.Statement.{statement}
 use Rattle.trace.proofs.steps.Tie as tie
 

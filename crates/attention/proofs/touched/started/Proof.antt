@@ -1,7 +1,9 @@
 -- `attention::touched/started` meets its contract.
 -- Assumes nothing.
 use borrow.Author.Needs.{needs}
-use Rattle.attention.proofs.ReducedLaws.{and-assoc, span-reduced, all-joined}
+use mathlib.Core.Bool.{and-assoc}
+use Rattle.memory.proofs.SpanLaws.{all-append}
+use Rattle.attention.proofs.ReducedLaws.{span-reduced}
 use Rattle.attention.proofs.touched.started.Statement.{statement}
 use Rattle.attention.proofs.touched.started.Tie as tie
 
@@ -15,7 +17,7 @@ stored-requires : tie.Need-stored-requires
 stored-requires c κs = search needs
 
 returns : tie.Need-returns
-returns c = simp (c .stored .ensures, c .before .span-lent .ensures, c .before .before .sum20 .ensures, span-reduced, all-joined, and-assoc)
+returns c = simp (c .stored .ensures, c .before .span-lent .ensures, c .before .before .sum20 .ensures, span-reduced, all-append, and-assoc)
 
 pub started-spec : {M : Type 1} → statement M
 started-spec = tie.close (tie.spec sum20-requires span-lent-requires stored-requires returns)

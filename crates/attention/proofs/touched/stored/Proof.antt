@@ -1,7 +1,7 @@
 -- `attention::touched/stored` meets its contract.
 -- Assumes nothing.
 use borrow.Author.Needs.{needs}
-use Rattle.attention.proofs.ReducedLaws.{all-joined}
+use Rattle.memory.proofs.SpanLaws.{all-append}
 use Rattle.attention.proofs.touched.stored.Statement.{statement}
 use Rattle.attention.proofs.touched.stored.Tie as tie
 
@@ -12,7 +12,7 @@ busy-requires : tie.Need-busy-requires
 busy-requires c κs = search needs
 
 returns : tie.Need-returns
-returns c = rw (c .busy .ensures, c .before .span-lent .ensures, all-joined)
+returns c = rw (c .busy .ensures, c .before .span-lent .ensures, all-append)
 
 pub stored-spec : {M : Type 1} → statement M
 stored-spec = tie.close (tie.spec span-lent-requires busy-requires returns)

@@ -1,8 +1,8 @@
 -- `deeds::control::hlt` meets its contract.
 -- Assumes nothing.
 use borrow.Author.Needs.{needs}
-use Rattle.deeds.specs.Control.{hltDeed}
 use Rattle.operands.specs.Operands.{renewed}
+use Rattle.deeds.specs.Control.{hltDeed}
 use Rattle.deeds.proofs.control.hlt.Statement.{statement}
 use Rattle.deeds.proofs.control.hlt.Tie as tie
 

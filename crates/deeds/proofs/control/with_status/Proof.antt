@@ -1,8 +1,8 @@
 -- `deeds::control::with_status` meets its contract.
 -- Assumes nothing.
 use mathlib.Core.Path.{refl}
-use Rattle.deeds.specs.Control.{withStatus}
 use Rattle.operands.specs.Operands.{renewed}
+use Rattle.deeds.specs.Control.{withStatus}
 use Rattle.deeds.proofs.control.with_status.Statement.{statement}
 use Rattle.deeds.proofs.control.with_status.Tie as tie
 

@@ -1,8 +1,8 @@
 -- `deeds::control::xfer` meets its contract.
 -- Assumes nothing.
 use borrow.Author.Needs.{needs}
-use Rattle.deeds.specs.Control.{nopDeed, xferDeed}
 use Rattle.operands.specs.Operands.{renewed}
+use Rattle.deeds.specs.Control.{nopDeed, xferDeed}
 use Rattle.deeds.proofs.control.xfer.Statement.{statement}
 use Rattle.deeds.proofs.control.xfer.Tie as tie
 

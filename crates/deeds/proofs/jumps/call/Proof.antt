@@ -1,8 +1,8 @@
 -- `deeds::jumps/call` meets its contract.
 -- Assumes nothing.
 use borrow.Author.Needs.{needs}
-use Rattle.deeds.specs.JumpForms.{callDeed}
 use Rattle.operands.specs.Operands.{effective, grown, jumped}
+use Rattle.deeds.specs.JumpForms.{callDeed}
 use Rattle.deeds.proofs.jumps.call.Statement.{statement}
 use Rattle.deeds.proofs.jumps.call.Tie as tie
 

@@ -1,8 +1,8 @@
 -- `deeds::jumps::jump_bit` meets its contract.
 -- Assumes nothing.
 use borrow.Author.Needs.{needs}
-use Rattle.deeds.specs.JumpForms.{jumpBitDeed}
 use Rattle.operands.specs.Operands.{effective, agrees}
+use Rattle.deeds.specs.JumpForms.{jumpBitDeed}
 use Rattle.deeds.proofs.jumps.jump_bit.Statement.{statement}
 use Rattle.deeds.proofs.jumps.jump_bit.Tie as tie
 

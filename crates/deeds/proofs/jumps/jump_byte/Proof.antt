@@ -3,10 +3,9 @@
 use borrow.Author.Needs.{needs}
 use Rattle.machine.specs.Outcomes.{first}
 use Rattle.memory.proofs.PlaceLaws.{after}
+use Rattle.operands.specs.Operands.{readNumber, grown}
 use Rattle.deeds.specs.Deeds.{effectOf}
-use Rattle.operands.specs.Operands.{readNumber}
 use Rattle.deeds.specs.JumpForms.{jumpByteDeed}
-use Rattle.operands.specs.Operands.{grown}
 use Rattle.deeds.proofs.jumps.jump_byte.Statement.{statement}
 use Rattle.deeds.proofs.jumps.jump_byte.Tie as tie
 

@@ -1,8 +1,8 @@
 -- `deeds::jumps::jump_masked` meets its contract.
 -- Assumes nothing.
 use borrow.Author.Needs.{needs}
-use Rattle.deeds.specs.JumpForms.{jumpMaskedDeed}
 use Rattle.operands.specs.Operands.{effective, agrees}
+use Rattle.deeds.specs.JumpForms.{jumpMaskedDeed}
 use Rattle.deeds.proofs.jumps.jump_masked.Statement.{statement}
 use Rattle.deeds.proofs.jumps.jump_masked.Tie as tie
 

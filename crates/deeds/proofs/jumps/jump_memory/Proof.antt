@@ -3,10 +3,9 @@
 use borrow.Author.Needs.{needs}
 use Rattle.machine.specs.Outcomes.{first}
 use Rattle.memory.proofs.PlaceLaws.{after}
+use Rattle.operands.specs.Operands.{readNumber, effective, agrees}
 use Rattle.deeds.specs.Deeds.{effectOf}
-use Rattle.operands.specs.Operands.{readNumber}
 use Rattle.deeds.specs.JumpForms.{jumpMemoryDeed}
-use Rattle.operands.specs.Operands.{effective, agrees}
 use Rattle.deeds.proofs.jumps.jump_memory.Statement.{statement}
 use Rattle.deeds.proofs.jumps.jump_memory.Tie as tie
 

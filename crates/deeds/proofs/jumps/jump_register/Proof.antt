@@ -1,9 +1,9 @@
 -- `deeds::jumps::jump_register` meets its contract.
 -- Assumes nothing.
 use borrow.Author.Needs.{needs}
+use Rattle.operands.specs.Operands.{onward, agrees}
 use Rattle.deeds.specs.Control.{nopDeed}
 use Rattle.deeds.specs.JumpForms.{jumpRegisterDeed}
-use Rattle.operands.specs.Operands.{onward, agrees}
 use Rattle.deeds.proofs.jumps.jump_register.Statement.{statement}
 use Rattle.deeds.proofs.jumps.jump_register.Tie as tie
 

@@ -5,10 +5,9 @@ use borrow.Author.Tests.{eq-eqb, ne-eqb}
 use mathlib.Core.Path.{sym, _∙_}
 use Rattle.machine.specs.Outcomes.{first}
 use Rattle.memory.proofs.PlaceLaws.{after}
+use Rattle.operands.specs.Operands.{readNumber, onward, effective, grown, jumped}
 use Rattle.deeds.specs.Deeds.{effectOf}
-use Rattle.operands.specs.Operands.{readNumber}
 use Rattle.deeds.specs.JumpForms.{tslDeed}
-use Rattle.operands.specs.Operands.{onward, effective, grown, jumped}
 use Rattle.deeds.proofs.jumps.tsl.Statement.{statement}
 use Rattle.deeds.proofs.jumps.tsl.Tie as tie
 

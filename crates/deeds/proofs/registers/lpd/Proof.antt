@@ -4,9 +4,8 @@ use borrow.Author.Needs.{needs}
 use Rattle.machine.specs.Outcomes.{first}
 use Rattle.machine.specs.Registers.{loaded}
 use Rattle.memory.proofs.PlaceLaws.{after}
+use Rattle.operands.specs.Operands.{readNumber, effective, grown}
 use Rattle.deeds.specs.Deeds.{effectOf}
-use Rattle.operands.specs.Operands.{readNumber}
-use Rattle.operands.specs.Operands.{effective, grown}
 use Rattle.deeds.specs.RegisterForms.{lpdDeed}
 use Rattle.deeds.proofs.registers.lpd.Statement.{statement}
 use Rattle.deeds.proofs.registers.lpd.Tie as tie

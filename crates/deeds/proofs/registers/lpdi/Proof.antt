@@ -2,8 +2,8 @@
 -- Assumes nothing.
 use borrow.Author.Needs.{needs}
 use Rattle.machine.specs.Registers.{loaded}
-use Rattle.deeds.specs.Control.{nopDeed}
 use Rattle.operands.specs.Operands.{onward}
+use Rattle.deeds.specs.Control.{nopDeed}
 use Rattle.deeds.specs.RegisterForms.{lpdiDeed}
 use Rattle.deeds.proofs.registers.lpdi.Statement.{statement}
 use Rattle.deeds.proofs.registers.lpdi.Tie as tie

@@ -3,9 +3,8 @@
 use borrow.Author.Needs.{needs}
 use Rattle.machine.specs.Outcomes.{first}
 use Rattle.memory.proofs.PlaceLaws.{after}
+use Rattle.operands.specs.Operands.{readNumber, effective, grown}
 use Rattle.deeds.specs.Deeds.{effectOf}
-use Rattle.operands.specs.Operands.{readNumber}
-use Rattle.operands.specs.Operands.{effective, grown}
 use Rattle.deeds.specs.RegisterForms.{movpLoadDeed}
 use Rattle.deeds.proofs.registers.movp_load.Statement.{statement}
 use Rattle.deeds.proofs.registers.movp_load.Tie as tie

@@ -1,8 +1,8 @@
 -- `deeds::registers::register_immediate` meets its contract.
 -- Assumes nothing.
 use borrow.Author.Needs.{needs}
-use Rattle.deeds.specs.Control.{nopDeed}
 use Rattle.operands.specs.Operands.{onward}
+use Rattle.deeds.specs.Control.{nopDeed}
 use Rattle.deeds.specs.RegisterForms.{registerImmediateDeed}
 use Rattle.deeds.proofs.registers.register_immediate.Statement.{statement}
 use Rattle.deeds.proofs.registers.register_immediate.Tie as tie

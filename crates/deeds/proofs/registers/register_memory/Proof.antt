@@ -3,9 +3,8 @@
 use borrow.Author.Needs.{needs}
 use Rattle.machine.specs.Outcomes.{first}
 use Rattle.memory.proofs.PlaceLaws.{after}
+use Rattle.operands.specs.Operands.{readNumber, effective}
 use Rattle.deeds.specs.Deeds.{effectOf}
-use Rattle.operands.specs.Operands.{readNumber}
-use Rattle.operands.specs.Operands.{effective}
 use Rattle.deeds.specs.RegisterForms.{registerMemoryDeed}
 use Rattle.deeds.proofs.registers.register_memory.Statement.{statement}
 use Rattle.deeds.proofs.registers.register_memory.Tie as tie

@@ -2,10 +2,9 @@
 -- Assumes nothing.
 use borrow.Author.Needs.{needs}
 use Rattle.machine.specs.Outcomes.{first}
+use Rattle.operands.specs.Operands.{readNumber, effective, grown}
 use Rattle.deeds.specs.Deeds.{effectOf}
-use Rattle.operands.specs.Operands.{readNumber}
 use Rattle.deeds.specs.MemoryForms.{bitDeed}
-use Rattle.operands.specs.Operands.{effective, grown}
 use Rattle.deeds.proofs.stores.bit.Statement.{statement}
 use Rattle.deeds.proofs.stores.bit.Tie as tie
 

@@ -2,10 +2,9 @@
 -- Assumes nothing.
 use borrow.Author.Needs.{needs}
 use Rattle.machine.specs.Outcomes.{first}
+use Rattle.operands.specs.Operands.{readNumber, effective}
 use Rattle.deeds.specs.Deeds.{effectOf}
-use Rattle.operands.specs.Operands.{readNumber}
 use Rattle.deeds.specs.MemoryForms.{memoryWorkDeed}
-use Rattle.operands.specs.Operands.{effective}
 use Rattle.deeds.proofs.stores.memory_work.Statement.{statement}
 use Rattle.deeds.proofs.stores.memory_work.Tie as tie
 

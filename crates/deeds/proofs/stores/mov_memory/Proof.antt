@@ -3,9 +3,9 @@
 use borrow.Author.Needs.{needs}
 use mathlib.Core.Path.{sym, _∙_}
 use Rattle.machine.specs.Outcomes.{first}
+use Rattle.operands.specs.Operands.{onward}
 use Rattle.deeds.specs.Deeds.{effectOf}
 use Rattle.deeds.specs.MemoryForms.{movSecondDeed, movMemoryDeed}
-use Rattle.operands.specs.Operands.{onward}
 use Rattle.deeds.proofs.stores.mov_memory.Statement.{statement}
 use Rattle.deeds.proofs.stores.mov_memory.Tie as tie
 

@@ -3,9 +3,9 @@
 use borrow.Author.Needs.{needs}
 use Rattle.machine.specs.Outcomes.{first}
 use Rattle.memory.proofs.SpanLaws.{all-append}
+use Rattle.operands.specs.Operands.{onward, further, effective}
 use Rattle.deeds.specs.Deeds.{effectOf}
 use Rattle.deeds.specs.MemoryForms.{movOperandDeed}
-use Rattle.operands.specs.Operands.{onward, further, effective}
 use Rattle.deeds.proofs.stores.mov_operand.Statement.{statement}
 use Rattle.deeds.proofs.stores.mov_operand.Tie as tie
 

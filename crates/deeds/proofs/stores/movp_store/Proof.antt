@@ -1,8 +1,8 @@
 -- `deeds::stores::movp_store` meets its contract.
 -- Assumes nothing.
 use borrow.Author.Needs.{needs}
-use Rattle.deeds.specs.MemoryForms.{movpStoreDeed}
 use Rattle.operands.specs.Operands.{effective, grown}
+use Rattle.deeds.specs.MemoryForms.{movpStoreDeed}
 use Rattle.deeds.proofs.stores.movp_store.Statement.{statement}
 use Rattle.deeds.proofs.stores.movp_store.Tie as tie
 
