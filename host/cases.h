@@ -1,9 +1,8 @@
-/* Random cases for a run: both buffers and the arguments, each made from a seed and a case number alone. */
+/* Random cases for a run and images for the panel's program, each made from a seed and a number alone. */
 #ifndef CASES_H
 #define CASES_H
 
-#include <stddef.h>
-#include <stdint.h>
+#include "programs.h"
 
 /* Room that each buffer of a case needs: its limit and one byte over. */
 #define CASE_SYSTEM_ROOM 1048577u
@@ -18,5 +17,17 @@ struct run_case {
 
 /* Fills in the case of this seed and number. Of any 196,608 cases in a row a third hold each first pair once. */
 void make_case(struct run_case *c, uint64_t seed, uint64_t number);
+
+/* The most that the panel's program reads, room for longer images, and its I/O bytes. */
+enum { PANEL_LIMIT = 4096, PANEL_ROOM = 6000, PANEL_IO = 256 };
+
+/* Makes the image of this seed and number for the panel's program, and answers its length. */
+size_t make_panel_image(uint8_t sys[PANEL_ROOM], uint64_t seed, uint64_t number);
+
+/* Where a control block is: near 0, near the end of lent memory, near the top, anywhere, or no address. */
+uint32_t choose_cp(struct dice *d, size_t sys_len);
+
+/* Fills a buffer with zeros, one byte, random bytes, or mostly zeros. */
+void fill(struct dice *d, uint8_t *bytes, size_t length);
 
 #endif

@@ -2,6 +2,7 @@
 #include "cases.h"
 #include "emulator.h"
 #include "iop89.h"
+#include "met.h"
 
 #include <inttypes.h>
 #include <signal.h>
@@ -27,7 +28,7 @@ struct side {
 /* The case as it was made, and the emulator's and the library's copy of its buffers. */
 static struct side made, emulated, proved;
 static struct emu_coverage coverage;
-static unsigned long long numbers[EMU_NUMBERS];
+static unsigned long numbers[EMU_NUMBERS];
 static uint64_t seed = 1, current;
 
 /* ---- Running one case ---- */
@@ -231,71 +232,11 @@ static bool agree(uint64_t number)
 
 /* ---- What was met ---- */
 
-/* How many things that can be met were not. */
-static unsigned missing;
+/* The numbers that a run can answer: all but 8, since it starts with idle channels. */
+#define RUN_NUMBERS (ALL_NUMBERS & ~(1u << EMU_ALREADY_RUNNING))
 
-/* Prints a count, and notes it where nothing was met. */
-static void print_count(const char *name, unsigned long long count)
-{
-    printf("%12llu  %s%s\n", count, name, count == 0 ? " (NEVER MET)" : "");
-    missing += count == 0;
-}
-
-/* Prints how often each number was answered; 8 cannot be, since every run starts with idle channels. */
-static void print_numbers(void)
-{
-    char name[120];
-    puts("answers, by number:");
-    for (unsigned i = 0; i < EMU_NUMBERS; i++) {
-        snprintf(name, sizeof name, "%u %s", i, iop89_words(i));
-        if (i != EMU_ALREADY_RUNNING) print_count(name, numbers[i]);
-    }
-}
-
-/* Prints the accepted commands that a fresh channel takes. */
-static void print_commands(void)
-{
-    puts("accepted commands:");
-    print_count("000 nothing", coverage.attention[0]);
-    print_count("001 start in I/O space", coverage.attention[1]);
-    print_count("011 start in system space", coverage.attention[3]);
-    print_count("111 halt", coverage.attention[7]);
-}
-
-/* Prints how often each format was carried out. */
-static void print_formats(void)
-{
-    puts("instructions carried out, by format:");
-    for (unsigned i = 0; i < EMU_ROWS; i++) print_count(emu_row_name(i), coverage.row[i]);
-}
-
-/* Prints how the bytes of transfer steps moved. */
-static void print_shapes(void)
-{
-    puts("transfer steps, by shape:");
-    print_count("byte to byte", coverage.shape[EMU_SHAPE_B_B]);
-    print_count("two bytes to word", coverage.shape[EMU_SHAPE_BB_W]);
-    print_count("word to two bytes", coverage.shape[EMU_SHAPE_W_BB]);
-    print_count("word to word", coverage.shape[EMU_SHAPE_W_W]);
-    print_count("two bytes, the first matched", coverage.shape[EMU_SHAPE_W_B_CUT]);
-    print_count("translated", coverage.translated);
-}
-
-/* Prints how transfers ended. */
-static void print_ends(void)
-{
-    static const char *const sets[EMU_END_SETS] = {"goes on",       "match",          "count",
-                                                   "match and count", "single",       "match and single",
-                                                   "count and single", "match, count and single"};
-    puts("transfer steps, by their ends:");
-    for (unsigned i = 0; i < EMU_END_SETS; i++) print_count(sets[i], coverage.end[i]);
-    print_count("ended at offset 0", coverage.end_offset[0]);
-    print_count("ended at offset 4", coverage.end_offset[1]);
-    print_count("ended at offset 8", coverage.end_offset[2]);
-    print_count("external end at offset 0", coverage.external[0]);
-    print_count("external end at offset 4", coverage.external[1]);
-    print_count("external end at offset 8", coverage.external[2]);
-}
+/* The commands that a fresh channel takes. */
+#define FRESH_COMMANDS (1u << 0 | 1u << 1 | 1u << 3 | 1u << 7)
 
 /* ---- The command line ---- */
 
@@ -331,12 +272,9 @@ int main(int count, char **words)
     }
     printf("seed %" PRIu64 ", %" PRIu64 " cases from %" PRIu64 ", %.1f seconds of processor time\n", seed, cases, first,
            (double)clock() / CLOCKS_PER_SEC);
-    print_numbers();
-    print_commands();
-    print_formats();
-    print_shapes();
-    print_ends();
-    printf("never met: %u%s\n", missing, cases < CASES_TO_MEET_ALL ? " (too few cases to ask for all)" : "");
+    print_numbers("answers", numbers, RUN_NUMBERS);
+    print_coverage(&coverage, FRESH_COMMANDS);
+    bool met = all_met(cases, CASES_TO_MEET_ALL, "cases");
     printf("differences: %llu\n", differences);
-    return differences > 0 || (missing > 0 && cases >= CASES_TO_MEET_ALL) ? 1 : 0;
+    return differences > 0 || !met ? 1 : 0;
 }

@@ -1,0 +1,192 @@
+/* One run of a known program by the proved library or by the plain emulator, for tools/bench to count instructions. */
+#include "emulator.h"
+#include "iop89.h"
+
+#include <stdlib.h>
+#include <string.h>
+
+/* Bytes of each buffer in a small run. */
+#define SMALL 4096u
+
+/* Where an image has its control block, parameter block and program. */
+enum { CONTROL_BLOCK = 0, PARAMETER_BLOCK = 0x10, PROGRAM = 0x40 };
+
+/* Where the mix has the data that GA points at, and the byte there that its masked compare looks for. */
+enum { MIX_DATA = 0x400, MIX_MATCH_AT = MIX_DATA + 3, MIX_MATCH = 0x2E };
+
+/* Command start in system space; PB at 10h. */
+static const uint8_t control_block[] = {0x03, 0x00, PARAMETER_BLOCK, 0x00, 0x00, 0x00};
+
+/* The program's address, then what the mix reads as [PP].4 and up: 1234h, room for a word, GA again, and a byte. */
+static const uint8_t parameter_block[] = {PROGRAM, 0x00, 0x00, 0x00, 0x34, 0x12, 0x00,
+                                          0x00,    0x00, 0x00, 0x40, 0x00, 0x5A};
+
+/*
+ * The mix: four steps that set it up, then a loop of 50 steps that meets every shape of the decoder but NOP, XFER and
+ * HLT. GA and GC are in system space, GB in I/O space. A line jumped over is no step.
+ */
+static const uint8_t mix[] = {
+    0x11, 0x08, 0x00, 0x00, 0x40, 0x00, /*       LPDI  GA,0,40H: 400h, system           */
+    0x31, 0x30, 0x00, 0x01,             /*       MOVI  GB,100H: I/O                     */
+    0x51, 0x08, 0x00, 0x00, 0x60, 0x00, /*       LPDI  GC,0,60H: 600h, system           */
+    0xF1, 0x30, 0x2E, 0xFF,             /*       MOVI  MC,0FF2EH                        */
+    0xB1, 0x30, 0x04, 0x00,             /* LOOP: MOVI  IX,4                             */
+    0x63, 0x83, 0x04,                   /*       MOV   BC,[PP].4                        */
+    0x68, 0x20, 0x10,                   /*       ADDBI BC,10H                           */
+    0x71, 0x28, 0xFF, 0x7F,             /*       ANDI  BC,7FFFH                         */
+    0x63, 0x87, 0x06,                   /*       MOV   [PP].6,BC                        */
+    0x66, 0x80,                         /*       MOVB  BC,[GA+IX+]                      */
+    0x66, 0x85,                         /*       MOVB  [GB+IX+],BC                      */
+    0x67, 0x80,                         /*       MOV   BC,[GA+IX+]                      */
+    0x67, 0x85,                         /*       MOV   [GB+IX+],BC                      */
+    0x63, 0xA0, 0x08,                   /*       ADD   BC,[GA].8                        */
+    0x62, 0xA4, 0x09,                   /*       ORB   BC,[GA].9                        */
+    0x65, 0xA8,                         /*       AND   BC,[GA+IX]                       */
+    0x63, 0xD0, 0x10,                   /*       ADD   [GA].16,BC                       */
+    0x62, 0xD4, 0x12,                   /*       ORB   [GA].18,BC                       */
+    0xA0, 0x00,                         /*       WID   8,16                             */
+    0x0A, 0x4D, 0x00, 0x12,             /*       MOVBI [GB].0,12H                       */
+    0x8A, 0xB9, 0x00, 0xFC,             /* WAIT: JNBT  [GB].0,4,WAIT: not taken         */
+    0x13, 0x4E, 0x04, 0x34, 0x12,       /*       MOVI  [GC].4,1234H                     */
+    0x13, 0xC2, 0x04, 0x10, 0x00,       /*       ADDI  [GC].4,10H                       */
+    0x0A, 0xCA, 0x04, 0x7F,             /*       ANDBI [GC].4,7FH                       */
+    0x0B, 0xE6, 0x04, 0x04,             /*       JZ    [GC].4,+4: not taken             */
+    0x02, 0x93, 0x0C, 0x02, 0xCD, 0x01, /*       MOVB  [GB].1,[PP].12                   */
+    0x05, 0x90, 0x01, 0xCE,             /*       MOV   [GC],[GA+IX]                     */
+    0x62, 0xF6, 0x02,                   /*       SETB  [GC].2,3                         */
+    0x6A, 0xBE, 0x02, 0x02,             /*       JBT   [GC].2,3,+2                      */
+    0x00, 0x00,                         /*       NOP: jumped over                       */
+    0x62, 0xFA, 0x02,                   /*       CLR   [GC].2,3                         */
+    0x0A, 0x4E, 0x06, 0x00,             /*       MOVBI [GC].6,0                         */
+    0x1A, 0x96, 0x06, 0x55, 0x02,       /*       TSL   [GC].6,55H,+2: not taken         */
+    0x03, 0x9A, 0x08,                   /*       MOVP  [GC].8,GA                        */
+    0x03, 0x8B, 0x08,                   /*       LPD   GA,[PP].8                        */
+    0x8A, 0x9E, 0x0C, 0x37,             /*       CALL  [GC].12,SUB                      */
+    0xA0, 0x3C,                         /*       DEC   IX                               */
+    0x60, 0x38,                         /*       INC   BC                               */
+    0x60, 0x2C,                         /*       NOT   BC                               */
+    0xA8, 0x44, 0x04,                   /*       JZ    IX,+4: not taken                 */
+    0xA8, 0x40, 0x02,                   /*       JNZ   IX,+2                            */
+    0x00, 0x00,                         /*       NOP: jumped over                       */
+    0x0A, 0xB0, 0x03, 0x02,             /*       JMCE  [GA].3,+2                        */
+    0x00, 0x00,                         /*       NOP: jumped over                       */
+    0x0A, 0xB4, 0x03, 0x02,             /*       JMCNE [GA].3,+2: not taken             */
+    0x03, 0xEB, 0x0E,                   /*       INC   [PP].14                          */
+    0x02, 0xEF, 0x10,                   /*       DECB  [PP].16                          */
+    0x0A, 0xE0, 0x03, 0x02,             /*       JNZB  [GA].3,+2                        */
+    0x00, 0x00,                         /*       NOP: jumped over                       */
+    0x51, 0x08, 0x00, 0x00, 0x60, 0x00, /*       LPDI  GC,0,60H: 600h again             */
+    0x68, 0x30, 0x80,                   /*       MOVBI BC,80H                           */
+    0x71, 0x24, 0x01, 0x01,             /*       ORI   BC,101H                          */
+    0x40, 0x00,                         /*       SINTR                                  */
+    0x91, 0x20, 0x5D, 0xFF,             /*       JMP   LOOP                             */
+    0xA3, 0x87, 0x12,                   /* SUB:  MOV   [PP].18,IX                       */
+    0xA3, 0x83, 0x12,                   /*       MOV   IX,[PP].18                       */
+    0x63, 0xAF, 0x04,                   /*       NOT   BC,[PP].4                        */
+    0x83, 0x8E, 0x0C,                   /*       MOVP  TP,[GC].12: back to after CALL   */
+};
+
+/* A block transfer from 400h to 800h of system space, seven steps before it starts; WID is put in. */
+static const uint8_t transfer[] = {
+    0x11, 0x08, 0x00, 0x00, 0x40, 0x00, /* LPDI GA,0,40H: 400h                       */
+    0x31, 0x08, 0x00, 0x00, 0x80, 0x00, /* LPDI GB,0,80H: 800h                       */
+    0x71, 0x30, 0x00, 0x80,             /* MOVI BC,8000H: more than any run moves    */
+    0xD1, 0x30, 0x08, 0xC0,             /* MOVI CC,0C008H: both move on, count ends  */
+    0x80, 0x00,                         /* WID  8,8: another is put in               */
+    0x60, 0x00,                         /* XFER                                      */
+    0x00, 0x00,                         /* NOP                                       */
+};
+
+/* Where WID stands in the transfer's program. */
+enum { TRANSFER_WID = 20 };
+
+/* The two lent buffers. */
+static uint8_t sys[IOP89_SYSTEM_LIMIT], io[IOP89_IO_LIMIT];
+
+/* A workload by its name: its program, and the first byte of its WID, or 0 where it is the mix. */
+struct workload {
+    const char *name;
+    const uint8_t *program;
+    size_t length;
+    uint8_t wid;
+};
+
+static const struct workload workloads[] = {
+    {"mix", mix, sizeof mix, 0},
+    {"8/8", transfer, sizeof transfer, 0x80},
+    {"16/16", transfer, sizeof transfer, 0xE0},
+    {"8/16", transfer, sizeof transfer, 0xA0},
+    {"16/8", transfer, sizeof transfer, 0xC0},
+};
+
+/* Says how the program is called, and ends it. */
+static _Noreturn void usage(void)
+{
+    fputs("usage: bench proved|plain mix|8/8|16/16|8/16|16/8 small|full STEPS\n"
+          "       bench loop TURNS\n",
+          stderr);
+    exit(2);
+}
+
+/* The workload of a name. */
+static const struct workload *workload_of(const char *name)
+{
+    for (size_t i = 0; i < sizeof workloads / sizeof workloads[0]; i++)
+        if (strcmp(workloads[i].name, name) == 0) return &workloads[i];
+    usage();
+}
+
+/* The number that a word of the command line writes. */
+static uint32_t number_of(const char *word)
+{
+    char *end = NULL;
+    unsigned long value = strtoul(word, &end, 10);
+    if (end == word || *end != '\0' || value > IOP89_STEPS_LIMIT) usage();
+    return (uint32_t)value;
+}
+
+/* Puts a workload's image into system memory. */
+static void make_image(const struct workload *w)
+{
+    memcpy(sys + CONTROL_BLOCK, control_block, sizeof control_block);
+    memcpy(sys + PARAMETER_BLOCK, parameter_block, sizeof parameter_block);
+    memcpy(sys + PROGRAM, w->program, w->length);
+    if (w->wid != 0) sys[PROGRAM + TRANSFER_WID] = w->wid;
+    sys[MIX_MATCH_AT] = MIX_MATCH;
+}
+
+/* The answer of the library or of the emulator. */
+static uint32_t run(const char *side, size_t sys_len, size_t io_len, uint32_t limit)
+{
+    struct emu_memory memory = {sys, sys_len, io, io_len};
+    if (strcmp(side, "proved") == 0) return iop89_run(sys, sys_len, io, io_len, CONTROL_BLOCK, 1, 0, limit);
+    if (strcmp(side, "plain") == 0) return emu_run(&memory, CONTROL_BLOCK, 1, 0, limit);
+    usage();
+}
+
+/* So many turns of two instructions each, by which a way of counting is checked. */
+static void turn(unsigned long turns)
+{
+#if !defined __x86_64__
+#error "the instructions of x86-64 are counted"
+#endif
+    if (turns == 0) usage();
+    __asm__ volatile("1: dec %0\n\tjnz 1b" : "+r"(turns) : : "cc");
+}
+
+/* A run must do all its steps, or its count means nothing. */
+int main(int count, char **words)
+{
+    if (count == 3 && strcmp(words[1], "loop") == 0) {
+        turn(number_of(words[2]));
+        return 0;
+    }
+    if (count != 5 || (strcmp(words[3], "small") != 0 && strcmp(words[3], "full") != 0)) usage();
+    bool small = strcmp(words[3], "small") == 0;
+    uint32_t limit = number_of(words[4]);
+    make_image(workload_of(words[2]));
+    uint32_t answer = run(words[1], small ? SMALL : sizeof sys, small ? SMALL : sizeof io, limit);
+    if (answer == limit) return 0;
+    fprintf(stderr, "bench: number %u after %u steps\n", IOP89_NUMBER(answer), IOP89_STEPS(answer));
+    return 1;
+}

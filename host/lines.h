@@ -1,0 +1,56 @@
+/* A random script in the making: its lines are written and performed, so that the machine is known where it stands. */
+#ifndef LINES_H
+#define LINES_H
+
+#include "programs.h"
+#include "session.h"
+
+/* Buffers of more bytes than this, in both spaces together, are dumped seldom: their digests take long. */
+#define SMALL_BUFFERS 4096u
+
+/* A script in the making: the machine, the calls left to write, and where each channel's last program was put. */
+struct writer {
+    struct dice d;
+    struct session s;
+    FILE *out, *nowhere;
+    size_t written;
+    unsigned long left;
+    unsigned since_dump;
+    uint32_t program[2];
+    bool program_in_io[2];
+    struct program p;
+};
+
+/* Room for one number as text. */
+struct digits {
+    char text[16];
+};
+
+/* Writes a line behind the one before it; whether a line feed ends the last is decided at the end. */
+void write_line(struct writer *w, const char *line);
+
+/* Performs a line and writes it. */
+void perform(struct writer *w, const char *line);
+
+/* How many bytes are lent. */
+size_t lent(const struct writer *w);
+
+/* Writes a call; at times with more spaces than it needs, or with something before it that is passed over. */
+void say(struct writer *w, const char *form, ...);
+
+/* A number as text: mostly bare, at times with zeros before it or in capitals. */
+struct digits number(struct writer *w, uint32_t value);
+
+/* Writes bytes of one space from an index. */
+void put(struct writer *w, bool in_io, uint32_t at, const uint8_t *bytes, size_t count);
+
+/* Writes bytes where a processor would find them: each at its reduced address, and only if it is lent. */
+void place(struct writer *w, bool in_io, uint32_t address, const uint8_t *bytes, size_t count);
+
+/* Writes a set of a channel's register, or of a shared one. */
+void set(struct writer *w, uint32_t channel, unsigned which, uint32_t value);
+
+/* Writes a step with these lines. */
+void step(struct writer *w, uint32_t lines);
+
+#endif

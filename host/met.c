@@ -1,0 +1,85 @@
+/* Prints counters of a comparison, each in a line, and keeps count of those that stayed 0. */
+#include "met.h"
+
+#include "iop89.h"
+
+/* How many things that can be met were not. */
+static unsigned missing;
+
+void print_count(const char *name, unsigned long count)
+{
+    printf("%12lu  %s%s\n", count, name, count == 0 ? " (NEVER MET)" : "");
+    missing += count == 0;
+}
+
+void print_numbers(const char *what, const unsigned long counts[EMU_NUMBERS], unsigned set)
+{
+    char name[120];
+    printf("%s, by number:\n", what);
+    for (unsigned i = 0; i < EMU_NUMBERS; i++) {
+        snprintf(name, sizeof name, "%u %s", i, iop89_words(i));
+        if ((set >> i & 1u) != 0) print_count(name, counts[i]);
+    }
+}
+
+/* Prints the accepted commands of the set. */
+static void print_commands(const struct emu_coverage *coverage, unsigned set)
+{
+    static const char *const names[8] = {"000 nothing", "001 start in I/O space", "010", "011 start in system space",
+                                         "100",         "101 resume",             "110 suspend", "111 halt"};
+    puts("accepted commands:");
+    for (unsigned i = 0; i < 8; i++)
+        if ((set >> i & 1u) != 0) print_count(names[i], coverage->attention[i]);
+}
+
+/* Prints how often each format was carried out. */
+static void print_formats(const struct emu_coverage *coverage)
+{
+    puts("instructions carried out, by format:");
+    for (unsigned i = 0; i < EMU_ROWS; i++) print_count(emu_row_name(i), coverage->row[i]);
+}
+
+/* Prints how the bytes of transfer steps moved. */
+static void print_shapes(const struct emu_coverage *coverage)
+{
+    puts("transfer steps, by shape:");
+    print_count("byte to byte", coverage->shape[EMU_SHAPE_B_B]);
+    print_count("two bytes to word", coverage->shape[EMU_SHAPE_BB_W]);
+    print_count("word to two bytes", coverage->shape[EMU_SHAPE_W_BB]);
+    print_count("word to word", coverage->shape[EMU_SHAPE_W_W]);
+    print_count("two bytes, the first matched", coverage->shape[EMU_SHAPE_W_B_CUT]);
+    print_count("translated", coverage->translated);
+}
+
+/* Prints how transfers ended. */
+static void print_ends(const struct emu_coverage *coverage)
+{
+    static const char *const sets[EMU_END_SETS] = {"goes on",          "match",
+                                                   "count",            "match and count",
+                                                   "single",           "match and single",
+                                                   "count and single", "match, count and single"};
+    puts("transfer steps, by their ends:");
+    for (unsigned i = 0; i < EMU_END_SETS; i++) print_count(sets[i], coverage->end[i]);
+    print_count("ended at offset 0", coverage->end_offset[0]);
+    print_count("ended at offset 4", coverage->end_offset[1]);
+    print_count("ended at offset 8", coverage->end_offset[2]);
+    print_count("external end at offset 0", coverage->external[0]);
+    print_count("external end at offset 4", coverage->external[1]);
+    print_count("external end at offset 8", coverage->external[2]);
+}
+
+void print_coverage(const struct emu_coverage *coverage, unsigned commands)
+{
+    print_commands(coverage, commands);
+    print_formats(coverage);
+    print_shapes(coverage);
+    print_ends(coverage);
+}
+
+bool all_met(unsigned long long made, unsigned long long enough, const char *unit)
+{
+    printf("never met: %u", missing);
+    if (made < enough) printf(" (too few %s to ask for all)", unit);
+    putchar('\n');
+    return missing == 0 || made < enough;
+}

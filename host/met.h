@@ -1,0 +1,22 @@
+/* Prints what calls met, and notes what they never met. */
+#ifndef MET_H
+#define MET_H
+
+#include "emulator.h"
+
+/* Every number, as a set of bits. */
+#define ALL_NUMBERS ((1u << EMU_NUMBERS) - 1)
+
+/* Prints a count, and notes it where nothing was met. */
+void print_count(const char *name, unsigned long count);
+
+/* Prints how often each number was answered of those in the set. */
+void print_numbers(const char *what, const unsigned long counts[EMU_NUMBERS], unsigned set);
+
+/* Prints the accepted commands of the set, the rows carried out, and the shapes and ends of transfer steps. */
+void print_coverage(const struct emu_coverage *coverage, unsigned commands);
+
+/* Prints how much was never met; answers true also where there were too few calls to ask for all. */
+bool all_met(unsigned long long made, unsigned long long enough, const char *unit);
+
+#endif

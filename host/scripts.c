@@ -1,0 +1,220 @@
+/* The independent side of two comparisons: random scripts and images, and what the two programs must print for them. */
+#include "cases.h"
+#include "met.h"
+#include "session.h"
+#include "writer.h"
+
+#include <inttypes.h>
+#include <stdlib.h>
+#include <string.h>
+
+/* Calls after which everything that scripts can meet must have been met. */
+#define CALLS_TO_MEET_ALL 20000u
+
+/* The numbers that a fresh state, an attention and a step can answer. */
+#define MAKE_NUMBERS (1u << EMU_DONE | 1u << EMU_BAD_POINTER)
+#define EARLY_NUMBERS (1u << EMU_BAD_POINTER | 1u << EMU_BAD_BUFFER | 1u << EMU_BAD_ARGUMENT)
+#define CA_NUMBERS                                                                                                    \
+    (EARLY_NUMBERS | 1u << EMU_DONE | 1u << EMU_BEYOND_LENT_MEMORY | 1u << EMU_BAD_COMMAND | 1u << EMU_NOT_SUSPENDED | \
+     1u << EMU_ALREADY_RUNNING | 1u << EMU_NOT_RUNNING)
+#define STEP_NUMBERS                                                                                                 \
+    (EARLY_NUMBERS | 1u << EMU_DONE | 1u << EMU_NO_CHANNEL_CAN_RUN | 1u << EMU_BEYOND_LENT_MEMORY |                  \
+     1u << EMU_NO_INSTRUCTION | 1u << EMU_CC_USED | 1u << EMU_BAD_TRANSFER)
+
+/* The commands that are in use. */
+#define COMMANDS (0xFFu & ~(1u << 2 | 1u << 4))
+
+/* Standard input, of which one byte more is kept than either program reads. */
+static char text[SCRIPT_LIMIT + 1];
+
+/* Says why nothing was done, and ends the program. */
+static _Noreturn void fail(const char *why)
+{
+    fprintf(stderr, "scripts: %s\n", why);
+    exit(2);
+}
+
+/* Reads standard input, and answers how much of it is kept. */
+static size_t read_text(void)
+{
+    return fread(text, 1, sizeof text, stdin);
+}
+
+/* ---- Scripts ---- */
+
+/* The length of the line at an index, without its line feed. */
+static size_t line_length(size_t at, size_t length)
+{
+    const char *end = memchr(text + at, '\n', length - at);
+    return end != NULL ? (size_t)(end - (text + at)) : length - at;
+}
+
+/* Performs the script on standard input. With a line of the output asked for, stops and answers the call's own line. */
+static unsigned long perform_script(struct session *s, unsigned long asked, FILE *out)
+{
+    size_t length = read_text();
+    unsigned long line = 0, printed = 0;
+    if (length > SCRIPT_LIMIT) {
+        fputs("?\n", out);
+        return 0;
+    }
+    for (size_t at = 0, size; at < length; at += size + 1) {
+        size = line_length(at, length);
+        line++;
+        printed += session_perform(s, text + at, size, out);
+        if (asked > 0 && printed >= asked) return line;
+    }
+    return 0;
+}
+
+/* Takes a tally up again where a file of that name exists. */
+static void load_tally(struct tally *tally, const char *name)
+{
+    FILE *file = fopen(name, "rb");
+    if (file == NULL) return;
+    if (fread(tally, sizeof *tally, 1, file) != 1) fail("the file is no tally");
+    fclose(file);
+}
+
+/* Leaves a tally in a file. */
+static void save_tally(const struct tally *tally, const char *name)
+{
+    FILE *file = fopen(name, "wb");
+    if (file == NULL || fwrite(tally, sizeof *tally, 1, file) != 1 || fclose(file) != 0) fail("cannot write the tally");
+}
+
+/* Prints what the script program must print, and adds to the tally of that name. */
+static int expect(const char *tally_name)
+{
+    static struct session s;
+    session_begin(&s);
+    if (tally_name != NULL) load_tally(&s.tally, tally_name);
+    perform_script(&s, 0, stdout);
+    s.tally.scripts++;
+    if (tally_name != NULL) save_tally(&s.tally, tally_name);
+    return 0;
+}
+
+/* Prints the number of the script's line whose call prints this line of the output, or 0. */
+static int where(unsigned long asked)
+{
+    static struct session s;
+    FILE *nowhere = fopen("/dev/null", "w");
+    if (nowhere == NULL) fail("cannot open /dev/null");
+    session_begin(&s);
+    printf("%lu\n", perform_script(&s, asked, nowhere));
+    return 0;
+}
+
+/* Prints how often each call was made. */
+static void print_calls(const struct tally *t)
+{
+    static const char *const names[SCRIPT_CALLS] = {"make", "put", "set", "ca", "step", "dump", "show"};
+    puts("lines of the scripts:");
+    for (unsigned i = 0; i < SCRIPT_CALLS; i++) print_count(names[i], t->call[i]);
+    print_count("? (no call, or one that is shut out)", t->no_call);
+}
+
+/* Prints the done steps by channel and kind, and by lines. */
+static void print_steps(const struct tally *t)
+{
+    static const char *const kinds[3] = {"I instruction", "T transfer", "X external end"};
+    char name[40];
+    puts("done steps:");
+    for (unsigned i = 0; i < 6; i++) {
+        snprintf(name, sizeof name, "channel %u, %s", i / 3 + 1, kinds[i % 3]);
+        print_count(name, t->kind[i / 3][i % 3]);
+    }
+    for (unsigned i = 0; i < 16; i++) {
+        snprintf(name, sizeof name, "under line number %u", i);
+        print_count(name, t->stepped_under[i]);
+    }
+}
+
+/* Prints how often each register was set. */
+static void print_registers(const struct tally *t)
+{
+    char name[40];
+    puts("registers set:");
+    for (unsigned i = 0; i < 2 * SCRIPT_REGISTERS; i++) {
+        const struct script_register *r = &script_registers[i / 2];
+        snprintf(name, sizeof name, "%s of channel %u", r->name, i % 2 + 1);
+        if (!r->shared) print_count(name, t->set[i % 2][i / 2]);
+        else if (i % 2 == 0) print_count(r->name, t->set[0][i / 2]);
+    }
+}
+
+/* Prints what the tally of that name met; fails where that should have been all and was not. */
+static int met(const char *tally_name)
+{
+    static struct tally t;
+    load_tally(&t, tally_name);
+    print_calls(&t);
+    print_numbers("fresh states", t.make, MAKE_NUMBERS);
+    print_numbers("attentions", t.ca, CA_NUMBERS);
+    print_numbers("steps", t.step, STEP_NUMBERS);
+    print_steps(&t);
+    print_registers(&t);
+    print_coverage(&t.coverage, COMMANDS);
+    bool all = all_met(t.calls, CALLS_TO_MEET_ALL, "calls");
+    printf("%lu scripts, %lu calls\n", t.scripts, t.calls);
+    return all ? 0 : 1;
+}
+
+/* ---- Images ---- */
+
+/* Writes the image of this seed and number. */
+static int image(uint64_t seed, uint64_t number)
+{
+    static uint8_t sys[PANEL_ROOM];
+    fwrite(sys, 1, make_panel_image(sys, seed, number), stdout);
+    return 0;
+}
+
+/* Prints what the trace program must print for the image on standard input. */
+static int trace(void)
+{
+    size_t length = read_text();
+    emu_panel((const uint8_t *)text, length, stdout);
+    return 0;
+}
+
+/* ---- The command line ---- */
+
+/* Says how the program is called, and ends it. */
+static _Noreturn void usage(void)
+{
+    fputs("usage: scripts write SEED CALLS [LENGTH]  a random script, with a comment up to LENGTH bytes\n"
+          "       scripts expect [TALLY] < SCRIPT    what the script program must print; adds to a tally\n"
+          "       scripts where LINE < SCRIPT        the script's line whose call prints that line\n"
+          "       scripts met TALLY                  what all scripts of a tally met\n"
+          "       scripts image SEED NUMBER          a random image for the trace program\n"
+          "       scripts trace < IMAGE              what the trace program must print\n",
+          stderr);
+    exit(2);
+}
+
+/* The number that a word of the command line writes; 0 for a word that is left out. */
+static uint64_t value_of(const char *word)
+{
+    char *end = NULL;
+    if (word == NULL) return 0;
+    uint64_t value = strtoull(word, &end, 10);
+    if (*word < '0' || *word > '9' || *end != '\0') usage();
+    return value;
+}
+
+int main(int count, char **words)
+{
+    const char *word = count > 1 ? words[1] : "", *first = count > 2 ? words[2] : NULL;
+    const char *second = count > 3 ? words[3] : NULL, *third = count > 4 ? words[4] : NULL;
+    if (strcmp(word, "expect") == 0 && count <= 3) return expect(first);
+    if (strcmp(word, "trace") == 0 && count == 2) return trace();
+    if (strcmp(word, "met") == 0 && count == 3) return met(first);
+    if (strcmp(word, "where") == 0 && count == 3) return where((unsigned long)value_of(first));
+    if (strcmp(word, "image") == 0 && count == 4) return image(value_of(first), value_of(second));
+    if (strcmp(word, "write") != 0 || count < 4 || count > 5) usage();
+    if (!write_script(value_of(first), (unsigned long)value_of(second), (size_t)value_of(third), stdout))
+        fail("cannot open /dev/null");
+    return 0;
+}

@@ -1,0 +1,436 @@
+/* Writes random scripts, in which what comes next depends on where the machine stands. */
+#include "writer.h"
+
+#include "cases.h"
+#include "lines.h"
+
+/* ---- Programs and attentions ---- */
+
+/* One of the channels' numbers. */
+static uint32_t some_channel(struct writer *w)
+{
+    return 1 + below(&w->d, 2);
+}
+
+/* A channel as it stands. */
+static const struct emu_channel *channel_of(const struct writer *w, uint32_t channel)
+{
+    return &w->s.state.channel[channel == 2];
+}
+
+/* Begins a program for the memory that is lent. */
+static struct program *fresh_program(struct writer *w)
+{
+    new_program(&w->p, &w->d, w->s.memory.sys_len, w->s.memory.io_len);
+    return &w->p;
+}
+
+/* A place for data. */
+static uint32_t data_place(struct writer *w, bool in_io)
+{
+    return some_place(fresh_program(w), in_io);
+}
+
+/* Where a program of a channel goes: its own half of the space, or the space's end for one that is cut off. */
+static uint32_t program_place(struct writer *w, uint32_t channel, bool in_io, unsigned cut)
+{
+    size_t length = in_io ? w->s.memory.io_len : w->s.memory.sys_len;
+    uint32_t mask = in_io ? 0xFFFFu : MASK20;
+    if (cut > 0) return (uint32_t)(length + cut - w->p.length) & mask;
+    if (length > 65536) length = 65536;
+    size_t first = channel == 2 ? length / 2 : in_io || length < 256 ? 0 : 64, last = first + length / 2;
+    return (uint32_t)first + below(&w->d, last > first + w->p.length ? last - first - w->p.length : 16);
+}
+
+/* Writes a new program for a channel and remembers where it starts. */
+static void give_program(struct writer *w, uint32_t channel)
+{
+    bool in_io = w->s.memory.io_len > 64 && chance(&w->d, 300);
+    struct program *p = fresh_program(w);
+    unsigned cut = 0;
+    if (chance(&w->d, 40)) write_noise(p);
+    else if (chance(&w->d, 60)) cut = write_cut(p);
+    else if (chance(&w->d, 600)) write_rich(p);
+    else write_round(p);
+    w->program[channel - 1] = program_place(w, channel, in_io, cut);
+    w->program_in_io[channel - 1] = in_io;
+    place(w, in_io, w->program[channel - 1], p->byte, p->length);
+}
+
+/* Where a channel's control block is. */
+static uint32_t block_of(const struct writer *w, uint32_t channel)
+{
+    return w->s.state.cp + (channel == 2 ? 8 : 0);
+}
+
+/* A CCW with this command and any upper bits. */
+static uint8_t ccw(struct writer *w, unsigned command)
+{
+    return (uint8_t)(command | below(&w->d, 32) << 3);
+}
+
+/* Writes control and parameter block for a channel's program, and starts it. */
+static void start(struct writer *w, uint32_t channel)
+{
+    bool in_io = w->program_in_io[channel - 1];
+    uint32_t at = w->program[channel - 1], near = 16 + 8 * channel + below(&w->d, 4);
+    uint32_t pb = chance(&w->d, 800) && near + 4 < w->s.memory.sys_len ? near : data_place(w, false);
+    uint8_t block[6] = {ccw(w, in_io ? 1 : 3)};
+    uint8_t words[4] = {(uint8_t)at, (uint8_t)(at >> 8)};
+    block[1] = (uint8_t)below(&w->d, 256);
+    as_doubleword(&w->d, pb, block + 2);
+    if (!in_io) as_doubleword(&w->d, at, words);
+    place(w, false, pb, words, in_io ? 2 : 4);
+    place(w, false, block_of(w, channel), block, sizeof block);
+    say(w, "ca %u", (unsigned)channel);
+}
+
+/* A command for a channel in this mode: mostly one that it takes. */
+static unsigned likely_command(struct writer *w, enum emu_mode mode)
+{
+    static const uint8_t idle[] = {0, 1, 3, 6, 7}, running[] = {0, 6, 6, 6, 7}, suspended[] = {0, 1, 3, 5, 5, 5, 5, 7};
+    if (mode == EMU_IDLE) return ONE_OF(&w->d, idle);
+    return mode == EMU_RUNNING ? ONE_OF(&w->d, running) : ONE_OF(&w->d, suspended);
+}
+
+/* Writes a CCW with this command and gives the attention. */
+static void command(struct writer *w, uint32_t channel, unsigned bits)
+{
+    uint8_t byte = ccw(w, bits);
+    place(w, false, block_of(w, channel), &byte, 1);
+    say(w, "ca %s", number(w, channel).text);
+}
+
+/* Gives an attention with a new command, mostly one that is taken. */
+static void give_command(struct writer *w)
+{
+    uint32_t channel = some_channel(w);
+    enum emu_mode mode = channel_of(w, channel)->mode;
+    command(w, channel, chance(&w->d, 500) ? likely_command(w, mode) : below(&w->d, 8));
+}
+
+/* Gives an attention to what is no channel, or with whatever the block holds. */
+static void give_odd_attention(struct writer *w)
+{
+    static const uint32_t channels[] = {0, 1, 2, 3, 4, 0x101, 0x10001, 0x10002, 0x80000001, 0xFFFFFFFF};
+    say(w, "ca %s", number(w, ONE_OF(&w->d, channels)).text);
+}
+
+/* ---- Registers ---- */
+
+/* Sets GA, GB or GC and its tag to a place for data. */
+static void point(struct writer *w, uint32_t channel, unsigned which)
+{
+    bool in_io = w->s.memory.io_len > 0 && chance(&w->d, 400);
+    set(w, channel, which, data_place(w, in_io));
+    set(w, channel, which - SET_GA + SET_GA_TAG, in_io);
+}
+
+/* One of GA, GB and GC. */
+static unsigned some_pointer(struct writer *w)
+{
+    return SET_GA + below(&w->d, 3);
+}
+
+/* An address that a sound state never has. */
+static uint32_t unsound_address(struct writer *w)
+{
+    static const uint32_t odd[] = {0x100000, 0x100001, 0x1FFFFF, 0x80000000, 0xFFFFFFFF};
+    return chance(&w->d, 800) ? ONE_OF(&w->d, odd) : (uint32_t)roll(&w->d) | 0x100000u;
+}
+
+/* Any value that a register takes, an address mostly one of lent memory. */
+static uint32_t some_value(struct writer *w, unsigned which)
+{
+    const struct script_register *r = &script_registers[which];
+    if (which == SET_CP) return choose_cp(&w->d, w->s.memory.sys_len) & MASK20;
+    if (which < SCRIPT_ADDRESSES) return chance(&w->d, 700) ? data_place(w, false) : below(&w->d, EMU_SYSTEM_LIMIT);
+    if (which == SET_CC) return transfer_cc(&w->d);
+    return r->least + below(&w->d, r->most - r->least + 1);
+}
+
+/* Sets any register. */
+static void set_any(struct writer *w)
+{
+    uint32_t channel = some_channel(w);
+    unsigned which = below(&w->d, SCRIPT_REGISTERS);
+    set(w, channel, which, some_value(w, which));
+}
+
+/* Calls under a state that is not sound, or under one of the bad arguments that are refused before it; then mends it. */
+static void go_unsound(struct writer *w)
+{
+    uint32_t channel = some_channel(w);
+    unsigned which = below(&w->d, SCRIPT_ADDRESSES);
+    uint32_t sound = *session_address(&w->s, channel, which);
+    set(w, channel, which, unsound_address(w));
+    for (unsigned i = 1 + below(&w->d, 3); i > 0; i--) {
+        if (chance(&w->d, 500)) give_odd_attention(w);
+        else step(w, below(&w->d, 18));
+    }
+    set(w, channel, which, sound);
+}
+
+/* A CC for a transfer of its own: any bits, but seldom SYN 11, which is refused, and often all ends. */
+static uint32_t any_cc(struct writer *w)
+{
+    uint32_t cc = below(&w->d, 65536);
+    if (chance(&w->d, 900) && (cc >> 11 & 3u) == 3) cc &= ~(1u << (11 + below(&w->d, 2)));
+    if (chance(&w->d, 700)) cc &= ~(1u << 13);
+    if (chance(&w->d, 200)) cc |= 1u << 7 | 1u << 3 | 1u;
+    return chance(&w->d, 400) ? transfer_cc(&w->d) : cc;
+}
+
+/* A PSW in a transfer; translation goes mostly with 8 bits on both sides. */
+static uint32_t transfer_psw(struct writer *w, uint32_t cc)
+{
+    uint32_t psw = EMU_PSW_XF | EMU_PSW_TB | below(&w->d, 256);
+    bool bytes = (cc >> 13 & 1u) != 0 && chance(&w->d, 850);
+    return bytes ? psw & ~(uint32_t)(EMU_PSW_S | EMU_PSW_D) : psw;
+}
+
+/* Whether a channel is in a transfer. */
+static bool transfers(const struct writer *w, uint32_t channel)
+{
+    return channel_of(w, channel)->mode == EMU_RUNNING && (channel_of(w, channel)->psw & EMU_PSW_XF) != 0;
+}
+
+/* Lines for a step, EXT in so many of 1,000. */
+static uint32_t good_lines(struct writer *w, unsigned ext_in_1000)
+{
+    uint32_t lines = below(&w->d, 16);
+    return chance(&w->d, ext_in_1000) ? lines : lines & 3u;
+}
+
+/* Puts a channel into a transfer by its registers, and steps until it ends, is refused or has gone on enough. */
+static void transfer_once(struct writer *w, uint32_t channel, uint32_t cc)
+{
+    set(w, channel, SET_BC, chance(&w->d, 700) ? 1 + below(&w->d, 3) : transfer_count(&w->d));
+    set(w, channel, SET_MC, transfer_mc(&w->d));
+    set(w, channel, SET_CC, cc);
+    set(w, channel, SET_PSW, transfer_psw(w, cc));
+    w->s.answered = EMU_DONE;
+    for (unsigned i = 12; i > 0 && w->s.answered == EMU_DONE && transfers(w, channel); i--)
+        step(w, good_lines(w, 250) | 1u << (channel - 1));
+}
+
+/* Points a channel's pointers at data and lets it transfer, mostly without the other channel. */
+static void transfer(struct writer *w)
+{
+    uint32_t channel = some_channel(w), other = 3 - channel;
+    if (channel_of(w, channel)->mode != EMU_RUNNING) set(w, channel, SET_MODE, EMU_RUNNING);
+    if (channel_of(w, other)->mode == EMU_RUNNING && chance(&w->d, 600))
+        set(w, other, SET_MODE, chance(&w->d, 500) ? EMU_IDLE : EMU_SUSPENDED);
+    point(w, channel, SET_GA);
+    point(w, channel, SET_GB);
+    if (chance(&w->d, 300)) point(w, channel, SET_GC);
+    for (unsigned i = 1 + below(&w->d, 3); i > 0; i--) transfer_once(w, channel, any_cc(w));
+}
+
+/* ---- What comes next ---- */
+
+/* Lines for a step: any, EXT less often; now and then no line number at all. */
+static uint32_t some_lines(struct writer *w)
+{
+    static const uint32_t odd[] = {16, 17, 31, 0xFF, 0x100, 0x10000, 0x80000000, 0xFFFFFFFF};
+    if (chance(&w->d, 12)) return ONE_OF(&w->d, odd);
+    return good_lines(w, 400);
+}
+
+/* Puts a few instructions where a channel's TP is, with something that they can work on, and steps. */
+static void try_instructions(struct writer *w, uint32_t channel)
+{
+    const struct emu_channel *ch = channel_of(w, channel);
+    if (chance(&w->d, 700)) point(w, channel, some_pointer(w));
+    if (chance(&w->d, 300)) set(w, channel, SET_IX, below(&w->d, 64));
+    if (transfers(w, channel)) set(w, channel, SET_PSW, ch->psw & ~(uint32_t)EMU_PSW_XF);
+    if (ch->mode != EMU_RUNNING) set(w, channel, SET_MODE, EMU_RUNNING);
+    struct program *p = fresh_program(w);
+    for (unsigned i = 1 + below(&w->d, 5); i > 0; i--) write_one(p);
+    place(w, ch->tp.tag, ch->tp.address, p->byte, p->length);
+    w->s.answered = EMU_DONE;
+    for (unsigned i = 5; i > 0 && w->s.answered == EMU_DONE; i--) step(w, some_lines(w));
+}
+
+/* Gives a channel another program, and starts it from whatever mode. */
+static void start_again(struct writer *w, uint32_t channel)
+{
+    give_program(w, channel);
+    if (channel_of(w, channel)->mode == EMU_RUNNING) command(w, channel, chance(&w->d, 600) ? 7 : 6);
+    start(w, channel);
+}
+
+/* Changes what a channel has before it, since a step was refused. */
+static void help_on(struct writer *w, uint32_t channel)
+{
+    const struct emu_channel *ch = channel_of(w, channel);
+    if (ch->mode == EMU_SUSPENDED && chance(&w->d, 700)) command(w, channel, 5);
+    else if (ch->mode != EMU_RUNNING || chance(&w->d, 200)) start_again(w, channel);
+    else if (transfers(w, channel)) set(w, channel, SET_PSW, below(&w->d, 256) & ~(uint32_t)EMU_PSW_XF);
+    else if (chance(&w->d, 600)) try_instructions(w, channel);
+    else point(w, channel, some_pointer(w));
+}
+
+/* Steps a few times with attentions and sets between, until a step is refused. */
+static void steps(struct writer *w)
+{
+    for (unsigned i = 4 + below(&w->d, 16); i > 0; i--) {
+        if (chance(&w->d, 60)) give_command(w);
+        if (chance(&w->d, 40)) set_any(w);
+        step(w, some_lines(w));
+        if (w->s.answered == EMU_DONE || w->s.answered == EMU_BAD_ARGUMENT) continue;
+        if (chance(&w->d, 800)) help_on(w, 1);
+        if (chance(&w->d, 800)) help_on(w, 2);
+        return;
+    }
+}
+
+/* Shows bytes of a buffer: anywhere, across its end, or far behind it. */
+static void show(struct writer *w)
+{
+    bool in_io = chance(&w->d, 500);
+    size_t length = in_io ? w->s.memory.io_len : w->s.memory.sys_len;
+    uint32_t at = chance(&w->d, 600) ? below(&w->d, length) : (uint32_t)length - below(&w->d, 18);
+    say(w, "show %d %s", in_io, number(w, chance(&w->d, 30) ? 0xFFFFFFF8u : at).text);
+}
+
+/* Puts bytes up to a buffer's end, or one byte too far. */
+static void put_at_end(struct writer *w)
+{
+    uint8_t bytes[24];
+    bool in_io = chance(&w->d, 500);
+    size_t length = in_io ? w->s.memory.io_len : w->s.memory.sys_len, count = 1 + below(&w->d, sizeof bytes);
+    fill(&w->d, bytes, sizeof bytes);
+    put(w, in_io, (uint32_t)(length - count) + below(&w->d, 2), bytes, count);
+}
+
+/* Writes a line that is no call, or a call that is shut out. */
+static void say_no_call(struct writer *w)
+{
+    static const char *const lines[] = {
+        "make", "make 0 0", "make 0 0 0 0", "make 100002 0 0", "make 0 10002 0", "make 000000001 0 0", "make 0 0 0x1",
+        "make 0 0 g", "make ffffffff 0 0", "MAKE 10 10 0", "makes 0 0 0", "put 0 0", "put 0 0 1", "put 0 0 123",
+        "put 2 0 00", "put 0 fffffffff 00", "put 0 ffffffff 00", "put 0 0 0g", "put 0 0 00 00", "put 0 0 0x00", "put",
+        "set 0 ga 0", "set 3 ga 0", "set 1 cp 0", "set 2 last 1", "set 0 last 0", "set 0 last 3", "set 1 mode 3",
+        "set 1 arm 2", "set 2 ga.t 2", "set 1 tp.t 10", "set 1 bc 10000", "set 2 mc 10000", "set 1 psw 100",
+        "set 1 GA 0", "set 1 zz 0", "set 1 ga", "set 1 ga -1", "set 1 ga 0 0", "set 1 pp.t 0", "set 0 cp.t 0",
+        "set 1 g 0", "set 1 gaa 0", "set 1 ga 100000000", "set 0 mode 1", "set 101 ga 0", "ca", "ca 1 1", "ca x",
+        "ca 123456789", "ca 1,", "ca1", "step", "step 0 0", "step 0.", "step -1", "stepp 0", "ste 0", "dump 1", "Dump",
+        "show", "show 0", "show 2 0", "show 0 0 0", "show 0 123456789", " # no comment", "hello", "?", "0",
+        "dump\t", "\tdump", "ca\t1", "dump\r", "step 1\r", "\r", "\t", "ca \xC3\xA9", "a b c d e f g h",
+    };
+    perform(w, ONE_OF(&w->d, lines));
+}
+
+/* Writes a call with one character changed, which may leave it a call, though another one. */
+static void say_damaged(struct writer *w)
+{
+    static const char *const calls[] = {"make 200 80 10", "put 0 0 0011", "put 1 7f 0A", "set 1 ga 12345",
+                                        "set 2 tp.t 1",   "set 0 last 1", "set 0 cp 0",  "set 2 psw 44",
+                                        "ca 1",           "step 3",       "dump",        "show 0 0"};
+    char line[32], put_in[] = "0123456789abcdefgABCDEFG xyz#.-\t?";
+    size_t length = (size_t)snprintf(line, sizeof line, "%s", ONE_OF(&w->d, calls));
+    line[below(&w->d, length)] = put_in[below(&w->d, sizeof put_in - 1)];
+    if (line[0] == '#') write_line(w, line);
+    else perform(w, line);
+}
+
+/* Writes whatever comes next. */
+static void go_on(struct writer *w)
+{
+    unsigned kind = below(&w->d, 1000);
+    if (kind < 360) steps(w);
+    else if (kind < 520) give_command(w);
+    else if (kind < 550) give_odd_attention(w);
+    else if (kind < 650) set_any(w);
+    else if (kind < 680) go_unsound(w);
+    else if (kind < 780) transfer(w);
+    else if (kind < 900) try_instructions(w, some_channel(w));
+    else if (kind < 930) show(w);
+    else if (kind < 950) put_at_end(w);
+    else if (kind < 970) say_damaged(w);
+    else say_no_call(w);
+}
+
+/* ---- Machines ---- */
+
+/* Both buffers' lengths. */
+struct lengths {
+    size_t sys, io;
+};
+
+/* Lengths for a machine: mostly small; at times nothing, hardly anything, the limits, and one over each of them. */
+static struct lengths choose_lengths(struct dice *d)
+{
+    unsigned kind = below(d, 1000), few = below(d, 80), many = below(d, 1800);
+    struct lengths small = {400 + many, many / 2}, tiny = {few, 79 - few}, nothing = {0, 0};
+    struct lengths no_sys = {0, few}, no_io = {few, 0}, over_sys = {EMU_SYSTEM_LIMIT + 1, few};
+    struct lengths over_io = {few, EMU_IO_LIMIT + 1}, whole = {EMU_SYSTEM_LIMIT, EMU_IO_LIMIT};
+    struct lengths less = {EMU_SYSTEM_LIMIT / 8 - few % 3, EMU_IO_LIMIT - few % 2};
+    if (kind < 15) return nothing;
+    if (kind < 30) return no_sys;
+    if (kind < 45) return no_io;
+    if (kind < 110) return tiny;
+    if (kind < 150) return whole;
+    if (kind < 180) return less;
+    if (kind < 205) return over_sys;
+    return kind < 235 ? over_io : small;
+}
+
+/* Makes a machine; small buffers are filled. */
+static void make(struct writer *w)
+{
+    static uint8_t bytes[SMALL_BUFFERS];
+    struct lengths length = choose_lengths(&w->d);
+    uint32_t cp = chance(&w->d, 60) ? unsound_address(w) : choose_cp(&w->d, length.sys);
+    struct digits sys = number(w, (uint32_t)length.sys), io = number(w, (uint32_t)length.io);
+    say(w, "make %s %s %s", sys.text, io.text, number(w, cp).text);
+    if (lent(w) > SMALL_BUFFERS) return;
+    fill(&w->d, bytes, length.sys);
+    put(w, false, 0, bytes, length.sys);
+    fill(&w->d, bytes, length.io);
+    put(w, true, 0, bytes, length.io);
+}
+
+/* How many calls a machine is worth: few where all of them are refused. */
+static unsigned long worth(struct writer *w)
+{
+    const struct emu_memory *m = &w->s.memory;
+    bool stuck = m->sys_len < 80 || m->sys_len > EMU_SYSTEM_LIMIT || m->io_len > EMU_IO_LIMIT;
+    return stuck ? 12 + below(&w->d, 10) : 60 + below(&w->d, 120);
+}
+
+/* Makes a machine and calls it, until it has had enough or the script is long enough. */
+static void use_machine(struct writer *w)
+{
+    make(w);
+    unsigned long most = worth(w), end = w->left > most ? w->left - most : 0;
+    for (uint32_t channel = 1; channel <= 2; channel++) {
+        give_program(w, channel);
+        if (chance(&w->d, 850)) start(w, channel);
+    }
+    while (w->left > end) go_on(w);
+    perform(w, "dump");
+}
+
+/* Ends the text: with a comment up to its length where one is wanted, otherwise with a line feed or without. */
+static void finish(struct writer *w, size_t length)
+{
+    if (length == 0 && chance(&w->d, 500)) fputc('\n', w->out);
+    if (w->written < length) write_line(w, "#");
+    for (; w->written < length; w->written++) fputc('-', w->out);
+}
+
+bool write_script(uint64_t seed, unsigned long calls, size_t length, FILE *out)
+{
+    static struct writer w;
+    w.nowhere = fopen("/dev/null", "w");
+    if (w.nowhere == NULL) return false;
+    w.d = seeded(seed, 0);
+    w.out = out;
+    w.left = calls;
+    session_begin(&w.s);
+    while (w.left > 0) use_machine(&w);
+    finish(&w, length);
+    return true;
+}
