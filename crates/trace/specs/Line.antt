@@ -1,8 +1,11 @@
 -- The text of a done step: its number, channel, kind, and that channel's TP after the step as five hex capitals.
 use mathlib.Core.List.{List, [], _∷_, _++_}
 use Prim.Native.Nat.{ℕ, _+_, _/_, _%_}
-use lib.Dec.{ltb}
+use lib.Dec.{eqb, ltb}
 use Rattle.words.specs.Choice.{pick}
+use Rattle.machine.specs.Outcomes.{Outcome, outcome}
+use Rattle.machine.specs.States.{channelOf, isSecond}
+use Rattle.step.specs.Step.{Step}
 use Rattle.step.specs.declared.Kind.{Kind}
 use Rattle.step.specs.declared.Kind.the-variants.{Nothing, Instruction, Transfer, External}
 
@@ -44,3 +47,15 @@ ending channel kind tp =
 -- the line of a step
 unfoldable pub lineOf : ℕ → ℕ → Kind → ℕ → List ℕ
 lineOf number channel kind tp = decimal number ++ ending channel kind tp
+
+-- what a step leaves, without its channel and kind
+abbrev pub leftBy : Step → Outcome
+leftBy o = outcome (o .number) (o .state) (o .memory)
+
+-- "that channel's TP after the step"
+unfoldable pub taskPointer : Step → ℕ
+taskPointer o = channelOf (o .state) (isSecond (o .channel)) .tp .address
+
+-- "Each done step prints" its line, a refused one none
+unfoldable pub textOf : ℕ → Step → List ℕ
+textOf number o = pick (eqb (o .number) 0) (lineOf number (o .channel) (o .kind) (taskPointer o)) []

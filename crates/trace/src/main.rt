@@ -8,7 +8,10 @@ ghost use Prim.Native.Nat.{_<_};
 ghost use lib.ListN.{take};
 ghost use Rattle.io.specs.Counts.{Counts};
 ghost use Rattle.trace.specs.Line as Spec;
-ghost use Rattle.trace.specs.Line.{lineOf};
+ghost use Rattle.trace.specs.Line.{lineOf, leftBy, textOf};
+ghost use Rattle.memory.specs.Buffers.{buffers};
+ghost use Rattle.machine.specs.Outcomes.{outcome};
+ghost use Rattle.step.specs.Step.{stepOf};
 
 // The ASCII code of a digit, letters as capitals.
 fn glyph(d: u32) -> u8
@@ -62,11 +65,36 @@ fn line(number: u32, channel: u32, kind: Kind, tp: u32, out: &mut [u8; 16]) -> u
     15
 }
 
-// Prints the line of a done step.
-fn print(number: u32, channel: u32, kind: Kind, tp: u32) {
-    let mut text = [0u8; 16];
-    let n = line(number, channel, kind, tp, &mut text);
-    io::write_all(STDOUT_FILENO, &text[..n]);
+// What a step that was traced leaves: its number, the state, and how many bytes its line has, none where it was refused.
+struct Traced {
+    number: u32,
+    state: State,
+    count: usize,
+}
+
+// A step with no line up, and its line at the start of out.
+fn trace_step(s: State, sys: &mut [u8], io: &mut [u8], number: u32, out: &mut [u8; 16]) -> Traced
+    ensures { λ r. ⌜ Counts (r .count) (now (out .exit)) ⌝ }
+    ensures { λ r. ⌜ outcome (r .number) (r .state) (buffers (now (sys .exit)) (now (io .exit))) ≡ leftBy (stepOf s (buffers (now (sys .entry)) (now (io .entry))) 0) ⌝ }
+    ensures { λ r. ⌜ take (r .count) (now (out .exit)) ≡ textOf number (stepOf s (buffers (now (sys .entry)) (now (io .entry))) 0) ⌝ }
+{
+    let r = step::step(s, sys, io, 0);
+    let state = r.state;
+    if r.number != 0 {
+        return Traced {
+            number: r.number,
+            state,
+            count: 0,
+        };
+    }
+    let kind = r.kind;
+    let c = machine::states::channel(state, machine::states::is_second(r.channel));
+    let count = line(number, r.channel, kind, c.tp.address, out);
+    Traced {
+        number: 0,
+        state,
+        count,
+    }
 }
 
 // Prints how the run ended.
@@ -83,7 +111,8 @@ fn steps(s: State, sys: &mut [u8], io: &mut [u8]) {
     let mut state = s;
     let mut done: u32 = 0;
     while done < 1000 {
-        let r = step::step(state, sys, io, 0);
+        let mut text = [0u8; 16];
+        let r = trace_step(state, sys, io, done + 1, &mut text);
         if r.number != 0 {
             print_end(r.number, done);
             return;
@@ -91,9 +120,8 @@ fn steps(s: State, sys: &mut [u8], io: &mut [u8]) {
         let next = r.state;
         state = next;
         done += 1;
-        let kind = r.kind;
-        let c = machine::states::channel(state, machine::states::is_second(r.channel));
-        print(done, r.channel, kind, c.tp.address);
+        let n = r.count;
+        io::write_all(STDOUT_FILENO, &text[..n]);
     }
     print_end(0, done);
 }
