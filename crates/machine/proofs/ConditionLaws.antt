@@ -12,6 +12,7 @@ use native.Mathlib.Omega.{arith}
 use Rattle.memory.specs.Buffers.{Buffers, spaceOf, limitOf, indexOf, lentAt, withinLimits}
 use Rattle.memory.specs.Places.{Place, allLent}
 use Rattle.words.proofs.ChoiceLaws.{apart, both-left, both-right, and-true}
+use Rattle.words.specs.Choice.{pick}
 use Rattle.machine.specs.Conditions.{Check, check, Given, TooLong, pointersOf, SomePast, NotSound, Beyond}
 use Rattle.machine.specs.Outcomes.{unless, first}
 use Rattle.machine.specs.States.{soundChannel, sound, isRunning, isSuspended}
@@ -95,6 +96,24 @@ never n (k ∷ ks) h =
     ⊎-elim
     (λ g. eqb-false n (k .number) (not-true (eqb n (k .number)) (both-left (not (eqb n (k .number))) (foreign n ks) h)) (g .1))
     (λ g. never n ks (both-right (not (eqb n (k .number))) (foreign n ks) h) (g .1))
+
+-- whether no check of some has a number over k
+abbrev pub upTo : ℕ → List Check → Bool
+upTo k [] = true
+upTo k (c ∷ cs) = leb (c .number) k && upTo k cs
+
+-- such checks give none over k
+pub given-most : {n : ℕ} (k : ℕ) (ks : List Check) → upTo k ks ≡ true → Given ks n → n ≤ k
+given-most k [] h = λ e. omega (arith, e)
+given-most k (c ∷ cs) h =
+    ⊎-elim
+    (λ g. omega (arith, g .1, leb-true (c .number) k (both-left (leb (c .number) k) (upTo k cs) h)))
+    (λ g. given-most k cs (both-right (leb (c .number) k) (upTo k cs) h) (g .1))
+
+-- whichever of two lists is taken
+pub up-to-either : (k : ℕ) (b : Bool) (ks ks′ : List Check) → upTo k ks ≡ true → upTo k ks′ ≡ true → upTo k (pick b ks ks′) ≡ true
+up-to-either k true ks ks′ h h′ = h
+up-to-either k false ks ks′ h h′ = h′
 
 -- ---- tests joined
 

@@ -8,3 +8,9 @@ pub mod MachineLaws
 pub mod CaseLaws
 pub mod WitnessLaws
 pub mod CallWitness
+pub mod RunLaws
+pub mod Demand1
+pub mod PointerLaws
+pub mod PointerWitness
+pub mod Demand2
+pub mod Unique

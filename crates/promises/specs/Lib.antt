@@ -5,3 +5,8 @@ pub mod Rows
 pub mod Cases
 pub mod Witness
 pub mod Calls
+pub mod Runs
+pub mod Demand1
+pub mod Pointers
+pub mod Demand2
+pub mod Unique

@@ -1,0 +1,131 @@
+-- The bounds of a run: its number is at most 12 and its steps at most the limit, so both can be taken back out of the answer.
+-- Assumes nothing.
+use Prim.Native.Nat.{ℕ, zero, suc, _+_, _*_, _/_, _%_, _<_, _≤_}
+use lib.Dec.{eqb, ltb, lit≤}
+use mathlib.Core.Bool.{Bool, true, false, _&&_}
+use mathlib.Core.Path.{_≡_, refl, sym, subst}
+use native.Mathlib.Decide.{ℕ-discrete, decLt}
+use native.Mathlib.Nat.{mod-eq-of-lt}
+use native.Mathlib.Omega.{arith}
+use Rattle.attention.proofs.Numbers.{given-exactly}
+use Rattle.attention.specs.Attention.{attentionOf}
+use Rattle.attention.specs.Conditions.{checks as attentionChecks}
+use Rattle.machine.proofs.ConditionLaws.{upTo, given-most, up-to-either}
+use Rattle.machine.specs.Outcomes.{unless, first}
+use Rattle.machine.specs.Psw.{transferring}
+use Rattle.machine.specs.States.{freshState, channelOf, isChannel}
+use Rattle.machine.specs.declared.State.{State}
+use Rattle.memory.specs.Buffers.{Buffers, withinLimits}
+use Rattle.step.proofs.NumberLaws.{number-given}
+use Rattle.step.specs.Choosing.{choiceOf}
+use Rattle.step.specs.Conditions.{chosenChecks, checks as stepChecks}
+use Rattle.step.specs.Step.{stepOf}
+use Rattle.step.specs.declared.Choice.{Choice}
+use Rattle.step.specs.declared.Choice.the-variants.{Nobody, Ends, Steps}
+use Rattle.words.specs.Choice.{pick}
+use Rattle.panel.specs.Run.{Run, ran, stepsFrom, callNumber, runOf, answerOf}
+use Rattle.panel.proofs.Outcomes.{refused-call, refused-cp, refused-attention, accepted-attention}
+use Rattle.panel.proofs.RunLaws.{call-limit}
+
+-- ---- the numbers
+
+-- the number of an attention is at most 12
+pub attention-most : (s : State) (m : Buffers) (channel : ℕ) → attentionOf s m channel .number ≤ 12
+attention-most s m channel = given-most 12 (attentionChecks s m channel) refl ((given-exactly s m channel (attentionOf s m channel .number)) .0 refl)
+
+-- that of a step too, whoever was chosen
+pub step-most : (s : State) (m : Buffers) (lines : ℕ) → stepOf s m lines .number ≤ 12
+step-most s m lines = given-most 12 (stepChecks s m lines) (chosen (choiceOf s lines)) ((number-given s m lines (stepOf s m lines .number)) .0 refl)
+  where
+    chosen : (x : Choice) → upTo 12 (chosenChecks x s m) ≡ true
+    chosen Nobody = refl
+    chosen (Ends b) = refl
+    chosen (Steps b) = up-to-either 12 (transferring (channelOf s b .psw)) _ _ refl refl
+
+-- and that of the call itself
+call-most : (m : Buffers) (channel lines limit : ℕ) → callNumber m channel lines limit ≤ 12
+unfolding callNumber first unless
+call-most m channel lines limit = go (isChannel channel && ltb lines 16 && ltb limit 65536) (withinLimits m)
+  where
+    go : (a b : Bool) → first (unless a 12) (unless b 11) ≤ 12
+    go true true = lit≤ tt
+    go true false = lit≤ tt
+    go false b = lit≤ tt
+
+-- ---- the steps
+
+-- what holds of both of two runs holds of either
+either : (P : Run → Type 0) (b : Bool) (r q : Run) → P r → P q → P (pick b r q)
+either P true r q p p′ = p
+either P false r q p p′ = p′
+
+-- the steps' number is one of a step's, or 0
+steps-number : (left : ℕ) (s : State) (m : Buffers) (lines done : ℕ) → stepsFrom left s m lines done .number ≤ 12
+unfolding stepsFrom
+steps-number zero s m lines done = lit≤ tt
+steps-number (suc left) s m lines done =
+    let o = stepOf s m lines in
+    either (λ r. r .number ≤ 12) (eqb (o .number) 0) (stepsFrom left (o .state) (o .memory) lines (done + 1)) (ran (o .number) done (o .memory))
+    (steps-number left (o .state) (o .memory) lines (done + 1)) (step-most s m lines)
+
+-- no more than those that are left are done
+steps-done : (left : ℕ) (s : State) (m : Buffers) (lines done : ℕ) → stepsFrom left s m lines done .steps ≤ done + left
+unfolding stepsFrom
+steps-done zero s m lines done = omega arith
+steps-done (suc left) s m lines done =
+    let o = stepOf s m lines in
+    either (λ r. r .steps ≤ done + suc left) (eqb (o .number) 0) (stepsFrom left (o .state) (o .memory) lines (done + 1)) (ran (o .number) done (o .memory))
+    (omega (arith, steps-done left (o .state) (o .memory) lines (done + 1))) (omega arith)
+
+-- ---- the run
+
+module _ (m : Buffers) (cp channel lines limit : ℕ) where
+  -- what holds of a run that is refused before its steps, and of the steps under a limit of sixteen bits, holds of the run
+  pub run-by : (P : Run → Type 0) → ((n : ℕ) → n ≤ 12 → P (ran n 0 m)) → (limit < 65536 → (s : State) (m′ : Buffers) → P (stepsFrom limit s m′ lines 0))
+      → P (runOf m cp channel lines limit)
+  run-by P refused steps = called (ℕ-discrete (callNumber m channel lines limit) 0)
+    where
+      attended : callNumber m channel lines limit ≡ 0 → cp < 1048576 → Dec (attentionOf (freshState cp) m channel .number ≡ 0) → P (runOf m cp channel lines limit)
+      attended e h (yes a) =
+          subst P (sym (accepted-attention m cp channel lines limit e h a))
+          (steps (call-limit m channel lines limit e) (attentionOf (freshState cp) m channel .state) (attentionOf (freshState cp) m channel .memory))
+      attended e h (no a) =
+          subst P (sym (refused-attention m cp channel lines limit e h a))
+          (refused (attentionOf (freshState cp) m channel .number) (attention-most (freshState cp) m channel))
+
+      fresh : callNumber m channel lines limit ≡ 0 → Dec (cp < 1048576) → P (runOf m cp channel lines limit)
+      fresh e (yes h) = attended e h (ℕ-discrete (attentionOf (freshState cp) m channel .number) 0)
+      fresh e (no h) = subst P (sym (refused-cp m cp channel lines limit e (omega arith))) (refused 10 (lit≤ tt))
+
+      called : Dec (callNumber m channel lines limit ≡ 0) → P (runOf m cp channel lines limit)
+      called (yes e) = fresh e (decLt cp 1048576)
+      called (no e) =
+          subst P (sym (refused-call m cp channel lines limit e))
+          (refused (callNumber m channel lines limit) (call-most m channel lines limit))
+
+  -- the number is at most 12
+  pub number-most : runOf m cp channel lines limit .number ≤ 12
+  number-most = run-by (λ r. r .number ≤ 12) (λ n h. h) (λ h s m′. steps-number limit s m′ lines 0)
+
+  -- no more steps are done than the limit
+  pub steps-most : runOf m cp channel lines limit .steps ≤ limit
+  steps-most = run-by (λ r. r .steps ≤ limit) (λ n h. omega arith) (λ h s m′. omega (arith, steps-done limit s m′ lines 0))
+
+  -- and fewer than 65,536
+  pub steps-below : runOf m cp channel lines limit .steps < 65536
+  steps-below = run-by (λ r. r .steps < 65536) (λ n h. omega arith) (λ h s m′. omega (arith, steps-done limit s m′ lines 0))
+
+  -- "Answer: number × 65,536 + steps done"
+  pub answer-is : answerOf (runOf m cp channel lines limit) ≡ runOf m cp channel lines limit .number * 65536 + runOf m cp channel lines limit .steps
+  unfolding answerOf
+  answer-is =
+      let small : runOf m cp channel lines limit .number < 65536 = omega (arith, number-most) in
+      rw (mod-eq-of-lt small, mod-eq-of-lt steps-below)
+
+  -- the number is the answer's high half
+  pub number-back : answerOf (runOf m cp channel lines limit) / 65536 ≡ runOf m cp channel lines limit .number
+  number-back = rw answer-is (omega (arith, steps-below))
+
+  -- and the steps its low half
+  pub steps-back : answerOf (runOf m cp channel lines limit) % 65536 ≡ runOf m cp channel lines limit .steps
+  steps-back = rw answer-is (omega (arith, steps-below))

@@ -1,0 +1,100 @@
+-- Two programs in numbers that take a pointer to memory and back, so that what `PointersKept` asks of steps can be met.
+-- Assumes nothing.
+use Prim.Native.Nat.{ℕ}
+use mathlib.Core.Bool.{Bool, true, false}
+use mathlib.Core.List.{List, [], _∷_, _++_}
+use mathlib.Core.Path.{refl}
+use lib.ListN.{replicate}
+use Rattle.decode.specs.Lengths.{lengthOf, dataLength, displacementLength, offsetLength}
+use Rattle.decode.specs.Pairs.{pairOf}
+use Rattle.decode.specs.Reading.{lookup, decodeOf}
+use Rattle.decode.specs.Table.{table}
+use Rattle.decode.specs.declared.Memory.{Memory}
+use Rattle.decode.specs.declared.Shape.{Shape}
+use Rattle.decode.specs.declared.Shape.the-variants.{MovpStore, Call}
+use Rattle.deeds.specs.Deeds.{effectOf}
+use Rattle.deeds.specs.JumpForms.{callDeed}
+use Rattle.deeds.specs.MemoryForms.{movpStoreDeed}
+use Rattle.deeds.specs.RegisterForms.{movpLoadDeed}
+use Rattle.execute.specs.Execute.{decodedAt, performed, deedOf, laterBytes, deedFrom, shapeNumber, numberFrom, executeNumber, settledEffect, planOf, executeOf}
+use Rattle.machine.specs.Outcomes.{unless, first, givenNumber}
+use Rattle.machine.specs.Registers.{byRRR, registerOf, tagOf, withRegister, baseOf}
+use Rattle.machine.specs.States.{freshState, idleChannel, channelOf, withChannel, withLast, soundChannel, sound, isRunning, blockOf, numberOf}
+use Rattle.machine.specs.declared.Channel.{Channel}
+use Rattle.machine.specs.declared.Mode.the-variants.{Running}
+use Rattle.memory.specs.Buffers.{buffers, spaceOf, limitOf, indexOf, lentAt, byteAt, storeByte, withinLimits}
+use Rattle.memory.specs.Places.{span, allLent}
+use Rattle.memory.specs.Values.{pointer, pointerAt, storePointer}
+use Rattle.operands.specs.Changes.{placesOf, changed}
+use Rattle.operands.specs.Operands.{onward, renewed, usedUp, advanced, indexed, effective, grown, displacementAt, jumped}
+use Rattle.step.specs.Choosing.{requested, external, endsNow, transferRank, rankOf, secondWins, ranked, choiceOf}
+use Rattle.step.specs.Step.{settledStep, busyOf, instructionStep, channelStep, chosenStep, entryNumber, stepOf}
+use Rattle.words.specs.Bits.{fieldOf, bitOf}
+use Rattle.words.specs.Signs.{signedOf, displacedBy}
+use Rattle.promises.specs.Pointers.{Holds, StepCall, left, Executes, operandOf, LoadsFrom}
+use Rattle.promises.proofs.PointerLaws.{movp-back, call-back}
+
+-- channel 1 runs the program at 0, with GA 10h in system space and GB 12345h in I/O space
+abbrev running : Channel
+running =
+    record {
+      ga = pointer 0x10 false;
+      gb = pointer 0x12345 true;
+      gc = pointer 0 false;
+      tp = pointer 0 false;
+      pp = 0;
+      bc = 0;
+      ix = 0;
+      cc = 0;
+      mc = 0;
+      psw = 4;
+      mode = Running;
+      armed = false;
+    }
+
+-- the operand [GA], of W 1 or 0
+abbrev atGa : Bool → Memory
+atGa wide = record { mm = 0; aa = 0; wide = wide }
+
+-- the first step of a program of a few bytes, and the next
+abbrev firstStep : List ℕ → StepCall
+firstStep code = record { state = withChannel (freshState 0) false running; memory = buffers (code ++ replicate 16 0) []; lines = 0; second = false }
+
+abbrev nextStep : List ℕ → StepCall
+nextStep code = record { state = left (firstStep code) .state; memory = left (firstStep code) .memory; lines = 0; second = false }
+
+-- a program that stores a pointer by an instruction of some shape at [GA], and then loads GC from [GA]
+pub record GoesAndComes (code : List ℕ) (shape : Shape) (o : Memory) : Type 0 where
+  pub goes : Executes (firstStep code) shape
+  pub comes : LoadsFrom (firstStep code) (operandOf (firstStep code) shape o) (nextStep code) 2 (atGa true)
+
+-- MOVP [GA],GB; MOVP GC,[GA]
+abbrev movps : List ℕ
+movps = 0x21 ∷ 0x98 ∷ 0x41 ∷ 0x8C ∷ []
+
+-- CALL [GA],0; MOVP GC,[GA]
+abbrev calls : List ℕ
+calls = 0x88 ∷ 0x9C ∷ 0 ∷ 0x41 ∷ 0x8C ∷ []
+
+both-go : GoesAndComes movps (MovpStore 1 (atGa true)) (atGa true) × GoesAndComes calls (Call (atGa false) false) (atGa false)
+unfolding stepOf entryNumber givenNumber first unless withinLimits limitOf spaceOf indexOf lentAt byteAt storeByte allLent span sound soundChannel freshState idleChannel channelOf withChannel withLast isRunning blockOf numberOf requested external endsNow transferRank rankOf secondWins ranked choiceOf settledStep busyOf instructionStep channelStep chosenStep fieldOf bitOf decodedAt performed deedOf laterBytes deedFrom shapeNumber numberFrom executeNumber settledEffect planOf executeOf onward renewed usedUp advanced effectOf placesOf changed pairOf lookup decodeOf table lengthOf dataLength displacementLength offsetLength movpStoreDeed movpLoadDeed callDeed effective grown baseOf registerOf tagOf byRRR withRegister storePointer pointerAt indexed jumped displacementAt displacedBy signedOf
+both-go = (
+  record {
+    goes = record { done = refl; chosen = refl; program = refl; reads = refl };
+    comes = record { loads = record { done = refl; chosen = refl; program = refl; reads = refl }; place = refl; bytes = λ i h. refl };
+  },
+  record {
+    goes = record { done = refl; chosen = refl; program = refl; reads = refl };
+    comes = record { loads = record { done = refl; chosen = refl; program = refl; reads = refl }; place = refl; bytes = λ i h. refl };
+  },
+)
+
+-- after the first GC is 12345h, in I/O space
+pub movp-met : Holds (channelOf (left (nextStep movps) .state) false) 2 0x12345 true
+unfolding registerOf tagOf byRRR advanced renewed freshState withChannel channelOf
+movp-met = movp-back (both-go .0 .goes) (both-go .0 .comes)
+
+-- after the second it is 3, the address past the CALL, in system space
+pub call-met : Holds (channelOf (left (nextStep calls) .state) false) 2 3 false
+unfolding advanced renewed onward freshState withChannel channelOf lengthOf offsetLength dataLength displacementLength
+call-met = call-back (both-go .1 .goes) (both-go .1 .comes)

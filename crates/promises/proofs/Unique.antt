@@ -1,0 +1,39 @@
+-- No two outcomes meet the contract of a public call together: both are what its definition gives.
+-- Assumes nothing.
+use mathlib.Core.Path.{sym, ap, _∙_}
+use Rattle.machine.specs.Outcomes.{Outcome}
+use Rattle.machine.specs.declared.Answer.{Answer}
+use Rattle.panel.specs.Run.{Run, Call}
+use Rattle.panel.specs.declared.Ran.{Ran}
+use Rattle.step.specs.Step.{Step}
+use Rattle.step.specs.declared.Stepped.{Stepped}
+use Rattle.promises.specs.Unique.{OneOutcome}
+
+-- an answer, without the memories
+answered : Outcome → Answer
+answered o = record { number = o .number; state = o .state }
+
+step-answered : Step → Stepped
+step-answered o = record { number = o .number; state = o .state; channel = o .channel; kind = o .kind }
+
+run-answered : Run → Ran
+run-answered o = record { number = o .number; steps = o .steps }
+
+pub one-outcome : OneOutcome
+unfolding answered step-answered run-answered
+one-outcome = record {
+  fresh = λ cp r r′ p q. p ∙ sym q;
+  attention = λ s m channel r r′ sys sys′ io io′ p q.
+      let e = p ∙ sym q in
+      record { answer = ap answered e; system = ap (λ (o : Outcome). o .memory .sys) e; inputOutput = ap (λ (o : Outcome). o .memory .io) e };
+  choose = λ s lines r r′ p q. p ∙ sym q;
+  step = λ s m lines r r′ sys sys′ io io′ p q.
+      let e = p ∙ sym q in
+      record { answer = ap step-answered e; system = ap (λ (o : Step). o .memory .sys) e; inputOutput = ap (λ (o : Step). o .memory .io) e };
+  run = λ m cp channel lines limit r r′ sys sys′ io io′ p q.
+      let e = p ∙ sym q in
+      record { answer = ap run-answered e; system = ap (λ (o : Run). o .memory .sys) e; inputOutput = ap (λ (o : Run). o .memory .io) e };
+  call = λ m cp channel lines limit r r′ sys sys′ io io′ p q.
+      let e = p ∙ sym q in
+      record { answer = ap (λ (o : Call). o .answer) e; system = ap (λ (o : Call). o .memory .sys) e; inputOutput = ap (λ (o : Call). o .memory .io) e };
+}

@@ -1,0 +1,91 @@
+-- Demand 1: every call ends with an answer, each number is given exactly under its own condition, and a refused call changes nothing.
+-- "Every call ends with an answer, for every memory content, register value and channel number. Nobody has to test the arguments beforehand": each
+-- call is a function of what it is given, so it has an answer for every state, every memory and every number, and no field below asks anything of them.
+use mathlib.Core.Bool.{Bool, true, false}
+use mathlib.Core.List.{[], _∷_}
+use mathlib.Core.Logic.{_↔_}
+use mathlib.Core.Path.{_≡_}
+use Prim.Native.Nat.{ℕ, _+_, _*_, _/_, _%_, _<_, _≤_}
+use Rattle.memory.specs.Buffers.{Buffers}
+use Rattle.memory.specs.Values.{pointer}
+use Rattle.machine.specs.declared.Channel.{Channel}
+use Rattle.machine.specs.declared.Mode.the-variants.{Idle}
+use Rattle.machine.specs.declared.State.{State}
+use Rattle.machine.specs.Conditions.{check, Given}
+use Rattle.machine.specs.States.{freshOf, channelOf}
+use Rattle.attention.specs.Attention.{attentionOf}
+use Rattle.attention.specs.Conditions.{checks as attentionChecks}
+use Rattle.step.specs.Conditions.{checks as stepChecks}
+use Rattle.step.specs.Step.{stepOf}
+use Rattle.panel.specs.Run.{Run, runOf, answerOf}
+use Rattle.promises.specs.Runs.{CpPast, RunEnds}
+
+-- "all else is 0 or idle", of one channel
+pub record Blank (c : Channel) : Type 0 where
+  pub ga : c .ga ≡ pointer 0 false
+  pub gb : c .gb ≡ pointer 0 false
+  pub gc : c .gc ≡ pointer 0 false
+  pub tp : c .tp ≡ pointer 0 false
+  pub pp : c .pp ≡ 0
+  pub bc : c .bc ≡ 0
+  pub ix : c .ix ≡ 0
+  pub cc : c .cc ≡ 0
+  pub mc : c .mc ≡ 0
+  pub psw : c .psw ≡ 0
+  pub mode : c .mode ≡ Idle
+  pub armed : c .armed ≡ false
+
+-- a fresh state of any CP
+pub record FreshAnswers (cp : ℕ) : Type 0 where
+  -- 10 exactly where CP is 1,048,576 or more, otherwise 0
+  pub numbers : (n : ℕ) → (freshOf cp .number ≡ n) ↔ Given (check 10 (CpPast cp) ∷ []) n
+  -- "A fresh state takes CP; all else is 0 or idle; "last" is channel 2"
+  pub takesCp : cp < 1048576 → freshOf cp .state .cp ≡ cp
+  pub channels : (second : Bool) → Blank (channelOf (freshOf cp .state) second)
+  pub last : freshOf cp .state .last ≡ true
+  -- "A fresh state with a bad CP answers 10 and the state made with CP 0"
+  pub badCp : CpPast cp → freshOf cp .state .cp ≡ 0
+
+-- an attention with any channel number, in any state and memories
+pub record AttentionAnswers (s : State) (m : Buffers) (channel : ℕ) : Type 0 where
+  -- "a numbered refusal, only under that number's own condition": n is given exactly where n's check applies and no earlier one does; 0 where none does
+  pub numbers : (n : ℕ) → (attentionOf s m channel .number ≡ n) ↔ Given (attentionChecks s m channel) n
+  -- "A refused attention or step hands back the state it was given"
+  pub sameState : ¬ (attentionOf s m channel .number ≡ 0) → attentionOf s m channel .state ≡ s
+  -- "and changes no byte of system or I/O memory"
+  pub sameMemory : ¬ (attentionOf s m channel .number ≡ 0) → attentionOf s m channel .memory ≡ m
+  -- no number is over 12
+  pub bound : attentionOf s m channel .number ≤ 12
+
+-- a step with any lines, of any state and memories
+pub record StepAnswers (s : State) (m : Buffers) (lines : ℕ) : Type 0 where
+  -- "a numbered refusal, only under that number's own condition": n is given exactly where n's check applies and no earlier one does; 0 where none does
+  pub numbers : (n : ℕ) → (stepOf s m lines .number ≡ n) ↔ Given (stepChecks s m lines) n
+  -- "A refused attention or step hands back the state it was given"
+  pub sameState : ¬ (stepOf s m lines .number ≡ 0) → stepOf s m lines .state ≡ s
+  -- "and changes no byte of system or I/O memory"
+  pub sameMemory : ¬ (stepOf s m lines .number ≡ 0) → stepOf s m lines .memory ≡ m
+  -- it is of no channel
+  pub noChannel : ¬ (stepOf s m lines .number ≡ 0) → stepOf s m lines .channel ≡ 0
+  -- no number is over 12
+  pub bound : stepOf s m lines .number ≤ 12
+
+-- a run with any CP, channel, lines and limit, in any memories
+pub record RunAnswers (m : Buffers) (cp channel lines limit : ℕ) : Type 0 where
+  -- a run is r, its number, steps and memories, exactly where it ends so
+  pub ends : (r : Run) → (runOf m cp channel lines limit ≡ r) ↔ RunEnds m cp channel lines limit r
+  -- no number is over 12, and no more steps are done than the limit, nor more than 65,535
+  pub bound : runOf m cp channel lines limit .number ≤ 12
+  pub stepsBound : runOf m cp channel lines limit .steps ≤ limit
+  pub stepsSmall : runOf m cp channel lines limit .steps < 65536
+  -- "Answer: number × 65,536 + steps done", so that both can be taken back out of it
+  pub answer : answerOf (runOf m cp channel lines limit) ≡ runOf m cp channel lines limit .number * 65536 + runOf m cp channel lines limit .steps
+  pub numberBack : answerOf (runOf m cp channel lines limit) / 65536 ≡ runOf m cp channel lines limit .number
+  pub stepsBack : answerOf (runOf m cp channel lines limit) % 65536 ≡ runOf m cp channel lines limit .steps
+
+-- the demand
+pub record Demand1 : Type 0 where
+  pub fresh : (cp : ℕ) → FreshAnswers cp
+  pub attention : (s : State) (m : Buffers) (channel : ℕ) → AttentionAnswers s m channel
+  pub step : (s : State) (m : Buffers) (lines : ℕ) → StepAnswers s m lines
+  pub run : (m : Buffers) (cp channel lines limit : ℕ) → RunAnswers m cp channel lines limit

@@ -1,0 +1,117 @@
+-- Demand 2, "Pointers go to their three stored bytes and back without loss": as numbers, through memory, by MOVP and CALL, by suspend and resume.
+use mathlib.Core.Bool.{Bool, true, false}
+use mathlib.Core.Path.{_≡_}
+use Prim.Native.Nat.{ℕ, _+_, _*_, _/_, _<_}
+use Rattle.words.specs.Stored.{storedLow, storedMiddle, storedHigh, storedAddress, storedTag}
+use Rattle.memory.specs.declared.Pointer.{Pointer}
+use Rattle.memory.specs.Buffers.{Buffers, byteAt}
+use Rattle.memory.specs.Places.{span, allLent}
+use Rattle.memory.specs.Values.{pointerAt, storePointer}
+use Rattle.machine.specs.declared.Channel.{Channel}
+use Rattle.machine.specs.declared.State.{State}
+use Rattle.machine.specs.Psw.{destinationWide, sourceWide, transferring, withPsw}
+use Rattle.machine.specs.Registers.{registerOf, tagOf}
+use Rattle.machine.specs.States.{channelOf, isSecond}
+use Rattle.attention.specs.Attention.{orderTo, attentionOf}
+use Rattle.attention.specs.Commands.{ordered}
+use Rattle.attention.specs.Effects.{withControl}
+use Rattle.attention.specs.Pauses.{Pause}
+use Rattle.decode.specs.declared.Decoded.the-variants.{Instruction}
+use Rattle.decode.specs.declared.Memory.{Memory}
+use Rattle.decode.specs.declared.Shape.{Shape}
+use Rattle.decode.specs.declared.Shape.the-variants.{MovpLoad, MovpStore, Call}
+use Rattle.decode.specs.Lengths.{lengthOf}
+use Rattle.operands.specs.Operands.{advanced, effective}
+use Rattle.execute.specs.Execute.{decodedAt}
+use Rattle.step.specs.declared.Choice.the-variants.{Steps}
+use Rattle.step.specs.Choosing.{choiceOf}
+use Rattle.step.specs.Step.{Step, stepOf}
+
+-- the stored form of an address with its tag, read back, is that address and that tag
+pub record FormKept (address : ℕ) (tag : Bool) : Type 0 where
+  pub sameAddress : storedAddress (storedLow address) (storedMiddle address) (storedHigh address tag) ≡ address
+  pub sameTag : storedTag (storedHigh address tag) ≡ tag
+
+-- three bytes read as a pointer and stored again are those bytes, but for "zeros below (ignored when read)"
+pub record BytesAgain (low middle high : ℕ) : Type 0 where
+  pub first : storedLow (storedAddress low middle high) ≡ low
+  pub second : storedMiddle (storedAddress low middle high) ≡ middle
+  pub third : storedHigh (storedAddress low middle high) (storedTag high) ≡ high / 8 * 8
+
+-- register r of a channel holds an address, with a tag
+pub record Holds (c : Channel) (r address : ℕ) (tag : Bool) : Type 0 where
+  pub value : registerOf c r ≡ address
+  pub space : tagOf c r ≡ tag
+
+-- a step call: the state and the memories that it is given, its lines, and a channel
+pub record StepCall : Type 0 where
+  pub state : State
+  pub memory : Buffers
+  pub lines : ℕ
+  pub second : Bool
+
+-- what it leaves, and the channel before it
+abbrev pub left : StepCall → Step
+left k = stepOf (k .state) (k .memory) (k .lines)
+
+abbrev pub channelOn : StepCall → Channel
+channelOn k = channelOf (k .state) (k .second)
+
+-- it is done, and carries out an instruction of some shape for that channel
+pub record Executes (k : StepCall) (shape : Shape) : Type 0 where
+  pub done : left k .number ≡ 0
+  pub chosen : choiceOf (k .state) (k .lines) ≡ Steps (k .second)
+  pub program : transferring (channelOn k .psw) ≡ false
+  pub reads : decodedAt (k .memory) (channelOn k .tp) ≡ Instruction shape
+
+-- the channel as the instruction finds it: "TP already points past it"
+abbrev pub found : StepCall → Shape → Channel
+found k shape = advanced (channelOn k) (lengthOf shape)
+
+-- the place of its memory operand
+abbrev pub operandOf : StepCall → Shape → Memory → Pointer
+operandOf k shape o = effective (k .memory) (found k shape) o (channelOn k .tp)
+
+-- the three bytes at a place are in m′ as they are in m
+abbrev pub SameThree : Pointer → Buffers → Buffers → Type 0
+SameThree at m m′ = (i : ℕ) → i < 3 → byteAt m′ (at .tag) (at .address + i) ≡ byteAt m (at .tag) (at .address + i)
+
+-- a step k stores a pointer at the place `at`; a later one, k′, is MOVP P,M from there into register r
+pub record LoadsFrom (k : StepCall) (at : Pointer) (k′ : StepCall) (r : ℕ) (o : Memory) : Type 0 where
+  pub loads : Executes k′ (MovpLoad r o)
+  pub place : operandOf k′ (MovpLoad r o) o ≡ at
+  -- in between nothing wrote there
+  pub bytes : SameThree at (left k .memory) (k′ .memory)
+
+-- a channel that was suspended and is resumed by a CCW goes on as it was before
+pub record GoesOn (before after : Channel) (ccw : ℕ) : Type 0 where
+  -- TP and its tag come back
+  pub task : after .tp ≡ before .tp
+  -- PSW comes back with TB 1; then the CCW's bits 5 and 7 and its ICF count
+  pub status : after .psw ≡ ordered ccw (withPsw (before .psw) 2 true)
+  -- so the widths and XF are as they were
+  pub destinationBack : destinationWide (after .psw) ≡ destinationWide (before .psw)
+  pub sourceBack : sourceWide (after .psw) ≡ sourceWide (before .psw)
+  pub transferBack : transferring (after .psw) ≡ transferring (before .psw)
+  -- "No other register moves"
+  pub others : after ≡ withControl before (before .tp) (before .pp) (after .psw) (before .mode) (before .armed)
+
+-- "Pointers go to their three stored bytes and back without loss"
+pub record PointersKept : Type 0 where
+  -- every address of 20 bits with either tag
+  pub form : (address : ℕ) (tag : Bool) → address < 1048576 → FormKept address tag
+  -- every three bytes
+  pub bytes : (low middle high : ℕ) → low < 256 → middle < 256 → high < 256 → BytesAgain low middle high
+  -- every pointer, through three lent bytes of either space
+  pub memory : (m : Buffers) (tag : Bool) (at : ℕ) (p : Pointer) → p .address < 1048576 → allLent m (span tag at 3) ≡ true → pointerAt (storePointer m tag at p) tag at ≡ p
+  -- MOVP M,P of register r, and MOVP P,M from there: the pointer and the tag that went
+  pub movp : {k : StepCall} {r : ℕ} {o : Memory} {k′ : StepCall} {r′ : ℕ} {o′ : Memory} → Executes k (MovpStore r o)
+      → LoadsFrom k (operandOf k (MovpStore r o) o) k′ r′ o′
+      → Holds (channelOf (left k′ .state) (k′ .second)) r′ (registerOf (found k (MovpStore r o)) r) (tagOf (found k (MovpStore r o)) r)
+  -- "CALL stores TP in stored form", and MOVP P,M from there: TP past the CALL, with its tag
+  pub call : {k : StepCall} {o : Memory} {two : Bool} {k′ : StepCall} {r′ : ℕ} {o′ : Memory} → Executes k (Call o two)
+      → LoadsFrom k (operandOf k (Call o two) o) k′ r′ o′
+      → Holds (channelOf (left k′ .state) (k′ .second)) r′ (found k (Call o two) .tp .address) (found k (Call o two) .tp .tag)
+  -- suspend, and later resume with the channel's registers and the four bytes at PP as suspend left them
+  pub pause : {s : State} {m : Buffers} {s′ : State} {m′ : Buffers} {channel : ℕ} → Pause s m s′ m′ channel
+      → GoesOn (channelOf s (isSecond channel)) (channelOf (attentionOf s′ m′ channel .state) (isSecond channel)) (orderTo s′ m′ (isSecond channel) .ccw)

@@ -1,0 +1,60 @@
+-- "Prove that no two outcomes can satisfy it together": each public call's contract, as the code states it, and that only one outcome meets it.
+use mathlib.Core.List.{List}
+use mathlib.Core.Path.{_≡_}
+use Prim.Native.Nat.{ℕ}
+use Rattle.memory.specs.Buffers.{Buffers, buffers}
+use Rattle.machine.specs.Outcomes.{outcome}
+use Rattle.machine.specs.States.{freshOf}
+use Rattle.machine.specs.declared.Answer.{Answer}
+use Rattle.machine.specs.declared.State.{State}
+use Rattle.attention.specs.Attention.{attentionOf}
+use Rattle.step.specs.Choosing.{choiceOf}
+use Rattle.step.specs.Step.{stepped, stepOf}
+use Rattle.step.specs.declared.Choice.{Choice}
+use Rattle.step.specs.declared.Stepped.{Stepped}
+use Rattle.panel.specs.Run.{ran, runOf, answerOf, called}
+use Rattle.panel.specs.declared.Ran.{Ran}
+
+-- `machine::states::fresh`: the answer r to a CP
+abbrev pub FreshMeets : ℕ → Answer → Type 0
+FreshMeets cp r = r ≡ freshOf cp
+
+-- `attention::attention`: the answer r, and both buffers as they are left
+abbrev pub AttentionMeets : State → Buffers → ℕ → Answer → List ℕ → List ℕ → Type 0
+AttentionMeets s m channel r sys io = outcome (r .number) (r .state) (buffers sys io) ≡ attentionOf s m channel
+
+-- `step::choose`: who steps
+abbrev pub ChooseMeets : State → ℕ → Choice → Type 0
+ChooseMeets s lines r = r ≡ choiceOf s lines
+
+-- `step::step`: the answer r, and both buffers as they are left
+abbrev pub StepMeets : State → Buffers → ℕ → Stepped → List ℕ → List ℕ → Type 0
+StepMeets s m lines r sys io = stepped (r .number) (r .state) (buffers sys io) (r .channel) (r .kind) ≡ stepOf s m lines
+
+-- `panel::run`: the answer r, and both buffers as they are left
+abbrev pub RunMeets : Buffers → ℕ → ℕ → ℕ → ℕ → Ran → List ℕ → List ℕ → Type 0
+RunMeets m cp channel lines limit r sys io = ran (r .number) (r .steps) (buffers sys io) ≡ runOf m cp channel lines limit
+
+-- `iop89_run`, the call from C: the answer r, and both buffers as they are left
+abbrev pub CallMeets : Buffers → ℕ → ℕ → ℕ → ℕ → ℕ → List ℕ → List ℕ → Type 0
+CallMeets m cp channel lines limit r sys io =
+    called r (buffers sys io) ≡ called (answerOf (runOf m cp channel lines limit)) (runOf m cp channel lines limit .memory)
+
+-- the answers and both buffers of two outcomes are the same
+pub record Same {A : Type 0} (r r′ : A) (sys sys′ io io′ : List ℕ) : Type 0 where
+  pub answer : r ≡ r′
+  pub system : sys ≡ sys′
+  pub inputOutput : io ≡ io′
+
+-- "Each public call's contract determines number, state and both memories for all inputs, refused ones too": two outcomes that meet it are the same
+pub record OneOutcome : Type 0 where
+  pub fresh : (cp : ℕ) (r r′ : Answer) → FreshMeets cp r → FreshMeets cp r′ → r ≡ r′
+  pub attention : (s : State) (m : Buffers) (channel : ℕ) (r r′ : Answer) (sys sys′ io io′ : List ℕ)
+      → AttentionMeets s m channel r sys io → AttentionMeets s m channel r′ sys′ io′ → Same r r′ sys sys′ io io′
+  pub choose : (s : State) (lines : ℕ) (r r′ : Choice) → ChooseMeets s lines r → ChooseMeets s lines r′ → r ≡ r′
+  pub step : (s : State) (m : Buffers) (lines : ℕ) (r r′ : Stepped) (sys sys′ io io′ : List ℕ)
+      → StepMeets s m lines r sys io → StepMeets s m lines r′ sys′ io′ → Same r r′ sys sys′ io io′
+  pub run : (m : Buffers) (cp channel lines limit : ℕ) (r r′ : Ran) (sys sys′ io io′ : List ℕ)
+      → RunMeets m cp channel lines limit r sys io → RunMeets m cp channel lines limit r′ sys′ io′ → Same r r′ sys sys′ io io′
+  pub call : (m : Buffers) (cp channel lines limit : ℕ) (r r′ : ℕ) (sys sys′ io io′ : List ℕ)
+      → CallMeets m cp channel lines limit r sys io → CallMeets m cp channel lines limit r′ sys′ io′ → Same r r′ sys sys′ io io′
