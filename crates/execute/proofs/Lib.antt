@@ -4,4 +4,3 @@ pub mod NumberLaws
 pub mod MemoryLaws
 pub mod PointerLaws
 pub mod ChannelLaws
-pub mod Cases

@@ -96,23 +96,30 @@ doubleword-back m t a offset segment h₀ h₁ h₂ h₃ =
     (ap₂ wordOf (rw add-zero at (kept 0 (lit< tt))) (kept 1 (lit< tt)) ∙ word-back m t a offset h₀ h₁)
     (word-back m₁ t (a + 2) segment (word-lent m t a offset t (a + 2) ∙ h₂) (word-lent m t a offset t (a + 2 + 1) ∙ ap (lentAt m t) fourth ∙ h₃))
 
--- a pointer stored in three lent bytes reads back in 20 bits and tag
-pub pointer-back : (m : Buffers) (t : Bool) (a : ℕ) (p : Pointer) → lentAt m t a ≡ true → lentAt m t (a + 1) ≡ true → lentAt m t (a + 2) ≡ true
-    → pointerAt (storePointer m t a p) t a ≡ pointer (p .address % 1048576) (p .tag)
-unfolding pointerAt storePointer
-pointer-back m t a p h₀ h₁ h₂ =
+-- the three bytes of a stored pointer, where they are lent
+pub pointer-bytes : (m : Buffers) (t : Bool) (a : ℕ) (p : Pointer) → lentAt m t a ≡ true → lentAt m t (a + 1) ≡ true → lentAt m t (a + 2) ≡ true
+    → (byteAt (storePointer m t a p) t a ≡ storedLow (p .address))
+    × (byteAt (storePointer m t a p) t (a + 1) ≡ storedMiddle (p .address))
+    × (byteAt (storePointer m t a p) t (a + 2) ≡ storedHigh (p .address) (p .tag))
+unfolding storePointer
+pointer-bytes m t a p h₀ h₁ h₂ =
     let x₀ = storedLow (p .address) in
     let x₁ = storedMiddle (p .address) in
     let x₂ = storedHigh (p .address) (p .tag) in
     let m₁ = storeByte m t a x₀ in
-    let m₂ = storeByte m₁ t (a + 1) x₁ in
-    let b₀ : byteAt (storeByte m₂ t (a + 2) x₂) t a ≡ x₀ =
-    read-other m₂ t (a + 2) x₂ t a (after t a 2 (lit< tt) (lit< tt))
-    ∙ read-other m₁ t (a + 1) x₁ t a (after t a 1 (lit< tt) (lit< tt))
-    ∙ read-same m t a x₀ h₀ in
-    let b₁ : byteAt (storeByte m₂ t (a + 2) x₂) t (a + 1) ≡ x₁ =
-    read-other m₂ t (a + 2) x₂ t (a + 1) (later t a 1 2 (lit< tt) (lit< tt))
-    ∙ read-same m₁ t (a + 1) x₁ (store-lent m t t a (a + 1) x₀ ∙ h₁) in
-    let b₂ : byteAt (storeByte m₂ t (a + 2) x₂) t (a + 2) ≡ x₂ =
-    read-same m₂ t (a + 2) x₂ (store-lent m₁ t t (a + 1) (a + 2) x₁ ∙ store-lent m t t a (a + 2) x₀ ∙ h₂) in
-    rw (b₀, b₁, b₂) (ap₂ pointer (address-back (p .address) (p .tag)) (tag-kept (p .address) (p .tag)))
+    let m₂ = storeByte m₁ t (a + 1) x₁ in (
+      read-other m₂ t (a + 2) x₂ t a (after t a 2 (lit< tt) (lit< tt))
+          ∙ read-other m₁ t (a + 1) x₁ t a (after t a 1 (lit< tt) (lit< tt))
+          ∙ read-same m t a x₀ h₀,
+      read-other m₂ t (a + 2) x₂ t (a + 1) (later t a 1 2 (lit< tt) (lit< tt))
+          ∙ read-same m₁ t (a + 1) x₁ (store-lent m t t a (a + 1) x₀ ∙ h₁),
+      read-same m₂ t (a + 2) x₂ (store-lent m₁ t t (a + 1) (a + 2) x₁ ∙ store-lent m t t a (a + 2) x₀ ∙ h₂),
+    )
+
+-- so it reads back in 20 bits and tag
+pub pointer-back : (m : Buffers) (t : Bool) (a : ℕ) (p : Pointer) → lentAt m t a ≡ true → lentAt m t (a + 1) ≡ true → lentAt m t (a + 2) ≡ true
+    → pointerAt (storePointer m t a p) t a ≡ pointer (p .address % 1048576) (p .tag)
+unfolding pointerAt
+pointer-back m t a p h₀ h₁ h₂ =
+    let b = pointer-bytes m t a p h₀ h₁ h₂ in
+    rw (b .0, b .1, b .2) (ap₂ pointer (address-back (p .address) (p .tag)) (tag-kept (p .address) (p .tag)))

@@ -1,31 +1,73 @@
--- Cases 8 to 11 of the table, each by demand 3: the total is computed, and the transfer ends there.
+-- The totals of a transfer by its sides, and the bytes of pointers: what cases 5, 6 and 8 to 11 of the table rest on.
 -- Assumes nothing.
-use Prim.Native.Nat.{ℕ, _+_, _/_, _≤_}
-use lib.Dec.{lit≤}
+use Prim.Native.Nat.{ℕ, zero, suc, _+_, _/_, _%_, _<_, _≤_}
+use lib.Dec.{lit<}
+use lib.ListN.{length, getD}
 use mathlib.Core.Bool.{Bool, true, false}
-use mathlib.Core.Path.{_≡_, subst, _∙_}
+use mathlib.Core.List.{List}
+use mathlib.Core.Path.{_≡_, sym, ap, ap₂, subst, _∙_}
+use native.Mathlib.Nat.{add-zero}
 use native.Mathlib.Omega.{arith}
 use Rattle.machine.specs.States.{channelOf}
 use Rattle.machine.specs.declared.Channel.{Channel}
-use Rattle.machine.specs.declared.State.{State}
-use Rattle.memory.specs.Buffers.{Buffers}
+use Rattle.memory.proofs.StoreLaws.{store-lent, pointer-bytes}
+use Rattle.memory.specs.Buffers.{Buffers, lentAt, byteAt}
+use Rattle.memory.specs.Values.{wordAt, doublewordAt, storePointer}
+use Rattle.memory.specs.declared.Pointer.{Pointer}
 use Rattle.transfer.proofs.BlockLaws.{word-narrow, word-odd, word-even}
 use Rattle.transfer.specs.Sides.{source, destination}
+use Rattle.words.specs.Bytes.{wordOf}
+use Rattle.words.specs.Sums.{addressOf}
 use Rattle.promises.specs.Calls.{EndsAtCall}
-use Rattle.promises.specs.Cases.{Both8, Both16, From16Into8, Odd, BothEven, BothOdd}
-use Rattle.promises.specs.Premises.{from, Copy}
+use Rattle.promises.specs.Cases.{Stand, storedForm, Both8, Both16Even, Both16Odd, From16OddInto8, Takes}
+use Rattle.promises.specs.Premises.{Lent}
 use Rattle.promises.specs.Totals.{narrow, total}
 use Rattle.promises.proofs.CountLaws.{total-narrow, total-wide, alone-none, alone-one}
+use Rattle.promises.proofs.InstructionLaws.{word-at}
 use Rattle.promises.proofs.MachineLaws.{demand3-calls}
 
--- demand 3 at a total that is known
-ends : {b : Bool} {n : ℕ} {s : State} {m : Buffers} (k : ℕ) → Copy n (channelOf s b) m → total (channelOf s b) n ≡ k → EndsAtCall b n s m k
-ends {b} {n} {s} {m} k p e = subst (λ (x : ℕ). EndsAtCall b n s m x) e (demand3-calls p)
+-- ---- pointers
+
+-- a stored pointer stands in memory as its three bytes
+pub stored-stands : (m : Buffers) (at : Pointer) (p : Pointer) → Lent m at 3 → Stand (storePointer m (at .tag) (at .address) p) at (storedForm p)
+unfolding storePointer
+stored-stands m at p h = record { lent = lent; read = read }
+  where
+    t : Bool
+    t = at .tag
+
+    a : ℕ
+    a = at .address
+
+    lent : Lent (storePointer m t a p) at 3
+    lent i k =
+        store-lent _ t t (a + 2) (a + i) _ ∙ store-lent _ t t (a + 1) (a + i) _ ∙ store-lent m t t a (a + i) _ ∙ h i k
+
+    bytes : (byteAt (storePointer m t a p) t a ≡ getD (storedForm p) 0 0) × (byteAt (storePointer m t a p) t (a + 1) ≡ getD (storedForm p) 1 0)
+        × (byteAt (storePointer m t a p) t (a + 2) ≡ getD (storedForm p) 2 0)
+    bytes = pointer-bytes m t a p (ap (lentAt m t) (sym (add-zero a)) ∙ h 0 (lit< tt)) (h 1 (lit< tt)) (h 2 (lit< tt))
+
+    read : (i : ℕ) → i < 3 → byteAt (storePointer m t a p) t (a + i) ≡ getD (storedForm p) i 0
+    read zero k = ap (byteAt (storePointer m t a p) t) (add-zero a) ∙ bytes .0
+    read (suc zero) k = bytes .1
+    read (suc (suc zero)) k = bytes .2
+    read (suc (suc (suc i))) k = absurd (omega arith)
+
+-- four bytes give the address of their offset and segment
+pub pointer-given : (m : Buffers) (at : Pointer) (bytes : List ℕ) → Stand m at bytes → 3 < length bytes
+    → doublewordAt m (at .tag) (at .address) ≡ addressOf (wordOf (getD bytes 0 0) (getD bytes 1 0)) (wordOf (getD bytes 2 0) (getD bytes 3 0))
+unfolding doublewordAt
+pointer-given m at bytes there h =
+    ap₂ addressOf
+    (ap (wordAt m (at .tag)) (sym (add-zero (at .address))) ∙ word-at there 0 (omega arith))
+    (word-at there 2 (omega arith))
+
+-- ---- totals
 
 -- both widths 8: n
-pub total-8 : (c : Channel) (n : ℕ) → Both8 c → total c n ≡ n
+pub total-8 : (c : Channel) (n : ℕ) → Both8 c → 1 ≤ n → total c n ≡ n
 unfolding narrow
-total-8 c n w = total-narrow c n (rw (w .0, w .1))
+total-8 c n w h = total-narrow c n (rw (w .0, w .1))
 
 -- a source of 16 bits is wide
 wide-16 : (c : Channel) → (source c) .wide ≡ true → narrow c ≡ false
@@ -33,54 +75,25 @@ unfolding narrow
 wide-16 c w = rw w
 
 -- both 16 and even: half of n, rounded up
-pub total-even : (c : Channel) (n : ℕ) → Both16 c → BothEven c → total c n ≡ (n + 1) / 2
-total-even c n w e =
-    total-wide c n (wide-16 c (w .0))
-    ∙ rw (alone-none c (rw (word-even (source c) (w .0) (e .0)))) (omega arith)
+pub total-even : (c : Channel) (n : ℕ) → Both16Even c → 1 ≤ n → total c n ≡ (n + 1) / 2
+total-even c n w h =
+    total-wide c n (wide-16 c (w .0 .0))
+    ∙ rw (alone-none c (rw (word-even (source c) (w .0 .0) (w .1)))) (omega arith)
 
 -- both 16 and odd: one byte, then half of the others, rounded up
-pub total-odd : (c : Channel) (n : ℕ) → Both16 c → BothOdd c → 1 ≤ n → total c n ≡ 1 + n / 2
-total-odd c n w o h =
-    total-wide c n (wide-16 c (w .0))
-    ∙ rw (alone-one c (rw (word-odd (source c) (o .0), word-odd (destination c) (o .1)))) (omega arith)
+pub total-odd : (c : Channel) (n : ℕ) → Both16Odd c → 1 ≤ n → total c n ≡ 1 + n / 2
+total-odd c n w h =
+    total-wide c n (wide-16 c (w .0 .0))
+    ∙ rw (alone-one c (rw (word-odd (source c) (w .1), word-odd (destination c) (w .2)))) (omega arith)
 
 -- so too from 16 at an odd address into 8
-pub total-mixed : (c : Channel) (n : ℕ) → From16Into8 c → Odd (from c .address) → 1 ≤ n → total c n ≡ 1 + n / 2
-total-mixed c n w o h =
+pub total-mixed : (c : Channel) (n : ℕ) → From16OddInto8 c → 1 ≤ n → total c n ≡ 1 + n / 2
+total-mixed c n w h =
     total-wide c n (wide-16 c (w .0))
-    ∙ rw (alone-one c (rw (word-odd (source c) o, word-narrow (destination c) (w .1)))) (omega arith)
+    ∙ rw (alone-one c (rw (word-odd (source c) (w .2), word-narrow (destination c) (w .1)))) (omega arith)
 
--- a count of 0 stands for 65,536
-pub zero-stands : {n : ℕ} {c : Channel} {m : Buffers} → Copy n c m → c .bc ≡ 0 → n ≡ 65536
-zero-stands p z = omega (arith, p .some, p .most, p .count)
-
--- ---- the cases, for either channel of any state
-
-module _ {b : Bool} {s : State} {m : Buffers} where
-  -- 8. "Both widths 8, n 5: 5 steps"
-  pub case-8-narrow : Copy 5 (channelOf s b) m → Both8 (channelOf s b) → EndsAtCall b 5 s m 5
-  case-8-narrow p w = ends 5 p (total-8 (channelOf s b) 5 w)
-
-  -- 8. "both 16 and even: 3"
-  pub case-8-even : Copy 5 (channelOf s b) m → Both16 (channelOf s b) → BothEven (channelOf s b) → EndsAtCall b 5 s m 3
-  case-8-even p w e = ends 3 p (total-even (channelOf s b) 5 w e)
-
-  -- 9. "Both 16, both odd: n 1, 1 step"
-  pub case-9-one : Copy 1 (channelOf s b) m → Both16 (channelOf s b) → BothOdd (channelOf s b) → EndsAtCall b 1 s m 1
-  case-9-one p w o = ends 1 p (total-odd (channelOf s b) 1 w o (lit≤ tt))
-
-  -- 9. "n 4, 3"
-  pub case-9-four : Copy 4 (channelOf s b) m → Both16 (channelOf s b) → BothOdd (channelOf s b) → EndsAtCall b 4 s m 3
-  case-9-four p w o = ends 3 p (total-odd (channelOf s b) 4 w o (lit≤ tt))
-
-  -- 10. "Both 16: n 0 takes 32,768 steps even"
-  pub case-10-even : {n : ℕ} → Copy n (channelOf s b) m → channelOf s b .bc ≡ 0 → Both16 (channelOf s b) → BothEven (channelOf s b) → EndsAtCall b n s m 32768
-  case-10-even {n} p z w e = ends 32768 p (total-even (channelOf s b) n w e ∙ omega (arith, zero-stands p z))
-
-  -- 10. "32,769 odd"
-  pub case-10-odd : {n : ℕ} → Copy n (channelOf s b) m → channelOf s b .bc ≡ 0 → Both16 (channelOf s b) → BothOdd (channelOf s b) → EndsAtCall b n s m 32769
-  case-10-odd {n} p z w o = ends 32769 p (total-odd (channelOf s b) n w o (p .some) ∙ omega (arith, zero-stands p z))
-
-  -- 11. "Source 16 at an odd address, destination 8, n 2: 2"
-  pub case-11 : Copy 2 (channelOf s b) m → From16Into8 (channelOf s b) → Odd (from (channelOf s b) .address) → EndsAtCall b 2 s m 2
-  case-11 p w o = ends 2 p (total-mixed (channelOf s b) 2 w o (lit≤ tt))
+-- a transfer whose total is known of every n ends there; n is what its first count stands for, 0 for 65,536
+pub takes : {sides : Channel → Type 0} {count k : ℕ} {of : ℕ → ℕ} → ((c : Channel) (n : ℕ) → sides c → 1 ≤ n → total c n ≡ of n)
+    → ((n : ℕ) → 1 ≤ n → n ≤ 65536 → count ≡ n % 65536 → of n ≡ k) → Takes sides count k
+takes known at b s m n p z w =
+    subst (λ (x : ℕ). EndsAtCall b n s m x) (known (channelOf s b) n w (p .some) ∙ at n (p .some) (p .most) (sym z ∙ p .count)) (demand3-calls p)

@@ -4,7 +4,7 @@ use Prim.Native.Nat.{ℕ, _<_}
 use borrow.Author.Tests.{eqb-false}
 use lib.Dec.{lit<}
 use mathlib.Core.Bool.{Bool, true, not}
-use mathlib.Core.Logic.{⊎-elim, _⊎_}
+use mathlib.Core.Logic.{⊎-elim}
 use mathlib.Core.Path.{_≡_, refl, sym, subst, ap, _∙_}
 use native.Mathlib.Nat.{mod-eq-of-lt}
 use Rattle.attention.proofs.Outcomes.{accepted-order, other-channel, shared-kept, registers-kept}

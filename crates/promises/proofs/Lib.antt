@@ -5,7 +5,12 @@ pub mod CopyLaws
 pub mod Demand3
 pub mod CallLaws
 pub mod MachineLaws
+pub mod InstructionLaws
 pub mod CaseLaws
+pub mod TurnLaws
+pub mod TurnWitness
+pub mod InstructionWitness
+pub mod Table
 pub mod WitnessLaws
 pub mod CallWitness
 pub mod RunLaws

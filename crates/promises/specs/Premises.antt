@@ -1,6 +1,6 @@
 -- Demand 3, what is asked of the start: "a transfer of a running channel from block to block, unsynchronised, without translation, with byte count
 -- as its only enabled end and n as its first count".
-use mathlib.Core.Bool.{Bool, true, false}
+use mathlib.Core.Bool.{true, false}
 use mathlib.Core.Path.{_≡_}
 use Prim.Native.Nat.{ℕ, _+_, _%_, _<_, _≤_}
 use Rattle.memory.specs.declared.Pointer.{Pointer}

@@ -1,14 +1,16 @@
 -- Two transfers that meet every premise of demand 3, in numbers: five bytes from system address 0, by bytes to I/O address 16 and by words to
--- system address 8.
+-- system address 8; and a program that meets those of the cases with an instruction.
 use mathlib.Core.Bool.{Bool, true, false}
-use mathlib.Core.List.{List, [], _∷_}
+use mathlib.Core.List.{List, [], _∷_, _++_}
 use Prim.Native.Nat.{ℕ}
+use lib.ListN.{replicate}
 use Rattle.memory.specs.declared.Pointer.{Pointer}
 use Rattle.memory.specs.Values.{pointer}
 use Rattle.memory.specs.Buffers.{Buffers, buffers}
 use Rattle.machine.specs.declared.Channel.{Channel}
 use Rattle.machine.specs.declared.Mode.the-variants.{Running}
 use Rattle.machine.specs.declared.State.{State}
+use Rattle.machine.specs.States.{idleChannel}
 
 -- a running channel with these registers; the others are 0
 unfoldable pub channelWith : Pointer → Pointer → ℕ → ℕ → ℕ → ℕ → Channel
@@ -60,3 +62,11 @@ memoryStart = memoryWith (six 0 0 0 0 0) (six 0 0 0 0 0)
 -- channel 1 with the first transfer, channel 2 with the second
 unfoldable pub bothWith : Channel → Channel → Bool → State
 bothWith c d last = record { first = c; second = d; cp = 0; last = last }
+
+-- channel 1 runs a program at an address of system memory with its registers at 0, channel 2 is idle
+abbrev pub programAt : ℕ → State
+programAt tp = bothWith (channelWith (pointer 0 false) (pointer 0 false) tp 0 0 4) idleChannel true
+
+-- zeros up to an address, then these bytes
+abbrev pub bytesFrom : ℕ → List ℕ → Buffers
+bytesFrom address code = buffers (replicate address 0 ++ code) []

@@ -4,4 +4,3 @@ pub mod OutcomeLaws
 pub mod NumberLaws
 pub mod TouchedLaws
 pub mod SoundLaws
-pub mod CaseLaws

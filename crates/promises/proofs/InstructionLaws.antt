@@ -1,0 +1,146 @@
+-- An instruction with an immediate to a register: from its bytes at TP to the end of its step.
+-- Assumes nothing.
+use Prim.Native.Nat.{ℕ, _+_, _-_, _%_, _<_}
+use borrow.Author.Tests.{eq-eqb}
+use lib.ListN.{length, getD}
+use mathlib.Core.Bool.{Bool, true, false}
+use mathlib.Core.List.{List}
+use mathlib.Core.Path.{_≡_, refl, sym, ap, ap₂, _∙_}
+use native.Mathlib.Nat.{add-zero, add-assoc}
+use native.Mathlib.Omega.{arith}
+use Rattle.decode.specs.Lengths.{dataLength, displacementLength, lengthOf}
+use Rattle.decode.specs.Reading.{decodeOf}
+use Rattle.decode.specs.declared.Decoded.the-variants.{Instruction}
+use Rattle.decode.specs.declared.Shape.the-variants.{RegisterImmediate}
+use Rattle.decode.specs.declared.Work.{Work}
+use Rattle.deeds.specs.Deeds.{effectOf}
+use Rattle.deeds.specs.RegisterForms.{written, registerImmediateDeed}
+use Rattle.deeds.specs.declared.Effect.{Effect}
+use Rattle.execute.proofs.CodeLaws.{plan-read, shape-done}
+use Rattle.execute.specs.Execute.{decodedAt, performed, deedOf, laterBytes, deedFrom, numberFrom, Executed, executed, executeOf}
+use Rattle.machine.proofs.ChannelLaws.{put-same, last-channel}
+use Rattle.machine.specs.Outcomes.{unless, first}
+use Rattle.machine.specs.Psw.{transferring}
+use Rattle.machine.specs.Registers.{registerOf}
+use Rattle.machine.specs.States.{channelOf, withChannel}
+use Rattle.machine.specs.declared.Channel.{Channel}
+use Rattle.machine.specs.declared.State.{State}
+use Rattle.memory.proofs.PlaceLaws.{index-reduced, index-after, lent-index, byte-reduced, word-reduced}
+use Rattle.memory.specs.Buffers.{Buffers, lentAt, byteAt}
+use Rattle.memory.specs.Places.{span, allLent}
+use Rattle.memory.specs.Values.{wordAt}
+use Rattle.memory.specs.declared.Pointer.{Pointer}
+use Rattle.operands.specs.Changes.{placesOf, changed}
+use Rattle.operands.specs.Operands.{onward, bytesAt, sizeOf, advanced, operandAt, workOf}
+use Rattle.step.specs.Step.{Step, doneStep, settledStep, busyOf, instructionStep, channelStep, chosenStep, entryNumber, stepOf}
+use Rattle.step.specs.declared.Kind.the-variants.{Instruction as AnInstruction}
+use Rattle.words.specs.Bytes.{wordOf}
+use Rattle.words.specs.Choice.{pick}
+use Rattle.words.specs.Signs.{extended}
+use Rattle.promises.specs.Calls.{Turn}
+use Rattle.promises.specs.Cases.{Stand, Executes}
+
+-- ---- bytes that stand at a place
+
+-- the immediate of an instruction, in its bytes
+abbrev pub immediateOf : List ℕ → Bool → ℕ
+immediateOf code wide = pick wide (extended 16 (wordOf (getD code 2 0) (getD code 3 0))) (extended 8 (getD code 2 0))
+
+module _ {m : Buffers} {p : Pointer} {bytes : List ℕ} (there : Stand m p bytes) where
+  -- the first byte stands at the place itself
+  first-byte : 0 < length bytes → byteAt m (p .tag) (p .address) ≡ getD bytes 0 0
+  first-byte h = ap (byteAt m (p .tag)) (sym (add-zero (p .address))) ∙ there .read 0 h
+
+  -- the others at the addresses after it, reduced or not
+  pub byte-on : (i : ℕ) → i < length bytes → byteAt m (p .tag) ((p .address + i) % 1048576) ≡ getD bytes i 0
+  byte-on i h = byte-reduced m (p .tag) (p .address + i) ∙ there .read i h
+
+  -- and so do words
+  pub word-at : (i : ℕ) → i + 1 < length bytes → wordAt m (p .tag) (p .address + i) ≡ wordOf (getD bytes i 0) (getD bytes (i + 1) 0)
+  unfolding wordAt
+  word-at i h = ap₂ wordOf (there .read i (omega arith)) (ap (byteAt m (p .tag)) (add-assoc (p .address) i 1) ∙ there .read (i + 1) h)
+
+  -- the first two are what is decoded
+  pub decoded : 1 < length bytes → decodedAt m p ≡ decodeOf (getD bytes 0 0) (getD bytes 1 0)
+  unfolding decodedAt onward
+  decoded h = ap₂ decodeOf (first-byte (omega arith)) (byte-on 1 h)
+
+  -- they are lent
+  pub pair-lent : 1 < length bytes → allLent m (bytesAt p 2) ≡ true
+  unfolding allLent span
+  pair-lent h =
+      let e : lentAt m (p .tag) (p .address) ≡ true = ap (lentAt m (p .tag)) (sym (add-zero (p .address))) ∙ there .lent 0 (omega arith) in
+      rw (e, there .lent 1 h)
+
+  -- and so is the data after them
+  pub data-lent : (wide : Bool) → 1 + sizeOf wide < length bytes → allLent m (bytesAt (onward p 2) (sizeOf wide)) ≡ true
+  unfolding allLent span onward
+  data-lent false h = rw (lent-index m (p .tag) ((p .address + 2) % 1048576) (p .address + 2) (index-reduced (p .tag) (p .address + 2)), there .lent 2 h)
+  data-lent true h =
+      let e : lentAt m (p .tag) ((p .address + 2) % 1048576 + 1) ≡ true =
+      lent-index m (p .tag) ((p .address + 2) % 1048576 + 1) (p .address + 2 + 1) (index-after (p .tag) (p .address + 2) 1)
+      ∙ ap (lentAt m (p .tag)) (add-assoc (p .address) 2 1)
+      ∙ there .lent 3 h in
+      rw (e, lent-index m (p .tag) ((p .address + 2) % 1048576) (p .address + 2) (index-reduced (p .tag) (p .address + 2)), there .lent 2 (omega arith))
+
+  -- which is the immediate
+  pub immediate-read : (wide : Bool) → 1 + sizeOf wide < length bytes → operandAt m (onward p 2) wide ≡ immediateOf bytes wide
+  unfolding operandAt onward
+  immediate-read false h = ap (extended 8) (byte-on 2 h)
+  immediate-read true h = ap (extended 16) (word-reduced m (p .tag) (p .address + 2) ∙ word-at 2 h)
+
+-- ---- the instruction
+
+-- the channel after it
+abbrev pub immediateDone : Work → ℕ → Bool → Channel → List ℕ → Channel
+immediateDone work r wide c code =
+    let c′ = advanced c (lengthOf (RegisterImmediate work r wide)) in
+    written work c′ r (workOf work (registerOf c′ r) (immediateOf code wide))
+
+-- it has its pair and the data
+data-length : (work : Work) (r : ℕ) (wide : Bool) → lengthOf (RegisterImmediate work r wide) - 2 ≡ sizeOf wide
+unfolding lengthOf dataLength displacementLength
+data-length work r true = refl
+data-length work r false = refl
+
+-- so where all of it is there the pair is
+pair-there : (wide : Bool) (n : ℕ) → 1 + sizeOf wide < n → 1 < n
+pair-there false n h = omega arith
+pair-there true n h = omega arith
+
+-- it is done: the channel gets the immediate, no byte changes
+pub immediate-executed : (work : Work) (r : ℕ) (wide : Bool) (m : Buffers) (c : Channel) (code : List ℕ) → Stand m (c .tp) code → 1 + sizeOf wide < length code
+    → decodeOf (getD code 0 0) (getD code 1 0) ≡ Instruction (RegisterImmediate work r wide) → (busy : ℕ)
+    → executeOf c busy m ≡ executed 0 (immediateDone work r wide c code) m
+unfolding executeOf changed numberFrom deedFrom deedOf performed registerImmediateDeed effectOf placesOf laterBytes allLent first unless
+immediate-executed work r wide m c code there whole e busy =
+    let pair = pair-there wide (length code) whole in
+    let shape = RegisterImmediate work r wide in
+    ap (λ (x : Effect). executed (x .number) (x .channel) (changed m (x .change)))
+    (plan-read m c busy (Instruction shape) (pair-lent there pair) (decoded there pair ∙ e)
+    ∙ shape-done shape m c busy (ap (λ (n : ℕ). allLent m (bytesAt (onward (c .tp) 2) n)) (data-length work r wide) ∙ data-lent there wide whole) refl refl)
+    ∙ ap (λ (v : ℕ). executed 0 (written work (advanced c (lengthOf shape)) r (workOf work (registerOf (advanced c (lengthOf shape)) r) v)) m) (immediate-read there wide whole)
+
+-- ---- its step
+
+-- a channel's turn without XF is its instruction
+pub turn-executes : (b : Bool) (s : State) (m : Buffers) (lines : ℕ) → Turn b s m lines → transferring (channelOf s b .psw) ≡ false → stepOf s m lines ≡ instructionStep s m b
+unfolding stepOf chosenStep channelStep
+turn-executes b s m lines t x = rw (eq-eqb (entryNumber s m lines) 0 (t .entered), t .chosen, x)
+
+module _ (b : Bool) (s : State) (m : Buffers) (lines : ℕ) {code : List ℕ} (work : Work) (r : ℕ) (wide : Bool) where
+  -- the step is done, and the channel is as the instruction leaves it
+  pub immediate-step : 1 + sizeOf wide < length code → decodeOf (getD code 0 0) (getD code 1 0) ≡ Instruction (RegisterImmediate work r wide)
+      → Executes b s m lines code
+      → ((stepOf s m lines) .number ≡ 0) × (channelOf ((stepOf s m lines) .state) b ≡ immediateDone work r wide (channelOf s b) code)
+  unfolding instructionStep settledStep
+  immediate-step h e x = (ap (λ (o : Step). o .number) step, ap (λ (o : Step). channelOf (o .state) b) step ∙ last-channel (withChannel s b after) b b ∙ put-same s b after)
+    where
+      after : Channel
+      after = immediateDone work r wide (channelOf s b) code
+
+      step : stepOf s m lines ≡ doneStep s b after m AnInstruction
+      step =
+          turn-executes b s m lines (x .turn) (x .program)
+          ∙ ap (λ (y : Executed). settledStep (y .number) s m b (y .channel) (y .memory) AnInstruction)
+          (immediate-executed work r wide m (channelOf s b) code (x .there) h e (busyOf s b))

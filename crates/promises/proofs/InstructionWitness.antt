@@ -1,0 +1,49 @@
+-- The premises of the cases with an instruction are met: any bytes at any address of system memory, executed by channel 1.
+-- Assumes nothing.
+use Prim.Native.Nat.{ℕ, _+_, _%_, _<_, _≤_}
+use borrow.Author.Tests.{lt-ltb, le-leb}
+use lib.ListN.{length, getD, replicate, length-append, length-replicate}
+use lib.Seq.{getD-append-add}
+use mathlib.Core.Bool.{true, false}
+use mathlib.Core.List.{List, _++_}
+use mathlib.Core.Path.{_≡_, refl}
+use native.Mathlib.Omega.{arith}
+use Rattle.machine.specs.Outcomes.{unless, first, givenNumber}
+use Rattle.machine.specs.States.{idleChannel, channelOf, soundChannel, sound, isRunning}
+use Rattle.memory.specs.Buffers.{spaceOf, limitOf, indexOf, lentAt, byteAt, withinLimits}
+use Rattle.memory.specs.Values.{pointer}
+use Rattle.step.specs.Choosing.{requested, external, endsNow, transferRank, rankOf, secondWins, ranked, choiceOf}
+use Rattle.step.specs.Step.{entryNumber}
+use Rattle.words.specs.Bits.{bitOf}
+use Rattle.promises.specs.Cases.{Stand, Executes}
+use Rattle.promises.specs.Witness.{channelWith, bothWith, programAt, bytesFrom}
+
+module _ (a : ℕ) (code : List ℕ) (fits : a + length code ≤ 1048576) where
+  -- memory ends with the bytes
+  ends : length (replicate a 0 ++ code) ≡ a + length code
+  ends = simp (length-append, length-replicate)
+
+  -- an address of one of them is not reduced
+  place : (i : ℕ) → i < length code → (a + i) % 1048576 ≡ a + i
+  place i h = omega arith
+
+  -- they stand there
+  stand : Stand (bytesFrom a code) (pointer a false) code
+  unfolding lentAt byteAt spaceOf indexOf limitOf
+  stand = record { lent = lent; read = read }
+    where
+      lent : (i : ℕ) → i < length code → lentAt (bytesFrom a code) false (a + i) ≡ true
+      lent i h = rw (place i h, ends) (lt-ltb (a + i) (a + length code) (omega arith))
+
+      read : (i : ℕ) → i < length code → byteAt (bytesFrom a code) false (a + i) ≡ getD code i 0
+      read i h = rw (place i h) (rw length-replicate at (getD-append-add (replicate a 0) code i 0))
+
+  -- no number refuses the call
+  entered : a < 1048576 → entryNumber (programAt a) (bytesFrom a code) 0 ≡ 0
+  unfolding entryNumber givenNumber first unless withinLimits limitOf sound soundChannel bothWith channelWith idleChannel
+  entered h = rw (ends, le-leb (a + length code) 1048576 fits, lt-ltb a 1048576 h)
+
+  -- and it is channel 1's turn to execute them
+  pub executes-met : a < 1048576 → Executes false (programAt a) (bytesFrom a code) 0 code
+  unfolding channelOf bothWith channelWith idleChannel bitOf choiceOf ranked secondWins rankOf transferRank endsNow external requested isRunning
+  executes-met h = record { turn = record { entered = entered h; chosen = refl }; program = refl; there = stand }
