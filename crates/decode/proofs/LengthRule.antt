@@ -8,15 +8,16 @@ use native.Mathlib.Omega.{arith}
 use lib.Dec.{T, eqb, leb}
 use borrow.Author.Tests.{eqb-true, eqb-false}
 use Rattle.words.specs.Choice.{pick}
-use Rattle.decode.specs.Pairs.{Column, columns, meets, pairOf, wideOf, twoOf, memoryOf}
-use Rattle.decode.specs.Pairs.Column.{'0, '1, '00, '10, '11, '000, 'PPP, 'AA, 'W, 'MM, 'dd, 'wb}
+use Rattle.shapes.specs.Pairs.{Column, meets, pairOf, wideOf, twoOf, memoryOf}
+use Rattle.shapes.specs.Pairs.Column.{'0, '1, '00, '10, '11, '000, 'PPP, 'AA, 'W, 'MM, 'dd, 'wb}
+use Rattle.shapes.specs.Rows.{isControl}
+use Rattle.shapes.specs.declared.pairs.Pair.{Pair}
+use Rattle.shapes.specs.declared.Shape.{Shape}
+use Rattle.shapes.specs.declared.Shape.the-variants.{Lpdi, MovMemory, Tsl}
+use Rattle.shapes.specs.declared.Decoded.the-variants.{Instruction, NoInstruction, ControlUsed}
 use Rattle.decode.specs.Table.{Row, row, table, accepts}
-use Rattle.decode.specs.Reading.{fits, isControl, lookup, decodeOf}
+use Rattle.decode.specs.Reading.{fits, lookup, decodeOf}
 use Rattle.decode.specs.Lengths.{offsetBy, moreBy, dataLength, displacementLength, lengthOf, noteLength}
-use Rattle.decode.specs.declared.pairs.Pair.{Pair}
-use Rattle.decode.specs.declared.Shape.{Shape}
-use Rattle.decode.specs.declared.Shape.the-variants.{Lpdi, MovMemory, Tsl}
-use Rattle.decode.specs.declared.Decoded.the-variants.{Instruction, NoInstruction, ControlUsed}
 
 infixr 20 _▸_
 -- the bytes that dd announces

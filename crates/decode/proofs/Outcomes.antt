@@ -9,16 +9,17 @@ use lib.Dec.{T, eqb}
 use borrow.Author.Tests.{eqb-true, eq-eqb, eqb-false}
 use Rattle.words.specs.Bits.{fieldOf}
 use Rattle.words.specs.Choice.{pick}
-use Rattle.decode.specs.Pairs.{pairOf, columns}
+use Rattle.shapes.specs.Pairs.{pairOf, columns}
+use Rattle.shapes.specs.Rows.{isControl}
+use Rattle.shapes.specs.declared.pairs.Pair.{Pair}
+use Rattle.shapes.specs.declared.Work.{Work}
+use Rattle.shapes.specs.declared.Shape.{Shape}
+use Rattle.shapes.specs.declared.Shape.the-variants.{RegisterImmediate, Hlt, Call}
+use Rattle.shapes.specs.declared.Decoded.{Decoded}
+use Rattle.shapes.specs.declared.Decoded.the-variants.{Instruction, NoInstruction, ControlUsed}
+use Rattle.shapes.specs.declared.Second.{Second}
 use Rattle.decode.specs.Table.{Row, table}
-use Rattle.decode.specs.Reading.{fits, isControl, lookup, decodeOf, numberOf, secondOf, secondNumberOf, fitsSome, usesControl}
-use Rattle.decode.specs.declared.pairs.Pair.{Pair}
-use Rattle.decode.specs.declared.Work.{Work}
-use Rattle.decode.specs.declared.Shape.{Shape}
-use Rattle.decode.specs.declared.Shape.the-variants.{RegisterImmediate, Hlt, Call}
-use Rattle.decode.specs.declared.Decoded.{Decoded}
-use Rattle.decode.specs.declared.Decoded.the-variants.{Instruction, NoInstruction, ControlUsed}
-use Rattle.decode.specs.declared.Second.{Second}
+use Rattle.decode.specs.Reading.{fits, lookup, decodeOf, numberOf, secondOf, fitsSome, usesControl}
 use Rattle.decode.proofs.TableLaws.{left, right}
 
 -- two answers to a first pair that meet the contract are equal

@@ -9,14 +9,15 @@ use lib.ListN.{getD}
 use borrow.Author.Tests.{eqb-true, eq-eqb, ne-eqb}
 use Rattle.words.specs.Bits.{bitOf}
 use Rattle.words.specs.Choice.{pick}
-use Rattle.decode.specs.Pairs.{columns}
-use Rattle.decode.specs.Pairs.Column.{'0, '00, '000, '010, '011, '1SD}
+use Rattle.shapes.specs.Pairs.{columns}
+use Rattle.shapes.specs.Pairs.Column.{'0, '00, '000, '010, '011, '1SD}
+use Rattle.shapes.specs.Rows.{reading, isControl}
+use Rattle.shapes.specs.declared.pairs.Pair.{Pair}
+use Rattle.shapes.specs.declared.Shape.the-variants.{Nop, Sintr, Xfer, Wid}
+use Rattle.shapes.specs.declared.Decoded.{Decoded}
+use Rattle.shapes.specs.declared.Decoded.the-variants.{Instruction, NoInstruction}
 use Rattle.decode.specs.Table.{Row, row, table, accepts}
-use Rattle.decode.specs.Reading.{lookup, reading, isControl}
-use Rattle.decode.specs.declared.pairs.Pair.{Pair}
-use Rattle.decode.specs.declared.Shape.the-variants.{Nop, Sintr, Xfer, Wid}
-use Rattle.decode.specs.declared.Decoded.{Decoded}
-use Rattle.decode.specs.declared.Decoded.the-variants.{Instruction, NoInstruction}
+use Rattle.decode.specs.Reading.{lookup}
 
 pub left : (a b : Bool) → T (a && b) → T a
 left true b t = tt

@@ -1,13 +1,13 @@
 -- How many bytes an instruction has. "Order in memory: pair, offset byte, data (LPDI four bytes, TSL one), displacement (TSL one byte)."
-use mathlib.Core.Bool.{Bool, true, false}
+use mathlib.Core.Bool.{Bool, false}
 use Prim.Native.Nat.{ℕ, _+_}
 use lib.Dec.{eqb, leb}
 use Rattle.words.specs.Choice.{pick}
-use Rattle.decode.specs.declared.Memory.{Memory}
-use Rattle.decode.specs.declared.pairs.Pair.{Pair}
+use Rattle.shapes.specs.declared.Memory.{Memory}
+use Rattle.shapes.specs.declared.pairs.Pair.{Pair}
+use Rattle.shapes.specs.declared.Shape.{Shape}
+use Rattle.shapes.specs.declared.Shape.the-variants.{Nop, Sintr, Xfer, Wid, Hlt, Lpdi, RegisterImmediate, Register, JumpRegister, RegisterMemory, MemoryRegister, MemoryImmediate, MemoryAlone, JumpMemory, Lpd, MovpLoad, MovpStore, MovMemory, Tsl, Call, JumpMasked, JumpBit, Bit}
 use Rattle.decode.specs.declared.lengths.Parts.{Parts}
-use Rattle.decode.specs.declared.Shape.{Shape}
-use Rattle.decode.specs.declared.Shape.the-variants.{Nop, Sintr, Xfer, Wid, Hlt, Lpdi, RegisterImmediate, Register, JumpRegister, RegisterMemory, MemoryRegister, MemoryImmediate, MemoryAlone, JumpMemory, Lpd, MovpLoad, MovpStore, MovMemory, Tsl, Call, JumpMasked, JumpBit, Bit}
 
 -- one byte more, or none
 abbrev pub moreBy : Bool → ℕ

@@ -1,4 +1,3 @@
-pub mod Pairs
 pub mod Table
 pub mod Reading
 pub mod Lengths

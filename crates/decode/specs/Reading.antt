@@ -4,27 +4,19 @@ use mathlib.Core.List.{List, [], _∷_}
 use Prim.Native.Nat.{ℕ}
 use lib.Dec.{eqb}
 use Rattle.words.specs.Choice.{pick}
-use Rattle.decode.specs.Pairs.{pairOf, memoryOf, columns}
-use Rattle.decode.specs.Pairs.Column.{'0, '1, '00, '000, 'AA, 'MM}
+use Rattle.shapes.specs.Pairs.{pairOf, memoryOf, columns}
+use Rattle.shapes.specs.Pairs.Column.{'0, '1, '00, '000, 'AA, 'MM}
+use Rattle.shapes.specs.Rows.{isControl}
+use Rattle.shapes.specs.declared.pairs.Pair.{Pair}
+use Rattle.shapes.specs.declared.Decoded.{Decoded}
+use Rattle.shapes.specs.declared.Decoded.the-variants.{Instruction, NoInstruction, ControlUsed}
+use Rattle.shapes.specs.declared.Second.{Second}
+use Rattle.shapes.specs.declared.Second.the-variants.{Operand, NoSecond}
 use Rattle.decode.specs.Table.{Row, table}
-use Rattle.decode.specs.declared.pairs.Pair.{Pair}
-use Rattle.decode.specs.declared.Shape.{Shape}
-use Rattle.decode.specs.declared.Decoded.{Decoded}
-use Rattle.decode.specs.declared.Decoded.the-variants.{Instruction, NoInstruction, ControlUsed}
-use Rattle.decode.specs.declared.Second.{Second}
-use Rattle.decode.specs.declared.Second.the-variants.{Operand, NoSecond}
 
 -- whether a pair is of a row: it has the row's opcode, and its other fields are as the columns print them
 abbrev pub fits : Row → Pair → Bool
 fits r p = eqb (p .opcode) (r .opcode) && columns (r .rrr) (r .dd) (r .aa) (r .w) (r .mm) p
-
--- RRR is CC
-abbrev pub isControl : Pair → Bool
-isControl p = eqb (p .rrr) 6
-
--- 3 where the columns are not met; then 4, "CC used by anything but MOV or MOVI"; else the instruction
-abbrev pub reading : Bool → Bool → Shape → Decoded
-reading met control shape = pick met (pick control ControlUsed (Instruction shape)) NoInstruction
 
 -- the answer of the row that a pair is of, and 3 where it is of none
 unfoldable pub lookup : List Row → Pair → Decoded

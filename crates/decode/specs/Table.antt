@@ -3,13 +3,13 @@ use mathlib.Core.Bool.{Bool, true, false}
 use mathlib.Core.List.{List, [], _∷_}
 use Prim.Native.Nat.{ℕ}
 use Rattle.words.specs.Bits.{bitOf}
-use Rattle.decode.specs.Pairs.{Column, wideOf, twoOf, memoryOf}
-use Rattle.decode.specs.Pairs.Column.{'0, '1, '00, '10, '11, '000, '001, '010, '011, '100, '1SD, 'RRR, 'PPP, 'BBB, 'dd, 'wb, 'AA, 'W, 'MM}
-use Rattle.decode.specs.declared.pairs.Pair.{Pair}
-use Rattle.decode.specs.declared.Work.{Work}
-use Rattle.decode.specs.declared.Single.{Single}
-use Rattle.decode.specs.declared.Shape.{Shape}
-use Rattle.decode.specs.declared.Shape.the-variants.{Nop, Sintr, Xfer, Wid, Hlt, Lpdi, RegisterImmediate, Register, JumpRegister, RegisterMemory, MemoryRegister, MemoryImmediate, MemoryAlone, JumpMemory, Lpd, MovpLoad, MovpStore, MovMemory, Tsl, Call, JumpMasked, JumpBit, Bit}
+use Rattle.shapes.specs.Pairs.{Column, wideOf, twoOf, memoryOf}
+use Rattle.shapes.specs.Pairs.Column.{'0, '1, '00, '10, '11, '000, '001, '010, '011, '100, '1SD, 'RRR, 'PPP, 'BBB, 'dd, 'wb, 'AA, 'W, 'MM}
+use Rattle.shapes.specs.declared.pairs.Pair.{Pair}
+use Rattle.shapes.specs.declared.Work.{Work}
+use Rattle.shapes.specs.declared.Single.{Single}
+use Rattle.shapes.specs.declared.Shape.{Shape}
+use Rattle.shapes.specs.declared.Shape.the-variants.{Nop, Sintr, Xfer, Wid, Hlt, Lpdi, RegisterImmediate, Register, JumpRegister, RegisterMemory, MemoryRegister, MemoryImmediate, MemoryAlone, JumpMemory, Lpd, MovpLoad, MovpStore, MovMemory, Tsl, Call, JumpMasked, JumpBit, Bit}
 
 -- a row: its columns, whether RRR 6 is a use of CC that 4 refuses, and the shape that it makes of a pair
 pub record Row : Type 0 where

@@ -1,5 +1,3 @@
 pub mod Deeds
 pub mod Control
 pub mod RegisterForms
-pub mod MemoryForms
-pub mod JumpForms

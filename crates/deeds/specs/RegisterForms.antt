@@ -8,9 +8,9 @@ use Rattle.memory.specs.Values.{doublewordAt, pointerAt}
 use Rattle.memory.specs.declared.Pointer.{Pointer}
 use Rattle.machine.specs.declared.Channel.{Channel}
 use Rattle.machine.specs.Registers.{registerOf, withRegister, moved, worked, loaded}
-use Rattle.decode.specs.declared.Memory.{Memory}
-use Rattle.decode.specs.declared.Work.{Work}
-use Rattle.decode.specs.declared.Single.{Single}
+use Rattle.shapes.specs.declared.Memory.{Memory}
+use Rattle.shapes.specs.declared.Work.{Work}
+use Rattle.shapes.specs.declared.Single.{Single}
 use Rattle.operands.specs.declared.Change.the-variants.{Nothing}
 use Rattle.operands.specs.Operands.{onward, bytesAt, sizeOf, effective, grown, operandAt, workOf, singleOf, isMove}
 use Rattle.deeds.specs.Deeds.{Deed, deed}

@@ -1,4 +1,4 @@
-// What an instruction of each shape does: what it reads, what the channel becomes, and the one thing that it stores.
+// What an instruction does, and what those do that leave memory alone: NOP, SINTR, XFER, WID, HLT and all whose result goes into a register.
 use machine::Channel;
 use operands::Change;
 
@@ -6,10 +6,6 @@ use operands::Change;
 pub mod control;
 // Results that go into a register.
 pub mod registers;
-// Results that go into memory.
-pub mod stores;
-// Jumps.
-pub mod jumps;
 
 // What an instruction would do: a number other than 0 where it is refused, the channel after it, and what it stores.
 pub struct Effect {

@@ -1,12 +1,12 @@
 // Instructions whose result goes into a register.
 use crate::Effect;
 use crate::control;
-use decode::Memory;
-use decode::Single;
-use decode::Work;
 use machine::Channel;
 use memory::Pointer;
 use operands::Change;
+use shapes::Memory;
+use shapes::Single;
+use shapes::Work;
 ghost use mathlib.Core.Path.{_≡_};
 ghost use Rattle.memory.specs.Buffers.{buffers};
 ghost use Rattle.deeds.specs.Deeds.{effectOf};

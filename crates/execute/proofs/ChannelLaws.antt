@@ -9,13 +9,13 @@ use mathlib.Core.Path.{_≡_, refl, sym, ap, _∙_}
 use native.Mathlib.Nat.{mod-lt}
 use Rattle.decode.specs.Lengths.{offsetLength, lengthOf}
 use Rattle.decode.specs.Reading.{secondOf}
-use Rattle.decode.specs.declared.Decoded.the-variants.{Instruction}
-use Rattle.decode.specs.declared.Memory.{Memory}
-use Rattle.decode.specs.declared.Second.{Second}
-use Rattle.decode.specs.declared.Second.the-variants.{Operand, NoSecond}
-use Rattle.decode.specs.declared.Shape.{Shape}
-use Rattle.decode.specs.declared.Shape.the-variants.{Nop, Sintr, Xfer, Wid, Hlt, Lpdi, RegisterImmediate, Register, JumpRegister, RegisterMemory, MemoryRegister, MemoryImmediate, MemoryAlone, JumpMemory, Lpd, MovpLoad, MovpStore, MovMemory, Tsl, Call, JumpMasked, JumpBit, Bit}
-use Rattle.decode.specs.declared.Work.{Work}
+use Rattle.shapes.specs.declared.Decoded.the-variants.{Instruction}
+use Rattle.shapes.specs.declared.Memory.{Memory}
+use Rattle.shapes.specs.declared.Second.{Second}
+use Rattle.shapes.specs.declared.Second.the-variants.{Operand, NoSecond}
+use Rattle.shapes.specs.declared.Shape.{Shape}
+use Rattle.shapes.specs.declared.Shape.the-variants.{Nop, Sintr, Xfer, Wid, Hlt, Lpdi, RegisterImmediate, Register, JumpRegister, RegisterMemory, MemoryRegister, MemoryImmediate, MemoryAlone, JumpMemory, Lpd, MovpLoad, MovpStore, MovMemory, Tsl, Call, JumpMasked, JumpBit, Bit}
+use Rattle.shapes.specs.declared.Work.{Work}
 use Rattle.machine.specs.Outcomes.{unless, first}
 use Rattle.machine.specs.Psw.{programRunning, interruptControl, transferring, withPsw}
 use Rattle.machine.specs.Registers.{tagOf, withRegister, moved, worked}
@@ -35,9 +35,9 @@ use Rattle.words.specs.Signs.{displacedBy}
 use Rattle.operands.specs.Changes.{placesOf, changed}
 use Rattle.deeds.specs.Control.{withStatus, nopDeed, sintrDeed, xferDeed, widDeed, hltDeed}
 use Rattle.deeds.specs.Deeds.{effectOf}
-use Rattle.deeds.specs.JumpForms.{jumpRegisterDeed, jumpMemoryDeed, jumpByteDeed, jumpMaskedDeed, jumpBitDeed, tslDeed, callDeed}
-use Rattle.deeds.specs.MemoryForms.{afterPair, memoryWorkDeed, memoryRegisterDeed, memoryImmediateDeed, memoryAloneDeed, movpStoreDeed, bitDeed, movOperandDeed, movSecondDeed, movMemoryDeed}
-use Rattle.operands.specs.Operands.{onward, byteHere, bytesAt, renewed, usedUp, advanced, further, sizeOf, effective, grown, displacementAt, jumped, jumpedIf, isMove}
+use Rattle.jumps.specs.JumpForms.{jumpRegisterDeed, jumpMemoryDeed, jumpByteDeed, jumpMaskedDeed, jumpBitDeed, tslDeed, callDeed}
+use Rattle.stores.specs.MemoryForms.{memoryWorkDeed, memoryRegisterDeed, memoryImmediateDeed, memoryAloneDeed, movpStoreDeed, bitDeed, movOperandDeed, movSecondDeed, movMemoryDeed}
+use Rattle.operands.specs.Operands.{afterPair, onward, byteHere, bytesAt, renewed, usedUp, advanced, further, sizeOf, effective, grown, displacementAt, jumped, jumpedIf, isMove}
 use Rattle.deeds.specs.RegisterForms.{written, registerImmediateDeed, registerDeed, registerMemoryDeed, lpdiDeed, lpdDeed, movpLoadDeed}
 use Rattle.machine.proofs.ConditionLaws.{first-none-right, unless-none}
 use Rattle.execute.specs.Execute.{decodedAt, performed, deedOf, laterBytes, shapeNumber, numberFrom, executeNumber, executeOf}

@@ -8,11 +8,11 @@ use mathlib.Core.List.{[], _∷_}
 use mathlib.Core.Logic.{⊎-elim}
 use mathlib.Core.Path.{_≡_, refl}
 use types.Run.{OneOf}
-use Rattle.decode.proofs.Decoded.{the-type}
+use Rattle.shapes.proofs.Decoded.{the-type}
 use Rattle.decode.specs.Reading.{numberOf}
-use Rattle.decode.specs.declared.Decoded.{Decoded}
-use Rattle.decode.specs.declared.Decoded.the-variants.{Instruction, NoInstruction, ControlUsed}
-use Rattle.decode.specs.declared.Shape.{Shape}
+use Rattle.shapes.specs.declared.Decoded.{Decoded}
+use Rattle.shapes.specs.declared.Decoded.the-variants.{Instruction, NoInstruction, ControlUsed}
+use Rattle.shapes.specs.declared.Shape.{Shape}
 use Rattle.machine.proofs.OutcomeLaws.{first-some, first-zero}
 use Rattle.machine.specs.Outcomes.{unless, first}
 use Rattle.machine.specs.declared.Channel.{Channel}

@@ -9,14 +9,14 @@ use mathlib.Core.List.{[], _∷_}
 use mathlib.Core.Logic.{⊎-elim, inl, inr, _⊎_, _↔_}
 use mathlib.Core.Path.{_≡_, refl, sym, ap, _∙_}
 use native.Mathlib.Omega.{arith}
-use Rattle.decode.proofs.Shape.{the-type as shapes}
+use Rattle.shapes.proofs.Shape.{the-type as shapes}
 use Rattle.decode.specs.Lengths.{lengthOf}
-use Rattle.decode.specs.declared.Decoded.{Decoded}
-use Rattle.decode.specs.declared.Decoded.the-variants.{Instruction, NoInstruction, ControlUsed}
-use Rattle.decode.specs.declared.Memory.{Memory}
-use Rattle.decode.specs.declared.Second.{Second}
-use Rattle.decode.specs.declared.Second.the-variants.{Operand, NoSecond}
-use Rattle.decode.specs.declared.Shape.the-variants.{Nop, Sintr, Xfer, Wid, Hlt, Lpdi, RegisterImmediate, Register, JumpRegister, RegisterMemory, MemoryRegister, MemoryImmediate, MemoryAlone, JumpMemory, Lpd, MovpLoad, MovpStore, MovMemory, Tsl, Call, JumpMasked, JumpBit, Bit}
+use Rattle.shapes.specs.declared.Decoded.{Decoded}
+use Rattle.shapes.specs.declared.Decoded.the-variants.{Instruction, NoInstruction, ControlUsed}
+use Rattle.shapes.specs.declared.Memory.{Memory}
+use Rattle.shapes.specs.declared.Second.{Second}
+use Rattle.shapes.specs.declared.Second.the-variants.{Operand, NoSecond}
+use Rattle.shapes.specs.declared.Shape.the-variants.{Nop, Sintr, Xfer, Wid, Hlt, Lpdi, RegisterImmediate, Register, JumpRegister, RegisterMemory, MemoryRegister, MemoryImmediate, MemoryAlone, JumpMemory, Lpd, MovpLoad, MovpStore, MovMemory, Tsl, Call, JumpMasked, JumpBit, Bit}
 use Rattle.machine.proofs.OutcomeLaws.{first-some, first-zero, unless-true}
 use Rattle.machine.specs.Outcomes.{unless, first}
 use Rattle.machine.specs.declared.Channel.{Channel}
@@ -26,8 +26,8 @@ use Rattle.words.proofs.ChoiceLaws.{apart}
 use Rattle.operands.specs.Changes.{placesOf}
 use Rattle.deeds.specs.Control.{nopDeed, sintrDeed, xferDeed, widDeed, hltDeed}
 use Rattle.deeds.specs.Deeds.{Deed, effectOf}
-use Rattle.deeds.specs.JumpForms.{jumpRegisterDeed, jumpMemoryDeed, jumpByteDeed, jumpMaskedDeed, jumpBitDeed, tslDeed, callDeed}
-use Rattle.deeds.specs.MemoryForms.{memoryWorkDeed, memoryRegisterDeed, memoryImmediateDeed, memoryAloneDeed, movpStoreDeed, bitDeed, movOperandDeed, movSecondDeed, movMemoryDeed}
+use Rattle.jumps.specs.JumpForms.{jumpRegisterDeed, jumpMemoryDeed, jumpByteDeed, jumpMaskedDeed, jumpBitDeed, tslDeed, callDeed}
+use Rattle.stores.specs.MemoryForms.{memoryWorkDeed, memoryRegisterDeed, memoryImmediateDeed, memoryAloneDeed, movpStoreDeed, bitDeed, movOperandDeed, movSecondDeed, movMemoryDeed}
 use Rattle.operands.specs.Operands.{byteHere, bytesAt, advanced, effective}
 use Rattle.deeds.specs.RegisterForms.{registerImmediateDeed, registerDeed, registerMemoryDeed, lpdiDeed, lpdDeed, movpLoadDeed}
 use Rattle.machine.proofs.ConditionLaws.{Told, step, last, rewritten, first-assoc, skip, hit, either, end, never, told-true, told-false, told-lent}

@@ -7,8 +7,8 @@ use mathlib.Core.Logic.{⊎-elim}
 use mathlib.Core.Path.{_≡_, refl, ap, _∙_}
 use native.Mathlib.Nat.{mod-lt, mod-eq-of-lt}
 use Rattle.decode.specs.Lengths.{lengthOf}
-use Rattle.decode.specs.declared.Memory.{Memory}
-use Rattle.decode.specs.declared.Shape.the-variants.{Call}
+use Rattle.shapes.specs.declared.Memory.{Memory}
+use Rattle.shapes.specs.declared.Shape.the-variants.{Call}
 use Rattle.machine.specs.Registers.{byRRR, registerOf, tagOf, withRegister}
 use Rattle.machine.specs.declared.Channel.{Channel}
 use Rattle.memory.proofs.SpanLaws.{span-at, span-first}
@@ -19,8 +19,8 @@ use Rattle.memory.specs.Values.{pointer, pointerAt, storePointer}
 use Rattle.memory.specs.declared.Pointer.{Pointer}
 use Rattle.words.specs.Sums.{sum20}
 use Rattle.operands.specs.Changes.{placesOf, changed}
-use Rattle.deeds.specs.JumpForms.{callDeed}
-use Rattle.deeds.specs.MemoryForms.{movpStoreDeed}
+use Rattle.jumps.specs.JumpForms.{callDeed}
+use Rattle.stores.specs.MemoryForms.{movpStoreDeed}
 use Rattle.operands.specs.Operands.{onward, bytesAt, renewed, advanced, effective, grown}
 use Rattle.deeds.specs.RegisterForms.{movpLoadDeed}
 use Rattle.operands.specs.declared.Change.the-variants.{Stored}

@@ -7,15 +7,14 @@ use Rattle.memory.specs.Buffers.{Buffers}
 use Rattle.memory.specs.Places.{Place}
 use Rattle.machine.specs.Conditions.{Check, check, Beyond}
 use Rattle.machine.specs.declared.Channel.{Channel}
-use Rattle.decode.specs.declared.Memory.{Memory}
-use Rattle.decode.specs.declared.Shape.the-variants.{MovMemory}
-use Rattle.decode.specs.declared.Decoded.{Decoded}
-use Rattle.decode.specs.declared.Decoded.the-variants.{Instruction, NoInstruction, ControlUsed}
-use Rattle.decode.specs.declared.Second.{Second}
-use Rattle.decode.specs.declared.Second.the-variants.{NoSecond}
+use Rattle.shapes.specs.declared.Memory.{Memory}
+use Rattle.shapes.specs.declared.Shape.the-variants.{MovMemory}
+use Rattle.shapes.specs.declared.Decoded.{Decoded}
+use Rattle.shapes.specs.declared.Decoded.the-variants.{Instruction, NoInstruction, ControlUsed}
+use Rattle.shapes.specs.declared.Second.{Second}
+use Rattle.shapes.specs.declared.Second.the-variants.{NoSecond}
 use Rattle.decode.specs.Reading.{secondOf}
-use Rattle.operands.specs.Operands.{onward, byteHere, bytesAt}
-use Rattle.deeds.specs.MemoryForms.{afterPair}
+use Rattle.operands.specs.Operands.{onward, byteHere, bytesAt, afterPair}
 use Rattle.operands.specs.Changes.{placesOf}
 use Rattle.execute.specs.Execute.{decodedAt, laterBytes, deedFrom}
 

@@ -9,10 +9,10 @@ use Rattle.memory.specs.Places.{Place, allLent}
 use Rattle.memory.specs.declared.Pointer.{Pointer}
 use Rattle.machine.specs.declared.Channel.{Channel}
 use Rattle.machine.specs.Outcomes.{first, unless}
-use Rattle.decode.specs.declared.Shape.{Shape}
-use Rattle.decode.specs.declared.Shape.the-variants.{Nop, Sintr, Xfer, Wid, Hlt, Lpdi, RegisterImmediate, Register, JumpRegister, RegisterMemory, MemoryRegister, MemoryImmediate, MemoryAlone, JumpMemory, Lpd, MovpLoad, MovpStore, MovMemory, Tsl, Call, JumpMasked, JumpBit, Bit}
-use Rattle.decode.specs.declared.Decoded.{Decoded}
-use Rattle.decode.specs.declared.Decoded.the-variants.{Instruction, NoInstruction, ControlUsed}
+use Rattle.shapes.specs.declared.Shape.{Shape}
+use Rattle.shapes.specs.declared.Shape.the-variants.{Nop, Sintr, Xfer, Wid, Hlt, Lpdi, RegisterImmediate, Register, JumpRegister, RegisterMemory, MemoryRegister, MemoryImmediate, MemoryAlone, JumpMemory, Lpd, MovpLoad, MovpStore, MovMemory, Tsl, Call, JumpMasked, JumpBit, Bit}
+use Rattle.shapes.specs.declared.Decoded.{Decoded}
+use Rattle.shapes.specs.declared.Decoded.the-variants.{Instruction, NoInstruction, ControlUsed}
 use Rattle.decode.specs.Reading.{decodeOf}
 use Rattle.decode.specs.Lengths.{lengthOf}
 use Rattle.operands.specs.declared.Change.the-variants.{Nothing}
@@ -22,8 +22,8 @@ use Rattle.operands.specs.Changes.{placesOf, changed}
 use Rattle.deeds.specs.Deeds.{Deed, deed, effectOf}
 use Rattle.deeds.specs.Control.{nopDeed, sintrDeed, xferDeed, widDeed, hltDeed}
 use Rattle.deeds.specs.RegisterForms.{registerImmediateDeed, registerDeed, registerMemoryDeed, lpdiDeed, lpdDeed, movpLoadDeed}
-use Rattle.deeds.specs.MemoryForms.{memoryRegisterDeed, memoryImmediateDeed, memoryAloneDeed, movpStoreDeed, bitDeed, movMemoryDeed}
-use Rattle.deeds.specs.JumpForms.{jumpRegisterDeed, jumpMemoryDeed, jumpMaskedDeed, jumpBitDeed, tslDeed, callDeed}
+use Rattle.stores.specs.MemoryForms.{memoryRegisterDeed, memoryImmediateDeed, memoryAloneDeed, movpStoreDeed, bitDeed, movMemoryDeed}
+use Rattle.jumps.specs.JumpForms.{jumpRegisterDeed, jumpMemoryDeed, jumpMaskedDeed, jumpBitDeed, tslDeed, callDeed}
 
 -- what the first two bytes of an instruction are
 unfoldable pub decodedAt : Buffers → Pointer → Decoded

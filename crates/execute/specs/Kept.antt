@@ -4,8 +4,8 @@ use mathlib.Core.Path.{_≡_}
 use Prim.Native.Nat.{ℕ}
 use Rattle.memory.specs.Buffers.{Buffers}
 use Rattle.machine.specs.declared.Channel.{Channel}
-use Rattle.decode.specs.declared.Shape.the-variants.{Hlt, Xfer}
-use Rattle.decode.specs.declared.Decoded.the-variants.{Instruction}
+use Rattle.shapes.specs.declared.Shape.the-variants.{Hlt, Xfer}
+use Rattle.shapes.specs.declared.Decoded.the-variants.{Instruction}
 use Rattle.deeds.specs.Deeds.{Deed}
 use Rattle.execute.specs.Execute.{decodedAt, deedFrom}
 

@@ -1,15 +1,13 @@
 // One instruction of a channel: fetched, decoded, carried out on the registers, and its one store made last.
-use decode::Decoded;
-use decode::Shape;
 use deeds::Effect;
 use deeds::control;
-use deeds::jumps;
 use deeds::registers;
-use deeds::stores;
 use machine::Channel;
 use memory::Pointer;
 use operands::Change;
 use operands::changes;
+use shapes::Decoded;
+use shapes::Shape;
 ghost use mathlib.Core.Path.{_≡_};
 ghost use Rattle.memory.specs.Buffers.{buffers};
 ghost use Rattle.deeds.specs.Deeds.{effectOf};

@@ -17,11 +17,12 @@ use Rattle.machine.specs.declared.Mode.{Mode}
 use Rattle.machine.specs.Outcomes.{unless}
 use Rattle.machine.specs.Psw.{withPsw}
 use Rattle.machine.specs.Registers.{baseOf}
-use Rattle.decode.specs.declared.Memory.{Memory}
-use Rattle.decode.specs.declared.Work.{Work}
-use Rattle.decode.specs.declared.Work.the-variants.{Mov, Add, Or, And}
-use Rattle.decode.specs.declared.Single.{Single}
-use Rattle.decode.specs.declared.Single.the-variants.{Inc, Dec}
+use Rattle.decode.specs.Lengths.{offsetLength}
+use Rattle.shapes.specs.declared.Memory.{Memory}
+use Rattle.shapes.specs.declared.Work.{Work}
+use Rattle.shapes.specs.declared.Work.the-variants.{Mov, Add, Or, And}
+use Rattle.shapes.specs.declared.Single.{Single}
+use Rattle.shapes.specs.declared.Single.the-variants.{Inc, Dec}
 
 -- a place n bytes on, in the same space
 unfoldable pub onward : Pointer → ℕ → Pointer
@@ -130,3 +131,7 @@ isMove Work.Not = false
 -- the number of n bytes read at a place
 unfoldable pub readNumber : Buffers → Pointer → ℕ → ℕ
 readNumber m p n = unless (allLent m (bytesAt p n)) 2
+
+-- where data or displacement stands: after the pair and its offset byte
+abbrev pub afterPair : Pointer → Memory → Pointer
+afterPair tp o = onward tp (2 + offsetLength o)

@@ -1,10 +1,10 @@
 // Places, the operands that lie there, what the instructions work out of them, and what they store.
-use decode::Memory;
-use decode::Single;
-use decode::Work;
 use machine::Channel;
 use machine::Mode;
 use memory::Pointer;
+use shapes::Memory;
+use shapes::Single;
+use shapes::Work;
 
 // What an instruction stores.
 pub mod changes;
@@ -252,4 +252,11 @@ pub fn read_number(p: Pointer, n: u32, sys: &[u8], io: &[u8]) -> u32
     ensures { λ r. ⌜ r ≡ readNumber (buffers (now (sys .entry)) (now (io .entry))) p n ⌝ }
 {
     two_unless(lent(p, n, sys, io))
+}
+
+// Where data or displacement stands: after the pair and its offset byte.
+pub fn after_pair(tp: Pointer, m: Memory) -> Pointer
+    ensures { λ r. ⌜ r ≡ Operands.afterPair tp m ⌝ }
+{
+    onward(tp, 2 + decode::offset_length(m))
 }

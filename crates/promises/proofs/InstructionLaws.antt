@@ -10,9 +10,9 @@ use native.Mathlib.Nat.{add-zero, add-assoc}
 use native.Mathlib.Omega.{arith}
 use Rattle.decode.specs.Lengths.{dataLength, displacementLength, lengthOf}
 use Rattle.decode.specs.Reading.{decodeOf}
-use Rattle.decode.specs.declared.Decoded.the-variants.{Instruction}
-use Rattle.decode.specs.declared.Shape.the-variants.{RegisterImmediate}
-use Rattle.decode.specs.declared.Work.{Work}
+use Rattle.shapes.specs.declared.Decoded.the-variants.{Instruction}
+use Rattle.shapes.specs.declared.Shape.the-variants.{RegisterImmediate}
+use Rattle.shapes.specs.declared.Work.{Work}
 use Rattle.deeds.specs.Deeds.{effectOf}
 use Rattle.deeds.specs.RegisterForms.{written, registerImmediateDeed}
 use Rattle.deeds.specs.declared.Effect.{Effect}

@@ -11,18 +11,19 @@ use native.Mathlib.Decide.{ℕ-discrete}
 use native.Mathlib.Nat.{mod-lt, mod-eq-of-lt, add-zero}
 use native.Mathlib.Omega.{arith}
 use Rattle.decode.specs.Lengths.{lengthOf}
-use Rattle.decode.specs.Pairs.{pairOf}
-use Rattle.decode.specs.Reading.{fits, isControl, lookup, decodeOf}
+use Rattle.shapes.specs.Pairs.{pairOf}
+use Rattle.decode.specs.Reading.{fits, lookup, decodeOf}
+use Rattle.shapes.specs.Rows.{isControl}
 use Rattle.decode.specs.Table.{Row, table}
-use Rattle.decode.specs.declared.Decoded.{Decoded}
-use Rattle.decode.specs.declared.Decoded.the-variants.{Instruction, NoInstruction, ControlUsed}
-use Rattle.decode.specs.declared.Memory.{Memory}
-use Rattle.decode.specs.declared.Shape.{Shape}
-use Rattle.decode.specs.declared.Shape.the-variants.{Nop, Sintr, Xfer, Wid, Hlt, Lpdi, RegisterImmediate, Register, JumpRegister, RegisterMemory, MemoryRegister, MemoryImmediate, MemoryAlone, JumpMemory, Lpd, MovpLoad, MovpStore, MovMemory, Tsl, Call, JumpMasked, JumpBit, Bit}
-use Rattle.decode.specs.declared.pairs.Pair.{Pair}
+use Rattle.shapes.specs.declared.Decoded.{Decoded}
+use Rattle.shapes.specs.declared.Decoded.the-variants.{Instruction, NoInstruction, ControlUsed}
+use Rattle.shapes.specs.declared.Memory.{Memory}
+use Rattle.shapes.specs.declared.Shape.{Shape}
+use Rattle.shapes.specs.declared.Shape.the-variants.{Nop, Sintr, Xfer, Wid, Hlt, Lpdi, RegisterImmediate, Register, JumpRegister, RegisterMemory, MemoryRegister, MemoryImmediate, MemoryAlone, JumpMemory, Lpd, MovpLoad, MovpStore, MovMemory, Tsl, Call, JumpMasked, JumpBit, Bit}
+use Rattle.shapes.specs.declared.pairs.Pair.{Pair}
 use Rattle.deeds.specs.Deeds.{Deed}
-use Rattle.deeds.specs.JumpForms.{callDeed}
-use Rattle.deeds.specs.MemoryForms.{movpStoreDeed}
+use Rattle.jumps.specs.JumpForms.{callDeed}
+use Rattle.stores.specs.MemoryForms.{movpStoreDeed}
 use Rattle.deeds.specs.RegisterForms.{movpLoadDeed}
 use Rattle.execute.proofs.OutcomeLaws.{done, number-is}
 use Rattle.execute.proofs.PointerLaws.{register-written, tag-written}

@@ -6,15 +6,15 @@ use mathlib.Core.List.{List, [], _∷_, _++_}
 use mathlib.Core.Path.{refl}
 use lib.ListN.{replicate}
 use Rattle.decode.specs.Lengths.{lengthOf, dataLength, displacementLength, offsetLength}
-use Rattle.decode.specs.Pairs.{pairOf}
+use Rattle.shapes.specs.Pairs.{pairOf}
 use Rattle.decode.specs.Reading.{lookup, decodeOf}
 use Rattle.decode.specs.Table.{table}
-use Rattle.decode.specs.declared.Memory.{Memory}
-use Rattle.decode.specs.declared.Shape.{Shape}
-use Rattle.decode.specs.declared.Shape.the-variants.{MovpStore, Call}
+use Rattle.shapes.specs.declared.Memory.{Memory}
+use Rattle.shapes.specs.declared.Shape.{Shape}
+use Rattle.shapes.specs.declared.Shape.the-variants.{MovpStore, Call}
 use Rattle.deeds.specs.Deeds.{effectOf}
-use Rattle.deeds.specs.JumpForms.{callDeed}
-use Rattle.deeds.specs.MemoryForms.{movpStoreDeed}
+use Rattle.jumps.specs.JumpForms.{callDeed}
+use Rattle.stores.specs.MemoryForms.{movpStoreDeed}
 use Rattle.deeds.specs.RegisterForms.{movpLoadDeed}
 use Rattle.execute.specs.Execute.{decodedAt, performed, deedOf, laterBytes, deedFrom, shapeNumber, numberFrom, executeNumber, settledEffect, planOf, executeOf}
 use Rattle.machine.specs.Outcomes.{unless, first, givenNumber}

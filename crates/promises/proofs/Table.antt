@@ -7,10 +7,10 @@ use mathlib.Core.List.{[], _∷_}
 use mathlib.Core.Path.{_≡_, refl, ap, _∙_}
 use native.Mathlib.Omega.{arith}
 use Rattle.decode.specs.Lengths.{dataLength, displacementLength, lengthOf}
-use Rattle.decode.specs.Pairs.{pairOf}
+use Rattle.shapes.specs.Pairs.{pairOf}
 use Rattle.decode.specs.Reading.{lookup, decodeOf}
 use Rattle.decode.specs.Table.{table}
-use Rattle.decode.specs.declared.Work.the-variants.{Mov, Add}
+use Rattle.shapes.specs.declared.Work.the-variants.{Mov, Add}
 use Rattle.deeds.specs.RegisterForms.{written}
 use Rattle.machine.specs.Registers.{byRRR, registerOf, tagOf, withRegister}
 use Rattle.machine.specs.States.{numberOf}

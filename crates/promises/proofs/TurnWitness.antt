@@ -10,7 +10,7 @@ use Rattle.attention.specs.Commands.{commandCoded, isKnown, modeNumber, command
 use Rattle.attention.specs.Effects.{withControl, started as startedBy, commanded, channelOrdered, writesOf, marked, written}
 use Rattle.attention.specs.Touched.{readBy, storedBy, others}
 use Rattle.decode.specs.Lengths.{lengthOf, dataLength, displacementLength}
-use Rattle.decode.specs.Pairs.{pairOf}
+use Rattle.shapes.specs.Pairs.{pairOf}
 use Rattle.decode.specs.Reading.{lookup, decodeOf}
 use Rattle.decode.specs.Table.{table}
 use Rattle.deeds.specs.Control.{nopDeed}

@@ -16,10 +16,10 @@ use Rattle.attention.specs.Attention.{orderTo, attentionOf}
 use Rattle.attention.specs.Commands.{ordered}
 use Rattle.attention.specs.Effects.{withControl}
 use Rattle.attention.specs.Pauses.{Pause}
-use Rattle.decode.specs.declared.Decoded.the-variants.{Instruction}
-use Rattle.decode.specs.declared.Memory.{Memory}
-use Rattle.decode.specs.declared.Shape.{Shape}
-use Rattle.decode.specs.declared.Shape.the-variants.{MovpLoad, MovpStore, Call}
+use Rattle.shapes.specs.declared.Decoded.the-variants.{Instruction}
+use Rattle.shapes.specs.declared.Memory.{Memory}
+use Rattle.shapes.specs.declared.Shape.{Shape}
+use Rattle.shapes.specs.declared.Shape.the-variants.{MovpLoad, MovpStore, Call}
 use Rattle.decode.specs.Lengths.{lengthOf}
 use Rattle.operands.specs.Operands.{advanced, effective}
 use Rattle.execute.specs.Execute.{decodedAt}

@@ -7,7 +7,7 @@ use mathlib.Core.Bool.{Bool, true, false, not}
 use mathlib.Core.List.{[], _∷_}
 use mathlib.Core.Logic.{⊎-elim, inl, inr, _⊎_, _↔_, Iff·trans, Iff·rfl}
 use mathlib.Core.Path.{_≡_, refl, sym, ap, _∙_}
-use Rattle.decode.specs.declared.Decoded.the-variants.{Instruction}
+use Rattle.shapes.specs.declared.Decoded.the-variants.{Instruction}
 use Rattle.execute.proofs.NumberLaws.{number-given as instruction-given, exactly-2 as own-2, exactly-3 as own-3, exactly-4 as own-4, exactly-0 as own-0}
 use Rattle.execute.specs.Conditions.{checks as instructionChecks, Given2, Given3, Given4, Given0}
 use Rattle.execute.specs.Execute.{decodedAt, executeOf}

@@ -5,8 +5,8 @@ use Rattle.machine.specs.Outcomes.{unless, first}
 use Rattle.memory.specs.Places.{allLent}
 use Rattle.deeds.specs.Control.{nopDeed, sintrDeed, xferDeed, widDeed, hltDeed}
 use Rattle.deeds.specs.Deeds.{effectOf}
-use Rattle.deeds.specs.JumpForms.{jumpRegisterDeed, callDeed}
-use Rattle.deeds.specs.MemoryForms.{movpStoreDeed}
+use Rattle.jumps.specs.JumpForms.{jumpRegisterDeed, callDeed}
+use Rattle.stores.specs.MemoryForms.{movpStoreDeed}
 use Rattle.deeds.specs.RegisterForms.{registerImmediateDeed, registerDeed, lpdiDeed}
 use Rattle.execute.specs.Execute.{performed}
 use Rattle.execute.proofs.perform.Statement.{statement}
