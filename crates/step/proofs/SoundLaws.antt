@@ -1,10 +1,10 @@
--- A done step leaves a sound state, as far as its instruction leaves its channel sound.
+-- A done step leaves a sound state.
 -- Assumes nothing.
 use Prim.Native.Nat.{ℕ}
 use lib.Dec.{ltb}
 use mathlib.Core.Bool.{Bool, true, false, _&&_}
 use mathlib.Core.Path.{_≡_, refl}
-use Rattle.execute.specs.Execute.{executeOf}
+use Rattle.execute.proofs.ChannelLaws.{execute-sound}
 use Rattle.machine.proofs.ChannelLaws.{sound-channel-of}
 use Rattle.machine.proofs.ConditionLaws.{first-none-right, unless-none}
 use Rattle.machine.specs.Outcomes.{first, unless, givenNumber}
@@ -35,11 +35,10 @@ entry-sound s m lines z =
     (first-none-right (unless (withinLimits m) 11) (unless (sound s) 10)
     (first-none-right (unless (ltb lines 16) 12) (first (unless (withinLimits m) 11) (unless (sound s) 10)) z))
 
--- where instructions keep a channel sound, a done step leaves a sound state
-pub sound-kept : ((c : Channel) (busy : ℕ) (m : Buffers) → soundChannel c ≡ true → soundChannel ((executeOf c busy m) .channel) ≡ true)
-    → (s : State) (m : Buffers) (lines : ℕ) → (stepOf s m lines) .number ≡ 0 → sound ((stepOf s m lines) .state) ≡ true
-sound-kept keeps s m lines =
+-- a done step leaves a sound state, so the next is not refused by 10
+pub sound-kept : (s : State) (m : Buffers) (lines : ℕ) → (stepOf s m lines) .number ≡ 0 → sound ((stepOf s m lines) .state) ≡ true
+sound-kept s m lines =
     by-step s m lines (λ o. o .number ≡ 0 → sound (o .state) ≡ true) (λ k ne e. absurd (ne e))
     (λ b z e h. let q = entry-sound s m lines z in done-sound s b _ q (external-sound (channelOf s b) (sound-channel-of s b q)))
     (λ b z e f h. let q = entry-sound s m lines z in done-sound s b _ q (transfer-sound (channelOf s b) m (sound-channel-of s b q)))
-    (λ b z e f h. let q = entry-sound s m lines z in done-sound s b _ q (keeps (channelOf s b) _ m (sound-channel-of s b q)))
+    (λ b z e f h. let q = entry-sound s m lines z in done-sound s b _ q (execute-sound (channelOf s b) _ m (sound-channel-of s b q)))
