@@ -1,0 +1,105 @@
+// Makes a call of the bench's text on a machine, and prints what it answered.
+use bench::registers;
+use calls::buffers;
+use calls::text;
+use calls::text::Call;
+use machine::State;
+ghost use mathlib.Core.Path.{_≡_};
+ghost use Rattle.memory.specs.Buffers.{buffers};
+ghost use Rattle.calls.specs.Text.{spanned, fourthSpan};
+ghost use Rattle.bench.specs.Registers.{withNamed};
+ghost use Rattle.answers.specs.Machine.{machine, remade, putInto, attended, advanced, performed};
+
+// Makes every byte 0, and a fresh state.
+fn make(cp: u32, sys: &mut [u8], io: &mut [u8]) -> State
+    ensures { λ r. ⌜ machine r (buffers (now (sys .exit)) (now (io .exit))) ≡ remade (buffers (now (sys .entry)) (now (io .entry))) cp ⌝ }
+{
+    buffers::clear(sys);
+    buffers::clear(io);
+    let fresh = machine::states::fresh(cp);
+    prints::print_answer(b"make ", fresh.number);
+    let state = fresh.state;
+    state
+}
+
+// Writes the bytes that are a line's fourth word.
+fn put(io_space: bool, address: u32, line: &[u8], sys: &mut [u8], io: &mut [u8])
+    ensures { λ r. ⌜ buffers (now (sys .exit)) (now (io .exit)) ≡ putInto (buffers (now (sys .entry)) (now (io .entry))) «io_space» address (spanned (now (line .entry)) (fourthSpan (now (line .entry)))) ⌝ }
+{
+    let span = text::fourth_word(line);
+    let from = span.from;
+    let to = span.to;
+    let digits = &line[from..to];
+    if io_space {
+        prints::print_put(buffers::put(io, address as usize, digits));
+    } else {
+        prints::print_put(buffers::put(sys, address as usize, digits));
+    }
+}
+
+// Sets a register.
+fn set(s: State, channel: u32, register: u64, value: u32) -> State
+    ensures { λ r. ⌜ r ≡ withNamed s channel register value ⌝ }
+{
+    prints::print(b"set 0\n");
+    registers::with_register(s, channel, register, value)
+}
+
+// Gives a channel attention.
+fn attend(s: State, channel: u32, sys: &mut [u8], io: &mut [u8]) -> State
+    ensures { λ r. ⌜ machine r (buffers (now (sys .exit)) (now (io .exit))) ≡ attended s (buffers (now (sys .entry)) (now (io .entry))) channel ⌝ }
+{
+    let a = attention::attention(s, sys, io, channel);
+    prints::print_answer(b"ca ", a.number);
+    let state = a.state;
+    state
+}
+
+// Makes a step.
+fn advance(s: State, lines: u32, sys: &mut [u8], io: &mut [u8]) -> State
+    ensures { λ r. ⌜ machine r (buffers (now (sys .exit)) (now (io .exit))) ≡ advanced s (buffers (now (sys .entry)) (now (io .entry))) lines ⌝ }
+{
+    let r = step::step(s, sys, io, lines);
+    let kind = r.kind;
+    prints::print_step(r.number, r.channel, kind);
+    let state = r.state;
+    state
+}
+
+// Prints bytes of a buffer.
+fn show(io_space: bool, address: u32, sys: &[u8], io: &[u8]) {
+    if io_space {
+        prints::print_bytes(io, address);
+    } else {
+        prints::print_bytes(sys, address);
+    }
+}
+
+// Makes the call of a line, in the buffers that are lent after it.
+pub fn perform(s: State, call: Call, line: &[u8], sys: &mut [u8], io: &mut [u8]) -> State
+    ensures { λ r. ⌜ machine r (buffers (now (sys .exit)) (now (io .exit))) ≡ performed call (now (line .entry)) s (buffers (now (sys .entry)) (now (io .entry))) ⌝ }
+{
+    match call {
+        Call::Nothing => s,
+        Call::Unknown => {
+            prints::refuse();
+            s
+        }
+        Call::Make(_, _, cp) => make(cp, sys, io),
+        Call::Put(io_space, address) => {
+            put(io_space, address, line, sys, io);
+            s
+        }
+        Call::Set(channel, register, value) => set(s, channel, register, value),
+        Call::Attention(channel) => attend(s, channel, sys, io),
+        Call::Step(lines) => advance(s, lines, sys, io),
+        Call::Dump => {
+            prints::print_dump(s, sys, io);
+            s
+        }
+        Call::Show(io_space, address) => {
+            show(io_space, address, sys, io);
+            s
+        }
+    }
+}

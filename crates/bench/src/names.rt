@@ -1,0 +1,52 @@
+// The names of calls and registers: 1, then the characters' codes, two hexadecimal digits each.
+pub const NONE: u64 = 0x1;
+
+pub const MAKE: u64 = 0x1_6d61_6b65;
+
+pub const PUT: u64 = 0x170_7574;
+
+pub const SET: u64 = 0x173_6574;
+
+pub const CA: u64 = 0x1_6361;
+
+pub const STEP: u64 = 0x1_7374_6570;
+
+pub const DUMP: u64 = 0x1_6475_6d70;
+
+pub const SHOW: u64 = 0x1_7368_6f77;
+
+pub const GA: u64 = 0x1_6761;
+
+pub const GB: u64 = 0x1_6762;
+
+pub const GC: u64 = 0x1_6763;
+
+pub const TP: u64 = 0x1_7470;
+
+pub const PP: u64 = 0x1_7070;
+
+pub const BC: u64 = 0x1_6263;
+
+pub const IX: u64 = 0x1_6978;
+
+pub const CC: u64 = 0x1_6363;
+
+pub const MC: u64 = 0x1_6d63;
+
+pub const PSW: u64 = 0x170_7377;
+
+pub const GA_TAG: u64 = 0x1_6761_2e74;
+
+pub const GB_TAG: u64 = 0x1_6762_2e74;
+
+pub const GC_TAG: u64 = 0x1_6763_2e74;
+
+pub const TP_TAG: u64 = 0x1_7470_2e74;
+
+pub const ARM: u64 = 0x161_726d;
+
+pub const MODE: u64 = 0x1_6d6f_6465;
+
+pub const CP: u64 = 0x1_6370;
+
+pub const LAST: u64 = 0x1_6c61_7374;

@@ -1,0 +1,100 @@
+-- `script::lent_after` meets its contract.
+-- Assumes nothing.
+use borrow.Author.Needs.{needs}
+use Rattle.script.specs.Lent.{lentAfter}
+use Rattle.script.proofs.lent_after.Statement.{statement}
+use Rattle.script.proofs.lent_after.Tie as tie
+
+enum-known-call : tie.Need-enum-known-call
+enum-known-call c = search needs
+
+cast-t6 : tie.Need-cast-t6
+cast-t6 c = search needs
+
+cast-t7 : tie.Need-cast-t7
+cast-t7 c = search needs
+
+enum-told : tie.Need-enum-told
+enum-told c = search needs
+
+enum-told-2 : tie.Need-enum-told-2
+enum-told-2 c = search needs
+
+enum-told-3 : tie.Need-enum-told-3
+enum-told-3 c = search needs
+
+enum-told-4 : tie.Need-enum-told-4
+enum-told-4 c = search needs
+
+enum-told-5 : tie.Need-enum-told-5
+enum-told-5 c = search needs
+
+enum-told-6 : tie.Need-enum-told-6
+enum-told-6 c = search needs
+
+enum-told-7 : tie.Need-enum-told-7
+enum-told-7 c = search needs
+
+enum-told-8 : tie.Need-enum-told-8
+enum-told-8 c = search needs
+
+returns : tie.Need-returns
+unfolding lentAfter
+returns c = let e = c .before .call .given .1 in (rw e, rw e at (c .before .before .before .pre .0))
+
+returns-2 : tie.Need-returns-2
+unfolding lentAfter
+returns-2 c = (rw (c .enum-told .given .1), c .before .before .pre .1)
+
+returns-3 : tie.Need-returns-3
+unfolding lentAfter
+returns-3 c = (rw (c .enum-told2 .given .1), c .before .before .pre .1)
+
+returns-4 : tie.Need-returns-4
+unfolding lentAfter
+returns-4 c = (rw (c .enum-told3 .given .1), c .before .before .pre .1)
+
+returns-5 : tie.Need-returns-5
+unfolding lentAfter
+returns-5 c = (rw (c .enum-told4 .given .1), c .before .before .pre .1)
+
+returns-6 : tie.Need-returns-6
+unfolding lentAfter
+returns-6 c = (rw (c .enum-told5 .given .1), c .before .before .pre .1)
+
+returns-7 : tie.Need-returns-7
+unfolding lentAfter
+returns-7 c = (rw (c .enum-told6 .given .1), c .before .before .pre .1)
+
+returns-8 : tie.Need-returns-8
+unfolding lentAfter
+returns-8 c = (rw (c .enum-told7 .given .1), c .before .before .pre .1)
+
+returns-9 : tie.Need-returns-9
+unfolding lentAfter
+returns-9 c = (rw (c .enum-told8 .given .1), c .before .before .pre .1)
+
+pub lent-after-spec : {M : Type 1} → statement M
+lent-after-spec =
+    tie.close
+    (tie.spec
+    enum-known-call
+    cast-t6
+    cast-t7
+    enum-told
+    enum-told-2
+    enum-told-3
+    enum-told-4
+    enum-told-5
+    enum-told-6
+    enum-told-7
+    enum-told-8
+    returns
+    returns-2
+    returns-3
+    returns-4
+    returns-5
+    returns-6
+    returns-7
+    returns-8
+    returns-9)

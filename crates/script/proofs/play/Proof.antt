@@ -1,0 +1,100 @@
+-- `script::play` is safe and ends: what is lent lies within the buffers, and each line takes it further in the text.
+-- Assumes nothing.
+use Prim.Native.Nat.{_-_, _≤_}
+use borrow.Author.Needs.{needs}
+use lib.ListN.{length}
+use lib.Seq.{length-take-le}
+use mathlib.Core.Path.{_≡_, refl, sym}
+use native.Mathlib.Omega.{arith}
+use Rattle.calls.proofs.CallLaws.{line-limited}
+use Rattle.script.proofs.play.Statement.{statement}
+use Rattle.script.proofs.play.Tie as tie
+
+abbrev Inv-loop : tie.InvT-loop
+Inv-loop text sys₀ io₀ state₀ lent₀ at₀ sys io state lent at = (length sys ≡ length sys₀) × (length io ≡ length io₀) × (lent .sys ≤ 1048577) × (lent .io ≤ 65537)
+
+abbrev μ-loop : tie.MeasureT-loop
+μ-loop text sys₀ io₀ state₀ lent₀ at₀ sys io state lent at = length text - at
+
+fresh-requires : tie.Need-fresh-requires Inv-loop μ-loop
+fresh-requires c κs = search needs
+
+loop-holds : tie.Need-loop-holds Inv-loop μ-loop
+loop-holds c = (refl, refl, omega arith, omega arith)
+
+line-end-requires : tie.Need-line-end-requires Inv-loop μ-loop
+line-end-requires c κs = search needs
+
+sub-line : tie.Need-sub-line Inv-loop μ-loop
+sub-line c = search needs
+
+part-line-start : tie.Need-part-line-start Inv-loop μ-loop
+part-line-start c = search needs
+
+part-line-end : tie.Need-part-line-end Inv-loop μ-loop
+part-line-end c = search needs
+
+call-of-requires : tie.Need-call-of-requires Inv-loop μ-loop
+call-of-requires c κs = search needs
+
+lent-after-requires : tie.Need-lent-after-requires Inv-loop μ-loop
+lent-after-requires c κs = (rw (c .call-of .ensures) (line-limited _), (c .before .before .before .before .loop .inv .2, c .before .before .before .before .loop .inv .3))
+
+slice-relend-prefix-perform : tie.Need-slice-relend-prefix-perform Inv-loop μ-loop
+slice-relend-prefix-perform c = omega (arith, c .lent-after .ensures .1 .0, c .before .before .before .before .before .loop .inv .0, c .before .before .before .before .before .before .before .before .before .before .before .pre .1 .0)
+
+slice-aggregate-perform : tie.Need-slice-aggregate-perform Inv-loop μ-loop
+slice-aggregate-perform c = sym (length-take-le (c .before .lent-after .result .sys) (c .before .before .before .before .before .before .loop .sys) (omega (arith, c .before .lent-after .ensures .1 .0, c .before .before .before .before .before .before .loop .inv .0, c .before .before .before .before .before .before .before .before .before .before .before .before .pre .1 .0)))
+
+slice-relend-prefix-perform-2 : tie.Need-slice-relend-prefix-perform-2 Inv-loop μ-loop
+slice-relend-prefix-perform-2 c = omega (arith, c .before .lent-after .ensures .1 .1, c .before .before .before .before .before .before .loop .inv .1, c .before .before .before .before .before .before .before .before .before .before .before .before .pre .1 .1)
+
+slice-aggregate-perform-2 : tie.Need-slice-aggregate-perform-2 Inv-loop μ-loop
+slice-aggregate-perform-2 c = sym (length-take-le (c .before .before .lent-after .result .io) (c .before .before .before .before .before .before .before .loop .io) (omega (arith, c .before .before .lent-after .ensures .1 .1, c .before .before .before .before .before .before .before .loop .inv .1, c .before .before .before .before .before .before .before .before .before .before .before .before .before .pre .1 .1)))
+
+perform-requires : tie.Need-perform-requires Inv-loop μ-loop
+perform-requires c κs = search needs
+
+add-at : tie.Need-add-at Inv-loop μ-loop
+add-at c = omega (arith, c .before .before .before .before .before .before .before .before .before .before .line-end .ensures .1 .1, c .before .before .before .before .before .before .before .before .before .before .before .before .before .before .before .before .before .before .pre .0)
+
+loop-less : tie.Need-loop-less Inv-loop μ-loop
+loop-less c = omega (arith, c .before .before .before .before .before .before .before .before .before .before .line-end .ensures .1 .0, c .before .before .before .before .before .before .before .before .before .before .before .loop-test .taken)
+
+loop-again : tie.Need-loop-again Inv-loop μ-loop
+loop-again c = (search needs, search needs, c .before .before .before .before .before .before .before .lent-after .ensures .1 .0, c .before .before .before .before .before .before .before .lent-after .ensures .1 .1)
+
+same-length : tie.Need-same-length Inv-loop μ-loop
+same-length c = c .before .loop .inv .0
+
+same-length-2 : tie.Need-same-length-2 Inv-loop μ-loop
+same-length-2 c = c .before .loop .inv .1
+
+returns : tie.Need-returns Inv-loop μ-loop
+returns c = search needs
+
+pub play-spec : {M : Type 1} → statement M
+play-spec =
+    tie.close
+    (tie.spec
+    Inv-loop
+    μ-loop
+    fresh-requires
+    loop-holds
+    line-end-requires
+    sub-line
+    part-line-start
+    part-line-end
+    call-of-requires
+    lent-after-requires
+    slice-relend-prefix-perform
+    slice-aggregate-perform
+    slice-relend-prefix-perform-2
+    slice-aggregate-perform-2
+    perform-requires
+    add-at
+    loop-less
+    loop-again
+    same-length
+    same-length-2
+    returns)

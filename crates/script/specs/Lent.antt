@@ -1,0 +1,16 @@
+-- How many bytes of each buffer a call leaves lent.
+use Rattle.calls.specs.declared.text.Call.{Call}
+use Rattle.calls.specs.declared.text.Call.the-variants.{Nothing, Unknown, Make, Put, Set, Attention, Step, Dump, Show}
+use Rattle.script.specs.declared.Lent.{Lent}
+
+-- "lends new buffers of SYS bytes of system memory and IO bytes of I/O memory": how many bytes are lent after a call
+unfoldable pub lentAfter : Call → Lent → Lent
+lentAfter (Make sys io cp) lent = record { sys = sys; io = io }
+lentAfter Nothing lent = lent
+lentAfter Unknown lent = lent
+lentAfter (Put space address) lent = lent
+lentAfter (Set channel register value) lent = lent
+lentAfter (Attention channel) lent = lent
+lentAfter (Step lines) lent = lent
+lentAfter Dump lent = lent
+lentAfter (Show space address) lent = lent

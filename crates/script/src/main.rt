@@ -1,0 +1,109 @@
+// Makes the calls of the script on standard input, one a line, on one machine, and prints what each answered.
+use calls::text;
+use calls::text::Call;
+use libc::STDIN_FILENO;
+ghost use mathlib.Core.Path.{_≡_};
+ghost use Prim.Native.Nat.{_+_, _≤_};
+ghost use lib.ListN.{length, drop};
+ghost use Rattle.calls.specs.Calls.{Limited};
+ghost use Rattle.calls.specs.Text.{untilSame};
+ghost use Rattle.script.specs.Lent.{lentAfter};
+
+// How many bytes of each buffer are lent.
+struct Lent {
+    sys: usize,
+    io: usize,
+}
+
+// How many bytes are lent after a call.
+fn lent_after(call: Call, lent: Lent) -> Lent
+    requires { ⌜ Limited call ⌝ }
+    requires { ⌜ (lent .sys ≤ 1048577) × (lent .io ≤ 65537) ⌝ }
+    ensures { λ r. ⌜ r ≡ lentAfter call lent ⌝ }
+    ensures { λ r. ⌜ (r .sys ≤ 1048577) × (r .io ≤ 65537) ⌝ }
+{
+    match call {
+        Call::Make(sys, io, _) => Lent {
+            sys: sys as usize,
+            io: io as usize,
+        },
+        Call::Nothing => lent,
+        Call::Unknown => lent,
+        Call::Put(_, _) => lent,
+        Call::Set(_, _, _) => lent,
+        Call::Attention(_) => lent,
+        Call::Step(_) => lent,
+        Call::Dump => lent,
+        Call::Show(_, _) => lent,
+    }
+}
+
+// Where the line from an index of the text on ends: at its line feed, or with the text.
+fn line_end(text: &[u8], at: usize) -> usize
+    requires { ⌜ at ≤ length (now text) ⌝ }
+    ensures { λ r. ⌜ r ≡ at + untilSame 10 (drop at (now (text .entry))) ⌝ }
+    ensures { λ r. ⌜ (at ≤ r) × (r ≤ length (now (text .entry))) ⌝ }
+{
+    text::first_same(text, at, 10)
+}
+
+// Makes the calls of a text, line by line.
+fn play(text: &[u8], sys: &mut [u8], io: &mut [u8])
+    requires { ⌜ length (now text) ≤ 1048576 ⌝ }
+    requires { ⌜ (1048577 ≡ length (now sys)) × (65537 ≡ length (now io)) ⌝ }
+{
+    let fresh = machine::states::fresh(0);
+    let start = fresh.state;
+    let mut state = start;
+    let mut lent = Lent { sys: 0, io: 0 };
+    let mut at: usize = 0;
+    while at < text.len() {
+        let end = line_end(text, at);
+        let line = &text[at..end];
+        let call = text::call_of(line);
+        lent = lent_after(call, lent);
+        let sys_length = lent.sys;
+        let io_length = lent.io;
+        state = answers::perform(
+            state,
+            call,
+            line,
+            &mut sys[..sys_length],
+            &mut io[..io_length],
+        );
+        at = end + 1;
+    }
+}
+
+// An array as it is, with its length stated: the prover would count the zeros of so long a one.
+fn counted(a: [u8; 1048577]) -> [u8; 1048577]
+    ensures { λ r. ⌜ 1048577 ≡ length r ⌝ }
+{
+    a
+}
+
+// One byte more than system memory has, all 0.
+fn large_space() -> [u8; 1048577]
+    ensures { λ r. ⌜ 1048577 ≡ length r ⌝ }
+{
+    counted([0; 1048577])
+}
+
+// One byte more than I/O memory has, all 0.
+fn small_space() -> [u8; 65537]
+    ensures { λ r. ⌜ 65537 ≡ length r ⌝ }
+{
+    [0; 65537]
+}
+
+fn main() {
+    let mut text = large_space();
+    let mut sys = large_space();
+    let mut io = small_space();
+    let length = io::read_full(STDIN_FILENO, &mut text);
+    if 1048576 < length {
+        prints::print(b"?\n");
+        return;
+    }
+    play(&text[..length], &mut sys, &mut io);
+}
