@@ -17,11 +17,11 @@ use Rattle.memory.specs.Places.{span, allLent}
 use Rattle.memory.specs.Values.{wordAt, doublewordAt, pointer, pointerAt, storePointer}
 use Rattle.words.specs.Bits.{fieldOf, bitOf, withBit}
 use Rattle.attention.specs.Attention.{orderTo, orderNumber, channelAfter, memoryAfter, givenTo, attentionNumber, attentionOf}
-use Rattle.attention.specs.Blocks.{ccwOf, parameterBlock, orderOf}
-use Rattle.attention.specs.Commands.{commandCoded, isKnown, modeNumber, commandNumber, copied, obeyed, ordered}
-use Rattle.attention.specs.Effects.{withControl, started, stopped, resumed, commanded, channelOrdered, writesOf, saved, marked, written}
+use Rattle.orders.specs.Blocks.{ccwOf, parameterBlock, orderOf}
+use Rattle.orders.specs.Commands.{commandCoded, isKnown, modeNumber, commandNumber, copied, obeyed, ordered}
+use Rattle.orders.specs.Effects.{withControl, started, stopped, resumed, commanded, channelOrdered, writesOf, saved, marked, written}
 use Rattle.attention.specs.Pauses.{Pause}
-use Rattle.attention.specs.Touched.{readBy, storedBy, others}
+use Rattle.orders.specs.Touched.{readBy, storedBy, others}
 
 -- the example's system memory
 abbrev pub input : List ℕ

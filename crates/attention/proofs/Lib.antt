@@ -1,4 +1,3 @@
-pub mod ReducedLaws
 pub mod PlanLaws
 pub mod ConditionLaws
 pub mod Outcomes

@@ -15,10 +15,10 @@ use Rattle.words.proofs.BitLaws.{field-lt}
 use Rattle.machine.proofs.ConditionLaws.{step, last, rewritten, first-assoc, skip, hit, either, end, foreign, never, told-limits, told-sound, told-lent}
 use Rattle.machine.specs.Conditions.{Given, TooLong, NotSound}
 use Rattle.attention.specs.Attention.{orderTo, orderNumber, channelAfter, memoryAfter, givenTo, attentionNumber, attentionOf}
-use Rattle.attention.specs.Blocks.{orderOf}
-use Rattle.attention.specs.Commands.{codeOf}
+use Rattle.orders.specs.Blocks.{orderOf}
+use Rattle.orders.specs.Commands.{codeOf}
 use Rattle.attention.specs.Conditions.{NoChannel, CcwBeyond, OthersBeyond, NoCommand, ResumesOther, StartsRunning, SuspendsOther, codeTo, modeOf, checks, AfterGiven, AfterCommand, AfterMode}
-use Rattle.attention.specs.Touched.{others}
+use Rattle.orders.specs.Touched.{others}
 use Rattle.attention.proofs.ConditionLaws.{told-channel, told-resume, told-start, told-suspend, told-command, command-chain}
 
 module _ (s : State) (m : Buffers) (channel : ℕ) where

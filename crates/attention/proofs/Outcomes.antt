@@ -13,7 +13,7 @@ use Rattle.machine.specs.declared.State.{State}
 use Rattle.memory.specs.Buffers.{Buffers}
 use Rattle.words.specs.Choice.{pick}
 use Rattle.attention.specs.Attention.{orderTo, channelAfter, memoryAfter, attentionNumber, attentionOf}
-use Rattle.attention.specs.Effects.{withControl, channelOrdered}
+use Rattle.orders.specs.Effects.{withControl, channelOrdered}
 
 -- what holds of a refusal's outcome and of an accepted call's holds of the settled one
 pub settled-by : (P : Outcome → Type 0) (number : ℕ) (s : State) (m : Buffers) (s′ : State) (m′ : Buffers)

@@ -29,12 +29,12 @@ use Rattle.words.specs.Bits.{fieldOf, bitOf, withBit}
 use Rattle.words.specs.Choice.{pick}
 use Rattle.machine.proofs.ConditionLaws.{first-none-left, first-none-right, unless-none, running-is}
 use Rattle.attention.specs.Attention.{orderTo, orderNumber, channelAfter, memoryAfter, givenTo, attentionNumber, attentionOf}
-use Rattle.attention.specs.Blocks.{busyOf, parameterBlock, orderOf}
-use Rattle.attention.specs.Commands.{isKnown, modeNumber, commandNumber, copied, obeyed, ordered}
-use Rattle.attention.specs.Effects.{withControl, stopped, resumed, commanded, channelOrdered, writesOf, saved, marked, written}
+use Rattle.orders.specs.Blocks.{busyOf, parameterBlock, orderOf}
+use Rattle.orders.specs.Commands.{isKnown, modeNumber, commandNumber, copied, obeyed, ordered}
+use Rattle.orders.specs.Effects.{withControl, stopped, resumed, commanded, channelOrdered, writesOf, saved, marked, written}
 use Rattle.attention.specs.Pauses.{Pause}
-use Rattle.attention.specs.Touched.{readBy, storedBy, others}
-use Rattle.attention.specs.declared.Command.the-variants.{Suspend, Resume}
+use Rattle.orders.specs.Touched.{readBy, storedBy, others}
+use Rattle.orders.specs.declared.Command.the-variants.{Suspend, Resume}
 use Rattle.attention.proofs.Outcomes.{accepted-order}
 
 -- ---- what the saved bytes read

@@ -12,9 +12,9 @@ use Rattle.machine.specs.declared.State.{State}
 use Rattle.memory.specs.Buffers.{Buffers}
 use Rattle.words.specs.Choice.{pick}
 use Rattle.attention.specs.Attention.{orderTo, effectOf, channelAfter, memoryAfter, givenTo, attentionNumber, attentionOf}
-use Rattle.attention.specs.Effects.{channelOrdered, writes, writesOf, written}
+use Rattle.orders.specs.Effects.{channelOrdered, writes, writesOf, written}
 use Rattle.attention.specs.declared.Effect.{Effect}
-use Rattle.attention.specs.declared.Order.{Order}
+use Rattle.orders.specs.declared.Order.{Order}
 
 -- the plan, put back into the state and written into memory, is the whole outcome
 pub planned-settled : (s : State) (m : Buffers) (channel : ℕ) (e : Effect)

@@ -19,12 +19,12 @@ use Rattle.memory.specs.Values.{storePointer}
 use Rattle.memory.specs.declared.Pointer.{Pointer}
 use Rattle.words.specs.Stored.{storedLow, storedMiddle, storedHigh}
 use Rattle.attention.specs.Attention.{orderTo, memoryAfter, attentionOf}
-use Rattle.attention.specs.Blocks.{busyOf}
-use Rattle.attention.specs.Effects.{writesOf, saved, marked, written}
-use Rattle.attention.specs.Touched.{storedBy}
-use Rattle.attention.specs.declared.Command.{Command}
-use Rattle.attention.specs.declared.Command.the-variants.{Update, StartLocal, StartSystem, Suspend, Resume, Halt, Unknown}
-use Rattle.attention.specs.declared.Writes.{Writes}
+use Rattle.orders.specs.Blocks.{busyOf}
+use Rattle.orders.specs.Effects.{writesOf, saved, marked, written}
+use Rattle.orders.specs.Touched.{storedBy}
+use Rattle.orders.specs.declared.Command.{Command}
+use Rattle.orders.specs.declared.Command.the-variants.{Update, StartLocal, StartSystem, Suspend, Resume, Halt, Unknown}
+use Rattle.orders.specs.declared.Writes.{Writes}
 use Rattle.attention.proofs.Outcomes.{attention-by}
 
 -- what is saved is in PB's first four bytes

@@ -11,11 +11,11 @@ use Rattle.machine.specs.declared.Channel.{Channel}
 use Rattle.machine.specs.declared.Mode.{Mode}
 use Rattle.machine.specs.declared.State.{State}
 use Rattle.attention.specs.declared.Effect.{Effect}
-use Rattle.attention.specs.declared.Order.{Order}
-use Rattle.attention.specs.Commands.{commandNumber}
-use Rattle.attention.specs.Blocks.{orderOf}
-use Rattle.attention.specs.Touched.{others}
-use Rattle.attention.specs.Effects.{channelOrdered, writes, writesOf, written}
+use Rattle.orders.specs.declared.Order.{Order}
+use Rattle.orders.specs.Commands.{commandNumber}
+use Rattle.orders.specs.Blocks.{orderOf}
+use Rattle.orders.specs.Touched.{others}
+use Rattle.orders.specs.Effects.{channelOrdered, writes, writesOf, written}
 
 -- the order that a channel's block holds
 unfoldable pub orderTo : State → Buffers → Bool → Order

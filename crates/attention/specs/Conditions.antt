@@ -12,8 +12,8 @@ use Rattle.machine.specs.declared.Mode.{Mode}
 use Rattle.machine.specs.declared.Mode.the-variants.{Running, Suspended}
 use Rattle.machine.specs.declared.State.{State}
 use Rattle.attention.specs.Attention.{orderTo}
-use Rattle.attention.specs.Commands.{codeOf}
-use Rattle.attention.specs.Touched.{others}
+use Rattle.orders.specs.Commands.{codeOf}
+use Rattle.orders.specs.Touched.{others}
 
 -- 12: "channel neither 1 nor 2"
 abbrev pub NoChannel : ℕ → Type 0

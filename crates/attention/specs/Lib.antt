@@ -1,7 +1,3 @@
-pub mod Commands
-pub mod Blocks
-pub mod Touched
-pub mod Effects
 pub mod Attention
 pub mod Conditions
 pub mod Pauses

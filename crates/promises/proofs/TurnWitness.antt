@@ -5,10 +5,10 @@ use mathlib.Core.Bool.{Bool, true, false}
 use mathlib.Core.List.{[], _∷_}
 use mathlib.Core.Path.{_≡_, refl}
 use Rattle.attention.specs.Attention.{orderTo, orderNumber, channelAfter, memoryAfter, givenTo, attentionNumber, attentionOf}
-use Rattle.attention.specs.Blocks.{ccwOf, parameterBlock, orderOf}
-use Rattle.attention.specs.Commands.{commandCoded, isKnown, modeNumber, commandNumber, copied, obeyed, ordered}
-use Rattle.attention.specs.Effects.{withControl, started as startedBy, commanded, channelOrdered, writesOf, marked, written}
-use Rattle.attention.specs.Touched.{readBy, storedBy, others}
+use Rattle.orders.specs.Blocks.{ccwOf, parameterBlock, orderOf}
+use Rattle.orders.specs.Commands.{commandCoded, isKnown, modeNumber, commandNumber, copied, obeyed, ordered}
+use Rattle.orders.specs.Effects.{withControl, started as startedBy, commanded, channelOrdered, writesOf, marked, written}
+use Rattle.orders.specs.Touched.{readBy, storedBy, others}
 use Rattle.decode.specs.Lengths.{lengthOf, dataLength, displacementLength}
 use Rattle.shapes.specs.Pairs.{pairOf}
 use Rattle.decode.specs.Reading.{lookup, decodeOf}

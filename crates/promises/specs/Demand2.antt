@@ -13,7 +13,7 @@ use Rattle.machine.specs.Outcomes.{outcome}
 use Rattle.machine.specs.Psw.{transferring}
 use Rattle.machine.specs.States.{channelOf, withChannel, isSecond, numberOf}
 use Rattle.attention.specs.Attention.{orderTo, channelAfter, memoryAfter, attentionOf}
-use Rattle.attention.specs.Touched.{storedBy}
+use Rattle.orders.specs.Touched.{storedBy}
 use Rattle.transfer.specs.Ends.{externallyEnded}
 use Rattle.transfer.specs.Steps.{transferOf}
 use Rattle.execute.specs.Execute.{executeOf}

@@ -13,8 +13,8 @@ use Rattle.machine.specs.Psw.{destinationWide, sourceWide, transferring, withPs
 use Rattle.machine.specs.Registers.{registerOf, tagOf}
 use Rattle.machine.specs.States.{channelOf, isSecond}
 use Rattle.attention.specs.Attention.{orderTo, attentionOf}
-use Rattle.attention.specs.Commands.{ordered}
-use Rattle.attention.specs.Effects.{withControl}
+use Rattle.orders.specs.Commands.{ordered}
+use Rattle.orders.specs.Effects.{withControl}
 use Rattle.attention.specs.Pauses.{Pause}
 use Rattle.shapes.specs.declared.Decoded.the-variants.{Instruction}
 use Rattle.shapes.specs.declared.Memory.{Memory}

@@ -1,0 +1,4 @@
+pub mod Commands
+pub mod Blocks
+pub mod Touched
+pub mod Effects
