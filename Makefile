@@ -17,10 +17,15 @@ ifeq ($(shell uname -m),x86_64)
 X86_CC ?= $(CC)
 X86_SIZE ?= size
 X86_LDFLAGS ?=
+X86_NEEDS = tools/need cc gcc
+COUNT_NEEDS = tools/need valgrind valgrind
 else
 X86_CC ?= x86_64-linux-gnu-gcc
 X86_SIZE ?= x86_64-linux-gnu-size
 X86_LDFLAGS ?= -static
+X86_NEEDS = tools/need x86_64-linux-gnu-gcc gcc-x86-64-linux-gnu && \
+	tools/need /usr/x86_64-linux-gnu/include/stdio.h libc6-dev-amd64-cross
+COUNT_NEEDS = :
 endif
 
 # What both comparisons are made of: random cases, the emulator, and the count of what was met.
@@ -32,7 +37,7 @@ SCRIPTS_H = $(addprefix host/,writer.h lines.h session.h)
 PROGRAMS = program-trace program-script
 
 .PHONY: run script test $(PROGRAMS) lib host demo compare compare-scripts compare-traces selftest examples \
-	check-examples bench
+	check-examples bench x86-compiler
 
 # Runs an image as channel 1 of a fresh machine and prints a line for each done step.
 run: program-trace
@@ -58,14 +63,18 @@ lib:
 	cp target/staticlib/libpanel.a $(IOP89_LIB)
 
 $(IOP89_LIB):
-	@echo "$@ is not there: make lib" >&2; exit 1
+	@$(MAKE) --no-print-directory lib
+
+# What compiles for x86-64, installed where it is missing.
+x86-compiler:
+	@$(X86_NEEDS)
 
 host: build/example build/compare
 
-build/example: host/example.c include/iop89.h $(IOP89_LIB)
+build/example: host/example.c include/iop89.h $(IOP89_LIB) | x86-compiler
 	$(X86_CC) $(STRICT) $(CFLAGS) -Iinclude host/example.c $(IOP89_LIB) $(X86_LDFLAGS) -o $@
 
-build/compare: host/compare.c $(COMMON) $(COMMON_H) $(IOP89_LIB)
+build/compare: host/compare.c $(COMMON) $(COMMON_H) $(IOP89_LIB) | x86-compiler
 	$(X86_CC) $(STRICT) $(CFLAGS) -Iinclude host/compare.c $(COMMON) $(IOP89_LIB) $(X86_LDFLAGS) -o $@
 
 # The emulator's own checks, and its side of what the programs print, need no library: they run on the machine at hand.
@@ -102,10 +111,11 @@ examples:
 
 # Counts instructions, which are the same on a busy machine, and prints the tables of docs/BENCHMARKS.md.
 bench: build/bench
+	@$(COUNT_NEEDS)
 	@X86_SIZE="$(X86_SIZE)" tools/bench build/bench $(IOP89_LIB) build/emulator.o
 
 # What is counted is always compiled at -O2.
-build/emulator.o: host/emulator.c host/emulator.h
+build/emulator.o: host/emulator.c host/emulator.h | x86-compiler
 	@mkdir -p build
 	$(X86_CC) $(STRICT) -O2 -c host/emulator.c -o $@
 
