@@ -17,11 +17,11 @@ use Rattle.machine.specs.States.{freshState, channelOf, isChannel}
 use Rattle.machine.specs.declared.State.{State}
 use Rattle.memory.specs.Buffers.{Buffers, withinLimits}
 use Rattle.step.proofs.NumberLaws.{number-given}
-use Rattle.step.specs.Choosing.{choiceOf}
+use Rattle.turns.specs.Choosing.{choiceOf}
 use Rattle.step.specs.Conditions.{chosenChecks, checks as stepChecks}
 use Rattle.step.specs.Step.{stepOf}
-use Rattle.step.specs.declared.Choice.{Choice}
-use Rattle.step.specs.declared.Choice.the-variants.{Nobody, Ends, Steps}
+use Rattle.turns.specs.declared.Choice.{Choice}
+use Rattle.turns.specs.declared.Choice.the-variants.{Nobody, Ends, Steps}
 use Rattle.words.specs.Choice.{pick}
 use Rattle.panel.specs.Run.{Run, ran, stepsFrom, callNumber, runOf, answerOf}
 use Rattle.panel.proofs.Outcomes.{refused-call, refused-cp, refused-attention, accepted-attention}

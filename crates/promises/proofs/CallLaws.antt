@@ -16,10 +16,10 @@ use Rattle.machine.specs.States.{channelOf, withChannel, isChannel, isSecond, n
 use Rattle.machine.specs.declared.Channel.{Channel}
 use Rattle.machine.specs.declared.State.{State}
 use Rattle.memory.specs.Buffers.{Buffers}
-use Rattle.step.specs.Choosing.{requested, external, endsNow, noRank, rankOf, secondWins, ranked, choiceOf}
+use Rattle.turns.specs.Choosing.{requested, external, endsNow, noRank, rankOf, secondWins, ranked, choiceOf}
 use Rattle.step.specs.Step.{busyOf, refusedStep, doneStep, settledStep, transferStep, instructionStep, externalStep, channelStep, chosenStep, entryNumber, stepOf}
-use Rattle.step.specs.declared.Choice.{Choice}
-use Rattle.step.specs.declared.Choice.the-variants.{Nobody, Ends, Steps}
+use Rattle.turns.specs.declared.Choice.{Choice}
+use Rattle.turns.specs.declared.Choice.the-variants.{Nobody, Ends, Steps}
 use Rattle.step.specs.declared.Kind.{Kind}
 use Rattle.step.specs.declared.Kind.the-variants.{Transfer, Instruction}
 use Rattle.transfer.proofs.StepLaws.{refused}

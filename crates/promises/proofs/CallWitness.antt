@@ -13,10 +13,10 @@ use Rattle.memory.proofs.SpanLaws.{span-at}
 use Rattle.memory.specs.Buffers.{Buffers, spaceOf, limitOf, indexOf, lentAt, byteAt, withinLimits}
 use Rattle.memory.specs.Places.{span}
 use Rattle.memory.specs.Values.{pointer}
-use Rattle.step.specs.Choosing.{requested, external, endsNow, transferRank, rankOf, secondWins, ranked, choiceOf}
+use Rattle.turns.specs.Choosing.{requested, external, endsNow, transferRank, rankOf, secondWins, ranked, choiceOf}
 use Rattle.step.specs.Step.{Step, stepped, settledStep, transferStep, channelStep, chosenStep, entryNumber, stepOf}
-use Rattle.step.specs.declared.Choice.{Choice}
-use Rattle.step.specs.declared.Choice.the-variants.{Nobody, Ends, Steps}
+use Rattle.turns.specs.declared.Choice.{Choice}
+use Rattle.turns.specs.declared.Choice.the-variants.{Nobody, Ends, Steps}
 use Rattle.step.specs.declared.Kind.the-variants.{Transfer}
 use Rattle.transfer.specs.Sides.{source, destination}
 use Rattle.words.proofs.ChoiceLaws.{apart}

@@ -27,7 +27,7 @@ use Rattle.memory.specs.Places.{span, allLent}
 use Rattle.memory.specs.Values.{pointer, pointerAt, storePointer}
 use Rattle.operands.specs.Changes.{placesOf, changed}
 use Rattle.operands.specs.Operands.{onward, renewed, usedUp, advanced, indexed, effective, grown, displacementAt, jumped}
-use Rattle.step.specs.Choosing.{requested, external, endsNow, transferRank, rankOf, secondWins, ranked, choiceOf}
+use Rattle.turns.specs.Choosing.{requested, external, endsNow, transferRank, rankOf, secondWins, ranked, choiceOf}
 use Rattle.step.specs.Step.{settledStep, busyOf, instructionStep, channelStep, chosenStep, entryNumber, stepOf}
 use Rattle.words.specs.Bits.{fieldOf, bitOf}
 use Rattle.words.specs.Signs.{signedOf, displacedBy}

@@ -9,12 +9,12 @@ use Rattle.attention.proofs.Outcomes.{shared-kept}
 use Rattle.machine.specs.States.{freshState, channelOf, withLast, numberOf}
 use Rattle.machine.specs.declared.State.{State}
 use Rattle.memory.specs.Buffers.{Buffers}
-use Rattle.step.proofs.ChoosingLaws.{rank-three, other-turn}
+use Rattle.turns.proofs.ChoosingLaws.{rank-three, other-turn}
 use Rattle.step.proofs.OutcomeLaws.{by-step}
-use Rattle.step.specs.Choosing.{requested, choiceOf}
+use Rattle.turns.specs.Choosing.{requested, choiceOf}
 use Rattle.step.specs.Step.{stepOf}
-use Rattle.step.specs.declared.Choice.the-variants.{Ends, Steps}
-use Rattle.step.specs.declared.Choice.{Choice}
+use Rattle.turns.specs.declared.Choice.the-variants.{Ends, Steps}
+use Rattle.turns.specs.declared.Choice.{Choice}
 use Rattle.words.proofs.ChoiceLaws.{apart}
 use Rattle.promises.specs.Cases.{Fresh, made, attended, Programs, Turns, none, turn}
 

@@ -27,8 +27,8 @@ use Rattle.memory.specs.Places.{span, allLent}
 use Rattle.memory.specs.Values.{wordAt, doublewordAt, pointer}
 use Rattle.operands.specs.Changes.{placesOf, changed}
 use Rattle.operands.specs.Operands.{onward, renewed, usedUp, advanced}
-use Rattle.step.specs.Choosing.{requested, external, endsNow, transferRank, rankOf, secondWins, ranked, choiceOf}
-use Rattle.step.specs.Conditions.{RankThree}
+use Rattle.turns.specs.Choosing.{requested, external, endsNow, transferRank, rankOf, secondWins, ranked, choiceOf}
+use Rattle.turns.specs.Ranks.{RankThree}
 use Rattle.step.specs.Step.{settledStep, busyOf, instructionStep, channelStep, chosenStep, entryNumber, stepOf}
 use Rattle.words.specs.Bits.{fieldOf, bitOf, withBit}
 use Rattle.promises.specs.Cases.{Programs, Turns, none, turn, started}

@@ -7,9 +7,9 @@ use Rattle.machine.specs.declared.State.{State}
 use Rattle.machine.specs.Psw.{transferring}
 use Rattle.machine.specs.States.{channelOf, numberOf}
 use Rattle.attention.specs.Attention.{attentionOf}
-use Rattle.step.specs.declared.Choice.the-variants.{Steps}
+use Rattle.turns.specs.declared.Choice.the-variants.{Steps}
 use Rattle.step.specs.declared.Kind.the-variants.{Transfer}
-use Rattle.step.specs.Choosing.{choiceOf}
+use Rattle.turns.specs.Choosing.{choiceOf}
 use Rattle.step.specs.Step.{entryNumber, stepOf}
 use Rattle.promises.specs.Premises.{into}
 use Rattle.promises.specs.Stages.{Within, Going, Ended}

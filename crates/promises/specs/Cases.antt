@@ -15,7 +15,7 @@ use Rattle.machine.specs.Psw.{transferring, priority}
 use Rattle.machine.specs.States.{freshState, channelOf}
 use Rattle.attention.specs.Attention.{attentionOf}
 use Rattle.transfer.specs.Sides.{source, destination}
-use Rattle.step.specs.Conditions.{RankThree}
+use Rattle.turns.specs.Ranks.{RankThree}
 use Rattle.step.specs.Step.{stepOf}
 use Rattle.promises.specs.Calls.{Turn, EndsAtCall}
 use Rattle.promises.specs.Premises.{from, into, Lent, Copy}

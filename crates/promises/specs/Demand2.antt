@@ -17,9 +17,9 @@ use Rattle.orders.specs.Touched.{storedBy}
 use Rattle.transfer.specs.Ends.{externallyEnded}
 use Rattle.transfer.specs.Steps.{transferOf}
 use Rattle.execute.specs.Execute.{executeOf}
-use Rattle.step.specs.declared.Choice.the-variants.{Ends, Steps}
+use Rattle.turns.specs.declared.Choice.the-variants.{Ends, Steps}
 use Rattle.step.specs.declared.Kind.the-variants.{Instruction, Transfer, External}
-use Rattle.step.specs.Choosing.{choiceOf}
+use Rattle.turns.specs.Choosing.{choiceOf}
 use Rattle.step.specs.Step.{doneStep, busyOf, stepOf}
 use Rattle.step.specs.Touched.{touchedBy}
 use Rattle.promises.specs.Pointers.{PointersKept}

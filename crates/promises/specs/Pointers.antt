@@ -23,8 +23,8 @@ use Rattle.shapes.specs.declared.Shape.the-variants.{MovpLoad, MovpStore, Call}
 use Rattle.decode.specs.Lengths.{lengthOf}
 use Rattle.operands.specs.Operands.{advanced, effective}
 use Rattle.execute.specs.Execute.{decodedAt}
-use Rattle.step.specs.declared.Choice.the-variants.{Steps}
-use Rattle.step.specs.Choosing.{choiceOf}
+use Rattle.turns.specs.declared.Choice.the-variants.{Steps}
+use Rattle.turns.specs.Choosing.{choiceOf}
 use Rattle.step.specs.Step.{Step, stepOf}
 
 -- the stored form of an address with its tag, read back, is that address and that tag

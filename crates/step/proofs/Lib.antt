@@ -1,5 +1,4 @@
 pub mod StepLaws
-pub mod ChoosingLaws
 pub mod OutcomeLaws
 pub mod NumberLaws
 pub mod TouchedLaws

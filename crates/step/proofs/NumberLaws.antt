@@ -26,13 +26,14 @@ use Rattle.transfer.specs.Steps.{transferred, touched, badMode, transferNumber,
 use Rattle.transfer.specs.Stores.{channelAfter, memoryAfter}
 use Rattle.words.proofs.ChoiceLaws.{apart}
 use Rattle.words.specs.Choice.{pick}
-use Rattle.step.specs.Choosing.{choiceOf}
-use Rattle.step.specs.Conditions.{LinesOver, NoneRuns, BadTransfer, transferChecks, chosenChecks, checks, AfterGiven, OnEnd, OnTransfer, OnInstruction}
+use Rattle.turns.specs.Choosing.{choiceOf}
+use Rattle.turns.specs.Ranks.{NoneRuns}
+use Rattle.turns.specs.declared.Choice.{Choice}
+use Rattle.turns.specs.declared.Choice.the-variants.{Nobody, Ends, Steps}
+use Rattle.turns.proofs.ChoosingLaws.{ends-chosen, steps-chosen, nobody-runs}
+use Rattle.step.specs.Conditions.{LinesOver, BadTransfer, transferChecks, chosenChecks, checks, AfterGiven, OnEnd, OnTransfer, OnInstruction}
 use Rattle.step.specs.Step.{Step, refusedStep, settledStep, busyOf, transferStep, instructionStep, externalStep, channelStep, chosenStep, entryNumber, stepOf}
-use Rattle.step.specs.declared.Choice.{Choice}
-use Rattle.step.specs.declared.Choice.the-variants.{Nobody, Ends, Steps}
 use Rattle.step.specs.declared.Kind.{Kind}
-use Rattle.step.proofs.ChoosingLaws.{ends-chosen, steps-chosen, nobody-runs}
 
 -- ---- the chain of a step
 

@@ -16,11 +16,11 @@ use Rattle.memory.specs.Buffers.{Buffers}
 use Rattle.transfer.specs.Ends.{externallyEnded}
 use Rattle.transfer.specs.Steps.{transferOf}
 use Rattle.words.specs.Choice.{pick}
-use Rattle.step.specs.Choosing.{choiceOf}
+use Rattle.turns.specs.Choosing.{choiceOf}
+use Rattle.turns.specs.declared.Choice.{Choice}
+use Rattle.turns.specs.declared.Choice.the-variants.{Nobody, Ends, Steps}
 use Rattle.step.specs.Conditions.{OnEnd, OnTransfer, OnInstruction}
 use Rattle.step.specs.Step.{Step, refusedStep, doneStep, settledStep, busyOf, transferStep, instructionStep, externalStep, channelStep, chosenStep, entryNumber, stepOf}
-use Rattle.step.specs.declared.Choice.{Choice}
-use Rattle.step.specs.declared.Choice.the-variants.{Nobody, Ends, Steps}
 use Rattle.step.specs.declared.Kind.{Kind}
 use Rattle.step.specs.declared.Kind.the-variants.{Transfer, Instruction, External}
 

@@ -1,4 +1,3 @@
-pub mod Choosing
 pub mod Step
 pub mod Conditions
 pub mod Touched

@@ -13,12 +13,12 @@ use Rattle.machine.specs.Outcomes.{first, unless, givenNumber}
 use Rattle.transfer.specs.Ends.{externallyEnded}
 use Rattle.transfer.specs.Steps.{transferOf}
 use Rattle.execute.specs.Execute.{executeOf}
-use Rattle.step.specs.declared.Choice.{Choice}
-use Rattle.step.specs.declared.Choice.the-variants.{Nobody, Ends, Steps}
+use Rattle.turns.specs.declared.Choice.{Choice}
+use Rattle.turns.specs.declared.Choice.the-variants.{Nobody, Ends, Steps}
+use Rattle.turns.specs.Choosing.{choiceOf}
 use Rattle.step.specs.declared.Kind.{Kind}
 use Rattle.step.specs.declared.Kind.the-variants.{Nothing, Instruction, Transfer, External}
 use Rattle.step.specs.declared.Stepped.{Stepped}
-use Rattle.step.specs.Choosing.{choiceOf}
 
 -- the number, the state, both memories, the channel that stepped and the kind of its step; 0 and none where it is refused
 pub record Step : Type 0 where

@@ -9,10 +9,10 @@ use Rattle.memory.specs.Buffers.{Buffers}
 use Rattle.memory.specs.Places.{Place}
 use Rattle.transfer.specs.Steps.{touched as moved}
 use Rattle.words.specs.Choice.{pick}
-use Rattle.step.specs.Choosing.{choiceOf}
+use Rattle.turns.specs.Choosing.{choiceOf}
+use Rattle.turns.specs.declared.Choice.{Choice}
+use Rattle.turns.specs.declared.Choice.the-variants.{Nobody, Ends, Steps}
 use Rattle.step.specs.Step.{busyOf}
-use Rattle.step.specs.declared.Choice.{Choice}
-use Rattle.step.specs.declared.Choice.the-variants.{Nobody, Ends, Steps}
 
 -- the bytes of a choice, each access once
 unfoldable pub touchedIn : Choice → State → Buffers → List Place

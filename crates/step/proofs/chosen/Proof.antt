@@ -5,8 +5,8 @@ use denote.Ref.{now}
 use mathlib.Core.Path.{sym, ap, _∙_}
 use Rattle.memory.specs.Buffers.{buffers}
 use Rattle.transfer.proofs.StepLaws.{refused, done}
+use Rattle.turns.specs.declared.Choice.{Choice}
 use Rattle.step.specs.Step.{stepped, doneAnswer, externalStep, chosenStep}
-use Rattle.step.specs.declared.Choice.{Choice}
 use Rattle.step.specs.declared.Stepped.{Stepped}
 use Rattle.step.proofs.chosen.Statement.{statement}
 use Rattle.step.proofs.chosen.Tie as tie

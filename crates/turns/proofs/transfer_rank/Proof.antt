@@ -1,10 +1,10 @@
--- `step::transfer_rank` meets its contract.
+-- `turns::transfer_rank` meets its contract.
 -- Assumes nothing.
 use borrow.Author.Needs.{needs}
 use Rattle.machine.specs.Cc.{synchronised}
-use Rattle.step.specs.Choosing.{transferRank}
-use Rattle.step.proofs.transfer_rank.Statement.{statement}
-use Rattle.step.proofs.transfer_rank.Tie as tie
+use Rattle.turns.specs.Choosing.{transferRank}
+use Rattle.turns.proofs.transfer_rank.Statement.{statement}
+use Rattle.turns.proofs.transfer_rank.Tie as tie
 
 synchronised-requires : tie.Need-synchronised-requires
 synchronised-requires c κs = search needs

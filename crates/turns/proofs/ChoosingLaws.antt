@@ -18,10 +18,10 @@ use Rattle.machine.specs.declared.State.{State}
 use Rattle.words.proofs.ChoiceLaws.{apart}
 use Rattle.words.specs.Bits.{bitOf}
 use Rattle.words.specs.Choice.{pick}
-use Rattle.step.specs.Choosing.{requested, external, endsNow, noRank, transferRank, rankOf, secondWins, ranked, choiceOf}
-use Rattle.step.specs.Conditions.{EndsNow, RankOne, RankThree, HasRank, EndsAt, RankedAt, WaitsAt, rankAt, NoneEnds, NoneRuns}
-use Rattle.step.specs.declared.Choice.{Choice}
-use Rattle.step.specs.declared.Choice.the-variants.{Nobody, Ends, Steps}
+use Rattle.turns.specs.Choosing.{requested, external, endsNow, noRank, transferRank, rankOf, secondWins, ranked, choiceOf}
+use Rattle.turns.specs.Ranks.{EndsNow, RankOne, RankThree, HasRank, EndsAt, RankedAt, WaitsAt, rankAt, NoneEnds, NoneRuns}
+use Rattle.turns.specs.declared.Choice.{Choice}
+use Rattle.turns.specs.declared.Choice.the-variants.{Nobody, Ends, Steps}
 
 -- ---- the lines
 

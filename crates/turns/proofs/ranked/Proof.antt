@@ -1,10 +1,10 @@
--- `step::ranked` meets its contract.
+-- `turns::ranked` meets its contract.
 -- Assumes nothing.
 use borrow.Author.Needs.{needs}
 use Rattle.machine.specs.Psw.{priority}
-use Rattle.step.specs.Choosing.{ranked}
-use Rattle.step.proofs.ranked.Statement.{statement}
-use Rattle.step.proofs.ranked.Tie as tie
+use Rattle.turns.specs.Choosing.{ranked}
+use Rattle.turns.proofs.ranked.Statement.{statement}
+use Rattle.turns.proofs.ranked.Tie as tie
 
 returns : tie.Need-returns
 unfolding ranked

@@ -9,8 +9,8 @@ use Rattle.machine.specs.declared.State.{State}
 use Rattle.machine.specs.Psw.{transferring, priority}
 use Rattle.machine.specs.Cc.{synchronised, chained, externalEnd}
 use Rattle.machine.specs.States.{isRunning}
-use Rattle.step.specs.declared.Choice.{Choice}
-use Rattle.step.specs.declared.Choice.the-variants.{Nobody, Ends, Steps}
+use Rattle.turns.specs.declared.Choice.{Choice}
+use Rattle.turns.specs.declared.Choice.the-variants.{Nobody, Ends, Steps}
 
 -- "DRQ of channel 1 = 1, of channel 2 = 2"
 unfoldable pub requested : ℕ → Bool → Bool

@@ -1,13 +1,13 @@
--- `step::rank` meets its contract.
+-- `turns::rank` meets its contract.
 -- Assumes nothing.
 use borrow.Author.Needs.{needs}
 use borrow.Author.Tests.{not-true, not-false}
 use mathlib.Core.Path.{sym, _∙_}
 use Rattle.machine.specs.Cc.{chained}
 use Rattle.machine.specs.Psw.{transferring}
-use Rattle.step.specs.Choosing.{rankOf}
-use Rattle.step.proofs.rank.Statement.{statement}
-use Rattle.step.proofs.rank.Tie as tie
+use Rattle.turns.specs.Choosing.{rankOf}
+use Rattle.turns.proofs.rank.Statement.{statement}
+use Rattle.turns.proofs.rank.Tie as tie
 
 is-running-requires : tie.Need-is-running-requires
 is-running-requires c κs = search needs

@@ -1,11 +1,11 @@
--- `step::choose` meets its contract.
+-- `turns::choose` meets its contract.
 -- Assumes nothing.
 use borrow.Author.Needs.{needs}
 use mathlib.Core.Path.{sym, ap, _∙_}
 use Rattle.machine.specs.Outcomes.{first}
-use Rattle.step.specs.Choosing.{external, endsNow, ranked, choiceOf}
-use Rattle.step.proofs.choose.Statement.{statement}
-use Rattle.step.proofs.choose.Tie as tie
+use Rattle.turns.specs.Choosing.{external, endsNow, ranked, choiceOf}
+use Rattle.turns.proofs.choose.Statement.{statement}
+use Rattle.turns.proofs.choose.Tie as tie
 
 external-requires : tie.Need-external-requires
 external-requires c κs = search needs

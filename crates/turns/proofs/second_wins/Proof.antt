@@ -1,9 +1,9 @@
--- `step::second_wins` meets its contract.
+-- `turns::second_wins` meets its contract.
 -- Assumes nothing.
 use borrow.Author.Tests.{lt-ltb, le-ltb, le-leb, lt-leb}
-use Rattle.step.specs.Choosing.{secondWins}
-use Rattle.step.proofs.second_wins.Statement.{statement}
-use Rattle.step.proofs.second_wins.Tie as tie
+use Rattle.turns.specs.Choosing.{secondWins}
+use Rattle.turns.proofs.second_wins.Statement.{statement}
+use Rattle.turns.proofs.second_wins.Tie as tie
 
 returns : tie.Need-returns
 unfolding secondWins

@@ -1,10 +1,10 @@
--- `step::ends_now` meets its contract.
+-- `turns::ends_now` meets its contract.
 -- Assumes nothing.
 use borrow.Author.Needs.{needs}
 use Rattle.machine.specs.Psw.{transferring}
-use Rattle.step.specs.Choosing.{endsNow}
-use Rattle.step.proofs.ends_now.Statement.{statement}
-use Rattle.step.proofs.ends_now.Tie as tie
+use Rattle.turns.specs.Choosing.{endsNow}
+use Rattle.turns.proofs.ends_now.Statement.{statement}
+use Rattle.turns.proofs.ends_now.Tie as tie
 
 is-running-requires : tie.Need-is-running-requires
 is-running-requires c κs = search needs
