@@ -4,6 +4,7 @@ use calls::buffers;
 use calls::text;
 use calls::text::Call;
 use machine::State;
+use step::Kind;
 ghost use mathlib.Core.Path.{_≡_};
 ghost use Rattle.memory.specs.Buffers.{buffers};
 ghost use Rattle.calls.specs.Text.{spanned, fourthSpan};
@@ -55,13 +56,23 @@ fn attend(s: State, channel: u32, sys: &mut [u8], io: &mut [u8]) -> State
     state
 }
 
+// The letter of a kind of step.
+fn letter(kind: Kind) -> u8 {
+    match kind {
+        Kind::Nothing => 46,
+        Kind::Instruction => 73,
+        Kind::Transfer => 84,
+        Kind::External => 88,
+    }
+}
+
 // Makes a step.
 fn advance(s: State, lines: u32, sys: &mut [u8], io: &mut [u8]) -> State
     ensures { λ r. ⌜ machine r (buffers (now (sys .exit)) (now (io .exit))) ≡ advanced s (buffers (now (sys .entry)) (now (io .entry))) lines ⌝ }
 {
     let r = step::step(s, sys, io, lines);
     let kind = r.kind;
-    prints::print_step(r.number, r.channel, kind);
+    prints::print_step(r.number, r.channel, letter(kind));
     let state = r.state;
     state
 }

@@ -5,7 +5,6 @@ use machine::Channel;
 use machine::Mode;
 use machine::State;
 use memory::Pointer;
-use step::Kind;
 
 // Prints bytes.
 pub fn print(text: &[u8]) {
@@ -29,19 +28,9 @@ pub fn print_answer(name: &[u8], number: u32) {
     print(b"\n");
 }
 
-// The letter of a kind of step.
-fn letter(kind: Kind) -> u8 {
-    match kind {
-        Kind::Nothing => 46,
-        Kind::Instruction => 73,
-        Kind::Transfer => 84,
-        Kind::External => 88,
-    }
-}
-
-// Prints what a step answered.
-pub fn print_step(number: u32, channel: u32, kind: Kind) {
-    let end = [32u8, letter(kind), 10u8];
+// Prints what a step answered, its kind as a letter.
+pub fn print_step(number: u32, channel: u32, letter: u8) {
+    let end = [32u8, letter, 10u8];
     print(b"step ");
     print_decimal(number);
     print(b" ");
