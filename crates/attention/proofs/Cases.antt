@@ -16,12 +16,12 @@ use Rattle.memory.specs.Buffers.{Buffers, buffers, spaceOf, limitOf, indexOf, l
 use Rattle.memory.specs.Places.{span, allLent}
 use Rattle.memory.specs.Values.{wordAt, doublewordAt, pointer, pointerAt, storePointer}
 use Rattle.words.specs.Bits.{fieldOf, bitOf, withBit}
-use Rattle.attention.specs.Attention.{orderTo, orderNumber, channelAfter, memoryAfter, givenTo, attentionNumber, attentionOf}
-use Rattle.orders.specs.Blocks.{ccwOf, parameterBlock, orderOf}
-use Rattle.orders.specs.Commands.{commandCoded, isKnown, modeNumber, commandNumber, copied, obeyed, ordered}
-use Rattle.orders.specs.Effects.{withControl, started, stopped, resumed, commanded, channelOrdered, writesOf, saved, marked, written}
+use Rattle.attention.specs.Attention.{orderTo, orderNumber, orderedChannel, orderedMemory, givenTo, attentionNumber, attentionOf}
+use Rattle.attention.specs.Blocks.{ccwOf, parameterBlock, orderOf}
+use Rattle.attention.specs.Commands.{commandCoded, isKnown, modeNumber, commandNumber, copied, obeyed, ordered}
+use Rattle.attention.specs.Effects.{withControl, started, stopped, resumed, commanded, channelOrdered, writesOf, saved, marked, writesMade}
 use Rattle.attention.specs.Pauses.{Pause}
-use Rattle.orders.specs.Touched.{readBy, storedBy, others}
+use Rattle.attention.specs.Touched.{readBy, storedBy, others}
 
 -- the example's system memory
 abbrev pub input : List ℕ
@@ -32,7 +32,7 @@ input =
 -- its attention starts channel 1 at 20h of system space, with PB at 10h, TB 1 and BUSY FFh
 pub example-starts : attentionOf (freshState 0) (buffers input []) 1
     ≡ outcome 0 (withChannel (freshState 0) false (withControl idleChannel (pointer 32 false) 16 4 Running false)) (buffers (set input 1 255) [])
-unfolding freshState idleChannel attentionOf attentionNumber givenTo givenNumber unless first isChannel withinLimits limitOf sound soundChannel orderNumber orderTo orderOf blockOf channelOf isSecond ccwOf commandCoded fieldOf parameterBlock doublewordAt wordAt byteAt indexOf spaceOf allLent lentAt span commandNumber isKnown modeNumber isRunning isSuspended others readBy storedBy settled memoryAfter written writesOf saved storePointer marked storeByte channelAfter channelOrdered commanded started stopped resumed pointerAt ordered copied obeyed withPsw withBit bitOf withControl withChannel
+unfolding freshState idleChannel attentionOf attentionNumber givenTo givenNumber unless first isChannel withinLimits limitOf sound soundChannel orderNumber orderTo orderOf blockOf channelOf isSecond ccwOf commandCoded fieldOf parameterBlock doublewordAt wordAt byteAt indexOf spaceOf allLent lentAt span commandNumber isKnown modeNumber isRunning isSuspended others readBy storedBy settled orderedMemory writesMade writesOf saved storePointer marked storeByte orderedChannel channelOrdered commanded started stopped resumed pointerAt ordered copied obeyed withPsw withBit bitOf withControl withChannel
 example-starts = refl
 
 -- a state whose channel 1 runs a transfer at 12345h of I/O space, with PB at 8
@@ -49,7 +49,7 @@ toResume = buffers (5 ∷ 0 ∷ 0 ∷ 0 ∷ 0 ∷ 0 ∷ 0 ∷ 0 ∷ 69 ∷ 35 �
 
 -- so a pause as it is defined can happen
 pub some-pause : Pause running toSuspend (attentionOf running toSuspend 1 .state) toResume 1
-unfolding freshState idleChannel attentionOf attentionNumber givenTo givenNumber unless first isChannel withinLimits limitOf sound soundChannel orderNumber orderTo orderOf blockOf channelOf isSecond ccwOf commandCoded fieldOf parameterBlock doublewordAt wordAt byteAt indexOf spaceOf allLent lentAt span commandNumber isKnown modeNumber isRunning isSuspended others readBy storedBy settled memoryAfter written writesOf saved storePointer marked storeByte channelAfter channelOrdered commanded started stopped resumed pointerAt ordered copied obeyed withPsw withBit bitOf withControl withChannel
+unfolding freshState idleChannel attentionOf attentionNumber givenTo givenNumber unless first isChannel withinLimits limitOf sound soundChannel orderNumber orderTo orderOf blockOf channelOf isSecond ccwOf commandCoded fieldOf parameterBlock doublewordAt wordAt byteAt indexOf spaceOf allLent lentAt span commandNumber isKnown modeNumber isRunning isSuspended others readBy storedBy settled orderedMemory writesMade writesOf saved storePointer marked storeByte orderedChannel channelOrdered commanded started stopped resumed pointerAt ordered copied obeyed withPsw withBit bitOf withControl withChannel
 some-pause = record {
   accepted = refl;
   suspends = refl;

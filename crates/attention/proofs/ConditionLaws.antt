@@ -10,7 +10,7 @@ use Rattle.machine.proofs.OutcomeLaws.{first-right}
 use Rattle.machine.specs.Outcomes.{unless, first}
 use Rattle.machine.specs.States.{isChannel, isRunning, isSuspended}
 use Rattle.machine.specs.declared.Mode.{Mode}
-use Rattle.orders.specs.Commands.{commandCoded, isKnown, modeNumber, commandNumber}
+use Rattle.attention.specs.Commands.{commandCoded, isKnown, modeNumber, commandNumber}
 use Rattle.attention.specs.Conditions.{NoChannel, NoCommand, ResumesOther, StartsRunning, SuspendsOther}
 
 -- ---- 12

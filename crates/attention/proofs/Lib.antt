@@ -1,3 +1,4 @@
+pub mod ReducedLaws
 pub mod PlanLaws
 pub mod ConditionLaws
 pub mod Outcomes

@@ -14,23 +14,23 @@ use Rattle.memory.specs.Places.{span}
 use Rattle.words.proofs.BitLaws.{field-lt}
 use Rattle.machine.proofs.ConditionLaws.{step, last, rewritten, first-assoc, skip, hit, either, end, foreign, never, told-limits, told-sound, told-lent}
 use Rattle.machine.specs.Conditions.{Given, TooLong, NotSound}
-use Rattle.attention.specs.Attention.{orderTo, orderNumber, channelAfter, memoryAfter, givenTo, attentionNumber, attentionOf}
-use Rattle.orders.specs.Blocks.{orderOf}
-use Rattle.orders.specs.Commands.{codeOf}
-use Rattle.attention.specs.Conditions.{NoChannel, CcwBeyond, OthersBeyond, NoCommand, ResumesOther, StartsRunning, SuspendsOther, codeTo, modeOf, checks, AfterGiven, AfterCommand, AfterMode}
-use Rattle.orders.specs.Touched.{others}
+use Rattle.attention.specs.Attention.{orderTo, orderNumber, orderedChannel, orderedMemory, givenTo, attentionNumber, attentionOf}
+use Rattle.attention.specs.Blocks.{orderOf}
+use Rattle.attention.specs.Commands.{codeOf}
+use Rattle.attention.specs.Conditions.{NoChannel, CcwBeyond, OthersBeyond, NoCommand, ResumesOther, StartsRunning, SuspendsOther, codeTo, modeTo, attentionChecks, AttentionAfterGiven, AfterCommand, AfterMode}
+use Rattle.attention.specs.Touched.{others}
 use Rattle.attention.proofs.ConditionLaws.{told-channel, told-resume, told-start, told-suspend, told-command, command-chain}
 
 module _ (s : State) (m : Buffers) (channel : ℕ) where
   -- the table, whole: an attention gives n exactly where n is the number of the first check that applies, or 0 where none does
-  pub given-exactly : (n : ℕ) → (attentionOf s m channel .number ≡ n) ↔ Given (checks s m channel) n
+  pub given-exactly : (n : ℕ) → (attentionOf s m channel .number ≡ n) ↔ Given (attentionChecks s m channel) n
   unfolding attentionOf attentionNumber givenTo givenNumber orderNumber orderTo orderOf
   given-exactly n =
       let b = isSecond channel in
       let o = orderTo s m b in
       let code = codeOf (o .ccw) in
       let mode = channelOf s b .mode in
-      rewritten (settled-number (attentionNumber s m channel) s m (withChannel s b (channelAfter s m b)) (memoryAfter s m b))
+      rewritten (settled-number (attentionNumber s m channel) s m (withChannel s b (orderedChannel s m b)) (orderedMemory s m b))
       (rw (first-assoc, first-assoc, command-chain code mode (field-lt (o .ccw) 0 3), first-assoc, first-assoc, first-assoc)
       (step 12 refl (told-channel channel)
       (step 11 refl (told-limits m)
@@ -43,8 +43,8 @@ module _ (s : State) (m : Buffers) (channel : ℕ) where
       (last n 2 refl (told-lent m (others o))))))))))))
 
   -- no check after the first k gives n
-  later : (n k : ℕ) → foreign n (drop k (checks s m channel)) ≡ true → ¬ (Given (drop k (checks s m channel)) n)
-  later n k = never n (drop k (checks s m channel))
+  later : (n k : ℕ) → foreign n (drop k (attentionChecks s m channel)) ≡ true → ¬ (Given (drop k (attentionChecks s m channel)) n)
+  later n k = never n (drop k (attentionChecks s m channel))
 
   -- 12: channel neither 1 nor 2
   pub gives-12 : (attentionOf s m channel .number ≡ 12) ↔ NoChannel channel
@@ -59,29 +59,29 @@ module _ (s : State) (m : Buffers) (channel : ℕ) where
   gives-10 = Iff·trans (given-exactly 10) (skip refl (skip refl (hit (later 10 3 refl))))
 
   -- 2: CCW lies beyond lent memory, or, after every other check, another byte does
-  pub gives-2 : (attentionOf s m channel .number ≡ 2) ↔ AfterGiven s m channel (CcwBeyond s m channel ⊎ AfterMode s m channel (OthersBeyond s m channel))
+  pub gives-2 : (attentionOf s m channel .number ≡ 2) ↔ AttentionAfterGiven s m channel (CcwBeyond s m channel ⊎ AfterMode s m channel (OthersBeyond s m channel))
   gives-2 = Iff·trans (given-exactly 2) (skip refl (skip refl (skip refl (either (skip refl (skip refl (skip refl (skip refl (hit (later 2 9 refl))))))))))
 
   -- 6: command 010 or 100
-  pub gives-6 : (attentionOf s m channel .number ≡ 6) ↔ AfterGiven s m channel (¬ (CcwBeyond s m channel) × NoCommand (codeTo s m channel))
+  pub gives-6 : (attentionOf s m channel .number ≡ 6) ↔ AttentionAfterGiven s m channel (¬ (CcwBeyond s m channel) × NoCommand (codeTo s m channel))
   gives-6 = Iff·trans (given-exactly 6) (skip refl (skip refl (skip refl (skip refl (hit (later 6 5 refl))))))
 
   -- 7: resume, channel not suspended
   pub gives-7 : (attentionOf s m channel .number ≡ 7)
-      ↔ AfterGiven s m channel (AfterCommand s m channel (ResumesOther (codeTo s m channel) (modeOf s channel)))
+      ↔ AttentionAfterGiven s m channel (AfterCommand s m channel (ResumesOther (codeTo s m channel) (modeTo s channel)))
   gives-7 = Iff·trans (given-exactly 7) (skip refl (skip refl (skip refl (skip refl (skip refl (hit (later 7 6 refl)))))))
 
   -- 8: start, channel running
   pub gives-8 : (attentionOf s m channel .number ≡ 8)
-      ↔ AfterGiven s m channel (AfterCommand s m channel (¬ (ResumesOther (codeTo s m channel) (modeOf s channel)) × StartsRunning (codeTo s m channel) (modeOf s channel)))
+      ↔ AttentionAfterGiven s m channel (AfterCommand s m channel (¬ (ResumesOther (codeTo s m channel) (modeTo s channel)) × StartsRunning (codeTo s m channel) (modeTo s channel)))
   gives-8 = Iff·trans (given-exactly 8) (skip refl (skip refl (skip refl (skip refl (skip refl (skip refl (hit (later 8 7 refl))))))))
 
   -- 9: suspend, channel not running
   pub gives-9 : (attentionOf s m channel .number ≡ 9)
-      ↔ AfterGiven s m channel (AfterCommand s m channel
-      (¬ (ResumesOther (codeTo s m channel) (modeOf s channel)) × (¬ (StartsRunning (codeTo s m channel) (modeOf s channel)) × SuspendsOther (codeTo s m channel) (modeOf s channel))))
+      ↔ AttentionAfterGiven s m channel (AfterCommand s m channel
+      (¬ (ResumesOther (codeTo s m channel) (modeTo s channel)) × (¬ (StartsRunning (codeTo s m channel) (modeTo s channel)) × SuspendsOther (codeTo s m channel) (modeTo s channel))))
   gives-9 = Iff·trans (given-exactly 9) (skip refl (skip refl (skip refl (skip refl (skip refl (skip refl (skip refl (hit (later 9 8 refl)))))))))
 
   -- 0: no check applies
-  pub gives-0 : (attentionOf s m channel .number ≡ 0) ↔ AfterGiven s m channel (AfterMode s m channel (¬ (OthersBeyond s m channel)))
+  pub gives-0 : (attentionOf s m channel .number ≡ 0) ↔ AttentionAfterGiven s m channel (AfterMode s m channel (¬ (OthersBeyond s m channel)))
   gives-0 = Iff·trans (given-exactly 0) (skip refl (skip refl (skip refl (skip refl (skip refl (skip refl (skip refl (skip refl (end refl refl)))))))))

@@ -12,8 +12,8 @@ use Rattle.machine.specs.declared.Channel.{Channel}
 use Rattle.machine.specs.declared.State.{State}
 use Rattle.memory.specs.Buffers.{Buffers}
 use Rattle.words.specs.Choice.{pick}
-use Rattle.attention.specs.Attention.{orderTo, channelAfter, memoryAfter, attentionNumber, attentionOf}
-use Rattle.orders.specs.Effects.{withControl, channelOrdered}
+use Rattle.attention.specs.Attention.{orderTo, orderedChannel, orderedMemory, attentionNumber, attentionOf}
+use Rattle.attention.specs.Effects.{withControl, channelOrdered}
 
 -- what holds of a refusal's outcome and of an accepted call's holds of the settled one
 pub settled-by : (P : Outcome → Type 0) (number : ℕ) (s : State) (m : Buffers) (s′ : State) (m′ : Buffers)
@@ -32,12 +32,12 @@ controlledAs c d = withControl c (d .tp) (d .pp) (d .psw) (d .mode) (d .armed)
 module _ (s : State) (m : Buffers) (channel : ℕ) where
   -- what holds of the given state and memories, and of what the order makes of them, holds of an attention's outcome
   pub attention-by : (P : Outcome → Type 0) → P (outcome (attentionNumber s m channel) s m)
-      → P (outcome 0 (withChannel s (isSecond channel) (channelAfter s m (isSecond channel))) (memoryAfter s m (isSecond channel)))
+      → P (outcome 0 (withChannel s (isSecond channel) (orderedChannel s m (isSecond channel))) (orderedMemory s m (isSecond channel)))
       → P (attentionOf s m channel)
   unfolding attentionOf
   attention-by P =
       settled-by P (attentionNumber s m channel) s m
-      (withChannel s (isSecond channel) (channelAfter s m (isSecond channel))) (memoryAfter s m (isSecond channel))
+      (withChannel s (isSecond channel) (orderedChannel s m (isSecond channel))) (orderedMemory s m (isSecond channel))
 
   -- two outcomes that meet the contract are equal
   pub unique : (one two : Outcome) → one ≡ attentionOf s m channel → two ≡ attentionOf s m channel → one ≡ two
@@ -50,29 +50,29 @@ module _ (s : State) (m : Buffers) (channel : ℕ) where
 
   -- an accepted one is what its order makes of them
   pub accepted-order : attentionOf s m channel .number ≡ 0
-      → attentionOf s m channel ≡ outcome 0 (withChannel s (isSecond channel) (channelAfter s m (isSecond channel))) (memoryAfter s m (isSecond channel))
+      → attentionOf s m channel ≡ outcome 0 (withChannel s (isSecond channel) (orderedChannel s m (isSecond channel))) (orderedMemory s m (isSecond channel))
   unfolding attentionOf
   accepted-order e =
       accepted (attentionNumber s m channel) s m
-      (withChannel s (isSecond channel) (channelAfter s m (isSecond channel))) (memoryAfter s m (isSecond channel))
-      (sym (settled-number (attentionNumber s m channel) s m (withChannel s (isSecond channel) (channelAfter s m (isSecond channel))) (memoryAfter s m (isSecond channel))) ∙ e)
+      (withChannel s (isSecond channel) (orderedChannel s m (isSecond channel))) (orderedMemory s m (isSecond channel))
+      (sym (settled-number (attentionNumber s m channel) s m (withChannel s (isSecond channel) (orderedChannel s m (isSecond channel))) (orderedMemory s m (isSecond channel))) ∙ e)
 
   -- no register of the other channel changes
   pub other-channel : channelOf (attentionOf s m channel .state) (not (isSecond channel)) ≡ channelOf s (not (isSecond channel))
   other-channel =
       attention-by (λ (r : Outcome). channelOf (r .state) (not (isSecond channel)) ≡ channelOf s (not (isSecond channel)))
-      refl (put-other s (isSecond channel) (channelAfter s m (isSecond channel)))
+      refl (put-other s (isSecond channel) (orderedChannel s m (isSecond channel)))
 
   -- nor CP, nor the channel that stepped last
   pub shared-kept : (attentionOf s m channel .state .cp ≡ s .cp) × (attentionOf s m channel .state .last ≡ s .last)
   shared-kept =
       attention-by (λ (r : Outcome). (r .state .cp ≡ s .cp) × (r .state .last ≡ s .last)) (refl, refl)
-      (put-cp s (isSecond channel) (channelAfter s m (isSecond channel)), put-last s (isSecond channel) (channelAfter s m (isSecond channel)))
+      (put-cp s (isSecond channel) (orderedChannel s m (isSecond channel)), put-last s (isSecond channel) (orderedChannel s m (isSecond channel)))
 
   -- of the channel itself only TP, PP, PSW, the mode and the armed mark can change
   pub registers-kept : channelOf (attentionOf s m channel .state) (isSecond channel)
       ≡ controlledAs (channelOf s (isSecond channel)) (channelOf (attentionOf s m channel .state) (isSecond channel))
-  unfolding withControl channelAfter channelOrdered
+  unfolding withControl orderedChannel channelOrdered
   registers-kept =
       let c = channelOf s (isSecond channel) in
       let o = orderTo s m (isSecond channel) in

@@ -28,13 +28,13 @@ use Rattle.words.proofs.ChoiceLaws.{both-left, both-right}
 use Rattle.words.specs.Bits.{fieldOf, bitOf, withBit}
 use Rattle.words.specs.Choice.{pick}
 use Rattle.machine.proofs.ConditionLaws.{first-none-left, first-none-right, unless-none, running-is}
-use Rattle.attention.specs.Attention.{orderTo, orderNumber, channelAfter, memoryAfter, givenTo, attentionNumber, attentionOf}
-use Rattle.orders.specs.Blocks.{busyOf, parameterBlock, orderOf}
-use Rattle.orders.specs.Commands.{isKnown, modeNumber, commandNumber, copied, obeyed, ordered}
-use Rattle.orders.specs.Effects.{withControl, stopped, resumed, commanded, channelOrdered, writesOf, saved, marked, written}
+use Rattle.attention.specs.Attention.{orderTo, orderNumber, orderedChannel, orderedMemory, givenTo, attentionNumber, attentionOf}
+use Rattle.attention.specs.Blocks.{busyOf, parameterBlock, orderOf}
+use Rattle.attention.specs.Commands.{isKnown, modeNumber, commandNumber, copied, obeyed, ordered}
+use Rattle.attention.specs.Effects.{withControl, stopped, resumed, commanded, channelOrdered, writesOf, saved, marked, writesMade}
 use Rattle.attention.specs.Pauses.{Pause}
-use Rattle.orders.specs.Touched.{readBy, storedBy, others}
-use Rattle.orders.specs.declared.Command.the-variants.{Suspend, Resume}
+use Rattle.attention.specs.Touched.{readBy, storedBy, others}
+use Rattle.attention.specs.declared.Command.the-variants.{Suspend, Resume}
 use Rattle.attention.proofs.Outcomes.{accepted-order}
 
 -- ---- what the saved bytes read
@@ -69,12 +69,12 @@ pointer-same m n t a e = rw (rw add-zero at (e 0 (lit< tt)), e 1 (lit< tt), e 2 
 
 module _ (s : State) (m : Buffers) (b : Bool) where
   suspend-channel : orderTo s m b .command ≡ Suspend
-      → channelAfter s m b ≡ withControl (channelOf s b) (channelOf s b .tp) (channelOf s b .pp) (ordered (orderTo s m b .ccw) (withPsw (withPsw (channelOf s b .psw) 2 false) 6 false)) Suspended (channelOf s b .armed)
-  unfolding channelAfter channelOrdered orderTo orderOf commanded stopped parameterBlock
+      → orderedChannel s m b ≡ withControl (channelOf s b) (channelOf s b .tp) (channelOf s b .pp) (ordered (orderTo s m b .ccw) (withPsw (withPsw (channelOf s b .psw) 2 false) 6 false)) Suspended (channelOf s b .armed)
+  unfolding orderedChannel channelOrdered orderTo orderOf commanded stopped parameterBlock
   suspend-channel e = rw e
 
-  suspend-memory : orderTo s m b .command ≡ Suspend → memoryAfter s m b ≡ marked (saved m (channelOf s b .pp) (channelOf s b .tp) (channelOf s b .psw)) (blockOf s b) 0
-  unfolding memoryAfter orderTo orderOf written writesOf parameterBlock
+  suspend-memory : orderTo s m b .command ≡ Suspend → orderedMemory s m b ≡ marked (saved m (channelOf s b .pp) (channelOf s b .tp) (channelOf s b .psw)) (blockOf s b) 0
+  unfolding orderedMemory orderTo orderOf writesMade writesOf parameterBlock
   suspend-memory e = rw e
 
   suspend-lent : orderTo s m b .command ≡ Suspend → allLent m (others (orderTo s m b)) ≡ true → allLent m (span false (channelOf s b .pp) 4) ≡ true
@@ -86,8 +86,8 @@ module _ (s : State) (m : Buffers) (b : Bool) where
       both-left (allLent m (span false pp 4)) (allLent m busy) (sym (all-append m (span false pp 4) busy) ∙ both)
 
   resume-channel : orderTo s m b .command ≡ Resume
-      → channelAfter s m b ≡ withControl (channelOf s b) (pointerAt m false (channelOf s b .pp)) (channelOf s b .pp) (ordered (orderTo s m b .ccw) (withPsw (byteAt m false (channelOf s b .pp + 3)) 2 true)) Running (channelOf s b .armed)
-  unfolding channelAfter channelOrdered orderTo orderOf commanded resumed parameterBlock
+      → orderedChannel s m b ≡ withControl (channelOf s b) (pointerAt m false (channelOf s b .pp)) (channelOf s b .pp) (ordered (orderTo s m b .ccw) (withPsw (byteAt m false (channelOf s b .pp + 3)) 2 true)) Running (channelOf s b .armed)
+  unfolding orderedChannel channelOrdered orderTo orderOf commanded resumed parameterBlock
   resume-channel e = rw e
 
 -- ---- what an accepted attention has passed
@@ -95,7 +95,7 @@ module _ (s : State) (m : Buffers) (b : Bool) where
 module _ (s : State) (m : Buffers) (channel : ℕ) (accepted : attentionOf s m channel .number ≡ 0) where
   number-none : attentionNumber s m channel ≡ 0
   unfolding attentionOf
-  number-none = sym (settled-number (attentionNumber s m channel) s m (withChannel s (isSecond channel) (channelAfter s m (isSecond channel))) (memoryAfter s m (isSecond channel))) ∙ accepted
+  number-none = sym (settled-number (attentionNumber s m channel) s m (withChannel s (isSecond channel) (orderedChannel s m (isSecond channel))) (orderedMemory s m (isSecond channel))) ∙ accepted
 
   passed-sound : sound s ≡ true
   unfolding attentionNumber givenTo givenNumber
@@ -156,7 +156,7 @@ module _ (s : State) (m : Buffers) (s′ : State) (m′ : Buffers) (channel : �
       let b = isSecond channel in
       p .registers
       ∙ ap (λ (r : Outcome). channelOf (r .state) b) (accepted-order s m channel (p .accepted))
-      ∙ put-same s b (channelAfter s m b)
+      ∙ put-same s b (orderedChannel s m b)
       ∙ suspend-channel s m b (p .suspends)
 
   -- the four bytes that resume reads are those that suspend saved
@@ -196,6 +196,6 @@ module _ (s : State) (m : Buffers) (s′ : State) (m′ : Buffers) (channel : �
   suspend-resume =
       let b = isSecond channel in
       ap (λ (r : Outcome). channelOf (r .state) b) (accepted-order s′ m′ channel (p .accepted′))
-      ∙ put-same s′ b (channelAfter s′ m′ b)
+      ∙ put-same s′ b (orderedChannel s′ m′ b)
       ∙ resume-channel s′ m′ b (p .resumes)
       ∙ rw (between, tp-same, psw-same, ← was-running)

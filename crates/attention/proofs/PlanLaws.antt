@@ -11,16 +11,16 @@ use Rattle.machine.specs.declared.Channel.{Channel}
 use Rattle.machine.specs.declared.State.{State}
 use Rattle.memory.specs.Buffers.{Buffers}
 use Rattle.words.specs.Choice.{pick}
-use Rattle.attention.specs.Attention.{orderTo, effectOf, channelAfter, memoryAfter, givenTo, attentionNumber, attentionOf}
-use Rattle.orders.specs.Effects.{channelOrdered, writes, writesOf, written}
-use Rattle.attention.specs.declared.Effect.{Effect}
-use Rattle.orders.specs.declared.Order.{Order}
+use Rattle.attention.specs.Attention.{orderTo, plannedOf, orderedChannel, orderedMemory, givenTo, attentionNumber, attentionOf}
+use Rattle.attention.specs.Effects.{channelOrdered, writes, writesOf, writesMade}
+use Rattle.attention.specs.declared.Upshot.{Upshot}
+use Rattle.attention.specs.declared.Order.{Order}
 
 -- the plan, put back into the state and written into memory, is the whole outcome
-pub planned-settled : (s : State) (m : Buffers) (channel : ℕ) (e : Effect)
-    → e ≡ effectOf m (givenTo s m channel) (blockOf s (isSecond channel)) (channelOf s (isSecond channel))
-    → outcome (e .number) (withChannel s (isSecond channel) (e .channel)) (written m (e .writes)) ≡ attentionOf s m channel
-unfolding effectOf attentionOf attentionNumber channelAfter memoryAfter orderTo settled written
+pub planned-settled : (s : State) (m : Buffers) (channel : ℕ) (e : Upshot)
+    → e ≡ plannedOf m (givenTo s m channel) (blockOf s (isSecond channel)) (channelOf s (isSecond channel))
+    → outcome (e .number) (withChannel s (isSecond channel) (e .channel)) (writesMade m (e .writes)) ≡ attentionOf s m channel
+unfolding plannedOf attentionOf attentionNumber orderedChannel orderedMemory orderTo settled writesMade
 planned-settled s m channel e is = rw is (go (eqb (attentionNumber s m channel) 0))
   where
     b : Bool
@@ -32,13 +32,13 @@ planned-settled s m channel e is = rw is (go (eqb (attentionNumber s m channel) 
     o : Order
     o = orderTo s m b
 
-    left : Bool → Effect
+    left : Bool → Upshot
     left x =
         pick x
         (record { number = 0; channel = channelOrdered m o c; writes = writesOf (o .command) (o .block) (o .pb) c })
         (record { number = attentionNumber s m channel; channel = c; writes = writes false false 0 (o .block) (o .pb) c })
 
-    go : (x : Bool) → outcome (left x .number) (withChannel s b (left x .channel)) (written m (left x .writes))
-        ≡ pick x (outcome 0 (withChannel s b (channelAfter s m b)) (memoryAfter s m b)) (outcome (attentionNumber s m channel) s m)
+    go : (x : Bool) → outcome (left x .number) (withChannel s b (left x .channel)) (writesMade m (left x .writes))
+        ≡ pick x (outcome 0 (withChannel s b (orderedChannel s m b)) (orderedMemory s m b)) (outcome (attentionNumber s m channel) s m)
     go true = refl
     go false = ap (λ (t : State). outcome (attentionNumber s m channel) t m) (put-back s b)

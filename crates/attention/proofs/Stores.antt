@@ -18,13 +18,13 @@ use Rattle.memory.specs.Places.{Place, span, Apart, ApartFrom}
 use Rattle.memory.specs.Values.{storePointer}
 use Rattle.memory.specs.declared.Pointer.{Pointer}
 use Rattle.words.specs.Stored.{storedLow, storedMiddle, storedHigh}
-use Rattle.attention.specs.Attention.{orderTo, memoryAfter, attentionOf}
-use Rattle.orders.specs.Blocks.{busyOf}
-use Rattle.orders.specs.Effects.{writesOf, saved, marked, written}
-use Rattle.orders.specs.Touched.{storedBy}
-use Rattle.orders.specs.declared.Command.{Command}
-use Rattle.orders.specs.declared.Command.the-variants.{Update, StartLocal, StartSystem, Suspend, Resume, Halt, Unknown}
-use Rattle.orders.specs.declared.Writes.{Writes}
+use Rattle.attention.specs.Attention.{orderTo, orderedMemory, attentionOf}
+use Rattle.attention.specs.Blocks.{busyOf}
+use Rattle.attention.specs.Effects.{writesOf, saved, marked, writesMade}
+use Rattle.attention.specs.Touched.{storedBy}
+use Rattle.attention.specs.declared.Command.{Command}
+use Rattle.attention.specs.declared.Command.the-variants.{Update, StartLocal, StartSystem, Suspend, Resume, Halt, Unknown}
+use Rattle.attention.specs.declared.Writes.{Writes}
 use Rattle.attention.proofs.Outcomes.{attention-by}
 
 -- what is saved is in PB's first four bytes
@@ -42,8 +42,8 @@ saved-else m pb tp psw t b h =
 
 -- every byte that a command does not store is as it was
 written-else : (k : Command) (m : Buffers) (block pb : ℕ) (c : Channel) (t : Bool) (b : ℕ) → ApartFrom (storedBy k block pb) t b
-    → byteAt (written m (writesOf k block pb c)) t b ≡ byteAt m t b
-unfolding written writesOf storedBy marked span
+    → byteAt (writesMade m (writesOf k block pb c)) t b ≡ byteAt m t b
+unfolding writesMade writesOf storedBy marked span
 written-else Update m block pb c t b h = refl
 written-else StartLocal m block pb c t b h = read-other m false (busyOf block) 255 t b (h .0)
 written-else StartSystem m block pb c t b h = read-other m false (busyOf block) 255 t b (h .0)
@@ -55,11 +55,11 @@ written-else Halt m block pb c t b h = read-other m false (busyOf block) 0 t b (
 written-else Unknown m block pb c t b h = refl
 
 -- no store changes the length of a memory
-written-length : (m : Buffers) (w : Writes) (t : Bool) → length (spaceOf (written m w) t) ≡ length (spaceOf m t)
-unfolding written marked saved storePointer
+written-length : (m : Buffers) (w : Writes) (t : Bool) → length (spaceOf (writesMade m w) t) ≡ length (spaceOf m t)
+unfolding writesMade marked saved storePointer
 written-length m w t = go (w .saves) (w .marks)
   where
-    go : (x y : Bool) → length (spaceOf (written m (record { saves = x; pb = w .pb; tp = w .tp; psw = w .psw; marks = y; block = w .block; busy = w .busy })) t) ≡ length (spaceOf m t)
+    go : (x y : Bool) → length (spaceOf (writesMade m (record { saves = x; pb = w .pb; tp = w .tp; psw = w .psw; marks = y; block = w .block; busy = w .busy })) t) ≡ length (spaceOf m t)
     go true true = simp store-length
     go true false = simp store-length
     go false true = simp store-length
@@ -72,14 +72,14 @@ module _ (s : State) (m : Buffers) (channel : ℕ) where
 
   -- every byte that is none of those is as it was
   pub bytes-kept : (t : Bool) (b : ℕ) → ApartFrom storedPlaces t b → byteAt (attentionOf s m channel .memory) t b ≡ byteAt m t b
-  unfolding memoryAfter
+  unfolding orderedMemory
   bytes-kept t b h =
       attention-by s m channel (λ (r : Outcome). byteAt (r .memory) t b ≡ byteAt m t b) refl
       (written-else (orderTo s m (isSecond channel) .command) m _ _ (channelOf s (isSecond channel)) t b h)
 
   -- no length changes
   pub lengths-kept : (t : Bool) → length (spaceOf (attentionOf s m channel .memory) t) ≡ length (spaceOf m t)
-  unfolding memoryAfter
+  unfolding orderedMemory
   lengths-kept t =
       attention-by s m channel (λ (r : Outcome). length (spaceOf (r .memory) t) ≡ length (spaceOf m t)) refl
       (written-length m _ t)

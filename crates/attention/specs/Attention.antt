@@ -10,12 +10,12 @@ use Rattle.machine.specs.States.{channelOf, withChannel, isChannel, isSecond, b
 use Rattle.machine.specs.declared.Channel.{Channel}
 use Rattle.machine.specs.declared.Mode.{Mode}
 use Rattle.machine.specs.declared.State.{State}
-use Rattle.attention.specs.declared.Effect.{Effect}
-use Rattle.orders.specs.declared.Order.{Order}
-use Rattle.orders.specs.Commands.{commandNumber}
-use Rattle.orders.specs.Blocks.{orderOf}
-use Rattle.orders.specs.Touched.{others}
-use Rattle.orders.specs.Effects.{channelOrdered, writes, writesOf, written}
+use Rattle.attention.specs.declared.Upshot.{Upshot}
+use Rattle.attention.specs.declared.Order.{Order}
+use Rattle.attention.specs.Commands.{commandNumber}
+use Rattle.attention.specs.Blocks.{orderOf}
+use Rattle.attention.specs.Touched.{others}
+use Rattle.attention.specs.Effects.{channelOrdered, writes, writesOf, writesMade}
 
 -- the order that a channel's block holds
 unfoldable pub orderTo : State → Buffers → Bool → Order
@@ -29,8 +29,8 @@ orderNumber m o mode =
     (unless (allLent m (others o)) 2))
 
 -- what the order in a block comes to before anything is stored: refused, also for what was given, it leaves the channel as it is and stores nothing
-unfoldable pub effectOf : Buffers → ℕ → ℕ → Channel → Effect
-effectOf m given block c =
+unfoldable pub plannedOf : Buffers → ℕ → ℕ → Channel → Upshot
+plannedOf m given block c =
     let o = orderOf m block (c .pp) in
     let number = first given (orderNumber m o (c .mode)) in
     pick (eqb number 0)
@@ -38,14 +38,14 @@ effectOf m given block c =
     (record { number = number; channel = c; writes = writes false false 0 (o .block) (o .pb) c })
 
 -- the channel after the order that its block holds, where that is accepted
-unfoldable pub channelAfter : State → Buffers → Bool → Channel
-channelAfter s m second = channelOrdered m (orderTo s m second) (channelOf s second)
+unfoldable pub orderedChannel : State → Buffers → Bool → Channel
+orderedChannel s m second = channelOrdered m (orderTo s m second) (channelOf s second)
 
 -- both memories after it
-unfoldable pub memoryAfter : State → Buffers → Bool → Buffers
-memoryAfter s m second =
+unfoldable pub orderedMemory : State → Buffers → Bool → Buffers
+orderedMemory s m second =
     let o = orderTo s m second in
-    written m (writesOf (o .command) (o .block) (o .pb) (channelOf s second))
+    writesMade m (writesOf (o .command) (o .block) (o .pb) (channelOf s second))
 
 -- "Order: 12, 11, 10"
 unfoldable pub givenTo : State → Buffers → ℕ → ℕ
@@ -61,5 +61,5 @@ attentionNumber s m channel =
 unfoldable pub attentionOf : State → Buffers → ℕ → Outcome
 attentionOf s m channel =
     settled (attentionNumber s m channel) s m
-    (withChannel s (isSecond channel) (channelAfter s m (isSecond channel)))
-    (memoryAfter s m (isSecond channel))
+    (withChannel s (isSecond channel) (orderedChannel s m (isSecond channel)))
+    (orderedMemory s m (isSecond channel))

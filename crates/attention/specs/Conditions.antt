@@ -12,8 +12,8 @@ use Rattle.machine.specs.declared.Mode.{Mode}
 use Rattle.machine.specs.declared.Mode.the-variants.{Running, Suspended}
 use Rattle.machine.specs.declared.State.{State}
 use Rattle.attention.specs.Attention.{orderTo}
-use Rattle.orders.specs.Commands.{codeOf}
-use Rattle.orders.specs.Touched.{others}
+use Rattle.attention.specs.Commands.{codeOf}
+use Rattle.attention.specs.Touched.{others}
 
 -- 12: "channel neither 1 nor 2"
 abbrev pub NoChannel : ℕ → Type 0
@@ -48,26 +48,26 @@ abbrev pub codeTo : State → Buffers → ℕ → ℕ
 codeTo s m channel = codeOf (orderTo s m (isSecond channel) .ccw)
 
 -- a channel's mode
-abbrev pub modeOf : State → ℕ → Mode
-modeOf s channel = channelOf s (isSecond channel) .mode
+abbrev pub modeTo : State → ℕ → Mode
+modeTo s channel = channelOf s (isSecond channel) .mode
 
 -- "Order: 12, 11, 10. Attention then: CCW readable (2), 6, then 7, 8 or 9, other bytes (2)"
-abbrev pub checks : State → Buffers → ℕ → List Check
-checks s m channel =
+abbrev pub attentionChecks : State → Buffers → ℕ → List Check
+attentionChecks s m channel =
     check 12 (NoChannel channel)
     ∷ check 11 (TooLong m)
     ∷ check 10 (NotSound s)
     ∷ check 2 (CcwBeyond s m channel)
     ∷ check 6 (NoCommand (codeTo s m channel))
-    ∷ check 7 (ResumesOther (codeTo s m channel) (modeOf s channel))
-    ∷ check 8 (StartsRunning (codeTo s m channel) (modeOf s channel))
-    ∷ check 9 (SuspendsOther (codeTo s m channel) (modeOf s channel))
+    ∷ check 7 (ResumesOther (codeTo s m channel) (modeTo s channel))
+    ∷ check 8 (StartsRunning (codeTo s m channel) (modeTo s channel))
+    ∷ check 9 (SuspendsOther (codeTo s m channel) (modeTo s channel))
     ∷ check 2 (OthersBeyond s m channel)
     ∷ []
 
 -- a condition that counts where 12, 11 and 10 do not apply
-abbrev pub AfterGiven : State → Buffers → ℕ → Type 0 → Type 0
-AfterGiven s m channel next = ¬ (NoChannel channel) × (¬ (TooLong m) × (¬ (NotSound s) × next))
+abbrev pub AttentionAfterGiven : State → Buffers → ℕ → Type 0 → Type 0
+AttentionAfterGiven s m channel next = ¬ (NoChannel channel) × (¬ (TooLong m) × (¬ (NotSound s) × next))
 
 -- a condition that counts where CCW is readable and its command is one, besides
 abbrev pub AfterCommand : State → Buffers → ℕ → Type 0 → Type 0
@@ -77,6 +77,6 @@ AfterCommand s m channel next = ¬ (CcwBeyond s m channel) × (¬ (NoCommand (co
 abbrev pub AfterMode : State → Buffers → ℕ → Type 0 → Type 0
 AfterMode s m channel next =
     AfterCommand s m channel
-    (¬ (ResumesOther (codeTo s m channel) (modeOf s channel))
-    × (¬ (StartsRunning (codeTo s m channel) (modeOf s channel))
-    × (¬ (SuspendsOther (codeTo s m channel) (modeOf s channel)) × next)))
+    (¬ (ResumesOther (codeTo s m channel) (modeTo s channel))
+    × (¬ (StartsRunning (codeTo s m channel) (modeTo s channel))
+    × (¬ (SuspendsOther (codeTo s m channel) (modeTo s channel)) × next)))

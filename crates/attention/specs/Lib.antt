@@ -1,3 +1,7 @@
+pub mod Commands
+pub mod Blocks
+pub mod Touched
+pub mod Effects
 pub mod Attention
 pub mod Conditions
 pub mod Pauses

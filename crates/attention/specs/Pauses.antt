@@ -6,9 +6,9 @@ use Rattle.memory.specs.Buffers.{Buffers, byteAt}
 use Rattle.memory.specs.Places.{span, ApartFrom}
 use Rattle.machine.specs.States.{channelOf, isSecond, blockOf}
 use Rattle.machine.specs.declared.State.{State}
-use Rattle.orders.specs.declared.Command.the-variants.{Suspend, Resume}
+use Rattle.attention.specs.declared.Command.the-variants.{Suspend, Resume}
 use Rattle.attention.specs.Attention.{orderTo, attentionOf}
-use Rattle.orders.specs.Blocks.{busyOf}
+use Rattle.attention.specs.Blocks.{busyOf}
 
 -- an attention to a channel that suspends it, and a later one, in any state and memories, that resumes it
 pub record Pause (s : State) (m : Buffers) (s′ : State) (m′ : Buffers) (channel : ℕ) : Type 0 where

@@ -4,19 +4,61 @@ use machine::Channel;
 use machine::Mode;
 use machine::State;
 use machine::states;
-use orders::Order;
-use orders::Writes;
-use orders::blocks;
-use orders::commands;
-use orders::effects;
-use orders::touched;
+use memory::Pointer;
 ghost use mathlib.Core.Path.{_≡_};
 ghost use Rattle.memory.specs.Buffers.{buffers};
 ghost use Rattle.machine.specs.Outcomes.{outcome, first};
-ghost use Rattle.attention.specs.Attention.{orderNumber, effectOf, givenTo, attentionOf};
+ghost use Rattle.attention.specs.Attention.{orderNumber, plannedOf, givenTo, attentionOf};
+
+// The command of a CCW, what it asks of the mode, and what it does to PSW.
+pub mod commands;
+// A channel's block and the order that it holds.
+pub mod blocks;
+// Whether the bytes that an order touches are lent.
+pub mod touched;
+// What an accepted order makes of the channel and of memory.
+pub mod effects;
+
+// What a CCW commands.
+pub enum Command {
+    Update,
+    StartLocal,
+    StartSystem,
+    Suspend,
+    Resume,
+    Halt,
+    Unknown,
+}
+
+// What a block orders: the command, its CCW, the block itself and where PB lies.
+pub struct Order {
+    pub command: Command,
+    pub ccw: u8,
+    pub block: u32,
+    pub pb: u32,
+}
+
+// The registers that a command can change, besides PP.
+pub struct Control {
+    pub tp: Pointer,
+    pub psw: u8,
+    pub mode: Mode,
+    pub armed: bool,
+}
+
+// What an attention stores: TP and PSW at PB or not, then BUSY or not.
+pub struct Writes {
+    pub saves: bool,
+    pub pb: u32,
+    pub tp: Pointer,
+    pub psw: u8,
+    pub marks: bool,
+    pub block: u32,
+    pub busy: u8,
+}
 
 // What an order comes to: its number, the channel after it, and what it stores.
-pub struct Effect {
+pub struct Upshot {
     pub number: u32,
     pub channel: Channel,
     pub writes: Writes,
@@ -51,15 +93,15 @@ fn number(sys: &[u8], io: &[u8], given: u32, o: Order, mode: Mode) -> u32
 }
 
 // What the order in a block comes to for its channel.
-fn planned(sys: &[u8], io: &[u8], given: u32, block: u32, c: Channel) -> Effect
-    ensures { λ r. ⌜ r ≡ effectOf (buffers (now (sys .entry)) (now (io .entry))) given block c ⌝ }
+fn planned(sys: &[u8], io: &[u8], given: u32, block: u32, c: Channel) -> Upshot
+    ensures { λ r. ⌜ r ≡ plannedOf (buffers (now (sys .entry)) (now (io .entry))) given block c ⌝ }
 {
     let o = blocks::order(sys, io, block, c.pp);
     let mode = c.mode;
     let number = number(sys, io, given, o, mode);
     if number != 0 {
         let writes = effects::writes(o, c, false, false, 0);
-        return Effect {
+        return Upshot {
             number,
             channel: c,
             writes,
@@ -67,7 +109,7 @@ fn planned(sys: &[u8], io: &[u8], given: u32, block: u32, c: Channel) -> Effect
     }
     let channel = effects::channel_ordered(sys, io, o, c);
     let writes = effects::writes_of(o, c);
-    Effect {
+    Upshot {
         number: 0,
         channel,
         writes,

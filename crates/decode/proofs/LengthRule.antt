@@ -8,14 +8,14 @@ use native.Mathlib.Omega.{arith}
 use lib.Dec.{T, eqb, leb}
 use borrow.Author.Tests.{eqb-true, eqb-false}
 use Rattle.words.specs.Choice.{pick}
-use Rattle.shapes.specs.Pairs.{Column, meets, pairOf, wideOf, twoOf, memoryOf}
-use Rattle.shapes.specs.Pairs.Column.{'0, '1, '00, '10, '11, '000, 'PPP, 'AA, 'W, 'MM, 'dd, 'wb}
-use Rattle.shapes.specs.Rows.{isControl}
-use Rattle.shapes.specs.declared.pairs.Pair.{Pair}
-use Rattle.shapes.specs.declared.Shape.{Shape}
-use Rattle.shapes.specs.declared.Shape.the-variants.{Lpdi, MovMemory, Tsl}
-use Rattle.shapes.specs.declared.Decoded.the-variants.{Instruction, NoInstruction, ControlUsed}
-use Rattle.decode.specs.Table.{Row, row, table, accepts}
+use Rattle.decode_shapes.specs.Pairs.{Column, meets, pairOf, wideOf, twoOf, memoryOf}
+use Rattle.decode_shapes.specs.Pairs.Column.{'0, '1, '00, '10, '11, '000, 'PPP, 'AA, 'W, 'MM, 'dd, 'wb}
+use Rattle.decode_shapes.specs.Rows.{isControl}
+use Rattle.decode_shapes.specs.declared.pairs.Pair.{Pair}
+use Rattle.decode_shapes.specs.declared.Shape.{Shape}
+use Rattle.decode_shapes.specs.declared.Shape.the-variants.{Lpdi, MovMemory, Tsl}
+use Rattle.decode_shapes.specs.declared.Decoded.the-variants.{Instruction, NoInstruction, ControlUsed}
+use Rattle.decode.specs.Table.{SummaryRow, row, table, accepts}
 use Rattle.decode.specs.Reading.{fits, lookup, decodeOf}
 use Rattle.decode.specs.Lengths.{offsetBy, moreBy, dataLength, displacementLength, lengthOf, noteLength}
 
@@ -25,12 +25,12 @@ announced : ℕ → ℕ
 announced d = moreBy (eqb d 1) + pick (leb 2 d) 2 0
 
 -- what a pair that fits a row gives: the row's opcode, AA and dd as the columns print them
-pub record Fitting (r : Row) (p : Pair) : Type 0 where
+pub record Fitting (r : SummaryRow) (p : Pair) : Type 0 where
   pub opcode : p .opcode ≡ r .opcode
   pub aa : meets (r .aa) (p .w) (p .aa) ≡ true
   pub dd : meets (r .dd) (p .w) (p .dd) ≡ true
 
-fitting : (r : Row) (p : Pair) → fits r p ≡ true → Fitting r p
+fitting : (r : SummaryRow) (p : Pair) → fits r p ≡ true → Fitting r p
 fitting r p h =
     go (eqb (p .opcode) (r .opcode)) refl (meets (r .rrr) (p .w) (p .rrr)) (meets (r .mm) (p .w) (p .mm)) (meets (r .aa) (p .w) (p .aa)) refl (meets (r .w) (p .w) (p .w)) h
   where
@@ -76,7 +76,7 @@ note p k e t = rw e (go (eqb k 0x02) (eqb k 0x24) t)
     go true b u = absurd u
 
 -- the rule holds at a row
-Right : Row → Type 0
+Right : SummaryRow → Type 0
 Right r = (p : Pair) → fits r p ≡ true → lengthOf (r .shape p) ≡ noteLength p
 
 -- rows without data and displacement
@@ -137,9 +137,9 @@ mov-memory p f =
     rw (g .opcode, eqb-true (p .dd) 0 (g .dd)) (omega arith)
 
 -- the rule holds at each of some rows
-data Rights : List Row → Type 0 where
+data Rights : List SummaryRow → Type 0 where
   end : Rights []
-  _▸_ : {r : Row} {rs : List Row} → Right r → Rights rs → Rights (r ∷ rs)
+  _▸_ : {r : SummaryRow} {rs : List SummaryRow} → Right r → Rights rs → Rights (r ∷ rs)
 
 rights : Rights table
 unfolding table ordinary lengthOf dataLength displacementLength
@@ -191,7 +191,7 @@ rights =
     ▸ plain-register _ _ _ _ _ tt (λ p. refl)  -- WID
     ▸ end
 
-found : (rs : List Row) (p : Pair) (s : Shape) → Rights rs → lookup rs p ≡ Instruction s → lengthOf s ≡ noteLength p
+found : (rs : List SummaryRow) (p : Pair) (s : Shape) → Rights rs → lookup rs p ≡ Instruction s → lengthOf s ≡ noteLength p
 unfolding lookup Right
 found [] p s end e = absurd (three e)
   where

@@ -9,16 +9,16 @@ use lib.Dec.{T, eqb}
 use borrow.Author.Tests.{eqb-true, eq-eqb, eqb-false}
 use Rattle.words.specs.Bits.{fieldOf}
 use Rattle.words.specs.Choice.{pick}
-use Rattle.shapes.specs.Pairs.{pairOf, columns}
-use Rattle.shapes.specs.Rows.{isControl}
-use Rattle.shapes.specs.declared.pairs.Pair.{Pair}
-use Rattle.shapes.specs.declared.Work.{Work}
-use Rattle.shapes.specs.declared.Shape.{Shape}
-use Rattle.shapes.specs.declared.Shape.the-variants.{RegisterImmediate, Hlt, Call}
-use Rattle.shapes.specs.declared.Decoded.{Decoded}
-use Rattle.shapes.specs.declared.Decoded.the-variants.{Instruction, NoInstruction, ControlUsed}
-use Rattle.shapes.specs.declared.Second.{Second}
-use Rattle.decode.specs.Table.{Row, table}
+use Rattle.decode_shapes.specs.Pairs.{pairOf, columns}
+use Rattle.decode_shapes.specs.Rows.{isControl}
+use Rattle.decode_shapes.specs.declared.pairs.Pair.{Pair}
+use Rattle.decode_shapes.specs.declared.Work.{Work}
+use Rattle.decode_shapes.specs.declared.Shape.{Shape}
+use Rattle.decode_shapes.specs.declared.Shape.the-variants.{RegisterImmediate, Hlt, Call}
+use Rattle.decode_shapes.specs.declared.Decoded.{Decoded}
+use Rattle.decode_shapes.specs.declared.Decoded.the-variants.{Instruction, NoInstruction, ControlUsed}
+use Rattle.decode_shapes.specs.declared.Second.{Second}
+use Rattle.decode.specs.Table.{SummaryRow, table}
 use Rattle.decode.specs.Reading.{fits, lookup, decodeOf, numberOf, secondOf, fitsSome, usesControl}
 use Rattle.decode.proofs.TableLaws.{left, right}
 
@@ -42,7 +42,7 @@ zero-exactly (Instruction s) = (λ e. (s, refl), λ e. refl)
 zero-exactly NoInstruction = (λ e. absurd (eqb-false 3 0 refl e), λ e. ap numberOf (e .1))
 zero-exactly ControlUsed = (λ e. absurd (eqb-false 4 0 refl e), λ e. ap numberOf (e .1))
 
-unknown : (rs : List Row) (p : Pair) → eqb (numberOf (lookup rs p)) 3 ≡ not (fitsSome rs p)
+unknown : (rs : List SummaryRow) (p : Pair) → eqb (numberOf (lookup rs p)) 3 ≡ not (fitsSome rs p)
 unfolding lookup fitsSome
 unknown [] p = refl
 unknown (r ∷ rs) p = go (fits r p) (r .control && isControl p) (unknown rs p)
@@ -66,16 +66,16 @@ three-exactly first second =
     (λ e. f .0 (eq-eqb n 3 e), λ e. eqb-true n 3 (f .1 e))
 
 -- whether no row with the opcode of a row uses CC
-spares : Row → List Row → Bool
+spares : SummaryRow → List SummaryRow → Bool
 spares r [] = true
 spares r (s ∷ rs) = not (eqb (s .opcode) (r .opcode) && s .control) && spares r rs
 
 -- whether no row uses CC that has the opcode of a row before it
-apart : List Row → Bool
+apart : List SummaryRow → Bool
 apart [] = true
 apart (r ∷ rs) = spares r rs && apart rs
 
-spared : (r : Row) (rs : List Row) (p : Pair) → p .opcode ≡ r .opcode → T (spares r rs) → usesControl rs p ≡ false
+spared : (r : SummaryRow) (rs : List SummaryRow) (p : Pair) → p .opcode ≡ r .opcode → T (spares r rs) → usesControl rs p ≡ false
 unfolding spares usesControl
 spared r [] p e t = refl
 spared r (s ∷ rs) p e t =
@@ -89,14 +89,14 @@ spared r (s ∷ rs) p e t =
     go true h false i u rest = rw and-false rest
 
 -- what fits a row has its opcode
-same-opcode : (r : Row) (p : Pair) → fits r p ≡ true → p .opcode ≡ r .opcode
+same-opcode : (r : SummaryRow) (p : Pair) → fits r p ≡ true → p .opcode ≡ r .opcode
 same-opcode r p h = go (eqb (p .opcode) (r .opcode)) refl h
   where
     go : (b : Bool) → eqb (p .opcode) (r .opcode) ≡ b → (b && columns (r .rrr) (r .dd) (r .aa) (r .w) (r .mm) p) ≡ true → p .opcode ≡ r .opcode
     go true e t = eqb-true (p .opcode) (r .opcode) e
     go false e t = absurd (false≢true t)
 
-used : (rs : List Row) (p : Pair) → T (apart rs) → eqb (numberOf (lookup rs p)) 4 ≡ (usesControl rs p && isControl p)
+used : (rs : List SummaryRow) (p : Pair) → T (apart rs) → eqb (numberOf (lookup rs p)) 4 ≡ (usesControl rs p && isControl p)
 unfolding lookup usesControl apart
 used [] p t = refl
 used (r ∷ rs) p t = go (fits r p) refl (r .control) (used rs p (right (spares r rs) (apart rs) t)) (left (spares r rs) (apart rs) t)

@@ -9,14 +9,14 @@ use lib.ListN.{getD}
 use borrow.Author.Tests.{eqb-true, eq-eqb, ne-eqb}
 use Rattle.words.specs.Bits.{bitOf}
 use Rattle.words.specs.Choice.{pick}
-use Rattle.shapes.specs.Pairs.{columns}
-use Rattle.shapes.specs.Pairs.Column.{'0, '00, '000, '010, '011, '1SD}
-use Rattle.shapes.specs.Rows.{reading, isControl}
-use Rattle.shapes.specs.declared.pairs.Pair.{Pair}
-use Rattle.shapes.specs.declared.Shape.the-variants.{Nop, Sintr, Xfer, Wid}
-use Rattle.shapes.specs.declared.Decoded.{Decoded}
-use Rattle.shapes.specs.declared.Decoded.the-variants.{Instruction, NoInstruction}
-use Rattle.decode.specs.Table.{Row, row, table, accepts}
+use Rattle.decode_shapes.specs.Pairs.{columns}
+use Rattle.decode_shapes.specs.Pairs.Column.{'0, '00, '000, '010, '011, '1SD}
+use Rattle.decode_shapes.specs.Rows.{reading, isControl}
+use Rattle.decode_shapes.specs.declared.pairs.Pair.{Pair}
+use Rattle.decode_shapes.specs.declared.Shape.the-variants.{Nop, Sintr, Xfer, Wid}
+use Rattle.decode_shapes.specs.declared.Decoded.{Decoded}
+use Rattle.decode_shapes.specs.declared.Decoded.the-variants.{Instruction, NoInstruction}
+use Rattle.decode.specs.Table.{SummaryRow, row, table, accepts}
 use Rattle.decode.specs.Reading.{lookup}
 
 pub left : (a b : Bool) → T (a && b) → T a
@@ -38,7 +38,7 @@ has [] k = false
 has (j ∷ js) k = eqb j k || has js k
 
 -- whether the opcodes of some rows are all among a list's numbers
-covers : List ℕ → List Row → Bool
+covers : List ℕ → List SummaryRow → Bool
 covers ks [] = true
 covers ks (r ∷ rs) = has ks (r .opcode) && covers ks rs
 
@@ -51,7 +51,7 @@ misses x k (j ∷ js) a t = go (eqb j k) refl t (misses x k js (a .0))
     go true e u rest = ne-eqb x k (λ h. a .1 (h ∙ sym (eqb-true j k e)))
     go false e u rest = rest u
 
-passed : (ks : List ℕ) (rs : List Row) (p : Pair) → Avoids (p .opcode) ks → T (covers ks rs) → lookup rs p ≡ NoInstruction
+passed : (ks : List ℕ) (rs : List SummaryRow) (p : Pair) → Avoids (p .opcode) ks → T (covers ks rs) → lookup rs p ≡ NoInstruction
 unfolding lookup covers
 passed ks [] p a t = refl
 passed ks (r ∷ rs) p a t =
@@ -67,22 +67,22 @@ unfolding table covers has
 none p a = passed opcodes table p a tt
 
 -- whether no row has an opcode
-abbrev pub lone : ℕ → List Row → Bool
+abbrev pub lone : ℕ → List SummaryRow → Bool
 lone k [] = true
 lone k (r ∷ rs) = not (eqb k (r .opcode)) && lone k rs
 
 -- the row at a place of a list
-abbrev pub rowAt : List Row → ℕ → Row
+abbrev pub rowAt : List SummaryRow → ℕ → SummaryRow
 rowAt rs n = getD rs n (row '000 '00 '00 '0 0 '00 accepts (λ p. Nop))
 
 -- whether the row at a place is the only one with its opcode
-abbrev pub only : List Row → ℕ → Bool
+abbrev pub only : List SummaryRow → ℕ → Bool
 only [] n = false
 only (r ∷ rs) zero = lone (r .opcode) rs
 only (r ∷ rs) (suc n) = not (eqb (rowAt rs n .opcode) (r .opcode)) && only rs n
 
 -- what a row says of a pair with its opcode
-abbrev pub says : Row → Pair → Decoded
+abbrev pub says : SummaryRow → Pair → Decoded
 says r p = reading (columns (r .rrr) (r .dd) (r .aa) (r .w) (r .mm) p) (r .control && isControl p) (r .shape p)
 
 differs : (x y k : ℕ) → x ≡ y → T (not (eqb y k)) → eqb x k ≡ false
@@ -92,13 +92,13 @@ differs x y k e t = ap (λ (n : ℕ). eqb n k) e ∙ go (eqb y k) t
     go true u = absurd u
     go false u = refl
 
-beyond : (k : ℕ) (rs : List Row) (p : Pair) → p .opcode ≡ k → T (lone k rs) → lookup rs p ≡ NoInstruction
+beyond : (k : ℕ) (rs : List SummaryRow) (p : Pair) → p .opcode ≡ k → T (lone k rs) → lookup rs p ≡ NoInstruction
 unfolding lookup
 beyond k [] p e t = refl
 beyond k (r ∷ rs) p e t =
     rw (differs (p .opcode) k (r .opcode) e (left (not (eqb k (r .opcode))) (lone k rs) t)) (beyond k rs p e (right (not (eqb k (r .opcode))) (lone k rs) t))
 
-at-place : (rs : List Row) (n : ℕ) (p : Pair) → T (only rs n) → p .opcode ≡ rowAt rs n .opcode → lookup rs p ≡ says (rowAt rs n) p
+at-place : (rs : List SummaryRow) (n : ℕ) (p : Pair) → T (only rs n) → p .opcode ≡ rowAt rs n .opcode → lookup rs p ≡ says (rowAt rs n) p
 unfolding lookup
 at-place [] n p t e = absurd t
 at-place (r ∷ rs) zero p t e = rw (eq-eqb (p .opcode) (r .opcode) e, beyond (r .opcode) rs p e t)

@@ -4,22 +4,22 @@ use mathlib.Core.List.{List, [], _∷_}
 use Prim.Native.Nat.{ℕ}
 use lib.Dec.{eqb}
 use Rattle.words.specs.Choice.{pick}
-use Rattle.shapes.specs.Pairs.{pairOf, memoryOf, columns}
-use Rattle.shapes.specs.Pairs.Column.{'0, '1, '00, '000, 'AA, 'MM}
-use Rattle.shapes.specs.Rows.{isControl}
-use Rattle.shapes.specs.declared.pairs.Pair.{Pair}
-use Rattle.shapes.specs.declared.Decoded.{Decoded}
-use Rattle.shapes.specs.declared.Decoded.the-variants.{Instruction, NoInstruction, ControlUsed}
-use Rattle.shapes.specs.declared.Second.{Second}
-use Rattle.shapes.specs.declared.Second.the-variants.{Operand, NoSecond}
-use Rattle.decode.specs.Table.{Row, table}
+use Rattle.decode_shapes.specs.Pairs.{pairOf, memoryOf, columns}
+use Rattle.decode_shapes.specs.Pairs.Column.{'0, '1, '00, '000, 'AA, 'MM}
+use Rattle.decode_shapes.specs.Rows.{isControl}
+use Rattle.decode_shapes.specs.declared.pairs.Pair.{Pair}
+use Rattle.decode_shapes.specs.declared.Decoded.{Decoded}
+use Rattle.decode_shapes.specs.declared.Decoded.the-variants.{Instruction, NoInstruction, ControlUsed}
+use Rattle.decode_shapes.specs.declared.Second.{Second}
+use Rattle.decode_shapes.specs.declared.Second.the-variants.{Operand, NoSecond}
+use Rattle.decode.specs.Table.{SummaryRow, table}
 
 -- whether a pair is of a row: it has the row's opcode, and its other fields are as the columns print them
-abbrev pub fits : Row → Pair → Bool
+abbrev pub fits : SummaryRow → Pair → Bool
 fits r p = eqb (p .opcode) (r .opcode) && columns (r .rrr) (r .dd) (r .aa) (r .w) (r .mm) p
 
 -- the answer of the row that a pair is of, and 3 where it is of none
-unfoldable pub lookup : List Row → Pair → Decoded
+unfoldable pub lookup : List SummaryRow → Pair → Decoded
 lookup [] p = NoInstruction
 lookup (r ∷ rs) p = pick (fits r p) (pick (r .control && isControl p) ControlUsed (Instruction (r .shape p))) (lookup rs p)
 
@@ -34,12 +34,12 @@ numberOf NoInstruction = 3
 numberOf ControlUsed = 4
 
 -- whether some of the rows fits a pair
-unfoldable pub fitsSome : List Row → Pair → Bool
+unfoldable pub fitsSome : List SummaryRow → Pair → Bool
 fitsSome [] p = false
 fitsSome (r ∷ rs) p = fits r p || fitsSome rs p
 
 -- whether some of the rows that fit a pair is one at which RRR 6 is a use of CC
-unfoldable pub usesControl : List Row → Pair → Bool
+unfoldable pub usesControl : List SummaryRow → Pair → Bool
 usesControl [] p = false
 usesControl (r ∷ rs) p = fits r p && r .control || usesControl rs p
 

@@ -3,16 +3,16 @@ use mathlib.Core.Bool.{Bool, true, false}
 use mathlib.Core.List.{List, [], _∷_}
 use Prim.Native.Nat.{ℕ}
 use Rattle.words.specs.Bits.{bitOf}
-use Rattle.shapes.specs.Pairs.{Column, wideOf, twoOf, memoryOf}
-use Rattle.shapes.specs.Pairs.Column.{'0, '1, '00, '10, '11, '000, '001, '010, '011, '100, '1SD, 'RRR, 'PPP, 'BBB, 'dd, 'wb, 'AA, 'W, 'MM}
-use Rattle.shapes.specs.declared.pairs.Pair.{Pair}
-use Rattle.shapes.specs.declared.Work.{Work}
-use Rattle.shapes.specs.declared.Single.{Single}
-use Rattle.shapes.specs.declared.Shape.{Shape}
-use Rattle.shapes.specs.declared.Shape.the-variants.{Nop, Sintr, Xfer, Wid, Hlt, Lpdi, RegisterImmediate, Register, JumpRegister, RegisterMemory, MemoryRegister, MemoryImmediate, MemoryAlone, JumpMemory, Lpd, MovpLoad, MovpStore, MovMemory, Tsl, Call, JumpMasked, JumpBit, Bit}
+use Rattle.decode_shapes.specs.Pairs.{Column, wideOf, twoOf, memoryOf}
+use Rattle.decode_shapes.specs.Pairs.Column.{'0, '1, '00, '10, '11, '000, '001, '010, '011, '100, '1SD, 'RRR, 'PPP, 'BBB, 'dd, 'wb, 'AA, 'W, 'MM}
+use Rattle.decode_shapes.specs.declared.pairs.Pair.{Pair}
+use Rattle.decode_shapes.specs.declared.Work.{Work}
+use Rattle.decode_shapes.specs.declared.Single.{Single}
+use Rattle.decode_shapes.specs.declared.Shape.{Shape}
+use Rattle.decode_shapes.specs.declared.Shape.the-variants.{Nop, Sintr, Xfer, Wid, Hlt, Lpdi, RegisterImmediate, Register, JumpRegister, RegisterMemory, MemoryRegister, MemoryImmediate, MemoryAlone, JumpMemory, Lpd, MovpLoad, MovpStore, MovMemory, Tsl, Call, JumpMasked, JumpBit, Bit}
 
 -- a row: its columns, whether RRR 6 is a use of CC that 4 refuses, and the shape that it makes of a pair
-pub record Row : Type 0 where
+pub record SummaryRow : Type 0 where
   pub rrr : Column
   pub dd : Column
   pub aa : Column
@@ -23,7 +23,7 @@ pub record Row : Type 0 where
   pub shape : Pair → Shape
 
 -- a row from its columns, in the order in which the summary prints them
-abbrev pub row : Column → Column → Column → Column → ℕ → Column → Bool → (Pair → Shape) → Row
+abbrev pub row : Column → Column → Column → Column → ℕ → Column → Bool → (Pair → Shape) → SummaryRow
 row r d a w o m c s = record { rrr = r; dd = d; aa = a; w = w; opcode = o; mm = m; control = c; shape = s }
 
 -- RRR 6 is a use of CC that 4 refuses
@@ -35,7 +35,7 @@ abbrev pub accepts : Bool
 accepts = false
 
 -- the instruction summary, in its own order
-unfoldable pub table : List Row
+unfoldable pub table : List SummaryRow
 table =
     --    RRR  dd  AA  W  op   MM  CC       instruction  shape
     -- Data Transfers: pointer instructions

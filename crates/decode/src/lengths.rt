@@ -1,7 +1,7 @@
 // What the bytes of an instruction are for, by its shape.
 ghost use mathlib.Core.Path.{_≡_};
 ghost use Rattle.decode.specs.Lengths.{moreBy, partsOf};
-use shapes::Shape;
+use decode_shapes::Shape;
 
 // What the bytes of an instruction are for: the bytes of its pairs; AA; the bytes of data, and whether there is one more;
 // those of the displacement, and whether there is one more.

@@ -3,11 +3,11 @@
 mod lengths;
 mod reads;
 
-use shapes::Decoded;
-use shapes::Memory;
-use shapes::Second;
-use shapes::Shape;
-use shapes::pairs;
+use decode_shapes::Decoded;
+use decode_shapes::Memory;
+use decode_shapes::Second;
+use decode_shapes::Shape;
+use decode_shapes::pairs;
 ghost use mathlib.Core.Path.{_≡_};
 ghost use Rattle.decode.specs.Reading.{decodeOf, numberOf, secondOf};
 ghost use Rattle.decode.specs.Lengths.{offsetLength, dataLength, displacementLength, lengthOf};

@@ -1,11 +1,11 @@
 // The choice of a row by the opcode and, under control codes, by RRR.
-use shapes::Decoded;
-use shapes::Shape;
-use shapes::Single;
-use shapes::Work;
-use shapes::pairs;
-use shapes::pairs::Pair;
-use shapes::rows;
+use decode_shapes::Decoded;
+use decode_shapes::Shape;
+use decode_shapes::Single;
+use decode_shapes::Work;
+use decode_shapes::pairs;
+use decode_shapes::pairs::Pair;
+use decode_shapes::rows;
 ghost use mathlib.Core.Path.{_≡_};
 ghost use Rattle.decode.specs.Reading.{lookup};
 ghost use Rattle.decode.specs.Table.{table};

@@ -9,13 +9,13 @@ use mathlib.Core.Path.{_≡_, refl, sym, ap, _∙_}
 use native.Mathlib.Nat.{mod-lt}
 use Rattle.decode.specs.Lengths.{offsetLength, lengthOf}
 use Rattle.decode.specs.Reading.{secondOf}
-use Rattle.shapes.specs.declared.Decoded.the-variants.{Instruction}
-use Rattle.shapes.specs.declared.Memory.{Memory}
-use Rattle.shapes.specs.declared.Second.{Second}
-use Rattle.shapes.specs.declared.Second.the-variants.{Operand, NoSecond}
-use Rattle.shapes.specs.declared.Shape.{Shape}
-use Rattle.shapes.specs.declared.Shape.the-variants.{Nop, Sintr, Xfer, Wid, Hlt, Lpdi, RegisterImmediate, Register, JumpRegister, RegisterMemory, MemoryRegister, MemoryImmediate, MemoryAlone, JumpMemory, Lpd, MovpLoad, MovpStore, MovMemory, Tsl, Call, JumpMasked, JumpBit, Bit}
-use Rattle.shapes.specs.declared.Work.{Work}
+use Rattle.decode_shapes.specs.declared.Decoded.the-variants.{Instruction}
+use Rattle.decode_shapes.specs.declared.Memory.{Memory}
+use Rattle.decode_shapes.specs.declared.Second.{Second}
+use Rattle.decode_shapes.specs.declared.Second.the-variants.{Operand, NoSecond}
+use Rattle.decode_shapes.specs.declared.Shape.{Shape}
+use Rattle.decode_shapes.specs.declared.Shape.the-variants.{Nop, Sintr, Xfer, Wid, Hlt, Lpdi, RegisterImmediate, Register, JumpRegister, RegisterMemory, MemoryRegister, MemoryImmediate, MemoryAlone, JumpMemory, Lpd, MovpLoad, MovpStore, MovMemory, Tsl, Call, JumpMasked, JumpBit, Bit}
+use Rattle.decode_shapes.specs.declared.Work.{Work}
 use Rattle.machine.specs.Outcomes.{unless, first}
 use Rattle.machine.specs.Psw.{programRunning, interruptControl, transferring, withPsw}
 use Rattle.machine.specs.Registers.{tagOf, withRegister, moved, worked}
@@ -32,13 +32,13 @@ use Rattle.words.proofs.ChoiceLaws.{apart, both-left, both-right}
 use Rattle.words.specs.Bits.{withBit}
 use Rattle.words.specs.Choice.{pick}
 use Rattle.words.specs.Signs.{displacedBy}
-use Rattle.operands.specs.Changes.{placesOf, changed}
-use Rattle.deeds.specs.Control.{withStatus, nopDeed, sintrDeed, xferDeed, widDeed, hltDeed}
-use Rattle.deeds.specs.Deeds.{effectOf}
-use Rattle.jumps.specs.JumpForms.{jumpRegisterDeed, jumpMemoryDeed, jumpByteDeed, jumpMaskedDeed, jumpBitDeed, tslDeed, callDeed}
-use Rattle.stores.specs.MemoryForms.{memoryWorkDeed, memoryRegisterDeed, memoryImmediateDeed, memoryAloneDeed, movpStoreDeed, bitDeed, movOperandDeed, movSecondDeed, movMemoryDeed}
-use Rattle.operands.specs.Operands.{afterPair, onward, byteHere, bytesAt, renewed, usedUp, advanced, further, sizeOf, effective, grown, displacementAt, jumped, jumpedIf, isMove}
-use Rattle.deeds.specs.RegisterForms.{written, registerImmediateDeed, registerDeed, registerMemoryDeed, lpdiDeed, lpdDeed, movpLoadDeed}
+use Rattle.execute_operands.specs.Changes.{placesOf, changed}
+use Rattle.execute_deeds.specs.Control.{withStatus, nopDeed, sintrDeed, xferDeed, widDeed, hltDeed}
+use Rattle.execute_deeds.specs.Deeds.{effectOf}
+use Rattle.execute_deeds.specs.JumpForms.{jumpRegisterDeed, jumpMemoryDeed, jumpByteDeed, jumpMaskedDeed, jumpBitDeed, tslDeed, callDeed}
+use Rattle.execute_deeds.specs.MemoryForms.{memoryWorkDeed, memoryRegisterDeed, memoryImmediateDeed, memoryAloneDeed, movpStoreDeed, bitDeed, movOperandDeed, movSecondDeed, movMemoryDeed}
+use Rattle.execute_operands.specs.Operands.{afterPair, onward, byteHere, bytesAt, renewed, usedUp, pastInstruction, further, sizeOf, effective, grown, displacementAt, jumped, jumpedIf, isMove}
+use Rattle.execute_deeds.specs.RegisterForms.{registerWritten, registerImmediateDeed, registerDeed, registerMemoryDeed, lpdiDeed, lpdDeed, movpLoadDeed}
 use Rattle.machine.proofs.ConditionLaws.{first-none-right, unless-none}
 use Rattle.execute.specs.Execute.{decodedAt, performed, deedOf, laterBytes, shapeNumber, numberFrom, executeNumber, executeOf}
 use Rattle.execute.specs.Kept.{Halts, Arms}
@@ -143,8 +143,8 @@ jumps-if : (taken : Bool) (m : Buffers) (c : Channel) (p : Pointer) (two : Bool)
 unfolding jumpedIf
 jumps-if taken m c p two = chosen taken (jumped m c p two) c (jumps m c p two) (same c)
 
-writes : (work : Work) (c : Channel) (r v : ℕ) → Steady c (written work c r v)
-unfolding written
+writes : (work : Work) (c : Channel) (r v : ℕ) → Steady c (registerWritten work c r v)
+unfolding registerWritten
 writes work c r v = chosen (isMove work) (moved c r v) (worked c r v) (registered c r v true) (registered c r v (tagOf c r))
 
 -- ---- each shape
@@ -275,9 +275,9 @@ after (JumpBit test bit o two) m c tp armed busy e = steady e (then (grows c o 1
 after (Bit on bit o) m c tp armed busy e = steady e (grows c o 1)
 
 -- the channel with TP past an instruction is sound where the channel is
-advanced-sound : (c : Channel) (n : ℕ) → soundChannel c ≡ true → soundChannel (advanced c n) ≡ true
-unfolding advanced renewed
-advanced-sound c n = sound-by c (advanced c n) refl (λ s. s) (λ s. s) (λ s. s) (λ s. onward-small (c .tp) n)
+advanced-sound : (c : Channel) (n : ℕ) → soundChannel c ≡ true → soundChannel (pastInstruction c n) ≡ true
+unfolding pastInstruction renewed
+advanced-sound c n = sound-by c (pastInstruction c n) refl (λ s. s) (λ s. s) (λ s. s) (λ s. onward-small (c .tp) n)
 
 -- it has XF where it was marked, and as it was where it was not
 marked-xf : (armed : Bool) (psw : ℕ) → transferring (usedUp armed psw) ≡ (armed || transferring psw)
@@ -286,9 +286,9 @@ marked-xf true psw = bit-same psw 6 true
 marked-xf false psw = refl
 
 module _ (c : Channel) (busy : ℕ) (m : Buffers) where
-  after-shape : (s : Shape) → After s (c .armed) (advanced c (lengthOf s)) ((deedOf s m c busy) .channel)
-  unfolding deedOf advanced renewed
-  after-shape s = after s m (advanced c (lengthOf s)) (c .tp) (c .armed) busy refl
+  after-shape : (s : Shape) → After s (c .armed) (pastInstruction c (lengthOf s)) ((deedOf s m c busy) .channel)
+  unfolding deedOf pastInstruction renewed
+  after-shape s = after s m (pastInstruction c (lengthOf s)) (c .tp) (c .armed) busy refl
 
   -- a sound channel stays sound
   pub execute-sound : soundChannel c ≡ true → soundChannel ((executeOf c busy m) .channel) ≡ true
@@ -299,7 +299,7 @@ module _ (c : Channel) (busy : ℕ) (m : Buffers) where
 
   -- PP never changes
   pub pp-kept : (executeOf c busy m) .channel .pp ≡ c .pp
-  unfolding advanced renewed
+  unfolding pastInstruction renewed
   pp-kept = by-number c busy m (λ o. o .channel .pp ≡ c .pp) (λ n ne. refl) (λ s e z. after-shape s .pp)
 
   shape-else : (s t : Shape) → decodedAt m (c .tp) ≡ Instruction s → (decodedAt m (c .tp) ≡ Instruction t → ⊥) → (b : Bool) → (b ≡ true → s ≡ t) → b ≡ false
@@ -308,7 +308,7 @@ module _ (c : Channel) (busy : ℕ) (m : Buffers) where
 
   -- the mode changes by HLT alone
   pub mode-kept : ¬ (Halts m c) → (executeOf c busy m) .channel .mode ≡ c .mode
-  unfolding advanced renewed
+  unfolding pastInstruction renewed
   mode-kept ne =
       by-number c busy m (λ o. o .channel .mode ≡ c .mode)
       (λ n z. refl)
@@ -316,7 +316,7 @@ module _ (c : Channel) (busy : ℕ) (m : Buffers) where
 
   -- XF after a done instruction other than HLT: it is 1 where the channel was armed, and as it was where not
   pub xf-after : ¬ (Halts m c) → (executeOf c busy m) .number ≡ 0 → transferring ((executeOf c busy m) .channel .psw) ≡ (c .armed || transferring (c .psw))
-  unfolding advanced renewed
+  unfolding pastInstruction renewed
   xf-after ne =
       by-number c busy m (λ o. o .number ≡ 0 → transferring (o .channel .psw) ≡ (c .armed || transferring (c .psw)))
       (λ n no-zero z. absurd (no-zero z))
@@ -350,14 +350,14 @@ module _ (c : Channel) (busy : ℕ) (m : Buffers) where
   -- XFER arms a channel that is not armed, and leaves XF
   pub xfer-arms : Arms m c → c .armed ≡ false → (executeOf c busy m) .number ≡ 0
       → ((executeOf c busy m) .channel .armed ≡ true) × ((executeOf c busy m) .channel .psw ≡ c .psw)
-  unfolding deedOf performed xferDeed advanced renewed usedUp
+  unfolding deedOf performed xferDeed pastInstruction renewed usedUp
   xfer-arms e h z = rw (done c busy m Xfer e z) (rw h (refl, refl))
 
   -- HLT leaves no mark and no XF, as halt does: idle, TB and XF 0, unarmed
   pub hlt-ends : Halts m c → (executeOf c busy m) .number ≡ 0
       → ((executeOf c busy m) .channel .armed ≡ false) × (transferring ((executeOf c busy m) .channel .psw) ≡ false)
       × (programRunning ((executeOf c busy m) .channel .psw) ≡ false) × ((executeOf c busy m) .channel .mode ≡ Idle)
-  unfolding deedOf performed hltDeed advanced renewed withPsw
+  unfolding deedOf performed hltDeed pastInstruction renewed withPsw
   hlt-ends e z =
       let psw = usedUp (c .armed) (c .psw) in
       rw (done c busy m Hlt e z)

@@ -8,23 +8,23 @@ use mathlib.Core.List.{[], _∷_}
 use mathlib.Core.Logic.{⊎-elim}
 use mathlib.Core.Path.{_≡_, refl}
 use types.Run.{OneOf}
-use Rattle.shapes.proofs.Decoded.{the-type}
+use Rattle.decode_shapes.proofs.Decoded.{the-type}
 use Rattle.decode.specs.Reading.{numberOf}
-use Rattle.shapes.specs.declared.Decoded.{Decoded}
-use Rattle.shapes.specs.declared.Decoded.the-variants.{Instruction, NoInstruction, ControlUsed}
-use Rattle.shapes.specs.declared.Shape.{Shape}
+use Rattle.decode_shapes.specs.declared.Decoded.{Decoded}
+use Rattle.decode_shapes.specs.declared.Decoded.the-variants.{Instruction, NoInstruction, ControlUsed}
+use Rattle.decode_shapes.specs.declared.Shape.{Shape}
 use Rattle.machine.proofs.OutcomeLaws.{first-some, first-zero}
 use Rattle.machine.specs.Outcomes.{unless, first}
 use Rattle.machine.specs.declared.Channel.{Channel}
 use Rattle.memory.specs.Buffers.{Buffers}
 use Rattle.memory.specs.Places.{allLent}
 use Rattle.words.specs.Choice.{pick}
-use Rattle.operands.specs.Changes.{placesOf}
-use Rattle.deeds.specs.Deeds.{effectOf}
-use Rattle.operands.specs.Operands.{bytesAt}
-use Rattle.operands.specs.declared.Change.{Change}
-use Rattle.operands.specs.declared.Change.the-variants.{Nothing}
-use Rattle.deeds.specs.declared.Effect.{Effect}
+use Rattle.execute_operands.specs.Changes.{placesOf}
+use Rattle.execute_deeds.specs.Deeds.{effectOf}
+use Rattle.execute_operands.specs.Operands.{bytesAt}
+use Rattle.execute_operands.specs.declared.Change.{Change}
+use Rattle.execute_operands.specs.declared.Change.the-variants.{Nothing}
+use Rattle.execute_deeds.specs.declared.Effect.{Effect}
 use Rattle.execute.specs.Execute.{decodedAt, deedOf, laterBytes, deedFrom, shapeNumber, numberFrom, executeNumber, settledEffect, planOf}
 
 -- an effect by its parts; a refusal leaves the channel and stores nothing

@@ -7,9 +7,9 @@ use mathlib.Core.Bool.{Bool}
 use mathlib.Core.List.{_++_}
 use mathlib.Core.Path.{_≡_, refl, ap, subst, _∙_}
 use native.Mathlib.Nat.{add-assoc}
-use Rattle.shapes.specs.declared.Decoded.{Decoded}
-use Rattle.shapes.specs.declared.Decoded.the-variants.{Instruction}
-use Rattle.shapes.specs.declared.Shape.{Shape}
+use Rattle.decode_shapes.specs.declared.Decoded.{Decoded}
+use Rattle.decode_shapes.specs.declared.Decoded.the-variants.{Instruction}
+use Rattle.decode_shapes.specs.declared.Shape.{Shape}
 use Rattle.machine.specs.declared.Channel.{Channel}
 use Rattle.memory.proofs.SpanLaws.{apart-right}
 use Rattle.memory.proofs.StoreLaws.{store-length, read-other, word-other}
@@ -18,11 +18,11 @@ use Rattle.memory.specs.Places.{span, Apart, ApartFrom}
 use Rattle.memory.specs.Values.{storeWord, storePointer}
 use Rattle.words.specs.Bytes.{lowByte, highByte}
 use Rattle.words.specs.Stored.{storedLow, storedMiddle, storedHigh}
-use Rattle.operands.specs.Changes.{placesOf, changed}
-use Rattle.operands.specs.Operands.{bytesAt}
-use Rattle.operands.specs.declared.Change.{Change}
-use Rattle.operands.specs.declared.Change.the-variants.{Nothing, Byte, Word, Stored}
-use Rattle.execute.specs.Execute.{decodedAt, deedOf, laterBytes, deedFrom, touchedFrom, touched, executeOf}
+use Rattle.execute_operands.specs.Changes.{placesOf, changed}
+use Rattle.execute_operands.specs.Operands.{bytesAt}
+use Rattle.execute_operands.specs.declared.Change.{Change}
+use Rattle.execute_operands.specs.declared.Change.the-variants.{Nothing, Byte, Word, Stored}
+use Rattle.execute.specs.Execute.{decodedAt, deedOf, laterBytes, deedFrom, touchedFrom, touchedByInstruction, executeOf}
 use Rattle.execute.specs.Kept.{deedAt}
 use Rattle.execute.proofs.OutcomeLaws.{by-number}
 
@@ -75,8 +75,8 @@ module _ (c : Channel) (busy : ℕ) (m : Buffers) where
       (λ s e z. change-other m ((deedOf s m c busy) .change) u b (subst (λ (d : Decoded). ApartFrom (placesOf ((deedFrom d m c busy) .change)) u b) e h))
 
   -- and so is every byte apart from all that it touches
-  pub untouched-kept : (u : Bool) (b : ℕ) → ApartFrom (touched m c busy) u b → byteAt ((executeOf c busy m) .memory) u b ≡ byteAt m u b
-  unfolding touched touchedFrom
+  pub untouched-kept : (u : Bool) (b : ℕ) → ApartFrom (touchedByInstruction m c busy) u b → byteAt ((executeOf c busy m) .memory) u b ≡ byteAt m u b
+  unfolding touchedByInstruction touchedFrom
   untouched-kept u b h =
       by-number c busy m (λ o. byteAt (o .memory) u b ≡ byteAt m u b)
       (λ n ne. refl)

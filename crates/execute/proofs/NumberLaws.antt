@@ -9,30 +9,30 @@ use mathlib.Core.List.{[], _∷_}
 use mathlib.Core.Logic.{⊎-elim, inl, inr, _⊎_, _↔_}
 use mathlib.Core.Path.{_≡_, refl, sym, ap, _∙_}
 use native.Mathlib.Omega.{arith}
-use Rattle.shapes.proofs.Shape.{the-type as shapes}
+use Rattle.decode_shapes.proofs.Shape.{the-type as shapes}
 use Rattle.decode.specs.Lengths.{lengthOf}
-use Rattle.shapes.specs.declared.Decoded.{Decoded}
-use Rattle.shapes.specs.declared.Decoded.the-variants.{Instruction, NoInstruction, ControlUsed}
-use Rattle.shapes.specs.declared.Memory.{Memory}
-use Rattle.shapes.specs.declared.Second.{Second}
-use Rattle.shapes.specs.declared.Second.the-variants.{Operand, NoSecond}
-use Rattle.shapes.specs.declared.Shape.the-variants.{Nop, Sintr, Xfer, Wid, Hlt, Lpdi, RegisterImmediate, Register, JumpRegister, RegisterMemory, MemoryRegister, MemoryImmediate, MemoryAlone, JumpMemory, Lpd, MovpLoad, MovpStore, MovMemory, Tsl, Call, JumpMasked, JumpBit, Bit}
+use Rattle.decode_shapes.specs.declared.Decoded.{Decoded}
+use Rattle.decode_shapes.specs.declared.Decoded.the-variants.{Instruction, NoInstruction, ControlUsed}
+use Rattle.decode_shapes.specs.declared.Memory.{Memory}
+use Rattle.decode_shapes.specs.declared.Second.{Second}
+use Rattle.decode_shapes.specs.declared.Second.the-variants.{Operand, NoSecond}
+use Rattle.decode_shapes.specs.declared.Shape.the-variants.{Nop, Sintr, Xfer, Wid, Hlt, Lpdi, RegisterImmediate, Register, JumpRegister, RegisterMemory, MemoryRegister, MemoryImmediate, MemoryAlone, JumpMemory, Lpd, MovpLoad, MovpStore, MovMemory, Tsl, Call, JumpMasked, JumpBit, Bit}
 use Rattle.machine.proofs.OutcomeLaws.{first-some, first-zero, unless-true}
 use Rattle.machine.specs.Outcomes.{unless, first}
 use Rattle.machine.specs.declared.Channel.{Channel}
 use Rattle.memory.specs.Buffers.{Buffers}
 use Rattle.memory.specs.Places.{allLent}
 use Rattle.words.proofs.ChoiceLaws.{apart}
-use Rattle.operands.specs.Changes.{placesOf}
-use Rattle.deeds.specs.Control.{nopDeed, sintrDeed, xferDeed, widDeed, hltDeed}
-use Rattle.deeds.specs.Deeds.{Deed, effectOf}
-use Rattle.jumps.specs.JumpForms.{jumpRegisterDeed, jumpMemoryDeed, jumpByteDeed, jumpMaskedDeed, jumpBitDeed, tslDeed, callDeed}
-use Rattle.stores.specs.MemoryForms.{memoryWorkDeed, memoryRegisterDeed, memoryImmediateDeed, memoryAloneDeed, movpStoreDeed, bitDeed, movOperandDeed, movSecondDeed, movMemoryDeed}
-use Rattle.operands.specs.Operands.{byteHere, bytesAt, advanced, effective}
-use Rattle.deeds.specs.RegisterForms.{registerImmediateDeed, registerDeed, registerMemoryDeed, lpdiDeed, lpdDeed, movpLoadDeed}
+use Rattle.execute_operands.specs.Changes.{placesOf}
+use Rattle.execute_deeds.specs.Control.{nopDeed, sintrDeed, xferDeed, widDeed, hltDeed}
+use Rattle.execute_deeds.specs.Deeds.{Deed, effectOf}
+use Rattle.execute_deeds.specs.JumpForms.{jumpRegisterDeed, jumpMemoryDeed, jumpByteDeed, jumpMaskedDeed, jumpBitDeed, tslDeed, callDeed}
+use Rattle.execute_deeds.specs.MemoryForms.{memoryWorkDeed, memoryRegisterDeed, memoryImmediateDeed, memoryAloneDeed, movpStoreDeed, bitDeed, movOperandDeed, movSecondDeed, movMemoryDeed}
+use Rattle.execute_operands.specs.Operands.{byteHere, bytesAt, pastInstruction, effective}
+use Rattle.execute_deeds.specs.RegisterForms.{registerImmediateDeed, registerDeed, registerMemoryDeed, lpdiDeed, lpdDeed, movpLoadDeed}
 use Rattle.machine.proofs.ConditionLaws.{Told, step, last, rewritten, first-assoc, skip, hit, either, end, never, told-true, told-false, told-lent}
 use Rattle.machine.specs.Conditions.{check, Given}
-use Rattle.execute.specs.Conditions.{NoCode, ControlTouched, laterFrom, LaterBeyond, secondAt, NoSecondPair, ReadsBeyond, StoresBeyond, checksFrom, checks, Given4, Given3, Given2, Given0}
+use Rattle.execute.specs.Conditions.{NoCode, ControlTouched, laterFrom, LaterBeyond, secondAt, NoSecondPair, ReadsBeyond, StoresBeyond, checksFrom, instructionChecks, InstructionGiven4, InstructionGiven3, InstructionGiven2, InstructionGiven0}
 use Rattle.execute.specs.Execute.{decodedAt, performed, deedOf, laterBytes, deedFrom, shapeNumber, numberFrom, executeNumber, executeOf}
 use Rattle.execute.proofs.OutcomeLaws.{number-is}
 
@@ -117,7 +117,7 @@ module _ (m : Buffers) (c : Channel) (busy : ℕ) where
   paired-of (Instruction (MovpLoad ppp o)) = alone (Instruction (MovpLoad ppp o)) refl refl
   paired-of (Instruction (MovpStore ppp o)) = alone (Instruction (MovpStore ppp o)) refl refl
   paired-of (Instruction (MovMemory o)) = paired o
-  paired-of (Instruction (Tsl o)) = alone (Instruction (Tsl o)) (tsl-alone (advanced c (lengthOf (Tsl o))) o (eqb (byteHere m (effective m (advanced c (lengthOf (Tsl o))) o (c .tp))) 0) refl) refl
+  paired-of (Instruction (Tsl o)) = alone (Instruction (Tsl o)) (tsl-alone (pastInstruction c (lengthOf (Tsl o))) o (eqb (byteHere m (effective m (pastInstruction c (lengthOf (Tsl o))) o (c .tp))) 0) refl) refl
   paired-of (Instruction (Call o two)) = alone (Instruction (Call o two)) refl refl
   paired-of (Instruction (JumpMasked equal o two)) = alone (Instruction (JumpMasked equal o two)) refl refl
   paired-of (Instruction (JumpBit test bit o two)) = alone (Instruction (JumpBit test bit o two)) refl refl
@@ -161,7 +161,7 @@ module _ (m : Buffers) (c : Channel) (busy : ℕ) where
       (step 2 refl (told-lent m ((deedFrom d m c busy) .reads)) (last n 2 refl (told-lent m (placesOf ((deedFrom d m c busy) .change))))))))))
 
   -- the number handed back is that of the first check that applies, and 0 where none does
-  pub number-given : (n : ℕ) → (executeOf c busy m) .number ≡ n ↔ Given (checks m c busy) n
+  pub number-given : (n : ℕ) → (executeOf c busy m) .number ≡ n ↔ Given (instructionChecks m c busy) n
   unfolding executeNumber
   number-given n = rewritten (number-is c busy m) (given-from (decodedAt m (c .tp)) n)
 
@@ -169,11 +169,11 @@ module _ (m : Buffers) (c : Channel) (busy : ℕ) where
   both p q = (λ a. q .0 (p .0 a), λ x. p .1 (q .1 x))
 
   -- 2 exactly where a byte to be read or stored lies beyond lent memory, and no earlier check applies
-  pub exactly-2 : (executeOf c busy m) .number ≡ 2 ↔ Given2 (decodedAt m (c .tp)) m c busy
+  pub exactly-2 : (executeOf c busy m) .number ≡ 2 ↔ InstructionGiven2 (decodedAt m (c .tp)) m c busy
   exactly-2 = both (number-given 2) (either (skip refl (skip refl (either (skip refl (either (hit (never 2 [] refl))))))))
 
   -- 3 exactly where the bytes are no instruction, and no earlier check applies
-  pub exactly-3 : (executeOf c busy m) .number ≡ 3 ↔ Given3 (decodedAt m (c .tp)) m c busy
+  pub exactly-3 : (executeOf c busy m) .number ≡ 3 ↔ InstructionGiven3 (decodedAt m (c .tp)) m c busy
   exactly-3 =
       both (number-given 3)
       (skip refl (either (skip refl (skip refl (hit (never 3 (check 2 (ReadsBeyond d m c busy) ∷ check 2 (StoresBeyond d m c busy) ∷ []) refl))))))
@@ -182,7 +182,7 @@ module _ (m : Buffers) (c : Channel) (busy : ℕ) where
       d = decodedAt m (c .tp)
 
   -- 4 exactly where CC is used by anything but MOV or MOVI, and no earlier check applies
-  pub exactly-4 : (executeOf c busy m) .number ≡ 4 ↔ Given4 (decodedAt m (c .tp)) m c busy
+  pub exactly-4 : (executeOf c busy m) .number ≡ 4 ↔ InstructionGiven4 (decodedAt m (c .tp)) m c busy
   exactly-4 =
       both (number-given 4)
       (skip refl
@@ -193,14 +193,14 @@ module _ (m : Buffers) (c : Channel) (busy : ℕ) where
       d = decodedAt m (c .tp)
 
   -- 0 exactly where no check applies
-  pub exactly-0 : (executeOf c busy m) .number ≡ 0 ↔ Given0 (decodedAt m (c .tp)) m c busy
+  pub exactly-0 : (executeOf c busy m) .number ≡ 0 ↔ InstructionGiven0 (decodedAt m (c .tp)) m c busy
   exactly-0 = both (number-given 0) (skip refl (skip refl (skip refl (skip refl (skip refl (skip refl (end refl refl)))))))
 
   -- and there is no other number
   pub one-of-four : (((executeOf c busy m) .number ≡ 0) ⊎ ((executeOf c busy m) .number ≡ 2)) ⊎ (((executeOf c busy m) .number ≡ 3) ⊎ ((executeOf c busy m) .number ≡ 4))
   one-of-four = go ((executeOf c busy m) .number) (number-given ((executeOf c busy m) .number) .0 refl)
     where
-      go : (n : ℕ) → Given (checks m c busy) n → ((n ≡ 0) ⊎ (n ≡ 2)) ⊎ ((n ≡ 3) ⊎ (n ≡ 4))
+      go : (n : ℕ) → Given (instructionChecks m c busy) n → ((n ≡ 0) ⊎ (n ≡ 2)) ⊎ ((n ≡ 3) ⊎ (n ≡ 4))
       go n =
           ⊎-elim (λ h. inl (inr (h .1)))
           (λ h. ⊎-elim (λ k. inr (inl (k .1)))

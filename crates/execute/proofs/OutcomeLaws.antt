@@ -5,15 +5,15 @@ use borrow.Author.Tests.{eqb-false, eq-eqb, ne-eqb}
 use mathlib.Core.Logic.{⊎-elim, inl, inr, _⊎_}
 use mathlib.Core.Path.{_≡_, refl, sym, ap, _∙_}
 use native.Mathlib.Decide.{ℕ-discrete}
-use Rattle.shapes.specs.declared.Decoded.{Decoded}
-use Rattle.shapes.specs.declared.Decoded.the-variants.{Instruction, NoInstruction, ControlUsed}
-use Rattle.shapes.specs.declared.Shape.{Shape}
+use Rattle.decode_shapes.specs.declared.Decoded.{Decoded}
+use Rattle.decode_shapes.specs.declared.Decoded.the-variants.{Instruction, NoInstruction, ControlUsed}
+use Rattle.decode_shapes.specs.declared.Shape.{Shape}
 use Rattle.machine.specs.Outcomes.{unless}
 use Rattle.machine.specs.declared.Channel.{Channel}
 use Rattle.memory.specs.Buffers.{Buffers}
 use Rattle.memory.specs.Places.{allLent}
-use Rattle.operands.specs.Changes.{changed}
-use Rattle.operands.specs.Operands.{bytesAt}
+use Rattle.execute_operands.specs.Changes.{changed}
+use Rattle.execute_operands.specs.Operands.{bytesAt}
 use Rattle.machine.proofs.ConditionLaws.{first-none-right}
 use Rattle.execute.specs.Execute.{decodedAt, deedOf, deedFrom, numberFrom, executeNumber, settledEffect, planOf, Executed, executed, executeOf}
 use Rattle.execute.specs.Kept.{deedAt}

@@ -7,8 +7,8 @@ use mathlib.Core.Logic.{⊎-elim}
 use mathlib.Core.Path.{_≡_, refl, ap, _∙_}
 use native.Mathlib.Nat.{mod-lt, mod-eq-of-lt}
 use Rattle.decode.specs.Lengths.{lengthOf}
-use Rattle.shapes.specs.declared.Memory.{Memory}
-use Rattle.shapes.specs.declared.Shape.the-variants.{Call}
+use Rattle.decode_shapes.specs.declared.Memory.{Memory}
+use Rattle.decode_shapes.specs.declared.Shape.the-variants.{Call}
 use Rattle.machine.specs.Registers.{byRRR, registerOf, tagOf, withRegister}
 use Rattle.machine.specs.declared.Channel.{Channel}
 use Rattle.memory.proofs.SpanLaws.{span-at, span-first}
@@ -18,12 +18,12 @@ use Rattle.memory.specs.Places.{allLent}
 use Rattle.memory.specs.Values.{pointer, pointerAt, storePointer}
 use Rattle.memory.specs.declared.Pointer.{Pointer}
 use Rattle.words.specs.Sums.{sum20}
-use Rattle.operands.specs.Changes.{placesOf, changed}
-use Rattle.jumps.specs.JumpForms.{callDeed}
-use Rattle.stores.specs.MemoryForms.{movpStoreDeed}
-use Rattle.operands.specs.Operands.{onward, bytesAt, renewed, advanced, effective, grown}
-use Rattle.deeds.specs.RegisterForms.{movpLoadDeed}
-use Rattle.operands.specs.declared.Change.the-variants.{Stored}
+use Rattle.execute_operands.specs.Changes.{placesOf, changed}
+use Rattle.execute_deeds.specs.JumpForms.{callDeed}
+use Rattle.execute_deeds.specs.MemoryForms.{movpStoreDeed}
+use Rattle.execute_operands.specs.Operands.{onward, bytesAt, renewed, pastInstruction, effective, grown}
+use Rattle.execute_deeds.specs.RegisterForms.{movpLoadDeed}
+use Rattle.execute_operands.specs.declared.Change.the-variants.{Stored}
 use Rattle.execute.specs.Execute.{performed, deedOf}
 use Rattle.execute.specs.Kept.{IsPointer}
 
@@ -70,19 +70,19 @@ movp-back m c c′ tp tp′ r r′ o o′ here small k e =
 
 -- CALL stores TP past the instruction, with its tag
 pub call-stores : (m : Buffers) (c : Channel) (busy : ℕ) (o : Memory) (two : Bool)
-    → (deedOf (Call o two) m c busy) .change ≡ Stored (effective m (advanced c (lengthOf (Call o two))) o (c .tp)) (onward (c .tp) (lengthOf (Call o two)))
-unfolding deedOf performed callDeed advanced renewed
+    → (deedOf (Call o two) m c busy) .change ≡ Stored (effective m (pastInstruction c (lengthOf (Call o two))) o (c .tp)) (onward (c .tp) (lengthOf (Call o two)))
+unfolding deedOf performed callDeed pastInstruction renewed
 call-stores m c busy o two = refl
 
 -- and MOVP P,M at that place gives it back
 pub call-back : (m : Buffers) (c c′ : Channel) (busy : ℕ) (tp′ : Pointer) (r′ : ℕ) (o o′ : Memory) (two : Bool)
     → allLent m (placesOf ((deedOf (Call o two) m c busy) .change)) ≡ true → IsPointer r′
-    → effective (changed m ((deedOf (Call o two) m c busy) .change)) c′ o′ tp′ ≡ effective m (advanced c (lengthOf (Call o two))) o (c .tp)
+    → effective (changed m ((deedOf (Call o two) m c busy) .change)) c′ o′ tp′ ≡ effective m (pastInstruction c (lengthOf (Call o two))) o (c .tp)
     → (registerOf ((movpLoadDeed (changed m ((deedOf (Call o two) m c busy) .change)) c′ tp′ r′ o′) .channel) r′ ≡ sum20 (c .tp .address) (lengthOf (Call o two)))
     × (tagOf ((movpLoadDeed (changed m ((deedOf (Call o two) m c busy) .change)) c′ tp′ r′ o′) .channel) r′ ≡ c .tp .tag)
-unfolding deedOf performed callDeed advanced renewed placesOf onward
+unfolding deedOf performed callDeed pastInstruction renewed placesOf onward
 call-back m c c′ busy tp′ r′ o o′ two here k e =
-    register-back m (effective m (advanced c n) o (c .tp)) (onward (c .tp) n) here (mod-lt (c .tp .address + n) (lit< tt)) c′ tp′ r′ o′ k e
+    register-back m (effective m (pastInstruction c n) o (c .tp)) (onward (c .tp) n) here (mod-lt (c .tp .address + n) (lit< tt)) c′ tp′ r′ o′ k e
   where
     n : ℕ
     n = lengthOf (Call o two)

@@ -7,15 +7,15 @@ use Rattle.memory.specs.Buffers.{Buffers}
 use Rattle.memory.specs.Places.{Place}
 use Rattle.machine.specs.Conditions.{Check, check, Beyond}
 use Rattle.machine.specs.declared.Channel.{Channel}
-use Rattle.shapes.specs.declared.Memory.{Memory}
-use Rattle.shapes.specs.declared.Shape.the-variants.{MovMemory}
-use Rattle.shapes.specs.declared.Decoded.{Decoded}
-use Rattle.shapes.specs.declared.Decoded.the-variants.{Instruction, NoInstruction, ControlUsed}
-use Rattle.shapes.specs.declared.Second.{Second}
-use Rattle.shapes.specs.declared.Second.the-variants.{NoSecond}
+use Rattle.decode_shapes.specs.declared.Memory.{Memory}
+use Rattle.decode_shapes.specs.declared.Shape.the-variants.{MovMemory}
+use Rattle.decode_shapes.specs.declared.Decoded.{Decoded}
+use Rattle.decode_shapes.specs.declared.Decoded.the-variants.{Instruction, NoInstruction, ControlUsed}
+use Rattle.decode_shapes.specs.declared.Second.{Second}
+use Rattle.decode_shapes.specs.declared.Second.the-variants.{NoSecond}
 use Rattle.decode.specs.Reading.{secondOf}
-use Rattle.operands.specs.Operands.{onward, byteHere, bytesAt, afterPair}
-use Rattle.operands.specs.Changes.{placesOf}
+use Rattle.execute_operands.specs.Operands.{onward, byteHere, bytesAt, afterPair}
+use Rattle.execute_operands.specs.Changes.{placesOf}
 use Rattle.execute.specs.Execute.{decodedAt, laterBytes, deedFrom}
 
 -- 2, of "its first two bytes"
@@ -70,22 +70,22 @@ checksFrom d m c busy =
 
 -- "for an instruction its first two bytes (2), 3, then 4, as far as they show, later bytes up to and with a second pair (2), 3 from that pair, its
 -- offset byte, operand bytes, for HLT its BUSY byte (2)"
-abbrev pub checks : Buffers → Channel → ℕ → List Check
-checks m c busy = checksFrom (decodedAt m (c .tp)) m c busy
+abbrev pub instructionChecks : Buffers → Channel → ℕ → List Check
+instructionChecks m c busy = checksFrom (decodedAt m (c .tp)) m c busy
 
 -- 4 exactly where the pair is lent, is an instruction, and uses CC
-abbrev pub Given4 : Decoded → Buffers → Channel → ℕ → Type 0
-Given4 d m c busy = ¬ (PairBeyond m c) × (¬ (NoCode d) × ControlTouched d)
+abbrev pub InstructionGiven4 : Decoded → Buffers → Channel → ℕ → Type 0
+InstructionGiven4 d m c busy = ¬ (PairBeyond m c) × (¬ (NoCode d) × ControlTouched d)
 
 -- 3 exactly where the pair is lent and none, or is MOV M,M with its later bytes lent and a second pair that is none
-abbrev pub Given3 : Decoded → Buffers → Channel → ℕ → Type 0
-Given3 d m c busy =
+abbrev pub InstructionGiven3 : Decoded → Buffers → Channel → ℕ → Type 0
+InstructionGiven3 d m c busy =
     ¬ (PairBeyond m c)
     × (NoCode d ⊎ (¬ (NoCode d) × (¬ (ControlTouched d) × (¬ (LaterBeyond d m c) × NoSecondPair d m c))))
 
 -- 2 exactly where a byte of the pair lies beyond, or else a later byte, or else a byte read, or else a byte stored to
-abbrev pub Given2 : Decoded → Buffers → Channel → ℕ → Type 0
-Given2 d m c busy =
+abbrev pub InstructionGiven2 : Decoded → Buffers → Channel → ℕ → Type 0
+InstructionGiven2 d m c busy =
     PairBeyond m c
     ⊎ (¬ (PairBeyond m c)
     × (¬ (NoCode d)
@@ -95,8 +95,8 @@ Given2 d m c busy =
     × (¬ (NoSecondPair d m c) × (ReadsBeyond d m c busy ⊎ (¬ (ReadsBeyond d m c busy) × StoresBeyond d m c busy))))))))
 
 -- 0 exactly where none of these holds
-abbrev pub Given0 : Decoded → Buffers → Channel → ℕ → Type 0
-Given0 d m c busy =
+abbrev pub InstructionGiven0 : Decoded → Buffers → Channel → ℕ → Type 0
+InstructionGiven0 d m c busy =
     ¬ (PairBeyond m c)
     × (¬ (NoCode d)
     × (¬ (ControlTouched d)

@@ -9,21 +9,21 @@ use Rattle.memory.specs.Places.{Place, allLent}
 use Rattle.memory.specs.declared.Pointer.{Pointer}
 use Rattle.machine.specs.declared.Channel.{Channel}
 use Rattle.machine.specs.Outcomes.{first, unless}
-use Rattle.shapes.specs.declared.Shape.{Shape}
-use Rattle.shapes.specs.declared.Shape.the-variants.{Nop, Sintr, Xfer, Wid, Hlt, Lpdi, RegisterImmediate, Register, JumpRegister, RegisterMemory, MemoryRegister, MemoryImmediate, MemoryAlone, JumpMemory, Lpd, MovpLoad, MovpStore, MovMemory, Tsl, Call, JumpMasked, JumpBit, Bit}
-use Rattle.shapes.specs.declared.Decoded.{Decoded}
-use Rattle.shapes.specs.declared.Decoded.the-variants.{Instruction, NoInstruction, ControlUsed}
+use Rattle.decode_shapes.specs.declared.Shape.{Shape}
+use Rattle.decode_shapes.specs.declared.Shape.the-variants.{Nop, Sintr, Xfer, Wid, Hlt, Lpdi, RegisterImmediate, Register, JumpRegister, RegisterMemory, MemoryRegister, MemoryImmediate, MemoryAlone, JumpMemory, Lpd, MovpLoad, MovpStore, MovMemory, Tsl, Call, JumpMasked, JumpBit, Bit}
+use Rattle.decode_shapes.specs.declared.Decoded.{Decoded}
+use Rattle.decode_shapes.specs.declared.Decoded.the-variants.{Instruction, NoInstruction, ControlUsed}
 use Rattle.decode.specs.Reading.{decodeOf}
 use Rattle.decode.specs.Lengths.{lengthOf}
-use Rattle.operands.specs.declared.Change.the-variants.{Nothing}
-use Rattle.deeds.specs.declared.Effect.{Effect}
-use Rattle.operands.specs.Operands.{onward, byteHere, bytesAt, advanced}
-use Rattle.operands.specs.Changes.{placesOf, changed}
-use Rattle.deeds.specs.Deeds.{Deed, deed, effectOf}
-use Rattle.deeds.specs.Control.{nopDeed, sintrDeed, xferDeed, widDeed, hltDeed}
-use Rattle.deeds.specs.RegisterForms.{registerImmediateDeed, registerDeed, registerMemoryDeed, lpdiDeed, lpdDeed, movpLoadDeed}
-use Rattle.stores.specs.MemoryForms.{memoryRegisterDeed, memoryImmediateDeed, memoryAloneDeed, movpStoreDeed, bitDeed, movMemoryDeed}
-use Rattle.jumps.specs.JumpForms.{jumpRegisterDeed, jumpMemoryDeed, jumpMaskedDeed, jumpBitDeed, tslDeed, callDeed}
+use Rattle.execute_operands.specs.declared.Change.the-variants.{Nothing}
+use Rattle.execute_deeds.specs.declared.Effect.{Effect}
+use Rattle.execute_operands.specs.Operands.{onward, byteHere, bytesAt, pastInstruction}
+use Rattle.execute_operands.specs.Changes.{placesOf, changed}
+use Rattle.execute_deeds.specs.Deeds.{Deed, deed, effectOf}
+use Rattle.execute_deeds.specs.Control.{nopDeed, sintrDeed, xferDeed, widDeed, hltDeed}
+use Rattle.execute_deeds.specs.RegisterForms.{registerImmediateDeed, registerDeed, registerMemoryDeed, lpdiDeed, lpdDeed, movpLoadDeed}
+use Rattle.execute_deeds.specs.MemoryForms.{memoryRegisterDeed, memoryImmediateDeed, memoryAloneDeed, movpStoreDeed, bitDeed, movMemoryDeed}
+use Rattle.execute_deeds.specs.JumpForms.{jumpRegisterDeed, jumpMemoryDeed, jumpMaskedDeed, jumpBitDeed, tslDeed, callDeed}
 
 -- what the first two bytes of an instruction are
 unfoldable pub decodedAt : Buffers → Pointer → Decoded
@@ -57,7 +57,7 @@ performed (Bit on bit o) m c tp armed busy = bitDeed m c tp on bit o
 
 -- the deed of a channel's instruction of some shape
 unfoldable pub deedOf : Shape → Buffers → Channel → ℕ → Deed
-deedOf s m c busy = performed s m (advanced c (lengthOf s)) (c .tp) (c .armed) busy
+deedOf s m c busy = performed s m (pastInstruction c (lengthOf s)) (c .tp) (c .armed) busy
 
 -- the bytes after the pair, "later bytes up to and with a second pair"
 unfoldable pub laterBytes : Shape → Channel → List Place
@@ -92,8 +92,8 @@ touchedFrom (Instruction s) m c busy =
 touchedFrom NoInstruction m c busy = []
 touchedFrom ControlUsed m c busy = []
 
-unfoldable pub touched : Buffers → Channel → ℕ → List Place
-touched m c busy = bytesAt (c .tp) 2 ++ touchedFrom (decodedAt m (c .tp)) m c busy
+unfoldable pub touchedByInstruction : Buffers → Channel → ℕ → List Place
+touchedByInstruction m c busy = bytesAt (c .tp) 2 ++ touchedFrom (decodedAt m (c .tp)) m c busy
 
 -- a refused instruction leaves the channel and changes nothing
 unfoldable pub settledEffect : ℕ → Deed → Channel → Effect

@@ -1,16 +1,16 @@
 // One instruction of a channel: fetched, decoded, carried out on the registers, and its one store made last.
-use deeds::Effect;
-use deeds::control;
-use deeds::registers;
+use decode_shapes::Decoded;
+use decode_shapes::Shape;
+use execute_deeds::Effect;
+use execute_deeds::control;
+use execute_deeds::registers;
+use execute_operands::Change;
+use execute_operands::changes;
 use machine::Channel;
 use memory::Pointer;
-use operands::Change;
-use operands::changes;
-use shapes::Decoded;
-use shapes::Shape;
 ghost use mathlib.Core.Path.{_≡_};
 ghost use Rattle.memory.specs.Buffers.{buffers};
-ghost use Rattle.deeds.specs.Deeds.{effectOf};
+ghost use Rattle.execute_deeds.specs.Deeds.{effectOf};
 ghost use Rattle.execute.specs.Execute.{performed, deedOf, shapeNumber, settledEffect, planOf, executed, executeOf};
 
 // What an instruction answers: its number, and the channel after it.
@@ -51,7 +51,7 @@ fn perform(
             io,
         ),
         Shape::Register { single, rrr } => registers::register(c, single, rrr),
-        Shape::JumpRegister { zero, rrr, two } => jumps::jump_register(
+        Shape::JumpRegister { zero, rrr, two } => execute_deeds::jumps::jump_register(
             c,
             tp,
             zero,
@@ -69,7 +69,7 @@ fn perform(
             sys,
             io,
         ),
-        Shape::MemoryRegister { work, rrr, m } => stores::memory_register(
+        Shape::MemoryRegister { work, rrr, m } => execute_deeds::memories::memory_register(
             c,
             tp,
             work,
@@ -78,18 +78,57 @@ fn perform(
             sys,
             io,
         ),
-        Shape::MemoryImmediate { work, m } => stores::memory_immediate(c, tp, work, m, sys, io),
-        Shape::MemoryAlone { single, m } => stores::memory_alone(c, tp, single, m, sys, io),
-        Shape::JumpMemory { zero, m, two } => jumps::jump_memory(c, tp, zero, m, two, sys, io),
+        Shape::MemoryImmediate { work, m } => execute_deeds::memories::memory_immediate(
+            c,
+            tp,
+            work,
+            m,
+            sys,
+            io,
+        ),
+        Shape::MemoryAlone { single, m } => execute_deeds::memories::memory_alone(
+            c,
+            tp,
+            single,
+            m,
+            sys,
+            io,
+        ),
+        Shape::JumpMemory { zero, m, two } => execute_deeds::jumps::jump_memory(
+            c,
+            tp,
+            zero,
+            m,
+            two,
+            sys,
+            io,
+        ),
         Shape::Lpd { ppp, m } => registers::lpd(c, tp, ppp, m, sys, io),
         Shape::MovpLoad { ppp, m } => registers::movp_load(c, tp, ppp, m, sys, io),
-        Shape::MovpStore { ppp, m } => stores::movp_store(c, tp, ppp, m, sys, io),
-        Shape::MovMemory { m } => stores::mov_memory(c, tp, m, sys, io),
-        Shape::Tsl { m } => jumps::tsl(c, tp, m, sys, io),
-        Shape::Call { m, two } => jumps::call(c, tp, m, two, sys, io),
-        Shape::JumpMasked { equal, m, two } => jumps::jump_masked(c, tp, equal, m, two, sys, io),
-        Shape::JumpBit { set, bit, m, two } => jumps::jump_bit(c, tp, set, bit, m, two, sys, io),
-        Shape::Bit { on, bit, m } => stores::bit(c, tp, on, bit, m, sys, io),
+        Shape::MovpStore { ppp, m } => execute_deeds::memories::movp_store(c, tp, ppp, m, sys, io),
+        Shape::MovMemory { m } => execute_deeds::memories::mov_memory(c, tp, m, sys, io),
+        Shape::Tsl { m } => execute_deeds::jumps::tsl(c, tp, m, sys, io),
+        Shape::Call { m, two } => execute_deeds::jumps::call(c, tp, m, two, sys, io),
+        Shape::JumpMasked { equal, m, two } => execute_deeds::jumps::jump_masked(
+            c,
+            tp,
+            equal,
+            m,
+            two,
+            sys,
+            io,
+        ),
+        Shape::JumpBit { set, bit, m, two } => execute_deeds::jumps::jump_bit(
+            c,
+            tp,
+            set,
+            bit,
+            m,
+            two,
+            sys,
+            io,
+        ),
+        Shape::Bit { on, bit, m } => execute_deeds::memories::bit(c, tp, on, bit, m, sys, io),
     }
 }
 
@@ -110,12 +149,12 @@ fn shaped(shape: Shape, c: Channel, busy: u32, sys: &[u8], io: &[u8]) -> Effect
 {
     let tp = c.tp;
     let count = decode::length(shape);
-    if !operands::lent(operands::onward(tp, 2), count - 2, sys, io) {
+    if !execute_operands::lent(execute_operands::onward(tp, 2), count - 2, sys, io) {
         return refused(c, 2);
     }
     let e = perform(
         shape,
-        operands::advanced(c, count),
+        execute_operands::advanced(c, count),
         tp,
         c.armed,
         busy,
@@ -137,12 +176,12 @@ pub fn plan(c: Channel, busy: u32, sys: &[u8], io: &[u8]) -> Effect
     ensures { λ r. ⌜ r ≡ planOf (buffers (now (sys .entry)) (now (io .entry))) c busy ⌝ }
 {
     let tp = c.tp;
-    if !operands::lent(tp, 2, sys, io) {
+    if !execute_operands::lent(tp, 2, sys, io) {
         return refused(c, 2);
     }
     let decoded = decode::decode(
-        operands::byte(tp, sys, io),
-        operands::byte(operands::onward(tp, 1), sys, io),
+        execute_operands::byte(tp, sys, io),
+        execute_operands::byte(execute_operands::onward(tp, 1), sys, io),
     );
     let Decoded::Instruction(shape) = decoded else {
         return refused(c, decode::number(decoded));

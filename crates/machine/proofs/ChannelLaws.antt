@@ -7,7 +7,7 @@ use mathlib.Core.Path.{_≡_, refl}
 use Rattle.words.proofs.ChoiceLaws.{both-left, both-right}
 use Rattle.words.specs.Choice.{pick}
 use Rattle.machine.specs.Outcomes.{first}
-use Rattle.machine.specs.States.{idleChannel, freshState, freshOf, channelOf, withChannel, withLast, soundChannel, sound, isSecond, numberOf}
+use Rattle.machine.specs.States.{idleChannel, freshState, freshOf, channelOf, withChannel, withLast, soundChannel, sound, isSecond, channelNumber}
 use Rattle.machine.specs.declared.Answer.{Answer}
 use Rattle.machine.specs.declared.Channel.{Channel}
 use Rattle.machine.specs.declared.State.{State}
@@ -60,7 +60,7 @@ fresh-sound cp = go (ltb cp 1048576) refl
     go false e = refl
 
 -- the names and the numbers of the channels agree
-pub named : (b : Bool) → isSecond (numberOf b) ≡ b
-unfolding isSecond numberOf
+pub named : (b : Bool) → isSecond (channelNumber b) ≡ b
+unfolding isSecond channelNumber
 named true = refl
 named false = refl

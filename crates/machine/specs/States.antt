@@ -88,5 +88,5 @@ unfoldable pub isSecond : ℕ → Bool
 isSecond number = eqb number 2
 
 -- the number of a channel
-unfoldable pub numberOf : Bool → ℕ
-numberOf second = pick second 2 1
+unfoldable pub channelNumber : Bool → ℕ
+channelNumber second = pick second 2 1

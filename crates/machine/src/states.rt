@@ -8,7 +8,7 @@ ghost use mathlib.Core.Path.{_≡_};
 ghost use Rattle.memory.specs.Buffers.{buffers};
 ghost use Rattle.machine.specs.Outcomes.{givenNumber};
 ghost use Rattle.machine.specs.States as States;
-ghost use Rattle.machine.specs.States.{idleChannel, freshState, freshOf, channelOf, withChannel, withLast, soundChannel, isRunning, isSuspended, blockOf, isChannel, isSecond, numberOf};
+ghost use Rattle.machine.specs.States.{idleChannel, freshState, freshOf, channelOf, withChannel, withLast, soundChannel, isRunning, isSuspended, blockOf, isChannel, isSecond, channelNumber};
 
 // A channel with all at 0 and idle.
 pub fn idle() -> Channel
@@ -152,7 +152,7 @@ pub fn is_second(number: u32) -> bool
 
 // The number of a channel.
 pub fn number(second: bool) -> u32
-    ensures { λ r. ⌜ r ≡ numberOf second ⌝ }
+    ensures { λ r. ⌜ r ≡ channelNumber second ⌝ }
 {
     if second { 2 } else { 1 }
 }

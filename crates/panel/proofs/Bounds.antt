@@ -9,7 +9,7 @@ use native.Mathlib.Nat.{mod-eq-of-lt}
 use native.Mathlib.Omega.{arith}
 use Rattle.attention.proofs.Numbers.{given-exactly}
 use Rattle.attention.specs.Attention.{attentionOf}
-use Rattle.attention.specs.Conditions.{checks as attentionChecks}
+use Rattle.attention.specs.Conditions.{attentionChecks as attentionChecks}
 use Rattle.machine.proofs.ConditionLaws.{upTo, given-most, up-to-either}
 use Rattle.machine.specs.Outcomes.{unless, first}
 use Rattle.machine.specs.Psw.{transferring}
@@ -17,11 +17,11 @@ use Rattle.machine.specs.States.{freshState, channelOf, isChannel}
 use Rattle.machine.specs.declared.State.{State}
 use Rattle.memory.specs.Buffers.{Buffers, withinLimits}
 use Rattle.step.proofs.NumberLaws.{number-given}
-use Rattle.turns.specs.Choosing.{choiceOf}
-use Rattle.step.specs.Conditions.{chosenChecks, checks as stepChecks}
+use Rattle.step.specs.Choosing.{choiceOf}
+use Rattle.step.specs.Conditions.{chosenChecks, stepChecks as stepChecks}
 use Rattle.step.specs.Step.{stepOf}
-use Rattle.turns.specs.declared.Choice.{Choice}
-use Rattle.turns.specs.declared.Choice.the-variants.{Nobody, Ends, Steps}
+use Rattle.step.specs.declared.turns.Choice.{Choice}
+use Rattle.step.specs.declared.turns.Choice.the-variants.{Nobody, Ends, Steps}
 use Rattle.words.specs.Choice.{pick}
 use Rattle.panel.specs.Run.{Run, ran, stepsFrom, callNumber, runOf, answerOf}
 use Rattle.panel.proofs.Outcomes.{refused-call, refused-cp, refused-attention, accepted-attention}

@@ -8,7 +8,7 @@ use Rattle.machine.specs.Outcomes.{Outcome, outcome}
 use Rattle.machine.specs.States.{freshState, freshOf}
 use Rattle.attention.specs.Attention.{attentionOf}
 use Rattle.attention.proofs.Outcomes.{refused-nothing}
-use Rattle.panel.specs.Run.{Run, ran, stepsFrom, attended, started, callNumber, runOf, answerOf, Call, called}
+use Rattle.panel.specs.Run.{Run, ran, stepsFrom, attendedRun, startedRun, callNumber, runOf, answerOf, Call, called}
 
 module _ (m : Buffers) (cp channel lines limit : ℕ) where
   -- the answer and both memories are determined: two outcomes that meet the contract are equal
@@ -24,19 +24,19 @@ module _ (m : Buffers) (cp channel lines limit : ℕ) where
   module _ (given : callNumber m channel lines limit ≡ 0) where
     -- a CP past 20 bits is refused by 10, with no step and no byte changed
     pub refused-cp : 1048576 ≤ cp → runOf m cp channel lines limit ≡ ran 10 0 m
-    unfolding runOf started freshOf
+    unfolding runOf startedRun freshOf
     refused-cp h = rw (eq-eqb (callNumber m channel lines limit) 0 given, le-ltb cp 1048576 h)
 
     module _ (bound : cp < 1048576) where
       -- past those, a run is one attention to a fresh state, and the steps after it where it is accepted
-      pub attends : runOf m cp channel lines limit ≡ attended (attentionOf (freshState cp) m channel) lines limit
-      unfolding runOf started freshOf
+      pub attends : runOf m cp channel lines limit ≡ attendedRun (attentionOf (freshState cp) m channel) lines limit
+      unfolding runOf startedRun freshOf
       attends = rw (eq-eqb (callNumber m channel lines limit) 0 given, lt-ltb cp 1048576 bound)
 
       -- an attention that is refused leaves every byte, and no step is done
       pub refused-attention : (attentionOf (freshState cp) m channel .number ≡ 0 → ⊥)
           → runOf m cp channel lines limit ≡ ran (attentionOf (freshState cp) m channel .number) 0 m
-      unfolding attended
+      unfolding attendedRun
       refused-attention ne =
           attends
           ∙ rw (ne-eqb (attentionOf (freshState cp) m channel .number) 0 ne)
@@ -46,5 +46,5 @@ module _ (m : Buffers) (cp channel lines limit : ℕ) where
       pub accepted-attention : attentionOf (freshState cp) m channel .number ≡ 0
           → runOf m cp channel lines limit
           ≡ stepsFrom limit (attentionOf (freshState cp) m channel .state) (attentionOf (freshState cp) m channel .memory) lines 0
-      unfolding attended
+      unfolding attendedRun
       accepted-attention e = attends ∙ rw (eq-eqb (attentionOf (freshState cp) m channel .number) 0 e)

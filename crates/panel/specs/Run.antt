@@ -29,13 +29,13 @@ stepsFrom (suc left) s m lines done =
     pick (eqb (o .number) 0) rest (ran (o .number) done (o .memory))
 
 -- the steps after an attention that was accepted
-unfoldable pub attended : Outcome → ℕ → ℕ → Run
-attended o lines limit = pick (eqb (o .number) 0) (stepsFrom limit (o .state) (o .memory) lines 0) (ran (o .number) 0 (o .memory))
+unfoldable pub attendedRun : Outcome → ℕ → ℕ → Run
+attendedRun o lines limit = pick (eqb (o .number) 0) (stepsFrom limit (o .state) (o .memory) lines 0) (ran (o .number) 0 (o .memory))
 
 -- "makes a fresh state (10), gives that channel one attention"
-unfoldable pub started : Answer → Buffers → ℕ → ℕ → ℕ → Run
-started fresh m channel lines limit =
-    pick (eqb (fresh .number) 0) (attended (attentionOf (fresh .state) m channel) lines limit) (ran (fresh .number) 0 m)
+unfoldable pub startedRun : Answer → Buffers → ℕ → ℕ → ℕ → Run
+startedRun fresh m channel lines limit =
+    pick (eqb (fresh .number) 0) (attendedRun (attentionOf (fresh .state) m channel) lines limit) (ran (fresh .number) 0 m)
 
 -- "It tests 12 and 11 before anything else"
 unfoldable pub callNumber : Buffers → ℕ → ℕ → ℕ → ℕ
@@ -45,7 +45,7 @@ callNumber m channel lines limit =
 -- the whole run
 unfoldable pub runOf : Buffers → ℕ → ℕ → ℕ → ℕ → Run
 runOf m cp channel lines limit =
-    pick (eqb (callNumber m channel lines limit) 0) (started (freshOf cp) m channel lines limit) (ran (callNumber m channel lines limit) 0 m)
+    pick (eqb (callNumber m channel lines limit) 0) (startedRun (freshOf cp) m channel lines limit) (ran (callNumber m channel lines limit) 0 m)
 
 -- "Answer: number × 65,536 + steps done", each in sixteen bits
 unfoldable pub answerOf : Run → ℕ

@@ -4,7 +4,7 @@ use machine::State;
 ghost use mathlib.Core.Path.{_≡_};
 ghost use Rattle.memory.specs.Buffers.{buffers};
 ghost use Rattle.machine.specs.Outcomes.{outcome};
-ghost use Rattle.panel.specs.Run.{ran, stepsFrom, attended, started, callNumber, runOf, answerOf, called};
+ghost use Rattle.panel.specs.Run.{ran, stepsFrom, attendedRun, startedRun, callNumber, runOf, answerOf, called};
 ghost use Rattle.attention.specs.Attention.{attentionOf};
 
 // How a run ended: the number that stopped it, 0 at the limit, and the steps done.
@@ -39,7 +39,7 @@ fn steps(s: State, sys: &mut [u8], io: &mut [u8], lines: u32, limit: u16) -> Ran
 
 // One attention, and the steps after it where it is accepted.
 fn attend(s: State, sys: &mut [u8], io: &mut [u8], channel: u32, lines: u32, limit: u16) -> Ran
-    ensures { λ r. ⌜ ran (r .number) (r .steps) (buffers (now (sys .exit)) (now (io .exit))) ≡ attended (attentionOf s (buffers (now (sys .entry)) (now (io .entry))) channel) lines limit ⌝ }
+    ensures { λ r. ⌜ ran (r .number) (r .steps) (buffers (now (sys .exit)) (now (io .exit))) ≡ attendedRun (attentionOf s (buffers (now (sys .entry)) (now (io .entry))) channel) lines limit ⌝ }
 {
     let a = attention::attention(s, sys, io, channel);
     if a.number != 0 {
@@ -54,7 +54,7 @@ fn attend(s: State, sys: &mut [u8], io: &mut [u8], channel: u32, lines: u32, lim
 
 // A run from a fresh state, or 10.
 fn start(fresh: Answer, sys: &mut [u8], io: &mut [u8], channel: u32, lines: u32, limit: u16) -> Ran
-    ensures { λ r. ⌜ ran (r .number) (r .steps) (buffers (now (sys .exit)) (now (io .exit))) ≡ started fresh (buffers (now (sys .entry)) (now (io .entry))) channel lines limit ⌝ }
+    ensures { λ r. ⌜ ran (r .number) (r .steps) (buffers (now (sys .exit)) (now (io .exit))) ≡ startedRun fresh (buffers (now (sys .entry)) (now (io .entry))) channel lines limit ⌝ }
 {
     if fresh.number != 0 {
         return Ran {

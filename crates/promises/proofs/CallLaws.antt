@@ -6,20 +6,20 @@ use lib.Dec.{eqb}
 use mathlib.Core.Bool.{Bool, true, false, not, _&&_}
 use mathlib.Core.Path.{_≡_, refl, sym, ap, subst, _∙_}
 use native.Mathlib.Decide.{ℕ-discrete}
-use Rattle.attention.specs.Attention.{givenTo, attentionNumber, attentionOf, channelAfter as attended, memoryAfter as attendedMemory}
+use Rattle.attention.specs.Attention.{givenTo, attentionNumber, attentionOf, orderedChannel as attended, orderedMemory as attendedMemory}
 use Rattle.execute.specs.Execute.{executeOf}
 use Rattle.machine.proofs.ChannelLaws.{put-same, put-other, last-channel}
 use Rattle.machine.specs.Cc.{externalEnd}
 use Rattle.machine.specs.Outcomes.{outcome, unless, first, settled}
 use Rattle.machine.specs.Psw.{transferring, priority}
-use Rattle.machine.specs.States.{channelOf, withChannel, isChannel, isSecond, numberOf}
+use Rattle.machine.specs.States.{channelOf, withChannel, isChannel, isSecond, channelNumber}
 use Rattle.machine.specs.declared.Channel.{Channel}
 use Rattle.machine.specs.declared.State.{State}
 use Rattle.memory.specs.Buffers.{Buffers}
-use Rattle.turns.specs.Choosing.{requested, external, endsNow, noRank, rankOf, secondWins, ranked, choiceOf}
-use Rattle.step.specs.Step.{busyOf, refusedStep, doneStep, settledStep, transferStep, instructionStep, externalStep, channelStep, chosenStep, entryNumber, stepOf}
-use Rattle.turns.specs.declared.Choice.{Choice}
-use Rattle.turns.specs.declared.Choice.the-variants.{Nobody, Ends, Steps}
+use Rattle.step.specs.Choosing.{requested, external, endsNow, noRank, rankOf, secondWins, ranked, choiceOf}
+use Rattle.step.specs.Step.{busyTo, refusedStep, doneStep, settledStep, transferStep, instructionStep, externalStep, channelStep, chosenStep, entryNumber, stepOf}
+use Rattle.step.specs.declared.turns.Choice.{Choice}
+use Rattle.step.specs.declared.turns.Choice.the-variants.{Nobody, Ends, Steps}
 use Rattle.step.specs.declared.Kind.{Kind}
 use Rattle.step.specs.declared.Kind.the-variants.{Transfer, Instruction}
 use Rattle.transfer.proofs.StepLaws.{refused}
@@ -83,7 +83,7 @@ step-other d s m = go (transferring (channelOf s d .psw))
   where
     go : (z : Bool) → channelOf ((pick z (transferStep s m d) (instructionStep s m d)) .state) (not d) ≡ channelOf s (not d)
     go true = let t = transferOf (channelOf s d) m in settled-other d (t .number) s m (t .channel) (t .memory) Transfer
-    go false = let e = executeOf (channelOf s d) (busyOf s d) m in settled-other d (e .number) s m (e .channel) (e .memory) Instruction
+    go false = let e = executeOf (channelOf s d) (busyTo s d) m in settled-other d (e .number) s m (e .channel) (e .memory) Instruction
 
 -- and an external end
 end-other : (d : Bool) (s : State) (m : Buffers) → channelOf ((externalStep s m d) .state) (not d) ≡ channelOf s (not d)
@@ -184,8 +184,8 @@ settled-channel b d number s m c m′ e = go (eqb number 0)
     go false = refl
 
 -- an attention that is not to the channel leaves it alone
-pub attention-kept : (b : Bool) (s : State) (m : Buffers) (channel : ℕ) → (channel ≡ numberOf b → ⊥) → channelOf ((attentionOf s m channel) .state) b ≡ channelOf s b
-unfolding attentionOf numberOf isSecond isChannel attentionNumber givenTo first unless settled
+pub attention-kept : (b : Bool) (s : State) (m : Buffers) (channel : ℕ) → (channel ≡ channelNumber b → ⊥) → channelOf ((attentionOf s m channel) .state) b ≡ channelOf s b
+unfolding attentionOf channelNumber isSecond isChannel attentionNumber givenTo first unless settled
 attention-kept true s m channel ne =
     settled-channel true (isSecond channel) (attentionNumber s m channel) s m (attended s m (isSecond channel))
     (attendedMemory s m (isSecond channel)) (ne-eqb channel 2 ne)

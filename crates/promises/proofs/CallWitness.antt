@@ -7,16 +7,16 @@ use mathlib.Core.Path.{_≡_, refl, sym, ap, subst, _∙_}
 use native.Mathlib.Omega.{arith}
 use Rattle.machine.specs.Outcomes.{givenNumber}
 use Rattle.machine.specs.Psw.{transferring}
-use Rattle.machine.specs.States.{channelOf, withChannel, withLast, soundChannel, sound, isRunning, numberOf}
+use Rattle.machine.specs.States.{channelOf, withChannel, withLast, soundChannel, sound, isRunning, channelNumber}
 use Rattle.machine.specs.declared.State.{State}
 use Rattle.memory.proofs.SpanLaws.{span-at}
 use Rattle.memory.specs.Buffers.{Buffers, spaceOf, limitOf, indexOf, lentAt, byteAt, withinLimits}
 use Rattle.memory.specs.Places.{span}
 use Rattle.memory.specs.Values.{pointer}
-use Rattle.turns.specs.Choosing.{requested, external, endsNow, transferRank, rankOf, secondWins, ranked, choiceOf}
+use Rattle.step.specs.Choosing.{requested, external, endsNow, transferRank, rankOf, secondWins, ranked, choiceOf}
 use Rattle.step.specs.Step.{Step, stepped, settledStep, transferStep, channelStep, chosenStep, entryNumber, stepOf}
-use Rattle.turns.specs.declared.Choice.{Choice}
-use Rattle.turns.specs.declared.Choice.the-variants.{Nobody, Ends, Steps}
+use Rattle.step.specs.declared.turns.Choice.{Choice}
+use Rattle.step.specs.declared.turns.Choice.the-variants.{Nobody, Ends, Steps}
 use Rattle.step.specs.declared.Kind.the-variants.{Transfer}
 use Rattle.transfer.specs.Sides.{source, destination}
 use Rattle.words.proofs.ChoiceLaws.{apart}
@@ -125,7 +125,7 @@ spared a b c d e a′ b′ c′ d′ e′ io l =
 
 -- a step call with all that it is made of laid open, so that it computes
 unfoldable stepOpen : State → Buffers → ℕ → Step
-unfolding stepOf chosenStep channelStep transferStep settledStep choiceOf endsNow external requested rankOf transferRank secondWins ranked isRunning entryNumber givenNumber withinLimits sound soundChannel channelOf withChannel withLast numberOf bothWith transferOpen
+unfolding stepOf chosenStep channelStep transferStep settledStep choiceOf endsNow external requested rankOf transferRank secondWins ranked isRunning entryNumber givenNumber withinLimits sound soundChannel channelOf withChannel withLast channelNumber bothWith transferOpen
 stepOpen s m lines = stepOf s m lines
 
 -- each call, computed: channel 1 and channel 2 take turns, and channel 1 goes on when channel 2's transfer has ended

@@ -17,12 +17,12 @@ use Rattle.transfer.proofs.BlockLaws.{Block, stride, block-step, block-step-two
 use Rattle.transfer.specs.Reads.{dataOf}
 use Rattle.transfer.specs.Sides.{source, destination, wordSide, twoMove}
 use Rattle.transfer.specs.Steps.{transferred, transferOf}
-use Rattle.transfer.specs.Stores.{channelAfter}
+use Rattle.transfer.specs.Stores.{movedChannel}
 use Rattle.words.specs.Sums.{sum20}
 use Rattle.promises.specs.Premises.{from, into, Plain, Copy}
 use Rattle.promises.specs.Rows.{Untouched, Row, start, steps, other}
 use Rattle.promises.specs.Stages.{onBy, midway, finished, Held, Within}
-use Rattle.promises.specs.Totals.{moved, narrow, alone, total}
+use Rattle.promises.specs.Totals.{movedAfter, narrow, alone, total}
 use Rattle.promises.proofs.CountLaws.{moved-narrow, total-narrow, moved-wide, alone-none, alone-one, moved-zero, moved-le, moved-short}
 use Rattle.promises.proofs.HeldLaws.{held-start, copy-one, copy-two, held-left}
 use Rattle.promises.proofs.StageLaws.{stage, mid-source, mid-destination, mid-block, mid-syn, words-even, words-odd, narrow-one, words-none, words-last, words-two, stage-next, stage-start}
@@ -30,41 +30,41 @@ use Rattle.promises.proofs.StageLaws.{stage, mid-source, mid-destinatio
 -- ---- how many bytes the next step moves
 
 -- there is a word side once the first p steps are over
-words-on : (c : Channel) (n k : ℕ) → narrow c ≡ false → moved c n k < n → (w : Bool) → wordSide (source c) || wordSide (destination c) ≡ w → (alone c ≤ k)
-    → wordSide (source (midway c n (moved c n k))) || wordSide (destination (midway c n (moved c n k))) ≡ true
+words-on : (c : Channel) (n k : ℕ) → narrow c ≡ false → movedAfter c n k < n → (w : Bool) → wordSide (source c) || wordSide (destination c) ≡ w → (alone c ≤ k)
+    → wordSide (source (midway c n (movedAfter c n k))) || wordSide (destination (midway c n (movedAfter c n k))) ≡ true
 words-on c n k b short true e l =
-    words-even c n (moved c n k) (let x : alone c ≡ 0 = alone-none c e in omega (arith, moved-wide c n k b)) ∙ e
+    words-even c n (movedAfter c n k) (let x : alone c ≡ 0 = alone-none c e in omega (arith, moved-wide c n k b)) ∙ e
 words-on c n k b short false e l =
-    words-odd c n (moved c n k) (let x : alone c ≡ 1 = alone-one c e in omega (arith, moved-wide c n k b)) b e
+    words-odd c n (movedAfter c n k) (let x : alone c ≡ 1 = alone-one c e in omega (arith, moved-wide c n k b)) b e
 
 -- the bytes moved after the next step
-pub moved-next : (c : Channel) (n k : ℕ) → Plain c → 1 ≤ n → n ≤ 65536 → k < total c n → moved c n (suc k) ≡ moved c n k + stride (midway c n (moved c n k))
-moved-next c n k p some most h = go (narrow c) refl (wordSide (source c) || wordSide (destination c)) refl (decLe (alone c) k) (ℕ-discrete (n - moved c n k) 1)
+pub moved-next : (c : Channel) (n k : ℕ) → Plain c → 1 ≤ n → n ≤ 65536 → k < total c n → movedAfter c n (suc k) ≡ movedAfter c n k + stride (midway c n (movedAfter c n k))
+moved-next c n k p some most h = go (narrow c) refl (wordSide (source c) || wordSide (destination c)) refl (decLe (alone c) k) (ℕ-discrete (n - movedAfter c n k) 1)
   where
-    short : moved c n k < n
+    short : movedAfter c n k < n
     short = moved-short c n k some h
 
-    one : twoMove (midway c n (moved c n k)) ≡ false → moved c n (suc k) ≡ moved c n k + 1 → moved c n (suc k) ≡ moved c n k + stride (midway c n (moved c n k))
+    one : twoMove (midway c n (movedAfter c n k)) ≡ false → movedAfter c n (suc k) ≡ movedAfter c n k + 1 → movedAfter c n (suc k) ≡ movedAfter c n k + stride (midway c n (movedAfter c n k))
     one x y = rw x y
 
-    two : twoMove (midway c n (moved c n k)) ≡ true → moved c n (suc k) ≡ moved c n k + 2 → moved c n (suc k) ≡ moved c n k + stride (midway c n (moved c n k))
+    two : twoMove (midway c n (movedAfter c n k)) ≡ true → movedAfter c n (suc k) ≡ movedAfter c n k + 2 → movedAfter c n (suc k) ≡ movedAfter c n k + stride (midway c n (movedAfter c n k))
     two x y = rw x y
 
-    go : (b : Bool) → narrow c ≡ b → (w : Bool) → wordSide (source c) || wordSide (destination c) ≡ w → Dec (alone c ≤ k) → Dec (n - moved c n k ≡ 1)
-        → moved c n (suc k) ≡ moved c n k + stride (midway c n (moved c n k))
-    go true b w e l d = one (narrow-one c n (moved c n k) b) (omega (arith, moved-narrow c n k b, moved-narrow c n (suc k) b, total-narrow c n b))
-    go false b true e (yes l) (yes z) = one (words-last c n (moved c n k) p short z) (omega (arith, moved-wide c n k b, moved-wide c n (suc k) b, alone-none c e))
+    go : (b : Bool) → narrow c ≡ b → (w : Bool) → wordSide (source c) || wordSide (destination c) ≡ w → Dec (alone c ≤ k) → Dec (n - movedAfter c n k ≡ 1)
+        → movedAfter c n (suc k) ≡ movedAfter c n k + stride (midway c n (movedAfter c n k))
+    go true b w e l d = one (narrow-one c n (movedAfter c n k) b) (omega (arith, moved-narrow c n k b, moved-narrow c n (suc k) b, total-narrow c n b))
+    go false b true e (yes l) (yes z) = one (words-last c n (movedAfter c n k) p short z) (omega (arith, moved-wide c n k b, moved-wide c n (suc k) b, alone-none c e))
     go false b true e (yes l) (no z) =
-        two (words-two c n (moved c n k) (words-on c n k b short true e l) short most z)
+        two (words-two c n (movedAfter c n k) (words-on c n k b short true e l) short most z)
         (omega (arith, short, moved-wide c n k b, moved-wide c n (suc k) b, alone-none c e))
     go false b true e (no l) d = absurd (omega (arith, alone-none c e))
-    go false b false e (yes l) (yes z) = one (words-last c n (moved c n k) p short z) (omega (arith, moved-wide c n k b, moved-wide c n (suc k) b, alone-one c e))
+    go false b false e (yes l) (yes z) = one (words-last c n (movedAfter c n k) p short z) (omega (arith, moved-wide c n k b, moved-wide c n (suc k) b, alone-one c e))
     go false b false e (yes l) (no z) =
-        two (words-two c n (moved c n k) (words-on c n k b short false e l) short most z)
+        two (words-two c n (movedAfter c n k) (words-on c n k b short false e l) short most z)
         (omega (arith, short, moved-wide c n k b, moved-wide c n (suc k) b, alone-one c e))
     go false b false e (no l) d =
-        let none : moved c n k ≡ 0 = omega (arith, moved-wide c n k b, alone-one c e) in
-        one (words-none c n (moved c n k) (words-even c n (moved c n k) (omega arith) ∙ e))
+        let none : movedAfter c n k ≡ 0 = omega (arith, moved-wide c n k b, alone-one c e) in
+        one (words-none c n (movedAfter c n k) (words-even c n (movedAfter c n k) (omega arith) ∙ e))
         (omega (arith, moved-wide c n (suc k) b, alone-one c e))
 
 -- ---- one step on the way
@@ -108,20 +108,20 @@ copied-on-two p q j m =
 step-one : (c : Channel) (m : Buffers) (p q : Pointer) (j : ℕ) → (source c) .pointer ≡ onBy p j → (destination c) .pointer ≡ onBy q j
     → Block (c .cc) → (synchronised (c .cc) ≡ 3 → ⊥) → twoMove c ≡ false
     → lentAt m (p .tag) (p .address + j) ≡ true → lentAt m (q .tag) (q .address + j) ≡ true
-    → transferOf c m ≡ transferred 0 (channelAfter c (dataOf c m)) (put1 p q j m)
+    → transferOf c m ≡ transferred 0 (movedChannel c (dataOf c m)) (put1 p q j m)
 step-one c m p q j es ed b ne one lp lq =
     block-step c m b ne one (rw es (lent-on m p j lp)) (rw ed (lent-on m q j lq))
-    ∙ ap (transferred 0 (channelAfter c (dataOf c m))) (rw (es, ed) (copied-on p q j m))
+    ∙ ap (transferred 0 (movedChannel c (dataOf c m))) (rw (es, ed) (copied-on p q j m))
 
 -- and one that moves two
 step-two : (c : Channel) (m : Buffers) (p q : Pointer) (j : ℕ) → (source c) .pointer ≡ onBy p j → (destination c) .pointer ≡ onBy q j
     → Block (c .cc) → (synchronised (c .cc) ≡ 3 → ⊥) → twoMove c ≡ true
     → lentAt m (p .tag) (p .address + j) ≡ true → lentAt m (p .tag) (p .address + (j + 1)) ≡ true
     → lentAt m (q .tag) (q .address + j) ≡ true → lentAt m (q .tag) (q .address + (j + 1)) ≡ true
-    → transferOf c m ≡ transferred 0 (channelAfter c (dataOf c m)) (put2 p q j m)
+    → transferOf c m ≡ transferred 0 (movedChannel c (dataOf c m)) (put2 p q j m)
 step-two c m p q j es ed b ne two lp lp′ lq lq′ =
     block-step-two c m b ne two (rw es (lent-on m p j lp)) (rw es (lent-on-two m p j lp′)) (rw ed (lent-on m q j lq)) (rw ed (lent-on-two m q j lq′))
-    ∙ ap (transferred 0 (channelAfter c (dataOf c m))) (rw (es, ed) (copied-on-two p q j m))
+    ∙ ap (transferred 0 (movedChannel c (dataOf c m))) (rw (es, ed) (copied-on-two p q j m))
 
 -- ---- the row
 
@@ -178,7 +178,7 @@ made n c₀ m₀ j m s k e fits h = go (twoMove (midway c₀ n j)) refl
         let short : j < n = omega arith in
         let l : lentAt m (from c₀ .tag) (from c₀ .address + j) ≡ true = h .fromLent j short in
         let l′ : lentAt m (into c₀ .tag) (into c₀ .address + j) ≡ true = h .intoLent j short in
-        made-of n c₀ m₀ j m s (channelAfter c (dataOf c m)) (put1 (from c₀) (into c₀) j m)
+        made-of n c₀ m₀ j m s (movedChannel c (dataOf c m)) (put1 (from c₀) (into c₀) j m)
         (step-one c m (from c₀) (into c₀) j es ed (mid-block c₀ n j (k .plain)) (mid-syn c₀ n j (k .plain)) b l l′)
         (stage-next c₀ n j s m (k .plain) e (omega arith) (omega arith) fits (k .most))
         (rw one (copy-one (from c₀) (into c₀) n m₀ j m (k .apart) (k .most) short h))
@@ -187,7 +187,7 @@ made n c₀ m₀ j m s k e fits h = go (twoMove (midway c₀ n j)) refl
         let two : s ≡ 2 = sym e ∙ rw b in
         let short : j < n = omega arith in
         let next : j + 1 < n = omega arith in
-        made-of n c₀ m₀ j m s (channelAfter c (dataOf c m)) (put2 (from c₀) (into c₀) j m)
+        made-of n c₀ m₀ j m s (movedChannel c (dataOf c m)) (put2 (from c₀) (into c₀) j m)
         (step-two c m (from c₀) (into c₀) j es ed (mid-block c₀ n j (k .plain)) (mid-syn c₀ n j (k .plain)) b
         (h .fromLent j short) (h .fromLent (j + 1) next) (h .intoLent j short) (h .intoLent (j + 1) next))
         (stage-next c₀ n j s m (k .plain) e (omega arith) (omega arith) fits (k .most))
@@ -207,37 +207,37 @@ unfolding stage
 stage-end c n = rw (le-ltb n n (omega arith))
 
 -- the next step after k, short of the total
-pub next-made : (n : ℕ) (c₀ : Channel) (m₀ : Buffers) (k : ℕ) (c : Channel) (m : Buffers) → Copy n c₀ m₀ → k < total c₀ n → Reached n c₀ m₀ (moved c₀ n k) c m
-    → Made n c₀ m₀ (moved c₀ n k) m (stride (midway c₀ n (moved c₀ n k)))
+pub next-made : (n : ℕ) (c₀ : Channel) (m₀ : Buffers) (k : ℕ) (c : Channel) (m : Buffers) → Copy n c₀ m₀ → k < total c₀ n → Reached n c₀ m₀ (movedAfter c₀ n k) c m
+    → Made n c₀ m₀ (movedAfter c₀ n k) m (stride (midway c₀ n (movedAfter c₀ n k)))
 next-made n c₀ m₀ k c m p h r =
-    made n c₀ m₀ (moved c₀ n k) m (stride (midway c₀ n (moved c₀ n k))) p refl
+    made n c₀ m₀ (movedAfter c₀ n k) m (stride (midway c₀ n (movedAfter c₀ n k))) p refl
     (rw (← (moved-next c₀ n k (p .plain) (p .some) (p .most) h)) (moved-le c₀ n (suc k))) (r .bytes)
 
 -- the channel after k, short of the total
-pub reached-mid : (n : ℕ) (c₀ : Channel) (m₀ : Buffers) (k : ℕ) (c : Channel) (m : Buffers) → Copy n c₀ m₀ → k < total c₀ n → Reached n c₀ m₀ (moved c₀ n k) c m
-    → c ≡ midway c₀ n (moved c₀ n k)
-reached-mid n c₀ m₀ k c m p h r = r .channel ∙ stage-mid c₀ n (moved c₀ n k) (moved-short c₀ n k (p .some) h)
+pub reached-mid : (n : ℕ) (c₀ : Channel) (m₀ : Buffers) (k : ℕ) (c : Channel) (m : Buffers) → Copy n c₀ m₀ → k < total c₀ n → Reached n c₀ m₀ (movedAfter c₀ n k) c m
+    → c ≡ midway c₀ n (movedAfter c₀ n k)
+reached-mid n c₀ m₀ k c m p h r = r .channel ∙ stage-mid c₀ n (movedAfter c₀ n k) (moved-short c₀ n k (p .some) h)
 
 -- the start
-reach-start : (n : ℕ) (c₀ : Channel) (m₀ : Buffers) → Copy n c₀ m₀ → Reached n c₀ m₀ (moved c₀ n 0) c₀ m₀
+reach-start : (n : ℕ) (c₀ : Channel) (m₀ : Buffers) → Copy n c₀ m₀ → Reached n c₀ m₀ (movedAfter c₀ n 0) c₀ m₀
 reach-start n c₀ m₀ p =
     rw (moved-zero c₀ n)
     (record { channel = sym (stage-start c₀ n (p .plain) (p .some) (p .count)); bytes = held-start (from c₀) (into c₀) n m₀ (p .fromLent) (p .intoLent) })
 
 -- one more step
-reach-step : (n : ℕ) (c₀ : Channel) (m₀ : Buffers) (k : ℕ) (c : Channel) (m : Buffers) → Copy n c₀ m₀ → suc k ≤ total c₀ n → Reached n c₀ m₀ (moved c₀ n k) c m
-    → Reached n c₀ m₀ (moved c₀ n (suc k)) ((transferOf c m) .channel) ((transferOf c m) .memory)
+reach-step : (n : ℕ) (c₀ : Channel) (m₀ : Buffers) (k : ℕ) (c : Channel) (m : Buffers) → Copy n c₀ m₀ → suc k ≤ total c₀ n → Reached n c₀ m₀ (movedAfter c₀ n k) c m
+    → Reached n c₀ m₀ (movedAfter c₀ n (suc k)) ((transferOf c m) .channel) ((transferOf c m) .memory)
 reach-step n c₀ m₀ k c m p h r =
     rw (moved-next c₀ n k (p .plain) (p .some) (p .most) h, reached-mid n c₀ m₀ k c m p h r)
     (next-made n c₀ m₀ k c m p h r .reached)
 
 -- whatever leaves both ranges alone
 reach-other : (n : ℕ) (c₀ : Channel) (m₀ : Buffers) (k : ℕ) (c : Channel) (m m′ : Buffers) → Untouched c₀ n m m′
-    → Reached n c₀ m₀ (moved c₀ n k) c m → Reached n c₀ m₀ (moved c₀ n k) c m′
+    → Reached n c₀ m₀ (movedAfter c₀ n k) c m → Reached n c₀ m₀ (movedAfter c₀ n k) c m′
 reach-other n c₀ m₀ k c m m′ u r =
     record {
       channel = r .channel;
-      bytes = held-left (from c₀) (into c₀) n m₀ (moved c₀ n k) m m′ (moved-le c₀ n k) (u .fromLeft) (u .intoLeft) (r .bytes);
+      bytes = held-left (from c₀) (into c₀) n m₀ (movedAfter c₀ n k) m m′ (moved-le c₀ n k) (u .fromLeft) (u .intoLeft) (r .bytes);
     }
 
 -- up to the total, and so before it
@@ -246,7 +246,7 @@ down k t h = omega arith
 
 -- after k of the channel's transfer steps, up to the total
 pub reached : {n : ℕ} {c₀ : Channel} {m₀ : Buffers} {k : ℕ} {c : Channel} {m : Buffers} → Copy n c₀ m₀ → Row n c₀ m₀ k c m → k ≤ total c₀ n
-    → Reached n c₀ m₀ (moved c₀ n k) c m
+    → Reached n c₀ m₀ (movedAfter c₀ n k) c m
 reached {n} {c₀} {m₀} p start h = reach-start n c₀ m₀ p
 reached {n} {c₀} {m₀} p (steps {k = k} {c = c} {m = m} r) h = reach-step n c₀ m₀ k c m p h (reached p r (down k (total c₀ n) h))
 reached {n} {c₀} {m₀} p (other {k = k} {c = c} {m = m} {m′ = m′} r u) h = reach-other n c₀ m₀ k c m m′ u (reached p r h)

@@ -7,11 +7,11 @@ use native.Mathlib.Omega.{arith}
 use Rattle.machine.specs.declared.Channel.{Channel}
 use Rattle.transfer.specs.Sides.{source, destination, wordSide}
 use Rattle.words.specs.Choice.{pick}
-use Rattle.promises.specs.Totals.{moved, narrow, alone, total}
+use Rattle.promises.specs.Totals.{movedAfter, narrow, alone, total}
 
 -- both sides are eight bits wide: a byte at each step
-pub moved-narrow : (c : Channel) (n k : ℕ) → narrow c ≡ true → moved c n k ≡ min k n
-unfolding moved
+pub moved-narrow : (c : Channel) (n k : ℕ) → narrow c ≡ true → movedAfter c n k ≡ min k n
+unfolding movedAfter
 moved-narrow c n k h = rw h
 
 -- and n steps
@@ -20,8 +20,8 @@ unfolding total
 total-narrow c n h = rw h
 
 -- some side is wider: two bytes at each step but the first p
-pub moved-wide : (c : Channel) (n k : ℕ) → narrow c ≡ false → moved c n k ≡ min (2 * k - alone c) n
-unfolding moved
+pub moved-wide : (c : Channel) (n k : ℕ) → narrow c ≡ false → movedAfter c n k ≡ min (2 * k - alone c) n
+unfolding movedAfter
 moved-wide c n k h = rw h
 
 -- and half as many steps
@@ -49,16 +49,16 @@ alone-le c = go (wordSide (source c) || wordSide (destination c))
     go false = omega arith
 
 -- at the start none has moved
-pub moved-zero : (c : Channel) (n : ℕ) → moved c n 0 ≡ 0
+pub moved-zero : (c : Channel) (n : ℕ) → movedAfter c n 0 ≡ 0
 moved-zero c n = go (narrow c) refl
   where
-    go : (b : Bool) → narrow c ≡ b → moved c n 0 ≡ 0
+    go : (b : Bool) → narrow c ≡ b → movedAfter c n 0 ≡ 0
     go true h = omega (arith, moved-narrow c n 0 h)
     go false h = omega (arith, moved-wide c n 0 h)
 
 -- no more than n move
-pub moved-le : (c : Channel) (n k : ℕ) → moved c n k ≤ n
-unfolding moved
+pub moved-le : (c : Channel) (n k : ℕ) → movedAfter c n k ≤ n
+unfolding movedAfter
 moved-le c n k = omega arith
 
 -- there is a step to make
@@ -70,17 +70,17 @@ total-some c n s = go (narrow c) refl
     go false e = omega (arith, total-wide c n e, alone-le c)
 
 -- short of the total some have not moved
-pub moved-short : (c : Channel) (n k : ℕ) → 1 ≤ n → k < total c n → moved c n k < n
+pub moved-short : (c : Channel) (n k : ℕ) → 1 ≤ n → k < total c n → movedAfter c n k < n
 moved-short c n k s h = go (narrow c) refl
   where
-    go : (b : Bool) → narrow c ≡ b → moved c n k < n
+    go : (b : Bool) → narrow c ≡ b → movedAfter c n k < n
     go true e = omega (arith, moved-narrow c n k e, total-narrow c n e)
     go false e = omega (arith, moved-wide c n k e, total-wide c n e, alone-le c)
 
 -- at the total all have
-pub moved-all : (c : Channel) (n k : ℕ) → 1 ≤ n → k ≡ total c n → moved c n k ≡ n
+pub moved-all : (c : Channel) (n k : ℕ) → 1 ≤ n → k ≡ total c n → movedAfter c n k ≡ n
 moved-all c n k s h = go (narrow c) refl
   where
-    go : (b : Bool) → narrow c ≡ b → moved c n k ≡ n
+    go : (b : Bool) → narrow c ≡ b → movedAfter c n k ≡ n
     go true e = omega (arith, moved-narrow c n k e, total-narrow c n e)
     go false e = omega (arith, moved-wide c n k e, total-wide c n e, alone-le c)

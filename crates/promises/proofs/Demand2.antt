@@ -11,8 +11,8 @@ use Rattle.attention.proofs.Outcomes.{accepted-order, other-channel, shared-kep
 use Rattle.attention.proofs.Pauses.{suspend-resume, ordered-else}
 use Rattle.attention.proofs.Stores.{bytes-kept as attention-bytes, lengths-kept as attention-lengths}
 use Rattle.attention.specs.Attention.{orderTo, attentionOf}
-use Rattle.orders.specs.Commands.{ordered}
-use Rattle.orders.specs.Effects.{withControl}
+use Rattle.attention.specs.Commands.{ordered}
+use Rattle.attention.specs.Effects.{withControl}
 use Rattle.machine.proofs.ChannelLaws.{named}
 use Rattle.machine.specs.Psw.{withPsw}
 use Rattle.machine.specs.States.{channelOf, isSecond}

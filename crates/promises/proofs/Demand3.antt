@@ -18,7 +18,7 @@ use Rattle.words.proofs.ChoiceLaws.{apart}
 use Rattle.promises.specs.Premises.{into, Plain, Copy}
 use Rattle.promises.specs.Rows.{after, Row, EndsAt, start, steps}
 use Rattle.promises.specs.Stages.{onBy, midway, finished, Within, Going, Ended}
-use Rattle.promises.specs.Totals.{moved, total}
+use Rattle.promises.specs.Totals.{movedAfter, total}
 use Rattle.promises.proofs.CopyLaws.{Reached, Made, within-then, stage-end, next-made, reached-mid, down, reached}
 use Rattle.promises.proofs.CountLaws.{moved-short, moved-all}
 
@@ -37,13 +37,13 @@ mid-transfers c n j k = k .transfers
 pub going : {n : ℕ} {c₀ : Channel} {m₀ : Buffers} {k : ℕ} {c : Channel} {m : Buffers} → Copy n c₀ m₀ → Row n c₀ m₀ k c m → k < total c₀ n → Going n c₀ m₀ k c m
 going {n} {c₀} {m₀} {k} {c} {m} p r h = go (reached p r (down k (total c₀ n) h))
   where
-    go : Reached n c₀ m₀ (moved c₀ n k) c m → Going n c₀ m₀ k c m
+    go : Reached n c₀ m₀ (movedAfter c₀ n k) c m → Going n c₀ m₀ k c m
     go x =
-        let e : c ≡ midway c₀ n (moved c₀ n k) = reached-mid n c₀ m₀ k c m p h x in
-        let s : Made n c₀ m₀ (moved c₀ n k) m (stride (midway c₀ n (moved c₀ n k))) = next-made n c₀ m₀ k c m p h x in
+        let e : c ≡ midway c₀ n (movedAfter c₀ n k) = reached-mid n c₀ m₀ k c m p h x in
+        let s : Made n c₀ m₀ (movedAfter c₀ n k) m (stride (midway c₀ n (movedAfter c₀ n k))) = next-made n c₀ m₀ k c m p h x in
         record {
-          runs = rw e (mid-runs c₀ n (moved c₀ n k) (p .plain));
-          transfers = rw e (mid-transfers c₀ n (moved c₀ n k) (p .plain));
+          runs = rw e (mid-runs c₀ n (movedAfter c₀ n k) (p .plain));
+          transfers = rw e (mid-transfers c₀ n (movedAfter c₀ n k) (p .plain));
           registers = e;
           short = moved-short c₀ n k (p .some) h;
           bytes = x .bytes;
@@ -88,7 +88,7 @@ end-of n c₀ m₀ c m p x =
 -- at the total: the transfer has ended, all bytes have arrived in order, the count is 0 and TP has moved on
 pub ended : {n : ℕ} {c₀ : Channel} {m₀ : Buffers} {k : ℕ} {c : Channel} {m : Buffers} → Copy n c₀ m₀ → Row n c₀ m₀ k c m → k ≡ total c₀ n → Ended n c₀ m₀ c m
 ended {n} {c₀} {m₀} {k} {c} {m} p r e =
-    let all : moved c₀ n k ≡ n = moved-all c₀ n k (p .some) e in
+    let all : movedAfter c₀ n k ≡ n = moved-all c₀ n k (p .some) e in
     end-of n c₀ m₀ c m p (subst (λ (j : ℕ). Reached n c₀ m₀ j c m) all (reached p r (omega arith)))
 
 -- the demand: the transfer ends at the step that is the total, and not before

@@ -10,12 +10,12 @@ use native.Mathlib.Nat.{add-zero, add-assoc}
 use native.Mathlib.Omega.{arith}
 use Rattle.decode.specs.Lengths.{dataLength, displacementLength, lengthOf}
 use Rattle.decode.specs.Reading.{decodeOf}
-use Rattle.shapes.specs.declared.Decoded.the-variants.{Instruction}
-use Rattle.shapes.specs.declared.Shape.the-variants.{RegisterImmediate}
-use Rattle.shapes.specs.declared.Work.{Work}
-use Rattle.deeds.specs.Deeds.{effectOf}
-use Rattle.deeds.specs.RegisterForms.{written, registerImmediateDeed}
-use Rattle.deeds.specs.declared.Effect.{Effect}
+use Rattle.decode_shapes.specs.declared.Decoded.the-variants.{Instruction}
+use Rattle.decode_shapes.specs.declared.Shape.the-variants.{RegisterImmediate}
+use Rattle.decode_shapes.specs.declared.Work.{Work}
+use Rattle.execute_deeds.specs.Deeds.{effectOf}
+use Rattle.execute_deeds.specs.RegisterForms.{registerWritten, registerImmediateDeed}
+use Rattle.execute_deeds.specs.declared.Effect.{Effect}
 use Rattle.execute.proofs.CodeLaws.{plan-read, shape-done}
 use Rattle.execute.specs.Execute.{decodedAt, performed, deedOf, laterBytes, deedFrom, numberFrom, Executed, executed, executeOf}
 use Rattle.machine.proofs.ChannelLaws.{put-same, last-channel}
@@ -30,9 +30,9 @@ use Rattle.memory.specs.Buffers.{Buffers, lentAt, byteAt}
 use Rattle.memory.specs.Places.{span, allLent}
 use Rattle.memory.specs.Values.{wordAt}
 use Rattle.memory.specs.declared.Pointer.{Pointer}
-use Rattle.operands.specs.Changes.{placesOf, changed}
-use Rattle.operands.specs.Operands.{onward, bytesAt, sizeOf, advanced, operandAt, workOf}
-use Rattle.step.specs.Step.{Step, doneStep, settledStep, busyOf, instructionStep, channelStep, chosenStep, entryNumber, stepOf}
+use Rattle.execute_operands.specs.Changes.{placesOf, changed}
+use Rattle.execute_operands.specs.Operands.{onward, bytesAt, sizeOf, pastInstruction, operandAt, workOf}
+use Rattle.step.specs.Step.{Step, doneStep, settledStep, busyTo, instructionStep, channelStep, chosenStep, entryNumber, stepOf}
 use Rattle.step.specs.declared.Kind.the-variants.{Instruction as AnInstruction}
 use Rattle.words.specs.Bytes.{wordOf}
 use Rattle.words.specs.Choice.{pick}
@@ -94,8 +94,8 @@ module _ {m : Buffers} {p : Pointer} {bytes : List ℕ} (there : Stand m p bytes
 -- the channel after it
 abbrev pub immediateDone : Work → ℕ → Bool → Channel → List ℕ → Channel
 immediateDone work r wide c code =
-    let c′ = advanced c (lengthOf (RegisterImmediate work r wide)) in
-    written work c′ r (workOf work (registerOf c′ r) (immediateOf code wide))
+    let c′ = pastInstruction c (lengthOf (RegisterImmediate work r wide)) in
+    registerWritten work c′ r (workOf work (registerOf c′ r) (immediateOf code wide))
 
 -- it has its pair and the data
 data-length : (work : Work) (r : ℕ) (wide : Bool) → lengthOf (RegisterImmediate work r wide) - 2 ≡ sizeOf wide
@@ -119,7 +119,7 @@ immediate-executed work r wide m c code there whole e busy =
     ap (λ (x : Effect). executed (x .number) (x .channel) (changed m (x .change)))
     (plan-read m c busy (Instruction shape) (pair-lent there pair) (decoded there pair ∙ e)
     ∙ shape-done shape m c busy (ap (λ (n : ℕ). allLent m (bytesAt (onward (c .tp) 2) n)) (data-length work r wide) ∙ data-lent there wide whole) refl refl)
-    ∙ ap (λ (v : ℕ). executed 0 (written work (advanced c (lengthOf shape)) r (workOf work (registerOf (advanced c (lengthOf shape)) r) v)) m) (immediate-read there wide whole)
+    ∙ ap (λ (v : ℕ). executed 0 (registerWritten work (pastInstruction c (lengthOf shape)) r (workOf work (registerOf (pastInstruction c (lengthOf shape)) r) v)) m) (immediate-read there wide whole)
 
 -- ---- its step
 
@@ -143,4 +143,4 @@ module _ (b : Bool) (s : State) (m : Buffers) (lines : ℕ) {code : List ℕ} (w
       step =
           turn-executes b s m lines (x .turn) (x .program)
           ∙ ap (λ (y : Executed). settledStep (y .number) s m b (y .channel) (y .memory) AnInstruction)
-          (immediate-executed work r wide m (channelOf s b) code (x .there) h e (busyOf s b))
+          (immediate-executed work r wide m (channelOf s b) code (x .there) h e (busyTo s b))

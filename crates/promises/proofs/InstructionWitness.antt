@@ -12,7 +12,7 @@ use Rattle.machine.specs.Outcomes.{unless, first, givenNumber}
 use Rattle.machine.specs.States.{idleChannel, channelOf, soundChannel, sound, isRunning}
 use Rattle.memory.specs.Buffers.{spaceOf, limitOf, indexOf, lentAt, byteAt, withinLimits}
 use Rattle.memory.specs.Values.{pointer}
-use Rattle.turns.specs.Choosing.{requested, external, endsNow, transferRank, rankOf, secondWins, ranked, choiceOf}
+use Rattle.step.specs.Choosing.{requested, external, endsNow, transferRank, rankOf, secondWins, ranked, choiceOf}
 use Rattle.step.specs.Step.{entryNumber}
 use Rattle.words.specs.Bits.{bitOf}
 use Rattle.promises.specs.Cases.{Stand, Executes}

@@ -6,7 +6,7 @@ use mathlib.Core.Path.{_≡_, refl, sym, ap, subst, _∙_}
 use Rattle.attention.specs.Attention.{attentionOf}
 use Rattle.machine.specs.Cc.{externalEnd}
 use Rattle.machine.specs.Psw.{transferring}
-use Rattle.machine.specs.States.{channelOf, numberOf}
+use Rattle.machine.specs.States.{channelOf, channelNumber}
 use Rattle.machine.specs.declared.Channel.{Channel}
 use Rattle.machine.specs.declared.State.{State}
 use Rattle.memory.specs.Buffers.{Buffers}
@@ -48,7 +48,7 @@ row-step : (b : Bool) (n : ℕ) (c₀ : Channel) (m₀ : Buffers) (k : ℕ) (s :
 row-step b n c₀ m₀ k s m lines e ne u r = rw (step-kept b s m lines (ap externalEnd (row-cc r) ∙ e) ne) (other r u)
 
 -- an attention that is not to it
-row-attention : (b : Bool) (n : ℕ) (c₀ : Channel) (m₀ : Buffers) (k : ℕ) (s : State) (m : Buffers) (channel : ℕ) → (channel ≡ numberOf b → ⊥)
+row-attention : (b : Bool) (n : ℕ) (c₀ : Channel) (m₀ : Buffers) (k : ℕ) (s : State) (m : Buffers) (channel : ℕ) → (channel ≡ channelNumber b → ⊥)
     → Untouched c₀ n m ((attentionOf s m channel) .memory) → Row n c₀ m₀ k (channelOf s b) m
     → Row n c₀ m₀ k (channelOf ((attentionOf s m channel) .state) b) ((attentionOf s m channel) .memory)
 row-attention b n c₀ m₀ k s m channel ne u r = rw (attention-kept b s m channel ne) (other r u)

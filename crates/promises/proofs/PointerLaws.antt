@@ -11,20 +11,20 @@ use native.Mathlib.Decide.{ℕ-discrete}
 use native.Mathlib.Nat.{mod-lt, mod-eq-of-lt, add-zero}
 use native.Mathlib.Omega.{arith}
 use Rattle.decode.specs.Lengths.{lengthOf}
-use Rattle.shapes.specs.Pairs.{pairOf}
+use Rattle.decode_shapes.specs.Pairs.{pairOf}
 use Rattle.decode.specs.Reading.{fits, lookup, decodeOf}
-use Rattle.shapes.specs.Rows.{isControl}
-use Rattle.decode.specs.Table.{Row, table}
-use Rattle.shapes.specs.declared.Decoded.{Decoded}
-use Rattle.shapes.specs.declared.Decoded.the-variants.{Instruction, NoInstruction, ControlUsed}
-use Rattle.shapes.specs.declared.Memory.{Memory}
-use Rattle.shapes.specs.declared.Shape.{Shape}
-use Rattle.shapes.specs.declared.Shape.the-variants.{Nop, Sintr, Xfer, Wid, Hlt, Lpdi, RegisterImmediate, Register, JumpRegister, RegisterMemory, MemoryRegister, MemoryImmediate, MemoryAlone, JumpMemory, Lpd, MovpLoad, MovpStore, MovMemory, Tsl, Call, JumpMasked, JumpBit, Bit}
-use Rattle.shapes.specs.declared.pairs.Pair.{Pair}
-use Rattle.deeds.specs.Deeds.{Deed}
-use Rattle.jumps.specs.JumpForms.{callDeed}
-use Rattle.stores.specs.MemoryForms.{movpStoreDeed}
-use Rattle.deeds.specs.RegisterForms.{movpLoadDeed}
+use Rattle.decode_shapes.specs.Rows.{isControl}
+use Rattle.decode.specs.Table.{SummaryRow, table}
+use Rattle.decode_shapes.specs.declared.Decoded.{Decoded}
+use Rattle.decode_shapes.specs.declared.Decoded.the-variants.{Instruction, NoInstruction, ControlUsed}
+use Rattle.decode_shapes.specs.declared.Memory.{Memory}
+use Rattle.decode_shapes.specs.declared.Shape.{Shape}
+use Rattle.decode_shapes.specs.declared.Shape.the-variants.{Nop, Sintr, Xfer, Wid, Hlt, Lpdi, RegisterImmediate, Register, JumpRegister, RegisterMemory, MemoryRegister, MemoryImmediate, MemoryAlone, JumpMemory, Lpd, MovpLoad, MovpStore, MovMemory, Tsl, Call, JumpMasked, JumpBit, Bit}
+use Rattle.decode_shapes.specs.declared.pairs.Pair.{Pair}
+use Rattle.execute_deeds.specs.Deeds.{Deed}
+use Rattle.execute_deeds.specs.JumpForms.{callDeed}
+use Rattle.execute_deeds.specs.MemoryForms.{movpStoreDeed}
+use Rattle.execute_deeds.specs.RegisterForms.{movpLoadDeed}
 use Rattle.execute.proofs.OutcomeLaws.{done, number-is}
 use Rattle.execute.proofs.PointerLaws.{register-written, tag-written}
 use Rattle.execute.specs.Execute.{Executed, decodedAt, performed, deedOf, laterBytes, shapeNumber, numberFrom, executeNumber, executeOf}
@@ -42,11 +42,11 @@ use Rattle.memory.specs.Buffers.{Buffers}
 use Rattle.memory.specs.Places.{allLent}
 use Rattle.memory.specs.Values.{pointer, pointerAt}
 use Rattle.memory.specs.declared.Pointer.{Pointer}
-use Rattle.operands.specs.Changes.{placesOf, changed}
-use Rattle.operands.specs.Operands.{onward, byteHere, bytesAt, renewed, advanced, grown}
-use Rattle.operands.specs.declared.Change.the-variants.{Stored}
+use Rattle.execute_operands.specs.Changes.{placesOf, changed}
+use Rattle.execute_operands.specs.Operands.{onward, byteHere, bytesAt, renewed, pastInstruction, grown}
+use Rattle.execute_operands.specs.declared.Change.the-variants.{Stored}
 use Rattle.step.proofs.SoundLaws.{entry-sound}
-use Rattle.step.specs.Step.{Step, doneStep, settledStep, busyOf, instructionStep, channelStep, chosenStep, entryNumber, stepOf}
+use Rattle.step.specs.Step.{Step, doneStep, settledStep, busyTo, instructionStep, channelStep, chosenStep, entryNumber, stepOf}
 use Rattle.step.specs.declared.Kind.{Kind}
 use Rattle.words.proofs.ChoiceLaws.{apart, both-left, both-right, or-false}
 use Rattle.words.specs.Choice.{pick}
@@ -65,7 +65,7 @@ entered s m lines z = go (ℕ-discrete (entryNumber s m lines) 0) z
 
 -- BUSY of a call's channel, what its instruction comes to, and what an instruction of a shape does
 abbrev busyOn : StepCall → ℕ
-busyOn k = busyOf (k .state) (k .second)
+busyOn k = busyTo (k .state) (k .second)
 
 abbrev executedOn : StepCall → Executed
 executedOn k = executeOf (channelOn k) (busyOn k) (k .memory)
@@ -176,12 +176,12 @@ is-pointer r h = go (ℕ-discrete r 0) (ℕ-discrete r 1) (ℕ-discrete r 2) (�
     go (no a) (no b) (no c) (no d) = let past : 3 ≤ r = omega arith in apart (sym (rw (le-ltb r 3 past, ne-eqb r 4 d) at h))
 
 -- each of some rows that a pair fits has a pointer there
-abbrev pointing : List Row → Pair → Bool
+abbrev pointing : List SummaryRow → Pair → Bool
 pointing [] p = true
 pointing (r ∷ rs) p = (isPointer (movpRegister (r .shape p)) || not (fits r p)) && pointing rs p
 
 -- then so has what they make of the pair
-looked-up : (rows : List Row) (p : Pair) → pointing rows p ≡ true → isPointer (registerIn (lookup rows p)) ≡ true
+looked-up : (rows : List SummaryRow) (p : Pair) → pointing rows p ≡ true → isPointer (registerIn (lookup rows p)) ≡ true
 unfolding lookup
 looked-up [] p h = refl
 looked-up (r ∷ rs) p h =
@@ -218,8 +218,8 @@ executes-pointer {k} {shape} x =
 
 -- ---- the pointer registers of a sound channel
 
-sound-found : (c : Channel) (n r : ℕ) → soundChannel c ≡ true → IsPointer r → registerOf (advanced c n) r < 1048576
-unfolding soundChannel registerOf byRRR advanced renewed onward
+sound-found : (c : Channel) (n r : ℕ) → soundChannel c ≡ true → IsPointer r → registerOf (pastInstruction c n) r < 1048576
+unfolding soundChannel registerOf byRRR pastInstruction renewed onward
 sound-found c n r h =
     let ga = ltb (c .ga .address) 1048576 in
     let gb = ltb (c .gb .address) 1048576 in
@@ -271,7 +271,7 @@ movp-back {k} {r} {o} x l =
 pub call-back : {k : StepCall} {o : Memory} {two : Bool} {k′ : StepCall} {r′ : ℕ} {o′ : Memory} → Executes k (Call o two)
     → LoadsFrom k (operandOf k (Call o two) o) k′ r′ o′
     → Holds (channelOf (left k′ .state) (k′ .second)) r′ (found k (Call o two) .tp .address) (found k (Call o two) .tp .tag)
-unfolding deedOf performed callDeed advanced renewed onward
+unfolding deedOf performed callDeed pastInstruction renewed onward
 call-back {k} {o} {two} x l =
     let shape = Call o two in
     let p = found k shape .tp in

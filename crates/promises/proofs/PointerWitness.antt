@@ -6,29 +6,29 @@ use mathlib.Core.List.{List, [], _∷_, _++_}
 use mathlib.Core.Path.{refl}
 use lib.ListN.{replicate}
 use Rattle.decode.specs.Lengths.{lengthOf, dataLength, displacementLength, offsetLength}
-use Rattle.shapes.specs.Pairs.{pairOf}
+use Rattle.decode_shapes.specs.Pairs.{pairOf}
 use Rattle.decode.specs.Reading.{lookup, decodeOf}
 use Rattle.decode.specs.Table.{table}
-use Rattle.shapes.specs.declared.Memory.{Memory}
-use Rattle.shapes.specs.declared.Shape.{Shape}
-use Rattle.shapes.specs.declared.Shape.the-variants.{MovpStore, Call}
-use Rattle.deeds.specs.Deeds.{effectOf}
-use Rattle.jumps.specs.JumpForms.{callDeed}
-use Rattle.stores.specs.MemoryForms.{movpStoreDeed}
-use Rattle.deeds.specs.RegisterForms.{movpLoadDeed}
+use Rattle.decode_shapes.specs.declared.Memory.{Memory}
+use Rattle.decode_shapes.specs.declared.Shape.{Shape}
+use Rattle.decode_shapes.specs.declared.Shape.the-variants.{MovpStore, Call}
+use Rattle.execute_deeds.specs.Deeds.{effectOf}
+use Rattle.execute_deeds.specs.JumpForms.{callDeed}
+use Rattle.execute_deeds.specs.MemoryForms.{movpStoreDeed}
+use Rattle.execute_deeds.specs.RegisterForms.{movpLoadDeed}
 use Rattle.execute.specs.Execute.{decodedAt, performed, deedOf, laterBytes, deedFrom, shapeNumber, numberFrom, executeNumber, settledEffect, planOf, executeOf}
 use Rattle.machine.specs.Outcomes.{unless, first, givenNumber}
 use Rattle.machine.specs.Registers.{byRRR, registerOf, tagOf, withRegister, baseOf}
-use Rattle.machine.specs.States.{freshState, idleChannel, channelOf, withChannel, withLast, soundChannel, sound, isRunning, blockOf, numberOf}
+use Rattle.machine.specs.States.{freshState, idleChannel, channelOf, withChannel, withLast, soundChannel, sound, isRunning, blockOf, channelNumber}
 use Rattle.machine.specs.declared.Channel.{Channel}
 use Rattle.machine.specs.declared.Mode.the-variants.{Running}
 use Rattle.memory.specs.Buffers.{buffers, spaceOf, limitOf, indexOf, lentAt, byteAt, storeByte, withinLimits}
 use Rattle.memory.specs.Places.{span, allLent}
 use Rattle.memory.specs.Values.{pointer, pointerAt, storePointer}
-use Rattle.operands.specs.Changes.{placesOf, changed}
-use Rattle.operands.specs.Operands.{onward, renewed, usedUp, advanced, indexed, effective, grown, displacementAt, jumped}
-use Rattle.turns.specs.Choosing.{requested, external, endsNow, transferRank, rankOf, secondWins, ranked, choiceOf}
-use Rattle.step.specs.Step.{settledStep, busyOf, instructionStep, channelStep, chosenStep, entryNumber, stepOf}
+use Rattle.execute_operands.specs.Changes.{placesOf, changed}
+use Rattle.execute_operands.specs.Operands.{onward, renewed, usedUp, pastInstruction, indexed, effective, grown, displacementAt, jumped}
+use Rattle.step.specs.Choosing.{requested, external, endsNow, transferRank, rankOf, secondWins, ranked, choiceOf}
+use Rattle.step.specs.Step.{settledStep, busyTo, instructionStep, channelStep, chosenStep, entryNumber, stepOf}
 use Rattle.words.specs.Bits.{fieldOf, bitOf}
 use Rattle.words.specs.Signs.{signedOf, displacedBy}
 use Rattle.promises.specs.Pointers.{Holds, StepCall, left, Executes, operandOf, LoadsFrom}
@@ -77,7 +77,7 @@ abbrev calls : List ℕ
 calls = 0x88 ∷ 0x9C ∷ 0 ∷ 0x41 ∷ 0x8C ∷ []
 
 both-go : GoesAndComes movps (MovpStore 1 (atGa true)) (atGa true) × GoesAndComes calls (Call (atGa false) false) (atGa false)
-unfolding stepOf entryNumber givenNumber first unless withinLimits limitOf spaceOf indexOf lentAt byteAt storeByte allLent span sound soundChannel freshState idleChannel channelOf withChannel withLast isRunning blockOf numberOf requested external endsNow transferRank rankOf secondWins ranked choiceOf settledStep busyOf instructionStep channelStep chosenStep fieldOf bitOf decodedAt performed deedOf laterBytes deedFrom shapeNumber numberFrom executeNumber settledEffect planOf executeOf onward renewed usedUp advanced effectOf placesOf changed pairOf lookup decodeOf table lengthOf dataLength displacementLength offsetLength movpStoreDeed movpLoadDeed callDeed effective grown baseOf registerOf tagOf byRRR withRegister storePointer pointerAt indexed jumped displacementAt displacedBy signedOf
+unfolding stepOf entryNumber givenNumber first unless withinLimits limitOf spaceOf indexOf lentAt byteAt storeByte allLent span sound soundChannel freshState idleChannel channelOf withChannel withLast isRunning blockOf channelNumber requested external endsNow transferRank rankOf secondWins ranked choiceOf settledStep busyTo instructionStep channelStep chosenStep fieldOf bitOf decodedAt performed deedOf laterBytes deedFrom shapeNumber numberFrom executeNumber settledEffect planOf executeOf onward renewed usedUp pastInstruction effectOf placesOf changed pairOf lookup decodeOf table lengthOf dataLength displacementLength offsetLength movpStoreDeed movpLoadDeed callDeed effective grown baseOf registerOf tagOf byRRR withRegister storePointer pointerAt indexed jumped displacementAt displacedBy signedOf
 both-go = (
   record {
     goes = record { done = refl; chosen = refl; program = refl; reads = refl };
@@ -91,10 +91,10 @@ both-go = (
 
 -- after the first GC is 12345h, in I/O space
 pub movp-met : Holds (channelOf (left (nextStep movps) .state) false) 2 0x12345 true
-unfolding registerOf tagOf byRRR advanced renewed freshState withChannel channelOf
+unfolding registerOf tagOf byRRR pastInstruction renewed freshState withChannel channelOf
 movp-met = movp-back (both-go .0 .goes) (both-go .0 .comes)
 
 -- after the second it is 3, the address past the CALL, in system space
 pub call-met : Holds (channelOf (left (nextStep calls) .state) false) 2 3 false
-unfolding advanced renewed onward freshState withChannel channelOf lengthOf offsetLength dataLength displacementLength
+unfolding pastInstruction renewed onward freshState withChannel channelOf lengthOf offsetLength dataLength displacementLength
 call-met = call-back (both-go .1 .goes) (both-go .1 .comes)

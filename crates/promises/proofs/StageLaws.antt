@@ -19,7 +19,7 @@ use Rattle.words.proofs.ChoiceLaws.{pick-under, apart, both-left, both-right}
 use Rattle.transfer.specs.Ends.{withTransfer, offsetOf, endedTP, endedPSW, endedBy}
 use Rattle.transfer.specs.Reads.{dataOf}
 use Rattle.transfer.specs.Sides.{side, source, destination, wordSide, gained, twoMove}
-use Rattle.transfer.specs.Stores.{channelAfter}
+use Rattle.transfer.specs.Stores.{movedChannel}
 use Rattle.words.specs.Bits.{bitOf}
 use Rattle.words.specs.Choice.{pick}
 use Rattle.words.specs.Sums.{countDown}
@@ -208,7 +208,7 @@ ends-mid c n ne = λ i. withTransfer c (onBy (c .ga) n) (onBy (c .gb) n) (tp i) 
 
 -- what the next step makes of the channel
 pub stage-next : (c : Channel) (n j s : ℕ) (m : Buffers) → Plain c → stride (midway c n j) ≡ s → 1 ≤ s → s ≤ 2 → j + s ≤ n → n ≤ 65536
-    → channelAfter (midway c n j) (dataOf (midway c n j) m) ≡ stage c n (j + s)
+    → movedChannel (midway c n j) (dataOf (midway c n j) m) ≡ stage c n (j + s)
 unfolding stage
 stage-next c n j s m k e one two fits most = go (decLt (j + s) n)
   where
@@ -218,7 +218,7 @@ stage-next c n j s m k e one two fits most = go (decLt (j + s) n)
     next : onward (midway c n j) ≡ midway c n (j + s)
     next = onward-mid c n j s e two fits most
 
-    go : Dec (j + s < n) → channelAfter (midway c n j) (dataOf (midway c n j) m) ≡ pick (ltb (j + s) n) (midway c n (j + s)) (finished c n)
+    go : Dec (j + s < n) → movedChannel (midway c n j) (dataOf (midway c n j) m) ≡ pick (ltb (j + s) n) (midway c n (j + s)) (finished c n)
     go (yes h) = rw (lt-ltb (j + s) n h) (block-going (midway c n j) (dataOf (midway c n j) m) (mid-block c n j k) (λ z. let x : (n - (j + s)) % 65536 ≡ 0 = sym left ∙ z in omega arith) ∙ next)
     go (no h) =
         let all : j + s ≡ n = omega arith in

@@ -7,23 +7,23 @@ use mathlib.Core.List.{[], _∷_}
 use mathlib.Core.Path.{_≡_, refl, ap, _∙_}
 use native.Mathlib.Omega.{arith}
 use Rattle.decode.specs.Lengths.{dataLength, displacementLength, lengthOf}
-use Rattle.shapes.specs.Pairs.{pairOf}
+use Rattle.decode_shapes.specs.Pairs.{pairOf}
 use Rattle.decode.specs.Reading.{lookup, decodeOf}
 use Rattle.decode.specs.Table.{table}
-use Rattle.shapes.specs.declared.Work.the-variants.{Mov, Add}
-use Rattle.deeds.specs.RegisterForms.{written}
+use Rattle.decode_shapes.specs.declared.Work.the-variants.{Mov, Add}
+use Rattle.execute_deeds.specs.RegisterForms.{registerWritten}
 use Rattle.machine.specs.Registers.{byRRR, registerOf, tagOf, withRegister}
-use Rattle.machine.specs.States.{numberOf}
+use Rattle.machine.specs.States.{channelNumber}
 use Rattle.machine.specs.declared.Channel.{Channel}
 use Rattle.machine.specs.declared.State.{State}
 use Rattle.memory.specs.Buffers.{Buffers}
 use Rattle.memory.specs.Values.{pointer}
-use Rattle.operands.specs.Operands.{onward, renewed, advanced, workOf, isMove}
+use Rattle.execute_operands.specs.Operands.{onward, renewed, pastInstruction, workOf, isMove}
 use Rattle.words.specs.Bits.{fieldOf}
 use Rattle.words.specs.Compare.{matchOf}
 use Rattle.words.specs.Signs.{extended}
 use Rattle.words.specs.Sums.{addressOf}
-use Rattle.promises.specs.Cases.{Does, IsStored, Gives, Both8, Both16Even, Both16Odd, From16OddInto8, Takes, Fresh, Turns, started}
+use Rattle.promises.specs.Cases.{Does, IsStored, Gives, Both8, Both16Even, Both16Odd, From16OddInto8, Takes, Fresh, Turns, startedBoth}
 use Rattle.promises.proofs.CaseLaws.{stored-stands, pointer-given, total-8, total-even, total-odd, total-mixed, takes}
 use Rattle.promises.proofs.InstructionLaws.{immediate-step}
 use Rattle.promises.proofs.TurnLaws.{turns-alternate, fresh-last}
@@ -31,22 +31,22 @@ use Rattle.promises.proofs.TurnWitness.{started-turns}
 
 -- 1. "08 30 80: GA FFF80h, tag 1."
 pub case-1 : Does (0x08 ∷ 0x30 ∷ 0x80 ∷ []) (λ c c′. c′ .ga ≡ pointer 0xFFF80 true)
-unfolding decodeOf lookup table pairOf fieldOf written isMove workOf withRegister extended
+unfolding decodeOf lookup table pairOf fieldOf registerWritten isMove workOf withRegister extended
 case-1 b s m lines x = let d = immediate-step b s m lines Mov 0 false (lit< tt) refl x in (d .0, ap (λ (c : Channel). c .ga) (d .1))
 
 -- 2. "71 30 34 12: BC 1234h."
 pub case-2 : Does (0x71 ∷ 0x30 ∷ 0x34 ∷ 0x12 ∷ []) (λ c c′. c′ .bc ≡ 0x1234)
-unfolding decodeOf lookup table pairOf fieldOf written isMove workOf withRegister extended
+unfolding decodeOf lookup table pairOf fieldOf registerWritten isMove workOf withRegister extended
 case-2 b s m lines x = let d = immediate-step b s m lines Mov 3 true (lit< tt) refl x in (d .0, ap (λ (c : Channel). c .bc) (d .1))
 
 -- 3. "88 20 FE at 100h: TP 101h."
 pub case-3 : Does (0x88 ∷ 0x20 ∷ 0xFE ∷ []) (λ c c′. c .tp .address ≡ 0x100 → c′ .tp ≡ pointer 0x101 (c .tp .tag))
-unfolding decodeOf lookup table pairOf fieldOf written isMove workOf withRegister extended registerOf tagOf byRRR advanced renewed onward lengthOf dataLength displacementLength
+unfolding decodeOf lookup table pairOf fieldOf registerWritten isMove workOf withRegister extended registerOf tagOf byRRR pastInstruction renewed onward lengthOf dataLength displacementLength
 case-3 b s m lines x = let d = immediate-step b s m lines Add 4 false (lit< tt) refl x in (d .0, λ e. ap (λ (c : Channel). c .tp) (d .1) ∙ rw e)
 
 -- 4. "08 20 FF with GA 0: FFFFFh."
 pub case-4 : Does (0x08 ∷ 0x20 ∷ 0xFF ∷ []) (λ c c′. c .ga .address ≡ 0 → c′ .ga ≡ pointer 0xFFFFF (c .ga .tag))
-unfolding decodeOf lookup table pairOf fieldOf written isMove workOf withRegister extended registerOf tagOf byRRR advanced renewed
+unfolding decodeOf lookup table pairOf fieldOf registerWritten isMove workOf withRegister extended registerOf tagOf byRRR pastInstruction renewed
 case-4 b s m lines x = let d = immediate-step b s m lines Add 0 false (lit< tt) refl x in (d .0, λ e. ap (λ (c : Channel). c .ga) (d .1) ∙ rw e)
 
 -- 5. "12345h tag 1 is stored 45 23 18; tag 0, 45 23 10."
@@ -80,6 +80,6 @@ case-11 = takes total-mixed (λ n l h e. omega arith)
 
 -- 12. "Fresh, both programs unchained, equal priority: 1, 2, 1, 2."
 pub case-12 : ((s : State) (m : Buffers) (w x y z : ℕ) → Fresh s → Turns s m (w ∷ x ∷ y ∷ z ∷ []) → w ∷ x ∷ y ∷ z ∷ [] ≡ 1 ∷ 2 ∷ 1 ∷ 2 ∷ [])
-    × Turns (started .state) (started .memory) (1 ∷ 2 ∷ 1 ∷ 2 ∷ [])
-unfolding numberOf
+    × Turns (startedBoth .state) (startedBoth .memory) (1 ∷ 2 ∷ 1 ∷ 2 ∷ [])
+unfolding channelNumber
 case-12 = (λ s m w x y z f t. turns-alternate true (fresh-last f) t, started-turns)

@@ -6,15 +6,15 @@ use mathlib.Core.List.{List, [], _∷_}
 use mathlib.Core.Logic.{inr}
 use mathlib.Core.Path.{_≡_, refl, sym, ap, ap₂, _∙_}
 use Rattle.attention.proofs.Outcomes.{shared-kept}
-use Rattle.machine.specs.States.{freshState, channelOf, withLast, numberOf}
+use Rattle.machine.specs.States.{freshState, channelOf, withLast, channelNumber}
 use Rattle.machine.specs.declared.State.{State}
 use Rattle.memory.specs.Buffers.{Buffers}
-use Rattle.turns.proofs.ChoosingLaws.{rank-three, other-turn}
+use Rattle.step.proofs.ChoosingLaws.{rank-three, other-turn}
 use Rattle.step.proofs.OutcomeLaws.{by-step}
-use Rattle.turns.specs.Choosing.{requested, choiceOf}
+use Rattle.step.specs.Choosing.{requested, choiceOf}
 use Rattle.step.specs.Step.{stepOf}
-use Rattle.turns.specs.declared.Choice.the-variants.{Ends, Steps}
-use Rattle.turns.specs.declared.Choice.{Choice}
+use Rattle.step.specs.declared.turns.Choice.the-variants.{Ends, Steps}
+use Rattle.step.specs.declared.turns.Choice.{Choice}
 use Rattle.words.proofs.ChoiceLaws.{apart}
 use Rattle.promises.specs.Cases.{Fresh, made, attended, Programs, Turns, none, turn}
 
@@ -27,14 +27,14 @@ turn-of s lines p =
 
 -- so a done step is that channel's, and it was the last to step
 pub alternates : (s : State) (m : Buffers) (lines : ℕ) → Programs s → (stepOf s m lines) .number ≡ 0
-    → ((stepOf s m lines) .channel ≡ numberOf (not (s .last))) × ((stepOf s m lines) .state .last ≡ not (s .last))
+    → ((stepOf s m lines) .channel ≡ channelNumber (not (s .last))) × ((stepOf s m lines) .state .last ≡ not (s .last))
 unfolding withLast
 alternates s m lines p =
-    by-step s m lines (λ o. o .number ≡ 0 → (o .channel ≡ numberOf (not (s .last))) × (o .state .last ≡ not (s .last)))
+    by-step s m lines (λ o. o .number ≡ 0 → (o .channel ≡ channelNumber (not (s .last))) × (o .state .last ≡ not (s .last)))
     (λ k ne e. absurd (ne e))
     (λ b z e h. apart (ap isEnd (sym e ∙ turn-of s lines p)))
-    (λ b z e f h. let q = ap whose (sym e ∙ turn-of s lines p) in (ap numberOf q, q))
-    (λ b z e f h. let q = ap whose (sym e ∙ turn-of s lines p) in (ap numberOf q, q))
+    (λ b z e f h. let q = ap whose (sym e ∙ turn-of s lines p) in (ap channelNumber q, q))
+    (λ b z e f h. let q = ap whose (sym e ∙ turn-of s lines p) in (ap channelNumber q, q))
   where
     isEnd : Choice → Bool
     isEnd Choice.Nobody = false
@@ -49,14 +49,14 @@ alternates s m lines p =
 -- the channels from some last one on, the other first
 abbrev pub inTurn : Bool → List ℕ → List ℕ
 inTurn last [] = []
-inTurn last (x ∷ rest) = numberOf (not last) ∷ inTurn (not last) rest
+inTurn last (x ∷ rest) = channelNumber (not last) ∷ inTurn (not last) rest
 
 -- whatever number of steps there are
 pub turns-alternate : {s : State} {m : Buffers} {channels : List ℕ} (last : Bool) → s .last ≡ last → Turns s m channels → channels ≡ inTurn last channels
 turns-alternate last e none = refl
 turns-alternate last e (turn {s = s} {m = m} p lines d rest) =
     let a = alternates s m lines p d in
-    ap₂ _∷_ (a .0 ∙ ap (λ (x : Bool). numberOf (not x)) e) (turns-alternate (not last) (a .1 ∙ ap not e) rest)
+    ap₂ _∷_ (a .0 ∙ ap (λ (x : Bool). channelNumber (not x)) e) (turns-alternate (not last) (a .1 ∙ ap not e) rest)
 
 -- a fresh state has channel 2 as the last
 pub fresh-last : {s : State} → Fresh s → s .last ≡ true

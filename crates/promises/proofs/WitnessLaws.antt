@@ -12,11 +12,11 @@ use Rattle.machine.specs.declared.Channel.{Channel}
 use Rattle.memory.proofs.SpanLaws.{span-at}
 use Rattle.memory.specs.Buffers.{Buffers, spaceOf, limitOf, indexOf, lentAt, byteAt, storeByte}
 use Rattle.memory.specs.Places.{span, allLent}
-use Rattle.transfer.specs.Ends.{withTransfer, meets, codeIf, larger, offsetOf, endedTP, endedPSW, endedBy}
+use Rattle.transfer.specs.Ends.{withTransfer, meetsTmc, codeIf, larger, offsetOf, endedTP, endedPSW, endedBy}
 use Rattle.transfer.specs.Reads.{fetched, fetchedSecond, entryOf, delivered, dataOf, also, readPlaces}
-use Rattle.transfer.specs.Sides.{source, destination, wordSide, secondOf, gained, twoMove, storedSingly}
-use Rattle.transfer.specs.Steps.{Transfer, touched, transferred, badMode, transferNumber, transferOf}
-use Rattle.transfer.specs.Stores.{channelAfter, memoryAfter, firstMeets, matchMet, cutShort, storesTwo, bytesStored, bytesMoved, bytesCounted, countAfter, endCode, movedBy, putOn, placesOn, storedPlaces}
+use Rattle.transfer.specs.Sides.{source, destination, wordSide, secondAddress, gained, twoMove, storedSingly}
+use Rattle.transfer.specs.Steps.{Transfer, touchedByTransfer, transferred, badMode, transferNumber, transferOf}
+use Rattle.transfer.specs.Stores.{movedChannel, movedMemory, firstMeets, matchMet, cutShort, storesTwo, bytesStored, bytesMoved, bytesCounted, countAfter, endCode, movedBy, putOn, placesOn, storedPlaces}
 use Rattle.words.proofs.ChoiceLaws.{apart}
 use Rattle.words.specs.Bits.{fieldOf, bitOf, withBit}
 use Rattle.words.specs.Compare.{matchOf}
@@ -92,7 +92,7 @@ wide-met =
 
 -- a transfer step with all that it is made of laid open, so that it computes
 unfoldable pub transferOpen : Channel → Buffers → Transfer
-unfolding channelWith memoryWith transferOf transferNumber first unless badMode source destination touched readPlaces also entryOf storedPlaces placesOn allLent lentAt spaceOf indexOf limitOf dataOf delivered fetched fetchedSecond twoMove wordSide secondOf bitOf fieldOf storesTwo cutShort storedSingly firstMeets meets matchMet memoryAfter putOn storeByte byteAt channelAfter endedBy endedTP endedPSW movedBy withTransfer gained bytesMoved bytesStored bytesCounted countAfter endCode codeIf larger offsetOf withPsw withBit matchOf
+unfolding channelWith memoryWith transferOf transferNumber first unless badMode source destination touchedByTransfer readPlaces also entryOf storedPlaces placesOn allLent lentAt spaceOf indexOf limitOf dataOf delivered fetched fetchedSecond twoMove wordSide secondAddress bitOf fieldOf storesTwo cutShort storedSingly firstMeets meetsTmc matchMet movedMemory putOn storeByte byteAt movedChannel endedBy endedTP endedPSW movedBy withTransfer gained bytesMoved bytesStored bytesCounted countAfter endCode codeIf larger offsetOf withPsw withBit matchOf
 transferOpen c m = transferOf c m
 
 -- both widths 8: the total is five

@@ -5,11 +5,11 @@ use Prim.Native.Nat.{ℕ, suc, _<_}
 use Rattle.memory.specs.Buffers.{Buffers}
 use Rattle.machine.specs.declared.State.{State}
 use Rattle.machine.specs.Psw.{transferring}
-use Rattle.machine.specs.States.{channelOf, numberOf}
+use Rattle.machine.specs.States.{channelOf, channelNumber}
 use Rattle.attention.specs.Attention.{attentionOf}
-use Rattle.turns.specs.declared.Choice.the-variants.{Steps}
+use Rattle.step.specs.declared.turns.Choice.the-variants.{Steps}
 use Rattle.step.specs.declared.Kind.the-variants.{Transfer}
-use Rattle.turns.specs.Choosing.{choiceOf}
+use Rattle.step.specs.Choosing.{choiceOf}
 use Rattle.step.specs.Step.{entryNumber, stepOf}
 use Rattle.promises.specs.Premises.{into}
 use Rattle.promises.specs.Stages.{Within, Going, Ended}
@@ -29,14 +29,14 @@ pub data Calls (second : Bool) (n : ℕ) (s₀ : State) (m₀ : Buffers) : ℕ �
       → transferring (channelOf s second .psw) ≡ true → Calls second n s₀ m₀ (suc k) ((stepOf s m lines) .state) ((stepOf s m lines) .memory)
   step : {k : ℕ} {s : State} {m : Buffers} → Calls second n s₀ m₀ k s m → (lines : ℕ) → (Turn second s m lines → ⊥)
       → Untouched (channelOf s₀ second) n m ((stepOf s m lines) .memory) → Calls second n s₀ m₀ k ((stepOf s m lines) .state) ((stepOf s m lines) .memory)
-  attention : {k : ℕ} {s : State} {m : Buffers} → Calls second n s₀ m₀ k s m → (channel : ℕ) → (channel ≡ numberOf second → ⊥)
+  attention : {k : ℕ} {s : State} {m : Buffers} → Calls second n s₀ m₀ k s m → (channel : ℕ) → (channel ≡ channelNumber second → ⊥)
       → Untouched (channelOf s₀ second) n m ((attentionOf s m channel) .memory) → Calls second n s₀ m₀ k ((attentionOf s m channel) .state) ((attentionOf s m channel) .memory)
   host : {k : ℕ} {s : State} {m : Buffers} {m′ : Buffers} → Calls second n s₀ m₀ k s m → Untouched (channelOf s₀ second) n m m′ → Calls second n s₀ m₀ k s m′
 
 -- a step call that is a transfer step of the channel: it is done, and changes no byte but the destination's
 pub record Moves (second : Bool) (n : ℕ) (s₀ s : State) (m : Buffers) (lines : ℕ) : Type 0 where
   pub done : (stepOf s m lines) .number ≡ 0
-  pub channel : (stepOf s m lines) .channel ≡ numberOf second
+  pub channel : (stepOf s m lines) .channel ≡ channelNumber second
   pub kind : (stepOf s m lines) .kind ≡ Transfer
   pub spares : Within (into (channelOf s₀ second)) n m ((stepOf s m lines) .memory)
 

@@ -15,7 +15,7 @@ use Rattle.machine.specs.Psw.{transferring, priority}
 use Rattle.machine.specs.States.{freshState, channelOf}
 use Rattle.attention.specs.Attention.{attentionOf}
 use Rattle.transfer.specs.Sides.{source, destination}
-use Rattle.turns.specs.Ranks.{RankThree}
+use Rattle.step.specs.Ranks.{RankThree}
 use Rattle.step.specs.Step.{stepOf}
 use Rattle.promises.specs.Calls.{Turn, EndsAtCall}
 use Rattle.promises.specs.Premises.{from, into, Lent, Copy}
@@ -115,7 +115,7 @@ nops =
     []
 
 -- a fresh state after an attention to each channel
-abbrev pub started : Outcome
-started =
+abbrev pub startedBoth : Outcome
+startedBoth =
     let o = attentionOf (freshState 0) nops 1 in
     attentionOf (o .state) (o .memory) 2

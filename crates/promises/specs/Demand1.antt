@@ -14,8 +14,8 @@ use Rattle.machine.specs.declared.State.{State}
 use Rattle.machine.specs.Conditions.{check, Given}
 use Rattle.machine.specs.States.{freshOf, channelOf}
 use Rattle.attention.specs.Attention.{attentionOf}
-use Rattle.attention.specs.Conditions.{checks as attentionChecks}
-use Rattle.step.specs.Conditions.{checks as stepChecks}
+use Rattle.attention.specs.Conditions.{attentionChecks as attentionChecks}
+use Rattle.step.specs.Conditions.{stepChecks as stepChecks}
 use Rattle.step.specs.Step.{stepOf}
 use Rattle.panel.specs.Run.{Run, runOf, answerOf}
 use Rattle.promises.specs.Runs.{CpPast, RunEnds}

@@ -11,22 +11,22 @@ use Rattle.machine.specs.declared.Channel.{Channel}
 use Rattle.machine.specs.declared.State.{State}
 use Rattle.machine.specs.Outcomes.{outcome}
 use Rattle.machine.specs.Psw.{transferring}
-use Rattle.machine.specs.States.{channelOf, withChannel, isSecond, numberOf}
-use Rattle.attention.specs.Attention.{orderTo, channelAfter, memoryAfter, attentionOf}
-use Rattle.orders.specs.Touched.{storedBy}
+use Rattle.machine.specs.States.{channelOf, withChannel, isSecond, channelNumber}
+use Rattle.attention.specs.Attention.{orderTo, orderedChannel, orderedMemory, attentionOf}
+use Rattle.attention.specs.Touched.{storedBy}
 use Rattle.transfer.specs.Ends.{externallyEnded}
 use Rattle.transfer.specs.Steps.{transferOf}
 use Rattle.execute.specs.Execute.{executeOf}
-use Rattle.turns.specs.declared.Choice.the-variants.{Ends, Steps}
+use Rattle.step.specs.declared.turns.Choice.the-variants.{Ends, Steps}
 use Rattle.step.specs.declared.Kind.the-variants.{Instruction, Transfer, External}
-use Rattle.turns.specs.Choosing.{choiceOf}
-use Rattle.step.specs.Step.{doneStep, busyOf, stepOf}
-use Rattle.step.specs.Touched.{touchedBy}
+use Rattle.step.specs.Choosing.{choiceOf}
+use Rattle.step.specs.Step.{doneStep, busyTo, stepOf}
+use Rattle.step.specs.Touched.{touchedByStep}
 use Rattle.promises.specs.Pointers.{PointersKept}
 
 -- the bytes that the order in a channel's block stores
-abbrev pub storedPlaces : State → Buffers → ℕ → List Place
-storedPlaces s m channel =
+abbrev pub storedByOrder : State → Buffers → ℕ → List Place
+storedByOrder s m channel =
     storedBy (orderTo s m (isSecond channel) .command) (orderTo s m (isSecond channel) .block) (orderTo s m (isSecond channel) .pb)
 
 -- no register but TP, PP, PSW, the mode and the armed mark has changed
@@ -43,23 +43,23 @@ pub record OnlyControl (before after : Channel) : Type 0 where
 pub record AttentionDoes (s : State) (m : Buffers) (channel : ℕ) : Type 0 where
   -- an accepted one does what the order in its channel's block says, to that channel and to memory
   pub obeys : attentionOf s m channel .number ≡ 0
-      → attentionOf s m channel ≡ outcome 0 (withChannel s (isSecond channel) (channelAfter s m (isSecond channel))) (memoryAfter s m (isSecond channel))
+      → attentionOf s m channel ≡ outcome 0 (withChannel s (isSecond channel) (orderedChannel s m (isSecond channel))) (orderedMemory s m (isSecond channel))
   -- "A step or attention of one channel changes no register of the other"
-  pub other : (second : Bool) → channel ≡ numberOf second → channelOf (attentionOf s m channel .state) (not second) ≡ channelOf s (not second)
+  pub other : (second : Bool) → channel ≡ channelNumber second → channelOf (attentionOf s m channel .state) (not second) ≡ channelOf s (not second)
   -- of its own channel it changes no register but TP, PP, PSW, the mode and the armed mark
   pub own : OnlyControl (channelOf s (isSecond channel)) (channelOf (attentionOf s m channel .state) (isSecond channel))
   -- of what the channels share it changes nothing
   pub controlBlock : attentionOf s m channel .state .cp ≡ s .cp
   pub last : attentionOf s m channel .state .last ≡ s .last
   -- every byte that its order does not store is as it was
-  pub bytes : (tag : Bool) (address : ℕ) → ApartFrom (storedPlaces s m channel) tag address → byteAt (attentionOf s m channel .memory) tag address ≡ byteAt m tag address
+  pub bytes : (tag : Bool) (address : ℕ) → ApartFrom (storedByOrder s m channel) tag address → byteAt (attentionOf s m channel .memory) tag address ≡ byteAt m tag address
   -- and so is the length of either memory
   pub lengths : (tag : Bool) → length (spaceOf (attentionOf s m channel .memory) tag) ≡ length (spaceOf m tag)
 
 -- a step, of any state and memories, with any lines
 pub record StepDoes (s : State) (m : Buffers) (lines : ℕ) : Type 0 where
   -- a done step is of the channel that was chosen
-  pub chosen : (second : Bool) → stepOf s m lines .channel ≡ numberOf second → (choiceOf s lines ≡ Ends second) ⊎ (choiceOf s lines ≡ Steps second)
+  pub chosen : (second : Bool) → stepOf s m lines .channel ≡ channelNumber second → (choiceOf s lines ≡ Ends second) ⊎ (choiceOf s lines ≡ Steps second)
   -- "TP gains the TX offset, XF clears, no byte moves"
   pub ends : (second : Bool) → stepOf s m lines .number ≡ 0 → choiceOf s lines ≡ Ends second
       → stepOf s m lines ≡ doneStep s second (externallyEnded (channelOf s second)) m External
@@ -69,15 +69,15 @@ pub record StepDoes (s : State) (m : Buffers) (lines : ℕ) : Type 0 where
   -- without XF it is an instruction of the chosen channel
   pub executes : (second : Bool) → stepOf s m lines .number ≡ 0 → choiceOf s lines ≡ Steps second → transferring (channelOf s second .psw) ≡ false
       → stepOf s m lines
-      ≡ doneStep s second (executeOf (channelOf s second) (busyOf s second) m .channel) (executeOf (channelOf s second) (busyOf s second) m .memory) Instruction
+      ≡ doneStep s second (executeOf (channelOf s second) (busyTo s second) m .channel) (executeOf (channelOf s second) (busyTo s second) m .memory) Instruction
   -- "A step or attention of one channel changes no register of the other"
-  pub other : (second : Bool) → stepOf s m lines .channel ≡ numberOf second → channelOf (stepOf s m lines .state) (not second) ≡ channelOf s (not second)
+  pub other : (second : Bool) → stepOf s m lines .channel ≡ channelNumber second → channelOf (stepOf s m lines .state) (not second) ≡ channelOf s (not second)
   -- of what the channels share it changes "last" alone: "Only done steps set "last"", to the channel that stepped
   pub controlBlock : stepOf s m lines .state .cp ≡ s .cp
-  pub last : stepOf s m lines .number ≡ 0 → stepOf s m lines .channel ≡ numberOf (stepOf s m lines .state .last)
+  pub last : stepOf s m lines .number ≡ 0 → stepOf s m lines .channel ≡ channelNumber (stepOf s m lines .state .last)
   pub refusedLast : ¬ (stepOf s m lines .number ≡ 0) → stepOf s m lines .state .last ≡ s .last
   -- every byte outside the places that it touches is as it was
-  pub bytes : (tag : Bool) (address : ℕ) → ApartFrom (touchedBy s m lines) tag address → byteAt (stepOf s m lines .memory) tag address ≡ byteAt m tag address
+  pub bytes : (tag : Bool) (address : ℕ) → ApartFrom (touchedByStep s m lines) tag address → byteAt (stepOf s m lines .memory) tag address ≡ byteAt m tag address
   -- and so is the length of either memory
   pub lengths : (tag : Bool) → length (spaceOf (stepOf s m lines .memory) tag) ≡ length (spaceOf m tag)
 

@@ -13,18 +13,18 @@ use Rattle.machine.specs.Psw.{destinationWide, sourceWide, transferring, withPs
 use Rattle.machine.specs.Registers.{registerOf, tagOf}
 use Rattle.machine.specs.States.{channelOf, isSecond}
 use Rattle.attention.specs.Attention.{orderTo, attentionOf}
-use Rattle.orders.specs.Commands.{ordered}
-use Rattle.orders.specs.Effects.{withControl}
+use Rattle.attention.specs.Commands.{ordered}
+use Rattle.attention.specs.Effects.{withControl}
 use Rattle.attention.specs.Pauses.{Pause}
-use Rattle.shapes.specs.declared.Decoded.the-variants.{Instruction}
-use Rattle.shapes.specs.declared.Memory.{Memory}
-use Rattle.shapes.specs.declared.Shape.{Shape}
-use Rattle.shapes.specs.declared.Shape.the-variants.{MovpLoad, MovpStore, Call}
+use Rattle.decode_shapes.specs.declared.Decoded.the-variants.{Instruction}
+use Rattle.decode_shapes.specs.declared.Memory.{Memory}
+use Rattle.decode_shapes.specs.declared.Shape.{Shape}
+use Rattle.decode_shapes.specs.declared.Shape.the-variants.{MovpLoad, MovpStore, Call}
 use Rattle.decode.specs.Lengths.{lengthOf}
-use Rattle.operands.specs.Operands.{advanced, effective}
+use Rattle.execute_operands.specs.Operands.{pastInstruction, effective}
 use Rattle.execute.specs.Execute.{decodedAt}
-use Rattle.turns.specs.declared.Choice.the-variants.{Steps}
-use Rattle.turns.specs.Choosing.{choiceOf}
+use Rattle.step.specs.declared.turns.Choice.the-variants.{Steps}
+use Rattle.step.specs.Choosing.{choiceOf}
 use Rattle.step.specs.Step.{Step, stepOf}
 
 -- the stored form of an address with its tag, read back, is that address and that tag
@@ -66,7 +66,7 @@ pub record Executes (k : StepCall) (shape : Shape) : Type 0 where
 
 -- the channel as the instruction finds it: "TP already points past it"
 abbrev pub found : StepCall → Shape → Channel
-found k shape = advanced (channelOn k) (lengthOf shape)
+found k shape = pastInstruction (channelOn k) (lengthOf shape)
 
 -- the place of its memory operand
 abbrev pub operandOf : StepCall → Shape → Memory → Pointer

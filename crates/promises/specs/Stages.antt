@@ -15,7 +15,7 @@ use Rattle.machine.specs.States.{isRunning}
 use Rattle.transfer.specs.Ends.{withTransfer, offsetOf}
 use Rattle.transfer.specs.Steps.{transferOf}
 use Rattle.promises.specs.Premises.{from, into, Lent}
-use Rattle.promises.specs.Totals.{moved}
+use Rattle.promises.specs.Totals.{movedAfter}
 
 -- a pointer on by some bytes
 abbrev pub onBy : Pointer → ℕ → Pointer
@@ -54,9 +54,9 @@ pub record Within (q : Pointer) (n : ℕ) (m m′ : Buffers) : Type 0 where
 pub record Going (n : ℕ) (c₀ : Channel) (m₀ : Buffers) (k : ℕ) (c : Channel) (m : Buffers) : Type 0 where
   pub runs : isRunning (c .mode) ≡ true
   pub transfers : transferring (c .psw) ≡ true
-  pub registers : c ≡ midway c₀ n (moved c₀ n k)
-  pub short : moved c₀ n k < n
-  pub bytes : Held (from c₀) (into c₀) n m₀ (moved c₀ n k) m
+  pub registers : c ≡ midway c₀ n (movedAfter c₀ n k)
+  pub short : movedAfter c₀ n k < n
+  pub bytes : Held (from c₀) (into c₀) n m₀ (movedAfter c₀ n k) m
   pub done : (transferOf c m) .number ≡ 0
   pub spares : Within (into c₀) n m ((transferOf c m) .memory)
 

@@ -18,5 +18,5 @@ unfoldable pub total : Channel → ℕ → ℕ
 total c n = pick (narrow c) n (alone c + (n - alone c + 1) / 2)
 
 -- the bytes that have moved after k of those steps: one at each, or two at each but the first p, and n at the most
-unfoldable pub moved : Channel → ℕ → ℕ → ℕ
-moved c n k = min (pick (narrow c) k (2 * k - alone c)) n
+unfoldable pub movedAfter : Channel → ℕ → ℕ → ℕ
+movedAfter c n k = min (pick (narrow c) k (2 * k - alone c)) n

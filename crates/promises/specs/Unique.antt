@@ -8,9 +8,9 @@ use Rattle.machine.specs.States.{freshOf}
 use Rattle.machine.specs.declared.Answer.{Answer}
 use Rattle.machine.specs.declared.State.{State}
 use Rattle.attention.specs.Attention.{attentionOf}
-use Rattle.turns.specs.Choosing.{choiceOf}
+use Rattle.step.specs.Choosing.{choiceOf}
 use Rattle.step.specs.Step.{stepped, stepOf}
-use Rattle.turns.specs.declared.Choice.{Choice}
+use Rattle.step.specs.declared.turns.Choice.{Choice}
 use Rattle.step.specs.declared.Stepped.{Stepped}
 use Rattle.panel.specs.Run.{ran, runOf, answerOf, called}
 use Rattle.panel.specs.declared.Ran.{Ran}

@@ -1,6 +1,6 @@
 -- How many bytes of each buffer a call leaves lent.
-use Rattle.calls.specs.declared.text.Call.{Call}
-use Rattle.calls.specs.declared.text.Call.the-variants.{Nothing, Unknown, Make, Put, Set, Attention, Step, Dump, Show}
+use Rattle.script_text.specs.declared.text.Call.{Call}
+use Rattle.script_text.specs.declared.text.Call.the-variants.{Nothing, Unknown, Make, Put, Set, Attention, Step, Dump, Show}
 use Rattle.script.specs.declared.Lent.{Lent}
 
 -- "lends new buffers of SYS bytes of system memory and IO bytes of I/O memory": how many bytes are lent after a call

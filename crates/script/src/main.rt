@@ -1,12 +1,12 @@
 // Makes the calls of the script on standard input, one a line, on one machine, and prints what each answered.
-use calls::text;
-use calls::text::Call;
 use libc::STDIN_FILENO;
+use script_text::text;
+use script_text::text::Call;
 ghost use mathlib.Core.Path.{_≡_};
 ghost use Prim.Native.Nat.{_+_, _≤_};
 ghost use lib.ListN.{length, drop};
-ghost use Rattle.calls.specs.Calls.{Limited};
-ghost use Rattle.calls.specs.Text.{untilSame};
+ghost use Rattle.script_text.specs.Calls.{Limited};
+ghost use Rattle.script_text.specs.Text.{untilSame};
 ghost use Rattle.script.specs.Lent.{lentAfter};
 
 // How many bytes of each buffer are lent.
@@ -64,7 +64,7 @@ fn play(text: &[u8], sys: &mut [u8], io: &mut [u8])
         lent = lent_after(call, lent);
         let sys_length = lent.sys;
         let io_length = lent.io;
-        state = answers::perform(
+        state = script_answers::perform(
             state,
             call,
             line,
@@ -102,7 +102,7 @@ fn main() {
     let mut io = small_space();
     let length = io::read_full(STDIN_FILENO, &mut text);
     if 1048576 < length {
-        prints::print(b"?\n");
+        script_prints::print(b"?\n");
         return;
     }
     play(&text[..length], &mut sys, &mut io);

@@ -1,3 +1,4 @@
+pub mod ChoosingLaws
 pub mod StepLaws
 pub mod OutcomeLaws
 pub mod NumberLaws

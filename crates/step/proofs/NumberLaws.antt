@@ -7,9 +7,9 @@ use mathlib.Core.Bool.{Bool, true, false, not}
 use mathlib.Core.List.{[], _∷_}
 use mathlib.Core.Logic.{⊎-elim, inl, inr, _⊎_, _↔_, Iff·trans, Iff·rfl}
 use mathlib.Core.Path.{_≡_, refl, sym, ap, _∙_}
-use Rattle.shapes.specs.declared.Decoded.the-variants.{Instruction}
+use Rattle.decode_shapes.specs.declared.Decoded.the-variants.{Instruction}
 use Rattle.execute.proofs.NumberLaws.{number-given as instruction-given, exactly-2 as own-2, exactly-3 as own-3, exactly-4 as own-4, exactly-0 as own-0}
-use Rattle.execute.specs.Conditions.{checks as instructionChecks, Given2, Given3, Given4, Given0}
+use Rattle.execute.specs.Conditions.{instructionChecks as instructionChecks, InstructionGiven2, InstructionGiven3, InstructionGiven4, InstructionGiven0}
 use Rattle.execute.specs.Execute.{decodedAt, executeOf}
 use Rattle.machine.proofs.ConditionLaws.{Told, step, last, rewritten, first-assoc, skip, hit, end, never, told-ltb, told-limits, told-sound, told-lent, told-by, says-true, says-eqb, says-and, says-or}
 use Rattle.machine.specs.Cc.{synchronised, translates}
@@ -22,17 +22,17 @@ use Rattle.machine.specs.declared.State.{State}
 use Rattle.memory.specs.Buffers.{Buffers, withinLimits}
 use Rattle.transfer.specs.Reads.{dataOf}
 use Rattle.transfer.specs.Sides.{source, destination}
-use Rattle.transfer.specs.Steps.{transferred, touched, badMode, transferNumber, transferOf}
-use Rattle.transfer.specs.Stores.{channelAfter, memoryAfter}
+use Rattle.transfer.specs.Steps.{transferred, touchedByTransfer, badMode, transferNumber, transferOf}
+use Rattle.transfer.specs.Stores.{movedChannel, movedMemory}
 use Rattle.words.proofs.ChoiceLaws.{apart}
 use Rattle.words.specs.Choice.{pick}
-use Rattle.turns.specs.Choosing.{choiceOf}
-use Rattle.turns.specs.Ranks.{NoneRuns}
-use Rattle.turns.specs.declared.Choice.{Choice}
-use Rattle.turns.specs.declared.Choice.the-variants.{Nobody, Ends, Steps}
-use Rattle.turns.proofs.ChoosingLaws.{ends-chosen, steps-chosen, nobody-runs}
-use Rattle.step.specs.Conditions.{LinesOver, BadTransfer, transferChecks, chosenChecks, checks, AfterGiven, OnEnd, OnTransfer, OnInstruction}
-use Rattle.step.specs.Step.{Step, refusedStep, settledStep, busyOf, transferStep, instructionStep, externalStep, channelStep, chosenStep, entryNumber, stepOf}
+use Rattle.step.specs.Choosing.{choiceOf}
+use Rattle.step.specs.Ranks.{NoneRuns}
+use Rattle.step.specs.declared.turns.Choice.{Choice}
+use Rattle.step.specs.declared.turns.Choice.the-variants.{Nobody, Ends, Steps}
+use Rattle.step.proofs.ChoosingLaws.{ends-chosen, steps-chosen, nobody-runs}
+use Rattle.step.specs.Conditions.{LinesOver, BadTransfer, transferChecks, chosenChecks, stepChecks, StepAfterGiven, OnEnd, OnTransfer, OnInstruction}
+use Rattle.step.specs.Step.{Step, refusedStep, settledStep, busyTo, transferStep, instructionStep, externalStep, channelStep, chosenStep, entryNumber, stepOf}
 use Rattle.step.specs.declared.Kind.{Kind}
 
 -- ---- the chain of a step
@@ -65,7 +65,7 @@ moved-number : (c : Channel) (m : Buffers) → (transferOf c m) .number ≡ tran
 unfolding transferOf
 moved-number c m = go (transferNumber c m)
   where
-    go : (k : ℕ) → (pick (eqb k 0) (transferred 0 (channelAfter c (dataOf c m)) (memoryAfter c (dataOf c m) m)) (transferred k c m)) .number ≡ k
+    go : (k : ℕ) → (pick (eqb k 0) (transferred 0 (movedChannel c (dataOf c m)) (movedMemory c (dataOf c m) m)) (transferred k c m)) .number ≡ k
     go zero = refl
     go (suc k) = rw (eqb·suc-zero k)
 
@@ -75,7 +75,7 @@ told-bad c = told-by (says-or (says-eqb (synchronised (c .cc)) 3) (says-and (say
 
 transfer-given : (c : Channel) (m : Buffers) (n : ℕ) → ((transferOf c m) .number ≡ n) ↔ Given (transferChecks c m) n
 unfolding transferNumber
-transfer-given c m n = rewritten (moved-number c m) (step 5 refl (told-bad c) (last n 2 refl (told-lent m (touched c m))))
+transfer-given c m n = rewritten (moved-number c m) (step 5 refl (told-bad c) (last n 2 refl (told-lent m (touchedByTransfer c m))))
 
 -- a check that does not apply
 passed : {A G : Type 0} {x n : ℕ} (k : ℕ) → ¬ A → ((x ≡ n) ↔ G) → (x ≡ n) ↔ ((A × (n ≡ k)) ⊎ (¬ A × G))
@@ -86,13 +86,13 @@ unfolding channelStep transferStep instructionStep
 turn-given s m b n = go (transferring (channelOf s b .psw))
   where
     go : (x : Bool) → ((pick x (transferStep s m b) (instructionStep s m b)) .number ≡ n)
-        ↔ Given (pick x (transferChecks (channelOf s b) m) (instructionChecks m (channelOf s b) (busyOf s b))) n
+        ↔ Given (pick x (transferChecks (channelOf s b) m) (instructionChecks m (channelOf s b) (busyTo s b))) n
     go true =
         let t = transferOf (channelOf s b) m in
         rewritten (settled-number (t .number) s m b (t .channel) (t .memory) Kind.Transfer) (transfer-given (channelOf s b) m n)
     go false =
-        let x = executeOf (channelOf s b) (busyOf s b) m in
-        rewritten (settled-number (x .number) s m b (x .channel) (x .memory) Kind.Instruction) (instruction-given m (channelOf s b) (busyOf s b) n)
+        let x = executeOf (channelOf s b) (busyTo s b) m in
+        rewritten (settled-number (x .number) s m b (x .channel) (x .memory) Kind.Instruction) (instruction-given m (channelOf s b) (busyTo s b) n)
 
 -- 1, then the checks of who was chosen
 chosen-given : (s : State) (m : Buffers) (lines n : ℕ) (x : Choice) → choiceOf s lines ≡ x
@@ -105,7 +105,7 @@ chosen-given s m lines n (Ends b) e = passed 1 (λ h. h b (inl (ends-chosen s li
 chosen-given s m lines n (Steps b) e = passed 1 (λ h. h b (inr (steps-chosen s lines b e .1))) (turn-given s m b n)
 
 -- "given exactly when, and no earlier check applies": the number of a step is that of the first check that applies, 0 where none does
-pub number-given : (s : State) (m : Buffers) (lines n : ℕ) → ((stepOf s m lines) .number ≡ n) ↔ Given (checks s m lines) n
+pub number-given : (s : State) (m : Buffers) (lines n : ℕ) → ((stepOf s m lines) .number ≡ n) ↔ Given (stepChecks s m lines) n
 number-given s m lines n =
     rewritten (chain s m lines)
     (step 12 refl (told-ltb lines 16)
@@ -122,9 +122,9 @@ module _ (s : State) (m : Buffers) (lines : ℕ) where
   chosen-never n n₀ n₂ n₃ n₄ n₅ (Ends b) = eqb-false n 0 n₀
   chosen-never n n₀ n₂ n₃ n₄ n₅ (Steps b) = go (transferring (channelOf s b .psw))
     where
-      go : (x : Bool) → ¬ (Given (pick x (transferChecks (channelOf s b) m) (instructionChecks m (channelOf s b) (busyOf s b))) n)
+      go : (x : Bool) → ¬ (Given (pick x (transferChecks (channelOf s b) m) (instructionChecks m (channelOf s b) (busyTo s b))) n)
       go true = never n (transferChecks (channelOf s b) m) (rw (n₀, n₂, n₅))
-      go false = never n (instructionChecks m (channelOf s b) (busyOf s b)) (rw (n₀, n₂, n₃, n₄))
+      go false = never n (instructionChecks m (channelOf s b) (busyTo s b)) (rw (n₀, n₂, n₃, n₄))
 
   -- 12: "line number over 15"
   pub exactly-12 : ((stepOf s m lines) .number ≡ 12) ↔ LinesOver lines
@@ -145,7 +145,7 @@ module _ (s : State) (m : Buffers) (lines : ℕ) where
       (skip refl (skip refl (hit (λ g. chosen-never 10 refl refl refl refl refl (choiceOf s lines) ((skip refl Iff·rfl) .0 g .1)))))
 
   -- 1: "no channel can run"
-  pub exactly-1 : ((stepOf s m lines) .number ≡ 1) ↔ AfterGiven s m lines (NoneRuns s lines)
+  pub exactly-1 : ((stepOf s m lines) .number ≡ 1) ↔ StepAfterGiven s m lines (NoneRuns s lines)
   exactly-1 =
       Iff·trans (number-given s m lines 1)
       (skip refl (skip refl (skip refl (hit (chosen-never 1 refl refl refl refl refl (choiceOf s lines))))))
@@ -154,7 +154,7 @@ module _ (s : State) (m : Buffers) (lines : ℕ) where
   Own : Choice → ℕ → Type 0
   Own x n =
       OnEnd x s (λ b. n ≡ 0)
-      ⊎ (OnTransfer x s (λ b. Given (transferChecks (channelOf s b) m) n) ⊎ OnInstruction x s (λ b. Given (instructionChecks m (channelOf s b) (busyOf s b)) n))
+      ⊎ (OnTransfer x s (λ b. Given (transferChecks (channelOf s b) m) n) ⊎ OnInstruction x s (λ b. Given (instructionChecks m (channelOf s b) (busyTo s b)) n))
 
   own-cases : (n : ℕ) (x : Choice) → eqb n 1 ≡ false → choiceOf s lines ≡ x
       → ((NoneRuns s lines × (n ≡ 1)) ⊎ (¬ (NoneRuns s lines) × Given (chosenChecks x s m) n)) ↔ Own x n
@@ -172,8 +172,8 @@ module _ (s : State) (m : Buffers) (lines : ℕ) where
       runs h = h b (inr (steps-chosen s lines b e .1))
 
       go : (x : Bool) → transferring (channelOf s b .psw) ≡ x
-          → ((NoneRuns s lines × (n ≡ 1)) ⊎ (¬ (NoneRuns s lines) × Given (pick x (transferChecks (channelOf s b) m) (instructionChecks m (channelOf s b) (busyOf s b))) n))
-          ↔ (⊥ ⊎ (((x ≡ true) × Given (transferChecks (channelOf s b) m) n) ⊎ ((x ≡ false) × Given (instructionChecks m (channelOf s b) (busyOf s b)) n)))
+          → ((NoneRuns s lines × (n ≡ 1)) ⊎ (¬ (NoneRuns s lines) × Given (pick x (transferChecks (channelOf s b) m) (instructionChecks m (channelOf s b) (busyTo s b))) n))
+          ↔ (⊥ ⊎ (((x ≡ true) × Given (transferChecks (channelOf s b) m) n) ⊎ ((x ≡ false) × Given (instructionChecks m (channelOf s b) (busyTo s b)) n)))
       go true f = (
         ⊎-elim (λ h. absurd (eqb-false n 1 ne (h .1))) (λ h. inr (inl (refl, h .1))),
         ⊎-elim (λ h. absurd h) (⊎-elim (λ h. inr (runs, h .1)) (λ h. apart (h .0))),
@@ -215,33 +215,33 @@ module _ (s : State) (m : Buffers) (lines : ℕ) where
   no-instruction (Steps b) f h = absurd (f b (h .1))
 
   own-number : (n : ℕ) {Q : Type 0} → eqb n 12 ≡ false → eqb n 11 ≡ false → eqb n 10 ≡ false → eqb n 1 ≡ false → (Own (choiceOf s lines) n ↔ Q)
-      → ((stepOf s m lines) .number ≡ n) ↔ AfterGiven s m lines Q
+      → ((stepOf s m lines) .number ≡ n) ↔ StepAfterGiven s m lines Q
   own-number n n₁₂ n₁₁ n₁₀ n₁ q =
       Iff·trans (number-given s m lines n)
       (skip n₁₂ (skip n₁₁ (skip n₁₀ (Iff·trans (own-cases n (choiceOf s lines) n₁ refl) q))))
 
   -- what an instruction's checks give is what its own law says of that number
-  by-instruction : {Q : Type 0} (n : ℕ) (b : Bool) → ((executeOf (channelOf s b) (busyOf s b) m) .number ≡ n ↔ Q) → Given (instructionChecks m (channelOf s b) (busyOf s b)) n ↔ Q
-  by-instruction n b q = let h = instruction-given m (channelOf s b) (busyOf s b) n in (λ g. q .0 (h .1 g), λ k. h .0 (q .1 k))
+  by-instruction : {Q : Type 0} (n : ℕ) (b : Bool) → ((executeOf (channelOf s b) (busyTo s b) m) .number ≡ n ↔ Q) → Given (instructionChecks m (channelOf s b) (busyTo s b)) n ↔ Q
+  by-instruction n b q = let h = instruction-given m (channelOf s b) (busyTo s b) n in (λ g. q .0 (h .1 g), λ k. h .0 (q .1 k))
 
   -- 5, of a transfer step: "transfer with SYN 11, or translation with a 16-bit side"
-  pub exactly-5 : ((stepOf s m lines) .number ≡ 5) ↔ AfterGiven s m lines (OnTransfer (choiceOf s lines) s (λ b. BadTransfer (channelOf s b)))
+  pub exactly-5 : ((stepOf s m lines) .number ≡ 5) ↔ StepAfterGiven s m lines (OnTransfer (choiceOf s lines) s (λ b. BadTransfer (channelOf s b)))
   unfolding Own
   exactly-5 =
       let x = choiceOf s lines in
       own-number 5 refl refl refl refl (
         ⊎-elim (no-end x (λ b. eqb-false 5 0 refl))
-            (⊎-elim (on-transfer x (λ b. bad b .0)) (no-instruction x (λ b. never 5 (instructionChecks m (channelOf s b) (busyOf s b)) refl))),
+            (⊎-elim (on-transfer x (λ b. bad b .0)) (no-instruction x (λ b. never 5 (instructionChecks m (channelOf s b) (busyTo s b)) refl))),
         λ h. inr (inl (on-transfer x (λ b. bad b .1) h)),
       )
     where
       bad : (b : Bool) → Given (transferChecks (channelOf s b) m) 5 ↔ BadTransfer (channelOf s b)
-      bad b = hit (never 5 (check 2 (Beyond m (touched (channelOf s b) m)) ∷ []) refl)
+      bad b = hit (never 5 (check 2 (Beyond m (touchedByTransfer (channelOf s b) m)) ∷ []) refl)
 
   -- 2, of a transfer step or an instruction: "a byte to be read or stored lies beyond lent memory"
   pub exactly-2 : ((stepOf s m lines) .number ≡ 2)
-      ↔ AfterGiven s m lines
-      (OnTransfer (choiceOf s lines) s (λ b. ¬ (BadTransfer (channelOf s b)) × Beyond m (touched (channelOf s b) m)) ⊎ OnInstruction (choiceOf s lines) s (λ b. Given2 (decodedAt m (channelOf s b .tp)) m (channelOf s b) (busyOf s b)))
+      ↔ StepAfterGiven s m lines
+      (OnTransfer (choiceOf s lines) s (λ b. ¬ (BadTransfer (channelOf s b)) × Beyond m (touchedByTransfer (channelOf s b) m)) ⊎ OnInstruction (choiceOf s lines) s (λ b. InstructionGiven2 (decodedAt m (channelOf s b .tp)) m (channelOf s b) (busyTo s b)))
   unfolding Own
   exactly-2 =
       let x = choiceOf s lines in
@@ -251,14 +251,14 @@ module _ (s : State) (m : Buffers) (lines : ℕ) where
         ⊎-elim (λ h. inr (inl (on-transfer x (λ b. beyond b .1) h))) (λ h. inr (inr (on-instruction x (λ b. (of-2 b) .1) h))),
       )
     where
-      beyond : (b : Bool) → Given (transferChecks (channelOf s b) m) 2 ↔ (¬ (BadTransfer (channelOf s b)) × Beyond m (touched (channelOf s b) m))
+      beyond : (b : Bool) → Given (transferChecks (channelOf s b) m) 2 ↔ (¬ (BadTransfer (channelOf s b)) × Beyond m (touchedByTransfer (channelOf s b) m))
       beyond b = skip refl (hit (eqb-false 2 0 refl))
 
-      of-2 : (b : Bool) → Given (instructionChecks m (channelOf s b) (busyOf s b)) 2 ↔ Given2 (decodedAt m (channelOf s b .tp)) m (channelOf s b) (busyOf s b)
-      of-2 b = by-instruction 2 b (own-2 m (channelOf s b) (busyOf s b))
+      of-2 : (b : Bool) → Given (instructionChecks m (channelOf s b) (busyTo s b)) 2 ↔ InstructionGiven2 (decodedAt m (channelOf s b .tp)) m (channelOf s b) (busyTo s b)
+      of-2 b = by-instruction 2 b (own-2 m (channelOf s b) (busyTo s b))
 
   -- 3, of an instruction: "the bytes are no instruction below"
-  pub exactly-3 : ((stepOf s m lines) .number ≡ 3) ↔ AfterGiven s m lines (OnInstruction (choiceOf s lines) s (λ b. Given3 (decodedAt m (channelOf s b .tp)) m (channelOf s b) (busyOf s b)))
+  pub exactly-3 : ((stepOf s m lines) .number ≡ 3) ↔ StepAfterGiven s m lines (OnInstruction (choiceOf s lines) s (λ b. InstructionGiven3 (decodedAt m (channelOf s b .tp)) m (channelOf s b) (busyTo s b)))
   unfolding Own
   exactly-3 =
       let x = choiceOf s lines in
@@ -268,11 +268,11 @@ module _ (s : State) (m : Buffers) (lines : ℕ) where
         λ h. inr (inr (on-instruction x (λ b. (of-3 b) .1) h)),
       )
     where
-      of-3 : (b : Bool) → Given (instructionChecks m (channelOf s b) (busyOf s b)) 3 ↔ Given3 (decodedAt m (channelOf s b .tp)) m (channelOf s b) (busyOf s b)
-      of-3 b = by-instruction 3 b (own-3 m (channelOf s b) (busyOf s b))
+      of-3 : (b : Bool) → Given (instructionChecks m (channelOf s b) (busyTo s b)) 3 ↔ InstructionGiven3 (decodedAt m (channelOf s b .tp)) m (channelOf s b) (busyTo s b)
+      of-3 b = by-instruction 3 b (own-3 m (channelOf s b) (busyTo s b))
 
   -- 4, of an instruction: "CC used by anything but MOV or MOVI"
-  pub exactly-4 : ((stepOf s m lines) .number ≡ 4) ↔ AfterGiven s m lines (OnInstruction (choiceOf s lines) s (λ b. Given4 (decodedAt m (channelOf s b .tp)) m (channelOf s b) (busyOf s b)))
+  pub exactly-4 : ((stepOf s m lines) .number ≡ 4) ↔ StepAfterGiven s m lines (OnInstruction (choiceOf s lines) s (λ b. InstructionGiven4 (decodedAt m (channelOf s b .tp)) m (channelOf s b) (busyTo s b)))
   unfolding Own
   exactly-4 =
       let x = choiceOf s lines in
@@ -282,14 +282,14 @@ module _ (s : State) (m : Buffers) (lines : ℕ) where
         λ h. inr (inr (on-instruction x (λ b. (of-4 b) .1) h)),
       )
     where
-      of-4 : (b : Bool) → Given (instructionChecks m (channelOf s b) (busyOf s b)) 4 ↔ Given4 (decodedAt m (channelOf s b .tp)) m (channelOf s b) (busyOf s b)
-      of-4 b = by-instruction 4 b (own-4 m (channelOf s b) (busyOf s b))
+      of-4 : (b : Bool) → Given (instructionChecks m (channelOf s b) (busyTo s b)) 4 ↔ InstructionGiven4 (decodedAt m (channelOf s b .tp)) m (channelOf s b) (busyTo s b)
+      of-4 b = by-instruction 4 b (own-4 m (channelOf s b) (busyTo s b))
 
   -- 0 otherwise: an external end, a transfer step without 5 and 2, an instruction without 2, 3 and 4
   pub exactly-0 : ((stepOf s m lines) .number ≡ 0)
-      ↔ AfterGiven s m lines
+      ↔ StepAfterGiven s m lines
       (OnEnd (choiceOf s lines) s (λ b. Unit {0})
-      ⊎ (OnTransfer (choiceOf s lines) s (λ b. ¬ (BadTransfer (channelOf s b)) × ¬ (Beyond m (touched (channelOf s b) m))) ⊎ OnInstruction (choiceOf s lines) s (λ b. Given0 (decodedAt m (channelOf s b .tp)) m (channelOf s b) (busyOf s b))))
+      ⊎ (OnTransfer (choiceOf s lines) s (λ b. ¬ (BadTransfer (channelOf s b)) × ¬ (Beyond m (touchedByTransfer (channelOf s b) m))) ⊎ OnInstruction (choiceOf s lines) s (λ b. InstructionGiven0 (decodedAt m (channelOf s b .tp)) m (channelOf s b) (busyTo s b))))
   unfolding Own
   exactly-0 =
       let x = choiceOf s lines in
@@ -300,11 +300,11 @@ module _ (s : State) (m : Buffers) (lines : ℕ) where
             (⊎-elim (λ h. inr (inl (on-transfer x (λ b. right b .1) h))) (λ h. inr (inr (on-instruction x (λ b. (of-0 b) .1) h)))),
       )
     where
-      right : (b : Bool) → Given (transferChecks (channelOf s b) m) 0 ↔ (¬ (BadTransfer (channelOf s b)) × ¬ (Beyond m (touched (channelOf s b) m)))
+      right : (b : Bool) → Given (transferChecks (channelOf s b) m) 0 ↔ (¬ (BadTransfer (channelOf s b)) × ¬ (Beyond m (touchedByTransfer (channelOf s b) m)))
       right b = skip refl (end refl refl)
 
-      of-0 : (b : Bool) → Given (instructionChecks m (channelOf s b) (busyOf s b)) 0 ↔ Given0 (decodedAt m (channelOf s b .tp)) m (channelOf s b) (busyOf s b)
-      of-0 b = by-instruction 0 b (own-0 m (channelOf s b) (busyOf s b))
+      of-0 : (b : Bool) → Given (instructionChecks m (channelOf s b) (busyTo s b)) 0 ↔ InstructionGiven0 (decodedAt m (channelOf s b .tp)) m (channelOf s b) (busyTo s b)
+      of-0 b = by-instruction 0 b (own-0 m (channelOf s b) (busyTo s b))
 
   -- and no other number
   pub no-other : (n : ℕ) → eqb n 0 ≡ false → eqb n 1 ≡ false → eqb n 2 ≡ false → eqb n 3 ≡ false → eqb n 4 ≡ false → eqb n 5 ≡ false

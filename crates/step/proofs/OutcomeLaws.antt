@@ -9,18 +9,18 @@ use native.Mathlib.Decide.{ℕ-discrete}
 use Rattle.execute.specs.Execute.{executeOf}
 use Rattle.machine.proofs.ChannelLaws.{put-other, put-cp, last-channel, named}
 use Rattle.machine.specs.Psw.{transferring}
-use Rattle.machine.specs.States.{channelOf, withChannel, withLast, isSecond, numberOf}
+use Rattle.machine.specs.States.{channelOf, withChannel, withLast, isSecond, channelNumber}
 use Rattle.machine.specs.declared.Channel.{Channel}
 use Rattle.machine.specs.declared.State.{State}
 use Rattle.memory.specs.Buffers.{Buffers}
 use Rattle.transfer.specs.Ends.{externallyEnded}
 use Rattle.transfer.specs.Steps.{transferOf}
 use Rattle.words.specs.Choice.{pick}
-use Rattle.turns.specs.Choosing.{choiceOf}
-use Rattle.turns.specs.declared.Choice.{Choice}
-use Rattle.turns.specs.declared.Choice.the-variants.{Nobody, Ends, Steps}
+use Rattle.step.specs.Choosing.{choiceOf}
+use Rattle.step.specs.declared.turns.Choice.{Choice}
+use Rattle.step.specs.declared.turns.Choice.the-variants.{Nobody, Ends, Steps}
 use Rattle.step.specs.Conditions.{OnEnd, OnTransfer, OnInstruction}
-use Rattle.step.specs.Step.{Step, refusedStep, doneStep, settledStep, busyOf, transferStep, instructionStep, externalStep, channelStep, chosenStep, entryNumber, stepOf}
+use Rattle.step.specs.Step.{Step, refusedStep, doneStep, settledStep, busyTo, transferStep, instructionStep, externalStep, channelStep, chosenStep, entryNumber, stepOf}
 use Rattle.step.specs.declared.Kind.{Kind}
 use Rattle.step.specs.declared.Kind.the-variants.{Transfer, Instruction, External}
 
@@ -39,7 +39,7 @@ pub by-step : (s : State) (m : Buffers) (lines : ℕ) (P : Step → Type 0)
     → ((b : Bool) → entryNumber s m lines ≡ 0 → choiceOf s lines ≡ Steps b → transferring (channelOf s b .psw) ≡ true
     → P (doneStep s b ((transferOf (channelOf s b) m) .channel) ((transferOf (channelOf s b) m) .memory) Transfer))
     → ((b : Bool) → entryNumber s m lines ≡ 0 → choiceOf s lines ≡ Steps b → transferring (channelOf s b .psw) ≡ false
-    → P (doneStep s b ((executeOf (channelOf s b) (busyOf s b) m) .channel) ((executeOf (channelOf s b) (busyOf s b) m) .memory) Instruction))
+    → P (doneStep s b ((executeOf (channelOf s b) (busyTo s b) m) .channel) ((executeOf (channelOf s b) (busyTo s b) m) .memory) Instruction))
     → P (stepOf s m lines)
 unfolding stepOf chosenStep channelStep transferStep instructionStep externalStep settledStep
 by-step s m lines P refused ended moved executed = go (ℕ-discrete (entryNumber s m lines) 0)
@@ -57,7 +57,7 @@ by-step s m lines P refused ended moved executed = go (ℕ-discrete (entryNumber
         let t = transferOf (channelOf s b) m in
         settle (t .number) b (t .channel) (t .memory) Transfer (moved b z e f)
     turn b z e false f =
-        let x = executeOf (channelOf s b) (busyOf s b) m in
+        let x = executeOf (channelOf s b) (busyTo s b) m in
         settle (x .number) b (x .channel) (x .memory) Instruction (executed b z e f)
 
     own : entryNumber s m lines ≡ 0 → (x : Choice) → choiceOf s lines ≡ x → P (chosenStep x s m)
@@ -79,32 +79,32 @@ refused s m lines =
 pub done : (s : State) (m : Buffers) (lines : ℕ) → (stepOf s m lines) .number ≡ 0
     → OnEnd (choiceOf s lines) s (λ b. stepOf s m lines ≡ doneStep s b (externallyEnded (channelOf s b)) m External)
     ⊎ (OnTransfer (choiceOf s lines) s (λ b. stepOf s m lines ≡ doneStep s b ((transferOf (channelOf s b) m) .channel) ((transferOf (channelOf s b) m) .memory) Transfer)
-    ⊎ OnInstruction (choiceOf s lines) s (λ b. stepOf s m lines ≡ doneStep s b ((executeOf (channelOf s b) (busyOf s b) m) .channel) ((executeOf (channelOf s b) (busyOf s b) m) .memory) Instruction))
+    ⊎ OnInstruction (choiceOf s lines) s (λ b. stepOf s m lines ≡ doneStep s b ((executeOf (channelOf s b) (busyTo s b) m) .channel) ((executeOf (channelOf s b) (busyTo s b) m) .memory) Instruction))
 done s m lines =
     by-step s m lines
     (λ o. o .number ≡ 0
     → OnEnd (choiceOf s lines) s (λ b. o ≡ doneStep s b (externallyEnded (channelOf s b)) m External)
     ⊎ (OnTransfer (choiceOf s lines) s (λ b. o ≡ doneStep s b ((transferOf (channelOf s b) m) .channel) ((transferOf (channelOf s b) m) .memory) Transfer)
-    ⊎ OnInstruction (choiceOf s lines) s (λ b. o ≡ doneStep s b ((executeOf (channelOf s b) (busyOf s b) m) .channel) ((executeOf (channelOf s b) (busyOf s b) m) .memory) Instruction)))
+    ⊎ OnInstruction (choiceOf s lines) s (λ b. o ≡ doneStep s b ((executeOf (channelOf s b) (busyTo s b) m) .channel) ((executeOf (channelOf s b) (busyTo s b) m) .memory) Instruction)))
     (λ k ne e. absurd (ne e))
     (λ b z e h. inl (rw e refl))
     (λ b z e f h. inr (inl (rw e (f, refl))))
     (λ b z e f h. inr (inr (rw e (f, refl))))
 
 -- the number names the channel
-same-name : (a b : Bool) → numberOf a ≡ numberOf b → a ≡ b
+same-name : (a b : Bool) → channelNumber a ≡ channelNumber b → a ≡ b
 same-name a b e = sym (named a) ∙ ap isSecond e ∙ named b
 
-done-other : (s : State) (a b : Bool) (c : Channel) → numberOf a ≡ numberOf b → channelOf (withLast (withChannel s a c) a) (not b) ≡ channelOf s (not b)
+done-other : (s : State) (a b : Bool) (c : Channel) → channelNumber a ≡ channelNumber b → channelOf (withLast (withChannel s a c) a) (not b) ≡ channelOf s (not b)
 done-other s a b c e =
     last-channel (withChannel s a c) a (not b)
     ∙ ap (λ (x : Bool). channelOf (withChannel s x c) (not b)) (same-name a b e)
     ∙ put-other s b c
 
 -- a step of one channel changes no register of the other
-pub other-kept : (s : State) (m : Buffers) (lines : ℕ) (b : Bool) → (stepOf s m lines) .channel ≡ numberOf b → channelOf ((stepOf s m lines) .state) (not b) ≡ channelOf s (not b)
+pub other-kept : (s : State) (m : Buffers) (lines : ℕ) (b : Bool) → (stepOf s m lines) .channel ≡ channelNumber b → channelOf ((stepOf s m lines) .state) (not b) ≡ channelOf s (not b)
 other-kept s m lines b =
-    by-step s m lines (λ o. o .channel ≡ numberOf b → channelOf (o .state) (not b) ≡ channelOf s (not b))
+    by-step s m lines (λ o. o .channel ≡ channelNumber b → channelOf (o .state) (not b) ≡ channelOf s (not b))
     (λ k ne e. refl)
     (λ a z e h. done-other s a b _ h)
     (λ a z e f h. done-other s a b _ h)
@@ -118,25 +118,25 @@ cp-kept s m lines =
     (λ b z e. put-cp s b _) (λ b z e f. put-cp s b _) (λ b z e f. put-cp s b _)
 
 -- "Only done steps set "last"": to the channel that stepped
-pub last-set : (s : State) (m : Buffers) (lines : ℕ) → (stepOf s m lines) .number ≡ 0 → (stepOf s m lines) .channel ≡ numberOf ((stepOf s m lines) .state .last)
+pub last-set : (s : State) (m : Buffers) (lines : ℕ) → (stepOf s m lines) .number ≡ 0 → (stepOf s m lines) .channel ≡ channelNumber ((stepOf s m lines) .state .last)
 unfolding withLast
 last-set s m lines =
-    by-step s m lines (λ o. o .number ≡ 0 → o .channel ≡ numberOf (o .state .last)) (λ k ne e. absurd (ne e))
+    by-step s m lines (λ o. o .number ≡ 0 → o .channel ≡ channelNumber (o .state .last)) (λ k ne e. absurd (ne e))
     (λ b z e h. refl) (λ b z e f h. refl) (λ b z e f h. refl)
 
 pub last-kept : (s : State) (m : Buffers) (lines : ℕ) → ¬ ((stepOf s m lines) .number ≡ 0) → (stepOf s m lines) .state .last ≡ s .last
 last-kept s m lines ne = ap (λ (o : Step). o .state .last) (refused s m lines ne)
 
 -- who stepped is who was chosen
-pub chosen-steps : (s : State) (m : Buffers) (lines : ℕ) (b : Bool) → (stepOf s m lines) .channel ≡ numberOf b → (choiceOf s lines ≡ Ends b) ⊎ (choiceOf s lines ≡ Steps b)
-unfolding numberOf
+pub chosen-steps : (s : State) (m : Buffers) (lines : ℕ) (b : Bool) → (stepOf s m lines) .channel ≡ channelNumber b → (choiceOf s lines ≡ Ends b) ⊎ (choiceOf s lines ≡ Steps b)
+unfolding channelNumber
 chosen-steps s m lines b =
-    by-step s m lines (λ o. o .channel ≡ numberOf b → (choiceOf s lines ≡ Ends b) ⊎ (choiceOf s lines ≡ Steps b))
+    by-step s m lines (λ o. o .channel ≡ channelNumber b → (choiceOf s lines ≡ Ends b) ⊎ (choiceOf s lines ≡ Steps b))
     (λ k ne e. none b e)
     (λ a z e h. inl (e ∙ ap Ends (same-name a b h)))
     (λ a z e f h. inr (e ∙ ap Steps (same-name a b h)))
     (λ a z e f h. inr (e ∙ ap Steps (same-name a b h)))
   where
-    none : (b : Bool) → 0 ≡ numberOf b → (choiceOf s lines ≡ Ends b) ⊎ (choiceOf s lines ≡ Steps b)
+    none : (b : Bool) → 0 ≡ channelNumber b → (choiceOf s lines ≡ Ends b) ⊎ (choiceOf s lines ≡ Steps b)
     none true e = absurd (eqb-false 0 2 refl e)
     none false e = absurd (eqb-false 0 1 refl e)

@@ -13,7 +13,7 @@ use Rattle.machine.specs.declared.State.{State}
 use Rattle.memory.specs.Buffers.{Buffers}
 use Rattle.transfer.specs.Reads.{dataOf}
 use Rattle.transfer.specs.Steps.{Transfer, transferred, transferNumber, transferOf}
-use Rattle.transfer.specs.Stores.{channelAfter, memoryAfter}
+use Rattle.transfer.specs.Stores.{movedChannel, movedMemory}
 use Rattle.words.specs.Choice.{pick}
 use Rattle.step.specs.Step.{stepped, doneAnswer, settledAnswer, settledStep}
 use Rattle.step.specs.declared.Kind.{Kind}
@@ -25,7 +25,7 @@ unfolding transferOf
 transfer-kept c m ne = go (eqb (transferNumber c m) 0) ne
   where
     both : Bool → Transfer
-    both b = pick b (transferred 0 (channelAfter c (dataOf c m)) (memoryAfter c (dataOf c m) m)) (transferred (transferNumber c m) c m)
+    both b = pick b (transferred 0 (movedChannel c (dataOf c m)) (movedMemory c (dataOf c m) m)) (transferred (transferNumber c m) c m)
 
     go : (b : Bool) → ((both b) .number ≡ 0 → ⊥) → (both b) .memory ≡ m
     go true ne = absurd (ne refl)

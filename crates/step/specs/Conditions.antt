@@ -4,7 +4,7 @@ use mathlib.Core.Bool.{Bool, true, false}
 use mathlib.Core.List.{List, [], _∷_}
 use mathlib.Core.Logic.{_⊎_}
 use mathlib.Core.Path.{_≡_}
-use Rattle.execute.specs.Conditions.{checks as instructionChecks}
+use Rattle.execute.specs.Conditions.{instructionChecks as instructionChecks}
 use Rattle.machine.specs.Cc.{synchronised, translates}
 use Rattle.machine.specs.Conditions.{Check, check, TooLong, NotSound, Beyond}
 use Rattle.machine.specs.Psw.{transferring, sourceWide, destinationWide}
@@ -12,13 +12,13 @@ use Rattle.machine.specs.States.{channelOf}
 use Rattle.machine.specs.declared.Channel.{Channel}
 use Rattle.machine.specs.declared.State.{State}
 use Rattle.memory.specs.Buffers.{Buffers}
-use Rattle.transfer.specs.Steps.{touched}
+use Rattle.transfer.specs.Steps.{touchedByTransfer}
 use Rattle.words.specs.Choice.{pick}
-use Rattle.turns.specs.Choosing.{choiceOf}
-use Rattle.turns.specs.declared.Choice.{Choice}
-use Rattle.turns.specs.declared.Choice.the-variants.{Nobody, Ends, Steps}
-use Rattle.turns.specs.Ranks.{NoneRuns}
-use Rattle.step.specs.Step.{busyOf}
+use Rattle.step.specs.Choosing.{choiceOf}
+use Rattle.step.specs.declared.turns.Choice.{Choice}
+use Rattle.step.specs.declared.turns.Choice.the-variants.{Nobody, Ends, Steps}
+use Rattle.step.specs.Ranks.{NoneRuns}
+use Rattle.step.specs.Step.{busyTo}
 
 -- 12: "line number over 15"
 abbrev pub LinesOver : ℕ → Type 0
@@ -30,18 +30,18 @@ BadTransfer c = (synchronised (c .cc) ≡ 3) ⊎ ((translates (c .cc) ≡ true) 
 
 -- "for a transfer 5, 2"
 abbrev pub transferChecks : Channel → Buffers → List Check
-transferChecks c m = check 5 (BadTransfer c) ∷ check 2 (Beyond m (touched c m)) ∷ []
+transferChecks c m = check 5 (BadTransfer c) ∷ check 2 (Beyond m (touchedByTransfer c m)) ∷ []
 
 -- the checks of who was chosen; an external end has none
 abbrev pub chosenChecks : Choice → State → Buffers → List Check
 chosenChecks Nobody s m = []
 chosenChecks (Ends second) s m = []
 chosenChecks (Steps second) s m =
-    pick (transferring (channelOf s second .psw)) (transferChecks (channelOf s second) m) (instructionChecks m (channelOf s second) (busyOf s second))
+    pick (transferring (channelOf s second .psw)) (transferChecks (channelOf s second) m) (instructionChecks m (channelOf s second) (busyTo s second))
 
 -- "Order: 12, 11, 10. .. Step then: 1; for a transfer 5, 2; for an instruction" its own, in their order
-abbrev pub checks : State → Buffers → ℕ → List Check
-checks s m lines =
+abbrev pub stepChecks : State → Buffers → ℕ → List Check
+stepChecks s m lines =
     check 12 (LinesOver lines)
     ∷ check 11 (TooLong m)
     ∷ check 10 (NotSound s)
@@ -49,8 +49,8 @@ checks s m lines =
     ∷ chosenChecks (choiceOf s lines) s m
 
 -- a condition that counts where 12, 11 and 10 do not apply
-abbrev pub AfterGiven : State → Buffers → ℕ → Type 0 → Type 0
-AfterGiven s m lines next = ¬ (LinesOver lines) × (¬ (TooLong m) × (¬ (NotSound s) × next))
+abbrev pub StepAfterGiven : State → Buffers → ℕ → Type 0 → Type 0
+StepAfterGiven s m lines next = ¬ (LinesOver lines) × (¬ (TooLong m) × (¬ (NotSound s) × next))
 
 -- a condition of the channel whose transfer an external line ends, one of the channel that makes a transfer step, one of the channel that executes
 abbrev pub OnEnd : Choice → State → (Bool → Type 0) → Type 0

@@ -8,14 +8,14 @@ use Rattle.memory.specs.Buffers.{Buffers}
 use Rattle.machine.specs.declared.Channel.{Channel}
 use Rattle.machine.specs.declared.State.{State}
 use Rattle.machine.specs.Psw.{transferring}
-use Rattle.machine.specs.States.{channelOf, withChannel, withLast, blockOf, numberOf}
+use Rattle.machine.specs.States.{channelOf, withChannel, withLast, blockOf, channelNumber}
 use Rattle.machine.specs.Outcomes.{first, unless, givenNumber}
 use Rattle.transfer.specs.Ends.{externallyEnded}
 use Rattle.transfer.specs.Steps.{transferOf}
 use Rattle.execute.specs.Execute.{executeOf}
-use Rattle.turns.specs.declared.Choice.{Choice}
-use Rattle.turns.specs.declared.Choice.the-variants.{Nobody, Ends, Steps}
-use Rattle.turns.specs.Choosing.{choiceOf}
+use Rattle.step.specs.declared.turns.Choice.{Choice}
+use Rattle.step.specs.declared.turns.Choice.the-variants.{Nobody, Ends, Steps}
+use Rattle.step.specs.Choosing.{choiceOf}
 use Rattle.step.specs.declared.Kind.{Kind}
 use Rattle.step.specs.declared.Kind.the-variants.{Nothing, Instruction, Transfer, External}
 use Rattle.step.specs.declared.Stepped.{Stepped}
@@ -37,14 +37,14 @@ refusedStep number s m = stepped number s m 0 Nothing
 
 -- a done step puts the channel back; "Only done steps set "last""
 abbrev pub doneStep : State → Bool → Channel → Buffers → Kind → Step
-doneStep s second c m kind = stepped 0 (withLast (withChannel s second c) second) m (numberOf second) kind
+doneStep s second c m kind = stepped 0 (withLast (withChannel s second c) second) m (channelNumber second) kind
 
 -- what a call answers of such steps, without the memories
 abbrev pub answer : ℕ → State → ℕ → Kind → Stepped
 answer number s channel kind = record { number = number; state = s; channel = channel; kind = kind }
 
 unfoldable pub doneAnswer : State → Bool → Channel → Kind → Stepped
-doneAnswer s second c kind = answer 0 (withLast (withChannel s second c) second) (numberOf second) kind
+doneAnswer s second c kind = answer 0 (withLast (withChannel s second c) second) (channelNumber second) kind
 
 unfoldable pub settledAnswer : ℕ → State → Bool → Channel → Kind → Stepped
 settledAnswer number s second c kind = pick (eqb number 0) (doneAnswer s second c kind) (answer number s 0 Nothing)
@@ -54,8 +54,8 @@ unfoldable pub settledStep : ℕ → State → Buffers → Bool → Channel → 
 settledStep number s m second c m′ kind = pick (eqb number 0) (doneStep s second c m′ kind) (refusedStep number s m)
 
 -- BUSY of a channel
-unfoldable pub busyOf : State → Bool → ℕ
-busyOf s second = sum20 (blockOf s second) 1
+unfoldable pub busyTo : State → Bool → ℕ
+busyTo s second = sum20 (blockOf s second) 1
 
 -- one transfer step of a channel
 unfoldable pub transferStep : State → Buffers → Bool → Step
@@ -66,7 +66,7 @@ transferStep s m second =
 -- one instruction of a channel
 unfoldable pub instructionStep : State → Buffers → Bool → Step
 instructionStep s m second =
-    let e = executeOf (channelOf s second) (busyOf s second) m in
+    let e = executeOf (channelOf s second) (busyTo s second) m in
     settledStep (e .number) s m second (e .channel) (e .memory) Instruction
 
 -- an external end: "TP gains the TX offset, XF clears, no byte moves"

@@ -1,26 +1,26 @@
 -- Which bytes a step touches: those of the transfer step or of the instruction that was chosen, none for an external end.
 use Prim.Native.Nat.{ℕ}
 use mathlib.Core.List.{List, []}
-use Rattle.execute.specs.Execute.{touched as executed}
+use Rattle.execute.specs.Execute.{touchedByInstruction as executed}
 use Rattle.machine.specs.Psw.{transferring}
 use Rattle.machine.specs.States.{channelOf}
 use Rattle.machine.specs.declared.State.{State}
 use Rattle.memory.specs.Buffers.{Buffers}
 use Rattle.memory.specs.Places.{Place}
-use Rattle.transfer.specs.Steps.{touched as moved}
+use Rattle.transfer.specs.Steps.{touchedByTransfer as moved}
 use Rattle.words.specs.Choice.{pick}
-use Rattle.turns.specs.Choosing.{choiceOf}
-use Rattle.turns.specs.declared.Choice.{Choice}
-use Rattle.turns.specs.declared.Choice.the-variants.{Nobody, Ends, Steps}
-use Rattle.step.specs.Step.{busyOf}
+use Rattle.step.specs.Choosing.{choiceOf}
+use Rattle.step.specs.declared.turns.Choice.{Choice}
+use Rattle.step.specs.declared.turns.Choice.the-variants.{Nobody, Ends, Steps}
+use Rattle.step.specs.Step.{busyTo}
 
 -- the bytes of a choice, each access once
 unfoldable pub touchedIn : Choice → State → Buffers → List Place
 touchedIn Nobody s m = []
 touchedIn (Ends second) s m = []
 touchedIn (Steps second) s m =
-    pick (transferring (channelOf s second .psw)) (moved (channelOf s second) m) (executed m (channelOf s second) (busyOf s second))
+    pick (transferring (channelOf s second .psw)) (moved (channelOf s second) m) (executed m (channelOf s second) (busyTo s second))
 
 -- the bytes that a step reads or stores
-unfoldable pub touchedBy : State → Buffers → ℕ → List Place
-touchedBy s m lines = touchedIn (choiceOf s lines) s m
+unfoldable pub touchedByStep : State → Buffers → ℕ → List Place
+touchedByStep s m lines = touchedIn (choiceOf s lines) s m

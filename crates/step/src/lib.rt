@@ -1,11 +1,14 @@
 // The step call: one instruction, one transfer step or one external end.
+use crate::turns::Choice;
 use machine::Channel;
 use machine::State;
-use turns::Choice;
 ghost use mathlib.Core.Path.{_≡_};
 ghost use Rattle.memory.specs.Buffers.{buffers};
 ghost use Rattle.step.specs.Step as Step;
-ghost use Rattle.step.specs.Step.{stepped, refusedStep, doneStep, settledStep, busyOf, transferStep, instructionStep, externalStep, channelStep, chosenStep, entryNumber, stepOf};
+ghost use Rattle.step.specs.Step.{stepped, refusedStep, doneStep, settledStep, busyTo, transferStep, instructionStep, externalStep, channelStep, chosenStep, entryNumber, stepOf};
+
+// Which channel steps.
+pub mod turns;
 
 // What a step was; nothing where it was refused.
 pub enum Kind {

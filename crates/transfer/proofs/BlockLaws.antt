@@ -17,11 +17,11 @@ use Rattle.words.proofs.ChoiceLaws.{pick-same, and-true, and-false, or-true, pi
 use Rattle.words.specs.Bits.{bitOf}
 use Rattle.words.specs.Choice.{pick}
 use Rattle.words.specs.Sums.{sum20, countDown}
-use Rattle.transfer.specs.Ends.{withTransfer, meets, codeIf, larger, endedBy}
+use Rattle.transfer.specs.Ends.{withTransfer, meetsTmc, codeIf, larger, endedBy}
 use Rattle.transfer.specs.Reads.{fetched, fetchedSecond, delivered, dataOf}
-use Rattle.transfer.specs.Sides.{side, source, destination, wordSide, secondOf, gained, twoMove, storedSingly}
-use Rattle.transfer.specs.Steps.{transferred, touched, badMode, transferOf}
-use Rattle.transfer.specs.Stores.{firstMeets, matchMet, cutShort, storesTwo, bytesStored, bytesMoved, bytesCounted, countAfter, endCode, movedBy, channelAfter, putOn, memoryAfter, storedPlaces}
+use Rattle.transfer.specs.Sides.{side, source, destination, wordSide, secondAddress, gained, twoMove, storedSingly}
+use Rattle.transfer.specs.Steps.{transferred, touchedByTransfer, badMode, transferOf}
+use Rattle.transfer.specs.Stores.{firstMeets, matchMet, cutShort, storesTwo, bytesStored, bytesMoved, bytesCounted, countAfter, endCode, movedBy, movedChannel, putOn, movedMemory, storedPlaces}
 use Rattle.transfer.specs.declared.Data.{Data}
 use Rattle.transfer.specs.declared.Side.{Side}
 use Rattle.transfer.proofs.KeptLaws.{ga-after, gb-after, ended-none}
@@ -95,8 +95,8 @@ two-moves c h ne = rw (h, ne-eqb (c .bc) 1 ne, and-false)
 -- ---- no end but the byte count's
 
 -- no byte meets a TMC that is off
-off : (tmc mc byte : ℕ) → tmc % 4 ≡ 0 → meets tmc mc byte ≡ false
-unfolding meets
+off : (tmc mc byte : ℕ) → tmc % 4 ≡ 0 → meetsTmc tmc mc byte ≡ false
+unfolding meetsTmc
 off tmc mc byte h = rw (eq-eqb (tmc % 4) 0 h)
 
 -- so all bytes that move are stored
@@ -139,8 +139,8 @@ block-moved c k =
     (gb-after c (stride c) (remaining c) ∙ rw (k .from, k .into, pick-same))
 
 -- the channel after the step, in one: on by the bytes moved, ended where BC becomes 0
-pub block-channel : (c : Channel) (d : Data) → Block (c .cc) → channelAfter c d ≡ endedBy (onward c) (codeIf (eqb (remaining c) 0) (countEnd (c .cc)))
-unfolding channelAfter countAfter bytesMoved bytesCounted
+pub block-channel : (c : Channel) (d : Data) → Block (c .cc) → movedChannel c d ≡ endedBy (onward c) (codeIf (eqb (remaining c) 0) (countEnd (c .cc)))
+unfolding movedChannel countAfter bytesMoved bytesCounted
 block-channel c d k = rw (block-end c d k, block-stride c d k, block-moved c k)
 
 -- its source is on by the bytes moved
@@ -158,12 +158,12 @@ onward-destination c =
     (pick-under (λ (p : Pointer). gained true p (stride c)) (sourceIsGB (c .cc)) (c .ga) (c .gb))
 
 -- while bytes remain, TP and PSW stay
-pub block-going : (c : Channel) (d : Data) → Block (c .cc) → (remaining c ≡ 0 → ⊥) → channelAfter c d ≡ onward c
+pub block-going : (c : Channel) (d : Data) → Block (c .cc) → (remaining c ≡ 0 → ⊥) → movedChannel c d ≡ onward c
 unfolding codeIf
 block-going c d k ne = block-channel c d k ∙ rw (ne-eqb (remaining c) 0 ne) (ended-none (onward c))
 
 -- with the last byte TBC ends the transfer
-pub block-last : (c : Channel) (d : Data) → Block (c .cc) → remaining c ≡ 0 → channelAfter c d ≡ endedBy (onward c) (countEnd (c .cc))
+pub block-last : (c : Channel) (d : Data) → Block (c .cc) → remaining c ≡ 0 → movedChannel c d ≡ endedBy (onward c) (countEnd (c .cc))
 unfolding codeIf
 block-last c d k e = block-channel c d k ∙ rw (eq-eqb (remaining c) 0 e)
 
@@ -174,15 +174,15 @@ lent-reduced : (m : Buffers) (t : Bool) (a : ℕ) → lentAt m t (a % 1048576) �
 lent-reduced m t a = lent-index m t (a % 1048576) a (index-reduced t a)
 
 -- the second byte of a side that moves on is the next one
-next : (s : Side) → s .moves ≡ true → secondOf s ≡ sum20 (s .pointer .address) 1
-unfolding secondOf wordSide
+next : (s : Side) → s .moves ≡ true → secondAddress s ≡ sum20 (s .pointer .address) 1
+unfolding secondAddress wordSide
 next s h = rw (h, or-true)
 
-next-source : (c : Channel) → Block (c .cc) → secondOf (source c) ≡ sum20 ((source c) .pointer .address) 1
+next-source : (c : Channel) → Block (c .cc) → secondAddress (source c) ≡ sum20 ((source c) .pointer .address) 1
 unfolding source
 next-source c k = next (source c) (k .from)
 
-next-destination : (c : Channel) → Block (c .cc) → secondOf (destination c) ≡ sum20 ((destination c) .pointer .address) 1
+next-destination : (c : Channel) → Block (c .cc) → secondAddress (destination c) ≡ sum20 ((destination c) .pointer .address) 1
 unfolding destination
 next-destination c k = next (destination c) (k .into)
 
@@ -195,13 +195,13 @@ unfolding dataOf fetchedSecond
 second-is c m k h = rw (h, next-source c k) (byte-reduced m ((source c) .pointer .tag) ((source c) .pointer .address + 1))
 
 -- one byte is copied
-pub block-copies : (c : Channel) (m : Buffers) → Block (c .cc) → twoMove c ≡ false → memoryAfter c (dataOf c m) m ≡ copied c m
-unfolding memoryAfter putOn
+pub block-copies : (c : Channel) (m : Buffers) → Block (c .cc) → twoMove c ≡ false → movedMemory c (dataOf c m) m ≡ copied c m
+unfolding movedMemory putOn
 block-copies c m k h = rw (block-stores c (dataOf c m) k, h, first-is c m k)
 
 -- or two are
-pub block-copies-two : (c : Channel) (m : Buffers) → Block (c .cc) → twoMove c ≡ true → memoryAfter c (dataOf c m) m ≡ copiedTwo c m
-unfolding memoryAfter putOn
+pub block-copies-two : (c : Channel) (m : Buffers) → Block (c .cc) → twoMove c ≡ true → movedMemory c (dataOf c m) m ≡ copiedTwo c m
+unfolding movedMemory putOn
 block-copies-two c m k h =
     rw (block-stores c (dataOf c m) k, h, first-is c m k, second-is c m k h, next-destination c k)
     (store-reduced (copied c m) ((destination c) .pointer .tag) ((destination c) .pointer .address + 1) (byteAt m ((source c) .pointer .tag) ((source c) .pointer .address + 1)))
@@ -216,14 +216,14 @@ block-mode c k ne = rw (ne-eqb (synchronised (c .cc)) 3 ne, k .plain)
 -- the bytes that a step of one touches are lent where the two sides' are
 block-lent : (c : Channel) (m : Buffers) → Block (c .cc) → twoMove c ≡ false
     → lentAt m ((source c) .pointer .tag) ((source c) .pointer .address) ≡ true → lentAt m ((destination c) .pointer .tag) ((destination c) .pointer .address) ≡ true
-    → allLent m (touched c m) ≡ true
+    → allLent m (touchedByTransfer c m) ≡ true
 unfolding storedPlaces
 block-lent c m k h s d = touched-lent c m ∙ rw (reads-lent, places-lent, block-stores c (dataOf c m) k, h, k .plain, s, d)
 
 block-lent-two : (c : Channel) (m : Buffers) → Block (c .cc) → twoMove c ≡ true
     → lentAt m ((source c) .pointer .tag) ((source c) .pointer .address) ≡ true → lentAt m ((source c) .pointer .tag) ((source c) .pointer .address + 1) ≡ true
     → lentAt m ((destination c) .pointer .tag) ((destination c) .pointer .address) ≡ true → lentAt m ((destination c) .pointer .tag) ((destination c) .pointer .address + 1) ≡ true
-    → allLent m (touched c m) ≡ true
+    → allLent m (touchedByTransfer c m) ≡ true
 unfolding storedPlaces
 block-lent-two c m k h s s′ d d′ =
     let p = (source c) .pointer in
@@ -234,13 +234,13 @@ block-lent-two c m k h s s′ d d′ =
 -- a step of one byte, whole
 pub block-step : (c : Channel) (m : Buffers) → Block (c .cc) → (synchronised (c .cc) ≡ 3 → ⊥) → twoMove c ≡ false
     → lentAt m ((source c) .pointer .tag) ((source c) .pointer .address) ≡ true → lentAt m ((destination c) .pointer .tag) ((destination c) .pointer .address) ≡ true
-    → transferOf c m ≡ transferred 0 (channelAfter c (dataOf c m)) (copied c m)
-block-step c m k ne h s d = outcome-0 c m (block-mode c k ne) (block-lent c m k h s d) ∙ ap (transferred 0 (channelAfter c (dataOf c m))) (block-copies c m k h)
+    → transferOf c m ≡ transferred 0 (movedChannel c (dataOf c m)) (copied c m)
+block-step c m k ne h s d = outcome-0 c m (block-mode c k ne) (block-lent c m k h s d) ∙ ap (transferred 0 (movedChannel c (dataOf c m))) (block-copies c m k h)
 
 -- a step of two bytes, whole
 pub block-step-two : (c : Channel) (m : Buffers) → Block (c .cc) → (synchronised (c .cc) ≡ 3 → ⊥) → twoMove c ≡ true
     → lentAt m ((source c) .pointer .tag) ((source c) .pointer .address) ≡ true → lentAt m ((source c) .pointer .tag) ((source c) .pointer .address + 1) ≡ true
     → lentAt m ((destination c) .pointer .tag) ((destination c) .pointer .address) ≡ true → lentAt m ((destination c) .pointer .tag) ((destination c) .pointer .address + 1) ≡ true
-    → transferOf c m ≡ transferred 0 (channelAfter c (dataOf c m)) (copiedTwo c m)
+    → transferOf c m ≡ transferred 0 (movedChannel c (dataOf c m)) (copiedTwo c m)
 block-step-two c m k ne h s s′ d d′ =
-    outcome-0 c m (block-mode c k ne) (block-lent-two c m k h s s′ d d′) ∙ ap (transferred 0 (channelAfter c (dataOf c m))) (block-copies-two c m k h)
+    outcome-0 c m (block-mode c k ne) (block-lent-two c m k h s s′ d d′) ∙ ap (transferred 0 (movedChannel c (dataOf c m))) (block-copies-two c m k h)

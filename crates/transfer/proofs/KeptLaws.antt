@@ -23,9 +23,9 @@ use Rattle.words.specs.Choice.{pick}
 use Rattle.words.specs.Sums.{sum20}
 use Rattle.transfer.specs.Ends.{withTransfer, offsetOf, endedTP, endedPSW, endedBy, externallyEnded}
 use Rattle.transfer.specs.Reads.{dataOf}
-use Rattle.transfer.specs.Sides.{side, source, destination, secondOf, gained, advanced}
+use Rattle.transfer.specs.Sides.{side, source, destination, secondAddress, gained, sideAfter}
 use Rattle.transfer.specs.Steps.{transferOf}
-use Rattle.transfer.specs.Stores.{storesTwo, bytesMoved, countAfter, endCode, movedBy, channelAfter, putOn, memoryAfter}
+use Rattle.transfer.specs.Stores.{storesTwo, bytesMoved, countAfter, endCode, movedBy, movedChannel, putOn, movedMemory}
 use Rattle.transfer.specs.declared.Data.{Data}
 use Rattle.transfer.specs.declared.Side.{Side}
 use Rattle.transfer.proofs.StepLaws.{by-number}
@@ -37,21 +37,21 @@ put-length : (s : Side) (two : Bool) (d : Data) (m : Buffers) (u : Bool) → len
 unfolding putOn
 put-length s true d m u =
     let p = s .pointer in
-    store-length (storeByte m (p .tag) (p .address) (d .first)) (p .tag) u (secondOf s) (d .second) ∙ store-length m (p .tag) u (p .address) (d .first)
+    store-length (storeByte m (p .tag) (p .address) (d .first)) (p .tag) u (secondAddress s) (d .second) ∙ store-length m (p .tag) u (p .address) (d .first)
 put-length s false d m u = let p = s .pointer in store-length m (p .tag) u (p .address) (d .first)
 
 -- a byte that is none of those stored stays
 put-other : (s : Side) (two : Bool) (d : Data) (m : Buffers) (u : Bool) (b : ℕ) → Apart (s .pointer .tag) (s .pointer .address) u b
-    → (two ≡ true → Apart (s .pointer .tag) (secondOf s) u b) → byteAt (putOn s two d m) u b ≡ byteAt m u b
+    → (two ≡ true → Apart (s .pointer .tag) (secondAddress s) u b) → byteAt (putOn s two d m) u b ≡ byteAt m u b
 unfolding putOn
 put-other s true d m u b ne₁ ne₂ =
     let p = s .pointer in
-    read-other (storeByte m (p .tag) (p .address) (d .first)) (p .tag) (secondOf s) (d .second) u b (ne₂ refl) ∙ read-other m (p .tag) (p .address) (d .first) u b ne₁
+    read-other (storeByte m (p .tag) (p .address) (d .first)) (p .tag) (secondAddress s) (d .second) u b (ne₂ refl) ∙ read-other m (p .tag) (p .address) (d .first) u b ne₁
 put-other s false d m u b ne₁ ne₂ = let p = s .pointer in read-other m (p .tag) (p .address) (d .first) u b ne₁
 
 -- a step changes no length
 pub lengths-kept : (c : Channel) (m : Buffers) (u : Bool) → length (spaceOf ((transferOf c m) .memory) u) ≡ length (spaceOf m u)
-unfolding memoryAfter
+unfolding movedMemory
 lengths-kept c m u =
     by-number c m (λ o. length (spaceOf (o .memory) u) ≡ length (spaceOf m u)) (λ g. refl) (λ g. refl)
     (λ g. put-length (destination c) (storesTwo c (dataOf c m)) (dataOf c m) m u)
@@ -63,9 +63,9 @@ lent-kept c m u b = ap (λ (n : ℕ). ltb (indexOf u b) n) (lengths-kept c m u)
 
 -- every byte outside the stored places is as it was
 pub bytes-kept : (c : Channel) (m : Buffers) (u : Bool) (b : ℕ) → Apart ((destination c) .pointer .tag) ((destination c) .pointer .address) u b
-    → (storesTwo c (dataOf c m) ≡ true → Apart ((destination c) .pointer .tag) (secondOf (destination c)) u b)
+    → (storesTwo c (dataOf c m) ≡ true → Apart ((destination c) .pointer .tag) (secondAddress (destination c)) u b)
     → byteAt ((transferOf c m) .memory) u b ≡ byteAt m u b
-unfolding memoryAfter
+unfolding movedMemory
 bytes-kept c m u b ne₁ ne₂ =
     by-number c m (λ o. byteAt (o .memory) u b ≡ byteAt m u b) (λ g. refl) (λ g. refl)
     (λ g. put-other (destination c) (storesTwo c (dataOf c m)) (dataOf c m) m u b ne₁ ne₂)
@@ -76,7 +76,7 @@ bytes-kept c m u b ne₁ ne₂ =
 pub only-these : (c : Channel) (m : Buffers)
     → (transferOf c m) .channel
     ≡ withTransfer c ((transferOf c m) .channel .ga) ((transferOf c m) .channel .gb) ((transferOf c m) .channel .tp) ((transferOf c m) .channel .bc) ((transferOf c m) .channel .psw)
-unfolding channelAfter endedBy movedBy withTransfer
+unfolding movedChannel endedBy movedBy withTransfer
 only-these c m =
     by-number c m (λ o. o .channel ≡ withTransfer c (o .channel .ga) (o .channel .gb) (o .channel .tp) (o .channel .bc) (o .channel .psw)) (λ g. refl) (λ g. refl) (λ g. refl)
 
@@ -104,7 +104,7 @@ gained-tag false p n = refl
 -- no tag changes
 pub tags-kept : (c : Channel) (m : Buffers)
     → ((transferOf c m) .channel .ga .tag ≡ c .ga .tag) × ((transferOf c m) .channel .gb .tag ≡ c .gb .tag) × ((transferOf c m) .channel .tp .tag ≡ c .tp .tag)
-unfolding channelAfter endedBy movedBy withTransfer endedTP
+unfolding movedChannel endedBy movedBy withTransfer endedTP
 tags-kept c m =
     by-number c m (λ o. (o .channel .ga .tag ≡ c .ga .tag) × (o .channel .gb .tag ≡ c .gb .tag) × (o .channel .tp .tag ≡ c .tp .tag))
     (λ g. (refl, refl, refl)) (λ g. (refl, refl, refl))
@@ -144,21 +144,21 @@ unfolding endedBy withTransfer endedTP gained
 ended-tp c code ne = rw (ne-eqb code 0 ne)
 
 -- a step leaves the source where it was moved on to, as wide as it was
-pub source-after : (c : Channel) (d : Data) → source (channelAfter c d) ≡ side (advanced (source c) (bytesMoved c d)) ((source c) .moves) ((source c) .wide)
-unfolding source channelAfter endedBy movedBy withTransfer
+pub source-after : (c : Channel) (d : Data) → source (movedChannel c d) ≡ side (sideAfter (source c) (bytesMoved c d)) ((source c) .moves) ((source c) .wide)
+unfolding source movedChannel endedBy movedBy withTransfer
 source-after c d =
     let n = bytesMoved c d in
     ap₂ (λ (p : Pointer) (w : Bool). side p (sourceMoves (c .cc)) w)
-    (pick-back (sourceIsGB (c .cc)) (advanced (source c) n) (advanced (destination c) n))
+    (pick-back (sourceIsGB (c .cc)) (sideAfter (source c) n) (sideAfter (destination c) n))
     (psw-kept (movedBy c n (countAfter c d)) (endCode c d) 1 (eqb-false 1 6 refl))
 
 -- and so the destination
-pub destination-after : (c : Channel) (d : Data) → destination (channelAfter c d) ≡ side (advanced (destination c) (bytesMoved c d)) ((destination c) .moves) ((destination c) .wide)
-unfolding destination channelAfter endedBy movedBy withTransfer
+pub destination-after : (c : Channel) (d : Data) → destination (movedChannel c d) ≡ side (sideAfter (destination c) (bytesMoved c d)) ((destination c) .moves) ((destination c) .wide)
+unfolding destination movedChannel endedBy movedBy withTransfer
 destination-after c d =
     let n = bytesMoved c d in
     ap₂ (λ (p : Pointer) (w : Bool). side p (destinationMoves (c .cc)) w)
-    (pick-back (sourceIsGB (c .cc)) (advanced (destination c) n) (advanced (source c) n))
+    (pick-back (sourceIsGB (c .cc)) (sideAfter (destination c) n) (sideAfter (source c) n))
     (psw-kept (movedBy c n (countAfter c d)) (endCode c d) 0 (eqb-false 0 6 refl))
 
 -- an external end leaves GA, GB and BC alone, and all that a transfer step leaves alone
@@ -212,7 +212,7 @@ external-sound c = ended-sound c (externalEnd (c .cc))
 
 -- and over a transfer step
 pub transfer-sound : (c : Channel) (m : Buffers) → soundChannel c ≡ true → soundChannel ((transferOf c m) .channel) ≡ true
-unfolding channelAfter movedBy withTransfer
+unfolding movedChannel movedBy withTransfer
 transfer-sound c m h = by-number c m (λ o. soundChannel (o .channel) ≡ true) (λ g. h) (λ g. h) (λ g. ended-sound (movedBy c by bc) (endCode c (dataOf c m)) moved)
   where
     by : ℕ

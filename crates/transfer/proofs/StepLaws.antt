@@ -10,8 +10,8 @@ use Rattle.memory.specs.Buffers.{Buffers}
 use Rattle.memory.specs.Places.{allLent}
 use Rattle.transfer.specs.Ends.{externallyEnded}
 use Rattle.transfer.specs.Reads.{dataOf}
-use Rattle.transfer.specs.Steps.{Transfer, transferred, touched, badMode, Given5, Given2, Given0, transferNumber, transferOf}
-use Rattle.transfer.specs.Stores.{channelAfter, memoryAfter}
+use Rattle.transfer.specs.Steps.{Transfer, transferred, touchedByTransfer, badMode, TransferGiven5, TransferGiven2, TransferGiven0, transferNumber, transferOf}
+use Rattle.transfer.specs.Stores.{movedChannel, movedMemory}
 
 -- no two outcomes meet the contract of a transfer step
 pub unique : (c : Channel) (m : Buffers) (o o′ : Transfer) → o ≡ transferOf c m → o′ ≡ transferOf c m → o ≡ o′
@@ -27,45 +27,45 @@ unfolding transferOf transferNumber first unless
 outcome-5 c m h = rw h
 
 -- else a byte beyond lent memory is 2, and nothing changes
-pub outcome-2 : (c : Channel) (m : Buffers) → badMode c ≡ false → allLent m (touched c m) ≡ false → transferOf c m ≡ transferred 2 c m
+pub outcome-2 : (c : Channel) (m : Buffers) → badMode c ≡ false → allLent m (touchedByTransfer c m) ≡ false → transferOf c m ≡ transferred 2 c m
 unfolding transferOf transferNumber first unless
 outcome-2 c m h l = rw (h, l)
 
 -- else the step is done
-pub outcome-0 : (c : Channel) (m : Buffers) → badMode c ≡ false → allLent m (touched c m) ≡ true
-    → transferOf c m ≡ transferred 0 (channelAfter c (dataOf c m)) (memoryAfter c (dataOf c m) m)
+pub outcome-0 : (c : Channel) (m : Buffers) → badMode c ≡ false → allLent m (touchedByTransfer c m) ≡ true
+    → transferOf c m ≡ transferred 0 (movedChannel c (dataOf c m)) (movedMemory c (dataOf c m) m)
 unfolding transferOf transferNumber first unless
 outcome-0 c m h l = rw (h, l)
 
 -- the three cases of a step: what holds of each outcome under its condition holds of the step
 pub by-number : (c : Channel) (m : Buffers) (P : Transfer → Type 0)
-    → (Given5 c → P (transferred 5 c m))
-    → (Given2 c m → P (transferred 2 c m))
-    → (Given0 c m → P (transferred 0 (channelAfter c (dataOf c m)) (memoryAfter c (dataOf c m) m)))
+    → (TransferGiven5 c → P (transferred 5 c m))
+    → (TransferGiven2 c m → P (transferred 2 c m))
+    → (TransferGiven0 c m → P (transferred 0 (movedChannel c (dataOf c m)) (movedMemory c (dataOf c m) m)))
     → P (transferOf c m)
-by-number c m P p5 p2 p0 = go (badMode c) refl (allLent m (touched c m)) refl
+by-number c m P p5 p2 p0 = go (badMode c) refl (allLent m (touchedByTransfer c m)) refl
   where
-    go : (b : Bool) → badMode c ≡ b → (l : Bool) → allLent m (touched c m) ≡ l → P (transferOf c m)
+    go : (b : Bool) → badMode c ≡ b → (l : Bool) → allLent m (touchedByTransfer c m) ≡ l → P (transferOf c m)
     go true h l e = rw (outcome-5 c m h) (p5 h)
     go false h false e = rw (outcome-2 c m h e) (p2 (h, e))
     go false h true e = rw (outcome-0 c m h e) (p0 (h, e))
 
 -- the number is 5 exactly for a bad mode
-pub exactly-5 : (c : Channel) (m : Buffers) → (transferOf c m) .number ≡ 5 ↔ Given5 c
-exactly-5 c m = (by-number c m (λ o. o .number ≡ 5 → Given5 c) (λ g e. g) (λ g e. absurd (eqb-false 2 5 refl e)) (λ g e. absurd (eqb-false 0 5 refl e)), λ g. ap (λ (o : Transfer). o .number) (outcome-5 c m g))
+pub exactly-5 : (c : Channel) (m : Buffers) → (transferOf c m) .number ≡ 5 ↔ TransferGiven5 c
+exactly-5 c m = (by-number c m (λ o. o .number ≡ 5 → TransferGiven5 c) (λ g e. g) (λ g e. absurd (eqb-false 2 5 refl e)) (λ g e. absurd (eqb-false 0 5 refl e)), λ g. ap (λ (o : Transfer). o .number) (outcome-5 c m g))
 
 -- it is 2 exactly where the mode is right and a byte to be read or stored lies beyond lent memory
-pub exactly-2 : (c : Channel) (m : Buffers) → (transferOf c m) .number ≡ 2 ↔ Given2 c m
-exactly-2 c m = (by-number c m (λ o. o .number ≡ 2 → Given2 c m) (λ g e. absurd (eqb-false 5 2 refl e)) (λ g e. g) (λ g e. absurd (eqb-false 0 2 refl e)), λ g. ap (λ (o : Transfer). o .number) (outcome-2 c m (g .0) (g .1)))
+pub exactly-2 : (c : Channel) (m : Buffers) → (transferOf c m) .number ≡ 2 ↔ TransferGiven2 c m
+exactly-2 c m = (by-number c m (λ o. o .number ≡ 2 → TransferGiven2 c m) (λ g e. absurd (eqb-false 5 2 refl e)) (λ g e. g) (λ g e. absurd (eqb-false 0 2 refl e)), λ g. ap (λ (o : Transfer). o .number) (outcome-2 c m (g .0) (g .1)))
 
 -- it is 0 exactly where neither holds
-pub exactly-0 : (c : Channel) (m : Buffers) → (transferOf c m) .number ≡ 0 ↔ Given0 c m
-exactly-0 c m = (by-number c m (λ o. o .number ≡ 0 → Given0 c m) (λ g e. absurd (eqb-false 5 0 refl e)) (λ g e. absurd (eqb-false 2 0 refl e)) (λ g e. g), λ g. ap (λ (o : Transfer). o .number) (outcome-0 c m (g .0) (g .1)))
+pub exactly-0 : (c : Channel) (m : Buffers) → (transferOf c m) .number ≡ 0 ↔ TransferGiven0 c m
+exactly-0 c m = (by-number c m (λ o. o .number ≡ 0 → TransferGiven0 c m) (λ g e. absurd (eqb-false 5 0 refl e)) (λ g e. absurd (eqb-false 2 0 refl e)) (λ g e. g), λ g. ap (λ (o : Transfer). o .number) (outcome-0 c m (g .0) (g .1)))
 
 -- a refused step is the given channel and memories
 pub refused : (c : Channel) (m : Buffers) → ((transferOf c m) .number ≡ 0 → ⊥) → transferOf c m ≡ transferred ((transferOf c m) .number) c m
 refused c m = by-number c m (λ o. (o .number ≡ 0 → ⊥) → o ≡ transferred (o .number) c m) (λ g ne. refl) (λ g ne. refl) (λ g ne. absurd (ne refl))
 
 -- a step that is not refused is what it does
-pub done : (c : Channel) (m : Buffers) → (transferOf c m) .number ≡ 0 → transferOf c m ≡ transferred 0 (channelAfter c (dataOf c m)) (memoryAfter c (dataOf c m) m)
-done c m e = let g : Given0 c m = (exactly-0 c m) .0 e in outcome-0 c m (g .0) (g .1)
+pub done : (c : Channel) (m : Buffers) → (transferOf c m) .number ≡ 0 → transferOf c m ≡ transferred 0 (movedChannel c (dataOf c m)) (movedMemory c (dataOf c m) m)
+done c m e = let g : TransferGiven0 c m = (exactly-0 c m) .0 e in outcome-0 c m (g .0) (g .1)

@@ -10,8 +10,8 @@ use Rattle.memory.specs.Places.{Place, allLent}
 use Rattle.words.proofs.ChoiceLaws.{and-true}
 use Rattle.memory.proofs.SpanLaws.{all-append}
 use Rattle.transfer.specs.Reads.{entryOf, dataOf, also, readPlaces}
-use Rattle.transfer.specs.Sides.{source, secondOf, twoMove}
-use Rattle.transfer.specs.Steps.{touched}
+use Rattle.transfer.specs.Sides.{source, secondAddress, twoMove}
+use Rattle.transfer.specs.Steps.{touchedByTransfer}
 use Rattle.transfer.specs.Stores.{placesOn, storedPlaces}
 use Rattle.transfer.specs.declared.Side.{Side}
 
@@ -29,16 +29,16 @@ last-lent m on p = also-lent m on p [] ∙ and-true (not on || lentAt m (p .tag)
 pub reads-lent : (c : Channel) (m : Buffers)
     → allLent m (readPlaces c m)
     ≡ lentAt m ((source c) .pointer .tag) ((source c) .pointer .address)
-    && ((not (twoMove c) || lentAt m ((source c) .pointer .tag) (secondOf (source c))) && (not (translates (c .cc)) || lentAt m (c .gc .tag) (entryOf c m)))
+    && ((not (twoMove c) || lentAt m ((source c) .pointer .tag) (secondAddress (source c))) && (not (translates (c .cc)) || lentAt m (c .gc .tag) (entryOf c m)))
 unfolding readPlaces allLent
 reads-lent c m = rw (also-lent, last-lent)
 
 -- what is stored on a side: its byte, and its second where two are stored
-pub places-lent : (m : Buffers) (s : Side) (two : Bool) → allLent m (placesOn s two) ≡ lentAt m (s .pointer .tag) (s .pointer .address) && (not two || lentAt m (s .pointer .tag) (secondOf s))
+pub places-lent : (m : Buffers) (s : Side) (two : Bool) → allLent m (placesOn s two) ≡ lentAt m (s .pointer .tag) (s .pointer .address) && (not two || lentAt m (s .pointer .tag) (secondAddress s))
 unfolding placesOn allLent
 places-lent m s two = rw last-lent
 
 -- what is read and what is stored is all that is touched
-pub touched-lent : (c : Channel) (m : Buffers) → allLent m (touched c m) ≡ allLent m (readPlaces c m) && allLent m (storedPlaces c (dataOf c m))
-unfolding touched
+pub touched-lent : (c : Channel) (m : Buffers) → allLent m (touchedByTransfer c m) ≡ allLent m (readPlaces c m) && allLent m (storedPlaces c (dataOf c m))
+unfolding touchedByTransfer
 touched-lent c m = all-append m (readPlaces c m) (storedPlaces c (dataOf c m))

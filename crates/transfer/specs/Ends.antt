@@ -17,8 +17,8 @@ withTransfer c ga gb tp bc psw =
     record { ga = ga; gb = gb; gc = c .gc; tp = tp; pp = c .pp; bc = bc; ix = c .ix; cc = c .cc; mc = c .mc; psw = psw; mode = c .mode; armed = c .armed }
 
 -- a byte meets TMC: "TMC's low two bits likewise" (00 is off), "bit 2 meaning "ends on no match""
-unfoldable pub meets : ℕ → ℕ → ℕ → Bool
-meets tmc mc byte = not (eqb (tmc % 4) 0) && pick (bitOf tmc 2) (not (matchOf byte mc)) (matchOf byte mc)
+unfoldable pub meetsTmc : ℕ → ℕ → ℕ → Bool
+meetsTmc tmc mc byte = not (eqb (tmc % 4) 0) && pick (bitOf tmc 2) (not (matchOf byte mc)) (matchOf byte mc)
 
 -- the code of an end that came, 0 of one that did not
 unfoldable pub codeIf : Bool → ℕ → ℕ

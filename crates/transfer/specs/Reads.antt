@@ -9,7 +9,7 @@ use Rattle.memory.specs.Places.{Place}
 use Rattle.machine.specs.declared.Channel.{Channel}
 use Rattle.machine.specs.Cc.{translates}
 use Rattle.transfer.specs.declared.Data.{Data}
-use Rattle.transfer.specs.Sides.{source, secondOf, twoMove}
+use Rattle.transfer.specs.Sides.{source, secondAddress, twoMove}
 
 -- the byte at the source's address
 unfoldable pub fetched : Channel → Buffers → ℕ
@@ -17,7 +17,7 @@ fetched c m = byteAt m ((source c) .pointer .tag) ((source c) .pointer .address)
 
 -- where two move, the second of them; else 0
 unfoldable pub fetchedSecond : Channel → Buffers → ℕ
-fetchedSecond c m = pick (twoMove c) (byteAt m ((source c) .pointer .tag) (secondOf (source c))) 0
+fetchedSecond c m = pick (twoMove c) (byteAt m ((source c) .pointer .tag) (secondAddress (source c))) 0
 
 -- "GC + fetched byte"
 unfoldable pub entryOf : Channel → Buffers → ℕ
@@ -39,5 +39,5 @@ also on p ps = pick on (p ∷ ps) ps
 unfoldable pub readPlaces : Channel → Buffers → List Place
 readPlaces c m =
     record { tag = (source c) .pointer .tag; address = (source c) .pointer .address }
-    ∷ also (twoMove c) (record { tag = (source c) .pointer .tag; address = secondOf (source c) })
+    ∷ also (twoMove c) (record { tag = (source c) .pointer .tag; address = secondAddress (source c) })
     (also (translates (c .cc)) (record { tag = c .gc .tag; address = entryOf c m }) [])

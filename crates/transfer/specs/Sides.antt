@@ -11,7 +11,7 @@ use Rattle.machine.specs.declared.Channel.{Channel}
 use Rattle.machine.specs.Cc.{destinationMoves, sourceMoves, translates, sourceIsGB, countEnd}
 use Rattle.machine.specs.Psw.{destinationWide, sourceWide}
 use Rattle.transfer.specs.declared.Side.{Side}
-use Rattle.transfer.specs.declared.Plan.{Plan}
+use Rattle.transfer.specs.declared.Setup.{Setup}
 
 -- a side: its pointer, whether it moves on, whether it is 16 bits wide
 abbrev pub side : Pointer → Bool → Bool → Side
@@ -30,16 +30,16 @@ unfoldable pub wordSide : Side → Bool
 wordSide s = s .wide && not (bitOf (s .pointer .address) 0)
 
 -- "a word side takes addresses a, a + 1; the other side takes two bytes, at a and a + 1 if it moves on, at a twice if not": where the second byte lies
-unfoldable pub secondOf : Side → ℕ
-secondOf s = pick (wordSide s || s .moves) (sum20 (s .pointer .address) 1) (s .pointer .address)
+unfoldable pub secondAddress : Side → ℕ
+secondAddress s = pick (wordSide s || s .moves) (sum20 (s .pointer .address) 1) (s .pointer .address)
 
 -- a pointer that gains some bytes, where a test holds; its tag stays
 unfoldable pub gained : Bool → Pointer → ℕ → Pointer
 gained on p by = pick on (pointer (sum20 (p .address) by) (p .tag)) p
 
 -- "Moving sides gain the bytes moved"
-abbrev pub advanced : Side → ℕ → Pointer
-advanced s by = gained (s .moves) (s .pointer) by
+abbrev pub sideAfter : Side → ℕ → Pointer
+sideAfter s by = gained (s .moves) (s .pointer) by
 
 -- "TBC is on"
 abbrev pub countOn : ℕ → Bool
@@ -54,8 +54,8 @@ unfoldable pub storedSingly : Channel → Bool
 storedSingly c = twoMove c && not (wordSide (destination c))
 
 -- what a channel says of its transfer before a byte is read
-unfoldable pub planOf : Channel → Plan
-planOf c =
+unfoldable pub setupOf : Channel → Setup
+setupOf c =
     record {
       source = source c;
       destination = destination c;

@@ -12,7 +12,7 @@ use Rattle.machine.specs.Cc.{translates, synchronised}
 use Rattle.machine.specs.Outcomes.{unless, first}
 use Rattle.transfer.specs.Sides.{source, destination}
 use Rattle.transfer.specs.Reads.{dataOf, readPlaces}
-use Rattle.transfer.specs.Stores.{channelAfter, memoryAfter, storedPlaces}
+use Rattle.transfer.specs.Stores.{movedChannel, movedMemory, storedPlaces}
 
 -- the number, the channel and both memories after a transfer step
 pub record Transfer : Type 0 where
@@ -24,32 +24,32 @@ abbrev pub transferred : ℕ → Channel → Buffers → Transfer
 transferred number c m = record { number = number; channel = c; memory = m }
 
 -- every byte that the step reads or stores, each access once
-unfoldable pub touched : Channel → Buffers → List Place
-touched c m = readPlaces c m ++ storedPlaces c (dataOf c m)
+unfoldable pub touchedByTransfer : Channel → Buffers → List Place
+touchedByTransfer c m = readPlaces c m ++ storedPlaces c (dataOf c m)
 
 -- "transfer with SYN 11, or translation with a 16-bit side" (5)
 unfoldable pub badMode : Channel → Bool
 badMode c = eqb (synchronised (c .cc)) 3 || translates (c .cc) && ((source c) .wide || (destination c) .wide)
 
 -- when 5 is given: a bad mode
-abbrev pub Given5 : Channel → Type 0
-Given5 c = badMode c ≡ true
+abbrev pub TransferGiven5 : Channel → Type 0
+TransferGiven5 c = badMode c ≡ true
 
 -- when 2 is given: no bad mode, and "a byte to be read or stored lies beyond lent memory"
-abbrev pub Given2 : Channel → Buffers → Type 0
-Given2 c m = (badMode c ≡ false) × (allLent m (touched c m) ≡ false)
+abbrev pub TransferGiven2 : Channel → Buffers → Type 0
+TransferGiven2 c m = (badMode c ≡ false) × (allLent m (touchedByTransfer c m) ≡ false)
 
 -- when 0 is given: neither
-abbrev pub Given0 : Channel → Buffers → Type 0
-Given0 c m = (badMode c ≡ false) × (allLent m (touched c m) ≡ true)
+abbrev pub TransferGiven0 : Channel → Buffers → Type 0
+TransferGiven0 c m = (badMode c ≡ false) × (allLent m (touchedByTransfer c m) ≡ true)
 
 -- "for a transfer 5, 2"
 unfoldable pub transferNumber : Channel → Buffers → ℕ
-transferNumber c m = first (unless (not (badMode c)) 5) (unless (allLent m (touched c m)) 2)
+transferNumber c m = first (unless (not (badMode c)) 5) (unless (allLent m (touchedByTransfer c m)) 2)
 
 -- the step: refused, the given channel and memories; done, what it makes of them
 unfoldable pub transferOf : Channel → Buffers → Transfer
 transferOf c m =
     pick (eqb (transferNumber c m) 0)
-    (transferred 0 (channelAfter c (dataOf c m)) (memoryAfter c (dataOf c m) m))
+    (transferred 0 (movedChannel c (dataOf c m)) (movedMemory c (dataOf c m) m))
     (transferred (transferNumber c m) c m)

@@ -11,17 +11,17 @@ use Rattle.machine.specs.declared.Channel.{Channel}
 use Rattle.machine.specs.Cc.{sourceIsGB, singleTransfer, countEnd, matchEnd}
 use Rattle.transfer.specs.declared.Side.{Side}
 use Rattle.transfer.specs.declared.Data.{Data}
-use Rattle.transfer.specs.Sides.{source, destination, secondOf, advanced, twoMove, storedSingly}
+use Rattle.transfer.specs.Sides.{source, destination, secondAddress, sideAfter, twoMove, storedSingly}
 use Rattle.transfer.specs.Reads.{also}
-use Rattle.transfer.specs.Ends.{withTransfer, meets, codeIf, larger, endedBy}
+use Rattle.transfer.specs.Ends.{withTransfer, meetsTmc, codeIf, larger, endedBy}
 
 -- the first byte meets TMC, whether it is stored singly or as the low byte of a word
 unfoldable pub firstMeets : Channel → Data → Bool
-firstMeets c d = meets (matchEnd (c .cc)) (c .mc) (d .first)
+firstMeets c d = meetsTmc (matchEnd (c .cc)) (c .mc) (d .first)
 
 -- "It looks at each byte stored singly and at the low byte of a stored word"
 unfoldable pub matchMet : Channel → Data → Bool
-matchMet c d = firstMeets c d || storedSingly c && meets (matchEnd (c .cc)) (c .mc) (d .second)
+matchMet c d = firstMeets c d || storedSingly c && meetsTmc (matchEnd (c .cc)) (c .mc) (d .second)
 
 -- "If the first of two single stores meets TMC, the second is not made"
 unfoldable pub cutShort : Channel → Data → Bool
@@ -58,30 +58,30 @@ endCode c d =
 unfoldable pub movedBy : Channel → ℕ → ℕ → Channel
 movedBy c by bc =
     withTransfer c
-    (pick (sourceIsGB (c .cc)) (advanced (destination c) by) (advanced (source c) by))
-    (pick (sourceIsGB (c .cc)) (advanced (source c) by) (advanced (destination c) by))
+    (pick (sourceIsGB (c .cc)) (sideAfter (destination c) by) (sideAfter (source c) by))
+    (pick (sourceIsGB (c .cc)) (sideAfter (source c) by) (sideAfter (destination c) by))
     (c .tp) bc (c .psw)
 
 -- the channel after the step
-unfoldable pub channelAfter : Channel → Data → Channel
-channelAfter c d = endedBy (movedBy c (bytesMoved c d) (countAfter c d)) (endCode c d)
+unfoldable pub movedChannel : Channel → Data → Channel
+movedChannel c d = endedBy (movedBy c (bytesMoved c d) (countAfter c d)) (endCode c d)
 
 -- one byte or two stored on a side, in order
 unfoldable pub putOn : Side → Bool → Data → Buffers → Buffers
 putOn s two d m =
     pick two
-    (storeByte (storeByte m (s .pointer .tag) (s .pointer .address) (d .first)) (s .pointer .tag) (secondOf s) (d .second))
+    (storeByte (storeByte m (s .pointer .tag) (s .pointer .address) (d .first)) (s .pointer .tag) (secondAddress s) (d .second))
     (storeByte m (s .pointer .tag) (s .pointer .address) (d .first))
 
 -- both memories after the step
-unfoldable pub memoryAfter : Channel → Data → Buffers → Buffers
-memoryAfter c d m = putOn (destination c) (storesTwo c d) d m
+unfoldable pub movedMemory : Channel → Data → Buffers → Buffers
+movedMemory c d m = putOn (destination c) (storesTwo c d) d m
 
 -- the bytes of a side that a store of one or two takes
 unfoldable pub placesOn : Side → Bool → List Place
 placesOn s two =
     record { tag = s .pointer .tag; address = s .pointer .address }
-    ∷ also two (record { tag = s .pointer .tag; address = secondOf s }) []
+    ∷ also two (record { tag = s .pointer .tag; address = secondAddress s }) []
 
 -- the bytes that are stored: "a second single store that a match prevents is not tested"
 unfoldable pub storedPlaces : Channel → Data → List Place

@@ -6,7 +6,7 @@ ghost use Rattle.transfer.specs.Ends.{codeIf, offsetOf, endedBy};
 
 // Whether a byte meets TMC.
 pub(crate) fn meets(tmc: u32, mc: u16, byte: u8) -> bool
-    ensures { λ r. ⌜ r ≡ Ends.meets tmc mc byte ⌝ }
+    ensures { λ r. ⌜ r ≡ Ends.meetsTmc tmc mc byte ⌝ }
 {
     let found = words::matches(byte, mc);
     let on = tmc % 4 != 0;

@@ -3,7 +3,7 @@ use machine::Channel;
 use memory::Pointer;
 ghost use mathlib.Core.Path.{_≡_};
 ghost use Rattle.memory.specs.Buffers.{buffers};
-ghost use Rattle.transfer.specs.Sides.{planOf};
+ghost use Rattle.transfer.specs.Sides.{setupOf};
 ghost use Rattle.transfer.specs.Ends.{externallyEnded};
 ghost use Rattle.transfer.specs.Steps.{badMode, transferred, transferOf};
 
@@ -24,7 +24,7 @@ struct Side {
 }
 
 // What a channel says of its transfer before a byte is read, each field of CC taken out once.
-struct Plan {
+struct Setup {
     source: Side,
     destination: Side,
     gb: bool,
@@ -47,8 +47,8 @@ pub struct Transferred {
 }
 
 // Whether the mode of the transfer is refused.
-fn bad_mode(c: Channel, p: Plan) -> bool
-    requires { ⌜ p ≡ planOf c ⌝ }
+fn bad_mode(c: Channel, p: Setup) -> bool
+    requires { ⌜ p ≡ setupOf c ⌝ }
     ensures { λ r. ⌜ r ≡ badMode c ⌝ }
 {
     let source = p.source;

@@ -1,12 +1,12 @@
 // The bytes that a transfer step reads, before it stores.
 use crate::Data;
-use crate::Plan;
+use crate::Setup;
 use machine::Channel;
 ghost use mathlib.Core.Path.{_≡_};
 ghost use Rattle.words.specs.Choice.{pick};
 ghost use Rattle.memory.specs.Buffers.{buffers, byteAt};
 ghost use Rattle.memory.specs.Places.{allLent};
-ghost use Rattle.transfer.specs.Sides.{planOf};
+ghost use Rattle.transfer.specs.Sides.{setupOf};
 ghost use Rattle.transfer.specs.Reads.{dataOf, readPlaces};
 
 // The bytes read, and whether each of them is lent.
@@ -27,8 +27,8 @@ fn byte_or(asked: bool, other: u8, sys: &[u8], io: &[u8], tag: bool, address: u3
 }
 
 // The bytes to be stored, and whether all that was read for them is lent.
-pub(crate) fn fetch(c: Channel, p: Plan, sys: &[u8], io: &[u8]) -> Fetched
-    requires { ⌜ p ≡ planOf c ⌝ }
+pub(crate) fn fetch(c: Channel, p: Setup, sys: &[u8], io: &[u8]) -> Fetched
+    requires { ⌜ p ≡ setupOf c ⌝ }
     ensures { λ r. ⌜ r ≡ record { bytes = dataOf c (buffers (now (sys .entry)) (now (io .entry))); lent = allLent (buffers (now (sys .entry)) (now (io .entry))) (readPlaces c (buffers (now (sys .entry)) (now (io .entry)))) } ⌝ }
 {
     let source = p.source;

@@ -1,12 +1,12 @@
 // The two sides of a transfer, and how many bytes move between them.
-use crate::Plan;
+use crate::Setup;
 use crate::Side;
 use machine::Channel;
 use memory::Pointer;
 ghost use mathlib.Core.Path.{_≡_};
 ghost use Rattle.words.specs.Choice.{pick};
 ghost use Rattle.transfer.specs.Sides as Sides;
-ghost use Rattle.transfer.specs.Sides.{wordSide, secondOf, planOf};
+ghost use Rattle.transfer.specs.Sides.{wordSide, secondAddress, setupOf};
 
 // One of two pointers.
 pub(crate) fn chosen(test: bool, a: Pointer, b: Pointer) -> Pointer
@@ -25,7 +25,7 @@ pub(crate) fn word(s: Side) -> bool
 
 // The address of a side's second byte.
 pub(crate) fn second(s: Side) -> u32
-    ensures { λ r. ⌜ r ≡ secondOf s ⌝ }
+    ensures { λ r. ⌜ r ≡ secondAddress s ⌝ }
 {
     let p = s.pointer;
     if word(s) | s.moves {
@@ -50,8 +50,8 @@ pub(crate) fn gained(moves: bool, p: Pointer, by: u32) -> Pointer
 }
 
 // What a channel says of its transfer.
-pub(crate) fn plan(c: Channel) -> Plan
-    ensures { λ r. ⌜ r ≡ planOf c ⌝ }
+pub(crate) fn plan(c: Channel) -> Setup
+    ensures { λ r. ⌜ r ≡ setupOf c ⌝ }
 {
     let gb = machine::cc::source_is_gb(c.cc);
     let source = Side {
@@ -67,7 +67,7 @@ pub(crate) fn plan(c: Channel) -> Plan
     let tbc = machine::cc::count_end(c.cc);
     let whole = word(destination);
     let two = (word(source) | whole) & !((tbc != 0) & (c.bc == 1));
-    Plan {
+    Setup {
         source,
         destination,
         gb,

@@ -1,6 +1,6 @@
 // What a transfer step stores of the bytes that it read, and what the channel becomes.
 use crate::Data;
-use crate::Plan;
+use crate::Setup;
 use crate::Side;
 use machine::Channel;
 ghost use mathlib.Core.Path.{_≡_};
@@ -8,9 +8,9 @@ ghost use Rattle.words.specs.Choice.{pick};
 ghost use Rattle.memory.specs.Buffers.{buffers};
 ghost use Rattle.memory.specs.Places.{allLent};
 ghost use Rattle.machine.specs.Cc.{matchEnd};
-ghost use Rattle.transfer.specs.Sides.{planOf};
+ghost use Rattle.transfer.specs.Sides.{setupOf};
 ghost use Rattle.transfer.specs.Ends.{codeIf};
-ghost use Rattle.transfer.specs.Stores.{matchMet, storesTwo, movedBy, channelAfter, putOn, placesOn};
+ghost use Rattle.transfer.specs.Stores.{matchMet, storesTwo, movedBy, movedChannel, putOn, placesOn};
 ghost use Prim.Native.Nat.{_%_};
 
 // What the masked compare decides: whether two bytes are stored, and the code of its end.
@@ -26,8 +26,8 @@ pub(crate) struct Done {
 }
 
 // What the masked compare decides.
-fn compare(c: Channel, p: Plan, d: Data) -> Compared
-    requires { ⌜ p ≡ planOf c ⌝ }
+fn compare(c: Channel, p: Setup, d: Data) -> Compared
+    requires { ⌜ p ≡ setupOf c ⌝ }
     ensures { λ r. ⌜ r ≡ record { two = storesTwo c d; code = codeIf (matchMet c d) (matchEnd (c .cc) % 4) } ⌝ }
 {
     let tmc = machine::cc::match_end(c.cc);
@@ -47,8 +47,8 @@ fn stored(two: bool) -> u16
 }
 
 // The channel with its moving sides on by some bytes, and a new BC.
-fn moved_by(c: Channel, p: Plan, by: u32, bc: u16) -> Channel
-    requires { ⌜ p ≡ planOf c ⌝ }
+fn moved_by(c: Channel, p: Setup, by: u32, bc: u16) -> Channel
+    requires { ⌜ p ≡ setupOf c ⌝ }
     ensures { λ r. ⌜ r ≡ movedBy c by bc ⌝ }
 {
     let s = p.source;
@@ -63,9 +63,9 @@ fn moved_by(c: Channel, p: Plan, by: u32, bc: u16) -> Channel
 }
 
 // What a step does with the bytes that it read.
-pub(crate) fn finish(c: Channel, p: Plan, d: Data) -> Done
-    requires { ⌜ p ≡ planOf c ⌝ }
-    ensures { λ r. ⌜ r ≡ record { two = storesTwo c d; channel = channelAfter c d } ⌝ }
+pub(crate) fn finish(c: Channel, p: Setup, d: Data) -> Done
+    requires { ⌜ p ≡ setupOf c ⌝ }
+    ensures { λ r. ⌜ r ≡ record { two = storesTwo c d; channel = movedChannel c d } ⌝ }
 {
     let k = compare(c, p, d);
     let count = stored(k.two);

@@ -2,7 +2,7 @@
 -- Assumes nothing.
 use borrow.Author.Needs.{needs}
 use borrow.Author.Tests.{eq-eqb, ne-eqb}
-use Rattle.attention.specs.Attention.{effectOf}
+use Rattle.attention.specs.Attention.{plannedOf}
 use Rattle.attention.proofs.planned.Statement.{statement}
 use Rattle.attention.proofs.planned.Tie as tie
 
@@ -16,7 +16,7 @@ writes-requires : tie.Need-writes-requires
 writes-requires c κs = search needs
 
 returns : tie.Need-returns
-unfolding effectOf
+unfolding plannedOf
 returns c = simp (← (c .writes .ensures), ne-eqb _ _ (c .before .if1 .taken), ← (c .before .before .number .ensures), ← (c .before .before .before .order .ensures))
 
 channel-ordered-requires : tie.Need-channel-ordered-requires
@@ -26,7 +26,7 @@ writes-of-requires : tie.Need-writes-of-requires
 writes-of-requires c κs = search needs
 
 returns-2 : tie.Need-returns-2
-unfolding effectOf
+unfolding plannedOf
 returns-2 c = simp (← (c .writes-of .ensures), ← (c .before .channel-ordered .ensures), c .before .before .if1 .left, eq-eqb _ _ (c .before .before .if1 .left), ← (c .before .before .before .number .ensures), ← (c .before .before .before .before .order .ensures))
 
 pub planned-spec : {M : Type 1} → statement M

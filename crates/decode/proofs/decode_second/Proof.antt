@@ -7,8 +7,8 @@ use Prim.Native.Nat.{ℕ}
 use lib.Dec.{eqb}
 use mir.Val.{boolByte}
 use Rattle.words.specs.Choice.{pick}
-use Rattle.shapes.specs.Pairs.{meets}
-use Rattle.shapes.specs.Pairs.Column.{'0, '1}
+use Rattle.decode_shapes.specs.Pairs.{meets}
+use Rattle.decode_shapes.specs.Pairs.Column.{'0, '1}
 use Rattle.decode.specs.Reading.{secondOf}
 use Rattle.decode.proofs.decode_second.Statement.{statement}
 use Rattle.decode.proofs.decode_second.Tie as tie

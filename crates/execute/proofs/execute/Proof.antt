@@ -4,8 +4,8 @@ use borrow.Author.Needs.{needs}
 use denote.Ref.{now}
 use mathlib.Core.Path.{ap, _∙_}
 use Rattle.memory.specs.Buffers.{buffers}
-use Rattle.operands.specs.Changes.{changed}
-use Rattle.deeds.specs.declared.Effect.{Effect}
+use Rattle.execute_operands.specs.Changes.{changed}
+use Rattle.execute_deeds.specs.declared.Effect.{Effect}
 use Rattle.execute.specs.Execute.{executed, executeOf}
 use Rattle.execute.proofs.execute.Statement.{statement}
 use Rattle.execute.proofs.execute.Tie as tie

@@ -3,11 +3,11 @@
 use borrow.Author.Needs.{needs}
 use Rattle.machine.specs.Outcomes.{unless, first}
 use Rattle.memory.specs.Places.{allLent}
-use Rattle.deeds.specs.Control.{nopDeed, sintrDeed, xferDeed, widDeed, hltDeed}
-use Rattle.deeds.specs.Deeds.{effectOf}
-use Rattle.jumps.specs.JumpForms.{jumpRegisterDeed, callDeed}
-use Rattle.stores.specs.MemoryForms.{movpStoreDeed}
-use Rattle.deeds.specs.RegisterForms.{registerImmediateDeed, registerDeed, lpdiDeed}
+use Rattle.execute_deeds.specs.Control.{nopDeed, sintrDeed, xferDeed, widDeed, hltDeed}
+use Rattle.execute_deeds.specs.Deeds.{effectOf}
+use Rattle.execute_deeds.specs.JumpForms.{jumpRegisterDeed, callDeed}
+use Rattle.execute_deeds.specs.MemoryForms.{movpStoreDeed}
+use Rattle.execute_deeds.specs.RegisterForms.{registerImmediateDeed, registerDeed, lpdiDeed}
 use Rattle.execute.specs.Execute.{performed}
 use Rattle.execute.proofs.perform.Statement.{statement}
 use Rattle.execute.proofs.perform.Tie as tie

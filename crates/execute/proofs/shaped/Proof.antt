@@ -14,10 +14,10 @@ use Rattle.machine.specs.declared.Channel.{Channel}
 use Rattle.memory.proofs.PlaceLaws.{later}
 use Rattle.memory.specs.Buffers.{buffers}
 use Rattle.memory.specs.Places.{allLent}
-use Rattle.operands.specs.Changes.{placesOf}
-use Rattle.deeds.specs.Deeds.{effectOf}
-use Rattle.operands.specs.Operands.{onward, advanced}
-use Rattle.deeds.specs.declared.Effect.{Effect}
+use Rattle.execute_operands.specs.Changes.{placesOf}
+use Rattle.execute_deeds.specs.Deeds.{effectOf}
+use Rattle.execute_operands.specs.Operands.{onward, pastInstruction}
+use Rattle.execute_deeds.specs.declared.Effect.{Effect}
 use Rattle.execute.specs.Execute.{performed, deedOf, laterBytes}
 use Rattle.execute.proofs.CodeLaws.{effectWith, refusedEffect, shape-beyond, shape-wrong, shape-unstored, shape-done}
 use Rattle.execute.proofs.shaped.Statement.{statement}
@@ -62,7 +62,7 @@ returns-2 c =
     let d = deedOf (a .shape) m (a .c) (a .busy) in
     let later = simp (c .before .before .before .before .before .before .before .onward .ensures, c .before .before .before .before .before .before .before .before .length .ensures) at (sym (c .before .before .before .before .before .before .lent .ensures) ∙ not-false _ (c .before .before .before .before .before .if1 .left)) in
     let e : c .before .before .before .perform .result ≡ effectOf m d =
-    c .before .before .before .perform .ensures ∙ ap (λ (x : Channel). effectOf m (performed (a .shape) m x (a .c .tp) (a .c .armed) (a .busy))) (c .before .before .before .before .advanced .ensures ∙ ap (advanced (a .c)) (c .before .before .before .before .before .before .before .before .length .ensures)) in
+    c .before .before .before .perform .ensures ∙ ap (λ (x : Channel). effectOf m (performed (a .shape) m x (a .c .tp) (a .c .armed) (a .busy))) (c .before .before .before .before .advanced .ensures ∙ ap (pastInstruction (a .c)) (c .before .before .before .before .before .before .before .before .length .ensures)) in
     let n = ap (λ (x : Effect). x .number) e in
     c .refused2 .ensures ∙ ap (λ (x : ℕ). refusedEffect x (a .c)) n ∙ sym (shape-wrong (a .shape) m (a .c) (a .busy) later (λ z. c .before .if2 .taken (n ∙ z)))
 
@@ -80,7 +80,7 @@ returns-3 c =
     let d = deedOf (a .shape) m (a .c) (a .busy) in
     let later = simp (c .before .before .before .before .before .before .before .before .before .onward .ensures, c .before .before .before .before .before .before .before .before .before .before .length .ensures) at (sym (c .before .before .before .before .before .before .before .before .lent .ensures) ∙ not-false _ (c .before .before .before .before .before .before .before .if1 .left)) in
     let e : c .before .before .before .before .before .perform .result ≡ effectOf m d =
-    c .before .before .before .before .before .perform .ensures ∙ ap (λ (x : Channel). effectOf m (performed (a .shape) m x (a .c .tp) (a .c .armed) (a .busy))) (c .before .before .before .before .before .before .advanced .ensures ∙ ap (advanced (a .c)) (c .before .before .before .before .before .before .before .before .before .before .length .ensures)) in
+    c .before .before .before .before .before .perform .ensures ∙ ap (λ (x : Channel). effectOf m (performed (a .shape) m x (a .c .tp) (a .c .armed) (a .busy))) (c .before .before .before .before .before .before .advanced .ensures ∙ ap (pastInstruction (a .c)) (c .before .before .before .before .before .before .before .before .before .before .length .ensures)) in
     let n = ap (λ (x : Effect). x .number) e in
     let none = ap (λ (x : Effect). allLent m (placesOf (x .change))) (sym e) ∙ sym (c .before .before .lent2 .ensures) ∙ not-true _ (c .before .if3 .taken) in
     c .refused3 .ensures ∙ sym (shape-unstored (a .shape) m (a .c) (a .busy) later (sym n ∙ c .before .before .before .if2 .left) none)
@@ -93,7 +93,7 @@ returns-4 c =
     let d = deedOf (a .shape) m (a .c) (a .busy) in
     let later = simp (c .before .before .before .before .before .before .before .before .onward .ensures, c .before .before .before .before .before .before .before .before .before .length .ensures) at (sym (c .before .before .before .before .before .before .before .lent .ensures) ∙ not-false _ (c .before .before .before .before .before .before .if1 .left)) in
     let e : c .before .before .before .before .perform .result ≡ effectOf m d =
-    c .before .before .before .before .perform .ensures ∙ ap (λ (x : Channel). effectOf m (performed (a .shape) m x (a .c .tp) (a .c .armed) (a .busy))) (c .before .before .before .before .before .advanced .ensures ∙ ap (advanced (a .c)) (c .before .before .before .before .before .before .before .before .before .length .ensures)) in
+    c .before .before .before .before .perform .ensures ∙ ap (λ (x : Channel). effectOf m (performed (a .shape) m x (a .c .tp) (a .c .armed) (a .busy))) (c .before .before .before .before .before .advanced .ensures ∙ ap (pastInstruction (a .c)) (c .before .before .before .before .before .before .before .before .before .length .ensures)) in
     let n = ap (λ (x : Effect). x .number) e in
     let all = ap (λ (x : Effect). allLent m (placesOf (x .change))) (sym e) ∙ sym (c .before .lent2 .ensures) ∙ not-false _ (c .if3 .left) in
     let zero-number = sym n ∙ c .before .before .if2 .left in

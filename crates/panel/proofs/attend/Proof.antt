@@ -7,7 +7,7 @@ use mathlib.Core.Path.{sym, ap, _∙_}
 use Rattle.attention.specs.Attention.{attentionOf}
 use Rattle.machine.specs.Outcomes.{Outcome}
 use Rattle.memory.specs.Buffers.{buffers}
-use Rattle.panel.specs.Run.{ran, stepsFrom, attended}
+use Rattle.panel.specs.Run.{ran, stepsFrom, attendedRun}
 use Rattle.panel.proofs.attend.Statement.{statement}
 use Rattle.panel.proofs.attend.Tie as tie
 
@@ -21,7 +21,7 @@ same-length-2 : tie.Need-same-length-2
 same-length-2 c = search needs
 
 returns : tie.Need-returns
-unfolding attended
+unfolding attendedRun
 returns c =
     let a = c .before .before .before .before .before .before .before .before .before .before .before .args in
     let m = buffers (now (a .sys)) (now (a .io)) in
@@ -40,7 +40,7 @@ same-length-4 : tie.Need-same-length-4
 same-length-4 c = search needs
 
 returns-2 : tie.Need-returns-2
-unfolding attended
+unfolding attendedRun
 returns-2 c =
     let a = c .before .before .before .before .before .before .before .before .before .before .before .before .before .before .before .before .before .before .before .args in
     let m = buffers (now (a .sys)) (now (a .io)) in

@@ -3,12 +3,12 @@
 use borrow.Author.Needs.{needs}
 use borrow.Author.Tests.{eq-eqb, ne-eqb}
 use mathlib.Core.Path.{_∙_}
-use Rattle.panel.specs.Run.{started}
+use Rattle.panel.specs.Run.{startedRun}
 use Rattle.panel.proofs.start.Statement.{statement}
 use Rattle.panel.proofs.start.Tie as tie
 
 returns : tie.Need-returns
-unfolding started
+unfolding startedRun
 returns c = rw (ne-eqb (c .before .before .before .before .args .fresh .number) 0 (c .if1 .taken))
 
 attend-requires : tie.Need-attend-requires
@@ -21,7 +21,7 @@ same-length-2 : tie.Need-same-length-2
 same-length-2 c = search needs
 
 returns-2 : tie.Need-returns-2
-unfolding started
+unfolding startedRun
 returns-2 c = c .before .before .before .before .attend .ensures ∙ rw (eq-eqb (c .before .before .before .before .before .before .before .before .before .before .before .before .args .fresh .number) 0 (c .before .before .before .before .before .before .before .before .if1 .left))
 
 pub start-spec : {M : Type 1} → statement M

@@ -5,7 +5,7 @@ use denote.Ref.{now}
 use mathlib.Core.Path.{sym, ap, _∙_}
 use Rattle.memory.specs.Buffers.{buffers}
 use Rattle.transfer.proofs.StepLaws.{refused, done}
-use Rattle.turns.specs.declared.Choice.{Choice}
+use Rattle.step.specs.declared.turns.Choice.{Choice}
 use Rattle.step.specs.Step.{stepped, doneAnswer, externalStep, chosenStep}
 use Rattle.step.specs.declared.Stepped.{Stepped}
 use Rattle.step.proofs.chosen.Statement.{statement}

@@ -7,7 +7,7 @@ use denote.Ref.{now}
 use mathlib.Core.Path.{sym, ap, _∙_}
 use Rattle.memory.specs.Buffers.{buffers}
 use Rattle.transfer.proofs.StepLaws.{refused}
-use Rattle.turns.specs.declared.Choice.{Choice}
+use Rattle.step.specs.declared.turns.Choice.{Choice}
 use Rattle.step.specs.Step.{stepped, answer, chosenStep, entryNumber, stepOf}
 use Rattle.step.specs.declared.Kind.{Kind}
 use Rattle.step.specs.declared.Kind.the-variants.{Nothing}

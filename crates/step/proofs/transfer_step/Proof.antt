@@ -8,7 +8,7 @@ use Rattle.machine.specs.States.{channelOf}
 use Rattle.machine.specs.declared.Channel.{Channel}
 use Rattle.memory.specs.Buffers.{buffers}
 use Rattle.transfer.specs.Steps.{transferOf}
-use Rattle.turns.specs.declared.Choice.the-variants.{Steps}
+use Rattle.step.specs.declared.turns.Choice.the-variants.{Steps}
 use Rattle.transfer.specs.Steps as Steps
 use Rattle.step.specs.Step.{settledStep, transferStep}
 use Rattle.step.specs.declared.Kind.{Kind}

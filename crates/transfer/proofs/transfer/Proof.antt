@@ -6,9 +6,9 @@ use mathlib.Core.Bool.{true, false}
 use mathlib.Core.Path.{_≡_, sym, _∙_}
 use Rattle.memory.specs.Buffers.{buffers}
 use Rattle.memory.specs.Places.{allLent}
-use Rattle.transfer.specs.Sides.{planOf}
-use Rattle.transfer.specs.Steps.{touched, badMode}
-use Rattle.transfer.specs.Stores.{memoryAfter, storedPlaces}
+use Rattle.transfer.specs.Sides.{setupOf}
+use Rattle.transfer.specs.Steps.{touchedByTransfer, badMode}
+use Rattle.transfer.specs.Stores.{movedMemory, storedPlaces}
 use Rattle.transfer.proofs.StepLaws.{outcome-5, outcome-2, outcome-0}
 use Rattle.transfer.proofs.TouchLaws.{touched-lent}
 use Rattle.transfer.proofs.transfer.Statement.{statement}
@@ -44,12 +44,12 @@ same-length-2 : tie.Need-same-length-2
 same-length-2 c = search needs
 
 returns-2 : tie.Need-returns-2
-unfolding planOf storedPlaces memoryAfter
+unfolding setupOf storedPlaces movedMemory
 returns-2 c =
     let a = c .before .before .before .before .before .before .before .before .before .before .before .before .before .before .before .before .before .before .before .before .before .before .before .before .args in
     let m = buffers (now (a .sys)) (now (a .io)) in
     let known : badMode (a .c) ≡ false = sym (c .before .before .before .before .before .before .before .before .before .before .before .before .before .before .before .before .before .before .before .before .bad-mode .ensures) ∙ c .before .before .before .before .before .before .before .before .before .before .before .before .before .before .before .before .before .before .before .if1 .left in
-    let all : allLent m (touched (a .c) m) ≡ true =
+    let all : allLent m (touchedByTransfer (a .c) m) ≡ true =
     touched-lent (a .c) m
     ∙ (simp (c .before .before .before .before .before .before .before .before .before .before .lent .ensures, c .before .before .before .before .before .before .before .before .before .before .before .before .before .before .finish .ensures, c .before .before .before .before .before .before .before .before .before .before .before .before .before .before .before .before .fetch .ensures, c .before .before .before .before .before .before .before .before .before .before .before .before .before .before .before .before .before .before .before .before .before .plan .ensures) at (c .before .before .before .before .before .before .before .before .if2 .taken)) in
     rw (c .before .before .before .before .before .put .ensures, c .before .before .before .before .before .before .before .before .before .before .before .before .before .before .finish .ensures, c .before .before .before .before .before .before .before .before .before .before .before .before .before .before .before .before .fetch .ensures, c .before .before .before .before .before .before .before .before .before .before .before .before .before .before .before .before .before .before .before .before .before .plan .ensures) (sym (outcome-0 (a .c) m known all))
@@ -61,12 +61,12 @@ same-length-4 : tie.Need-same-length-4
 same-length-4 c = search needs
 
 returns-3 : tie.Need-returns-3
-unfolding planOf storedPlaces
+unfolding setupOf storedPlaces
 returns-3 c =
     let a = c .before .before .before .before .before .before .before .before .before .before .before .before .before .before .before .before .args in
     let m = buffers (now (a .sys)) (now (a .io)) in
     let known : badMode (a .c) ≡ false = sym (c .before .before .before .before .before .before .before .before .before .before .before .before .bad-mode .ensures) ∙ c .before .before .before .before .before .before .before .before .before .before .before .if1 .left in
-    let all : allLent m (touched (a .c) m) ≡ false =
+    let all : allLent m (touchedByTransfer (a .c) m) ≡ false =
     touched-lent (a .c) m
     ∙ (simp (c .before .before .lent .ensures, c .before .before .before .before .before .before .finish .ensures, c .before .before .before .before .before .before .before .before .fetch .ensures, c .before .before .before .before .before .before .before .before .before .before .before .before .before .plan .ensures) at (c .if2 .left)) in
     sym (outcome-2 (a .c) m known all)

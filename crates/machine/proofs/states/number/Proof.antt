@@ -1,15 +1,15 @@
 -- `machine::states::number` meets its contract.
 -- Assumes nothing.
-use Rattle.machine.specs.States.{numberOf}
+use Rattle.machine.specs.States.{channelNumber}
 use Rattle.machine.proofs.states.number.Statement.{statement}
 use Rattle.machine.proofs.states.number.Tie as tie
 
 returns : tie.Need-returns
-unfolding numberOf
+unfolding channelNumber
 returns c = simp (c .if1 .taken)
 
 returns-2 : tie.Need-returns-2
-unfolding numberOf
+unfolding channelNumber
 returns-2 c = simp (c .if1 .left)
 
 pub number-spec : {M : Type 1} → statement M

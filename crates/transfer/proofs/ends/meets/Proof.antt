@@ -1,7 +1,7 @@
 -- `transfer::ends/meets` meets its contract.
 -- Assumes nothing.
 use borrow.Author.Needs.{needs}
-use Rattle.transfer.specs.Ends.{meets}
+use Rattle.transfer.specs.Ends.{meetsTmc}
 use Rattle.transfer.proofs.ends.meets.Statement.{statement}
 use Rattle.transfer.proofs.ends.meets.Tie as tie
 
@@ -12,11 +12,11 @@ bit-requires : tie.Need-bit-requires
 bit-requires c κs = search needs
 
 returns : tie.Need-returns
-unfolding meets
+unfolding meetsTmc
 returns c = simp (c .if1 .taken, ← (c .before .bit .ensures), ← (c .before .before .matches .ensures))
 
 returns-2 : tie.Need-returns-2
-unfolding meets
+unfolding meetsTmc
 returns-2 c = simp (c .if1 .left, ← (c .before .bit .ensures), ← (c .before .before .matches .ensures))
 
 pub meets-spec : {M : Type 1} → statement M

@@ -2,7 +2,7 @@
 -- Assumes nothing.
 use borrow.Author.Needs.{needs}
 use Rattle.transfer.specs.Reads.{fetched, fetchedSecond, entryOf, delivered, dataOf}
-use Rattle.transfer.specs.Sides.{planOf}
+use Rattle.transfer.specs.Sides.{setupOf}
 use Rattle.transfer.proofs.TouchLaws.{reads-lent}
 use Rattle.transfer.proofs.reads.fetch.Statement.{statement}
 use Rattle.transfer.proofs.reads.fetch.Tie as tie
@@ -35,7 +35,7 @@ lent-requires-3 : tie.Need-lent-requires-3
 lent-requires-3 c κs = search needs
 
 returns : tie.Need-returns
-unfolding planOf dataOf delivered fetched fetchedSecond entryOf
+unfolding setupOf dataOf delivered fetched fetchedSecond entryOf
 returns c =
     rw (reads-lent, c .lent3 .ensures, c .before .before .lent2 .ensures, c .before .before .before .before .lent .ensures, c .before .before .before .before .before .byte-or2 .ensures, c .before .before .before .before .before .before .byte-or .ensures, c .before .before .before .before .before .before .before .sum20 .ensures, c .before .before .before .before .before .before .before .before .before .byte .ensures, c .before .before .before .before .before .before .before .before .before .before .second .ensures, c .before .before .before .before .before .before .before .before .before .before .before .before .before .before .before .pre)
 

@@ -1,7 +1,7 @@
 -- `transfer::sides/plan` meets its contract.
 -- Assumes nothing.
 use borrow.Author.Needs.{needs}
-use Rattle.transfer.specs.Sides.{source, destination, twoMove, storedSingly, planOf}
+use Rattle.transfer.specs.Sides.{source, destination, twoMove, storedSingly, setupOf}
 use Rattle.transfer.proofs.sides.plan.Statement.{statement}
 use Rattle.transfer.proofs.sides.plan.Tie as tie
 
@@ -39,7 +39,7 @@ translates-requires : tie.Need-translates-requires
 translates-requires c κs = search needs
 
 returns : tie.Need-returns
-unfolding planOf source destination twoMove storedSingly
+unfolding setupOf source destination twoMove storedSingly
 returns c = simp (← (c .translates .ensures), ← (c .before .before .word2 .ensures), ← (c .before .before .before .word .ensures), ← (c .before .before .before .before .count-end .ensures), ← (c .before .before .before .before .before .destination-wide .ensures), ← (c .before .before .before .before .before .before .destination-moves .ensures), ← (c .before .before .before .before .before .before .before .chosen2 .ensures), ← (c .before .before .before .before .before .before .before .before .source-wide .ensures), ← (c .before .before .before .before .before .before .before .before .before .source-moves .ensures), ← (c .before .before .before .before .before .before .before .before .before .before .chosen .ensures), ← (c .before .before .before .before .before .before .before .before .before .before .before .source-is-gb .ensures))
 
 pub plan-spec : {M : Type 1} → statement M

@@ -1,7 +1,7 @@
 -- `transfer::sides/second` meets its contract.
 -- Assumes nothing.
 use borrow.Author.Needs.{needs}
-use Rattle.transfer.specs.Sides.{secondOf}
+use Rattle.transfer.specs.Sides.{secondAddress}
 use Rattle.transfer.proofs.sides.second.Statement.{statement}
 use Rattle.transfer.proofs.sides.second.Tie as tie
 
@@ -12,11 +12,11 @@ sum20-requires : tie.Need-sum20-requires
 sum20-requires c κs = search needs
 
 returns : tie.Need-returns
-unfolding secondOf
+unfolding secondAddress
 returns c = simp (← (c .sum20 .ensures), c .before .if1 .taken, ← (c .before .before .before .word .ensures))
 
 returns-2 : tie.Need-returns-2
-unfolding secondOf
+unfolding secondAddress
 returns-2 c = simp (c .if1 .left, ← (c .before .before .word .ensures))
 
 pub second-spec : {M : Type 1} → statement M

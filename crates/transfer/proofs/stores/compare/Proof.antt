@@ -1,7 +1,7 @@
 -- `transfer::stores/compare` meets its contract.
 -- Assumes nothing.
 use borrow.Author.Needs.{needs}
-use Rattle.transfer.specs.Sides.{planOf}
+use Rattle.transfer.specs.Sides.{setupOf}
 use Rattle.transfer.specs.Stores.{firstMeets, matchMet, cutShort, storesTwo}
 use Rattle.transfer.proofs.stores.compare.Statement.{statement}
 use Rattle.transfer.proofs.stores.compare.Tie as tie
@@ -19,7 +19,7 @@ code-if-requires : tie.Need-code-if-requires
 code-if-requires c κs = search needs
 
 returns : tie.Need-returns
-unfolding planOf storesTwo matchMet cutShort firstMeets
+unfolding setupOf storesTwo matchMet cutShort firstMeets
 returns c = rw (c .code-if .ensures, c .before .before .before .before .meets2 .ensures, c .before .before .before .before .before .meets .ensures, c .before .before .before .before .before .before .match-end .ensures, c .before .before .before .before .before .before .before .pre)
 
 pub compare-spec : {M : Type 1} → statement M

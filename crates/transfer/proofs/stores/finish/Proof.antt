@@ -1,8 +1,8 @@
 -- `transfer::stores/finish` meets its contract.
 -- Assumes nothing.
 use borrow.Author.Needs.{needs}
-use Rattle.transfer.specs.Sides.{planOf}
-use Rattle.transfer.specs.Stores.{bytesStored, bytesMoved, bytesCounted, countAfter, endCode, channelAfter}
+use Rattle.transfer.specs.Sides.{setupOf}
+use Rattle.transfer.specs.Stores.{bytesStored, bytesMoved, bytesCounted, countAfter, endCode, movedChannel}
 use Rattle.transfer.proofs.stores.finish.Statement.{statement}
 use Rattle.transfer.proofs.stores.finish.Tie as tie
 
@@ -40,7 +40,7 @@ ended-requires : tie.Need-ended-requires
 ended-requires c κs = search needs
 
 returns : tie.Need-returns
-unfolding channelAfter endCode countAfter bytesCounted bytesMoved bytesStored planOf
+unfolding movedChannel endCode countAfter bytesCounted bytesMoved bytesStored setupOf
 returns c =
     rw (c .ended .ensures, c .before .moved-by .ensures, c .before .before .larger2 .ensures, c .before .before .before .larger .ensures, c .before .before .before .before .code-if2 .ensures, c .before .before .before .before .before .single-transfer .ensures, c .before .before .before .before .before .before .code-if .ensures, c .before .before .before .before .before .before .before .count-down .ensures, c .before .before .before .before .before .before .before .before .stored .ensures, c .before .before .before .before .before .before .before .before .before .compare .ensures, c .before .before .before .before .before .before .before .before .before .before .pre)
 

@@ -2,7 +2,7 @@
 -- Assumes nothing.
 use borrow.Author.Needs.{needs}
 use Rattle.transfer.specs.Ends.{withTransfer}
-use Rattle.transfer.specs.Sides.{planOf}
+use Rattle.transfer.specs.Sides.{setupOf}
 use Rattle.transfer.specs.Stores.{movedBy}
 use Rattle.transfer.proofs.stores.moved_by.Statement.{statement}
 use Rattle.transfer.proofs.stores.moved_by.Tie as tie
@@ -20,7 +20,7 @@ chosen-requires-2 : tie.Need-chosen-requires-2
 chosen-requires-2 c κs = search needs
 
 returns : tie.Need-returns
-unfolding movedBy withTransfer planOf
+unfolding movedBy withTransfer setupOf
 returns c = rw (c .chosen2 .ensures, c .before .chosen .ensures, c .before .before .gained2 .ensures, c .before .before .before .gained .ensures, c .before .before .before .before .before .before .pre)
 
 pub moved-by-spec : {M : Type 1} → statement M

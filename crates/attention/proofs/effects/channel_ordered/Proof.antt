@@ -1,0 +1,23 @@
+-- `orders::effects/channel_ordered` meets its contract.
+-- Assumes nothing.
+use borrow.Author.Needs.{needs}
+use Rattle.attention.specs.Effects.{channelOrdered}
+use Rattle.attention.proofs.effects.channel_ordered.Statement.{statement}
+use Rattle.attention.proofs.effects.channel_ordered.Tie as tie
+
+commanded-requires : tie.Need-commanded-requires
+commanded-requires c κs = search needs
+
+ordered-requires : tie.Need-ordered-requires
+ordered-requires c κs = search needs
+
+with-control-requires : tie.Need-with-control-requires
+with-control-requires c κs = search needs
+
+returns : tie.Need-returns
+unfolding channelOrdered
+returns c = simp (← (c .with-control .ensures), ← (c .before .ordered .ensures), ← (c .before .before .commanded .ensures))
+
+pub channel-ordered-spec : {M : Type 1} → statement M
+channel-ordered-spec =
+    tie.close (tie.spec commanded-requires ordered-requires with-control-requires returns)

@@ -1,0 +1,18 @@
+-- `orders::touched/busy` meets its contract.
+-- Assumes nothing.
+use borrow.Author.Needs.{needs}
+use Rattle.attention.proofs.ReducedLaws.{span-reduced}
+use Rattle.attention.proofs.touched.busy.Statement.{statement}
+use Rattle.attention.proofs.touched.busy.Tie as tie
+
+sum20-requires : tie.Need-sum20-requires
+sum20-requires c κs = search needs
+
+span-lent-requires : tie.Need-span-lent-requires
+span-lent-requires c κs = search needs
+
+returns : tie.Need-returns
+returns c = rw (c .span-lent .ensures, c .before .sum20 .ensures, span-reduced)
+
+pub busy-spec : {M : Type 1} → statement M
+busy-spec = tie.close (tie.spec sum20-requires span-lent-requires returns)

@@ -1,0 +1,95 @@
+-- `orders::touched/others` meets its contract.
+-- Assumes nothing.
+use borrow.Author.Needs.{needs}
+use Rattle.memory.specs.Places.{allLent}
+use Rattle.attention.specs.Touched.{readBy, storedBy, others}
+use Rattle.attention.proofs.touched.others.Statement.{statement}
+use Rattle.attention.proofs.touched.others.Tie as tie
+
+enum-told : tie.Need-enum-told
+enum-told c = search needs
+
+enum-told-2 : tie.Need-enum-told-2
+enum-told-2 c = search needs
+
+started-requires : tie.Need-started-requires
+started-requires c κs = search needs
+
+enum-told-3 : tie.Need-enum-told-3
+enum-told-3 c = search needs
+
+started-requires-2 : tie.Need-started-requires-2
+started-requires-2 c κs = search needs
+
+enum-told-4 : tie.Need-enum-told-4
+enum-told-4 c = search needs
+
+stored-requires : tie.Need-stored-requires
+stored-requires c κs = search needs
+
+enum-told-5 : tie.Need-enum-told-5
+enum-told-5 c = search needs
+
+stored-requires-2 : tie.Need-stored-requires-2
+stored-requires-2 c κs = search needs
+
+enum-told-6 : tie.Need-enum-told-6
+enum-told-6 c = search needs
+
+busy-requires : tie.Need-busy-requires
+busy-requires c κs = search needs
+
+enum-told-7 : tie.Need-enum-told-7
+enum-told-7 c = search needs
+
+returns : tie.Need-returns
+unfolding others readBy storedBy allLent
+returns c = simp (c .enum-told .given .1, c .before .match .keys1)
+
+returns-2 : tie.Need-returns-2
+unfolding others readBy storedBy
+returns-2 c = simp (← (c .started .ensures), c .before .enum-told2 .given .1, c .before .before .match .keys2)
+
+returns-3 : tie.Need-returns-3
+unfolding others readBy storedBy
+returns-3 c = simp (← (c .started2 .ensures), c .before .enum-told3 .given .1, c .before .before .match .keys3)
+
+returns-4 : tie.Need-returns-4
+unfolding others readBy storedBy
+returns-4 c = simp (← (c .stored .ensures), c .before .enum-told4 .given .1, c .before .before .match .keys4)
+
+returns-5 : tie.Need-returns-5
+unfolding others readBy storedBy
+returns-5 c = simp (← (c .stored2 .ensures), c .before .enum-told5 .given .1, c .before .before .match .keys5)
+
+returns-6 : tie.Need-returns-6
+unfolding others readBy storedBy
+returns-6 c = simp (← (c .busy .ensures), c .before .enum-told6 .given .1, c .before .before .match .keys6)
+
+returns-7 : tie.Need-returns-7
+unfolding others readBy storedBy allLent
+returns-7 c = simp (c .enum-told7 .given .1, c .before .match .keys7)
+
+pub others-spec : {M : Type 1} → statement M
+others-spec =
+    tie.close
+    (tie.spec
+    enum-told
+    enum-told-2
+    started-requires
+    enum-told-3
+    started-requires-2
+    enum-told-4
+    stored-requires
+    enum-told-5
+    stored-requires-2
+    enum-told-6
+    busy-requires
+    enum-told-7
+    returns
+    returns-2
+    returns-3
+    returns-4
+    returns-5
+    returns-6
+    returns-7)

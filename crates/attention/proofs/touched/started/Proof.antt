@@ -1,0 +1,23 @@
+-- `orders::touched/started` meets its contract.
+-- Assumes nothing.
+use borrow.Author.Needs.{needs}
+use mathlib.Core.Bool.{and-assoc}
+use Rattle.memory.proofs.SpanLaws.{all-append}
+use Rattle.attention.proofs.ReducedLaws.{span-reduced}
+use Rattle.attention.proofs.touched.started.Statement.{statement}
+use Rattle.attention.proofs.touched.started.Tie as tie
+
+sum20-requires : tie.Need-sum20-requires
+sum20-requires c κs = search needs
+
+span-lent-requires : tie.Need-span-lent-requires
+span-lent-requires c κs = search needs
+
+stored-requires : tie.Need-stored-requires
+stored-requires c κs = search needs
+
+returns : tie.Need-returns
+returns c = simp (c .stored .ensures, c .before .span-lent .ensures, c .before .before .sum20 .ensures, span-reduced, all-append, and-assoc)
+
+pub started-spec : {M : Type 1} → statement M
+started-spec = tie.close (tie.spec sum20-requires span-lent-requires stored-requires returns)

@@ -1,0 +1,37 @@
+-- Which bytes an attention reads and stores, each access once.
+use mathlib.Core.Bool.{false}
+use mathlib.Core.List.{List, [], _++_}
+use Prim.Native.Nat.{ℕ}
+use Rattle.memory.specs.Places.{Place, span}
+use Rattle.attention.specs.declared.Command.{Command}
+use Rattle.attention.specs.declared.Command.the-variants.{Update, StartLocal, StartSystem, Suspend, Resume, Halt, Unknown}
+use Rattle.attention.specs.declared.Order.{Order}
+use Rattle.attention.specs.Blocks.{busyOf, pointerOf}
+
+-- what each command reads after CCW: a start the block's pointer and PB's first word (001) or first two (011), resume PB's first four bytes
+unfoldable pub readBy : Command → ℕ → ℕ → List Place
+readBy Update block pb = []
+readBy StartLocal block pb = span false (pointerOf block) 4 ++ span false pb 2
+readBy StartSystem block pb = span false (pointerOf block) 4 ++ span false pb 4
+readBy Suspend block pb = []
+readBy Resume block pb = span false pb 4
+readBy Halt block pb = []
+readBy Unknown block pb = []
+
+-- what each command stores: suspend PB's first four bytes, and every command but 000 BUSY
+unfoldable pub storedBy : Command → ℕ → ℕ → List Place
+storedBy Update block pb = []
+storedBy StartLocal block pb = span false (busyOf block) 1
+storedBy StartSystem block pb = span false (busyOf block) 1
+storedBy Suspend block pb = span false pb 4 ++ span false (busyOf block) 1
+storedBy Resume block pb = span false (busyOf block) 1
+storedBy Halt block pb = span false (busyOf block) 1
+storedBy Unknown block pb = []
+
+-- all that an order touches after its CCW
+unfoldable pub others : Order → List Place
+others o = readBy (o .command) (o .block) (o .pb) ++ storedBy (o .command) (o .block) (o .pb)
+
+-- all that it touches
+unfoldable pub touchedByOrder : Order → List Place
+touchedByOrder o = span false (o .block) 1 ++ others o

@@ -1,0 +1,184 @@
+// What an accepted order makes of the channel and of memory.
+use crate::Command;
+use crate::Control;
+use crate::Order;
+use crate::Writes;
+use crate::commands;
+use machine::Channel;
+use machine::Mode;
+use machine::psw;
+use memory::Pointer;
+ghost use mathlib.Core.Path.{_≡_};
+ghost use Rattle.words.specs.Choice.{pick};
+ghost use Rattle.memory.specs.Buffers.{buffers};
+ghost use Rattle.attention.specs.Effects as Effects;
+ghost use Rattle.attention.specs.Effects.{withControl, channelOrdered, writesOf, saved, marked, writesMade};
+
+// The control registers after a start.
+fn started(k: Control, tp: Pointer) -> Control
+    ensures { λ r. ⌜ r ≡ Effects.started k tp ⌝ }
+{
+    Control {
+        tp,
+        psw: psw::with(psw::with(k.psw, psw::TB, true), psw::XF, false),
+        mode: Mode::Running,
+        armed: false,
+    }
+}
+
+// The control registers after suspend or halt.
+fn stopped(k: Control, mode: Mode, armed: bool) -> Control
+    ensures { λ r. ⌜ r ≡ Effects.stopped k mode armed ⌝ }
+{
+    let tp = k.tp;
+    Control {
+        tp,
+        psw: psw::with(psw::with(k.psw, psw::TB, false), psw::XF, false),
+        mode,
+        armed,
+    }
+}
+
+// The control registers after resume.
+fn resumed(k: Control, tp: Pointer, saved: u8) -> Control
+    ensures { λ r. ⌜ r ≡ Effects.resumed k tp saved ⌝ }
+{
+    Control {
+        tp,
+        psw: psw::with(saved, psw::TB, true),
+        mode: Mode::Running,
+        armed: k.armed,
+    }
+}
+
+// The control registers after a command.
+fn commanded(sys: &[u8], io: &[u8], command: Command, pb: u32, k: Control) -> Control
+    ensures { λ r. ⌜ r ≡ Effects.commanded command (buffers (now (sys .entry)) (now (io .entry))) pb k ⌝ }
+{
+    match command {
+        Command::Update => k,
+        Command::StartLocal => {
+            let address = memory::word(sys, io, false, pb) as u32;
+            started(k, Pointer { address, tag: true })
+        }
+        Command::StartSystem => {
+            let address = memory::doubleword(sys, io, false, pb);
+            started(
+                k,
+                Pointer {
+                    address,
+                    tag: false,
+                },
+            )
+        }
+        Command::Suspend => stopped(k, Mode::Suspended, k.armed),
+        Command::Resume => {
+            let saved = memory::byte(sys, io, false, words::sum20(pb, 3));
+            resumed(k, memory::stored_pointer(sys, io, false, pb), saved)
+        }
+        Command::Halt => stopped(k, Mode::Idle, false),
+        Command::Unknown => k,
+    }
+}
+
+// The channel with the registers changed that a command can change.
+fn with_control(c: Channel, k: Control, pp: u32, psw: u8) -> Channel
+    ensures { λ r. ⌜ r ≡ withControl c (k .tp) pp psw (k .mode) (k .armed) ⌝ }
+{
+    let ga = c.ga;
+    let gb = c.gb;
+    let gc = c.gc;
+    let tp = k.tp;
+    let mode = k.mode;
+    Channel {
+        ga,
+        gb,
+        gc,
+        tp,
+        pp,
+        bc: c.bc,
+        ix: c.ix,
+        cc: c.cc,
+        mc: c.mc,
+        psw,
+        mode,
+        armed: k.armed,
+    }
+}
+
+// The channel after an accepted order.
+pub fn channel_ordered(sys: &[u8], io: &[u8], o: Order, c: Channel) -> Channel
+    ensures { λ r. ⌜ r ≡ channelOrdered (buffers (now (sys .entry)) (now (io .entry))) o c ⌝ }
+{
+    let command = o.command;
+    let tp = c.tp;
+    let mode = c.mode;
+    let before = Control {
+        tp,
+        psw: c.psw,
+        mode,
+        armed: c.armed,
+    };
+    let k = commanded(sys, io, command, o.pb, before);
+    with_control(c, k, o.pb, commands::ordered(o.ccw, k.psw))
+}
+
+// What an order stores, with what it needs for that.
+pub fn writes(o: Order, c: Channel, saves: bool, marks: bool, busy: u8) -> Writes
+    ensures { λ r. ⌜ r ≡ Effects.writes saves marks busy (o .block) (o .pb) c ⌝ }
+{
+    let tp = c.tp;
+    Writes {
+        saves,
+        pb: o.pb,
+        tp,
+        psw: c.psw,
+        marks,
+        block: o.block,
+        busy,
+    }
+}
+
+// What an accepted order to a channel stores.
+pub fn writes_of(o: Order, c: Channel) -> Writes
+    ensures { λ r. ⌜ r ≡ writesOf (o .command) (o .block) (o .pb) c ⌝ }
+{
+    let command = o.command;
+    match command {
+        Command::Update => writes(o, c, false, false, 0),
+        Command::StartLocal => writes(o, c, false, true, 255),
+        Command::StartSystem => writes(o, c, false, true, 255),
+        Command::Suspend => writes(o, c, true, true, 0),
+        Command::Resume => writes(o, c, false, true, 255),
+        Command::Halt => writes(o, c, false, true, 0),
+        Command::Unknown => writes(o, c, false, false, 0),
+    }
+}
+
+// TP and PSW saved in PB's first four bytes, or nothing.
+fn save_if(sys: &mut [u8], io: &mut [u8], on: bool, pb: u32, tp: Pointer, psw: u8)
+    ensures { λ r. ⌜ buffers (now (sys .exit)) (now (io .exit)) ≡ pick on (saved (buffers (now (sys .entry)) (now (io .entry))) pb tp psw) (buffers (now (sys .entry)) (now (io .entry))) ⌝ }
+{
+    if on {
+        memory::store_pointer(sys, io, false, pb, tp);
+        memory::store_byte(sys, io, false, words::sum20(pb, 3), psw);
+    }
+}
+
+// BUSY stored, or nothing.
+fn mark_if(sys: &mut [u8], io: &mut [u8], on: bool, block: u32, busy: u8)
+    ensures { λ r. ⌜ buffers (now (sys .exit)) (now (io .exit)) ≡ pick on (marked (buffers (now (sys .entry)) (now (io .entry))) block busy) (buffers (now (sys .entry)) (now (io .entry))) ⌝ }
+{
+    if on {
+        memory::store_byte(sys, io, false, words::sum20(block, 1), busy);
+    }
+}
+
+// All stores of an attention.
+pub fn write(sys: &mut [u8], io: &mut [u8], w: Writes)
+    ensures { λ r. ⌜ buffers (now (sys .exit)) (now (io .exit)) ≡ writesMade (buffers (now (sys .entry)) (now (io .entry))) w ⌝ }
+{
+    let tp = w.tp;
+    save_if(sys, io, w.saves, w.pb, tp, w.psw);
+    mark_if(sys, io, w.marks, w.block, w.busy);
+}

@@ -1,0 +1,48 @@
+// Whether the bytes that an order touches are lent.
+use crate::Command;
+use crate::Order;
+ghost use mathlib.Core.Bool.{false};
+ghost use mathlib.Core.Path.{_≡_};
+ghost use mathlib.Core.List.{_++_};
+ghost use Prim.Native.Nat.{_+_};
+ghost use Rattle.memory.specs.Buffers.{buffers};
+ghost use Rattle.memory.specs.Places.{span, allLent};
+ghost use Rattle.attention.specs.Blocks.{busyOf, pointerOf};
+ghost use Rattle.attention.specs.Touched as Touched;
+
+// Whether BUSY is lent.
+fn busy(sys: &[u8], io: &[u8], block: u32) -> bool
+    ensures { λ r. ⌜ r ≡ allLent (buffers (now (sys .entry)) (now (io .entry))) (span false (busyOf block) 1) ⌝ }
+{
+    memory::span_lent(sys, io, false, words::sum20(block, 1), 1)
+}
+
+// Whether PB's first `count` bytes and BUSY are lent.
+fn stored(sys: &[u8], io: &[u8], block: u32, pb: u32, count: u32) -> bool
+    ensures { λ r. ⌜ r ≡ allLent (buffers (now (sys .entry)) (now (io .entry))) (span false pb count ++ span false (busyOf block) 1) ⌝ }
+{
+    memory::span_lent(sys, io, false, pb, count) & busy(sys, io, block)
+}
+
+// Whether a start's bytes are lent: the block's pointer, `count` bytes of PB, and BUSY.
+fn started(sys: &[u8], io: &[u8], block: u32, pb: u32, count: u32) -> bool
+    ensures { λ r. ⌜ r ≡ allLent (buffers (now (sys .entry)) (now (io .entry))) ((span false (pointerOf block) 4 ++ span false pb count) ++ span false (busyOf block) 1) ⌝ }
+{
+    memory::span_lent(sys, io, false, words::sum20(block, 2), 4) & stored(sys, io, block, pb, count)
+}
+
+// Whether all that an order touches after its CCW is lent.
+pub fn others(sys: &[u8], io: &[u8], o: Order) -> bool
+    ensures { λ r. ⌜ r ≡ allLent (buffers (now (sys .entry)) (now (io .entry))) (Touched.others o) ⌝ }
+{
+    let command = o.command;
+    match command {
+        Command::Update => true,
+        Command::StartLocal => started(sys, io, o.block, o.pb, 2),
+        Command::StartSystem => started(sys, io, o.block, o.pb, 4),
+        Command::Suspend => stored(sys, io, o.block, o.pb, 4),
+        Command::Resume => stored(sys, io, o.block, o.pb, 4),
+        Command::Halt => busy(sys, io, o.block),
+        Command::Unknown => true,
+    }
+}

@@ -1,3 +1,0 @@
-pub mod Deeds
-pub mod Control
-pub mod RegisterForms

@@ -1,0 +1,17 @@
+-- `deeds::control::xfer` meets its contract.
+-- Assumes nothing.
+use borrow.Author.Needs.{needs}
+use Rattle.execute_operands.specs.Operands.{renewed}
+use Rattle.execute_deeds.specs.Control.{nopDeed, xferDeed}
+use Rattle.execute_deeds.proofs.control.xfer.Statement.{statement}
+use Rattle.execute_deeds.proofs.control.xfer.Tie as tie
+
+only-requires : tie.Need-only-requires
+only-requires c κs = search needs
+
+returns : tie.Need-returns
+unfolding xferDeed renewed nopDeed
+returns c = simp (c .only .ensures)
+
+pub xfer-spec : {M : Type 1} → statement M
+xfer-spec = tie.close (tie.spec only-requires returns)

@@ -1,0 +1,76 @@
+-- `stores::mov_operand` meets its contract.
+-- Assumes nothing.
+use borrow.Author.Needs.{needs}
+use Rattle.machine.specs.Outcomes.{first}
+use Rattle.memory.proofs.SpanLaws.{all-append}
+use Rattle.execute_operands.specs.Operands.{onward, further, effective}
+use Rattle.execute_deeds.specs.Deeds.{effectOf}
+use Rattle.execute_deeds.specs.MemoryForms.{movOperandDeed}
+use Rattle.execute_deeds.proofs.memories.mov_operand.Statement.{statement}
+use Rattle.execute_deeds.proofs.memories.mov_operand.Tie as tie
+
+effective-requires : tie.Need-effective-requires
+effective-requires c κs = search needs
+
+after-pair-requires : tie.Need-after-pair-requires
+after-pair-requires c κs = search needs
+
+grown-by-size-requires : tie.Need-grown-by-size-requires
+grown-by-size-requires c κs = search needs
+
+effective-requires-2 : tie.Need-effective-requires-2
+effective-requires-2 c κs = search needs
+
+offset-length-requires : tie.Need-offset-length-requires
+offset-length-requires c κs = search needs
+
+operand-requires : tie.Need-operand-requires
+operand-requires c κs = search needs
+
+onward-requires : tie.Need-onward-requires
+onward-requires c κs = search needs
+
+lent-requires : tie.Need-lent-requires
+lent-requires c κs = search needs
+
+size-requires : tie.Need-size-requires
+size-requires c κs = search needs
+
+lent-requires-2 : tie.Need-lent-requires-2
+lent-requires-2 c κs = search needs
+
+two-unless-requires : tie.Need-two-unless-requires
+two-unless-requires c κs = search needs
+
+grown-by-size-requires-2 : tie.Need-grown-by-size-requires-2
+grown-by-size-requires-2 c κs = search needs
+
+further-requires : tie.Need-further-requires
+further-requires c κs = search needs
+
+result-requires : tie.Need-result-requires
+result-requires c κs = search needs
+
+returns : tie.Need-returns
+unfolding movOperandDeed effectOf first
+returns c = simp (all-append, c .result .ensures, c .before .further .ensures, c .before .before .grown-by-size2 .ensures, c .before .before .before .two-unless .ensures, c .before .before .before .before .lent2 .ensures, c .before .before .before .before .before .size .ensures, c .before .before .before .before .before .before .lent .ensures, c .before .before .before .before .before .before .before .onward .ensures, c .before .before .before .before .before .before .before .before .operand .ensures, c .before .before .before .before .before .before .before .before .before .offset-length .ensures, c .before .before .before .before .before .before .before .before .before .before .effective2 .ensures, c .before .before .before .before .before .before .before .before .before .before .before .grown-by-size .ensures, c .before .before .before .before .before .before .before .before .before .before .before .before .after-pair .ensures, c .before .before .before .before .before .before .before .before .before .before .before .before .before .effective .ensures)
+
+pub mov-operand-spec : {M : Type 1} → statement M
+mov-operand-spec =
+    tie.close
+    (tie.spec
+    effective-requires
+    after-pair-requires
+    grown-by-size-requires
+    effective-requires-2
+    offset-length-requires
+    operand-requires
+    onward-requires
+    lent-requires
+    size-requires
+    lent-requires-2
+    two-unless-requires
+    grown-by-size-requires-2
+    further-requires
+    result-requires
+    returns)

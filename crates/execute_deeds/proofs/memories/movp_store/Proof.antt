@@ -1,0 +1,27 @@
+-- `stores::movp_store` meets its contract.
+-- Assumes nothing.
+use borrow.Author.Needs.{needs}
+use Rattle.execute_operands.specs.Operands.{effective, grown}
+use Rattle.execute_deeds.specs.MemoryForms.{movpStoreDeed}
+use Rattle.execute_deeds.proofs.memories.movp_store.Statement.{statement}
+use Rattle.execute_deeds.proofs.memories.movp_store.Tie as tie
+
+value-requires : tie.Need-value-requires
+value-requires c κs = search needs
+
+tag-requires : tie.Need-tag-requires
+tag-requires c κs = search needs
+
+grown-requires : tie.Need-grown-requires
+grown-requires c κs = search needs
+
+effective-requires : tie.Need-effective-requires
+effective-requires c κs = search needs
+
+returns : tie.Need-returns
+unfolding movpStoreDeed
+returns c = simp (c .effective .ensures, c .before .grown .ensures, c .before .before .tag .ensures, c .before .before .before .value .ensures)
+
+pub movp-store-spec : {M : Type 1} → statement M
+movp-store-spec =
+    tie.close (tie.spec value-requires tag-requires grown-requires effective-requires returns)

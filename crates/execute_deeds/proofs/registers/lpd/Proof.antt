@@ -1,0 +1,41 @@
+-- `deeds::registers::lpd` meets its contract.
+-- Assumes nothing.
+use borrow.Author.Needs.{needs}
+use Rattle.machine.specs.Outcomes.{first}
+use Rattle.machine.specs.Registers.{loaded}
+use Rattle.memory.proofs.PlaceLaws.{after}
+use Rattle.execute_operands.specs.Operands.{readNumber, effective, grown}
+use Rattle.execute_deeds.specs.Deeds.{effectOf}
+use Rattle.execute_deeds.specs.RegisterForms.{lpdDeed}
+use Rattle.execute_deeds.proofs.registers.lpd.Statement.{statement}
+use Rattle.execute_deeds.proofs.registers.lpd.Tie as tie
+
+effective-requires : tie.Need-effective-requires
+effective-requires c κs = search needs
+
+doubleword-requires : tie.Need-doubleword-requires
+doubleword-requires c κs = search needs
+
+grown-requires : tie.Need-grown-requires
+grown-requires c κs = search needs
+
+loaded-requires : tie.Need-loaded-requires
+loaded-requires c κs = search needs
+
+after-requires : tie.Need-after-requires
+after-requires c κs = search needs
+
+returns : tie.Need-returns
+unfolding lpdDeed effectOf first readNumber
+returns c = simp (c .after .ensures, c .before .loaded .ensures, c .before .before .grown .ensures, c .before .before .before .doubleword .ensures, c .before .before .before .before .effective .ensures)
+
+pub lpd-spec : {M : Type 1} → statement M
+lpd-spec =
+    tie.close
+    (tie.spec
+    effective-requires
+    doubleword-requires
+    grown-requires
+    loaded-requires
+    after-requires
+    returns)

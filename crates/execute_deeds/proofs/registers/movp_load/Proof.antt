@@ -1,0 +1,40 @@
+-- `deeds::registers::movp_load` meets its contract.
+-- Assumes nothing.
+use borrow.Author.Needs.{needs}
+use Rattle.machine.specs.Outcomes.{first}
+use Rattle.memory.proofs.PlaceLaws.{after}
+use Rattle.execute_operands.specs.Operands.{readNumber, effective, grown}
+use Rattle.execute_deeds.specs.Deeds.{effectOf}
+use Rattle.execute_deeds.specs.RegisterForms.{movpLoadDeed}
+use Rattle.execute_deeds.proofs.registers.movp_load.Statement.{statement}
+use Rattle.execute_deeds.proofs.registers.movp_load.Tie as tie
+
+effective-requires : tie.Need-effective-requires
+effective-requires c κs = search needs
+
+stored-pointer-requires : tie.Need-stored-pointer-requires
+stored-pointer-requires c κs = search needs
+
+grown-requires : tie.Need-grown-requires
+grown-requires c κs = search needs
+
+with-requires : tie.Need-with-requires
+with-requires c κs = search needs
+
+after-requires : tie.Need-after-requires
+after-requires c κs = search needs
+
+returns : tie.Need-returns
+unfolding movpLoadDeed effectOf first readNumber
+returns c = simp (c .after .ensures, c .before .with .ensures, c .before .before .grown .ensures, c .before .before .before .stored-pointer .ensures, c .before .before .before .before .effective .ensures)
+
+pub movp-load-spec : {M : Type 1} → statement M
+movp-load-spec =
+    tie.close
+    (tie.spec
+    effective-requires
+    stored-pointer-requires
+    grown-requires
+    with-requires
+    after-requires
+    returns)

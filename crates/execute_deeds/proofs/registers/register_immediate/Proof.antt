@@ -1,0 +1,42 @@
+-- `deeds::registers::register_immediate` meets its contract.
+-- Assumes nothing.
+use borrow.Author.Needs.{needs}
+use Rattle.execute_operands.specs.Operands.{onward}
+use Rattle.execute_deeds.specs.Control.{nopDeed}
+use Rattle.execute_deeds.specs.RegisterForms.{registerImmediateDeed}
+use Rattle.execute_deeds.proofs.registers.register_immediate.Statement.{statement}
+use Rattle.execute_deeds.proofs.registers.register_immediate.Tie as tie
+
+onward-requires : tie.Need-onward-requires
+onward-requires c κs = search needs
+
+operand-requires : tie.Need-operand-requires
+operand-requires c κs = search needs
+
+value-requires : tie.Need-value-requires
+value-requires c κs = search needs
+
+work-requires : tie.Need-work-requires
+work-requires c κs = search needs
+
+write-requires : tie.Need-write-requires
+write-requires c κs = search needs
+
+only-requires : tie.Need-only-requires
+only-requires c κs = search needs
+
+returns : tie.Need-returns
+unfolding registerImmediateDeed nopDeed
+returns c = simp (c .only .ensures, c .before .write .ensures, c .before .before .work .ensures, c .before .before .before .value .ensures, c .before .before .before .before .operand .ensures, c .before .before .before .before .before .onward .ensures)
+
+pub register-immediate-spec : {M : Type 1} → statement M
+register-immediate-spec =
+    tie.close
+    (tie.spec
+    onward-requires
+    operand-requires
+    value-requires
+    work-requires
+    write-requires
+    only-requires
+    returns)

@@ -1,0 +1,5 @@
+pub mod Deeds
+pub mod Control
+pub mod RegisterForms
+pub mod MemoryForms
+pub mod JumpForms

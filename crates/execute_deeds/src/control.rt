@@ -1,0 +1,84 @@
+// NOP, SINTR, XFER, WID and HLT.
+use crate::Effect;
+use execute_operands::Change;
+use machine::Channel;
+use machine::Mode;
+use machine::psw;
+use memory::Pointer;
+ghost use mathlib.Core.Path.{_≡_};
+ghost use Rattle.execute_deeds.specs.Deeds.{unread};
+ghost use Rattle.execute_deeds.specs.Control.{nopDeed, sintrDeed, xferDeed, widDeed, hltDeed, withStatus};
+
+// A channel after an instruction that reads and stores nothing.
+pub fn only(c: Channel) -> Effect
+    ensures { λ r. ⌜ r ≡ unread (nopDeed c) ⌝ }
+{
+    Effect {
+        number: 0,
+        channel: c,
+        change: Change::Nothing,
+    }
+}
+
+// NOP.
+pub fn nop(c: Channel) -> Effect
+    ensures { λ r. ⌜ r ≡ unread (nopDeed c) ⌝ }
+{
+    only(c)
+}
+
+// The channel with another PSW.
+fn with_status(c: Channel, psw: u8) -> Channel
+    ensures { λ r. ⌜ r ≡ withStatus c psw ⌝ }
+{
+    let mut next = c;
+    next.psw = psw;
+    next
+}
+
+// SINTR: IS is set if IC is 1.
+pub fn sintr(c: Channel) -> Effect
+    ensures { λ r. ⌜ r ≡ unread (sintrDeed c) ⌝ }
+{
+    if psw::interrupt_control(c.psw) {
+        only(with_status(c, psw::with(c.psw, psw::IS, true)))
+    } else {
+        only(with_status(c, c.psw))
+    }
+}
+
+// XFER: the channel is armed, unless it was.
+pub fn xfer(c: Channel, armed: bool) -> Effect
+    ensures { λ r. ⌜ r ≡ unread (xferDeed c armed) ⌝ }
+{
+    let mut next = c;
+    next.armed = !armed;
+    only(next)
+}
+
+// WID: the widths of source and destination.
+pub fn wid(c: Channel, source: bool, destination: bool) -> Effect
+    ensures { λ r. ⌜ r ≡ unread (widDeed c source destination) ⌝ }
+{
+    let first = psw::with(c.psw, psw::SOURCE_WIDE, source);
+    only(with_status(c, psw::with(first, psw::DESTINATION_WIDE, destination)))
+}
+
+// HLT: as the command halt.
+pub fn hlt(c: Channel, busy: u32) -> Effect
+    ensures { λ r. ⌜ r ≡ unread (hltDeed c busy) ⌝ }
+{
+    let tp = c.tp;
+    let status = psw::with(psw::with(c.psw, psw::TB, false), psw::XF, false);
+    Effect {
+        number: 0,
+        channel: execute_operands::renewed(c, tp, c.ix, status, Mode::Idle, false),
+        change: Change::Byte(
+            Pointer {
+                address: busy,
+                tag: false,
+            },
+            0,
+        ),
+    }
+}

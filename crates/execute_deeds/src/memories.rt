@@ -1,0 +1,172 @@
+// Instructions whose result goes into memory.
+use crate::Effect;
+use decode_shapes::Memory;
+use decode_shapes::Second;
+use decode_shapes::Single;
+use decode_shapes::Work;
+use execute_operands::Change;
+use execute_operands::changes;
+use machine::Channel;
+use memory::Pointer;
+ghost use mathlib.Core.Path.{_≡_};
+ghost use Rattle.memory.specs.Buffers.{buffers};
+ghost use Rattle.execute_deeds.specs.Deeds.{effectOf};
+ghost use Rattle.execute_deeds.specs.MemoryForms as MemoryForms;
+ghost use Rattle.execute_deeds.specs.MemoryForms.{memoryWorkDeed, memoryRegisterDeed, memoryImmediateDeed, memoryAloneDeed, movpStoreDeed, bitWritten, bitDeed, movSecondDeed, movMemoryDeed};
+ghost use Rattle.execute_deeds.specs.Deeds.{unread};
+
+// The bytes that work reads of a memory operand.
+fn read_first(work: Work, wide: bool) -> u32
+    ensures { λ r. ⌜ r ≡ MemoryForms.readFirst work wide ⌝ }
+{
+    if execute_operands::is_move(work) {
+        0
+    } else {
+        execute_operands::size(wide)
+    }
+}
+
+// The work of a memory operand and another value, stored back.
+pub fn memory_work(
+    c: Channel,
+    tp: Pointer,
+    work: Work,
+    m: Memory,
+    v: u32,
+    sys: &[u8],
+    io: &[u8],
+) -> Effect
+    ensures { λ r. ⌜ r ≡ effectOf (buffers (now (sys .entry)) (now (io .entry))) (memoryWorkDeed (buffers (now (sys .entry)) (now (io .entry))) c tp work m v) ⌝ }
+{
+    let at = execute_operands::effective(c, m, tp, sys, io);
+    let w = execute_operands::work(work, execute_operands::operand(at, m.wide, sys, io), v);
+    Effect {
+        number: execute_operands::read_number(at, read_first(work, m.wide), sys, io),
+        channel: execute_operands::grown_by_size(c, m),
+        change: changes::result(at, m.wide, w),
+    }
+}
+
+// MOV, ADD, OR and AND to memory from a register.
+pub fn memory_register(
+    c: Channel,
+    tp: Pointer,
+    work: Work,
+    rrr: u32,
+    m: Memory,
+    sys: &[u8],
+    io: &[u8],
+) -> Effect
+    ensures { λ r. ⌜ r ≡ effectOf (buffers (now (sys .entry)) (now (io .entry))) (memoryRegisterDeed (buffers (now (sys .entry)) (now (io .entry))) c tp work rrr m) ⌝ }
+{
+    memory_work(c, tp, work, m, machine::registers::value(c, rrr), sys, io)
+}
+
+// MOVI, ADDI, ORI and ANDI to memory.
+pub fn memory_immediate(
+    c: Channel,
+    tp: Pointer,
+    work: Work,
+    m: Memory,
+    sys: &[u8],
+    io: &[u8],
+) -> Effect
+    ensures { λ r. ⌜ r ≡ effectOf (buffers (now (sys .entry)) (now (io .entry))) (memoryImmediateDeed (buffers (now (sys .entry)) (now (io .entry))) c tp work m) ⌝ }
+{
+    let v = execute_operands::operand(execute_operands::after_pair(tp, m), m.wide, sys, io);
+    memory_work(c, tp, work, m, v, sys, io)
+}
+
+// NOT, INC and DEC of a memory operand.
+pub fn memory_alone(
+    c: Channel,
+    tp: Pointer,
+    single: Single,
+    m: Memory,
+    sys: &[u8],
+    io: &[u8],
+) -> Effect
+    ensures { λ r. ⌜ r ≡ effectOf (buffers (now (sys .entry)) (now (io .entry))) (memoryAloneDeed (buffers (now (sys .entry)) (now (io .entry))) c tp single m) ⌝ }
+{
+    let at = execute_operands::effective(c, m, tp, sys, io);
+    let w = execute_operands::single(single, execute_operands::operand(at, m.wide, sys, io));
+    Effect {
+        number: execute_operands::read_number(at, execute_operands::size(m.wide), sys, io),
+        channel: execute_operands::grown_by_size(c, m),
+        change: changes::result(at, m.wide, w),
+    }
+}
+
+// MOVP from a pointer.
+pub fn movp_store(c: Channel, tp: Pointer, ppp: u32, m: Memory, sys: &[u8], io: &[u8]) -> Effect
+    ensures { λ r. ⌜ r ≡ unread (movpStoreDeed (buffers (now (sys .entry)) (now (io .entry))) c tp ppp m) ⌝ }
+{
+    let p = Pointer {
+        address: machine::registers::value(c, ppp),
+        tag: machine::registers::tag(c, ppp),
+    };
+    Effect {
+        number: 0,
+        channel: execute_operands::grown(c, m, 3),
+        change: Change::Stored(execute_operands::effective(c, m, tp, sys, io), p),
+    }
+}
+
+// A byte with one bit made 1 or 0.
+fn bit_written(byte: u8, bit: u32, on: bool) -> u8
+    ensures { λ r. ⌜ r ≡ bitWritten byte bit on ⌝ }
+{
+    (words::with_bit(byte as u32, bit, on) % 256) as u8
+}
+
+// SETB and CLR.
+pub fn bit(c: Channel, tp: Pointer, on: bool, bit: u32, m: Memory, sys: &[u8], io: &[u8]) -> Effect
+    ensures { λ r. ⌜ r ≡ effectOf (buffers (now (sys .entry)) (now (io .entry))) (bitDeed (buffers (now (sys .entry)) (now (io .entry))) c tp on bit m) ⌝ }
+{
+    let at = execute_operands::effective(c, m, tp, sys, io);
+    let v = bit_written(execute_operands::byte(at, sys, io), bit, on);
+    Effect {
+        number: execute_operands::read_number(at, 1, sys, io),
+        channel: execute_operands::grown(c, m, 1),
+        change: Change::Byte(at, v),
+    }
+}
+
+// MOV M,M, its second operand read.
+fn mov_operand(c: Channel, tp: Pointer, m: Memory, q: Memory, sys: &[u8], io: &[u8]) -> Effect
+    ensures { λ r. ⌜ r ≡ effectOf (buffers (now (sys .entry)) (now (io .entry))) (MemoryForms.movOperandDeed (buffers (now (sys .entry)) (now (io .entry))) c tp m q) ⌝ }
+{
+    let at = execute_operands::effective(c, m, tp, sys, io);
+    let pair = execute_operands::after_pair(tp, m);
+    let next = execute_operands::grown_by_size(c, m);
+    let to = execute_operands::effective(next, q, pair, sys, io);
+    let n = decode::offset_length(q);
+    let v = execute_operands::operand(at, m.wide, sys, io);
+    let ok = execute_operands::lent(execute_operands::onward(pair, 2), n, sys, io)
+        & execute_operands::lent(at, execute_operands::size(m.wide), sys, io);
+    Effect {
+        number: execute_operands::two_unless(ok),
+        channel: execute_operands::further(execute_operands::grown_by_size(next, q), n),
+        change: changes::result(to, m.wide, v),
+    }
+}
+
+// MOV M,M.
+pub fn mov_memory(c: Channel, tp: Pointer, m: Memory, sys: &[u8], io: &[u8]) -> Effect
+    ensures { λ r. ⌜ r ≡ effectOf (buffers (now (sys .entry)) (now (io .entry))) (movMemoryDeed (buffers (now (sys .entry)) (now (io .entry))) c tp m) ⌝ }
+{
+    let pair = execute_operands::after_pair(tp, m);
+    let second = decode::decode_second(
+        execute_operands::byte(pair, sys, io),
+        execute_operands::byte(execute_operands::onward(pair, 1), sys, io),
+        m.wide,
+    );
+    let Second::Operand(q) = second else {
+        return Effect {
+            number: 3,
+            channel: c,
+            change: Change::Nothing,
+        };
+    };
+    mov_operand(c, tp, m, q, sys, io)
+}

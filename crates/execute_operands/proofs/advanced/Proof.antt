@@ -1,0 +1,22 @@
+-- `operands::advanced` meets its contract.
+-- Assumes nothing.
+use borrow.Author.Needs.{needs}
+use Rattle.execute_operands.specs.Operands.{onward, renewed, pastInstruction}
+use Rattle.execute_operands.proofs.advanced.Statement.{statement}
+use Rattle.execute_operands.proofs.advanced.Tie as tie
+
+used-up-requires : tie.Need-used-up-requires
+used-up-requires c κs = search needs
+
+onward-requires : tie.Need-onward-requires
+onward-requires c κs = search needs
+
+renewed-requires : tie.Need-renewed-requires
+renewed-requires c κs = search needs
+
+returns : tie.Need-returns
+unfolding pastInstruction
+returns c = simp (c .renewed .ensures, c .before .onward .ensures, c .before .before .used-up .ensures)
+
+pub advanced-spec : {M : Type 1} → statement M
+advanced-spec = tie.close (tie.spec used-up-requires onward-requires renewed-requires returns)

@@ -1,0 +1,137 @@
+-- Where the operands of an instruction lie, how IX grows, what an operand is worth, and what the instructions work out of two or one.
+use mathlib.Core.Bool.{Bool, true, false, not}
+use mathlib.Core.List.{List}
+use Prim.Native.Nat.{ℕ, _+_, _-_, _%_}
+use lib.Bits.{bitAnd, bitOr}
+use lib.Dec.{eqb}
+use lib.IntN.{ℤ}
+use Rattle.words.specs.Choice.{pick}
+use Rattle.words.specs.Sums.{sum20}
+use Rattle.words.specs.Signs.{signedOf, extended, displacedBy}
+use Rattle.memory.specs.Buffers.{Buffers, byteAt}
+use Rattle.memory.specs.Values.{pointer, wordAt}
+use Rattle.memory.specs.Places.{Place, span, allLent}
+use Rattle.memory.specs.declared.Pointer.{Pointer}
+use Rattle.machine.specs.declared.Channel.{Channel}
+use Rattle.machine.specs.declared.Mode.{Mode}
+use Rattle.machine.specs.Outcomes.{unless}
+use Rattle.machine.specs.Psw.{withPsw}
+use Rattle.machine.specs.Registers.{baseOf}
+use Rattle.decode.specs.Lengths.{offsetLength}
+use Rattle.decode_shapes.specs.declared.Memory.{Memory}
+use Rattle.decode_shapes.specs.declared.Work.{Work}
+use Rattle.decode_shapes.specs.declared.Work.the-variants.{Mov, Add, Or, And}
+use Rattle.decode_shapes.specs.declared.Single.{Single}
+use Rattle.decode_shapes.specs.declared.Single.the-variants.{Inc, Dec}
+
+-- a place n bytes on, in the same space
+unfoldable pub onward : Pointer → ℕ → Pointer
+onward p n = pointer (sum20 (p .address) n) (p .tag)
+
+-- the byte, the word and the places of n bytes at a place
+abbrev pub byteHere : Buffers → Pointer → ℕ
+byteHere m p = byteAt m (p .tag) (p .address)
+
+abbrev pub wordHere : Buffers → Pointer → ℕ
+wordHere m p = wordAt m (p .tag) (p .address)
+
+abbrev pub bytesAt : Pointer → ℕ → List Place
+bytesAt p n = span (p .tag) (p .address) n
+
+-- a channel with TP, IX, PSW, mode and mark renewed; no other register moves
+unfoldable pub renewed : Channel → Pointer → ℕ → ℕ → Mode → Bool → Channel
+renewed c tp ix psw mode armed =
+    record {
+      ga = c .ga;
+      gb = c .gb;
+      gc = c .gc;
+      tp = tp;
+      pp = c .pp;
+      bc = c .bc;
+      ix = ix;
+      cc = c .cc;
+      mc = c .mc;
+      psw = psw;
+      mode = mode;
+      armed = armed;
+    }
+
+-- the PSW once a mark is used up: "after the next instruction XF is 1 and the mark gone"
+unfoldable pub usedUp : Bool → ℕ → ℕ
+usedUp armed psw = pick armed (withPsw psw 6 true) psw
+
+-- "TP already points past it", and its mark is used up
+unfoldable pub pastInstruction : Channel → ℕ → Channel
+pastInstruction c n =
+    renewed c (onward (c .tp) n) (c .ix) (usedUp (c .armed) (c .psw)) (c .mode) false
+
+-- TP moved on once more, past the offset byte of a second pair
+unfoldable pub further : Channel → ℕ → Channel
+further c n = renewed c (onward (c .tp) n) (c .ix) (c .psw) (c .mode) (c .armed)
+
+-- a byte or a word
+abbrev pub sizeOf : Bool → ℕ
+sizeOf wide = pick wide 2 1
+
+-- "AA: 0 base; 1 base + unsigned byte; 2 base + IX (unsigned); 3 the same": what is added to the base, the byte standing after the pair
+unfoldable pub indexed : Buffers → Channel → Memory → Pointer → ℕ
+indexed m c o pair = pick (eqb (o .aa) 0) 0 (pick (eqb (o .aa) 1) (byteHere m (onward pair 2)) (c .ix))
+
+-- the place of a memory operand whose pair is at `pair`
+unfoldable pub effective : Buffers → Channel → Memory → Pointer → Pointer
+effective m c o pair = onward (baseOf c (o .mm)) (indexed m c o pair)
+
+-- "3 the same, then IX grows"
+unfoldable pub grown : Channel → Memory → ℕ → Channel
+grown c o by = renewed c (c .tp) (pick (eqb (o .aa) 3) ((c .ix + by) % 65536) (c .ix)) (c .psw) (c .mode) (c .armed)
+
+-- "Byte and word operands are sign-extended to 20 bits"
+unfoldable pub operandAt : Buffers → Pointer → Bool → ℕ
+operandAt m p wide = pick wide (extended 16 (wordHere m p)) (extended 8 (byteHere m p))
+
+-- a displacement of one byte or two
+unfoldable pub displacementAt : Buffers → Pointer → Bool → ℤ
+displacementAt m p two = pick two (signedOf 16 (wordHere m p)) (signedOf 8 (byteHere m p))
+
+-- "Displacements are signed, from the instruction's end": a jump by the displacement at a place
+unfoldable pub jumped : Buffers → Channel → Pointer → Bool → Channel
+jumped m c p two =
+    renewed c (pointer (displacedBy (c .tp .address) (displacementAt m p two)) (c .tp .tag)) (c .ix) (c .psw) (c .mode) (c .armed)
+
+-- a jump that is taken where a test says so
+unfoldable pub jumpedIf : Bool → Buffers → Channel → Pointer → Bool → Channel
+jumpedIf taken m c p two = pick taken (jumped m c p two) c
+
+-- a test, or its opposite
+abbrev pub agrees : Bool → Bool → Bool
+agrees wanted found = pick wanted found (not found)
+
+-- what two operands give; the result loses its high bits where it is written
+unfoldable pub workOf : Work → ℕ → ℕ → ℕ
+workOf Mov a b = b
+workOf Add a b = sum20 a b
+workOf Or a b = bitOr a b
+workOf And a b = bitAnd a b
+workOf Work.Not a b = 1048575 - b % 1048576
+
+-- what one operand gives
+unfoldable pub singleOf : Single → ℕ → ℕ
+singleOf Single.Not a = 1048575 - a % 1048576
+singleOf Inc a = sum20 a 1
+singleOf Dec a = sum20 a 1048575
+
+-- a move only replaces, all other work reads first
+unfoldable pub isMove : Work → Bool
+isMove Mov = true
+isMove Add = false
+isMove Or = false
+isMove And = false
+isMove Work.Not = false
+
+-- the number of n bytes read at a place
+unfoldable pub readNumber : Buffers → Pointer → ℕ → ℕ
+readNumber m p n = unless (allLent m (bytesAt p n)) 2
+
+-- where data or displacement stands: after the pair and its offset byte
+abbrev pub afterPair : Pointer → Memory → Pointer
+afterPair tp o = onward tp (2 + offsetLength o)

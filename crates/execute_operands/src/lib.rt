@@ -1,0 +1,262 @@
+// Places, the operands that lie there, what the instructions work out of them, and what they store.
+use decode_shapes::Memory;
+use decode_shapes::Single;
+use decode_shapes::Work;
+use machine::Channel;
+use machine::Mode;
+use memory::Pointer;
+
+// What an instruction stores.
+pub mod changes;
+
+ghost use mathlib.Core.Path.{_≡_};
+ghost use Rattle.memory.specs.Buffers.{buffers};
+ghost use Rattle.memory.specs.Places.{allLent};
+ghost use Rattle.words.specs.Signs.{displacedBy};
+ghost use Rattle.machine.specs.Outcomes.{unless};
+ghost use Rattle.execute_operands.specs.Operands as Operands;
+ghost use Rattle.execute_operands.specs.Operands.{byteHere, wordHere, bytesAt, sizeOf, operandAt, displacementAt, jumpedIf, workOf, singleOf, isMove, readNumber};
+
+// What an instruction stores, at one place.
+pub enum Change {
+    Nothing,
+    Byte(Pointer, u8),
+    Word(Pointer, u16),
+    Stored(Pointer, Pointer),
+}
+
+// The place n bytes on.
+pub fn onward(p: Pointer, n: u32) -> Pointer
+    ensures { λ r. ⌜ r ≡ Operands.onward p n ⌝ }
+{
+    Pointer {
+        address: words::sum20(p.address, n),
+        tag: p.tag,
+    }
+}
+
+// The byte at a place.
+pub fn byte(p: Pointer, sys: &[u8], io: &[u8]) -> u8
+    ensures { λ r. ⌜ r ≡ byteHere (buffers (now (sys .entry)) (now (io .entry))) p ⌝ }
+{
+    memory::byte(sys, io, p.tag, p.address)
+}
+
+// The word at a place.
+pub fn word(p: Pointer, sys: &[u8], io: &[u8]) -> u16
+    ensures { λ r. ⌜ r ≡ wordHere (buffers (now (sys .entry)) (now (io .entry))) p ⌝ }
+{
+    memory::word(sys, io, p.tag, p.address)
+}
+
+// Whether n bytes at a place are lent.
+pub fn lent(p: Pointer, n: u32, sys: &[u8], io: &[u8]) -> bool
+    ensures { λ r. ⌜ r ≡ allLent (buffers (now (sys .entry)) (now (io .entry))) (bytesAt p n) ⌝ }
+{
+    memory::span_lent(sys, io, p.tag, p.address, n)
+}
+
+// The channel with TP, IX, PSW, mode and mark renewed.
+pub fn renewed(c: Channel, tp: Pointer, ix: u16, psw: u8, mode: Mode, armed: bool) -> Channel
+    ensures { λ r. ⌜ r ≡ Operands.renewed c tp ix psw mode armed ⌝ }
+{
+    let ga = c.ga;
+    let gb = c.gb;
+    let gc = c.gc;
+    Channel {
+        ga,
+        gb,
+        gc,
+        tp,
+        pp: c.pp,
+        bc: c.bc,
+        ix,
+        cc: c.cc,
+        mc: c.mc,
+        psw,
+        mode,
+        armed,
+    }
+}
+
+// The PSW once a mark is used up.
+fn used_up(armed: bool, psw: u8) -> u8
+    ensures { λ r. ⌜ r ≡ Operands.usedUp armed psw ⌝ }
+{
+    if armed {
+        machine::psw::with(psw, machine::psw::XF, true)
+    } else {
+        psw
+    }
+}
+
+// The channel with TP past an instruction of n bytes, and its mark used up.
+pub fn advanced(c: Channel, n: u32) -> Channel
+    ensures { λ r. ⌜ r ≡ Operands.pastInstruction c n ⌝ }
+{
+    let psw = used_up(c.armed, c.psw);
+    let mode = c.mode;
+    renewed(c, onward(c.tp, n), c.ix, psw, mode, false)
+}
+
+// The channel with TP moved on by n more bytes.
+pub fn further(c: Channel, n: u32) -> Channel
+    ensures { λ r. ⌜ r ≡ Operands.further c n ⌝ }
+{
+    let mut next = c;
+    next.tp = onward(c.tp, n);
+    next
+}
+
+// The bytes of a byte or a word.
+pub fn size(wide: bool) -> u32
+    ensures { λ r. ⌜ r ≡ sizeOf wide ⌝ }
+{
+    if wide { 2 } else { 1 }
+}
+
+// What AA adds to the base.
+fn index(c: Channel, m: Memory, pair: Pointer, sys: &[u8], io: &[u8]) -> u32
+    ensures { λ r. ⌜ r ≡ Operands.indexed (buffers (now (sys .entry)) (now (io .entry))) c m pair ⌝ }
+{
+    let aa = m.aa;
+    if aa == 0 {
+        return 0;
+    }
+    if aa == 1 {
+        return byte(onward(pair, 2), sys, io) as u32;
+    }
+    c.ix as u32
+}
+
+// The place of a memory operand whose pair is at `pair`.
+pub fn effective(c: Channel, m: Memory, pair: Pointer, sys: &[u8], io: &[u8]) -> Pointer
+    ensures { λ r. ⌜ r ≡ Operands.effective (buffers (now (sys .entry)) (now (io .entry))) c m pair ⌝ }
+{
+    onward(
+        machine::registers::base(c, m.mm),
+        index(c, m, pair, sys, io),
+    )
+}
+
+// The channel with IX grown where AA is 11.
+pub fn grown(c: Channel, m: Memory, by: u16) -> Channel
+    ensures { λ r. ⌜ r ≡ Operands.grown c m by ⌝ }
+{
+    let mut next = c;
+    if m.aa == 3 {
+        next.ix = std::num::wrapping_add_u16(c.ix, by);
+    }
+    next
+}
+
+// The operand at a place, sign-extended to 20 bits.
+pub fn operand(p: Pointer, wide: bool, sys: &[u8], io: &[u8]) -> u32
+    ensures { λ r. ⌜ r ≡ operandAt (buffers (now (sys .entry)) (now (io .entry))) p wide ⌝ }
+{
+    if wide {
+        words::extend_word(word(p, sys, io))
+    } else {
+        words::extend_byte(byte(p, sys, io))
+    }
+}
+
+// Where a jump by the displacement at a place leads.
+fn target(from: u32, p: Pointer, two: bool, sys: &[u8], io: &[u8]) -> u32
+    ensures { λ r. ⌜ r ≡ displacedBy from (displacementAt (buffers (now (sys .entry)) (now (io .entry))) p two) ⌝ }
+{
+    if two {
+        words::displaced_word(from, word(p, sys, io))
+    } else {
+        words::displaced_byte(from, byte(p, sys, io))
+    }
+}
+
+// The channel after a jump by the displacement at a place, from where TP points.
+pub fn jumped(c: Channel, p: Pointer, two: bool, sys: &[u8], io: &[u8]) -> Channel
+    ensures { λ r. ⌜ r ≡ Operands.jumped (buffers (now (sys .entry)) (now (io .entry))) c p two ⌝ }
+{
+    let tp = Pointer {
+        address: target(c.tp.address, p, two, sys, io),
+        tag: c.tp.tag,
+    };
+    let mut next = c;
+    next.tp = tp;
+    next
+}
+
+// The channel after a jump that is taken or not.
+pub fn jumped_if(taken: bool, c: Channel, p: Pointer, two: bool, sys: &[u8], io: &[u8]) -> Channel
+    ensures { λ r. ⌜ r ≡ jumpedIf taken (buffers (now (sys .entry)) (now (io .entry))) c p two ⌝ }
+{
+    if taken { jumped(c, p, two, sys, io) } else { c }
+}
+
+// What two operands give.
+pub fn work(work: Work, a: u32, b: u32) -> u32
+    ensures { λ r. ⌜ r ≡ workOf work a b ⌝ }
+{
+    match work {
+        Work::Mov => b,
+        Work::Add => words::sum20(a, b),
+        Work::Or => a | b,
+        Work::And => a & b,
+        Work::Not => 1048575 - b % 1048576,
+    }
+}
+
+// What one operand gives.
+pub fn single(single: Single, a: u32) -> u32
+    ensures { λ r. ⌜ r ≡ singleOf single a ⌝ }
+{
+    match single {
+        Single::Not => 1048575 - a % 1048576,
+        Single::Inc => words::sum20(a, 1),
+        Single::Dec => words::sum20(a, 1048575),
+    }
+}
+
+// Whether work only replaces.
+pub fn is_move(work: Work) -> bool
+    ensures { λ r. ⌜ r ≡ isMove work ⌝ }
+{
+    match work {
+        Work::Mov => true,
+        Work::Add => false,
+        Work::Or => false,
+        Work::And => false,
+        Work::Not => false,
+    }
+}
+
+// The channel with IX grown by the operand's size where AA is 11.
+pub fn grown_by_size(c: Channel, m: Memory) -> Channel
+    ensures { λ r. ⌜ r ≡ Operands.grown c m (sizeOf (m .wide)) ⌝ }
+{
+    if m.wide {
+        grown(c, m, 2)
+    } else {
+        grown(c, m, 1)
+    }
+}
+
+// 2 where a test fails, else 0.
+pub fn two_unless(ok: bool) -> u32
+    ensures { λ r. ⌜ r ≡ unless ok 2 ⌝ }
+{
+    if ok { 0 } else { 2 }
+}
+
+// 2 where n bytes at a place are not all lent, else 0.
+pub fn read_number(p: Pointer, n: u32, sys: &[u8], io: &[u8]) -> u32
+    ensures { λ r. ⌜ r ≡ readNumber (buffers (now (sys .entry)) (now (io .entry))) p n ⌝ }
+{
+    two_unless(lent(p, n, sys, io))
+}
+
+// Where data or displacement stands: after the pair and its offset byte.
+pub fn after_pair(tp: Pointer, m: Memory) -> Pointer
+    ensures { λ r. ⌜ r ≡ Operands.afterPair tp m ⌝ }
+{
+    onward(tp, 2 + decode::offset_length(m))
+}

@@ -1,4 +1,0 @@
-pub mod Commands
-pub mod Blocks
-pub mod Touched
-pub mod Effects

@@ -1,0 +1,82 @@
+-- `answers::put` meets its contract.
+-- Assumes nothing.
+use Prim.Native.Nat.{ℕ}
+use borrow.Author.Needs.{needs}
+use denote.Ref.{now}
+use mathlib.Core.Bool.{Bool}
+use mathlib.Core.List.{List}
+use mathlib.Core.Path.{ap, _∙_}
+use Rattle.words.specs.Choice.{pick}
+use Rattle.memory.specs.Buffers.{buffers}
+use Rattle.script_text.specs.Buffers.{bytesWritten}
+use Rattle.script_answers.specs.Machine.{putOf, putInto}
+use Rattle.script_text.specs.Text.{spanned}
+use Rattle.script_answers.proofs.put.Statement.{statement}
+use Rattle.script_answers.proofs.put.Tie as tie
+
+fourth-word-requires : tie.Need-fourth-word-requires
+fourth-word-requires c κs = search needs
+
+sub-digits : tie.Need-sub-digits
+sub-digits c = search needs
+
+part-digits-start : tie.Need-part-digits-start
+part-digits-start c = search needs
+
+part-digits-end : tie.Need-part-digits-end
+part-digits-end c = search needs
+
+put-requires : tie.Need-put-requires
+put-requires c κs = search needs
+
+print-put-requires : tie.Need-print-put-requires
+print-put-requires c κs = search needs
+
+put-requires-2 : tie.Need-put-requires-2
+put-requires-2 c κs = search needs
+
+print-put-requires-2 : tie.Need-print-put-requires-2
+print-put-requires-2 c κs = search needs
+
+same-length : tie.Need-same-length
+same-length c = c .before .before .before .put .kept .0
+
+returns : tie.Need-returns
+unfolding putInto putOf
+returns c =
+    let a = c .before .before .before .before .before .before .before .before .before .before .before .args in
+    let p = c .before .before .before .put in
+    let w = c .before .before .before .before .before .before .before .fourth-word in
+    let digits = spanned (now (a .line)) (w .result) in
+    ap (buffers (now (a .sys))) (p .ensures .1 ∙ ap (λ (t : Bool). pick t (bytesWritten (now (a .io)) (a .address) digits) (now (a .io))) (p .ensures .0))
+    ∙ rw (c .before .before .before .before .before .if1 .taken, w .ensures .0)
+
+same-length-2 : tie.Need-same-length-2
+same-length-2 c = c .before .before .before .put2 .kept .0
+
+returns-2 : tie.Need-returns-2
+unfolding putInto putOf
+returns-2 c =
+    let a = c .before .before .before .before .before .before .before .before .before .before .before .args in
+    let p = c .before .before .before .put2 in
+    let w = c .before .before .before .before .before .before .before .fourth-word in
+    let digits = spanned (now (a .line)) (w .result) in
+    ap (λ (l : List ℕ). buffers l (now (a .io))) (p .ensures .1 ∙ ap (λ (t : Bool). pick t (bytesWritten (now (a .sys)) (a .address) digits) (now (a .sys))) (p .ensures .0))
+    ∙ rw (c .before .before .before .before .before .if1 .left, w .ensures .0)
+
+pub put-spec : {M : Type 1} → statement M
+put-spec =
+    tie.close
+    (tie.spec
+    fourth-word-requires
+    sub-digits
+    part-digits-start
+    part-digits-end
+    put-requires
+    print-put-requires
+    put-requires-2
+    print-put-requires-2
+    same-length
+    returns
+    same-length-2
+    returns-2)

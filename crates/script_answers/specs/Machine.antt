@@ -1,0 +1,56 @@
+-- What a call makes of the machine: its state and the bytes that are lent.
+use mathlib.Core.Bool.{Bool}
+use mathlib.Core.List.{List}
+use Prim.Native.Nat.{ℕ}
+use lib.ListN.{length, replicate}
+use Rattle.words.specs.Choice.{pick}
+use Rattle.memory.specs.Buffers.{Buffers, buffers}
+use Rattle.machine.specs.declared.State.{State}
+use Rattle.machine.specs.States.{freshOf}
+use Rattle.attention.specs.Attention.{attentionOf}
+use Rattle.step.specs.Step.{stepOf}
+use Rattle.script_text.specs.declared.text.Call.{Call}
+use Rattle.script_text.specs.declared.text.Call.the-variants.{Nothing, Unknown, Make, Put, Set, Attention, Step, Dump, Show}
+use Rattle.script_text.specs.Text.{spanned, fourthSpan}
+use Rattle.script_text.specs.Registers.{withNamed}
+use Rattle.script_text.specs.Buffers.{bytesWritten, hasRoom}
+
+-- the state and both memories
+pub record Machine : Type 0 where
+  pub state : State
+  pub memory : Buffers
+
+abbrev pub machine : State → Buffers → Machine
+machine s m = record { state = s; memory = m }
+
+-- `make`, in buffers that have their new lengths: all bytes 0, and a fresh state
+unfoldable pub remade : Buffers → ℕ → Machine
+remade m cp = machine (freshOf cp .state) (buffers (replicate (length (m .sys)) 0) (replicate (length (m .io)) 0))
+
+-- a buffer after `put`; as it was where a byte would lie past its end
+unfoldable pub putOf : List ℕ → ℕ → List ℕ → List ℕ
+putOf s at digits = pick (hasRoom s at digits) (bytesWritten s at digits) s
+
+-- "the system (SPACE 0) or the I/O buffer (SPACE 1)"
+unfoldable pub putInto : Buffers → Bool → ℕ → List ℕ → Buffers
+putInto m io at digits = pick io (buffers (m .sys) (putOf (m .io) at digits)) (buffers (putOf (m .sys) at digits) (m .io))
+
+-- `ca`
+unfoldable pub machineAttended : State → Buffers → ℕ → Machine
+machineAttended s m channel = machine (attentionOf s m channel .state) (attentionOf s m channel .memory)
+
+-- `step`
+unfoldable pub machineAdvanced : State → Buffers → ℕ → Machine
+machineAdvanced s m lines = machine (stepOf s m lines .state) (stepOf s m lines .memory)
+
+-- what the call of a line makes of the machine
+unfoldable pub callPerformed : Call → List ℕ → State → Buffers → Machine
+callPerformed Nothing line s m = machine s m
+callPerformed Unknown line s m = machine s m
+callPerformed (Make sys io cp) line s m = remade m cp
+callPerformed (Put space address) line s m = machine s (putInto m space address (spanned line (fourthSpan line)))
+callPerformed (Set channel register value) line s m = machine (withNamed s channel register value) m
+callPerformed (Attention channel) line s m = machineAttended s m channel
+callPerformed (Step lines) line s m = machineAdvanced s m lines
+callPerformed Dump line s m = machine s m
+callPerformed (Show space address) line s m = machine s m

@@ -1,0 +1,16 @@
+-- `bench::registers::with_mode` meets its contract.
+-- Assumes nothing.
+use Rattle.script_text.specs.Registers.{withRaw, pointerSet}
+use borrow.Author.Needs.{needs}
+use Rattle.script_text.proofs.registers.with_mode.Statement.{statement}
+use Rattle.script_text.proofs.registers.with_mode.Tie as tie
+
+mode-of-requires : tie.Need-mode-of-requires
+mode-of-requires c κs = search needs
+
+returns : tie.Need-returns
+unfolding withRaw pointerSet
+returns c = simp (c .mode-of .ensures)
+
+pub with-mode-spec : {M : Type 1} → statement M
+with-mode-spec = tie.close (tie.spec mode-of-requires returns)

@@ -1,0 +1,42 @@
+-- `bench::registers::with_register` meets its contract.
+-- Assumes nothing.
+use Rattle.script_text.specs.Registers.{withNamed}
+use borrow.Author.Tests.{eq-eqb, ne-eqb}
+use borrow.Author.Needs.{needs}
+use Rattle.script_text.proofs.registers.with_register.Statement.{statement}
+use Rattle.script_text.proofs.registers.with_register.Tie as tie
+
+with-shared-requires : tie.Need-with-shared-requires
+with-shared-requires c κs = search needs
+
+returns : tie.Need-returns
+unfolding withNamed
+returns c = simp (c .with-shared .ensures, c .before .if1 .taken, eq-eqb _ _ (c .before .if1 .taken))
+
+is-second-requires : tie.Need-is-second-requires
+is-second-requires c κs = search needs
+
+channel-requires : tie.Need-channel-requires
+channel-requires c κs = search needs
+
+with-raw-requires : tie.Need-with-raw-requires
+with-raw-requires c κs = search needs
+
+with-channel-requires : tie.Need-with-channel-requires
+with-channel-requires c κs = search needs
+
+returns-2 : tie.Need-returns-2
+unfolding withNamed
+returns-2 c = simp (c .with-channel .ensures, c .before .with-raw .ensures, c .before .before .channel .ensures, c .before .before .before .is-second .ensures, ne-eqb _ _ (c .before .before .before .before .if1 .left))
+
+pub with-register-spec : {M : Type 1} → statement M
+with-register-spec =
+    tie.close
+    (tie.spec
+    with-shared-requires
+    returns
+    is-second-requires
+    channel-requires
+    with-raw-requires
+    with-channel-requires
+    returns-2)

@@ -1,0 +1,80 @@
+-- The call that a line is: nothing where it is passed over, unknown where it is no call, or one that its words alone shut out.
+use mathlib.Core.Bool.{Bool}
+use mathlib.Core.List.{List}
+use Prim.Native.Nat.{ℕ, _≤_}
+use lib.Dec.{ltb, leb, eqb}
+use lib.ListN.{getD}
+use Rattle.words.specs.Choice.{pick}
+use Rattle.script_text.specs.declared.text.Call.{Call}
+use Rattle.script_text.specs.declared.text.Call.the-variants.{Nothing, Unknown, Make, Put, Set, Attention, Step, Dump, Show}
+use Rattle.script_text.specs.declared.text.Words.{Words}
+use Rattle.script_text.specs.Names.{'none, 'make, 'put, 'set, 'ca, 'step, 'dump, 'show}
+use Rattle.script_text.specs.Text.{noNumber, wordsOf}
+use Rattle.script_text.specs.Registers.{fitsRegister}
+
+-- a call where a test holds
+abbrev pub only : Bool → Call → Call
+only test call = pick test call Unknown
+
+-- `make SYS IO CP`
+unfoldable pub makeCall : ℕ → ℕ → ℕ → ℕ → Call
+makeCall sys io cp after =
+    only (eqb after 'none) (only (leb sys 0x100001) (only (leb io 0x10001) (only (ltb cp noNumber) (Make sys io cp))))
+
+-- `put SPACE ADDRESS BYTES`, with `pairs` whether BYTES are pairs of digits
+unfoldable pub putCall : ℕ → ℕ → Bool → ℕ → Call
+putCall space address pairs after =
+    only (eqb after 'none) (only pairs (only (ltb space 2) (only (ltb address noNumber) (Put (eqb space 1) address))))
+
+-- `set CHANNEL REGISTER VALUE`
+unfoldable pub setCall : ℕ → ℕ → ℕ → ℕ → Call
+setCall channel register value after =
+    only (eqb after 'none)
+    (only (ltb channel noNumber)
+    (only (ltb value noNumber) (only (fitsRegister channel register value) (Set channel register value))))
+
+-- `ca CHANNEL`
+unfoldable pub attentionCall : ℕ → ℕ → Call
+attentionCall channel after = only (eqb after 'none) (only (ltb channel noNumber) (Attention channel))
+
+-- `step LINES`
+unfoldable pub stepCall : ℕ → ℕ → Call
+stepCall lines after = only (eqb after 'none) (only (ltb lines noNumber) (Step lines))
+
+-- `dump`
+unfoldable pub dumpCall : ℕ → Call
+dumpCall after = only (eqb after 'none) Dump
+
+-- `show SPACE ADDRESS`
+unfoldable pub showCall : ℕ → ℕ → ℕ → Call
+showCall space address after =
+    only (eqb after 'none) (only (ltb space 2) (only (ltb address noNumber) (Show (eqb space 1) address)))
+
+-- "The first word names the call"; behind its words no other stands
+unfoldable pub callFrom : Words → Call
+callFrom w =
+    let name = w .first .name in
+    pick (eqb name 'none) Nothing
+    (pick (eqb name 'make) (makeCall (w .second .number) (w .third .number) (w .fourth .number) (w .fifth .name))
+    (pick (eqb name 'put) (putCall (w .second .number) (w .third .number) (w .fourth .pairs) (w .fifth .name))
+    (pick (eqb name 'set) (setCall (w .second .number) (w .third .name) (w .fourth .number) (w .fifth .name))
+    (pick (eqb name 'ca) (attentionCall (w .second .number) (w .third .name))
+    (pick (eqb name 'step) (stepCall (w .second .number) (w .third .name))
+    (pick (eqb name 'dump) (dumpCall (w .second .name))
+    (pick (eqb name 'show) (showCall (w .second .number) (w .third .number) (w .fourth .name)) Unknown)))))))
+
+-- "An empty line, a line of spaces and a line whose first character is `#` are passed over"
+unfoldable pub callOf : List ℕ → Call
+callOf line = pick (eqb (getD line 0 0) 35) Nothing (callFrom (wordsOf line))
+
+-- "SYS over 100001, IO over 10001": no call lends more
+abbrev pub Limited : Call → Type 0
+Limited (Make sys io cp) = (sys ≤ 0x100001) × (io ≤ 0x10001)
+Limited Nothing = Unit {0}
+Limited Unknown = Unit {0}
+Limited (Put space address) = Unit {0}
+Limited (Set channel register value) = Unit {0}
+Limited (Attention channel) = Unit {0}
+Limited (Step lines) = Unit {0}
+Limited Dump = Unit {0}
+Limited (Show space address) = Unit {0}

@@ -1,0 +1,5 @@
+pub mod Names
+pub mod Registers
+pub mod Text
+pub mod Calls
+pub mod Buffers

@@ -1,0 +1,24 @@
+-- `turns::ends_now` meets its contract.
+-- Assumes nothing.
+use borrow.Author.Needs.{needs}
+use Rattle.machine.specs.Psw.{transferring}
+use Rattle.step.specs.Choosing.{endsNow}
+use Rattle.step.proofs.turns.ends_now.Statement.{statement}
+use Rattle.step.proofs.turns.ends_now.Tie as tie
+
+is-running-requires : tie.Need-is-running-requires
+is-running-requires c κs = search needs
+
+transferring-requires : tie.Need-transferring-requires
+transferring-requires c κs = search needs
+
+external-end-requires : tie.Need-external-end-requires
+external-end-requires c κs = search needs
+
+returns : tie.Need-returns
+unfolding endsNow
+returns c = simp (c .external-end .ensures, c .before .transferring .ensures, c .before .before .is-running .ensures)
+
+pub ends-now-spec : {M : Type 1} → statement M
+ends-now-spec =
+    tie.close (tie.spec is-running-requires transferring-requires external-end-requires returns)

@@ -1,0 +1,61 @@
+-- Who can step, in the paper's words.
+use Prim.Native.Nat.{ℕ}
+use mathlib.Core.Bool.{Bool, true, false}
+use mathlib.Core.Logic.{_⊎_}
+use mathlib.Core.Path.{_≡_}
+use Rattle.machine.specs.Cc.{synchronised, chained, externalEnd}
+use Rattle.machine.specs.Psw.{transferring}
+use Rattle.machine.specs.States.{channelOf}
+use Rattle.machine.specs.declared.Channel.{Channel}
+use Rattle.machine.specs.declared.Mode.the-variants.{Running}
+use Rattle.machine.specs.declared.State.{State}
+use Rattle.step.specs.Choosing.{requested, external, rankOf}
+
+-- "A running channel with XF, TX not 00 and its EXT up"
+abbrev pub EndsNow : Channel → Bool → Type 0
+EndsNow c ext = (c .mode ≡ Running) × (transferring (c .psw) ≡ true) × ¬ (externalEnd (c .cc) ≡ 0) × (ext ≡ true)
+
+-- "XF with SYN 00, or its DRQ up, or SYN 11"
+abbrev pub MayMove : Channel → Bool → Type 0
+MayMove c drq = (transferring (c .psw) ≡ true) × ((synchronised (c .cc) ≡ 0) ⊎ ((drq ≡ true) ⊎ (synchronised (c .cc) ≡ 3)))
+
+-- "no XF and CC bit 8 (chained)"
+abbrev pub ChainedProgram : Channel → Type 0
+ChainedProgram c = (transferring (c .psw) ≡ false) × (chained (c .cc) ≡ true)
+
+-- rank 1, of a running channel
+abbrev pub RankOne : Channel → Bool → Type 0
+RankOne c drq = (c .mode ≡ Running) × (MayMove c drq ⊎ ChainedProgram c)
+
+-- "Rank 3: no XF, not chained", of a running channel
+abbrev pub RankThree : Channel → Type 0
+RankThree c = (c .mode ≡ Running) × (transferring (c .psw) ≡ false) × (chained (c .cc) ≡ false)
+
+-- a channel that has a rank
+abbrev pub HasRank : Channel → Bool → Type 0
+HasRank c drq = RankOne c drq ⊎ RankThree c
+
+-- "XF waiting for DRQ: none", and no external end
+abbrev pub Waits : Channel → Bool → Bool → Type 0
+Waits c drq ext = (transferring (c .psw) ≡ true) × ((synchronised (c .cc) ≡ 1) ⊎ (synchronised (c .cc) ≡ 2)) × (drq ≡ false) × ¬ (EndsNow c ext)
+
+-- the same of a state's channel, with the lines as given
+abbrev pub ExternalAt : State → ℕ → Bool → Type 0
+ExternalAt s lines second = EndsNow (channelOf s second) (external lines second)
+
+abbrev pub RankedAt : State → ℕ → Bool → Type 0
+RankedAt s lines second = HasRank (channelOf s second) (requested lines second)
+
+abbrev pub WaitsAt : State → ℕ → Bool → Type 0
+WaitsAt s lines second = Waits (channelOf s second) (requested lines second) (external lines second)
+
+abbrev pub rankAt : State → ℕ → Bool → ℕ
+rankAt s lines second = rankOf (channelOf s second) (requested lines second)
+
+-- no channel's transfer ends by its EXT
+abbrev pub NoneEnds : State → ℕ → Type 0
+NoneEnds s lines = (second : Bool) → ¬ (ExternalAt s lines second)
+
+-- 1: "no channel can run"
+abbrev pub NoneRuns : State → ℕ → Type 0
+NoneRuns s lines = (second : Bool) → ¬ (ExternalAt s lines second ⊎ RankedAt s lines second)
