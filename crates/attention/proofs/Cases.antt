@@ -19,7 +19,8 @@ use Rattle.words.specs.Bits.{fieldOf, bitOf, withBit}
 use Rattle.attention.specs.Attention.{orderTo, orderNumber, orderedChannel, orderedMemory, givenTo, attentionNumber, attentionOf}
 use Rattle.attention.specs.Blocks.{ccwOf, parameterBlock, orderOf}
 use Rattle.attention.specs.Commands.{commandCoded, isKnown, modeNumber, commandNumber, copied, obeyed, ordered}
-use Rattle.attention.specs.Effects.{withControl, started, stopped, resumed, commanded, channelOrdered, writesOf, saved, marked, writesMade}
+use Rattle.attention.specs.Effects.{started, stopped, resumed, commanded, channelOrdered, writesOf, saved, marked, writesMade}
+use Rattle.machine.specs.Updates.{withControl}
 use Rattle.attention.specs.Pauses.{Pause}
 use Rattle.attention.specs.Touched.{readBy, storedBy, others}
 

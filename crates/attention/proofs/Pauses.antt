@@ -31,7 +31,8 @@ use Rattle.machine.proofs.ConditionLaws.{first-none-left, first-none-right, unl
 use Rattle.attention.specs.Attention.{orderTo, orderNumber, orderedChannel, orderedMemory, givenTo, attentionNumber, attentionOf}
 use Rattle.attention.specs.Blocks.{busyOf, parameterBlock, orderOf}
 use Rattle.attention.specs.Commands.{isKnown, modeNumber, commandNumber, copied, obeyed, ordered}
-use Rattle.attention.specs.Effects.{withControl, stopped, resumed, commanded, channelOrdered, writesOf, saved, marked, writesMade}
+use Rattle.attention.specs.Effects.{stopped, resumed, commanded, channelOrdered, writesOf, saved, marked, writesMade}
+use Rattle.machine.specs.Updates.{withControl}
 use Rattle.attention.specs.Pauses.{Pause}
 use Rattle.attention.specs.Touched.{readBy, storedBy, others}
 use Rattle.attention.specs.declared.Command.the-variants.{Suspend, Resume}

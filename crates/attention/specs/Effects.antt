@@ -5,6 +5,7 @@ use Rattle.words.specs.Choice.{pick}
 use Rattle.memory.specs.Buffers.{Buffers, byteAt, storeByte}
 use Rattle.memory.specs.Values.{wordAt, doublewordAt, pointer, pointerAt, storePointer}
 use Rattle.memory.specs.declared.Pointer.{Pointer}
+use Rattle.machine.specs.Updates.{withControl}
 use Rattle.machine.specs.Psw.{withPsw}
 use Rattle.machine.specs.declared.Channel.{Channel}
 use Rattle.machine.specs.declared.Mode.{Mode}
@@ -16,24 +17,6 @@ use Rattle.attention.specs.declared.Order.{Order}
 use Rattle.attention.specs.declared.Writes.{Writes}
 use Rattle.attention.specs.Blocks.{busyOf}
 use Rattle.attention.specs.Commands.{ordered}
-
--- a channel with other TP, PP, PSW, mode and armed mark, which are all that a command can change; "No other register moves"
-unfoldable pub withControl : Channel → Pointer → ℕ → ℕ → Mode → Bool → Channel
-withControl c tp pp psw mode armed =
-    record {
-      ga = c .ga;
-      gb = c .gb;
-      gc = c .gc;
-      tp = tp;
-      pp = pp;
-      bc = c .bc;
-      ix = c .ix;
-      cc = c .cc;
-      mc = c .mc;
-      psw = psw;
-      mode = mode;
-      armed = armed;
-    }
 
 -- what a command decides of those: all but PP
 abbrev pub control : Pointer → ℕ → Mode → Bool → Control

@@ -7,12 +7,13 @@ use crate::commands;
 use machine::Channel;
 use machine::Mode;
 use machine::psw;
+use machine::updates;
 use memory::Pointer;
 ghost use mathlib.Core.Path.{_≡_};
 ghost use Rattle.words.specs.Choice.{pick};
 ghost use Rattle.memory.specs.Buffers.{buffers};
 ghost use Rattle.attention.specs.Effects as Effects;
-ghost use Rattle.attention.specs.Effects.{withControl, channelOrdered, writesOf, saved, marked, writesMade};
+ghost use Rattle.attention.specs.Effects.{channelOrdered, writesOf, saved, marked, writesMade};
 
 // The control registers after a start.
 fn started(k: Control, tp: Pointer) -> Control
@@ -81,31 +82,6 @@ fn commanded(sys: &[u8], io: &[u8], command: Command, pb: u32, k: Control) -> Co
     }
 }
 
-// The channel with the registers changed that a command can change.
-fn with_control(c: Channel, k: Control, pp: u32, psw: u8) -> Channel
-    ensures { λ r. ⌜ r ≡ withControl c (k .tp) pp psw (k .mode) (k .armed) ⌝ }
-{
-    let ga = c.ga;
-    let gb = c.gb;
-    let gc = c.gc;
-    let tp = k.tp;
-    let mode = k.mode;
-    Channel {
-        ga,
-        gb,
-        gc,
-        tp,
-        pp,
-        bc: c.bc,
-        ix: c.ix,
-        cc: c.cc,
-        mc: c.mc,
-        psw,
-        mode,
-        armed: k.armed,
-    }
-}
-
 // The channel after an accepted order.
 pub fn channel_ordered(sys: &[u8], io: &[u8], o: Order, c: Channel) -> Channel
     ensures { λ r. ⌜ r ≡ channelOrdered (buffers (now (sys .entry)) (now (io .entry))) o c ⌝ }
@@ -120,7 +96,15 @@ pub fn channel_ordered(sys: &[u8], io: &[u8], o: Order, c: Channel) -> Channel
         armed: c.armed,
     };
     let k = commanded(sys, io, command, o.pb, before);
-    with_control(c, k, o.pb, commands::ordered(o.ccw, k.psw))
+    let after = k.mode;
+    updates::with_control(
+        c,
+        k.tp,
+        o.pb,
+        commands::ordered(o.ccw, k.psw),
+        after,
+        k.armed,
+    )
 }
 
 // What an order stores, with what it needs for that.

@@ -37,7 +37,9 @@ use Rattle.execute_deeds.specs.Control.{withStatus, nopDeed, sintrDeed, xferDee
 use Rattle.execute_deeds.specs.Deeds.{effectOf}
 use Rattle.execute_deeds.specs.JumpForms.{jumpRegisterDeed, jumpMemoryDeed, jumpByteDeed, jumpMaskedDeed, jumpBitDeed, tslDeed, callDeed}
 use Rattle.execute_deeds.specs.MemoryForms.{memoryWorkDeed, memoryRegisterDeed, memoryImmediateDeed, memoryAloneDeed, movpStoreDeed, bitDeed, movOperandDeed, movSecondDeed, movMemoryDeed}
-use Rattle.execute_operands.specs.Operands.{afterPair, onward, byteHere, bytesAt, renewed, usedUp, pastInstruction, further, sizeOf, effective, grown, displacementAt, jumped, jumpedIf, isMove}
+use Rattle.execute_operands.specs.Operands.{afterPair, byteHere, bytesAt, usedUp, pastInstruction, further, sizeOf, effective, grown, displacementAt, jumped, jumpedIf, isMove}
+use Rattle.machine.specs.Updates.{renewed}
+use Rattle.memory.specs.Values.{onward}
 use Rattle.execute_deeds.specs.RegisterForms.{registerWritten, registerImmediateDeed, registerDeed, registerMemoryDeed, lpdiDeed, lpdDeed, movpLoadDeed}
 use Rattle.machine.proofs.ConditionLaws.{first-none-right, unless-none}
 use Rattle.execute.specs.Execute.{decodedAt, performed, deedOf, laterBytes, shapeNumber, numberFrom, executeNumber, executeOf}

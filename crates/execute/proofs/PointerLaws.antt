@@ -21,7 +21,9 @@ use Rattle.words.specs.Sums.{sum20}
 use Rattle.execute_operands.specs.Changes.{placesOf, changed}
 use Rattle.execute_deeds.specs.JumpForms.{callDeed}
 use Rattle.execute_deeds.specs.MemoryForms.{movpStoreDeed}
-use Rattle.execute_operands.specs.Operands.{onward, bytesAt, renewed, pastInstruction, effective, grown}
+use Rattle.execute_operands.specs.Operands.{bytesAt, pastInstruction, effective, grown}
+use Rattle.machine.specs.Updates.{renewed}
+use Rattle.memory.specs.Values.{onward}
 use Rattle.execute_deeds.specs.RegisterForms.{movpLoadDeed}
 use Rattle.execute_operands.specs.declared.Change.the-variants.{Stored}
 use Rattle.execute.specs.Execute.{performed, deedOf}

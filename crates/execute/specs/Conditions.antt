@@ -14,7 +14,8 @@ use Rattle.decode_shapes.specs.declared.Decoded.the-variants.{Instruction, NoIn
 use Rattle.decode_shapes.specs.declared.Second.{Second}
 use Rattle.decode_shapes.specs.declared.Second.the-variants.{NoSecond}
 use Rattle.decode.specs.Reading.{secondOf}
-use Rattle.execute_operands.specs.Operands.{onward, byteHere, bytesAt, afterPair}
+use Rattle.execute_operands.specs.Operands.{byteHere, bytesAt, afterPair}
+use Rattle.memory.specs.Values.{onward}
 use Rattle.execute_operands.specs.Changes.{placesOf}
 use Rattle.execute.specs.Execute.{decodedAt, laterBytes, deedFrom}
 

@@ -17,7 +17,8 @@ use Rattle.decode.specs.Reading.{decodeOf}
 use Rattle.decode.specs.Lengths.{lengthOf}
 use Rattle.execute_operands.specs.declared.Change.the-variants.{Nothing}
 use Rattle.execute_deeds.specs.declared.Effect.{Effect}
-use Rattle.execute_operands.specs.Operands.{onward, byteHere, bytesAt, pastInstruction}
+use Rattle.execute_operands.specs.Operands.{byteHere, bytesAt, pastInstruction}
+use Rattle.memory.specs.Values.{onward}
 use Rattle.execute_operands.specs.Changes.{placesOf, changed}
 use Rattle.execute_deeds.specs.Deeds.{Deed, deed, effectOf}
 use Rattle.execute_deeds.specs.Control.{nopDeed, sintrDeed, xferDeed, widDeed, hltDeed}

@@ -149,7 +149,7 @@ fn shaped(shape: Shape, c: Channel, busy: u32, sys: &[u8], io: &[u8]) -> Effect
 {
     let tp = c.tp;
     let count = decode::length(shape);
-    if !execute_operands::lent(execute_operands::onward(tp, 2), count - 2, sys, io) {
+    if !execute_operands::lent(memory::onward(tp, 2), count - 2, sys, io) {
         return refused(c, 2);
     }
     let e = perform(
@@ -181,7 +181,7 @@ pub fn plan(c: Channel, busy: u32, sys: &[u8], io: &[u8]) -> Effect
     }
     let decoded = decode::decode(
         execute_operands::byte(tp, sys, io),
-        execute_operands::byte(execute_operands::onward(tp, 1), sys, io),
+        execute_operands::byte(memory::onward(tp, 1), sys, io),
     );
     let Decoded::Instruction(shape) = decoded else {
         return refused(c, decode::number(decoded));

@@ -8,7 +8,7 @@ use Rattle.machine.specs.declared.Channel.{Channel}
 use Rattle.machine.specs.declared.Mode.the-variants.{Idle}
 use Rattle.machine.specs.Psw.{interruptControl, withPsw}
 use Rattle.execute_operands.specs.declared.Change.the-variants.{Nothing, Byte}
-use Rattle.execute_operands.specs.Operands.{renewed}
+use Rattle.machine.specs.Updates.{renewed}
 use Rattle.execute_deeds.specs.Deeds.{Deed, deed}
 
 -- a channel with another PSW

@@ -12,7 +12,8 @@ use Rattle.machine.specs.declared.Channel.{Channel}
 use Rattle.machine.specs.Registers.{registerOf}
 use Rattle.decode_shapes.specs.declared.Memory.{Memory}
 use Rattle.execute_operands.specs.declared.Change.the-variants.{Nothing, Byte, Stored}
-use Rattle.execute_operands.specs.Operands.{afterPair, onward, byteHere, bytesAt, sizeOf, effective, grown, operandAt, jumped, jumpedIf, agrees}
+use Rattle.execute_operands.specs.Operands.{afterPair, byteHere, bytesAt, sizeOf, effective, grown, operandAt, jumped, jumpedIf, agrees}
+use Rattle.memory.specs.Values.{onward}
 use Rattle.execute_deeds.specs.Deeds.{Deed, deed}
 
 -- "JZ and JNZ on a register test its low 16 bits"

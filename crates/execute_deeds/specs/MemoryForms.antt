@@ -18,7 +18,8 @@ use Rattle.decode_shapes.specs.declared.Single.{Single}
 use Rattle.decode.specs.Reading.{secondOf}
 use Rattle.decode.specs.Lengths.{offsetLength}
 use Rattle.execute_operands.specs.declared.Change.the-variants.{Nothing, Byte, Stored}
-use Rattle.execute_operands.specs.Operands.{afterPair, onward, byteHere, bytesAt, further, sizeOf, effective, grown, operandAt, workOf, singleOf, isMove}
+use Rattle.execute_operands.specs.Operands.{afterPair, byteHere, bytesAt, further, sizeOf, effective, grown, operandAt, workOf, singleOf, isMove}
+use Rattle.memory.specs.Values.{onward}
 use Rattle.execute_operands.specs.Changes.{resultAt}
 use Rattle.execute_deeds.specs.Deeds.{Deed, deed}
 

@@ -12,7 +12,8 @@ use Rattle.decode_shapes.specs.declared.Memory.{Memory}
 use Rattle.decode_shapes.specs.declared.Work.{Work}
 use Rattle.decode_shapes.specs.declared.Single.{Single}
 use Rattle.execute_operands.specs.declared.Change.the-variants.{Nothing}
-use Rattle.execute_operands.specs.Operands.{onward, bytesAt, sizeOf, effective, grown, operandAt, workOf, singleOf, isMove}
+use Rattle.execute_operands.specs.Operands.{bytesAt, sizeOf, effective, grown, operandAt, workOf, singleOf, isMove}
+use Rattle.memory.specs.Values.{onward}
 use Rattle.execute_deeds.specs.Deeds.{Deed, deed}
 
 -- "MOV and MOVI to a pointer set its tag; .. arithmetic and logic keep it"

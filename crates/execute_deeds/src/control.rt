@@ -72,7 +72,7 @@ pub fn hlt(c: Channel, busy: u32) -> Effect
     let status = psw::with(psw::with(c.psw, psw::TB, false), psw::XF, false);
     Effect {
         number: 0,
-        channel: execute_operands::renewed(c, tp, c.ix, status, Mode::Idle, false),
+        channel: machine::updates::renewed(c, tp, c.ix, status, Mode::Idle, false),
         change: Change::Byte(
             Pointer {
                 address: busy,

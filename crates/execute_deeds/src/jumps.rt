@@ -34,14 +34,7 @@ pub fn jump_register(
     ensures { λ r. ⌜ r ≡ unread (jumpRegisterDeed (buffers (now (sys .entry)) (now (io .entry))) c tp zero rrr two) ⌝ }
 {
     let taken = agrees(zero, machine::registers::value(c, rrr) % 65536 == 0);
-    control::only(execute_operands::jumped_if(
-        taken,
-        c,
-        execute_operands::onward(tp, 2),
-        two,
-        sys,
-        io,
-    ))
+    control::only(execute_operands::jumped_if(taken, c, memory::onward(tp, 2), two, sys, io))
 }
 
 // JZ and JNZ on a memory operand.
@@ -148,7 +141,7 @@ pub fn tsl(c: Channel, tp: Pointer, m: Memory, sys: &[u8], io: &[u8]) -> Effect
             change: Change::Byte(at, execute_operands::byte(p, sys, io)),
         };
     }
-    let to = execute_operands::jumped(next, execute_operands::onward(p, 1), false, sys, io);
+    let to = execute_operands::jumped(next, memory::onward(p, 1), false, sys, io);
     registers::after(at, 1, to, sys, io)
 }
 

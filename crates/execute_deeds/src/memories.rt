@@ -142,7 +142,7 @@ fn mov_operand(c: Channel, tp: Pointer, m: Memory, q: Memory, sys: &[u8], io: &[
     let to = execute_operands::effective(next, q, pair, sys, io);
     let n = decode::offset_length(q);
     let v = execute_operands::operand(at, m.wide, sys, io);
-    let ok = execute_operands::lent(execute_operands::onward(pair, 2), n, sys, io)
+    let ok = execute_operands::lent(memory::onward(pair, 2), n, sys, io)
         & execute_operands::lent(at, execute_operands::size(m.wide), sys, io);
     Effect {
         number: execute_operands::two_unless(ok),
@@ -158,7 +158,7 @@ pub fn mov_memory(c: Channel, tp: Pointer, m: Memory, sys: &[u8], io: &[u8]) -> 
     let pair = execute_operands::after_pair(tp, m);
     let second = decode::decode_second(
         execute_operands::byte(pair, sys, io),
-        execute_operands::byte(execute_operands::onward(pair, 1), sys, io),
+        execute_operands::byte(memory::onward(pair, 1), sys, io),
         m.wide,
     );
     let Second::Operand(q) = second else {

@@ -48,7 +48,7 @@ pub fn register_immediate(
 ) -> Effect
     ensures { λ r. ⌜ r ≡ unread (registerImmediateDeed (buffers (now (sys .entry)) (now (io .entry))) c tp work rrr wide) ⌝ }
 {
-    let v = execute_operands::operand(execute_operands::onward(tp, 2), wide, sys, io);
+    let v = execute_operands::operand(memory::onward(tp, 2), wide, sys, io);
     control::only(write(
         work,
         c,
@@ -91,7 +91,7 @@ pub fn register_memory(
 pub fn lpdi(c: Channel, tp: Pointer, ppp: u32, sys: &[u8], io: &[u8]) -> Effect
     ensures { λ r. ⌜ r ≡ unread (lpdiDeed (buffers (now (sys .entry)) (now (io .entry))) c tp ppp) ⌝ }
 {
-    let at = execute_operands::onward(tp, 2);
+    let at = memory::onward(tp, 2);
     control::only(machine::registers::loaded(
         c,
         ppp,

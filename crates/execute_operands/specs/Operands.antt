@@ -9,12 +9,13 @@ use Rattle.words.specs.Choice.{pick}
 use Rattle.words.specs.Sums.{sum20}
 use Rattle.words.specs.Signs.{signedOf, extended, displacedBy}
 use Rattle.memory.specs.Buffers.{Buffers, byteAt}
-use Rattle.memory.specs.Values.{pointer, wordAt}
+use Rattle.memory.specs.Values.{pointer, onward, wordAt}
 use Rattle.memory.specs.Places.{Place, span, allLent}
 use Rattle.memory.specs.declared.Pointer.{Pointer}
 use Rattle.machine.specs.declared.Channel.{Channel}
 use Rattle.machine.specs.declared.Mode.{Mode}
 use Rattle.machine.specs.Outcomes.{unless}
+use Rattle.machine.specs.Updates.{renewed}
 use Rattle.machine.specs.Psw.{withPsw}
 use Rattle.machine.specs.Registers.{baseOf}
 use Rattle.decode.specs.Lengths.{offsetLength}
@@ -23,10 +24,6 @@ use Rattle.decode_shapes.specs.declared.Work.{Work}
 use Rattle.decode_shapes.specs.declared.Work.the-variants.{Mov, Add, Or, And}
 use Rattle.decode_shapes.specs.declared.Single.{Single}
 use Rattle.decode_shapes.specs.declared.Single.the-variants.{Inc, Dec}
-
--- a place n bytes on, in the same space
-unfoldable pub onward : Pointer → ℕ → Pointer
-onward p n = pointer (sum20 (p .address) n) (p .tag)
 
 -- the byte, the word and the places of n bytes at a place
 abbrev pub byteHere : Buffers → Pointer → ℕ
@@ -37,24 +34,6 @@ wordHere m p = wordAt m (p .tag) (p .address)
 
 abbrev pub bytesAt : Pointer → ℕ → List Place
 bytesAt p n = span (p .tag) (p .address) n
-
--- a channel with TP, IX, PSW, mode and mark renewed; no other register moves
-unfoldable pub renewed : Channel → Pointer → ℕ → ℕ → Mode → Bool → Channel
-renewed c tp ix psw mode armed =
-    record {
-      ga = c .ga;
-      gb = c .gb;
-      gc = c .gc;
-      tp = tp;
-      pp = c .pp;
-      bc = c .bc;
-      ix = ix;
-      cc = c .cc;
-      mc = c .mc;
-      psw = psw;
-      mode = mode;
-      armed = armed;
-    }
 
 -- the PSW once a mark is used up: "after the next instruction XF is 1 and the mark gone"
 unfoldable pub usedUp : Bool → ℕ → ℕ

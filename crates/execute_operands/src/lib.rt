@@ -25,16 +25,6 @@ pub enum Change {
     Stored(Pointer, Pointer),
 }
 
-// The place n bytes on.
-pub fn onward(p: Pointer, n: u32) -> Pointer
-    ensures { λ r. ⌜ r ≡ Operands.onward p n ⌝ }
-{
-    Pointer {
-        address: words::sum20(p.address, n),
-        tag: p.tag,
-    }
-}
-
 // The byte at a place.
 pub fn byte(p: Pointer, sys: &[u8], io: &[u8]) -> u8
     ensures { λ r. ⌜ r ≡ byteHere (buffers (now (sys .entry)) (now (io .entry))) p ⌝ }
@@ -56,29 +46,6 @@ pub fn lent(p: Pointer, n: u32, sys: &[u8], io: &[u8]) -> bool
     memory::span_lent(sys, io, p.tag, p.address, n)
 }
 
-// The channel with TP, IX, PSW, mode and mark renewed.
-pub fn renewed(c: Channel, tp: Pointer, ix: u16, psw: u8, mode: Mode, armed: bool) -> Channel
-    ensures { λ r. ⌜ r ≡ Operands.renewed c tp ix psw mode armed ⌝ }
-{
-    let ga = c.ga;
-    let gb = c.gb;
-    let gc = c.gc;
-    Channel {
-        ga,
-        gb,
-        gc,
-        tp,
-        pp: c.pp,
-        bc: c.bc,
-        ix,
-        cc: c.cc,
-        mc: c.mc,
-        psw,
-        mode,
-        armed,
-    }
-}
-
 // The PSW once a mark is used up.
 fn used_up(armed: bool, psw: u8) -> u8
     ensures { λ r. ⌜ r ≡ Operands.usedUp armed psw ⌝ }
@@ -96,7 +63,7 @@ pub fn advanced(c: Channel, n: u32) -> Channel
 {
     let psw = used_up(c.armed, c.psw);
     let mode = c.mode;
-    renewed(c, onward(c.tp, n), c.ix, psw, mode, false)
+    machine::updates::renewed(c, memory::onward(c.tp, n), c.ix, psw, mode, false)
 }
 
 // The channel with TP moved on by n more bytes.
@@ -104,7 +71,7 @@ pub fn further(c: Channel, n: u32) -> Channel
     ensures { λ r. ⌜ r ≡ Operands.further c n ⌝ }
 {
     let mut next = c;
-    next.tp = onward(c.tp, n);
+    next.tp = memory::onward(c.tp, n);
     next
 }
 
@@ -124,7 +91,7 @@ fn index(c: Channel, m: Memory, pair: Pointer, sys: &[u8], io: &[u8]) -> u32
         return 0;
     }
     if aa == 1 {
-        return byte(onward(pair, 2), sys, io) as u32;
+        return byte(memory::onward(pair, 2), sys, io) as u32;
     }
     c.ix as u32
 }
@@ -133,7 +100,7 @@ fn index(c: Channel, m: Memory, pair: Pointer, sys: &[u8], io: &[u8]) -> u32
 pub fn effective(c: Channel, m: Memory, pair: Pointer, sys: &[u8], io: &[u8]) -> Pointer
     ensures { λ r. ⌜ r ≡ Operands.effective (buffers (now (sys .entry)) (now (io .entry))) c m pair ⌝ }
 {
-    onward(
+    memory::onward(
         machine::registers::base(c, m.mm),
         index(c, m, pair, sys, io),
     )
@@ -258,5 +225,5 @@ pub fn read_number(p: Pointer, n: u32, sys: &[u8], io: &[u8]) -> u32
 pub fn after_pair(tp: Pointer, m: Memory) -> Pointer
     ensures { λ r. ⌜ r ≡ Operands.afterPair tp m ⌝ }
 {
-    onward(tp, 2 + decode::offset_length(m))
+    memory::onward(tp, 2 + decode::offset_length(m))
 }

@@ -1,4 +1,5 @@
 pub mod Psw
+pub mod Updates
 pub mod Cc
 pub mod Registers
 pub mod States

@@ -7,6 +7,8 @@ pub mod psw;
 pub mod cc;
 // The registers of a channel by RRR, and the bases by MM.
 pub mod registers;
+// A channel with some of its registers changed.
+pub mod updates;
 // A fresh state, a sound state, and its channels.
 pub mod states;
 

@@ -2,7 +2,7 @@
 use mathlib.Core.Bool.{Bool}
 use Prim.Native.Nat.{ℕ, _+_}
 use Rattle.words.specs.Bytes.{lowByte, highByte, wordOf}
-use Rattle.words.specs.Sums.{addressOf}
+use Rattle.words.specs.Sums.{sum20, addressOf}
 use Rattle.words.specs.Stored.{storedLow, storedMiddle, storedHigh, storedAddress, storedTag}
 use Rattle.memory.specs.declared.Pointer.{Pointer}
 use Rattle.memory.specs.Buffers.{Buffers, byteAt, storeByte}
@@ -18,6 +18,10 @@ doublewordAt m tag address = addressOf (wordAt m tag address) (wordAt m tag (add
 -- a pointer, its address and its tag
 abbrev pub pointer : ℕ → Bool → Pointer
 pointer address tag = record { address = address; tag = tag }
+
+-- a place n bytes on, in the same space
+unfoldable pub onward : Pointer → ℕ → Pointer
+onward p n = pointer (sum20 (p .address) n) (p .tag)
 
 -- the pointer that three stored bytes give
 unfoldable pub pointerAt : Buffers → Bool → ℕ → Pointer

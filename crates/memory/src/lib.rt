@@ -4,6 +4,7 @@ ghost use mathlib.Core.Path.{_≡_};
 ghost use Prim.Native.Nat.{_+_};
 ghost use lib.ListN.{getD, set};
 ghost use Rattle.memory.specs.Buffers.{buffers, indexOf, lentAt, byteAt, storeByte, withinLimits};
+ghost use Rattle.memory.specs.Values as Values;
 ghost use Rattle.memory.specs.Values.{wordAt, doublewordAt, pointerAt, storeWord, storeDoubleword, storePointer};
 ghost use Rattle.memory.specs.Places.{span, allLent};
 
@@ -11,6 +12,16 @@ ghost use Rattle.memory.specs.Places.{span, allLent};
 pub struct Pointer {
     pub address: u32,
     pub tag: bool,
+}
+
+// The place n bytes on.
+pub fn onward(p: Pointer, n: u32) -> Pointer
+    ensures { λ r. ⌜ r ≡ Values.onward p n ⌝ }
+{
+    Pointer {
+        address: words::sum20(p.address, n),
+        tag: p.tag,
+    }
 }
 
 // Where an address lies in its buffer.

@@ -12,7 +12,7 @@ use Rattle.attention.proofs.Pauses.{suspend-resume, ordered-else}
 use Rattle.attention.proofs.Stores.{bytes-kept as attention-bytes, lengths-kept as attention-lengths}
 use Rattle.attention.specs.Attention.{orderTo, attentionOf}
 use Rattle.attention.specs.Commands.{ordered}
-use Rattle.attention.specs.Effects.{withControl}
+use Rattle.machine.specs.Updates.{withControl}
 use Rattle.machine.proofs.ChannelLaws.{named}
 use Rattle.machine.specs.Psw.{withPsw}
 use Rattle.machine.specs.States.{channelOf, isSecond}

@@ -11,7 +11,8 @@ use Rattle.machine.specs.States.{isRunning}
 use Rattle.machine.specs.declared.Channel.{Channel}
 use Rattle.memory.specs.Buffers.{Buffers}
 use Rattle.transfer.proofs.BlockLaws.{stride}
-use Rattle.transfer.specs.Ends.{withTransfer, offsetOf}
+use Rattle.transfer.specs.Ends.{offsetOf}
+use Rattle.machine.specs.Updates.{withTransfer}
 use Rattle.transfer.specs.Steps.{transferOf}
 use Rattle.words.proofs.BitLaws.{bit-same}
 use Rattle.words.proofs.ChoiceLaws.{apart}

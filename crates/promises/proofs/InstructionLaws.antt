@@ -31,7 +31,8 @@ use Rattle.memory.specs.Places.{span, allLent}
 use Rattle.memory.specs.Values.{wordAt}
 use Rattle.memory.specs.declared.Pointer.{Pointer}
 use Rattle.execute_operands.specs.Changes.{placesOf, changed}
-use Rattle.execute_operands.specs.Operands.{onward, bytesAt, sizeOf, pastInstruction, operandAt, workOf}
+use Rattle.execute_operands.specs.Operands.{bytesAt, sizeOf, pastInstruction, operandAt, workOf}
+use Rattle.memory.specs.Values.{onward}
 use Rattle.step.specs.Step.{Step, doneStep, settledStep, busyTo, instructionStep, channelStep, chosenStep, entryNumber, stepOf}
 use Rattle.step.specs.declared.Kind.the-variants.{Instruction as AnInstruction}
 use Rattle.words.specs.Bytes.{wordOf}

@@ -14,7 +14,7 @@ use Rattle.step.specs.Step.{Step, doneStep, stepOf}
 use Rattle.step.specs.declared.Kind.{Kind}
 use Rattle.step.specs.declared.Kind.the-variants.{Transfer}
 use Rattle.transfer.proofs.KeptLaws.{only-these}
-use Rattle.transfer.specs.Ends.{withTransfer}
+use Rattle.machine.specs.Updates.{withTransfer}
 use Rattle.transfer.specs.Steps.{transferOf}
 use Rattle.promises.specs.Calls.{Turn, Calls, Moves, EndsAtCall, begin, transfer, step, attention, host}
 use Rattle.promises.specs.Premises.{into, Copy}

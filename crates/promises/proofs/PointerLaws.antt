@@ -43,7 +43,9 @@ use Rattle.memory.specs.Places.{allLent}
 use Rattle.memory.specs.Values.{pointer, pointerAt}
 use Rattle.memory.specs.declared.Pointer.{Pointer}
 use Rattle.execute_operands.specs.Changes.{placesOf, changed}
-use Rattle.execute_operands.specs.Operands.{onward, byteHere, bytesAt, renewed, pastInstruction, grown}
+use Rattle.execute_operands.specs.Operands.{byteHere, bytesAt, pastInstruction, grown}
+use Rattle.machine.specs.Updates.{renewed}
+use Rattle.memory.specs.Values.{onward}
 use Rattle.execute_operands.specs.declared.Change.the-variants.{Stored}
 use Rattle.step.proofs.SoundLaws.{entry-sound}
 use Rattle.step.specs.Step.{Step, doneStep, settledStep, busyTo, instructionStep, channelStep, chosenStep, entryNumber, stepOf}

@@ -26,7 +26,9 @@ use Rattle.memory.specs.Buffers.{buffers, spaceOf, limitOf, indexOf, lentAt, by
 use Rattle.memory.specs.Places.{span, allLent}
 use Rattle.memory.specs.Values.{pointer, pointerAt, storePointer}
 use Rattle.execute_operands.specs.Changes.{placesOf, changed}
-use Rattle.execute_operands.specs.Operands.{onward, renewed, usedUp, pastInstruction, indexed, effective, grown, displacementAt, jumped}
+use Rattle.execute_operands.specs.Operands.{usedUp, pastInstruction, indexed, effective, grown, displacementAt, jumped}
+use Rattle.machine.specs.Updates.{renewed}
+use Rattle.memory.specs.Values.{onward}
 use Rattle.step.specs.Choosing.{requested, external, endsNow, transferRank, rankOf, secondWins, ranked, choiceOf}
 use Rattle.step.specs.Step.{settledStep, busyTo, instructionStep, channelStep, chosenStep, entryNumber, stepOf}
 use Rattle.words.specs.Bits.{fieldOf, bitOf}

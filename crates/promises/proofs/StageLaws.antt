@@ -16,7 +16,8 @@ use Rattle.memory.specs.Values.{pointer}
 use Rattle.memory.specs.declared.Pointer.{Pointer}
 use Rattle.transfer.proofs.BlockLaws.{Block, stride, remaining, onward, word-narrow, one-moves, last-moves, two-moves, block-going, block-last}
 use Rattle.words.proofs.ChoiceLaws.{pick-under, apart, both-left, both-right}
-use Rattle.transfer.specs.Ends.{withTransfer, offsetOf, endedTP, endedPSW, endedBy}
+use Rattle.transfer.specs.Ends.{offsetOf, endedTP, endedPSW, endedBy}
+use Rattle.machine.specs.Updates.{withTransfer}
 use Rattle.transfer.specs.Reads.{dataOf}
 use Rattle.transfer.specs.Sides.{side, source, destination, wordSide, gained, twoMove}
 use Rattle.transfer.specs.Stores.{movedChannel}

@@ -18,7 +18,9 @@ use Rattle.machine.specs.declared.Channel.{Channel}
 use Rattle.machine.specs.declared.State.{State}
 use Rattle.memory.specs.Buffers.{Buffers}
 use Rattle.memory.specs.Values.{pointer}
-use Rattle.execute_operands.specs.Operands.{onward, renewed, pastInstruction, workOf, isMove}
+use Rattle.execute_operands.specs.Operands.{pastInstruction, workOf, isMove}
+use Rattle.machine.specs.Updates.{renewed}
+use Rattle.memory.specs.Values.{onward}
 use Rattle.words.specs.Bits.{fieldOf}
 use Rattle.words.specs.Compare.{matchOf}
 use Rattle.words.specs.Signs.{extended}

@@ -7,7 +7,8 @@ use mathlib.Core.Path.{_≡_, refl}
 use Rattle.attention.specs.Attention.{orderTo, orderNumber, orderedChannel, orderedMemory, givenTo, attentionNumber, attentionOf}
 use Rattle.attention.specs.Blocks.{ccwOf, parameterBlock, orderOf}
 use Rattle.attention.specs.Commands.{commandCoded, isKnown, modeNumber, commandNumber, copied, obeyed, ordered}
-use Rattle.attention.specs.Effects.{withControl, started as startedBy, commanded, channelOrdered, writesOf, marked, writesMade}
+use Rattle.attention.specs.Effects.{started as startedBy, commanded, channelOrdered, writesOf, marked, writesMade}
+use Rattle.machine.specs.Updates.{withControl}
 use Rattle.attention.specs.Touched.{readBy, storedBy, others}
 use Rattle.decode.specs.Lengths.{lengthOf, dataLength, displacementLength}
 use Rattle.decode_shapes.specs.Pairs.{pairOf}
@@ -26,7 +27,9 @@ use Rattle.memory.specs.Buffers.{Buffers, buffers, spaceOf, limitOf, indexOf, l
 use Rattle.memory.specs.Places.{span, allLent}
 use Rattle.memory.specs.Values.{wordAt, doublewordAt, pointer}
 use Rattle.execute_operands.specs.Changes.{placesOf, changed}
-use Rattle.execute_operands.specs.Operands.{onward, renewed, usedUp, pastInstruction}
+use Rattle.execute_operands.specs.Operands.{usedUp, pastInstruction}
+use Rattle.machine.specs.Updates.{renewed}
+use Rattle.memory.specs.Values.{onward}
 use Rattle.step.specs.Choosing.{requested, external, endsNow, transferRank, rankOf, secondWins, ranked, choiceOf}
 use Rattle.step.specs.Ranks.{RankThree}
 use Rattle.step.specs.Step.{settledStep, busyTo, instructionStep, channelStep, chosenStep, entryNumber, stepOf}

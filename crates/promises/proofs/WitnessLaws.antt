@@ -12,7 +12,8 @@ use Rattle.machine.specs.declared.Channel.{Channel}
 use Rattle.memory.proofs.SpanLaws.{span-at}
 use Rattle.memory.specs.Buffers.{Buffers, spaceOf, limitOf, indexOf, lentAt, byteAt, storeByte}
 use Rattle.memory.specs.Places.{span, allLent}
-use Rattle.transfer.specs.Ends.{withTransfer, meetsTmc, codeIf, larger, offsetOf, endedTP, endedPSW, endedBy}
+use Rattle.transfer.specs.Ends.{meetsTmc, codeIf, larger, offsetOf, endedTP, endedPSW, endedBy}
+use Rattle.machine.specs.Updates.{withTransfer}
 use Rattle.transfer.specs.Reads.{fetched, fetchedSecond, entryOf, delivered, dataOf, also, readPlaces}
 use Rattle.transfer.specs.Sides.{source, destination, wordSide, secondAddress, gained, twoMove, storedSingly}
 use Rattle.transfer.specs.Steps.{Transfer, touchedByTransfer, transferred, badMode, transferNumber, transferOf}

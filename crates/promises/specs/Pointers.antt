@@ -14,7 +14,7 @@ use Rattle.machine.specs.Registers.{registerOf, tagOf}
 use Rattle.machine.specs.States.{channelOf, isSecond}
 use Rattle.attention.specs.Attention.{orderTo, attentionOf}
 use Rattle.attention.specs.Commands.{ordered}
-use Rattle.attention.specs.Effects.{withControl}
+use Rattle.machine.specs.Updates.{withControl}
 use Rattle.attention.specs.Pauses.{Pause}
 use Rattle.decode_shapes.specs.declared.Decoded.the-variants.{Instruction}
 use Rattle.decode_shapes.specs.declared.Memory.{Memory}

@@ -12,7 +12,8 @@ use Rattle.machine.specs.declared.Channel.{Channel}
 use Rattle.machine.specs.Cc.{countEnd}
 use Rattle.machine.specs.Psw.{transferring, withPsw}
 use Rattle.machine.specs.States.{isRunning}
-use Rattle.transfer.specs.Ends.{withTransfer, offsetOf}
+use Rattle.transfer.specs.Ends.{offsetOf}
+use Rattle.machine.specs.Updates.{withTransfer}
 use Rattle.transfer.specs.Steps.{transferOf}
 use Rattle.promises.specs.Premises.{from, into, Lent}
 use Rattle.promises.specs.Totals.{movedAfter}

@@ -17,7 +17,8 @@ use Rattle.words.proofs.ChoiceLaws.{pick-same, and-true, and-false, or-true, pi
 use Rattle.words.specs.Bits.{bitOf}
 use Rattle.words.specs.Choice.{pick}
 use Rattle.words.specs.Sums.{sum20, countDown}
-use Rattle.transfer.specs.Ends.{withTransfer, meetsTmc, codeIf, larger, endedBy}
+use Rattle.transfer.specs.Ends.{meetsTmc, codeIf, larger, endedBy}
+use Rattle.machine.specs.Updates.{withTransfer}
 use Rattle.transfer.specs.Reads.{fetched, fetchedSecond, delivered, dataOf}
 use Rattle.transfer.specs.Sides.{side, source, destination, wordSide, secondAddress, gained, twoMove, storedSingly}
 use Rattle.transfer.specs.Steps.{transferred, touchedByTransfer, badMode, transferOf}

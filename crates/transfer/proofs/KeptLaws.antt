@@ -21,7 +21,8 @@ use Rattle.words.proofs.ChoiceLaws.{both-left, both-right, pick-back}
 use Rattle.words.specs.Bits.{bitOf, withBit}
 use Rattle.words.specs.Choice.{pick}
 use Rattle.words.specs.Sums.{sum20}
-use Rattle.transfer.specs.Ends.{withTransfer, offsetOf, endedTP, endedPSW, endedBy, externallyEnded}
+use Rattle.transfer.specs.Ends.{offsetOf, endedTP, endedPSW, endedBy, externallyEnded}
+use Rattle.machine.specs.Updates.{withTransfer}
 use Rattle.transfer.specs.Reads.{dataOf}
 use Rattle.transfer.specs.Sides.{side, source, destination, secondAddress, gained, sideAfter}
 use Rattle.transfer.specs.Steps.{transferOf}

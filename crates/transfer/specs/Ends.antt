@@ -9,12 +9,8 @@ use Rattle.memory.specs.declared.Pointer.{Pointer}
 use Rattle.machine.specs.declared.Channel.{Channel}
 use Rattle.machine.specs.Cc.{externalEnd}
 use Rattle.machine.specs.Psw.{withPsw}
+use Rattle.machine.specs.Updates.{withTransfer}
 use Rattle.transfer.specs.Sides.{gained}
-
--- a channel with the registers that a transfer can change
-unfoldable pub withTransfer : Channel → Pointer → Pointer → Pointer → ℕ → ℕ → Channel
-withTransfer c ga gb tp bc psw =
-    record { ga = ga; gb = gb; gc = c .gc; tp = tp; pp = c .pp; bc = bc; ix = c .ix; cc = c .cc; mc = c .mc; psw = psw; mode = c .mode; armed = c .armed }
 
 -- a byte meets TMC: "TMC's low two bits likewise" (00 is off), "bit 2 meaning "ends on no match""
 unfoldable pub meetsTmc : ℕ → ℕ → ℕ → Bool

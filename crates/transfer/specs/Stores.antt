@@ -13,7 +13,8 @@ use Rattle.transfer.specs.declared.Side.{Side}
 use Rattle.transfer.specs.declared.Data.{Data}
 use Rattle.transfer.specs.Sides.{source, destination, secondAddress, sideAfter, twoMove, storedSingly}
 use Rattle.transfer.specs.Reads.{also}
-use Rattle.transfer.specs.Ends.{withTransfer, meetsTmc, codeIf, larger, endedBy}
+use Rattle.transfer.specs.Ends.{meetsTmc, codeIf, larger, endedBy}
+use Rattle.machine.specs.Updates.{withTransfer}
 
 -- the first byte meets TMC, whether it is stored singly or as the low byte of a word
 unfoldable pub firstMeets : Channel → Data → Bool

@@ -8,7 +8,8 @@ use mathlib.Core.Path.{_≡_, sym, ap, ap₂, _∙_}
 use Rattle.decode.specs.Reading.{decodeOf}
 use Rattle.machine.proofs.OutcomeLaws.{refused}
 use Rattle.memory.specs.Buffers.{buffers}
-use Rattle.execute_operands.specs.Operands.{onward, byteHere}
+use Rattle.execute_operands.specs.Operands.{byteHere}
+use Rattle.memory.specs.Values.{onward}
 use Rattle.execute.specs.Execute.{decodedAt, deedFrom, numberFrom}
 use Rattle.execute.proofs.CodeLaws.{refusedEffect, plan-read, plan-beyond, plan-none}
 use Rattle.execute.proofs.plan.Statement.{statement}

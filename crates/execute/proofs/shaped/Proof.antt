@@ -16,7 +16,8 @@ use Rattle.memory.specs.Buffers.{buffers}
 use Rattle.memory.specs.Places.{allLent}
 use Rattle.execute_operands.specs.Changes.{placesOf}
 use Rattle.execute_deeds.specs.Deeds.{effectOf}
-use Rattle.execute_operands.specs.Operands.{onward, pastInstruction}
+use Rattle.execute_operands.specs.Operands.{pastInstruction}
+use Rattle.memory.specs.Values.{onward}
 use Rattle.execute_deeds.specs.declared.Effect.{Effect}
 use Rattle.execute.specs.Execute.{performed, deedOf, laterBytes}
 use Rattle.execute.proofs.CodeLaws.{effectWith, refusedEffect, shape-beyond, shape-wrong, shape-unstored, shape-done}

@@ -4,7 +4,7 @@ use borrow.Author.Needs.{needs}
 use native.Mathlib.Omega.{arith}
 use Rattle.decode.proofs.LengthLaws.{offset-small}
 use Rattle.decode.specs.Lengths.{offsetLength}
-use Rattle.execute_operands.specs.Operands.{onward}
+use Rattle.memory.specs.Values.{onward}
 use Rattle.execute_operands.proofs.after_pair.Statement.{statement}
 use Rattle.execute_operands.proofs.after_pair.Tie as tie
 

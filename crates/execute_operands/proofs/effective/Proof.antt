@@ -1,7 +1,8 @@
 -- `operands::effective` meets its contract.
 -- Assumes nothing.
 use borrow.Author.Needs.{needs}
-use Rattle.execute_operands.specs.Operands.{onward, effective}
+use Rattle.execute_operands.specs.Operands.{effective}
+use Rattle.memory.specs.Values.{onward}
 use Rattle.execute_operands.proofs.effective.Statement.{statement}
 use Rattle.execute_operands.proofs.effective.Tie as tie
 

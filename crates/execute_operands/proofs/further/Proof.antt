@@ -1,7 +1,9 @@
 -- `operands::further` meets its contract.
 -- Assumes nothing.
 use borrow.Author.Needs.{needs}
-use Rattle.execute_operands.specs.Operands.{onward, renewed, further}
+use Rattle.execute_operands.specs.Operands.{further}
+use Rattle.machine.specs.Updates.{renewed}
+use Rattle.memory.specs.Values.{onward}
 use Rattle.execute_operands.proofs.further.Statement.{statement}
 use Rattle.execute_operands.proofs.further.Tie as tie
 

@@ -1,7 +1,8 @@
 -- `operands::operands/jumped` meets its contract.
 -- Assumes nothing.
 use borrow.Author.Needs.{needs}
-use Rattle.execute_operands.specs.Operands.{renewed, jumped}
+use Rattle.execute_operands.specs.Operands.{jumped}
+use Rattle.machine.specs.Updates.{renewed}
 use Rattle.execute_operands.proofs.jumped.Statement.{statement}
 use Rattle.execute_operands.proofs.jumped.Tie as tie
 

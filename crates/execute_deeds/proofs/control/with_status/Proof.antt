@@ -1,7 +1,7 @@
 -- `deeds::control::with_status` meets its contract.
 -- Assumes nothing.
 use mathlib.Core.Path.{refl}
-use Rattle.execute_operands.specs.Operands.{renewed}
+use Rattle.machine.specs.Updates.{renewed}
 use Rattle.execute_deeds.specs.Control.{withStatus}
 use Rattle.execute_deeds.proofs.control.with_status.Statement.{statement}
 use Rattle.execute_deeds.proofs.control.with_status.Tie as tie

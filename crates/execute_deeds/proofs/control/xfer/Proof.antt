@@ -1,7 +1,7 @@
 -- `deeds::control::xfer` meets its contract.
 -- Assumes nothing.
 use borrow.Author.Needs.{needs}
-use Rattle.execute_operands.specs.Operands.{renewed}
+use Rattle.machine.specs.Updates.{renewed}
 use Rattle.execute_deeds.specs.Control.{nopDeed, xferDeed}
 use Rattle.execute_deeds.proofs.control.xfer.Statement.{statement}
 use Rattle.execute_deeds.proofs.control.xfer.Tie as tie

@@ -1,7 +1,8 @@
 -- `jumps::jump_register` meets its contract.
 -- Assumes nothing.
 use borrow.Author.Needs.{needs}
-use Rattle.execute_operands.specs.Operands.{onward, agrees}
+use Rattle.execute_operands.specs.Operands.{agrees}
+use Rattle.memory.specs.Values.{onward}
 use Rattle.execute_deeds.specs.Control.{nopDeed}
 use Rattle.execute_deeds.specs.JumpForms.{jumpRegisterDeed}
 use Rattle.execute_deeds.proofs.jumps.jump_register.Statement.{statement}

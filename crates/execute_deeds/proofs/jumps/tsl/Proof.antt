@@ -5,7 +5,8 @@ use borrow.Author.Tests.{eq-eqb, ne-eqb}
 use mathlib.Core.Path.{sym, _∙_}
 use Rattle.machine.specs.Outcomes.{first}
 use Rattle.memory.proofs.PlaceLaws.{after}
-use Rattle.execute_operands.specs.Operands.{readNumber, onward, effective, grown, jumped}
+use Rattle.execute_operands.specs.Operands.{readNumber, effective, grown, jumped}
+use Rattle.memory.specs.Values.{onward}
 use Rattle.execute_deeds.specs.Deeds.{effectOf}
 use Rattle.execute_deeds.specs.JumpForms.{tslDeed}
 use Rattle.execute_deeds.proofs.jumps.tsl.Statement.{statement}

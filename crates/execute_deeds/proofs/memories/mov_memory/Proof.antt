@@ -3,7 +3,7 @@
 use borrow.Author.Needs.{needs}
 use mathlib.Core.Path.{sym, _∙_}
 use Rattle.machine.specs.Outcomes.{first}
-use Rattle.execute_operands.specs.Operands.{onward}
+use Rattle.memory.specs.Values.{onward}
 use Rattle.execute_deeds.specs.Deeds.{effectOf}
 use Rattle.execute_deeds.specs.MemoryForms.{movSecondDeed, movMemoryDeed}
 use Rattle.execute_deeds.proofs.memories.mov_memory.Statement.{statement}

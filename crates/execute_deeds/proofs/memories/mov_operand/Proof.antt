@@ -3,7 +3,8 @@
 use borrow.Author.Needs.{needs}
 use Rattle.machine.specs.Outcomes.{first}
 use Rattle.memory.proofs.SpanLaws.{all-append}
-use Rattle.execute_operands.specs.Operands.{onward, further, effective}
+use Rattle.execute_operands.specs.Operands.{further, effective}
+use Rattle.memory.specs.Values.{onward}
 use Rattle.execute_deeds.specs.Deeds.{effectOf}
 use Rattle.execute_deeds.specs.MemoryForms.{movOperandDeed}
 use Rattle.execute_deeds.proofs.memories.mov_operand.Statement.{statement}

@@ -2,7 +2,7 @@
 -- Assumes nothing.
 use borrow.Author.Needs.{needs}
 use Rattle.machine.specs.Registers.{loaded}
-use Rattle.execute_operands.specs.Operands.{onward}
+use Rattle.memory.specs.Values.{onward}
 use Rattle.execute_deeds.specs.Control.{nopDeed}
 use Rattle.execute_deeds.specs.RegisterForms.{lpdiDeed}
 use Rattle.execute_deeds.proofs.registers.lpdi.Statement.{statement}

@@ -1,7 +1,7 @@
 -- `deeds::registers::register_immediate` meets its contract.
 -- Assumes nothing.
 use borrow.Author.Needs.{needs}
-use Rattle.execute_operands.specs.Operands.{onward}
+use Rattle.memory.specs.Values.{onward}
 use Rattle.execute_deeds.specs.Control.{nopDeed}
 use Rattle.execute_deeds.specs.RegisterForms.{registerImmediateDeed}
 use Rattle.execute_deeds.proofs.registers.register_immediate.Statement.{statement}

@@ -2,7 +2,8 @@
 -- Assumes nothing.
 use borrow.Author.Needs.{needs}
 use borrow.Author.Tests.{ne-eqb}
-use Rattle.transfer.specs.Ends.{withTransfer, endedTP, endedPSW, endedBy}
+use Rattle.transfer.specs.Ends.{endedTP, endedPSW, endedBy}
+use Rattle.machine.specs.Updates.{withTransfer}
 use Rattle.transfer.specs.Sides.{gained}
 use Rattle.transfer.proofs.ends.ended.Statement.{statement}
 use Rattle.transfer.proofs.ends.ended.Tie as tie

@@ -1,7 +1,7 @@
 -- `transfer::stores/moved_by` meets its contract.
 -- Assumes nothing.
 use borrow.Author.Needs.{needs}
-use Rattle.transfer.specs.Ends.{withTransfer}
+use Rattle.machine.specs.Updates.{withTransfer}
 use Rattle.transfer.specs.Sides.{setupOf}
 use Rattle.transfer.specs.Stores.{movedBy}
 use Rattle.transfer.proofs.stores.moved_by.Statement.{statement}

@@ -1,10 +1,10 @@
--- `operands::onward` meets its contract.
+-- `memory::onward` meets its contract.
 -- Assumes nothing.
 use borrow.Author.Needs.{needs}
 use Rattle.words.specs.Sums.{sum20}
-use Rattle.execute_operands.specs.Operands.{onward}
-use Rattle.execute_operands.proofs.onward.Statement.{statement}
-use Rattle.execute_operands.proofs.onward.Tie as tie
+use Rattle.memory.specs.Values.{onward}
+use Rattle.memory.proofs.onward.Statement.{statement}
+use Rattle.memory.proofs.onward.Tie as tie
 
 sum20-requires : tie.Need-sum20-requires
 sum20-requires c κs = search needs

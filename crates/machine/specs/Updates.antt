@@ -1,0 +1,57 @@
+-- A channel with some of its registers changed and every other as it was; a new register is carried on here and nowhere else.
+use mathlib.Core.Bool.{Bool, false}
+use Prim.Native.Nat.{ℕ}
+use Rattle.memory.specs.declared.Pointer.{Pointer}
+use Rattle.machine.specs.Psw.{withPsw}
+use Rattle.machine.specs.declared.Channel.{Channel}
+use Rattle.machine.specs.declared.Mode.{Mode}
+use Rattle.machine.specs.declared.Mode.the-variants.{Idle}
+
+-- TP, PP, PSW, mode and mark, which are all that a command can change
+unfoldable pub withControl : Channel → Pointer → ℕ → ℕ → Mode → Bool → Channel
+withControl c tp pp psw mode armed =
+    record {
+      ga = c .ga;
+      gb = c .gb;
+      gc = c .gc;
+      tp = tp;
+      pp = pp;
+      bc = c .bc;
+      ix = c .ix;
+      cc = c .cc;
+      mc = c .mc;
+      psw = psw;
+      mode = mode;
+      armed = armed;
+    }
+
+-- TP, IX, PSW, mode and mark, which are all that an instruction can change besides the register that it writes
+unfoldable pub renewed : Channel → Pointer → ℕ → ℕ → Mode → Bool → Channel
+renewed c tp ix psw mode armed =
+    record {
+      ga = c .ga;
+      gb = c .gb;
+      gc = c .gc;
+      tp = tp;
+      pp = c .pp;
+      bc = c .bc;
+      ix = ix;
+      cc = c .cc;
+      mc = c .mc;
+      psw = psw;
+      mode = mode;
+      armed = armed;
+    }
+
+-- GA, GB, TP, BC and PSW, which are all that a transfer can change
+unfoldable pub withTransfer : Channel → Pointer → Pointer → Pointer → ℕ → ℕ → Channel
+withTransfer c ga gb tp bc psw =
+    record { ga = ga; gb = gb; gc = c .gc; tp = tp; pp = c .pp; bc = bc; ix = c .ix; cc = c .cc; mc = c .mc; psw = psw; mode = c .mode; armed = c .armed }
+
+-- PSW of a channel that stops: TB and XF are 0
+unfoldable pub stoppedPsw : ℕ → ℕ
+stoppedPsw psw = withPsw (withPsw psw 2 false) 6 false
+
+-- a channel that halts, by its command or by HLT: idle, TB and XF 0, unarmed
+unfoldable pub halted : Channel → Channel
+halted c = withControl c (c .tp) (c .pp) (stoppedPsw (c .psw)) Idle false
