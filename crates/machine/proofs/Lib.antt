@@ -1,3 +1,4 @@
 pub mod ChannelLaws
 pub mod OutcomeLaws
 pub mod ConditionLaws
+pub mod StageLaws

@@ -5,3 +5,4 @@ pub mod Registers
 pub mod States
 pub mod Outcomes
 pub mod Conditions
+pub mod Stages
