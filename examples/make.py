@@ -5,6 +5,7 @@ from pathlib import Path
 
 # Commands of the CCW, and where an image usually has its parameter block and its program.
 START_IO, START_SYSTEM, RESUME, SUSPEND, HALT = 1, 3, 5, 6, 7
+INTERRUPTS = 0x10  # ICF 10, beside a command: SINTR may raise the interrupt
 PB, PROGRAM = 0x10, 0x40
 
 
@@ -37,71 +38,67 @@ def block(command):
     return bytes([command, 0]) + doubleword(PB)
 
 
-def started(length, program, *parts, parameters=b""):
+def started(length, program, *parts, parameters=b"", control=0):
     """An image that starts a program in system space; the parameters follow its address in the parameter block."""
-    return image(length, (0, block(START_SYSTEM)), (PB, doubleword(PROGRAM) + parameters), (PROGRAM, program), *parts)
+    head = block(START_SYSTEM | control)
+    return image(length, (0, head), (PB, doubleword(PROGRAM) + parameters), (PROGRAM, program), *parts)
 
 
-# Figure 3-67: up to 64k bytes from anywhere to anywhere in system space.
+# Copies a block, from GB to GA, and says in the parameter block that it is there.
 COPY = code(
-    "03 8B 04    ; LPD  GA,[PP].FROM_ADDR",
-    "23 8B 08    ; LPD  GB,[PP].TO_ADDR",
-    "63 83 0C    ; MOV  BC,[PP].SIZE",
-    "D1 30 08 C2 ; MOVI CC,0C208H",
+    "63 83 04    ; MOV   BC,[PP].4: how many bytes",
+    "23 8B 06    ; LPD   GB,[PP].6: where they are",
+    "03 8B 0A    ; LPD   GA,[PP].10: where they go",
+    "E0 00       ; WID   16,16",
+    "D1 30 08 C4 ; MOVI  CC,0C408H: both move on, the source is GB, count ends at 0",
     "60 00       ; XFER",
-    "E0 00       ; WID  16,16",
+    "0A 4F 0E 00 ; MOVBI [PP].14,0: not there yet",
+    "0A 4F 0E 01 ; MOVBI [PP].14,1: all there",
     "20 48       ; HLT",
 )
 
 # Registers that are worth saving, since a fresh channel has 0 in all of them.
 LOAD = code(
-    "11 08 45 03 00 12 ; LPDI GA,0345H,1200H: 12345h, system",
-    "31 30 78 56       ; MOVI GB,5678H: I/O",
-    "51 30 BC 9A       ; MOVI GC,9ABCH: F9ABCh, I/O",
-    "B1 30 11 11       ; MOVI IX,1111H",
-    "71 30 22 22       ; MOVI BC,2222H",
-    "F1 30 33 33       ; MOVI MC,3333H",
-    "D1 30 44 44       ; MOVI CC,4444H",
+    "11 08 CD 0B 00 40 ; LPDI  GA,0BCDH,4000H: 40BCDh, system",
+    "31 30 07 60       ; MOVI  GB,6007H: 06007h, I/O",
+    "48 30 90          ; MOVBI GC,90H: FFF90h, I/O",
+    "B1 30 A5 A5       ; MOVI  IX,0A5A5H",
+    "71 30 01 02       ; MOVI  BC,0201H",
+    "F1 30 03 04       ; MOVI  MC,0403H",
+    "D1 30 05 06       ; MOVI  CC,0605H",
 )
 
-# Figure 3-68: saves the registers in the parameter block.
+# Saves the registers behind the parameter block's first four bytes: IX first, since it then walks over the others.
 SAVE = code(
-    "03 9B 04 ; MOVP [PP].GA_SAVE,GA",
-    "23 9B 07 ; MOVP [PP].GB_SAVE,GB",
-    "43 9B 0A ; MOVP [PP].GC_SAVE,GC",
-    "A3 87 0D ; MOV  [PP].IX_SAVE,IX",
-    "63 87 0F ; MOV  [PP].BC_SAVE,BC",
-    "E3 87 11 ; MOV  [PP].MC_SAVE,MC",
-    "C3 87 13 ; MOV  [PP].CC_SAVE,CC",
-    "20 48    ; HLT",
+    "A3 87 04    ; MOV  [PP].4,IX",
+    "B1 30 06 00 ; MOVI IX,6",
+    "47 9B       ; MOVP [PP+IX+],GC: IX grows by 3",
+    "27 9B       ; MOVP [PP+IX+],GB",
+    "07 9B       ; MOVP [PP+IX+],GA",
+    "E7 87       ; MOV  [PP+IX+],MC: IX grows by 2",
+    "C7 87       ; MOV  [PP+IX+],CC",
+    "67 87       ; MOV  [PP+IX+],BC",
+    "20 48       ; HLT",
 )
 
-# Figure 3-59: reads a sector through an 8271 at FF00h of I/O space.
-FLOPPY = code(
-    "0A 4F 0A 00       ; START: MOVBI [PP].RETURN_CODE,0",
-    "B1 30 0A 00       ;        MOVI  IX,10",
-    "51 30 00 FF       ;        MOVI  GC,FLOPPY_REG_ADDR",
-    "EA BA 00 FC       ; RETRY: JNBT  [GC].COMMAND_STAT,7,RETRY",
-    "0A 4E 00 12       ;        MOVBI [GC].COMMAND_STAT,012H",
-    "02 93 08 02 CE 01 ;        MOVB  [GC].PARAM_RESULT,[PP].TRACK",
-    "D1 30 20 88       ;        MOVI  CC,08820H",
-    "A0 00             ;        WID   8,16",
-    "23 8B 04          ;        LPD   GB,[PP].BUFF_PTR",
-    "11 30 04 FF       ;        MOVI  GA,DACK_8271",
-    "AA BA 00 FC       ; WAIT1: JNBT  [GC].COMMAND_STAT,5,WAIT1",
-    "60 00             ;        XFER",
-    "02 93 09 02 CE 01 ;        MOVB  [GC].PARAM_RESULT,[PP].SECTOR",
-    "6A BE 01 05       ;        JBT   [GC].PARAM_RESULT,3,EXIT",
-    "A0 3C             ;        DEC   IX",
-    "A8 40 D0          ;        JNZ   IX,RETRY",
-    "EA BA 00 FC       ; EXIT:  JNBT  [GC].COMMAND_STAT,7,EXIT",
-    "0A 4E 00 2C       ;        MOVBI [GC].COMMAND_STAT,02CH",
-    "8A BA 00 FC       ; WAIT2: JNBT  [GC].COMMAND_STAT,4,WAIT2",
-    "02 92 01 02 CF 0A ;        MOVB  [PP].RETURN_CODE,[GC].PARAM_RESULT",
-    "40 00             ;        SINTR",
-    "20 48             ;        HLT",
+# Reads a sector from a controller in I/O space: status at 8000h (bit 7 busy), command at 8001h, sector at 8002h,
+# data at 8004h, with a request for each byte. The parameter block holds a buffer, a length, a sector, and a result.
+SECTOR = code(
+    "51 30 00 80       ; MOVI  GC,8000H: F8000h, of which I/O space takes 8000h",
+    "11 30 04 80       ; MOVI  GA,8004H",
+    "23 8B 04          ; LPD   GB,[PP].4",
+    "63 83 08          ; MOV   BC,[PP].8",
+    "80 00             ; WID   8,8",
+    "D1 30 48 88       ; MOVI  CC,8848H: port to block, a request for each; count ends at 0, EXT at 4",
+    "EA BE 00 FC       ; JBT   [GC].0,7: here again while it is busy",
+    "02 93 0A 02 CE 02 ; MOVB  [GC].2,[PP].10",
+    "60 00             ; XFER",
+    "0A 4E 01 52       ; MOVBI [GC].1,'R': it begins to read",
+    "91 20 04 00       ; LJMP  past the next line: the whole sector came in",
+    "0A 4F 0B 45       ; MOVBI [PP].11,'E': the controller gave up",
+    "40 00             ; SINTR",
+    "20 48             ; HLT",
 )
-assert len(FLOPPY) == 0x52
 
 # Copies text up to a full stop: ends by match at offset 4, by count at offset 0.
 MATCH = code(
@@ -138,7 +135,7 @@ EXTERNAL = code(
     "D1 30 48 C8       ; MOVI CC,0C848H: wait for the source's DRQ; count ends at 0, EXT at 4",
     "60 00             ; XFER",
     "80 00             ; WID  8,8",
-    "91 20 04 00       ; JMP  past the next line",
+    "91 20 04 00       ; LJMP past the next line",
     "0A 4F 0F 45       ; MOVBI [PP].15,'E': ended by EXT",
     "20 48             ; HLT",
 )
@@ -153,18 +150,19 @@ WID_8_8, WID_16_16 = code("80 00"), code("E0 00")
 
 
 def copying(length, source, destination, size):
-    """Figure 3-67 on so many bytes that count up from 1."""
-    parameters = doubleword(source) + doubleword(destination) + word(size)
+    """The copy on so many bytes that count up from 1."""
+    parameters = word(size) + doubleword(source) + doubleword(destination)
     return started(length, COPY, (source, bytes(range(1, size + 1))), parameters=parameters)
 
 
 IMAGES = {
-    "paper": image(38, (0, block(START_SYSTEM)), (PB, word(0x20)), (0x20, code("71 30 34 12", "20 48"))),
-    "copy-even": copying(0x100, 0x80, 0xC0, 21),
-    "copy-odd": copying(0x100, 0x81, 0xC1, 21),
-    "copy-mixed": copying(0x100, 0x80, 0xC1, 21),
+    "first": started(0x46, code("F1 30 21 43 ; MOVI MC,4321H", "20 48       ; HLT")),
+    "copy-even": copying(0x100, 0x90, 0xC0, 21),
+    "copy-odd": copying(0x100, 0x91, 0xC1, 21),
+    "copy-mixed": copying(0x100, 0x90, 0xC1, 21),
     "save": started(0x80, LOAD + SAVE, parameters=bytes([0xEE] * 17)),
-    "floppy": started(0x200, FLOPPY, parameters=doubleword(0x100) + bytes([5, 7, 0xEE])),
+    "sector": started(0x100, SECTOR, (0xC0, bytes([0xEE] * 16)), control=INTERRUPTS,
+                      parameters=doubleword(0xC0) + word(16) + bytes([7, 0x2E])),
     "match": started(0x100, MATCH, (0x80, b"end. not this...")),
     "translate": started(0x100, TRANSLATE, (0x80, bytes([3, 1, 2, 0])), (0xA0, b"ZYXW")),
     "external": started(0x100, EXTERNAL, (0x80, b"data")),
