@@ -1,15 +1,33 @@
-# The project's commands: make run and make test; the library for C, the programs around it, and their checks.
-IMAGE ?= crates/trace/stdin
+# The project's commands; `make` alone lists them. tools/help.txt is what it prints.
+IMAGE ?= examples/paper.bin
+FILE ?= examples/first.txt
+DEMO ?= examples/copy-odd.bin
 SEED ?= 1
 CASES ?= 200000
-FILE ?= crates/script/stdin
 CALLS ?= 20000
 IMAGES ?= 300
-DEMO ?= examples/copy-odd.bin
+PREFIX ?= /usr/local
+DESTDIR ?=
+
+# What was given is text: make expands none of it, and recipes find it in their environment, quoted.
+override IMAGE := $(value IMAGE)
+override FILE := $(value FILE)
+override DEMO := $(value DEMO)
+override SEED := $(value SEED)
+override CASES := $(value CASES)
+override CALLS := $(value CALLS)
+override IMAGES := $(value IMAGES)
+override PREFIX := $(value PREFIX)
+override DESTDIR := $(value DESTDIR)
+export IMAGE FILE DEMO SEED CASES CALLS IMAGES PREFIX DESTDIR
 
 CFLAGS ?= -O2
 STRICT = -std=c11 -Wall -Wextra -Wpedantic -Wconversion
+
+# What C gets: headers, and archives with the crate that each is made of.
+HEADERS = include/iop89.h
 IOP89_LIB = build/libiop89.a
+ARCHIVES = $(IOP89_LIB)
 
 # The library is for x86-64. Elsewhere what links it is cross-compiled (Debian: gcc-x86-64-linux-gnu,
 # libc6-dev-amd64-cross) and linked -static, so that tools/x86 can run it with no x86-64 libraries at hand.
@@ -36,40 +54,79 @@ SCRIPTS_H = $(addprefix host/,writer.h lines.h session.h)
 
 PROGRAMS = program-trace program-script
 
-.PHONY: run script test $(PROGRAMS) lib host demo compare compare-scripts compare-traces selftest examples \
-	check-examples bench x86-compiler
+.PHONY: help run script demo test lib host install clean compare compare-scripts compare-traces selftest \
+	check-examples front-door examples bench $(PROGRAMS) compiler x86-compiler count-needs always \
+	given-image given-file given-demo given-cases given-calls given-images given-prefix
+
+# What is given is tested before anything is proved, and one folder has one proof at a time.
+.NOTPARALLEL:
+
+help:
+	@cat tools/help.txt
 
 # Runs an image as channel 1 of a fresh machine and prints a line for each done step.
-run: program-trace
-	@tools/x86 target/bin/trace < $(IMAGE)
+run: given-image program-trace
+	@tools/run-program target/bin/trace IMAGE
 
 # Makes the calls of a script and prints their answers; docs/SCRIPT.md has the words.
-script: program-script
-	@tools/x86 target/bin/script < $(FILE)
+script: given-file program-script
+	@tools/run-program target/bin/script FILE
+
+# Runs the host program on an image, and shows the answer and every byte that changed.
+demo: given-demo x86-compiler build/example
+	@case "$$DEMO" in -*) DEMO=./$$DEMO ;; esac; tools/x86 build/example "$$DEMO"
 
 test:
 	@.ci/run
 
+# What the variables were given; each says what is wrong with it and ends with 2.
+given-image:
+	@tools/given file IMAGE
+given-file:
+	@tools/given file FILE
+given-demo:
+	@tools/given file DEMO
+given-cases:
+	@tools/given number SEED && tools/given number CASES
+given-calls:
+	@tools/given number SEED && tools/given number CALLS
+given-images:
+	@tools/given number SEED && tools/given number IMAGES
+given-prefix:
+	@tools/given folder PREFIX
+
 # A program, proved and linked; nothing is done again where it stands already.
 $(PROGRAMS): program-%:
-	@mkdir -p build
-	@rt check $* > build/rt.log 2>&1 || { tail -n 5 build/rt.log; exit 1; }
+	@tools/prove check $*
 
 # The proved library, as an archive for C.
-lib:
-	@mkdir -p build
-	@rt staticlib panel > build/rt.log 2>&1 || { tail -n 5 build/rt.log; exit 1; }
-	@mkdir -p build
-	cp target/staticlib/libpanel.a $(IOP89_LIB)
+lib: $(ARCHIVES)
 
-$(IOP89_LIB):
-	@$(MAKE) --no-print-directory lib
+# The archive is made again where a file of its crates is not what it was; their list is kept by content.
+$(IOP89_LIB): build/panel.sums
+	@tools/prove staticlib panel
+	cp target/staticlib/libpanel.a $@
+	@touch $@
 
-# What compiles for x86-64, installed where it is missing.
+build/%.sums: always
+	@mkdir -p build
+	@tools/closure sums $* >$@.$$$$ && if cmp -s $@.$$$$ $@; then rm -f $@.$$$$; else mv $@.$$$$ $@; fi
+
+# Headers, archives and the file by which pkg-config finds them.
+install: given-prefix $(ARCHIVES)
+	@tools/install $(HEADERS) $(ARCHIVES) include/iop89.pc.in
+
+# What was built; the proofs in target/ stay, since they take minutes.
+clean:
+	rm -rf build
+
+# What compiles for the machine at hand and for x86-64, installed where it is missing.
+compiler:
+	@tools/need $(firstword $(CC)) gcc
 x86-compiler:
 	@$(X86_NEEDS)
 
-host: build/example build/compare
+host: x86-compiler build/example build/compare
 
 build/example: host/example.c include/iop89.h $(IOP89_LIB) | x86-compiler
 	$(X86_CC) $(STRICT) $(CFLAGS) -Iinclude host/example.c $(IOP89_LIB) $(X86_LDFLAGS) -o $@
@@ -78,41 +135,46 @@ build/compare: host/compare.c $(COMMON) $(COMMON_H) $(IOP89_LIB) | x86-compiler
 	$(X86_CC) $(STRICT) $(CFLAGS) -Iinclude host/compare.c $(COMMON) $(IOP89_LIB) $(X86_LDFLAGS) -o $@
 
 # The emulator's own checks, and its side of what the programs print, need no library: they run on the machine at hand.
-build/scripts: $(SCRIPTS) $(SCRIPTS_H) $(COMMON) $(COMMON_H)
+build/scripts: $(SCRIPTS) $(SCRIPTS_H) $(COMMON) $(COMMON_H) | compiler
 	@mkdir -p build
 	$(CC) $(STRICT) $(CFLAGS) -Iinclude $(SCRIPTS) $(COMMON) -o $@
 
-build/selftest: host/selftest.c host/emulator.c host/emulator.h
+build/selftest: host/selftest.c host/emulator.c host/emulator.h | compiler
 	@mkdir -p build
 	$(CC) $(STRICT) $(CFLAGS) host/selftest.c host/emulator.c -o $@
 
-demo: build/example
-	tools/x86 build/example $(DEMO)
+compare: given-cases x86-compiler build/compare
+	tools/x86 build/compare "$$SEED" "$$CASES"
 
-compare: build/compare
-	tools/x86 build/compare $(SEED) $(CASES)
+compare-scripts: given-calls build/scripts program-script
+	tools/compare-scripts "$$SEED" "$$CALLS" target/bin/script
 
-compare-scripts: build/scripts program-script
-	tools/compare-scripts $(SEED) $(CALLS) target/bin/script
-
-compare-traces: build/scripts program-trace
-	tools/compare-traces $(SEED) $(IMAGES) target/bin/trace
+compare-traces: given-images build/scripts program-trace
+	tools/compare-traces "$$SEED" "$$IMAGES" target/bin/trace
 
 selftest: build/selftest
 	build/selftest
 
 # Runs every row of the table in examples/README.md.
-check-examples: build/example
+check-examples: x86-compiler build/example
 	tools/check-examples
+
+# Goes through README's commands and through misuse of them.
+front-door:
+	tools/check-front-door
 
 # Makes the images again; what is committed must be what it makes.
 examples:
+	@tools/need python3 python3
 	python3 examples/make.py examples
 
 # Counts instructions, which are the same on a busy machine, and prints the tables of docs/BENCHMARKS.md.
-bench: build/bench
-	@$(COUNT_NEEDS)
+bench: count-needs x86-compiler build/bench
 	@X86_SIZE="$(X86_SIZE)" tools/bench build/bench $(IOP89_LIB) build/emulator.o
+
+# What counts, installed where it is missing.
+count-needs:
+	@$(COUNT_NEEDS)
 
 # What is counted is always compiled at -O2.
 build/emulator.o: host/emulator.c host/emulator.h | x86-compiler

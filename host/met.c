@@ -1,8 +1,6 @@
 /* Prints counters of a comparison, each in a line, and keeps count of those that stayed 0. */
 #include "met.h"
 
-#include "iop89.h"
-
 /* How many things that can be met were not. */
 static unsigned missing;
 
@@ -14,10 +12,10 @@ void print_count(const char *name, unsigned long count)
 
 void print_numbers(const char *what, const unsigned long counts[EMU_NUMBERS], unsigned set)
 {
-    char name[120];
+    char name[24];
     printf("%s, by number:\n", what);
     for (unsigned i = 0; i < EMU_NUMBERS; i++) {
-        snprintf(name, sizeof name, "%u %s", i, iop89_words(i));
+        snprintf(name, sizeof name, "number %u", i);
         if ((set >> i & 1u) != 0) print_count(name, counts[i]);
     }
 }

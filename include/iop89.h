@@ -1,4 +1,10 @@
-/* The call by which a host program runs the proved stand-in for the 8089 I/O processor, and what it answers. */
+/*
+ * The call by which a host program runs the proved stand-in for the 8089 I/O processor, and what it answers.
+ *
+ * For C99 and later and C++. The archive, libiop89.a, is for x86-64 Linux (System V calling convention); it can be
+ * linked into position-independent programs, needs no other library and no start-up, and keeps nothing between calls,
+ * so that threads may call it at the same time, each with buffers of its own.
+ */
 #ifndef IOP89_H
 #define IOP89_H
 
@@ -9,9 +15,13 @@
 extern "C" {
 #endif
 
+/* The version of header and archive: major number x 100 + minor number. The same major number only adds. */
+#define IOP89_VERSION 100
+
 /* The most bytes of system memory and of I/O memory that may be lent, and the largest arguments. */
 #define IOP89_SYSTEM_LIMIT 1048576u
 #define IOP89_IO_LIMIT 65536u
+#define IOP89_CP_LIMIT 1048575u
 #define IOP89_LINES_LIMIT 15u
 #define IOP89_STEPS_LIMIT 65535u
 
@@ -21,33 +31,47 @@ extern "C" {
 #define IOP89_EXT1 4u
 #define IOP89_EXT2 8u
 
-/* The numbers handed back. */
+/* The numbers handed back, as a run meets them. */
 enum iop89_number {
-    IOP89_DONE = 0,             /* done */
-    IOP89_NO_CHANNEL = 1,       /* step: no channel can run */
+    IOP89_DONE = 0,             /* the limit stopped the run: every step was done, and more could follow */
+    IOP89_NO_CHANNEL = 1,       /* no channel can run: it halted, or waits for a request (DRQ) that is not up */
     IOP89_BEYOND_MEMORY = 2,    /* a byte to be read or stored lies beyond lent memory */
     IOP89_NO_INSTRUCTION = 3,   /* the bytes are no instruction */
     IOP89_CC_USED = 4,          /* CC used by anything but MOV or MOVI */
     IOP89_BAD_TRANSFER = 5,     /* transfer with SYN 11, or translation with a 16-bit side */
-    IOP89_BAD_COMMAND = 6,      /* command 010 or 100 */
-    IOP89_NOT_SUSPENDED = 7,    /* resume, channel not suspended */
+    IOP89_BAD_COMMAND = 6,      /* the control block has command 010 or 100 */
+    IOP89_NOT_SUSPENDED = 7,    /* it has resume, and a run starts with no channel suspended */
     IOP89_ALREADY_RUNNING = 8,  /* start, channel running; never from iop89_run, whose channels start idle */
-    IOP89_NOT_RUNNING = 9,      /* suspend, channel not running */
-    IOP89_BAD_POINTER = 10,     /* a pointer, PP or CP in the given state is 1,048,576 or more */
-    IOP89_BAD_BUFFER = 11,      /* a lent buffer longer than its limit */
-    IOP89_BAD_ARGUMENT = 12,    /* channel neither 1 nor 2, line number over 15, or step limit over 65,535 */
+    IOP89_NOT_RUNNING = 9,      /* it has suspend, and a run starts with no channel running */
+    IOP89_BAD_POINTER = 10,     /* cp is over 1,048,575; no register of a run can be */
+    IOP89_BAD_BUFFER = 11,      /* sys_len is over 1,048,576, or io_len over 65,536 */
+    IOP89_BAD_ARGUMENT = 12,    /* channel neither 1 nor 2, lines over 15, or limit over 65,535 */
     IOP89_NUMBERS = 13          /* how many numbers there are */
 };
 
 /* The two parts of an answer. */
-#define IOP89_NUMBER(answer) ((unsigned)((uint32_t)(answer) >> 16))
-#define IOP89_STEPS(answer) ((unsigned)((uint32_t)(answer) & 0xFFFFu))
+#define IOP89_NUMBER(answer) ((answer) / 65536u)
+#define IOP89_STEPS(answer) ((answer) % 65536u)
 
 /*
  * Makes a fresh state whose control block is at cp, gives the channel one attention and, if that is accepted, steps
- * with these lines until a number other than 0 or the limit. Answers number x 65,536 + steps done. Steps before a
- * refusal keep their effect on both buffers. Both start at address 0 of their space. They must not overlap, and
- * neither pointer may be null, also where its length is 0.
+ * until a number other than 0 or the limit. Answers number x 65,536 + steps done.
+ *
+ *   sys, sys_len   system memory from address 0 on: 0 to 1,048,576 bytes, else 11
+ *   io, io_len     I/O memory from address 0 on: 0 to 65,536 bytes, else 11
+ *   cp             address of channel 1's control block; channel 2's is at cp + 8: 0 to 1,048,575, else 10
+ *   channel        the channel that gets the attention: 1 or 2, else 12
+ *   lines          the lines that are up, throughout: 0 to 15, else 12
+ *   limit          the most steps: 0 to 65,535, else 12; with 0 the attention alone is given
+ *
+ * Of several refusals 12 comes first, then 11, then 10. Every value of every argument gets an answer, and with these
+ * three, as with a refused attention, no byte is changed. Steps before a refused one keep their effect on both buffers.
+ * What a run leaves in registers is gone when it ends: the next starts from a fresh state.
+ *
+ * What no proof can see, and the caller must keep: behind sys are sys_len bytes and behind io io_len bytes that may be
+ * read and written, and the two do not overlap. With a length of 0 the pointer may be NULL: no byte of an empty buffer
+ * is read or stored, which is proved, so the pointer is never followed. That a null pointer does no harm on its way is
+ * not proved: a slice of the proved code has an address. It rests on the compiled code of this archive, and is tested.
  */
 uint32_t iop89_run(uint8_t *sys, size_t sys_len, uint8_t *io, size_t io_len, uint32_t cp, uint32_t channel,
                    uint32_t lines, uint32_t limit);
@@ -56,8 +80,8 @@ uint32_t iop89_run(uint8_t *sys, size_t sys_len, uint8_t *io, size_t io_len, uin
 static inline const char *iop89_words(unsigned number)
 {
     switch (number) {
-    case IOP89_DONE: return "done";
-    case IOP89_NO_CHANNEL: return "step: no channel can run";
+    case IOP89_DONE: return "stopped at the limit";
+    case IOP89_NO_CHANNEL: return "no channel can run: halted, or waiting for a request";
     case IOP89_BEYOND_MEMORY: return "a byte to be read or stored lies beyond lent memory";
     case IOP89_NO_INSTRUCTION: return "the bytes are no instruction";
     case IOP89_CC_USED: return "CC used by anything but MOV or MOVI";
@@ -66,7 +90,7 @@ static inline const char *iop89_words(unsigned number)
     case IOP89_NOT_SUSPENDED: return "resume, channel not suspended";
     case IOP89_ALREADY_RUNNING: return "start, channel running";
     case IOP89_NOT_RUNNING: return "suspend, channel not running";
-    case IOP89_BAD_POINTER: return "a pointer, PP or CP in the given state is 1,048,576 or more";
+    case IOP89_BAD_POINTER: return "the control block's address is over 1,048,575";
     case IOP89_BAD_BUFFER: return "a lent buffer longer than its limit";
     case IOP89_BAD_ARGUMENT: return "channel neither 1 nor 2, line number over 15, or step limit over 65,535";
     default: return "no such number";
