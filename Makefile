@@ -131,6 +131,9 @@ host: x86-compiler build/example build/compare
 build/example: host/example.c include/iop89.h $(IOP89_LIB) | x86-compiler
 	$(X86_CC) $(STRICT) $(CFLAGS) -Iinclude host/example.c $(IOP89_LIB) $(X86_LDFLAGS) -o $@
 
+build/borders: host/borders.c include/iop89.h $(IOP89_LIB) | x86-compiler
+	$(X86_CC) -std=c99 -Wall -Wextra -Wpedantic -Wconversion -Werror -Iinclude host/borders.c $(IOP89_LIB) $(X86_LDFLAGS) -o $@
+
 build/compare: host/compare.c $(COMMON) $(COMMON_H) $(IOP89_LIB) | x86-compiler
 	$(X86_CC) $(STRICT) $(CFLAGS) -Iinclude host/compare.c $(COMMON) $(IOP89_LIB) $(X86_LDFLAGS) -o $@
 
