@@ -132,7 +132,7 @@ build/example: host/example.c include/iop89.h $(IOP89_LIB) | x86-compiler
 	$(X86_CC) $(STRICT) $(CFLAGS) -Iinclude host/example.c $(IOP89_LIB) $(X86_LDFLAGS) -o $@
 
 build/borders: host/borders.c include/iop89.h $(IOP89_LIB) | x86-compiler
-	$(X86_CC) -std=c99 -Wall -Wextra -Wpedantic -Wconversion -Werror -Iinclude host/borders.c $(IOP89_LIB) $(X86_LDFLAGS) -o $@
+	$(X86_CC) $(subst c11,c99,$(STRICT)) $(CFLAGS) -Iinclude host/borders.c $(IOP89_LIB) $(X86_LDFLAGS) -o $@
 
 build/compare: host/compare.c $(COMMON) $(COMMON_H) $(IOP89_LIB) | x86-compiler
 	$(X86_CC) $(STRICT) $(CFLAGS) -Iinclude host/compare.c $(COMMON) $(IOP89_LIB) $(X86_LDFLAGS) -o $@
@@ -149,10 +149,10 @@ build/selftest: host/selftest.c host/emulator.c host/emulator.h | compiler
 compare: given-cases x86-compiler build/compare
 	tools/x86 build/compare "$$SEED" "$$CASES"
 
-compare-scripts: given-calls build/scripts program-script
+compare-scripts: given-calls compiler program-script build/scripts
 	tools/compare-scripts "$$SEED" "$$CALLS" target/bin/script
 
-compare-traces: given-images build/scripts program-trace
+compare-traces: given-images compiler program-trace build/scripts
 	tools/compare-traces "$$SEED" "$$IMAGES" target/bin/trace
 
 selftest: build/selftest

@@ -67,7 +67,7 @@ static void test_ranges(void)
 static void test_empty(void)
 {
     expect("both NULL", iop89_run(NO_BUFFER, 0, NO_BUFFER, 0, 0, 1, 0, 10), IOP89_BEYOND_MEMORY, 0);
-    expect("both NULL, channel 2", iop89_run(NO_BUFFER, 0, NO_BUFFER, 0, IOP89_CP_LIMIT, 2, 15, 65535), IOP89_BEYOND_MEMORY, 0);
+    expect("both NULL, channel 2", iop89_run(NO_BUFFER, 0, NO_BUFFER, 0, 0, 2, 15, 65535), IOP89_BEYOND_MEMORY, 0);
     expect("both NULL, channel 3", iop89_run(NO_BUFFER, 0, NO_BUFFER, 0, 0, 3, 0, 10), IOP89_BAD_ARGUMENT, 0);
     expect("both NULL, bad cp", iop89_run(NO_BUFFER, 0, NO_BUFFER, 0, 0xFFFFFFFFu, 1, 0, 10), IOP89_BAD_POINTER, 0);
     expect("sys NULL", iop89_run(NO_BUFFER, 0, io, 64, 0, 1, 0, 10), IOP89_BEYOND_MEMORY, 0);

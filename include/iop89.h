@@ -34,7 +34,7 @@ extern "C" {
 /* The numbers handed back, as a run meets them. */
 enum iop89_number {
     IOP89_DONE = 0,             /* the limit stopped the run: every step was done, and more could follow */
-    IOP89_NO_CHANNEL = 1,       /* no channel can run: halted or never started, or waiting for a request (DRQ) that is not up */
+    IOP89_NO_CHANNEL = 1,       /* no channel can run: halted or never started, or waiting for a request (DRQ) */
     IOP89_BEYOND_MEMORY = 2,    /* a byte to be read or stored lies beyond lent memory */
     IOP89_NO_INSTRUCTION = 3,   /* the bytes are no instruction */
     IOP89_CC_USED = 4,          /* CC used by anything but MOV or MOVI */
