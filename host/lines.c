@@ -10,7 +10,8 @@ enum { MOST_PUT = 4096, USUAL_PUT = 256, LINE_ROOM = 2 * MOST_PUT + 100 };
 
 void write_line(struct writer *w, const char *line)
 {
-    w->written += (size_t)fprintf(w->out, "%s%s", w->written > 0 ? "\n" : "", line);
+    const char *end = chance(&w->d, 30) ? "\r\n" : "\n";
+    w->written += (size_t)fprintf(w->out, "%s%s", w->written > 0 ? end : "", line);
 }
 
 void perform(struct writer *w, const char *line)

@@ -26,7 +26,8 @@ struct digits {
     char text[16];
 };
 
-/* Writes a line behind the one before it; whether a line feed ends the last is decided at the end. */
+/* Writes a line behind the one before it, which ends here, at times with a carriage return before its line feed; how the
+   last ends is decided at the end. */
 void write_line(struct writer *w, const char *line);
 
 /* Performs a line and writes it. */

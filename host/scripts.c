@@ -49,6 +49,12 @@ static size_t line_length(size_t at, size_t length)
     return end != NULL ? (size_t)(end - (text + at)) : length - at;
 }
 
+/* How much of the line of that length at an index is its call: a carriage return before its line feed is not. */
+static size_t call_length(size_t at, size_t size, size_t length)
+{
+    return size > 0 && at + size < length && text[at + size - 1] == '\r' ? size - 1 : size;
+}
+
 /* Performs the script on standard input. With a line of the output asked for, stops and answers the call's own line. */
 static unsigned long perform_script(struct session *s, unsigned long asked, FILE *out)
 {
@@ -61,7 +67,7 @@ static unsigned long perform_script(struct session *s, unsigned long asked, FILE
     for (size_t at = 0, size; at < length; at += size + 1) {
         size = line_length(at, length);
         line++;
-        printed += session_perform(s, text + at, size, out);
+        printed += session_perform(s, text + at, call_length(at, size, length), out);
         if (asked > 0 && printed >= asked) return line;
     }
     return 0;

@@ -317,7 +317,7 @@ static void say_no_call(struct writer *w)
         "set 1 g 0", "set 1 gaa 0", "set 1 ga 100000000", "set 0 mode 1", "set 101 ga 0", "ca", "ca 1 1", "ca x",
         "ca 123456789", "ca 1,", "ca1", "step", "step 0 0", "step 0.", "step -1", "stepp 0", "ste 0", "dump 1", "Dump",
         "show", "show 0", "show 2 0", "show 0 0 0", "show 0 123456789", " # no comment", "hello", "?", "0",
-        "dump\t", "\tdump", "ca\t1", "dump\r", "step 1\r", "\r", "\t", "ca \xC3\xA9", "a b c d e f g h",
+        "dump\t", "\tdump", "ca\t1", "dump\r\r", "\rstep 1", "ca\r1", "\r\r", "\t", "ca \xC3\xA9", "a b c d e f g h",
     };
     perform(w, ONE_OF(&w->d, lines));
 }
