@@ -35,7 +35,7 @@ ifeq ($(shell uname -m),x86_64)
 X86_CC ?= $(CC)
 X86_SIZE ?= size
 X86_LDFLAGS ?=
-X86_NEEDS = tools/need cc gcc
+X86_NEEDS = tools/need $(firstword $(X86_CC)) gcc
 COUNT_NEEDS = tools/need valgrind valgrind
 else
 X86_CC ?= x86_64-linux-gnu-gcc
