@@ -1,5 +1,5 @@
 # The project's commands; `make` alone lists them. tools/help.txt is what it prints.
-IMAGE ?= examples/paper.bin
+IMAGE ?= examples/first.bin
 FILE ?= examples/first.txt
 DEMO ?= examples/copy-odd.bin
 SEED ?= 1
