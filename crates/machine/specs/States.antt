@@ -79,6 +79,10 @@ isSuspended Suspended = true
 unfoldable pub blockOf : State → Bool → ℕ
 blockOf s second = pick second (sum20 (s .cp) 8) (s .cp)
 
+-- BUSY is the second byte of a block (§4.1)
+unfoldable pub busyIn : ℕ → ℕ
+busyIn block = sum20 block 1
+
 -- the numbers 1 and 2 name a channel (else 12)
 unfoldable pub isChannel : ℕ → Bool
 isChannel number = eqb number 1 || eqb number 2
