@@ -1,15 +1,19 @@
 -- The laws of a channel taken out and put back: it is the one that was put, the other is untouched, and so is what both share.
 -- Assumes nothing.
-use Prim.Native.Nat.{ℕ}
+use Prim.Native.Nat.{ℕ, _<_}
+use borrow.Author.Tests.{ltb-true, lt-ltb}
 use lib.Dec.{ltb}
 use mathlib.Core.Bool.{Bool, true, false, not, _&&_}
 use mathlib.Core.Path.{_≡_, refl}
+use Rattle.memory.specs.declared.Pointer.{Pointer}
 use Rattle.words.proofs.ChoiceLaws.{both-left, both-right}
 use Rattle.words.specs.Choice.{pick}
 use Rattle.machine.specs.Outcomes.{first}
 use Rattle.machine.specs.States.{idleChannel, freshState, freshOf, channelOf, withChannel, withLast, soundChannel, sound, isSecond, channelNumber}
+use Rattle.machine.specs.Updates.{withControl}
 use Rattle.machine.specs.declared.Answer.{Answer}
 use Rattle.machine.specs.declared.Channel.{Channel}
+use Rattle.machine.specs.declared.Mode.{Mode}
 use Rattle.machine.specs.declared.State.{State}
 
 -- what was put under a name is found under it
@@ -49,6 +53,37 @@ pub sound-channel-of : (s : State) (b : Bool) → sound s ≡ true → soundChan
 unfolding sound channelOf
 sound-channel-of s true h = both-right (soundChannel (s .first)) (soundChannel (s .second)) (both-left (soundChannel (s .first) && soundChannel (s .second)) (ltb (s .cp) 1048576) h)
 sound-channel-of s false h = both-left (soundChannel (s .first)) (soundChannel (s .second)) (both-left (soundChannel (s .first) && soundChannel (s .second)) (ltb (s .cp) 1048576) h)
+
+-- TP and PP of a sound channel are of 20 bits
+pub sound-tp : (c : Channel) → soundChannel c ≡ true → c .tp .address < 1048576
+unfolding soundChannel
+sound-tp c h =
+    let others = ltb (c .ga .address) 1048576 && ltb (c .gb .address) 1048576 && ltb (c .gc .address) 1048576 in
+    let tp = ltb (c .tp .address) 1048576 in
+    ltb-true (c .tp .address) 1048576 (both-right others tp (both-left (others && tp) (ltb (c .pp) 1048576) h))
+
+pub sound-pp : (c : Channel) → soundChannel c ≡ true → c .pp < 1048576
+unfolding soundChannel
+sound-pp c h =
+    let others = ltb (c .ga .address) 1048576 && ltb (c .gb .address) 1048576 && ltb (c .gc .address) 1048576 && ltb (c .tp .address) 1048576 in
+    ltb-true (c .pp) 1048576 (both-right others (ltb (c .pp) 1048576) h)
+
+-- a sound channel with TP and PP of 20 bits is sound
+pub controlled-sound : (c : Channel) (tp : Pointer) (pp psw : ℕ) (mode : Mode) (armed : Bool) → soundChannel c ≡ true → tp .address < 1048576 → pp < 1048576
+    → soundChannel (withControl c tp pp psw mode armed) ≡ true
+unfolding soundChannel withControl
+controlled-sound c tp pp psw mode armed h h₁ h₂ =
+    let others = ltb (c .ga .address) 1048576 && ltb (c .gb .address) 1048576 && ltb (c .gc .address) 1048576 in
+    rw (both-left others (ltb (c .tp .address) 1048576) (both-left (others && ltb (c .tp .address) 1048576) (ltb (c .pp) 1048576) h), lt-ltb _ _ h₁, lt-ltb _ _ h₂)
+
+-- a sound state with a sound channel put back is sound
+pub put-sound : (s : State) (b : Bool) (c : Channel) → sound s ≡ true → soundChannel c ≡ true → sound (withChannel s b c) ≡ true
+unfolding sound withChannel channelOf
+put-sound s b c h k = rw (both-right (soundChannel (s .first) && soundChannel (s .second)) (ltb (s .cp) 1048576) h) (go b)
+  where
+    go : (b : Bool) → soundChannel (pick b (s .first) c) && soundChannel (pick b c (s .second)) && true ≡ true
+    go true = rw (sound-channel-of s false h, k)
+    go false = rw (k, sound-channel-of s true h)
 
 -- a fresh state is sound
 pub fresh-sound : (cp : ℕ) → sound ((freshOf cp) .state) ≡ true

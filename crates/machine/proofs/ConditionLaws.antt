@@ -132,6 +132,11 @@ told-true h = record { holds = λ e. h; fails = λ e. apart e }
 pub told-false : {A : Type 0} → A → Told false A
 told-false h = record { holds = λ e. apart (sym e); fails = λ e. h }
 
+-- a test fails exactly under its condition
+pub told-exactly : {ok : Bool} {A : Type 0} → Told ok A → (ok ≡ false) ↔ A
+told-exactly {ok = true} t = (λ e. apart e, λ h. absurd (t .holds refl h))
+told-exactly {ok = false} t = (t .fails, λ h. refl)
+
 pub told-and : {a b : Bool} {A B : Type 0} → Told a A → Told b B → Told (a && b) (A ⊎ B)
 told-and {a = true} t u = record { holds = λ e. ⊎-elim (t .holds refl) (u .holds e); fails = λ e. inr (u .fails e) }
 told-and {a = false} t u = record { holds = λ e. apart (sym e); fails = λ e. inl (t .fails refl) }

@@ -5,7 +5,7 @@ use borrow.Author.Tests.{eqb-false}
 use lib.Dec.{eqb, eqb·suc-zero}
 use mathlib.Core.Bool.{Bool, true, false, _&&_}
 use mathlib.Core.List.{List, [], _∷_, _++_}
-use mathlib.Core.Logic.{_↔_}
+use mathlib.Core.Logic.{_↔_, Iff·trans}
 use mathlib.Core.Path.{_≡_, refl, sym, ap, _∙_}
 use native.Mathlib.Omega.{arith}
 use Rattle.memory.proofs.SpanLaws.{all-append}
@@ -13,8 +13,10 @@ use Rattle.memory.specs.Buffers.{Buffers}
 use Rattle.memory.specs.Places.{Place, allLent}
 use Rattle.words.proofs.ChoiceLaws.{apart, and-true}
 use Rattle.words.specs.Choice.{pick}
+use Rattle.machine.specs.Conditions.{Beyond}
 use Rattle.machine.specs.Outcomes.{unless, first}
 use Rattle.machine.specs.Stages.{Stage, stage, stagesNumber, stagesTouched, JudgedElse}
+use Rattle.machine.proofs.ConditionLaws.{told-exactly, told-lent}
 use Rattle.machine.proofs.OutcomeLaws.{first-some, first-zero, unless-true, unless-false}
 
 -- the number of a stage and those after it, by whether its bytes are lent and by what it judges
@@ -61,6 +63,10 @@ unfolding stagesNumber one
 two-exactly m [] h = rw (nothing-touched m) (λ e. absurd (omega (arith, e)), λ e. apart e)
 two-exactly m (s ∷ rest) h =
     rw (touched-one m s rest) (two-one (allLent m (s .places)) (s .judged) (stagesNumber m rest) (allLent m (stagesTouched rest)) (h .0) (two-exactly m rest (h .1)))
+
+-- the same, said by where that byte lies
+pub beyond-exactly : (m : Buffers) (stages : List Stage) → JudgedElse stages → (stagesNumber m stages ≡ 2) ↔ Beyond m (stagesTouched stages)
+beyond-exactly m stages h = Iff·trans (two-exactly m stages h) (told-exactly (told-lent m (stagesTouched stages)))
 
 -- a call that no stage refuses touches lent bytes alone
 pub none-refused : (m : Buffers) (stages : List Stage) → stagesNumber m stages ≡ 0 → allLent m (stagesTouched stages) ≡ true

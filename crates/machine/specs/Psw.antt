@@ -1,5 +1,5 @@
 -- PSW: 0 destination width, 1 source width (1 = 16 bits), 2 TB program running, 3 IC, 4 IS, 5 load limit, 6 XF transfer, 7 priority.
-use mathlib.Core.Bool.{Bool}
+use mathlib.Core.Bool.{Bool, _&&_}
 use Prim.Native.Nat.{ℕ}
 use lib.Dec.{ltb}
 use Rattle.words.specs.Choice.{pick}
@@ -36,6 +36,10 @@ transferring psw = bitOf psw 6
 -- bit 7: priority
 abbrev pub priority : ℕ → Bool
 priority psw = bitOf psw 7
+
+-- the interrupt line that a host reads (§10.2): up while IS, bit 4, and IC, bit 3, are both 1
+unfoldable pub interruptLine : ℕ → Bool
+interruptLine psw = interruptService psw && interruptControl psw
 
 -- PSW with one bit as `on` says; it has eight
 unfoldable pub withPsw : ℕ → ℕ → Bool → ℕ

@@ -55,6 +55,13 @@ pub fn interrupt_service(psw: u8) -> bool
     words::bit(psw as u32, IS)
 }
 
+// The interrupt line that a host reads: up while IS and IC are both 1.
+pub fn interrupt_line(psw: u8) -> bool
+    ensures { λ r. ⌜ r ≡ Psw.interruptLine psw ⌝ }
+{
+    interrupt_service(psw) & interrupt_control(psw)
+}
+
 // The load limit, stored only.
 pub fn load_limit(psw: u8) -> bool
     ensures { λ r. ⌜ r ≡ Psw.loadLimit psw ⌝ }
