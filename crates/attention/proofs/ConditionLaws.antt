@@ -2,7 +2,7 @@
 -- Assumes nothing.
 use Prim.Native.Nat.{ℕ, zero, suc, _<_}
 use lib.Dec.{eqb}
-use mathlib.Core.Bool.{Bool, not, _&&_, _||_}
+use mathlib.Core.Bool.{Bool, true, false, not, _&&_, _||_}
 use mathlib.Core.Path.{_≡_, refl, sym}
 use native.Mathlib.Omega.{arith}
 use Rattle.machine.proofs.ConditionLaws.{Told, told-eqb, told-not-eqb, told-and, told-or, told-running, told-not-running, told-suspended}
@@ -11,6 +11,8 @@ use Rattle.machine.specs.Outcomes.{unless, first}
 use Rattle.machine.specs.States.{isChannel, isRunning, isSuspended}
 use Rattle.machine.specs.declared.Mode.{Mode}
 use Rattle.attention.specs.Commands.{commandCoded, isKnown, modeNumber, commandNumber}
+use Rattle.attention.specs.declared.Command.{Command}
+use Rattle.attention.specs.declared.Command.the-variants.{Update, StartLocal, StartSystem, Suspend, Resume, Halt, Unknown}
 use Rattle.attention.specs.Conditions.{NoChannel, NoCommand, ResumesOther, StartsRunning, SuspendsOther}
 
 -- ---- 12
@@ -44,6 +46,22 @@ isCommand n = not (eqb n 2) && not (eqb n 4)
 
 pub told-command : (n : ℕ) → Told (isCommand n) (NoCommand n)
 told-command n = told-and (told-not-eqb n 2) (told-not-eqb n 4)
+
+-- none of these is 2
+unless-else : (ok : Bool) (k : ℕ) → eqb k 2 ≡ false → eqb (unless ok k) 2 ≡ false
+unfolding unless
+unless-else true k h = refl
+unless-else false k h = h
+
+pub never-two : (k : Command) (mode : Mode) → eqb (commandNumber k mode) 2 ≡ false
+unfolding commandNumber isKnown modeNumber first unless
+never-two Update mode = refl
+never-two StartLocal mode = unless-else (not (isRunning mode)) 8 refl
+never-two StartSystem mode = unless-else (not (isRunning mode)) 8 refl
+never-two Suspend mode = unless-else (isRunning mode) 9 refl
+never-two Resume mode = unless-else (isSuspended mode) 7 refl
+never-two Halt mode = refl
+never-two Unknown mode = refl
 
 -- a command's refusal as a chain of the four
 pub command-chain : (n : ℕ) (mode : Mode) → n < 8

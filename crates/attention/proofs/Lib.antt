@@ -1,7 +1,7 @@
-pub mod ReducedLaws
 pub mod PlanLaws
 pub mod ConditionLaws
 pub mod Outcomes
+pub mod SoundLaws
 pub mod Numbers
 pub mod Stores
 pub mod Pauses

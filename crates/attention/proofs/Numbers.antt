@@ -5,33 +5,35 @@ use lib.ListN.{drop}
 use mathlib.Core.Bool.{true, false}
 use mathlib.Core.Logic.{_⊎_, _↔_, Iff·trans}
 use mathlib.Core.Path.{_≡_, refl}
-use Rattle.machine.proofs.OutcomeLaws.{settled-number}
+use Rattle.machine.proofs.OutcomeLaws.{settled-number, first-zero, first-right}
 use Rattle.machine.specs.Outcomes.{givenNumber}
+use Rattle.machine.proofs.StageLaws.{beyond-exactly}
+use Rattle.machine.specs.Stages.{stagesNumber}
 use Rattle.machine.specs.States.{channelOf, withChannel, isSecond}
 use Rattle.machine.specs.declared.State.{State}
 use Rattle.memory.specs.Buffers.{Buffers}
 use Rattle.memory.specs.Places.{span}
 use Rattle.words.proofs.BitLaws.{field-lt}
 use Rattle.machine.proofs.ConditionLaws.{step, last, rewritten, first-assoc, skip, hit, either, end, foreign, never, told-limits, told-sound, told-lent}
-use Rattle.machine.specs.Conditions.{Given, TooLong, NotSound}
+use Rattle.machine.specs.Conditions.{Given, TooLong, NotSound, Beyond}
 use Rattle.attention.specs.Attention.{orderTo, orderNumber, orderedChannel, orderedMemory, givenTo, attentionNumber, attentionOf}
 use Rattle.attention.specs.Blocks.{orderOf}
 use Rattle.attention.specs.Commands.{codeOf}
 use Rattle.attention.specs.Conditions.{NoChannel, CcwBeyond, OthersBeyond, NoCommand, ResumesOther, StartsRunning, SuspendsOther, codeTo, modeTo, attentionChecks, AttentionAfterGiven, AfterCommand, AfterMode}
-use Rattle.attention.specs.Touched.{others}
-use Rattle.attention.proofs.ConditionLaws.{told-channel, told-resume, told-start, told-suspend, told-command, command-chain}
+use Rattle.attention.specs.Touched.{others, orderStages, touchedByOrder}
+use Rattle.attention.proofs.ConditionLaws.{never-two, told-channel, told-resume, told-start, told-suspend, told-command, command-chain}
 
 module _ (s : State) (m : Buffers) (channel : ℕ) where
   -- the table, whole: an attention gives n exactly where n is the number of the first check that applies, or 0 where none does
   pub given-exactly : (n : ℕ) → (attentionOf s m channel .number ≡ n) ↔ Given (attentionChecks s m channel) n
-  unfolding attentionOf attentionNumber givenTo givenNumber orderNumber orderTo orderOf
+  unfolding attentionOf attentionNumber givenTo givenNumber orderNumber stagesNumber orderStages orderTo orderOf
   given-exactly n =
       let b = isSecond channel in
       let o = orderTo s m b in
       let code = codeOf (o .ccw) in
       let mode = channelOf s b .mode in
       rewritten (settled-number (attentionNumber s m channel) s m (withChannel s b (orderedChannel s m b)) (orderedMemory s m b))
-      (rw (first-assoc, first-assoc, command-chain code mode (field-lt (o .ccw) 0 3), first-assoc, first-assoc, first-assoc)
+      (rw (first-zero, first-right, first-assoc, first-assoc, command-chain code mode (field-lt (o .ccw) 0 3), first-assoc, first-assoc, first-assoc)
       (step 12 refl (told-channel channel)
       (step 11 refl (told-limits m)
       (step 10 refl (told-sound s)
@@ -61,6 +63,22 @@ module _ (s : State) (m : Buffers) (channel : ℕ) where
   -- 2: CCW lies beyond lent memory, or, after every other check, another byte does
   pub gives-2 : (attentionOf s m channel .number ≡ 2) ↔ AttentionAfterGiven s m channel (CcwBeyond s m channel ⊎ AfterMode s m channel (OthersBeyond s m channel))
   gives-2 = Iff·trans (given-exactly 2) (skip refl (skip refl (skip refl (either (skip refl (skip refl (skip refl (skip refl (hit (later 2 9 refl))))))))))
+
+  -- 2, said of all the bytes that the order touches: one of them, up to where the order stops, lies beyond lent memory
+  pub touched-2 : (attentionOf s m channel .number ≡ 2) ↔ AttentionAfterGiven s m channel (Beyond m (touchedByOrder (orderTo s m (isSecond channel)) (modeTo s channel)))
+  unfolding attentionOf attentionNumber givenTo givenNumber orderNumber touchedByOrder orderStages
+  touched-2 =
+      let b = isSecond channel in
+      let o = orderTo s m b in
+      let mode = channelOf s b .mode in
+      rewritten (settled-number (attentionNumber s m channel) s m (withChannel s b (orderedChannel s m b)) (orderedMemory s m b))
+      (rw (first-assoc, first-assoc)
+      (Iff·trans
+      (step 12 refl (told-channel channel)
+      (step 11 refl (told-limits m)
+      (step 10 refl (told-sound s)
+      (beyond-exactly m (orderStages o mode) (never-two (o .command) mode, (refl, tt))))))
+      (skip refl (skip refl (skip refl (λ h. h, λ h. h))))))
 
   -- 6: command 010 or 100
   pub gives-6 : (attentionOf s m channel .number ≡ 6) ↔ AttentionAfterGiven s m channel (¬ (CcwBeyond s m channel) × NoCommand (codeTo s m channel))

@@ -1,20 +1,28 @@
--- What holds of every attention, refused or not: its outcome is one, a refused one changes nothing, and none touches the other channel.
+-- What holds of every attention, refused or not: its outcome is one, a refused one changes nothing, and none touches the other channel; and what an accepted one has passed.
 -- Assumes nothing.
 use Prim.Native.Nat.{ℕ}
 use lib.Dec.{eqb}
 use mathlib.Core.Bool.{Bool, true, false, not}
-use mathlib.Core.Path.{_≡_, refl, sym, _∙_}
+use mathlib.Core.Path.{_≡_, refl, sym, ap, _∙_}
 use Rattle.machine.proofs.ChannelLaws.{put-same, put-other, put-cp, put-last}
 use Rattle.machine.proofs.OutcomeLaws.{accepted, settled-number}
-use Rattle.machine.specs.Outcomes.{Outcome, outcome, settled}
-use Rattle.machine.specs.States.{channelOf, withChannel, isSecond}
+use Rattle.machine.proofs.ConditionLaws.{first-none-left, first-none-right, unless-none}
+use Rattle.machine.specs.Outcomes.{Outcome, outcome, settled, givenNumber}
+use Rattle.machine.specs.Stages.{stagesNumber}
+use Rattle.machine.specs.States.{channelOf, withChannel, sound, isSecond}
 use Rattle.machine.specs.declared.Channel.{Channel}
 use Rattle.machine.specs.declared.State.{State}
 use Rattle.memory.specs.Buffers.{Buffers}
+use Rattle.memory.specs.Places.{allLent}
 use Rattle.words.specs.Choice.{pick}
-use Rattle.attention.specs.Attention.{orderTo, orderedChannel, orderedMemory, attentionNumber, attentionOf}
-use Rattle.attention.specs.Effects.{channelOrdered}
-use Rattle.machine.specs.Updates.{withControl}
+use Rattle.attention.specs.Attention.{orderTo, orderNumber, orderedChannel, orderedMemory, givenTo, attentionNumber, attentionOf}
+use Rattle.attention.specs.Commands.{commandNumber, ordered}
+use Rattle.attention.specs.Effects.{onlyPsw, started, suspended, resumed, commanded, channelOrdered}
+use Rattle.attention.specs.Touched.{others, orderStages}
+use Rattle.attention.specs.declared.Command.{Command}
+use Rattle.attention.specs.declared.Command.the-variants.{Update, StartLocal, StartSystem, Suspend, Resume, Halt, Unknown}
+use Rattle.attention.specs.declared.Order.{Order}
+use Rattle.machine.specs.Updates.{withControl, halted}
 
 -- what holds of a refusal's outcome and of an accepted call's holds of the settled one
 pub settled-by : (P : Outcome → Type 0) (number : ℕ) (s : State) (m : Buffers) (s′ : State) (m′ : Buffers)
@@ -29,6 +37,22 @@ settled-by P number s m s′ m′ given done = go (eqb number 0)
 -- a channel with the registers of another that a command can change
 abbrev pub controlledAs : Channel → Channel → Channel
 controlledAs c d = withControl c (d .tp) (d .pp) (d .psw) (d .mode) (d .armed)
+
+-- a command changes no other register
+control-alone : (k : Command) (m : Buffers) (pb : ℕ) (c : Channel) → commanded k m pb c ≡ controlledAs c (commanded k m pb c)
+unfolding commanded started suspended resumed halted withControl
+control-alone Update m pb c = refl
+control-alone StartLocal m pb c = refl
+control-alone StartSystem m pb c = refl
+control-alone Suspend m pb c = refl
+control-alone Resume m pb c = refl
+control-alone Halt m pb c = refl
+control-alone Unknown m pb c = refl
+
+-- nor does what every command does to PSW
+ordered-alone : (m : Buffers) (o : Order) (c : Channel) → channelOrdered m o c ≡ controlledAs c (channelOrdered m o c)
+unfolding channelOrdered withControl
+ordered-alone m o c = ap (λ (k : Channel). onlyPsw k (ordered (o .ccw) (k .psw))) (control-alone (o .command) m (o .pb) c)
 
 module _ (s : State) (m : Buffers) (channel : ℕ) where
   -- what holds of the given state and memories, and of what the order makes of them, holds of an attention's outcome
@@ -73,9 +97,31 @@ module _ (s : State) (m : Buffers) (channel : ℕ) where
   -- of the channel itself only TP, PP, PSW, the mode and the armed mark can change
   pub registers-kept : channelOf (attentionOf s m channel .state) (isSecond channel)
       ≡ controlledAs (channelOf s (isSecond channel)) (channelOf (attentionOf s m channel .state) (isSecond channel))
-  unfolding withControl orderedChannel channelOrdered
+  unfolding orderedChannel withControl
   registers-kept =
       let c = channelOf s (isSecond channel) in
       let o = orderTo s m (isSecond channel) in
       attention-by (λ (r : Outcome). channelOf (r .state) (isSecond channel) ≡ controlledAs c (channelOf (r .state) (isSecond channel))) refl
-      (rw (put-same s (isSecond channel) (channelOrdered m o c)))
+      (rw (put-same s (isSecond channel) (channelOrdered m o c)) (ordered-alone m o c))
+
+-- what an accepted attention has passed
+module _ (s : State) (m : Buffers) (channel : ℕ) (accepted : attentionOf s m channel .number ≡ 0) where
+  number-none : attentionNumber s m channel ≡ 0
+  unfolding attentionOf
+  number-none = sym (settled-number (attentionNumber s m channel) s m (withChannel s (isSecond channel) (orderedChannel s m (isSecond channel))) (orderedMemory s m (isSecond channel))) ∙ accepted
+
+  pub passed-sound : sound s ≡ true
+  unfolding attentionNumber givenTo givenNumber
+  passed-sound = unless-none 10 refl (first-none-right _ _ (first-none-right _ _ (first-none-left _ _ number-none)))
+
+  passed-order : orderNumber m (orderTo s m (isSecond channel)) (channelOf s (isSecond channel) .mode) ≡ 0
+  unfolding attentionNumber
+  passed-order = first-none-right _ _ number-none
+
+  pub passed-command : commandNumber (orderTo s m (isSecond channel) .command) (channelOf s (isSecond channel) .mode) ≡ 0
+  unfolding orderNumber stagesNumber orderStages
+  passed-command = first-none-left _ _ (first-none-right _ _ passed-order)
+
+  pub passed-others : allLent m (others (orderTo s m (isSecond channel))) ≡ true
+  unfolding orderNumber stagesNumber orderStages
+  passed-others = unless-none 2 refl (first-none-left _ _ (first-none-right _ _ (first-none-right _ _ passed-order)))

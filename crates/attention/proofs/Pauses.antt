@@ -1,18 +1,17 @@
 -- Suspend and resume: what is saved comes back.
 -- Assumes nothing.
 use Prim.Native.Nat.{ℕ, _+_, _%_, _<_}
-use borrow.Author.Tests.{ltb-true}
 use lib.Dec.{ltb, eqb, lit<}
 use mathlib.Core.Bool.{Bool, true, false, _&&_}
 use mathlib.Core.List.{_++_}
 use mathlib.Core.Path.{_≡_, refl, sym, ap, _∙_}
 use native.Mathlib.Nat.{mod-eq-of-lt, add-zero}
 use native.Mathlib.Omega.{arith}
-use Rattle.machine.proofs.ChannelLaws.{put-same, sound-channel-of}
+use Rattle.machine.proofs.ChannelLaws.{put-same, sound-channel-of, sound-tp}
 use Rattle.machine.proofs.OutcomeLaws.{accepted, settled-number}
 use Rattle.machine.specs.Outcomes.{Outcome, givenNumber}
 use Rattle.machine.specs.Psw.{withPsw}
-use Rattle.machine.specs.States.{channelOf, withChannel, soundChannel, sound, isSecond, blockOf}
+use Rattle.machine.specs.States.{channelOf, withChannel, soundChannel, sound, isSecond, blockOf, busyIn}
 use Rattle.machine.specs.declared.Channel.{Channel}
 use Rattle.machine.specs.declared.Mode.{Mode}
 use Rattle.machine.specs.declared.Mode.the-variants.{Running, Suspended}
@@ -29,14 +28,14 @@ use Rattle.words.specs.Bits.{fieldOf, bitOf, withBit}
 use Rattle.words.specs.Choice.{pick}
 use Rattle.machine.proofs.ConditionLaws.{first-none-left, first-none-right, unless-none, running-is}
 use Rattle.attention.specs.Attention.{orderTo, orderNumber, orderedChannel, orderedMemory, givenTo, attentionNumber, attentionOf}
-use Rattle.attention.specs.Blocks.{busyOf, parameterBlock, orderOf}
+use Rattle.attention.specs.Blocks.{parameterBlock, orderOf}
 use Rattle.attention.specs.Commands.{isKnown, modeNumber, commandNumber, copied, obeyed, ordered}
-use Rattle.attention.specs.Effects.{stopped, resumed, commanded, channelOrdered, writesOf, saved, marked, writesMade}
-use Rattle.machine.specs.Updates.{withControl}
+use Rattle.attention.specs.Effects.{onlyPsw, suspended, resumed, commanded, channelOrdered, writesOf, saved, marked, writesMade}
+use Rattle.machine.specs.Updates.{withControl, stoppedPsw}
 use Rattle.attention.specs.Pauses.{Pause}
 use Rattle.attention.specs.Touched.{readBy, storedBy, others}
 use Rattle.attention.specs.declared.Command.the-variants.{Suspend, Resume}
-use Rattle.attention.proofs.Outcomes.{accepted-order}
+use Rattle.attention.proofs.Outcomes.{accepted-order, passed-sound, passed-command, passed-others}
 
 -- ---- what the saved bytes read
 
@@ -70,8 +69,8 @@ pointer-same m n t a e = rw (rw add-zero at (e 0 (lit< tt)), e 1 (lit< tt), e 2 
 
 module _ (s : State) (m : Buffers) (b : Bool) where
   suspend-channel : orderTo s m b .command ≡ Suspend
-      → orderedChannel s m b ≡ withControl (channelOf s b) (channelOf s b .tp) (channelOf s b .pp) (ordered (orderTo s m b .ccw) (withPsw (withPsw (channelOf s b .psw) 2 false) 6 false)) Suspended (channelOf s b .armed)
-  unfolding orderedChannel channelOrdered orderTo orderOf commanded stopped parameterBlock
+      → orderedChannel s m b ≡ withControl (channelOf s b) (channelOf s b .tp) (channelOf s b .pp) (ordered (orderTo s m b .ccw) (stoppedPsw (channelOf s b .psw))) Suspended (channelOf s b .armed)
+  unfolding orderedChannel channelOrdered orderTo orderOf commanded suspended withControl parameterBlock
   suspend-channel e = rw e
 
   suspend-memory : orderTo s m b .command ≡ Suspend → orderedMemory s m b ≡ marked (saved m (channelOf s b .pp) (channelOf s b .tp) (channelOf s b .psw)) (blockOf s b) 0
@@ -82,54 +81,19 @@ module _ (s : State) (m : Buffers) (b : Bool) where
   unfolding others orderTo orderOf parameterBlock readBy storedBy
   suspend-lent e h =
       let pp = channelOf s b .pp in
-      let busy = span false (busyOf (blockOf s b)) 1 in
+      let busy = span false (busyIn (blockOf s b)) 1 in
       let both : allLent m (span false pp 4 ++ busy) ≡ true = rw e at h in
       both-left (allLent m (span false pp 4)) (allLent m busy) (sym (all-append m (span false pp 4) busy) ∙ both)
 
   resume-channel : orderTo s m b .command ≡ Resume
       → orderedChannel s m b ≡ withControl (channelOf s b) (pointerAt m false (channelOf s b .pp)) (channelOf s b .pp) (ordered (orderTo s m b .ccw) (withPsw (byteAt m false (channelOf s b .pp + 3)) 2 true)) Running (channelOf s b .armed)
-  unfolding orderedChannel channelOrdered orderTo orderOf commanded resumed parameterBlock
+  unfolding orderedChannel channelOrdered orderTo orderOf commanded resumed withControl parameterBlock
   resume-channel e = rw e
-
--- ---- what an accepted attention has passed
-
-module _ (s : State) (m : Buffers) (channel : ℕ) (accepted : attentionOf s m channel .number ≡ 0) where
-  number-none : attentionNumber s m channel ≡ 0
-  unfolding attentionOf
-  number-none = sym (settled-number (attentionNumber s m channel) s m (withChannel s (isSecond channel) (orderedChannel s m (isSecond channel))) (orderedMemory s m (isSecond channel))) ∙ accepted
-
-  passed-sound : sound s ≡ true
-  unfolding attentionNumber givenTo givenNumber
-  passed-sound = unless-none 10 refl (first-none-right _ _ (first-none-right _ _ (first-none-left _ _ number-none)))
-
-  passed-order : orderNumber m (orderTo s m (isSecond channel)) (channelOf s (isSecond channel) .mode) ≡ 0
-  unfolding attentionNumber
-  passed-order = first-none-right _ _ number-none
-
-  passed-command : commandNumber (orderTo s m (isSecond channel) .command) (channelOf s (isSecond channel) .mode) ≡ 0
-  unfolding orderNumber
-  passed-command = first-none-left _ _ (first-none-right _ _ passed-order)
-
-  passed-others : allLent m (others (orderTo s m (isSecond channel))) ≡ true
-  unfolding orderNumber
-  passed-others = unless-none 2 refl (first-none-right _ _ (first-none-right _ _ passed-order))
-
--- TP of a sound channel is one of 20 bits
-sound-tp : (c : Channel) → soundChannel c ≡ true → c .tp .address < 1048576
-unfolding soundChannel
-sound-tp c h =
-    let others = ltb (c .ga .address) 1048576 && ltb (c .gb .address) 1048576 && ltb (c .gc .address) 1048576 in
-    let tp = ltb (c .tp .address) 1048576 in
-    ltb-true (c .tp .address) 1048576 (both-right others tp (both-left (others && tp) (ltb (c .pp) 1048576) h))
 
 -- only a running channel can be suspended
 suspends-running : (mode : Mode) → commandNumber Suspend mode ≡ 0 → mode ≡ Running
 unfolding commandNumber isKnown modeNumber
 suspends-running mode e = running-is mode (unless-none 9 refl (first-none-right _ _ e))
-
--- a channel with another PSW, and no other change
-abbrev pub onlyPsw : Channel → ℕ → Channel
-onlyPsw c psw = withControl c (c .tp) (c .pp) psw (c .mode) (c .armed)
 
 -- of PSW a CCW reaches only bits 3, 4, 5 and 7
 pub ordered-else : (ccw psw j : ℕ) → ¬ (j ≡ 3) → ¬ (j ≡ 4) → ¬ (j ≡ 5) → ¬ (j ≡ 7) → bitOf (ordered ccw psw) j ≡ bitOf psw j
@@ -151,7 +115,7 @@ module _ (s : State) (m : Buffers) (s′ : State) (m′ : Buffers) (channel : �
   before = channelOf s (isSecond channel)
 
   -- and after it
-  between : channelOf s′ (isSecond channel) ≡ withControl before (before .tp) (before .pp) (ordered (orderTo s m (isSecond channel) .ccw) (withPsw (withPsw (before .psw) 2 false) 6 false)) Suspended (before .armed)
+  between : channelOf s′ (isSecond channel) ≡ withControl before (before .tp) (before .pp) (ordered (orderTo s m (isSecond channel) .ccw) (stoppedPsw (before .psw))) Suspended (before .armed)
   unfolding before
   between =
       let b = isSecond channel in
@@ -168,8 +132,8 @@ module _ (s : State) (m : Buffers) (s′ : State) (m′ : Buffers) (channel : �
       p .bytes k h
       ∙ ap (λ (r : Outcome). byteAt (r .memory) false (before .pp + k)) (accepted-order s m channel (p .accepted))
       ∙ ap (λ (n : Buffers). byteAt n false (before .pp + k)) (suspend-memory s m b (p .suspends))
-      ∙ read-other (saved m (before .pp) (before .tp) (before .psw)) false (busyOf (blockOf s b)) 0 false (before .pp + k)
-      (λ e i. apart-at false (before .pp) 4 k false (busyOf (blockOf s b)) (p .busy) h refl (sym i))
+      ∙ read-other (saved m (before .pp) (before .tp) (before .psw)) false (busyIn (blockOf s b)) 0 false (before .pp + k)
+      (λ e i. apart-at false (before .pp) 4 k false (busyIn (blockOf s b)) (p .busy) h refl (sym i))
 
   saved-lent : allLent m (span false (before .pp) 4) ≡ true
   unfolding before

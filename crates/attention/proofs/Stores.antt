@@ -8,7 +8,7 @@ use mathlib.Core.List.{List}
 use mathlib.Core.Path.{_≡_, refl, _∙_}
 use native.Mathlib.Nat.{add-zero}
 use Rattle.machine.specs.Outcomes.{Outcome}
-use Rattle.machine.specs.States.{channelOf, isSecond}
+use Rattle.machine.specs.States.{channelOf, isSecond, busyIn}
 use Rattle.machine.specs.declared.Channel.{Channel}
 use Rattle.machine.specs.declared.State.{State}
 use Rattle.memory.proofs.SpanLaws.{apart-at}
@@ -19,7 +19,6 @@ use Rattle.memory.specs.Values.{storePointer}
 use Rattle.memory.specs.declared.Pointer.{Pointer}
 use Rattle.words.specs.Stored.{storedLow, storedMiddle, storedHigh}
 use Rattle.attention.specs.Attention.{orderTo, orderedMemory, attentionOf}
-use Rattle.attention.specs.Blocks.{busyOf}
 use Rattle.attention.specs.Effects.{writesOf, saved, marked, writesMade}
 use Rattle.attention.specs.Touched.{storedBy}
 use Rattle.attention.specs.declared.Command.{Command}
@@ -45,13 +44,13 @@ written-else : (k : Command) (m : Buffers) (block pb : ℕ) (c : Channel) (t : B
     → byteAt (writesMade m (writesOf k block pb c)) t b ≡ byteAt m t b
 unfolding writesMade writesOf storedBy marked span
 written-else Update m block pb c t b h = refl
-written-else StartLocal m block pb c t b h = read-other m false (busyOf block) 255 t b (h .0)
-written-else StartSystem m block pb c t b h = read-other m false (busyOf block) 255 t b (h .0)
+written-else StartLocal m block pb c t b h = read-other m false (busyIn block) 255 t b (h .0)
+written-else StartSystem m block pb c t b h = read-other m false (busyIn block) 255 t b (h .0)
 written-else Suspend m block pb c t b h =
-    read-other (saved m pb (c .tp) (c .psw)) false (busyOf block) 0 t b (h .1 .1 .1 .1 .0)
+    read-other (saved m pb (c .tp) (c .psw)) false (busyIn block) 0 t b (h .1 .1 .1 .1 .0)
     ∙ saved-else m pb (c .tp) (c .psw) t b (h .0, (h .1 .0, (h .1 .1 .0, (h .1 .1 .1 .0, tt))))
-written-else Resume m block pb c t b h = read-other m false (busyOf block) 255 t b (h .0)
-written-else Halt m block pb c t b h = read-other m false (busyOf block) 0 t b (h .0)
+written-else Resume m block pb c t b h = read-other m false (busyIn block) 255 t b (h .0)
+written-else Halt m block pb c t b h = read-other m false (busyIn block) 0 t b (h .0)
 written-else Unknown m block pb c t b h = refl
 
 -- no store changes the length of a memory

@@ -1,32 +1,28 @@
--- The attention call: its number, a chain in the paper's order, and its whole outcome.
+-- The attention call (§4): its number, by the first test that applies (§3.5), and its whole outcome.
 use mathlib.Core.Bool.{Bool, false}
 use Prim.Native.Nat.{ℕ}
 use lib.Dec.{eqb}
 use Rattle.words.specs.Choice.{pick}
 use Rattle.memory.specs.Buffers.{Buffers}
-use Rattle.memory.specs.Places.{span, allLent}
 use Rattle.machine.specs.Outcomes.{Outcome, unless, first, settled, givenNumber}
+use Rattle.machine.specs.Stages.{stagesNumber}
 use Rattle.machine.specs.States.{channelOf, withChannel, isChannel, isSecond, blockOf}
 use Rattle.machine.specs.declared.Channel.{Channel}
 use Rattle.machine.specs.declared.Mode.{Mode}
 use Rattle.machine.specs.declared.State.{State}
 use Rattle.attention.specs.declared.Upshot.{Upshot}
 use Rattle.attention.specs.declared.Order.{Order}
-use Rattle.attention.specs.Commands.{commandNumber}
 use Rattle.attention.specs.Blocks.{orderOf}
-use Rattle.attention.specs.Touched.{others}
+use Rattle.attention.specs.Touched.{orderStages}
 use Rattle.attention.specs.Effects.{channelOrdered, writes, writesOf, writesMade}
 
 -- the order that a channel's block holds
 unfoldable pub orderTo : State → Buffers → Bool → Order
 orderTo s m second = orderOf m (blockOf s second) (channelOf s second .pp)
 
--- "CCW readable (2), 6, then 7, 8 or 9, other bytes (2)"
+-- the number of an order, by its stages: 2 for CCW, 6, then 7, 8 or 9, and 2 for the other bytes
 unfoldable pub orderNumber : Buffers → Order → Mode → ℕ
-orderNumber m o mode =
-    first (unless (allLent m (span false (o .block) 1)) 2)
-    (first (commandNumber (o .command) mode)
-    (unless (allLent m (others o)) 2))
+orderNumber m o mode = stagesNumber m (orderStages o mode)
 
 -- what the order in a block comes to before anything is stored: refused, also for what was given, it leaves the channel as it is and stores nothing
 unfoldable pub plannedOf : Buffers → ℕ → ℕ → Channel → Upshot
@@ -47,7 +43,7 @@ orderedMemory s m second =
     let o = orderTo s m second in
     writesMade m (writesOf (o .command) (o .block) (o .pb) (channelOf s second))
 
--- "Order: 12, 11, 10"
+-- the refusal of what it is given: 12, 11, 10
 unfoldable pub givenTo : State → Buffers → ℕ → ℕ
 givenTo s m channel = first (unless (isChannel channel) 12) (givenNumber s m)
 

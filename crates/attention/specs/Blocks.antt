@@ -1,6 +1,7 @@
--- A channel's block, "CCW, BUSY, PB offset, PB segment (words)", and the order that it gives.
+-- A channel's block and the order that it gives (§4.1): CCW, BUSY (`busyIn`), and the doubleword pointer to PB.
 use mathlib.Core.Bool.{false}
-use Prim.Native.Nat.{ℕ, _+_}
+use Prim.Native.Nat.{ℕ}
+use Rattle.words.specs.Sums.{sum20}
 use Rattle.memory.specs.Buffers.{Buffers, byteAt}
 use Rattle.memory.specs.Values.{doublewordAt}
 use Rattle.attention.specs.declared.Command.{Command}
@@ -12,15 +13,11 @@ use Rattle.attention.specs.Commands.{commandOf}
 unfoldable pub ccwOf : Buffers → ℕ → ℕ
 ccwOf m block = byteAt m false block
 
--- BUSY is its second
-abbrev pub busyOf : ℕ → ℕ
-busyOf block = block + 1
-
--- PB offset and PB segment, the next four, are a doubleword pointer
+-- the pointer to PB is its last four
 abbrev pub pointerOf : ℕ → ℕ
-pointerOf block = block + 2
+pointerOf block = sum20 block 2
 
--- where PB lies: for a start "from the block", for any other command "at PP"
+-- where PB lies: a start takes it from the block, every other command finds it at PP
 unfoldable pub parameterBlock : Command → Buffers → ℕ → ℕ → ℕ
 parameterBlock Update m block pp = pp
 parameterBlock StartLocal m block pp = doublewordAt m false (pointerOf block)

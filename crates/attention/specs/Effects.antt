@@ -1,59 +1,52 @@
--- What an accepted command makes of the channel and of memory.
+-- What an accepted command makes of the channel and of memory (§4.3 to §4.9).
 use mathlib.Core.Bool.{Bool, true, false}
 use Prim.Native.Nat.{ℕ, _+_}
 use Rattle.words.specs.Choice.{pick}
 use Rattle.memory.specs.Buffers.{Buffers, byteAt, storeByte}
 use Rattle.memory.specs.Values.{wordAt, doublewordAt, pointer, pointerAt, storePointer}
 use Rattle.memory.specs.declared.Pointer.{Pointer}
-use Rattle.machine.specs.Updates.{withControl}
+use Rattle.machine.specs.Updates.{withControl, stoppedPsw, halted}
 use Rattle.machine.specs.Psw.{withPsw}
 use Rattle.machine.specs.declared.Channel.{Channel}
-use Rattle.machine.specs.declared.Mode.{Mode}
-use Rattle.machine.specs.declared.Mode.the-variants.{Idle, Running, Suspended}
+use Rattle.machine.specs.States.{busyIn}
+use Rattle.machine.specs.declared.Mode.the-variants.{Running, Suspended}
 use Rattle.attention.specs.declared.Command.{Command}
 use Rattle.attention.specs.declared.Command.the-variants.{Update, StartLocal, StartSystem, Suspend, Resume, Halt, Unknown}
-use Rattle.attention.specs.declared.Control.{Control}
 use Rattle.attention.specs.declared.Order.{Order}
 use Rattle.attention.specs.declared.Writes.{Writes}
-use Rattle.attention.specs.Blocks.{busyOf}
 use Rattle.attention.specs.Commands.{ordered}
 
--- what a command decides of those: all but PP
-abbrev pub control : Pointer → ℕ → Mode → Bool → Control
-control tp psw mode armed = record { tp = tp; psw = psw; mode = mode; armed = armed }
+-- a channel with another PSW, and no other change
+abbrev pub onlyPsw : Channel → ℕ → Channel
+onlyPsw c psw = withControl c (c .tp) (c .pp) psw (c .mode) (c .armed)
 
--- the control registers of a channel
-abbrev pub controlOf : Channel → Control
-controlOf c = control (c .tp) (c .psw) (c .mode) (c .armed)
+-- start: PP and TP are new; running, TB 1, XF 0, without the mark
+unfoldable pub started : Channel → ℕ → Pointer → Channel
+started c pp tp = withControl c tp pp (withPsw (withPsw (c .psw) 2 true) 6 false) Running false
 
--- start: "TP from PB ..; running, TB 1, XF 0, unarmed"
-unfoldable pub started : Control → Pointer → Control
-started k tp = control tp (withPsw (withPsw (k .psw) 2 true) 6 false) Running false
+-- suspend: TB and XF 0, the mark stays
+unfoldable pub suspended : Channel → Channel
+suspended c = withControl c (c .tp) (c .pp) (stoppedPsw (c .psw)) Suspended (c .armed)
 
--- suspend and halt: "TB and XF clear"
-unfoldable pub stopped : Control → Mode → Bool → Control
-stopped k mode armed = control (k .tp) (withPsw (withPsw (k .psw) 2 false) 6 false) mode armed
+-- resume: TP and PSW as they were saved, but that TB is 1; running, the mark stays
+unfoldable pub resumed : Channel → Pointer → ℕ → Channel
+resumed c tp psw = withControl c tp (c .pp) (withPsw psw 2 true) Running (c .armed)
 
--- resume: "TP, tag, PSW from those bytes at PP; TB 1; running"; the armed mark stays
-unfoldable pub resumed : Control → Pointer → ℕ → Control
-resumed k tp psw = control tp (withPsw psw 2 true) Running (k .armed)
+-- what each command makes of its channel: 001 takes TP from PB's first word, with tag 1, and 011 from its first two as a doubleword pointer, with tag 0
+unfoldable pub commanded : Command → Buffers → ℕ → Channel → Channel
+commanded Update m pb c = c
+commanded StartLocal m pb c = started c pb (pointer (wordAt m false pb) true)
+commanded StartSystem m pb c = started c pb (pointer (doublewordAt m false pb) false)
+commanded Suspend m pb c = suspended c
+commanded Resume m pb c = resumed c (pointerAt m false pb) (byteAt m false (pb + 3))
+commanded Halt m pb c = halted c
+commanded Unknown m pb c = c
 
--- what each command makes of them: "000: nothing more"; a start takes "TP from PB's first word, tag 1 (001), or its first two words as doubleword
--- pointer, tag 0 (011)"; suspend: "suspended .. The armed mark stays"; halt: "idle .. unarmed"
-unfoldable pub commanded : Command → Buffers → ℕ → Control → Control
-commanded Update m pb k = k
-commanded StartLocal m pb k = started k (pointer (wordAt m false pb) true)
-commanded StartSystem m pb k = started k (pointer (doublewordAt m false pb) false)
-commanded Suspend m pb k = stopped k Suspended (k .armed)
-commanded Resume m pb k = resumed k (pointerAt m false pb) (byteAt m false (pb + 3))
-commanded Halt m pb k = stopped k Idle false
-commanded Unknown m pb k = k
-
--- the channel after an accepted order: PP is where PB lies, and what every command does to PSW "follows any PSW reload"
+-- the channel after an accepted order: what every command does to PSW comes last (§4.3)
 unfoldable pub channelOrdered : Buffers → Order → Channel → Channel
 channelOrdered m o c =
-    let k = commanded (o .command) m (o .pb) (controlOf c) in
-    withControl c (k .tp) (o .pb) (ordered (o .ccw) (k .psw)) (k .mode) (k .armed)
+    let k = commanded (o .command) m (o .pb) c in
+    onlyPsw k (ordered (o .ccw) (k .psw))
 
 -- what an order stores, with what it needs for that: whether TP and PSW are saved in PB; whether BUSY is stored, and as what
 abbrev pub writes : Bool → Bool → ℕ → ℕ → ℕ → Channel → Writes
@@ -70,15 +63,15 @@ writesOf Resume = writes false true 255
 writesOf Halt = writes false true 0
 writesOf Unknown = writes false false 0
 
--- "of PB, taken at PP, bytes 0-2 get TP in stored form, byte 3 the PSW before this command"
+-- TP in its stored form and then PSW, as they were before this command, in PB's first four bytes (§4.6)
 unfoldable pub saved : Buffers → ℕ → Pointer → ℕ → Buffers
 saved m pb tp psw = storeByte (storePointer m false pb tp) false (pb + 3) psw
 
 -- BUSY stored
 unfoldable pub marked : Buffers → ℕ → ℕ → Buffers
-marked m block busy = storeByte m false (busyOf block) busy
+marked m block busy = storeByte m false (busyIn block) busy
 
--- memory after those stores, "in that order": what is saved, then BUSY
+-- memory after those stores: what is saved, then BUSY
 unfoldable pub writesMade : Buffers → Writes → Buffers
 writesMade m w =
     let n = pick (w .saves) (saved m (w .pb) (w .tp) (w .psw)) m in

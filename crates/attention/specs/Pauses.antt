@@ -4,11 +4,10 @@ use mathlib.Core.Path.{_≡_}
 use Prim.Native.Nat.{ℕ, _+_, _<_}
 use Rattle.memory.specs.Buffers.{Buffers, byteAt}
 use Rattle.memory.specs.Places.{span, ApartFrom}
-use Rattle.machine.specs.States.{channelOf, isSecond, blockOf}
+use Rattle.machine.specs.States.{channelOf, isSecond, blockOf, busyIn}
 use Rattle.machine.specs.declared.State.{State}
 use Rattle.attention.specs.declared.Command.the-variants.{Suspend, Resume}
 use Rattle.attention.specs.Attention.{orderTo, attentionOf}
-use Rattle.attention.specs.Blocks.{busyOf}
 
 -- an attention to a channel that suspends it, and a later one, in any state and memories, that resumes it
 pub record Pause (s : State) (m : Buffers) (s′ : State) (m′ : Buffers) (channel : ℕ) : Type 0 where
@@ -24,4 +23,4 @@ pub record Pause (s : State) (m : Buffers) (s′ : State) (m′ : Buffers) (chan
   pub bytes : (k : ℕ) → k < 4
       → byteAt m′ false (channelOf s (isSecond channel) .pp + k) ≡ byteAt (attentionOf s m channel .memory) false (channelOf s (isSecond channel) .pp + k)
   -- of which BUSY is none
-  pub busy : ApartFrom (span false (channelOf s (isSecond channel) .pp) 4) false (busyOf (blockOf s (isSecond channel)))
+  pub busy : ApartFrom (span false (channelOf s (isSecond channel) .pp) 4) false (busyIn (blockOf s (isSecond channel)))

@@ -1,12 +1,16 @@
--- Which bytes an attention reads and stores, each access once.
+-- Which bytes an attention reads and stores, each access once, and in which stages (§3.5, §4.9).
 use mathlib.Core.Bool.{false}
-use mathlib.Core.List.{List, [], _++_}
+use mathlib.Core.List.{List, [], _∷_, _++_}
 use Prim.Native.Nat.{ℕ}
 use Rattle.memory.specs.Places.{Place, span}
+use Rattle.machine.specs.Stages.{Stage, stage, stagesTouched}
+use Rattle.machine.specs.States.{busyIn}
+use Rattle.machine.specs.declared.Mode.{Mode}
 use Rattle.attention.specs.declared.Command.{Command}
 use Rattle.attention.specs.declared.Command.the-variants.{Update, StartLocal, StartSystem, Suspend, Resume, Halt, Unknown}
 use Rattle.attention.specs.declared.Order.{Order}
-use Rattle.attention.specs.Blocks.{busyOf, pointerOf}
+use Rattle.attention.specs.Blocks.{pointerOf}
+use Rattle.attention.specs.Commands.{commandNumber}
 
 -- what each command reads after CCW: a start the block's pointer and PB's first word (001) or first two (011), resume PB's first four bytes
 unfoldable pub readBy : Command → ℕ → ℕ → List Place
@@ -21,17 +25,21 @@ readBy Unknown block pb = []
 -- what each command stores: suspend PB's first four bytes, and every command but 000 BUSY
 unfoldable pub storedBy : Command → ℕ → ℕ → List Place
 storedBy Update block pb = []
-storedBy StartLocal block pb = span false (busyOf block) 1
-storedBy StartSystem block pb = span false (busyOf block) 1
-storedBy Suspend block pb = span false pb 4 ++ span false (busyOf block) 1
-storedBy Resume block pb = span false (busyOf block) 1
-storedBy Halt block pb = span false (busyOf block) 1
+storedBy StartLocal block pb = span false (busyIn block) 1
+storedBy StartSystem block pb = span false (busyIn block) 1
+storedBy Suspend block pb = span false pb 4 ++ span false (busyIn block) 1
+storedBy Resume block pb = span false (busyIn block) 1
+storedBy Halt block pb = span false (busyIn block) 1
 storedBy Unknown block pb = []
 
 -- all that an order touches after its CCW
 unfoldable pub others : Order → List Place
 others o = readBy (o .command) (o .block) (o .pb) ++ storedBy (o .command) (o .block) (o .pb)
 
--- all that it touches
-unfoldable pub touchedByOrder : Order → List Place
-touchedByOrder o = span false (o .block) 1 ++ others o
+-- an order to a channel in some mode: CCW, then the refusal of its command; the other bytes, and no refusal after them
+unfoldable pub orderStages : Order → Mode → List Stage
+orderStages o mode = stage (span false (o .block) 1) (commandNumber (o .command) mode) ∷ stage (others o) 0 ∷ []
+
+-- all that it touches: CCW alone where the command is refused
+unfoldable pub touchedByOrder : Order → Mode → List Place
+touchedByOrder o mode = stagesTouched (orderStages o mode)

@@ -1,6 +1,5 @@
 // What an accepted order makes of the channel and of memory.
 use crate::Command;
-use crate::Control;
 use crate::Order;
 use crate::Writes;
 use crate::commands;
@@ -15,70 +14,71 @@ ghost use Rattle.memory.specs.Buffers.{buffers};
 ghost use Rattle.attention.specs.Effects as Effects;
 ghost use Rattle.attention.specs.Effects.{channelOrdered, writesOf, saved, marked, writesMade};
 
-// The control registers after a start.
-fn started(k: Control, tp: Pointer) -> Control
-    ensures { λ r. ⌜ r ≡ Effects.started k tp ⌝ }
+// The channel after a start with PB and TP.
+fn started(c: Channel, pp: u32, tp: Pointer) -> Channel
+    ensures { λ r. ⌜ r ≡ Effects.started c pp tp ⌝ }
 {
-    Control {
-        tp,
-        psw: psw::with(psw::with(k.psw, psw::TB, true), psw::XF, false),
-        mode: Mode::Running,
-        armed: false,
-    }
+    let after = psw::with(psw::with(c.psw, psw::TB, true), psw::XF, false);
+    updates::with_control(c, tp, pp, after, Mode::Running, false)
 }
 
-// The control registers after suspend or halt.
-fn stopped(k: Control, mode: Mode, armed: bool) -> Control
-    ensures { λ r. ⌜ r ≡ Effects.stopped k mode armed ⌝ }
+// The channel after suspend.
+fn suspended(c: Channel) -> Channel
+    ensures { λ r. ⌜ r ≡ Effects.suspended c ⌝ }
 {
-    let tp = k.tp;
-    Control {
+    let tp = c.tp;
+    updates::with_control(
+        c,
         tp,
-        psw: psw::with(psw::with(k.psw, psw::TB, false), psw::XF, false),
-        mode,
-        armed,
-    }
+        c.pp,
+        updates::stopped_psw(c.psw),
+        Mode::Suspended,
+        c.armed,
+    )
 }
 
-// The control registers after resume.
-fn resumed(k: Control, tp: Pointer, saved: u8) -> Control
-    ensures { λ r. ⌜ r ≡ Effects.resumed k tp saved ⌝ }
+// The channel after resume, with TP and PSW as they were saved.
+fn resumed(c: Channel, tp: Pointer, saved: u8) -> Channel
+    ensures { λ r. ⌜ r ≡ Effects.resumed c tp saved ⌝ }
 {
-    Control {
+    updates::with_control(
+        c,
         tp,
-        psw: psw::with(saved, psw::TB, true),
-        mode: Mode::Running,
-        armed: k.armed,
-    }
+        c.pp,
+        psw::with(saved, psw::TB, true),
+        Mode::Running,
+        c.armed,
+    )
 }
 
-// The control registers after a command.
-fn commanded(sys: &[u8], io: &[u8], command: Command, pb: u32, k: Control) -> Control
-    ensures { λ r. ⌜ r ≡ Effects.commanded command (buffers (now (sys .entry)) (now (io .entry))) pb k ⌝ }
+// The channel after a command.
+fn commanded(sys: &[u8], io: &[u8], command: Command, pb: u32, c: Channel) -> Channel
+    ensures { λ r. ⌜ r ≡ Effects.commanded command (buffers (now (sys .entry)) (now (io .entry))) pb c ⌝ }
 {
     match command {
-        Command::Update => k,
+        Command::Update => c,
         Command::StartLocal => {
             let address = memory::word(sys, io, false, pb) as u32;
-            started(k, Pointer { address, tag: true })
+            started(c, pb, Pointer { address, tag: true })
         }
         Command::StartSystem => {
             let address = memory::doubleword(sys, io, false, pb);
             started(
-                k,
+                c,
+                pb,
                 Pointer {
                     address,
                     tag: false,
                 },
             )
         }
-        Command::Suspend => stopped(k, Mode::Suspended, k.armed),
+        Command::Suspend => suspended(c),
         Command::Resume => {
             let saved = memory::byte(sys, io, false, words::sum20(pb, 3));
-            resumed(k, memory::stored_pointer(sys, io, false, pb), saved)
+            resumed(c, memory::stored_pointer(sys, io, false, pb), saved)
         }
-        Command::Halt => stopped(k, Mode::Idle, false),
-        Command::Unknown => k,
+        Command::Halt => updates::halted(c),
+        Command::Unknown => c,
     }
 }
 
@@ -87,24 +87,9 @@ pub fn channel_ordered(sys: &[u8], io: &[u8], o: Order, c: Channel) -> Channel
     ensures { λ r. ⌜ r ≡ channelOrdered (buffers (now (sys .entry)) (now (io .entry))) o c ⌝ }
 {
     let command = o.command;
-    let tp = c.tp;
-    let mode = c.mode;
-    let before = Control {
-        tp,
-        psw: c.psw,
-        mode,
-        armed: c.armed,
-    };
-    let k = commanded(sys, io, command, o.pb, before);
-    let after = k.mode;
-    updates::with_control(
-        c,
-        k.tp,
-        o.pb,
-        commands::ordered(o.ccw, k.psw),
-        after,
-        k.armed,
-    )
+    let mut next = commanded(sys, io, command, o.pb, c);
+    next.psw = commands::ordered(o.ccw, next.psw);
+    next
 }
 
 // What an order stores, with what it needs for that.

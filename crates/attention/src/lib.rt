@@ -38,14 +38,6 @@ pub struct Order {
     pub pb: u32,
 }
 
-// The registers that a command can change, besides PP.
-pub struct Control {
-    pub tp: Pointer,
-    pub psw: u8,
-    pub mode: Mode,
-    pub armed: bool,
-}
-
 // What an attention stores: TP and PSW at PB or not, then BUSY or not.
 pub struct Writes {
     pub saves: bool,

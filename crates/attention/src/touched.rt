@@ -4,29 +4,29 @@ use crate::Order;
 ghost use mathlib.Core.Bool.{false};
 ghost use mathlib.Core.Path.{_≡_};
 ghost use mathlib.Core.List.{_++_};
-ghost use Prim.Native.Nat.{_+_};
 ghost use Rattle.memory.specs.Buffers.{buffers};
 ghost use Rattle.memory.specs.Places.{span, allLent};
-ghost use Rattle.attention.specs.Blocks.{busyOf, pointerOf};
+ghost use Rattle.machine.specs.States.{busyIn};
+ghost use Rattle.attention.specs.Blocks.{pointerOf};
 ghost use Rattle.attention.specs.Touched as Touched;
 
 // Whether BUSY is lent.
 fn busy(sys: &[u8], io: &[u8], block: u32) -> bool
-    ensures { λ r. ⌜ r ≡ allLent (buffers (now (sys .entry)) (now (io .entry))) (span false (busyOf block) 1) ⌝ }
+    ensures { λ r. ⌜ r ≡ allLent (buffers (now (sys .entry)) (now (io .entry))) (span false (busyIn block) 1) ⌝ }
 {
     memory::span_lent(sys, io, false, words::sum20(block, 1), 1)
 }
 
 // Whether PB's first `count` bytes and BUSY are lent.
 fn stored(sys: &[u8], io: &[u8], block: u32, pb: u32, count: u32) -> bool
-    ensures { λ r. ⌜ r ≡ allLent (buffers (now (sys .entry)) (now (io .entry))) (span false pb count ++ span false (busyOf block) 1) ⌝ }
+    ensures { λ r. ⌜ r ≡ allLent (buffers (now (sys .entry)) (now (io .entry))) (span false pb count ++ span false (busyIn block) 1) ⌝ }
 {
     memory::span_lent(sys, io, false, pb, count) & busy(sys, io, block)
 }
 
 // Whether a start's bytes are lent: the block's pointer, `count` bytes of PB, and BUSY.
 fn started(sys: &[u8], io: &[u8], block: u32, pb: u32, count: u32) -> bool
-    ensures { λ r. ⌜ r ≡ allLent (buffers (now (sys .entry)) (now (io .entry))) ((span false (pointerOf block) 4 ++ span false pb count) ++ span false (busyOf block) 1) ⌝ }
+    ensures { λ r. ⌜ r ≡ allLent (buffers (now (sys .entry)) (now (io .entry))) ((span false (pointerOf block) 4 ++ span false pb count) ++ span false (busyIn block) 1) ⌝ }
 {
     memory::span_lent(sys, io, false, words::sum20(block, 2), 4) & stored(sys, io, block, pb, count)
 }

@@ -1,7 +1,7 @@
 -- The two lent buffers, and all that is decided about a single byte: where it lies, whether it is lent, what a read gives and what a store does.
 use mathlib.Core.Bool.{Bool, true, false, _&&_}
 use mathlib.Core.List.{List}
-use Prim.Native.Nat.{ℕ, _%_}
+use Prim.Native.Nat.{ℕ, _%_, _<_}
 use lib.ListN.{length, getD, set}
 use lib.Dec.{ltb, leb}
 use Rattle.words.specs.Choice.{pick}
@@ -33,6 +33,10 @@ lentAt m tag address = ltb (indexOf tag address) (length (spaceOf m tag))
 -- what a read of the byte at an address gives; 0 beyond the lent end
 unfoldable pub byteAt : Buffers → Bool → ℕ → ℕ
 byteAt m tag address = getD (spaceOf m tag) (indexOf tag address) 0
+
+-- every read gives a byte, as it does of every buffer that a caller lends: its elements are bytes
+abbrev pub AllBytes : Buffers → Type 0
+AllBytes m = (tag : Bool) (address : ℕ) → byteAt m tag address < 256
 
 -- what a store of a byte at an address leaves; nothing happens beyond the lent end (`set` past a list's end is the list)
 unfoldable pub storeByte : Buffers → Bool → ℕ → ℕ → Buffers

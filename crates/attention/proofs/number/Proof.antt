@@ -3,37 +3,39 @@
 use borrow.Author.Needs.{needs}
 use borrow.Author.Tests.{eq-eqb, ne-eqb, not-true, not-false}
 use Rattle.machine.specs.Outcomes.{unless, first}
+use Rattle.machine.specs.Stages.{stagesNumber}
 use Rattle.attention.specs.Attention.{orderNumber}
+use Rattle.attention.specs.Touched.{orderStages}
 use Rattle.attention.proofs.number.Statement.{statement}
 use Rattle.attention.proofs.number.Tie as tie
 
 returns : tie.Need-returns
-unfolding orderNumber first unless
+unfolding orderNumber stagesNumber orderStages first unless
 returns c = simp (ne-eqb _ _ (c .if1 .taken))
 
 span-lent-requires : tie.Need-span-lent-requires
 span-lent-requires c κs = search needs
 
 returns-2 : tie.Need-returns-2
-unfolding orderNumber first unless
+unfolding orderNumber stagesNumber orderStages first unless
 returns-2 c = simp (not-true (c .before .span-lent .result) (c .if2 .taken), ← (c .before .span-lent .ensures), c .before .before .if1 .left, eq-eqb _ _ (c .before .before .if1 .left))
 
 refusal-requires : tie.Need-refusal-requires
 refusal-requires c κs = search needs
 
 returns-3 : tie.Need-returns-3
-unfolding orderNumber first unless
+unfolding orderNumber stagesNumber orderStages first unless
 returns-3 c = simp (ne-eqb _ _ (c .if3 .taken), ← (c .before .refusal .ensures), not-false (c .before .before .before .span-lent .result) (c .before .before .if2 .left), ← (c .before .before .before .span-lent .ensures), c .before .before .before .before .if1 .left, eq-eqb _ _ (c .before .before .before .before .if1 .left))
 
 others-requires : tie.Need-others-requires
 others-requires c κs = search needs
 
 returns-4 : tie.Need-returns-4
-unfolding orderNumber first unless
+unfolding orderNumber stagesNumber orderStages first unless
 returns-4 c = simp (c .if4 .taken, ← (c .before .others .ensures), c .before .before .if3 .left, eq-eqb _ _ (c .before .before .if3 .left), ← (c .before .before .before .refusal .ensures), not-false (c .before .before .before .before .before .span-lent .result) (c .before .before .before .before .if2 .left), ← (c .before .before .before .before .before .span-lent .ensures), c .before .before .before .before .before .before .if1 .left, eq-eqb _ _ (c .before .before .before .before .before .before .if1 .left))
 
 returns-5 : tie.Need-returns-5
-unfolding orderNumber first unless
+unfolding orderNumber stagesNumber orderStages first unless
 returns-5 c = simp (c .if4 .left, ← (c .before .others .ensures), c .before .before .if3 .left, eq-eqb _ _ (c .before .before .if3 .left), ← (c .before .before .before .refusal .ensures), not-false (c .before .before .before .before .before .span-lent .result) (c .before .before .before .before .if2 .left), ← (c .before .before .before .before .before .span-lent .ensures), c .before .before .before .before .before .before .if1 .left, eq-eqb _ _ (c .before .before .before .before .before .before .if1 .left))
 
 pub number-spec : {M : Type 1} → statement M

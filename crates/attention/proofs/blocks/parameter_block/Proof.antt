@@ -3,7 +3,6 @@
 use borrow.Author.Needs.{needs}
 use mathlib.Core.Path.{_∙_}
 use Rattle.attention.specs.Blocks.{parameterBlock}
-use Rattle.attention.proofs.ReducedLaws.{doubleword-reduced}
 use Rattle.attention.proofs.blocks.parameter_block.Statement.{statement}
 use Rattle.attention.proofs.blocks.parameter_block.Tie as tie
 
@@ -46,11 +45,11 @@ returns c = simp (c .enum-told .given .1, c .before .match .keys1)
 
 returns-2 : tie.Need-returns-2
 unfolding parameterBlock
-returns-2 c = c .doubleword .ensures ∙ rw (c .before .sum20 .ensures, c .before .before .enum-told2 .given .1, doubleword-reduced)
+returns-2 c = c .doubleword .ensures ∙ rw (c .before .sum20 .ensures, c .before .before .enum-told2 .given .1)
 
 returns-3 : tie.Need-returns-3
 unfolding parameterBlock
-returns-3 c = c .doubleword2 .ensures ∙ rw (c .before .sum202 .ensures, c .before .before .enum-told3 .given .1, doubleword-reduced)
+returns-3 c = c .doubleword2 .ensures ∙ rw (c .before .sum202 .ensures, c .before .before .enum-told3 .given .1)
 
 returns-4 : tie.Need-returns-4
 unfolding parameterBlock

@@ -1,6 +1,7 @@
--- `orders::effects/channel_ordered` meets its contract.
+-- `attention::effects::channel_ordered` meets its contract.
 -- Assumes nothing.
 use borrow.Author.Needs.{needs}
+use Rattle.machine.specs.Updates.{withControl}
 use Rattle.attention.specs.Effects.{channelOrdered}
 use Rattle.attention.proofs.effects.channel_ordered.Statement.{statement}
 use Rattle.attention.proofs.effects.channel_ordered.Tie as tie
@@ -11,13 +12,9 @@ commanded-requires c κs = search needs
 ordered-requires : tie.Need-ordered-requires
 ordered-requires c κs = search needs
 
-with-control-requires : tie.Need-with-control-requires
-with-control-requires c κs = search needs
-
 returns : tie.Need-returns
-unfolding channelOrdered
-returns c = simp (← (c .with-control .ensures), ← (c .before .ordered .ensures), ← (c .before .before .commanded .ensures))
+unfolding channelOrdered withControl
+returns c = simp (c .ordered .ensures, c .before .commanded .ensures)
 
 pub channel-ordered-spec : {M : Type 1} → statement M
-channel-ordered-spec =
-    tie.close (tie.spec commanded-requires ordered-requires with-control-requires returns)
+channel-ordered-spec = tie.close (tie.spec commanded-requires ordered-requires returns)

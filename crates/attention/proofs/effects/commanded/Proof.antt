@@ -34,8 +34,8 @@ started-requires-2 c κs = search needs
 enum-told-4 : tie.Need-enum-told-4
 enum-told-4 c = search needs
 
-stopped-requires : tie.Need-stopped-requires
-stopped-requires c κs = search needs
+suspended-requires : tie.Need-suspended-requires
+suspended-requires c κs = search needs
 
 enum-told-5 : tie.Need-enum-told-5
 enum-told-5 c = search needs
@@ -55,8 +55,8 @@ resumed-requires c κs = search needs
 enum-told-6 : tie.Need-enum-told-6
 enum-told-6 c = search needs
 
-stopped-requires-2 : tie.Need-stopped-requires-2
-stopped-requires-2 c κs = search needs
+halted-requires : tie.Need-halted-requires
+halted-requires c κs = search needs
 
 enum-told-7 : tie.Need-enum-told-7
 enum-told-7 c = search needs
@@ -75,7 +75,7 @@ returns-3 c = simp (← (c .started2 .ensures), ← (c .before .doubleword .ensu
 
 returns-4 : tie.Need-returns-4
 unfolding commanded
-returns-4 c = simp (← (c .stopped .ensures), c .before .enum-told4 .given .1, c .before .before .match .keys4)
+returns-4 c = simp (← (c .suspended .ensures), c .before .enum-told4 .given .1, c .before .before .match .keys4)
 
 returns-5 : tie.Need-returns-5
 unfolding commanded
@@ -85,7 +85,7 @@ returns-5 c =
 
 returns-6 : tie.Need-returns-6
 unfolding commanded
-returns-6 c = simp (← (c .stopped2 .ensures), c .before .enum-told6 .given .1, c .before .before .match .keys6)
+returns-6 c = simp (← (c .halted .ensures), c .before .enum-told6 .given .1, c .before .before .match .keys6)
 
 returns-7 : tie.Need-returns-7
 unfolding commanded
@@ -104,14 +104,14 @@ commanded-spec =
     doubleword-requires
     started-requires-2
     enum-told-4
-    stopped-requires
+    suspended-requires
     enum-told-5
     sum20-requires
     byte-requires
     stored-pointer-requires
     resumed-requires
     enum-told-6
-    stopped-requires-2
+    halted-requires
     enum-told-7
     returns
     returns-2

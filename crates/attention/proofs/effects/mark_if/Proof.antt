@@ -2,7 +2,7 @@
 -- Assumes nothing.
 use borrow.Author.Needs.{needs}
 use mathlib.Core.Path.{_∙_}
-use Rattle.memory.proofs.PlaceLaws.{store-reduced}
+use Rattle.machine.specs.States.{busyIn}
 use Rattle.attention.specs.Effects.{marked}
 use Rattle.attention.proofs.effects.mark_if.Statement.{statement}
 use Rattle.attention.proofs.effects.mark_if.Tie as tie
@@ -20,8 +20,8 @@ same-length-2 : tie.Need-same-length-2
 same-length-2 c = search needs
 
 returns : tie.Need-returns
-unfolding marked
-returns c = c .before .before .before .before .store-byte .ensures ∙ rw (c .before .before .before .before .before .sum20 .ensures, c .before .before .before .before .before .before .before .before .if1 .taken, store-reduced)
+unfolding marked busyIn
+returns c = c .before .before .before .before .store-byte .ensures ∙ rw (c .before .before .before .before .before .sum20 .ensures, c .before .before .before .before .before .before .before .before .if1 .taken)
 
 returns-2 : tie.Need-returns-2
 returns-2 c = rw (c .if1 .left)

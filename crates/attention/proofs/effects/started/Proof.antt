@@ -1,4 +1,4 @@
--- `orders::effects/started` meets its contract.
+-- `attention::effects::started` meets its contract.
 -- Assumes nothing.
 use borrow.Author.Needs.{needs}
 use Rattle.attention.specs.Effects.{started}
@@ -11,9 +11,12 @@ with-requires c κs = search needs
 with-requires-2 : tie.Need-with-requires-2
 with-requires-2 c κs = search needs
 
+with-control-requires : tie.Need-with-control-requires
+with-control-requires c κs = search needs
+
 returns : tie.Need-returns
 unfolding started
-returns c = simp (← (c .with2 .ensures), ← (c .before .with .ensures))
+returns c = simp (c .with-control .ensures, c .before .with2 .ensures, c .before .before .with .ensures)
 
 pub started-spec : {M : Type 1} → statement M
-started-spec = tie.close (tie.spec with-requires with-requires-2 returns)
+started-spec = tie.close (tie.spec with-requires with-requires-2 with-control-requires returns)

@@ -1,7 +1,7 @@
 -- `orders::touched/busy` meets its contract.
 -- Assumes nothing.
 use borrow.Author.Needs.{needs}
-use Rattle.attention.proofs.ReducedLaws.{span-reduced}
+use Rattle.machine.specs.States.{busyIn}
 use Rattle.attention.proofs.touched.busy.Statement.{statement}
 use Rattle.attention.proofs.touched.busy.Tie as tie
 
@@ -12,7 +12,8 @@ span-lent-requires : tie.Need-span-lent-requires
 span-lent-requires c κs = search needs
 
 returns : tie.Need-returns
-returns c = rw (c .span-lent .ensures, c .before .sum20 .ensures, span-reduced)
+unfolding busyIn
+returns c = rw (c .span-lent .ensures, c .before .sum20 .ensures)
 
 pub busy-spec : {M : Type 1} → statement M
 busy-spec = tie.close (tie.spec sum20-requires span-lent-requires returns)

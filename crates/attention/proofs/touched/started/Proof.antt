@@ -3,7 +3,6 @@
 use borrow.Author.Needs.{needs}
 use mathlib.Core.Bool.{and-assoc}
 use Rattle.memory.proofs.SpanLaws.{all-append}
-use Rattle.attention.proofs.ReducedLaws.{span-reduced}
 use Rattle.attention.proofs.touched.started.Statement.{statement}
 use Rattle.attention.proofs.touched.started.Tie as tie
 
@@ -17,7 +16,7 @@ stored-requires : tie.Need-stored-requires
 stored-requires c κs = search needs
 
 returns : tie.Need-returns
-returns c = simp (c .stored .ensures, c .before .span-lent .ensures, c .before .before .sum20 .ensures, span-reduced, all-append, and-assoc)
+returns c = simp (c .stored .ensures, c .before .span-lent .ensures, c .before .before .sum20 .ensures, all-append, and-assoc)
 
 pub started-spec : {M : Type 1} → statement M
 started-spec = tie.close (tie.spec sum20-requires span-lent-requires stored-requires returns)
