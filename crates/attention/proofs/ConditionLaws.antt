@@ -1,4 +1,4 @@
--- What each test of an attention tells: the condition of its check, in the paper's words.
+-- What each test of an attention tells: the condition of its check.
 -- Assumes nothing.
 use Prim.Native.Nat.{ℕ, zero, suc, _<_}
 use lib.Dec.{eqb}

@@ -1,4 +1,4 @@
--- CCW: "bits 2-0 command, 4-3 ICF, 5 load limit, 7 priority", and what its command asks of the channel's mode.
+-- CCW (§4.2): its command, what that asks of the channel's mode (§3.5), and what every accepted command does to PSW (§4.3).
 use mathlib.Core.Bool.{Bool, true, false, not}
 use Prim.Native.Nat.{ℕ}
 use lib.Dec.{eqb}
@@ -29,7 +29,7 @@ commandCoded code =
 abbrev pub commandOf : ℕ → Command
 commandOf ccw = commandCoded (codeOf ccw)
 
--- a command that the paper has (else 6)
+-- a code that is a command (else 6)
 unfoldable pub isKnown : Command → Bool
 isKnown Update = true
 isKnown StartLocal = true
@@ -39,7 +39,7 @@ isKnown Resume = true
 isKnown Halt = true
 isKnown Unknown = false
 
--- 7 "resume, channel not suspended", 8 "start, channel running", 9 "suspend, channel not running"
+-- 7 for resume unless the channel is suspended, 8 for a start while it runs, 9 for suspend unless it runs
 unfoldable pub modeNumber : Command → Mode → ℕ
 modeNumber Update mode = 0
 modeNumber StartLocal mode = unless (not (isRunning mode)) 8
@@ -49,21 +49,21 @@ modeNumber Resume mode = unless (isSuspended mode) 7
 modeNumber Halt mode = 0
 modeNumber Unknown mode = 0
 
--- "6, then 7, 8 or 9"
+-- the refusal of a command: 6, then 7, 8 or 9
 unfoldable pub commandNumber : Command → Mode → ℕ
 commandNumber command mode = first (unless (isKnown command) 6) (modeNumber command mode)
 
--- "Every accepted command copies 5 and 7 into PSW"
+-- first bits 5 and 7 of CCW are copied into PSW
 unfoldable pub copied : ℕ → ℕ → ℕ
 copied ccw psw = withPsw (withPsw psw 5 (bitOf ccw 5)) 7 (bitOf ccw 7)
 
--- "then obeys ICF: 01 clears IS; 10 sets IC; 11 clears both"
+-- then ICF is obeyed: 01 clears IS, 10 sets IC, 11 clears both
 unfoldable pub obeyed : ℕ → ℕ → ℕ
 obeyed ccw psw =
     pick (eqb (fieldOf ccw 3 2) 1) (withPsw psw 4 false)
     (pick (eqb (fieldOf ccw 3 2) 2) (withPsw psw 3 true)
     (pick (eqb (fieldOf ccw 3 2) 3) (withPsw (withPsw psw 4 false) 3 false) psw))
 
--- what every accepted command does to PSW in the end; "this follows any PSW reload"
+-- what every accepted command does to PSW, after all that it does itself
 unfoldable pub ordered : ℕ → ℕ → ℕ
 ordered ccw psw = obeyed ccw (copied ccw psw)

@@ -1,4 +1,4 @@
--- The table of numbers for an attention, "given exactly when, and no earlier check applies": each check's own condition, and their order.
+-- The numbers of an attention: the condition of each check, and their order (§3.5).
 use mathlib.Core.Bool.{false}
 use mathlib.Core.List.{List, [], _∷_}
 use mathlib.Core.Logic.{_⊎_}
@@ -15,7 +15,7 @@ use Rattle.attention.specs.Attention.{orderTo}
 use Rattle.attention.specs.Commands.{codeOf}
 use Rattle.attention.specs.Touched.{others}
 
--- 12: "channel neither 1 nor 2"
+-- 12: the channel is neither 1 nor 2
 abbrev pub NoChannel : ℕ → Type 0
 NoChannel channel = ¬ (channel ≡ 1) × ¬ (channel ≡ 2)
 
@@ -27,19 +27,19 @@ CcwBeyond s m channel = Beyond m (span false (blockOf s (isSecond channel)) 1)
 abbrev pub OthersBeyond : State → Buffers → ℕ → Type 0
 OthersBeyond s m channel = Beyond m (others (orderTo s m (isSecond channel)))
 
--- 6: "command 010 or 100"
+-- 6: command 010 or 100
 abbrev pub NoCommand : ℕ → Type 0
 NoCommand code = (code ≡ 2) ⊎ (code ≡ 4)
 
--- 7: "resume, channel not suspended"
+-- 7: resume of a channel that is not suspended
 abbrev pub ResumesOther : ℕ → Mode → Type 0
 ResumesOther code mode = (code ≡ 5) × ¬ (mode ≡ Suspended)
 
--- 8: "start, channel running"
+-- 8: start of a running channel
 abbrev pub StartsRunning : ℕ → Mode → Type 0
 StartsRunning code mode = ((code ≡ 1) ⊎ (code ≡ 3)) × (mode ≡ Running)
 
--- 9: "suspend, channel not running"
+-- 9: suspend of a channel that is not running
 abbrev pub SuspendsOther : ℕ → Mode → Type 0
 SuspendsOther code mode = (code ≡ 6) × ¬ (mode ≡ Running)
 
@@ -51,7 +51,7 @@ codeTo s m channel = codeOf (orderTo s m (isSecond channel) .ccw)
 abbrev pub modeTo : State → ℕ → Mode
 modeTo s channel = channelOf s (isSecond channel) .mode
 
--- "Order: 12, 11, 10. Attention then: CCW readable (2), 6, then 7, 8 or 9, other bytes (2)"
+-- the checks of an attention, in their order
 abbrev pub attentionChecks : State → Buffers → ℕ → List Check
 attentionChecks s m channel =
     check 12 (NoChannel channel)

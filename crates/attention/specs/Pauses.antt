@@ -1,4 +1,4 @@
--- A channel that is suspended and later resumed.
+-- A channel that is suspended and later resumed (§4.6, §4.7).
 use mathlib.Core.Bool.{false}
 use mathlib.Core.Path.{_≡_}
 use Prim.Native.Nat.{ℕ, _+_, _<_}

@@ -1,4 +1,4 @@
--- CC: 15 destination moves on, 14 source moves on, 13 translate, 12-11 SYN, 10 source is GB, 8 chained, 7 TS, 6-5 TX, 4-3 TBC, 2-0 TMC.
+-- CC (§2.4): 15 destination moves on, 14 source moves on, 13 translate, 12-11 SYN, 10 source is GB, 8 chained, 7 TS, 6-5 TX, 4-3 TBC, 2-0 TMC.
 use mathlib.Core.Bool.{Bool}
 use Prim.Native.Nat.{ℕ}
 use Rattle.words.specs.Bits.{fieldOf, bitOf}

@@ -1,4 +1,4 @@
--- What every attention and step asks of what it is given, "given exactly when, and no earlier check applies": checks, their order, and the conditions of 11, 10 and 2.
+-- Which number a call gives (§3.2): checks in their order, and the conditions of 11, 10 and 2, which every attention and step has.
 use mathlib.Core.List.{List, [], _∷_, _++_}
 use mathlib.Core.Logic.{_⊎_}
 use mathlib.Core.Path.{_≡_}
@@ -22,7 +22,7 @@ abbrev pub Given : List Check → ℕ → Type 0
 Given [] n = n ≡ 0
 Given (k ∷ ks) n = (k .applies × (n ≡ k .number)) ⊎ (¬ (k .applies) × Given ks n)
 
--- 11: "a lent buffer longer than its limit"
+-- 11: a buffer is longer than its limit
 abbrev pub TooLong : Buffers → Type 0
 TooLong m = (1048576 < length (m .sys)) ⊎ (65536 < length (m .io))
 
@@ -35,11 +35,11 @@ abbrev pub SomePast : List ℕ → Type 0
 SomePast [] = ⊥
 SomePast (a ∷ rest) = (1048576 ≤ a) ⊎ SomePast rest
 
--- 10: "a pointer, PP or CP in the given state is 1,048,576 or more"
+-- 10: the state is not sound (§2.9)
 abbrev pub NotSound : State → Type 0
 NotSound s = SomePast (pointersOf (s .first) ++ (pointersOf (s .second) ++ (s .cp ∷ [])))
 
--- 2: "a byte to be read or stored lies beyond lent memory"
+-- 2: one of some bytes is not lent (§1.3)
 abbrev pub Beyond : Buffers → List Place → Type 0
 Beyond m [] = ⊥
 Beyond m (p ∷ ps) = (length (spaceOf m (p .tag)) ≤ indexOf (p .tag) (p .address)) ⊎ Beyond m ps

@@ -1,4 +1,4 @@
--- What a call leaves, and its refusals in their order.
+-- What a call leaves (§3.3), and its refusals in their order (§3.2).
 use mathlib.Core.Bool.{Bool}
 use Prim.Native.Nat.{ℕ}
 use lib.Dec.{eqb}
@@ -24,10 +24,10 @@ unless ok number = pick ok 0 number
 unfoldable pub first : ℕ → ℕ → ℕ
 first a b = pick (eqb a 0) b a
 
--- "An attention or step that answers other than 0 returns the given state and changes no byte"
+-- a refused call leaves the state and the memories as they were given
 unfoldable pub settled : ℕ → State → Buffers → State → Buffers → Outcome
 settled number s m s′ m′ = pick (eqb number 0) (outcome 0 s′ m′) (outcome number s m)
 
--- what every attention and step asks of what it is given: 11, then 10
+-- what every attention and step asks of what it is given: 11, then 10 (§3.4)
 unfoldable pub givenNumber : State → Buffers → ℕ
 givenNumber s m = first (unless (withinLimits m) 11) (unless (sound s) 10)

@@ -1,4 +1,4 @@
--- PSW: 0 destination width, 1 source width (1 = 16 bits), 2 TB program running, 3 IC, 4 IS, 5 load limit, 6 XF transfer, 7 priority.
+-- PSW (§2.3): 0 destination width, 1 source width (1 = 16 bits), 2 TB program running, 3 IC, 4 IS, 5 load limit, 6 XF transfer, 7 priority.
 use mathlib.Core.Bool.{Bool, _&&_}
 use Prim.Native.Nat.{ℕ}
 use lib.Dec.{ltb}

@@ -1,4 +1,4 @@
--- The register file of a channel by RRR, "RRR 0-7: GA GB GC BC TP IX CC MC", with the rules of the tags; the bases by MM.
+-- The registers of a channel by RRR (§2.1), with the rules of the tags (§6.10); the bases by MM (§6.7).
 use mathlib.Core.Bool.{Bool, true, false}
 use Prim.Native.Nat.{ℕ, _%_}
 use lib.Dec.{eqb, leb}
@@ -7,7 +7,7 @@ use Rattle.memory.specs.declared.Pointer.{Pointer}
 use Rattle.memory.specs.Values.{pointer}
 use Rattle.machine.specs.declared.Channel.{Channel}
 
--- one of eight by RRR
+-- one of eight by RRR: 0 is the first, and 7 and more the last
 unfoldable pub byRRR {ℓ} : {A : Type ℓ} → ℕ → A → A → A → A → A → A → A → A → A
 byRRR r ga gb gc bc tp ix cc mc =
     pick (eqb r 0) ga (pick (eqb r 1) gb (pick (eqb r 2) gc (pick (eqb r 3) bc (pick (eqb r 4) tp (pick (eqb r 5) ix (pick (eqb r 6) cc mc))))))
@@ -20,7 +20,7 @@ registerOf c r = byRRR r (c .ga .address) (c .gb .address) (c .gc .address) (c .
 unfoldable pub tagOf : Channel → ℕ → Bool
 tagOf c r = byRRR r (c .ga .tag) (c .gb .tag) (c .gc .tag) false (c .tp .tag) false false false
 
--- a register written: "results lose their high bits"; a pointer takes the tag too
+-- a register written, with as many low bits as it has (§6.9); a pointer takes the tag too
 unfoldable pub withRegister : Channel → ℕ → ℕ → Bool → Channel
 withRegister c r v tag =
     record {
@@ -38,18 +38,18 @@ withRegister c r v tag =
       armed = c .armed;
     }
 
--- "MOV and MOVI to a pointer set its tag"
+-- MOV and MOVI set the tag of a pointer
 abbrev pub moved : Channel → ℕ → ℕ → Channel
 moved c r v = withRegister c r v true
 
--- "arithmetic and logic keep it"
+-- arithmetic and logic keep it
 abbrev pub worked : Channel → ℕ → ℕ → Channel
 worked c r v = withRegister c r v (tagOf c r)
 
--- "LPD and LPDI clear it"
+-- LPD and LPDI clear it
 abbrev pub loaded : Channel → ℕ → ℕ → Channel
 loaded c r v = withRegister c r v false
 
--- "MM 0-3: GA GB GC PP as base"; PP is "always system"
+-- the base of an operand: GA, GB, GC, or PP, which is of system space
 unfoldable pub baseOf : Channel → ℕ → Pointer
 baseOf c mm = pick (eqb mm 0) (c .ga) (pick (eqb mm 1) (c .gb) (pick (eqb mm 2) (c .gc) (pointer (c .pp) false)))

@@ -1,4 +1,4 @@
--- The bytes that a call touches, in stages: it reads some, judges what it read, and goes on to the next or stops there.
+-- The bytes that a call touches, in stages (§3.5, §3.6): it reads some, judges what it read, and goes on to the next or stops there.
 use mathlib.Core.Bool.{false}
 use mathlib.Core.List.{List, [], _∷_, _++_}
 use mathlib.Core.Path.{_≡_}

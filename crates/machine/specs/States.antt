@@ -1,4 +1,4 @@
--- The whole state: a fresh one, a sound one, and its channels, channel 1 named by false and channel 2 by true.
+-- The whole state (§2.7): a fresh one, a sound one, and its channels, channel 1 named by false and channel 2 by true.
 use mathlib.Core.Bool.{Bool, true, false, _&&_, _||_}
 use Prim.Native.Nat.{ℕ}
 use lib.Dec.{ltb, eqb}
@@ -29,11 +29,11 @@ idleChannel =
       armed = false;
     }
 
--- "A fresh state takes CP; all else is 0 or idle; "last" is channel 2"
+-- a fresh state (§2.8): all but CP is 0 or idle, and channel 2 is last
 unfoldable pub freshState : ℕ → State
 freshState cp = record { first = idleChannel; second = idleChannel; cp = cp; last = true }
 
--- "A fresh state with a bad CP answers 10 and the state made with CP 0"
+-- a CP of more than 20 bits is answered by 10 and the fresh state of CP 0
 unfoldable pub freshOf : ℕ → Answer
 freshOf cp = pick (ltb cp 1048576) (record { number = 0; state = freshState cp }) (record { number = 10; state = freshState 0 })
 
@@ -59,11 +59,11 @@ soundChannel c =
     && ltb (c .tp .address) 1048576
     && ltb (c .pp) 1048576
 
--- "a pointer, PP or CP in the given state is 1,048,576 or more": not so (else 10)
+-- a sound state (§2.9): both channels are, and CP is below 1,048,576
 unfoldable pub sound : State → Bool
 sound s = soundChannel (s .first) && soundChannel (s .second) && ltb (s .cp) 1048576
 
--- the mode alone says whether a channel runs
+-- the channel is running; the mode alone says so (§2.6)
 unfoldable pub isRunning : Mode → Bool
 isRunning Idle = false
 isRunning Running = true
@@ -75,7 +75,7 @@ isSuspended Idle = false
 isSuspended Running = false
 isSuspended Suspended = true
 
--- "Channel 1's block starts at CP, channel 2's at CP + 8"
+-- where a channel's control block begins: at CP, for channel 2 at CP + 8 (§4.1)
 unfoldable pub blockOf : State → Bool → ℕ
 blockOf s second = pick second (sum20 (s .cp) 8) (s .cp)
 

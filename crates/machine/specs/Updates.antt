@@ -52,6 +52,6 @@ withTransfer c ga gb tp bc psw =
 unfoldable pub stoppedPsw : ℕ → ℕ
 stoppedPsw psw = withPsw (withPsw psw 2 false) 6 false
 
--- a channel that halts, by its command or by HLT: idle, TB and XF 0, unarmed
+-- a channel that halts, by its command (§4.8) or by HLT (§6.21): idle, TB and XF 0, without the mark
 unfoldable pub halted : Channel → Channel
 halted c = withControl c (c .tp) (c .pp) (stoppedPsw (c .psw)) Idle false

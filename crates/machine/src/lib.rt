@@ -43,7 +43,7 @@ pub struct State {
     pub last: bool,
 }
 
-// What a call answers: a number of the paper, 0 for done, and the state.
+// What a call answers: its number, 0 for done, and the state.
 pub struct Answer {
     pub number: u32,
     pub state: State,

@@ -1,4 +1,4 @@
--- The two lent buffers, and all that is decided about a single byte: where it lies, whether it is lent, what a read gives and what a store does.
+-- The two lent buffers (§1), and all that is decided about a single byte: where it lies, whether it is lent, what a read gives and what a store does.
 use mathlib.Core.Bool.{Bool, true, false, _&&_}
 use mathlib.Core.List.{List}
 use Prim.Native.Nat.{ℕ, _%_, _<_}
@@ -14,19 +14,19 @@ pub record Buffers : Type 0 where
 abbrev pub buffers : List ℕ → List ℕ → Buffers
 buffers sys io = record { sys = sys; io = io }
 
--- "Tag 0 means system, 1 means I/O": the buffer that a tag names
+-- the buffer that a tag names: 0 system memory, 1 I/O memory (§1.2)
 unfoldable pub spaceOf : Buffers → Bool → List ℕ
 spaceOf m tag = pick tag (m .io) (m .sys)
 
--- the most bytes that a space has
+-- the most bytes that a space has (§1.1)
 unfoldable pub limitOf : Bool → ℕ
 limitOf tag = pick tag 65536 1048576
 
--- "Addresses count mod 1,048,576; in I/O space only the low 16 bits are used": where an address lies in its buffer
+-- where an address lies in its buffer: it counts in 20 bits, and in I/O space by its low 16 alone (§1.2)
 unfoldable pub indexOf : Bool → ℕ → ℕ
 indexOf tag address = address % limitOf tag
 
--- whether the byte at an address is lent
+-- whether the byte at an address is lent (§1.3)
 unfoldable pub lentAt : Buffers → Bool → ℕ → Bool
 lentAt m tag address = ltb (indexOf tag address) (length (spaceOf m tag))
 

@@ -7,11 +7,11 @@ use Rattle.words.specs.Stored.{storedLow, storedMiddle, storedHigh, storedAddre
 use Rattle.memory.specs.declared.Pointer.{Pointer}
 use Rattle.memory.specs.Buffers.{Buffers, byteAt, storeByte}
 
--- "A word is low byte first, at any address"
+-- a word, low byte first, at any address (§1.4)
 unfoldable pub wordAt : Buffers → Bool → ℕ → ℕ
 wordAt m tag address = wordOf (byteAt m tag address) (byteAt m tag (address + 1))
 
--- the address that a doubleword pointer gives: offset, then segment
+-- the address that a doubleword pointer gives: offset, then segment (§1.5)
 unfoldable pub doublewordAt : Buffers → Bool → ℕ → ℕ
 doublewordAt m tag address = addressOf (wordAt m tag address) (wordAt m tag (address + 2))
 
@@ -23,7 +23,7 @@ pointer address tag = record { address = address; tag = tag }
 unfoldable pub onward : Pointer → ℕ → Pointer
 onward p n = pointer (sum20 (p .address) n) (p .tag)
 
--- the pointer that three stored bytes give
+-- the pointer that three stored bytes give (§1.6)
 unfoldable pub pointerAt : Buffers → Bool → ℕ → Pointer
 pointerAt m tag address =
     pointer

@@ -9,7 +9,7 @@ use Rattle.attention.specs.Blocks.{ccwOf, parameterBlock, orderOf}
 use Rattle.attention.specs.Commands.{commandCoded, isKnown, modeNumber, commandNumber, copied, obeyed, ordered}
 use Rattle.attention.specs.Effects.{started as startedBy, commanded, channelOrdered, writesOf, marked, writesMade}
 use Rattle.machine.specs.Updates.{withControl}
-use Rattle.attention.specs.Touched.{readBy, storedBy, others}
+use Rattle.attention.specs.Touched.{readBy, storedBy, others, orderStages}
 use Rattle.decode.specs.Lengths.{lengthOf, dataLength, displacementLength}
 use Rattle.decode_shapes.specs.Pairs.{pairOf}
 use Rattle.decode.specs.Reading.{lookup, decodeOf}
@@ -19,7 +19,8 @@ use Rattle.execute_deeds.specs.Deeds.{effectOf}
 use Rattle.execute.specs.Execute.{decodedAt, performed, deedOf, laterBytes, deedFrom, shapeNumber, numberFrom, executeNumber, settledEffect, planOf, executeOf}
 use Rattle.machine.specs.Outcomes.{outcome, unless, first, settled, givenNumber}
 use Rattle.machine.specs.Psw.{withPsw}
-use Rattle.machine.specs.States.{freshState, idleChannel, channelOf, withChannel, withLast, soundChannel, sound, isRunning, blockOf, channelNumber, isChannel, isSecond}
+use Rattle.machine.specs.Stages.{stagesNumber}
+use Rattle.machine.specs.States.{freshState, idleChannel, channelOf, withChannel, withLast, soundChannel, sound, isRunning, blockOf, busyIn, channelNumber, isChannel, isSecond}
 use Rattle.machine.specs.declared.Channel.{Channel}
 use Rattle.machine.specs.declared.Mode.the-variants.{Running}
 use Rattle.machine.specs.declared.State.{State}
@@ -54,7 +55,7 @@ busy =
 
 -- so the two attentions leave it
 both-started : startedBoth ≡ outcome 0 (both 0x18 0x1C true) busy
-unfolding both program busy freshState idleChannel attentionOf attentionNumber givenTo givenNumber unless first isChannel withinLimits limitOf sound soundChannel orderNumber orderTo orderOf blockOf channelOf isSecond ccwOf commandCoded fieldOf parameterBlock doublewordAt wordAt byteAt indexOf spaceOf allLent lentAt span commandNumber isKnown modeNumber isRunning others readBy storedBy settled orderedMemory writesMade writesOf marked storeByte orderedChannel channelOrdered commanded startedBy ordered copied obeyed withPsw withBit bitOf withControl withChannel
+unfolding both program busy freshState idleChannel attentionOf attentionNumber givenTo givenNumber unless first isChannel withinLimits limitOf sound soundChannel orderNumber stagesNumber orderStages orderTo orderOf blockOf busyIn channelOf isSecond ccwOf commandCoded fieldOf parameterBlock doublewordAt wordAt byteAt indexOf spaceOf allLent lentAt span commandNumber isKnown modeNumber isRunning others readBy storedBy settled orderedMemory writesMade writesOf marked storeByte orderedChannel channelOrdered commanded startedBy ordered copied obeyed withPsw withBit bitOf withControl withChannel
 both-started = refl
 
 -- wherever they have come to, they are such programs

@@ -31,7 +31,7 @@ remade m cp = machine (freshOf cp .state) (buffers (replicate (length (m .sys)) 
 unfoldable pub putOf : List ℕ → ℕ → List ℕ → List ℕ
 putOf s at digits = pick (hasRoom s at digits) (bytesWritten s at digits) s
 
--- "the system (SPACE 0) or the I/O buffer (SPACE 1)"
+-- both memories after `put`: SPACE 1 is I/O memory, 0 system memory
 unfoldable pub putInto : Buffers → Bool → ℕ → List ℕ → Buffers
 putInto m io at digits = pick io (buffers (m .sys) (putOf (m .io) at digits)) (buffers (putOf (m .sys) at digits) (m .io))
 

@@ -1,4 +1,4 @@
-// Makes a call of the bench's text on a machine, and prints what it answered.
+// Makes a call of the script program's text on a machine, and prints what it answered.
 use machine::State;
 use script_text::buffers;
 use script_text::registers;

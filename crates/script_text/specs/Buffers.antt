@@ -21,7 +21,7 @@ bytesWritten s at (high ∷ low ∷ digits) = bytesWritten (set s at (byteOf hig
 unfoldable pub hasRoom : List ℕ → ℕ → List ℕ → Bool
 hasRoom s at digits = leb (at + length digits / 2) (length s)
 
--- one byte more: "(digest xor byte) × 1000193, modulo 100000000 (all hexadecimal)"
+-- the digest with one byte more: a multiple of FNV's prime, in 32 bits
 unfoldable pub digestByte : ℕ → ℕ → ℕ
 digestByte d b = bitXor d b * 0x1000193 % 0x100000000
 
@@ -30,6 +30,6 @@ unfoldable pub digestFrom : ℕ → List ℕ → ℕ
 digestFrom d [] = d
 digestFrom d (b ∷ s) = digestFrom (digestByte d b) s
 
--- 32-bit FNV-1a, "which starts as 811c9dc5"
+-- the digest of bytes, 32-bit FNV-1a with its own start
 unfoldable pub digestOf : List ℕ → ℕ
 digestOf s = digestFrom 0x811c9dc5 s

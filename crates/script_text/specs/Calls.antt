@@ -50,7 +50,7 @@ unfoldable pub showCall : ℕ → ℕ → ℕ → Call
 showCall space address after =
     only (eqb after 'none) (only (ltb space 2) (only (ltb address noNumber) (Show (eqb space 1) address)))
 
--- "The first word names the call"; behind its words no other stands
+-- the call that words are: the first is its name, and none stands behind those it has
 unfoldable pub callFrom : Words → Call
 callFrom w =
     let name = w .first .name in
@@ -63,11 +63,11 @@ callFrom w =
     (pick (eqb name 'dump) (dumpCall (w .second .name))
     (pick (eqb name 'show) (showCall (w .second .number) (w .third .number) (w .fourth .name)) Unknown)))))))
 
--- "An empty line, a line of spaces and a line whose first character is `#` are passed over"
+-- the call that a line is; one that has no word or begins with `#` is passed over
 unfoldable pub callOf : List ℕ → Call
 callOf line = pick (eqb (getD line 0 0) 35) Nothing (callFrom (wordsOf line))
 
--- "SYS over 100001, IO over 10001": no call lends more
+-- what `make` can lend: one byte more than each limit
 abbrev pub Limited : Call → Type 0
 Limited (Make sys io cp) = (sys ≤ 0x100001) × (io ≤ 0x10001)
 Limited Nothing = Unit {0}

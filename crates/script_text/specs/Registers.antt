@@ -24,12 +24,12 @@ valuesOf r =
 unfoldable pub fitsShared : ℕ → ℕ → Bool
 fitsShared r v = pick (eqb r 'cp) true (pick (eqb r 'last) (eqb v 1 || eqb v 2) false)
 
--- "CHANNEL not 1 or 2 (0 for the shared registers), no such register, VALUE does not fit": none of these
+-- there is such a register of channel 1 or 2, or a shared one for channel 0, and the value fits it
 unfoldable pub fitsRegister : ℕ → ℕ → ℕ → Bool
 fitsRegister channel r v =
     pick (eqb channel 0) (fitsShared r v) (pick (eqb channel 1) (ltb v (valuesOf r)) (pick (eqb channel 2) (ltb v (valuesOf r)) false))
 
--- "0 idle, 1 running, 2 suspended"
+-- the mode of a number: 0 idle, 1 running, 2 suspended
 unfoldable pub modeNumbered : ℕ → Mode
 modeNumbered v = pick (eqb v 0) Idle (pick (eqb v 1) Running Suspended)
 

@@ -36,7 +36,7 @@ unfoldable pub valueOf : ℕ → List ℕ → ℕ
 valueOf n [] = n
 valueOf n (b ∷ w) = pick (ltb (digitOf b) 16) (valueOf (n * 16 + digitOf b) w) noNumber
 
--- "a number: one to eight hexadecimal digits"
+-- the number that a word of one to eight hexadecimal digits is
 unfoldable pub numeralOf : List ℕ → ℕ
 numeralOf w = pick (eqb (length w) 0) noNumber (pick (leb (length w) 8) (valueOf 0 w) noNumber)
 
@@ -45,7 +45,7 @@ unfoldable pub allDigits : List ℕ → Bool
 allDigits [] = true
 allDigits (b ∷ w) = pick (ltb (digitOf b) 16) (allDigits w) false
 
--- the bytes of `put`: "two hexadecimal digits each with nothing between", and not none
+-- the bytes of `put`: two hexadecimal digits for each, at least one byte
 unfoldable pub isPairs : List ℕ → Bool
 isPairs w = ltb 0 (length w) && eqb (length w % 2) 0 && allDigits w
 

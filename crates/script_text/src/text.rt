@@ -1,4 +1,4 @@
-// A line of the bench's text: its words, and the call that it is.
+// A line of the script program's text: its words, and the call that it is.
 use crate::names;
 use crate::registers;
 ghost use mathlib.Core.Path.{_≡_};

@@ -1,10 +1,10 @@
--- The masked compare of a transfer.
+-- The masked compare (§2.5).
 use mathlib.Core.Bool.{Bool}
 use Prim.Native.Nat.{ℕ}
 use lib.Bits.{bitAnd, bitXor}
 use lib.Dec.{eqb}
 use Rattle.words.specs.Bytes.{lowByte, highByte}
 
--- "Match: (data xor MC low byte) and MC high byte is 0"
+-- a byte matches MC: no bit that the high byte of MC makes count differs from the low byte
 unfoldable pub matchOf : ℕ → ℕ → Bool
 matchOf byte mc = eqb (bitAnd (bitXor byte (lowByte mc)) (highByte mc)) 0

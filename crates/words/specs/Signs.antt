@@ -8,11 +8,11 @@ use Rattle.words.specs.Choice.{pick}
 unfoldable pub signedOf : ℕ → ℕ → ℤ
 signedOf width x = pick (ltb x (2 ^ (width - 1))) (pos x) (negsuc (2 ^ width - 1 - x))
 
--- "sign-extended to 20 bits": the bits above `width` are copies of its top bit
+-- extended by its sign to 20 bits (§6.9): the bits above `width` are copies of its top bit
 unfoldable pub extended : ℕ → ℕ → ℕ
 extended width x = pick (ltb x (2 ^ (width - 1))) x (x + (1048576 - 2 ^ width))
 
--- a pointer moved by a signed displacement, in 20 bits
+-- a pointer moved by a signed displacement, in 20 bits (§6.11)
 unfoldable pub displacedBy : ℕ → ℤ → ℕ
 displacedBy pointer (pos n) = (pointer + n) % 1048576
 displacedBy pointer (negsuc n) = (pointer + (1048575 - n % 1048576)) % 1048576

@@ -1,4 +1,4 @@
--- The stored form of a pointer, three bytes: address bits 7-0; bits 15-8; bits 19-16 in the high half, tag in bit 3, zeros below.
+-- The stored form of a pointer (§1.6), three bytes: address bits 7-0; bits 15-8; bits 19-16 in the high half, tag in bit 3, zeros below.
 use mathlib.Core.Bool.{Bool}
 use Prim.Native.Nat.{ℕ, _+_, _*_, _/_, _%_}
 use Rattle.words.specs.Choice.{pick}

@@ -5,10 +5,10 @@ use Prim.Native.Nat.{ℕ, _+_, _-_, _*_, _%_}
 abbrev pub sum20 : ℕ → ℕ → ℕ
 sum20 a b = (a + b) % 1048576
 
--- "Address = segment × 16 + offset", in 20 bits
+-- the address of an offset in a segment, in 20 bits (§1.5)
 abbrev pub addressOf : ℕ → ℕ → ℕ
 addressOf offset segment = (segment * 16 + offset) % 1048576
 
--- "BC falls by the bytes stored, mod 65,536"
+-- BC after some bytes, modulo 65,536 (§7.9)
 abbrev pub countDown : ℕ → ℕ → ℕ
 countDown count by = (count + (65536 - by)) % 65536

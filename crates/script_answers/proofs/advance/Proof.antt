@@ -1,4 +1,4 @@
--- `answers::advance` meets its contract.
+-- `script_answers::advance` meets its contract.
 -- Assumes nothing.
 use borrow.Author.Needs.{needs}
 use mathlib.Core.Path.{ap}

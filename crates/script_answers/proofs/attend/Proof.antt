@@ -1,4 +1,4 @@
--- `answers::attend` meets its contract.
+-- `script_answers::attend` meets its contract.
 -- Assumes nothing.
 use borrow.Author.Needs.{needs}
 use mathlib.Core.Path.{ap}

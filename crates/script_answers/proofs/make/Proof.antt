@@ -1,4 +1,4 @@
--- `answers::make` meets its contract.
+-- `script_answers::make` meets its contract.
 -- Assumes nothing.
 use Prim.Native.Nat.{ℕ}
 use borrow.Author.Needs.{needs}

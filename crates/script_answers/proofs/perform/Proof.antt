@@ -1,4 +1,4 @@
--- `answers::perform` meets its contract.
+-- `script_answers::perform` meets its contract.
 -- Assumes nothing.
 use borrow.Author.Needs.{needs}
 use denote.Ref.{now}

@@ -1,4 +1,4 @@
--- `answers::put` meets its contract.
+-- `script_answers::put` meets its contract.
 -- Assumes nothing.
 use Prim.Native.Nat.{ℕ}
 use borrow.Author.Needs.{needs}

@@ -1,4 +1,4 @@
--- `orders::blocks/order` meets its contract.
+-- `attention::blocks::order` meets its contract.
 -- Assumes nothing.
 use borrow.Author.Needs.{needs}
 use Rattle.attention.specs.Blocks.{ccwOf, orderOf}

@@ -1,4 +1,4 @@
--- `orders::blocks/parameter_block` meets its contract.
+-- `attention::blocks::parameter_block` meets its contract.
 -- Assumes nothing.
 use borrow.Author.Needs.{needs}
 use mathlib.Core.Path.{_∙_}

@@ -1,4 +1,4 @@
--- `orders::commands/command` meets its contract.
+-- `attention::commands::command` meets its contract.
 -- Assumes nothing.
 use borrow.Author.Needs.{needs}
 use borrow.Author.Tests.{ne-eqb}

@@ -1,4 +1,4 @@
--- `orders::commands/obeyed` meets its contract.
+-- `attention::commands::obeyed` meets its contract.
 -- Assumes nothing.
 use borrow.Author.Needs.{needs}
 use borrow.Author.Tests.{ne-eqb}

@@ -1,4 +1,4 @@
--- `orders::commands/ordered` meets its contract.
+-- `attention::commands::ordered` meets its contract.
 -- Assumes nothing.
 use borrow.Author.Needs.{needs}
 use Rattle.attention.specs.Commands.{copied, ordered}

@@ -1,4 +1,4 @@
--- `orders::commands/refusal` meets its contract.
+-- `attention::commands::refusal` meets its contract.
 -- Assumes nothing.
 use borrow.Author.Needs.{needs}
 use Rattle.machine.specs.Outcomes.{unless, first}

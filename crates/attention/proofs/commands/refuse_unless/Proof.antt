@@ -1,4 +1,4 @@
--- `orders::commands/refuse_unless` meets its contract.
+-- `attention::commands::refuse_unless` meets its contract.
 -- Assumes nothing.
 use Rattle.machine.specs.Outcomes.{unless}
 use Rattle.attention.proofs.commands.refuse_unless.Statement.{statement}

@@ -1,4 +1,4 @@
--- `orders::effects/commanded` meets its contract.
+-- `attention::effects::commanded` meets its contract.
 -- Assumes nothing.
 use borrow.Author.Needs.{needs}
 use mathlib.Core.Path.{_∙_}

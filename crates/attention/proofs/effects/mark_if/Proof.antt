@@ -1,4 +1,4 @@
--- `orders::effects/mark_if` meets its contract.
+-- `attention::effects::mark_if` meets its contract.
 -- Assumes nothing.
 use borrow.Author.Needs.{needs}
 use mathlib.Core.Path.{_∙_}

@@ -1,4 +1,4 @@
--- `orders::effects/write` meets its contract.
+-- `attention::effects::write` meets its contract.
 -- Assumes nothing.
 use borrow.Author.Needs.{needs}
 use mathlib.Core.Path.{_∙_}

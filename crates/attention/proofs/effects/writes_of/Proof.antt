@@ -1,4 +1,4 @@
--- `orders::effects/writes_of` meets its contract.
+-- `attention::effects::writes_of` meets its contract.
 -- Assumes nothing.
 use borrow.Author.Needs.{needs}
 use Rattle.attention.specs.Effects.{writesOf}

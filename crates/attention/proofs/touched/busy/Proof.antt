@@ -1,4 +1,4 @@
--- `orders::touched/busy` meets its contract.
+-- `attention::touched::busy` meets its contract.
 -- Assumes nothing.
 use borrow.Author.Needs.{needs}
 use Rattle.machine.specs.States.{busyIn}

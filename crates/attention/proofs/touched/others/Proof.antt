@@ -1,4 +1,4 @@
--- `orders::touched/others` meets its contract.
+-- `attention::touched::others` meets its contract.
 -- Assumes nothing.
 use borrow.Author.Needs.{needs}
 use Rattle.memory.specs.Places.{allLent}

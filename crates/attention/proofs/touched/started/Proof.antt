@@ -1,4 +1,4 @@
--- `orders::touched/started` meets its contract.
+-- `attention::touched::started` meets its contract.
 -- Assumes nothing.
 use borrow.Author.Needs.{needs}
 use mathlib.Core.Bool.{and-assoc}

@@ -1,4 +1,4 @@
--- `orders::touched/stored` meets its contract.
+-- `attention::touched::stored` meets its contract.
 -- Assumes nothing.
 use borrow.Author.Needs.{needs}
 use Rattle.memory.proofs.SpanLaws.{all-append}

@@ -1,4 +1,4 @@
--- `machine::updates/halted` meets its contract.
+-- `machine::updates::halted` meets its contract.
 -- Assumes nothing.
 use borrow.Author.Needs.{needs}
 use Rattle.machine.specs.Updates.{halted}

@@ -1,4 +1,4 @@
--- `machine::updates/renewed` meets its contract.
+-- `machine::updates::renewed` meets its contract.
 -- Assumes nothing.
 use mathlib.Core.Path.{refl}
 use Rattle.machine.specs.Updates.{renewed}

@@ -1,4 +1,4 @@
--- `machine::updates/stopped_psw` meets its contract.
+-- `machine::updates::stopped_psw` meets its contract.
 -- Assumes nothing.
 use borrow.Author.Needs.{needs}
 use Rattle.machine.specs.Updates.{stoppedPsw}

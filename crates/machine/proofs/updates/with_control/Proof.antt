@@ -1,4 +1,4 @@
--- `machine::updates/with_control` meets its contract.
+-- `machine::updates::with_control` meets its contract.
 -- Assumes nothing.
 use mathlib.Core.Path.{refl}
 use Rattle.machine.specs.Updates.{withControl}

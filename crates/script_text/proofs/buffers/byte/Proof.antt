@@ -1,4 +1,4 @@
--- `calls::buffers::byte` meets its contract.
+-- `script_text::buffers::byte` meets its contract.
 -- Assumes nothing.
 use borrow.Author.Needs.{needs}
 use Rattle.script_text.specs.Buffers.{byteOf}

@@ -1,4 +1,4 @@
--- `calls::buffers::clear` meets its contract. The loop's invariant: every byte passed is 0.
+-- `script_text::buffers::clear` meets its contract. The loop's invariant: every byte passed is 0.
 -- Assumes nothing.
 use Prim.Native.Nat.{ℕ, _+_, _*_, _-_, _^_, _≤_, _<_}
 use borrow.Author.Needs.{needs}

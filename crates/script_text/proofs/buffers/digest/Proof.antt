@@ -1,4 +1,4 @@
--- `calls::buffers::digest` meets its contract. The loop's invariant: the rest of the digest from here is the whole digest.
+-- `script_text::buffers::digest` meets its contract. The loop's invariant: the rest of the digest from here is the whole digest.
 -- Assumes nothing.
 use Prim.Native.Nat.{ℕ, _+_, _*_, _-_, _^_, _≤_, _<_}
 use borrow.Author.Needs.{needs}

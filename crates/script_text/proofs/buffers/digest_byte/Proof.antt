@@ -1,4 +1,4 @@
--- `calls::buffers::digest_byte` meets its contract.
+-- `script_text::buffers::digest_byte` meets its contract.
 -- Assumes nothing.
 use borrow.Author.Needs.{needs}
 use lib.Bits.{xor-lt}

@@ -1,4 +1,4 @@
--- `calls::buffers::put` meets its contract. The loop's invariant: writing the rest from here is writing all from the start.
+-- `script_text::buffers::put` meets its contract. The loop's invariant: writing the rest from here is writing all from the start.
 -- Assumes nothing.
 use Prim.Native.Nat.{ℕ, _+_, _*_, _-_, _/_, _≤_}
 use borrow.Author.Needs.{needs}

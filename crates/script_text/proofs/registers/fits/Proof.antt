@@ -1,4 +1,4 @@
--- `bench::registers::fits` meets its contract.
+-- `script_text::registers::fits` meets its contract.
 -- Assumes nothing.
 use Rattle.script_text.specs.Registers.{fitsRegister}
 use borrow.Author.Tests.{ne-eqb}

@@ -1,4 +1,4 @@
--- `bench::registers::fits_shared` meets its contract.
+-- `script_text::registers::fits_shared` meets its contract.
 -- Assumes nothing.
 use Rattle.script_text.specs.Registers.{fitsShared}
 use borrow.Author.Tests.{ne-eqb}

@@ -1,4 +1,4 @@
--- `bench::registers::mode_of` meets its contract.
+-- `script_text::registers::mode_of` meets its contract.
 -- Assumes nothing.
 use Rattle.script_text.specs.Registers.{modeNumbered}
 use borrow.Author.Tests.{ne-eqb}

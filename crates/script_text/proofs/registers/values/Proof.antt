@@ -1,4 +1,4 @@
--- `bench::registers::values` meets its contract.
+-- `script_text::registers::values` meets its contract.
 -- Assumes nothing.
 use Rattle.script_text.specs.Registers.{valuesOf}
 use borrow.Author.Tests.{ne-eqb}

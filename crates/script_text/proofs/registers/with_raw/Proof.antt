@@ -1,4 +1,4 @@
--- `bench::registers::with_raw` meets its contract.
+-- `script_text::registers::with_raw` meets its contract.
 -- Assumes nothing.
 use Rattle.script_text.specs.Registers.{withRaw, pointerSet}
 use borrow.Author.Tests.{ne-eqb}

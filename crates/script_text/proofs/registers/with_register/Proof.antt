@@ -1,4 +1,4 @@
--- `bench::registers::with_register` meets its contract.
+-- `script_text::registers::with_register` meets its contract.
 -- Assumes nothing.
 use Rattle.script_text.specs.Registers.{withNamed}
 use borrow.Author.Tests.{eq-eqb, ne-eqb}

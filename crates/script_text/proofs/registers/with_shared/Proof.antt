@@ -1,4 +1,4 @@
--- `bench::registers::with_shared` meets its contract.
+-- `script_text::registers::with_shared` meets its contract.
 -- Assumes nothing.
 use Rattle.script_text.specs.Registers.{withShared}
 use borrow.Author.Tests.{ne-eqb}

@@ -1,4 +1,4 @@
--- `calls::text::all_digits` meets its contract. The loop's invariant: the rest answers for the whole word.
+-- `script_text::text::all_digits` meets its contract. The loop's invariant: the rest answers for the whole word.
 -- Assumes nothing.
 use Prim.Native.Nat.{_+_, _*_, _-_, _^_, _≤_, _<_}
 use borrow.Author.Needs.{needs}

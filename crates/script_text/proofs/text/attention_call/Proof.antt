@@ -1,4 +1,4 @@
--- `calls::text::attention_call` meets its contract.
+-- `script_text::text::attention_call` meets its contract.
 -- Assumes nothing.
 use Rattle.script_text.specs.Calls.{attentionCall}
 use borrow.Author.Tests.{eq-eqb, le-leb, le-ltb, lt-leb, lt-ltb, ne-eqb}

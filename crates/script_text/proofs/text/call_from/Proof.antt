@@ -1,4 +1,4 @@
--- `calls::text::call_from` meets its contract.
+-- `script_text::text::call_from` meets its contract.
 -- Assumes nothing.
 use Rattle.script_text.specs.Calls.{callFrom}
 use borrow.Author.Tests.{ne-eqb}

@@ -1,4 +1,4 @@
--- `calls::text::call_of` meets its contract.
+-- `script_text::text::call_of` meets its contract.
 -- Assumes nothing.
 use borrow.Author.Needs.{needs}
 use borrow.Author.Tests.{eq-eqb, ne-eqb}

@@ -1,4 +1,4 @@
--- `calls::text::digit` meets its contract.
+-- `script_text::text::digit` meets its contract.
 -- Assumes nothing.
 use Rattle.script_text.specs.Text.{digitOf}
 use borrow.Author.Tests.{le-leb, le-ltb, lt-leb, lt-ltb}

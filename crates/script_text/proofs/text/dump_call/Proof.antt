@@ -1,4 +1,4 @@
--- `calls::text::dump_call` meets its contract.
+-- `script_text::text::dump_call` meets its contract.
 -- Assumes nothing.
 use Rattle.script_text.specs.Calls.{dumpCall}
 use borrow.Author.Tests.{eq-eqb, ne-eqb}

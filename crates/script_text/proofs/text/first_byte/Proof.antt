@@ -1,4 +1,4 @@
--- `calls::text::first_byte` meets its contract.
+-- `script_text::text::first_byte` meets its contract.
 -- Assumes nothing.
 use borrow.Author.Needs.{needs}
 use denote.Ref.{now}

@@ -1,4 +1,4 @@
--- `calls::text::first_same` meets its contract. The loop's invariant: what is found from here is what is found from the start.
+-- `script_text::text::first_same` meets its contract. The loop's invariant: what is found from here is what is found from the start.
 -- Assumes nothing.
 use Prim.Native.Nat.{_+_, _*_, _-_, _^_, _≤_, _<_}
 use borrow.Author.Needs.{needs}

@@ -1,4 +1,4 @@
--- `calls::text::fourth_word` meets its contract.
+-- `script_text::text::fourth_word` meets its contract.
 -- Assumes nothing.
 use borrow.Author.Needs.{needs}
 use Rattle.script_text.specs.Text.{fourthSpan}

@@ -1,4 +1,4 @@
--- `calls::text::is_pairs` meets its contract.
+-- `script_text::text::is_pairs` meets its contract.
 -- Assumes nothing.
 use borrow.Author.Needs.{needs}
 use Rattle.script_text.specs.Text.{isPairs}

@@ -1,4 +1,4 @@
--- `calls::text::make_call` meets its contract.
+-- `script_text::text::make_call` meets its contract.
 -- Assumes nothing.
 use Rattle.script_text.specs.Calls.{makeCall}
 use borrow.Author.Tests.{eq-eqb, le-leb, le-ltb, lt-leb, lt-ltb, ne-eqb}

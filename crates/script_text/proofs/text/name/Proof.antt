@@ -1,4 +1,4 @@
--- `calls::text::name` meets its contract. The loop's invariant: packing the rest gives the whole name.
+-- `script_text::text::name` meets its contract. The loop's invariant: packing the rest gives the whole name.
 -- Assumes nothing.
 use Prim.Native.Nat.{_+_, _*_, _-_, _^_, _≤_, _<_}
 use borrow.Author.Needs.{needs}

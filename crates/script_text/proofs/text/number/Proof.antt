@@ -1,4 +1,4 @@
--- `calls::text::number` meets its contract. The loop's invariant: reading the rest gives the whole number.
+-- `script_text::text::number` meets its contract. The loop's invariant: reading the rest gives the whole number.
 -- Assumes nothing.
 use Prim.Native.Nat.{ℕ, _+_, _*_, _-_, _^_, _≤_, _<_}
 use borrow.Author.Needs.{needs}

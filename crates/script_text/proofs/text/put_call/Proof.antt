@@ -1,4 +1,4 @@
--- `calls::text::put_call` meets its contract.
+-- `script_text::text::put_call` meets its contract.
 -- Assumes nothing.
 use Rattle.script_text.specs.Calls.{putCall}
 use borrow.Author.Tests.{not-true, not-false, eq-eqb, le-leb, le-ltb, lt-leb, lt-ltb, ne-eqb}

@@ -1,4 +1,4 @@
--- `calls::text::set_call` meets its contract.
+-- `script_text::text::set_call` meets its contract.
 -- Assumes nothing.
 use mathlib.Core.Path.{sym, _∙_}
 use Rattle.script_text.specs.Calls.{setCall}

@@ -1,4 +1,4 @@
--- `calls::text::span_at` meets its contract.
+-- `script_text::text::span_at` meets its contract.
 -- Assumes nothing.
 use borrow.Author.Needs.{needs}
 use Rattle.script_text.specs.Text.{spanAt}

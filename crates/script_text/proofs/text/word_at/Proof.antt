@@ -1,4 +1,4 @@
--- `calls::text::word_at` meets its contract.
+-- `script_text::text::word_at` meets its contract.
 -- Assumes nothing.
 use borrow.Author.Needs.{needs}
 use Rattle.script_text.specs.Text.{lineWordAt}

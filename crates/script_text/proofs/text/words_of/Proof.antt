@@ -1,4 +1,4 @@
--- `calls::text::words_of` meets its contract.
+-- `script_text::text::words_of` meets its contract.
 -- Assumes nothing.
 use borrow.Author.Needs.{needs}
 use Rattle.script_text.specs.Text.{wordsOf}
