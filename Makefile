@@ -193,3 +193,67 @@ build/emulator.o: host/emulator.c host/emulator.h | x86-compiler
 
 build/bench: host/bench.c host/emulator.h include/iop89.h build/emulator.o $(IOP89_LIB)
 	$(X86_CC) $(STRICT) -O2 -Iinclude host/bench.c build/emulator.o $(IOP89_LIB) $(X86_LDFLAGS) -o $@
+
+# ---- The service archive: the machine call by call, and what stands on both archives
+
+SERVICE_LIB = build/libiop89_service.a
+SERVICE_CASES ?= 300000
+
+.PHONY: service-lib compare-service
+
+# The proved calls as a second archive; both link into one program.
+service-lib:
+	@mkdir -p build
+	@rt staticlib service > build/rt.log 2>&1 || { tail -n 5 build/rt.log; exit 1; }
+	@mkdir -p build
+	cp target/staticlib/libservice.a $(SERVICE_LIB)
+
+$(SERVICE_LIB):
+	@$(MAKE) --no-print-directory service-lib
+
+build/compare_service: host/compare_service.c host/state_bytes.c host/state_bytes.h include/iop89_service.h $(COMMON) \
+		$(COMMON_H) $(SERVICE_LIB) | x86-compiler
+	$(X86_CC) $(STRICT) $(CFLAGS) -Iinclude host/compare_service.c host/state_bytes.c $(COMMON) $(SERVICE_LIB) \
+		$(X86_LDFLAGS) -o $@
+
+compare-service: build/compare_service
+	tools/x86 build/compare_service $(SEED) $(SERVICE_CASES)
+
+# ---- The bench tool, over both archives
+
+TOOL = $(addprefix host/,tool.c tool_order.c tool_calls.c)
+
+.PHONY: tool check-tool
+
+tool: build/iop89
+
+build/iop89: $(TOOL) host/tool.h include/iop89.h include/iop89_service.h $(IOP89_LIB) $(SERVICE_LIB) | x86-compiler
+	$(X86_CC) $(STRICT) $(CFLAGS) -Iinclude $(TOOL) $(IOP89_LIB) $(SERVICE_LIB) $(X86_LDFLAGS) -o $@
+
+# Every command, every exit status, and misuse.
+check-tool: build/iop89
+	tools/check-tool
+
+# A host that drives both channels, saves the machine and restores it.
+.PHONY: demo-service
+
+build/both_channels: host/both_channels.c include/iop89.h include/iop89_service.h $(SERVICE_LIB) | x86-compiler
+	$(X86_CC) $(STRICT) $(CFLAGS) -Iinclude host/both_channels.c $(SERVICE_LIB) $(X86_LDFLAGS) -o $@
+
+demo-service: build/both_channels
+	tools/x86 build/both_channels
+
+# ---- The worked example: a sweep next to a marker table, drawn from what the tool shows
+
+.PHONY: sweep check-sweep
+
+sweep: build/iop89
+	@tools/need python3 python3
+	tools/draw-sweep docs/sweep.svg docs/SWEEP.md
+
+# What is committed must be what is drawn.
+check-sweep: build/iop89
+	@tools/need python3 python3
+	@cp docs/SWEEP.md build/SWEEP.md
+	tools/draw-sweep build/sweep.svg build/SWEEP.md
+	cmp build/sweep.svg docs/sweep.svg && cmp build/SWEEP.md docs/SWEEP.md

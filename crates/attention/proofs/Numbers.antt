@@ -1,6 +1,6 @@
 -- Each number is given exactly under its own condition and no earlier one.
 -- Assumes nothing.
-use Prim.Native.Nat.{ℕ}
+use Prim.Native.Nat.{ℕ, _≤_}
 use lib.ListN.{drop}
 use mathlib.Core.Bool.{true, false}
 use mathlib.Core.Logic.{_⊎_, _↔_, Iff·trans}
@@ -14,7 +14,7 @@ use Rattle.machine.specs.declared.State.{State}
 use Rattle.memory.specs.Buffers.{Buffers}
 use Rattle.memory.specs.Places.{span}
 use Rattle.words.proofs.BitLaws.{field-lt}
-use Rattle.machine.proofs.ConditionLaws.{step, last, rewritten, first-assoc, skip, hit, either, end, foreign, never, told-limits, told-sound, told-lent}
+use Rattle.machine.proofs.ConditionLaws.{step, last, rewritten, first-assoc, skip, hit, either, end, foreign, never, given-most, told-limits, told-sound, told-lent}
 use Rattle.machine.specs.Conditions.{Given, TooLong, NotSound, Beyond}
 use Rattle.attention.specs.Attention.{orderTo, orderNumber, orderedChannel, orderedMemory, givenTo, attentionNumber, attentionOf}
 use Rattle.attention.specs.Blocks.{orderOf}
@@ -43,6 +43,10 @@ module _ (s : State) (m : Buffers) (channel : ℕ) where
       (step 8 refl (told-start code mode)
       (step 9 refl (told-suspend code mode)
       (last n 2 refl (told-lent m (others o))))))))))))
+
+  -- the number is at most 12
+  pub attention-most : attentionOf s m channel .number ≤ 12
+  attention-most = given-most 12 (attentionChecks s m channel) refl ((given-exactly (attentionOf s m channel .number)) .0 refl)
 
   -- no check after the first k gives n
   later : (n k : ℕ) → foreign n (drop k (attentionChecks s m channel)) ≡ true → ¬ (Given (drop k (attentionChecks s m channel)) n)

@@ -7,21 +7,14 @@ use mathlib.Core.Path.{_≡_, refl, sym, subst}
 use native.Mathlib.Decide.{ℕ-discrete, decLt}
 use native.Mathlib.Nat.{mod-eq-of-lt}
 use native.Mathlib.Omega.{arith}
-use Rattle.attention.proofs.Numbers.{given-exactly}
+use Rattle.attention.proofs.Numbers.{attention-most}
 use Rattle.attention.specs.Attention.{attentionOf}
-use Rattle.attention.specs.Conditions.{attentionChecks as attentionChecks}
-use Rattle.machine.proofs.ConditionLaws.{upTo, given-most, up-to-either}
 use Rattle.machine.specs.Outcomes.{unless, first}
-use Rattle.machine.specs.Psw.{transferring}
-use Rattle.machine.specs.States.{freshState, channelOf, isChannel}
+use Rattle.machine.specs.States.{freshState, isChannel}
 use Rattle.machine.specs.declared.State.{State}
 use Rattle.memory.specs.Buffers.{Buffers, withinLimits}
-use Rattle.step.proofs.NumberLaws.{number-given}
-use Rattle.step.specs.Choosing.{choiceOf}
-use Rattle.step.specs.Conditions.{chosenChecks, stepChecks as stepChecks}
+use Rattle.step.proofs.NumberLaws.{step-most}
 use Rattle.step.specs.Step.{stepOf}
-use Rattle.step.specs.declared.turns.Choice.{Choice}
-use Rattle.step.specs.declared.turns.Choice.the-variants.{Nobody, Ends, Steps}
 use Rattle.words.specs.Choice.{pick}
 use Rattle.panel.specs.Run.{Run, ran, stepsFrom, callNumber, runOf, answerOf}
 use Rattle.panel.proofs.Outcomes.{refused-call, refused-cp, refused-attention, accepted-attention}
@@ -29,20 +22,7 @@ use Rattle.panel.proofs.RunLaws.{call-limit}
 
 -- ---- the numbers
 
--- the number of an attention is at most 12
-pub attention-most : (s : State) (m : Buffers) (channel : ℕ) → attentionOf s m channel .number ≤ 12
-attention-most s m channel = given-most 12 (attentionChecks s m channel) refl ((given-exactly s m channel (attentionOf s m channel .number)) .0 refl)
-
--- that of a step too, whoever was chosen
-pub step-most : (s : State) (m : Buffers) (lines : ℕ) → stepOf s m lines .number ≤ 12
-step-most s m lines = given-most 12 (stepChecks s m lines) (chosen (choiceOf s lines)) ((number-given s m lines (stepOf s m lines .number)) .0 refl)
-  where
-    chosen : (x : Choice) → upTo 12 (chosenChecks x s m) ≡ true
-    chosen Nobody = refl
-    chosen (Ends b) = refl
-    chosen (Steps b) = up-to-either 12 (transferring (channelOf s b .psw)) _ _ refl refl
-
--- and that of the call itself
+-- an attention's number and a step's are at most 12; so is that of the call itself
 call-most : (m : Buffers) (channel lines limit : ℕ) → callNumber m channel lines limit ≤ 12
 unfolding callNumber first unless
 call-most m channel lines limit = go (isChannel channel && ltb lines 16 && ltb limit 65536) (withinLimits m)

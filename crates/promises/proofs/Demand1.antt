@@ -5,7 +5,7 @@ use mathlib.Core.Bool.{Bool, true, false}
 use mathlib.Core.Path.{_≡_, refl, subst, ap}
 use native.Mathlib.Decide.{decLt}
 use native.Mathlib.Omega.{arith}
-use Rattle.attention.proofs.Numbers.{given-exactly}
+use Rattle.attention.proofs.Numbers.{given-exactly, attention-most}
 use Rattle.attention.proofs.Outcomes.{refused-nothing}
 use Rattle.machine.proofs.ConditionLaws.{last, rewritten, told-ltb}
 use Rattle.machine.specs.Outcomes.{Outcome}
@@ -13,8 +13,8 @@ use Rattle.machine.specs.States.{idleChannel, freshState, freshOf, channelOf}
 use Rattle.machine.specs.declared.Answer.{Answer}
 use Rattle.machine.specs.declared.State.{State}
 use Rattle.memory.specs.Buffers.{Buffers}
-use Rattle.panel.proofs.Bounds.{attention-most, step-most, number-most, steps-most, steps-below, answer-is, number-back, steps-back}
-use Rattle.step.proofs.NumberLaws.{number-given}
+use Rattle.panel.proofs.Bounds.{number-most, steps-most, steps-below, answer-is, number-back, steps-back}
+use Rattle.step.proofs.NumberLaws.{number-given, step-most}
 use Rattle.step.proofs.OutcomeLaws.{refused}
 use Rattle.step.specs.Step.{Step}
 use Rattle.promises.specs.Demand1.{Blank, FreshAnswers, AttentionAnswers, StepAnswers, RunAnswers, Demand1}

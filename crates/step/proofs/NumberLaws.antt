@@ -1,6 +1,6 @@
 -- The number of a step: each is given exactly under its own condition, where no earlier check applies.
 -- Assumes nothing.
-use Prim.Native.Nat.{ℕ, zero, suc}
+use Prim.Native.Nat.{ℕ, zero, suc, _≤_}
 use borrow.Author.Tests.{eqb-false}
 use lib.Dec.{eqb, ltb, eqb·suc-zero}
 use mathlib.Core.Bool.{Bool, true, false, not}
@@ -11,7 +11,7 @@ use Rattle.decode_shapes.specs.declared.Decoded.the-variants.{Instruction}
 use Rattle.execute.proofs.NumberLaws.{number-given as instruction-given, exactly-2 as own-2, exactly-3 as own-3, exactly-4 as own-4, exactly-0 as own-0}
 use Rattle.execute.specs.Conditions.{instructionChecks as instructionChecks, InstructionGiven2, InstructionGiven3, InstructionGiven4, InstructionGiven0}
 use Rattle.execute.specs.Execute.{decodedAt, executeOf}
-use Rattle.machine.proofs.ConditionLaws.{Told, step, last, rewritten, first-assoc, skip, hit, end, never, told-ltb, told-limits, told-sound, told-lent, told-by, says-true, says-eqb, says-and, says-or}
+use Rattle.machine.proofs.ConditionLaws.{Told, step, last, rewritten, first-assoc, skip, hit, end, never, upTo, given-most, up-to-either, told-ltb, told-limits, told-sound, told-lent, told-by, says-true, says-eqb, says-and, says-or}
 use Rattle.machine.specs.Cc.{synchronised, translates}
 use Rattle.machine.specs.Conditions.{check, Given, TooLong, NotSound, Beyond}
 use Rattle.machine.specs.Outcomes.{first, unless, givenNumber}
@@ -112,6 +112,15 @@ number-given s m lines n =
     (step 11 refl (told-limits m)
     (step 10 refl (told-sound s)
     (chosen-given s m lines n (choiceOf s lines) refl))))
+
+-- the number is at most 12, whoever was chosen
+pub step-most : (s : State) (m : Buffers) (lines : ℕ) → stepOf s m lines .number ≤ 12
+step-most s m lines = given-most 12 (stepChecks s m lines) (chosen (choiceOf s lines)) ((number-given s m lines (stepOf s m lines .number)) .0 refl)
+  where
+    chosen : (x : Choice) → upTo 12 (chosenChecks x s m) ≡ true
+    chosen Nobody = refl
+    chosen (Ends b) = refl
+    chosen (Steps b) = up-to-either 12 (transferring (channelOf s b .psw)) _ _ refl refl
 
 -- ---- each number
 

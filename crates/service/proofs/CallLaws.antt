@@ -1,0 +1,82 @@
+-- What a call leaves, from what its parts leave.
+-- Assumes nothing.
+use Prim.Native.Nat.{ℕ}
+use borrow.Author.Tests.{eq-eqb, ne-eqb, eqb-true}
+use lib.Dec.{eqb}
+use lib.ListN.{length, getD}
+use lib.Seq.{sets}
+use mathlib.Core.Bool.{true, false, _&&_}
+use mathlib.Core.List.{List}
+use mathlib.Core.Path.{_≡_, sym, ap, _∙_}
+use Rattle.words.proofs.ChoiceLaws.{apart, both-left}
+use Rattle.memory.specs.Buffers.{Buffers}
+use Rattle.machine.specs.Outcomes.{Outcome}
+use Rattle.machine.specs.States.{freshOf}
+use Rattle.machine.specs.declared.Answer.{Answer}
+use Rattle.machine.specs.declared.State.{State}
+use Rattle.attention.specs.Attention.{attentionOf}
+use Rattle.step.specs.Step.{Step, stepOf}
+use Rattle.service.specs.Fields.{isFlag}
+use Rattle.service.specs.Layout.{bytesOf, stateIn, isBlock, isState, stateLength, version, firstAt, secondFrom}
+use Rattle.service.specs.Calls.{made, served, answerFrom, kindNumber, freshMade, attentionServed, stepServed}
+use Rattle.service.proofs.LengthLaws.{length-state}
+use Rattle.service.proofs.SetsLaws.{sets-whole}
+
+-- bytes that are a state have its length
+pub state-length : (b : List ℕ) → isState b ≡ true → length b ≡ stateLength
+unfolding isState
+state-length b h =
+    eqb-true (length b) stateLength
+    (both-left (eqb (length b) stateLength) (eqb (getD b 0 0) version)
+    (both-left (eqb (length b) stateLength && eqb (getD b 0 0) version) (isFlag b 5)
+    (both-left (eqb (length b) stateLength && eqb (getD b 0 0) version && isFlag b 5) (isBlock b firstAt)
+    (both-left (eqb (length b) stateLength && eqb (getD b 0 0) version && isFlag b 5 && isBlock b firstAt) (isBlock b secondFrom) h))))
+
+-- a state put into bytes of its length leaves its bytes
+pub put-whole : (b : List ℕ) (s : State) → length b ≡ stateLength → sets b 0 (bytesOf s) ≡ bytesOf s
+put-whole b s e = sets-whole (bytesOf s) b (e ∙ sym (length-state s))
+
+-- such bytes then stand for the state, where it comes back whole
+put-stands : (b : List ℕ) (s : State) → length b ≡ stateLength → stateIn (bytesOf s) ≡ s → stateIn (sets b 0 (bytesOf s)) ≡ s
+put-stands b s e w = ap stateIn (put-whole b s e) ∙ w
+
+-- bytes of another length are left by fresh, others become the fresh state's
+pub fresh-short : (b : List ℕ) (cp : ℕ) → ¬ (length b ≡ stateLength)
+    → (made 17 b ≡ freshMade b cp) × (length b ≡ stateLength → stateIn b ≡ freshOf cp .state)
+unfolding freshMade
+fresh-short b cp ne = (rw (ne-eqb (length b) stateLength ne), λ e. absurd (ne e))
+
+pub fresh-made : (b : List ℕ) (cp : ℕ) (a : Answer) → length b ≡ stateLength → a ≡ freshOf cp → stateIn (bytesOf (a .state)) ≡ a .state
+    → (made (answerFrom (a .number) 0 0) (sets b 0 (bytesOf (a .state))) ≡ freshMade b cp)
+    × (length b ≡ stateLength → stateIn (sets b 0 (bytesOf (a .state))) ≡ freshOf cp .state)
+unfolding freshMade
+fresh-made b cp a e p w =
+    (rw (eq-eqb (length b) stateLength e, put-whole b (a .state) e, p), λ h. put-stands b (a .state) e w ∙ ap (λ (x : Answer). x .state) p)
+
+module _ (b : List ℕ) (m : Buffers) where
+  -- bytes that are no state are left by an attention and by a step, with both memories
+  pub attention-none : (channel : ℕ) → isState b ≡ false
+      → (served 17 b m ≡ attentionServed b m channel) × (isState b ≡ true → stateIn b ≡ attentionOf (stateIn b) m channel .state)
+  unfolding attentionServed
+  attention-none channel h = (rw h, λ e. apart (sym e ∙ h))
+
+  pub step-none : (lines : ℕ) → isState b ≡ false
+      → (served 17 b m ≡ stepServed b m lines) × (isState b ≡ true → stateIn b ≡ stepOf (stateIn b) m lines .state)
+  unfolding stepServed
+  step-none lines h = (rw h, λ e. apart (sym e ∙ h))
+
+  module _ (h : isState b ≡ true) where
+    -- others become the bytes of what the attention or the step left
+    pub attention-served : (channel : ℕ) (o : Outcome) → o ≡ attentionOf (stateIn b) m channel → stateIn (bytesOf (o .state)) ≡ o .state
+        → (served (answerFrom (o .number) 0 0) (sets b 0 (bytesOf (o .state))) (o .memory) ≡ attentionServed b m channel)
+        × (isState b ≡ true → stateIn (sets b 0 (bytesOf (o .state))) ≡ attentionOf (stateIn b) m channel .state)
+    unfolding attentionServed
+    attention-served channel o p w =
+        (rw (h, put-whole b (o .state) (state-length b h), p), λ e. put-stands b (o .state) (state-length b h) w ∙ ap (λ (x : Outcome). x .state) p)
+
+    pub step-served : (lines : ℕ) (o : Step) → o ≡ stepOf (stateIn b) m lines → stateIn (bytesOf (o .state)) ≡ o .state
+        → (served (answerFrom (o .number) (o .channel) (kindNumber (o .kind))) (sets b 0 (bytesOf (o .state))) (o .memory) ≡ stepServed b m lines)
+        × (isState b ≡ true → stateIn (sets b 0 (bytesOf (o .state))) ≡ stepOf (stateIn b) m lines .state)
+    unfolding stepServed
+    step-served lines o p w =
+        (rw (h, put-whole b (o .state) (state-length b h), p), λ e. put-stands b (o .state) (state-length b h) w ∙ ap (λ (x : Step). x .state) p)

@@ -1,0 +1,36 @@
+-- How long each part of a state is in bytes.
+-- Assumes nothing.
+use Prim.Native.Nat.{ℕ, zero, suc, _/_}
+use lib.ListN.{length}
+use mathlib.Core.Path.{_≡_, refl, ap}
+use Rattle.memory.specs.declared.Pointer.{Pointer}
+use Rattle.machine.specs.declared.Channel.{Channel}
+use Rattle.machine.specs.declared.State.{State}
+use Rattle.service.specs.Fields.{littleEnd}
+use Rattle.service.specs.Layout.{pointerBytes, pointersBytes, numbersBytes, marksBytes, channelBytes, bytesOf, stateLength}
+
+-- a number has as many bytes as its width says
+pub length-little : (width n : ℕ) → length (littleEnd width n) ≡ width
+unfolding littleEnd
+length-little zero n = refl
+length-little (suc width) n = ap suc (length-little width (n / 256))
+
+pub length-pointer : (p : Pointer) → length (pointerBytes p) ≡ 5
+unfolding pointerBytes littleEnd
+length-pointer p = refl
+
+pub length-pointers : (c : Channel) → length (pointersBytes c) ≡ 20
+unfolding pointersBytes pointerBytes littleEnd
+length-pointers c = refl
+
+pub length-numbers : (c : Channel) → length (numbersBytes c) ≡ 12
+unfolding numbersBytes littleEnd
+length-numbers c = refl
+
+pub length-channel : (c : Channel) → length (channelBytes c) ≡ 35
+unfolding channelBytes pointersBytes pointerBytes numbersBytes marksBytes littleEnd
+length-channel c = refl
+
+pub length-state : (s : State) → length (bytesOf s) ≡ stateLength
+unfolding bytesOf channelBytes pointersBytes pointerBytes numbersBytes marksBytes littleEnd
+length-state s = refl

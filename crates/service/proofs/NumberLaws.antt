@@ -1,0 +1,139 @@
+-- The answer of a call: its parts can be taken out again, and its number is given exactly under its condition, 17 before all others.
+-- Assumes nothing.
+use Prim.Native.Nat.{ℕ, _+_, _/_, _%_, _<_, _≤_}
+use lib.Dec.{eqb, ltb}
+use lib.ListN.{length, getD}
+use mathlib.Core.Bool.{and-assoc, Bool, true, false}
+use mathlib.Core.List.{List}
+use mathlib.Core.Logic.{_⊎_, _↔_, inl, inr, ⊎-elim}
+use mathlib.Core.Path.{_≡_, refl, sym, _∙_}
+use native.Mathlib.Omega.{arith}
+use Rattle.words.specs.Choice.{pick}
+use Rattle.memory.specs.Buffers.{Buffers}
+use Rattle.machine.proofs.ConditionLaws.{Told, told-and, told-eqb, told-ltb, last, rewritten}
+use Rattle.machine.specs.Conditions.{Given}
+use Rattle.machine.specs.Outcomes.{unless}
+use Rattle.machine.specs.States.{freshState, freshOf}
+use Rattle.machine.specs.declared.Answer.{Answer}
+use Rattle.attention.proofs.Numbers.{given-exactly, attention-most}
+use Rattle.attention.specs.Attention.{attentionOf}
+use Rattle.step.proofs.NumberLaws.{number-given, step-most}
+use Rattle.step.specs.Step.{stepOf}
+use Rattle.service.specs.Calls.{made, served, noState, kindNumber, answerFrom, freshMade, attentionServed, stepServed}
+use Rattle.service.specs.Conditions.{NoState, NoBlock, freshChecksOn, attentionChecksOn, stepChecksOn}
+use Rattle.service.specs.Fields.{isFlag, isMode}
+use Rattle.service.specs.Layout.{bytesOf, stateIn, isBlock, isState, stateLength, version, firstAt, secondFrom}
+
+-- ---- the parts of an answer
+
+module _ (number channel kind : ℕ) where
+  -- bits 0 to 7, 8 and 9, 10 and 11
+  pub number-part : number < 256 → answerFrom number channel kind % 256 ≡ number
+  unfolding answerFrom
+  number-part h = omega arith
+
+  pub channel-part : channel < 4 → answerFrom number channel kind / 256 % 4 ≡ channel
+  unfolding answerFrom
+  channel-part h = omega arith
+
+  pub kind-part : kind < 4 → answerFrom number channel kind / 1024 % 4 ≡ kind
+  unfolding answerFrom
+  kind-part h = omega arith
+
+-- ---- 17
+
+told-block : (b : List ℕ) (at : ℕ) → Told (isBlock b at) (NoBlock b at)
+unfolding isBlock isFlag isMode
+told-block b at =
+    simp and-assoc
+    (told-and (told-ltb (getD b (at + 4) 0) 2)
+    (told-and (told-ltb (getD b (at + 9) 0) 2)
+    (told-and (told-ltb (getD b (at + 14) 0) 2)
+    (told-and (told-ltb (getD b (at + 19) 0) 2)
+    (told-and (told-ltb (getD b (at + 33) 0) 3) (told-ltb (getD b (at + 34) 0) 2))))))
+
+-- the test of 17 says what its condition says
+pub told-state : (b : List ℕ) → Told (isState b) (NoState b)
+unfolding isState isFlag
+told-state b =
+    simp and-assoc
+    (told-and (told-eqb (length b) stateLength)
+    (told-and (told-eqb (getD b 0 0) version)
+    (told-and (told-ltb (getD b 5 0) 2)
+    (told-and (told-block b firstAt) (told-block b secondFrom)))))
+
+-- a number that is 17 for bytes that are no state, and below 256 otherwise
+told-17 : {A Q : Type 0} (ok : Bool) (n number answer : ℕ) → Told ok A → answer ≡ pick ok number 17 → (number ≡ n ↔ Q) → (answer ≡ n) ↔ ((A × (n ≡ 17)) ⊎ (¬ A × Q))
+told-17 true n number answer t e q = (λ h. inr (t .holds refl, q .0 (sym e ∙ h)), ⊎-elim (λ h. absurd (t .holds refl (h .0))) (λ h. e ∙ q .1 (h .1)))
+told-17 false n number answer t e q = (λ h. inl (t .fails refl, sym h ∙ e), ⊎-elim (λ h. e ∙ sym (h .1)) (λ h. absurd (h .0 (t .fails refl))))
+
+-- 17 itself, where the other numbers are at most 12
+exactly-17 : {A : Type 0} (ok : Bool) (number answer : ℕ) → Told ok A → answer ≡ pick ok number 17 → number ≤ 12 → (answer ≡ 17) ↔ A
+exactly-17 true number answer t e small = (λ h. absurd (let f : answer ≡ number = e in omega arith), λ h. absurd (t .holds refl h))
+exactly-17 false number answer t e small = (λ h. t .fails refl, λ h. e)
+
+-- what a call answers, whether its bytes are a state or not
+answer-number : (ok : Bool) (number channel kind : ℕ) (bytes b : List ℕ) (m′ m : Buffers) → number ≤ 12
+    → (pick ok (served (answerFrom number channel kind) bytes m′) (noState b m)) .answer % 256 ≡ pick ok number 17
+answer-number true number channel kind bytes b m′ m h = number-part number channel kind (omega arith)
+answer-number false number channel kind bytes b m′ m h = refl
+
+-- the number of a fresh state: 17, then 10
+fresh-number : (cp : ℕ) → freshOf cp .number ≡ unless (ltb cp 1048576) 10
+unfolding freshOf unless
+fresh-number cp = go (ltb cp 1048576)
+  where
+    go : (ok : Bool) → (pick {A = Answer} ok (record { number = 0; state = freshState cp }) (record { number = 10; state = freshState 0 })) .number ≡ pick ok 0 10
+    go true = refl
+    go false = refl
+
+unless-small : (ok : Bool) → unless ok 10 < 256
+unfolding unless
+unless-small true = omega arith
+unless-small false = omega arith
+
+pub fresh-given : (b : List ℕ) (cp n : ℕ) → (freshMade b cp .answer % 256 ≡ n) ↔ Given (freshChecksOn b cp) n
+unfolding freshMade
+fresh-given b cp n =
+    told-17 (eqb (length b) stateLength) n (freshOf cp .number) (freshMade b cp .answer % 256) (told-eqb (length b) stateLength) (part (eqb (length b) stateLength))
+    (rewritten (fresh-number cp) (last n 10 refl (told-ltb cp 1048576)))
+  where
+    part : (ok : Bool) → (pick ok (made (answerFrom (freshOf cp .number) 0 0) (bytesOf (freshOf cp .state))) (made 17 b)) .answer % 256 ≡ pick ok (freshOf cp .number) 17
+    part true = number-part (freshOf cp .number) 0 0 (rw (fresh-number cp) (unless-small (ltb cp 1048576)))
+    part false = refl
+
+module _ (b : List ℕ) (m : Buffers) where
+  attention-number : (channel : ℕ) → attentionServed b m channel .answer % 256 ≡ pick (isState b) (attentionOf (stateIn b) m channel .number) 17
+  unfolding attentionServed
+  attention-number channel =
+      let o = attentionOf (stateIn b) m channel in
+      answer-number (isState b) (o .number) 0 0 (bytesOf (o .state)) b (o .memory) m (attention-most (stateIn b) m channel)
+
+  -- the number of an attention: 17, then those of attention on the state, in their order
+  pub attention-given : (channel n : ℕ) → (attentionServed b m channel .answer % 256 ≡ n) ↔ Given (attentionChecksOn b m channel) n
+  attention-given channel n =
+      told-17 (isState b) n (attentionOf (stateIn b) m channel .number) (attentionServed b m channel .answer % 256) (told-state b)
+      (attention-number channel) (given-exactly (stateIn b) m channel n)
+
+  step-number : (lines : ℕ) → stepServed b m lines .answer % 256 ≡ pick (isState b) (stepOf (stateIn b) m lines .number) 17
+  unfolding stepServed
+  step-number lines =
+      let o = stepOf (stateIn b) m lines in
+      answer-number (isState b) (o .number) (o .channel) (kindNumber (o .kind)) (bytesOf (o .state)) b (o .memory) m (step-most (stateIn b) m lines)
+
+  -- the number of a step: 17, then those of the step on the state, in their order
+  pub step-given : (lines n : ℕ) → (stepServed b m lines .answer % 256 ≡ n) ↔ Given (stepChecksOn b m lines) n
+  step-given lines n =
+      told-17 (isState b) n (stepOf (stateIn b) m lines .number) (stepServed b m lines .answer % 256) (told-state b)
+      (step-number lines) (number-given (stateIn b) m lines n)
+
+  -- 17 exactly where the bytes are no state
+  pub attention-17 : (channel : ℕ) → (attentionServed b m channel .answer % 256 ≡ 17) ↔ NoState b
+  attention-17 channel =
+      exactly-17 (isState b) (attentionOf (stateIn b) m channel .number) (attentionServed b m channel .answer % 256) (told-state b)
+      (attention-number channel) (attention-most (stateIn b) m channel)
+
+  pub step-17 : (lines : ℕ) → (stepServed b m lines .answer % 256 ≡ 17) ↔ NoState b
+  step-17 lines =
+      exactly-17 (isState b) (stepOf (stateIn b) m lines .number) (stepServed b m lines .answer % 256) (told-state b)
+      (step-number lines) (step-most (stateIn b) m lines)

@@ -1,0 +1,26 @@
+-- `service::fields::mode` meets its contract.
+-- Assumes nothing.
+use borrow.Author.Needs.{needs}
+use borrow.Author.Tests.{ne-eqb}
+use mathlib.Core.Path.{sym, _∙_}
+use Rattle.service.specs.Fields.{modeIn}
+use Rattle.service.proofs.fields.mode.Statement.{statement}
+use Rattle.service.proofs.fields.mode.Tie as tie
+
+byte-requires : tie.Need-byte-requires
+byte-requires c κs = search needs
+
+returns : tie.Need-returns
+unfolding modeIn
+returns c = rw (sym (c .before .byte .ensures) ∙ c .match .keys1)
+
+returns-2 : tie.Need-returns-2
+unfolding modeIn
+returns-2 c = rw (sym (c .before .byte .ensures) ∙ c .match .keys2)
+
+returns-3 : tie.Need-returns-3
+unfolding modeIn
+returns-3 c = rw (← (c .before .byte .ensures), ne-eqb (c .before .byte .result) 0 (c .match .rest .0 .1), ne-eqb (c .before .byte .result) 1 (c .match .rest .1))
+
+pub mode-spec : {M : Type 1} → statement M
+mode-spec = tie.close (tie.spec byte-requires returns returns-2 returns-3)

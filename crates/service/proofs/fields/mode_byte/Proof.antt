@@ -1,0 +1,30 @@
+-- `service::fields::mode_byte` meets its contract.
+-- Assumes nothing.
+use borrow.Author.Needs.{needs}
+use Rattle.service.specs.Fields.{modeByte}
+use Rattle.service.proofs.fields.mode_byte.Statement.{statement}
+use Rattle.service.proofs.fields.mode_byte.Tie as tie
+
+enum-told : tie.Need-enum-told
+enum-told c = search needs
+
+enum-told-2 : tie.Need-enum-told-2
+enum-told-2 c = search needs
+
+enum-told-3 : tie.Need-enum-told-3
+enum-told-3 c = search needs
+
+returns : tie.Need-returns
+unfolding modeByte
+returns c = simp (c .enum-told .given .1, c .before .match .keys1)
+
+returns-2 : tie.Need-returns-2
+unfolding modeByte
+returns-2 c = simp (c .enum-told2 .given .1, c .before .match .keys2)
+
+returns-3 : tie.Need-returns-3
+unfolding modeByte
+returns-3 c = simp (c .enum-told3 .given .1, c .before .match .keys3)
+
+pub mode-byte-spec : {M : Type 1} → statement M
+mode-byte-spec = tie.close (tie.spec enum-told enum-told-2 enum-told-3 returns returns-2 returns-3)

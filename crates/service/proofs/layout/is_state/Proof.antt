@@ -1,0 +1,27 @@
+-- `service::layout::is_state` meets its contract.
+-- Assumes nothing.
+use borrow.Author.Needs.{needs}
+use Rattle.service.specs.Layout.{isState}
+use Rattle.service.proofs.layout.is_state.Statement.{statement}
+use Rattle.service.proofs.layout.is_state.Tie as tie
+
+byte-requires : tie.Need-byte-requires
+byte-requires c κs = search needs
+
+is-flag-requires : tie.Need-is-flag-requires
+is-flag-requires c κs = search needs
+
+is-block-requires : tie.Need-is-block-requires
+is-block-requires c κs = search needs
+
+is-block-requires-2 : tie.Need-is-block-requires-2
+is-block-requires-2 c κs = search needs
+
+returns : tie.Need-returns
+unfolding isState
+returns c = simp (c .is-block2 .ensures, c .before .is-block .ensures, c .before .before .is-flag .ensures, c .before .before .before .byte .ensures)
+
+pub is-state-spec : {M : Type 1} → statement M
+is-state-spec =
+    tie.close
+    (tie.spec byte-requires is-flag-requires is-block-requires is-block-requires-2 returns)

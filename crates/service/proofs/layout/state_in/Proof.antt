@@ -1,0 +1,27 @@
+-- `service::layout::state_in` meets its contract.
+-- Assumes nothing.
+use borrow.Author.Needs.{needs}
+use Rattle.service.specs.Layout.{stateIn}
+use Rattle.service.proofs.layout.state_in.Statement.{statement}
+use Rattle.service.proofs.layout.state_in.Tie as tie
+
+channel-in-requires : tie.Need-channel-in-requires
+channel-in-requires c κs = search needs
+
+channel-in-requires-2 : tie.Need-channel-in-requires-2
+channel-in-requires-2 c κs = search needs
+
+long-requires : tie.Need-long-requires
+long-requires c κs = search needs
+
+flag-requires : tie.Need-flag-requires
+flag-requires c κs = search needs
+
+returns : tie.Need-returns
+unfolding stateIn
+returns c = rw (c .flag .ensures, c .before .long .ensures, c .before .before .channel-in2 .ensures, c .before .before .before .channel-in .ensures)
+
+pub state-in-spec : {M : Type 1} → statement M
+state-in-spec =
+    tie.close
+    (tie.spec channel-in-requires channel-in-requires-2 long-requires flag-requires returns)

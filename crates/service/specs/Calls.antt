@@ -1,0 +1,64 @@
+-- The three calls for C: each takes a state's bytes and leaves them, with both memories and an answer of one number.
+use mathlib.Core.List.{List}
+use Prim.Native.Nat.{ℕ, _+_, _*_, _%_}
+use lib.Dec.{eqb}
+use lib.ListN.{length}
+use Rattle.words.specs.Choice.{pick}
+use Rattle.memory.specs.Buffers.{Buffers}
+use Rattle.machine.specs.States.{freshOf}
+use Rattle.attention.specs.Attention.{attentionOf}
+use Rattle.step.specs.declared.Kind.{Kind}
+use Rattle.step.specs.declared.Kind.the-variants.{Nothing, Instruction, Transfer, External}
+use Rattle.step.specs.Step.{stepOf}
+use Rattle.service.specs.Layout.{bytesOf, stateIn, isState, stateLength}
+
+-- what a call leaves: its answer, the state's bytes, and both memories
+pub record Service : Type 0 where
+  pub answer : ℕ
+  pub bytes : List ℕ
+  pub memory : Buffers
+
+-- such an outcome
+abbrev pub served : ℕ → List ℕ → Buffers → Service
+served answer bytes m = record { answer = answer; bytes = bytes; memory = m }
+
+-- the number of a step's kind
+unfoldable pub kindNumber : Kind → ℕ
+kindNumber Nothing = 0
+kindNumber Instruction = 1
+kindNumber Transfer = 2
+kindNumber External = 3
+
+-- an answer: the number in bits 0 to 7, the channel in 8 and 9, the kind in 10 and 11
+unfoldable pub answerFrom : ℕ → ℕ → ℕ → ℕ
+answerFrom number channel kind = number % 256 + channel % 4 * 256 + kind % 4 * 1024
+
+-- bytes that are no state: 17, and nothing changes
+abbrev pub noState : List ℕ → Buffers → Service
+noState b m = served 17 b m
+
+-- what a fresh state leaves: no memory is lent to it
+pub record Made : Type 0 where
+  pub answer : ℕ
+  pub bytes : List ℕ
+
+-- such an outcome
+abbrev pub made : ℕ → List ℕ → Made
+made answer bytes = record { answer = answer; bytes = bytes }
+
+-- a fresh state looks at the length alone
+unfoldable pub freshMade : List ℕ → ℕ → Made
+freshMade b cp =
+    pick (eqb (length b) stateLength) (made (answerFrom (freshOf cp .number) 0 0) (bytesOf (freshOf cp .state))) (made 17 b)
+
+-- an attention on the state that the bytes stand for
+unfoldable pub attentionServed : List ℕ → Buffers → ℕ → Service
+attentionServed b m channel =
+    let o = attentionOf (stateIn b) m channel in
+    pick (isState b) (served (answerFrom (o .number) 0 0) (bytesOf (o .state)) (o .memory)) (noState b m)
+
+-- a step of it
+unfoldable pub stepServed : List ℕ → Buffers → ℕ → Service
+stepServed b m lines =
+    let o = stepOf (stateIn b) m lines in
+    pick (isState b) (served (answerFrom (o .number) (o .channel) (kindNumber (o .kind))) (bytesOf (o .state)) (o .memory)) (noState b m)

@@ -1,0 +1,80 @@
+-- When 17 is given, the checks of a call in their order, and which states and bytes the two functions between them are inverse on.
+use mathlib.Core.List.{List, [], _∷_}
+use mathlib.Core.Logic.{_⊎_}
+use mathlib.Core.Path.{_≡_}
+use Prim.Native.Nat.{ℕ, _+_, _<_, _≤_}
+use lib.ListN.{length, getD}
+use Rattle.memory.specs.Buffers.{Buffers}
+use Rattle.memory.specs.declared.Pointer.{Pointer}
+use Rattle.machine.specs.Conditions.{Check, check}
+use Rattle.machine.specs.declared.Channel.{Channel}
+use Rattle.machine.specs.declared.State.{State}
+use Rattle.attention.specs.Conditions.{attentionChecks as attentionChecks}
+use Rattle.step.specs.Conditions.{stepChecks as stepChecks}
+use Rattle.service.specs.Layout.{stateIn, stateLength, version, firstAt, secondFrom}
+
+-- a byte stands for no truth value
+abbrev pub NoFlag : List ℕ → ℕ → Type 0
+NoFlag b at = 2 ≤ getD b at 0
+
+-- a byte stands for no mode
+abbrev pub NoMode : List ℕ → ℕ → Type 0
+NoMode b at = 3 ≤ getD b at 0
+
+-- a tag, the mode or the armed mark of a block is out of range
+abbrev pub NoBlock : List ℕ → ℕ → Type 0
+NoBlock b at =
+    NoFlag b (at + 4)
+    ⊎ NoFlag b (at + 9)
+    ⊎ NoFlag b (at + 14)
+    ⊎ NoFlag b (at + 19)
+    ⊎ NoMode b (at + 33)
+    ⊎ NoFlag b (at + 34)
+
+-- 17: another length or version, or a mode or flag out of range
+abbrev pub NoState : List ℕ → Type 0
+NoState b =
+    ¬ (length b ≡ stateLength)
+    ⊎ ¬ (getD b 0 0 ≡ version)
+    ⊎ NoFlag b 5
+    ⊎ NoBlock b firstAt
+    ⊎ NoBlock b secondFrom
+
+-- the checks of a fresh state, which asks only for the length
+abbrev pub freshChecksOn : List ℕ → ℕ → List Check
+freshChecksOn b cp = check 17 (¬ (length b ≡ stateLength)) ∷ check 10 (1048576 ≤ cp) ∷ []
+
+-- the checks of an attention: 17 comes before all others
+abbrev pub attentionChecksOn : List ℕ → Buffers → ℕ → List Check
+attentionChecksOn b m channel = check 17 (NoState b) ∷ attentionChecks (stateIn b) m channel
+
+-- the checks of a step likewise
+abbrev pub stepChecksOn : List ℕ → Buffers → ℕ → List Check
+stepChecksOn b m lines = check 17 (NoState b) ∷ stepChecks (stateIn b) m lines
+
+-- every element is a byte
+abbrev pub Bytes : List ℕ → Type 0
+Bytes b = (i : ℕ) → getD b i 0 < 256
+
+-- an address has the width that its type gives it
+abbrev pub PointerFits : Pointer → Type 0
+PointerFits p = p .address < 4294967296
+
+-- every register of a channel does
+pub record ChannelFits (c : Channel) : Type 0 where
+  pub ga : PointerFits (c .ga)
+  pub gb : PointerFits (c .gb)
+  pub gc : PointerFits (c .gc)
+  pub tp : PointerFits (c .tp)
+  pub pp : c .pp < 4294967296
+  pub bc : c .bc < 65536
+  pub ix : c .ix < 65536
+  pub cc : c .cc < 65536
+  pub mc : c .mc < 65536
+  pub psw : c .psw < 256
+
+-- and every one of a state
+pub record StateFits (s : State) : Type 0 where
+  pub first : ChannelFits (s .first)
+  pub second : ChannelFits (s .second)
+  pub cp : s .cp < 4294967296

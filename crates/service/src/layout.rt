@@ -1,0 +1,150 @@
+// A whole state in 76 bytes: pointers, channels and the state itself, read, tested and put.
+use crate::fields;
+use machine::Channel;
+use machine::State;
+use memory::Pointer;
+ghost use mathlib.Core.Path.{_≡_};
+ghost use Prim.Native.Nat.{_≤_};
+ghost use lib.Seq.{sets};
+ghost use Rattle.service.specs.Conditions.{ChannelFits};
+ghost use Rattle.service.specs.Layout.{pointerBytes, pointersBytes, numbersBytes, marksBytes, channelBytes, bytesOf, pointerIn, channelIn, stateIn, isBlock, isState};
+
+// Where the block of channel 1 starts.
+const FIRST_AT: usize = 6;
+
+// Where the block of channel 2 starts.
+const SECOND_AT: usize = 41;
+
+// The pointer at an offset.
+fn pointer_in(bytes: &[u8], at: usize) -> Pointer
+    requires { ⌜ at ≤ 100 ⌝ }
+    ensures { λ r. ⌜ r ≡ pointerIn (now (bytes .entry)) at ⌝ }
+{
+    Pointer {
+        address: fields::long(bytes, at),
+        tag: fields::flag(bytes, at + 4),
+    }
+}
+
+// The channel whose block starts at an offset.
+fn channel_in(bytes: &[u8], at: usize) -> Channel
+    requires { ⌜ at ≤ 50 ⌝ }
+    ensures { λ r. ⌜ r ≡ channelIn (now (bytes .entry)) at ⌝ }
+{
+    Channel {
+        ga: pointer_in(bytes, at),
+        gb: pointer_in(bytes, at + 5),
+        gc: pointer_in(bytes, at + 10),
+        tp: pointer_in(bytes, at + 15),
+        pp: fields::long(bytes, at + 20),
+        bc: fields::word(bytes, at + 24),
+        ix: fields::word(bytes, at + 26),
+        cc: fields::word(bytes, at + 28),
+        mc: fields::word(bytes, at + 30),
+        psw: fields::byte(bytes, at + 32),
+        mode: fields::mode(bytes, at + 33),
+        armed: fields::flag(bytes, at + 34),
+    }
+}
+
+// The state that bytes stand for.
+pub fn state_in(bytes: &[u8]) -> State
+    ensures { λ r. ⌜ r ≡ stateIn (now (bytes .entry)) ⌝ }
+{
+    State {
+        first: channel_in(bytes, FIRST_AT),
+        second: channel_in(bytes, SECOND_AT),
+        cp: fields::long(bytes, 1),
+        last: fields::flag(bytes, 5),
+    }
+}
+
+// Whether the flags and the mode of a block are such.
+fn is_block(bytes: &[u8], at: usize) -> bool
+    requires { ⌜ at ≤ 50 ⌝ }
+    ensures { λ r. ⌜ r ≡ isBlock (now (bytes .entry)) at ⌝ }
+{
+    fields::is_flag(bytes, at + 4)
+        & fields::is_flag(bytes, at + 9)
+        & fields::is_flag(bytes, at + 14)
+        & fields::is_flag(bytes, at + 19)
+        & fields::is_mode(bytes, at + 33)
+        & fields::is_flag(bytes, at + 34)
+}
+
+// Whether bytes are a state.
+pub fn is_state(bytes: &[u8]) -> bool
+    ensures { λ r. ⌜ r ≡ isState (now (bytes .entry)) ⌝ }
+{
+    (bytes.len() == 76)
+        & (fields::byte(bytes, 0) == 1)
+        & fields::is_flag(bytes, 5)
+        & is_block(bytes, FIRST_AT)
+        & is_block(bytes, SECOND_AT)
+}
+
+// A pointer put at an offset.
+fn put_pointer(bytes: &mut [u8], at: usize, p: Pointer)
+    requires { ⌜ at ≤ 100 ⌝ }
+    ensures { λ r. ⌜ now (bytes .exit) ≡ sets (now (bytes .entry)) at (pointerBytes p) ⌝ }
+{
+    fields::put_long(bytes, at, p.address);
+    fields::put(bytes, at + 4, fields::flag_byte(p.tag));
+}
+
+// The four pointers of a channel put at an offset.
+fn put_pointers(bytes: &mut [u8], at: usize, c: Channel)
+    requires { ⌜ at ≤ 50 ⌝ }
+    ensures { λ r. ⌜ now (bytes .exit) ≡ sets (now (bytes .entry)) at (pointersBytes c) ⌝ }
+{
+    put_pointer(bytes, at, c.ga);
+    put_pointer(bytes, at + 5, c.gb);
+    put_pointer(bytes, at + 10, c.gc);
+    put_pointer(bytes, at + 15, c.tp);
+}
+
+// PP and the registers of sixteen bits put at an offset.
+fn put_numbers(bytes: &mut [u8], at: usize, c: Channel)
+    requires { ⌜ at ≤ 100 ⌝ }
+    ensures { λ r. ⌜ now (bytes .exit) ≡ sets (now (bytes .entry)) at (numbersBytes c) ⌝ }
+{
+    fields::put_long(bytes, at, c.pp);
+    fields::put_word(bytes, at + 4, c.bc);
+    fields::put_word(bytes, at + 6, c.ix);
+    fields::put_word(bytes, at + 8, c.cc);
+    fields::put_word(bytes, at + 10, c.mc);
+}
+
+// PSW, the mode and the armed mark put at an offset.
+fn put_marks(bytes: &mut [u8], at: usize, c: Channel)
+    requires { ⌜ at ≤ 100 ⌝ }
+    ensures { λ r. ⌜ now (bytes .exit) ≡ sets (now (bytes .entry)) at (marksBytes c) ⌝ }
+{
+    let mode = c.mode;
+    fields::put(bytes, at, c.psw);
+    fields::put(bytes, at + 1, fields::mode_byte(mode));
+    fields::put(bytes, at + 2, fields::flag_byte(c.armed));
+}
+
+// A channel's block put at an offset; its registers have the widths of their types.
+fn put_channel(bytes: &mut [u8], at: usize, c: Channel)
+    requires { ⌜ at ≤ 50 ⌝ }
+    ensures fits { λ r. ⌜ ChannelFits c ⌝ }
+    ensures put { λ r. ⌜ now (bytes .exit) ≡ sets (now (bytes .entry)) at (channelBytes c) ⌝ }
+{
+    put_pointers(bytes, at, c);
+    put_numbers(bytes, at + 20, c);
+    put_marks(bytes, at + 32, c);
+}
+
+// A state put into bytes, from the first on; it has the widths that let it come back whole.
+pub fn put_state(bytes: &mut [u8], s: State)
+    ensures put { λ r. ⌜ now (bytes .exit) ≡ sets (now (bytes .entry)) 0 (bytesOf s) ⌝ }
+    ensures whole { λ r. ⌜ stateIn (bytesOf s) ≡ s ⌝ }
+{
+    fields::put(bytes, 0, 1);
+    fields::put_long(bytes, 1, s.cp);
+    fields::put(bytes, 5, fields::flag_byte(s.last));
+    put_channel(bytes, FIRST_AT, s.first);
+    put_channel(bytes, SECOND_AT, s.second);
+}

@@ -1,0 +1,331 @@
+/* Compares the service archive with the emulator: rows of calls on states in bytes, sound and unsound, whole and
+ * damaged, with other lines at each step. */
+#include "cases.h"
+#include "iop89_service.h"
+#include "met.h"
+#include "state_bytes.h"
+
+#include <inttypes.h>
+#include <stdlib.h>
+#include <string.h>
+#include <time.h>
+
+/* How many cases meet everything, the most calls of one, bytes around a buffer that nobody may touch, and room for
+ * state bytes of a wrong length. */
+enum { CASES_TO_MEET_ALL = 300000, MOST_CALLS = 60, FENCE = 16, FENCE_BYTE = 0xA5 };
+enum { STATE_ROOM = 2 * STATE_BYTES, SHOWN = 5 };
+
+enum call_kind { CALL_FRESH, CALL_ATTENTION, CALL_STEP, CALLS };
+
+/* What one call is given. */
+struct call {
+    enum call_kind kind;
+    uint32_t argument;
+    size_t state_len;
+};
+
+/* One side's machine. */
+struct side {
+    uint8_t *sys, *io, *state;
+};
+
+static struct side emulated, proved;
+static struct emu_coverage coverage;
+static unsigned long numbers[CALLS][IOP89_NO_STATE + 1], faults[STATE_FAULTS];
+static const char *const call_names[CALLS] = {"fresh", "attention", "step"};
+
+/* ---- Buffers ---- */
+
+/* Room with a fence before and behind. */
+static uint8_t *fenced(size_t length)
+{
+    uint8_t *bytes = malloc(length + 2 * FENCE);
+    if (bytes == NULL) {
+        fputs("compare_service: out of memory\n", stderr);
+        exit(2);
+    }
+    memset(bytes, FENCE_BYTE, length + 2 * FENCE);
+    return bytes + FENCE;
+}
+
+/* Room for one side. */
+static struct side new_side(void)
+{
+    struct side side = {fenced(CASE_SYSTEM_ROOM), fenced(CASE_IO_ROOM), fenced(STATE_ROOM)};
+    return side;
+}
+
+/* Whether the fences before and behind a buffer are whole. */
+static bool fences_stand(const uint8_t *bytes, size_t length)
+{
+    for (size_t i = 0; i < FENCE; i++)
+        if ((bytes - FENCE)[i] != FENCE_BYTE || bytes[length + i] != FENCE_BYTE) return false;
+    return true;
+}
+
+/* Copies lent bytes to the other side, with the fence right behind them. */
+static void lend(uint8_t *to, const uint8_t *from, size_t length)
+{
+    memcpy(to, from, length);
+    memset(to + length, FENCE_BYTE, FENCE);
+}
+
+/* Puts a byte into both sides' memory, if it is lent. */
+static void put_both(const struct run_case *c, uint32_t address, uint8_t byte)
+{
+    if (address < c->sys_len) emulated.sys[address] = proved.sys[address] = byte;
+}
+
+/* ---- The two sides of a call ---- */
+
+/* The emulator's answer; counts what it met. */
+static uint32_t by_emulator(const struct run_case *c, struct call call)
+{
+    struct emu_memory memory = {emulated.sys, c->sys_len, emulated.io, c->io_len};
+    struct emu_state state;
+    struct emu_stepped stepped = {0, 0, 0};
+    memset(&state, 0, sizeof state);
+    enum state_fault fault = call.state_len != STATE_BYTES ? FAULT_LENGTH : FAULT_NONE;
+    if (call.kind != CALL_FRESH) fault = state_from_bytes(emulated.state, call.state_len, &state);
+    faults[fault]++;
+    if (fault != FAULT_NONE) return IOP89_NO_STATE;
+    if (call.kind == CALL_FRESH) stepped.number = emu_fresh(call.argument, &state);
+    else if (call.kind == CALL_ATTENTION) stepped.number = emu_attention(&state, &memory, call.argument);
+    else stepped = emu_step(&state, &memory, call.argument);
+    state_to_bytes(&state, emulated.state);
+    uint32_t kind = stepped.kind == 'I' ? 1 : stepped.kind == 'T' ? 2 : stepped.kind == 'X' ? 3 : 0;
+    return stepped.number | stepped.channel << 8 | kind << 10;
+}
+
+/* The archive's answer. */
+static uint32_t by_archive(const struct run_case *c, struct call call)
+{
+    if (call.kind == CALL_FRESH) return iop89_fresh(proved.state, call.state_len, call.argument);
+    uint32_t (*made)(uint8_t *, size_t, uint8_t *, size_t, uint8_t *, size_t, uint32_t) =
+        call.kind == CALL_ATTENTION ? iop89_attention : iop89_step;
+    return made(proved.state, call.state_len, proved.sys, c->sys_len, proved.io, c->io_len, call.argument);
+}
+
+/* ---- What comes next ---- */
+
+/* A register's value: any, or one that fits a program. */
+static uint32_t some_value(struct dice *d, const struct run_case *c, enum iop89_register which)
+{
+    switch (which) {
+    case IOP89_GA: case IOP89_GB: case IOP89_GC: case IOP89_TP: case IOP89_PP:
+        if (chance(d, 10)) return chance(d, 500) ? 1048576 + below(d, 4) : (uint32_t)roll(d);
+        return chance(d, 800) ? below(d, c->sys_len + 4) & MASK20 : below(d, 1048576);
+    case IOP89_CC: return transfer_cc(d);
+    case IOP89_BC: return transfer_count(d);
+    case IOP89_MC: return transfer_mc(d);
+    case IOP89_MODE: return chance(d, 700) ? 1 : below(d, 3);
+    case IOP89_PSW: return below(d, 256);
+    case IOP89_IX: return below(d, 65536);
+    default: return below(d, 2);
+    }
+}
+
+/* Sets some registers, in both sides' bytes. */
+static void poke(struct dice *d, const struct run_case *c)
+{
+    static const enum iop89_register all[] = {IOP89_GA, IOP89_GA_TAG, IOP89_GB, IOP89_GB_TAG, IOP89_GC,  IOP89_GC_TAG,
+                                              IOP89_TP, IOP89_TP_TAG, IOP89_PP, IOP89_BC,     IOP89_IX,  IOP89_CC,
+                                              IOP89_MC, IOP89_PSW,    IOP89_MODE, IOP89_ARMED};
+    for (unsigned i = 1 + below(d, 4); i > 0; i--) {
+        enum iop89_register which = ONE_OF(d, all);
+        iop89_set(proved.state, 1 + below(d, 2), which, some_value(d, c, which));
+    }
+    if (chance(d, 60)) iop89_set_cp(proved.state, choose_cp(d, c->sys_len));
+    if (chance(d, 60)) iop89_set_last(proved.state, 1 + below(d, 2));
+    memcpy(emulated.state, proved.state, STATE_BYTES);
+}
+
+/* Fills the bytes of a state with anything, then makes them one, mostly with pointers of 20 bits. */
+static void any_state(struct dice *d, const struct run_case *c)
+{
+    static const enum iop89_register pointers[] = {IOP89_GA, IOP89_GB, IOP89_GC, IOP89_TP, IOP89_PP};
+    fill(d, proved.state, STATE_BYTES);
+    for (unsigned i = 0; i < 10; i++)
+        if (chance(d, 990)) iop89_set(proved.state, 1 + i / 5, pointers[i % 5], some_value(d, c, pointers[i % 5]));
+    if (chance(d, 950)) iop89_set_cp(proved.state, choose_cp(d, c->sys_len));
+    proved.state[0] = IOP89_STATE_VERSION;
+    for (enum state_fault fault = FAULT_LAST; fault < STATE_FAULTS; fault++)
+        proved.state[state_fault_at(fault)] = (uint8_t)below(d, state_fault_from(fault));
+    memcpy(emulated.state, proved.state, STATE_BYTES);
+}
+
+/* Spoils a byte that only some values may have, in both sides' bytes; mostly by as little as can be. At times all the
+ * bytes become anything. */
+static void damage(struct dice *d)
+{
+    if (chance(d, 100)) {
+        fill(d, proved.state, STATE_BYTES);
+        if (chance(d, 800)) proved.state[0] = IOP89_STATE_VERSION;
+        memcpy(emulated.state, proved.state, STATE_BYTES);
+        return;
+    }
+    enum state_fault fault = (enum state_fault)(FAULT_VERSION + below(d, STATE_FAULTS - FAULT_VERSION));
+    size_t at = state_fault_at(fault);
+    uint32_t from = fault == FAULT_VERSION && chance(d, 300) ? 0 : state_fault_from(fault);
+    uint32_t value = from == 0 || chance(d, 600) ? from : from + below(d, 256 - from);
+    proved.state[at] = emulated.state[at] = (uint8_t)value;
+}
+
+/* Writes a command into a channel's block, in both memories. */
+static void put_command(struct dice *d, const struct run_case *c, uint32_t channel)
+{
+    static const uint8_t likely[] = {0, 3, 5, 6, 6, 7};
+    uint8_t command = chance(d, 700) ? ONE_OF(d, likely) : (uint8_t)below(d, 8);
+    uint32_t block = (iop89_cp(proved.state) + (channel == 2 ? 8 : 0)) & MASK20;
+    put_both(c, block, (uint8_t)(command | below(d, 32) << 3));
+}
+
+/* The next call; fresh is first more often than not. */
+static struct call next_call(struct dice *d, const struct run_case *c, unsigned index)
+{
+    static const uint32_t odd[] = {0, 3, 4, 16, 17, 255, 257, 65537, 0x80000001, 0xFFFFFFFF};
+    static const size_t lengths[] = {0, 1, STATE_BYTES - 1, STATE_BYTES + 1, STATE_ROOM};
+    struct call call = {CALL_STEP, chance(d, 500) ? c->lines & 15u : below(d, 16), STATE_BYTES};
+    if (index == 0 && chance(d, 800)) {
+        call.kind = CALL_FRESH;
+        call.argument = c->cp;
+    } else if (index <= 1 || chance(d, 150)) {
+        call.kind = CALL_ATTENTION;
+        call.argument = index <= 1 ? c->channel : 1 + below(d, 2);
+        if (index > 1 && chance(d, 700)) put_command(d, c, call.argument);
+    } else if (chance(d, 5)) {
+        call.kind = CALL_FRESH;
+        call.argument = choose_cp(d, c->sys_len);
+    }
+    if (chance(d, 15)) call.argument = ONE_OF(d, odd);
+    if (chance(d, 15)) call.state_len = ONE_OF(d, lengths);
+    return call;
+}
+
+/* ---- One case ---- */
+
+/* Whether both sides' bytes of the state are the same, also behind its end. */
+static bool same_state(void)
+{
+    return memcmp(emulated.state, proved.state, STATE_ROOM) == 0 && fences_stand(proved.state, STATE_ROOM);
+}
+
+/* Whether both sides hold the same lent bytes and the archive left its fences alone. */
+static bool same_memory(const struct run_case *c)
+{
+    return memcmp(emulated.sys, proved.sys, c->sys_len) == 0 && memcmp(emulated.io, proved.io, c->io_len) == 0 &&
+           fences_stand(proved.sys, c->sys_len) && fences_stand(proved.io, c->io_len);
+}
+
+/* Makes one call on both sides; answers whether they agree, and says how where they do not. */
+static bool agree_on(const struct run_case *c, struct call call, unsigned index, bool shown)
+{
+    emu_coverage = &coverage;
+    uint32_t emulator = by_emulator(c, call);
+    emu_coverage = NULL;
+    uint32_t archive = by_archive(c, call);
+    numbers[call.kind][IOP89_ANSWER_NUMBER(emulator)]++;
+    bool same = emulator == archive && same_state();
+    if (same || !shown) return same;
+    printf("  call %u, %s %" PRIu32 " on %zu bytes: emulator %05" PRIX32 ", archive %05" PRIX32 "\n", index,
+           call_names[call.kind], call.argument, call.state_len, emulator, archive);
+    for (size_t i = 0; i < STATE_ROOM; i++)
+        if (emulated.state[i] != proved.state[i])
+            printf("  state byte %zu: emulator %02X, archive %02X\n", i, emulated.state[i], proved.state[i]);
+    return false;
+}
+
+/* Makes a case's calls in a row; a damaged state is made whole again behind its call. */
+static bool agree(uint64_t seed, uint64_t number, bool shown)
+{
+    struct dice d = seeded(seed + 1000003, number);
+    struct run_case c = {emulated.sys, emulated.io, 0, 0, 0, 0, 0, 0};
+    uint8_t whole[STATE_BYTES];
+    make_case(&c, seed, number);
+    lend(proved.sys, emulated.sys, c.sys_len);
+    lend(proved.io, emulated.io, c.io_len);
+    memset(proved.state, 0, STATE_ROOM);
+    memset(emulated.state, 0, STATE_ROOM);
+    any_state(&d, &c);
+    for (unsigned i = 0, calls = 4 + below(&d, MOST_CALLS - 4); i < calls; i++) {
+        bool spoiled = chance(&d, 40);
+        if (i > 1 && chance(&d, 80)) poke(&d, &c);
+        if (chance(&d, 4)) any_state(&d, &c);
+        struct call call = next_call(&d, &c, i);
+        if (call.kind == CALL_FRESH) spoiled = false;
+        memcpy(whole, proved.state, STATE_BYTES);
+        if (spoiled) damage(&d);
+        if (!agree_on(&c, call, i, shown)) return false;
+        if (!spoiled) continue;
+        memcpy(proved.state, whole, STATE_BYTES);
+        memcpy(emulated.state, whole, STATE_BYTES);
+    }
+    bool same = same_memory(&c);
+    if (!same && shown) puts("  the memories differ, or a byte beside them was stored");
+    return same;
+}
+
+/* ---- What was met ---- */
+
+/* Prints how often a call answered each number that it can. */
+static void print_call_numbers(enum call_kind kind, unsigned set)
+{
+    printf("%s, by number:\n", call_names[kind]);
+    for (unsigned i = 0; i <= IOP89_NO_STATE; i++) {
+        char name[120];
+        snprintf(name, sizeof name, "%u %s", i, iop89_service_words(i));
+        if ((set >> i & 1u) != 0) print_count(name, numbers[kind][i]);
+    }
+}
+
+/* The numbers that each call can answer, and the commands that a channel takes. */
+#define FRESH_NUMBERS (1u << 0 | 1u << 10 | 1u << 17)
+#define ATTENTION_NUMBERS (1u << 0 | 1u << 2 | 15u << 6 | 7u << 10 | 1u << 17)
+#define STEP_NUMBERS (63u | 7u << 10 | 1u << 17)
+#define COMMANDS (0xFFu & ~(1u << 2 | 1u << 4))
+
+/* Prints everything that was met. */
+static void print_met(void)
+{
+    print_call_numbers(CALL_FRESH, FRESH_NUMBERS);
+    print_call_numbers(CALL_ATTENTION, ATTENTION_NUMBERS);
+    print_call_numbers(CALL_STEP, STEP_NUMBERS);
+    puts("17, by its cause:");
+    for (enum state_fault fault = FAULT_LENGTH; fault < STATE_FAULTS; fault++)
+        print_count(state_fault_name(fault), faults[fault]);
+    print_coverage(&coverage, COMMANDS);
+}
+
+/* ---- The command line ---- */
+
+/* The number in one word of the command line, or the usual one where it is left out. */
+static uint64_t argument(int count, char **words, int at, uint64_t usual)
+{
+    char *end = NULL;
+    if (at >= count) return usual;
+    uint64_t value = strtoull(words[at], &end, 0);
+    if (*words[at] >= '0' && *words[at] <= '9' && *end == '\0' && count <= 4) return value;
+    fputs("usage: compare_service [SEED [CASES [FIRST]]]\n", stderr);
+    exit(2);
+}
+
+int main(int count, char **words)
+{
+    unsigned long long differences = 0;
+    uint64_t seed = argument(count, words, 1, 1), cases = argument(count, words, 2, CASES_TO_MEET_ALL);
+    uint64_t first = argument(count, words, 3, 0);
+    emulated = new_side();
+    proved = new_side();
+    for (uint64_t i = first; i < first + cases; i++) {
+        if (agree(seed, i, false)) continue;
+        if (differences++ >= SHOWN) continue;
+        printf("DIFFERENCE in case %" PRIu64 " (again: compare_service %" PRIu64 " 1 %" PRIu64 ")\n", i, seed, i);
+        agree(seed, i, true);
+    }
+    printf("seed %" PRIu64 ", %" PRIu64 " cases from %" PRIu64 ", %.1f seconds of processor time\n", seed, cases, first,
+           (double)clock() / CLOCKS_PER_SEC);
+    print_met();
+    bool met = all_met(cases, CASES_TO_MEET_ALL, "cases");
+    printf("%llu differences\n", differences);
+    return differences > 0 || !met ? 1 : 0;
+}

@@ -1,0 +1,123 @@
+/* Reads and writes the bytes of a state, field by field in the order of the layout. */
+#include "state_bytes.h"
+
+/* Offsets of the layout. */
+enum { AT_CP = 1, AT_LAST = 5, AT_CHANNELS = 6, BLOCK = 35, VERSION = 1 };
+
+/* Of a block: where its flags and its mode are. */
+static const uint8_t marks[6] = {4, 9, 14, 19, 33, 34};
+
+/* The place of the mode among them. */
+enum { MARK_MODE = 4 };
+
+const char *state_fault_name(enum state_fault fault)
+{
+    static const char *const names[STATE_FAULTS] = {
+        "none",       "length",     "version",    "last",       "GA's tag 1", "GB's tag 1", "GC's tag 1", "TP's tag 1",
+        "mode 1",     "armed 1",    "GA's tag 2", "GB's tag 2", "GC's tag 2", "TP's tag 2", "mode 2",     "armed 2"};
+    return names[fault];
+}
+
+/* Which of its channel's marks a fault is about. */
+static unsigned mark_of(enum state_fault fault)
+{
+    return (unsigned)(fault - FAULT_CHANNEL_1) % 6;
+}
+
+size_t state_fault_at(enum state_fault fault)
+{
+    if (fault == FAULT_VERSION) return 0;
+    if (fault == FAULT_LAST) return AT_LAST;
+    return (fault < FAULT_CHANNEL_2 ? AT_CHANNELS : AT_CHANNELS + BLOCK) + (size_t)marks[mark_of(fault)];
+}
+
+uint8_t state_fault_from(enum state_fault fault)
+{
+    return fault >= FAULT_CHANNEL_1 && mark_of(fault) == MARK_MODE ? 3 : 2;
+}
+
+/* The number of some bytes, little end first. */
+static uint32_t number_at(const uint8_t *bytes, unsigned width)
+{
+    uint32_t value = 0;
+    for (unsigned i = 0; i < width; i++) value |= (uint32_t)bytes[i] << 8 * i;
+    return value;
+}
+
+/* Writes a number into some bytes. */
+static void put_number(uint8_t *bytes, unsigned width, uint32_t value)
+{
+    for (unsigned i = 0; i < width; i++) bytes[i] = (uint8_t)(value >> 8 * i);
+}
+
+/* Reads a pointer. */
+static struct emu_pointer pointer_at(const uint8_t *bytes)
+{
+    struct emu_pointer p = {number_at(bytes, 4), bytes[4] == 1};
+    return p;
+}
+
+/* Writes a pointer. */
+static void put_pointer(uint8_t *bytes, struct emu_pointer p)
+{
+    put_number(bytes, 4, p.address);
+    bytes[4] = p.tag ? 1 : 0;
+}
+
+/* Reads a channel from its block. */
+static struct emu_channel channel_at(const uint8_t *block)
+{
+    struct emu_channel c;
+    c.ga = pointer_at(block);
+    c.gb = pointer_at(block + 5);
+    c.gc = pointer_at(block + 10);
+    c.tp = pointer_at(block + 15);
+    c.pp = number_at(block + 20, 4);
+    c.bc = (uint16_t)number_at(block + 24, 2);
+    c.ix = (uint16_t)number_at(block + 26, 2);
+    c.cc = (uint16_t)number_at(block + 28, 2);
+    c.mc = (uint16_t)number_at(block + 30, 2);
+    c.psw = block[32];
+    c.mode = (enum emu_mode)block[33];
+    c.armed = block[34] == 1;
+    return c;
+}
+
+/* Writes a channel into its block. */
+static void put_channel(uint8_t *block, const struct emu_channel *c)
+{
+    put_pointer(block, c->ga);
+    put_pointer(block + 5, c->gb);
+    put_pointer(block + 10, c->gc);
+    put_pointer(block + 15, c->tp);
+    put_number(block + 20, 4, c->pp);
+    put_number(block + 24, 2, c->bc);
+    put_number(block + 26, 2, c->ix);
+    put_number(block + 28, 2, c->cc);
+    put_number(block + 30, 2, c->mc);
+    block[32] = c->psw;
+    block[33] = (uint8_t)c->mode;
+    block[34] = c->armed ? 1 : 0;
+}
+
+enum state_fault state_from_bytes(const uint8_t *bytes, size_t length, struct emu_state *out)
+{
+    if (length != STATE_BYTES) return FAULT_LENGTH;
+    if (bytes[0] != VERSION) return FAULT_VERSION;
+    for (enum state_fault fault = FAULT_LAST; fault < STATE_FAULTS; fault++)
+        if (bytes[state_fault_at(fault)] >= state_fault_from(fault)) return fault;
+    out->cp = number_at(bytes + AT_CP, 4);
+    out->last = bytes[AT_LAST] + 1u;
+    out->channel[0] = channel_at(bytes + AT_CHANNELS);
+    out->channel[1] = channel_at(bytes + AT_CHANNELS + BLOCK);
+    return FAULT_NONE;
+}
+
+void state_to_bytes(const struct emu_state *state, uint8_t *bytes)
+{
+    bytes[0] = VERSION;
+    put_number(bytes + AT_CP, 4, state->cp);
+    bytes[AT_LAST] = (uint8_t)(state->last - 1u);
+    put_channel(bytes + AT_CHANNELS, &state->channel[0]);
+    put_channel(bytes + AT_CHANNELS + BLOCK, &state->channel[1]);
+}

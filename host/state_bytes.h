@@ -1,0 +1,36 @@
+/* The bytes of a state as docs/SERVICE.md lays them out, for the emulator's side of a comparison. */
+#ifndef STATE_BYTES_H
+#define STATE_BYTES_H
+
+#include "emulator.h"
+
+/* How many bytes a state has. */
+enum { STATE_BYTES = 76 };
+
+/* Why bytes are no state: their length, their version, or the first flag or mode that is out of range. */
+enum state_fault {
+    FAULT_NONE,
+    FAULT_LENGTH,
+    FAULT_VERSION,
+    FAULT_LAST,
+    FAULT_CHANNEL_1,                    /* GA's tag, GB's, GC's, TP's, the mode, the armed mark */
+    FAULT_CHANNEL_2 = FAULT_CHANNEL_1 + 6,
+    STATE_FAULTS = FAULT_CHANNEL_2 + 6
+};
+
+/* A fault in words. */
+const char *state_fault_name(enum state_fault fault);
+
+/* Where the byte of a fault is; a fault of the length has none. */
+size_t state_fault_at(enum state_fault fault);
+
+/* The smallest value of that byte that is out of range; of the version every value but its own is. */
+uint8_t state_fault_from(enum state_fault fault);
+
+/* Reads a state from bytes, or answers why they are none. */
+enum state_fault state_from_bytes(const uint8_t *bytes, size_t length, struct emu_state *out);
+
+/* Writes a state into STATE_BYTES bytes. */
+void state_to_bytes(const struct emu_state *state, uint8_t *bytes);
+
+#endif

@@ -1,0 +1,88 @@
+/* The bench tool: runs the proved machine on memory images, all at once or call by call. */
+#include "tool.h"
+
+#include <errno.h>
+#include <stdio.h>
+#include <stdlib.h>
+#include <string.h>
+
+/* A command: its name, what it does in a line, an example, and its function. */
+struct command {
+    const char *name, *does, *example;
+    enum tool_status (*run)(const struct tool_order *order);
+};
+
+/* Every command but help; a further one is a further row. */
+static const struct command commands[] = {
+    {"run", "one run, as iop89_run makes it: the number, the steps done, and which channel still runs",
+     "iop89 run examples/copy-odd.bin -show 0x80 96", tool_run},
+    {"step", "the same call by call: a line for each step, with channel, kind (I, T, X), TP and the registers changed",
+     "iop89 step examples/external.bin -lines 1 -limit 20", tool_step},
+};
+
+enum { COMMANDS = sizeof commands / sizeof commands[0] };
+
+/* The options that the commands share. */
+static const char options[] =
+    "Options, for every command that runs the machine:\n"
+    "  -at N           system address of the next FILE (0)\n"
+    "  -system N       length of system memory (as long as the files need)\n"
+    "  -io N           length of I/O memory, all zeros (256)\n"
+    "  -io-image FILE  I/O memory\n"
+    "  -cp N           address of the control block (0)\n"
+    "  -channel N      channel that gets attention, 1 or 2 (1); for step twice: both, in this order\n"
+    "  -lines N        sum of DRQ1 = 1, DRQ2 = 2, EXT1 = 4, EXT2 = 8, held throughout (0)\n"
+    "  -limit N        most steps (1000)\n"
+    "  -show FROM N    shows N bytes of system memory from FROM on, as they are at the end; -show-io, of I/O memory\n"
+    "Numbers are decimal, or hexadecimal behind 0x; 010 is ten. A file has at most 1,048,576 bytes.\n"
+    "Ends with 0 at the limit or where the channel halted, 1 where it was refused or waits, 2 for anything else.\n";
+
+/* Prints the commands and the options. */
+static void print_help(FILE *out)
+{
+    fputs("usage: iop89 COMMAND [OPTIONS] FILE..\n", out);
+    for (size_t i = 0; i < COMMANDS; i++)
+        fprintf(out, "  %-6s %s\n         %s\n", commands[i].name, commands[i].does, commands[i].example);
+    fputs("  help   this text\n         iop89 help\n", out);
+    fputs(options, out);
+}
+
+_Noreturn void tool_usage(const char *complaint, const char *word)
+{
+    fflush(stdout);
+    fprintf(stderr, "iop89: %s%s%s\n", complaint, word != NULL ? ": " : "", word != NULL ? word : "");
+    fputs("iop89: \"iop89 help\" says how it is called\n", stderr);
+    exit(TOOL_FAILED);
+}
+
+_Noreturn void tool_give_up(const char *what)
+{
+    int why = errno;
+    fflush(stdout);
+    fprintf(stderr, "iop89: %s: %s\n", what, strerror(why));
+    exit(TOOL_FAILED);
+}
+
+/* Ends with a status, or with TOOL_FAILED where the output could not be written. */
+static int ended(enum tool_status status)
+{
+    if (fflush(stdout) != 0 || ferror(stdout)) tool_give_up("standard output");
+    return (int)status;
+}
+
+int main(int count, char **words)
+{
+    struct tool_order order = {.system_length = UINT32_MAX, .io_length = UINT32_MAX, .limit = 1000};
+    if (count < 2) tool_usage("no command", NULL);
+    if (strcmp(words[1], "help") == 0) {
+        if (count > 2) tool_usage("help takes no words", words[2]);
+        print_help(stdout);
+        return ended(TOOL_DONE);
+    }
+    for (size_t i = 0; i < COMMANDS; i++) {
+        if (strcmp(words[1], commands[i].name) != 0) continue;
+        tool_read_order(&order, count - 2, words + 2);
+        return ended(commands[i].run(&order));
+    }
+    tool_usage("no such command", words[1]);
+}

@@ -1,0 +1,62 @@
+/* The parts of the bench tool: what its command line asks for, the memory it is run on, and its commands. */
+#ifndef TOOL_H
+#define TOOL_H
+
+#include "iop89_service.h"
+
+#include <stdbool.h>
+
+/* The most bytes of a file and of lent memory; I/O memory's own limit is lower, so that 11 can be seen. */
+#define TOOL_MOST 1048576u
+
+/* How many files, shown ranges and channels a command takes. */
+enum { TOOL_FILES = 16, TOOL_SHOWN = 16, TOOL_CHANNELS = 2 };
+
+/* What a command ends with: done or halted, refused or waiting, and what is no answer of the machine at all. */
+enum tool_status { TOOL_DONE = 0, TOOL_REFUSED = 1, TOOL_FAILED = 2 };
+
+/* A file and the system address that its first byte goes to. */
+struct tool_file {
+    const char *name;
+    uint32_t at;
+};
+
+/* Bytes of one space to be shown at the end. */
+struct tool_range {
+    uint32_t from, count;
+    bool in_io;
+};
+
+/* What a command line asks for; of the two lengths UINT32_MAX stands for "as long as the files need". */
+struct tool_order {
+    struct tool_file file[TOOL_FILES];
+    struct tool_range shown[TOOL_SHOWN];
+    uint32_t channel[TOOL_CHANNELS];
+    unsigned files, ranges, channels;
+    const char *io_image;
+    uint32_t system_length, io_length, cp, lines, limit;
+};
+
+/* Lent memory. */
+struct tool_memory {
+    uint8_t *sys, *io;
+    size_t sys_len, io_len;
+};
+
+/* Says what is wrong with the command line, or what the system could not do, and ends the program with TOOL_FAILED. */
+_Noreturn void tool_usage(const char *complaint, const char *word);
+_Noreturn void tool_give_up(const char *what);
+
+/* Reads the words behind a command; the order has room for them. */
+void tool_read_order(struct tool_order *order, int count, char **words);
+
+/* The memory that an order asks for, the files loaded; a copy of it; and what was taken for it given back. */
+struct tool_memory tool_load(const struct tool_order *order);
+struct tool_memory tool_copy(struct tool_memory memory);
+void tool_free(struct tool_memory memory);
+
+/* The commands. */
+enum tool_status tool_run(const struct tool_order *order);
+enum tool_status tool_step(const struct tool_order *order);
+
+#endif

@@ -1,0 +1,190 @@
+/* The bench tool's commands that run the machine: all at once, and call by call. */
+#include "tool.h"
+
+#include <inttypes.h>
+#include <stdio.h>
+#include <string.h>
+
+/* ---- What is printed ---- */
+
+/* A register in the order of a line, with the digits of its value. */
+struct shown_register {
+    enum iop89_register which;
+    const char *name;
+    int digits;
+};
+
+static const struct shown_register registers[] = {
+    {IOP89_GA, "GA", 5}, {IOP89_GB, "GB", 5}, {IOP89_GC, "GC", 5}, {IOP89_PP, "PP", 5},   {IOP89_BC, "BC", 4},
+    {IOP89_IX, "IX", 4}, {IOP89_CC, "CC", 4}, {IOP89_MC, "MC", 4}, {IOP89_PSW, "PSW", 2},
+};
+
+/* Whether a register is a pointer with a tag behind its address. */
+static bool has_tag(enum iop89_register which)
+{
+    return which == IOP89_GA || which == IOP89_GB || which == IOP89_GC;
+}
+
+/* The tag of such a register, 0 for any other. */
+static uint32_t tag_of(const uint8_t *state, unsigned channel, enum iop89_register which)
+{
+    return has_tag(which) ? state[IOP89_AT_CHANNEL(channel) + (size_t)which + 4] : 0;
+}
+
+/* What a mode is called. */
+static const char *mode_name(uint32_t mode)
+{
+    static const char *const names[] = {"idle", "running", "suspended"};
+    return mode < 3 ? names[mode] : "no mode";
+}
+
+/* Prints TP as five digits, with /io for I/O space. */
+static void print_tp(const uint8_t *state, unsigned channel)
+{
+    const char *space = iop89_get(state, channel, IOP89_TP_TAG) != 0 ? "/io" : "";
+    printf("%05" PRIX32 "%s", iop89_get(state, channel, IOP89_TP), space);
+}
+
+/* Prints every register of a channel that is not what it was, TP left aside. */
+static void print_changes(const uint8_t *before, const uint8_t *state, unsigned channel)
+{
+    for (size_t i = 0; i < sizeof registers / sizeof registers[0]; i++) {
+        enum iop89_register which = registers[i].which;
+        uint32_t value = iop89_get(state, channel, which), tag = tag_of(state, channel, which);
+        if (value == iop89_get(before, channel, which) && tag == tag_of(before, channel, which)) continue;
+        printf(" %s=%0*" PRIX32 "%s", registers[i].name, registers[i].digits, value, tag != 0 ? "/io" : "");
+    }
+    uint32_t mode = iop89_get(state, channel, IOP89_MODE), armed = iop89_get(state, channel, IOP89_ARMED);
+    if (mode != iop89_get(before, channel, IOP89_MODE)) printf(" %s", mode_name(mode));
+    if (armed != iop89_get(before, channel, IOP89_ARMED)) printf(" %s", armed ? "armed" : "unarmed");
+}
+
+/* Prints a number in words and, of one that is not 0, where each running channel stands. */
+static void print_number(unsigned number, const uint8_t *state)
+{
+    bool any = false;
+    printf("number %u: %s\n", number, iop89_service_words(number));
+    for (unsigned channel = 1; number != IOP89_DONE && channel <= 2; channel++) {
+        if (iop89_get(state, channel, IOP89_MODE) != IOP89_RUNNING) continue;
+        printf("channel %u %s, TP ", channel, number == IOP89_NO_CHANNEL ? "waits" : "runs");
+        print_tp(state, channel);
+        putchar('\n');
+        any = true;
+    }
+    if (number == IOP89_NO_CHANNEL && !any) puts("halted");
+}
+
+/* Prints the ranges that were asked for, sixteen bytes to a row, -- where nothing is lent. */
+static void print_shown(const struct tool_order *order, const struct tool_memory *memory)
+{
+    for (unsigned i = 0; i < order->ranges; i++) {
+        struct tool_range range = order->shown[i];
+        const uint8_t *bytes = range.in_io ? memory->io : memory->sys;
+        size_t length = range.in_io ? memory->io_len : memory->sys_len;
+        for (uint32_t k = 0; k < range.count; k++) {
+            uint32_t at = range.from + k;
+            if (k % 16 == 0) printf("%s%05" PRIX32 "%s:", k > 0 ? "\n" : "", at, range.in_io ? "/io" : "");
+            if (at < length) printf(" %02X", bytes[at]);
+            else fputs(" --", stdout);
+        }
+        if (range.count > 0) putchar('\n');
+    }
+}
+
+/* ---- Running ---- */
+
+/* Whether a running channel is left, which then waits. */
+static bool waits(const uint8_t *state)
+{
+    return iop89_get(state, 1, IOP89_MODE) == IOP89_RUNNING || iop89_get(state, 2, IOP89_MODE) == IOP89_RUNNING;
+}
+
+/* What a number that stopped the steps makes of the command: no channel that can run is an end where none runs. */
+static enum tool_status status_of(unsigned number, const uint8_t *state)
+{
+    if (number == IOP89_DONE || (number == IOP89_NO_CHANNEL && !waits(state))) return TOOL_DONE;
+    return TOOL_REFUSED;
+}
+
+/* Gives one attention. */
+static unsigned attend(uint8_t *state, struct tool_memory *m, uint32_t channel)
+{
+    uint32_t answer = iop89_attention(state, IOP89_STATE_LENGTH, m->sys, m->sys_len, m->io, m->io_len, channel);
+    return IOP89_ANSWER_NUMBER(answer);
+}
+
+/* Does one step. */
+static uint32_t step(uint8_t *state, struct tool_memory *m, uint32_t lines)
+{
+    return iop89_step(state, IOP89_STATE_LENGTH, m->sys, m->sys_len, m->io, m->io_len, lines);
+}
+
+/* The state that a run leaves behind so many steps: the same calls once more, on a copy of its memory. */
+static void state_behind(const struct tool_order *order, struct tool_memory again, uint32_t steps, uint8_t *state)
+{
+    iop89_fresh(state, IOP89_STATE_LENGTH, order->cp);
+    attend(state, &again, order->channel[0]);
+    for (uint32_t i = 0; i < steps; i++) step(state, &again, order->lines);
+}
+
+enum tool_status tool_run(const struct tool_order *order)
+{
+    uint8_t state[IOP89_STATE_LENGTH];
+    if (order->channels > 1) tool_usage("run starts one channel", NULL);
+    struct tool_memory memory = tool_load(order), again = tool_copy(memory);
+    uint32_t answer = iop89_run(memory.sys, memory.sys_len, memory.io, memory.io_len, order->cp, order->channel[0],
+                                order->lines, order->limit);
+    unsigned number = IOP89_NUMBER(answer);
+    state_behind(order, again, IOP89_STEPS(answer), state);
+    print_number(number, state);
+    printf("steps done: %u\n", IOP89_STEPS(answer));
+    print_shown(order, &memory);
+    tool_free(memory);
+    tool_free(again);
+    return status_of(number, state);
+}
+
+/* ---- Call by call ---- */
+
+/* Does steps up to the limit, a line for each; answers the number that stopped them. */
+static unsigned step_lines(const struct tool_order *order, uint8_t *state, struct tool_memory *memory)
+{
+    uint8_t before[IOP89_STATE_LENGTH];
+    for (uint32_t i = 0; i < order->limit; i++) {
+        memcpy(before, state, sizeof before);
+        uint32_t answer = step(state, memory, order->lines);
+        unsigned channel = IOP89_ANSWER_CHANNEL(answer);
+        if (IOP89_ANSWER_NUMBER(answer) != IOP89_DONE) return IOP89_ANSWER_NUMBER(answer);
+        printf("%" PRIu32 " %u %c ", i + 1, channel, "-ITX"[IOP89_ANSWER_KIND(answer)]);
+        print_tp(state, channel);
+        print_changes(before, state, channel);
+        putchar('\n');
+    }
+    return IOP89_DONE;
+}
+
+/* Makes the state and gives the attentions; answers the number that refused one of them. */
+static unsigned start(const struct tool_order *order, uint8_t *state, struct tool_memory *memory)
+{
+    unsigned number = IOP89_ANSWER_NUMBER(iop89_fresh(state, IOP89_STATE_LENGTH, order->cp));
+    for (unsigned i = 0; number == IOP89_DONE && i < order->channels; i++) {
+        number = attend(state, memory, order->channel[i]);
+        if (number == IOP89_DONE) printf("attention to channel %" PRIu32 ": accepted\n", order->channel[i]);
+        else printf("attention to channel %" PRIu32 ": refused\n", order->channel[i]);
+    }
+    return number;
+}
+
+enum tool_status tool_step(const struct tool_order *order)
+{
+    uint8_t state[IOP89_STATE_LENGTH];
+    struct tool_memory memory = tool_load(order);
+    unsigned number = start(order, state, &memory);
+    bool started = number == IOP89_DONE;
+    if (started) number = step_lines(order, state, &memory);
+    if (number == IOP89_DONE) puts("the limit");
+    else print_number(number, state);
+    print_shown(order, &memory);
+    tool_free(memory);
+    return started ? status_of(number, state) : TOOL_REFUSED;
+}

@@ -1,0 +1,162 @@
+/* Reads the bench tool's command line, and loads the memory that it asks for. */
+#include "tool.h"
+
+#include <errno.h>
+#include <stdio.h>
+#include <stdlib.h>
+#include <string.h>
+
+/* ---- Words ---- */
+
+/* A digit's value, or 16 for any other character. */
+static unsigned digit(char c)
+{
+    if (c >= '0' && c <= '9') return (unsigned)(c - '0');
+    if (c >= 'a' && c <= 'f') return (unsigned)(c - 'a') + 10;
+    if (c >= 'A' && c <= 'F') return (unsigned)(c - 'A') + 10;
+    return 16;
+}
+
+/* The number that a word writes: decimal, or hexadecimal behind 0x; a leading 0 alone means nothing. */
+static uint32_t number_of(const char *option, const char *word)
+{
+    if (word == NULL) tool_usage("a number is missing behind", option);
+    bool hex = word[0] == '0' && (word[1] == 'x' || word[1] == 'X');
+    unsigned base = hex ? 16 : 10;
+    uint64_t value = 0;
+    const char *at = hex ? word + 2 : word;
+    if (*at == '\0') tool_usage("not a number", word);
+    for (; *at != '\0'; at++) {
+        if (digit(*at) >= base) tool_usage("not a number", word);
+        value = value * base + digit(*at);
+        if (value > UINT32_MAX) tool_usage("a number over 4,294,967,295", word);
+    }
+    return (uint32_t)value;
+}
+
+/* The number behind an option, held to the most that it may be. */
+static uint32_t length_of(const char *option, const char *word)
+{
+    uint32_t value = number_of(option, word);
+    if (value > TOOL_MOST) tool_usage("over 1,048,576", word);
+    return value;
+}
+
+/* ---- Options ---- */
+
+/* The place that an option with one number fills, or NULL for any other word. */
+static uint32_t *place_of(struct tool_order *order, const char *option)
+{
+    if (strcmp(option, "-cp") == 0) return &order->cp;
+    if (strcmp(option, "-lines") == 0) return &order->lines;
+    if (strcmp(option, "-limit") == 0) return &order->limit;
+    return NULL;
+}
+
+/* Adds a channel. */
+static void add_channel(struct tool_order *order, const char *word)
+{
+    if (order->channels == TOOL_CHANNELS) tool_usage("more than two channels", word);
+    order->channel[order->channels++] = number_of("-channel", word);
+}
+
+/* Adds a range to be shown: the two words behind its option. */
+static void add_range(struct tool_order *order, char **words, bool in_io)
+{
+    if (order->ranges == TOOL_SHOWN) tool_usage("more than 16 ranges to show", NULL);
+    struct tool_range *range = &order->shown[order->ranges++];
+    range->from = length_of(words[0], words[1]);
+    range->count = length_of(words[0], words[2]);
+    range->in_io = in_io;
+}
+
+/* Takes one option with its values; answers how many words it was, 0 for a word that is no option. */
+static int take_option(struct tool_order *order, char **words, uint32_t *at)
+{
+    uint32_t *place = place_of(order, words[0]);
+    if (place != NULL) *place = number_of(words[0], words[1]);
+    else if (strcmp(words[0], "-at") == 0) *at = length_of(words[0], words[1]);
+    else if (strcmp(words[0], "-io") == 0) order->io_length = length_of(words[0], words[1]);
+    else if (strcmp(words[0], "-system") == 0) order->system_length = length_of(words[0], words[1]);
+    else if (strcmp(words[0], "-channel") == 0) add_channel(order, words[1]);
+    else if (strcmp(words[0], "-io-image") == 0) {
+        order->io_image = words[1];
+        if (words[1] == NULL) tool_usage("a file is missing behind", words[0]);
+    } else if (strcmp(words[0], "-show") == 0 || strcmp(words[0], "-show-io") == 0) {
+        add_range(order, words, words[0][5] != '\0');
+        return 3;
+    } else if (words[0][0] == '-' && words[0][1] != '\0') tool_usage("unknown option", words[0]);
+    else return 0;
+    return 2;
+}
+
+void tool_read_order(struct tool_order *order, int count, char **words)
+{
+    uint32_t at = UINT32_MAX;
+    for (int i = 0; i < count;) {
+        int taken = take_option(order, words + i, &at);
+        i += taken;
+        if (taken > 0) continue;
+        if (order->files == TOOL_FILES) tool_usage("more than 16 files", words[i]);
+        order->file[order->files].name = words[i++];
+        order->file[order->files++].at = at == UINT32_MAX ? 0 : at;
+        at = UINT32_MAX;
+    }
+    if (at != UINT32_MAX) tool_usage("no file behind -at", NULL);
+    if (order->files == 0) tool_usage("no file", NULL);
+    if (order->io_image != NULL && order->io_length != UINT32_MAX) tool_usage("-io and -io-image", NULL);
+    if (order->channels == 0) order->channel[order->channels++] = 1;
+}
+
+/* ---- Memory ---- */
+
+/* Room for so many bytes, all zeros; never null, also for none. */
+static uint8_t *room(size_t length)
+{
+    uint8_t *bytes = calloc(length + 1, 1);
+    if (bytes == NULL) tool_give_up("memory");
+    return bytes;
+}
+
+/* Reads a file into room for a megabyte from an offset on, and answers where it ends. */
+static size_t read_file(const char *name, uint8_t *bytes, uint32_t at)
+{
+    FILE *file = fopen(name, "rb");
+    if (file == NULL) tool_give_up(name);
+    size_t end = at + fread(bytes + at, 1, TOOL_MOST - at, file);
+    bool more = end == TOOL_MOST && fgetc(file) != EOF;
+    if (ferror(file)) tool_give_up(name);
+    fclose(file);
+    if (more) tool_usage("a file that reaches past a megabyte", name);
+    return end;
+}
+
+struct tool_memory tool_load(const struct tool_order *order)
+{
+    struct tool_memory memory = {room(TOOL_MOST), room(TOOL_MOST), 0, 256};
+    for (unsigned i = 0; i < order->files; i++) {
+        size_t end = read_file(order->file[i].name, memory.sys, order->file[i].at);
+        if (end > memory.sys_len) memory.sys_len = end;
+    }
+    if (order->system_length != UINT32_MAX) {
+        if (order->system_length < memory.sys_len) tool_usage("the files need more than -system lends", NULL);
+        memory.sys_len = order->system_length;
+    }
+    if (order->io_image != NULL) memory.io_len = read_file(order->io_image, memory.io, 0);
+    else if (order->io_length != UINT32_MAX) memory.io_len = order->io_length;
+    return memory;
+}
+
+struct tool_memory tool_copy(struct tool_memory memory)
+{
+    struct tool_memory copy = {room(TOOL_MOST), room(TOOL_MOST), memory.sys_len, memory.io_len};
+    memcpy(copy.sys, memory.sys, memory.sys_len);
+    memcpy(copy.io, memory.io, memory.io_len);
+    return copy;
+}
+
+void tool_free(struct tool_memory memory)
+{
+    free(memory.sys);
+    free(memory.io);
+}
