@@ -19,3 +19,12 @@ pub mod PointerLaws
 pub mod PointerWitness
 pub mod Demand2
 pub mod Unique
+pub mod AloneLaws
+pub mod CopyWitness
+pub mod StandLaws
+pub mod ProgramSteps
+pub mod ProgramStart
+pub mod Joined
+pub mod ProgramLaws
+pub mod Showpiece
+pub mod ImageLaws

@@ -10,3 +10,7 @@ pub mod Demand1
 pub mod Pointers
 pub mod Demand2
 pub mod Unique
+pub mod Joined
+pub mod Met
+pub mod Program
+pub mod Image

@@ -1,0 +1,230 @@
+-- A channel that is alone: each step call is its turn, and its transfer goes through to its total, which is no other.
+-- Assumes nothing.
+use Prim.Native.Nat.{ℕ, zero, suc, _<_, _≤_}
+use borrow.Author.Tests.{lt-ltb, eq-eqb}
+use lib.Dec.{ltb, leb, lit<}
+use lib.ListN.{length}
+use mathlib.Core.Bool.{Bool, true, false, not, _&&_}
+use mathlib.Core.Logic.{⊎-elim, inl, inr}
+use mathlib.Core.Path.{_≡_, refl, sym, ap, ap₂, subst, _∙_}
+use native.Mathlib.Decide.{decLt, decLe}
+use native.Mathlib.Omega.{arith}
+use Rattle.execute.specs.Execute.{Executed, executed, executeOf}
+use Rattle.machine.proofs.ConditionLaws.{running-is, says-running}
+use Rattle.machine.specs.Cc.{synchronised, chained, externalEnd}
+use Rattle.machine.specs.Outcomes.{first, unless, givenNumber}
+use Rattle.machine.specs.Psw.{transferring}
+use Rattle.machine.specs.States.{channelOf, channelNumber, isRunning, sound}
+use Rattle.machine.specs.declared.Channel.{Channel}
+use Rattle.machine.specs.declared.Mode.the-variants.{Running}
+use Rattle.machine.specs.declared.State.{State}
+use Rattle.memory.specs.Buffers.{Buffers, spaceOf, limitOf, withinLimits}
+use Rattle.step.proofs.OutcomeLaws.{other-kept, cp-kept}
+use Rattle.step.proofs.SoundLaws.{sound-kept, entry-sound}
+use Rattle.step.proofs.TouchedLaws.{lengths-kept}
+use Rattle.step.specs.Step.{refusedStep, doneStep, settledStep, busyTo, instructionStep, chosenStep, entryNumber, stepOf}
+use Rattle.step.specs.declared.Kind.the-variants.{Instruction}
+use Rattle.step.proofs.ChoosingLaws.{by-rank, rank-none, lower-rank-wins, nobody-runs}
+use Rattle.step.specs.Choosing.{requested, noRank, rankOf}
+use Rattle.step.specs.Ranks.{HasRank, ExternalAt, rankAt}
+use Rattle.words.proofs.ChoiceLaws.{apart}
+use Rattle.promises.specs.Calls.{Turn, Calls, Moves, EndsAtCall, begin, transfer, step, attention, host}
+use Rattle.promises.specs.Joined.{RunsAlone, Through}
+use Rattle.promises.specs.Premises.{into, Copy}
+use Rattle.promises.specs.Runs.{none, more}
+use Rattle.promises.specs.Stages.{Going, Ended}
+use Rattle.promises.specs.Totals.{movedAfter, total}
+use Rattle.promises.proofs.CopyLaws.{within-then, down}
+use Rattle.promises.proofs.InstructionLaws.{turn-executes}
+use Rattle.promises.proofs.MachineLaws.{demand3-calls}
+use Rattle.promises.proofs.StageLaws.{mid-cc}
+
+-- ---- its turn
+
+-- what holds of a channel and of the other holds of each
+pub each : (b : Bool) (P : Bool → Type 0) → P b → P (not b) → (x : Bool) → P x
+each true P p q true = p
+each true P p q false = q
+each false P p q true = q
+each false P p q false = p
+
+-- a channel that can step comes before one that cannot
+has-less : (c : Channel) (drq : Bool) → HasRank c drq → rankOf c drq < noRank
+has-less c drq h = by-rank c drq (λ n. n < noRank) (λ _. lit< tt) (λ _. lit< tt) (λ k. absurd (k h))
+
+module _ (b : Bool) (s : State) (m : Buffers) (lines : ℕ) (a : RunsAlone b s m lines) where
+  -- the other channel does not run
+  still : channelOf s (not b) .mode ≡ Running → ⊥
+  still = says-running (channelOf s (not b) .mode) .fails (a .idle)
+
+  -- so it has no rank
+  unranked : rankAt s lines (not b) ≡ noRank
+  unranked = rank-none (channelOf s (not b)) (requested lines (not b)) .1 (⊎-elim (λ k. still (k .0)) (λ k. still (k .0)))
+
+  -- a channel that can step and that no line ends has its turn
+  alone-turn : HasRank (channelOf s b) (requested lines b) → ¬ (ExternalAt s lines b) → Turn b s m lines
+  alone-turn h ne =
+      record {
+        entered = a .entered;
+        chosen =
+            lower-rank-wins s lines b (each b (λ x. ¬ (ExternalAt s lines x)) ne (λ e. still (e .0)))
+            (omega (arith, has-less (channelOf s b) (requested lines b) h, unranked));
+      }
+
+  module _ (runs : isRunning (channelOf s b .mode) ≡ true) where
+    running : channelOf s b .mode ≡ Running
+    running = running-is (channelOf s b .mode) runs
+
+    -- to execute
+    pub program-turn : transferring (channelOf s b .psw) ≡ false → Turn b s m lines
+    program-turn x = alone-turn (go (chained (channelOf s b .cc)) refl) (λ e. apart (sym (e .1) ∙ x))
+      where
+        go : (z : Bool) → chained (channelOf s b .cc) ≡ z → HasRank (channelOf s b) (requested lines b)
+        go true e = inl (running, inr (x, e))
+        go false e = inr (running, x, e)
+
+    -- and to transfer, unsynchronised and with no external end
+    pub transfer-turn : transferring (channelOf s b .psw) ≡ true → synchronised (channelOf s b .cc) ≡ 0 → externalEnd (channelOf s b .cc) ≡ 0 → Turn b s m lines
+    transfer-turn x y z = alone-turn (inl (running, inl (x, inl y))) (λ e. e .2 z)
+
+-- ---- it stays alone
+
+-- buffers of the same lengths are within the limits where the others are
+pub limits-kept : (m m′ : Buffers) → ((u : Bool) → length (spaceOf m′ u) ≡ length (spaceOf m u)) → withinLimits m′ ≡ withinLimits m
+unfolding withinLimits spaceOf
+limits-kept m m′ e = ap₂ (λ (x y : ℕ). leb x (limitOf false) && leb y (limitOf true)) (e false) (e true)
+
+-- none of 12, 11 and 10 refuses the next step either
+entry-next : (s : State) (m : Buffers) (lines : ℕ) (s′ : State) (m′ : Buffers) → entryNumber s m lines ≡ 0 → sound s′ ≡ true
+    → ((u : Bool) → length (spaceOf m′ u) ≡ length (spaceOf m u)) → entryNumber s′ m′ lines ≡ 0
+unfolding entryNumber givenNumber
+entry-next s m lines s′ m′ z h e =
+    ap₂ (λ (x y : Bool). first (unless (ltb lines 16) 12) (first (unless x 11) (unless y 10))) (limits-kept m m′ e) (h ∙ sym (entry-sound s m lines z)) ∙ z
+
+-- after a done step of its own
+pub alone-next : (b : Bool) (s : State) (m : Buffers) (lines : ℕ) → RunsAlone b s m lines → (stepOf s m lines) .number ≡ 0 → (stepOf s m lines) .channel ≡ channelNumber b
+    → RunsAlone b ((stepOf s m lines) .state) ((stepOf s m lines) .memory) lines
+alone-next b s m lines a z e =
+    record {
+      entered = entry-next s m lines ((stepOf s m lines) .state) ((stepOf s m lines) .memory) (a .entered) (sound-kept s m lines z) (lengths-kept s m lines);
+      idle = ap (λ (c : Channel). isRunning (c .mode)) (other-kept s m lines b e) ∙ a .idle;
+    }
+
+-- a step of a sound state in buffers within their limits is refused by none of them
+pub entered : (s : State) (m : Buffers) (lines : ℕ) → lines < 16 → withinLimits m ≡ true → sound s ≡ true → entryNumber s m lines ≡ 0
+unfolding entryNumber givenNumber first unless
+entered s m lines h w q = rw (lt-ltb lines 16 h, w, q)
+
+-- ---- its instruction
+
+-- a turn without XF is the instruction, which is done
+pub instruction-done : (b : Bool) (s : State) (m : Buffers) (lines : ℕ) {c : Channel} {m′ : Buffers} → Turn b s m lines → transferring (channelOf s b .psw) ≡ false
+    → executeOf (channelOf s b) (busyTo s b) m ≡ executed 0 c m′ → stepOf s m lines ≡ doneStep s b c m′ Instruction
+unfolding instructionStep settledStep
+instruction-done b s m lines t x e =
+    turn-executes b s m lines t x ∙ ap (λ (y : Executed). settledStep (y .number) s m b (y .channel) (y .memory) Instruction) e
+
+-- where no channel runs a step is refused by 1
+pub none-steps : (s : State) (m : Buffers) (lines : ℕ) → entryNumber s m lines ≡ 0 → ((b : Bool) → isRunning (channelOf s b .mode) ≡ false)
+    → stepOf s m lines ≡ refusedStep 1 s m
+unfolding stepOf chosenStep
+none-steps s m lines z h =
+    rw (
+      eq-eqb (entryNumber s m lines) 0 z,
+      nobody-runs s lines .1 (λ b. ⊎-elim (λ e. still b (e .0)) (⊎-elim (λ k. still b (k .0)) (λ k. still b (k .0)))),
+    )
+  where
+    still : (b : Bool) → channelOf s b .mode ≡ Running → ⊥
+    still b = says-running (channelOf s b .mode) .fails (h b)
+
+-- ---- its transfer goes through
+
+module _ (b : Bool) (n : ℕ) (s₀ : State) (m₀ : Buffers) (lines : ℕ) (p : Copy n (channelOf s₀ b) m₀) where
+  -- one more of its transfer steps
+  through-next : (k : ℕ) → k < total (channelOf s₀ b) n → Through b n s₀ m₀ lines k → Through b n s₀ m₀ lines (suc k)
+  through-next k h t =
+      record {
+        state = (stepOf s m lines) .state;
+        memory = (stepOf s m lines) .memory;
+        done = more (t .done) (moves .done);
+        calls = transfer (t .calls) lines turn (g .transfers);
+        alone = alone-next b s m lines (t .alone) (moves .done) (moves .channel);
+        control = cp-kept s m lines ∙ t .control;
+        spares = within-then (into (channelOf s₀ b)) n m₀ m ((stepOf s m lines) .memory) (t .spares) (moves .spares);
+      }
+    where
+      s : State
+      s = t .state
+
+      m : Buffers
+      m = t .memory
+
+      g : Going n (channelOf s₀ b) m₀ k (channelOf s b) m
+      g = demand3-calls p .before (t .calls) h
+
+      cc : channelOf s b .cc ≡ channelOf s₀ b .cc
+      cc = ap (λ (c : Channel). c .cc) (g .registers) ∙ mid-cc (channelOf s₀ b) n (movedAfter (channelOf s₀ b) n k)
+
+      turn : Turn b s m lines
+      turn =
+          transfer-turn b s m lines (t .alone) (g .runs) (g .transfers)
+          (ap synchronised cc ∙ p .plain .unsynchronised) (ap externalEnd cc ∙ p .plain .unended)
+
+      moves : Moves b n s₀ s m lines
+      moves = demand3-calls p .turns (t .calls) h lines turn
+
+  -- as many as there are up to the total
+  pub through : RunsAlone b s₀ m₀ lines → (k : ℕ) → k ≤ total (channelOf s₀ b) n → Through b n s₀ m₀ lines k
+  through a zero h =
+      record {
+        state = s₀;
+        memory = m₀;
+        done = none;
+        calls = begin;
+        alone = a;
+        control = refl;
+        spares = record { others = λ u x o. refl; lengths = λ u. refl };
+      }
+  through a (suc k) h = through-next k h (through a k (down k (total (channelOf s₀ b) n) h))
+
+-- ---- the total is no other
+
+-- a row of calls up to the j-th transfer step
+record Up (b : Bool) (n : ℕ) (s₀ : State) (m₀ : Buffers) (j : ℕ) : Type 0 where
+  pub state : State
+  pub memory : Buffers
+  pub calls : Calls b n s₀ m₀ j state memory
+
+-- a row of calls has come by each number of transfer steps up to its own
+up-to : {b : Bool} {n : ℕ} {s₀ : State} {m₀ : Buffers} {k : ℕ} {s : State} {m : Buffers} → Calls b n s₀ m₀ k s m → (j : ℕ) → j ≤ k → Up b n s₀ m₀ j
+up-to {b} {n} {s₀} {m₀} begin j h = let e : 0 ≡ j = omega arith in subst (Up b n s₀ m₀) e (record { state = s₀; memory = m₀; calls = begin })
+up-to {b} {n} {s₀} {m₀} (transfer {k = k} {s = s} {m = m} r lines t x) j h = go (decLe j k) (λ l. up-to r j l)
+  where
+    go : Dec (j ≤ k) → (j ≤ k → Up b n s₀ m₀ j) → Up b n s₀ m₀ j
+    go (yes l) sooner = sooner l
+    go (no l) sooner =
+        let e : suc k ≡ j = omega arith in
+        subst (Up b n s₀ m₀) e (record { state = (stepOf s m lines) .state; memory = (stepOf s m lines) .memory; calls = transfer r lines t x })
+up-to (step r lines t u) j h = up-to r j h
+up-to (attention r channel ne u) j h = up-to r j h
+up-to (host r u) j h = up-to r j h
+
+module _ {b : Bool} {n : ℕ} {s₀ : State} {m₀ : Buffers} {k k′ : ℕ} where
+  -- where calls in a row come to an end at all, they end at one transfer step only
+  pub ends-once-calls : {s : State} {m : Buffers} → Calls b n s₀ m₀ k s m → EndsAtCall b n s₀ m₀ k → EndsAtCall b n s₀ m₀ k′ → k ≡ k′
+  ends-once-calls r x y = go (decLt k k′) (decLt k′ k)
+    where
+      never : {c : Channel} {m : Buffers} {j : ℕ} → Going n (channelOf s₀ b) m₀ j c m → Ended n (channelOf s₀ b) m₀ c m → ⊥
+      never g e = apart (sym (g .transfers) ∙ e .over)
+
+      go : Dec (k < k′) → Dec (k′ < k) → k ≡ k′
+      go (yes h) d = absurd (never (y .before r h) (x .then r))
+      go (no h) (yes h′) = let u = up-to r k′ (omega arith) in absurd (never (x .before (u .calls) h′) (y .then (u .calls)))
+      go (no h) (no h′) = omega arith
+
+-- so a transfer that meets demand 3's premises, of a channel that is alone, ends at one of them only
+pub ends-once-alone : {b : Bool} {n : ℕ} {s : State} {m : Buffers} {lines k k′ : ℕ} → Copy n (channelOf s b) m → RunsAlone b s m lines
+    → EndsAtCall b n s m k → EndsAtCall b n s m k′ → k ≡ k′
+ends-once-alone {b} {n} {s} {m} {lines} p a x y =
+    let t = through b n s m lines p a (total (channelOf s b) n) (omega arith) in
+    sym (ends-once-calls (t .calls) (demand3-calls p) x) ∙ ends-once-calls (t .calls) (demand3-calls p) y

@@ -1,0 +1,169 @@
+-- The attention that starts a channel's program in system space, given to a fresh state.
+-- Assumes nothing.
+use Prim.Native.Nat.{ℕ, _+_, _*_, _<_}
+use borrow.Author.Tests.{eqb-false, lt-ltb}
+use lib.Dec.{lit<}
+use mathlib.Core.Bool.{Bool, true, false, _&&_}
+use mathlib.Core.List.{_++_}
+use mathlib.Core.Logic.{⊎-elim}
+use mathlib.Core.Path.{_≡_, refl, sym, ap, ap₂, subst, _∙_}
+use native.Mathlib.Nat.{mod-lt}
+use Rattle.machine.specs.Updates.{withControl}
+use Rattle.attention.proofs.Numbers.{gives-0}
+use Rattle.attention.proofs.Outcomes.{accepted-order}
+use Rattle.attention.specs.Attention.{orderTo, orderedChannel, orderedMemory, attentionOf}
+use Rattle.attention.specs.Conditions.{NoChannel}
+use Rattle.machine.proofs.ChannelLaws.{fresh-sound, named}
+use Rattle.machine.proofs.ConditionLaws.{told-sound, told-lent, says-running}
+use Rattle.machine.specs.Conditions.{TooLong}
+use Rattle.machine.specs.Outcomes.{outcome}
+use Rattle.machine.specs.Psw.{withPsw}
+use Rattle.machine.specs.States.{idleChannel, freshState, channelOf, withChannel, soundChannel, sound, isRunning, blockOf, channelNumber, isSecond}
+use Rattle.machine.specs.declared.Answer.{Answer}
+use Rattle.machine.specs.declared.Channel.{Channel}
+use Rattle.machine.specs.declared.Mode.the-variants.{Running}
+use Rattle.memory.proofs.SpanLaws.{all-append}
+use Rattle.memory.specs.Buffers.{Buffers, lentAt, byteAt, storeByte}
+use Rattle.memory.specs.Places.{span, allLent}
+use Rattle.memory.specs.Values.{wordAt, doublewordAt, pointer}
+use Rattle.attention.specs.Blocks.{ccwOf, parameterBlock, orderOf}
+use Rattle.attention.specs.Commands.{commandCoded, copied, obeyed, ordered}
+use Rattle.attention.specs.Effects.{started, commanded, channelOrdered, writesOf, marked, writesMade}
+use Rattle.attention.specs.Touched.{readBy, storedBy, others}
+use Rattle.attention.specs.declared.Command.the-variants.{StartSystem}
+use Rattle.attention.specs.declared.Order.{Order}
+use Rattle.words.specs.Bits.{fieldOf, bitOf, withBit}
+use Rattle.promises.specs.Premises.{Lent}
+use Rattle.promises.proofs.ProgramSteps.{view, viewOf}
+use Rattle.promises.proofs.RunLaws.{fresh-good}
+use Rattle.promises.proofs.StandLaws.{span-lent}
+
+-- the bytes that such an attention reads, and BUSY
+pub record Starts (m : Buffers) (block pb program : ℕ) : Type 0 where
+  pub command : byteAt m false block ≡ 3
+  pub commandLent : lentAt m false block ≡ true
+  pub busyLent : lentAt m false (block + 1) ≡ true
+  pub parameters : doublewordAt m false (block + 2) ≡ pb
+  pub parametersLent : Lent m (pointer (block + 2) false) 4
+  pub task : doublewordAt m false pb ≡ program
+  pub taskLent : Lent m (pointer pb false) 4
+
+-- what comes of it: the channel runs at the program with all but TB at 0, and BUSY is FFh
+pub record Begun (cp : ℕ) (second : Bool) (m : Buffers) (program : ℕ) : Type 0 where
+  pub channel : Channel
+  pub given : attentionOf (freshState cp) m (channelNumber second) ≡ outcome 0 (withChannel (freshState cp) second channel) (storeByte m false (blockOf (freshState cp) second + 1) 255)
+  pub seen : viewOf channel ≡ view (pointer 0 false) (pointer 0 false) (pointer program false) 0 0 4 Running false
+  pub sound : soundChannel channel ≡ true
+
+-- a fresh state's channels are idle
+fresh-idle : (cp : ℕ) (b : Bool) → channelOf (freshState cp) b ≡ idleChannel
+unfolding freshState channelOf
+fresh-idle cp true = refl
+fresh-idle cp false = refl
+
+-- and do not run
+pub fresh-still : (cp : ℕ) (b : Bool) → isRunning (channelOf (freshState cp) b .mode) ≡ false
+unfolding idleChannel isRunning
+fresh-still cp b = ap (λ (c : Channel). isRunning (c .mode)) (fresh-idle cp b)
+
+-- a fresh state of a good CP is sound
+pub sound-fresh : (cp : ℕ) → cp < 1048576 → sound (freshState cp) ≡ true
+sound-fresh cp h = ap (λ (a : Answer). sound (a .state)) (sym (fresh-good cp h)) ∙ fresh-sound cp
+
+module _ (cp : ℕ) (b : Bool) (m : Buffers) (pb program : ℕ) (k : Starts m (blockOf (freshState cp) b) pb program) where
+  -- the order in the block
+  order : Order
+  order = record { command = StartSystem; ccw = 3; block = blockOf (freshState cp) b; pb = pb }
+
+  order-is : orderTo (freshState cp) m b ≡ order
+  unfolding order orderTo orderOf ccwOf commandCoded fieldOf parameterBlock
+  order-is = rw (k .command, k .parameters)
+
+  -- CCW is lent
+  block-lent : allLent m (span false (blockOf (freshState cp) b) 1) ≡ true
+  unfolding span allLent
+  block-lent = rw (k .commandLent)
+
+  -- all else that it touches is lent
+  others-lent : allLent m (others order) ≡ true
+  unfolding order others readBy storedBy span allLent
+  others-lent =
+      all-append m (span false (blockOf (freshState cp) b + 2) 4 ++ span false pb 4) (span false (blockOf (freshState cp) b + 1) 1)
+      ∙ ap₂ _&&_
+      (all-append m (span false (blockOf (freshState cp) b + 2) 4) (span false pb 4)
+      ∙ ap₂ _&&_ (span-lent m false (blockOf (freshState cp) b + 2) 4 (k .parametersLent)) (span-lent m false pb 4 (k .taskLent)))
+      (rw (k .busyLent))
+
+  -- the channel that it leaves
+  channel-is : orderedChannel (freshState cp) m b ≡ channelOrdered m order idleChannel
+  unfolding orderedChannel
+  channel-is = ap₂ (channelOrdered m) order-is (fresh-idle cp b)
+
+  -- with its registers
+  seen : viewOf (channelOrdered m order idleChannel) ≡ view (pointer 0 false) (pointer 0 false) (pointer program false) 0 0 4 Running false
+  unfolding order idleChannel channelOrdered commanded started withControl ordered copied obeyed withPsw withBit bitOf fieldOf
+  seen = ap (λ (a : ℕ). view (pointer 0 false) (pointer 0 false) (pointer a false) 0 0 4 Running false) (k .task)
+
+  -- of 20 bits
+  sound-is : soundChannel (channelOrdered m order idleChannel) ≡ true
+  unfolding order idleChannel channelOrdered commanded started withControl soundChannel doublewordAt
+  sound-is =
+      rw (
+        lt-ltb (doublewordAt m false pb) 1048576 (mod-lt (wordAt m false (pb + 2) * 16 + wordAt m false pb) (lit< tt)),
+        lt-ltb pb 1048576 (subst (λ (a : ℕ). a < 1048576) (k .parameters) (mod-lt (wordAt m false (blockOf (freshState cp) b + 2 + 2) * 16 + wordAt m false (blockOf (freshState cp) b + 2)) (lit< tt))),
+      )
+
+  -- and memory
+  memory-is : orderedMemory (freshState cp) m b ≡ storeByte m false (blockOf (freshState cp) b + 1) 255
+  unfolding order orderedMemory writesMade writesOf marked
+  memory-is = ap (λ (o : Order). writesMade m (writesOf (o .command) (o .block) (o .pb) (channelOf (freshState cp) b))) order-is
+
+  module _ (h : cp < 1048576) (fit : ¬ (TooLong m)) where
+    -- a channel's number names it
+    is-channel : (b : Bool) → ¬ (NoChannel (channelNumber b))
+    unfolding channelNumber
+    is-channel true n = n .1 refl
+    is-channel false n = n .0 refl
+
+    -- no number refuses the attention
+    accepted : attentionOf (freshState cp) m (channelNumber b) .number ≡ 0
+    unfolding fieldOf order
+    accepted =
+        gives-0 (freshState cp) m (channelNumber b) .1 (
+          is-channel b,
+          (
+            fit,
+            (
+              told-sound (freshState cp) .holds (sound-fresh cp h),
+              rw (named b, order-is) (
+                told-lent m (span false (blockOf (freshState cp) b) 1) .holds block-lent,
+                (
+                  ⊎-elim (eqb-false 3 2 refl) (eqb-false 3 4 refl),
+                  (
+                    (λ r. eqb-false 3 5 refl (r .0)),
+                    (
+                      (λ r. says-running (channelOf (freshState cp) (isSecond (channelNumber b)) .mode) .fails (fresh-still cp (isSecond (channelNumber b))) (r .1)),
+                      (
+                        (λ r. eqb-false 3 6 refl (r .0)),
+                        told-lent m (others order) .holds others-lent,
+                      ),
+                    ),
+                  ),
+                ),
+              ),
+            ),
+          ),
+        )
+
+    -- so it does what the order says
+    pub begun : Begun cp b m program
+    begun =
+        record {
+          channel = channelOrdered m order idleChannel;
+          given =
+              accepted-order (freshState cp) m (channelNumber b) accepted
+              ∙ ap (λ (x : Bool). outcome 0 (withChannel (freshState cp) x (orderedChannel (freshState cp) m x)) (orderedMemory (freshState cp) m x)) (named b)
+              ∙ ap₂ (λ (c : Channel) (n : Buffers). outcome 0 (withChannel (freshState cp) b c) n) channel-is memory-is;
+          seen = seen;
+          sound = sound-is;
+        }
