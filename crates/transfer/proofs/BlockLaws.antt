@@ -17,15 +17,16 @@ use Rattle.words.proofs.ChoiceLaws.{pick-same, and-true, and-false, or-true, pi
 use Rattle.words.specs.Bits.{bitOf}
 use Rattle.words.specs.Choice.{pick}
 use Rattle.words.specs.Sums.{sum20, countDown}
-use Rattle.transfer.specs.Ends.{meetsTmc, codeIf, larger, endedBy}
+use Rattle.transfer.specs.Ends.{codeIf, larger, endedBy}
 use Rattle.machine.specs.Updates.{withTransfer}
 use Rattle.transfer.specs.Reads.{fetched, fetchedSecond, delivered, dataOf}
-use Rattle.transfer.specs.Sides.{side, source, destination, wordSide, secondAddress, gained, twoMove, storedSingly}
+use Rattle.transfer.specs.Sides.{side, source, destination, wordSide, secondAddress, gained, twoMove}
 use Rattle.transfer.specs.Steps.{transferred, touchedByTransfer, badMode, transferOf}
-use Rattle.transfer.specs.Stores.{firstMeets, matchMet, cutShort, storesTwo, bytesStored, bytesMoved, bytesCounted, countAfter, endCode, movedBy, movedChannel, putOn, movedMemory, storedPlaces}
+use Rattle.transfer.specs.Stores.{storesTwo, bytesStored, bytesMoved, bytesCounted, countAfter, endCode, movedBy, movedChannel, putOn, movedMemory, storedPlaces}
 use Rattle.transfer.specs.declared.Data.{Data}
 use Rattle.transfer.specs.declared.Side.{Side}
 use Rattle.transfer.proofs.KeptLaws.{ga-after, gb-after, ended-none}
+use Rattle.transfer.proofs.MatchLaws.{off-stores, off-unmet}
 use Rattle.transfer.proofs.StepLaws.{outcome-0}
 use Rattle.transfer.proofs.TouchLaws.{reads-lent, places-lent, touched-lent}
 
@@ -47,8 +48,8 @@ abbrev pub remaining : Channel → ℕ
 remaining c = countDown (c .bc) (stride c)
 
 -- the channel with both pointers on by the bytes moved, and BC lowered by them
-unfoldable pub onward : Channel → Channel
-onward c = withTransfer c (gained true (c .ga) (stride c)) (gained true (c .gb) (stride c)) (c .tp) (remaining c) (c .psw)
+unfoldable pub carried : Channel → Channel
+carried c = withTransfer c (gained true (c .ga) (stride c)) (gained true (c .gb) (stride c)) (c .tp) (remaining c) (c .psw)
 
 -- the memory with one byte copied from source to destination, and with the next one too
 abbrev pub copied : Channel → Buffers → Buffers
@@ -95,19 +96,9 @@ two-moves c h ne = rw (h, ne-eqb (c .bc) 1 ne, and-false)
 
 -- ---- no end but the byte count's
 
--- no byte meets a TMC that is off
-off : (tmc mc byte : ℕ) → tmc % 4 ≡ 0 → meetsTmc tmc mc byte ≡ false
-unfolding meetsTmc
-off tmc mc byte h = rw (eq-eqb (tmc % 4) 0 h)
-
--- so all bytes that move are stored
+-- all bytes that move are stored
 pub block-stores : (c : Channel) (d : Data) → Block (c .cc) → storesTwo c d ≡ twoMove c
-unfolding storesTwo cutShort firstMeets
-block-stores c d k = rw (off (matchEnd (c .cc)) (c .mc) (d .first) (k .unmatched), and-false) (and-true (twoMove c))
-
-block-unmet : (c : Channel) (d : Data) → Block (c .cc) → matchMet c d ≡ false
-unfolding matchMet firstMeets
-block-unmet c d k = rw (off (matchEnd (c .cc)) (c .mc) (d .first) (k .unmatched), off (matchEnd (c .cc)) (c .mc) (d .second) (k .unmatched)) (and-false (storedSingly c))
+block-stores c d k = off-stores c d (k .unmatched)
 
 larger-left : (n : ℕ) → larger 0 n ≡ n
 unfolding larger
@@ -121,7 +112,7 @@ larger-right n = rw (le-ltb n 0 (omega arith))
 -- the step ends exactly where BC becomes 0
 pub block-end : (c : Channel) (d : Data) → Block (c .cc) → endCode c d ≡ codeIf (eqb (remaining c) 0) (countEnd (c .cc))
 unfolding endCode countAfter bytesCounted bytesStored codeIf
-block-end c d k = rw (block-unmet c d k, block-stores c d k, k .ongoing) (ends (codeIf (eqb (remaining c) 0) (countEnd (c .cc))))
+block-end c d k = rw (off-unmet c d (k .unmatched), block-stores c d k, k .ongoing) (ends (codeIf (eqb (remaining c) 0) (countEnd (c .cc))))
   where
     ends : (n : ℕ) → larger (larger (codeIf false (matchEnd (c .cc) % 4)) n) (codeIf false 1) ≡ n
     ends n = larger-right (larger 0 n) ∙ larger-left n
@@ -132,39 +123,39 @@ block-stride : (c : Channel) (d : Data) → Block (c .cc) → bytesStored c d �
 unfolding bytesStored
 block-stride c d k = rw (block-stores c d k)
 
-block-moved : (c : Channel) → Block (c .cc) → movedBy c (stride c) (remaining c) ≡ onward c
-unfolding onward movedBy withTransfer
+block-moved : (c : Channel) → Block (c .cc) → movedBy c (stride c) (remaining c) ≡ carried c
+unfolding carried movedBy withTransfer
 block-moved c k =
     ap₂ (λ (p q : Pointer). withTransfer c p q (c .tp) (remaining c) (c .psw))
     (ga-after c (stride c) (remaining c) ∙ rw (k .from, k .into, pick-same))
     (gb-after c (stride c) (remaining c) ∙ rw (k .from, k .into, pick-same))
 
 -- the channel after the step, in one: on by the bytes moved, ended where BC becomes 0
-pub block-channel : (c : Channel) (d : Data) → Block (c .cc) → movedChannel c d ≡ endedBy (onward c) (codeIf (eqb (remaining c) 0) (countEnd (c .cc)))
+pub block-channel : (c : Channel) (d : Data) → Block (c .cc) → movedChannel c d ≡ endedBy (carried c) (codeIf (eqb (remaining c) 0) (countEnd (c .cc)))
 unfolding movedChannel countAfter bytesMoved bytesCounted
 block-channel c d k = rw (block-end c d k, block-stride c d k, block-moved c k)
 
 -- its source is on by the bytes moved
-pub onward-source : (c : Channel) → source (onward c) ≡ side (gained true ((source c) .pointer) (stride c)) ((source c) .moves) ((source c) .wide)
-unfolding source onward withTransfer
-onward-source c =
+pub carried-source : (c : Channel) → source (carried c) ≡ side (gained true ((source c) .pointer) (stride c)) ((source c) .moves) ((source c) .wide)
+unfolding source carried withTransfer
+carried-source c =
     ap (λ (p : Pointer). side p (sourceMoves (c .cc)) (sourceWide (c .psw)))
     (pick-under (λ (p : Pointer). gained true p (stride c)) (sourceIsGB (c .cc)) (c .gb) (c .ga))
 
 -- and so is its destination
-pub onward-destination : (c : Channel) → destination (onward c) ≡ side (gained true ((destination c) .pointer) (stride c)) ((destination c) .moves) ((destination c) .wide)
-unfolding destination onward withTransfer
-onward-destination c =
+pub carried-destination : (c : Channel) → destination (carried c) ≡ side (gained true ((destination c) .pointer) (stride c)) ((destination c) .moves) ((destination c) .wide)
+unfolding destination carried withTransfer
+carried-destination c =
     ap (λ (p : Pointer). side p (destinationMoves (c .cc)) (destinationWide (c .psw)))
     (pick-under (λ (p : Pointer). gained true p (stride c)) (sourceIsGB (c .cc)) (c .ga) (c .gb))
 
 -- while bytes remain, TP and PSW stay
-pub block-going : (c : Channel) (d : Data) → Block (c .cc) → (remaining c ≡ 0 → ⊥) → movedChannel c d ≡ onward c
+pub block-going : (c : Channel) (d : Data) → Block (c .cc) → (remaining c ≡ 0 → ⊥) → movedChannel c d ≡ carried c
 unfolding codeIf
-block-going c d k ne = block-channel c d k ∙ rw (ne-eqb (remaining c) 0 ne) (ended-none (onward c))
+block-going c d k ne = block-channel c d k ∙ rw (ne-eqb (remaining c) 0 ne) (ended-none (carried c))
 
 -- with the last byte TBC ends the transfer
-pub block-last : (c : Channel) (d : Data) → Block (c .cc) → remaining c ≡ 0 → movedChannel c d ≡ endedBy (onward c) (countEnd (c .cc))
+pub block-last : (c : Channel) (d : Data) → Block (c .cc) → remaining c ≡ 0 → movedChannel c d ≡ endedBy (carried c) (countEnd (c .cc))
 unfolding codeIf
 block-last c d k e = block-channel c d k ∙ rw (eq-eqb (remaining c) 0 e)
 

@@ -14,7 +14,7 @@ use Rattle.machine.specs.declared.Channel.{Channel}
 use Rattle.memory.proofs.StoreLaws.{store-length, read-other}
 use Rattle.memory.specs.Buffers.{Buffers, spaceOf, indexOf, lentAt, byteAt, storeByte}
 use Rattle.memory.specs.Places.{Apart}
-use Rattle.memory.specs.Values.{pointer}
+use Rattle.memory.specs.Values.{pointer, onward}
 use Rattle.memory.specs.declared.Pointer.{Pointer}
 use Rattle.words.proofs.BitLaws.{bit-same, bit-other}
 use Rattle.words.proofs.ChoiceLaws.{both-left, both-right, pick-back}
@@ -98,7 +98,7 @@ gb-after c by bc = gained-as (sourceIsGB (c .cc)) (sourceMoves (c .cc)) (destina
 
 -- a pointer that gains bytes keeps its tag
 gained-tag : (on : Bool) (p : Pointer) (n : ℕ) → (gained on p n) .tag ≡ p .tag
-unfolding gained
+unfolding gained onward
 gained-tag true p n = refl
 gained-tag false p n = refl
 
@@ -141,7 +141,7 @@ ended-none c = refl
 
 -- what ends gives TP its offset
 pub ended-tp : (c : Channel) (code : ℕ) → (code ≡ 0 → ⊥) → (endedBy c code) .tp ≡ pointer (sum20 (c .tp .address) (offsetOf code)) (c .tp .tag)
-unfolding endedBy withTransfer endedTP gained
+unfolding endedBy withTransfer endedTP gained onward
 ended-tp c code ne = rw (ne-eqb code 0 ne)
 
 -- a step leaves the source where it was moved on to, as wide as it was
@@ -184,7 +184,7 @@ abbrev Small : Pointer → Type 0
 Small p = ltb (p .address) 1048576 ≡ true
 
 gained-small : (on : Bool) (p : Pointer) (n : ℕ) → Small p → Small (gained on p n)
-unfolding gained
+unfolding gained onward
 gained-small true p n h = lt-ltb ((p .address + n) % 1048576) 1048576 (mod-lt (p .address + n) (lit< tt))
 gained-small false p n h = h
 

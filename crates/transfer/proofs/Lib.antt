@@ -1,4 +1,6 @@
 pub mod TouchLaws
+pub mod FetchLaws
+pub mod MatchLaws
 pub mod StepLaws
 pub mod KeptLaws
 pub mod BlockLaws

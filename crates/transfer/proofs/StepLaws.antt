@@ -1,16 +1,20 @@
 -- The outcome of a transfer step: it is unique, each number comes exactly under its own condition, and a refused step changes nothing.
 -- Assumes nothing.
 use borrow.Author.Tests.{eqb-false}
-use mathlib.Core.Bool.{Bool, true, false}
+use lib.Dec.{eqb}
+use mathlib.Core.Bool.{Bool, true, false, not}
 use mathlib.Core.Logic.{_↔_}
 use mathlib.Core.Path.{_≡_, refl, sym, ap, _∙_}
+use Rattle.machine.proofs.OutcomeLaws.{first-right}
+use Rattle.machine.proofs.StageLaws.{two-exactly}
 use Rattle.machine.specs.Outcomes.{unless, first}
+use Rattle.machine.specs.Stages.{stagesNumber, stagesTouched}
 use Rattle.machine.specs.declared.Channel.{Channel}
 use Rattle.memory.specs.Buffers.{Buffers}
 use Rattle.memory.specs.Places.{allLent}
 use Rattle.transfer.specs.Ends.{externallyEnded}
 use Rattle.transfer.specs.Reads.{dataOf}
-use Rattle.transfer.specs.Steps.{Transfer, transferred, touchedByTransfer, badMode, TransferGiven5, TransferGiven2, TransferGiven0, transferNumber, transferOf}
+use Rattle.transfer.specs.Steps.{Transfer, transferred, touchedByTransfer, badMode, transferStages, TransferGiven5, TransferGiven2, TransferGiven0, transferNumber, transferOf}
 use Rattle.transfer.specs.Stores.{movedChannel, movedMemory}
 
 -- no two outcomes meet the contract of a transfer step
@@ -21,21 +25,26 @@ unique c m o o′ e e′ = e ∙ sym e′
 pub unique-end : (c r r′ : Channel) → r ≡ externallyEnded c → r′ ≡ externallyEnded c → r ≡ r′
 unique-end c r r′ e e′ = e ∙ sym e′
 
+-- the stages in one chain: 5, then 2
+pub chain : (c : Channel) (m : Buffers) → transferNumber c m ≡ first (unless (not (badMode c)) 5) (unless (allLent m (touchedByTransfer c m)) 2)
+unfolding transferNumber transferStages stagesNumber allLent first unless
+chain c m = ap (first (unless (not (badMode c)) 5)) (first-right (unless (allLent m (touchedByTransfer c m)) 2))
+
 -- a bad mode is 5, and nothing changes
 pub outcome-5 : (c : Channel) (m : Buffers) → badMode c ≡ true → transferOf c m ≡ transferred 5 c m
-unfolding transferOf transferNumber first unless
-outcome-5 c m h = rw h
+unfolding transferOf first unless
+outcome-5 c m h = rw (chain c m, h)
 
 -- else a byte beyond lent memory is 2, and nothing changes
 pub outcome-2 : (c : Channel) (m : Buffers) → badMode c ≡ false → allLent m (touchedByTransfer c m) ≡ false → transferOf c m ≡ transferred 2 c m
-unfolding transferOf transferNumber first unless
-outcome-2 c m h l = rw (h, l)
+unfolding transferOf first unless
+outcome-2 c m h l = rw (chain c m, h, l)
 
 -- else the step is done
 pub outcome-0 : (c : Channel) (m : Buffers) → badMode c ≡ false → allLent m (touchedByTransfer c m) ≡ true
     → transferOf c m ≡ transferred 0 (movedChannel c (dataOf c m)) (movedMemory c (dataOf c m) m)
-unfolding transferOf transferNumber first unless
-outcome-0 c m h l = rw (h, l)
+unfolding transferOf first unless
+outcome-0 c m h l = rw (chain c m, h, l)
 
 -- the three cases of a step: what holds of each outcome under its condition holds of the step
 pub by-number : (c : Channel) (m : Buffers) (P : Transfer → Type 0)
@@ -57,6 +66,15 @@ exactly-5 c m = (by-number c m (λ o. o .number ≡ 5 → TransferGiven5 c) (λ 
 -- it is 2 exactly where the mode is right and a byte to be read or stored lies beyond lent memory
 pub exactly-2 : (c : Channel) (m : Buffers) → (transferOf c m) .number ≡ 2 ↔ TransferGiven2 c m
 exactly-2 c m = (by-number c m (λ o. o .number ≡ 2 → TransferGiven2 c m) (λ g e. absurd (eqb-false 5 2 refl e)) (λ g e. g) (λ g e. absurd (eqb-false 0 2 refl e)), λ g. ap (λ (o : Transfer). o .number) (outcome-2 c m (g .0) (g .1)))
+
+-- that is, exactly where a byte that the step touches, up to the stage where it stops, is not lent
+pub two-touched : (c : Channel) (m : Buffers) → (transferNumber c m ≡ 2) ↔ (allLent m (stagesTouched (transferStages c m)) ≡ false)
+unfolding transferNumber transferStages unless
+two-touched c m = two-exactly m (transferStages c m) (other (badMode c), (refl, tt))
+  where
+    other : (b : Bool) → eqb (unless (not b) 5) 2 ≡ false
+    other true = refl
+    other false = refl
 
 -- it is 0 exactly where neither holds
 pub exactly-0 : (c : Channel) (m : Buffers) → (transferOf c m) .number ≡ 0 ↔ TransferGiven0 c m

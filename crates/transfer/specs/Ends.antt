@@ -1,4 +1,4 @@
--- How a transfer ends: the masked compare, the codes of the ends, and what an end does to TP and XF.
+-- How a transfer ends: the masked compare, the codes of the ends, and what an end does to TP and XF (§7.7, §7.10).
 use mathlib.Core.Bool.{Bool, false, not, _&&_}
 use Prim.Native.Nat.{ℕ, _%_}
 use lib.Dec.{eqb, ltb}
@@ -12,7 +12,7 @@ use Rattle.machine.specs.Psw.{withPsw}
 use Rattle.machine.specs.Updates.{withTransfer}
 use Rattle.transfer.specs.Sides.{gained}
 
--- a byte meets TMC: "TMC's low two bits likewise" (00 is off), "bit 2 meaning "ends on no match""
+-- a byte meets TMC: one that matches, or with bit 2 set one that does not; never where the low two bits are 0 (§7.7)
 unfoldable pub meetsTmc : ℕ → ℕ → ℕ → Bool
 meetsTmc tmc mc byte = not (eqb (tmc % 4) 0) && pick (bitOf tmc 2) (not (matchOf byte mc)) (matchOf byte mc)
 
@@ -20,11 +20,11 @@ meetsTmc tmc mc byte = not (eqb (tmc % 4) 0) && pick (bitOf tmc 2) (not (matchOf
 unfoldable pub codeIf : Bool → ℕ → ℕ
 codeIf came code = pick came code 0
 
--- "Of several, the largest offset": the larger of two codes
+-- the larger of two codes, which is the one of the larger offset (§7.10)
 unfoldable pub larger : ℕ → ℕ → ℕ
 larger a b = pick (ltb a b) b a
 
--- "00 is off, 01, 10, 11 mean offset 0, 4, 8"
+-- the offset that a code stands for: 1, 2 and 3 are on with 0, 4 and 8 (§2.4)
 unfoldable pub offsetOf : ℕ → ℕ
 offsetOf code = pick (eqb code 2) 4 (pick (eqb code 3) 8 0)
 
@@ -32,7 +32,7 @@ offsetOf code = pick (eqb code 2) 4 (pick (eqb code 3) 8 0)
 unfoldable pub endedTP : Channel → ℕ → Pointer
 endedTP c code = gained (not (eqb code 0)) (c .tp) (offsetOf code)
 
--- PSW after an end of a code: "XF clears"
+-- PSW after an end of a code: XF is clear
 unfoldable pub endedPSW : Channel → ℕ → ℕ
 endedPSW c code = pick (eqb code 0) (c .psw) (withPsw (c .psw) 6 false)
 
@@ -40,6 +40,6 @@ endedPSW c code = pick (eqb code 0) (c .psw) (withPsw (c .psw) 6 false)
 unfoldable pub endedBy : Channel → ℕ → Channel
 endedBy c code = withTransfer c (c .ga) (c .gb) (endedTP c code) (c .bc) (endedPSW c code)
 
--- "TP gains the TX offset, XF clears, no byte moves"
+-- an external end: TP gains the offset of TX, XF becomes clear, and no byte moves (§5.2)
 unfoldable pub externallyEnded : Channel → Channel
 externallyEnded c = endedBy c (externalEnd (c .cc))

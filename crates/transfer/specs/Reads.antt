@@ -1,4 +1,4 @@
--- What a transfer step reads, before it stores.
+-- What a transfer step reads, before it stores (§7.5, §7.6).
 use mathlib.Core.Bool.{Bool}
 use mathlib.Core.List.{List, [], _∷_}
 use Prim.Native.Nat.{ℕ}
@@ -19,15 +19,15 @@ fetched c m = byteAt m ((source c) .pointer .tag) ((source c) .pointer .address)
 unfoldable pub fetchedSecond : Channel → Buffers → ℕ
 fetchedSecond c m = pick (twoMove c) (byteAt m ((source c) .pointer .tag) (secondAddress (source c))) 0
 
--- "GC + fetched byte"
+-- where the byte that stands for the one read lies: so far past GC as that one says (§7.6)
 unfoldable pub entryOf : Channel → Buffers → ℕ
 entryOf c m = sum20 (c .gc .address) (fetched c m)
 
--- "Translation stores the byte at GC + fetched byte, in GC's space"
+-- the first byte to be stored: the one read, or with translation the one that stands for it, in GC's space (§7.6)
 unfoldable pub delivered : Channel → Buffers → ℕ
 delivered c m = pick (translates (c .cc)) (byteAt m (c .gc .tag) (entryOf c m)) (fetched c m)
 
--- "Reads come first": the bytes to be stored
+-- the bytes to be stored, all of them read before the first store (§7.5)
 unfoldable pub dataOf : Channel → Buffers → Data
 dataOf c m = record { first = delivered c m; second = fetchedSecond c m }
 
@@ -35,7 +35,7 @@ dataOf c m = record { first = delivered c m; second = fetchedSecond c m }
 unfoldable pub also : Bool → Place → List Place → List Place
 also on p ps = pick on (p ∷ ps) ps
 
--- the bytes that are read: the source's one or two and the translated one
+-- the bytes that are read: the source's one or two and the translated one (§7.11)
 unfoldable pub readPlaces : Channel → Buffers → List Place
 readPlaces c m =
     record { tag = (source c) .pointer .tag; address = (source c) .pointer .address }

@@ -1,4 +1,4 @@
--- The two sides of a transfer, and how many bytes move between them.
+-- The two sides of a transfer, and how many bytes move between them (§7.1 to §7.4).
 use mathlib.Core.Bool.{Bool, not, _&&_, _||_}
 use Prim.Native.Nat.{ℕ}
 use lib.Dec.{eqb}
@@ -6,7 +6,7 @@ use Rattle.words.specs.Choice.{pick}
 use Rattle.words.specs.Bits.{bitOf}
 use Rattle.words.specs.Sums.{sum20}
 use Rattle.memory.specs.declared.Pointer.{Pointer}
-use Rattle.memory.specs.Values.{pointer}
+use Rattle.memory.specs.Values.{onward}
 use Rattle.machine.specs.declared.Channel.{Channel}
 use Rattle.machine.specs.Cc.{destinationMoves, sourceMoves, translates, sourceIsGB, countEnd}
 use Rattle.machine.specs.Psw.{destinationWide, sourceWide}
@@ -17,39 +17,39 @@ use Rattle.transfer.specs.declared.Setup.{Setup}
 abbrev pub side : Pointer → Bool → Bool → Side
 side p moves wide = record { pointer = p; moves = moves; wide = wide }
 
--- "14 source moves on", "10 source is GB (else GA)"
+-- the source is GA, or GB with bit 10 of CC set (§7.1)
 unfoldable pub source : Channel → Side
 source c = side (pick (sourceIsGB (c .cc)) (c .gb) (c .ga)) (sourceMoves (c .cc)) (sourceWide (c .psw))
 
--- "15 destination moves on"; it is the other of GA and GB
+-- the destination is the other of the two (§7.1)
 unfoldable pub destination : Channel → Side
 destination c = side (pick (sourceIsGB (c .cc)) (c .ga) (c .gb)) (destinationMoves (c .cc)) (destinationWide (c .psw))
 
--- "A side is a word side if its width is 16 and its address even"
+-- a word side is 16 bits wide and at an even address (§7.2)
 unfoldable pub wordSide : Side → Bool
 wordSide s = s .wide && not (bitOf (s .pointer .address) 0)
 
--- "a word side takes addresses a, a + 1; the other side takes two bytes, at a and a + 1 if it moves on, at a twice if not": where the second byte lies
+-- where a side's second byte lies: the next address on a word side and on one that moves on, else the same again (§7.4)
 unfoldable pub secondAddress : Side → ℕ
 secondAddress s = pick (wordSide s || s .moves) (sum20 (s .pointer .address) 1) (s .pointer .address)
 
--- a pointer that gains some bytes, where a test holds; its tag stays
+-- a pointer that goes some bytes on, where a test holds
 unfoldable pub gained : Bool → Pointer → ℕ → Pointer
-gained on p by = pick on (pointer (sum20 (p .address) by) (p .tag)) p
+gained on p by = pick on (onward p by) p
 
--- "Moving sides gain the bytes moved"
+-- a side's pointer after a move of some bytes: it goes on where the side moves on (§7.9)
 abbrev pub sideAfter : Side → ℕ → Pointer
 sideAfter s by = gained (s .moves) (s .pointer) by
 
--- "TBC is on"
+-- TBC is on
 abbrev pub countOn : ℕ → Bool
 countOn cc = not (eqb (countEnd cc) 0)
 
--- "Two bytes move if some side is a word side and not both TBC is on and BC is 1; otherwise one"
+-- two bytes move where a side is a word side, but the last of a count goes alone (§7.3)
 unfoldable pub twoMove : Channel → Bool
 twoMove c = (wordSide (source c) || wordSide (destination c)) && not (countOn (c .cc) && eqb (c .bc) 1)
 
--- two bytes go to a side that is no word side, so each is stored singly
+-- two bytes go to a side that is no word side, so each is stored singly (§7.5)
 unfoldable pub storedSingly : Channel → Bool
 storedSingly c = twoMove c && not (wordSide (destination c))
 

@@ -1,6 +1,6 @@
--- One transfer step of a channel: the bytes it touches, its refusals and its outcome.
+-- One transfer step of a channel: the bytes it touches, its refusals and its outcome (§7).
 use mathlib.Core.Bool.{Bool, true, false, not, _&&_, _||_}
-use mathlib.Core.List.{List, _++_}
+use mathlib.Core.List.{List, [], _∷_, _++_}
 use mathlib.Core.Path.{_≡_}
 use Prim.Native.Nat.{ℕ}
 use lib.Dec.{eqb}
@@ -9,7 +9,8 @@ use Rattle.memory.specs.Buffers.{Buffers}
 use Rattle.memory.specs.Places.{Place, allLent}
 use Rattle.machine.specs.declared.Channel.{Channel}
 use Rattle.machine.specs.Cc.{translates, synchronised}
-use Rattle.machine.specs.Outcomes.{unless, first}
+use Rattle.machine.specs.Outcomes.{unless}
+use Rattle.machine.specs.Stages.{Stage, stage, stagesNumber}
 use Rattle.transfer.specs.Sides.{source, destination}
 use Rattle.transfer.specs.Reads.{dataOf, readPlaces}
 use Rattle.transfer.specs.Stores.{movedChannel, movedMemory, storedPlaces}
@@ -23,29 +24,33 @@ pub record Transfer : Type 0 where
 abbrev pub transferred : ℕ → Channel → Buffers → Transfer
 transferred number c m = record { number = number; channel = c; memory = m }
 
--- every byte that the step reads or stores, each access once
+-- every byte that the step reads or stores, each access once (§7.11)
 unfoldable pub touchedByTransfer : Channel → Buffers → List Place
 touchedByTransfer c m = readPlaces c m ++ storedPlaces c (dataOf c m)
 
--- "transfer with SYN 11, or translation with a 16-bit side" (5)
+-- a mode that is refused: SYN 11, or translation with a side of 16 bits (§7.11)
 unfoldable pub badMode : Channel → Bool
 badMode c = eqb (synchronised (c .cc)) 3 || translates (c .cc) && ((source c) .wide || (destination c) .wide)
+
+-- the stages of the step: the mode, for which no byte is looked at, then every byte (§7.11)
+unfoldable pub transferStages : Channel → Buffers → List Stage
+transferStages c m = stage [] (unless (not (badMode c)) 5) ∷ stage (touchedByTransfer c m) 0 ∷ []
+
+-- the number of the step by its stages: 5, then 2
+unfoldable pub transferNumber : Channel → Buffers → ℕ
+transferNumber c m = stagesNumber m (transferStages c m)
 
 -- when 5 is given: a bad mode
 abbrev pub TransferGiven5 : Channel → Type 0
 TransferGiven5 c = badMode c ≡ true
 
--- when 2 is given: no bad mode, and "a byte to be read or stored lies beyond lent memory"
+-- when 2 is given: no bad mode, and a byte that the step touches is not lent
 abbrev pub TransferGiven2 : Channel → Buffers → Type 0
 TransferGiven2 c m = (badMode c ≡ false) × (allLent m (touchedByTransfer c m) ≡ false)
 
 -- when 0 is given: neither
 abbrev pub TransferGiven0 : Channel → Buffers → Type 0
 TransferGiven0 c m = (badMode c ≡ false) × (allLent m (touchedByTransfer c m) ≡ true)
-
--- "for a transfer 5, 2"
-unfoldable pub transferNumber : Channel → Buffers → ℕ
-transferNumber c m = first (unless (not (badMode c)) 5) (unless (allLent m (touchedByTransfer c m)) 2)
 
 -- the step: refused, the given channel and memories; done, what it makes of them
 unfoldable pub transferOf : Channel → Buffers → Transfer

@@ -1,4 +1,4 @@
--- What a transfer step stores of the bytes that it read, and what the channel becomes.
+-- What a transfer step stores of the bytes that it read, and what the channel becomes (§7.5 to §7.10).
 use mathlib.Core.Bool.{Bool, not, _&&_, _||_}
 use mathlib.Core.List.{List, [], _∷_}
 use Prim.Native.Nat.{ℕ, _%_}
@@ -20,11 +20,11 @@ use Rattle.machine.specs.Updates.{withTransfer}
 unfoldable pub firstMeets : Channel → Data → Bool
 firstMeets c d = meetsTmc (matchEnd (c .cc)) (c .mc) (d .first)
 
--- "It looks at each byte stored singly and at the low byte of a stored word"
+-- TMC is met by a byte that is stored singly, or by the low byte of a word (§7.7)
 unfoldable pub matchMet : Channel → Data → Bool
 matchMet c d = firstMeets c d || storedSingly c && meetsTmc (matchEnd (c .cc)) (c .mc) (d .second)
 
--- "If the first of two single stores meets TMC, the second is not made"
+-- the first of two single stores meets TMC, so the second is not made (§7.8)
 unfoldable pub cutShort : Channel → Data → Bool
 cutShort c d = storedSingly c && firstMeets c d
 
@@ -36,11 +36,11 @@ storesTwo c d = twoMove c && not (cutShort c d)
 unfoldable pub bytesStored : Channel → Data → ℕ
 bytesStored c d = pick (storesTwo c d) 2 1
 
--- what moving sides gain: "the bytes moved", and where a match prevents the second store, 1
+-- what a side that moves on gains: the bytes stored, so 1 where a match prevents the second store (§7.9)
 unfoldable pub bytesMoved : Channel → Data → ℕ
 bytesMoved c d = bytesStored c d
 
--- "BC falls by the bytes stored, mod 65,536, TBC on or off"
+-- what BC falls by: the bytes stored, whether TBC is on or off (§7.9)
 unfoldable pub bytesCounted : Channel → Data → ℕ
 bytesCounted c d = bytesStored c d
 
@@ -48,7 +48,7 @@ bytesCounted c d = bytesStored c d
 unfoldable pub countAfter : Channel → Data → ℕ
 countAfter c d = countDown (c .bc) (bytesCounted c d)
 
--- "Ends: TMC met; TBC on and BC now 0; TS (offset 0). Of several, the largest offset"; 0 where there is none
+-- the code of the end: TMC met, or the count now at 0, or TS with offset 0, the largest of those that came; 0 is no end (§7.10)
 unfoldable pub endCode : Channel → Data → ℕ
 endCode c d =
     larger
@@ -84,6 +84,6 @@ placesOn s two =
     record { tag = s .pointer .tag; address = s .pointer .address }
     ∷ also two (record { tag = s .pointer .tag; address = secondAddress s }) []
 
--- the bytes that are stored: "a second single store that a match prevents is not tested"
+-- the places that are stored to: not that of a second store that a match prevents (§7.11)
 unfoldable pub storedPlaces : Channel → Data → List Place
 storedPlaces c d = placesOn (destination c) (storesTwo c d)

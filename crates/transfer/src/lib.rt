@@ -40,7 +40,7 @@ struct Data {
     second: u8,
 }
 
-// What a transfer step answers: a number of the paper, 0 for done, and the channel.
+// What a transfer step answers: its number, 0 for done, and the channel.
 pub struct Transferred {
     pub number: u32,
     pub channel: Channel,
@@ -56,31 +56,33 @@ fn bad_mode(c: Channel, p: Setup) -> bool
     (machine::cc::synchronised(c.cc) == 3) | (p.translates & (source.wide | destination.wide))
 }
 
+// A refused step: the channel as it was.
+fn refused(c: Channel, number: u32) -> Transferred
+    ensures { λ r. ⌜ r ≡ record { number = number; channel = c } ⌝ }
+{
+    Transferred { number, channel: c }
+}
+
 // One transfer step.
 pub fn transfer(c: Channel, sys: &mut [u8], io: &mut [u8]) -> Transferred
     ensures { λ r. ⌜ transferred (r .number) (r .channel) (buffers (now (sys .exit)) (now (io .exit))) ≡ transferOf c (buffers (now (sys .entry)) (now (io .entry))) ⌝ }
 {
     let p = sides::plan(c);
     if bad_mode(c, p) {
-        return Transferred {
-            number: 5,
-            channel: c,
-        };
+        return refused(c, 5);
     }
     let fetched = reads::fetch(c, p, sys, io);
+    if !fetched.lent {
+        return refused(c, 2);
+    }
     let bytes = fetched.bytes;
     let done = stores::finish(c, p, bytes);
     let side = p.destination;
-    if fetched.lent & stores::lent(side, done.two, sys, io) {
-        stores::put(side, done.two, bytes, sys, io);
-        let channel = done.channel;
-        Transferred { number: 0, channel }
-    } else {
-        Transferred {
-            number: 2,
-            channel: c,
-        }
+    if !stores::put(side, done.two, bytes, sys, io) {
+        return refused(c, 2);
     }
+    let channel = done.channel;
+    Transferred { number: 0, channel }
 }
 
 // The end that EXT brings: TP gains the offset of TX and XF clears; where TX is off nothing changes.

@@ -3,46 +3,62 @@ use crate::Data;
 use crate::Setup;
 use machine::Channel;
 ghost use mathlib.Core.Path.{_≡_};
-ghost use Rattle.words.specs.Choice.{pick};
-ghost use Rattle.memory.specs.Buffers.{buffers, byteAt};
-ghost use Rattle.memory.specs.Places.{allLent};
+ghost use mathlib.Core.Bool.{false};
+ghost use Rattle.memory.specs.Buffers.{buffers};
 ghost use Rattle.transfer.specs.Sides.{setupOf};
-ghost use Rattle.transfer.specs.Reads.{dataOf, readPlaces};
+ghost use Rattle.transfer.specs.Steps.{badMode};
+ghost use Rattle.transfer.specs.Fetches.{beyond, here, fetchOf};
 
-// The bytes read, and whether each of them is lent.
+// The bytes read, and whether each of them is lent; where one is not, none counts.
 pub(crate) struct Fetched {
     pub(crate) bytes: Data,
     pub(crate) lent: bool,
 }
 
-// The byte at an address where it is asked for, else another.
-fn byte_or(asked: bool, other: u8, sys: &[u8], io: &[u8], tag: bool, address: u32) -> u8
-    ensures { λ r. ⌜ r ≡ pick asked (byteAt (buffers (now (sys .entry)) (now (io .entry))) tag address) other ⌝ }
+// What a read beyond lent memory comes to.
+fn none() -> Fetched
+    ensures { λ r. ⌜ r ≡ beyond ⌝ }
 {
-    if asked {
-        memory::byte(sys, io, tag, address)
-    } else {
-        other
-    }
+    let bytes = Data {
+        first: 0,
+        second: 0,
+    };
+    Fetched { bytes, lent: false }
 }
 
-// The bytes to be stored, and whether all that was read for them is lent.
+// Bytes that were read.
+fn some(first: u8, second: u8) -> Fetched
+    ensures { λ r. ⌜ r ≡ here first second ⌝ }
+{
+    let bytes = Data { first, second };
+    Fetched { bytes, lent: true }
+}
+
+// The bytes to be stored, where all that is read for them is lent.
 pub(crate) fn fetch(c: Channel, p: Setup, sys: &[u8], io: &[u8]) -> Fetched
-    requires { ⌜ p ≡ setupOf c ⌝ }
-    ensures { λ r. ⌜ r ≡ record { bytes = dataOf c (buffers (now (sys .entry)) (now (io .entry))); lent = allLent (buffers (now (sys .entry)) (now (io .entry))) (readPlaces c (buffers (now (sys .entry)) (now (io .entry)))) } ⌝ }
+    requires { ⌜ (p ≡ setupOf c) × (badMode c ≡ false) ⌝ }
+    ensures { λ r. ⌜ r ≡ fetchOf c (buffers (now (sys .entry)) (now (io .entry))) ⌝ }
 {
     let source = p.source;
     let from = source.pointer;
-    let next = crate::sides::second(source);
-    let fetched = memory::byte(sys, io, from.tag, from.address);
-    let gc = c.gc;
-    let entry = words::sum20(gc.address, fetched as u32);
-    let bytes = Data {
-        first: byte_or(p.translates, fetched, sys, io, gc.tag, entry),
-        second: byte_or(p.two, 0, sys, io, from.tag, next),
-    };
-    let lent = memory::lent(sys, io, from.tag, from.address)
-        & ((!p.two | memory::lent(sys, io, from.tag, next))
-            & (!p.translates | memory::lent(sys, io, gc.tag, entry)));
-    Fetched { bytes, lent }
+    if !memory::lent(sys, io, from.tag, from.address) {
+        return none();
+    }
+    let first = memory::byte(sys, io, from.tag, from.address);
+    if p.two {
+        let next = crate::sides::second(source);
+        if !memory::lent(sys, io, from.tag, next) {
+            return none();
+        }
+        return some(first, memory::byte(sys, io, from.tag, next));
+    }
+    if p.translates {
+        let gc = c.gc;
+        let entry = words::sum20(gc.address, first as u32);
+        if !memory::lent(sys, io, gc.tag, entry) {
+            return none();
+        }
+        return some(memory::byte(sys, io, gc.tag, entry), 0);
+    }
+    some(first, 0)
 }

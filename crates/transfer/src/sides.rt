@@ -35,18 +35,11 @@ pub(crate) fn second(s: Side) -> u32
     }
 }
 
-// A pointer that gains some bytes, if it moves.
+// A pointer that goes some bytes on, if it moves.
 pub(crate) fn gained(moves: bool, p: Pointer, by: u32) -> Pointer
     ensures { λ r. ⌜ r ≡ Sides.gained moves p by ⌝ }
 {
-    if moves {
-        Pointer {
-            address: words::sum20(p.address, by),
-            tag: p.tag,
-        }
-    } else {
-        p
-    }
+    if moves { memory::onward(p, by) } else { p }
 }
 
 // What a channel says of its transfer.

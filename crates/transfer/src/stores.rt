@@ -25,12 +25,18 @@ pub(crate) struct Done {
     pub(crate) channel: Channel,
 }
 
-// What the masked compare decides.
+// What the masked compare decides; where TMC is off no byte is looked at.
 fn compare(c: Channel, p: Setup, d: Data) -> Compared
     requires { ⌜ p ≡ setupOf c ⌝ }
     ensures { λ r. ⌜ r ≡ record { two = storesTwo c d; code = codeIf (matchMet c d) (matchEnd (c .cc) % 4) } ⌝ }
 {
     let tmc = machine::cc::match_end(c.cc);
+    if tmc % 4 == 0 {
+        return Compared {
+            two: p.two,
+            code: 0,
+        };
+    }
     let first = crate::ends::meets(tmc, c.mc, d.first);
     let second = crate::ends::meets(tmc, c.mc, d.second);
     Compared {
@@ -81,23 +87,23 @@ pub(crate) fn finish(c: Channel, p: Setup, d: Data) -> Done
     }
 }
 
-// Whether the bytes of a side that a store of one or two takes are lent.
-pub(crate) fn lent(s: Side, two: bool, sys: &[u8], io: &[u8]) -> bool
-    ensures { λ r. ⌜ r ≡ allLent (buffers (now (sys .entry)) (now (io .entry))) (placesOn s two) ⌝ }
+// One byte or two stored on a side where each place is lent, else nothing; and whether they are.
+pub(crate) fn put(s: Side, two: bool, d: Data, sys: &mut [u8], io: &mut [u8]) -> bool
+    ensures { λ r. ⌜ (r ≡ allLent (buffers (now (sys .entry)) (now (io .entry))) (placesOn s two)) × (buffers (now (sys .exit)) (now (io .exit)) ≡ pick r (putOn s two d (buffers (now (sys .entry)) (now (io .entry)))) (buffers (now (sys .entry)) (now (io .entry)))) ⌝ }
 {
     let p = s.pointer;
-    memory::lent(sys, io, p.tag, p.address)
-        & (!two | memory::lent(sys, io, p.tag, crate::sides::second(s)))
-}
-
-// One byte or two stored on a side.
-pub(crate) fn put(s: Side, two: bool, d: Data, sys: &mut [u8], io: &mut [u8])
-    ensures { λ r. ⌜ buffers (now (sys .exit)) (now (io .exit)) ≡ putOn s two d (buffers (now (sys .entry)) (now (io .entry))) ⌝ }
-{
-    let p = s.pointer;
-    let next = crate::sides::second(s);
-    memory::store_byte(sys, io, p.tag, p.address, d.first);
-    if two {
-        memory::store_byte(sys, io, p.tag, next, d.second);
+    if !memory::lent(sys, io, p.tag, p.address) {
+        return false;
     }
+    if two {
+        let next = crate::sides::second(s);
+        if !memory::lent(sys, io, p.tag, next) {
+            return false;
+        }
+        memory::store_byte(sys, io, p.tag, p.address, d.first);
+        memory::store_byte(sys, io, p.tag, next, d.second);
+        return true;
+    }
+    memory::store_byte(sys, io, p.tag, p.address, d.first);
+    true
 }

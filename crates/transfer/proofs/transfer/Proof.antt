@@ -1,18 +1,55 @@
 -- `transfer::transfer` meets its contract.
 -- Assumes nothing.
 use borrow.Author.Needs.{needs}
+use borrow.Author.Tests.{not-true, not-false}
 use denote.Ref.{now}
-use mathlib.Core.Bool.{true, false}
-use mathlib.Core.Path.{_≡_, sym, _∙_}
-use Rattle.memory.specs.Buffers.{buffers}
+use mathlib.Core.Bool.{Bool, true, false, _&&_}
+use mathlib.Core.Path.{_≡_, sym, ap, ap₂, _∙_}
+use Rattle.machine.specs.declared.Channel.{Channel}
+use Rattle.memory.specs.Buffers.{Buffers, buffers}
 use Rattle.memory.specs.Places.{allLent}
-use Rattle.transfer.specs.Sides.{setupOf}
-use Rattle.transfer.specs.Steps.{touchedByTransfer, badMode}
-use Rattle.transfer.specs.Stores.{movedMemory, storedPlaces}
+use Rattle.transfer.specs.Fetches.{fetchOf}
+use Rattle.transfer.specs.Reads.{dataOf, readPlaces}
+use Rattle.transfer.specs.Sides.{destination, setupOf}
+use Rattle.transfer.specs.Steps.{transferred, touchedByTransfer}
+use Rattle.transfer.specs.Stores.{storesTwo, movedChannel, putOn, movedMemory, placesOn, storedPlaces}
+use Rattle.transfer.specs.declared.Data.{Data}
+use Rattle.transfer.specs.declared.Setup.{Setup}
+use Rattle.transfer.specs.declared.Side.{Side}
+use Rattle.transfer.specs.declared.Transferred.{Transferred}
+use Rattle.transfer.specs.declared.reads.Fetched.{Fetched}
+use Rattle.transfer.specs.declared.stores.Done.{Done}
+use Rattle.transfer.proofs.FetchLaws.{fetch-lent, fetch-bytes}
 use Rattle.transfer.proofs.StepLaws.{outcome-5, outcome-2, outcome-0}
 use Rattle.transfer.proofs.TouchLaws.{touched-lent}
 use Rattle.transfer.proofs.transfer.Statement.{statement}
 use Rattle.transfer.proofs.transfer.Tie as tie
+
+-- what a step has read and put, as its helpers say it, is what the step reads and stores
+module _ (c : Channel) (m : Buffers) (p : Setup) (f : Fetched) (done : Done) (ep : p ≡ setupOf c) (ef : f ≡ fetchOf c m)
+    (ed : done ≡ record { two = storesTwo c (f .bytes); channel = movedChannel c (f .bytes) }) where
+  reads : f .lent ≡ allLent m (readPlaces c m)
+  reads = ap (λ (x : Fetched). x .lent) ef ∙ fetch-lent c m
+
+  module _ (lent : f .lent ≡ true) where
+    read : f .bytes ≡ dataOf c m
+    read = ap (λ (x : Fetched). x .bytes) ef ∙ fetch-bytes c m (sym (ap (λ (x : Fetched). x .lent) ef) ∙ lent)
+
+    becomes : done ≡ record { two = storesTwo c (dataOf c m); channel = movedChannel c (dataOf c m) }
+    becomes = ed ∙ ap (λ (d : Data). record { two = storesTwo c d; channel = movedChannel c d }) read
+
+    places : placesOn (p .destination) (done .two) ≡ storedPlaces c (dataOf c m)
+    unfolding setupOf storedPlaces
+    places = ap₂ (λ (s : Side) (b : Bool). placesOn s b) (ap (λ (x : Setup). x .destination) ep) (ap (λ (x : Done). x .two) becomes)
+
+    puts : putOn (p .destination) (done .two) (f .bytes) m ≡ movedMemory c (dataOf c m) m
+    unfolding setupOf movedMemory
+    puts =
+        ap₂ (λ (s : Side) (b : Bool). putOn s b (f .bytes) m) (ap (λ (x : Setup). x .destination) ep) (ap (λ (x : Done). x .two) becomes)
+        ∙ ap (λ (d : Data). putOn (destination c) (storesTwo c (dataOf c m)) d m) read
+
+    all : (b : Bool) → allLent m (placesOn (p .destination) (done .two)) ≡ b → allLent m (touchedByTransfer c m) ≡ b
+    all b h = touched-lent c m ∙ ap₂ (λ (x y : Bool). x && y) (sym reads ∙ lent) (sym (ap (allLent m) places) ∙ h)
 
 plan-requires : tie.Need-plan-requires
 plan-requires c κs = search needs
@@ -20,22 +57,21 @@ plan-requires c κs = search needs
 bad-mode-requires : tie.Need-bad-mode-requires
 bad-mode-requires c κs = c .plan .ensures
 
+refused-requires : tie.Need-refused-requires
+refused-requires c κs = search needs
+
 returns : tie.Need-returns
 returns c =
-    let a = c .before .before .before .before .before .args in
-    sym (outcome-5 (a .c) (buffers (now (a .sys)) (now (a .io))) (sym (c .before .bad-mode .ensures) ∙ c .if1 .taken))
+    let a = c .before .before .before .before .before .before .args in
+    let m = buffers (now (a .sys)) (now (a .io)) in
+    ap (λ (x : Transferred). transferred (x .number) (x .channel) m) (c .refused .ensures)
+    ∙ sym (outcome-5 (a .c) m (sym (c .before .before .bad-mode .ensures) ∙ c .before .if1 .taken))
 
 fetch-requires : tie.Need-fetch-requires
-fetch-requires c κs = c .before .before .before .before .plan .ensures
+fetch-requires c κs = (c .before .before .before .before .plan .ensures, sym (c .before .before .before .bad-mode .ensures) ∙ c .before .before .if1 .left)
 
-finish-requires : tie.Need-finish-requires
-finish-requires c κs = c .before .before .before .before .before .before .plan .ensures
-
-lent-requires : tie.Need-lent-requires
-lent-requires c κs = search needs
-
-put-requires : tie.Need-put-requires
-put-requires c κs = search needs
+refused-requires-2 : tie.Need-refused-requires-2
+refused-requires-2 c κs = search needs
 
 same-length : tie.Need-same-length
 same-length c = search needs
@@ -44,15 +80,21 @@ same-length-2 : tie.Need-same-length-2
 same-length-2 c = search needs
 
 returns-2 : tie.Need-returns-2
-unfolding setupOf storedPlaces movedMemory
 returns-2 c =
-    let a = c .before .before .before .before .before .before .before .before .before .before .before .before .before .before .before .before .before .before .before .before .before .before .before .before .args in
+    let a = c .before .before .before .before .before .before .before .before .before .before .before .args in
     let m = buffers (now (a .sys)) (now (a .io)) in
-    let known : badMode (a .c) ≡ false = sym (c .before .before .before .before .before .before .before .before .before .before .before .before .before .before .before .before .before .before .before .before .bad-mode .ensures) ∙ c .before .before .before .before .before .before .before .before .before .before .before .before .before .before .before .before .before .before .before .if1 .left in
-    let all : allLent m (touchedByTransfer (a .c) m) ≡ true =
-    touched-lent (a .c) m
-    ∙ (simp (c .before .before .before .before .before .before .before .before .before .before .lent .ensures, c .before .before .before .before .before .before .before .before .before .before .before .before .before .before .finish .ensures, c .before .before .before .before .before .before .before .before .before .before .before .before .before .before .before .before .fetch .ensures, c .before .before .before .before .before .before .before .before .before .before .before .before .before .before .before .before .before .before .before .before .before .plan .ensures) at (c .before .before .before .before .before .before .before .before .if2 .taken)) in
-    rw (c .before .before .before .before .before .put .ensures, c .before .before .before .before .before .before .before .before .before .before .before .before .before .before .finish .ensures, c .before .before .before .before .before .before .before .before .before .before .before .before .before .before .before .before .fetch .ensures, c .before .before .before .before .before .before .before .before .before .before .before .before .before .before .before .before .before .before .before .before .before .plan .ensures) (sym (outcome-0 (a .c) m known all))
+    let gone : allLent m (readPlaces (a .c) m) ≡ false = sym (ap (λ (x : Fetched). x .lent) (c .before .before .before .fetch .ensures) ∙ fetch-lent (a .c) m) ∙ not-true _ (c .before .if2 .taken) in
+    ap (λ (x : Transferred). transferred (x .number) (x .channel) m) (c .refused2 .ensures)
+    ∙ sym (outcome-2 (a .c) m (sym (c .before .before .before .before .before .before .before .bad-mode .ensures) ∙ c .before .before .before .before .before .before .if1 .left) (touched-lent (a .c) m ∙ rw gone))
+
+finish-requires : tie.Need-finish-requires
+finish-requires c κs = c .before .before .before .before .before .before .before .before .plan .ensures
+
+put-requires : tie.Need-put-requires
+put-requires c κs = search needs
+
+refused-requires-3 : tie.Need-refused-requires-3
+refused-requires-3 c κs = search needs
 
 same-length-3 : tie.Need-same-length-3
 same-length-3 c = search needs
@@ -61,15 +103,31 @@ same-length-4 : tie.Need-same-length-4
 same-length-4 c = search needs
 
 returns-3 : tie.Need-returns-3
-unfolding setupOf storedPlaces
 returns-3 c =
-    let a = c .before .before .before .before .before .before .before .before .before .before .before .before .before .before .before .before .args in
+    let a = c .before .before .before .before .before .before .before .before .before .before .before .before .before .before .before .before .before .before .before .before .before .before .args in
     let m = buffers (now (a .sys)) (now (a .io)) in
-    let known : badMode (a .c) ≡ false = sym (c .before .before .before .before .before .before .before .before .before .before .before .before .bad-mode .ensures) ∙ c .before .before .before .before .before .before .before .before .before .before .before .if1 .left in
-    let all : allLent m (touchedByTransfer (a .c) m) ≡ false =
-    touched-lent (a .c) m
-    ∙ (simp (c .before .before .lent .ensures, c .before .before .before .before .before .before .finish .ensures, c .before .before .before .before .before .before .before .before .fetch .ensures, c .before .before .before .before .before .before .before .before .before .before .before .before .before .plan .ensures) at (c .if2 .left)) in
-    sym (outcome-2 (a .c) m known all)
+    let no = not-true _ (c .before .if3 .taken) in
+    let touched = all (a .c) m (c .before .before .before .before .before .before .before .before .before .before .before .before .before .before .before .before .before .before .before .plan .result) (c .before .before .before .before .before .before .before .before .before .before .before .before .before .before .fetch .result) (c .before .before .before .before .before .before .before .before .before .before .finish .result) (c .before .before .before .before .before .before .before .before .before .before .before .before .before .before .before .before .before .before .before .plan .ensures) (c .before .before .before .before .before .before .before .before .before .before .before .before .before .before .fetch .ensures) (c .before .before .before .before .before .before .before .before .before .before .finish .ensures) (not-false _ (c .before .before .before .before .before .before .before .before .before .before .before .before .if2 .left)) false (sym (c .before .before .before .before .before .before .put .ensures .0) ∙ no) in
+    ap₂ (λ (x : Transferred) (y : Buffers). transferred (x .number) (x .channel) y) (c .refused3 .ensures) (c .before .before .before .before .before .before .put .ensures .1 ∙ rw no)
+    ∙ sym (outcome-2 (a .c) m (sym (c .before .before .before .before .before .before .before .before .before .before .before .before .before .before .before .before .before .before .bad-mode .ensures) ∙ c .before .before .before .before .before .before .before .before .before .before .before .before .before .before .before .before .before .if1 .left) touched)
+
+same-length-5 : tie.Need-same-length-5
+same-length-5 c = search needs
+
+same-length-6 : tie.Need-same-length-6
+same-length-6 c = search needs
+
+returns-4 : tie.Need-returns-4
+returns-4 c =
+    let a = c .before .before .before .before .before .before .before .before .before .before .before .before .before .before .before .before .before .before .before .before .before .before .args in
+    let m = buffers (now (a .sys)) (now (a .io)) in
+    let yes = not-false _ (c .before .if3 .left) in
+    let lent = not-false _ (c .before .before .before .before .before .before .before .before .before .before .before .before .if2 .left) in
+    let touched = all (a .c) m (c .before .before .before .before .before .before .before .before .before .before .before .before .before .before .before .before .before .before .before .plan .result) (c .before .before .before .before .before .before .before .before .before .before .before .before .before .before .fetch .result) (c .before .before .before .before .before .before .before .before .before .before .finish .result) (c .before .before .before .before .before .before .before .before .before .before .before .before .before .before .before .before .before .before .before .plan .ensures) (c .before .before .before .before .before .before .before .before .before .before .before .before .before .before .fetch .ensures) (c .before .before .before .before .before .before .before .before .before .before .finish .ensures) lent true (sym (c .before .before .before .before .before .before .put .ensures .0) ∙ yes) in
+    ap₂ (λ (x : Done) (y : Buffers). transferred 0 (x .channel) y)
+    (becomes (a .c) m (c .before .before .before .before .before .before .before .before .before .before .before .before .before .before .before .before .before .before .before .plan .result) (c .before .before .before .before .before .before .before .before .before .before .before .before .before .before .fetch .result) (c .before .before .before .before .before .before .before .before .before .before .finish .result) (c .before .before .before .before .before .before .before .before .before .before .before .before .before .before .before .before .before .before .before .plan .ensures) (c .before .before .before .before .before .before .before .before .before .before .before .before .before .before .fetch .ensures) (c .before .before .before .before .before .before .before .before .before .before .finish .ensures) lent)
+    (c .before .before .before .before .before .before .put .ensures .1 ∙ rw yes (puts (a .c) m (c .before .before .before .before .before .before .before .before .before .before .before .before .before .before .before .before .before .before .before .plan .result) (c .before .before .before .before .before .before .before .before .before .before .before .before .before .before .fetch .result) (c .before .before .before .before .before .before .before .before .before .before .finish .result) (c .before .before .before .before .before .before .before .before .before .before .before .before .before .before .before .before .before .before .before .plan .ensures) (c .before .before .before .before .before .before .before .before .before .before .before .before .before .before .fetch .ensures) (c .before .before .before .before .before .before .before .before .before .before .finish .ensures) lent))
+    ∙ sym (outcome-0 (a .c) m (sym (c .before .before .before .before .before .before .before .before .before .before .before .before .before .before .before .before .before .before .bad-mode .ensures) ∙ c .before .before .before .before .before .before .before .before .before .before .before .before .before .before .before .before .before .if1 .left) touched)
 
 pub transfer-spec : {M : Type 1} → statement M
 transfer-spec =
@@ -77,14 +135,19 @@ transfer-spec =
     (tie.spec
     plan-requires
     bad-mode-requires
+    refused-requires
     returns
     fetch-requires
-    finish-requires
-    lent-requires
-    put-requires
+    refused-requires-2
     same-length
     same-length-2
     returns-2
+    finish-requires
+    put-requires
+    refused-requires-3
     same-length-3
     same-length-4
-    returns-3)
+    returns-3
+    same-length-5
+    same-length-6
+    returns-4)

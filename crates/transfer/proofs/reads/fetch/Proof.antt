@@ -1,17 +1,59 @@
 -- `transfer::reads/fetch` meets its contract.
 -- Assumes nothing.
+use Prim.Native.Nat.{ℕ}
 use borrow.Author.Needs.{needs}
-use Rattle.transfer.specs.Reads.{fetched, fetchedSecond, entryOf, delivered, dataOf}
-use Rattle.transfer.specs.Sides.{setupOf}
-use Rattle.transfer.proofs.TouchLaws.{reads-lent}
+use borrow.Author.Tests.{not-true, not-false}
+use denote.Ref.{now}
+use mathlib.Core.Path.{sym, ap, _∙_}
+use Rattle.memory.specs.Buffers.{buffers}
+use Rattle.transfer.specs.Fetches.{here}
+use Rattle.transfer.proofs.FetchLaws.{source-beyond, second-beyond, both-read, entry-beyond, translated, one-read}
 use Rattle.transfer.proofs.reads.fetch.Statement.{statement}
 use Rattle.transfer.proofs.reads.fetch.Tie as tie
+
+lent-requires : tie.Need-lent-requires
+lent-requires c κs = search needs
+
+none-requires : tie.Need-none-requires
+none-requires c κs = search needs
+
+returns : tie.Need-returns
+returns c =
+    let a = c .before .before .before .before .before .before .before .args in
+    c .none .ensures ∙ sym (source-beyond (a .c) (buffers (now (a .sys)) (now (a .io))) (a .p) (c .before .before .before .before .before .before .before .pre .0) (sym (c .before .before .lent .ensures) ∙ not-true _ (c .before .if1 .taken)))
+
+byte-requires : tie.Need-byte-requires
+byte-requires c κs = search needs
 
 second-requires : tie.Need-second-requires
 second-requires c κs = search needs
 
-byte-requires : tie.Need-byte-requires
-byte-requires c κs = search needs
+lent-requires-2 : tie.Need-lent-requires-2
+lent-requires-2 c κs = search needs
+
+none-requires-2 : tie.Need-none-requires-2
+none-requires-2 c κs = search needs
+
+returns-2 : tie.Need-returns-2
+returns-2 c =
+    let a = c .before .before .before .before .before .before .before .before .before .before .before .before .args in
+    c .none2 .ensures
+    ∙ sym
+    (second-beyond (a .c) (buffers (now (a .sys)) (now (a .io))) (a .p) (c .before .before .before .before .before .before .before .before .before .before .before .before .pre .0) (c .before .before .before .second .result) (sym (c .before .before .before .before .before .before .before .lent .ensures) ∙ not-false _ (c .before .before .before .before .before .before .if1 .left)) (c .before .before .before .before .if2 .taken) (c .before .before .before .second .ensures) (sym (c .before .before .lent2 .ensures) ∙ not-true _ (c .before .if3 .taken)))
+
+byte-requires-2 : tie.Need-byte-requires-2
+byte-requires-2 c κs = search needs
+
+some-requires : tie.Need-some-requires
+some-requires c κs = search needs
+
+returns-3 : tie.Need-returns-3
+returns-3 c =
+    let a = c .before .before .before .before .before .before .before .before .before .before .before .before .before .args in
+    c .some .ensures
+    ∙ ap (here (c .before .before .before .before .before .before .byte .result)) (c .before .byte2 .ensures)
+    ∙ sym
+    (both-read (a .c) (buffers (now (a .sys)) (now (a .io))) (a .p) (c .before .before .before .before .before .before .before .before .before .before .before .before .before .pre .0) (c .before .before .before .before .before .before .byte .result) (c .before .before .before .before .second .result) (c .before .before .before .before .before .before .before .before .before .before .before .before .before .pre .1) (sym (c .before .before .before .before .before .before .before .before .lent .ensures) ∙ not-false _ (c .before .before .before .before .before .before .before .if1 .left)) (c .before .before .before .before .before .before .byte .ensures) (c .before .before .before .before .before .if2 .taken) (c .before .before .before .before .second .ensures) (sym (c .before .before .before .lent2 .ensures) ∙ not-false _ (c .before .before .if3 .left)))
 
 cast-sum20 : tie.Need-cast-sum20
 cast-sum20 c = search needs
@@ -19,37 +61,65 @@ cast-sum20 c = search needs
 sum20-requires : tie.Need-sum20-requires
 sum20-requires c κs = search needs
 
-byte-or-requires : tie.Need-byte-or-requires
-byte-or-requires c κs = search needs
-
-byte-or-requires-2 : tie.Need-byte-or-requires-2
-byte-or-requires-2 c κs = search needs
-
-lent-requires : tie.Need-lent-requires
-lent-requires c κs = search needs
-
-lent-requires-2 : tie.Need-lent-requires-2
-lent-requires-2 c κs = search needs
-
 lent-requires-3 : tie.Need-lent-requires-3
 lent-requires-3 c κs = search needs
 
-returns : tie.Need-returns
-unfolding setupOf dataOf delivered fetched fetchedSecond entryOf
-returns c =
-    rw (reads-lent, c .lent3 .ensures, c .before .before .lent2 .ensures, c .before .before .before .before .lent .ensures, c .before .before .before .before .before .byte-or2 .ensures, c .before .before .before .before .before .before .byte-or .ensures, c .before .before .before .before .before .before .before .sum20 .ensures, c .before .before .before .before .before .before .before .before .before .byte .ensures, c .before .before .before .before .before .before .before .before .before .before .second .ensures, c .before .before .before .before .before .before .before .before .before .before .before .before .before .before .before .pre)
+none-requires-3 : tie.Need-none-requires-3
+none-requires-3 c κs = search needs
+
+returns-4 : tie.Need-returns-4
+returns-4 c =
+    let a = c .before .before .before .before .before .before .before .before .before .before .before .before .before .before .args in
+    c .none3 .ensures
+    ∙ sym
+    (entry-beyond (a .c) (buffers (now (a .sys)) (now (a .io))) (a .p) (c .before .before .before .before .before .before .before .before .before .before .before .before .before .before .pre .0) (c .before .before .before .before .before .before .before .byte .result) (c .before .before .before .sum20 .result) (sym (c .before .before .before .before .before .before .before .before .before .lent .ensures) ∙ not-false _ (c .before .before .before .before .before .before .before .before .if1 .left)) (c .before .before .before .before .before .before .before .byte .ensures) (c .before .before .before .before .before .before .if2 .left) (c .before .before .before .before .before .if4 .taken) (c .before .before .before .sum20 .ensures) (sym (c .before .before .lent3 .ensures) ∙ not-true _ (c .before .if5 .taken)))
+
+byte-requires-3 : tie.Need-byte-requires-3
+byte-requires-3 c κs = search needs
+
+some-requires-2 : tie.Need-some-requires-2
+some-requires-2 c κs = search needs
+
+returns-5 : tie.Need-returns-5
+returns-5 c =
+    let a = c .before .before .before .before .before .before .before .before .before .before .before .before .before .before .before .args in
+    c .some2 .ensures
+    ∙ ap (λ (n : ℕ). here n 0) (c .before .byte3 .ensures)
+    ∙ sym
+    (translated (a .c) (buffers (now (a .sys)) (now (a .io))) (a .p) (c .before .before .before .before .before .before .before .before .before .before .before .before .before .before .before .pre .0) (c .before .before .before .before .before .before .before .before .byte .result) (c .before .before .before .before .sum20 .result) (sym (c .before .before .before .before .before .before .before .before .before .before .lent .ensures) ∙ not-false _ (c .before .before .before .before .before .before .before .before .before .if1 .left)) (c .before .before .before .before .before .before .before .before .byte .ensures) (c .before .before .before .before .before .before .before .if2 .left) (c .before .before .before .before .before .before .if4 .taken) (c .before .before .before .before .sum20 .ensures) (sym (c .before .before .before .lent3 .ensures) ∙ not-false _ (c .before .before .if5 .left)))
+
+some-requires-3 : tie.Need-some-requires-3
+some-requires-3 c κs = search needs
+
+returns-6 : tie.Need-returns-6
+returns-6 c =
+    let a = c .before .before .before .before .before .before .before .before .before .before .args in
+    c .some3 .ensures
+    ∙ sym
+    (one-read (a .c) (buffers (now (a .sys)) (now (a .io))) (a .p) (c .before .before .before .before .before .before .before .before .before .before .pre .0) (c .before .before .before .byte .result) (sym (c .before .before .before .before .before .lent .ensures) ∙ not-false _ (c .before .before .before .before .if1 .left)) (c .before .before .before .byte .ensures) (c .before .before .if2 .left) (c .before .if4 .left))
 
 pub fetch-spec : {M : Type 1} → statement M
 fetch-spec =
     tie.close
     (tie.spec
-    second-requires
+    lent-requires
+    none-requires
+    returns
     byte-requires
+    second-requires
+    lent-requires-2
+    none-requires-2
+    returns-2
+    byte-requires-2
+    some-requires
+    returns-3
     cast-sum20
     sum20-requires
-    byte-or-requires
-    byte-or-requires-2
-    lent-requires
-    lent-requires-2
     lent-requires-3
-    returns)
+    none-requires-3
+    returns-4
+    byte-requires-3
+    some-requires-2
+    returns-5
+    some-requires-3
+    returns-6)

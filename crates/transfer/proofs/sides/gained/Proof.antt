@@ -5,16 +5,16 @@ use Rattle.transfer.specs.Sides.{gained}
 use Rattle.transfer.proofs.sides.gained.Statement.{statement}
 use Rattle.transfer.proofs.sides.gained.Tie as tie
 
-sum20-requires : tie.Need-sum20-requires
-sum20-requires c κs = search needs
+onward-requires : tie.Need-onward-requires
+onward-requires c κs = search needs
 
 returns : tie.Need-returns
 unfolding gained
-returns c = rw (c .sum20 .ensures, c .before .if1 .taken)
+returns c = rw (c .onward .ensures, c .before .if1 .taken)
 
 returns-2 : tie.Need-returns-2
 unfolding gained
 returns-2 c = rw (c .if1 .left)
 
 pub gained-spec : {M : Type 1} → statement M
-gained-spec = tie.close (tie.spec sum20-requires returns returns-2)
+gained-spec = tie.close (tie.spec onward-requires returns returns-2)

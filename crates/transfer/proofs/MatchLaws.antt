@@ -1,0 +1,28 @@
+-- The laws of a masked compare that is off: no byte meets it.
+-- Assumes nothing.
+use Prim.Native.Nat.{ℕ, _%_}
+use borrow.Author.Tests.{eq-eqb}
+use mathlib.Core.Bool.{false}
+use mathlib.Core.Path.{_≡_}
+use Rattle.machine.specs.Cc.{matchEnd}
+use Rattle.machine.specs.declared.Channel.{Channel}
+use Rattle.words.proofs.ChoiceLaws.{and-true, and-false}
+use Rattle.transfer.specs.Ends.{meetsTmc}
+use Rattle.transfer.specs.Sides.{twoMove, storedSingly}
+use Rattle.transfer.specs.Stores.{firstMeets, matchMet, cutShort, storesTwo}
+use Rattle.transfer.specs.declared.Data.{Data}
+
+-- no byte meets a TMC that is off
+off : (tmc mc byte : ℕ) → tmc % 4 ≡ 0 → meetsTmc tmc mc byte ≡ false
+unfolding meetsTmc
+off tmc mc byte h = rw (eq-eqb (tmc % 4) 0 h)
+
+-- so all bytes that move are stored
+pub off-stores : (c : Channel) (d : Data) → matchEnd (c .cc) % 4 ≡ 0 → storesTwo c d ≡ twoMove c
+unfolding storesTwo cutShort firstMeets
+off-stores c d h = rw (off (matchEnd (c .cc)) (c .mc) (d .first) h, and-false) (and-true (twoMove c))
+
+-- and no end comes of it
+pub off-unmet : (c : Channel) (d : Data) → matchEnd (c .cc) % 4 ≡ 0 → matchMet c d ≡ false
+unfolding matchMet firstMeets
+off-unmet c d h = rw (off (matchEnd (c .cc)) (c .mc) (d .first) h, off (matchEnd (c .cc)) (c .mc) (d .second) h) (and-false (storedSingly c))
