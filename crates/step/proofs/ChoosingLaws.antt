@@ -1,4 +1,4 @@
--- The laws of who steps: the lines, the ranks and the choice, each in the paper's words.
+-- The laws of who steps: the lines, the ranks and the choice (§5.1 to §5.4).
 -- Assumes nothing.
 use Prim.Native.Nat.{ℕ, _+_, _<_, _≤_}
 use borrow.Author.Tests.{eqb-false, lt-ltb, le-ltb}
@@ -25,7 +25,7 @@ use Rattle.step.specs.declared.turns.Choice.the-variants.{Nobody, Ends, 
 
 -- ---- the lines
 
--- "summed from: DRQ of channel 1 = 1, of channel 2 = 2; EXT of channel 1 = 4, of channel 2 = 8"
+-- the line number of the lines that are up (§5.1)
 abbrev pub summed : Bool → Bool → Bool → Bool → ℕ
 summed drq₁ drq₂ ext₁ ext₂ = pick drq₁ 1 0 + pick drq₂ 2 0 + pick ext₁ 4 0 + pick ext₂ 8 0
 
@@ -53,7 +53,7 @@ lines-read false false false false = (refl, refl, refl, refl)
 
 -- ---- external ends and ranks
 
--- "A running channel with XF, TX not 00 and its EXT up"
+-- the test for an external end says that one is due (§5.2)
 pub says-ends : (c : Channel) (ext : Bool) → Says (endsNow c ext) (EndsNow c ext)
 unfolding endsNow
 says-ends c ext =
@@ -66,7 +66,7 @@ says-ends c ext =
         ((((c .mode ≡ Running) × (transferring (c .psw) ≡ true)) × ¬ (externalEnd (c .cc) ≡ 0)) × (ext ≡ true))
     all = says-and (says-and (says-and (says-running (c .mode)) (says-true (transferring (c .psw)))) (says-not (says-eqb (externalEnd (c .cc)) 0))) (says-true ext)
 
--- "SYN 00, or its DRQ up, or SYN 11"
+-- so does that for a transfer that need not wait (§5.3)
 says-moves : (syn : ℕ) (drq : Bool) → Says (eqb syn 0 || drq || eqb syn 3) ((syn ≡ 0) ⊎ ((drq ≡ true) ⊎ (syn ≡ 3)))
 says-moves syn drq =
     record {
@@ -99,14 +99,14 @@ by-rank c drq P one three none =
 one-three : (c : Channel) (drq : Bool) → RankOne c drq → RankThree c → ⊥
 one-three c drq k h = ⊎-elim (λ a. apart (sym (a .0) ∙ h .1)) (λ a. apart (sym (a .1) ∙ h .2)) (k .1)
 
--- "rank 1: XF with SYN 00, or its DRQ up, or SYN 11; no XF and CC bit 8 (chained)"
+-- rank 1 is that of a transfer that need not wait and of a chained program
 pub rank-one : (c : Channel) (drq : Bool) → rankOf c drq ≡ 1 ↔ RankOne c drq
 rank-one c drq = (
   by-rank c drq (λ n. n ≡ 1 → RankOne c drq) (λ h e. h) (λ h e. absurd (eqb-false 3 1 refl e)) (λ h e. absurd (eqb-false 4 1 refl e)),
   by-rank c drq (λ n. RankOne c drq → n ≡ 1) (λ h k. refl) (λ h k. absurd (one-three c drq k h)) (λ h k. absurd (h (inl k))),
 )
 
--- "Rank 3: no XF, not chained"
+-- rank 3 is that of a program that is not chained
 pub rank-three : (c : Channel) (drq : Bool) → rankOf c drq ≡ 3 ↔ RankThree c
 rank-three c drq = (
   by-rank c drq (λ n. n ≡ 3 → RankThree c) (λ h e. absurd (eqb-false 1 3 refl e)) (λ h e. h) (λ h e. absurd (eqb-false 4 3 refl e)),
@@ -207,7 +207,7 @@ named (Steps b) = b
 other : {A : Type 0} {x y : Choice} → eqb (variant x) (variant y) ≡ false → x ≡ y → A
 other {x = x} {y = y} ne e = absurd (eqb-false (variant x) (variant y) ne (ap variant e))
 
--- an external end "goes first, channel 1 before 2"
+-- an external end comes first, that of channel 1 before that of channel 2 (§5.2)
 pub first-ends : (s : State) (lines : ℕ) → ExternalAt s lines false → choiceOf s lines ≡ Ends false
 first-ends s lines h = by-choice s lines (λ x. x ≡ Ends false) (λ k. refl) (λ n k. absurd (n h)) (λ n a b. absurd (n false h)) (λ n a. absurd (n false h))
 
@@ -244,7 +244,7 @@ pub chosen-running : (s : State) (lines : ℕ) (second : Bool) → (choiceOf s l
 chosen-running s lines second =
     ⊎-elim (λ e. ends-chosen s lines second e .0) (λ e. ⊎-elim (λ h. h .0) (λ h. h .0) (steps-chosen s lines second e .1))
 
--- "no channel can run" exactly where no transfer is ended and no channel has a rank
+-- nobody steps exactly where no transfer is ended and no channel has a rank (§5.5)
 pub nobody-runs : (s : State) (lines : ℕ) → choiceOf s lines ≡ Nobody ↔ NoneRuns s lines
 unfolding variant
 nobody-runs s lines = (
@@ -267,7 +267,7 @@ turn : (s : State) (lines : ℕ) → NoneEnds s lines → ¬ ((rankAt s lines fa
 turn s lines n ne =
     by-choice s lines (λ x. x ≡ Steps (secondOf s lines)) (λ k. absurd (n false k)) (λ _ k. absurd (n true k)) (λ _ a b. absurd (ne (a, b))) (λ _ _. refl)
 
--- "Lower rank wins"
+-- the lower rank goes (§5.4)
 pub lower-rank-wins : (s : State) (lines : ℕ) (b : Bool) → NoneEnds s lines → rankAt s lines b < rankAt s lines (not b) → choiceOf s lines ≡ Steps b
 lower-rank-wins s lines true n h =
     turn s lines n (λ z. omega (arith, z .0, z .1, h))
@@ -276,7 +276,7 @@ lower-rank-wins s lines false n h =
     turn s lines n (λ z. omega (arith, z .0, z .1, h))
     ∙ ap Steps (lower (rankAt s lines false) (rankAt s lines true) (priority (channelOf s false .psw)) (priority (channelOf s true .psw)) (s .last) h)
 
--- "then PSW bit 7 at 1"
+-- at equal rank, the one whose priority bit is set where the other's is clear
 pub priority-wins : (s : State) (lines : ℕ) (b : Bool) → NoneEnds s lines → RankedAt s lines b → rankAt s lines b ≡ rankAt s lines (not b)
     → priority (channelOf s b .psw) ≡ true → priority (channelOf s (not b) .psw) ≡ false → choiceOf s lines ≡ Steps b
 priority-wins s lines true n r e p q =
@@ -286,7 +286,7 @@ priority-wins s lines false n r e p q =
     turn s lines n (λ z. rank-none (channelOf s false) (requested lines false) .0 (z .0) r)
     ∙ ap Steps (tied (rankAt s lines false) (rankAt s lines true) (priority (channelOf s false .psw)) (priority (channelOf s true .psw)) (s .last) e ∙ rw (p, q))
 
--- "then the channel that did not step last"
+-- where these are equal too, the one that is not last
 pub other-turn : (s : State) (lines : ℕ) → NoneEnds s lines → RankedAt s lines false → rankAt s lines false ≡ rankAt s lines true
     → priority (channelOf s false .psw) ≡ priority (channelOf s true .psw) → choiceOf s lines ≡ Steps (not (s .last))
 other-turn s lines n r e p =

@@ -1,4 +1,5 @@
 pub mod ChoosingLaws
+pub mod StayLaws
 pub mod StepLaws
 pub mod OutcomeLaws
 pub mod NumberLaws

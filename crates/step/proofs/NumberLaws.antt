@@ -16,10 +16,11 @@ use Rattle.machine.specs.Cc.{synchronised, translates}
 use Rattle.machine.specs.Conditions.{check, Given, TooLong, NotSound, Beyond}
 use Rattle.machine.specs.Outcomes.{first, unless, givenNumber}
 use Rattle.machine.specs.Psw.{transferring, sourceWide, destinationWide}
-use Rattle.machine.specs.States.{channelOf, sound}
+use Rattle.machine.specs.States.{channelOf, blockOf, busyIn, sound}
 use Rattle.machine.specs.declared.Channel.{Channel}
 use Rattle.machine.specs.declared.State.{State}
 use Rattle.memory.specs.Buffers.{Buffers, withinLimits}
+use Rattle.transfer.proofs.StepLaws.{chain}
 use Rattle.transfer.specs.Reads.{dataOf}
 use Rattle.transfer.specs.Sides.{source, destination}
 use Rattle.transfer.specs.Steps.{transferred, touchedByTransfer, badMode, transferNumber, transferOf}
@@ -32,7 +33,7 @@ use Rattle.step.specs.declared.turns.Choice.{Choice}
 use Rattle.step.specs.declared.turns.Choice.the-variants.{Nobody, Ends, Steps}
 use Rattle.step.proofs.ChoosingLaws.{ends-chosen, steps-chosen, nobody-runs}
 use Rattle.step.specs.Conditions.{LinesOver, BadTransfer, transferChecks, chosenChecks, stepChecks, StepAfterGiven, OnEnd, OnTransfer, OnInstruction}
-use Rattle.step.specs.Step.{Step, refusedStep, settledStep, busyTo, transferStep, instructionStep, externalStep, channelStep, chosenStep, entryNumber, stepOf}
+use Rattle.step.specs.Step.{Step, refusedStep, settledStep, transferStep, instructionStep, externalStep, channelStep, chosenStep, entryNumber, stepOf}
 use Rattle.step.specs.declared.Kind.{Kind}
 
 -- ---- the chain of a step
@@ -43,11 +44,11 @@ refused-first zero o s m = refl
 refused-first (suc k) o s m = rw (eqb·suc-zero k)
 
 -- 12, 11, 10, then that of the choice
-chain : (s : State) (m : Buffers) (lines : ℕ)
+in-order : (s : State) (m : Buffers) (lines : ℕ)
     → (stepOf s m lines) .number
     ≡ first (unless (ltb lines 16) 12) (first (unless (withinLimits m) 11) (first (unless (sound s) 10) ((chosenStep (choiceOf s lines) s m) .number)))
 unfolding stepOf entryNumber givenNumber
-chain s m lines =
+in-order s m lines =
     let x = chosenStep (choiceOf s lines) s m in
     refused-first (first (unless (ltb lines 16) 12) (first (unless (withinLimits m) 11) (unless (sound s) 10))) x s m
     ∙ first-assoc (unless (ltb lines 16) 12) (first (unless (withinLimits m) 11) (unless (sound s) 10)) (x .number)
@@ -74,8 +75,7 @@ unfolding badMode source destination
 told-bad c = told-by (says-or (says-eqb (synchronised (c .cc)) 3) (says-and (says-true (translates (c .cc))) (says-or (says-true (sourceWide (c .psw))) (says-true (destinationWide (c .psw))))))
 
 transfer-given : (c : Channel) (m : Buffers) (n : ℕ) → ((transferOf c m) .number ≡ n) ↔ Given (transferChecks c m) n
-unfolding transferNumber
-transfer-given c m n = rewritten (moved-number c m) (step 5 refl (told-bad c) (last n 2 refl (told-lent m (touchedByTransfer c m))))
+transfer-given c m n = rewritten (moved-number c m ∙ chain c m) (step 5 refl (told-bad c) (last n 2 refl (told-lent m (touchedByTransfer c m))))
 
 -- a check that does not apply
 passed : {A G : Type 0} {x n : ℕ} (k : ℕ) → ¬ A → ((x ≡ n) ↔ G) → (x ≡ n) ↔ ((A × (n ≡ k)) ⊎ (¬ A × G))
@@ -86,13 +86,13 @@ unfolding channelStep transferStep instructionStep
 turn-given s m b n = go (transferring (channelOf s b .psw))
   where
     go : (x : Bool) → ((pick x (transferStep s m b) (instructionStep s m b)) .number ≡ n)
-        ↔ Given (pick x (transferChecks (channelOf s b) m) (instructionChecks m (channelOf s b) (busyTo s b))) n
+        ↔ Given (pick x (transferChecks (channelOf s b) m) (instructionChecks m (channelOf s b) (busyIn (blockOf s b)))) n
     go true =
         let t = transferOf (channelOf s b) m in
         rewritten (settled-number (t .number) s m b (t .channel) (t .memory) Kind.Transfer) (transfer-given (channelOf s b) m n)
     go false =
-        let x = executeOf (channelOf s b) (busyTo s b) m in
-        rewritten (settled-number (x .number) s m b (x .channel) (x .memory) Kind.Instruction) (instruction-given m (channelOf s b) (busyTo s b) n)
+        let x = executeOf (channelOf s b) (busyIn (blockOf s b)) m in
+        rewritten (settled-number (x .number) s m b (x .channel) (x .memory) Kind.Instruction) (instruction-given m (channelOf s b) (busyIn (blockOf s b)) n)
 
 -- 1, then the checks of who was chosen
 chosen-given : (s : State) (m : Buffers) (lines n : ℕ) (x : Choice) → choiceOf s lines ≡ x
@@ -104,10 +104,10 @@ chosen-given s m lines n Nobody e =
 chosen-given s m lines n (Ends b) e = passed 1 (λ h. h b (inl (ends-chosen s lines b e))) (sym, sym)
 chosen-given s m lines n (Steps b) e = passed 1 (λ h. h b (inr (steps-chosen s lines b e .1))) (turn-given s m b n)
 
--- "given exactly when, and no earlier check applies": the number of a step is that of the first check that applies, 0 where none does
+-- the number of a step is that of the first check that applies, 0 where none does (§3.2)
 pub number-given : (s : State) (m : Buffers) (lines n : ℕ) → ((stepOf s m lines) .number ≡ n) ↔ Given (stepChecks s m lines) n
 number-given s m lines n =
-    rewritten (chain s m lines)
+    rewritten (in-order s m lines)
     (step 12 refl (told-ltb lines 16)
     (step 11 refl (told-limits m)
     (step 10 refl (told-sound s)
@@ -131,29 +131,29 @@ module _ (s : State) (m : Buffers) (lines : ℕ) where
   chosen-never n n₀ n₂ n₃ n₄ n₅ (Ends b) = eqb-false n 0 n₀
   chosen-never n n₀ n₂ n₃ n₄ n₅ (Steps b) = go (transferring (channelOf s b .psw))
     where
-      go : (x : Bool) → ¬ (Given (pick x (transferChecks (channelOf s b) m) (instructionChecks m (channelOf s b) (busyTo s b))) n)
+      go : (x : Bool) → ¬ (Given (pick x (transferChecks (channelOf s b) m) (instructionChecks m (channelOf s b) (busyIn (blockOf s b)))) n)
       go true = never n (transferChecks (channelOf s b) m) (rw (n₀, n₂, n₅))
-      go false = never n (instructionChecks m (channelOf s b) (busyTo s b)) (rw (n₀, n₂, n₃, n₄))
+      go false = never n (instructionChecks m (channelOf s b) (busyIn (blockOf s b))) (rw (n₀, n₂, n₃, n₄))
 
-  -- 12: "line number over 15"
+  -- 12: a line number over 15
   pub exactly-12 : ((stepOf s m lines) .number ≡ 12) ↔ LinesOver lines
   exactly-12 =
       Iff·trans (number-given s m lines 12)
       (hit (λ g. chosen-never 12 refl refl refl refl refl (choiceOf s lines) ((skip refl (skip refl (skip refl Iff·rfl))) .0 g .1 .1 .1)))
 
-  -- 11: "a lent buffer longer than its limit"
+  -- 11: a buffer that is longer than its limit
   pub exactly-11 : ((stepOf s m lines) .number ≡ 11) ↔ (¬ (LinesOver lines) × TooLong m)
   exactly-11 =
       Iff·trans (number-given s m lines 11)
       (skip refl (hit (λ g. chosen-never 11 refl refl refl refl refl (choiceOf s lines) ((skip refl (skip refl Iff·rfl)) .0 g .1 .1))))
 
-  -- 10: "a pointer, PP or CP in the given state is 1,048,576 or more"
+  -- 10: a state that is not sound
   pub exactly-10 : ((stepOf s m lines) .number ≡ 10) ↔ (¬ (LinesOver lines) × (¬ (TooLong m) × NotSound s))
   exactly-10 =
       Iff·trans (number-given s m lines 10)
       (skip refl (skip refl (hit (λ g. chosen-never 10 refl refl refl refl refl (choiceOf s lines) ((skip refl Iff·rfl) .0 g .1)))))
 
-  -- 1: "no channel can run"
+  -- 1: nobody can step
   pub exactly-1 : ((stepOf s m lines) .number ≡ 1) ↔ StepAfterGiven s m lines (NoneRuns s lines)
   exactly-1 =
       Iff·trans (number-given s m lines 1)
@@ -163,7 +163,7 @@ module _ (s : State) (m : Buffers) (lines : ℕ) where
   Own : Choice → ℕ → Type 0
   Own x n =
       OnEnd x s (λ b. n ≡ 0)
-      ⊎ (OnTransfer x s (λ b. Given (transferChecks (channelOf s b) m) n) ⊎ OnInstruction x s (λ b. Given (instructionChecks m (channelOf s b) (busyTo s b)) n))
+      ⊎ (OnTransfer x s (λ b. Given (transferChecks (channelOf s b) m) n) ⊎ OnInstruction x s (λ b. Given (instructionChecks m (channelOf s b) (busyIn (blockOf s b))) n))
 
   own-cases : (n : ℕ) (x : Choice) → eqb n 1 ≡ false → choiceOf s lines ≡ x
       → ((NoneRuns s lines × (n ≡ 1)) ⊎ (¬ (NoneRuns s lines) × Given (chosenChecks x s m) n)) ↔ Own x n
@@ -181,8 +181,8 @@ module _ (s : State) (m : Buffers) (lines : ℕ) where
       runs h = h b (inr (steps-chosen s lines b e .1))
 
       go : (x : Bool) → transferring (channelOf s b .psw) ≡ x
-          → ((NoneRuns s lines × (n ≡ 1)) ⊎ (¬ (NoneRuns s lines) × Given (pick x (transferChecks (channelOf s b) m) (instructionChecks m (channelOf s b) (busyTo s b))) n))
-          ↔ (⊥ ⊎ (((x ≡ true) × Given (transferChecks (channelOf s b) m) n) ⊎ ((x ≡ false) × Given (instructionChecks m (channelOf s b) (busyTo s b)) n)))
+          → ((NoneRuns s lines × (n ≡ 1)) ⊎ (¬ (NoneRuns s lines) × Given (pick x (transferChecks (channelOf s b) m) (instructionChecks m (channelOf s b) (busyIn (blockOf s b)))) n))
+          ↔ (⊥ ⊎ (((x ≡ true) × Given (transferChecks (channelOf s b) m) n) ⊎ ((x ≡ false) × Given (instructionChecks m (channelOf s b) (busyIn (blockOf s b))) n)))
       go true f = (
         ⊎-elim (λ h. absurd (eqb-false n 1 ne (h .1))) (λ h. inr (inl (refl, h .1))),
         ⊎-elim (λ h. absurd h) (⊎-elim (λ h. inr (runs, h .1)) (λ h. apart (h .0))),
@@ -230,27 +230,27 @@ module _ (s : State) (m : Buffers) (lines : ℕ) where
       (skip n₁₂ (skip n₁₁ (skip n₁₀ (Iff·trans (own-cases n (choiceOf s lines) n₁ refl) q))))
 
   -- what an instruction's checks give is what its own law says of that number
-  by-instruction : {Q : Type 0} (n : ℕ) (b : Bool) → ((executeOf (channelOf s b) (busyTo s b) m) .number ≡ n ↔ Q) → Given (instructionChecks m (channelOf s b) (busyTo s b)) n ↔ Q
-  by-instruction n b q = let h = instruction-given m (channelOf s b) (busyTo s b) n in (λ g. q .0 (h .1 g), λ k. h .0 (q .1 k))
+  by-instruction : {Q : Type 0} (n : ℕ) (b : Bool) → ((executeOf (channelOf s b) (busyIn (blockOf s b)) m) .number ≡ n ↔ Q) → Given (instructionChecks m (channelOf s b) (busyIn (blockOf s b))) n ↔ Q
+  by-instruction n b q = let h = instruction-given m (channelOf s b) (busyIn (blockOf s b)) n in (λ g. q .0 (h .1 g), λ k. h .0 (q .1 k))
 
-  -- 5, of a transfer step: "transfer with SYN 11, or translation with a 16-bit side"
+  -- 5, of a transfer step: its mode is refused
   pub exactly-5 : ((stepOf s m lines) .number ≡ 5) ↔ StepAfterGiven s m lines (OnTransfer (choiceOf s lines) s (λ b. BadTransfer (channelOf s b)))
   unfolding Own
   exactly-5 =
       let x = choiceOf s lines in
       own-number 5 refl refl refl refl (
         ⊎-elim (no-end x (λ b. eqb-false 5 0 refl))
-            (⊎-elim (on-transfer x (λ b. bad b .0)) (no-instruction x (λ b. never 5 (instructionChecks m (channelOf s b) (busyTo s b)) refl))),
+            (⊎-elim (on-transfer x (λ b. bad b .0)) (no-instruction x (λ b. never 5 (instructionChecks m (channelOf s b) (busyIn (blockOf s b))) refl))),
         λ h. inr (inl (on-transfer x (λ b. bad b .1) h)),
       )
     where
       bad : (b : Bool) → Given (transferChecks (channelOf s b) m) 5 ↔ BadTransfer (channelOf s b)
       bad b = hit (never 5 (check 2 (Beyond m (touchedByTransfer (channelOf s b) m)) ∷ []) refl)
 
-  -- 2, of a transfer step or an instruction: "a byte to be read or stored lies beyond lent memory"
+  -- 2, of a transfer step or an instruction: a byte that it touches is not lent
   pub exactly-2 : ((stepOf s m lines) .number ≡ 2)
       ↔ StepAfterGiven s m lines
-      (OnTransfer (choiceOf s lines) s (λ b. ¬ (BadTransfer (channelOf s b)) × Beyond m (touchedByTransfer (channelOf s b) m)) ⊎ OnInstruction (choiceOf s lines) s (λ b. InstructionGiven2 (decodedAt m (channelOf s b .tp)) m (channelOf s b) (busyTo s b)))
+      (OnTransfer (choiceOf s lines) s (λ b. ¬ (BadTransfer (channelOf s b)) × Beyond m (touchedByTransfer (channelOf s b) m)) ⊎ OnInstruction (choiceOf s lines) s (λ b. InstructionGiven2 (decodedAt m (channelOf s b .tp)) m (channelOf s b) (busyIn (blockOf s b))))
   unfolding Own
   exactly-2 =
       let x = choiceOf s lines in
@@ -263,11 +263,11 @@ module _ (s : State) (m : Buffers) (lines : ℕ) where
       beyond : (b : Bool) → Given (transferChecks (channelOf s b) m) 2 ↔ (¬ (BadTransfer (channelOf s b)) × Beyond m (touchedByTransfer (channelOf s b) m))
       beyond b = skip refl (hit (eqb-false 2 0 refl))
 
-      of-2 : (b : Bool) → Given (instructionChecks m (channelOf s b) (busyTo s b)) 2 ↔ InstructionGiven2 (decodedAt m (channelOf s b .tp)) m (channelOf s b) (busyTo s b)
-      of-2 b = by-instruction 2 b (own-2 m (channelOf s b) (busyTo s b))
+      of-2 : (b : Bool) → Given (instructionChecks m (channelOf s b) (busyIn (blockOf s b))) 2 ↔ InstructionGiven2 (decodedAt m (channelOf s b .tp)) m (channelOf s b) (busyIn (blockOf s b))
+      of-2 b = by-instruction 2 b (own-2 m (channelOf s b) (busyIn (blockOf s b)))
 
-  -- 3, of an instruction: "the bytes are no instruction below"
-  pub exactly-3 : ((stepOf s m lines) .number ≡ 3) ↔ StepAfterGiven s m lines (OnInstruction (choiceOf s lines) s (λ b. InstructionGiven3 (decodedAt m (channelOf s b .tp)) m (channelOf s b) (busyTo s b)))
+  -- 3, of an instruction: its bytes are none
+  pub exactly-3 : ((stepOf s m lines) .number ≡ 3) ↔ StepAfterGiven s m lines (OnInstruction (choiceOf s lines) s (λ b. InstructionGiven3 (decodedAt m (channelOf s b .tp)) m (channelOf s b) (busyIn (blockOf s b))))
   unfolding Own
   exactly-3 =
       let x = choiceOf s lines in
@@ -277,11 +277,11 @@ module _ (s : State) (m : Buffers) (lines : ℕ) where
         λ h. inr (inr (on-instruction x (λ b. (of-3 b) .1) h)),
       )
     where
-      of-3 : (b : Bool) → Given (instructionChecks m (channelOf s b) (busyTo s b)) 3 ↔ InstructionGiven3 (decodedAt m (channelOf s b .tp)) m (channelOf s b) (busyTo s b)
-      of-3 b = by-instruction 3 b (own-3 m (channelOf s b) (busyTo s b))
+      of-3 : (b : Bool) → Given (instructionChecks m (channelOf s b) (busyIn (blockOf s b))) 3 ↔ InstructionGiven3 (decodedAt m (channelOf s b .tp)) m (channelOf s b) (busyIn (blockOf s b))
+      of-3 b = by-instruction 3 b (own-3 m (channelOf s b) (busyIn (blockOf s b)))
 
-  -- 4, of an instruction: "CC used by anything but MOV or MOVI"
-  pub exactly-4 : ((stepOf s m lines) .number ≡ 4) ↔ StepAfterGiven s m lines (OnInstruction (choiceOf s lines) s (λ b. InstructionGiven4 (decodedAt m (channelOf s b .tp)) m (channelOf s b) (busyTo s b)))
+  -- 4, of an instruction: it names CC and is no MOV or MOVI
+  pub exactly-4 : ((stepOf s m lines) .number ≡ 4) ↔ StepAfterGiven s m lines (OnInstruction (choiceOf s lines) s (λ b. InstructionGiven4 (decodedAt m (channelOf s b .tp)) m (channelOf s b) (busyIn (blockOf s b))))
   unfolding Own
   exactly-4 =
       let x = choiceOf s lines in
@@ -291,14 +291,14 @@ module _ (s : State) (m : Buffers) (lines : ℕ) where
         λ h. inr (inr (on-instruction x (λ b. (of-4 b) .1) h)),
       )
     where
-      of-4 : (b : Bool) → Given (instructionChecks m (channelOf s b) (busyTo s b)) 4 ↔ InstructionGiven4 (decodedAt m (channelOf s b .tp)) m (channelOf s b) (busyTo s b)
-      of-4 b = by-instruction 4 b (own-4 m (channelOf s b) (busyTo s b))
+      of-4 : (b : Bool) → Given (instructionChecks m (channelOf s b) (busyIn (blockOf s b))) 4 ↔ InstructionGiven4 (decodedAt m (channelOf s b .tp)) m (channelOf s b) (busyIn (blockOf s b))
+      of-4 b = by-instruction 4 b (own-4 m (channelOf s b) (busyIn (blockOf s b)))
 
   -- 0 otherwise: an external end, a transfer step without 5 and 2, an instruction without 2, 3 and 4
   pub exactly-0 : ((stepOf s m lines) .number ≡ 0)
       ↔ StepAfterGiven s m lines
       (OnEnd (choiceOf s lines) s (λ b. Unit {0})
-      ⊎ (OnTransfer (choiceOf s lines) s (λ b. ¬ (BadTransfer (channelOf s b)) × ¬ (Beyond m (touchedByTransfer (channelOf s b) m))) ⊎ OnInstruction (choiceOf s lines) s (λ b. InstructionGiven0 (decodedAt m (channelOf s b .tp)) m (channelOf s b) (busyTo s b))))
+      ⊎ (OnTransfer (choiceOf s lines) s (λ b. ¬ (BadTransfer (channelOf s b)) × ¬ (Beyond m (touchedByTransfer (channelOf s b) m))) ⊎ OnInstruction (choiceOf s lines) s (λ b. InstructionGiven0 (decodedAt m (channelOf s b .tp)) m (channelOf s b) (busyIn (blockOf s b)))))
   unfolding Own
   exactly-0 =
       let x = choiceOf s lines in
@@ -312,8 +312,8 @@ module _ (s : State) (m : Buffers) (lines : ℕ) where
       right : (b : Bool) → Given (transferChecks (channelOf s b) m) 0 ↔ (¬ (BadTransfer (channelOf s b)) × ¬ (Beyond m (touchedByTransfer (channelOf s b) m)))
       right b = skip refl (end refl refl)
 
-      of-0 : (b : Bool) → Given (instructionChecks m (channelOf s b) (busyTo s b)) 0 ↔ InstructionGiven0 (decodedAt m (channelOf s b .tp)) m (channelOf s b) (busyTo s b)
-      of-0 b = by-instruction 0 b (own-0 m (channelOf s b) (busyTo s b))
+      of-0 : (b : Bool) → Given (instructionChecks m (channelOf s b) (busyIn (blockOf s b))) 0 ↔ InstructionGiven0 (decodedAt m (channelOf s b .tp)) m (channelOf s b) (busyIn (blockOf s b))
+      of-0 b = by-instruction 0 b (own-0 m (channelOf s b) (busyIn (blockOf s b)))
 
   -- and no other number
   pub no-other : (n : ℕ) → eqb n 0 ≡ false → eqb n 1 ≡ false → eqb n 2 ≡ false → eqb n 3 ≡ false → eqb n 4 ≡ false → eqb n 5 ≡ false

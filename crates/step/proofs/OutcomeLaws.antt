@@ -9,7 +9,7 @@ use native.Mathlib.Decide.{ℕ-discrete}
 use Rattle.execute.specs.Execute.{executeOf}
 use Rattle.machine.proofs.ChannelLaws.{put-other, put-cp, last-channel, named}
 use Rattle.machine.specs.Psw.{transferring}
-use Rattle.machine.specs.States.{channelOf, withChannel, withLast, isSecond, channelNumber}
+use Rattle.machine.specs.States.{channelOf, blockOf, busyIn, withChannel, withLast, isSecond, channelNumber}
 use Rattle.machine.specs.declared.Channel.{Channel}
 use Rattle.machine.specs.declared.State.{State}
 use Rattle.memory.specs.Buffers.{Buffers}
@@ -20,7 +20,7 @@ use Rattle.step.specs.Choosing.{choiceOf}
 use Rattle.step.specs.declared.turns.Choice.{Choice}
 use Rattle.step.specs.declared.turns.Choice.the-variants.{Nobody, Ends, Steps}
 use Rattle.step.specs.Conditions.{OnEnd, OnTransfer, OnInstruction}
-use Rattle.step.specs.Step.{Step, refusedStep, doneStep, settledStep, busyTo, transferStep, instructionStep, externalStep, channelStep, chosenStep, entryNumber, stepOf}
+use Rattle.step.specs.Step.{Step, refusedStep, doneStep, settledStep, transferStep, instructionStep, externalStep, channelStep, chosenStep, entryNumber, stepOf}
 use Rattle.step.specs.declared.Kind.{Kind}
 use Rattle.step.specs.declared.Kind.the-variants.{Transfer, Instruction, External}
 
@@ -39,7 +39,7 @@ pub by-step : (s : State) (m : Buffers) (lines : ℕ) (P : Step → Type 0)
     → ((b : Bool) → entryNumber s m lines ≡ 0 → choiceOf s lines ≡ Steps b → transferring (channelOf s b .psw) ≡ true
     → P (doneStep s b ((transferOf (channelOf s b) m) .channel) ((transferOf (channelOf s b) m) .memory) Transfer))
     → ((b : Bool) → entryNumber s m lines ≡ 0 → choiceOf s lines ≡ Steps b → transferring (channelOf s b .psw) ≡ false
-    → P (doneStep s b ((executeOf (channelOf s b) (busyTo s b) m) .channel) ((executeOf (channelOf s b) (busyTo s b) m) .memory) Instruction))
+    → P (doneStep s b ((executeOf (channelOf s b) (busyIn (blockOf s b)) m) .channel) ((executeOf (channelOf s b) (busyIn (blockOf s b)) m) .memory) Instruction))
     → P (stepOf s m lines)
 unfolding stepOf chosenStep channelStep transferStep instructionStep externalStep settledStep
 by-step s m lines P refused ended moved executed = go (ℕ-discrete (entryNumber s m lines) 0)
@@ -57,7 +57,7 @@ by-step s m lines P refused ended moved executed = go (ℕ-discrete (entryNumber
         let t = transferOf (channelOf s b) m in
         settle (t .number) b (t .channel) (t .memory) Transfer (moved b z e f)
     turn b z e false f =
-        let x = executeOf (channelOf s b) (busyTo s b) m in
+        let x = executeOf (channelOf s b) (busyIn (blockOf s b)) m in
         settle (x .number) b (x .channel) (x .memory) Instruction (executed b z e f)
 
     own : entryNumber s m lines ≡ 0 → (x : Choice) → choiceOf s lines ≡ x → P (chosenStep x s m)
@@ -79,13 +79,13 @@ refused s m lines =
 pub done : (s : State) (m : Buffers) (lines : ℕ) → (stepOf s m lines) .number ≡ 0
     → OnEnd (choiceOf s lines) s (λ b. stepOf s m lines ≡ doneStep s b (externallyEnded (channelOf s b)) m External)
     ⊎ (OnTransfer (choiceOf s lines) s (λ b. stepOf s m lines ≡ doneStep s b ((transferOf (channelOf s b) m) .channel) ((transferOf (channelOf s b) m) .memory) Transfer)
-    ⊎ OnInstruction (choiceOf s lines) s (λ b. stepOf s m lines ≡ doneStep s b ((executeOf (channelOf s b) (busyTo s b) m) .channel) ((executeOf (channelOf s b) (busyTo s b) m) .memory) Instruction))
+    ⊎ OnInstruction (choiceOf s lines) s (λ b. stepOf s m lines ≡ doneStep s b ((executeOf (channelOf s b) (busyIn (blockOf s b)) m) .channel) ((executeOf (channelOf s b) (busyIn (blockOf s b)) m) .memory) Instruction))
 done s m lines =
     by-step s m lines
     (λ o. o .number ≡ 0
     → OnEnd (choiceOf s lines) s (λ b. o ≡ doneStep s b (externallyEnded (channelOf s b)) m External)
     ⊎ (OnTransfer (choiceOf s lines) s (λ b. o ≡ doneStep s b ((transferOf (channelOf s b) m) .channel) ((transferOf (channelOf s b) m) .memory) Transfer)
-    ⊎ OnInstruction (choiceOf s lines) s (λ b. o ≡ doneStep s b ((executeOf (channelOf s b) (busyTo s b) m) .channel) ((executeOf (channelOf s b) (busyTo s b) m) .memory) Instruction)))
+    ⊎ OnInstruction (choiceOf s lines) s (λ b. o ≡ doneStep s b ((executeOf (channelOf s b) (busyIn (blockOf s b)) m) .channel) ((executeOf (channelOf s b) (busyIn (blockOf s b)) m) .memory) Instruction)))
     (λ k ne e. absurd (ne e))
     (λ b z e h. inl (rw e refl))
     (λ b z e f h. inr (inl (rw e (f, refl))))
@@ -117,7 +117,7 @@ cp-kept s m lines =
     by-step s m lines (λ o. o .state .cp ≡ s .cp) (λ k ne. refl)
     (λ b z e. put-cp s b _) (λ b z e f. put-cp s b _) (λ b z e f. put-cp s b _)
 
--- "Only done steps set "last"": to the channel that stepped
+-- a done step makes its channel last, a refused one does not (§5.6)
 pub last-set : (s : State) (m : Buffers) (lines : ℕ) → (stepOf s m lines) .number ≡ 0 → (stepOf s m lines) .channel ≡ channelNumber ((stepOf s m lines) .state .last)
 unfolding withLast
 last-set s m lines =

@@ -1,17 +1,18 @@
--- A done step leaves a sound state.
+-- A done step leaves a sound state, so that what a run is given need be tested once.
 -- Assumes nothing.
 use Prim.Native.Nat.{ℕ}
-use lib.Dec.{ltb}
+use lib.Dec.{ltb, leb}
+use lib.ListN.{length}
 use mathlib.Core.Bool.{Bool, true, false, _&&_}
-use mathlib.Core.Path.{_≡_, refl}
+use mathlib.Core.Path.{_≡_, refl, ap₂, _∙_}
 use Rattle.execute.proofs.ChannelLaws.{execute-sound}
 use Rattle.machine.proofs.ChannelLaws.{sound-channel-of}
-use Rattle.machine.proofs.ConditionLaws.{first-none-right, unless-none}
+use Rattle.machine.proofs.ConditionLaws.{first-none-left, first-none-right, unless-none}
 use Rattle.machine.specs.Outcomes.{first, unless, givenNumber}
 use Rattle.machine.specs.States.{channelOf, withChannel, withLast, soundChannel, sound}
 use Rattle.machine.specs.declared.Channel.{Channel}
 use Rattle.machine.specs.declared.State.{State}
-use Rattle.memory.specs.Buffers.{Buffers, withinLimits}
+use Rattle.memory.specs.Buffers.{Buffers, spaceOf, limitOf, withinLimits}
 use Rattle.transfer.proofs.KeptLaws.{external-sound, transfer-sound}
 use Rattle.words.proofs.ChoiceLaws.{both-left, both-right}
 use Rattle.step.specs.Step.{entryNumber, stepOf}
@@ -34,6 +35,20 @@ entry-sound s m lines z =
     unless-none 10 refl
     (first-none-right (unless (withinLimits m) 11) (unless (sound s) 10)
     (first-none-right (unless (ltb lines 16) 12) (first (unless (withinLimits m) 11) (unless (sound s) 10)) z))
+
+-- so is what a sound state is given next, in memories of the same lengths
+pub entry-again : (s s′ : State) (m m′ : Buffers) (lines : ℕ) → entryNumber s m lines ≡ 0 → sound s′ ≡ true → withinLimits m′ ≡ withinLimits m → entryNumber s′ m′ lines ≡ 0
+unfolding entryNumber givenNumber first unless
+entry-again s s′ m m′ lines z h e =
+    let rest = first (unless (withinLimits m) 11) (unless (sound s) 10) in
+    let low : ltb lines 16 ≡ true = unless-none 12 refl (first-none-left (unless (ltb lines 16) 12) rest z) in
+    let short : withinLimits m ≡ true = unless-none 11 refl (first-none-left (unless (withinLimits m) 11) (unless (sound s) 10) (first-none-right (unless (ltb lines 16) 12) rest z)) in
+    rw (low, e ∙ short, h)
+
+-- a memory whose lengths stay is as long as it was
+pub limits-kept : (m m′ : Buffers) → ((u : Bool) → length (spaceOf m′ u) ≡ length (spaceOf m u)) → withinLimits m′ ≡ withinLimits m
+unfolding withinLimits spaceOf
+limits-kept m m′ h = ap₂ (λ (x y : ℕ). leb x (limitOf false) && leb y (limitOf true)) (h false) (h true)
 
 -- a done step leaves a sound state, so the next is not refused by 10
 pub sound-kept : (s : State) (m : Buffers) (lines : ℕ) → (stepOf s m lines) .number ≡ 0 → sound ((stepOf s m lines) .state) ≡ true

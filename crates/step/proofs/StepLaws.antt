@@ -15,7 +15,7 @@ use Rattle.transfer.specs.Reads.{dataOf}
 use Rattle.transfer.specs.Steps.{Transfer, transferred, transferNumber, transferOf}
 use Rattle.transfer.specs.Stores.{movedChannel, movedMemory}
 use Rattle.words.specs.Choice.{pick}
-use Rattle.step.specs.Step.{stepped, doneAnswer, settledAnswer, settledStep}
+use Rattle.step.specs.Step.{left, refusedAs, doneAs, settledStep}
 use Rattle.step.specs.declared.Kind.{Kind}
 use Rattle.step.specs.declared.Stepped.{Stepped}
 
@@ -37,11 +37,11 @@ execute-kept c busy m ne = ap (λ (o : Executed). o .memory) (refused c busy m n
 
 -- what a settled answer and the memory after it come to
 pub settles : (number : ℕ) (s : State) (m : Buffers) (second : Bool) (c : Channel) (m′ : Buffers) (kind : Kind) → ((number ≡ 0 → ⊥) → m′ ≡ m)
-    → (a : Stepped) → a ≡ settledAnswer number s second c kind
-    → stepped (a .number) (a .state) m′ (a .channel) (a .kind) ≡ settledStep number s m second c m′ kind
-unfolding settledAnswer doneAnswer settledStep
-settles number s m second c m′ kind kept a e = ap (λ (x : Stepped). stepped (x .number) (x .state) m′ (x .channel) (x .kind)) e ∙ go (ℕ-discrete number 0)
+    → (a : Stepped) → a ≡ pick (eqb number 0) (doneAs s second c kind) (refusedAs number s)
+    → left a m′ ≡ settledStep number s m second c m′ kind
+unfolding settledStep
+settles number s m second c m′ kind kept a e = ap (λ (x : Stepped). left x m′) e ∙ go (ℕ-discrete number 0)
   where
-    go : Dec (number ≡ 0) → stepped ((settledAnswer number s second c kind) .number) ((settledAnswer number s second c kind) .state) m′ ((settledAnswer number s second c kind) .channel) ((settledAnswer number s second c kind) .kind) ≡ settledStep number s m second c m′ kind
+    go : Dec (number ≡ 0) → left (pick (eqb number 0) (doneAs s second c kind) (refusedAs number s)) m′ ≡ settledStep number s m second c m′ kind
     go (yes z) = rw (eq-eqb number 0 z)
     go (no ne) = rw (ne-eqb number 0 ne, kept ne)

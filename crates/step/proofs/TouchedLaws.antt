@@ -6,7 +6,7 @@ use mathlib.Core.Bool.{Bool, true, false}
 use mathlib.Core.List.{[]}
 use mathlib.Core.Path.{_≡_, refl, sym}
 use Rattle.execute.proofs.MemoryLaws.{untouched-kept as executed-kept, lengths-kept as executed-lengths}
-use Rattle.machine.specs.States.{channelOf}
+use Rattle.machine.specs.States.{channelOf, blockOf, busyIn}
 use Rattle.machine.specs.declared.Channel.{Channel}
 use Rattle.machine.specs.declared.State.{State}
 use Rattle.memory.specs.Buffers.{Buffers, spaceOf, byteAt}
@@ -18,7 +18,7 @@ use Rattle.transfer.specs.Sides.{destination, secondAddress}
 use Rattle.transfer.specs.Steps.{transferOf, touchedByTransfer as moved}
 use Rattle.transfer.specs.Stores.{storesTwo, placesOn, storedPlaces}
 use Rattle.words.proofs.ChoiceLaws.{apart}
-use Rattle.step.specs.Step.{busyTo, stepOf}
+use Rattle.step.specs.Step.{stepOf}
 use Rattle.step.specs.Touched.{touchedIn, touchedByStep}
 use Rattle.step.proofs.OutcomeLaws.{by-step}
 
@@ -44,11 +44,11 @@ unfolding touchedByStep touchedIn
 bytes-kept s m lines u b h =
     by-step s m lines (λ o. byteAt (o .memory) u b ≡ byteAt m u b) (λ k ne. refl) (λ a z e. refl)
     (λ a z e f. transferred-kept (channelOf s a) m u b (rw (e, f) at h))
-    (λ a z e f. executed-kept (channelOf s a) (busyTo s a) m u b (rw (e, f) at h))
+    (λ a z e f. executed-kept (channelOf s a) (busyIn (blockOf s a)) m u b (rw (e, f) at h))
 
 -- no step changes a length
 pub lengths-kept : (s : State) (m : Buffers) (lines : ℕ) (u : Bool) → length (spaceOf ((stepOf s m lines) .memory) u) ≡ length (spaceOf m u)
 lengths-kept s m lines u =
     by-step s m lines (λ o. length (spaceOf (o .memory) u) ≡ length (spaceOf m u)) (λ k ne. refl) (λ a z e. refl)
     (λ a z e f. moved-lengths (channelOf s a) m u)
-    (λ a z e f. executed-lengths (channelOf s a) (busyTo s a) m u)
+    (λ a z e f. executed-lengths (channelOf s a) (busyIn (blockOf s a)) m u)

@@ -1,4 +1,4 @@
--- Which channel steps.
+-- Which channel steps (§5.1 to §5.4).
 use mathlib.Core.Bool.{Bool, true, false, not, _&&_, _||_}
 use Prim.Native.Nat.{ℕ}
 use lib.Dec.{eqb, ltb}
@@ -12,15 +12,15 @@ use Rattle.machine.specs.States.{isRunning}
 use Rattle.step.specs.declared.turns.Choice.{Choice}
 use Rattle.step.specs.declared.turns.Choice.the-variants.{Nobody, Ends, Steps}
 
--- "DRQ of channel 1 = 1, of channel 2 = 2"
+-- DRQ of a channel: bit 0 of the line number for channel 1, bit 1 for channel 2 (§5.1)
 unfoldable pub requested : ℕ → Bool → Bool
 requested lines second = bitOf lines (pick second 1 0)
 
--- "EXT of channel 1 = 4, of channel 2 = 8"
+-- EXT of a channel: bit 2 for channel 1, bit 3 for channel 2 (§5.1)
 unfoldable pub external : ℕ → Bool → Bool
 external lines second = bitOf lines (pick second 3 2)
 
--- "A running channel with XF, TX not 00 and its EXT up"
+-- a channel has an external end: it runs, with XF set, TX on and its EXT up (§5.2)
 unfoldable pub endsNow : Channel → Bool → Bool
 endsNow c ext = isRunning (c .mode) && transferring (c .psw) && not (eqb (externalEnd (c .cc)) 0) && ext
 
@@ -28,11 +28,11 @@ endsNow c ext = isRunning (c .mode) && transferring (c .psw) && not (eqb (extern
 abbrev pub noRank : ℕ
 noRank = 4
 
--- a running channel with XF: "rank 1: XF with SYN 00, or its DRQ up, or SYN 11 .. XF waiting for DRQ: none"
+-- a running channel with XF has rank 1, unless it is synchronised and its DRQ is down: then it waits (§5.3)
 unfoldable pub transferRank : ℕ → Bool → ℕ
 transferRank cc drq = pick (eqb (synchronised cc) 0 || drq || eqb (synchronised cc) 3) 1 noRank
 
--- with XF by its transfer; ".. no XF and CC bit 8 (chained). Rank 3: no XF, not chained"; a channel that is not running has none
+-- with XF by its transfer; without, 1 where it is chained, else 3; a channel that does not run has none (§5.3)
 unfoldable pub rankOf : Channel → Bool → ℕ
 rankOf c drq =
     pick (isRunning (c .mode))
@@ -41,7 +41,7 @@ rankOf c drq =
     (pick (chained (c .cc)) 1 3))
     noRank
 
--- "Lower rank wins, then PSW bit 7 at 1, then the channel that did not step last": whether channel 2 is it
+-- whether channel 2 goes first: by the lower rank, then by priority, then by not being last (§5.4)
 unfoldable pub secondWins : ℕ → ℕ → Bool → Bool → Bool → Bool
 secondWins rank₁ rank₂ priority₁ priority₂ last =
     pick (ltb rank₁ rank₂) false
@@ -55,9 +55,15 @@ ranked s rank₁ rank₂ =
     pick (eqb rank₁ noRank && eqb rank₂ noRank) Nobody
     (Steps (secondWins rank₁ rank₂ (priority (s .first .psw)) (priority (s .second .psw)) (s .last)))
 
--- an external end "goes first, channel 1 before 2. .. Otherwise" by rank
+-- an external end comes first, that of channel 1 before that of channel 2; else the ranks decide (§5.2, §5.4)
 unfoldable pub choiceOf : State → ℕ → Choice
 choiceOf s lines =
     pick (endsNow (s .first) (external lines false)) (Ends false)
     (pick (endsNow (s .second) (external lines true)) (Ends true)
     (ranked s (rankOf (s .first) (requested lines false)) (rankOf (s .second) (requested lines true))))
+
+-- the refusal of a choice: 1 where nobody can step (§5.5)
+abbrev pub choiceNumber : Choice → ℕ
+choiceNumber Nobody = 1
+choiceNumber (Ends second) = 0
+choiceNumber (Steps second) = 0

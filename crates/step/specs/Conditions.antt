@@ -1,14 +1,14 @@
--- The table of numbers for a step, in the paper's words: each condition, and the checks in their order.
+-- The numbers of a step: each condition, and the checks in their order (§3.1, §3.6).
 use Prim.Native.Nat.{ℕ, _≤_}
 use mathlib.Core.Bool.{Bool, true, false}
 use mathlib.Core.List.{List, [], _∷_}
 use mathlib.Core.Logic.{_⊎_}
 use mathlib.Core.Path.{_≡_}
-use Rattle.execute.specs.Conditions.{instructionChecks as instructionChecks}
+use Rattle.execute.specs.Conditions.{instructionChecks}
 use Rattle.machine.specs.Cc.{synchronised, translates}
 use Rattle.machine.specs.Conditions.{Check, check, TooLong, NotSound, Beyond}
 use Rattle.machine.specs.Psw.{transferring, sourceWide, destinationWide}
-use Rattle.machine.specs.States.{channelOf}
+use Rattle.machine.specs.States.{channelOf, blockOf, busyIn}
 use Rattle.machine.specs.declared.Channel.{Channel}
 use Rattle.machine.specs.declared.State.{State}
 use Rattle.memory.specs.Buffers.{Buffers}
@@ -18,17 +18,16 @@ use Rattle.step.specs.Choosing.{choiceOf}
 use Rattle.step.specs.declared.turns.Choice.{Choice}
 use Rattle.step.specs.declared.turns.Choice.the-variants.{Nobody, Ends, Steps}
 use Rattle.step.specs.Ranks.{NoneRuns}
-use Rattle.step.specs.Step.{busyTo}
 
--- 12: "line number over 15"
+-- 12: a line number over 15
 abbrev pub LinesOver : ℕ → Type 0
 LinesOver lines = 16 ≤ lines
 
--- 5: "transfer with SYN 11, or translation with a 16-bit side"
+-- 5: a transfer with SYN 11, or one that translates with a side of 16 bits
 abbrev pub BadTransfer : Channel → Type 0
 BadTransfer c = (synchronised (c .cc) ≡ 3) ⊎ ((translates (c .cc) ≡ true) × ((sourceWide (c .psw) ≡ true) ⊎ (destinationWide (c .psw) ≡ true)))
 
--- "for a transfer 5, 2"
+-- of a transfer step: 5, then 2
 abbrev pub transferChecks : Channel → Buffers → List Check
 transferChecks c m = check 5 (BadTransfer c) ∷ check 2 (Beyond m (touchedByTransfer c m)) ∷ []
 
@@ -37,9 +36,9 @@ abbrev pub chosenChecks : Choice → State → Buffers → List Check
 chosenChecks Nobody s m = []
 chosenChecks (Ends second) s m = []
 chosenChecks (Steps second) s m =
-    pick (transferring (channelOf s second .psw)) (transferChecks (channelOf s second) m) (instructionChecks m (channelOf s second) (busyTo s second))
+    pick (transferring (channelOf s second .psw)) (transferChecks (channelOf s second) m) (instructionChecks m (channelOf s second) (busyIn (blockOf s second)))
 
--- "Order: 12, 11, 10. .. Step then: 1; for a transfer 5, 2; for an instruction" its own, in their order
+-- 12, 11, 10, then 1, then those of who was chosen
 abbrev pub stepChecks : State → Buffers → ℕ → List Check
 stepChecks s m lines =
     check 12 (LinesOver lines)

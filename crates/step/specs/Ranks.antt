@@ -1,4 +1,4 @@
--- Who can step, in the paper's words.
+-- Who can step, as conditions (§5.2, §5.3).
 use Prim.Native.Nat.{ℕ}
 use mathlib.Core.Bool.{Bool, true, false}
 use mathlib.Core.Logic.{_⊎_}
@@ -11,15 +11,15 @@ use Rattle.machine.specs.declared.Mode.the-variants.{Running}
 use Rattle.machine.specs.declared.State.{State}
 use Rattle.step.specs.Choosing.{requested, external, rankOf}
 
--- "A running channel with XF, TX not 00 and its EXT up"
+-- an external end is due: the channel runs, with XF set, TX on and its EXT up
 abbrev pub EndsNow : Channel → Bool → Type 0
 EndsNow c ext = (c .mode ≡ Running) × (transferring (c .psw) ≡ true) × ¬ (externalEnd (c .cc) ≡ 0) × (ext ≡ true)
 
--- "XF with SYN 00, or its DRQ up, or SYN 11"
+-- its transfer need not wait: no synchronisation, or its DRQ up, or SYN 11
 abbrev pub MayMove : Channel → Bool → Type 0
 MayMove c drq = (transferring (c .psw) ≡ true) × ((synchronised (c .cc) ≡ 0) ⊎ ((drq ≡ true) ⊎ (synchronised (c .cc) ≡ 3)))
 
--- "no XF and CC bit 8 (chained)"
+-- it executes and is chained
 abbrev pub ChainedProgram : Channel → Type 0
 ChainedProgram c = (transferring (c .psw) ≡ false) × (chained (c .cc) ≡ true)
 
@@ -27,7 +27,7 @@ ChainedProgram c = (transferring (c .psw) ≡ false) × (chained (c .cc) ≡ tru
 abbrev pub RankOne : Channel → Bool → Type 0
 RankOne c drq = (c .mode ≡ Running) × (MayMove c drq ⊎ ChainedProgram c)
 
--- "Rank 3: no XF, not chained", of a running channel
+-- rank 3, of a running channel: it executes and is not chained
 abbrev pub RankThree : Channel → Type 0
 RankThree c = (c .mode ≡ Running) × (transferring (c .psw) ≡ false) × (chained (c .cc) ≡ false)
 
@@ -35,7 +35,7 @@ RankThree c = (c .mode ≡ Running) × (transferring (c .psw) ≡ false) × (cha
 abbrev pub HasRank : Channel → Bool → Type 0
 HasRank c drq = RankOne c drq ⊎ RankThree c
 
--- "XF waiting for DRQ: none", and no external end
+-- its transfer waits for its DRQ, and no external end is due
 abbrev pub Waits : Channel → Bool → Bool → Type 0
 Waits c drq ext = (transferring (c .psw) ≡ true) × ((synchronised (c .cc) ≡ 1) ⊎ (synchronised (c .cc) ≡ 2)) × (drq ≡ false) × ¬ (EndsNow c ext)
 
@@ -56,6 +56,6 @@ rankAt s lines second = rankOf (channelOf s second) (requested lines second)
 abbrev pub NoneEnds : State → ℕ → Type 0
 NoneEnds s lines = (second : Bool) → ¬ (ExternalAt s lines second)
 
--- 1: "no channel can run"
+-- 1: no external end is due and no channel has a rank (§5.5)
 abbrev pub NoneRuns : State → ℕ → Type 0
 NoneRuns s lines = (second : Bool) → ¬ (ExternalAt s lines second ⊎ RankedAt s lines second)

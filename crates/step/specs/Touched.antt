@@ -3,7 +3,7 @@ use Prim.Native.Nat.{ℕ}
 use mathlib.Core.List.{List, []}
 use Rattle.execute.specs.Execute.{touchedByInstruction as executed}
 use Rattle.machine.specs.Psw.{transferring}
-use Rattle.machine.specs.States.{channelOf}
+use Rattle.machine.specs.States.{channelOf, blockOf, busyIn}
 use Rattle.machine.specs.declared.State.{State}
 use Rattle.memory.specs.Buffers.{Buffers}
 use Rattle.memory.specs.Places.{Place}
@@ -12,14 +12,13 @@ use Rattle.words.specs.Choice.{pick}
 use Rattle.step.specs.Choosing.{choiceOf}
 use Rattle.step.specs.declared.turns.Choice.{Choice}
 use Rattle.step.specs.declared.turns.Choice.the-variants.{Nobody, Ends, Steps}
-use Rattle.step.specs.Step.{busyTo}
 
 -- the bytes of a choice, each access once
 unfoldable pub touchedIn : Choice → State → Buffers → List Place
 touchedIn Nobody s m = []
 touchedIn (Ends second) s m = []
 touchedIn (Steps second) s m =
-    pick (transferring (channelOf s second .psw)) (moved (channelOf s second) m) (executed m (channelOf s second) (busyTo s second))
+    pick (transferring (channelOf s second .psw)) (moved (channelOf s second) m) (executed m (channelOf s second) (busyIn (blockOf s second)))
 
 -- the bytes that a step reads or stores
 unfoldable pub touchedByStep : State → Buffers → ℕ → List Place

@@ -4,8 +4,9 @@ use machine::Channel;
 use machine::State;
 ghost use mathlib.Core.Path.{_≡_};
 ghost use Rattle.memory.specs.Buffers.{buffers};
-ghost use Rattle.step.specs.Step as Step;
-ghost use Rattle.step.specs.Step.{stepped, refusedStep, doneStep, settledStep, busyTo, transferStep, instructionStep, externalStep, channelStep, chosenStep, entryNumber, stepOf};
+ghost use lib.Dec.{eqb};
+ghost use Rattle.words.specs.Choice.{pick};
+ghost use Rattle.step.specs.Step.{left, refusedAs, doneAs, transferStep, instructionStep, channelStep, chosenStep, entryNumber, stepOf};
 
 // Which channel steps.
 pub mod turns;
@@ -18,7 +19,7 @@ pub enum Kind {
     External,
 }
 
-// What a step answers: a number of the paper, 0 for done, the state, and the number of the channel and the kind of its step.
+// What a step answers: its number, 0 for done, the state, and the number of the channel and the kind of its step.
 pub struct Stepped {
     pub number: u32,
     pub state: State,
@@ -28,7 +29,7 @@ pub struct Stepped {
 
 // A refused step: the state as it was.
 fn refused(s: State, number: u32) -> Stepped
-    ensures { λ r. ⌜ r ≡ record { number = number; state = s; channel = 0; kind = Kind.Nothing } ⌝ }
+    ensures { λ r. ⌜ r ≡ refusedAs number s ⌝ }
 {
     Stepped {
         number,
@@ -40,7 +41,7 @@ fn refused(s: State, number: u32) -> Stepped
 
 // A done step: the channel is put back, and it was the last to step.
 fn done(s: State, second: bool, c: Channel, kind: Kind) -> Stepped
-    ensures { λ r. ⌜ r ≡ Step.doneAnswer s second c kind ⌝ }
+    ensures { λ r. ⌜ r ≡ doneAs s second c kind ⌝ }
 {
     Stepped {
         number: 0,
@@ -52,7 +53,7 @@ fn done(s: State, second: bool, c: Channel, kind: Kind) -> Stepped
 
 // What a channel's own step came to.
 fn settled(number: u32, s: State, second: bool, c: Channel, kind: Kind) -> Stepped
-    ensures { λ r. ⌜ r ≡ Step.settledAnswer number s second c kind ⌝ }
+    ensures { λ r. ⌜ r ≡ pick (eqb number 0) (doneAs s second c kind) (refusedAs number s) ⌝ }
 {
     if number == 0 {
         done(s, second, c, kind)
@@ -63,7 +64,7 @@ fn settled(number: u32, s: State, second: bool, c: Channel, kind: Kind) -> Stepp
 
 // One transfer step of a channel.
 fn transfer_step(s: State, second: bool, sys: &mut [u8], io: &mut [u8]) -> Stepped
-    ensures { λ r. ⌜ stepped (r .number) (r .state) (buffers (now (sys .exit)) (now (io .exit))) (r .channel) (r .kind) ≡ transferStep s (buffers (now (sys .entry)) (now (io .entry))) second ⌝ }
+    ensures { λ r. ⌜ left r (buffers (now (sys .exit)) (now (io .exit))) ≡ transferStep s (buffers (now (sys .entry)) (now (io .entry))) second ⌝ }
 {
     let t = transfer::transfer(machine::states::channel(s, second), sys, io);
     let c = t.channel;
@@ -72,7 +73,7 @@ fn transfer_step(s: State, second: bool, sys: &mut [u8], io: &mut [u8]) -> Stepp
 
 // One instruction of a channel.
 fn instruction_step(s: State, second: bool, sys: &mut [u8], io: &mut [u8]) -> Stepped
-    ensures { λ r. ⌜ stepped (r .number) (r .state) (buffers (now (sys .exit)) (now (io .exit))) (r .channel) (r .kind) ≡ instructionStep s (buffers (now (sys .entry)) (now (io .entry))) second ⌝ }
+    ensures { λ r. ⌜ left r (buffers (now (sys .exit)) (now (io .exit))) ≡ instructionStep s (buffers (now (sys .entry)) (now (io .entry))) second ⌝ }
 {
     let busy = words::sum20(machine::states::block(s, second), 1);
     let e = execute::execute(machine::states::channel(s, second), busy, sys, io);
@@ -82,7 +83,7 @@ fn instruction_step(s: State, second: bool, sys: &mut [u8], io: &mut [u8]) -> St
 
 // One step of a channel that has its turn.
 fn channel_step(s: State, second: bool, sys: &mut [u8], io: &mut [u8]) -> Stepped
-    ensures { λ r. ⌜ stepped (r .number) (r .state) (buffers (now (sys .exit)) (now (io .exit))) (r .channel) (r .kind) ≡ channelStep s (buffers (now (sys .entry)) (now (io .entry))) second ⌝ }
+    ensures { λ r. ⌜ left r (buffers (now (sys .exit)) (now (io .exit))) ≡ channelStep s (buffers (now (sys .entry)) (now (io .entry))) second ⌝ }
 {
     let c = machine::states::channel(s, second);
     if machine::psw::transferring(c.psw) {
@@ -94,7 +95,7 @@ fn channel_step(s: State, second: bool, sys: &mut [u8], io: &mut [u8]) -> Steppe
 
 // The step of a choice.
 fn chosen(choice: Choice, s: State, sys: &mut [u8], io: &mut [u8]) -> Stepped
-    ensures { λ r. ⌜ stepped (r .number) (r .state) (buffers (now (sys .exit)) (now (io .exit))) (r .channel) (r .kind) ≡ chosenStep choice s (buffers (now (sys .entry)) (now (io .entry))) ⌝ }
+    ensures { λ r. ⌜ left r (buffers (now (sys .exit)) (now (io .exit))) ≡ chosenStep choice s (buffers (now (sys .entry)) (now (io .entry))) ⌝ }
 {
     match choice {
         Choice::Nobody => refused(s, 1),
@@ -109,7 +110,7 @@ fn chosen(choice: Choice, s: State, sys: &mut [u8], io: &mut [u8]) -> Stepped
 }
 
 // The refusal of what a step is given: 12 for lines past 15, then 11, then 10, else 0.
-fn entry_number(s: State, lines: u32, sys: &[u8], io: &[u8]) -> u32
+pub fn entry_number(s: State, lines: u32, sys: &[u8], io: &[u8]) -> u32
     ensures { λ r. ⌜ r ≡ entryNumber s (buffers (now (sys .entry)) (now (io .entry))) lines ⌝ }
 {
     if lines < 16 {
@@ -121,7 +122,7 @@ fn entry_number(s: State, lines: u32, sys: &[u8], io: &[u8]) -> u32
 
 // One step of the machine.
 pub fn step(s: State, sys: &mut [u8], io: &mut [u8], lines: u32) -> Stepped
-    ensures { λ r. ⌜ stepped (r .number) (r .state) (buffers (now (sys .exit)) (now (io .exit))) (r .channel) (r .kind) ≡ stepOf s (buffers (now (sys .entry)) (now (io .entry))) lines ⌝ }
+    ensures { λ r. ⌜ left r (buffers (now (sys .exit)) (now (io .exit))) ≡ stepOf s (buffers (now (sys .entry)) (now (io .entry))) lines ⌝ }
 {
     let number = entry_number(s, lines, sys, io);
     if number != 0 {

@@ -4,9 +4,8 @@ use borrow.Author.Needs.{needs}
 use denote.Ref.{now}
 use mathlib.Core.Path.{sym, ap, _∙_}
 use Rattle.memory.specs.Buffers.{buffers}
-use Rattle.transfer.proofs.StepLaws.{refused, done}
 use Rattle.step.specs.declared.turns.Choice.{Choice}
-use Rattle.step.specs.Step.{stepped, doneAnswer, externalStep, chosenStep}
+use Rattle.step.specs.Step.{left, externalStep, chosenStep}
 use Rattle.step.specs.declared.Stepped.{Stepped}
 use Rattle.step.proofs.chosen.Statement.{statement}
 use Rattle.step.proofs.chosen.Tie as tie
@@ -40,15 +39,15 @@ unfolding chosenStep
 returns c =
     let a = c .before .before .before .before .before .args in
     let m = buffers (now (a .sys)) (now (a .io)) in
-    ap (λ (x : Stepped). stepped (x .number) (x .state) m (x .channel) (x .kind)) (c .refused .ensures) ∙ ap (λ (x : Choice). chosenStep x (a .s) m) (sym (c .before .enum-told .given .1))
+    ap (λ (x : Stepped). left x m) (c .refused .ensures) ∙ ap (λ (x : Choice). chosenStep x (a .s) m) (sym (c .before .enum-told .given .1))
 
 returns-2 : tie.Need-returns-2
-unfolding chosenStep externalStep doneAnswer
+unfolding chosenStep externalStep
 returns-2 c =
     let a = c .before .before .before .before .before .before .before .before .args in
     let m = buffers (now (a .sys)) (now (a .io)) in
     let e = simp (c .before .external-end .ensures, c .before .before .channel .ensures) at (c .done .ensures) in
-    ap (λ (x : Stepped). stepped (x .number) (x .state) m (x .channel) (x .kind)) e
+    ap (λ (x : Stepped). left x m) e
     ∙ ap (λ (x : Choice). chosenStep x (a .s) m) (sym (c .before .before .before .before .choice .given .1))
 
 same-length : tie.Need-same-length

@@ -1,7 +1,6 @@
 -- `step::done` meets its contract.
 -- Assumes nothing.
 use borrow.Author.Needs.{needs}
-use Rattle.step.specs.Step.{doneAnswer}
 use Rattle.step.proofs.done.Statement.{statement}
 use Rattle.step.proofs.done.Tie as tie
 
@@ -15,7 +14,6 @@ number-requires : tie.Need-number-requires
 number-requires c κs = search needs
 
 returns : tie.Need-returns
-unfolding doneAnswer
 returns c = simp (c .number .ensures, c .before .with-last .ensures, c .before .before .with-channel .ensures)
 
 pub done-spec : {M : Type 1} → statement M

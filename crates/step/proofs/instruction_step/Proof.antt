@@ -6,11 +6,11 @@ use denote.Ref.{now}
 use mathlib.Core.Path.{ap, ap₂, _∙_}
 use Rattle.execute.specs.Execute.{Executed, executeOf}
 use Rattle.machine.specs.Outcomes.{settled}
-use Rattle.machine.specs.States.{channelOf}
+use Rattle.machine.specs.States.{channelOf, blockOf, busyIn}
 use Rattle.machine.specs.declared.Channel.{Channel}
 use Rattle.memory.specs.Buffers.{buffers}
 use Rattle.words.specs.Sums.{sum20}
-use Rattle.step.specs.Step.{settledStep, busyTo, instructionStep}
+use Rattle.step.specs.Step.{settledStep, instructionStep}
 use Rattle.step.specs.declared.Kind.{Kind}
 use Rattle.step.specs.declared.Kind.the-variants.{Instruction}
 use Rattle.step.proofs.StepLaws.{execute-kept, settles}
@@ -39,12 +39,12 @@ same-length-2 : tie.Need-same-length-2
 same-length-2 c = search needs
 
 returns : tie.Need-returns
-unfolding instructionStep busyTo
+unfolding instructionStep busyIn
 returns c =
     let a = c .before .before .before .before .before .before .before .before .before .before .before .before .before .before .args in
     let m = buffers (now (a .sys)) (now (a .io)) in
     let e = c .before .before .before .before .before .before .execute .ensures ∙ ap₂ (λ (x : Channel) (y : ℕ). executeOf x y m) (c .before .before .before .before .before .before .before .before .before .channel .ensures) (c .before .before .before .before .before .before .before .before .before .before .sum20 .ensures ∙ ap (λ (x : ℕ). sum20 x 1) (c .before .before .before .before .before .before .before .before .before .before .before .block .ensures)) in
-    settles _ (a .s) m (a .second) _ _ Kind.Instruction (λ ne. ap (λ (x : Executed). x .memory) e ∙ execute-kept (channelOf (a .s) (a .second)) (busyTo (a .s) (a .second)) m (λ z. ne (ap (λ (x : Executed). x .number) e ∙ z))) (c .settled .result) (c .settled .ensures)
+    settles _ (a .s) m (a .second) _ _ Kind.Instruction (λ ne. ap (λ (x : Executed). x .memory) e ∙ execute-kept (channelOf (a .s) (a .second)) (busyIn (blockOf (a .s) (a .second))) m (λ z. ne (ap (λ (x : Executed). x .number) e ∙ z))) (c .settled .result) (c .settled .ensures)
     ∙ ap (λ (x : Executed). settledStep (x .number) (a .s) m (a .second) (x .channel) (x .memory) Kind.Instruction) e
 
 pub instruction-step-spec : {M : Type 1} → statement M

@@ -2,8 +2,6 @@
 -- Assumes nothing.
 use borrow.Author.Needs.{needs}
 use borrow.Author.Tests.{eq-eqb, ne-eqb}
-use Rattle.transfer.proofs.StepLaws.{refused, done}
-use Rattle.step.specs.Step.{settledAnswer}
 use Rattle.step.proofs.settled.Statement.{statement}
 use Rattle.step.proofs.settled.Tie as tie
 
@@ -14,11 +12,9 @@ refused-requires : tie.Need-refused-requires
 refused-requires c κs = search needs
 
 returns : tie.Need-returns
-unfolding settledAnswer
 returns c = simp (c .done .ensures, c .before .if1 .taken, eq-eqb _ _ (c .before .if1 .taken))
 
 returns-2 : tie.Need-returns-2
-unfolding settledAnswer
 returns-2 c = simp (c .refused .ensures, ne-eqb _ _ (c .before .if1 .left))
 
 pub settled-spec : {M : Type 1} → statement M

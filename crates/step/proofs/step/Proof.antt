@@ -6,11 +6,8 @@ use borrow.Author.Tests.{eq-eqb, ne-eqb}
 use denote.Ref.{now}
 use mathlib.Core.Path.{sym, ap, _∙_}
 use Rattle.memory.specs.Buffers.{buffers}
-use Rattle.transfer.proofs.StepLaws.{refused}
 use Rattle.step.specs.declared.turns.Choice.{Choice}
-use Rattle.step.specs.Step.{stepped, answer, chosenStep, entryNumber, stepOf}
-use Rattle.step.specs.declared.Kind.{Kind}
-use Rattle.step.specs.declared.Kind.the-variants.{Nothing}
+use Rattle.step.specs.Step.{left, refusedAs, chosenStep, entryNumber, stepOf}
 use Rattle.step.specs.declared.Stepped.{Stepped}
 use Rattle.step.proofs.step.Statement.{statement}
 use Rattle.step.proofs.step.Tie as tie
@@ -33,7 +30,7 @@ returns c =
     let a = c .before .before .before .before .before .before .before .args in
     let m = buffers (now (a .sys)) (now (a .io)) in
     let n = c .before .before .entry-number .ensures in
-    ap (λ (x : Stepped). stepped (x .number) (x .state) m (x .channel) (x .kind)) (c .refused .ensures ∙ ap (λ (x : ℕ). answer x (a .s) 0 Kind.Nothing) n)
+    ap (λ (x : Stepped). left x m) (c .refused .ensures ∙ ap (λ (x : ℕ). refusedAs x (a .s)) n)
     ∙ rw (ne-eqb (entryNumber (a .s) m (a .lines)) 0 (λ z. c .before .if1 .taken (n ∙ z)))
 
 choose-requires : tie.Need-choose-requires

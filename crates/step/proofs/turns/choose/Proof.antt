@@ -1,4 +1,4 @@
--- `turns::choose` meets its contract.
+-- `step::turns/choose` meets its contract.
 -- Assumes nothing.
 use borrow.Author.Needs.{needs}
 use mathlib.Core.Path.{sym, ap, _∙_}

@@ -1,4 +1,4 @@
--- `turns::ends_now` meets its contract.
+-- `step::turns/ends_now` meets its contract.
 -- Assumes nothing.
 use borrow.Author.Needs.{needs}
 use Rattle.machine.specs.Psw.{transferring}

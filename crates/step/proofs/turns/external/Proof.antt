@@ -1,4 +1,4 @@
--- `turns::external` meets its contract.
+-- `step::turns/external` meets its contract.
 -- Assumes nothing.
 use borrow.Author.Needs.{needs}
 use Rattle.step.specs.Choosing.{external}

@@ -1,4 +1,4 @@
--- `turns::rank` meets its contract.
+-- `step::turns/rank` meets its contract.
 -- Assumes nothing.
 use borrow.Author.Needs.{needs}
 use borrow.Author.Tests.{not-true, not-false}

@@ -1,4 +1,4 @@
--- `turns::ranked` meets its contract.
+-- `step::turns/ranked` meets its contract.
 -- Assumes nothing.
 use borrow.Author.Needs.{needs}
 use Rattle.machine.specs.Psw.{priority}

@@ -1,4 +1,4 @@
--- `turns::request` meets its contract.
+-- `step::turns/request` meets its contract.
 -- Assumes nothing.
 use borrow.Author.Needs.{needs}
 use Rattle.step.specs.Choosing.{requested}

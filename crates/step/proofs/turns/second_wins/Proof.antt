@@ -1,4 +1,4 @@
--- `turns::second_wins` meets its contract.
+-- `step::turns/second_wins` meets its contract.
 -- Assumes nothing.
 use borrow.Author.Tests.{lt-ltb, le-ltb, le-leb, lt-leb}
 use Rattle.step.specs.Choosing.{secondWins}

@@ -1,4 +1,4 @@
--- `turns::transfer_rank` meets its contract.
+-- `step::turns/transfer_rank` meets its contract.
 -- Assumes nothing.
 use borrow.Author.Needs.{needs}
 use Rattle.machine.specs.Cc.{synchronised}
