@@ -17,9 +17,9 @@ extern "C" {
 #define IOP89_NO_STATE 17u
 
 /* The parts of an answer: the number and, of a done step, the channel (1 or 2) and what it did, else both 0. */
-#define IOP89_ANSWER_NUMBER(answer) ((unsigned)((uint32_t)(answer) & 0xFFu))
-#define IOP89_ANSWER_CHANNEL(answer) ((unsigned)((uint32_t)(answer) >> 8 & 3u))
-#define IOP89_ANSWER_KIND(answer) ((unsigned)((uint32_t)(answer) >> 10 & 3u))
+#define IOP89_ANSWER_NUMBER(answer) ((answer) & 0xFFu)
+#define IOP89_ANSWER_CHANNEL(answer) ((answer) >> 8 & 3u)
+#define IOP89_ANSWER_KIND(answer) ((answer) >> 10 & 3u)
 
 /* What a done step was. */
 enum iop89_kind { IOP89_NONE = 0, IOP89_INSTRUCTION = 1, IOP89_TRANSFER = 2, IOP89_EXTERNAL_END = 3 };
@@ -48,7 +48,7 @@ uint32_t iop89_step(uint8_t *state, size_t state_len, uint8_t *sys, size_t sys_l
 
 /* Where the block of a channel, 1 or 2, starts, and its length. */
 #define IOP89_BLOCK_LENGTH 35u
-#define IOP89_AT_CHANNEL(channel) (6u + IOP89_BLOCK_LENGTH * ((unsigned)(channel) - 1u))
+#define IOP89_AT_CHANNEL(channel) (6u + IOP89_BLOCK_LENGTH * ((channel) - 1u))
 
 /* The registers of a channel, by their offsets in its block. */
 enum iop89_register {
@@ -94,18 +94,18 @@ static inline uint32_t iop89_bytes(const uint8_t *state, size_t at, size_t width
 /* Some bytes of a state made those of a number; what does not fit is lost. */
 static inline void iop89_set_bytes(uint8_t *state, size_t at, size_t width, uint32_t value)
 {
-    for (size_t i = 0; i < width; i++, value >>= 8) state[at + i] = (uint8_t)value;
+    for (size_t i = 0; i < width; i++, value >>= 8) state[at + i] = value & 0xFFu;
 }
 
 /* A register of a channel, 1 or 2, read and set. A tag, mode or mark out of range makes the next call answer 17. */
 static inline uint32_t iop89_get(const uint8_t *state, unsigned channel, enum iop89_register which)
 {
-    return iop89_bytes(state, IOP89_AT_CHANNEL(channel) + (size_t)which, iop89_width(which));
+    return iop89_bytes(state, IOP89_AT_CHANNEL(channel) + which, iop89_width(which));
 }
 
 static inline void iop89_set(uint8_t *state, unsigned channel, enum iop89_register which, uint32_t value)
 {
-    iop89_set_bytes(state, IOP89_AT_CHANNEL(channel) + (size_t)which, iop89_width(which), value);
+    iop89_set_bytes(state, IOP89_AT_CHANNEL(channel) + which, iop89_width(which), value);
 }
 
 /* The control block's address. */
@@ -127,7 +127,7 @@ static inline unsigned iop89_last(const uint8_t *state)
 
 static inline void iop89_set_last(uint8_t *state, unsigned channel)
 {
-    state[IOP89_AT_LAST] = (uint8_t)(channel - 1u);
+    state[IOP89_AT_LAST] = (channel - 1u) & 0xFFu;
 }
 
 /* A number of these calls in words. */
