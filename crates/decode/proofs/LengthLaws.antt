@@ -1,21 +1,26 @@
--- Between two and six bytes: the bounds of an instruction's length.
+-- The bounds of an instruction's length: two to six bytes.
 -- Assumes nothing.
 use mathlib.Core.Path.{_≡_}
-use mathlib.Core.Bool.{Bool, true, false}
+use mathlib.Core.Bool.{Bool, true, false, _||_}
 use Prim.Native.Nat.{ℕ, _+_, _≤_}
 use native.Mathlib.Omega.{arith}
-use lib.Dec.{eqb, lit≤}
+use lib.Dec.{eqb, leb, lit≤}
+use Rattle.decode_shapes.specs.declared.pairs.Pair.{Pair}
 use Rattle.decode_shapes.specs.declared.Shape.{Shape}
 use Rattle.decode_shapes.specs.declared.Shape.the-variants.{Nop, Sintr, Xfer, Wid, Hlt, Lpdi, RegisterImmediate, Register, JumpRegister, RegisterMemory, MemoryRegister, MemoryImmediate, MemoryAlone, JumpMemory, Lpd, MovpLoad, MovpStore, MovMemory, Tsl, Call, JumpMasked, JumpBit, Bit}
-use Rattle.decode.specs.Lengths.{offsetBy, moreBy, partsOf, dataLength, displacementLength, lengthOf}
-use Rattle.decode.specs.declared.lengths.Parts.{Parts}
+use Rattle.decode.specs.Lengths.{offsetBy, moreBy, twoBy, dataLength, displacementLength, lengthOf}
 
 -- a byte more is at most one
 pub more-small : (b : Bool) → moreBy b ≤ 1
 more-small true = lit≤ tt
 more-small false = lit≤ tt
 
--- so is an offset
+-- two bytes more are at most two
+pub two-small : (b : Bool) → twoBy b ≤ 2
+two-small true = lit≤ tt
+two-small false = lit≤ tt
+
+-- an offset is at most one
 pub offset-small : (aa : ℕ) → offsetBy aa ≤ 1
 offset-small aa = more-small (eqb aa 1)
 
@@ -46,7 +51,6 @@ bounded (JumpMasked equal m two) = omega (arith, offset-small (m .aa), more-smal
 bounded (JumpBit set bit m two) = omega (arith, offset-small (m .aa), more-small two)
 bounded (Bit on bit m) = omega (arith, offset-small (m .aa))
 
--- the same of the parts as they were read, in the order in which they are added
-pub added : (s : Shape) (p : Parts) → p ≡ partsOf s → p .0 + offsetBy (p .1) + (p .2 + moreBy (p .3)) + (p .4 + moreBy (p .5)) ≤ 6
-unfolding lengthOf dataLength displacementLength
-added s p e = rw e (bounded s .1)
+-- what a pair announces is at most eight, in the order in which it is added
+pub pair-small : (p : Pair) → 2 + offsetBy (p .aa) + moreBy (eqb (p .dd) 1) + twoBy (leb 2 (p .dd)) + twoBy (eqb (p .opcode) 0x02 || eqb (p .opcode) 0x24) ≤ 8
+pair-small p = omega (arith, offset-small (p .aa), more-small (eqb (p .dd) 1), two-small (leb 2 (p .dd)), two-small (eqb (p .opcode) 0x02 || eqb (p .opcode) 0x24))

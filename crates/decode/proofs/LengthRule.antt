@@ -1,4 +1,4 @@
--- How many bytes an instruction has, by the table's rows: the application note's rule, from the fields of its first pair.
+-- How many bytes an instruction has, by the table's rows: the rule by the fields of its first pair.
 -- Assumes nothing.
 use mathlib.Core.Path.{_≡_, refl, sym, ap, _∙_}
 use mathlib.Core.Bool.{Bool, true, false, not, _&&_, _||_, false≢true}
@@ -17,12 +17,12 @@ use Rattle.decode_shapes.specs.declared.Shape.the-variants.{Lpdi, MovMemory, Ts
 use Rattle.decode_shapes.specs.declared.Decoded.the-variants.{Instruction, NoInstruction, ControlUsed}
 use Rattle.decode.specs.Table.{SummaryRow, row, table, accepts}
 use Rattle.decode.specs.Reading.{fits, lookup, decodeOf}
-use Rattle.decode.specs.Lengths.{offsetBy, moreBy, dataLength, displacementLength, lengthOf, noteLength}
+use Rattle.decode.specs.Lengths.{offsetBy, moreBy, twoBy, dataLength, displacementLength, lengthOf, pairLength}
 
 infixr 20 _▸_
 -- the bytes that dd announces
 announced : ℕ → ℕ
-announced d = moreBy (eqb d 1) + pick (leb 2 d) 2 0
+announced d = moreBy (eqb d 1) + twoBy (leb 2 d)
 
 -- what a pair that fits a row gives: the row's opcode, AA and dd as the columns print them
 pub record Fitting (r : SummaryRow) (p : Pair) : Type 0 where
@@ -66,72 +66,72 @@ announced-wb w d h = go (eqb w 0) refl (eqb d 1) refl (eqb w 1) refl h
 ordinary : ℕ → Bool
 ordinary k = not (eqb k 0x02) && not (eqb k 0x24)
 
-note : (p : Pair) (k : ℕ) → p .opcode ≡ k → T (ordinary k) → noteLength p ≡ 2 + offsetBy (p .aa) + announced (p .dd)
-unfolding noteLength announced ordinary
-note p k e t = rw e (go (eqb k 0x02) (eqb k 0x24) t)
+by-fields : (p : Pair) (k : ℕ) → p .opcode ≡ k → T (ordinary k) → pairLength p ≡ 2 + offsetBy (p .aa) + announced (p .dd)
+unfolding pairLength announced ordinary
+by-fields p k e t = rw e (go (eqb k 0x02) (eqb k 0x24) t)
   where
-    go : (a b : Bool) → T (not a && not b) → 2 + offsetBy (p .aa) + moreBy (eqb (p .dd) 1) + pick (leb 2 (p .dd)) 2 0 + pick a 2 0 + pick b 2 0 ≡ 2 + offsetBy (p .aa) + (moreBy (eqb (p .dd) 1) + pick (leb 2 (p .dd)) 2 0)
+    go : (a b : Bool) → T (not a && not b) → 2 + offsetBy (p .aa) + moreBy (eqb (p .dd) 1) + twoBy (leb 2 (p .dd)) + twoBy (a || b) ≡ 2 + offsetBy (p .aa) + announced (p .dd)
     go false false u = omega arith
     go false true u = absurd u
     go true b u = absurd u
 
 -- the rule holds at a row
 Right : SummaryRow → Type 0
-Right r = (p : Pair) → fits r p ≡ true → lengthOf (r .shape p) ≡ noteLength p
+Right r = (p : Pair) → fits r p ≡ true → lengthOf (r .shape p) ≡ pairLength p
 
 -- rows without data and displacement
 plain-memory : (r w : Column) (k : ℕ) (c : Bool) (s : Pair → Shape) → T (ordinary k) → ((p : Pair) → lengthOf (s p) ≡ 2 + offsetBy (p .aa) + 0 + 0) → Right (row r '00 'AA w k 'MM c s)
 unfolding Right announced
 plain-memory r w k c s t h p f =
     let g = fitting (row r '00 'AA w k 'MM c s) p f in
-    omega (arith, h p, note p k (g .opcode) t, ap announced (eqb-true (p .dd) 0 (g .dd)))
+    omega (arith, h p, by-fields p k (g .opcode) t, ap announced (eqb-true (p .dd) 0 (g .dd)))
 
 plain-register : (r w : Column) (k : ℕ) (c : Bool) (s : Pair → Shape) → T (ordinary k) → ((p : Pair) → lengthOf (s p) ≡ 2) → Right (row r '00 '00 w k '00 c s)
 unfolding Right announced
 plain-register r w k c s t h p f =
     let g = fitting (row r '00 '00 w k '00 c s) p f in
-    omega (arith, h p, note p k (g .opcode) t, ap announced (eqb-true (p .dd) 0 (g .dd)), ap offsetBy (eqb-true (p .aa) 0 (g .aa)))
+    omega (arith, h p, by-fields p k (g .opcode) t, ap announced (eqb-true (p .dd) 0 (g .dd)), ap offsetBy (eqb-true (p .aa) 0 (g .aa)))
 
 -- rows with a displacement
 jump-memory : (r w : Column) (k : ℕ) (c : Bool) (s : Pair → Shape) → T (ordinary k) → ((p : Pair) → lengthOf (s p) ≡ 2 + offsetBy (p .aa) + 0 + (1 + moreBy (twoOf p))) → Right (row r 'dd 'AA w k 'MM c s)
 unfolding Right
 jump-memory r w k c s t h p f =
     let g = fitting (row r 'dd 'AA w k 'MM c s) p f in
-    omega (arith, h p, note p k (g .opcode) t, announced-dd (p .w) (p .dd) (g .dd))
+    omega (arith, h p, by-fields p k (g .opcode) t, announced-dd (p .w) (p .dd) (g .dd))
 
 jump-register : (r w : Column) (k : ℕ) (c : Bool) (s : Pair → Shape) → T (ordinary k) → ((p : Pair) → lengthOf (s p) ≡ 2 + (1 + moreBy (twoOf p))) → Right (row r 'dd '00 w k '00 c s)
 unfolding Right
 jump-register r w k c s t h p f =
     let g = fitting (row r 'dd '00 w k '00 c s) p f in
-    omega (arith, h p, note p k (g .opcode) t, announced-dd (p .w) (p .dd) (g .dd), ap offsetBy (eqb-true (p .aa) 0 (g .aa)))
+    omega (arith, h p, by-fields p k (g .opcode) t, announced-dd (p .w) (p .dd) (g .dd), ap offsetBy (eqb-true (p .aa) 0 (g .aa)))
 
 -- rows with an immediate
 data-memory : (r w : Column) (k : ℕ) (c : Bool) (s : Pair → Shape) → T (ordinary k) → ((p : Pair) → lengthOf (s p) ≡ 2 + offsetBy (p .aa) + (1 + moreBy (wideOf p)) + 0) → Right (row r 'wb 'AA w k 'MM c s)
 unfolding Right
 data-memory r w k c s t h p f =
     let g = fitting (row r 'wb 'AA w k 'MM c s) p f in
-    omega (arith, h p, note p k (g .opcode) t, announced-wb (p .w) (p .dd) (g .dd))
+    omega (arith, h p, by-fields p k (g .opcode) t, announced-wb (p .w) (p .dd) (g .dd))
 
 data-register : (r w : Column) (k : ℕ) (c : Bool) (s : Pair → Shape) → T (ordinary k) → ((p : Pair) → lengthOf (s p) ≡ 2 + (1 + moreBy (wideOf p)) + 0) → Right (row r 'wb '00 w k '00 c s)
 unfolding Right
 data-register r w k c s t h p f =
     let g = fitting (row r 'wb '00 w k '00 c s) p f in
-    omega (arith, h p, note p k (g .opcode) t, announced-wb (p .w) (p .dd) (g .dd), ap offsetBy (eqb-true (p .aa) 0 (g .aa)))
+    omega (arith, h p, by-fields p k (g .opcode) t, announced-wb (p .w) (p .dd) (g .dd), ap offsetBy (eqb-true (p .aa) 0 (g .aa)))
 
 lpdi : Right (row 'PPP '10 '00 '1 0x02 '00 accepts (λ p. Lpdi (p .rrr)))
-unfolding Right lengthOf dataLength displacementLength noteLength
+unfolding Right lengthOf dataLength displacementLength pairLength
 lpdi p f =
     let g = fitting (row 'PPP '10 '00 '1 0x02 '00 accepts (λ p. Lpdi (p .rrr))) p f in
     rw (g .opcode, eqb-true (p .dd) 2 (g .dd), eqb-true (p .aa) 0 (g .aa))
 
 tsl : Right (row '000 '11 'AA '0 0x25 'MM accepts (λ p. Tsl (memoryOf p)))
-unfolding Right lengthOf dataLength displacementLength noteLength
+unfolding Right lengthOf dataLength displacementLength pairLength
 tsl p f =
     let g = fitting (row '000 '11 'AA '0 0x25 'MM accepts (λ p. Tsl (memoryOf p))) p f in
     rw (g .opcode, eqb-true (p .dd) 3 (g .dd)) (omega arith)
 
 mov-memory : Right (row '000 '00 'AA 'W 0x24 'MM accepts (λ p. MovMemory (memoryOf p)))
-unfolding Right lengthOf dataLength displacementLength noteLength
+unfolding Right lengthOf dataLength displacementLength pairLength
 mov-memory p f =
     let g = fitting (row '000 '00 'AA 'W 0x24 'MM accepts (λ p. MovMemory (memoryOf p))) p f in
     rw (g .opcode, eqb-true (p .dd) 0 (g .dd)) (omega arith)
@@ -191,7 +191,7 @@ rights =
     ▸ plain-register _ _ _ _ _ tt (λ p. refl)  -- WID
     ▸ end
 
-found : (rs : List SummaryRow) (p : Pair) (s : Shape) → Rights rs → lookup rs p ≡ Instruction s → lengthOf s ≡ noteLength p
+found : (rs : List SummaryRow) (p : Pair) (s : Shape) → Rights rs → lookup rs p ≡ Instruction s → lengthOf s ≡ pairLength p
 unfolding lookup Right
 found [] p s end e = absurd (three e)
   where
@@ -199,14 +199,14 @@ found [] p s end e = absurd (three e)
     three h = let z : _≡_ {A = ℕ} 0 1 = cc in omega arith
 found (r ∷ rs) p s (h ▸ hs) e = go (fits r p) refl (r .control && isControl p) (found rs p s hs) e
   where
-    go : (f : Bool) → fits r p ≡ f → (u : Bool) → (lookup rs p ≡ Instruction s → lengthOf s ≡ noteLength p) → pick f (pick u ControlUsed (Instruction (r .shape p))) (lookup rs p) ≡ Instruction s → lengthOf s ≡ noteLength p
+    go : (f : Bool) → fits r p ≡ f → (u : Bool) → (lookup rs p ≡ Instruction s → lengthOf s ≡ pairLength p) → pick f (pick u ControlUsed (Instruction (r .shape p))) (lookup rs p) ≡ Instruction s → lengthOf s ≡ pairLength p
     go true g true later t = let z : _≡_ {A = ℕ} 0 1 = cc in absurd (eqb-false 0 1 refl z)
     go true g false later t =
         let same : r .shape p ≡ s = cc in
         ap lengthOf (sym same) ∙ h p g
     go false g u later t = later t
 
--- an instruction is as long as the application note's rule says
-pub note-rule : (first second : ℕ) (s : Shape) → decodeOf first second ≡ Instruction s → lengthOf s ≡ noteLength (pairOf first second)
+-- an instruction is as long as its pair says
+pub pair-rule : (first second : ℕ) (s : Shape) → decodeOf first second ≡ Instruction s → lengthOf s ≡ pairLength (pairOf first second)
 unfolding decodeOf
-note-rule first second s e = found table (pairOf first second) s rights e
+pair-rule first second s e = found table (pairOf first second) s rights e

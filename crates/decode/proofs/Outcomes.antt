@@ -123,7 +123,7 @@ four-exactly first second =
     let f = both (eqb n 4) (usesControl table p) (isControl p) (used table p tt) in
     (λ e. let g = f .0 (eq-eqb n 4 e) in (eqb-true (p .rrr) 6 (g .0), g .1), λ e. eqb-true n 4 (f .1 (eq-eqb (p .rrr) 6 (e .0), e .1)))
 
--- pairs of the paper's cases: MOVI GA with a byte, MOVI BC with a word, JMP as ADDI to TP, HLT, and CALL with W 0
+-- some pairs: MOVI GA with a byte, MOVI BC with a word, JMP as ADDI to TP, HLT, and CALL with W 0
 pub movi-byte : decodeOf 0x08 0x30 ≡ Instruction (RegisterImmediate Work.Mov 0 false)
 unfolding decodeOf lookup table pairOf fieldOf
 movi-byte = refl

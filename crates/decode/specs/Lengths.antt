@@ -1,5 +1,5 @@
--- How many bytes an instruction has. "Order in memory: pair, offset byte, data (LPDI four bytes, TSL one), displacement (TSL one byte)."
-use mathlib.Core.Bool.{Bool, false}
+-- How many bytes an instruction has and what they are for: pair, offset byte, data, displacement, in this order (§6.6).
+use mathlib.Core.Bool.{Bool, _||_}
 use Prim.Native.Nat.{ℕ, _+_}
 use lib.Dec.{eqb, leb}
 use Rattle.words.specs.Choice.{pick}
@@ -7,41 +7,67 @@ use Rattle.decode_shapes.specs.declared.Memory.{Memory}
 use Rattle.decode_shapes.specs.declared.pairs.Pair.{Pair}
 use Rattle.decode_shapes.specs.declared.Shape.{Shape}
 use Rattle.decode_shapes.specs.declared.Shape.the-variants.{Nop, Sintr, Xfer, Wid, Hlt, Lpdi, RegisterImmediate, Register, JumpRegister, RegisterMemory, MemoryRegister, MemoryImmediate, MemoryAlone, JumpMemory, Lpd, MovpLoad, MovpStore, MovMemory, Tsl, Call, JumpMasked, JumpBit, Bit}
-use Rattle.decode.specs.declared.lengths.Parts.{Parts}
 
 -- one byte more, or none
 abbrev pub moreBy : Bool → ℕ
-moreBy two = pick two 1 0
+moreBy more = pick more 1 0
 
--- what the bytes are for: those of the pairs; AA; data, and whether one byte more; displacement, and whether one byte more
-abbrev pub partsOf : Shape → Parts
-partsOf Nop = (2, 0, 0, false, 0, false)
-partsOf Sintr = (2, 0, 0, false, 0, false)
-partsOf Xfer = (2, 0, 0, false, 0, false)
-partsOf (Wid source destination) = (2, 0, 0, false, 0, false)
-partsOf Hlt = (2, 0, 0, false, 0, false)
-partsOf (Lpdi ppp) = (2, 0, 4, false, 0, false)
-partsOf (RegisterImmediate work rrr wide) = (2, 0, 1, wide, 0, false)
-partsOf (Register single rrr) = (2, 0, 0, false, 0, false)
-partsOf (JumpRegister zero rrr two) = (2, 0, 0, false, 1, two)
-partsOf (RegisterMemory work rrr m) = (2, m .aa, 0, false, 0, false)
-partsOf (MemoryRegister work rrr m) = (2, m .aa, 0, false, 0, false)
-partsOf (MemoryImmediate work m) = (2, m .aa, 1, m .wide, 0, false)
-partsOf (MemoryAlone single m) = (2, m .aa, 0, false, 0, false)
-partsOf (JumpMemory zero m two) = (2, m .aa, 0, false, 1, two)
-partsOf (Lpd ppp m) = (2, m .aa, 0, false, 0, false)
-partsOf (MovpLoad ppp m) = (2, m .aa, 0, false, 0, false)
-partsOf (MovpStore ppp m) = (2, m .aa, 0, false, 0, false)
-partsOf (MovMemory m) = (4, m .aa, 0, false, 0, false)
-partsOf (Tsl m) = (2, m .aa, 1, false, 1, false)
-partsOf (Call m two) = (2, m .aa, 0, false, 1, two)
-partsOf (JumpMasked equal m two) = (2, m .aa, 0, false, 1, two)
-partsOf (JumpBit set bit m two) = (2, m .aa, 0, false, 1, two)
-partsOf (Bit on bit m) = (2, m .aa, 0, false, 0, false)
+-- two bytes more, or none
+abbrev pub twoBy : Bool → ℕ
+twoBy more = pick more 2 0
 
--- AA 01: "base + unsigned byte"
+-- an offset byte follows where AA is 01
 abbrev pub offsetBy : ℕ → ℕ
 offsetBy aa = moreBy (eqb aa 1)
+
+-- data or a displacement of one byte or two
+abbrev pub oneOrTwo : Bool → ℕ
+oneOrTwo two = 1 + moreBy two
+
+-- how many bytes an instruction has of each kind; a second pair's own offset byte is not among them
+pub record Parts : Type 0 where
+  pub pairs : ℕ
+  pub offset : ℕ
+  pub immediate : ℕ
+  pub displacement : ℕ
+
+-- the pair alone
+abbrev pub pairAlone : Parts
+pairAlone = record { pairs = 2; offset = 0; immediate = 0; displacement = 0 }
+
+-- the pair of a memory operand
+abbrev pub operandPair : Memory → Parts
+operandPair m = record { pairs = 2; offset = offsetBy (m .aa); immediate = 0; displacement = 0 }
+
+-- the pair of a memory operand, and a displacement
+abbrev pub operandJump : Memory → Bool → Parts
+operandJump m two = record { pairs = 2; offset = offsetBy (m .aa); immediate = 0; displacement = oneOrTwo two }
+
+-- what the bytes of an instruction of each shape are for
+abbrev pub partsOf : Shape → Parts
+partsOf Nop = pairAlone
+partsOf Sintr = pairAlone
+partsOf Xfer = pairAlone
+partsOf (Wid source destination) = pairAlone
+partsOf Hlt = pairAlone
+partsOf (Lpdi ppp) = record { pairs = 2; offset = 0; immediate = 4; displacement = 0 }
+partsOf (RegisterImmediate work rrr wide) = record { pairs = 2; offset = 0; immediate = oneOrTwo wide; displacement = 0 }
+partsOf (Register single rrr) = pairAlone
+partsOf (JumpRegister zero rrr two) = record { pairs = 2; offset = 0; immediate = 0; displacement = oneOrTwo two }
+partsOf (RegisterMemory work rrr m) = operandPair m
+partsOf (MemoryRegister work rrr m) = operandPair m
+partsOf (MemoryImmediate work m) = record { pairs = 2; offset = offsetBy (m .aa); immediate = oneOrTwo (m .wide); displacement = 0 }
+partsOf (MemoryAlone single m) = operandPair m
+partsOf (JumpMemory zero m two) = operandJump m two
+partsOf (Lpd ppp m) = operandPair m
+partsOf (MovpLoad ppp m) = operandPair m
+partsOf (MovpStore ppp m) = operandPair m
+partsOf (MovMemory m) = record { pairs = 4; offset = offsetBy (m .aa); immediate = 0; displacement = 0 }
+partsOf (Tsl m) = record { pairs = 2; offset = offsetBy (m .aa); immediate = 1; displacement = 1 }
+partsOf (Call m two) = operandJump m two
+partsOf (JumpMasked equal m two) = operandJump m two
+partsOf (JumpBit set bit m two) = operandJump m two
+partsOf (Bit on bit m) = operandPair m
 
 -- the bytes of an operand's offset
 unfoldable pub offsetLength : Memory → ℕ
@@ -49,16 +75,17 @@ offsetLength m = offsetBy (m .aa)
 
 -- the bytes of data
 unfoldable pub dataLength : Shape → ℕ
-dataLength s = partsOf s .2 + moreBy (partsOf s .3)
+dataLength s = partsOf s .immediate
 
 -- the bytes of the displacement
 unfoldable pub displacementLength : Shape → ℕ
-displacementLength s = partsOf s .4 + moreBy (partsOf s .5)
+displacementLength s = partsOf s .displacement
 
 -- the bytes of an instruction, without the offset byte of a second pair
 unfoldable pub lengthOf : Shape → ℕ
-lengthOf s = partsOf s .0 + offsetBy (partsOf s .1) + dataLength s + displacementLength s
+lengthOf s = partsOf s .pairs + partsOf s .offset + dataLength s + displacementLength s
 
--- the application note's rule, by a pair's fields: "length (in bytes) = 2 + 1 (if bits 1,0 = 01) + 1 (if bits 3,2 = 01) + 2 (if bit 3 = 1) + 2 (if LPDI)", and for MOV M,M the two bytes of its second pair
-unfoldable pub noteLength : Pair → ℕ
-noteLength p = 2 + offsetBy (p .aa) + moreBy (eqb (p .dd) 1) + pick (leb 2 (p .dd)) 2 0 + pick (eqb (p .opcode) 0x02) 2 0 + pick (eqb (p .opcode) 0x24) 2 0
+-- the same from a pair that begins an instruction: two bytes, one more where AA is 01, as many as dd announces (TSL's 11 announces two), two more for LPDI and for the second pair of MOV M,M
+unfoldable pub pairLength : Pair → ℕ
+pairLength p =
+    2 + offsetBy (p .aa) + moreBy (eqb (p .dd) 1) + twoBy (leb 2 (p .dd)) + twoBy (eqb (p .opcode) 0x02 || eqb (p .opcode) 0x24)

@@ -1,4 +1,4 @@
--- What a pair of bytes is by the table, and the paper's number for each answer.
+-- What a pair of bytes is by the table, and the number that is handed back for each answer.
 use mathlib.Core.Bool.{Bool, false, _&&_, _||_}
 use mathlib.Core.List.{List, [], _∷_}
 use Prim.Native.Nat.{ℕ}
@@ -27,7 +27,7 @@ lookup (r ∷ rs) p = pick (fits r p) (pick (r .control && isControl p) ControlU
 unfoldable pub decodeOf : ℕ → ℕ → Decoded
 decodeOf first second = lookup table (pairOf first second)
 
--- the paper's number for each answer to a first pair
+-- the number for each answer to a first pair
 abbrev pub numberOf : Decoded → ℕ
 numberOf (Instruction shape) = 0
 numberOf NoInstruction = 3
@@ -43,13 +43,13 @@ unfoldable pub usesControl : List SummaryRow → Pair → Bool
 usesControl [] p = false
 usesControl (r ∷ rs) p = fits r p && r .control || usesControl rs p
 
--- "MOV M,M, whose second pair is 00000AAW, opcode 33, same W"
+-- the second pair of MOV M,M: opcode 33h, the W of the first pair, RRR and dd 0 (§6.5)
 unfoldable pub secondOf : ℕ → ℕ → Bool → Second
 secondOf first second wide =
     let p = pairOf first second in
     pick (eqb (p .opcode) 0x33 && columns '000 '00 'AA (pick wide '1 '0) 'MM p) (Operand (memoryOf p)) NoSecond
 
--- the paper's number for each answer to a second pair
+-- the number for each answer to a second pair
 abbrev pub secondNumberOf : Second → ℕ
 secondNumberOf (Operand m) = 0
 secondNumberOf NoSecond = 3

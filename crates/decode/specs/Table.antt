@@ -1,4 +1,4 @@
--- The instruction summary, row by row: the first byte RRR dd AA W, the second opcode and MM.
+-- The instruction summary, row by row: the first byte RRR dd AA W, the second opcode and MM (§6.3).
 use mathlib.Core.Bool.{Bool, true, false}
 use mathlib.Core.List.{List, [], _∷_}
 use Prim.Native.Nat.{ℕ}
@@ -74,7 +74,7 @@ table =
     ∷ row 'RRR 'wb '00 'W 0x0A '00 refuses {- ANDI R,I -} (λ p. RegisterImmediate Work.And (p .rrr) (wideOf p))
     ∷ row 'RRR '00 'AA 'W 0x36 'MM refuses {- AND M,R  -} (λ p. MemoryRegister Work.And (p .rrr) (memoryOf p))
     ∷ row 'RRR '00 'AA 'W 0x2A 'MM refuses {- AND R,M  -} (λ p. RegisterMemory Work.And (p .rrr) (memoryOf p))
-    -- Arithmetic and Logic: OR. For ORI R,I the sheet prints AA, against its sister rows
+    -- Arithmetic and Logic: OR. ORI R,I has AA 00 as its sisters have
     ∷ row '000 'wb 'AA 'W 0x31 'MM accepts {- ORI M,I  -} (λ p. MemoryImmediate Work.Or (memoryOf p))
     ∷ row 'RRR 'wb '00 'W 0x09 '00 refuses {- ORI R,I  -} (λ p. RegisterImmediate Work.Or (p .rrr) (wideOf p))
     ∷ row 'RRR '00 'AA 'W 0x35 'MM refuses {- OR M,R   -} (λ p. MemoryRegister Work.Or (p .rrr) (memoryOf p))

@@ -1,16 +1,15 @@
-// The two bytes of an instruction's pair, read into one of the instruction's shapes or refused, and how many bytes an
+// The two bytes of an instruction's pair, read into one of the instruction's shapes or refused, and how many bytes the
 // instruction has.
-mod lengths;
 mod reads;
 
 use decode_shapes::Decoded;
 use decode_shapes::Memory;
 use decode_shapes::Second;
-use decode_shapes::Shape;
 use decode_shapes::pairs;
 ghost use mathlib.Core.Path.{_≡_};
-ghost use Rattle.decode.specs.Reading.{decodeOf, numberOf, secondOf};
-ghost use Rattle.decode.specs.Lengths.{offsetLength, dataLength, displacementLength, lengthOf};
+ghost use Rattle.decode_shapes.specs.Pairs.{pairOf};
+ghost use Rattle.decode.specs.Reading.{decodeOf, numberOf, secondOf, secondNumberOf};
+ghost use Rattle.decode.specs.Lengths.{moreBy, twoBy, offsetLength, pairLength};
 
 // What the first two bytes of an instruction are.
 pub fn decode(first: u8, second: u8) -> Decoded
@@ -42,33 +41,45 @@ pub fn decode_second(first: u8, second: u8, wide: bool) -> Second
     }
 }
 
+// The number of an answer to a second pair.
+pub fn second_number(s: Second) -> u32
+    ensures { λ r. ⌜ r ≡ secondNumberOf s ⌝ }
+{
+    match s {
+        Second::Operand(_) => 0,
+        Second::NoSecond => 3,
+    }
+}
+
+// One byte more, or none.
+fn more(test: bool) -> u32
+    ensures { λ r. ⌜ r ≡ moreBy test ⌝ }
+{
+    if test { 1 } else { 0 }
+}
+
+// Two bytes more, or none.
+fn two_more(test: bool) -> u32
+    ensures { λ r. ⌜ r ≡ twoBy test ⌝ }
+{
+    if test { 2 } else { 0 }
+}
+
 // The bytes of an offset: one for AA 01.
 pub fn offset_length(m: Memory) -> u32
     ensures { λ r. ⌜ r ≡ offsetLength m ⌝ }
 {
-    lengths::more(m.aa == 1)
+    more(m.aa == 1)
 }
 
-// The bytes of immediate data: one or two, four for LPDI, one for TSL.
-pub fn data_length(s: Shape) -> u32
-    ensures { λ r. ⌜ r ≡ dataLength s ⌝ }
+// The bytes of the instruction that a pair begins; for MOV M,M without the offset byte of its second pair.
+pub fn pair_length(first: u8, second: u8) -> u32
+    ensures { λ r. ⌜ r ≡ pairLength (pairOf first second) ⌝ }
 {
-    let p = lengths::parts_of(s);
-    p.2 + lengths::more(p.3)
-}
-
-// The bytes of the displacement: none, one or two.
-pub fn displacement_length(s: Shape) -> u32
-    ensures { λ r. ⌜ r ≡ displacementLength s ⌝ }
-{
-    let p = lengths::parts_of(s);
-    p.4 + lengths::more(p.5)
-}
-
-// The bytes of an instruction; for MOV M,M without the offset byte of its second pair.
-pub fn length(s: Shape) -> u32
-    ensures { λ r. ⌜ r ≡ lengthOf s ⌝ }
-{
-    let p = lengths::parts_of(s);
-    p.0 + lengths::more(p.1 == 1) + (p.2 + lengths::more(p.3)) + (p.4 + lengths::more(p.5))
+    let p = pairs::split(first, second);
+    2
+        + more(p.aa == 1)
+        + more(p.dd == 1)
+        + two_more(2 <= p.dd)
+        + two_more((p.opcode == 0x02) | (p.opcode == 0x24))
 }

@@ -6,7 +6,7 @@ use Rattle.words.specs.Bits.{fieldOf}
 use Rattle.decode_shapes.specs.declared.Memory.{Memory}
 use Rattle.decode_shapes.specs.declared.pairs.Pair.{Pair}
 
--- "First byte RRR dd AA W, second opcode and MM"
+-- the first byte is RRR, dd, AA and W, the second the opcode and MM, from the highest bit down (§6.1)
 unfoldable pub pairOf : ℕ → ℕ → Pair
 pairOf first second =
     record {
@@ -37,7 +37,7 @@ pub data Column : Type 0 where
   '000 '001 '010 '011 '100 '1SD : Column
   'RRR 'PPP 'BBB 'dd 'wb 'AA 'W 'MM : Column
 
--- whether a field, beside W, is as its column prints it: "Fields printed in 001 as fixed must hold that value; dd is 01 (one byte) or 10 (two) where it stands, and for an immediate agrees with W"; "PPP: GA, GB, GC, TP only"
+-- whether a field, beside W, is as its column asks (§6.2): bits that are printed must be there; PPP is a pointer; dd is 01 or 10, and wb is the one of them that W asks for
 abbrev pub meets : Column → ℕ → ℕ → Bool
 meets '0 w field = eqb field 0b0
 meets '1 w field = eqb field 0b1

@@ -11,6 +11,6 @@ use Rattle.decode_shapes.specs.declared.Decoded.the-variants.{Instructio
 abbrev pub isControl : Pair → Bool
 isControl p = eqb (p .rrr) 6
 
--- 3 where the columns are not met; then 4, "CC used by anything but MOV or MOVI"; else the instruction
+-- 3 where the columns are not met; then 4, where work other than MOV and MOVI uses CC; else the instruction (§6.4)
 abbrev pub reading : Bool → Bool → Shape → Decoded
 reading met control shape = pick met (pick control ControlUsed (Instruction shape)) NoInstruction

@@ -1,5 +1,4 @@
-// The rows of the instruction summary, one function for those that differ only in their work, and the choice of a row
-// by the opcode.
+// The rows of the instruction summary, one function for those that differ only in their work.
 ghost use mathlib.Core.Path.{_≡_};
 ghost use mathlib.Core.Bool.{true, false, _&&_};
 ghost use Rattle.decode_shapes.specs.Pairs.{columns, wideOf, twoOf};

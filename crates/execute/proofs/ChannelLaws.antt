@@ -8,7 +8,6 @@ use mathlib.Core.Bool.{Bool, true, false, not, _&&_, _||_}
 use mathlib.Core.Path.{_≡_, refl, sym, ap, _∙_}
 use native.Mathlib.Nat.{mod-lt}
 use Rattle.decode.specs.Lengths.{offsetLength, lengthOf}
-use Rattle.decode.specs.Reading.{secondOf}
 use Rattle.decode_shapes.specs.declared.Decoded.the-variants.{Instruction}
 use Rattle.decode_shapes.specs.declared.Memory.{Memory}
 use Rattle.decode_shapes.specs.declared.Second.{Second}
@@ -16,16 +15,16 @@ use Rattle.decode_shapes.specs.declared.Second.the-variants.{Operand, NoSecond}
 use Rattle.decode_shapes.specs.declared.Shape.{Shape}
 use Rattle.decode_shapes.specs.declared.Shape.the-variants.{Nop, Sintr, Xfer, Wid, Hlt, Lpdi, RegisterImmediate, Register, JumpRegister, RegisterMemory, MemoryRegister, MemoryImmediate, MemoryAlone, JumpMemory, Lpd, MovpLoad, MovpStore, MovMemory, Tsl, Call, JumpMasked, JumpBit, Bit}
 use Rattle.decode_shapes.specs.declared.Work.{Work}
-use Rattle.machine.specs.Outcomes.{unless, first}
 use Rattle.machine.specs.Psw.{programRunning, interruptControl, transferring, withPsw}
 use Rattle.machine.specs.Registers.{tagOf, withRegister, moved, worked}
 use Rattle.machine.specs.States.{soundChannel}
+use Rattle.machine.specs.Updates.{withControl, renewed, stoppedPsw, halted}
 use Rattle.machine.specs.declared.Channel.{Channel}
 use Rattle.machine.specs.declared.Mode.the-variants.{Idle}
 use Rattle.memory.proofs.StoreLaws.{read-same}
 use Rattle.memory.specs.Buffers.{Buffers, lentAt, byteAt}
 use Rattle.memory.specs.Places.{span, allLent}
-use Rattle.memory.specs.Values.{pointer}
+use Rattle.memory.specs.Values.{pointer, onward}
 use Rattle.memory.specs.declared.Pointer.{Pointer}
 use Rattle.words.proofs.BitLaws.{bit-same, bit-other}
 use Rattle.words.proofs.ChoiceLaws.{apart, both-left, both-right}
@@ -34,17 +33,14 @@ use Rattle.words.specs.Choice.{pick}
 use Rattle.words.specs.Signs.{displacedBy}
 use Rattle.execute_operands.specs.Changes.{placesOf, changed}
 use Rattle.execute_deeds.specs.Control.{withStatus, nopDeed, sintrDeed, xferDeed, widDeed, hltDeed}
-use Rattle.execute_deeds.specs.Deeds.{effectOf}
 use Rattle.execute_deeds.specs.JumpForms.{jumpRegisterDeed, jumpMemoryDeed, jumpByteDeed, jumpMaskedDeed, jumpBitDeed, tslDeed, callDeed}
-use Rattle.execute_deeds.specs.MemoryForms.{memoryWorkDeed, memoryRegisterDeed, memoryImmediateDeed, memoryAloneDeed, movpStoreDeed, bitDeed, movOperandDeed, movSecondDeed, movMemoryDeed}
-use Rattle.execute_operands.specs.Operands.{afterPair, byteHere, bytesAt, usedUp, pastInstruction, further, sizeOf, effective, grown, displacementAt, jumped, jumpedIf, isMove}
-use Rattle.machine.specs.Updates.{renewed}
-use Rattle.memory.specs.Values.{onward}
+use Rattle.execute_deeds.specs.MemoryForms.{memoryWorkDeed, memoryRegisterDeed, memoryImmediateDeed, memoryAloneDeed, movpStoreDeed, bitDeed, movOperandDeed, movSecondDeed, secondAt, movMemoryDeed}
+use Rattle.execute_operands.specs.Marks.{usedUp, pastInstruction, marked}
+use Rattle.execute_operands.specs.Operands.{afterPair, byteHere, further, sizeOf, effective, grown, displacementAt, landing, jumpedIf, isMove}
 use Rattle.execute_deeds.specs.RegisterForms.{registerWritten, registerImmediateDeed, registerDeed, registerMemoryDeed, lpdiDeed, lpdDeed, movpLoadDeed}
-use Rattle.machine.proofs.ConditionLaws.{first-none-right, unless-none}
-use Rattle.execute.specs.Execute.{decodedAt, performed, deedOf, laterBytes, shapeNumber, numberFrom, executeNumber, executeOf}
+use Rattle.execute.specs.Execute.{decodedAt, performed, deedOf, deedFrom, executeOf}
 use Rattle.execute.specs.Kept.{Halts, Arms}
-use Rattle.execute.proofs.OutcomeLaws.{number-is, by-number, done}
+use Rattle.execute.proofs.OutcomeLaws.{number-is, stores-lent, by-number, done}
 
 -- ---- soundness
 
@@ -135,15 +131,14 @@ goes-on : (c : Channel) (n : ℕ) → Steady c (further c n)
 unfolding further
 goes-on c n = placed c (onward (c .tp) n) (c .ix) (λ s. onward-small (c .tp) n)
 
-jumps : (m : Buffers) (c : Channel) (p : Pointer) (two : Bool) → Steady c (jumped m c p two)
-unfolding jumped
-jumps m c p two =
-    placed c (pointer (displacedBy (c .tp .address) (displacementAt m p two)) (c .tp .tag)) (c .ix)
-    (λ s. displaced-small (c .tp .address) (displacementAt m p two))
+landing-small : (taken : Bool) (m : Buffers) (tp p : Pointer) (two : Bool) → Small tp → Small (pick taken (landing m tp p two) tp)
+unfolding landing
+landing-small true m tp p two s = displaced-small (tp .address) (displacementAt m p two)
+landing-small false m tp p two s = s
 
 jumps-if : (taken : Bool) (m : Buffers) (c : Channel) (p : Pointer) (two : Bool) → Steady c (jumpedIf taken m c p two)
 unfolding jumpedIf
-jumps-if taken m c p two = chosen taken (jumped m c p two) c (jumps m c p two) (same c)
+jumps-if taken m c p two = placed c (pick taken (landing m (c .tp) p two) (c .tp)) (c .ix) (landing-small taken m (c .tp) p two)
 
 writes : (work : Work) (c : Channel) (r v : ℕ) → Steady c (registerWritten work c r v)
 unfolding registerWritten
@@ -205,7 +200,7 @@ sintr-xf psw true = xf-other psw 4 true (eqb-false 6 4 refl)
 sintr-xf psw false = refl
 
 armed-xfer : (c : Channel) (armed : Bool) → After Xfer armed c ((xferDeed c armed) .channel)
-unfolding xferDeed renewed
+unfolding xferDeed marked renewed
 armed-xfer c armed = record {
   halts = false;
   halts-is = λ h. apart (sym h);
@@ -218,9 +213,9 @@ armed-xfer c armed = record {
   sound = sound-by c ((xferDeed c armed) .channel) refl (λ s. s) (λ s. s) (λ s. s) (λ s. s);
 }
 
-halted : (c : Channel) (busy : ℕ) (armed : Bool) → After Hlt armed c ((hltDeed c busy) .channel)
-unfolding hltDeed renewed withPsw
-halted c busy armed = record {
+hlt-halts : (c : Channel) (busy : ℕ) (armed : Bool) → After Hlt armed c ((hltDeed c busy) .channel)
+unfolding hltDeed halted withControl stoppedPsw withPsw
+hlt-halts c busy armed = record {
   halts = true;
   halts-is = λ h. refl;
   arms = false;
@@ -239,7 +234,7 @@ module _ (m : Buffers) (c : Channel) (tp : Pointer) where
     where
       go : (b : Bool) → eqb (byteHere m (effective m c o tp)) 0 ≡ b → Steady c ((tslDeed m c tp o) .channel)
       go true e = rw e (grows c o 1)
-      go false e = rw e (then (grows c o 1) (jumps m (grown c o 1) (onward (afterPair tp o) 1) false))
+      go false e = rw e (then (grows c o 1) (jumps-if true m (grown c o 1) (onward (afterPair tp o) 1) false))
 
   second-steady : (o : Memory) (q : Second) → Steady c ((movSecondDeed m c tp o q) .channel)
   unfolding movSecondDeed movOperandDeed
@@ -256,7 +251,7 @@ after Xfer m c tp armed busy e = armed-xfer c armed
 after (Wid source destination) m c tp armed busy e =
     statused c (withPsw (withPsw (c .psw) 1 source) 0 destination) e
     (xf-other (withPsw (c .psw) 1 source) 0 destination (eqb-false 6 0 refl) ∙ xf-other (c .psw) 1 source (eqb-false 6 1 refl))
-after Hlt m c tp armed busy e = halted c busy armed
+after Hlt m c tp armed busy e = hlt-halts c busy armed
 after (Lpdi ppp) m c tp armed busy e = steady e (registered c ppp _ false)
 after (RegisterImmediate work rrr wide) m c tp armed busy e = steady e (writes work c rrr _)
 after (Register single rrr) m c tp armed busy e = steady e (registered c rrr _ (tagOf c rrr))
@@ -269,9 +264,9 @@ after (JumpMemory test o two) m c tp armed busy e = steady e (then (grows c o (s
 after (Lpd ppp o) m c tp armed busy e = steady e (then (grows c o 4) (registered (grown c o 4) ppp _ false))
 after (MovpLoad ppp o) m c tp armed busy e = steady e (then (grows c o 3) (registered (grown c o 3) ppp _ _))
 after (MovpStore ppp o) m c tp armed busy e = steady e (grows c o 3)
-after (MovMemory o) m c tp armed busy e = steady e (second-steady m c tp o (secondOf (byteHere m (afterPair tp o)) (byteHere m (onward (afterPair tp o) 1)) (o .wide)))
+after (MovMemory o) m c tp armed busy e = steady e (second-steady m c tp o (secondAt m tp o))
 after (Tsl o) m c tp armed busy e = steady e (tsl-steady m c tp o)
-after (Call o two) m c tp armed busy e = steady e (then (grows c o 3) (jumps m (grown c o 3) (afterPair tp o) two))
+after (Call o two) m c tp armed busy e = steady e (then (grows c o 3) (jumps-if true m (grown c o 3) (afterPair tp o) two))
 after (JumpMasked equal o two) m c tp armed busy e = steady e (then (grows c o 1) (jumps-if _ m (grown c o 1) (afterPair tp o) two))
 after (JumpBit test bit o two) m c tp armed busy e = steady e (then (grows c o 1) (jumps-if _ m (grown c o 1) (afterPair tp o) two))
 after (Bit on bit o) m c tp armed busy e = steady e (grows c o 1)
@@ -352,14 +347,14 @@ module _ (c : Channel) (busy : ℕ) (m : Buffers) where
   -- XFER arms a channel that is not armed, and leaves XF
   pub xfer-arms : Arms m c → c .armed ≡ false → (executeOf c busy m) .number ≡ 0
       → ((executeOf c busy m) .channel .armed ≡ true) × ((executeOf c busy m) .channel .psw ≡ c .psw)
-  unfolding deedOf performed xferDeed pastInstruction renewed usedUp
+  unfolding deedOf performed xferDeed marked pastInstruction renewed usedUp
   xfer-arms e h z = rw (done c busy m Xfer e z) (rw h (refl, refl))
 
   -- HLT leaves no mark and no XF, as halt does: idle, TB and XF 0, unarmed
   pub hlt-ends : Halts m c → (executeOf c busy m) .number ≡ 0
       → ((executeOf c busy m) .channel .armed ≡ false) × (transferring ((executeOf c busy m) .channel .psw) ≡ false)
       × (programRunning ((executeOf c busy m) .channel .psw) ≡ false) × ((executeOf c busy m) .channel .mode ≡ Idle)
-  unfolding deedOf performed hltDeed pastInstruction renewed withPsw
+  unfolding deedOf performed hltDeed halted withControl stoppedPsw pastInstruction renewed withPsw
   hlt-ends e z =
       let psw = usedUp (c .armed) (c .psw) in
       rw (done c busy m Hlt e z)
@@ -367,16 +362,7 @@ module _ (c : Channel) (busy : ℕ) (m : Buffers) where
 
   -- and clears BUSY
   pub hlt-busy : Halts m c → (executeOf c busy m) .number ≡ 0 → byteAt ((executeOf c busy m) .memory) false busy ≡ 0
-  unfolding deedOf performed hltDeed changed placesOf span allLent executeNumber numberFrom shapeNumber
+  unfolding deedFrom deedOf performed hltDeed changed placesOf span allLent
   hlt-busy e z =
       rw (done c busy m Hlt e z)
-      (read-same m false busy 0 (both-left (lentAt m false busy) true (unless-none 2 refl stores)))
-    where
-      rest : shapeNumber Hlt m c busy ≡ 0
-      rest = rw e at (first-none-right (unless (allLent m (bytesAt (c .tp) 2)) 2) (numberFrom (decodedAt m (c .tp)) m c busy) (sym (number-is c busy m) ∙ z))
-
-      stores : unless (allLent m (placesOf ((deedOf Hlt m c busy) .change))) 2 ≡ 0
-      stores =
-          first-none-right ((effectOf m (deedOf Hlt m c busy)) .number) (unless (allLent m (placesOf ((deedOf Hlt m c busy) .change))) 2)
-          (first-none-right (unless (allLent m (laterBytes Hlt c)) 2)
-          (first ((effectOf m (deedOf Hlt m c busy)) .number) (unless (allLent m (placesOf ((deedOf Hlt m c busy) .change))) 2)) rest)
+      (read-same m false busy 0 (both-left (lentAt m false busy) true (rw e at (stores-lent c busy m (sym (number-is c busy m) ∙ z)))))

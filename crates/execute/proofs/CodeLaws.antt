@@ -1,78 +1,114 @@
--- The laws of an instruction that is read, refused or done.
+-- The laws of an instruction that is worked out before its stores: its number so far, and what comes of it.
 -- Assumes nothing.
 use Prim.Native.Nat.{ℕ}
-use borrow.Author.Tests.{eqb-false, ne-eqb}
+use borrow.Author.Tests.{eqb-false}
 use denote.Enum.Declared.{tagOf as variant}
-use mathlib.Core.Bool.{true, false}
-use mathlib.Core.List.{[], _∷_}
+use mathlib.Core.Bool.{Bool, true, false, _&&_}
+use mathlib.Core.List.{[], _∷_, _++_}
 use mathlib.Core.Logic.{⊎-elim}
-use mathlib.Core.Path.{_≡_, refl}
+use mathlib.Core.Path.{_≡_, refl, sym, ap, subst, _∙_}
 use types.Run.{OneOf}
 use Rattle.decode_shapes.proofs.Decoded.{the-type}
 use Rattle.decode.specs.Reading.{numberOf}
 use Rattle.decode_shapes.specs.declared.Decoded.{Decoded}
 use Rattle.decode_shapes.specs.declared.Decoded.the-variants.{Instruction, NoInstruction, ControlUsed}
 use Rattle.decode_shapes.specs.declared.Shape.{Shape}
-use Rattle.machine.proofs.OutcomeLaws.{first-some, first-zero}
+use Rattle.machine.proofs.ConditionLaws.{first-assoc}
+use Rattle.machine.proofs.OutcomeLaws.{first-some, first-none}
 use Rattle.machine.specs.Outcomes.{unless, first}
+use Rattle.machine.specs.Stages.{stagesNumber}
 use Rattle.machine.specs.declared.Channel.{Channel}
+use Rattle.memory.proofs.SpanLaws.{all-append}
 use Rattle.memory.specs.Buffers.{Buffers}
 use Rattle.memory.specs.Places.{allLent}
-use Rattle.words.specs.Choice.{pick}
-use Rattle.execute_operands.specs.Changes.{placesOf}
-use Rattle.execute_deeds.specs.Deeds.{effectOf}
+use Rattle.execute_operands.specs.Changes.{placesOf, changed, nothing}
 use Rattle.execute_operands.specs.Operands.{bytesAt}
-use Rattle.execute_operands.specs.declared.Change.{Change}
-use Rattle.execute_operands.specs.declared.Change.the-variants.{Nothing}
+use Rattle.execute_deeds.specs.Deeds.{Deed, effectOf, unread}
 use Rattle.execute_deeds.specs.declared.Effect.{Effect}
-use Rattle.execute.specs.Execute.{decodedAt, deedOf, laterBytes, deedFrom, shapeNumber, numberFrom, executeNumber, settledEffect, planOf}
+use Rattle.execute.specs.Execute.{decodedAt, deedOf, laterBytes, laterFrom, deedFrom, stagesFrom, instructionStages, executeNumber, executed, executeOf}
+use Rattle.execute.specs.Plan.{laterNumber, planFrom, planNumber, Planned}
+use Rattle.execute.specs.Kept.{deedAt}
+use Rattle.execute.proofs.OutcomeLaws.{refused-by, done-by}
 
--- an effect by its parts; a refusal leaves the channel and stores nothing
-abbrev pub effectWith : ℕ → Channel → Change → Effect
-effectWith number c ch = record { number = number; channel = c; change = ch }
+-- a refusal by a number other than 0 is as planned
+pub refusal-planned : {number n : ℕ} {d : Deed} {e : Effect} {c : Channel} → e ≡ record { number = n; channel = c; change = nothing } → n ≡ number → (n ≡ 0 → ⊥) → Planned number d e
+refusal-planned r e ne = record { told = ap (λ (x : Effect). x .number) r ∙ e; done = λ z. absurd (ne (e ∙ z)) }
 
-abbrev pub refusedEffect : ℕ → Channel → Effect
-refusedEffect number c = effectWith number c Nothing
+-- and so is a deed with the number that its reading gives
+pub deed-planned : {number : ℕ} {d : Deed} {e : Effect} (m : Buffers) → e ≡ effectOf m d → number ≡ (effectOf m d) .number → Planned number d e
+unfolding effectOf
+deed-planned {d = d} m e n = record { told = ap (λ (x : Effect). x .number) e ∙ sym n; done = λ z. e ∙ ap (λ (x : ℕ). record { number = x; channel = d .channel; change = d .change }) (sym n ∙ z) }
 
--- once its first two bytes are lent, an instruction is what they are decoded to
-pub plan-read : (m : Buffers) (c : Channel) (busy : ℕ) (d : Decoded) → allLent m (bytesAt (c .tp) 2) ≡ true → decodedAt m (c .tp) ≡ d
-    → planOf m c busy ≡ settledEffect (numberFrom d m c busy) (deedFrom d m c busy) c
-unfolding planOf executeNumber first unless
-plan-read m c busy d there e = rw (there, e)
+module _ (m : Buffers) (c : Channel) (busy : ℕ) where
+  -- an instruction whose later bytes are not lent is refused by 2
+  pub later-beyond : (s : Shape) → allLent m (laterBytes s c) ≡ false → 2 ≡ laterNumber (Instruction s) m c busy
+  unfolding laterNumber laterFrom first unless
+  later-beyond s h = rw h
 
--- where the first two bytes are not lent, it is refused by 2
-pub plan-beyond : (m : Buffers) (c : Channel) (busy : ℕ) → allLent m (bytesAt (c .tp) 2) ≡ false → planOf m c busy ≡ refusedEffect 2 c
-unfolding planOf executeNumber settledEffect first unless
-plan-beyond m c busy h = rw h
+  -- where they are lent, its reading gives the number
+  pub later-lent : (s : Shape) → allLent m (laterBytes s c) ≡ true → laterNumber (Instruction s) m c busy ≡ (effectOf m (deedOf s m c busy)) .number
+  unfolding laterNumber laterFrom deedFrom first unless
+  later-lent s h = rw h
 
--- what is no instruction is refused by its number
-pub plan-none : (m : Buffers) (c : Channel) (busy : ℕ) (d : Decoded) → OneOf (1 ∷ 2 ∷ []) (variant the-type d)
-    → settledEffect (numberFrom d m c busy) (deedFrom d m c busy) c ≡ refusedEffect (numberOf d) c
-unfolding settledEffect numberFrom deedFrom
-plan-none m c busy (Instruction s) h = absurd (⊎-elim (λ e. eqb-false 0 1 refl e) (λ e. eqb-false 0 2 refl e) h)
-plan-none m c busy NoInstruction h = refl
-plan-none m c busy ControlUsed h = refl
+  -- where the first two bytes are not lent, it is refused by 2
+  pub plan-beyond : allLent m (bytesAt (c .tp) 2) ≡ false → 2 ≡ planNumber m c busy
+  unfolding planNumber planFrom first unless
+  plan-beyond h = rw h
 
-module _ (s : Shape) (m : Buffers) (c : Channel) (busy : ℕ) where
-  -- the refusals of an instruction that was read, in their order
-  pub shape-beyond : allLent m (laterBytes s c) ≡ false → settledEffect (shapeNumber s m c busy) (deedOf s m c busy) c ≡ refusedEffect 2 c
-  unfolding settledEffect shapeNumber first unless
-  shape-beyond h = rw h
+  -- what is no instruction is refused by its number
+  none-from : (d : Decoded) → OneOf (1 ∷ 2 ∷ []) (variant the-type d) → allLent m (bytesAt (c .tp) 2) ≡ true → (numberOf d ≡ planFrom d m c busy) × (numberOf d ≡ 0 → ⊥)
+  unfolding planFrom first unless
+  none-from (Instruction s) h there = absurd (⊎-elim (λ e. eqb-false 0 1 refl e) (λ e. eqb-false 0 2 refl e) h)
+  none-from NoInstruction h there = (rw there, eqb-false 3 0 refl)
+  none-from ControlUsed h there = (rw there, eqb-false 4 0 refl)
 
-  pub shape-wrong : allLent m (laterBytes s c) ≡ true → ((effectOf m (deedOf s m c busy)) .number ≡ 0 → ⊥)
-      → settledEffect (shapeNumber s m c busy) (deedOf s m c busy) c ≡ refusedEffect ((effectOf m (deedOf s m c busy)) .number) c
-  unfolding settledEffect shapeNumber unless
-  shape-wrong h ne =
-      rw (h, first-zero, first-some ((effectOf m (deedOf s m c busy)) .number) (pick (allLent m (placesOf ((deedOf s m c busy) .change))) 0 2) ne, ne-eqb ((effectOf m (deedOf s m c busy)) .number) 0 ne)
+  pub plan-none : (d : Decoded) → OneOf (1 ∷ 2 ∷ []) (variant the-type d) → allLent m (bytesAt (c .tp) 2) ≡ true → decodedAt m (c .tp) ≡ d → (numberOf d ≡ planNumber m c busy) × (numberOf d ≡ 0 → ⊥)
+  unfolding planNumber
+  plan-none d h there e = rw e (none-from d h there)
 
-  pub shape-unstored : allLent m (laterBytes s c) ≡ true → (effectOf m (deedOf s m c busy)) .number ≡ 0
-      → allLent m (placesOf ((deedOf s m c busy) .change)) ≡ false → settledEffect (shapeNumber s m c busy) (deedOf s m c busy) c ≡ refusedEffect 2 c
-  unfolding settledEffect shapeNumber unless
-  shape-unstored h e n = rw (h, e, n, first-zero, first-zero)
+  -- what is one is as planned from its later bytes on
+  shaped-from : (d : Decoded) {e : Effect} (s : Shape) → d ≡ Instruction s → allLent m (bytesAt (c .tp) 2) ≡ true → Planned (laterNumber (Instruction s) m c busy) (deedOf s m c busy) e → Planned (planFrom d m c busy) (deedFrom d m c busy) e
+  unfolding planFrom deedFrom first unless
+  shaped-from d s i there p = rw (i, there) p
 
-  -- and where none applies, what it does
-  pub shape-done : allLent m (laterBytes s c) ≡ true → (effectOf m (deedOf s m c busy)) .number ≡ 0
-      → allLent m (placesOf ((deedOf s m c busy) .change)) ≡ true
-      → settledEffect (shapeNumber s m c busy) (deedOf s m c busy) c ≡ record { number = 0; channel = (deedOf s m c busy) .channel; change = (deedOf s m c busy) .change }
-  unfolding settledEffect shapeNumber unless
-  shape-done h e n = rw (h, e, n, first-zero, first-zero)
+  pub plan-shaped : {e : Effect} (s : Shape) → decodedAt m (c .tp) ≡ Instruction s → allLent m (bytesAt (c .tp) 2) ≡ true → Planned (laterNumber (Instruction s) m c busy) (deedOf s m c busy) e → Planned (planNumber m c busy) (deedAt m c busy) e
+  unfolding planNumber
+  plan-shaped s i there p = shaped-from (decodedAt m (c .tp)) s i there p
+
+  -- ---- the stores
+
+  -- bytes read and bytes stored to, tested at once or one after the other
+  pub both-tested : (a b : Bool) → first (unless (a && b) 2) (first 0 0) ≡ first (unless a 2) (unless b 2)
+  unfolding first unless
+  both-tested true true = refl
+  both-tested true false = refl
+  both-tested false b = refl
+
+  split-from : (d : Decoded) → stagesNumber m (stagesFrom d m c busy) ≡ first (planFrom d m c busy) (unless (allLent m (placesOf ((deedFrom d m c busy) .change))) 2)
+  unfolding stagesNumber stagesFrom planFrom laterNumber effectOf
+  split-from d = simp (all-append, both-tested, first-assoc)
+
+  -- the number of an instruction is that of its plan, then 2 from the stores
+  split : executeNumber m c busy ≡ first (planNumber m c busy) (unless (allLent m (placesOf ((deedAt m c busy) .change))) 2)
+  unfolding executeNumber instructionStages planNumber
+  split = split-from (decodedAt m (c .tp))
+
+  -- a refused plan is the outcome
+  pub plan-refused : (planNumber m c busy ≡ 0 → ⊥) → executeOf c busy m ≡ executed (planNumber m c busy) c m
+  plan-refused ne =
+      let same : executeNumber m c busy ≡ planNumber m c busy = split ∙ first-some (planNumber m c busy) (unless (allLent m (placesOf ((deedAt m c busy) .change))) 2) ne in
+      refused-by c busy m (λ z. ne (sym same ∙ z)) ∙ ap (λ (n : ℕ). executed n c m) same
+
+  stores-number : (b : Bool) → planNumber m c busy ≡ 0 → allLent m (placesOf ((deedAt m c busy) .change)) ≡ b → executeNumber m c busy ≡ unless b 2
+  stores-number b z e = split ∙ first-none (planNumber m c busy) (unless (allLent m (placesOf ((deedAt m c busy) .change))) 2) z ∙ ap (λ (x : Bool). unless x 2) e
+
+  -- a plan that is not is done where its stores are lent, and else refused by 2
+  pub plan-done : planNumber m c busy ≡ 0 → allLent m (placesOf ((deedAt m c busy) .change)) ≡ true → executeOf c busy m ≡ executed 0 ((deedAt m c busy) .channel) (changed m ((deedAt m c busy) .change))
+  unfolding unless
+  plan-done z e = done-by c busy m (stores-number true z e)
+
+  pub plan-unstored : planNumber m c busy ≡ 0 → allLent m (placesOf ((deedAt m c busy) .change)) ≡ false → executeOf c busy m ≡ executed 2 c m
+  unfolding unless
+  plan-unstored z e =
+      let two : executeNumber m c busy ≡ 2 = stores-number false z e in
+      refused-by c busy m (λ n. eqb-false 2 0 refl (sym two ∙ n)) ∙ ap (λ (n : ℕ). executed n c m) two

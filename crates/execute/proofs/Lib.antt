@@ -1,5 +1,5 @@
-pub mod CodeLaws
 pub mod OutcomeLaws
+pub mod CodeLaws
 pub mod NumberLaws
 pub mod MemoryLaws
 pub mod PointerLaws

@@ -1,4 +1,4 @@
--- The number of an instruction: 2, 3, 4 and 0, each exactly under its own condition and no earlier one.
+-- The number of an instruction: 2, 3, 4 and 0, each exactly under its own condition and no earlier one; 2 by the bytes that it touches.
 -- Assumes nothing.
 use Prim.Native.Nat.{ℕ}
 use borrow.Author.Tests.{eqb-false}
@@ -11,30 +11,35 @@ use mathlib.Core.Path.{_≡_, refl, sym, ap, _∙_}
 use native.Mathlib.Omega.{arith}
 use Rattle.decode_shapes.proofs.Shape.{the-type as shapes}
 use Rattle.decode.specs.Lengths.{lengthOf}
+use Rattle.decode.specs.Reading.{numberOf}
 use Rattle.decode_shapes.specs.declared.Decoded.{Decoded}
 use Rattle.decode_shapes.specs.declared.Decoded.the-variants.{Instruction, NoInstruction, ControlUsed}
 use Rattle.decode_shapes.specs.declared.Memory.{Memory}
 use Rattle.decode_shapes.specs.declared.Second.{Second}
 use Rattle.decode_shapes.specs.declared.Second.the-variants.{Operand, NoSecond}
 use Rattle.decode_shapes.specs.declared.Shape.the-variants.{Nop, Sintr, Xfer, Wid, Hlt, Lpdi, RegisterImmediate, Register, JumpRegister, RegisterMemory, MemoryRegister, MemoryImmediate, MemoryAlone, JumpMemory, Lpd, MovpLoad, MovpStore, MovMemory, Tsl, Call, JumpMasked, JumpBit, Bit}
-use Rattle.machine.proofs.OutcomeLaws.{first-some, first-zero, unless-true}
+use Rattle.machine.proofs.OutcomeLaws.{unless-true}
+use Rattle.machine.proofs.StageLaws.{two-exactly, none-refused}
 use Rattle.machine.specs.Outcomes.{unless, first}
+use Rattle.machine.specs.Stages.{stagesNumber, JudgedElse}
 use Rattle.machine.specs.declared.Channel.{Channel}
 use Rattle.memory.specs.Buffers.{Buffers}
+use Rattle.memory.proofs.SpanLaws.{all-append}
 use Rattle.memory.specs.Places.{allLent}
 use Rattle.words.proofs.ChoiceLaws.{apart}
 use Rattle.execute_operands.specs.Changes.{placesOf}
 use Rattle.execute_deeds.specs.Control.{nopDeed, sintrDeed, xferDeed, widDeed, hltDeed}
-use Rattle.execute_deeds.specs.Deeds.{Deed, effectOf}
 use Rattle.execute_deeds.specs.JumpForms.{jumpRegisterDeed, jumpMemoryDeed, jumpByteDeed, jumpMaskedDeed, jumpBitDeed, tslDeed, callDeed}
-use Rattle.execute_deeds.specs.MemoryForms.{memoryWorkDeed, memoryRegisterDeed, memoryImmediateDeed, memoryAloneDeed, movpStoreDeed, bitDeed, movOperandDeed, movSecondDeed, movMemoryDeed}
-use Rattle.execute_operands.specs.Operands.{byteHere, bytesAt, pastInstruction, effective}
+use Rattle.execute_deeds.specs.MemoryForms.{memoryWorkDeed, memoryRegisterDeed, memoryImmediateDeed, memoryAloneDeed, movpStoreDeed, bitDeed, movOperandDeed, movSecondDeed, secondAt, movMemoryDeed}
+use Rattle.execute_operands.specs.Operands.{byteHere, bytesAt, effective}
+use Rattle.execute_operands.specs.Marks.{pastInstruction}
 use Rattle.execute_deeds.specs.RegisterForms.{registerImmediateDeed, registerDeed, registerMemoryDeed, lpdiDeed, lpdDeed, movpLoadDeed}
-use Rattle.machine.proofs.ConditionLaws.{Told, step, last, rewritten, first-assoc, skip, hit, either, end, never, told-true, told-false, told-lent}
+use Rattle.machine.proofs.ConditionLaws.{Told, step, last, rewritten, skip, hit, either, end, never, told-true, told-false, told-lent}
 use Rattle.machine.specs.Conditions.{check, Given}
-use Rattle.execute.specs.Conditions.{NoCode, ControlTouched, laterFrom, LaterBeyond, secondAt, NoSecondPair, ReadsBeyond, StoresBeyond, checksFrom, instructionChecks, InstructionGiven4, InstructionGiven3, InstructionGiven2, InstructionGiven0}
-use Rattle.execute.specs.Execute.{decodedAt, performed, deedOf, laterBytes, deedFrom, shapeNumber, numberFrom, executeNumber, executeOf}
+use Rattle.execute.specs.Conditions.{NoCode, ControlTouched, LaterBeyond, NoSecondPair, ReadsBeyond, StoresBeyond, checksFrom, instructionChecks, InstructionGiven4, InstructionGiven3, InstructionGiven2, InstructionGiven0}
+use Rattle.execute.specs.Execute.{decodedAt, performed, deedOf, laterFrom, deedFrom, stagesFrom, instructionStages, executeNumber, touchedByInstruction, executeOf}
 use Rattle.execute.proofs.OutcomeLaws.{number-is}
+use Rattle.execute.proofs.CodeLaws.{both-tested}
 
 -- ---- what each test tells
 
@@ -65,7 +70,7 @@ told-free ControlUsed = told-false refl
 -- the number of a second pair: 3 where it is none, and 0 for every other shape
 record Paired (d : Decoded) (m : Buffers) (c : Channel) (busy : ℕ) : Type 0 where
   ok : Bool
-  chain : (deedFrom d m c busy) .wrong ≡ unless ok 3
+  chain : (deedFrom d m c busy) .second ≡ unless ok 3
   told : Told ok (NoSecondPair d m c)
 
 shapeIn : Decoded → ℕ
@@ -78,19 +83,19 @@ clash : (f : Memory → Second) (o o′ q : Memory) → f o ≡ Operand q → In
 clash f o o′ q e i n = let z : _≡_ {A = ℕ} 0 1 = cc in omega arith
 
 module _ (m : Buffers) (c : Channel) (busy : ℕ) where
-  alone : (d : Decoded) → (deedFrom d m c busy) .wrong ≡ 0 → eqb (shapeIn d) 17 ≡ false → Paired d m c busy
+  alone : (d : Decoded) → (deedFrom d m c busy) .second ≡ 0 → eqb (shapeIn d) 17 ≡ false → Paired d m c busy
   unfolding shapeIn
   alone d e ne = record { ok = true; chain = e ∙ sym (unless-true 3); told = told-true (λ h. eqb-false (shapeIn d) 17 ne (ap shapeIn (h .1 .0))) }
 
   paired : (o : Memory) → Paired (Instruction (MovMemory o)) m c busy
   unfolding deedFrom deedOf performed movMemoryDeed movSecondDeed movOperandDeed unless
-  paired o = go (secondAt m c o) refl
+  paired o = go (secondAt m (c .tp) o) refl
     where
-      go : (q : Second) → secondAt m c o ≡ q → Paired (Instruction (MovMemory o)) m c busy
-      go (Operand q) e = record { ok = true; chain = rw e; told = told-true (λ h. clash (secondAt m c) o (h .0) q e (h .1 .0) (h .1 .1)) }
+      go : (q : Second) → secondAt m (c .tp) o ≡ q → Paired (Instruction (MovMemory o)) m c busy
+      go (Operand q) e = record { ok = true; chain = rw e; told = told-true (λ h. clash (secondAt m (c .tp)) o (h .0) q e (h .1 .0) (h .1 .1)) }
       go NoSecond e = record { ok = false; chain = rw e; told = told-false (o, (refl, e)) }
 
-  tsl-alone : (x : Channel) (o : Memory) (b : Bool) → eqb (byteHere m (effective m x o (c .tp))) 0 ≡ b → (tslDeed m x (c .tp) o) .wrong ≡ 0
+  tsl-alone : (x : Channel) (o : Memory) (b : Bool) → eqb (byteHere m (effective m x o (c .tp))) 0 ≡ b → (tslDeed m x (c .tp) o) .second ≡ 0
   unfolding tslDeed
   tsl-alone x o true e = rw e
   tsl-alone x o false e = rw e
@@ -125,35 +130,30 @@ module _ (m : Buffers) (c : Channel) (busy : ℕ) where
 
   -- ---- the chain of checks
 
-  -- the number after the first two bytes, as the chain of its tests
-  chain-of : (d : Decoded) → numberFrom d m c busy
-      ≡ first (unless (isCode d) 3)
+  -- what is judged of the first two bytes, as two tests
+  coded : (d : Decoded) (rest : ℕ) → first (numberOf d) rest ≡ first (unless (isCode d) 3) (first (unless (isFree d) 4) rest)
+  unfolding first unless isCode isFree
+  coded (Instruction s) rest = refl
+  coded NoInstruction rest = refl
+  coded ControlUsed rest = refl
+
+  -- the number of the stages, as the chain of its tests
+  chain-of : (d : Decoded) → stagesNumber m (stagesFrom d m c busy)
+      ≡ first (unless (allLent m (bytesAt (c .tp) 2)) 2)
+      (first (unless (isCode d) 3)
       (first (unless (isFree d) 4)
       (first (unless (allLent m (laterFrom d c)) 2)
       (first (unless (paired-of d .ok) 3)
-      (first (unless (allLent m ((deedFrom d m c busy) .reads)) 2) (unless (allLent m (placesOf ((deedFrom d m c busy) .change))) 2)))))
-  unfolding numberFrom shapeNumber effectOf isCode isFree deedFrom unless
-  chain-of (Instruction s) =
-      ap (first (unless (allLent m (laterBytes s c)) 2))
-      (first-assoc (d .wrong) reads stores ∙ ap (λ (n : ℕ). first n (first reads stores)) (paired-of (Instruction s) .chain))
-      ∙ sym (first-zero _)
-      ∙ sym (first-zero _)
-    where
-      d : Deed
-      d = deedOf s m c busy
+      (first (unless (allLent m ((deedFrom d m c busy) .reads)) 2) (unless (allLent m (placesOf ((deedFrom d m c busy) .change))) 2))))))
+  unfolding stagesNumber stagesFrom
+  chain-of d =
+      let done = deedFrom d m c busy in
+      rw (coded d, paired-of d .chain, all-append m (done .reads) (placesOf (done .change)), both-tested m c busy (allLent m (done .reads)) (allLent m (placesOf (done .change))))
 
-      reads : ℕ
-      reads = unless (allLent m (d .reads)) 2
-
-      stores : ℕ
-      stores = unless (allLent m (placesOf (d .change))) 2
-  chain-of NoInstruction = sym (first-some 3 _ (eqb-false 3 0 refl))
-  chain-of ControlUsed = sym (first-some 4 _ (eqb-false 4 0 refl)) ∙ sym (first-zero _)
-
-  given-from : (d : Decoded) (n : ℕ) → (first (unless (allLent m (bytesAt (c .tp) 2)) 2) (numberFrom d m c busy) ≡ n) ↔ Given (checksFrom d m c busy) n
+  given-from : (d : Decoded) (n : ℕ) → (stagesNumber m (stagesFrom d m c busy) ≡ n) ↔ Given (checksFrom d m c busy) n
   given-from d n =
-      step 2 refl (told-lent m (bytesAt (c .tp) 2))
-      (rewritten (chain-of d)
+      rewritten (chain-of d)
+      (step 2 refl (told-lent m (bytesAt (c .tp) 2))
       (step 3 refl (told-code d)
       (step 4 refl (told-free d)
       (step 2 refl (told-lent m (laterFrom d c))
@@ -162,7 +162,7 @@ module _ (m : Buffers) (c : Channel) (busy : ℕ) where
 
   -- the number handed back is that of the first check that applies, and 0 where none does
   pub number-given : (n : ℕ) → (executeOf c busy m) .number ≡ n ↔ Given (instructionChecks m c busy) n
-  unfolding executeNumber
+  unfolding executeNumber instructionStages
   number-given n = rewritten (number-is c busy m) (given-from (decodedAt m (c .tp)) n)
 
   both : {A B C : Type 0} → (A ↔ B) → (B ↔ C) → (A ↔ C)
@@ -208,3 +208,30 @@ module _ (m : Buffers) (c : Channel) (busy : ℕ) where
           (λ j. ⊎-elim (λ i. inl (inr (i .1)))
           (λ i. ⊎-elim (λ l. inr (inl (l .1)))
           (λ l. ⊎-elim (λ r. inl (inr (r .1))) (λ r. ⊎-elim (λ s. inl (inr (s .1))) (λ s. inl (inl (s .1))) (r .1)) (l .1)) (i .1)) (j .1)) (k .1)) (h .1))
+
+  -- ---- the bytes that it touches
+
+  -- no stage judges 2
+  coded-else : (d : Decoded) → eqb (numberOf d) 2 ≡ false
+  coded-else (Instruction s) = refl
+  coded-else NoInstruction = refl
+  coded-else ControlUsed = refl
+
+  paired-else : (ok : Bool) → eqb (unless ok 3) 2 ≡ false
+  unfolding unless
+  paired-else true = refl
+  paired-else false = refl
+
+  judged-else : (d : Decoded) → JudgedElse (stagesFrom d m c busy)
+  unfolding stagesFrom
+  judged-else d = (coded-else d, (ap (λ (n : ℕ). eqb n 2) (paired-of d .chain) ∙ paired-else (paired-of d .ok), (refl, tt)))
+
+  -- 2 exactly where a byte that the instruction touches, up to the stage where it stops, is not lent
+  pub two-where : (executeOf c busy m) .number ≡ 2 ↔ allLent m (touchedByInstruction m c busy) ≡ false
+  unfolding executeNumber touchedByInstruction instructionStages
+  two-where = rewritten (number-is c busy m) (two-exactly m (stagesFrom (decodedAt m (c .tp)) m c busy) (judged-else (decodedAt m (c .tp))))
+
+  -- and a done one touches lent bytes alone
+  pub done-lent : (executeOf c busy m) .number ≡ 0 → allLent m (touchedByInstruction m c busy) ≡ true
+  unfolding executeNumber touchedByInstruction
+  done-lent z = none-refused m (instructionStages m c busy) (sym (number-is c busy m) ∙ z)

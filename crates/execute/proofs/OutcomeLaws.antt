@@ -2,20 +2,25 @@
 -- Assumes nothing.
 use Prim.Native.Nat.{ℕ}
 use borrow.Author.Tests.{eqb-false, eq-eqb, ne-eqb}
-use mathlib.Core.Logic.{⊎-elim, inl, inr, _⊎_}
+use mathlib.Core.Bool.{true}
+use mathlib.Core.List.{_++_}
 use mathlib.Core.Path.{_≡_, refl, sym, ap, _∙_}
 use native.Mathlib.Decide.{ℕ-discrete}
 use Rattle.decode_shapes.specs.declared.Decoded.{Decoded}
 use Rattle.decode_shapes.specs.declared.Decoded.the-variants.{Instruction, NoInstruction, ControlUsed}
 use Rattle.decode_shapes.specs.declared.Shape.{Shape}
-use Rattle.machine.specs.Outcomes.{unless}
+use Rattle.machine.specs.Outcomes.{unless, first}
+use Rattle.machine.specs.Stages.{stagesNumber}
 use Rattle.machine.specs.declared.Channel.{Channel}
 use Rattle.memory.specs.Buffers.{Buffers}
 use Rattle.memory.specs.Places.{allLent}
-use Rattle.execute_operands.specs.Changes.{changed}
+use Rattle.memory.proofs.SpanLaws.{all-append}
+use Rattle.words.proofs.ChoiceLaws.{both-right}
+use Rattle.decode.specs.Reading.{numberOf}
+use Rattle.execute_operands.specs.Changes.{placesOf, changed}
 use Rattle.execute_operands.specs.Operands.{bytesAt}
-use Rattle.machine.proofs.ConditionLaws.{first-none-right}
-use Rattle.execute.specs.Execute.{decodedAt, deedOf, deedFrom, numberFrom, executeNumber, settledEffect, planOf, Executed, executed, executeOf}
+use Rattle.machine.proofs.ConditionLaws.{first-none-left, first-none-right, unless-none}
+use Rattle.execute.specs.Execute.{decodedAt, deedOf, deedFrom, laterBytes, laterFrom, stagesFrom, instructionStages, executeNumber, Executed, executed, executeOf}
 use Rattle.execute.specs.Kept.{deedAt}
 
 -- no two outcomes meet the contract of `execute`
@@ -25,12 +30,12 @@ unique c busy m o o′ e e′ = e ∙ sym e′
 module _ (c : Channel) (busy : ℕ) (m : Buffers) where
   -- what a check refuses has its number, and leaves channel and memory
   pub refused-by : (executeNumber m c busy ≡ 0 → ⊥) → executeOf c busy m ≡ executed (executeNumber m c busy) c m
-  unfolding executeOf planOf settledEffect changed
+  unfolding executeOf
   refused-by ne = rw (ne-eqb (executeNumber m c busy) 0 ne)
 
   -- what none refuses is done
   pub done-by : executeNumber m c busy ≡ 0 → executeOf c busy m ≡ executed 0 ((deedAt m c busy) .channel) (changed m ((deedAt m c busy) .change))
-  unfolding executeOf planOf settledEffect
+  unfolding executeOf
   done-by e = rw (eq-eqb (executeNumber m c busy) 0 e)
 
   -- the number handed back is the checks'
@@ -45,26 +50,36 @@ module _ (c : Channel) (busy : ℕ) (m : Buffers) where
   pub refused : ((executeOf c busy m) .number ≡ 0 → ⊥) → executeOf c busy m ≡ executed ((executeOf c busy m) .number) c m
   refused ne = refused-by (λ e. ne (number-is ∙ e)) ∙ ap (λ (n : ℕ). executed n c m) (sym number-is)
 
-  -- where the first two bytes are no instruction, none is done
-  none-done : (d : Decoded) → numberFrom d m c busy ≡ 3 ⊎ numberFrom d m c busy ≡ 4 → decodedAt m (c .tp) ≡ d → executeNumber m c busy ≡ 0 → ⊥
-  unfolding executeNumber
-  none-done d h e z = go (rw e at (first-none-right (unless (allLent m (bytesAt (c .tp) 2)) 2) (numberFrom (decodedAt m (c .tp)) m c busy) z)) h
-    where
-      go : numberFrom d m c busy ≡ 0 → numberFrom d m c busy ≡ 3 ⊎ numberFrom d m c busy ≡ 4 → ⊥
-      go q = ⊎-elim (λ p. eqb-false 3 0 refl (sym p ∙ q)) (λ p. eqb-false 4 0 refl (sym p ∙ q))
+  -- what none refuses has passed the judgement of each stage, and the bytes that it reads and stores to are lent
+  pub pair-passed : executeNumber m c busy ≡ 0 → numberOf (decodedAt m (c .tp)) ≡ 0
+  unfolding executeNumber instructionStages stagesFrom stagesNumber
+  pair-passed z = first-none-left _ _ (first-none-right (unless (allLent m (bytesAt (c .tp) 2)) 2) _ z)
+
+  after-later : executeNumber m c busy ≡ 0 → first ((deedAt m c busy) .second) (first (unless (allLent m ((deedAt m c busy) .reads ++ placesOf ((deedAt m c busy) .change))) 2) (first 0 0)) ≡ 0
+  unfolding executeNumber instructionStages stagesFrom stagesNumber
+  after-later z = first-none-right _ _ (first-none-right (numberOf (decodedAt m (c .tp))) _ (first-none-right (unless (allLent m (bytesAt (c .tp) 2)) 2) _ z))
+
+  pub second-passed : executeNumber m c busy ≡ 0 → (deedAt m c busy) .second ≡ 0
+  second-passed z = first-none-left _ _ (after-later z)
+
+  pub stores-lent : executeNumber m c busy ≡ 0 → allLent m (placesOf ((deedAt m c busy) .change)) ≡ true
+  stores-lent z =
+      let d = deedAt m c busy in
+      let all : allLent m (d .reads ++ placesOf (d .change)) ≡ true = unless-none 2 refl (first-none-left _ _ (first-none-right (d .second) _ (after-later z))) in
+      both-right (allLent m (d .reads)) (allLent m (placesOf (d .change))) (sym (all-append m (d .reads) (placesOf (d .change))) ∙ all)
 
   -- so what is done is an instruction of some shape
   pub by-number : (P : Executed → Type 0)
       → ((n : ℕ) → (n ≡ 0 → ⊥) → P (executed n c m))
       → ((s : Shape) → decodedAt m (c .tp) ≡ Instruction s → executeNumber m c busy ≡ 0 → P (executed 0 ((deedOf s m c busy) .channel) (changed m ((deedOf s m c busy) .change))))
       → P (executeOf c busy m)
-  unfolding numberFrom deedFrom
+  unfolding deedFrom
   by-number P not-done is-done = go (ℕ-discrete (executeNumber m c busy) 0)
     where
       shape : (d : Decoded) → decodedAt m (c .tp) ≡ d → executeNumber m c busy ≡ 0 → P (executed 0 ((deedFrom d m c busy) .channel) (changed m ((deedFrom d m c busy) .change)))
       shape (Instruction s) e z = is-done s e z
-      shape NoInstruction e z = absurd (none-done NoInstruction (inl refl) e z)
-      shape ControlUsed e z = absurd (none-done ControlUsed (inr refl) e z)
+      shape NoInstruction e z = absurd (eqb-false 3 0 refl (ap numberOf (sym e) ∙ pair-passed z))
+      shape ControlUsed e z = absurd (eqb-false 4 0 refl (ap numberOf (sym e) ∙ pair-passed z))
 
       go : Dec (executeNumber m c busy ≡ 0) → P (executeOf c busy m)
       go (yes e) = rw (done-by e) (shape (decodedAt m (c .tp)) refl e)
@@ -75,3 +90,19 @@ module _ (c : Channel) (busy : ℕ) (m : Buffers) where
       → executeOf c busy m ≡ executed 0 ((deedOf s m c busy) .channel) (changed m ((deedOf s m c busy) .change))
   unfolding deedFrom
   done s e z = done-by (sym number-is ∙ z) ∙ ap (λ (d : Decoded). executed 0 ((deedFrom d m c busy) .channel) (changed m ((deedFrom d m c busy) .change))) e
+
+  -- an instruction of some shape is done where its bytes are lent and its second pair is not refused
+  none-refuses : (s : Shape) → allLent m (bytesAt (c .tp) 2) ≡ true → allLent m (laterBytes s c) ≡ true → (deedOf s m c busy) .second ≡ 0
+      → allLent m ((deedOf s m c busy) .reads) ≡ true → allLent m (placesOf ((deedOf s m c busy) .change)) ≡ true → stagesNumber m (stagesFrom (Instruction s) m c busy) ≡ 0
+  unfolding stagesNumber stagesFrom laterFrom deedFrom first unless
+  none-refuses s pair later second reads stores =
+      rw (pair, later, second, all-append m ((deedOf s m c busy) .reads) (placesOf ((deedOf s m c busy) .change)), reads, stores)
+
+  number-at : (d : Decoded) → decodedAt m (c .tp) ≡ d → executeNumber m c busy ≡ stagesNumber m (stagesFrom d m c busy)
+  unfolding executeNumber instructionStages
+  number-at d e = ap (λ (x : Decoded). stagesNumber m (stagesFrom x m c busy)) e
+
+  pub done-where : (s : Shape) → decodedAt m (c .tp) ≡ Instruction s → allLent m (bytesAt (c .tp) 2) ≡ true → allLent m (laterBytes s c) ≡ true → (deedOf s m c busy) .second ≡ 0
+      → allLent m ((deedOf s m c busy) .reads) ≡ true → allLent m (placesOf ((deedOf s m c busy) .change)) ≡ true
+      → executeOf c busy m ≡ executed 0 ((deedOf s m c busy) .channel) (changed m ((deedOf s m c busy) .change))
+  done-where s e pair later second reads stores = done s e (number-is ∙ number-at (Instruction s) e ∙ none-refuses s pair later second reads stores)

@@ -1,4 +1,4 @@
--- The table of numbers for an instruction, "given exactly when, and no earlier check applies": each check's own condition, and their order.
+-- The numbers of an instruction, each given exactly where its own condition holds and no earlier one: the conditions, and their order (§6.22).
 use mathlib.Core.List.{List, [], _∷_}
 use mathlib.Core.Logic.{_⊎_}
 use mathlib.Core.Path.{_≡_}
@@ -11,49 +11,37 @@ use Rattle.decode_shapes.specs.declared.Memory.{Memory}
 use Rattle.decode_shapes.specs.declared.Shape.the-variants.{MovMemory}
 use Rattle.decode_shapes.specs.declared.Decoded.{Decoded}
 use Rattle.decode_shapes.specs.declared.Decoded.the-variants.{Instruction, NoInstruction, ControlUsed}
-use Rattle.decode_shapes.specs.declared.Second.{Second}
 use Rattle.decode_shapes.specs.declared.Second.the-variants.{NoSecond}
-use Rattle.decode.specs.Reading.{secondOf}
-use Rattle.execute_operands.specs.Operands.{byteHere, bytesAt, afterPair}
-use Rattle.memory.specs.Values.{onward}
+use Rattle.execute_operands.specs.Operands.{bytesAt}
 use Rattle.execute_operands.specs.Changes.{placesOf}
-use Rattle.execute.specs.Execute.{decodedAt, laterBytes, deedFrom}
+use Rattle.execute_deeds.specs.MemoryForms.{secondAt}
+use Rattle.execute.specs.Execute.{decodedAt, laterFrom, deedFrom}
 
--- 2, of "its first two bytes"
+-- 2: a byte of the pair lies beyond
 abbrev pub PairBeyond : Buffers → Channel → Type 0
 PairBeyond m c = Beyond m (bytesAt (c .tp) 2)
 
--- 3, "the bytes are no instruction", as far as the first two show; d is what they are
+-- 3: the pair is no instruction; d is what it is
 abbrev pub NoCode : Decoded → Type 0
 NoCode d = d ≡ NoInstruction
 
--- 4, "CC used by anything but MOV or MOVI"
+-- 4: it uses CC, and is neither MOV nor MOVI
 abbrev pub ControlTouched : Decoded → Type 0
 ControlTouched d = d ≡ ControlUsed
 
--- the bytes after the first pair: offset byte, data, displacement, and a second pair
-abbrev pub laterFrom : Decoded → Channel → List Place
-laterFrom (Instruction s) c = laterBytes s c
-laterFrom NoInstruction c = []
-laterFrom ControlUsed c = []
-
--- 2, of "later bytes up to and with a second pair"
+-- 2: a later byte, up to and with a second pair, lies beyond
 abbrev pub LaterBeyond : Decoded → Buffers → Channel → Type 0
 LaterBeyond d m c = Beyond m (laterFrom d c)
 
--- what the second pair of a MOV M,M is
-abbrev pub secondAt : Buffers → Channel → Memory → Second
-secondAt m c o = secondOf (byteHere m (afterPair (c .tp) o)) (byteHere m (onward (afterPair (c .tp) o) 1)) (o .wide)
-
--- "3 from that pair": it is a MOV M,M, whose second pair is none
+-- 3: it is MOV M,M, and its second pair is none
 abbrev pub NoSecondPair : Decoded → Buffers → Channel → Type 0
-NoSecondPair d m c = (o : Memory) × ((d ≡ Instruction (MovMemory o)) × (secondAt m c o ≡ NoSecond))
+NoSecondPair d m c = (o : Memory) × ((d ≡ Instruction (MovMemory o)) × (secondAt m (c .tp) o ≡ NoSecond))
 
--- 2, of "its offset byte, operand bytes" that are read
+-- 2: the offset byte of a second pair, or an operand byte that is read, lies beyond
 abbrev pub ReadsBeyond : Decoded → Buffers → Channel → ℕ → Type 0
 ReadsBeyond d m c busy = Beyond m ((deedFrom d m c busy) .reads)
 
--- 2, of the operand bytes that are stored to, and "for HLT its BUSY byte"
+-- 2: a byte that is stored to, for HLT its BUSY byte, lies beyond
 abbrev pub StoresBeyond : Decoded → Buffers → Channel → ℕ → Type 0
 StoresBeyond d m c busy = Beyond m (placesOf ((deedFrom d m c busy) .change))
 
@@ -69,8 +57,7 @@ checksFrom d m c busy =
     ∷ check 2 (StoresBeyond d m c busy)
     ∷ []
 
--- "for an instruction its first two bytes (2), 3, then 4, as far as they show, later bytes up to and with a second pair (2), 3 from that pair, its
--- offset byte, operand bytes, for HLT its BUSY byte (2)"
+-- the checks of a channel's next instruction
 abbrev pub instructionChecks : Buffers → Channel → ℕ → List Check
 instructionChecks m c busy = checksFrom (decodedAt m (c .tp)) m c busy
 

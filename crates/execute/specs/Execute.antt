@@ -1,26 +1,25 @@
--- One instruction of a channel: read, decoded, tested and done.
+-- One instruction of a channel: decoded, tested stage by stage, and done or refused (§6.22).
 use mathlib.Core.Bool.{Bool}
-use mathlib.Core.List.{List, [], _++_}
+use mathlib.Core.List.{List, [], _∷_, _++_}
 use Prim.Native.Nat.{ℕ, _-_}
 use lib.Dec.{eqb}
 use Rattle.words.specs.Choice.{pick}
 use Rattle.memory.specs.Buffers.{Buffers}
-use Rattle.memory.specs.Places.{Place, allLent}
+use Rattle.memory.specs.Values.{onward}
+use Rattle.memory.specs.Places.{Place}
 use Rattle.memory.specs.declared.Pointer.{Pointer}
 use Rattle.machine.specs.declared.Channel.{Channel}
-use Rattle.machine.specs.Outcomes.{first, unless}
+use Rattle.machine.specs.Stages.{Stage, stage, stagesNumber, stagesTouched}
 use Rattle.decode_shapes.specs.declared.Shape.{Shape}
 use Rattle.decode_shapes.specs.declared.Shape.the-variants.{Nop, Sintr, Xfer, Wid, Hlt, Lpdi, RegisterImmediate, Register, JumpRegister, RegisterMemory, MemoryRegister, MemoryImmediate, MemoryAlone, JumpMemory, Lpd, MovpLoad, MovpStore, MovMemory, Tsl, Call, JumpMasked, JumpBit, Bit}
 use Rattle.decode_shapes.specs.declared.Decoded.{Decoded}
 use Rattle.decode_shapes.specs.declared.Decoded.the-variants.{Instruction, NoInstruction, ControlUsed}
-use Rattle.decode.specs.Reading.{decodeOf}
+use Rattle.decode.specs.Reading.{decodeOf, numberOf}
 use Rattle.decode.specs.Lengths.{lengthOf}
-use Rattle.execute_operands.specs.declared.Change.the-variants.{Nothing}
-use Rattle.execute_deeds.specs.declared.Effect.{Effect}
-use Rattle.execute_operands.specs.Operands.{byteHere, bytesAt, pastInstruction}
-use Rattle.memory.specs.Values.{onward}
-use Rattle.execute_operands.specs.Changes.{placesOf, changed}
-use Rattle.execute_deeds.specs.Deeds.{Deed, deed, effectOf}
+use Rattle.execute_operands.specs.Operands.{byteHere, bytesAt}
+use Rattle.execute_operands.specs.Marks.{pastInstruction}
+use Rattle.execute_operands.specs.Changes.{placesOf, changed, nothing}
+use Rattle.execute_deeds.specs.Deeds.{Deed, deed}
 use Rattle.execute_deeds.specs.Control.{nopDeed, sintrDeed, xferDeed, widDeed, hltDeed}
 use Rattle.execute_deeds.specs.RegisterForms.{registerImmediateDeed, registerDeed, registerMemoryDeed, lpdiDeed, lpdDeed, movpLoadDeed}
 use Rattle.execute_deeds.specs.MemoryForms.{memoryRegisterDeed, memoryImmediateDeed, memoryAloneDeed, movpStoreDeed, bitDeed, movMemoryDeed}
@@ -60,52 +59,44 @@ performed (Bit on bit o) m c tp armed busy = bitDeed m c tp on bit o
 unfoldable pub deedOf : Shape → Buffers → Channel → ℕ → Deed
 deedOf s m c busy = performed s m (pastInstruction c (lengthOf s)) (c .tp) (c .armed) busy
 
--- the bytes after the pair, "later bytes up to and with a second pair"
+-- the bytes after the pair: offset byte, data, displacement, and both bytes of a second pair (§6.6)
 unfoldable pub laterBytes : Shape → Channel → List Place
 laterBytes s c = bytesAt (onward (c .tp) 2) (lengthOf s - 2)
 
 -- the deed where there is an instruction; where there is none, none
 unfoldable pub deedFrom : Decoded → Buffers → Channel → ℕ → Deed
 deedFrom (Instruction s) m c busy = deedOf s m c busy
-deedFrom NoInstruction m c busy = deed [] c Nothing
-deedFrom ControlUsed m c busy = deed [] c Nothing
+deedFrom NoInstruction m c busy = deed [] c nothing
+deedFrom ControlUsed m c busy = deed [] c nothing
 
--- the number of an instruction that was read: later bytes (2), 3 from a second pair, its offset byte and the operand bytes (2), the bytes stored to (2)
-unfoldable pub shapeNumber : Shape → Buffers → Channel → ℕ → ℕ
-shapeNumber s m c busy =
-    first (unless (allLent m (laterBytes s c)) 2)
-    (first ((effectOf m (deedOf s m c busy)) .number) (unless (allLent m (placesOf ((deedOf s m c busy) .change))) 2))
+-- the bytes after the pair where it is an instruction
+unfoldable pub laterFrom : Decoded → Channel → List Place
+laterFrom (Instruction s) c = laterBytes s c
+laterFrom NoInstruction c = []
+laterFrom ControlUsed c = []
 
--- the number after the first two bytes: 3, 4, then that of the instruction
-unfoldable pub numberFrom : Decoded → Buffers → Channel → ℕ → ℕ
-numberFrom (Instruction s) m c busy = shapeNumber s m c busy
-numberFrom NoInstruction m c busy = 3
-numberFrom ControlUsed m c busy = 4
+-- the stages of an instruction, d being what its first two bytes are
+unfoldable pub stagesFrom : Decoded → Buffers → Channel → ℕ → List Stage
+stagesFrom d m c busy =
+    let done = deedFrom d m c busy in
+    -- its first two bytes; then 3 and 4, as far as they show
+    stage (bytesAt (c .tp) 2) (numberOf d)
+    -- the later bytes, up to and with a second pair; then 3 from that pair
+    ∷ stage (laterFrom d c) (done .second)
+    -- the offset byte of a second pair, the operand bytes that are read and those that are stored to, for HLT its BUSY byte
+    ∷ stage (done .reads ++ placesOf (done .change)) 0
+    ∷ []
 
--- the number of an instruction: its first two bytes (2), then the rest
+unfoldable pub instructionStages : Buffers → Channel → ℕ → List Stage
+instructionStages m c busy = stagesFrom (decodedAt m (c .tp)) m c busy
+
+-- the number of an instruction
 unfoldable pub executeNumber : Buffers → Channel → ℕ → ℕ
-executeNumber m c busy = first (unless (allLent m (bytesAt (c .tp) 2)) 2) (numberFrom (decodedAt m (c .tp)) m c busy)
+executeNumber m c busy = stagesNumber m (instructionStages m c busy)
 
 -- which bytes an instruction touches, each access once
-unfoldable pub touchedFrom : Decoded → Buffers → Channel → ℕ → List Place
-touchedFrom (Instruction s) m c busy =
-    laterBytes s c ++ (deedOf s m c busy) .reads ++ placesOf ((deedOf s m c busy) .change)
-touchedFrom NoInstruction m c busy = []
-touchedFrom ControlUsed m c busy = []
-
 unfoldable pub touchedByInstruction : Buffers → Channel → ℕ → List Place
-touchedByInstruction m c busy = bytesAt (c .tp) 2 ++ touchedFrom (decodedAt m (c .tp)) m c busy
-
--- a refused instruction leaves the channel and changes nothing
-unfoldable pub settledEffect : ℕ → Deed → Channel → Effect
-settledEffect number d c =
-    pick (eqb number 0)
-    (record { number = 0; channel = d .channel; change = d .change })
-    (record { number = number; channel = c; change = Nothing })
-
--- an instruction's number, with the channel and the change that it makes
-unfoldable pub planOf : Buffers → Channel → ℕ → Effect
-planOf m c busy = settledEffect (executeNumber m c busy) (deedFrom (decodedAt m (c .tp)) m c busy) c
+touchedByInstruction m c busy = stagesTouched (instructionStages m c busy)
 
 -- what an instruction of a channel leaves: number, channel and memory
 pub record Executed : Type 0 where
@@ -116,7 +107,9 @@ pub record Executed : Type 0 where
 abbrev pub executed : ℕ → Channel → Buffers → Executed
 executed number c m = record { number = number; channel = c; memory = m }
 
+-- a refused instruction leaves the channel and changes no byte; any other does its deed
 unfoldable pub executeOf : Channel → ℕ → Buffers → Executed
 executeOf c busy m =
-    let e = planOf m c busy in
-    executed (e .number) (e .channel) (changed m (e .change))
+    let number = executeNumber m c busy in
+    let done = deedFrom (decodedAt m (c .tp)) m c busy in
+    pick (eqb number 0) (executed 0 (done .channel) (changed m (done .change))) (executed number c m)

@@ -20,6 +20,6 @@ Halts m c = decodedAt m (c .tp) ≡ Instruction Hlt
 abbrev pub Arms : Buffers → Channel → Type 0
 Arms m c = decodedAt m (c .tp) ≡ Instruction Xfer
 
--- "PPP: GA, GB, GC, TP only"
+-- PPP: GA, GB, GC or TP (§6.2)
 abbrev pub IsPointer : ℕ → Type 0
 IsPointer r = (r ≡ 0) ⊎ ((r ≡ 1) ⊎ ((r ≡ 2) ⊎ (r ≡ 4)))

@@ -1,3 +1,4 @@
 pub mod Execute
+pub mod Plan
 pub mod Conditions
 pub mod Kept

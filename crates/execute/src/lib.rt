@@ -4,14 +4,18 @@ use decode_shapes::Shape;
 use execute_deeds::Effect;
 use execute_deeds::control;
 use execute_deeds::registers;
-use execute_operands::Change;
 use execute_operands::changes;
 use machine::Channel;
 use memory::Pointer;
 ghost use mathlib.Core.Path.{_≡_};
 ghost use Rattle.memory.specs.Buffers.{buffers};
 ghost use Rattle.execute_deeds.specs.Deeds.{effectOf};
-ghost use Rattle.execute.specs.Execute.{performed, deedOf, shapeNumber, settledEffect, planOf, executed, executeOf};
+ghost use Rattle.decode_shapes.specs.declared.Decoded.the-variants.{Instruction};
+ghost use Rattle.decode.specs.Lengths.{lengthOf};
+ghost use Rattle.execute_operands.specs.Changes.{nothing};
+ghost use Rattle.execute.specs.Execute.{performed, deedOf, executed, executeOf};
+ghost use Rattle.execute.specs.Plan.{laterNumber, planNumber, Planned};
+ghost use Rattle.execute.specs.Kept.{deedAt};
 
 // What an instruction answers: its number, and the channel after it.
 pub struct Done {
@@ -19,7 +23,8 @@ pub struct Done {
     pub channel: Channel,
 }
 
-// What an instruction of some shape does: `c` has TP past it and its mark used up, `tp` is where it stands.
+// What an instruction of some shape does: `c` has TP past it and its mark used up, `tp` is where it stands, `armed`
+// whether it was marked.
 fn perform(
     shape: Shape,
     c: Channel,
@@ -134,25 +139,25 @@ fn perform(
 
 // A refusal: the channel as it was, and nothing stored.
 fn refused(c: Channel, number: u32) -> Effect
-    ensures { λ r. ⌜ r ≡ record { number = number; channel = c; change = Change.Nothing } ⌝ }
+    ensures { λ r. ⌜ r ≡ record { number = number; channel = c; change = nothing } ⌝ }
 {
     Effect {
         number,
         channel: c,
-        change: Change::Nothing,
+        change: changes::nothing(),
     }
 }
 
-// An instruction of a channel that was read, worked out and not yet stored.
-fn shaped(shape: Shape, c: Channel, busy: u32, sys: &[u8], io: &[u8]) -> Effect
-    ensures { λ r. ⌜ r ≡ settledEffect (shapeNumber shape (buffers (now (sys .entry)) (now (io .entry))) c busy) (deedOf shape (buffers (now (sys .entry)) (now (io .entry))) c busy) c ⌝ }
+// An instruction of a channel that was decoded and has `count` bytes, worked out and not yet stored.
+fn shaped(shape: Shape, count: u32, c: Channel, busy: u32, sys: &[u8], io: &[u8]) -> Effect
+    requires { ⌜ count ≡ lengthOf shape ⌝ }
+    ensures { λ r. ⌜ Planned (laterNumber (Instruction shape) (buffers (now (sys .entry)) (now (io .entry))) c busy) (deedOf shape (buffers (now (sys .entry)) (now (io .entry))) c busy) r ⌝ }
 {
     let tp = c.tp;
-    let count = decode::length(shape);
     if !execute_operands::lent(memory::onward(tp, 2), count - 2, sys, io) {
         return refused(c, 2);
     }
-    let e = perform(
+    perform(
         shape,
         execute_operands::advanced(c, count),
         tp,
@@ -160,33 +165,24 @@ fn shaped(shape: Shape, c: Channel, busy: u32, sys: &[u8], io: &[u8]) -> Effect
         busy,
         sys,
         io,
-    );
-    if e.number != 0 {
-        return refused(c, e.number);
-    }
-    let change = e.change;
-    if !changes::lent(change, sys, io) {
-        return refused(c, 2);
-    }
-    e
+    )
 }
 
 // The next instruction of a channel, worked out and not yet stored; BUSY is at `busy` of system memory.
-pub fn plan(c: Channel, busy: u32, sys: &[u8], io: &[u8]) -> Effect
-    ensures { λ r. ⌜ r ≡ planOf (buffers (now (sys .entry)) (now (io .entry))) c busy ⌝ }
+fn plan(c: Channel, busy: u32, sys: &[u8], io: &[u8]) -> Effect
+    ensures { λ r. ⌜ Planned (planNumber (buffers (now (sys .entry)) (now (io .entry))) c busy) (deedAt (buffers (now (sys .entry)) (now (io .entry))) c busy) r ⌝ }
 {
     let tp = c.tp;
     if !execute_operands::lent(tp, 2, sys, io) {
         return refused(c, 2);
     }
-    let decoded = decode::decode(
-        execute_operands::byte(tp, sys, io),
-        execute_operands::byte(memory::onward(tp, 1), sys, io),
-    );
+    let first = execute_operands::byte(tp, sys, io);
+    let second = execute_operands::byte(memory::onward(tp, 1), sys, io);
+    let decoded = decode::decode(first, second);
     let Decoded::Instruction(shape) = decoded else {
         return refused(c, decode::number(decoded));
     };
-    shaped(shape, c, busy, sys, io)
+    shaped(shape, decode::pair_length(first, second), c, busy, sys, io)
 }
 
 // One instruction of a channel, done or refused; BUSY is at `busy` of system memory.
@@ -194,11 +190,20 @@ pub fn execute(c: Channel, busy: u32, sys: &mut [u8], io: &mut [u8]) -> Done
     ensures { λ r. ⌜ executed (r .number) (r .channel) (buffers (now (sys .exit)) (now (io .exit))) ≡ executeOf c busy (buffers (now (sys .entry)) (now (io .entry))) ⌝ }
 {
     let e = plan(c, busy, sys, io);
+    if e.number != 0 {
+        return Done {
+            number: e.number,
+            channel: c,
+        };
+    }
     let change = e.change;
     let channel = e.channel;
-    changes::make(change, sys, io);
-    Done {
-        number: e.number,
-        channel,
+    if changes::made(change, sys, io) {
+        Done { number: 0, channel }
+    } else {
+        Done {
+            number: 2,
+            channel: c,
+        }
     }
 }

@@ -1,14 +1,14 @@
 -- NOP, SINTR, XFER, WID and HLT.
-use mathlib.Core.Bool.{Bool, true, false, not}
+use mathlib.Core.Bool.{Bool, true, false}
 use mathlib.Core.List.{[]}
 use Prim.Native.Nat.{ℕ}
 use Rattle.words.specs.Choice.{pick}
 use Rattle.memory.specs.Values.{pointer}
 use Rattle.machine.specs.declared.Channel.{Channel}
-use Rattle.machine.specs.declared.Mode.the-variants.{Idle}
 use Rattle.machine.specs.Psw.{interruptControl, withPsw}
-use Rattle.execute_operands.specs.declared.Change.the-variants.{Nothing, Byte}
-use Rattle.machine.specs.Updates.{renewed}
+use Rattle.machine.specs.Updates.{renewed, halted}
+use Rattle.execute_operands.specs.Marks.{marked}
+use Rattle.execute_operands.specs.Changes.{nothing, byteTo}
 use Rattle.execute_deeds.specs.Deeds.{Deed, deed}
 
 -- a channel with another PSW
@@ -17,21 +17,20 @@ withStatus c psw = renewed c (c .tp) (c .ix) psw (c .mode) (c .armed)
 
 -- NOP
 unfoldable pub nopDeed : Channel → Deed
-nopDeed c = deed [] c Nothing
+nopDeed c = deed [] c nothing
 
--- "SINTR sets IS if IC is 1"
+-- SINTR sets IS where IC is 1 (§6.19)
 unfoldable pub sintrDeed : Channel → Deed
-sintrDeed c = deed [] (withStatus c (pick (interruptControl (c .psw)) (withPsw (c .psw) 4 true) (c .psw))) Nothing
+sintrDeed c = deed [] (withStatus c (pick (interruptControl (c .psw)) (withPsw (c .psw) 4 true) (c .psw))) nothing
 
--- "XFER arms"; of an armed channel it is the next instruction, with "no more effect"
+-- XFER sets the mark, by the rule of marks; `armed` is whether there was one
 unfoldable pub xferDeed : Channel → Bool → Deed
-xferDeed c armed = deed [] (renewed c (c .tp) (c .ix) (c .psw) (c .mode) (not armed)) Nothing
+xferDeed c armed = deed [] (marked c armed) nothing
 
--- "WID puts S into PSW bit 1 and D into bit 0"
+-- WID puts S into PSW bit 1 and D into bit 0 (§6.19)
 unfoldable pub widDeed : Channel → Bool → Bool → Deed
-widDeed c source destination = deed [] (withStatus c (withPsw (withPsw (c .psw) 1 source) 0 destination)) Nothing
+widDeed c source destination = deed [] (withStatus c (withPsw (withPsw (c .psw) 1 source) 0 destination)) nothing
 
--- "HLT acts as halt": idle, TB and XF 0, unarmed, BUSY 0
+-- HLT halts as the command does, and BUSY is stored as 0 (§6.21)
 unfoldable pub hltDeed : Channel → ℕ → Deed
-hltDeed c busy =
-    deed [] (renewed c (c .tp) (c .ix) (withPsw (withPsw (c .psw) 2 false) 6 false) Idle false) (Byte (pointer busy false) 0)
+hltDeed c busy = deed [] (halted c) (byteTo (pointer busy false) 0)

@@ -1,4 +1,4 @@
--- What an instruction does once it is read: what it reads, what the channel becomes and what it stores.
+-- What an instruction does once it is read: what its second pair is, what it reads, what the channel becomes and what it stores.
 use mathlib.Core.List.{List}
 use Prim.Native.Nat.{ℕ}
 use Rattle.memory.specs.Buffers.{Buffers}
@@ -8,20 +8,21 @@ use Rattle.machine.specs.Outcomes.{first, unless}
 use Rattle.execute_operands.specs.declared.Change.{Change}
 use Rattle.execute_deeds.specs.declared.Effect.{Effect}
 
--- `wrong` is 3 where a second pair is none, else 0; `reads` are the operand bytes read, and the offset byte of a second pair
+-- `second` is the number of the second pair, 0 where there is none to refuse; `reads` are the offset byte of a second pair and the operand bytes read
 pub record Deed : Type 0 where
-  pub wrong : ℕ
+  pub second : ℕ
   pub reads : List Place
   pub channel : Channel
   pub change : Change
 
+-- the deed of an instruction without a second pair, or with one that is as it must be
 abbrev pub deed : List Place → Channel → Change → Deed
-deed reads c ch = record { wrong = 0; reads = reads; channel = c; change = ch }
+deed reads c ch = record { second = 0; reads = reads; channel = c; change = ch }
 
--- a deed with the number that its reading gives: 3 from the second pair, then 2
+-- a deed with the number that its reading gives: that of the second pair, then 2
 unfoldable pub effectOf : Buffers → Deed → Effect
 effectOf m d =
-    record { number = first (d .wrong) (unless (allLent m (d .reads)) 2); channel = d .channel; change = d .change }
+    record { number = first (d .second) (unless (allLent m (d .reads)) 2); channel = d .channel; change = d .change }
 
 -- a deed that reads no operand
 abbrev pub unread : Deed → Effect

@@ -1,5 +1,5 @@
 -- Instructions that jump.
-use mathlib.Core.Bool.{Bool, false}
+use mathlib.Core.Bool.{Bool, false, not}
 use mathlib.Core.List.{[]}
 use Prim.Native.Nat.{ℕ, _%_}
 use lib.Dec.{eqb}
@@ -7,32 +7,36 @@ use Rattle.words.specs.Choice.{pick}
 use Rattle.words.specs.Bits.{bitOf}
 use Rattle.words.specs.Compare.{matchOf}
 use Rattle.memory.specs.Buffers.{Buffers}
+use Rattle.memory.specs.Values.{onward}
 use Rattle.memory.specs.declared.Pointer.{Pointer}
 use Rattle.machine.specs.declared.Channel.{Channel}
 use Rattle.machine.specs.Registers.{registerOf}
 use Rattle.decode_shapes.specs.declared.Memory.{Memory}
-use Rattle.execute_operands.specs.declared.Change.the-variants.{Nothing, Byte, Stored}
-use Rattle.execute_operands.specs.Operands.{afterPair, byteHere, bytesAt, sizeOf, effective, grown, operandAt, jumped, jumpedIf, agrees}
-use Rattle.memory.specs.Values.{onward}
+use Rattle.execute_operands.specs.Operands.{afterPair, byteHere, bytesAt, sizeOf, effective, grown, operandAt, jumped, jumpedIf}
+use Rattle.execute_operands.specs.Changes.{nothing, byteTo, pointerTo}
 use Rattle.execute_deeds.specs.Deeds.{Deed, deed}
 
--- "JZ and JNZ on a register test its low 16 bits"
+-- a test, or its opposite
+abbrev pub agrees : Bool → Bool → Bool
+agrees wanted found = pick wanted found (not found)
+
+-- JZ R, JNZ R: the low 16 bits count (§6.16)
 unfoldable pub jumpRegisterDeed : Buffers → Channel → Pointer → Bool → ℕ → Bool → Deed
 jumpRegisterDeed m c tp zero r two =
-    deed [] (jumpedIf (agrees zero (eqb (registerOf c r % 65536) 0)) m c (onward tp 2) two) Nothing
+    deed [] (jumpedIf (agrees zero (eqb (registerOf c r % 65536) 0)) m c (onward tp 2) two) nothing
 
 -- JZ M, JNZ M
 unfoldable pub jumpMemoryDeed : Buffers → Channel → Pointer → Bool → Memory → Bool → Deed
 jumpMemoryDeed m c tp zero o two =
     let at = effective m c o tp in
     deed (bytesAt at (sizeOf (o .wide)))
-    (jumpedIf (agrees zero (eqb (operandAt m at (o .wide)) 0)) m (grown c o (sizeOf (o .wide))) (afterPair tp o) two) Nothing
+    (jumpedIf (agrees zero (eqb (operandAt m at (o .wide)) 0)) m (grown c o (sizeOf (o .wide))) (afterPair tp o) two) nothing
 
 -- a jump on a byte that was tested
 unfoldable pub jumpByteDeed : Buffers → Channel → Pointer → Pointer → Bool → Memory → Bool → Deed
-jumpByteDeed m c tp at taken o two = deed (bytesAt at 1) (jumpedIf taken m (grown c o 1) (afterPair tp o) two) Nothing
+jumpByteDeed m c tp at taken o two = deed (bytesAt at 1) (jumpedIf taken m (grown c o 1) (afterPair tp o) two) nothing
 
--- JMCE, JMCNE: the masked compare with MC
+-- JMCE, JMCNE: the masked compare with MC (§2.5)
 unfoldable pub jumpMaskedDeed : Buffers → Channel → Pointer → Bool → Memory → Bool → Deed
 jumpMaskedDeed m c tp equal o two =
     let at = effective m c o tp in
@@ -44,15 +48,15 @@ jumpBitDeed m c tp set bit o two =
     let at = effective m c o tp in
     jumpByteDeed m c tp at (agrees set (bitOf (byteHere m at) bit)) o two
 
--- "TSL: byte 0 is replaced by the data, otherwise jump": one byte of data, then one of displacement
+-- TSL: a byte that is 0 becomes the data, any other jumps; one byte of data, then one of displacement (§6.18)
 unfoldable pub tslDeed : Buffers → Channel → Pointer → Memory → Deed
 tslDeed m c tp o =
     let at = effective m c o tp in
     pick (eqb (byteHere m at) 0)
-    (deed (bytesAt at 1) (grown c o 1) (Byte at (byteHere m (afterPair tp o))))
-    (deed (bytesAt at 1) (jumped m (grown c o 1) (onward (afterPair tp o) 1) false) Nothing)
+    (deed (bytesAt at 1) (grown c o 1) (byteTo at (byteHere m (afterPair tp o))))
+    (deed (bytesAt at 1) (jumped m (grown c o 1) (onward (afterPair tp o) 1) false) nothing)
 
--- "CALL stores TP in stored form, then jumps"
+-- CALL stores TP in its stored form, then jumps (§6.17)
 unfoldable pub callDeed : Buffers → Channel → Pointer → Memory → Bool → Deed
 callDeed m c tp o two =
-    deed [] (jumped m (grown c o 3) (afterPair tp o) two) (Stored (effective m c o tp) (c .tp))
+    deed [] (jumped m (grown c o 3) (afterPair tp o) two) (pointerTo (effective m c o tp) (c .tp))

@@ -1,12 +1,12 @@
 -- Instructions whose result goes into memory.
-use mathlib.Core.Bool.{Bool}
+use mathlib.Core.Bool.{Bool, false}
 use mathlib.Core.List.{[], _++_}
-use Prim.Native.Nat.{ℕ, _%_}
+use Prim.Native.Nat.{ℕ}
 use lib.Dec.{ltb}
 use Rattle.words.specs.Choice.{pick}
 use Rattle.words.specs.Bits.{withBit}
 use Rattle.memory.specs.Buffers.{Buffers}
-use Rattle.memory.specs.Values.{pointer}
+use Rattle.memory.specs.Values.{pointer, onward}
 use Rattle.memory.specs.declared.Pointer.{Pointer}
 use Rattle.machine.specs.declared.Channel.{Channel}
 use Rattle.machine.specs.Registers.{registerOf, tagOf}
@@ -15,26 +15,28 @@ use Rattle.decode_shapes.specs.declared.Second.{Second}
 use Rattle.decode_shapes.specs.declared.Second.the-variants.{Operand, NoSecond}
 use Rattle.decode_shapes.specs.declared.Work.{Work}
 use Rattle.decode_shapes.specs.declared.Single.{Single}
-use Rattle.decode.specs.Reading.{secondOf}
+use Rattle.decode.specs.Reading.{secondOf, secondNumberOf}
 use Rattle.decode.specs.Lengths.{offsetLength}
-use Rattle.execute_operands.specs.declared.Change.the-variants.{Nothing, Byte, Stored}
 use Rattle.execute_operands.specs.Operands.{afterPair, byteHere, bytesAt, further, sizeOf, effective, grown, operandAt, workOf, singleOf, isMove}
-use Rattle.memory.specs.Values.{onward}
-use Rattle.execute_operands.specs.Changes.{resultAt}
+use Rattle.execute_operands.specs.declared.Change.{Change}
+use Rattle.execute_operands.specs.Changes.{nothing, byteTo, resultTo, pointerTo}
 use Rattle.execute_deeds.specs.Deeds.{Deed, deed}
 
--- the bytes that work reads of a memory operand: a move reads none
+-- the bytes that work reads of a memory operand: a move reads none (§6.12)
 unfoldable pub readFirst : Work → Bool → ℕ
 readFirst work wide = pick (isMove work) 0 (sizeOf wide)
 
--- the work of a memory operand and another value, stored back
+-- what the work of a memory operand and another value stores back
+unfoldable pub workedBack : Buffers → Pointer → Work → Bool → ℕ → Change
+workedBack m at work wide v = resultTo at wide (workOf work (operandAt m at wide) v)
+
+-- the deed of such work
 unfoldable pub memoryWorkDeed : Buffers → Channel → Pointer → Work → Memory → ℕ → Deed
 memoryWorkDeed m c tp work o v =
     let at = effective m c o tp in
-    deed (bytesAt at (readFirst work (o .wide))) (grown c o (sizeOf (o .wide)))
-    (resultAt at (o .wide) (workOf work (operandAt m at (o .wide)) v))
+    deed (bytesAt at (readFirst work (o .wide))) (grown c o (sizeOf (o .wide))) (workedBack m at work (o .wide) v)
 
--- MOV, ADD, OR, AND M,R: "A register operand is read before IX grows"
+-- MOV, ADD, OR, AND M,R: the register is read before IX grows (§6.8)
 unfoldable pub memoryRegisterDeed : Buffers → Channel → Pointer → Work → ℕ → Memory → Deed
 memoryRegisterDeed m c tp work r o = memoryWorkDeed m c tp work o (registerOf c r)
 
@@ -47,24 +49,24 @@ unfoldable pub memoryAloneDeed : Buffers → Channel → Pointer → Single → 
 memoryAloneDeed m c tp single o =
     let at = effective m c o tp in
     deed (bytesAt at (sizeOf (o .wide))) (grown c o (sizeOf (o .wide)))
-    (resultAt at (o .wide) (singleOf single (operandAt m at (o .wide))))
+    (resultTo at (o .wide) (singleOf single (operandAt m at (o .wide))))
 
--- MOVP M,P: the pointer in its stored form
+-- MOVP M,P: the pointer in its stored form (§6.13)
 unfoldable pub movpStoreDeed : Buffers → Channel → Pointer → ℕ → Memory → Deed
 movpStoreDeed m c tp r o =
-    deed [] (grown c o 3) (Stored (effective m c o tp) (pointer (registerOf c r) (tagOf c r)))
+    deed [] (grown c o 3) (pointerTo (effective m c o tp) (pointer (registerOf c r) (tagOf c r)))
 
 -- a byte with one bit made 1 or 0
 unfoldable pub bitWritten : ℕ → ℕ → Bool → ℕ
-bitWritten byte bit on = pick (ltb bit 32) (withBit byte bit on) byte % 256
+bitWritten byte bit on = pick (ltb bit 32) (withBit byte bit on) byte
 
--- SETB, CLR
+-- SETB, CLR (§6.15)
 unfoldable pub bitDeed : Buffers → Channel → Pointer → Bool → ℕ → Memory → Deed
 bitDeed m c tp on bit o =
     let at = effective m c o tp in
-    deed (bytesAt at 1) (grown c o 1) (Byte at (bitWritten (byteHere m at) bit on))
+    deed (bytesAt at 1) (grown c o 1) (resultTo at false (bitWritten (byteHere m at) bit on))
 
--- MOV M,M with its second operand: "a second address is formed after" IX has grown, and may grow it again
+-- MOV M,M with its second operand, whose address is formed once IX has grown, and which may grow it again (§6.8)
 unfoldable pub movOperandDeed : Buffers → Channel → Pointer → Memory → Memory → Deed
 movOperandDeed m c tp o q =
     let at = effective m c o tp in
@@ -72,15 +74,19 @@ movOperandDeed m c tp o q =
     let c₁ = grown c o (sizeOf (o .wide)) in
     deed (bytesAt (onward pair 2) (offsetLength q) ++ bytesAt at (sizeOf (o .wide)))
     (further (grown c₁ q (sizeOf (q .wide))) (offsetLength q))
-    (resultAt (effective m c₁ q pair) (o .wide) (operandAt m at (o .wide)))
+    (resultTo (effective m c₁ q pair) (o .wide) (operandAt m at (o .wide)))
 
 -- MOV M,M with what its second pair is
 unfoldable pub movSecondDeed : Buffers → Channel → Pointer → Memory → Second → Deed
-movSecondDeed m c tp o NoSecond = record { wrong = 3; reads = []; channel = c; change = Nothing }
+movSecondDeed m c tp o NoSecond = record { second = secondNumberOf NoSecond; reads = []; channel = c; change = nothing }
 movSecondDeed m c tp o (Operand q) = movOperandDeed m c tp o q
+
+-- what the second pair of a MOV M,M at tp is
+unfoldable pub secondAt : Buffers → Pointer → Memory → Second
+secondAt m tp o =
+    let pair = afterPair tp o in
+    secondOf (byteHere m pair) (byteHere m (onward pair 1)) (o .wide)
 
 -- MOV M,M
 unfoldable pub movMemoryDeed : Buffers → Channel → Pointer → Memory → Deed
-movMemoryDeed m c tp o =
-    let pair = afterPair tp o in
-    movSecondDeed m c tp o (secondOf (byteHere m pair) (byteHere m (onward pair 1)) (o .wide))
+movMemoryDeed m c tp o = movSecondDeed m c tp o (secondAt m tp o)

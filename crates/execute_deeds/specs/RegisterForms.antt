@@ -4,53 +4,52 @@ use mathlib.Core.List.{[]}
 use Prim.Native.Nat.{ℕ}
 use Rattle.words.specs.Choice.{pick}
 use Rattle.memory.specs.Buffers.{Buffers}
-use Rattle.memory.specs.Values.{doublewordAt, pointerAt}
+use Rattle.memory.specs.Values.{onward, doublewordAt, pointerAt}
 use Rattle.memory.specs.declared.Pointer.{Pointer}
 use Rattle.machine.specs.declared.Channel.{Channel}
 use Rattle.machine.specs.Registers.{registerOf, withRegister, moved, worked, loaded}
 use Rattle.decode_shapes.specs.declared.Memory.{Memory}
 use Rattle.decode_shapes.specs.declared.Work.{Work}
 use Rattle.decode_shapes.specs.declared.Single.{Single}
-use Rattle.execute_operands.specs.declared.Change.the-variants.{Nothing}
 use Rattle.execute_operands.specs.Operands.{bytesAt, sizeOf, effective, grown, operandAt, workOf, singleOf, isMove}
-use Rattle.memory.specs.Values.{onward}
+use Rattle.execute_operands.specs.Changes.{nothing}
 use Rattle.execute_deeds.specs.Deeds.{Deed, deed}
 
--- "MOV and MOVI to a pointer set its tag; .. arithmetic and logic keep it"
+-- a register written: MOV and MOVI set the tag of a pointer, other work keeps it (§6.10)
 unfoldable pub registerWritten : Work → Channel → ℕ → ℕ → Channel
 registerWritten work c r v = pick (isMove work) (moved c r v) (worked c r v)
 
 -- ADDI, ORI, ANDI, MOVI R,I: the data stands after the pair
 unfoldable pub registerImmediateDeed : Buffers → Channel → Pointer → Work → ℕ → Bool → Deed
 registerImmediateDeed m c tp work r wide =
-    deed [] (registerWritten work c r (workOf work (registerOf c r) (operandAt m (onward tp 2) wide))) Nothing
+    deed [] (registerWritten work c r (workOf work (registerOf c r) (operandAt m (onward tp 2) wide))) nothing
 
 -- NOT R, INC R, DEC R
 unfoldable pub registerDeed : Channel → Single → ℕ → Deed
-registerDeed c single r = deed [] (worked c r (singleOf single (registerOf c r))) Nothing
+registerDeed c single r = deed [] (worked c r (singleOf single (registerOf c r))) nothing
 
--- MOV, ADD, OR, AND, NOT R,M: "A register operand is read before IX grows", the result is written after
+-- MOV, ADD, OR, AND, NOT R,M: the register operand is read, then IX grows, then the result is written (§6.8)
 unfoldable pub registerMemoryDeed : Buffers → Channel → Pointer → Work → ℕ → Memory → Deed
 registerMemoryDeed m c tp work r o =
     let at = effective m c o tp in
     deed (bytesAt at (sizeOf (o .wide)))
-    (registerWritten work (grown c o (sizeOf (o .wide))) r (workOf work (registerOf c r) (operandAt m at (o .wide)))) Nothing
+    (registerWritten work (grown c o (sizeOf (o .wide))) r (workOf work (registerOf c r) (operandAt m at (o .wide)))) nothing
 
--- LPDI: "LPD and LPDI clear" the tag
+-- LPDI: the doubleword pointer after the pair; the tag becomes 0 (§6.10, §6.13)
 unfoldable pub lpdiDeed : Buffers → Channel → Pointer → ℕ → Deed
 lpdiDeed m c tp r =
     let at = onward tp 2 in
-    deed [] (loaded c r (doublewordAt m (at .tag) (at .address))) Nothing
+    deed [] (loaded c r (doublewordAt m (at .tag) (at .address))) nothing
 
--- LPD P,M
+-- LPD P,M: the same from memory
 unfoldable pub lpdDeed : Buffers → Channel → Pointer → ℕ → Memory → Deed
 lpdDeed m c tp r o =
     let at = effective m c o tp in
-    deed (bytesAt at 4) (loaded (grown c o 4) r (doublewordAt m (at .tag) (at .address))) Nothing
+    deed (bytesAt at 4) (loaded (grown c o 4) r (doublewordAt m (at .tag) (at .address))) nothing
 
--- MOVP P,M: "MOVP loads" the tag
+-- MOVP P,M: a stored pointer, and its tag with it (§6.13)
 unfoldable pub movpLoadDeed : Buffers → Channel → Pointer → ℕ → Memory → Deed
 movpLoadDeed m c tp r o =
     let at = effective m c o tp in
     let p = pointerAt m (at .tag) (at .address) in
-    deed (bytesAt at 3) (withRegister (grown c o 3) r (p .address) (p .tag)) Nothing
+    deed (bytesAt at 3) (withRegister (grown c o 3) r (p .address) (p .tag)) nothing

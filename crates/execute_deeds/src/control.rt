@@ -1,8 +1,7 @@
 // NOP, SINTR, XFER, WID and HLT.
 use crate::Effect;
-use execute_operands::Change;
+use execute_operands::changes;
 use machine::Channel;
-use machine::Mode;
 use machine::psw;
 use memory::Pointer;
 ghost use mathlib.Core.Path.{_≡_};
@@ -16,7 +15,7 @@ pub fn only(c: Channel) -> Effect
     Effect {
         number: 0,
         channel: c,
-        change: Change::Nothing,
+        change: changes::nothing(),
     }
 }
 
@@ -47,7 +46,7 @@ pub fn sintr(c: Channel) -> Effect
     }
 }
 
-// XFER: the channel is armed, unless it was.
+// XFER: the mark is set, unless XFER itself used one up.
 pub fn xfer(c: Channel, armed: bool) -> Effect
     ensures { λ r. ⌜ r ≡ unread (xferDeed c armed) ⌝ }
 {
@@ -64,16 +63,14 @@ pub fn wid(c: Channel, source: bool, destination: bool) -> Effect
     only(with_status(c, psw::with(first, psw::DESTINATION_WIDE, destination)))
 }
 
-// HLT: as the command halt.
+// HLT: as the command halt does, with BUSY stored as 0.
 pub fn hlt(c: Channel, busy: u32) -> Effect
     ensures { λ r. ⌜ r ≡ unread (hltDeed c busy) ⌝ }
 {
-    let tp = c.tp;
-    let status = psw::with(psw::with(c.psw, psw::TB, false), psw::XF, false);
     Effect {
         number: 0,
-        channel: machine::updates::renewed(c, tp, c.ix, status, Mode::Idle, false),
-        change: Change::Byte(
+        channel: machine::updates::halted(c),
+        change: changes::byte_to(
             Pointer {
                 address: busy,
                 tag: false,

@@ -10,10 +10,9 @@ use machine::Channel;
 use memory::Pointer;
 ghost use mathlib.Core.Path.{_≡_};
 ghost use Rattle.memory.specs.Buffers.{buffers};
-ghost use Rattle.execute_deeds.specs.Deeds.{effectOf};
+ghost use Rattle.execute_deeds.specs.Deeds.{effectOf, unread};
 ghost use Rattle.execute_deeds.specs.MemoryForms as MemoryForms;
-ghost use Rattle.execute_deeds.specs.MemoryForms.{memoryWorkDeed, memoryRegisterDeed, memoryImmediateDeed, memoryAloneDeed, movpStoreDeed, bitWritten, bitDeed, movSecondDeed, movMemoryDeed};
-ghost use Rattle.execute_deeds.specs.Deeds.{unread};
+ghost use Rattle.execute_deeds.specs.MemoryForms.{workedBack, memoryRegisterDeed, memoryImmediateDeed, memoryAloneDeed, movpStoreDeed, bitWritten, bitDeed, movMemoryDeed};
 
 // The bytes that work reads of a memory operand.
 fn read_first(work: Work, wide: bool) -> u32
@@ -26,25 +25,12 @@ fn read_first(work: Work, wide: bool) -> u32
     }
 }
 
-// The work of a memory operand and another value, stored back.
-pub fn memory_work(
-    c: Channel,
-    tp: Pointer,
-    work: Work,
-    m: Memory,
-    v: u32,
-    sys: &[u8],
-    io: &[u8],
-) -> Effect
-    ensures { λ r. ⌜ r ≡ effectOf (buffers (now (sys .entry)) (now (io .entry))) (memoryWorkDeed (buffers (now (sys .entry)) (now (io .entry))) c tp work m v) ⌝ }
+// What the work of a memory operand and another value stores back.
+fn worked_back(at: Pointer, work: Work, wide: bool, v: u32, sys: &[u8], io: &[u8]) -> Change
+    ensures { λ r. ⌜ r ≡ workedBack (buffers (now (sys .entry)) (now (io .entry))) at work wide v ⌝ }
 {
-    let at = execute_operands::effective(c, m, tp, sys, io);
-    let w = execute_operands::work(work, execute_operands::operand(at, m.wide, sys, io), v);
-    Effect {
-        number: execute_operands::read_number(at, read_first(work, m.wide), sys, io),
-        channel: execute_operands::grown_by_size(c, m),
-        change: changes::result(at, m.wide, w),
-    }
+    let w = execute_operands::work(work, execute_operands::operand(at, wide, sys, io), v);
+    changes::result_to(at, wide, w)
 }
 
 // MOV, ADD, OR and AND to memory from a register.
@@ -59,7 +45,13 @@ pub fn memory_register(
 ) -> Effect
     ensures { λ r. ⌜ r ≡ effectOf (buffers (now (sys .entry)) (now (io .entry))) (memoryRegisterDeed (buffers (now (sys .entry)) (now (io .entry))) c tp work rrr m) ⌝ }
 {
-    memory_work(c, tp, work, m, machine::registers::value(c, rrr), sys, io)
+    let at = execute_operands::effective(c, m, tp, sys, io);
+    let v = machine::registers::value(c, rrr);
+    Effect {
+        number: execute_operands::read_number(at, read_first(work, m.wide), sys, io),
+        channel: execute_operands::grown_by_size(c, m),
+        change: worked_back(at, work, m.wide, v, sys, io),
+    }
 }
 
 // MOVI, ADDI, ORI and ANDI to memory.
@@ -73,8 +65,13 @@ pub fn memory_immediate(
 ) -> Effect
     ensures { λ r. ⌜ r ≡ effectOf (buffers (now (sys .entry)) (now (io .entry))) (memoryImmediateDeed (buffers (now (sys .entry)) (now (io .entry))) c tp work m) ⌝ }
 {
+    let at = execute_operands::effective(c, m, tp, sys, io);
     let v = execute_operands::operand(execute_operands::after_pair(tp, m), m.wide, sys, io);
-    memory_work(c, tp, work, m, v, sys, io)
+    Effect {
+        number: execute_operands::read_number(at, read_first(work, m.wide), sys, io),
+        channel: execute_operands::grown_by_size(c, m),
+        change: worked_back(at, work, m.wide, v, sys, io),
+    }
 }
 
 // NOT, INC and DEC of a memory operand.
@@ -93,7 +90,7 @@ pub fn memory_alone(
     Effect {
         number: execute_operands::read_number(at, execute_operands::size(m.wide), sys, io),
         channel: execute_operands::grown_by_size(c, m),
-        change: changes::result(at, m.wide, w),
+        change: changes::result_to(at, m.wide, w),
     }
 }
 
@@ -108,15 +105,15 @@ pub fn movp_store(c: Channel, tp: Pointer, ppp: u32, m: Memory, sys: &[u8], io: 
     Effect {
         number: 0,
         channel: execute_operands::grown(c, m, 3),
-        change: Change::Stored(execute_operands::effective(c, m, tp, sys, io), p),
+        change: changes::pointer_to(execute_operands::effective(c, m, tp, sys, io), p),
     }
 }
 
 // A byte with one bit made 1 or 0.
-fn bit_written(byte: u8, bit: u32, on: bool) -> u8
+fn bit_written(byte: u8, bit: u32, on: bool) -> u32
     ensures { λ r. ⌜ r ≡ bitWritten byte bit on ⌝ }
 {
-    (words::with_bit(byte as u32, bit, on) % 256) as u8
+    words::with_bit(byte as u32, bit, on)
 }
 
 // SETB and CLR.
@@ -128,7 +125,7 @@ pub fn bit(c: Channel, tp: Pointer, on: bool, bit: u32, m: Memory, sys: &[u8], i
     Effect {
         number: execute_operands::read_number(at, 1, sys, io),
         channel: execute_operands::grown(c, m, 1),
-        change: Change::Byte(at, v),
+        change: changes::result_to(at, false, v),
     }
 }
 
@@ -147,7 +144,7 @@ fn mov_operand(c: Channel, tp: Pointer, m: Memory, q: Memory, sys: &[u8], io: &[
     Effect {
         number: execute_operands::two_unless(ok),
         channel: execute_operands::further(execute_operands::grown_by_size(next, q), n),
-        change: changes::result(to, m.wide, v),
+        change: changes::result_to(to, m.wide, v),
     }
 }
 
@@ -163,9 +160,9 @@ pub fn mov_memory(c: Channel, tp: Pointer, m: Memory, sys: &[u8], io: &[u8]) -> 
     );
     let Second::Operand(q) = second else {
         return Effect {
-            number: 3,
+            number: decode::second_number(second),
             channel: c,
-            change: Change::Nothing,
+            change: changes::nothing(),
         };
     };
     mov_operand(c, tp, m, q, sys, io)

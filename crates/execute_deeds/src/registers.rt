@@ -4,14 +4,14 @@ use crate::control;
 use decode_shapes::Memory;
 use decode_shapes::Single;
 use decode_shapes::Work;
-use execute_operands::Change;
+use execute_operands::changes;
 use machine::Channel;
 use memory::Pointer;
 ghost use mathlib.Core.Path.{_≡_};
 ghost use Rattle.memory.specs.Buffers.{buffers};
-ghost use Rattle.execute_deeds.specs.Deeds.{effectOf};
-ghost use Rattle.execute_deeds.specs.Deeds.{unread};
+ghost use Rattle.execute_deeds.specs.Deeds.{effectOf, unread};
 ghost use Rattle.execute_operands.specs.Operands.{readNumber};
+ghost use Rattle.execute_operands.specs.Changes.{nothing};
 ghost use Rattle.execute_deeds.specs.RegisterForms.{registerWritten, registerImmediateDeed, registerDeed, registerMemoryDeed, lpdiDeed, lpdDeed, movpLoadDeed};
 
 // A register written as MOV does or as other work does.
@@ -27,12 +27,12 @@ fn write(work: Work, c: Channel, rrr: u32, v: u32) -> Channel
 
 // A channel after n operand bytes were read at a place.
 pub fn after(at: Pointer, n: u32, c: Channel, sys: &[u8], io: &[u8]) -> Effect
-    ensures { λ r. ⌜ r ≡ record { number = readNumber (buffers (now (sys .entry)) (now (io .entry))) at n; channel = c; change = Change.Nothing } ⌝ }
+    ensures { λ r. ⌜ r ≡ record { number = readNumber (buffers (now (sys .entry)) (now (io .entry))) at n; channel = c; change = nothing } ⌝ }
 {
     Effect {
         number: execute_operands::read_number(at, n, sys, io),
         channel: c,
-        change: Change::Nothing,
+        change: changes::nothing(),
     }
 }
 

@@ -1,5 +1,5 @@
 -- Where the operands of an instruction lie, how IX grows, what an operand is worth, and what the instructions work out of two or one.
-use mathlib.Core.Bool.{Bool, true, false, not}
+use mathlib.Core.Bool.{Bool, true, false}
 use mathlib.Core.List.{List}
 use Prim.Native.Nat.{ℕ, _+_, _-_, _%_}
 use lib.Bits.{bitAnd, bitOr}
@@ -13,10 +13,8 @@ use Rattle.memory.specs.Values.{pointer, onward, wordAt}
 use Rattle.memory.specs.Places.{Place, span, allLent}
 use Rattle.memory.specs.declared.Pointer.{Pointer}
 use Rattle.machine.specs.declared.Channel.{Channel}
-use Rattle.machine.specs.declared.Mode.{Mode}
 use Rattle.machine.specs.Outcomes.{unless}
 use Rattle.machine.specs.Updates.{renewed}
-use Rattle.machine.specs.Psw.{withPsw}
 use Rattle.machine.specs.Registers.{baseOf}
 use Rattle.decode.specs.Lengths.{offsetLength}
 use Rattle.decode_shapes.specs.declared.Memory.{Memory}
@@ -35,16 +33,7 @@ wordHere m p = wordAt m (p .tag) (p .address)
 abbrev pub bytesAt : Pointer → ℕ → List Place
 bytesAt p n = span (p .tag) (p .address) n
 
--- the PSW once a mark is used up: "after the next instruction XF is 1 and the mark gone"
-unfoldable pub usedUp : Bool → ℕ → ℕ
-usedUp armed psw = pick armed (withPsw psw 6 true) psw
-
--- "TP already points past it", and its mark is used up
-unfoldable pub pastInstruction : Channel → ℕ → Channel
-pastInstruction c n =
-    renewed c (onward (c .tp) n) (c .ix) (usedUp (c .armed) (c .psw)) (c .mode) false
-
--- TP moved on once more, past the offset byte of a second pair
+-- TP moved on once more, past the offset byte of a second pair (§6.6)
 unfoldable pub further : Channel → ℕ → Channel
 further c n = renewed c (onward (c .tp) n) (c .ix) (c .psw) (c .mode) (c .armed)
 
@@ -52,40 +41,40 @@ further c n = renewed c (onward (c .tp) n) (c .ix) (c .psw) (c .mode) (c .armed)
 abbrev pub sizeOf : Bool → ℕ
 sizeOf wide = pick wide 2 1
 
--- "AA: 0 base; 1 base + unsigned byte; 2 base + IX (unsigned); 3 the same": what is added to the base, the byte standing after the pair
+-- what AA adds to the base: nothing, the offset byte after the pair, or IX (§6.7)
 unfoldable pub indexed : Buffers → Channel → Memory → Pointer → ℕ
 indexed m c o pair = pick (eqb (o .aa) 0) 0 (pick (eqb (o .aa) 1) (byteHere m (onward pair 2)) (c .ix))
 
--- the place of a memory operand whose pair is at `pair`
+-- the place of a memory operand whose pair is at `pair`: the base of MM, with what AA adds
 unfoldable pub effective : Buffers → Channel → Memory → Pointer → Pointer
 effective m c o pair = onward (baseOf c (o .mm)) (indexed m c o pair)
 
--- "3 the same, then IX grows"
+-- with AA 11 IX grows by the operand's size, mod 65,536 (§6.8)
 unfoldable pub grown : Channel → Memory → ℕ → Channel
 grown c o by = renewed c (c .tp) (pick (eqb (o .aa) 3) ((c .ix + by) % 65536) (c .ix)) (c .psw) (c .mode) (c .armed)
 
--- "Byte and word operands are sign-extended to 20 bits"
+-- a byte or word operand, extended by its sign to 20 bits (§6.9)
 unfoldable pub operandAt : Buffers → Pointer → Bool → ℕ
 operandAt m p wide = pick wide (extended 16 (wordHere m p)) (extended 8 (byteHere m p))
 
--- a displacement of one byte or two
+-- a signed displacement of one byte or two (§6.11)
 unfoldable pub displacementAt : Buffers → Pointer → Bool → ℤ
 displacementAt m p two = pick two (signedOf 16 (wordHere m p)) (signedOf 8 (byteHere m p))
 
--- "Displacements are signed, from the instruction's end": a jump by the displacement at a place
-unfoldable pub jumped : Buffers → Channel → Pointer → Bool → Channel
-jumped m c p two =
-    renewed c (pointer (displacedBy (c .tp .address) (displacementAt m p two)) (c .tp .tag)) (c .ix) (c .psw) (c .mode) (c .armed)
+-- where a jump by the displacement at a place leads, from TP past the whole instruction; the tag stays
+unfoldable pub landing : Buffers → Pointer → Pointer → Bool → Pointer
+landing m tp p two = pointer (displacedBy (tp .address) (displacementAt m p two)) (tp .tag)
 
--- a jump that is taken where a test says so
+-- the channel after a jump that is taken where a test says so
 unfoldable pub jumpedIf : Bool → Buffers → Channel → Pointer → Bool → Channel
-jumpedIf taken m c p two = pick taken (jumped m c p two) c
+jumpedIf taken m c p two =
+    renewed c (pick taken (landing m (c .tp) p two) (c .tp)) (c .ix) (c .psw) (c .mode) (c .armed)
 
--- a test, or its opposite
-abbrev pub agrees : Bool → Bool → Bool
-agrees wanted found = pick wanted found (not found)
+-- the channel after a jump
+abbrev pub jumped : Buffers → Channel → Pointer → Bool → Channel
+jumped m c p two = jumpedIf true m c p two
 
--- what two operands give; the result loses its high bits where it is written
+-- what two operands give, in 20 bits; the result loses its high bits where it is written (§6.9, §6.14)
 unfoldable pub workOf : Work → ℕ → ℕ → ℕ
 workOf Mov a b = b
 workOf Add a b = sum20 a b
@@ -99,7 +88,7 @@ singleOf Single.Not a = 1048575 - a % 1048576
 singleOf Inc a = sum20 a 1
 singleOf Dec a = sum20 a 1048575
 
--- a move only replaces, all other work reads first
+-- a move only replaces, all other work reads first (§6.12, §6.14)
 unfoldable pub isMove : Work → Bool
 isMove Mov = true
 isMove Add = false
@@ -111,6 +100,6 @@ isMove Work.Not = false
 unfoldable pub readNumber : Buffers → Pointer → ℕ → ℕ
 readNumber m p n = unless (allLent m (bytesAt p n)) 2
 
--- where data or displacement stands: after the pair and its offset byte
+-- where data or displacement stands: after the pair and its offset byte (§6.6)
 abbrev pub afterPair : Pointer → Memory → Pointer
 afterPair tp o = onward tp (2 + offsetLength o)

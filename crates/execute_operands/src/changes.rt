@@ -1,42 +1,106 @@
-// What an instruction stores: its places, and the store itself.
+// What an instruction stores: the changes that instructions make, and the one function that makes the stores.
 use crate::Change;
 use memory::Pointer;
 ghost use mathlib.Core.Path.{_≡_};
+ghost use Rattle.words.specs.Choice.{pick};
 ghost use Rattle.memory.specs.Buffers.{buffers};
 ghost use Rattle.memory.specs.Places.{allLent};
-ghost use Rattle.execute_operands.specs.Changes.{placesOf, changed, resultAt};
+ghost use Rattle.execute_operands.specs.Changes as Changes;
+ghost use Rattle.execute_operands.specs.Changes.{placesOf, changed, byteTo, resultTo, pointerTo};
 
-// Whether the places that a change stores to are lent.
-pub fn lent(change: Change, sys: &[u8], io: &[u8]) -> bool
-    ensures { λ r. ⌜ r ≡ allLent (buffers (now (sys .entry)) (now (io .entry))) (placesOf change) ⌝ }
+// No change.
+pub fn nothing() -> Change
+    ensures { λ r. ⌜ r ≡ Changes.nothing ⌝ }
 {
-    match change {
-        Change::Nothing => true,
-        Change::Byte(at, _) => memory::span_lent(sys, io, at.tag, at.address, 1),
-        Change::Word(at, _) => memory::span_lent(sys, io, at.tag, at.address, 2),
-        Change::Stored(at, _) => memory::span_lent(sys, io, at.tag, at.address, 3),
+    Change {
+        count: 0,
+        at: Pointer {
+            address: 0,
+            tag: false,
+        },
+        value: 0,
     }
 }
 
-// The store of a change.
-pub fn make(change: Change, sys: &mut [u8], io: &mut [u8])
+// A byte at a place.
+pub fn byte_to(at: Pointer, v: u8) -> Change
+    ensures { λ r. ⌜ r ≡ byteTo at v ⌝ }
+{
+    Change {
+        count: 1,
+        at,
+        value: v as u32,
+    }
+}
+
+// A result at a place, as a byte or a word.
+pub fn result_to(at: Pointer, wide: bool, v: u32) -> Change
+    ensures { λ r. ⌜ r ≡ resultTo at wide v ⌝ }
+{
+    Change {
+        count: crate::size(wide),
+        at,
+        value: v,
+    }
+}
+
+// A pointer in its stored form at a place.
+pub fn pointer_to(at: Pointer, p: Pointer) -> Change
+    ensures { λ r. ⌜ r ≡ pointerTo at p ⌝ }
+{
+    let low = words::stored_low(p.address) as u32;
+    let middle = words::stored_middle(p.address) as u32;
+    let high = words::stored_high(p.address, p.tag) as u32;
+    Change {
+        count: 3,
+        at,
+        value: low + middle * 256 + high * 65536,
+    }
+}
+
+// The stores of a change.
+fn store(change: Change, sys: &mut [u8], io: &mut [u8])
     ensures { λ r. ⌜ buffers (now (sys .exit)) (now (io .exit)) ≡ changed (buffers (now (sys .entry)) (now (io .entry))) change ⌝ }
 {
-    match change {
-        Change::Nothing => {}
-        Change::Byte(at, v) => memory::store_byte(sys, io, at.tag, at.address, v),
-        Change::Word(at, v) => memory::store_word(sys, io, at.tag, at.address, v),
-        Change::Stored(at, p) => memory::store_pointer(sys, io, at.tag, at.address, p),
+    let count = change.count;
+    if count == 0 {
+        return;
     }
+    let tag = change.at.tag;
+    let address = change.at.address;
+    let v = change.value;
+    memory::store_byte(sys, io, tag, address, (v % 256) as u8);
+    if count == 1 {
+        return;
+    }
+    memory::store_byte(
+        sys,
+        io,
+        tag,
+        words::sum20(address, 1),
+        (v / 256 % 256) as u8,
+    );
+    if count == 2 {
+        return;
+    }
+    memory::store_byte(
+        sys,
+        io,
+        tag,
+        words::sum20(address, 2),
+        (v / 65536 % 256) as u8,
+    );
 }
 
-// A result stored as a byte or a word.
-pub fn result(at: Pointer, wide: bool, v: u32) -> Change
-    ensures { λ r. ⌜ r ≡ resultAt at wide v ⌝ }
+// A change made where all its places are lent, else nothing; and whether they are.
+pub fn made(change: Change, sys: &mut [u8], io: &mut [u8]) -> bool
+    ensures told { λ r. ⌜ r ≡ allLent (buffers (now (sys .entry)) (now (io .entry))) (placesOf change) ⌝ }
+    ensures stored { λ r. ⌜ buffers (now (sys .exit)) (now (io .exit)) ≡ pick r (changed (buffers (now (sys .entry)) (now (io .entry))) change) (buffers (now (sys .entry)) (now (io .entry))) ⌝ }
 {
-    if wide {
-        Change::Word(at, (v % 65536) as u16)
-    } else {
-        Change::Byte(at, (v % 256) as u8)
+    let at = change.at;
+    if !memory::span_lent(sys, io, at.tag, at.address, change.count) {
+        return false;
     }
+    store(change, sys, io);
+    true
 }

@@ -3,7 +3,6 @@ use decode_shapes::Memory;
 use decode_shapes::Single;
 use decode_shapes::Work;
 use machine::Channel;
-use machine::Mode;
 use memory::Pointer;
 
 // What an instruction stores.
@@ -12,17 +11,17 @@ pub mod changes;
 ghost use mathlib.Core.Path.{_≡_};
 ghost use Rattle.memory.specs.Buffers.{buffers};
 ghost use Rattle.memory.specs.Places.{allLent};
-ghost use Rattle.words.specs.Signs.{displacedBy};
+ghost use Rattle.words.specs.Choice.{pick};
 ghost use Rattle.machine.specs.Outcomes.{unless};
+ghost use Rattle.execute_operands.specs.Marks.{usedUp, pastInstruction};
 ghost use Rattle.execute_operands.specs.Operands as Operands;
-ghost use Rattle.execute_operands.specs.Operands.{byteHere, wordHere, bytesAt, sizeOf, operandAt, displacementAt, jumpedIf, workOf, singleOf, isMove, readNumber};
+ghost use Rattle.execute_operands.specs.Operands.{byteHere, wordHere, bytesAt, sizeOf, operandAt, workOf, singleOf, isMove, readNumber};
 
-// What an instruction stores, at one place.
-pub enum Change {
-    Nothing,
-    Byte(Pointer, u8),
-    Word(Pointer, u16),
-    Stored(Pointer, Pointer),
+// What an instruction stores: the lowest `count` bytes of a value at a place, at most three, the lowest first.
+pub struct Change {
+    pub count: u32,
+    pub at: Pointer,
+    pub value: u32,
 }
 
 // The byte at a place.
@@ -48,7 +47,7 @@ pub fn lent(p: Pointer, n: u32, sys: &[u8], io: &[u8]) -> bool
 
 // The PSW once a mark is used up.
 fn used_up(armed: bool, psw: u8) -> u8
-    ensures { λ r. ⌜ r ≡ Operands.usedUp armed psw ⌝ }
+    ensures { λ r. ⌜ r ≡ usedUp armed psw ⌝ }
 {
     if armed {
         machine::psw::with(psw, machine::psw::XF, true)
@@ -59,7 +58,7 @@ fn used_up(armed: bool, psw: u8) -> u8
 
 // The channel with TP past an instruction of n bytes, and its mark used up.
 pub fn advanced(c: Channel, n: u32) -> Channel
-    ensures { λ r. ⌜ r ≡ Operands.pastInstruction c n ⌝ }
+    ensures { λ r. ⌜ r ≡ pastInstruction c n ⌝ }
 {
     let psw = used_up(c.armed, c.psw);
     let mode = c.mode;
@@ -129,34 +128,31 @@ pub fn operand(p: Pointer, wide: bool, sys: &[u8], io: &[u8]) -> u32
 }
 
 // Where a jump by the displacement at a place leads.
-fn target(from: u32, p: Pointer, two: bool, sys: &[u8], io: &[u8]) -> u32
-    ensures { λ r. ⌜ r ≡ displacedBy from (displacementAt (buffers (now (sys .entry)) (now (io .entry))) p two) ⌝ }
+pub fn landing(tp: Pointer, p: Pointer, two: bool, sys: &[u8], io: &[u8]) -> Pointer
+    ensures { λ r. ⌜ r ≡ Operands.landing (buffers (now (sys .entry)) (now (io .entry))) tp p two ⌝ }
 {
     if two {
-        words::displaced_word(from, word(p, sys, io))
+        Pointer {
+            address: words::displaced_word(tp.address, word(p, sys, io)),
+            tag: tp.tag,
+        }
     } else {
-        words::displaced_byte(from, byte(p, sys, io))
+        Pointer {
+            address: words::displaced_byte(tp.address, byte(p, sys, io)),
+            tag: tp.tag,
+        }
     }
 }
 
-// The channel after a jump by the displacement at a place, from where TP points.
-pub fn jumped(c: Channel, p: Pointer, two: bool, sys: &[u8], io: &[u8]) -> Channel
-    ensures { λ r. ⌜ r ≡ Operands.jumped (buffers (now (sys .entry)) (now (io .entry))) c p two ⌝ }
+// Where TP stands after a jump that is taken or not.
+pub fn led(taken: bool, tp: Pointer, p: Pointer, two: bool, sys: &[u8], io: &[u8]) -> Pointer
+    ensures { λ r. ⌜ r ≡ pick taken (Operands.landing (buffers (now (sys .entry)) (now (io .entry))) tp p two) tp ⌝ }
 {
-    let tp = Pointer {
-        address: target(c.tp.address, p, two, sys, io),
-        tag: c.tp.tag,
-    };
-    let mut next = c;
-    next.tp = tp;
-    next
-}
-
-// The channel after a jump that is taken or not.
-pub fn jumped_if(taken: bool, c: Channel, p: Pointer, two: bool, sys: &[u8], io: &[u8]) -> Channel
-    ensures { λ r. ⌜ r ≡ jumpedIf taken (buffers (now (sys .entry)) (now (io .entry))) c p two ⌝ }
-{
-    if taken { jumped(c, p, two, sys, io) } else { c }
+    if taken {
+        landing(tp, p, two, sys, io)
+    } else {
+        tp
+    }
 }
 
 // What two operands give.

@@ -1,20 +1,25 @@
 -- `execute::execute` meets its contract.
 -- Assumes nothing.
+use Prim.Native.Nat.{ℕ}
 use borrow.Author.Needs.{needs}
 use denote.Ref.{now}
-use mathlib.Core.Path.{ap, _∙_}
-use Rattle.memory.specs.Buffers.{buffers}
-use Rattle.execute_operands.specs.Changes.{changed}
+use mathlib.Core.Bool.{Bool}
+use mathlib.Core.Path.{_≡_, sym, ap, ap₂, _∙_}
+use Rattle.memory.specs.Buffers.{Buffers, buffers}
+use Rattle.memory.specs.Places.{allLent}
+use Rattle.words.specs.Choice.{pick}
+use Rattle.execute_operands.specs.Changes.{placesOf, changed}
+use Rattle.execute_deeds.specs.Deeds.{unread}
 use Rattle.execute_deeds.specs.declared.Effect.{Effect}
-use Rattle.execute.specs.Execute.{executed, executeOf}
+use Rattle.execute.specs.Execute.{executed}
+use Rattle.execute.specs.Plan.{planNumber}
+use Rattle.execute.specs.Kept.{deedAt}
+use Rattle.execute.proofs.CodeLaws.{plan-refused, plan-done, plan-unstored}
 use Rattle.execute.proofs.execute.Statement.{statement}
 use Rattle.execute.proofs.execute.Tie as tie
 
 plan-requires : tie.Need-plan-requires
 plan-requires c κs = search needs
-
-make-requires : tie.Need-make-requires
-make-requires c κs = search needs
 
 same-length : tie.Need-same-length
 same-length c = search needs
@@ -23,13 +28,67 @@ same-length-2 : tie.Need-same-length-2
 same-length-2 c = search needs
 
 returns : tie.Need-returns
-unfolding executeOf
 returns c =
-    let a = c .before .before .before .before .before .before .before .before .before .before .before .before .before .args in
+    let a = c .before .before .before .before .before .before .before .args in
     let m = buffers (now (a .sys)) (now (a .io)) in
-    let e = c .before .before .before .before .before .before .before .before .plan .result in
-    ap (executed (e .number) (e .channel)) (c .before .before .before .before .make .ensures)
-    ∙ ap (λ (x : Effect). executed (x .number) (x .channel) (changed m (x .change))) (c .before .before .before .before .before .before .before .before .plan .ensures)
+    let e = c .before .before .plan .result in
+    let p = c .before .before .plan .ensures in
+    ap (λ (n : ℕ). executed n (a .c) m) (p .told) ∙ sym (plan-refused m (a .c) (a .busy) (λ z. c .if1 .taken (p .told ∙ z)))
+
+made-requires : tie.Need-made-requires
+made-requires c κs = search needs
+
+same-length-3 : tie.Need-same-length-3
+same-length-3 c = search needs
+
+same-length-4 : tie.Need-same-length-4
+same-length-4 c = search needs
+
+returns-2 : tie.Need-returns-2
+returns-2 c =
+    let a = c .before .before .before .before .before .before .before .before .before .before .before .before .before .before .before .before .before .args in
+    let m = buffers (now (a .sys)) (now (a .io)) in
+    let e = c .before .before .before .before .before .before .before .before .before .before .before .before .plan .result in
+    let p = c .before .before .before .before .before .before .before .before .before .before .before .before .plan .ensures in
+    let z : planNumber m (a .c) (a .busy) ≡ 0 = sym (p .told) ∙ c .before .before .before .before .before .before .before .before .before .before .if1 .left in
+    let same : e ≡ unread (deedAt m (a .c) (a .busy)) = p .done z in
+    let made = c .before .before .before .before .before .made in
+    let lent = ap (λ (x : Effect). allLent m (placesOf (x .change))) (sym same) ∙ sym (made .ensures .0) ∙ c .if2 .taken in
+    ap (executed 0 (e .channel)) (made .ensures .1 ∙ ap (λ (x : Bool). pick x (changed m (e .change)) m) (c .if2 .taken))
+    ∙ ap (λ (x : Effect). executed 0 (x .channel) (changed m (x .change))) same
+    ∙ sym (plan-done m (a .c) (a .busy) z lent)
+
+same-length-5 : tie.Need-same-length-5
+same-length-5 c = search needs
+
+same-length-6 : tie.Need-same-length-6
+same-length-6 c = search needs
+
+returns-3 : tie.Need-returns-3
+returns-3 c =
+    let a = c .before .before .before .before .before .before .before .before .before .before .before .before .before .before .before .before .before .args in
+    let m = buffers (now (a .sys)) (now (a .io)) in
+    let e = c .before .before .before .before .before .before .before .before .before .before .before .before .plan .result in
+    let p = c .before .before .before .before .before .before .before .before .before .before .before .before .plan .ensures in
+    let z : planNumber m (a .c) (a .busy) ≡ 0 = sym (p .told) ∙ c .before .before .before .before .before .before .before .before .before .before .if1 .left in
+    let same : e ≡ unread (deedAt m (a .c) (a .busy)) = p .done z in
+    let made = c .before .before .before .before .before .made in
+    let beyond = ap (λ (x : Effect). allLent m (placesOf (x .change))) (sym same) ∙ sym (made .ensures .0) ∙ c .if2 .left in
+    ap (executed 2 (a .c)) (made .ensures .1 ∙ ap (λ (x : Bool). pick x (changed m (e .change)) m) (c .if2 .left))
+    ∙ sym (plan-unstored m (a .c) (a .busy) z beyond)
 
 pub execute-spec : {M : Type 1} → statement M
-execute-spec = tie.close (tie.spec plan-requires make-requires same-length same-length-2 returns)
+execute-spec =
+    tie.close
+    (tie.spec
+    plan-requires
+    same-length
+    same-length-2
+    returns
+    made-requires
+    same-length-3
+    same-length-4
+    returns-2
+    same-length-5
+    same-length-6
+    returns-3)

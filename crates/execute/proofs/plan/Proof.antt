@@ -1,17 +1,16 @@
 -- `execute::plan` meets its contract.
 -- Assumes nothing.
-use Prim.Native.Nat.{ℕ}
 use borrow.Author.Needs.{needs}
-use borrow.Author.Tests.{not-true, not-false}
+use borrow.Author.Tests.{not-true, not-false, eqb-false}
 use denote.Ref.{now}
-use mathlib.Core.Path.{_≡_, sym, ap, ap₂, _∙_}
+use mathlib.Core.Path.{_≡_, refl, sym, ap, ap₂, _∙_}
+use Rattle.decode.proofs.LengthRule.{pair-rule}
 use Rattle.decode.specs.Reading.{decodeOf}
-use Rattle.machine.proofs.OutcomeLaws.{refused}
 use Rattle.memory.specs.Buffers.{buffers}
-use Rattle.execute_operands.specs.Operands.{byteHere}
 use Rattle.memory.specs.Values.{onward}
-use Rattle.execute.specs.Execute.{decodedAt, deedFrom, numberFrom}
-use Rattle.execute.proofs.CodeLaws.{refusedEffect, plan-read, plan-beyond, plan-none}
+use Rattle.execute_operands.specs.Operands.{byteHere}
+use Rattle.execute.specs.Execute.{decodedAt}
+use Rattle.execute.proofs.CodeLaws.{refusal-planned, plan-beyond, plan-none, plan-shaped}
 use Rattle.execute.proofs.plan.Statement.{statement}
 use Rattle.execute.proofs.plan.Tie as tie
 
@@ -24,7 +23,8 @@ refused-requires c κs = search needs
 returns : tie.Need-returns
 returns c =
     let a = c .before .before .before .before .before .before .args in
-    c .refused .ensures ∙ sym (plan-beyond (buffers (now (a .sys)) (now (a .io))) (a .c) (a .busy) (sym (c .before .before .lent .ensures) ∙ not-true _ (c .before .if1 .taken)))
+    let m = buffers (now (a .sys)) (now (a .io)) in
+    refusal-planned (c .refused .ensures) (plan-beyond m (a .c) (a .busy) (sym (c .before .before .lent .ensures) ∙ not-true _ (c .before .if1 .taken))) (eqb-false 2 0 refl)
 
 byte-requires : tie.Need-byte-requires
 byte-requires c κs = search needs
@@ -52,24 +52,25 @@ unfolding decodedAt
 returns-2 c =
     let a = c .before .before .before .before .before .before .before .before .before .before .before .before .args in
     let m = buffers (now (a .sys)) (now (a .io)) in
-    let there = sym (c .before .before .before .before .before .before .before .before .lent .ensures) ∙ not-false _ (c .before .before .before .before .before .before .before .if1 .left) in
     let e : decodedAt m (a .c .tp) ≡ c .before .before .before .decode .result = sym (c .before .before .before .decode .ensures ∙ ap₂ decodeOf (c .before .before .before .before .before .before .byte .ensures) (c .before .before .before .before .byte2 .ensures ∙ ap (byteHere m) (c .before .before .before .before .before .onward .ensures))) in
-    let d = c .before .before .before .decode .result in
-    c .refused2 .ensures
-    ∙ ap (λ (n : ℕ). refusedEffect n (a .c)) (c .before .number .ensures)
-    ∙ sym (plan-read m (a .c) (a .busy) d there e ∙ plan-none m (a .c) (a .busy) d (c .before .before .match .keys2))
+    let there = sym (c .before .before .before .before .before .before .before .before .lent .ensures) ∙ not-false _ (c .before .before .before .before .before .before .before .if1 .left) in
+    let p = plan-none m (a .c) (a .busy) (c .before .before .before .decode .result) (c .before .before .match .keys2) there e in
+    refusal-planned (c .refused2 .ensures) (c .before .number .ensures ∙ p .0) (λ z. p .1 (sym (c .before .number .ensures) ∙ z))
+
+pair-length-requires : tie.Need-pair-length-requires
+pair-length-requires c κs = search needs
 
 shaped-requires : tie.Need-shaped-requires
-shaped-requires c κs = search needs
+shaped-requires c κs = c .pair-length .ensures ∙ sym (pair-rule (c .before .before .before .before .before .before .before .byte .result) (c .before .before .before .before .before .byte2 .result) _ (sym (c .before .before .before .before .decode .ensures) ∙ c .before .before .decoded .given .1))
 
 returns-3 : tie.Need-returns-3
-unfolding decodedAt numberFrom deedFrom
+unfolding decodedAt
 returns-3 c =
-    let a = c .before .before .before .before .before .before .before .before .before .before .before .before .before .args in
+    let a = c .before .before .before .before .before .before .before .before .before .before .before .before .before .before .args in
     let m = buffers (now (a .sys)) (now (a .io)) in
-    let there = sym (c .before .before .before .before .before .before .before .before .before .lent .ensures) ∙ not-false _ (c .before .before .before .before .before .before .before .before .if1 .left) in
-    let e : decodedAt m (a .c .tp) ≡ c .before .before .before .before .decode .result = sym (c .before .before .before .before .decode .ensures ∙ ap₂ decodeOf (c .before .before .before .before .before .before .before .byte .ensures) (c .before .before .before .before .before .byte2 .ensures ∙ ap (byteHere m) (c .before .before .before .before .before .before .onward .ensures))) in
-    c .shaped .ensures ∙ sym (plan-read m (a .c) (a .busy) _ there (e ∙ c .before .before .decoded .given .1))
+    let e : decodedAt m (a .c .tp) ≡ c .before .before .before .before .before .decode .result = sym (c .before .before .before .before .before .decode .ensures ∙ ap₂ decodeOf (c .before .before .before .before .before .before .before .before .byte .ensures) (c .before .before .before .before .before .before .byte2 .ensures ∙ ap (byteHere m) (c .before .before .before .before .before .before .before .onward .ensures))) in
+    let there = sym (c .before .before .before .before .before .before .before .before .before .before .lent .ensures) ∙ not-false _ (c .before .before .before .before .before .before .before .before .before .if1 .left) in
+    plan-shaped m (a .c) (a .busy) _ (e ∙ c .before .before .before .decoded .given .1) there (c .shaped .ensures)
 
 pub plan-spec : {M : Type 1} → statement M
 plan-spec =
@@ -86,5 +87,6 @@ plan-spec =
     number-requires
     refused-requires-2
     returns-2
+    pair-length-requires
     shaped-requires
     returns-3)

@@ -1,7 +1,7 @@
--- `operands::advanced` meets its contract.
+-- `execute_operands::advanced` meets its contract.
 -- Assumes nothing.
 use borrow.Author.Needs.{needs}
-use Rattle.execute_operands.specs.Operands.{pastInstruction}
+use Rattle.execute_operands.specs.Marks.{pastInstruction}
 use Rattle.machine.specs.Updates.{renewed}
 use Rattle.memory.specs.Values.{onward}
 use Rattle.execute_operands.proofs.advanced.Statement.{statement}

@@ -1,4 +1,4 @@
--- `operands::after_pair` meets its contract.
+-- `execute_operands::after_pair` meets its contract.
 -- Assumes nothing.
 use borrow.Author.Needs.{needs}
 use native.Mathlib.Omega.{arith}

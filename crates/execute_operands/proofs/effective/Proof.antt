@@ -1,4 +1,4 @@
--- `operands::effective` meets its contract.
+-- `execute_operands::effective` meets its contract.
 -- Assumes nothing.
 use borrow.Author.Needs.{needs}
 use Rattle.execute_operands.specs.Operands.{effective}

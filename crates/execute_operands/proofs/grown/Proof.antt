@@ -1,4 +1,4 @@
--- `operands::grown` meets its contract.
+-- `execute_operands::grown` meets its contract.
 -- Assumes nothing.
 use borrow.Author.Needs.{needs}
 use borrow.Author.Tests.{eq-eqb, ne-eqb}

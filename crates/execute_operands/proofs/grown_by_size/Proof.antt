@@ -1,4 +1,4 @@
--- `operands::grown_by_size` meets its contract.
+-- `execute_operands::grown_by_size` meets its contract.
 -- Assumes nothing.
 use borrow.Author.Needs.{needs}
 use Rattle.execute_operands.specs.Operands.{grown}

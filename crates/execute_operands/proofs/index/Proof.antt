@@ -1,4 +1,4 @@
--- `operands::index` meets its contract.
+-- `execute_operands::index` meets its contract.
 -- Assumes nothing.
 use borrow.Author.Needs.{needs}
 use borrow.Author.Tests.{eq-eqb, ne-eqb}

@@ -1,4 +1,4 @@
--- `operands::is_move` meets its contract.
+-- `execute_operands::is_move` meets its contract.
 -- Assumes nothing.
 use borrow.Author.Needs.{needs}
 use Rattle.execute_operands.specs.Operands.{isMove}

@@ -1,4 +1,4 @@
--- `operands::read_number` meets its contract.
+-- `execute_operands::read_number` meets its contract.
 -- Assumes nothing.
 use borrow.Author.Needs.{needs}
 use Rattle.execute_operands.specs.Operands.{readNumber}

@@ -1,4 +1,4 @@
--- `operands::single` meets its contract.
+-- `execute_operands::single` meets its contract.
 -- Assumes nothing.
 use borrow.Author.Needs.{needs}
 use Rattle.words.specs.Sums.{sum20}

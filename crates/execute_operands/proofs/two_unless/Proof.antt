@@ -1,4 +1,4 @@
--- `operands::two_unless` meets its contract.
+-- `execute_operands::two_unless` meets its contract.
 -- Assumes nothing.
 use Rattle.machine.specs.Outcomes.{unless}
 use Rattle.execute_operands.proofs.two_unless.Statement.{statement}

@@ -1,4 +1,4 @@
--- `operands::work` meets its contract.
+-- `execute_operands::work` meets its contract.
 -- Assumes nothing.
 use borrow.Author.Needs.{needs}
 use Rattle.words.specs.Sums.{sum20}

@@ -1,13 +1,16 @@
--- `deeds::control::only` meets its contract.
+-- `execute_deeds::control::only` meets its contract.
 -- Assumes nothing.
-use mathlib.Core.Path.{refl}
+use borrow.Author.Needs.{needs}
 use Rattle.execute_deeds.specs.Control.{nopDeed}
 use Rattle.execute_deeds.proofs.control.only.Statement.{statement}
 use Rattle.execute_deeds.proofs.control.only.Tie as tie
 
+nothing-requires : tie.Need-nothing-requires
+nothing-requires c κs = search needs
+
 returns : tie.Need-returns
 unfolding nopDeed
-returns c = refl
+returns c = simp (c .nothing .ensures)
 
 pub only-spec : {M : Type 1} → statement M
-only-spec = tie.close (tie.spec returns)
+only-spec = tie.close (tie.spec nothing-requires returns)

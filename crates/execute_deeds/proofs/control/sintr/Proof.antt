@@ -1,4 +1,4 @@
--- `deeds::control::sintr` meets its contract.
+-- `execute_deeds::control::sintr` meets its contract.
 -- Assumes nothing.
 use borrow.Author.Needs.{needs}
 use mathlib.Core.Path.{sym, _∙_}

@@ -1,4 +1,4 @@
--- `deeds::control::wid` meets its contract.
+-- `execute_deeds::control::wid` meets its contract.
 -- Assumes nothing.
 use borrow.Author.Needs.{needs}
 use Rattle.execute_deeds.specs.Control.{nopDeed, widDeed}

@@ -1,4 +1,4 @@
--- `deeds::control::with_status` meets its contract.
+-- `execute_deeds::control::with_status` meets its contract.
 -- Assumes nothing.
 use mathlib.Core.Path.{refl}
 use Rattle.machine.specs.Updates.{renewed}

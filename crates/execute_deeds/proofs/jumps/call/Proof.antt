@@ -1,7 +1,8 @@
--- `deeds::jumps/call` meets its contract.
+-- `execute_deeds::jumps::call` meets its contract.
 -- Assumes nothing.
 use borrow.Author.Needs.{needs}
-use Rattle.execute_operands.specs.Operands.{effective, grown, jumped}
+use Rattle.machine.specs.Updates.{renewed}
+use Rattle.execute_operands.specs.Operands.{effective, grown, landing, jumpedIf}
 use Rattle.execute_deeds.specs.JumpForms.{callDeed}
 use Rattle.execute_deeds.proofs.jumps.call.Statement.{statement}
 use Rattle.execute_deeds.proofs.jumps.call.Tie as tie
@@ -12,17 +13,26 @@ after-pair-requires c κs = search needs
 grown-requires : tie.Need-grown-requires
 grown-requires c κs = search needs
 
-jumped-requires : tie.Need-jumped-requires
-jumped-requires c κs = search needs
+landing-requires : tie.Need-landing-requires
+landing-requires c κs = search needs
 
 effective-requires : tie.Need-effective-requires
 effective-requires c κs = search needs
 
+pointer-to-requires : tie.Need-pointer-to-requires
+pointer-to-requires c κs = search needs
+
 returns : tie.Need-returns
-unfolding callDeed
-returns c = simp (c .effective .ensures, c .before .jumped .ensures, c .before .before .grown .ensures, c .before .before .before .after-pair .ensures)
+unfolding callDeed jumpedIf grown renewed
+returns c = simp (c .pointer-to .ensures, c .before .effective .ensures, c .before .before .landing .ensures, c .before .before .before .grown .ensures, c .before .before .before .before .after-pair .ensures)
 
 pub call-spec : {M : Type 1} → statement M
 call-spec =
     tie.close
-    (tie.spec after-pair-requires grown-requires jumped-requires effective-requires returns)
+    (tie.spec
+    after-pair-requires
+    grown-requires
+    landing-requires
+    effective-requires
+    pointer-to-requires
+    returns)

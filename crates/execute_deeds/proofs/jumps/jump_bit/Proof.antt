@@ -1,8 +1,11 @@
--- `jumps::jump_bit` meets its contract.
+-- `execute_deeds::jumps::jump_bit` meets its contract.
 -- Assumes nothing.
 use borrow.Author.Needs.{needs}
-use Rattle.execute_operands.specs.Operands.{effective, agrees}
-use Rattle.execute_deeds.specs.JumpForms.{jumpBitDeed}
+use Rattle.machine.specs.Outcomes.{first}
+use Rattle.machine.specs.Updates.{renewed}
+use Rattle.execute_deeds.specs.Deeds.{effectOf}
+use Rattle.execute_operands.specs.Operands.{readNumber, effective, grown, landing, jumpedIf}
+use Rattle.execute_deeds.specs.JumpForms.{jumpByteDeed, jumpBitDeed}
 use Rattle.execute_deeds.proofs.jumps.jump_bit.Statement.{statement}
 use Rattle.execute_deeds.proofs.jumps.jump_bit.Tie as tie
 
@@ -21,12 +24,21 @@ bit-requires c κs = search needs
 agrees-requires : tie.Need-agrees-requires
 agrees-requires c κs = search needs
 
-jump-byte-requires : tie.Need-jump-byte-requires
-jump-byte-requires c κs = search needs
+after-pair-requires : tie.Need-after-pair-requires
+after-pair-requires c κs = search needs
+
+grown-requires : tie.Need-grown-requires
+grown-requires c κs = search needs
+
+led-requires : tie.Need-led-requires
+led-requires c κs = search needs
+
+after-requires : tie.Need-after-requires
+after-requires c κs = search needs
 
 returns : tie.Need-returns
-unfolding jumpBitDeed
-returns c = simp (c .jump-byte .ensures, c .before .agrees .ensures, c .before .before .bit .ensures, c .before .before .before .byte .ensures, c .before .before .before .before .effective .ensures)
+unfolding jumpBitDeed jumpByteDeed jumpedIf grown renewed effectOf first readNumber
+returns c = simp (c .after .ensures, c .before .led .ensures, c .before .before .grown .ensures, c .before .before .before .after-pair .ensures, c .before .before .before .before .agrees .ensures, c .before .before .before .before .before .bit .ensures, c .before .before .before .before .before .before .byte .ensures, c .before .before .before .before .before .before .before .effective .ensures)
 
 pub jump-bit-spec : {M : Type 1} → statement M
 jump-bit-spec =
@@ -37,5 +49,8 @@ jump-bit-spec =
     cast-bit
     bit-requires
     agrees-requires
-    jump-byte-requires
+    after-pair-requires
+    grown-requires
+    led-requires
+    after-requires
     returns)

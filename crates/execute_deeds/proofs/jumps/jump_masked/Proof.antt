@@ -1,8 +1,11 @@
--- `jumps::jump_masked` meets its contract.
+-- `execute_deeds::jumps::jump_masked` meets its contract.
 -- Assumes nothing.
 use borrow.Author.Needs.{needs}
-use Rattle.execute_operands.specs.Operands.{effective, agrees}
-use Rattle.execute_deeds.specs.JumpForms.{jumpMaskedDeed}
+use Rattle.machine.specs.Outcomes.{first}
+use Rattle.machine.specs.Updates.{renewed}
+use Rattle.execute_deeds.specs.Deeds.{effectOf}
+use Rattle.execute_operands.specs.Operands.{readNumber, effective, grown, landing, jumpedIf}
+use Rattle.execute_deeds.specs.JumpForms.{jumpByteDeed, jumpMaskedDeed}
 use Rattle.execute_deeds.proofs.jumps.jump_masked.Statement.{statement}
 use Rattle.execute_deeds.proofs.jumps.jump_masked.Tie as tie
 
@@ -18,12 +21,21 @@ matches-requires c κs = search needs
 agrees-requires : tie.Need-agrees-requires
 agrees-requires c κs = search needs
 
-jump-byte-requires : tie.Need-jump-byte-requires
-jump-byte-requires c κs = search needs
+after-pair-requires : tie.Need-after-pair-requires
+after-pair-requires c κs = search needs
+
+grown-requires : tie.Need-grown-requires
+grown-requires c κs = search needs
+
+led-requires : tie.Need-led-requires
+led-requires c κs = search needs
+
+after-requires : tie.Need-after-requires
+after-requires c κs = search needs
 
 returns : tie.Need-returns
-unfolding jumpMaskedDeed
-returns c = simp (c .jump-byte .ensures, c .before .agrees .ensures, c .before .before .matches .ensures, c .before .before .before .byte .ensures, c .before .before .before .before .effective .ensures)
+unfolding jumpMaskedDeed jumpByteDeed jumpedIf grown renewed effectOf first readNumber
+returns c = simp (c .after .ensures, c .before .led .ensures, c .before .before .grown .ensures, c .before .before .before .after-pair .ensures, c .before .before .before .before .agrees .ensures, c .before .before .before .before .before .matches .ensures, c .before .before .before .before .before .before .byte .ensures, c .before .before .before .before .before .before .before .effective .ensures)
 
 pub jump-masked-spec : {M : Type 1} → statement M
 jump-masked-spec =
@@ -33,5 +45,8 @@ jump-masked-spec =
     byte-requires
     matches-requires
     agrees-requires
-    jump-byte-requires
+    after-pair-requires
+    grown-requires
+    led-requires
+    after-requires
     returns)

@@ -1,10 +1,10 @@
--- `jumps::jump_memory` meets its contract.
+-- `execute_deeds::jumps::jump_memory` meets its contract.
 -- Assumes nothing.
 use borrow.Author.Needs.{needs}
 use Rattle.machine.specs.Outcomes.{first}
-use Rattle.memory.proofs.PlaceLaws.{after}
-use Rattle.execute_operands.specs.Operands.{readNumber, effective, agrees}
+use Rattle.machine.specs.Updates.{renewed}
 use Rattle.execute_deeds.specs.Deeds.{effectOf}
+use Rattle.execute_operands.specs.Operands.{readNumber, effective, grown, landing, jumpedIf}
 use Rattle.execute_deeds.specs.JumpForms.{jumpMemoryDeed}
 use Rattle.execute_deeds.proofs.jumps.jump_memory.Statement.{statement}
 use Rattle.execute_deeds.proofs.jumps.jump_memory.Tie as tie
@@ -18,14 +18,14 @@ operand-requires c κs = search needs
 agrees-requires : tie.Need-agrees-requires
 agrees-requires c κs = search needs
 
-grown-by-size-requires : tie.Need-grown-by-size-requires
-grown-by-size-requires c κs = search needs
-
 after-pair-requires : tie.Need-after-pair-requires
 after-pair-requires c κs = search needs
 
-jumped-if-requires : tie.Need-jumped-if-requires
-jumped-if-requires c κs = search needs
+grown-by-size-requires : tie.Need-grown-by-size-requires
+grown-by-size-requires c κs = search needs
+
+led-requires : tie.Need-led-requires
+led-requires c κs = search needs
 
 size-requires : tie.Need-size-requires
 size-requires c κs = search needs
@@ -34,8 +34,8 @@ after-requires : tie.Need-after-requires
 after-requires c κs = search needs
 
 returns : tie.Need-returns
-unfolding jumpMemoryDeed effectOf first readNumber
-returns c = simp (c .after .ensures, c .before .size .ensures, c .before .before .jumped-if .ensures, c .before .before .before .after-pair .ensures, c .before .before .before .before .grown-by-size .ensures, c .before .before .before .before .before .agrees .ensures, c .before .before .before .before .before .before .operand .ensures, c .before .before .before .before .before .before .before .effective .ensures)
+unfolding jumpMemoryDeed jumpedIf grown renewed effectOf first readNumber
+returns c = simp (c .after .ensures, c .before .size .ensures, c .before .before .led .ensures, c .before .before .before .grown-by-size .ensures, c .before .before .before .before .after-pair .ensures, c .before .before .before .before .before .agrees .ensures, c .before .before .before .before .before .before .operand .ensures, c .before .before .before .before .before .before .before .effective .ensures)
 
 pub jump-memory-spec : {M : Type 1} → statement M
 jump-memory-spec =
@@ -44,9 +44,9 @@ jump-memory-spec =
     effective-requires
     operand-requires
     agrees-requires
-    grown-by-size-requires
     after-pair-requires
-    jumped-if-requires
+    grown-by-size-requires
+    led-requires
     size-requires
     after-requires
     returns)

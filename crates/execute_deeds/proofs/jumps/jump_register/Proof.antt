@@ -1,9 +1,10 @@
--- `jumps::jump_register` meets its contract.
+-- `execute_deeds::jumps::jump_register` meets its contract.
 -- Assumes nothing.
 use borrow.Author.Needs.{needs}
-use Rattle.execute_operands.specs.Operands.{agrees}
 use Rattle.memory.specs.Values.{onward}
+use Rattle.machine.specs.Updates.{renewed}
 use Rattle.execute_deeds.specs.Control.{nopDeed}
+use Rattle.execute_operands.specs.Operands.{landing, jumpedIf}
 use Rattle.execute_deeds.specs.JumpForms.{jumpRegisterDeed}
 use Rattle.execute_deeds.proofs.jumps.jump_register.Statement.{statement}
 use Rattle.execute_deeds.proofs.jumps.jump_register.Tie as tie
@@ -17,23 +18,17 @@ agrees-requires c κs = search needs
 onward-requires : tie.Need-onward-requires
 onward-requires c κs = search needs
 
-jumped-if-requires : tie.Need-jumped-if-requires
-jumped-if-requires c κs = search needs
+led-requires : tie.Need-led-requires
+led-requires c κs = search needs
 
 only-requires : tie.Need-only-requires
 only-requires c κs = search needs
 
 returns : tie.Need-returns
-unfolding jumpRegisterDeed nopDeed
-returns c = simp (c .only .ensures, c .before .jumped-if .ensures, c .before .before .onward .ensures, c .before .before .before .agrees .ensures, c .before .before .before .before .value .ensures)
+unfolding jumpRegisterDeed jumpedIf renewed nopDeed
+returns c = simp (c .only .ensures, c .before .led .ensures, c .before .before .onward .ensures, c .before .before .before .agrees .ensures, c .before .before .before .before .value .ensures)
 
 pub jump-register-spec : {M : Type 1} → statement M
 jump-register-spec =
     tie.close
-    (tie.spec
-    value-requires
-    agrees-requires
-    onward-requires
-    jumped-if-requires
-    only-requires
-    returns)
+    (tie.spec value-requires agrees-requires onward-requires led-requires only-requires returns)

@@ -1,13 +1,13 @@
--- `deeds::jumps/tsl` meets its contract.
+-- `execute_deeds::jumps::tsl` meets its contract.
 -- Assumes nothing.
 use borrow.Author.Needs.{needs}
 use borrow.Author.Tests.{eq-eqb, ne-eqb}
 use mathlib.Core.Path.{sym, _∙_}
 use Rattle.machine.specs.Outcomes.{first}
-use Rattle.memory.proofs.PlaceLaws.{after}
-use Rattle.execute_operands.specs.Operands.{readNumber, effective, grown, jumped}
+use Rattle.machine.specs.Updates.{renewed}
 use Rattle.memory.specs.Values.{onward}
 use Rattle.execute_deeds.specs.Deeds.{effectOf}
+use Rattle.execute_operands.specs.Operands.{readNumber, effective, grown, landing, jumpedIf}
 use Rattle.execute_deeds.specs.JumpForms.{tslDeed}
 use Rattle.execute_deeds.proofs.jumps.tsl.Statement.{statement}
 use Rattle.execute_deeds.proofs.jumps.tsl.Tie as tie
@@ -30,26 +30,29 @@ read-number-requires c κs = search needs
 byte-requires-2 : tie.Need-byte-requires-2
 byte-requires-2 c κs = search needs
 
+byte-to-requires : tie.Need-byte-to-requires
+byte-to-requires c κs = search needs
+
 returns : tie.Need-returns
 unfolding tslDeed effectOf first readNumber
 returns c =
-    let e = simp (c .before .before .before .before .before .before .effective .ensures) at (sym (c .before .before .before .byte .ensures) ∙ c .before .before .if1 .taken) in
-    simp (c .byte2 .ensures, c .before .read-number .ensures, c .before .before .before .before .after-pair .ensures, c .before .before .before .before .before .grown .ensures, c .before .before .before .before .before .before .effective .ensures, eq-eqb _ 0 e)
+    let e = simp (c .before .before .before .before .before .before .before .effective .ensures) at (sym (c .before .before .before .before .byte .ensures) ∙ c .before .before .before .if1 .taken) in
+    simp (c .byte-to .ensures, c .before .byte2 .ensures, c .before .before .read-number .ensures, c .before .before .before .before .before .after-pair .ensures, c .before .before .before .before .before .before .grown .ensures, c .before .before .before .before .before .before .before .effective .ensures, eq-eqb _ 0 e)
 
 onward-requires : tie.Need-onward-requires
 onward-requires c κs = search needs
 
-jumped-requires : tie.Need-jumped-requires
-jumped-requires c κs = search needs
+landing-requires : tie.Need-landing-requires
+landing-requires c κs = search needs
 
 after-requires : tie.Need-after-requires
 after-requires c κs = search needs
 
 returns-2 : tie.Need-returns-2
-unfolding tslDeed effectOf first readNumber
+unfolding tslDeed jumpedIf grown renewed effectOf first readNumber
 returns-2 c =
     let e = simp (c .before .before .before .before .byte .ensures, c .before .before .before .before .before .before .before .effective .ensures) at (ne-eqb (c .before .before .before .before .byte .result) 0 (c .before .before .before .if1 .left)) in
-    simp (c .after .ensures, c .before .jumped .ensures, c .before .before .onward .ensures, c .before .before .before .before .before .after-pair .ensures, c .before .before .before .before .before .before .grown .ensures, c .before .before .before .before .before .before .before .effective .ensures, e)
+    simp (c .after .ensures, c .before .landing .ensures, c .before .before .onward .ensures, c .before .before .before .before .before .after-pair .ensures, c .before .before .before .before .before .before .grown .ensures, c .before .before .before .before .before .before .before .effective .ensures, e)
 
 pub tsl-spec : {M : Type 1} → statement M
 tsl-spec =
@@ -61,8 +64,9 @@ tsl-spec =
     byte-requires
     read-number-requires
     byte-requires-2
+    byte-to-requires
     returns
     onward-requires
-    jumped-requires
+    landing-requires
     after-requires
     returns-2)

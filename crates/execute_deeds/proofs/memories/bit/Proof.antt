@@ -1,4 +1,4 @@
--- `stores::bit` meets its contract.
+-- `execute_deeds::memories::bit` meets its contract.
 -- Assumes nothing.
 use borrow.Author.Needs.{needs}
 use Rattle.machine.specs.Outcomes.{first}
@@ -23,9 +23,12 @@ read-number-requires c κs = search needs
 grown-requires : tie.Need-grown-requires
 grown-requires c κs = search needs
 
+result-to-requires : tie.Need-result-to-requires
+result-to-requires c κs = search needs
+
 returns : tie.Need-returns
 unfolding bitDeed effectOf first readNumber
-returns c = simp (c .grown .ensures, c .before .read-number .ensures, c .before .before .bit-written .ensures, c .before .before .before .byte .ensures, c .before .before .before .before .effective .ensures)
+returns c = simp (c .result-to .ensures, c .before .grown .ensures, c .before .before .read-number .ensures, c .before .before .before .bit-written .ensures, c .before .before .before .before .byte .ensures, c .before .before .before .before .before .effective .ensures)
 
 pub bit-spec : {M : Type 1} → statement M
 bit-spec =
@@ -36,4 +39,5 @@ bit-spec =
     bit-written-requires
     read-number-requires
     grown-requires
+    result-to-requires
     returns)

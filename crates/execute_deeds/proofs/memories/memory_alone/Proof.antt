@@ -1,9 +1,9 @@
--- `stores::memory_alone` meets its contract.
+-- `execute_deeds::memories::memory_alone` meets its contract.
 -- Assumes nothing.
 use borrow.Author.Needs.{needs}
 use Rattle.machine.specs.Outcomes.{first}
-use Rattle.execute_operands.specs.Operands.{readNumber, effective}
 use Rattle.execute_deeds.specs.Deeds.{effectOf}
+use Rattle.execute_operands.specs.Operands.{readNumber, effective}
 use Rattle.execute_deeds.specs.MemoryForms.{memoryAloneDeed}
 use Rattle.execute_deeds.proofs.memories.memory_alone.Statement.{statement}
 use Rattle.execute_deeds.proofs.memories.memory_alone.Tie as tie
@@ -26,12 +26,12 @@ read-number-requires c κs = search needs
 grown-by-size-requires : tie.Need-grown-by-size-requires
 grown-by-size-requires c κs = search needs
 
-result-requires : tie.Need-result-requires
-result-requires c κs = search needs
+result-to-requires : tie.Need-result-to-requires
+result-to-requires c κs = search needs
 
 returns : tie.Need-returns
 unfolding memoryAloneDeed effectOf first readNumber
-returns c = simp (c .result .ensures, c .before .grown-by-size .ensures, c .before .before .read-number .ensures, c .before .before .before .size .ensures, c .before .before .before .before .single .ensures, c .before .before .before .before .before .operand .ensures, c .before .before .before .before .before .before .effective .ensures)
+returns c = simp (c .result-to .ensures, c .before .grown-by-size .ensures, c .before .before .read-number .ensures, c .before .before .before .size .ensures, c .before .before .before .before .single .ensures, c .before .before .before .before .before .operand .ensures, c .before .before .before .before .before .before .effective .ensures)
 
 pub memory-alone-spec : {M : Type 1} → statement M
 memory-alone-spec =
@@ -43,5 +43,5 @@ memory-alone-spec =
     size-requires
     read-number-requires
     grown-by-size-requires
-    result-requires
+    result-to-requires
     returns)

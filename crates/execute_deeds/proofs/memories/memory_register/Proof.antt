@@ -1,19 +1,43 @@
--- `stores::memory_register` meets its contract.
+-- `execute_deeds::memories::memory_register` meets its contract.
 -- Assumes nothing.
 use borrow.Author.Needs.{needs}
-use Rattle.execute_deeds.specs.MemoryForms.{memoryRegisterDeed}
+use Rattle.machine.specs.Outcomes.{first}
+use Rattle.execute_deeds.specs.Deeds.{effectOf}
+use Rattle.execute_operands.specs.Operands.{readNumber, effective}
+use Rattle.execute_deeds.specs.MemoryForms.{workedBack, memoryWorkDeed, memoryRegisterDeed}
 use Rattle.execute_deeds.proofs.memories.memory_register.Statement.{statement}
 use Rattle.execute_deeds.proofs.memories.memory_register.Tie as tie
+
+effective-requires : tie.Need-effective-requires
+effective-requires c κs = search needs
 
 value-requires : tie.Need-value-requires
 value-requires c κs = search needs
 
-memory-work-requires : tie.Need-memory-work-requires
-memory-work-requires c κs = search needs
+read-first-requires : tie.Need-read-first-requires
+read-first-requires c κs = search needs
+
+read-number-requires : tie.Need-read-number-requires
+read-number-requires c κs = search needs
+
+grown-by-size-requires : tie.Need-grown-by-size-requires
+grown-by-size-requires c κs = search needs
+
+worked-back-requires : tie.Need-worked-back-requires
+worked-back-requires c κs = search needs
 
 returns : tie.Need-returns
-unfolding memoryRegisterDeed
-returns c = simp (c .memory-work .ensures, c .before .value .ensures)
+unfolding memoryRegisterDeed memoryWorkDeed effectOf first readNumber
+returns c = simp (c .worked-back .ensures, c .before .grown-by-size .ensures, c .before .before .read-number .ensures, c .before .before .before .read-first .ensures, c .before .before .before .before .value .ensures, c .before .before .before .before .before .effective .ensures)
 
 pub memory-register-spec : {M : Type 1} → statement M
-memory-register-spec = tie.close (tie.spec value-requires memory-work-requires returns)
+memory-register-spec =
+    tie.close
+    (tie.spec
+    effective-requires
+    value-requires
+    read-first-requires
+    read-number-requires
+    grown-by-size-requires
+    worked-back-requires
+    returns)

@@ -1,11 +1,11 @@
--- `stores::mov_memory` meets its contract.
+-- `execute_deeds::memories::mov_memory` meets its contract.
 -- Assumes nothing.
 use borrow.Author.Needs.{needs}
 use mathlib.Core.Path.{sym, _∙_}
 use Rattle.machine.specs.Outcomes.{first}
 use Rattle.memory.specs.Values.{onward}
 use Rattle.execute_deeds.specs.Deeds.{effectOf}
-use Rattle.execute_deeds.specs.MemoryForms.{movSecondDeed, movMemoryDeed}
+use Rattle.execute_deeds.specs.MemoryForms.{movSecondDeed, secondAt, movMemoryDeed}
 use Rattle.execute_deeds.proofs.memories.mov_memory.Statement.{statement}
 use Rattle.execute_deeds.proofs.memories.mov_memory.Tie as tie
 
@@ -30,17 +30,23 @@ enum-known-second c = search needs
 enum-told : tie.Need-enum-told
 enum-told c = search needs
 
+second-number-requires : tie.Need-second-number-requires
+second-number-requires c κs = search needs
+
+nothing-requires : tie.Need-nothing-requires
+nothing-requires c κs = search needs
+
 returns : tie.Need-returns
-unfolding movMemoryDeed movSecondDeed effectOf first
+unfolding movMemoryDeed movSecondDeed secondAt effectOf first
 returns c =
-    let e = simp (c .before .before .before .byte2 .ensures, c .before .before .before .before .onward .ensures, c .before .before .before .before .before .byte .ensures, c .before .before .before .before .before .before .after-pair .ensures) at (sym (c .before .before .decode-second .ensures) ∙ c .enum-told .given .1) in
-    simp (e)
+    let e = simp (c .before .before .before .before .before .byte2 .ensures, c .before .before .before .before .before .before .onward .ensures, c .before .before .before .before .before .before .before .byte .ensures, c .before .before .before .before .before .before .before .before .after-pair .ensures) at (sym (c .before .before .before .before .decode-second .ensures) ∙ c .before .before .enum-told .given .1) in
+    simp (c .nothing .ensures, c .before .second-number .ensures, c .before .before .enum-told .given .1, e)
 
 mov-operand-requires : tie.Need-mov-operand-requires
 mov-operand-requires c κs = search needs
 
 returns-2 : tie.Need-returns-2
-unfolding movMemoryDeed movSecondDeed effectOf first
+unfolding movMemoryDeed movSecondDeed secondAt effectOf first
 returns-2 c =
     let e = simp (c .before .before .before .before .before .byte2 .ensures, c .before .before .before .before .before .before .onward .ensures, c .before .before .before .before .before .before .before .byte .ensures, c .before .before .before .before .before .before .before .before .after-pair .ensures) at (sym (c .before .before .before .before .decode-second .ensures) ∙ c .before .before .second .given .1) in
     simp (c .mov-operand .ensures, e)
@@ -56,6 +62,8 @@ mov-memory-spec =
     decode-second-requires
     enum-known-second
     enum-told
+    second-number-requires
+    nothing-requires
     returns
     mov-operand-requires
     returns-2)

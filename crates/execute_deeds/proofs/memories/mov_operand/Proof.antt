@@ -1,11 +1,11 @@
--- `stores::mov_operand` meets its contract.
+-- `execute_deeds::memories::mov_operand` meets its contract.
 -- Assumes nothing.
 use borrow.Author.Needs.{needs}
 use Rattle.machine.specs.Outcomes.{first}
 use Rattle.memory.proofs.SpanLaws.{all-append}
-use Rattle.execute_operands.specs.Operands.{further, effective}
 use Rattle.memory.specs.Values.{onward}
 use Rattle.execute_deeds.specs.Deeds.{effectOf}
+use Rattle.execute_operands.specs.Operands.{further, effective}
 use Rattle.execute_deeds.specs.MemoryForms.{movOperandDeed}
 use Rattle.execute_deeds.proofs.memories.mov_operand.Statement.{statement}
 use Rattle.execute_deeds.proofs.memories.mov_operand.Tie as tie
@@ -49,12 +49,12 @@ grown-by-size-requires-2 c κs = search needs
 further-requires : tie.Need-further-requires
 further-requires c κs = search needs
 
-result-requires : tie.Need-result-requires
-result-requires c κs = search needs
+result-to-requires : tie.Need-result-to-requires
+result-to-requires c κs = search needs
 
 returns : tie.Need-returns
 unfolding movOperandDeed effectOf first
-returns c = simp (all-append, c .result .ensures, c .before .further .ensures, c .before .before .grown-by-size2 .ensures, c .before .before .before .two-unless .ensures, c .before .before .before .before .lent2 .ensures, c .before .before .before .before .before .size .ensures, c .before .before .before .before .before .before .lent .ensures, c .before .before .before .before .before .before .before .onward .ensures, c .before .before .before .before .before .before .before .before .operand .ensures, c .before .before .before .before .before .before .before .before .before .offset-length .ensures, c .before .before .before .before .before .before .before .before .before .before .effective2 .ensures, c .before .before .before .before .before .before .before .before .before .before .before .grown-by-size .ensures, c .before .before .before .before .before .before .before .before .before .before .before .before .after-pair .ensures, c .before .before .before .before .before .before .before .before .before .before .before .before .before .effective .ensures)
+returns c = simp (all-append, c .result-to .ensures, c .before .further .ensures, c .before .before .grown-by-size2 .ensures, c .before .before .before .two-unless .ensures, c .before .before .before .before .lent2 .ensures, c .before .before .before .before .before .size .ensures, c .before .before .before .before .before .before .lent .ensures, c .before .before .before .before .before .before .before .onward .ensures, c .before .before .before .before .before .before .before .before .operand .ensures, c .before .before .before .before .before .before .before .before .before .offset-length .ensures, c .before .before .before .before .before .before .before .before .before .before .effective2 .ensures, c .before .before .before .before .before .before .before .before .before .before .before .grown-by-size .ensures, c .before .before .before .before .before .before .before .before .before .before .before .before .after-pair .ensures, c .before .before .before .before .before .before .before .before .before .before .before .before .before .effective .ensures)
 
 pub mov-operand-spec : {M : Type 1} → statement M
 mov-operand-spec =
@@ -73,5 +73,5 @@ mov-operand-spec =
     two-unless-requires
     grown-by-size-requires-2
     further-requires
-    result-requires
+    result-to-requires
     returns)

@@ -1,4 +1,4 @@
--- `stores::movp_store` meets its contract.
+-- `execute_deeds::memories::movp_store` meets its contract.
 -- Assumes nothing.
 use borrow.Author.Needs.{needs}
 use Rattle.execute_operands.specs.Operands.{effective, grown}
@@ -18,10 +18,20 @@ grown-requires c κs = search needs
 effective-requires : tie.Need-effective-requires
 effective-requires c κs = search needs
 
+pointer-to-requires : tie.Need-pointer-to-requires
+pointer-to-requires c κs = search needs
+
 returns : tie.Need-returns
 unfolding movpStoreDeed
-returns c = simp (c .effective .ensures, c .before .grown .ensures, c .before .before .tag .ensures, c .before .before .before .value .ensures)
+returns c = simp (c .pointer-to .ensures, c .before .effective .ensures, c .before .before .grown .ensures, c .before .before .before .tag .ensures, c .before .before .before .before .value .ensures)
 
 pub movp-store-spec : {M : Type 1} → statement M
 movp-store-spec =
-    tie.close (tie.spec value-requires tag-requires grown-requires effective-requires returns)
+    tie.close
+    (tie.spec
+    value-requires
+    tag-requires
+    grown-requires
+    effective-requires
+    pointer-to-requires
+    returns)

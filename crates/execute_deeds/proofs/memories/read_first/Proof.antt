@@ -1,4 +1,4 @@
--- `stores::read_first` meets its contract.
+-- `execute_deeds::memories::read_first` meets its contract.
 -- Assumes nothing.
 use borrow.Author.Needs.{needs}
 use mathlib.Core.Path.{sym, _∙_}

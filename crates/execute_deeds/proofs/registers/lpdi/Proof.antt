@@ -1,4 +1,4 @@
--- `deeds::registers::lpdi` meets its contract.
+-- `execute_deeds::registers::lpdi` meets its contract.
 -- Assumes nothing.
 use borrow.Author.Needs.{needs}
 use Rattle.machine.specs.Registers.{loaded}

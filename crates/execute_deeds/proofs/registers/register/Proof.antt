@@ -1,4 +1,4 @@
--- `deeds::registers::register` meets its contract.
+-- `execute_deeds::registers::register` meets its contract.
 -- Assumes nothing.
 use borrow.Author.Needs.{needs}
 use Rattle.machine.specs.Registers.{worked}

@@ -1,4 +1,4 @@
--- `deeds::registers::register_immediate` meets its contract.
+-- `execute_deeds::registers::register_immediate` meets its contract.
 -- Assumes nothing.
 use borrow.Author.Needs.{needs}
 use Rattle.memory.specs.Values.{onward}

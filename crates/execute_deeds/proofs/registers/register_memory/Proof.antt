@@ -1,4 +1,4 @@
--- `deeds::registers::register_memory` meets its contract.
+-- `execute_deeds::registers::register_memory` meets its contract.
 -- Assumes nothing.
 use borrow.Author.Needs.{needs}
 use Rattle.machine.specs.Outcomes.{first}

@@ -1,4 +1,4 @@
--- `deeds::registers::write` meets its contract.
+-- `execute_deeds::registers::write` meets its contract.
 -- Assumes nothing.
 use borrow.Author.Needs.{needs}
 use mathlib.Core.Path.{sym, _∙_}

@@ -1,0 +1,19 @@
+-- Operands in numbers: a byte is extended by its sign, and a displacement counts from the end of its instruction.
+-- Assumes nothing.
+use mathlib.Core.Bool.{Bool, false}
+use mathlib.Core.Path.{_≡_}
+use Rattle.memory.specs.Buffers.{Buffers}
+use Rattle.memory.specs.Values.{pointer}
+use Rattle.memory.specs.declared.Pointer.{Pointer}
+use Rattle.words.specs.Signs.{signedOf, extended, displacedBy}
+use Rattle.execute_operands.specs.Operands.{byteHere, operandAt, displacementAt, landing}
+
+-- a byte 80h is FFF80h
+pub byte-extended : (m : Buffers) (p : Pointer) → byteHere m p ≡ 0x80 → operandAt m p false ≡ 0xFFF80
+unfolding operandAt extended
+byte-extended m p e = rw e
+
+-- a byte FBh leads from 303h, past the instruction, to 2FEh, wherever the byte stands
+pub byte-leads : (m : Buffers) (p : Pointer) (tag : Bool) → byteHere m p ≡ 0xFB → landing m (pointer 0x303 tag) p false ≡ pointer 0x2FE tag
+unfolding landing displacementAt signedOf displacedBy
+byte-leads m p tag e = rw e

@@ -1,0 +1,103 @@
+-- `execute_operands::changes::store` meets its contract.
+-- Assumes nothing.
+use borrow.Author.Needs.{needs}
+use denote.Ref.{now}
+use mathlib.Core.Path.{sym, _∙_}
+use Rattle.words.specs.Sums.{sum20}
+use Rattle.memory.proofs.PlaceLaws.{store-reduced}
+use Rattle.memory.specs.Buffers.{buffers}
+use Rattle.execute_operands.specs.Changes.{changed}
+use Rattle.execute_operands.proofs.ChangeLaws.{stored-none, stored-one, stored-two, stored-three}
+use Rattle.execute_operands.proofs.changes.store.Statement.{statement}
+use Rattle.execute_operands.proofs.changes.store.Tie as tie
+
+returns : tie.Need-returns
+returns c =
+    let a = c .before .before .before .args in
+    let m = buffers (now (a .sys)) (now (a .io)) in
+    sym (stored-none m (a .change) (c .if1 .taken))
+
+cast-store-byte : tie.Need-cast-store-byte
+cast-store-byte c = search needs
+
+store-byte-requires : tie.Need-store-byte-requires
+store-byte-requires c κs = search needs
+
+same-length : tie.Need-same-length
+same-length c = search needs
+
+same-length-2 : tie.Need-same-length-2
+same-length-2 c = search needs
+
+returns-2 : tie.Need-returns-2
+returns-2 c =
+    let a = c .before .before .before .before .before .before .before .before .before .before .before .args in
+    let m = buffers (now (a .sys)) (now (a .io)) in
+    c .before .before .before .before .before .store-byte .ensures ∙ sym (stored-one m (a .change) (c .if2 .taken))
+
+sum20-requires : tie.Need-sum20-requires
+sum20-requires c κs = search needs
+
+cast-store-byte-2 : tie.Need-cast-store-byte-2
+cast-store-byte-2 c = search needs
+
+store-byte-requires-2 : tie.Need-store-byte-requires-2
+store-byte-requires-2 c κs = search needs
+
+same-length-3 : tie.Need-same-length-3
+same-length-3 c = search needs
+
+same-length-4 : tie.Need-same-length-4
+same-length-4 c = search needs
+
+returns-3 : tie.Need-returns-3
+returns-3 c =
+    let a = c .before .before .before .before .before .before .before .before .before .before .before .before .before .before .before .before .before .before .before .before .args in
+    let m = buffers (now (a .sys)) (now (a .io)) in
+    c .before .before .before .before .before .store-byte2 .ensures
+    ∙ rw (c .before .before .before .before .before .before .sum20 .ensures, c .before .before .before .before .before .before .before .before .before .before .before .before .before .before .store-byte .ensures, store-reduced) (sym (stored-two m (a .change) (c .if3 .taken)))
+
+sum20-requires-2 : tie.Need-sum20-requires-2
+sum20-requires-2 c κs = search needs
+
+cast-store-byte-3 : tie.Need-cast-store-byte-3
+cast-store-byte-3 c = search needs
+
+store-byte-requires-3 : tie.Need-store-byte-requires-3
+store-byte-requires-3 c κs = search needs
+
+same-length-5 : tie.Need-same-length-5
+same-length-5 c = search needs
+
+same-length-6 : tie.Need-same-length-6
+same-length-6 c = search needs
+
+returns-4 : tie.Need-returns-4
+returns-4 c =
+    let a = c .before .before .before .before .before .before .before .before .before .before .before .before .before .before .before .before .before .before .before .before .before .before .before .before .before .before .before .before .args in
+    let m = buffers (now (a .sys)) (now (a .io)) in
+    c .before .before .before .before .store-byte3 .ensures
+    ∙ rw (c .before .before .before .before .before .sum202 .ensures, c .before .before .before .before .before .before .before .before .before .before .before .before .before .store-byte2 .ensures, c .before .before .before .before .before .before .before .before .before .before .before .before .before .before .sum20 .ensures, c .before .before .before .before .before .before .before .before .before .before .before .before .before .before .before .before .before .before .before .before .before .before .store-byte .ensures, store-reduced, store-reduced) (sym (stored-three m (a .change) (c .before .before .before .before .before .before .before .before .before .before .before .before .before .before .before .before .before .before .before .before .before .before .before .before .before .if1 .left) (c .before .before .before .before .before .before .before .before .before .before .before .before .before .before .before .before .before .if2 .left) (c .before .before .before .before .before .before .before .before .if3 .left)))
+
+pub store-spec : {M : Type 1} → statement M
+store-spec =
+    tie.close
+    (tie.spec
+    returns
+    cast-store-byte
+    store-byte-requires
+    same-length
+    same-length-2
+    returns-2
+    sum20-requires
+    cast-store-byte-2
+    store-byte-requires-2
+    same-length-3
+    same-length-4
+    returns-3
+    sum20-requires-2
+    cast-store-byte-3
+    store-byte-requires-3
+    same-length-5
+    same-length-6
+    returns-4)

@@ -1,0 +1,20 @@
+-- The mark of XFER: an instruction sets it, and the next one that is done uses it up and so starts the transfer (§6.20).
+use mathlib.Core.Bool.{Bool, true, false, not}
+use Prim.Native.Nat.{ℕ}
+use Rattle.words.specs.Choice.{pick}
+use Rattle.memory.specs.Values.{onward}
+use Rattle.machine.specs.declared.Channel.{Channel}
+use Rattle.machine.specs.Psw.{withPsw}
+use Rattle.machine.specs.Updates.{renewed}
+
+-- PSW once a mark is used up: XF is 1
+unfoldable pub usedUp : Bool → ℕ → ℕ
+usedUp armed psw = pick armed (withPsw psw 6 true) psw
+
+-- a channel as each instruction finds it, n being its bytes: TP is past it, and the mark that was there is used up
+unfoldable pub pastInstruction : Channel → ℕ → Channel
+pastInstruction c n = renewed c (onward (c .tp) n) (c .ix) (usedUp (c .armed) (c .psw)) (c .mode) false
+
+-- what XFER then makes of it: it sets the mark, unless it was itself the instruction that used one up
+unfoldable pub marked : Channel → Bool → Channel
+marked c armed = renewed c (c .tp) (c .ix) (c .psw) (c .mode) (not armed)
