@@ -1,9 +1,9 @@
--- `trace::letter` meets its contract.
+-- `trace_text::letter` meets its contract.
 -- Assumes nothing.
 use borrow.Author.Needs.{needs}
-use Rattle.trace.specs.Line.{letter}
-use Rattle.trace.proofs.letter.Statement.{statement}
-use Rattle.trace.proofs.letter.Tie as tie
+use Rattle.trace_text.specs.Line.{letter}
+use Rattle.trace_text.proofs.letter.Statement.{statement}
+use Rattle.trace_text.proofs.letter.Tie as tie
 
 enum-told : tie.Need-enum-told
 enum-told c = search needs

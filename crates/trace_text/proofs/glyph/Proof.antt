@@ -1,10 +1,10 @@
--- `trace::glyph` meets its contract.
+-- `trace_text::glyph` meets its contract.
 -- Assumes nothing.
 use borrow.Author.Needs.{needs}
 use borrow.Author.Tests.{lt-ltb, le-ltb, le-leb, lt-leb}
-use Rattle.trace.specs.Line.{glyph}
-use Rattle.trace.proofs.glyph.Statement.{statement}
-use Rattle.trace.proofs.glyph.Tie as tie
+use Rattle.trace_text.specs.Line.{glyph}
+use Rattle.trace_text.proofs.glyph.Statement.{statement}
+use Rattle.trace_text.proofs.glyph.Tie as tie
 
 cast-result : tie.Need-cast-result
 cast-result c = search needs

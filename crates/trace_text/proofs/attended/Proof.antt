@@ -1,0 +1,82 @@
+-- `trace_text::attended` meets its contract.
+-- Assumes nothing.
+use borrow.Author.Tests.{eq-eqb, ne-eqb}
+use denote.Ref.{now}
+use mathlib.Core.Path.{_≡_, sym, ap, _∙_}
+use native.Mathlib.Omega.{arith}
+use Rattle.memory.specs.Buffers.{buffers}
+use Rattle.machine.specs.Outcomes.{Outcome}
+use Rattle.attention.specs.Attention.{attentionOf}
+use Rattle.panel.specs.Run.{ran, stepsFrom, attendedRun}
+use Rattle.trace_text.specs.Line.{endLine}
+use Rattle.trace_text.specs.Trace.{stepsText, attendedText}
+use borrow.Author.Needs.{needs}
+use Rattle.trace_text.proofs.attended.Statement.{statement}
+use Rattle.trace_text.proofs.attended.Tie as tie
+
+attention-requires : tie.Need-attention-requires
+attention-requires c κs = search needs
+
+end-line-requires : tie.Need-end-line-requires
+end-line-requires c κs = search needs
+
+same-length : tie.Need-same-length
+same-length c = search needs
+
+same-length-2 : tie.Need-same-length-2
+same-length-2 c = search needs
+
+same-length-3 : tie.Need-same-length-3
+same-length-3 c = search needs
+
+returns : tie.Need-returns
+unfolding attendedText attendedRun
+returns c =
+    let a = c .before .before .before .before .before .before .before .before .before .before .before .before .before .before .before .before .args in
+    let o = attentionOf (a .s) (buffers (now (a .sys)) (now (a .io))) 1 in
+    let e = c .before .before .before .before .before .before .before .before .before .before .attention .ensures in
+    let last = c .before .before .end-line in
+    let refused = ne-eqb (o .number) 0 (λ z. c .before .before .before .before .if1 .taken (ap (λ (x : Outcome). x .number) e ∙ z)) in (
+      omega (arith, last .ensures .0),
+      (last .ensures .1 .is ∙ ap (λ (x : Outcome). endLine (x .number) 0) e ∙ rw refused, ap (λ (x : Outcome). ran (x .number) 0 (x .memory)) e ∙ rw refused),
+    )
+
+steps-requires : tie.Need-steps-requires
+steps-requires c κs = search needs
+
+same-length-4 : tie.Need-same-length-4
+same-length-4 c = search needs
+
+same-length-5 : tie.Need-same-length-5
+same-length-5 c = search needs
+
+same-length-6 : tie.Need-same-length-6
+same-length-6 c = search needs
+
+returns-2 : tie.Need-returns-2
+unfolding attendedText attendedRun
+returns-2 c =
+    let a = c .before .before .before .before .before .before .before .before .before .before .before .before .before .before .before .before .before .before .before .before .before .before .before .args in
+    let o = attentionOf (a .s) (buffers (now (a .sys)) (now (a .io))) 1 in
+    let e = c .before .before .before .before .before .before .before .before .before .before .before .before .before .before .before .before .before .attention .ensures in
+    let rest = c .before .before .before .before .before .before .steps in
+    let accepted = eq-eqb (o .number) 0 (sym (ap (λ (x : Outcome). x .number) e) ∙ c .before .before .before .before .before .before .before .before .before .before .before .if1 .left) in (
+      rest .ensures .0,
+      (rest .ensures .1 .0 ∙ ap (λ (x : Outcome). stepsText 1000 (x .state) (x .memory) 0) e ∙ rw accepted, rest .ensures .1 .1 ∙ ap (λ (x : Outcome). stepsFrom 1000 (x .state) (x .memory) 0 0) e ∙ rw accepted),
+    )
+
+pub attended-spec : {M : Type 1} → statement M
+attended-spec =
+    tie.close
+    (tie.spec
+    attention-requires
+    end-line-requires
+    same-length
+    same-length-2
+    same-length-3
+    returns
+    steps-requires
+    same-length-4
+    same-length-5
+    same-length-6
+    returns-2)
