@@ -1,3 +1,5 @@
 pub mod RunLaws
+pub mod BurstLaws
+pub mod RoundLaws
 pub mod Outcomes
 pub mod Bounds

@@ -4,14 +4,14 @@ use Prim.Native.Nat.{ℕ, zero, suc, _+_, _-_, _<_}
 use borrow.Author.Tests.{ltb-true, eqb-false, eq-eqb, ne-eqb}
 use lib.Dec.{ltb}
 use mathlib.Core.Bool.{Bool, true, false, _&&_}
-use mathlib.Core.Path.{_≡_, refl, ap}
+use mathlib.Core.Path.{_≡_, refl, sym, ap, _∙_}
 use native.Mathlib.Nat.{not-suc-le-zero}
 use native.Mathlib.Omega.{arith}
 use Rattle.machine.specs.Outcomes.{unless, first}
 use Rattle.machine.specs.States.{isChannel}
 use Rattle.machine.specs.declared.State.{State}
 use Rattle.memory.specs.Buffers.{Buffers, withinLimits}
-use Rattle.step.specs.Step.{stepOf}
+use Rattle.step.specs.Step.{Step, refusedStep, entryNumber, stepOf}
 use Rattle.panel.specs.Run.{ran, stepsFrom, callNumber}
 
 -- a refused step ends the run
@@ -20,6 +20,13 @@ pub stops : (left : ℕ) (s : State) (m : Buffers) (lines done : ℕ) → 0 < le
 unfolding stepsFrom
 stops zero s m lines done h ne = absurd (not-suc-le-zero h)
 stops (suc left) s m lines done h ne = rw (ne-eqb ((stepOf s m lines) .number) 0 ne)
+
+-- what a step is not given ends it before the first
+pub entry-stops : (left : ℕ) (s : State) (m : Buffers) (lines done : ℕ) → 0 < left → (entryNumber s m lines ≡ 0 → ⊥) → stepsFrom left s m lines done ≡ ran (entryNumber s m lines) done m
+unfolding stepOf
+entry-stops left s m lines done h ne =
+    let e : stepOf s m lines ≡ refusedStep (entryNumber s m lines) s m = rw (ne-eqb (entryNumber s m lines) 0 ne) in
+    stops left s m lines done h (λ z. ne (sym (ap (λ (x : Step). x .number) e) ∙ z)) ∙ ap (λ (x : Step). ran (x .number) done (x .memory)) e
 
 -- a done step leaves the rest of the run
 pub goes : (left : ℕ) (s : State) (m : Buffers) (lines done : ℕ) → 0 < left → (stepOf s m lines) .number ≡ 0

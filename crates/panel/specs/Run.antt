@@ -1,4 +1,4 @@
--- The panel's run: a fresh state, one attention, and steps until a number other than 0 or the limit.
+-- The panel's run: a fresh state, one attention, and steps until a number other than 0 or the limit (§8).
 use mathlib.Core.Bool.{Bool, true, false, _&&_}
 use Prim.Native.Nat.{ℕ, zero, suc, _+_, _*_, _%_}
 use lib.Dec.{eqb, ltb}
@@ -20,7 +20,7 @@ pub record Run : Type 0 where
 abbrev pub ran : ℕ → ℕ → Buffers → Run
 ran number steps m = record { number = number; steps = steps; memory = m }
 
--- "steps until a number other than 0 or the limit; steps before a refusal keep their effect": `left` steps may still be done, `done` were
+-- steps, one after another, until one is refused or the limit is reached; what was done stays (§8.2, §8.3): `left` may still be done, `done` were
 unfoldable pub stepsFrom : ℕ → State → Buffers → ℕ → ℕ → Run
 stepsFrom zero s m lines done = ran 0 done m
 stepsFrom (suc left) s m lines done =
@@ -28,16 +28,16 @@ stepsFrom (suc left) s m lines done =
     let rest = stepsFrom left (o .state) (o .memory) lines (done + 1) in
     pick (eqb (o .number) 0) rest (ran (o .number) done (o .memory))
 
--- the steps after an attention that was accepted
+-- an attention that is accepted is followed by steps, a refused one by none (§8.2)
 unfoldable pub attendedRun : Outcome → ℕ → ℕ → Run
 attendedRun o lines limit = pick (eqb (o .number) 0) (stepsFrom limit (o .state) (o .memory) lines 0) (ran (o .number) 0 (o .memory))
 
--- "makes a fresh state (10), gives that channel one attention"
+-- a fresh state gets one attention; a CP that is refused by 10 none (§8.2)
 unfoldable pub startedRun : Answer → Buffers → ℕ → ℕ → ℕ → Run
 startedRun fresh m channel lines limit =
     pick (eqb (fresh .number) 0) (attendedRun (attentionOf (fresh .state) m channel) lines limit) (ran (fresh .number) 0 m)
 
--- "It tests 12 and 11 before anything else"
+-- what is asked before all else: 12, then 11 (§8.2)
 unfoldable pub callNumber : Buffers → ℕ → ℕ → ℕ → ℕ
 callNumber m channel lines limit =
     first (unless (isChannel channel && ltb lines 16 && ltb limit 65536) 12) (unless (withinLimits m) 11)
@@ -47,7 +47,7 @@ unfoldable pub runOf : Buffers → ℕ → ℕ → ℕ → ℕ → Run
 runOf m cp channel lines limit =
     pick (eqb (callNumber m channel lines limit) 0) (startedRun (freshOf cp) m channel lines limit) (ran (callNumber m channel lines limit) 0 m)
 
--- "Answer: number × 65,536 + steps done", each in sixteen bits
+-- the number in the high sixteen bits, the steps done in the low (§8.4)
 unfoldable pub answerOf : Run → ℕ
 answerOf r = r .number % 65536 * 65536 + r .steps % 65536
 

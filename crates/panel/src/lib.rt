@@ -7,34 +7,38 @@ ghost use Rattle.machine.specs.Outcomes.{outcome};
 ghost use Rattle.panel.specs.Run.{ran, stepsFrom, attendedRun, startedRun, callNumber, runOf, answerOf, called};
 ghost use Rattle.attention.specs.Attention.{attentionOf};
 
+// Steps of one channel in a row.
+mod bursts;
+
 // How a run ended: the number that stopped it, 0 at the limit, and the steps done.
 pub struct Ran {
     pub number: u32,
     pub steps: u32,
 }
 
-// Steps until a number other than 0 or the limit, of at most 65,535.
+// Steps until a number other than 0 or the limit, of at most 65,535; what they are given is tested once.
 fn steps(s: State, sys: &mut [u8], io: &mut [u8], lines: u32, limit: u16) -> Ran
     ensures { λ r. ⌜ ran (r .number) (r .steps) (buffers (now (sys .exit)) (now (io .exit))) ≡ stepsFrom limit s (buffers (now (sys .entry)) (now (io .entry))) lines 0 ⌝ }
 {
-    let mut state = s;
-    let mut done: u16 = 0;
-    while done < limit {
-        let r = step::step(state, sys, io, lines);
-        if r.number != 0 {
-            return Ran {
-                number: r.number,
-                steps: done as u32,
-            };
-        }
-        let next = r.state;
-        state = next;
-        done += 1;
+    if limit == 0 {
+        return Ran {
+            number: 0,
+            steps: 0,
+        };
     }
-    Ran {
-        number: 0,
-        steps: done as u32,
+    let number = step::entry_number(s, lines, sys, io);
+    if number != 0 {
+        return Ran { number, steps: 0 };
     }
+    let mine = s.first;
+    let other = s.second;
+    let pair = bursts::Pair {
+        mine,
+        other,
+        second: false,
+        last: s.last,
+    };
+    bursts::rounds(pair, s.cp, sys, io, lines, limit)
 }
 
 // One attention, and the steps after it where it is accepted.

@@ -49,11 +49,12 @@ executing c drq r f = go (chained (c .cc)) refl
     go true e = inl (r, inr (f, e))
     go false e = inr (r, f, e)
 
-module _ (s : State) (lines : ℕ) (b : Bool) (c : Channel) (idle : isRunning (channelOf s (not b) .mode) ≡ false) where
-  -- a done step leaves its channel as it says, and the other as it was
-  pub mine-after : channelOf (withLast (withChannel s b c) b) b ≡ c
-  mine-after = last-channel (withChannel s b c) b b ∙ put-same s b c
+-- a done step leaves its channel as it says
+pub mine-after : (s : State) (b : Bool) (c : Channel) → channelOf (withLast (withChannel s b c) b) b ≡ c
+mine-after s b c = last-channel (withChannel s b c) b b ∙ put-same s b c
 
+module _ (s : State) (lines : ℕ) (b : Bool) (c : Channel) (idle : isRunning (channelOf s (not b) .mode) ≡ false) where
+  -- and the other as it was
   pub idle-after : isRunning (channelOf (withLast (withChannel s b c) b) (not b) .mode) ≡ false
   idle-after = ap (λ (x : Channel). isRunning (x .mode)) (last-channel (withChannel s b c) b (not b) ∙ put-other s b c) ∙ idle
 
@@ -64,10 +65,10 @@ module _ (s : State) (lines : ℕ) (b : Bool) (c : Channel) (idle : isRunning (c
       let was = steps-chosen s lines b e in
       let ends : ¬ (EndsNow c (external lines b)) = λ h. was .0 b (rw (mode, cc, xf) at h) in
       let ranked : HasRank c (requested lines b) = rw (mode, cc, xf) (was .1) in
-      alone-steps (withLast (withChannel s b c) b) lines b idle-after (rw mine-after ends) (rw mine-after ranked)
+      alone-steps (withLast (withChannel s b c) b) lines b idle-after (rw (mine-after s b c) ends) (rw (mine-after s b c) ranked)
 
   -- after one that leaves a channel that runs without XF it has its turn
   pub instruction-stays : c .mode ≡ Running → transferring (c .psw) ≡ false → choiceOf (withLast (withChannel s b c) b) lines ≡ Steps b
   instruction-stays r f =
       let ends : ¬ (EndsNow c (external lines b)) = λ h. apart (sym (h .1) ∙ f) in
-      alone-steps (withLast (withChannel s b c) b) lines b idle-after (rw mine-after ends) (rw mine-after (executing c (requested lines b) r f))
+      alone-steps (withLast (withChannel s b c) b) lines b idle-after (rw (mine-after s b c) ends) (rw (mine-after s b c) (executing c (requested lines b) r f))

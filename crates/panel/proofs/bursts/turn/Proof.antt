@@ -1,0 +1,104 @@
+-- `panel::bursts/turn` meets its contract.
+-- Assumes nothing.
+use borrow.Author.Needs.{needs}
+use denote.Ref.{now}
+use mathlib.Core.Path.{sym, ap, _∙_}
+use native.Mathlib.Omega.{arith}
+use Rattle.machine.specs.declared.State.{State}
+use Rattle.memory.specs.Buffers.{buffers}
+use Rattle.step.specs.Choosing.{choiceOf}
+use Rattle.step.specs.Step.{entryNumber}
+use Rattle.step.specs.declared.turns.Choice.the-variants.{Steps}
+use Rattle.panel.proofs.RoundLaws.{turned-is, turned-named, turned-round, nobody-round, external-turn}
+use Rattle.panel.proofs.bursts.turn.Statement.{statement}
+use Rattle.panel.proofs.bursts.turn.Tie as tie
+
+state-requires : tie.Need-state-requires
+state-requires c κs = search needs
+
+choose-requires : tie.Need-choose-requires
+choose-requires c κs = search needs
+
+enum-told : tie.Need-enum-told
+enum-told c = search needs
+
+enum-known-choice : tie.Need-enum-known-choice
+enum-known-choice c = search needs
+
+turned-requires : tie.Need-turned-requires
+turned-requires c κs = search needs
+
+external-end-requires : tie.Need-external-end-requires
+external-end-requires c κs = search needs
+
+add-t15 : tie.Need-add-t15
+add-t15 c = omega (arith, c .before .before .before .before .before .before .before .before .before .pre .0, c .before .before .before .before .before .before .before .before .before .fits .limit .fits)
+
+after-requires : tie.Need-after-requires
+after-requires c κs = search needs
+
+enum-known-choice-2 : tie.Need-enum-known-choice-2
+enum-known-choice-2 c = search needs
+
+turned-requires-2 : tie.Need-turned-requires-2
+turned-requires-2 c κs = search needs
+
+own-steps-requires : tie.Need-own-steps-requires
+own-steps-requires c κs =
+    let a = c .before .before .before .before .before .before .before .before .before .before .args in
+    let m = buffers (now (a .sys)) (now (a .io)) in
+    let s = turned-is (a .p) (c .before .before .turned2 .result) (a .cp) (c .before .before .before .before .choice2 .given .0 .0) (c .before .before .turned2 .ensures) in (
+      c .before .before .before .before .before .before .before .before .before .before .pre .0,
+      ap (λ (x : State). entryNumber x m (a .lines)) s ∙ c .before .before .before .before .before .before .before .before .before .before .pre .1,
+      ap (λ (x : State). choiceOf x (a .lines)) s
+          ∙ sym (c .before .before .before .before .before .before .choose .ensures ∙ ap (λ (x : State). choiceOf x (a .lines)) (c .before .before .before .before .before .before .before .state .ensures))
+          ∙ c .before .before .before .before .choice2 .given .1
+          ∙ ap Steps (sym (turned-named (a .p) (c .before .before .turned2 .result) (a .cp) (c .before .before .before .before .choice2 .given .0 .0) (c .before .before .turned2 .ensures))),
+    )
+
+returns : tie.Need-returns
+returns c =
+    let a = c .before .before .before .before .before .before .args in
+    let m = buffers (now (a .sys)) (now (a .io)) in
+    nobody-round (a .p) (a .cp) (a .lines) (a .limit) (a .done) m (c .before .before .before .before .before .before .pre .0) (c .before .before .before .before .before .before .pre .1)
+    (sym (c .before .before .choose .ensures ∙ ap (λ (x : State). choiceOf x (a .lines)) (c .before .before .before .state .ensures)) ∙ c .enum-told .given .1)
+
+returns-2 : tie.Need-returns-2
+returns-2 c =
+    let a = c .before .before .before .before .before .before .before .before .before .before .args in
+    let m = buffers (now (a .sys)) (now (a .io)) in
+    external-turn (a .p) (c .before .before .turned .result) (a .cp) (a .lines) (a .limit) (a .done) m (c .before .before .before .before .choice .given .0 .0) (c .before .before .before .before .before .before .before .before .before .before .pre .0) (c .before .before .before .before .before .before .before .before .before .before .pre .1)
+    (sym (c .before .before .before .before .before .before .choose .ensures ∙ ap (λ (x : State). choiceOf x (a .lines)) (c .before .before .before .before .before .before .before .state .ensures)) ∙ c .before .before .before .before .choice .given .1)
+    (c .before .before .turned .ensures) (c .before .external-end .result) (c .before .external-end .ensures) (c .after .result) (c .after .ensures)
+
+same-length : tie.Need-same-length
+same-length c = search needs
+
+same-length-2 : tie.Need-same-length-2
+same-length-2 c = search needs
+
+returns-3 : tie.Need-returns-3
+returns-3 c =
+    let a = c .before .before .before .before .before .before .before .before .before .before .before .before .before .before .before .args in
+    turned-round (a .p) (c .before .before .before .before .before .before .before .turned2 .result) (a .cp) (c .before .before .before .before .before .before .before .before .before .choice2 .given .0 .0) (c .before .before .before .before .before .before .before .turned2 .ensures) (c .before .before .before .before .own-steps .ensures)
+
+pub turn-spec : {M : Type 1} → statement M
+turn-spec =
+    tie.close
+    (tie.spec
+    state-requires
+    choose-requires
+    enum-told
+    enum-known-choice
+    turned-requires
+    external-end-requires
+    add-t15
+    after-requires
+    enum-known-choice-2
+    turned-requires-2
+    own-steps-requires
+    returns
+    returns-2
+    same-length
+    same-length-2
+    returns-3)
