@@ -13,13 +13,10 @@ use Rattle.decode.specs.Reading.{decodeOf}
 use Rattle.decode_shapes.specs.declared.Decoded.the-variants.{Instruction}
 use Rattle.decode_shapes.specs.declared.Shape.the-variants.{RegisterImmediate}
 use Rattle.decode_shapes.specs.declared.Work.{Work}
-use Rattle.execute_deeds.specs.Deeds.{effectOf}
 use Rattle.execute_deeds.specs.RegisterForms.{registerWritten, registerImmediateDeed}
-use Rattle.execute_deeds.specs.declared.Effect.{Effect}
-use Rattle.execute.proofs.CodeLaws.{plan-read, shape-done}
-use Rattle.execute.specs.Execute.{decodedAt, performed, deedOf, laterBytes, deedFrom, numberFrom, Executed, executed, executeOf}
+use Rattle.execute.proofs.OutcomeLaws.{done-where}
+use Rattle.execute.specs.Execute.{decodedAt, performed, deedOf, laterBytes, Executed, executed, executeOf}
 use Rattle.machine.proofs.ChannelLaws.{put-same, last-channel}
-use Rattle.machine.specs.Outcomes.{unless, first}
 use Rattle.machine.specs.Psw.{transferring}
 use Rattle.machine.specs.Registers.{registerOf}
 use Rattle.machine.specs.States.{channelOf, withChannel}
@@ -31,7 +28,8 @@ use Rattle.memory.specs.Places.{span, allLent}
 use Rattle.memory.specs.Values.{wordAt}
 use Rattle.memory.specs.declared.Pointer.{Pointer}
 use Rattle.execute_operands.specs.Changes.{placesOf, changed}
-use Rattle.execute_operands.specs.Operands.{bytesAt, sizeOf, pastInstruction, operandAt, workOf}
+use Rattle.execute_operands.specs.Marks.{pastInstruction}
+use Rattle.execute_operands.specs.Operands.{bytesAt, sizeOf, operandAt, workOf}
 use Rattle.memory.specs.Values.{onward}
 use Rattle.step.specs.Step.{Step, doneStep, settledStep, busyTo, instructionStep, channelStep, chosenStep, entryNumber, stepOf}
 use Rattle.step.specs.declared.Kind.the-variants.{Instruction as AnInstruction}
@@ -113,13 +111,12 @@ pair-there true n h = omega arith
 pub immediate-executed : (work : Work) (r : ℕ) (wide : Bool) (m : Buffers) (c : Channel) (code : List ℕ) → Stand m (c .tp) code → 1 + sizeOf wide < length code
     → decodeOf (getD code 0 0) (getD code 1 0) ≡ Instruction (RegisterImmediate work r wide) → (busy : ℕ)
     → executeOf c busy m ≡ executed 0 (immediateDone work r wide c code) m
-unfolding executeOf changed numberFrom deedFrom deedOf performed registerImmediateDeed effectOf placesOf laterBytes allLent first unless
+unfolding changed deedOf performed registerImmediateDeed placesOf laterBytes span allLent
 immediate-executed work r wide m c code there whole e busy =
     let pair = pair-there wide (length code) whole in
     let shape = RegisterImmediate work r wide in
-    ap (λ (x : Effect). executed (x .number) (x .channel) (changed m (x .change)))
-    (plan-read m c busy (Instruction shape) (pair-lent there pair) (decoded there pair ∙ e)
-    ∙ shape-done shape m c busy (ap (λ (n : ℕ). allLent m (bytesAt (onward (c .tp) 2) n)) (data-length work r wide) ∙ data-lent there wide whole) refl refl)
+    done-where c busy m shape (decoded there pair ∙ e) (pair-lent there pair)
+    (ap (λ (n : ℕ). allLent m (bytesAt (onward (c .tp) 2) n)) (data-length work r wide) ∙ data-lent there wide whole) refl refl refl
     ∙ ap (λ (v : ℕ). executed 0 (registerWritten work (pastInstruction c (lengthOf shape)) r (workOf work (registerOf (pastInstruction c (lengthOf shape)) r) v)) m) (immediate-read there wide whole)
 
 -- ---- its step

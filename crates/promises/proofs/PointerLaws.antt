@@ -25,13 +25,11 @@ use Rattle.execute_deeds.specs.Deeds.{Deed}
 use Rattle.execute_deeds.specs.JumpForms.{callDeed}
 use Rattle.execute_deeds.specs.MemoryForms.{movpStoreDeed}
 use Rattle.execute_deeds.specs.RegisterForms.{movpLoadDeed}
-use Rattle.execute.proofs.OutcomeLaws.{done, number-is}
+use Rattle.execute.proofs.OutcomeLaws.{done, number-is, stores-lent}
 use Rattle.execute.proofs.PointerLaws.{register-written, tag-written}
-use Rattle.execute.specs.Execute.{Executed, decodedAt, performed, deedOf, laterBytes, shapeNumber, numberFrom, executeNumber, executeOf}
+use Rattle.execute.specs.Execute.{Executed, decodedAt, performed, deedOf, deedFrom, executeOf}
 use Rattle.execute.specs.Kept.{IsPointer}
 use Rattle.machine.proofs.ChannelLaws.{put-same, last-channel, sound-channel-of}
-use Rattle.machine.proofs.ConditionLaws.{first-none-right, unless-none}
-use Rattle.machine.specs.Outcomes.{unless}
 use Rattle.machine.specs.Registers.{byRRR, registerOf, tagOf, withRegister}
 use Rattle.machine.specs.States.{channelOf, withChannel, soundChannel}
 use Rattle.machine.specs.declared.Channel.{Channel}
@@ -42,11 +40,12 @@ use Rattle.memory.specs.Buffers.{Buffers}
 use Rattle.memory.specs.Places.{allLent}
 use Rattle.memory.specs.Values.{pointer, pointerAt}
 use Rattle.memory.specs.declared.Pointer.{Pointer}
-use Rattle.execute_operands.specs.Changes.{placesOf, changed}
-use Rattle.execute_operands.specs.Operands.{byteHere, bytesAt, pastInstruction, grown}
+use Rattle.execute_operands.specs.Changes.{placesOf, changed, pointerTo}
+use Rattle.execute_operands.proofs.ChangeLaws.{pointer-changed}
+use Rattle.execute_operands.specs.Marks.{pastInstruction}
+use Rattle.execute_operands.specs.Operands.{byteHere, bytesAt, grown}
 use Rattle.machine.specs.Updates.{renewed}
 use Rattle.memory.specs.Values.{onward}
-use Rattle.execute_operands.specs.declared.Change.the-variants.{Stored}
 use Rattle.step.proofs.SoundLaws.{entry-sound}
 use Rattle.step.specs.Step.{Step, doneStep, settledStep, busyTo, instructionStep, channelStep, chosenStep, entryNumber, stepOf}
 use Rattle.step.specs.declared.Kind.{Kind}
@@ -101,14 +100,11 @@ module _ (k : StepCall) (shape : Shape) (x : Executes k shape) where
 
   -- the bytes that it stores to are lent
   lent : allLent (k .memory) (placesOf (deedOn k shape .change)) ≡ true
-  unfolding executeNumber numberFrom shapeNumber
+  unfolding deedFrom
   lent =
       let m = k .memory in
       let c = channelOn k in
-      let number : executeNumber m c (busyOn k) ≡ 0 = sym (number-is c (busyOn k) m) ∙ none in
-      let rest : numberFrom (decodedAt m (c .tp)) m c (busyOn k) ≡ 0 = first-none-right (unless (allLent m (bytesAt (c .tp) 2)) 2) _ number in
-      let its : shapeNumber shape m c (busyOn k) ≡ 0 = rw (x .reads) at rest in
-      unless-none 2 refl (first-none-right _ _ (first-none-right (unless (allLent m (laterBytes shape c)) 2) _ its))
+      rw (x .reads) at (stores-lent c (busyOn k) m (sym (number-is c (busyOn k) m) ∙ none))
 
   -- the channel after it
   channel-left : channelOf (left k .state) (k .second) ≡ deedOn k shape .channel
@@ -118,12 +114,12 @@ module _ (k : StepCall) (shape : Shape) (x : Executes k shape) where
       ∙ put-same (k .state) (k .second) (deedOn k shape .channel)
 
   -- a pointer of 20 bits that it stores reads back from where it went
-  stored-back : (at p : Pointer) → deedOn k shape .change ≡ Stored at p → p .address < 1048576 → pointerAt (left k .memory) (at .tag) (at .address) ≡ p
-  unfolding changed placesOf
+  stored-back : (at p : Pointer) → deedOn k shape .change ≡ pointerTo at p → p .address < 1048576 → pointerAt (left k .memory) (at .tag) (at .address) ≡ p
+  unfolding placesOf
   stored-back at p e small =
       let here : allLent (k .memory) (bytesAt at 3) ≡ true = rw e at lent in
       ap (λ (o : Step). pointerAt (o .memory) (at .tag) (at .address)) leaves
-      ∙ rw e
+      ∙ rw (e, pointer-changed (k .memory) at p)
       (pointer-back (k .memory) (at .tag) (at .address) p
       (span-first (k .memory) (at .tag) (at .address) 3 here (lit< tt))
       (span-at (k .memory) (at .tag) (at .address) 3 1 here (lit< tt))

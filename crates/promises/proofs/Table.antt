@@ -18,7 +18,8 @@ use Rattle.machine.specs.declared.Channel.{Channel}
 use Rattle.machine.specs.declared.State.{State}
 use Rattle.memory.specs.Buffers.{Buffers}
 use Rattle.memory.specs.Values.{pointer}
-use Rattle.execute_operands.specs.Operands.{pastInstruction, workOf, isMove}
+use Rattle.execute_operands.specs.Marks.{pastInstruction}
+use Rattle.execute_operands.specs.Operands.{workOf, isMove}
 use Rattle.machine.specs.Updates.{renewed}
 use Rattle.memory.specs.Values.{onward}
 use Rattle.words.specs.Bits.{fieldOf}

@@ -15,9 +15,9 @@ use Rattle.decode_shapes.specs.Pairs.{pairOf}
 use Rattle.decode.specs.Reading.{lookup, decodeOf}
 use Rattle.decode.specs.Table.{table}
 use Rattle.execute_deeds.specs.Control.{nopDeed}
-use Rattle.execute_deeds.specs.Deeds.{effectOf}
-use Rattle.execute.specs.Execute.{decodedAt, performed, deedOf, laterBytes, deedFrom, shapeNumber, numberFrom, executeNumber, settledEffect, planOf, executeOf}
+use Rattle.execute.specs.Execute.{decodedAt, performed, deedOf, laterBytes, laterFrom, deedFrom, stagesFrom, instructionStages, executeNumber, executeOf}
 use Rattle.machine.specs.Outcomes.{outcome, unless, first, settled, givenNumber}
+use Rattle.machine.specs.Stages.{stagesNumber}
 use Rattle.machine.specs.Psw.{withPsw}
 use Rattle.machine.specs.Stages.{stagesNumber}
 use Rattle.machine.specs.States.{freshState, idleChannel, channelOf, withChannel, withLast, soundChannel, sound, isRunning, blockOf, busyIn, channelNumber, isChannel, isSecond}
@@ -28,7 +28,7 @@ use Rattle.memory.specs.Buffers.{Buffers, buffers, spaceOf, limitOf, indexOf, l
 use Rattle.memory.specs.Places.{span, allLent}
 use Rattle.memory.specs.Values.{wordAt, doublewordAt, pointer}
 use Rattle.execute_operands.specs.Changes.{placesOf, changed}
-use Rattle.execute_operands.specs.Operands.{usedUp, pastInstruction}
+use Rattle.execute_operands.specs.Marks.{usedUp, pastInstruction}
 use Rattle.machine.specs.Updates.{renewed}
 use Rattle.memory.specs.Values.{onward}
 use Rattle.step.specs.Choosing.{requested, external, endsNow, transferRank, rankOf, secondWins, ranked, choiceOf}
@@ -69,7 +69,7 @@ both-programs tp₁ tp₂ last = record { unchained = unchained; equal = refl }
 
 -- four steps of them, each a NOP
 pub started-turns : Turns (startedBoth .state) (startedBoth .memory) (1 ∷ 2 ∷ 1 ∷ 2 ∷ [])
-unfolding both program busy withControl stepOf entryNumber givenNumber first unless withinLimits limitOf spaceOf indexOf lentAt byteAt allLent span sound soundChannel idleChannel channelOf withChannel withLast isRunning blockOf channelNumber requested external endsNow transferRank rankOf secondWins ranked choiceOf settledStep busyTo instructionStep channelStep chosenStep fieldOf bitOf decodedAt performed deedOf laterBytes deedFrom shapeNumber numberFrom executeNumber settledEffect planOf executeOf onward renewed usedUp pastInstruction nopDeed effectOf placesOf changed pairOf lookup decodeOf table lengthOf dataLength displacementLength
+unfolding both program busy withControl stepOf entryNumber givenNumber first unless withinLimits limitOf spaceOf indexOf lentAt byteAt allLent span sound soundChannel idleChannel channelOf withChannel withLast isRunning blockOf channelNumber requested external endsNow transferRank rankOf secondWins ranked choiceOf settledStep busyTo instructionStep channelStep chosenStep fieldOf bitOf decodedAt performed deedOf laterBytes laterFrom deedFrom stagesFrom instructionStages stagesNumber executeNumber executeOf onward renewed usedUp pastInstruction nopDeed placesOf changed pairOf lookup decodeOf table lengthOf dataLength displacementLength
 started-turns =
     rw both-started
     (turn (both-programs 0x18 0x1C true) 0 refl

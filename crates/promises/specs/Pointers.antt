@@ -21,7 +21,8 @@ use Rattle.decode_shapes.specs.declared.Memory.{Memory}
 use Rattle.decode_shapes.specs.declared.Shape.{Shape}
 use Rattle.decode_shapes.specs.declared.Shape.the-variants.{MovpLoad, MovpStore, Call}
 use Rattle.decode.specs.Lengths.{lengthOf}
-use Rattle.execute_operands.specs.Operands.{pastInstruction, effective}
+use Rattle.execute_operands.specs.Marks.{pastInstruction}
+use Rattle.execute_operands.specs.Operands.{effective}
 use Rattle.execute.specs.Execute.{decodedAt}
 use Rattle.step.specs.declared.turns.Choice.the-variants.{Steps}
 use Rattle.step.specs.Choosing.{choiceOf}
