@@ -51,7 +51,7 @@ use Rattle.step.specs.Step.{Step, doneStep, settledStep, busyTo, instructionSte
 use Rattle.step.specs.declared.Kind.{Kind}
 use Rattle.words.proofs.ChoiceLaws.{apart, both-left, both-right, or-false}
 use Rattle.words.specs.Choice.{pick}
-use Rattle.promises.specs.Pointers.{Holds, StepCall, left, channelOn, Executes, found, operandOf, SameThree, LoadsFrom}
+use Rattle.promises.specs.Pointers.{Holds, StepCall, leftBy, channelOn, Executes, found, operandOf, SameThree, LoadsFrom}
 
 -- ---- what a done step that executes has passed, and what it leaves
 
@@ -76,7 +76,7 @@ deedOn k shape = deedOf shape (k .memory) (channelOn k) (busyOn k)
 
 module _ (k : StepCall) (shape : Shape) (x : Executes k shape) where
   -- it is the instruction's own step
-  own : left k ≡ instructionStep (k .state) (k .memory) (k .second)
+  own : leftBy k ≡ instructionStep (k .state) (k .memory) (k .second)
   unfolding stepOf chosenStep channelStep
   own = rw (eq-eqb (entryNumber (k .state) (k .memory) (k .lines)) 0 (entered (k .state) (k .memory) (k .lines) (x .done)), x .chosen, x .program)
 
@@ -91,7 +91,7 @@ module _ (k : StepCall) (shape : Shape) (x : Executes k shape) where
   none = sym (settle (executedOn k .number) (executedOn k)) ∙ sym (ap (λ (o : Step). o .number) own) ∙ x .done
 
   -- so it leaves what an instruction of that shape does
-  leaves : left k ≡ doneStep (k .state) (k .second) (deedOn k shape .channel) (changed (k .memory) (deedOn k shape .change)) Kind.Instruction
+  leaves : leftBy k ≡ doneStep (k .state) (k .second) (deedOn k shape .channel) (changed (k .memory) (deedOn k shape .change)) Kind.Instruction
   unfolding instructionStep settledStep
   leaves =
       own
@@ -107,14 +107,14 @@ module _ (k : StepCall) (shape : Shape) (x : Executes k shape) where
       rw (x .reads) at (stores-lent c (busyOn k) m (sym (number-is c (busyOn k) m) ∙ none))
 
   -- the channel after it
-  channel-left : channelOf (left k .state) (k .second) ≡ deedOn k shape .channel
+  channel-left : channelOf (leftBy k .state) (k .second) ≡ deedOn k shape .channel
   channel-left =
       ap (λ (o : Step). channelOf (o .state) (k .second)) leaves
       ∙ last-channel (withChannel (k .state) (k .second) (deedOn k shape .channel)) (k .second) (k .second)
       ∙ put-same (k .state) (k .second) (deedOn k shape .channel)
 
   -- a pointer of 20 bits that it stores reads back from where it went
-  stored-back : (at p : Pointer) → deedOn k shape .change ≡ pointerTo at p → p .address < 1048576 → pointerAt (left k .memory) (at .tag) (at .address) ≡ p
+  stored-back : (at p : Pointer) → deedOn k shape .change ≡ pointerTo at p → p .address < 1048576 → pointerAt (leftBy k .memory) (at .tag) (at .address) ≡ p
   unfolding placesOf
   stored-back at p e small =
       let here : allLent (k .memory) (bytesAt at 3) ≡ true = rw e at lent in
@@ -239,13 +239,13 @@ three-same m m′ at e = rw (rw add-zero at (e 0 (lit< tt)), e 1 (lit< tt), e 2 
 
 -- MOVP P,M loads the pointer that its three bytes hold
 loads-back : {k : StepCall} {at : Pointer} {k′ : StepCall} {r : ℕ} {o : Memory} (p : Pointer) → LoadsFrom k at k′ r o
-    → p .address < 1048576 → pointerAt (left k .memory) (at .tag) (at .address) ≡ p → Holds (channelOf (left k′ .state) (k′ .second)) r (p .address) (p .tag)
+    → p .address < 1048576 → pointerAt (leftBy k .memory) (at .tag) (at .address) ≡ p → Holds (channelOf (leftBy k′ .state) (k′ .second)) r (p .address) (p .tag)
 unfolding deedOf performed movpLoadDeed
 loads-back {k} {at} {k′} {r} {o} p l small e =
     let shape = MovpLoad r o in
     let here : pointerAt (k′ .memory) (operandOf k′ shape o .tag) (operandOf k′ shape o .address) ≡ p =
-    ap (λ (q : Pointer). pointerAt (k′ .memory) (q .tag) (q .address)) (l .place) ∙ three-same (left k .memory) (k′ .memory) at (l .bytes) ∙ e in
-    let after : channelOf (left k′ .state) (k′ .second) ≡ withRegister (grown (found k′ shape) o 3) r (p .address) (p .tag) =
+    ap (λ (q : Pointer). pointerAt (k′ .memory) (q .tag) (q .address)) (l .place) ∙ three-same (leftBy k .memory) (k′ .memory) at (l .bytes) ∙ e in
+    let after : channelOf (leftBy k′ .state) (k′ .second) ≡ withRegister (grown (found k′ shape) o 3) r (p .address) (p .tag) =
     channel-left k′ shape (l .loads) ∙ ap (λ (q : Pointer). withRegister (grown (found k′ shape) o 3) r (q .address) (q .tag)) here in
     let there : IsPointer r = executes-pointer (l .loads) in
     rw after (record {
@@ -256,7 +256,7 @@ loads-back {k} {at} {k′} {r} {o} p l small e =
 -- MOVP M,P, then MOVP P,M at the same place
 pub movp-back : {k : StepCall} {r : ℕ} {o : Memory} {k′ : StepCall} {r′ : ℕ} {o′ : Memory} → Executes k (MovpStore r o)
     → LoadsFrom k (operandOf k (MovpStore r o) o) k′ r′ o′
-    → Holds (channelOf (left k′ .state) (k′ .second)) r′ (registerOf (found k (MovpStore r o)) r) (tagOf (found k (MovpStore r o)) r)
+    → Holds (channelOf (leftBy k′ .state) (k′ .second)) r′ (registerOf (found k (MovpStore r o)) r) (tagOf (found k (MovpStore r o)) r)
 unfolding deedOf performed movpStoreDeed
 movp-back {k} {r} {o} x l =
     let shape = MovpStore r o in
@@ -268,7 +268,7 @@ movp-back {k} {r} {o} x l =
 -- CALL, then MOVP P,M at that place
 pub call-back : {k : StepCall} {o : Memory} {two : Bool} {k′ : StepCall} {r′ : ℕ} {o′ : Memory} → Executes k (Call o two)
     → LoadsFrom k (operandOf k (Call o two) o) k′ r′ o′
-    → Holds (channelOf (left k′ .state) (k′ .second)) r′ (found k (Call o two) .tp .address) (found k (Call o two) .tp .tag)
+    → Holds (channelOf (leftBy k′ .state) (k′ .second)) r′ (found k (Call o two) .tp .address) (found k (Call o two) .tp .tag)
 unfolding deedOf performed callDeed pastInstruction renewed onward
 call-back {k} {o} {two} x l =
     let shape = Call o two in

@@ -34,7 +34,7 @@ use Rattle.step.specs.Choosing.{requested, external, endsNow, transferRank, ran
 use Rattle.step.specs.Step.{settledStep, busyTo, instructionStep, channelStep, chosenStep, entryNumber, stepOf}
 use Rattle.words.specs.Bits.{fieldOf, bitOf}
 use Rattle.words.specs.Signs.{signedOf, displacedBy}
-use Rattle.promises.specs.Pointers.{Holds, StepCall, left, Executes, operandOf, LoadsFrom}
+use Rattle.promises.specs.Pointers.{Holds, StepCall, leftBy, Executes, operandOf, LoadsFrom}
 use Rattle.promises.proofs.PointerLaws.{movp-back, call-back}
 
 -- channel 1 runs the program at 0, with GA 10h in system space and GB 12345h in I/O space
@@ -64,7 +64,7 @@ abbrev firstStep : List ℕ → StepCall
 firstStep code = record { state = withChannel (freshState 0) false running; memory = buffers (code ++ replicate 16 0) []; lines = 0; second = false }
 
 abbrev nextStep : List ℕ → StepCall
-nextStep code = record { state = left (firstStep code) .state; memory = left (firstStep code) .memory; lines = 0; second = false }
+nextStep code = record { state = leftBy (firstStep code) .state; memory = leftBy (firstStep code) .memory; lines = 0; second = false }
 
 -- a program that stores a pointer by an instruction of some shape at [GA], and then loads GC from [GA]
 pub record GoesAndComes (code : List ℕ) (shape : Shape) (o : Memory) : Type 0 where
@@ -93,11 +93,11 @@ both-go = (
 )
 
 -- after the first GC is 12345h, in I/O space
-pub movp-met : Holds (channelOf (left (nextStep movps) .state) false) 2 0x12345 true
+pub movp-met : Holds (channelOf (leftBy (nextStep movps) .state) false) 2 0x12345 true
 unfolding registerOf tagOf byRRR pastInstruction renewed freshState withChannel channelOf
 movp-met = movp-back (both-go .0 .goes) (both-go .0 .comes)
 
 -- after the second it is 3, the address past the CALL, in system space
-pub call-met : Holds (channelOf (left (nextStep calls) .state) false) 2 3 false
+pub call-met : Holds (channelOf (leftBy (nextStep calls) .state) false) 2 3 false
 unfolding pastInstruction renewed onward freshState withChannel channelOf lengthOf offsetLength dataLength displacementLength
 call-met = call-back (both-go .1 .goes) (both-go .1 .comes)

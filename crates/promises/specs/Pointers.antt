@@ -52,15 +52,15 @@ pub record StepCall : Type 0 where
   pub second : Bool
 
 -- what it leaves, and the channel before it
-abbrev pub left : StepCall → Step
-left k = stepOf (k .state) (k .memory) (k .lines)
+abbrev pub leftBy : StepCall → Step
+leftBy k = stepOf (k .state) (k .memory) (k .lines)
 
 abbrev pub channelOn : StepCall → Channel
 channelOn k = channelOf (k .state) (k .second)
 
 -- it is done, and carries out an instruction of some shape for that channel
 pub record Executes (k : StepCall) (shape : Shape) : Type 0 where
-  pub done : left k .number ≡ 0
+  pub done : leftBy k .number ≡ 0
   pub chosen : choiceOf (k .state) (k .lines) ≡ Steps (k .second)
   pub program : transferring (channelOn k .psw) ≡ false
   pub reads : decodedAt (k .memory) (channelOn k .tp) ≡ Instruction shape
@@ -82,7 +82,7 @@ pub record LoadsFrom (k : StepCall) (at : Pointer) (k′ : StepCall) (r : ℕ) (
   pub loads : Executes k′ (MovpLoad r o)
   pub place : operandOf k′ (MovpLoad r o) o ≡ at
   -- in between nothing wrote there
-  pub bytes : SameThree at (left k .memory) (k′ .memory)
+  pub bytes : SameThree at (leftBy k .memory) (k′ .memory)
 
 -- a channel that was suspended and is resumed by a CCW goes on as it was before
 pub record GoesOn (before after : Channel) (ccw : ℕ) : Type 0 where
@@ -108,11 +108,11 @@ pub record PointersKept : Type 0 where
   -- MOVP M,P of register r, and MOVP P,M from there: the pointer and the tag that went
   pub movp : {k : StepCall} {r : ℕ} {o : Memory} {k′ : StepCall} {r′ : ℕ} {o′ : Memory} → Executes k (MovpStore r o)
       → LoadsFrom k (operandOf k (MovpStore r o) o) k′ r′ o′
-      → Holds (channelOf (left k′ .state) (k′ .second)) r′ (registerOf (found k (MovpStore r o)) r) (tagOf (found k (MovpStore r o)) r)
+      → Holds (channelOf (leftBy k′ .state) (k′ .second)) r′ (registerOf (found k (MovpStore r o)) r) (tagOf (found k (MovpStore r o)) r)
   -- "CALL stores TP in stored form", and MOVP P,M from there: TP past the CALL, with its tag
   pub call : {k : StepCall} {o : Memory} {two : Bool} {k′ : StepCall} {r′ : ℕ} {o′ : Memory} → Executes k (Call o two)
       → LoadsFrom k (operandOf k (Call o two) o) k′ r′ o′
-      → Holds (channelOf (left k′ .state) (k′ .second)) r′ (found k (Call o two) .tp .address) (found k (Call o two) .tp .tag)
-  -- suspend, and later resume with the channel's registers and the four bytes at PP as suspend left them
+      → Holds (channelOf (leftBy k′ .state) (k′ .second)) r′ (found k (Call o two) .tp .address) (found k (Call o two) .tp .tag)
+  -- suspend, and later resume with the channel's registers and the four bytes at PP as suspend leftBy them
   pub pause : {s : State} {m : Buffers} {s′ : State} {m′ : Buffers} {channel : ℕ} → Pause s m s′ m′ channel
       → GoesOn (channelOf s (isSecond channel)) (channelOf (attentionOf s′ m′ channel .state) (isSecond channel)) (orderTo s′ m′ (isSecond channel) .ccw)
