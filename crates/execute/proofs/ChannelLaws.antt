@@ -146,7 +146,7 @@ writes work c r v = chosen (isMove work) (moved c r v) (worked c r v) (registere
 
 -- ---- each shape
 
--- what an instruction of some shape makes of the channel with TP past it and the mark used up; `armed` is whether it was armedByXfer
+-- what an instruction of some shape makes of the channel with TP past it and the mark used up; `armed` is whether it was marked
 record After (s : Shape) (armed : Bool) (c d : Channel) : Type 0 where
   halts : Bool
   halts-is : halts ≡ true → s ≡ Hlt
@@ -276,7 +276,7 @@ advanced-sound : (c : Channel) (n : ℕ) → soundChannel c ≡ true → soundCh
 unfolding pastInstruction renewed
 advanced-sound c n = sound-by c (pastInstruction c n) refl (λ s. s) (λ s. s) (λ s. s) (λ s. onward-small (c .tp) n)
 
--- it has XF where it was armedByXfer, and as it was where it was not
+-- it has XF where it was marked, and as it was where it was not
 marked-xf : (armed : Bool) (psw : ℕ) → transferring (usedUp armed psw) ≡ (armed || transferring psw)
 unfolding usedUp withPsw
 marked-xf true psw = bit-same psw 6 true

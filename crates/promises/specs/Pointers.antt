@@ -113,6 +113,6 @@ pub record PointersKept : Type 0 where
   pub call : {k : StepCall} {o : Memory} {two : Bool} {k′ : StepCall} {r′ : ℕ} {o′ : Memory} → Executes k (Call o two)
       → LoadsFrom k (operandOf k (Call o two) o) k′ r′ o′
       → Holds (channelOf (leftBy k′ .state) (k′ .second)) r′ (found k (Call o two) .tp .address) (found k (Call o two) .tp .tag)
-  -- suspend, and later resume with the channel's registers and the four bytes at PP as suspend leftBy them
+  -- suspend, and later resume with the channel's registers and the four bytes at PP as suspend left them
   pub pause : {s : State} {m : Buffers} {s′ : State} {m′ : Buffers} {channel : ℕ} → Pause s m s′ m′ channel
       → GoesOn (channelOf s (isSecond channel)) (channelOf (attentionOf s′ m′ channel .state) (isSecond channel)) (orderTo s′ m′ (isSecond channel) .ccw)
