@@ -25,9 +25,10 @@ CFLAGS ?= -O2
 STRICT = -std=c11 -Wall -Wextra -Wpedantic -Wconversion
 
 # What C gets: headers, and archives with the crate that each is made of.
-HEADERS = include/iop89.h
+HEADERS = include/iop89.h include/iop89_service.h
 IOP89_LIB = build/libiop89.a
-ARCHIVES = $(IOP89_LIB)
+SERVICE_LIB = build/libiop89_service.a
+ARCHIVES = $(IOP89_LIB) $(SERVICE_LIB)
 
 # The library is for x86-64. Elsewhere what links it is cross-compiled (Debian: gcc-x86-64-linux-gnu,
 # libc6-dev-amd64-cross) and linked -static, so that tools/x86 can run it with no x86-64 libraries at hand.
@@ -196,20 +197,17 @@ build/bench: host/bench.c host/emulator.h include/iop89.h build/emulator.o $(IOP
 
 # ---- The service archive: the machine call by call, and what stands on both archives
 
-SERVICE_LIB = build/libiop89_service.a
 SERVICE_CASES ?= 300000
 
 .PHONY: service-lib compare-service
 
 # The proved calls as a second archive; both link into one program.
-service-lib:
-	@mkdir -p build
-	@rt staticlib service > build/rt.log 2>&1 || { tail -n 5 build/rt.log; exit 1; }
-	@mkdir -p build
-	cp target/staticlib/libservice.a $(SERVICE_LIB)
+service-lib: $(SERVICE_LIB)
 
-$(SERVICE_LIB):
-	@$(MAKE) --no-print-directory service-lib
+$(SERVICE_LIB): build/service.sums
+	@tools/prove staticlib service
+	cp target/staticlib/libservice.a $@
+	@touch $@
 
 build/compare_service: host/compare_service.c host/state_bytes.c host/state_bytes.h include/iop89_service.h $(COMMON) \
 		$(COMMON_H) $(SERVICE_LIB) | x86-compiler
