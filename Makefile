@@ -4,6 +4,7 @@ FILE ?= examples/first.txt
 DEMO ?= examples/copy-odd.bin
 SEED ?= 1
 CASES ?= 200000
+SERVICE_CASES ?= 300000
 CALLS ?= 20000
 IMAGES ?= 300
 PREFIX ?= /usr/local
@@ -15,11 +16,12 @@ override FILE := $(value FILE)
 override DEMO := $(value DEMO)
 override SEED := $(value SEED)
 override CASES := $(value CASES)
+override SERVICE_CASES := $(value SERVICE_CASES)
 override CALLS := $(value CALLS)
 override IMAGES := $(value IMAGES)
 override PREFIX := $(value PREFIX)
 override DESTDIR := $(value DESTDIR)
-export IMAGE FILE DEMO SEED CASES CALLS IMAGES PREFIX DESTDIR
+export IMAGE FILE DEMO SEED CASES SERVICE_CASES CALLS IMAGES PREFIX DESTDIR
 
 CFLAGS ?= -O2
 STRICT = -std=c11 -Wall -Wextra -Wpedantic -Wconversion
@@ -197,9 +199,7 @@ build/bench: host/bench.c host/emulator.h include/iop89.h build/emulator.o $(IOP
 
 # ---- The service archive: the machine call by call, and what stands on both archives
 
-SERVICE_CASES ?= 300000
-
-.PHONY: service-lib compare-service
+.PHONY: service-lib compare-service given-service stack
 
 # The proved calls as a second archive; both link into one program.
 service-lib: $(SERVICE_LIB)
@@ -214,8 +214,11 @@ build/compare_service: host/compare_service.c host/state_bytes.c host/state_byte
 	$(X86_CC) $(STRICT) $(CFLAGS) -Iinclude host/compare_service.c host/state_bytes.c $(COMMON) $(SERVICE_LIB) \
 		$(X86_LDFLAGS) -o $@
 
-compare-service: build/compare_service
-	tools/x86 build/compare_service $(SEED) $(SERVICE_CASES)
+given-service:
+	@tools/given number SEED && tools/given number SERVICE_CASES
+
+compare-service: given-service build/compare_service
+	tools/x86 build/compare_service "$$SEED" "$$SERVICE_CASES"
 
 # ---- The bench tool, over both archives
 
