@@ -1,14 +1,14 @@
 -- The bounds of an instruction's length: two to six bytes.
 -- Assumes nothing.
 use mathlib.Core.Path.{_≡_}
-use mathlib.Core.Bool.{Bool, true, false, _||_}
+use mathlib.Core.Bool.{Bool, true, false}
 use Prim.Native.Nat.{ℕ, _+_, _≤_}
 use native.Mathlib.Omega.{arith}
 use lib.Dec.{eqb, leb, lit≤}
 use Rattle.decode_shapes.specs.declared.pairs.Pair.{Pair}
 use Rattle.decode_shapes.specs.declared.Shape.{Shape}
 use Rattle.decode_shapes.specs.declared.Shape.the-variants.{Nop, Sintr, Xfer, Wid, Hlt, Lpdi, RegisterImmediate, Register, JumpRegister, RegisterMemory, MemoryRegister, MemoryImmediate, MemoryAlone, JumpMemory, Lpd, MovpLoad, MovpStore, MovMemory, Tsl, Call, JumpMasked, JumpBit, Bit}
-use Rattle.decode.specs.Lengths.{offsetBy, moreBy, twoBy, dataLength, displacementLength, lengthOf}
+use Rattle.decode.specs.Lengths.{offsetBy, moreBy, twoBy, dataLength, displacementLength, lengthOf, isLong, pairLength}
 
 -- a byte more is at most one
 pub more-small : (b : Bool) → moreBy b ≤ 1
@@ -51,6 +51,7 @@ bounded (JumpMasked equal m two) = omega (arith, offset-small (m .aa), more-smal
 bounded (JumpBit set bit m two) = omega (arith, offset-small (m .aa), more-small two)
 bounded (Bit on bit m) = omega (arith, offset-small (m .aa))
 
--- what a pair announces is at most eight, in the order in which it is added
-pub pair-small : (p : Pair) → 2 + offsetBy (p .aa) + moreBy (eqb (p .dd) 1) + twoBy (leb 2 (p .dd)) + twoBy (eqb (p .opcode) 0x02 || eqb (p .opcode) 0x24) ≤ 8
-pair-small p = omega (arith, offset-small (p .aa), more-small (eqb (p .dd) 1), two-small (leb 2 (p .dd)), two-small (eqb (p .opcode) 0x02 || eqb (p .opcode) 0x24))
+-- what a pair announces is at most eight
+pub pair-small : (p : Pair) → pairLength p ≤ 8
+unfolding pairLength
+pair-small p = omega (arith, offset-small (p .aa), more-small (eqb (p .dd) 1), two-small (leb 2 (p .dd)), two-small (isLong p))

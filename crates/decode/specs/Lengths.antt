@@ -85,7 +85,10 @@ displacementLength s = partsOf s .displacement
 unfoldable pub lengthOf : Shape → ℕ
 lengthOf s = partsOf s .pairs + partsOf s .offset + dataLength s + displacementLength s
 
--- the same from a pair that begins an instruction: two bytes, one more where AA is 01, as many as dd announces (TSL's 11 announces two), two more for LPDI and for the second pair of MOV M,M
+-- a pair of LPDI, with its four bytes of data, or of MOV M,M, with its second pair: two bytes more than dd announces
+abbrev pub isLong : Pair → Bool
+isLong p = eqb (p .opcode) 0x02 || eqb (p .opcode) 0x24
+
+-- the bytes of the instruction that a pair begins: two, one more where AA is 01, as many as dd announces (TSL's 11 announces two), two more where it is long
 unfoldable pub pairLength : Pair → ℕ
-pairLength p =
-    2 + offsetBy (p .aa) + moreBy (eqb (p .dd) 1) + twoBy (leb 2 (p .dd)) + twoBy (eqb (p .opcode) 0x02 || eqb (p .opcode) 0x24)
+pairLength p = 2 + offsetBy (p .aa) + moreBy (eqb (p .dd) 1) + twoBy (leb 2 (p .dd)) + twoBy (isLong p)

@@ -35,7 +35,7 @@ use Rattle.execute_operands.specs.Changes.{placesOf, changed}
 use Rattle.execute_deeds.specs.Control.{withStatus, nopDeed, sintrDeed, xferDeed, widDeed, hltDeed}
 use Rattle.execute_deeds.specs.JumpForms.{jumpRegisterDeed, jumpMemoryDeed, jumpByteDeed, jumpMaskedDeed, jumpBitDeed, tslDeed, callDeed}
 use Rattle.execute_deeds.specs.MemoryForms.{memoryWorkDeed, memoryRegisterDeed, memoryImmediateDeed, memoryAloneDeed, movpStoreDeed, bitDeed, movOperandDeed, movSecondDeed, secondAt, movMemoryDeed}
-use Rattle.execute_operands.specs.Marks.{usedUp, pastInstruction, armedByXfer}
+use Rattle.execute_operands.specs.Marks.{usedUp, pastInstruction, markSet}
 use Rattle.execute_operands.specs.Operands.{afterPair, byteHere, further, sizeOf, effective, grown, displacementAt, landing, jumpedIf, isMove}
 use Rattle.execute_deeds.specs.RegisterForms.{registerWritten, registerImmediateDeed, registerDeed, registerMemoryDeed, lpdiDeed, lpdDeed, movpLoadDeed}
 use Rattle.execute.specs.Execute.{decodedAt, performed, deedOf, deedFrom, executeOf}
@@ -200,7 +200,7 @@ sintr-xf psw true = xf-other psw 4 true (eqb-false 6 4 refl)
 sintr-xf psw false = refl
 
 armed-xfer : (c : Channel) (armed : Bool) → After Xfer armed c ((xferDeed c armed) .channel)
-unfolding xferDeed armedByXfer renewed
+unfolding xferDeed markSet renewed
 armed-xfer c armed = record {
   halts = false;
   halts-is = λ h. apart (sym h);
@@ -347,7 +347,7 @@ module _ (c : Channel) (busy : ℕ) (m : Buffers) where
   -- XFER arms a channel that is not armed, and leaves XF
   pub xfer-arms : Arms m c → c .armed ≡ false → (executeOf c busy m) .number ≡ 0
       → ((executeOf c busy m) .channel .armed ≡ true) × ((executeOf c busy m) .channel .psw ≡ c .psw)
-  unfolding deedOf performed xferDeed armedByXfer pastInstruction renewed usedUp
+  unfolding deedOf performed xferDeed markSet pastInstruction renewed usedUp
   xfer-arms e h z = rw (done c busy m Xfer e z) (rw h (refl, refl))
 
   -- HLT leaves no mark and no XF, as halt does: idle, TB and XF 0, unarmed

@@ -87,6 +87,7 @@ stagesFrom d m c busy =
     ∷ stage (done .reads ++ placesOf (done .change)) 0
     ∷ []
 
+-- the stages of a channel's next instruction
 unfoldable pub instructionStages : Buffers → Channel → ℕ → List Stage
 instructionStages m c busy = stagesFrom (decodedAt m (c .tp)) m c busy
 

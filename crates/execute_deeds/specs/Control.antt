@@ -7,7 +7,7 @@ use Rattle.memory.specs.Values.{pointer}
 use Rattle.machine.specs.declared.Channel.{Channel}
 use Rattle.machine.specs.Psw.{interruptControl, withPsw}
 use Rattle.machine.specs.Updates.{renewed, halted}
-use Rattle.execute_operands.specs.Marks.{armedByXfer}
+use Rattle.execute_operands.specs.Marks.{markSet}
 use Rattle.execute_operands.specs.Changes.{nothing, byteTo}
 use Rattle.execute_deeds.specs.Deeds.{Deed, deed}
 
@@ -25,7 +25,7 @@ sintrDeed c = deed [] (withStatus c (pick (interruptControl (c .psw)) (withPsw (
 
 -- XFER sets the mark, by the rule of marks; `armed` is whether there was one
 unfoldable pub xferDeed : Channel → Bool → Deed
-xferDeed c armed = deed [] (armedByXfer c armed) nothing
+xferDeed c armed = deed [] (markSet c armed) nothing
 
 -- WID puts S into PSW bit 1 and D into bit 0 (§6.19)
 unfoldable pub widDeed : Channel → Bool → Bool → Deed

@@ -16,5 +16,5 @@ unfoldable pub pastInstruction : Channel → ℕ → Channel
 pastInstruction c n = renewed c (onward (c .tp) n) (c .ix) (usedUp (c .armed) (c .psw)) (c .mode) false
 
 -- what XFER then makes of it: it sets the mark, unless it was itself the instruction that used one up
-unfoldable pub armedByXfer : Channel → Bool → Channel
-armedByXfer c armed = renewed c (c .tp) (c .ix) (c .psw) (c .mode) (not armed)
+unfoldable pub markSet : Channel → Bool → Channel
+markSet c armed = renewed c (c .tp) (c .ix) (c .psw) (c .mode) (not armed)

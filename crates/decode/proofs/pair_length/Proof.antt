@@ -14,12 +14,14 @@ more-requires : tie.Need-more-requires
 more-requires c κs = search needs
 
 add-result : tie.Need-add-result
+unfolding pairLength
 add-result c = omega (arith, pair-small (c .before .before .split .result), c .more .ensures)
 
 more-requires-2 : tie.Need-more-requires-2
 more-requires-2 c κs = search needs
 
 add-result-2 : tie.Need-add-result-2
+unfolding pairLength
 add-result-2 c =
     let d = c .before .before in
     omega (arith, pair-small (d .before .before .split .result), c .more2 .ensures, d .more .ensures)
@@ -28,6 +30,7 @@ two-more-requires : tie.Need-two-more-requires
 two-more-requires c κs = search needs
 
 add-result-3 : tie.Need-add-result-3
+unfolding pairLength
 add-result-3 c =
     let d = c .before .before in
     let e = d .before .before in
@@ -37,6 +40,7 @@ two-more-requires-2 : tie.Need-two-more-requires-2
 two-more-requires-2 c κs = search needs
 
 add-result-4 : tie.Need-add-result-4
+unfolding pairLength
 add-result-4 c =
     let d = c .before .before .before in
     let e = d .before .before in

@@ -2,7 +2,7 @@
 -- Assumes nothing.
 use borrow.Author.Needs.{needs}
 use Rattle.machine.specs.Updates.{renewed}
-use Rattle.execute_operands.specs.Marks.{armedByXfer}
+use Rattle.execute_operands.specs.Marks.{markSet}
 use Rattle.execute_deeds.specs.Control.{nopDeed, xferDeed}
 use Rattle.execute_deeds.proofs.control.xfer.Statement.{statement}
 use Rattle.execute_deeds.proofs.control.xfer.Tie as tie
@@ -11,7 +11,7 @@ only-requires : tie.Need-only-requires
 only-requires c κs = search needs
 
 returns : tie.Need-returns
-unfolding xferDeed armedByXfer renewed nopDeed
+unfolding xferDeed markSet renewed nopDeed
 returns c = simp (c .only .ensures)
 
 pub xfer-spec : {M : Type 1} → statement M

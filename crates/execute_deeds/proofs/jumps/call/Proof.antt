@@ -2,7 +2,7 @@
 -- Assumes nothing.
 use borrow.Author.Needs.{needs}
 use Rattle.machine.specs.Updates.{renewed}
-use Rattle.execute_operands.specs.Operands.{effective, grown, landing, jumpedIf}
+use Rattle.execute_operands.specs.Operands.{effective, grown, jumpedIf}
 use Rattle.execute_deeds.specs.JumpForms.{callDeed}
 use Rattle.execute_deeds.proofs.jumps.call.Statement.{statement}
 use Rattle.execute_deeds.proofs.jumps.call.Tie as tie

@@ -4,7 +4,7 @@ use borrow.Author.Needs.{needs}
 use Rattle.memory.specs.Values.{onward}
 use Rattle.machine.specs.Updates.{renewed}
 use Rattle.execute_deeds.specs.Control.{nopDeed}
-use Rattle.execute_operands.specs.Operands.{landing, jumpedIf}
+use Rattle.execute_operands.specs.Operands.{jumpedIf}
 use Rattle.execute_deeds.specs.JumpForms.{jumpRegisterDeed}
 use Rattle.execute_deeds.proofs.jumps.jump_register.Statement.{statement}
 use Rattle.execute_deeds.proofs.jumps.jump_register.Tie as tie

@@ -1,0 +1,26 @@
+-- Two rules that deeds keep: arithmetic and logic leave the tag of a pointer, and a jump counts from the end of its instruction.
+-- Assumes nothing.
+use Prim.Native.Nat.{ℕ}
+use mathlib.Core.Bool.{Bool, false}
+use mathlib.Core.Path.{_≡_, refl}
+use Rattle.decode_shapes.specs.declared.Memory.{Memory}
+use Rattle.decode_shapes.specs.declared.Work.{Work}
+use Rattle.machine.specs.Registers.{byRRR, tagOf, withRegister}
+use Rattle.machine.specs.Updates.{renewed}
+use Rattle.machine.specs.declared.Channel.{Channel}
+use Rattle.memory.specs.Buffers.{Buffers}
+use Rattle.memory.specs.declared.Pointer.{Pointer}
+use Rattle.execute_operands.specs.Operands.{afterPair, grown, landing, jumpedIf, isMove}
+use Rattle.execute_deeds.specs.JumpForms.{callDeed}
+use Rattle.execute_deeds.specs.RegisterForms.{registerWritten}
+
+-- work that is no move leaves the tag of GA, GB, GC and TP (§6.10)
+pub tags-kept : (work : Work) (c : Channel) (v : ℕ) → isMove work ≡ false
+    → (registerWritten work c 0 v .ga .tag ≡ c .ga .tag) × (registerWritten work c 1 v .gb .tag ≡ c .gb .tag) × (registerWritten work c 2 v .gc .tag ≡ c .gc .tag) × (registerWritten work c 4 v .tp .tag ≡ c .tp .tag)
+unfolding registerWritten withRegister tagOf byRRR
+tags-kept work c v e = rw e (refl, refl, refl, refl)
+
+-- CALL leads from TP as it finds it, past itself, whatever its own place is (§6.11)
+pub call-from-end : (m : Buffers) (c : Channel) (tp : Pointer) (o : Memory) (two : Bool) → (callDeed m c tp o two) .channel .tp ≡ landing m (c .tp) (afterPair tp o) two
+unfolding callDeed jumpedIf grown renewed
+call-from-end m c tp o two = refl
