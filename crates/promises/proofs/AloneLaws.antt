@@ -14,7 +14,7 @@ use Rattle.machine.proofs.ConditionLaws.{running-is, says-running}
 use Rattle.machine.specs.Cc.{synchronised, chained, externalEnd}
 use Rattle.machine.specs.Outcomes.{first, unless, givenNumber}
 use Rattle.machine.specs.Psw.{transferring}
-use Rattle.machine.specs.States.{channelOf, channelNumber, isRunning, sound}
+use Rattle.machine.specs.States.{channelOf, channelNumber, isRunning, sound, blockOf, busyIn}
 use Rattle.machine.specs.declared.Channel.{Channel}
 use Rattle.machine.specs.declared.Mode.the-variants.{Running}
 use Rattle.machine.specs.declared.State.{State}
@@ -22,7 +22,7 @@ use Rattle.memory.specs.Buffers.{Buffers, spaceOf, limitOf, withinLimits}
 use Rattle.step.proofs.OutcomeLaws.{other-kept, cp-kept}
 use Rattle.step.proofs.SoundLaws.{sound-kept, entry-sound}
 use Rattle.step.proofs.TouchedLaws.{lengths-kept}
-use Rattle.step.specs.Step.{refusedStep, doneStep, settledStep, busyTo, instructionStep, chosenStep, entryNumber, stepOf}
+use Rattle.step.specs.Step.{refusedStep, doneStep, settledStep, instructionStep, chosenStep, entryNumber, stepOf}
 use Rattle.step.specs.declared.Kind.the-variants.{Instruction}
 use Rattle.step.proofs.ChoosingLaws.{by-rank, rank-none, lower-rank-wins, nobody-runs}
 use Rattle.step.specs.Choosing.{requested, noRank, rankOf}
@@ -119,7 +119,7 @@ entered s m lines h w q = rw (lt-ltb lines 16 h, w, q)
 
 -- a turn without XF is the instruction, which is done
 pub instruction-done : (b : Bool) (s : State) (m : Buffers) (lines : ℕ) {c : Channel} {m′ : Buffers} → Turn b s m lines → transferring (channelOf s b .psw) ≡ false
-    → executeOf (channelOf s b) (busyTo s b) m ≡ executed 0 c m′ → stepOf s m lines ≡ doneStep s b c m′ Instruction
+    → executeOf (channelOf s b) (busyIn (blockOf s b)) m ≡ executed 0 c m′ → stepOf s m lines ≡ doneStep s b c m′ Instruction
 unfolding instructionStep settledStep
 instruction-done b s m lines t x e =
     turn-executes b s m lines t x ∙ ap (λ (y : Executed). settledStep (y .number) s m b (y .channel) (y .memory) Instruction) e

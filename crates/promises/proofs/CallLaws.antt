@@ -12,12 +12,12 @@ use Rattle.machine.proofs.ChannelLaws.{put-same, put-other, last-channel}
 use Rattle.machine.specs.Cc.{externalEnd}
 use Rattle.machine.specs.Outcomes.{outcome, unless, first, settled}
 use Rattle.machine.specs.Psw.{transferring, priority}
-use Rattle.machine.specs.States.{channelOf, withChannel, isChannel, isSecond, channelNumber}
+use Rattle.machine.specs.States.{channelOf, withChannel, blockOf, busyIn, isChannel, isSecond, channelNumber}
 use Rattle.machine.specs.declared.Channel.{Channel}
 use Rattle.machine.specs.declared.State.{State}
 use Rattle.memory.specs.Buffers.{Buffers}
 use Rattle.step.specs.Choosing.{requested, external, endsNow, noRank, rankOf, secondWins, ranked, choiceOf}
-use Rattle.step.specs.Step.{busyTo, refusedStep, doneStep, settledStep, transferStep, instructionStep, externalStep, channelStep, chosenStep, entryNumber, stepOf}
+use Rattle.step.specs.Step.{refusedStep, doneStep, settledStep, transferStep, instructionStep, externalStep, channelStep, chosenStep, entryNumber, stepOf}
 use Rattle.step.specs.declared.turns.Choice.{Choice}
 use Rattle.step.specs.declared.turns.Choice.the-variants.{Nobody, Ends, Steps}
 use Rattle.step.specs.declared.Kind.{Kind}
@@ -83,7 +83,7 @@ step-other d s m = go (transferring (channelOf s d .psw))
   where
     go : (z : Bool) → channelOf ((pick z (transferStep s m d) (instructionStep s m d)) .state) (not d) ≡ channelOf s (not d)
     go true = let t = transferOf (channelOf s d) m in settled-other d (t .number) s m (t .channel) (t .memory) Transfer
-    go false = let e = executeOf (channelOf s d) (busyTo s d) m in settled-other d (e .number) s m (e .channel) (e .memory) Instruction
+    go false = let e = executeOf (channelOf s d) (busyIn (blockOf s d)) m in settled-other d (e .number) s m (e .channel) (e .memory) Instruction
 
 -- and an external end
 end-other : (d : Bool) (s : State) (m : Buffers) → channelOf ((externalStep s m d) .state) (not d) ≡ channelOf s (not d)

@@ -19,7 +19,7 @@ use Rattle.execute.specs.Execute.{decodedAt, performed, deedOf, laterBytes, Exe
 use Rattle.machine.proofs.ChannelLaws.{put-same, last-channel}
 use Rattle.machine.specs.Psw.{transferring}
 use Rattle.machine.specs.Registers.{registerOf}
-use Rattle.machine.specs.States.{channelOf, withChannel}
+use Rattle.machine.specs.States.{channelOf, withChannel, blockOf, busyIn}
 use Rattle.machine.specs.declared.Channel.{Channel}
 use Rattle.machine.specs.declared.State.{State}
 use Rattle.memory.proofs.PlaceLaws.{index-reduced, index-after, lent-index, byte-reduced, word-reduced}
@@ -31,7 +31,7 @@ use Rattle.execute_operands.specs.Changes.{placesOf, changed}
 use Rattle.execute_operands.specs.Marks.{pastInstruction}
 use Rattle.execute_operands.specs.Operands.{bytesAt, sizeOf, operandAt, workOf}
 use Rattle.memory.specs.Values.{onward}
-use Rattle.step.specs.Step.{Step, doneStep, settledStep, busyTo, instructionStep, channelStep, chosenStep, entryNumber, stepOf}
+use Rattle.step.specs.Step.{Step, doneStep, settledStep, instructionStep, channelStep, chosenStep, entryNumber, stepOf}
 use Rattle.step.specs.declared.Kind.the-variants.{Instruction as AnInstruction}
 use Rattle.words.specs.Bytes.{wordOf}
 use Rattle.words.specs.Choice.{pick}
@@ -141,4 +141,4 @@ module _ (b : Bool) (s : State) (m : Buffers) (lines : ℕ) {code : List ℕ} (w
       step =
           turn-executes b s m lines (x .turn) (x .program)
           ∙ ap (λ (y : Executed). settledStep (y .number) s m b (y .channel) (y .memory) AnInstruction)
-          (immediate-executed work r wide m (channelOf s b) code (x .there) h e (busyTo s b))
+          (immediate-executed work r wide m (channelOf s b) code (x .there) h e (busyIn (blockOf s b)))

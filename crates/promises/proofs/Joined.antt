@@ -9,14 +9,14 @@ use mathlib.Core.List.{[], _∷_}
 use mathlib.Core.Path.{_≡_, refl, sym, ap, ap₂, subst, _∙_}
 use native.Mathlib.Omega.{arith}
 use Rattle.machine.proofs.ChannelLaws.{put-same, last-channel}
-use Rattle.machine.specs.States.{channelOf, withChannel, withLast, isRunning, blockOf, channelNumber}
+use Rattle.machine.specs.States.{channelOf, withChannel, withLast, isRunning, blockOf, channelNumber, busyIn}
 use Rattle.machine.specs.declared.Channel.{Channel}
 use Rattle.machine.specs.declared.State.{State}
 use Rattle.memory.proofs.StoreLaws.{store-length, read-same, read-other}
 use Rattle.memory.specs.Buffers.{Buffers, spaceOf, indexOf, lentAt, byteAt, storeByte}
 use Rattle.memory.specs.Places.{Apart}
 use Rattle.panel.specs.Run.{ran, runOf}
-use Rattle.step.specs.Step.{Step, doneStep, refusedStep, busyTo, stepOf}
+use Rattle.step.specs.Step.{Step, doneStep, refusedStep, stepOf}
 use Rattle.step.specs.declared.Kind.the-variants.{Instruction}
 use Rattle.words.specs.Choice.{pick}
 use Rattle.words.specs.Sums.{sum20}
@@ -41,8 +41,8 @@ done-then {lines} {s₀} {m₀} {j} r (more {k = k} {s = s} {m = m} x z) =
     subst (λ (n : ℕ). DoneSteps lines s₀ m₀ n (stepOf s m lines .state) (stepOf s m lines .memory)) e (more (done-then r x) z)
 
 -- BUSY depends on CP alone
-pub busy-same : (s s′ : State) (b : Bool) → s′ .cp ≡ s .cp → busyTo s′ b ≡ busyTo s b
-unfolding busyTo blockOf
+pub busy-same : (s s′ : State) (b : Bool) → s′ .cp ≡ s .cp → busyIn (blockOf s′ b) ≡ busyIn (blockOf s b)
+unfolding busyIn blockOf
 busy-same s s′ b e = ap (λ (cp : ℕ). sum20 (pick b (sum20 cp 8) cp) 1) e
 
 -- where lengths are the same, the same is lent
@@ -70,14 +70,14 @@ module _ {m : Buffers} {cp : ℕ} {b : Bool} {lines limit n k : ℕ} {s₁ : Sta
   ended = demand3-calls (h .copy) .then (t .calls)
 
   -- BUSY is where it was, and lent
-  busy-is : busyTo s₂ b ≡ busyTo s₁ b
+  busy-is : busyIn (blockOf s₂ b) ≡ busyIn (blockOf s₁ b)
   busy-is = busy-same s₁ s₂ b (t .control)
 
   lent : (u : Bool) (a : ℕ) → lentAt m₂ u a ≡ lentAt m₁ u a
   lent = same-lent m₁ m₂ (t .spares .lengths)
 
-  busy-lent : lentAt m₂ false (busyTo s₁ b) ≡ true
-  busy-lent = lent false (busyTo s₁ b) ∙ h .busy
+  busy-lent : lentAt m₂ false (busyIn (blockOf s₁ b)) ≡ true
+  busy-lent = lent false (busyIn (blockOf s₁ b)) ∙ h .busy
 
   -- HLT stands at TP
   stands : Stand m₂ (channelOf s₂ b .tp) (0x20 ∷ 0x48 ∷ [])
@@ -85,14 +85,14 @@ module _ {m : Buffers} {cp : ℕ} {b : Bool} {lines limit n k : ℕ} {s₁ : Sta
       rw (ended .pointer)
       (stand-kept (h .halt) m₂ lent (λ i l. t .spares .others (endOf c₁ .tag) (endOf c₁ .address + i) (h .haltKept i l)))
 
-  stopped : Stopped m₂ (channelOf s₂ b) (busyTo s₂ b)
-  stopped = hlt-stops m₂ (channelOf s₂ b) (busyTo s₂ b) stands (ap (lentAt m₂ false) busy-is ∙ busy-lent)
+  stopped : Stopped m₂ (channelOf s₂ b) (busyIn (blockOf s₂ b))
+  stopped = hlt-stops m₂ (channelOf s₂ b) (busyIn (blockOf s₂ b)) stands (ap (lentAt m₂ false) busy-is ∙ busy-lent)
 
   abbrev s₃ : State
   s₃ = withLast (withChannel s₂ b (stopped .channel)) b
 
   abbrev m₃ : Buffers
-  m₃ = storeByte m₂ false (busyTo s₂ b) 0
+  m₃ = storeByte m₂ false (busyIn (blockOf s₂ b)) 0
 
   -- its step is done
   halts : stepOf s₂ m₂ lines ≡ doneStep s₂ b (stopped .channel) m₃ Instruction
@@ -137,10 +137,10 @@ module _ {m : Buffers} {cp : ℕ} {b : Bool} {lines limit n k : ℕ} {s₁ : Sta
         number = refl;
         steps = refl;
         copied = λ i l o. other (into c₁ .tag) (into c₁ .address + i) o ∙ ended .copied i l;
-        busy = ap (λ (a : ℕ). byteAt (storeByte m₂ false a 0) false (busyTo s₁ b)) busy-is ∙ read-same m₂ false (busyTo s₁ b) 0 busy-lent;
+        busy = ap (λ (a : ℕ). byteAt (storeByte m₂ false a 0) false (busyIn (blockOf s₁ b))) busy-is ∙ read-same m₂ false (busyIn (blockOf s₁ b)) 0 busy-lent;
         others = λ u a o o′. other u a o′ ∙ t .spares .others u a o;
-        lengths = λ u. store-length m₂ false u (busyTo s₂ b) 0 ∙ t .spares .lengths u;
+        lengths = λ u. store-length m₂ false u (busyIn (blockOf s₂ b)) 0 ∙ t .spares .lengths u;
       })
     where
-      other : (u : Bool) (a : ℕ) → Apart false (busyTo s₁ b) u a → byteAt (storeByte m₂ false (busyTo s₂ b) 0) u a ≡ byteAt m₂ u a
-      other u a o = ap (λ (x : ℕ). byteAt (storeByte m₂ false x 0) u a) busy-is ∙ read-other m₂ false (busyTo s₁ b) 0 u a o
+      other : (u : Bool) (a : ℕ) → Apart false (busyIn (blockOf s₁ b)) u a → byteAt (storeByte m₂ false (busyIn (blockOf s₂ b)) 0) u a ≡ byteAt m₂ u a
+      other u a o = ap (λ (x : ℕ). byteAt (storeByte m₂ false x 0) u a) busy-is ∙ read-other m₂ false (busyIn (blockOf s₁ b)) 0 u a o

@@ -31,7 +31,7 @@ use Rattle.execute.specs.Execute.{Executed, decodedAt, performed, deedOf, deedF
 use Rattle.execute.specs.Kept.{IsPointer}
 use Rattle.machine.proofs.ChannelLaws.{put-same, last-channel, sound-channel-of}
 use Rattle.machine.specs.Registers.{byRRR, registerOf, tagOf, withRegister}
-use Rattle.machine.specs.States.{channelOf, withChannel, soundChannel}
+use Rattle.machine.specs.States.{channelOf, withChannel, soundChannel, blockOf, busyIn}
 use Rattle.machine.specs.declared.Channel.{Channel}
 use Rattle.machine.specs.declared.State.{State}
 use Rattle.memory.proofs.SpanLaws.{span-at, span-first}
@@ -47,7 +47,7 @@ use Rattle.execute_operands.specs.Operands.{byteHere, bytesAt, grown}
 use Rattle.machine.specs.Updates.{renewed}
 use Rattle.memory.specs.Values.{onward}
 use Rattle.step.proofs.SoundLaws.{entry-sound}
-use Rattle.step.specs.Step.{Step, doneStep, settledStep, busyTo, instructionStep, channelStep, chosenStep, entryNumber, stepOf}
+use Rattle.step.specs.Step.{Step, doneStep, settledStep, instructionStep, channelStep, chosenStep, entryNumber, stepOf}
 use Rattle.step.specs.declared.Kind.{Kind}
 use Rattle.words.proofs.ChoiceLaws.{apart, both-left, both-right, or-false}
 use Rattle.words.specs.Choice.{pick}
@@ -66,7 +66,7 @@ entered s m lines z = go (ℕ-discrete (entryNumber s m lines) 0) z
 
 -- BUSY of a call's channel, what its instruction comes to, and what an instruction of a shape does
 abbrev busyOn : StepCall → ℕ
-busyOn k = busyTo (k .state) (k .second)
+busyOn k = busyIn (blockOf (k .state) (k .second))
 
 abbrev executedOn : StepCall → Executed
 executedOn k = executeOf (channelOn k) (busyOn k) (k .memory)

@@ -9,7 +9,7 @@ use native.Mathlib.Omega.{arith}
 use Rattle.machine.proofs.ChannelLaws.{put-same, last-channel}
 use Rattle.machine.specs.Cc.{destinationMoves, sourceMoves, sourceIsGB, translates, synchronised, singleTransfer, externalEnd, countEnd, matchEnd}
 use Rattle.machine.specs.Psw.{transferring, sourceWide, destinationWide}
-use Rattle.machine.specs.States.{channelOf, withChannel, soundChannel, isRunning}
+use Rattle.machine.specs.States.{channelOf, withChannel, soundChannel, isRunning, blockOf, busyIn}
 use Rattle.machine.specs.declared.Channel.{Channel}
 use Rattle.machine.specs.declared.Mode.the-variants.{Running}
 use Rattle.machine.specs.declared.State.{State}
@@ -17,7 +17,7 @@ use Rattle.memory.specs.Buffers.{Buffers}
 use Rattle.memory.specs.Values.{pointer}
 use Rattle.memory.specs.declared.Pointer.{Pointer}
 use Rattle.step.proofs.OutcomeLaws.{cp-kept}
-use Rattle.step.specs.Step.{Step, doneStep, busyTo, stepOf}
+use Rattle.step.specs.Step.{Step, doneStep, stepOf}
 use Rattle.step.specs.declared.Kind.the-variants.{Instruction}
 use Rattle.transfer.specs.Sides.{side, source, destination}
 use Rattle.words.specs.Bits.{fieldOf, bitOf}
@@ -51,7 +51,7 @@ pub record Come (lines : ℕ) (b : Bool) (s₀ : State) (m : Buffers) (k : ℕ) 
 module _ {lines : ℕ} {b : Bool} {s₀ : State} {m : Buffers} where
   -- one instruction more
   come-next : {k : ℕ} {v v′ : View} → isRunning (v .mode) ≡ true → transferring (v .psw) ≡ false → Come lines b s₀ m k v
-      → ((c : Channel) → viewOf c ≡ v → After m c (busyTo s₀ b) v′ m) → Come lines b s₀ m (suc k) v′
+      → ((c : Channel) → viewOf c ≡ v → After m c (busyIn (blockOf s₀ b)) v′ m) → Come lines b s₀ m (suc k) v′
   come-next {k} {v} {v′} runs executes q next =
       record {
         state = stepOf s m lines .state;
@@ -64,7 +64,7 @@ module _ {lines : ℕ} {b : Bool} {s₀ : State} {m : Buffers} where
       s : State
       s = q .state
 
-      a : After m (channelOf s b) (busyTo s b) v′ m
+      a : After m (channelOf s b) (busyIn (blockOf s b)) v′ m
       a = subst (λ (busy : ℕ). After m (channelOf s b) busy v′ m) (sym (busy-same s₀ s b (q .control))) (next (channelOf s b) (q .seen))
 
       off : transferring (channelOf s b .psw) ≡ false
@@ -115,7 +115,7 @@ module _ {lines : ℕ} {b : Bool} {s₀ : State} {m : Buffers} (j : Job) (tp : P
   pub six : Come lines b s₀ m 0 (view (pointer 0 false) (pointer 0 false) tp 0 0 4 Running false) → Come lines b s₀ m 6 (begins j (onBy tp haltAt))
   unfolding programOf isRunning bitOf
   six q₀ =
-      let busy = busyTo s₀ b in
+      let busy = busyIn (blockOf s₀ b) in
       let t₁ = stand-on there 6 in
       let t₂ = stand-on t₁ 6 in
       let t₃ = stand-on t₂ 4 in

@@ -14,7 +14,7 @@ use Rattle.machine.proofs.ConditionLaws.{Told, told-limits}
 use Rattle.machine.specs.Cc.{countEnd}
 use Rattle.machine.specs.Conditions.{Given}
 use Rattle.machine.specs.Outcomes.{Outcome, outcome}
-use Rattle.machine.specs.States.{freshState, channelOf, withChannel, withLast, sound, isRunning, channelNumber}
+use Rattle.machine.specs.States.{freshState, channelOf, withChannel, withLast, sound, isRunning, channelNumber, blockOf, busyIn}
 use Rattle.machine.specs.declared.Channel.{Channel}
 use Rattle.machine.specs.declared.State.{State}
 use Rattle.memory.proofs.PlaceLaws.{index-reduced, lent-index, byte-index}
@@ -24,7 +24,6 @@ use Rattle.memory.specs.Places.{Apart}
 use Rattle.memory.specs.Values.{pointer}
 use Rattle.memory.specs.declared.Pointer.{Pointer}
 use Rattle.step.proofs.SoundLaws.{done-sound, entry-sound}
-use Rattle.step.specs.Step.{busyTo}
 use Rattle.transfer.specs.Ends.{offsetOf}
 use Rattle.transfer.specs.Sides.{source, destination, wordSide}
 use Rattle.words.specs.Bits.{fieldOf, bitOf}
@@ -164,15 +163,15 @@ module _ {j : Job} {l : Layout} {m : Buffers} {lines limit : ℕ} (r : Ready j l
       (λ k h′ e x. r .haltKept i h k h′ e (x ∙ on-index (programPlace l) haltAt i)))
 
   -- BUSY
-  busy-is : busyTo s₁ b ≡ busyAt l % 1048576
-  unfolding busyTo
+  busy-is : busyIn (blockOf s₁ b) ≡ busyAt l % 1048576
+  unfolding busyIn
   busy-is = busy-same (freshState (l .cp)) s₁ b (come .control ∙ put-cp (freshState (l .cp)) b (start .channel))
 
-  busy-index : indexOf false (busyTo s₁ b) ≡ indexOf false (busyAt l)
+  busy-index : indexOf false (busyIn (blockOf s₁ b)) ≡ indexOf false (busyAt l)
   busy-index = ap (indexOf false) busy-is ∙ index-reduced false (busyAt l)
 
-  busy-lent : lentAt m₀ false (busyTo s₁ b) ≡ true
-  busy-lent = lent-index m₀ false (busyTo s₁ b) (busyAt l) busy-index ∙ kept false (busyAt l) ∙ r .busy
+  busy-lent : lentAt m₀ false (busyIn (blockOf s₁ b)) ≡ true
+  busy-lent = lent-index m₀ false (busyIn (blockOf s₁ b)) (busyAt l) busy-index ∙ kept false (busyAt l) ∙ r .busy
 
   -- ---- the run
 
@@ -208,17 +207,17 @@ module _ {j : Job} {l : Layout} {m : Buffers} {lines limit : ℕ} (r : Ready j l
   run = run-halts comes
 
   -- BUSY is the same byte, however its address is written
-  busy-apart : (u : Bool) (a : ℕ) → Apart false (busyAt l) u a → Apart false (busyTo s₁ b) u a
+  busy-apart : (u : Bool) (a : ℕ) → Apart false (busyAt l) u a → Apart false (busyIn (blockOf s₁ b)) u a
   busy-apart u a h e x = h e (sym busy-index ∙ x)
 
   moved : BlockMoved j l m (runIn l m lines limit .memory)
-  moved = record { copied = copied; busy = byte-index _ false (busyAt l) (busyTo s₁ b) (sym busy-index) ∙ run .busy; others = others; lengths = λ u. run .lengths u ∙ store-length m false u (busyAt l) 255 }
+  moved = record { copied = copied; busy = byte-index _ false (busyAt l) (busyIn (blockOf s₁ b)) (sym busy-index) ∙ run .busy; others = others; lengths = λ u. run .lengths u ∙ store-length m false u (busyAt l) 255 }
     where
       copied : (i : ℕ) → i < n → byteAt (runIn l m lines limit .memory) false (intoPlace j .address + i) ≡ byteAt m false (fromPlace j .address + i)
       copied i h =
           subst (λ (p : Pointer). byteAt (runIn l m lines limit .memory) false (intoPlace j .address + i) ≡ byteAt m₀ (p .tag) (p .address + i)) source-at
           (subst
-          (λ (q : Pointer). Apart false (busyTo s₁ b) (q .tag) (q .address + i)
+          (λ (q : Pointer). Apart false (busyIn (blockOf s₁ b)) (q .tag) (q .address + i)
           → byteAt (runIn l m lines limit .memory) (q .tag) (q .address + i) ≡ byteAt m₀ (from c₁ .tag) (from c₁ .address + i))
           destination-at (run .copied i h)
           (busy-apart false (intoPlace j .address + i) (apart-back false (intoPlace j .address + i) false (busyAt l) (r .busyInto i h))))

@@ -12,9 +12,9 @@ use Rattle.machine.specs.Psw.{destinationWide, sourceWide, withPsw}
 use Rattle.machine.specs.States.{soundChannel}
 use Rattle.machine.specs.declared.Channel.{Channel}
 use Rattle.memory.specs.Buffers.{Buffers}
-use Rattle.memory.specs.Values.{pointer}
+use Rattle.memory.specs.Values.{pointer, onward}
 use Rattle.memory.specs.declared.Pointer.{Pointer}
-use Rattle.transfer.proofs.BlockLaws.{Block, stride, remaining, onward, word-narrow, one-moves, last-moves, two-moves, block-going, block-last}
+use Rattle.transfer.proofs.BlockLaws.{Block, stride, remaining, carried, word-narrow, one-moves, last-moves, two-moves, block-going, block-last}
 use Rattle.words.proofs.ChoiceLaws.{pick-under, apart, both-left, both-right}
 use Rattle.transfer.specs.Ends.{offsetOf, endedTP, endedPSW, endedBy}
 use Rattle.machine.specs.Updates.{withTransfer}
@@ -40,7 +40,7 @@ on-none p h = ap (λ (a : ℕ). pointer a (p .tag)) (omega arith)
 
 -- and by some more
 on-on : (p : Pointer) (j s : ℕ) → gained true (onBy p j) s ≡ onBy p (j + s)
-unfolding gained
+unfolding gained onward
 on-on p j s = ap (λ (a : ℕ). pointer a (p .tag)) (omega arith)
 
 -- a sound channel's GA is of 20 bits
@@ -175,9 +175,9 @@ words-two c n j h l most ne = two-moves (midway c n j) h (λ e. let x : (n - j) 
 -- ---- the next stage
 
 -- both pointers and BC after the next step
-onward-mid : (c : Channel) (n j s : ℕ) → stride (midway c n j) ≡ s → s ≤ 2 → j + s ≤ n → n ≤ 65536 → onward (midway c n j) ≡ midway c n (j + s)
-unfolding onward midway withTransfer
-onward-mid c n j s e two fits most =
+carried-mid : (c : Channel) (n j s : ℕ) → stride (midway c n j) ≡ s → s ≤ 2 → j + s ≤ n → n ≤ 65536 → carried (midway c n j) ≡ midway c n (j + s)
+unfolding carried midway withTransfer
+carried-mid c n j s e two fits most =
     λ i. withTransfer c (ga i) (gb i) (c .tp) (bc i) (c .psw)
   where
     ga : gained true (onBy (c .ga) j) (stride (midway c n j)) ≡ onBy (c .ga) (j + s)
@@ -195,7 +195,7 @@ left-mid c n j s e two fits most = rw (e, mid-count c n j) (omega arith)
 
 -- the end
 ends-mid : (c : Channel) (n : ℕ) → (countEnd (c .cc) ≡ 0 → ⊥) → endedBy (midway c n n) (countEnd (c .cc)) ≡ finished c n
-unfolding endedBy endedTP endedPSW midway finished withTransfer gained
+unfolding endedBy endedTP endedPSW midway finished withTransfer gained onward
 ends-mid c n ne = λ i. withTransfer c (onBy (c .ga) n) (onBy (c .gb) n) (tp i) (bc i) (psw i)
   where
     tp : gained (not (eqb (countEnd (c .cc)) 0)) (c .tp) (offsetOf (countEnd (c .cc))) ≡ onBy (c .tp) (offsetOf (countEnd (c .cc)))
@@ -216,8 +216,8 @@ stage-next c n j s m k e one two fits most = go (decLt (j + s) n)
     left : remaining (midway c n j) ≡ (n - (j + s)) % 65536
     left = left-mid c n j s e two fits most
 
-    next : onward (midway c n j) ≡ midway c n (j + s)
-    next = onward-mid c n j s e two fits most
+    next : carried (midway c n j) ≡ midway c n (j + s)
+    next = carried-mid c n j s e two fits most
 
     go : Dec (j + s < n) → movedChannel (midway c n j) (dataOf (midway c n j) m) ≡ pick (ltb (j + s) n) (midway c n (j + s)) (finished c n)
     go (yes h) = rw (lt-ltb (j + s) n h) (block-going (midway c n j) (dataOf (midway c n j) m) (mid-block c n j k) (λ z. let x : (n - (j + s)) % 65536 ≡ 0 = sym left ∙ z in omega arith) ∙ next)

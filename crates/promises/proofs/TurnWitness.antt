@@ -17,7 +17,6 @@ use Rattle.decode.specs.Table.{table}
 use Rattle.execute_deeds.specs.Control.{nopDeed}
 use Rattle.execute.specs.Execute.{decodedAt, performed, deedOf, laterBytes, laterFrom, deedFrom, stagesFrom, instructionStages, executeNumber, executeOf}
 use Rattle.machine.specs.Outcomes.{outcome, unless, first, settled, givenNumber}
-use Rattle.machine.specs.Stages.{stagesNumber}
 use Rattle.machine.specs.Psw.{withPsw}
 use Rattle.machine.specs.Stages.{stagesNumber}
 use Rattle.machine.specs.States.{freshState, idleChannel, channelOf, withChannel, withLast, soundChannel, sound, isRunning, blockOf, busyIn, channelNumber, isChannel, isSecond}
@@ -33,7 +32,7 @@ use Rattle.machine.specs.Updates.{renewed}
 use Rattle.memory.specs.Values.{onward}
 use Rattle.step.specs.Choosing.{requested, external, endsNow, transferRank, rankOf, secondWins, ranked, choiceOf}
 use Rattle.step.specs.Ranks.{RankThree}
-use Rattle.step.specs.Step.{settledStep, busyTo, instructionStep, channelStep, chosenStep, entryNumber, stepOf}
+use Rattle.step.specs.Step.{settledStep, instructionStep, channelStep, chosenStep, entryNumber, stepOf}
 use Rattle.words.specs.Bits.{fieldOf, bitOf, withBit}
 use Rattle.promises.specs.Cases.{Programs, Turns, none, turn, startedBoth}
 
@@ -69,7 +68,7 @@ both-programs tp₁ tp₂ last = record { unchained = unchained; equal = refl }
 
 -- four steps of them, each a NOP
 pub started-turns : Turns (startedBoth .state) (startedBoth .memory) (1 ∷ 2 ∷ 1 ∷ 2 ∷ [])
-unfolding both program busy withControl stepOf entryNumber givenNumber first unless withinLimits limitOf spaceOf indexOf lentAt byteAt allLent span sound soundChannel idleChannel channelOf withChannel withLast isRunning blockOf channelNumber requested external endsNow transferRank rankOf secondWins ranked choiceOf settledStep busyTo instructionStep channelStep chosenStep fieldOf bitOf decodedAt performed deedOf laterBytes laterFrom deedFrom stagesFrom instructionStages stagesNumber executeNumber executeOf onward renewed usedUp pastInstruction nopDeed placesOf changed pairOf lookup decodeOf table lengthOf dataLength displacementLength
+unfolding both program busy withControl stepOf entryNumber givenNumber first unless withinLimits limitOf spaceOf indexOf lentAt byteAt allLent span sound soundChannel idleChannel channelOf withChannel withLast isRunning blockOf channelNumber requested external endsNow transferRank rankOf secondWins ranked choiceOf settledStep busyIn instructionStep channelStep chosenStep fieldOf bitOf decodedAt performed deedOf laterBytes laterFrom deedFrom stagesFrom instructionStages stagesNumber executeNumber executeOf onward renewed usedUp pastInstruction nopDeed placesOf changed pairOf lookup decodeOf table lengthOf dataLength displacementLength
 started-turns =
     rw both-started
     (turn (both-programs 0x18 0x1C true) 0 refl

@@ -6,17 +6,19 @@ use mathlib.Core.Bool.{true, false}
 use mathlib.Core.Path.{_≡_, refl, subst}
 use native.Mathlib.Omega.{arith}
 use Rattle.machine.specs.Outcomes.{unless, first}
+use Rattle.machine.specs.Stages.{stagesNumber}
 use Rattle.machine.specs.Psw.{withPsw}
 use Rattle.machine.specs.States.{soundChannel, isRunning}
 use Rattle.machine.specs.declared.Channel.{Channel}
 use Rattle.memory.proofs.SpanLaws.{span-at}
 use Rattle.memory.specs.Buffers.{Buffers, spaceOf, limitOf, indexOf, lentAt, byteAt, storeByte}
 use Rattle.memory.specs.Places.{span, allLent}
+use Rattle.memory.specs.Values.{onward}
 use Rattle.transfer.specs.Ends.{meetsTmc, codeIf, larger, offsetOf, endedTP, endedPSW, endedBy}
 use Rattle.machine.specs.Updates.{withTransfer}
 use Rattle.transfer.specs.Reads.{fetched, fetchedSecond, entryOf, delivered, dataOf, also, readPlaces}
 use Rattle.transfer.specs.Sides.{source, destination, wordSide, secondAddress, gained, twoMove, storedSingly}
-use Rattle.transfer.specs.Steps.{Transfer, touchedByTransfer, transferred, badMode, transferNumber, transferOf}
+use Rattle.transfer.specs.Steps.{Transfer, touchedByTransfer, transferred, badMode, transferStages, transferNumber, transferOf}
 use Rattle.transfer.specs.Stores.{movedChannel, movedMemory, firstMeets, matchMet, cutShort, storesTwo, bytesStored, bytesMoved, bytesCounted, countAfter, endCode, movedBy, putOn, placesOn, storedPlaces}
 use Rattle.words.proofs.ChoiceLaws.{apart}
 use Rattle.words.specs.Bits.{fieldOf, bitOf, withBit}
@@ -93,7 +95,7 @@ wide-met =
 
 -- a transfer step with all that it is made of laid open, so that it computes
 unfoldable pub transferOpen : Channel → Buffers → Transfer
-unfolding channelWith memoryWith transferOf transferNumber first unless badMode source destination touchedByTransfer readPlaces also entryOf storedPlaces placesOn allLent lentAt spaceOf indexOf limitOf dataOf delivered fetched fetchedSecond twoMove wordSide secondAddress bitOf fieldOf storesTwo cutShort storedSingly firstMeets meetsTmc matchMet movedMemory putOn storeByte byteAt movedChannel endedBy endedTP endedPSW movedBy withTransfer gained bytesMoved bytesStored bytesCounted countAfter endCode codeIf larger offsetOf withPsw withBit matchOf
+unfolding channelWith memoryWith transferOf transferNumber transferStages stagesNumber first unless badMode source destination touchedByTransfer readPlaces also entryOf storedPlaces placesOn allLent lentAt spaceOf indexOf limitOf dataOf delivered fetched fetchedSecond twoMove wordSide secondAddress bitOf fieldOf storesTwo cutShort storedSingly firstMeets meetsTmc matchMet movedMemory putOn storeByte byteAt movedChannel endedBy endedTP endedPSW movedBy withTransfer gained onward bytesMoved bytesStored bytesCounted countAfter endCode codeIf larger offsetOf withPsw withBit matchOf
 transferOpen c m = transferOf c m
 
 -- both widths 8: the total is five

@@ -11,7 +11,7 @@ use Rattle.machine.specs.declared.Channel.{Channel}
 use Rattle.machine.specs.declared.State.{State}
 use Rattle.machine.specs.Outcomes.{outcome}
 use Rattle.machine.specs.Psw.{transferring}
-use Rattle.machine.specs.States.{channelOf, withChannel, isSecond, channelNumber}
+use Rattle.machine.specs.States.{channelOf, withChannel, blockOf, busyIn, isSecond, channelNumber}
 use Rattle.attention.specs.Attention.{orderTo, orderedChannel, orderedMemory, attentionOf}
 use Rattle.attention.specs.Touched.{storedBy}
 use Rattle.transfer.specs.Ends.{externallyEnded}
@@ -20,7 +20,7 @@ use Rattle.execute.specs.Execute.{executeOf}
 use Rattle.step.specs.declared.turns.Choice.the-variants.{Ends, Steps}
 use Rattle.step.specs.declared.Kind.the-variants.{Instruction, Transfer, External}
 use Rattle.step.specs.Choosing.{choiceOf}
-use Rattle.step.specs.Step.{doneStep, busyTo, stepOf}
+use Rattle.step.specs.Step.{doneStep, stepOf}
 use Rattle.step.specs.Touched.{touchedByStep}
 use Rattle.promises.specs.Pointers.{PointersKept}
 
@@ -69,7 +69,7 @@ pub record StepDoes (s : State) (m : Buffers) (lines : ℕ) : Type 0 where
   -- without XF it is an instruction of the chosen channel
   pub executes : (second : Bool) → stepOf s m lines .number ≡ 0 → choiceOf s lines ≡ Steps second → transferring (channelOf s second .psw) ≡ false
       → stepOf s m lines
-      ≡ doneStep s second (executeOf (channelOf s second) (busyTo s second) m .channel) (executeOf (channelOf s second) (busyTo s second) m .memory) Instruction
+      ≡ doneStep s second (executeOf (channelOf s second) (busyIn (blockOf s second)) m .channel) (executeOf (channelOf s second) (busyIn (blockOf s second)) m .memory) Instruction
   -- "A step or attention of one channel changes no register of the other"
   pub other : (second : Bool) → stepOf s m lines .channel ≡ channelNumber second → channelOf (stepOf s m lines .state) (not second) ≡ channelOf s (not second)
   -- of what the channels share it changes "last" alone: "Only done steps set "last"", to the channel that stepped

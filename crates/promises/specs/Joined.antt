@@ -12,9 +12,9 @@ use Rattle.machine.specs.declared.Channel.{Channel}
 use Rattle.machine.specs.declared.State.{State}
 use Rattle.machine.specs.Cc.{countEnd}
 use Rattle.machine.specs.Conditions.{Given}
-use Rattle.machine.specs.States.{channelOf, isRunning, channelNumber}
+use Rattle.machine.specs.States.{channelOf, isRunning, channelNumber, blockOf, busyIn}
 use Rattle.transfer.specs.Ends.{offsetOf}
-use Rattle.step.specs.Step.{busyTo, entryNumber}
+use Rattle.step.specs.Step.{entryNumber}
 use Rattle.panel.specs.Run.{Run}
 use Rattle.promises.specs.Calls.{Calls}
 use Rattle.promises.specs.Cases.{Stand}
@@ -55,7 +55,7 @@ pub record Comes (m : Buffers) (cp : ℕ) (second : Bool) (lines limit n k : ℕ
   pub halt : Stand m₁ (endOf (channelOf s₁ second)) (0x20 ∷ 0x48 ∷ [])
   pub haltKept : (i : ℕ) → i < 2
       → Outside (into (channelOf s₁ second)) n (endOf (channelOf s₁ second) .tag) (endOf (channelOf s₁ second) .address + i)
-  pub busy : lentAt m₁ false (busyTo s₁ second) ≡ true
+  pub busy : lentAt m₁ false (busyIn (blockOf s₁ second)) ≡ true
   pub enough : k + total (channelOf s₁ second) n + 1 < limit
 
 -- the run: number 1, since no channel can run any more; k steps, the transfer's total, and HLT; each byte of the destination is the source's, but
@@ -64,10 +64,10 @@ pub record Halted (second : Bool) (n k : ℕ) (s₁ : State) (m₁ : Buffers) (r
   pub number : r .number ≡ 1
   pub steps : r .steps ≡ k + total (channelOf s₁ second) n + 1
   pub copied : (i : ℕ) → i < n
-      → Apart false (busyTo s₁ second) (into (channelOf s₁ second) .tag) (into (channelOf s₁ second) .address + i)
+      → Apart false (busyIn (blockOf s₁ second)) (into (channelOf s₁ second) .tag) (into (channelOf s₁ second) .address + i)
       → byteAt (r .memory) (into (channelOf s₁ second) .tag) (into (channelOf s₁ second) .address + i)
       ≡ byteAt m₁ (from (channelOf s₁ second) .tag) (from (channelOf s₁ second) .address + i)
-  pub busy : byteAt (r .memory) false (busyTo s₁ second) ≡ 0
-  pub others : (tag : Bool) (address : ℕ) → Outside (into (channelOf s₁ second)) n tag address → Apart false (busyTo s₁ second) tag address
+  pub busy : byteAt (r .memory) false (busyIn (blockOf s₁ second)) ≡ 0
+  pub others : (tag : Bool) (address : ℕ) → Outside (into (channelOf s₁ second)) n tag address → Apart false (busyIn (blockOf s₁ second)) tag address
       → byteAt (r .memory) tag address ≡ byteAt m₁ tag address
   pub lengths : (tag : Bool) → length (spaceOf (r .memory) tag) ≡ length (spaceOf m₁ tag)

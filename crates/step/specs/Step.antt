@@ -27,9 +27,12 @@ pub record Step : Type 0 where
   pub channel : ℕ
   pub kind : Kind
 
+abbrev pub stepped : ℕ → State → Buffers → ℕ → Kind → Step
+stepped number s m channel kind = record { number = number; state = s; memory = m; channel = channel; kind = kind }
+
 -- what a call answers, together with the memories that it leaves
 abbrev pub left : Stepped → Buffers → Step
-left a m = record { number = a .number; state = a .state; memory = m; channel = a .channel; kind = a .kind }
+left a m = stepped (a .number) (a .state) m (a .channel) (a .kind)
 
 -- a refused step answers the state as it was, of no channel and no kind (§3.3)
 abbrev pub refusedAs : ℕ → State → Stepped
