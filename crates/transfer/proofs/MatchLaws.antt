@@ -1,14 +1,14 @@
--- The laws of a masked compare that is off: no byte meets it.
+-- The laws of the masked compare: what is off is met by no byte, and of a word only the low byte counts.
 -- Assumes nothing.
 use Prim.Native.Nat.{ℕ, _%_}
 use borrow.Author.Tests.{eq-eqb}
-use mathlib.Core.Bool.{false}
+use mathlib.Core.Bool.{true, false}
 use mathlib.Core.Path.{_≡_}
 use Rattle.machine.specs.Cc.{matchEnd}
 use Rattle.machine.specs.declared.Channel.{Channel}
-use Rattle.words.proofs.ChoiceLaws.{and-true, and-false}
+use Rattle.words.proofs.ChoiceLaws.{and-true, and-false, or-false}
 use Rattle.transfer.specs.Ends.{meetsTmc}
-use Rattle.transfer.specs.Sides.{twoMove, storedSingly}
+use Rattle.transfer.specs.Sides.{destination, wordSide, twoMove, storedSingly}
 use Rattle.transfer.specs.Stores.{firstMeets, matchMet, cutShort, storesTwo}
 use Rattle.transfer.specs.declared.Data.{Data}
 
@@ -25,4 +25,9 @@ off-stores c d h = rw (off (matchEnd (c .cc)) (c .mc) (d .first) h, and-false) (
 -- and no end comes of it
 pub off-unmet : (c : Channel) (d : Data) → matchEnd (c .cc) % 4 ≡ 0 → matchMet c d ≡ false
 unfolding matchMet firstMeets
-off-unmet c d h = rw (off (matchEnd (c .cc)) (c .mc) (d .first) h, off (matchEnd (c .cc)) (c .mc) (d .second) h) (and-false (storedSingly c))
+off-unmet c d h = rw (off (matchEnd (c .cc)) (c .mc) (d .first) h, off (matchEnd (c .cc)) (c .mc) (d .second) h, and-false)
+
+-- of a word that is stored only the low byte is compared (§7.7)
+pub low-compared : (c : Channel) (d : Data) → wordSide (destination c) ≡ true → matchMet c d ≡ firstMeets c d
+unfolding matchMet storedSingly
+low-compared c d h = rw (h, and-false) (or-false (firstMeets c d))
