@@ -7,17 +7,14 @@ use mathlib.Core.List.{List, _∷_}
 use mathlib.Core.Path.{_≡_, refl, sym, ap, ap₂, subst, _∙_}
 use native.Mathlib.Nat.{mod-mod}
 use native.Mathlib.Omega.{arith}
-use Rattle.machine.specs.Updates.{renewed}
+use Rattle.machine.specs.Updates.{renewed, withControl, stoppedPsw, halted}
 use Rattle.decode.specs.Lengths.{dataLength, displacementLength, lengthOf}
 use Rattle.decode.specs.Reading.{lookup, decodeOf}
 use Rattle.decode.specs.Table.{table}
 use Rattle.execute_deeds.specs.Control.{withStatus, xferDeed, widDeed, hltDeed}
-use Rattle.execute_deeds.specs.Deeds.{effectOf}
 use Rattle.execute_deeds.specs.RegisterForms.{registerWritten, lpdiDeed}
-use Rattle.execute_deeds.specs.declared.Effect.{Effect}
-use Rattle.execute.proofs.CodeLaws.{plan-read, shape-done}
-use Rattle.execute.specs.Execute.{performed, deedOf, laterBytes, deedFrom, numberFrom, executed, executeOf}
-use Rattle.machine.specs.Outcomes.{unless, first}
+use Rattle.execute.proofs.OutcomeLaws.{done-where}
+use Rattle.execute.specs.Execute.{performed, deedOf, laterBytes, executed, executeOf}
 use Rattle.machine.specs.Psw.{withPsw}
 use Rattle.machine.specs.Registers.{withRegister, moved, loaded}
 use Rattle.machine.specs.States.{isRunning}
@@ -29,7 +26,8 @@ use Rattle.memory.specs.Places.{span, allLent}
 use Rattle.memory.specs.Values.{pointer, onward}
 use Rattle.memory.specs.declared.Pointer.{Pointer}
 use Rattle.execute_operands.specs.Changes.{placesOf, changed}
-use Rattle.execute_operands.specs.Operands.{pastInstruction, usedUp, workOf, isMove}
+use Rattle.execute_operands.specs.Marks.{usedUp, pastInstruction, markSet}
+use Rattle.execute_operands.specs.Operands.{workOf, isMove}
 use Rattle.decode_shapes.specs.Pairs.{pairOf}
 use Rattle.decode_shapes.specs.declared.Decoded.the-variants.{Instruction}
 use Rattle.decode_shapes.specs.declared.Shape.{Shape}
@@ -125,19 +123,17 @@ wid-psw false false = refl
 module _ (m : Buffers) (c : Channel) (busy : ℕ) where
   -- an instruction of which all is lent is what its shape does
   shape-executed : (shape : Shape) {one two : ℕ} {rest : List ℕ} → Stand m (c .tp) (one ∷ two ∷ rest) → decodeOf one two ≡ Instruction shape
-      → allLent m (laterBytes shape c) ≡ true → (effectOf m (deedOf shape m c busy)) .number ≡ 0 → allLent m (placesOf ((deedOf shape m c busy) .change)) ≡ true
+      → allLent m (laterBytes shape c) ≡ true → (deedOf shape m c busy) .second ≡ 0 → allLent m ((deedOf shape m c busy) .reads) ≡ true
+      → allLent m (placesOf ((deedOf shape m c busy) .change)) ≡ true
       → executeOf c busy m ≡ executed 0 ((deedOf shape m c busy) .channel) (changed m ((deedOf shape m c busy) .change))
-  unfolding executeOf numberFrom deedFrom
-  shape-executed shape there e later reads stores =
-      ap (λ (x : Effect). executed (x .number) (x .channel) (changed m (x .change)))
-      (plan-read m c busy (Instruction shape) (pair-lent there (omega arith)) (decoded there (omega arith) ∙ e) ∙ shape-done shape m c busy later reads stores)
+  shape-executed shape there e = done-where c busy m shape (decoded there (omega arith) ∙ e) (pair-lent there (omega arith))
 
   -- LPDI of a register
   lpdi-executed : (r : ℕ) {one lo hi lo′ hi′ : ℕ} {rest : List ℕ} → Stand m (c .tp) (one ∷ 0x08 ∷ lo ∷ hi ∷ lo′ ∷ hi′ ∷ rest)
       → decodeOf one 0x08 ≡ Instruction (Lpdi r) → executeOf c busy m ≡ executed 0 (loaded (pastInstruction c 6) r (addressOf (wordOf lo hi) (wordOf lo′ hi′))) m
-  unfolding changed deedOf performed lpdiDeed effectOf placesOf laterBytes allLent lengthOf dataLength displacementLength onward first unless
+  unfolding changed deedOf performed lpdiDeed placesOf laterBytes span allLent lengthOf dataLength displacementLength onward
   lpdi-executed r there e =
-      shape-executed (Lpdi r) there e (rest-lent there 2 4 (omega arith)) refl refl
+      shape-executed (Lpdi r) there e (rest-lent there 2 4 (omega arith)) refl refl refl
       ∙ ap (λ (a : ℕ). executed 0 (loaded (pastInstruction c 6) r a) m) (pointer-given m (onBy (c .tp) 2) _ (stand-on there 2) (omega arith))
 
   -- bytes that stand where TP is known to be
@@ -202,22 +198,22 @@ module _ (m : Buffers) (c : Channel) (busy : ℕ) where
 
     -- XFER
     pub xfer-arms : {rest : List ℕ} → Stand m tp (0x60 ∷ 0x00 ∷ rest) → After m c busy (view ga gb (onBy tp 2) bc cc psw Running true) m
-    unfolding changed deedOf performed xferDeed effectOf placesOf laterBytes allLent lengthOf dataLength displacementLength span first unless pastInstruction renewed onward usedUp
+    unfolding changed deedOf performed xferDeed markSet placesOf laterBytes allLent lengthOf dataLength displacementLength span pastInstruction renewed onward usedUp
     xfer-arms there =
         record {
           channel = (deedOf Xfer m c busy) .channel;
-          step = shape-executed Xfer (here s there) (control-codes .0) refl refl refl;
+          step = shape-executed Xfer (here s there) (control-codes .0) refl refl refl refl;
           seen = ap (λ (v : View). view (v .ga) (v .gb) (onBy (v .tp) 2) (v .bc) (v .cc) (usedUp (v .armed) (v .psw)) (v .mode) (not (v .armed))) s;
         }
 
   -- WID as the instruction after XFER, of a program with TB alone in PSW: the transfer begins
   pub wid-begins : {ga gb tp : Pointer} {bc cc : ℕ} (source destination : Bool) {rest : List ℕ} → viewOf c ≡ view ga gb tp bc cc 4 Running true
       → Stand m tp (widOf source destination ∷ 0x00 ∷ rest) → After m c busy (view ga gb (onBy tp 2) bc cc (pswOf source destination) Running false) m
-  unfolding changed deedOf performed widDeed withStatus effectOf placesOf laterBytes allLent lengthOf dataLength displacementLength span first unless pastInstruction renewed onward
+  unfolding changed deedOf performed widDeed withStatus placesOf laterBytes allLent lengthOf dataLength displacementLength span pastInstruction renewed onward
   wid-begins {ga} {gb} {tp} {bc} {cc} source destination s there =
       record {
         channel = (deedOf (Wid source destination) m c busy) .channel;
-        step = shape-executed (Wid source destination) (here s there) (wid-code source destination) refl refl refl;
+        step = shape-executed (Wid source destination) (here s there) (wid-code source destination) refl refl refl refl;
         seen =
             ap (λ (v : View). view (v .ga) (v .gb) (onBy (v .tp) 2) (v .bc) (v .cc) (withPsw (withPsw (usedUp (v .armed) (v .psw)) 1 source) 0 destination) (v .mode) false) s
             ∙ ap (λ (psw : ℕ). view ga gb (onBy tp 2) bc cc psw Running false) (wid-psw source destination);
@@ -225,10 +221,10 @@ module _ (m : Buffers) (c : Channel) (busy : ℕ) where
 
   -- HLT: BUSY is 0, and the channel does not run
   pub hlt-stops : {rest : List ℕ} → Stand m (c .tp) (0x20 ∷ 0x48 ∷ rest) → lentAt m false busy ≡ true → Stopped m c busy
-  unfolding changed deedOf performed hltDeed effectOf placesOf laterBytes allLent lengthOf dataLength displacementLength span first unless renewed isRunning
+  unfolding changed deedOf performed hltDeed halted withControl placesOf laterBytes allLent lengthOf dataLength displacementLength span isRunning
   hlt-stops there l =
       record {
         channel = (deedOf Hlt m c busy) .channel;
-        step = shape-executed Hlt there (control-codes .1) refl refl (rw l);
+        step = shape-executed Hlt there (control-codes .1) refl refl refl (rw l);
         still = refl;
       }
