@@ -6,3 +6,4 @@ pub mod Numbers
 pub mod Stores
 pub mod Pauses
 pub mod Cases
+pub mod Determined

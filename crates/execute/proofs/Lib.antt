@@ -4,3 +4,4 @@ pub mod NumberLaws
 pub mod MemoryLaws
 pub mod PointerLaws
 pub mod ChannelLaws
+pub mod Determined

@@ -2,3 +2,4 @@ pub mod ChannelLaws
 pub mod OutcomeLaws
 pub mod ConditionLaws
 pub mod StageLaws
+pub mod Determined

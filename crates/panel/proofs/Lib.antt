@@ -3,3 +3,4 @@ pub mod BurstLaws
 pub mod RoundLaws
 pub mod Outcomes
 pub mod Bounds
+pub mod Determined

@@ -5,3 +5,4 @@ pub mod OutcomeLaws
 pub mod NumberLaws
 pub mod TouchedLaws
 pub mod SoundLaws
+pub mod Determined

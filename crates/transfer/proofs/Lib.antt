@@ -4,3 +4,4 @@ pub mod MatchLaws
 pub mod StepLaws
 pub mod KeptLaws
 pub mod BlockLaws
+pub mod Determined

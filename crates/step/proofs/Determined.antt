@@ -1,0 +1,21 @@
+-- The contract of each public call here, as the code has it, determines its outcome: two outcomes that meet it are the same.
+-- Assumes nothing.
+use borrow.Fn.Kinds.{Dens, resT, endedOf}
+use contract.Lifetimes.{Lfts}
+use denote.Ref.{now}
+use denote.Triple.Clauses.{AtExit}
+use mathlib.Core.Path.{_≡_, sym, _∙_}
+use Rattle.memory.specs.Buffers.{buffers}
+use Rattle.step.specs.Step.{left}
+use Rattle.step.proofs.turns.choose.Kinds as choose-kinds
+use Rattle.step.proofs.turns.choose.Reads as choose-reads
+use Rattle.step.proofs.step.Kinds as step-kinds
+use Rattle.step.proofs.step.Reads as step-reads
+
+pub choose-determined : (κs : Lfts 0) (a : Dens κs choose-kinds.ps) (r q : resT choose-kinds.r κs .Denot) (e f : AtExit (endedOf 0 choose-kinds.ps choose-kinds.r) κs)
+    → choose-reads.Post κs a r e → choose-reads.Post κs a q f → r ≡ q
+choose-determined κs a r q e f p w = p ∙ sym w
+
+pub step-determined : (κs : Lfts 2) (a : Dens κs step-kinds.ps) (r q : resT step-kinds.r κs .Denot) (e f : AtExit (endedOf 2 step-kinds.ps step-kinds.r) κs)
+    → step-reads.Post κs a r e → step-reads.Post κs a q f → left r (buffers (now (e .1 .0)) (now (e .1 .1 .0))) ≡ left q (buffers (now (f .1 .0)) (now (f .1 .1 .0)))
+step-determined κs a r q e f p w = p ∙ sym w

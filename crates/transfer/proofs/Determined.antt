@@ -1,0 +1,21 @@
+-- The contract of each public call here, as the code has it, determines its outcome: two outcomes that meet it are the same.
+-- Assumes nothing.
+use borrow.Fn.Kinds.{Dens, resT, endedOf}
+use contract.Lifetimes.{Lfts}
+use denote.Ref.{now}
+use denote.Triple.Clauses.{AtExit}
+use mathlib.Core.Path.{_≡_, sym, _∙_}
+use Rattle.memory.specs.Buffers.{buffers}
+use Rattle.transfer.specs.Steps.{transferred}
+use Rattle.transfer.proofs.transfer.Kinds as transfer-kinds
+use Rattle.transfer.proofs.transfer.Reads as transfer-reads
+use Rattle.transfer.proofs.external_end.Kinds as external-end-kinds
+use Rattle.transfer.proofs.external_end.Reads as external-end-reads
+
+pub transfer-determined : (κs : Lfts 2) (a : Dens κs transfer-kinds.ps) (r q : resT transfer-kinds.r κs .Denot) (e f : AtExit (endedOf 2 transfer-kinds.ps transfer-kinds.r) κs)
+    → transfer-reads.Post κs a r e → transfer-reads.Post κs a q f → transferred (r .number) (r .channel) (buffers (now (e .1 .0)) (now (e .1 .1 .0))) ≡ transferred (q .number) (q .channel) (buffers (now (f .1 .0)) (now (f .1 .1 .0)))
+transfer-determined κs a r q e f p w = p ∙ sym w
+
+pub external-end-determined : (κs : Lfts 0) (a : Dens κs external-end-kinds.ps) (r q : resT external-end-kinds.r κs .Denot) (e f : AtExit (endedOf 0 external-end-kinds.ps external-end-kinds.r) κs)
+    → external-end-reads.Post κs a r e → external-end-reads.Post κs a q f → r ≡ q
+external-end-determined κs a r q e f p w = p ∙ sym w
