@@ -95,7 +95,7 @@ module _ (m : Buffers) (cp channel lines limit : ℕ) where
   pub steps-below : runOf m cp channel lines limit .steps < 65536
   steps-below = run-by (λ r. r .steps < 65536) (λ n h. omega arith) (λ h s m′. omega (arith, steps-done limit s m′ lines 0))
 
-  -- "Answer: number × 65,536 + steps done"
+  -- the answer is the number × 65,536 + the steps done (§8.4)
   pub answer-is : answerOf (runOf m cp channel lines limit) ≡ runOf m cp channel lines limit .number * 65536 + runOf m cp channel lines limit .steps
   unfolding answerOf
   answer-is =

@@ -8,22 +8,24 @@ use mathlib.Core.List.{[], _∷_}
 use mathlib.Core.Logic.{⊎-elim, inl, inr, _⊎_, _↔_, Iff·trans, Iff·rfl}
 use mathlib.Core.Path.{_≡_, refl, sym, ap, _∙_}
 use Rattle.decode_shapes.specs.declared.Decoded.the-variants.{Instruction}
-use Rattle.execute.proofs.NumberLaws.{number-given as instruction-given, exactly-2 as own-2, exactly-3 as own-3, exactly-4 as own-4, exactly-0 as own-0}
+use Rattle.execute.proofs.NumberLaws.{number-given as instruction-given, exactly-2 as own-2, exactly-3 as own-3, exactly-4 as own-4, exactly-0 as own-0, two-where}
 use Rattle.execute.specs.Conditions.{instructionChecks as instructionChecks, InstructionGiven2, InstructionGiven3, InstructionGiven4, InstructionGiven0}
-use Rattle.execute.specs.Execute.{decodedAt, executeOf}
+use Rattle.execute.specs.Execute.{decodedAt, touchedByInstruction, executeOf}
 use Rattle.machine.proofs.ConditionLaws.{Told, step, last, rewritten, first-assoc, skip, hit, end, never, upTo, given-most, up-to-either, told-ltb, told-limits, told-sound, told-lent, told-by, says-true, says-eqb, says-and, says-or}
 use Rattle.machine.specs.Cc.{synchronised, translates}
 use Rattle.machine.specs.Conditions.{check, Given, TooLong, NotSound, Beyond}
 use Rattle.machine.specs.Outcomes.{first, unless, givenNumber}
+use Rattle.machine.specs.Stages.{stagesTouched}
 use Rattle.machine.specs.Psw.{transferring, sourceWide, destinationWide}
 use Rattle.machine.specs.States.{channelOf, blockOf, busyIn, sound}
 use Rattle.machine.specs.declared.Channel.{Channel}
 use Rattle.machine.specs.declared.State.{State}
 use Rattle.memory.specs.Buffers.{Buffers, withinLimits}
-use Rattle.transfer.proofs.StepLaws.{chain}
+use Rattle.memory.specs.Places.{allLent}
+use Rattle.transfer.proofs.StepLaws.{chain, two-touched}
 use Rattle.transfer.specs.Reads.{dataOf}
 use Rattle.transfer.specs.Sides.{source, destination}
-use Rattle.transfer.specs.Steps.{transferred, touchedByTransfer, badMode, transferNumber, transferOf}
+use Rattle.transfer.specs.Steps.{transferred, touchedByTransfer, badMode, transferStages, transferNumber, transferOf}
 use Rattle.transfer.specs.Stores.{movedChannel, movedMemory}
 use Rattle.words.proofs.ChoiceLaws.{apart}
 use Rattle.words.specs.Choice.{pick}
@@ -33,6 +35,7 @@ use Rattle.step.specs.declared.turns.Choice.{Choice}
 use Rattle.step.specs.declared.turns.Choice.the-variants.{Nobody, Ends, Steps}
 use Rattle.step.proofs.ChoosingLaws.{ends-chosen, steps-chosen, nobody-runs}
 use Rattle.step.specs.Conditions.{LinesOver, BadTransfer, transferChecks, chosenChecks, stepChecks, StepAfterGiven, OnEnd, OnTransfer, OnInstruction}
+use Rattle.step.specs.Touched.{reachedIn}
 use Rattle.step.specs.Step.{Step, refusedStep, settledStep, transferStep, instructionStep, externalStep, channelStep, chosenStep, entryNumber, stepOf}
 use Rattle.step.specs.declared.Kind.{Kind}
 
@@ -265,6 +268,28 @@ module _ (s : State) (m : Buffers) (lines : ℕ) where
 
       of-2 : (b : Bool) → Given (instructionChecks m (channelOf s b) (busyIn (blockOf s b))) 2 ↔ InstructionGiven2 (decodedAt m (channelOf s b .tp)) m (channelOf s b) (busyIn (blockOf s b))
       of-2 b = by-instruction 2 b (own-2 m (channelOf s b) (busyIn (blockOf s b)))
+
+  -- that is, exactly where a byte of the chosen channel's list, up to the stage where it stops, is not lent
+  pub two-exactly : ((stepOf s m lines) .number ≡ 2) ↔ StepAfterGiven s m lines (allLent m (reachedIn (choiceOf s lines) s m) ≡ false)
+  unfolding Own reachedIn allLent
+  two-exactly = own-number 2 refl refl refl refl (go (choiceOf s lines))
+    where
+      transfer : (b : Bool) → Given (transferChecks (channelOf s b) m) 2 ↔ (allLent m (stagesTouched (transferStages (channelOf s b) m)) ≡ false)
+      transfer b =
+          let c = channelOf s b in
+          (λ g. two-touched c m .0 (sym (moved-number c m) ∙ transfer-given c m 2 .1 g), λ h. transfer-given c m 2 .0 (moved-number c m ∙ two-touched c m .1 h))
+
+      turn : (b x : Bool) → (⊥ ⊎ (((x ≡ true) × Given (transferChecks (channelOf s b) m) 2) ⊎ ((x ≡ false) × Given (instructionChecks m (channelOf s b) (busyIn (blockOf s b))) 2)))
+          ↔ (allLent m (pick x (stagesTouched (transferStages (channelOf s b) m)) (touchedByInstruction m (channelOf s b) (busyIn (blockOf s b)))) ≡ false)
+      turn b true = (⊎-elim (λ h. absurd h) (⊎-elim (λ h. transfer b .0 (h .1)) (λ h. apart (h .0))), λ h. inr (inl (refl, transfer b .1 h)))
+      turn b false =
+          let q = by-instruction 2 b (two-where (channelOf s b) (busyIn (blockOf s b)) m) in
+          (⊎-elim (λ h. absurd h) (⊎-elim (λ h. apart (sym (h .0))) (λ h. q .0 (h .1))), λ h. inr (inr (refl, q .1 h)))
+
+      go : (x : Choice) → Own x 2 ↔ (allLent m (reachedIn x s m) ≡ false)
+      go Nobody = (⊎-elim (λ h. absurd h) (⊎-elim (λ h. absurd h) (λ h. absurd h)), λ h. apart h)
+      go (Ends b) = (⊎-elim (λ h. absurd (eqb-false 2 0 refl h)) (⊎-elim (λ h. absurd h) (λ h. absurd h)), λ h. apart h)
+      go (Steps b) = turn b (transferring (channelOf s b .psw))
 
   -- 3, of an instruction: its bytes are none
   pub exactly-3 : ((stepOf s m lines) .number ≡ 3) ↔ StepAfterGiven s m lines (OnInstruction (choiceOf s lines) s (λ b. InstructionGiven3 (decodedAt m (channelOf s b .tp)) m (channelOf s b) (busyIn (blockOf s b))))

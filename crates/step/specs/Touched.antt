@@ -3,11 +3,12 @@ use Prim.Native.Nat.{ℕ}
 use mathlib.Core.List.{List, []}
 use Rattle.execute.specs.Execute.{touchedByInstruction as executed}
 use Rattle.machine.specs.Psw.{transferring}
+use Rattle.machine.specs.Stages.{stagesTouched}
 use Rattle.machine.specs.States.{channelOf, blockOf, busyIn}
 use Rattle.machine.specs.declared.State.{State}
 use Rattle.memory.specs.Buffers.{Buffers}
 use Rattle.memory.specs.Places.{Place}
-use Rattle.transfer.specs.Steps.{touchedByTransfer as moved}
+use Rattle.transfer.specs.Steps.{transferStages, touchedByTransfer as moved}
 use Rattle.words.specs.Choice.{pick}
 use Rattle.step.specs.Choosing.{choiceOf}
 use Rattle.step.specs.declared.turns.Choice.{Choice}
@@ -23,3 +24,10 @@ touchedIn (Steps second) s m =
 -- the bytes that a step reads or stores
 unfoldable pub touchedByStep : State → Buffers → ℕ → List Place
 touchedByStep s m lines = touchedIn (choiceOf s lines) s m
+
+-- the bytes of a choice up to the stage where it stops: a bad mode stops a transfer step before its first byte (§3.7)
+unfoldable pub reachedIn : Choice → State → Buffers → List Place
+reachedIn Nobody s m = []
+reachedIn (Ends second) s m = []
+reachedIn (Steps second) s m =
+    pick (transferring (channelOf s second .psw)) (stagesTouched (transferStages (channelOf s second) m)) (executed m (channelOf s second) (busyIn (blockOf s second)))
