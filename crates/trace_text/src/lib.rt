@@ -138,9 +138,9 @@ fn steps(s: State, sys: &mut [u8], io: &mut [u8], out: &mut [u8]) -> Traced
         }
         let next = r.state;
         let kind = r.kind;
-        state = next;
         done += 1;
         at = step_line(out, at, done, r.channel, kind, next);
+        state = next;
     }
     Traced {
         number: 0,
