@@ -283,7 +283,7 @@ module _ (s : State) (m : Buffers) (lines : ℕ) where
           ↔ (allLent m (pick x (stagesTouched (transferStages (channelOf s b) m)) (touchedByInstruction m (channelOf s b) (busyIn (blockOf s b)))) ≡ false)
       turn b true = (⊎-elim (λ h. absurd h) (⊎-elim (λ h. transfer b .0 (h .1)) (λ h. apart (h .0))), λ h. inr (inl (refl, transfer b .1 h)))
       turn b false =
-          let q = by-instruction 2 b (two-where (channelOf s b) (busyIn (blockOf s b)) m) in
+          let q = by-instruction 2 b (two-where m (channelOf s b) (busyIn (blockOf s b))) in
           (⊎-elim (λ h. absurd h) (⊎-elim (λ h. apart (sym (h .0))) (λ h. q .0 (h .1))), λ h. inr (inr (refl, q .1 h)))
 
       go : (x : Choice) → Own x 2 ↔ (allLent m (reachedIn x s m) ≡ false)
