@@ -28,3 +28,4 @@ pub mod Joined
 pub mod ProgramLaws
 pub mod Showpiece
 pub mod ImageLaws
+pub mod Made

@@ -14,3 +14,4 @@ pub mod Joined
 pub mod Met
 pub mod Program
 pub mod Image
+pub mod Made

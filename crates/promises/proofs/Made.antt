@@ -1,0 +1,70 @@
+-- Every state that calls make from a fresh one is sound, so none of them is ever refused by 10; and 3 and 4 of an instruction by the rows of the table.
+-- Assumes nothing.
+use lib.Dec.{eqb}
+use borrow.Author.Tests.{eqb-true, eqb-false}
+use mathlib.Core.Bool.{Bool, true, false}
+use mathlib.Core.Logic.{_↔_, Iff·trans}
+use mathlib.Core.Path.{_≡_, refl, sym, ap, _∙_}
+use Prim.Native.Nat.{ℕ}
+use Rattle.attention.proofs.Outcomes.{refused-nothing}
+use Rattle.attention.proofs.SoundLaws.{attention-sound}
+use Rattle.attention.specs.Attention.{attentionOf}
+use Rattle.decode.proofs.Outcomes.{three-exactly, four-exactly}
+use Rattle.decode.specs.Reading.{numberOf}
+use Rattle.decode_shapes.specs.declared.Decoded.{Decoded}
+use Rattle.decode_shapes.specs.declared.Decoded.the-variants.{Instruction, NoInstruction, ControlUsed}
+use Rattle.execute.specs.Conditions.{NoCode, ControlTouched}
+use Rattle.execute.specs.Execute.{decodedAt}
+use Rattle.execute_operands.specs.Operands.{byteHere}
+use Rattle.machine.proofs.ChannelLaws.{fresh-sound}
+use Rattle.machine.specs.Outcomes.{Outcome}
+use Rattle.machine.specs.States.{sound}
+use Rattle.machine.specs.declared.Channel.{Channel}
+use Rattle.machine.specs.declared.State.{State}
+use Rattle.memory.specs.Buffers.{Buffers}
+use Rattle.memory.specs.Values.{onward}
+use Rattle.step.proofs.OutcomeLaws.{refused}
+use Rattle.step.proofs.SoundLaws.{sound-kept}
+use Rattle.step.specs.Step.{Step, stepOf}
+use Rattle.promises.specs.Made.{Made, NoRow, RowUsesControl}
+use Rattle.promises.specs.Made.Made.{fresh, attention, step}
+
+-- ---- sound states
+
+-- every such state is sound
+pub made-sound : {s : State} → Made s → sound s ≡ true
+made-sound (fresh cp) = fresh-sound cp
+made-sound (attention {s} made m bytes channel) = go (eqb (attentionOf s m channel .number) 0) refl
+  where
+    go : (b : Bool) → eqb (attentionOf s m channel .number) 0 ≡ b → sound (attentionOf s m channel .state) ≡ true
+    go true e = attention-sound s m channel bytes (eqb-true _ 0 e)
+    go false e = ap (λ (o : Outcome). sound (o .state)) (refused-nothing s m channel (eqb-false _ 0 e)) ∙ made-sound made
+made-sound (step {s} made m lines) = go (eqb (stepOf s m lines .number) 0) refl
+  where
+    go : (b : Bool) → eqb (stepOf s m lines .number) 0 ≡ b → sound (stepOf s m lines .state) ≡ true
+    go true e = sound-kept s m lines (eqb-true _ 0 e)
+    go false e = ap (λ (o : Step). sound (o .state)) (refused s m lines (eqb-false _ 0 e)) ∙ made-sound made
+
+-- ---- 3 and 4 in the rows' own words
+
+-- an answer is no instruction, or a use of CC, by its number
+none-by : (d : Decoded) → (d ≡ NoInstruction) ↔ (numberOf d ≡ 3)
+none-by (Instruction s) = (λ e. ap numberOf e, λ e. absurd (eqb-false 0 3 refl e))
+none-by NoInstruction = (λ e. refl, λ e. refl)
+none-by ControlUsed = (λ e. ap numberOf e, λ e. absurd (eqb-false 4 3 refl e))
+
+used-by : (d : Decoded) → (d ≡ ControlUsed) ↔ (numberOf d ≡ 4)
+used-by (Instruction s) = (λ e. ap numberOf e, λ e. absurd (eqb-false 0 4 refl e))
+used-by NoInstruction = (λ e. ap numberOf e, λ e. absurd (eqb-false 3 4 refl e))
+used-by ControlUsed = (λ e. refl, λ e. refl)
+
+module _ (m : Buffers) (c : Channel) where
+  -- the condition of 3 in the chain of an instruction is that no row is met
+  pub three-by-rows : NoCode (decodedAt m (c .tp)) ↔ NoRow m c
+  unfolding decodedAt
+  three-by-rows = Iff·trans (none-by _) (three-exactly (byteHere m (c .tp)) (byteHere m (onward (c .tp) 1)))
+
+  -- and that of 4 that a row is met which uses CC
+  pub four-by-rows : ControlTouched (decodedAt m (c .tp)) ↔ RowUsesControl m c
+  unfolding decodedAt
+  four-by-rows = Iff·trans (used-by _) (four-exactly (byteHere m (c .tp)) (byteHere m (onward (c .tp) 1)))

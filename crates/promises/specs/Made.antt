@@ -1,0 +1,34 @@
+-- The states that calls make from a fresh one, and the conditions of 3 and 4 in the words of the table of codes.
+use mathlib.Core.Bool.{Bool, true, false}
+use mathlib.Core.Path.{_≡_}
+use Prim.Native.Nat.{ℕ}
+use Rattle.memory.specs.Buffers.{Buffers, AllBytes}
+use Rattle.memory.specs.Values.{onward}
+use Rattle.machine.specs.States.{freshOf}
+use Rattle.machine.specs.declared.Channel.{Channel}
+use Rattle.machine.specs.declared.State.{State}
+use Rattle.attention.specs.Attention.{attentionOf}
+use Rattle.step.specs.Step.{stepOf}
+use Rattle.decode.specs.Reading.{fitsSome, usesControl}
+use Rattle.decode.specs.Table.{table}
+use Rattle.decode_shapes.specs.Pairs.{pairOf}
+use Rattle.decode_shapes.specs.declared.pairs.Pair.{Pair}
+use Rattle.execute_operands.specs.Operands.{byteHere}
+
+-- a fresh state of any CP, and what any attention or step, refused or not, makes of such a state in memories of bytes
+pub data Made : State → Type 0 where
+  fresh : (cp : ℕ) → Made ((freshOf cp) .state)
+  attention : {s : State} → Made s → (m : Buffers) → AllBytes m → (channel : ℕ) → Made (attentionOf s m channel .state)
+  step : {s : State} → Made s → (m : Buffers) (lines : ℕ) → Made (stepOf s m lines .state)
+
+-- the fields of the two bytes at a channel's TP
+abbrev pub pairAt : Buffers → Channel → Pair
+pairAt m c = pairOf (byteHere m (c .tp)) (byteHere m (onward (c .tp) 1))
+
+-- 3, of the first pair: no row of the table of codes is met by its fields (§6.4)
+abbrev pub NoRow : Buffers → Channel → Type 0
+NoRow m c = fitsSome table (pairAt m c) ≡ false
+
+-- 4: RRR names CC, and the row that is met does something else to its register than a move (§6.4)
+abbrev pub RowUsesControl : Buffers → Channel → Type 0
+RowUsesControl m c = (pairAt m c .rrr ≡ 6) × (usesControl table (pairAt m c) ≡ true)
