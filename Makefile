@@ -5,6 +5,7 @@ DEMO ?= examples/copy-odd.bin
 SEED ?= 1
 CASES ?= 200000
 SERVICE_CASES ?= 300000
+TEXTS ?= 20000
 CALLS ?= 20000
 IMAGES ?= 300
 PREFIX ?= /usr/local
@@ -17,11 +18,12 @@ override DEMO := $(value DEMO)
 override SEED := $(value SEED)
 override CASES := $(value CASES)
 override SERVICE_CASES := $(value SERVICE_CASES)
+override TEXTS := $(value TEXTS)
 override CALLS := $(value CALLS)
 override IMAGES := $(value IMAGES)
 override PREFIX := $(value PREFIX)
 override DESTDIR := $(value DESTDIR)
-export IMAGE FILE DEMO SEED CASES SERVICE_CASES CALLS IMAGES PREFIX DESTDIR
+export IMAGE FILE DEMO SEED CASES SERVICE_CASES TEXTS CALLS IMAGES PREFIX DESTDIR
 
 CFLAGS ?= -O2
 STRICT = -std=c11 -Wall -Wextra -Wpedantic -Wconversion
@@ -222,7 +224,7 @@ compare-service: given-service build/compare_service
 
 # ---- The bench tool, over both archives
 
-TOOL = $(addprefix host/,tool.c tool_order.c tool_calls.c)
+TOOL = $(addprefix host/,tool.c tool_order.c tool_calls.c tool_hex.c)
 
 .PHONY: tool check-tool
 
@@ -258,3 +260,28 @@ check-sweep: build/iop89
 	@cp docs/SWEEP.md build/SWEEP.md
 	tools/draw-sweep build/sweep.svg build/SWEEP.md
 	cmp build/sweep.svg docs/sweep.svg && cmp build/SWEEP.md docs/SWEEP.md
+
+# ---- PROM files: the proved reader beside one that shares nothing with it
+
+HEX = $(addprefix host/,hex.c hex_texts.c dice.c)
+HEX_H = $(addprefix host/,hex.h hex_texts.h dice.h) include/iop89.h include/iop89_service.h
+
+.PHONY: compare-hex bench-hex given-texts
+
+given-texts:
+	@tools/given number SEED && tools/given number TEXTS
+
+build/compare-hex: host/compare_hex.c $(HEX) $(HEX_H) $(SERVICE_LIB) | x86-compiler
+	$(X86_CC) $(STRICT) $(CFLAGS) -Iinclude host/compare_hex.c $(HEX) $(SERVICE_LIB) $(X86_LDFLAGS) -o $@
+
+# What is counted is always compiled at -O2.
+build/bench-hex: host/bench_hex.c $(HEX) $(HEX_H) $(SERVICE_LIB) | x86-compiler
+	$(X86_CC) $(STRICT) -O2 -Iinclude host/bench_hex.c $(HEX) $(SERVICE_LIB) $(X86_LDFLAGS) -o $@
+
+# Compares both readers on the files of examples/prom and on random texts.
+compare-hex: given-texts build/compare-hex
+	tools/x86 build/compare-hex "$$SEED" "$$TEXTS"
+
+# Counts the instructions of both for each byte of text.
+bench-hex: count-needs build/bench-hex
+	@tools/bench-hex build/bench-hex

@@ -18,6 +18,8 @@ static const struct command commands[] = {
      "iop89 run examples/copy-odd.bin -show 0x80 96", tool_run},
     {"step", "the same call by call: a line for each step, with channel, kind (I, T, X), TP and the registers changed",
      "iop89 step examples/external.bin -lines 1 -limit 20", tool_step},
+    {"load", "what PROM files hold: the ranges that they store with their bytes, the start address, and how many bytes",
+     "iop89 load examples/prom/srecord-segments.hex", tool_show_files},
 };
 
 enum { COMMANDS = sizeof commands / sizeof commands[0] };
@@ -34,6 +36,7 @@ static const char options[] =
     "  -lines N        sum of DRQ1 = 1, DRQ2 = 2, EXT1 = 4, EXT2 = 8, held throughout (0)\n"
     "  -limit N        most steps (1000)\n"
     "  -show FROM N    shows N bytes of system memory from FROM on, as they are at the end; -show-io, of I/O memory\n"
+    "A FILE whose name ends in .hex is a PROM file (Intel hexadecimal): its records say where its bytes go.\n"
     "Numbers are decimal, or hexadecimal behind 0x; 010 is ten. A file has at most 1,048,576 bytes.\n"
     "Ends with 0 at the limit or where the channel halted, 1 where it was refused or waits, 2 for anything else.\n";
 

@@ -55,8 +55,14 @@ struct tool_memory tool_load(const struct tool_order *order);
 struct tool_memory tool_copy(struct tool_memory memory);
 void tool_free(struct tool_memory memory);
 
+/* Whether a file is a PROM file, by its name; and such a file loaded into room for a megabyte, where it ends, or the
+ * program ended with TOOL_REFUSED and the file's line. */
+bool tool_is_hex(const char *name);
+size_t tool_load_hex(const char *name, uint8_t *sys);
+
 /* The commands. */
 enum tool_status tool_run(const struct tool_order *order);
 enum tool_status tool_step(const struct tool_order *order);
+enum tool_status tool_show_files(const struct tool_order *order);
 
 #endif

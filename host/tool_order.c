@@ -98,6 +98,7 @@ void tool_read_order(struct tool_order *order, int count, char **words)
         i += taken;
         if (taken > 0) continue;
         if (order->files == TOOL_FILES) tool_usage("more than 16 files", words[i]);
+        if (at != UINT32_MAX && tool_is_hex(words[i])) tool_usage("-at before a PROM file, which has its own addresses", words[i]);
         order->file[order->files].name = words[i++];
         order->file[order->files++].at = at == UINT32_MAX ? 0 : at;
         at = UINT32_MAX;
@@ -135,7 +136,8 @@ struct tool_memory tool_load(const struct tool_order *order)
 {
     struct tool_memory memory = {room(TOOL_MOST), room(TOOL_MOST), 0, 256};
     for (unsigned i = 0; i < order->files; i++) {
-        size_t end = read_file(order->file[i].name, memory.sys, order->file[i].at);
+        const struct tool_file *file = &order->file[i];
+        size_t end = tool_is_hex(file->name) ? tool_load_hex(file->name, memory.sys) : read_file(file->name, memory.sys, file->at);
         if (end > memory.sys_len) memory.sys_len = end;
     }
     if (order->system_length != UINT32_MAX) {

@@ -136,6 +136,63 @@ static inline const char *iop89_service_words(unsigned number)
     return number == IOP89_NO_STATE ? "the bytes are no state" : iop89_words(number);
 }
 
+/* ---- PROM files: Intel hexadecimal object files with segmented addresses ---- */
+
+/* The numbers of iop89_load besides 0, 2 and 11. */
+enum iop89_load_refusal {
+    IOP89_NO_RECORD = 20, /* a line is no record */
+    IOP89_BAD_CHECK = 21, /* its bytes do not sum to 0 mod 256 */
+    IOP89_BAD_TYPE = 22,  /* its type is none of 00 to 03, or its length does not fit its type */
+    IOP89_NO_END = 23     /* there is no end record */
+};
+
+/*
+ * Reads a text into system memory from address 0 on, whole or not at all. Its parts by the macros below: the number;
+ * the line, that of the first bad record, for 23 how many lines there are, for 2 that of the first record with a byte
+ * beyond memory, else 0; and the last start address that the file gives, 0 where there is none or it is refused.
+ * The two buffers must not overlap, and neither pointer may be null, also where its length is 0.
+ */
+uint64_t iop89_load(const uint8_t *text, size_t text_len, uint8_t *sys, size_t sys_len);
+
+/* The low half of a 64-bit number, by the cast that each language likes. */
+#ifdef __cplusplus
+#define IOP89_LOW_32(number) static_cast<uint32_t>(number)
+#else
+#define IOP89_LOW_32(number) ((uint32_t)(number))
+#endif
+
+#define IOP89_LOAD_NUMBER(answer) iop89_load_number(answer)
+#define IOP89_LOAD_START(answer) iop89_load_start(answer)
+#define IOP89_LOAD_LINE(answer) iop89_load_line(answer)
+
+static inline unsigned iop89_load_number(uint64_t answer)
+{
+    return answer & 0xFFu;
+}
+
+static inline uint32_t iop89_load_start(uint64_t answer)
+{
+    return answer >> 8 & 0xFFFFFu;
+}
+
+static inline uint32_t iop89_load_line(uint64_t answer)
+{
+    return IOP89_LOW_32(answer >> 32);
+}
+
+/* A number of iop89_load in words. */
+static inline const char *iop89_load_words(unsigned number)
+{
+    switch (number) {
+    case IOP89_DONE: return "loaded";
+    case IOP89_NO_RECORD: return "no record";
+    case IOP89_BAD_CHECK: return "the check byte is wrong";
+    case IOP89_BAD_TYPE: return "a type that is none, or a length that does not fit its type";
+    case IOP89_NO_END: return "no end record";
+    default: return iop89_words(number);
+    }
+}
+
 #ifdef __cplusplus
 }
 #endif

@@ -1,0 +1,32 @@
+-- `prom::store_at` meets its contract.
+-- Assumes nothing.
+use Prim.Native.Nat.{ℕ, _%_}
+use borrow.Author.Needs.{needs}
+use denote.Ref.{now}
+use lib.Seq.{set-out}
+use mathlib.Core.List.{List, []}
+use mathlib.Core.Path.{sym, ap}
+use Rattle.memory.specs.Buffers.{buffers, storeByte, indexOf, limitOf}
+use Rattle.prom.proofs.store_at.Statement.{statement}
+use Rattle.prom.proofs.store_at.Tie as tie
+
+cast-at : tie.Need-cast-at
+cast-at c = search needs
+
+slice-write-sys : tie.Need-slice-write-sys
+slice-write-sys c = search needs
+
+same-length : tie.Need-same-length
+same-length c = search needs
+
+returns : tie.Need-returns
+unfolding storeByte indexOf limitOf
+returns c = search needs
+
+returns-2 : tie.Need-returns-2
+unfolding storeByte indexOf limitOf
+returns-2 c = let a = c .before .args in
+    ap (λ (l : List ℕ). buffers l []) (sym (set-out (now (a .sys)) (a .address % 1048576) (a .v) (c .if1 .left)))
+
+pub store-at-spec : {M : Type 1} → statement M
+store-at-spec = tie.close (tie.spec cast-at slice-write-sys same-length returns returns-2)
