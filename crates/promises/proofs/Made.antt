@@ -21,7 +21,7 @@ use Rattle.machine.specs.Outcomes.{Outcome}
 use Rattle.machine.specs.States.{sound}
 use Rattle.machine.specs.declared.Channel.{Channel}
 use Rattle.machine.specs.declared.State.{State}
-use Rattle.memory.specs.Buffers.{Buffers}
+use Rattle.memory.specs.Buffers.{Buffers, AllBytes}
 use Rattle.memory.specs.Values.{onward}
 use Rattle.step.proofs.OutcomeLaws.{refused}
 use Rattle.step.proofs.SoundLaws.{sound-kept}
@@ -31,19 +31,27 @@ use Rattle.promises.specs.Made.Made.{fresh, attention, step}
 
 -- ---- sound states
 
+-- an attention to a sound state leaves a sound one, accepted or refused
+attention-either : (s : State) (m : Buffers) → AllBytes m → (channel : ℕ) → sound s ≡ true → sound (attentionOf s m channel .state) ≡ true
+attention-either s m bytes channel h = go (eqb (attentionOf s m channel .number) 0) refl
+  where
+    go : (b : Bool) → eqb (attentionOf s m channel .number) 0 ≡ b → sound (attentionOf s m channel .state) ≡ true
+    go true e = attention-sound s m channel bytes (eqb-true (attentionOf s m channel .number) 0 e)
+    go false e = ap (λ (o : Outcome). sound (o .state)) (refused-nothing s m channel (eqb-false (attentionOf s m channel .number) 0 e)) ∙ h
+
+-- a step of one too
+step-either : (s : State) (m : Buffers) (lines : ℕ) → sound s ≡ true → sound (stepOf s m lines .state) ≡ true
+step-either s m lines h = go (eqb (stepOf s m lines .number) 0) refl
+  where
+    go : (b : Bool) → eqb (stepOf s m lines .number) 0 ≡ b → sound (stepOf s m lines .state) ≡ true
+    go true e = sound-kept s m lines (eqb-true (stepOf s m lines .number) 0 e)
+    go false e = ap (λ (o : Step). sound (o .state)) (refused s m lines (eqb-false (stepOf s m lines .number) 0 e)) ∙ h
+
 -- every such state is sound
 pub made-sound : {s : State} → Made s → sound s ≡ true
 made-sound (fresh cp) = fresh-sound cp
-made-sound (attention {s} made m bytes channel) = go (eqb (attentionOf s m channel .number) 0) refl
-  where
-    go : (b : Bool) → eqb (attentionOf s m channel .number) 0 ≡ b → sound (attentionOf s m channel .state) ≡ true
-    go true e = attention-sound s m channel bytes (eqb-true _ 0 e)
-    go false e = ap (λ (o : Outcome). sound (o .state)) (refused-nothing s m channel (eqb-false _ 0 e)) ∙ made-sound made
-made-sound (step {s} made m lines) = go (eqb (stepOf s m lines .number) 0) refl
-  where
-    go : (b : Bool) → eqb (stepOf s m lines .number) 0 ≡ b → sound (stepOf s m lines .state) ≡ true
-    go true e = sound-kept s m lines (eqb-true _ 0 e)
-    go false e = ap (λ (o : Step). sound (o .state)) (refused s m lines (eqb-false _ 0 e)) ∙ made-sound made
+made-sound (attention {s} made m bytes channel) = attention-either s m bytes channel (made-sound made)
+made-sound (step {s} made m lines) = step-either s m lines (made-sound made)
 
 -- ---- 3 and 4 in the rows' own words
 

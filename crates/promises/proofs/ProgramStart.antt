@@ -1,13 +1,13 @@
 -- The attention that starts a channel's program in system space, given to a fresh state.
 -- Assumes nothing.
-use Prim.Native.Nat.{ℕ, _+_, _*_, _<_}
+use Prim.Native.Nat.{ℕ, _+_, _*_, _%_, _<_}
 use borrow.Author.Tests.{eqb-false, lt-ltb}
 use lib.Dec.{lit<}
 use mathlib.Core.Bool.{Bool, true, false, _&&_}
 use mathlib.Core.List.{_++_}
 use mathlib.Core.Logic.{⊎-elim}
 use mathlib.Core.Path.{_≡_, refl, sym, ap, ap₂, subst, _∙_}
-use native.Mathlib.Nat.{mod-lt}
+use native.Mathlib.Nat.{mod-lt, mod-add-mod}
 use Rattle.machine.specs.Updates.{withControl}
 use Rattle.attention.proofs.Numbers.{gives-0}
 use Rattle.attention.proofs.Outcomes.{accepted-order}
@@ -18,10 +18,11 @@ use Rattle.machine.proofs.ConditionLaws.{told-sound, told-lent, says-running}
 use Rattle.machine.specs.Conditions.{TooLong}
 use Rattle.machine.specs.Outcomes.{outcome}
 use Rattle.machine.specs.Psw.{withPsw}
-use Rattle.machine.specs.States.{idleChannel, freshState, channelOf, withChannel, soundChannel, sound, isRunning, blockOf, channelNumber, isSecond}
+use Rattle.machine.specs.States.{idleChannel, freshState, channelOf, withChannel, soundChannel, sound, isRunning, blockOf, busyIn, channelNumber, isSecond}
 use Rattle.machine.specs.declared.Answer.{Answer}
 use Rattle.machine.specs.declared.Channel.{Channel}
 use Rattle.machine.specs.declared.Mode.the-variants.{Running}
+use Rattle.memory.proofs.PlaceLaws.{index-reduced, index-after, lent-index, word-reduced, store-reduced}
 use Rattle.memory.proofs.SpanLaws.{all-append}
 use Rattle.memory.specs.Buffers.{Buffers, lentAt, byteAt, storeByte}
 use Rattle.memory.specs.Places.{span, allLent}
@@ -33,6 +34,7 @@ use Rattle.attention.specs.Touched.{readBy, storedBy, others}
 use Rattle.attention.specs.declared.Command.the-variants.{StartSystem}
 use Rattle.attention.specs.declared.Order.{Order}
 use Rattle.words.specs.Bits.{fieldOf, bitOf, withBit}
+use Rattle.words.specs.Sums.{addressOf}
 use Rattle.promises.specs.Premises.{Lent}
 use Rattle.promises.proofs.ProgramSteps.{view, viewOf}
 use Rattle.promises.proofs.RunLaws.{fresh-good}
@@ -70,6 +72,20 @@ fresh-still cp b = ap (λ (c : Channel). isRunning (c .mode)) (fresh-idle cp b)
 pub sound-fresh : (cp : ℕ) → cp < 1048576 → sound (freshState cp) ≡ true
 sound-fresh cp h = ap (λ (a : Answer). sound (a .state)) (sym (fresh-good cp h)) ∙ fresh-sound cp
 
+-- a reduced address serves for a doubleword pointer
+doubleword-reduced : (m : Buffers) (t : Bool) (a : ℕ) → doublewordAt m t (a % 1048576) ≡ doublewordAt m t a
+unfolding doublewordAt
+doubleword-reduced m t a =
+    ap₂ addressOf (word-reduced m t a)
+    (sym (word-reduced m t (a % 1048576 + 2)) ∙ ap (wordAt m t) (mod-add-mod a 1048576 2) ∙ word-reduced m t (a + 2))
+
+-- and for a byte that is lent, or several
+lent-reduced : (m : Buffers) (t : Bool) (a : ℕ) → lentAt m t (a % 1048576) ≡ lentAt m t a
+lent-reduced m t a = lent-index m t (a % 1048576) a (index-reduced t a)
+
+span-reduced : (m : Buffers) (t : Bool) (a n : ℕ) → Lent m (pointer a t) n → Lent m (pointer (a % 1048576) t) n
+span-reduced m t a n h i less = lent-index m t (a % 1048576 + i) (a + i) (index-after t a i) ∙ h i less
+
 module _ (cp : ℕ) (b : Bool) (m : Buffers) (pb program : ℕ) (k : Starts m (blockOf (freshState cp) b) pb program) where
   -- the order in the block
   order : Order
@@ -77,7 +93,7 @@ module _ (cp : ℕ) (b : Bool) (m : Buffers) (pb program : ℕ) (k : Starts m (b
 
   order-is : orderTo (freshState cp) m b ≡ order
   unfolding order orderTo orderOf ccwOf commandCoded fieldOf parameterBlock
-  order-is = rw (k .command, k .parameters)
+  order-is = rw (k .command, doubleword-reduced m false (blockOf (freshState cp) b + 2), k .parameters)
 
   -- CCW is lent
   block-lent : allLent m (span false (blockOf (freshState cp) b) 1) ≡ true
@@ -86,13 +102,15 @@ module _ (cp : ℕ) (b : Bool) (m : Buffers) (pb program : ℕ) (k : Starts m (b
 
   -- all else that it touches is lent
   others-lent : allLent m (others order) ≡ true
-  unfolding order others readBy storedBy span allLent
+  unfolding order others readBy storedBy busyIn span allLent
   others-lent =
-      all-append m (span false (blockOf (freshState cp) b + 2) 4 ++ span false pb 4) (span false (blockOf (freshState cp) b + 1) 1)
+      let block = blockOf (freshState cp) b in
+      let at = (block + 2) % 1048576 in
+      all-append m (span false at 4 ++ span false pb 4) (span false ((block + 1) % 1048576) 1)
       ∙ ap₂ _&&_
-      (all-append m (span false (blockOf (freshState cp) b + 2) 4) (span false pb 4)
-      ∙ ap₂ _&&_ (span-lent m false (blockOf (freshState cp) b + 2) 4 (k .parametersLent)) (span-lent m false pb 4 (k .taskLent)))
-      (rw (k .busyLent))
+      (all-append m (span false at 4) (span false pb 4)
+      ∙ ap₂ _&&_ (span-lent m false at 4 (span-reduced m false (block + 2) 4 (k .parametersLent))) (span-lent m false pb 4 (k .taskLent)))
+      (rw (lent-reduced m false (block + 1), k .busyLent))
 
   -- the channel that it leaves
   channel-is : orderedChannel (freshState cp) m b ≡ channelOrdered m order idleChannel
@@ -115,8 +133,10 @@ module _ (cp : ℕ) (b : Bool) (m : Buffers) (pb program : ℕ) (k : Starts m (b
 
   -- and memory
   memory-is : orderedMemory (freshState cp) m b ≡ storeByte m false (blockOf (freshState cp) b + 1) 255
-  unfolding order orderedMemory writesMade writesOf marked
-  memory-is = ap (λ (o : Order). writesMade m (writesOf (o .command) (o .block) (o .pb) (channelOf (freshState cp) b))) order-is
+  unfolding order orderedMemory writesMade writesOf marked busyIn
+  memory-is =
+      ap (λ (o : Order). writesMade m (writesOf (o .command) (o .block) (o .pb) (channelOf (freshState cp) b))) order-is
+      ∙ store-reduced m false (blockOf (freshState cp) b + 1) 255
 
   module _ (h : cp < 1048576) (fit : ¬ (TooLong m)) where
     -- a channel's number names it
