@@ -8,7 +8,7 @@ use lib.Dec.{eqb, leb, lit≤}
 use Rattle.decode_shapes.specs.declared.pairs.Pair.{Pair}
 use Rattle.decode_shapes.specs.declared.Shape.{Shape}
 use Rattle.decode_shapes.specs.declared.Shape.the-variants.{Nop, Sintr, Xfer, Wid, Hlt, Lpdi, RegisterImmediate, Register, JumpRegister, RegisterMemory, MemoryRegister, MemoryImmediate, MemoryAlone, JumpMemory, Lpd, MovpLoad, MovpStore, MovMemory, Tsl, Call, JumpMasked, JumpBit, Bit}
-use Rattle.decode.specs.Lengths.{offsetBy, moreBy, twoBy, dataLength, displacementLength, lengthOf, isLong, pairLength}
+use Rattle.decode.specs.Lengths.{offsetBy, moreBy, twoBy, dataLength, displacementLength, lengthOf, longCode, pairLength}
 
 -- a byte more is at most one
 pub more-small : (b : Bool) → moreBy b ≤ 1
@@ -54,4 +54,4 @@ bounded (Bit on bit m) = omega (arith, offset-small (m .aa))
 -- what a pair announces is at most eight
 pub pair-small : (p : Pair) → pairLength p ≤ 8
 unfolding pairLength
-pair-small p = omega (arith, offset-small (p .aa), more-small (eqb (p .dd) 1), two-small (leb 2 (p .dd)), two-small (isLong p))
+pair-small p = omega (arith, offset-small (p .aa), more-small (eqb (p .dd) 1), two-small (leb 2 (p .dd)), two-small (longCode (p .opcode)))

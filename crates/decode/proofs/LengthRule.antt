@@ -17,7 +17,7 @@ use Rattle.decode_shapes.specs.declared.Shape.the-variants.{Lpdi, MovMemory, Ts
 use Rattle.decode_shapes.specs.declared.Decoded.the-variants.{Instruction, NoInstruction, ControlUsed}
 use Rattle.decode.specs.Table.{SummaryRow, row, table, accepts}
 use Rattle.decode.specs.Reading.{fits, lookup, decodeOf}
-use Rattle.decode.specs.Lengths.{offsetBy, moreBy, twoBy, dataLength, displacementLength, lengthOf, pairLength}
+use Rattle.decode.specs.Lengths.{offsetBy, moreBy, twoBy, dataLength, displacementLength, lengthOf, longCode, pairLength}
 
 infixr 20 _▸_
 -- the bytes that dd announces
@@ -64,16 +64,15 @@ announced-wb w d h = go (eqb w 0) refl (eqb d 1) refl (eqb w 1) refl h
 
 -- neither LPDI nor MOV M,M
 ordinary : ℕ → Bool
-ordinary k = not (eqb k 0x02) && not (eqb k 0x24)
+ordinary k = not (longCode k)
 
 by-fields : (p : Pair) (k : ℕ) → p .opcode ≡ k → T (ordinary k) → pairLength p ≡ 2 + offsetBy (p .aa) + announced (p .dd)
 unfolding pairLength announced ordinary
-by-fields p k e t = rw e (go (eqb k 0x02) (eqb k 0x24) t)
+by-fields p k e t = rw e (go (longCode k) t)
   where
-    go : (a b : Bool) → T (not a && not b) → 2 + offsetBy (p .aa) + moreBy (eqb (p .dd) 1) + twoBy (leb 2 (p .dd)) + twoBy (a || b) ≡ 2 + offsetBy (p .aa) + announced (p .dd)
-    go false false u = omega arith
-    go false true u = absurd u
-    go true b u = absurd u
+    go : (b : Bool) → T (not b) → 2 + offsetBy (p .aa) + moreBy (eqb (p .dd) 1) + twoBy (leb 2 (p .dd)) + twoBy b ≡ 2 + offsetBy (p .aa) + announced (p .dd)
+    go false u = omega arith
+    go true u = absurd u
 
 -- the rule holds at a row
 Right : SummaryRow → Type 0

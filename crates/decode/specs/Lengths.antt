@@ -85,10 +85,10 @@ displacementLength s = partsOf s .displacement
 unfoldable pub lengthOf : Shape → ℕ
 lengthOf s = partsOf s .pairs + partsOf s .offset + dataLength s + displacementLength s
 
--- a pair of LPDI, with its four bytes of data, or of MOV M,M, with its second pair: two bytes more than dd announces
-abbrev pub isLong : Pair → Bool
-isLong p = eqb (p .opcode) 0x02 || eqb (p .opcode) 0x24
+-- the opcodes of LPDI, with its four bytes of data, and of MOV M,M, with its second pair: two bytes more than dd announces
+abbrev pub longCode : ℕ → Bool
+longCode opcode = eqb opcode 0x02 || eqb opcode 0x24
 
--- the bytes of the instruction that a pair begins: two, one more where AA is 01, as many as dd announces (TSL's 11 announces two), two more where it is long
+-- the bytes of the instruction that a pair begins: two, one more where AA is 01, as many as dd announces (TSL's 11 announces two), two more for a long code
 unfoldable pub pairLength : Pair → ℕ
-pairLength p = 2 + offsetBy (p .aa) + moreBy (eqb (p .dd) 1) + twoBy (leb 2 (p .dd)) + twoBy (isLong p)
+pairLength p = 2 + offsetBy (p .aa) + moreBy (eqb (p .dd) 1) + twoBy (leb 2 (p .dd)) + twoBy (longCode (p .opcode))

@@ -1,4 +1,4 @@
--- `shapes::pairs::split` meets its contract: each field is the definition's.
+-- `decode_shapes::pairs::split` meets its contract: each field is the definition's.
 -- Assumes nothing.
 use borrow.Author.Needs.{needs}
 use Rattle.decode_shapes.specs.Pairs.{pairOf}

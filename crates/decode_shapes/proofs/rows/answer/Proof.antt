@@ -1,4 +1,4 @@
--- `shapes::rows::answer` meets its contract: its tests are the definition's.
+-- `decode_shapes::rows::answer` meets its contract: its tests are the definition's.
 -- Assumes nothing.
 use Rattle.decode_shapes.proofs.rows.answer.Statement.{statement}
 use Rattle.decode_shapes.proofs.rows.answer.Tie as tie

@@ -1,4 +1,4 @@
--- `shapes::rows::jump_bit` meets its contract: its tests are the columns of its row.
+-- `decode_shapes::rows::jump_bit` meets its contract: its tests are the columns of its row.
 -- Assumes nothing.
 use borrow.Author.Needs.{needs}
 use Rattle.decode_shapes.proofs.rows.jump_bit.Statement.{statement}

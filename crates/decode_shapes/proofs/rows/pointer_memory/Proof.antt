@@ -1,4 +1,4 @@
--- `shapes::rows::pointer_memory` meets its contract: its tests are the columns of its rows.
+-- `decode_shapes::rows::pointer_memory` meets its contract: its tests are the columns of its rows.
 -- Assumes nothing.
 use borrow.Author.Needs.{needs}
 use Rattle.decode_shapes.proofs.rows.pointer_memory.Statement.{statement}

@@ -1,4 +1,4 @@
--- `shapes::rows::register_memory` meets its contract: its tests are the columns of its row.
+-- `decode_shapes::rows::register_memory` meets its contract: its tests are the columns of its row.
 -- Assumes nothing.
 use borrow.Author.Needs.{needs}
 use Rattle.decode_shapes.proofs.rows.register_memory.Statement.{statement}
