@@ -38,13 +38,13 @@ pub(crate) struct Round {
 }
 
 // Transfer steps of a channel until its transfer ends, one is refused, or none is left.
-fn transfers(c: Channel, sys: &mut [u8], io: &mut [u8], from: u16, until: u16) -> Burst
-    requires { ⌜ from ≤ until ⌝ }
-    ensures { λ r. ⌜ burst (r .number) (r .steps) (r .channel) (buffers (now (sys .exit)) (now (io .exit))) ≡ burstFrom moves transfersOn (until - from) c (buffers (now (sys .entry)) (now (io .entry))) from ⌝ }
+fn transfers(c: Channel, sys: &mut [u8], io: &mut [u8], from: u16, stop: u16) -> Burst
+    requires { ⌜ from ≤ stop ⌝ }
+    ensures { λ r. ⌜ burst (r .number) (r .steps) (r .channel) (buffers (now (sys .exit)) (now (io .exit))) ≡ burstFrom moves transfersOn (stop - from) c (buffers (now (sys .entry)) (now (io .entry))) from ⌝ }
 {
     let mut mine = c;
     let mut done = from;
-    while done < until {
+    while done < stop {
         let t = transfer::transfer(mine, sys, io);
         if t.number != 0 {
             return Burst {
@@ -72,20 +72,13 @@ fn transfers(c: Channel, sys: &mut [u8], io: &mut [u8], from: u16, until: u16) -
 }
 
 // Instructions of a channel until it stops or starts a transfer, one is refused, or none is left; BUSY is at `busy` of system memory.
-fn instructions(
-    c: Channel,
-    busy: u32,
-    sys: &mut [u8],
-    io: &mut [u8],
-    from: u16,
-    until: u16,
-) -> Burst
-    requires { ⌜ from ≤ until ⌝ }
-    ensures { λ r. ⌜ burst (r .number) (r .steps) (r .channel) (buffers (now (sys .exit)) (now (io .exit))) ≡ burstFrom (executes busy) executesOn (until - from) c (buffers (now (sys .entry)) (now (io .entry))) from ⌝ }
+fn instructions(c: Channel, busy: u32, sys: &mut [u8], io: &mut [u8], from: u16, stop: u16) -> Burst
+    requires { ⌜ from ≤ stop ⌝ }
+    ensures { λ r. ⌜ burst (r .number) (r .steps) (r .channel) (buffers (now (sys .exit)) (now (io .exit))) ≡ burstFrom (executes busy) executesOn (stop - from) c (buffers (now (sys .entry)) (now (io .entry))) from ⌝ }
 {
     let mut mine = c;
     let mut done = from;
-    while done < until {
+    while done < stop {
         let e = execute::execute(mine, busy, sys, io);
         if e.number != 0 {
             return Burst {

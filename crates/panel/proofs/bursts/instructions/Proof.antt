@@ -15,14 +15,14 @@ use Rattle.panel.proofs.bursts.instructions.Statement.{statement}
 use Rattle.panel.proofs.bursts.instructions.Tie as tie
 
 abbrev Inv-loop : tie.InvT-loop
-Inv-loop busy sys₀ io₀ from until mine₀ done₀ sys io mine done =
-    (done ≤ until)
+Inv-loop busy sys₀ io₀ from stop mine₀ done₀ sys io mine done =
+    (done ≤ stop)
     × (length sys ≡ length sys₀)
     × (length io ≡ length io₀)
-    × (burstFrom (executes busy) executesOn (until - done) mine (buffers sys io) done ≡ burstFrom (executes busy) executesOn (until - done₀) mine₀ (buffers sys₀ io₀) done₀)
+    × (burstFrom (executes busy) executesOn (stop - done) mine (buffers sys io) done ≡ burstFrom (executes busy) executesOn (stop - done₀) mine₀ (buffers sys₀ io₀) done₀)
 
 abbrev μ-loop : tie.MeasureT-loop
-μ-loop busy sys₀ io₀ from until mine₀ done₀ sys io mine done = until - done
+μ-loop busy sys₀ io₀ from stop mine₀ done₀ sys io mine done = stop - done
 
 loop-holds : tie.Need-loop-holds Inv-loop μ-loop
 loop-holds c = (c .before .before .pre, refl, refl, refl)
@@ -44,11 +44,11 @@ returns c =
     let e = c .before .before .before .before .before .before .execute .ensures in
     ap (λ (o : Executed). burst (o .number) (l .done) (l .mine) (o .memory)) e
     ∙ sym
-    (burst-stops (executes (a .busy)) executesOn (l .mine) m (l .done) (a .until - l .done) (omega (arith, c .before .before .before .before .before .before .before .before .before .loop-test .taken)) (λ z. c .if1 .taken (ap (λ (o : Executed). o .number) e ∙ z)))
+    (burst-stops (executes (a .busy)) executesOn (l .mine) m (l .done) (a .stop - l .done) (omega (arith, c .before .before .before .before .before .before .before .before .before .loop-test .taken)) (λ z. c .if1 .taken (ap (λ (o : Executed). o .number) e ∙ z)))
     ∙ l .inv .3
 
 add-done : tie.Need-add-done Inv-loop μ-loop
-add-done c = omega (arith, c .before .before .before .before .before .before .before .before .before .before .loop-test .taken, c .before .before .before .before .before .before .before .before .before .before .before .before .before .before .fits .until .fits)
+add-done c = omega (arith, c .before .before .before .before .before .before .before .before .before .before .loop-test .taken, c .before .before .before .before .before .before .before .before .before .before .before .before .before .before .fits .stop .fits)
 
 is-running-requires : tie.Need-is-running-requires Inv-loop μ-loop
 is-running-requires c κs = search needs
@@ -70,7 +70,7 @@ returns-2 c =
     let e = c .before .before .before .before .before .before .before .before .before .before .execute .ensures in
     ap (λ (o : Executed). burst 0 (l .done + 1) (o .channel) (o .memory)) e
     ∙ sym
-    (burst-ends (executes (a .busy)) executesOn (l .mine) m (l .done) (a .until - l .done) (omega (arith, c .before .before .before .before .before .before .before .before .before .before .before .before .before .loop-test .taken)) (sym (ap (λ (o : Executed). o .number) e) ∙ c .before .before .before .before .if1 .left)
+    (burst-ends (executes (a .busy)) executesOn (l .mine) m (l .done) (a .stop - l .done) (omega (arith, c .before .before .before .before .before .before .before .before .before .before .before .before .before .loop-test .taken)) (sym (ap (λ (o : Executed). o .number) e) ∙ c .before .before .before .before .if1 .left)
     (ap (λ (o : Executed). executesOn (o .channel)) (sym e) ∙ sym (ap₂ (λ (x y : Bool). x && not y) (c .before .before .is-running .ensures) (c .before .transferring .ensures)) ∙ not-true _ (c .if2 .taken)))
     ∙ l .inv .3
 
@@ -83,14 +83,14 @@ loop-again c =
     let a = c .before .before .before .before .before .before .before .before .before .before .before .before .before .before .before .before .before .args in
     let m = buffers (l .sys) (l .io) in
     let e = c .before .before .before .before .before .before .before .before .before .before .execute .ensures in
-    let left : a .until - (l .done + 1) ≡ a .until - l .done - 1 = omega arith in (
+    let left : a .stop - (l .done + 1) ≡ a .stop - l .done - 1 = omega arith in (
       omega (arith, c .before .before .before .before .before .before .before .before .before .before .before .before .before .loop-test .taken),
       c .before .before .before .before .before .before .before .before .before .before .execute .kept .1 .1 .0 ∙ l .inv .1,
       c .before .before .before .before .before .before .before .before .before .before .execute .kept .1 .1 .1 .0 ∙ l .inv .2,
-      ap (λ (o : Executed). burstFrom (executes (a .busy)) executesOn (a .until - (l .done + 1)) (o .channel) (o .memory) (l .done + 1)) e
+      ap (λ (o : Executed). burstFrom (executes (a .busy)) executesOn (a .stop - (l .done + 1)) (o .channel) (o .memory) (l .done + 1)) e
           ∙ ap (λ (n : ℕ). burstFrom (executes (a .busy)) executesOn n ((executeOf (l .mine) (a .busy) m) .channel) ((executeOf (l .mine) (a .busy) m) .memory) (l .done + 1)) left
           ∙ sym
-          (burst-goes (executes (a .busy)) executesOn (l .mine) m (l .done) (a .until - l .done) (omega (arith, c .before .before .before .before .before .before .before .before .before .before .before .before .before .loop-test .taken)) (sym (ap (λ (o : Executed). o .number) e) ∙ c .before .before .before .before .if1 .left)
+          (burst-goes (executes (a .busy)) executesOn (l .mine) m (l .done) (a .stop - l .done) (omega (arith, c .before .before .before .before .before .before .before .before .before .before .before .before .before .loop-test .taken)) (sym (ap (λ (o : Executed). o .number) e) ∙ c .before .before .before .before .if1 .left)
           (ap (λ (o : Executed). executesOn (o .channel)) (sym e) ∙ sym (ap₂ (λ (x y : Bool). x && not y) (c .before .before .is-running .ensures) (c .before .transferring .ensures)) ∙ not-false _ (c .if2 .left)))
           ∙ l .inv .3,
     )
@@ -105,7 +105,7 @@ returns-3 : tie.Need-returns-3 Inv-loop μ-loop
 returns-3 c =
     let l = c .before .loop in
     let a = c .before .before .before .before .args in
-    sym (burst-limit (executes (a .busy)) executesOn (l .mine) (buffers (l .sys) (l .io)) (l .done) (a .until - l .done) (omega (arith, c .loop-test .left))) ∙ l .inv .3
+    sym (burst-limit (executes (a .busy)) executesOn (l .mine) (buffers (l .sys) (l .io)) (l .done) (a .stop - l .done) (omega (arith, c .loop-test .left))) ∙ l .inv .3
 
 pub instructions-spec : {M : Type 1} → statement M
 instructions-spec =

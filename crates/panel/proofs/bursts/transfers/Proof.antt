@@ -15,14 +15,14 @@ use Rattle.panel.proofs.bursts.transfers.Statement.{statement}
 use Rattle.panel.proofs.bursts.transfers.Tie as tie
 
 abbrev Inv-loop : tie.InvT-loop
-Inv-loop sys₀ io₀ from until mine₀ done₀ sys io mine done =
-    (done ≤ until)
+Inv-loop sys₀ io₀ from stop mine₀ done₀ sys io mine done =
+    (done ≤ stop)
     × (length sys ≡ length sys₀)
     × (length io ≡ length io₀)
-    × (burstFrom moves transfersOn (until - done) mine (buffers sys io) done ≡ burstFrom moves transfersOn (until - done₀) mine₀ (buffers sys₀ io₀) done₀)
+    × (burstFrom moves transfersOn (stop - done) mine (buffers sys io) done ≡ burstFrom moves transfersOn (stop - done₀) mine₀ (buffers sys₀ io₀) done₀)
 
 abbrev μ-loop : tie.MeasureT-loop
-μ-loop sys₀ io₀ from until mine₀ done₀ sys io mine done = until - done
+μ-loop sys₀ io₀ from stop mine₀ done₀ sys io mine done = stop - done
 
 loop-holds : tie.Need-loop-holds Inv-loop μ-loop
 loop-holds c = (c .before .before .pre, refl, refl, refl)
@@ -43,11 +43,11 @@ returns c =
     let m = buffers (l .sys) (l .io) in
     let e = c .before .before .before .before .before .before .transfer .ensures in
     ap (λ (o : Transfer). burst (o .number) (l .done) (l .mine) (o .memory)) e
-    ∙ sym (burst-stops moves transfersOn (l .mine) m (l .done) (a .until - l .done) (omega (arith, c .before .before .before .before .before .before .before .before .before .loop-test .taken)) (λ z. c .if1 .taken (ap (λ (o : Transfer). o .number) e ∙ z)))
+    ∙ sym (burst-stops moves transfersOn (l .mine) m (l .done) (a .stop - l .done) (omega (arith, c .before .before .before .before .before .before .before .before .before .loop-test .taken)) (λ z. c .if1 .taken (ap (λ (o : Transfer). o .number) e ∙ z)))
     ∙ l .inv .3
 
 add-done : tie.Need-add-done Inv-loop μ-loop
-add-done c = omega (arith, c .before .before .before .before .before .before .before .before .before .before .loop-test .taken, c .before .before .before .before .before .before .before .before .before .before .before .before .before .before .fits .until .fits)
+add-done c = omega (arith, c .before .before .before .before .before .before .before .before .before .before .loop-test .taken, c .before .before .before .before .before .before .before .before .before .before .before .before .before .before .fits .stop .fits)
 
 transferring-requires : tie.Need-transferring-requires Inv-loop μ-loop
 transferring-requires c κs = search needs
@@ -66,7 +66,7 @@ returns-2 c =
     let e = c .before .before .before .before .before .before .before .before .before .transfer .ensures in
     ap (λ (o : Transfer). burst 0 (l .done + 1) (o .channel) (o .memory)) e
     ∙ sym
-    (burst-ends moves transfersOn (l .mine) m (l .done) (a .until - l .done) (omega (arith, c .before .before .before .before .before .before .before .before .before .before .before .before .loop-test .taken)) (sym (ap (λ (o : Transfer). o .number) e) ∙ c .before .before .before .if1 .left)
+    (burst-ends moves transfersOn (l .mine) m (l .done) (a .stop - l .done) (omega (arith, c .before .before .before .before .before .before .before .before .before .before .before .before .loop-test .taken)) (sym (ap (λ (o : Transfer). o .number) e) ∙ c .before .before .before .if1 .left)
     (ap (λ (o : Transfer). transferring (o .channel .psw)) (sym e) ∙ sym (c .before .transferring .ensures) ∙ not-true _ (c .if2 .taken)))
     ∙ l .inv .3
 
@@ -79,14 +79,14 @@ loop-again c =
     let a = c .before .before .before .before .before .before .before .before .before .before .before .before .before .before .before .before .args in
     let m = buffers (l .sys) (l .io) in
     let e = c .before .before .before .before .before .before .before .before .before .transfer .ensures in
-    let left : a .until - (l .done + 1) ≡ a .until - l .done - 1 = omega arith in (
+    let left : a .stop - (l .done + 1) ≡ a .stop - l .done - 1 = omega arith in (
       omega (arith, c .before .before .before .before .before .before .before .before .before .before .before .before .loop-test .taken),
       c .before .before .before .before .before .before .before .before .before .transfer .kept .1 .0 ∙ l .inv .1,
       c .before .before .before .before .before .before .before .before .before .transfer .kept .1 .1 .0 ∙ l .inv .2,
-      ap (λ (o : Transfer). burstFrom moves transfersOn (a .until - (l .done + 1)) (o .channel) (o .memory) (l .done + 1)) e
+      ap (λ (o : Transfer). burstFrom moves transfersOn (a .stop - (l .done + 1)) (o .channel) (o .memory) (l .done + 1)) e
           ∙ ap (λ (n : ℕ). burstFrom moves transfersOn n ((transferOf (l .mine) m) .channel) ((transferOf (l .mine) m) .memory) (l .done + 1)) left
           ∙ sym
-          (burst-goes moves transfersOn (l .mine) m (l .done) (a .until - l .done) (omega (arith, c .before .before .before .before .before .before .before .before .before .before .before .before .loop-test .taken)) (sym (ap (λ (o : Transfer). o .number) e) ∙ c .before .before .before .if1 .left)
+          (burst-goes moves transfersOn (l .mine) m (l .done) (a .stop - l .done) (omega (arith, c .before .before .before .before .before .before .before .before .before .before .before .before .loop-test .taken)) (sym (ap (λ (o : Transfer). o .number) e) ∙ c .before .before .before .if1 .left)
           (ap (λ (o : Transfer). transferring (o .channel .psw)) (sym e) ∙ sym (c .before .transferring .ensures) ∙ not-false _ (c .if2 .left)))
           ∙ l .inv .3,
     )
@@ -101,7 +101,7 @@ returns-3 : tie.Need-returns-3 Inv-loop μ-loop
 returns-3 c =
     let l = c .before .loop in
     let a = c .before .before .before .before .args in
-    sym (burst-limit moves transfersOn (l .mine) (buffers (l .sys) (l .io)) (l .done) (a .until - l .done) (omega (arith, c .loop-test .left))) ∙ l .inv .3
+    sym (burst-limit moves transfersOn (l .mine) (buffers (l .sys) (l .io)) (l .done) (a .stop - l .done) (omega (arith, c .loop-test .left))) ∙ l .inv .3
 
 pub transfers-spec : {M : Type 1} → statement M
 transfers-spec =
