@@ -1,5 +1,5 @@
 -- What a call makes of the machine: its state and the bytes that are lent.
-use mathlib.Core.Bool.{Bool}
+use mathlib.Core.Bool.{Bool, true, false}
 use mathlib.Core.List.{List}
 use Prim.Native.Nat.{ℕ}
 use lib.ListN.{length, replicate}
@@ -54,3 +54,15 @@ callPerformed (Attention channel) line s m = machineAttended s m channel
 callPerformed (Step lines) line s m = machineAdvanced s m lines
 callPerformed Dump line s m = machine s m
 callPerformed (Show space address) line s m = machine s m
+
+-- whether a line's call was made: no call at all was not, and no `put` past its buffer's end
+unfoldable pub callMade : Call → List ℕ → Buffers → Bool
+callMade Nothing line m = true
+callMade Unknown line m = false
+callMade (Make sys io cp) line m = true
+callMade (Put space address) line m = hasRoom (pick space (m .io) (m .sys)) address (spanned line (fourthSpan line))
+callMade (Set channel register value) line m = true
+callMade (Attention channel) line m = true
+callMade (Step lines) line m = true
+callMade Dump line m = true
+callMade (Show space address) line m = true

@@ -6,10 +6,19 @@ use script_text::text;
 use script_text::text::Call;
 use step::Kind;
 ghost use mathlib.Core.Path.{_≡_};
+ghost use mathlib.Core.Bool.{true};
 ghost use Rattle.memory.specs.Buffers.{buffers};
 ghost use Rattle.script_text.specs.Text.{spanned, fourthSpan};
 ghost use Rattle.script_text.specs.Registers.{withNamed};
-ghost use Rattle.script_answers.specs.Machine.{machine, remade, putInto, machineAttended, machineAdvanced, callPerformed};
+ghost use Rattle.words.specs.Choice.{pick};
+ghost use Rattle.script_text.specs.Buffers.{hasRoom};
+ghost use Rattle.script_answers.specs.Machine.{machine, remade, putInto, machineAttended, machineAdvanced, callPerformed, callMade};
+
+// The state after a line, and whether its call was made.
+pub struct Performed {
+    pub state: State,
+    pub made: bool,
+}
 
 // Makes every byte 0, and a fresh state.
 fn make(cp: u32, sys: &mut [u8], io: &mut [u8]) -> State
@@ -23,8 +32,9 @@ fn make(cp: u32, sys: &mut [u8], io: &mut [u8]) -> State
     state
 }
 
-// Writes the bytes that are a line's fourth word.
-fn put(io_space: bool, address: u32, line: &[u8], sys: &mut [u8], io: &mut [u8])
+// Writes the bytes that are a line's fourth word, and answers whether they were written.
+fn put(io_space: bool, address: u32, line: &[u8], sys: &mut [u8], io: &mut [u8]) -> bool
+    ensures { λ r. ⌜ r ≡ hasRoom (pick «io_space» (now (io .entry)) (now (sys .entry))) address (spanned (now (line .entry)) (fourthSpan (now (line .entry)))) ⌝ }
     ensures { λ r. ⌜ buffers (now (sys .exit)) (now (io .exit)) ≡ putInto (buffers (now (sys .entry)) (now (io .entry))) «io_space» address (spanned (now (line .entry)) (fourthSpan (now (line .entry)))) ⌝ }
 {
     let span = text::fourth_word(line);
@@ -32,10 +42,13 @@ fn put(io_space: bool, address: u32, line: &[u8], sys: &mut [u8], io: &mut [u8])
     let to = span.to;
     let digits = &line[from..to];
     if io_space {
-        script_prints::print_put(buffers::put(io, address as usize, digits));
-    } else {
-        script_prints::print_put(buffers::put(sys, address as usize, digits));
+        let written = buffers::put(io, address as usize, digits);
+        script_prints::print_put(written);
+        return written;
     }
+    let written = buffers::put(sys, address as usize, digits);
+    script_prints::print_put(written);
+    written
 }
 
 // Sets a register.
@@ -86,31 +99,51 @@ fn show(io_space: bool, address: u32, sys: &[u8], io: &[u8]) {
     }
 }
 
+// A state after a call that was made.
+fn made(state: State) -> Performed
+    ensures { λ r. ⌜ (r .state ≡ state) × (r .made ≡ true) ⌝ }
+{
+    Performed { state, made: true }
+}
+
 // Makes the call of a line, in the buffers that are lent after it.
-pub fn perform(s: State, call: Call, line: &[u8], sys: &mut [u8], io: &mut [u8]) -> State
-    ensures { λ r. ⌜ machine r (buffers (now (sys .exit)) (now (io .exit))) ≡ callPerformed call (now (line .entry)) s (buffers (now (sys .entry)) (now (io .entry))) ⌝ }
+pub fn perform(s: State, call: Call, line: &[u8], sys: &mut [u8], io: &mut [u8]) -> Performed
+    ensures { λ r. ⌜ machine (r .state) (buffers (now (sys .exit)) (now (io .exit))) ≡ callPerformed call (now (line .entry)) s (buffers (now (sys .entry)) (now (io .entry))) ⌝ }
+    ensures { λ r. ⌜ r .made ≡ callMade call (now (line .entry)) (buffers (now (sys .entry)) (now (io .entry))) ⌝ }
 {
     match call {
-        Call::Nothing => s,
+        Call::Nothing => Performed {
+            state: s,
+            made: true,
+        },
         Call::Unknown => {
             script_prints::refuse();
-            s
+            Performed {
+                state: s,
+                made: false,
+            }
         }
-        Call::Make(_, _, cp) => make(cp, sys, io),
-        Call::Put(io_space, address) => {
-            put(io_space, address, line, sys, io);
-            s
-        }
-        Call::Set(channel, register, value) => set(s, channel, register, value),
-        Call::Attention(channel) => attend(s, channel, sys, io),
-        Call::Step(lines) => advance(s, lines, sys, io),
+        Call::Make(_, _, cp) => made(make(cp, sys, io)),
+        Call::Put(io_space, address) => Performed {
+            state: s,
+            made: put(io_space, address, line, sys, io),
+        },
+        Call::Set(channel, register, value) => made(set(s, channel, register, value)),
+        Call::Attention(channel) => made(attend(s, channel, sys, io)),
+        Call::Step(lines) => made(advance(s, lines, sys, io)),
         Call::Dump => {
             script_prints::print_dump(s, sys, io);
-            s
+            Performed {
+                state: s,
+                made: true,
+            }
         }
         Call::Show(io_space, address) => {
             show(io_space, address, sys, io);
-            s
+            Performed {
+                state: s,
+                made: true,
+            }
         }
     }
 }

@@ -1,7 +1,6 @@
 -- `script_answers::put` meets its contract.
 -- Assumes nothing.
 use Prim.Native.Nat.{ℕ}
-use borrow.Author.Needs.{needs}
 use denote.Ref.{now}
 use mathlib.Core.Bool.{Bool}
 use mathlib.Core.List.{List}
@@ -9,8 +8,9 @@ use mathlib.Core.Path.{ap, _∙_}
 use Rattle.words.specs.Choice.{pick}
 use Rattle.memory.specs.Buffers.{buffers}
 use Rattle.script_text.specs.Buffers.{bytesWritten}
-use Rattle.script_answers.specs.Machine.{putOf, putInto}
 use Rattle.script_text.specs.Text.{spanned}
+use Rattle.script_answers.specs.Machine.{putOf, putInto}
+use borrow.Author.Needs.{needs}
 use Rattle.script_answers.proofs.put.Statement.{statement}
 use Rattle.script_answers.proofs.put.Tie as tie
 
@@ -32,14 +32,8 @@ put-requires c κs = search needs
 print-put-requires : tie.Need-print-put-requires
 print-put-requires c κs = search needs
 
-put-requires-2 : tie.Need-put-requires-2
-put-requires-2 c κs = search needs
-
-print-put-requires-2 : tie.Need-print-put-requires-2
-print-put-requires-2 c κs = search needs
-
 same-length : tie.Need-same-length
-same-length c = c .before .before .before .put .kept .0
+same-length c = search needs
 
 returns : tie.Need-returns
 unfolding putInto putOf
@@ -47,12 +41,21 @@ returns c =
     let a = c .before .before .before .before .before .before .before .before .before .before .before .args in
     let p = c .before .before .before .put in
     let w = c .before .before .before .before .before .before .before .fourth-word in
-    let digits = spanned (now (a .line)) (w .result) in
-    ap (buffers (now (a .sys))) (p .ensures .1 ∙ ap (λ (t : Bool). pick t (bytesWritten (now (a .io)) (a .address) digits) (now (a .io))) (p .ensures .0))
-    ∙ rw (c .before .before .before .before .before .if1 .taken, w .ensures .0)
+    let test = c .before .before .before .before .before .if1 .taken in
+    let digits = spanned (now (a .line)) (w .result) in (
+      p .ensures .0 ∙ rw (test, w .ensures .0),
+      ap (buffers (now (a .sys))) (p .ensures .1 ∙ ap (λ (t : Bool). pick t (bytesWritten (now (a .io)) (a .address) digits) (now (a .io))) (p .ensures .0))
+          ∙ rw (test, w .ensures .0),
+    )
+
+put-requires-2 : tie.Need-put-requires-2
+put-requires-2 c κs = search needs
+
+print-put-requires-2 : tie.Need-print-put-requires-2
+print-put-requires-2 c κs = search needs
 
 same-length-2 : tie.Need-same-length-2
-same-length-2 c = c .before .before .before .put2 .kept .0
+same-length-2 c = search needs
 
 returns-2 : tie.Need-returns-2
 unfolding putInto putOf
@@ -60,9 +63,12 @@ returns-2 c =
     let a = c .before .before .before .before .before .before .before .before .before .before .before .args in
     let p = c .before .before .before .put2 in
     let w = c .before .before .before .before .before .before .before .fourth-word in
-    let digits = spanned (now (a .line)) (w .result) in
-    ap (λ (l : List ℕ). buffers l (now (a .io))) (p .ensures .1 ∙ ap (λ (t : Bool). pick t (bytesWritten (now (a .sys)) (a .address) digits) (now (a .sys))) (p .ensures .0))
-    ∙ rw (c .before .before .before .before .before .if1 .left, w .ensures .0)
+    let test = c .before .before .before .before .before .if1 .left in
+    let digits = spanned (now (a .line)) (w .result) in (
+      p .ensures .0 ∙ rw (test, w .ensures .0),
+      ap (λ (l : List ℕ). buffers l (now (a .io))) (p .ensures .1 ∙ ap (λ (t : Bool). pick t (bytesWritten (now (a .sys)) (a .address) digits) (now (a .sys))) (p .ensures .0))
+          ∙ rw (test, w .ensures .0),
+    )
 
 pub put-spec : {M : Type 1} → statement M
 put-spec =
@@ -74,9 +80,9 @@ put-spec =
     part-digits-end
     put-requires
     print-put-requires
-    put-requires-2
-    print-put-requires-2
     same-length
     returns
+    put-requires-2
+    print-put-requires-2
     same-length-2
     returns-2)
