@@ -29,3 +29,11 @@ pub mod ProgramLaws
 pub mod Showpiece
 pub mod ImageLaws
 pub mod Made
+pub mod SheetLaws
+pub mod SheetAttention
+pub mod SheetOperands
+pub mod SheetRegisters
+pub mod SheetMemory
+pub mod SheetControl
+pub mod SheetTurns
+pub mod SheetTransfer

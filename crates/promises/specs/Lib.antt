@@ -15,3 +15,11 @@ pub mod Met
 pub mod Program
 pub mod Image
 pub mod Made
+pub mod SheetWords
+pub mod SheetAttention
+pub mod SheetOperands
+pub mod SheetRegisters
+pub mod SheetMemory
+pub mod SheetControl
+pub mod SheetTurns
+pub mod SheetTransfer
