@@ -33,7 +33,3 @@ pub mod SheetLaws
 pub mod SheetAttention
 pub mod SheetOperands
 pub mod SheetRegisters
-pub mod SheetMemory
-pub mod SheetControl
-pub mod SheetTurns
-pub mod SheetTransfer

@@ -63,16 +63,16 @@ pub record StatusLeft (ccw psw tb xf after : ℕ) : Type 0 where
   pub priority : bit after 7 ≡ bit ccw 7
 
 -- the channel after a command: TP with its tag, PP, PSW, mode and mark
-pub record ControlLeft (ccw : ℕ) (after : Channel) (tp : Pointer) (pp psw tb xf : ℕ) (mode : Mode) (armed : Bool) : Type 0 where
-  pub tp : after .tp ≡ tp
-  pub pp : after .pp ≡ pp
+pub record ControlLeft (ccw : ℕ) (after : Channel) (task : Pointer) (parameters psw tb xf : ℕ) (state : Mode) (armed : Bool) : Type 0 where
+  pub tp : after .tp ≡ task
+  pub pp : after .pp ≡ parameters
   pub status : StatusLeft ccw psw tb xf (after .psw)
-  pub mode : after .mode ≡ mode
+  pub mode : after .mode ≡ state
   pub mark : after .armed ≡ armed
 
 -- memory after a command that stores BUSY alone
-pub record BusyLeft (s : State) (second : Bool) (busy : ℕ) (m m′ : Buffers) : Type 0 where
-  pub busy : byteAt m′ false (busyAt s second) ≡ busy
+pub record BusyLeft (s : State) (second : Bool) (value : ℕ) (m m′ : Buffers) : Type 0 where
+  pub busy : byteAt m′ false (busyAt s second) ≡ value
   pub others : (tag : Bool) (a : ℕ) → Apart false (busyAt s second) tag a → byteAt m′ tag a ≡ byteAt m tag a
 
 -- memory after suspend (§4.6): TP in its stored form and PSW as they were, at PP; then BUSY is 0, also where it is one of those four

@@ -20,7 +20,7 @@ use Rattle.promises.specs.SheetWords.{bit, wordIn, valuesOf, tagsOf}
 
 -- a step call is a channel's turn to execute and is done, and the pair at TP has these fields: RRR, dd, AA, W, opcode, MM (§6.1)
 pub record Ran (second : Bool) (s : State) (m : Buffers) (lines r dd aa w opcode mm : ℕ) : Type 0 where
-  pub executes : Executes second s m lines (r * 32 + dd * 8 + aa * 2 + w ∷ opcode * 4 + mm ∷ [])
+  pub executes : Executes second s m lines ((r * 32 + dd * 8 + aa * 2 + w) ∷ (opcode * 4 + mm) ∷ [])
   pub done : (stepOf s m lines) .number ≡ 0
   pub rrr : r < 8
   pub two : dd < 4
@@ -91,11 +91,11 @@ whether wanted found = pick wanted found (not found)
 
 -- of two operands: MOV, ADD, OR, AND, NOT
 abbrev pub worksOf : ℕ → ℕ → List ℕ
-worksOf a b = b ∷ (a + b) % 1048576 ∷ bitOr a b ∷ bitAnd a b ∷ 1048575 - b % 1048576 ∷ []
+worksOf a b = b ∷ (a + b) % 1048576 ∷ bitOr a b ∷ bitAnd a b ∷ (1048575 - b % 1048576) ∷ []
 
 -- of one: NOT, INC, DEC
 abbrev pub singlesOf : ℕ → List ℕ
-singlesOf a = 1048575 - a % 1048576 ∷ (a + 1) % 1048576 ∷ (a + 1048575) % 1048576 ∷ []
+singlesOf a = (1048575 - a % 1048576) ∷ (a + 1) % 1048576 ∷ (a + 1048575) % 1048576 ∷ []
 
 -- the bytes of a result by W
 abbrev pub bytesOf : ℕ → ℕ → List ℕ
@@ -120,9 +120,9 @@ abbrev pub valuePast : Channel → ℕ → ℕ → ℕ
 valuePast c n r = getD (registersAt c (pastBy c n) (c .ix)) r 0
 
 -- the channel after an instruction: its registers and tags, and what the mark does (§6.20)
-pub record RegistersLeft (before after : Channel) (values : List ℕ) (tags : List Bool) : Type 0 where
-  pub values : valuesOf after ≡ values
-  pub tags : tagsOf after ≡ tags
+pub record RegistersLeft (before after : Channel) (numbers : List ℕ) (spaces : List Bool) : Type 0 where
+  pub values : valuesOf after ≡ numbers
+  pub tags : tagsOf after ≡ spaces
   pub pp : after .pp ≡ before .pp
   pub mode : after .mode ≡ before .mode
   pub mark : after .armed ≡ false

@@ -49,7 +49,7 @@ storedTagIn m tag a = eqb (bit (byteAt m tag (a + 2)) 3) 1
 
 -- the three bytes of an address with a tag (§1.6)
 abbrev pub formOf : ℕ → Bool → List ℕ
-formOf a tag = a % 256 ∷ a / 256 % 256 ∷ a / 65536 % 16 * 16 + pick tag 8 0 ∷ []
+formOf a tag = a % 256 ∷ a / 256 % 256 ∷ (a / 65536 % 16 * 16 + pick tag 8 0) ∷ []
 
 -- ---- the registers of a channel by RRR (§2.1)
 
