@@ -268,6 +268,7 @@ module _ (m : Buffers) (pp : ℕ) (tp : Pointer) (psw : ℕ) where
     where
       n : Buffers
       n = storePointer m false pp tp
+
       three : (byteAt n false pp ≡ tp .address % 256) × (byteAt n false (pp + 1) ≡ tp .address / 256 % 256) × (byteAt n false (pp + 2) ≡ tp .address / 65536 % 16 * 16 + pick (tp .tag) 8 0)
       three = pointer-bytes m false pp tp (span-first m false pp 4 h (lit< tt)) (span-at m false pp 4 1 h (lit< tt)) (span-at m false pp 4 2 h (lit< tt))
 
@@ -314,6 +315,7 @@ saved-left s b m m′ e h = record {
 
     e′ : m′ ≡ storeByte n false (busyAt s b) 0
     e′ = e ∙ busy-stored s b n 0
+
     both : allLent m (span false pp 4) && allLent m (span false (busyIn (blockOf s b)) 1) ≡ true
     both = sym (all-append m (span false pp 4) (span false (busyIn (blockOf s b)) 1)) ∙ h
 

@@ -242,8 +242,8 @@ module _ (c : Channel) where
   pub task-left : {k : Channel} {tp ix : ℕ} (p : Pointer) (a : ℕ) → p .address ≡ a → p .tag ≡ c .tp .tag → RegistersLeft c k (registersAt c tp ix) (tagsOf c)
       → RegistersLeft c (renewed k p (k .ix) (k .psw) (k .mode) (k .armed)) (registersAt c a ix) (tagsOf c)
   unfolding renewed
-  task-left {k} p a e f l = record {
-    values = ap (λ (vs : List ℕ). set vs 4 (p .address)) (l .values) ∙ ap (λ (n : ℕ). registersAt c n _) e;
+  task-left {k} {tp} {ix} p a e f l = record {
+    values = ap (λ (vs : List ℕ). set vs 4 (p .address)) (l .values) ∙ ap (λ (n : ℕ). registersAt c n ix) e;
     tags = ap (λ (ts : List Bool). set ts 4 (p .tag)) (l .tags) ∙ ap (λ (t : Bool). set (tagsOf c) 4 t) f;
     pp = l .pp;
     mode = l .mode;

@@ -73,9 +73,9 @@ tag-grown c n o by r h = tag-is (grown (pastInstruction c n) o by) r h
 module _ {b : Bool} {s : State} {m : Buffers} {lines r dd aa w op mm : ℕ} (x : Ran b s m lines r dd aa w op mm) (shape : Shape) (small : op < 64)
     (reads : lookup table (pairWith r dd aa w op mm) ≡ Instruction shape) where
   -- a deed that writes a register and no byte
-  loads : {k : Channel} {n ix : ℕ} (v : ℕ) (tag : Bool) → RegistersLeft (channelOf s b) k (registersAt (channelOf s b) (pastBy (channelOf s b) n) ix) (tagsOf (channelOf s b))
+  loads : {k : Channel} (n : ℕ) {ix : ℕ} (v : ℕ) (tag : Bool) → RegistersLeft (channelOf s b) k (registersAt (channelOf s b) (pastBy (channelOf s b) n) ix) (tagsOf (channelOf s b))
       → deedIn s m b shape .channel ≡ withRegister k r v tag → changed m (deedIn s m b shape .change) ≡ m → Loads b s m lines r v tag n ix
-  loads {k} {n} {ix} v tag l e f = (
+  loads {k} n {ix} v tag l e f = (
     subst (λ (k′ : Channel). RegistersLeft (channelOf s b) k′ (setValue (registersAt (channelOf s b) (pastBy (channelOf s b) n) ix) r v) (setTag (tagsOf (channelOf s b)) r tag))
         (sym (channel-left x shape small reads ∙ e)) (written-left (channelOf s b) r v tag (x .rrr) l),
     memory-left x shape small reads ∙ f,
@@ -98,7 +98,7 @@ module _ {b : Bool} {s : State} {m : Buffers} {lines : ℕ} where
   lpd r aa mm p x =
       let c = channelOf s b in
       let o = memoryWith mm aa 1 in
-      loads x (Lpd r o) (lit< tt) (rw p) (farIn m (baseTag c mm) (operandAddress m c mm aa)) false (grown-left c (2 + offsetBytes aa) mm aa 1 4 (x .mode))
+      loads x (Lpd r o) (lit< tt) (rw p) (2 + offsetBytes aa) (farIn m (baseTag c mm) (operandAddress m c mm aa)) false (grown-left c (2 + offsetBytes aa) mm aa 1 4 (x .mode))
       (ap₂ (λ (n : ℕ) (q : Pointer). withRegister (grown (pastInstruction c n) o 4) r (doublewordAt m (q .tag) (q .address)) false)
       (pair-length aa (x .mode)) (place-is m c (lengthOf (Lpd r o)) mm aa 1 (x .mode) (x .base))
       ∙ ap (λ (v : ℕ). withRegister (grown (pastInstruction c (2 + offsetBytes aa)) o 4) r v false)
@@ -112,7 +112,7 @@ module _ {b : Bool} {s : State} {m : Buffers} {lines : ℕ} where
   lpdi r p x =
       let c = channelOf s b in
       let same : (c .tp .address + 2) % 1048576 % 1048576 ≡ (c .tp .address + 2) % 1048576 = omega arith in
-      loads x (Lpdi r) (lit< tt) (rw p) (farIn m (c .tp .tag) (c .tp .address + 2)) false (past-left c 6)
+      loads x (Lpdi r) (lit< tt) (rw p) 6 (farIn m (c .tp .tag) (c .tp .address + 2)) false (past-left c 6)
       (ap (λ (v : ℕ). withRegister (pastInstruction c 6) r v false) (far-alike m (c .tp .tag) ((c .tp .address + 2) % 1048576) (c .tp .address + 2) same))
       refl
 
@@ -125,7 +125,7 @@ module _ {b : Bool} {s : State} {m : Buffers} {lines : ℕ} where
   movp r aa mm p x =
       let c = channelOf s b in
       let o = memoryWith mm aa 1 in
-      loads x (MovpLoad r o) (lit< tt) (rw p) (storedIn m (baseTag c mm) (operandAddress m c mm aa)) (storedTagIn m (baseTag c mm) (operandAddress m c mm aa))
+      loads x (MovpLoad r o) (lit< tt) (rw p) (2 + offsetBytes aa) (storedIn m (baseTag c mm) (operandAddress m c mm aa)) (storedTagIn m (baseTag c mm) (operandAddress m c mm aa))
       (grown-left c (2 + offsetBytes aa) mm aa 1 3 (x .mode))
       (ap₂ (λ (n : ℕ) (q : Pointer). withRegister (grown (pastInstruction c n) o 3) r (pointerAt m (q .tag) (q .address) .address) (pointerAt m (q .tag) (q .address) .tag))
       (pair-length aa (x .mode)) (place-is m c (lengthOf (MovpLoad r o)) mm aa 1 (x .mode) (x .base)))
@@ -139,7 +139,7 @@ module _ {b : Bool} {s : State} {m : Buffers} {lines : ℕ} where
   move-memory r aa w mm x =
       let c = channelOf s b in
       let o = memoryWith mm aa w in
-      loads x (RegisterMemory Mov r o) (lit< tt) refl (operandIn m (baseTag c mm) (operandAddress m c mm aa) w) true
+      loads x (RegisterMemory Mov r o) (lit< tt) refl (2 + offsetBytes aa) (operandIn m (baseTag c mm) (operandAddress m c mm aa) w) true
       (grown-left c (2 + offsetBytes aa) mm aa w (w + 1) (x .mode))
       (ap₃ (λ (n by : ℕ) (q : Pointer). withRegister (grown (pastInstruction c n) o by) r (operandAt m q (eqb w 1)) true)
       (pair-length aa (x .mode)) (size-is w (x .wide)) (place-is m c (lengthOf (RegisterMemory Mov r o)) mm aa w (x .mode) (x .base))
@@ -159,7 +159,7 @@ module _ {b : Bool} {s : State} {m : Buffers} {lines : ℕ} where
         let o = memoryWith mm aa w in
         let n = 2 + offsetBytes aa in
         let y = operandIn m (baseTag c mm) (operandAddress m c mm aa) w in
-        loads x (RegisterMemory work r o) small reads (getD (worksOf (valuePast c n r) y) j 0) (tagIn c r) (grown-left c n mm aa w (w + 1) (x .mode))
+        loads x (RegisterMemory work r o) small reads n (getD (worksOf (valuePast c n r) y) j 0) (tagIn c r) (grown-left c n mm aa w (w + 1) (x .mode))
         (rw kept
         (ap₃ (λ (k by : ℕ) (q : Pointer). withRegister (grown (pastInstruction c k) o by) r (workOf work (registerOf (pastInstruction c k) r) (operandAt m q (eqb w 1))) (tagOf (grown (pastInstruction c k) o by) r))
         (pair-length aa (x .mode)) (size-is w (x .wide)) (place-is m c (lengthOf (RegisterMemory work r o)) mm aa w (x .mode) (x .base))
@@ -179,7 +179,7 @@ module _ {b : Bool} {s : State} {m : Buffers} {lines : ℕ} where
         let c = channelOf s b in
         let y = operandIn m (c .tp .tag) (c .tp .address + 2) w in
         let same : (c .tp .address + 2) % 1048576 % 1048576 ≡ (c .tp .address + 2) % 1048576 = omega arith in
-        loads x (RegisterImmediate work r (eqb w 1)) small reads (getD (worksOf (valuePast c (3 + w) r) y) j 0) (tagIn c r) (past-left c (3 + w))
+        loads x (RegisterImmediate work r (eqb w 1)) small reads (3 + w) (getD (worksOf (valuePast c (3 + w) r) y) j 0) (tagIn c r) (past-left c (3 + w))
         (rw kept
         (ap (λ (k : ℕ). withRegister (pastInstruction c k) r (workOf work (registerOf (pastInstruction c k) r) (operandAt m (onward (c .tp) 2) (eqb w 1))) (tagOf (pastInstruction c k) r)) long
         ∙ ap₃ (λ (f e : ℕ) (t : Bool). withRegister (pastInstruction c (3 + w)) r (workOf work f e) t)
@@ -195,7 +195,7 @@ module _ {b : Bool} {s : State} {m : Buffers} {lines : ℕ} where
   move-data r w reads long x =
       let c = channelOf s b in
       let same : (c .tp .address + 2) % 1048576 % 1048576 ≡ (c .tp .address + 2) % 1048576 = omega arith in
-      loads x (RegisterImmediate Mov r (eqb w 1)) (lit< tt) reads (operandIn m (c .tp .tag) (c .tp .address + 2) w) true (past-left c (3 + w))
+      loads x (RegisterImmediate Mov r (eqb w 1)) (lit< tt) reads (3 + w) (operandIn m (c .tp .tag) (c .tp .address + 2) w) true (past-left c (3 + w))
       (ap₂ (λ (k v : ℕ). withRegister (pastInstruction c k) r v true) long
       (operand-is m (c .tp .tag) ((c .tp .address + 2) % 1048576) (c .tp .address + 2) w (x .wide) same))
       refl
@@ -207,28 +207,28 @@ module _ {b : Bool} {s : State} {m : Buffers} {lines : ℕ} where
   unfolding deedOf performed registerDeed changed lengthOf dataLength displacementLength
   alone single j r op small gives reads x =
       let c = channelOf s b in
-      loads x (Register single r) small reads (getD (singlesOf (valuePast c 2 r)) j 0) (tagIn c r) (past-left c 2)
+      loads x (Register single r) small reads 2 (getD (singlesOf (valuePast c 2 r)) j 0) (tagIn c r) (past-left c 2)
       (ap₂ (λ (f : ℕ) (t : Bool). withRegister (pastInstruction c 2) r (singleOf single f) t) (found c 2 r (x .rrr)) (tag-past c 2 r (x .rrr))
       ∙ ap (λ (v : ℕ). withRegister (pastInstruction c 2) r v (tagIn c r)) (gives (valuePast c 2 r)))
       refl
 
   -- JZ R, JNZ R
-  jump : (zero two : Bool) (r op : ℕ) → op < 64 → AllBytes m → lookup table (pairWith r (ddOf two) 0 0 op 0) ≡ Instruction (JumpRegister zero r two)
-      → lengthOf (JumpRegister zero r two) ≡ 2 + ddOf two → Ran b s m lines r (ddOf two) 0 0 op 0
+  jump : (z two : Bool) (r op : ℕ) → op < 64 → AllBytes m → lookup table (pairWith r (ddOf two) 0 0 op 0) ≡ Instruction (JumpRegister z r two)
+      → lengthOf (JumpRegister z r two) ≡ 2 + ddOf two → Ran b s m lines r (ddOf two) 0 0 op 0
       → Goes b s m lines
-      (pick (whether zero (eqb (valuePast (channelOf s b) (2 + ddOf two) r % 65536) 0))
+      (pick (whether z (eqb (valuePast (channelOf s b) (2 + ddOf two) r % 65536) 0))
       (jumpedBy (channelOf s b) (2 + ddOf two) (displacementIn m (channelOf s b) 2 two))
       (pastBy (channelOf s b) (2 + ddOf two)))
       (channelOf s b .ix)
   unfolding deedOf performed jumpRegisterDeed changed pastInstruction renewed
-  jump zero two r op small all reads long x =
+  jump z two r op small all reads long x =
       let c = channelOf s b in
       let n = 2 + ddOf two in
-      goes x (JumpRegister zero r two) small reads
+      goes x (JumpRegister z r two) small reads
       (jumped-left m c (pastInstruction c n) n (c .ix) 2 two
-      (whether zero (eqb (registerOf (pastInstruction c n) r % 65536) 0)) (whether zero (eqb (valuePast c n r % 65536) 0))
-      all (ap (λ (v : ℕ). whether zero (eqb (v % 65536) 0)) (found c n r (x .rrr))) refl (past-left c n))
-      (ap (λ (k : ℕ). jumpedIf (whether zero (eqb (registerOf (pastInstruction c k) r % 65536) 0)) m (pastInstruction c k) (onward (c .tp) 2) two) long)
+      (whether z (eqb (registerOf (pastInstruction c n) r % 65536) 0)) (whether z (eqb (valuePast c n r % 65536) 0))
+      all (ap (λ (v : ℕ). whether z (eqb (v % 65536) 0)) (found c n r (x .rrr))) refl (past-left c n))
+      (ap (λ (k : ℕ). jumpedIf (whether z (eqb (registerOf (pastInstruction c k) r % 65536) 0)) m (pastInstruction c k) (onward (c .tp) 2) two) long)
       refl
 
 -- ---- the sheet
@@ -285,9 +285,9 @@ register-sheet b s m lines = record {
     alones (suc (suc zero)) r h ne x = alone Single.Dec 2 r 0x0F (lit< tt) (λ a. refl) (rw ne) x
     alones (suc (suc (suc k))) r h ne x = absurd (omega arith)
 
-    jumps : (zero two : Bool) (r : ℕ) → AllBytes m → eqb r 6 ≡ false → Ran b s m lines r (ddOf two) 0 0 (pick zero 0x11 0x10) 0
+    jumps : (z two : Bool) (r : ℕ) → AllBytes m → eqb r 6 ≡ false → Ran b s m lines r (ddOf two) 0 0 (pick z 0x11 0x10) 0
         → Goes b s m lines
-        (pick (whether zero (eqb (valuePast (channelOf s b) (2 + ddOf two) r % 65536) 0))
+        (pick (whether z (eqb (valuePast (channelOf s b) (2 + ddOf two) r % 65536) 0))
         (jumpedBy (channelOf s b) (2 + ddOf two) (displacementIn m (channelOf s b) 2 two))
         (pastBy (channelOf s b) (2 + ddOf two)))
         (channelOf s b .ix)
