@@ -33,3 +33,7 @@ pub mod SheetLaws
 pub mod SheetAttention
 pub mod SheetOperands
 pub mod SheetRegisters
+pub mod SheetMemory
+pub mod SheetControl
+pub mod SheetTurns
+pub mod SheetTransfer

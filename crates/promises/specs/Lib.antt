@@ -19,3 +19,7 @@ pub mod SheetWords
 pub mod SheetAttention
 pub mod SheetOperands
 pub mod SheetRegisters
+pub mod SheetMemory
+pub mod SheetControl
+pub mod SheetTurns
+pub mod SheetTransfer

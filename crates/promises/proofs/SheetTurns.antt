@@ -1,0 +1,112 @@
+-- The sheet of turns.
+-- Assumes nothing.
+use Prim.Native.Nat.{ℕ, zero, suc, _+_, _/_, _%_, _<_}
+use borrow.Author.Tests.{eq-eqb, ne-eqb}
+use lib.Dec.{eqb, lit<}
+use lib.ListN.{getD}
+use mathlib.Core.Bool.{Bool, true, false, not, _&&_, _||_}
+use mathlib.Core.List.{[], _∷_}
+use mathlib.Core.Path.{_≡_, refl, sym, ap, ap₂, _∙_}
+use native.Mathlib.Nat.{mod-lt}
+use native.Mathlib.Omega.{arith}
+use Rattle.machine.proofs.ChannelLaws.{put-same, last-channel}
+use Rattle.machine.specs.Psw.{withPsw}
+use Rattle.machine.specs.States.{channelOf, withChannel, isRunning}
+use Rattle.machine.specs.Updates.{withTransfer}
+use Rattle.machine.specs.declared.Channel.{Channel}
+use Rattle.machine.specs.declared.Mode.{Mode}
+use Rattle.machine.specs.declared.Mode.the-variants.{Idle, Running, Suspended}
+use Rattle.machine.specs.declared.State.{State}
+use Rattle.memory.specs.Buffers.{Buffers}
+use Rattle.memory.specs.Values.{pointer, onward}
+use Rattle.memory.specs.declared.Pointer.{Pointer}
+use Rattle.step.proofs.ChoosingLaws.{ends-chosen}
+use Rattle.step.specs.Choosing.{requested, external, endsNow, transferRank, rankOf, secondWins, ranked, choiceOf}
+use Rattle.step.specs.Step.{Step, stepOf}
+use Rattle.step.specs.declared.turns.Choice.{Choice}
+use Rattle.step.specs.declared.turns.Choice.the-variants.{Nobody, Ends, Steps}
+use Rattle.transfer.specs.Ends.{offsetOf, endedTP, endedPSW, endedBy, externallyEnded}
+use Rattle.transfer.specs.Sides.{gained}
+use Rattle.words.specs.Bits.{fieldOf, bitOf, withBit}
+use Rattle.words.specs.Choice.{pick}
+use Rattle.promises.specs.SheetWords.{bit}
+use Rattle.promises.specs.SheetOperands.{ranChannel}
+use Rattle.promises.specs.SheetTurns.{runsIn, endsIn, rankIn, secondGoes, choiceIn, offsetIn, ExternalLeft, TurnSheet}
+use Rattle.promises.proofs.Demand2.{step-does}
+use Rattle.promises.proofs.SheetControl.{bit-set}
+
+runs-is : (mode : Mode) → isRunning mode ≡ runsIn mode
+unfolding isRunning
+runs-is Idle = refl
+runs-is Running = refl
+runs-is Suspended = refl
+
+-- with XF, by SYN and DRQ
+rank-syn : (syn : ℕ) → syn < 4 → (drq : Bool) → _≡_ {A = ℕ} (pick (eqb syn 0 || drq || eqb syn 3) 1 4) (getD (1 ∷ pick drq 1 4 ∷ pick drq 1 4 ∷ 1 ∷ []) syn 4)
+rank-syn zero h true = refl
+rank-syn zero h false = refl
+rank-syn (suc zero) h true = refl
+rank-syn (suc zero) h false = refl
+rank-syn (suc (suc zero)) h true = refl
+rank-syn (suc (suc zero)) h false = refl
+rank-syn (suc (suc (suc zero))) h true = refl
+rank-syn (suc (suc (suc zero))) h false = refl
+rank-syn (suc (suc (suc (suc k)))) h drq = absurd (omega arith)
+
+rank-is : (c : Channel) (drq : ℕ) → rankOf c (eqb drq 1) ≡ rankIn c drq
+unfolding rankOf transferRank fieldOf bitOf
+rank-is c drq =
+    ap₂ (λ (r : Bool) (n : ℕ). pick r (pick (eqb (bit (c .psw) 6) 1) n (pick (eqb (bit (c .cc) 8) 1) 1 3)) 4)
+    (runs-is (c .mode)) (rank-syn (c .cc / 2048 % 4) (mod-lt (c .cc / 2048) (lit< tt)) (eqb drq 1))
+
+ends-is : (c : Channel) (ext : ℕ) → endsNow c (eqb ext 1) ≡ endsIn c ext
+unfolding endsNow fieldOf bitOf
+ends-is c ext = ap (λ (r : Bool). r && eqb (bit (c .psw) 6) 1 && not (eqb (c .cc / 32 % 4) 0) && eqb ext 1) (runs-is (c .mode))
+
+choice-is : (s : State) (lines : ℕ) → choiceOf s lines ≡ choiceIn s lines
+unfolding choiceOf ranked secondWins requested external bitOf
+choice-is s lines =
+    ap₂ (λ (x y : Bool). pick x (Ends false) (pick y (Ends true) (ranked s (rankOf (s .first) (eqb (bit lines 0) 1)) (rankOf (s .second) (eqb (bit lines 1) 1)))))
+    (ends-is (s .first) (bit lines 2)) (ends-is (s .second) (bit lines 3))
+    ∙ ap₂ (λ (x y : ℕ). pick (endsIn (s .first) (bit lines 2)) (Ends false) (pick (endsIn (s .second) (bit lines 3)) (Ends true) (ranked s x y)))
+    (rank-is (s .first) (bit lines 0)) (rank-is (s .second) (bit lines 1))
+
+-- the offset of a code that is on
+pub offset-is : (code : ℕ) → code < 4 → offsetOf code ≡ offsetIn code
+unfolding offsetOf
+offset-is zero h = refl
+offset-is (suc zero) h = refl
+offset-is (suc (suc zero)) h = refl
+offset-is (suc (suc (suc zero))) h = refl
+offset-is (suc (suc (suc (suc k)))) h = absurd (omega arith)
+
+external-left : (c : Channel) → eqb (c .cc / 32 % 4) 0 ≡ false → ExternalLeft c (externallyEnded c)
+unfolding externallyEnded endedBy endedTP endedPSW gained onward withTransfer withPsw fieldOf
+external-left c on = record {
+  tp = rw on (ap (λ (n : ℕ). pointer ((c .tp .address + n) % 1048576) (c .tp .tag)) (offset-is (c .cc / 32 % 4) (mod-lt (c .cc / 32) (lit< tt))));
+  status = λ k. rw on (bit-set (c .psw) 6 false k);
+  ga = refl;
+  gb = refl;
+  gc = refl;
+  pp = refl;
+  bc = refl;
+  ix = refl;
+  cc = refl;
+  mc = refl;
+  mode = refl;
+  mark = refl;
+}
+
+pub turn-sheet : (s : State) (m : Buffers) (lines : ℕ) → TurnSheet s m lines
+unfolding fieldOf
+turn-sheet s m lines = record {
+  choice = choice-is s lines;
+  external = λ second z e.
+      let whole = step-does s m lines .ends second z e in
+      let after : ranChannel second s m lines ≡ externallyEnded (channelOf s second) =
+      ap (λ (o : Step). channelOf (o .state) second) whole
+      ∙ last-channel (withChannel s second (externallyEnded (channelOf s second))) second second
+      ∙ put-same s second (externallyEnded (channelOf s second)) in
+      let on : eqb (channelOf s second .cc / 32 % 4) 0 ≡ false = ne-eqb (channelOf s second .cc / 32 % 4) 0 (ends-chosen s lines second e .2) in
+      (rw after (external-left (channelOf s second) on), ap (λ (o : Step). o .memory) whole);
+}
