@@ -1,4 +1,5 @@
-// Makes the calls of the script on standard input, one a line, on one machine, and prints what each answered.
+// Makes the calls of the script on standard input, one a line, on one machine, and prints what each answered; what was no call goes in words to standard error.
+use libc::STDERR_FILENO;
 use libc::STDIN_FILENO;
 use script_text::text;
 use script_text::text::Call;
@@ -8,6 +9,7 @@ ghost use lib.ListN.{length, drop};
 ghost use Rattle.script_text.specs.Calls.{Limited};
 ghost use Rattle.script_text.specs.Text.{untilSame};
 ghost use Rattle.script.specs.Lent.{lentAfter};
+ghost use Rattle.script.specs.Lines.{contentEnd};
 
 // How many bytes of each buffer are lent.
 struct Lent {
@@ -47,6 +49,36 @@ fn line_end(text: &[u8], at: usize) -> usize
     text::first_same(text, at, 10)
 }
 
+// Where the characters of a line end that goes from `at` to `end`: before one carriage return where a line feed follows it.
+fn content_end(text: &[u8], at: usize, end: usize) -> usize
+    requires { ⌜ (at ≤ end) × (end ≤ length (now text)) ⌝ }
+    ensures { λ r. ⌜ r ≡ contentEnd (now (text .entry)) at end ⌝ }
+    ensures { λ r. ⌜ (at ≤ r) × (r ≤ end) ⌝ }
+{
+    if end <= at {
+        return end;
+    }
+    if text.len() <= end {
+        return end;
+    }
+    if text[end - 1] == 13 { end - 1 } else { end }
+}
+
+// Says words on standard error.
+fn say(words: &[u8]) {
+    io::write_all(STDERR_FILENO, words);
+}
+
+// Says which line, counted from 1, was no call, or was shut out.
+fn complain(number: usize, call: Call) {
+    say(b"line ");
+    io::print_decimal(STDERR_FILENO, number as u64);
+    match call {
+        Call::Put(_, _) => say(b": a byte past the buffer's end\n"),
+        _ => say(b": no call\n"),
+    }
+}
+
 // Makes the calls of a text, line by line.
 fn play(text: &[u8], sys: &mut [u8], io: &mut [u8])
     requires { ⌜ length (now text) ≤ 1048576 ⌝ }
@@ -57,20 +89,28 @@ fn play(text: &[u8], sys: &mut [u8], io: &mut [u8])
     let mut state = start;
     let mut lent = Lent { sys: 0, io: 0 };
     let mut at: usize = 0;
+    let mut number: usize = 0;
     while at < text.len() {
         let end = line_end(text, at);
-        let line = &text[at..end];
+        let content = content_end(text, at, end);
+        let line = &text[at..content];
         let call = text::call_of(line);
         lent = lent_after(call, lent);
         let sys_length = lent.sys;
         let io_length = lent.io;
-        state = script_answers::perform(
+        let r = script_answers::perform(
             state,
             call,
             line,
             &mut sys[..sys_length],
             &mut io[..io_length],
         );
+        number += 1;
+        if !r.made {
+            complain(number, call);
+        }
+        let next = r.state;
+        state = next;
         at = end + 1;
     }
 }
@@ -101,8 +141,13 @@ fn main() {
     let mut sys = large_space();
     let mut io = small_space();
     let length = io::read_full(STDIN_FILENO, &mut text);
+    if os::errno() != 0 {
+        os::fail(b"standard input");
+        return;
+    }
     if 1048576 < length {
         script_prints::print(b"?\n");
+        say(b"the text is longer than 1048576 bytes\n");
         return;
     }
     play(&text[..length], &mut sys, &mut io);

@@ -1,29 +1,33 @@
--- `script::play` is safe and ends: what is lent lies within the buffers, and each line takes it further in the text.
+-- `script::play` is safe and ends: what is lent lies within the buffers, each line takes it further in the text, and no line has a number past its place.
 -- Assumes nothing.
 use Prim.Native.Nat.{_-_, _≤_}
 use borrow.Author.Needs.{needs}
 use lib.ListN.{length}
-use lib.Seq.{length-take-le}
-use mathlib.Core.Path.{_≡_, refl, sym}
+use lib.Seq.{length-take-le, length-front}
+use mathlib.Core.Path.{_≡_, refl, sym, _∙_}
 use native.Mathlib.Omega.{arith}
 use Rattle.script_text.proofs.CallLaws.{line-limited}
 use Rattle.script.proofs.play.Statement.{statement}
 use Rattle.script.proofs.play.Tie as tie
 
 abbrev Inv-loop : tie.InvT-loop
-Inv-loop text sys₀ io₀ state₀ lent₀ at₀ sys io state lent at = (length sys ≡ length sys₀) × (length io ≡ length io₀) × (lent .sys ≤ 1048577) × (lent .io ≤ 65537)
+Inv-loop text sys₀ io₀ state₀ lent₀ at₀ number₀ sys io state lent at number =
+    (length sys ≡ length sys₀) × (length io ≡ length io₀) × (lent .sys ≤ 1048577) × (lent .io ≤ 65537) × (number ≤ at)
 
 abbrev μ-loop : tie.MeasureT-loop
-μ-loop text sys₀ io₀ state₀ lent₀ at₀ sys io state lent at = length text - at
+μ-loop text sys₀ io₀ state₀ lent₀ at₀ number₀ sys io state lent at number = length text - at
 
 fresh-requires : tie.Need-fresh-requires Inv-loop μ-loop
 fresh-requires c κs = search needs
 
 loop-holds : tie.Need-loop-holds Inv-loop μ-loop
-loop-holds c = (refl, refl, omega arith, omega arith)
+loop-holds c = (refl, refl, omega arith, omega arith, omega arith)
 
 line-end-requires : tie.Need-line-end-requires Inv-loop μ-loop
 line-end-requires c κs = search needs
+
+content-end-requires : tie.Need-content-end-requires Inv-loop μ-loop
+content-end-requires c κs = (c .line-end .ensures .1 .0, c .line-end .ensures .1 .1)
 
 sub-line : tie.Need-sub-line Inv-loop μ-loop
 sub-line c = search needs
@@ -38,31 +42,46 @@ call-of-requires : tie.Need-call-of-requires Inv-loop μ-loop
 call-of-requires c κs = search needs
 
 lent-after-requires : tie.Need-lent-after-requires Inv-loop μ-loop
-lent-after-requires c κs = (rw (c .call-of .ensures) (line-limited _), (c .before .before .before .before .loop .inv .2, c .before .before .before .before .loop .inv .3))
+lent-after-requires c κs = (rw (c .call-of .ensures) (line-limited _), (c .before .before .before .before .before .loop .inv .2, c .before .before .before .before .before .loop .inv .3))
 
 slice-relend-prefix-perform : tie.Need-slice-relend-prefix-perform Inv-loop μ-loop
-slice-relend-prefix-perform c = omega (arith, c .lent-after .ensures .1 .0, c .before .before .before .before .before .loop .inv .0, c .before .before .before .before .before .before .before .before .before .before .before .pre .1 .0)
+slice-relend-prefix-perform c = omega (arith, c .lent-after .ensures .1 .0, c .before .before .before .before .before .before .loop .inv .0, c .before .before .before .before .before .before .before .before .before .before .before .before .pre .1 .0)
 
 slice-aggregate-perform : tie.Need-slice-aggregate-perform Inv-loop μ-loop
-slice-aggregate-perform c = sym (length-take-le (c .before .lent-after .result .sys) (c .before .before .before .before .before .before .loop .sys) (omega (arith, c .before .lent-after .ensures .1 .0, c .before .before .before .before .before .before .loop .inv .0, c .before .before .before .before .before .before .before .before .before .before .before .before .pre .1 .0)))
+slice-aggregate-perform c = sym (length-take-le (c .before .lent-after .result .sys) (c .before .before .before .before .before .before .before .loop .sys) (omega (arith, c .before .lent-after .ensures .1 .0, c .before .before .before .before .before .before .before .loop .inv .0, c .before .before .before .before .before .before .before .before .before .before .before .before .before .pre .1 .0)))
 
 slice-relend-prefix-perform-2 : tie.Need-slice-relend-prefix-perform-2 Inv-loop μ-loop
-slice-relend-prefix-perform-2 c = omega (arith, c .before .lent-after .ensures .1 .1, c .before .before .before .before .before .before .loop .inv .1, c .before .before .before .before .before .before .before .before .before .before .before .before .pre .1 .1)
+slice-relend-prefix-perform-2 c = omega (arith, c .before .lent-after .ensures .1 .1, c .before .before .before .before .before .before .before .loop .inv .1, c .before .before .before .before .before .before .before .before .before .before .before .before .before .pre .1 .1)
 
 slice-aggregate-perform-2 : tie.Need-slice-aggregate-perform-2 Inv-loop μ-loop
-slice-aggregate-perform-2 c = sym (length-take-le (c .before .before .lent-after .result .io) (c .before .before .before .before .before .before .before .loop .io) (omega (arith, c .before .before .lent-after .ensures .1 .1, c .before .before .before .before .before .before .before .loop .inv .1, c .before .before .before .before .before .before .before .before .before .before .before .before .before .pre .1 .1)))
+slice-aggregate-perform-2 c = sym (length-take-le (c .before .before .lent-after .result .io) (c .before .before .before .before .before .before .before .before .loop .io) (omega (arith, c .before .before .lent-after .ensures .1 .1, c .before .before .before .before .before .before .before .before .loop .inv .1, c .before .before .before .before .before .before .before .before .before .before .before .before .before .before .pre .1 .1)))
 
 perform-requires : tie.Need-perform-requires Inv-loop μ-loop
 perform-requires c κs = search needs
 
+add-number : tie.Need-add-number Inv-loop μ-loop
+add-number c = omega (arith, c .before .before .before .before .before .before .before .before .before .before .before .before .before .loop .inv .4, c .before .before .before .before .before .before .before .before .before .before .before .before .loop-test .taken, c .before .before .before .before .before .before .before .before .before .before .before .before .before .before .before .before .before .before .before .pre .0)
+
+complain-requires : tie.Need-complain-requires Inv-loop μ-loop
+complain-requires c κs = search needs
+
 add-at : tie.Need-add-at Inv-loop μ-loop
-add-at c = omega (arith, c .before .before .before .before .before .before .before .before .before .before .line-end .ensures .1 .1, c .before .before .before .before .before .before .before .before .before .before .before .before .before .before .before .before .before .before .pre .0)
+add-at c = omega (arith, c .before .before .before .before .before .before .before .before .before .before .before .before .before .before .line-end .ensures .1 .1, c .before .before .before .before .before .before .before .before .before .before .before .before .before .before .before .before .before .before .before .before .before .before .pre .0)
 
 loop-less : tie.Need-loop-less Inv-loop μ-loop
-loop-less c = omega (arith, c .before .before .before .before .before .before .before .before .before .before .line-end .ensures .1 .0, c .before .before .before .before .before .before .before .before .before .before .before .loop-test .taken)
+loop-less c = omega (arith, c .before .before .before .before .before .before .before .before .before .before .before .before .before .before .line-end .ensures .1 .0, c .before .before .before .before .before .before .before .before .before .before .before .before .before .before .before .loop-test .taken)
 
 loop-again : tie.Need-loop-again Inv-loop μ-loop
-loop-again c = (search needs, search needs, c .before .before .before .before .before .before .before .lent-after .ensures .1 .0, c .before .before .before .before .before .before .before .lent-after .ensures .1 .1)
+loop-again c =
+    let l = c .before .before .before .before .before .before .before .before .before .before .before .before .before .before .before .before .loop in
+    let lent = c .before .before .before .before .before .before .before .before .before .before .lent-after in
+    let p = c .before .before .before .before .before .before .before .perform in (
+      length-front (l .sys) (p .last .1 .1 .1 .0) (lent .result .sys) (p .kept .1 .1 .1 .0) ∙ l .inv .0,
+      length-front (l .io) (p .last .1 .1 .1 .1 .0) (lent .result .io) (p .kept .1 .1 .1 .1 .0) ∙ l .inv .1,
+      lent .ensures .1 .0,
+      lent .ensures .1 .1,
+      omega (arith, c .before .before .before .before .before .before .before .before .before .before .before .before .before .before .line-end .ensures .1 .0, l .inv .4),
+    )
 
 same-length : tie.Need-same-length Inv-loop μ-loop
 same-length c = c .before .loop .inv .0
@@ -82,6 +101,7 @@ play-spec =
     fresh-requires
     loop-holds
     line-end-requires
+    content-end-requires
     sub-line
     part-line-start
     part-line-end
@@ -92,6 +112,8 @@ play-spec =
     slice-relend-prefix-perform-2
     slice-aggregate-perform-2
     perform-requires
+    add-number
+    complain-requires
     add-at
     loop-less
     loop-again
