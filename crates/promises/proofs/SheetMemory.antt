@@ -4,30 +4,34 @@ use Prim.Native.Nat.{ℕ, zero, suc, _+_, _*_, _/_, _%_, _^_, _<_}
 use borrow.Author.Tests.{eq-eqb, ne-eqb, lt-ltb}
 use lib.Bits.{bitAnd, bitXor}
 use lib.Dec.{eqb, ltb, lit<}
-use lib.ListN.{getD}
-use mathlib.Core.Bool.{Bool, true, false}
+use lib.ListN.{getD, set}
+use mathlib.Core.Bool.{Bool, true, false, _&&_}
 use mathlib.Core.List.{List, [], _∷_}
 use mathlib.Core.Path.{_≡_, refl, sym, subst, ap, ap₂, _∙_}
 use native.Mathlib.Nat.{add-zero, add-assoc, mod-mod, mod-add-mod}
 use native.Mathlib.Omega.{arith}
 use Rattle.decode.specs.Lengths.{dataLength, displacementLength, lengthOf, offsetLength}
-use Rattle.decode.specs.Reading.{lookup}
+use Rattle.decode.specs.Reading.{lookup, secondOf}
 use Rattle.decode.specs.Table.{table}
+use Rattle.decode_shapes.specs.Pairs.{memoryOf, columns}
+use Rattle.decode_shapes.specs.Pairs.Column.{'0, '1, '00, '000, 'AA, 'MM}
 use Rattle.decode_shapes.specs.declared.Decoded.the-variants.{Instruction}
+use Rattle.decode_shapes.specs.declared.Second.the-variants.{Operand, NoSecond}
+use Rattle.decode_shapes.specs.declared.pairs.Pair.{Pair}
 use Rattle.decode_shapes.specs.declared.Memory.{Memory}
 use Rattle.decode_shapes.specs.declared.Shape.{Shape}
-use Rattle.decode_shapes.specs.declared.Shape.the-variants.{MemoryRegister, MemoryImmediate, MemoryAlone, JumpMemory, MovpStore, Tsl, Call, JumpMasked, JumpBit, Bit}
+use Rattle.decode_shapes.specs.declared.Shape.the-variants.{MemoryRegister, MemoryImmediate, MemoryAlone, JumpMemory, MovpStore, MovMemory, Tsl, Call, JumpMasked, JumpBit, Bit}
 use Rattle.decode_shapes.specs.declared.Single.{Single}
 use Rattle.decode_shapes.specs.declared.Work.{Work}
 use Rattle.decode_shapes.specs.declared.Work.the-variants.{Mov, Add, Or, And}
 use Rattle.execute.specs.Execute.{performed, deedOf}
 use Rattle.execute_deeds.specs.JumpForms.{jumpMemoryDeed, jumpByteDeed, jumpMaskedDeed, jumpBitDeed, tslDeed, callDeed}
-use Rattle.execute_deeds.specs.MemoryForms.{workedBack, memoryWorkDeed, memoryRegisterDeed, memoryImmediateDeed, memoryAloneDeed, movpStoreDeed, bitWritten, bitDeed}
+use Rattle.execute_deeds.specs.MemoryForms.{workedBack, memoryWorkDeed, memoryRegisterDeed, memoryImmediateDeed, memoryAloneDeed, movpStoreDeed, bitWritten, bitDeed, secondAt, movOperandDeed, movSecondDeed, movMemoryDeed}
 use Rattle.execute_operands.proofs.ChangeLaws.{pointer-changed}
 use Rattle.execute_operands.specs.Changes.{placesOf, changed, change, resultTo, pointerTo}
 use Rattle.execute_operands.specs.Marks.{pastInstruction}
 use Rattle.execute_operands.specs.declared.Change.{Change}
-use Rattle.execute_operands.specs.Operands.{bytesAt, sizeOf, effective, grown, operandAt, jumpedIf, workOf, singleOf, afterPair}
+use Rattle.execute_operands.specs.Operands.{bytesAt, sizeOf, indexed, further, effective, grown, operandAt, jumpedIf, workOf, singleOf, afterPair}
 use Rattle.machine.specs.Registers.{registerOf, tagOf}
 use Rattle.machine.specs.States.{channelOf}
 use Rattle.machine.specs.Updates.{renewed}
@@ -45,10 +49,10 @@ use Rattle.words.specs.Bits.{bitOf, withBit}
 use Rattle.words.specs.Choice.{pick}
 use Rattle.words.specs.Compare.{matchOf}
 use Rattle.promises.specs.SheetWords.{bit, formOf, tagsOf, tagIn, pointing}
-use Rattle.promises.specs.SheetOperands.{Ran, codeByte, baseTag, operandAddress, offsetBytes, grownBy, rawIn, operandIn, ddOf, displacementIn, whether, worksOf, singlesOf, bytesOf, registersAt, pastBy, jumpedBy, valuePast, RegistersLeft, BytesLeft}
+use Rattle.promises.specs.SheetOperands.{Ran, ranChannel, codeByte, baseAddress, baseTag, addedBy, operandAddress, offsetBytes, grownBy, rawIn, operandIn, ddOf, displacementIn, whether, worksOf, singlesOf, bytesOf, registersAt, pastBy, jumpedBy, valuePast, RegistersLeft, BytesLeft}
 use Rattle.promises.specs.SheetRegisters.{Goes}
 use Rattle.promises.specs.SheetMemory.{Stores, pastPair, byteOperand, landed, MemorySheet}
-use Rattle.promises.proofs.SheetOperands.{pairWith, deedIn, channel-left, memory-left, places-lent, memoryWith, place-is, operand-is, grown-left, jumped-left}
+use Rattle.promises.proofs.SheetOperands.{pairWith, pair-is, base-is, task-left, deedIn, channel-left, memory-left, places-lent, memoryWith, place-is, operand-is, grown-left, jumped-left}
 use Rattle.promises.proofs.SheetRegisters.{ap₃, pair-length, size-is, found, tag-past, goes}
 
 -- ---- bytes stored in a row
@@ -452,6 +456,137 @@ module _ {b : Bool} {s : State} {m : Buffers} {lines : ℕ} where
       (ap₂ (λ (i : ℕ) (q : Pointer). pointerTo q (onward (c .tp) i)) (jump-long aa two (x .mode)) (place-is m c (lengthOf (Call o two)) mm aa w (x .mode) (x .base)))
       (pointer-left m (baseTag c mm) (operandAddress m c mm aa) (pointer (pastBy c n) (c .tp .tag)))
 
+-- ---- MOV M,M
+
+-- the second pair
+second-is : (m : Buffers) (c : Channel) (mm aa w aa₂ mm₂ : ℕ) → aa < 4 → w < 2 → aa₂ < 4 → mm₂ < 4
+    → codeByte m c (2 + offsetBytes aa) ≡ aa₂ * 2 + w → codeByte m c (2 + offsetBytes aa + 1) ≡ 0x33 * 4 + mm₂
+    → secondAt m (c .tp) (memoryWith mm aa w) ≡ Operand (memoryWith mm₂ aa₂ w)
+unfolding secondAt secondOf onward
+second-is m c mm aa w aa₂ mm₂ ha hw ha₂ hm₂ e f =
+    ap₂ (λ (x y : ℕ). secondOf x y (eqb w 1))
+    (ap (λ (p : Pointer). byteAt m (p .tag) (p .address)) (behind-is c mm aa w ha) ∙ byte-reduced m (c .tp .tag) (c .tp .address + (2 + offsetBytes aa)) ∙ e ∙ plain)
+    (ap (λ (p : Pointer). byteAt m (p .tag) (p .address)) (ap (λ (p : Pointer). onward p 1) (behind-is c mm aa w ha) ∙ onward-more (c .tp) (2 + offsetBytes aa) 1)
+    ∙ byte-reduced m (c .tp .tag) (c .tp .address + (2 + offsetBytes aa + 1)) ∙ f)
+    ∙ ap (λ (p : Pair). pick (eqb (p .opcode) 0x33 && columns '000 '00 'AA (pick (eqb w 1) '1 '0) 'MM p) (Operand (memoryOf p)) NoSecond)
+    (pair-is 0 0 aa₂ w 0x33 mm₂ (lit< tt) (lit< tt) ha₂ hw (lit< tt) hm₂)
+    ∙ go w hw
+  where
+    plain : aa₂ * 2 + w ≡ 0 * 32 + 0 * 8 + aa₂ * 2 + w
+    plain = omega arith
+
+    go : (w : ℕ) → w < 2
+        → pick (eqb 0x33 0x33 && columns '000 '00 'AA (pick (eqb w 1) '1 '0) 'MM (pairWith 0 0 aa₂ w 0x33 mm₂)) (Operand (memoryOf (pairWith 0 0 aa₂ w 0x33 mm₂))) NoSecond
+        ≡ Operand (memoryWith mm₂ aa₂ w)
+    go zero h = refl
+    go (suc zero) h = refl
+    go (suc (suc k)) h = absurd (omega arith)
+
+-- IX grown once more
+grown-again : (c k : Channel) (tp ix mm aa w by : ℕ) → aa < 4 → k .ix ≡ ix → RegistersLeft c k (registersAt c tp ix) (tagsOf c)
+    → RegistersLeft c (grown k (memoryWith mm aa w) by) (registersAt c tp (grownBy ix aa by)) (tagsOf c)
+unfolding grown renewed
+grown-again c k tp ix mm aa w by h e l = record {
+  values = ap (λ (vs : List ℕ). set vs 5 (pick (eqb aa 3) ((k .ix + by) % 65536) (k .ix))) (l .values)
+      ∙ ap (registersAt c tp) (go aa h ∙ ap (λ (i : ℕ). grownBy i aa by) e);
+  tags = l .tags;
+  pp = l .pp;
+  mode = l .mode;
+  mark = l .mark;
+  status = l .status;
+}
+  where
+    go : (aa : ℕ) → aa < 4 → pick (eqb aa 3) ((k .ix + by) % 65536) (k .ix) ≡ grownBy (k .ix) aa by
+    go zero h = refl
+    go (suc zero) h = refl
+    go (suc (suc zero)) h = refl
+    go (suc (suc (suc zero))) h = refl
+    go (suc (suc (suc (suc i)))) h = absurd (omega arith)
+
+-- what the second operand's AA adds
+added-second : (m : Buffers) (k : Channel) (pair : Pointer) (mm aa w offset ix : ℕ) → aa < 4 → byteAt m (onward pair 2 .tag) (onward pair 2 .address) ≡ offset → k .ix ≡ ix
+    → indexed m k (memoryWith mm aa w) pair ≡ addedBy offset ix aa
+unfolding indexed
+added-second m k pair mm zero w offset ix h e f = refl
+added-second m k pair mm (suc zero) w offset ix h e f = e
+added-second m k pair mm (suc (suc zero)) w offset ix h e f = f
+added-second m k pair mm (suc (suc (suc zero))) w offset ix h e f = f
+added-second m k pair mm (suc (suc (suc (suc i)))) w offset ix h e f = absurd (omega arith)
+
+-- the bytes of both pairs and the first offset
+pairs-long : (aa : ℕ) → aa < 4 → 4 + pick (eqb aa 1) 1 0 + 0 + 0 ≡ 2 + offsetBytes aa + 2
+pairs-long zero h = refl
+pairs-long (suc zero) h = refl
+pairs-long (suc (suc zero)) h = refl
+pairs-long (suc (suc (suc zero))) h = refl
+pairs-long (suc (suc (suc (suc k)))) h = absurd (omega arith)
+
+module _ (m : Buffers) (c : Channel) (aa w mm aa₂ mm₂ : ℕ) (ha : aa < 4) (hw : w < 2) (hm : mm < 4) (ha₂ : aa₂ < 4) (hm₂ : mm₂ < 4) where
+  -- the channel after the first operand
+  first-grown : Channel
+  first-grown = grown (pastInstruction c (2 + offsetBytes aa + 2)) (memoryWith mm aa w) (w + 1)
+
+  ix-first : first-grown .ix ≡ grownBy (c .ix) aa (w + 1)
+  unfolding first-grown
+  ix-first = ap (λ (vs : List ℕ). getD vs 5 0) (grown-left c (2 + offsetBytes aa + 2) mm aa w (w + 1) ha .values)
+
+  -- the place of the second
+  second-place : effective m first-grown (memoryWith mm₂ aa₂ w) (onward (c .tp) (2 + offsetBytes aa))
+      ≡ pointer ((baseAddress c mm₂ + addedBy (codeByte m c (2 + offsetBytes aa + 2)) (grownBy (c .ix) aa (w + 1)) aa₂) % 1048576) (baseTag c mm₂)
+  unfolding effective onward first-grown grown pastInstruction renewed
+  second-place =
+      ap₂ (λ (p : Pointer) (k : ℕ). onward p k) (base-is first-grown mm₂ hm₂)
+      (added-second m first-grown (onward (c .tp) (2 + offsetBytes aa)) mm₂ aa₂ w (codeByte m c (2 + offsetBytes aa + 2)) (grownBy (c .ix) aa (w + 1)) ha₂
+      (ap (λ (p : Pointer). byteAt m (p .tag) (p .address)) (onward-more (c .tp) (2 + offsetBytes aa) 2) ∙ byte-reduced m (c .tp .tag) (c .tp .address + (2 + offsetBytes aa + 2)))
+      ix-first)
+
+  -- the channel after both
+  both-left′ : RegistersLeft c (further (grown first-grown (memoryWith mm₂ aa₂ w) (w + 1)) (offsetBytes aa₂))
+      (registersAt c (pastBy c (2 + offsetBytes aa + (2 + offsetBytes aa₂))) (grownBy (grownBy (c .ix) aa (w + 1)) aa₂ (w + 1))) (tagsOf c)
+  unfolding further first-grown grown pastInstruction renewed onward
+  both-left′ =
+      task-left c (onward (onward (c .tp) (2 + offsetBytes aa + 2)) (offsetBytes aa₂)) (pastBy c (2 + offsetBytes aa + (2 + offsetBytes aa₂)))
+      (ap (λ (p : Pointer). p .address) (onward-more (c .tp) (2 + offsetBytes aa + 2) (offsetBytes aa₂))
+      ∙ ap (λ (n : ℕ). (c .tp .address + n) % 1048576) (add-assoc (2 + offsetBytes aa) 2 (offsetBytes aa₂)))
+      refl
+      (grown-again c first-grown (pastBy c (2 + offsetBytes aa + 2)) (grownBy (c .ix) aa (w + 1)) mm₂ aa₂ w (w + 1) ha₂ ix-first
+      (grown-left c (2 + offsetBytes aa + 2) mm aa w (w + 1) ha))
+
+module _ {b : Bool} {s : State} {m : Buffers} {lines : ℕ} where
+  move-between : (aa w mm aa₂ mm₂ : ℕ) → aa₂ < 4 → mm₂ < 4 → Ran b s m lines 0 0 aa w 0x24 mm
+      → codeByte m (channelOf s b) (2 + offsetBytes aa) ≡ aa₂ * 2 + w → codeByte m (channelOf s b) (2 + offsetBytes aa + 1) ≡ 0x33 * 4 + mm₂
+      → RegistersLeft (channelOf s b) (ranChannel b s m lines)
+      (registersAt (channelOf s b) (pastPair b s m lines aa (2 + offsetBytes aa₂)) (grownBy (grownBy (channelOf s b .ix) aa (w + 1)) aa₂ (w + 1)))
+      (tagsOf (channelOf s b))
+      × BytesLeft (baseTag (channelOf s b) mm₂)
+      ((baseAddress (channelOf s b) mm₂ + addedBy (codeByte m (channelOf s b) (2 + offsetBytes aa + 2)) (grownBy (channelOf s b .ix) aa (w + 1)) aa₂) % 1048576)
+      (bytesOf (operandIn m (baseTag (channelOf s b) mm) (operandAddress m (channelOf s b) mm aa) w) w) m ((stepOf s m lines) .memory)
+  unfolding lookup table deedOf performed movMemoryDeed movSecondDeed movOperandDeed lengthOf dataLength displacementLength first-grown
+  move-between aa w mm aa₂ mm₂ ha₂ hm₂ x e f =
+      let c = channelOf s b in
+      let o = memoryWith mm aa w in
+      let q = memoryWith mm₂ aa₂ w in
+      let n = 2 + offsetBytes aa + 2 in
+      let k₀ = lengthOf (MovMemory o) in
+      let second = second-is m c mm aa w aa₂ mm₂ (x .mode) (x .wide) ha₂ hm₂ e f in
+      let a₂ = (baseAddress c mm₂ + addedBy (codeByte m c (2 + offsetBytes aa + 2)) (grownBy (c .ix) aa (w + 1)) aa₂) % 1048576 in
+      let v = operandIn m (baseTag c mm) (operandAddress m c mm aa) w in
+      let channel : deedIn s m b (MovMemory o) .channel ≡ further (grown (grown (pastInstruction c n) o (w + 1)) q (w + 1)) (offsetBytes aa₂) =
+      rw second
+      (ap₃ (λ (k by i : ℕ). further (grown (grown (pastInstruction c k) o by) q by) i) (pairs-long aa (x .mode)) (size-is w (x .wide)) (offset-is mm₂ aa₂ w ha₂)) in
+      let change : deedIn s m b (MovMemory o) .change ≡ resultTo (pointer a₂ (baseTag c mm₂)) (eqb w 1) v =
+      rw second
+      (ap₃ (λ (k by : ℕ) (p : Pointer). resultTo (effective m (grown (pastInstruction c k) o by) q p) (eqb w 1) (operandAt m (effective m (pastInstruction c k₀) o (c .tp)) (eqb w 1)))
+      (pairs-long aa (x .mode)) (size-is w (x .wide)) (behind-is c mm aa w (x .mode))
+      ∙ ap₂ (λ (p y : Pointer). resultTo p (eqb w 1) (operandAt m y (eqb w 1))) (second-place m c aa w mm aa₂ mm₂ (x .mode) (x .wide) (x .base) ha₂ hm₂) (place-is m c k₀ mm aa w (x .mode) (x .base))
+      ∙ ap (resultTo (pointer a₂ (baseTag c mm₂)) (eqb w 1)) (operand-is m (baseTag c mm) (operandAddress m c mm aa) (operandAddress m c mm aa) w (x .wide) refl)) in (
+        subst (λ (k′ : Channel). RegistersLeft c k′ (registersAt c (pastPair b s m lines aa (2 + offsetBytes aa₂)) (grownBy (grownBy (c .ix) aa (w + 1)) aa₂ (w + 1))) (tagsOf c))
+            (sym (channel-left x (MovMemory o) (lit< tt) refl ∙ channel)) (both-left′ m c aa w mm aa₂ mm₂ (x .mode) (x .wide) (x .base) ha₂ hm₂),
+        subst (λ (m′ : Buffers). BytesLeft (baseTag c mm₂) a₂ (bytesOf v w) m m′)
+            (sym (memory-left x (MovMemory o) (lit< tt) refl ∙ ap (changed m) change))
+            (result-left m (baseTag c mm₂) a₂ v w (x .wide) (ap (λ (z : Change). allLent m (placesOf z)) (sym change) ∙ places-lent x (MovMemory o) (lit< tt) refl)),
+      )
+
 -- ---- the sheet
 
 pub memory-sheet : (second : Bool) (s : State) (m : Buffers) (lines : ℕ) → MemorySheet second s m lines
@@ -469,6 +604,7 @@ memory-sheet b s m lines = record {
   jumpBit = tested;
   tslFree = tsl-free;
   tslTaken = tsl-taken;
+  moveBetween = move-between;
   call = λ two aa w mm all x. call two aa w mm all (calls two aa w mm) x;
 }
   where

@@ -52,7 +52,7 @@ use Rattle.promises.proofs.SheetLaws.{bit-made, bit-kept, byte-alike, w
 abbrev pub pairWith : ℕ → ℕ → ℕ → ℕ → ℕ → ℕ → Pair
 pairWith r dd aa w op mm = record { rrr = r; dd = dd; aa = aa; w = w; opcode = op; mm = mm }
 
-pair-is : (r dd aa w op mm : ℕ) → r < 8 → dd < 4 → aa < 4 → w < 2 → op < 64 → mm < 4
+pub pair-is : (r dd aa w op mm : ℕ) → r < 8 → dd < 4 → aa < 4 → w < 2 → op < 64 → mm < 4
     → pairOf (r * 32 + dd * 8 + aa * 2 + w) (op * 4 + mm) ≡ pairWith r dd aa w op mm
 unfolding pairOf fieldOf
 pair-is r dd aa w op mm h₁ h₂ h₃ h₄ h₅ h₆ =
@@ -125,7 +125,7 @@ module _ {b : Bool} {s : State} {m : Buffers} {lines r dd aa w op mm : ℕ} (x :
 abbrev pub memoryWith : ℕ → ℕ → ℕ → Memory
 memoryWith mm aa w = record { mm = mm; aa = aa; wide = eqb w 1 }
 
-base-is : (c : Channel) (mm : ℕ) → mm < 4 → baseOf c mm ≡ pointer (baseAddress c mm) (baseTag c mm)
+pub base-is : (c : Channel) (mm : ℕ) → mm < 4 → baseOf c mm ≡ pointer (baseAddress c mm) (baseTag c mm)
 unfolding baseOf
 base-is c zero h = refl
 base-is c (suc zero) h = refl

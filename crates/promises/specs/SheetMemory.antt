@@ -12,7 +12,7 @@ use Rattle.machine.specs.States.{channelOf}
 use Rattle.machine.specs.declared.State.{State}
 use Rattle.step.specs.Step.{stepOf}
 use Rattle.promises.specs.SheetWords.{bit, formOf, tagsOf, tagIn, pointing}
-use Rattle.promises.specs.SheetOperands.{Ran, ranChannel, codeByte, baseTag, operandAddress, offsetBytes, grownBy, rawIn, operandIn, ddOf, displacementIn, whether, worksOf, singlesOf, bytesOf, registersAt, pastBy, jumpedBy, valuePast, RegistersLeft, BytesLeft}
+use Rattle.promises.specs.SheetOperands.{Ran, ranChannel, codeByte, baseAddress, baseTag, addedBy, operandAddress, offsetBytes, grownBy, rawIn, operandIn, ddOf, displacementIn, whether, worksOf, singlesOf, bytesOf, registersAt, pastBy, jumpedBy, valuePast, RegistersLeft, BytesLeft}
 use Rattle.promises.specs.SheetRegisters.{Goes}
 
 module _ (second : Bool) (s : State) (m : Buffers) (lines : ℕ) where
@@ -98,3 +98,12 @@ pub record MemorySheet (second : Bool) (s : State) (m : Buffers) (lines : ℕ) :
   pub call : (two : Bool) (aa w mm : ℕ) → AllBytes m → Ran second s m lines 4 (ddOf two) aa w 0x27 mm
       → Stores second s m lines mm aa (formOf (pastPair second s m lines aa (ddOf two)) (channelOf s second .tp .tag))
       (landed second s m lines true aa two) (grownBy (channelOf s second .ix) aa 3)
+  -- MOV M,M: its second pair has opcode 33h and the same W; the second address is formed with the IX that the first has grown, and may grow it again
+  pub moveBetween : (aa w mm aa₂ mm₂ : ℕ) → aa₂ < 4 → mm₂ < 4 → Ran second s m lines 0 0 aa w 0x24 mm
+      → codeByte m (channelOf s second) (2 + offsetBytes aa) ≡ aa₂ * 2 + w → codeByte m (channelOf s second) (2 + offsetBytes aa + 1) ≡ 0x33 * 4 + mm₂
+      → RegistersLeft (channelOf s second) (ranChannel second s m lines)
+      (registersAt (channelOf s second) (pastPair second s m lines aa (2 + offsetBytes aa₂)) (grownBy (grownBy (channelOf s second .ix) aa (w + 1)) aa₂ (w + 1)))
+      (tagsOf (channelOf s second))
+      × BytesLeft (baseTag (channelOf s second) mm₂)
+      ((baseAddress (channelOf s second) mm₂ + addedBy (codeByte m (channelOf s second) (2 + offsetBytes aa + 2)) (grownBy (channelOf s second .ix) aa (w + 1)) aa₂) % 1048576)
+      (bytesOf (operandIn m (baseTag (channelOf s second) mm) (operandAddress m (channelOf s second) mm aa) w) w) m ((stepOf s m lines) .memory)
