@@ -3,7 +3,7 @@ use Rattle.script_text.specs.declared.text.Call.{Call}
 use Rattle.script_text.specs.declared.text.Call.the-variants.{Nothing, Unknown, Make, Put, Set, Attention, Step, Dump, Show}
 use Rattle.script.specs.declared.Lent.{Lent}
 
--- "lends new buffers of SYS bytes of system memory and IO bytes of I/O memory": how many bytes are lent after a call
+-- how many bytes are lent after a call: `make` lends buffers of the lengths that it names, no other call changes them
 unfoldable pub lentAfter : Call → Lent → Lent
 lentAfter (Make sys io cp) lent = record { sys = sys; io = io }
 lentAfter Nothing lent = lent

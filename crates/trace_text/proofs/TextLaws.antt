@@ -1,7 +1,7 @@
 -- The laws of a text that grows: bytes put behind it, and the steps' text one step at a time.
 -- Assumes nothing.
 use mathlib.Core.List.{List, [], _∷_, _++_, append-assoc}
-use mathlib.Core.Path.{_≡_, refl, ap, _∙_}
+use mathlib.Core.Path.{_≡_, ap, _∙_}
 use Prim.Native.Nat.{ℕ, zero, suc, _+_, _-_, _<_}
 use native.Mathlib.Numerals.{add-one}
 use native.Mathlib.Nat.{not-suc-le-zero}
@@ -16,8 +16,8 @@ use Rattle.trace_text.specs.Line.{Behind, stepLine, endLine}
 use Rattle.trace_text.specs.Trace.{stepsText}
 
 -- a piece behind a piece behind a text
-pub chained : {a b x q p : List ℕ} → Behind a b p → Behind b x q → Behind a x (q ++ p)
-chained {x = x} {q = q} {p = p} e f = record { is = e .is ∙ ap (λ (l : List ℕ). l ++ p) (f .is) ∙ append-assoc x q p }
+pub behind-both : {a b x q p : List ℕ} → Behind a b p → Behind b x q → Behind a x (q ++ p)
+behind-both {x = x} {q = q} {p = p} e f = record { is = e .is ∙ ap (λ (l : List ℕ). l ++ p) (f .is) ∙ append-assoc x q p }
 
 -- one byte more of a piece behind a text
 pub one-more : (l p head : List ℕ) (at i : ℕ) → at + i < length l → i < length p → take (at + i) l ≡ head ++ take i p

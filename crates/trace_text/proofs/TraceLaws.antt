@@ -2,7 +2,7 @@
 -- Assumes nothing.
 use mathlib.Core.Bool.{Bool, true, false}
 use mathlib.Core.List.{List, [], _∷_, _++_, append-assoc}
-use mathlib.Core.Path.{_≡_, refl, sym, ap, subst, _∙_}
+use mathlib.Core.Path.{_≡_, refl, sym, ap, subst}
 use Prim.Native.Nat.{ℕ, zero, suc, _+_, _/_, _%_, _≤_, _<_}
 use native.Mathlib.Omega.{arith}
 use native.Mathlib.Decide.{decLt}
@@ -13,12 +13,12 @@ use Rattle.words.specs.Choice.{pick}
 use Rattle.memory.specs.Buffers.{Buffers, limitOf, withinLimits}
 use Rattle.machine.specs.declared.State.{State}
 use Rattle.machine.specs.Outcomes.{Outcome, first, unless}
-use Rattle.machine.specs.States.{isChannel, freshOf, freshState}
+use Rattle.machine.specs.States.{isChannel, freshOf}
 use Rattle.attention.specs.Attention.{attentionOf}
 use Rattle.step.specs.Step.{Step, stepOf}
 use Rattle.step.specs.declared.Kind.{Kind}
 use Rattle.step.specs.declared.Kind.the-variants.{Nothing, Instruction, Transfer, External}
-use Rattle.panel.specs.Run.{Run, ran, stepsFrom, attendedRun, callNumber, runOf}
+use Rattle.panel.specs.Run.{Run, ran, stepsFrom, attendedRun, callNumber}
 use Rattle.panel.proofs.Outcomes.{attends}
 use Rattle.trace_text.specs.Line.{glyph, digitOfUnit, decimal, letter, ending, lineOf, stepLine, endLine}
 use Rattle.trace_text.specs.Trace.{stepsText, attendedText, tracedMemory, traceOf, tracedRun, lineFeeds, Shows}

@@ -1,4 +1,4 @@
--- `prints::print_byte` is safe.
+-- `script_prints::print_byte` is safe.
 -- Assumes nothing.
 use borrow.Author.Needs.{needs}
 use native.Mathlib.Omega.{arith}

@@ -1,4 +1,4 @@
--- `prints::print_bytes` is safe and ends: it prints sixteen times.
+-- `script_prints::print_bytes` is safe and ends: it prints sixteen times.
 -- Assumes nothing.
 use Prim.Native.Nat.{_-_, _≤_}
 use borrow.Author.Needs.{needs}

@@ -4,7 +4,7 @@ use mathlib.Core.Path.{_∙_}
 use native.Mathlib.Omega.{arith}
 use Rattle.trace_text.specs.Line.{decimal}
 use borrow.Author.Needs.{needs}
-use Rattle.trace_text.proofs.TextLaws.{chained}
+use Rattle.trace_text.proofs.TextLaws.{behind-both}
 use Rattle.trace_text.proofs.append_decimal.Statement.{statement}
 use Rattle.trace_text.proofs.append_decimal.Tie as tie
 
@@ -36,7 +36,7 @@ returns c =
     let ten = c .before .before .before .before .before .before .before .before .append-digit3 in
     let hundred = c .before .before .before .before .before .before .before .before .before .before .before .before .append-digit2 in
     let thousand = c .before .before .before .before .before .before .before .before .before .before .before .before .before .before .before .before .append-digit in
-    (omega (arith, one .ensures .0, ten .ensures .0, hundred .ensures .0, thousand .ensures .0), record { is = (chained (chained (chained (one .ensures .1) (ten .ensures .1)) (hundred .ensures .1)) (thousand .ensures .1)) .is ∙ simp (c .before .before .before .before .before .glyph .ensures) })
+    (omega (arith, one .ensures .0, ten .ensures .0, hundred .ensures .0, thousand .ensures .0), record { is = (behind-both (behind-both (behind-both (one .ensures .1) (ten .ensures .1)) (hundred .ensures .1)) (thousand .ensures .1)) .is ∙ simp (c .before .before .before .before .before .glyph .ensures) })
 
 pub append-decimal-spec : {M : Type 1} → statement M
 append-decimal-spec =

@@ -4,7 +4,7 @@ use mathlib.Core.Path.{_∙_}
 use native.Mathlib.Omega.{arith}
 use Rattle.trace_text.specs.Line.{ending, lineOf}
 use borrow.Author.Needs.{needs}
-use Rattle.trace_text.proofs.TextLaws.{chained}
+use Rattle.trace_text.proofs.TextLaws.{behind-both}
 use Rattle.trace_text.proofs.step_line.Statement.{statement}
 use Rattle.trace_text.proofs.step_line.Tie as tie
 
@@ -52,7 +52,7 @@ unfolding lineOf ending
 returns c =
     let rest = c .before .before .append in
     let number = c .before .before .before .before .before .before .before .append-decimal in
-    (omega (arith, rest .ensures .0, number .ensures .0), record { is = (chained (rest .ensures .1) (number .ensures .1)) .is ∙ simp (c .before .before .before .before .before .before .before .before .before .glyph6 .ensures, c .before .before .before .before .before .before .before .before .before .before .glyph5 .ensures, c .before .before .before .before .before .before .before .before .before .before .before .glyph4 .ensures, c .before .before .before .before .before .before .before .before .before .before .before .before .glyph3 .ensures, c .before .before .before .before .before .before .before .before .before .before .before .before .before .glyph2 .ensures, c .before .before .before .before .before .before .before .before .before .before .before .before .before .before .letter .ensures, c .before .before .before .before .before .before .before .before .before .before .before .before .before .before .before .glyph .ensures, c .before .before .before .before .before .before .before .before .before .before .before .before .before .before .before .before .channel .ensures, c .before .before .before .before .before .before .before .before .before .before .before .before .before .before .before .before .before .is-second .ensures) })
+    (omega (arith, rest .ensures .0, number .ensures .0), record { is = (behind-both (rest .ensures .1) (number .ensures .1)) .is ∙ simp (c .before .before .before .before .before .before .before .before .before .glyph6 .ensures, c .before .before .before .before .before .before .before .before .before .before .glyph5 .ensures, c .before .before .before .before .before .before .before .before .before .before .before .glyph4 .ensures, c .before .before .before .before .before .before .before .before .before .before .before .before .glyph3 .ensures, c .before .before .before .before .before .before .before .before .before .before .before .before .before .glyph2 .ensures, c .before .before .before .before .before .before .before .before .before .before .before .before .before .before .letter .ensures, c .before .before .before .before .before .before .before .before .before .before .before .before .before .before .before .glyph .ensures, c .before .before .before .before .before .before .before .before .before .before .before .before .before .before .before .before .channel .ensures, c .before .before .before .before .before .before .before .before .before .before .before .before .before .before .before .before .before .is-second .ensures) })
 
 pub step-line-spec : {M : Type 1} → statement M
 step-line-spec =
