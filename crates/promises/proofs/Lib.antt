@@ -37,3 +37,5 @@ pub mod SheetMemory
 pub mod SheetControl
 pub mod SheetTurns
 pub mod SheetTransfer
+pub mod Sheet
+pub mod SheetWitness

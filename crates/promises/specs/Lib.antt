@@ -23,3 +23,4 @@ pub mod SheetMemory
 pub mod SheetControl
 pub mod SheetTurns
 pub mod SheetTransfer
+pub mod Sheet

@@ -6,20 +6,27 @@ use Prim.Native.Nat.{ℕ, _+_, _*_, _/_, _%_, _^_}
 use lib.Dec.{eqb, ltb}
 use lib.ListN.{getD, set}
 use Rattle.words.specs.Choice.{pick}
-use Rattle.memory.specs.Buffers.{Buffers, byteAt}
+use Rattle.memory.specs.Buffers.{Buffers, buffers, indexOf, byteAt, storeByte}
 use Rattle.memory.specs.declared.Pointer.{Pointer}
+use Rattle.machine.specs.Psw.{transferring}
 use Rattle.machine.specs.States.{channelOf, channelNumber}
 use Rattle.machine.specs.declared.Channel.{Channel}
 use Rattle.machine.specs.declared.State.{State}
 
--- the names that the sheet takes from the floors below, in fields and numbers: what a read gives (§1.2), and which channel is which (§2.7)
+-- the names that the sheet takes from the floors below, in fields and numbers: where bytes lie, what a read gives and a store leaves (§1.2), which
+-- channel is which (§2.7), and XF (§2.3)
 pub record Names : Type 0 where
-  pub system : (m : Buffers) (a : ℕ) → byteAt m false a ≡ getD (m .sys) (a % 1048576) 0
-  pub inputOutput : (m : Buffers) (a : ℕ) → byteAt m true a ≡ getD (m .io) (a % 65536) 0
+  pub systemIndex : (a : ℕ) → indexOf false a ≡ a % 1048576
+  pub ioIndex : (a : ℕ) → indexOf true a ≡ a % 65536
+  pub systemRead : (m : Buffers) (a : ℕ) → byteAt m false a ≡ getD (m .sys) (a % 1048576) 0
+  pub ioRead : (m : Buffers) (a : ℕ) → byteAt m true a ≡ getD (m .io) (a % 65536) 0
+  pub systemStore : (m : Buffers) (a v : ℕ) → storeByte m false a v ≡ buffers (set (m .sys) (a % 1048576) v) (m .io)
+  pub ioStore : (m : Buffers) (a v : ℕ) → storeByte m true a v ≡ buffers (m .sys) (set (m .io) (a % 65536) v)
   pub first : (s : State) → channelOf s false ≡ s .first
   pub second : (s : State) → channelOf s true ≡ s .second
   pub one : channelNumber false ≡ 1
   pub two : channelNumber true ≡ 2
+  pub transfers : (psw : ℕ) → transferring psw ≡ eqb (psw / 64 % 2) 1
 
 -- ---- numbers in bits and bytes
 

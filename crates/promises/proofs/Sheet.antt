@@ -1,0 +1,21 @@
+-- The sheet of the machine, from its parts.
+-- Assumes nothing.
+use Rattle.promises.specs.Sheet.{Sheet}
+use Rattle.promises.proofs.SheetAttention.{attention-sheet}
+use Rattle.promises.proofs.SheetControl.{control-sheet}
+use Rattle.promises.proofs.SheetLaws.{names}
+use Rattle.promises.proofs.SheetMemory.{memory-sheet}
+use Rattle.promises.proofs.SheetRegisters.{register-sheet}
+use Rattle.promises.proofs.SheetTransfer.{transfer-sheet}
+use Rattle.promises.proofs.SheetTurns.{turn-sheet}
+
+pub sheet : Sheet
+sheet = record {
+  names = names;
+  attention = attention-sheet;
+  registers = register-sheet;
+  memory = memory-sheet;
+  control = control-sheet;
+  turns = turn-sheet;
+  transfer = transfer-sheet;
+}

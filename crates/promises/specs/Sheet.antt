@@ -1,0 +1,22 @@
+-- The sheet of the machine: what each command of attention, each family of rows of the table of codes, a choice and a transfer step leave, by
+-- fields and numbers. It says again what the definitions of the crates below say, in other words, so that a wrong rule meets a theorem here.
+use mathlib.Core.Bool.{Bool}
+use Prim.Native.Nat.{ℕ}
+use Rattle.memory.specs.Buffers.{Buffers}
+use Rattle.machine.specs.declared.State.{State}
+use Rattle.promises.specs.SheetWords.{Names}
+use Rattle.promises.specs.SheetAttention.{AttentionSheet}
+use Rattle.promises.specs.SheetRegisters.{RegisterSheet}
+use Rattle.promises.specs.SheetMemory.{MemorySheet}
+use Rattle.promises.specs.SheetControl.{ControlSheet}
+use Rattle.promises.specs.SheetTurns.{TurnSheet}
+use Rattle.promises.specs.SheetTransfer.{TransferSheet}
+
+pub record Sheet : Type 0 where
+  pub names : Names
+  pub attention : (second : Bool) (s : State) (m : Buffers) → AttentionSheet second s m
+  pub registers : (second : Bool) (s : State) (m : Buffers) (lines : ℕ) → RegisterSheet second s m lines
+  pub memory : (second : Bool) (s : State) (m : Buffers) (lines : ℕ) → MemorySheet second s m lines
+  pub control : (second : Bool) (s : State) (m : Buffers) (lines : ℕ) → ControlSheet second s m lines
+  pub turns : (s : State) (m : Buffers) (lines : ℕ) → TurnSheet s m lines
+  pub transfer : (second : Bool) (s : State) (m : Buffers) (lines : ℕ) → TransferSheet second s m lines
