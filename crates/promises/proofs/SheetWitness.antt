@@ -13,14 +13,35 @@ use Rattle.attention.specs.Commands.{commandCoded, isKnown, modeNumber, command
 use Rattle.attention.specs.Touched.{readBy, storedBy, others, orderStages}
 use Rattle.machine.specs.Outcomes.{unless, first, settled, givenNumber}
 use Rattle.machine.specs.Stages.{stagesNumber}
-use Rattle.machine.specs.States.{freshState, idleChannel, channelOf, sound, soundChannel, isRunning, blockOf, busyIn, isChannel, isSecond, channelNumber}
+use Rattle.machine.specs.States.{freshState, idleChannel, channelOf, sound, soundChannel, isRunning, blockOf, busyIn, isChannel, isSecond, channelNumber, withLast}
 use Rattle.machine.specs.declared.Channel.{Channel}
-use Rattle.memory.specs.Buffers.{Buffers, buffers, spaceOf, limitOf, indexOf, lentAt, byteAt, withinLimits}
+use Rattle.memory.specs.Buffers.{Buffers, buffers, spaceOf, limitOf, indexOf, lentAt, byteAt, withinLimits, AllBytes}
 use Rattle.memory.specs.Places.{span, allLent}
-use Rattle.memory.specs.Values.{pointer, wordAt, doublewordAt}
-use Rattle.words.specs.Bits.{fieldOf}
+use Rattle.memory.specs.Values.{pointer, wordAt, doublewordAt, onward}
+use Rattle.words.specs.Bits.{fieldOf, bitOf}
 use Rattle.promises.specs.SheetAttention.{channelAfter, Attends}
 use Rattle.promises.proofs.SheetAttention.{attention-sheet}
+use Rattle.decode.specs.Lengths.{lengthOf, dataLength, displacementLength, offsetLength}
+use Rattle.decode_shapes.specs.Pairs.{pairOf}
+use Rattle.decode.specs.Reading.{lookup, decodeOf}
+use Rattle.decode.specs.Table.{table}
+use Rattle.execute.specs.Execute.{decodedAt, performed, deedOf, laterBytes, laterFrom, deedFrom, stagesFrom, instructionStages, executeNumber, executeOf}
+use Rattle.machine.specs.Registers.{byRRR, registerOf, withRegister, baseOf}
+use Rattle.execute_operands.specs.Changes.{placesOf, changed}
+use Rattle.execute_operands.specs.Marks.{usedUp, pastInstruction}
+use Rattle.execute_operands.specs.Operands.{indexed, effective, grown, displacementAt, landing, jumpedIf}
+use Rattle.machine.specs.Updates.{renewed}
+use Rattle.step.specs.Choosing.{requested, external, endsNow, transferRank, rankOf, secondWins, ranked, choiceOf}
+use Rattle.step.specs.Step.{settledStep, instructionStep, channelStep, chosenStep, entryNumber, stepOf}
+use Rattle.words.specs.Signs.{signedOf, displacedBy}
+use Rattle.execute_deeds.specs.RegisterForms.{lpdDeed}
+use Rattle.execute_deeds.specs.JumpForms.{jumpRegisterDeed}
+use Rattle.promises.specs.Witness.{channelWith, bothWith, programAt, bytesFrom}
+use Rattle.promises.specs.Cases.{Executes}
+use Rattle.promises.specs.SheetOperands.{Ran, ranChannel}
+use Rattle.promises.specs.SheetWords.{valuesOf, tagsOf}
+use Rattle.promises.proofs.SheetRegisters.{register-sheet}
+use Rattle.promises.proofs.InstructionWitness.{executes-met}
 
 -- a block that starts channel 1 by 001 (CCW 01h), PB at 8, and in it 1234h
 abbrev started : Buffers
@@ -34,3 +55,15 @@ start-met = record { done = refl; code = refl }
 pub start-leaves : channelAfter (freshState 0) started false .tp ≡ pointer 0x1234 true
 unfolding byteAt spaceOf indexOf limitOf freshState
 start-leaves = attention-sheet false (freshState 0) started .startLocal start-met .tp
+
+-- ---- instructions
+
+-- LPD GA,[PP+IX+] at 8, with zeros at 0: PP and IX are 0
+lpd-met : Ran false (programAt 8) (bytesFrom 8 (0x07 ∷ 0x8B ∷ [])) 0 0 0 3 1 0x22 3
+unfolding stepOf entryNumber givenNumber first unless withinLimits limitOf spaceOf indexOf lentAt byteAt allLent span sound soundChannel idleChannel channelOf withLast isRunning blockOf channelNumber requested external endsNow transferRank rankOf secondWins ranked choiceOf settledStep busyIn instructionStep channelStep chosenStep fieldOf bitOf decodedAt performed deedOf laterBytes laterFrom deedFrom stagesFrom instructionStages stagesNumber executeNumber executeOf onward renewed usedUp pastInstruction placesOf changed pairOf lookup decodeOf table lengthOf dataLength displacementLength offsetLength effective grown baseOf registerOf byRRR withRegister indexed jumpedIf landing displacementAt displacedBy signedOf lpdDeed jumpRegisterDeed doublewordAt wordAt bothWith channelWith
+lpd-met = record { executes = executes-met 8 (0x07 ∷ 0x8B ∷ []) (lit≤ tt) (lit< tt); done = refl; rrr = lit< tt; two = lit< tt; mode = lit< tt; wide = lit< tt; base = lit< tt }
+
+-- GA is 0 with tag 0, TP 10 and IX 4
+pub lpd-leaves : valuesOf (ranChannel false (programAt 8) (bytesFrom 8 (0x07 ∷ 0x8B ∷ [])) 0) ≡ 0 ∷ 0 ∷ 0 ∷ 0 ∷ 10 ∷ 4 ∷ 0 ∷ 0 ∷ []
+unfolding byteAt spaceOf indexOf limitOf bothWith channelWith channelOf
+lpd-leaves = register-sheet false (programAt 8) (bytesFrom 8 (0x07 ∷ 0x8B ∷ [])) 0 .lpd 0 3 3 refl lpd-met .0 .values
