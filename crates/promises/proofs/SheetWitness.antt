@@ -1,6 +1,6 @@
 -- The sheet's premises can be met, in numbers: a start by 001, an LPD with AA 11, and a JZ that jumps.
 -- Assumes nothing.
-use Prim.Native.Nat.{ℕ, zero, suc, _<_}
+use Prim.Native.Nat.{ℕ, zero, suc, _+_, _<_}
 use lib.Dec.{eqb, lit<, lit≤}
 use lib.ListN.{length, getD}
 use mathlib.Core.Bool.{Bool, true, false}
@@ -14,7 +14,7 @@ use Rattle.attention.specs.Touched.{readBy, storedBy, others, orderStages}
 use Rattle.machine.specs.Outcomes.{unless, first, settled, givenNumber}
 use Rattle.machine.specs.Stages.{stagesNumber}
 use Rattle.machine.specs.States.{freshState, idleChannel, channelOf, sound, soundChannel, isRunning, blockOf, busyIn, isChannel, isSecond, channelNumber, withLast}
-use Rattle.machine.specs.declared.Channel.{Channel}
+use Rattle.machine.specs.declared.State.{State}
 use Rattle.memory.specs.Buffers.{Buffers, buffers, spaceOf, limitOf, indexOf, lentAt, byteAt, withinLimits, AllBytes}
 use Rattle.memory.specs.Places.{span, allLent}
 use Rattle.memory.specs.Values.{pointer, wordAt, doublewordAt, onward}
@@ -67,3 +67,48 @@ lpd-met = record { executes = executes-met 8 (0x07 ∷ 0x8B ∷ []) (lit≤ tt) 
 pub lpd-leaves : valuesOf (ranChannel false (programAt 8) (bytesFrom 8 (0x07 ∷ 0x8B ∷ [])) 0) ≡ 0 ∷ 0 ∷ 0 ∷ 0 ∷ 10 ∷ 4 ∷ 0 ∷ 0 ∷ []
 unfolding byteAt spaceOf indexOf limitOf bothWith channelWith channelOf
 lpd-leaves = register-sheet false (programAt 8) (bytesFrom 8 (0x07 ∷ 0x8B ∷ [])) 0 .lpd 0 3 3 refl lpd-met .0 .values
+
+-- JZ GA at 0 with GA 10000h, of which the low 16 bits are 0; 5 bytes on
+abbrev sixteen : State
+sixteen = bothWith (channelWith (pointer 0x10000 false) (pointer 0 false) 0 0 0 4) idleChannel true
+
+abbrev jzCode : Buffers
+jzCode = buffers (0x08 ∷ 0x44 ∷ 5 ∷ []) []
+
+jz-met : Ran false sixteen jzCode 0 0 1 0 0 0x11 0
+unfolding stepOf entryNumber givenNumber first unless withinLimits limitOf spaceOf indexOf lentAt byteAt allLent span sound soundChannel idleChannel channelOf withLast isRunning blockOf channelNumber requested external endsNow transferRank rankOf secondWins ranked choiceOf settledStep busyIn instructionStep channelStep chosenStep fieldOf bitOf decodedAt performed deedOf laterBytes laterFrom deedFrom stagesFrom instructionStages stagesNumber executeNumber executeOf onward renewed usedUp pastInstruction placesOf changed pairOf lookup decodeOf table lengthOf dataLength displacementLength offsetLength effective grown baseOf registerOf byRRR withRegister indexed jumpedIf landing displacementAt displacedBy signedOf lpdDeed jumpRegisterDeed doublewordAt wordAt bothWith channelWith
+jz-met = record {
+  executes = record { turn = record { entered = refl; chosen = refl }; program = refl; there = record { lent = lent; read = read } };
+  done = refl;
+  rrr = lit< tt;
+  two = lit< tt;
+  mode = lit< tt;
+  wide = lit< tt;
+  base = lit< tt;
+}
+  where
+    lent : (i : ℕ) → i < 2 → lentAt jzCode false (0 + i) ≡ true
+    lent zero h = refl
+    lent (suc zero) h = refl
+    lent (suc (suc i)) h = absurd (omega arith)
+
+    read : (i : ℕ) → i < 2 → byteAt jzCode false (0 + i) ≡ getD (0x08 ∷ 0x44 ∷ []) i 0
+    read zero h = refl
+    read (suc zero) h = refl
+    read (suc (suc i)) h = absurd (omega arith)
+
+jz-bytes : AllBytes jzCode
+unfolding byteAt spaceOf
+jz-bytes true a = lit< tt
+jz-bytes false a = go (indexOf false a)
+  where
+    go : (i : ℕ) → getD (0x08 ∷ 0x44 ∷ 5 ∷ []) i 0 < 256
+    go zero = lit< tt
+    go (suc zero) = lit< tt
+    go (suc (suc zero)) = lit< tt
+    go (suc (suc (suc i))) = lit< tt
+
+-- it jumps: TP is 3 + 5
+pub jz-leaves : valuesOf (ranChannel false sixteen jzCode 0) ≡ 0x10000 ∷ 0 ∷ 0 ∷ 0 ∷ 8 ∷ 0 ∷ 0 ∷ 0 ∷ []
+unfolding byteAt spaceOf indexOf limitOf bothWith channelWith channelOf
+jz-leaves = register-sheet false sixteen jzCode 0 .jump true false 0 jz-bytes refl jz-met .0 .values
