@@ -33,8 +33,8 @@ mid-transfers : (c : Channel) (n j : ℕ) → Plain c → transferring ((midway 
 unfolding midway withTransfer
 mid-transfers c n j k = k .transfers
 
--- short of the total: "it ends at step .." and no earlier; exactly the bytes that should have arrived, arrived; the next of those steps is not
--- refused, and "those steps changed no other byte"
+-- short of the total it has not ended; exactly the bytes that should have arrived, arrived; the next of those steps is not
+-- refused, and changes no other byte
 pub going : {n : ℕ} {c₀ : Channel} {m₀ : Buffers} {k : ℕ} {c : Channel} {m : Buffers} → Copy n c₀ m₀ → Row n c₀ m₀ k c m → k < total c₀ n → Going n c₀ m₀ k c m
 going {n} {c₀} {m₀} {k} {c} {m} p r h = go (reached p r (down k (total c₀ n) h))
   where

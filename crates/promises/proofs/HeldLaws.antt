@@ -26,7 +26,7 @@ held-start p q n m l k =
       intoLent = k;
     }
 
--- storing the source's byte j takes "j bytes have arrived" to j + 1
+-- storing the source's byte j takes j bytes arrived to j + 1
 pub put-one : (p q : Pointer) (n : ℕ) (m₀ : Buffers) (j : ℕ) (m : Buffers) (v : ℕ) → ShareNone p q n → n ≤ 65536 → j < n
     → v ≡ byteAt m₀ (p .tag) (p .address + j) → Held p q n m₀ j m → Held p q n m₀ (j + 1) (storeByte m (q .tag) (q .address + j) v)
 put-one p q n m₀ j m v apart most short e h =

@@ -159,7 +159,7 @@ registerIn (Instruction shape) = movpRegister shape
 registerIn NoInstruction = 0
 registerIn ControlUsed = 0
 
--- "PPP: GA, GB, GC, TP only"
+-- PPP names GA, GB, GC or TP
 abbrev isPointer : ℕ → Bool
 isPointer r = ltb r 3 || eqb r 4
 

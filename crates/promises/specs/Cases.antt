@@ -61,27 +61,27 @@ Even a = a % 2 ≡ 0
 abbrev pub Odd : ℕ → Type 0
 Odd a = a % 2 ≡ 1
 
--- "Both widths 8"
+-- both sides are 8 bits wide
 abbrev pub Both8 : Channel → Type 0
 Both8 c = ((source c) .wide ≡ false) × ((destination c) .wide ≡ false)
 
--- "both 16"
+-- both are 16
 abbrev pub Both16 : Channel → Type 0
 Both16 c = ((source c) .wide ≡ true) × ((destination c) .wide ≡ true)
 
--- "both 16 and even"
+-- both are 16 and begin at even addresses
 abbrev pub Both16Even : Channel → Type 0
 Both16Even c = Both16 c × Even (from c .address) × Even (into c .address)
 
--- "Both 16, both odd"
+-- both are 16 and begin at odd addresses
 abbrev pub Both16Odd : Channel → Type 0
 Both16Odd c = Both16 c × Odd (from c .address) × Odd (into c .address)
 
--- "Source 16 at an odd address, destination 8"
+-- the source is 16 and begins at an odd address, the destination is 8
 abbrev pub From16OddInto8 : Channel → Type 0
 From16OddInto8 c = ((source c) .wide ≡ true) × ((destination c) .wide ≡ false) × Odd (from c .address)
 
--- "under demand 3's conditions": a transfer with such sides and this first count in BC ends at this one of the channel's transfer steps, on calls in
+-- under the conditions of demand 3 a transfer with such sides and this first count in BC ends at this one of the channel's transfer steps, on calls in
 -- a row, for either channel of any state
 abbrev pub Takes : (Channel → Type 0) → ℕ → ℕ → Type 0
 Takes sides count steps =
@@ -90,12 +90,12 @@ Takes sides count steps =
 
 -- ---- turns
 
--- "Fresh": made with some CP, and given nothing but attention since
+-- a state made with some CP, and given nothing but attention since
 pub data Fresh : State → Type 0 where
   made : (cp : ℕ) → Fresh (freshState cp)
   attended : {s : State} → Fresh s → (m : Buffers) (channel : ℕ) → Fresh ((attentionOf s m channel) .state)
 
--- "both programs unchained, equal priority", and both running
+-- both channels run programs that are not chained, with equal priority
 pub record Programs (s : State) : Type 0 where
   pub unchained : (second : Bool) → RankThree (channelOf s second)
   pub equal : priority (channelOf s false .psw) ≡ priority (channelOf s true .psw)

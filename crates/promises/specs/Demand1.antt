@@ -1,5 +1,5 @@
 -- Demand 1: every call ends with an answer, each number is given exactly under its own condition, and a refused call changes nothing.
--- "Every call ends with an answer, for every memory content, register value and channel number. Nobody has to test the arguments beforehand": each
+-- That every call has an answer for whatever it is given, and that nobody has to look at the arguments first, is how the calls are said: each
 -- call is a function of what it is given, so it has an answer for every state, every memory and every number, and no field below asks anything of them.
 use mathlib.Core.Bool.{Bool, true, false}
 use mathlib.Core.List.{[], _∷_}
@@ -20,7 +20,7 @@ use Rattle.step.specs.Step.{stepOf}
 use Rattle.panel.specs.Run.{Run, runOf, answerOf}
 use Rattle.promises.specs.Runs.{CpPast, RunEnds}
 
--- "all else is 0 or idle", of one channel
+-- a channel of a fresh state: every register 0, idle, unmarked (§2.8)
 pub record Blank (c : Channel) : Type 0 where
   pub ga : c .ga ≡ pointer 0 false
   pub gb : c .gb ≡ pointer 0 false
@@ -39,31 +39,31 @@ pub record Blank (c : Channel) : Type 0 where
 pub record FreshAnswers (cp : ℕ) : Type 0 where
   -- 10 exactly where CP is 1,048,576 or more, otherwise 0
   pub numbers : (n : ℕ) → (freshOf cp .number ≡ n) ↔ Given (check 10 (CpPast cp) ∷ []) n
-  -- "A fresh state takes CP; all else is 0 or idle; "last" is channel 2"
+  -- it has the CP that it was given, blank channels, and channel 2 as the last to step (§2.8)
   pub takesCp : cp < 1048576 → freshOf cp .state .cp ≡ cp
   pub channels : (second : Bool) → Blank (channelOf (freshOf cp .state) second)
   pub last : freshOf cp .state .last ≡ true
-  -- "A fresh state with a bad CP answers 10 and the state made with CP 0"
+  -- with a bad CP the state is that of CP 0
   pub badCp : CpPast cp → freshOf cp .state .cp ≡ 0
 
 -- an attention with any channel number, in any state and memories
 pub record AttentionAnswers (s : State) (m : Buffers) (channel : ℕ) : Type 0 where
-  -- "a numbered refusal, only under that number's own condition": n is given exactly where n's check applies and no earlier one does; 0 where none does
+  -- each number under its own condition (§3.2): n is given exactly where n's check applies and no earlier one does; 0 where none does
   pub numbers : (n : ℕ) → (attentionOf s m channel .number ≡ n) ↔ Given (attentionChecks s m channel) n
-  -- "A refused attention or step hands back the state it was given"
+  -- a refused call leaves the given state (§3.3)
   pub sameState : ¬ (attentionOf s m channel .number ≡ 0) → attentionOf s m channel .state ≡ s
-  -- "and changes no byte of system or I/O memory"
+  -- and every byte of both memories
   pub sameMemory : ¬ (attentionOf s m channel .number ≡ 0) → attentionOf s m channel .memory ≡ m
   -- no number is over 12
   pub bound : attentionOf s m channel .number ≤ 12
 
 -- a step with any lines, of any state and memories
 pub record StepAnswers (s : State) (m : Buffers) (lines : ℕ) : Type 0 where
-  -- "a numbered refusal, only under that number's own condition": n is given exactly where n's check applies and no earlier one does; 0 where none does
+  -- each number under its own condition (§3.2): n is given exactly where n's check applies and no earlier one does; 0 where none does
   pub numbers : (n : ℕ) → (stepOf s m lines .number ≡ n) ↔ Given (stepChecks s m lines) n
-  -- "A refused attention or step hands back the state it was given"
+  -- a refused call leaves the given state (§3.3)
   pub sameState : ¬ (stepOf s m lines .number ≡ 0) → stepOf s m lines .state ≡ s
-  -- "and changes no byte of system or I/O memory"
+  -- and every byte of both memories
   pub sameMemory : ¬ (stepOf s m lines .number ≡ 0) → stepOf s m lines .memory ≡ m
   -- it is of no channel
   pub noChannel : ¬ (stepOf s m lines .number ≡ 0) → stepOf s m lines .channel ≡ 0
@@ -78,7 +78,7 @@ pub record RunAnswers (m : Buffers) (cp channel lines limit : ℕ) : Type 0 wher
   pub bound : runOf m cp channel lines limit .number ≤ 12
   pub stepsBound : runOf m cp channel lines limit .steps ≤ limit
   pub stepsSmall : runOf m cp channel lines limit .steps < 65536
-  -- "Answer: number × 65,536 + steps done", so that both can be taken back out of it
+  -- the answer holds number and steps in sixteen bits each (§8.4), so that both can be taken back out of it
   pub answer : answerOf (runOf m cp channel lines limit) ≡ runOf m cp channel lines limit .number * 65536 + runOf m cp channel lines limit .steps
   pub numberBack : answerOf (runOf m cp channel lines limit) / 65536 ≡ runOf m cp channel lines limit .number
   pub stepsBack : answerOf (runOf m cp channel lines limit) % 65536 ≡ runOf m cp channel lines limit .steps

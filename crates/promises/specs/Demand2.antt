@@ -44,7 +44,7 @@ pub record AttentionDoes (s : State) (m : Buffers) (channel : ℕ) : Type 0 wher
   -- an accepted one does what the order in its channel's block says, to that channel and to memory
   pub obeys : attentionOf s m channel .number ≡ 0
       → attentionOf s m channel ≡ outcome 0 (withChannel s (isSecond channel) (orderedChannel s m (isSecond channel))) (orderedMemory s m (isSecond channel))
-  -- "A step or attention of one channel changes no register of the other"
+  -- no register of the other channel changes
   pub other : (second : Bool) → channel ≡ channelNumber second → channelOf (attentionOf s m channel .state) (not second) ≡ channelOf s (not second)
   -- of its own channel it changes no register but TP, PP, PSW, the mode and the armed mark
   pub own : OnlyControl (channelOf s (isSecond channel)) (channelOf (attentionOf s m channel .state) (isSecond channel))
@@ -60,7 +60,7 @@ pub record AttentionDoes (s : State) (m : Buffers) (channel : ℕ) : Type 0 wher
 pub record StepDoes (s : State) (m : Buffers) (lines : ℕ) : Type 0 where
   -- a done step is of the channel that was chosen
   pub chosen : (second : Bool) → stepOf s m lines .channel ≡ channelNumber second → (choiceOf s lines ≡ Ends second) ⊎ (choiceOf s lines ≡ Steps second)
-  -- "TP gains the TX offset, XF clears, no byte moves"
+  -- an external end moves TP on by the offset of TX and clears XF, and no byte moves (§5.2)
   pub ends : (second : Bool) → stepOf s m lines .number ≡ 0 → choiceOf s lines ≡ Ends second
       → stepOf s m lines ≡ doneStep s second (externallyEnded (channelOf s second)) m External
   -- with XF it is a transfer step of the chosen channel
@@ -70,9 +70,9 @@ pub record StepDoes (s : State) (m : Buffers) (lines : ℕ) : Type 0 where
   pub executes : (second : Bool) → stepOf s m lines .number ≡ 0 → choiceOf s lines ≡ Steps second → transferring (channelOf s second .psw) ≡ false
       → stepOf s m lines
       ≡ doneStep s second (executeOf (channelOf s second) (busyIn (blockOf s second)) m .channel) (executeOf (channelOf s second) (busyIn (blockOf s second)) m .memory) Instruction
-  -- "A step or attention of one channel changes no register of the other"
+  -- no register of the other channel changes
   pub other : (second : Bool) → stepOf s m lines .channel ≡ channelNumber second → channelOf (stepOf s m lines .state) (not second) ≡ channelOf s (not second)
-  -- of what the channels share it changes "last" alone: "Only done steps set "last"", to the channel that stepped
+  -- of what the channels share only the last to step changes, and only where the step is done
   pub controlBlock : stepOf s m lines .state .cp ≡ s .cp
   pub last : stepOf s m lines .number ≡ 0 → stepOf s m lines .channel ≡ channelNumber (stepOf s m lines .state .last)
   pub refusedLast : ¬ (stepOf s m lines .number ≡ 0) → stepOf s m lines .state .last ≡ s .last
@@ -83,8 +83,8 @@ pub record StepDoes (s : State) (m : Buffers) (lines : ℕ) : Type 0 where
 
 -- the demand
 pub record Demand2 : Type 0 where
-  -- "Attention and step do exactly what document 01 takes from the maker: registers, tags, status, memory"
+  -- what the two calls do to registers, tags, status and memory, and what they leave alone (§4, §5)
   pub attention : (s : State) (m : Buffers) (channel : ℕ) → AttentionDoes s m channel
   pub step : (s : State) (m : Buffers) (lines : ℕ) → StepDoes s m lines
-  -- "Pointers go to their three stored bytes and back without loss"
+  -- no pointer loses anything on its way through its three stored bytes (§1.6)
   pub pointers : PointersKept

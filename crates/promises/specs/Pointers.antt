@@ -1,4 +1,4 @@
--- Demand 2, "Pointers go to their three stored bytes and back without loss": as numbers, through memory, by MOVP and CALL, by suspend and resume.
+-- Demand 2, no pointer loses anything in its three stored bytes: as numbers, through memory, by MOVP and CALL, by suspend and resume.
 use mathlib.Core.Bool.{Bool, true, false}
 use mathlib.Core.Path.{_≡_}
 use Prim.Native.Nat.{ℕ, _+_, _*_, _/_, _<_}
@@ -33,7 +33,7 @@ pub record FormKept (address : ℕ) (tag : Bool) : Type 0 where
   pub sameAddress : storedAddress (storedLow address) (storedMiddle address) (storedHigh address tag) ≡ address
   pub sameTag : storedTag (storedHigh address tag) ≡ tag
 
--- three bytes read as a pointer and stored again are those bytes, but for "zeros below (ignored when read)"
+-- three bytes read as a pointer and stored again are those bytes, but for the three bits that are disregarded (§1.6)
 pub record BytesAgain (low middle high : ℕ) : Type 0 where
   pub first : storedLow (storedAddress low middle high) ≡ low
   pub second : storedMiddle (storedAddress low middle high) ≡ middle
@@ -65,7 +65,7 @@ pub record Executes (k : StepCall) (shape : Shape) : Type 0 where
   pub program : transferring (channelOn k .psw) ≡ false
   pub reads : decodedAt (k .memory) (channelOn k .tp) ≡ Instruction shape
 
--- the channel as the instruction finds it: "TP already points past it"
+-- the channel as the instruction finds it, with TP past it
 abbrev pub found : StepCall → Shape → Channel
 found k shape = pastInstruction (channelOn k) (lengthOf shape)
 
@@ -94,10 +94,10 @@ pub record GoesOn (before after : Channel) (ccw : ℕ) : Type 0 where
   pub destinationBack : destinationWide (after .psw) ≡ destinationWide (before .psw)
   pub sourceBack : sourceWide (after .psw) ≡ sourceWide (before .psw)
   pub transferBack : transferring (after .psw) ≡ transferring (before .psw)
-  -- "No other register moves"
+  -- every other register is as it was
   pub others : after ≡ withControl before (before .tp) (before .pp) (after .psw) (before .mode) (before .armed)
 
--- "Pointers go to their three stored bytes and back without loss"
+-- pointers survive their three stored bytes
 pub record PointersKept : Type 0 where
   -- every address of 20 bits with either tag
   pub form : (address : ℕ) (tag : Bool) → address < 1048576 → FormKept address tag
@@ -109,7 +109,7 @@ pub record PointersKept : Type 0 where
   pub movp : {k : StepCall} {r : ℕ} {o : Memory} {k′ : StepCall} {r′ : ℕ} {o′ : Memory} → Executes k (MovpStore r o)
       → LoadsFrom k (operandOf k (MovpStore r o) o) k′ r′ o′
       → Holds (channelOf (leftBy k′ .state) (k′ .second)) r′ (registerOf (found k (MovpStore r o)) r) (tagOf (found k (MovpStore r o)) r)
-  -- "CALL stores TP in stored form", and MOVP P,M from there: TP past the CALL, with its tag
+  -- CALL stores TP (§6.17), and MOVP P,M from there: TP past the CALL, with its tag
   pub call : {k : StepCall} {o : Memory} {two : Bool} {k′ : StepCall} {r′ : ℕ} {o′ : Memory} → Executes k (Call o two)
       → LoadsFrom k (operandOf k (Call o two) o) k′ r′ o′
       → Holds (channelOf (leftBy k′ .state) (k′ .second)) r′ (found k (Call o two) .tp .address) (found k (Call o two) .tp .tag)

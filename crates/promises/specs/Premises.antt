@@ -1,5 +1,4 @@
--- Demand 3, what is asked of the start: "a transfer of a running channel from block to block, unsynchronised, without translation, with byte count
--- as its only enabled end and n as its first count".
+-- Demand 3, what is asked of the start: a plain block transfer of n bytes that only its byte count ends.
 use mathlib.Core.Bool.{true, false}
 use mathlib.Core.Path.{_≡_}
 use Prim.Native.Nat.{ℕ, _+_, _%_, _<_, _≤_}
@@ -30,18 +29,18 @@ ShareNone p q n = (i j : ℕ) → i < n → j < n → Apart (q .tag) (q .address
 
 -- the channel: how its transfer goes, and how it may end
 pub record Plain (c : Channel) : Type 0 where
-  -- "of a running channel"
+  -- the channel runs
   pub runs : isRunning (c .mode) ≡ true
-  -- "a transfer": XF is set
+  -- and transfers: XF is set
   pub transfers : transferring (c .psw) ≡ true
-  -- "from block to block": both sides move on
+  -- both sides move on
   pub leaves : sourceMoves (c .cc) ≡ true
   pub enters : destinationMoves (c .cc) ≡ true
-  -- "unsynchronised": SYN 00
+  -- no synchronisation: SYN 00
   pub unsynchronised : synchronised (c .cc) ≡ 0
-  -- "without translation"
+  -- no translation
   pub untranslated : translates (c .cc) ≡ false
-  -- "with byte count as its only enabled end": TBC on, TMC off, TX off, TS 0
+  -- the byte count alone can end it: TBC on, TMC off, TX off, TS 0
   pub counts : countEnd (c .cc) ≡ 0 → ⊥
   pub unmatched : matchEnd (c .cc) % 4 ≡ 0
   pub unended : externalEnd (c .cc) ≡ 0
@@ -49,7 +48,7 @@ pub record Plain (c : Channel) : Type 0 where
   -- its pointers are of 20 bits; with any other every step is refused by 10
   pub sound : soundChannel c ≡ true
 
--- the start: the channel, "n as its first count (0 stands for 65,536)", and both ranges. That a range does not wrap is not asked: a range that wraps
+-- the start: the channel, n bytes to go (BC 0 stands for 65,536), and both ranges. That a range does not wrap is not asked: a range that wraps
 -- is copied just so
 pub record Copy (n : ℕ) (c : Channel) (m : Buffers) : Type 0 where
   pub plain : Plain c
@@ -57,7 +56,7 @@ pub record Copy (n : ℕ) (c : Channel) (m : Buffers) : Type 0 where
   pub some : 1 ≤ n
   pub most : n ≤ 65536
   pub count : c .bc ≡ n % 65536
-  -- "Let both ranges of n bytes lie in lent memory .. and share no byte"
+  -- both ranges are lent and share no byte
   pub fromLent : Lent m (from c) n
   pub intoLent : Lent m (into c) n
   pub apart : ShareNone (from c) (into c) n

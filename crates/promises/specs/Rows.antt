@@ -13,7 +13,7 @@ pub record Left (p : Pointer) (n : ℕ) (m m′ : Buffers) : Type 0 where
   pub bytes : (i : ℕ) → i < n → byteAt m′ (p .tag) (p .address + i) ≡ byteAt m (p .tag) (p .address + i)
   pub lent : Lent m′ p n
 
--- "let nothing else write into either": both ranges are left alone
+-- both ranges are left alone: nothing else writes into them
 pub record Untouched (c₀ : Channel) (n : ℕ) (m m′ : Buffers) : Type 0 where
   pub fromLeft : Left (from c₀) n m m′
   pub intoLeft : Left (into c₀) n m m′

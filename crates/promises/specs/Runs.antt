@@ -14,15 +14,15 @@ use Rattle.step.specs.Conditions.{LinesOver}
 use Rattle.step.specs.Step.{stepOf}
 use Rattle.panel.specs.Run.{Run, ran}
 
--- 12: "step limit over 65,535"
+-- 12, of the limit
 abbrev pub LimitOver : ℕ → Type 0
 LimitOver limit = 65536 ≤ limit
 
--- 10: "CP .. is 1,048,576 or more"
+-- 10, of CP
 abbrev pub CpPast : ℕ → Type 0
 CpPast cp = 1048576 ≤ cp
 
--- "It tests 12 and 11 before anything else, makes a fresh state (10)"
+-- 12 and 11 are tested before anything else, then CP (§8.2)
 abbrev pub startChecks : Buffers → ℕ → ℕ → ℕ → ℕ → List Check
 startChecks m cp channel lines limit =
     check 12 (NoChannel channel ⊎ (LinesOver lines ⊎ LimitOver limit))
@@ -30,7 +30,7 @@ startChecks m cp channel lines limit =
     ∷ check 10 (CpPast cp)
     ∷ []
 
--- "gives that channel one attention"
+-- the attention that a run gives
 abbrev pub firstAttention : Buffers → ℕ → ℕ → Outcome
 firstAttention m cp channel = attentionOf (freshState cp) m channel
 
@@ -40,7 +40,7 @@ pub data DoneSteps (lines : ℕ) (s₀ : State) (m₀ : Buffers) : ℕ → State
   more : {k : ℕ} {s : State} {m : Buffers} → DoneSteps lines s₀ m₀ k s m → stepOf s m lines .number ≡ 0
       → DoneSteps lines s₀ m₀ (suc k) (stepOf s m lines .state) (stepOf s m lines .memory)
 
--- "steps until a number other than 0 or the limit; steps before a refusal keep their effect"
+-- steps follow until one is refused or the limit is reached; those done keep their effect (§8.3)
 pub data StepsEnd (lines limit : ℕ) (s₀ : State) (m₀ : Buffers) : Run → Type 0 where
   -- k steps are done and the next is refused: its number, k steps, and memories as those k left them
   refused : {k : ℕ} {s : State} {m : Buffers} → DoneSteps lines s₀ m₀ k s m → k < limit → ¬ (stepOf s m lines .number ≡ 0)
@@ -55,6 +55,6 @@ pub data RunEnds (m : Buffers) (cp channel lines limit : ℕ) : Run → Type 0 w
   -- by the attention's own number: no step, and no byte changed
   notAccepted : Given (startChecks m cp channel lines limit) 0 → ¬ (firstAttention m cp channel .number ≡ 0)
       → RunEnds m cp channel lines limit (ran (firstAttention m cp channel .number) 0 m)
-  -- "if that is accepted", by its steps, from what the attention left
+  -- where it is accepted, by its steps, from what the attention left
   after : {r : Run} → Given (startChecks m cp channel lines limit) 0 → firstAttention m cp channel .number ≡ 0
       → StepsEnd lines limit (firstAttention m cp channel .state) (firstAttention m cp channel .memory) r → RunEnds m cp channel lines limit r

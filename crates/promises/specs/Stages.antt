@@ -26,7 +26,7 @@ onBy p by = pointer (sum20 (p .address) by) (p .tag)
 unfoldable pub midway : Channel → ℕ → ℕ → Channel
 midway c n j = withTransfer c (onBy (c .ga) j) (onBy (c .gb) j) (c .tp) ((n - j) % 65536) (c .psw)
 
--- the channel at the end: GA and GB on by n, "the count is 0", XF clear, "the task pointer has moved on by the chosen 0, 4 or 8", every other
+-- the channel at the end: GA and GB on by n, BC 0, XF clear, TP on by the offset of TBC, every other
 -- register as at the start
 unfoldable pub finished : Channel → ℕ → Channel
 finished c n =
@@ -61,7 +61,7 @@ pub record Going (n : ℕ) (c₀ : Channel) (m₀ : Buffers) (k : ℕ) (c : Chan
   pub done : (transferOf c m) .number ≡ 0
   pub spares : Within (into c₀) n m ((transferOf c m) .memory)
 
--- at the last: "the destination holds the source bytes in order, the count is 0 .. and the task pointer has moved on by the chosen 0, 4 or 8"
+-- at the last: the destination holds the bytes of the source in their order, and the channel has ended
 pub record Ended (n : ℕ) (c₀ : Channel) (m₀ : Buffers) (c : Channel) (m : Buffers) : Type 0 where
   pub registers : c ≡ finished c₀ n
   pub copied : (i : ℕ) → i < n → byteAt m (into c₀ .tag) (into c₀ .address + i) ≡ byteAt m₀ (from c₀ .tag) (from c₀ .address + i)

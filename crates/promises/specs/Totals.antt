@@ -5,15 +5,15 @@ use Rattle.words.specs.Choice.{pick}
 use Rattle.machine.specs.declared.Channel.{Channel}
 use Rattle.transfer.specs.Sides.{source, destination, wordSide}
 
--- "both sides are eight bits wide"
+-- both sides are 8 bits wide
 unfoldable pub narrow : Channel → Bool
 narrow c = not ((source c) .wide) && not ((destination c) .wide)
 
--- "p is 0 if some sixteen-bit side starts at an even address and 1 if none does"
+-- how many bytes move alone at the start: none where a side of 16 bits begins at an even address, else one
 unfoldable pub alone : Channel → ℕ
 alone c = pick (wordSide (source c) || wordSide (destination c)) 0 1
 
--- "If both sides are eight bits wide, it ends at this channel's n-th transfer step. Otherwise it ends at step p + (n - p)/2, the half rounded up"
+-- the steps of the whole transfer: n for two narrow sides, otherwise the lone byte, and half of the rest rounded up
 unfoldable pub total : Channel → ℕ → ℕ
 total c n = pick (narrow c) n (alone c + (n - alone c + 1) / 2)
 

@@ -1,4 +1,4 @@
--- "Prove that no two outcomes can satisfy it together": each public call's contract, as the code states it, and that only one outcome meets it.
+-- The equations of the public calls' contracts, and that only one outcome meets each; the contracts themselves are held to it in the calls' own crates.
 use mathlib.Core.List.{List}
 use mathlib.Core.Path.{_≡_}
 use Prim.Native.Nat.{ℕ}
@@ -46,7 +46,7 @@ pub record Same {A : Type 0} (r r′ : A) (sys sys′ io io′ : List ℕ) : Typ
   pub system : sys ≡ sys′
   pub inputOutput : io ≡ io′
 
--- "Each public call's contract determines number, state and both memories for all inputs, refused ones too": two outcomes that meet it are the same
+-- number, state and both memories are determined for all inputs, refused ones too: two outcomes that meet an equation are the same
 pub record OneOutcome : Type 0 where
   pub fresh : (cp : ℕ) (r r′ : Answer) → FreshMeets cp r → FreshMeets cp r′ → r ≡ r′
   pub attention : (s : State) (m : Buffers) (channel : ℕ) (r r′ : Answer) (sys sys′ io io′ : List ℕ)
