@@ -39,12 +39,14 @@ ARCHIVES = $(IOP89_LIB) $(SERVICE_LIB)
 ifeq ($(shell uname -m),x86_64)
 X86_CC ?= $(CC)
 X86_SIZE ?= size
+X86_AR ?= ar
 X86_LDFLAGS ?=
 X86_NEEDS = tools/need $(firstword $(X86_CC)) gcc
 COUNT_NEEDS = tools/need valgrind valgrind
 else
 X86_CC ?= x86_64-linux-gnu-gcc
 X86_SIZE ?= x86_64-linux-gnu-size
+X86_AR ?= x86_64-linux-gnu-ar
 X86_LDFLAGS ?= -static
 X86_NEEDS = tools/need x86_64-linux-gnu-gcc gcc-x86-64-linux-gnu && \
 	tools/need /usr/x86_64-linux-gnu/include/stdio.h libc6-dev-amd64-cross
@@ -206,10 +208,12 @@ build/bench: host/bench.c host/emulator.h include/iop89.h build/emulator.o $(IOP
 # The proved calls as a second archive; both link into one program.
 service-lib: $(SERVICE_LIB)
 
-$(SERVICE_LIB): build/service.sums
-	@tools/prove staticlib service
-	cp target/staticlib/libservice.a $@
-	@touch $@
+# Each crate's archive has the functions that it exports, and all else in it is local, so they join into one.
+SERVICE_CRATES = service prom
+
+$(SERVICE_LIB): $(SERVICE_CRATES:%=build/%.sums)
+	@for crate in $(SERVICE_CRATES); do tools/prove staticlib $$crate || exit $$?; done
+	@AR="$(X86_AR)" tools/join-archives $@ $(SERVICE_CRATES:%=target/staticlib/lib%.a)
 
 build/compare_service: host/compare_service.c host/state_bytes.c host/state_bytes.h include/iop89_service.h $(COMMON) \
 		$(COMMON_H) $(SERVICE_LIB) | x86-compiler
