@@ -5,13 +5,13 @@ use borrow.Author.Tests.{eqb-false}
 use lib.Dec.{eqb, lit<}
 use lib.ListN.{getD}
 use mathlib.Core.Bool.{Bool, true, false, _&&_}
-use mathlib.Core.List.{List, [], _∷_, _++_}
+use mathlib.Core.List.{[], _∷_, _++_}
 use mathlib.Core.Path.{_≡_, refl, sym, subst, ap, _∙_}
 use native.Mathlib.Nat.{add-zero}
 use native.Mathlib.Omega.{arith}
 use Rattle.attention.proofs.Outcomes.{accepted-order, passed-command, passed-others}
 use Rattle.attention.proofs.Pauses.{ordered-else}
-use Rattle.attention.specs.Attention.{orderTo, orderedChannel, orderedMemory, attentionOf}
+use Rattle.attention.specs.Attention.{orderTo, orderedChannel, orderedMemory}
 use Rattle.attention.specs.Blocks.{ccwOf, parameterBlock, orderOf}
 use Rattle.attention.specs.Commands.{commandCoded, isKnown, commandNumber, copied, obeyed, ordered}
 use Rattle.attention.specs.Effects.{onlyPsw, started, suspended, resumed, commanded, channelOrdered, writesOf, saved, marked, writesMade}
@@ -25,7 +25,6 @@ use Rattle.machine.specs.States.{channelOf, withChannel, blockOf, busyIn, chann
 use Rattle.machine.specs.Updates.{withControl, stoppedPsw, halted}
 use Rattle.machine.specs.declared.Channel.{Channel}
 use Rattle.machine.specs.declared.Mode.{Mode}
-use Rattle.machine.specs.declared.Mode.the-variants.{Idle, Running, Suspended}
 use Rattle.machine.specs.declared.State.{State}
 use Rattle.memory.proofs.PlaceLaws.{store-index, index-reduced, later, after}
 use Rattle.memory.proofs.SpanLaws.{span-at, span-first, all-append}
@@ -37,8 +36,8 @@ use Rattle.memory.specs.declared.Pointer.{Pointer}
 use Rattle.words.proofs.ChoiceLaws.{both-left, both-right}
 use Rattle.words.specs.Bits.{fieldOf, bitOf, withBit}
 use Rattle.words.specs.Choice.{pick}
-use Rattle.promises.specs.SheetWords.{bit, wordIn, farIn, storedIn, storedTagIn, formOf}
-use Rattle.promises.specs.SheetAttention.{blockAt, ccwAt, busyAt, pbAt, outcomeTo, channelAfter, Attends, byIcf, StatusLeft, ControlLeft, BusyLeft, SavedLeft, AttentionSheet}
+use Rattle.promises.specs.SheetWords.{bit, formOf}
+use Rattle.promises.specs.SheetAttention.{blockIn, ccwAt, busyPlace, pbAt, outcomeTo, channelAfter, Attends, byIcf, StatusLeft, ControlLeft, BusyLeft, SavedLeft, AttentionSheet}
 use Rattle.promises.proofs.SheetLaws.{digit-of, bit-alike, bit-made, bit-kept, byte-alike, lent-alike, word-alike, far-alike}
 
 -- ---- PSW
@@ -160,7 +159,7 @@ status-left {psw} {tb} {xf} {x} ccw h =
 
 module _ (s : State) (b : Bool) where
   -- a block begins where the sheet says, in 20 bits
-  block-is : blockOf s b % 1048576 ≡ blockAt s b % 1048576
+  block-is : blockOf s b % 1048576 ≡ blockIn s b % 1048576
   unfolding blockOf
   block-is = go b
     where
@@ -169,12 +168,12 @@ module _ (s : State) (b : Bool) where
       go false = refl
 
   -- and so do its parts
-  pub busy-is : busyIn (blockOf s b) % 1048576 ≡ busyAt s b % 1048576
+  pub busy-is : busyIn (blockOf s b) % 1048576 ≡ busyPlace s b % 1048576
   unfolding busyIn
   busy-is = omega (arith, block-is)
 
   pb-is : (m : Buffers) → doublewordAt m false ((blockOf s b + 2) % 1048576) ≡ pbAt s m b
-  pb-is m = far-alike m false ((blockOf s b + 2) % 1048576) (blockAt s b + 2) (omega (arith, block-is))
+  pb-is m = far-alike m false ((blockOf s b + 2) % 1048576) (blockIn s b + 2) (omega (arith, block-is))
 
 -- ---- an attention that is done
 
@@ -189,7 +188,7 @@ module _ (b : Bool) (s : State) (m : Buffers) {code : ℕ} (x : Attends b s m co
   command-is : orderTo s m b .command ≡ k
   unfolding orderTo orderOf ccwOf fieldOf
   command-is =
-      let e : byteAt m false (blockOf s b) ≡ ccwAt s m b = byte-alike m false (blockOf s b) (blockAt s b) (block-is s b) in
+      let e : byteAt m false (blockOf s b) ≡ ccwAt s m b = byte-alike m false (blockOf s b) (blockIn s b) (block-is s b) in
       let h : byteAt m false (blockOf s b) / 2 ^ 0 % 2 ^ 3 ≡ code = omega (arith, e, x .code) in
       ap commandCoded h ∙ coded
 
@@ -207,7 +206,7 @@ module _ (b : Bool) (s : State) (m : Buffers) {code : ℕ} (x : Attends b s m co
       ap (λ (o : Outcome). channelOf (o .state) b) whole
       ∙ put-same s b (orderedChannel s m b)
       ∙ rw command-is
-      (ap (λ (n : ℕ). onlyPsw made (ordered n (made .psw))) (byte-alike m false (blockOf s b) (blockAt s b) (block-is s b)))
+      (ap (λ (n : ℕ). onlyPsw made (ordered n (made .psw))) (byte-alike m false (blockOf s b) (blockIn s b) (block-is s b)))
 
   -- and of memory
   memory-is : outcomeTo s m b .memory ≡ writesMade m (writesOf k (blockOf s b) pb (channelOf s b))
@@ -240,23 +239,23 @@ module _ (b : Bool) (s : State) (m : Buffers) {code : ℕ} (x : Attends b s m co
 
 module _ (s : State) (b : Bool) (m : Buffers) where
   -- BUSY stored where the definition puts it is BUSY stored where the sheet does
-  busy-stored : (v : ℕ) → marked m (blockOf s b) v ≡ storeByte m false (busyAt s b) v
+  busy-stored : (v : ℕ) → marked m (blockOf s b) v ≡ storeByte m false (busyPlace s b) v
   unfolding marked
   busy-stored v =
-      store-index m false (busyIn (blockOf s b)) (busyAt s b) v
-      (sym (index-reduced false (busyIn (blockOf s b))) ∙ ap (indexOf false) (busy-is s b) ∙ index-reduced false (busyAt s b))
+      store-index m false (busyIn (blockOf s b)) (busyPlace s b) v
+      (sym (index-reduced false (busyIn (blockOf s b))) ∙ ap (indexOf false) (busy-is s b) ∙ index-reduced false (busyPlace s b))
 
-  busy-lent : allLent m (span false (busyIn (blockOf s b)) 1) ≡ true → lentAt m false (busyAt s b) ≡ true
+  busy-lent : allLent m (span false (busyIn (blockOf s b)) 1) ≡ true → lentAt m false (busyPlace s b) ≡ true
   busy-lent h =
-      sym (lent-alike m false (busyIn (blockOf s b)) (busyAt s b) (busy-is s b)) ∙ span-first m false (busyIn (blockOf s b)) 1 h (lit< tt)
+      sym (lent-alike m false (busyIn (blockOf s b)) (busyPlace s b) (busy-is s b)) ∙ span-first m false (busyIn (blockOf s b)) 1 h (lit< tt)
 
   -- BUSY alone
   busy-left : (v : ℕ) (m′ : Buffers) → m′ ≡ marked m (blockOf s b) v → allLent m (span false (busyIn (blockOf s b)) 1) ≡ true → BusyLeft s b v m m′
   busy-left v m′ e h =
       let e′ = e ∙ busy-stored v in
       record {
-        busy = ap (λ (n : Buffers). byteAt n false (busyAt s b)) e′ ∙ read-same m false (busyAt s b) v (busy-lent h);
-        others = λ tag a ne. ap (λ (n : Buffers). byteAt n tag a) e′ ∙ read-other m false (busyAt s b) v tag a ne;
+        busy = ap (λ (n : Buffers). byteAt n false (busyPlace s b)) e′ ∙ read-same m false (busyPlace s b) v (busy-lent h);
+        others = λ tag a ne. ap (λ (n : Buffers). byteAt n tag a) e′ ∙ read-other m false (busyPlace s b) v tag a ne;
       }
 
 -- TP and PSW saved at an address
@@ -296,9 +295,9 @@ saved-left : (s : State) (b : Bool) (m m′ : Buffers)
     → m′ ≡ marked (saved m (channelOf s b .pp) (channelOf s b .tp) (channelOf s b .psw)) (blockOf s b) 0
     → allLent m (span false (channelOf s b .pp) 4 ++ span false (busyIn (blockOf s b)) 1) ≡ true → SavedLeft s b m m′
 saved-left s b m m′ e h = record {
-  busy = ap (λ (k : Buffers). byteAt k false (busyAt s b)) e′ ∙ read-same n false (busyAt s b) 0 (saved-lent m pp tp psw false (busyAt s b) ∙ busy-lent s b m last);
-  saved = λ i hi ne. ap (λ (k : Buffers). byteAt k false (pp + i)) e′ ∙ read-other n false (busyAt s b) 0 false (pp + i) ne ∙ saved-bytes m pp tp psw four i hi;
-  others = λ tag a ne nes. ap (λ (k : Buffers). byteAt k tag a) e′ ∙ read-other n false (busyAt s b) 0 tag a ne ∙ saved-others m pp tp psw tag a nes;
+  busy = ap (λ (k : Buffers). byteAt k false (busyPlace s b)) e′ ∙ read-same n false (busyPlace s b) 0 (saved-lent m pp tp psw false (busyPlace s b) ∙ busy-lent s b m last);
+  saved = λ i hi ne. ap (λ (k : Buffers). byteAt k false (pp + i)) e′ ∙ read-other n false (busyPlace s b) 0 false (pp + i) ne ∙ saved-bytes m pp tp psw four i hi;
+  others = λ tag a ne nes. ap (λ (k : Buffers). byteAt k tag a) e′ ∙ read-other n false (busyPlace s b) 0 tag a ne ∙ saved-others m pp tp psw tag a nes;
 }
   where
     pp : ℕ
@@ -313,7 +312,7 @@ saved-left s b m m′ e h = record {
     n : Buffers
     n = saved m pp tp psw
 
-    e′ : m′ ≡ storeByte n false (busyAt s b) 0
+    e′ : m′ ≡ storeByte n false (busyPlace s b) 0
     e′ = e ∙ busy-stored s b n 0
 
     both : allLent m (span false pp 4) && allLent m (span false (busyIn (blockOf s b)) 1) ≡ true

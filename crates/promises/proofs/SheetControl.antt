@@ -1,13 +1,12 @@
 -- The sheet of NOP, SINTR, XFER, WID and HLT.
 -- Assumes nothing.
-use Prim.Native.Nat.{ℕ, zero, suc, _+_, _<_}
+use Prim.Native.Nat.{ℕ, _+_, _<_}
 use borrow.Author.Tests.{eq-eqb, ne-eqb}
 use lib.Dec.{eqb, lit<}
 use mathlib.Core.Bool.{Bool, true, false, not, _&&_, _||_}
 use mathlib.Core.List.{[], _∷_}
 use mathlib.Core.Path.{_≡_, refl, sym, subst, ap, ap₂, _∙_}
 use native.Mathlib.Decide.{ℕ-discrete}
-use native.Mathlib.Omega.{arith}
 use Rattle.decode.specs.Lengths.{dataLength, displacementLength, lengthOf}
 use Rattle.decode.specs.Reading.{lookup}
 use Rattle.decode.specs.Table.{table}
@@ -26,18 +25,16 @@ use Rattle.machine.specs.declared.Mode.{Mode}
 use Rattle.machine.specs.declared.Mode.the-variants.{Idle}
 use Rattle.machine.specs.declared.State.{State}
 use Rattle.memory.proofs.PlaceLaws.{store-index, index-reduced}
-use Rattle.memory.proofs.SpanLaws.{span-first}
-use Rattle.memory.specs.Buffers.{Buffers, indexOf, storeByte, lentAt}
+use Rattle.memory.specs.Buffers.{Buffers, indexOf, storeByte}
 use Rattle.memory.specs.Places.{allLent, span}
-use Rattle.memory.specs.Values.{pointer, onward}
 use Rattle.step.specs.Step.{stepOf}
 use Rattle.words.specs.Bits.{bitOf, withBit}
 use Rattle.words.specs.Choice.{pick}
-use Rattle.promises.specs.SheetWords.{bit, valuesOf, tagsOf}
-use Rattle.promises.specs.SheetAttention.{busyAt}
+use Rattle.promises.specs.SheetWords.{bit, registerValues, tagsOf}
+use Rattle.promises.specs.SheetAttention.{busyPlace}
 use Rattle.promises.specs.SheetOperands.{Ran, ranChannel, registersAt, pastBy, RegistersLeft, BytesLeft}
 use Rattle.promises.specs.SheetControl.{ControlDone, marksUp, ControlSheet}
-use Rattle.promises.proofs.SheetLaws.{digit-of, bit-made, bit-kept, lent-alike}
+use Rattle.promises.proofs.SheetLaws.{bit-made, bit-kept, lent-alike}
 use Rattle.promises.proofs.SheetAttention.{busy-is}
 use Rattle.promises.proofs.SheetOperands.{pairWith, deedIn, channel-left, memory-left, places-lent, past-left}
 use Rattle.promises.proofs.SheetMemory.{one-left}
@@ -52,21 +49,21 @@ bit-set psw at on k = go (ℕ-discrete k at)
 
 -- BUSY stored by HLT
 module _ (s : State) (b : Bool) (m : Buffers) where
-  busy-put : storeByte m false (busyIn (blockOf s b)) 0 ≡ storeByte m false (busyAt s b) 0
+  busy-put : storeByte m false (busyIn (blockOf s b)) 0 ≡ storeByte m false (busyPlace s b) 0
   busy-put =
-      store-index m false (busyIn (blockOf s b)) (busyAt s b) 0
-      (sym (index-reduced false (busyIn (blockOf s b))) ∙ ap (indexOf false) (busy-is s b) ∙ index-reduced false (busyAt s b))
+      store-index m false (busyIn (blockOf s b)) (busyPlace s b) 0
+      (sym (index-reduced false (busyIn (blockOf s b))) ∙ ap (indexOf false) (busy-is s b) ∙ index-reduced false (busyPlace s b))
 
-  busy-there : allLent m (span false (busyIn (blockOf s b)) 1) ≡ true → allLent m (span false (busyAt s b) 1) ≡ true
+  busy-there : allLent m (span false (busyIn (blockOf s b)) 1) ≡ true → allLent m (span false (busyPlace s b) 1) ≡ true
   unfolding allLent span
-  busy-there h = sym (ap (λ (t : Bool). t && true) (lent-alike m false (busyIn (blockOf s b)) (busyAt s b) (busy-is s b))) ∙ h
+  busy-there h = sym (ap (λ (t : Bool). t && true) (lent-alike m false (busyIn (blockOf s b)) (busyPlace s b) (busy-is s b))) ∙ h
 
 -- the parts that no instruction here changes
 done-left : {c k : Channel} {status : ℕ → ℕ} {mode : Mode} {armed : Bool} → RegistersLeft c k (registersAt c (pastBy c 2) (c .ix)) (tagsOf c) → (psw : ℕ)
     → ((i : ℕ) → bit psw i ≡ status i) → (k′ : Channel) → k′ ≡ renewed k (k .tp) (k .ix) psw mode armed → ControlDone c k′ status mode armed
 unfolding renewed
 done-left l psw h k′ e = record {
-  values = ap valuesOf e ∙ l .values;
+  values = ap registerValues e ∙ l .values;
   tags = ap tagsOf e ∙ l .tags;
   pp = ap (λ (c : Channel). c .pp) e ∙ l .pp;
   status = λ i. ap (λ (c : Channel). bit (c .psw) i) e ∙ h i;
@@ -136,9 +133,9 @@ control-sheet b s m lines = record {
   );
   hlt = λ x. (
     control x Hlt (lit< tt) refl (withBit (withBit p₀ 2 false) 6 false) Idle false (stop-status c) refl,
-    subst (λ (m′ : Buffers). BytesLeft false (busyAt s b) (0 ∷ []) m m′)
+    subst (λ (m′ : Buffers). BytesLeft false (busyPlace s b) (0 ∷ []) m m′)
         (sym (memory-left x Hlt (lit< tt) refl ∙ busy-put s b m))
-        (one-left m false (busyAt s b) 0 (busy-there s b m (places-lent x Hlt (lit< tt) refl))),
+        (one-left m false (busyPlace s b) 0 (busy-there s b m (places-lent x Hlt (lit< tt) refl))),
   );
 }
   where

@@ -18,7 +18,6 @@ use Rattle.decode_shapes.specs.Pairs.Column.{'0, '1, '00, '000, 'AA, 'MM}
 use Rattle.decode_shapes.specs.declared.Decoded.the-variants.{Instruction}
 use Rattle.decode_shapes.specs.declared.Second.the-variants.{Operand, NoSecond}
 use Rattle.decode_shapes.specs.declared.pairs.Pair.{Pair}
-use Rattle.decode_shapes.specs.declared.Memory.{Memory}
 use Rattle.decode_shapes.specs.declared.Shape.{Shape}
 use Rattle.decode_shapes.specs.declared.Shape.the-variants.{MemoryRegister, MemoryImmediate, MemoryAlone, JumpMemory, MovpStore, MovMemory, Tsl, Call, JumpMasked, JumpBit, Bit}
 use Rattle.decode_shapes.specs.declared.Single.{Single}
@@ -31,7 +30,7 @@ use Rattle.execute_operands.proofs.ChangeLaws.{pointer-changed}
 use Rattle.execute_operands.specs.Changes.{placesOf, changed, change, resultTo, pointerTo}
 use Rattle.execute_operands.specs.Marks.{pastInstruction}
 use Rattle.execute_operands.specs.declared.Change.{Change}
-use Rattle.execute_operands.specs.Operands.{bytesAt, sizeOf, indexed, further, effective, grown, operandAt, jumpedIf, workOf, singleOf, afterPair}
+use Rattle.execute_operands.specs.Operands.{bytesAt, indexed, further, effective, grown, operandAt, jumpedIf, workOf, singleOf, afterPair}
 use Rattle.machine.specs.Registers.{registerOf, tagOf}
 use Rattle.machine.specs.States.{channelOf}
 use Rattle.machine.specs.Updates.{renewed}
@@ -40,7 +39,7 @@ use Rattle.machine.specs.declared.State.{State}
 use Rattle.memory.proofs.PlaceLaws.{byte-reduced, later, after}
 use Rattle.memory.proofs.SpanLaws.{span-at, span-first}
 use Rattle.memory.proofs.StoreLaws.{store-lent, read-same, read-other}
-use Rattle.memory.specs.Buffers.{Buffers, AllBytes, lentAt, byteAt, storeByte}
+use Rattle.memory.specs.Buffers.{Buffers, AllBytes, byteAt, storeByte}
 use Rattle.memory.specs.Places.{allLent, Apart}
 use Rattle.memory.specs.Values.{pointer, onward, storePointer}
 use Rattle.memory.specs.declared.Pointer.{Pointer}
@@ -49,7 +48,7 @@ use Rattle.words.specs.Bits.{bitOf, withBit}
 use Rattle.words.specs.Choice.{pick}
 use Rattle.words.specs.Compare.{matchOf}
 use Rattle.promises.specs.SheetWords.{bit, formOf, tagsOf, tagIn, pointing}
-use Rattle.promises.specs.SheetOperands.{Ran, ranChannel, codeByte, baseAddress, baseTag, addedBy, operandAddress, offsetBytes, grownBy, rawIn, operandIn, ddOf, displacementIn, whether, worksOf, singlesOf, bytesOf, registersAt, pastBy, jumpedBy, valuePast, RegistersLeft, BytesLeft}
+use Rattle.promises.specs.SheetOperands.{Ran, ranChannel, codeByte, baseAddress, baseTag, addedBy, operandAddress, offsetBytes, grownBy, rawIn, operandIn, ddOf, displacementIn, whether, worksOf, singlesOf, resultBytes, registersAt, pastBy, jumpedBy, valuePast, RegistersLeft, BytesLeft}
 use Rattle.promises.specs.SheetRegisters.{Goes}
 use Rattle.promises.specs.SheetMemory.{Stores, pastPair, byteOperand, landed, MemorySheet}
 use Rattle.promises.proofs.SheetOperands.{pairWith, pair-is, base-is, task-left, deedIn, channel-left, memory-left, places-lent, memoryWith, place-is, operand-is, grown-left, jumped-left}
@@ -114,7 +113,7 @@ module _ (m : Buffers) (t : Bool) (a : ℕ) where
 
   -- a result by W
   pub result-left : (v w : ℕ) → w < 2 → allLent m (placesOf (resultTo (pointer a t) (eqb w 1) v)) ≡ true
-      → BytesLeft t a (bytesOf v w) m (changed m (resultTo (pointer a t) (eqb w 1) v))
+      → BytesLeft t a (resultBytes v w) m (changed m (resultTo (pointer a t) (eqb w 1) v))
   unfolding placesOf changed
   result-left v zero h l = one-left (v % 256) l
   result-left v (suc zero) h l = two-left (v % 256) (v / 256 % 256) l
@@ -241,7 +240,7 @@ module _ {b : Bool} {s : State} {m : Buffers} {lines : ℕ} where
     -- MOV, ADD, OR, AND M,R
     work-register : (r aa w op mm : ℕ) → op < 64 → lookup table (pairWith r 0 aa w op mm) ≡ Instruction (MemoryRegister work r (memoryWith mm aa w)) → Ran b s m lines r 0 aa w op mm
         → Stores b s m lines mm aa
-        (bytesOf (getD (worksOf (operandIn m (baseTag (channelOf s b) mm) (operandAddress m (channelOf s b) mm aa) w) (valuePast (channelOf s b) (2 + offsetBytes aa) r)) j 0) w)
+        (resultBytes (getD (worksOf (operandIn m (baseTag (channelOf s b) mm) (operandAddress m (channelOf s b) mm aa) w) (valuePast (channelOf s b) (2 + offsetBytes aa) r)) j 0) w)
         (pastBy (channelOf s b) (2 + offsetBytes aa)) (grownBy (channelOf s b .ix) aa (w + 1))
     unfolding deedOf performed memoryRegisterDeed memoryWorkDeed lengthOf dataLength displacementLength
     work-register r aa w op mm small reads x =
@@ -260,7 +259,7 @@ module _ {b : Bool} {s : State} {m : Buffers} {lines : ℕ} where
     -- MOVI, ADDI, ORI, ANDI M,I
     work-data : (aa w op mm : ℕ) → op < 64 → lookup table (pairWith 0 (w + 1) aa w op mm) ≡ Instruction (MemoryImmediate work (memoryWith mm aa w)) → Ran b s m lines 0 (w + 1) aa w op mm
         → Stores b s m lines mm aa
-        (bytesOf (getD (worksOf (operandIn m (baseTag (channelOf s b) mm) (operandAddress m (channelOf s b) mm aa) w)
+        (resultBytes (getD (worksOf (operandIn m (baseTag (channelOf s b) mm) (operandAddress m (channelOf s b) mm aa) w)
         (operandIn m (channelOf s b .tp .tag) (channelOf s b .tp .address + (2 + offsetBytes aa)) w)) j 0) w)
         (pastBy (channelOf s b) (2 + offsetBytes aa + (w + 1))) (grownBy (channelOf s b .ix) aa (w + 1))
     unfolding deedOf performed memoryImmediateDeed memoryWorkDeed lengthOf dataLength displacementLength
@@ -281,7 +280,7 @@ module _ {b : Bool} {s : State} {m : Buffers} {lines : ℕ} where
   alone : (single : Single) (j aa w op mm : ℕ) → op < 64 → ((a : ℕ) → singleOf single a ≡ getD (singlesOf a) j 0)
       → lookup table (pairWith 0 0 aa w op mm) ≡ Instruction (MemoryAlone single (memoryWith mm aa w)) → Ran b s m lines 0 0 aa w op mm
       → Stores b s m lines mm aa
-      (bytesOf (getD (singlesOf (operandIn m (baseTag (channelOf s b) mm) (operandAddress m (channelOf s b) mm aa) w)) j 0) w)
+      (resultBytes (getD (singlesOf (operandIn m (baseTag (channelOf s b) mm) (operandAddress m (channelOf s b) mm aa) w)) j 0) w)
       (pastBy (channelOf s b) (2 + offsetBytes aa)) (grownBy (channelOf s b .ix) aa (w + 1))
   unfolding deedOf performed memoryAloneDeed lengthOf dataLength displacementLength
   alone single j aa w op mm small gives reads x =
@@ -560,7 +559,7 @@ module _ {b : Bool} {s : State} {m : Buffers} {lines : ℕ} where
       (tagsOf (channelOf s b))
       × BytesLeft (baseTag (channelOf s b) mm₂)
       ((baseAddress (channelOf s b) mm₂ + addedBy (codeByte m (channelOf s b) (2 + offsetBytes aa + 2)) (grownBy (channelOf s b .ix) aa (w + 1)) aa₂) % 1048576)
-      (bytesOf (operandIn m (baseTag (channelOf s b) mm) (operandAddress m (channelOf s b) mm aa) w) w) m ((stepOf s m lines) .memory)
+      (resultBytes (operandIn m (baseTag (channelOf s b) mm) (operandAddress m (channelOf s b) mm aa) w) w) m ((stepOf s m lines) .memory)
   unfolding lookup table deedOf performed movMemoryDeed movSecondDeed movOperandDeed lengthOf dataLength displacementLength first-grown
   move-between aa w mm aa₂ mm₂ ha₂ hm₂ x e f =
       let c = channelOf s b in
@@ -582,7 +581,7 @@ module _ {b : Bool} {s : State} {m : Buffers} {lines : ℕ} where
       ∙ ap (resultTo (pointer a₂ (baseTag c mm₂)) (eqb w 1)) (operand-is m (baseTag c mm) (operandAddress m c mm aa) (operandAddress m c mm aa) w (x .wide) refl)) in (
         subst (λ (k′ : Channel). RegistersLeft c k′ (registersAt c (pastPair b s m lines aa (2 + offsetBytes aa₂)) (grownBy (grownBy (c .ix) aa (w + 1)) aa₂ (w + 1))) (tagsOf c))
             (sym (channel-left x (MovMemory o) (lit< tt) refl ∙ channel)) (both-left′ m c aa w mm aa₂ mm₂ (x .mode) (x .wide) (x .base) ha₂ hm₂),
-        subst (λ (m′ : Buffers). BytesLeft (baseTag c mm₂) a₂ (bytesOf v w) m m′)
+        subst (λ (m′ : Buffers). BytesLeft (baseTag c mm₂) a₂ (resultBytes v w) m m′)
             (sym (memory-left x (MovMemory o) (lit< tt) refl ∙ ap (changed m) change))
             (result-left m (baseTag c mm₂) a₂ v w (x .wide) (ap (λ (z : Change). allLent m (placesOf z)) (sym change) ∙ places-lent x (MovMemory o) (lit< tt) refl)),
       )
@@ -613,7 +612,7 @@ memory-sheet b s m lines = record {
 
     works : (k r aa w mm : ℕ) → k < 3 → eqb r 6 ≡ false → Ran b s m lines r 0 aa w (0x34 + k) mm
         → Stores b s m lines mm aa
-        (bytesOf (getD (worksOf (operandIn m (baseTag (channelOf s b) mm) (operandAddress m (channelOf s b) mm aa) w) (valuePast (channelOf s b) (2 + offsetBytes aa) r)) (1 + k) 0) w)
+        (resultBytes (getD (worksOf (operandIn m (baseTag (channelOf s b) mm) (operandAddress m (channelOf s b) mm aa) w) (valuePast (channelOf s b) (2 + offsetBytes aa) r)) (1 + k) 0) w)
         (pastBy (channelOf s b) (2 + offsetBytes aa)) (grownBy (channelOf s b .ix) aa (w + 1))
     works zero r aa w mm h ne x = work-register Add 1 (λ x y. refl) r aa w 0x34 mm (lit< tt) (rw ne) x
     works (suc zero) r aa w mm h ne x = work-register Or 2 (λ x y. refl) r aa w 0x35 mm (lit< tt) (rw ne) x
@@ -622,7 +621,7 @@ memory-sheet b s m lines = record {
 
     moves : (aa w mm : ℕ) → Ran b s m lines 0 (w + 1) aa w 0x13 mm
         → Stores b s m lines mm aa
-        (bytesOf (operandIn m (channelOf s b .tp .tag) (channelOf s b .tp .address + (2 + offsetBytes aa)) w) w)
+        (resultBytes (operandIn m (channelOf s b .tp .tag) (channelOf s b .tp .address + (2 + offsetBytes aa)) w) w)
         (pastPair b s m lines aa (w + 1)) (grownBy (channelOf s b .ix) aa (w + 1))
     moves aa zero mm x = work-data Mov 0 (λ x y. refl) aa 0 0x13 mm (lit< tt) refl x
     moves aa (suc zero) mm x = work-data Mov 0 (λ x y. refl) aa 1 0x13 mm (lit< tt) refl x
@@ -630,7 +629,7 @@ memory-sheet b s m lines = record {
 
     datas : (k aa w mm : ℕ) → k < 3 → Ran b s m lines 0 (w + 1) aa w (0x30 + k) mm
         → Stores b s m lines mm aa
-        (bytesOf (getD (worksOf (operandIn m (baseTag (channelOf s b) mm) (operandAddress m (channelOf s b) mm aa) w)
+        (resultBytes (getD (worksOf (operandIn m (baseTag (channelOf s b) mm) (operandAddress m (channelOf s b) mm aa) w)
         (operandIn m (channelOf s b .tp .tag) (channelOf s b .tp .address + (2 + offsetBytes aa)) w)) (1 + k) 0) w)
         (pastPair b s m lines aa (w + 1)) (grownBy (channelOf s b .ix) aa (w + 1))
     datas zero aa zero mm h x = work-data Add 1 (λ x y. refl) aa 0 0x30 mm (lit< tt) refl x
@@ -646,7 +645,7 @@ memory-sheet b s m lines = record {
 
     alones : (k aa w mm : ℕ) → k < 3 → Ran b s m lines 0 0 aa w (getD (0x37 ∷ 0x3A ∷ 0x3B ∷ []) k 0) mm
         → Stores b s m lines mm aa
-        (bytesOf (getD (singlesOf (operandIn m (baseTag (channelOf s b) mm) (operandAddress m (channelOf s b) mm aa) w)) k 0) w)
+        (resultBytes (getD (singlesOf (operandIn m (baseTag (channelOf s b) mm) (operandAddress m (channelOf s b) mm aa) w)) k 0) w)
         (pastBy (channelOf s b) (2 + offsetBytes aa)) (grownBy (channelOf s b .ix) aa (w + 1))
     alones zero aa w mm h x = alone Single.Not 0 aa w 0x37 mm (lit< tt) (λ a. refl) refl x
     alones (suc zero) aa w mm h x = alone Single.Inc 1 aa w 0x3A mm (lit< tt) (λ a. refl) refl x

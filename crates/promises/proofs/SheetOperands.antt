@@ -3,9 +3,9 @@
 use Prim.Native.Nat.{ℕ, zero, suc, _+_, _*_, _/_, _%_, _^_, _<_}
 use borrow.Author.Tests.{eq-eqb, ne-eqb}
 use lib.Dec.{eqb, lit<, lit≤, eqb·suc-zero}
-use lib.ListN.{getD, set}
+use lib.ListN.{set}
 use mathlib.Core.Bool.{Bool, true, false, _&&_}
-use mathlib.Core.List.{List, [], _∷_}
+use mathlib.Core.List.{List}
 use mathlib.Core.Path.{_≡_, refl, sym, ap, ap₂, _∙_}
 use native.Mathlib.Decide.{ℕ-discrete}
 use native.Mathlib.Nat.{mod-add-mod}
@@ -41,9 +41,8 @@ use Rattle.words.proofs.SignLaws.{displaced-extended}
 use Rattle.words.specs.Bits.{fieldOf, withBit}
 use Rattle.words.specs.Choice.{pick}
 use Rattle.words.specs.Signs.{signedOf, extended, displacedBy}
-use Rattle.promises.specs.Cases.{Executes}
-use Rattle.promises.specs.SheetWords.{bit, wordIn, valuesOf, tagsOf, valueIn, tagIn, pointing, setValue, setTag}
-use Rattle.promises.specs.SheetOperands.{Ran, ranChannel, codeByte, baseAddress, baseTag, addedBy, operandAddress, offsetBytes, grownBy, operandIn, displacementIn, registersAt, pastBy, jumpedBy, valuePast, RegistersLeft}
+use Rattle.promises.specs.SheetWords.{bit, wordIn, registerValues, tagsOf, valueIn, tagIn, setValue, setTag}
+use Rattle.promises.specs.SheetOperands.{Ran, ranChannel, codeByte, baseAddress, baseTag, addedBy, operandAddress, grownBy, operandIn, displacementIn, registersAt, pastBy, jumpedBy, RegistersLeft}
 use Rattle.promises.proofs.InstructionLaws.{decoded, turn-executes}
 use Rattle.promises.proofs.SheetLaws.{bit-made, bit-kept, byte-alike, word-alike}
 
@@ -182,7 +181,7 @@ tag-is c (suc (suc (suc (suc (suc (suc (suc (suc k)))))))) h = absurd (omega ari
 
 -- a register written
 written : (c : Channel) (r v : ℕ) (tag : Bool) → r < 8
-    → (valuesOf (withRegister c r v tag) ≡ setValue (valuesOf c) r v) × (tagsOf (withRegister c r v tag) ≡ setTag (tagsOf c) r tag)
+    → (registerValues (withRegister c r v tag) ≡ setValue (registerValues c) r v) × (tagsOf (withRegister c r v tag) ≡ setTag (tagsOf c) r tag)
 unfolding withRegister
 written c zero v tag h = (refl, refl)
 written c (suc zero) v tag h = (refl, refl)
@@ -218,7 +217,7 @@ module _ (c : Channel) where
   unfolding grown pastInstruction renewed onward
   grown-left n mm aa w by h = record { values = go aa h; tags = refl; pp = refl; mode = refl; mark = refl; status = mark-status (c .armed) (c .psw) }
     where
-      go : (aa : ℕ) → aa < 4 → valuesOf (grown (pastInstruction c n) (memoryWith mm aa w) by) ≡ registersAt c (pastBy c n) (grownBy (c .ix) aa by)
+      go : (aa : ℕ) → aa < 4 → registerValues (grown (pastInstruction c n) (memoryWith mm aa w) by) ≡ registersAt c (pastBy c n) (grownBy (c .ix) aa by)
       go zero h = refl
       go (suc zero) h = refl
       go (suc (suc zero)) h = refl

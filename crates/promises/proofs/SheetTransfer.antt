@@ -4,9 +4,8 @@ use Prim.Native.Nat.{ℕ, zero, suc, _+_, _/_, _%_, _^_, _<_}
 use borrow.Author.Tests.{eq-eqb}
 use lib.Dec.{eqb, ltb, lit<, eqb·suc-zero}
 use mathlib.Core.Bool.{Bool, true, false, not, _&&_, _||_}
-use mathlib.Core.Path.{_≡_, refl, sym, subst, ap, ap₂, _∙_}
+use mathlib.Core.Path.{_≡_, refl, sym, subst, ap, _∙_}
 use native.Mathlib.Nat.{mod-lt}
-use native.Mathlib.Omega.{arith}
 use Rattle.machine.specs.Psw.{transferring, withPsw}
 use Rattle.machine.specs.States.{channelOf}
 use Rattle.machine.specs.Updates.{withTransfer}

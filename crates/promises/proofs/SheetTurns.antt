@@ -1,12 +1,12 @@
 -- The sheet of turns.
 -- Assumes nothing.
 use Prim.Native.Nat.{ℕ, zero, suc, _+_, _/_, _%_, _<_}
-use borrow.Author.Tests.{eq-eqb, ne-eqb}
+use borrow.Author.Tests.{ne-eqb}
 use lib.Dec.{eqb, lit<}
 use lib.ListN.{getD}
 use mathlib.Core.Bool.{Bool, true, false, not, _&&_, _||_}
 use mathlib.Core.List.{[], _∷_}
-use mathlib.Core.Path.{_≡_, refl, sym, ap, ap₂, _∙_}
+use mathlib.Core.Path.{_≡_, refl, ap, ap₂, _∙_}
 use native.Mathlib.Nat.{mod-lt}
 use native.Mathlib.Omega.{arith}
 use Rattle.machine.proofs.ChannelLaws.{put-same, last-channel}
@@ -19,19 +19,17 @@ use Rattle.machine.specs.declared.Mode.the-variants.{Idle, Running, Suspended}
 use Rattle.machine.specs.declared.State.{State}
 use Rattle.memory.specs.Buffers.{Buffers}
 use Rattle.memory.specs.Values.{pointer, onward}
-use Rattle.memory.specs.declared.Pointer.{Pointer}
 use Rattle.step.proofs.ChoosingLaws.{ends-chosen}
 use Rattle.step.specs.Choosing.{requested, external, endsNow, transferRank, rankOf, secondWins, ranked, choiceOf}
-use Rattle.step.specs.Step.{Step, stepOf}
-use Rattle.step.specs.declared.turns.Choice.{Choice}
-use Rattle.step.specs.declared.turns.Choice.the-variants.{Nobody, Ends, Steps}
+use Rattle.step.specs.Step.{Step}
+use Rattle.step.specs.declared.turns.Choice.the-variants.{Ends}
 use Rattle.transfer.specs.Ends.{offsetOf, endedTP, endedPSW, endedBy, externallyEnded}
 use Rattle.transfer.specs.Sides.{gained}
-use Rattle.words.specs.Bits.{fieldOf, bitOf, withBit}
+use Rattle.words.specs.Bits.{fieldOf, bitOf}
 use Rattle.words.specs.Choice.{pick}
 use Rattle.promises.specs.SheetWords.{bit}
 use Rattle.promises.specs.SheetOperands.{ranChannel}
-use Rattle.promises.specs.SheetTurns.{runsIn, endsIn, rankIn, secondGoes, choiceIn, offsetIn, ExternalLeft, TurnSheet}
+use Rattle.promises.specs.SheetTurns.{runsIn, endsIn, rankIn, choiceIn, offsetIn, ExternalLeft, TurnSheet}
 use Rattle.promises.proofs.Demand2.{step-does}
 use Rattle.promises.proofs.SheetControl.{bit-set}
 

@@ -1,11 +1,11 @@
 -- The sheet's premises can be met, in numbers: a start by 001, an LPD with AA 11, and a JZ that jumps.
 -- Assumes nothing.
 use Prim.Native.Nat.{ℕ, zero, suc, _+_, _<_}
-use lib.Dec.{eqb, lit<, lit≤}
-use lib.ListN.{length, getD}
-use mathlib.Core.Bool.{Bool, true, false}
-use mathlib.Core.List.{List, [], _∷_}
-use mathlib.Core.Path.{_≡_, refl, ap, _∙_}
+use lib.Dec.{lit<, lit≤}
+use lib.ListN.{getD}
+use mathlib.Core.Bool.{true, false}
+use mathlib.Core.List.{[], _∷_}
+use mathlib.Core.Path.{_≡_, refl}
 use native.Mathlib.Omega.{arith}
 use Rattle.attention.specs.Attention.{orderTo, orderNumber, givenTo, attentionNumber, attentionOf}
 use Rattle.attention.specs.Blocks.{ccwOf, parameterBlock, orderOf}
@@ -37,9 +37,8 @@ use Rattle.words.specs.Signs.{signedOf, displacedBy}
 use Rattle.execute_deeds.specs.RegisterForms.{lpdDeed}
 use Rattle.execute_deeds.specs.JumpForms.{jumpRegisterDeed}
 use Rattle.promises.specs.Witness.{channelWith, bothWith, programAt, bytesFrom}
-use Rattle.promises.specs.Cases.{Executes}
 use Rattle.promises.specs.SheetOperands.{Ran, ranChannel}
-use Rattle.promises.specs.SheetWords.{valuesOf, tagsOf}
+use Rattle.promises.specs.SheetWords.{registerValues}
 use Rattle.promises.proofs.SheetRegisters.{register-sheet}
 use Rattle.promises.proofs.InstructionWitness.{executes-met}
 
@@ -64,7 +63,7 @@ unfolding stepOf entryNumber givenNumber first unless withinLimits limitOf space
 lpd-met = record { executes = executes-met 8 (0x07 ∷ 0x8B ∷ []) (lit≤ tt) (lit< tt); done = refl; rrr = lit< tt; two = lit< tt; mode = lit< tt; wide = lit< tt; base = lit< tt }
 
 -- GA is 0 with tag 0, TP 10 and IX 4
-pub lpd-leaves : valuesOf (ranChannel false (programAt 8) (bytesFrom 8 (0x07 ∷ 0x8B ∷ [])) 0) ≡ 0 ∷ 0 ∷ 0 ∷ 0 ∷ 10 ∷ 4 ∷ 0 ∷ 0 ∷ []
+pub lpd-leaves : registerValues (ranChannel false (programAt 8) (bytesFrom 8 (0x07 ∷ 0x8B ∷ [])) 0) ≡ 0 ∷ 0 ∷ 0 ∷ 0 ∷ 10 ∷ 4 ∷ 0 ∷ 0 ∷ []
 unfolding byteAt spaceOf indexOf limitOf bothWith channelWith channelOf
 lpd-leaves = register-sheet false (programAt 8) (bytesFrom 8 (0x07 ∷ 0x8B ∷ [])) 0 .lpd 0 3 3 refl lpd-met .0 .values
 
@@ -109,6 +108,6 @@ jz-bytes false a = go (indexOf false a)
     go (suc (suc (suc i))) = lit< tt
 
 -- it jumps: TP is 3 + 5
-pub jz-leaves : valuesOf (ranChannel false sixteen jzCode 0) ≡ 0x10000 ∷ 0 ∷ 0 ∷ 0 ∷ 8 ∷ 0 ∷ 0 ∷ 0 ∷ []
+pub jz-leaves : registerValues (ranChannel false sixteen jzCode 0) ≡ 0x10000 ∷ 0 ∷ 0 ∷ 0 ∷ 8 ∷ 0 ∷ 0 ∷ 0 ∷ []
 unfolding byteAt spaceOf indexOf limitOf bothWith channelWith channelOf
 jz-leaves = register-sheet false sixteen jzCode 0 .jump true false 0 jz-bytes refl jz-met .0 .values

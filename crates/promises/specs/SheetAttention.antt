@@ -1,6 +1,6 @@
 -- The sheet of attention (§4): what each command leaves of its channel and of memory, by fields and numbers.
 use mathlib.Core.Bool.{Bool, true, false}
-use mathlib.Core.List.{List, [], _∷_, _++_}
+use mathlib.Core.List.{[], _∷_, _++_}
 use mathlib.Core.Path.{_≡_}
 use Prim.Native.Nat.{ℕ, _+_, _/_, _%_, _<_}
 use lib.Dec.{eqb}
@@ -20,20 +20,20 @@ use Rattle.attention.specs.Attention.{attentionOf}
 use Rattle.promises.specs.SheetWords.{bit, wordIn, farIn, storedIn, storedTagIn, formOf}
 
 -- a channel's block begins at CP, that of channel 2 at CP + 8 (§4.1)
-abbrev pub blockAt : State → Bool → ℕ
-blockAt s second = pick second (s .cp + 8) (s .cp)
+abbrev pub blockIn : State → Bool → ℕ
+blockIn s second = pick second (s .cp + 8) (s .cp)
 
 -- CCW is its first byte
 abbrev pub ccwAt : State → Buffers → Bool → ℕ
-ccwAt s m second = byteAt m false (blockAt s second)
+ccwAt s m second = byteAt m false (blockIn s second)
 
 -- BUSY its second
-abbrev pub busyAt : State → Bool → ℕ
-busyAt s second = blockAt s second + 1
+abbrev pub busyPlace : State → Bool → ℕ
+busyPlace s second = blockIn s second + 1
 
 -- and PB is where its bytes 2 to 5 point
 abbrev pub pbAt : State → Buffers → Bool → ℕ
-pbAt s m second = farIn m false (blockAt s second + 2)
+pbAt s m second = farIn m false (blockIn s second + 2)
 
 -- an attention to a channel, what it leaves, and the channel after it
 abbrev pub outcomeTo : State → Buffers → Bool → Outcome
@@ -72,50 +72,55 @@ pub record ControlLeft (ccw : ℕ) (after : Channel) (task : Pointer) (parameter
 
 -- memory after a command that stores BUSY alone
 pub record BusyLeft (s : State) (second : Bool) (value : ℕ) (m m′ : Buffers) : Type 0 where
-  pub busy : byteAt m′ false (busyAt s second) ≡ value
-  pub others : (tag : Bool) (a : ℕ) → Apart false (busyAt s second) tag a → byteAt m′ tag a ≡ byteAt m tag a
+  pub busy : byteAt m′ false (busyPlace s second) ≡ value
+  pub others : (tag : Bool) (a : ℕ) → Apart false (busyPlace s second) tag a → byteAt m′ tag a ≡ byteAt m tag a
 
 -- memory after suspend (§4.6): TP in its stored form and PSW as they were, at PP; then BUSY is 0, also where it is one of those four
 pub record SavedLeft (s : State) (second : Bool) (m m′ : Buffers) : Type 0 where
-  pub busy : byteAt m′ false (busyAt s second) ≡ 0
-  pub saved : (i : ℕ) → i < 4 → Apart false (busyAt s second) false (channelOf s second .pp + i)
+  pub busy : byteAt m′ false (busyPlace s second) ≡ 0
+  pub saved : (i : ℕ) → i < 4 → Apart false (busyPlace s second) false (channelOf s second .pp + i)
       → byteAt m′ false (channelOf s second .pp + i)
       ≡ getD (formOf (channelOf s second .tp .address) (channelOf s second .tp .tag) ++ (channelOf s second .psw ∷ [])) i 0
-  pub others : (tag : Bool) (a : ℕ) → Apart false (busyAt s second) tag a → ((i : ℕ) → i < 4 → Apart false (channelOf s second .pp + i) tag a)
+  pub others : (tag : Bool) (a : ℕ) → Apart false (busyPlace s second) tag a → ((i : ℕ) → i < 4 → Apart false (channelOf s second .pp + i) tag a)
       → byteAt m′ tag a ≡ byteAt m tag a
 
--- a done attention to a channel
-pub record AttentionSheet (second : Bool) (s : State) (m : Buffers) : Type 0 where
-  -- 000: PSW alone (§4.4)
-  pub update : Attends second s m 0
-      → ControlLeft (ccwAt s m second) (channelAfter s m second) (channelOf s second .tp) (channelOf s second .pp)
-      (channelOf s second .psw) (bit (channelOf s second .psw) 2) (bit (channelOf s second .psw) 6) (channelOf s second .mode) (channelOf s second .armed)
-  pub updateMemory : Attends second s m 0 → outcomeTo s m second .memory ≡ m
-  -- 001: TP is PB's first word, with tag 1 (§4.5)
-  pub startLocal : Attends second s m 1
-      → ControlLeft (ccwAt s m second) (channelAfter s m second) (pointer (wordIn m false (pbAt s m second)) true) (pbAt s m second)
-      (channelOf s second .psw) 1 0 Running false
-  pub startLocalMemory : Attends second s m 1 → BusyLeft s second 0xFF m (outcomeTo s m second .memory)
-  -- 011: TP is PB's first two words as a doubleword pointer, with tag 0
-  pub startSystem : Attends second s m 3
-      → ControlLeft (ccwAt s m second) (channelAfter s m second) (pointer (farIn m false (pbAt s m second)) false) (pbAt s m second)
-      (channelOf s second .psw) 1 0 Running false
-  pub startSystemMemory : Attends second s m 3 → BusyLeft s second 0xFF m (outcomeTo s m second .memory)
-  -- 110: TB and XF are 0, the mark stays (§4.6)
-  pub suspend : Attends second s m 6
-      → ControlLeft (ccwAt s m second) (channelAfter s m second) (channelOf s second .tp) (channelOf s second .pp)
-      (channelOf s second .psw) 0 0 Suspended (channelOf s second .armed)
-  pub suspendMemory : Attends second s m 6 → SavedLeft s second m (outcomeTo s m second .memory)
-  -- 101: TP, its tag and PSW from the four bytes at PP, then TB is 1; XF comes back, the mark stays (§4.7)
-  pub resume : Attends second s m 5
-      → ControlLeft (ccwAt s m second) (channelAfter s m second)
-      (pointer (storedIn m false (channelOf s second .pp)) (storedTagIn m false (channelOf s second .pp))) (channelOf s second .pp)
-      (byteAt m false (channelOf s second .pp + 3)) 1 (bit (byteAt m false (channelOf s second .pp + 3)) 6) Running (channelOf s second .armed)
-  pub resumeMemory : Attends second s m 5 → BusyLeft s second 0xFF m (outcomeTo s m second .memory)
-  -- 111: idle, TB and XF 0, without the mark (§4.8)
-  pub halt : Attends second s m 7
-      → ControlLeft (ccwAt s m second) (channelAfter s m second) (channelOf s second .tp) (channelOf s second .pp)
-      (channelOf s second .psw) 0 0 Idle false
-  pub haltMemory : Attends second s m 7 → BusyLeft s second 0 m (outcomeTo s m second .memory)
-  -- 010 and 100 are none (§4.2)
-  pub none : ¬ (Attends second s m 2) × ¬ (Attends second s m 4)
+module _ (second : Bool) (s : State) (m : Buffers) where
+  -- the channel before
+  abbrev was : Channel
+  was = channelOf s second
+
+  -- a command makes its channel so
+  abbrev pub Becomes : Pointer → ℕ → ℕ → ℕ → ℕ → Mode → Bool → Type 0
+  Becomes tp pp psw tb xf mode armed = ControlLeft (ccwAt s m second) (channelAfter s m second) tp pp psw tb xf mode armed
+
+  -- it stores BUSY alone
+  abbrev pub Marks : ℕ → Type 0
+  Marks busy = BusyLeft s second busy m (outcomeTo s m second .memory)
+
+  -- a done attention to a channel
+  pub record AttentionSheet : Type 0 where
+    -- 000: PSW alone (§4.4)
+    pub update : Attends second s m 0
+        → Becomes (was .tp) (was .pp) (was .psw) (bit (was .psw) 2) (bit (was .psw) 6) (was .mode) (was .armed)
+    pub updateMemory : Attends second s m 0 → outcomeTo s m second .memory ≡ m
+    -- 001: TP is PB's first word, with tag 1 (§4.5)
+    pub startLocal : Attends second s m 1
+        → Becomes (pointer (wordIn m false (pbAt s m second)) true) (pbAt s m second) (was .psw) 1 0 Running false
+    pub startLocalMemory : Attends second s m 1 → Marks 0xFF
+    -- 011: TP is PB's first two words as a doubleword pointer, with tag 0
+    pub startSystem : Attends second s m 3
+        → Becomes (pointer (farIn m false (pbAt s m second)) false) (pbAt s m second) (was .psw) 1 0 Running false
+    pub startSystemMemory : Attends second s m 3 → Marks 0xFF
+    -- 110: TB and XF are 0, the mark stays (§4.6)
+    pub suspend : Attends second s m 6 → Becomes (was .tp) (was .pp) (was .psw) 0 0 Suspended (was .armed)
+    pub suspendMemory : Attends second s m 6 → SavedLeft s second m (outcomeTo s m second .memory)
+    -- 101: TP, its tag and PSW from the four bytes at PP, then TB is 1; XF comes back, the mark stays (§4.7)
+    pub resume : Attends second s m 5
+        → Becomes (pointer (storedIn m false (was .pp)) (storedTagIn m false (was .pp))) (was .pp)
+        (byteAt m false (was .pp + 3)) 1 (bit (byteAt m false (was .pp + 3)) 6) Running (was .armed)
+    pub resumeMemory : Attends second s m 5 → Marks 0xFF
+    -- 111: idle, TB and XF 0, without the mark (§4.8)
+    pub halt : Attends second s m 7 → Becomes (was .tp) (was .pp) (was .psw) 0 0 Idle false
+    pub haltMemory : Attends second s m 7 → Marks 0
+    -- 010 and 100 are none (§4.2)
+    pub none : ¬ (Attends second s m 2) × ¬ (Attends second s m 4)

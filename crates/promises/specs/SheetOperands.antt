@@ -1,5 +1,5 @@
 -- The sheet of instructions, what all its rows share (§6.1, §6.6 to §6.11): the pair, operands, data and displacements, and what a channel and memory are left as.
-use mathlib.Core.Bool.{Bool, true, false, not, _&&_}
+use mathlib.Core.Bool.{Bool, false, not, _&&_}
 use mathlib.Core.List.{List, [], _∷_}
 use mathlib.Core.Path.{_≡_}
 use Prim.Native.Nat.{ℕ, _+_, _-_, _*_, _/_, _%_, _<_}
@@ -14,7 +14,7 @@ use Rattle.machine.specs.declared.Channel.{Channel}
 use Rattle.machine.specs.declared.State.{State}
 use Rattle.step.specs.Step.{stepOf}
 use Rattle.promises.specs.Cases.{Executes}
-use Rattle.promises.specs.SheetWords.{bit, wordIn, valuesOf, tagsOf}
+use Rattle.promises.specs.SheetWords.{bit, wordIn, registerValues, tagsOf}
 
 -- ---- the call
 
@@ -98,8 +98,8 @@ abbrev pub singlesOf : ℕ → List ℕ
 singlesOf a = (1048575 - a % 1048576) ∷ (a + 1) % 1048576 ∷ (a + 1048575) % 1048576 ∷ []
 
 -- the bytes of a result by W
-abbrev pub bytesOf : ℕ → ℕ → List ℕ
-bytesOf v w = getD ((v % 256 ∷ []) ∷ (v % 256 ∷ v / 256 % 256 ∷ []) ∷ []) w []
+abbrev pub resultBytes : ℕ → ℕ → List ℕ
+resultBytes v w = getD ((v % 256 ∷ []) ∷ (v % 256 ∷ v / 256 % 256 ∷ []) ∷ []) w []
 
 -- ---- what is left
 
@@ -121,7 +121,7 @@ valuePast c n r = getD (registersAt c (pastBy c n) (c .ix)) r 0
 
 -- the channel after an instruction: its registers and tags, and what the mark does (§6.20)
 pub record RegistersLeft (before after : Channel) (numbers : List ℕ) (spaces : List Bool) : Type 0 where
-  pub values : valuesOf after ≡ numbers
+  pub values : registerValues after ≡ numbers
   pub tags : tagsOf after ≡ spaces
   pub pp : after .pp ≡ before .pp
   pub mode : after .mode ≡ before .mode

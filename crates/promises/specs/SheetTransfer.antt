@@ -1,11 +1,9 @@
 -- The sheet of a transfer step (§7): sides, bytes, ends and counts by bits of CC and PSW.
-use mathlib.Core.Bool.{Bool, true, false, not, _&&_, _||_}
-use mathlib.Core.List.{[], _∷_}
+use mathlib.Core.Bool.{Bool, not, _&&_, _||_}
 use mathlib.Core.Path.{_≡_}
 use Prim.Native.Nat.{ℕ, _+_, _-_, _/_, _%_}
 use lib.Bits.{bitAnd, bitXor}
 use lib.Dec.{eqb, ltb}
-use lib.ListN.{getD}
 use Rattle.words.specs.Choice.{pick}
 use Rattle.memory.specs.Buffers.{Buffers, byteAt, storeByte}
 use Rattle.memory.specs.Values.{pointer}

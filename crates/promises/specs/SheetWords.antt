@@ -1,5 +1,5 @@
 -- The words of the sheet of the machine: bits, bytes, places and registers as numbers and fields.
-use mathlib.Core.Bool.{Bool, true, false, _&&_, _||_}
+use mathlib.Core.Bool.{Bool, true, false, _||_}
 use mathlib.Core.List.{List, [], _∷_}
 use mathlib.Core.Path.{_≡_}
 use Prim.Native.Nat.{ℕ, _+_, _*_, _/_, _%_, _^_}
@@ -7,7 +7,6 @@ use lib.Dec.{eqb, ltb}
 use lib.ListN.{getD, set}
 use Rattle.words.specs.Choice.{pick}
 use Rattle.memory.specs.Buffers.{Buffers, buffers, indexOf, byteAt, storeByte}
-use Rattle.memory.specs.declared.Pointer.{Pointer}
 use Rattle.machine.specs.Psw.{transferring}
 use Rattle.machine.specs.States.{channelOf, channelNumber}
 use Rattle.machine.specs.declared.Channel.{Channel}
@@ -61,8 +60,8 @@ formOf a tag = a % 256 ∷ a / 256 % 256 ∷ (a / 65536 % 16 * 16 + pick tag 8 0
 -- ---- the registers of a channel by RRR (§2.1)
 
 -- GA, GB, GC, BC, TP, IX, CC, MC
-abbrev pub valuesOf : Channel → List ℕ
-valuesOf c = c .ga .address ∷ c .gb .address ∷ c .gc .address ∷ c .bc ∷ c .tp .address ∷ c .ix ∷ c .cc ∷ c .mc ∷ []
+abbrev pub registerValues : Channel → List ℕ
+registerValues c = c .ga .address ∷ c .gb .address ∷ c .gc .address ∷ c .bc ∷ c .tp .address ∷ c .ix ∷ c .cc ∷ c .mc ∷ []
 
 -- how many values each has: 20 bits and 16
 abbrev pub sizes : List ℕ
@@ -86,7 +85,7 @@ setTag tags r tag = pick (pointing r) (set tags r tag) tags
 
 -- what register r holds
 abbrev pub valueIn : Channel → ℕ → ℕ
-valueIn c r = getD (valuesOf c) r 0
+valueIn c r = getD (registerValues c) r 0
 
 -- its tag
 abbrev pub tagIn : Channel → ℕ → Bool
