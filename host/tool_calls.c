@@ -59,11 +59,11 @@ static void print_changes(const uint8_t *before, const uint8_t *state, unsigned 
     if (armed != iop89_get(before, channel, IOP89_ARMED)) printf(" %s", armed ? "armed" : "unarmed");
 }
 
-/* Prints a number in words and, of one that is not 0, where each running channel stands. */
-static void print_number(unsigned number, const uint8_t *state)
+/* Prints a number with its words and, of one that is not 0, where each running channel stands. */
+static void print_number(unsigned number, const char *words, const uint8_t *state)
 {
     bool any = false;
-    printf("number %u: %s\n", number, iop89_service_words(number));
+    printf("number %u: %s\n", number, words);
     for (unsigned channel = 1; number != IOP89_DONE && channel <= 2; channel++) {
         if (iop89_get(state, channel, IOP89_MODE) != IOP89_RUNNING) continue;
         printf("channel %u %s, TP ", channel, number == IOP89_NO_CHANNEL ? "waits" : "runs");
@@ -127,6 +127,12 @@ static void state_behind(const struct tool_order *order, struct tool_memory agai
     for (uint32_t i = 0; i < steps; i++) step(state, &again, order->lines);
 }
 
+/* Whether a run with this number came as far as its attention. */
+static bool was_started(unsigned number)
+{
+    return number != IOP89_BAD_ARGUMENT && number != IOP89_BAD_BUFFER && number != IOP89_BAD_POINTER;
+}
+
 enum tool_status tool_run(const struct tool_order *order)
 {
     uint8_t state[IOP89_STATE_LENGTH];
@@ -135,8 +141,9 @@ enum tool_status tool_run(const struct tool_order *order)
     uint32_t answer = iop89_run(memory.sys, memory.sys_len, memory.io, memory.io_len, order->cp, order->channel[0],
                                 order->lines, order->limit);
     unsigned number = IOP89_NUMBER(answer);
-    state_behind(order, again, IOP89_STEPS(answer), state);
-    print_number(number, state);
+    if (was_started(number)) state_behind(order, again, IOP89_STEPS(answer), state);
+    else iop89_fresh(state, IOP89_STATE_LENGTH, 0);
+    print_number(number, iop89_words(number), state);
     printf("steps done: %u\n", IOP89_STEPS(answer));
     print_shown(order, &memory);
     tool_free(memory);
@@ -183,7 +190,7 @@ enum tool_status tool_step(const struct tool_order *order)
     bool started = number == IOP89_DONE;
     if (started) number = step_lines(order, state, &memory);
     if (number == IOP89_DONE) puts("the limit");
-    else print_number(number, state);
+    else print_number(number, iop89_service_words(number), state);
     print_shown(order, &memory);
     tool_free(memory);
     return started ? status_of(number, state) : TOOL_REFUSED;

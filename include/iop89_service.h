@@ -130,10 +130,20 @@ static inline void iop89_set_last(uint8_t *state, unsigned channel)
     state[IOP89_AT_LAST] = (channel - 1u) & 0xFFu;
 }
 
-/* A number of these calls in words. */
+/* A number of these calls in words; those that a run meets in another way have their own here. */
 static inline const char *iop89_service_words(unsigned number)
 {
-    return number == IOP89_NO_STATE ? "the bytes are no state" : iop89_words(number);
+    switch (number) {
+    case IOP89_DONE: return "done";
+    case IOP89_NO_CHANNEL: return "no channel can run";
+    case IOP89_NOT_SUSPENDED: return "resume, and the channel is not suspended";
+    case IOP89_ALREADY_RUNNING: return "start, and the channel runs";
+    case IOP89_NOT_RUNNING: return "suspend, and the channel does not run";
+    case IOP89_BAD_POINTER: return "a pointer, PP or CP of the state is over 1,048,575";
+    case IOP89_BAD_ARGUMENT: return "the channel is neither 1 nor 2, or the line number over 15";
+    case IOP89_NO_STATE: return "the bytes are no state";
+    default: return iop89_words(number);
+    }
 }
 
 /* ---- PROM files: Intel hexadecimal object files with segmented addresses ---- */
