@@ -198,8 +198,8 @@ build/emulator.o: host/emulator.c host/emulator.h | x86-compiler
 	@mkdir -p build
 	$(X86_CC) $(STRICT) -O2 -c host/emulator.c -o $@
 
-build/bench: host/bench.c host/emulator.h include/iop89.h build/emulator.o $(IOP89_LIB)
-	$(X86_CC) $(STRICT) -O2 -Iinclude host/bench.c build/emulator.o $(IOP89_LIB) $(X86_LDFLAGS) -o $@
+build/bench: host/bench.c host/emulator.h include/iop89.h include/iop89_service.h build/emulator.o $(IOP89_LIB) $(SERVICE_LIB)
+	$(X86_CC) $(STRICT) -O2 -Iinclude host/bench.c build/emulator.o $(IOP89_LIB) $(SERVICE_LIB) $(X86_LDFLAGS) -o $@
 
 # ---- The service archive: the machine call by call, and what stands on both archives
 

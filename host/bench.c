@@ -1,6 +1,6 @@
 /* One run of a known program by the proved library or by the plain emulator, for tools/bench to count instructions. */
 #include "emulator.h"
-#include "iop89.h"
+#include "iop89_service.h"
 
 #include <stdlib.h>
 #include <string.h>
@@ -100,6 +100,12 @@ static const uint8_t transfer[] = {
 /* Where WID stands in the transfer's program. */
 enum { TRANSFER_WID = 20 };
 
+/* Channel 2's block, its parameter block, and its program beside the mix: a loop of INC IX and JNZ IX. */
+enum { SECOND_BLOCK = 8, SECOND_PARAMETER_BLOCK = 0x20, SECOND_PROGRAM = 0x300 };
+static const uint8_t second_block[] = {0x03, 0x00, SECOND_PARAMETER_BLOCK, 0x00, 0x00, 0x00};
+static const uint8_t second_parameter_block[] = {0x00, 0x03, 0x00, 0x00};
+static const uint8_t second_program[] = {0xA0, 0x38, 0xA8, 0x40, 0xFB};
+
 /* The two lent buffers. */
 static uint8_t sys[IOP89_SYSTEM_LIMIT], io[IOP89_IO_LIMIT];
 
@@ -113,6 +119,7 @@ struct workload {
 
 static const struct workload workloads[] = {
     {"mix", mix, sizeof mix, 0},
+    {"both", mix, sizeof mix, 0},
     {"8/8", transfer, sizeof transfer, 0x80},
     {"16/16", transfer, sizeof transfer, 0xE0},
     {"8/16", transfer, sizeof transfer, 0xA0},
@@ -122,7 +129,7 @@ static const struct workload workloads[] = {
 /* Says how the program is called, and ends it. */
 static _Noreturn void usage(void)
 {
-    fputs("usage: bench proved|plain mix|8/8|16/16|8/16|16/8 small|full STEPS\n"
+    fputs("usage: bench proved|plain mix|8/8|16/16|8/16|16/8|both small|full STEPS\n"
           "       bench loop TURNS\n",
           stderr);
     exit(2);
@@ -164,6 +171,29 @@ static uint32_t run(const char *side, size_t sys_len, size_t io_len, uint32_t li
     usage();
 }
 
+/* So many steps of both channels by the service calls, or by those of the emulator; answers how many were done. */
+static uint32_t step_both(bool proved, size_t sys_len, size_t io_len, uint32_t steps)
+{
+    struct emu_memory memory = {sys, sys_len, io, io_len};
+    struct emu_state plain;
+    uint8_t state[IOP89_STATE_LENGTH];
+    uint32_t done = 0;
+    memcpy(sys + SECOND_BLOCK, second_block, sizeof second_block);
+    memcpy(sys + SECOND_PARAMETER_BLOCK, second_parameter_block, sizeof second_parameter_block);
+    memcpy(sys + SECOND_PROGRAM, second_program, sizeof second_program);
+    iop89_fresh(state, sizeof state, CONTROL_BLOCK);
+    emu_fresh(CONTROL_BLOCK, &plain);
+    for (uint32_t channel = 1; channel <= 2; channel++) {
+        if (proved) (void)iop89_attention(state, sizeof state, sys, sys_len, io, io_len, channel);
+        else (void)emu_attention(&plain, &memory, channel);
+    }
+    for (uint32_t i = 0; i < steps; i++) {
+        if (proved) done += IOP89_ANSWER_NUMBER(iop89_step(state, sizeof state, sys, sys_len, io, io_len, 0)) == 0;
+        else done += emu_step(&plain, &memory, 0).number == 0;
+    }
+    return done;
+}
+
 /* So many turns of two instructions each, by which a way of counting is checked. */
 static void turn(unsigned long turns)
 {
@@ -185,7 +215,10 @@ int main(int count, char **words)
     bool small = strcmp(words[3], "small") == 0;
     uint32_t limit = number_of(words[4]);
     make_image(workload_of(words[2]));
-    uint32_t answer = run(words[1], small ? SMALL : sizeof sys, small ? SMALL : sizeof io, limit);
+    size_t sys_len = small ? SMALL : sizeof sys, io_len = small ? SMALL : sizeof io;
+    bool both = strcmp(words[2], "both") == 0;
+    uint32_t answer = both ? step_both(strcmp(words[1], "proved") == 0, sys_len, io_len, limit)
+                           : run(words[1], sys_len, io_len, limit);
     if (answer == limit) return 0;
     fprintf(stderr, "bench: number %u after %u steps\n", IOP89_NUMBER(answer), IOP89_STEPS(answer));
     return 1;
