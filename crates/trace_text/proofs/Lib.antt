@@ -1,2 +1,3 @@
 pub mod TextLaws
 pub mod TraceLaws
+pub mod Determined
