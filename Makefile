@@ -6,6 +6,7 @@ SEED ?= 1
 CASES ?= 200000
 SERVICE_CASES ?= 300000
 TEXTS ?= 20000
+PARTS ?= 2000
 CALLS ?= 20000
 IMAGES ?= 300
 PREFIX ?= /usr/local
@@ -19,11 +20,12 @@ override SEED := $(value SEED)
 override CASES := $(value CASES)
 override SERVICE_CASES := $(value SERVICE_CASES)
 override TEXTS := $(value TEXTS)
+override PARTS := $(value PARTS)
 override CALLS := $(value CALLS)
 override IMAGES := $(value IMAGES)
 override PREFIX := $(value PREFIX)
 override DESTDIR := $(value DESTDIR)
-export IMAGE FILE DEMO SEED CASES SERVICE_CASES TEXTS CALLS IMAGES PREFIX DESTDIR
+export IMAGE FILE DEMO SEED CASES SERVICE_CASES TEXTS PARTS CALLS IMAGES PREFIX DESTDIR
 
 CFLAGS ?= -O2
 STRICT = -std=c11 -Wall -Wextra -Wpedantic -Wconversion
@@ -209,7 +211,7 @@ build/bench: host/bench.c host/emulator.h include/iop89.h include/iop89_service.
 service-lib: $(SERVICE_LIB)
 
 # Each crate's archive has the functions that it exports, and all else in it is local, so they join into one.
-SERVICE_CRATES = service prom
+SERVICE_CRATES = service prom lister
 
 $(SERVICE_LIB): $(SERVICE_CRATES:%=build/%.sums)
 	@for crate in $(SERVICE_CRATES); do tools/prove staticlib $$crate || exit $$?; done
@@ -228,7 +230,7 @@ compare-service: given-service build/compare_service
 
 # ---- The bench tool, over both archives
 
-TOOL = $(addprefix host/,tool.c tool_order.c tool_calls.c tool_hex.c)
+TOOL = $(addprefix host/,tool.c tool_order.c tool_calls.c tool_hex.c tool_list.c)
 
 .PHONY: tool check-tool
 
@@ -289,3 +291,28 @@ compare-hex: given-texts build/compare-hex
 # Counts the instructions of both for each byte of text.
 bench-hex: count-needs build/bench-hex
 	@tools/bench-hex build/bench-hex
+
+# ---- Listings: the proved lister beside one that shares nothing with it
+
+LISTING = $(addprefix host/,listing.c dice.c)
+LISTING_H = $(addprefix host/,listing.h dice.h) include/iop89.h include/iop89_service.h
+
+.PHONY: compare-list bench-list given-parts
+
+given-parts:
+	@tools/given number SEED && tools/given number PARTS
+
+build/compare-list: host/compare_list.c $(LISTING) $(LISTING_H) $(SERVICE_LIB) | x86-compiler
+	$(X86_CC) $(STRICT) $(CFLAGS) -Iinclude host/compare_list.c $(LISTING) $(SERVICE_LIB) $(X86_LDFLAGS) -o $@
+
+# What is counted is always compiled at -O2.
+build/bench-list: host/bench_list.c $(LISTING) $(LISTING_H) $(SERVICE_LIB) | x86-compiler
+	$(X86_CC) $(STRICT) -O2 -Iinclude host/bench_list.c $(LISTING) $(SERVICE_LIB) $(X86_LDFLAGS) -o $@
+
+# Lists every first pair with rests of every length, random code and the rows of host/notation.txt by both listers.
+compare-list: given-parts build/compare-list
+	tools/x86 build/compare-list "$$SEED" "$$PARTS" host/notation.txt
+
+# Counts the instructions of both listers for each byte that they list.
+bench-list: count-needs build/bench-list
+	@tools/bench-list build/bench-list

@@ -1,5 +1,5 @@
 /* Lists the same code again and again, by the library or by the independent lister, so that instructions can be counted. */
-#include "iop89.h"
+#include "iop89_service.h"
 #include "listing.h"
 
 #include <stdio.h>

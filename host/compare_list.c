@@ -1,6 +1,6 @@
 /* Compares the library's lister with the independent one: answer, text, and every byte of the buffer beside it. */
 #include "dice.h"
-#include "iop89.h"
+#include "iop89_service.h"
 #include "listing.h"
 
 #include <ctype.h>

@@ -20,6 +20,8 @@ static const struct command commands[] = {
      "iop89 step examples/external.bin -lines 1 -limit 20", tool_step},
     {"load", "what PROM files hold: the ranges that they store with their bytes, the start address, and how many bytes",
      "iop89 load examples/prom/srecord-segments.hex", tool_show_files},
+    {"list", "a channel program in the maker's notation, with address and bytes before each line",
+     "iop89 list examples/copy-odd.bin -from 0x40 -count 40", tool_list},
 };
 
 enum { COMMANDS = sizeof commands / sizeof commands[0] };
@@ -36,6 +38,9 @@ static const char options[] =
     "  -lines N        sum of DRQ1 = 1, DRQ2 = 2, EXT1 = 4, EXT2 = 8, held throughout (0)\n"
     "  -limit N        most steps (1000)\n"
     "  -show FROM N    shows N bytes of system memory from FROM on, as they are at the end; -show-io, of I/O memory\n"
+    "  -from N, -count N   for list: the bytes to be listed (all)\n"
+    "  -first N        for list: the address of the first of them, from which jump targets count (the same as -from)\n"
+    "  -source         for list: the lines alone\n"
     "A FILE whose name ends in .hex is a PROM file (Intel hexadecimal): its records say where its bytes go.\n"
     "Numbers are decimal, or hexadecimal behind 0x; 010 is ten. A file has at most 1,048,576 bytes.\n"
     "Ends with 0 at the limit or where the channel halted, 1 where it was refused or waits, 2 for anything else.\n";
@@ -75,7 +80,8 @@ static int ended(enum tool_status status)
 
 int main(int count, char **words)
 {
-    struct tool_order order = {.system_length = UINT32_MAX, .io_length = UINT32_MAX, .limit = 1000};
+    struct tool_order order = {.system_length = UINT32_MAX, .io_length = UINT32_MAX, .limit = 1000,
+                               .count = UINT32_MAX, .first = UINT32_MAX};
     if (count < 2) tool_usage("no command", NULL);
     if (strcmp(words[1], "help") == 0) {
         if (count > 2) tool_usage("help takes no words", words[2]);

@@ -27,7 +27,8 @@ struct tool_range {
     bool in_io;
 };
 
-/* What a command line asks for; of the two lengths UINT32_MAX stands for "as long as the files need". */
+/* What a command line asks for; of the two lengths UINT32_MAX stands for "as long as the files need", of a listing's
+ * first address for that of its first byte. */
 struct tool_order {
     struct tool_file file[TOOL_FILES];
     struct tool_range shown[TOOL_SHOWN];
@@ -35,6 +36,8 @@ struct tool_order {
     unsigned files, ranges, channels;
     const char *io_image;
     uint32_t system_length, io_length, cp, lines, limit;
+    uint32_t from, count, first;
+    bool source;
 };
 
 /* Lent memory. */
@@ -64,5 +67,9 @@ size_t tool_load_hex(const char *name, uint8_t *sys);
 enum tool_status tool_run(const struct tool_order *order);
 enum tool_status tool_step(const struct tool_order *order);
 enum tool_status tool_show_files(const struct tool_order *order);
+enum tool_status tool_list(const struct tool_order *order);
+
+/* Prints the instruction that some bytes begin with, its address and bytes before it; nothing where there are none. */
+void tool_print_instruction(const uint8_t *code, size_t length, uint32_t address);
 
 #endif

@@ -59,8 +59,17 @@ static void print_changes(const uint8_t *before, const uint8_t *state, unsigned 
     if (armed != iop89_get(before, channel, IOP89_ARMED)) printf(" %s", armed ? "armed" : "unarmed");
 }
 
+/* Prints the instruction at a channel's TP, as far as its bytes are lent. */
+static void print_here(const uint8_t *state, unsigned channel, const struct tool_memory *memory)
+{
+    bool in_io = iop89_get(state, channel, IOP89_TP_TAG) != 0;
+    uint32_t at = iop89_get(state, channel, IOP89_TP) & (in_io ? 0xFFFFu : 0xFFFFFu);
+    size_t length = in_io ? memory->io_len : memory->sys_len;
+    if (at < length) tool_print_instruction((in_io ? memory->io : memory->sys) + at, length - at, at);
+}
+
 /* Prints a number with its words and, of one that is not 0, where each running channel stands. */
-static void print_number(unsigned number, const char *words, const uint8_t *state)
+static void print_number(unsigned number, const char *words, const uint8_t *state, const struct tool_memory *memory)
 {
     bool any = false;
     printf("number %u: %s\n", number, words);
@@ -69,6 +78,7 @@ static void print_number(unsigned number, const char *words, const uint8_t *stat
         printf("channel %u %s, TP ", channel, number == IOP89_NO_CHANNEL ? "waits" : "runs");
         print_tp(state, channel);
         putchar('\n');
+        if (number != IOP89_NO_CHANNEL) print_here(state, channel, memory);
         any = true;
     }
     if (number == IOP89_NO_CHANNEL && !any) puts("halted");
@@ -143,7 +153,7 @@ enum tool_status tool_run(const struct tool_order *order)
     unsigned number = IOP89_NUMBER(answer);
     if (was_started(number)) state_behind(order, again, IOP89_STEPS(answer), state);
     else iop89_fresh(state, IOP89_STATE_LENGTH, 0);
-    print_number(number, iop89_words(number), state);
+    print_number(number, iop89_words(number), state, &memory);
     printf("steps done: %u\n", IOP89_STEPS(answer));
     print_shown(order, &memory);
     tool_free(memory);
@@ -190,7 +200,7 @@ enum tool_status tool_step(const struct tool_order *order)
     bool started = number == IOP89_DONE;
     if (started) number = step_lines(order, state, &memory);
     if (number == IOP89_DONE) puts("the limit");
-    else print_number(number, iop89_service_words(number), state);
+    else print_number(number, iop89_service_words(number), state, &memory);
     print_shown(order, &memory);
     tool_free(memory);
     return started ? status_of(number, state) : TOOL_REFUSED;

@@ -50,6 +50,7 @@ static uint32_t *place_of(struct tool_order *order, const char *option)
     if (strcmp(option, "-cp") == 0) return &order->cp;
     if (strcmp(option, "-lines") == 0) return &order->lines;
     if (strcmp(option, "-limit") == 0) return &order->limit;
+    if (strcmp(option, "-first") == 0) return &order->first;
     return NULL;
 }
 
@@ -74,8 +75,14 @@ static void add_range(struct tool_order *order, char **words, bool in_io)
 static int take_option(struct tool_order *order, char **words, uint32_t *at)
 {
     uint32_t *place = place_of(order, words[0]);
+    if (strcmp(words[0], "-source") == 0) {
+        order->source = true;
+        return 1;
+    }
     if (place != NULL) *place = number_of(words[0], words[1]);
     else if (strcmp(words[0], "-at") == 0) *at = length_of(words[0], words[1]);
+    else if (strcmp(words[0], "-from") == 0) order->from = length_of(words[0], words[1]);
+    else if (strcmp(words[0], "-count") == 0) order->count = length_of(words[0], words[1]);
     else if (strcmp(words[0], "-io") == 0) order->io_length = length_of(words[0], words[1]);
     else if (strcmp(words[0], "-system") == 0) order->system_length = length_of(words[0], words[1]);
     else if (strcmp(words[0], "-channel") == 0) add_channel(order, words[1]);

@@ -203,6 +203,20 @@ static inline const char *iop89_load_words(unsigned number)
     }
 }
 
+/* ---- Listings: channel programs in the maker's notation ---- */
+
+/*
+ * Lists the instructions of some bytes, one a line, into a text buffer; docs/MACHINE.md has the notation. Jump targets
+ * count from `first`, the address of the first byte, mod 65,536. A line is written whole or not at all: before the first
+ * that has no room it stops, and the rest of the buffer stays. Its parts by the macros below: how many characters were
+ * written, and at which byte it stopped; that is code_len, or 1,048,576 where more were lent, if every line had room.
+ * Nothing is refused. The two buffers must not overlap, and neither pointer may be null, also where its length is 0.
+ */
+uint64_t iop89_list(const uint8_t *code, size_t code_len, uint32_t first, uint8_t *text, size_t text_len);
+
+#define IOP89_LIST_CHARACTERS(answer) IOP89_LOW_32(answer)
+#define IOP89_LIST_STOP(answer) IOP89_LOW_32((answer) >> 32)
+
 #ifdef __cplusplus
 }
 #endif

@@ -1,0 +1,113 @@
+// The listing of a part of memory.
+use crate::reading;
+use crate::reading::Item;
+use notation::lines;
+use notation::lines::Line;
+ghost use mathlib.Core.Path.{_≡_};
+ghost use Prim.Native.Nat.{_+_, _*_, _≤_};
+ghost use lib.ListN.{length, take, drop};
+ghost use lib.Seq.{paste};
+ghost use Rattle.lister.specs.Listings.{listLimit, listing, listingOf, Shown};
+
+// A line, and how many bytes it lists.
+struct Row {
+    line: Line,
+    count: usize,
+}
+
+// The line of what stands at a place; `first` is the address of the part's first byte.
+fn row_at(part: &[u8], first: u32, at: usize) -> Row
+    requires { ⌜ (at ≤ length (now part)) × (length (now part) ≤ listLimit) ⌝ }
+    ensures { λ r. ⌜ Shown r (first + at) (drop at (now (part .entry))) ⌝ }
+{
+    let bytes = &part[at..];
+    match reading::read_at(part, at) {
+        Item::Whole { shape, to, length } => {
+            let count = length as usize;
+            if lines::listed(shape) {
+                let end = first % 65536 + at as u32 + length;
+                let line = lines::instruction_line(bytes, end, shape, to);
+                return Row { line, count };
+            }
+            let line = lines::data_line(&bytes[..count]);
+            Row { line, count }
+        }
+        Item::Byte => {
+            let line = lines::data_line(&bytes[..1]);
+            Row { line, count: 1 }
+        }
+        Item::End => {
+            let line = lines::data_line(&bytes[..0]);
+            Row { line, count: 0 }
+        }
+    }
+}
+
+// Writes a line from an index on.
+fn place(text: &mut [u8], at: usize, line: Line)
+    requires { ⌜ at + line .len ≤ length (now text) ⌝ }
+    requires { ⌜ (line .len ≤ 28) × (line .len ≤ length (line .chars)) ⌝ }
+    ensures { λ r. ⌜ now (text .exit) ≡ paste (now (text .entry)) at (line .chars) (line .len) ⌝ }
+{
+    let chars = line.chars;
+    let len = line.len;
+    let mut i: usize = 0;
+    while i < len {
+        text[at + i] = chars[i];
+        i += 1;
+    }
+}
+
+// What a listing answers: the characters written, and the byte at which it stopped.
+pub struct Listed {
+    pub characters: u32,
+    pub stop: u32,
+}
+
+// The part of memory that is listed.
+fn lent_part(code: &[u8]) -> &[u8]
+    ensures { λ r. ⌜ now r ≡ take listLimit (now (code .entry)) ⌝ }
+{
+    if code.len() < 1048576 {
+        code
+    } else {
+        &code[..1048576]
+    }
+}
+
+// Lists a part of memory as lines; stops before the line that does not fit.
+pub fn list(code: &[u8], first: u32, text: &mut [u8]) -> Listed
+    ensures { λ r. ⌜ listing (r .characters) (r .stop) (now (text .exit)) ≡ listingOf (now (code .entry)) first (now (text .entry)) ⌝ }
+{
+    let part = lent_part(code);
+    let mut at: usize = 0;
+    let mut n: usize = 0;
+    while at < part.len() {
+        let row = row_at(part, first, at);
+        let line = row.line;
+        let len = line.len;
+        if text.len() - n < len {
+            return Listed {
+                characters: n as u32,
+                stop: at as u32,
+            };
+        }
+        place(text, n, line);
+        n += len;
+        at += row.count;
+    }
+    Listed {
+        characters: n as u32,
+        stop: at as u32,
+    }
+}
+
+// The listing for C: the byte at which it stopped × 4,294,967,296 + the characters written.
+#[no_mangle]
+pub extern "C" fn iop89_list(code: &[u8], first: u32, text: &mut [u8]) -> u64
+    ensures { λ r. ⌜ r ≡ listingOf (now (code .entry)) first (now (text .entry)) .stop * 4294967296 + listingOf (now (code .entry)) first (now (text .entry)) .characters ⌝ }
+    ensures { λ r. ⌜ now (text .exit) ≡ listingOf (now (code .entry)) first (now (text .entry)) .buffer ⌝ }
+{
+    let l = list(code, first, text);
+    l.stop as u64 * 4294967296 + l.characters as u64
+}

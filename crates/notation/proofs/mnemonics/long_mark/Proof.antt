@@ -1,0 +1,16 @@
+-- `notation::mnemonics::long_mark` meets its contract.
+-- Assumes nothing.
+use Rattle.notation.specs.Characters.{heldBy, heldIn}
+use Rattle.notation.proofs.mnemonics.long_mark.Statement.{statement}
+use Rattle.notation.proofs.mnemonics.long_mark.Tie as tie
+
+returns : tie.Need-returns
+unfolding heldIn heldBy
+returns c = simp (c .if1 .taken)
+
+returns-2 : tie.Need-returns-2
+unfolding heldIn heldBy
+returns-2 c = simp (c .if1 .left)
+
+pub long-mark-spec : {M : Type 1} → statement M
+long-mark-spec = tie.close (tie.spec returns returns-2)
