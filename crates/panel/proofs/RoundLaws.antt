@@ -30,7 +30,7 @@ use Rattle.transfer.specs.Ends.{externallyEnded}
 use Rattle.transfer.specs.Steps.{transferOf}
 use Rattle.words.proofs.ChoiceLaws.{apart, both-left, both-right}
 use Rattle.words.specs.Choice.{pick}
-use Rattle.panel.specs.Bursts.{Own, BurstLeft, burst, burstFrom, moves, transfersOn, executes, executesOn, untilOf, stateOf, pairOf, pairAfter, roundAfter, restOf, Rounded}
+use Rattle.panel.specs.Bursts.{Own, BurstLeft, burst, burstFrom, moves, transfersOn, executes, executesOn, untilOf, stateOf, handsOf, pairAfter, roundAfter, restOf, Rounded}
 use Rattle.panel.specs.Run.{Run, ran, stepsFrom}
 use Rattle.panel.specs.declared.bursts.Pair.{Pair}
 use Rattle.panel.specs.declared.bursts.Round.{Round}
@@ -40,26 +40,26 @@ use Rattle.panel.proofs.RunLaws.{stops, goes}
 -- ---- the two channels at hand
 
 -- the two of a state make up the state, whichever is at hand
-pub state-of-pair : (s : State) (b : Bool) → stateOf (pairOf s b) (s .cp) ≡ s
-unfolding stateOf pairOf channelOf
+pub state-of-pair : (s : State) (b : Bool) → stateOf (handsOf s b) (s .cp) ≡ s
+unfolding stateOf handsOf channelOf
 state-of-pair s true = refl
 state-of-pair s false = refl
 
 -- turning them round changes neither, whatever CP is
-pub turned-state : (p : Pair) (cp : ℕ) (b : Bool) → stateOf (pairOf (stateOf p 0) b) cp ≡ stateOf p cp
-unfolding stateOf pairOf channelOf
+pub turned-state : (p : Pair) (cp : ℕ) (b : Bool) → stateOf (handsOf (stateOf p 0) b) cp ≡ stateOf p cp
+unfolding stateOf handsOf channelOf
 turned-state p cp true = refl
 turned-state p cp false = refl
 
 -- the one at hand is as it was where it is asked for
-pub turned-same : (p : Pair) (b : Bool) → p .second ≡ b → pairOf (stateOf p 0) b ≡ p
-unfolding stateOf pairOf channelOf
+pub turned-same : (p : Pair) (b : Bool) → p .second ≡ b → handsOf (stateOf p 0) b ≡ p
+unfolding stateOf handsOf channelOf
 turned-same p true e = rw e
 turned-same p false e = rw e
 
 -- else the two change places
-pub turned-other : (p : Pair) (b : Bool) → p .second ≡ not b → pairOf (stateOf p 0) b ≡ record { mine = p .other; other = p .mine; second = b; last = p .last }
-unfolding stateOf pairOf channelOf
+pub turned-other : (p : Pair) (b : Bool) → p .second ≡ not b → handsOf (stateOf p 0) b ≡ record { mine = p .other; other = p .mine; second = b; last = p .last }
+unfolding stateOf handsOf channelOf
 turned-other p true e = rw e
 turned-other p false e = rw e
 
@@ -105,12 +105,12 @@ other-names false true e = refl
 other-names false false e = apart e
 
 -- turned round, the two make up the same state, and the one at hand has its name
-module _ (p q : Pair) (cp : ℕ) (b : Bool) (e : q ≡ pairOf (stateOf p 0) b) where
+module _ (p q : Pair) (cp : ℕ) (b : Bool) (e : q ≡ handsOf (stateOf p 0) b) where
   pub turned-is : stateOf q cp ≡ stateOf p cp
   turned-is = ap (λ (x : Pair). stateOf x cp) e ∙ turned-state p cp b
 
   pub turned-named : q .second ≡ b
-  unfolding pairOf
+  unfolding handsOf
   turned-named = ap (λ (x : Pair). x .second) e
 
 -- ---- the two kinds of steps
@@ -295,13 +295,13 @@ module _ (p : Pair) (cp lines limit done : ℕ) (m : Buffers) (h : done < limit)
           (ap (λ (x : Channel). doneStep s (p .second) (externallyEnded x) m External) (mine-of p cp))
 
 -- a round of the two turned round is one of them as they were
-pub turned-round : (p q : Pair) (cp : ℕ) (b : Bool) → q ≡ pairOf (stateOf p 0) b → {r : Round} {m m′ : Buffers} {lines limit done : ℕ}
+pub turned-round : (p q : Pair) (cp : ℕ) (b : Bool) → q ≡ handsOf (stateOf p 0) b → {r : Round} {m m′ : Buffers} {lines limit done : ℕ}
     → Rounded r (stateOf q cp) m m′ lines limit done → Rounded r (stateOf p cp) m m′ lines limit done
 turned-round p q cp b e {r} {m} {m′} {lines} {limit} {done} h = subst (λ (x : State). Rounded r x m m′ lines limit done) (turned-is p q cp b e) h
 
 -- an external end of the channel that the choice names is a round
 pub external-turn : (p q : Pair) (cp lines limit done : ℕ) (m : Buffers) (b : Bool) → done < limit → entryNumber (stateOf p cp) m lines ≡ 0 → choiceOf (stateOf p cp) lines ≡ Ends b
-    → q ≡ pairOf (stateOf p 0) b → (c : Channel) → c ≡ externallyEnded (q .mine) → (r : Round) → r ≡ roundAfter 0 (done + 1) (pairAfter q c)
+    → q ≡ handsOf (stateOf p 0) b → (c : Channel) → c ≡ externallyEnded (q .mine) → (r : Round) → r ≡ roundAfter 0 (done + 1) (pairAfter q c)
     → Rounded r (stateOf p cp) m m lines limit done
 external-turn p q cp lines limit done m b h z e eq c ec r er =
     let s = turned-is p q cp b eq in

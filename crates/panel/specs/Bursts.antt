@@ -69,8 +69,8 @@ unfoldable pub stateOf : Pair → ℕ → State
 stateOf p cp = record { first = pick (p .second) (p .other) (p .mine); second = pick (p .second) (p .mine) (p .other); cp = cp; last = p .last }
 
 -- the two channels of a state, with that of a name at hand
-unfoldable pub pairOf : State → Bool → Pair
-pairOf s second = record { mine = channelOf s second; other = channelOf s (not second); second = second; last = s .last }
+unfoldable pub handsOf : State → Bool → Pair
+handsOf s second = record { mine = channelOf s second; other = channelOf s (not second); second = second; last = s .last }
 
 -- the two after a done step of the one at hand
 abbrev pub pairAfter : Pair → Channel → Pair

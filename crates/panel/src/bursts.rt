@@ -13,7 +13,7 @@ ghost use Rattle.step.specs.Choosing.{choiceOf};
 ghost use Rattle.step.specs.Step.{entryNumber};
 ghost use Rattle.step.specs.declared.turns.Choice.the-variants.{Steps};
 ghost use Rattle.panel.specs.Run.{ran, stepsFrom};
-ghost use Rattle.panel.specs.Bursts.{burst, burstFrom, moves, transfersOn, executes, executesOn, untilOf, stateOf, pairOf, pairAfter, Rounded};
+ghost use Rattle.panel.specs.Bursts.{burst, burstFrom, moves, transfersOn, executes, executesOn, untilOf, stateOf, handsOf, pairAfter, Rounded};
 
 // The two channels of a run, the one at hand and the other: whether the one at hand is channel 2, and whether that was the last to step.
 pub(crate) struct Pair {
@@ -143,7 +143,7 @@ fn state(p: Pair, cp: u32) -> State
 
 // The two channels with that of a name at hand.
 fn turned(p: Pair, second: bool) -> Pair
-    ensures { λ r. ⌜ r ≡ pairOf (stateOf p 0) second ⌝ }
+    ensures { λ r. ⌜ r ≡ handsOf (stateOf p 0) second ⌝ }
 {
     let mine = p.mine;
     let other = p.other;

@@ -10,13 +10,13 @@ use Rattle.memory.specs.Buffers.{Buffers}
 use Rattle.words.specs.Choice.{pick}
 use Rattle.prom.specs.File.{File, file, nextLine, storesOf, segmentAfter, startAfter, storing, fileOf}
 use Rattle.prom.specs.Load.{Loading, textFile, loadOf, wordForC}
-use Rattle.prom.specs.Records.{recordOf, typeOf, sizeOf, startOf, isRecord, sumsToZero, fitsType, lineRefusal}
+use Rattle.prom.specs.Records.{recordOf, typeOf, hexSize, startOf, isRecord, sumsToZero, fitsType, lineRefusal}
 use Rattle.prom.proofs.LoadLaws.{load-by}
 
 -- a line's number is at most 22
 pub line-most : (line : List ℕ) → lineRefusal line ≤ 22
 unfolding lineRefusal
-line-most line = go (isRecord line) (sumsToZero (recordOf line)) (fitsType (typeOf (recordOf line)) (sizeOf (recordOf line)))
+line-most line = go (isRecord line) (sumsToZero (recordOf line)) (fitsType (typeOf (recordOf line)) (hexSize (recordOf line)))
   where
     go : (x y z : Bool) → pick x (pick y (pick z 0 22) 21) 20 ≤ 22
     go true true true = lit≤ tt
@@ -27,7 +27,7 @@ line-most line = go (isRecord line) (sumsToZero (recordOf line)) (fitsType (type
 -- and at least 20, where it is one
 pub line-least : (line : List ℕ) → (lineRefusal line ≡ 0 → ⊥) → 20 ≤ lineRefusal line
 unfolding lineRefusal
-line-least line = go (isRecord line) (sumsToZero (recordOf line)) (fitsType (typeOf (recordOf line)) (sizeOf (recordOf line)))
+line-least line = go (isRecord line) (sumsToZero (recordOf line)) (fitsType (typeOf (recordOf line)) (hexSize (recordOf line)))
   where
     go : (x y z : Bool) → (_≡_ {A = ℕ} (pick x (pick y (pick z 0 22) 21) 20) 0 → ⊥) → 20 ≤ pick x (pick y (pick z 0 22) 21) 20
     go true true true ne = absurd (ne refl)

@@ -11,7 +11,7 @@ use native.Mathlib.Nat.{not-suc-le-zero}
 use native.Mathlib.Omega.{arith}
 use Rattle.words.proofs.ChoiceLaws.{both-left, both-right}
 use Rattle.words.specs.Choice.{pick}
-use Rattle.prom.specs.Records.{within, hexValue, allHex, hexByte, bytesOf}
+use Rattle.prom.specs.Records.{within, hexValue, allHex, hexByte, hexBytes}
 
 -- a choice between two that are bounded
 pick-most : (t : Bool) (a b n : ℕ) → (t ≡ true → a ≤ n) → b ≤ n → pick t a b ≤ n
@@ -67,16 +67,16 @@ all-take (suc k) (d ∷ ds) h =
     rw (both-left (ltb (hexValue d) 16) (allHex ds) h) (all-take k ds (both-right (ltb (hexValue d) 16) (allHex ds) h))
 
 -- a byte that digits write is a byte
-pub byte-below : (ds : List ℕ) (k : ℕ) → allHex ds ≡ true → getD (bytesOf ds) k 0 < 256
-unfolding bytesOf
+pub byte-below : (ds : List ℕ) (k : ℕ) → allHex ds ≡ true → getD (hexBytes ds) k 0 < 256
+unfolding hexBytes
 byte-below [] k h = lit< tt
 byte-below (a ∷ []) k h = lit< tt
 byte-below (a ∷ b ∷ ds) zero h = omega (arith, digit-below (a ∷ b ∷ ds) 0 h (omega arith), digit-below (a ∷ b ∷ ds) 1 h (omega arith))
 byte-below (a ∷ b ∷ ds) (suc k) h = byte-below ds k (all-drop 2 (a ∷ b ∷ ds) h)
 
 -- the byte at a place is written by the two digits at twice the place
-pub byte-at : (ds : List ℕ) (k j : ℕ) → j ≡ 2 * k → j + 1 < length ds → getD (bytesOf ds) k 0 ≡ hexByte (getD ds j 0) (getD ds (j + 1) 0)
-unfolding bytesOf
+pub byte-at : (ds : List ℕ) (k j : ℕ) → j ≡ 2 * k → j + 1 < length ds → getD (hexBytes ds) k 0 ≡ hexByte (getD ds j 0) (getD ds (j + 1) 0)
+unfolding hexBytes
 byte-at [] k j e h = absurd (not-suc-le-zero h)
 byte-at (a ∷ []) k j e h = absurd (omega arith)
 byte-at (a ∷ b ∷ ds) zero j e h = let z : j ≡ 0 = omega arith in rw z
@@ -87,23 +87,23 @@ byte-at (a ∷ b ∷ ds) (suc k) j e h =
     ∙ ap₂ (λ (x y : ℕ). hexByte (getD (a ∷ b ∷ ds) x 0) (getD (a ∷ b ∷ ds) y 0)) (sym i) (sym i′)
 
 -- so many digits write half as many bytes
-pub byte-count : (ds : List ℕ) (n : ℕ) → length ds ≡ 2 * n → length (bytesOf ds) ≡ n
-unfolding bytesOf
+pub byte-count : (ds : List ℕ) (n : ℕ) → length ds ≡ 2 * n → length (hexBytes ds) ≡ n
+unfolding hexBytes
 byte-count [] n e = omega arith
 byte-count (a ∷ []) n e = absurd (omega arith)
 byte-count (a ∷ b ∷ ds) zero e = absurd (omega arith)
 byte-count (a ∷ b ∷ ds) (suc n) e = ap suc (byte-count ds n (omega arith))
 
 -- bytes dropped are digits dropped, and so taken
-pub bytes-drop : (k j : ℕ) (ds : List ℕ) → j ≡ 2 * k → drop k (bytesOf ds) ≡ bytesOf (drop j ds)
-unfolding bytesOf
+pub bytes-drop : (k j : ℕ) (ds : List ℕ) → j ≡ 2 * k → drop k (hexBytes ds) ≡ hexBytes (drop j ds)
+unfolding hexBytes
 bytes-drop zero j ds e = let z : j ≡ 0 = omega arith in rw z
 bytes-drop (suc k) j [] e = let i : j ≡ suc (suc (j - 2)) = omega arith in rw i
 bytes-drop (suc k) j (a ∷ []) e = let i : j ≡ suc (suc (j - 2)) = omega arith in rw i
 bytes-drop (suc k) j (a ∷ b ∷ ds) e = let i : j ≡ suc (suc (j - 2)) = omega arith in rw i (bytes-drop k (j - 2) ds (omega arith))
 
-pub bytes-take : (k j : ℕ) (ds : List ℕ) → j ≡ 2 * k → take k (bytesOf ds) ≡ bytesOf (take j ds)
-unfolding bytesOf
+pub bytes-take : (k j : ℕ) (ds : List ℕ) → j ≡ 2 * k → take k (hexBytes ds) ≡ hexBytes (take j ds)
+unfolding hexBytes
 bytes-take zero j ds e = let z : j ≡ 0 = omega arith in rw z
 bytes-take (suc k) j [] e = let i : j ≡ suc (suc (j - 2)) = omega arith in rw i
 bytes-take (suc k) j (a ∷ []) e = let i : j ≡ suc (suc (j - 2)) = omega arith in rw i

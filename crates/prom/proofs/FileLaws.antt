@@ -13,7 +13,7 @@ use Rattle.words.specs.Choice.{pick}
 use Rattle.prom.specs.File.{Store, File, file, nextLine, storesFrom, storesOf, segmentAfter, startAfter, storing, fileOf}
 use Rattle.prom.specs.Load.{storeAll}
 use Rattle.prom.specs.Parts.{judgedOf, foundFirst, reachOf}
-use Rattle.prom.specs.Records.{recordOf, sizeOf, addressField, typeOf, dataBytes, digitsOf, lineRefusal}
+use Rattle.prom.specs.Records.{recordOf, hexSize, addressField, typeOf, dataBytes, digitsOf, lineRefusal}
 use Rattle.prom.specs.declared.Fields.{Fields}
 use Rattle.prom.proofs.DigitLaws.{byte-count}
 use Rattle.prom.proofs.PlaceLaws.{reach-first}
@@ -51,15 +51,15 @@ module _ (this : List ℕ) (lines : List (List ℕ)) (segment start line : ℕ) 
     file-more k = rw (eq-eqb (lineRefusal this) 0 e, ne-eqb (typeOf (recordOf this)) 1 k)
 
 -- a good record has as many data bytes as it says
-pub data-length : (line : List ℕ) → Good line → length (dataBytes (recordOf line)) ≡ sizeOf (recordOf line)
+pub data-length : (line : List ℕ) → Good line → length (dataBytes (recordOf line)) ≡ hexSize (recordOf line)
 unfolding dataBytes
 data-length line g =
-    length-take (sizeOf (recordOf line)) (drop 4 (recordOf line))
-    ∙ omega (arith, length-drop 4 (recordOf line), byte-count (digitsOf line) (sizeOf (recordOf line) + 5) (g .count))
+    length-take (hexSize (recordOf line)) (drop 4 (recordOf line))
+    ∙ omega (arith, length-drop 4 (recordOf line), byte-count (digitsOf line) (hexSize (recordOf line) + 5) (g .count))
 
 -- a judged file, one good record on
 pub judged-more : (m : Buffers) (before : ℕ) (this : List ℕ) (lines : List (List ℕ)) (segment start line : ℕ) (f : Fields) → lineRefusal this ≡ 0
-    → (typeOf (recordOf this) ≡ 1 → ⊥) → f .kind ≡ typeOf (recordOf this) → f .offset ≡ addressField (recordOf this) → f .size ≡ sizeOf (recordOf this)
+    → (typeOf (recordOf this) ≡ 1 → ⊥) → f .kind ≡ typeOf (recordOf this) → f .offset ≡ addressField (recordOf this) → f .size ≡ hexSize (recordOf this)
     → judgedOf m before (fileOf (this ∷ lines) segment start line)
     ≡ judgedOf m (foundFirst before (reachOf m (nextLine line) segment f))
     (fileOf lines (segmentAfter (recordOf this) segment) (startAfter (recordOf this) start) (nextLine line))

@@ -17,7 +17,7 @@ use Rattle.prom.specs.Conditions.{NotRecord, Second, Third, Decides, NoE
 use Rattle.prom.specs.File.{Store, File, file, nextLine, segmentAfter, startAfter, storesFrom, storesOf, fileOf}
 use Rattle.prom.specs.Load.{Loading, beyondLine, textFile, loadOf}
 use Rattle.prom.specs.Records.{recordOf, addressField, typeOf, dataBytes, lineRefusal}
-use Rattle.prom.specs.Text.{linesOf}
+use Rattle.prom.specs.Text.{hexLines}
 use Rattle.prom.proofs.Bounds.{line-most, line-least}
 use Rattle.prom.proofs.FileLaws.{next-some, file-bad, file-end, file-more}
 use Rattle.prom.proofs.LoadLaws.{load-by}
@@ -197,11 +197,11 @@ module _ (t sys : List ℕ) where
 
   least : (textFile t .number ≡ 0 → ⊥) → 20 ≤ textFile t .number
   unfolding textFile
-  least = file-least (linesOf t) 0 0 0
+  least = file-least (hexLines t) 0 0 0
 
   lined : Lined Stored
   unfolding textFile
-  lined = lined-file (linesOf t) 0 0 0
+  lined = lined-file (hexLines t) 0 0 0
 
   -- 11 exactly when memory is too long
   pub given-11 : (loadOf t (buffers sys []) .number ≡ 11) ↔ OverLong sys
@@ -218,49 +218,49 @@ module _ (t sys : List ℕ) where
       (λ l e z. (λ q. absurd (omega (arith, q .0)), λ q. absurd (omega (arith, q .1 .0, e)))) (λ l e z. (λ q. absurd (omega (arith, q .0)), λ q. absurd (omega (arith, q .1 .0, e))))
 
   by-line : (Kind : List ℕ → Type 0) (n k : ℕ) → 20 ≤ n → (n ≡ 23 → ⊥) → ((line : List ℕ) → (lineRefusal line ≡ n) ↔ Kind line)
-      → ((loadOf t (buffers sys []) .number ≡ n) × (loadOf t (buffers sys []) .line ≡ k)) ↔ (¬ (OverLong sys) × Decides Kind (linesOf t) 0 k)
+      → ((loadOf t (buffers sys []) .number ≡ n) × (loadOf t (buffers sys []) .line ≡ k)) ↔ (¬ (OverLong sys) × Decides Kind (hexLines t) 0 k)
   unfolding textFile
   by-line Kind n k h nn line =
       let f = of-file n k h in
-      let d = decides Kind n (λ e. omega (arith, e)) nn line (linesOf t) 0 0 0 k in
+      let d = decides Kind n (λ e. omega (arith, e)) nn line (hexLines t) 0 0 0 k in
       (λ q. let p = f .0 q in (p .0, d .0 (p .1)), λ q. f .1 (q .0, d .1 (q .1)))
 
   -- 20, 21 and 22 exactly when the first record that does not pass is no record, has a wrong sum, or a wrong type; the line is its line
-  pub given-20 : (k : ℕ) → ((loadOf t (buffers sys []) .number ≡ 20) × (loadOf t (buffers sys []) .line ≡ k)) ↔ (¬ (OverLong sys) × Decides NotRecord (linesOf t) 0 k)
+  pub given-20 : (k : ℕ) → ((loadOf t (buffers sys []) .number ≡ 20) × (loadOf t (buffers sys []) .line ≡ k)) ↔ (¬ (OverLong sys) × Decides NotRecord (hexLines t) 0 k)
   given-20 k = by-line NotRecord 20 k (lit≤ tt) (λ e. omega (arith, e)) line-20
 
-  pub given-21 : (k : ℕ) → ((loadOf t (buffers sys []) .number ≡ 21) × (loadOf t (buffers sys []) .line ≡ k)) ↔ (¬ (OverLong sys) × Decides Second (linesOf t) 0 k)
+  pub given-21 : (k : ℕ) → ((loadOf t (buffers sys []) .number ≡ 21) × (loadOf t (buffers sys []) .line ≡ k)) ↔ (¬ (OverLong sys) × Decides Second (hexLines t) 0 k)
   given-21 k = by-line Second 21 k (lit≤ tt) (λ e. omega (arith, e)) line-21
 
-  pub given-22 : (k : ℕ) → ((loadOf t (buffers sys []) .number ≡ 22) × (loadOf t (buffers sys []) .line ≡ k)) ↔ (¬ (OverLong sys) × Decides Third (linesOf t) 0 k)
+  pub given-22 : (k : ℕ) → ((loadOf t (buffers sys []) .number ≡ 22) × (loadOf t (buffers sys []) .line ≡ k)) ↔ (¬ (OverLong sys) × Decides Third (hexLines t) 0 k)
   given-22 k = by-line Third 22 k (lit≤ tt) (λ e. omega (arith, e)) line-22
 
   -- 23 exactly when every line passes; the line is the number of lines
-  pub given-23 : (k : ℕ) → ((loadOf t (buffers sys []) .number ≡ 23) × (loadOf t (buffers sys []) .line ≡ k)) ↔ (¬ (OverLong sys) × NoEnd (linesOf t) 0 k)
+  pub given-23 : (k : ℕ) → ((loadOf t (buffers sys []) .number ≡ 23) × (loadOf t (buffers sys []) .line ≡ k)) ↔ (¬ (OverLong sys) × NoEnd (hexLines t) 0 k)
   unfolding textFile
   given-23 k =
       let f = of-file 23 k (lit≤ tt) in
-      let d = no-end (linesOf t) 0 0 0 k in
+      let d = no-end (hexLines t) 0 0 0 k in
       (λ q. let p = f .0 q in (p .0, d .0 (p .1)), λ q. f .1 (q .0, d .1 (q .1)))
 
-  reaches : (textFile t .number ≡ 0) ↔ Ends (linesOf t)
+  reaches : (textFile t .number ≡ 0) ↔ Ends (hexLines t)
   unfolding textFile
-  reaches = ends (linesOf t) 0 0 0
+  reaches = ends (hexLines t) 0 0 0
 
   -- 2 exactly when a file that reaches its end record stores a byte beyond memory; the line holds the first
   pub given-2 : (k : ℕ) → ((loadOf t (buffers sys []) .number ≡ 2) × (loadOf t (buffers sys []) .line ≡ k))
-      ↔ (¬ (OverLong sys) × (Ends (linesOf t) × FirstBeyond sys (textFile t .stores) k))
+      ↔ (¬ (OverLong sys) × (Ends (hexLines t) × FirstBeyond sys (textFile t .stores) k))
   given-2 k =
-      load-by t (buffers sys []) (λ (r : Loading). ((r .number ≡ 2) × (r .line ≡ k)) ↔ (¬ (OverLong sys) × (Ends (linesOf t) × FirstBeyond sys Stored k)))
+      load-by t (buffers sys []) (λ (r : Loading). ((r .number ≡ 2) × (r .line ≡ k)) ↔ (¬ (OverLong sys) × (Ends (hexLines t) × FirstBeyond sys Stored k)))
       (λ l. (λ q. absurd (omega (arith, q .0)), λ q. absurd (q .0 (over l))))
       (λ l ne. (λ q. absurd (omega (arith, q .0, least ne)), λ q. absurd (ne (reaches .1 (q .1 .0)))))
       (λ l e z. (λ q. (within l, (reaches .0 e, first-beyond sys Stored k lined .0 (q .1, λ y. z (q .1 ∙ y)))), λ q. (refl, first-beyond sys Stored k lined .1 (q .1 .1) .0)))
       (λ l e z. (λ q. absurd (omega (arith, q .0)), λ q. let p = first-beyond sys Stored k lined .1 (q .1 .1) in absurd (p .1 (sym (p .0) ∙ z))))
 
   -- 0 exactly when such a file stores none
-  pub given-0 : (loadOf t (buffers sys []) .number ≡ 0) ↔ (¬ (OverLong sys) × (Ends (linesOf t) × AllWithin sys (textFile t .stores)))
+  pub given-0 : (loadOf t (buffers sys []) .number ≡ 0) ↔ (¬ (OverLong sys) × (Ends (hexLines t) × AllWithin sys (textFile t .stores)))
   given-0 =
-      load-by t (buffers sys []) (λ (r : Loading). (r .number ≡ 0) ↔ (¬ (OverLong sys) × (Ends (linesOf t) × AllWithin sys Stored)))
+      load-by t (buffers sys []) (λ (r : Loading). (r .number ≡ 0) ↔ (¬ (OverLong sys) × (Ends (hexLines t) × AllWithin sys Stored)))
       (λ l. (λ q. absurd (omega (arith, q)), λ q. absurd (q .0 (over l))))
       (λ l ne. (λ q. absurd (ne q), λ q. absurd (ne (reaches .1 (q .1 .0)))))
       (λ l e z. (λ q. absurd (omega (arith, q)), λ q. absurd (z (none-beyond sys Stored lined .1 (q .1 .1)))))

@@ -15,7 +15,7 @@ use Rattle.words.proofs.ChoiceLaws.{apart}
 use Rattle.words.specs.Choice.{pick}
 use Rattle.prom.specs.Parts.{firstOf, firstLine, digitRun, endsHere, endLength}
 use Rattle.prom.specs.Records.{hexValue, allHex}
-use Rattle.prom.specs.Text.{beginsLf, inFront, linesOf}
+use Rattle.prom.specs.Text.{beginsLf, inFront, hexLines}
 use Rattle.prom.proofs.DigitLaws.{no-digit}
 
 -- the lines behind the first
@@ -29,14 +29,14 @@ in-front b [] = refl
 in-front b (line ∷ lines) = refl
 
 -- where a line ends, it is blank, and the others follow the line end
-pub ends-here : (t : List ℕ) → endsHere t ≡ true → (firstLine t ≡ []) × (othersOf (linesOf t) ≡ linesOf (drop (endLength t) t)) × (endLength t ≤ length t)
-unfolding beginsLf linesOf endsHere endLength
+pub ends-here : (t : List ℕ) → endsHere t ≡ true → (firstLine t ≡ []) × (othersOf (hexLines t) ≡ hexLines (drop (endLength t) t)) × (endLength t ≤ length t)
+unfolding beginsLf hexLines endsHere endLength
 ends-here [] h = (refl, refl, lit≤ tt)
 ends-here (b ∷ bs) h = go (eqb b 10) (eqb b 13) bs h
   where
     go : (x y : Bool) (bs : List ℕ) → x || y && beginsLf bs ≡ true
-        → (firstOf (pick x ([] ∷ linesOf bs) (pick (y && beginsLf bs) (linesOf bs) (inFront b (linesOf bs)))) ≡ [])
-        × (othersOf (pick x ([] ∷ linesOf bs) (pick (y && beginsLf bs) (linesOf bs) (inFront b (linesOf bs)))) ≡ linesOf (drop (pick x 1 2) (b ∷ bs)))
+        → (firstOf (pick x ([] ∷ hexLines bs) (pick (y && beginsLf bs) (hexLines bs) (inFront b (hexLines bs)))) ≡ [])
+        × (othersOf (pick x ([] ∷ hexLines bs) (pick (y && beginsLf bs) (hexLines bs) (inFront b (hexLines bs)))) ≡ hexLines (drop (pick x 1 2) (b ∷ bs)))
         × (pick x 1 2 ≤ length (b ∷ bs))
     go true y bs h = (refl, refl, omega arith)
     go false true [] h = apart (sym h)
@@ -45,14 +45,14 @@ ends-here (b ∷ bs) h = go (eqb b 10) (eqb b 13) bs h
     go false false bs h = apart (sym h)
 
 -- where none ends, the line begins with the byte
-pub goes-on : (b : ℕ) (bs : List ℕ) → endsHere (b ∷ bs) ≡ false → linesOf (b ∷ bs) ≡ (b ∷ firstLine bs) ∷ othersOf (linesOf bs)
-unfolding linesOf endsHere
+pub goes-on : (b : ℕ) (bs : List ℕ) → endsHere (b ∷ bs) ≡ false → hexLines (b ∷ bs) ≡ (b ∷ firstLine bs) ∷ othersOf (hexLines bs)
+unfolding hexLines endsHere
 goes-on b bs h = go (eqb b 10) (eqb b 13 && beginsLf bs) h
   where
-    go : (x y : Bool) → x || y ≡ false → pick x ([] ∷ linesOf bs) (pick y (linesOf bs) (inFront b (linesOf bs))) ≡ (b ∷ firstLine bs) ∷ othersOf (linesOf bs)
+    go : (x y : Bool) → x || y ≡ false → pick x ([] ∷ hexLines bs) (pick y (hexLines bs) (inFront b (hexLines bs))) ≡ (b ∷ firstLine bs) ∷ othersOf (hexLines bs)
     go true y h = apart h
     go false true h = apart h
-    go false false h = in-front b (linesOf bs)
+    go false false h = in-front b (hexLines bs)
 
 -- a byte that is neither LF nor CR ends no line
 pub plain : (b : ℕ) (bs : List ℕ) → eqb b 10 ≡ false → eqb b 13 ≡ false → endsHere (b ∷ bs) ≡ false
@@ -71,19 +71,19 @@ abbrev pub restOf : List ℕ → List ℕ
 restOf t = drop (length (firstLine t)) t
 
 -- a text is its first line and what stands behind; there the line ends, and the others follow
-pub first-line : (t : List ℕ) → (t ≡ firstLine t ++ restOf t) × (endsHere (restOf t) ≡ true) × (othersOf (linesOf t) ≡ linesOf (drop (endLength (restOf t)) (restOf t)))
-unfolding linesOf endsHere endLength
+pub first-line : (t : List ℕ) → (t ≡ firstLine t ++ restOf t) × (endsHere (restOf t) ≡ true) × (othersOf (hexLines t) ≡ hexLines (drop (endLength (restOf t)) (restOf t)))
+unfolding hexLines endsHere endLength
 first-line [] = (refl, refl, refl)
 first-line (b ∷ bs) = go (endsHere (b ∷ bs)) refl (first-line bs)
   where
     P : List (List ℕ) → Type 0
     P ls = (b ∷ bs ≡ firstOf ls ++ drop (length (firstOf ls)) (b ∷ bs))
         × (endsHere (drop (length (firstOf ls)) (b ∷ bs)) ≡ true)
-        × (othersOf ls ≡ linesOf (drop (endLength (drop (length (firstOf ls)) (b ∷ bs))) (drop (length (firstOf ls)) (b ∷ bs))))
+        × (othersOf ls ≡ hexLines (drop (endLength (drop (length (firstOf ls)) (b ∷ bs))) (drop (length (firstOf ls)) (b ∷ bs))))
 
     go : (x : Bool) → endsHere (b ∷ bs) ≡ x
-        → (bs ≡ firstLine bs ++ restOf bs) × (endsHere (restOf bs) ≡ true) × (othersOf (linesOf bs) ≡ linesOf (drop (endLength (restOf bs)) (restOf bs)))
-        → P (linesOf (b ∷ bs))
+        → (bs ≡ firstLine bs ++ restOf bs) × (endsHere (restOf bs) ≡ true) × (othersOf (hexLines bs) ≡ hexLines (drop (endLength (restOf bs)) (restOf bs)))
+        → P (hexLines (b ∷ bs))
     go true e ih =
         let k = ends-here (b ∷ bs) e in
         rw (k .0) (refl, e, k .1)
@@ -113,15 +113,15 @@ run-digits (b ∷ bs) = go (ltb (hexValue b) 16) refl (run-digits bs)
 
 -- the line goes on with what stands behind them
 pub run-line : (t : List ℕ) → (firstLine t ≡ digitRun t ++ firstLine (drop (length (digitRun t)) t))
-    × (othersOf (linesOf t) ≡ othersOf (linesOf (drop (length (digitRun t)) t)))
+    × (othersOf (hexLines t) ≡ othersOf (hexLines (drop (length (digitRun t)) t)))
 unfolding digitRun
 run-line [] = (refl, refl)
 run-line (b ∷ bs) = go (ltb (hexValue b) 16) refl (run-line bs)
   where
     go : (x : Bool) → ltb (hexValue b) 16 ≡ x
-        → (firstLine bs ≡ digitRun bs ++ firstLine (drop (length (digitRun bs)) bs)) × (othersOf (linesOf bs) ≡ othersOf (linesOf (drop (length (digitRun bs)) bs)))
+        → (firstLine bs ≡ digitRun bs ++ firstLine (drop (length (digitRun bs)) bs)) × (othersOf (hexLines bs) ≡ othersOf (hexLines (drop (length (digitRun bs)) bs)))
         → (firstLine (b ∷ bs) ≡ pick x (b ∷ digitRun bs) [] ++ firstLine (drop (length (pick x (b ∷ digitRun bs) [])) (b ∷ bs)))
-        × (othersOf (linesOf (b ∷ bs)) ≡ othersOf (linesOf (drop (length (pick x (b ∷ digitRun bs) [])) (b ∷ bs))))
+        × (othersOf (hexLines (b ∷ bs)) ≡ othersOf (hexLines (drop (length (pick x (b ∷ digitRun bs) [])) (b ∷ bs))))
     go true e ih =
         rw (goes-on b bs (digit-plain b bs e)) (ap (λ (l : List ℕ). b ∷ l) (ih .0), ih .1)
     go false e ih = (refl, refl)
@@ -168,22 +168,22 @@ pub run-inside : (t : List ℕ) → length (digitRun t) ≤ length t
 run-inside t = omega (arith, ap length (run-split t) ∙ length-append (digitRun t) (drop (length (digitRun t)) t))
 
 -- a text of some bytes has a first line
-pub lines-some : (t : List ℕ) → 0 < length t → linesOf t ≡ firstLine t ∷ othersOf (linesOf t)
-unfolding beginsLf linesOf
+pub lines-some : (t : List ℕ) → 0 < length t → hexLines t ≡ firstLine t ∷ othersOf (hexLines t)
+unfolding beginsLf hexLines
 lines-some [] h = absurd (omega arith)
 lines-some (b ∷ bs) h = go (eqb b 10) (eqb b 13) bs
   where
     go : (x y : Bool) (bs : List ℕ)
-        → pick x ([] ∷ linesOf bs) (pick (y && beginsLf bs) (linesOf bs) (inFront b (linesOf bs)))
-        ≡ firstOf (pick x ([] ∷ linesOf bs) (pick (y && beginsLf bs) (linesOf bs) (inFront b (linesOf bs))))
-        ∷ othersOf (pick x ([] ∷ linesOf bs) (pick (y && beginsLf bs) (linesOf bs) (inFront b (linesOf bs))))
+        → pick x ([] ∷ hexLines bs) (pick (y && beginsLf bs) (hexLines bs) (inFront b (hexLines bs)))
+        ≡ firstOf (pick x ([] ∷ hexLines bs) (pick (y && beginsLf bs) (hexLines bs) (inFront b (hexLines bs))))
+        ∷ othersOf (pick x ([] ∷ hexLines bs) (pick (y && beginsLf bs) (hexLines bs) (inFront b (hexLines bs))))
     go true y bs = refl
-    go false false bs = rw (in-front b (linesOf bs))
+    go false false bs = rw (in-front b (hexLines bs))
     go false true [] = rw (in-front b [])
     go false true (c ∷ cs) = lf (eqb c 10) refl
       where
         lf : (x : Bool) → eqb c 10 ≡ x
-            → pick x (linesOf (c ∷ cs)) (inFront b (linesOf (c ∷ cs)))
-            ≡ firstOf (pick x (linesOf (c ∷ cs)) (inFront b (linesOf (c ∷ cs)))) ∷ othersOf (pick x (linesOf (c ∷ cs)) (inFront b (linesOf (c ∷ cs))))
+            → pick x (hexLines (c ∷ cs)) (inFront b (hexLines (c ∷ cs)))
+            ≡ firstOf (pick x (hexLines (c ∷ cs)) (inFront b (hexLines (c ∷ cs)))) ∷ othersOf (pick x (hexLines (c ∷ cs)) (inFront b (hexLines (c ∷ cs))))
         lf true e = rw e
-        lf false e = rw (in-front b (linesOf (c ∷ cs)))
+        lf false e = rw (in-front b (hexLines (c ∷ cs)))

@@ -7,7 +7,7 @@ use mathlib.Core.List.{List}
 use mathlib.Core.Path.{_≡_, refl}
 use native.Mathlib.Decide.{ℕ-discrete}
 use Rattle.memory.specs.Buffers.{Buffers, withinLimits}
-use Rattle.prom.specs.Load.{Loading, loading, beyondLine, storeAll, textFile, placed, loadOf}
+use Rattle.prom.specs.Load.{Loading, loading, beyondLine, storeAll, textFile, hexPlaced, loadOf}
 
 module _ (t : List ℕ) (m : Buffers) where
   -- memory over its limit
@@ -24,12 +24,12 @@ module _ (t : List ℕ) (m : Buffers) where
     module _ (e : textFile t .number ≡ 0) where
       -- a good one that reaches beyond memory
       pub load-beyond : (beyondLine m (textFile t .stores) ≡ 0 → ⊥) → loadOf t m ≡ loading 2 0 (beyondLine m (textFile t .stores)) m
-      unfolding loadOf placed
+      unfolding loadOf hexPlaced
       load-beyond ne = rw (h, eq-eqb (textFile t .number) 0 e, ne-eqb (beyondLine m (textFile t .stores)) 0 ne)
 
       -- a good one that does not
       pub load-done : beyondLine m (textFile t .stores) ≡ 0 → loadOf t m ≡ loading 0 (textFile t .start) 0 (storeAll m (textFile t .stores))
-      unfolding loadOf placed
+      unfolding loadOf hexPlaced
       load-done z = rw (h, eq-eqb (textFile t .number) 0 e, eq-eqb (beyondLine m (textFile t .stores)) 0 z)
 
   -- what holds of each case holds of the call

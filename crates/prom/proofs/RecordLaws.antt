@@ -13,8 +13,8 @@ use native.Mathlib.Omega.{arith}
 use Rattle.words.proofs.ChoiceLaws.{apart, both-left, both-right, or-false}
 use Rattle.words.specs.Choice.{pick}
 use Rattle.prom.specs.Parts.{firstOf, firstLine, digitRun, endsHere, endLength}
-use Rattle.prom.specs.Records.{allHex, hexByte, bytesOf, digitsOf, recordOf, sizeOf, wordFrom, isRecord, sumsToZero, fitsType, typeOf, sumOf, lineRefusal}
-use Rattle.prom.specs.Text.{linesOf}
+use Rattle.prom.specs.Records.{allHex, hexByte, hexBytes, digitsOf, recordOf, hexSize, wordFrom, isRecord, sumsToZero, fitsType, typeOf, sumOf, lineRefusal}
+use Rattle.prom.specs.Text.{hexLines}
 use Rattle.prom.proofs.DigitLaws.{all-append, byte-at, byte-below}
 use Rattle.prom.proofs.LineLaws.{lines-some, othersOf, restOf, ends-here, goes-on, plain, first-line, run-split, run-digits, run-line, run-stops, run-inside}
 
@@ -27,7 +27,7 @@ not-record line e = rw e
 
 -- the first byte of a line is the text's, or none
 first-byte : (t : List ℕ) → (getD t 0 0 ≡ 58 → ⊥) → getD (firstLine t) 0 0 ≡ 58 → ⊥
-unfolding linesOf
+unfolding hexLines
 first-byte [] ne = ne
 first-byte (b ∷ bs) ne = go (endsHere (b ∷ bs)) refl
   where
@@ -41,11 +41,11 @@ unfolding isRecord
 no-colon t ne = not-record (firstLine t) (rw (ne-eqb (getD (firstLine t) 0 0) 58 (first-byte t ne)))
 
 -- a colon is the line's
-pub colon-line : (r : List ℕ) → linesOf (58 ∷ r) ≡ (58 ∷ firstLine r) ∷ othersOf (linesOf r)
+pub colon-line : (r : List ℕ) → hexLines (58 ∷ r) ≡ (58 ∷ firstLine r) ∷ othersOf (hexLines r)
 colon-line r = goes-on 58 r (plain 58 r refl refl)
 
 -- what makes digits behind a colon a record is their count
-digits-record : (ds : List ℕ) → allHex ds ≡ true → isRecord (58 ∷ ds) ≡ eqb (length ds) (2 * (sizeOf (bytesOf ds) + 5))
+digits-record : (ds : List ℕ) → allHex ds ≡ true → isRecord (58 ∷ ds) ≡ eqb (length ds) (2 * (hexSize (hexBytes ds) + 5))
 unfolding isRecord
 digits-record ds h = rw h
 
@@ -77,29 +77,29 @@ module _ (r : List ℕ) where
     run-at k h = sym (List·getD-append (digitRun r) behind 0 k h) ∙ ap (λ (l : List ℕ). getD l k 0) (sym (run-split r))
 
     -- the byte at a place, read from the text
-    run-byte : (k j : ℕ) → j ≡ 2 * k → j + 1 < length (digitRun r) → getD (bytesOf (digitRun r)) k 0 ≡ hexByte (getD r j 0) (getD r (j + 1) 0)
+    run-byte : (k j : ℕ) → j ≡ 2 * k → j + 1 < length (digitRun r) → getD (hexBytes (digitRun r)) k 0 ≡ hexByte (getD r j 0) (getD r (j + 1) 0)
     run-byte k j e h = byte-at (digitRun r) k j e h ∙ ap₂ hexByte (run-at j (omega arith)) (run-at (j + 1) h)
 
     -- as many digits as the length does not say
     pub wrong-count : (length (digitRun r) ≡ (hexByte (getD r 0 0) (getD r 1 0) + 5) * 2 → ⊥) → lineRefusal (firstLine (58 ∷ r)) ≡ 20
-    unfolding sizeOf
+    unfolding hexSize
     wrong-count ne =
         rw ended-line
-        (not-record (58 ∷ digitRun r) (digits-record (digitRun r) (run-digits r) ∙ ne-eqb (length (digitRun r)) (2 * (sizeOf (bytesOf (digitRun r)) + 5)) (go (decLt 1 (length (digitRun r))))))
+        (not-record (58 ∷ digitRun r) (digits-record (digitRun r) (run-digits r) ∙ ne-eqb (length (digitRun r)) (2 * (hexSize (hexBytes (digitRun r)) + 5)) (go (decLt 1 (length (digitRun r))))))
       where
-        go : Dec (1 < length (digitRun r)) → length (digitRun r) ≡ 2 * (sizeOf (bytesOf (digitRun r)) + 5) → ⊥
+        go : Dec (1 < length (digitRun r)) → length (digitRun r) ≡ 2 * (hexSize (hexBytes (digitRun r)) + 5) → ⊥
         go (yes h) e = ne (omega (arith, e, run-byte 0 0 refl h))
         go (no h) e = omega arith
 
     -- as many as it says: the check byte, then the type
     pub right-count : length (digitRun r) ≡ (hexByte (getD r 0 0) (getD r 1 0) + 5) * 2
         → lineRefusal (firstLine (58 ∷ r))
-        ≡ pick (eqb (sumOf (bytesOf (digitRun r)) % 256) 0) (pick (fitsType (hexByte (getD r 6 0) (getD r 7 0)) (hexByte (getD r 0 0) (getD r 1 0))) 0 22) 21
-    unfolding sizeOf typeOf lineRefusal sumsToZero
+        ≡ pick (eqb (sumOf (hexBytes (digitRun r)) % 256) 0) (pick (fitsType (hexByte (getD r 6 0) (getD r 7 0)) (hexByte (getD r 0 0) (getD r 1 0))) 0 22) 21
+    unfolding hexSize typeOf lineRefusal sumsToZero
     right-count e =
         let size = run-byte 0 0 refl (omega arith) in
         let kind = run-byte 3 6 refl (omega arith) in
-        rw (ended-line, digits-record (digitRun r) (run-digits r), eq-eqb (length (digitRun r)) (2 * (sizeOf (bytesOf (digitRun r)) + 5)) (omega (arith, size)), size, kind)
+        rw (ended-line, digits-record (digitRun r) (run-digits r), eq-eqb (length (digitRun r)) (2 * (hexSize (hexBytes (digitRun r)) + 5)) (omega (arith, size)), size, kind)
 
 -- the same of a whole text that begins with a colon, as it is read: the count and sum of the run behind the colon, whether the line ends there, and its length
 module _ (t : List ℕ) (colon : getD t 0 0 ≡ 58) (n : ℕ) (count : n ≡ length (digitRun (take (length t - 1) (drop 1 t)))) where
@@ -140,7 +140,7 @@ module _ (t : List ℕ) (colon : getD t 0 0 ≡ 58) (n : ℕ) (count : n ≡ len
       pub line-wrong-count : (n ≡ (size + 5) * 2 → ⊥) → 20 ≡ lineRefusal (firstLine t)
       line-wrong-count ne = sym (same-number ∙ wrong-count (drop 1 t) ended (λ e. ne (omega (arith, counted, said, e))))
 
-      module _ (right : n ≡ (size + 5) * 2) (sum : ℕ) (added : sum ≡ sumOf (bytesOf (digitRun (take (length t - 1) (drop 1 t)))) % 256) where
+      module _ (right : n ≡ (size + 5) * 2) (sum : ℕ) (added : sum ≡ sumOf (hexBytes (digitRun (take (length t - 1) (drop 1 t)))) % 256) where
         judged : lineRefusal (firstLine t) ≡ pick (eqb sum 0) (pick (fitsType (hexByte (getD t 7 0) (getD t 8 0)) size) 0 22) 21
         judged =
             same-number ∙ right-count (drop 1 t) ended (omega (arith, counted, said, right))
@@ -158,24 +158,24 @@ module _ (t : List ℕ) (colon : getD t 0 0 ≡ 58) (n : ℕ) (count : n ≡ len
 pub record Good (line : List ℕ) : Type 0 where
   pub colon : getD line 0 0 ≡ 58
   pub digits : allHex (digitsOf line) ≡ true
-  pub count : length (digitsOf line) ≡ 2 * (sizeOf (recordOf line) + 5)
+  pub count : length (digitsOf line) ≡ 2 * (hexSize (recordOf line) + 5)
   pub sums : sumsToZero (recordOf line) ≡ true
-  pub known : fitsType (typeOf (recordOf line)) (sizeOf (recordOf line)) ≡ true
+  pub known : fitsType (typeOf (recordOf line)) (hexSize (recordOf line)) ≡ true
 
 pub good : (line : List ℕ) → lineRefusal line ≡ 0 → Good line
 unfolding lineRefusal isRecord
-good line e = go (isRecord line) (sumsToZero (recordOf line)) (fitsType (typeOf (recordOf line)) (sizeOf (recordOf line))) refl refl refl e
+good line e = go (isRecord line) (sumsToZero (recordOf line)) (fitsType (typeOf (recordOf line)) (hexSize (recordOf line))) refl refl refl e
   where
     same : Bool
-    same = eqb (length (digitsOf line)) (2 * (sizeOf (recordOf line) + 5))
+    same = eqb (length (digitsOf line)) (2 * (hexSize (recordOf line) + 5))
 
-    go : (x y z : Bool) → isRecord line ≡ x → sumsToZero (recordOf line) ≡ y → fitsType (typeOf (recordOf line)) (sizeOf (recordOf line)) ≡ z
+    go : (x y z : Bool) → isRecord line ≡ x → sumsToZero (recordOf line) ≡ y → fitsType (typeOf (recordOf line)) (hexSize (recordOf line)) ≡ z
         → _≡_ {A = ℕ} (pick x (pick y (pick z 0 22) 21) 20) 0 → Good line
     go true true true p q s e =
         let rest = both-right (eqb (getD line 0 0) 58) (allHex (digitsOf line) && same) p in record {
           colon = eqb-true (getD line 0 0) 58 (both-left (eqb (getD line 0 0) 58) (allHex (digitsOf line) && same) p);
           digits = both-left (allHex (digitsOf line)) same rest;
-          count = eqb-true (length (digitsOf line)) (2 * (sizeOf (recordOf line) + 5)) (both-right (allHex (digitsOf line)) same rest);
+          count = eqb-true (length (digitsOf line)) (2 * (hexSize (recordOf line) + 5)) (both-right (allHex (digitsOf line)) same rest);
           sums = q;
           known = s;
         }
@@ -194,7 +194,7 @@ fits-four kind size e h = eqb-true size 4 (rw e at h)
 
 module _ (t : List ℕ) (e : lineRefusal (firstLine t) ≡ 0) where
   -- its line in bytes of text
-  pub good-length : length (firstLine t) ≡ sizeOf (recordOf (firstLine t)) * 2 + 11
+  pub good-length : length (firstLine t) ≡ hexSize (recordOf (firstLine t)) * 2 + 11
   good-length = omega (arith, good (firstLine t) e .count, length-drop 1 (firstLine t))
 
   -- which the text has
@@ -226,7 +226,7 @@ module _ (t : List ℕ) (e : lineRefusal (firstLine t) ≡ 0) where
       omega (arith, byte-below (digitsOf (firstLine t)) k (good (firstLine t) e .digits), byte-below (digitsOf (firstLine t)) (k + 1) (good (firstLine t) e .digits))
 
   -- the next line begins behind the line's end
-  pub good-next : (next : ℕ) → next ≡ length (firstLine t) + endLength (restOf t) → (linesOf t ≡ firstLine t ∷ linesOf (drop next t)) × (next ≤ length t)
+  pub good-next : (next : ℕ) → next ≡ length (firstLine t) + endLength (restOf t) → (hexLines t ≡ firstLine t ∷ hexLines (drop next t)) × (next ≤ length t)
   good-next next q =
       let h = ends-here (restOf t) (first-line t .1) in (
         lines-some t (omega (arith, good-length, good-inside)) ∙ ap (λ (ls : List (List ℕ)). firstLine t ∷ ls) (first-line t .2 ∙ rw (q, drop-drop) refl),

@@ -13,7 +13,7 @@ use native.Mathlib.Omega.{arith}
 use Rattle.words.proofs.ChoiceLaws.{apart, both-left, both-right, or-false}
 use Rattle.words.specs.Choice.{pick}
 use Rattle.prom.specs.Conditions.{Hexadecimal, SomeOther, NoColon, NotRecord, WrongSum, Unfit, WrongType, Second, Third, GoodRecord}
-use Rattle.prom.specs.Records.{within, hexValue, allHex, digitsOf, recordOf, sizeOf, typeOf, sumOf, isRecord, sumsToZero, fitsType, lineRefusal}
+use Rattle.prom.specs.Records.{within, hexValue, allHex, digitsOf, recordOf, hexSize, typeOf, sumOf, isRecord, sumsToZero, fitsType, lineRefusal}
 
 -- a test that holds just where a condition does not
 pub record Refuses (ok : Bool) (condition : Type 0) : Type 0 where
@@ -64,7 +64,7 @@ colon (b ∷ bs) = equal b 58
 pub record-test : (line : List ℕ) → Refuses (isRecord line) (NotRecord line)
 unfolding isRecord
 record-test line =
-    both (colon line) (both (all-digits (digitsOf line)) (equal (length (digitsOf line)) (2 * (sizeOf (recordOf line) + 5))))
+    both (colon line) (both (all-digits (digitsOf line)) (equal (length (digitsOf line)) (2 * (hexSize (recordOf line) + 5))))
 
 -- ---- 21 and 22
 
@@ -121,7 +121,7 @@ chain {ok = false} k rest n r = (λ e. inl (r .fails refl, sym e), ⊎-elim (λ 
 
 module _ (line : List ℕ) where
   lastly : ℕ
-  lastly = pick (fitsType (typeOf (recordOf line)) (sizeOf (recordOf line))) 0 22
+  lastly = pick (fitsType (typeOf (recordOf line)) (hexSize (recordOf line))) 0 22
 
   next : ℕ
   next = pick (sumsToZero (recordOf line)) lastly 21
@@ -136,7 +136,7 @@ module _ (line : List ℕ) where
 
   three : (n : ℕ) → (lastly ≡ n) ↔ ((WrongType line × (n ≡ 22)) ⊎ (¬ (WrongType line) × (0 ≡ n)))
   unfolding lastly
-  three n = chain 22 0 n (type-test (typeOf (recordOf line)) (sizeOf (recordOf line)))
+  three n = chain 22 0 n (type-test (typeOf (recordOf line)) (hexSize (recordOf line)))
 
   -- 20 just where the line is no record
   pub line-20 : (lineRefusal line ≡ 20) ↔ NotRecord line

@@ -6,9 +6,9 @@ use mathlib.Core.List.{List, [], _∷_, _++_}
 use mathlib.Core.Path.{_≡_, refl}
 use Rattle.memory.specs.Buffers.{buffers, spaceOf, limitOf, indexOf, lentAt, storeByte, withinLimits}
 use Rattle.prom.specs.File.{Store, nextLine, storesFrom, storesOf, segmentAfter, startAfter, fileOf}
-use Rattle.prom.specs.Load.{Loading, loading, beyondLine, storeAll, textFile, placed, loadOf}
-use Rattle.prom.specs.Records.{hexValue, allHex, bytesOf, sizeOf, addressField, typeOf, dataBytes, segmentOf, startOf, sumOf, isRecord, sumsToZero, fitsType, lineRefusal}
-use Rattle.prom.specs.Text.{beginsLf, inFront, linesOf}
+use Rattle.prom.specs.Load.{Loading, loading, beyondLine, storeAll, textFile, hexPlaced, loadOf}
+use Rattle.prom.specs.Records.{hexValue, allHex, hexBytes, hexSize, addressField, typeOf, dataBytes, segmentOf, startOf, sumOf, isRecord, sumsToZero, fitsType, lineRefusal}
+use Rattle.prom.specs.Text.{beginsLf, inFront, hexLines}
 use Rattle.prom.specs.Writer.{digitFor, digitsFor}
 
 -- the line of some bytes, check byte and all, and its line end
@@ -28,7 +28,7 @@ three = 0x03 ∷ 0x00 ∷ 0x04 ∷ 0x00 ∷ 0x02 ∷ 0x33 ∷ 0x7A ∷ 0x4A ∷ 
 
 -- what a text leaves of so many zero bytes
 reading : List ℕ → ℕ → Loading
-unfolding loadOf textFile placed fileOf nextLine storesFrom storesOf segmentAfter startAfter beyondLine storeAll linesOf inFront beginsLf lineRefusal isRecord sumsToZero fitsType typeOf sizeOf addressField dataBytes segmentOf startOf sumOf bytesOf allHex hexValue digitsFor digitFor withinLimits limitOf lentAt indexOf spaceOf storeByte
+unfolding loadOf textFile hexPlaced fileOf nextLine storesFrom storesOf segmentAfter startAfter beyondLine storeAll hexLines inFront beginsLf lineRefusal isRecord sumsToZero fitsType typeOf hexSize addressField dataBytes segmentOf startOf sumOf hexBytes allHex hexValue digitsFor digitFor withinLimits limitOf lentAt indexOf spaceOf storeByte
 reading text n = loadOf text (buffers (replicate n 0) [])
 
 -- a refused text leaves them
@@ -42,7 +42,7 @@ addresses (s ∷ ss) = s .address ∷ addresses ss
 
 -- those that a text stores to
 places : List ℕ → List ℕ
-unfolding textFile fileOf nextLine storesFrom storesOf segmentAfter startAfter linesOf inFront beginsLf lineRefusal isRecord sumsToZero fitsType typeOf sizeOf addressField dataBytes segmentOf startOf sumOf bytesOf allHex hexValue digitsFor digitFor addresses
+unfolding textFile fileOf nextLine storesFrom storesOf segmentAfter startAfter hexLines inFront beginsLf lineRefusal isRecord sumsToZero fitsType typeOf hexSize addressField dataBytes segmentOf startOf sumOf hexBytes allHex hexValue digitsFor digitFor addresses
 places text = addresses (textFile text .stores)
 
 -- ---- good files

@@ -20,8 +20,8 @@ use Rattle.words.specs.Choice.{pick}
 use Rattle.prom.specs.File.{File, file, nextLine, storesFrom, storesOf, segmentAfter, startAfter, storing, fileOf}
 use Rattle.prom.specs.Load.{loading, beyondLine, storeAll, textFile, loadOf}
 use Rattle.prom.specs.Parts.{placesFrom}
-use Rattle.prom.specs.Records.{hexValue, allHex, bytesOf, recordOf, sizeOf, addressField, typeOf, dataBytes, segmentOf, sumOf, isRecord, sumsToZero, fitsType, lineRefusal}
-use Rattle.prom.specs.Text.{linesOf}
+use Rattle.prom.specs.Records.{hexValue, allHex, hexBytes, recordOf, hexSize, addressField, typeOf, dataBytes, segmentOf, sumOf, isRecord, sumsToZero, fitsType, lineRefusal}
+use Rattle.prom.specs.Text.{hexLines}
 use Rattle.prom.specs.Writer.{digitFor, digitsFor, checkFor, uncheckedFor, lineFor, recordsFor, fileFor, storeRow}
 use Rattle.prom.proofs.FileLaws.{store-append, file-end, file-more}
 use Rattle.prom.proofs.LineLaws.{goes-on, digit-plain, plain}
@@ -53,8 +53,8 @@ digits-all (b ∷ bs) h =
     let low : b % 16 < 16 = omega arith in
     rw (digit-back (b / 16) high, digit-back (b % 16) low, lt-ltb (b / 16) 16 high, lt-ltb (b % 16) 16 low) (digits-all bs (h .1))
 
-digits-back : (bs : List ℕ) → Bytes bs → bytesOf (digitsFor bs) ≡ bs
-unfolding bytesOf digitsFor
+digits-back : (bs : List ℕ) → Bytes bs → hexBytes (digitsFor bs) ≡ bs
+unfolding hexBytes digitsFor
 digits-back [] h = refl
 digits-back (b ∷ bs) h =
     let high : b / 16 < 16 = omega (arith, h .0) in
@@ -79,8 +79,8 @@ bytes-append [] b p q = q
 bytes-append (x ∷ a) b p q = (p .0, bytes-append a b (p .1) q)
 
 -- digits up to an LF are one line
-line-of : (ds rest : List ℕ) → allHex ds ≡ true → linesOf (ds ++ 10 ∷ rest) ≡ ds ∷ linesOf rest
-unfolding linesOf
+line-of : (ds rest : List ℕ) → allHex ds ≡ true → hexLines (ds ++ 10 ∷ rest) ≡ ds ∷ hexLines rest
+unfolding hexLines
 line-of [] rest h = refl
 line-of (d ∷ ds) rest h =
     goes-on d (ds ++ 10 ∷ rest) (digit-plain d (ds ++ 10 ∷ rest) (both-left (ltb (hexValue d) 16) (allHex ds) (unfold allHex in h)))
@@ -95,7 +95,7 @@ module _ (offset kind : ℕ) (vs : List ℕ) (o : offset < 65536) (f : fitsType 
   whole-bytes = (n, (omega arith, (omega arith, (k, bytes-append vs (checkFor (uncheckedFor offset kind vs) ∷ []) b (omega arith, tt)))))
 
   -- it is one line of the text
-  pub line-lines : (rest : List ℕ) → linesOf (lineFor offset kind vs ++ 10 ∷ rest) ≡ lineFor offset kind vs ∷ linesOf rest
+  pub line-lines : (rest : List ℕ) → hexLines (lineFor offset kind vs ++ 10 ∷ rest) ≡ lineFor offset kind vs ∷ hexLines rest
   unfolding lineFor
   line-lines rest =
       goes-on 58 (digitsFor whole ++ 10 ∷ rest) (plain 58 (digitsFor whole ++ 10 ∷ rest) refl refl)
@@ -115,7 +115,7 @@ module _ (offset kind : ℕ) (vs : List ℕ) (o : offset < 65536) (f : fitsType 
 
   -- and which is a good record
   pub line-good : lineRefusal (lineFor offset kind vs) ≡ 0
-  unfolding lineRefusal isRecord sumsToZero typeOf sizeOf lineFor
+  unfolding lineRefusal isRecord sumsToZero typeOf hexSize lineFor
   line-good =
       let c : length (digitsFor whole) ≡ 2 * (length vs + 5) = omega (arith, digits-length whole, length-append vs (checkFor (uncheckedFor offset kind vs) ∷ [])) in
       rw (digits-all whole whole-bytes, digits-back whole whole-bytes, eq-eqb (length (digitsFor whole)) (2 * (length vs + 5)) c, eq-eqb (sumOf whole % 256) 0 sum-right, f)
@@ -170,14 +170,14 @@ module _ (a : ℕ) (h : a < 1048576) where
   unfolding fitsType
   segment-bytes = line-record 0 2 (highByte (a / 16) ∷ lowByte (a / 16) ∷ []) (lit< tt) refl (lit< tt) (lit< tt) (omega arith, (omega arith, tt))
 
-  segment-file : (rest : List ℕ) (segment start line : ℕ) → fileOf (linesOf (segmentLine ++ 10 ∷ rest)) segment start line ≡ fileOf (linesOf rest) (a / 16) start (nextLine line)
+  segment-file : (rest : List ℕ) (segment start line : ℕ) → fileOf (hexLines (segmentLine ++ 10 ∷ rest)) segment start line ≡ fileOf (hexLines rest) (a / 16) start (nextLine line)
   unfolding fitsType typeOf storesOf segmentAfter startAfter segmentOf
   segment-file rest segment start line =
       let hs = highByte (a / 16) ∷ lowByte (a / 16) ∷ [] in
       let b : Bytes hs = (omega arith, (omega arith, tt)) in
       let s : a / 16 % 256 + a / 16 / 256 % 256 * 256 ≡ a / 16 = omega arith in
       ap (λ (ls : List (List ℕ)). fileOf ls segment start line) (line-lines 0 2 hs (lit< tt) refl (lit< tt) (lit< tt) b rest)
-      ∙ file-more segmentLine (linesOf rest) segment start line (line-good 0 2 hs (lit< tt) refl (lit< tt) (lit< tt) b) (λ e. omega (arith, sym (ap typeOf segment-bytes) ∙ e))
+      ∙ file-more segmentLine (hexLines rest) segment start line (line-good 0 2 hs (lit< tt) refl (lit< tt) (lit< tt) b) (λ e. omega (arith, sym (ap typeOf segment-bytes) ∙ e))
       ∙ rw (segment-bytes, s)
 
 -- a data record stores its row
@@ -189,22 +189,22 @@ module _ (o : ℕ) (vs : List ℕ) (h : o < 65536) (few : length vs < 256) (b : 
   unfolding fitsType
   data-bytes = line-record o 0 vs h refl few (lit< tt) b
 
-  data-file : (rest : List ℕ) (segment start line : ℕ) → fileOf (linesOf (dataLine ++ 10 ∷ rest)) segment start line
-      ≡ storing (storesFrom (nextLine line) segment o vs) (fileOf (linesOf rest) segment start (nextLine line))
-  unfolding fitsType typeOf storesOf segmentAfter startAfter addressField dataBytes sizeOf
+  data-file : (rest : List ℕ) (segment start line : ℕ) → fileOf (hexLines (dataLine ++ 10 ∷ rest)) segment start line
+      ≡ storing (storesFrom (nextLine line) segment o vs) (fileOf (hexLines rest) segment start (nextLine line))
+  unfolding fitsType typeOf storesOf segmentAfter startAfter addressField dataBytes hexSize
   data-file rest segment start line =
       let s : o % 256 + o / 256 % 256 * 256 ≡ o = omega arith in
       ap (λ (ls : List (List ℕ)). fileOf ls segment start line) (line-lines o 0 vs h refl few (lit< tt) b rest)
-      ∙ file-more dataLine (linesOf rest) segment start line (line-good o 0 vs h refl few (lit< tt) b) (λ e. omega (arith, sym (ap typeOf data-bytes) ∙ e))
+      ∙ file-more dataLine (hexLines rest) segment start line (line-good o 0 vs h refl few (lit< tt) b) (λ e. omega (arith, sym (ap typeOf data-bytes) ∙ e))
       ∙ rw (data-bytes, s, take-append-seam vs (checkFor (uncheckedFor o 0 vs) ∷ []))
 
 -- the end record ends it
-end-file : (segment start line : ℕ) → fileOf (linesOf (lineFor 0 1 [] ++ 10 ∷ [])) segment start line ≡ file 0 0 start []
+end-file : (segment start line : ℕ) → fileOf (hexLines (lineFor 0 1 [] ++ 10 ∷ [])) segment start line ≡ file 0 0 start []
 unfolding fitsType typeOf
 end-file segment start line =
     let t = line-record 0 1 [] (lit< tt) refl (lit< tt) (lit< tt) tt in
     ap (λ (ls : List (List ℕ)). fileOf ls segment start line) (line-lines 0 1 [] (lit< tt) refl (lit< tt) (lit< tt) tt [])
-    ∙ file-end (lineFor 0 1 []) (linesOf []) segment start line (line-good 0 1 [] (lit< tt) refl (lit< tt) (lit< tt) tt) (ap typeOf t)
+    ∙ file-end (lineFor 0 1 []) (hexLines []) segment start line (line-good 0 1 [] (lit< tt) refl (lit< tt) (lit< tt) tt) (ap typeOf t)
 
 bytes-take : (n : ℕ) (bs : List ℕ) → Bytes bs → Bytes (take n bs)
 bytes-take zero bs h = tt
@@ -218,7 +218,7 @@ bytes-drop (suc n) (b ∷ bs) h = bytes-drop n bs (h .1)
 
 -- all of them
 rows : (m : Buffers) → length (m .sys) ≤ 1048576 → (n a : ℕ) (bs : List ℕ) (segment start line : ℕ) → n ≡ (length bs + 15) / 16 → Bytes bs
-    → (0 < length bs → a + length bs ≤ length (m .sys)) → Rows m a bs start (fileOf (linesOf (recordsFor n a bs)) segment start line)
+    → (0 < length bs → a + length bs ≤ length (m .sys)) → Rows m a bs start (fileOf (hexLines (recordsFor n a bs)) segment start line)
 unfolding recordsFor storeRow beyondLine storeAll
 rows m l zero a [] segment start line e b h =
     subst (Rows m a [] start) (sym (end-file segment start line)) record { number = refl; begins = refl; lent = refl; stored = λ m′. refl }
@@ -240,10 +240,10 @@ rows m l (suc n) a bs segment start line e b h =
       number = ih .number;
       begins = ih .begins;
       lent =
-          beyond-stores m k (a / 16) (a % 16) vs (fileOf (linesOf (recordsFor n (a + 16) ys)) (a / 16) start k .stores)
+          beyond-stores m k (a / 16) (a % 16) vs (fileOf (hexLines (recordsFor n (a + 16) ys)) (a / 16) start k .stores)
           ∙ rw (row-lent m (a / 16) (a % 16) (length vs) l (omega arith) (omega arith)) (ih .lent);
       stored =
-          λ m′. store-append m′ (storesFrom k (a / 16) (a % 16) vs) (fileOf (linesOf (recordsFor n (a + 16) ys)) (a / 16) start k .stores)
+          λ m′. store-append m′ (storesFrom k (a / 16) (a % 16) vs) (fileOf (hexLines (recordsFor n (a + 16) ys)) (a / 16) start k .stores)
           ∙ ih .stored (storeAll m′ (storesFrom k (a / 16) (a % 16) vs))
           ∙ ap (λ (x : Buffers). storeRow x (a + 16) ys) (row-stores m′ k (a / 16) (a % 16) vs (omega arith) (omega arith) ∙ rw at)
           ∙ row-empty (storeRow m′ a vs) (a + 16) (a + length vs) ys (λ z. omega arith)

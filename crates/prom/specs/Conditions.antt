@@ -5,7 +5,7 @@ use mathlib.Core.List.{List, [], _∷_}
 use mathlib.Core.Logic.{_⊎_}
 use mathlib.Core.Path.{_≡_}
 use Rattle.prom.specs.File.{Store, nextLine}
-use Rattle.prom.specs.Records.{digitsOf, recordOf, sizeOf, typeOf, sumOf}
+use Rattle.prom.specs.Records.{digitsOf, recordOf, hexSize, typeOf, sumOf}
 
 -- a hexadecimal digit, 0-9, A-F or a-f
 abbrev pub Hexadecimal : ℕ → Type 0
@@ -23,7 +23,7 @@ NoColon (b ∷ bs) = ¬ (b ≡ 58)
 
 -- more or fewer digits than its length says: two for each data byte, and ten
 abbrev pub OtherCount : List ℕ → Type 0
-OtherCount line = ¬ (length (digitsOf line) ≡ 2 * (sizeOf (recordOf line) + 5))
+OtherCount line = ¬ (length (digitsOf line) ≡ 2 * (hexSize (recordOf line) + 5))
 
 -- 20: not a record
 abbrev pub NotRecord : List ℕ → Type 0
@@ -39,7 +39,7 @@ Unfit kind size = (4 ≤ kind) ⊎ (((kind ≡ 1) × ¬ (size ≡ 0)) ⊎ (((kin
 
 -- 22: another type, or a length that does not fit its type
 abbrev pub WrongType : List ℕ → Type 0
-WrongType line = Unfit (typeOf (recordOf line)) (sizeOf (recordOf line))
+WrongType line = Unfit (typeOf (recordOf line)) (hexSize (recordOf line))
 
 -- 21 where 20 is not given, 22 where neither is, and a good record where none is
 abbrev pub Second : List ℕ → Type 0

@@ -6,7 +6,7 @@ use mathlib.Core.List.{List, [], _∷_}
 use Rattle.memory.specs.Buffers.{Buffers, lentAt, storeByte, withinLimits}
 use Rattle.words.specs.Choice.{pick}
 use Rattle.prom.specs.File.{Store, File, fileOf}
-use Rattle.prom.specs.Text.{linesOf}
+use Rattle.prom.specs.Text.{hexLines}
 
 -- what the call leaves
 pub record Loading : Type 0 where
@@ -32,11 +32,11 @@ storeAll m (s ∷ ss) = storeAll (storeByte m false (s .address) (s .value)) ss
 
 -- the file that a text is
 unfoldable pub textFile : List ℕ → File
-textFile text = fileOf (linesOf text) 0 0 0
+textFile text = fileOf (hexLines text) 0 0 0
 
 -- a file that is good, read into memory: 2 where a byte lies beyond
-unfoldable pub placed : File → Buffers → Loading
-placed f m =
+unfoldable pub hexPlaced : File → Buffers → Loading
+hexPlaced f m =
     let beyond = beyondLine m (f .stores) in
     let done = loading 0 (f .start) 0 (storeAll m (f .stores)) in
     pick (eqb beyond 0) done (loading 2 0 beyond m)
@@ -45,7 +45,7 @@ placed f m =
 unfoldable pub loadOf : List ℕ → Buffers → Loading
 loadOf text m =
     let f = textFile text in
-    let done = placed f m in
+    let done = hexPlaced f m in
     let read = pick (eqb (f .number) 0) done (loading (f .number) 0 (f .line) m) in
     pick (withinLimits m) read (loading 11 0 0 m)
 

@@ -11,8 +11,8 @@ use Rattle.words.specs.Choice.{pick}
 use Rattle.words.specs.Sums.{addressOf}
 use Rattle.prom.specs.File.{File}
 use Rattle.prom.specs.Load.{beyondLine}
-use Rattle.prom.specs.Records.{hexValue, recordOf, sizeOf, addressField, typeOf}
-use Rattle.prom.specs.Text.{beginsLf, linesOf}
+use Rattle.prom.specs.Records.{hexValue, recordOf, hexSize, addressField, typeOf}
+use Rattle.prom.specs.Text.{beginsLf, hexLines}
 use Rattle.prom.specs.declared.Fields.{Fields}
 use Rattle.prom.specs.declared.Judged.{Judged}
 
@@ -23,7 +23,7 @@ firstOf (line ∷ lines) = line
 
 -- the first line of a text
 abbrev pub firstLine : List ℕ → List ℕ
-firstLine text = firstOf (linesOf text)
+firstLine text = firstOf (hexLines text)
 
 -- the digits that a text begins with
 unfoldable pub digitRun : List ℕ → List ℕ
@@ -44,10 +44,10 @@ endLength (b ∷ bs) = pick (eqb b 10) 1 2
 
 -- the fields of the good record that a text begins with, and where the next line begins
 pub record Fielded (text : List ℕ) (f : Fields) : Type 0 where
-  pub size : f .size ≡ sizeOf (recordOf (firstLine text))
+  pub size : f .size ≡ hexSize (recordOf (firstLine text))
   pub offset : f .offset ≡ addressField (recordOf (firstLine text))
   pub kind : f .kind ≡ typeOf (recordOf (firstLine text))
-  pub lines : linesOf text ≡ firstLine text ∷ linesOf (drop (f .next) text)
+  pub lines : hexLines text ≡ firstLine text ∷ hexLines (drop (f .next) text)
   pub onward : 0 < f .next
   pub inside : f .next ≤ length text
 

@@ -26,10 +26,10 @@ abbrev pub hexByte : ℕ → ℕ → ℕ
 hexByte high low = hexValue high * 16 + hexValue low
 
 -- the bytes that digits write, two for each
-unfoldable pub bytesOf : List ℕ → List ℕ
-bytesOf [] = []
-bytesOf (high ∷ []) = []
-bytesOf (high ∷ low ∷ rest) = hexByte high low ∷ bytesOf rest
+unfoldable pub hexBytes : List ℕ → List ℕ
+hexBytes [] = []
+hexBytes (high ∷ []) = []
+hexBytes (high ∷ low ∷ rest) = hexByte high low ∷ hexBytes rest
 
 -- what stands behind the first byte of a line, the colon
 abbrev pub digitsOf : List ℕ → List ℕ
@@ -37,11 +37,11 @@ digitsOf line = drop 1 line
 
 -- the bytes of a record: length, address, type, data, check byte
 abbrev pub recordOf : List ℕ → List ℕ
-recordOf line = bytesOf (digitsOf line)
+recordOf line = hexBytes (digitsOf line)
 
 -- how many data bytes a record says it has
-unfoldable pub sizeOf : List ℕ → ℕ
-sizeOf bytes = getD bytes 0 0
+unfoldable pub hexSize : List ℕ → ℕ
+hexSize bytes = getD bytes 0 0
 
 -- the word at a place of a record, high byte first
 abbrev pub wordFrom : List ℕ → ℕ → ℕ
@@ -57,7 +57,7 @@ typeOf bytes = getD bytes 3 0
 
 -- its data
 unfoldable pub dataBytes : List ℕ → List ℕ
-dataBytes bytes = take (sizeOf bytes) (drop 4 bytes)
+dataBytes bytes = take (hexSize bytes) (drop 4 bytes)
 
 -- the segment that a record of type 02 sets
 unfoldable pub segmentOf : List ℕ → ℕ
@@ -75,7 +75,7 @@ sumOf (b ∷ bs) = b + sumOf bs
 -- a line is a record: its colon, then digits alone, two for each byte, and besides its data five bytes
 unfoldable pub isRecord : List ℕ → Bool
 isRecord line =
-    eqb (getD line 0 0) 58 && (allHex (digitsOf line) && eqb (length (digitsOf line)) (2 * (sizeOf (recordOf line) + 5)))
+    eqb (getD line 0 0) 58 && (allHex (digitsOf line) && eqb (length (digitsOf line)) (2 * (hexSize (recordOf line) + 5)))
 
 -- the check byte makes all bytes sum to 0 mod 256
 unfoldable pub sumsToZero : List ℕ → Bool
@@ -89,4 +89,4 @@ fitsType kind size = eqb kind 0 || (eqb kind 1 && eqb size 0 || (eqb kind 2 && e
 unfoldable pub lineRefusal : List ℕ → ℕ
 lineRefusal line =
     let bytes = recordOf line in
-    pick (isRecord line) (pick (sumsToZero bytes) (pick (fitsType (typeOf bytes) (sizeOf bytes)) 0 22) 21) 20
+    pick (isRecord line) (pick (sumsToZero bytes) (pick (fitsType (typeOf bytes) (hexSize bytes)) 0 22) 21) 20

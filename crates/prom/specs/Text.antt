@@ -16,8 +16,8 @@ inFront b [] = (b ∷ []) ∷ []
 inFront b (line ∷ lines) = (b ∷ line) ∷ lines
 
 -- the lines of a text: an LF ends a line, a CR right before it belongs to that end, any other byte is the line's
-unfoldable pub linesOf : List ℕ → List (List ℕ)
-linesOf [] = []
-linesOf (b ∷ bs) =
-    let rest = linesOf bs in
+unfoldable pub hexLines : List ℕ → List (List ℕ)
+hexLines [] = []
+hexLines (b ∷ bs) =
+    let rest = hexLines bs in
     pick (eqb b 10) ([] ∷ rest) (pick (eqb b 13 && beginsLf bs) rest (inFront b rest))

@@ -6,7 +6,7 @@ ghost use Prim.Native.Nat.{_+_, _*_, _%_, _<_, _≤_};
 ghost use lib.ListN.{length, getD, drop};
 ghost use Rattle.memory.specs.Buffers.{buffers, storeByte};
 ghost use Rattle.memory.specs.Places.{allLent};
-ghost use Rattle.prom.specs.Records.{hexValue, allHex, hexByte, fitsType, bytesOf, recordOf, sumOf, lineRefusal, typeOf};
+ghost use Rattle.prom.specs.Records.{hexValue, allHex, hexByte, fitsType, hexBytes, recordOf, sumOf, lineRefusal, typeOf};
 ghost use Rattle.prom.specs.File.{nextLine, segmentAfter, startAfter, storesFrom, storesOf};
 ghost use Rattle.prom.specs.Load.{loading, storeAll, textFile, loadOf, wordForC, packedWith};
 ghost use Rattle.prom.specs.Parts.{firstLine, digitRun, endsHere, endLength, Fielded, placesFrom, reachOf, foundFirst, judgedOf};
@@ -81,7 +81,7 @@ fn word(text: &[u8], at: usize) -> u32
 
 // The digits that a text begins with.
 fn run(text: &[u8]) -> Digits
-    ensures { λ r. ⌜ (r .count ≡ length (digitRun (now (text .entry)))) × (r .sum ≡ sumOf (bytesOf (digitRun (now (text .entry)))) % 256) ⌝ }
+    ensures { λ r. ⌜ (r .count ≡ length (digitRun (now (text .entry)))) × (r .sum ≡ sumOf (hexBytes (digitRun (now (text .entry)))) % 256) ⌝ }
 {
     let mut i = 0;
     let mut sum: u32 = 0;
@@ -293,7 +293,7 @@ fn store_at(sys: &mut [u8], address: u32, v: u8)
 // The bytes that digits write, stored from an offset on.
 fn put(digits: &[u8], sys: &mut [u8], segment: u32, offset: u32)
     requires { ⌜ (allHex (now digits) ≡ true) × (segment < 65536) × (offset < 65536) ⌝ }
-    ensures { λ r. ⌜ buffers (now (sys .exit)) [] ≡ storeAll (buffers (now (sys .entry)) []) (storesFrom 0 segment offset (bytesOf (now (digits .entry)))) ⌝ }
+    ensures { λ r. ⌜ buffers (now (sys .exit)) [] ≡ storeAll (buffers (now (sys .entry)) []) (storesFrom 0 segment offset (hexBytes (now (digits .entry)))) ⌝ }
 {
     let mut at = 0;
     let mut to = offset;

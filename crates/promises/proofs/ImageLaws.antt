@@ -21,7 +21,7 @@ use Rattle.memory.specs.Values.{pointer}
 use Rattle.memory.specs.declared.Pointer.{Pointer}
 use Rattle.words.specs.Choice.{pick}
 use Rattle.promises.specs.Cases.{Stand}
-use Rattle.promises.specs.Image.{put, placed, copyOf, imageIn, ReadyMet}
+use Rattle.promises.specs.Image.{put, layoutOf, copyOf, imageIn, ReadyMet}
 use Rattle.promises.specs.Met.{zerosOf, zeros}
 use Rattle.promises.specs.Premises.{Lent}
 use Rattle.promises.specs.Program.{Job, Layout, systemPlace, fromPlace, intoPlace, blockAt, busyAt, doubleword, programOf, mostBy, mostOf, Ready, RunCopies, runIn, RowMade}
@@ -97,7 +97,7 @@ whole-stand : (m : Buffers) (a : ℕ) (vs : List ℕ) → length vs ≤ 65536 �
 whole-stand m a vs fit h = put-stand m a vs fit (λ i _. whole-lent m (a + i) h)
 
 -- the block is at 0 or 8
-block-low : (b : Bool) → blockAt (placed b) ≤ 8
+block-low : (b : Bool) → blockAt (layoutOf b) ≤ 8
 unfolding blockOf freshState
 block-low true = lit≤ tt
 block-low false = lit≤ tt
@@ -123,7 +123,7 @@ module _ (m : Buffers) (whole : 1048576 ≤ length (spaceOf m false)) (fit : ¬ 
   j = copyOf fromOdd intoOdd fromWide intoWide n
 
   abbrev l : Layout
-  l = placed b
+  l = layoutOf b
 
   abbrev m₁ : Buffers
   m₁ = put m (blockAt l) (0x03 ∷ [])
@@ -233,16 +233,16 @@ module _ (b fromOdd intoOdd fromWide intoWide : Bool) (n : ℕ) (some : 1 ≤ n)
   copied = copyOf fromOdd intoOdd fromWide intoWide n
 
   abbrev image : Buffers
-  image = imageIn zeros copied (placed b)
+  image = imageIn zeros copied (layoutOf b)
 
-  zeros-ready : Ready copied (placed b) image 0 65535
+  zeros-ready : Ready copied (layoutOf b) image 0 65535
   zeros-ready =
       ready-met zeros (omega (arith, zeros-whole 1048576)) (told-limits zeros .holds zeros-within) b fromOdd intoOdd fromWide intoWide n 0 some most (lit< tt)
 
   -- the program copies in it, for either channel, from odd or even to odd or even, by all widths and for every n that fits
-  pub zeros-copied : RunCopies copied (placed b) image (runIn (placed b) image 0 65535)
-  zeros-copied = showpiece copied (placed b) image 0 65535 zeros-ready
+  pub zeros-copied : RunCopies copied (layoutOf b) image (runIn (layoutOf b) image 0 65535)
+  zeros-copied = showpiece copied (layoutOf b) image 0 65535 zeros-ready
 
   -- and demand 3's row is in that run, made by fresh, attention and XFER
-  pub zeros-row : RowMade copied (placed b) image 0
-  zeros-row = row-made copied (placed b) image 0 65535 zeros-ready
+  pub zeros-row : RowMade copied (layoutOf b) image 0
+  zeros-row = row-made copied (layoutOf b) image 0 65535 zeros-ready

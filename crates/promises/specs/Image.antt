@@ -14,8 +14,8 @@ put m address [] = m
 put m address (v ∷ vs) = put (storeByte m false address v) (address + 1) vs
 
 -- CP 0, of either channel; the parameter block at 10h and the program at 20h
-abbrev pub placed : Bool → Layout
-placed second = record { cp = 0; second = second; pbOffset = 0x10; pbSegment = 0; programOffset = 0x20; programSegment = 0 }
+abbrev pub layoutOf : Bool → Layout
+layoutOf second = record { cp = 0; second = second; pbOffset = 0x10; pbSegment = 0; programOffset = 0x20; programSegment = 0 }
 
 -- n bytes from 40h or 41h to 10050h or 10051h, by any widths
 abbrev pub copyOf : Bool → Bool → Bool → Bool → ℕ → Job
@@ -43,4 +43,4 @@ abbrev pub ReadyMet : Type 0
 ReadyMet =
     (m : Buffers) → 1048576 ≤ length (spaceOf m false) → ¬ (TooLong m) → (second fromOdd intoOdd fromWide intoWide : Bool) (n lines : ℕ)
     → 1 ≤ n → n ≤ mostOf (copyOf fromOdd intoOdd fromWide intoWide n) → lines < 16
-    → Ready (copyOf fromOdd intoOdd fromWide intoWide n) (placed second) (imageIn m (copyOf fromOdd intoOdd fromWide intoWide n) (placed second)) lines 65535
+    → Ready (copyOf fromOdd intoOdd fromWide intoWide n) (layoutOf second) (imageIn m (copyOf fromOdd intoOdd fromWide intoWide n) (layoutOf second)) lines 65535

@@ -12,7 +12,7 @@ use Rattle.memory.specs.Buffers.{buffers}
 use Rattle.prom.specs.File.{fileOf}
 use Rattle.prom.specs.Load.{textFile}
 use Rattle.prom.specs.Parts.{judgedOf}
-use Rattle.prom.specs.Text.{linesOf}
+use Rattle.prom.specs.Text.{hexLines}
 use Rattle.prom.proofs.LoopLaws.{offset-below, size-below, segment-below, partAt, judged-last, here-bad, here-end, here-next, here-judged}
 use Rattle.prom.proofs.judge.Statement.{statement}
 use Rattle.prom.proofs.judge.Tie as tie
@@ -20,7 +20,7 @@ use Rattle.prom.proofs.judge.Tie as tie
 abbrev Inv-loop : tie.InvT-loop
 Inv-loop text sys at₀ segment₀ start₀ line₀ beyond₀ at segment start line beyond = (at ≤ length text)
     × (segment < 65536)
-    × (judgedOf (buffers sys []) beyond (fileOf (linesOf (drop at text)) segment start line) ≡ judgedOf (buffers sys []) 0 (textFile text))
+    × (judgedOf (buffers sys []) beyond (fileOf (hexLines (drop at text)) segment start line) ≡ judgedOf (buffers sys []) 0 (textFile text))
 
 abbrev μ-loop : tie.MeasureT-loop
 μ-loop text sys at₀ segment₀ start₀ line₀ beyond₀ at segment start line beyond = length text - at
@@ -49,7 +49,7 @@ returns c = let s = c .before .before .before .before .before .before .before .b
     let l = c .before .before .before .before .before .loop in
     let t = now (s .args .text) in
     let m = buffers (now (s .args .sys)) [] in
-    judged-last m (l .beyond) (c .before .line-number .result) (c .before .before .next-line .result) 0 (fileOf (linesOf (drop (l .at) t)) (l .segment) (l .start) (l .line))
+    judged-last m (l .beyond) (c .before .line-number .result) (c .before .before .next-line .result) 0 (fileOf (hexLines (drop (l .at) t)) (l .segment) (l .start) (l .line))
     (here-bad t (l .at) (c .before .before .before .before .loop-test .taken) (l .segment) (l .start) (l .line) (λ e. c .if1 .taken (c .before .line-number .ensures ∙ e)) ∙ rw (c .before .line-number .ensures, c .before .before .next-line .ensures))
     ∙ l .inv .2
 
@@ -61,7 +61,7 @@ returns-2 c = let s = c .before .before .before .before .before .before .before 
     let l = c .before .before .before .before .before .before .before .before .loop in
     let t = now (s .args .text) in
     let m = buffers (now (s .args .sys)) [] in
-    judged-last m (l .beyond) 0 0 (l .start) (fileOf (linesOf (drop (l .at) t)) (l .segment) (l .start) (l .line))
+    judged-last m (l .beyond) 0 0 (l .start) (fileOf (hexLines (drop (l .at) t)) (l .segment) (l .start) (l .line))
     (here-end t (l .at) (c .before .before .before .before .before .before .before .loop-test .taken) (l .segment) (l .start) (l .line) (sym (c .before .before .before .before .line-number .ensures) ∙ c .before .before .before .if1 .left) (sym (c .before .before .read-fields .ensures .kind) ∙ c .if2 .taken))
     ∙ l .inv .2
 
@@ -106,13 +106,13 @@ loop-again c = let t = now (c .before .before .before .before .before .before .b
     )
 
 returns-3 : tie.Need-returns-3 Inv-loop μ-loop
-unfolding fileOf linesOf
+unfolding fileOf hexLines
 returns-3 c = let s = c .before .before .before .before in
     let l = c .before .loop in
     let t = now (s .args .text) in
     let m = buffers (now (s .args .sys)) [] in
-    judged-last m (l .beyond) 23 (l .line) 0 (fileOf (linesOf (drop (l .at) t)) (l .segment) (l .start) (l .line))
-    (ap (λ (d : List ℕ). fileOf (linesOf d) (l .segment) (l .start) (l .line)) (drop-of-length-le t (c .loop-test .left)))
+    judged-last m (l .beyond) 23 (l .line) 0 (fileOf (hexLines (drop (l .at) t)) (l .segment) (l .start) (l .line))
+    (ap (λ (d : List ℕ). fileOf (hexLines d) (l .segment) (l .start) (l .line)) (drop-of-length-le t (c .loop-test .left)))
     ∙ l .inv .2
 
 pub judge-spec : {M : Type 1} → statement M

@@ -10,7 +10,7 @@ use native.Mathlib.Omega.{arith}
 use Rattle.memory.specs.Buffers.{Buffers, buffers}
 use Rattle.prom.specs.File.{storesFrom}
 use Rattle.prom.specs.Load.{storeAll}
-use Rattle.prom.specs.Records.{bytesOf}
+use Rattle.prom.specs.Records.{hexBytes}
 use Rattle.prom.proofs.LoopLaws.{put-step, put-last}
 use Rattle.prom.proofs.put.Statement.{statement}
 use Rattle.prom.proofs.put.Tie as tie
@@ -19,7 +19,7 @@ abbrev Inv-loop : tie.InvT-loop
 Inv-loop digits sys₀ segment offset at₀ to₀ sys at to = (at ≤ length digits)
     × (length sys ≡ length sys₀)
     × (to < 65536)
-    × (storeAll (buffers sys []) (storesFrom 0 segment to (bytesOf (drop at digits))) ≡ storeAll (buffers sys₀ []) (storesFrom 0 segment offset (bytesOf digits)))
+    × (storeAll (buffers sys []) (storesFrom 0 segment to (hexBytes (drop at digits))) ≡ storeAll (buffers sys₀ []) (storesFrom 0 segment offset (hexBytes digits)))
 
 abbrev μ-loop : tie.MeasureT-loop
 μ-loop digits sys₀ segment offset at₀ to₀ sys at to = length digits - at
@@ -61,7 +61,7 @@ loop-again c = let s = c .before .before .before .before .before .before .before
       omega (arith, c .before .before .before .before .before .loop-test .taken),
       c .before .before .store-at .kept .0 ∙ l .inv .1,
       omega arith,
-      ap (λ (m : Buffers). storeAll m (storesFrom 0 (s .args .segment) ((l .to + 1) % 65536) (bytesOf (drop (l .at + 2) ds))))
+      ap (λ (m : Buffers). storeAll m (storesFrom 0 (s .args .segment) ((l .to + 1) % 65536) (hexBytes (drop (l .at + 2) ds))))
           (rw (c .before .before .before .before .pair .ensures) at (c .before .before .store-at .ensures))
           ∙ sym (put-step (buffers (l .sys) []) (s .args .segment) (l .to) (l .at) ds (s .pre .0) (c .before .before .before .before .before .loop-test .taken) (l .inv .2))
           ∙ l .inv .3,

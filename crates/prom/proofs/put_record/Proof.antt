@@ -9,7 +9,7 @@ use native.Mathlib.Omega.{arith}
 use Rattle.prom.specs.File.{storesOf}
 use Rattle.prom.specs.Load.{storeAll}
 use Rattle.prom.specs.Parts.{firstLine}
-use Rattle.prom.specs.Records.{recordOf, sizeOf, typeOf}
+use Rattle.prom.specs.Records.{recordOf, hexSize, typeOf}
 use Rattle.prom.proofs.LoopLaws.{offset-below, size-below, data-digits, data-all}
 use Rattle.prom.proofs.RecordLaws.{good-length, good-inside}
 use Rattle.prom.proofs.put_record.Statement.{statement}
@@ -47,7 +47,7 @@ put-requires : tie.Need-put-requires
 put-requires c κs = let s = c .before .before .before .before .before .before .before in
     let t = now (s .args .text) in
     let e = s .pre .0 in
-    let count : s .args .f .size * 2 + 9 - 9 ≡ sizeOf (recordOf (firstLine t)) * 2 = omega (arith, s .pre .2 .size) in
+    let count : s .args .f .size * 2 + 9 - 9 ≡ hexSize (recordOf (firstLine t)) * 2 = omega (arith, s .pre .2 .size) in
     (rw count (data-all t e), s .pre .1, omega (arith, s .pre .2 .offset, offset-below t e))
 
 same-length : tie.Need-same-length
@@ -58,7 +58,7 @@ unfolding storesOf
 returns-2 c = let s = c .before .before .before .before .before .before .before .before .before .before in
     let t = now (s .args .text) in
     let kind = sym (s .pre .2 .kind) ∙ c .before .before .before .before .before .before .if1 .left in
-    let count : s .args .f .size * 2 + 9 - 9 ≡ sizeOf (recordOf (firstLine t)) * 2 = omega (arith, s .pre .2 .size) in
+    let count : s .args .f .size * 2 + 9 - 9 ≡ hexSize (recordOf (firstLine t)) * 2 = omega (arith, s .pre .2 .size) in
     c .before .before .put .ensures
     ∙ rw (eq-eqb (typeOf (recordOf (firstLine t))) 0 kind, data-digits t (s .pre .0), s .pre .2 .offset, count)
 

@@ -7,7 +7,7 @@ use lib.ListN.{length, getD}
 use mathlib.Core.Path.{_≡_, sym, _∙_}
 use native.Mathlib.Omega.{arith}
 use Rattle.prom.specs.Parts.{firstLine}
-use Rattle.prom.specs.Records.{sizeOf, addressField, typeOf}
+use Rattle.prom.specs.Records.{hexSize, addressField, typeOf}
 use Rattle.prom.proofs.DigitLaws.{digit-most}
 use Rattle.prom.proofs.RecordLaws.{good-length, good-inside, good-next, record-byte, record-word}
 use Rattle.prom.proofs.read_fields.Statement.{statement}
@@ -35,13 +35,13 @@ cast-after-end : tie.Need-cast-after-end
 cast-after-end c = search needs
 
 after-end-requires : tie.Need-after-end-requires
-unfolding sizeOf
+unfolding hexSize
 after-end-requires c κs = let t = now (c .before .before .before .before .args .text) in
     let e = c .before .before .before .before .pre in
     omega (arith, good-length t e, good-inside t e, record-byte t e 0 1 (omega arith) (omega (arith, good-length t e)), c .before .before .pair .ensures)
 
 returns : tie.Need-returns
-unfolding sizeOf addressField typeOf
+unfolding hexSize addressField typeOf
 returns c = let t = now (c .before .before .before .before .before .args .text) in
     let e = c .before .before .before .before .before .pre in
     let long = good-length t e in

@@ -6,7 +6,7 @@ use mathlib.Core.Path.{sym, _∙_}
 use native.Mathlib.Omega.{arith}
 use Rattle.prom.specs.File.{segmentAfter}
 use Rattle.prom.specs.Parts.{firstLine}
-use Rattle.prom.specs.Records.{recordOf, typeOf, sizeOf, segmentOf}
+use Rattle.prom.specs.Records.{recordOf, typeOf, hexSize, segmentOf}
 use Rattle.prom.proofs.RecordLaws.{good, good-length, good-inside, record-word, fits-two}
 use Rattle.prom.proofs.segment_after.Statement.{statement}
 use Rattle.prom.proofs.segment_after.Tie as tie
@@ -21,7 +21,7 @@ unfolding segmentAfter segmentOf
 returns c = let s = c .before .before .before in
     let t = now (s .args .text) in
     let kind = sym (s .pre .1) ∙ c .before .if1 .taken in
-    let size = fits-two (typeOf (recordOf (firstLine t))) (sizeOf (recordOf (firstLine t))) kind (good (firstLine t) (s .pre .0) .known) in
+    let size = fits-two (typeOf (recordOf (firstLine t))) (hexSize (recordOf (firstLine t))) kind (good (firstLine t) (s .pre .0) .known) in
     rw (eq-eqb (typeOf (recordOf (firstLine t))) 2 kind)
     (c .word .ensures ∙ sym (record-word t (s .pre .0) 4 9 (omega arith) (omega (arith, good-length t (s .pre .0), size))))
 

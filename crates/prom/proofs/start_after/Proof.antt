@@ -7,7 +7,7 @@ use mathlib.Core.Path.{sym, _∙_}
 use native.Mathlib.Omega.{arith}
 use Rattle.prom.specs.File.{startAfter}
 use Rattle.prom.specs.Parts.{firstLine}
-use Rattle.prom.specs.Records.{recordOf, typeOf, sizeOf, startOf}
+use Rattle.prom.specs.Records.{recordOf, typeOf, hexSize, startOf}
 use Rattle.prom.proofs.DigitLaws.{digit-most}
 use Rattle.prom.proofs.RecordLaws.{good, good-length, good-inside, record-word, fits-four}
 use Rattle.prom.proofs.start_after.Statement.{statement}
@@ -25,7 +25,7 @@ mul-result c = let t = now (c .before .before .before .args .text) in
 word-requires-2 : tie.Need-word-requires-2
 word-requires-2 c κs = let s = c .before .before .before in
     let t = now (s .args .text) in
-    let size = fits-four (typeOf (recordOf (firstLine t))) (sizeOf (recordOf (firstLine t))) (sym (s .pre .1) ∙ c .before .if1 .taken) (good (firstLine t) (s .pre .0) .known) in
+    let size = fits-four (typeOf (recordOf (firstLine t))) (hexSize (recordOf (firstLine t))) (sym (s .pre .1) ∙ c .before .if1 .taken) (good (firstLine t) (s .pre .0) .known) in
     omega (arith, good-length t (s .pre .0), good-inside t (s .pre .0), size)
 
 add-result : tie.Need-add-result
@@ -37,7 +37,7 @@ unfolding startAfter startOf
 returns c = let s = c .before .before .before .before in
     let t = now (s .args .text) in
     let kind = sym (s .pre .1) ∙ c .before .before .if1 .taken in
-    let size = fits-four (typeOf (recordOf (firstLine t))) (sizeOf (recordOf (firstLine t))) kind (good (firstLine t) (s .pre .0) .known) in
+    let size = fits-four (typeOf (recordOf (firstLine t))) (hexSize (recordOf (firstLine t))) kind (good (firstLine t) (s .pre .0) .known) in
     let cs = c .before .word .ensures ∙ sym (record-word t (s .pre .0) 4 9 (omega arith) (omega (arith, good-length t (s .pre .0), size))) in
     let ip = c .word2 .ensures ∙ sym (record-word t (s .pre .0) 6 13 (omega arith) (omega (arith, good-length t (s .pre .0), size))) in
     rw (eq-eqb (typeOf (recordOf (firstLine t))) 3 kind, cs, ip)

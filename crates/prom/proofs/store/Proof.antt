@@ -11,7 +11,7 @@ use native.Mathlib.Omega.{arith}
 use Rattle.memory.specs.Buffers.{buffers}
 use Rattle.prom.specs.File.{File, fileOf}
 use Rattle.prom.specs.Load.{storeAll, textFile}
-use Rattle.prom.specs.Text.{linesOf}
+use Rattle.prom.specs.Text.{hexLines}
 use Rattle.prom.proofs.LoopLaws.{segment-below, partAt, here-end, here-good, here-next, here-stored, here-number}
 use Rattle.prom.proofs.store.Statement.{statement}
 use Rattle.prom.proofs.store.Tie as tie
@@ -20,8 +20,8 @@ abbrev Inv-loop : tie.InvT-loop
 Inv-loop text sys₀ at₀ segment₀ sys at segment = (at ≤ length text)
     × (length sys ≡ length sys₀)
     × (segment < 65536)
-    × (fileOf (linesOf (drop at text)) segment 0 0 .number ≡ 0)
-    × (storeAll (buffers sys []) (fileOf (linesOf (drop at text)) segment 0 0 .stores) ≡ storeAll (buffers sys₀ []) (textFile text .stores))
+    × (fileOf (hexLines (drop at text)) segment 0 0 .number ≡ 0)
+    × (storeAll (buffers sys []) (fileOf (hexLines (drop at text)) segment 0 0 .stores) ≡ storeAll (buffers sys₀ []) (textFile text .stores))
 
 abbrev μ-loop : tie.MeasureT-loop
 μ-loop text sys₀ at₀ segment₀ sys at segment = length text - at
@@ -93,10 +93,10 @@ same-length-2 : tie.Need-same-length-2 Inv-loop μ-loop
 same-length-2 c = c .before .loop .inv .1
 
 returns-2 : tie.Need-returns-2 Inv-loop μ-loop
-unfolding fileOf linesOf
+unfolding fileOf hexLines
 returns-2 c = let l = c .before .loop in
     let t = now (c .before .before .before .before .args .text) in
-    absurd (omega (arith, sym (ap (λ (d : List ℕ). fileOf (linesOf d) (l .segment) 0 0 .number) (drop-of-length-le t (c .loop-test .left))) ∙ l .inv .3))
+    absurd (omega (arith, sym (ap (λ (d : List ℕ). fileOf (hexLines d) (l .segment) 0 0 .number) (drop-of-length-le t (c .loop-test .left))) ∙ l .inv .3))
 
 pub store-spec : {M : Type 1} → statement M
 store-spec =
