@@ -39,3 +39,4 @@ pub mod SheetTurns
 pub mod SheetTransfer
 pub mod Sheet
 pub mod SheetWitness
+pub mod Determined
