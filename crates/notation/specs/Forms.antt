@@ -71,7 +71,7 @@ dataFrom bytes at two = getD bytes at 0 ∷ pick two (getD bytes (at + 1) 0 ∷ 
 abbrev pub reachFrom : List ℕ → ℕ → Bool → ℕ
 reachFrom bytes at two = pick two (extended 16 (wordOf (getD bytes at 0) (getD bytes (at + 1) 0))) (extended 8 (getD bytes at 0))
 
--- the address that a jump goes to: "Displacements are signed, from the instruction's end"; addresses count mod 65,536
+-- the address that a jump goes to, counted from the instruction's end; addresses count mod 65,536
 unfoldable pub targetOf : ℕ → ℕ → ℕ
 targetOf end reach = (end + reach) % 65536
 

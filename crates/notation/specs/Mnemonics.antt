@@ -11,14 +11,15 @@ use Rattle.decode_shapes.specs.declared.Shape.{Shape}
 use Rattle.decode_shapes.specs.declared.Shape.the-variants.{Nop, Sintr, Xfer, Wid, Hlt, Lpdi, RegisterImmediate, Register, JumpRegister, RegisterMemory, MemoryRegister, MemoryImmediate, MemoryAlone, JumpMemory, Lpd, MovpLoad, MovpStore, MovMemory, Tsl, Call, JumpMasked, JumpBit, Bit}
 use Rattle.notation.specs.Characters.{ascii}
 
--- dd 10: "If the mnemonic begins with the letter 'L,' the transfer is long"
+-- dd 10: a displacement of two bytes is a long transfer
 abbrev pub longMark : Bool → List ℕ
 longMark two = pick two (ascii "L") []
 
--- W 0: "Add Byte Variable"
+-- W 0: the operand is a byte
 abbrev pub byteMark : Bool → List ℕ
 byteMark wide = pick wide [] (ascii "B")
 
+-- the stems of what has two operands, and of what has one
 abbrev pub workStem : Work → List ℕ
 workStem Work.Mov = ascii "MOV"
 workStem Work.Add = ascii "ADD"
@@ -31,7 +32,7 @@ singleStem Single.Not = ascii "NOT"
 singleStem Single.Inc = ascii "INC"
 singleStem Single.Dec = ascii "DEC"
 
--- "JMP is ADDI to TP"
+-- a jump is an immediate added to TP
 unfoldable pub isJump : Work → ℕ → Bool
 isJump Work.Mov rrr = false
 isJump Work.Add rrr = eqb rrr 4

@@ -4,13 +4,16 @@ use crate::pieces;
 use crate::pieces::Pieces;
 use decode_shapes::Memory;
 use decode_shapes::Shape;
+use decode_shapes::Work;
 ghost use mathlib.Core.Path.{_≡_};
 ghost use mathlib.Core.List.{[], _∷_};
 ghost use lib.Dec.{eqb};
 ghost use lib.ListN.{getD};
 ghost use Rattle.words.specs.Choice.{pick};
 ghost use Rattle.notation.specs.Characters.{numberText, heldIn, heldIn4};
-ghost use Rattle.notation.specs.Forms.{widthOf, afterOffset, slotsOf, dataFrom, reachFrom, targetOf, wordBytes, filled, registerName, baseName, modeText, offsetText, following};
+ghost use Rattle.notation.specs.Mnemonics.{isJump};
+ghost use Rattle.notation.specs.declared.forms.Slot.the-variants.{Empty, Name, Number, Target};
+ghost use Rattle.notation.specs.Forms.{widthOf, afterOffset, slots, slotsOf, dataFrom, reachFrom, targetOf, wordBytes, filled, registerName, baseName, modeText, offsetText, following};
 
 // A place for an operand: none, a register, memory and where its offset byte lies, a number or a jump's target and where its
 // bytes lie and whether there are two, a bit or a width.
@@ -44,139 +47,103 @@ fn after_offset(m: Memory) -> u32
     2 + decode::offset_length(m)
 }
 
+// No operand.
+fn bare() -> Slots
+    ensures { λ r. ⌜ r ≡ slots Empty Empty Empty ⌝ }
+{
+    Slots {
+        first: Slot::Empty,
+        second: Slot::Empty,
+        third: Slot::Empty,
+    }
+}
+
+// One operand.
+fn alone(a: Slot) -> Slots
+    ensures { λ r. ⌜ r ≡ slots a Empty Empty ⌝ }
+{
+    Slots {
+        first: a,
+        second: Slot::Empty,
+        third: Slot::Empty,
+    }
+}
+
+// Two operands.
+fn both(a: Slot, b: Slot) -> Slots
+    ensures { λ r. ⌜ r ≡ slots a b Empty ⌝ }
+{
+    Slots {
+        first: a,
+        second: b,
+        third: Slot::Empty,
+    }
+}
+
+// The target of a jump behind a memory operand.
+fn jump(m: Memory, two: bool) -> Slot
+    ensures { λ r. ⌜ r ≡ Target (afterOffset m) two ⌝ }
+{
+    Slot::Target(after_offset(m), two)
+}
+
+// An immediate to a register, or a jump.
+fn immediate(work: Work, rrr: u32, wide: bool) -> Slots
+    ensures { λ r. ⌜ r ≡ pick (isJump work rrr) (slots (Target 2 wide) Empty Empty) (slots (Name rrr) (Number 2 wide) Empty) ⌝ }
+{
+    if mnemonics::is_jump(work, rrr) {
+        alone(Slot::Target(2, wide))
+    } else {
+        both(Slot::Name(rrr), Slot::Number(2, wide))
+    }
+}
+
 // The places of an instruction's operands.
 pub fn slots_of(s: Shape, to: Memory) -> Slots
     ensures { λ r. ⌜ r ≡ slotsOf s to ⌝ }
 {
     match s {
-        Shape::Nop => Slots {
-            first: Slot::Empty,
-            second: Slot::Empty,
-            third: Slot::Empty,
-        },
-        Shape::Sintr => Slots {
-            first: Slot::Empty,
-            second: Slot::Empty,
-            third: Slot::Empty,
-        },
-        Shape::Xfer => Slots {
-            first: Slot::Empty,
-            second: Slot::Empty,
-            third: Slot::Empty,
-        },
+        Shape::Nop => bare(),
+        Shape::Sintr => bare(),
+        Shape::Xfer => bare(),
         Shape::Wid {
             source,
             destination,
-        } => Slots {
-            first: Slot::Digit(width(source)),
-            second: Slot::Digit(width(destination)),
-            third: Slot::Empty,
-        },
-        Shape::Hlt => Slots {
-            first: Slot::Empty,
-            second: Slot::Empty,
-            third: Slot::Empty,
-        },
+        } => both(Slot::Digit(width(source)), Slot::Digit(width(destination))),
+        Shape::Hlt => bare(),
         Shape::Lpdi { ppp } => Slots {
             first: Slot::Name(ppp),
             second: Slot::Number(2, true),
             third: Slot::Number(4, true),
         },
-        Shape::RegisterImmediate { work, rrr, wide } => {
-            if mnemonics::is_jump(work, rrr) {
-                Slots {
-                    first: Slot::Target(2, wide),
-                    second: Slot::Empty,
-                    third: Slot::Empty,
-                }
-            } else {
-                Slots {
-                    first: Slot::Name(rrr),
-                    second: Slot::Number(2, wide),
-                    third: Slot::Empty,
-                }
-            }
-        }
-        Shape::Register { rrr, .. } => Slots {
-            first: Slot::Name(rrr),
-            second: Slot::Empty,
-            third: Slot::Empty,
-        },
-        Shape::JumpRegister { rrr, two, .. } => Slots {
-            first: Slot::Name(rrr),
-            second: Slot::Target(2, two),
-            third: Slot::Empty,
-        },
-        Shape::RegisterMemory { rrr, m, .. } => Slots {
-            first: Slot::Name(rrr),
-            second: Slot::Place(m, 2),
-            third: Slot::Empty,
-        },
-        Shape::MemoryRegister { rrr, m, .. } => Slots {
-            first: Slot::Place(m, 2),
-            second: Slot::Name(rrr),
-            third: Slot::Empty,
-        },
-        Shape::MemoryImmediate { m, .. } => Slots {
-            first: Slot::Place(m, 2),
-            second: Slot::Number(after_offset(m), m.wide),
-            third: Slot::Empty,
-        },
-        Shape::MemoryAlone { m, .. } => Slots {
-            first: Slot::Place(m, 2),
-            second: Slot::Empty,
-            third: Slot::Empty,
-        },
-        Shape::JumpMemory { m, two, .. } => Slots {
-            first: Slot::Place(m, 2),
-            second: Slot::Target(after_offset(m), two),
-            third: Slot::Empty,
-        },
-        Shape::Lpd { ppp, m } => Slots {
-            first: Slot::Name(ppp),
-            second: Slot::Place(m, 2),
-            third: Slot::Empty,
-        },
-        Shape::MovpLoad { ppp, m } => Slots {
-            first: Slot::Name(ppp),
-            second: Slot::Place(m, 2),
-            third: Slot::Empty,
-        },
-        Shape::MovpStore { ppp, m } => Slots {
-            first: Slot::Place(m, 2),
-            second: Slot::Name(ppp),
-            third: Slot::Empty,
-        },
-        Shape::MovMemory { m } => Slots {
-            first: Slot::Place(to, after_offset(m) + 2),
-            second: Slot::Place(m, 2),
-            third: Slot::Empty,
-        },
+        Shape::RegisterImmediate { work, rrr, wide } => immediate(work, rrr, wide),
+        Shape::Register { rrr, .. } => alone(Slot::Name(rrr)),
+        Shape::JumpRegister { rrr, two, .. } => both(Slot::Name(rrr), Slot::Target(2, two)),
+        Shape::RegisterMemory { rrr, m, .. } => both(Slot::Name(rrr), Slot::Place(m, 2)),
+        Shape::MemoryRegister { rrr, m, .. } => both(Slot::Place(m, 2), Slot::Name(rrr)),
+        Shape::MemoryImmediate { m, .. } => both(
+            Slot::Place(m, 2),
+            Slot::Number(after_offset(m), m.wide),
+        ),
+        Shape::MemoryAlone { m, .. } => alone(Slot::Place(m, 2)),
+        Shape::JumpMemory { m, two, .. } => both(Slot::Place(m, 2), jump(m, two)),
+        Shape::Lpd { ppp, m } => both(Slot::Name(ppp), Slot::Place(m, 2)),
+        Shape::MovpLoad { ppp, m } => both(Slot::Name(ppp), Slot::Place(m, 2)),
+        Shape::MovpStore { ppp, m } => both(Slot::Place(m, 2), Slot::Name(ppp)),
+        Shape::MovMemory { m } => both(Slot::Place(to, after_offset(m) + 2), Slot::Place(m, 2)),
         Shape::Tsl { m } => Slots {
             first: Slot::Place(m, 2),
             second: Slot::Number(after_offset(m), false),
             third: Slot::Target(after_offset(m) + 1, false),
         },
-        Shape::Call { m, two } => Slots {
-            first: Slot::Place(m, 2),
-            second: Slot::Target(after_offset(m), two),
-            third: Slot::Empty,
-        },
-        Shape::JumpMasked { m, two, .. } => Slots {
-            first: Slot::Place(m, 2),
-            second: Slot::Target(after_offset(m), two),
-            third: Slot::Empty,
-        },
+        Shape::Call { m, two } => both(Slot::Place(m, 2), jump(m, two)),
+        Shape::JumpMasked { m, two, .. } => both(Slot::Place(m, 2), jump(m, two)),
         Shape::JumpBit { bit, m, two, .. } => Slots {
             first: Slot::Place(m, 2),
             second: Slot::Digit(bit),
-            third: Slot::Target(after_offset(m), two),
+            third: jump(m, two),
         },
-        Shape::Bit { bit, m, .. } => Slots {
-            first: Slot::Place(m, 2),
-            second: Slot::Digit(bit),
-            third: Slot::Empty,
-        },
+        Shape::Bit { bit, m, .. } => both(Slot::Place(m, 2), Slot::Digit(bit)),
     }
 }
 
@@ -276,7 +243,7 @@ fn target(bytes: &[u8], end: u32, at: u32, two: bool) -> u64
 }
 
 // An operand behind its separator.
-pub fn operand(separator: u64, bytes: &[u8], end: u32, slot: Slot) -> Pieces
+pub(crate) fn operand(separator: u64, bytes: &[u8], end: u32, slot: Slot) -> Pieces
     requires { ⌜ heldIn separator ≡ separator ∷ [] ⌝ }
     ensures { λ r. ⌜ heldIn4 r ≡ following separator (filled (now (bytes .entry)) end slot) ⌝ }
 {

@@ -53,7 +53,7 @@ pub fn digit(n: u32) -> u64
 }
 
 // Writes the characters of a number from an index on, and answers the index behind them.
-pub fn put(line: &mut [u8; 28], at: usize, piece: u64) -> usize
+pub(crate) fn put(line: &mut [u8; 28], at: usize, piece: u64) -> usize
     requires { ⌜ Fits (now line) at (heldIn piece) ⌝ }
     ensures { λ r. ⌜ Wrote (now (line .entry)) (now (line .exit)) at r (heldIn piece) ⌝ }
 {
@@ -68,7 +68,7 @@ pub fn put(line: &mut [u8; 28], at: usize, piece: u64) -> usize
 }
 
 // Writes the characters of four numbers.
-pub fn put_all(line: &mut [u8; 28], at: usize, p: Pieces) -> usize
+pub(crate) fn put_all(line: &mut [u8; 28], at: usize, p: Pieces) -> usize
     requires { ⌜ Fits (now line) at (heldIn4 p) ⌝ }
     ensures { λ r. ⌜ Wrote (now (line .entry)) (now (line .exit)) at r (heldIn4 p) ⌝ }
 {

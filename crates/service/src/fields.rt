@@ -17,7 +17,7 @@ pub fn byte(bytes: &[u8], at: usize) -> u8
 }
 
 // The word at an offset.
-pub fn word(bytes: &[u8], at: usize) -> u16
+pub(crate) fn word(bytes: &[u8], at: usize) -> u16
     requires { ⌜ at ≤ 126 ⌝ }
     ensures { λ r. ⌜ r ≡ littleIn 2 (now (bytes .entry)) at ⌝ }
 {
@@ -25,7 +25,7 @@ pub fn word(bytes: &[u8], at: usize) -> u16
 }
 
 // The long number at an offset.
-pub fn long(bytes: &[u8], at: usize) -> u32
+pub(crate) fn long(bytes: &[u8], at: usize) -> u32
     requires { ⌜ at ≤ 124 ⌝ }
     ensures { λ r. ⌜ r ≡ littleIn 4 (now (bytes .entry)) at ⌝ }
 {
@@ -74,7 +74,7 @@ pub fn put(bytes: &mut [u8], at: usize, v: u8)
 }
 
 // A word put at an offset.
-pub fn put_word(bytes: &mut [u8], at: usize, v: u16)
+pub(crate) fn put_word(bytes: &mut [u8], at: usize, v: u16)
     requires { ⌜ at ≤ 126 ⌝ }
     ensures { λ r. ⌜ now (bytes .exit) ≡ sets (now (bytes .entry)) at (littleEnd 2 v) ⌝ }
 {
@@ -83,7 +83,7 @@ pub fn put_word(bytes: &mut [u8], at: usize, v: u16)
 }
 
 // A long number put at an offset.
-pub fn put_long(bytes: &mut [u8], at: usize, v: u32)
+pub(crate) fn put_long(bytes: &mut [u8], at: usize, v: u32)
     requires { ⌜ at ≤ 124 ⌝ }
     ensures { λ r. ⌜ now (bytes .exit) ≡ sets (now (bytes .entry)) at (littleEnd 4 v) ⌝ }
 {
