@@ -1,6 +1,7 @@
 // Makes the calls of the script on standard input, one a line, on one machine, and prints what each answered; what was no call goes in words to standard error.
 use libc::STDERR_FILENO;
 use libc::STDIN_FILENO;
+use libc::STDOUT_FILENO;
 use script_text::text;
 use script_text::text::Call;
 ghost use mathlib.Core.Path.{_≡_};
@@ -79,7 +80,7 @@ fn complain(number: usize, call: Call) {
     }
 }
 
-// Makes the calls of a text, line by line.
+// Makes the calls of a text, line by line, and writes out what each shows.
 fn play(text: &[u8], sys: &mut [u8], io: &mut [u8])
     requires { ⌜ length (now text) ≤ 1048576 ⌝ }
     requires { ⌜ (1048577 ≡ length (now sys)) × (65537 ≡ length (now io)) ⌝ }
@@ -88,6 +89,7 @@ fn play(text: &[u8], sys: &mut [u8], io: &mut [u8])
     let start = fresh.state;
     let mut state = start;
     let mut lent = Lent { sys: 0, io: 0 };
+    let mut out = [0u8; 32768];
     let mut at: usize = 0;
     let mut number: usize = 0;
     while at < text.len() {
@@ -104,7 +106,10 @@ fn play(text: &[u8], sys: &mut [u8], io: &mut [u8])
             line,
             &mut sys[..sys_length],
             &mut io[..io_length],
+            &mut out,
         );
+        let count = r.count;
+        io::write_all(STDOUT_FILENO, &out[..count]);
         number += 1;
         if !r.made {
             complain(number, call);
@@ -146,7 +151,7 @@ fn main() {
         return;
     }
     if 1048576 < length {
-        script_prints::print(b"?\n");
+        io::write_all(STDOUT_FILENO, b"?\n");
         say(b"the text is longer than 1048576 bytes\n");
         return;
     }

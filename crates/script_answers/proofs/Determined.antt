@@ -1,16 +1,32 @@
--- The contract of `perform`, as the code has it, determines the machine that a line's call leaves and whether it was made.
+-- The contract of `perform`, as the code has it, determines the machine that a line's call leaves, whether it was made, and the buffer with its text.
 -- Assumes nothing.
+use Prim.Native.Nat.{ℕ}
 use borrow.Fn.Kinds.{Dens, resT, endedOf}
 use contract.Lifetimes.{Lfts}
 use denote.Ref.{now}
 use denote.Triple.Clauses.{AtExit}
+use mathlib.Core.List.{List}
 use mathlib.Core.Path.{_≡_, sym, _∙_}
-use Rattle.memory.specs.Buffers.{buffers}
+use Rattle.memory.specs.Buffers.{Buffers, buffers}
 use Rattle.script_answers.specs.Machine.{machine}
+use Rattle.script_answers.specs.declared.Performed.{Performed}
 use Rattle.script_answers.proofs.perform.Kinds as perform-kinds
 use Rattle.script_answers.proofs.perform.Reads as perform-reads
 
-pub perform-determined : (κs : Lfts 3) (a : Dens κs perform-kinds.ps) (r q : resT perform-kinds.r κs .Denot) (e f : AtExit (endedOf 3 perform-kinds.ps perform-kinds.r) κs)
+-- the answers, the machines and the texts of two outcomes are the same
+pub record SamePerformed (r q : Performed) (m m′ : Buffers) (out out′ : List ℕ) : Type 0 where
+  pub machines : machine (r .state) m ≡ machine (q .state) m′
+  pub made : r .made ≡ q .made
+  pub count : r .count ≡ q .count
+  pub text : out ≡ out′
+
+pub perform-determined : (κs : Lfts 4) (a : Dens κs perform-kinds.ps) (r q : resT perform-kinds.r κs .Denot) (e f : AtExit (endedOf 4 perform-kinds.ps perform-kinds.r) κs)
     → perform-reads.Post κs a r e → perform-reads.Post κs a q f
-    → (machine (r .state) (buffers (now (e .1 .1 .1 .0)) (now (e .1 .1 .1 .1 .0))) ≡ machine (q .state) (buffers (now (f .1 .1 .1 .0)) (now (f .1 .1 .1 .1 .0)))) × (r .made ≡ q .made)
-perform-determined κs a r q e f p w = (p .0 ∙ sym (w .0), p .1 ∙ sym (w .1))
+    → SamePerformed r q (buffers (now (e .1 .1 .1 .0)) (now (e .1 .1 .1 .1 .0))) (buffers (now (f .1 .1 .1 .0)) (now (f .1 .1 .1 .1 .0))) (now (e .1 .1 .1 .1 .1 .0)) (now (f .1 .1 .1 .1 .1 .0))
+perform-determined κs a r q e f p w =
+    record {
+      machines = p .0 ∙ sym (w .0);
+      made = p .1 .0 ∙ sym (w .1 .0);
+      count = p .1 .1 .size ∙ sym (w .1 .1 .size);
+      text = p .1 .1 .bytes ∙ sym (w .1 .1 .bytes);
+    }

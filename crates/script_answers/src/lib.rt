@@ -1,35 +1,45 @@
-// Makes a call of the script program's text on a machine, and prints what it answered.
+// Makes a call of the script program's text on a machine, and puts what it shows into a lent buffer.
 use machine::State;
 use script_text::buffers;
 use script_text::registers;
 use script_text::text;
 use script_text::text::Call;
-use step::Kind;
 ghost use mathlib.Core.Path.{_≡_};
 ghost use mathlib.Core.Bool.{true};
 ghost use Rattle.memory.specs.Buffers.{buffers};
+ghost use Rattle.machine.specs.States.{freshOf};
+ghost use Rattle.attention.specs.Attention.{attentionOf};
+ghost use Rattle.notation.specs.Characters.{ascii};
+ghost use Rattle.page.specs.Pages.{page, Behind, Printed};
 ghost use Rattle.script_text.specs.Text.{spanned, fourthSpan};
 ghost use Rattle.script_text.specs.Registers.{withNamed};
 ghost use Rattle.words.specs.Choice.{pick};
 ghost use Rattle.script_text.specs.Buffers.{hasRoom};
+ghost use Rattle.script_lines.specs.Lines.{answerLine, shownLine};
 ghost use Rattle.script_answers.specs.Machine.{machine, remade, putInto, machineAttended, machineAdvanced, callPerformed, callMade};
+ghost use Rattle.script_answers.specs.Shown.{advancedLine, putLine, callText};
 
-// The state after a line, and whether its call was made.
+// The state after a line, whether its call was made, and how many bytes its text has.
 pub struct Performed {
     pub state: State,
     pub made: bool,
+    pub count: usize,
 }
 
 // Makes every byte 0, and a fresh state.
-fn make(cp: u32, sys: &mut [u8], io: &mut [u8]) -> State
-    ensures { λ r. ⌜ machine r (buffers (now (sys .exit)) (now (io .exit))) ≡ remade (buffers (now (sys .entry)) (now (io .entry))) cp ⌝ }
+fn make(cp: u32, sys: &mut [u8], io: &mut [u8], out: &mut [u8]) -> Performed
+    ensures { λ r. ⌜ (machine (r .state) (buffers (now (sys .exit)) (now (io .exit))) ≡ remade (buffers (now (sys .entry)) (now (io .entry))) cp) × (r .made ≡ true) ⌝ }
+    ensures { λ r. ⌜ Behind (page (now (out .entry)) 0) (page (now (out .exit)) (r .count)) (answerLine (ascii "make ") (freshOf cp .number)) ⌝ }
 {
     buffers::clear(sys);
     buffers::clear(io);
     let fresh = machine::states::fresh(cp);
-    script_prints::print_answer(b"make ", fresh.number);
     let state = fresh.state;
-    state
+    Performed {
+        state,
+        made: true,
+        count: script_lines::answer_line(out, 0, b"make ", fresh.number),
+    }
 }
 
 // Writes the bytes that are a line's fourth word, and answers whether they were written.
@@ -42,108 +52,112 @@ fn put(io_space: bool, address: u32, line: &[u8], sys: &mut [u8], io: &mut [u8])
     let to = span.to;
     let digits = &line[from..to];
     if io_space {
-        let written = buffers::put(io, address as usize, digits);
-        script_prints::print_put(written);
-        return written;
+        return buffers::put(io, address as usize, digits);
     }
-    let written = buffers::put(sys, address as usize, digits);
-    script_prints::print_put(written);
-    written
+    buffers::put(sys, address as usize, digits)
 }
 
-// Sets a register.
-fn set(s: State, channel: u32, register: u64, value: u32) -> State
-    ensures { λ r. ⌜ r ≡ withNamed s channel register value ⌝ }
+// The line of `put`.
+fn put_line(out: &mut [u8], made: bool) -> usize
+    ensures { λ r. ⌜ Behind (page (now (out .entry)) 0) (page (now (out .exit)) r) (putLine made) ⌝ }
 {
-    script_prints::print(b"set 0\n");
-    registers::with_register(s, channel, register, value)
+    if made {
+        return script_lines::answer_line(out, 0, b"put ", 0);
+    }
+    page::append(out, 0, b"?\n")
 }
 
 // Gives a channel attention.
-fn attend(s: State, channel: u32, sys: &mut [u8], io: &mut [u8]) -> State
-    ensures { λ r. ⌜ machine r (buffers (now (sys .exit)) (now (io .exit))) ≡ machineAttended s (buffers (now (sys .entry)) (now (io .entry))) channel ⌝ }
+fn attend(s: State, channel: u32, sys: &mut [u8], io: &mut [u8], out: &mut [u8]) -> Performed
+    ensures { λ r. ⌜ (machine (r .state) (buffers (now (sys .exit)) (now (io .exit))) ≡ machineAttended s (buffers (now (sys .entry)) (now (io .entry))) channel) × (r .made ≡ true) ⌝ }
+    ensures { λ r. ⌜ Behind (page (now (out .entry)) 0) (page (now (out .exit)) (r .count)) (answerLine (ascii "ca ") (attentionOf s (buffers (now (sys .entry)) (now (io .entry))) channel .number)) ⌝ }
 {
     let a = attention::attention(s, sys, io, channel);
-    script_prints::print_answer(b"ca ", a.number);
     let state = a.state;
-    state
-}
-
-// The letter of a kind of step.
-fn letter(kind: Kind) -> u8 {
-    match kind {
-        Kind::Nothing => 46,
-        Kind::Instruction => 73,
-        Kind::Transfer => 84,
-        Kind::External => 88,
+    Performed {
+        state,
+        made: true,
+        count: script_lines::answer_line(out, 0, b"ca ", a.number),
     }
 }
 
 // Makes a step.
-fn advance(s: State, lines: u32, sys: &mut [u8], io: &mut [u8]) -> State
-    ensures { λ r. ⌜ machine r (buffers (now (sys .exit)) (now (io .exit))) ≡ machineAdvanced s (buffers (now (sys .entry)) (now (io .entry))) lines ⌝ }
+fn advance(s: State, lines: u32, sys: &mut [u8], io: &mut [u8], out: &mut [u8]) -> Performed
+    ensures { λ r. ⌜ (machine (r .state) (buffers (now (sys .exit)) (now (io .exit))) ≡ machineAdvanced s (buffers (now (sys .entry)) (now (io .entry))) lines) × (r .made ≡ true) ⌝ }
+    ensures { λ r. ⌜ Behind (page (now (out .entry)) 0) (page (now (out .exit)) (r .count)) (advancedLine s (buffers (now (sys .entry)) (now (io .entry))) lines) ⌝ }
 {
     let r = step::step(s, sys, io, lines);
     let kind = r.kind;
-    script_prints::print_step(r.number, r.channel, letter(kind));
     let state = r.state;
-    state
-}
-
-// Prints bytes of a buffer.
-fn show(io_space: bool, address: u32, sys: &[u8], io: &[u8]) {
-    if io_space {
-        script_prints::print_bytes(io, address);
-    } else {
-        script_prints::print_bytes(sys, address);
+    Performed {
+        state,
+        made: true,
+        count: script_lines::stepped_line(out, 0, r.number, r.channel, kind),
     }
 }
 
-// A state after a call that was made.
-fn made(state: State) -> Performed
-    ensures { λ r. ⌜ (r .state ≡ state) × (r .made ≡ true) ⌝ }
+// The line of bytes of a buffer.
+fn show(io_space: bool, address: u32, sys: &[u8], io: &[u8], out: &mut [u8]) -> usize
+    ensures { λ r. ⌜ Behind (page (now (out .entry)) 0) (page (now (out .exit)) r) (shownLine (pick «io_space» (now (io .entry)) (now (sys .entry))) address) ⌝ }
 {
-    Performed { state, made: true }
+    if io_space {
+        return script_lines::shown_line(out, 0, io, address);
+    }
+    script_lines::shown_line(out, 0, sys, address)
 }
 
 // Makes the call of a line, in the buffers that are lent after it.
-pub fn perform(s: State, call: Call, line: &[u8], sys: &mut [u8], io: &mut [u8]) -> Performed
+pub fn perform(
+    s: State,
+    call: Call,
+    line: &[u8],
+    sys: &mut [u8],
+    io: &mut [u8],
+    out: &mut [u8; 32768],
+) -> Performed
     ensures { λ r. ⌜ machine (r .state) (buffers (now (sys .exit)) (now (io .exit))) ≡ callPerformed call (now (line .entry)) s (buffers (now (sys .entry)) (now (io .entry))) ⌝ }
     ensures { λ r. ⌜ r .made ≡ callMade call (now (line .entry)) (buffers (now (sys .entry)) (now (io .entry))) ⌝ }
+    ensures { λ r. ⌜ Printed (now (out .entry)) (now (out .exit)) (r .count) (callText call (now (line .entry)) s (buffers (now (sys .entry)) (now (io .entry)))) ⌝ }
 {
     match call {
         Call::Nothing => Performed {
             state: s,
             made: true,
+            count: 0,
         },
-        Call::Unknown => {
-            script_prints::refuse();
-            Performed {
-                state: s,
-                made: false,
-            }
-        }
-        Call::Make(_, _, cp) => made(make(cp, sys, io)),
-        Call::Put(io_space, address) => Performed {
+        Call::Unknown => Performed {
             state: s,
-            made: put(io_space, address, line, sys, io),
+            made: false,
+            count: page::append(out, 0, b"?\n"),
         },
-        Call::Set(channel, register, value) => made(set(s, channel, register, value)),
-        Call::Attention(channel) => made(attend(s, channel, sys, io)),
-        Call::Step(lines) => made(advance(s, lines, sys, io)),
-        Call::Dump => {
-            script_prints::print_dump(s, sys, io);
+        Call::Make(_, _, cp) => make(cp, sys, io, out),
+        Call::Put(io_space, address) => {
+            let made = put(io_space, address, line, sys, io);
             Performed {
                 state: s,
-                made: true,
+                made,
+                count: put_line(out, made),
             }
         }
-        Call::Show(io_space, address) => {
-            show(io_space, address, sys, io);
+        Call::Set(channel, register, value) => {
+            let state = registers::with_register(s, channel, register, value);
             Performed {
-                state: s,
+                state,
                 made: true,
+                count: script_lines::answer_line(out, 0, b"set ", 0),
             }
         }
+        Call::Attention(channel) => attend(s, channel, sys, io, out),
+        Call::Step(lines) => advance(s, lines, sys, io, out),
+        Call::Dump => Performed {
+            state: s,
+            made: true,
+            count: script_lines::dump(out, 0, s, sys, io),
+        },
+        Call::Show(io_space, address) => Performed {
+            state: s,
+            made: true,
+            count: show(io_space, address, sys, io, out),
+        },
     }
 }

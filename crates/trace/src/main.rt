@@ -26,7 +26,7 @@ fn explain(number: u32) {
 
 fn main() {
     let mut image = [0u8; 4097];
-    let mut text = [0u8; 16384];
+    let mut text = [0u8; 32768];
     let length = io::read_full(STDIN_FILENO, &mut image);
     if os::errno() != 0 {
         os::fail(b"standard input");

@@ -1,33 +1,31 @@
--- The contract of `trace`, as the code has it, determines its answer, its text and the memory that it leaves.
+-- The contract of `trace`, as the code has it, determines its answer, the buffer with its text and the memory that it leaves.
 -- Assumes nothing.
 use Prim.Native.Nat.{ℕ}
 use borrow.Fn.Kinds.{Dens, resT, endedOf}
 use contract.Lifetimes.{Lfts}
 use denote.Ref.{now}
 use denote.Triple.Clauses.{AtExit}
-use lib.ListN.{length, take}
 use mathlib.Core.List.{List}
-use mathlib.Core.Path.{_≡_, sym, ap, _∙_}
+use mathlib.Core.Path.{_≡_, sym, _∙_}
 use Rattle.trace_text.proofs.trace.Kinds as trace-kinds
 use Rattle.trace_text.proofs.trace.Reads as trace-reads
 use Rattle.trace_text.specs.declared.Traced.{Traced}
 
--- the answers, the texts and the memories of two outcomes are the same
+-- the answers, the buffers and the memories of two outcomes are the same
 pub record SameTrace (r q : Traced) (out out′ sys sys′ : List ℕ) : Type 0 where
   pub number : r .number ≡ q .number
   pub steps : r .steps ≡ q .steps
   pub count : r .count ≡ q .count
-  pub text : take (r .count) out ≡ take (q .count) out′
+  pub text : out ≡ out′
   pub memory : sys ≡ sys′
 
 pub trace-determined : (κs : Lfts 2) (a : Dens κs trace-kinds.ps) (r q : resT trace-kinds.r κs .Denot) (e f : AtExit (endedOf 2 trace-kinds.ps trace-kinds.r) κs)
     → trace-reads.Post κs a r e → trace-reads.Post κs a q f → SameTrace r q (now (e .1 .0)) (now (f .1 .0)) (now (e .0)) (now (f .0))
 trace-determined κs a r q e f p w =
-    let text = p .1 .0 ∙ sym (w .1 .0) in
     record {
-      number = p .1 .1 .0 ∙ sym (w .1 .1 .0);
-      steps = p .1 .1 .1 ∙ sym (w .1 .1 .1);
-      count = p .0 .1 ∙ ap (λ (x : List ℕ). length x) text ∙ sym (w .0 .1);
-      text = text;
-      memory = p .1 .1 .2 ∙ sym (w .1 .1 .2);
+      number = p .1 .0 ∙ sym (w .1 .0);
+      steps = p .1 .1 ∙ sym (w .1 .1);
+      count = p .0 .size ∙ sym (w .0 .size);
+      text = p .0 .bytes ∙ sym (w .0 .bytes);
+      memory = p .1 .2 ∙ sym (w .1 .2);
     }

@@ -1,30 +1,28 @@
--- The laws of a text that grows: bytes put behind it, and the steps' text one step at a time.
+-- The laws of a trace's text: the steps' text one step at a time, and how long it is at most.
 -- Assumes nothing.
-use mathlib.Core.List.{List, [], _∷_, _++_, append-assoc}
-use mathlib.Core.Path.{_≡_, ap, _∙_}
-use Prim.Native.Nat.{ℕ, zero, suc, _+_, _-_, _<_}
-use native.Mathlib.Numerals.{add-one}
+use mathlib.Core.Bool.{Bool, true, false}
+use mathlib.Core.List.{List, [], _∷_, _++_}
+use mathlib.Core.Path.{_≡_, ap}
+use Prim.Native.Nat.{ℕ, zero, suc, _+_, _-_, _*_, _≤_, _<_}
 use native.Mathlib.Nat.{not-suc-le-zero}
 use native.Mathlib.Omega.{arith}
 use borrow.Author.Tests.{eq-eqb, ne-eqb}
-use lib.ListN.{length, take, getD, set}
-use lib.Seq.{take-suc, take-suc-set}
+use lib.Dec.{eqb, leb}
+use lib.ListN.{length, length-append}
+use Rattle.words.specs.Choice.{pick}
 use Rattle.memory.specs.Buffers.{Buffers}
 use Rattle.machine.specs.declared.State.{State}
-use Rattle.step.specs.Step.{stepOf}
-use Rattle.trace_text.specs.Line.{Behind, stepLine, endLine}
-use Rattle.trace_text.specs.Trace.{stepsText}
+use Rattle.machine.specs.Outcomes.{Outcome}
+use Rattle.machine.specs.States.{freshOf}
+use Rattle.attention.specs.Attention.{attentionOf}
+use Rattle.page.specs.Numbers.{hex, decimal, letter}
+use Rattle.page.proofs.NumberLaws.{hex-short, decimal-short}
+use Rattle.step.specs.Step.{Step, stepOf}
+use Rattle.step.specs.declared.Kind.{Kind}
+use Rattle.trace_text.specs.Line.{lineOf, stepLine, endLine}
+use Rattle.trace_text.specs.Trace.{stepsText, attendedText, tracedMemory, traceOf}
 
--- a piece behind a piece behind a text
-pub behind-both : {a b x q p : List ℕ} → Behind a b p → Behind b x q → Behind a x (q ++ p)
-behind-both {x = x} {q = q} {p = p} e f = record { is = e .is ∙ ap (λ (l : List ℕ). l ++ p) (f .is) ∙ append-assoc x q p }
-
--- one byte more of a piece behind a text
-pub one-more : (l p head : List ℕ) (at i : ℕ) → at + i < length l → i < length p → take (at + i) l ≡ head ++ take i p
-    → take (at + (i + 1)) (set l (at + i) (getD p i 0)) ≡ head ++ take (i + 1) p
-one-more l p head at i h hp e =
-    let n : at + (i + 1) ≡ suc (at + i) = omega arith in
-    rw (n, take-suc-set l (at + i) (getD p i 0), e, add-one i, take-suc p i 0, append-assoc head (take i p) (getD p i 0 ∷ []))
+-- ---- one step at a time
 
 -- a refused step is followed by the last line
 pub refused-text : (left : ℕ) (s : State) (m : Buffers) (done : ℕ) → 0 < left → (stepOf s m 0 .number ≡ 0 → ⊥)
@@ -47,3 +45,47 @@ done-text (suc left) s m done h e =
 pub limit-text : (left : ℕ) (s : State) (m : Buffers) (done : ℕ) → left ≡ 0 → stepsText left s m done ≡ endLine 0 done
 unfolding stepsText
 limit-text left s m done e = ap (λ (n : ℕ). stepsText n s m done) e
+
+-- ---- how long a text is
+
+-- the line of a step
+line-short : (number channel : ℕ) (kind : Kind) (tp : ℕ) → length (lineOf number channel kind tp) ≤ 30
+unfolding lineOf
+line-short number channel kind tp =
+    let pointed = hex false 5 tp ++ (10 ∷ []) in
+    let named = decimal channel ++ (32 ∷ letter kind ∷ 32 ∷ pointed) in
+    omega (arith, decimal-short number, decimal-short channel, hex-short false 5 tp, length-append (decimal number) (32 ∷ named), length-append (decimal channel) (32 ∷ letter kind ∷ 32 ∷ pointed), length-append (hex false 5 tp) (10 ∷ []))
+
+-- the last line
+end-short : (number steps : ℕ) → length (endLine number steps) ≤ 26
+unfolding endLine
+end-short number steps =
+    omega (arith, decimal-short number, decimal-short steps, length-append (decimal number) (32 ∷ (decimal steps ++ (10 ∷ []))), length-append (decimal steps) (10 ∷ []))
+
+-- the steps' text
+steps-short : (left : ℕ) (s : State) (m : Buffers) (done : ℕ) → length (stepsText left s m done) ≤ 30 * left + 26
+unfolding stepsText stepLine
+steps-short zero s m done = omega (arith, end-short 0 done)
+steps-short (suc left) s m done =
+    let o = stepOf s m 0 in
+    go (eqb (o .number) 0) (stepLine (done + 1) o) (stepsText left (o .state) (o .memory) (done + 1)) (endLine (o .number) done)
+    (line-short (done + 1) (o .channel) (o .kind) _) (steps-short left (o .state) (o .memory) (done + 1)) (end-short (o .number) done)
+  where
+    go : (b : Bool) (line rest last : List ℕ) → length line ≤ 30 → length rest ≤ 30 * left + 26 → length last ≤ 26
+        → length (pick b (line ++ rest) last) ≤ 30 * suc left + 26
+    go true line rest last h k l = omega (arith, length-append line rest)
+    go false line rest last h k l = omega arith
+
+-- a text that is picked of two is no longer than the longer
+either-short : (b : Bool) (x y : List ℕ) → length x ≤ 32768 → length y ≤ 32768 → length (pick b x y) ≤ 32768
+either-short true x y h k = h
+either-short false x y h k = k
+
+-- the whole text
+pub trace-short : (input : List ℕ) → length (traceOf input) ≤ 32768
+unfolding traceOf attendedText
+trace-short input =
+    let o = attentionOf (freshOf 0 .state) (tracedMemory input) 1 in
+    either-short (leb (length input) 4096) _ _
+    (either-short (eqb (o .number) 0) _ _ (omega (arith, steps-short 1000 (o .state) (o .memory) 0)) (omega (arith, end-short (o .number) 0)))
+    (omega (arith, end-short 11 0))

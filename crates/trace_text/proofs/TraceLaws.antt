@@ -3,12 +3,12 @@
 use mathlib.Core.Bool.{Bool, true, false}
 use mathlib.Core.List.{List, [], _∷_, _++_, append-assoc}
 use mathlib.Core.Path.{_≡_, refl, sym, ap, subst}
-use Prim.Native.Nat.{ℕ, zero, suc, _+_, _/_, _%_, _≤_, _<_}
+use Prim.Native.Nat.{ℕ, zero, suc, _+_, _-_, _≤_, _<_}
 use native.Mathlib.Omega.{arith}
 use native.Mathlib.Decide.{decLt}
 use borrow.Author.Tests.{ne-eqb, le-leb, lt-leb}
 use lib.Dec.{eqb, ltb, leb, lit≤}
-use lib.ListN.{length}
+use lib.ListN.{length, drop}
 use Rattle.words.specs.Choice.{pick}
 use Rattle.memory.specs.Buffers.{Buffers, limitOf, withinLimits}
 use Rattle.machine.specs.declared.State.{State}
@@ -20,7 +20,8 @@ use Rattle.step.specs.declared.Kind.{Kind}
 use Rattle.step.specs.declared.Kind.the-variants.{Nothing, Instruction, Transfer, External}
 use Rattle.panel.specs.Run.{Run, ran, stepsFrom, attendedRun, callNumber}
 use Rattle.panel.proofs.Outcomes.{attends}
-use Rattle.trace_text.specs.Line.{glyph, digitOfUnit, decimal, letter, ending, lineOf, stepLine, endLine}
+use Rattle.page.specs.Numbers.{glyph, eightDigits, hex, tenDigits, unpadded, decimal, letter}
+use Rattle.trace_text.specs.Line.{lineOf, stepLine, endLine}
 use Rattle.trace_text.specs.Trace.{stepsText, attendedText, tracedMemory, traceOf, tracedRun, lineFeeds, Shows}
 
 -- ---- a line ends once
@@ -32,7 +33,7 @@ feeds-both [] b = omega arith
 feeds-both (x ∷ a) b = omega (arith, feeds-both a b)
 
 -- a digit ends no line
-no-feed : (d : ℕ) → eqb (glyph d) 10 ≡ false
+no-feed : (d : ℕ) → eqb (glyph false d) 10 ≡ false
 unfolding glyph
 no-feed d = go (ltb d 10)
   where
@@ -40,19 +41,37 @@ no-feed d = go (ltb d 10)
     go true = ne-eqb (48 + d) 10 (λ e. omega arith)
     go false = ne-eqb (55 + d) 10 (λ e. omega arith)
 
--- nor does the digit of a unit
-no-feed-unit : (n unit : ℕ) → lineFeeds (digitOfUnit n unit) ≡ 0
-unfolding digitOfUnit lineFeeds
-no-feed-unit n unit = go (leb unit n)
-  where
-    go : (b : Bool) → lineFeeds (pick b (glyph (n / unit % 10) ∷ []) []) ≡ 0
-    go true = rw (no-feed (n / unit % 10))
-    go false = refl
+-- nor does what is left of characters that end none
+no-feed-behind : (k : ℕ) (text : List ℕ) → lineFeeds text ≡ 0 → lineFeeds (drop k text) ≡ 0
+unfolding lineFeeds
+no-feed-behind zero text h = h
+no-feed-behind (suc k) [] h = h
+no-feed-behind (suc k) (b ∷ text) h = no-feed-behind k text (omega arith)
 
--- nor a number
+-- nor does a number in hexadecimal
+no-feed-hex : (width n : ℕ) → lineFeeds (hex false width n) ≡ 0
+unfolding hex eightDigits lineFeeds
+no-feed-hex width n = no-feed-behind (8 - width) (eightDigits false n) (simp no-feed)
+
+-- nor do digits without the zeros in front
+no-feed-unpadded : (digits : List ℕ) → lineFeeds digits ≡ 0 → lineFeeds (unpadded digits) ≡ 0
+unfolding unpadded lineFeeds
+no-feed-unpadded [] h = h
+no-feed-unpadded (d ∷ []) h = h
+no-feed-unpadded (d ∷ e ∷ digits) h = go (eqb d 48) (no-feed-unpadded (e ∷ digits) (omega arith))
+  where
+    go : (b : Bool) → lineFeeds (unpadded (e ∷ digits)) ≡ 0 → lineFeeds (pick b (unpadded (e ∷ digits)) (d ∷ e ∷ digits)) ≡ 0
+    go true k = k
+    go false k = h
+
+-- nor does a decimal digit
+no-feed-digit : (d : ℕ) → eqb (48 + d) 10 ≡ false
+no-feed-digit d = ne-eqb (48 + d) 10 (λ e. omega arith)
+
+-- nor a number in decimal
 no-feed-decimal : (n : ℕ) → lineFeeds (decimal n) ≡ 0
-unfolding decimal lineFeeds
-no-feed-decimal n = simp (feeds-both, no-feed-unit, no-feed)
+unfolding decimal tenDigits lineFeeds
+no-feed-decimal n = no-feed-unpadded (tenDigits n) (simp no-feed-digit)
 
 -- nor the letter of a kind
 no-feed-letter : (kind : Kind) → eqb (letter kind) 10 ≡ false
@@ -64,8 +83,8 @@ no-feed-letter External = refl
 
 -- the line of a step is one line
 one-line : (number channel : ℕ) (kind : Kind) (tp : ℕ) → lineFeeds (lineOf number channel kind tp) ≡ 1
-unfolding lineOf ending lineFeeds
-one-line number channel kind tp = simp (feeds-both, no-feed-decimal, no-feed, no-feed-letter)
+unfolding lineOf lineFeeds
+one-line number channel kind tp = simp (feeds-both, no-feed-decimal, no-feed-hex, no-feed-letter)
 
 one-step : (number : ℕ) (o : Step) → lineFeeds (stepLine number o) ≡ 1
 unfolding stepLine

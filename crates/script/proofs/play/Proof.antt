@@ -11,11 +11,11 @@ use Rattle.script.proofs.play.Statement.{statement}
 use Rattle.script.proofs.play.Tie as tie
 
 abbrev Inv-loop : tie.InvT-loop
-Inv-loop text sys₀ io₀ state₀ lent₀ at₀ number₀ sys io state lent at number =
+Inv-loop text sys₀ io₀ state₀ lent₀ out₀ at₀ number₀ sys io state lent out at number =
     (length sys ≡ length sys₀) × (length io ≡ length io₀) × (lent .sys ≤ 1048577) × (lent .io ≤ 65537) × (number ≤ at)
 
 abbrev μ-loop : tie.MeasureT-loop
-μ-loop text sys₀ io₀ state₀ lent₀ at₀ number₀ sys io state lent at number = length text - at
+μ-loop text sys₀ io₀ state₀ lent₀ out₀ at₀ number₀ sys io state lent out at number = length text - at
 
 fresh-requires : tie.Need-fresh-requires Inv-loop μ-loop
 fresh-requires c κs = search needs
@@ -59,28 +59,37 @@ slice-aggregate-perform-2 c = sym (length-take-le (c .before .before .lent-after
 perform-requires : tie.Need-perform-requires Inv-loop μ-loop
 perform-requires c κs = search needs
 
+array-share-prefix-out : tie.Need-array-share-prefix-out Inv-loop μ-loop
+array-share-prefix-out c = omega (arith, c .before .before .before .before .perform .ensures .1 .1 .room)
+
+slice-aggregate-write-all : tie.Need-slice-aggregate-write-all Inv-loop μ-loop
+slice-aggregate-write-all c = sym (length-take-le (c .before .before .before .before .before .perform .result .count) (c .before .before .before .before .before .perform .last .1 .1 .1 .1 .1 .0) (c .before .before .before .before .before .perform .ensures .1 .1 .room))
+
+write-all-requires : tie.Need-write-all-requires Inv-loop μ-loop
+write-all-requires c κs = search needs
+
 add-number : tie.Need-add-number Inv-loop μ-loop
-add-number c = omega (arith, c .before .before .before .before .before .before .before .before .before .before .before .before .before .loop .inv .4, c .before .before .before .before .before .before .before .before .before .before .before .before .loop-test .taken, c .before .before .before .before .before .before .before .before .before .before .before .before .before .before .before .before .before .before .before .pre .0)
+add-number c = omega (arith, c .before .before .before .before .before .before .before .before .before .before .before .before .before .before .before .before .loop .inv .4, c .before .before .before .before .before .before .before .before .before .before .before .before .before .before .before .loop-test .taken, c .before .before .before .before .before .before .before .before .before .before .before .before .before .before .before .before .before .before .before .before .before .before .pre .0)
 
 complain-requires : tie.Need-complain-requires Inv-loop μ-loop
 complain-requires c κs = search needs
 
 add-at : tie.Need-add-at Inv-loop μ-loop
-add-at c = omega (arith, c .before .before .before .before .before .before .before .before .before .before .before .before .before .before .line-end .ensures .1 .1, c .before .before .before .before .before .before .before .before .before .before .before .before .before .before .before .before .before .before .before .before .before .before .pre .0)
+add-at c = omega (arith, c .before .before .before .before .before .before .before .before .before .before .before .before .before .before .before .before .before .line-end .ensures .1 .1, c .before .before .before .before .before .before .before .before .before .before .before .before .before .before .before .before .before .before .before .before .before .before .before .before .before .pre .0)
 
 loop-less : tie.Need-loop-less Inv-loop μ-loop
-loop-less c = omega (arith, c .before .before .before .before .before .before .before .before .before .before .before .before .before .before .line-end .ensures .1 .0, c .before .before .before .before .before .before .before .before .before .before .before .before .before .before .before .loop-test .taken)
+loop-less c = omega (arith, c .before .before .before .before .before .before .before .before .before .before .before .before .before .before .before .before .before .line-end .ensures .1 .0, c .before .before .before .before .before .before .before .before .before .before .before .before .before .before .before .before .before .before .loop-test .taken)
 
 loop-again : tie.Need-loop-again Inv-loop μ-loop
 loop-again c =
-    let l = c .before .before .before .before .before .before .before .before .before .before .before .before .before .before .before .before .loop in
-    let lent = c .before .before .before .before .before .before .before .before .before .before .lent-after in
-    let p = c .before .before .before .before .before .before .before .perform in (
+    let l = c .before .before .before .before .before .before .before .before .before .before .before .before .before .before .before .before .before .before .before .loop in
+    let lent = c .before .before .before .before .before .before .before .before .before .before .before .before .before .lent-after in
+    let p = c .before .before .before .before .before .before .before .before .before .perform in (
       length-front (l .sys) (p .last .1 .1 .1 .0) (lent .result .sys) (p .kept .1 .1 .1 .0) ∙ l .inv .0,
       length-front (l .io) (p .last .1 .1 .1 .1 .0) (lent .result .io) (p .kept .1 .1 .1 .1 .0) ∙ l .inv .1,
       lent .ensures .1 .0,
       lent .ensures .1 .1,
-      omega (arith, c .before .before .before .before .before .before .before .before .before .before .before .before .before .before .line-end .ensures .1 .0, l .inv .4),
+      omega (arith, c .before .before .before .before .before .before .before .before .before .before .before .before .before .before .before .before .before .line-end .ensures .1 .0, l .inv .4),
     )
 
 same-length : tie.Need-same-length Inv-loop μ-loop
@@ -112,6 +121,9 @@ play-spec =
     slice-relend-prefix-perform-2
     slice-aggregate-perform-2
     perform-requires
+    array-share-prefix-out
+    slice-aggregate-write-all
+    write-all-requires
     add-number
     complain-requires
     add-at

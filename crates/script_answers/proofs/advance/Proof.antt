@@ -1,31 +1,37 @@
 -- `script_answers::advance` meets its contract.
 -- Assumes nothing.
-use borrow.Author.Needs.{needs}
-use mathlib.Core.Path.{ap}
+use mathlib.Core.Path.{refl, ap}
+use Rattle.page.proofs.PageLaws.{reads}
 use Rattle.step.specs.Step.{Step}
+use Rattle.script_lines.specs.Lines.{steppedLine}
 use Rattle.script_answers.specs.Machine.{machine, machineAdvanced}
+use Rattle.script_answers.specs.Shown.{advancedLine}
+use borrow.Author.Needs.{needs}
 use Rattle.script_answers.proofs.advance.Statement.{statement}
 use Rattle.script_answers.proofs.advance.Tie as tie
 
 step-requires : tie.Need-step-requires
 step-requires c κs = search needs
 
-letter-requires : tie.Need-letter-requires
-letter-requires c κs = search needs
-
-print-step-requires : tie.Need-print-step-requires
-print-step-requires c κs = search needs
+stepped-line-requires : tie.Need-stepped-line-requires
+stepped-line-requires c κs = search needs
 
 same-length : tie.Need-same-length
-same-length c = c .before .before .before .before .before .before .before .step .kept .1 .0
+same-length c = search needs
 
 same-length-2 : tie.Need-same-length-2
-same-length-2 c = c .before .before .before .before .before .before .before .step .kept .1 .1 .0
+same-length-2 c = search needs
+
+same-length-3 : tie.Need-same-length-3
+same-length-3 c = search needs
 
 returns : tie.Need-returns
-unfolding machineAdvanced
-returns c = ap (λ (o : Step). machine (o .state) (o .memory)) (c .before .before .before .before .before .before .before .step .ensures)
+unfolding machineAdvanced advancedLine
+returns c =
+    let e = c .before .before .before .before .before .before .before .before .before .step .ensures in
+    ((ap (λ (o : Step). machine (o .state) (o .memory)) e, refl), reads (ap (λ (o : Step). steppedLine (o .number) (o .channel) (o .kind)) e) (c .before .before .stepped-line .ensures))
 
 pub advance-spec : {M : Type 1} → statement M
 advance-spec =
-    tie.close (tie.spec step-requires letter-requires print-step-requires same-length same-length-2 returns)
+    tie.close
+    (tie.spec step-requires stepped-line-requires same-length same-length-2 same-length-3 returns)

@@ -1,38 +1,47 @@
 -- `script_answers::attend` meets its contract.
 -- Assumes nothing.
-use borrow.Author.Needs.{needs}
-use mathlib.Core.Path.{ap}
+use mathlib.Core.Path.{refl, ap}
 use Rattle.machine.specs.Outcomes.{Outcome}
+use Rattle.notation.specs.Characters.{ascii}
+use Rattle.page.proofs.PageLaws.{reads}
+use Rattle.script_lines.specs.Lines.{answerLine}
 use Rattle.script_answers.specs.Machine.{machine, machineAttended}
+use borrow.Author.Needs.{needs}
 use Rattle.script_answers.proofs.attend.Statement.{statement}
 use Rattle.script_answers.proofs.attend.Tie as tie
 
 attention-requires : tie.Need-attention-requires
 attention-requires c κs = search needs
 
-slice-aggregate-print-answer : tie.Need-slice-aggregate-print-answer
-slice-aggregate-print-answer c = search needs
+slice-aggregate-answer-line : tie.Need-slice-aggregate-answer-line
+slice-aggregate-answer-line c = search needs
 
-print-answer-requires : tie.Need-print-answer-requires
-print-answer-requires c κs = search needs
+answer-line-requires : tie.Need-answer-line-requires
+answer-line-requires c κs = search needs
 
 same-length : tie.Need-same-length
-same-length c = c .before .before .before .before .before .before .before .attention .kept .1 .0
+same-length c = search needs
 
 same-length-2 : tie.Need-same-length-2
-same-length-2 c = c .before .before .before .before .before .before .before .attention .kept .1 .1 .0
+same-length-2 c = search needs
+
+same-length-3 : tie.Need-same-length-3
+same-length-3 c = search needs
 
 returns : tie.Need-returns
 unfolding machineAttended
-returns c = ap (λ (o : Outcome). machine (o .state) (o .memory)) (c .before .before .before .before .before .before .before .attention .ensures)
+returns c =
+    let e = c .before .before .before .before .before .before .before .before .before .before .attention .ensures in
+    ((ap (λ (o : Outcome). machine (o .state) (o .memory)) e, refl), reads (ap (λ (o : Outcome). answerLine (ascii "ca ") (o .number)) e) (c .before .before .answer-line .ensures))
 
 pub attend-spec : {M : Type 1} → statement M
 attend-spec =
     tie.close
     (tie.spec
     attention-requires
-    slice-aggregate-print-answer
-    print-answer-requires
+    slice-aggregate-answer-line
+    answer-line-requires
     same-length
     same-length-2
+    same-length-3
     returns)

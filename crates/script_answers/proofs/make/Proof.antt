@@ -1,14 +1,17 @@
 -- `script_answers::make` meets its contract.
 -- Assumes nothing.
 use Prim.Native.Nat.{ℕ}
-use borrow.Author.Needs.{needs}
 use denote.Ref.{now}
 use lib.ListN.{length, replicate}
 use mathlib.Core.List.{List}
-use mathlib.Core.Path.{ap, ap₂, _∙_}
+use mathlib.Core.Path.{refl, ap, ap₂, _∙_}
 use Rattle.machine.specs.declared.Answer.{Answer}
 use Rattle.memory.specs.Buffers.{buffers}
+use Rattle.notation.specs.Characters.{ascii}
+use Rattle.page.proofs.PageLaws.{reads}
+use Rattle.script_lines.specs.Lines.{answerLine}
 use Rattle.script_answers.specs.Machine.{machine, remade}
+use borrow.Author.Needs.{needs}
 use Rattle.script_answers.proofs.make.Statement.{statement}
 use Rattle.script_answers.proofs.make.Tie as tie
 
@@ -21,25 +24,30 @@ clear-requires-2 c κs = search needs
 fresh-requires : tie.Need-fresh-requires
 fresh-requires c κs = search needs
 
-slice-aggregate-print-answer : tie.Need-slice-aggregate-print-answer
-slice-aggregate-print-answer c = search needs
+slice-aggregate-answer-line : tie.Need-slice-aggregate-answer-line
+slice-aggregate-answer-line c = search needs
 
-print-answer-requires : tie.Need-print-answer-requires
-print-answer-requires c κs = search needs
+answer-line-requires : tie.Need-answer-line-requires
+answer-line-requires c κs = search needs
 
 same-length : tie.Need-same-length
-same-length c = c .before .before .before .before .before .before .before .before .before .before .clear .kept .0
+same-length c = search needs
 
 same-length-2 : tie.Need-same-length-2
-same-length-2 c = c .before .before .before .before .before .before .clear2 .kept .0
+same-length-2 c = search needs
+
+same-length-3 : tie.Need-same-length-3
+same-length-3 c = search needs
 
 returns : tie.Need-returns
 unfolding remade
 returns c =
-    let a = c .before .before .before .before .before .before .before .before .before .before .before .before .before .before .args in
-    let f = c .before .before .before .fresh in
-    ap₂ (λ (s i : List ℕ). machine (f .result .state) (buffers s i)) (c .before .before .before .before .before .before .before .before .before .before .clear .ensures) (c .before .before .before .before .before .before .clear2 .ensures)
-    ∙ ap (λ (x : Answer). machine (x .state) (buffers (replicate (length (now (a .sys))) 0) (replicate (length (now (a .io))) 0))) (f .ensures)
+    let a = c .before .before .before .before .before .before .before .before .before .before .before .before .before .before .before .before .before .before .args in
+    let f = c .before .before .before .before .before .before .fresh in
+    let made =
+    ap₂ (λ (s i : List ℕ). machine (f .result .state) (buffers s i)) (c .before .before .before .before .before .before .before .before .before .before .before .before .before .clear .ensures) (c .before .before .before .before .before .before .before .before .before .clear2 .ensures)
+    ∙ ap (λ (x : Answer). machine (x .state) (buffers (replicate (length (now (a .sys))) 0) (replicate (length (now (a .io))) 0))) (f .ensures) in
+    ((made, refl), reads (ap (λ (x : Answer). answerLine (ascii "make ") (x .number)) (f .ensures)) (c .before .before .answer-line .ensures))
 
 pub make-spec : {M : Type 1} → statement M
 make-spec =
@@ -48,8 +56,9 @@ make-spec =
     clear-requires
     clear-requires-2
     fresh-requires
-    slice-aggregate-print-answer
-    print-answer-requires
+    slice-aggregate-answer-line
+    answer-line-requires
     same-length
     same-length-2
+    same-length-3
     returns)

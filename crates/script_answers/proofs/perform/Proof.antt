@@ -2,9 +2,13 @@
 -- Assumes nothing.
 use denote.Ref.{now}
 use mathlib.Core.Path.{sym, ap, _∙_}
+use native.Mathlib.Omega.{arith}
 use Rattle.memory.specs.Buffers.{buffers}
+use Rattle.page.proofs.PageLaws.{reads}
 use Rattle.script_text.specs.declared.text.Call.{Call}
 use Rattle.script_answers.specs.Machine.{machine, callPerformed, callMade}
+use Rattle.script_answers.specs.Shown.{putLine, callText}
+use Rattle.script_answers.proofs.TextLaws.{shows, shows-nothing}
 use borrow.Author.Needs.{needs}
 use Rattle.script_answers.proofs.perform.Statement.{statement}
 use Rattle.script_answers.proofs.perform.Tie as tie
@@ -15,8 +19,11 @@ enum-told c = search needs
 enum-told-2 : tie.Need-enum-told-2
 enum-told-2 c = search needs
 
-refuse-requires : tie.Need-refuse-requires
-refuse-requires c κs = search needs
+slice-aggregate-append : tie.Need-slice-aggregate-append
+slice-aggregate-append c = search needs
+
+append-requires : tie.Need-append-requires
+append-requires c κs = search needs
 
 enum-known-call : tie.Need-enum-known-call
 enum-known-call c = search needs
@@ -24,23 +31,26 @@ enum-known-call c = search needs
 make-requires : tie.Need-make-requires
 make-requires c κs = search needs
 
-made-requires : tie.Need-made-requires
-made-requires c κs = search needs
-
 enum-known-call-2 : tie.Need-enum-known-call-2
 enum-known-call-2 c = search needs
 
 put-requires : tie.Need-put-requires
 put-requires c κs = search needs
 
+put-line-requires : tie.Need-put-line-requires
+put-line-requires c κs = search needs
+
 enum-known-call-3 : tie.Need-enum-known-call-3
 enum-known-call-3 c = search needs
 
-set-requires : tie.Need-set-requires
-set-requires c κs = search needs
+with-register-requires : tie.Need-with-register-requires
+with-register-requires c κs = search needs
 
-made-requires-2 : tie.Need-made-requires-2
-made-requires-2 c κs = search needs
+slice-aggregate-answer-line : tie.Need-slice-aggregate-answer-line
+slice-aggregate-answer-line c = search needs
+
+answer-line-requires : tie.Need-answer-line-requires
+answer-line-requires c κs = search needs
 
 enum-known-call-4 : tie.Need-enum-known-call-4
 enum-known-call-4 c = search needs
@@ -48,23 +58,17 @@ enum-known-call-4 c = search needs
 attend-requires : tie.Need-attend-requires
 attend-requires c κs = search needs
 
-made-requires-3 : tie.Need-made-requires-3
-made-requires-3 c κs = search needs
-
 enum-known-call-5 : tie.Need-enum-known-call-5
 enum-known-call-5 c = search needs
 
 advance-requires : tie.Need-advance-requires
 advance-requires c κs = search needs
 
-made-requires-4 : tie.Need-made-requires-4
-made-requires-4 c κs = search needs
-
 enum-told-3 : tie.Need-enum-told-3
 enum-told-3 c = search needs
 
-print-dump-requires : tie.Need-print-dump-requires
-print-dump-requires c κs = search needs
+dump-requires : tie.Need-dump-requires
+dump-requires c κs = search needs
 
 enum-known-call-6 : tie.Need-enum-known-call-6
 enum-known-call-6 c = search needs
@@ -73,24 +77,26 @@ show-requires : tie.Need-show-requires
 show-requires c κs = search needs
 
 returns : tie.Need-returns
-unfolding callPerformed callMade
+unfolding callPerformed callMade callText
 returns c =
     let a = c .before .before .before .before .before .args in
+    let line = now (a .line) in
     let m = buffers (now (a .sys)) (now (a .io)) in
-    let e = sym (c .enum-told .given .1) in
-    let after = ap (λ (x : Call). callPerformed x (now (a .line)) (a .s) m) e in
-    let told = ap (λ (x : Call). callMade x (now (a .line)) m) e in
-    (after, told)
+    let is = c .enum-told .given .1 in
+    let after = ap (λ (x : Call). callPerformed x line (a .s) m) (sym is) in
+    let told = ap (λ (x : Call). callMade x line m) (sym is) in
+    (after, (told, shows-nothing line (a .s) m (now (a .out)) is))
 
 returns-2 : tie.Need-returns-2
-unfolding callPerformed callMade
+unfolding callPerformed callMade callText
 returns-2 c =
-    let a = c .before .before .before .before .before .before .args in
+    let a = c .before .before .before .before .before .before .before .before .args in
+    let line = now (a .line) in
     let m = buffers (now (a .sys)) (now (a .io)) in
-    let e = sym (c .before .enum-told2 .given .1) in
-    let after = ap (λ (x : Call). callPerformed x (now (a .line)) (a .s) m) e in
-    let told = ap (λ (x : Call). callMade x (now (a .line)) m) e in
-    (after, told)
+    let is = c .before .before .before .enum-told2 .given .1 in
+    let after = ap (λ (x : Call). callPerformed x line (a .s) m) (sym is) in
+    let told = ap (λ (x : Call). callMade x line m) (sym is) in
+    (after, (told, shows line (a .s) m is (omega arith) (c .append .ensures)))
 
 same-length : tie.Need-same-length
 same-length c = search needs
@@ -99,14 +105,15 @@ same-length-2 : tie.Need-same-length-2
 same-length-2 c = search needs
 
 returns-3 : tie.Need-returns-3
-unfolding callPerformed callMade
+unfolding callPerformed callMade callText
 returns-3 c =
     let a = c .before .before .before .before .before .before .before .before .before .before .before .before .before .before .args in
+    let line = now (a .line) in
     let m = buffers (now (a .sys)) (now (a .io)) in
-    let e = sym (c .before .before .before .before .before .before .before .before .before .call .given .1) in
-    let after = ap (λ (x : Call). callPerformed x (now (a .line)) (a .s) m) e in
-    let told = ap (λ (x : Call). callMade x (now (a .line)) m) e in
-    (rw (c .made .ensures .0) (c .before .before .before .before .before .make .ensures ∙ after), c .made .ensures .1 ∙ told)
+    let is = c .before .before .before .before .before .before .before .before .before .call .given .1 in
+    let after = ap (λ (x : Call). callPerformed x line (a .s) m) (sym is) in
+    let told = ap (λ (x : Call). callMade x line m) (sym is) in
+    (c .before .before .before .before .make .ensures .0 .0 ∙ after, (c .before .before .before .before .make .ensures .0 .1 ∙ told, shows line (a .s) m is (omega arith) (c .before .before .before .before .make .ensures .1)))
 
 same-length-3 : tie.Need-same-length-3
 same-length-3 c = search needs
@@ -115,24 +122,26 @@ same-length-4 : tie.Need-same-length-4
 same-length-4 c = search needs
 
 returns-4 : tie.Need-returns-4
-unfolding callPerformed callMade
+unfolding callPerformed callMade callText
 returns-4 c =
-    let a = c .before .before .before .before .before .before .before .before .before .before .before .before .before .args in
+    let a = c .before .before .before .before .before .before .before .before .before .before .before .before .before .before .before .args in
+    let line = now (a .line) in
     let m = buffers (now (a .sys)) (now (a .io)) in
-    let e = sym (c .before .before .before .before .before .before .before .before .call2 .given .1) in
-    let after = ap (λ (x : Call). callPerformed x (now (a .line)) (a .s) m) e in
-    let told = ap (λ (x : Call). callMade x (now (a .line)) m) e in
-    (ap (machine (a .s)) (c .before .before .before .before .put .ensures .1) ∙ after, c .before .before .before .before .put .ensures .0 ∙ told)
+    let is = c .before .before .before .before .before .before .before .before .before .before .call2 .given .1 in
+    let after = ap (λ (x : Call). callPerformed x line (a .s) m) (sym is) in
+    let told = ap (λ (x : Call). callMade x line m) (sym is) in
+    (ap (machine (a .s)) (c .before .before .before .before .before .before .put .ensures .1) ∙ after, (c .before .before .before .before .before .before .put .ensures .0 ∙ told, shows line (a .s) m is (omega arith) (reads (ap putLine (c .before .before .before .before .before .before .put .ensures .0)) (c .put-line .ensures))))
 
 returns-5 : tie.Need-returns-5
-unfolding callPerformed callMade
+unfolding callPerformed callMade callText
 returns-5 c =
-    let a = c .before .before .before .before .before .before .before .before .args in
+    let a = c .before .before .before .before .before .before .before .before .before .before .args in
+    let line = now (a .line) in
     let m = buffers (now (a .sys)) (now (a .io)) in
-    let e = sym (c .before .before .before .call3 .given .1) in
-    let after = ap (λ (x : Call). callPerformed x (now (a .line)) (a .s) m) e in
-    let told = ap (λ (x : Call). callMade x (now (a .line)) m) e in
-    (rw (c .made2 .ensures .0, c .before .set .ensures) after, c .made2 .ensures .1 ∙ told)
+    let is = c .before .before .before .before .before .call3 .given .1 in
+    let after = ap (λ (x : Call). callPerformed x line (a .s) m) (sym is) in
+    let told = ap (λ (x : Call). callMade x line m) (sym is) in
+    (rw (c .before .before .before .with-register .ensures) after, (told, shows line (a .s) m is (omega arith) (c .answer-line .ensures)))
 
 same-length-5 : tie.Need-same-length-5
 same-length-5 c = search needs
@@ -141,14 +150,15 @@ same-length-6 : tie.Need-same-length-6
 same-length-6 c = search needs
 
 returns-6 : tie.Need-returns-6
-unfolding callPerformed callMade
+unfolding callPerformed callMade callText
 returns-6 c =
     let a = c .before .before .before .before .before .before .before .before .before .before .before .before .before .before .args in
+    let line = now (a .line) in
     let m = buffers (now (a .sys)) (now (a .io)) in
-    let e = sym (c .before .before .before .before .before .before .before .before .before .call4 .given .1) in
-    let after = ap (λ (x : Call). callPerformed x (now (a .line)) (a .s) m) e in
-    let told = ap (λ (x : Call). callMade x (now (a .line)) m) e in
-    (rw (c .made3 .ensures .0) (c .before .before .before .before .before .attend .ensures ∙ after), c .made3 .ensures .1 ∙ told)
+    let is = c .before .before .before .before .before .before .before .before .before .call4 .given .1 in
+    let after = ap (λ (x : Call). callPerformed x line (a .s) m) (sym is) in
+    let told = ap (λ (x : Call). callMade x line m) (sym is) in
+    (c .before .before .before .before .attend .ensures .0 .0 ∙ after, (c .before .before .before .before .attend .ensures .0 .1 ∙ told, shows line (a .s) m is (omega arith) (c .before .before .before .before .attend .ensures .1)))
 
 same-length-7 : tie.Need-same-length-7
 same-length-7 c = search needs
@@ -157,14 +167,15 @@ same-length-8 : tie.Need-same-length-8
 same-length-8 c = search needs
 
 returns-7 : tie.Need-returns-7
-unfolding callPerformed callMade
+unfolding callPerformed callMade callText
 returns-7 c =
     let a = c .before .before .before .before .before .before .before .before .before .before .before .before .before .before .args in
+    let line = now (a .line) in
     let m = buffers (now (a .sys)) (now (a .io)) in
-    let e = sym (c .before .before .before .before .before .before .before .before .before .call5 .given .1) in
-    let after = ap (λ (x : Call). callPerformed x (now (a .line)) (a .s) m) e in
-    let told = ap (λ (x : Call). callMade x (now (a .line)) m) e in
-    (rw (c .made4 .ensures .0) (c .before .before .before .before .before .advance .ensures ∙ after), c .made4 .ensures .1 ∙ told)
+    let is = c .before .before .before .before .before .before .before .before .before .call5 .given .1 in
+    let after = ap (λ (x : Call). callPerformed x line (a .s) m) (sym is) in
+    let told = ap (λ (x : Call). callMade x line m) (sym is) in
+    (c .before .before .before .before .advance .ensures .0 .0 ∙ after, (c .before .before .before .before .advance .ensures .0 .1 ∙ told, shows line (a .s) m is (omega arith) (c .before .before .before .before .advance .ensures .1)))
 
 same-length-9 : tie.Need-same-length-9
 same-length-9 c = search needs
@@ -173,14 +184,15 @@ same-length-10 : tie.Need-same-length-10
 same-length-10 c = search needs
 
 returns-8 : tie.Need-returns-8
-unfolding callPerformed callMade
+unfolding callPerformed callMade callText
 returns-8 c =
-    let a = c .before .before .before .before .before .before .before .before .args in
+    let a = c .before .before .before .before .before .before .before .before .before .args in
+    let line = now (a .line) in
     let m = buffers (now (a .sys)) (now (a .io)) in
-    let e = sym (c .before .before .before .enum-told3 .given .1) in
-    let after = ap (λ (x : Call). callPerformed x (now (a .line)) (a .s) m) e in
-    let told = ap (λ (x : Call). callMade x (now (a .line)) m) e in
-    (after, told)
+    let is = c .before .before .before .before .enum-told3 .given .1 in
+    let after = ap (λ (x : Call). callPerformed x line (a .s) m) (sym is) in
+    let told = ap (λ (x : Call). callMade x line m) (sym is) in
+    (after, (told, shows line (a .s) m is (omega arith) (c .dump .ensures)))
 
 same-length-11 : tie.Need-same-length-11
 same-length-11 c = search needs
@@ -189,14 +201,15 @@ same-length-12 : tie.Need-same-length-12
 same-length-12 c = search needs
 
 returns-9 : tie.Need-returns-9
-unfolding callPerformed callMade
+unfolding callPerformed callMade callText
 returns-9 c =
-    let a = c .before .before .before .before .before .before .before .before .before .args in
+    let a = c .before .before .before .before .before .before .before .before .before .before .args in
+    let line = now (a .line) in
     let m = buffers (now (a .sys)) (now (a .io)) in
-    let e = sym (c .before .before .before .before .call6 .given .1) in
-    let after = ap (λ (x : Call). callPerformed x (now (a .line)) (a .s) m) e in
-    let told = ap (λ (x : Call). callMade x (now (a .line)) m) e in
-    (after, told)
+    let is = c .before .before .before .before .before .call6 .given .1 in
+    let after = ap (λ (x : Call). callPerformed x line (a .s) m) (sym is) in
+    let told = ap (λ (x : Call). callMade x line m) (sym is) in
+    (after, (told, shows line (a .s) m is (omega arith) (c .show .ensures)))
 
 pub perform-spec : {M : Type 1} → statement M
 perform-spec =
@@ -204,23 +217,23 @@ perform-spec =
     (tie.spec
     enum-told
     enum-told-2
-    refuse-requires
+    slice-aggregate-append
+    append-requires
     enum-known-call
     make-requires
-    made-requires
     enum-known-call-2
     put-requires
+    put-line-requires
     enum-known-call-3
-    set-requires
-    made-requires-2
+    with-register-requires
+    slice-aggregate-answer-line
+    answer-line-requires
     enum-known-call-4
     attend-requires
-    made-requires-3
     enum-known-call-5
     advance-requires
-    made-requires-4
     enum-told-3
-    print-dump-requires
+    dump-requires
     enum-known-call-6
     show-requires
     returns

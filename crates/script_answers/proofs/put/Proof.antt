@@ -29,19 +29,16 @@ part-digits-end c = search needs
 put-requires : tie.Need-put-requires
 put-requires c κs = search needs
 
-print-put-requires : tie.Need-print-put-requires
-print-put-requires c κs = search needs
-
 same-length : tie.Need-same-length
 same-length c = search needs
 
 returns : tie.Need-returns
 unfolding putInto putOf
 returns c =
-    let a = c .before .before .before .before .before .before .before .before .before .before .before .args in
-    let p = c .before .before .before .put in
-    let w = c .before .before .before .before .before .before .before .fourth-word in
-    let test = c .before .before .before .before .before .if1 .taken in
+    let a = c .before .before .before .before .before .before .before .before .before .before .args in
+    let p = c .before .before .put in
+    let w = c .before .before .before .before .before .before .fourth-word in
+    let test = c .before .before .before .before .if1 .taken in
     let digits = spanned (now (a .line)) (w .result) in (
       p .ensures .0 ∙ rw (test, w .ensures .0),
       ap (buffers (now (a .sys))) (p .ensures .1 ∙ ap (λ (t : Bool). pick t (bytesWritten (now (a .io)) (a .address) digits) (now (a .io))) (p .ensures .0))
@@ -51,19 +48,16 @@ returns c =
 put-requires-2 : tie.Need-put-requires-2
 put-requires-2 c κs = search needs
 
-print-put-requires-2 : tie.Need-print-put-requires-2
-print-put-requires-2 c κs = search needs
-
 same-length-2 : tie.Need-same-length-2
 same-length-2 c = search needs
 
 returns-2 : tie.Need-returns-2
 unfolding putInto putOf
 returns-2 c =
-    let a = c .before .before .before .before .before .before .before .before .before .before .before .args in
-    let p = c .before .before .before .put2 in
-    let w = c .before .before .before .before .before .before .before .fourth-word in
-    let test = c .before .before .before .before .before .if1 .left in
+    let a = c .before .before .before .before .before .before .before .before .before .before .args in
+    let p = c .before .before .put2 in
+    let w = c .before .before .before .before .before .before .fourth-word in
+    let test = c .before .before .before .before .if1 .left in
     let digits = spanned (now (a .line)) (w .result) in (
       p .ensures .0 ∙ rw (test, w .ensures .0),
       ap (λ (l : List ℕ). buffers l (now (a .io))) (p .ensures .1 ∙ ap (λ (t : Bool). pick t (bytesWritten (now (a .sys)) (a .address) digits) (now (a .sys))) (p .ensures .0))
@@ -79,10 +73,8 @@ put-spec =
     part-digits-start
     part-digits-end
     put-requires
-    print-put-requires
     same-length
     returns
     put-requires-2
-    print-put-requires-2
     same-length-2
     returns-2)

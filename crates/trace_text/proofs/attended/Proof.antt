@@ -3,10 +3,10 @@
 use borrow.Author.Tests.{eq-eqb, ne-eqb}
 use denote.Ref.{now}
 use mathlib.Core.Path.{sym, ap, _∙_}
-use native.Mathlib.Omega.{arith}
 use Rattle.memory.specs.Buffers.{buffers}
 use Rattle.machine.specs.Outcomes.{Outcome}
 use Rattle.attention.specs.Attention.{attentionOf}
+use Rattle.page.proofs.PageLaws.{reads}
 use Rattle.panel.specs.Run.{ran, stepsFrom, attendedRun}
 use Rattle.trace_text.specs.Line.{endLine}
 use Rattle.trace_text.specs.Trace.{stepsText, attendedText}
@@ -37,8 +37,8 @@ returns c =
     let e = c .before .before .before .before .before .before .before .before .before .before .attention .ensures in
     let last = c .before .before .end-line in
     let refused = ne-eqb (o .number) 0 (λ z. c .before .before .before .before .if1 .taken (ap (λ (x : Outcome). x .number) e ∙ z)) in (
-      omega (arith, last .ensures .0),
-      (last .ensures .1 .is ∙ ap (λ (x : Outcome). endLine (x .number) 0) e ∙ rw refused, ap (λ (x : Outcome). ran (x .number) 0 (x .memory)) e ∙ rw refused),
+      reads (ap (λ (x : Outcome). endLine (x .number) 0) e ∙ rw refused) (last .ensures),
+      ap (λ (x : Outcome). ran (x .number) 0 (x .memory)) e ∙ rw refused,
     )
 
 steps-requires : tie.Need-steps-requires
@@ -61,8 +61,8 @@ returns-2 c =
     let e = c .before .before .before .before .before .before .before .before .before .before .before .before .before .before .before .before .before .attention .ensures in
     let rest = c .before .before .before .before .before .before .steps in
     let accepted = eq-eqb (o .number) 0 (sym (ap (λ (x : Outcome). x .number) e) ∙ c .before .before .before .before .before .before .before .before .before .before .before .if1 .left) in (
-      rest .ensures .0,
-      (rest .ensures .1 .0 ∙ ap (λ (x : Outcome). stepsText 1000 (x .state) (x .memory) 0) e ∙ rw accepted, rest .ensures .1 .1 ∙ ap (λ (x : Outcome). stepsFrom 1000 (x .state) (x .memory) 0 0) e ∙ rw accepted),
+      reads (ap (λ (x : Outcome). stepsText 1000 (x .state) (x .memory) 0) e ∙ rw accepted) (rest .ensures .0),
+      rest .ensures .1 ∙ ap (λ (x : Outcome). stepsFrom 1000 (x .state) (x .memory) 0 0) e ∙ rw accepted,
     )
 
 pub attended-spec : {M : Type 1} → statement M

@@ -1,9 +1,8 @@
 -- `trace_text::end_line` meets its contract.
 -- Assumes nothing.
-use native.Mathlib.Omega.{arith}
 use Rattle.trace_text.specs.Line.{endLine}
 use borrow.Author.Needs.{needs}
-use Rattle.trace_text.proofs.TextLaws.{behind-both}
+use Rattle.page.proofs.PageLaws.{then}
 use Rattle.trace_text.proofs.end_line.Statement.{statement}
 use Rattle.trace_text.proofs.end_line.Tie as tie
 
@@ -42,7 +41,7 @@ returns c =
     let space = c .before .before .before .before .before .before .before .before .before .before .before .append2 in
     let number = c .before .before .before .before .before .before .before .before .before .before .before .before .before .before .before .before .append-decimal in
     let name = c .before .before .before .before .before .before .before .before .before .before .before .before .before .before .before .before .before .before .before .before .append in
-    (omega (arith, feed .ensures .0, steps .ensures .0, space .ensures .0, number .ensures .0, name .ensures .0), behind-both (behind-both (behind-both (behind-both (feed .ensures .1) (steps .ensures .1)) (space .ensures .1)) (number .ensures .1)) (name .ensures .1))
+    then (name .ensures) (then (number .ensures) (then (space .ensures) (then (steps .ensures) (feed .ensures))))
 
 pub end-line-spec : {M : Type 1} → statement M
 end-line-spec =

@@ -1,10 +1,10 @@
 -- `trace_text::step_line` meets its contract.
 -- Assumes nothing.
-use mathlib.Core.Path.{_∙_}
+use mathlib.Core.Path.{ap}
 use native.Mathlib.Omega.{arith}
-use Rattle.trace_text.specs.Line.{ending, lineOf}
+use Rattle.page.proofs.PageLaws.{then, reads}
+use Rattle.trace_text.specs.Line.{lineOf}
 use borrow.Author.Needs.{needs}
-use Rattle.trace_text.proofs.TextLaws.{behind-both}
 use Rattle.trace_text.proofs.step_line.Statement.{statement}
 use Rattle.trace_text.proofs.step_line.Tie as tie
 
@@ -14,26 +14,8 @@ is-second-requires c κs = search needs
 channel-requires : tie.Need-channel-requires
 channel-requires c κs = search needs
 
-glyph-requires : tie.Need-glyph-requires
-glyph-requires c κs = search needs
-
 letter-requires : tie.Need-letter-requires
 letter-requires c κs = search needs
-
-glyph-requires-2 : tie.Need-glyph-requires-2
-glyph-requires-2 c κs = search needs
-
-glyph-requires-3 : tie.Need-glyph-requires-3
-glyph-requires-3 c κs = search needs
-
-glyph-requires-4 : tie.Need-glyph-requires-4
-glyph-requires-4 c κs = search needs
-
-glyph-requires-5 : tie.Need-glyph-requires-5
-glyph-requires-5 c κs = search needs
-
-glyph-requires-6 : tie.Need-glyph-requires-6
-glyph-requires-6 c κs = search needs
 
 append-decimal-requires : tie.Need-append-decimal-requires
 append-decimal-requires c κs = search needs
@@ -44,15 +26,40 @@ slice-aggregate-append c = search needs
 append-requires : tie.Need-append-requires
 append-requires c κs = search needs
 
+append-decimal-requires-2 : tie.Need-append-decimal-requires-2
+append-decimal-requires-2 c κs = search needs
+
+slice-aggregate-append-2 : tie.Need-slice-aggregate-append-2
+slice-aggregate-append-2 c = search needs
+
+append-requires-2 : tie.Need-append-requires-2
+append-requires-2 c κs = search needs
+
+cast-append-hex : tie.Need-cast-append-hex
+cast-append-hex c = omega (arith, c .before .before .before .before .before .before .before .before .before .before .before .before .before .before .before .before .before .before .before .before .channel .ok)
+
+append-hex-requires : tie.Need-append-hex-requires
+append-hex-requires c κs = search needs
+
+slice-aggregate-append-3 : tie.Need-slice-aggregate-append-3
+slice-aggregate-append-3 c = search needs
+
+append-requires-3 : tie.Need-append-requires-3
+append-requires-3 c κs = search needs
+
 same-length : tie.Need-same-length
 same-length c = search needs
 
 returns : tie.Need-returns
-unfolding lineOf ending
+unfolding lineOf
 returns c =
-    let rest = c .before .before .append in
-    let number = c .before .before .before .before .before .before .before .append-decimal in
-    (omega (arith, rest .ensures .0, number .ensures .0), record { is = (behind-both (rest .ensures .1) (number .ensures .1)) .is ∙ simp (c .before .before .before .before .before .before .before .before .before .glyph6 .ensures, c .before .before .before .before .before .before .before .before .before .before .glyph5 .ensures, c .before .before .before .before .before .before .before .before .before .before .before .glyph4 .ensures, c .before .before .before .before .before .before .before .before .before .before .before .before .glyph3 .ensures, c .before .before .before .before .before .before .before .before .before .before .before .before .before .glyph2 .ensures, c .before .before .before .before .before .before .before .before .before .before .before .before .before .before .letter .ensures, c .before .before .before .before .before .before .before .before .before .before .before .before .before .before .before .glyph .ensures, c .before .before .before .before .before .before .before .before .before .before .before .before .before .before .before .before .channel .ensures, c .before .before .before .before .before .before .before .before .before .before .before .before .before .before .before .before .before .is-second .ensures) })
+    let number = c .before .before .before .before .before .before .before .before .before .before .before .before .before .before .before .before .before .before .before .before .before .before .before .before .before .append-decimal .ensures in
+    let space = c .before .before .before .before .before .before .before .before .before .before .before .before .before .before .before .before .before .before .before .before .append .ensures in
+    let channel = c .before .before .before .before .before .before .before .before .before .before .before .before .before .before .before .before .append-decimal2 .ensures in
+    let middle = c .before .before .before .before .before .before .before .before .before .before .before .append2 .ensures in
+    let place = c .before .before .before .before .before .before .before .append-hex .ensures in
+    let feed = c .before .before .append3 .ensures in
+    reads (simp (c .before .before .before .before .before .before .before .before .before .before .before .before .before .before .before .before .before .before .before .before .before .before .before .before .before .before .before .letter .ensures, c .before .before .before .before .before .before .before .before .before .before .before .before .before .before .before .before .before .before .before .before .before .before .before .before .before .before .before .before .channel .ensures, c .before .before .before .before .before .before .before .before .before .before .before .before .before .before .before .before .before .before .before .before .before .before .before .before .before .before .before .before .before .is-second .ensures)) (then number (then space (then channel (then middle (then place feed)))))
 
 pub step-line-spec : {M : Type 1} → statement M
 step-line-spec =
@@ -60,15 +67,16 @@ step-line-spec =
     (tie.spec
     is-second-requires
     channel-requires
-    glyph-requires
     letter-requires
-    glyph-requires-2
-    glyph-requires-3
-    glyph-requires-4
-    glyph-requires-5
-    glyph-requires-6
     append-decimal-requires
     slice-aggregate-append
     append-requires
+    append-decimal-requires-2
+    slice-aggregate-append-2
+    append-requires-2
+    cast-append-hex
+    append-hex-requires
+    slice-aggregate-append-3
+    append-requires-3
     same-length
     returns)

@@ -1,13 +1,15 @@
 -- `trace_text::steps` meets its contract. The loop's invariant: what is written, followed by the text of the rest, is the whole text, and the rest of the run is the whole run.
 -- Assumes nothing.
-use Prim.Native.Nat.{ℕ, _+_, _-_, _*_, _≤_}
+use Prim.Native.Nat.{ℕ, _+_, _-_, _≤_}
 use borrow.Author.Needs.{needs}
-use lib.ListN.{length, take}
-use mathlib.Core.List.{List, _++_, append-assoc}
+use lib.ListN.{length}
+use mathlib.Core.List.{_++_}
 use mathlib.Core.Path.{_≡_, refl, sym, ap, _∙_}
 use native.Mathlib.Omega.{arith}
 use Rattle.memory.specs.Buffers.{buffers}
 use Rattle.step.specs.Step.{Step, stepOf}
+use Rattle.page.specs.Pages.{Page, page, written}
+use Rattle.page.proofs.PageLaws.{written-both}
 use Rattle.panel.specs.Run.{ran, stepsFrom}
 use Rattle.panel.proofs.RunLaws.{stops, goes, limits}
 use Rattle.trace_text.specs.Line.{stepLine, endLine}
@@ -19,33 +21,32 @@ use Rattle.trace_text.proofs.steps.Tie as tie
 abbrev Inv-loop : tie.InvT-loop
 Inv-loop sys₀ io₀ out₀ state₀ done₀ at₀ sys io out state done at =
     (done ≤ 1000)
-    × (at ≤ 15 * done)
     × (length sys ≡ length sys₀)
     × (length io ≡ length io₀)
     × (length out ≡ length out₀)
-    × (take at out ++ stepsText (1000 - done) state (buffers sys io) done ≡ stepsText 1000 state₀ (buffers sys₀ io₀) 0)
+    × (written (page out at) (stepsText (1000 - done) state (buffers sys io) done) ≡ written (page out₀ 0) (stepsText 1000 state₀ (buffers sys₀ io₀) 0))
     × (stepsFrom (1000 - done) state (buffers sys io) 0 done ≡ stepsFrom 1000 state₀ (buffers sys₀ io₀) 0 0)
 
 abbrev μ-loop : tie.MeasureT-loop
 μ-loop sys₀ io₀ out₀ state₀ done₀ at₀ sys io out state done at = 1000 - done
 
 loop-holds : tie.Need-loop-holds Inv-loop μ-loop
-loop-holds c = (omega arith, omega arith, refl, refl, refl, refl, refl)
+loop-holds c = (omega arith, refl, refl, refl, refl, refl)
 
 step-requires : tie.Need-step-requires Inv-loop μ-loop
 step-requires c κs = search needs
 
 end-line-requires : tie.Need-end-line-requires Inv-loop μ-loop
-end-line-requires c κs = omega (arith, c .before .before .before .before .before .before .before .before .before .before .before .loop .inv .0, c .before .before .before .before .before .before .before .before .before .before .before .loop .inv .1, c .before .before .before .before .before .before .before .before .before .before .before .loop .inv .4, c .before .before .before .before .before .before .before .before .before .before .before .before .before .before .before .pre)
+end-line-requires c κs = search needs
 
 same-length : tie.Need-same-length Inv-loop μ-loop
-same-length c = c .before .before .before .before .before .before .before .before .before .before .step .kept .1 .0 ∙ c .before .before .before .before .before .before .before .before .before .before .before .before .before .before .loop .inv .2
+same-length c = c .before .before .before .before .before .before .before .before .before .before .step .kept .1 .0 ∙ c .before .before .before .before .before .before .before .before .before .before .before .before .before .before .loop .inv .1
 
 same-length-2 : tie.Need-same-length-2 Inv-loop μ-loop
-same-length-2 c = c .before .before .before .before .before .before .before .before .before .before .step .kept .1 .1 .0 ∙ c .before .before .before .before .before .before .before .before .before .before .before .before .before .before .loop .inv .3
+same-length-2 c = c .before .before .before .before .before .before .before .before .before .before .step .kept .1 .1 .0 ∙ c .before .before .before .before .before .before .before .before .before .before .before .before .before .before .loop .inv .2
 
 same-length-3 : tie.Need-same-length-3 Inv-loop μ-loop
-same-length-3 c = c .before .before .end-line .kept .0 ∙ c .before .before .before .before .before .before .before .before .before .before .before .before .before .before .loop .inv .4
+same-length-3 c = c .before .before .end-line .kept .0 ∙ c .before .before .before .before .before .before .before .before .before .before .before .before .before .before .loop .inv .3
 
 returns : tie.Need-returns Inv-loop μ-loop
 returns c =
@@ -54,23 +55,23 @@ returns c =
     let e = c .before .before .before .before .before .before .before .before .before .before .step .ensures in
     let last = c .before .before .end-line in
     let refused : stepOf (l .state) m 0 .number ≡ 0 → ⊥ = λ z. c .before .before .before .before .if1 .taken (ap (λ (o : Step). o .number) e ∙ z) in (
-      omega (arith, last .ensures .0, l .inv .0, l .inv .1),
-      (
-        last .ensures .1 .is
-            ∙ ap (λ (o : Step). take (l .at) (l .out) ++ endLine (o .number) (l .done)) e
-            ∙ ap (λ (t : List ℕ). take (l .at) (l .out) ++ t) (sym (refused-text (1000 - l .done) (l .state) m (l .done) (omega (arith, c .before .before .before .before .before .before .before .before .before .before .before .before .before .loop-test .taken)) refused))
-            ∙ l .inv .5,
-        ap (λ (o : Step). ran (o .number) (l .done) (o .memory)) e
-            ∙ sym (stops (1000 - l .done) (l .state) m 0 (l .done) (omega (arith, c .before .before .before .before .before .before .before .before .before .before .before .before .before .loop-test .taken)) refused)
-            ∙ l .inv .6,
-      ),
+      record {
+        is =
+            last .ensures .is
+            ∙ ap (λ (o : Step). written (page (l .out) (l .at)) (endLine (o .number) (l .done))) e
+            ∙ ap (written (page (l .out) (l .at))) (sym (refused-text (1000 - l .done) (l .state) m (l .done) (omega (arith, c .before .before .before .before .before .before .before .before .before .before .before .before .before .loop-test .taken)) refused))
+            ∙ l .inv .4;
+      },
+      ap (λ (o : Step). ran (o .number) (l .done) (o .memory)) e
+          ∙ sym (stops (1000 - l .done) (l .state) m 0 (l .done) (omega (arith, c .before .before .before .before .before .before .before .before .before .before .before .before .before .loop-test .taken)) refused)
+          ∙ l .inv .5,
     )
 
 add-done : tie.Need-add-done Inv-loop μ-loop
 add-done c = omega (arith, c .before .before .before .before .before .before .before .before .before .before .loop-test .taken)
 
 step-line-requires : tie.Need-step-line-requires Inv-loop μ-loop
-step-line-requires c κs = omega (arith, c .before .before .before .before .before .before .before .before .before .before .before .before .loop .inv .0, c .before .before .before .before .before .before .before .before .before .before .before .before .loop .inv .1, c .before .before .before .before .before .before .before .before .before .before .before .before .loop .inv .4, c .before .before .before .before .before .before .before .before .before .before .before .before .before .before .before .before .pre, c .before .before .before .before .before .before .before .before .before .before .before .loop-test .taken)
+step-line-requires c κs = search needs
 
 loop-less : tie.Need-loop-less Inv-loop μ-loop
 loop-less c = omega (arith, c .before .before .before .before .before .before .before .before .before .before .before .before .before .before .loop-test .taken)
@@ -84,38 +85,37 @@ loop-again c =
     let e = went .ensures in
     let line = c .before .before .step-line in
     let o = stepOf (l .state) m 0 in
-    let head = take (l .at) (l .out) in
+    let head = page (l .out) (l .at) in
     let below = c .before .before .before .before .before .before .before .before .before .before .before .before .before .before .loop-test .taken in
     let done : o .number ≡ 0 = sym (ap (λ (x : Step). x .number) e) ∙ c .before .before .before .before .before .if1 .left in
     let left : 1000 - (l .done + 1) ≡ 1000 - l .done - 1 = omega arith in (
       omega (arith, below),
-      omega (arith, line .ensures .0, l .inv .1),
-      went .kept .1 .0 ∙ l .inv .2,
-      went .kept .1 .1 .0 ∙ l .inv .3,
-      line .kept .0 ∙ l .inv .4,
-      ap (λ (t : List ℕ). t ++ stepsText (1000 - (l .done + 1)) (went .result .state) (buffers (went .last .1 .0) (went .last .1 .1 .0)) (l .done + 1)) (line .ensures .1 .is)
-          ∙ append-assoc head _ _
-          ∙ ap (λ (x : Step). head ++ (stepLine (l .done + 1) x ++ stepsText (1000 - (l .done + 1)) (x .state) (x .memory) (l .done + 1))) e
-          ∙ ap (λ (n : ℕ). head ++ (stepLine (l .done + 1) o ++ stepsText n (o .state) (o .memory) (l .done + 1))) left
-          ∙ ap (λ (t : List ℕ). head ++ t) (sym (done-text (1000 - l .done) (l .state) m (l .done) (omega (arith, below)) done))
-          ∙ l .inv .5,
+      went .kept .1 .0 ∙ l .inv .1,
+      went .kept .1 .1 .0 ∙ l .inv .2,
+      line .kept .0 ∙ l .inv .3,
+      ap (λ (p : Page). written p (stepsText (1000 - (l .done + 1)) (went .result .state) (buffers (went .last .1 .0) (went .last .1 .1 .0)) (l .done + 1))) (line .ensures .is)
+          ∙ sym (written-both head _ _)
+          ∙ ap (λ (x : Step). written head (stepLine (l .done + 1) x ++ stepsText (1000 - (l .done + 1)) (x .state) (x .memory) (l .done + 1))) e
+          ∙ ap (λ (n : ℕ). written head (stepLine (l .done + 1) o ++ stepsText n (o .state) (o .memory) (l .done + 1))) left
+          ∙ ap (written head) (sym (done-text (1000 - l .done) (l .state) m (l .done) (omega (arith, below)) done))
+          ∙ l .inv .4,
       ap (λ (x : Step). stepsFrom (1000 - (l .done + 1)) (x .state) (x .memory) 0 (l .done + 1)) e
           ∙ ap (λ (n : ℕ). stepsFrom n (o .state) (o .memory) 0 (l .done + 1)) left
           ∙ sym (goes (1000 - l .done) (l .state) m 0 (l .done) (omega (arith, below)) done)
-          ∙ l .inv .6,
+          ∙ l .inv .5,
     )
 
 end-line-requires-2 : tie.Need-end-line-requires-2 Inv-loop μ-loop
-end-line-requires-2 c κs = omega (arith, c .before .before .loop .inv .0, c .before .before .loop .inv .1, c .before .before .loop .inv .4, c .before .before .before .before .before .before .pre)
+end-line-requires-2 c κs = search needs
 
 same-length-4 : tie.Need-same-length-4 Inv-loop μ-loop
-same-length-4 c = c .before .before .before .before .before .loop .inv .2
+same-length-4 c = c .before .before .before .before .before .loop .inv .1
 
 same-length-5 : tie.Need-same-length-5 Inv-loop μ-loop
-same-length-5 c = c .before .before .before .before .before .loop .inv .3
+same-length-5 c = c .before .before .before .before .before .loop .inv .2
 
 same-length-6 : tie.Need-same-length-6 Inv-loop μ-loop
-same-length-6 c = c .before .before .end-line2 .kept .0 ∙ c .before .before .before .before .before .loop .inv .4
+same-length-6 c = c .before .before .end-line2 .kept .0 ∙ c .before .before .before .before .before .loop .inv .3
 
 returns-2 : tie.Need-returns-2 Inv-loop μ-loop
 returns-2 c =
@@ -123,13 +123,8 @@ returns-2 c =
     let m = buffers (l .sys) (l .io) in
     let last = c .before .before .end-line2 in
     let none : 1000 - l .done ≡ 0 = omega (arith, c .before .before .before .before .loop-test .left) in (
-      omega (arith, last .ensures .0, l .inv .0, l .inv .1),
-      (
-        last .ensures .1 .is
-            ∙ ap (λ (t : List ℕ). take (l .at) (l .out) ++ t) (sym (limit-text (1000 - l .done) (l .state) m (l .done) none))
-            ∙ l .inv .5,
-        sym (limits (1000 - l .done) (l .state) m 0 (l .done) none) ∙ l .inv .6,
-      ),
+      record { is = last .ensures .is ∙ ap (written (page (l .out) (l .at))) (sym (limit-text (1000 - l .done) (l .state) m (l .done) none)) ∙ l .inv .4 },
+      sym (limits (1000 - l .done) (l .state) m 0 (l .done) none) ∙ l .inv .5,
     )
 
 pub steps-spec : {M : Type 1} → statement M

@@ -1,0 +1,3 @@
+pub mod PageLaws
+pub mod NumberLaws
+pub mod Determined

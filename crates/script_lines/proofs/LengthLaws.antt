@@ -1,0 +1,119 @@
+-- How long the lines are at most.
+-- Assumes nothing.
+use mathlib.Core.Bool.{Bool, true, false}
+use mathlib.Core.List.{List, [], _∷_, _++_}
+use mathlib.Core.Path.{ap}
+use Prim.Native.Nat.{ℕ, zero, suc, _+_, _*_, _≤_}
+use native.Mathlib.Omega.{arith}
+use lib.Dec.{ltb}
+use lib.ListN.{length, getD, length-append}
+use Rattle.words.specs.Choice.{pick}
+use Rattle.memory.specs.Buffers.{Buffers}
+use Rattle.memory.specs.declared.Pointer.{Pointer}
+use Rattle.machine.specs.declared.Mode.{Mode}
+use Rattle.machine.specs.declared.Channel.{Channel}
+use Rattle.machine.specs.declared.State.{State}
+use Rattle.machine.specs.States.{channelNumber}
+use Rattle.step.specs.declared.Kind.{Kind}
+use Rattle.notation.specs.Characters.{ascii}
+use Rattle.page.specs.Numbers.{hex, decimal, letter}
+use Rattle.page.proofs.NumberLaws.{hex-short, decimal-short}
+use Rattle.script_text.specs.Buffers.{digestOf}
+use Rattle.script_lines.specs.Lines.{feed, answerLine, steppedLine, registerText, markNumber, pointerText, pointersText, numbersText, numberOfMode, marksText, channelLine, bufferText, sharedLine, dumpText, byteText, bytesText, shownLine}
+
+-- two texts in a row
+both : (a b : List ℕ) (m n : ℕ) → length a ≤ m → length b ≤ n → length (a ++ b) ≤ m + n
+both a b m n h k = omega (arith, length-append a b)
+
+-- an answer is longer than its name by ten digits and a line feed
+pub answer-short : (name : List ℕ) (number : ℕ) → length (answerLine name number) ≤ length name + 11
+unfolding answerLine
+answer-short name number = both name (decimal number ++ feed) (length name) 11 (omega arith) (both (decimal number) feed 10 1 (decimal-short number) (omega arith))
+
+pub stepped-short : (number channel : ℕ) (kind : Kind) → length (steppedLine number channel kind) ≤ 29
+unfolding steppedLine
+stepped-short number channel kind =
+    both (ascii "step ") (decimal number ++ (ascii " " ++ (decimal channel ++ (32 ∷ letter kind ∷ feed)))) 5 24 (omega arith)
+    (both (decimal number) (ascii " " ++ (decimal channel ++ (32 ∷ letter kind ∷ feed))) 10 14 (decimal-short number)
+    (both (32 ∷ decimal channel) (32 ∷ letter kind ∷ feed) 11 3 (omega (arith, decimal-short channel)) (omega arith)))
+
+register-short : (name : List ℕ) (value width : ℕ) → length (registerText name value width) ≤ length name + width
+unfolding registerText
+register-short name value width = both name (hex true width value) (length name) width (omega arith) (hex-short true width value)
+
+pointer-short : (name : List ℕ) (p : Pointer) → length (pointerText name p) ≤ length name + 10
+unfolding pointerText
+pointer-short name p =
+    let far = register-short name (p .address) 8 in
+    let tag = register-short (ascii " ") (markNumber (p .tag)) 1 in
+    omega (arith, both (registerText name (p .address) 8) (registerText (ascii " ") (markNumber (p .tag)) 1) (length name + 8) 2 far tag)
+
+pointers-short : (ga gb gc tp : Pointer) → length (pointersText ga gb gc tp) ≤ 56
+unfolding pointersText
+pointers-short ga gb gc tp =
+    both (pointerText (ascii " ga ") ga) _ 14 42 (pointer-short (ascii " ga ") ga)
+    (both (pointerText (ascii " gb ") gb) _ 14 28 (pointer-short (ascii " gb ") gb)
+    (both (pointerText (ascii " gc ") gc) _ 14 14 (pointer-short (ascii " gc ") gc) (pointer-short (ascii " tp ") tp)))
+
+numbers-short : (pp bc ix cc mc psw : ℕ) → length (numbersText pp bc ix cc mc psw) ≤ 51
+unfolding numbersText
+numbers-short pp bc ix control mc psw =
+    both (registerText (ascii " pp ") pp 8) _ 12 39 (register-short (ascii " pp ") pp 8)
+    (both (registerText (ascii " bc ") bc 4) _ 8 31 (register-short (ascii " bc ") bc 4)
+    (both (registerText (ascii " ix ") ix 4) _ 8 23 (register-short (ascii " ix ") ix 4)
+    (both (registerText (ascii " cc ") control 4) _ 8 15 (register-short (ascii " cc ") control 4)
+    (both (registerText (ascii " mc ") mc 4) _ 8 7 (register-short (ascii " mc ") mc 4) (register-short (ascii " psw ") psw 2)))))
+
+marks-short : (mode : Mode) (armed : Bool) → length (marksText mode armed) ≤ 14
+unfolding marksText
+marks-short mode armed =
+    both (registerText (ascii " mode ") (numberOfMode mode) 1) _ 7 7 (register-short (ascii " mode ") (numberOfMode mode) 1)
+    (both (registerText (ascii " arm ") (markNumber armed) 1) feed 6 1 (register-short (ascii " arm ") (markNumber armed) 1) (omega arith))
+
+channel-short : (name : List ℕ) (c : Channel) → length (channelLine name c) ≤ length name + 121
+unfolding channelLine
+channel-short name c =
+    both name _ (length name) 121 (omega arith)
+    (both (pointersText (c .ga) (c .gb) (c .gc) (c .tp)) _ 56 65 (pointers-short (c .ga) (c .gb) (c .gc) (c .tp))
+    (both (numbersText (c .pp) (c .bc) (c .ix) (c .cc) (c .mc) (c .psw)) _ 51 14 (numbers-short (c .pp) (c .bc) (c .ix) (c .cc) (c .mc) (c .psw)) (marks-short (c .mode) (c .armed))))
+
+buffer-short : (name buffer : List ℕ) → length (bufferText name buffer) ≤ length name + 17
+unfolding bufferText
+buffer-short name buffer =
+    let size = register-short name (length buffer) 8 in
+    let digest = register-short (ascii " ") (digestOf buffer) 8 in
+    omega (arith, both (registerText name (length buffer) 8) (registerText (ascii " ") (digestOf buffer) 8) (length name + 8) 9 size digest)
+
+shared-short : (cp : ℕ) (last : Bool) (sys io : List ℕ) → length (sharedLine cp last sys io) ≤ 62
+unfolding sharedLine
+shared-short cp last sys io =
+    both (registerText (ascii "cp ") cp 8) _ 11 51 (register-short (ascii "cp ") cp 8)
+    (both (registerText (ascii " last ") (channelNumber last) 1) _ 7 44 (register-short (ascii " last ") (channelNumber last) 1)
+    (both (bufferText (ascii " sys ") sys) _ 22 22 (buffer-short (ascii " sys ") sys)
+    (both (bufferText (ascii " io ") io) feed 21 1 (buffer-short (ascii " io ") io) (omega arith))))
+
+pub dump-short : (s : State) (m : Buffers) → length (dumpText s m) ≤ 312
+unfolding dumpText
+dump-short s m =
+    both (channelLine (ascii "ch 1") (s .first)) _ 125 187 (channel-short (ascii "ch 1") (s .first))
+    (both (channelLine (ascii "ch 2") (s .second)) _ 125 62 (channel-short (ascii "ch 2") (s .second)) (shared-short (s .cp) (s .last) (m .sys) (m .io)))
+
+byte-short : (buffer : List ℕ) (at : ℕ) → length (byteText buffer at) ≤ 3
+unfolding byteText
+byte-short buffer at = go (ltb at (length buffer))
+  where
+    go : (b : Bool) → length (pick b (registerText (ascii " ") (getD buffer at 0) 2) (ascii " --")) ≤ 3
+    go true = register-short (ascii " ") (getD buffer at 0) 2
+    go false = omega arith
+
+bytes-short : (count : ℕ) (buffer : List ℕ) (at : ℕ) → length (bytesText count buffer at) ≤ 3 * count
+unfolding bytesText
+bytes-short zero buffer at = omega arith
+bytes-short (suc count) buffer at =
+    omega (arith, both (byteText buffer at) (bytesText count buffer (at + 1)) 3 (3 * count) (byte-short buffer at) (bytes-short count buffer (at + 1)))
+
+pub shown-short : (buffer : List ℕ) (at : ℕ) → length (shownLine buffer at) ≤ 53
+unfolding shownLine
+shown-short buffer at =
+    both (ascii "show") (bytesText 16 buffer at ++ feed) 4 49 (omega arith)
+    (both (bytesText 16 buffer at) feed 48 1 (bytes-short 16 buffer at) (omega arith))

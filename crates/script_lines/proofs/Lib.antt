@@ -1,0 +1,3 @@
+pub mod LengthLaws
+pub mod LineLaws
+pub mod Determined

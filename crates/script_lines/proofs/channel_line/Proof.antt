@@ -1,0 +1,42 @@
+-- `script_lines::channel_line` meets its contract.
+-- Assumes nothing.
+use Rattle.page.proofs.PageLaws.{then}
+use Rattle.script_lines.specs.Lines.{channelLine}
+use borrow.Author.Needs.{needs}
+use Rattle.script_lines.proofs.channel_line.Statement.{statement}
+use Rattle.script_lines.proofs.channel_line.Tie as tie
+
+append-requires : tie.Need-append-requires
+append-requires c κs = search needs
+
+pointers-requires : tie.Need-pointers-requires
+pointers-requires c κs = search needs
+
+numbers-requires : tie.Need-numbers-requires
+numbers-requires c κs = search needs
+
+marks-requires : tie.Need-marks-requires
+marks-requires c κs = search needs
+
+same-length : tie.Need-same-length
+same-length c = search needs
+
+returns : tie.Need-returns
+unfolding channelLine
+returns c =
+    let t1 = c .before .before .before .before .before .before .before .before .before .before .before .before .before .before .append .ensures in
+    let t2 = c .before .before .before .before .before .before .before .before .before .before .pointers .ensures in
+    let t3 = c .before .before .before .before .before .before .numbers .ensures in
+    let t4 = c .before .before .marks .ensures in
+    then t1 (then t2 (then t3 t4))
+
+pub channel-line-spec : {M : Type 1} → statement M
+channel-line-spec =
+    tie.close
+    (tie.spec
+    append-requires
+    pointers-requires
+    numbers-requires
+    marks-requires
+    same-length
+    returns)
