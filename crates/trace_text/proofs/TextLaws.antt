@@ -76,6 +76,10 @@ steps-short (suc left) s m done =
     go true line rest last h k l = omega (arith, length-append line rest)
     go false line rest last h k l = omega arith
 
+-- the text of up to 1,091 steps has room in 32,768 bytes
+few-short : (left : ℕ) (s : State) (m : Buffers) (done : ℕ) → left ≤ 1091 → length (stepsText left s m done) ≤ 32768
+few-short left s m done h = omega (arith, steps-short left s m done)
+
 -- a text that is picked of two is no longer than the longer
 either-short : (b : Bool) (x y : List ℕ) → length x ≤ 32768 → length y ≤ 32768 → length (pick b x y) ≤ 32768
 either-short true x y h k = h
@@ -87,5 +91,5 @@ unfolding traceOf attendedText
 trace-short input =
     let o = attentionOf (freshOf 0 .state) (tracedMemory input) 1 in
     either-short (leb (length input) 4096) _ _
-    (either-short (eqb (o .number) 0) _ _ (omega (arith, steps-short 1000 (o .state) (o .memory) 0)) (omega (arith, end-short (o .number) 0)))
+    (either-short (eqb (o .number) 0) _ _ (few-short _ (o .state) (o .memory) 0 (omega arith)) (omega (arith, end-short (o .number) 0)))
     (omega (arith, end-short 11 0))
