@@ -58,8 +58,8 @@ endif
 # What both comparisons are made of: random cases, the emulator, and the count of what was met.
 COMMON = $(addprefix host/,cases.c programs.c dice.c emulator.c met.c)
 COMMON_H = $(addprefix host/,cases.h programs.h dice.h emulator.h met.h) include/iop89.h
-SCRIPTS = $(addprefix host/,scripts.c writer.c lines.c session.c)
-SCRIPTS_H = $(addprefix host/,writer.h lines.h session.h)
+SCRIPTS = $(addprefix host/,scripts.c writer.c lines.c session.c listing.c hex.c hex_texts.c)
+SCRIPTS_H = $(addprefix host/,writer.h lines.h session.h listing.h hex.h hex_texts.h)
 
 PROGRAMS = program-trace program-script
 

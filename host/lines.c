@@ -22,6 +22,16 @@ void perform(struct writer *w, const char *line)
     w->since_dump++;
 }
 
+void perform_file(struct writer *w, char *file, size_t length)
+{
+    if (length > 0 && file[length - 1] != '\n') file[length++] = '\n';
+    session_load(&w->s, file, length, w->nowhere);
+    write_line(w, chance(&w->d, 50) ? " prom  " : "prom");
+    w->written += (size_t)fprintf(w->out, "\n") + fwrite(file, 1, length, w->out) + (size_t)fprintf(w->out, "end");
+    if (w->left > 0) w->left--;
+    w->since_dump++;
+}
+
 /* Writes what is passed over: a comment, an empty line or a line of spaces. */
 static void write_passed_over(struct writer *w)
 {

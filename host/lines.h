@@ -33,6 +33,9 @@ void write_line(struct writer *w, const char *line);
 /* Performs a line and writes it. */
 void perform(struct writer *w, const char *line);
 
+/* Performs a `prom` with this file and writes it, with the line that closes it; a file whose last line has no end gets one. */
+void perform_file(struct writer *w, char *file, size_t length);
+
 /* How many bytes are lent. */
 size_t lent(const struct writer *w);
 

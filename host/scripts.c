@@ -55,20 +55,57 @@ static size_t call_length(size_t at, size_t size, size_t length)
     return size > 0 && at + size < length && text[at + size - 1] == '\r' ? size - 1 : size;
 }
 
+/* Where a line of the text starts, and its number from 1. */
+struct place {
+    size_t at;
+    unsigned long line;
+};
+
+/* The line behind this one. */
+static struct place behind(struct place p, size_t length)
+{
+    struct place next = {p.at + line_length(p.at, length) + 1, p.line + 1};
+    return next;
+}
+
+/* The line that closes a file which begins here, or the text's end. */
+static struct place file_end(struct place p, size_t length)
+{
+    while (p.at < length) {
+        size_t size = line_length(p.at, length);
+        if (session_closes_file(text + p.at, call_length(p.at, size, length))) return p;
+        p = behind(p, length);
+    }
+    return p;
+}
+
+/* Performs the call at a place and answers the place behind it; adds to the lines printed. */
+static struct place perform_call(struct session *s, struct place p, size_t length, unsigned long *printed, FILE *out)
+{
+    size_t size = call_length(p.at, line_length(p.at, length), length);
+    struct place next = behind(p, length);
+    if (!session_opens_file(text + p.at, size)) {
+        *printed += session_perform(s, text + p.at, size, out);
+        return next;
+    }
+    struct place end = file_end(next, length);
+    size_t from = next.at < length ? next.at : length, to = end.at < length ? end.at : length;
+    *printed += session_load(s, text + from, to - from, out);
+    return end.at < length ? behind(end, length) : end;
+}
+
 /* Performs the script on standard input. With a line of the output asked for, stops and answers the call's own line. */
 static unsigned long perform_script(struct session *s, unsigned long asked, FILE *out)
 {
     size_t length = read_text();
-    unsigned long line = 0, printed = 0;
+    unsigned long printed = 0;
     if (length > SCRIPT_LIMIT) {
         fputs("?\n", out);
         return 0;
     }
-    for (size_t at = 0, size; at < length; at += size + 1) {
-        size = line_length(at, length);
-        line++;
-        printed += session_perform(s, text + at, call_length(at, size, length), out);
-        if (asked > 0 && printed >= asked) return line;
+    for (struct place p = {0, 1}, next; p.at < length; p = next) {
+        next = perform_call(s, p, length, &printed, out);
+        if (asked > 0 && printed >= asked) return p.line;
     }
     return 0;
 }
@@ -115,8 +152,8 @@ static int where(unsigned long asked)
 /* Prints how often each call was made. */
 static void print_calls(const struct tally *t)
 {
-    static const char *const names[SCRIPT_CALLS] = {"make", "put", "set", "ca", "step", "dump", "show"};
-    puts("lines of the scripts:");
+    static const char *const names[SCRIPT_CALLS] = {"make", "put", "set", "ca", "step", "dump", "show", "list", "prom"};
+    puts("calls of the scripts:");
     for (unsigned i = 0; i < SCRIPT_CALLS; i++) print_count(names[i], t->call[i]);
     print_count("? (no call, or one that is shut out)", t->no_call);
 }
@@ -150,6 +187,23 @@ static void print_registers(const struct tally *t)
     }
 }
 
+/* Prints what listings and files met. */
+static void print_texts(const struct tally *t)
+{
+    static const unsigned numbers[] = {HEX_DONE,      HEX_BEYOND_MEMORY, HEX_BAD_BUFFER, HEX_NO_RECORD,
+                                       HEX_BAD_CHECK, HEX_BAD_TYPE,      HEX_NO_END};
+    char name[40];
+    puts("listings, lines of:");
+    print_count("instructions", t->listed_instructions);
+    print_count("data", t->listed_data);
+    puts("files, by number:");
+    for (unsigned i = 0; i < sizeof numbers / sizeof numbers[0]; i++) {
+        snprintf(name, sizeof name, "number %u", numbers[i]);
+        print_count(name, t->prom[numbers[i]]);
+    }
+    print_count("with a start address", t->started);
+}
+
 /* Prints what the tally of that name met; fails where that should have been all and was not. */
 static int met(const char *tally_name)
 {
@@ -161,6 +215,7 @@ static int met(const char *tally_name)
     print_numbers("steps", t.step, STEP_NUMBERS);
     print_steps(&t);
     print_registers(&t);
+    print_texts(&t);
     print_coverage(&t.coverage, COMMANDS);
     bool all = all_met(t.calls, CALLS_TO_MEET_ALL, "calls");
     printf("%lu scripts, %lu calls\n", t.scripts, t.calls);

@@ -298,16 +298,64 @@ static unsigned call_show(struct session *s, const struct text *word, FILE *out)
     return 1;
 }
 
+/* Counts a listing's lines: of instructions, and of data. */
+static void count_listed(struct tally *t, const struct listing_met *met)
+{
+    for (unsigned i = 0; i < LISTING_ROWS; i++) t->listed_instructions += met->row[i];
+    for (unsigned i = 0; i < DATA_REASONS; i++) t->listed_data += met->data[i];
+}
+
+/* list SPACE ADDRESS LENGTH */
+static unsigned call_list(struct session *s, const struct text *word, FILE *out)
+{
+    static uint8_t text[SCRIPT_LIST_LIMIT * SCRIPT_LIST_LINE];
+    struct listing_met met = {.longest = 0};
+    uint32_t space, address, length;
+    unsigned lines = 0;
+    if (!number(word[1], 1, &space) || !number(word[2], UINT32_MAX, &address)) return 0;
+    if (!number(word[3], SCRIPT_LIST_LIMIT, &length) || length == 0) return 0;
+    struct buffer b = buffer_of(s, space);
+    if (address > b.length || length > b.length - address) return 0;
+    struct listing listed = list_code(b.bytes + address, length, address, text, sizeof text, &met);
+    count_listed(&s->tally, &met);
+    fwrite(text, 1, listed.characters, out);
+    for (uint32_t i = 0; i < listed.characters; i++) lines += text[i] == '\n';
+    return lines;
+}
+
 /* The table of calls: name, words with the name, and deed. */
 static const struct {
     const char *name;
     unsigned words;
     unsigned (*act)(struct session *s, const struct text *word, FILE *out);
-} calls[SCRIPT_CALLS] = {
+} calls[SCRIPT_LINES] = {
     [CALL_MAKE] = {"make", 4, call_make}, [CALL_PUT] = {"put", 4, call_put},    [CALL_SET] = {"set", 4, call_set},
     [CALL_CA] = {"ca", 2, call_ca},       [CALL_STEP] = {"step", 2, call_step}, [CALL_DUMP] = {"dump", 1, call_dump},
-    [CALL_SHOW] = {"show", 3, call_show},
+    [CALL_SHOW] = {"show", 3, call_show}, [CALL_LIST] = {"list", 4, call_list},
 };
+
+bool session_opens_file(const char *line, size_t length)
+{
+    struct text whole = {line, length}, word[MOST_WORDS];
+    return split(whole, word) == 1 && is(word[0], "prom");
+}
+
+bool session_closes_file(const char *line, size_t length)
+{
+    struct text whole = {line, length};
+    return is(whole, "end");
+}
+
+unsigned session_load(struct session *s, const char *file, size_t length, FILE *out)
+{
+    struct hex_answer a = hex_load((const uint8_t *)file, length, s->memory.sys, s->memory.sys_len);
+    s->tally.calls++;
+    s->tally.call[CALL_PROM]++;
+    s->tally.prom[a.number]++;
+    s->tally.started += a.number == HEX_DONE && a.start != 0;
+    fprintf(out, "prom %u %" PRIu32 " %08" PRIx32 "\n", a.number, a.line, a.start);
+    return 1;
+}
 
 unsigned session_perform(struct session *s, const char *line, size_t length, FILE *out)
 {
@@ -315,8 +363,8 @@ unsigned session_perform(struct session *s, const char *line, size_t length, FIL
     unsigned words = split(whole, word), which = 0, printed = 0;
     if (words == 0 || line[0] == '#') return 0;
     s->tally.calls++;
-    while (which < SCRIPT_CALLS && !is(word[0], calls[which].name)) which++;
-    if (which < SCRIPT_CALLS && words == calls[which].words) printed = calls[which].act(s, word, out);
+    while (which < SCRIPT_LINES && !is(word[0], calls[which].name)) which++;
+    if (which < SCRIPT_LINES && words == calls[which].words) printed = calls[which].act(s, word, out);
     if (printed > 0) {
         s->tally.call[which]++;
         return printed;

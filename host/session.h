@@ -3,14 +3,22 @@
 #define SESSION_H
 
 #include "emulator.h"
+#include "hex.h"
+#include "listing.h"
 
 /* The longest text of which calls are made, and the longest buffers that a script can ask for. */
 #define SCRIPT_LIMIT 1048576u
 #define SCRIPT_SYSTEM_ROOM 0x100001u
 #define SCRIPT_IO_ROOM 0x10001u
 
-/* The calls, in the order of their table. */
-enum script_call { CALL_MAKE, CALL_PUT, CALL_SET, CALL_CA, CALL_STEP, CALL_DUMP, CALL_SHOW, SCRIPT_CALLS };
+/* The most bytes that one call lists, and the most characters that a line of them takes. */
+enum { SCRIPT_LIST_LIMIT = 0x400, SCRIPT_LIST_LINE = 28 };
+
+/* The calls, in the order of their table; `prom` stands behind them, since the lines behind it belong to it. */
+enum script_call {
+    CALL_MAKE, CALL_PUT, CALL_SET, CALL_CA, CALL_STEP, CALL_DUMP, CALL_SHOW, CALL_LIST, SCRIPT_LINES,
+    CALL_PROM = SCRIPT_LINES, SCRIPT_CALLS
+};
 
 /* The registers that a script can set; the first six are addresses. */
 enum script_name {
@@ -33,7 +41,8 @@ extern const struct script_register script_registers[SCRIPT_REGISTERS];
 struct tally {
     unsigned long scripts, calls, no_call;
     unsigned long call[SCRIPT_CALLS];
-    unsigned long make[EMU_NUMBERS], ca[EMU_NUMBERS], step[EMU_NUMBERS];
+    unsigned long make[EMU_NUMBERS], ca[EMU_NUMBERS], step[EMU_NUMBERS], prom[HEX_NUMBERS];
+    unsigned long listed_instructions, listed_data, started;
     unsigned long kind[2][3];
     unsigned long stepped_under[16];
     unsigned long set[2][SCRIPT_REGISTERS];
@@ -53,6 +62,15 @@ void session_begin(struct session *s);
 
 /* Makes the call on a line (without its line feed), prints its answer, and answers how many lines that were. */
 unsigned session_perform(struct session *s, const char *line, size_t length, FILE *out);
+
+/* Whether a line is `prom`: the lines behind it, up to one that is `end`, are a file of hexadecimal records. */
+bool session_opens_file(const char *line, size_t length);
+
+/* Whether a line closes that file. */
+bool session_closes_file(const char *line, size_t length);
+
+/* Loads the file of a `prom`, prints its answer, and answers how many lines that were. */
+unsigned session_load(struct session *s, const char *file, size_t length, FILE *out);
 
 /* An address register of channel 1 or 2, or the shared one. */
 uint32_t *session_address(struct session *s, uint32_t channel, unsigned which);

@@ -2,6 +2,7 @@
 #include "writer.h"
 
 #include "cases.h"
+#include "hex_texts.h"
 #include "lines.h"
 
 /* ---- Programs and attentions ---- */
@@ -304,6 +305,40 @@ static void put_at_end(struct writer *w)
     put(w, in_io, (uint32_t)(length - count) + below(&w->d, 2), bytes, count);
 }
 
+/* Lists a part of a buffer: where a channel's program was put, anywhere, up to the buffer's end, or one byte too far. */
+static void list(struct writer *w)
+{
+    uint32_t channel = some_channel(w);
+    bool in_io = chance(&w->d, 600) ? w->program_in_io[channel - 1] : chance(&w->d, 500);
+    size_t length = in_io ? w->s.memory.io_len : w->s.memory.sys_len;
+    uint32_t count = chance(&w->d, 20) ? SCRIPT_LIST_LIMIT + below(&w->d, 2) : 1 + below(&w->d, 48);
+    uint32_t at = chance(&w->d, 500) ? w->program[channel - 1] : below(&w->d, length);
+    if (chance(&w->d, 200)) at = (uint32_t)length - count + below(&w->d, 2);
+    say(w, "list %d %s %s", in_io, number(w, at).text, number(w, count).text);
+}
+
+/* The hexadecimal text of bytes at a place for data. */
+static size_t some_image(struct writer *w, char *file)
+{
+    uint8_t bytes[64];
+    fill(&w->d, bytes, sizeof bytes);
+    return hex_image((uint8_t *)file, bytes, 1 + below(&w->d, sizeof bytes), data_place(w, false));
+}
+
+/* Loads a file: of a few bytes that mostly fit, or one of the comparison of files, good or damaged. */
+static void load(struct writer *w)
+{
+    static char file[HEX_TEXT_ROOM + 1];
+    struct hex_case c = {(uint8_t *)file, 0, 0, NULL};
+    size_t length;
+    if (chance(&w->d, 400)) length = some_image(w, file);
+    else {
+        make_hex_case(&c, roll(&w->d), 0);
+        length = c.text_len;
+    }
+    perform_file(w, file, length);
+}
+
 /* Writes a line that is no call, or a call that is shut out. */
 static void say_no_call(struct writer *w)
 {
@@ -317,6 +352,8 @@ static void say_no_call(struct writer *w)
         "set 1 g 0", "set 1 gaa 0", "set 1 ga 100000000", "set 0 mode 1", "set 101 ga 0", "ca", "ca 1 1", "ca x",
         "ca 123456789", "ca 1,", "ca1", "step", "step 0 0", "step 0.", "step -1", "stepp 0", "ste 0", "dump 1", "Dump",
         "show", "show 0", "show 2 0", "show 0 0 0", "show 0 123456789", " # no comment", "hello", "?", "0",
+        "list", "list 0 0", "list 2 0 1", "list 0 0 0", "list 0 0 401", "list 0 0 1 0", "list 0 ffffffff 1",
+        "list 0 0 g", "List 0 0 1", "prom 0", "Prom", "proms", "end", "end 0", ":00000001FF",
         "dump\t", "\tdump", "ca\t1", "dump\r\r", "\rstep 1", "ca\r1", "\r\r", "\t", "ca \xC3\xA9", "a b c d e f g h",
     };
     perform(w, ONE_OF(&w->d, lines));
@@ -339,15 +376,17 @@ static void say_damaged(struct writer *w)
 static void go_on(struct writer *w)
 {
     unsigned kind = below(&w->d, 1000);
-    if (kind < 360) steps(w);
-    else if (kind < 520) give_command(w);
-    else if (kind < 550) give_odd_attention(w);
-    else if (kind < 650) set_any(w);
-    else if (kind < 680) go_unsound(w);
-    else if (kind < 780) transfer(w);
-    else if (kind < 900) try_instructions(w, some_channel(w));
-    else if (kind < 930) show(w);
-    else if (kind < 950) put_at_end(w);
+    if (kind < 330) steps(w);
+    else if (kind < 470) give_command(w);
+    else if (kind < 500) give_odd_attention(w);
+    else if (kind < 580) set_any(w);
+    else if (kind < 610) go_unsound(w);
+    else if (kind < 710) transfer(w);
+    else if (kind < 830) try_instructions(w, some_channel(w));
+    else if (kind < 855) show(w);
+    else if (kind < 870) put_at_end(w);
+    else if (kind < 905) list(w);
+    else if (kind < 950) load(w);
     else if (kind < 970) say_damaged(w);
     else say_no_call(w);
 }
@@ -409,6 +448,7 @@ static void use_machine(struct writer *w)
         give_program(w, channel);
         if (chance(&w->d, 850)) start(w, channel);
     }
+    if (w->s.memory.sys_len > EMU_SYSTEM_LIMIT) load(w);
     while (w->left > end) go_on(w);
     perform(w, "dump");
 }

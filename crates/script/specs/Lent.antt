@@ -1,6 +1,6 @@
 -- How many bytes of each buffer a call leaves lent.
 use Rattle.script_text.specs.declared.text.Call.{Call}
-use Rattle.script_text.specs.declared.text.Call.the-variants.{Nothing, Unknown, Make, Put, Set, Attention, Step, Dump, Show}
+use Rattle.script_text.specs.declared.text.Call.the-variants.{Nothing, Unknown, Make, Put, Set, Attention, Step, Dump, Show, Listing, Load}
 use Rattle.script.specs.declared.Lent.{Lent}
 
 -- how many bytes are lent after a call: `make` lends buffers of the lengths that it names, no other call changes them
@@ -14,3 +14,5 @@ lentAfter (Attention channel) lent = lent
 lentAfter (Step lines) lent = lent
 lentAfter Dump lent = lent
 lentAfter (Show space address) lent = lent
+lentAfter (Listing space address count) lent = lent
+lentAfter Load lent = lent

@@ -5,12 +5,14 @@ use libc::STDOUT_FILENO;
 use script_text::text;
 use script_text::text::Call;
 ghost use mathlib.Core.Path.{_≡_};
-ghost use Prim.Native.Nat.{_+_, _≤_};
+ghost use mathlib.Core.Bool.{false};
+ghost use Prim.Native.Nat.{_+_, _≤_, _<_, min};
 ghost use lib.ListN.{length, drop};
+ghost use Rattle.words.specs.Choice.{pick};
 ghost use Rattle.script_text.specs.Calls.{Limited};
 ghost use Rattle.script_text.specs.Text.{untilSame};
 ghost use Rattle.script.specs.Lent.{lentAfter};
-ghost use Rattle.script.specs.Lines.{contentEnd};
+ghost use Rattle.script.specs.Lines.{contentEnd, closesFile, fileEnd};
 
 // How many bytes of each buffer are lent.
 struct Lent {
@@ -38,6 +40,8 @@ fn lent_after(call: Call, lent: Lent) -> Lent
         Call::Step(_) => lent,
         Call::Dump => lent,
         Call::Show(_, _) => lent,
+        Call::Listing(_, _, _) => lent,
+        Call::Load => lent,
     }
 }
 
@@ -65,6 +69,93 @@ fn content_end(text: &[u8], at: usize, end: usize) -> usize
     if text[end - 1] == 13 { end - 1 } else { end }
 }
 
+// Whether a line starts at an index, as the caller says, that is `end` and nothing else, which closes a file.
+fn closes_file(text: &[u8], at: usize, start: bool) -> bool
+    requires { ⌜ at ≤ length (now text) ⌝ }
+    ensures { λ r. ⌜ r ≡ pick start (closesFile (now (text .entry)) at) false ⌝ }
+{
+    if !start {
+        return false;
+    }
+    let end = line_end(text, at);
+    let content = content_end(text, at, end);
+    if content - at != 3 {
+        return false;
+    }
+    (text[at] == 101) & (text[at + 1] == 110) & (text[at + 2] == 100)
+}
+
+// Where the file ends whose first line starts at an index.
+fn file_end(text: &[u8], at: usize) -> usize
+    requires { ⌜ at ≤ length (now text) ⌝ }
+    ensures { λ r. ⌜ r ≡ fileEnd (now (text .entry)) at ⌝ }
+    ensures { λ r. ⌜ (at ≤ r) × (r ≤ length (now (text .entry))) ⌝ }
+{
+    let mut i = at;
+    let mut start = true;
+    while i < text.len() {
+        if closes_file(text, i, start) {
+            return i;
+        }
+        start = text[i] == 10;
+        i += 1;
+    }
+    i
+}
+
+// The index behind the line feed at another, or that one where the text ends there.
+fn behind(text: &[u8], end: usize) -> usize
+    requires { ⌜ end ≤ length (now text) ⌝ }
+    ensures { λ r. ⌜ r ≡ min (end + 1) (length (now (text .entry))) ⌝ }
+{
+    if end < text.len() { end + 1 } else { end }
+}
+
+// What a call is given of the text, and where the next line starts.
+struct Given {
+    from: usize,
+    to: usize,
+    next: usize,
+}
+
+// What the call of the line from `at` to `content`, which ends at `end`, is given: that line, or the file that follows it.
+fn given_to(text: &[u8], at: usize, content: usize, end: usize, call: Call) -> Given
+    requires { ⌜ (at ≤ content) × (content ≤ end) × (end ≤ length (now text)) ⌝ }
+    requires { ⌜ at < length (now text) ⌝ }
+    ensures { λ r. ⌜ (r .from ≤ r .to) × (r .to ≤ length (now (text .entry))) × (at < r .next) × (r .next ≤ length (now (text .entry))) ⌝ }
+{
+    let next = behind(text, end);
+    if let Call::Load = call {
+        let to = file_end(text, next);
+        let last = line_end(text, to);
+        return Given {
+            from: next,
+            to,
+            next: behind(text, last),
+        };
+    }
+    Given {
+        from: at,
+        to: content,
+        next,
+    }
+}
+
+// How many line feeds a text has.
+fn feeds(text: &[u8]) -> usize
+    ensures { λ r. ⌜ r ≤ length (now (text .entry)) ⌝ }
+{
+    let mut count: usize = 0;
+    let mut i: usize = 0;
+    while i < text.len() {
+        if text[i] == 10 {
+            count += 1;
+        }
+        i += 1;
+    }
+    count
+}
+
 // Says words on standard error.
 fn say(words: &[u8]) {
     io::write_all(STDERR_FILENO, words);
@@ -76,6 +167,7 @@ fn complain(number: usize, call: Call) {
     io::print_decimal(STDERR_FILENO, number as u64);
     match call {
         Call::Put(_, _) => say(b": a byte past the buffer's end\n"),
+        Call::Listing(_, _, _) => say(b": no part of the buffer, or one of more than 1024 bytes\n"),
         _ => say(b": no call\n"),
     }
 }
@@ -91,12 +183,16 @@ fn play(text: &[u8], sys: &mut [u8], io: &mut [u8])
     let mut lent = Lent { sys: 0, io: 0 };
     let mut out = [0u8; 32768];
     let mut at: usize = 0;
-    let mut number: usize = 0;
+    let mut number: usize = 1;
     while at < text.len() {
         let end = line_end(text, at);
         let content = content_end(text, at, end);
-        let line = &text[at..content];
-        let call = text::call_of(line);
+        let call = text::call_of(&text[at..content]);
+        let given = given_to(text, at, content, end, call);
+        let from = given.from;
+        let to = given.to;
+        let next_at = given.next;
+        let line = &text[from..to];
         lent = lent_after(call, lent);
         let sys_length = lent.sys;
         let io_length = lent.io;
@@ -110,13 +206,13 @@ fn play(text: &[u8], sys: &mut [u8], io: &mut [u8])
         );
         let count = r.count;
         io::write_all(STDOUT_FILENO, &out[..count]);
-        number += 1;
         if !r.made {
             complain(number, call);
         }
+        number += feeds(&text[at..next_at]);
         let next = r.state;
         state = next;
-        at = end + 1;
+        at = next_at;
     }
 }
 

@@ -1,4 +1,4 @@
--- The text of every call has room in 32,768 bytes, so that it stands whole.
+-- The text of every call has room in 32,768 bytes, so that it stands whole; that of a listing is the longest.
 -- Assumes nothing.
 use mathlib.Core.Bool.{Bool, true, false}
 use mathlib.Core.List.{List, []}
@@ -7,28 +7,30 @@ use Prim.Native.Nat.{ℕ, _≤_}
 use native.Mathlib.Omega.{arith}
 use lib.ListN.{length}
 use Rattle.words.specs.Choice.{pick}
-use Rattle.memory.specs.Buffers.{Buffers}
+use Rattle.memory.specs.Buffers.{Buffers, buffers}
 use Rattle.machine.specs.declared.State.{State}
 use Rattle.machine.specs.States.{freshOf}
 use Rattle.attention.specs.Attention.{attentionOf}
 use Rattle.step.specs.Step.{stepOf}
 use Rattle.notation.specs.Characters.{ascii}
+use Rattle.prom.specs.Load.{loadOf}
 use Rattle.page.specs.Pages.{page, Behind, Printed}
 use Rattle.page.proofs.PageLaws.{printed, nothing-behind}
 use Rattle.script_text.specs.declared.text.Call.{Call}
-use Rattle.script_text.specs.declared.text.Call.the-variants.{Nothing, Unknown, Make, Put, Set, Attention, Step, Dump, Show}
-use Rattle.script_lines.proofs.LengthLaws.{answer-short, stepped-short, dump-short, shown-short}
+use Rattle.script_text.specs.declared.text.Call.the-variants.{Nothing, Unknown, Make, Put, Set, Attention, Step, Dump, Show, Listing, Load}
+use Rattle.script_lines.proofs.LengthLaws.{answer-short, stepped-short, loaded-short, dump-short, shown-short}
 use Rattle.script_answers.specs.Machine.{callMade}
-use Rattle.script_answers.specs.Shown.{advancedLine, putLine, callText}
+use Rattle.script_answers.specs.Shown.{advancedLine, putLine, loadText, callText}
+use Rattle.script_answers.proofs.ListingLaws.{listed-short}
 
 put-short : (made : Bool) → length (putLine made) ≤ 15
 unfolding putLine
 put-short true = answer-short (ascii "put ") 0
 put-short false = omega arith
 
--- no call's text is longer than a dump's can be
-pub call-short : (call : Call) (line : List ℕ) (s : State) (m : Buffers) → length (callText call line s m) ≤ 312
-unfolding callText advancedLine
+-- no call's text is longer than a listing's can be
+pub call-short : (call : Call) (line : List ℕ) (s : State) (m : Buffers) → length (callText call line s m) ≤ 28672
+unfolding callText advancedLine loadText
 call-short Nothing line s m = omega arith
 call-short Unknown line s m = omega arith
 call-short (Make sys io cp) line s m = omega (arith, answer-short (ascii "make ") (freshOf cp .number))
@@ -36,8 +38,12 @@ call-short (Put space address) line s m = omega (arith, put-short (callMade (Put
 call-short (Set channel register value) line s m = omega (arith, answer-short (ascii "set ") 0)
 call-short (Attention channel) line s m = omega (arith, answer-short (ascii "ca ") (attentionOf s m channel .number))
 call-short (Step lines) line s m = omega (arith, stepped-short (stepOf s m lines .number) (stepOf s m lines .channel) (stepOf s m lines .kind))
-call-short Dump line s m = dump-short s m
+call-short Dump line s m = omega (arith, dump-short s m)
 call-short (Show space address) line s m = omega (arith, shown-short (pick space (m .io) (m .sys)) address)
+call-short (Listing space address count) line s m = listed-short (pick space (m .io) (m .sys)) address count
+call-short Load line s m =
+    let l = loadOf line (buffers (m .sys) []) in
+    omega (arith, loaded-short (l .number) (l .line) (l .start))
 
 -- the text that was written from the start of such a buffer is the call's, whole
 pub shows : {call this : Call} (line : List ℕ) (s : State) (m : Buffers) {before after : List ℕ} {count : ℕ} → call ≡ this → 32768 ≡ length before

@@ -1,7 +1,8 @@
 -- What a call makes of the machine: its state and the bytes that are lent.
 use mathlib.Core.Bool.{Bool, true, false}
-use mathlib.Core.List.{List}
-use Prim.Native.Nat.{ℕ}
+use mathlib.Core.List.{List, []}
+use Prim.Native.Nat.{ℕ, _+_}
+use lib.Dec.{leb}
 use lib.ListN.{length, replicate}
 use Rattle.words.specs.Choice.{pick}
 use Rattle.memory.specs.Buffers.{Buffers, buffers}
@@ -9,8 +10,9 @@ use Rattle.machine.specs.declared.State.{State}
 use Rattle.machine.specs.States.{freshOf}
 use Rattle.attention.specs.Attention.{attentionOf}
 use Rattle.step.specs.Step.{stepOf}
+use Rattle.prom.specs.Load.{loadOf}
 use Rattle.script_text.specs.declared.text.Call.{Call}
-use Rattle.script_text.specs.declared.text.Call.the-variants.{Nothing, Unknown, Make, Put, Set, Attention, Step, Dump, Show}
+use Rattle.script_text.specs.declared.text.Call.the-variants.{Nothing, Unknown, Make, Put, Set, Attention, Step, Dump, Show, Listing, Load}
 use Rattle.script_text.specs.Text.{spanned, fourthSpan}
 use Rattle.script_text.specs.Registers.{withNamed}
 use Rattle.script_text.specs.Buffers.{bytesWritten, hasRoom}
@@ -43,7 +45,15 @@ machineAttended s m channel = machine (attentionOf s m channel .state) (attentio
 unfoldable pub machineAdvanced : State → Buffers → ℕ → Machine
 machineAdvanced s m lines = machine (stepOf s m lines .state) (stepOf s m lines .memory)
 
--- what the call of a line makes of the machine
+-- `prom`: the file goes into system memory, whole or not at all
+unfoldable pub machineLoaded : State → Buffers → List ℕ → Machine
+machineLoaded s m file = machine s (buffers (loadOf file (buffers (m .sys) []) .memory .sys) (m .io))
+
+-- a part of a buffer that `list` lists: one byte to 1,024, none past the end
+unfoldable pub isPart : List ℕ → ℕ → ℕ → Bool
+isPart s at count = pick (leb 1 count) (pick (leb count 1024) (leb (at + count) (length s)) false) false
+
+-- what the call of a line makes of the machine; `line` is its line, for `prom` the file that follows it
 unfoldable pub callPerformed : Call → List ℕ → State → Buffers → Machine
 callPerformed Nothing line s m = machine s m
 callPerformed Unknown line s m = machine s m
@@ -54,8 +64,10 @@ callPerformed (Attention channel) line s m = machineAttended s m channel
 callPerformed (Step lines) line s m = machineAdvanced s m lines
 callPerformed Dump line s m = machine s m
 callPerformed (Show space address) line s m = machine s m
+callPerformed (Listing space address count) line s m = machine s m
+callPerformed Load line s m = machineLoaded s m line
 
--- whether a line's call was made: no call at all was not, and no `put` past its buffer's end
+-- whether a line's call was made: no call at all was not, no `put` past its buffer's end, and no `list` of what is no part
 unfoldable pub callMade : Call → List ℕ → Buffers → Bool
 callMade Nothing line m = true
 callMade Unknown line m = false
@@ -66,3 +78,5 @@ callMade (Attention channel) line m = true
 callMade (Step lines) line m = true
 callMade Dump line m = true
 callMade (Show space address) line m = true
+callMade (Listing space address count) line m = isPart (pick space (m .io) (m .sys)) address count
+callMade Load line m = true

@@ -2,17 +2,20 @@
 use mathlib.Core.Bool.{Bool}
 use mathlib.Core.List.{List, []}
 use Prim.Native.Nat.{ℕ}
+use lib.ListN.{take, drop}
 use Rattle.words.specs.Choice.{pick}
-use Rattle.memory.specs.Buffers.{Buffers}
+use Rattle.memory.specs.Buffers.{Buffers, buffers}
 use Rattle.machine.specs.declared.State.{State}
 use Rattle.machine.specs.States.{freshOf}
 use Rattle.attention.specs.Attention.{attentionOf}
 use Rattle.step.specs.Step.{stepOf}
+use Rattle.lister.specs.Listings.{linesOf, allChars}
 use Rattle.notation.specs.Characters.{ascii}
+use Rattle.prom.specs.Load.{Loading, loadOf}
 use Rattle.script_text.specs.declared.text.Call.{Call}
-use Rattle.script_text.specs.declared.text.Call.the-variants.{Nothing, Unknown, Make, Put, Set, Attention, Step, Dump, Show}
-use Rattle.script_lines.specs.Lines.{refusedLine, answerLine, steppedLine, dumpText, shownLine}
-use Rattle.script_answers.specs.Machine.{callMade}
+use Rattle.script_text.specs.declared.text.Call.the-variants.{Nothing, Unknown, Make, Put, Set, Attention, Step, Dump, Show, Listing, Load}
+use Rattle.script_lines.specs.Lines.{refusedLine, answerLine, steppedLine, loadedLine, dumpText, shownLine}
+use Rattle.script_answers.specs.Machine.{isPart, callMade}
 
 -- the line of what a step answered
 unfoldable pub advancedLine : State → Buffers → ℕ → List ℕ
@@ -21,6 +24,14 @@ advancedLine s m lines = steppedLine (stepOf s m lines .number) (stepOf s m line
 -- the line of `put`: that of a call that was shut out where a byte would lie past the buffer's end
 unfoldable pub putLine : Bool → List ℕ
 putLine made = pick made (answerLine (ascii "put ") 0) refusedLine
+
+-- the lines of a listing: those of the part, whose first byte has its own address, or that of a call that was shut out
+unfoldable pub listedText : List ℕ → ℕ → ℕ → List ℕ
+listedText s at count = pick (isPart s at count) (allChars (linesOf at (take count (drop at s)))) refusedLine
+
+-- the line of what a load answered
+unfoldable pub loadText : Loading → List ℕ
+loadText l = loadedLine (l .number) (l .line) (l .start)
 
 -- the text that the call of a line shows; a line that is passed over shows none
 unfoldable pub callText : Call → List ℕ → State → Buffers → List ℕ
@@ -33,3 +44,5 @@ callText (Attention channel) line s m = answerLine (ascii "ca ") (attentionOf s 
 callText (Step lines) line s m = advancedLine s m lines
 callText Dump line s m = dumpText s m
 callText (Show space address) line s m = shownLine (pick space (m .io) (m .sys)) address
+callText (Listing space address count) line s m = listedText (pick space (m .io) (m .sys)) address count
+callText Load line s m = loadText (loadOf line (buffers (m .sys) []))

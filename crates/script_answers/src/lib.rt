@@ -6,18 +6,22 @@ use script_text::text;
 use script_text::text::Call;
 ghost use mathlib.Core.Path.{_≡_};
 ghost use mathlib.Core.Bool.{true};
+ghost use mathlib.Core.List.{[]};
+ghost use Prim.Native.Nat.{_≤_};
+ghost use lib.ListN.{length};
 ghost use Rattle.memory.specs.Buffers.{buffers};
 ghost use Rattle.machine.specs.States.{freshOf};
 ghost use Rattle.attention.specs.Attention.{attentionOf};
 ghost use Rattle.notation.specs.Characters.{ascii};
 ghost use Rattle.page.specs.Pages.{page, Behind, Printed};
+ghost use Rattle.prom.specs.Load.{loadOf};
 ghost use Rattle.script_text.specs.Text.{spanned, fourthSpan};
 ghost use Rattle.script_text.specs.Registers.{withNamed};
 ghost use Rattle.words.specs.Choice.{pick};
 ghost use Rattle.script_text.specs.Buffers.{hasRoom};
 ghost use Rattle.script_lines.specs.Lines.{answerLine, shownLine};
-ghost use Rattle.script_answers.specs.Machine.{machine, remade, putInto, machineAttended, machineAdvanced, callPerformed, callMade};
-ghost use Rattle.script_answers.specs.Shown.{advancedLine, putLine, callText};
+ghost use Rattle.script_answers.specs.Machine.{machine, remade, putInto, machineAttended, machineAdvanced, machineLoaded, isPart, callPerformed, callMade};
+ghost use Rattle.script_answers.specs.Shown.{advancedLine, putLine, listedText, loadText, callText};
 
 // The state after a line, whether its call was made, and how many bytes its text has.
 pub struct Performed {
@@ -106,7 +110,75 @@ fn show(io_space: bool, address: u32, sys: &[u8], io: &[u8], out: &mut [u8]) -> 
     script_lines::shown_line(out, 0, sys, address)
 }
 
-// Makes the call of a line, in the buffers that are lent after it.
+// Whether a part of a buffer is listed: one byte to 1,024, none past the end.
+fn is_part(bytes: &[u8], address: u32, count: u32) -> bool
+    ensures { λ r. ⌜ r ≡ isPart (now (bytes .entry)) address count ⌝ }
+{
+    if count < 1 {
+        return false;
+    }
+    if 1024 < count {
+        return false;
+    }
+    address as usize + count as usize <= bytes.len()
+}
+
+// Whether a listing was made, and how many bytes its text has.
+struct ListedPart {
+    made: bool,
+    count: usize,
+}
+
+// Lists a part of a buffer.
+fn list_part(bytes: &[u8], address: u32, count: u32, out: &mut [u8]) -> ListedPart
+    requires { ⌜ 32768 ≤ length (now out) ⌝ }
+    ensures { λ r. ⌜ r .made ≡ isPart (now (bytes .entry)) address count ⌝ }
+    ensures { λ r. ⌜ Behind (page (now (out .entry)) 0) (page (now (out .exit)) (r .count)) (listedText (now (bytes .entry)) address count) ⌝ }
+{
+    if !is_part(bytes, address, count) {
+        return ListedPart {
+            made: false,
+            count: page::append(out, 0, b"?\n"),
+        };
+    }
+    let from = address as usize;
+    let to = from + count as usize;
+    let l = lister::listings::list(&bytes[from..to], address, out);
+    ListedPart {
+        made: true,
+        count: l.characters as usize,
+    }
+}
+
+// Lists a part of one of the buffers.
+fn list(
+    io_space: bool,
+    address: u32,
+    count: u32,
+    sys: &[u8],
+    io: &[u8],
+    out: &mut [u8],
+) -> ListedPart
+    requires { ⌜ 32768 ≤ length (now out) ⌝ }
+    ensures { λ r. ⌜ r .made ≡ isPart (pick «io_space» (now (io .entry)) (now (sys .entry))) address count ⌝ }
+    ensures { λ r. ⌜ Behind (page (now (out .entry)) 0) (page (now (out .exit)) (r .count)) (listedText (pick «io_space» (now (io .entry)) (now (sys .entry))) address count) ⌝ }
+{
+    if io_space {
+        return list_part(io, address, count, out);
+    }
+    list_part(sys, address, count, out)
+}
+
+// Loads a file into system memory.
+fn load(file: &[u8], sys: &mut [u8], out: &mut [u8]) -> usize
+    ensures { λ r. ⌜ now (sys .exit) ≡ loadOf (now (file .entry)) (buffers (now (sys .entry)) []) .memory .sys ⌝ }
+    ensures { λ r. ⌜ Behind (page (now (out .entry)) 0) (page (now (out .exit)) r) (loadText (loadOf (now (file .entry)) (buffers (now (sys .entry)) []))) ⌝ }
+{
+    let l = prom::load(file, sys);
+    script_lines::loaded_line(out, 0, l.number, l.line, l.start)
+}
+
+// Makes the call of a line, in the buffers that are lent after it; `line` is its line, for `prom` the file that follows it.
 pub fn perform(
     s: State,
     call: Call,
@@ -158,6 +230,19 @@ pub fn perform(
             state: s,
             made: true,
             count: show(io_space, address, sys, io, out),
+        },
+        Call::Listing(io_space, address, count) => {
+            let l = list(io_space, address, count, sys, io, out);
+            Performed {
+                state: s,
+                made: l.made,
+                count: l.count,
+            }
+        }
+        Call::Load => Performed {
+            state: s,
+            made: true,
+            count: load(line, sys, out),
         },
     }
 }

@@ -10,6 +10,8 @@ use Rattle.script_lines.proofs.answer_line.Kinds as answer-kinds
 use Rattle.script_lines.proofs.answer_line.Reads as answer-reads
 use Rattle.script_lines.proofs.dump.Kinds as dump-kinds
 use Rattle.script_lines.proofs.dump.Reads as dump-reads
+use Rattle.script_lines.proofs.loaded_line.Kinds as loaded-kinds
+use Rattle.script_lines.proofs.loaded_line.Reads as loaded-reads
 use Rattle.script_lines.proofs.shown_line.Kinds as shown-kinds
 use Rattle.script_lines.proofs.shown_line.Reads as shown-reads
 use Rattle.script_lines.proofs.stepped_line.Kinds as stepped-kinds
@@ -22,6 +24,10 @@ answer-line-determined κs a r q e f p w = p .is ∙ sym (w .is)
 pub stepped-line-determined : (κs : Lfts 1) (a : Dens κs stepped-kinds.ps) (r q : resT stepped-kinds.r κs .Denot) (e f : AtExit (endedOf 1 stepped-kinds.ps stepped-kinds.r) κs)
     → stepped-reads.Post κs a r e → stepped-reads.Post κs a q f → page (now (e .0)) r ≡ page (now (f .0)) q
 stepped-line-determined κs a r q e f p w = p .is ∙ sym (w .is)
+
+pub loaded-line-determined : (κs : Lfts 1) (a : Dens κs loaded-kinds.ps) (r q : resT loaded-kinds.r κs .Denot) (e f : AtExit (endedOf 1 loaded-kinds.ps loaded-kinds.r) κs)
+    → loaded-reads.Post κs a r e → loaded-reads.Post κs a q f → page (now (e .0)) r ≡ page (now (f .0)) q
+loaded-line-determined κs a r q e f p w = p .is ∙ sym (w .is)
 
 pub dump-determined : (κs : Lfts 3) (a : Dens κs dump-kinds.ps) (r q : resT dump-kinds.r κs .Denot) (e f : AtExit (endedOf 3 dump-kinds.ps dump-kinds.r) κs)
     → dump-reads.Post κs a r e → dump-reads.Post κs a q f → page (now (e .0)) r ≡ page (now (f .0)) q

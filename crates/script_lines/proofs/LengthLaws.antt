@@ -19,7 +19,7 @@ use Rattle.notation.specs.Characters.{ascii}
 use Rattle.page.specs.Numbers.{hex, decimal, letter}
 use Rattle.page.proofs.NumberLaws.{hex-short, decimal-short}
 use Rattle.script_text.specs.Buffers.{digestOf}
-use Rattle.script_lines.specs.Lines.{feed, answerLine, steppedLine, registerText, markNumber, pointerText, pointersText, numbersText, numberOfMode, marksText, channelLine, bufferText, sharedLine, dumpText, byteText, bytesText, shownLine}
+use Rattle.script_lines.specs.Lines.{feed, answerLine, steppedLine, loadedLine, registerText, markNumber, pointerText, pointersText, numbersText, numberOfMode, marksText, channelLine, bufferText, sharedLine, dumpText, byteText, bytesText, shownLine}
 
 -- two texts in a row
 both : (a b : List ℕ) (m n : ℕ) → length a ≤ m → length b ≤ n → length (a ++ b) ≤ m + n
@@ -36,6 +36,14 @@ stepped-short number channel kind =
     both (ascii "step ") (decimal number ++ (ascii " " ++ (decimal channel ++ (32 ∷ letter kind ∷ feed)))) 5 24 (omega arith)
     (both (decimal number) (ascii " " ++ (decimal channel ++ (32 ∷ letter kind ∷ feed))) 10 14 (decimal-short number)
     (both (32 ∷ decimal channel) (32 ∷ letter kind ∷ feed) 11 3 (omega (arith, decimal-short channel)) (omega arith)))
+
+pub loaded-short : (number line start : ℕ) → length (loadedLine number line start) ≤ 36
+unfolding loadedLine
+loaded-short number line start =
+    both (ascii "prom ") (decimal number ++ (ascii " " ++ (decimal line ++ (ascii " " ++ (hex true 8 start ++ feed))))) 5 31 (omega arith)
+    (both (decimal number) (ascii " " ++ (decimal line ++ (ascii " " ++ (hex true 8 start ++ feed)))) 10 21 (decimal-short number)
+    (both (32 ∷ decimal line) (ascii " " ++ (hex true 8 start ++ feed)) 11 10 (omega (arith, decimal-short line))
+    (both (32 ∷ hex true 8 start) feed 9 1 (omega (arith, hex-short true 8 start)) (omega arith))))
 
 register-short : (name : List ℕ) (value width : ℕ) → length (registerText name value width) ≤ length name + width
 unfolding registerText

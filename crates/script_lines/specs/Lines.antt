@@ -34,6 +34,11 @@ unfoldable pub steppedLine : ℕ → ℕ → Kind → List ℕ
 steppedLine number channel kind =
     ascii "step " ++ (decimal number ++ (ascii " " ++ (decimal channel ++ (32 ∷ letter kind ∷ feed))))
 
+-- what a load answered: its number, the line that decided, and the start address
+unfoldable pub loadedLine : ℕ → ℕ → ℕ → List ℕ
+loadedLine number line start =
+    ascii "prom " ++ (decimal number ++ (ascii " " ++ (decimal line ++ (ascii " " ++ (hex true 8 start ++ feed)))))
+
 -- a register behind its name, in so many digits, letters small
 unfoldable pub registerText : List ℕ → ℕ → ℕ → List ℕ
 registerText name value width = name ++ hex true width value

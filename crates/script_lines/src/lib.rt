@@ -8,7 +8,7 @@ use step::Kind;
 ghost use mathlib.Core.Path.{_≡_};
 ghost use Rattle.memory.specs.Buffers.{buffers};
 ghost use Rattle.page.specs.Pages.{page, Behind};
-ghost use Rattle.script_lines.specs.Lines.{answerLine, steppedLine, registerText, markNumber, pointerText, pointersText, numbersText, numberOfMode, marksText, channelLine, bufferText, sharedLine, dumpText, byteText, bytesText, shownLine};
+ghost use Rattle.script_lines.specs.Lines.{answerLine, steppedLine, loadedLine, registerText, markNumber, pointerText, pointersText, numbersText, numberOfMode, marksText, channelLine, bufferText, sharedLine, dumpText, byteText, bytesText, shownLine};
 
 // A call's name and its number.
 pub fn answer_line(out: &mut [u8], at: usize, name: &[u8], number: u32) -> usize
@@ -29,6 +29,19 @@ pub fn stepped_line(out: &mut [u8], at: usize, number: u32, channel: u32, kind: 
     let stepped = page::append_decimal(out, spaced, channel);
     let end = [32u8, page::letter(kind), 10u8];
     page::append(out, stepped, &end)
+}
+
+// What a load answered: its number, the line that decided, and the start address.
+pub fn loaded_line(out: &mut [u8], at: usize, number: u32, line: u32, start: u32) -> usize
+    ensures { λ r. ⌜ Behind (page (now (out .entry)) at) (page (now (out .exit)) r) (loadedLine number line start) ⌝ }
+{
+    let named = page::append(out, at, b"prom ");
+    let numbered = page::append_decimal(out, named, number);
+    let spaced = page::append(out, numbered, b" ");
+    let lined = page::append_decimal(out, spaced, line);
+    let parted = page::append(out, lined, b" ");
+    let started = page::append_hex(out, parted, start as u64, 8, true);
+    page::append(out, started, b"\n")
 }
 
 // A register behind its name, in so many digits.

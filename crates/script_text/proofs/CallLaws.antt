@@ -9,12 +9,12 @@ use lib.Dec.{leb, ltb, eqb}
 use lib.ListN.{getD}
 use Rattle.words.specs.Choice.{pick}
 use Rattle.script_text.specs.declared.text.Call.{Call}
-use Rattle.script_text.specs.declared.text.Call.the-variants.{Nothing, Unknown, Make, Put, Set, Attention, Step, Dump, Show}
+use Rattle.script_text.specs.declared.text.Call.the-variants.{Nothing, Unknown, Make, Put, Set, Attention, Step, Dump, Show, Listing, Load}
 use Rattle.script_text.specs.declared.text.Words.{Words}
-use Rattle.script_text.specs.Names.{'none, 'make, 'put, 'set, 'ca, 'step, 'dump, 'show}
+use Rattle.script_text.specs.Names.{'none, 'make, 'put, 'set, 'ca, 'step, 'dump, 'show, 'list, 'prom}
 use Rattle.script_text.specs.Text.{noNumber, wordsOf}
 use Rattle.script_text.specs.Registers.{fitsRegister}
-use Rattle.script_text.specs.Calls.{only, makeCall, putCall, setCall, attentionCall, stepCall, dumpCall, showCall, callFrom, callOf, Limited}
+use Rattle.script_text.specs.Calls.{only, makeCall, putCall, setCall, attentionCall, stepCall, dumpCall, showCall, listCall, promCall, callFrom, callOf, Limited}
 
 -- of two calls that keep the limits either one does
 either : (t : Bool) (a b : Call) → Limited a → Limited b → Limited (pick t a b)
@@ -63,6 +63,18 @@ unfolding showCall
 show-limited space address after =
     either (eqb after 'none) _ Unknown (either (ltb space 2) _ Unknown (either (ltb address noNumber) (Show (eqb space 1) address) Unknown tt tt) tt) tt
 
+list-limited : (space address length after : ℕ) → Limited (listCall space address length after)
+unfolding listCall
+list-limited space address length after =
+    either (eqb after 'none) _ Unknown
+    (either (ltb space 2) _ Unknown
+    (either (ltb address noNumber) _ Unknown (either (ltb length noNumber) (Listing (eqb space 1) address length) Unknown tt tt) tt) tt)
+    tt
+
+prom-limited : (after : ℕ) → Limited (promCall after)
+unfolding promCall
+prom-limited after = either (eqb after 'none) Load Unknown tt tt
+
 words-limited : (w : Words) → Limited (callFrom w)
 unfolding callFrom
 words-limited w =
@@ -74,7 +86,9 @@ words-limited w =
     (either (eqb name 'ca) _ _ (attention-limited (w .second .number) (w .third .name))
     (either (eqb name 'step) _ _ (step-limited (w .second .number) (w .third .name))
     (either (eqb name 'dump) _ _ (dump-limited (w .second .name))
-    (either (eqb name 'show) _ Unknown (show-limited (w .second .number) (w .third .number) (w .fourth .name)) tt)))))))
+    (either (eqb name 'show) _ _ (show-limited (w .second .number) (w .third .number) (w .fourth .name))
+    (either (eqb name 'list) _ _ (list-limited (w .second .number) (w .third .number) (w .fourth .number) (w .fifth .name))
+    (either (eqb name 'prom) _ Unknown (prom-limited (w .second .name)) tt)))))))))
 
 -- the call of a line lends no more than `make` allows
 pub line-limited : (line : List ℕ) → Limited (callOf line)

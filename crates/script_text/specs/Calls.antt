@@ -6,9 +6,9 @@ use lib.Dec.{ltb, leb, eqb}
 use lib.ListN.{getD}
 use Rattle.words.specs.Choice.{pick}
 use Rattle.script_text.specs.declared.text.Call.{Call}
-use Rattle.script_text.specs.declared.text.Call.the-variants.{Nothing, Unknown, Make, Put, Set, Attention, Step, Dump, Show}
+use Rattle.script_text.specs.declared.text.Call.the-variants.{Nothing, Unknown, Make, Put, Set, Attention, Step, Dump, Show, Listing, Load}
 use Rattle.script_text.specs.declared.text.Words.{Words}
-use Rattle.script_text.specs.Names.{'none, 'make, 'put, 'set, 'ca, 'step, 'dump, 'show}
+use Rattle.script_text.specs.Names.{'none, 'make, 'put, 'set, 'ca, 'step, 'dump, 'show, 'list, 'prom}
 use Rattle.script_text.specs.Text.{noNumber, wordsOf}
 use Rattle.script_text.specs.Registers.{fitsRegister}
 
@@ -50,6 +50,16 @@ unfoldable pub showCall : ℕ → ℕ → ℕ → Call
 showCall space address after =
     only (eqb after 'none) (only (ltb space 2) (only (ltb address noNumber) (Show (eqb space 1) address)))
 
+-- `list SPACE ADDRESS LENGTH`
+unfoldable pub listCall : ℕ → ℕ → ℕ → ℕ → Call
+listCall space address length after =
+    only (eqb after 'none)
+    (only (ltb space 2) (only (ltb address noNumber) (only (ltb length noNumber) (Listing (eqb space 1) address length))))
+
+-- `prom`, which the lines of a file follow
+unfoldable pub promCall : ℕ → Call
+promCall after = only (eqb after 'none) Load
+
 -- the call that words are: the first is its name, and none stands behind those it has
 unfoldable pub callFrom : Words → Call
 callFrom w =
@@ -61,7 +71,9 @@ callFrom w =
     (pick (eqb name 'ca) (attentionCall (w .second .number) (w .third .name))
     (pick (eqb name 'step) (stepCall (w .second .number) (w .third .name))
     (pick (eqb name 'dump) (dumpCall (w .second .name))
-    (pick (eqb name 'show) (showCall (w .second .number) (w .third .number) (w .fourth .name)) Unknown)))))))
+    (pick (eqb name 'show) (showCall (w .second .number) (w .third .number) (w .fourth .name))
+    (pick (eqb name 'list) (listCall (w .second .number) (w .third .number) (w .fourth .number) (w .fifth .name))
+    (pick (eqb name 'prom) (promCall (w .second .name)) Unknown)))))))))
 
 -- the call that a line is; one that has no word or begins with `#` is passed over
 unfoldable pub callOf : List ℕ → Call
@@ -78,3 +90,5 @@ Limited (Attention channel) = Unit {0}
 Limited (Step lines) = Unit {0}
 Limited Dump = Unit {0}
 Limited (Show space address) = Unit {0}
+Limited (Listing space address length) = Unit {0}
+Limited Load = Unit {0}

@@ -46,6 +46,14 @@ abbrev pub 'dump : ℕ
 abbrev pub 'show : ℕ
 'show = 0x173686f77
 
+-- `list`
+abbrev pub 'list : ℕ
+'list = 0x16c697374
+
+-- `prom`
+abbrev pub 'prom : ℕ
+'prom = 0x170726f6d
+
 -- `ga`
 abbrev pub 'ga : ℕ
 'ga = 0x16761

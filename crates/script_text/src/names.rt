@@ -15,6 +15,10 @@ pub const DUMP: u64 = 0x1_6475_6d70;
 
 pub const SHOW: u64 = 0x1_7368_6f77;
 
+pub const LIST: u64 = 0x1_6c69_7374;
+
+pub const PROM: u64 = 0x1_7072_6f6d;
+
 pub const GA: u64 = 0x1_6761;
 
 pub const GB: u64 = 0x1_6762;

@@ -6,7 +6,7 @@ ghost use Prim.Native.Nat.{_+_, _≤_};
 ghost use lib.ListN.{length, drop, getD};
 ghost use Rattle.script_text.specs.Names.{nameOf};
 ghost use Rattle.script_text.specs.Text.{digitOf, untilSame, untilOther, numeralOf, allDigits, isPairs, spanAt, lineWordAt, wordsOf, fourthSpan};
-ghost use Rattle.script_text.specs.Calls.{makeCall, putCall, setCall, attentionCall, stepCall, dumpCall, showCall, callFrom, callOf};
+ghost use Rattle.script_text.specs.Calls.{makeCall, putCall, setCall, attentionCall, stepCall, dumpCall, showCall, listCall, promCall, callFrom, callOf};
 
 // What a line calls for; nothing where it is passed over, unknown where it is no call.
 pub enum Call {
@@ -19,6 +19,8 @@ pub enum Call {
     Step(u32),
     Dump,
     Show(bool, u32),
+    Listing(bool, u32, u32),
+    Load,
 }
 
 // Where a word lies in its line.
@@ -331,6 +333,35 @@ fn show_call(space: u64, address: u64, after: u64) -> Call
     Call::Show(space == 1, address as u32)
 }
 
+// The call of `list`.
+fn list_call(space: u64, address: u64, length: u64, after: u64) -> Call
+    ensures { λ r. ⌜ r ≡ listCall space address length after ⌝ }
+{
+    if after != names::NONE {
+        return Call::Unknown;
+    }
+    if 2 <= space {
+        return Call::Unknown;
+    }
+    if NO_NUMBER <= address {
+        return Call::Unknown;
+    }
+    if NO_NUMBER <= length {
+        return Call::Unknown;
+    }
+    Call::Listing(space == 1, address as u32, length as u32)
+}
+
+// The call of `prom`.
+fn prom_call(after: u64) -> Call
+    ensures { λ r. ⌜ r ≡ promCall after ⌝ }
+{
+    if after != names::NONE {
+        return Call::Unknown;
+    }
+    Call::Load
+}
+
 // The call that words are.
 fn call_from(w: Words) -> Call
     ensures { λ r. ⌜ r ≡ callFrom w ⌝ }
@@ -350,6 +381,8 @@ fn call_from(w: Words) -> Call
         names::STEP => step_call(second.number, third.name),
         names::DUMP => dump_call(second.name),
         names::SHOW => show_call(second.number, third.number, fourth.name),
+        names::LIST => list_call(second.number, third.number, fourth.number, fifth.name),
+        names::PROM => prom_call(second.name),
         _ => Call::Unknown,
     }
 }

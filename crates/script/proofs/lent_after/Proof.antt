@@ -38,6 +38,12 @@ enum-told-7 c = search needs
 enum-told-8 : tie.Need-enum-told-8
 enum-told-8 c = search needs
 
+enum-told-9 : tie.Need-enum-told-9
+enum-told-9 c = search needs
+
+enum-told-10 : tie.Need-enum-told-10
+enum-told-10 c = search needs
+
 returns : tie.Need-returns
 unfolding lentAfter
 returns c = let e = c .before .call .given .1 in (rw e, rw e at (c .before .before .before .pre .0))
@@ -74,6 +80,14 @@ returns-9 : tie.Need-returns-9
 unfolding lentAfter
 returns-9 c = (rw (c .enum-told8 .given .1), c .before .before .pre .1)
 
+returns-10 : tie.Need-returns-10
+unfolding lentAfter
+returns-10 c = (rw (c .enum-told9 .given .1), c .before .before .pre .1)
+
+returns-11 : tie.Need-returns-11
+unfolding lentAfter
+returns-11 c = (rw (c .enum-told10 .given .1), c .before .before .pre .1)
+
 pub lent-after-spec : {M : Type 1} → statement M
 lent-after-spec =
     tie.close
@@ -89,6 +103,8 @@ lent-after-spec =
     enum-told-6
     enum-told-7
     enum-told-8
+    enum-told-9
+    enum-told-10
     returns
     returns-2
     returns-3
@@ -97,4 +113,6 @@ lent-after-spec =
     returns-6
     returns-7
     returns-8
-    returns-9)
+    returns-9
+    returns-10
+    returns-11)

@@ -1,12 +1,14 @@
 -- `script_answers::perform` meets its contract.
 -- Assumes nothing.
+use Prim.Native.Nat.{ℕ}
 use denote.Ref.{now}
+use mathlib.Core.List.{List}
 use mathlib.Core.Path.{sym, ap, _∙_}
 use native.Mathlib.Omega.{arith}
 use Rattle.memory.specs.Buffers.{buffers}
 use Rattle.page.proofs.PageLaws.{reads}
 use Rattle.script_text.specs.declared.text.Call.{Call}
-use Rattle.script_answers.specs.Machine.{machine, callPerformed, callMade}
+use Rattle.script_answers.specs.Machine.{machine, machineLoaded, callPerformed, callMade}
 use Rattle.script_answers.specs.Shown.{putLine, callText}
 use Rattle.script_answers.proofs.TextLaws.{shows, shows-nothing}
 use borrow.Author.Needs.{needs}
@@ -75,6 +77,18 @@ enum-known-call-6 c = search needs
 
 show-requires : tie.Need-show-requires
 show-requires c κs = search needs
+
+enum-known-call-7 : tie.Need-enum-known-call-7
+enum-known-call-7 c = search needs
+
+list-requires : tie.Need-list-requires
+list-requires c κs = search needs
+
+enum-told-4 : tie.Need-enum-told-4
+enum-told-4 c = search needs
+
+load-requires : tie.Need-load-requires
+load-requires c κs = search needs
 
 returns : tie.Need-returns
 unfolding callPerformed callMade callText
@@ -211,6 +225,37 @@ returns-9 c =
     let told = ap (λ (x : Call). callMade x line m) (sym is) in
     (after, (told, shows line (a .s) m is (omega arith) (c .show .ensures)))
 
+same-length-13 : tie.Need-same-length-13
+same-length-13 c = search needs
+
+same-length-14 : tie.Need-same-length-14
+same-length-14 c = search needs
+
+returns-10 : tie.Need-returns-10
+unfolding callPerformed callMade callText
+returns-10 c =
+    let a = c .before .before .before .before .before .before .before .before .before .before .args in
+    let line = now (a .line) in
+    let m = buffers (now (a .sys)) (now (a .io)) in
+    let is = c .before .before .before .before .before .call7 .given .1 in
+    let after = ap (λ (x : Call). callPerformed x line (a .s) m) (sym is) in
+    let told = ap (λ (x : Call). callMade x line m) (sym is) in
+    (after, (c .list .ensures .0 ∙ told, shows line (a .s) m is (omega arith) (c .list .ensures .1)))
+
+same-length-15 : tie.Need-same-length-15
+same-length-15 c = search needs
+
+returns-11 : tie.Need-returns-11
+unfolding callPerformed callMade callText machineLoaded
+returns-11 c =
+    let a = c .before .before .before .before .before .before .before .before .before .before .args in
+    let line = now (a .line) in
+    let m = buffers (now (a .sys)) (now (a .io)) in
+    let is = c .before .before .before .before .before .enum-told4 .given .1 in
+    let after = ap (λ (x : Call). callPerformed x line (a .s) m) (sym is) in
+    let told = ap (λ (x : Call). callMade x line m) (sym is) in
+    (ap (λ (l : List ℕ). machine (a .s) (buffers l (now (a .io)))) (c .before .before .load .ensures .0) ∙ after, (told, shows line (a .s) m is (omega arith) (c .before .before .load .ensures .1)))
+
 pub perform-spec : {M : Type 1} → statement M
 perform-spec =
     tie.close
@@ -236,6 +281,10 @@ perform-spec =
     dump-requires
     enum-known-call-6
     show-requires
+    enum-known-call-7
+    list-requires
+    enum-told-4
+    load-requires
     returns
     returns-2
     same-length
@@ -256,4 +305,9 @@ perform-spec =
     returns-8
     same-length-11
     same-length-12
-    returns-9)
+    returns-9
+    same-length-13
+    same-length-14
+    returns-10
+    same-length-15
+    returns-11)

@@ -27,6 +27,12 @@ dump-call-requires c κs = search needs
 show-call-requires : tie.Need-show-call-requires
 show-call-requires c κs = search needs
 
+list-call-requires : tie.Need-list-call-requires
+list-call-requires c κs = search needs
+
+prom-call-requires : tie.Need-prom-call-requires
+prom-call-requires c κs = search needs
+
 returns : tie.Need-returns
 unfolding callFrom
 returns c = simp (c .match .keys1)
@@ -61,7 +67,15 @@ returns-8 c = simp (c .show-call .ensures, c .before .match .keys8)
 
 returns-9 : tie.Need-returns-9
 unfolding callFrom
-returns-9 c = simp (ne-eqb _ _ (c .match .rest .1), ne-eqb _ _ (c .match .rest .0 .1), ne-eqb _ _ (c .match .rest .0 .0 .1), ne-eqb _ _ (c .match .rest .0 .0 .0 .1), ne-eqb _ _ (c .match .rest .0 .0 .0 .0 .1), ne-eqb _ _ (c .match .rest .0 .0 .0 .0 .0 .1), ne-eqb _ _ (c .match .rest .0 .0 .0 .0 .0 .0 .1), ne-eqb _ _ (c .match .rest .0 .0 .0 .0 .0 .0 .0 .1))
+returns-9 c = simp (c .list-call .ensures, c .before .match .keys9)
+
+returns-10 : tie.Need-returns-10
+unfolding callFrom
+returns-10 c = simp (c .prom-call .ensures, c .before .match .keys10)
+
+returns-11 : tie.Need-returns-11
+unfolding callFrom
+returns-11 c = simp (ne-eqb _ _ (c .match .rest .1), ne-eqb _ _ (c .match .rest .0 .1), ne-eqb _ _ (c .match .rest .0 .0 .1), ne-eqb _ _ (c .match .rest .0 .0 .0 .1), ne-eqb _ _ (c .match .rest .0 .0 .0 .0 .1), ne-eqb _ _ (c .match .rest .0 .0 .0 .0 .0 .1), ne-eqb _ _ (c .match .rest .0 .0 .0 .0 .0 .0 .1), ne-eqb _ _ (c .match .rest .0 .0 .0 .0 .0 .0 .0 .1), ne-eqb _ _ (c .match .rest .0 .0 .0 .0 .0 .0 .0 .0 .1), ne-eqb _ _ (c .match .rest .0 .0 .0 .0 .0 .0 .0 .0 .0 .1))
 
 pub call-from-spec : {M : Type 1} → statement M
 call-from-spec =
@@ -74,6 +88,8 @@ call-from-spec =
     step-call-requires
     dump-call-requires
     show-call-requires
+    list-call-requires
+    prom-call-requires
     returns
     returns-2
     returns-3
@@ -82,4 +98,6 @@ call-from-spec =
     returns-6
     returns-7
     returns-8
-    returns-9)
+    returns-9
+    returns-10
+    returns-11)
