@@ -7,14 +7,14 @@ use mathlib.Core.Logic.{_⊎_, inl, inr, _↔_}
 use Prim.Native.Nat.{ℕ}
 use lib.Dec.{T, eqb}
 use borrow.Author.Tests.{eqb-true, eq-eqb, eqb-false}
-use Rattle.words.specs.Bits.{fieldOf}
+use Rattle.words.specs.Bits.{fieldOf, bitOf}
 use Rattle.words.specs.Choice.{pick}
 use Rattle.decode_shapes.specs.Pairs.{pairOf, columns}
 use Rattle.decode_shapes.specs.Rows.{isControl}
 use Rattle.decode_shapes.specs.declared.pairs.Pair.{Pair}
 use Rattle.decode_shapes.specs.declared.Work.{Work}
 use Rattle.decode_shapes.specs.declared.Shape.{Shape}
-use Rattle.decode_shapes.specs.declared.Shape.the-variants.{RegisterImmediate, Hlt, Call}
+use Rattle.decode_shapes.specs.declared.Shape.the-variants.{Wid, RegisterImmediate, Hlt, Call}
 use Rattle.decode_shapes.specs.declared.Decoded.{Decoded}
 use Rattle.decode_shapes.specs.declared.Decoded.the-variants.{Instruction, NoInstruction, ControlUsed}
 use Rattle.decode_shapes.specs.declared.Second.{Second}
@@ -123,7 +123,7 @@ four-exactly first second =
     let f = both (eqb n 4) (usesControl table p) (isControl p) (used table p tt) in
     (λ e. let g = f .0 (eq-eqb n 4 e) in (eqb-true (p .rrr) 6 (g .0), g .1), λ e. eqb-true n 4 (f .1 (eq-eqb (p .rrr) 6 (e .0), e .1)))
 
--- some pairs: MOVI GA with a byte, MOVI BC with a word, JMP as ADDI to TP, HLT, and CALL with W 0
+-- some pairs: MOVI GA with a byte, MOVI BC with a word, JMP as ADDI to TP, HLT, WID of two words, and CALL with W 0
 pub movi-byte : decodeOf 0x08 0x30 ≡ Instruction (RegisterImmediate Work.Mov 0 false)
 unfolding decodeOf lookup table pairOf fieldOf
 movi-byte = refl
@@ -140,6 +140,19 @@ pub halt : decodeOf 0x20 0x48 ≡ Instruction Hlt
 unfolding decodeOf lookup table pairOf fieldOf
 halt = refl
 
+pub wid-words : decodeOf 0xE0 0x00 ≡ Instruction (Wid true true)
+unfolding decodeOf lookup table pairOf fieldOf bitOf
+wid-words = refl
+
 pub call-byte : decodeOf 0x88 0x9C ≡ Instruction (Call (record { mm = 0; aa = 0; wide = false }) false)
 unfolding decodeOf lookup table pairOf fieldOf
 call-byte = refl
+
+-- and some that are none: ADDI with W 0 and two bytes of data, and the second pair of MOV M,M in the place of a first one
+pub addi-uneven : decodeOf 0x10 0x20 ≡ NoInstruction
+unfolding decodeOf lookup table pairOf fieldOf
+addi-uneven = refl
+
+pub second-first : decodeOf 0x00 0xCC ≡ NoInstruction
+unfolding decodeOf lookup table pairOf fieldOf
+second-first = refl

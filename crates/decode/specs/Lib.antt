@@ -1,3 +1,4 @@
 pub mod Table
-pub mod Reading
 pub mod Lengths
+pub mod Cells
+pub mod Reading

@@ -1,21 +1,45 @@
 // The two bytes of an instruction's pair, read into one of the instruction's shapes or refused, and how many bytes the
 // instruction has.
+mod cells;
 mod reads;
 
 use decode_shapes::Decoded;
 use decode_shapes::Memory;
 use decode_shapes::Second;
 use decode_shapes::pairs;
+use decode_shapes::pairs::Pair;
 ghost use mathlib.Core.Path.{_≡_};
+ghost use Prim.Native.Nat.{_+_};
+ghost use lib.Dec.{eqb, leb};
 ghost use Rattle.decode_shapes.specs.Pairs.{pairOf};
 ghost use Rattle.decode.specs.Reading.{decodeOf, numberOf, secondOf, secondNumberOf};
 ghost use Rattle.decode.specs.Lengths.{moreBy, twoBy, offsetLength, pairLength};
+ghost use Rattle.decode.specs.Cells.{cellLength};
+
+// A pair looked up: what it is, and the bytes of the instruction that it begins.
+pub struct Looked {
+    pub decoded: Decoded,
+    pub length: u32,
+}
+
+// What the first two bytes of an instruction are, and its length; the table is read once.
+pub fn look_up(first: u8, second: u8) -> Looked
+    ensures { λ r. ⌜ r ≡ record { decoded = decodeOf first second; length = pairLength (pairOf first second) } ⌝ }
+{
+    let cell = cells::cell(second);
+    let p = pairs::split(first, second);
+    let decoded = reads::read(cell, p);
+    Looked {
+        decoded,
+        length: cell_length(cell, p),
+    }
+}
 
 // What the first two bytes of an instruction are.
 pub fn decode(first: u8, second: u8) -> Decoded
     ensures { λ r. ⌜ r ≡ decodeOf first second ⌝ }
 {
-    reads::read(pairs::split(first, second))
+    reads::read(cells::cell(second), pairs::split(first, second))
 }
 
 // The number that an answer stands for.
@@ -72,14 +96,23 @@ pub fn offset_length(m: Memory) -> u32
     more(m.aa == 1)
 }
 
+// The bytes that dd announces: as many as it says, and two for TSL's 11.
+fn announced(dd: u32) -> u32
+    ensures { λ r. ⌜ r ≡ moreBy (eqb dd 1) + twoBy (leb 2 dd) ⌝ }
+{
+    if dd < 2 { dd } else { 2 }
+}
+
+// The bytes of the instruction that a pair begins, by the cell of its opcode.
+fn cell_length(cell: u32, p: Pair) -> u32
+    ensures { λ r. ⌜ r ≡ cellLength cell p ⌝ }
+{
+    2 + more(p.aa == 1) + announced(p.dd) + two_more(0xF0 <= cell)
+}
+
 // The bytes of the instruction that a pair begins; for MOV M,M without the offset byte of its second pair.
 pub fn pair_length(first: u8, second: u8) -> u32
     ensures { λ r. ⌜ r ≡ pairLength (pairOf first second) ⌝ }
 {
-    let p = pairs::split(first, second);
-    2
-        + more(p.aa == 1)
-        + more(p.dd == 1)
-        + two_more(2 <= p.dd)
-        + two_more((p.opcode == 0x02) | (p.opcode == 0x24))
+    cell_length(cells::cell(second), pairs::split(first, second))
 }

@@ -59,7 +59,7 @@ pub fn displacement(dd: u32) -> bool
 pub fn immediate(dd: u32, w: u32) -> bool
     ensures { λ r. ⌜ r ≡ meets 'wb w dd ⌝ }
 {
-    (w == 0) & (dd == 1) | (w == 1) & (dd == 2)
+    (w < 2) & (dd == w % 2 + 1)
 }
 
 // Nothing but RRR and the opcode is set.

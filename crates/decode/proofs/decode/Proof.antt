@@ -1,9 +1,14 @@
--- `decode::decode` meets its contract: it reads the fields of its two bytes.
+-- `decode::decode` meets its contract: the cell of the opcode stands for the rows that its two bytes are held against.
 -- Assumes nothing.
 use borrow.Author.Needs.{needs}
+use mathlib.Core.Path.{sym, _∙_}
 use Rattle.decode.specs.Reading.{decodeOf}
+use Rattle.decode.proofs.CellLaws.{by-cell}
 use Rattle.decode.proofs.decode.Statement.{statement}
 use Rattle.decode.proofs.decode.Tie as tie
+
+cell-requires : tie.Need-cell-requires
+cell-requires c κs = search needs
 
 split-requires : tie.Need-split-requires
 split-requires c κs = search needs
@@ -13,7 +18,10 @@ read-requires c κs = search needs
 
 returns : tie.Need-returns
 unfolding decodeOf
-returns c = simp (c .read .ensures, c .before .split .ensures)
+returns c =
+    let a = c .before .before .before .args in
+    (rw (c .before .split .ensures, c .before .before .cell .ensures) at (c .read .ensures))
+    ∙ sym (by-cell (a .first) (a .second))
 
 pub decode-spec : {M : Type 1} → statement M
-decode-spec = tie.close (tie.spec split-requires read-requires returns)
+decode-spec = tie.close (tie.spec cell-requires split-requires read-requires returns)

@@ -1,0 +1,37 @@
+-- `decode::look_up` meets its contract: one cell stands for the rows and gives the length.
+-- Assumes nothing.
+use borrow.Author.Needs.{needs}
+use mathlib.Core.Path.{_≡_, refl, sym, _∙_}
+use Prim.Native.Nat.{ℕ}
+use Rattle.decode_shapes.specs.Pairs.{pairOf}
+use Rattle.decode_shapes.specs.declared.Decoded.{Decoded}
+use Rattle.decode.specs.Reading.{decodeOf}
+use Rattle.decode.specs.Lengths.{pairLength}
+use Rattle.decode.proofs.CellLaws.{by-cell, length-by-cell}
+use Rattle.decode.proofs.look_up.Statement.{statement}
+use Rattle.decode.proofs.look_up.Tie as tie
+
+cell-requires : tie.Need-cell-requires
+cell-requires c κs = search needs
+
+split-requires : tie.Need-split-requires
+split-requires c κs = search needs
+
+read-requires : tie.Need-read-requires
+read-requires c κs = search needs
+
+cell-length-requires : tie.Need-cell-length-requires
+cell-length-requires c κs = search needs
+
+returns : tie.Need-returns
+unfolding decodeOf
+returns c =
+    let b = c .before .before in
+    let a = b .before .before .args in
+    let what = (rw (b .split .ensures, b .before .cell .ensures) at (c .before .read .ensures)) ∙ sym (by-cell (a .first) (a .second)) in
+    let long = (rw (b .split .ensures, b .before .cell .ensures) at (c .cell-length .ensures)) ∙ sym (length-by-cell (a .first) (a .second)) in
+    rw (what, long)
+
+pub look-up-spec : {M : Type 1} → statement M
+look-up-spec =
+    tie.close (tie.spec cell-requires split-requires read-requires cell-length-requires returns)
