@@ -265,6 +265,70 @@ static bool agree(uint64_t seed, uint64_t number, bool shown)
     return same;
 }
 
+/* ---- Every first pair ---- */
+
+/* Where the pair stands, and the base of each operand: in lent memory with any offset byte and IX. */
+enum { PAIR_AT = 0x100, PAIR_SYSTEM = 4096, PAIR_IO = 2048 };
+
+/* A running channel 1 at the pair, in both sides' bytes. */
+static void stand_at_pair(void)
+{
+    iop89_fresh(proved.state, STATE_BYTES, 0);
+    iop89_set(proved.state, 1, IOP89_MODE, 1);
+    iop89_set(proved.state, 1, IOP89_TP, PAIR_AT);
+    iop89_set(proved.state, 1, IOP89_PP, 0x200);
+    iop89_set(proved.state, 1, IOP89_GA, 0x400);
+    iop89_set(proved.state, 1, IOP89_GB, 0x500);
+    iop89_set(proved.state, 1, IOP89_GB_TAG, 1);
+    iop89_set(proved.state, 1, IOP89_GC, 0x600);
+    iop89_set(proved.state, 1, IOP89_IX, 0x20);
+    iop89_set(proved.state, 1, IOP89_MC, 0x0F05);
+    memcpy(emulated.state, proved.state, STATE_BYTES);
+}
+
+/* A pair, an offset byte where its AA asks for one, a second pair that fits it, and zeros, in both memories. */
+static void put_pair(const struct run_case *c, uint32_t pair)
+{
+    uint32_t at = PAIR_AT + ((pair >> 1 & 3u) == 1 ? 3u : 2u);
+    for (uint32_t i = 0; i < 8; i++) put_both(c, PAIR_AT + i, 0);
+    put_both(c, PAIR_AT, (uint8_t)pair);
+    put_both(c, PAIR_AT + 1, (uint8_t)(pair >> 8));
+    put_both(c, at, (uint8_t)(pair & 1u));
+    put_both(c, at + 1, 0xCC);
+}
+
+/* One step at each of the 65,536 first pairs, answers, states and memories compared; how many differ. */
+static unsigned every_pair(uint64_t seed)
+{
+    static const char *const names[3] = {"first pairs that are instructions", "first pairs refused by 3",
+                                         "first pairs refused by 4"};
+    static const enum emu_number answers[3] = {EMU_DONE, EMU_NO_INSTRUCTION, EMU_CC_USED};
+    struct dice d = seeded(seed + 2000003, 0);
+    struct run_case c = {emulated.sys, emulated.io, PAIR_SYSTEM, PAIR_IO, 0, 1, 0, 0};
+    struct call call = {CALL_STEP, 0, STATE_BYTES};
+    unsigned differences = 0;
+    unsigned long met = 0, before[3];
+    for (unsigned i = 0; i < 3; i++) before[i] = numbers[CALL_STEP][answers[i]];
+    fill(&d, emulated.sys, c.sys_len);
+    fill(&d, emulated.io, c.io_len);
+    lend(proved.sys, emulated.sys, c.sys_len);
+    lend(proved.io, emulated.io, c.io_len);
+    for (uint32_t pair = 0; pair < 65536; pair++) {
+        stand_at_pair();
+        put_pair(&c, pair);
+        bool shown = differences < SHOWN;
+        if (agree_on(&c, call, pair, shown) && same_memory(&c)) continue;
+        if (shown) printf("DIFFERENCE at the first pair %02X %02X\n", pair & 255u, pair >> 8);
+        differences++;
+    }
+    for (unsigned i = 0; i < 3; i++) {
+        print_count(names[i], numbers[CALL_STEP][answers[i]] - before[i]);
+        met += numbers[CALL_STEP][answers[i]] - before[i];
+    }
+    if (met != 65536) printf("%lu first pairs were refused by another number\n", 65536 - met);
+    return differences + (met != 65536);
+}
+
 /* ---- What was met ---- */
 
 /* Prints how often a call answered each number that it can. */
@@ -316,6 +380,7 @@ int main(int count, char **words)
     uint64_t first = argument(count, words, 3, 0);
     emulated = new_side();
     proved = new_side();
+    differences += every_pair(seed);
     for (uint64_t i = first; i < first + cases; i++) {
         if (agree(seed, i, false)) continue;
         if (differences++ >= SHOWN) continue;
