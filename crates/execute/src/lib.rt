@@ -178,11 +178,12 @@ fn plan(c: Channel, busy: u32, sys: &[u8], io: &[u8]) -> Effect
     }
     let first = execute_operands::byte(tp, sys, io);
     let second = execute_operands::byte(memory::onward(tp, 1), sys, io);
-    let decoded = decode::decode(first, second);
+    let looked = decode::look_up(first, second);
+    let decoded = looked.decoded;
     let Decoded::Instruction(shape) = decoded else {
         return refused(c, decode::number(decoded));
     };
-    shaped(shape, decode::pair_length(first, second), c, busy, sys, io)
+    shaped(shape, looked.length, c, busy, sys, io)
 }
 
 // One instruction of a channel, done or refused; BUSY is at `busy` of system memory.

@@ -4,8 +4,11 @@ use borrow.Author.Needs.{needs}
 use borrow.Author.Tests.{not-true, not-false, eqb-false}
 use denote.Ref.{now}
 use mathlib.Core.Path.{_≡_, refl, sym, ap, ap₂, _∙_}
+use Prim.Native.Nat.{ℕ}
 use Rattle.decode.proofs.LengthRule.{pair-rule}
 use Rattle.decode.specs.Reading.{decodeOf}
+use Rattle.decode.specs.declared.Looked.{Looked}
+use Rattle.decode_shapes.specs.declared.Decoded.{Decoded}
 use Rattle.memory.specs.Buffers.{buffers}
 use Rattle.memory.specs.Values.{onward}
 use Rattle.execute_operands.specs.Operands.{byteHere}
@@ -35,8 +38,8 @@ onward-requires c κs = search needs
 byte-requires-2 : tie.Need-byte-requires-2
 byte-requires-2 c κs = search needs
 
-decode-requires : tie.Need-decode-requires
-decode-requires c κs = search needs
+look-up-requires : tie.Need-look-up-requires
+look-up-requires c κs = search needs
 
 enum-known-decoded : tie.Need-enum-known-decoded
 enum-known-decoded c = search needs
@@ -47,30 +50,36 @@ number-requires c κs = search needs
 refused-requires-2 : tie.Need-refused-requires-2
 refused-requires-2 c κs = search needs
 
+-- the pair is what was looked up
+what : {l : Looked} {d : Decoded} {n : ℕ} → l ≡ record { decoded = d; length = n } → l .decoded ≡ d
+what e = ap (λ (l : Looked). l .decoded) e
+
+-- and has as many bytes
+long : {l : Looked} {d : Decoded} {n : ℕ} → l ≡ record { decoded = d; length = n } → l .length ≡ n
+long e = ap (λ (l : Looked). l .length) e
+
 returns-2 : tie.Need-returns-2
 unfolding decodedAt
 returns-2 c =
     let a = c .before .before .before .before .before .before .before .before .before .before .before .before .args in
     let m = buffers (now (a .sys)) (now (a .io)) in
-    let e : decodedAt m (a .c .tp) ≡ c .before .before .before .decode .result = sym (c .before .before .before .decode .ensures ∙ ap₂ decodeOf (c .before .before .before .before .before .before .byte .ensures) (c .before .before .before .before .byte2 .ensures ∙ ap (byteHere m) (c .before .before .before .before .before .onward .ensures))) in
+    let d = c .before .before .before .look-up .result .decoded in
+    let e : decodedAt m (a .c .tp) ≡ d = sym (what (c .before .before .before .look-up .ensures) ∙ ap₂ decodeOf (c .before .before .before .before .before .before .byte .ensures) (c .before .before .before .before .byte2 .ensures ∙ ap (byteHere m) (c .before .before .before .before .before .onward .ensures))) in
     let there = sym (c .before .before .before .before .before .before .before .before .lent .ensures) ∙ not-false _ (c .before .before .before .before .before .before .before .if1 .left) in
-    let p = plan-none m (a .c) (a .busy) (c .before .before .before .decode .result) (c .before .before .match .keys2) there e in
+    let p = plan-none m (a .c) (a .busy) d (c .before .before .match .keys2) there e in
     refusal-planned (c .refused2 .ensures) (c .before .number .ensures ∙ p .0) (λ z. p .1 (sym (c .before .number .ensures) ∙ z))
 
-pair-length-requires : tie.Need-pair-length-requires
-pair-length-requires c κs = search needs
-
 shaped-requires : tie.Need-shaped-requires
-shaped-requires c κs = c .pair-length .ensures ∙ sym (pair-rule (c .before .before .before .before .before .before .before .byte .result) (c .before .before .before .before .before .byte2 .result) _ (sym (c .before .before .before .before .decode .ensures) ∙ c .before .before .decoded .given .1))
+shaped-requires c κs = long (c .before .before .before .look-up .ensures) ∙ sym (pair-rule (c .before .before .before .before .before .before .byte .result) (c .before .before .before .before .byte2 .result) _ (sym (what (c .before .before .before .look-up .ensures)) ∙ c .before .decoded .given .1))
 
 returns-3 : tie.Need-returns-3
 unfolding decodedAt
 returns-3 c =
-    let a = c .before .before .before .before .before .before .before .before .before .before .before .before .before .before .args in
+    let a = c .before .before .before .before .before .before .before .before .before .before .before .before .before .args in
     let m = buffers (now (a .sys)) (now (a .io)) in
-    let e : decodedAt m (a .c .tp) ≡ c .before .before .before .before .before .decode .result = sym (c .before .before .before .before .before .decode .ensures ∙ ap₂ decodeOf (c .before .before .before .before .before .before .before .before .byte .ensures) (c .before .before .before .before .before .before .byte2 .ensures ∙ ap (byteHere m) (c .before .before .before .before .before .before .before .onward .ensures))) in
-    let there = sym (c .before .before .before .before .before .before .before .before .before .before .lent .ensures) ∙ not-false _ (c .before .before .before .before .before .before .before .before .before .if1 .left) in
-    plan-shaped m (a .c) (a .busy) _ (e ∙ c .before .before .before .decoded .given .1) there (c .shaped .ensures)
+    let e : decodedAt m (a .c .tp) ≡ c .before .before .before .before .look-up .result .decoded = sym (what (c .before .before .before .before .look-up .ensures) ∙ ap₂ decodeOf (c .before .before .before .before .before .before .before .byte .ensures) (c .before .before .before .before .before .byte2 .ensures ∙ ap (byteHere m) (c .before .before .before .before .before .before .onward .ensures))) in
+    let there = sym (c .before .before .before .before .before .before .before .before .before .lent .ensures) ∙ not-false _ (c .before .before .before .before .before .before .before .before .if1 .left) in
+    plan-shaped m (a .c) (a .busy) _ (e ∙ c .before .before .decoded .given .1) there (c .shaped .ensures)
 
 pub plan-spec : {M : Type 1} → statement M
 plan-spec =
@@ -82,11 +91,10 @@ plan-spec =
     byte-requires
     onward-requires
     byte-requires-2
-    decode-requires
+    look-up-requires
     enum-known-decoded
     number-requires
     refused-requires-2
     returns-2
-    pair-length-requires
     shaped-requires
     returns-3)
