@@ -4,11 +4,10 @@ use mathlib.Core.Path.{_≡_}
 use mathlib.Core.Bool.{Bool, true, false}
 use Prim.Native.Nat.{ℕ, _+_, _≤_}
 use native.Mathlib.Omega.{arith}
-use lib.Dec.{eqb, leb, lit≤}
-use Rattle.decode_shapes.specs.declared.pairs.Pair.{Pair}
+use lib.Dec.{eqb, lit≤}
 use Rattle.decode_shapes.specs.declared.Shape.{Shape}
 use Rattle.decode_shapes.specs.declared.Shape.the-variants.{Nop, Sintr, Xfer, Wid, Hlt, Lpdi, RegisterImmediate, Register, JumpRegister, RegisterMemory, MemoryRegister, MemoryImmediate, MemoryAlone, JumpMemory, Lpd, MovpLoad, MovpStore, MovMemory, Tsl, Call, JumpMasked, JumpBit, Bit}
-use Rattle.decode.specs.Lengths.{offsetBy, moreBy, twoBy, dataLength, displacementLength, lengthOf, longCode, pairLength}
+use Rattle.decode.specs.Lengths.{offsetBy, moreBy, twoBy, dataLength, displacementLength, lengthOf}
 
 -- a byte more is at most one
 pub more-small : (b : Bool) → moreBy b ≤ 1
@@ -50,8 +49,3 @@ bounded (Call m two) = omega (arith, offset-small (m .aa), more-small two)
 bounded (JumpMasked equal m two) = omega (arith, offset-small (m .aa), more-small two)
 bounded (JumpBit set bit m two) = omega (arith, offset-small (m .aa), more-small two)
 bounded (Bit on bit m) = omega (arith, offset-small (m .aa))
-
--- what a pair announces is at most eight
-pub pair-small : (p : Pair) → pairLength p ≤ 8
-unfolding pairLength
-pair-small p = omega (arith, offset-small (p .aa), more-small (eqb (p .dd) 1), two-small (leb 2 (p .dd)), two-small (longCode (p .opcode)))

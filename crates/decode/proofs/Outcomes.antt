@@ -18,7 +18,9 @@ use Rattle.decode_shapes.specs.declared.Shape.the-variants.{Wid, RegisterImmedi
 use Rattle.decode_shapes.specs.declared.Decoded.{Decoded}
 use Rattle.decode_shapes.specs.declared.Decoded.the-variants.{Instruction, NoInstruction, ControlUsed}
 use Rattle.decode_shapes.specs.declared.Second.{Second}
+use Rattle.decode.specs.declared.Looked.{Looked}
 use Rattle.decode.specs.Table.{SummaryRow, table}
+use Rattle.decode.specs.Lengths.{pairLength}
 use Rattle.decode.specs.Reading.{fits, lookup, decodeOf, numberOf, secondOf, fitsSome, usesControl}
 use Rattle.decode.proofs.TableLaws.{left, right}
 
@@ -29,6 +31,10 @@ one-answer first second r s a b = a ∙ sym b
 -- and so are two answers to a second pair
 pub one-second : (first second : ℕ) (wide : Bool) (r s : Second) → r ≡ secondOf first second wide → s ≡ secondOf first second wide → r ≡ s
 one-second first second wide r s a b = a ∙ sym b
+
+-- and two pairs looked up
+pub one-looked : (first second : ℕ) (r s : Looked) → r ≡ record { decoded = decodeOf first second; length = pairLength (pairOf first second) } → s ≡ record { decoded = decodeOf first second; length = pairLength (pairOf first second) } → r ≡ s
+one-looked first second r s a b = a ∙ sym b
 
 -- an answer's number is 0, 3 or 4
 pub numbers : (d : Decoded) → (numberOf d ≡ 0) ⊎ ((numberOf d ≡ 3) ⊎ (numberOf d ≡ 4))
