@@ -32,7 +32,7 @@ use Rattle.lister.specs.declared.reading.Item.{Item}
 use Rattle.lister.specs.declared.reading.Item.the-variants.{Whole, Byte, End}
 use Rattle.lister.specs.Items.{toOf, wholeOf, readOf, itemOf, countOf}
 use Rattle.lister.specs.Listings.{charsOf, lineAt}
-use Rattle.lister.proofs.ItemLaws.{item-read, item-short, item-no-second, item-cut}
+use Rattle.lister.proofs.ItemLaws.{whole-none, whole-cut, item-read, item-short, item-second}
 use Rattle.lister.proofs.RowLaws.{whole-at, not-ended}
 use Rattle.lister.proofs.Unlisting.{Spoken, spoken-line, spoken-data, placed-to, bytes-take, no-word}
 
@@ -145,8 +145,8 @@ item-unread x (refused h n) =
     let d = decodeOf (getD x 0 0) (getD x 1 0) in
     sym (item-read x (λ z. omega arith) (λ z. omega arith) d refl) ∙ read-refused x d n
 item-unread x (short {s = s} h d l) = sym (item-short x (λ z. omega arith) (λ z. omega arith) (decodeOf (getD x 0 0) (getD x 1 0)) refl s d (lengthOf s) refl l)
-item-unread x (unpaired {s = s} h d l t) = sym (item-no-second x (λ z. omega arith) (λ z. omega arith) (decodeOf (getD x 0 0) (getD x 1 0)) refl s d (lengthOf s) refl l (toOf x s) refl t)
-item-unread x (shorter {s = s} {to = to} h d l t c) = sym (item-cut x (λ z. omega arith) (λ z. omega arith) (decodeOf (getD x 0 0) (getD x 1 0)) refl s d (lengthOf s) refl l (toOf x s) refl to t (offsetLength to) refl c)
+item-unread x (unpaired {s = s} h d l t) = sym (whole-none x s (toOf x s) refl t ∙ item-second x (λ z. omega arith) (λ z. omega arith) (decodeOf (getD x 0 0) (getD x 1 0)) refl s d (lengthOf s) refl l)
+item-unread x (shorter {s = s} {to = to} h d l t c) = sym (whole-cut x s (toOf x s) refl (lengthOf s) refl to t (offsetLength to) refl c ∙ item-second x (λ z. omega arith) (λ z. omega arith) (decodeOf (getD x 0 0) (getD x 1 0)) refl s d (lengthOf s) refl l)
 
 -- the reader finds no instruction exactly for one of these
 pub unread-exactly : (x : List ℕ) → (itemOf x ≡ Byte) ↔ Unread x

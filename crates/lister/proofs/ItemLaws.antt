@@ -1,11 +1,15 @@
 -- What some bytes begin with, test by test.
 -- Assumes nothing.
 use mathlib.Core.Path.{_≡_, refl, sym, ap, _∙_}
+use mathlib.Core.Bool.{true}
 use mathlib.Core.List.{List, [], _∷_}
-use Prim.Native.Nat.{ℕ, _+_, _≤_, _<_}
+use Prim.Native.Nat.{ℕ, zero, suc, _+_, _/_, _%_, _^_, _≤_, _<_}
 use native.Mathlib.Omega.{arith}
+use lib.Dec.{eqb, ltb}
 use lib.ListN.{length, getD}
-use borrow.Author.Tests.{ne-eqb, lt-ltb, le-ltb}
+use borrow.Author.Tests.{ne-eqb, lt-ltb, le-ltb, ltb-true}
+use Rattle.words.specs.Bits.{fieldOf}
+use Rattle.decode_shapes.specs.Pairs.{pairOf}
 use denote.Enum.Declared.{tagOf as variant}
 use types.Run.{OneOf, miss}
 use Rattle.decode_shapes.specs.declared.Memory.{Memory}
@@ -17,13 +21,30 @@ use Rattle.decode_shapes.specs.declared.Second.{Second}
 use Rattle.decode_shapes.specs.declared.Second.the-variants.{Operand, NoSecond}
 use Rattle.decode_shapes.proofs.Shape as Shapes
 use Rattle.decode_shapes.proofs.Decoded as Decodeds
-use Rattle.decode.specs.Reading.{decodeOf}
-use Rattle.decode.specs.Lengths.{offsetLength, dataLength, displacementLength, lengthOf}
-use Rattle.decode.proofs.LengthLaws.{bounded}
+use Rattle.decode.specs.Reading.{lookup, decodeOf, secondOf}
+use Rattle.decode.specs.Cells.{cells, cellOf, formRows}
+use Rattle.decode.specs.declared.Looked.{Looked}
+use Rattle.decode.specs.Lengths.{offsetLength, dataLength, displacementLength, lengthOf, pairLength}
+use Rattle.decode.proofs.LengthRule.{pair-rule}
+use Rattle.decode.proofs.CellLaws.{atPlaces, at-each, by-cell, by-form}
 use Rattle.notation.proofs.FormLaws.{offset-short}
 use Rattle.lister.specs.declared.reading.Item.{Item}
 use Rattle.lister.specs.declared.reading.Item.the-variants.{Whole, Byte, End}
 use Rattle.lister.specs.Items.{nowhere, toOf, wholeOf, readOf, itemOf}
+
+-- what is less than two and not none is one
+pub one-left : (n : ℕ) → n < 2 → (n ≡ 0 → ⊥) → n ≡ 1
+one-left zero h z = absurd (z refl)
+one-left (suc zero) h z = refl
+one-left (suc (suc n)) h z = omega (arith, h)
+
+-- what was looked up is what the pair is
+pub looked-what : {l : Looked} {d : Decoded} {n : ℕ} → l ≡ record { decoded = d; length = n } → l .decoded ≡ d
+looked-what e = ap (λ (l : Looked). l .decoded) e
+
+-- and has the instruction's length
+pub looked-length : (first second : ℕ) (l : Looked) (s : Shape) → l ≡ record { decoded = decodeOf first second; length = pairLength (pairOf first second) } → l .decoded ≡ Instruction s → l .length ≡ lengthOf s
+looked-length first second l s e d = ap (λ (l : Looked). l .length) e ∙ sym (pair-rule first second s (sym (looked-what e) ∙ d))
 
 -- MOV M,M has two pairs
 pub mov-length : (m : Memory) → lengthOf (MovMemory m) ≡ 4 + offsetLength m
@@ -31,12 +52,21 @@ unfolding lengthOf dataLength displacementLength offsetLength
 mov-length m = omega arith
 
 -- so both bytes of its second pair are there
-pub pairs-there : (n : ℕ) (s : Shape) (m : Memory) → lengthOf s ≤ n → s ≡ MovMemory m → 4 + offsetLength m ≤ n
-pairs-there n s m h e = omega (arith, h, ap lengthOf e, mov-length m)
+pub pairs-there : (n k : ℕ) (s : Shape) (m : Memory) → k ≡ lengthOf s → k ≤ n → s ≡ MovMemory m → 4 + offsetLength m ≤ n
+pairs-there n k s m f h e = omega (arith, f, h, ap lengthOf e, mov-length m)
 
--- an instruction has at most seven bytes
-pub sum-small : (n k : ℕ) (s : Shape) (m : Memory) → n ≡ lengthOf s → k ≡ offsetLength m → n + k ≤ 7
-sum-small n k s m e f = omega (arith, e, f, bounded s, offset-short m)
+-- and its length by the number of its offset bytes
+pub mov-size : (k : ℕ) (m : Memory) → k ≡ offsetLength m → 4 + k ≡ lengthOf (MovMemory m)
+mov-size k m e = omega (arith, e, mov-length m)
+
+-- an operand has at most one offset byte
+pub offset-small : (k : ℕ) (m : Memory) → k ≡ offsetLength m → k ≤ 1
+offset-small k m e = omega (arith, e, offset-short m)
+
+-- the pair behind the first operand of MOV M,M is its second one
+pub second-read : (bytes : List ℕ) (m : Memory) (k : ℕ) (t : Second) → k ≡ offsetLength m → t ≡ secondOf (getD bytes (2 + k) 0) (getD bytes (3 + k) 0) (m .wide) → t ≡ toOf bytes (MovMemory m)
+unfolding toOf
+second-read bytes m k t e h = h ∙ rw e
 
 -- the variants other than MOV M,M
 abbrev others : List ℕ
@@ -69,55 +99,90 @@ no-second bytes (JumpMasked a b c) h = refl
 no-second bytes (JumpBit a b c d) h = refl
 no-second bytes (Bit a b c) h = refl
 
+-- the opcodes that no instruction has, a bit for each, held against the decoder's table, all 64 at once
+whole-unused : atPlaces (λ (k cell : ℕ). eqb (0x90080000FFF020FA / 2 ^ k % 2) 1) 0 cells ≡ atPlaces (λ (k cell : ℕ). ltb cell 16) 0 cells
+unfolding cells
+whole-unused = refl
+
+pub unused-bit : (second : ℕ) → eqb (0x90080000FFF020FA / 2 ^ fieldOf second 2 6 % 2) 1 ≡ ltb (cellOf second) 16
+unfolding cellOf cells fieldOf
+unused-bit second =
+    at-each (λ (k cell : ℕ). eqb (0x90080000FFF020FA / 2 ^ k % 2) 1) (λ (k cell : ℕ). ltb cell 16) cells whole-unused (fieldOf second 2 6) (omega arith)
+
+-- a pair with such an opcode is none
+no-instruction : (first second : ℕ) → ltb (cellOf second) 16 ≡ true → decodeOf first second ≡ NoInstruction
+unfolding decodeOf lookup formRows
+no-instruction first second h =
+    let low : cellOf second < 16 = ltb-true (cellOf second) 16 h in
+    let form : cellOf second / 16 ≡ 0 = omega (arith, low) in
+    by-cell first second ∙ by-form (pairOf first second) (cellOf second) 0 form
+
 read-none : (bytes : List ℕ) (d : Decoded) → OneOf (1 ∷ 2 ∷ []) (variant Decodeds.the-type d) → readOf bytes d ≡ Byte
 unfolding readOf
 read-none bytes (Instruction s) h = absurd (miss (1 ∷ 2 ∷ []) 0 tt h)
 read-none bytes NoInstruction h = refl
 read-none bytes ControlUsed h = refl
 
-module _ (bytes : List ℕ) (some : length bytes ≡ 0 → ⊥) (more : length bytes ≡ 1 → ⊥) (d : Decoded) (read : d ≡ decodeOf (getD bytes 0 0) (getD bytes 1 0)) where
-  pub item-read : readOf bytes d ≡ itemOf bytes
+module _ (bytes : List ℕ) (s : Shape) (t : Second) (second : t ≡ toOf bytes s) where
+  -- the second pair is none
+  pub whole-none : t ≡ NoSecond → Byte ≡ wholeOf bytes s (toOf bytes s)
+  unfolding wholeOf
+  whole-none h =
+      let e : wholeOf bytes s (toOf bytes s) ≡ Byte = ap (wholeOf bytes s) (sym second ∙ h) in
+      sym e
+
+  module _ (n : ℕ) (size : n ≡ lengthOf s) (m : Memory) (to : t ≡ Operand m) (k : ℕ) (offset : k ≡ offsetLength m) where
+    -- its offset byte is not there
+    pub whole-cut : length bytes < n + k → Byte ≡ wholeOf bytes s (toOf bytes s)
+    unfolding wholeOf
+    whole-cut h =
+        let e : wholeOf bytes s (toOf bytes s) ≡ Byte = ap (wholeOf bytes s) (sym second ∙ to) ∙ rw (lt-ltb (length bytes) (lengthOf s + offsetLength m) (omega (arith, h, size, offset))) in
+        sym e
+
+    -- all is there
+    pub whole-there : n + k ≤ length bytes → Whole s m (n + k) ≡ wholeOf bytes s (toOf bytes s)
+    unfolding wholeOf
+    whole-there h =
+        let e : wholeOf bytes s (toOf bytes s) ≡ Whole s m (n + k) =
+        ap (wholeOf bytes s) (sym second ∙ to) ∙ rw (le-ltb (length bytes) (lengthOf s + offsetLength m) (omega (arith, h, size, offset)), size, offset) in
+        sym e
+
+-- an instruction without a second pair is there by its length
+pub whole-single : (bytes : List ℕ) (s : Shape) (n : ℕ) → n ≡ lengthOf s → OneOf others (variant Shapes.the-type s) → n ≤ length bytes → Whole s nowhere n ≡ wholeOf bytes s (toOf bytes s)
+unfolding offsetLength
+whole-single bytes s n size h there =
+    let e : n ≡ n + 0 = omega arith in
+    ap (Whole s nowhere) e ∙ whole-there bytes s (Operand nowhere) (no-second bytes s h) n size nowhere refl 0 refl (omega (arith, there))
+
+module _ (bytes : List ℕ) (some : length bytes ≡ 0 → ⊥) (more : length bytes ≡ 1 → ⊥) where
+  pub item-read : (d : Decoded) → d ≡ decodeOf (getD bytes 0 0) (getD bytes 1 0) → readOf bytes d ≡ itemOf bytes
   unfolding itemOf
-  item-read = rw (ne-eqb (length bytes) 0 some, ne-eqb (length bytes) 1 more, read)
+  item-read d read = rw (ne-eqb (length bytes) 0 some, ne-eqb (length bytes) 1 more, read)
 
-  -- the pair is no instruction
-  pub item-none : OneOf (1 ∷ 2 ∷ []) (variant Decodeds.the-type d) → Byte ≡ itemOf bytes
-  item-none h = sym (read-none bytes d h) ∙ item-read
+  -- no instruction has the opcode
+  pub item-unused : ltb (cellOf (getD bytes 1 0)) 16 ≡ true → Byte ≡ itemOf bytes
+  unfolding readOf
+  item-unused h =
+      let d = decodeOf (getD bytes 0 0) (getD bytes 1 0) in
+      let e : readOf bytes d ≡ Byte = ap (readOf bytes) (no-instruction (getD bytes 0 0) (getD bytes 1 0) h) in
+      sym e ∙ item-read d refl
 
-  module _ (s : Shape) (shape : d ≡ Instruction s) (n : ℕ) (size : n ≡ lengthOf s) where
-    -- its bytes are not all there
-    pub item-short : length bytes < n → Byte ≡ itemOf bytes
-    unfolding readOf
-    item-short h =
-        let e : readOf bytes d ≡ Byte = ap (readOf bytes) shape ∙ rw (lt-ltb (length bytes) (lengthOf s) (omega (arith, h, size))) in
-        sym e ∙ item-read
+  module _ (d : Decoded) (read : d ≡ decodeOf (getD bytes 0 0) (getD bytes 1 0)) where
+    -- the pair is no instruction
+    pub item-none : OneOf (1 ∷ 2 ∷ []) (variant Decodeds.the-type d) → Byte ≡ itemOf bytes
+    item-none h = sym (read-none bytes d h) ∙ item-read d read
 
-    item-second : n ≤ length bytes → wholeOf bytes s (toOf bytes s) ≡ itemOf bytes
-    unfolding readOf
-    item-second h =
-        let e : readOf bytes d ≡ wholeOf bytes s (toOf bytes s) = ap (readOf bytes) shape ∙ rw (le-ltb (length bytes) (lengthOf s) (omega (arith, h, size))) in
-        sym e ∙ item-read
+    module _ (s : Shape) (shape : d ≡ Instruction s) (n : ℕ) (size : n ≡ lengthOf s) where
+      -- its bytes are not all there
+      pub item-short : length bytes < n → Byte ≡ itemOf bytes
+      unfolding readOf
+      item-short h =
+          let e : readOf bytes d ≡ Byte = ap (readOf bytes) shape ∙ rw (lt-ltb (length bytes) (lengthOf s) (omega (arith, h, size))) in
+          sym e ∙ item-read d read
 
-    module _ (there : n ≤ length bytes) (t : Second) (second : t ≡ toOf bytes s) where
-      -- the second pair is none
-      pub item-no-second : t ≡ NoSecond → Byte ≡ itemOf bytes
-      unfolding wholeOf
-      item-no-second h =
-          let e : wholeOf bytes s (toOf bytes s) ≡ Byte = ap (wholeOf bytes s) (sym second ∙ h) in
-          sym e ∙ item-second there
-
-      module _ (m : Memory) (to : t ≡ Operand m) (k : ℕ) (offset : k ≡ offsetLength m) where
-        -- its offset byte is not there
-        pub item-cut : length bytes < n + k → Byte ≡ itemOf bytes
-        unfolding wholeOf
-        item-cut h =
-            let e : wholeOf bytes s (toOf bytes s) ≡ Byte = ap (wholeOf bytes s) (sym second ∙ to) ∙ rw (lt-ltb (length bytes) (lengthOf s + offsetLength m) (omega (arith, h, size, offset))) in
-            sym e ∙ item-second there
-
-        -- all is there
-        pub item-whole : n + k ≤ length bytes → Whole s m (n + k) ≡ itemOf bytes
-        unfolding wholeOf
-        item-whole h =
-            let e : wholeOf bytes s (toOf bytes s) ≡ Whole s m (n + k) =
-            ap (wholeOf bytes s) (sym second ∙ to) ∙ rw (le-ltb (length bytes) (lengthOf s + offsetLength m) (omega (arith, h, size, offset)), size, offset) in
-            sym e ∙ item-second there
+      -- they are there up to a second pair
+      pub item-second : n ≤ length bytes → wholeOf bytes s (toOf bytes s) ≡ itemOf bytes
+      unfolding readOf
+      item-second h =
+          let e : readOf bytes d ≡ wholeOf bytes s (toOf bytes s) = ap (readOf bytes) shape ∙ rw (le-ltb (length bytes) (lengthOf s) (omega (arith, h, size))) in
+          sym e ∙ item-read d read

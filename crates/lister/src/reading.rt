@@ -4,12 +4,13 @@ use decode_shapes::Memory;
 use decode_shapes::Second;
 use decode_shapes::Shape;
 ghost use mathlib.Core.Path.{_≡_};
-ghost use Prim.Native.Nat.{_≤_};
+ghost use Prim.Native.Nat.{_+_, _≤_};
+ghost use lib.Dec.{ltb};
 ghost use lib.ListN.{length, drop};
-ghost use Rattle.decode.specs.Lengths.{lengthOf};
-ghost use Rattle.decode.specs.Reading.{decodeOf};
-ghost use Rattle.decode_shapes.specs.declared.Decoded.the-variants.{Instruction};
-ghost use Rattle.lister.specs.Items.{toOf, itemOf, behindOf};
+ghost use Rattle.decode.specs.Cells.{cellOf};
+ghost use Rattle.decode.specs.Lengths.{offsetLength};
+ghost use Rattle.decode_shapes.specs.declared.Shape.the-variants.{MovMemory};
+ghost use Rattle.lister.specs.Items.{toOf, wholeOf, itemOf, behindOf};
 
 // What bytes begin with: a whole instruction with the operand of MOV M,M's second pair and its length, a byte at which none
 // starts, or nothing.
@@ -23,55 +24,68 @@ pub enum Item {
     End,
 }
 
-// What the second pair of MOV M,M is.
-fn second_pair(bytes: &[u8], s: Shape) -> Second
-    requires { ⌜ lengthOf s ≤ length (now bytes) ⌝ }
-    ensures { λ r. ⌜ r ≡ toOf (now (bytes .entry)) s ⌝ }
+// The opcodes that no instruction has, a bit for each.
+const UNUSED: u64 = 0x90080000FFF020FA;
+
+// Whether no instruction has the opcode in the second byte of a pair: told without the table, since data has many such.
+fn unused(second: u8) -> bool
+    ensures { λ r. ⌜ r ≡ ltb (cellOf second) 16 ⌝ }
 {
-    if let Shape::MovMemory { m } = s {
-        let i = decode::offset_length(m) as usize;
-        decode::decode_second(bytes[2 + i], bytes[3 + i], m.wide)
-    } else {
-        Second::Operand(Memory {
-            mm: 0,
-            aa: 0,
-            wide: false,
-        })
-    }
+    let opcode = (second / 4) as u32;
+    (UNUSED >> opcode) % 2 == 1
 }
 
-// The bytes of the instruction of some shape that a pair begins, without the offset byte of a second pair.
-fn whole_length(first: u8, second: u8, s: Shape) -> u32
-    requires { ⌜ decodeOf first second ≡ Instruction s ⌝ }
-    ensures { λ r. ⌜ r ≡ lengthOf s ⌝ }
+// MOV M,M from a first operand, if its second pair is one and all its bytes are there.
+fn mov_memory(bytes: &[u8], m: Memory) -> Item
+    requires { ⌜ 4 + offsetLength m ≤ length (now bytes) ⌝ }
+    ensures { λ r. ⌜ r ≡ wholeOf (now (bytes .entry)) (MovMemory m) (toOf (now (bytes .entry)) (MovMemory m)) ⌝ }
 {
-    decode::pair_length(first, second)
+    let offset = decode::offset_length(m);
+    let i = offset as usize;
+    let Second::Operand(to) = decode::decode_second(bytes[2 + i], bytes[3 + i], m.wide) else {
+        return Item::Byte;
+    };
+    let length = 4 + offset + decode::offset_length(to);
+    if bytes.len() < length as usize {
+        return Item::Byte;
+    }
+    Item::Whole {
+        shape: Shape::MovMemory { m },
+        to,
+        length,
+    }
 }
 
 // What some bytes begin with.
 fn item_of(bytes: &[u8]) -> Item
     ensures { λ r. ⌜ r ≡ itemOf (now (bytes .entry)) ⌝ }
 {
-    if bytes.len() == 0 {
-        return Item::End;
-    }
-    if bytes.len() == 1 {
+    if bytes.len() < 2 {
+        if bytes.len() == 0 {
+            return Item::End;
+        }
         return Item::Byte;
     }
-    let Decoded::Instruction(shape) = decode::decode(bytes[0], bytes[1]) else {
+    if unused(bytes[1]) {
+        return Item::Byte;
+    }
+    let looked = decode::look_up(bytes[0], bytes[1]);
+    let decoded = looked.decoded;
+    let Decoded::Instruction(shape) = decoded else {
         return Item::Byte;
     };
-    let n = whole_length(bytes[0], bytes[1], shape);
-    if bytes.len() < n as usize {
-        return Item::Byte;
-    }
-    let Second::Operand(to) = second_pair(bytes, shape) else {
-        return Item::Byte;
-    };
-    let length = n + decode::offset_length(to);
+    let length = looked.length;
     if bytes.len() < length as usize {
         return Item::Byte;
     }
+    if let Shape::MovMemory { m } = shape {
+        return mov_memory(bytes, m);
+    }
+    let to = Memory {
+        mm: 0,
+        aa: 0,
+        wide: false,
+    };
     Item::Whole { shape, to, length }
 }
 

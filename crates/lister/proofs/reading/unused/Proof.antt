@@ -1,0 +1,29 @@
+-- `lister::reading::unused` meets its contract: its bits are those of the decoder's table.
+-- Assumes nothing.
+use mathlib.Core.Path.{_≡_, ap, _∙_}
+use Prim.Native.Nat.{ℕ, _/_, _%_, _^_}
+use native.Mathlib.Omega.{arith}
+use lib.Dec.{eqb}
+use Rattle.words.specs.Bits.{fieldOf}
+use Rattle.lister.proofs.ItemLaws.{unused-bit}
+use borrow.Author.Needs.{needs}
+use Rattle.lister.proofs.reading.unused.Statement.{statement}
+use Rattle.lister.proofs.reading.unused.Tie as tie
+
+cast-opcode : tie.Need-cast-opcode
+cast-opcode c = search needs
+
+cast-result : tie.Need-cast-result
+cast-result c = search needs
+
+shr-result : tie.Need-shr-result
+shr-result c = search needs
+
+returns : tie.Need-returns
+unfolding fieldOf
+returns c =
+    let same : c .args .second / 4 ≡ fieldOf (c .args .second) 2 6 = omega arith in
+    ap (λ (k : ℕ). eqb (0x90080000FFF020FA / 2 ^ k % 2) 1) same ∙ unused-bit (c .args .second)
+
+pub unused-spec : {M : Type 1} → statement M
+unused-spec = tie.close (tie.spec cast-opcode cast-result shr-result returns)
