@@ -26,7 +26,8 @@ use Rattle.transfer.specs.Stores.{storesTwo, bytesStored, bytesMoved, by
 use Rattle.transfer.specs.declared.Data.{Data}
 use Rattle.transfer.specs.declared.Side.{Side}
 use Rattle.transfer.proofs.KeptLaws.{ga-after, gb-after, ended-none}
-use Rattle.transfer.proofs.MatchLaws.{off-stores, off-unmet}
+use Rattle.transfer.proofs.LeftoverLaws.{whole-counts}
+use Rattle.transfer.proofs.MatchLaws.{off-whole, off-stores, off-unmet}
 use Rattle.transfer.proofs.StepLaws.{outcome-0}
 use Rattle.transfer.proofs.TouchLaws.{reads-lent, places-lent, touched-lent}
 
@@ -100,6 +101,11 @@ two-moves c h ne = rw (h, ne-eqb (c .bc) 1 ne, and-false)
 pub block-stores : (c : Channel) (d : Data) → Block (c .cc) → storesTwo c d ≡ twoMove c
 block-stores c d k = off-stores c d (k .unmatched)
 
+-- and all of them count
+block-counts : (c : Channel) (d : Data) → Block (c .cc) → bytesCounted c d ≡ stride c
+unfolding bytesStored
+block-counts c d k = whole-counts c d (off-whole c d (k .unmatched)) ∙ rw (block-stores c d k)
+
 larger-left : (n : ℕ) → larger 0 n ≡ n
 unfolding larger
 larger-left zero = refl
@@ -111,8 +117,8 @@ larger-right n = rw (le-ltb n 0 (omega arith))
 
 -- the step ends exactly where BC becomes 0
 pub block-end : (c : Channel) (d : Data) → Block (c .cc) → endCode c d ≡ codeIf (eqb (remaining c) 0) (countEnd (c .cc))
-unfolding endCode countAfter bytesCounted bytesStored codeIf
-block-end c d k = rw (off-unmet c d (k .unmatched), block-stores c d k, k .ongoing) (ends (codeIf (eqb (remaining c) 0) (countEnd (c .cc))))
+unfolding endCode countAfter codeIf
+block-end c d k = rw (off-unmet c d (k .unmatched), block-counts c d k, k .ongoing) (ends (codeIf (eqb (remaining c) 0) (countEnd (c .cc))))
   where
     ends : (n : ℕ) → larger (larger (codeIf false (matchEnd (c .cc) % 4)) n) (codeIf false 1) ≡ n
     ends n = larger-right (larger 0 n) ∙ larger-left n

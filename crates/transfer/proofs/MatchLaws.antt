@@ -17,10 +17,15 @@ off : (tmc mc byte : ℕ) → tmc % 4 ≡ 0 → meetsTmc tmc mc byte ≡ false
 unfolding meetsTmc
 off tmc mc byte h = rw (eq-eqb (tmc % 4) 0 h)
 
--- so all bytes that move are stored
+-- so no store is prevented
+pub off-whole : (c : Channel) (d : Data) → matchEnd (c .cc) % 4 ≡ 0 → cutShort c d ≡ false
+unfolding cutShort firstMeets
+off-whole c d h = rw (off (matchEnd (c .cc)) (c .mc) (d .first) h) (and-false (storedSingly c))
+
+-- and all bytes that move are stored
 pub off-stores : (c : Channel) (d : Data) → matchEnd (c .cc) % 4 ≡ 0 → storesTwo c d ≡ twoMove c
-unfolding storesTwo cutShort firstMeets
-off-stores c d h = rw (off (matchEnd (c .cc)) (c .mc) (d .first) h, and-false) (and-true (twoMove c))
+unfolding storesTwo
+off-stores c d h = rw (off-whole c d h) (and-true (twoMove c))
 
 -- and no end comes of it
 pub off-unmet : (c : Channel) (d : Data) → matchEnd (c .cc) % 4 ≡ 0 → matchMet c d ≡ false

@@ -27,6 +27,10 @@ entryOf c m = sum20 (c .gc .address) (fetched c m)
 unfoldable pub delivered : Channel → Buffers → ℕ
 delivered c m = pick (translates (c .cc)) (byteAt m (c .gc .tag) (entryOf c m)) (fetched c m)
 
+-- how many bytes are fetched from the source: two where two move, whether the second is then stored or not
+abbrev pub bytesFetched : Channel → ℕ
+bytesFetched c = pick (twoMove c) 2 1
+
 -- the bytes to be stored, all of them read before the first store (§7.5)
 unfoldable pub dataOf : Channel → Buffers → Data
 dataOf c m = record { first = delivered c m; second = fetchedSecond c m }

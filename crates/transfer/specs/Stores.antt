@@ -12,7 +12,7 @@ use Rattle.machine.specs.Cc.{sourceIsGB, singleTransfer, countEnd, matchEnd}
 use Rattle.transfer.specs.declared.Side.{Side}
 use Rattle.transfer.specs.declared.Data.{Data}
 use Rattle.transfer.specs.Sides.{source, destination, secondAddress, sideAfter, twoMove, storedSingly}
-use Rattle.transfer.specs.Reads.{also}
+use Rattle.transfer.specs.Reads.{bytesFetched, also}
 use Rattle.transfer.specs.Ends.{meetsTmc, codeIf, larger, endedBy}
 use Rattle.machine.specs.Updates.{withTransfer}
 
@@ -40,9 +40,9 @@ bytesStored c d = pick (storesTwo c d) 2 1
 unfoldable pub bytesMoved : Channel → Data → ℕ
 bytesMoved c d = bytesStored c d
 
--- what BC falls by: the bytes stored, whether TBC is on or off (§7.9)
+-- what BC falls by: the bytes fetched, so 2 where a match prevents the second store, whether TBC is on or off (§7.9)
 unfoldable pub bytesCounted : Channel → Data → ℕ
-bytesCounted c d = bytesStored c d
+bytesCounted c d = bytesFetched c
 
 -- BC after the step
 unfoldable pub countAfter : Channel → Data → ℕ

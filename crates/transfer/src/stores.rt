@@ -45,8 +45,8 @@ fn compare(c: Channel, p: Setup, d: Data) -> Compared
     }
 }
 
-// The number of bytes stored.
-fn stored(two: bool) -> u16
+// The number of bytes, of two or of one.
+fn one_or_two(two: bool) -> u16
     ensures { λ r. ⌜ r ≡ pick two 2 1 ⌝ }
 {
     if two { 2 } else { 1 }
@@ -74,13 +74,14 @@ pub(crate) fn finish(c: Channel, p: Setup, d: Data) -> Done
     ensures { λ r. ⌜ r ≡ record { two = storesTwo c d; channel = movedChannel c d } ⌝ }
 {
     let k = compare(c, p, d);
-    let count = stored(k.two);
+    let stored = one_or_two(k.two);
+    let fetched = one_or_two(p.two);
     let before = c.bc;
-    let bc = words::count_down(before, count);
+    let bc = words::count_down(before, fetched);
     let counted = crate::ends::code_if(bc == 0, p.tbc);
     let single = crate::ends::code_if(machine::cc::single_transfer(c.cc), 1);
     let code = crate::ends::larger(crate::ends::larger(k.code, counted), single);
-    let next = moved_by(c, p, count as u32, bc);
+    let next = moved_by(c, p, stored as u32, bc);
     Done {
         two: k.two,
         channel: crate::ends::ended(next, code),

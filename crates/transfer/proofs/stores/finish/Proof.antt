@@ -9,8 +9,11 @@ use Rattle.transfer.proofs.stores.finish.Tie as tie
 compare-requires : tie.Need-compare-requires
 compare-requires c κs = search needs
 
-stored-requires : tie.Need-stored-requires
-stored-requires c κs = search needs
+one-or-two-requires : tie.Need-one-or-two-requires
+one-or-two-requires c κs = search needs
+
+one-or-two-requires-2 : tie.Need-one-or-two-requires-2
+one-or-two-requires-2 c κs = search needs
 
 count-down-requires : tie.Need-count-down-requires
 count-down-requires c κs = search needs
@@ -34,7 +37,7 @@ cast-moved-by : tie.Need-cast-moved-by
 cast-moved-by c = search needs
 
 moved-by-requires : tie.Need-moved-by-requires
-moved-by-requires c κs = c .before .before .before .before .before .before .before .before .pre
+moved-by-requires c κs = c .before .before .before .before .before .before .before .before .before .pre
 
 ended-requires : tie.Need-ended-requires
 ended-requires c κs = search needs
@@ -42,14 +45,15 @@ ended-requires c κs = search needs
 returns : tie.Need-returns
 unfolding movedChannel endCode countAfter bytesCounted bytesMoved bytesStored setupOf
 returns c =
-    rw (c .ended .ensures, c .before .moved-by .ensures, c .before .before .larger2 .ensures, c .before .before .before .larger .ensures, c .before .before .before .before .code-if2 .ensures, c .before .before .before .before .before .single-transfer .ensures, c .before .before .before .before .before .before .code-if .ensures, c .before .before .before .before .before .before .before .count-down .ensures, c .before .before .before .before .before .before .before .before .stored .ensures, c .before .before .before .before .before .before .before .before .before .compare .ensures, c .before .before .before .before .before .before .before .before .before .before .pre)
+    rw (c .ended .ensures, c .before .moved-by .ensures, c .before .before .larger2 .ensures, c .before .before .before .larger .ensures, c .before .before .before .before .code-if2 .ensures, c .before .before .before .before .before .single-transfer .ensures, c .before .before .before .before .before .before .code-if .ensures, c .before .before .before .before .before .before .before .count-down .ensures, c .before .before .before .before .before .before .before .before .one-or-two2 .ensures, c .before .before .before .before .before .before .before .before .before .one-or-two .ensures, c .before .before .before .before .before .before .before .before .before .before .compare .ensures, c .before .before .before .before .before .before .before .before .before .before .before .pre)
 
 pub finish-spec : {M : Type 1} → statement M
 finish-spec =
     tie.close
     (tie.spec
     compare-requires
-    stored-requires
+    one-or-two-requires
+    one-or-two-requires-2
     count-down-requires
     code-if-requires
     single-transfer-requires
