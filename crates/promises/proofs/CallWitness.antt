@@ -124,7 +124,7 @@ spared a b c d e a′ b′ c′ d′ e′ io l =
     }
 
 -- a step call with all that it is made of laid open, so that it computes
-unfoldable stepOpen : State → Buffers → ℕ → Step
+unfoldable pub stepOpen : State → Buffers → ℕ → Step
 unfolding stepOf chosenStep channelStep transferStep settledStep choiceOf endsNow external requested rankOf transferRank secondWins ranked isRunning entryNumber givenNumber withinLimits sound soundChannel channelOf withChannel withLast channelNumber bothWith transferOpen
 stepOpen s m lines = stepOf s m lines
 

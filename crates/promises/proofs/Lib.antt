@@ -37,6 +37,8 @@ pub mod SheetMemory
 pub mod SheetControl
 pub mod SheetTurns
 pub mod SheetTransfer
+pub mod Leftover
+pub mod LeftoverCases
 pub mod Sheet
 pub mod SheetWitness
 pub mod Determined

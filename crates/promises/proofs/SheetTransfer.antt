@@ -34,14 +34,14 @@ use Rattle.promises.proofs.SheetControl.{bit-set}
 use Rattle.promises.proofs.SheetTurns.{offset-is}
 
 -- the codes of the ends are below 4
-larger-small : (a b : ℕ) → a < 4 → b < 4 → pick (ltb a b) b a < 4
+pub larger-small : (a b : ℕ) → a < 4 → b < 4 → pick (ltb a b) b a < 4
 larger-small a b h k = go (ltb a b)
   where
     go : (x : Bool) → pick x b a < 4
     go true = k
     go false = h
 
-pick-small : (x : Bool) (n : ℕ) → n < 4 → pick x n 0 < 4
+pub pick-small : (x : Bool) (n : ℕ) → n < 4 → pick x n 0 < 4
 pick-small true n h = h
 pick-small false n h = lit< tt
 

@@ -23,4 +23,5 @@ pub mod SheetMemory
 pub mod SheetControl
 pub mod SheetTurns
 pub mod SheetTransfer
+pub mod Leftover
 pub mod Sheet

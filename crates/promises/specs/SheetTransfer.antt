@@ -67,12 +67,16 @@ module _ (c : Channel) (m : Buffers) where
   abbrev pub twoStored : Bool
   twoStored = twoGo && not (singly && meetsIn firstByte)
 
-  -- the bytes stored, and BC after them (§7.9)
+  -- the bytes stored, by which pointers gain (§7.9)
   abbrev pub storedCount : ℕ
   storedCount = pick twoStored 2 1
 
+  -- the bytes fetched, and BC after them (§7.9)
+  abbrev pub fetchedCount : ℕ
+  fetchedCount = pick twoGo 2 1
+
   abbrev pub countLeft : ℕ
-  countLeft = (c .bc + (65536 - storedCount)) % 65536
+  countLeft = (c .bc + (65536 - fetchedCount)) % 65536
 
   -- the larger of two codes
   abbrev pub maxOf : ℕ → ℕ → ℕ
