@@ -115,6 +115,20 @@ MATCH = code(
     "20 48             ; HLT",
 )
 
+# Searches words for a full stop and stores them as bytes: ends by match at offset 4, and leaves BC in the parameter block.
+LEFTOVER = code(
+    "11 08 00 00 08 00 ; LPDI GA,0,8: 80h",
+    "31 08 00 00 0A 00 ; LPDI GB,0,0AH: A0h",
+    "71 30 10 00       ; MOVI BC,16",
+    "F1 30 2E FF       ; MOVI MC,0FF2EH",
+    "D1 30 0A C0       ; MOVI CC,0C00AH: both move on, count ends at 0, match at 4",
+    "60 00             ; XFER",
+    "C0 00             ; WID  16,8",
+    "0A 4F 0E 4E       ; MOVBI [PP].14,'N': the count ran out",
+    "63 87 04          ; MOV  [PP].4,BC: how much was not fetched",
+    "20 48             ; HLT",
+)
+
 # Translates four bytes through a table.
 TRANSLATE = code(
     "11 08 00 00 08 00 ; LPDI GA,0,8: 80h",
@@ -164,6 +178,7 @@ IMAGES = {
     "sector": started(0x100, SECTOR, (0xC0, bytes([0xEE] * 16)), control=INTERRUPTS,
                       parameters=doubleword(0xC0) + word(16) + bytes([7, 0x2E])),
     "match": started(0x100, MATCH, (0x80, b"end. not this...")),
+    "leftover": started(0x100, LEFTOVER, (0x80, b"stop. not this..")),
     "translate": started(0x100, TRANSLATE, (0x80, bytes([3, 1, 2, 0])), (0xA0, b"ZYXW")),
     "external": started(0x100, EXTERNAL, (0x80, b"data")),
     "nops": image(0x14, (0, block(START_IO)), (PB, word(0xF0))),

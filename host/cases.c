@@ -207,8 +207,9 @@ void make_case(struct run_case *c, uint64_t seed, uint64_t number)
 
 /* ---- Images for the panel's program ---- */
 
-/* Every so many images one is longer than the program reads, has the next of the commands, or is refused by 4 or 5. */
-enum { LONG_EVERY = 60, COMMAND_EVERY = 10, REFUSED_EVERY = 15 };
+/* Every so many images one is longer than the program reads, has the next of the commands, is refused by 4 or 5, or
+ * searches for a pattern. */
+enum { LONG_EVERY = 60, COMMAND_EVERY = 10, REFUSED_EVERY = 15, SEARCH_EVERY = 3 };
 
 /* An image's length: mostly enough for a program, at times hardly anything or exactly the limit. */
 static size_t panel_length(struct dice *d, uint64_t number)
@@ -231,6 +232,7 @@ size_t make_panel_image(uint8_t sys[PANEL_ROOM], uint64_t seed, uint64_t number)
     fill(&d, c.sys, c.sys_len);
     new_program(&p, &d, c.sys_len, c.io_len);
     if (number % REFUSED_EVERY == 0) write_refused(&p, number / REFUSED_EVERY % 2 == 1);
+    else if (number % SEARCH_EVERY == 1) write_search(&p);
     else if (chance(&d, 40)) write_noise(&p);
     else if (chance(&d, 80)) how.cut = write_cut(&p);
     else if (chance(&d, 350)) write_rich(&p);

@@ -1056,11 +1056,23 @@ static unsigned shape_of(const struct side *source, const struct side *destinati
     return source->word ? EMU_SHAPE_W_W : EMU_SHAPE_BB_W;
 }
 
+/* Names what BC was before a step whose first of two single stores met TMC, for the counters. */
+static enum emu_leftover leftover_of(uint16_t cc, uint16_t before)
+{
+    unsigned tbc = cc_tbc(cc), tmc = cc_tmc(cc);
+    if (tbc == 0) return before > 2 ? EMU_LEFTOVER_OFF_MORE : (enum emu_leftover)(EMU_LEFTOVER_OFF_0 + before);
+    if (before != 2) return before == 0 ? EMU_LEFTOVER_TBC_0 : EMU_LEFTOVER_TBC_MORE;
+    if (tbc == tmc) return EMU_LEFTOVER_TBC_2_SAME;
+    return tbc > tmc ? EMU_LEFTOVER_TBC_2_COUNT : EMU_LEFTOVER_TBC_2_MATCH;
+}
+
 /* Counts a done transfer step. */
-static void count_transfer(const struct work *w)
+static void count_transfer(const struct work *w, uint16_t before)
 {
     if (emu_coverage == NULL || w->number != EMU_DONE) return;
+    uint16_t cc = w->ch->cc;
     emu_coverage->shape[w->shape]++;
+    if (w->shape == EMU_SHAPE_W_B_CUT) emu_coverage->leftover[cc_ends_on_no_match(cc)][leftover_of(cc, before)]++;
     emu_coverage->end[w->ends]++;
     if (w->translated) emu_coverage->translated++;
     if (w->ends != 0) emu_coverage->end_offset[w->end_offset / 4]++;
@@ -1080,7 +1092,8 @@ static struct side destination_side(struct emu_channel *ch)
     return make_side(pointer, (ch->psw & EMU_PSW_D) != 0, cc_destination_moves(ch->cc));
 }
 
-/* One transfer step; with one byte left to count, a word must not run past the count. */
+/* One transfer step; with one byte left to count, a word must not run past the count. BC falls while bytes are fetched,
+ * the pointers move with those that are stored. */
 static void transfer_step(struct work *w)
 {
     struct emu_channel *ch = w->ch;
@@ -1092,14 +1105,16 @@ static void transfer_step(struct work *w)
     bool one_left = cc_tbc(ch->cc) != 0 && ch->bc == 1;
     bool two = (source.word || destination.word) && !one_left;
     uint32_t data = fetch(w, &source, two);
+    uint16_t before = ch->bc;
+    unsigned fetched = two ? 2 : 1;
     unsigned stored = two && destination.word ? store_word(w, &destination, data)
                                               : store_singly(w, &destination, data, two);
     w->shape = shape_of(&source, &destination, two, stored);
     move_on(&source, stored);
     move_on(&destination, stored);
-    ch->bc = (uint16_t)(ch->bc - stored);
+    ch->bc = (uint16_t)(before - fetched);
     end_if_due(w);
-    count_transfer(w);
+    count_transfer(w, before);
 }
 
 /* ---- Which channel steps ---- */

@@ -97,6 +97,21 @@ enum emu_shape {
     EMU_SHAPES
 };
 
+/* BC before a step in which the first of two single stores met TMC: with TBC on and 2 left the count ends too, and one
+ * of the two offsets is the larger or they are the same. */
+enum emu_leftover {
+    EMU_LEFTOVER_TBC_2_COUNT,
+    EMU_LEFTOVER_TBC_2_MATCH,
+    EMU_LEFTOVER_TBC_2_SAME,
+    EMU_LEFTOVER_TBC_0,
+    EMU_LEFTOVER_TBC_MORE,
+    EMU_LEFTOVER_OFF_0,
+    EMU_LEFTOVER_OFF_1,
+    EMU_LEFTOVER_OFF_2,
+    EMU_LEFTOVER_OFF_MORE,
+    EMU_LEFTOVERS
+};
+
 /* Reasons for which a transfer step ended its transfer; they can meet, so they add up. */
 enum emu_end { EMU_END_TMC = 1, EMU_END_TBC = 2, EMU_END_TS = 4, EMU_END_SETS = 8 };
 
@@ -107,6 +122,7 @@ struct emu_coverage {
     unsigned long row[EMU_ROWS];            /* carried out, by row */
     unsigned long taken[EMU_ROWS];          /* of these, jumps that were taken */
     unsigned long shape[EMU_SHAPES];        /* done transfer steps, by shape */
+    unsigned long leftover[2][EMU_LEFTOVERS]; /* first of two single stores met, by TMC's bit 2 and BC before */
     unsigned long translated;               /* done transfer steps with translation */
     unsigned long end[EMU_END_SETS];        /* done transfer steps, by the set of ends (0: goes on) */
     unsigned long end_offset[3];            /* ended ones, by offset 0, 4, 8 */

@@ -49,6 +49,20 @@ static void print_shapes(const struct emu_coverage *coverage)
     print_count("translated", coverage->translated);
 }
 
+void print_leftovers(const struct emu_coverage *coverage)
+{
+    static const char *const names[EMU_LEFTOVERS] = {
+        "TBC on, 2 left: ended too, its offset larger", "TBC on, 2 left: ended too, TMC's offset larger",
+        "TBC on, 2 left: ended too, the same offset",   "TBC on, BC 0",
+        "TBC on, 3 left or more",                       "TBC off, BC 0",
+        "TBC off, BC 1",                                "TBC off, BC 2",
+        "TBC off, BC 3 or more"};
+    for (unsigned none = 0; none < 2; none++) {
+        printf("first of two single stores met TMC, which ends on %smatch:\n", none != 0 ? "no " : "a ");
+        for (unsigned i = 0; i < EMU_LEFTOVERS; i++) print_count(names[i], coverage->leftover[none][i]);
+    }
+}
+
 /* Prints how transfers ended. */
 static void print_ends(const struct emu_coverage *coverage)
 {
@@ -71,6 +85,7 @@ void print_coverage(const struct emu_coverage *coverage, unsigned commands)
     print_commands(coverage, commands);
     print_formats(coverage);
     print_shapes(coverage);
+    print_leftovers(coverage);
     print_ends(coverage);
 }
 

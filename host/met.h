@@ -13,6 +13,9 @@ void print_count(const char *name, unsigned long count);
 /* Prints how often each number was answered of those in the set. */
 void print_numbers(const char *what, const unsigned long counts[EMU_NUMBERS], unsigned set);
 
+/* Prints BC before steps in which the first of two single stores met TMC. */
+void print_leftovers(const struct emu_coverage *coverage);
+
 /* Prints the accepted commands of the set, the rows carried out, and the shapes and ends of transfer steps. */
 void print_coverage(const struct emu_coverage *coverage, unsigned commands);
 

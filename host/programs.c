@@ -258,17 +258,23 @@ static void add_movi(struct program *p, unsigned rrr, uint32_t word)
     add_word(p, word);
 }
 
-/* Points a pointer at some place of either space; I/O space by MOVI, system space by LPDI. */
-static void add_pointing(struct program *p, unsigned ppp)
+/* Points a pointer at some place of either space, with these bits cleared; I/O space by MOVI, system space by LPDI. */
+static void add_pointing_without(struct program *p, unsigned ppp, uint32_t bits)
 {
     if (chance(p->d, 400) && p->io_len > 0) {
-        add_movi(p, ppp, some_place(p, true));
+        add_movi(p, ppp, some_place(p, true) & ~bits);
         return;
     }
     begin(p);
     add(p, ppp << 5 | 0x11);
     add(p, 0x08);
-    add_doubleword(p, some_place(p, false));
+    add_doubleword(p, some_place(p, false) & ~bits);
+}
+
+/* Points a pointer at some place of either space. */
+static void add_pointing(struct program *p, unsigned ppp)
+{
+    add_pointing_without(p, ppp, 0);
 }
 
 /* Adds an instruction of exactly four bytes, or two of two, as the places behind a transfer want them. */
@@ -316,6 +322,23 @@ uint32_t transfer_mc(struct dice *d)
     return (chance(d, 300) ? below(d, 256) : mask) << 8 | below(d, 256);
 }
 
+uint32_t search_cc(struct dice *d)
+{
+    uint32_t cc = (chance(d, 850) ? 1u << 15 : 0) | (chance(d, 850) ? 1u << 14 : 0) | below(d, 2) << 10 | below(d, 2) << 8;
+    return cc | end_code(d, 350) << 3 | below(d, 2) << 2 | (1 + below(d, 3));
+}
+
+uint32_t search_count(struct dice *d)
+{
+    static const uint8_t few[] = {0, 1, 2, 2, 2, 3};
+    return ONE_OF(d, few);
+}
+
+uint32_t search_mc(struct dice *d, uint32_t cc)
+{
+    return chance(d, 800) ? ((cc >> 2 & 1u) != 0 ? 0xFF00u : 0) | below(d, 256) : transfer_mc(d);
+}
+
 /* Adds WID; translation goes mostly with 8 bits on both sides. */
 static void add_widths(struct program *p, uint32_t cc)
 {
@@ -323,6 +346,41 @@ static void add_widths(struct program *p, uint32_t cc)
     begin(p);
     add(p, (4 | (bytes ? 0 : below(p->d, 4))) << 5);
     add(p, 0x00);
+}
+
+/* Adds CC and XFER; the transfer begins after one more instruction. */
+static void add_arming(struct program *p, uint32_t cc)
+{
+    add_movi(p, CC, cc);
+    begin(p);
+    add_word(p, 0x0060);
+}
+
+/* Adds the places at which a transfer can end. */
+static void add_endings(struct program *p)
+{
+    add_four(p);
+    add_four(p);
+}
+
+/* Adds WID for words into bytes. */
+static void add_narrowing(struct program *p)
+{
+    begin(p);
+    add_word(p, 6 << 5);
+}
+
+/* Adds a transfer of words into bytes that searches for a pattern with hardly any or no count left. */
+static void add_search(struct program *p)
+{
+    uint32_t cc = search_cc(p->d);
+    add_pointing_without(p, GA, 1);
+    add_pointing_without(p, GB, 1);
+    add_movi(p, BC, search_count(p->d));
+    add_movi(p, MC, search_mc(p->d, cc));
+    add_arming(p, cc);
+    add_narrowing(p);
+    add_endings(p);
 }
 
 /* Adds a whole transfer: its registers, XFER, one more instruction, and the places at which it can end. */
@@ -335,13 +393,10 @@ static void add_transfer(struct program *p)
     add_movi(p, BC, transfer_count(p->d));
     if ((cc & 3u) != 0) add_movi(p, MC, transfer_mc(p->d));
     if (chance(p->d, 600)) add_widths(p, cc);
-    add_movi(p, CC, cc);
-    begin(p);
-    add_word(p, 0x0060);
+    add_arming(p, cc);
     if (chance(p->d, 600)) add_widths(p, cc);
     else add_any(p);
-    add_four(p);
-    add_four(p);
+    add_endings(p);
 }
 
 /* Loads registers, so that what follows has something to work on. */
@@ -388,7 +443,8 @@ static void damage(struct program *p)
 static void add_parts(struct program *p, unsigned parts)
 {
     for (; parts > 0; parts--) {
-        if (chance(p->d, 120)) add_transfer(p);
+        if (chance(p->d, 20)) add_search(p);
+        else if (chance(p->d, 120)) add_transfer(p);
         else add_any(p);
     }
 }
@@ -414,6 +470,13 @@ void write_round(struct program *p)
     add_word(p, top - (p->length + 2));
     choose_ways(p);
     if (chance(p->d, 60)) damage(p);
+}
+
+void write_search(struct program *p)
+{
+    for (unsigned i = 6 + below(p->d, 5); i > 0; i--) add_search(p);
+    begin(p);
+    add_word(p, 0x4820);
 }
 
 void write_refused(struct program *p, bool by_transfer)

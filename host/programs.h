@@ -35,6 +35,9 @@ void write_rich(struct program *p);
 /* A program that goes round: registers loaded, then a rich body with a jump back to its start. */
 void write_round(struct program *p);
 
+/* A program of transfers that search words for a pattern and store them as bytes. */
+void write_search(struct program *p);
+
 /* A program that is refused by 5, for a transfer with SYN 11, or by 4, for INC CC. */
 void write_refused(struct program *p, bool by_transfer);
 
@@ -61,6 +64,15 @@ uint32_t transfer_count(struct dice *d);
 
 /* A compare word: few bits compared, so that both answers come. */
 uint32_t transfer_mc(struct dice *d);
+
+/* A CC for a search: TMC on, TBC often, no other end. */
+uint32_t search_cc(struct dice *d);
+
+/* A byte count for a search: hardly any or none, mostly the two that end both ways at once. */
+uint32_t search_count(struct dice *d);
+
+/* A compare word for a search that mostly ends at its first byte. */
+uint32_t search_mc(struct dice *d, uint32_t cc);
 
 /* Writes an address as offset and segment, one of the many pairs that mean it. */
 void as_doubleword(struct dice *d, uint32_t address, uint8_t out[4]);

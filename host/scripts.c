@@ -232,12 +232,25 @@ static int image(uint64_t seed, uint64_t number)
     return 0;
 }
 
-/* Prints what the trace program must print for the image on standard input. */
-static int trace(void)
+/* Prints what the trace program must print for the image on standard input, and adds to the tally of that name. */
+static int trace(const char *tally_name)
 {
+    static struct tally t;
     size_t length = read_text();
+    if (tally_name != NULL) load_tally(&t, tally_name);
+    emu_coverage = &t.coverage;
     emu_panel((const uint8_t *)text, length, stdout);
+    if (tally_name != NULL) save_tally(&t, tally_name);
     return 0;
+}
+
+/* Prints how transfers of a tally's traces ended by the first of two single stores; fails where one way never came. */
+static int traced(const char *tally_name)
+{
+    static struct tally t;
+    load_tally(&t, tally_name);
+    print_leftovers(&t.coverage);
+    return all_met(1, 1, "images") ? 0 : 1;
 }
 
 /* ---- The command line ---- */
@@ -250,7 +263,8 @@ static _Noreturn void usage(void)
           "       scripts where LINE < SCRIPT        the script's line whose call prints that line\n"
           "       scripts met TALLY                  what all scripts of a tally met\n"
           "       scripts image SEED NUMBER          a random image for the trace program\n"
-          "       scripts trace < IMAGE              what the trace program must print\n",
+          "       scripts trace [TALLY] < IMAGE      what the trace program must print; adds to a tally\n"
+          "       scripts traced TALLY               how transfers of a tally's traces ended in mid-word\n",
           stderr);
     exit(2);
 }
@@ -270,7 +284,8 @@ int main(int count, char **words)
     const char *word = count > 1 ? words[1] : "", *first = count > 2 ? words[2] : NULL;
     const char *second = count > 3 ? words[3] : NULL, *third = count > 4 ? words[4] : NULL;
     if (strcmp(word, "expect") == 0 && count <= 3) return expect(first);
-    if (strcmp(word, "trace") == 0 && count == 2) return trace();
+    if (strcmp(word, "trace") == 0 && count <= 3) return trace(first);
+    if (strcmp(word, "traced") == 0 && count == 3) return traced(first);
     if (strcmp(word, "met") == 0 && count == 3) return met(first);
     if (strcmp(word, "where") == 0 && count == 3) return where((unsigned long)value_of(first));
     if (strcmp(word, "image") == 0 && count == 4) return image(value_of(first), value_of(second));

@@ -2052,6 +2052,14 @@ static void want_moved(unsigned bytes, int end)
     W.tp.address = (W.tp.address + (unsigned)end) & 0xFFFFF;
 }
 
+/* Wants a step whose first of two single stores ended it by this offset: one byte stored, two counted. */
+static void want_cut(int end)
+{
+    want_moved(1, end);
+    W.bc = (uint16_t)(N.bc - 2);
+    want_sys(0x2000, "11");
+}
+
 /* Shapes: which bytes move where. */
 static void test_transfer_shapes(void)
 {
@@ -2310,23 +2318,20 @@ static void test_transfer_match(void)
     want_moved(2, 4);
     want_sys(0x2000, "11 22");
     DONE('T');
-    /* W-B/B: the first single store meets TMC, the second is not made, BC falls by 1 */
+    /* W-B/B: the first single store meets TMC, the second is not made, BC falls as if it were */
     transfer(EMU_PSW_S, 0xC002, 9);
     N.mc = 0xFF11;
-    want_moved(1, 4);
-    CHECK(W.bc == 8);
-    want_sys(0x2000, "11");
+    want_cut(4);
+    CHECK(W.bc == 7);
     DONE('T');
     /* the same with the source fixed and with the destination fixed */
     transfer(EMU_PSW_S, 0x8002, 9);
     N.mc = 0xFF11;
-    want_moved(1, 4);
-    want_sys(0x2000, "11");
+    want_cut(4);
     DONE('T');
     transfer(EMU_PSW_S, 0x4002, 9);
     N.mc = 0xFF11;
-    want_moved(1, 4);
-    want_sys(0x2000, "11");
+    want_cut(4);
     DONE('T');
     /* the second single store meets TMC: both made */
     transfer(EMU_PSW_S, 0xC003, 9);
@@ -2337,8 +2342,7 @@ static void test_transfer_match(void)
     /* "no match" on the first of two */
     transfer(EMU_PSW_S, 0xC007, 9);
     N.mc = 0xFF22;
-    want_moved(1, 8);
-    want_sys(0x2000, "11");
+    want_cut(8);
     DONE('T');
     transfer(EMU_PSW_S, 0xC007, 9);
     N.mc = 0xFF11;
@@ -2350,6 +2354,7 @@ static void test_transfer_match(void)
     N.gb.address = 0x2001;
     N.mc = 0xFF11;
     want_moved(1, 0);
+    W.bc = 7;
     want_sys(0x2001, "11");
     DONE('T');
     transfer(3, 0xC001, 9);
@@ -2382,20 +2387,57 @@ static void test_transfer_match(void)
     DONE('T');
     transfer(EMU_PSW_S, 0xC082, 9);
     N.mc = 0xFF11;
-    want_moved(1, 4);
-    want_sys(0x2000, "11");
-    DONE('T');
-    /* the first of two singles ends it: the count is then not 0 */
-    transfer(EMU_PSW_S, 0xC009, 2);
-    N.mc = 0xFF11;
-    want_moved(1, 0);
-    CHECK(W.bc == 1);
-    want_sys(0x2000, "11");
+    want_cut(4);
     DONE('T');
     /* with TX on but no EXT up nothing ends */
     transfer(0, 0xC060, 9);
     want_moved(1, -1);
     want_sys(0x2000, "11");
+    DONE('T');
+}
+
+/* What BC is where the first of two single stores ends the transfer, matched or (bit 2 of TMC) not matched. */
+static void test_transfer_leftover(void)
+{
+    static const struct {
+        unsigned cc, before, after;
+        int end;
+    } rows[] = {
+        {0xC019, 2, 0, 8},      /* TBC + 8, TMC + 0: the count has ended too */
+        {0xC00B, 2, 0, 8},      /* TBC + 0, TMC + 8 */
+        {0xC012, 2, 0, 4},      /* both + 4 */
+        {0xC001, 2, 0, 0},      /* TBC off: BC 0 is no end, though the match is */
+        {0xC002, 1, 0xFFFF, 4}, /* TBC off */
+        {0xC003, 0, 0xFFFE, 8}, /* TBC off */
+        {0xC01A, 0, 0xFFFE, 4}, /* TBC on: no end by the count */
+        {0xC019, 3, 1, 0},      /* TBC on, one byte would be left */
+        {0xC019, 4, 2, 0},
+    };
+    for (unsigned i = 0; i < 2 * (sizeof rows / sizeof rows[0]); i++) {
+        bool none = i % 2 == 1;
+        transfer(EMU_PSW_S, rows[i / 2].cc | (none ? 4u : 0), rows[i / 2].before);
+        N.mc = none ? 0xFF22 : 0xFF11;
+        want_cut(rows[i / 2].end);
+        CHECK(W.bc == rows[i / 2].after);
+        DONE('T');
+    }
+    /* TBC on and BC 1: one byte moves, so it is not this case */
+    transfer(EMU_PSW_S, 0xC01A, 1);
+    N.mc = 0xFF11;
+    want_moved(1, 8);
+    CHECK(W.bc == 0);
+    want_sys(0x2000, "11");
+    DONE('T');
+    /* the second of two single stores, and the low byte of a word: both are stored, both count */
+    transfer(EMU_PSW_S, 0xC019, 2);
+    N.mc = 0xFF22;
+    want_moved(2, 8);
+    want_sys(0x2000, "11 22");
+    DONE('T');
+    transfer(3, 0xC019, 2);
+    N.mc = 0xFF11;
+    want_moved(2, 8);
+    want_sys(0x2000, "11 22");
     DONE('T');
 }
 
@@ -2491,8 +2533,7 @@ static void test_transfer_refusals(void)
     transfer(EMU_PSW_S, 0xC001, 9);
     N.mc = 0xFF11;
     now.m.sys_len = 0x2001;
-    want_moved(1, 0);
-    want_sys(0x2000, "11");
+    want_cut(0);
     DONE('T');
     transfer(EMU_PSW_S, 0xC001, 9);
     N.mc = 0xFF12;
@@ -2917,6 +2958,7 @@ static void test_coverage(void)
     CHECK(strcmp(emu_row_name(emu_row_of(0x88, 0x20)), "JMP") == 0);
     CHECK(c.row[emu_row_of(0x88, 0x20)] == 1 && c.step_refused[3] == 1);
     CHECK(c.shape[EMU_SHAPE_W_B_CUT] == 1 && c.end[EMU_END_TMC | EMU_END_TS] == 1 && c.end_offset[1] == 1);
+    CHECK(c.leftover[0][EMU_LEFTOVER_TBC_MORE] == 1);
     CHECK(c.external[2] == 1 && c.attention[6] == 1 && c.attention_refused[9] == 1);
     unsigned long all = 0;
     for (unsigned row = 0; row < EMU_ROWS; row++) all += c.row[row];
@@ -2956,6 +2998,7 @@ int main(void)
     test_transfer_shapes();
     test_transfer_count();
     test_transfer_match();
+    test_transfer_leftover();
     test_transfer_translate();
     test_transfer_refusals();
     test_choice();

@@ -215,6 +215,19 @@ static void transfer_once(struct writer *w, uint32_t channel, uint32_t cc)
         step(w, good_lines(w, 250) | 1u << (channel - 1));
 }
 
+/* Lets a channel search words for a pattern, with hardly any or no count left, and store them as bytes. */
+static void search_once(struct writer *w, uint32_t channel)
+{
+    uint32_t cc = search_cc(&w->d);
+    unsigned source = (cc >> 10 & 1u) != 0 ? SET_GB : SET_GA;
+    set(w, channel, source, *session_address(&w->s, channel, source) & ~1u);
+    set(w, channel, SET_BC, search_count(&w->d));
+    set(w, channel, SET_MC, search_mc(&w->d, cc));
+    set(w, channel, SET_CC, cc);
+    set(w, channel, SET_PSW, (EMU_PSW_XF | EMU_PSW_TB | EMU_PSW_S | below(&w->d, 256)) & ~(uint32_t)EMU_PSW_D);
+    step(w, good_lines(w, 50));
+}
+
 /* Points a channel's pointers at data and lets it transfer, mostly without the other channel. */
 static void transfer(struct writer *w)
 {
@@ -226,6 +239,7 @@ static void transfer(struct writer *w)
     point(w, channel, SET_GB);
     if (chance(&w->d, 300)) point(w, channel, SET_GC);
     for (unsigned i = 1 + below(&w->d, 3); i > 0; i--) transfer_once(w, channel, any_cc(w));
+    for (unsigned i = 1 + below(&w->d, 4); i > 0; i--) search_once(w, channel);
 }
 
 /* ---- What comes next ---- */
