@@ -73,12 +73,12 @@ pub(crate) fn finish(c: Channel, p: Setup, d: Data) -> Done
     requires { ⌜ p ≡ setupOf c ⌝ }
     ensures { λ r. ⌜ r ≡ record { two = storesTwo c d; channel = movedChannel c d } ⌝ }
 {
-    let k = compare(c, p, d);
-    let stored = one_or_two(k.two);
     let fetched = one_or_two(p.two);
     let before = c.bc;
     let bc = words::count_down(before, fetched);
     let counted = crate::ends::code_if(bc == 0, p.tbc);
+    let k = compare(c, p, d);
+    let stored = one_or_two(k.two);
     let single = crate::ends::code_if(machine::cc::single_transfer(c.cc), 1);
     let code = crate::ends::larger(crate::ends::larger(k.code, counted), single);
     let next = moved_by(c, p, stored as u32, bc);

@@ -6,20 +6,20 @@ use Rattle.transfer.specs.Stores.{bytesStored, bytesMoved, bytesCounted,
 use Rattle.transfer.proofs.stores.finish.Statement.{statement}
 use Rattle.transfer.proofs.stores.finish.Tie as tie
 
-compare-requires : tie.Need-compare-requires
-compare-requires c κs = search needs
-
 one-or-two-requires : tie.Need-one-or-two-requires
 one-or-two-requires c κs = search needs
-
-one-or-two-requires-2 : tie.Need-one-or-two-requires-2
-one-or-two-requires-2 c κs = search needs
 
 count-down-requires : tie.Need-count-down-requires
 count-down-requires c κs = search needs
 
 code-if-requires : tie.Need-code-if-requires
 code-if-requires c κs = search needs
+
+compare-requires : tie.Need-compare-requires
+compare-requires c κs = search needs
+
+one-or-two-requires-2 : tie.Need-one-or-two-requires-2
+one-or-two-requires-2 c κs = search needs
 
 single-transfer-requires : tie.Need-single-transfer-requires
 single-transfer-requires c κs = search needs
@@ -45,17 +45,17 @@ ended-requires c κs = search needs
 returns : tie.Need-returns
 unfolding movedChannel endCode countAfter bytesCounted bytesMoved bytesStored setupOf
 returns c =
-    rw (c .ended .ensures, c .before .moved-by .ensures, c .before .before .larger2 .ensures, c .before .before .before .larger .ensures, c .before .before .before .before .code-if2 .ensures, c .before .before .before .before .before .single-transfer .ensures, c .before .before .before .before .before .before .code-if .ensures, c .before .before .before .before .before .before .before .count-down .ensures, c .before .before .before .before .before .before .before .before .one-or-two2 .ensures, c .before .before .before .before .before .before .before .before .before .one-or-two .ensures, c .before .before .before .before .before .before .before .before .before .before .compare .ensures, c .before .before .before .before .before .before .before .before .before .before .before .pre)
+    rw (c .ended .ensures, c .before .moved-by .ensures, c .before .before .larger2 .ensures, c .before .before .before .larger .ensures, c .before .before .before .before .code-if2 .ensures, c .before .before .before .before .before .single-transfer .ensures, c .before .before .before .before .before .before .one-or-two2 .ensures, c .before .before .before .before .before .before .before .compare .ensures, c .before .before .before .before .before .before .before .before .code-if .ensures, c .before .before .before .before .before .before .before .before .before .count-down .ensures, c .before .before .before .before .before .before .before .before .before .before .one-or-two .ensures, c .before .before .before .before .before .before .before .before .before .before .before .pre)
 
 pub finish-spec : {M : Type 1} → statement M
 finish-spec =
     tie.close
     (tie.spec
-    compare-requires
     one-or-two-requires
-    one-or-two-requires-2
     count-down-requires
     code-if-requires
+    compare-requires
+    one-or-two-requires-2
     single-transfer-requires
     code-if-requires-2
     larger-requires
