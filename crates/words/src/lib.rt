@@ -88,7 +88,7 @@ pub fn address(offset: u16, segment: u16) -> u32
     (segment as u32 * 16 + offset as u32) % 1048576
 }
 
-// The byte count less the bytes stored.
+// The byte count less some bytes.
 pub fn count_down(count: u16, by: u16) -> u16
     ensures { λ r. ⌜ r ≡ countDown count by ⌝ }
 {
