@@ -14,7 +14,7 @@ use Rattle.machine.specs.declared.State.{State}
 use Rattle.memory.specs.Buffers.{Buffers}
 use Rattle.memory.specs.Places.{span}
 use Rattle.words.proofs.BitLaws.{field-lt}
-use Rattle.machine.proofs.ConditionLaws.{step, last, rewritten, first-assoc, skip, hit, either, end, foreign, never, given-most, told-limits, told-sound, told-lent}
+use Rattle.machine.proofs.ConditionLaws.{step, last, rewritten, first-assoc, skip, hit, either, end, foreign, never, given-most, told-limits, told-sound, told-touchable}
 use Rattle.machine.specs.Conditions.{Given, TooLong, NotSound, Beyond}
 use Rattle.attention.specs.Attention.{orderTo, orderNumber, orderedChannel, orderedMemory, givenTo, attentionNumber, attentionOf}
 use Rattle.attention.specs.Blocks.{orderOf}
@@ -37,12 +37,12 @@ module _ (s : State) (m : Buffers) (channel : ℕ) where
       (step 12 refl (told-channel channel)
       (step 11 refl (told-limits m)
       (step 10 refl (told-sound s)
-      (step 2 refl (told-lent m (span false (o .block) 1))
+      (step 2 refl (told-touchable m (span false (o .block) 1))
       (step 6 refl (told-command code)
       (step 7 refl (told-resume code mode)
       (step 8 refl (told-start code mode)
       (step 9 refl (told-suspend code mode)
-      (last n 2 refl (told-lent m (others o))))))))))))
+      (last n 2 refl (told-touchable m (others o))))))))))))
 
   -- the number is at most 12
   pub attention-most : attentionOf s m channel .number ≤ 12
@@ -64,7 +64,7 @@ module _ (s : State) (m : Buffers) (channel : ℕ) where
   pub gives-10 : (attentionOf s m channel .number ≡ 10) ↔ (¬ (NoChannel channel) × (¬ (TooLong m) × NotSound s))
   gives-10 = Iff·trans (given-exactly 10) (skip refl (skip refl (hit (later 10 3 refl))))
 
-  -- 2: CCW lies beyond lent memory, or, after every other check, another byte does
+  -- 2: CCW lies beyond lent memory, or, after every other check, another byte does; all are of system space
   pub gives-2 : (attentionOf s m channel .number ≡ 2) ↔ AttentionAfterGiven s m channel (CcwBeyond s m channel ⊎ AfterMode s m channel (OthersBeyond s m channel))
   gives-2 = Iff·trans (given-exactly 2) (skip refl (skip refl (skip refl (either (skip refl (skip refl (skip refl (skip refl (hit (later 2 9 refl))))))))))
 

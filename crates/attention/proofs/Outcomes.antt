@@ -13,7 +13,7 @@ use Rattle.machine.specs.States.{channelOf, withChannel, sound, isSecond}
 use Rattle.machine.specs.declared.Channel.{Channel}
 use Rattle.machine.specs.declared.State.{State}
 use Rattle.memory.specs.Buffers.{Buffers}
-use Rattle.memory.specs.Places.{allLent}
+use Rattle.memory.specs.Places.{allTouchable}
 use Rattle.words.specs.Choice.{pick}
 use Rattle.attention.specs.Attention.{orderTo, orderNumber, orderedChannel, orderedMemory, givenTo, attentionNumber, attentionOf}
 use Rattle.attention.specs.Commands.{commandNumber, ordered}
@@ -122,6 +122,6 @@ module _ (s : State) (m : Buffers) (channel : ℕ) (accepted : attentionOf s m c
   unfolding orderNumber stagesNumber orderStages
   passed-command = first-none-left _ _ (first-none-right _ _ passed-order)
 
-  pub passed-others : allLent m (others (orderTo s m (isSecond channel))) ≡ true
+  pub passed-others : allTouchable m (others (orderTo s m (isSecond channel))) ≡ true
   unfolding orderNumber stagesNumber orderStages
   passed-others = unless-none 2 refl (first-none-left _ _ (first-none-right _ _ (first-none-right _ _ passed-order)))

@@ -17,10 +17,10 @@ use Rattle.machine.specs.declared.Mode.{Mode}
 use Rattle.machine.specs.declared.Mode.the-variants.{Running, Suspended}
 use Rattle.machine.specs.declared.State.{State}
 use Rattle.memory.proofs.PlaceLaws.{later, after}
-use Rattle.memory.proofs.SpanLaws.{span-at, span-first, all-append, apart-at}
+use Rattle.memory.proofs.SpanLaws.{span-at, span-first, all-append, span-system, apart-at}
 use Rattle.memory.proofs.StoreLaws.{store-lent, read-same, read-other, pointer-back}
-use Rattle.memory.specs.Buffers.{Buffers, lentAt, byteAt, storeByte}
-use Rattle.memory.specs.Places.{span, allLent}
+use Rattle.memory.specs.Buffers.{Buffers, lentAt, touchableAt, byteAt, storeByte}
+use Rattle.memory.specs.Places.{span, allLent, allTouchable}
 use Rattle.memory.specs.Values.{pointer, pointerAt, storePointer}
 use Rattle.words.proofs.BitLaws.{bit-other}
 use Rattle.words.proofs.ChoiceLaws.{both-left, both-right}
@@ -42,7 +42,7 @@ use Rattle.attention.proofs.Outcomes.{accepted-order, passed-sound, pas
 -- the four bytes at an address are lent
 module _ (m : Buffers) (pp : ℕ) (c : Channel) (lent : allLent m (span false pp 4) ≡ true) where
   at : (k : ℕ) → k < 4 → lentAt m false (pp + k) ≡ true
-  at k = span-at m false pp 4 k lent
+  at k = span-at (lentAt m) false pp 4 k lent
 
   -- the fourth holds PSW
   psw-back : byteAt (saved m pp (c .tp) (c .psw)) false (pp + 3) ≡ c .psw
@@ -58,7 +58,7 @@ module _ (m : Buffers) (pp : ℕ) (c : Channel) (lent : allLent m (span false pp
       let kept : (k : ℕ) → k < 3 → byteAt (storeByte m₁ false (pp + 3) (c .psw)) false (pp + k) ≡ byteAt m₁ false (pp + k) =
       λ k h. read-other m₁ false (pp + 3) (c .psw) false (pp + k) (later false pp k 3 h (lit< tt)) in
       rw (read-other m₁ false (pp + 3) (c .psw) false pp (after false pp 3 (lit< tt) (lit< tt)), kept 1 (lit< tt), kept 2 (lit< tt))
-      (pointer-back m false pp (c .tp) (span-first m false pp 4 lent (lit< tt)) (at 1 (lit< tt)) (at 2 (lit< tt)))
+      (pointer-back m false pp (c .tp) (span-first (lentAt m) false pp 4 lent (lit< tt)) (at 1 (lit< tt)) (at 2 (lit< tt)))
 
 -- two memories alike in three bytes hold the same pointer there
 pointer-same : (m n : Buffers) (t : Bool) (a : ℕ) → ((k : ℕ) → k < 3 → byteAt m t (a + k) ≡ byteAt n t (a + k)) → pointerAt m t a ≡ pointerAt n t a
@@ -77,13 +77,14 @@ module _ (s : State) (m : Buffers) (b : Bool) where
   unfolding orderedMemory orderTo orderOf writesMade writesOf parameterBlock
   suspend-memory e = rw e
 
-  suspend-lent : orderTo s m b .command ≡ Suspend → allLent m (others (orderTo s m b)) ≡ true → allLent m (span false (channelOf s b .pp) 4) ≡ true
+  suspend-lent : orderTo s m b .command ≡ Suspend → allTouchable m (others (orderTo s m b)) ≡ true → allLent m (span false (channelOf s b .pp) 4) ≡ true
   unfolding others orderTo orderOf parameterBlock readBy storedBy
   suspend-lent e h =
       let pp = channelOf s b .pp in
       let busy = span false (busyIn (blockOf s b)) 1 in
-      let both : allLent m (span false pp 4 ++ busy) ≡ true = rw e at h in
-      both-left (allLent m (span false pp 4)) (allLent m busy) (sym (all-append m (span false pp 4) busy) ∙ both)
+      let both : allTouchable m (span false pp 4 ++ busy) ≡ true = rw e at h in
+      sym (span-system m pp 4)
+      ∙ both-left (allTouchable m (span false pp 4)) (allTouchable m busy) (sym (all-append (touchableAt m) (span false pp 4) busy) ∙ both)
 
   resume-channel : orderTo s m b .command ≡ Resume
       → orderedChannel s m b ≡ withControl (channelOf s b) (pointerAt m false (channelOf s b .pp)) (channelOf s b .pp) (ordered (orderTo s m b .ccw) (withPsw (byteAt m false (channelOf s b .pp + 3)) 2 true)) Running (channelOf s b .armed)

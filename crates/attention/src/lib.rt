@@ -14,7 +14,7 @@ ghost use Rattle.attention.specs.Attention.{orderNumber, plannedOf, give
 pub mod commands;
 // A channel's block and the order that it holds.
 pub mod blocks;
-// Whether the bytes that an order touches are lent.
+// Whether the bytes of an order may be touched.
 pub mod touched;
 // What an accepted order makes of the channel and of memory.
 pub mod effects;
@@ -73,7 +73,7 @@ fn number(sys: &[u8], io: &[u8], given: u32, o: Order, mode: Mode) -> u32
     if given != 0 {
         return given;
     }
-    if !memory::span_lent(sys, io, false, o.block, 1) {
+    if !memory::span_touchable(sys, io, false, o.block, 1) {
         return 2;
     }
     let command = o.command;

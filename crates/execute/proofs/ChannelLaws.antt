@@ -21,9 +21,9 @@ use Rattle.machine.specs.States.{soundChannel}
 use Rattle.machine.specs.Updates.{withControl, renewed, stoppedPsw, halted}
 use Rattle.machine.specs.declared.Channel.{Channel}
 use Rattle.machine.specs.declared.Mode.the-variants.{Idle}
-use Rattle.memory.proofs.StoreLaws.{read-same}
-use Rattle.memory.specs.Buffers.{Buffers, lentAt, byteAt}
-use Rattle.memory.specs.Places.{span, allLent}
+use Rattle.memory.proofs.StoreLaws.{system-touchable, read-same}
+use Rattle.memory.specs.Buffers.{Buffers, touchableAt, byteAt}
+use Rattle.memory.specs.Places.{span, allPass}
 use Rattle.memory.specs.Values.{pointer, onward}
 use Rattle.memory.specs.declared.Pointer.{Pointer}
 use Rattle.words.proofs.BitLaws.{bit-same, bit-other}
@@ -40,7 +40,7 @@ use Rattle.execute_operands.specs.Operands.{afterPair, byteHere, further, sizeO
 use Rattle.execute_deeds.specs.RegisterForms.{registerWritten, registerImmediateDeed, registerDeed, registerMemoryDeed, lpdiDeed, lpdDeed, movpLoadDeed}
 use Rattle.execute.specs.Execute.{decodedAt, performed, deedOf, deedFrom, executeOf}
 use Rattle.execute.specs.Kept.{Halts, Arms}
-use Rattle.execute.proofs.OutcomeLaws.{number-is, stores-lent, by-number, done}
+use Rattle.execute.proofs.OutcomeLaws.{number-is, stores-touchable, by-number, done}
 
 -- ---- soundness
 
@@ -362,7 +362,7 @@ module _ (c : Channel) (busy : ℕ) (m : Buffers) where
 
   -- and clears BUSY
   pub hlt-busy : Halts m c → (executeOf c busy m) .number ≡ 0 → byteAt ((executeOf c busy m) .memory) false busy ≡ 0
-  unfolding deedFrom deedOf performed hltDeed changed placesOf span allLent
+  unfolding deedFrom deedOf performed hltDeed changed placesOf span allPass
   hlt-busy e z =
       rw (done c busy m Hlt e z)
-      (read-same m false busy 0 (both-left (lentAt m false busy) true (rw e at (stores-lent c busy m (sym (number-is c busy m) ∙ z)))))
+      (read-same m false busy 0 (sym (system-touchable m busy) ∙ both-left (touchableAt m false busy) true (rw e at (stores-touchable c busy m (sym (number-is c busy m) ∙ z)))))

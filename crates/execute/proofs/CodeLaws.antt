@@ -20,7 +20,7 @@ use Rattle.machine.specs.Stages.{stagesNumber}
 use Rattle.machine.specs.declared.Channel.{Channel}
 use Rattle.memory.proofs.SpanLaws.{all-append}
 use Rattle.memory.specs.Buffers.{Buffers}
-use Rattle.memory.specs.Places.{allLent}
+use Rattle.memory.specs.Places.{allTouchable}
 use Rattle.execute_operands.specs.Changes.{placesOf, changed, nothing}
 use Rattle.execute_operands.specs.Operands.{bytesAt}
 use Rattle.execute_deeds.specs.Deeds.{Deed, effectOf, unread}
@@ -40,38 +40,38 @@ unfolding effectOf
 deed-planned {d = d} m e n = record { told = ap (λ (x : Effect). x .number) e ∙ sym n; done = λ z. e ∙ ap (λ (x : ℕ). record { number = x; channel = d .channel; change = d .change }) (sym n ∙ z) }
 
 module _ (m : Buffers) (c : Channel) (busy : ℕ) where
-  -- an instruction whose later bytes are not lent is refused by 2
-  pub later-beyond : (s : Shape) → allLent m (laterBytes s c) ≡ false → 2 ≡ laterNumber (Instruction s) m c busy
+  -- an instruction whose later bytes may not be touched is refused by 2
+  pub later-beyond : (s : Shape) → allTouchable m (laterBytes s c) ≡ false → 2 ≡ laterNumber (Instruction s) m c busy
   unfolding laterNumber laterFrom first unless
   later-beyond s h = rw h
 
-  -- where they are lent, its reading gives the number
-  pub later-lent : (s : Shape) → allLent m (laterBytes s c) ≡ true → laterNumber (Instruction s) m c busy ≡ (effectOf m (deedOf s m c busy)) .number
+  -- where they may be touched, its reading gives the number
+  pub later-touchable : (s : Shape) → allTouchable m (laterBytes s c) ≡ true → laterNumber (Instruction s) m c busy ≡ (effectOf m (deedOf s m c busy)) .number
   unfolding laterNumber laterFrom deedFrom first unless
-  later-lent s h = rw h
+  later-touchable s h = rw h
 
-  -- where the first two bytes are not lent, it is refused by 2
-  pub plan-beyond : allLent m (bytesAt (c .tp) 2) ≡ false → 2 ≡ planNumber m c busy
+  -- where the first two bytes may not be touched, it is refused by 2
+  pub plan-beyond : allTouchable m (bytesAt (c .tp) 2) ≡ false → 2 ≡ planNumber m c busy
   unfolding planNumber planFrom first unless
   plan-beyond h = rw h
 
   -- what is no instruction is refused by its number
-  none-from : (d : Decoded) → OneOf (1 ∷ 2 ∷ []) (variant the-type d) → allLent m (bytesAt (c .tp) 2) ≡ true → (numberOf d ≡ planFrom d m c busy) × (numberOf d ≡ 0 → ⊥)
+  none-from : (d : Decoded) → OneOf (1 ∷ 2 ∷ []) (variant the-type d) → allTouchable m (bytesAt (c .tp) 2) ≡ true → (numberOf d ≡ planFrom d m c busy) × (numberOf d ≡ 0 → ⊥)
   unfolding planFrom first unless
   none-from (Instruction s) h there = absurd (⊎-elim (λ e. eqb-false 0 1 refl e) (λ e. eqb-false 0 2 refl e) h)
   none-from NoInstruction h there = (rw there, eqb-false 3 0 refl)
   none-from ControlUsed h there = (rw there, eqb-false 4 0 refl)
 
-  pub plan-none : (d : Decoded) → OneOf (1 ∷ 2 ∷ []) (variant the-type d) → allLent m (bytesAt (c .tp) 2) ≡ true → decodedAt m (c .tp) ≡ d → (numberOf d ≡ planNumber m c busy) × (numberOf d ≡ 0 → ⊥)
+  pub plan-none : (d : Decoded) → OneOf (1 ∷ 2 ∷ []) (variant the-type d) → allTouchable m (bytesAt (c .tp) 2) ≡ true → decodedAt m (c .tp) ≡ d → (numberOf d ≡ planNumber m c busy) × (numberOf d ≡ 0 → ⊥)
   unfolding planNumber
   plan-none d h there e = rw e (none-from d h there)
 
   -- what is one is as planned from its later bytes on
-  shaped-from : (d : Decoded) {e : Effect} (s : Shape) → d ≡ Instruction s → allLent m (bytesAt (c .tp) 2) ≡ true → Planned (laterNumber (Instruction s) m c busy) (deedOf s m c busy) e → Planned (planFrom d m c busy) (deedFrom d m c busy) e
+  shaped-from : (d : Decoded) {e : Effect} (s : Shape) → d ≡ Instruction s → allTouchable m (bytesAt (c .tp) 2) ≡ true → Planned (laterNumber (Instruction s) m c busy) (deedOf s m c busy) e → Planned (planFrom d m c busy) (deedFrom d m c busy) e
   unfolding planFrom deedFrom first unless
   shaped-from d s i there p = rw (i, there) p
 
-  pub plan-shaped : {e : Effect} (s : Shape) → decodedAt m (c .tp) ≡ Instruction s → allLent m (bytesAt (c .tp) 2) ≡ true → Planned (laterNumber (Instruction s) m c busy) (deedOf s m c busy) e → Planned (planNumber m c busy) (deedAt m c busy) e
+  pub plan-shaped : {e : Effect} (s : Shape) → decodedAt m (c .tp) ≡ Instruction s → allTouchable m (bytesAt (c .tp) 2) ≡ true → Planned (laterNumber (Instruction s) m c busy) (deedOf s m c busy) e → Planned (planNumber m c busy) (deedAt m c busy) e
   unfolding planNumber
   plan-shaped s i there p = shaped-from (decodedAt m (c .tp)) s i there p
 
@@ -84,30 +84,30 @@ module _ (m : Buffers) (c : Channel) (busy : ℕ) where
   both-tested true false = refl
   both-tested false b = refl
 
-  split-from : (d : Decoded) → stagesNumber m (stagesFrom d m c busy) ≡ first (planFrom d m c busy) (unless (allLent m (placesOf ((deedFrom d m c busy) .change))) 2)
+  split-from : (d : Decoded) → stagesNumber m (stagesFrom d m c busy) ≡ first (planFrom d m c busy) (unless (allTouchable m (placesOf ((deedFrom d m c busy) .change))) 2)
   unfolding stagesNumber stagesFrom planFrom laterNumber effectOf
   split-from d = simp (all-append, both-tested, first-assoc)
 
   -- the number of an instruction is that of its plan, then 2 from the stores
-  split : executeNumber m c busy ≡ first (planNumber m c busy) (unless (allLent m (placesOf ((deedAt m c busy) .change))) 2)
+  split : executeNumber m c busy ≡ first (planNumber m c busy) (unless (allTouchable m (placesOf ((deedAt m c busy) .change))) 2)
   unfolding executeNumber instructionStages planNumber
   split = split-from (decodedAt m (c .tp))
 
   -- a refused plan is the outcome
   pub plan-refused : (planNumber m c busy ≡ 0 → ⊥) → executeOf c busy m ≡ executed (planNumber m c busy) c m
   plan-refused ne =
-      let same : executeNumber m c busy ≡ planNumber m c busy = split ∙ first-some (planNumber m c busy) (unless (allLent m (placesOf ((deedAt m c busy) .change))) 2) ne in
+      let same : executeNumber m c busy ≡ planNumber m c busy = split ∙ first-some (planNumber m c busy) (unless (allTouchable m (placesOf ((deedAt m c busy) .change))) 2) ne in
       refused-by c busy m (λ z. ne (sym same ∙ z)) ∙ ap (λ (n : ℕ). executed n c m) same
 
-  stores-number : (b : Bool) → planNumber m c busy ≡ 0 → allLent m (placesOf ((deedAt m c busy) .change)) ≡ b → executeNumber m c busy ≡ unless b 2
-  stores-number b z e = split ∙ first-none (planNumber m c busy) (unless (allLent m (placesOf ((deedAt m c busy) .change))) 2) z ∙ ap (λ (x : Bool). unless x 2) e
+  stores-number : (b : Bool) → planNumber m c busy ≡ 0 → allTouchable m (placesOf ((deedAt m c busy) .change)) ≡ b → executeNumber m c busy ≡ unless b 2
+  stores-number b z e = split ∙ first-none (planNumber m c busy) (unless (allTouchable m (placesOf ((deedAt m c busy) .change))) 2) z ∙ ap (λ (x : Bool). unless x 2) e
 
-  -- a plan that is not is done where its stores are lent, and else refused by 2
-  pub plan-done : planNumber m c busy ≡ 0 → allLent m (placesOf ((deedAt m c busy) .change)) ≡ true → executeOf c busy m ≡ executed 0 ((deedAt m c busy) .channel) (changed m ((deedAt m c busy) .change))
+  -- a plan that is not is done where its stores may be touched, and else refused by 2
+  pub plan-done : planNumber m c busy ≡ 0 → allTouchable m (placesOf ((deedAt m c busy) .change)) ≡ true → executeOf c busy m ≡ executed 0 ((deedAt m c busy) .channel) (changed m ((deedAt m c busy) .change))
   unfolding unless
   plan-done z e = done-by c busy m (stores-number true z e)
 
-  pub plan-unstored : planNumber m c busy ≡ 0 → allLent m (placesOf ((deedAt m c busy) .change)) ≡ false → executeOf c busy m ≡ executed 2 c m
+  pub plan-unstored : planNumber m c busy ≡ 0 → allTouchable m (placesOf ((deedAt m c busy) .change)) ≡ false → executeOf c busy m ≡ executed 2 c m
   unfolding unless
   plan-unstored z e =
       let two : executeNumber m c busy ≡ 2 = stores-number false z e in

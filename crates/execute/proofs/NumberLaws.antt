@@ -23,9 +23,9 @@ use Rattle.machine.proofs.StageLaws.{two-exactly, none-refused}
 use Rattle.machine.specs.Outcomes.{unless, first}
 use Rattle.machine.specs.Stages.{stagesNumber, JudgedElse}
 use Rattle.machine.specs.declared.Channel.{Channel}
-use Rattle.memory.specs.Buffers.{Buffers}
+use Rattle.memory.specs.Buffers.{Buffers, touchableAt}
 use Rattle.memory.proofs.SpanLaws.{all-append}
-use Rattle.memory.specs.Places.{allLent}
+use Rattle.memory.specs.Places.{allTouchable}
 use Rattle.words.proofs.ChoiceLaws.{apart}
 use Rattle.execute_operands.specs.Changes.{placesOf}
 use Rattle.execute_deeds.specs.Control.{nopDeed, sintrDeed, xferDeed, widDeed, hltDeed}
@@ -34,7 +34,7 @@ use Rattle.execute_deeds.specs.MemoryForms.{memoryWorkDeed, memoryRegisterDeed,
 use Rattle.execute_operands.specs.Operands.{byteHere, bytesAt, effective}
 use Rattle.execute_operands.specs.Marks.{pastInstruction}
 use Rattle.execute_deeds.specs.RegisterForms.{registerImmediateDeed, registerDeed, registerMemoryDeed, lpdiDeed, lpdDeed, movpLoadDeed}
-use Rattle.machine.proofs.ConditionLaws.{Told, step, last, rewritten, skip, hit, either, end, never, told-true, told-false, told-lent}
+use Rattle.machine.proofs.ConditionLaws.{Told, step, last, rewritten, skip, hit, either, end, never, told-true, told-false, told-touchable}
 use Rattle.machine.specs.Conditions.{check, Given}
 use Rattle.execute.specs.Conditions.{NoCode, ControlTouched, LaterBeyond, NoSecondPair, ReadsBeyond, StoresBeyond, checksFrom, instructionChecks, InstructionGiven4, InstructionGiven3, InstructionGiven2, InstructionGiven0}
 use Rattle.execute.specs.Execute.{decodedAt, performed, deedOf, laterFrom, deedFrom, stagesFrom, instructionStages, executeNumber, touchedByInstruction, executeOf}
@@ -139,26 +139,26 @@ module _ (m : Buffers) (c : Channel) (busy : ℕ) where
 
   -- the number of the stages, as the chain of its tests
   chain-of : (d : Decoded) → stagesNumber m (stagesFrom d m c busy)
-      ≡ first (unless (allLent m (bytesAt (c .tp) 2)) 2)
+      ≡ first (unless (allTouchable m (bytesAt (c .tp) 2)) 2)
       (first (unless (isCode d) 3)
       (first (unless (isFree d) 4)
-      (first (unless (allLent m (laterFrom d c)) 2)
+      (first (unless (allTouchable m (laterFrom d c)) 2)
       (first (unless (paired-of d .ok) 3)
-      (first (unless (allLent m ((deedFrom d m c busy) .reads)) 2) (unless (allLent m (placesOf ((deedFrom d m c busy) .change))) 2))))))
+      (first (unless (allTouchable m ((deedFrom d m c busy) .reads)) 2) (unless (allTouchable m (placesOf ((deedFrom d m c busy) .change))) 2))))))
   unfolding stagesNumber stagesFrom
   chain-of d =
       let done = deedFrom d m c busy in
-      rw (coded d, paired-of d .chain, all-append m (done .reads) (placesOf (done .change)), both-tested m c busy (allLent m (done .reads)) (allLent m (placesOf (done .change))))
+      rw (coded d, paired-of d .chain, all-append (touchableAt m) (done .reads) (placesOf (done .change)), both-tested m c busy (allTouchable m (done .reads)) (allTouchable m (placesOf (done .change))))
 
   given-from : (d : Decoded) (n : ℕ) → (stagesNumber m (stagesFrom d m c busy) ≡ n) ↔ Given (checksFrom d m c busy) n
   given-from d n =
       rewritten (chain-of d)
-      (step 2 refl (told-lent m (bytesAt (c .tp) 2))
+      (step 2 refl (told-touchable m (bytesAt (c .tp) 2))
       (step 3 refl (told-code d)
       (step 4 refl (told-free d)
-      (step 2 refl (told-lent m (laterFrom d c))
+      (step 2 refl (told-touchable m (laterFrom d c))
       (step 3 refl (paired-of d .told)
-      (step 2 refl (told-lent m ((deedFrom d m c busy) .reads)) (last n 2 refl (told-lent m (placesOf ((deedFrom d m c busy) .change))))))))))
+      (step 2 refl (told-touchable m ((deedFrom d m c busy) .reads)) (last n 2 refl (told-touchable m (placesOf ((deedFrom d m c busy) .change))))))))))
 
   -- the number handed back is that of the first check that applies, and 0 where none does
   pub number-given : (n : ℕ) → (executeOf c busy m) .number ≡ n ↔ Given (instructionChecks m c busy) n
@@ -168,7 +168,7 @@ module _ (m : Buffers) (c : Channel) (busy : ℕ) where
   both : {A B C : Type 0} → (A ↔ B) → (B ↔ C) → (A ↔ C)
   both p q = (λ a. q .0 (p .0 a), λ x. p .1 (q .1 x))
 
-  -- 2 exactly where a byte to be read or stored lies beyond lent memory, and no earlier check applies
+  -- 2 exactly where a byte to be read or stored is of system space and beyond lent memory, and no earlier check applies
   pub exactly-2 : (executeOf c busy m) .number ≡ 2 ↔ InstructionGiven2 (decodedAt m (c .tp)) m c busy
   exactly-2 = both (number-given 2) (either (skip refl (skip refl (either (skip refl (either (hit (never 2 [] refl))))))))
 
@@ -226,12 +226,12 @@ module _ (m : Buffers) (c : Channel) (busy : ℕ) where
   unfolding stagesFrom
   judged-else d = (coded-else d, (ap (λ (n : ℕ). eqb n 2) (paired-of d .chain) ∙ paired-else (paired-of d .ok), (refl, tt)))
 
-  -- 2 exactly where a byte that the instruction touches, up to the stage where it stops, is not lent
-  pub two-where : (executeOf c busy m) .number ≡ 2 ↔ allLent m (touchedByInstruction m c busy) ≡ false
+  -- 2 exactly where a byte that the instruction would touch, up to the stage where it stops, may not be touched
+  pub two-where : (executeOf c busy m) .number ≡ 2 ↔ allTouchable m (touchedByInstruction m c busy) ≡ false
   unfolding executeNumber touchedByInstruction instructionStages
   two-where = rewritten (number-is c busy m) (two-exactly m (stagesFrom (decodedAt m (c .tp)) m c busy) (judged-else (decodedAt m (c .tp))))
 
-  -- and a done one touches lent bytes alone
-  pub done-lent : (executeOf c busy m) .number ≡ 0 → allLent m (touchedByInstruction m c busy) ≡ true
+  -- and a done one touches no byte that it may not
+  pub done-touchable : (executeOf c busy m) .number ≡ 0 → allTouchable m (touchedByInstruction m c busy) ≡ true
   unfolding executeNumber touchedByInstruction
-  done-lent z = none-refused m (instructionStages m c busy) (sym (number-is c busy m) ∙ z)
+  done-touchable z = none-refused m (instructionStages m c busy) (sym (number-is c busy m) ∙ z)

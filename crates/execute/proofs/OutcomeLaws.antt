@@ -12,8 +12,8 @@ use Rattle.decode_shapes.specs.declared.Shape.{Shape}
 use Rattle.machine.specs.Outcomes.{unless, first}
 use Rattle.machine.specs.Stages.{stagesNumber}
 use Rattle.machine.specs.declared.Channel.{Channel}
-use Rattle.memory.specs.Buffers.{Buffers}
-use Rattle.memory.specs.Places.{allLent}
+use Rattle.memory.specs.Buffers.{Buffers, touchableAt}
+use Rattle.memory.specs.Places.{allTouchable}
 use Rattle.memory.proofs.SpanLaws.{all-append}
 use Rattle.words.proofs.ChoiceLaws.{both-right}
 use Rattle.decode.specs.Reading.{numberOf}
@@ -50,23 +50,23 @@ module _ (c : Channel) (busy : ℕ) (m : Buffers) where
   pub refused : ((executeOf c busy m) .number ≡ 0 → ⊥) → executeOf c busy m ≡ executed ((executeOf c busy m) .number) c m
   refused ne = refused-by (λ e. ne (number-is ∙ e)) ∙ ap (λ (n : ℕ). executed n c m) (sym number-is)
 
-  -- what none refuses has passed the judgement of each stage, and the bytes that it reads and stores to are lent
+  -- what none refuses has passed the judgement of each stage, and the bytes that it reads and stores to may be touched
   pub pair-passed : executeNumber m c busy ≡ 0 → numberOf (decodedAt m (c .tp)) ≡ 0
   unfolding executeNumber instructionStages stagesFrom stagesNumber
-  pair-passed z = first-none-left _ _ (first-none-right (unless (allLent m (bytesAt (c .tp) 2)) 2) _ z)
+  pair-passed z = first-none-left _ _ (first-none-right (unless (allTouchable m (bytesAt (c .tp) 2)) 2) _ z)
 
-  after-later : executeNumber m c busy ≡ 0 → first ((deedAt m c busy) .second) (first (unless (allLent m ((deedAt m c busy) .reads ++ placesOf ((deedAt m c busy) .change))) 2) (first 0 0)) ≡ 0
+  after-later : executeNumber m c busy ≡ 0 → first ((deedAt m c busy) .second) (first (unless (allTouchable m ((deedAt m c busy) .reads ++ placesOf ((deedAt m c busy) .change))) 2) (first 0 0)) ≡ 0
   unfolding executeNumber instructionStages stagesFrom stagesNumber
-  after-later z = first-none-right _ _ (first-none-right (numberOf (decodedAt m (c .tp))) _ (first-none-right (unless (allLent m (bytesAt (c .tp) 2)) 2) _ z))
+  after-later z = first-none-right _ _ (first-none-right (numberOf (decodedAt m (c .tp))) _ (first-none-right (unless (allTouchable m (bytesAt (c .tp) 2)) 2) _ z))
 
   pub second-passed : executeNumber m c busy ≡ 0 → (deedAt m c busy) .second ≡ 0
   second-passed z = first-none-left _ _ (after-later z)
 
-  pub stores-lent : executeNumber m c busy ≡ 0 → allLent m (placesOf ((deedAt m c busy) .change)) ≡ true
-  stores-lent z =
+  pub stores-touchable : executeNumber m c busy ≡ 0 → allTouchable m (placesOf ((deedAt m c busy) .change)) ≡ true
+  stores-touchable z =
       let d = deedAt m c busy in
-      let all : allLent m (d .reads ++ placesOf (d .change)) ≡ true = unless-none 2 refl (first-none-left _ _ (first-none-right (d .second) _ (after-later z))) in
-      both-right (allLent m (d .reads)) (allLent m (placesOf (d .change))) (sym (all-append m (d .reads) (placesOf (d .change))) ∙ all)
+      let all : allTouchable m (d .reads ++ placesOf (d .change)) ≡ true = unless-none 2 refl (first-none-left _ _ (first-none-right (d .second) _ (after-later z))) in
+      both-right (allTouchable m (d .reads)) (allTouchable m (placesOf (d .change))) (sym (all-append (touchableAt m) (d .reads) (placesOf (d .change))) ∙ all)
 
   -- so what is done is an instruction of some shape
   pub by-number : (P : Executed → Type 0)
@@ -91,18 +91,18 @@ module _ (c : Channel) (busy : ℕ) (m : Buffers) where
   unfolding deedFrom
   done s e z = done-by (sym number-is ∙ z) ∙ ap (λ (d : Decoded). executed 0 ((deedFrom d m c busy) .channel) (changed m ((deedFrom d m c busy) .change))) e
 
-  -- an instruction of some shape is done where its bytes are lent and its second pair is not refused
-  none-refuses : (s : Shape) → allLent m (bytesAt (c .tp) 2) ≡ true → allLent m (laterBytes s c) ≡ true → (deedOf s m c busy) .second ≡ 0
-      → allLent m ((deedOf s m c busy) .reads) ≡ true → allLent m (placesOf ((deedOf s m c busy) .change)) ≡ true → stagesNumber m (stagesFrom (Instruction s) m c busy) ≡ 0
+  -- an instruction of some shape is done where its bytes may be touched and its second pair is not refused
+  none-refuses : (s : Shape) → allTouchable m (bytesAt (c .tp) 2) ≡ true → allTouchable m (laterBytes s c) ≡ true → (deedOf s m c busy) .second ≡ 0
+      → allTouchable m ((deedOf s m c busy) .reads) ≡ true → allTouchable m (placesOf ((deedOf s m c busy) .change)) ≡ true → stagesNumber m (stagesFrom (Instruction s) m c busy) ≡ 0
   unfolding stagesNumber stagesFrom laterFrom deedFrom first unless
   none-refuses s pair later second reads stores =
-      rw (pair, later, second, all-append m ((deedOf s m c busy) .reads) (placesOf ((deedOf s m c busy) .change)), reads, stores)
+      rw (pair, later, second, all-append (touchableAt m) ((deedOf s m c busy) .reads) (placesOf ((deedOf s m c busy) .change)), reads, stores)
 
   number-at : (d : Decoded) → decodedAt m (c .tp) ≡ d → executeNumber m c busy ≡ stagesNumber m (stagesFrom d m c busy)
   unfolding executeNumber instructionStages
   number-at d e = ap (λ (x : Decoded). stagesNumber m (stagesFrom x m c busy)) e
 
-  pub done-where : (s : Shape) → decodedAt m (c .tp) ≡ Instruction s → allLent m (bytesAt (c .tp) 2) ≡ true → allLent m (laterBytes s c) ≡ true → (deedOf s m c busy) .second ≡ 0
-      → allLent m ((deedOf s m c busy) .reads) ≡ true → allLent m (placesOf ((deedOf s m c busy) .change)) ≡ true
+  pub done-where : (s : Shape) → decodedAt m (c .tp) ≡ Instruction s → allTouchable m (bytesAt (c .tp) 2) ≡ true → allTouchable m (laterBytes s c) ≡ true → (deedOf s m c busy) .second ≡ 0
+      → allTouchable m ((deedOf s m c busy) .reads) ≡ true → allTouchable m (placesOf ((deedOf s m c busy) .change)) ≡ true
       → executeOf c busy m ≡ executed 0 ((deedOf s m c busy) .channel) (changed m ((deedOf s m c busy) .change))
   done-where s e pair later second reads stores = done s e (number-is ∙ number-at (Instruction s) e ∙ none-refuses s pair later second reads stores)

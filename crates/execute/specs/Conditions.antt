@@ -61,11 +61,11 @@ checksFrom d m c busy =
 abbrev pub instructionChecks : Buffers → Channel → ℕ → List Check
 instructionChecks m c busy = checksFrom (decodedAt m (c .tp)) m c busy
 
--- 4 exactly where the pair is lent, is an instruction, and uses CC
+-- 4 exactly where the pair may be touched, is an instruction, and uses CC
 abbrev pub InstructionGiven4 : Decoded → Buffers → Channel → ℕ → Type 0
 InstructionGiven4 d m c busy = ¬ (PairBeyond m c) × (¬ (NoCode d) × ControlTouched d)
 
--- 3 exactly where the pair is lent and none, or is MOV M,M with its later bytes lent and a second pair that is none
+-- 3 exactly where the pair may be touched and is none, or is MOV M,M with later bytes that may be touched and a second pair that is none
 abbrev pub InstructionGiven3 : Decoded → Buffers → Channel → ℕ → Type 0
 InstructionGiven3 d m c busy =
     ¬ (PairBeyond m c)

@@ -2,7 +2,7 @@
 use mathlib.Core.Path.{_≡_}
 use Prim.Native.Nat.{ℕ}
 use Rattle.memory.specs.Buffers.{Buffers}
-use Rattle.memory.specs.Places.{allLent}
+use Rattle.memory.specs.Places.{allTouchable}
 use Rattle.machine.specs.Outcomes.{first, unless}
 use Rattle.machine.specs.declared.Channel.{Channel}
 use Rattle.decode_shapes.specs.declared.Decoded.{Decoded}
@@ -14,11 +14,11 @@ use Rattle.execute.specs.Execute.{decodedAt, deedFrom, laterFrom}
 
 -- the number from the later bytes on, but for the stores
 unfoldable pub laterNumber : Decoded → Buffers → Channel → ℕ → ℕ
-laterNumber d m c busy = first (unless (allLent m (laterFrom d c)) 2) ((effectOf m (deedFrom d m c busy)) .number)
+laterNumber d m c busy = first (unless (allTouchable m (laterFrom d c)) 2) ((effectOf m (deedFrom d m c busy)) .number)
 
 -- the number of an instruction, but for the stores, d being what its first two bytes are
 unfoldable pub planFrom : Decoded → Buffers → Channel → ℕ → ℕ
-planFrom d m c busy = first (unless (allLent m (bytesAt (c .tp) 2)) 2) (first (numberOf d) (laterNumber d m c busy))
+planFrom d m c busy = first (unless (allTouchable m (bytesAt (c .tp) 2)) 2) (first (numberOf d) (laterNumber d m c busy))
 
 unfoldable pub planNumber : Buffers → Channel → ℕ → ℕ
 planNumber m c busy = planFrom (decodedAt m (c .tp)) m c busy

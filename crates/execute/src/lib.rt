@@ -154,7 +154,7 @@ fn shaped(shape: Shape, count: u32, c: Channel, busy: u32, sys: &[u8], io: &[u8]
     ensures { λ r. ⌜ Planned (laterNumber (Instruction shape) (buffers (now (sys .entry)) (now (io .entry))) c busy) (deedOf shape (buffers (now (sys .entry)) (now (io .entry))) c busy) r ⌝ }
 {
     let tp = c.tp;
-    if !execute_operands::lent(memory::onward(tp, 2), count - 2, sys, io) {
+    if !execute_operands::touchable(memory::onward(tp, 2), count - 2, sys, io) {
         return refused(c, 2);
     }
     perform(
@@ -173,7 +173,7 @@ fn plan(c: Channel, busy: u32, sys: &[u8], io: &[u8]) -> Effect
     ensures { λ r. ⌜ Planned (planNumber (buffers (now (sys .entry)) (now (io .entry))) c busy) (deedAt (buffers (now (sys .entry)) (now (io .entry))) c busy) r ⌝ }
 {
     let tp = c.tp;
-    if !execute_operands::lent(tp, 2, sys, io) {
+    if !execute_operands::touchable(tp, 2, sys, io) {
         return refused(c, 2);
     }
     let first = execute_operands::byte(tp, sys, io);

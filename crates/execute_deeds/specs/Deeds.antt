@@ -2,7 +2,7 @@
 use mathlib.Core.List.{List}
 use Prim.Native.Nat.{ℕ}
 use Rattle.memory.specs.Buffers.{Buffers}
-use Rattle.memory.specs.Places.{Place, allLent}
+use Rattle.memory.specs.Places.{Place, allTouchable}
 use Rattle.machine.specs.declared.Channel.{Channel}
 use Rattle.machine.specs.Outcomes.{first, unless}
 use Rattle.execute_operands.specs.declared.Change.{Change}
@@ -22,7 +22,7 @@ deed reads c ch = record { second = 0; reads = reads; channel = c; change = ch }
 -- a deed with the number that its reading gives: that of the second pair, then 2
 unfoldable pub effectOf : Buffers → Deed → Effect
 effectOf m d =
-    record { number = first (d .second) (unless (allLent m (d .reads)) 2); channel = d .channel; change = d .change }
+    record { number = first (d .second) (unless (allTouchable m (d .reads)) 2); channel = d .channel; change = d .change }
 
 -- a deed that reads no operand
 abbrev pub unread : Deed → Effect

@@ -139,8 +139,8 @@ fn mov_operand(c: Channel, tp: Pointer, m: Memory, q: Memory, sys: &[u8], io: &[
     let to = execute_operands::effective(next, q, pair, sys, io);
     let n = decode::offset_length(q);
     let v = execute_operands::operand(at, m.wide, sys, io);
-    let ok = execute_operands::lent(memory::onward(pair, 2), n, sys, io)
-        & execute_operands::lent(at, execute_operands::size(m.wide), sys, io);
+    let ok = execute_operands::touchable(memory::onward(pair, 2), n, sys, io)
+        & execute_operands::touchable(at, execute_operands::size(m.wide), sys, io);
     Effect {
         number: execute_operands::two_unless(ok),
         channel: execute_operands::further(execute_operands::grown_by_size(next, q), n),

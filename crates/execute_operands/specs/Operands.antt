@@ -10,7 +10,7 @@ use Rattle.words.specs.Sums.{sum20}
 use Rattle.words.specs.Signs.{signedOf, extended, displacedBy}
 use Rattle.memory.specs.Buffers.{Buffers, byteAt}
 use Rattle.memory.specs.Values.{pointer, onward, wordAt}
-use Rattle.memory.specs.Places.{Place, span, allLent}
+use Rattle.memory.specs.Places.{Place, span, allTouchable}
 use Rattle.memory.specs.declared.Pointer.{Pointer}
 use Rattle.machine.specs.declared.Channel.{Channel}
 use Rattle.machine.specs.Outcomes.{unless}
@@ -98,7 +98,7 @@ isMove Work.Not = false
 
 -- the number of n bytes read at a place
 unfoldable pub readNumber : Buffers → Pointer → ℕ → ℕ
-readNumber m p n = unless (allLent m (bytesAt p n)) 2
+readNumber m p n = unless (allTouchable m (bytesAt p n)) 2
 
 -- where data or displacement stands: after the pair and its offset byte (§6.6)
 abbrev pub afterPair : Pointer → Memory → Pointer

@@ -4,7 +4,7 @@ use memory::Pointer;
 ghost use mathlib.Core.Path.{_≡_};
 ghost use Rattle.words.specs.Choice.{pick};
 ghost use Rattle.memory.specs.Buffers.{buffers};
-ghost use Rattle.memory.specs.Places.{allLent};
+ghost use Rattle.memory.specs.Places.{allTouchable};
 ghost use Rattle.execute_operands.specs.Changes as Changes;
 ghost use Rattle.execute_operands.specs.Changes.{placesOf, changed, byteTo, resultTo, pointerTo};
 
@@ -92,13 +92,13 @@ fn store(change: Change, sys: &mut [u8], io: &mut [u8])
     );
 }
 
-// A change made where all its places are lent, else nothing; and whether they are.
+// A change made where all its places may be touched, else nothing; and whether they may.
 pub fn made(change: Change, sys: &mut [u8], io: &mut [u8]) -> bool
-    ensures told { λ r. ⌜ r ≡ allLent (buffers (now (sys .entry)) (now (io .entry))) (placesOf change) ⌝ }
+    ensures told { λ r. ⌜ r ≡ allTouchable (buffers (now (sys .entry)) (now (io .entry))) (placesOf change) ⌝ }
     ensures stored { λ r. ⌜ buffers (now (sys .exit)) (now (io .exit)) ≡ pick r (changed (buffers (now (sys .entry)) (now (io .entry))) change) (buffers (now (sys .entry)) (now (io .entry))) ⌝ }
 {
     let at = change.at;
-    if !memory::span_lent(sys, io, at.tag, at.address, change.count) {
+    if !memory::span_touchable(sys, io, at.tag, at.address, change.count) {
         return false;
     }
     store(change, sys, io);

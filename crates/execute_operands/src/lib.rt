@@ -10,7 +10,7 @@ pub mod changes;
 
 ghost use mathlib.Core.Path.{_≡_};
 ghost use Rattle.memory.specs.Buffers.{buffers};
-ghost use Rattle.memory.specs.Places.{allLent};
+ghost use Rattle.memory.specs.Places.{allTouchable};
 ghost use Rattle.words.specs.Choice.{pick};
 ghost use Rattle.machine.specs.Outcomes.{unless};
 ghost use Rattle.execute_operands.specs.Marks.{usedUp, pastInstruction};
@@ -38,11 +38,11 @@ pub fn word(p: Pointer, sys: &[u8], io: &[u8]) -> u16
     memory::word(sys, io, p.tag, p.address)
 }
 
-// Whether n bytes at a place are lent.
-pub fn lent(p: Pointer, n: u32, sys: &[u8], io: &[u8]) -> bool
-    ensures { λ r. ⌜ r ≡ allLent (buffers (now (sys .entry)) (now (io .entry))) (bytesAt p n) ⌝ }
+// Whether n bytes at a place may be touched.
+pub fn touchable(p: Pointer, n: u32, sys: &[u8], io: &[u8]) -> bool
+    ensures { λ r. ⌜ r ≡ allTouchable (buffers (now (sys .entry)) (now (io .entry))) (bytesAt p n) ⌝ }
 {
-    memory::span_lent(sys, io, p.tag, p.address, n)
+    memory::span_touchable(sys, io, p.tag, p.address, n)
 }
 
 // The PSW once a mark is used up.
@@ -210,11 +210,11 @@ pub fn two_unless(ok: bool) -> u32
     if ok { 0 } else { 2 }
 }
 
-// 2 where n bytes at a place are not all lent, else 0.
+// 2 where n bytes at a place may not all be touched, else 0.
 pub fn read_number(p: Pointer, n: u32, sys: &[u8], io: &[u8]) -> u32
     ensures { λ r. ⌜ r ≡ readNumber (buffers (now (sys .entry)) (now (io .entry))) p n ⌝ }
 {
-    two_unless(lent(p, n, sys, io))
+    two_unless(touchable(p, n, sys, io))
 }
 
 // Where data or displacement stands: after the pair and its offset byte.

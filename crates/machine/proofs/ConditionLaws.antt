@@ -1,6 +1,6 @@
 -- The laws of checks in their order, where a chain of refusals gives the number of the first check that applies, and what each test tells of its check's condition.
 -- Assumes nothing.
-use Prim.Native.Nat.{ℕ, zero, suc, _<_, _≤_}
+use Prim.Native.Nat.{ℕ, zero, suc, _%_, _<_, _≤_}
 use borrow.Author.Tests.{ltb-true, ltb-false, leb-true, leb-false, eqb-true, eqb-false, not-true, not-false}
 use lib.Dec.{ltb, leb, eqb, eqb·suc-zero}
 use lib.ListN.{length}
@@ -9,8 +9,8 @@ use mathlib.Core.List.{List, [], _∷_, _++_}
 use mathlib.Core.Logic.{⊎-elim, inl, inr, _⊎_, _↔_}
 use mathlib.Core.Path.{_≡_, refl, sym, ap, _∙_}
 use native.Mathlib.Omega.{arith}
-use Rattle.memory.specs.Buffers.{Buffers, spaceOf, limitOf, indexOf, lentAt, withinLimits}
-use Rattle.memory.specs.Places.{Place, allLent}
+use Rattle.memory.specs.Buffers.{Buffers, spaceOf, limitOf, indexOf, lentAt, touchableAt, withinLimits}
+use Rattle.memory.specs.Places.{Place, allPass, allTouchable}
 use Rattle.words.proofs.ChoiceLaws.{apart, both-left, both-right, and-true}
 use Rattle.words.specs.Choice.{pick}
 use Rattle.machine.specs.Conditions.{Check, check, Given, TooLong, pointersOf, SomePast, NotSound, Beyond}
@@ -167,10 +167,16 @@ pub told-sound : (s : State) → Told (sound s) (NotSound s)
 unfolding sound soundChannel allBelow
 told-sound s = simp and-assoc (simp and-true at (told-below (pointersOf (s .first) ++ (pointersOf (s .second) ++ (s .cp ∷ [])))))
 
-pub told-lent : (m : Buffers) (ps : List Place) → Told (allLent m ps) (Beyond m ps)
-unfolding allLent lentAt
-told-lent m [] = told-true (λ h. h)
-told-lent m (p ∷ ps) = told-and (told-ltb (indexOf (p .tag) (p .address)) (length (spaceOf m (p .tag)))) (told-lent m ps)
+pub told-touchable : (m : Buffers) (ps : List Place) → Told (allTouchable m ps) (Beyond m ps)
+unfolding allPass touchableAt lentAt indexOf limitOf spaceOf
+told-touchable m [] = told-true (λ h. h)
+told-touchable m (p ∷ ps) = told-and (one (p .tag)) (told-touchable m ps)
+  where
+    one : (tag : Bool) → Told (touchableAt m tag (p .address)) ((tag ≡ false) × (length (m .sys) ≤ p .address % 1048576))
+    one true = told-true (λ h. apart (h .0))
+    one false =
+        let t = told-ltb (p .address % 1048576) (length (m .sys)) in
+        record { holds = λ e h. t .holds e (h .1); fails = λ e. (refl, t .fails e) }
 
 -- ---- modes
 

@@ -1,10 +1,11 @@
 -- Which number a call gives (§3.2): checks in their order, and the conditions of 11, 10 and 2, which every attention and step has.
+use mathlib.Core.Bool.{false}
 use mathlib.Core.List.{List, [], _∷_, _++_}
 use mathlib.Core.Logic.{_⊎_}
 use mathlib.Core.Path.{_≡_}
-use Prim.Native.Nat.{ℕ, _<_, _≤_}
+use Prim.Native.Nat.{ℕ, _%_, _<_, _≤_}
 use lib.ListN.{length}
-use Rattle.memory.specs.Buffers.{Buffers, spaceOf, indexOf}
+use Rattle.memory.specs.Buffers.{Buffers}
 use Rattle.memory.specs.Places.{Place}
 use Rattle.machine.specs.declared.Channel.{Channel}
 use Rattle.machine.specs.declared.State.{State}
@@ -39,7 +40,7 @@ SomePast (a ∷ rest) = (1048576 ≤ a) ⊎ SomePast rest
 abbrev pub NotSound : State → Type 0
 NotSound s = SomePast (pointersOf (s .first) ++ (pointersOf (s .second) ++ (s .cp ∷ [])))
 
--- 2: one of some bytes is not lent (§1.3)
+-- 2: one of some bytes is of system space and not lent (§1.3); no byte of I/O space counts
 abbrev pub Beyond : Buffers → List Place → Type 0
 Beyond m [] = ⊥
-Beyond m (p ∷ ps) = (length (spaceOf m (p .tag)) ≤ indexOf (p .tag) (p .address)) ⊎ Beyond m ps
+Beyond m (p ∷ ps) = ((p .tag ≡ false) × (length (m .sys) ≤ p .address % 1048576)) ⊎ Beyond m ps

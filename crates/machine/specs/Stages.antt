@@ -6,7 +6,7 @@ use Prim.Native.Nat.{ℕ}
 use lib.Dec.{eqb}
 use Rattle.words.specs.Choice.{pick}
 use Rattle.memory.specs.Buffers.{Buffers}
-use Rattle.memory.specs.Places.{Place, allLent}
+use Rattle.memory.specs.Places.{Place, allTouchable}
 use Rattle.machine.specs.Outcomes.{unless, first}
 
 -- a stage: the places of its bytes, and the refusal that is judged once they are there; 0 is none
@@ -17,10 +17,10 @@ pub record Stage : Type 0 where
 abbrev pub stage : List Place → ℕ → Stage
 stage places judged = record { places = places; judged = judged }
 
--- the number of a call by its stages: at each, 2 where one of its bytes is not lent, then what is judged, then the stages after it
+-- the number of a call by its stages: at each, 2 where one of its bytes may not be touched, then what is judged, then the stages after it
 unfoldable pub stagesNumber : Buffers → List Stage → ℕ
 stagesNumber m [] = 0
-stagesNumber m (s ∷ rest) = first (unless (allLent m (s .places)) 2) (first (s .judged) (stagesNumber m rest))
+stagesNumber m (s ∷ rest) = first (unless (allTouchable m (s .places)) 2) (first (s .judged) (stagesNumber m rest))
 
 -- the bytes that a call touches, each access once, up to and with the stage whose judgement stops it
 unfoldable pub stagesTouched : List Stage → List Place

@@ -4,12 +4,12 @@ use Prim.Native.Nat.{ℕ, _+_, _/_, _%_, _<_}
 use lib.Dec.{ltb, lit<}
 use lib.ListN.{length, getD}
 use lib.Pow.{mod-mod-pow}
-use mathlib.Core.Bool.{Bool, true, false}
+use mathlib.Core.Bool.{Bool, true, false, _||_}
 use mathlib.Core.Path.{_≡_, sym, ap, ap₂, _∙_}
 use native.Mathlib.Nat.{mod-lt, mod-mod, mod-add-mod, add-zero}
 use native.Mathlib.Omega.{arith}
 use Rattle.words.specs.Bytes.{wordOf}
-use Rattle.memory.specs.Buffers.{Buffers, spaceOf, limitOf, indexOf, lentAt, byteAt, storeByte}
+use Rattle.memory.specs.Buffers.{Buffers, spaceOf, limitOf, indexOf, lentAt, touchableAt, beyondIn, byteAt, storeByte}
 use Rattle.memory.specs.Places.{Apart}
 use Rattle.memory.specs.Values.{wordAt, storeWord}
 
@@ -60,9 +60,13 @@ pub lent-index : (m : Buffers) (t : Bool) (a b : ℕ) → indexOf t a ≡ indexO
 unfolding lentAt
 lent-index m t a b e = ap (λ (i : ℕ). ltb i (length (spaceOf m t))) e
 
+pub touchable-index : (m : Buffers) (t : Bool) (a b : ℕ) → indexOf t a ≡ indexOf t b → touchableAt m t a ≡ touchableAt m t b
+unfolding touchableAt
+touchable-index m t a b e = ap (λ (x : Bool). t || x) (lent-index m t a b e)
+
 pub byte-index : (m : Buffers) (t : Bool) (a b : ℕ) → indexOf t a ≡ indexOf t b → byteAt m t a ≡ byteAt m t b
 unfolding byteAt
-byte-index m t a b e = ap (λ (i : ℕ). getD (spaceOf m t) i 0) e
+byte-index m t a b e = ap (λ (i : ℕ). getD (spaceOf m t) i (beyondIn t)) e
 
 pub store-index : (m : Buffers) (t : Bool) (a b v : ℕ) → indexOf t a ≡ indexOf t b → storeByte m t a v ≡ storeByte m t b v
 unfolding storeByte

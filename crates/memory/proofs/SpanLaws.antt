@@ -1,10 +1,10 @@
--- The laws of bytes in a row: each of them is lent where all are, a store leaves them so, and two comparisons of lengths tell.
+-- The laws of bytes in a row: each of them passes a test where all do, two comparisons of lengths tell, and which of them a call may touch.
 -- Assumes nothing.
 use Prim.Native.Nat.{ℕ, zero, suc, _+_, _-_, _<_, _≤_}
 use borrow.Author.Tests.{lt-ltb, le-ltb, le-leb, lt-leb}
 use lib.Dec.{ltb, leb}
 use lib.ListN.{length}
-use mathlib.Core.Bool.{and-assoc, Bool, true, _&&_, _||_}
+use mathlib.Core.Bool.{and-assoc, Bool, true, false, _&&_, _||_}
 use mathlib.Core.List.{List, [], _∷_, _++_}
 use mathlib.Core.Path.{_≡_, refl, sym, ap, ap₂, subst, _∙_}
 use native.Mathlib.Decide.{decLt}
@@ -12,31 +12,31 @@ use native.Mathlib.Nat.{add-zero, lt-of-lt-of-le, not-suc-le-zero, le-of-suc-le-
 use native.Mathlib.Numerals.{add-one}
 use native.Mathlib.Omega.{arith}
 use Rattle.words.proofs.ChoiceLaws.{both-left, both-right, and-true, or-true, or-false}
-use Rattle.memory.specs.Buffers.{Buffers, spaceOf, limitOf, indexOf, lentAt, storeByte}
-use Rattle.memory.specs.Places.{Place, span, allLent, Apart, ApartFrom}
+use Rattle.memory.specs.Buffers.{Buffers, spaceOf, limitOf, indexOf, lentAt}
+use Rattle.memory.specs.Places.{Place, span, allPass, allLent, allTouchable, Apart, ApartFrom}
 use Rattle.memory.proofs.PlaceLaws.{index-lt, index-next}
-use Rattle.memory.proofs.StoreLaws.{store-lent}
+use Rattle.memory.proofs.StoreLaws.{system-touchable, io-touchable}
 
--- each byte of a lent span is lent
-pub span-at : (m : Buffers) (t : Bool) (a n k : ℕ) → allLent m (span t a n) ≡ true → k < n → lentAt m t (a + k) ≡ true
-unfolding span allLent
-span-at m t a zero k h hk = absurd (not-suc-le-zero hk)
-span-at m t a (suc n) zero h hk = rw add-zero (both-left (lentAt m t a) (allLent m (span t (a + 1) n)) h)
-span-at m t a (suc n) (suc k) h hk =
+-- where a span passes a test, each of its bytes does
+pub span-at : (test : Bool → ℕ → Bool) (t : Bool) (a n k : ℕ) → allPass test (span t a n) ≡ true → k < n → test t (a + k) ≡ true
+unfolding span allPass
+span-at test t a zero k h hk = absurd (not-suc-le-zero hk)
+span-at test t a (suc n) zero h hk = rw add-zero (both-left (test t a) (allPass test (span t (a + 1) n)) h)
+span-at test t a (suc n) (suc k) h hk =
     let e : a + 1 + k ≡ a + suc k = omega arith in
-    subst (λ (b : ℕ). lentAt m t b ≡ true) e (span-at m t (a + 1) n k (both-right (lentAt m t a) (allLent m (span t (a + 1) n)) h) (le-of-suc-le-suc hk))
+    subst (λ (b : ℕ). test t b ≡ true) e (span-at test t (a + 1) n k (both-right (test t a) (allPass test (span t (a + 1) n)) h) (le-of-suc-le-suc hk))
 
--- the first byte of a lent span is lent
-pub span-first : (m : Buffers) (t : Bool) (a n : ℕ) → allLent m (span t a n) ≡ true → 0 < n → lentAt m t a ≡ true
-span-first m t a n h hn = rw add-zero at (span-at m t a n 0 h hn)
+-- the first of them too
+pub span-first : (test : Bool → ℕ → Bool) (t : Bool) (a n : ℕ) → allPass test (span t a n) ≡ true → 0 < n → test t a ≡ true
+span-first test t a n h hn = rw add-zero at (span-at test t a n 0 h hn)
 
--- two lists are lent where each is
-pub all-append : (m : Buffers) (ps qs : List Place) → allLent m (ps ++ qs) ≡ (allLent m ps && allLent m qs)
-unfolding allLent
-all-append m [] qs = refl
-all-append m (p ∷ ps) qs =
-    ap (λ (b : Bool). lentAt m (p .tag) (p .address) && b) (all-append m ps qs)
-    ∙ sym (and-assoc (lentAt m (p .tag) (p .address)) (allLent m ps) (allLent m qs))
+-- two lists pass a test where each does
+pub all-append : (test : Bool → ℕ → Bool) (ps qs : List Place) → allPass test (ps ++ qs) ≡ (allPass test ps && allPass test qs)
+unfolding allPass
+all-append test [] qs = refl
+all-append test (p ∷ ps) qs =
+    ap (λ (b : Bool). test (p .tag) (p .address) && b) (all-append test ps qs)
+    ∙ sym (and-assoc (test (p .tag) (p .address)) (allPass test ps) (allPass test qs))
 
 -- a byte that is none of two lists is none of the second
 pub apart-right : (ps qs : List Place) (u : Bool) (b : ℕ) → ApartFrom (ps ++ qs) u b → ApartFrom qs u b
@@ -52,15 +52,21 @@ apart-at u a (suc n) (suc k) t b h hk =
     let e : a + 1 + k ≡ a + suc k = omega arith in
     subst (λ (x : ℕ). Apart u x t b) e (apart-at u (a + 1) n k t b (h .1) (le-of-suc-le-suc hk))
 
--- a store leaves all lent that was
-pub all-store : (m : Buffers) (t : Bool) (a v : ℕ) (ps : List Place) → allLent (storeByte m t a v) ps ≡ allLent m ps
-unfolding allLent
-all-store m t a v [] = refl
-all-store m t a v (p ∷ ps) = ap₂ _&&_ (store-lent m t (p .tag) a (p .address) v) (all-store m t a v ps)
+-- of a span of system space a call may touch what is lent
+pub span-system : (m : Buffers) (a n : ℕ) → allTouchable m (span false a n) ≡ allLent m (span false a n)
+unfolding span allPass
+span-system m a zero = refl
+span-system m a (suc n) = ap₂ _&&_ (system-touchable m a) (span-system m (a + 1) n)
+
+-- and every span of I/O space
+pub span-io : (m : Buffers) (a n : ℕ) → allTouchable m (span true a n) ≡ true
+unfolding span allPass
+span-io m a zero = refl
+span-io m a (suc n) = ap₂ _&&_ (io-touchable m a) (span-io m (a + 1) n)
 
 -- in a whole space every span is lent
 pub span-whole : (m : Buffers) (t : Bool) (a n : ℕ) → limitOf t ≤ length (spaceOf m t) → allLent m (span t a n) ≡ true
-unfolding span allLent lentAt
+unfolding span allPass lentAt
 span-whole m t a zero h = refl
 span-whole m t a (suc n) h =
     ap₂ _&&_ (lt-ltb (indexOf t a) (length (spaceOf m t)) (lt-of-lt-of-le (index-lt t a) h)) (span-whole m t (a + 1) n h)
@@ -68,7 +74,7 @@ span-whole m t a (suc n) h =
 -- short of that, a span is lent where its end is
 pub span-part : (m : Buffers) (t : Bool) (a n : ℕ) → length (spaceOf m t) < limitOf t
     → allLent m (span t a (suc n)) ≡ leb (indexOf t a + suc n) (length (spaceOf m t))
-unfolding span allLent lentAt
+unfolding span allPass lentAt
 span-part m t a zero h = and-true (ltb (indexOf t a) (length (spaceOf m t))) ∙ ap (λ (n : ℕ). leb n (length (spaceOf m t))) (sym (add-one (indexOf t a)))
 span-part m t a (suc n) h = step (decLt (indexOf t a) (length (spaceOf m t))) (span-part m t (a + 1) n h)
   where

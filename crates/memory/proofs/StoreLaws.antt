@@ -1,11 +1,11 @@
--- The laws of reading after a store, at the same place and at another, that lengths never change, and that what was stored comes back.
+-- The laws of reading after a store, at the same place and at another, that lengths never change, of empty slots, and that what was stored comes back.
 -- Assumes nothing.
 use Prim.Native.Nat.{ℕ, _+_, _%_, _<_}
 use borrow.Author.Tests.{ltb-true, ltb-false}
 use lib.Dec.{ltb, lit<}
-use lib.ListN.{length, getD, set, length-set}
+use lib.ListN.{length, getD, set, length-set, List·getD-eq-default}
 use lib.Seq.{getD-set-same, getD-set-other, set-out}
-use mathlib.Core.Bool.{Bool, true, false}
+use mathlib.Core.Bool.{Bool, true, false, _||_}
 use mathlib.Core.List.{List}
 use mathlib.Core.Path.{_≡_, refl, sym, ap, ap₂, subst, _∙_}
 use native.Mathlib.Nat.{add-zero, add-assoc}
@@ -14,7 +14,7 @@ use Rattle.words.proofs.StoredLaws.{address-back, tag-kept}
 use Rattle.words.specs.Bytes.{lowByte, highByte, wordOf}
 use Rattle.words.specs.Stored.{storedLow, storedMiddle, storedHigh}
 use Rattle.words.specs.Sums.{addressOf}
-use Rattle.memory.specs.Buffers.{Buffers, buffers, spaceOf, indexOf, lentAt, byteAt, storeByte}
+use Rattle.memory.specs.Buffers.{Buffers, buffers, spaceOf, indexOf, lentAt, touchableAt, EmptySlot, beyondIn, byteAt, storeByte}
 use Rattle.memory.specs.Places.{Apart}
 use Rattle.memory.specs.Values.{wordAt, doublewordAt, pointer, pointerAt, storeWord, storeDoubleword, storePointer}
 use Rattle.memory.specs.declared.Pointer.{Pointer}
@@ -39,26 +39,60 @@ pub store-lent : (m : Buffers) (t u : Bool) (a b v : ℕ) → lentAt (storeByte 
 unfolding lentAt
 store-lent m t u a b v = ap (λ (n : ℕ). ltb (indexOf u b) n) (store-length m t u a v)
 
+-- and a call may touch what it might before
+pub store-touchable : (m : Buffers) (t u : Bool) (a b v : ℕ) → touchableAt (storeByte m t a v) u b ≡ touchableAt m u b
+unfolding touchableAt
+store-touchable m t u a b v = ap (λ (x : Bool). u || x) (store-lent m t u a b v)
+
 -- read after a store at the same place
 pub read-same : (m : Buffers) (t : Bool) (a v : ℕ) → lentAt m t a ≡ true → byteAt (storeByte m t a v) t a ≡ v
 unfolding byteAt lentAt
 read-same m t a v h =
-    ap (λ (l : List ℕ). getD l (indexOf t a) 0) (store-space m t a v)
-    ∙ getD-set-same (spaceOf m t) (indexOf t a) v 0 (ltb-true (indexOf t a) (length (spaceOf m t)) h)
+    ap (λ (l : List ℕ). getD l (indexOf t a) (beyondIn t)) (store-space m t a v)
+    ∙ getD-set-same (spaceOf m t) (indexOf t a) v (beyondIn t) (ltb-true (indexOf t a) (length (spaceOf m t)) h)
 
 -- read after a store at another place
 pub read-other : (m : Buffers) (t : Bool) (a v : ℕ) (u : Bool) (b : ℕ) → Apart t a u b → byteAt (storeByte m t a v) u b ≡ byteAt m u b
 unfolding byteAt spaceOf storeByte
-read-other m true a v true b ne = getD-set-other (m .io) (indexOf true a) (indexOf true b) v 0 (λ e. ne refl (sym e))
+read-other m true a v true b ne = getD-set-other (m .io) (indexOf true a) (indexOf true b) v (beyondIn true) (λ e. ne refl (sym e))
 read-other m true a v false b ne = refl
 read-other m false a v true b ne = refl
-read-other m false a v false b ne = getD-set-other (m .sys) (indexOf false a) (indexOf false b) v 0 (λ e. ne refl (sym e))
+read-other m false a v false b ne = getD-set-other (m .sys) (indexOf false a) (indexOf false b) v (beyondIn false) (λ e. ne refl (sym e))
 
 -- a store beyond the lent end changes nothing
 pub store-beyond : (m : Buffers) (t : Bool) (a v : ℕ) → lentAt m t a ≡ false → storeByte m t a v ≡ m
 unfolding lentAt spaceOf storeByte
 store-beyond m true a v h = ap (λ (l : List ℕ). buffers (m .sys) l) (set-out (m .io) (indexOf true a) v (ltb-false _ _ h))
 store-beyond m false a v h = ap (λ (l : List ℕ). buffers l (m .io)) (set-out (m .sys) (indexOf false a) v (ltb-false _ _ h))
+
+-- ---- empty slots
+
+-- an empty slot reads FFh
+pub slot-reads : (m : Buffers) (a : ℕ) → EmptySlot m a → byteAt m true a ≡ 255
+unfolding byteAt lentAt beyondIn
+slot-reads m a h = List·getD-eq-default (spaceOf m true) 255 (ltb-false (indexOf true a) (length (spaceOf m true)) h)
+
+-- every call may touch it
+pub io-touchable : (m : Buffers) (a : ℕ) → touchableAt m true a ≡ true
+unfolding touchableAt
+io-touchable m a = refl
+
+-- and it stays empty, and so reads FFh, whatever is stored and wherever
+pub slot-stays : (m : Buffers) (t : Bool) (a v b : ℕ) → EmptySlot m b → byteAt (storeByte m t a v) true b ≡ 255
+slot-stays m t a v b h = slot-reads (storeByte m t a v) b (store-lent m t true a b v ∙ h)
+
+-- ---- what a call may touch
+
+-- what is lent, in either space
+pub lent-touchable : (m : Buffers) (t : Bool) (a : ℕ) → lentAt m t a ≡ true → touchableAt m t a ≡ true
+unfolding touchableAt
+lent-touchable m true a h = refl
+lent-touchable m false a h = h
+
+-- of system space nothing else
+pub system-touchable : (m : Buffers) (a : ℕ) → touchableAt m false a ≡ lentAt m false a
+unfolding touchableAt
+system-touchable m a = refl
 
 -- ---- what was stored comes back
 

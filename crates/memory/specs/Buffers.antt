@@ -1,5 +1,7 @@
--- The two lent buffers (§1), and all that is decided about a single byte: where it lies, whether it is lent, what a read gives and what a store does.
-use mathlib.Core.Bool.{Bool, true, false, _&&_}
+-- The two lent buffers (§1), and all that is decided about a single byte: where it lies, whether it is lent, whether a call may touch it, what a
+-- read gives and what a store does.
+use mathlib.Core.Bool.{Bool, true, false, _&&_, _||_}
+use mathlib.Core.Path.{_≡_}
 use mathlib.Core.List.{List}
 use Prim.Native.Nat.{ℕ, _%_, _<_}
 use lib.ListN.{length, getD, set}
@@ -26,13 +28,25 @@ limitOf tag = pick tag 65536 1048576
 unfoldable pub indexOf : Bool → ℕ → ℕ
 indexOf tag address = address % limitOf tag
 
--- whether the byte at an address is lent (§1.3)
+-- whether the byte at an address is lent: it is there (§1.3)
 unfoldable pub lentAt : Buffers → Bool → ℕ → Bool
 lentAt m tag address = ltb (indexOf tag address) (length (spaceOf m tag))
 
--- what a read of the byte at an address gives; 0 beyond the lent end
+-- whether a call may touch the byte at an address, lent or not: in I/O space always, in system space where it is lent (else 2, §1.3)
+unfoldable pub touchableAt : Buffers → Bool → ℕ → Bool
+touchableAt m tag address = tag || lentAt m tag address
+
+-- an empty card slot: an address of I/O space at which no byte is lent (§1.3)
+abbrev pub EmptySlot : Buffers → ℕ → Type 0
+EmptySlot m address = lentAt m true address ≡ false
+
+-- what a read beyond the lent end gives: FFh in I/O space, from an empty slot; 0 in system space, of which no call asks (§1.3)
+unfoldable pub beyondIn : Bool → ℕ
+beyondIn tag = pick tag 255 0
+
+-- what a read of the byte at an address gives
 unfoldable pub byteAt : Buffers → Bool → ℕ → ℕ
-byteAt m tag address = getD (spaceOf m tag) (indexOf tag address) 0
+byteAt m tag address = getD (spaceOf m tag) (indexOf tag address) (beyondIn tag)
 
 -- every read gives a byte, as it does of every buffer that a caller lends: its elements are bytes
 abbrev pub AllBytes : Buffers → Type 0

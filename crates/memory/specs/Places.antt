@@ -3,7 +3,7 @@ use mathlib.Core.Bool.{Bool, true, _&&_}
 use mathlib.Core.List.{List, [], _∷_}
 use mathlib.Core.Path.{_≡_}
 use Prim.Native.Nat.{ℕ, zero, suc, _+_}
-use Rattle.memory.specs.Buffers.{Buffers, indexOf, lentAt}
+use Rattle.memory.specs.Buffers.{Buffers, indexOf, lentAt, touchableAt}
 
 -- one byte's place
 pub record Place : Type 0 where
@@ -15,10 +15,18 @@ unfoldable pub span : Bool → ℕ → ℕ → List Place
 span tag address zero = []
 span tag address (suc n) = record { tag = tag; address = address } ∷ span tag (address + 1) n
 
--- every byte of a list is lent (else 2)
-unfoldable pub allLent : Buffers → List Place → Bool
-allLent m [] = true
-allLent m (p ∷ ps) = lentAt m (p .tag) (p .address) && allLent m ps
+-- every place of a list passes a test of tag and address
+unfoldable pub allPass : (Bool → ℕ → Bool) → List Place → Bool
+allPass test [] = true
+allPass test (p ∷ ps) = test (p .tag) (p .address) && allPass test ps
+
+-- every byte of a list is lent
+abbrev pub allLent : Buffers → List Place → Bool
+allLent m ps = allPass (lentAt m) ps
+
+-- every byte of a list may be touched (else 2)
+abbrev pub allTouchable : Buffers → List Place → Bool
+allTouchable m ps = allPass (touchableAt m) ps
 
 -- two places that are different bytes
 abbrev pub Apart : Bool → ℕ → Bool → ℕ → Type 0

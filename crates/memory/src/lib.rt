@@ -3,10 +3,10 @@
 ghost use mathlib.Core.Path.{_≡_};
 ghost use Prim.Native.Nat.{_+_};
 ghost use lib.ListN.{getD, set};
-ghost use Rattle.memory.specs.Buffers.{buffers, indexOf, lentAt, byteAt, storeByte, withinLimits};
+ghost use Rattle.memory.specs.Buffers.{buffers, indexOf, lentAt, touchableAt, byteAt, storeByte, withinLimits};
 ghost use Rattle.memory.specs.Values as Values;
 ghost use Rattle.memory.specs.Values.{wordAt, doublewordAt, pointerAt, storeWord, storeDoubleword, storePointer};
-ghost use Rattle.memory.specs.Places.{span, allLent};
+ghost use Rattle.memory.specs.Places.{span, allLent, allTouchable};
 
 // A pointer: 20 bits of address, and the tag that names its space (false system, true I/O).
 pub struct Pointer {
@@ -35,11 +35,11 @@ fn index(tag: bool, address: u32) -> usize
     }
 }
 
-// The byte of a buffer, or 0 beyond its end.
-fn read(space: &[u8], at: usize) -> u8
-    ensures { λ r. ⌜ r ≡ getD (now (space .entry)) at 0 ⌝ }
+// The byte of a buffer, or another beyond its end.
+fn read(space: &[u8], at: usize, beyond: u8) -> u8
+    ensures { λ r. ⌜ r ≡ getD (now (space .entry)) at beyond ⌝ }
 {
-    if at < space.len() { space[at] } else { 0 }
+    if at < space.len() { space[at] } else { beyond }
 }
 
 // A byte put into a buffer, or nothing beyond its end.
@@ -81,12 +81,36 @@ pub fn span_lent(sys: &[u8], io: &[u8], tag: bool, address: u32, count: u32) -> 
     }
 }
 
-// The byte at an address.
+// Whether a call may touch the byte at an address: in I/O space always, in system space where it is lent.
+pub fn touchable(sys: &[u8], io: &[u8], tag: bool, address: u32) -> bool
+    ensures { λ r. ⌜ r ≡ touchableAt (buffers (now (sys .entry)) (now (io .entry))) tag address ⌝ }
+{
+    if tag {
+        return true;
+    }
+    lent(sys, io, tag, address)
+}
+
+// Whether a call may touch `count` bytes in a row.
+pub fn span_touchable(sys: &[u8], io: &[u8], tag: bool, address: u32, count: u32) -> bool
+    ensures { λ r. ⌜ r ≡ allTouchable (buffers (now (sys .entry)) (now (io .entry))) (span tag address count) ⌝ }
+{
+    if tag {
+        return true;
+    }
+    span_lent(sys, io, tag, address, count)
+}
+
+// The byte at an address; FFh from an empty slot of I/O space.
 pub fn byte(sys: &[u8], io: &[u8], tag: bool, address: u32) -> u8
     ensures { λ r. ⌜ r ≡ byteAt (buffers (now (sys .entry)) (now (io .entry))) tag address ⌝ }
 {
     let at = index(tag, address);
-    if tag { read(io, at) } else { read(sys, at) }
+    if tag {
+        read(io, at, 255)
+    } else {
+        read(sys, at, 0)
+    }
 }
 
 // The word at an address.

@@ -13,7 +13,7 @@ use native.Mathlib.Omega.{arith}
 use Rattle.memory.proofs.PlaceLaws.{index-reduced, lent-index}
 use Rattle.memory.proofs.SpanLaws.{all-append}
 use Rattle.memory.specs.Buffers.{Buffers, lentAt}
-use Rattle.memory.specs.Places.{span, allLent}
+use Rattle.memory.specs.Places.{span, allPass, allLent}
 use Rattle.words.specs.Choice.{pick}
 use Rattle.words.specs.Sums.{addressOf}
 use Rattle.prom.specs.File.{Store, storesFrom, storesOf}
@@ -44,7 +44,7 @@ places-append segment offset (suc k) n =
 
 -- short of the wrap they are a span
 pub places-span : (m : Buffers) (segment offset n : ℕ) → offset + n ≤ 65536 → allLent m (placesFrom segment offset n) ≡ allLent m (span false (segment * 16 + offset) n)
-unfolding placesFrom span allLent
+unfolding placesFrom span allPass
 places-span m segment offset zero h = refl
 places-span m segment offset (suc n) h =
     let e : segment * 16 + (offset + 1) ≡ segment * 16 + offset + 1 = omega arith in
@@ -61,14 +61,14 @@ pub places-spans : (m : Buffers) (segment offset k n : ℕ) → offset + k ≡ 6
 places-spans m segment offset k n e h =
     let z : segment * 16 + 0 ≡ segment * 16 = omega arith in
     ap (allLent m) (places-append segment offset k n)
-    ∙ all-append m (placesFrom segment offset k) (placesFrom segment (offset + k) n)
+    ∙ all-append (lentAt m) (placesFrom segment offset k) (placesFrom segment (offset + k) n)
     ∙ ap₂ _&&_ (places-span m segment offset k (omega arith))
     (ap (allLent m) (places-wrap segment (offset + k) 0 n (omega arith)) ∙ (rw z at (places-span m segment 0 n (omega arith))))
 
 -- a record reaches beyond memory where not all its places are lent
 pub beyond-stores : (m : Buffers) (line segment offset : ℕ) (vs : List ℕ) (ss : List Store)
     → beyondLine m (storesFrom line segment offset vs ++ ss) ≡ pick (allLent m (placesFrom segment offset (length vs))) (beyondLine m ss) line
-unfolding beyondLine storesFrom placesFrom allLent
+unfolding beyondLine storesFrom placesFrom allPass
 beyond-stores m line segment offset [] ss = refl
 beyond-stores m line segment offset (v ∷ vs) ss = go (lentAt m false (addressOf (offset % 65536) segment)) (beyond-stores m line segment (offset + 1) vs ss)
   where

@@ -13,7 +13,7 @@ use native.Mathlib.Decide.{decLt}
 use native.Mathlib.Omega.{arith}
 use Rattle.memory.proofs.StoreLaws.{store-length, read-same, read-other}
 use Rattle.memory.specs.Buffers.{Buffers, buffers, spaceOf, limitOf, indexOf, lentAt, byteAt, storeByte, withinLimits}
-use Rattle.memory.specs.Places.{allLent}
+use Rattle.memory.specs.Places.{allPass, allLent}
 use Rattle.words.proofs.ChoiceLaws.{both-left, both-right}
 use Rattle.words.specs.Bytes.{lowByte, highByte}
 use Rattle.words.specs.Choice.{pick}
@@ -147,7 +147,7 @@ row-stores m line segment offset (v ∷ vs) h k =
 -- and lent where the row is
 row-lent : (m : Buffers) (segment offset n : ℕ) → length (m .sys) ≤ 1048576 → offset + n ≤ 65536 → segment * 16 + offset + n ≤ length (m .sys)
     → allLent m (placesFrom segment offset n) ≡ true
-unfolding allLent placesFrom lentAt spaceOf indexOf limitOf
+unfolding allPass placesFrom lentAt spaceOf indexOf limitOf
 row-lent m segment offset zero l h k = refl
 row-lent m segment offset (suc n) l h k =
     rw (lt-ltb ((segment * 16 + offset % 65536) % 1048576 % 1048576) (length (m .sys)) (omega arith)) (row-lent m segment (offset + 1) n l (omega arith) (omega arith))

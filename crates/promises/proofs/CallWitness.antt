@@ -10,7 +10,7 @@ use Rattle.machine.specs.Psw.{transferring}
 use Rattle.machine.specs.States.{channelOf, withChannel, withLast, soundChannel, sound, isRunning, channelNumber}
 use Rattle.machine.specs.declared.State.{State}
 use Rattle.memory.proofs.SpanLaws.{span-at}
-use Rattle.memory.specs.Buffers.{Buffers, spaceOf, limitOf, indexOf, lentAt, byteAt, withinLimits}
+use Rattle.memory.specs.Buffers.{Buffers, spaceOf, limitOf, indexOf, lentAt, beyondIn, byteAt, withinLimits}
 use Rattle.memory.specs.Places.{span}
 use Rattle.memory.specs.Values.{pointer}
 use Rattle.step.specs.Choosing.{requested, external, endsNow, transferRank, rankOf, secondWins, ranked, choiceOf}
@@ -116,7 +116,7 @@ theirs {k} s m s′ m′ r b u e =
 -- what channel 2's steps leave alone
 spared : (a b c d e a′ b′ c′ d′ e′ : ℕ) (io : List ℕ) → Lent (memoryWith (six a′ b′ c′ d′ e′) io) (pointer 16 true) 5
     → Untouched (narrowAt 0 16 5) 5 (memoryWith (six a b c d e) io) (memoryWith (six a′ b′ c′ d′ e′) io)
-unfolding channelWith memoryWith source destination bitOf byteAt lentAt spaceOf indexOf limitOf
+unfolding channelWith memoryWith source destination bitOf byteAt beyondIn lentAt spaceOf indexOf limitOf
 spared a b c d e a′ b′ c′ d′ e′ io l =
     record {
       fromLeft = record { bytes = five (λ i. _) refl refl refl refl refl; lent = five (λ i. _) refl refl refl refl refl };
@@ -163,14 +163,14 @@ call8 = refl
 
 -- the row of them, to channel 1: five of its transfer steps, and three calls between that are not its turn
 pub calls-met : Calls false 5 s₀ m₀ 5 s₈ m₈
-unfolding stepOpen span
+unfolding stepOpen span lentAt spaceOf indexOf limitOf
 calls-met =
     let r1 : Calls false 5 s₀ m₀ 1 s₁ m₁ = ours s₀ m₀ s₁ m₁ begin refl refl refl call1 in
-    let r2 : Calls false 5 s₀ m₀ 1 s₂ m₂ = theirs s₁ m₁ s₂ m₂ r1 refl (spared 0 0 0 0 0 1 2 0 0 0 (six 1 0 0 0 0) (λ i h. span-at m₂ true 16 5 i refl h)) call2 in
+    let r2 : Calls false 5 s₀ m₀ 1 s₂ m₂ = theirs s₁ m₁ s₂ m₂ r1 refl (spared 0 0 0 0 0 1 2 0 0 0 (six 1 0 0 0 0) (λ i h. span-at (lentAt m₂) true 16 5 i refl h)) call2 in
     let r3 : Calls false 5 s₀ m₀ 2 s₃ m₃ = ours s₂ m₂ s₃ m₃ r2 refl refl refl call3 in
-    let r4 : Calls false 5 s₀ m₀ 2 s₄ m₄ = theirs s₃ m₃ s₄ m₄ r3 refl (spared 1 2 0 0 0 1 2 3 4 0 (six 1 2 0 0 0) (λ i h. span-at m₄ true 16 5 i refl h)) call4 in
+    let r4 : Calls false 5 s₀ m₀ 2 s₄ m₄ = theirs s₃ m₃ s₄ m₄ r3 refl (spared 1 2 0 0 0 1 2 3 4 0 (six 1 2 0 0 0) (λ i h. span-at (lentAt m₄) true 16 5 i refl h)) call4 in
     let r5 : Calls false 5 s₀ m₀ 3 s₅ m₅ = ours s₄ m₄ s₅ m₅ r4 refl refl refl call5 in
-    let r6 : Calls false 5 s₀ m₀ 3 s₆ m₆ = theirs s₅ m₅ s₆ m₆ r5 refl (spared 1 2 3 4 0 1 2 3 4 5 (six 1 2 3 0 0) (λ i h. span-at m₆ true 16 5 i refl h)) call6 in
+    let r6 : Calls false 5 s₀ m₀ 3 s₆ m₆ = theirs s₅ m₅ s₆ m₆ r5 refl (spared 1 2 3 4 0 1 2 3 4 5 (six 1 2 3 0 0) (λ i h. span-at (lentAt m₆) true 16 5 i refl h)) call6 in
     let r7 : Calls false 5 s₀ m₀ 4 s₇ m₇ = ours s₆ m₆ s₇ m₇ r6 refl refl refl call7 in
     ours s₇ m₇ s₈ m₈ r7 refl refl refl call8
 

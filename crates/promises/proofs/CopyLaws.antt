@@ -9,9 +9,9 @@ use native.Mathlib.Nat.{add-assoc}
 use native.Mathlib.Omega.{arith}
 use Rattle.machine.specs.Cc.{synchronised}
 use Rattle.machine.specs.declared.Channel.{Channel}
-use Rattle.memory.proofs.PlaceLaws.{index-reduced, index-after, lent-index, byte-index, store-index, byte-reduced, store-reduced}
-use Rattle.memory.proofs.StoreLaws.{store-length, read-other}
-use Rattle.memory.specs.Buffers.{Buffers, indexOf, lentAt, byteAt, storeByte}
+use Rattle.memory.proofs.PlaceLaws.{index-reduced, index-after, touchable-index, byte-index, store-index, byte-reduced, store-reduced}
+use Rattle.memory.proofs.StoreLaws.{lent-touchable, store-length, read-other}
+use Rattle.memory.specs.Buffers.{Buffers, indexOf, lentAt, touchableAt, byteAt, storeByte}
 use Rattle.memory.specs.declared.Pointer.{Pointer}
 use Rattle.transfer.proofs.BlockLaws.{Block, stride, block-step, block-step-two}
 use Rattle.transfer.specs.Reads.{dataOf}
@@ -69,17 +69,19 @@ moved-next c n k p some most h = go (narrow c) refl (wordSide (source c) || word
 
 -- ---- one step on the way
 
--- where a side's pointer is a pointer on by j, its byte is byte j of the range
-lent-on : (m : Buffers) (p : Pointer) (j : ℕ) → lentAt m (p .tag) (p .address + j) ≡ true → lentAt m (p .tag) (sum20 (p .address) j) ≡ true
-lent-on m p j h = lent-index m (p .tag) ((p .address + j) % 1048576) (p .address + j) (index-reduced (p .tag) (p .address + j)) ∙ h
+-- where a side's pointer is a pointer on by j, its byte is byte j of the range, and may be touched where that is lent
+touch-on : (m : Buffers) (p : Pointer) (j : ℕ) → lentAt m (p .tag) (p .address + j) ≡ true → touchableAt m (p .tag) (sum20 (p .address) j) ≡ true
+touch-on m p j h =
+    touchable-index m (p .tag) ((p .address + j) % 1048576) (p .address + j) (index-reduced (p .tag) (p .address + j)) ∙ lent-touchable m (p .tag) (p .address + j) h
 
 -- the byte after it is byte j + 1
 index-two : (p : Pointer) (j : ℕ) → indexOf (p .tag) (sum20 (p .address) j + 1) ≡ indexOf (p .tag) (p .address + (j + 1))
 index-two p j = index-after (p .tag) (p .address + j) 1 ∙ ap (indexOf (p .tag)) (add-assoc (p .address) j 1)
 
--- so it is lent where that is
-lent-on-two : (m : Buffers) (p : Pointer) (j : ℕ) → lentAt m (p .tag) (p .address + (j + 1)) ≡ true → lentAt m (p .tag) (sum20 (p .address) j + 1) ≡ true
-lent-on-two m p j h = lent-index m (p .tag) (sum20 (p .address) j + 1) (p .address + (j + 1)) (index-two p j) ∙ h
+-- so it may be touched where that is lent
+touch-on-two : (m : Buffers) (p : Pointer) (j : ℕ) → lentAt m (p .tag) (p .address + (j + 1)) ≡ true → touchableAt m (p .tag) (sum20 (p .address) j + 1) ≡ true
+touch-on-two m p j h =
+    touchable-index m (p .tag) (sum20 (p .address) j + 1) (p .address + (j + 1)) (index-two p j) ∙ lent-touchable m (p .tag) (p .address + (j + 1)) h
 
 -- the memory after a step of one byte
 abbrev put1 : Pointer → Pointer → ℕ → Buffers → Buffers
@@ -110,7 +112,7 @@ step-one : (c : Channel) (m : Buffers) (p q : Pointer) (j : ℕ) → (source c) 
     → lentAt m (p .tag) (p .address + j) ≡ true → lentAt m (q .tag) (q .address + j) ≡ true
     → transferOf c m ≡ transferred 0 (movedChannel c (dataOf c m)) (put1 p q j m)
 step-one c m p q j es ed b ne one lp lq =
-    block-step c m b ne one (rw es (lent-on m p j lp)) (rw ed (lent-on m q j lq))
+    block-step c m b ne one (rw es (touch-on m p j lp)) (rw ed (touch-on m q j lq))
     ∙ ap (transferred 0 (movedChannel c (dataOf c m))) (rw (es, ed) (copied-on p q j m))
 
 -- and one that moves two
@@ -120,7 +122,7 @@ step-two : (c : Channel) (m : Buffers) (p q : Pointer) (j : ℕ) → (source c) 
     → lentAt m (q .tag) (q .address + j) ≡ true → lentAt m (q .tag) (q .address + (j + 1)) ≡ true
     → transferOf c m ≡ transferred 0 (movedChannel c (dataOf c m)) (put2 p q j m)
 step-two c m p q j es ed b ne two lp lp′ lq lq′ =
-    block-step-two c m b ne two (rw es (lent-on m p j lp)) (rw es (lent-on-two m p j lp′)) (rw ed (lent-on m q j lq)) (rw ed (lent-on-two m q j lq′))
+    block-step-two c m b ne two (rw es (touch-on m p j lp)) (rw es (touch-on-two m p j lp′)) (rw ed (touch-on m q j lq)) (rw ed (touch-on-two m q j lq′))
     ∙ ap (transferred 0 (movedChannel c (dataOf c m))) (rw (es, ed) (copied-on-two p q j m))
 
 -- ---- the row

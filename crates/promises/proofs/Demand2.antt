@@ -20,7 +20,7 @@ use Rattle.machine.specs.declared.Channel.{Channel}
 use Rattle.machine.specs.declared.State.{State}
 use Rattle.memory.proofs.SpanLaws.{span-at, span-first}
 use Rattle.memory.proofs.StoreLaws.{pointer-back}
-use Rattle.memory.specs.Buffers.{Buffers}
+use Rattle.memory.specs.Buffers.{Buffers, lentAt}
 use Rattle.memory.specs.Places.{span, allLent}
 use Rattle.memory.specs.Values.{pointer, pointerAt, storePointer}
 use Rattle.memory.specs.declared.Pointer.{Pointer}
@@ -81,7 +81,7 @@ step-does s m lines = record {
 -- through three lent bytes
 memory-kept : (m : Buffers) (tag : Bool) (at : ℕ) (p : Pointer) → p .address < 1048576 → allLent m (span tag at 3) ≡ true → pointerAt (storePointer m tag at p) tag at ≡ p
 memory-kept m tag at p small lent =
-    pointer-back m tag at p (span-first m tag at 3 lent (lit< tt)) (span-at m tag at 3 1 lent (lit< tt)) (span-at m tag at 3 2 lent (lit< tt))
+    pointer-back m tag at p (span-first (lentAt m) tag at 3 lent (lit< tt)) (span-at (lentAt m) tag at 3 1 lent (lit< tt)) (span-at (lentAt m) tag at 3 2 lent (lit< tt))
     ∙ ap (λ (a : ℕ). pointer a (p .tag)) (mod-eq-of-lt small)
 
 -- a channel of which a command changed PSW alone

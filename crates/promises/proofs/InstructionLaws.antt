@@ -22,9 +22,9 @@ use Rattle.machine.specs.Registers.{registerOf}
 use Rattle.machine.specs.States.{channelOf, withChannel, blockOf, busyIn}
 use Rattle.machine.specs.declared.Channel.{Channel}
 use Rattle.machine.specs.declared.State.{State}
-use Rattle.memory.proofs.PlaceLaws.{index-reduced, index-after, lent-index, byte-reduced, word-reduced}
-use Rattle.memory.specs.Buffers.{Buffers, lentAt, byteAt}
-use Rattle.memory.specs.Places.{span, allLent}
+use Rattle.memory.proofs.PlaceLaws.{byte-reduced, word-reduced}
+use Rattle.memory.specs.Buffers.{Buffers, byteAt}
+use Rattle.memory.specs.Places.{span, allPass, allTouchable}
 use Rattle.memory.specs.Values.{wordAt}
 use Rattle.memory.specs.declared.Pointer.{Pointer}
 use Rattle.execute_operands.specs.Changes.{placesOf, changed}
@@ -38,6 +38,7 @@ use Rattle.words.specs.Choice.{pick}
 use Rattle.words.specs.Signs.{extended}
 use Rattle.promises.specs.Calls.{Turn}
 use Rattle.promises.specs.Cases.{Stand, Executes}
+use Rattle.promises.proofs.StandLaws.{span-touchable, rest-touchable}
 
 -- ---- bytes that stand at a place
 
@@ -64,23 +65,14 @@ module _ {m : Buffers} {p : Pointer} {bytes : List ℕ} (there : Stand m p bytes
   unfolding decodedAt onward
   decoded h = ap₂ decodeOf (first-byte (omega arith)) (byte-on 1 h)
 
-  -- they are lent
-  pub pair-lent : 1 < length bytes → allLent m (bytesAt p 2) ≡ true
-  unfolding allLent span
-  pair-lent h =
-      let e : lentAt m (p .tag) (p .address) ≡ true = ap (lentAt m (p .tag)) (sym (add-zero (p .address))) ∙ there .lent 0 (omega arith) in
-      rw (e, there .lent 1 h)
+  -- they may be touched
+  pub pair-touchable : 1 < length bytes → allTouchable m (bytesAt p 2) ≡ true
+  pair-touchable h = span-touchable m (p .tag) (p .address) 2 (λ i l. there .lent i (omega arith))
 
-  -- and so is the data after them
-  pub data-lent : (wide : Bool) → 1 + sizeOf wide < length bytes → allLent m (bytesAt (onward p 2) (sizeOf wide)) ≡ true
-  unfolding allLent span onward
-  data-lent false h = rw (lent-index m (p .tag) ((p .address + 2) % 1048576) (p .address + 2) (index-reduced (p .tag) (p .address + 2)), there .lent 2 h)
-  data-lent true h =
-      let e : lentAt m (p .tag) ((p .address + 2) % 1048576 + 1) ≡ true =
-      lent-index m (p .tag) ((p .address + 2) % 1048576 + 1) (p .address + 2 + 1) (index-after (p .tag) (p .address + 2) 1)
-      ∙ ap (lentAt m (p .tag)) (add-assoc (p .address) 2 1)
-      ∙ there .lent 3 h in
-      rw (e, lent-index m (p .tag) ((p .address + 2) % 1048576) (p .address + 2) (index-reduced (p .tag) (p .address + 2)), there .lent 2 (omega arith))
+  -- and so may the data after them
+  pub data-touchable : (wide : Bool) → 1 + sizeOf wide < length bytes → allTouchable m (bytesAt (onward p 2) (sizeOf wide)) ≡ true
+  unfolding onward
+  data-touchable wide h = rest-touchable there 2 (sizeOf wide) (omega arith)
 
   -- which is the immediate
   pub immediate-read : (wide : Bool) → 1 + sizeOf wide < length bytes → operandAt m (onward p 2) wide ≡ immediateOf bytes wide
@@ -111,12 +103,12 @@ pair-there true n h = omega arith
 pub immediate-executed : (work : Work) (r : ℕ) (wide : Bool) (m : Buffers) (c : Channel) (code : List ℕ) → Stand m (c .tp) code → 1 + sizeOf wide < length code
     → decodeOf (getD code 0 0) (getD code 1 0) ≡ Instruction (RegisterImmediate work r wide) → (busy : ℕ)
     → executeOf c busy m ≡ executed 0 (immediateDone work r wide c code) m
-unfolding changed deedOf performed registerImmediateDeed placesOf laterBytes span allLent
+unfolding changed deedOf performed registerImmediateDeed placesOf laterBytes span allPass
 immediate-executed work r wide m c code there whole e busy =
     let pair = pair-there wide (length code) whole in
     let shape = RegisterImmediate work r wide in
-    done-where c busy m shape (decoded there pair ∙ e) (pair-lent there pair)
-    (ap (λ (n : ℕ). allLent m (bytesAt (onward (c .tp) 2) n)) (data-length work r wide) ∙ data-lent there wide whole) refl refl refl
+    done-where c busy m shape (decoded there pair ∙ e) (pair-touchable there pair)
+    (ap (λ (n : ℕ). allTouchable m (bytesAt (onward (c .tp) 2) n)) (data-length work r wide) ∙ data-touchable there wide whole) refl refl refl
     ∙ ap (λ (v : ℕ). executed 0 (registerWritten work (pastInstruction c (lengthOf shape)) r (workOf work (registerOf (pastInstruction c (lengthOf shape)) r) v)) m) (immediate-read there wide whole)
 
 -- ---- its step

@@ -10,7 +10,7 @@ use mathlib.Core.Path.{_≡_, refl}
 use native.Mathlib.Omega.{arith}
 use Rattle.machine.specs.Outcomes.{unless, first, givenNumber}
 use Rattle.machine.specs.States.{idleChannel, channelOf, soundChannel, sound, isRunning}
-use Rattle.memory.specs.Buffers.{spaceOf, limitOf, indexOf, lentAt, byteAt, withinLimits}
+use Rattle.memory.specs.Buffers.{spaceOf, limitOf, indexOf, lentAt, beyondIn, byteAt, withinLimits}
 use Rattle.memory.specs.Values.{pointer}
 use Rattle.step.specs.Choosing.{requested, external, endsNow, transferRank, rankOf, secondWins, ranked, choiceOf}
 use Rattle.step.specs.Step.{entryNumber}
@@ -29,7 +29,7 @@ module _ (a : ℕ) (code : List ℕ) (fits : a + length code ≤ 1048576) where
 
   -- they stand there
   stand : Stand (bytesFrom a code) (pointer a false) code
-  unfolding lentAt byteAt spaceOf indexOf limitOf
+  unfolding lentAt byteAt beyondIn spaceOf indexOf limitOf
   stand = record { lent = lent; read = read }
     where
       lent : (i : ℕ) → i < length code → lentAt (bytesFrom a code) false (a + i) ≡ true

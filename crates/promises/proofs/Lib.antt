@@ -42,3 +42,5 @@ pub mod LeftoverCases
 pub mod Sheet
 pub mod SheetWitness
 pub mod Determined
+pub mod Slots
+pub mod SlotWitness

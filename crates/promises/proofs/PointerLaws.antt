@@ -25,25 +25,23 @@ use Rattle.execute_deeds.specs.Deeds.{Deed}
 use Rattle.execute_deeds.specs.JumpForms.{callDeed}
 use Rattle.execute_deeds.specs.MemoryForms.{movpStoreDeed}
 use Rattle.execute_deeds.specs.RegisterForms.{movpLoadDeed}
-use Rattle.execute.proofs.OutcomeLaws.{done, number-is, stores-lent}
+use Rattle.execute.proofs.OutcomeLaws.{done}
 use Rattle.execute.proofs.PointerLaws.{register-written, tag-written}
-use Rattle.execute.specs.Execute.{Executed, decodedAt, performed, deedOf, deedFrom, executeOf}
+use Rattle.execute.specs.Execute.{Executed, decodedAt, performed, deedOf, executeOf}
 use Rattle.execute.specs.Kept.{IsPointer}
 use Rattle.machine.proofs.ChannelLaws.{put-same, last-channel, sound-channel-of}
 use Rattle.machine.specs.Registers.{byRRR, registerOf, tagOf, withRegister}
 use Rattle.machine.specs.States.{channelOf, withChannel, soundChannel, blockOf, busyIn}
 use Rattle.machine.specs.declared.Channel.{Channel}
 use Rattle.machine.specs.declared.State.{State}
-use Rattle.memory.proofs.SpanLaws.{span-at, span-first}
 use Rattle.memory.proofs.StoreLaws.{pointer-back}
 use Rattle.memory.specs.Buffers.{Buffers}
-use Rattle.memory.specs.Places.{allLent}
 use Rattle.memory.specs.Values.{pointer, pointerAt}
 use Rattle.memory.specs.declared.Pointer.{Pointer}
-use Rattle.execute_operands.specs.Changes.{placesOf, changed, pointerTo}
+use Rattle.execute_operands.specs.Changes.{changed, pointerTo}
 use Rattle.execute_operands.proofs.ChangeLaws.{pointer-changed}
 use Rattle.execute_operands.specs.Marks.{pastInstruction}
-use Rattle.execute_operands.specs.Operands.{byteHere, bytesAt, grown}
+use Rattle.execute_operands.specs.Operands.{byteHere, grown}
 use Rattle.machine.specs.Updates.{renewed}
 use Rattle.memory.specs.Values.{onward}
 use Rattle.step.proofs.SoundLaws.{entry-sound}
@@ -51,6 +49,7 @@ use Rattle.step.specs.Step.{Step, doneStep, settledStep, instructionStep, chann
 use Rattle.step.specs.declared.Kind.{Kind}
 use Rattle.words.proofs.ChoiceLaws.{apart, both-left, both-right, or-false}
 use Rattle.words.specs.Choice.{pick}
+use Rattle.promises.specs.Premises.{Lent}
 use Rattle.promises.specs.Pointers.{Holds, StepCall, leftBy, channelOn, Executes, found, operandOf, SameThree, LoadsFrom}
 
 -- ---- what a done step that executes has passed, and what it leaves
@@ -98,14 +97,6 @@ module _ (k : StepCall) (shape : Shape) (x : Executes k shape) where
       ∙ rw (eq-eqb (executedOn k .number) 0 none)
       (ap (λ (o : Executed). doneStep (k .state) (k .second) (o .channel) (o .memory) Kind.Instruction) (done (channelOn k) (busyOn k) (k .memory) shape (x .reads) none))
 
-  -- the bytes that it stores to are lent
-  lent : allLent (k .memory) (placesOf (deedOn k shape .change)) ≡ true
-  unfolding deedFrom
-  lent =
-      let m = k .memory in
-      let c = channelOn k in
-      rw (x .reads) at (stores-lent c (busyOn k) m (sym (number-is c (busyOn k) m) ∙ none))
-
   -- the channel after it
   channel-left : channelOf (leftBy k .state) (k .second) ≡ deedOn k shape .channel
   channel-left =
@@ -113,17 +104,14 @@ module _ (k : StepCall) (shape : Shape) (x : Executes k shape) where
       ∙ last-channel (withChannel (k .state) (k .second) (deedOn k shape .channel)) (k .second) (k .second)
       ∙ put-same (k .state) (k .second) (deedOn k shape .channel)
 
-  -- a pointer of 20 bits that it stores reads back from where it went
-  stored-back : (at p : Pointer) → deedOn k shape .change ≡ pointerTo at p → p .address < 1048576 → pointerAt (leftBy k .memory) (at .tag) (at .address) ≡ p
-  unfolding placesOf
-  stored-back at p e small =
-      let here : allLent (k .memory) (bytesAt at 3) ≡ true = rw e at lent in
+  -- a pointer of 20 bits that it stores in lent bytes reads back from where it went
+  stored-back : (at p : Pointer) → deedOn k shape .change ≡ pointerTo at p → Lent (k .memory) at 3 → p .address < 1048576
+      → pointerAt (leftBy k .memory) (at .tag) (at .address) ≡ p
+  stored-back at p e lent small =
       ap (λ (o : Step). pointerAt (o .memory) (at .tag) (at .address)) leaves
       ∙ rw (e, pointer-changed (k .memory) at p)
       (pointer-back (k .memory) (at .tag) (at .address) p
-      (span-first (k .memory) (at .tag) (at .address) 3 here (lit< tt))
-      (span-at (k .memory) (at .tag) (at .address) 3 1 here (lit< tt))
-      (span-at (k .memory) (at .tag) (at .address) 3 2 here (lit< tt))
+      (rw add-zero at (lent 0 (lit< tt))) (lent 1 (lit< tt)) (lent 2 (lit< tt))
       ∙ ap (λ (a : ℕ). pointer a (p .tag)) (mod-eq-of-lt small))
 
 -- ---- the register of MOVP is a pointer
@@ -263,7 +251,7 @@ movp-back {k} {r} {o} x l =
     let p = pointer (registerOf (found k shape) r) (tagOf (found k shape) r) in
     let sound = sound-channel-of (k .state) (k .second) (entry-sound (k .state) (k .memory) (k .lines) (entered (k .state) (k .memory) (k .lines) (x .done))) in
     let small : p .address < 1048576 = sound-found (channelOn k) (lengthOf shape) r sound (executes-pointer x) in
-    loads-back p l small (stored-back k shape x (operandOf k shape o) p refl small)
+    loads-back p l small (stored-back k shape x (operandOf k shape o) p refl (l .lent) small)
 
 -- CALL, then MOVP P,M at that place
 pub call-back : {k : StepCall} {o : Memory} {two : Bool} {k′ : StepCall} {r′ : ℕ} {o′ : Memory} → Executes k (Call o two)
@@ -274,4 +262,4 @@ call-back {k} {o} {two} x l =
     let shape = Call o two in
     let p = found k shape .tp in
     let small : p .address < 1048576 = mod-lt (channelOn k .tp .address + lengthOf shape) (lit< tt) in
-    loads-back p l small (stored-back k shape x (operandOf k shape o) p refl small)
+    loads-back p l small (stored-back k shape x (operandOf k shape o) p refl (l .lent) small)

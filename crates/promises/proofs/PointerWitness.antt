@@ -22,8 +22,9 @@ use Rattle.machine.specs.Registers.{byRRR, registerOf, tagOf, withRegister, bas
 use Rattle.machine.specs.States.{freshState, idleChannel, channelOf, withChannel, withLast, soundChannel, sound, isRunning, blockOf, busyIn, channelNumber}
 use Rattle.machine.specs.declared.Channel.{Channel}
 use Rattle.machine.specs.declared.Mode.the-variants.{Running}
-use Rattle.memory.specs.Buffers.{buffers, spaceOf, limitOf, indexOf, lentAt, byteAt, storeByte, withinLimits}
-use Rattle.memory.specs.Places.{span, allLent}
+use Rattle.memory.proofs.SpanLaws.{span-at}
+use Rattle.memory.specs.Buffers.{buffers, spaceOf, limitOf, indexOf, lentAt, touchableAt, beyondIn, byteAt, storeByte, withinLimits}
+use Rattle.memory.specs.Places.{span, allPass}
 use Rattle.memory.specs.Values.{pointer, pointerAt}
 use Rattle.execute_operands.specs.Changes.{placesOf, changed, storedValue}
 use Rattle.execute_operands.specs.Marks.{usedUp, pastInstruction}
@@ -80,15 +81,15 @@ abbrev calls : List ℕ
 calls = 0x88 ∷ 0x9C ∷ 0 ∷ 0x41 ∷ 0x8C ∷ []
 
 both-go : GoesAndComes movps (MovpStore 1 (atGa true)) (atGa true) × GoesAndComes calls (Call (atGa false) false) (atGa false)
-unfolding stepOf entryNumber givenNumber first unless withinLimits limitOf spaceOf indexOf lentAt byteAt storeByte allLent span sound soundChannel freshState idleChannel channelOf withChannel withLast isRunning blockOf channelNumber requested external endsNow transferRank rankOf secondWins ranked choiceOf settledStep busyIn instructionStep channelStep chosenStep fieldOf bitOf decodedAt performed deedOf laterBytes laterFrom deedFrom stagesFrom instructionStages stagesNumber executeNumber executeOf onward renewed usedUp pastInstruction placesOf changed storedValue pairOf lookup decodeOf table lengthOf dataLength displacementLength offsetLength movpStoreDeed movpLoadDeed callDeed effective grown baseOf registerOf tagOf byRRR withRegister pointerAt indexed jumpedIf landing displacementAt displacedBy signedOf
+unfolding stepOf entryNumber givenNumber first unless withinLimits limitOf spaceOf indexOf touchableAt lentAt byteAt beyondIn storeByte allPass span sound soundChannel freshState idleChannel channelOf withChannel withLast isRunning blockOf channelNumber requested external endsNow transferRank rankOf secondWins ranked choiceOf settledStep busyIn instructionStep channelStep chosenStep fieldOf bitOf decodedAt performed deedOf laterBytes laterFrom deedFrom stagesFrom instructionStages stagesNumber executeNumber executeOf onward renewed usedUp pastInstruction placesOf changed storedValue pairOf lookup decodeOf table lengthOf dataLength displacementLength offsetLength movpStoreDeed movpLoadDeed callDeed effective grown baseOf registerOf tagOf byRRR withRegister pointerAt indexed jumpedIf landing displacementAt displacedBy signedOf
 both-go = (
   record {
     goes = record { done = refl; chosen = refl; program = refl; reads = refl };
-    comes = record { loads = record { done = refl; chosen = refl; program = refl; reads = refl }; place = refl; bytes = λ i h. refl };
+    comes = record { loads = record { done = refl; chosen = refl; program = refl; reads = refl }; place = refl; lent = λ i h. span-at (lentAt (firstStep movps .memory)) (running .ga .tag) (running .ga .address) 3 i refl h; bytes = λ i h. refl };
   },
   record {
     goes = record { done = refl; chosen = refl; program = refl; reads = refl };
-    comes = record { loads = record { done = refl; chosen = refl; program = refl; reads = refl }; place = refl; bytes = λ i h. refl };
+    comes = record { loads = record { done = refl; chosen = refl; program = refl; reads = refl }; place = refl; lent = λ i h. span-at (lentAt (firstStep calls .memory)) (running .ga .tag) (running .ga .address) 3 i refl h; bytes = λ i h. refl };
   },
 )
 

@@ -14,7 +14,7 @@ use Rattle.attention.proofs.Outcomes.{accepted-order}
 use Rattle.attention.specs.Attention.{orderTo, orderedChannel, orderedMemory, attentionOf}
 use Rattle.attention.specs.Conditions.{NoChannel}
 use Rattle.machine.proofs.ChannelLaws.{fresh-sound, named}
-use Rattle.machine.proofs.ConditionLaws.{told-sound, told-lent, says-running}
+use Rattle.machine.proofs.ConditionLaws.{told-sound, told-touchable, says-running}
 use Rattle.machine.specs.Conditions.{TooLong}
 use Rattle.machine.specs.Outcomes.{outcome}
 use Rattle.machine.specs.Psw.{withPsw}
@@ -24,8 +24,8 @@ use Rattle.machine.specs.declared.Channel.{Channel}
 use Rattle.machine.specs.declared.Mode.the-variants.{Running}
 use Rattle.memory.proofs.PlaceLaws.{index-reduced, index-after, lent-index, word-reduced, store-reduced}
 use Rattle.memory.proofs.SpanLaws.{all-append}
-use Rattle.memory.specs.Buffers.{Buffers, lentAt, byteAt, storeByte}
-use Rattle.memory.specs.Places.{span, allLent}
+use Rattle.memory.specs.Buffers.{Buffers, lentAt, touchableAt, byteAt, storeByte}
+use Rattle.memory.specs.Places.{span, allPass, allTouchable}
 use Rattle.memory.specs.Values.{wordAt, doublewordAt, pointer}
 use Rattle.attention.specs.Blocks.{ccwOf, parameterBlock, orderOf}
 use Rattle.attention.specs.Commands.{commandCoded, copied, obeyed, ordered}
@@ -38,7 +38,7 @@ use Rattle.words.specs.Sums.{addressOf}
 use Rattle.promises.specs.Premises.{Lent}
 use Rattle.promises.proofs.ProgramSteps.{view, viewOf}
 use Rattle.promises.proofs.RunLaws.{fresh-good}
-use Rattle.promises.proofs.StandLaws.{span-lent}
+use Rattle.promises.proofs.StandLaws.{span-touchable}
 
 -- the bytes that such an attention reads, and BUSY
 pub record Starts (m : Buffers) (block pb program : ℕ) : Type 0 where
@@ -95,21 +95,21 @@ module _ (cp : ℕ) (b : Bool) (m : Buffers) (pb program : ℕ) (k : Starts m (b
   unfolding order orderTo orderOf ccwOf commandCoded fieldOf parameterBlock
   order-is = rw (k .command, doubleword-reduced m false (blockOf (freshState cp) b + 2), k .parameters)
 
-  -- CCW is lent
-  block-lent : allLent m (span false (blockOf (freshState cp) b) 1) ≡ true
-  unfolding span allLent
-  block-lent = rw (k .commandLent)
+  -- CCW may be touched
+  block-touchable : allTouchable m (span false (blockOf (freshState cp) b) 1) ≡ true
+  unfolding span allPass touchableAt
+  block-touchable = rw (k .commandLent)
 
-  -- all else that it touches is lent
-  others-lent : allLent m (others order) ≡ true
-  unfolding order others readBy storedBy busyIn span allLent
-  others-lent =
+  -- so may all else that it touches
+  others-touchable : allTouchable m (others order) ≡ true
+  unfolding order others readBy storedBy busyIn span allPass touchableAt
+  others-touchable =
       let block = blockOf (freshState cp) b in
       let at = (block + 2) % 1048576 in
-      all-append m (span false at 4 ++ span false pb 4) (span false ((block + 1) % 1048576) 1)
+      all-append (touchableAt m) (span false at 4 ++ span false pb 4) (span false ((block + 1) % 1048576) 1)
       ∙ ap₂ _&&_
-      (all-append m (span false at 4) (span false pb 4)
-      ∙ ap₂ _&&_ (span-lent m false at 4 (span-reduced m false (block + 2) 4 (k .parametersLent))) (span-lent m false pb 4 (k .taskLent)))
+      (all-append (touchableAt m) (span false at 4) (span false pb 4)
+      ∙ ap₂ _&&_ (span-touchable m false at 4 (span-reduced m false (block + 2) 4 (k .parametersLent))) (span-touchable m false pb 4 (k .taskLent)))
       (rw (lent-reduced m false (block + 1), k .busyLent))
 
   -- the channel that it leaves
@@ -156,7 +156,7 @@ module _ (cp : ℕ) (b : Bool) (m : Buffers) (pb program : ℕ) (k : Starts m (b
             (
               told-sound (freshState cp) .holds (sound-fresh cp h),
               rw (named b, order-is) (
-                told-lent m (span false (blockOf (freshState cp) b) 1) .holds block-lent,
+                told-touchable m (span false (blockOf (freshState cp) b) 1) .holds block-touchable,
                 (
                   ⊎-elim (eqb-false 3 2 refl) (eqb-false 3 4 refl),
                   (
@@ -165,7 +165,7 @@ module _ (cp : ℕ) (b : Bool) (m : Buffers) (pb program : ℕ) (k : Starts m (b
                       (λ r. says-running (channelOf (freshState cp) (isSecond (channelNumber b)) .mode) .fails (fresh-still cp (isSecond (channelNumber b))) (r .1)),
                       (
                         (λ r. eqb-false 3 6 refl (r .0)),
-                        told-lent m (others order) .holds others-lent,
+                        told-touchable m (others order) .holds others-touchable,
                       ),
                     ),
                   ),

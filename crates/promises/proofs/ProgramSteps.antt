@@ -21,8 +21,8 @@ use Rattle.machine.specs.States.{isRunning}
 use Rattle.machine.specs.declared.Channel.{Channel}
 use Rattle.machine.specs.declared.Mode.{Mode}
 use Rattle.machine.specs.declared.Mode.the-variants.{Running}
-use Rattle.memory.specs.Buffers.{Buffers, lentAt, storeByte}
-use Rattle.memory.specs.Places.{span, allLent}
+use Rattle.memory.specs.Buffers.{Buffers, lentAt, touchableAt, storeByte}
+use Rattle.memory.specs.Places.{span, allPass, allTouchable}
 use Rattle.memory.specs.Values.{pointer, onward}
 use Rattle.memory.specs.declared.Pointer.{Pointer}
 use Rattle.execute_operands.specs.Changes.{placesOf, changed}
@@ -43,8 +43,8 @@ use Rattle.promises.specs.Met.{pswOf}
 use Rattle.promises.specs.Program.{widOf}
 use Rattle.promises.specs.Stages.{onBy}
 use Rattle.promises.proofs.CaseLaws.{pointer-given}
-use Rattle.promises.proofs.InstructionLaws.{decoded, pair-lent, immediateDone, immediate-executed}
-use Rattle.promises.proofs.StandLaws.{stand-on, rest-lent}
+use Rattle.promises.proofs.InstructionLaws.{decoded, pair-touchable, immediateDone, immediate-executed}
+use Rattle.promises.proofs.StandLaws.{stand-on, rest-touchable}
 
 -- the registers that the program has to do with
 pub record View : Type 0 where
@@ -121,19 +121,19 @@ wid-psw false true = refl
 wid-psw false false = refl
 
 module _ (m : Buffers) (c : Channel) (busy : ℕ) where
-  -- an instruction of which all is lent is what its shape does
+  -- an instruction of which all may be touched is what its shape does
   shape-executed : (shape : Shape) {one two : ℕ} {rest : List ℕ} → Stand m (c .tp) (one ∷ two ∷ rest) → decodeOf one two ≡ Instruction shape
-      → allLent m (laterBytes shape c) ≡ true → (deedOf shape m c busy) .second ≡ 0 → allLent m ((deedOf shape m c busy) .reads) ≡ true
-      → allLent m (placesOf ((deedOf shape m c busy) .change)) ≡ true
+      → allTouchable m (laterBytes shape c) ≡ true → (deedOf shape m c busy) .second ≡ 0 → allTouchable m ((deedOf shape m c busy) .reads) ≡ true
+      → allTouchable m (placesOf ((deedOf shape m c busy) .change)) ≡ true
       → executeOf c busy m ≡ executed 0 ((deedOf shape m c busy) .channel) (changed m ((deedOf shape m c busy) .change))
-  shape-executed shape there e = done-where c busy m shape (decoded there (omega arith) ∙ e) (pair-lent there (omega arith))
+  shape-executed shape there e = done-where c busy m shape (decoded there (omega arith) ∙ e) (pair-touchable there (omega arith))
 
   -- LPDI of a register
   lpdi-executed : (r : ℕ) {one lo hi lo′ hi′ : ℕ} {rest : List ℕ} → Stand m (c .tp) (one ∷ 0x08 ∷ lo ∷ hi ∷ lo′ ∷ hi′ ∷ rest)
       → decodeOf one 0x08 ≡ Instruction (Lpdi r) → executeOf c busy m ≡ executed 0 (loaded (pastInstruction c 6) r (addressOf (wordOf lo hi) (wordOf lo′ hi′))) m
-  unfolding changed deedOf performed lpdiDeed placesOf laterBytes span allLent lengthOf dataLength displacementLength onward
+  unfolding changed deedOf performed lpdiDeed placesOf laterBytes span allPass lengthOf dataLength displacementLength onward
   lpdi-executed r there e =
-      shape-executed (Lpdi r) there e (rest-lent there 2 4 (omega arith)) refl refl refl
+      shape-executed (Lpdi r) there e (rest-touchable there 2 4 (omega arith)) refl refl refl
       ∙ ap (λ (a : ℕ). executed 0 (loaded (pastInstruction c 6) r a) m) (pointer-given m (onBy (c .tp) 2) _ (stand-on there 2) (omega arith))
 
   -- bytes that stand where TP is known to be
@@ -198,7 +198,7 @@ module _ (m : Buffers) (c : Channel) (busy : ℕ) where
 
     -- XFER
     pub xfer-arms : {rest : List ℕ} → Stand m tp (0x60 ∷ 0x00 ∷ rest) → After m c busy (view ga gb (onBy tp 2) bc cc psw Running true) m
-    unfolding changed deedOf performed xferDeed markSet placesOf laterBytes allLent lengthOf dataLength displacementLength span pastInstruction renewed onward usedUp
+    unfolding changed deedOf performed xferDeed markSet placesOf laterBytes allPass lengthOf dataLength displacementLength span pastInstruction renewed onward usedUp
     xfer-arms there =
         record {
           channel = (deedOf Xfer m c busy) .channel;
@@ -209,7 +209,7 @@ module _ (m : Buffers) (c : Channel) (busy : ℕ) where
   -- WID as the instruction after XFER, of a program with TB alone in PSW: the transfer begins
   pub wid-begins : {ga gb tp : Pointer} {bc cc : ℕ} (source destination : Bool) {rest : List ℕ} → viewOf c ≡ view ga gb tp bc cc 4 Running true
       → Stand m tp (widOf source destination ∷ 0x00 ∷ rest) → After m c busy (view ga gb (onBy tp 2) bc cc (pswOf source destination) Running false) m
-  unfolding changed deedOf performed widDeed withStatus placesOf laterBytes allLent lengthOf dataLength displacementLength span pastInstruction renewed onward
+  unfolding changed deedOf performed widDeed withStatus placesOf laterBytes allPass lengthOf dataLength displacementLength span pastInstruction renewed onward
   wid-begins {ga} {gb} {tp} {bc} {cc} source destination s there =
       record {
         channel = (deedOf (Wid source destination) m c busy) .channel;
@@ -221,7 +221,7 @@ module _ (m : Buffers) (c : Channel) (busy : ℕ) where
 
   -- HLT: BUSY is 0, and the channel does not run
   pub hlt-stops : {rest : List ℕ} → Stand m (c .tp) (0x20 ∷ 0x48 ∷ rest) → lentAt m false busy ≡ true → Stopped m c busy
-  unfolding changed deedOf performed hltDeed halted withControl placesOf laterBytes allLent lengthOf dataLength displacementLength span isRunning
+  unfolding changed deedOf performed hltDeed halted withControl placesOf laterBytes allPass touchableAt lengthOf dataLength displacementLength span isRunning
   hlt-stops there l =
       record {
         channel = (deedOf Hlt m c busy) .channel;

@@ -27,10 +27,10 @@ use Rattle.machine.specs.declared.Channel.{Channel}
 use Rattle.machine.specs.declared.Mode.{Mode}
 use Rattle.machine.specs.declared.State.{State}
 use Rattle.memory.proofs.PlaceLaws.{store-index, index-reduced, later, after}
-use Rattle.memory.proofs.SpanLaws.{span-at, span-first, all-append}
+use Rattle.memory.proofs.SpanLaws.{span-at, span-first, all-append, span-system}
 use Rattle.memory.proofs.StoreLaws.{store-lent, read-same, read-other, pointer-bytes}
-use Rattle.memory.specs.Buffers.{Buffers, indexOf, lentAt, byteAt, storeByte}
-use Rattle.memory.specs.Places.{span, allLent, Apart}
+use Rattle.memory.specs.Buffers.{Buffers, indexOf, lentAt, touchableAt, byteAt, storeByte}
+use Rattle.memory.specs.Places.{span, allLent, allTouchable, Apart}
 use Rattle.memory.specs.Values.{wordAt, doublewordAt, pointer, pointerAt, storePointer}
 use Rattle.memory.specs.declared.Pointer.{Pointer}
 use Rattle.words.proofs.ChoiceLaws.{both-left, both-right}
@@ -213,15 +213,15 @@ module _ (b : Bool) (s : State) (m : Buffers) {code : ℕ} (x : Attends b s m co
   unfolding orderedMemory orderTo orderOf pb
   memory-is = ap (λ (o : Outcome). o .memory) whole ∙ rw command-is
 
-  -- the bytes that it stores are lent
-  lent-is : allLent m (storedBy k (blockOf s b) pb) ≡ true
+  -- the bytes that it stores may be touched
+  touchable-is : allTouchable m (storedBy k (blockOf s b) pb) ≡ true
   unfolding others orderTo orderOf pb
-  lent-is =
-      let all : allLent m (others (orderTo s m b)) ≡ true =
-      subst (λ (d : Bool). allLent m (others (orderTo s m d)) ≡ true) (named b) (passed-others s m (channelNumber b) (x .done)) in
-      let both : allLent m (readBy k (blockOf s b) pb ++ storedBy k (blockOf s b) pb) ≡ true = rw command-is at all in
-      both-right (allLent m (readBy k (blockOf s b) pb)) (allLent m (storedBy k (blockOf s b) pb))
-      (sym (all-append m (readBy k (blockOf s b) pb) (storedBy k (blockOf s b) pb)) ∙ both)
+  touchable-is =
+      let all : allTouchable m (others (orderTo s m b)) ≡ true =
+      subst (λ (d : Bool). allTouchable m (others (orderTo s m d)) ≡ true) (named b) (passed-others s m (channelNumber b) (x .done)) in
+      let both : allTouchable m (readBy k (blockOf s b) pb ++ storedBy k (blockOf s b) pb) ≡ true = rw command-is at all in
+      both-right (allTouchable m (readBy k (blockOf s b) pb)) (allTouchable m (storedBy k (blockOf s b) pb))
+      (sym (all-append (touchableAt m) (readBy k (blockOf s b) pb) (storedBy k (blockOf s b) pb)) ∙ both)
 
   -- the channel by its fields
   control-left : {tp : Pointer} {pp psw tb xf : ℕ} {mode : Mode} {armed : Bool} → made .tp ≡ tp → made .pp ≡ pp → Made psw tb xf (made .psw)
@@ -245,12 +245,12 @@ module _ (s : State) (b : Bool) (m : Buffers) where
       store-index m false (busyIn (blockOf s b)) (busyPlace s b) v
       (sym (index-reduced false (busyIn (blockOf s b))) ∙ ap (indexOf false) (busy-is s b) ∙ index-reduced false (busyPlace s b))
 
-  busy-lent : allLent m (span false (busyIn (blockOf s b)) 1) ≡ true → lentAt m false (busyPlace s b) ≡ true
+  busy-lent : allTouchable m (span false (busyIn (blockOf s b)) 1) ≡ true → lentAt m false (busyPlace s b) ≡ true
   busy-lent h =
-      sym (lent-alike m false (busyIn (blockOf s b)) (busyPlace s b) (busy-is s b)) ∙ span-first m false (busyIn (blockOf s b)) 1 h (lit< tt)
+      sym (lent-alike m false (busyIn (blockOf s b)) (busyPlace s b) (busy-is s b)) ∙ span-first (lentAt m) false (busyIn (blockOf s b)) 1 (sym (span-system m (busyIn (blockOf s b)) 1) ∙ h) (lit< tt)
 
   -- BUSY alone
-  busy-left : (v : ℕ) (m′ : Buffers) → m′ ≡ marked m (blockOf s b) v → allLent m (span false (busyIn (blockOf s b)) 1) ≡ true → BusyLeft s b v m m′
+  busy-left : (v : ℕ) (m′ : Buffers) → m′ ≡ marked m (blockOf s b) v → allTouchable m (span false (busyIn (blockOf s b)) 1) ≡ true → BusyLeft s b v m m′
   busy-left v m′ e h =
       let e′ = e ∙ busy-stored v in
       record {
@@ -269,13 +269,13 @@ module _ (m : Buffers) (pp : ℕ) (tp : Pointer) (psw : ℕ) where
       n = storePointer m false pp tp
 
       three : (byteAt n false pp ≡ tp .address % 256) × (byteAt n false (pp + 1) ≡ tp .address / 256 % 256) × (byteAt n false (pp + 2) ≡ tp .address / 65536 % 16 * 16 + pick (tp .tag) 8 0)
-      three = pointer-bytes m false pp tp (span-first m false pp 4 h (lit< tt)) (span-at m false pp 4 1 h (lit< tt)) (span-at m false pp 4 2 h (lit< tt))
+      three = pointer-bytes m false pp tp (span-first (lentAt m) false pp 4 h (lit< tt)) (span-at (lentAt m) false pp 4 1 h (lit< tt)) (span-at (lentAt m) false pp 4 2 h (lit< tt))
 
       go : (i : ℕ) → i < 4 → byteAt (storeByte n false (pp + 3) psw) false (pp + i) ≡ getD (formOf (tp .address) (tp .tag) ++ (psw ∷ [])) i 0
       go zero k = ap (byteAt (storeByte n false (pp + 3) psw) false) (add-zero pp) ∙ read-other n false (pp + 3) psw false pp (after false pp 3 (lit< tt) (lit< tt)) ∙ three .0
       go (suc zero) k = read-other n false (pp + 3) psw false (pp + 1) (later false pp 1 3 (lit< tt) (lit< tt)) ∙ three .1
       go (suc (suc zero)) k = read-other n false (pp + 3) psw false (pp + 2) (later false pp 2 3 (lit< tt) (lit< tt)) ∙ three .2
-      go (suc (suc (suc zero))) k = read-same n false (pp + 3) psw (simp store-lent (span-at m false pp 4 3 h (lit< tt)))
+      go (suc (suc (suc zero))) k = read-same n false (pp + 3) psw (simp store-lent (span-at (lentAt m) false pp 4 3 h (lit< tt)))
       go (suc (suc (suc (suc i)))) k = absurd (omega arith)
 
   saved-others : (tag : Bool) (a : ℕ) → ((i : ℕ) → i < 4 → Apart false (pp + i) tag a) → byteAt (saved m pp tp psw) tag a ≡ byteAt m tag a
@@ -293,7 +293,7 @@ module _ (m : Buffers) (pp : ℕ) (tp : Pointer) (psw : ℕ) where
 -- then BUSY
 saved-left : (s : State) (b : Bool) (m m′ : Buffers)
     → m′ ≡ marked (saved m (channelOf s b .pp) (channelOf s b .tp) (channelOf s b .psw)) (blockOf s b) 0
-    → allLent m (span false (channelOf s b .pp) 4 ++ span false (busyIn (blockOf s b)) 1) ≡ true → SavedLeft s b m m′
+    → allTouchable m (span false (channelOf s b .pp) 4 ++ span false (busyIn (blockOf s b)) 1) ≡ true → SavedLeft s b m m′
 saved-left s b m m′ e h = record {
   busy = ap (λ (k : Buffers). byteAt k false (busyPlace s b)) e′ ∙ read-same n false (busyPlace s b) 0 (saved-lent m pp tp psw false (busyPlace s b) ∙ busy-lent s b m last);
   saved = λ i hi ne. ap (λ (k : Buffers). byteAt k false (pp + i)) e′ ∙ read-other n false (busyPlace s b) 0 false (pp + i) ne ∙ saved-bytes m pp tp psw four i hi;
@@ -315,14 +315,14 @@ saved-left s b m m′ e h = record {
     e′ : m′ ≡ storeByte n false (busyPlace s b) 0
     e′ = e ∙ busy-stored s b n 0
 
-    both : allLent m (span false pp 4) && allLent m (span false (busyIn (blockOf s b)) 1) ≡ true
-    both = sym (all-append m (span false pp 4) (span false (busyIn (blockOf s b)) 1)) ∙ h
+    both : allTouchable m (span false pp 4) && allTouchable m (span false (busyIn (blockOf s b)) 1) ≡ true
+    both = sym (all-append (touchableAt m) (span false pp 4) (span false (busyIn (blockOf s b)) 1)) ∙ h
 
     four : allLent m (span false pp 4) ≡ true
-    four = both-left (allLent m (span false pp 4)) (allLent m (span false (busyIn (blockOf s b)) 1)) both
+    four = sym (span-system m pp 4) ∙ both-left (allTouchable m (span false pp 4)) (allTouchable m (span false (busyIn (blockOf s b)) 1)) both
 
-    last : allLent m (span false (busyIn (blockOf s b)) 1) ≡ true
-    last = both-right (allLent m (span false pp 4)) (allLent m (span false (busyIn (blockOf s b)) 1)) both
+    last : allTouchable m (span false (busyIn (blockOf s b)) 1) ≡ true
+    last = both-right (allTouchable m (span false pp 4)) (allTouchable m (span false (busyIn (blockOf s b)) 1)) both
 
 -- ---- the sheet
 
@@ -341,15 +341,15 @@ attention-sheet b s m = record {
   updateMemory = λ x. memory-is b s m x Update refl;
   startLocal = λ x. control-left b s m x StartLocal refl
       (ap (λ (a : ℕ). pointer a true) (ap (wordAt m false) (pb-is s b m) ∙ word-alike m false (pbAt s m b) (pbAt s m b) refl)) (pb-is s b m) (made-both (channelOf s b .psw) true false) refl refl;
-  startLocalMemory = λ x. busy-left s b m 255 (outcomeTo s m b .memory) (memory-is b s m x StartLocal refl) (lent-is b s m x StartLocal refl);
+  startLocalMemory = λ x. busy-left s b m 255 (outcomeTo s m b .memory) (memory-is b s m x StartLocal refl) (touchable-is b s m x StartLocal refl);
   startSystem = λ x. control-left b s m x StartSystem refl
       (ap (λ (a : ℕ). pointer a false) (ap (doublewordAt m false) (pb-is s b m) ∙ far-alike m false (pbAt s m b) (pbAt s m b) refl)) (pb-is s b m) (made-both (channelOf s b .psw) true false) refl refl;
-  startSystemMemory = λ x. busy-left s b m 255 (outcomeTo s m b .memory) (memory-is b s m x StartSystem refl) (lent-is b s m x StartSystem refl);
+  startSystemMemory = λ x. busy-left s b m 255 (outcomeTo s m b .memory) (memory-is b s m x StartSystem refl) (touchable-is b s m x StartSystem refl);
   suspend = λ x. control-left b s m x Suspend refl refl refl (made-both (channelOf s b .psw) false false) refl refl;
-  suspendMemory = λ x. saved-left s b m (outcomeTo s m b .memory) (memory-is b s m x Suspend refl) (lent-is b s m x Suspend refl);
+  suspendMemory = λ x. saved-left s b m (outcomeTo s m b .memory) (memory-is b s m x Suspend refl) (touchable-is b s m x Suspend refl);
   resume = λ x. control-left b s m x Resume refl refl refl (made-one (byteAt m false (channelOf s b .pp + 3)) true) refl refl;
-  resumeMemory = λ x. busy-left s b m 255 (outcomeTo s m b .memory) (memory-is b s m x Resume refl) (lent-is b s m x Resume refl);
+  resumeMemory = λ x. busy-left s b m 255 (outcomeTo s m b .memory) (memory-is b s m x Resume refl) (touchable-is b s m x Resume refl);
   halt = λ x. control-left b s m x Halt refl refl refl (made-both (channelOf s b .psw) false false) refl refl;
-  haltMemory = λ x. busy-left s b m 0 (outcomeTo s m b .memory) (memory-is b s m x Halt refl) (lent-is b s m x Halt refl);
+  haltMemory = λ x. busy-left s b m 0 (outcomeTo s m b .memory) (memory-is b s m x Halt refl) (touchable-is b s m x Halt refl);
   none = (λ x. no-command b s m 2 x refl, λ x. no-command b s m 4 x refl);
 }

@@ -25,8 +25,8 @@ use Rattle.machine.specs.declared.Mode.{Mode}
 use Rattle.machine.specs.declared.Mode.the-variants.{Idle}
 use Rattle.machine.specs.declared.State.{State}
 use Rattle.memory.proofs.PlaceLaws.{store-index, index-reduced}
-use Rattle.memory.specs.Buffers.{Buffers, indexOf, storeByte}
-use Rattle.memory.specs.Places.{allLent, span}
+use Rattle.memory.specs.Buffers.{Buffers, indexOf, touchableAt, storeByte}
+use Rattle.memory.specs.Places.{allPass, allTouchable, span}
 use Rattle.step.specs.Step.{stepOf}
 use Rattle.words.specs.Bits.{bitOf, withBit}
 use Rattle.words.specs.Choice.{pick}
@@ -36,7 +36,7 @@ use Rattle.promises.specs.SheetOperands.{Ran, ranChannel, registersAt, p
 use Rattle.promises.specs.SheetControl.{ControlDone, marksUp, ControlSheet}
 use Rattle.promises.proofs.SheetLaws.{bit-made, bit-kept, lent-alike}
 use Rattle.promises.proofs.SheetAttention.{busy-is}
-use Rattle.promises.proofs.SheetOperands.{pairWith, deedIn, channel-left, memory-left, places-lent, past-left}
+use Rattle.promises.proofs.SheetOperands.{pairWith, deedIn, channel-left, memory-left, places-touchable, past-left}
 use Rattle.promises.proofs.SheetMemory.{one-left}
 
 -- one bit made, and every other as it was
@@ -54,8 +54,8 @@ module _ (s : State) (b : Bool) (m : Buffers) where
       store-index m false (busyIn (blockOf s b)) (busyPlace s b) 0
       (sym (index-reduced false (busyIn (blockOf s b))) ∙ ap (indexOf false) (busy-is s b) ∙ index-reduced false (busyPlace s b))
 
-  busy-there : allLent m (span false (busyIn (blockOf s b)) 1) ≡ true → allLent m (span false (busyPlace s b) 1) ≡ true
-  unfolding allLent span
+  busy-there : allTouchable m (span false (busyIn (blockOf s b)) 1) ≡ true → allTouchable m (span false (busyPlace s b) 1) ≡ true
+  unfolding allPass span touchableAt
   busy-there h = sym (ap (λ (t : Bool). t && true) (lent-alike m false (busyIn (blockOf s b)) (busyPlace s b) (busy-is s b))) ∙ h
 
 -- the parts that no instruction here changes
@@ -135,7 +135,7 @@ control-sheet b s m lines = record {
     control x Hlt (lit< tt) refl (withBit (withBit p₀ 2 false) 6 false) Idle false (stop-status c) refl,
     subst (λ (m′ : Buffers). BytesLeft false (busyPlace s b) (0 ∷ []) m m′)
         (sym (memory-left x Hlt (lit< tt) refl ∙ busy-put s b m))
-        (one-left m false (busyPlace s b) 0 (busy-there s b m (places-lent x Hlt (lit< tt) refl))),
+        (one-left m false (busyPlace s b) 0 (busy-there s b m (places-touchable x Hlt (lit< tt) refl))),
   );
 }
   where

@@ -8,7 +8,7 @@ use mathlib.Core.Path.{_≡_, refl, sym, ap, ap₂, _∙_}
 use native.Mathlib.Omega.{arith}
 use Rattle.machine.specs.States.{channelOf, channelNumber}
 use Rattle.memory.proofs.PlaceLaws.{byte-reduced, lent-index, index-reduced}
-use Rattle.memory.specs.Buffers.{Buffers, spaceOf, limitOf, indexOf, lentAt, byteAt, storeByte}
+use Rattle.memory.specs.Buffers.{Buffers, spaceOf, limitOf, indexOf, lentAt, beyondIn, byteAt, storeByte}
 use Rattle.memory.specs.Values.{wordAt, doublewordAt}
 use Rattle.words.proofs.BitLaws.{bit-same, bit-other}
 use Rattle.words.specs.Bits.{bitOf, withBit}
@@ -20,12 +20,14 @@ use Rattle.promises.specs.SheetWords.{Names, bit, wordIn, farIn}
 -- ---- the names
 
 pub names : Names
-unfolding byteAt storeByte indexOf limitOf spaceOf channelOf channelNumber bitOf
+unfolding byteAt beyondIn lentAt storeByte indexOf limitOf spaceOf channelOf channelNumber bitOf
 names = record {
   systemIndex = λ a. refl;
   ioIndex = λ a. refl;
   systemRead = λ m a. refl;
   ioRead = λ m a. refl;
+  systemLent = λ m a. refl;
+  ioLent = λ m a. refl;
   systemStore = λ m a v. refl;
   ioStore = λ m a v. refl;
   first = λ s. refl;

@@ -5,7 +5,7 @@ use borrow.Author.Tests.{eq-eqb, ne-eqb, lt-ltb}
 use lib.Bits.{bitAnd, bitXor}
 use lib.Dec.{eqb, ltb, lit<}
 use lib.ListN.{getD, set}
-use mathlib.Core.Bool.{Bool, true, false, _&&_}
+use mathlib.Core.Bool.{Bool, true, false, not, _&&_}
 use mathlib.Core.List.{List, [], _∷_}
 use mathlib.Core.Path.{_≡_, refl, sym, subst, ap, ap₂, _∙_}
 use native.Mathlib.Nat.{add-zero, add-assoc, mod-mod, mod-add-mod}
@@ -38,9 +38,9 @@ use Rattle.machine.specs.declared.Channel.{Channel}
 use Rattle.machine.specs.declared.State.{State}
 use Rattle.memory.proofs.PlaceLaws.{byte-reduced, later, after}
 use Rattle.memory.proofs.SpanLaws.{span-at, span-first}
-use Rattle.memory.proofs.StoreLaws.{store-lent, read-same, read-other}
-use Rattle.memory.specs.Buffers.{Buffers, AllBytes, byteAt, storeByte}
-use Rattle.memory.specs.Places.{allLent, Apart}
+use Rattle.memory.proofs.StoreLaws.{store-lent, store-touchable, read-same, read-other, slot-stays}
+use Rattle.memory.specs.Buffers.{Buffers, AllBytes, lentAt, touchableAt, byteAt, storeByte}
+use Rattle.memory.specs.Places.{allTouchable, Apart}
 use Rattle.memory.specs.Values.{pointer, onward, storePointer}
 use Rattle.memory.specs.declared.Pointer.{Pointer}
 use Rattle.step.specs.Step.{stepOf}
@@ -48,13 +48,23 @@ use Rattle.words.specs.Bits.{bitOf, withBit}
 use Rattle.words.specs.Choice.{pick}
 use Rattle.words.specs.Compare.{matchOf}
 use Rattle.promises.specs.SheetWords.{bit, formOf, tagsOf, tagIn, pointing}
-use Rattle.promises.specs.SheetOperands.{Ran, ranChannel, codeByte, baseAddress, baseTag, addedBy, operandAddress, offsetBytes, grownBy, rawIn, operandIn, ddOf, displacementIn, whether, worksOf, singlesOf, resultBytes, registersAt, pastBy, jumpedBy, valuePast, RegistersLeft, BytesLeft}
+use Rattle.promises.specs.SheetOperands.{Ran, ranChannel, codeByte, baseAddress, baseTag, addedBy, operandAddress, offsetBytes, grownBy, rawIn, operandIn, ddOf, displacementIn, whether, worksOf, singlesOf, resultBytes, registersAt, pastBy, jumpedBy, valuePast, RegistersLeft, keptIn, BytesLeft}
 use Rattle.promises.specs.SheetRegisters.{Goes}
 use Rattle.promises.specs.SheetMemory.{Stores, pastPair, byteOperand, landed, MemorySheet}
-use Rattle.promises.proofs.SheetOperands.{pairWith, pair-is, base-is, task-left, deedIn, channel-left, memory-left, places-lent, memoryWith, place-is, operand-is, grown-left, jumped-left}
+use Rattle.promises.proofs.SheetOperands.{pairWith, pair-is, base-is, task-left, deedIn, channel-left, memory-left, places-touchable, memoryWith, place-is, operand-is, grown-left, jumped-left}
 use Rattle.promises.proofs.SheetRegisters.{ap₃, pair-length, size-is, found, tag-past, goes}
 
 -- ---- bytes stored in a row
+
+-- what is read where a byte went: the byte, or FFh from an empty slot
+read-kept : (m : Buffers) (t : Bool) (a v : ℕ) → touchableAt m t a ≡ true → byteAt (storeByte m t a v) t a ≡ keptIn m t a v
+unfolding touchableAt
+read-kept m false a v h = read-same m false a v h
+read-kept m true a v h = go (lentAt m true a) refl
+  where
+    go : (b : Bool) → lentAt m true a ≡ b → byteAt (storeByte m true a v) true a ≡ pick (not b) 0xFF v
+    go true e = read-same m true a v e
+    go false e = slot-stays m true a v a e
 
 module _ (m : Buffers) (t : Bool) (a : ℕ) where
   abbrev stored₁ : ℕ → Buffers
@@ -70,49 +80,62 @@ module _ (m : Buffers) (t : Bool) (a : ℕ) where
   zeroth : (u : Bool) (b : ℕ) → Apart t (a + 0) u b → Apart t a u b
   zeroth u b h = subst (λ (n : ℕ). Apart t n u b) (add-zero a) h
 
-  pub one-left : (u : ℕ) → allLent m (bytesAt (pointer a t) 1) ≡ true → BytesLeft t a (u ∷ []) m (stored₁ u)
+  -- the first byte, then the second, then the third
+  first-kept : (u : ℕ) → touchableAt m t a ≡ true → byteAt (stored₁ u) t a ≡ keptIn m t (a + 0) u
+  first-kept u h = read-kept m t a u h ∙ ap (λ (b : ℕ). keptIn m t b u) (sym (add-zero a))
+
+  second-kept : (u v : ℕ) → touchableAt m t (a + 1) ≡ true → byteAt (stored₂ u v) t (a + 1) ≡ keptIn m t (a + 1) v
+  second-kept u v h =
+      read-kept (stored₁ u) t (a + 1) v (store-touchable m t t a (a + 1) u ∙ h)
+      ∙ ap (λ (x : Bool). pick (t && not x) 0xFF v) (store-lent m t t a (a + 1) u)
+
+  third-kept : (u v w : ℕ) → touchableAt m t (a + 2) ≡ true → byteAt (stored₃ u v w) t (a + 2) ≡ keptIn m t (a + 2) w
+  third-kept u v w h =
+      read-kept (stored₂ u v) t (a + 2) w (store-touchable (stored₁ u) t t (a + 1) (a + 2) v ∙ store-touchable m t t a (a + 2) u ∙ h)
+      ∙ ap (λ (x : Bool). pick (t && not x) 0xFF w) (store-lent (stored₁ u) t t (a + 1) (a + 2) v ∙ store-lent m t t a (a + 2) u)
+
+  pub one-left : (u : ℕ) → allTouchable m (bytesAt (pointer a t) 1) ≡ true → BytesLeft t a (u ∷ []) m (stored₁ u)
   one-left u h = record {
     stored = at;
     others = λ d b ne. read-other m t a u d b (zeroth d b (ne 0 (lit< tt)));
   }
     where
-      at : (i : ℕ) → i < 1 → byteAt (stored₁ u) t (a + i) ≡ getD (u ∷ []) i 0
-      at zero k = ap (byteAt (stored₁ u) t) (add-zero a) ∙ read-same m t a u (span-first m t a 1 h (lit< tt))
+      at : (i : ℕ) → i < 1 → byteAt (stored₁ u) t (a + i) ≡ keptIn m t (a + i) (getD (u ∷ []) i 0)
+      at zero k = ap (byteAt (stored₁ u) t) (add-zero a) ∙ first-kept u (span-first (touchableAt m) t a 1 h (lit< tt))
       at (suc i) k = absurd (omega arith)
 
-  pub two-left : (u v : ℕ) → allLent m (bytesAt (pointer a t) 2) ≡ true → BytesLeft t a (u ∷ v ∷ []) m (stored₂ u v)
+  pub two-left : (u v : ℕ) → allTouchable m (bytesAt (pointer a t) 2) ≡ true → BytesLeft t a (u ∷ v ∷ []) m (stored₂ u v)
   two-left u v h = record {
     stored = at;
     others = λ d b ne. read-other (stored₁ u) t (a + 1) v d b (ne 1 (lit< tt)) ∙ read-other m t a u d b (zeroth d b (ne 0 (lit< tt)));
   }
     where
-      at : (i : ℕ) → i < 2 → byteAt (stored₂ u v) t (a + i) ≡ getD (u ∷ v ∷ []) i 0
+      at : (i : ℕ) → i < 2 → byteAt (stored₂ u v) t (a + i) ≡ keptIn m t (a + i) (getD (u ∷ v ∷ []) i 0)
       at zero k =
           ap (byteAt (stored₂ u v) t) (add-zero a) ∙ read-other (stored₁ u) t (a + 1) v t a (after t a 1 (lit< tt) (lit< tt))
-          ∙ read-same m t a u (span-first m t a 2 h (lit< tt))
-      at (suc zero) k = read-same (stored₁ u) t (a + 1) v (store-lent m t t a (a + 1) u ∙ span-at m t a 2 1 h (lit< tt))
+          ∙ first-kept u (span-first (touchableAt m) t a 2 h (lit< tt))
+      at (suc zero) k = second-kept u v (span-at (touchableAt m) t a 2 1 h (lit< tt))
       at (suc (suc i)) k = absurd (omega arith)
 
-  pub three-left : (u v w : ℕ) → allLent m (bytesAt (pointer a t) 3) ≡ true → BytesLeft t a (u ∷ v ∷ w ∷ []) m (stored₃ u v w)
+  pub three-left : (u v w : ℕ) → allTouchable m (bytesAt (pointer a t) 3) ≡ true → BytesLeft t a (u ∷ v ∷ w ∷ []) m (stored₃ u v w)
   three-left u v w h = record {
     stored = at;
     others = λ d b ne.
         read-other (stored₂ u v) t (a + 2) w d b (ne 2 (lit< tt)) ∙ read-other (stored₁ u) t (a + 1) v d b (ne 1 (lit< tt)) ∙ read-other m t a u d b (zeroth d b (ne 0 (lit< tt)));
   }
     where
-      at : (i : ℕ) → i < 3 → byteAt (stored₃ u v w) t (a + i) ≡ getD (u ∷ v ∷ w ∷ []) i 0
+      at : (i : ℕ) → i < 3 → byteAt (stored₃ u v w) t (a + i) ≡ keptIn m t (a + i) (getD (u ∷ v ∷ w ∷ []) i 0)
       at zero k =
           ap (byteAt (stored₃ u v w) t) (add-zero a) ∙ read-other (stored₂ u v) t (a + 2) w t a (after t a 2 (lit< tt) (lit< tt))
-          ∙ read-other (stored₁ u) t (a + 1) v t a (after t a 1 (lit< tt) (lit< tt)) ∙ read-same m t a u (span-first m t a 3 h (lit< tt))
+          ∙ read-other (stored₁ u) t (a + 1) v t a (after t a 1 (lit< tt) (lit< tt)) ∙ first-kept u (span-first (touchableAt m) t a 3 h (lit< tt))
       at (suc zero) k =
           read-other (stored₂ u v) t (a + 2) w t (a + 1) (later t a 1 2 (lit< tt) (lit< tt))
-          ∙ read-same (stored₁ u) t (a + 1) v (store-lent m t t a (a + 1) u ∙ span-at m t a 3 1 h (lit< tt))
-      at (suc (suc zero)) k =
-          read-same (stored₂ u v) t (a + 2) w (store-lent (stored₁ u) t t (a + 1) (a + 2) v ∙ store-lent m t t a (a + 2) u ∙ span-at m t a 3 2 h (lit< tt))
+          ∙ second-kept u v (span-at (touchableAt m) t a 3 1 h (lit< tt))
+      at (suc (suc zero)) k = third-kept u v w (span-at (touchableAt m) t a 3 2 h (lit< tt))
       at (suc (suc (suc i))) k = absurd (omega arith)
 
   -- a result by W
-  pub result-left : (v w : ℕ) → w < 2 → allLent m (placesOf (resultTo (pointer a t) (eqb w 1) v)) ≡ true
+  pub result-left : (v w : ℕ) → w < 2 → allTouchable m (placesOf (resultTo (pointer a t) (eqb w 1) v)) ≡ true
       → BytesLeft t a (resultBytes v w) m (changed m (resultTo (pointer a t) (eqb w 1) v))
   unfolding placesOf changed
   result-left v zero h l = one-left (v % 256) l
@@ -120,7 +143,7 @@ module _ (m : Buffers) (t : Bool) (a : ℕ) where
   result-left v (suc (suc k)) h l = absurd (omega arith)
 
   -- a pointer
-  pub pointer-left : (p : Pointer) → allLent m (placesOf (pointerTo (pointer a t) p)) ≡ true
+  pub pointer-left : (p : Pointer) → allTouchable m (placesOf (pointerTo (pointer a t) p)) ≡ true
       → BytesLeft t a (formOf (p .address) (p .tag)) m (changed m (pointerTo (pointer a t) p))
   unfolding placesOf storePointer
   pointer-left p l =
@@ -209,13 +232,13 @@ module _ {b : Bool} {s : State} {m : Buffers} {lines r dd aa w op mm : ℕ} (x :
   -- a deed that writes no register and stores bytes
   stores : {tp ix : ℕ} {k : Channel} {bytes : List ℕ} (ch : Change) → RegistersLeft (channelOf s b) k (registersAt (channelOf s b) tp ix) (tagsOf (channelOf s b))
       → deedIn s m b shape .channel ≡ k → deedIn s m b shape .change ≡ ch
-      → (allLent m (placesOf ch) ≡ true → BytesLeft (baseTag (channelOf s b) mm) (operandAddress m (channelOf s b) mm aa) bytes m (changed m ch))
+      → (allTouchable m (placesOf ch) ≡ true → BytesLeft (baseTag (channelOf s b) mm) (operandAddress m (channelOf s b) mm aa) bytes m (changed m ch))
       → Stores b s m lines mm aa bytes tp ix
   stores {tp} {ix} {k} {bytes} ch l e f left = (
     subst (λ (k′ : Channel). RegistersLeft (channelOf s b) k′ (registersAt (channelOf s b) tp ix) (tagsOf (channelOf s b))) (sym (channel-left x shape small reads ∙ e)) l,
     subst (λ (m′ : Buffers). BytesLeft (baseTag (channelOf s b) mm) (operandAddress m (channelOf s b) mm aa) bytes m m′)
         (sym (memory-left x shape small reads ∙ ap (changed m) f))
-        (left (ap (λ (z : Change). allLent m (placesOf z)) (sym f) ∙ places-lent x shape small reads)),
+        (left (ap (λ (z : Change). allTouchable m (placesOf z)) (sym f) ∙ places-touchable x shape small reads)),
   )
 
 module _ {b : Bool} {s : State} {m : Buffers} {lines : ℕ} where
@@ -583,7 +606,7 @@ module _ {b : Bool} {s : State} {m : Buffers} {lines : ℕ} where
             (sym (channel-left x (MovMemory o) (lit< tt) refl ∙ channel)) (both-left′ m c aa w mm aa₂ mm₂ (x .mode) (x .wide) (x .base) ha₂ hm₂),
         subst (λ (m′ : Buffers). BytesLeft (baseTag c mm₂) a₂ (resultBytes v w) m m′)
             (sym (memory-left x (MovMemory o) (lit< tt) refl ∙ ap (changed m) change))
-            (result-left m (baseTag c mm₂) a₂ v w (x .wide) (ap (λ (z : Change). allLent m (placesOf z)) (sym change) ∙ places-lent x (MovMemory o) (lit< tt) refl)),
+            (result-left m (baseTag c mm₂) a₂ v w (x .wide) (ap (λ (z : Change). allTouchable m (placesOf z)) (sym change) ∙ places-touchable x (MovMemory o) (lit< tt) refl)),
       )
 
 -- ---- the sheet

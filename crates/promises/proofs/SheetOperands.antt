@@ -17,7 +17,7 @@ use Rattle.decode_shapes.specs.declared.Decoded.the-variants.{Instruction}
 use Rattle.decode_shapes.specs.declared.Memory.{Memory}
 use Rattle.decode_shapes.specs.declared.Shape.{Shape}
 use Rattle.decode_shapes.specs.declared.pairs.Pair.{Pair}
-use Rattle.execute.proofs.OutcomeLaws.{done, number-is, stores-lent}
+use Rattle.execute.proofs.OutcomeLaws.{done, number-is, stores-touchable}
 use Rattle.execute.specs.Execute.{decodedAt, deedOf, deedFrom, Executed, executeOf}
 use Rattle.execute_deeds.specs.Deeds.{Deed}
 use Rattle.execute_operands.specs.Changes.{placesOf, changed}
@@ -32,7 +32,7 @@ use Rattle.machine.specs.declared.Channel.{Channel}
 use Rattle.machine.specs.declared.State.{State}
 use Rattle.memory.proofs.PlaceLaws.{byte-reduced}
 use Rattle.memory.specs.Buffers.{Buffers, byteAt, AllBytes}
-use Rattle.memory.specs.Places.{allLent}
+use Rattle.memory.specs.Places.{allTouchable}
 use Rattle.memory.specs.Values.{pointer, onward, wordAt}
 use Rattle.memory.specs.declared.Pointer.{Pointer}
 use Rattle.step.specs.Step.{Step, doneStep, settledStep, instructionStep, stepOf}
@@ -111,13 +111,13 @@ module _ {b : Bool} {s : State} {m : Buffers} {lines r dd aa w op mm : ℕ} (x :
   pub memory-left : (stepOf s m lines) .memory ≡ changed m (deedIn s m b shape .change)
   memory-left = ap (λ (o : Step). o .memory) leaves
 
-  -- the bytes that it stores to are lent
-  pub places-lent : allLent m (placesOf (deedIn s m b shape .change)) ≡ true
+  -- the bytes that it stores to may be touched
+  pub places-touchable : allTouchable m (placesOf (deedIn s m b shape .change)) ≡ true
   unfolding deedFrom
-  places-lent =
+  places-touchable =
       let c = channelOf s b in
       let busy = busyIn (blockOf s b) in
-      rw shape-is at (stores-lent c busy m (sym (number-is c busy m) ∙ none))
+      rw shape-is at (stores-touchable c busy m (sym (number-is c busy m) ∙ none))
 
 -- ---- operands
 

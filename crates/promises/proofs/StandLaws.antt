@@ -9,20 +9,21 @@ use mathlib.Core.Path.{_≡_, refl, sym, ap, ap₂, _∙_}
 use native.Mathlib.Nat.{add-zero, add-assoc}
 use native.Mathlib.Omega.{arith}
 use Rattle.memory.proofs.PlaceLaws.{index-after, lent-index, byte-index}
+use Rattle.memory.proofs.StoreLaws.{lent-touchable}
 use Rattle.memory.specs.Buffers.{Buffers, indexOf, lentAt, byteAt}
-use Rattle.memory.specs.Places.{span, allLent}
+use Rattle.memory.specs.Places.{span, allPass, allTouchable}
 use Rattle.memory.specs.declared.Pointer.{Pointer}
 use Rattle.promises.specs.Cases.{Stand}
 use Rattle.promises.specs.Premises.{Lent}
 use Rattle.promises.specs.Stages.{onBy}
 
--- bytes in a row that are lent, as a list of places
-pub span-lent : (m : Buffers) (t : Bool) (a n : ℕ) → ((i : ℕ) → i < n → lentAt m t (a + i) ≡ true) → allLent m (span t a n) ≡ true
-unfolding span allLent
-span-lent m t a zero h = refl
-span-lent m t a (suc n) h =
-    ap₂ _&&_ (ap (lentAt m t) (sym (add-zero a)) ∙ h 0 (omega arith))
-    (span-lent m t (a + 1) n (λ i l. let e : a + 1 + i ≡ a + suc i = omega arith in ap (lentAt m t) e ∙ h (suc i) (omega arith)))
+-- bytes in a row that are lent may be touched, as a list of places
+pub span-touchable : (m : Buffers) (t : Bool) (a n : ℕ) → ((i : ℕ) → i < n → lentAt m t (a + i) ≡ true) → allTouchable m (span t a n) ≡ true
+unfolding span allPass
+span-touchable m t a zero h = refl
+span-touchable m t a (suc n) h =
+    ap₂ _&&_ (lent-touchable m t a (ap (lentAt m t) (sym (add-zero a)) ∙ h 0 (omega arith)))
+    (span-touchable m t (a + 1) n (λ i l. let e : a + 1 + i ≡ a + suc i = omega arith in ap (lentAt m t) e ∙ h (suc i) (omega arith)))
 
 -- the address i after one that is k on
 pub on-index : (p : Pointer) (k i : ℕ) → indexOf (p .tag) ((p .address + k) % 1048576 + i) ≡ indexOf (p .tag) (p .address + (k + i))
@@ -49,9 +50,9 @@ module _ {m : Buffers} {p : Pointer} {bytes : List ℕ} (there : Stand m p bytes
           ∙ there .read (k + i) (within i h)
           ∙ sym (getD-drop k bytes i 0)
 
-  -- n of them from the k-th on are lent
-  pub rest-lent : (k n : ℕ) → k + n ≤ length bytes → allLent m (span (p .tag) ((p .address + k) % 1048576) n) ≡ true
-  rest-lent k n h = span-lent m (p .tag) ((p .address + k) % 1048576) n (λ i l. stand-on k .lent i (omega (arith, l, h, length-drop k bytes)))
+  -- n of them from the k-th on may be touched
+  pub rest-touchable : (k n : ℕ) → k + n ≤ length bytes → allTouchable m (span (p .tag) ((p .address + k) % 1048576) n) ≡ true
+  rest-touchable k n h = span-touchable m (p .tag) ((p .address + k) % 1048576) n (λ i l. stand-on k .lent i (omega (arith, l, h, length-drop k bytes)))
 
   -- in a memory of the same lengths that has each of them as it was, they stand too
   pub stand-kept : (m′ : Buffers) → ((u : Bool) (a : ℕ) → lentAt m′ u a ≡ lentAt m u a)

@@ -23,8 +23,8 @@ use Rattle.machine.specs.States.{freshState, idleChannel, channelOf, withChanne
 use Rattle.machine.specs.declared.Channel.{Channel}
 use Rattle.machine.specs.declared.Mode.the-variants.{Running}
 use Rattle.machine.specs.declared.State.{State}
-use Rattle.memory.specs.Buffers.{Buffers, buffers, spaceOf, limitOf, indexOf, lentAt, byteAt, storeByte, withinLimits}
-use Rattle.memory.specs.Places.{span, allLent}
+use Rattle.memory.specs.Buffers.{Buffers, buffers, spaceOf, limitOf, indexOf, lentAt, touchableAt, beyondIn, byteAt, storeByte, withinLimits}
+use Rattle.memory.specs.Places.{span, allPass}
 use Rattle.memory.specs.Values.{wordAt, doublewordAt, pointer}
 use Rattle.execute_operands.specs.Changes.{placesOf, changed}
 use Rattle.execute_operands.specs.Marks.{usedUp, pastInstruction}
@@ -54,7 +54,7 @@ busy =
 
 -- so the two attentions leave it
 both-started : startedBoth ≡ outcome 0 (both 0x18 0x1C true) busy
-unfolding both program busy freshState idleChannel attentionOf attentionNumber givenTo givenNumber unless first isChannel withinLimits limitOf sound soundChannel orderNumber stagesNumber orderStages orderTo orderOf blockOf busyIn channelOf isSecond ccwOf commandCoded fieldOf parameterBlock doublewordAt wordAt byteAt indexOf spaceOf allLent lentAt span commandNumber isKnown modeNumber isRunning others readBy storedBy settled orderedMemory writesMade writesOf marked storeByte orderedChannel channelOrdered commanded startedBy ordered copied obeyed withPsw withBit bitOf withControl withChannel
+unfolding both program busy freshState idleChannel attentionOf attentionNumber givenTo givenNumber unless first isChannel withinLimits limitOf sound soundChannel orderNumber stagesNumber orderStages orderTo orderOf blockOf busyIn channelOf isSecond ccwOf commandCoded fieldOf parameterBlock doublewordAt wordAt byteAt beyondIn indexOf spaceOf allPass touchableAt lentAt span commandNumber isKnown modeNumber isRunning others readBy storedBy settled orderedMemory writesMade writesOf marked storeByte orderedChannel channelOrdered commanded startedBy ordered copied obeyed withPsw withBit bitOf withControl withChannel
 both-started = refl
 
 -- wherever they have come to, they are such programs
@@ -68,7 +68,7 @@ both-programs tp₁ tp₂ last = record { unchained = unchained; equal = refl }
 
 -- four steps of them, each a NOP
 pub started-turns : Turns (startedBoth .state) (startedBoth .memory) (1 ∷ 2 ∷ 1 ∷ 2 ∷ [])
-unfolding both program busy withControl stepOf entryNumber givenNumber first unless withinLimits limitOf spaceOf indexOf lentAt byteAt allLent span sound soundChannel idleChannel channelOf withChannel withLast isRunning blockOf channelNumber requested external endsNow transferRank rankOf secondWins ranked choiceOf settledStep busyIn instructionStep channelStep chosenStep fieldOf bitOf decodedAt performed deedOf laterBytes laterFrom deedFrom stagesFrom instructionStages stagesNumber executeNumber executeOf onward renewed usedUp pastInstruction nopDeed placesOf changed pairOf lookup decodeOf table lengthOf dataLength displacementLength
+unfolding both program busy withControl stepOf entryNumber givenNumber first unless withinLimits limitOf spaceOf indexOf touchableAt lentAt byteAt beyondIn allPass span sound soundChannel idleChannel channelOf withChannel withLast isRunning blockOf channelNumber requested external endsNow transferRank rankOf secondWins ranked choiceOf settledStep busyIn instructionStep channelStep chosenStep fieldOf bitOf decodedAt performed deedOf laterBytes laterFrom deedFrom stagesFrom instructionStages stagesNumber executeNumber executeOf onward renewed usedUp pastInstruction nopDeed placesOf changed pairOf lookup decodeOf table lengthOf dataLength displacementLength
 started-turns =
     rw both-started
     (turn (both-programs 0x18 0x1C true) 0 refl

@@ -11,8 +11,8 @@ use Rattle.machine.specs.Psw.{withPsw}
 use Rattle.machine.specs.States.{soundChannel, isRunning}
 use Rattle.machine.specs.declared.Channel.{Channel}
 use Rattle.memory.proofs.SpanLaws.{span-at}
-use Rattle.memory.specs.Buffers.{Buffers, spaceOf, limitOf, indexOf, lentAt, byteAt, storeByte}
-use Rattle.memory.specs.Places.{span, allLent}
+use Rattle.memory.specs.Buffers.{Buffers, spaceOf, limitOf, indexOf, lentAt, touchableAt, beyondIn, byteAt, storeByte}
+use Rattle.memory.specs.Places.{span, allPass}
 use Rattle.memory.specs.Values.{onward}
 use Rattle.transfer.specs.Ends.{meetsTmc, codeIf, larger, offsetOf, endedTP, endedPSW, endedBy}
 use Rattle.machine.specs.Updates.{withTransfer}
@@ -67,35 +67,35 @@ wide-plain =
 
 -- every premise on the start, both widths 8
 pub narrow-met : Copy 5 (narrowAt 0 16 5) memoryStart
-unfolding channelWith memoryWith source destination bitOf span allLent lentAt spaceOf indexOf limitOf
+unfolding channelWith memoryWith source destination bitOf span allPass touchableAt lentAt spaceOf indexOf limitOf
 narrow-met =
     record {
       plain = narrow-plain;
       some = lit≤ tt;
       most = lit≤ tt;
       count = refl;
-      fromLent = λ i h. span-at memoryStart false 0 5 i refl h;
-      intoLent = λ i h. span-at memoryStart true 16 5 i refl h;
+      fromLent = λ i h. span-at (lentAt memoryStart) false 0 5 i refl h;
+      intoLent = λ i h. span-at (lentAt memoryStart) true 16 5 i refl h;
       apart = λ i j h h′ e x. apart e;
     }
 
 -- and both 16, in one space
 pub wide-met : Copy 5 (wideAt 8 0 5) memoryStart
-unfolding channelWith memoryWith source destination bitOf span allLent lentAt spaceOf indexOf limitOf
+unfolding channelWith memoryWith source destination bitOf span allPass touchableAt lentAt spaceOf indexOf limitOf
 wide-met =
     record {
       plain = wide-plain;
       some = lit≤ tt;
       most = lit≤ tt;
       count = refl;
-      fromLent = λ i h. span-at memoryStart false 0 5 i refl h;
-      intoLent = λ i h. span-at memoryStart false 8 5 i refl h;
+      fromLent = λ i h. span-at (lentAt memoryStart) false 0 5 i refl h;
+      intoLent = λ i h. span-at (lentAt memoryStart) false 8 5 i refl h;
       apart = λ i j h h′ e x. omega arith;
     }
 
 -- a transfer step with all that it is made of laid open, so that it computes
 unfoldable pub transferOpen : Channel → Buffers → Transfer
-unfolding channelWith memoryWith transferOf transferNumber transferStages stagesNumber first unless badMode source destination touchedByTransfer readPlaces also entryOf storedPlaces placesOn allLent lentAt spaceOf indexOf limitOf dataOf delivered fetched fetchedSecond twoMove wordSide secondAddress bitOf fieldOf storesTwo cutShort storedSingly firstMeets meetsTmc matchMet movedMemory putOn storeByte byteAt movedChannel endedBy endedTP endedPSW movedBy withTransfer gained onward bytesMoved bytesStored bytesCounted countAfter endCode codeIf larger offsetOf withPsw withBit matchOf
+unfolding channelWith memoryWith transferOf transferNumber transferStages stagesNumber first unless badMode source destination touchedByTransfer readPlaces also entryOf storedPlaces placesOn allPass touchableAt lentAt spaceOf indexOf limitOf dataOf delivered fetched fetchedSecond twoMove wordSide secondAddress bitOf fieldOf storesTwo cutShort storedSingly firstMeets meetsTmc matchMet movedMemory putOn storeByte byteAt beyondIn movedChannel endedBy endedTP endedPSW movedBy withTransfer gained onward bytesMoved bytesStored bytesCounted countAfter endCode codeIf larger offsetOf withPsw withBit matchOf
 transferOpen c m = transferOf c m
 
 -- both widths 8: the total is five

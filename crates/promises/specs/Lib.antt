@@ -25,3 +25,4 @@ pub mod SheetTurns
 pub mod SheetTransfer
 pub mod Leftover
 pub mod Sheet
+pub mod Slots

@@ -27,6 +27,7 @@ use Rattle.execute.specs.Execute.{decodedAt}
 use Rattle.step.specs.declared.turns.Choice.the-variants.{Steps}
 use Rattle.step.specs.Choosing.{choiceOf}
 use Rattle.step.specs.Step.{Step, stepOf}
+use Rattle.promises.specs.Premises.{Lent}
 
 -- the stored form of an address with its tag, read back, is that address and that tag
 pub record FormKept (address : ℕ) (tag : Bool) : Type 0 where
@@ -81,6 +82,8 @@ SameThree at m m′ = (i : ℕ) → i < 3 → byteAt m′ (at .tag) (at .address
 pub record LoadsFrom (k : StepCall) (at : Pointer) (k′ : StepCall) (r : ℕ) (o : Memory) : Type 0 where
   pub loads : Executes k′ (MovpLoad r o)
   pub place : operandOf k′ (MovpLoad r o) o ≡ at
+  -- the three bytes there are lent: an empty slot keeps nothing (§1.3)
+  pub lent : Lent (k .memory) at 3
   -- in between nothing wrote there
   pub bytes : SameThree at (leftBy k .memory) (k′ .memory)
 

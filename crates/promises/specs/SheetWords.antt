@@ -4,21 +4,23 @@ use mathlib.Core.List.{List, [], _∷_}
 use mathlib.Core.Path.{_≡_}
 use Prim.Native.Nat.{ℕ, _+_, _*_, _/_, _%_, _^_}
 use lib.Dec.{eqb, ltb}
-use lib.ListN.{getD, set}
+use lib.ListN.{length, getD, set}
 use Rattle.words.specs.Choice.{pick}
-use Rattle.memory.specs.Buffers.{Buffers, buffers, indexOf, byteAt, storeByte}
+use Rattle.memory.specs.Buffers.{Buffers, buffers, indexOf, lentAt, byteAt, storeByte}
 use Rattle.machine.specs.Psw.{transferring}
 use Rattle.machine.specs.States.{channelOf, channelNumber}
 use Rattle.machine.specs.declared.Channel.{Channel}
 use Rattle.machine.specs.declared.State.{State}
 
--- the names that the sheet takes from the floors below, in fields and numbers: where bytes lie, what a read gives and a store leaves (§1.2), which
--- channel is which (§2.7), and XF (§2.3)
+-- the names that the sheet takes from the floors below, in fields and numbers: where bytes lie, which are lent, what a read gives and a store
+-- leaves (§1.2, §1.3), which channel is which (§2.7), and XF (§2.3)
 pub record Names : Type 0 where
   pub systemIndex : (a : ℕ) → indexOf false a ≡ a % 1048576
   pub ioIndex : (a : ℕ) → indexOf true a ≡ a % 65536
   pub systemRead : (m : Buffers) (a : ℕ) → byteAt m false a ≡ getD (m .sys) (a % 1048576) 0
-  pub ioRead : (m : Buffers) (a : ℕ) → byteAt m true a ≡ getD (m .io) (a % 65536) 0
+  pub ioRead : (m : Buffers) (a : ℕ) → byteAt m true a ≡ getD (m .io) (a % 65536) 0xFF
+  pub systemLent : (m : Buffers) (a : ℕ) → lentAt m false a ≡ ltb (a % 1048576) (length (m .sys))
+  pub ioLent : (m : Buffers) (a : ℕ) → lentAt m true a ≡ ltb (a % 65536) (length (m .io))
   pub systemStore : (m : Buffers) (a v : ℕ) → storeByte m false a v ≡ buffers (set (m .sys) (a % 1048576) v) (m .io)
   pub ioStore : (m : Buffers) (a v : ℕ) → storeByte m true a v ≡ buffers (m .sys) (set (m .io) (a % 65536) v)
   pub first : (s : State) → channelOf s false ≡ s .first

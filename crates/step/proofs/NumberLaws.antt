@@ -11,7 +11,7 @@ use Rattle.decode_shapes.specs.declared.Decoded.the-variants.{Instruction}
 use Rattle.execute.proofs.NumberLaws.{number-given as instruction-given, exactly-2 as own-2, exactly-3 as own-3, exactly-4 as own-4, exactly-0 as own-0, two-where}
 use Rattle.execute.specs.Conditions.{instructionChecks as instructionChecks, InstructionGiven2, InstructionGiven3, InstructionGiven4, InstructionGiven0}
 use Rattle.execute.specs.Execute.{decodedAt, touchedByInstruction, executeOf}
-use Rattle.machine.proofs.ConditionLaws.{Told, step, last, rewritten, first-assoc, skip, hit, end, never, upTo, given-most, up-to-either, told-ltb, told-limits, told-sound, told-lent, told-by, says-true, says-eqb, says-and, says-or}
+use Rattle.machine.proofs.ConditionLaws.{Told, step, last, rewritten, first-assoc, skip, hit, end, never, upTo, given-most, up-to-either, told-ltb, told-limits, told-sound, told-touchable, told-by, says-true, says-eqb, says-and, says-or}
 use Rattle.machine.specs.Cc.{synchronised, translates}
 use Rattle.machine.specs.Conditions.{check, Given, TooLong, NotSound, Beyond}
 use Rattle.machine.specs.Outcomes.{first, unless, givenNumber}
@@ -21,7 +21,7 @@ use Rattle.machine.specs.States.{channelOf, blockOf, busyIn, sound}
 use Rattle.machine.specs.declared.Channel.{Channel}
 use Rattle.machine.specs.declared.State.{State}
 use Rattle.memory.specs.Buffers.{Buffers, withinLimits}
-use Rattle.memory.specs.Places.{allLent}
+use Rattle.memory.specs.Places.{allPass, allTouchable}
 use Rattle.transfer.proofs.StepLaws.{chain, two-touched}
 use Rattle.transfer.specs.Reads.{dataOf}
 use Rattle.transfer.specs.Sides.{source, destination}
@@ -59,7 +59,7 @@ in-order s m lines =
 
 -- ---- the number of who was chosen
 
-settled-number : (number : ℕ) (s : State) (m : Buffers) (b : Bool) (c : Channel) (m′ : Buffers) (kind : Kind) → (settledStep number s m b c m′ kind) .number ≡ number
+pub settled-number : (number : ℕ) (s : State) (m : Buffers) (b : Bool) (c : Channel) (m′ : Buffers) (kind : Kind) → (settledStep number s m b c m′ kind) .number ≡ number
 unfolding settledStep
 settled-number zero s m b c m′ kind = refl
 settled-number (suc n) s m b c m′ kind = rw (eqb·suc-zero n)
@@ -78,7 +78,7 @@ unfolding badMode source destination
 told-bad c = told-by (says-or (says-eqb (synchronised (c .cc)) 3) (says-and (says-true (translates (c .cc))) (says-or (says-true (sourceWide (c .psw))) (says-true (destinationWide (c .psw))))))
 
 transfer-given : (c : Channel) (m : Buffers) (n : ℕ) → ((transferOf c m) .number ≡ n) ↔ Given (transferChecks c m) n
-transfer-given c m n = rewritten (moved-number c m ∙ chain c m) (step 5 refl (told-bad c) (last n 2 refl (told-lent m (touchedByTransfer c m))))
+transfer-given c m n = rewritten (moved-number c m ∙ chain c m) (step 5 refl (told-bad c) (last n 2 refl (told-touchable m (touchedByTransfer c m))))
 
 -- a check that does not apply
 passed : {A G : Type 0} {x n : ℕ} (k : ℕ) → ¬ A → ((x ≡ n) ↔ G) → (x ≡ n) ↔ ((A × (n ≡ k)) ⊎ (¬ A × G))
@@ -250,7 +250,7 @@ module _ (s : State) (m : Buffers) (lines : ℕ) where
       bad : (b : Bool) → Given (transferChecks (channelOf s b) m) 5 ↔ BadTransfer (channelOf s b)
       bad b = hit (never 5 (check 2 (Beyond m (touchedByTransfer (channelOf s b) m)) ∷ []) refl)
 
-  -- 2, of a transfer step or an instruction: a byte that it touches is not lent
+  -- 2, of a transfer step or an instruction: a byte that it would touch may not be touched
   pub exactly-2 : ((stepOf s m lines) .number ≡ 2)
       ↔ StepAfterGiven s m lines
       (OnTransfer (choiceOf s lines) s (λ b. ¬ (BadTransfer (channelOf s b)) × Beyond m (touchedByTransfer (channelOf s b) m)) ⊎ OnInstruction (choiceOf s lines) s (λ b. InstructionGiven2 (decodedAt m (channelOf s b .tp)) m (channelOf s b) (busyIn (blockOf s b))))
@@ -269,24 +269,24 @@ module _ (s : State) (m : Buffers) (lines : ℕ) where
       of-2 : (b : Bool) → Given (instructionChecks m (channelOf s b) (busyIn (blockOf s b))) 2 ↔ InstructionGiven2 (decodedAt m (channelOf s b .tp)) m (channelOf s b) (busyIn (blockOf s b))
       of-2 b = by-instruction 2 b (own-2 m (channelOf s b) (busyIn (blockOf s b)))
 
-  -- that is, exactly where a byte of the chosen channel's list, up to the stage where it stops, is not lent
-  pub two-exactly : ((stepOf s m lines) .number ≡ 2) ↔ StepAfterGiven s m lines (allLent m (reachedIn (choiceOf s lines) s m) ≡ false)
-  unfolding Own reachedIn allLent
+  -- that is, exactly where a byte of the chosen channel's list, up to the stage where it stops, may not be touched
+  pub two-exactly : ((stepOf s m lines) .number ≡ 2) ↔ StepAfterGiven s m lines (allTouchable m (reachedIn (choiceOf s lines) s m) ≡ false)
+  unfolding Own reachedIn allPass
   two-exactly = own-number 2 refl refl refl refl (go (choiceOf s lines))
     where
-      transfer : (b : Bool) → Given (transferChecks (channelOf s b) m) 2 ↔ (allLent m (stagesTouched (transferStages (channelOf s b) m)) ≡ false)
+      transfer : (b : Bool) → Given (transferChecks (channelOf s b) m) 2 ↔ (allTouchable m (stagesTouched (transferStages (channelOf s b) m)) ≡ false)
       transfer b =
           let c = channelOf s b in
           (λ g. two-touched c m .0 (sym (moved-number c m) ∙ transfer-given c m 2 .1 g), λ h. transfer-given c m 2 .0 (moved-number c m ∙ two-touched c m .1 h))
 
       turn : (b x : Bool) → (⊥ ⊎ (((x ≡ true) × Given (transferChecks (channelOf s b) m) 2) ⊎ ((x ≡ false) × Given (instructionChecks m (channelOf s b) (busyIn (blockOf s b))) 2)))
-          ↔ (allLent m (pick x (stagesTouched (transferStages (channelOf s b) m)) (touchedByInstruction m (channelOf s b) (busyIn (blockOf s b)))) ≡ false)
+          ↔ (allTouchable m (pick x (stagesTouched (transferStages (channelOf s b) m)) (touchedByInstruction m (channelOf s b) (busyIn (blockOf s b)))) ≡ false)
       turn b true = (⊎-elim (λ h. absurd h) (⊎-elim (λ h. transfer b .0 (h .1)) (λ h. apart (h .0))), λ h. inr (inl (refl, transfer b .1 h)))
       turn b false =
           let q = by-instruction 2 b (two-where m (channelOf s b) (busyIn (blockOf s b))) in
           (⊎-elim (λ h. absurd h) (⊎-elim (λ h. apart (sym (h .0))) (λ h. q .0 (h .1))), λ h. inr (inr (refl, q .1 h)))
 
-      go : (x : Choice) → Own x 2 ↔ (allLent m (reachedIn x s m) ≡ false)
+      go : (x : Choice) → Own x 2 ↔ (allTouchable m (reachedIn x s m) ≡ false)
       go Nobody = (⊎-elim (λ h. absurd h) (⊎-elim (λ h. absurd h) (λ h. absurd h)), λ h. apart h)
       go (Ends b) = (⊎-elim (λ h. absurd (eqb-false 2 0 refl h)) (⊎-elim (λ h. absurd h) (λ h. absurd h)), λ h. apart h)
       go (Steps b) = turn b (transferring (channelOf s b .psw))

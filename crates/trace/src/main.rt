@@ -12,7 +12,9 @@ fn say(words: &[u8]) {
 fn explain(number: u32) {
     match number {
         1 => say(b"no channel can run\n"),
-        2 => say(b"refused: 2, a byte to be read or stored lies beyond lent memory\n"),
+        2 => say(
+            b"refused: 2, a byte of system space to be read or stored lies beyond lent memory\n",
+        ),
         3 => say(b"refused: 3, the bytes are no instruction\n"),
         4 => say(b"refused: 4, CC is used by another instruction than MOV or MOVI\n"),
         5 => say(b"refused: 5, a transfer with SYN 11, or a translation with a 16-bit side\n"),

@@ -9,9 +9,9 @@ use native.Mathlib.Omega.{arith}
 use Rattle.machine.specs.Cc.{destinationMoves, sourceMoves, translates, synchronised, sourceIsGB, singleTransfer, countEnd, matchEnd}
 use Rattle.machine.specs.Psw.{destinationWide, sourceWide}
 use Rattle.machine.specs.declared.Channel.{Channel}
-use Rattle.memory.proofs.PlaceLaws.{index-reduced, lent-index, byte-reduced, store-reduced}
-use Rattle.memory.specs.Buffers.{Buffers, lentAt, byteAt, storeByte}
-use Rattle.memory.specs.Places.{allLent}
+use Rattle.memory.proofs.PlaceLaws.{index-reduced, touchable-index, byte-reduced, store-reduced}
+use Rattle.memory.specs.Buffers.{Buffers, touchableAt, byteAt, storeByte}
+use Rattle.memory.specs.Places.{allTouchable}
 use Rattle.memory.specs.declared.Pointer.{Pointer}
 use Rattle.words.proofs.ChoiceLaws.{pick-same, and-true, and-false, or-true, pick-under}
 use Rattle.words.specs.Bits.{bitOf}
@@ -29,7 +29,7 @@ use Rattle.transfer.proofs.KeptLaws.{ga-after, gb-after, ended-none}
 use Rattle.transfer.proofs.LeftoverLaws.{whole-counts}
 use Rattle.transfer.proofs.MatchLaws.{off-whole, off-stores, off-unmet}
 use Rattle.transfer.proofs.StepLaws.{outcome-0}
-use Rattle.transfer.proofs.TouchLaws.{reads-lent, places-lent, touched-lent}
+use Rattle.transfer.proofs.TouchLaws.{reads-touchable, places-touchable, touched-all}
 
 -- the CC of such a transfer: both sides move on, no translation, TMC off, TS 0, TBC on
 pub record Block (cc : ℕ) : Type 0 where
@@ -167,9 +167,9 @@ block-last c d k e = block-channel c d k ∙ rw (eq-eqb (remaining c) 0 e)
 
 -- ---- the memory
 
--- a reduced address is lent where the address itself is
-lent-reduced : (m : Buffers) (t : Bool) (a : ℕ) → lentAt m t (a % 1048576) ≡ lentAt m t a
-lent-reduced m t a = lent-index m t (a % 1048576) a (index-reduced t a)
+-- a reduced address may be touched where the address itself may
+touchable-reduced : (m : Buffers) (t : Bool) (a : ℕ) → touchableAt m t (a % 1048576) ≡ touchableAt m t a
+touchable-reduced m t a = touchable-index m t (a % 1048576) a (index-reduced t a)
 
 -- the second byte of a side that moves on is the next one
 next : (s : Side) → s .moves ≡ true → secondAddress s ≡ sum20 (s .pointer .address) 1
@@ -211,34 +211,34 @@ pub block-mode : (c : Channel) → Block (c .cc) → (synchronised (c .cc) ≡ 3
 unfolding badMode
 block-mode c k ne = rw (ne-eqb (synchronised (c .cc)) 3 ne, k .plain)
 
--- the bytes that a step of one touches are lent where the two sides' are
-block-lent : (c : Channel) (m : Buffers) → Block (c .cc) → twoMove c ≡ false
-    → lentAt m ((source c) .pointer .tag) ((source c) .pointer .address) ≡ true → lentAt m ((destination c) .pointer .tag) ((destination c) .pointer .address) ≡ true
-    → allLent m (touchedByTransfer c m) ≡ true
+-- the bytes of a step of one may be touched where the two sides' may
+block-touchable : (c : Channel) (m : Buffers) → Block (c .cc) → twoMove c ≡ false
+    → touchableAt m ((source c) .pointer .tag) ((source c) .pointer .address) ≡ true → touchableAt m ((destination c) .pointer .tag) ((destination c) .pointer .address) ≡ true
+    → allTouchable m (touchedByTransfer c m) ≡ true
 unfolding storedPlaces
-block-lent c m k h s d = touched-lent c m ∙ rw (reads-lent, places-lent, block-stores c (dataOf c m) k, h, k .plain, s, d)
+block-touchable c m k h s d = touched-all c m ∙ rw (reads-touchable, places-touchable, block-stores c (dataOf c m) k, h, k .plain, s, d)
 
-block-lent-two : (c : Channel) (m : Buffers) → Block (c .cc) → twoMove c ≡ true
-    → lentAt m ((source c) .pointer .tag) ((source c) .pointer .address) ≡ true → lentAt m ((source c) .pointer .tag) ((source c) .pointer .address + 1) ≡ true
-    → lentAt m ((destination c) .pointer .tag) ((destination c) .pointer .address) ≡ true → lentAt m ((destination c) .pointer .tag) ((destination c) .pointer .address + 1) ≡ true
-    → allLent m (touchedByTransfer c m) ≡ true
+block-touchable-two : (c : Channel) (m : Buffers) → Block (c .cc) → twoMove c ≡ true
+    → touchableAt m ((source c) .pointer .tag) ((source c) .pointer .address) ≡ true → touchableAt m ((source c) .pointer .tag) ((source c) .pointer .address + 1) ≡ true
+    → touchableAt m ((destination c) .pointer .tag) ((destination c) .pointer .address) ≡ true → touchableAt m ((destination c) .pointer .tag) ((destination c) .pointer .address + 1) ≡ true
+    → allTouchable m (touchedByTransfer c m) ≡ true
 unfolding storedPlaces
-block-lent-two c m k h s s′ d d′ =
+block-touchable-two c m k h s s′ d d′ =
     let p = (source c) .pointer in
     let q = (destination c) .pointer in
-    touched-lent c m
-    ∙ rw (reads-lent, places-lent, block-stores c (dataOf c m) k, h, k .plain, next-source c k, next-destination c k, s, d, lent-reduced m (p .tag) (p .address + 1), s′, lent-reduced m (q .tag) (q .address + 1), d′)
+    touched-all c m
+    ∙ rw (reads-touchable, places-touchable, block-stores c (dataOf c m) k, h, k .plain, next-source c k, next-destination c k, s, d, touchable-reduced m (p .tag) (p .address + 1), s′, touchable-reduced m (q .tag) (q .address + 1), d′)
 
 -- a step of one byte, whole
 pub block-step : (c : Channel) (m : Buffers) → Block (c .cc) → (synchronised (c .cc) ≡ 3 → ⊥) → twoMove c ≡ false
-    → lentAt m ((source c) .pointer .tag) ((source c) .pointer .address) ≡ true → lentAt m ((destination c) .pointer .tag) ((destination c) .pointer .address) ≡ true
+    → touchableAt m ((source c) .pointer .tag) ((source c) .pointer .address) ≡ true → touchableAt m ((destination c) .pointer .tag) ((destination c) .pointer .address) ≡ true
     → transferOf c m ≡ transferred 0 (movedChannel c (dataOf c m)) (copied c m)
-block-step c m k ne h s d = outcome-0 c m (block-mode c k ne) (block-lent c m k h s d) ∙ ap (transferred 0 (movedChannel c (dataOf c m))) (block-copies c m k h)
+block-step c m k ne h s d = outcome-0 c m (block-mode c k ne) (block-touchable c m k h s d) ∙ ap (transferred 0 (movedChannel c (dataOf c m))) (block-copies c m k h)
 
 -- a step of two bytes, whole
 pub block-step-two : (c : Channel) (m : Buffers) → Block (c .cc) → (synchronised (c .cc) ≡ 3 → ⊥) → twoMove c ≡ true
-    → lentAt m ((source c) .pointer .tag) ((source c) .pointer .address) ≡ true → lentAt m ((source c) .pointer .tag) ((source c) .pointer .address + 1) ≡ true
-    → lentAt m ((destination c) .pointer .tag) ((destination c) .pointer .address) ≡ true → lentAt m ((destination c) .pointer .tag) ((destination c) .pointer .address + 1) ≡ true
+    → touchableAt m ((source c) .pointer .tag) ((source c) .pointer .address) ≡ true → touchableAt m ((source c) .pointer .tag) ((source c) .pointer .address + 1) ≡ true
+    → touchableAt m ((destination c) .pointer .tag) ((destination c) .pointer .address) ≡ true → touchableAt m ((destination c) .pointer .tag) ((destination c) .pointer .address + 1) ≡ true
     → transferOf c m ≡ transferred 0 (movedChannel c (dataOf c m)) (copiedTwo c m)
 block-step-two c m k ne h s s′ d d′ =
-    outcome-0 c m (block-mode c k ne) (block-lent-two c m k h s s′ d d′) ∙ ap (transferred 0 (movedChannel c (dataOf c m))) (block-copies-two c m k h)
+    outcome-0 c m (block-mode c k ne) (block-touchable-two c m k h s s′ d d′) ∙ ap (transferred 0 (movedChannel c (dataOf c m))) (block-copies-two c m k h)

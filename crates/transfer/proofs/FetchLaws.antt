@@ -7,8 +7,8 @@ use mathlib.Core.Path.{_≡_, refl, sym}
 use Rattle.machine.specs.Cc.{translates, synchronised}
 use Rattle.machine.specs.Psw.{destinationWide, sourceWide}
 use Rattle.machine.specs.declared.Channel.{Channel}
-use Rattle.memory.specs.Buffers.{Buffers, lentAt, byteAt}
-use Rattle.memory.specs.Places.{allLent}
+use Rattle.memory.specs.Buffers.{Buffers, touchableAt, byteAt}
+use Rattle.memory.specs.Places.{allTouchable}
 use Rattle.words.proofs.ChoiceLaws.{apart}
 use Rattle.words.specs.Choice.{pick}
 use Rattle.words.specs.Bits.{bitOf}
@@ -18,7 +18,7 @@ use Rattle.transfer.specs.Reads.{fetched, fetchedSecond, entryOf, delive
 use Rattle.transfer.specs.Sides.{source, destination, wordSide, secondAddress, countOn, twoMove, setupOf}
 use Rattle.transfer.specs.Steps.{badMode}
 use Rattle.transfer.specs.declared.Setup.{Setup}
-use Rattle.transfer.proofs.TouchLaws.{reads-lent}
+use Rattle.transfer.proofs.TouchLaws.{reads-touchable}
 
 -- where no mode is bad, a step of two bytes does not translate
 two-plain : (c : Channel) → badMode c ≡ false → twoMove c ≡ true → translates (c .cc) ≡ false
@@ -34,60 +34,60 @@ two-plain c e f =
     go false true false true x y k e f = apart e
     go false true false false x y k e f = apart (sym f)
 
--- whether what is read is lent, and what it is where it is
-pub fetch-lent : (c : Channel) (m : Buffers) → (fetchOf c m) .lent ≡ allLent m (readPlaces c m)
+-- whether what is read may be touched, and what it is where it may
+pub fetch-touchable : (c : Channel) (m : Buffers) → (fetchOf c m) .touchable ≡ allTouchable m (readPlaces c m)
 unfolding fetchOf
-fetch-lent c m = go (allLent m (readPlaces c m))
+fetch-touchable c m = go (allTouchable m (readPlaces c m))
   where
-    go : (b : Bool) → (pick b (here (delivered c m) (fetchedSecond c m)) beyond) .lent ≡ b
+    go : (b : Bool) → (pick b (here (delivered c m) (fetchedSecond c m)) beyond) .touchable ≡ b
     go true = refl
     go false = refl
 
-pub fetch-bytes : (c : Channel) (m : Buffers) → (fetchOf c m) .lent ≡ true → (fetchOf c m) .bytes ≡ dataOf c m
+pub fetch-bytes : (c : Channel) (m : Buffers) → (fetchOf c m) .touchable ≡ true → (fetchOf c m) .bytes ≡ dataOf c m
 unfolding fetchOf dataOf
-fetch-bytes c m = go (allLent m (readPlaces c m))
+fetch-bytes c m = go (allTouchable m (readPlaces c m))
   where
-    go : (b : Bool) → (pick b (here (delivered c m) (fetchedSecond c m)) beyond) .lent ≡ true → (pick b (here (delivered c m) (fetchedSecond c m)) beyond) .bytes ≡ dataOf c m
+    go : (b : Bool) → (pick b (here (delivered c m) (fetchedSecond c m)) beyond) .touchable ≡ true → (pick b (here (delivered c m) (fetchedSecond c m)) beyond) .bytes ≡ dataOf c m
     go true h = refl
     go false h = apart (sym h)
 
 module _ (c : Channel) (m : Buffers) (p : Setup) (known : p ≡ setupOf c) where
-  -- the source's byte, as a step looks at it: whether it is lent, and what it is
-  abbrev SourceLent : Bool → Type 0
-  SourceLent b = lentAt m (p .source .pointer .tag) (p .source .pointer .address) ≡ b
+  -- the source's byte, as a step looks at it: whether it may be touched, and what it is
+  abbrev SourceTouchable : Bool → Type 0
+  SourceTouchable b = touchableAt m (p .source .pointer .tag) (p .source .pointer .address) ≡ b
 
   abbrev SourceIs : ℕ → Type 0
   SourceIs first = first ≡ byteAt m (p .source .pointer .tag) (p .source .pointer .address)
 
-  -- it is not lent
-  pub source-beyond : SourceLent false → fetchOf c m ≡ beyond
+  -- it may not be touched
+  pub source-beyond : SourceTouchable false → fetchOf c m ≡ beyond
   unfolding fetchOf setupOf
-  source-beyond = rw known (λ h. rw (reads-lent, h))
+  source-beyond = rw known (λ h. rw (reads-touchable, h))
 
-  -- of two bytes the second is not lent
-  pub second-beyond : (next : ℕ) → SourceLent true → p .two ≡ true → next ≡ secondAddress (p .source) → lentAt m (p .source .pointer .tag) next ≡ false → fetchOf c m ≡ beyond
+  -- of two bytes the second may not be touched
+  pub second-beyond : (next : ℕ) → SourceTouchable true → p .two ≡ true → next ≡ secondAddress (p .source) → touchableAt m (p .source .pointer .tag) next ≡ false → fetchOf c m ≡ beyond
   unfolding fetchOf setupOf
-  second-beyond next = rw known (λ h two n l. rw (reads-lent, h, two, rw n at l))
+  second-beyond next = rw known (λ h two n l. rw (reads-touchable, h, two, rw n at l))
 
   -- both are read
-  pub both-read : (first next : ℕ) → badMode c ≡ false → SourceLent true → SourceIs first → p .two ≡ true → next ≡ secondAddress (p .source)
-      → lentAt m (p .source .pointer .tag) next ≡ true → fetchOf c m ≡ here first (byteAt m (p .source .pointer .tag) next)
+  pub both-read : (first next : ℕ) → badMode c ≡ false → SourceTouchable true → SourceIs first → p .two ≡ true → next ≡ secondAddress (p .source)
+      → touchableAt m (p .source .pointer .tag) next ≡ true → fetchOf c m ≡ here first (byteAt m (p .source .pointer .tag) next)
   unfolding fetchOf setupOf delivered fetched fetchedSecond
-  both-read first next bad = rw known (λ h e two n l. rw (reads-lent, h, two, rw n at l, two-plain c bad two, e, n))
+  both-read first next bad = rw known (λ h e two n l. rw (reads-touchable, h, two, rw n at l, two-plain c bad two, e, n))
 
-  -- of one that is translated, what stands for it is not lent
-  pub entry-beyond : (first entry : ℕ) → SourceLent true → SourceIs first → p .two ≡ false → p .translates ≡ true → entry ≡ sum20 (c .gc .address) first
-      → lentAt m (c .gc .tag) entry ≡ false → fetchOf c m ≡ beyond
+  -- of one that is translated, what stands for it may not be touched
+  pub entry-beyond : (first entry : ℕ) → SourceTouchable true → SourceIs first → p .two ≡ false → p .translates ≡ true → entry ≡ sum20 (c .gc .address) first
+      → touchableAt m (c .gc .tag) entry ≡ false → fetchOf c m ≡ beyond
   unfolding fetchOf setupOf entryOf fetched
-  entry-beyond first entry = rw known (λ h e one on n l. rw (reads-lent, h, one, on, rw (n, e) at l))
+  entry-beyond first entry = rw known (λ h e one on n l. rw (reads-touchable, h, one, on, rw (n, e) at l))
 
   -- it is read
-  pub translated : (first entry : ℕ) → SourceLent true → SourceIs first → p .two ≡ false → p .translates ≡ true → entry ≡ sum20 (c .gc .address) first
-      → lentAt m (c .gc .tag) entry ≡ true → fetchOf c m ≡ here (byteAt m (c .gc .tag) entry) 0
+  pub translated : (first entry : ℕ) → SourceTouchable true → SourceIs first → p .two ≡ false → p .translates ≡ true → entry ≡ sum20 (c .gc .address) first
+      → touchableAt m (c .gc .tag) entry ≡ true → fetchOf c m ≡ here (byteAt m (c .gc .tag) entry) 0
   unfolding fetchOf setupOf delivered entryOf fetched fetchedSecond
-  translated first entry = rw known (λ h e one on n l. rw (reads-lent, h, one, on, rw (n, e) at l, n, e))
+  translated first entry = rw known (λ h e one on n l. rw (reads-touchable, h, one, on, rw (n, e) at l, n, e))
 
   -- one byte as it is
-  pub one-read : (first : ℕ) → SourceLent true → SourceIs first → p .two ≡ false → p .translates ≡ false → fetchOf c m ≡ here first 0
+  pub one-read : (first : ℕ) → SourceTouchable true → SourceIs first → p .two ≡ false → p .translates ≡ false → fetchOf c m ≡ here first 0
   unfolding fetchOf setupOf delivered fetched fetchedSecond
-  one-read first = rw known (λ h e one off. rw (reads-lent, h, one, off, e))
+  one-read first = rw known (λ h e one off. rw (reads-touchable, h, one, off, e))

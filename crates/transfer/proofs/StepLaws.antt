@@ -11,7 +11,7 @@ use Rattle.machine.specs.Outcomes.{unless, first}
 use Rattle.machine.specs.Stages.{stagesNumber, stagesTouched}
 use Rattle.machine.specs.declared.Channel.{Channel}
 use Rattle.memory.specs.Buffers.{Buffers}
-use Rattle.memory.specs.Places.{allLent}
+use Rattle.memory.specs.Places.{allPass, allTouchable}
 use Rattle.transfer.specs.Ends.{externallyEnded}
 use Rattle.transfer.specs.Reads.{dataOf}
 use Rattle.transfer.specs.Steps.{Transfer, transferred, touchedByTransfer, badMode, transferStages, TransferGiven5, TransferGiven2, TransferGiven0, transferNumber, transferOf}
@@ -26,22 +26,22 @@ pub unique-end : (c r r′ : Channel) → r ≡ externallyEnded c → r′ ≡ e
 unique-end c r r′ e e′ = e ∙ sym e′
 
 -- the stages in one chain: 5, then 2
-pub chain : (c : Channel) (m : Buffers) → transferNumber c m ≡ first (unless (not (badMode c)) 5) (unless (allLent m (touchedByTransfer c m)) 2)
-unfolding transferNumber transferStages stagesNumber allLent first unless
-chain c m = ap (first (unless (not (badMode c)) 5)) (first-right (unless (allLent m (touchedByTransfer c m)) 2))
+pub chain : (c : Channel) (m : Buffers) → transferNumber c m ≡ first (unless (not (badMode c)) 5) (unless (allTouchable m (touchedByTransfer c m)) 2)
+unfolding transferNumber transferStages stagesNumber allPass first unless
+chain c m = ap (first (unless (not (badMode c)) 5)) (first-right (unless (allTouchable m (touchedByTransfer c m)) 2))
 
 -- a bad mode is 5, and nothing changes
 pub outcome-5 : (c : Channel) (m : Buffers) → badMode c ≡ true → transferOf c m ≡ transferred 5 c m
 unfolding transferOf first unless
 outcome-5 c m h = rw (chain c m, h)
 
--- else a byte beyond lent memory is 2, and nothing changes
-pub outcome-2 : (c : Channel) (m : Buffers) → badMode c ≡ false → allLent m (touchedByTransfer c m) ≡ false → transferOf c m ≡ transferred 2 c m
+-- else a byte of system space beyond lent memory is 2, and nothing changes
+pub outcome-2 : (c : Channel) (m : Buffers) → badMode c ≡ false → allTouchable m (touchedByTransfer c m) ≡ false → transferOf c m ≡ transferred 2 c m
 unfolding transferOf first unless
 outcome-2 c m h l = rw (chain c m, h, l)
 
 -- else the step is done
-pub outcome-0 : (c : Channel) (m : Buffers) → badMode c ≡ false → allLent m (touchedByTransfer c m) ≡ true
+pub outcome-0 : (c : Channel) (m : Buffers) → badMode c ≡ false → allTouchable m (touchedByTransfer c m) ≡ true
     → transferOf c m ≡ transferred 0 (movedChannel c (dataOf c m)) (movedMemory c (dataOf c m) m)
 unfolding transferOf first unless
 outcome-0 c m h l = rw (chain c m, h, l)
@@ -52,9 +52,9 @@ pub by-number : (c : Channel) (m : Buffers) (P : Transfer → Type 0)
     → (TransferGiven2 c m → P (transferred 2 c m))
     → (TransferGiven0 c m → P (transferred 0 (movedChannel c (dataOf c m)) (movedMemory c (dataOf c m) m)))
     → P (transferOf c m)
-by-number c m P p5 p2 p0 = go (badMode c) refl (allLent m (touchedByTransfer c m)) refl
+by-number c m P p5 p2 p0 = go (badMode c) refl (allTouchable m (touchedByTransfer c m)) refl
   where
-    go : (b : Bool) → badMode c ≡ b → (l : Bool) → allLent m (touchedByTransfer c m) ≡ l → P (transferOf c m)
+    go : (b : Bool) → badMode c ≡ b → (l : Bool) → allTouchable m (touchedByTransfer c m) ≡ l → P (transferOf c m)
     go true h l e = rw (outcome-5 c m h) (p5 h)
     go false h false e = rw (outcome-2 c m h e) (p2 (h, e))
     go false h true e = rw (outcome-0 c m h e) (p0 (h, e))
@@ -63,12 +63,12 @@ by-number c m P p5 p2 p0 = go (badMode c) refl (allLent m (touchedByTransfer c m
 pub exactly-5 : (c : Channel) (m : Buffers) → (transferOf c m) .number ≡ 5 ↔ TransferGiven5 c
 exactly-5 c m = (by-number c m (λ o. o .number ≡ 5 → TransferGiven5 c) (λ g e. g) (λ g e. absurd (eqb-false 2 5 refl e)) (λ g e. absurd (eqb-false 0 5 refl e)), λ g. ap (λ (o : Transfer). o .number) (outcome-5 c m g))
 
--- it is 2 exactly where the mode is right and a byte to be read or stored lies beyond lent memory
+-- it is 2 exactly where the mode is right and a byte to be read or stored is of system space and beyond lent memory
 pub exactly-2 : (c : Channel) (m : Buffers) → (transferOf c m) .number ≡ 2 ↔ TransferGiven2 c m
 exactly-2 c m = (by-number c m (λ o. o .number ≡ 2 → TransferGiven2 c m) (λ g e. absurd (eqb-false 5 2 refl e)) (λ g e. g) (λ g e. absurd (eqb-false 0 2 refl e)), λ g. ap (λ (o : Transfer). o .number) (outcome-2 c m (g .0) (g .1)))
 
--- that is, exactly where a byte that the step touches, up to the stage where it stops, is not lent
-pub two-touched : (c : Channel) (m : Buffers) → (transferNumber c m ≡ 2) ↔ (allLent m (stagesTouched (transferStages c m)) ≡ false)
+-- that is, exactly where a byte that the step would touch, up to the stage where it stops, may not be touched
+pub two-touched : (c : Channel) (m : Buffers) → (transferNumber c m ≡ 2) ↔ (allTouchable m (stagesTouched (transferStages c m)) ≡ false)
 unfolding transferNumber transferStages unless
 two-touched c m = two-exactly m (transferStages c m) (other (badMode c), (refl, tt))
   where

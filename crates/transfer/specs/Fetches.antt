@@ -1,21 +1,21 @@
--- What reading for a transfer step comes to: the bytes to be stored, or nothing where one that is read is not lent.
+-- What reading for a transfer step comes to: the bytes to be stored, or nothing where one that is read may not be touched.
 use mathlib.Core.Bool.{true, false}
 use Prim.Native.Nat.{ℕ}
 use Rattle.words.specs.Choice.{pick}
 use Rattle.memory.specs.Buffers.{Buffers}
-use Rattle.memory.specs.Places.{allLent}
+use Rattle.memory.specs.Places.{allTouchable}
 use Rattle.machine.specs.declared.Channel.{Channel}
 use Rattle.transfer.specs.declared.reads.Fetched.{Fetched}
 use Rattle.transfer.specs.Reads.{delivered, fetchedSecond, readPlaces}
 
--- a byte that is read is not lent
+-- a byte that is read may not be touched
 abbrev pub beyond : Fetched
-beyond = record { bytes = record { first = 0; second = 0 }; lent = false }
+beyond = record { bytes = record { first = 0; second = 0 }; touchable = false }
 
 -- the bytes to be stored
 abbrev pub here : ℕ → ℕ → Fetched
-here first second = record { bytes = record { first = first; second = second }; lent = true }
+here first second = record { bytes = record { first = first; second = second }; touchable = true }
 
 -- the reads of a step
 unfoldable pub fetchOf : Channel → Buffers → Fetched
-fetchOf c m = pick (allLent m (readPlaces c m)) (here (delivered c m) (fetchedSecond c m)) beyond
+fetchOf c m = pick (allTouchable m (readPlaces c m)) (here (delivered c m) (fetchedSecond c m)) beyond

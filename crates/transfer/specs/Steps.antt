@@ -6,7 +6,7 @@ use Prim.Native.Nat.{ℕ}
 use lib.Dec.{eqb}
 use Rattle.words.specs.Choice.{pick}
 use Rattle.memory.specs.Buffers.{Buffers}
-use Rattle.memory.specs.Places.{Place, allLent}
+use Rattle.memory.specs.Places.{Place, allTouchable}
 use Rattle.machine.specs.declared.Channel.{Channel}
 use Rattle.machine.specs.Cc.{translates, synchronised}
 use Rattle.machine.specs.Outcomes.{unless}
@@ -44,13 +44,13 @@ transferNumber c m = stagesNumber m (transferStages c m)
 abbrev pub TransferGiven5 : Channel → Type 0
 TransferGiven5 c = badMode c ≡ true
 
--- when 2 is given: no bad mode, and a byte that the step touches is not lent
+-- when 2 is given: no bad mode, and a byte that the step would touch may not be touched
 abbrev pub TransferGiven2 : Channel → Buffers → Type 0
-TransferGiven2 c m = (badMode c ≡ false) × (allLent m (touchedByTransfer c m) ≡ false)
+TransferGiven2 c m = (badMode c ≡ false) × (allTouchable m (touchedByTransfer c m) ≡ false)
 
 -- when 0 is given: neither
 abbrev pub TransferGiven0 : Channel → Buffers → Type 0
-TransferGiven0 c m = (badMode c ≡ false) × (allLent m (touchedByTransfer c m) ≡ true)
+TransferGiven0 c m = (badMode c ≡ false) × (allTouchable m (touchedByTransfer c m) ≡ true)
 
 -- the step: refused, the given channel and memories; done, what it makes of them
 unfoldable pub transferOf : Channel → Buffers → Transfer

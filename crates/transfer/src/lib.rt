@@ -72,7 +72,7 @@ pub fn transfer(c: Channel, sys: &mut [u8], io: &mut [u8]) -> Transferred
         return refused(c, 5);
     }
     let fetched = reads::fetch(c, p, sys, io);
-    if !fetched.lent {
+    if !fetched.touchable {
         return refused(c, 2);
     }
     let bytes = fetched.bytes;

@@ -9,13 +9,13 @@ ghost use Rattle.transfer.specs.Sides.{setupOf};
 ghost use Rattle.transfer.specs.Steps.{badMode};
 ghost use Rattle.transfer.specs.Fetches.{beyond, here, fetchOf};
 
-// The bytes read, and whether each of them is lent; where one is not, none counts.
+// The bytes read, and whether each of them may be touched; where one may not, none counts.
 pub(crate) struct Fetched {
     pub(crate) bytes: Data,
-    pub(crate) lent: bool,
+    pub(crate) touchable: bool,
 }
 
-// What a read beyond lent memory comes to.
+// What a read that is refused comes to.
 fn none() -> Fetched
     ensures { λ r. ⌜ r ≡ beyond ⌝ }
 {
@@ -23,7 +23,10 @@ fn none() -> Fetched
         first: 0,
         second: 0,
     };
-    Fetched { bytes, lent: false }
+    Fetched {
+        bytes,
+        touchable: false,
+    }
 }
 
 // Bytes that were read.
@@ -31,23 +34,26 @@ fn some(first: u8, second: u8) -> Fetched
     ensures { λ r. ⌜ r ≡ here first second ⌝ }
 {
     let bytes = Data { first, second };
-    Fetched { bytes, lent: true }
+    Fetched {
+        bytes,
+        touchable: true,
+    }
 }
 
-// The bytes to be stored, where all that is read for them is lent.
+// The bytes to be stored, where all that is read for them may be touched.
 pub(crate) fn fetch(c: Channel, p: Setup, sys: &[u8], io: &[u8]) -> Fetched
     requires { ⌜ (p ≡ setupOf c) × (badMode c ≡ false) ⌝ }
     ensures { λ r. ⌜ r ≡ fetchOf c (buffers (now (sys .entry)) (now (io .entry))) ⌝ }
 {
     let source = p.source;
     let from = source.pointer;
-    if !memory::lent(sys, io, from.tag, from.address) {
+    if !memory::touchable(sys, io, from.tag, from.address) {
         return none();
     }
     let first = memory::byte(sys, io, from.tag, from.address);
     if p.two {
         let next = crate::sides::second(source);
-        if !memory::lent(sys, io, from.tag, next) {
+        if !memory::touchable(sys, io, from.tag, next) {
             return none();
         }
         return some(first, memory::byte(sys, io, from.tag, next));
@@ -55,7 +61,7 @@ pub(crate) fn fetch(c: Channel, p: Setup, sys: &[u8], io: &[u8]) -> Fetched
     if p.translates {
         let gc = c.gc;
         let entry = words::sum20(gc.address, first as u32);
-        if !memory::lent(sys, io, gc.tag, entry) {
+        if !memory::touchable(sys, io, gc.tag, entry) {
             return none();
         }
         return some(memory::byte(sys, io, gc.tag, entry), 0);

@@ -6,7 +6,7 @@ use machine::Channel;
 ghost use mathlib.Core.Path.{_≡_};
 ghost use Rattle.words.specs.Choice.{pick};
 ghost use Rattle.memory.specs.Buffers.{buffers};
-ghost use Rattle.memory.specs.Places.{allLent};
+ghost use Rattle.memory.specs.Places.{allTouchable};
 ghost use Rattle.machine.specs.Cc.{matchEnd};
 ghost use Rattle.transfer.specs.Sides.{setupOf};
 ghost use Rattle.transfer.specs.Ends.{codeIf};
@@ -88,17 +88,17 @@ pub(crate) fn finish(c: Channel, p: Setup, d: Data) -> Done
     }
 }
 
-// One byte or two stored on a side where each place is lent, else nothing; and whether they are.
+// One byte or two stored on a side where each place may be touched, else nothing; and whether it may.
 pub(crate) fn put(s: Side, two: bool, d: Data, sys: &mut [u8], io: &mut [u8]) -> bool
-    ensures { λ r. ⌜ (r ≡ allLent (buffers (now (sys .entry)) (now (io .entry))) (placesOn s two)) × (buffers (now (sys .exit)) (now (io .exit)) ≡ pick r (putOn s two d (buffers (now (sys .entry)) (now (io .entry)))) (buffers (now (sys .entry)) (now (io .entry)))) ⌝ }
+    ensures { λ r. ⌜ (r ≡ allTouchable (buffers (now (sys .entry)) (now (io .entry))) (placesOn s two)) × (buffers (now (sys .exit)) (now (io .exit)) ≡ pick r (putOn s two d (buffers (now (sys .entry)) (now (io .entry)))) (buffers (now (sys .entry)) (now (io .entry)))) ⌝ }
 {
     let p = s.pointer;
-    if !memory::lent(sys, io, p.tag, p.address) {
+    if !memory::touchable(sys, io, p.tag, p.address) {
         return false;
     }
     if two {
         let next = crate::sides::second(s);
-        if !memory::lent(sys, io, p.tag, next) {
+        if !memory::touchable(sys, io, p.tag, next) {
             return false;
         }
         memory::store_byte(sys, io, p.tag, p.address, d.first);

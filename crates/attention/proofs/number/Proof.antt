@@ -13,37 +13,37 @@ returns : tie.Need-returns
 unfolding orderNumber stagesNumber orderStages first unless
 returns c = simp (ne-eqb _ _ (c .if1 .taken))
 
-span-lent-requires : tie.Need-span-lent-requires
-span-lent-requires c κs = search needs
+span-touchable-requires : tie.Need-span-touchable-requires
+span-touchable-requires c κs = search needs
 
 returns-2 : tie.Need-returns-2
 unfolding orderNumber stagesNumber orderStages first unless
-returns-2 c = simp (not-true (c .before .span-lent .result) (c .if2 .taken), ← (c .before .span-lent .ensures), c .before .before .if1 .left, eq-eqb _ _ (c .before .before .if1 .left))
+returns-2 c = simp (not-true (c .before .span-touchable .result) (c .if2 .taken), ← (c .before .span-touchable .ensures), c .before .before .if1 .left, eq-eqb _ _ (c .before .before .if1 .left))
 
 refusal-requires : tie.Need-refusal-requires
 refusal-requires c κs = search needs
 
 returns-3 : tie.Need-returns-3
 unfolding orderNumber stagesNumber orderStages first unless
-returns-3 c = simp (ne-eqb _ _ (c .if3 .taken), ← (c .before .refusal .ensures), not-false (c .before .before .before .span-lent .result) (c .before .before .if2 .left), ← (c .before .before .before .span-lent .ensures), c .before .before .before .before .if1 .left, eq-eqb _ _ (c .before .before .before .before .if1 .left))
+returns-3 c = simp (ne-eqb _ _ (c .if3 .taken), ← (c .before .refusal .ensures), not-false (c .before .before .before .span-touchable .result) (c .before .before .if2 .left), ← (c .before .before .before .span-touchable .ensures), c .before .before .before .before .if1 .left, eq-eqb _ _ (c .before .before .before .before .if1 .left))
 
 others-requires : tie.Need-others-requires
 others-requires c κs = search needs
 
 returns-4 : tie.Need-returns-4
 unfolding orderNumber stagesNumber orderStages first unless
-returns-4 c = simp (c .if4 .taken, ← (c .before .others .ensures), c .before .before .if3 .left, eq-eqb _ _ (c .before .before .if3 .left), ← (c .before .before .before .refusal .ensures), not-false (c .before .before .before .before .before .span-lent .result) (c .before .before .before .before .if2 .left), ← (c .before .before .before .before .before .span-lent .ensures), c .before .before .before .before .before .before .if1 .left, eq-eqb _ _ (c .before .before .before .before .before .before .if1 .left))
+returns-4 c = simp (c .if4 .taken, ← (c .before .others .ensures), c .before .before .if3 .left, eq-eqb _ _ (c .before .before .if3 .left), ← (c .before .before .before .refusal .ensures), not-false (c .before .before .before .before .before .span-touchable .result) (c .before .before .before .before .if2 .left), ← (c .before .before .before .before .before .span-touchable .ensures), c .before .before .before .before .before .before .if1 .left, eq-eqb _ _ (c .before .before .before .before .before .before .if1 .left))
 
 returns-5 : tie.Need-returns-5
 unfolding orderNumber stagesNumber orderStages first unless
-returns-5 c = simp (c .if4 .left, ← (c .before .others .ensures), c .before .before .if3 .left, eq-eqb _ _ (c .before .before .if3 .left), ← (c .before .before .before .refusal .ensures), not-false (c .before .before .before .before .before .span-lent .result) (c .before .before .before .before .if2 .left), ← (c .before .before .before .before .before .span-lent .ensures), c .before .before .before .before .before .before .if1 .left, eq-eqb _ _ (c .before .before .before .before .before .before .if1 .left))
+returns-5 c = simp (c .if4 .left, ← (c .before .others .ensures), c .before .before .if3 .left, eq-eqb _ _ (c .before .before .if3 .left), ← (c .before .before .before .refusal .ensures), not-false (c .before .before .before .before .before .span-touchable .result) (c .before .before .before .before .if2 .left), ← (c .before .before .before .before .before .span-touchable .ensures), c .before .before .before .before .before .before .if1 .left, eq-eqb _ _ (c .before .before .before .before .before .before .if1 .left))
 
 pub number-spec : {M : Type 1} → statement M
 number-spec =
     tie.close
     (tie.spec
     returns
-    span-lent-requires
+    span-touchable-requires
     returns-2
     refusal-requires
     returns-3

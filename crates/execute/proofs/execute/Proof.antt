@@ -6,7 +6,7 @@ use denote.Ref.{now}
 use mathlib.Core.Bool.{Bool}
 use mathlib.Core.Path.{_≡_, sym, ap, ap₂, _∙_}
 use Rattle.memory.specs.Buffers.{Buffers, buffers}
-use Rattle.memory.specs.Places.{allLent}
+use Rattle.memory.specs.Places.{allTouchable}
 use Rattle.words.specs.Choice.{pick}
 use Rattle.execute_operands.specs.Changes.{placesOf, changed}
 use Rattle.execute_deeds.specs.Deeds.{unread}
@@ -53,10 +53,10 @@ returns-2 c =
     let z : planNumber m (a .c) (a .busy) ≡ 0 = sym (p .told) ∙ c .before .before .before .before .before .before .before .before .before .before .if1 .left in
     let same : e ≡ unread (deedAt m (a .c) (a .busy)) = p .done z in
     let made = c .before .before .before .before .before .made in
-    let lent = ap (λ (x : Effect). allLent m (placesOf (x .change))) (sym same) ∙ sym (made .ensures .0) ∙ c .if2 .taken in
+    let touchable = ap (λ (x : Effect). allTouchable m (placesOf (x .change))) (sym same) ∙ sym (made .ensures .0) ∙ c .if2 .taken in
     ap (executed 0 (e .channel)) (made .ensures .1 ∙ ap (λ (x : Bool). pick x (changed m (e .change)) m) (c .if2 .taken))
     ∙ ap (λ (x : Effect). executed 0 (x .channel) (changed m (x .change))) same
-    ∙ sym (plan-done m (a .c) (a .busy) z lent)
+    ∙ sym (plan-done m (a .c) (a .busy) z touchable)
 
 same-length-5 : tie.Need-same-length-5
 same-length-5 c = search needs
@@ -73,7 +73,7 @@ returns-3 c =
     let z : planNumber m (a .c) (a .busy) ≡ 0 = sym (p .told) ∙ c .before .before .before .before .before .before .before .before .before .before .if1 .left in
     let same : e ≡ unread (deedAt m (a .c) (a .busy)) = p .done z in
     let made = c .before .before .before .before .before .made in
-    let beyond = ap (λ (x : Effect). allLent m (placesOf (x .change))) (sym same) ∙ sym (made .ensures .0) ∙ c .if2 .left in
+    let beyond = ap (λ (x : Effect). allTouchable m (placesOf (x .change))) (sym same) ∙ sym (made .ensures .0) ∙ c .if2 .left in
     ap (executed 2 (a .c)) (made .ensures .1 ∙ ap (λ (x : Bool). pick x (changed m (e .change)) m) (c .if2 .left))
     ∙ sym (plan-unstored m (a .c) (a .busy) z beyond)
 

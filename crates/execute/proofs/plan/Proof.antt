@@ -17,8 +17,8 @@ use Rattle.execute.proofs.CodeLaws.{refusal-planned, plan-beyond, plan-
 use Rattle.execute.proofs.plan.Statement.{statement}
 use Rattle.execute.proofs.plan.Tie as tie
 
-lent-requires : tie.Need-lent-requires
-lent-requires c κs = search needs
+touchable-requires : tie.Need-touchable-requires
+touchable-requires c κs = search needs
 
 refused-requires : tie.Need-refused-requires
 refused-requires c κs = search needs
@@ -27,7 +27,7 @@ returns : tie.Need-returns
 returns c =
     let a = c .before .before .before .before .before .before .args in
     let m = buffers (now (a .sys)) (now (a .io)) in
-    refusal-planned (c .refused .ensures) (plan-beyond m (a .c) (a .busy) (sym (c .before .before .lent .ensures) ∙ not-true _ (c .before .if1 .taken))) (eqb-false 2 0 refl)
+    refusal-planned (c .refused .ensures) (plan-beyond m (a .c) (a .busy) (sym (c .before .before .touchable .ensures) ∙ not-true _ (c .before .if1 .taken))) (eqb-false 2 0 refl)
 
 byte-requires : tie.Need-byte-requires
 byte-requires c κs = search needs
@@ -65,7 +65,7 @@ returns-2 c =
     let m = buffers (now (a .sys)) (now (a .io)) in
     let d = c .before .before .before .look-up .result .decoded in
     let e : decodedAt m (a .c .tp) ≡ d = sym (what (c .before .before .before .look-up .ensures) ∙ ap₂ decodeOf (c .before .before .before .before .before .before .byte .ensures) (c .before .before .before .before .byte2 .ensures ∙ ap (byteHere m) (c .before .before .before .before .before .onward .ensures))) in
-    let there = sym (c .before .before .before .before .before .before .before .before .lent .ensures) ∙ not-false _ (c .before .before .before .before .before .before .before .if1 .left) in
+    let there = sym (c .before .before .before .before .before .before .before .before .touchable .ensures) ∙ not-false _ (c .before .before .before .before .before .before .before .if1 .left) in
     let p = plan-none m (a .c) (a .busy) d (c .before .before .match .keys2) there e in
     refusal-planned (c .refused2 .ensures) (c .before .number .ensures ∙ p .0) (λ z. p .1 (sym (c .before .number .ensures) ∙ z))
 
@@ -78,14 +78,14 @@ returns-3 c =
     let a = c .before .before .before .before .before .before .before .before .before .before .before .before .before .args in
     let m = buffers (now (a .sys)) (now (a .io)) in
     let e : decodedAt m (a .c .tp) ≡ c .before .before .before .before .look-up .result .decoded = sym (what (c .before .before .before .before .look-up .ensures) ∙ ap₂ decodeOf (c .before .before .before .before .before .before .before .byte .ensures) (c .before .before .before .before .before .byte2 .ensures ∙ ap (byteHere m) (c .before .before .before .before .before .before .onward .ensures))) in
-    let there = sym (c .before .before .before .before .before .before .before .before .before .lent .ensures) ∙ not-false _ (c .before .before .before .before .before .before .before .before .if1 .left) in
+    let there = sym (c .before .before .before .before .before .before .before .before .before .touchable .ensures) ∙ not-false _ (c .before .before .before .before .before .before .before .before .if1 .left) in
     plan-shaped m (a .c) (a .busy) _ (e ∙ c .before .before .decoded .given .1) there (c .shaped .ensures)
 
 pub plan-spec : {M : Type 1} → statement M
 plan-spec =
     tie.close
     (tie.spec
-    lent-requires
+    touchable-requires
     refused-requires
     returns
     byte-requires

@@ -12,18 +12,18 @@ use Rattle.memory.specs.Values.{onward}
 use Rattle.execute_operands.specs.Marks.{pastInstruction}
 use Rattle.execute_deeds.specs.Deeds.{effectOf}
 use Rattle.execute.specs.Execute.{performed, deedOf, laterBytes}
-use Rattle.execute.proofs.CodeLaws.{refusal-planned, deed-planned, later-beyond, later-lent}
+use Rattle.execute.proofs.CodeLaws.{refusal-planned, deed-planned, later-beyond, later-touchable}
 use Rattle.execute.proofs.shaped.Statement.{statement}
 use Rattle.execute.proofs.shaped.Tie as tie
 
 onward-requires : tie.Need-onward-requires
 onward-requires c κs = search needs
 
-sub-lent : tie.Need-sub-lent
-sub-lent c = omega (arith, c .before .before .before .before .pre, bounded (c .before .before .before .before .args .shape))
+sub-touchable : tie.Need-sub-touchable
+sub-touchable c = omega (arith, c .before .before .before .before .pre, bounded (c .before .before .before .before .args .shape))
 
-lent-requires : tie.Need-lent-requires
-lent-requires c κs = search needs
+touchable-requires : tie.Need-touchable-requires
+touchable-requires c κs = search needs
 
 refused-requires : tie.Need-refused-requires
 refused-requires c κs = search needs
@@ -33,7 +33,7 @@ unfolding laterBytes
 returns c =
     let a = c .before .before .before .before .before .before .before .args in
     let m = buffers (now (a .sys)) (now (a .io)) in
-    let later = simp (c .before .before .before .onward .ensures, c .before .before .before .before .before .before .before .pre) at (sym (c .before .before .lent .ensures) ∙ not-true _ (c .before .if1 .taken)) in
+    let later = simp (c .before .before .before .onward .ensures, c .before .before .before .before .before .before .before .pre) at (sym (c .before .before .touchable .ensures) ∙ not-true _ (c .before .if1 .taken)) in
     refusal-planned (c .refused .ensures) (later-beyond m (a .c) (a .busy) (a .shape) later) (eqb-false 2 0 refl)
 
 advanced-requires : tie.Need-advanced-requires
@@ -47,18 +47,18 @@ unfolding laterBytes deedOf
 returns-2 c =
     let a = c .before .before .before .before .before .before .before .before .args in
     let m = buffers (now (a .sys)) (now (a .io)) in
-    let later = simp (c .before .before .before .before .onward .ensures, c .before .before .before .before .before .before .before .before .pre) at (sym (c .before .before .before .lent .ensures) ∙ not-false _ (c .before .before .if1 .left)) in
+    let later = simp (c .before .before .before .before .onward .ensures, c .before .before .before .before .before .before .before .before .pre) at (sym (c .before .before .before .touchable .ensures) ∙ not-false _ (c .before .before .if1 .left)) in
     let e : c .perform .result ≡ effectOf m (deedOf (a .shape) m (a .c) (a .busy)) =
     c .perform .ensures ∙ ap (λ (x : Channel). effectOf m (performed (a .shape) m x (a .c .tp) (a .c .armed) (a .busy))) (c .before .advanced .ensures ∙ ap (pastInstruction (a .c)) (c .before .before .before .before .before .before .before .before .pre)) in
-    deed-planned m e (later-lent m (a .c) (a .busy) (a .shape) later)
+    deed-planned m e (later-touchable m (a .c) (a .busy) (a .shape) later)
 
 pub shaped-spec : {M : Type 1} → statement M
 shaped-spec =
     tie.close
     (tie.spec
     onward-requires
-    sub-lent
-    lent-requires
+    sub-touchable
+    touchable-requires
     refused-requires
     returns
     advanced-requires

@@ -2,7 +2,7 @@
 -- Assumes nothing.
 use borrow.Author.Needs.{needs}
 use mathlib.Core.Path.{_∙_}
-use Rattle.memory.specs.Buffers.{spaceOf, byteAt}
+use Rattle.memory.specs.Buffers.{spaceOf, beyondIn, byteAt}
 use Rattle.memory.proofs.byte.Statement.{statement}
 use Rattle.memory.proofs.byte.Tie as tie
 
@@ -16,11 +16,11 @@ read-requires-2 : tie.Need-read-requires-2
 read-requires-2 c κs = search needs
 
 returns : tie.Need-returns
-unfolding byteAt spaceOf
+unfolding byteAt beyondIn spaceOf
 returns c = c .read .ensures ∙ rw (c .before .before .index .ensures, c .before .if1 .taken)
 
 returns-2 : tie.Need-returns-2
-unfolding byteAt spaceOf
+unfolding byteAt beyondIn spaceOf
 returns-2 c = c .read2 .ensures ∙ rw (c .before .before .index .ensures, c .before .if1 .left)
 
 pub byte-spec : {M : Type 1} → statement M

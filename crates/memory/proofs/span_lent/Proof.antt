@@ -4,14 +4,14 @@ use borrow.Author.Needs.{needs}
 use denote.Ref.{now}
 use native.Mathlib.Omega.{arith}
 use Rattle.memory.specs.Buffers.{buffers, spaceOf, limitOf}
-use Rattle.memory.specs.Places.{span, allLent}
+use Rattle.memory.specs.Places.{span, allPass}
 use Rattle.memory.proofs.PlaceLaws.{index-small}
 use Rattle.memory.proofs.SpanLaws.{span-tests}
 use Rattle.memory.proofs.span_lent.Statement.{statement}
 use Rattle.memory.proofs.span_lent.Tie as tie
 
 returns : tie.Need-returns
-unfolding span allLent
+unfolding span allPass
 returns c = rw (c .if1 .taken)
 
 index-requires : tie.Need-index-requires

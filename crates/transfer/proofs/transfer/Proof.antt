@@ -7,7 +7,7 @@ use mathlib.Core.Bool.{Bool, true, false, _&&_}
 use mathlib.Core.Path.{_≡_, sym, ap, ap₂, _∙_}
 use Rattle.machine.specs.declared.Channel.{Channel}
 use Rattle.memory.specs.Buffers.{Buffers, buffers}
-use Rattle.memory.specs.Places.{allLent}
+use Rattle.memory.specs.Places.{allTouchable}
 use Rattle.transfer.specs.Fetches.{fetchOf}
 use Rattle.transfer.specs.Reads.{dataOf, readPlaces}
 use Rattle.transfer.specs.Sides.{destination, setupOf}
@@ -19,21 +19,21 @@ use Rattle.transfer.specs.declared.Side.{Side}
 use Rattle.transfer.specs.declared.Transferred.{Transferred}
 use Rattle.transfer.specs.declared.reads.Fetched.{Fetched}
 use Rattle.transfer.specs.declared.stores.Done.{Done}
-use Rattle.transfer.proofs.FetchLaws.{fetch-lent, fetch-bytes}
+use Rattle.transfer.proofs.FetchLaws.{fetch-touchable, fetch-bytes}
 use Rattle.transfer.proofs.StepLaws.{outcome-5, outcome-2, outcome-0}
-use Rattle.transfer.proofs.TouchLaws.{touched-lent}
+use Rattle.transfer.proofs.TouchLaws.{touched-all}
 use Rattle.transfer.proofs.transfer.Statement.{statement}
 use Rattle.transfer.proofs.transfer.Tie as tie
 
 -- what a step has read and put, as its helpers say it, is what the step reads and stores
 module _ (c : Channel) (m : Buffers) (p : Setup) (f : Fetched) (done : Done) (ep : p ≡ setupOf c) (ef : f ≡ fetchOf c m)
     (ed : done ≡ record { two = storesTwo c (f .bytes); channel = movedChannel c (f .bytes) }) where
-  reads : f .lent ≡ allLent m (readPlaces c m)
-  reads = ap (λ (x : Fetched). x .lent) ef ∙ fetch-lent c m
+  reads : f .touchable ≡ allTouchable m (readPlaces c m)
+  reads = ap (λ (x : Fetched). x .touchable) ef ∙ fetch-touchable c m
 
-  module _ (lent : f .lent ≡ true) where
+  module _ (touchable : f .touchable ≡ true) where
     read : f .bytes ≡ dataOf c m
-    read = ap (λ (x : Fetched). x .bytes) ef ∙ fetch-bytes c m (sym (ap (λ (x : Fetched). x .lent) ef) ∙ lent)
+    read = ap (λ (x : Fetched). x .bytes) ef ∙ fetch-bytes c m (sym (ap (λ (x : Fetched). x .touchable) ef) ∙ touchable)
 
     becomes : done ≡ record { two = storesTwo c (dataOf c m); channel = movedChannel c (dataOf c m) }
     becomes = ed ∙ ap (λ (d : Data). record { two = storesTwo c d; channel = movedChannel c d }) read
@@ -48,8 +48,8 @@ module _ (c : Channel) (m : Buffers) (p : Setup) (f : Fetched) (done : Done) (ep
         ap₂ (λ (s : Side) (b : Bool). putOn s b (f .bytes) m) (ap (λ (x : Setup). x .destination) ep) (ap (λ (x : Done). x .two) becomes)
         ∙ ap (λ (d : Data). putOn (destination c) (storesTwo c (dataOf c m)) d m) read
 
-    all : (b : Bool) → allLent m (placesOn (p .destination) (done .two)) ≡ b → allLent m (touchedByTransfer c m) ≡ b
-    all b h = touched-lent c m ∙ ap₂ (λ (x y : Bool). x && y) (sym reads ∙ lent) (sym (ap (allLent m) places) ∙ h)
+    all : (b : Bool) → allTouchable m (placesOn (p .destination) (done .two)) ≡ b → allTouchable m (touchedByTransfer c m) ≡ b
+    all b h = touched-all c m ∙ ap₂ (λ (x y : Bool). x && y) (sym reads ∙ touchable) (sym (ap (allTouchable m) places) ∙ h)
 
 plan-requires : tie.Need-plan-requires
 plan-requires c κs = search needs
@@ -83,9 +83,9 @@ returns-2 : tie.Need-returns-2
 returns-2 c =
     let a = c .before .before .before .before .before .before .before .before .before .before .before .args in
     let m = buffers (now (a .sys)) (now (a .io)) in
-    let gone : allLent m (readPlaces (a .c) m) ≡ false = sym (ap (λ (x : Fetched). x .lent) (c .before .before .before .fetch .ensures) ∙ fetch-lent (a .c) m) ∙ not-true _ (c .before .if2 .taken) in
+    let gone : allTouchable m (readPlaces (a .c) m) ≡ false = sym (ap (λ (x : Fetched). x .touchable) (c .before .before .before .fetch .ensures) ∙ fetch-touchable (a .c) m) ∙ not-true _ (c .before .if2 .taken) in
     ap (λ (x : Transferred). transferred (x .number) (x .channel) m) (c .refused2 .ensures)
-    ∙ sym (outcome-2 (a .c) m (sym (c .before .before .before .before .before .before .before .bad-mode .ensures) ∙ c .before .before .before .before .before .before .if1 .left) (touched-lent (a .c) m ∙ rw gone))
+    ∙ sym (outcome-2 (a .c) m (sym (c .before .before .before .before .before .before .before .bad-mode .ensures) ∙ c .before .before .before .before .before .before .if1 .left) (touched-all (a .c) m ∙ rw gone))
 
 finish-requires : tie.Need-finish-requires
 finish-requires c κs = c .before .before .before .before .before .before .before .before .plan .ensures
@@ -122,11 +122,11 @@ returns-4 c =
     let a = c .before .before .before .before .before .before .before .before .before .before .before .before .before .before .before .before .before .before .before .before .before .before .args in
     let m = buffers (now (a .sys)) (now (a .io)) in
     let yes = not-false _ (c .before .if3 .left) in
-    let lent = not-false _ (c .before .before .before .before .before .before .before .before .before .before .before .before .if2 .left) in
-    let touched = all (a .c) m (c .before .before .before .before .before .before .before .before .before .before .before .before .before .before .before .before .before .before .before .plan .result) (c .before .before .before .before .before .before .before .before .before .before .before .before .before .before .fetch .result) (c .before .before .before .before .before .before .before .before .before .before .finish .result) (c .before .before .before .before .before .before .before .before .before .before .before .before .before .before .before .before .before .before .before .plan .ensures) (c .before .before .before .before .before .before .before .before .before .before .before .before .before .before .fetch .ensures) (c .before .before .before .before .before .before .before .before .before .before .finish .ensures) lent true (sym (c .before .before .before .before .before .before .put .ensures .0) ∙ yes) in
+    let touchable = not-false _ (c .before .before .before .before .before .before .before .before .before .before .before .before .if2 .left) in
+    let touched = all (a .c) m (c .before .before .before .before .before .before .before .before .before .before .before .before .before .before .before .before .before .before .before .plan .result) (c .before .before .before .before .before .before .before .before .before .before .before .before .before .before .fetch .result) (c .before .before .before .before .before .before .before .before .before .before .finish .result) (c .before .before .before .before .before .before .before .before .before .before .before .before .before .before .before .before .before .before .before .plan .ensures) (c .before .before .before .before .before .before .before .before .before .before .before .before .before .before .fetch .ensures) (c .before .before .before .before .before .before .before .before .before .before .finish .ensures) touchable true (sym (c .before .before .before .before .before .before .put .ensures .0) ∙ yes) in
     ap₂ (λ (x : Done) (y : Buffers). transferred 0 (x .channel) y)
-    (becomes (a .c) m (c .before .before .before .before .before .before .before .before .before .before .before .before .before .before .before .before .before .before .before .plan .result) (c .before .before .before .before .before .before .before .before .before .before .before .before .before .before .fetch .result) (c .before .before .before .before .before .before .before .before .before .before .finish .result) (c .before .before .before .before .before .before .before .before .before .before .before .before .before .before .before .before .before .before .before .plan .ensures) (c .before .before .before .before .before .before .before .before .before .before .before .before .before .before .fetch .ensures) (c .before .before .before .before .before .before .before .before .before .before .finish .ensures) lent)
-    (c .before .before .before .before .before .before .put .ensures .1 ∙ rw yes (puts (a .c) m (c .before .before .before .before .before .before .before .before .before .before .before .before .before .before .before .before .before .before .before .plan .result) (c .before .before .before .before .before .before .before .before .before .before .before .before .before .before .fetch .result) (c .before .before .before .before .before .before .before .before .before .before .finish .result) (c .before .before .before .before .before .before .before .before .before .before .before .before .before .before .before .before .before .before .before .plan .ensures) (c .before .before .before .before .before .before .before .before .before .before .before .before .before .before .fetch .ensures) (c .before .before .before .before .before .before .before .before .before .before .finish .ensures) lent))
+    (becomes (a .c) m (c .before .before .before .before .before .before .before .before .before .before .before .before .before .before .before .before .before .before .before .plan .result) (c .before .before .before .before .before .before .before .before .before .before .before .before .before .before .fetch .result) (c .before .before .before .before .before .before .before .before .before .before .finish .result) (c .before .before .before .before .before .before .before .before .before .before .before .before .before .before .before .before .before .before .before .plan .ensures) (c .before .before .before .before .before .before .before .before .before .before .before .before .before .before .fetch .ensures) (c .before .before .before .before .before .before .before .before .before .before .finish .ensures) touchable)
+    (c .before .before .before .before .before .before .put .ensures .1 ∙ rw yes (puts (a .c) m (c .before .before .before .before .before .before .before .before .before .before .before .before .before .before .before .before .before .before .before .plan .result) (c .before .before .before .before .before .before .before .before .before .before .before .before .before .before .fetch .result) (c .before .before .before .before .before .before .before .before .before .before .finish .result) (c .before .before .before .before .before .before .before .before .before .before .before .before .before .before .before .before .before .before .before .plan .ensures) (c .before .before .before .before .before .before .before .before .before .before .before .before .before .before .fetch .ensures) (c .before .before .before .before .before .before .before .before .before .before .finish .ensures) touchable))
     ∙ sym (outcome-0 (a .c) m (sym (c .before .before .before .before .before .before .before .before .before .before .before .before .before .before .before .before .before .before .bad-mode .ensures) ∙ c .before .before .before .before .before .before .before .before .before .before .before .before .before .before .before .before .before .if1 .left) touched)
 
 pub transfer-spec : {M : Type 1} → statement M

@@ -8,12 +8,12 @@ use Rattle.attention.proofs.touched.busy.Tie as tie
 sum20-requires : tie.Need-sum20-requires
 sum20-requires c κs = search needs
 
-span-lent-requires : tie.Need-span-lent-requires
-span-lent-requires c κs = search needs
+span-touchable-requires : tie.Need-span-touchable-requires
+span-touchable-requires c κs = search needs
 
 returns : tie.Need-returns
 unfolding busyIn
-returns c = rw (c .span-lent .ensures, c .before .sum20 .ensures)
+returns c = rw (c .span-touchable .ensures, c .before .sum20 .ensures)
 
 pub busy-spec : {M : Type 1} → statement M
-busy-spec = tie.close (tie.spec sum20-requires span-lent-requires returns)
+busy-spec = tie.close (tie.spec sum20-requires span-touchable-requires returns)

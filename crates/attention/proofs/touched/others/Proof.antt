@@ -1,7 +1,7 @@
 -- `attention::touched::others` meets its contract.
 -- Assumes nothing.
 use borrow.Author.Needs.{needs}
-use Rattle.memory.specs.Places.{allLent}
+use Rattle.memory.specs.Places.{allPass}
 use Rattle.attention.specs.Touched.{readBy, storedBy, others}
 use Rattle.attention.proofs.touched.others.Statement.{statement}
 use Rattle.attention.proofs.touched.others.Tie as tie
@@ -43,7 +43,7 @@ enum-told-7 : tie.Need-enum-told-7
 enum-told-7 c = search needs
 
 returns : tie.Need-returns
-unfolding others readBy storedBy allLent
+unfolding others readBy storedBy allPass
 returns c = simp (c .enum-told .given .1, c .before .match .keys1)
 
 returns-2 : tie.Need-returns-2
@@ -67,7 +67,7 @@ unfolding others readBy storedBy
 returns-6 c = simp (← (c .busy .ensures), c .before .enum-told6 .given .1, c .before .before .match .keys6)
 
 returns-7 : tie.Need-returns-7
-unfolding others readBy storedBy allLent
+unfolding others readBy storedBy allPass
 returns-7 c = simp (c .enum-told7 .given .1, c .before .match .keys7)
 
 pub others-spec : {M : Type 1} → statement M

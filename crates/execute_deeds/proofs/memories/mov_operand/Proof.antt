@@ -31,14 +31,14 @@ operand-requires c κs = search needs
 onward-requires : tie.Need-onward-requires
 onward-requires c κs = search needs
 
-lent-requires : tie.Need-lent-requires
-lent-requires c κs = search needs
+touchable-requires : tie.Need-touchable-requires
+touchable-requires c κs = search needs
 
 size-requires : tie.Need-size-requires
 size-requires c κs = search needs
 
-lent-requires-2 : tie.Need-lent-requires-2
-lent-requires-2 c κs = search needs
+touchable-requires-2 : tie.Need-touchable-requires-2
+touchable-requires-2 c κs = search needs
 
 two-unless-requires : tie.Need-two-unless-requires
 two-unless-requires c κs = search needs
@@ -54,7 +54,7 @@ result-to-requires c κs = search needs
 
 returns : tie.Need-returns
 unfolding movOperandDeed effectOf first
-returns c = simp (all-append, c .result-to .ensures, c .before .further .ensures, c .before .before .grown-by-size2 .ensures, c .before .before .before .two-unless .ensures, c .before .before .before .before .lent2 .ensures, c .before .before .before .before .before .size .ensures, c .before .before .before .before .before .before .lent .ensures, c .before .before .before .before .before .before .before .onward .ensures, c .before .before .before .before .before .before .before .before .operand .ensures, c .before .before .before .before .before .before .before .before .before .offset-length .ensures, c .before .before .before .before .before .before .before .before .before .before .effective2 .ensures, c .before .before .before .before .before .before .before .before .before .before .before .grown-by-size .ensures, c .before .before .before .before .before .before .before .before .before .before .before .before .after-pair .ensures, c .before .before .before .before .before .before .before .before .before .before .before .before .before .effective .ensures)
+returns c = simp (all-append, c .result-to .ensures, c .before .further .ensures, c .before .before .grown-by-size2 .ensures, c .before .before .before .two-unless .ensures, c .before .before .before .before .touchable2 .ensures, c .before .before .before .before .before .size .ensures, c .before .before .before .before .before .before .touchable .ensures, c .before .before .before .before .before .before .before .onward .ensures, c .before .before .before .before .before .before .before .before .operand .ensures, c .before .before .before .before .before .before .before .before .before .offset-length .ensures, c .before .before .before .before .before .before .before .before .before .before .effective2 .ensures, c .before .before .before .before .before .before .before .before .before .before .before .grown-by-size .ensures, c .before .before .before .before .before .before .before .before .before .before .before .before .after-pair .ensures, c .before .before .before .before .before .before .before .before .before .before .before .before .before .effective .ensures)
 
 pub mov-operand-spec : {M : Type 1} → statement M
 mov-operand-spec =
@@ -67,9 +67,9 @@ mov-operand-spec =
     offset-length-requires
     operand-requires
     onward-requires
-    lent-requires
+    touchable-requires
     size-requires
-    lent-requires-2
+    touchable-requires-2
     two-unless-requires
     grown-by-size-requires-2
     further-requires

@@ -11,8 +11,8 @@ use Rattle.transfer.proofs.FetchLaws.{source-beyond, second-beyond, bot
 use Rattle.transfer.proofs.reads.fetch.Statement.{statement}
 use Rattle.transfer.proofs.reads.fetch.Tie as tie
 
-lent-requires : tie.Need-lent-requires
-lent-requires c κs = search needs
+touchable-requires : tie.Need-touchable-requires
+touchable-requires c κs = search needs
 
 none-requires : tie.Need-none-requires
 none-requires c κs = search needs
@@ -20,7 +20,7 @@ none-requires c κs = search needs
 returns : tie.Need-returns
 returns c =
     let a = c .before .before .before .before .before .before .before .args in
-    c .none .ensures ∙ sym (source-beyond (a .c) (buffers (now (a .sys)) (now (a .io))) (a .p) (c .before .before .before .before .before .before .before .pre .0) (sym (c .before .before .lent .ensures) ∙ not-true _ (c .before .if1 .taken)))
+    c .none .ensures ∙ sym (source-beyond (a .c) (buffers (now (a .sys)) (now (a .io))) (a .p) (c .before .before .before .before .before .before .before .pre .0) (sym (c .before .before .touchable .ensures) ∙ not-true _ (c .before .if1 .taken)))
 
 byte-requires : tie.Need-byte-requires
 byte-requires c κs = search needs
@@ -28,8 +28,8 @@ byte-requires c κs = search needs
 second-requires : tie.Need-second-requires
 second-requires c κs = search needs
 
-lent-requires-2 : tie.Need-lent-requires-2
-lent-requires-2 c κs = search needs
+touchable-requires-2 : tie.Need-touchable-requires-2
+touchable-requires-2 c κs = search needs
 
 none-requires-2 : tie.Need-none-requires-2
 none-requires-2 c κs = search needs
@@ -39,7 +39,7 @@ returns-2 c =
     let a = c .before .before .before .before .before .before .before .before .before .before .before .before .args in
     c .none2 .ensures
     ∙ sym
-    (second-beyond (a .c) (buffers (now (a .sys)) (now (a .io))) (a .p) (c .before .before .before .before .before .before .before .before .before .before .before .before .pre .0) (c .before .before .before .second .result) (sym (c .before .before .before .before .before .before .before .lent .ensures) ∙ not-false _ (c .before .before .before .before .before .before .if1 .left)) (c .before .before .before .before .if2 .taken) (c .before .before .before .second .ensures) (sym (c .before .before .lent2 .ensures) ∙ not-true _ (c .before .if3 .taken)))
+    (second-beyond (a .c) (buffers (now (a .sys)) (now (a .io))) (a .p) (c .before .before .before .before .before .before .before .before .before .before .before .before .pre .0) (c .before .before .before .second .result) (sym (c .before .before .before .before .before .before .before .touchable .ensures) ∙ not-false _ (c .before .before .before .before .before .before .if1 .left)) (c .before .before .before .before .if2 .taken) (c .before .before .before .second .ensures) (sym (c .before .before .touchable2 .ensures) ∙ not-true _ (c .before .if3 .taken)))
 
 byte-requires-2 : tie.Need-byte-requires-2
 byte-requires-2 c κs = search needs
@@ -53,7 +53,7 @@ returns-3 c =
     c .some .ensures
     ∙ ap (here (c .before .before .before .before .before .before .byte .result)) (c .before .byte2 .ensures)
     ∙ sym
-    (both-read (a .c) (buffers (now (a .sys)) (now (a .io))) (a .p) (c .before .before .before .before .before .before .before .before .before .before .before .before .before .pre .0) (c .before .before .before .before .before .before .byte .result) (c .before .before .before .before .second .result) (c .before .before .before .before .before .before .before .before .before .before .before .before .before .pre .1) (sym (c .before .before .before .before .before .before .before .before .lent .ensures) ∙ not-false _ (c .before .before .before .before .before .before .before .if1 .left)) (c .before .before .before .before .before .before .byte .ensures) (c .before .before .before .before .before .if2 .taken) (c .before .before .before .before .second .ensures) (sym (c .before .before .before .lent2 .ensures) ∙ not-false _ (c .before .before .if3 .left)))
+    (both-read (a .c) (buffers (now (a .sys)) (now (a .io))) (a .p) (c .before .before .before .before .before .before .before .before .before .before .before .before .before .pre .0) (c .before .before .before .before .before .before .byte .result) (c .before .before .before .before .second .result) (c .before .before .before .before .before .before .before .before .before .before .before .before .before .pre .1) (sym (c .before .before .before .before .before .before .before .before .touchable .ensures) ∙ not-false _ (c .before .before .before .before .before .before .before .if1 .left)) (c .before .before .before .before .before .before .byte .ensures) (c .before .before .before .before .before .if2 .taken) (c .before .before .before .before .second .ensures) (sym (c .before .before .before .touchable2 .ensures) ∙ not-false _ (c .before .before .if3 .left)))
 
 cast-sum20 : tie.Need-cast-sum20
 cast-sum20 c = search needs
@@ -61,8 +61,8 @@ cast-sum20 c = search needs
 sum20-requires : tie.Need-sum20-requires
 sum20-requires c κs = search needs
 
-lent-requires-3 : tie.Need-lent-requires-3
-lent-requires-3 c κs = search needs
+touchable-requires-3 : tie.Need-touchable-requires-3
+touchable-requires-3 c κs = search needs
 
 none-requires-3 : tie.Need-none-requires-3
 none-requires-3 c κs = search needs
@@ -72,7 +72,7 @@ returns-4 c =
     let a = c .before .before .before .before .before .before .before .before .before .before .before .before .before .before .args in
     c .none3 .ensures
     ∙ sym
-    (entry-beyond (a .c) (buffers (now (a .sys)) (now (a .io))) (a .p) (c .before .before .before .before .before .before .before .before .before .before .before .before .before .before .pre .0) (c .before .before .before .before .before .before .before .byte .result) (c .before .before .before .sum20 .result) (sym (c .before .before .before .before .before .before .before .before .before .lent .ensures) ∙ not-false _ (c .before .before .before .before .before .before .before .before .if1 .left)) (c .before .before .before .before .before .before .before .byte .ensures) (c .before .before .before .before .before .before .if2 .left) (c .before .before .before .before .before .if4 .taken) (c .before .before .before .sum20 .ensures) (sym (c .before .before .lent3 .ensures) ∙ not-true _ (c .before .if5 .taken)))
+    (entry-beyond (a .c) (buffers (now (a .sys)) (now (a .io))) (a .p) (c .before .before .before .before .before .before .before .before .before .before .before .before .before .before .pre .0) (c .before .before .before .before .before .before .before .byte .result) (c .before .before .before .sum20 .result) (sym (c .before .before .before .before .before .before .before .before .before .touchable .ensures) ∙ not-false _ (c .before .before .before .before .before .before .before .before .if1 .left)) (c .before .before .before .before .before .before .before .byte .ensures) (c .before .before .before .before .before .before .if2 .left) (c .before .before .before .before .before .if4 .taken) (c .before .before .before .sum20 .ensures) (sym (c .before .before .touchable3 .ensures) ∙ not-true _ (c .before .if5 .taken)))
 
 byte-requires-3 : tie.Need-byte-requires-3
 byte-requires-3 c κs = search needs
@@ -86,7 +86,7 @@ returns-5 c =
     c .some2 .ensures
     ∙ ap (λ (n : ℕ). here n 0) (c .before .byte3 .ensures)
     ∙ sym
-    (translated (a .c) (buffers (now (a .sys)) (now (a .io))) (a .p) (c .before .before .before .before .before .before .before .before .before .before .before .before .before .before .before .pre .0) (c .before .before .before .before .before .before .before .before .byte .result) (c .before .before .before .before .sum20 .result) (sym (c .before .before .before .before .before .before .before .before .before .before .lent .ensures) ∙ not-false _ (c .before .before .before .before .before .before .before .before .before .if1 .left)) (c .before .before .before .before .before .before .before .before .byte .ensures) (c .before .before .before .before .before .before .before .if2 .left) (c .before .before .before .before .before .before .if4 .taken) (c .before .before .before .before .sum20 .ensures) (sym (c .before .before .before .lent3 .ensures) ∙ not-false _ (c .before .before .if5 .left)))
+    (translated (a .c) (buffers (now (a .sys)) (now (a .io))) (a .p) (c .before .before .before .before .before .before .before .before .before .before .before .before .before .before .before .pre .0) (c .before .before .before .before .before .before .before .before .byte .result) (c .before .before .before .before .sum20 .result) (sym (c .before .before .before .before .before .before .before .before .before .before .touchable .ensures) ∙ not-false _ (c .before .before .before .before .before .before .before .before .before .if1 .left)) (c .before .before .before .before .before .before .before .before .byte .ensures) (c .before .before .before .before .before .before .before .if2 .left) (c .before .before .before .before .before .before .if4 .taken) (c .before .before .before .before .sum20 .ensures) (sym (c .before .before .before .touchable3 .ensures) ∙ not-false _ (c .before .before .if5 .left)))
 
 some-requires-3 : tie.Need-some-requires-3
 some-requires-3 c κs = search needs
@@ -96,18 +96,18 @@ returns-6 c =
     let a = c .before .before .before .before .before .before .before .before .before .before .args in
     c .some3 .ensures
     ∙ sym
-    (one-read (a .c) (buffers (now (a .sys)) (now (a .io))) (a .p) (c .before .before .before .before .before .before .before .before .before .before .pre .0) (c .before .before .before .byte .result) (sym (c .before .before .before .before .before .lent .ensures) ∙ not-false _ (c .before .before .before .before .if1 .left)) (c .before .before .before .byte .ensures) (c .before .before .if2 .left) (c .before .if4 .left))
+    (one-read (a .c) (buffers (now (a .sys)) (now (a .io))) (a .p) (c .before .before .before .before .before .before .before .before .before .before .pre .0) (c .before .before .before .byte .result) (sym (c .before .before .before .before .before .touchable .ensures) ∙ not-false _ (c .before .before .before .before .if1 .left)) (c .before .before .before .byte .ensures) (c .before .before .if2 .left) (c .before .if4 .left))
 
 pub fetch-spec : {M : Type 1} → statement M
 fetch-spec =
     tie.close
     (tie.spec
-    lent-requires
+    touchable-requires
     none-requires
     returns
     byte-requires
     second-requires
-    lent-requires-2
+    touchable-requires-2
     none-requires-2
     returns-2
     byte-requires-2
@@ -115,7 +115,7 @@ fetch-spec =
     returns-3
     cast-sum20
     sum20-requires
-    lent-requires-3
+    touchable-requires-3
     none-requires-3
     returns-4
     byte-requires-3

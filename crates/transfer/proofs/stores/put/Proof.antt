@@ -4,12 +4,12 @@ use borrow.Author.Needs.{needs}
 use borrow.Author.Tests.{not-true, not-false}
 use mathlib.Core.Path.{refl, sym, _∙_}
 use Rattle.transfer.specs.Stores.{putOn}
-use Rattle.transfer.proofs.TouchLaws.{places-lent}
+use Rattle.transfer.proofs.TouchLaws.{places-touchable}
 use Rattle.transfer.proofs.stores.put.Statement.{statement}
 use Rattle.transfer.proofs.stores.put.Tie as tie
 
-lent-requires : tie.Need-lent-requires
-lent-requires c κs = search needs
+touchable-requires : tie.Need-touchable-requires
+touchable-requires c κs = search needs
 
 same-length : tie.Need-same-length
 same-length c = search needs
@@ -18,13 +18,13 @@ same-length-2 : tie.Need-same-length-2
 same-length-2 c = search needs
 
 returns : tie.Need-returns
-returns c = (rw (places-lent, sym (c .before .lent .ensures) ∙ not-true _ (c .if1 .taken)), refl)
+returns c = (rw (places-touchable, sym (c .before .touchable .ensures) ∙ not-true _ (c .if1 .taken)), refl)
 
 second-requires : tie.Need-second-requires
 second-requires c κs = search needs
 
-lent-requires-2 : tie.Need-lent-requires-2
-lent-requires-2 c κs = search needs
+touchable-requires-2 : tie.Need-touchable-requires-2
+touchable-requires-2 c κs = search needs
 
 same-length-3 : tie.Need-same-length-3
 same-length-3 c = search needs
@@ -34,7 +34,7 @@ same-length-4 c = search needs
 
 returns-2 : tie.Need-returns-2
 returns-2 c =
-    (rw (places-lent, sym (c .before .before .before .before .before .before .before .lent .ensures) ∙ not-false _ (c .before .before .before .before .before .before .if1 .left), c .before .before .before .before .before .if2 .taken, ← (c .before .before .before .before .second .ensures), sym (c .before .lent2 .ensures) ∙ not-true _ (c .if3 .taken)), refl)
+    (rw (places-touchable, sym (c .before .before .before .before .before .before .before .touchable .ensures) ∙ not-false _ (c .before .before .before .before .before .before .if1 .left), c .before .before .before .before .before .if2 .taken, ← (c .before .before .before .before .second .ensures), sym (c .before .touchable2 .ensures) ∙ not-true _ (c .if3 .taken)), refl)
 
 store-byte-requires : tie.Need-store-byte-requires
 store-byte-requires c κs = search needs
@@ -51,7 +51,7 @@ same-length-6 c = search needs
 returns-3 : tie.Need-returns-3
 unfolding putOn
 returns-3 c = (
-  rw (places-lent, sym (c .before .before .before .before .before .before .before .before .before .before .before .before .before .before .before .before .before .before .before .before .before .lent .ensures) ∙ not-false _ (c .before .before .before .before .before .before .before .before .before .before .before .before .before .before .before .before .before .before .before .before .if1 .left), c .before .before .before .before .before .before .before .before .before .before .before .before .before .before .before .before .before .before .before .if2 .taken, ← (c .before .before .before .before .before .before .before .before .before .before .before .before .before .before .before .before .before .before .second .ensures), sym (c .before .before .before .before .before .before .before .before .before .before .before .before .before .before .before .lent2 .ensures) ∙ not-false _ (c .before .before .before .before .before .before .before .before .before .before .before .before .before .before .if3 .left)),
+  rw (places-touchable, sym (c .before .before .before .before .before .before .before .before .before .before .before .before .before .before .before .before .before .before .before .before .before .touchable .ensures) ∙ not-false _ (c .before .before .before .before .before .before .before .before .before .before .before .before .before .before .before .before .before .before .before .before .if1 .left), c .before .before .before .before .before .before .before .before .before .before .before .before .before .before .before .before .before .before .before .if2 .taken, ← (c .before .before .before .before .before .before .before .before .before .before .before .before .before .before .before .before .before .before .second .ensures), sym (c .before .before .before .before .before .before .before .before .before .before .before .before .before .before .before .touchable2 .ensures) ∙ not-false _ (c .before .before .before .before .before .before .before .before .before .before .before .before .before .before .if3 .left)),
   c .before .before .before .before .store-byte2 .ensures ∙ rw (c .before .before .before .before .before .before .before .before .before .before .before .store-byte .ensures, c .before .before .before .before .before .before .before .before .before .before .before .before .before .before .before .before .before .before .before .if2 .taken, c .before .before .before .before .before .before .before .before .before .before .before .before .before .before .before .before .before .before .second .ensures),
 )
 
@@ -67,18 +67,18 @@ same-length-8 c = search needs
 returns-4 : tie.Need-returns-4
 unfolding putOn
 returns-4 c =
-    (rw (places-lent, sym (c .before .before .before .before .before .before .before .before .before .lent .ensures) ∙ not-false _ (c .before .before .before .before .before .before .before .before .if1 .left), c .before .before .before .before .before .before .before .if2 .left), c .before .before .before .before .store-byte3 .ensures ∙ rw (c .before .before .before .before .before .before .before .if2 .left))
+    (rw (places-touchable, sym (c .before .before .before .before .before .before .before .before .before .touchable .ensures) ∙ not-false _ (c .before .before .before .before .before .before .before .before .if1 .left), c .before .before .before .before .before .before .before .if2 .left), c .before .before .before .before .store-byte3 .ensures ∙ rw (c .before .before .before .before .before .before .before .if2 .left))
 
 pub put-spec : {M : Type 1} → statement M
 put-spec =
     tie.close
     (tie.spec
-    lent-requires
+    touchable-requires
     same-length
     same-length-2
     returns
     second-requires
-    lent-requires-2
+    touchable-requires-2
     same-length-3
     same-length-4
     returns-2

@@ -1,0 +1,57 @@
+-- Empty card slots in numbers: an operand read out of one, one stored into one, and code at the end of lent I/O memory.
+-- Assumes nothing.
+use mathlib.Core.Bool.{Bool, true, false}
+use mathlib.Core.List.{[], _∷_}
+use mathlib.Core.Path.{_≡_, refl}
+use Rattle.decode.specs.Lengths.{lengthOf, dataLength, displacementLength, offsetLength}
+use Rattle.decode.specs.Reading.{lookup, decodeOf}
+use Rattle.decode.specs.Table.{table}
+use Rattle.decode_shapes.specs.Pairs.{pairOf}
+use Rattle.execute.specs.Execute.{decodedAt, performed, deedOf, laterBytes, laterFrom, deedFrom, stagesFrom, instructionStages, executeNumber, executeOf}
+use Rattle.execute_deeds.specs.MemoryForms.{readFirst, workedBack, memoryWorkDeed, memoryRegisterDeed}
+use Rattle.execute_deeds.specs.RegisterForms.{registerWritten, registerImmediateDeed, registerMemoryDeed}
+use Rattle.execute_operands.specs.Changes.{placesOf, changed}
+use Rattle.execute_operands.specs.Marks.{usedUp, pastInstruction}
+use Rattle.execute_operands.specs.Operands.{indexed, effective, grown, operandAt, isMove, workOf}
+use Rattle.machine.specs.Outcomes.{unless, first, givenNumber}
+use Rattle.machine.specs.Registers.{byRRR, registerOf, withRegister, baseOf}
+use Rattle.machine.specs.Stages.{stagesNumber}
+use Rattle.machine.specs.States.{idleChannel, channelOf, withChannel, withLast, sound, soundChannel, isRunning, blockOf, busyIn, channelNumber}
+use Rattle.machine.specs.Updates.{renewed, withControl}
+use Rattle.machine.specs.declared.Mode.the-variants.{Running}
+use Rattle.machine.specs.declared.State.{State}
+use Rattle.memory.specs.Buffers.{buffers, spaceOf, limitOf, indexOf, lentAt, touchableAt, beyondIn, byteAt, storeByte, withinLimits}
+use Rattle.memory.specs.Places.{span, allPass}
+use Rattle.memory.specs.Values.{pointer, onward, wordAt}
+use Rattle.step.specs.Choosing.{requested, external, endsNow, transferRank, rankOf, secondWins, ranked, choiceOf}
+use Rattle.step.specs.Step.{settledStep, instructionStep, channelStep, chosenStep, entryNumber, stepOf}
+use Rattle.words.specs.Bits.{fieldOf, bitOf}
+use Rattle.words.specs.Signs.{extended}
+use Rattle.promises.specs.Witness.{channelWith, bothWith}
+
+-- channel 1 runs at 0 of a space, with GA at 5 of I/O space and BC 1234h
+abbrev running : Bool → State
+running tag = bothWith (withControl (channelWith (pointer 5 true) (pointer 0 false) 0 0x1234 0 4) (pointer 0 tag) 0 4 Running false) idleChannel true
+
+-- MOVB BC,[GA] with I/O memory of length 0 is done: FFh, extended by its sign
+abbrev Read : Type 0
+Read =
+    let o = stepOf (running false) (buffers (0x60 ∷ 0x80 ∷ []) []) 0 in
+    (o .number ≡ 0) × (channelOf (o .state) false .bc ≡ 0xFFFF)
+
+-- MOV [GA],BC with six bytes of it: the low byte is kept, the high one is over the edge and vanishes
+abbrev Stored : Type 0
+Stored =
+    stepOf (running false) (buffers (0x61 ∷ 0x84 ∷ []) (1 ∷ 2 ∷ 3 ∷ 4 ∷ 5 ∷ 6 ∷ [])) 0 .memory
+    ≡ buffers (0x61 ∷ 0x84 ∷ []) (1 ∷ 2 ∷ 3 ∷ 4 ∷ 5 ∷ 0x34 ∷ [])
+
+-- MOVBI GA in I/O space, whose data is an empty slot, makes it FFFFFh; where nothing or one byte is lent there is no instruction
+abbrev Coded : Type 0
+Coded =
+    (channelOf (stepOf (running true) (buffers [] (0x08 ∷ 0x30 ∷ [])) 0 .state) false .ga ≡ pointer 0xFFFFF true)
+    × (stepOf (running true) (buffers [] []) 0 .number ≡ 3)
+    × (stepOf (running true) (buffers [] (0x08 ∷ [])) 0 .number ≡ 3)
+
+pub slots-met : Read × Stored × Coded
+unfolding stepOf entryNumber givenNumber first unless withinLimits limitOf spaceOf indexOf touchableAt lentAt byteAt beyondIn storeByte allPass span sound soundChannel idleChannel channelOf withChannel withLast withControl isRunning blockOf channelNumber requested external endsNow transferRank rankOf secondWins ranked choiceOf settledStep busyIn instructionStep channelStep chosenStep fieldOf bitOf decodedAt performed deedOf laterBytes laterFrom deedFrom stagesFrom instructionStages stagesNumber executeNumber executeOf onward renewed usedUp pastInstruction placesOf changed pairOf lookup decodeOf table lengthOf dataLength displacementLength offsetLength effective grown baseOf registerOf byRRR withRegister indexed operandAt extended isMove workOf registerWritten registerMemoryDeed registerImmediateDeed memoryRegisterDeed memoryWorkDeed workedBack readFirst wordAt bothWith channelWith
+slots-met = ((refl, refl), refl, (refl, refl, refl))
