@@ -76,7 +76,7 @@ static void test_empty(void)
     prepare(1, io);
     expect("program in io", iop89_run(sys, 64, io, 64, 0, 1, 0, 100), IOP89_NO_CHANNEL, 11);
     prepare(1, io);
-    expect("io NULL, program in io", iop89_run(sys, 64, NO_BUFFER, 0, 0, 1, 0, 100), IOP89_BEYOND_MEMORY, 0);
+    expect("io NULL, program in io", iop89_run(sys, 64, NO_BUFFER, 0, 0, 1, 0, 100), IOP89_NO_INSTRUCTION, 0);
 }
 
 int main(void)

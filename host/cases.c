@@ -37,6 +37,8 @@ static void choose_lengths(struct dice *d, struct run_case *c)
         c->sys_len = CASE_SYSTEM_ROOM;
     } else if (kind < 442) {
         c->io_len = CASE_IO_ROOM;
+    } else if (kind < 470) {
+        c->io_len = 0;
     }
 }
 
@@ -197,7 +199,7 @@ void make_case(struct run_case *c, uint64_t seed, uint64_t number)
     fill(&d, c->sys, c->sys_len);
     fill(&d, c->io, c->io_len);
     new_program(&p, &d, c->sys_len, c->io_len);
-    struct placing how = {c->io_len > 0 && chance(&d, 300), about_pair, 0};
+    struct placing how = {chance(&d, 300), about_pair, 0};
     if (about_pair) write_pair(&p, (unsigned)(number / 3) & 0xFFFFu);
     else if (chance(&d, 40)) write_noise(&p);
     else if (chance(&d, 80)) how.cut = write_cut(&p);

@@ -7,6 +7,9 @@
 #define MASK16 0xFFFFu
 #define MASK8 0xFFu
 
+/* What is read where I/O space has no byte. */
+#define EMPTY_SLOT 0xFFu
+
 /* RRR of the two registers that rules speak of by name. */
 enum { RRR_TP = 4, RRR_CC = 6 };
 
@@ -34,6 +37,7 @@ struct work {
     struct store store[MOST_STORES];
     unsigned shape, ends, end_offset;
     bool translated, jumped;
+    uint8_t in_io[EMU_ACCESSES], empty[EMU_ACCESSES];
 };
 
 /* The first refusal stands, so the order of tests is the order in which they are made. */
@@ -78,37 +82,46 @@ static struct emu_pointer in_system(uint32_t address)
 }
 
 /* The lent byte at a place, or NULL where none is lent. */
-static uint8_t *cell(const struct emu_memory *memory, struct emu_pointer p)
+static inline uint8_t *cell(const struct emu_memory *memory, struct emu_pointer p)
 {
     uint32_t at = p.tag ? p.address & MASK16 : p.address & MASK20;
     if (at >= (p.tag ? memory->io_len : memory->sys_len)) return NULL;
     return (p.tag ? memory->io : memory->sys) + at;
 }
 
+/* The lent byte at a place that a call accesses. Where none is lent, I/O space has an empty slot, and system space refuses. */
+static inline uint8_t *accessed(struct work *w, struct emu_pointer p, enum emu_access access)
+{
+    uint8_t *c = cell(w->memory, p);
+    if (p.tag) {
+        w->in_io[access]++;
+        w->empty[access] = (uint8_t)(w->empty[access] + (c == NULL));
+    } else if (c == NULL) {
+        refuse(w, EMU_BEYOND_LENT_MEMORY);
+    }
+    return c;
+}
+
 /* Reads n bytes, low byte first, each at its own reduced address. */
-static uint32_t read_bytes(struct work *w, struct emu_pointer p, unsigned n)
+static inline uint32_t read_bytes(struct work *w, struct emu_pointer p, unsigned n, enum emu_access access)
 {
     uint32_t value = 0;
     for (unsigned i = 0; i < n; i++) {
-        const uint8_t *c = cell(w->memory, plus(p, i));
-        if (c == NULL) refuse(w, EMU_BEYOND_LENT_MEMORY);
-        else value |= (uint32_t)*c << (8 * i);
+        const uint8_t *c = accessed(w, plus(p, i), access);
+        value |= (uint32_t)(c == NULL ? EMPTY_SLOT : *c) << (8 * i);
     }
     return value;
 }
 
-/* Notes n bytes to be stored, low byte first; memory itself changes only when the call is accepted. */
-static void write_bytes(struct work *w, struct emu_pointer p, uint32_t value, unsigned n)
+/* Notes n bytes to be stored, low byte first; memory itself changes only when the call is accepted, and an empty slot never. */
+static inline void write_bytes(struct work *w, struct emu_pointer p, uint32_t value, unsigned n, enum emu_access access)
 {
     for (unsigned i = 0; i < n; i++) {
-        uint8_t *c = cell(w->memory, plus(p, i));
-        if (c == NULL) {
-            refuse(w, EMU_BEYOND_LENT_MEMORY);
-        } else {
-            w->store[w->stores].cell = c;
-            w->store[w->stores].byte = (uint8_t)(value >> (8 * i));
-            w->stores++;
-        }
+        uint8_t *c = accessed(w, plus(p, i), access);
+        if (c == NULL) continue;
+        w->store[w->stores].cell = c;
+        w->store[w->stores].byte = (uint8_t)(value >> (8 * i));
+        w->stores++;
     }
 }
 
@@ -190,7 +203,7 @@ static bool matches(uint16_t mc, uint32_t data)
 /* BUSY is the block's second byte. */
 static void set_busy(struct work *w, uint8_t value)
 {
-    write_bytes(w, in_system(w->block + 1), value, 1);
+    write_bytes(w, in_system(w->block + 1), value, 1, EMU_STORE);
 }
 
 /* What halt and HLT share. */
@@ -268,9 +281,9 @@ static unsigned command_refusal(unsigned command, enum emu_mode mode)
 static void start(struct work *w, bool in_io)
 {
     struct emu_channel *ch = w->ch;
-    ch->pp = from_doubleword(read_bytes(w, in_system(w->block + 2), 4));
-    if (in_io) ch->tp.address = read_bytes(w, in_system(ch->pp), 2);
-    else ch->tp.address = from_doubleword(read_bytes(w, in_system(ch->pp), 4));
+    ch->pp = from_doubleword(read_bytes(w, in_system(w->block + 2), 4, EMU_READ_POINTER));
+    if (in_io) ch->tp.address = read_bytes(w, in_system(ch->pp), 2, EMU_READ);
+    else ch->tp.address = from_doubleword(read_bytes(w, in_system(ch->pp), 4, EMU_READ_POINTER));
     ch->tp.tag = in_io;
     ch->mode = EMU_RUNNING;
     ch->psw = (uint8_t)((ch->psw & ~EMU_PSW_XF) | EMU_PSW_TB);
@@ -282,8 +295,8 @@ static void start(struct work *w, bool in_io)
 static void suspend(struct work *w)
 {
     struct emu_channel *ch = w->ch;
-    write_bytes(w, in_system(ch->pp), to_stored(ch->tp), 3);
-    write_bytes(w, in_system(ch->pp + 3), ch->psw, 1);
+    write_bytes(w, in_system(ch->pp), to_stored(ch->tp), 3, EMU_STORE_POINTER);
+    write_bytes(w, in_system(ch->pp + 3), ch->psw, 1, EMU_STORE);
     ch->psw &= (uint8_t) ~(EMU_PSW_TB | EMU_PSW_XF);
     ch->mode = EMU_SUSPENDED;
     set_busy(w, 0x00);
@@ -293,7 +306,7 @@ static void suspend(struct work *w)
 static void resume(struct work *w)
 {
     struct emu_channel *ch = w->ch;
-    uint32_t saved = read_bytes(w, in_system(ch->pp), 4);
+    uint32_t saved = read_bytes(w, in_system(ch->pp), 4, EMU_READ_POINTER);
     ch->tp = from_stored(saved & 0xFFFFFFu);
     ch->psw = (uint8_t)(saved >> 24 | EMU_PSW_TB);
     ch->mode = EMU_RUNNING;
@@ -332,7 +345,7 @@ static unsigned attend(struct emu_state *state, const struct emu_memory *memory,
 {
     struct work w;
     begin(&w, state, memory, channel);
-    unsigned ccw = read_bytes(&w, in_system(w.block), 1);
+    unsigned ccw = read_bytes(&w, in_system(w.block), 1, EMU_READ);
     refuse(&w, command_refusal(ccw & 7, w.ch->mode));
     if (w.number != EMU_DONE) return w.number;
     obey_command(&w, ccw & 7);
@@ -520,7 +533,7 @@ static struct emu_pointer locate(struct emu_channel *ch, const struct place *pla
 /* Reads a memory operand. */
 static uint32_t read_operand(struct work *w, struct emu_pointer p, unsigned bytes)
 {
-    return sign_extend(read_bytes(w, p, bytes), bytes);
+    return sign_extend(read_bytes(w, p, bytes, EMU_READ), bytes);
 }
 
 /* The operand that is not the destination; held is RRR's value from before IX grew. */
@@ -552,7 +565,7 @@ static void to_memory(struct work *w, const struct instruction *in)
     struct emu_pointer where = locate(w->ch, &in->place, in->bytes);
     uint32_t operand = source_value(w, in, held, where);
     uint32_t old = in->row->result == take ? 0 : read_operand(w, where, in->bytes);
-    write_bytes(w, where, in->row->result(old, operand), in->bytes);
+    write_bytes(w, where, in->row->result(old, operand), in->bytes, EMU_STORE);
 }
 
 /* MOV M,M: the second address is formed from the IX that the first one left. */
@@ -560,7 +573,7 @@ static void memory_to_memory(struct work *w, const struct instruction *in)
 {
     struct emu_pointer from = locate(w->ch, &in->place, in->bytes);
     struct emu_pointer to = locate(w->ch, &in->second, in->bytes);
-    write_bytes(w, to, read_bytes(w, from, in->bytes), in->bytes);
+    write_bytes(w, to, read_bytes(w, from, in->bytes, EMU_READ), in->bytes, EMU_STORE);
 }
 
 /* A displacement counts from the instruction's end, where TP stands. */
@@ -582,7 +595,7 @@ static void jump_if(struct work *w, const struct instruction *in)
 /* CALL: the way back is saved before the jump. */
 static void call(struct work *w, const struct instruction *in)
 {
-    write_bytes(w, locate(w->ch, &in->place, in->bytes), to_stored(w->ch->tp), 3);
+    write_bytes(w, locate(w->ch, &in->place, in->bytes), to_stored(w->ch->tp), 3, EMU_STORE_POINTER);
     jump(w, in);
 }
 
@@ -590,7 +603,7 @@ static void call(struct work *w, const struct instruction *in)
 static void test_and_set(struct work *w, const struct instruction *in)
 {
     struct emu_pointer where = locate(w->ch, &in->place, in->bytes);
-    if (read_bytes(w, where, 1) == 0) write_bytes(w, where, in->data, 1);
+    if (read_bytes(w, where, 1, EMU_TEST) == 0) write_bytes(w, where, in->data, 1, EMU_STORE);
     else jump(w, in);
 }
 
@@ -603,7 +616,7 @@ static void load_system_pointer(struct work *w, const struct instruction *in, ui
 /* LPD P,M. */
 static void load_doubleword(struct work *w, const struct instruction *in)
 {
-    load_system_pointer(w, in, read_bytes(w, locate(w->ch, &in->place, in->bytes), 4));
+    load_system_pointer(w, in, read_bytes(w, locate(w->ch, &in->place, in->bytes), 4, EMU_READ_POINTER));
 }
 
 /* LPDI P,I. */
@@ -616,13 +629,13 @@ static void load_immediate(struct work *w, const struct instruction *in)
 static void save_pointer(struct work *w, const struct instruction *in)
 {
     struct emu_pointer held = *pointer_register(w->ch, in->rrr);
-    write_bytes(w, locate(w->ch, &in->place, in->bytes), to_stored(held), 3);
+    write_bytes(w, locate(w->ch, &in->place, in->bytes), to_stored(held), 3, EMU_STORE_POINTER);
 }
 
 /* MOVP P,M. */
 static void restore_pointer(struct work *w, const struct instruction *in)
 {
-    uint32_t stored = read_bytes(w, locate(w->ch, &in->place, in->bytes), 3);
+    uint32_t stored = read_bytes(w, locate(w->ch, &in->place, in->bytes), 3, EMU_READ_POINTER);
     *pointer_register(w->ch, in->rrr) = from_stored(stored);
 }
 
@@ -825,7 +838,7 @@ const char *emu_format_name(uint8_t first, uint8_t second)
 /* Takes the instruction's next byte. */
 static uint8_t next_byte(struct work *w, struct instruction *in)
 {
-    uint8_t byte = (uint8_t)read_bytes(w, in->end, 1);
+    uint8_t byte = (uint8_t)read_bytes(w, in->end, 1, in->row == NULL ? EMU_FIRST_PAIR : EMU_LATER_CODE);
     in->end = plus(in->end, 1);
     return byte;
 }
@@ -857,7 +870,7 @@ static void take_offset(struct work *w, struct instruction *in, struct place *p)
     if (p->aa == 1) p->offset = next_byte(w, in);
 }
 
-/* Takes the second pair of MOV M,M and its offset byte; both bytes must be lent before either is judged. */
+/* Takes the second pair of MOV M,M and its offset byte; both bytes are there before either is judged. */
 static void take_second_pair(struct work *w, struct instruction *in)
 {
     uint8_t first = next_byte(w, in);
@@ -994,11 +1007,11 @@ static bool bad_transfer(const struct emu_channel *ch)
 /* Fetches the byte or the two bytes that are to be stored, low byte first. */
 static uint32_t fetch(struct work *w, const struct side *source, bool two)
 {
-    uint32_t data = read_bytes(w, *source->pointer, 1);
-    if (two) data |= read_bytes(w, second_place(source), 1) << 8;
+    uint32_t data = read_bytes(w, *source->pointer, 1, EMU_SOURCE);
+    if (two) data |= read_bytes(w, second_place(source), 1, EMU_SOURCE) << 8;
     if (!cc_translate(w->ch->cc)) return data;
     w->translated = true;
-    return read_bytes(w, plus(w->ch->gc, data & MASK8), 1);
+    return read_bytes(w, plus(w->ch->gc, data & MASK8), 1, EMU_TABLE);
 }
 
 /* Stores singly: a first byte that meets TMC keeps the second from being stored or tested. */
@@ -1006,10 +1019,10 @@ static unsigned store_singly(struct work *w, const struct side *destination, uin
 {
     uint32_t low = data & MASK8, high = data >> 8 & MASK8;
     bool low_meets = meets_tmc(w->ch, low);
-    write_bytes(w, *destination->pointer, low, 1);
+    write_bytes(w, *destination->pointer, low, 1, EMU_DESTINATION);
     if (low_meets) w->ends |= EMU_END_TMC;
     if (!two || low_meets) return 1;
-    write_bytes(w, second_place(destination), high, 1);
+    write_bytes(w, second_place(destination), high, 1, EMU_DESTINATION);
     if (meets_tmc(w->ch, high)) w->ends |= EMU_END_TMC;
     return 2;
 }
@@ -1017,7 +1030,7 @@ static unsigned store_singly(struct work *w, const struct side *destination, uin
 /* Stores a word, of which only the low byte is looked at for a match. */
 static unsigned store_word(struct work *w, const struct side *destination, uint32_t data)
 {
-    write_bytes(w, *destination->pointer, data, 2);
+    write_bytes(w, *destination->pointer, data, 2, EMU_DESTINATION);
     if (meets_tmc(w->ch, data & MASK8)) w->ends |= EMU_END_TMC;
     return 2;
 }
@@ -1175,6 +1188,17 @@ static void external_step(struct work *w)
     if (emu_coverage != NULL) emu_coverage->external[offset / 4]++;
 }
 
+/* Counts the empty slots that a step met, if it came to use them: a done one, or one whose bytes are no instruction. */
+static void count_slots(const struct work *w)
+{
+    if (emu_coverage == NULL || (w->number != EMU_DONE && w->number != EMU_NO_INSTRUCTION)) return;
+    for (unsigned i = 0; i < EMU_ACCESSES; i++) {
+        if (w->empty[i] == 0) continue;
+        unsigned of = w->in_io[i] == 1 ? EMU_ALONE : w->empty[i] == w->in_io[i] ? EMU_ALL : EMU_SOME;
+        emu_coverage->slot[i][of]++;
+    }
+}
+
 /* Does the step that a channel has before it, and answers its number. */
 static unsigned do_step(struct emu_state *state, const struct emu_memory *memory, unsigned channel, char kind)
 {
@@ -1184,6 +1208,7 @@ static unsigned do_step(struct emu_state *state, const struct emu_memory *memory
     if (kind == 'X') external_step(&w);
     else if (kind == 'T') transfer_step(&w);
     else instruction_step(&w);
+    count_slots(&w);
     return finish(&w, state);
 }
 

@@ -115,6 +115,25 @@ enum emu_leftover {
 /* Reasons for which a transfer step ended its transfer; they can meet, so they add up. */
 enum emu_end { EMU_END_TMC = 1, EMU_END_TBC = 2, EMU_END_TS = 4, EMU_END_SETS = 8 };
 
+/* What a byte is read or stored for: the first pair and later bytes of code; an operand's byte or word, TSL's byte, a pointer
+ * of three or four bytes; and of a transfer step its source, the entry of its table and its destination. */
+enum emu_access {
+    EMU_FIRST_PAIR,
+    EMU_LATER_CODE,
+    EMU_READ,
+    EMU_TEST,
+    EMU_READ_POINTER,
+    EMU_STORE,
+    EMU_STORE_POINTER,
+    EMU_SOURCE,
+    EMU_TABLE,
+    EMU_DESTINATION,
+    EMU_ACCESSES
+};
+
+/* How many of the bytes of one such access lie in empty slots: its only one, all of several, or some of them. */
+enum emu_slots { EMU_ALONE, EMU_ALL, EMU_SOME, EMU_SLOT_SETS };
+
 /* Counters that a comparison program may lend, to see what its calls reached. */
 struct emu_coverage {
     unsigned long attention[8];             /* accepted, by command */
@@ -128,6 +147,7 @@ struct emu_coverage {
     unsigned long end_offset[3];            /* ended ones, by offset 0, 4, 8 */
     unsigned long external[3];              /* external ends, by offset 0, 4, 8 */
     unsigned long step_refused[EMU_NUMBERS];
+    unsigned long slot[EMU_ACCESSES][EMU_SLOT_SETS]; /* steps that met empty slots, by what for and how many */
 };
 
 /* The lent counters, or NULL for none. */

@@ -80,6 +80,26 @@ static void print_ends(const struct emu_coverage *coverage)
     print_count("external end at offset 8", coverage->external[2]);
 }
 
+/* Prints the accesses that met empty slots of I/O space; the names that are missing cannot be met. */
+static void print_slots(const struct emu_coverage *coverage)
+{
+    static const char *const names[EMU_ACCESSES][EMU_SLOT_SETS] = {
+        [EMU_FIRST_PAIR] = {NULL, "first pair", "one byte of the first pair"},
+        [EMU_LATER_CODE] = {"the only later byte of code", "all later bytes of code", "some later bytes of code"},
+        [EMU_READ] = {"byte operand read", "word operand read", "word operand read over the edge"},
+        [EMU_TEST] = {"TSL's byte", NULL, NULL},
+        [EMU_READ_POINTER] = {NULL, "pointer read", "pointer read over the edge"},
+        [EMU_STORE] = {"byte stored", "word stored", "word stored over the edge"},
+        [EMU_STORE_POINTER] = {NULL, "pointer stored", "pointer stored over the edge"},
+        [EMU_SOURCE] = {"source's byte", "source's two bytes", "source's two bytes over the edge"},
+        [EMU_TABLE] = {"table's entry", NULL, NULL},
+        [EMU_DESTINATION] = {"destination's byte", "destination's two bytes", "destination's two bytes over the edge"}};
+    puts("accesses to empty slots, by what for:");
+    for (unsigned i = 0; i < EMU_ACCESSES; i++)
+        for (unsigned of = 0; of < EMU_SLOT_SETS; of++)
+            if (names[i][of] != NULL) print_count(names[i][of], coverage->slot[i][of]);
+}
+
 void print_coverage(const struct emu_coverage *coverage, unsigned commands)
 {
     print_commands(coverage, commands);
@@ -87,6 +107,7 @@ void print_coverage(const struct emu_coverage *coverage, unsigned commands)
     print_shapes(coverage);
     print_leftovers(coverage);
     print_ends(coverage);
+    print_slots(coverage);
 }
 
 bool all_met(unsigned long long made, unsigned long long enough, const char *unit)

@@ -261,7 +261,7 @@ static void add_movi(struct program *p, unsigned rrr, uint32_t word)
 /* Points a pointer at some place of either space, with these bits cleared; I/O space by MOVI, system space by LPDI. */
 static void add_pointing_without(struct program *p, unsigned ppp, uint32_t bits)
 {
-    if (chance(p->d, 400) && p->io_len > 0) {
+    if (chance(p->d, 400)) {
         add_movi(p, ppp, some_place(p, true) & ~bits);
         return;
     }

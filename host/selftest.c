@@ -1146,12 +1146,10 @@ static void test_wrapping(void)
     code("64 80");
     W.bc = 0x45;
     DONE('I');
-    /* a short I/O buffer: 16-bit address beyond it */
+    /* a short I/O buffer: the 16-bit address counts */
     reset();
     N.ga = (struct emu_pointer){0x10000, true};
     sys(0x100, "60 80");
-    now.m.io_len = 0;
-    REFUSED(2);
     now.m.io_len = 1;
     CHECK(emu_step(&now.s, &now.m, 0).number == 0 && N.bc == 0x5A);
     /* PP is always system */
@@ -1166,6 +1164,172 @@ static void test_wrapping(void)
     sys(0x10FF, "01");
     code("62 80 FF");
     W.bc = 1;
+    DONE('I');
+}
+
+/* ---- Empty card slots ---- */
+
+/* Channel 1 at 100h of system space, GA at a place of I/O space of which so many bytes are lent. */
+static void slot(uint32_t at, size_t io_len)
+{
+    reset();
+    N.ga = (struct emu_pointer){at, true};
+    now.m.io_len = io_len;
+}
+
+/* Reads give FFh, byte for byte, at the 16-bit address. */
+static void test_slots_read(void)
+{
+    slot(0x2000, 0x1000);
+    code("60 80");
+    W.bc = 0xFFFF;
+    DONE('I');
+    slot(0x2000, 0);
+    code("61 80");
+    W.bc = 0xFFFF;
+    DONE('I');
+    /* a word over the edge: a lent low byte, FFh above it */
+    slot(0x0FFF, 0x1000);
+    io(0x0FFF, "21");
+    code("61 80");
+    W.bc = 0xFF21;
+    DONE('I');
+    /* a word at FFFFh: FFh below, the byte at 0 above it */
+    slot(0xFFFF, 1);
+    io(0, "43");
+    code("61 80");
+    W.bc = 0x43FF;
+    DONE('I');
+    /* the high four bits of the pointer are dropped before the length counts */
+    slot(0x30800, 0x1000);
+    io(0x800, "34 12");
+    code("61 80");
+    W.bc = 0x1234;
+    DONE('I');
+    /* pointers: LPD of four bytes FFh, MOVP with one lent byte */
+    slot(0x2000, 0x1000);
+    code("41 88");
+    W.gc = (struct emu_pointer){(0xFFFF0 + 0xFFFF) & 0xFFFFF, false};
+    DONE('I');
+    slot(0x0FFF, 0x1000);
+    io(0x0FFF, "12");
+    code("41 8C");
+    W.gc = (struct emu_pointer){0xFFF12, true};
+    DONE('I');
+    /* TSL finds FFh, which is not free, and jumps */
+    slot(0x2000, 0x1000);
+    code("18 94 77 10");
+    W.tp.address += 0x10;
+    DONE('I');
+    /* JZ on a byte, JMCE on FFh */
+    slot(0x2000, 0x1000);
+    code("08 E4 10");
+    DONE('I');
+    slot(0x2000, 0x1000);
+    N.mc = 0xFFFF;
+    code("08 B0 10");
+    W.tp.address += 0x10;
+    DONE('I');
+}
+
+/* Stores vanish, byte for byte; what is read before them is FFh. */
+static void test_slots_store(void)
+{
+    slot(0x2000, 0x1000);
+    N.bc = 0x1234;
+    code("61 84");
+    DONE('I');
+    slot(0x0FFF, 0x1000);
+    N.bc = 0x1234;
+    code("61 84");
+    want_io(0x0FFF, "34");
+    DONE('I');
+    slot(0xFFFF, 1);
+    N.bc = 0x1234;
+    code("61 84");
+    want_io(0, "12");
+    DONE('I');
+    slot(0x0FFE, 0x1000);
+    N.gb = (struct emu_pointer){0x6789A, false};
+    code("21 98");
+    want_io(0x0FFE, "9A 78");
+    DONE('I');
+    /* CALL jumps though its way back is lost */
+    slot(0x2000, 0);
+    code("88 9C 10");
+    W.tp.address += 0x10;
+    DONE('I');
+    /* INC and SETB of a slot; MOV M,M from one and into one */
+    slot(0x2000, 0x1000);
+    code("01 E8");
+    DONE('I');
+    slot(0x2000, 0x1000);
+    code("60 F4");
+    DONE('I');
+    slot(0x2000, 0x1000);
+    code("01 90 01 CD");
+    want_sys(0x2000, "FF FF");
+    DONE('I');
+    slot(0x2000, 0x1000);
+    code("01 91 01 CC");
+    DONE('I');
+}
+
+/* Code: a first pair with a byte in an empty slot is 3, later bytes are FFh. */
+static void test_slots_code(void)
+{
+    slot(0, 0x1000);
+    N.tp = (struct emu_pointer){0x2000, true};
+    REFUSED(3);
+    slot(0, 0x1000);
+    N.tp = (struct emu_pointer){0x0FFF, true};
+    io(0x0FFF, "71");
+    REFUSED(3);
+    slot(0, 1);
+    N.tp = (struct emu_pointer){0xFFFF, true};
+    io(0, "30");
+    REFUSED(3);
+    slot(0, 0);
+    N.tp = (struct emu_pointer){0, true};
+    REFUSED(3);
+    /* MOVI BC with both bytes of data empty, then with one */
+    slot(0, 0x1000);
+    N.tp = (struct emu_pointer){0x0FFE, true};
+    io(0x0FFE, "71 30");
+    want_same();
+    W.bc = 0xFFFF;
+    W.tp.address = 0x1002;
+    want.s.last = 1;
+    DONE('I');
+    slot(0, 0x1000);
+    N.tp = (struct emu_pointer){0x0FFD, true};
+    io(0x0FFD, "71 30 34");
+    want_same();
+    W.bc = 0xFF34;
+    W.tp.address = 0x1001;
+    want.s.last = 1;
+    DONE('I');
+    /* a displacement of FFh, a second pair of FF FF, an offset byte of FFh */
+    slot(0, 0x1000);
+    N.tp = (struct emu_pointer){0x0FFE, true};
+    io(0x0FFE, "88 20");
+    want_same();
+    W.tp.address = 0x1000;
+    want.s.last = 1;
+    DONE('I');
+    slot(0, 0x1000);
+    N.tp = (struct emu_pointer){0x0FFE, true};
+    io(0x0FFE, "00 90");
+    REFUSED(3);
+    slot(0, 0x1000);
+    N.tp = (struct emu_pointer){0x0FFE, true};
+    N.gb = (struct emu_pointer){0x2000, false};
+    io(0x0FFE, "62 81");
+    sys(0x20FF, "44");
+    want_same();
+    W.bc = 0x44;
+    W.tp.address = 0x1001;
+    want.s.last = 1;
     DONE('I');
 }
 
@@ -2553,6 +2717,90 @@ static void test_transfer_refusals(void)
     DONE('T');
 }
 
+/* Transfers out of empty slots and into them: FFh goes, what is stored vanishes, and all else is as ever. */
+static void test_slots_transfer(void)
+{
+    const struct emu_pointer gone = {0x2000, true}, edge = {0x0FFE, true};
+    /* a byte, and a word, out of slots */
+    transfer(0, 0xC000, 9);
+    N.ga = gone;
+    now.m.io_len = 0x1000;
+    want_moved(1, -1);
+    want_sys(0x2000, "FF");
+    DONE('T');
+    transfer(3, 0xC000, 9);
+    N.ga = gone;
+    now.m.io_len = 0;
+    want_moved(2, -1);
+    want_sys(0x2000, "FF FF");
+    DONE('T');
+    /* over the edge */
+    transfer(3, 0xC000, 9);
+    N.ga = edge;
+    now.m.io_len = 0x0FFF;
+    io(0x0FFE, "21");
+    want_moved(2, -1);
+    want_sys(0x2000, "21 FF");
+    DONE('T');
+    /* into slots: BC falls and the match looks at what vanishes */
+    transfer(0, 0xC001, 9);
+    N.gb = gone;
+    N.mc = 0xFF11;
+    now.m.io_len = 0x1000;
+    want_moved(1, 0);
+    DONE('T');
+    transfer(3, 0xC008, 2);
+    N.gb = gone;
+    now.m.io_len = 0x1000;
+    want_moved(2, 0);
+    DONE('T');
+    transfer(3, 0xC000, 9);
+    N.gb = edge;
+    now.m.io_len = 0x0FFF;
+    want_moved(2, -1);
+    want_io(0x0FFE, "11");
+    DONE('T');
+    /* FFh out of a slot meets TMC */
+    transfer(0, 0xC001, 9);
+    N.ga = gone;
+    N.mc = 0xFFFF;
+    now.m.io_len = 0x1000;
+    want_moved(1, 0);
+    want_sys(0x2000, "FF");
+    DONE('T');
+    /* translation: FFh as the index, and an entry in a slot */
+    transfer(0, 0xE000, 9);
+    N.ga = gone;
+    now.m.io_len = 0x1000;
+    sys(0x30FF, "77");
+    want_moved(1, -1);
+    want_sys(0x2000, "77");
+    DONE('T');
+    transfer(0, 0xE000, 9);
+    N.gc = gone;
+    now.m.io_len = 0x1000;
+    want_moved(1, -1);
+    want_sys(0x2000, "FF");
+    DONE('T');
+}
+
+/* System space has no empty slots: 2, wherever I/O memory ends. */
+static void test_slots_system(void)
+{
+    for (size_t io_len = 0; io_len <= EMU_IO_LIMIT; io_len += EMU_IO_LIMIT) {
+        reset();
+        sys(0x100, "60 80");
+        now.m.sys_len = 0x1000;
+        now.m.io_len = io_len;
+        REFUSED(2);
+        transfer(0, 0xC000, 9);
+        N.gb = (struct emu_pointer){0x20, true};
+        now.m.sys_len = 0x1000;
+        now.m.io_len = io_len;
+        REFUSED(2);
+    }
+}
+
 /* ---- Which channel steps ---- */
 
 /* Both channels ready for a plain instruction. */
@@ -2777,10 +3025,10 @@ static void test_panel_program(void)
     put(input, sizeof input, 0x20, "D1 30 08 C0 68 30 01 60 00 00 00 20 48");
     check_trace(input, 0x2D,
                 "1 1 I 00024\n2 1 I 00027\n3 1 I 00029\n4 1 I 0002B\n5 1 T 0002B\n6 1 I 0002D\nend 1 6\n", __LINE__);
-    /* 256 bytes of I/O memory: start in I/O space at FEh runs one NOP and stops at its end */
+    /* 256 bytes of I/O memory: start in I/O space at FEh runs one NOP; behind it slots are empty, and FF FF is none */
     input[0] = 0x01;
     put(input, sizeof input, 0x10, "FE 00");
-    check_trace(input, 38, "1 1 I 00100\nend 2 1\n", __LINE__);
+    check_trace(input, 38, "1 1 I 00100\nend 3 1\n", __LINE__);
 }
 
 /* The run's answer over channel, lines and limit. */
@@ -2963,6 +3211,7 @@ static void test_coverage(void)
     unsigned long all = 0;
     for (unsigned row = 0; row < EMU_ROWS; row++) all += c.row[row];
     CHECK(all == 1);
+    CHECK(c.slot[EMU_READ][EMU_ALONE] == 0);
     CHECK(strcmp(emu_row_name(EMU_NO_ROW), "3") == 0);
 }
 
@@ -2987,6 +3236,11 @@ int main(void)
     test_order_of_tests();
     test_second_pair();
     test_wrapping();
+    test_slots_read();
+    test_slots_store();
+    test_slots_code();
+    test_slots_transfer();
+    test_slots_system();
     test_moves();
     test_index();
     test_register_arithmetic();

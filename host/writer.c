@@ -46,7 +46,7 @@ static uint32_t program_place(struct writer *w, uint32_t channel, bool in_io, un
 /* Writes a new program for a channel and remembers where it starts. */
 static void give_program(struct writer *w, uint32_t channel)
 {
-    bool in_io = w->s.memory.io_len > 64 && chance(&w->d, 300);
+    bool in_io = (w->s.memory.io_len > 64 || chance(&w->d, 50)) && chance(&w->d, 300);
     struct program *p = fresh_program(w);
     unsigned cut = 0;
     if (chance(&w->d, 40)) write_noise(p);
@@ -122,7 +122,7 @@ static void give_odd_attention(struct writer *w)
 /* Sets GA, GB or GC and its tag to a place for data. */
 static void point(struct writer *w, uint32_t channel, unsigned which)
 {
-    bool in_io = w->s.memory.io_len > 0 && chance(&w->d, 400);
+    bool in_io = chance(&w->d, 400);
     set(w, channel, which, data_place(w, in_io));
     set(w, channel, which - SET_GA + SET_GA_TAG, in_io);
 }
@@ -267,6 +267,73 @@ static void try_instructions(struct writer *w, uint32_t channel)
     for (unsigned i = 5; i > 0 && w->s.answered == EMU_DONE; i--) step(w, some_lines(w));
 }
 
+/* Lets one channel alone execute, from some place of either space. */
+static void execute_at(struct writer *w, uint32_t channel, bool in_io, uint32_t tp)
+{
+    set(w, channel, SET_PSW, EMU_PSW_TB);
+    set(w, channel, SET_MODE, EMU_RUNNING);
+    set(w, 3 - channel, SET_MODE, EMU_IDLE);
+    set(w, channel, SET_TP_TAG, in_io);
+    set(w, channel, SET_TP, tp);
+}
+
+/* Puts an instruction of which some bytes are cut off at the end of I/O memory, and steps. */
+static void execute_into_slots(struct writer *w, uint32_t channel)
+{
+    static const uint8_t movi_bc[] = {0x71, 0x30, 0x34, 0x12}, jmp[] = {0x88, 0x20, 0x05};
+    bool word = chance(&w->d, 700);
+    size_t length = word ? sizeof movi_bc : sizeof jmp, there = 1 + below(&w->d, length - 1);
+    uint32_t tp = (uint32_t)(w->s.memory.io_len - there) & 0xFFFFu;
+    execute_at(w, channel, true, tp);
+    place(w, true, tp, word ? movi_bc : jmp, length);
+    step(w, 0);
+}
+
+/* Points at the end of I/O memory and behind it, and lets instructions read and store there: MOV and MOVB both ways, LPD,
+   MOVP both ways, CALL, TSL and INC. */
+static void work_in_slots(struct writer *w, uint32_t channel)
+{
+    static const uint8_t pairs[][2] = {{0x61, 0x80}, {0x60, 0x80}, {0x61, 0x84}, {0x60, 0x84}, {0x41, 0x88},
+                                       {0x41, 0x8C}, {0x21, 0x98}, {0x88, 0x9C}, {0x18, 0x94}, {0x01, 0xE8}};
+    uint32_t tp = 16 + below(&w->d, 16);
+    for (unsigned i = 0; i < 3; i++) {
+        set(w, channel, SET_GA + i, (uint32_t)(w->s.memory.io_len - i) & 0xFFFFu);
+        set(w, channel, SET_GA_TAG + i, true);
+    }
+    for (unsigned i = 0; i < 5; i++) {
+        const uint8_t *pair = ONE_OF(&w->d, pairs);
+        uint8_t code[4] = {pair[0], (uint8_t)(pair[1] | below(&w->d, 3)), 0, 0};
+        execute_at(w, channel, false, tp);
+        place(w, false, tp, code, sizeof code);
+        step(w, 0);
+    }
+}
+
+/* Makes one transfer step of two bytes, the last of I/O memory and the slot behind it, out of there or into it. */
+static void transfer_over_edge(struct writer *w, uint32_t channel)
+{
+    bool into = chance(&w->d, 500);
+    unsigned edge = into ? SET_GB : SET_GA, other = into ? SET_GA : SET_GB;
+    execute_at(w, channel, false, 16);
+    set(w, channel, edge, (uint32_t)(w->s.memory.io_len - 1) & 0xFFFFu);
+    set(w, channel, edge - SET_GA + SET_GA_TAG, true);
+    set(w, channel, other, 2 * below(&w->d, 32));
+    set(w, channel, other - SET_GA + SET_GA_TAG, false);
+    set(w, channel, SET_CC, 0xC080);
+    set(w, channel, SET_PSW, EMU_PSW_TB | EMU_PSW_XF | EMU_PSW_S | EMU_PSW_D);
+    step(w, 0);
+}
+
+/* Lets a channel meet empty slots of I/O space, where there are some. */
+static void meet_slots(struct writer *w)
+{
+    unsigned kind = below(&w->d, 1000);
+    if (w->s.memory.io_len >= EMU_IO_LIMIT) return;
+    if (kind < 300) execute_into_slots(w, some_channel(w));
+    else if (kind < 500) transfer_over_edge(w, some_channel(w));
+    else work_in_slots(w, some_channel(w));
+}
+
 /* Gives a channel another program, and starts it from whatever mode. */
 static void start_again(struct writer *w, uint32_t channel)
 {
@@ -390,17 +457,18 @@ static void say_damaged(struct writer *w)
 static void go_on(struct writer *w)
 {
     unsigned kind = below(&w->d, 1000);
-    if (kind < 330) steps(w);
-    else if (kind < 470) give_command(w);
-    else if (kind < 500) give_odd_attention(w);
-    else if (kind < 580) set_any(w);
-    else if (kind < 610) go_unsound(w);
-    else if (kind < 710) transfer(w);
-    else if (kind < 830) try_instructions(w, some_channel(w));
-    else if (kind < 855) show(w);
-    else if (kind < 870) put_at_end(w);
-    else if (kind < 905) list(w);
-    else if (kind < 950) load(w);
+    if (kind < 320) steps(w);
+    else if (kind < 460) give_command(w);
+    else if (kind < 490) give_odd_attention(w);
+    else if (kind < 570) set_any(w);
+    else if (kind < 600) go_unsound(w);
+    else if (kind < 700) transfer(w);
+    else if (kind < 820) try_instructions(w, some_channel(w));
+    else if (kind < 840) show(w);
+    else if (kind < 855) put_at_end(w);
+    else if (kind < 890) list(w);
+    else if (kind < 935) load(w);
+    else if (kind < 955) meet_slots(w);
     else if (kind < 970) say_damaged(w);
     else say_no_call(w);
 }

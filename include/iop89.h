@@ -35,7 +35,7 @@ extern "C" {
 enum iop89_number {
     IOP89_DONE = 0,             /* the limit stopped the run: every step was done, and more could follow */
     IOP89_NO_CHANNEL = 1,       /* no channel can run: halted or never started, or waiting for a request (DRQ) */
-    IOP89_BEYOND_MEMORY = 2,    /* a byte to be read or stored lies beyond lent memory */
+    IOP89_BEYOND_MEMORY = 2,    /* a byte of system space to be read or stored lies beyond lent memory */
     IOP89_NO_INSTRUCTION = 3,   /* the bytes are no instruction */
     IOP89_CC_USED = 4,          /* CC used by anything but MOV or MOVI */
     IOP89_BAD_TRANSFER = 5,     /* transfer with SYN 11, or translation with a 16-bit side */
@@ -66,6 +66,7 @@ enum iop89_number {
  *
  * Of several refusals 12 comes first, then 11, then 10. Every value of every argument gets an answer, and with these
  * three, as with a refused attention, no byte is changed. Steps before a refused one keep their effect on both buffers.
+ * Beyond io_len I/O space has empty card slots: a byte read there is FFh, and one stored there vanishes.
  * What a run leaves in registers is gone when it ends: the next starts from a fresh state.
  *
  * What no proof can see, and the caller must keep: behind sys are sys_len bytes and behind io io_len bytes that may be
@@ -82,7 +83,7 @@ static inline const char *iop89_words(unsigned number)
     switch (number) {
     case IOP89_DONE: return "stopped at the limit";
     case IOP89_NO_CHANNEL: return "no channel can run: halted, or waiting for a request";
-    case IOP89_BEYOND_MEMORY: return "a byte to be read or stored lies beyond lent memory";
+    case IOP89_BEYOND_MEMORY: return "a byte of system space to be read or stored lies beyond lent memory";
     case IOP89_NO_INSTRUCTION: return "the bytes are no instruction";
     case IOP89_CC_USED: return "CC used by anything but MOV or MOVI";
     case IOP89_BAD_TRANSFER: return "transfer with SYN 11, or translation with a 16-bit side";
