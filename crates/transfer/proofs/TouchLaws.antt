@@ -5,10 +5,13 @@ use mathlib.Core.List.{List, []}
 use mathlib.Core.Path.{_≡_, refl, _∙_}
 use Rattle.machine.specs.Cc.{translates}
 use Rattle.machine.specs.declared.Channel.{Channel}
-use Rattle.memory.specs.Buffers.{Buffers, touchableAt}
+use Rattle.memory.specs.Buffers.{Buffers, touchableAt, storeByte}
 use Rattle.memory.specs.Places.{Place, allPass, allTouchable}
-use Rattle.words.proofs.ChoiceLaws.{and-true}
+use Rattle.words.proofs.ChoiceLaws.{apart, and-true}
+use Rattle.words.specs.Choice.{pick}
+use Prim.Native.Nat.{ℕ}
 use Rattle.memory.proofs.SpanLaws.{all-append}
+use Rattle.memory.proofs.StoreLaws.{store-beyond}
 use Rattle.transfer.specs.Reads.{entryOf, dataOf, also, readPlaces}
 use Rattle.transfer.specs.Sides.{source, secondAddress, twoMove}
 use Rattle.transfer.specs.Steps.{touchedByTransfer}
@@ -42,3 +45,25 @@ places-touchable m s two = rw last-touchable
 pub touched-all : (c : Channel) (m : Buffers) → allTouchable m (touchedByTransfer c m) ≡ allTouchable m (readPlaces c m) && allTouchable m (storedPlaces c (dataOf c m))
 unfolding touchedByTransfer
 touched-all c m = all-append (touchableAt m) (readPlaces c m) (storedPlaces c (dataOf c m))
+
+-- of two stores the second may not be made
+pub second-not : (m : Buffers) (s : Side) → touchableAt m (s .pointer .tag) (secondAddress s) ≡ false → allTouchable m (placesOn s true) ≡ false
+second-not m s h = places-touchable m s true ∙ rw h (go (touchableAt m (s .pointer .tag) (s .pointer .address)))
+  where
+    go : (b : Bool) → b && false ≡ false
+    go true = refl
+    go false = refl
+
+-- a store where a call may not touch changes nothing
+pub untouched : (m : Buffers) (t : Bool) (a v : ℕ) → touchableAt m t a ≡ false → storeByte m t a v ≡ m
+unfolding touchableAt
+untouched m true a v h = apart h
+untouched m false a v h = store-beyond m false a v h
+
+-- so it is made or not, as it may
+pub stored-if : (m : Buffers) (t : Bool) (a v : ℕ) → storeByte m t a v ≡ pick (touchableAt m t a) (storeByte m t a v) m
+stored-if m t a v = go (touchableAt m t a) refl
+  where
+    go : (b : Bool) → touchableAt m t a ≡ b → storeByte m t a v ≡ pick b (storeByte m t a v) m
+    go true e = refl
+    go false e = untouched m t a v e

@@ -1,12 +1,17 @@
 -- What reading for a transfer step comes to: the bytes to be stored, or nothing where one that is read may not be touched.
-use mathlib.Core.Bool.{true, false}
+use mathlib.Core.Bool.{Bool, true, false}
 use Prim.Native.Nat.{ℕ}
 use Rattle.words.specs.Choice.{pick}
-use Rattle.memory.specs.Buffers.{Buffers}
+use Rattle.memory.specs.Buffers.{Buffers, touchableAt, byteAt}
 use Rattle.memory.specs.Places.{allTouchable}
 use Rattle.machine.specs.declared.Channel.{Channel}
 use Rattle.transfer.specs.declared.reads.Fetched.{Fetched}
+use Rattle.transfer.specs.declared.reads.Seen.{Seen}
 use Rattle.transfer.specs.Reads.{delivered, fetchedSecond, readPlaces}
+
+-- a byte, and whether a call may touch it
+abbrev pub seen : Buffers → Bool → ℕ → Seen
+seen m tag address = record { byte = byteAt m tag address; touchable = touchableAt m tag address }
 
 -- a byte that is read may not be touched
 abbrev pub beyond : Fetched

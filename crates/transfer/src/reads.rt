@@ -7,12 +7,34 @@ ghost use mathlib.Core.Bool.{false};
 ghost use Rattle.memory.specs.Buffers.{buffers};
 ghost use Rattle.transfer.specs.Sides.{setupOf};
 ghost use Rattle.transfer.specs.Steps.{badMode};
-ghost use Rattle.transfer.specs.Fetches.{beyond, here, fetchOf};
+ghost use Rattle.transfer.specs.Fetches.{seen, beyond, here, fetchOf};
 
 // The bytes read, and whether each of them may be touched; where one may not, none counts.
 pub(crate) struct Fetched {
     pub(crate) bytes: Data,
     pub(crate) touchable: bool,
+}
+
+// A byte, and whether a call may touch it.
+pub(crate) struct Seen {
+    pub(crate) byte: u8,
+    pub(crate) touchable: bool,
+}
+
+// The byte at an address, and whether a call may touch it; the space is asked for once.
+fn see(tag: bool, address: u32, sys: &[u8], io: &[u8]) -> Seen
+    ensures { λ r. ⌜ r ≡ seen (buffers (now (sys .entry)) (now (io .entry))) tag address ⌝ }
+{
+    if tag {
+        let byte = memory::byte(sys, io, true, address);
+        return Seen {
+            byte,
+            touchable: true,
+        };
+    }
+    let touchable = memory::lent(sys, io, false, address);
+    let byte = memory::byte(sys, io, false, address);
+    Seen { byte, touchable }
 }
 
 // What a read that is refused comes to.
@@ -47,24 +69,25 @@ pub(crate) fn fetch(c: Channel, p: Setup, sys: &[u8], io: &[u8]) -> Fetched
 {
     let source = p.source;
     let from = source.pointer;
-    if !memory::touchable(sys, io, from.tag, from.address) {
+    let there = see(from.tag, from.address, sys, io);
+    if !there.touchable {
         return none();
     }
-    let first = memory::byte(sys, io, from.tag, from.address);
+    let first = there.byte;
     if p.two {
-        let next = crate::sides::second(source);
-        if !memory::touchable(sys, io, from.tag, next) {
+        let next = see(from.tag, crate::sides::second(source), sys, io);
+        if !next.touchable {
             return none();
         }
-        return some(first, memory::byte(sys, io, from.tag, next));
+        return some(first, next.byte);
     }
     if p.translates {
         let gc = c.gc;
-        let entry = words::sum20(gc.address, first as u32);
-        if !memory::touchable(sys, io, gc.tag, entry) {
+        let entry = see(gc.tag, words::sum20(gc.address, first as u32), sys, io);
+        if !entry.touchable {
             return none();
         }
-        return some(memory::byte(sys, io, gc.tag, entry), 0);
+        return some(entry.byte, 0);
     }
     some(first, 0)
 }

@@ -5,7 +5,7 @@ use crate::Side;
 use machine::Channel;
 ghost use mathlib.Core.Path.{_≡_};
 ghost use Rattle.words.specs.Choice.{pick};
-ghost use Rattle.memory.specs.Buffers.{buffers};
+ghost use Rattle.memory.specs.Buffers.{buffers, touchableAt, storeByte};
 ghost use Rattle.memory.specs.Places.{allTouchable};
 ghost use Rattle.machine.specs.Cc.{matchEnd};
 ghost use Rattle.transfer.specs.Sides.{setupOf};
@@ -88,23 +88,34 @@ pub(crate) fn finish(c: Channel, p: Setup, d: Data) -> Done
     }
 }
 
+// A byte stored where a call may touch it, else nothing; and whether it may. The space is asked for once.
+fn put_one(tag: bool, address: u32, v: u8, sys: &mut [u8], io: &mut [u8]) -> bool
+    ensures { λ r. ⌜ (r ≡ touchableAt (buffers (now (sys .entry)) (now (io .entry))) tag address) × (buffers (now (sys .exit)) (now (io .exit)) ≡ storeByte (buffers (now (sys .entry)) (now (io .entry))) tag address v) ⌝ }
+{
+    if tag {
+        memory::store_byte(sys, io, true, address, v);
+        return true;
+    }
+    let there = memory::lent(sys, io, false, address);
+    memory::store_byte(sys, io, false, address, v);
+    there
+}
+
 // One byte or two stored on a side where each place may be touched, else nothing; and whether it may.
 pub(crate) fn put(s: Side, two: bool, d: Data, sys: &mut [u8], io: &mut [u8]) -> bool
     ensures { λ r. ⌜ (r ≡ allTouchable (buffers (now (sys .entry)) (now (io .entry))) (placesOn s two)) × (buffers (now (sys .exit)) (now (io .exit)) ≡ pick r (putOn s two d (buffers (now (sys .entry)) (now (io .entry)))) (buffers (now (sys .entry)) (now (io .entry)))) ⌝ }
 {
     let p = s.pointer;
-    if !memory::touchable(sys, io, p.tag, p.address) {
-        return false;
-    }
     if two {
         let next = crate::sides::second(s);
         if !memory::touchable(sys, io, p.tag, next) {
             return false;
         }
-        memory::store_byte(sys, io, p.tag, p.address, d.first);
+        if !put_one(p.tag, p.address, d.first, sys, io) {
+            return false;
+        }
         memory::store_byte(sys, io, p.tag, next, d.second);
         return true;
     }
-    memory::store_byte(sys, io, p.tag, p.address, d.first);
-    true
+    put_one(p.tag, p.address, d.first, sys, io)
 }

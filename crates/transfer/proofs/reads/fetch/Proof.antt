@@ -4,45 +4,50 @@ use Prim.Native.Nat.{ℕ}
 use borrow.Author.Needs.{needs}
 use borrow.Author.Tests.{not-true, not-false}
 use denote.Ref.{now}
+use mathlib.Core.Bool.{Bool}
 use mathlib.Core.Path.{sym, ap, _∙_}
 use Rattle.memory.specs.Buffers.{buffers}
 use Rattle.transfer.specs.Fetches.{here}
+use Rattle.transfer.specs.declared.reads.Seen.{Seen}
 use Rattle.transfer.proofs.FetchLaws.{source-beyond, second-beyond, both-read, entry-beyond, translated, one-read}
 use Rattle.transfer.proofs.reads.fetch.Statement.{statement}
 use Rattle.transfer.proofs.reads.fetch.Tie as tie
 
-touchable-requires : tie.Need-touchable-requires
-touchable-requires c κs = search needs
+abbrev touchable : Seen → Bool
+touchable r = r .touchable
+
+abbrev byte : Seen → ℕ
+byte r = r .byte
+
+see-requires : tie.Need-see-requires
+see-requires c κs = search needs
 
 none-requires : tie.Need-none-requires
 none-requires c κs = search needs
 
 returns : tie.Need-returns
 returns c =
-    let a = c .before .before .before .before .before .before .before .args in
-    c .none .ensures ∙ sym (source-beyond (a .c) (buffers (now (a .sys)) (now (a .io))) (a .p) (c .before .before .before .before .before .before .before .pre .0) (sym (c .before .before .touchable .ensures) ∙ not-true _ (c .before .if1 .taken)))
-
-byte-requires : tie.Need-byte-requires
-byte-requires c κs = search needs
+    let a = c .before .before .before .before .before .before .before .before .args in
+    c .none .ensures
+    ∙ sym (source-beyond (a .c) (buffers (now (a .sys)) (now (a .io))) (a .p) (c .before .before .before .before .before .before .before .before .pre .0) (sym (ap touchable (c .before .before .before .see .ensures)) ∙ not-true _ (c .before .if1 .taken)))
 
 second-requires : tie.Need-second-requires
 second-requires c κs = search needs
 
-touchable-requires-2 : tie.Need-touchable-requires-2
-touchable-requires-2 c κs = search needs
+see-requires-2 : tie.Need-see-requires-2
+see-requires-2 c κs = search needs
 
 none-requires-2 : tie.Need-none-requires-2
 none-requires-2 c κs = search needs
 
 returns-2 : tie.Need-returns-2
 returns-2 c =
-    let a = c .before .before .before .before .before .before .before .before .before .before .before .before .args in
+    let a = c .before .before .before .before .before .before .before .before .before .before .before .before .before .args in
     c .none2 .ensures
     ∙ sym
-    (second-beyond (a .c) (buffers (now (a .sys)) (now (a .io))) (a .p) (c .before .before .before .before .before .before .before .before .before .before .before .before .pre .0) (c .before .before .before .second .result) (sym (c .before .before .before .before .before .before .before .touchable .ensures) ∙ not-false _ (c .before .before .before .before .before .before .if1 .left)) (c .before .before .before .before .if2 .taken) (c .before .before .before .second .ensures) (sym (c .before .before .touchable2 .ensures) ∙ not-true _ (c .before .if3 .taken)))
-
-byte-requires-2 : tie.Need-byte-requires-2
-byte-requires-2 c κs = search needs
+    (second-beyond (a .c) (buffers (now (a .sys)) (now (a .io))) (a .p) (c .before .before .before .before .before .before .before .before .before .before .before .before .before .pre .0) (c .before .before .before .before .second .result)
+    (sym (ap touchable (c .before .before .before .before .before .before .before .before .see .ensures)) ∙ not-false _ (c .before .before .before .before .before .before .if1 .left)) (c .before .before .before .before .before .if2 .taken) (c .before .before .before .before .second .ensures)
+    (sym (ap touchable (c .before .before .before .see2 .ensures)) ∙ not-true _ (c .before .if3 .taken)))
 
 some-requires : tie.Need-some-requires
 some-requires c κs = search needs
@@ -51,9 +56,11 @@ returns-3 : tie.Need-returns-3
 returns-3 c =
     let a = c .before .before .before .before .before .before .before .before .before .before .before .before .before .args in
     c .some .ensures
-    ∙ ap (here (c .before .before .before .before .before .before .byte .result)) (c .before .byte2 .ensures)
+    ∙ ap (here (c .before .before .before .before .before .before .before .before .see .result .byte)) (ap byte (c .before .before .before .see2 .ensures))
     ∙ sym
-    (both-read (a .c) (buffers (now (a .sys)) (now (a .io))) (a .p) (c .before .before .before .before .before .before .before .before .before .before .before .before .before .pre .0) (c .before .before .before .before .before .before .byte .result) (c .before .before .before .before .second .result) (c .before .before .before .before .before .before .before .before .before .before .before .before .before .pre .1) (sym (c .before .before .before .before .before .before .before .before .touchable .ensures) ∙ not-false _ (c .before .before .before .before .before .before .before .if1 .left)) (c .before .before .before .before .before .before .byte .ensures) (c .before .before .before .before .before .if2 .taken) (c .before .before .before .before .second .ensures) (sym (c .before .before .before .touchable2 .ensures) ∙ not-false _ (c .before .before .if3 .left)))
+    (both-read (a .c) (buffers (now (a .sys)) (now (a .io))) (a .p) (c .before .before .before .before .before .before .before .before .before .before .before .before .before .pre .0) (c .before .before .before .before .before .before .before .before .see .result .byte) (c .before .before .before .before .second .result) (c .before .before .before .before .before .before .before .before .before .before .before .before .before .pre .1)
+    (sym (ap touchable (c .before .before .before .before .before .before .before .before .see .ensures)) ∙ not-false _ (c .before .before .before .before .before .before .if1 .left)) (ap byte (c .before .before .before .before .before .before .before .before .see .ensures)) (c .before .before .before .before .before .if2 .taken) (c .before .before .before .before .second .ensures)
+    (sym (ap touchable (c .before .before .before .see2 .ensures)) ∙ not-false _ (c .before .if3 .left)))
 
 cast-sum20 : tie.Need-cast-sum20
 cast-sum20 c = search needs
@@ -61,21 +68,20 @@ cast-sum20 c = search needs
 sum20-requires : tie.Need-sum20-requires
 sum20-requires c κs = search needs
 
-touchable-requires-3 : tie.Need-touchable-requires-3
-touchable-requires-3 c κs = search needs
+see-requires-3 : tie.Need-see-requires-3
+see-requires-3 c κs = search needs
 
 none-requires-3 : tie.Need-none-requires-3
 none-requires-3 c κs = search needs
 
 returns-4 : tie.Need-returns-4
 returns-4 c =
-    let a = c .before .before .before .before .before .before .before .before .before .before .before .before .before .before .args in
+    let a = c .before .before .before .before .before .before .before .before .before .before .before .before .before .before .before .args in
     c .none3 .ensures
     ∙ sym
-    (entry-beyond (a .c) (buffers (now (a .sys)) (now (a .io))) (a .p) (c .before .before .before .before .before .before .before .before .before .before .before .before .before .before .pre .0) (c .before .before .before .before .before .before .before .byte .result) (c .before .before .before .sum20 .result) (sym (c .before .before .before .before .before .before .before .before .before .touchable .ensures) ∙ not-false _ (c .before .before .before .before .before .before .before .before .if1 .left)) (c .before .before .before .before .before .before .before .byte .ensures) (c .before .before .before .before .before .before .if2 .left) (c .before .before .before .before .before .if4 .taken) (c .before .before .before .sum20 .ensures) (sym (c .before .before .touchable3 .ensures) ∙ not-true _ (c .before .if5 .taken)))
-
-byte-requires-3 : tie.Need-byte-requires-3
-byte-requires-3 c κs = search needs
+    (entry-beyond (a .c) (buffers (now (a .sys)) (now (a .io))) (a .p) (c .before .before .before .before .before .before .before .before .before .before .before .before .before .before .before .pre .0) (c .before .before .before .before .before .before .before .before .before .before .see .result .byte) (c .before .before .before .before .sum20 .result)
+    (sym (ap touchable (c .before .before .before .before .before .before .before .before .before .before .see .ensures)) ∙ not-false _ (c .before .before .before .before .before .before .before .before .if1 .left)) (ap byte (c .before .before .before .before .before .before .before .before .before .before .see .ensures)) (c .before .before .before .before .before .before .before .if2 .left) (c .before .before .before .before .before .before .if4 .taken) (c .before .before .before .before .sum20 .ensures)
+    (sym (ap touchable (c .before .before .before .see3 .ensures)) ∙ not-true _ (c .before .if5 .taken)))
 
 some-requires-2 : tie.Need-some-requires-2
 some-requires-2 c κs = search needs
@@ -84,9 +90,11 @@ returns-5 : tie.Need-returns-5
 returns-5 c =
     let a = c .before .before .before .before .before .before .before .before .before .before .before .before .before .before .before .args in
     c .some2 .ensures
-    ∙ ap (λ (n : ℕ). here n 0) (c .before .byte3 .ensures)
+    ∙ ap (λ (n : ℕ). here n 0) (ap byte (c .before .before .before .see3 .ensures))
     ∙ sym
-    (translated (a .c) (buffers (now (a .sys)) (now (a .io))) (a .p) (c .before .before .before .before .before .before .before .before .before .before .before .before .before .before .before .pre .0) (c .before .before .before .before .before .before .before .before .byte .result) (c .before .before .before .before .sum20 .result) (sym (c .before .before .before .before .before .before .before .before .before .before .touchable .ensures) ∙ not-false _ (c .before .before .before .before .before .before .before .before .before .if1 .left)) (c .before .before .before .before .before .before .before .before .byte .ensures) (c .before .before .before .before .before .before .before .if2 .left) (c .before .before .before .before .before .before .if4 .taken) (c .before .before .before .before .sum20 .ensures) (sym (c .before .before .before .touchable3 .ensures) ∙ not-false _ (c .before .before .if5 .left)))
+    (translated (a .c) (buffers (now (a .sys)) (now (a .io))) (a .p) (c .before .before .before .before .before .before .before .before .before .before .before .before .before .before .before .pre .0) (c .before .before .before .before .before .before .before .before .before .before .see .result .byte) (c .before .before .before .before .sum20 .result)
+    (sym (ap touchable (c .before .before .before .before .before .before .before .before .before .before .see .ensures)) ∙ not-false _ (c .before .before .before .before .before .before .before .before .if1 .left)) (ap byte (c .before .before .before .before .before .before .before .before .before .before .see .ensures)) (c .before .before .before .before .before .before .before .if2 .left) (c .before .before .before .before .before .before .if4 .taken) (c .before .before .before .before .sum20 .ensures)
+    (sym (ap touchable (c .before .before .before .see3 .ensures)) ∙ not-false _ (c .before .if5 .left)))
 
 some-requires-3 : tie.Need-some-requires-3
 some-requires-3 c κs = search needs
@@ -96,29 +104,27 @@ returns-6 c =
     let a = c .before .before .before .before .before .before .before .before .before .before .args in
     c .some3 .ensures
     ∙ sym
-    (one-read (a .c) (buffers (now (a .sys)) (now (a .io))) (a .p) (c .before .before .before .before .before .before .before .before .before .before .pre .0) (c .before .before .before .byte .result) (sym (c .before .before .before .before .before .touchable .ensures) ∙ not-false _ (c .before .before .before .before .if1 .left)) (c .before .before .before .byte .ensures) (c .before .before .if2 .left) (c .before .if4 .left))
+    (one-read (a .c) (buffers (now (a .sys)) (now (a .io))) (a .p) (c .before .before .before .before .before .before .before .before .before .before .pre .0) (c .before .before .before .before .before .see .result .byte)
+    (sym (ap touchable (c .before .before .before .before .before .see .ensures)) ∙ not-false _ (c .before .before .before .if1 .left)) (ap byte (c .before .before .before .before .before .see .ensures)) (c .before .before .if2 .left) (c .before .if4 .left))
 
 pub fetch-spec : {M : Type 1} → statement M
 fetch-spec =
     tie.close
     (tie.spec
-    touchable-requires
+    see-requires
     none-requires
     returns
-    byte-requires
     second-requires
-    touchable-requires-2
+    see-requires-2
     none-requires-2
     returns-2
-    byte-requires-2
     some-requires
     returns-3
     cast-sum20
     sum20-requires
-    touchable-requires-3
+    see-requires-3
     none-requires-3
     returns-4
-    byte-requires-3
     some-requires-2
     returns-5
     some-requires-3
