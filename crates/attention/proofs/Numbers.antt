@@ -4,9 +4,9 @@ use Prim.Native.Nat.{ℕ, _≤_}
 use lib.ListN.{drop}
 use mathlib.Core.Bool.{true, false}
 use mathlib.Core.Logic.{_⊎_, _↔_, Iff·trans}
-use mathlib.Core.Path.{_≡_, refl}
+use mathlib.Core.Path.{_≡_, refl, sym, _∙_}
+use native.Mathlib.Omega.{arith}
 use Rattle.machine.proofs.OutcomeLaws.{settled-number, first-zero, first-right}
-use Rattle.machine.specs.Outcomes.{givenNumber}
 use Rattle.machine.proofs.StageLaws.{beyond-exactly}
 use Rattle.machine.specs.Stages.{stagesNumber}
 use Rattle.machine.specs.States.{channelOf, withChannel, isSecond}
@@ -14,8 +14,10 @@ use Rattle.machine.specs.declared.State.{State}
 use Rattle.memory.specs.Buffers.{Buffers}
 use Rattle.memory.specs.Places.{span}
 use Rattle.words.proofs.BitLaws.{field-lt}
-use Rattle.machine.proofs.ConditionLaws.{step, last, rewritten, first-assoc, skip, hit, either, end, foreign, never, given-most, told-limits, told-sound, told-touchable}
-use Rattle.machine.specs.Conditions.{Given, TooLong, NotSound, Beyond}
+use Rattle.words.proofs.ChoiceLaws.{apart}
+use Rattle.machine.proofs.ConditionLaws.{step, last, rewritten, first-assoc, skip, hit, either, end, foreign, never, given-most, told-touchable}
+use Rattle.machine.proofs.GivenLaws.{given-chain, skip-given}
+use Rattle.machine.specs.Conditions.{Given, TooLong, NotSound, NotPowered, Beyond}
 use Rattle.attention.specs.Attention.{orderTo, orderNumber, orderedChannel, orderedMemory, givenTo, attentionNumber, attentionOf}
 use Rattle.attention.specs.Blocks.{orderOf}
 use Rattle.attention.specs.Commands.{codeOf}
@@ -26,27 +28,26 @@ use Rattle.attention.proofs.ConditionLaws.{never-two, told-channel, tol
 module _ (s : State) (m : Buffers) (channel : ℕ) where
   -- the table, whole: an attention gives n exactly where n is the number of the first check that applies, or 0 where none does
   pub given-exactly : (n : ℕ) → (attentionOf s m channel .number ≡ n) ↔ Given (attentionChecks s m channel) n
-  unfolding attentionOf attentionNumber givenTo givenNumber orderNumber stagesNumber orderStages orderTo orderOf
+  unfolding attentionOf attentionNumber givenTo orderNumber stagesNumber orderStages orderTo orderOf
   given-exactly n =
       let b = isSecond channel in
       let o = orderTo s m b in
       let code = codeOf (o .ccw) in
       let mode = channelOf s b .mode in
       rewritten (settled-number (attentionNumber s m channel) s m (withChannel s b (orderedChannel s m b)) (orderedMemory s m b))
-      (rw (first-zero, first-right, first-assoc, first-assoc, command-chain code mode (field-lt (o .ccw) 0 3), first-assoc, first-assoc, first-assoc)
+      (rw (first-zero, first-right, first-assoc, command-chain code mode (field-lt (o .ccw) 0 3), first-assoc, first-assoc, first-assoc)
       (step 12 refl (told-channel channel)
-      (step 11 refl (told-limits m)
-      (step 10 refl (told-sound s)
+      (given-chain s m
       (step 2 refl (told-touchable m (span false (o .block) 1))
       (step 6 refl (told-command code)
       (step 7 refl (told-resume code mode)
       (step 8 refl (told-start code mode)
       (step 9 refl (told-suspend code mode)
-      (last n 2 refl (told-touchable m (others o))))))))))))
+      (last n 2 refl (told-touchable m (others o)))))))))))
 
-  -- the number is at most 12
-  pub attention-most : attentionOf s m channel .number ≤ 12
-  attention-most = given-most 12 (attentionChecks s m channel) refl ((given-exactly (attentionOf s m channel .number)) .0 refl)
+  -- the number is at most 13
+  pub attention-most : attentionOf s m channel .number ≤ 13
+  attention-most = given-most 13 (attentionChecks s m channel) refl ((given-exactly (attentionOf s m channel .number)) .0 refl)
 
   -- no check after the first k gives n
   later : (n k : ℕ) → foreign n (drop k (attentionChecks s m channel)) ≡ true → ¬ (Given (drop k (attentionChecks s m channel)) n)
@@ -64,46 +65,55 @@ module _ (s : State) (m : Buffers) (channel : ℕ) where
   pub gives-10 : (attentionOf s m channel .number ≡ 10) ↔ (¬ (NoChannel channel) × (¬ (TooLong m) × NotSound s))
   gives-10 = Iff·trans (given-exactly 10) (skip refl (skip refl (hit (later 10 3 refl))))
 
+  -- 13: the processor is not powered up
+  pub gives-13 : (attentionOf s m channel .number ≡ 13) ↔ (¬ (NoChannel channel) × (¬ (TooLong m) × (¬ (NotSound s) × NotPowered s)))
+  gives-13 = Iff·trans (given-exactly 13) (skip refl (skip refl (skip refl (hit (later 13 4 refl)))))
+
+  -- so of one that is powered up the number is at most 12
+  pub attention-powered : s .board .powered ≡ true → attentionOf s m channel .number ≤ 12
+  attention-powered p =
+      let other : ¬ (attentionOf s m channel .number ≡ 13) = λ e. apart (sym p ∙ gives-13 .0 e .1 .1 .1) in
+      omega (arith, attention-most, other)
+
   -- 2: CCW lies beyond lent memory, or, after every other check, another byte does; all are of system space
   pub gives-2 : (attentionOf s m channel .number ≡ 2) ↔ AttentionAfterGiven s m channel (CcwBeyond s m channel ⊎ AfterMode s m channel (OthersBeyond s m channel))
-  gives-2 = Iff·trans (given-exactly 2) (skip refl (skip refl (skip refl (either (skip refl (skip refl (skip refl (skip refl (hit (later 2 9 refl))))))))))
+  gives-2 = Iff·trans (given-exactly 2) (skip refl (skip-given s m refl refl refl (either (skip refl (skip refl (skip refl (skip refl (hit (later 2 10 refl)))))))))
 
   -- 2, said of all the bytes that the order touches: one of them, up to where the order stops, lies beyond lent memory
   pub touched-2 : (attentionOf s m channel .number ≡ 2) ↔ AttentionAfterGiven s m channel (Beyond m (touchedByOrder (orderTo s m (isSecond channel)) (modeTo s channel)))
-  unfolding attentionOf attentionNumber givenTo givenNumber orderNumber touchedByOrder orderStages
+  unfolding attentionOf attentionNumber givenTo orderNumber touchedByOrder orderStages
   touched-2 =
       let b = isSecond channel in
       let o = orderTo s m b in
       let mode = channelOf s b .mode in
       rewritten (settled-number (attentionNumber s m channel) s m (withChannel s b (orderedChannel s m b)) (orderedMemory s m b))
-      (rw (first-assoc, first-assoc)
+      (rw first-assoc
       (Iff·trans
       (step 12 refl (told-channel channel)
-      (step 11 refl (told-limits m)
-      (step 10 refl (told-sound s)
-      (beyond-exactly m (orderStages o mode) (never-two (o .command) mode, (refl, tt))))))
-      (skip refl (skip refl (skip refl (λ h. h, λ h. h))))))
+      (given-chain s m
+      (beyond-exactly m (orderStages o mode) (never-two (o .command) mode, (refl, tt)))))
+      (skip refl (skip-given s m refl refl refl (λ h. h, λ h. h)))))
 
   -- 6: command 010 or 100
   pub gives-6 : (attentionOf s m channel .number ≡ 6) ↔ AttentionAfterGiven s m channel (¬ (CcwBeyond s m channel) × NoCommand (codeTo s m channel))
-  gives-6 = Iff·trans (given-exactly 6) (skip refl (skip refl (skip refl (skip refl (hit (later 6 5 refl))))))
+  gives-6 = Iff·trans (given-exactly 6) (skip refl (skip-given s m refl refl refl (skip refl (hit (later 6 6 refl)))))
 
   -- 7: resume, channel not suspended
   pub gives-7 : (attentionOf s m channel .number ≡ 7)
       ↔ AttentionAfterGiven s m channel (AfterCommand s m channel (ResumesOther (codeTo s m channel) (modeTo s channel)))
-  gives-7 = Iff·trans (given-exactly 7) (skip refl (skip refl (skip refl (skip refl (skip refl (hit (later 7 6 refl)))))))
+  gives-7 = Iff·trans (given-exactly 7) (skip refl (skip-given s m refl refl refl (skip refl (skip refl (hit (later 7 7 refl))))))
 
   -- 8: start, channel running
   pub gives-8 : (attentionOf s m channel .number ≡ 8)
       ↔ AttentionAfterGiven s m channel (AfterCommand s m channel (¬ (ResumesOther (codeTo s m channel) (modeTo s channel)) × StartsRunning (codeTo s m channel) (modeTo s channel)))
-  gives-8 = Iff·trans (given-exactly 8) (skip refl (skip refl (skip refl (skip refl (skip refl (skip refl (hit (later 8 7 refl))))))))
+  gives-8 = Iff·trans (given-exactly 8) (skip refl (skip-given s m refl refl refl (skip refl (skip refl (skip refl (hit (later 8 8 refl)))))))
 
   -- 9: suspend, channel not running
   pub gives-9 : (attentionOf s m channel .number ≡ 9)
       ↔ AttentionAfterGiven s m channel (AfterCommand s m channel
       (¬ (ResumesOther (codeTo s m channel) (modeTo s channel)) × (¬ (StartsRunning (codeTo s m channel) (modeTo s channel)) × SuspendsOther (codeTo s m channel) (modeTo s channel))))
-  gives-9 = Iff·trans (given-exactly 9) (skip refl (skip refl (skip refl (skip refl (skip refl (skip refl (skip refl (hit (later 9 8 refl)))))))))
+  gives-9 = Iff·trans (given-exactly 9) (skip refl (skip-given s m refl refl refl (skip refl (skip refl (skip refl (skip refl (hit (later 9 9 refl))))))))
 
   -- 0: no check applies
   pub gives-0 : (attentionOf s m channel .number ≡ 0) ↔ AttentionAfterGiven s m channel (AfterMode s m channel (¬ (OthersBeyond s m channel)))
-  gives-0 = Iff·trans (given-exactly 0) (skip refl (skip refl (skip refl (skip refl (skip refl (skip refl (skip refl (skip refl (end refl refl)))))))))
+  gives-0 = Iff·trans (given-exactly 0) (skip refl (skip-given s m refl refl refl (skip refl (skip refl (skip refl (skip refl (skip refl (end refl refl))))))))

@@ -4,10 +4,11 @@ use Prim.Native.Nat.{ℕ}
 use lib.Dec.{eqb}
 use mathlib.Core.Bool.{Bool, true, false, not}
 use mathlib.Core.Path.{_≡_, refl, sym, ap, _∙_}
-use Rattle.machine.proofs.ChannelLaws.{put-same, put-other, put-cp, put-last}
+use Rattle.machine.proofs.ChannelLaws.{put-same, put-other, put-cp, put-last, put-board}
 use Rattle.machine.proofs.OutcomeLaws.{accepted, settled-number}
 use Rattle.machine.proofs.ConditionLaws.{first-none-left, first-none-right, unless-none}
-use Rattle.machine.specs.Outcomes.{Outcome, outcome, settled, givenNumber}
+use Rattle.machine.proofs.GivenLaws.{given-sound}
+use Rattle.machine.specs.Outcomes.{Outcome, outcome, settled}
 use Rattle.machine.specs.Stages.{stagesNumber}
 use Rattle.machine.specs.States.{channelOf, withChannel, sound, isSecond}
 use Rattle.machine.specs.declared.Channel.{Channel}
@@ -88,11 +89,11 @@ module _ (s : State) (m : Buffers) (channel : ℕ) where
       attention-by (λ (r : Outcome). channelOf (r .state) (not (isSecond channel)) ≡ channelOf s (not (isSecond channel)))
       refl (put-other s (isSecond channel) (orderedChannel s m (isSecond channel)))
 
-  -- nor CP, nor the channel that stepped last
-  pub shared-kept : (attentionOf s m channel .state .cp ≡ s .cp) × (attentionOf s m channel .state .last ≡ s .last)
+  -- nor CP, nor the channel that stepped last, nor what the board set up
+  pub shared-kept : (attentionOf s m channel .state .cp ≡ s .cp) × (attentionOf s m channel .state .last ≡ s .last) × (attentionOf s m channel .state .board ≡ s .board)
   shared-kept =
-      attention-by (λ (r : Outcome). (r .state .cp ≡ s .cp) × (r .state .last ≡ s .last)) (refl, refl)
-      (put-cp s (isSecond channel) (orderedChannel s m (isSecond channel)), put-last s (isSecond channel) (orderedChannel s m (isSecond channel)))
+      attention-by (λ (r : Outcome). (r .state .cp ≡ s .cp) × (r .state .last ≡ s .last) × (r .state .board ≡ s .board)) (refl, refl, refl)
+      (put-cp s (isSecond channel) (orderedChannel s m (isSecond channel)), put-last s (isSecond channel) (orderedChannel s m (isSecond channel)), put-board s (isSecond channel) (orderedChannel s m (isSecond channel)))
 
   -- of the channel itself only TP, PP, PSW, the mode and the armed mark can change
   pub registers-kept : channelOf (attentionOf s m channel .state) (isSecond channel)
@@ -111,8 +112,8 @@ module _ (s : State) (m : Buffers) (channel : ℕ) (accepted : attentionOf s m c
   number-none = sym (settled-number (attentionNumber s m channel) s m (withChannel s (isSecond channel) (orderedChannel s m (isSecond channel))) (orderedMemory s m (isSecond channel))) ∙ accepted
 
   pub passed-sound : sound s ≡ true
-  unfolding attentionNumber givenTo givenNumber
-  passed-sound = unless-none 10 refl (first-none-right _ _ (first-none-right _ _ (first-none-left _ _ number-none)))
+  unfolding attentionNumber givenTo
+  passed-sound = given-sound s m (first-none-right _ _ (first-none-left _ _ number-none))
 
   passed-order : orderNumber m (orderTo s m (isSecond channel)) (channelOf s (isSecond channel) .mode) ≡ 0
   unfolding attentionNumber

@@ -6,7 +6,7 @@ use mathlib.Core.Path.{_≡_}
 use Prim.Native.Nat.{ℕ}
 use Rattle.memory.specs.Buffers.{Buffers}
 use Rattle.memory.specs.Places.{span}
-use Rattle.machine.specs.Conditions.{Check, check, TooLong, NotSound, Beyond}
+use Rattle.machine.specs.Conditions.{Check, check, Beyond, givenChecks, AfterGiven}
 use Rattle.machine.specs.States.{channelOf, isSecond, blockOf}
 use Rattle.machine.specs.declared.Mode.{Mode}
 use Rattle.machine.specs.declared.Mode.the-variants.{Running, Suspended}
@@ -51,23 +51,22 @@ codeTo s m channel = codeOf (orderTo s m (isSecond channel) .ccw)
 abbrev pub modeTo : State → ℕ → Mode
 modeTo s channel = channelOf s (isSecond channel) .mode
 
--- the checks of an attention, in their order
+-- the checks of an attention, in their order: 12, those of what it is given, then the order's own
 abbrev pub attentionChecks : State → Buffers → ℕ → List Check
 attentionChecks s m channel =
     check 12 (NoChannel channel)
-    ∷ check 11 (TooLong m)
-    ∷ check 10 (NotSound s)
-    ∷ check 2 (CcwBeyond s m channel)
+    ∷ givenChecks s m
+    (check 2 (CcwBeyond s m channel)
     ∷ check 6 (NoCommand (codeTo s m channel))
     ∷ check 7 (ResumesOther (codeTo s m channel) (modeTo s channel))
     ∷ check 8 (StartsRunning (codeTo s m channel) (modeTo s channel))
     ∷ check 9 (SuspendsOther (codeTo s m channel) (modeTo s channel))
     ∷ check 2 (OthersBeyond s m channel)
-    ∷ []
+    ∷ [])
 
--- a condition that counts where 12, 11 and 10 do not apply
+-- a condition that counts where 12, 11, 10 and 13 do not apply
 abbrev pub AttentionAfterGiven : State → Buffers → ℕ → Type 0 → Type 0
-AttentionAfterGiven s m channel next = ¬ (NoChannel channel) × (¬ (TooLong m) × (¬ (NotSound s) × next))
+AttentionAfterGiven s m channel next = ¬ (NoChannel channel) × AfterGiven s m next
 
 -- a condition that counts where CCW is readable and its command is one, besides
 abbrev pub AfterCommand : State → Buffers → ℕ → Type 0 → Type 0

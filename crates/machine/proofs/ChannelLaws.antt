@@ -34,7 +34,7 @@ unfolding channelOf withChannel
 put-back s true = refl
 put-back s false = refl
 
--- CP and the channel that stepped last are shared, and stay
+-- CP, the channel that stepped last and what the board set up are shared, and stay
 pub put-cp : (s : State) (b : Bool) (c : Channel) → (withChannel s b c) .cp ≡ s .cp
 unfolding withChannel
 put-cp s b c = refl
@@ -43,10 +43,19 @@ pub put-last : (s : State) (b : Bool) (c : Channel) → (withChannel s b c) .las
 unfolding withChannel
 put-last s b c = refl
 
+pub put-board : (s : State) (b : Bool) (c : Channel) → (withChannel s b c) .board ≡ s .board
+unfolding withChannel
+put-board s b c = refl
+
 -- noting which channel stepped changes no channel
 pub last-channel : (s : State) (b d : Bool) → channelOf (withLast s b) d ≡ channelOf s d
 unfolding channelOf withLast
 last-channel s b d = refl
+
+-- nor what the board set up
+pub last-board : (s : State) (b : Bool) → (withLast s b) .board ≡ s .board
+unfolding withLast
+last-board s b = refl
 
 -- a state is sound where both channels and CP are
 pub sound-channel-of : (s : State) (b : Bool) → sound s ≡ true → soundChannel (channelOf s b) ≡ true
@@ -93,6 +102,15 @@ fresh-sound cp = go (ltb cp 1048576) refl
     go : (b : Bool) → ltb cp 1048576 ≡ b → sound ((pick {A = Answer} b (record { number = 0; state = freshState cp }) (record { number = 10; state = freshState 0 })) .state) ≡ true
     go true e = e
     go false e = refl
+
+-- and counts as powered up
+pub fresh-powered : (cp : ℕ) → (freshOf cp) .state .board .powered ≡ true
+unfolding freshOf freshState
+fresh-powered cp = go (ltb cp 1048576)
+  where
+    go : (b : Bool) → (pick {A = Answer} b (record { number = 0; state = freshState cp }) (record { number = 10; state = freshState 0 })) .state .board .powered ≡ true
+    go true = refl
+    go false = refl
 
 -- the names and the numbers of the channels agree
 pub named : (b : Bool) → isSecond (channelNumber b) ≡ b

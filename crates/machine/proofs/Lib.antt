@@ -1,5 +1,6 @@
 pub mod ChannelLaws
 pub mod OutcomeLaws
 pub mod ConditionLaws
+pub mod GivenLaws
 pub mod StageLaws
 pub mod Determined

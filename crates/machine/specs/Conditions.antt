@@ -1,4 +1,4 @@
--- Which number a call gives (§3.2): checks in their order, and the conditions of 11, 10 and 2, which every attention and step has.
+-- Which number a call gives (§3.2): checks in their order, and the conditions of 11, 10, 13 and 2, which every attention and step has.
 use mathlib.Core.Bool.{false}
 use mathlib.Core.List.{List, [], _∷_, _++_}
 use mathlib.Core.Logic.{_⊎_}
@@ -39,6 +39,18 @@ SomePast (a ∷ rest) = (1048576 ≤ a) ⊎ SomePast rest
 -- 10: the state is not sound (§2.9)
 abbrev pub NotSound : State → Type 0
 NotSound s = SomePast (pointersOf (s .first) ++ (pointersOf (s .second) ++ (s .cp ∷ [])))
+
+-- 13: the processor is not powered up
+abbrev pub NotPowered : State → Type 0
+NotPowered s = s .board .powered ≡ false
+
+-- the checks of what every attention and step is given, in their order, and those after them
+abbrev pub givenChecks : State → Buffers → List Check → List Check
+givenChecks s m next = check 11 (TooLong m) ∷ check 10 (NotSound s) ∷ check 13 (NotPowered s) ∷ next
+
+-- a condition that counts where none of them applies
+abbrev pub AfterGiven : State → Buffers → Type 0 → Type 0
+AfterGiven s m next = ¬ (TooLong m) × (¬ (NotSound s) × (¬ (NotPowered s) × next))
 
 -- 2: one of some bytes is of system space and not lent (§1.3); no byte of I/O space counts
 abbrev pub Beyond : Buffers → List Place → Type 0

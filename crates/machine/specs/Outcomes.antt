@@ -28,6 +28,6 @@ first a b = pick (eqb a 0) b a
 unfoldable pub settled : ℕ → State → Buffers → State → Buffers → Outcome
 settled number s m s′ m′ = pick (eqb number 0) (outcome 0 s′ m′) (outcome number s m)
 
--- what every attention and step asks of what it is given: 11, then 10 (§3.4)
+-- what every attention and step asks of what it is given: 11, 10, then 13, that the processor is powered up (§3.4)
 unfoldable pub givenNumber : State → Buffers → ℕ
-givenNumber s m = first (unless (withinLimits m) 11) (unless (sound s) 10)
+givenNumber s m = first (unless (withinLimits m) 11) (first (unless (sound s) 10) (unless (s .board .powered) 13))

@@ -1,4 +1,4 @@
--- The whole state (§2.7): a fresh one, a sound one, and its channels, channel 1 named by false and channel 2 by true.
+-- The whole state (§2.7): a fresh one, one after reset, a sound one, and its channels, channel 1 named by false and channel 2 by true.
 use mathlib.Core.Bool.{Bool, true, false, _&&_, _||_}
 use Prim.Native.Nat.{ℕ}
 use lib.Dec.{ltb, eqb}
@@ -10,6 +10,7 @@ use Rattle.machine.specs.declared.Mode.the-variants.{Idle, Running, Susp
 use Rattle.machine.specs.declared.Channel.{Channel}
 use Rattle.machine.specs.declared.State.{State}
 use Rattle.machine.specs.declared.Answer.{Answer}
+use Rattle.machine.specs.declared.Board.{Board}
 
 -- a channel with all at 0 and idle
 unfoldable pub idleChannel : Channel
@@ -29,9 +30,21 @@ idleChannel =
       armed = false;
     }
 
--- a fresh state (§2.8): all but CP is 0 or idle, and channel 2 is last
+-- what the board set up: powered up or not, SYSBUS bit 0 and SOC bit 0, the physical widths of the system and of the I/O bus, and SOC bit 1
+abbrev pub boardWith : Bool → Bool → Bool → Bool → Board
+boardWith powered sysbus soc grant = record { powered = powered; sysbus = sysbus; soc = soc; grant = grant }
+
+-- a state of which only CP and what the board set up are known (§2.8): all else is 0 or idle, and channel 2 is last
+abbrev pub blankState : ℕ → Board → State
+blankState cp set = record { first = idleChannel; second = idleChannel; cp = cp; last = true; board = set }
+
+-- a fresh state, made from a CP: it counts as powered up, and the three bits are 0
 unfoldable pub freshState : ℕ → State
-freshState cp = record { first = idleChannel; second = idleChannel; cp = cp; last = true }
+freshState cp = blankState cp (boardWith true false false false)
+
+-- the state after reset: that of CP 0, not powered up
+unfoldable pub resetState : State
+resetState = blankState 0 (boardWith false false false false)
 
 -- a CP of more than 20 bits is answered by 10 and the fresh state of CP 0
 unfoldable pub freshOf : ℕ → Answer
@@ -44,11 +57,11 @@ channelOf s second = pick second (s .second) (s .first)
 -- the state with a channel put back under its name
 unfoldable pub withChannel : State → Bool → Channel → State
 withChannel s second c =
-    record { first = pick second (s .first) c; second = pick second c (s .second); cp = s .cp; last = s .last }
+    record { first = pick second (s .first) c; second = pick second c (s .second); cp = s .cp; last = s .last; board = s .board }
 
 -- the state with the channel that stepped last
 unfoldable pub withLast : State → Bool → State
-withLast s second = record { first = s .first; second = s .second; cp = s .cp; last = second }
+withLast s second = record { first = s .first; second = s .second; cp = s .cp; last = second; board = s .board }
 
 -- no pointer, nor PP, of a channel is 1,048,576 or more
 unfoldable pub soundChannel : Channel → Bool

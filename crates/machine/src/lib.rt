@@ -1,4 +1,5 @@
-// The machine's registers: two channels, the control block's address and the channel that stepped last, all by value.
+// The machine's registers: two channels, the control block's address, the channel that stepped last and what the board
+// set up, all by value.
 use memory::Pointer;
 
 // The fields of PSW.
@@ -9,7 +10,7 @@ pub mod cc;
 pub mod registers;
 // A channel with some of its registers changed.
 pub mod updates;
-// A fresh state, a sound state, and its channels.
+// A fresh state, a state after reset, a sound state, and its channels.
 pub mod states;
 
 // What a channel is doing.
@@ -35,12 +36,22 @@ pub struct Channel {
     pub armed: bool,
 }
 
-// Both channels, the control block's address, and whether channel 2 was the last to step.
+// What the board set up: whether the processor is powered up, the physical widths, SYSBUS bit 0 of the system bus and SOC
+// bit 0 of the I/O bus (true = 16 bits), and SOC bit 1.
+pub struct Board {
+    pub powered: bool,
+    pub sysbus: bool,
+    pub soc: bool,
+    pub grant: bool,
+}
+
+// Both channels, the control block's address, whether channel 2 was the last to step, and what the board set up.
 pub struct State {
     pub first: Channel,
     pub second: Channel,
     pub cp: u32,
     pub last: bool,
+    pub board: Board,
 }
 
 // What a call answers: its number, 0 for done, and the state.

@@ -1,14 +1,16 @@
-// A fresh state, a sound state, and the channels of a state by their names and numbers.
+// A fresh state, a state after reset, a sound state, and the channels of a state by their names and numbers.
 use crate::Answer;
+use crate::Board;
 use crate::Channel;
 use crate::Mode;
 use crate::State;
 use memory::Pointer;
+ghost use mathlib.Core.Bool.{false};
 ghost use mathlib.Core.Path.{_≡_};
 ghost use Rattle.memory.specs.Buffers.{buffers};
 ghost use Rattle.machine.specs.Outcomes.{givenNumber};
 ghost use Rattle.machine.specs.States as States;
-ghost use Rattle.machine.specs.States.{idleChannel, freshState, freshOf, channelOf, withChannel, withLast, soundChannel, isRunning, isSuspended, blockOf, isChannel, isSecond, channelNumber};
+ghost use Rattle.machine.specs.States.{boardWith, idleChannel, blankState, resetState, freshOf, channelOf, withChannel, withLast, soundChannel, isRunning, isSuspended, blockOf, isChannel, isSecond, channelNumber};
 
 // A channel with all at 0 and idle.
 pub fn idle() -> Channel
@@ -34,9 +36,9 @@ pub fn idle() -> Channel
     }
 }
 
-// The state that only a CP is known of.
-fn made(cp: u32) -> State
-    ensures { λ r. ⌜ r ≡ freshState cp ⌝ }
+// The state in which nothing but CP and what the board set up is known.
+pub fn blank(cp: u32, board: Board) -> State
+    ensures { λ r. ⌜ r ≡ blankState cp board ⌝ }
 {
     let c = idle();
     State {
@@ -44,6 +46,19 @@ fn made(cp: u32) -> State
         second: c,
         cp,
         last: true,
+        board,
+    }
+}
+
+// What the board set up where neither SYSBUS nor SOC was read.
+fn unread(powered: bool) -> Board
+    ensures { λ r. ⌜ r ≡ boardWith powered false false false ⌝ }
+{
+    Board {
+        powered,
+        sysbus: false,
+        soc: false,
+        grant: false,
     }
 }
 
@@ -52,12 +67,19 @@ pub fn fresh(cp: u32) -> Answer
     ensures { λ r. ⌜ r ≡ freshOf cp ⌝ }
 {
     if cp < 1048576 {
-        let state = made(cp);
+        let state = blank(cp, unread(true));
         Answer { number: 0, state }
     } else {
-        let state = made(0);
+        let state = blank(0, unread(true));
         Answer { number: 10, state }
     }
+}
+
+// The state after reset, which only power-up leads out of.
+pub fn reset() -> State
+    ensures { λ r. ⌜ r ≡ resetState ⌝ }
+{
+    blank(0, unread(false))
 }
 
 // Whether no pointer of a channel is past 20 bits.
@@ -157,13 +179,16 @@ pub fn number(second: bool) -> u32
     if second { 2 } else { 1 }
 }
 
-// The refusal of what a call is given: 11 for a buffer past its limit, then 10 for a state that is not sound, else 0.
+// The refusal of what a call is given: 11 for a buffer past its limit, 10 for a state that is not sound, 13 for one that
+// is not powered up, else 0.
 pub fn given_number(s: State, sys: &[u8], io: &[u8]) -> u32
     ensures { λ r. ⌜ r ≡ givenNumber s (buffers (now (sys .entry)) (now (io .entry))) ⌝ }
 {
-    if memory::within_limits(sys, io) {
-        if sound(s) { 0 } else { 10 }
-    } else {
-        11
+    if !memory::within_limits(sys, io) {
+        return 11;
     }
+    if !sound(s) {
+        return 10;
+    }
+    if s.board.powered { 0 } else { 13 }
 }

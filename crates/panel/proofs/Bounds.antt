@@ -1,29 +1,32 @@
--- The bounds of a run: its number is at most 12 and its steps at most the limit, so both can be taken back out of the answer.
+-- The bounds of a run: its number is at most 12, since a state from a CP counts as powered up, and its steps at most the limit, so both can be taken back out of the answer.
 -- Assumes nothing.
 use Prim.Native.Nat.{ℕ, zero, suc, _+_, _*_, _/_, _%_, _<_, _≤_}
 use lib.Dec.{eqb, ltb, lit≤}
 use mathlib.Core.Bool.{Bool, true, false, _&&_}
-use mathlib.Core.Path.{_≡_, refl, sym, subst}
+use mathlib.Core.Path.{_≡_, refl, sym, ap, subst, _∙_}
 use native.Mathlib.Decide.{ℕ-discrete, decLt}
 use native.Mathlib.Nat.{mod-eq-of-lt}
 use native.Mathlib.Omega.{arith}
-use Rattle.attention.proofs.Numbers.{attention-most}
+use Rattle.attention.proofs.Numbers.{attention-powered}
+use Rattle.attention.proofs.Outcomes.{shared-kept}
 use Rattle.attention.specs.Attention.{attentionOf}
 use Rattle.machine.specs.Outcomes.{unless, first}
 use Rattle.machine.specs.States.{freshState, isChannel}
+use Rattle.machine.specs.declared.Board.{Board}
 use Rattle.machine.specs.declared.State.{State}
 use Rattle.memory.specs.Buffers.{Buffers, withinLimits}
-use Rattle.step.proofs.NumberLaws.{step-most}
+use Rattle.step.proofs.NumberLaws.{step-powered}
+use Rattle.step.proofs.OutcomeLaws.{board-kept}
 use Rattle.step.specs.Step.{stepOf}
 use Rattle.words.specs.Choice.{pick}
-use Rattle.panel.specs.Run.{Run, ran, stepsFrom, callNumber, runOf, answerOf}
+use Rattle.panel.specs.Run.{Run, ran, stepsFrom, attendedRun, callNumber, runOf, answerOf}
 use Rattle.panel.proofs.Outcomes.{refused-call, refused-cp, refused-attention, accepted-attention}
 use Rattle.panel.proofs.RunLaws.{call-limit}
 
 -- ---- the numbers
 
--- an attention's number and a step's are at most 12; so is that of the call itself
-call-most : (m : Buffers) (channel lines limit : ℕ) → callNumber m channel lines limit ≤ 12
+-- the number of the call itself is at most 12
+pub call-most : (m : Buffers) (channel lines limit : ℕ) → callNumber m channel lines limit ≤ 12
 unfolding callNumber first unless
 call-most m channel lines limit = go (isChannel channel && ltb lines 16 && ltb limit 65536) (withinLimits m)
   where
@@ -39,14 +42,18 @@ either : (P : Run → Type 0) (b : Bool) (r q : Run) → P r → P q → P (pick
 either P true r q p p′ = p
 either P false r q p p′ = p′
 
--- the steps' number is one of a step's, or 0
-steps-number : (left : ℕ) (s : State) (m : Buffers) (lines done : ℕ) → stepsFrom left s m lines done .number ≤ 12
+-- a state is powered up where the state that its board was taken over from is
+still-powered : (s s′ : State) → s′ .board ≡ s .board → s .board .powered ≡ true → s′ .board .powered ≡ true
+still-powered s s′ e p = ap (λ (x : Board). x .powered) e ∙ p
+
+-- the steps' number is one of a step's of a processor that is powered up, or 0
+steps-number : (left : ℕ) (s : State) (m : Buffers) (lines done : ℕ) → s .board .powered ≡ true → stepsFrom left s m lines done .number ≤ 12
 unfolding stepsFrom
-steps-number zero s m lines done = lit≤ tt
-steps-number (suc left) s m lines done =
+steps-number zero s m lines done p = lit≤ tt
+steps-number (suc left) s m lines done p =
     let o = stepOf s m lines in
     either (λ r. r .number ≤ 12) (eqb (o .number) 0) (stepsFrom left (o .state) (o .memory) lines (done + 1)) (ran (o .number) done (o .memory))
-    (steps-number left (o .state) (o .memory) lines (done + 1)) (step-most s m lines)
+    (steps-number left (o .state) (o .memory) lines (done + 1) (still-powered s (o .state) (board-kept s m lines) p)) (step-powered s m lines p)
 
 -- no more than those that are left are done
 steps-done : (left : ℕ) (s : State) (m : Buffers) (lines done : ℕ) → stepsFrom left s m lines done .steps ≤ done + left
@@ -57,21 +64,45 @@ steps-done (suc left) s m lines done =
     either (λ r. r .steps ≤ done + suc left) (eqb (o .number) 0) (stepsFrom left (o .state) (o .memory) lines (done + 1)) (ran (o .number) done (o .memory))
     (omega (arith, steps-done left (o .state) (o .memory) lines (done + 1))) (omega arith)
 
+-- ---- the attention and the steps
+
+module _ (s : State) (m : Buffers) (channel lines limit : ℕ) where
+  -- of a processor that is powered up their number is at most 12
+  pub attended-most : s .board .powered ≡ true → attendedRun (attentionOf s m channel) lines limit .number ≤ 12
+  unfolding attendedRun
+  attended-most p =
+      let o = attentionOf s m channel in
+      either (λ r. r .number ≤ 12) (eqb (o .number) 0) (stepsFrom limit (o .state) (o .memory) lines 0) (ran (o .number) 0 (o .memory))
+      (steps-number limit (o .state) (o .memory) lines 0 (still-powered s (o .state) (shared-kept s m channel .2) p)) (attention-powered s m channel p)
+
+  -- and no more are done than the limit
+  pub attended-steps : attendedRun (attentionOf s m channel) lines limit .steps ≤ limit
+  unfolding attendedRun
+  attended-steps =
+      let o = attentionOf s m channel in
+      either (λ r. r .steps ≤ limit) (eqb (o .number) 0) (stepsFrom limit (o .state) (o .memory) lines 0) (ran (o .number) 0 (o .memory))
+      (omega (arith, steps-done limit (o .state) (o .memory) lines 0)) (omega arith)
+
 -- ---- the run
 
 module _ (m : Buffers) (cp channel lines limit : ℕ) where
-  -- what holds of a run that is refused before its steps, and of the steps under a limit of sixteen bits, holds of the run
-  pub run-by : (P : Run → Type 0) → ((n : ℕ) → n ≤ 12 → P (ran n 0 m)) → (limit < 65536 → (s : State) (m′ : Buffers) → P (stepsFrom limit s m′ lines 0))
+  fresh-on : freshState cp .board .powered ≡ true
+  unfolding freshState
+  fresh-on = refl
+
+  -- what holds of a run that is refused before its steps, and of the steps of a processor that is powered up under a limit of sixteen bits, holds of the run
+  pub run-by : (P : Run → Type 0) → ((n : ℕ) → n ≤ 12 → P (ran n 0 m)) → (limit < 65536 → (s : State) (m′ : Buffers) → s .board .powered ≡ true → P (stepsFrom limit s m′ lines 0))
       → P (runOf m cp channel lines limit)
   run-by P refused steps = called (ℕ-discrete (callNumber m channel lines limit) 0)
     where
       attended : callNumber m channel lines limit ≡ 0 → cp < 1048576 → Dec (attentionOf (freshState cp) m channel .number ≡ 0) → P (runOf m cp channel lines limit)
       attended e h (yes a) =
           subst P (sym (accepted-attention m cp channel lines limit e h a))
-          (steps (call-limit m channel lines limit e) (attentionOf (freshState cp) m channel .state) (attentionOf (freshState cp) m channel .memory))
+          (steps (call-limit m channel lines limit e) (attentionOf (freshState cp) m channel .state) (attentionOf (freshState cp) m channel .memory)
+          (still-powered (freshState cp) (attentionOf (freshState cp) m channel .state) (shared-kept (freshState cp) m channel .2) fresh-on))
       attended e h (no a) =
           subst P (sym (refused-attention m cp channel lines limit e h a))
-          (refused (attentionOf (freshState cp) m channel .number) (attention-most (freshState cp) m channel))
+          (refused (attentionOf (freshState cp) m channel .number) (attention-powered (freshState cp) m channel fresh-on))
 
       fresh : callNumber m channel lines limit ≡ 0 → Dec (cp < 1048576) → P (runOf m cp channel lines limit)
       fresh e (yes h) = attended e h (ℕ-discrete (attentionOf (freshState cp) m channel .number) 0)
@@ -85,15 +116,15 @@ module _ (m : Buffers) (cp channel lines limit : ℕ) where
 
   -- the number is at most 12
   pub number-most : runOf m cp channel lines limit .number ≤ 12
-  number-most = run-by (λ r. r .number ≤ 12) (λ n h. h) (λ h s m′. steps-number limit s m′ lines 0)
+  number-most = run-by (λ r. r .number ≤ 12) (λ n h. h) (λ h s m′ p. steps-number limit s m′ lines 0 p)
 
   -- no more steps are done than the limit
   pub steps-most : runOf m cp channel lines limit .steps ≤ limit
-  steps-most = run-by (λ r. r .steps ≤ limit) (λ n h. omega arith) (λ h s m′. omega (arith, steps-done limit s m′ lines 0))
+  steps-most = run-by (λ r. r .steps ≤ limit) (λ n h. omega arith) (λ h s m′ p. omega (arith, steps-done limit s m′ lines 0))
 
   -- and fewer than 65,536
   pub steps-below : runOf m cp channel lines limit .steps < 65536
-  steps-below = run-by (λ r. r .steps < 65536) (λ n h. omega arith) (λ h s m′. omega (arith, steps-done limit s m′ lines 0))
+  steps-below = run-by (λ r. r .steps < 65536) (λ n h. omega arith) (λ h s m′ p. omega (arith, steps-done limit s m′ lines 0))
 
   -- the answer is the number × 65,536 + the steps done (§8.4)
   pub answer-is : answerOf (runOf m cp channel lines limit) ≡ runOf m cp channel lines limit .number * 65536 + runOf m cp channel lines limit .steps

@@ -1,5 +1,5 @@
 -- Steps of one channel in a row with no choice between them, and the two channels of a run with one of them at hand.
-use mathlib.Core.Bool.{Bool, not, _&&_}
+use mathlib.Core.Bool.{Bool, false, not, _&&_}
 use Prim.Native.Nat.{ℕ, zero, suc, _+_, _-_, _<_, _≤_}
 use mathlib.Core.Path.{_≡_}
 use lib.Dec.{eqb}
@@ -9,13 +9,14 @@ use Rattle.machine.specs.declared.Channel.{Channel}
 use Rattle.machine.specs.declared.Mode.{Mode}
 use Rattle.machine.specs.declared.State.{State}
 use Rattle.machine.specs.Psw.{transferring}
-use Rattle.machine.specs.States.{channelOf, isRunning}
+use Rattle.machine.specs.States.{boardWith, channelOf, isRunning}
 use Rattle.transfer.specs.Steps.{transferOf}
 use Rattle.execute.specs.Execute.{executeOf}
 use Rattle.step.specs.Step.{entryNumber}
 use Rattle.panel.specs.Run.{Run, ran, stepsFrom}
 use Rattle.panel.specs.declared.bursts.Pair.{Pair}
 use Rattle.panel.specs.declared.bursts.Round.{Round}
+use Rattle.panel.specs.declared.bursts.Shared.{Shared}
 
 -- what a channel's own step comes to
 pub record Own : Type 0 where
@@ -64,9 +65,24 @@ executesOn c = isRunning (c .mode) && not (transferring (c .psw))
 unfoldable pub untilOf : Mode → ℕ → ℕ → ℕ
 untilOf other done limit = pick (isRunning other) (done + 1) limit
 
+-- what the channels of a state share and no step changes
+abbrev pub sharedOf : State → Shared
+sharedOf s = record { cp = s .cp; board = s .board }
+
+-- the same where it does not matter
+abbrev pub nothingShared : Shared
+nothingShared = record { cp = 0; board = boardWith false false false false }
+
 -- the state of the two channels at hand
-unfoldable pub stateOf : Pair → ℕ → State
-stateOf p cp = record { first = pick (p .second) (p .other) (p .mine); second = pick (p .second) (p .mine) (p .other); cp = cp; last = p .last }
+unfoldable pub stateOf : Pair → Shared → State
+stateOf p shared =
+    record {
+      first = pick (p .second) (p .other) (p .mine);
+      second = pick (p .second) (p .mine) (p .other);
+      cp = shared .cp;
+      last = p .last;
+      board = shared .board;
+    }
 
 -- the two channels of a state, with that of a name at hand
 unfoldable pub handsOf : State → Bool → Pair
@@ -80,13 +96,13 @@ abbrev pub roundAfter : ℕ → ℕ → Pair → Round
 roundAfter number steps p = record { number = number; steps = steps; pair = p }
 
 -- the rest of a run after a round: what stopped it, or the steps that are left
-unfoldable pub restOf : Round → ℕ → Buffers → ℕ → ℕ → Run
-restOf r cp m lines limit =
-    pick (eqb (r .number) 0) (stepsFrom (limit - r .steps) (stateOf (r .pair) cp) m lines (r .steps)) (ran (r .number) (r .steps) m)
+unfoldable pub restOf : Round → Shared → Buffers → ℕ → ℕ → Run
+restOf r shared m lines limit =
+    pick (eqb (r .number) 0) (stepsFrom (limit - r .steps) (stateOf (r .pair) shared) m lines (r .steps)) (ran (r .number) (r .steps) m)
 
 -- what a round is to a run of `limit` steps of which `done` are done: what is left after it is what was left before it, and it is a step on
 pub record Rounded (r : Round) (s : State) (m m′ : Buffers) (lines limit done : ℕ) : Type 0 where
-  pub rest : restOf r (s .cp) m′ lines limit ≡ stepsFrom (limit - done) s m lines done
+  pub rest : restOf r (sharedOf s) m′ lines limit ≡ stepsFrom (limit - done) s m lines done
   pub further : r .number ≡ 0 → done < r .steps
   pub most : r .steps ≤ limit
-  pub ready : r .number ≡ 0 → entryNumber (stateOf (r .pair) (s .cp)) m′ lines ≡ 0
+  pub ready : r .number ≡ 0 → entryNumber (stateOf (r .pair) (sharedOf s)) m′ lines ≡ 0

@@ -1,5 +1,6 @@
 // Steps of one channel in a row with no choice between them, and rounds of them until a run ends.
 use crate::Ran;
+use machine::Board;
 use machine::Channel;
 use machine::Mode;
 use machine::State;
@@ -13,7 +14,7 @@ ghost use Rattle.step.specs.Choosing.{choiceOf};
 ghost use Rattle.step.specs.Step.{entryNumber};
 ghost use Rattle.step.specs.declared.turns.Choice.the-variants.{Steps};
 ghost use Rattle.panel.specs.Run.{ran, stepsFrom};
-ghost use Rattle.panel.specs.Bursts.{burst, burstFrom, moves, transfersOn, executes, executesOn, untilOf, stateOf, handsOf, pairAfter, Rounded};
+ghost use Rattle.panel.specs.Bursts.{burst, burstFrom, moves, transfersOn, executes, executesOn, untilOf, nothingShared, stateOf, handsOf, pairAfter, Rounded};
 
 // The two channels of a run, the one at hand and the other: whether the one at hand is channel 2, and whether that was the last to step.
 pub(crate) struct Pair {
@@ -21,6 +22,12 @@ pub(crate) struct Pair {
     pub(crate) other: Channel,
     pub(crate) second: bool,
     pub(crate) last: bool,
+}
+
+// What both channels share and no step changes: CP, and what the board set up.
+pub(crate) struct Shared {
+    pub(crate) cp: u32,
+    pub(crate) board: Board,
 }
 
 // How steps of one channel in a row ended: the number that stopped them, the steps of the run done by then, and the channel.
@@ -119,31 +126,34 @@ fn stop_at(other: Mode, done: u16, limit: u16) -> u16
 }
 
 // The state of the two channels.
-fn state(p: Pair, cp: u32) -> State
-    ensures { λ r. ⌜ r ≡ stateOf p cp ⌝ }
+fn state(p: Pair, shared: Shared) -> State
+    ensures { λ r. ⌜ r ≡ stateOf p shared ⌝ }
 {
     let mine = p.mine;
     let other = p.other;
+    let board = shared.board;
     if p.second {
         State {
             first: other,
             second: mine,
-            cp,
+            cp: shared.cp,
             last: p.last,
+            board,
         }
     } else {
         State {
             first: mine,
             second: other,
-            cp,
+            cp: shared.cp,
             last: p.last,
+            board,
         }
     }
 }
 
 // The two channels with that of a name at hand.
 fn turned(p: Pair, second: bool) -> Pair
-    ensures { λ r. ⌜ r ≡ handsOf (stateOf p 0) second ⌝ }
+    ensures { λ r. ⌜ r ≡ handsOf (stateOf p nothingShared) second ⌝ }
 {
     let mine = p.mine;
     let other = p.other;
@@ -181,15 +191,15 @@ fn after(p: Pair, b: Burst) -> Round
 // Steps of the channel at hand, which has its turn: as many as the choice stays with it.
 fn own_steps(
     p: Pair,
-    cp: u32,
+    shared: Shared,
     sys: &mut [u8],
     io: &mut [u8],
     lines: u32,
     done: u16,
     limit: u16,
 ) -> Round
-    requires { ⌜ (done < limit) × (entryNumber (stateOf p cp) (buffers (now sys) (now io)) lines ≡ 0) × (choiceOf (stateOf p cp) lines ≡ Steps (p .second)) ⌝ }
-    ensures { λ r. ⌜ Rounded r (stateOf p cp) (buffers (now (sys .entry)) (now (io .entry))) (buffers (now (sys .exit)) (now (io .exit))) lines limit done ⌝ }
+    requires { ⌜ (done < limit) × (entryNumber (stateOf p shared) (buffers (now sys) (now io)) lines ≡ 0) × (choiceOf (stateOf p shared) lines ≡ Steps (p .second)) ⌝ }
+    ensures { λ r. ⌜ Rounded r (stateOf p shared) (buffers (now (sys .entry)) (now (io .entry))) (buffers (now (sys .exit)) (now (io .exit))) lines limit done ⌝ }
 {
     let c = p.mine;
     let other = p.other;
@@ -198,16 +208,24 @@ fn own_steps(
     if machine::psw::transferring(c.psw) {
         return after(p, transfers(c, sys, io, done, until));
     }
-    let busy = words::sum20(machine::states::block(state(p, cp), p.second), 1);
+    let busy = words::sum20(machine::states::block(state(p, shared), p.second), 1);
     after(p, instructions(c, busy, sys, io, done, until))
 }
 
 // One choice, and the steps that come of it.
-fn turn(p: Pair, cp: u32, sys: &mut [u8], io: &mut [u8], lines: u32, done: u16, limit: u16) -> Round
-    requires { ⌜ (done < limit) × (entryNumber (stateOf p cp) (buffers (now sys) (now io)) lines ≡ 0) ⌝ }
-    ensures { λ r. ⌜ Rounded r (stateOf p cp) (buffers (now (sys .entry)) (now (io .entry))) (buffers (now (sys .exit)) (now (io .exit))) lines limit done ⌝ }
+fn turn(
+    p: Pair,
+    shared: Shared,
+    sys: &mut [u8],
+    io: &mut [u8],
+    lines: u32,
+    done: u16,
+    limit: u16,
+) -> Round
+    requires { ⌜ (done < limit) × (entryNumber (stateOf p shared) (buffers (now sys) (now io)) lines ≡ 0) ⌝ }
+    ensures { λ r. ⌜ Rounded r (stateOf p shared) (buffers (now (sys .entry)) (now (io .entry))) (buffers (now (sys .exit)) (now (io .exit))) lines limit done ⌝ }
 {
-    let choice = step::turns::choose(state(p, cp), lines);
+    let choice = step::turns::choose(state(p, shared), lines);
     match choice {
         Choice::Nobody => Round {
             number: 1,
@@ -226,19 +244,26 @@ fn turn(p: Pair, cp: u32, sys: &mut [u8], io: &mut [u8], lines: u32, done: u16, 
                 },
             )
         }
-        Choice::Steps(second) => own_steps(turned(p, second), cp, sys, io, lines, done, limit),
+        Choice::Steps(second) => own_steps(turned(p, second), shared, sys, io, lines, done, limit),
     }
 }
 
-// Rounds until a number other than 0 or the limit, of channels that no step refuses by 12, 11 or 10.
-pub(crate) fn rounds(p: Pair, cp: u32, sys: &mut [u8], io: &mut [u8], lines: u32, limit: u16) -> Ran
-    requires { ⌜ entryNumber (stateOf p cp) (buffers (now sys) (now io)) lines ≡ 0 ⌝ }
-    ensures { λ r. ⌜ ran (r .number) (r .steps) (buffers (now (sys .exit)) (now (io .exit))) ≡ stepsFrom limit (stateOf p cp) (buffers (now (sys .entry)) (now (io .entry))) lines 0 ⌝ }
+// Rounds until a number other than 0 or the limit, of channels that no step refuses by 12, 11, 10 or 13.
+pub(crate) fn rounds(
+    p: Pair,
+    shared: Shared,
+    sys: &mut [u8],
+    io: &mut [u8],
+    lines: u32,
+    limit: u16,
+) -> Ran
+    requires { ⌜ entryNumber (stateOf p shared) (buffers (now sys) (now io)) lines ≡ 0 ⌝ }
+    ensures { λ r. ⌜ ran (r .number) (r .steps) (buffers (now (sys .exit)) (now (io .exit))) ≡ stepsFrom limit (stateOf p shared) (buffers (now (sys .entry)) (now (io .entry))) lines 0 ⌝ }
 {
     let mut pair = p;
     let mut done: u16 = 0;
     while done < limit {
-        let r = turn(pair, cp, sys, io, lines, done, limit);
+        let r = turn(pair, shared, sys, io, lines, done, limit);
         if r.number != 0 {
             return Ran {
                 number: r.number,

@@ -38,7 +38,9 @@ fn steps(s: State, sys: &mut [u8], io: &mut [u8], lines: u32, limit: u16) -> Ran
         second: false,
         last: s.last,
     };
-    bursts::rounds(pair, s.cp, sys, io, lines, limit)
+    let board = s.board;
+    let shared = bursts::Shared { cp: s.cp, board };
+    bursts::rounds(pair, shared, sys, io, lines, limit)
 }
 
 // One attention, and the steps after it where it is accepted.
@@ -56,8 +58,15 @@ fn attend(s: State, sys: &mut [u8], io: &mut [u8], channel: u32, lines: u32, lim
     steps(state, sys, io, lines, limit)
 }
 
-// A run from a fresh state, or 10.
-fn start(fresh: Answer, sys: &mut [u8], io: &mut [u8], channel: u32, lines: u32, limit: u16) -> Ran
+// A run from a state that was made, or the number by which none was.
+pub fn start(
+    fresh: Answer,
+    sys: &mut [u8],
+    io: &mut [u8],
+    channel: u32,
+    lines: u32,
+    limit: u16,
+) -> Ran
     ensures { λ r. ⌜ ran (r .number) (r .steps) (buffers (now (sys .exit)) (now (io .exit))) ≡ startedRun fresh (buffers (now (sys .entry)) (now (io .entry))) channel lines limit ⌝ }
 {
     if fresh.number != 0 {
@@ -71,7 +80,7 @@ fn start(fresh: Answer, sys: &mut [u8], io: &mut [u8], channel: u32, lines: u32,
 }
 
 // The refusal of what a run is given: 12 for a channel, line number or limit that is none, then 11, else 0.
-fn call_number(sys: &[u8], io: &[u8], channel: u32, lines: u32, limit: u32) -> u32
+pub fn call_number(sys: &[u8], io: &[u8], channel: u32, lines: u32, limit: u32) -> u32
     ensures { λ r. ⌜ r ≡ callNumber (buffers (now (sys .entry)) (now (io .entry))) channel lines limit ⌝ }
 {
     if machine::states::is_channel(channel) & (lines < 16) & (limit < 65536) {

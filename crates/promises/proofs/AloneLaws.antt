@@ -14,13 +14,13 @@ use Rattle.machine.proofs.ConditionLaws.{running-is, says-running}
 use Rattle.machine.specs.Cc.{synchronised, chained, externalEnd}
 use Rattle.machine.specs.Outcomes.{first, unless, givenNumber}
 use Rattle.machine.specs.Psw.{transferring}
-use Rattle.machine.specs.States.{channelOf, channelNumber, isRunning, sound, blockOf, busyIn}
+use Rattle.machine.specs.States.{freshState, channelOf, withChannel, channelNumber, isRunning, sound, blockOf, busyIn}
 use Rattle.machine.specs.declared.Channel.{Channel}
 use Rattle.machine.specs.declared.Mode.the-variants.{Running}
 use Rattle.machine.specs.declared.State.{State}
 use Rattle.memory.specs.Buffers.{Buffers, spaceOf, limitOf, withinLimits}
-use Rattle.step.proofs.OutcomeLaws.{other-kept, cp-kept}
-use Rattle.step.proofs.SoundLaws.{sound-kept, entry-sound}
+use Rattle.step.proofs.OutcomeLaws.{other-kept, cp-kept, board-kept}
+use Rattle.step.proofs.SoundLaws.{sound-kept, entry-again}
 use Rattle.step.proofs.TouchedLaws.{lengths-kept}
 use Rattle.step.specs.Step.{refusedStep, doneStep, settledStep, instructionStep, chosenStep, entryNumber, stepOf}
 use Rattle.step.specs.declared.Kind.the-variants.{Instruction}
@@ -94,26 +94,29 @@ pub limits-kept : (m m′ : Buffers) → ((u : Bool) → length (spaceOf m′ u)
 unfolding withinLimits spaceOf
 limits-kept m m′ e = ap₂ (λ (x y : ℕ). leb x (limitOf false) && leb y (limitOf true)) (e false) (e true)
 
--- none of 12, 11 and 10 refuses the next step either
-entry-next : (s : State) (m : Buffers) (lines : ℕ) (s′ : State) (m′ : Buffers) → entryNumber s m lines ≡ 0 → sound s′ ≡ true
+-- none of 12, 11, 10 and 13 refuses the next step either
+entry-next : (s : State) (m : Buffers) (lines : ℕ) (s′ : State) (m′ : Buffers) → entryNumber s m lines ≡ 0 → sound s′ ≡ true → s′ .board ≡ s .board
     → ((u : Bool) → length (spaceOf m′ u) ≡ length (spaceOf m u)) → entryNumber s′ m′ lines ≡ 0
-unfolding entryNumber givenNumber
-entry-next s m lines s′ m′ z h e =
-    ap₂ (λ (x y : Bool). first (unless (ltb lines 16) 12) (first (unless x 11) (unless y 10))) (limits-kept m m′ e) (h ∙ sym (entry-sound s m lines z)) ∙ z
+entry-next s m lines s′ m′ z h b e = entry-again s s′ m m′ lines z h b (limits-kept m m′ e)
 
 -- after a done step of its own
 pub alone-next : (b : Bool) (s : State) (m : Buffers) (lines : ℕ) → RunsAlone b s m lines → (stepOf s m lines) .number ≡ 0 → (stepOf s m lines) .channel ≡ channelNumber b
     → RunsAlone b ((stepOf s m lines) .state) ((stepOf s m lines) .memory) lines
 alone-next b s m lines a z e =
     record {
-      entered = entry-next s m lines ((stepOf s m lines) .state) ((stepOf s m lines) .memory) (a .entered) (sound-kept s m lines z) (lengths-kept s m lines);
+      entered = entry-next s m lines ((stepOf s m lines) .state) ((stepOf s m lines) .memory) (a .entered) (sound-kept s m lines z) (board-kept s m lines) (lengths-kept s m lines);
       idle = ap (λ (c : Channel). isRunning (c .mode)) (other-kept s m lines b e) ∙ a .idle;
     }
 
--- a step of a sound state in buffers within their limits is refused by none of them
-pub entered : (s : State) (m : Buffers) (lines : ℕ) → lines < 16 → withinLimits m ≡ true → sound s ≡ true → entryNumber s m lines ≡ 0
+-- a step of a sound state that is powered up, in buffers within their limits, is refused by none of them
+pub entered : (s : State) (m : Buffers) (lines : ℕ) → lines < 16 → withinLimits m ≡ true → sound s ≡ true → s .board .powered ≡ true → entryNumber s m lines ≡ 0
 unfolding entryNumber givenNumber first unless
-entered s m lines h w q = rw (lt-ltb lines 16 h, w, q)
+entered s m lines h w q p = rw (lt-ltb lines 16 h, w, q, p)
+
+-- as a fresh one is, whatever channel is put into it
+pub put-powered : (cp : ℕ) (b : Bool) (c : Channel) → (withChannel (freshState cp) b c) .board .powered ≡ true
+unfolding freshState withChannel
+put-powered cp b c = refl
 
 -- ---- its instruction
 

@@ -21,7 +21,7 @@ use Rattle.promises.specs.Met.{pswOf, copying, zerosOf, zeros, onlyIn, M
 use Rattle.promises.specs.Premises.{Plain, Copy}
 use Rattle.promises.specs.Totals.{total}
 use Rattle.promises.specs.Witness.{channelWith}
-use Rattle.promises.proofs.AloneLaws.{entered, through}
+use Rattle.promises.proofs.AloneLaws.{entered, put-powered, through}
 use Rattle.promises.proofs.CaseLaws.{total-8, total-even, total-odd, total-mixed}
 
 -- ---- the memory
@@ -101,7 +101,7 @@ module _ (b : Bool) (c : Channel) (q : soundChannel c ≡ true) where
   unfolding freshState channelOf idleChannel isRunning
   only-alone =
       record {
-        entered = entered (onlyIn b c) zeros 0 (lit< tt) zeros-within only-sound;
+        entered = entered (onlyIn b c) zeros 0 (lit< tt) zeros-within only-sound (put-powered 0 b c);
         idle = ap (λ (d : Channel). isRunning (d .mode)) (put-other (freshState 0) b c) ∙ idle b;
       }
     where

@@ -9,7 +9,7 @@ use Rattle.attention.proofs.Numbers.{given-exactly, attention-most}
 use Rattle.attention.proofs.Outcomes.{refused-nothing}
 use Rattle.machine.proofs.ConditionLaws.{last, rewritten, told-ltb}
 use Rattle.machine.specs.Outcomes.{Outcome}
-use Rattle.machine.specs.States.{idleChannel, freshState, freshOf, channelOf}
+use Rattle.machine.specs.States.{boardWith, idleChannel, freshState, freshOf, channelOf}
 use Rattle.machine.specs.declared.Answer.{Answer}
 use Rattle.machine.specs.declared.State.{State}
 use Rattle.memory.specs.Buffers.{Buffers}
@@ -42,6 +42,7 @@ fresh-answers cp = record {
   takesCp = λ h. ap (λ (a : Answer). a .state .cp) (fresh-good cp h);
   channels = λ second. made cp (λ s. Blank (channelOf s second)) (λ k. blank k second);
   last = made cp (λ s. s .last ≡ true) (λ k. refl);
+  board = made cp (λ s. s .board ≡ boardWith true false false false) (λ k. refl);
   badCp = λ h. ap (λ (a : Answer). a .state .cp) (fresh-bad cp h);
 }
 

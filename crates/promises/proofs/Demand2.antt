@@ -24,7 +24,7 @@ use Rattle.memory.specs.Buffers.{Buffers, lentAt}
 use Rattle.memory.specs.Places.{span, allLent}
 use Rattle.memory.specs.Values.{pointer, pointerAt, storePointer}
 use Rattle.memory.specs.declared.Pointer.{Pointer}
-use Rattle.step.proofs.OutcomeLaws.{done, other-kept, cp-kept, last-set, last-kept, chosen-steps}
+use Rattle.step.proofs.OutcomeLaws.{done, other-kept, cp-kept, board-kept, last-set, last-kept, chosen-steps}
 use Rattle.step.proofs.TouchedLaws.{bytes-kept as step-bytes, lengths-kept as step-lengths}
 use Rattle.words.proofs.BitLaws.{bit-other}
 use Rattle.words.proofs.ChoiceLaws.{apart}
@@ -56,6 +56,7 @@ attention-does s m channel = record {
   own = only-control _ _ (registers-kept s m channel);
   controlBlock = shared-kept s m channel .0;
   last = shared-kept s m channel .1;
+  board = shared-kept s m channel .2;
   bytes = attention-bytes s m channel;
   lengths = attention-lengths s m channel;
 }
@@ -70,6 +71,7 @@ step-does s m lines = record {
   executes = λ second z e f. ⊎-elim (λ h. absurd h) (⊎-elim (λ h. apart (sym (h .0) ∙ f)) (λ h. h .1)) (rw e at (done s m lines z));
   other = other-kept s m lines;
   controlBlock = cp-kept s m lines;
+  board = board-kept s m lines;
   last = last-set s m lines;
   refusedLast = last-kept s m lines;
   bytes = step-bytes s m lines;

@@ -33,19 +33,19 @@ use Rattle.promises.proofs.StandLaws.{stand-kept}
 -- ---- bytes put into memory
 
 -- lengths stay
-put-length : (m : Buffers) (a : ℕ) (vs : List ℕ) (u : Bool) → length (spaceOf (put m a vs) u) ≡ length (spaceOf m u)
+pub put-length : (m : Buffers) (a : ℕ) (vs : List ℕ) (u : Bool) → length (spaceOf (put m a vs) u) ≡ length (spaceOf m u)
 unfolding put
 put-length m a [] u = refl
 put-length m a (v ∷ vs) u = put-length (storeByte m false a v) (a + 1) vs u ∙ store-length m false u a v
 
 -- so what is lent stays lent
-put-lent : (m : Buffers) (a : ℕ) (vs : List ℕ) (u : Bool) (x : ℕ) → lentAt (put m a vs) u x ≡ lentAt m u x
+pub put-lent : (m : Buffers) (a : ℕ) (vs : List ℕ) (u : Bool) (x : ℕ) → lentAt (put m a vs) u x ≡ lentAt m u x
 unfolding put
 put-lent m a [] u x = refl
 put-lent m a (v ∷ vs) u x = put-lent (storeByte m false a v) (a + 1) vs u x ∙ store-lent m false u a x v
 
 -- other bytes stay
-put-other : (m : Buffers) (a : ℕ) (vs : List ℕ) (u : Bool) (x : ℕ) → Outside (pointer a false) (length vs) u x → byteAt (put m a vs) u x ≡ byteAt m u x
+pub put-other : (m : Buffers) (a : ℕ) (vs : List ℕ) (u : Bool) (x : ℕ) → Outside (pointer a false) (length vs) u x → byteAt (put m a vs) u x ≡ byteAt m u x
 unfolding put
 put-other m a [] u x o = refl
 put-other m a (v ∷ vs) u x o =
@@ -68,11 +68,11 @@ put-read m a (v ∷ vs) fit l (suc i) h =
     ∙ put-read (storeByte m false a v) (a + 1) vs (omega arith)
     (λ k h′. store-lent m false false a (a + 1 + k) v ∙ (let y : a + 1 + k ≡ a + suc k = omega arith in ap (lentAt m false) y) ∙ l (suc k) (omega arith)) i (omega arith)
 
-put-stand : (m : Buffers) (a : ℕ) (vs : List ℕ) → length vs ≤ 65536 → Lent m (pointer a false) (length vs) → Stand (put m a vs) (pointer a false) vs
+pub put-stand : (m : Buffers) (a : ℕ) (vs : List ℕ) → length vs ≤ 65536 → Lent m (pointer a false) (length vs) → Stand (put m a vs) (pointer a false) vs
 put-stand m a vs fit l = record { lent = λ i h. put-lent m a vs false (a + i) ∙ l i h; read = put-read m a vs fit l }
 
 -- and after other bytes are put elsewhere
-stand-put : {m : Buffers} {p : Pointer} {bytes : List ℕ} (a : ℕ) (vs : List ℕ) → Stand m p bytes
+pub stand-put : {m : Buffers} {p : Pointer} {bytes : List ℕ} (a : ℕ) (vs : List ℕ) → Stand m p bytes
     → ((i : ℕ) → i < length bytes → Outside (pointer a false) (length vs) (p .tag) (p .address + i)) → Stand (put m a vs) p bytes
 stand-put {m} {p} a vs s o =
     stand-kept s (put m a vs) (put-lent m a vs) (λ i h. put-other m a vs (p .tag) (p .address + i) (o i h))
@@ -80,24 +80,24 @@ stand-put {m} {p} a vs s o =
 -- ---- the image
 
 -- two addresses of 20 bits that differ are different bytes
-differ : (x y : ℕ) → x < 1048576 → y < 1048576 → (x ≡ y → ⊥) → Apart false x false y
+pub differ : (x y : ℕ) → x < 1048576 → y < 1048576 → (x ≡ y → ⊥) → Apart false x false y
 unfolding indexOf limitOf
 differ x y h h′ ne e z = ne (omega arith)
 
 -- in a whole memory every address is lent
-whole-lent : (m : Buffers) (a : ℕ) → 1048576 ≤ length (spaceOf m false) → lentAt m false a ≡ true
+pub whole-lent : (m : Buffers) (a : ℕ) → 1048576 ≤ length (spaceOf m false) → lentAt m false a ≡ true
 unfolding lentAt
 whole-lent m a h = lt-ltb (indexOf false a) (length (spaceOf m false)) (omega (arith, index-small false a))
 
 -- and so after bytes are put there, which stand there
-whole-put : (m : Buffers) (a : ℕ) (vs : List ℕ) → 1048576 ≤ length (spaceOf m false) → 1048576 ≤ length (spaceOf (put m a vs) false)
+pub whole-put : (m : Buffers) (a : ℕ) (vs : List ℕ) → 1048576 ≤ length (spaceOf m false) → 1048576 ≤ length (spaceOf (put m a vs) false)
 whole-put m a vs h = omega (arith, h, put-length m a vs false)
 
-whole-stand : (m : Buffers) (a : ℕ) (vs : List ℕ) → length vs ≤ 65536 → 1048576 ≤ length (spaceOf m false) → Stand (put m a vs) (pointer a false) vs
+pub whole-stand : (m : Buffers) (a : ℕ) (vs : List ℕ) → length vs ≤ 65536 → 1048576 ≤ length (spaceOf m false) → Stand (put m a vs) (pointer a false) vs
 whole-stand m a vs fit h = put-stand m a vs fit (λ i _. whole-lent m (a + i) h)
 
 -- the block is at 0 or 8
-block-low : (b : Bool) → blockAt (layoutOf b) ≤ 8
+pub block-low : (b : Bool) → blockAt (layoutOf b) ≤ 8
 unfolding blockOf freshState
 block-low true = lit≤ tt
 block-low false = lit≤ tt
@@ -224,7 +224,7 @@ pub ready-met : ReadyMet
 ready-met m whole fit b fromOdd intoOdd fromWide intoWide n lines = ready m whole fit b fromOdd intoOdd fromWide intoWide n lines
 
 -- there is such a memory: all of system memory at 0
-zeros-whole : (size : ℕ) → length (spaceOf (zerosOf size) false) ≡ size
+pub zeros-whole : (size : ℕ) → length (spaceOf (zerosOf size) false) ≡ size
 unfolding zerosOf spaceOf
 zeros-whole size = simp length-replicate
 

@@ -29,6 +29,8 @@ pub mod ProgramLaws
 pub mod Showpiece
 pub mod ImageLaws
 pub mod Made
+pub mod Powering
+pub mod BoardWitness
 pub mod SheetLaws
 pub mod SheetAttention
 pub mod SheetOperands

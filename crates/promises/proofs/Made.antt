@@ -1,4 +1,4 @@
--- Every state that calls make from a fresh one is sound, so none of them is ever refused by 10; and 3 and 4 of an instruction by the rows of the table.
+-- Every state that calls make from a fresh one or from a power-up is sound and powered up, so none of them is ever refused by 10 or by 13; and 3 and 4 of an instruction by the rows of the table.
 -- Assumes nothing.
 use lib.Dec.{eqb}
 use borrow.Author.Tests.{eqb-true, eqb-false}
@@ -6,7 +6,9 @@ use mathlib.Core.Bool.{Bool, true, false}
 use mathlib.Core.Logic.{_↔_, Iff·trans}
 use mathlib.Core.Path.{_≡_, refl, sym, ap, _∙_}
 use Prim.Native.Nat.{ℕ}
-use Rattle.attention.proofs.Outcomes.{refused-nothing}
+use native.Mathlib.Omega.{arith}
+use Rattle.attention.proofs.Numbers.{attention-powered}
+use Rattle.attention.proofs.Outcomes.{refused-nothing, shared-kept}
 use Rattle.attention.proofs.SoundLaws.{attention-sound}
 use Rattle.attention.specs.Attention.{attentionOf}
 use Rattle.decode.proofs.Outcomes.{three-exactly, four-exactly}
@@ -16,18 +18,22 @@ use Rattle.decode_shapes.specs.declared.Decoded.the-variants.{Instruction, NoIn
 use Rattle.execute.specs.Conditions.{NoCode, ControlTouched}
 use Rattle.execute.specs.Execute.{decodedAt}
 use Rattle.execute_operands.specs.Operands.{byteHere}
-use Rattle.machine.proofs.ChannelLaws.{fresh-sound}
+use Rattle.machine.proofs.ChannelLaws.{fresh-sound, fresh-powered}
 use Rattle.machine.specs.Outcomes.{Outcome}
 use Rattle.machine.specs.States.{sound}
+use Rattle.machine.specs.declared.Board.{Board}
 use Rattle.machine.specs.declared.Channel.{Channel}
 use Rattle.machine.specs.declared.State.{State}
 use Rattle.memory.specs.Buffers.{Buffers, AllBytes}
 use Rattle.memory.specs.Values.{onward}
-use Rattle.step.proofs.OutcomeLaws.{refused}
+use Rattle.power.proofs.Outcomes.{power-accepted, found-sound, found-powered}
+use Rattle.power.specs.Power.{powerUpOf}
+use Rattle.step.proofs.NumberLaws.{step-powered}
+use Rattle.step.proofs.OutcomeLaws.{refused, board-kept}
 use Rattle.step.proofs.SoundLaws.{sound-kept}
 use Rattle.step.specs.Step.{Step, stepOf}
 use Rattle.promises.specs.Made.{Made, NoRow, RowUsesControl}
-use Rattle.promises.specs.Made.Made.{fresh, attention, step}
+use Rattle.promises.specs.Made.Made.{fresh, power, attention, step}
 
 -- ---- sound states
 
@@ -50,8 +56,25 @@ step-either s m lines h = go (eqb (stepOf s m lines .number) 0) refl
 -- every such state is sound
 pub made-sound : {s : State} → Made s → sound s ≡ true
 made-sound (fresh cp) = fresh-sound cp
+made-sound (power s m e) = ap (λ (o : Outcome). sound (o .state)) (power-accepted s m e) ∙ found-sound m
 made-sound (attention {s} made m bytes channel) = attention-either s m bytes channel (made-sound made)
 made-sound (step {s} made m lines) = step-either s m lines (made-sound made)
+
+-- ---- powered up
+
+-- every such state is powered up
+pub made-powered : {s : State} → Made s → s .board .powered ≡ true
+made-powered (fresh cp) = fresh-powered cp
+made-powered (power s m e) = ap (λ (o : Outcome). o .state .board .powered) (power-accepted s m e) ∙ found-powered m
+made-powered (attention {s} made m bytes channel) = ap (λ (b : Board). b .powered) (shared-kept s m channel .2) ∙ made-powered made
+made-powered (step {s} made m lines) = ap (λ (b : Board). b .powered) (board-kept s m lines) ∙ made-powered made
+
+-- so no attention to it and no step of it is 13
+pub made-attends : {s : State} → Made s → (m : Buffers) (channel : ℕ) → ¬ (attentionOf s m channel .number ≡ 13)
+made-attends {s} made m channel e = omega (arith, attention-powered s m channel (made-powered made), e)
+
+pub made-steps : {s : State} → Made s → (m : Buffers) (lines : ℕ) → ¬ (stepOf s m lines .number ≡ 13)
+made-steps {s} made m lines e = omega (arith, step-powered s m lines (made-powered made), e)
 
 -- ---- 3 and 4 in the rows' own words
 

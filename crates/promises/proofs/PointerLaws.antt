@@ -54,7 +54,7 @@ use Rattle.promises.specs.Pointers.{Holds, StepCall, leftBy, channelOn, 
 
 -- ---- what a done step that executes has passed, and what it leaves
 
--- a step that is done was given what 12, 11 and 10 accept
+-- a step that is done was given what 12, 11, 10 and 13 accept
 entered : (s : State) (m : Buffers) (lines : ℕ) → stepOf s m lines .number ≡ 0 → entryNumber s m lines ≡ 0
 unfolding stepOf
 entered s m lines z = go (ℕ-discrete (entryNumber s m lines) 0) z

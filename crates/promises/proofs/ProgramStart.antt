@@ -15,6 +15,7 @@ use Rattle.attention.specs.Attention.{orderTo, orderedChannel, orderedMemory, a
 use Rattle.attention.specs.Conditions.{NoChannel}
 use Rattle.machine.proofs.ChannelLaws.{fresh-sound, named}
 use Rattle.machine.proofs.ConditionLaws.{told-sound, told-touchable, says-running}
+use Rattle.machine.proofs.GivenLaws.{told-powered}
 use Rattle.machine.specs.Conditions.{TooLong}
 use Rattle.machine.specs.Outcomes.{outcome}
 use Rattle.machine.specs.Psw.{withPsw}
@@ -67,6 +68,11 @@ fresh-idle cp false = refl
 pub fresh-still : (cp : ℕ) (b : Bool) → isRunning (channelOf (freshState cp) b .mode) ≡ false
 unfolding idleChannel isRunning
 fresh-still cp b = ap (λ (c : Channel). isRunning (c .mode)) (fresh-idle cp b)
+
+-- it counts as powered up
+fresh-on : (cp : ℕ) → freshState cp .board .powered ≡ true
+unfolding freshState
+fresh-on cp = refl
 
 -- a fresh state of a good CP is sound
 pub sound-fresh : (cp : ℕ) → cp < 1048576 → sound (freshState cp) ≡ true
@@ -155,17 +161,20 @@ module _ (cp : ℕ) (b : Bool) (m : Buffers) (pb program : ℕ) (k : Starts m (b
             fit,
             (
               told-sound (freshState cp) .holds (sound-fresh cp h),
-              rw (named b, order-is) (
-                told-touchable m (span false (blockOf (freshState cp) b) 1) .holds block-touchable,
-                (
-                  ⊎-elim (eqb-false 3 2 refl) (eqb-false 3 4 refl),
+              (
+                told-powered (freshState cp) .holds (fresh-on cp),
+                rw (named b, order-is) (
+                  told-touchable m (span false (blockOf (freshState cp) b) 1) .holds block-touchable,
                   (
-                    (λ r. eqb-false 3 5 refl (r .0)),
+                    ⊎-elim (eqb-false 3 2 refl) (eqb-false 3 4 refl),
                     (
-                      (λ r. says-running (channelOf (freshState cp) (isSecond (channelNumber b)) .mode) .fails (fresh-still cp (isSecond (channelNumber b))) (r .1)),
+                      (λ r. eqb-false 3 5 refl (r .0)),
                       (
-                        (λ r. eqb-false 3 6 refl (r .0)),
-                        told-touchable m (others order) .holds others-touchable,
+                        (λ r. says-running (channelOf (freshState cp) (isSecond (channelNumber b)) .mode) .fails (fresh-still cp (isSecond (channelNumber b))) (r .1)),
+                        (
+                          (λ r. eqb-false 3 6 refl (r .0)),
+                          told-touchable m (others order) .holds others-touchable,
+                        ),
                       ),
                     ),
                   ),

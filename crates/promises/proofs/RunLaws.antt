@@ -117,7 +117,8 @@ fresh-number cp = go (decLt cp 1048576)
     go (yes h) = ap (λ (a : Answer). a .number) (fresh-good cp h) ∙ rw (lt-ltb cp 1048576 h)
     go (no h) = let past : 1048576 ≤ cp = omega arith in ap (λ (a : Answer). a .number) (fresh-bad cp past) ∙ rw (le-ltb cp 1048576 past)
 
-told-call : (channel lines limit : ℕ) → Told (isChannel channel && ltb lines 16 && ltb limit 65536) (NoChannel channel ⊎ (LinesOver lines ⊎ LimitOver limit))
+-- 12 of a run
+pub told-call : (channel lines limit : ℕ) → Told (isChannel channel && ltb lines 16 && ltb limit 65536) (NoChannel channel ⊎ (LinesOver lines ⊎ LimitOver limit))
 told-call channel lines limit = rw and-assoc (told-and (told-channel channel) (told-and (told-ltb lines 16) (told-ltb limit 65536)))
 
 module _ (m : Buffers) (cp channel lines limit : ℕ) where

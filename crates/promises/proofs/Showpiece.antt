@@ -37,7 +37,7 @@ use Rattle.promises.specs.Runs.{DoneSteps, firstAttention, startChecks, 
 use Rattle.promises.specs.Stages.{onBy, Outside}
 use Rattle.promises.specs.Totals.{narrow, total}
 use Rattle.promises.specs.Witness.{channelWith}
-use Rattle.promises.proofs.AloneLaws.{entered, limits-kept, through}
+use Rattle.promises.proofs.AloneLaws.{entered, put-powered, limits-kept, through}
 use Rattle.promises.proofs.CaseLaws.{pointer-given}
 use Rattle.promises.proofs.CountLaws.{total-narrow, total-wide, alone-none, alone-one}
 use Rattle.promises.proofs.Joined.{busy-same, run-halts}
@@ -101,7 +101,7 @@ module _ {j : Job} {l : Layout} {m : Buffers} {lines limit : ℕ} (r : Ready j l
   alone₀ : RunsAlone b s₀ m₀ lines
   alone₀ =
       record {
-        entered = entered s₀ m₀ lines (r .linesFit) within sound-start;
+        entered = entered s₀ m₀ lines (r .linesFit) within sound-start (put-powered (l .cp) b (start .channel));
         idle = ap (λ (c : Channel). isRunning (c .mode)) (put-other (freshState (l .cp)) b (start .channel)) ∙ fresh-still (l .cp) (not b);
       }
 

@@ -19,7 +19,7 @@ use Rattle.execute.specs.Execute.{decodedAt, performed, deedOf, laterBytes, lat
 use Rattle.machine.specs.Outcomes.{outcome, unless, first, settled, givenNumber}
 use Rattle.machine.specs.Psw.{withPsw}
 use Rattle.machine.specs.Stages.{stagesNumber}
-use Rattle.machine.specs.States.{freshState, idleChannel, channelOf, withChannel, withLast, soundChannel, sound, isRunning, blockOf, busyIn, channelNumber, isChannel, isSecond}
+use Rattle.machine.specs.States.{boardWith, freshState, idleChannel, channelOf, withChannel, withLast, soundChannel, sound, isRunning, blockOf, busyIn, channelNumber, isChannel, isSecond}
 use Rattle.machine.specs.declared.Channel.{Channel}
 use Rattle.machine.specs.declared.Mode.the-variants.{Running}
 use Rattle.machine.specs.declared.State.{State}
@@ -42,7 +42,7 @@ program tp pp = withControl idleChannel (pointer tp false) pp 4 Running false
 
 -- the state with both started, and where each program has come to
 both : ℕ → ℕ → Bool → State
-both tp₁ tp₂ last = record { first = program tp₁ 0x10; second = program tp₂ 0x14; cp = 0; last = last }
+both tp₁ tp₂ last = record { first = program tp₁ 0x10; second = program tp₂ 0x14; cp = 0; last = last; board = boardWith true false false false }
 
 -- memory with both BUSY bytes FFh
 busy : Buffers

@@ -23,6 +23,10 @@ pub one-outcome : OneOutcome
 unfolding answered step-answered run-answered
 one-outcome = record {
   fresh = λ cp r r′ p q. p ∙ sym q;
+  reset = λ r r′ p q. p ∙ sym q;
+  power = λ s m r r′ sys sys′ io io′ p q.
+      let e = p ∙ sym q in
+      record { answer = ap answered e; system = ap (λ (o : Outcome). o .memory .sys) e; inputOutput = ap (λ (o : Outcome). o .memory .io) e };
   attention = λ s m channel r r′ sys sys′ io io′ p q.
       let e = p ∙ sym q in
       record { answer = ap answered e; system = ap (λ (o : Outcome). o .memory .sys) e; inputOutput = ap (λ (o : Outcome). o .memory .io) e };
@@ -34,6 +38,12 @@ one-outcome = record {
       let e = p ∙ sym q in
       record { answer = ap run-answered e; system = ap (λ (o : Run). o .memory .sys) e; inputOutput = ap (λ (o : Run). o .memory .io) e };
   call = λ m cp channel lines limit r r′ sys sys′ io io′ p q.
+      let e = p ∙ sym q in
+      record { answer = ap (λ (o : Call). o .answer) e; system = ap (λ (o : Call). o .memory .sys) e; inputOutput = ap (λ (o : Call). o .memory .io) e };
+  board = λ m channel lines limit r r′ sys sys′ io io′ p q.
+      let e = p ∙ sym q in
+      record { answer = ap run-answered e; system = ap (λ (o : Run). o .memory .sys) e; inputOutput = ap (λ (o : Run). o .memory .io) e };
+  boardCall = λ m channel lines limit r r′ sys sys′ io io′ p q.
       let e = p ∙ sym q in
       record { answer = ap (λ (o : Call). o .answer) e; system = ap (λ (o : Call). o .memory .sys) e; inputOutput = ap (λ (o : Call). o .memory .io) e };
 }

@@ -12,7 +12,7 @@ use Rattle.machine.specs.declared.Channel.{Channel}
 use Rattle.machine.specs.declared.Mode.the-variants.{Idle}
 use Rattle.machine.specs.declared.State.{State}
 use Rattle.machine.specs.Conditions.{check, Given}
-use Rattle.machine.specs.States.{freshOf, channelOf}
+use Rattle.machine.specs.States.{boardWith, freshOf, channelOf}
 use Rattle.attention.specs.Attention.{attentionOf}
 use Rattle.attention.specs.Conditions.{attentionChecks as attentionChecks}
 use Rattle.step.specs.Conditions.{stepChecks as stepChecks}
@@ -43,6 +43,8 @@ pub record FreshAnswers (cp : ℕ) : Type 0 where
   pub takesCp : cp < 1048576 → freshOf cp .state .cp ≡ cp
   pub channels : (second : Bool) → Blank (channelOf (freshOf cp .state) second)
   pub last : freshOf cp .state .last ≡ true
+  -- it counts as powered up, and the three bits of the board are 0
+  pub board : freshOf cp .state .board ≡ boardWith true false false false
   -- with a bad CP the state is that of CP 0
   pub badCp : CpPast cp → freshOf cp .state .cp ≡ 0
 
@@ -54,8 +56,8 @@ pub record AttentionAnswers (s : State) (m : Buffers) (channel : ℕ) : Type 0 w
   pub sameState : ¬ (attentionOf s m channel .number ≡ 0) → attentionOf s m channel .state ≡ s
   -- and every byte of both memories
   pub sameMemory : ¬ (attentionOf s m channel .number ≡ 0) → attentionOf s m channel .memory ≡ m
-  -- no number is over 12
-  pub bound : attentionOf s m channel .number ≤ 12
+  -- no number is over 13
+  pub bound : attentionOf s m channel .number ≤ 13
 
 -- a step with any lines, of any state and memories
 pub record StepAnswers (s : State) (m : Buffers) (lines : ℕ) : Type 0 where
@@ -67,14 +69,14 @@ pub record StepAnswers (s : State) (m : Buffers) (lines : ℕ) : Type 0 where
   pub sameMemory : ¬ (stepOf s m lines .number ≡ 0) → stepOf s m lines .memory ≡ m
   -- it is of no channel
   pub noChannel : ¬ (stepOf s m lines .number ≡ 0) → stepOf s m lines .channel ≡ 0
-  -- no number is over 12
-  pub bound : stepOf s m lines .number ≤ 12
+  -- no number is over 13
+  pub bound : stepOf s m lines .number ≤ 13
 
 -- a run with any CP, channel, lines and limit, in any memories
 pub record RunAnswers (m : Buffers) (cp channel lines limit : ℕ) : Type 0 where
   -- a run is r, its number, steps and memories, exactly where it ends so
   pub ends : (r : Run) → (runOf m cp channel lines limit ≡ r) ↔ RunEnds m cp channel lines limit r
-  -- no number is over 12, and no more steps are done than the limit, nor more than 65,535
+  -- no number is over 12, so none is 13: a state from a CP counts as powered up; and no more steps are done than the limit, nor more than 65,535
   pub bound : runOf m cp channel lines limit .number ≤ 12
   pub stepsBound : runOf m cp channel lines limit .steps ≤ limit
   pub stepsSmall : runOf m cp channel lines limit .steps < 65536

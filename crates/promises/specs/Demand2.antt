@@ -51,6 +51,7 @@ pub record AttentionDoes (s : State) (m : Buffers) (channel : ℕ) : Type 0 wher
   -- of what the channels share it changes nothing
   pub controlBlock : attentionOf s m channel .state .cp ≡ s .cp
   pub last : attentionOf s m channel .state .last ≡ s .last
+  pub board : attentionOf s m channel .state .board ≡ s .board
   -- every byte that its order does not store is as it was
   pub bytes : (tag : Bool) (address : ℕ) → ApartFrom (storedByOrder s m channel) tag address → byteAt (attentionOf s m channel .memory) tag address ≡ byteAt m tag address
   -- and so is the length of either memory
@@ -74,6 +75,7 @@ pub record StepDoes (s : State) (m : Buffers) (lines : ℕ) : Type 0 where
   pub other : (second : Bool) → stepOf s m lines .channel ≡ channelNumber second → channelOf (stepOf s m lines .state) (not second) ≡ channelOf s (not second)
   -- of what the channels share only the last to step changes, and only where the step is done
   pub controlBlock : stepOf s m lines .state .cp ≡ s .cp
+  pub board : stepOf s m lines .state .board ≡ s .board
   pub last : stepOf s m lines .number ≡ 0 → stepOf s m lines .channel ≡ channelNumber (stepOf s m lines .state .last)
   pub refusedLast : ¬ (stepOf s m lines .number ≡ 0) → stepOf s m lines .state .last ≡ s .last
   -- every byte outside the places that it touches is as it was

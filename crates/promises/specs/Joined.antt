@@ -23,7 +23,7 @@ use Rattle.promises.specs.Runs.{DoneSteps, startChecks, firstAttention}
 use Rattle.promises.specs.Stages.{onBy, Outside, Within}
 use Rattle.promises.specs.Totals.{total}
 
--- a channel is alone: none of 12, 11 and 10 refuses a step, and the other channel does not run
+-- a channel is alone: none of 12, 11, 10 and 13 refuses a step, and the other channel does not run
 pub record RunsAlone (second : Bool) (s : State) (m : Buffers) (lines : ℕ) : Type 0 where
   pub entered : entryNumber s m lines ≡ 0
   pub idle : isRunning (channelOf s (not second) .mode) ≡ false

@@ -15,6 +15,7 @@ pub mod Met
 pub mod Program
 pub mod Image
 pub mod Made
+pub mod Powering
 pub mod SheetWords
 pub mod SheetAttention
 pub mod SheetOperands

@@ -1,4 +1,4 @@
--- The states that calls make from a fresh one, and the conditions of 3 and 4 in the words of the table of codes.
+-- The states that calls make from a fresh one or from a power-up, and the conditions of 3 and 4 in the words of the table of codes.
 use mathlib.Core.Bool.{Bool, true, false}
 use mathlib.Core.Path.{_≡_}
 use Prim.Native.Nat.{ℕ}
@@ -8,6 +8,7 @@ use Rattle.machine.specs.States.{freshOf}
 use Rattle.machine.specs.declared.Channel.{Channel}
 use Rattle.machine.specs.declared.State.{State}
 use Rattle.attention.specs.Attention.{attentionOf}
+use Rattle.power.specs.Power.{powerUpOf}
 use Rattle.step.specs.Step.{stepOf}
 use Rattle.decode.specs.Reading.{fitsSome, usesControl}
 use Rattle.decode.specs.Table.{table}
@@ -15,9 +16,10 @@ use Rattle.decode_shapes.specs.Pairs.{pairOf}
 use Rattle.decode_shapes.specs.declared.pairs.Pair.{Pair}
 use Rattle.execute_operands.specs.Operands.{byteHere}
 
--- a fresh state of any CP, and what any attention or step, refused or not, makes of such a state in memories of bytes
+-- a fresh state of any CP, what an accepted power-up leaves, and what any attention or step, refused or not, makes of such a state in memories of bytes
 pub data Made : State → Type 0 where
   fresh : (cp : ℕ) → Made ((freshOf cp) .state)
+  power : (s : State) (m : Buffers) → powerUpOf s m .number ≡ 0 → Made (powerUpOf s m .state)
   attention : {s : State} → Made s → (m : Buffers) → AllBytes m → (channel : ℕ) → Made (attentionOf s m channel .state)
   step : {s : State} → Made s → (m : Buffers) (lines : ℕ) → Made (stepOf s m lines .state)
 

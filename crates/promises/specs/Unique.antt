@@ -4,20 +4,30 @@ use mathlib.Core.Path.{_≡_}
 use Prim.Native.Nat.{ℕ}
 use Rattle.memory.specs.Buffers.{Buffers, buffers}
 use Rattle.machine.specs.Outcomes.{outcome}
-use Rattle.machine.specs.States.{freshOf}
+use Rattle.machine.specs.States.{resetState, freshOf}
 use Rattle.machine.specs.declared.Answer.{Answer}
 use Rattle.machine.specs.declared.State.{State}
 use Rattle.attention.specs.Attention.{attentionOf}
+use Rattle.power.specs.Power.{powerUpOf}
 use Rattle.step.specs.Choosing.{choiceOf}
 use Rattle.step.specs.Step.{stepped, stepOf}
 use Rattle.step.specs.declared.turns.Choice.{Choice}
 use Rattle.step.specs.declared.Stepped.{Stepped}
 use Rattle.panel.specs.Run.{ran, runOf, answerOf, called}
 use Rattle.panel.specs.declared.Ran.{Ran}
+use Rattle.board.specs.Board.{boardRunOf}
 
 -- `machine::states::fresh`: the answer r to a CP
 abbrev pub FreshMeets : ℕ → Answer → Type 0
 FreshMeets cp r = r ≡ freshOf cp
+
+-- `machine::states::reset`: the state r
+abbrev pub ResetMeets : State → Type 0
+ResetMeets r = r ≡ resetState
+
+-- `power::power_up`: the answer r, and both buffers as they are left
+abbrev pub PowerMeets : State → Buffers → Answer → List ℕ → List ℕ → Type 0
+PowerMeets s m r sys io = outcome (r .number) (r .state) (buffers sys io) ≡ powerUpOf s m
 
 -- `attention::attention`: the answer r, and both buffers as they are left
 abbrev pub AttentionMeets : State → Buffers → ℕ → Answer → List ℕ → List ℕ → Type 0
@@ -40,6 +50,14 @@ abbrev pub CallMeets : Buffers → ℕ → ℕ → ℕ → ℕ → ℕ → List 
 CallMeets m cp channel lines limit r sys io =
     called r (buffers sys io) ≡ called (answerOf (runOf m cp channel lines limit)) (runOf m cp channel lines limit .memory)
 
+-- `board::board_run` and `iop89_board`: the same of a run that reset and power-up begin
+abbrev pub BoardMeets : Buffers → ℕ → ℕ → ℕ → Ran → List ℕ → List ℕ → Type 0
+BoardMeets m channel lines limit r sys io = ran (r .number) (r .steps) (buffers sys io) ≡ boardRunOf m channel lines limit
+
+abbrev pub BoardCallMeets : Buffers → ℕ → ℕ → ℕ → ℕ → List ℕ → List ℕ → Type 0
+BoardCallMeets m channel lines limit r sys io =
+    called r (buffers sys io) ≡ called (answerOf (boardRunOf m channel lines limit)) (boardRunOf m channel lines limit .memory)
+
 -- the answers and both buffers of two outcomes are the same
 pub record Same {A : Type 0} (r r′ : A) (sys sys′ io io′ : List ℕ) : Type 0 where
   pub answer : r ≡ r′
@@ -49,6 +67,9 @@ pub record Same {A : Type 0} (r r′ : A) (sys sys′ io io′ : List ℕ) : Typ
 -- number, state and both memories are determined for all inputs, refused ones too: two outcomes that meet an equation are the same
 pub record OneOutcome : Type 0 where
   pub fresh : (cp : ℕ) (r r′ : Answer) → FreshMeets cp r → FreshMeets cp r′ → r ≡ r′
+  pub reset : (r r′ : State) → ResetMeets r → ResetMeets r′ → r ≡ r′
+  pub power : (s : State) (m : Buffers) (r r′ : Answer) (sys sys′ io io′ : List ℕ)
+      → PowerMeets s m r sys io → PowerMeets s m r′ sys′ io′ → Same r r′ sys sys′ io io′
   pub attention : (s : State) (m : Buffers) (channel : ℕ) (r r′ : Answer) (sys sys′ io io′ : List ℕ)
       → AttentionMeets s m channel r sys io → AttentionMeets s m channel r′ sys′ io′ → Same r r′ sys sys′ io io′
   pub choose : (s : State) (lines : ℕ) (r r′ : Choice) → ChooseMeets s lines r → ChooseMeets s lines r′ → r ≡ r′
@@ -58,3 +79,7 @@ pub record OneOutcome : Type 0 where
       → RunMeets m cp channel lines limit r sys io → RunMeets m cp channel lines limit r′ sys′ io′ → Same r r′ sys sys′ io io′
   pub call : (m : Buffers) (cp channel lines limit : ℕ) (r r′ : ℕ) (sys sys′ io io′ : List ℕ)
       → CallMeets m cp channel lines limit r sys io → CallMeets m cp channel lines limit r′ sys′ io′ → Same r r′ sys sys′ io io′
+  pub board : (m : Buffers) (channel lines limit : ℕ) (r r′ : Ran) (sys sys′ io io′ : List ℕ)
+      → BoardMeets m channel lines limit r sys io → BoardMeets m channel lines limit r′ sys′ io′ → Same r r′ sys sys′ io io′
+  pub boardCall : (m : Buffers) (channel lines limit : ℕ) (r r′ : ℕ) (sys sys′ io io′ : List ℕ)
+      → BoardCallMeets m channel lines limit r sys io → BoardCallMeets m channel lines limit r′ sys′ io′ → Same r r′ sys sys′ io io′

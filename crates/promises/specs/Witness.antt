@@ -10,7 +10,7 @@ use Rattle.memory.specs.Buffers.{Buffers, buffers}
 use Rattle.machine.specs.declared.Channel.{Channel}
 use Rattle.machine.specs.declared.Mode.the-variants.{Running}
 use Rattle.machine.specs.declared.State.{State}
-use Rattle.machine.specs.States.{idleChannel}
+use Rattle.machine.specs.States.{boardWith, idleChannel}
 
 -- a running channel with these registers; the others are 0
 unfoldable pub channelWith : Pointer → Pointer → ℕ → ℕ → ℕ → ℕ → Channel
@@ -61,7 +61,7 @@ memoryStart = memoryWith (six 0 0 0 0 0) (six 0 0 0 0 0)
 
 -- channel 1 with the first transfer, channel 2 with the second
 unfoldable pub bothWith : Channel → Channel → Bool → State
-bothWith c d last = record { first = c; second = d; cp = 0; last = last }
+bothWith c d last = record { first = c; second = d; cp = 0; last = last; board = boardWith true false false false }
 
 -- channel 1 runs a program at an address of system memory with its registers at 0, channel 2 is idle
 abbrev pub programAt : ℕ → State

@@ -63,6 +63,7 @@ withShared s r v =
       second = s .second;
       cp = pick (eqb r 'cp) v (s .cp);
       last = pick (eqb r 'last) (eqb v 2) (s .last);
+      board = s .board;
     }
 
 -- a state with a register of channel 1 or 2, or a shared one for channel 0, set as it stands

@@ -9,13 +9,14 @@ use mathlib.Core.List.{List, [], _∷_, _++_}
 use mathlib.Core.Path.{_≡_, refl, _∙_}
 use native.Mathlib.Nat.{add-assoc}
 use Rattle.words.specs.Choice.{pick}
+use Rattle.machine.specs.declared.Board.{Board}
 use Rattle.machine.specs.declared.Channel.{Channel}
 use Rattle.machine.specs.declared.Mode.{Mode}
 use Rattle.machine.specs.declared.Mode.the-variants.{Idle, Running, Suspended}
 use Rattle.machine.specs.declared.State.{State}
 use Rattle.service.specs.Conditions.{ChannelFits, StateFits}
 use Rattle.service.specs.Fields.{littleEnd, littleIn, flagOf, flagIn, isFlag, modeByte, modeIn, isMode}
-use Rattle.service.specs.Layout.{pointerBytes, pointersBytes, numbersBytes, marksBytes, channelBytes, bytesOf, pointerIn, channelIn, stateIn, isBlock, isState}
+use Rattle.service.specs.Layout.{pointerBytes, pointersBytes, numbersBytes, marksBytes, channelBytes, boardBytes, bytesOf, pointerIn, channelIn, boardIn, stateIn, isBlock, isBoard, isState}
 use Rattle.service.proofs.LittleLaws.{little-behind, little-back}
 
 -- ---- truth values and modes
@@ -68,23 +69,23 @@ block-behind xs b at = simp (add-assoc, getD-append-add)
 
 -- every state whose registers have their widths comes back whole
 pub state-back : (s : State) → StateFits s → stateIn (bytesOf s) ≡ s
-unfolding stateIn bytesOf channelBytes pointersBytes pointerBytes numbersBytes marksBytes littleIn littleEnd flagIn
+unfolding stateIn boardIn bytesOf boardBytes channelBytes pointersBytes pointerBytes numbersBytes marksBytes littleIn littleEnd flagIn
 state-back s h =
-    let front = 1 ∷ littleEnd 4 (s .cp) ++ (flagOf (s .last) ∷ []) in
+    let front = 2 ∷ littleEnd 4 (s .cp) ++ (flagOf (s .last) ∷ boardBytes (s .board)) in
     let both = channelBytes (s .first) ++ channelBytes (s .second) in
-    let one : channelIn (front ++ both) 6 ≡ s .first =
+    let one : channelIn (front ++ both) 10 ≡ s .first =
     channel-behind front both 0 ∙ channel-front (s .first) (channelBytes (s .second)) (h .first) in
-    let two : channelIn ((front ++ channelBytes (s .first)) ++ channelBytes (s .second)) 41 ≡ s .second =
+    let two : channelIn ((front ++ channelBytes (s .first)) ++ channelBytes (s .second)) 45 ≡ s .second =
     channel-behind (front ++ channelBytes (s .first)) (channelBytes (s .second)) 0 ∙ channel-front (s .second) [] (h .second) in
-    rw (one, two, little-back 4 (s .cp) [] (h .cp), flag-back (s .last))
+    rw (one, two, little-back 4 (s .cp) [] (h .cp), flag-back (s .last), flag-back (s .board .powered), flag-back (s .board .sysbus), flag-back (s .board .soc), flag-back (s .board .grant))
 
 -- the bytes of any state are a state
 pub bytes-are : (s : State) → isState (bytesOf s) ≡ true
-unfolding isState bytesOf channelBytes pointersBytes pointerBytes numbersBytes marksBytes littleEnd isFlag
+unfolding isState isBoard bytesOf boardBytes channelBytes pointersBytes pointerBytes numbersBytes marksBytes littleEnd isFlag
 bytes-are s =
-    let front = 1 ∷ littleEnd 4 (s .cp) ++ (flagOf (s .last) ∷ []) in
+    let front = 2 ∷ littleEnd 4 (s .cp) ++ (flagOf (s .last) ∷ boardBytes (s .board)) in
     let both = channelBytes (s .first) ++ channelBytes (s .second) in
-    let one : isBlock (front ++ both) 6 ≡ true = block-behind front both 0 ∙ block-front (s .first) (channelBytes (s .second)) in
-    let two : isBlock ((front ++ channelBytes (s .first)) ++ channelBytes (s .second)) 41 ≡ true =
+    let one : isBlock (front ++ both) 10 ≡ true = block-behind front both 0 ∙ block-front (s .first) (channelBytes (s .second)) in
+    let two : isBlock ((front ++ channelBytes (s .first)) ++ channelBytes (s .second)) 45 ≡ true =
     block-behind (front ++ channelBytes (s .first)) (channelBytes (s .second)) 0 ∙ block-front (s .second) [] in
-    rw (one, two, flag-is (s .last))
+    rw (one, two, flag-is (s .last), flag-is (s .board .powered), flag-is (s .board .sysbus), flag-is (s .board .soc), flag-is (s .board .grant))

@@ -11,14 +11,15 @@ use mathlib.Core.Path.{_≡_, sym, ap, _∙_}
 use Rattle.words.proofs.ChoiceLaws.{apart, both-left}
 use Rattle.memory.specs.Buffers.{Buffers}
 use Rattle.machine.specs.Outcomes.{Outcome}
-use Rattle.machine.specs.States.{freshOf}
+use Rattle.machine.specs.States.{resetState, freshOf}
 use Rattle.machine.specs.declared.Answer.{Answer}
 use Rattle.machine.specs.declared.State.{State}
 use Rattle.attention.specs.Attention.{attentionOf}
+use Rattle.power.specs.Power.{powerUpOf}
 use Rattle.step.specs.Step.{Step, stepOf}
 use Rattle.service.specs.Fields.{isFlag}
-use Rattle.service.specs.Layout.{bytesOf, stateIn, isBlock, isState, stateLength, version, firstAt, secondFrom}
-use Rattle.service.specs.Calls.{made, served, answerFrom, kindNumber, freshMade, attentionServed, stepServed}
+use Rattle.service.specs.Layout.{bytesOf, stateIn, isBlock, isBoard, isState, stateLength, version, firstAt, secondFrom}
+use Rattle.service.specs.Calls.{made, served, answerFrom, kindNumber, freshMade, resetMade, outcomeServed, powerServed, attentionServed, stepServed}
 use Rattle.service.proofs.LengthLaws.{length-state}
 use Rattle.service.proofs.SetsLaws.{sets-whole}
 
@@ -29,8 +30,9 @@ state-length b h =
     eqb-true (length b) stateLength
     (both-left (eqb (length b) stateLength) (eqb (getD b 0 0) version)
     (both-left (eqb (length b) stateLength && eqb (getD b 0 0) version) (isFlag b 5)
-    (both-left (eqb (length b) stateLength && eqb (getD b 0 0) version && isFlag b 5) (isBlock b firstAt)
-    (both-left (eqb (length b) stateLength && eqb (getD b 0 0) version && isFlag b 5 && isBlock b firstAt) (isBlock b secondFrom) h))))
+    (both-left (eqb (length b) stateLength && eqb (getD b 0 0) version && isFlag b 5) (isBoard b)
+    (both-left (eqb (length b) stateLength && eqb (getD b 0 0) version && isFlag b 5 && isBoard b) (isBlock b firstAt)
+    (both-left (eqb (length b) stateLength && eqb (getD b 0 0) version && isFlag b 5 && isBoard b && isBlock b firstAt) (isBlock b secondFrom) h)))))
 
 -- a state put into bytes of its length leaves its bytes
 pub put-whole : (b : List ℕ) (s : State) → length b ≡ stateLength → sets b 0 (bytesOf s) ≡ bytesOf s
@@ -53,12 +55,29 @@ unfolding freshMade
 fresh-made b cp a e p w =
     (rw (eq-eqb (length b) stateLength e, put-whole b (a .state) e, p), λ h. put-stands b (a .state) e w ∙ ap (λ (x : Answer). x .state) p)
 
+-- so it is with reset
+pub reset-short : (b : List ℕ) → ¬ (length b ≡ stateLength) → (made 17 b ≡ resetMade b) × (length b ≡ stateLength → stateIn b ≡ resetState)
+unfolding resetMade
+reset-short b ne = (rw (ne-eqb (length b) stateLength ne), λ e. absurd (ne e))
+
+pub reset-made : (b : List ℕ) (s : State) → length b ≡ stateLength → s ≡ resetState → stateIn (bytesOf s) ≡ s
+    → (made (answerFrom 0 0 0) (sets b 0 (bytesOf s)) ≡ resetMade b) × (length b ≡ stateLength → stateIn (sets b 0 (bytesOf s)) ≡ resetState)
+unfolding resetMade
+reset-made b s e p w = (rw (eq-eqb (length b) stateLength e, put-whole b s e, p), λ h. put-stands b s e w ∙ p)
+
 module _ (b : List ℕ) (m : Buffers) where
-  -- bytes that are no state are left by an attention and by a step, with both memories
+  -- bytes that are no state are left by a power-up, an attention and a step, with both memories
+  outcome-none : (o : Outcome) → isState b ≡ false → (served 17 b m ≡ outcomeServed o b m) × (isState b ≡ true → stateIn b ≡ o .state)
+  outcome-none o h = (rw h, λ e. apart (sym e ∙ h))
+
+  pub power-none : isState b ≡ false → (served 17 b m ≡ powerServed b m) × (isState b ≡ true → stateIn b ≡ powerUpOf (stateIn b) m .state)
+  unfolding powerServed
+  power-none = outcome-none (powerUpOf (stateIn b) m)
+
   pub attention-none : (channel : ℕ) → isState b ≡ false
       → (served 17 b m ≡ attentionServed b m channel) × (isState b ≡ true → stateIn b ≡ attentionOf (stateIn b) m channel .state)
   unfolding attentionServed
-  attention-none channel h = (rw h, λ e. apart (sym e ∙ h))
+  attention-none channel = outcome-none (attentionOf (stateIn b) m channel)
 
   pub step-none : (lines : ℕ) → isState b ≡ false
       → (served 17 b m ≡ stepServed b m lines) × (isState b ≡ true → stateIn b ≡ stepOf (stateIn b) m lines .state)
@@ -66,13 +85,24 @@ module _ (b : List ℕ) (m : Buffers) where
   step-none lines h = (rw h, λ e. apart (sym e ∙ h))
 
   module _ (h : isState b ≡ true) where
-    -- others become the bytes of what the attention or the step left
+    -- others become the bytes of what the call left
+    outcome-served : (o left : Outcome) → o ≡ left → stateIn (bytesOf (o .state)) ≡ o .state
+        → (served (answerFrom (o .number) 0 0) (sets b 0 (bytesOf (o .state))) (o .memory) ≡ outcomeServed left b m)
+        × (isState b ≡ true → stateIn (sets b 0 (bytesOf (o .state))) ≡ left .state)
+    outcome-served o left p w =
+        (rw (h, put-whole b (o .state) (state-length b h), p), λ e. put-stands b (o .state) (state-length b h) w ∙ ap (λ (x : Outcome). x .state) p)
+
+    pub power-served : (o : Outcome) → o ≡ powerUpOf (stateIn b) m → stateIn (bytesOf (o .state)) ≡ o .state
+        → (served (answerFrom (o .number) 0 0) (sets b 0 (bytesOf (o .state))) (o .memory) ≡ powerServed b m)
+        × (isState b ≡ true → stateIn (sets b 0 (bytesOf (o .state))) ≡ powerUpOf (stateIn b) m .state)
+    unfolding powerServed
+    power-served o = outcome-served o (powerUpOf (stateIn b) m)
+
     pub attention-served : (channel : ℕ) (o : Outcome) → o ≡ attentionOf (stateIn b) m channel → stateIn (bytesOf (o .state)) ≡ o .state
         → (served (answerFrom (o .number) 0 0) (sets b 0 (bytesOf (o .state))) (o .memory) ≡ attentionServed b m channel)
         × (isState b ≡ true → stateIn (sets b 0 (bytesOf (o .state))) ≡ attentionOf (stateIn b) m channel .state)
     unfolding attentionServed
-    attention-served channel o p w =
-        (rw (h, put-whole b (o .state) (state-length b h), p), λ e. put-stands b (o .state) (state-length b h) w ∙ ap (λ (x : Outcome). x .state) p)
+    attention-served channel o = outcome-served o (attentionOf (stateIn b) m channel)
 
     pub step-served : (lines : ℕ) (o : Step) → o ≡ stepOf (stateIn b) m lines → stateIn (bytesOf (o .state)) ≡ o .state
         → (served (answerFrom (o .number) (o .channel) (kindNumber (o .kind))) (sets b 0 (bytesOf (o .state))) (o .memory) ≡ stepServed b m lines)

@@ -12,7 +12,7 @@ use native.Mathlib.Omega.{arith}
 use Rattle.words.proofs.ChoiceLaws.{both-left, both-right}
 use Rattle.service.specs.Conditions.{Bytes}
 use Rattle.service.specs.Fields.{flagOf, flagIn, isFlag, modeByte, modeIn, isMode}
-use Rattle.service.specs.Layout.{pointerBytes, pointersBytes, numbersBytes, marksBytes, channelBytes, bytesOf, pointerIn, channelIn, stateIn, isBlock, isState, stateLength, version, firstAt, secondFrom}
+use Rattle.service.specs.Layout.{pointerBytes, pointersBytes, numbersBytes, marksBytes, channelBytes, boardBytes, bytesOf, pointerIn, channelIn, boardIn, stateIn, isBlock, isBoard, isState, stateLength, version, firstAt, secondFrom}
 use Rattle.service.proofs.CallLaws.{state-length}
 use Rattle.service.proofs.LittleLaws.{little-forth}
 
@@ -108,6 +108,21 @@ module _ (b : List ℕ) (byte : Bytes b) where
         ∙ joined b (at + 20) 12 3 (at + 32) (omega arith))
         ∙ joined b at 20 15 (at + 20) refl
 
+  board-forth : 10 ≤ length b → isBoard b ≡ true → boardBytes (boardIn b) ≡ part b 6 4
+  unfolding boardBytes boardIn isBoard
+  board-forth n f =
+      let p = isFlag b 6 in
+      let q = isFlag b 7 in
+      let r = isFlag b 8 in
+      let f3 = both-left (p && q && r) (isFlag b 9) f in
+      let f2 = both-left (p && q) r f3 in
+      ap₂ _++_ (flag-forth b 6 (omega arith) (both-left p q f2))
+      (ap₂ _++_ (flag-forth b 7 (omega arith) (both-right p q f2))
+      (ap₂ _++_ (flag-forth b 8 (omega arith) (both-right (p && q) r f3)) (flag-forth b 9 (omega arith) (both-right (p && q && r) (isFlag b 9) f))
+      ∙ joined b 8 1 1 9 refl)
+      ∙ joined b 7 1 2 8 refl)
+      ∙ joined b 6 1 3 7 refl
+
   -- bytes that are a state come back the same
   pub bytes-back : isState b ≡ true → bytesOf (stateIn b) ≡ b
   unfolding bytesOf stateIn isState
@@ -116,17 +131,21 @@ module _ (b : List ℕ) (byte : Bytes b) where
       let a = eqb (length b) stateLength in
       let v = eqb (getD b 0 0) version in
       let l = isFlag b 5 in
+      let o = isBoard b in
       let one = isBlock b firstAt in
-      let h3 = both-left (a && v && l && one) (isBlock b secondFrom) h in
-      let h2 = both-left (a && v && l) one h3 in
+      let h4 = both-left (a && v && l && o && one) (isBlock b secondFrom) h in
+      let h3 = both-left (a && v && l && o) one h4 in
+      let h2 = both-left (a && v && l) o h3 in
       let h1 = both-left (a && v) l h2 in
       let e : version ≡ getD b 0 0 = sym (eqb-true (getD b 0 0) version (both-right a v h1)) in
       ap₂ _++_ (ap (λ (x : ℕ). x ∷ []) e ∙ single b 0 (omega arith))
       (ap₂ _++_ (little-forth 4 b 1 byte (omega arith))
       (ap₂ _++_ (flag-forth b 5 (omega arith) (both-right (a && v) l h2))
-      (ap₂ _++_ (channel-forth 6 (omega arith) (both-right (a && v && l) one h3)) (channel-forth 41 (omega arith) (both-right (a && v && l && one) (isBlock b secondFrom) h))
-      ∙ joined b 6 35 35 41 refl)
-      ∙ joined b 5 1 70 6 refl)
-      ∙ joined b 1 4 71 5 refl)
-      ∙ joined b 0 1 75 1 refl
-      ∙ take-all 76 b (omega arith)
+      (ap₂ _++_ (board-forth (omega arith) (both-right (a && v && l) o h3))
+      (ap₂ _++_ (channel-forth 10 (omega arith) (both-right (a && v && l && o) one h4)) (channel-forth 45 (omega arith) (both-right (a && v && l && o && one) (isBlock b secondFrom) h))
+      ∙ joined b 10 35 35 45 refl)
+      ∙ joined b 6 4 70 10 refl)
+      ∙ joined b 5 1 74 6 refl)
+      ∙ joined b 1 4 75 5 refl)
+      ∙ joined b 0 1 79 1 refl
+      ∙ take-all 80 b (omega arith)

@@ -4,10 +4,11 @@ use Prim.Native.Nat.{ℕ, zero, suc, _/_}
 use lib.ListN.{length}
 use mathlib.Core.Path.{_≡_, refl, ap}
 use Rattle.memory.specs.declared.Pointer.{Pointer}
+use Rattle.machine.specs.declared.Board.{Board}
 use Rattle.machine.specs.declared.Channel.{Channel}
 use Rattle.machine.specs.declared.State.{State}
 use Rattle.service.specs.Fields.{littleEnd}
-use Rattle.service.specs.Layout.{pointerBytes, pointersBytes, numbersBytes, marksBytes, channelBytes, bytesOf, stateLength}
+use Rattle.service.specs.Layout.{pointerBytes, pointersBytes, numbersBytes, marksBytes, channelBytes, boardBytes, bytesOf, stateLength}
 
 -- a number has as many bytes as its width says
 pub length-little : (width n : ℕ) → length (littleEnd width n) ≡ width
@@ -31,6 +32,10 @@ pub length-channel : (c : Channel) → length (channelBytes c) ≡ 35
 unfolding channelBytes pointersBytes pointerBytes numbersBytes marksBytes littleEnd
 length-channel c = refl
 
+pub length-board : (b : Board) → length (boardBytes b) ≡ 4
+unfolding boardBytes
+length-board b = refl
+
 pub length-state : (s : State) → length (bytesOf s) ≡ stateLength
-unfolding bytesOf channelBytes pointersBytes pointerBytes numbersBytes marksBytes littleEnd
+unfolding bytesOf boardBytes channelBytes pointersBytes pointerBytes numbersBytes marksBytes littleEnd
 length-state s = refl

@@ -13,16 +13,18 @@ use Rattle.memory.specs.Buffers.{Buffers}
 use Rattle.machine.proofs.ConditionLaws.{Told, told-and, told-eqb, told-ltb, last, rewritten}
 use Rattle.machine.specs.Conditions.{Given}
 use Rattle.machine.specs.Outcomes.{unless}
-use Rattle.machine.specs.States.{freshState, freshOf}
+use Rattle.machine.specs.States.{freshState, resetState, freshOf}
 use Rattle.machine.specs.declared.Answer.{Answer}
 use Rattle.attention.proofs.Numbers.{given-exactly, attention-most}
 use Rattle.attention.specs.Attention.{attentionOf}
+use Rattle.power.proofs.Numbers.{power-given, power-most}
+use Rattle.power.specs.Power.{powerUpOf}
 use Rattle.step.proofs.NumberLaws.{number-given, step-most}
 use Rattle.step.specs.Step.{stepOf}
-use Rattle.service.specs.Calls.{made, served, noState, kindNumber, answerFrom, freshMade, attentionServed, stepServed}
-use Rattle.service.specs.Conditions.{NoState, NoBlock, freshChecksOn, attentionChecksOn, stepChecksOn}
+use Rattle.service.specs.Calls.{made, served, noState, kindNumber, answerFrom, freshMade, resetMade, powerServed, attentionServed, stepServed}
+use Rattle.service.specs.Conditions.{NoState, NoBlock, NoBoard, freshChecksOn, resetChecksOn, powerChecksOn, attentionChecksOn, stepChecksOn}
 use Rattle.service.specs.Fields.{isFlag, isMode}
-use Rattle.service.specs.Layout.{bytesOf, stateIn, isBlock, isState, stateLength, version, firstAt, secondFrom}
+use Rattle.service.specs.Layout.{bytesOf, stateIn, isBlock, isBoard, isState, stateLength, version, firstAt, secondFrom}
 
 -- ---- the parts of an answer
 
@@ -52,6 +54,14 @@ told-block b at =
     (told-and (told-ltb (getD b (at + 19) 0) 2)
     (told-and (told-ltb (getD b (at + 33) 0) 3) (told-ltb (getD b (at + 34) 0) 2))))))
 
+told-board : (b : List ℕ) → Told (isBoard b) (NoBoard b)
+unfolding isBoard isFlag
+told-board b =
+    simp and-assoc
+    (told-and (told-ltb (getD b 6 0) 2)
+    (told-and (told-ltb (getD b 7 0) 2)
+    (told-and (told-ltb (getD b 8 0) 2) (told-ltb (getD b 9 0) 2))))
+
 -- the test of 17 says what its condition says
 pub told-state : (b : List ℕ) → Told (isState b) (NoState b)
 unfolding isState isFlag
@@ -60,20 +70,21 @@ told-state b =
     (told-and (told-eqb (length b) stateLength)
     (told-and (told-eqb (getD b 0 0) version)
     (told-and (told-ltb (getD b 5 0) 2)
-    (told-and (told-block b firstAt) (told-block b secondFrom)))))
+    (told-and (told-board b)
+    (told-and (told-block b firstAt) (told-block b secondFrom))))))
 
 -- a number that is 17 for bytes that are no state, and below 256 otherwise
 told-17 : {A Q : Type 0} (ok : Bool) (n number answer : ℕ) → Told ok A → answer ≡ pick ok number 17 → (number ≡ n ↔ Q) → (answer ≡ n) ↔ ((A × (n ≡ 17)) ⊎ (¬ A × Q))
 told-17 true n number answer t e q = (λ h. inr (t .holds refl, q .0 (sym e ∙ h)), ⊎-elim (λ h. absurd (t .holds refl (h .0))) (λ h. e ∙ q .1 (h .1)))
 told-17 false n number answer t e q = (λ h. inl (t .fails refl, sym h ∙ e), ⊎-elim (λ h. e ∙ sym (h .1)) (λ h. absurd (h .0 (t .fails refl))))
 
--- 17 itself, where the other numbers are at most 12
-exactly-17 : {A : Type 0} (ok : Bool) (number answer : ℕ) → Told ok A → answer ≡ pick ok number 17 → number ≤ 12 → (answer ≡ 17) ↔ A
+-- 17 itself, where the other numbers are at most 13
+exactly-17 : {A : Type 0} (ok : Bool) (number answer : ℕ) → Told ok A → answer ≡ pick ok number 17 → number ≤ 13 → (answer ≡ 17) ↔ A
 exactly-17 true number answer t e small = (λ h. absurd (let f : answer ≡ number = e in omega arith), λ h. absurd (t .holds refl h))
 exactly-17 false number answer t e small = (λ h. t .fails refl, λ h. e)
 
 -- what a call answers, whether its bytes are a state or not
-answer-number : (ok : Bool) (number channel kind : ℕ) (bytes b : List ℕ) (m′ m : Buffers) → number ≤ 12
+answer-number : (ok : Bool) (number channel kind : ℕ) (bytes b : List ℕ) (m′ m : Buffers) → number ≤ 13
     → (pick ok (served (answerFrom number channel kind) bytes m′) (noState b m)) .answer % 256 ≡ pick ok number 17
 answer-number true number channel kind bytes b m′ m h = number-part number channel kind (omega arith)
 answer-number false number channel kind bytes b m′ m h = refl
@@ -102,7 +113,28 @@ fresh-given b cp n =
     part true = number-part (freshOf cp .number) 0 0 (rw (fresh-number cp) (unless-small (ltb cp 1048576)))
     part false = refl
 
+-- reset: 17, else 0
+pub reset-given : (b : List ℕ) (n : ℕ) → (resetMade b .answer % 256 ≡ n) ↔ Given (resetChecksOn b) n
+unfolding resetMade answerFrom
+reset-given b n = told-17 (eqb (length b) stateLength) n 0 (resetMade b .answer % 256) (told-eqb (length b) stateLength) (part (eqb (length b) stateLength)) (sym, sym)
+  where
+    part : (ok : Bool) → (pick ok (made (answerFrom 0 0 0) (bytesOf resetState)) (made 17 b)) .answer % 256 ≡ pick ok 0 17
+    part true = refl
+    part false = refl
+
 module _ (b : List ℕ) (m : Buffers) where
+  power-number : powerServed b m .answer % 256 ≡ pick (isState b) (powerUpOf (stateIn b) m .number) 17
+  unfolding powerServed
+  power-number =
+      let o = powerUpOf (stateIn b) m in
+      answer-number (isState b) (o .number) 0 0 (bytesOf (o .state)) b (o .memory) m (omega (arith, power-most (stateIn b) m))
+
+  -- the number of a power-up: 17, then 11 and 2
+  pub power-given-on : (n : ℕ) → (powerServed b m .answer % 256 ≡ n) ↔ Given (powerChecksOn b m) n
+  power-given-on n =
+      told-17 (isState b) n (powerUpOf (stateIn b) m .number) (powerServed b m .answer % 256) (told-state b)
+      power-number (power-given (stateIn b) m n)
+
   attention-number : (channel : ℕ) → attentionServed b m channel .answer % 256 ≡ pick (isState b) (attentionOf (stateIn b) m channel .number) 17
   unfolding attentionServed
   attention-number channel =

@@ -1,12 +1,14 @@
--- The three calls for C: each takes a state's bytes and leaves them, with both memories and an answer of one number.
+-- The calls for C: each takes a state's bytes and leaves them, with both memories and an answer of one number.
 use mathlib.Core.List.{List}
 use Prim.Native.Nat.{ℕ, _+_, _*_, _%_}
 use lib.Dec.{eqb}
 use lib.ListN.{length}
 use Rattle.words.specs.Choice.{pick}
 use Rattle.memory.specs.Buffers.{Buffers}
-use Rattle.machine.specs.States.{freshOf}
+use Rattle.machine.specs.Outcomes.{Outcome}
+use Rattle.machine.specs.States.{resetState, freshOf}
 use Rattle.attention.specs.Attention.{attentionOf}
+use Rattle.power.specs.Power.{powerUpOf}
 use Rattle.step.specs.declared.Kind.{Kind}
 use Rattle.step.specs.declared.Kind.the-variants.{Nothing, Instruction, Transfer, External}
 use Rattle.step.specs.Step.{stepOf}
@@ -51,11 +53,21 @@ unfoldable pub freshMade : List ℕ → ℕ → Made
 freshMade b cp =
     pick (eqb (length b) stateLength) (made (answerFrom (freshOf cp .number) 0 0) (bytesOf (freshOf cp .state))) (made 17 b)
 
--- an attention on the state that the bytes stand for
+-- so does reset, which is refused by nothing else
+unfoldable pub resetMade : List ℕ → Made
+resetMade b = pick (eqb (length b) stateLength) (made (answerFrom 0 0 0) (bytesOf resetState)) (made 17 b)
+
+-- a call that leaves this of the state that the bytes stand for
+abbrev pub outcomeServed : Outcome → List ℕ → Buffers → Service
+outcomeServed o b m = pick (isState b) (served (answerFrom (o .number) 0 0) (bytesOf (o .state)) (o .memory)) (noState b m)
+
+-- a power-up of it
+unfoldable pub powerServed : List ℕ → Buffers → Service
+powerServed b m = outcomeServed (powerUpOf (stateIn b) m) b m
+
+-- an attention on it
 unfoldable pub attentionServed : List ℕ → Buffers → ℕ → Service
-attentionServed b m channel =
-    let o = attentionOf (stateIn b) m channel in
-    pick (isState b) (served (answerFrom (o .number) 0 0) (bytesOf (o .state)) (o .memory)) (noState b m)
+attentionServed b m channel = outcomeServed (attentionOf (stateIn b) m channel) b m
 
 -- a step of it
 unfoldable pub stepServed : List ℕ → Buffers → ℕ → Service

@@ -10,6 +10,7 @@ use Rattle.machine.specs.Conditions.{Check, check}
 use Rattle.machine.specs.declared.Channel.{Channel}
 use Rattle.machine.specs.declared.State.{State}
 use Rattle.attention.specs.Conditions.{attentionChecks as attentionChecks}
+use Rattle.power.specs.Conditions.{powerChecks}
 use Rattle.step.specs.Conditions.{stepChecks as stepChecks}
 use Rattle.service.specs.Layout.{stateIn, stateLength, version, firstAt, secondFrom}
 
@@ -31,12 +32,17 @@ NoBlock b at =
     ⊎ NoMode b (at + 33)
     ⊎ NoFlag b (at + 34)
 
+-- a byte of what the board set up is out of range
+abbrev pub NoBoard : List ℕ → Type 0
+NoBoard b = NoFlag b 6 ⊎ NoFlag b 7 ⊎ NoFlag b 8 ⊎ NoFlag b 9
+
 -- 17: another length or version, or a mode or flag out of range
 abbrev pub NoState : List ℕ → Type 0
 NoState b =
     ¬ (length b ≡ stateLength)
     ⊎ ¬ (getD b 0 0 ≡ version)
     ⊎ NoFlag b 5
+    ⊎ NoBoard b
     ⊎ NoBlock b firstAt
     ⊎ NoBlock b secondFrom
 
@@ -44,7 +50,15 @@ NoState b =
 abbrev pub freshChecksOn : List ℕ → ℕ → List Check
 freshChecksOn b cp = check 17 (¬ (length b ≡ stateLength)) ∷ check 10 (1048576 ≤ cp) ∷ []
 
--- the checks of an attention: 17 comes before all others
+-- the check of a reset, which asks for nothing else
+abbrev pub resetChecksOn : List ℕ → List Check
+resetChecksOn b = check 17 (¬ (length b ≡ stateLength)) ∷ []
+
+-- the checks of a power-up: 17 comes before all others
+abbrev pub powerChecksOn : List ℕ → Buffers → List Check
+powerChecksOn b m = check 17 (NoState b) ∷ powerChecks m
+
+-- the checks of an attention likewise
 abbrev pub attentionChecksOn : List ℕ → Buffers → ℕ → List Check
 attentionChecksOn b m channel = check 17 (NoState b) ∷ attentionChecks (stateIn b) m channel
 

@@ -1,4 +1,4 @@
--- A state as the caller keeps it, 76 bytes: version, CP, the channel that stepped last, then a block of 35 bytes for each channel.
+-- A state as the caller keeps it, 80 bytes: version, CP, the channel that stepped last, what the board set up, then a block of 35 bytes for each channel.
 use mathlib.Core.Bool.{Bool, _&&_}
 use mathlib.Core.List.{List, [], _∷_, _++_}
 use Prim.Native.Nat.{ℕ, _+_}
@@ -6,6 +6,8 @@ use lib.Dec.{eqb}
 use lib.ListN.{length, getD}
 use Rattle.memory.specs.Values.{pointer}
 use Rattle.memory.specs.declared.Pointer.{Pointer}
+use Rattle.machine.specs.States.{boardWith}
+use Rattle.machine.specs.declared.Board.{Board}
 use Rattle.machine.specs.declared.Channel.{Channel}
 use Rattle.machine.specs.declared.State.{State}
 use Rattle.service.specs.Fields.{littleEnd, littleIn, flagOf, flagIn, isFlag, modeByte, modeIn, isMode}
@@ -32,9 +34,13 @@ marksBytes c = (c .psw ∷ []) ++ ((modeByte (c .mode) ∷ []) ++ (flagOf (c .ar
 unfoldable pub channelBytes : Channel → List ℕ
 channelBytes c = pointersBytes c ++ (numbersBytes c ++ marksBytes c)
 
+-- what the board set up: powered up, SYSBUS bit 0, SOC bit 0 and SOC bit 1, a byte each
+unfoldable pub boardBytes : Board → List ℕ
+boardBytes b = (flagOf (b .powered) ∷ []) ++ ((flagOf (b .sysbus) ∷ []) ++ ((flagOf (b .soc) ∷ []) ++ (flagOf (b .grant) ∷ [])))
+
 -- the layout's number, which each change of the layout raises
 abbrev pub version : ℕ
-version = 1
+version = 2
 
 -- the whole state
 unfoldable pub bytesOf : State → List ℕ
@@ -42,22 +48,23 @@ bytesOf s =
     (version ∷ [])
     ++ (littleEnd 4 (s .cp)
     ++ ((flagOf (s .last) ∷ [])
+    ++ (boardBytes (s .board)
     ++ (channelBytes (s .first)
-    ++ channelBytes (s .second))))
+    ++ channelBytes (s .second)))))
 
 -- ---- bytes to a state
 
 -- how many bytes a state has
 abbrev pub stateLength : ℕ
-stateLength = 76
+stateLength = 80
 
 -- where the block of channel 1 starts
 abbrev pub firstAt : ℕ
-firstAt = 6
+firstAt = 10
 
 -- where the block of channel 2 starts
 abbrev pub secondFrom : ℕ
-secondFrom = 41
+secondFrom = 45
 
 -- the pointer at an offset
 unfoldable pub pointerIn : List ℕ → ℕ → Pointer
@@ -81,9 +88,13 @@ channelIn b at =
       armed = flagIn b (at + 34);
     }
 
+-- what the board set up, from its four bytes
+unfoldable pub boardIn : List ℕ → Board
+boardIn b = boardWith (flagIn b 6) (flagIn b 7) (flagIn b 8) (flagIn b 9)
+
 -- the state that bytes stand for
 unfoldable pub stateIn : List ℕ → State
-stateIn b = record { first = channelIn b firstAt; second = channelIn b secondFrom; cp = littleIn 4 b 1; last = flagIn b 5 }
+stateIn b = record { first = channelIn b firstAt; second = channelIn b secondFrom; cp = littleIn 4 b 1; last = flagIn b 5; board = boardIn b }
 
 -- ---- which bytes are a state
 
@@ -97,11 +108,16 @@ isBlock b at =
     && isMode b (at + 33)
     && isFlag b (at + 34)
 
+-- what the board set up is four truth values
+unfoldable pub isBoard : List ℕ → Bool
+isBoard b = isFlag b 6 && isFlag b 7 && isFlag b 8 && isFlag b 9
+
 -- of the right length and version, and each flag and mode is one (else 17)
 unfoldable pub isState : List ℕ → Bool
 isState b =
     eqb (length b) stateLength
     && eqb (getD b 0 0) version
     && isFlag b 5
+    && isBoard b
     && isBlock b firstAt
     && isBlock b secondFrom

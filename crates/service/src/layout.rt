@@ -1,5 +1,6 @@
-// A whole state in 76 bytes: pointers, channels and the state itself, read, tested and put.
+// A whole state in 80 bytes: pointers, channels, what the board set up and the state itself, read, tested and put.
 use crate::fields;
+use machine::Board;
 use machine::Channel;
 use machine::State;
 use memory::Pointer;
@@ -7,13 +8,13 @@ ghost use mathlib.Core.Path.{_≡_};
 ghost use Prim.Native.Nat.{_≤_};
 ghost use lib.Seq.{sets};
 ghost use Rattle.service.specs.Conditions.{ChannelFits};
-ghost use Rattle.service.specs.Layout.{pointerBytes, pointersBytes, numbersBytes, marksBytes, channelBytes, bytesOf, pointerIn, channelIn, stateIn, isBlock, isState};
+ghost use Rattle.service.specs.Layout.{pointerBytes, pointersBytes, numbersBytes, marksBytes, channelBytes, boardBytes, bytesOf, pointerIn, channelIn, boardIn, stateIn, isBlock, isBoard, isState};
 
 // Where the block of channel 1 starts.
-const FIRST_AT: usize = 6;
+const FIRST_AT: usize = 10;
 
 // Where the block of channel 2 starts.
-const SECOND_AT: usize = 41;
+const SECOND_AT: usize = 45;
 
 // The pointer at an offset.
 fn pointer_in(bytes: &[u8], at: usize) -> Pointer
@@ -47,6 +48,18 @@ fn channel_in(bytes: &[u8], at: usize) -> Channel
     }
 }
 
+// What the board set up.
+fn board_in(bytes: &[u8]) -> Board
+    ensures { λ r. ⌜ r ≡ boardIn (now (bytes .entry)) ⌝ }
+{
+    Board {
+        powered: fields::flag(bytes, 6),
+        sysbus: fields::flag(bytes, 7),
+        soc: fields::flag(bytes, 8),
+        grant: fields::flag(bytes, 9),
+    }
+}
+
 // The state that bytes stand for.
 pub fn state_in(bytes: &[u8]) -> State
     ensures { λ r. ⌜ r ≡ stateIn (now (bytes .entry)) ⌝ }
@@ -56,6 +69,7 @@ pub fn state_in(bytes: &[u8]) -> State
         second: channel_in(bytes, SECOND_AT),
         cp: fields::long(bytes, 1),
         last: fields::flag(bytes, 5),
+        board: board_in(bytes),
     }
 }
 
@@ -72,13 +86,24 @@ fn is_block(bytes: &[u8], at: usize) -> bool
         & fields::is_flag(bytes, at + 34)
 }
 
+// Whether what the board set up is four truth values.
+fn is_board(bytes: &[u8]) -> bool
+    ensures { λ r. ⌜ r ≡ isBoard (now (bytes .entry)) ⌝ }
+{
+    fields::is_flag(bytes, 6)
+        & fields::is_flag(bytes, 7)
+        & fields::is_flag(bytes, 8)
+        & fields::is_flag(bytes, 9)
+}
+
 // Whether bytes are a state.
 pub fn is_state(bytes: &[u8]) -> bool
     ensures { λ r. ⌜ r ≡ isState (now (bytes .entry)) ⌝ }
 {
-    (bytes.len() == 76)
-        & (fields::byte(bytes, 0) == 1)
+    (bytes.len() == 80)
+        & (fields::byte(bytes, 0) == 2)
         & fields::is_flag(bytes, 5)
+        & is_board(bytes)
         & is_block(bytes, FIRST_AT)
         & is_block(bytes, SECOND_AT)
 }
@@ -137,14 +162,25 @@ fn put_channel(bytes: &mut [u8], at: usize, c: Channel)
     put_marks(bytes, at + 32, c);
 }
 
+// What the board set up put at its place.
+fn put_board(bytes: &mut [u8], b: Board)
+    ensures { λ r. ⌜ now (bytes .exit) ≡ sets (now (bytes .entry)) 6 (boardBytes b) ⌝ }
+{
+    fields::put(bytes, 6, fields::flag_byte(b.powered));
+    fields::put(bytes, 7, fields::flag_byte(b.sysbus));
+    fields::put(bytes, 8, fields::flag_byte(b.soc));
+    fields::put(bytes, 9, fields::flag_byte(b.grant));
+}
+
 // A state put into bytes, from the first on; it has the widths that let it come back whole.
 pub fn put_state(bytes: &mut [u8], s: State)
     ensures put { λ r. ⌜ now (bytes .exit) ≡ sets (now (bytes .entry)) 0 (bytesOf s) ⌝ }
     ensures whole { λ r. ⌜ stateIn (bytesOf s) ≡ s ⌝ }
 {
-    fields::put(bytes, 0, 1);
+    fields::put(bytes, 0, 2);
     fields::put_long(bytes, 1, s.cp);
     fields::put(bytes, 5, fields::flag_byte(s.last));
+    put_board(bytes, s.board);
     put_channel(bytes, FIRST_AT, s.first);
     put_channel(bytes, SECOND_AT, s.second);
 }

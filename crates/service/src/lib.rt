@@ -5,12 +5,13 @@ ghost use mathlib.Core.Bool.{true};
 ghost use mathlib.Core.Path.{_≡_};
 ghost use lib.ListN.{length};
 ghost use Rattle.memory.specs.Buffers.{buffers};
-ghost use Rattle.machine.specs.States.{freshOf};
+ghost use Rattle.machine.specs.States.{resetState, freshOf};
 ghost use Rattle.attention.specs.Attention.{attentionOf};
+ghost use Rattle.power.specs.Power.{powerUpOf};
 ghost use Rattle.step.specs.Step.{stepOf};
 ghost use Rattle.service.specs.Layout.{stateIn, isState, stateLength};
 ghost use Rattle.service.specs.Calls as Calls;
-ghost use Rattle.service.specs.Calls.{made, served, answerFrom, freshMade, attentionServed, stepServed};
+ghost use Rattle.service.specs.Calls.{made, served, answerFrom, freshMade, resetMade, powerServed, attentionServed, stepServed};
 
 // One field of a state in bytes.
 mod fields;
@@ -42,12 +43,40 @@ pub extern "C" fn iop89_fresh(state: &mut [u8], cp: u32) -> u32
     ensures left { λ r. ⌜ made r (now (state .exit)) ≡ freshMade (now (state .entry)) cp ⌝ }
     ensures whole { λ r. ⌜ (length (now (state .entry)) ≡ stateLength → stateIn (now (state .exit)) ≡ freshOf cp .state) ⌝ }
 {
-    if state.len() != 76 {
+    if state.len() != 80 {
         return 17;
     }
     let a = machine::states::fresh(cp);
     let fresh = a.state;
     layout::put_state(state, fresh);
+    answer(a.number, 0, 0)
+}
+
+// Makes the state after reset.
+#[no_mangle]
+pub extern "C" fn iop89_reset(state: &mut [u8]) -> u32
+    ensures left { λ r. ⌜ made r (now (state .exit)) ≡ resetMade (now (state .entry)) ⌝ }
+    ensures whole { λ r. ⌜ (length (now (state .entry)) ≡ stateLength → stateIn (now (state .exit)) ≡ resetState) ⌝ }
+{
+    if state.len() != 80 {
+        return 17;
+    }
+    layout::put_state(state, machine::states::reset());
+    answer(0, 0, 0)
+}
+
+// Powers the machine up.
+#[no_mangle]
+pub extern "C" fn iop89_power_up(state: &mut [u8], sys: &mut [u8], io: &mut [u8]) -> u32
+    ensures left { λ r. ⌜ served r (now (state .exit)) (buffers (now (sys .exit)) (now (io .exit))) ≡ powerServed (now (state .entry)) (buffers (now (sys .entry)) (now (io .entry))) ⌝ }
+    ensures whole { λ r. ⌜ (isState (now (state .entry)) ≡ true → stateIn (now (state .exit)) ≡ powerUpOf (stateIn (now (state .entry))) (buffers (now (sys .entry)) (now (io .entry))) .state) ⌝ }
+{
+    if !layout::is_state(state) {
+        return 17;
+    }
+    let a = power::power_up(layout::state_in(state), sys, io);
+    let after = a.state;
+    layout::put_state(state, after);
     answer(a.number, 0, 0)
 }
 

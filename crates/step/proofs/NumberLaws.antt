@@ -7,20 +7,22 @@ use mathlib.Core.Bool.{Bool, true, false, not}
 use mathlib.Core.List.{[], _∷_}
 use mathlib.Core.Logic.{⊎-elim, inl, inr, _⊎_, _↔_, Iff·trans, Iff·rfl}
 use mathlib.Core.Path.{_≡_, refl, sym, ap, _∙_}
+use native.Mathlib.Omega.{arith}
 use Rattle.decode_shapes.specs.declared.Decoded.the-variants.{Instruction}
 use Rattle.execute.proofs.NumberLaws.{number-given as instruction-given, exactly-2 as own-2, exactly-3 as own-3, exactly-4 as own-4, exactly-0 as own-0, two-where}
 use Rattle.execute.specs.Conditions.{instructionChecks as instructionChecks, InstructionGiven2, InstructionGiven3, InstructionGiven4, InstructionGiven0}
 use Rattle.execute.specs.Execute.{decodedAt, touchedByInstruction, executeOf}
-use Rattle.machine.proofs.ConditionLaws.{Told, step, last, rewritten, first-assoc, skip, hit, end, never, upTo, given-most, up-to-either, told-ltb, told-limits, told-sound, told-touchable, told-by, says-true, says-eqb, says-and, says-or}
+use Rattle.machine.proofs.ConditionLaws.{Told, step, last, rewritten, first-assoc, skip, hit, end, never, upTo, given-most, up-to-either, told-ltb, told-touchable, told-by, says-true, says-eqb, says-and, says-or}
+use Rattle.machine.proofs.GivenLaws.{given-chain, skip-given}
 use Rattle.machine.specs.Cc.{synchronised, translates}
-use Rattle.machine.specs.Conditions.{check, Given, TooLong, NotSound, Beyond}
+use Rattle.machine.specs.Conditions.{check, Given, TooLong, NotSound, NotPowered, Beyond}
 use Rattle.machine.specs.Outcomes.{first, unless, givenNumber}
 use Rattle.machine.specs.Stages.{stagesTouched}
 use Rattle.machine.specs.Psw.{transferring, sourceWide, destinationWide}
-use Rattle.machine.specs.States.{channelOf, blockOf, busyIn, sound}
+use Rattle.machine.specs.States.{channelOf, blockOf, busyIn}
 use Rattle.machine.specs.declared.Channel.{Channel}
 use Rattle.machine.specs.declared.State.{State}
-use Rattle.memory.specs.Buffers.{Buffers, withinLimits}
+use Rattle.memory.specs.Buffers.{Buffers}
 use Rattle.memory.specs.Places.{allPass, allTouchable}
 use Rattle.transfer.proofs.StepLaws.{chain, two-touched}
 use Rattle.transfer.specs.Reads.{dataOf}
@@ -46,16 +48,14 @@ unfolding first
 refused-first zero o s m = refl
 refused-first (suc k) o s m = rw (eqb·suc-zero k)
 
--- 12, 11, 10, then that of the choice
+-- 12, that of what was given, then that of the choice
 in-order : (s : State) (m : Buffers) (lines : ℕ)
     → (stepOf s m lines) .number
-    ≡ first (unless (ltb lines 16) 12) (first (unless (withinLimits m) 11) (first (unless (sound s) 10) ((chosenStep (choiceOf s lines) s m) .number)))
-unfolding stepOf entryNumber givenNumber
+    ≡ first (unless (ltb lines 16) 12) (first (givenNumber s m) ((chosenStep (choiceOf s lines) s m) .number))
+unfolding stepOf entryNumber
 in-order s m lines =
     let x = chosenStep (choiceOf s lines) s m in
-    refused-first (first (unless (ltb lines 16) 12) (first (unless (withinLimits m) 11) (unless (sound s) 10))) x s m
-    ∙ first-assoc (unless (ltb lines 16) 12) (first (unless (withinLimits m) 11) (unless (sound s) 10)) (x .number)
-    ∙ ap (first (unless (ltb lines 16) 12)) (first-assoc (unless (withinLimits m) 11) (unless (sound s) 10) (x .number))
+    refused-first (first (unless (ltb lines 16) 12) (givenNumber s m)) x s m ∙ first-assoc (unless (ltb lines 16) 12) (givenNumber s m) (x .number)
 
 -- ---- the number of who was chosen
 
@@ -112,18 +112,17 @@ pub number-given : (s : State) (m : Buffers) (lines n : ℕ) → ((stepOf s m li
 number-given s m lines n =
     rewritten (in-order s m lines)
     (step 12 refl (told-ltb lines 16)
-    (step 11 refl (told-limits m)
-    (step 10 refl (told-sound s)
-    (chosen-given s m lines n (choiceOf s lines) refl))))
+    (given-chain s m
+    (chosen-given s m lines n (choiceOf s lines) refl)))
 
--- the number is at most 12, whoever was chosen
-pub step-most : (s : State) (m : Buffers) (lines : ℕ) → stepOf s m lines .number ≤ 12
-step-most s m lines = given-most 12 (stepChecks s m lines) (chosen (choiceOf s lines)) ((number-given s m lines (stepOf s m lines .number)) .0 refl)
+-- the number is at most 13, whoever was chosen
+pub step-most : (s : State) (m : Buffers) (lines : ℕ) → stepOf s m lines .number ≤ 13
+step-most s m lines = given-most 13 (stepChecks s m lines) (chosen (choiceOf s lines)) ((number-given s m lines (stepOf s m lines .number)) .0 refl)
   where
-    chosen : (x : Choice) → upTo 12 (chosenChecks x s m) ≡ true
+    chosen : (x : Choice) → upTo 13 (chosenChecks x s m) ≡ true
     chosen Nobody = refl
     chosen (Ends b) = refl
-    chosen (Steps b) = up-to-either 12 (transferring (channelOf s b .psw)) _ _ refl refl
+    chosen (Steps b) = up-to-either 13 (transferring (channelOf s b .psw)) _ _ refl refl
 
 -- ---- each number
 
@@ -142,27 +141,39 @@ module _ (s : State) (m : Buffers) (lines : ℕ) where
   pub exactly-12 : ((stepOf s m lines) .number ≡ 12) ↔ LinesOver lines
   exactly-12 =
       Iff·trans (number-given s m lines 12)
-      (hit (λ g. chosen-never 12 refl refl refl refl refl (choiceOf s lines) ((skip refl (skip refl (skip refl Iff·rfl))) .0 g .1 .1 .1)))
+      (hit (λ g. chosen-never 12 refl refl refl refl refl (choiceOf s lines) ((skip-given s m refl refl refl (skip refl Iff·rfl)) .0 g .1 .1 .1 .1)))
 
   -- 11: a buffer that is longer than its limit
   pub exactly-11 : ((stepOf s m lines) .number ≡ 11) ↔ (¬ (LinesOver lines) × TooLong m)
   exactly-11 =
       Iff·trans (number-given s m lines 11)
-      (skip refl (hit (λ g. chosen-never 11 refl refl refl refl refl (choiceOf s lines) ((skip refl (skip refl Iff·rfl)) .0 g .1 .1))))
+      (skip refl (hit (λ g. chosen-never 11 refl refl refl refl refl (choiceOf s lines) ((skip refl (skip refl (skip refl Iff·rfl))) .0 g .1 .1 .1))))
 
   -- 10: a state that is not sound
   pub exactly-10 : ((stepOf s m lines) .number ≡ 10) ↔ (¬ (LinesOver lines) × (¬ (TooLong m) × NotSound s))
   exactly-10 =
       Iff·trans (number-given s m lines 10)
-      (skip refl (skip refl (hit (λ g. chosen-never 10 refl refl refl refl refl (choiceOf s lines) ((skip refl Iff·rfl) .0 g .1)))))
+      (skip refl (skip refl (hit (λ g. chosen-never 10 refl refl refl refl refl (choiceOf s lines) ((skip refl (skip refl Iff·rfl)) .0 g .1 .1)))))
+
+  -- 13: the processor is not powered up
+  pub exactly-13 : ((stepOf s m lines) .number ≡ 13) ↔ (¬ (LinesOver lines) × (¬ (TooLong m) × (¬ (NotSound s) × NotPowered s)))
+  exactly-13 =
+      Iff·trans (number-given s m lines 13)
+      (skip refl (skip refl (skip refl (hit (λ g. chosen-never 13 refl refl refl refl refl (choiceOf s lines) ((skip refl Iff·rfl) .0 g .1))))))
+
+  -- so of one that is powered up the number is at most 12
+  pub step-powered : s .board .powered ≡ true → stepOf s m lines .number ≤ 12
+  step-powered p =
+      let other : ¬ (stepOf s m lines .number ≡ 13) = λ e. apart (sym p ∙ exactly-13 .0 e .1 .1 .1) in
+      omega (arith, step-most s m lines, other)
 
   -- 1: nobody can step
   pub exactly-1 : ((stepOf s m lines) .number ≡ 1) ↔ StepAfterGiven s m lines (NoneRuns s lines)
   exactly-1 =
       Iff·trans (number-given s m lines 1)
-      (skip refl (skip refl (skip refl (hit (chosen-never 1 refl refl refl refl refl (choiceOf s lines))))))
+      (skip refl (skip-given s m refl refl refl (hit (chosen-never 1 refl refl refl refl refl (choiceOf s lines)))))
 
-  -- what is left once 12, 11, 10 and 1 do not apply: by what was chosen
+  -- what is left once 12, 11, 10, 13 and 1 do not apply: by what was chosen
   Own : Choice → ℕ → Type 0
   Own x n =
       OnEnd x s (λ b. n ≡ 0)
@@ -226,11 +237,11 @@ module _ (s : State) (m : Buffers) (lines : ℕ) where
   no-instruction (Ends b) f h = absurd h
   no-instruction (Steps b) f h = absurd (f b (h .1))
 
-  own-number : (n : ℕ) {Q : Type 0} → eqb n 12 ≡ false → eqb n 11 ≡ false → eqb n 10 ≡ false → eqb n 1 ≡ false → (Own (choiceOf s lines) n ↔ Q)
+  own-number : (n : ℕ) {Q : Type 0} → eqb n 12 ≡ false → eqb n 11 ≡ false → eqb n 10 ≡ false → eqb n 13 ≡ false → eqb n 1 ≡ false → (Own (choiceOf s lines) n ↔ Q)
       → ((stepOf s m lines) .number ≡ n) ↔ StepAfterGiven s m lines Q
-  own-number n n₁₂ n₁₁ n₁₀ n₁ q =
+  own-number n n₁₂ n₁₁ n₁₀ n₁₃ n₁ q =
       Iff·trans (number-given s m lines n)
-      (skip n₁₂ (skip n₁₁ (skip n₁₀ (Iff·trans (own-cases n (choiceOf s lines) n₁ refl) q))))
+      (skip n₁₂ (skip-given s m n₁₁ n₁₀ n₁₃ (Iff·trans (own-cases n (choiceOf s lines) n₁ refl) q)))
 
   -- what an instruction's checks give is what its own law says of that number
   by-instruction : {Q : Type 0} (n : ℕ) (b : Bool) → ((executeOf (channelOf s b) (busyIn (blockOf s b)) m) .number ≡ n ↔ Q) → Given (instructionChecks m (channelOf s b) (busyIn (blockOf s b))) n ↔ Q
@@ -241,7 +252,7 @@ module _ (s : State) (m : Buffers) (lines : ℕ) where
   unfolding Own
   exactly-5 =
       let x = choiceOf s lines in
-      own-number 5 refl refl refl refl (
+      own-number 5 refl refl refl refl refl (
         ⊎-elim (no-end x (λ b. eqb-false 5 0 refl))
             (⊎-elim (on-transfer x (λ b. bad b .0)) (no-instruction x (λ b. never 5 (instructionChecks m (channelOf s b) (busyIn (blockOf s b))) refl))),
         λ h. inr (inl (on-transfer x (λ b. bad b .1) h)),
@@ -257,7 +268,7 @@ module _ (s : State) (m : Buffers) (lines : ℕ) where
   unfolding Own
   exactly-2 =
       let x = choiceOf s lines in
-      own-number 2 refl refl refl refl (
+      own-number 2 refl refl refl refl refl (
         ⊎-elim (no-end x (λ b. eqb-false 2 0 refl))
             (⊎-elim (λ h. inl (on-transfer x (λ b. beyond b .0) h)) (λ h. inr (on-instruction x (λ b. (of-2 b) .0) h))),
         ⊎-elim (λ h. inr (inl (on-transfer x (λ b. beyond b .1) h))) (λ h. inr (inr (on-instruction x (λ b. (of-2 b) .1) h))),
@@ -272,7 +283,7 @@ module _ (s : State) (m : Buffers) (lines : ℕ) where
   -- that is, exactly where a byte of the chosen channel's list, up to the stage where it stops, may not be touched
   pub two-exactly : ((stepOf s m lines) .number ≡ 2) ↔ StepAfterGiven s m lines (allTouchable m (reachedIn (choiceOf s lines) s m) ≡ false)
   unfolding Own reachedIn allPass
-  two-exactly = own-number 2 refl refl refl refl (go (choiceOf s lines))
+  two-exactly = own-number 2 refl refl refl refl refl (go (choiceOf s lines))
     where
       transfer : (b : Bool) → Given (transferChecks (channelOf s b) m) 2 ↔ (allTouchable m (stagesTouched (transferStages (channelOf s b) m)) ≡ false)
       transfer b =
@@ -296,7 +307,7 @@ module _ (s : State) (m : Buffers) (lines : ℕ) where
   unfolding Own
   exactly-3 =
       let x = choiceOf s lines in
-      own-number 3 refl refl refl refl (
+      own-number 3 refl refl refl refl refl (
         ⊎-elim (no-end x (λ b. eqb-false 3 0 refl))
             (⊎-elim (no-transfer x (λ b. never 3 (transferChecks (channelOf s b) m) refl)) (on-instruction x (λ b. (of-3 b) .0))),
         λ h. inr (inr (on-instruction x (λ b. (of-3 b) .1) h)),
@@ -310,7 +321,7 @@ module _ (s : State) (m : Buffers) (lines : ℕ) where
   unfolding Own
   exactly-4 =
       let x = choiceOf s lines in
-      own-number 4 refl refl refl refl (
+      own-number 4 refl refl refl refl refl (
         ⊎-elim (no-end x (λ b. eqb-false 4 0 refl))
             (⊎-elim (no-transfer x (λ b. never 4 (transferChecks (channelOf s b) m) refl)) (on-instruction x (λ b. (of-4 b) .0))),
         λ h. inr (inr (on-instruction x (λ b. (of-4 b) .1) h)),
@@ -327,7 +338,7 @@ module _ (s : State) (m : Buffers) (lines : ℕ) where
   unfolding Own
   exactly-0 =
       let x = choiceOf s lines in
-      own-number 0 refl refl refl refl (
+      own-number 0 refl refl refl refl refl (
         ⊎-elim (λ h. inl (on-end x (λ b k. tt) h))
             (⊎-elim (λ h. inr (inl (on-transfer x (λ b. right b .0) h))) (λ h. inr (inr (on-instruction x (λ b. (of-0 b) .0) h)))),
         ⊎-elim (λ h. inl (on-end x (λ b k. refl) h))
@@ -342,7 +353,7 @@ module _ (s : State) (m : Buffers) (lines : ℕ) where
 
   -- and no other number
   pub no-other : (n : ℕ) → eqb n 0 ≡ false → eqb n 1 ≡ false → eqb n 2 ≡ false → eqb n 3 ≡ false → eqb n 4 ≡ false → eqb n 5 ≡ false
-      → eqb n 10 ≡ false → eqb n 11 ≡ false → eqb n 12 ≡ false → ¬ ((stepOf s m lines) .number ≡ n)
-  no-other n n₀ n₁ n₂ n₃ n₄ n₅ n₁₀ n₁₁ n₁₂ e =
+      → eqb n 10 ≡ false → eqb n 11 ≡ false → eqb n 12 ≡ false → eqb n 13 ≡ false → ¬ ((stepOf s m lines) .number ≡ n)
+  no-other n n₀ n₁ n₂ n₃ n₄ n₅ n₁₀ n₁₁ n₁₂ n₁₃ e =
       chosen-never n n₀ n₂ n₃ n₄ n₅ (choiceOf s lines)
-      ((skip n₁₂ (skip n₁₁ (skip n₁₀ (skip n₁ Iff·rfl)))) .0 ((number-given s m lines n) .0 e) .1 .1 .1 .1)
+      ((skip n₁₂ (skip-given s m n₁₁ n₁₀ n₁₃ (skip n₁ Iff·rfl))) .0 ((number-given s m lines n) .0 e) .1 .1 .1 .1 .1)

@@ -7,7 +7,7 @@ use mathlib.Core.Logic.{inl, inr, _⊎_}
 use mathlib.Core.Path.{_≡_, refl, sym, ap, _∙_}
 use native.Mathlib.Decide.{ℕ-discrete}
 use Rattle.execute.specs.Execute.{executeOf}
-use Rattle.machine.proofs.ChannelLaws.{put-other, put-cp, last-channel, named}
+use Rattle.machine.proofs.ChannelLaws.{put-other, put-cp, put-board, last-channel, named}
 use Rattle.machine.specs.Psw.{transferring}
 use Rattle.machine.specs.States.{channelOf, blockOf, busyIn, withChannel, withLast, isSecond, channelNumber}
 use Rattle.machine.specs.declared.Channel.{Channel}
@@ -116,6 +116,13 @@ unfolding withLast
 cp-kept s m lines =
     by-step s m lines (λ o. o .state .cp ≡ s .cp) (λ k ne. refl)
     (λ b z e. put-cp s b _) (λ b z e f. put-cp s b _) (λ b z e f. put-cp s b _)
+
+-- nor does what the board set up
+pub board-kept : (s : State) (m : Buffers) (lines : ℕ) → (stepOf s m lines) .state .board ≡ s .board
+unfolding withLast
+board-kept s m lines =
+    by-step s m lines (λ o. o .state .board ≡ s .board) (λ k ne. refl)
+    (λ b z e. put-board s b _) (λ b z e f. put-board s b _) (λ b z e f. put-board s b _)
 
 -- a done step makes its channel last, a refused one does not (§5.6)
 pub last-set : (s : State) (m : Buffers) (lines : ℕ) → (stepOf s m lines) .number ≡ 0 → (stepOf s m lines) .channel ≡ channelNumber ((stepOf s m lines) .state .last)

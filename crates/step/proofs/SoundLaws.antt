@@ -1,4 +1,4 @@
--- A done step leaves a sound state, so that what a run is given need be tested once.
+-- A done step leaves a sound state of the same board, so that what a run is given need be tested once.
 -- Assumes nothing.
 use Prim.Native.Nat.{ℕ}
 use lib.Dec.{ltb, leb}
@@ -6,8 +6,9 @@ use lib.ListN.{length}
 use mathlib.Core.Bool.{Bool, true, false, _&&_}
 use mathlib.Core.Path.{_≡_, refl, ap₂, _∙_}
 use Rattle.execute.proofs.ChannelLaws.{execute-sound}
-use Rattle.machine.proofs.ChannelLaws.{sound-channel-of}
+use Rattle.machine.proofs.ChannelLaws.{sound-channel-of, put-board, last-board}
 use Rattle.machine.proofs.ConditionLaws.{first-none-left, first-none-right, unless-none}
+use Rattle.machine.proofs.GivenLaws.{given-sound, given-again}
 use Rattle.machine.specs.Outcomes.{first, unless, givenNumber}
 use Rattle.machine.specs.States.{channelOf, withChannel, withLast, soundChannel, sound}
 use Rattle.machine.specs.declared.Channel.{Channel}
@@ -28,22 +29,24 @@ done-sound s false c h k =
     let both = soundChannel (s .first) && soundChannel (s .second) in
     rw (k, both-right (soundChannel (s .first)) (soundChannel (s .second)) (both-left both (ltb (s .cp) 1048576) h), both-right both (ltb (s .cp) 1048576) h)
 
--- a step that is not refused by 12, 11 and 10 was given a sound state
-pub entry-sound : (s : State) (m : Buffers) (lines : ℕ) → entryNumber s m lines ≡ 0 → sound s ≡ true
-unfolding entryNumber givenNumber
-entry-sound s m lines z =
-    unless-none 10 refl
-    (first-none-right (unless (withinLimits m) 11) (unless (sound s) 10)
-    (first-none-right (unless (ltb lines 16) 12) (first (unless (withinLimits m) 11) (unless (sound s) 10)) z))
+-- and of the same board
+pub done-board : (s : State) (b : Bool) (c : Channel) → (withLast (withChannel s b c) b) .board ≡ s .board
+done-board s b c = last-board (withChannel s b c) b ∙ put-board s b c
 
--- so is what a sound state is given next, in memories of the same lengths
-pub entry-again : (s s′ : State) (m m′ : Buffers) (lines : ℕ) → entryNumber s m lines ≡ 0 → sound s′ ≡ true → withinLimits m′ ≡ withinLimits m → entryNumber s′ m′ lines ≡ 0
-unfolding entryNumber givenNumber first unless
-entry-again s s′ m m′ lines z h e =
-    let rest = first (unless (withinLimits m) 11) (unless (sound s) 10) in
-    let low : ltb lines 16 ≡ true = unless-none 12 refl (first-none-left (unless (ltb lines 16) 12) rest z) in
-    let short : withinLimits m ≡ true = unless-none 11 refl (first-none-left (unless (withinLimits m) 11) (unless (sound s) 10) (first-none-right (unless (ltb lines 16) 12) rest z)) in
-    rw (low, e ∙ short, h)
+-- a step that is not refused by 12, 11, 10 and 13 was given what no call refuses, a sound state among it
+entry-given : (s : State) (m : Buffers) (lines : ℕ) → entryNumber s m lines ≡ 0 → givenNumber s m ≡ 0
+unfolding entryNumber
+entry-given s m lines z = first-none-right (unless (ltb lines 16) 12) (givenNumber s m) z
+
+pub entry-sound : (s : State) (m : Buffers) (lines : ℕ) → entryNumber s m lines ≡ 0 → sound s ≡ true
+entry-sound s m lines z = given-sound s m (entry-given s m lines z)
+
+-- so is the next step given, of a sound state of the same board in memories of the same lengths
+pub entry-again : (s s′ : State) (m m′ : Buffers) (lines : ℕ) → entryNumber s m lines ≡ 0 → sound s′ ≡ true → s′ .board ≡ s .board → withinLimits m′ ≡ withinLimits m → entryNumber s′ m′ lines ≡ 0
+unfolding entryNumber first unless
+entry-again s s′ m m′ lines z h b e =
+    let low : ltb lines 16 ≡ true = unless-none 12 refl (first-none-left (unless (ltb lines 16) 12) (givenNumber s m) z) in
+    rw (low, given-again s s′ m m′ (entry-given s m lines z) h b e)
 
 -- a memory whose lengths stay is as long as it was
 pub limits-kept : (m m′ : Buffers) → ((u : Bool) → length (spaceOf m′ u) ≡ length (spaceOf m u)) → withinLimits m′ ≡ withinLimits m

@@ -6,7 +6,7 @@ use mathlib.Core.Logic.{_⊎_}
 use mathlib.Core.Path.{_≡_}
 use Rattle.execute.specs.Conditions.{instructionChecks}
 use Rattle.machine.specs.Cc.{synchronised, translates}
-use Rattle.machine.specs.Conditions.{Check, check, TooLong, NotSound, Beyond}
+use Rattle.machine.specs.Conditions.{Check, check, Beyond, givenChecks, AfterGiven}
 use Rattle.machine.specs.Psw.{transferring, sourceWide, destinationWide}
 use Rattle.machine.specs.States.{channelOf, blockOf, busyIn}
 use Rattle.machine.specs.declared.Channel.{Channel}
@@ -38,18 +38,17 @@ chosenChecks (Ends second) s m = []
 chosenChecks (Steps second) s m =
     pick (transferring (channelOf s second .psw)) (transferChecks (channelOf s second) m) (instructionChecks m (channelOf s second) (busyIn (blockOf s second)))
 
--- 12, 11, 10, then 1, then those of who was chosen
+-- 12, those of what it is given, then 1, then those of who was chosen
 abbrev pub stepChecks : State → Buffers → ℕ → List Check
 stepChecks s m lines =
     check 12 (LinesOver lines)
-    ∷ check 11 (TooLong m)
-    ∷ check 10 (NotSound s)
-    ∷ check 1 (NoneRuns s lines)
-    ∷ chosenChecks (choiceOf s lines) s m
+    ∷ givenChecks s m
+    (check 1 (NoneRuns s lines)
+    ∷ chosenChecks (choiceOf s lines) s m)
 
--- a condition that counts where 12, 11 and 10 do not apply
+-- a condition that counts where 12, 11, 10 and 13 do not apply
 abbrev pub StepAfterGiven : State → Buffers → ℕ → Type 0 → Type 0
-StepAfterGiven s m lines next = ¬ (LinesOver lines) × (¬ (TooLong m) × (¬ (NotSound s) × next))
+StepAfterGiven s m lines next = ¬ (LinesOver lines) × AfterGiven s m next
 
 -- a condition of the channel whose transfer an external line ends, one of the channel that makes a transfer step, one of the channel that executes
 abbrev pub OnEnd : Choice → State → (Bool → Type 0) → Type 0

@@ -33,7 +33,7 @@ returns-2 c =
 
 rounds-requires : tie.Need-rounds-requires
 unfolding stateOf
-rounds-requires c κs = sym (c .before .before .before .before .before .entry-number .ensures) ∙ c .before .before .before .before .if2 .left
+rounds-requires c κs = sym (c .before .before .before .before .before .before .entry-number .ensures) ∙ c .before .before .before .before .before .if2 .left
 
 same-length-3 : tie.Need-same-length-3
 same-length-3 c = search needs

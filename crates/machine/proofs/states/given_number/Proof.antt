@@ -1,8 +1,8 @@
 -- `machine::states::given_number` meets its contract.
 -- Assumes nothing.
 use borrow.Author.Needs.{needs}
+use borrow.Author.Tests.{not-true, not-false}
 use Rattle.machine.specs.Outcomes.{unless, first, givenNumber}
-use Rattle.machine.specs.States.{sound}
 use Rattle.machine.proofs.states.given_number.Statement.{statement}
 use Rattle.machine.proofs.states.given_number.Tie as tie
 
@@ -14,16 +14,20 @@ sound-requires c κs = search needs
 
 returns : tie.Need-returns
 unfolding givenNumber first unless
-returns c = simp (c .if2 .taken, ← (c .before .sound .ensures), c .before .before .if1 .taken, ← (c .before .before .before .within-limits .ensures))
+returns c = simp (not-true (c .before .within-limits .result) (c .if1 .taken), ← (c .before .within-limits .ensures))
 
 returns-2 : tie.Need-returns-2
 unfolding givenNumber first unless
-returns-2 c = simp (c .if2 .left, ← (c .before .sound .ensures), c .before .before .if1 .taken, ← (c .before .before .before .within-limits .ensures))
+returns-2 c = simp (not-true (c .before .sound .result) (c .if2 .taken), ← (c .before .sound .ensures), not-false (c .before .before .before .within-limits .result) (c .before .before .if1 .left), ← (c .before .before .before .within-limits .ensures))
 
 returns-3 : tie.Need-returns-3
 unfolding givenNumber first unless
-returns-3 c = simp (c .if1 .left, ← (c .before .within-limits .ensures))
+returns-3 c = simp (c .if3 .taken, not-false (c .before .before .sound .result) (c .before .if2 .left), ← (c .before .before .sound .ensures), not-false (c .before .before .before .before .within-limits .result) (c .before .before .before .if1 .left), ← (c .before .before .before .before .within-limits .ensures))
+
+returns-4 : tie.Need-returns-4
+unfolding givenNumber first unless
+returns-4 c = simp (c .if3 .left, not-false (c .before .before .sound .result) (c .before .if2 .left), ← (c .before .before .sound .ensures), not-false (c .before .before .before .before .within-limits .result) (c .before .before .before .if1 .left), ← (c .before .before .before .before .within-limits .ensures))
 
 pub given-number-spec : {M : Type 1} → statement M
 given-number-spec =
-    tie.close (tie.spec within-limits-requires sound-requires returns returns-2 returns-3)
+    tie.close (tie.spec within-limits-requires returns sound-requires returns-2 returns-3 returns-4)

@@ -36,7 +36,7 @@ returns c =
     let m = buffers (now (a .sys)) (now (a .io)) in
     let b = c .before .before .before .before .before .transfers .result in
     rw (c .after .ensures)
-    (transfers-round (a .p) (a .cp) (a .lines) (a .limit) (a .done) m (c .before .before .before .before .before .before .before .before .before .before .before .before .before .before .before .pre .0) (c .before .before .before .before .before .before .before .before .before .before .before .before .before .before .before .pre .1) (c .before .before .before .before .before .before .before .before .before .before .before .before .before .before .before .pre .2) (sym (c .before .before .before .before .before .before .before .before .before .transferring .ensures) ∙ c .before .before .before .before .before .before .before .before .if1 .taken) (b .number) (b .steps) (b .channel) _
+    (transfers-round (a .p) (a .shared) (a .lines) (a .limit) (a .done) m (c .before .before .before .before .before .before .before .before .before .before .before .before .before .before .before .pre .0) (c .before .before .before .before .before .before .before .before .before .before .before .before .before .before .before .pre .1) (c .before .before .before .before .before .before .before .before .before .before .before .before .before .before .before .pre .2) (sym (c .before .before .before .before .before .before .before .before .before .transferring .ensures) ∙ c .before .before .before .before .before .before .before .before .if1 .taken) (b .number) (b .steps) (b .channel) _
     (c .before .before .before .before .before .transfers .ensures ∙ ap (λ (n : ℕ). burstFrom moves transfersOn (n - a .done) (a .p .mine) m (a .done)) (c .before .before .before .before .before .before .before .before .before .before .stop-at .ensures)))
 
 state-requires : tie.Need-state-requires
@@ -69,7 +69,7 @@ returns-2 c =
     let busy = c .before .before .before .before .before .before .before .before .sum20 .result in
     let at = c .before .before .before .before .before .before .before .before .sum20 .ensures ∙ ap busyIn (c .before .before .before .before .before .before .before .before .before .block .ensures ∙ ap (λ (s : State). blockOf s (a .p .second)) (c .before .before .before .before .before .before .before .before .before .before .state .ensures)) in
     rw (c .after2 .ensures)
-    (instructions-round (a .p) (a .cp) (a .lines) (a .limit) (a .done) m (c .before .before .before .before .before .before .before .before .before .before .before .before .before .before .before .before .before .before .pre .0) (c .before .before .before .before .before .before .before .before .before .before .before .before .before .before .before .before .before .before .pre .1) (c .before .before .before .before .before .before .before .before .before .before .before .before .before .before .before .before .before .before .pre .2) (sym (c .before .before .before .before .before .before .before .before .before .before .before .before .transferring .ensures) ∙ c .before .before .before .before .before .before .before .before .before .before .before .if1 .left) busy at (b .number) (b .steps) (b .channel) _
+    (instructions-round (a .p) (a .shared) (a .lines) (a .limit) (a .done) m (c .before .before .before .before .before .before .before .before .before .before .before .before .before .before .before .before .before .before .pre .0) (c .before .before .before .before .before .before .before .before .before .before .before .before .before .before .before .before .before .before .pre .1) (c .before .before .before .before .before .before .before .before .before .before .before .before .before .before .before .before .before .before .pre .2) (sym (c .before .before .before .before .before .before .before .before .before .before .before .before .transferring .ensures) ∙ c .before .before .before .before .before .before .before .before .before .before .before .if1 .left) busy at (b .number) (b .steps) (b .channel) _
     (c .before .before .before .before .before .instructions .ensures ∙ ap (λ (n : ℕ). burstFrom (executes busy) executesOn (n - a .done) (a .p .mine) m (a .done)) (c .before .before .before .before .before .before .before .before .before .before .before .before .before .stop-at .ensures)))
 
 pub own-steps-spec : {M : Type 1} → statement M

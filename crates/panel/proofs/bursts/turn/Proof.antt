@@ -47,27 +47,27 @@ own-steps-requires : tie.Need-own-steps-requires
 own-steps-requires c κs =
     let a = c .before .before .before .before .before .before .before .before .before .before .args in
     let m = buffers (now (a .sys)) (now (a .io)) in
-    let s = turned-is (a .p) (c .before .before .turned2 .result) (a .cp) (c .before .before .before .before .choice2 .given .0 .0) (c .before .before .turned2 .ensures) in (
+    let s = turned-is (a .p) (c .before .before .turned2 .result) (a .shared) (c .before .before .before .before .choice2 .given .0 .0) (c .before .before .turned2 .ensures) in (
       c .before .before .before .before .before .before .before .before .before .before .pre .0,
       ap (λ (x : State). entryNumber x m (a .lines)) s ∙ c .before .before .before .before .before .before .before .before .before .before .pre .1,
       ap (λ (x : State). choiceOf x (a .lines)) s
           ∙ sym (c .before .before .before .before .before .before .choose .ensures ∙ ap (λ (x : State). choiceOf x (a .lines)) (c .before .before .before .before .before .before .before .state .ensures))
           ∙ c .before .before .before .before .choice2 .given .1
-          ∙ ap Steps (sym (turned-named (a .p) (c .before .before .turned2 .result) (a .cp) (c .before .before .before .before .choice2 .given .0 .0) (c .before .before .turned2 .ensures))),
+          ∙ ap Steps (sym (turned-named (a .p) (c .before .before .turned2 .result) (a .shared) (c .before .before .before .before .choice2 .given .0 .0) (c .before .before .turned2 .ensures))),
     )
 
 returns : tie.Need-returns
 returns c =
     let a = c .before .before .before .before .before .before .args in
     let m = buffers (now (a .sys)) (now (a .io)) in
-    nobody-round (a .p) (a .cp) (a .lines) (a .limit) (a .done) m (c .before .before .before .before .before .before .pre .0) (c .before .before .before .before .before .before .pre .1)
+    nobody-round (a .p) (a .shared) (a .lines) (a .limit) (a .done) m (c .before .before .before .before .before .before .pre .0) (c .before .before .before .before .before .before .pre .1)
     (sym (c .before .before .choose .ensures ∙ ap (λ (x : State). choiceOf x (a .lines)) (c .before .before .before .state .ensures)) ∙ c .enum-told .given .1)
 
 returns-2 : tie.Need-returns-2
 returns-2 c =
     let a = c .before .before .before .before .before .before .before .before .before .before .args in
     let m = buffers (now (a .sys)) (now (a .io)) in
-    external-turn (a .p) (c .before .before .turned .result) (a .cp) (a .lines) (a .limit) (a .done) m (c .before .before .before .before .choice .given .0 .0) (c .before .before .before .before .before .before .before .before .before .before .pre .0) (c .before .before .before .before .before .before .before .before .before .before .pre .1)
+    external-turn (a .p) (c .before .before .turned .result) (a .shared) (a .lines) (a .limit) (a .done) m (c .before .before .before .before .choice .given .0 .0) (c .before .before .before .before .before .before .before .before .before .before .pre .0) (c .before .before .before .before .before .before .before .before .before .before .pre .1)
     (sym (c .before .before .before .before .before .before .choose .ensures ∙ ap (λ (x : State). choiceOf x (a .lines)) (c .before .before .before .before .before .before .before .state .ensures)) ∙ c .before .before .before .before .choice .given .1)
     (c .before .before .turned .ensures) (c .before .external-end .result) (c .before .external-end .ensures) (c .after .result) (c .after .ensures)
 
@@ -80,7 +80,7 @@ same-length-2 c = search needs
 returns-3 : tie.Need-returns-3
 returns-3 c =
     let a = c .before .before .before .before .before .before .before .before .before .before .before .before .before .before .before .args in
-    turned-round (a .p) (c .before .before .before .before .before .before .before .turned2 .result) (a .cp) (c .before .before .before .before .before .before .before .before .before .choice2 .given .0 .0) (c .before .before .before .before .before .before .before .turned2 .ensures) (c .before .before .before .before .own-steps .ensures)
+    turned-round (a .p) (c .before .before .before .before .before .before .before .turned2 .result) (a .shared) (c .before .before .before .before .before .before .before .before .before .choice2 .given .0 .0) (c .before .before .before .before .before .before .before .turned2 .ensures) (c .before .before .before .before .own-steps .ensures)
 
 pub turn-spec : {M : Type 1} → statement M
 turn-spec =

@@ -11,6 +11,9 @@ byte-requires c κs = search needs
 is-flag-requires : tie.Need-is-flag-requires
 is-flag-requires c κs = search needs
 
+is-board-requires : tie.Need-is-board-requires
+is-board-requires c κs = search needs
+
 is-block-requires : tie.Need-is-block-requires
 is-block-requires c κs = search needs
 
@@ -19,9 +22,9 @@ is-block-requires-2 c κs = search needs
 
 returns : tie.Need-returns
 unfolding isState
-returns c = simp (c .is-block2 .ensures, c .before .is-block .ensures, c .before .before .is-flag .ensures, c .before .before .before .byte .ensures)
+returns c = simp (c .is-block2 .ensures, c .before .is-block .ensures, c .before .before .is-board .ensures, c .before .before .before .is-flag .ensures, c .before .before .before .before .byte .ensures)
 
 pub is-state-spec : {M : Type 1} → statement M
 is-state-spec =
     tie.close
-    (tie.spec byte-requires is-flag-requires is-block-requires is-block-requires-2 returns)
+    (tie.spec byte-requires is-flag-requires is-board-requires is-block-requires is-block-requires-2 returns)

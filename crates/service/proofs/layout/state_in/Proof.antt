@@ -17,11 +17,14 @@ long-requires c κs = search needs
 flag-requires : tie.Need-flag-requires
 flag-requires c κs = search needs
 
+board-in-requires : tie.Need-board-in-requires
+board-in-requires c κs = search needs
+
 returns : tie.Need-returns
 unfolding stateIn
-returns c = rw (c .flag .ensures, c .before .long .ensures, c .before .before .channel-in2 .ensures, c .before .before .before .channel-in .ensures)
+returns c = rw (c .board-in .ensures, c .before .flag .ensures, c .before .before .long .ensures, c .before .before .before .channel-in2 .ensures, c .before .before .before .before .channel-in .ensures)
 
 pub state-in-spec : {M : Type 1} → statement M
 state-in-spec =
     tie.close
-    (tie.spec channel-in-requires channel-in-requires-2 long-requires flag-requires returns)
+    (tie.spec channel-in-requires channel-in-requires-2 long-requires flag-requires board-in-requires returns)

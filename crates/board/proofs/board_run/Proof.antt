@@ -1,0 +1,78 @@
+-- `board::board_run` meets its contract.
+-- Assumes nothing.
+use Prim.Native.Nat.{ℕ}
+use borrow.Author.Needs.{needs}
+use borrow.Author.Tests.{eq-eqb, ne-eqb}
+use denote.Ref.{now}
+use mathlib.Core.Path.{sym, ap, ap₂, _∙_}
+use native.Mathlib.Nat.{mod-eq-of-lt}
+use Rattle.machine.specs.Outcomes.{Outcome}
+use Rattle.machine.specs.declared.State.{State}
+use Rattle.memory.specs.Buffers.{buffers}
+use Rattle.panel.proofs.RunLaws.{call-limit}
+use Rattle.panel.specs.Run.{ran, callNumber}
+use Rattle.power.specs.Power.{powerUpOf}
+use Rattle.board.specs.Board.{poweredRun, boardRunOf}
+use Rattle.board.proofs.board_run.Statement.{statement}
+use Rattle.board.proofs.board_run.Tie as tie
+
+call-number-requires : tie.Need-call-number-requires
+call-number-requires c κs = search needs
+
+same-length : tie.Need-same-length
+same-length c = search needs
+
+same-length-2 : tie.Need-same-length-2
+same-length-2 c = search needs
+
+returns : tie.Need-returns
+unfolding boardRunOf
+returns c =
+    let a = c .before .before .before .before .before .before .args in
+    let m = buffers (now (a .sys)) (now (a .io)) in
+    let n = c .before .call-number .ensures in
+    ap (λ (x : ℕ). ran x 0 m) n ∙ rw (ne-eqb (callNumber m (a .channel) (a .lines) (a .limit)) 0 (λ z. c .if1 .taken (n ∙ z)))
+
+reset-requires : tie.Need-reset-requires
+reset-requires c κs = search needs
+
+power-up-requires : tie.Need-power-up-requires
+power-up-requires c κs = search needs
+
+cast-start : tie.Need-cast-start
+cast-start c = search needs
+
+start-requires : tie.Need-start-requires
+start-requires c κs = search needs
+
+same-length-3 : tie.Need-same-length-3
+same-length-3 c = search needs
+
+same-length-4 : tie.Need-same-length-4
+same-length-4 c = search needs
+
+returns-2 : tie.Need-returns-2
+unfolding boardRunOf poweredRun
+returns-2 c =
+    let a = c .before .before .before .before .before .before .before .before .before .before .before .before .before .before .before .before .before .before .before .before .before .args in
+    let m = buffers (now (a .sys)) (now (a .io)) in
+    let n = sym (c .before .before .before .before .before .before .before .before .before .before .before .before .before .before .before .before .call-number .ensures) ∙ c .before .before .before .before .before .before .before .before .before .before .before .before .before .before .before .if1 .left in
+    c .before .before .before .before .start .ensures
+    ∙ ap₂ (λ (o : Outcome) (k : ℕ). poweredRun o (a .channel) (a .lines) k) (c .before .before .before .before .before .before .before .before .before .before .before .power-up .ensures ∙ ap (λ (s : State). powerUpOf s m) (c .before .before .before .before .before .before .before .before .before .before .before .before .before .before .reset .ensures)) (mod-eq-of-lt (call-limit m (a .channel) (a .lines) (a .limit) n))
+    ∙ rw (eq-eqb (callNumber m (a .channel) (a .lines) (a .limit)) 0 n)
+
+pub board-run-spec : {M : Type 1} → statement M
+board-run-spec =
+    tie.close
+    (tie.spec
+    call-number-requires
+    same-length
+    same-length-2
+    returns
+    reset-requires
+    power-up-requires
+    cast-start
+    start-requires
+    same-length-3
+    same-length-4
+    returns-2)

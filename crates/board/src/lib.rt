@@ -1,0 +1,33 @@
+// The board's side: one call from C that powers the processor up and runs a channel's program in two lent buffers.
+use panel::Ran;
+ghost use mathlib.Core.Path.{_≡_};
+ghost use Rattle.memory.specs.Buffers.{buffers};
+ghost use Rattle.panel.specs.Run.{ran, answerOf, called};
+ghost use Rattle.board.specs.Board.{boardRunOf};
+
+// A run of a channel from reset and power-up on: `lines` held throughout, at most `limit` steps.
+pub fn board_run(sys: &mut [u8], io: &mut [u8], channel: u32, lines: u32, limit: u32) -> Ran
+    ensures { λ r. ⌜ ran (r .number) (r .steps) (buffers (now (sys .exit)) (now (io .exit))) ≡ boardRunOf (buffers (now (sys .entry)) (now (io .entry))) channel lines limit ⌝ }
+{
+    let number = panel::call_number(sys, io, channel, lines, limit);
+    if number != 0 {
+        return Ran { number, steps: 0 };
+    }
+    let found = power::power_up(machine::states::reset(), sys, io);
+    panel::start(found, sys, io, channel, lines, (limit % 65536) as u16)
+}
+
+// The same for C: number × 65,536 + steps done.
+#[no_mangle]
+pub extern "C" fn iop89_board(
+    sys: &mut [u8],
+    io: &mut [u8],
+    channel: u32,
+    lines: u32,
+    limit: u32,
+) -> u32
+    ensures { λ r. ⌜ called r (buffers (now (sys .exit)) (now (io .exit))) ≡ called (answerOf (boardRunOf (buffers (now (sys .entry)) (now (io .entry))) channel lines limit)) (boardRunOf (buffers (now (sys .entry)) (now (io .entry))) channel lines limit .memory) ⌝ }
+{
+    let r = board_run(sys, io, channel, lines, limit);
+    r.number % 65536 * 65536 + r.steps % 65536
+}

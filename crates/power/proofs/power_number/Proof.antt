@@ -1,0 +1,31 @@
+-- `power::power_number` meets its contract.
+-- Assumes nothing.
+use borrow.Author.Needs.{needs}
+use borrow.Author.Tests.{not-true, not-false}
+use mathlib.Core.Path.{sym, _∙_}
+use Rattle.machine.specs.Outcomes.{unless, first}
+use Rattle.power.proofs.Numbers.{power-chain}
+use Rattle.power.proofs.power_number.Statement.{statement}
+use Rattle.power.proofs.power_number.Tie as tie
+
+within-limits-requires : tie.Need-within-limits-requires
+within-limits-requires c κs = search needs
+
+returns : tie.Need-returns
+unfolding first unless
+returns c = sym (power-chain _ ∙ simp (not-true (c .before .within-limits .result) (c .if1 .taken), ← (c .before .within-limits .ensures)))
+
+board-lent-requires : tie.Need-board-lent-requires
+board-lent-requires c κs = search needs
+
+returns-2 : tie.Need-returns-2
+unfolding first unless
+returns-2 c = sym (power-chain _ ∙ simp (c .if2 .taken, ← (c .before .board-lent .ensures), not-false (c .before .before .before .within-limits .result) (c .before .before .if1 .left), ← (c .before .before .before .within-limits .ensures)))
+
+returns-3 : tie.Need-returns-3
+unfolding first unless
+returns-3 c = sym (power-chain _ ∙ simp (c .if2 .left, ← (c .before .board-lent .ensures), not-false (c .before .before .before .within-limits .result) (c .before .before .if1 .left), ← (c .before .before .before .within-limits .ensures)))
+
+pub power-number-spec : {M : Type 1} → statement M
+power-number-spec =
+    tie.close (tie.spec within-limits-requires returns board-lent-requires returns-2 returns-3)

@@ -1,0 +1,68 @@
+-- `service::iop89_power_up` meets its contract.
+-- Assumes nothing.
+use borrow.Author.Needs.{needs}
+use borrow.Author.Tests.{not-true, not-false}
+use denote.Ref.{now}
+use mathlib.Core.Path.{sym, ap, _∙_}
+use Rattle.machine.specs.declared.State.{State}
+use Rattle.memory.specs.Buffers.{buffers}
+use Rattle.power.specs.Power.{powerUpOf}
+use Rattle.service.proofs.CallLaws.{power-none, power-served}
+use Rattle.service.proofs.iop89_power_up.Statement.{statement}
+use Rattle.service.proofs.iop89_power_up.Tie as tie
+
+is-state-requires : tie.Need-is-state-requires
+is-state-requires c κs = search needs
+
+same-length : tie.Need-same-length
+same-length c = search needs
+
+returns : tie.Need-returns
+returns c =
+    let a = c .before .before .before .before .before .before .args in
+    power-none (now (a .state)) (buffers (now (a .sys)) (now (a .io))) (sym (c .before .is-state .ensures) ∙ not-true _ (c .if1 .taken))
+
+state-in-requires : tie.Need-state-in-requires
+state-in-requires c κs = search needs
+
+power-up-requires : tie.Need-power-up-requires
+power-up-requires c κs = search needs
+
+put-state-requires : tie.Need-put-state-requires
+put-state-requires c κs = search needs
+
+answer-requires : tie.Need-answer-requires
+answer-requires c κs = search needs
+
+same-length-2 : tie.Need-same-length-2
+same-length-2 c = search needs
+
+same-length-3 : tie.Need-same-length-3
+same-length-3 c = search needs
+
+same-length-4 : tie.Need-same-length-4
+same-length-4 c = search needs
+
+returns-2 : tie.Need-returns-2
+returns-2 c =
+    let a = c .before .before .before .before .before .before .before .before .before .before .before .before .before .before .before .before .before .before .before .before .before .args in
+    let m = buffers (now (a .sys)) (now (a .io)) in
+    rw (c .answer .ensures, c .before .before .before .put-state .ensures .0)
+    (power-served (now (a .state)) m (sym (c .before .before .before .before .before .before .before .before .before .before .before .before .before .before .before .before .is-state .ensures) ∙ not-false _ (c .before .before .before .before .before .before .before .before .before .before .before .before .before .before .before .if1 .left)) _
+    (c .before .before .before .before .before .before .before .before .before .before .power-up .ensures ∙ ap (λ (s : State). powerUpOf s m) (c .before .before .before .before .before .before .before .before .before .before .before .before .before .state-in .ensures)) (c .before .before .before .put-state .ensures .1))
+
+pub iop89-power-up-spec : {M : Type 1} → statement M
+iop89-power-up-spec =
+    tie.close
+    (tie.spec
+    is-state-requires
+    same-length
+    returns
+    state-in-requires
+    power-up-requires
+    put-state-requires
+    answer-requires
+    same-length-2
+    same-length-3
+    same-length-4
+    returns-2)
