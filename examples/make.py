@@ -1,5 +1,6 @@
 #!/usr/bin/env python3
-"""Writes the example images into a folder: each is system memory with channel 1's control block at address 0."""
+"""Writes the example images into a folder: each is system memory with channel 1's control block at address 0; and a
+board's PROM file."""
 import sys
 from pathlib import Path
 
@@ -196,11 +197,35 @@ IMAGES = {
 }
 
 
+def record(kind, address, data):
+    """A record of a PROM file (Intel hexadecimal): length, address, type, data, and what makes the sum 0."""
+    body = bytes([len(data)]) + address.to_bytes(2, "big") + bytes([kind]) + data
+    return ":" + (body + bytes([-sum(body) % 256])).hex().upper() + "\n"
+
+
+def prom(*parts):
+    """A PROM file with these (address, bytes), each behind its segment, and the end record."""
+    lines = [record(2, 0, (at // 65536 * 4096).to_bytes(2, "big")) + record(0, at % 65536, data) for at, data in parts]
+    return "".join(lines) + record(1, 0, b"")
+
+
+# A board: SYSBUS says 16 bits, SOC sets bit 1, and the configuration block at FFFE0h names the control block at 400h.
+BOARD = prom(
+    (0x400, bytes([START_SYSTEM, 0xFF]) + doubleword(0x410)),
+    (0x410, doubleword(0xFF000)),
+    (0xFF000, code("F1 30 21 43 ; MOVI MC,4321H", "20 48       ; HLT")),
+    (0xFFFE0, bytes([0x02, 0x00]) + doubleword(0x400)),
+    (0xFFFF6, bytes([0x01])),
+    (0xFFFF8, doubleword(0xFFFE0)),
+)
+
+
 def main():
     """Writes every image."""
     folder = Path(sys.argv[1] if len(sys.argv) > 1 else Path(__file__).parent)
     for name, data in IMAGES.items():
         (folder / (name + ".bin")).write_bytes(data)
+    (folder / "board.hex").write_text(BOARD)
 
 
 if __name__ == "__main__":

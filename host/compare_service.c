@@ -1,5 +1,5 @@
 /* Compares the service archive with the emulator: rows of calls on states in bytes, sound and unsound, whole and
- * damaged, with other lines at each step. */
+ * damaged, with other lines at each step, and runs that a board's power-up begins. */
 #include "cases.h"
 #include "iop89_service.h"
 #include "met.h"
@@ -15,13 +15,17 @@
 enum { CASES_TO_MEET_ALL = 300000, MOST_CALLS = 60, FENCE = 16, FENCE_BYTE = 0xA5 };
 enum { STATE_ROOM = 2 * STATE_BYTES, SHOWN = 5 };
 
-enum call_kind { CALL_FRESH, CALL_ATTENTION, CALL_STEP, CALLS };
+enum call_kind { CALL_FRESH, CALL_RESET, CALL_POWER, CALL_ATTENTION, CALL_STEP, CALL_BOARD, CALLS };
 
-/* What one call is given. */
+/* The last of the bytes at FFFF8h, from which on a memory can have a board. */
+enum { BOARD_LENGTH = 0xFFFFC };
+
+/* What one call is given; lines and limit are a run's. */
 struct call {
     enum call_kind kind;
     uint32_t argument;
     size_t state_len;
+    uint32_t lines, limit;
 };
 
 /* One side's machine. */
@@ -32,7 +36,7 @@ struct side {
 static struct side emulated, proved;
 static struct emu_coverage coverage;
 static unsigned long numbers[CALLS][IOP89_NO_STATE + 1], faults[STATE_FAULTS];
-static const char *const call_names[CALLS] = {"fresh", "attention", "step"};
+static const char *const call_names[CALLS] = {"fresh", "reset", "power-up", "attention", "step", "board"};
 
 /* ---- Buffers ---- */
 
@@ -78,6 +82,12 @@ static void put_both(const struct run_case *c, uint32_t address, uint8_t byte)
 
 /* ---- The two sides of a call ---- */
 
+/* Whether a call looks at none of the state's bytes. */
+static bool makes_anew(enum call_kind kind)
+{
+    return kind == CALL_FRESH || kind == CALL_RESET || kind == CALL_BOARD;
+}
+
 /* The emulator's answer; counts what it met. */
 static uint32_t by_emulator(const struct run_case *c, struct call call)
 {
@@ -85,11 +95,14 @@ static uint32_t by_emulator(const struct run_case *c, struct call call)
     struct emu_state state;
     struct emu_stepped stepped = {0, 0, 0};
     memset(&state, 0, sizeof state);
+    if (call.kind == CALL_BOARD) return emu_board(&memory, call.argument, call.lines, call.limit);
     enum state_fault fault = call.state_len != STATE_BYTES ? FAULT_LENGTH : FAULT_NONE;
-    if (call.kind != CALL_FRESH) fault = state_from_bytes(emulated.state, call.state_len, &state);
+    if (!makes_anew(call.kind)) fault = state_from_bytes(emulated.state, call.state_len, &state);
     faults[fault]++;
     if (fault != FAULT_NONE) return IOP89_NO_STATE;
     if (call.kind == CALL_FRESH) stepped.number = emu_fresh(call.argument, &state);
+    else if (call.kind == CALL_RESET) emu_reset(&state);
+    else if (call.kind == CALL_POWER) stepped.number = emu_power_up(&state, &memory);
     else if (call.kind == CALL_ATTENTION) stepped.number = emu_attention(&state, &memory, call.argument);
     else stepped = emu_step(&state, &memory, call.argument);
     state_to_bytes(&state, emulated.state);
@@ -101,6 +114,11 @@ static uint32_t by_emulator(const struct run_case *c, struct call call)
 static uint32_t by_archive(const struct run_case *c, struct call call)
 {
     if (call.kind == CALL_FRESH) return iop89_fresh(proved.state, call.state_len, call.argument);
+    if (call.kind == CALL_RESET) return iop89_reset(proved.state, call.state_len);
+    if (call.kind == CALL_POWER)
+        return iop89_power_up(proved.state, call.state_len, proved.sys, c->sys_len, proved.io, c->io_len);
+    if (call.kind == CALL_BOARD)
+        return iop89_board(proved.sys, c->sys_len, proved.io, c->io_len, call.argument, call.lines, call.limit);
     uint32_t (*made)(uint8_t *, size_t, uint8_t *, size_t, uint8_t *, size_t, uint32_t) =
         call.kind == CALL_ATTENTION ? iop89_attention : iop89_step;
     return made(proved.state, call.state_len, proved.sys, c->sys_len, proved.io, c->io_len, call.argument);
@@ -137,6 +155,7 @@ static void poke(struct dice *d, const struct run_case *c)
     }
     if (chance(d, 60)) iop89_set_cp(proved.state, choose_cp(d, c->sys_len));
     if (chance(d, 60)) iop89_set_last(proved.state, 1 + below(d, 2));
+    if (chance(d, 60)) proved.state[IOP89_AT_POWERED + below(d, 4)] = (uint8_t)below(d, 2);
     memcpy(emulated.state, proved.state, STATE_BYTES);
 }
 
@@ -151,6 +170,7 @@ static void any_state(struct dice *d, const struct run_case *c)
     proved.state[0] = IOP89_STATE_VERSION;
     for (enum state_fault fault = FAULT_LAST; fault < STATE_FAULTS; fault++)
         proved.state[state_fault_at(fault)] = (uint8_t)below(d, state_fault_from(fault));
+    if (chance(d, 900)) proved.state[IOP89_AT_POWERED] = 1;
     memcpy(emulated.state, proved.state, STATE_BYTES);
 }
 
@@ -180,13 +200,47 @@ static void put_command(struct dice *d, const struct run_case *c, uint32_t chann
     put_both(c, block, (uint8_t)(command | below(d, 32) << 3));
 }
 
+/* Writes a doubleword pointer to an address at another, in both memories. */
+static void put_far(struct dice *d, const struct run_case *c, uint32_t at, uint32_t to)
+{
+    uint8_t bytes[4];
+    as_doubleword(d, to & MASK20, bytes);
+    for (uint32_t i = 0; i < 4; i++) put_both(c, (at + i) & MASK20, bytes[i]);
+}
+
+/* Writes a board's bytes: SYSBUS, the pointer to a configuration block, near the top or anywhere, and there SOC and the
+ * pointer to the case's control block, at times to another. */
+static void put_board(struct dice *d, const struct run_case *c)
+{
+    uint32_t block = chance(d, 600) ? 0xFFFF0 - below(d, 64) : choose_cp(d, c->sys_len) & MASK20;
+    uint32_t control = chance(d, 800) ? c->cp : choose_cp(d, c->sys_len);
+    put_both(c, block, (uint8_t)below(d, 256));
+    put_far(d, c, block + 2, control);
+    put_both(c, 0xFFFF6, (uint8_t)below(d, 256));
+    put_far(d, c, 0xFFFF8, block);
+}
+
+/* A call that starts as the board starts, more often where there can be a board; fresh stands for none. */
+static enum call_kind board_call(struct dice *d, const struct run_case *c, unsigned index)
+{
+    bool whole = c->sys_len >= BOARD_LENGTH;
+    if (index == 0 && chance(d, whole ? 300 : 15)) return CALL_BOARD;
+    if (chance(d, index < 3 && whole ? 300 : 6)) return CALL_POWER;
+    return chance(d, 6) ? CALL_RESET : CALL_FRESH;
+}
+
 /* The next call; fresh is first more often than not. */
 static struct call next_call(struct dice *d, const struct run_case *c, unsigned index)
 {
     static const uint32_t odd[] = {0, 3, 4, 16, 17, 255, 257, 65537, 0x80000001, 0xFFFFFFFF};
     static const size_t lengths[] = {0, 1, STATE_BYTES - 1, STATE_BYTES + 1, STATE_ROOM};
-    struct call call = {CALL_STEP, chance(d, 500) ? c->lines & 15u : below(d, 16), STATE_BYTES};
-    if (index == 0 && chance(d, 800)) {
+    struct call call = {CALL_STEP, chance(d, 500) ? c->lines & 15u : below(d, 16), STATE_BYTES, c->lines, c->limit};
+    enum call_kind board = board_call(d, c, index);
+    if (board != CALL_FRESH) {
+        call.kind = board;
+        call.argument = c->channel;
+        if (board != CALL_RESET && chance(d, 900)) put_board(d, c);
+    } else if (index == 0 && chance(d, 800)) {
         call.kind = CALL_FRESH;
         call.argument = c->cp;
     } else if (index <= 1 || chance(d, 150)) {
@@ -224,7 +278,7 @@ static bool agree_on(const struct run_case *c, struct call call, unsigned index,
     uint32_t emulator = by_emulator(c, call);
     emu_coverage = NULL;
     uint32_t archive = by_archive(c, call);
-    numbers[call.kind][IOP89_ANSWER_NUMBER(emulator)]++;
+    numbers[call.kind][call.kind == CALL_BOARD ? IOP89_NUMBER(emulator) : IOP89_ANSWER_NUMBER(emulator)]++;
     bool same = emulator == archive && same_state();
     if (same || !shown) return same;
     printf("  call %u, %s %" PRIu32 " on %zu bytes: emulator %05" PRIX32 ", archive %05" PRIX32 "\n", index,
@@ -252,7 +306,7 @@ static bool agree(uint64_t seed, uint64_t number, bool shown)
         if (i > 1 && chance(&d, 80)) poke(&d, &c);
         if (chance(&d, 4)) any_state(&d, &c);
         struct call call = next_call(&d, &c, i);
-        if (call.kind == CALL_FRESH) spoiled = false;
+        if (makes_anew(call.kind)) spoiled = false;
         memcpy(whole, proved.state, STATE_BYTES);
         if (spoiled) damage(&d);
         if (!agree_on(&c, call, i, shown)) return false;
@@ -305,7 +359,7 @@ static unsigned every_pair(uint64_t seed)
     static const enum emu_number answers[3] = {EMU_DONE, EMU_NO_INSTRUCTION, EMU_CC_USED};
     struct dice d = seeded(seed + 2000003, 0);
     struct run_case c = {emulated.sys, emulated.io, PAIR_SYSTEM, PAIR_IO, 0, 1, 0, 0};
-    struct call call = {CALL_STEP, 0, STATE_BYTES};
+    struct call call = {CALL_STEP, 0, STATE_BYTES, 0, 0};
     unsigned differences = 0;
     unsigned long met = 0, before[3];
     for (unsigned i = 0; i < 3; i++) before[i] = numbers[CALL_STEP][answers[i]];
@@ -344,16 +398,28 @@ static void print_call_numbers(enum call_kind kind, unsigned set)
 
 /* The numbers that each call can answer, and the commands that a channel takes. */
 #define FRESH_NUMBERS (1u << 0 | 1u << 10 | 1u << 17)
-#define ATTENTION_NUMBERS (1u << 0 | 1u << 2 | 15u << 6 | 7u << 10 | 1u << 17)
-#define STEP_NUMBERS (63u | 7u << 10 | 1u << 17)
+#define RESET_NUMBERS (1u << 0 | 1u << 17)
+#define POWER_NUMBERS (1u << 0 | 1u << 2 | 1u << 11 | 1u << 17)
+#define ATTENTION_NUMBERS (1u << 0 | 1u << 2 | 15u << 6 | 15u << 10 | 1u << 17)
+#define STEP_NUMBERS (63u | 15u << 10 | 1u << 17)
+#define BOARD_NUMBERS (255u | 1u << 9 | 3u << 11)
 #define COMMANDS (0xFFu & ~(1u << 2 | 1u << 4))
 
 /* Prints everything that was met. */
 static void print_met(void)
 {
     print_call_numbers(CALL_FRESH, FRESH_NUMBERS);
+    print_call_numbers(CALL_RESET, RESET_NUMBERS);
+    print_call_numbers(CALL_POWER, POWER_NUMBERS);
     print_call_numbers(CALL_ATTENTION, ATTENTION_NUMBERS);
     print_call_numbers(CALL_STEP, STEP_NUMBERS);
+    print_call_numbers(CALL_BOARD, BOARD_NUMBERS);
+    puts("accepted power-ups, by SYSBUS bit 0, SOC bit 0 and SOC bit 1:");
+    for (unsigned i = 0; i < 8; i++) {
+        char name[24];
+        snprintf(name, sizeof name, "%u %u %u", i & 1u, i >> 1 & 1u, i >> 2);
+        print_count(name, coverage.powered[i]);
+    }
     puts("17, by its cause:");
     for (enum state_fault fault = FAULT_LENGTH; fault < STATE_FAULTS; fault++)
         print_count(state_fault_name(fault), faults[fault]);

@@ -230,25 +230,62 @@ static bool channel_sound(const struct emu_channel *ch)
            ch->tp.address <= MASK20 && ch->pp <= MASK20;
 }
 
-/* Refusals 12, 11 and 10, in this order. */
+/* Refusals 12, 11, 10 and 13, in this order. */
 static unsigned early_refusal(bool arguments_good, const struct emu_memory *memory, const struct emu_state *state)
 {
     if (!arguments_good) return EMU_BAD_ARGUMENT;
     if (!buffers_fit(memory)) return EMU_BAD_BUFFER;
     if (state->cp > MASK20 || !channel_sound(&state->channel[0]) || !channel_sound(&state->channel[1]))
         return EMU_BAD_POINTER;
-    return EMU_DONE;
+    return state->powered ? EMU_DONE : EMU_NOT_POWERED_UP;
 }
 
-/* ---- Fresh ---- */
+/* ---- Fresh, reset and power-up ---- */
 
 unsigned emu_fresh(uint32_t cp, struct emu_state *out)
 {
-    memset(out, 0, sizeof *out);
-    out->last = 2;
+    emu_reset(out);
+    out->powered = true;
     if (cp > MASK20) return EMU_BAD_POINTER;
     out->cp = cp;
     return EMU_DONE;
+}
+
+void emu_reset(struct emu_state *out)
+{
+    memset(out, 0, sizeof *out);
+    out->last = 2;
+}
+
+/* Where the board says what it is: SYSBUS, and the pointer to the configuration block. */
+enum { SYSBUS_AT = 0xFFFF6, CONFIGURATION_AT = 0xFFFF8 };
+
+/* A power-up in buffers that fit: SYSBUS, SOC and CP are read, then BUSY of channel 1 is cleared. */
+static unsigned wake(struct emu_state *state, const struct emu_memory *memory)
+{
+    struct emu_state after_reset;
+    struct work w;
+    emu_reset(&after_reset);
+    begin(&w, &after_reset, memory, 1);
+    uint32_t sysbus = read_bytes(&w, in_system(SYSBUS_AT), 1, EMU_READ);
+    uint32_t configuration = from_doubleword(read_bytes(&w, in_system(CONFIGURATION_AT), 4, EMU_READ_POINTER));
+    uint32_t soc = read_bytes(&w, in_system(configuration), 1, EMU_READ);
+    w.state.cp = from_doubleword(read_bytes(&w, in_system(configuration + 2), 4, EMU_READ_POINTER));
+    w.state.powered = true;
+    w.state.system_wide = (sysbus & 1u) != 0;
+    w.state.io_wide = (soc & 1u) != 0;
+    w.state.soc_1 = (soc & 2u) != 0;
+    w.block = w.state.cp;
+    set_busy(&w, 0x00);
+    if (emu_coverage != NULL && w.number == EMU_DONE) emu_coverage->powered[(sysbus & 1u) | (soc & 3u) << 1]++;
+    return finish(&w, state);
+}
+
+unsigned emu_power_up(struct emu_state *state, struct emu_memory *memory)
+{
+    unsigned number = buffers_fit(memory) ? wake(state, memory) : EMU_BAD_BUFFER;
+    if (emu_coverage != NULL && number != EMU_DONE) emu_coverage->power_refused[number]++;
+    return number;
 }
 
 /* ---- Attention ---- */
@@ -1243,6 +1280,13 @@ static uint32_t answer(unsigned number, uint32_t steps)
     return (uint32_t)number * 65536u + steps;
 }
 
+/* Refusals 12 and 11 of a run, which come before anything else. */
+static unsigned run_refusal(const struct emu_memory *memory, uint32_t channel, uint32_t lines, uint32_t limit)
+{
+    if ((channel != 1 && channel != 2) || lines > 15 || limit > 65535) return EMU_BAD_ARGUMENT;
+    return buffers_fit(memory) ? EMU_DONE : EMU_BAD_BUFFER;
+}
+
 /* A fresh state and one attention, with which every run begins. */
 static unsigned set_going(struct emu_state *state, struct emu_memory *memory, uint32_t cp, uint32_t channel)
 {
@@ -1250,18 +1294,33 @@ static unsigned set_going(struct emu_state *state, struct emu_memory *memory, ui
     return number != EMU_DONE ? number : emu_attention(state, memory, channel);
 }
 
-uint32_t emu_run(struct emu_memory *memory, uint32_t cp, uint32_t channel, uint32_t lines, uint32_t limit)
+/* Steps until one is refused or the limit is reached, unless the run was refused before. */
+static uint32_t go_on(unsigned number, struct emu_state *state, struct emu_memory *memory, uint32_t lines, uint32_t limit)
 {
-    struct emu_state state;
     uint32_t steps = 0;
-    if ((channel != 1 && channel != 2) || lines > 15 || limit > 65535) return answer(EMU_BAD_ARGUMENT, 0);
-    if (!buffers_fit(memory)) return answer(EMU_BAD_BUFFER, 0);
-    unsigned number = set_going(&state, memory, cp, channel);
     while (number == EMU_DONE && steps < limit) {
-        number = emu_step(&state, memory, lines).number;
+        number = emu_step(state, memory, lines).number;
         if (number == EMU_DONE) steps++;
     }
     return answer(number, steps);
+}
+
+uint32_t emu_run(struct emu_memory *memory, uint32_t cp, uint32_t channel, uint32_t lines, uint32_t limit)
+{
+    struct emu_state state;
+    unsigned number = run_refusal(memory, channel, lines, limit);
+    if (number == EMU_DONE) number = set_going(&state, memory, cp, channel);
+    return go_on(number, &state, memory, lines, limit);
+}
+
+uint32_t emu_board(struct emu_memory *memory, uint32_t channel, uint32_t lines, uint32_t limit)
+{
+    struct emu_state state;
+    unsigned number = run_refusal(memory, channel, lines, limit);
+    emu_reset(&state);
+    if (number == EMU_DONE) number = emu_power_up(&state, memory);
+    if (number == EMU_DONE) number = emu_attention(&state, memory, channel);
+    return go_on(number, &state, memory, lines, limit);
 }
 
 /* Prints one done step. */
@@ -1311,5 +1370,6 @@ static bool same_channel(const struct emu_channel *a, const struct emu_channel *
 bool emu_same_state(const struct emu_state *a, const struct emu_state *b)
 {
     return same_channel(&a->channel[0], &b->channel[0]) && same_channel(&a->channel[1], &b->channel[1]) &&
-           a->cp == b->cp && a->last == b->last;
+           a->cp == b->cp && a->last == b->last && a->powered == b->powered && a->system_wide == b->system_wide &&
+           a->io_wide == b->io_wide && a->soc_1 == b->soc_1;
 }

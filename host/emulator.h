@@ -31,7 +31,8 @@ enum emu_number {
     EMU_BAD_POINTER = 10,
     EMU_BAD_BUFFER = 11,
     EMU_BAD_ARGUMENT = 12,
-    EMU_NUMBERS = 13
+    EMU_NOT_POWERED_UP = 13,
+    EMU_NUMBERS = 14
 };
 
 /* Bits of the PSW. */
@@ -65,11 +66,13 @@ struct emu_channel {
     bool armed;
 };
 
-/* Both channels, the control block's address and the channel that stepped last (1 or 2). */
+/* Both channels, the control block's address and the channel that stepped last (1 or 2); whether the processor was
+ * powered up, the physical widths of both buses (SYSBUS bit 0 and SOC bit 0, true for 16 bits), and SOC bit 1. */
 struct emu_state {
     struct emu_channel channel[2];
     uint32_t cp;
     unsigned last;
+    bool powered, system_wide, io_wide, soc_1;
 };
 
 /* The two lent buffers; both start at address 0 of their space. */
@@ -148,6 +151,8 @@ struct emu_coverage {
     unsigned long external[3];              /* external ends, by offset 0, 4, 8 */
     unsigned long step_refused[EMU_NUMBERS];
     unsigned long slot[EMU_ACCESSES][EMU_SLOT_SETS]; /* steps that met empty slots, by what for and how many */
+    unsigned long powered[8];               /* accepted power-ups, by SYSBUS bit 0, SOC bit 0 and SOC bit 1 */
+    unsigned long power_refused[EMU_NUMBERS];
 };
 
 /* The lent counters, or NULL for none. */
@@ -155,6 +160,12 @@ extern struct emu_coverage *emu_coverage;
 
 /* Makes the fresh state for CP; answers 10, with the state for CP 0, where CP has more than 20 bits. */
 unsigned emu_fresh(uint32_t cp, struct emu_state *out);
+
+/* Makes the state after reset, in which only power-up is allowed. */
+void emu_reset(struct emu_state *out);
+
+/* Powers the processor up from what its board holds in system memory. */
+unsigned emu_power_up(struct emu_state *state, struct emu_memory *memory);
 
 /* Gives a channel one attention. */
 unsigned emu_attention(struct emu_state *state, struct emu_memory *memory, uint32_t channel);
@@ -164,6 +175,9 @@ struct emu_stepped emu_step(struct emu_state *state, struct emu_memory *memory, 
 
 /* The panel's call: fresh state, one attention, steps; answers number x 65,536 + steps done. */
 uint32_t emu_run(struct emu_memory *memory, uint32_t cp, uint32_t channel, uint32_t lines, uint32_t limit);
+
+/* The same call with reset and power-up in the place of a CP. */
+uint32_t emu_board(struct emu_memory *memory, uint32_t channel, uint32_t lines, uint32_t limit);
 
 /* The panel's program: prints the trace for these bytes of standard input. */
 void emu_panel(const uint8_t *input, size_t length, FILE *out);

@@ -427,7 +427,7 @@ static void test_fresh(void)
     struct emu_state a, b;
     memset(&a, 0xEE, sizeof a);
     CHECK(emu_fresh(0xFFFFF, &a) == 0);
-    CHECK(a.cp == 0xFFFFF && a.last == 2);
+    CHECK(a.cp == 0xFFFFF && a.last == 2 && a.powered && !a.system_wide && !a.io_wide && !a.soc_1);
     for (unsigned i = 0; i < 2; i++) {
         const struct emu_channel *c = &a.channel[i];
         CHECK(c->mode == EMU_IDLE && !c->armed && c->psw == 0 && c->pp == 0);
@@ -442,6 +442,129 @@ static void test_fresh(void)
     memset(&a, 0xEE, sizeof a);
     CHECK(emu_fresh(0xFFFFFFFF, &a) == 10);
     CHECK(emu_same_state(&a, &b));
+}
+
+/* ---- Reset and power-up ---- */
+
+/* A board at the top of memory: SYSBUS, the configuration block at FFFD0h, there SOC and CP 500h. */
+static void board(const char *sysbus, const char *soc)
+{
+    reset();
+    sys(0xFFFF6, sysbus);
+    sys(0xFFFF8, "D0 FF 00 F0");
+    sys(0xFFFD0, soc);
+    sys(0xFFFD2, "00 00 50 00");
+    want_same();
+}
+
+/* Powers up and wants this number, state and memory. */
+static void powers(unsigned number, int line)
+{
+    check(emu_power_up(&now.s, &now.m) == number, "power-up's number", line);
+    check_all(line);
+}
+
+/* After reset every attention and step is 13, behind 12, 11 and 10. */
+static void test_reset(void)
+{
+    struct emu_state fresh;
+    reset();
+    emu_fresh(0, &fresh);
+    emu_reset(&now.s);
+    fresh.powered = false;
+    CHECK(emu_same_state(&now.s, &fresh));
+    want_same();
+    ATTEND_REFUSED(1, 13);
+    ATTEND_REFUSED(3, 12);
+    REFUSED(13);
+    REFUSED_ON(12, 16);
+    now.m.io_len = EMU_IO_LIMIT + 1;
+    ATTEND_REFUSED(1, 11);
+    REFUSED(11);
+    now.m.io_len = EMU_IO_LIMIT;
+    now.s.cp = 0x100000;
+    want_same();
+    ATTEND_REFUSED(1, 10);
+    REFUSED(10);
+}
+
+/* What a power-up finds, from any state, and what it stores. */
+static void test_power_up(void)
+{
+    static const char *const bytes[] = {"FE", "01", "FD", "03"};
+    for (unsigned i = 0; i < 16; i++) {
+        board(bytes[i & 3], bytes[i >> 2]);
+        if (i % 3 == 0) emu_reset(&now.s);
+        if (i % 3 == 1) now.s.cp = 0x100000, N.ga.address = 0xFFFFFFFF;
+        emu_fresh(0x500, &want.s);
+        want.s.system_wide = (i & 3) != 0;
+        want.s.io_wide = i >> 2 != 0;
+        want.s.soc_1 = i >> 2 == 0 || i >> 2 == 3;
+        want_sys(0x501, "00");
+        powers(0, __LINE__);
+    }
+}
+
+/* 11, then 2 for each of the eleven bytes, and nothing changed. */
+static void test_power_up_refusals(void)
+{
+    board("01", "01");
+    now.m.io_len = EMU_IO_LIMIT + 1;
+    powers(11, __LINE__);
+    board("01", "01");
+    now.m.sys_len = 0xFFFFB;
+    powers(2, __LINE__);
+    now.m.sys_len = 0xFFFFC;
+    emu_fresh(0x500, &want.s);
+    want.s.system_wide = want.s.io_wide = true;
+    want_sys(0x501, "00");
+    powers(0, __LINE__);
+    /* SOC, the last byte of CP's pointer, and BUSY just beyond */
+    board("01", "01");
+    sys(0xFFFF8, "FC FF 00 F0");
+    want_same();
+    now.m.sys_len = 0xFFFFC;
+    powers(2, __LINE__);
+    sys(0xFFFF8, "F7 FF 00 F0");
+    want_same();
+    powers(2, __LINE__);
+    board("01", "01");
+    sys(0xFFFD2, "FB FF 00 F0");
+    want_same();
+    now.m.sys_len = 0xFFFFC;
+    powers(2, __LINE__);
+}
+
+/* Addresses wrap, and every byte is read before BUSY is stored. */
+static void test_power_up_wraps(void)
+{
+    board("01", "02");
+    sys(0xFFFF8, "FE FF 00 F0");
+    sys(0xFFFFE, "02");
+    sys(0, "F7 FF 00 F0");
+    want_same();
+    emu_fresh(0xFFFF7, &want.s);
+    want.s.system_wide = want.s.soc_1 = true;
+    want_sys(0xFFFF8, "00");
+    powers(0, __LINE__);
+}
+
+/* The run with power-up in the place of a CP. */
+static void test_board(void)
+{
+    board("00", "00");
+    sys(0x500, "03 EE 10 00 50 00");
+    sys(0x510, "20 05 00 00");
+    sys(0x520, "20 48");
+    CHECK(emu_board(&now.m, 1, 0, 1000) == 1 * 65536 + 1 && now.sys[0x501] == 0x00);
+    sys(0x500, "02 EE");
+    CHECK(emu_board(&now.m, 1, 0, 1000) == 6 * 65536 && now.sys[0x501] == 0x00);
+    sys(0x500, "03 EE");
+    now.m.sys_len = 0xFFFFB;
+    CHECK(emu_board(&now.m, 1, 0, 1000) == 2 * 65536 && now.sys[0x501] == 0xEE);
+    now.m.sys_len = MIB + 1;
+    CHECK(emu_board(&now.m, 1, 0, 1000) == 11 * 65536);
+    CHECK(emu_board(&now.m, 3, 0, 1000) == 12 * 65536);
 }
 
 /* 12 before 11 before 10 before all else. */
@@ -3151,6 +3274,8 @@ static void test_invariants(void)
         struct emu_state s, s0;
         for (unsigned j = 0; j < 256; j++) a[j] = (uint8_t)made_up(), b[j] = (uint8_t)(made_up() % 2 ? made_up() : 0);
         emu_fresh(made_up() % 200, &s);
+        s.powered = made_up() % 50 != 0;
+        s.io_wide = made_up() % 2 != 0;
         made_up_channel(&s.channel[0]);
         made_up_channel(&s.channel[1]);
         if (made_up() % 2 != 0) a[s.channel[0].tp.address % 255 + 1] = (uint8_t)(made_up() % 0x40 << 2);
@@ -3224,6 +3349,11 @@ int main(void)
     test_decoder_readings();
     test_twelve_cases();
     test_fresh();
+    test_reset();
+    test_power_up();
+    test_power_up_refusals();
+    test_power_up_wraps();
+    test_board();
     test_early_order();
     test_refusal_10();
     test_start();

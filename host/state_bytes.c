@@ -2,7 +2,7 @@
 #include "state_bytes.h"
 
 /* Offsets of the layout. */
-enum { AT_CP = 1, AT_LAST = 5, AT_CHANNELS = 6, BLOCK = 35, VERSION = 1 };
+enum { AT_CP = 1, AT_LAST = 5, AT_BOARD = 6, AT_CHANNELS = 10, BLOCK = 35, VERSION = 2 };
 
 /* Of a block: where its flags and its mode are. */
 static const uint8_t marks[6] = {4, 9, 14, 19, 33, 34};
@@ -13,8 +13,9 @@ enum { MARK_MODE = 4 };
 const char *state_fault_name(enum state_fault fault)
 {
     static const char *const names[STATE_FAULTS] = {
-        "none",       "length",     "version",    "last",       "GA's tag 1", "GB's tag 1", "GC's tag 1", "TP's tag 1",
-        "mode 1",     "armed 1",    "GA's tag 2", "GB's tag 2", "GC's tag 2", "TP's tag 2", "mode 2",     "armed 2"};
+        "none",       "length",     "version",    "last",       "powered up", "SYSBUS bit 0", "SOC bit 0", "SOC bit 1",
+        "GA's tag 1", "GB's tag 1", "GC's tag 1", "TP's tag 1", "mode 1",     "armed 1",
+        "GA's tag 2", "GB's tag 2", "GC's tag 2", "TP's tag 2", "mode 2",     "armed 2"};
     return names[fault];
 }
 
@@ -28,6 +29,7 @@ size_t state_fault_at(enum state_fault fault)
 {
     if (fault == FAULT_VERSION) return 0;
     if (fault == FAULT_LAST) return AT_LAST;
+    if (fault < FAULT_CHANNEL_1) return AT_BOARD + (size_t)(fault - FAULT_BOARD);
     return (fault < FAULT_CHANNEL_2 ? AT_CHANNELS : AT_CHANNELS + BLOCK) + (size_t)marks[mark_of(fault)];
 }
 
@@ -108,6 +110,10 @@ enum state_fault state_from_bytes(const uint8_t *bytes, size_t length, struct em
         if (bytes[state_fault_at(fault)] >= state_fault_from(fault)) return fault;
     out->cp = number_at(bytes + AT_CP, 4);
     out->last = bytes[AT_LAST] + 1u;
+    out->powered = bytes[AT_BOARD] == 1;
+    out->system_wide = bytes[AT_BOARD + 1] == 1;
+    out->io_wide = bytes[AT_BOARD + 2] == 1;
+    out->soc_1 = bytes[AT_BOARD + 3] == 1;
     out->channel[0] = channel_at(bytes + AT_CHANNELS);
     out->channel[1] = channel_at(bytes + AT_CHANNELS + BLOCK);
     return FAULT_NONE;
@@ -118,6 +124,10 @@ void state_to_bytes(const struct emu_state *state, uint8_t *bytes)
     bytes[0] = VERSION;
     put_number(bytes + AT_CP, 4, state->cp);
     bytes[AT_LAST] = (uint8_t)(state->last - 1u);
+    bytes[AT_BOARD] = state->powered ? 1 : 0;
+    bytes[AT_BOARD + 1] = state->system_wide ? 1 : 0;
+    bytes[AT_BOARD + 2] = state->io_wide ? 1 : 0;
+    bytes[AT_BOARD + 3] = state->soc_1 ? 1 : 0;
     put_channel(bytes + AT_CHANNELS, &state->channel[0]);
     put_channel(bytes + AT_CHANNELS + BLOCK, &state->channel[1]);
 }

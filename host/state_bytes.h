@@ -5,7 +5,7 @@
 #include "emulator.h"
 
 /* How many bytes a state has. */
-enum { STATE_BYTES = 76 };
+enum { STATE_BYTES = 80 };
 
 /* Why bytes are no state: their length, their version, or the first flag or mode that is out of range. */
 enum state_fault {
@@ -13,7 +13,8 @@ enum state_fault {
     FAULT_LENGTH,
     FAULT_VERSION,
     FAULT_LAST,
-    FAULT_CHANNEL_1,                    /* GA's tag, GB's, GC's, TP's, the mode, the armed mark */
+    FAULT_BOARD,                        /* powered up, SYSBUS bit 0, SOC bit 0, SOC bit 1 */
+    FAULT_CHANNEL_1 = FAULT_BOARD + 4,  /* GA's tag, GB's, GC's, TP's, the mode, the armed mark */
     FAULT_CHANNEL_2 = FAULT_CHANNEL_1 + 6,
     STATE_FAULTS = FAULT_CHANNEL_2 + 6
 };

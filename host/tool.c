@@ -34,6 +34,7 @@ static const char options[] =
     "  -io N           length of I/O memory, all zeros (256)\n"
     "  -io-image FILE  I/O memory\n"
     "  -cp N           address of the control block (0)\n"
+    "  -board          reset and power-up in its place: the board's bytes at FFFF6h name the control block\n"
     "  -channel N      channel that gets attention, 1 or 2 (1); for step twice: both, in this order\n"
     "  -lines N        sum of DRQ1 = 1, DRQ2 = 2, EXT1 = 4, EXT2 = 8, held throughout (0)\n"
     "  -limit N        most steps (1000)\n"

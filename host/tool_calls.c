@@ -129,10 +129,18 @@ static uint32_t step(uint8_t *state, struct tool_memory *m, uint32_t lines)
     return iop89_step(state, IOP89_STATE_LENGTH, m->sys, m->sys_len, m->io, m->io_len, lines);
 }
 
+/* Makes the state that the calls begin with, of CP or by reset and power-up; answers the number that refused it. */
+static unsigned make_state(const struct tool_order *order, uint8_t *state, struct tool_memory *m)
+{
+    if (!order->board) return IOP89_ANSWER_NUMBER(iop89_fresh(state, IOP89_STATE_LENGTH, order->cp));
+    iop89_reset(state, IOP89_STATE_LENGTH);
+    return IOP89_ANSWER_NUMBER(iop89_power_up(state, IOP89_STATE_LENGTH, m->sys, m->sys_len, m->io, m->io_len));
+}
+
 /* The state that a run leaves behind so many steps: the same calls once more, on a copy of its memory. */
 static void state_behind(const struct tool_order *order, struct tool_memory again, uint32_t steps, uint8_t *state)
 {
-    iop89_fresh(state, IOP89_STATE_LENGTH, order->cp);
+    make_state(order, state, &again);
     attend(state, &again, order->channel[0]);
     for (uint32_t i = 0; i < steps; i++) step(state, &again, order->lines);
 }
@@ -148,8 +156,10 @@ enum tool_status tool_run(const struct tool_order *order)
     uint8_t state[IOP89_STATE_LENGTH];
     if (order->channels > 1) tool_usage("run starts one channel", NULL);
     struct tool_memory memory = tool_load(order), again = tool_copy(memory);
-    uint32_t answer = iop89_run(memory.sys, memory.sys_len, memory.io, memory.io_len, order->cp, order->channel[0],
-                                order->lines, order->limit);
+    uint32_t answer = order->board ? iop89_board(memory.sys, memory.sys_len, memory.io, memory.io_len,
+                                                 order->channel[0], order->lines, order->limit)
+                                   : iop89_run(memory.sys, memory.sys_len, memory.io, memory.io_len, order->cp,
+                                               order->channel[0], order->lines, order->limit);
     unsigned number = IOP89_NUMBER(answer);
     if (was_started(number)) state_behind(order, again, IOP89_STEPS(answer), state);
     else iop89_fresh(state, IOP89_STATE_LENGTH, 0);
@@ -180,10 +190,20 @@ static unsigned step_lines(const struct tool_order *order, uint8_t *state, struc
     return IOP89_DONE;
 }
 
+/* Prints what a power-up found. */
+static void print_power_up(unsigned number, const uint8_t *state)
+{
+    if (number != IOP89_DONE) puts("power-up: refused");
+    else
+        printf("power-up: CP %05" PRIX32 ", SYSBUS bit 0 %u, SOC bit 0 %u, SOC bit 1 %u\n", iop89_cp(state),
+               state[IOP89_AT_SYSBUS], state[IOP89_AT_SOC], state[IOP89_AT_SOC_1]);
+}
+
 /* Makes the state and gives the attentions; answers the number that refused one of them. */
 static unsigned start(const struct tool_order *order, uint8_t *state, struct tool_memory *memory)
 {
-    unsigned number = IOP89_ANSWER_NUMBER(iop89_fresh(state, IOP89_STATE_LENGTH, order->cp));
+    unsigned number = make_state(order, state, memory);
+    if (order->board) print_power_up(number, state);
     for (unsigned i = 0; number == IOP89_DONE && i < order->channels; i++) {
         number = attend(state, memory, order->channel[i]);
         if (number == IOP89_DONE) printf("attention to channel %" PRIu32 ": accepted\n", order->channel[i]);

@@ -79,6 +79,11 @@ static int take_option(struct tool_order *order, char **words, uint32_t *at)
         order->source = true;
         return 1;
     }
+    if (strcmp(words[0], "-board") == 0) {
+        order->board = true;
+        return 1;
+    }
+    if (strcmp(words[0], "-cp") == 0) order->has_cp = true;
     if (place != NULL) *place = number_of(words[0], words[1]);
     else if (strcmp(words[0], "-at") == 0) *at = length_of(words[0], words[1]);
     else if (strcmp(words[0], "-from") == 0) order->from = length_of(words[0], words[1]);
@@ -113,6 +118,7 @@ void tool_read_order(struct tool_order *order, int count, char **words)
     if (at != UINT32_MAX) tool_usage("no file behind -at", NULL);
     if (order->files == 0) tool_usage("no file", NULL);
     if (order->io_image != NULL && order->io_length != UINT32_MAX) tool_usage("-io and -io-image", NULL);
+    if (order->board && order->has_cp) tool_usage("-board and -cp", NULL);
     if (order->channels == 0) order->channel[order->channels++] = 1;
 }
 

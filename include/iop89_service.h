@@ -10,8 +10,11 @@ extern "C" {
 #endif
 
 /* How many bytes a state has, and the version that its first byte holds: a layout with more fields has a higher one. */
-#define IOP89_STATE_LENGTH 76u
-#define IOP89_STATE_VERSION 1u
+#define IOP89_STATE_LENGTH 80u
+#define IOP89_STATE_VERSION 2u
+
+/* The number for an attention or a step before power-up. A state from a CP counts as powered up. */
+#define IOP89_NOT_POWERED_UP 13u
 
 /* The number for bytes that are no state: of another length or version, or with a mode or flag out of range. */
 #define IOP89_NO_STATE 17u
@@ -28,6 +31,15 @@ enum iop89_kind { IOP89_NONE = 0, IOP89_INSTRUCTION = 1, IOP89_TRANSFER = 2, IOP
  * 20 bits. Looks at the length alone, and at none of the bytes that stood there. */
 uint32_t iop89_fresh(uint8_t *state, size_t state_len, uint32_t cp);
 
+/* Makes the state after reset, in which only power-up is allowed: every attention and step is 13. Answers 0. Looks at
+ * the length alone, as iop89_fresh does. */
+uint32_t iop89_reset(uint8_t *state, size_t state_len);
+
+/* Powers the machine up: SYSBUS is read at FFFF6h of system memory, the configuration block's pointer at FFFF8h, SOC and
+ * CP in that block, and BUSY of channel 1 is cleared. Answers 11, or 2 where one of these eleven bytes is not lent;
+ * otherwise the state is the fresh one of the CP found, whatever it was before, with SYSBUS bit 0 and SOC bits 0 and 1. */
+uint32_t iop89_power_up(uint8_t *state, size_t state_len, uint8_t *sys, size_t sys_len, uint8_t *io, size_t io_len);
+
 /* Gives a channel one attention. */
 uint32_t iop89_attention(uint8_t *state, size_t state_len, uint8_t *sys, size_t sys_len, uint8_t *io, size_t io_len,
                          uint32_t channel);
@@ -36,7 +48,13 @@ uint32_t iop89_attention(uint8_t *state, size_t state_len, uint8_t *sys, size_t 
 uint32_t iop89_step(uint8_t *state, size_t state_len, uint8_t *sys, size_t sys_len, uint8_t *io, size_t io_len,
                     uint32_t lines);
 
-/* Of all three: 17 comes before every other number, and a refused call changes no byte, but for iop89_fresh with 10.
+/* The run of iop89.h with reset and power-up in the place of a CP: 12, 11, power-up's 2, then one attention and steps.
+ * The answer is iop89_run's. */
+uint32_t iop89_board(uint8_t *sys, size_t sys_len, uint8_t *io, size_t io_len, uint32_t channel, uint32_t lines,
+                     uint32_t limit);
+
+/* Of the calls on a state: 17 comes before every other number, and a refused call changes no byte, but for iop89_fresh
+ * with 10.
  * The buffers must not overlap each other, and no pointer may be null, also where its length is 0. */
 
 /* ---- Where the bytes of a state are; numbers stand little end first ---- */
@@ -46,9 +64,16 @@ uint32_t iop89_step(uint8_t *state, size_t state_len, uint8_t *sys, size_t sys_l
 #define IOP89_AT_CP 1u
 #define IOP89_AT_LAST 5u
 
+/* What the board set up, a byte each, 0 or 1: powered up; SYSBUS bit 0 and SOC bit 0, the physical widths of the system
+ * bus and of the I/O bus, 1 for 16 bits; and SOC bit 1. */
+#define IOP89_AT_POWERED 6u
+#define IOP89_AT_SYSBUS 7u
+#define IOP89_AT_SOC 8u
+#define IOP89_AT_SOC_1 9u
+
 /* Where the block of a channel, 1 or 2, starts, and its length. */
 #define IOP89_BLOCK_LENGTH 35u
-#define IOP89_AT_CHANNEL(channel) (6u + IOP89_BLOCK_LENGTH * ((channel) - 1u))
+#define IOP89_AT_CHANNEL(channel) (10u + IOP89_BLOCK_LENGTH * ((channel) - 1u))
 
 /* The registers of a channel, by their offsets in its block. */
 enum iop89_register {
@@ -141,6 +166,7 @@ static inline const char *iop89_service_words(unsigned number)
     case IOP89_NOT_RUNNING: return "suspend, and the channel does not run";
     case IOP89_BAD_POINTER: return "a pointer, PP or CP of the state is over 1,048,575";
     case IOP89_BAD_ARGUMENT: return "the channel is neither 1 nor 2, or the line number over 15";
+    case IOP89_NOT_POWERED_UP: return "not powered up";
     case IOP89_NO_STATE: return "the bytes are no state";
     default: return iop89_words(number);
     }
