@@ -1,24 +1,25 @@
-// One field of a state: a byte, a word, a long number of four bytes, a truth value or a mode, read from bytes and put
-// into them; beyond the end a read gives 0 and a store does nothing.
+// One field of a state: a byte, a word, a long number of four bytes, a truth value or a mode, read from bytes that have
+// it and put into them.
 use machine::Mode;
 ghost use mathlib.Core.Path.{_≡_};
 ghost use mathlib.Core.List.{[], _∷_};
-ghost use Prim.Native.Nat.{_≤_};
-ghost use lib.ListN.{getD};
+ghost use Prim.Native.Nat.{_+_, _<_, _≤_};
+ghost use lib.ListN.{length, getD};
 ghost use lib.Seq.{sets};
 ghost use Rattle.service.specs.Fields as Fields;
 ghost use Rattle.service.specs.Fields.{littleEnd, littleIn, flagOf, flagIn, isFlag, modeIn, isMode};
 
 // The byte at an offset.
-pub fn byte(bytes: &[u8], at: usize) -> u8
+pub(crate) fn byte(bytes: &[u8], at: usize) -> u8
+    requires { ⌜ at < length (now bytes) ⌝ }
     ensures { λ r. ⌜ r ≡ getD (now (bytes .entry)) at 0 ⌝ }
 {
-    if at < bytes.len() { bytes[at] } else { 0 }
+    bytes[at]
 }
 
 // The word at an offset.
 pub(crate) fn word(bytes: &[u8], at: usize) -> u16
-    requires { ⌜ at ≤ 126 ⌝ }
+    requires { ⌜ at + 2 ≤ length (now bytes) ⌝ }
     ensures { λ r. ⌜ r ≡ littleIn 2 (now (bytes .entry)) at ⌝ }
 {
     words::word(byte(bytes, at), byte(bytes, at + 1))
@@ -26,28 +27,31 @@ pub(crate) fn word(bytes: &[u8], at: usize) -> u16
 
 // The long number at an offset.
 pub(crate) fn long(bytes: &[u8], at: usize) -> u32
-    requires { ⌜ at ≤ 124 ⌝ }
+    requires { ⌜ at + 4 ≤ length (now bytes) ⌝ }
     ensures { λ r. ⌜ r ≡ littleIn 4 (now (bytes .entry)) at ⌝ }
 {
     word(bytes, at) as u32 + word(bytes, at + 2) as u32 * 65536
 }
 
 // The truth value at an offset.
-pub fn flag(bytes: &[u8], at: usize) -> bool
+pub(crate) fn flag(bytes: &[u8], at: usize) -> bool
+    requires { ⌜ at < length (now bytes) ⌝ }
     ensures { λ r. ⌜ r ≡ flagIn (now (bytes .entry)) at ⌝ }
 {
     byte(bytes, at) == 1
 }
 
 // Whether the byte at an offset stands for a truth value.
-pub fn is_flag(bytes: &[u8], at: usize) -> bool
+pub(crate) fn is_flag(bytes: &[u8], at: usize) -> bool
+    requires { ⌜ at < length (now bytes) ⌝ }
     ensures { λ r. ⌜ r ≡ isFlag (now (bytes .entry)) at ⌝ }
 {
     byte(bytes, at) < 2
 }
 
 // The mode at an offset.
-pub fn mode(bytes: &[u8], at: usize) -> Mode
+pub(crate) fn mode(bytes: &[u8], at: usize) -> Mode
+    requires { ⌜ at < length (now bytes) ⌝ }
     ensures { λ r. ⌜ r ≡ modeIn (now (bytes .entry)) at ⌝ }
 {
     match byte(bytes, at) {
@@ -58,24 +62,24 @@ pub fn mode(bytes: &[u8], at: usize) -> Mode
 }
 
 // Whether the byte at an offset stands for a mode.
-pub fn is_mode(bytes: &[u8], at: usize) -> bool
+pub(crate) fn is_mode(bytes: &[u8], at: usize) -> bool
+    requires { ⌜ at < length (now bytes) ⌝ }
     ensures { λ r. ⌜ r ≡ isMode (now (bytes .entry)) at ⌝ }
 {
     byte(bytes, at) < 3
 }
 
 // A byte put at an offset.
-pub fn put(bytes: &mut [u8], at: usize, v: u8)
+pub(crate) fn put(bytes: &mut [u8], at: usize, v: u8)
+    requires { ⌜ at < length (now bytes) ⌝ }
     ensures { λ r. ⌜ now (bytes .exit) ≡ sets (now (bytes .entry)) at (v ∷ []) ⌝ }
 {
-    if at < bytes.len() {
-        bytes[at] = v;
-    }
+    bytes[at] = v;
 }
 
 // A word put at an offset.
 pub(crate) fn put_word(bytes: &mut [u8], at: usize, v: u16)
-    requires { ⌜ at ≤ 126 ⌝ }
+    requires { ⌜ at + 2 ≤ length (now bytes) ⌝ }
     ensures { λ r. ⌜ now (bytes .exit) ≡ sets (now (bytes .entry)) at (littleEnd 2 v) ⌝ }
 {
     put(bytes, at, words::low_byte(v));
@@ -84,7 +88,7 @@ pub(crate) fn put_word(bytes: &mut [u8], at: usize, v: u16)
 
 // A long number put at an offset.
 pub(crate) fn put_long(bytes: &mut [u8], at: usize, v: u32)
-    requires { ⌜ at ≤ 124 ⌝ }
+    requires { ⌜ at + 4 ≤ length (now bytes) ⌝ }
     ensures { λ r. ⌜ now (bytes .exit) ≡ sets (now (bytes .entry)) at (littleEnd 4 v) ⌝ }
 {
     put_word(bytes, at, (v % 65536) as u16);

@@ -5,10 +5,11 @@ use machine::Channel;
 use machine::State;
 use memory::Pointer;
 ghost use mathlib.Core.Path.{_≡_};
-ghost use Prim.Native.Nat.{_≤_};
+ghost use Prim.Native.Nat.{_+_, _≤_};
+ghost use lib.ListN.{length};
 ghost use lib.Seq.{sets};
 ghost use Rattle.service.specs.Conditions.{ChannelFits};
-ghost use Rattle.service.specs.Layout.{pointerBytes, pointersBytes, numbersBytes, marksBytes, channelBytes, boardBytes, bytesOf, pointerIn, channelIn, boardIn, stateIn, isBlock, isBoard, isState};
+ghost use Rattle.service.specs.Layout.{pointerBytes, pointersBytes, numbersBytes, marksBytes, channelBytes, boardBytes, bytesOf, pointerIn, channelIn, boardIn, stateIn, isBlock, isBoard, isState, stateLength};
 
 // Where the block of channel 1 starts.
 const FIRST_AT: usize = 10;
@@ -18,7 +19,7 @@ const SECOND_AT: usize = 45;
 
 // The pointer at an offset.
 fn pointer_in(bytes: &[u8], at: usize) -> Pointer
-    requires { ⌜ at ≤ 100 ⌝ }
+    requires { ⌜ at + 5 ≤ length (now bytes) ⌝ }
     ensures { λ r. ⌜ r ≡ pointerIn (now (bytes .entry)) at ⌝ }
 {
     Pointer {
@@ -29,7 +30,7 @@ fn pointer_in(bytes: &[u8], at: usize) -> Pointer
 
 // The channel whose block starts at an offset.
 fn channel_in(bytes: &[u8], at: usize) -> Channel
-    requires { ⌜ at ≤ 50 ⌝ }
+    requires { ⌜ at + 35 ≤ length (now bytes) ⌝ }
     ensures { λ r. ⌜ r ≡ channelIn (now (bytes .entry)) at ⌝ }
 {
     Channel {
@@ -50,6 +51,7 @@ fn channel_in(bytes: &[u8], at: usize) -> Channel
 
 // What the board set up.
 fn board_in(bytes: &[u8]) -> Board
+    requires { ⌜ 10 ≤ length (now bytes) ⌝ }
     ensures { λ r. ⌜ r ≡ boardIn (now (bytes .entry)) ⌝ }
 {
     Board {
@@ -61,7 +63,8 @@ fn board_in(bytes: &[u8]) -> Board
 }
 
 // The state that bytes stand for.
-pub fn state_in(bytes: &[u8]) -> State
+pub(crate) fn state_in(bytes: &[u8]) -> State
+    requires { ⌜ length (now bytes) ≡ stateLength ⌝ }
     ensures { λ r. ⌜ r ≡ stateIn (now (bytes .entry)) ⌝ }
 {
     State {
@@ -75,7 +78,7 @@ pub fn state_in(bytes: &[u8]) -> State
 
 // Whether the flags and the mode of a block are such.
 fn is_block(bytes: &[u8], at: usize) -> bool
-    requires { ⌜ at ≤ 50 ⌝ }
+    requires { ⌜ at + 35 ≤ length (now bytes) ⌝ }
     ensures { λ r. ⌜ r ≡ isBlock (now (bytes .entry)) at ⌝ }
 {
     fields::is_flag(bytes, at + 4)
@@ -88,6 +91,7 @@ fn is_block(bytes: &[u8], at: usize) -> bool
 
 // Whether what the board set up is four truth values.
 fn is_board(bytes: &[u8]) -> bool
+    requires { ⌜ 10 ≤ length (now bytes) ⌝ }
     ensures { λ r. ⌜ r ≡ isBoard (now (bytes .entry)) ⌝ }
 {
     fields::is_flag(bytes, 6)
@@ -100,8 +104,10 @@ fn is_board(bytes: &[u8]) -> bool
 pub fn is_state(bytes: &[u8]) -> bool
     ensures { λ r. ⌜ r ≡ isState (now (bytes .entry)) ⌝ }
 {
-    (bytes.len() == 80)
-        & (fields::byte(bytes, 0) == 2)
+    if bytes.len() != 80 {
+        return false;
+    }
+    (fields::byte(bytes, 0) == 2)
         & fields::is_flag(bytes, 5)
         & is_board(bytes)
         & is_block(bytes, FIRST_AT)
@@ -110,7 +116,7 @@ pub fn is_state(bytes: &[u8]) -> bool
 
 // A pointer put at an offset.
 fn put_pointer(bytes: &mut [u8], at: usize, p: Pointer)
-    requires { ⌜ at ≤ 100 ⌝ }
+    requires { ⌜ at + 5 ≤ length (now bytes) ⌝ }
     ensures { λ r. ⌜ now (bytes .exit) ≡ sets (now (bytes .entry)) at (pointerBytes p) ⌝ }
 {
     fields::put_long(bytes, at, p.address);
@@ -119,7 +125,7 @@ fn put_pointer(bytes: &mut [u8], at: usize, p: Pointer)
 
 // The four pointers of a channel put at an offset.
 fn put_pointers(bytes: &mut [u8], at: usize, c: Channel)
-    requires { ⌜ at ≤ 50 ⌝ }
+    requires { ⌜ at + 20 ≤ length (now bytes) ⌝ }
     ensures { λ r. ⌜ now (bytes .exit) ≡ sets (now (bytes .entry)) at (pointersBytes c) ⌝ }
 {
     put_pointer(bytes, at, c.ga);
@@ -130,7 +136,7 @@ fn put_pointers(bytes: &mut [u8], at: usize, c: Channel)
 
 // PP and the registers of sixteen bits put at an offset.
 fn put_numbers(bytes: &mut [u8], at: usize, c: Channel)
-    requires { ⌜ at ≤ 100 ⌝ }
+    requires { ⌜ at + 12 ≤ length (now bytes) ⌝ }
     ensures { λ r. ⌜ now (bytes .exit) ≡ sets (now (bytes .entry)) at (numbersBytes c) ⌝ }
 {
     fields::put_long(bytes, at, c.pp);
@@ -142,7 +148,7 @@ fn put_numbers(bytes: &mut [u8], at: usize, c: Channel)
 
 // PSW, the mode and the armed mark put at an offset.
 fn put_marks(bytes: &mut [u8], at: usize, c: Channel)
-    requires { ⌜ at ≤ 100 ⌝ }
+    requires { ⌜ at + 3 ≤ length (now bytes) ⌝ }
     ensures { λ r. ⌜ now (bytes .exit) ≡ sets (now (bytes .entry)) at (marksBytes c) ⌝ }
 {
     let mode = c.mode;
@@ -153,7 +159,7 @@ fn put_marks(bytes: &mut [u8], at: usize, c: Channel)
 
 // A channel's block put at an offset; its registers have the widths of their types.
 fn put_channel(bytes: &mut [u8], at: usize, c: Channel)
-    requires { ⌜ at ≤ 50 ⌝ }
+    requires { ⌜ at + 35 ≤ length (now bytes) ⌝ }
     ensures fits { λ r. ⌜ ChannelFits c ⌝ }
     ensures put { λ r. ⌜ now (bytes .exit) ≡ sets (now (bytes .entry)) at (channelBytes c) ⌝ }
 {
@@ -164,6 +170,7 @@ fn put_channel(bytes: &mut [u8], at: usize, c: Channel)
 
 // What the board set up put at its place.
 fn put_board(bytes: &mut [u8], b: Board)
+    requires { ⌜ 10 ≤ length (now bytes) ⌝ }
     ensures { λ r. ⌜ now (bytes .exit) ≡ sets (now (bytes .entry)) 6 (boardBytes b) ⌝ }
 {
     fields::put(bytes, 6, fields::flag_byte(b.powered));
@@ -173,7 +180,8 @@ fn put_board(bytes: &mut [u8], b: Board)
 }
 
 // A state put into bytes, from the first on; it has the widths that let it come back whole.
-pub fn put_state(bytes: &mut [u8], s: State)
+pub(crate) fn put_state(bytes: &mut [u8], s: State)
+    requires { ⌜ length (now bytes) ≡ stateLength ⌝ }
     ensures put { λ r. ⌜ now (bytes .exit) ≡ sets (now (bytes .entry)) 0 (bytesOf s) ⌝ }
     ensures whole { λ r. ⌜ stateIn (bytesOf s) ≡ s ⌝ }
 {

@@ -7,7 +7,7 @@ use mathlib.Core.Path.{sym, ap, _∙_}
 use Rattle.machine.specs.declared.State.{State}
 use Rattle.memory.specs.Buffers.{buffers}
 use Rattle.power.specs.Power.{powerUpOf}
-use Rattle.service.proofs.CallLaws.{power-none, power-served}
+use Rattle.service.proofs.CallLaws.{state-length, power-none, power-served}
 use Rattle.service.proofs.iop89_power_up.Statement.{statement}
 use Rattle.service.proofs.iop89_power_up.Tie as tie
 
@@ -23,13 +23,13 @@ returns c =
     power-none (now (a .state)) (buffers (now (a .sys)) (now (a .io))) (sym (c .before .is-state .ensures) ∙ not-true _ (c .if1 .taken))
 
 state-in-requires : tie.Need-state-in-requires
-state-in-requires c κs = search needs
+state-in-requires c κs = state-length _ (sym (c .before .before .is-state .ensures) ∙ not-false _ (c .before .if1 .left))
 
 power-up-requires : tie.Need-power-up-requires
 power-up-requires c κs = search needs
 
 put-state-requires : tie.Need-put-state-requires
-put-state-requires c κs = search needs
+put-state-requires c κs = state-length _ (sym (c .before .before .before .before .before .before .before .before .before .before .before .before .is-state .ensures) ∙ not-false _ (c .before .before .before .before .before .before .before .before .before .before .before .if1 .left))
 
 answer-requires : tie.Need-answer-requires
 answer-requires c κs = search needs

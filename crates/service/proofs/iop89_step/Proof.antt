@@ -7,7 +7,7 @@ use mathlib.Core.Path.{sym, ap, _∙_}
 use Rattle.machine.specs.declared.State.{State}
 use Rattle.memory.specs.Buffers.{buffers}
 use Rattle.step.specs.Step.{stepOf}
-use Rattle.service.proofs.CallLaws.{step-none, step-served}
+use Rattle.service.proofs.CallLaws.{state-length, step-none, step-served}
 use Rattle.service.proofs.iop89_step.Statement.{statement}
 use Rattle.service.proofs.iop89_step.Tie as tie
 
@@ -23,13 +23,13 @@ returns c =
     step-none (now (a .state)) (buffers (now (a .sys)) (now (a .io))) (a .lines) (sym (c .before .is-state .ensures) ∙ not-true _ (c .if1 .taken))
 
 state-in-requires : tie.Need-state-in-requires
-state-in-requires c κs = search needs
+state-in-requires c κs = state-length _ (sym (c .before .before .is-state .ensures) ∙ not-false _ (c .before .if1 .left))
 
 step-requires : tie.Need-step-requires
 step-requires c κs = search needs
 
 put-state-requires : tie.Need-put-state-requires
-put-state-requires c κs = search needs
+put-state-requires c κs = state-length _ (sym (c .before .before .before .before .before .before .before .before .before .before .before .before .is-state .ensures) ∙ not-false _ (c .before .before .before .before .before .before .before .before .before .before .before .if1 .left))
 
 kind-number-requires : tie.Need-kind-number-requires
 kind-number-requires c κs = search needs

@@ -1,9 +1,6 @@
 -- `service::fields::byte` meets its contract.
 -- Assumes nothing.
 use borrow.Author.Needs.{needs}
-use denote.Ref.{now}
-use lib.ListN.{List·getD-eq-default}
-use mathlib.Core.Path.{sym}
 use Rattle.service.proofs.fields.byte.Statement.{statement}
 use Rattle.service.proofs.fields.byte.Tie as tie
 
@@ -13,8 +10,5 @@ shared-slice-read-result c = search needs
 returns : tie.Need-returns
 returns c = search needs
 
-returns-2 : tie.Need-returns-2
-returns-2 c = sym (List·getD-eq-default (now (c .before .args .bytes)) 0 (c .if1 .left))
-
 pub byte-spec : {M : Type 1} → statement M
-byte-spec = tie.close (tie.spec shared-slice-read-result returns returns-2)
+byte-spec = tie.close (tie.spec shared-slice-read-result returns)
