@@ -11,9 +11,11 @@
 /* Calls after which everything that scripts can meet must have been met. */
 #define CALLS_TO_MEET_ALL 20000u
 
-/* The numbers that a fresh state, an attention and a step can answer. */
+/* The numbers that a fresh state, a power-up, an attention and a step can answer. */
 #define MAKE_NUMBERS (1u << EMU_DONE | 1u << EMU_BAD_POINTER)
-#define EARLY_NUMBERS (1u << EMU_BAD_POINTER | 1u << EMU_BAD_BUFFER | 1u << EMU_BAD_ARGUMENT)
+#define POWER_NUMBERS (1u << EMU_DONE | 1u << EMU_BEYOND_LENT_MEMORY | 1u << EMU_BAD_BUFFER)
+#define EARLY_NUMBERS \
+    (1u << EMU_BAD_POINTER | 1u << EMU_BAD_BUFFER | 1u << EMU_BAD_ARGUMENT | 1u << EMU_NOT_POWERED_UP)
 #define CA_NUMBERS                                                                                                    \
     (EARLY_NUMBERS | 1u << EMU_DONE | 1u << EMU_BEYOND_LENT_MEMORY | 1u << EMU_BAD_COMMAND | 1u << EMU_NOT_SUSPENDED | \
      1u << EMU_ALREADY_RUNNING | 1u << EMU_NOT_RUNNING)
@@ -152,7 +154,8 @@ static int where(unsigned long asked)
 /* Prints how often each call was made. */
 static void print_calls(const struct tally *t)
 {
-    static const char *const names[SCRIPT_CALLS] = {"make", "put", "set", "ca", "step", "dump", "show", "list", "prom"};
+    static const char *const names[SCRIPT_CALLS] = {"make", "put",  "set",   "ca",    "step", "dump",
+                                                    "show", "list", "reset", "power", "prom"};
     puts("calls of the scripts:");
     for (unsigned i = 0; i < SCRIPT_CALLS; i++) print_count(names[i], t->call[i]);
     print_count("? (no call, or one that is shut out)", t->no_call);
@@ -211,6 +214,7 @@ static int met(const char *tally_name)
     load_tally(&t, tally_name);
     print_calls(&t);
     print_numbers("fresh states", t.make, MAKE_NUMBERS);
+    print_numbers("power-ups", t.power, POWER_NUMBERS);
     print_numbers("attentions", t.ca, CA_NUMBERS);
     print_numbers("steps", t.step, STEP_NUMBERS);
     print_steps(&t);

@@ -78,6 +78,8 @@ const struct script_register script_registers[SCRIPT_REGISTERS] = {
     [SET_GB_TAG] = {"gb.t", 0, 1, false},     [SET_GC_TAG] = {"gc.t", 0, 1, false},
     [SET_TP_TAG] = {"tp.t", 0, 1, false},     [SET_ARM] = {"arm", 0, 1, false},
     [SET_MODE] = {"mode", 0, 2, false},       [SET_LAST] = {"last", 1, 2, true},
+    [SET_UP] = {"up", 0, 1, true},            [SET_SYSBUS] = {"sysbus", 0, 1, true},
+    [SET_SOC] = {"soc", 0, 1, true},          [SET_GRANT] = {"grant", 0, 1, true},
 };
 
 /* The register of this name, or SCRIPT_REGISTERS. */
@@ -113,6 +115,10 @@ static void set_register(struct session *s, uint32_t channel, unsigned which, ui
     case SET_ARM: ch->armed = value != 0; break;
     case SET_MODE: ch->mode = (enum emu_mode)value; break;
     case SET_LAST: s->state.last = value; break;
+    case SET_UP: s->state.powered = value != 0; break;
+    case SET_SYSBUS: s->state.system_wide = value != 0; break;
+    case SET_SOC: s->state.io_wide = value != 0; break;
+    case SET_GRANT: s->state.soc_1 = value != 0; break;
     default: *session_address(s, channel, which) = value; break;
     }
 }
@@ -213,6 +219,25 @@ static unsigned call_set(struct session *s, const struct text *word, FILE *out)
     return 1;
 }
 
+/* reset */
+static unsigned call_reset(struct session *s, const struct text *word, FILE *out)
+{
+    (void)word;
+    emu_reset(&s->state);
+    fputs("reset 0\n", out);
+    return 1;
+}
+
+/* power */
+static unsigned call_power(struct session *s, const struct text *word, FILE *out)
+{
+    (void)word;
+    s->answered = emu_power_up(&s->state, &s->memory);
+    s->tally.power[s->answered]++;
+    fprintf(out, "power %u\n", s->answered);
+    return 1;
+}
+
 /* ca CHANNEL */
 static unsigned call_ca(struct session *s, const struct text *word, FILE *out)
 {
@@ -277,6 +302,8 @@ static unsigned call_dump(struct session *s, const struct text *word, FILE *out)
     print_channel(s, 1, out);
     print_channel(s, 2, out);
     fprintf(out, "cp %08" PRIx32 " last %u", s->state.cp, s->state.last);
+    fprintf(out, " up %d sysbus %d", s->state.powered, s->state.system_wide);
+    fprintf(out, " soc %d grant %d", s->state.io_wide, s->state.soc_1);
     print_buffer("sys", buffer_of(s, 0), out);
     print_buffer("io", buffer_of(s, 1), out);
     fputc('\n', out);
@@ -331,7 +358,8 @@ static const struct {
 } calls[SCRIPT_LINES] = {
     [CALL_MAKE] = {"make", 4, call_make}, [CALL_PUT] = {"put", 4, call_put},    [CALL_SET] = {"set", 4, call_set},
     [CALL_CA] = {"ca", 2, call_ca},       [CALL_STEP] = {"step", 2, call_step}, [CALL_DUMP] = {"dump", 1, call_dump},
-    [CALL_SHOW] = {"show", 3, call_show}, [CALL_LIST] = {"list", 4, call_list},
+    [CALL_SHOW] = {"show", 3, call_show}, [CALL_LIST] = {"list", 4, call_list}, [CALL_RESET] = {"reset", 1, call_reset},
+    [CALL_POWER] = {"power", 1, call_power},
 };
 
 bool session_opens_file(const char *line, size_t length)

@@ -16,7 +16,8 @@ enum { SCRIPT_LIST_LIMIT = 0x400, SCRIPT_LIST_LINE = 28 };
 
 /* The calls, in the order of their table; `prom` stands behind them, since the lines behind it belong to it. */
 enum script_call {
-    CALL_MAKE, CALL_PUT, CALL_SET, CALL_CA, CALL_STEP, CALL_DUMP, CALL_SHOW, CALL_LIST, SCRIPT_LINES,
+    CALL_MAKE, CALL_PUT, CALL_SET, CALL_CA, CALL_STEP, CALL_DUMP, CALL_SHOW, CALL_LIST, CALL_RESET,
+    CALL_POWER, SCRIPT_LINES,
     CALL_PROM = SCRIPT_LINES, SCRIPT_CALLS
 };
 
@@ -24,7 +25,8 @@ enum script_call {
 enum script_name {
     SET_GA, SET_GB, SET_GC, SET_TP, SET_PP, SET_CP, SCRIPT_ADDRESSES,
     SET_BC = SCRIPT_ADDRESSES, SET_IX, SET_CC, SET_MC, SET_PSW,
-    SET_GA_TAG, SET_GB_TAG, SET_GC_TAG, SET_TP_TAG, SET_ARM, SET_MODE, SET_LAST, SCRIPT_REGISTERS
+    SET_GA_TAG, SET_GB_TAG, SET_GC_TAG, SET_TP_TAG, SET_ARM, SET_MODE, SET_LAST,
+    SET_UP, SET_SYSBUS, SET_SOC, SET_GRANT, SCRIPT_REGISTERS
 };
 
 /* A register's name, the values that it takes, and whether it is shared (channel 0). */
@@ -41,7 +43,7 @@ extern const struct script_register script_registers[SCRIPT_REGISTERS];
 struct tally {
     unsigned long scripts, calls, no_call;
     unsigned long call[SCRIPT_CALLS];
-    unsigned long make[EMU_NUMBERS], ca[EMU_NUMBERS], step[EMU_NUMBERS], prom[HEX_NUMBERS];
+    unsigned long make[EMU_NUMBERS], power[EMU_NUMBERS], ca[EMU_NUMBERS], step[EMU_NUMBERS], prom[HEX_NUMBERS];
     unsigned long listed_instructions, listed_data, started;
     unsigned long kind[2][3];
     unsigned long stepped_under[16];
@@ -49,7 +51,7 @@ struct tally {
     struct emu_coverage coverage;
 };
 
-/* One machine with its buffers, and what its last attention or step answered. */
+/* One machine with its buffers, and what its last power-up, attention or step answered. */
 struct session {
     struct emu_state state;
     struct emu_memory memory;

@@ -140,13 +140,14 @@ static uint32_t unsound_address(struct writer *w)
     return chance(&w->d, 800) ? ONE_OF(&w->d, odd) : (uint32_t)roll(&w->d) | 0x100000u;
 }
 
-/* Any value that a register takes, an address mostly one of lent memory. */
+/* Any value that a register takes, an address mostly one of lent memory; a machine stays powered up. */
 static uint32_t some_value(struct writer *w, unsigned which)
 {
     const struct script_register *r = &script_registers[which];
     if (which == SET_CP) return choose_cp(&w->d, w->s.memory.sys_len) & MASK20;
     if (which < SCRIPT_ADDRESSES) return chance(&w->d, 700) ? data_place(w, false) : below(&w->d, EMU_SYSTEM_LIMIT);
     if (which == SET_CC) return transfer_cc(&w->d);
+    if (which == SET_UP) return 1;
     return r->least + below(&w->d, r->most - r->least + 1);
 }
 
@@ -367,6 +368,37 @@ static void steps(struct writer *w)
     }
 }
 
+/* Writes what a board holds for power-up near the end of the megabyte, and the block that it points to, where lent. */
+static void place_board(struct writer *w)
+{
+    uint32_t block = data_place(w, false);
+    uint8_t top[6], words[6];
+    fill(&w->d, top, sizeof top);
+    fill(&w->d, words, sizeof words);
+    if (chance(&w->d, 500)) top[0] = (uint8_t)below(&w->d, 256);
+    if (chance(&w->d, 500)) words[0] = (uint8_t)below(&w->d, 256);
+    as_doubleword(&w->d, block, top + 2);
+    as_doubleword(&w->d, choose_cp(&w->d, w->s.memory.sys_len), words + 2);
+    place(w, false, 0xFFFF6, top, sizeof top);
+    place(w, false, block, words, sizeof words);
+}
+
+/* Calls a machine that is not powered up, by a reset or by its mark, and powers it up; mends it where that is refused. */
+static void start_over(struct writer *w)
+{
+    if (chance(&w->d, 700)) say(w, "reset");
+    else set(w, 0, SET_UP, 0);
+    for (unsigned i = 1 + below(&w->d, 3); i > 0; i--) {
+        if (chance(&w->d, 500)) say(w, "ca %u", (unsigned)some_channel(w));
+        else step(w, below(&w->d, 18));
+    }
+    if (chance(&w->d, 900)) place_board(w);
+    say(w, "power");
+    if (!w->s.state.powered) set(w, 0, SET_UP, 1);
+    start_again(w, some_channel(w));
+    if (chance(&w->d, 200)) say(w, "power");
+}
+
 /* Shows bytes of a buffer: anywhere, across its end, or far behind it. */
 static void show(struct writer *w)
 {
@@ -434,7 +466,9 @@ static void say_no_call(struct writer *w)
         "ca 123456789", "ca 1,", "ca1", "step", "step 0 0", "step 0.", "step -1", "stepp 0", "ste 0", "dump 1", "Dump",
         "show", "show 0", "show 2 0", "show 0 0 0", "show 0 123456789", " # no comment", "hello", "?", "0",
         "list", "list 0 0", "list 2 0 1", "list 0 0 0", "list 0 0 401", "list 0 0 1 0", "list 0 ffffffff 1",
-        "list 0 0 g", "List 0 0 1", "prom 0", "Prom", "proms", "end", "end 0", ":00000001FF",
+        "list 0 0 g", "List 0 0 1", "reset 0", "Reset", "resets", "rese", "power 1", "POWER", "powerup", "power-up",
+        "set 1 up 1", "set 0 up 2", "set 0 sysbus 2", "set 2 soc 0", "set 0 grant 10", "set 0 grants 1",
+        "set 0 sysbuss 1", "prom 0", "Prom", "proms", "end", "end 0", ":00000001FF",
         "dump\t", "\tdump", "ca\t1", "dump\r\r", "\rstep 1", "ca\r1", "\r\r", "\t", "ca \xC3\xA9", "a b c d e f g h",
     };
     perform(w, ONE_OF(&w->d, lines));
@@ -445,7 +479,8 @@ static void say_damaged(struct writer *w)
 {
     static const char *const calls[] = {"make 200 80 10", "put 0 0 0011", "put 1 7f 0A", "set 1 ga 12345",
                                         "set 2 tp.t 1",   "set 0 last 1", "set 0 cp 0",  "set 2 psw 44",
-                                        "ca 1",           "step 3",       "dump",        "show 0 0"};
+                                        "ca 1",           "step 3",       "dump",        "show 0 0",
+                                        "reset",          "power",        "set 0 up 1",  "set 0 sysbus 1"};
     char line[32], put_in[] = "0123456789abcdefgABCDEFG xyz#.-\t?";
     size_t length = (size_t)snprintf(line, sizeof line, "%s", ONE_OF(&w->d, calls));
     line[below(&w->d, length)] = put_in[below(&w->d, sizeof put_in - 1)];
@@ -457,17 +492,18 @@ static void say_damaged(struct writer *w)
 static void go_on(struct writer *w)
 {
     unsigned kind = below(&w->d, 1000);
-    if (kind < 320) steps(w);
-    else if (kind < 460) give_command(w);
-    else if (kind < 490) give_odd_attention(w);
-    else if (kind < 570) set_any(w);
-    else if (kind < 600) go_unsound(w);
-    else if (kind < 700) transfer(w);
-    else if (kind < 820) try_instructions(w, some_channel(w));
-    else if (kind < 840) show(w);
-    else if (kind < 855) put_at_end(w);
-    else if (kind < 890) list(w);
-    else if (kind < 935) load(w);
+    if (kind < 260) steps(w);
+    else if (kind < 390) give_command(w);
+    else if (kind < 420) give_odd_attention(w);
+    else if (kind < 500) set_any(w);
+    else if (kind < 530) go_unsound(w);
+    else if (kind < 630) transfer(w);
+    else if (kind < 750) try_instructions(w, some_channel(w));
+    else if (kind < 770) show(w);
+    else if (kind < 785) put_at_end(w);
+    else if (kind < 820) list(w);
+    else if (kind < 890) load(w);
+    else if (kind < 910) start_over(w);
     else if (kind < 955) meet_slots(w);
     else if (kind < 970) say_damaged(w);
     else say_no_call(w);
@@ -531,6 +567,7 @@ static void use_machine(struct writer *w)
         if (chance(&w->d, 850)) start(w, channel);
     }
     if (w->s.memory.sys_len > EMU_SYSTEM_LIMIT) load(w);
+    if (w->s.memory.sys_len >= EMU_SYSTEM_LIMIT || w->s.memory.io_len > EMU_IO_LIMIT) start_over(w);
     while (w->left > end) go_on(w);
     perform(w, "dump");
 }

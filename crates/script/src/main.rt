@@ -42,6 +42,8 @@ fn lent_after(call: Call, lent: Lent) -> Lent
         Call::Show(_, _) => lent,
         Call::Listing(_, _, _) => lent,
         Call::Load => lent,
+        Call::Reset => lent,
+        Call::PowerUp => lent,
     }
 }
 

@@ -11,13 +11,14 @@ use Rattle.memory.specs.Buffers.{Buffers, buffers}
 use Rattle.machine.specs.declared.State.{State}
 use Rattle.machine.specs.States.{freshOf}
 use Rattle.attention.specs.Attention.{attentionOf}
+use Rattle.power.specs.Power.{powerUpOf}
 use Rattle.step.specs.Step.{stepOf}
 use Rattle.notation.specs.Characters.{ascii}
 use Rattle.prom.specs.Load.{loadOf}
 use Rattle.page.specs.Pages.{page, Behind, Printed}
 use Rattle.page.proofs.PageLaws.{printed, nothing-behind}
 use Rattle.script_text.specs.declared.text.Call.{Call}
-use Rattle.script_text.specs.declared.text.Call.the-variants.{Nothing, Unknown, Make, Put, Set, Attention, Step, Dump, Show, Listing, Load}
+use Rattle.script_text.specs.declared.text.Call.the-variants.{Nothing, Unknown, Make, Put, Set, Attention, Step, Dump, Show, Listing, Load, Reset, PowerUp}
 use Rattle.script_lines.proofs.LengthLaws.{answer-short, stepped-short, loaded-short, dump-short, shown-short}
 use Rattle.script_answers.specs.Machine.{callMade}
 use Rattle.script_answers.specs.Shown.{advancedLine, putLine, loadText, callText}
@@ -44,6 +45,8 @@ call-short (Listing space address count) line s m = listed-short (pick space (m 
 call-short Load line s m =
     let l = loadOf line (buffers (m .sys) []) in
     omega (arith, loaded-short (l .number) (l .line) (l .start))
+call-short Reset line s m = omega (arith, answer-short (ascii "reset ") 0)
+call-short PowerUp line s m = omega (arith, answer-short (ascii "power ") (powerUpOf s m .number))
 
 -- the text that was written from the start of such a buffer is the call's, whole
 pub shows : {call this : Call} (line : List ℕ) (s : State) (m : Buffers) {before after : List ℕ} {count : ℕ} → call ≡ this → 32768 ≡ length before

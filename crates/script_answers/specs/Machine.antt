@@ -7,12 +7,13 @@ use lib.ListN.{length, replicate}
 use Rattle.words.specs.Choice.{pick}
 use Rattle.memory.specs.Buffers.{Buffers, buffers}
 use Rattle.machine.specs.declared.State.{State}
-use Rattle.machine.specs.States.{freshOf}
+use Rattle.machine.specs.States.{resetState, freshOf}
 use Rattle.attention.specs.Attention.{attentionOf}
+use Rattle.power.specs.Power.{powerUpOf}
 use Rattle.step.specs.Step.{stepOf}
 use Rattle.prom.specs.Load.{loadOf}
 use Rattle.script_text.specs.declared.text.Call.{Call}
-use Rattle.script_text.specs.declared.text.Call.the-variants.{Nothing, Unknown, Make, Put, Set, Attention, Step, Dump, Show, Listing, Load}
+use Rattle.script_text.specs.declared.text.Call.the-variants.{Nothing, Unknown, Make, Put, Set, Attention, Step, Dump, Show, Listing, Load, Reset, PowerUp}
 use Rattle.script_text.specs.Text.{spanned, fourthSpan}
 use Rattle.script_text.specs.Registers.{withNamed}
 use Rattle.script_text.specs.Buffers.{bytesWritten, hasRoom}
@@ -49,6 +50,10 @@ machineAdvanced s m lines = machine (stepOf s m lines .state) (stepOf s m lines 
 unfoldable pub machineLoaded : State → Buffers → List ℕ → Machine
 machineLoaded s m file = machine s (buffers (loadOf file (buffers (m .sys) []) .memory .sys) (m .io))
 
+-- `power`
+unfoldable pub machinePowered : State → Buffers → Machine
+machinePowered s m = machine (powerUpOf s m .state) (powerUpOf s m .memory)
+
 -- a part of a buffer that `list` lists: one byte to 1,024, none past the end
 unfoldable pub isPart : List ℕ → ℕ → ℕ → Bool
 isPart s at count = pick (leb 1 count) (pick (leb count 1024) (leb (at + count) (length s)) false) false
@@ -66,6 +71,8 @@ callPerformed Dump line s m = machine s m
 callPerformed (Show space address) line s m = machine s m
 callPerformed (Listing space address count) line s m = machine s m
 callPerformed Load line s m = machineLoaded s m line
+callPerformed Reset line s m = machine resetState m
+callPerformed PowerUp line s m = machinePowered s m
 
 -- whether a line's call was made: no call at all was not, no `put` past its buffer's end, and no `list` of what is no part
 unfoldable pub callMade : Call → List ℕ → Buffers → Bool
@@ -80,3 +87,5 @@ callMade Dump line m = true
 callMade (Show space address) line m = true
 callMade (Listing space address count) line m = isPart (pick space (m .io) (m .sys)) address count
 callMade Load line m = true
+callMade Reset line m = true
+callMade PowerUp line m = true

@@ -8,12 +8,13 @@ use Rattle.memory.specs.Buffers.{Buffers, buffers}
 use Rattle.machine.specs.declared.State.{State}
 use Rattle.machine.specs.States.{freshOf}
 use Rattle.attention.specs.Attention.{attentionOf}
+use Rattle.power.specs.Power.{powerUpOf}
 use Rattle.step.specs.Step.{stepOf}
 use Rattle.lister.specs.Listings.{linesOf, allChars}
 use Rattle.notation.specs.Characters.{ascii}
 use Rattle.prom.specs.Load.{Loading, loadOf}
 use Rattle.script_text.specs.declared.text.Call.{Call}
-use Rattle.script_text.specs.declared.text.Call.the-variants.{Nothing, Unknown, Make, Put, Set, Attention, Step, Dump, Show, Listing, Load}
+use Rattle.script_text.specs.declared.text.Call.the-variants.{Nothing, Unknown, Make, Put, Set, Attention, Step, Dump, Show, Listing, Load, Reset, PowerUp}
 use Rattle.script_lines.specs.Lines.{refusedLine, answerLine, steppedLine, loadedLine, dumpText, shownLine}
 use Rattle.script_answers.specs.Machine.{isPart, callMade}
 
@@ -46,3 +47,5 @@ callText Dump line s m = dumpText s m
 callText (Show space address) line s m = shownLine (pick space (m .io) (m .sys)) address
 callText (Listing space address count) line s m = listedText (pick space (m .io) (m .sys)) address count
 callText Load line s m = loadText (loadOf line (buffers (m .sys) []))
+callText Reset line s m = answerLine (ascii "reset ") 0
+callText PowerUp line s m = answerLine (ascii "power ") (powerUpOf s m .number)

@@ -12,6 +12,7 @@ ghost use lib.ListN.{length};
 ghost use Rattle.memory.specs.Buffers.{buffers};
 ghost use Rattle.machine.specs.States.{freshOf};
 ghost use Rattle.attention.specs.Attention.{attentionOf};
+ghost use Rattle.power.specs.Power.{powerUpOf};
 ghost use Rattle.notation.specs.Characters.{ascii};
 ghost use Rattle.page.specs.Pages.{page, Behind, Printed};
 ghost use Rattle.prom.specs.Load.{loadOf};
@@ -20,7 +21,7 @@ ghost use Rattle.script_text.specs.Registers.{withNamed};
 ghost use Rattle.words.specs.Choice.{pick};
 ghost use Rattle.script_text.specs.Buffers.{hasRoom};
 ghost use Rattle.script_lines.specs.Lines.{answerLine, shownLine};
-ghost use Rattle.script_answers.specs.Machine.{machine, remade, putInto, machineAttended, machineAdvanced, machineLoaded, isPart, callPerformed, callMade};
+ghost use Rattle.script_answers.specs.Machine.{machine, remade, putInto, machineAttended, machineAdvanced, machineLoaded, machinePowered, isPart, callPerformed, callMade};
 ghost use Rattle.script_answers.specs.Shown.{advancedLine, putLine, listedText, loadText, callText};
 
 // The state after a line, whether its call was made, and how many bytes its text has.
@@ -178,6 +179,20 @@ fn load(file: &[u8], sys: &mut [u8], out: &mut [u8]) -> usize
     script_lines::loaded_line(out, 0, l.number, l.line, l.start)
 }
 
+// Powers the machine up.
+fn wake(s: State, sys: &mut [u8], io: &mut [u8], out: &mut [u8]) -> Performed
+    ensures { λ r. ⌜ (machine (r .state) (buffers (now (sys .exit)) (now (io .exit))) ≡ machinePowered s (buffers (now (sys .entry)) (now (io .entry)))) × (r .made ≡ true) ⌝ }
+    ensures { λ r. ⌜ Behind (page (now (out .entry)) 0) (page (now (out .exit)) (r .count)) (answerLine (ascii "power ") (powerUpOf s (buffers (now (sys .entry)) (now (io .entry))) .number)) ⌝ }
+{
+    let a = power::power_up(s, sys, io);
+    let state = a.state;
+    Performed {
+        state,
+        made: true,
+        count: script_lines::answer_line(out, 0, b"power ", a.number),
+    }
+}
+
 // Makes the call of a line, in the buffers that are lent after it; `line` is its line, for `prom` the file that follows it.
 pub fn perform(
     s: State,
@@ -244,5 +259,14 @@ pub fn perform(
             made: true,
             count: load(line, sys, out),
         },
+        Call::Reset => {
+            let state = machine::states::reset();
+            Performed {
+                state,
+                made: true,
+                count: script_lines::answer_line(out, 0, b"reset ", 0),
+            }
+        }
+        Call::PowerUp => wake(s, sys, io, out),
     }
 }

@@ -11,6 +11,7 @@ use Rattle.words.specs.Choice.{pick}
 use Rattle.memory.specs.Buffers.{Buffers}
 use Rattle.memory.specs.declared.Pointer.{Pointer}
 use Rattle.machine.specs.declared.Mode.{Mode}
+use Rattle.machine.specs.declared.Board.{Board}
 use Rattle.machine.specs.declared.Channel.{Channel}
 use Rattle.machine.specs.declared.State.{State}
 use Rattle.machine.specs.States.{channelNumber}
@@ -19,7 +20,7 @@ use Rattle.notation.specs.Characters.{ascii}
 use Rattle.page.specs.Numbers.{hex, decimal, letter}
 use Rattle.page.proofs.NumberLaws.{hex-short, decimal-short}
 use Rattle.script_text.specs.Buffers.{digestOf}
-use Rattle.script_lines.specs.Lines.{feed, answerLine, steppedLine, loadedLine, registerText, markNumber, pointerText, pointersText, numbersText, numberOfMode, marksText, channelLine, bufferText, sharedLine, dumpText, byteText, bytesText, shownLine}
+use Rattle.script_lines.specs.Lines.{feed, answerLine, steppedLine, loadedLine, registerText, markNumber, pointerText, pointersText, numbersText, numberOfMode, marksText, channelLine, bufferText, boardText, sharedLine, dumpText, byteText, bytesText, shownLine}
 
 -- two texts in a row
 both : (a b : List ℕ) (m n : ℕ) → length a ≤ m → length b ≤ n → length (a ++ b) ≤ m + n
@@ -92,19 +93,27 @@ buffer-short name buffer =
     let digest = register-short (ascii " ") (digestOf buffer) 8 in
     omega (arith, both (registerText name (length buffer) 8) (registerText (ascii " ") (digestOf buffer) 8) (length name + 8) 9 size digest)
 
-shared-short : (cp : ℕ) (last : Bool) (sys io : List ℕ) → length (sharedLine cp last sys io) ≤ 62
-unfolding sharedLine
-shared-short cp last sys io =
-    both (registerText (ascii "cp ") cp 8) _ 11 51 (register-short (ascii "cp ") cp 8)
-    (both (registerText (ascii " last ") (channelNumber last) 1) _ 7 44 (register-short (ascii " last ") (channelNumber last) 1)
-    (both (bufferText (ascii " sys ") sys) _ 22 22 (buffer-short (ascii " sys ") sys)
-    (both (bufferText (ascii " io ") io) feed 21 1 (buffer-short (ascii " io ") io) (omega arith))))
+board-short : (b : Board) → length (boardText b) ≤ 28
+unfolding boardText
+board-short b =
+    both (registerText (ascii " up ") (markNumber (b .powered)) 1) _ 5 23 (register-short (ascii " up ") (markNumber (b .powered)) 1)
+    (both (registerText (ascii " sysbus ") (markNumber (b .sysbus)) 1) _ 9 14 (register-short (ascii " sysbus ") (markNumber (b .sysbus)) 1)
+    (both (registerText (ascii " soc ") (markNumber (b .soc)) 1) _ 6 8 (register-short (ascii " soc ") (markNumber (b .soc)) 1) (register-short (ascii " grant ") (markNumber (b .grant)) 1)))
 
-pub dump-short : (s : State) (m : Buffers) → length (dumpText s m) ≤ 312
+shared-short : (cp : ℕ) (last : Bool) (board : Board) (sys io : List ℕ) → length (sharedLine cp last board sys io) ≤ 90
+unfolding sharedLine
+shared-short cp last board sys io =
+    both (registerText (ascii "cp ") cp 8) _ 11 79 (register-short (ascii "cp ") cp 8)
+    (both (registerText (ascii " last ") (channelNumber last) 1) _ 7 72 (register-short (ascii " last ") (channelNumber last) 1)
+    (both (boardText board) _ 28 44 (board-short board)
+    (both (bufferText (ascii " sys ") sys) _ 22 22 (buffer-short (ascii " sys ") sys)
+    (both (bufferText (ascii " io ") io) feed 21 1 (buffer-short (ascii " io ") io) (omega arith)))))
+
+pub dump-short : (s : State) (m : Buffers) → length (dumpText s m) ≤ 340
 unfolding dumpText
 dump-short s m =
-    both (channelLine (ascii "ch 1") (s .first)) _ 125 187 (channel-short (ascii "ch 1") (s .first))
-    (both (channelLine (ascii "ch 2") (s .second)) _ 125 62 (channel-short (ascii "ch 2") (s .second)) (shared-short (s .cp) (s .last) (m .sys) (m .io)))
+    both (channelLine (ascii "ch 1") (s .first)) _ 125 215 (channel-short (ascii "ch 1") (s .first))
+    (both (channelLine (ascii "ch 2") (s .second)) _ 125 90 (channel-short (ascii "ch 2") (s .second)) (shared-short (s .cp) (s .last) (s .board) (m .sys) (m .io)))
 
 byte-short : (buffer : List ℕ) (at : ℕ) → length (byteText buffer at) ≤ 3
 unfolding byteText

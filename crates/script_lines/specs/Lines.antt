@@ -9,6 +9,7 @@ use Rattle.memory.specs.Buffers.{Buffers}
 use Rattle.memory.specs.declared.Pointer.{Pointer}
 use Rattle.machine.specs.declared.Mode.{Mode}
 use Rattle.machine.specs.declared.Mode.the-variants.{Idle, Running, Suspended}
+use Rattle.machine.specs.declared.Board.{Board}
 use Rattle.machine.specs.declared.Channel.{Channel}
 use Rattle.machine.specs.declared.State.{State}
 use Rattle.machine.specs.States.{channelNumber}
@@ -87,17 +88,25 @@ channelLine name c =
 unfoldable pub bufferText : List ℕ → List ℕ → List ℕ
 bufferText name buffer = registerText name (length buffer) 8 ++ registerText (ascii " ") (digestOf buffer) 8
 
+-- what the board set up: powered up, SYSBUS bit 0, SOC bit 0 and SOC bit 1
+unfoldable pub boardText : Board → List ℕ
+boardText b =
+    registerText (ascii " up ") (markNumber (b .powered)) 1
+    ++ (registerText (ascii " sysbus ") (markNumber (b .sysbus)) 1
+    ++ (registerText (ascii " soc ") (markNumber (b .soc)) 1 ++ registerText (ascii " grant ") (markNumber (b .grant)) 1))
+
 -- a dump's line of what both channels share
-unfoldable pub sharedLine : ℕ → Bool → List ℕ → List ℕ → List ℕ
-sharedLine cp last sys io =
+unfoldable pub sharedLine : ℕ → Bool → Board → List ℕ → List ℕ → List ℕ
+sharedLine cp last board sys io =
     registerText (ascii "cp ") cp 8
-    ++ (registerText (ascii " last ") (channelNumber last) 1 ++ (bufferText (ascii " sys ") sys ++ (bufferText (ascii " io ") io ++ feed)))
+    ++ (registerText (ascii " last ") (channelNumber last) 1
+    ++ (boardText board ++ (bufferText (ascii " sys ") sys ++ (bufferText (ascii " io ") io ++ feed))))
 
 -- the three lines of a dump
 unfoldable pub dumpText : State → Buffers → List ℕ
 dumpText s m =
     channelLine (ascii "ch 1") (s .first)
-    ++ (channelLine (ascii "ch 2") (s .second) ++ sharedLine (s .cp) (s .last) (m .sys) (m .io))
+    ++ (channelLine (ascii "ch 2") (s .second) ++ sharedLine (s .cp) (s .last) (s .board) (m .sys) (m .io))
 
 -- the byte at an index of a buffer, or two dashes past its end
 unfoldable pub byteText : List ℕ → ℕ → List ℕ

@@ -1,4 +1,5 @@
 // The lines that the script program shows, put into a lent buffer behind the text that it has: answers of calls, bytes, and dumps.
+use machine::Board;
 use machine::Channel;
 use machine::Mode;
 use machine::State;
@@ -8,7 +9,7 @@ use step::Kind;
 ghost use mathlib.Core.Path.{_≡_};
 ghost use Rattle.memory.specs.Buffers.{buffers};
 ghost use Rattle.page.specs.Pages.{page, Behind};
-ghost use Rattle.script_lines.specs.Lines.{answerLine, steppedLine, loadedLine, registerText, markNumber, pointerText, pointersText, numbersText, numberOfMode, marksText, channelLine, bufferText, sharedLine, dumpText, byteText, bytesText, shownLine};
+ghost use Rattle.script_lines.specs.Lines.{answerLine, steppedLine, loadedLine, registerText, markNumber, pointerText, pointersText, numbersText, numberOfMode, marksText, channelLine, bufferText, boardText, sharedLine, dumpText, byteText, bytesText, shownLine};
 
 // A call's name and its number.
 pub fn answer_line(out: &mut [u8], at: usize, name: &[u8], number: u32) -> usize
@@ -132,15 +133,34 @@ fn buffer(out: &mut [u8], at: usize, name: &[u8], bytes: &[u8]) -> usize
     register(out, sized, b" ", buffers::digest(bytes) as u64, 8)
 }
 
+// What the board set up.
+fn board_marks(out: &mut [u8], at: usize, board: Board) -> usize
+    ensures { λ r. ⌜ Behind (page (now (out .entry)) at) (page (now (out .exit)) r) (boardText board) ⌝ }
+{
+    let a = register(out, at, b" up ", mark_number(board.powered), 1);
+    let b = register(out, a, b" sysbus ", mark_number(board.sysbus), 1);
+    let c = register(out, b, b" soc ", mark_number(board.soc), 1);
+    register(out, c, b" grant ", mark_number(board.grant), 1)
+}
+
 // A dump's line of what both channels share.
-fn shared_line(out: &mut [u8], at: usize, cp: u32, last: bool, sys: &[u8], io: &[u8]) -> usize
-    ensures { λ r. ⌜ Behind (page (now (out .entry)) at) (page (now (out .exit)) r) (sharedLine cp last (now (sys .entry)) (now (io .entry))) ⌝ }
+fn shared_line(
+    out: &mut [u8],
+    at: usize,
+    cp: u32,
+    last: bool,
+    board: Board,
+    sys: &[u8],
+    io: &[u8],
+) -> usize
+    ensures { λ r. ⌜ Behind (page (now (out .entry)) at) (page (now (out .exit)) r) (sharedLine cp last board (now (sys .entry)) (now (io .entry))) ⌝ }
 {
     let a = register(out, at, b"cp ", cp as u64, 8);
     let b = register(out, a, b" last ", machine::states::number(last) as u64, 1);
-    let c = buffer(out, b, b" sys ", sys);
-    let d = buffer(out, c, b" io ", io);
-    page::append(out, d, b"\n")
+    let c = board_marks(out, b, board);
+    let d = buffer(out, c, b" sys ", sys);
+    let e = buffer(out, d, b" io ", io);
+    page::append(out, e, b"\n")
 }
 
 // The three lines of a dump.
@@ -149,9 +169,10 @@ pub fn dump(out: &mut [u8], at: usize, s: State, sys: &[u8], io: &[u8]) -> usize
 {
     let first = s.first;
     let second = s.second;
+    let board = s.board;
     let a = channel_line(out, at, b"ch 1", first);
     let b = channel_line(out, a, b"ch 2", second);
-    shared_line(out, b, s.cp, s.last, sys, io)
+    shared_line(out, b, s.cp, s.last, board, sys, io)
 }
 
 // The byte at an index of a buffer, or two dashes past its end.

@@ -9,12 +9,12 @@ use lib.Dec.{leb, ltb, eqb}
 use lib.ListN.{getD}
 use Rattle.words.specs.Choice.{pick}
 use Rattle.script_text.specs.declared.text.Call.{Call}
-use Rattle.script_text.specs.declared.text.Call.the-variants.{Nothing, Unknown, Make, Put, Set, Attention, Step, Dump, Show, Listing, Load}
+use Rattle.script_text.specs.declared.text.Call.the-variants.{Nothing, Unknown, Make, Put, Set, Attention, Step, Dump, Show, Listing, Load, Reset, PowerUp}
 use Rattle.script_text.specs.declared.text.Words.{Words}
-use Rattle.script_text.specs.Names.{'none, 'make, 'put, 'set, 'ca, 'step, 'dump, 'show, 'list, 'prom}
+use Rattle.script_text.specs.Names.{'none, 'make, 'put, 'set, 'ca, 'step, 'dump, 'show, 'list, 'prom, 'reset, 'power}
 use Rattle.script_text.specs.Text.{noNumber, wordsOf}
 use Rattle.script_text.specs.Registers.{fitsRegister}
-use Rattle.script_text.specs.Calls.{only, makeCall, putCall, setCall, attentionCall, stepCall, dumpCall, showCall, listCall, promCall, callFrom, callOf, Limited}
+use Rattle.script_text.specs.Calls.{only, makeCall, putCall, setCall, attentionCall, stepCall, bareCall, showCall, listCall, callFrom, callOf, Limited}
 
 -- of two calls that keep the limits either one does
 either : (t : Bool) (a b : Call) → Limited a → Limited b → Limited (pick t a b)
@@ -54,9 +54,9 @@ step-limited : (lines after : ℕ) → Limited (stepCall lines after)
 unfolding stepCall
 step-limited lines after = either (eqb after 'none) _ Unknown (either (ltb lines noNumber) (Step lines) Unknown tt tt) tt
 
-dump-limited : (after : ℕ) → Limited (dumpCall after)
-unfolding dumpCall
-dump-limited after = either (eqb after 'none) Dump Unknown tt tt
+bare-limited : (call : Call) (after : ℕ) → Limited call → Limited (bareCall call after)
+unfolding bareCall
+bare-limited call after limited = either (eqb after 'none) call Unknown limited tt
 
 show-limited : (space address after : ℕ) → Limited (showCall space address after)
 unfolding showCall
@@ -71,10 +71,6 @@ list-limited space address length after =
     (either (ltb address noNumber) _ Unknown (either (ltb length noNumber) (Listing (eqb space 1) address length) Unknown tt tt) tt) tt)
     tt
 
-prom-limited : (after : ℕ) → Limited (promCall after)
-unfolding promCall
-prom-limited after = either (eqb after 'none) Load Unknown tt tt
-
 words-limited : (w : Words) → Limited (callFrom w)
 unfolding callFrom
 words-limited w =
@@ -85,10 +81,12 @@ words-limited w =
     (either (eqb name 'set) _ _ (set-limited (w .second .number) (w .third .name) (w .fourth .number) (w .fifth .name))
     (either (eqb name 'ca) _ _ (attention-limited (w .second .number) (w .third .name))
     (either (eqb name 'step) _ _ (step-limited (w .second .number) (w .third .name))
-    (either (eqb name 'dump) _ _ (dump-limited (w .second .name))
+    (either (eqb name 'dump) _ _ (bare-limited Dump (w .second .name) tt)
     (either (eqb name 'show) _ _ (show-limited (w .second .number) (w .third .number) (w .fourth .name))
     (either (eqb name 'list) _ _ (list-limited (w .second .number) (w .third .number) (w .fourth .number) (w .fifth .name))
-    (either (eqb name 'prom) _ Unknown (prom-limited (w .second .name)) tt)))))))))
+    (either (eqb name 'prom) _ _ (bare-limited Load (w .second .name) tt)
+    (either (eqb name 'reset) _ _ (bare-limited Reset (w .second .name) tt)
+    (either (eqb name 'power) _ Unknown (bare-limited PowerUp (w .second .name) tt) tt)))))))))))
 
 -- the call of a line lends no more than `make` allows
 pub line-limited : (line : List ℕ) → Limited (callOf line)

@@ -93,9 +93,9 @@ module _ (w : List ℕ) (i : ℕ) where
   digits-stop h d = ap allDigits (from-here w i h) ∙ rw (le-ltb (digitOf (getD w i 0)) 16 d)
 
 module _ (n i : ℕ) where
-  -- a name of at most four characters fits
-  pub name-fits : n < 2 * 256 ^ i → i ≤ 4 → n < 8589934592
-  name-fits h k = let p : 256 ^ i ≤ 4294967296 = pow-le-pow-right (lit< tt) k in omega arith
+  -- a name of at most six characters fits
+  pub name-fits : n < 2 * 256 ^ i → i ≤ 6 → n < 562949953421312
+  name-fits h k = let p : 256 ^ i ≤ 281474976710656 = pow-le-pow-right (lit< tt) k in omega arith
 
   -- a character makes a name 256 times as large at most
   pub name-grows : (b : ℕ) → n < 2 * 256 ^ i → b < 256 → n * 256 + b < 2 * 256 ^ (i + 1)

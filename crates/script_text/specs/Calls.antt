@@ -6,9 +6,9 @@ use lib.Dec.{ltb, leb, eqb}
 use lib.ListN.{getD}
 use Rattle.words.specs.Choice.{pick}
 use Rattle.script_text.specs.declared.text.Call.{Call}
-use Rattle.script_text.specs.declared.text.Call.the-variants.{Nothing, Unknown, Make, Put, Set, Attention, Step, Dump, Show, Listing, Load}
+use Rattle.script_text.specs.declared.text.Call.the-variants.{Nothing, Unknown, Make, Put, Set, Attention, Step, Dump, Show, Listing, Load, Reset, PowerUp}
 use Rattle.script_text.specs.declared.text.Words.{Words}
-use Rattle.script_text.specs.Names.{'none, 'make, 'put, 'set, 'ca, 'step, 'dump, 'show, 'list, 'prom}
+use Rattle.script_text.specs.Names.{'none, 'make, 'put, 'set, 'ca, 'step, 'dump, 'show, 'list, 'prom, 'reset, 'power}
 use Rattle.script_text.specs.Text.{noNumber, wordsOf}
 use Rattle.script_text.specs.Registers.{fitsRegister}
 
@@ -41,9 +41,9 @@ attentionCall channel after = only (eqb after 'none) (only (ltb channel noNumber
 unfoldable pub stepCall : ℕ → ℕ → Call
 stepCall lines after = only (eqb after 'none) (only (ltb lines noNumber) (Step lines))
 
--- `dump`
-unfoldable pub dumpCall : ℕ → Call
-dumpCall after = only (eqb after 'none) Dump
+-- a call of one word: `dump`, `prom`, which the lines of a file follow, `reset` and `power`
+unfoldable pub bareCall : Call → ℕ → Call
+bareCall call after = only (eqb after 'none) call
 
 -- `show SPACE ADDRESS`
 unfoldable pub showCall : ℕ → ℕ → ℕ → Call
@@ -56,10 +56,6 @@ listCall space address length after =
     only (eqb after 'none)
     (only (ltb space 2) (only (ltb address noNumber) (only (ltb length noNumber) (Listing (eqb space 1) address length))))
 
--- `prom`, which the lines of a file follow
-unfoldable pub promCall : ℕ → Call
-promCall after = only (eqb after 'none) Load
-
 -- the call that words are: the first is its name, and none stands behind those it has
 unfoldable pub callFrom : Words → Call
 callFrom w =
@@ -70,10 +66,12 @@ callFrom w =
     (pick (eqb name 'set) (setCall (w .second .number) (w .third .name) (w .fourth .number) (w .fifth .name))
     (pick (eqb name 'ca) (attentionCall (w .second .number) (w .third .name))
     (pick (eqb name 'step) (stepCall (w .second .number) (w .third .name))
-    (pick (eqb name 'dump) (dumpCall (w .second .name))
+    (pick (eqb name 'dump) (bareCall Dump (w .second .name))
     (pick (eqb name 'show) (showCall (w .second .number) (w .third .number) (w .fourth .name))
     (pick (eqb name 'list) (listCall (w .second .number) (w .third .number) (w .fourth .number) (w .fifth .name))
-    (pick (eqb name 'prom) (promCall (w .second .name)) Unknown)))))))))
+    (pick (eqb name 'prom) (bareCall Load (w .second .name))
+    (pick (eqb name 'reset) (bareCall Reset (w .second .name))
+    (pick (eqb name 'power) (bareCall PowerUp (w .second .name)) Unknown)))))))))))
 
 -- the call that a line is; one that has no word or begins with `#` is passed over
 unfoldable pub callOf : List ℕ → Call
@@ -92,3 +90,5 @@ Limited Dump = Unit {0}
 Limited (Show space address) = Unit {0}
 Limited (Listing space address length) = Unit {0}
 Limited Load = Unit {0}
+Limited Reset = Unit {0}
+Limited PowerUp = Unit {0}

@@ -1,4 +1,4 @@
--- Names of calls and registers, up to four characters, as numbers: 1, then each character's ASCII code in two hexadecimal digits.
+-- Names of calls and registers, up to six characters, as numbers: 1, then each character's ASCII code in two hexadecimal digits.
 use mathlib.Core.List.{List, [], _∷_}
 use Prim.Native.Nat.{ℕ, _+_, _*_}
 use lib.Dec.{leb}
@@ -10,9 +10,9 @@ unfoldable pub packed : ℕ → List ℕ → ℕ
 packed n [] = n
 packed n (b ∷ w) = packed (n * 256 + b) w
 
--- the name that a word makes; 0, which is no name, for more than four characters
+-- the name that a word makes; 0, which is no name, for more than six characters
 unfoldable pub nameOf : List ℕ → ℕ
-nameOf w = pick (leb (length w) 4) (packed 1 w) 0
+nameOf w = pick (leb (length w) 6) (packed 1 w) 0
 
 -- the name of no word at all
 abbrev pub 'none : ℕ
@@ -53,6 +53,14 @@ abbrev pub 'list : ℕ
 -- `prom`
 abbrev pub 'prom : ℕ
 'prom = 0x170726f6d
+
+-- `reset`
+abbrev pub 'reset : ℕ
+'reset = 0x17265736574
+
+-- `power`
+abbrev pub 'power : ℕ
+'power = 0x1706f776572
 
 -- `ga`
 abbrev pub 'ga : ℕ
@@ -125,3 +133,19 @@ abbrev pub 'cp : ℕ
 -- `last`
 abbrev pub 'last : ℕ
 'last = 0x16c617374
+
+-- `up`
+abbrev pub 'up : ℕ
+'up = 0x17570
+
+-- `sysbus`
+abbrev pub 'sysbus : ℕ
+'sysbus = 0x1737973627573
+
+-- `soc`
+abbrev pub 'soc : ℕ
+'soc = 0x1736f63
+
+-- `grant`
+abbrev pub 'grant : ℕ
+'grant = 0x16772616e74

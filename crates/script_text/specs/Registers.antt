@@ -1,5 +1,5 @@
 -- Registers by their names: what fits them, and a state with one of them set as it stands.
-use mathlib.Core.Bool.{Bool, true, false, _||_}
+use mathlib.Core.Bool.{Bool, true, false, _&&_, _||_}
 use Prim.Native.Nat.{ℕ, _%_}
 use lib.Dec.{ltb, eqb}
 use Rattle.words.specs.Choice.{pick}
@@ -7,10 +7,11 @@ use Rattle.memory.specs.declared.Pointer.{Pointer}
 use Rattle.memory.specs.Values.{pointer}
 use Rattle.machine.specs.declared.Mode.{Mode}
 use Rattle.machine.specs.declared.Mode.the-variants.{Idle, Running, Suspended}
+use Rattle.machine.specs.declared.Board.{Board}
 use Rattle.machine.specs.declared.Channel.{Channel}
 use Rattle.machine.specs.declared.State.{State}
-use Rattle.machine.specs.States.{channelOf, withChannel, isSecond}
-use Rattle.script_text.specs.Names.{'ga, 'gb, 'gc, 'tp, 'pp, 'bc, 'ix, 'cc, 'mc, 'psw, 'ga-t, 'gb-t, 'gc-t, 'tp-t, 'arm, 'mode, 'cp, 'last}
+use Rattle.machine.specs.States.{boardWith, channelOf, withChannel, isSecond}
+use Rattle.script_text.specs.Names.{'ga, 'gb, 'gc, 'tp, 'pp, 'bc, 'ix, 'cc, 'mc, 'psw, 'ga-t, 'gb-t, 'gc-t, 'tp-t, 'arm, 'mode, 'cp, 'last, 'up, 'sysbus, 'soc, 'grant}
 
 -- how many values fit a channel's register: 8 digits, 4, 2, a tag or mark, a mode; 0 where there is no such register
 unfoldable pub valuesOf : ℕ → ℕ
@@ -20,9 +21,13 @@ valuesOf r =
     (pick (eqb r 'psw) 256
     (pick (eqb r 'ga-t || eqb r 'gb-t || eqb r 'gc-t || eqb r 'tp-t || eqb r 'arm) 2 (pick (eqb r 'mode) 3 0))))
 
--- what fits a shared register: any number `cp`, 1 or 2 `last`
+-- the marks of the board: powered up, SYSBUS bit 0, SOC bit 0 and SOC bit 1
+unfoldable pub isBoardMark : ℕ → Bool
+isBoardMark r = eqb r 'up || eqb r 'sysbus || eqb r 'soc || eqb r 'grant
+
+-- what fits a shared register: any number `cp`, 1 or 2 `last`, 0 or 1 a mark of the board
 unfoldable pub fitsShared : ℕ → ℕ → Bool
-fitsShared r v = pick (eqb r 'cp) true (pick (eqb r 'last) (eqb v 1 || eqb v 2) false)
+fitsShared r v = pick (eqb r 'cp) true (pick (eqb r 'last) (eqb v 1 || eqb v 2) (isBoardMark r && ltb v 2))
 
 -- there is such a register of channel 1 or 2, or a shared one for channel 0, and the value fits it
 unfoldable pub fitsRegister : ℕ → ℕ → ℕ → Bool
@@ -55,6 +60,11 @@ withRaw c r v =
       armed = pick (eqb r 'arm) (eqb v 1) (c .armed);
     }
 
+-- what the board set up, with one of its marks set
+unfoldable pub boardMarked : Board → ℕ → Bool → Board
+boardMarked b r on =
+    boardWith (pick (eqb r 'up) on (b .powered)) (pick (eqb r 'sysbus) on (b .sysbus)) (pick (eqb r 'soc) on (b .soc)) (pick (eqb r 'grant) on (b .grant))
+
 -- a state with a shared register set as it stands
 unfoldable pub withShared : State → ℕ → ℕ → State
 withShared s r v =
@@ -63,7 +73,7 @@ withShared s r v =
       second = s .second;
       cp = pick (eqb r 'cp) v (s .cp);
       last = pick (eqb r 'last) (eqb v 2) (s .last);
-      board = s .board;
+      board = boardMarked (s .board) r (eqb v 1);
     }
 
 -- a state with a register of channel 1 or 2, or a shared one for channel 0, set as it stands

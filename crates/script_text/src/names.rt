@@ -19,6 +19,10 @@ pub const LIST: u64 = 0x1_6c69_7374;
 
 pub const PROM: u64 = 0x1_7072_6f6d;
 
+pub const RESET: u64 = 0x172_6573_6574;
+
+pub const POWER: u64 = 0x170_6f77_6572;
+
 pub const GA: u64 = 0x1_6761;
 
 pub const GB: u64 = 0x1_6762;
@@ -54,3 +58,11 @@ pub const MODE: u64 = 0x1_6d6f_6465;
 pub const CP: u64 = 0x1_6370;
 
 pub const LAST: u64 = 0x1_6c61_7374;
+
+pub const UP: u64 = 0x1_7570;
+
+pub const SYSBUS: u64 = 0x1_7379_7362_7573;
+
+pub const SOC: u64 = 0x173_6f63;
+
+pub const GRANT: u64 = 0x167_7261_6e74;

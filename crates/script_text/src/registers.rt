@@ -1,5 +1,6 @@
 // Registers by their names, set as they stand, also to what a sound state never has.
 use crate::names;
+use machine::Board;
 use machine::Channel;
 use machine::Mode;
 use machine::State;
@@ -8,7 +9,7 @@ ghost use mathlib.Core.Path.{_≡_};
 ghost use mathlib.Core.Bool.{true, false};
 ghost use Rattle.memory.specs.Values.{pointer};
 ghost use Rattle.script_text.specs.Names.{'mode};
-ghost use Rattle.script_text.specs.Registers.{valuesOf, fitsShared, fitsRegister, modeNumbered, withRaw, withShared, withNamed};
+ghost use Rattle.script_text.specs.Registers.{valuesOf, isBoardMark, fitsShared, fitsRegister, modeNumbered, withRaw, boardMarked, withShared, withNamed};
 
 // How many values fit a channel's register; 0 where there is no such register.
 fn values(register: u64) -> u64
@@ -35,6 +36,16 @@ fn values(register: u64) -> u64
     }
 }
 
+// Whether a register is a mark of the board.
+fn is_board_mark(register: u64) -> bool
+    ensures { λ r. ⌜ r ≡ isBoardMark register ⌝ }
+{
+    (register == names::UP)
+        | (register == names::SYSBUS)
+        | (register == names::SOC)
+        | (register == names::GRANT)
+}
+
 // Whether a value fits a shared register.
 fn fits_shared(register: u64, value: u32) -> bool
     ensures { λ r. ⌜ r ≡ fitsShared register value ⌝ }
@@ -42,7 +53,7 @@ fn fits_shared(register: u64, value: u32) -> bool
     match register {
         names::CP => true,
         names::LAST => (value == 1) | (value == 2),
-        _ => false,
+        _ => is_board_mark(register) & (value < 2),
     }
 }
 
@@ -147,6 +158,21 @@ fn with_raw(c: Channel, register: u64, value: u32) -> Channel
     next
 }
 
+// What the board set up, with one of its marks set.
+fn with_mark(b: Board, register: u64, on: bool) -> Board
+    ensures { λ r. ⌜ r ≡ boardMarked b register on ⌝ }
+{
+    let mut next = b;
+    match register {
+        names::UP => next.powered = on,
+        names::SYSBUS => next.sysbus = on,
+        names::SOC => next.soc = on,
+        names::GRANT => next.grant = on,
+        _ => {}
+    }
+    next
+}
+
 // A state with a shared register set as it stands.
 fn with_shared(s: State, register: u64, value: u32) -> State
     ensures { λ r. ⌜ r ≡ withShared s register value ⌝ }
@@ -155,7 +181,7 @@ fn with_shared(s: State, register: u64, value: u32) -> State
     match register {
         names::CP => next.cp = value,
         names::LAST => next.last = value == 2,
-        _ => {}
+        _ => next.board = with_mark(s.board, register, value == 1),
     }
     next
 }

@@ -6,7 +6,7 @@ ghost use Prim.Native.Nat.{_+_, _≤_};
 ghost use lib.ListN.{length, drop, getD};
 ghost use Rattle.script_text.specs.Names.{nameOf};
 ghost use Rattle.script_text.specs.Text.{digitOf, untilSame, untilOther, numeralOf, allDigits, isPairs, spanAt, lineWordAt, wordsOf, fourthSpan};
-ghost use Rattle.script_text.specs.Calls.{makeCall, putCall, setCall, attentionCall, stepCall, dumpCall, showCall, listCall, promCall, callFrom, callOf};
+ghost use Rattle.script_text.specs.Calls.{makeCall, putCall, setCall, attentionCall, stepCall, bareCall, showCall, listCall, callFrom, callOf};
 
 // What a line calls for; nothing where it is passed over, unknown where it is no call.
 pub enum Call {
@@ -21,6 +21,8 @@ pub enum Call {
     Show(bool, u32),
     Listing(bool, u32, u32),
     Load,
+    Reset,
+    PowerUp,
 }
 
 // Where a word lies in its line.
@@ -106,11 +108,11 @@ fn first_other(s: &[u8], at: usize, b: u8) -> usize
     i
 }
 
-// The name that a word makes; 0 for more than four characters.
+// The name that a word makes; 0 for more than six characters.
 fn name(w: &[u8]) -> u64
     ensures { λ r. ⌜ r ≡ nameOf (now (w .entry)) ⌝ }
 {
-    if 4 < w.len() {
+    if 6 < w.len() {
         return 0;
     }
     let mut n: u64 = 1;
@@ -307,14 +309,14 @@ fn step_call(lines: u64, after: u64) -> Call
     Call::Step(lines as u32)
 }
 
-// The call of `dump`.
-fn dump_call(after: u64) -> Call
-    ensures { λ r. ⌜ r ≡ dumpCall after ⌝ }
+// A call of one word.
+fn bare_call(call: Call, after: u64) -> Call
+    ensures { λ r. ⌜ r ≡ bareCall call after ⌝ }
 {
     if after != names::NONE {
         return Call::Unknown;
     }
-    Call::Dump
+    call
 }
 
 // The call of `show`.
@@ -352,16 +354,6 @@ fn list_call(space: u64, address: u64, length: u64, after: u64) -> Call
     Call::Listing(space == 1, address as u32, length as u32)
 }
 
-// The call of `prom`.
-fn prom_call(after: u64) -> Call
-    ensures { λ r. ⌜ r ≡ promCall after ⌝ }
-{
-    if after != names::NONE {
-        return Call::Unknown;
-    }
-    Call::Load
-}
-
 // The call that words are.
 fn call_from(w: Words) -> Call
     ensures { λ r. ⌜ r ≡ callFrom w ⌝ }
@@ -379,10 +371,12 @@ fn call_from(w: Words) -> Call
         names::SET => set_call(second.number, third.name, fourth.number, fifth.name),
         names::CA => attention_call(second.number, third.name),
         names::STEP => step_call(second.number, third.name),
-        names::DUMP => dump_call(second.name),
+        names::DUMP => bare_call(Call::Dump, second.name),
         names::SHOW => show_call(second.number, third.number, fourth.name),
         names::LIST => list_call(second.number, third.number, fourth.number, fifth.name),
-        names::PROM => prom_call(second.name),
+        names::PROM => bare_call(Call::Load, second.name),
+        names::RESET => bare_call(Call::Reset, second.name),
+        names::POWER => bare_call(Call::PowerUp, second.name),
         _ => Call::Unknown,
     }
 }

@@ -44,6 +44,12 @@ enum-told-9 c = search needs
 enum-told-10 : tie.Need-enum-told-10
 enum-told-10 c = search needs
 
+enum-told-11 : tie.Need-enum-told-11
+enum-told-11 c = search needs
+
+enum-told-12 : tie.Need-enum-told-12
+enum-told-12 c = search needs
+
 returns : tie.Need-returns
 unfolding lentAfter
 returns c = let e = c .before .call .given .1 in (rw e, rw e at (c .before .before .before .pre .0))
@@ -88,6 +94,14 @@ returns-11 : tie.Need-returns-11
 unfolding lentAfter
 returns-11 c = (rw (c .enum-told10 .given .1), c .before .before .pre .1)
 
+returns-12 : tie.Need-returns-12
+unfolding lentAfter
+returns-12 c = (rw (c .enum-told11 .given .1), c .before .before .pre .1)
+
+returns-13 : tie.Need-returns-13
+unfolding lentAfter
+returns-13 c = (rw (c .enum-told12 .given .1), c .before .before .pre .1)
+
 pub lent-after-spec : {M : Type 1} → statement M
 lent-after-spec =
     tie.close
@@ -105,6 +119,8 @@ lent-after-spec =
     enum-told-8
     enum-told-9
     enum-told-10
+    enum-told-11
+    enum-told-12
     returns
     returns-2
     returns-3
@@ -115,4 +131,6 @@ lent-after-spec =
     returns-8
     returns-9
     returns-10
-    returns-11)
+    returns-11
+    returns-12
+    returns-13)

@@ -90,6 +90,24 @@ enum-told-4 c = search needs
 load-requires : tie.Need-load-requires
 load-requires c κs = search needs
 
+enum-told-5 : tie.Need-enum-told-5
+enum-told-5 c = search needs
+
+reset-requires : tie.Need-reset-requires
+reset-requires c κs = search needs
+
+slice-aggregate-answer-line-2 : tie.Need-slice-aggregate-answer-line-2
+slice-aggregate-answer-line-2 c = search needs
+
+answer-line-requires-2 : tie.Need-answer-line-requires-2
+answer-line-requires-2 c κs = search needs
+
+enum-told-6 : tie.Need-enum-told-6
+enum-told-6 c = search needs
+
+wake-requires : tie.Need-wake-requires
+wake-requires c κs = search needs
+
 returns : tie.Need-returns
 unfolding callPerformed callMade callText
 returns c =
@@ -256,6 +274,34 @@ returns-11 c =
     let told = ap (λ (x : Call). callMade x line m) (sym is) in
     (ap (λ (l : List ℕ). machine (a .s) (buffers l (now (a .io)))) (c .before .before .load .ensures .0) ∙ after, (told, shows line (a .s) m is (omega arith) (c .before .before .load .ensures .1)))
 
+returns-12 : tie.Need-returns-12
+unfolding callPerformed callMade callText
+returns-12 c =
+    let a = c .before .before .before .before .before .before .before .before .before .args in
+    let line = now (a .line) in
+    let m = buffers (now (a .sys)) (now (a .io)) in
+    let is = c .before .before .before .before .enum-told5 .given .1 in
+    let after = ap (λ (x : Call). callPerformed x line (a .s) m) (sym is) in
+    let told = ap (λ (x : Call). callMade x line m) (sym is) in
+    (rw (c .before .before .before .reset .ensures) after, (told, shows line (a .s) m is (omega arith) (c .answer-line2 .ensures)))
+
+same-length-16 : tie.Need-same-length-16
+same-length-16 c = search needs
+
+same-length-17 : tie.Need-same-length-17
+same-length-17 c = search needs
+
+returns-13 : tie.Need-returns-13
+unfolding callPerformed callMade callText
+returns-13 c =
+    let a = c .before .before .before .before .before .before .before .before .before .before .before .before .before .args in
+    let line = now (a .line) in
+    let m = buffers (now (a .sys)) (now (a .io)) in
+    let is = c .before .before .before .before .before .before .before .before .enum-told6 .given .1 in
+    let after = ap (λ (x : Call). callPerformed x line (a .s) m) (sym is) in
+    let told = ap (λ (x : Call). callMade x line m) (sym is) in
+    (c .before .before .before .before .wake .ensures .0 .0 ∙ after, (c .before .before .before .before .wake .ensures .0 .1 ∙ told, shows line (a .s) m is (omega arith) (c .before .before .before .before .wake .ensures .1)))
+
 pub perform-spec : {M : Type 1} → statement M
 perform-spec =
     tie.close
@@ -285,6 +331,12 @@ perform-spec =
     list-requires
     enum-told-4
     load-requires
+    enum-told-5
+    reset-requires
+    slice-aggregate-answer-line-2
+    answer-line-requires-2
+    enum-told-6
+    wake-requires
     returns
     returns-2
     same-length
@@ -310,4 +362,8 @@ perform-spec =
     same-length-14
     returns-10
     same-length-15
-    returns-11)
+    returns-11
+    returns-12
+    same-length-16
+    same-length-17
+    returns-13)

@@ -24,6 +24,9 @@ cast-register c = search needs
 register-requires-2 : tie.Need-register-requires-2
 register-requires-2 c κs = search needs
 
+board-marks-requires : tie.Need-board-marks-requires
+board-marks-requires c κs = search needs
+
 slice-aggregate-buffer : tie.Need-slice-aggregate-buffer
 slice-aggregate-buffer c = search needs
 
@@ -48,12 +51,13 @@ same-length c = search needs
 returns : tie.Need-returns
 unfolding sharedLine
 returns c =
-    let t1 = c .before .before .before .before .before .before .before .before .before .before .before .before .before .before .before .before .before .before .before .before .before .before .before .register .ensures in
-    let t2 = c .before .before .before .before .before .before .before .before .before .before .before .before .before .before .before .before .before .register2 .ensures in
-    let t3 = c .before .before .before .before .before .before .before .before .before .before .before .before .buffer .ensures in
-    let t4 = c .before .before .before .before .before .before .before .buffer2 .ensures in
-    let t5 = c .before .before .append .ensures in
-    reads (simp (c .before .before .before .before .before .before .before .before .before .before .before .before .before .before .before .before .before .before .number .ensures)) (then t1 (then t2 (then t3 (then t4 t5))))
+    let t1 = c .before .before .before .before .before .before .before .before .before .before .before .before .before .before .before .before .before .before .before .before .before .before .before .before .before .before .before .register .ensures in
+    let t2 = c .before .before .before .before .before .before .before .before .before .before .before .before .before .before .before .before .before .before .before .before .before .register2 .ensures in
+    let t3 = c .before .before .before .before .before .before .before .before .before .before .before .before .before .before .before .before .before .board-marks .ensures in
+    let t4 = c .before .before .before .before .before .before .before .before .before .before .before .before .buffer .ensures in
+    let t5 = c .before .before .before .before .before .before .before .buffer2 .ensures in
+    let t6 = c .before .before .append .ensures in
+    reads (simp (c .before .before .before .before .before .before .before .before .before .before .before .before .before .before .before .before .before .before .before .before .before .before .number .ensures)) (then t1 (then t2 (then t3 (then t4 (then t5 t6)))))
 
 pub shared-line-spec : {M : Type 1} → statement M
 shared-line-spec =
@@ -65,6 +69,7 @@ shared-line-spec =
     number-requires
     cast-register
     register-requires-2
+    board-marks-requires
     slice-aggregate-buffer
     buffer-requires
     slice-aggregate-buffer-2

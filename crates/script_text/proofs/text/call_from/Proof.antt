@@ -21,8 +21,8 @@ attention-call-requires c κs = search needs
 step-call-requires : tie.Need-step-call-requires
 step-call-requires c κs = search needs
 
-dump-call-requires : tie.Need-dump-call-requires
-dump-call-requires c κs = search needs
+bare-call-requires : tie.Need-bare-call-requires
+bare-call-requires c κs = search needs
 
 show-call-requires : tie.Need-show-call-requires
 show-call-requires c κs = search needs
@@ -30,8 +30,14 @@ show-call-requires c κs = search needs
 list-call-requires : tie.Need-list-call-requires
 list-call-requires c κs = search needs
 
-prom-call-requires : tie.Need-prom-call-requires
-prom-call-requires c κs = search needs
+bare-call-requires-2 : tie.Need-bare-call-requires-2
+bare-call-requires-2 c κs = search needs
+
+bare-call-requires-3 : tie.Need-bare-call-requires-3
+bare-call-requires-3 c κs = search needs
+
+bare-call-requires-4 : tie.Need-bare-call-requires-4
+bare-call-requires-4 c κs = search needs
 
 returns : tie.Need-returns
 unfolding callFrom
@@ -59,7 +65,7 @@ returns-6 c = simp (c .step-call .ensures, c .before .match .keys6)
 
 returns-7 : tie.Need-returns-7
 unfolding callFrom
-returns-7 c = simp (c .dump-call .ensures, c .before .match .keys7)
+returns-7 c = simp (c .bare-call .ensures, c .before .match .keys7)
 
 returns-8 : tie.Need-returns-8
 unfolding callFrom
@@ -71,11 +77,19 @@ returns-9 c = simp (c .list-call .ensures, c .before .match .keys9)
 
 returns-10 : tie.Need-returns-10
 unfolding callFrom
-returns-10 c = simp (c .prom-call .ensures, c .before .match .keys10)
+returns-10 c = simp (c .bare-call2 .ensures, c .before .match .keys10)
 
 returns-11 : tie.Need-returns-11
 unfolding callFrom
-returns-11 c = simp (ne-eqb _ _ (c .match .rest .1), ne-eqb _ _ (c .match .rest .0 .1), ne-eqb _ _ (c .match .rest .0 .0 .1), ne-eqb _ _ (c .match .rest .0 .0 .0 .1), ne-eqb _ _ (c .match .rest .0 .0 .0 .0 .1), ne-eqb _ _ (c .match .rest .0 .0 .0 .0 .0 .1), ne-eqb _ _ (c .match .rest .0 .0 .0 .0 .0 .0 .1), ne-eqb _ _ (c .match .rest .0 .0 .0 .0 .0 .0 .0 .1), ne-eqb _ _ (c .match .rest .0 .0 .0 .0 .0 .0 .0 .0 .1), ne-eqb _ _ (c .match .rest .0 .0 .0 .0 .0 .0 .0 .0 .0 .1))
+returns-11 c = simp (c .bare-call3 .ensures, c .before .match .keys11)
+
+returns-12 : tie.Need-returns-12
+unfolding callFrom
+returns-12 c = simp (c .bare-call4 .ensures, c .before .match .keys12)
+
+returns-13 : tie.Need-returns-13
+unfolding callFrom
+returns-13 c = simp (ne-eqb _ _ (c .match .rest .1), ne-eqb _ _ (c .match .rest .0 .1), ne-eqb _ _ (c .match .rest .0 .0 .1), ne-eqb _ _ (c .match .rest .0 .0 .0 .1), ne-eqb _ _ (c .match .rest .0 .0 .0 .0 .1), ne-eqb _ _ (c .match .rest .0 .0 .0 .0 .0 .1), ne-eqb _ _ (c .match .rest .0 .0 .0 .0 .0 .0 .1), ne-eqb _ _ (c .match .rest .0 .0 .0 .0 .0 .0 .0 .1), ne-eqb _ _ (c .match .rest .0 .0 .0 .0 .0 .0 .0 .0 .1), ne-eqb _ _ (c .match .rest .0 .0 .0 .0 .0 .0 .0 .0 .0 .1), ne-eqb _ _ (c .match .rest .0 .0 .0 .0 .0 .0 .0 .0 .0 .0 .1), ne-eqb _ _ (c .match .rest .0 .0 .0 .0 .0 .0 .0 .0 .0 .0 .0 .1))
 
 pub call-from-spec : {M : Type 1} → statement M
 call-from-spec =
@@ -86,10 +100,12 @@ call-from-spec =
     set-call-requires
     attention-call-requires
     step-call-requires
-    dump-call-requires
+    bare-call-requires
     show-call-requires
     list-call-requires
-    prom-call-requires
+    bare-call-requires-2
+    bare-call-requires-3
+    bare-call-requires-4
     returns
     returns-2
     returns-3
@@ -100,4 +116,6 @@ call-from-spec =
     returns-8
     returns-9
     returns-10
-    returns-11)
+    returns-11
+    returns-12
+    returns-13)

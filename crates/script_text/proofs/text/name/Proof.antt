@@ -55,7 +55,7 @@ unfolding nameOf
 returns-2 c =
     let l = c .before .loop in
     let w = now (c .before .before .before .args .w) in
-    sym (packed-end (l .n) w (l .i) (c .loop-test .left)) ∙ l .inv .2 ∙ rw (le-leb (length w) 4 (c .before .before .if1 .left))
+    sym (packed-end (l .n) w (l .i) (c .loop-test .left)) ∙ l .inv .2 ∙ rw (le-leb (length w) 6 (c .before .before .if1 .left))
 
 pub name-spec : {M : Type 1} → statement M
 name-spec =
