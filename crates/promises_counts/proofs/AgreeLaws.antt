@@ -1,0 +1,170 @@
+-- The laws of agreement: of lists joined, of bytes in a row, and of all that is read there.
+-- Assumes nothing.
+use Prim.Native.Nat.{ℕ, zero, suc, _+_, _%_, _<_, _≤_}
+use lib.Dec.{ltb, leb, eqb, lit<}
+use lib.ListN.{length}
+use mathlib.Core.Bool.{Bool, true, false, _&&_}
+use mathlib.Core.List.{List, [], _∷_, _++_}
+use mathlib.Core.Path.{_≡_, refl, sym, ap, ap₂, subst, _∙_}
+use native.Mathlib.Nat.{add-zero, add-assoc, mod-add-mod, not-suc-le-zero, le-of-suc-le-suc}
+use native.Mathlib.Omega.{arith}
+use Rattle.words.specs.Bytes.{wordOf}
+use Rattle.words.specs.Choice.{pick}
+use Rattle.words.specs.Signs.{signedOf, extended}
+use Rattle.words.specs.Sums.{addressOf}
+use Rattle.memory.proofs.PlaceLaws.{index-after, byte-index}
+use Rattle.memory.specs.Buffers.{Buffers, spaceOf, limitOf, indexOf, lentAt, byteAt, withinLimits}
+use Rattle.memory.specs.Places.{Place, span, allLent}
+use Rattle.memory.specs.Values.{pointer, onward, wordAt, doublewordAt, pointerAt}
+use Rattle.memory.specs.declared.Pointer.{Pointer}
+use Rattle.machine.specs.Outcomes.{unless, first, givenNumber}
+use Rattle.machine.specs.Registers.{baseOf}
+use Rattle.machine.specs.Stages.{Stage, stagesNumber}
+use Rattle.machine.specs.States.{sound}
+use Rattle.machine.specs.declared.Channel.{Channel}
+use Rattle.machine.specs.declared.State.{State}
+use Rattle.decode.specs.Lengths.{moreBy, oneOrTwo, offsetLength}
+use Rattle.decode_shapes.specs.declared.Memory.{Memory}
+use Rattle.execute_operands.specs.Operands.{byteHere, bytesAt, sizeOf, indexed, effective, operandAt, displacementAt, landing, jumpedIf}
+use Rattle.promises_counts.specs.Complete.{SameLengths, AgreeOn}
+
+-- every memory agrees with itself
+pub agree-self : (ps : List Place) (m : Buffers) → AgreeOn ps m m
+agree-self [] m = tt
+agree-self (p ∷ ps) m = (refl, agree-self ps m)
+
+-- bytes in a row are as many as they are
+pub span-length : (t : Bool) (a k : ℕ) → length (span t a k) ≡ k
+unfolding span
+span-length t a zero = refl
+span-length t a (suc k) = ap suc (span-length t (a + 1) k)
+
+-- a pointer on, and on again
+pub onward-twice : (p : Pointer) (i j : ℕ) → onward (onward p i) j ≡ onward p (i + j)
+unfolding onward
+onward-twice p i j = ap (λ (a : ℕ). pointer a (p .tag)) (mod-add-mod (p .address + i) 1048576 j ∙ ap (λ (a : ℕ). a % 1048576) (add-assoc (p .address) i j))
+
+module _ (m n : Buffers) where
+  -- memories that agree on two lists agree on each
+  pub agree-left : (ps qs : List Place) → AgreeOn (ps ++ qs) m n → AgreeOn ps m n
+  agree-left [] qs h = tt
+  agree-left (p ∷ ps) qs h = (h .0, agree-left ps qs (h .1))
+
+  pub agree-right : (ps qs : List Place) → AgreeOn (ps ++ qs) m n → AgreeOn qs m n
+  agree-right [] qs h = h
+  agree-right (p ∷ ps) qs h = agree-right ps qs (h .1)
+
+  -- those that agree on bytes in a row agree on each of them,
+  pub agree-at : (t : Bool) (a k j : ℕ) → AgreeOn (span t a k) m n → j < k → byteAt n t (a + j) ≡ byteAt m t (a + j)
+  unfolding span
+  agree-at t a zero j h l = absurd (not-suc-le-zero l)
+  agree-at t a (suc k) zero h l = rw add-zero (h .0)
+  agree-at t a (suc k) (suc j) h l =
+      let e : a + 1 + j ≡ a + suc j = omega arith in
+      subst (λ (b : ℕ). byteAt n t b ≡ byteAt m t b) e (agree-at t (a + 1) k j (h .1) (le-of-suc-le-suc l))
+
+  -- and the other way round
+  pub agree-span : (t : Bool) (a k : ℕ) → ((j : ℕ) → j < k → byteAt n t (a + j) ≡ byteAt m t (a + j)) → AgreeOn (span t a k) m n
+  unfolding span
+  agree-span t a zero f = tt
+  agree-span t a (suc k) f =
+      let here : byteAt n t a ≡ byteAt m t a = rw add-zero at (f 0 (omega arith)) in
+      (here, agree-span t (a + 1) k (λ j l. let e : a + suc j ≡ a + 1 + j = omega arith in subst (λ (b : ℕ). byteAt n t b ≡ byteAt m t b) e (f (suc j) (omega arith))))
+
+  -- so they agree on a part of them
+  pub agree-part : (p : Pointer) (k j l : ℕ) → j + l ≤ k → AgreeOn (bytesAt p k) m n → AgreeOn (bytesAt (onward p j) l) m n
+  unfolding onward
+  agree-part p k j l fits h = agree-span (p .tag) ((p .address + j) % 1048576) l one
+    where
+      place : (i : ℕ) → indexOf (p .tag) ((p .address + j) % 1048576 + i) ≡ indexOf (p .tag) (p .address + (j + i))
+      place i = index-after (p .tag) (p .address + j) i ∙ ap (indexOf (p .tag)) (add-assoc (p .address) j i)
+
+      one : (i : ℕ) → i < l → byteAt n (p .tag) ((p .address + j) % 1048576 + i) ≡ byteAt m (p .tag) ((p .address + j) % 1048576 + i)
+      one i x =
+          byte-index n (p .tag) ((p .address + j) % 1048576 + i) (p .address + (j + i)) (place i)
+          ∙ agree-at (p .tag) (p .address) k (j + i) h (omega arith)
+          ∙ sym (byte-index m (p .tag) ((p .address + j) % 1048576 + i) (p .address + (j + i)) (place i))
+
+  -- and on the first of them
+  pub agree-first : (p : Pointer) (k l : ℕ) → l ≤ k → AgreeOn (bytesAt p k) m n → AgreeOn (bytesAt p l) m n
+  agree-first p k l fits h = agree-span (p .tag) (p .address) l (λ i x. agree-at (p .tag) (p .address) k i h (omega arith))
+
+  -- ---- what is read of them
+
+  -- a byte
+  pub byte-same : (p : Pointer) (k : ℕ) → 0 < k → AgreeOn (bytesAt p k) m n → byteHere n p ≡ byteHere m p
+  byte-same p k l h = rw add-zero at (agree-at (p .tag) (p .address) k 0 h l)
+
+  -- the byte j places on
+  pub byte-on : (p : Pointer) (k j : ℕ) → j < k → AgreeOn (bytesAt p k) m n → byteHere n (onward p j) ≡ byteHere m (onward p j)
+  byte-on p k j l h = byte-same (onward p j) 1 (lit< tt) (agree-part p k j 1 (omega arith) h)
+
+  -- a word
+  word-at : (t : Bool) (a k j : ℕ) → j + 1 < k → AgreeOn (span t a k) m n → wordAt n t (a + j) ≡ wordAt m t (a + j)
+  unfolding wordAt
+  word-at t a k j l h =
+      ap₂ wordOf (agree-at t a k j h (omega arith))
+      (subst (λ (b : ℕ). byteAt n t b ≡ byteAt m t b) (sym (add-assoc a j 1)) (agree-at t a k (j + 1) h l))
+
+  pub word-same : (t : Bool) (a k : ℕ) → 1 < k → AgreeOn (span t a k) m n → wordAt n t a ≡ wordAt m t a
+  word-same t a k l h = rw add-zero at (word-at t a k 0 l h)
+
+  -- a doubleword pointer
+  pub doubleword-same : (t : Bool) (a : ℕ) → AgreeOn (span t a 4) m n → doublewordAt n t a ≡ doublewordAt m t a
+  unfolding doublewordAt
+  doubleword-same t a h = ap₂ addressOf (word-same t a 4 (lit< tt) h) (word-at t a 4 2 (lit< tt) h)
+
+  -- a stored pointer
+  pub pointer-same : (t : Bool) (a k : ℕ) → 2 < k → AgreeOn (span t a k) m n → pointerAt n t a ≡ pointerAt m t a
+  unfolding pointerAt
+  pointer-same t a k l h =
+      let e₀ : byteAt n t a ≡ byteAt m t a = rw add-zero at (agree-at t a k 0 h (omega arith)) in
+      let e₁ : byteAt n t (a + 1) ≡ byteAt m t (a + 1) = agree-at t a k 1 h (omega arith) in
+      let e₂ : byteAt n t (a + 2) ≡ byteAt m t (a + 2) = agree-at t a k 2 h l in
+      rw (e₀, e₁, e₂)
+
+  -- an operand
+  pub operand-same : (p : Pointer) (wide : Bool) → AgreeOn (bytesAt p (sizeOf wide)) m n → operandAt n p wide ≡ operandAt m p wide
+  unfolding operandAt
+  operand-same p true h = ap (extended 16) (word-same (p .tag) (p .address) 2 (lit< tt) h)
+  operand-same p false h = ap (extended 8) (byte-same p 1 (lit< tt) h)
+
+  -- a displacement, and a channel that jumps by it or not
+  displacement-same : (p : Pointer) (two : Bool) → AgreeOn (bytesAt p (oneOrTwo two)) m n → displacementAt n p two ≡ displacementAt m p two
+  unfolding displacementAt
+  displacement-same p true h = ap (signedOf 16) (word-same (p .tag) (p .address) 2 (lit< tt) h)
+  displacement-same p false h = ap (signedOf 8) (byte-same p 1 (lit< tt) h)
+
+  pub jumped-same : (taken : Bool) (c : Channel) (p : Pointer) (two : Bool) → AgreeOn (bytesAt p (oneOrTwo two)) m n → jumpedIf taken n c p two ≡ jumpedIf taken m c p two
+  unfolding jumpedIf landing
+  jumped-same taken c p two h = rw (displacement-same p two h)
+
+  -- where an operand lies
+  pub effective-same : (c : Channel) (o : Memory) (pair : Pointer) → AgreeOn (bytesAt (onward pair 2) (offsetLength o)) m n → effective n c o pair ≡ effective m c o pair
+  unfolding effective indexed offsetLength span
+  effective-same c o pair h = ap (onward (baseOf c (o .mm))) (go (eqb (o .aa) 0) (eqb (o .aa) 1) h)
+    where
+      go : (none one : Bool) → AgreeOn (bytesAt (onward pair 2) (moreBy one)) m n
+          → pick none 0 (pick one (byteHere n (onward pair 2)) (c .ix)) ≡ pick none 0 (pick one (byteHere m (onward pair 2)) (c .ix))
+      go true one h = refl
+      go false true h = h .0
+      go false false h = refl
+
+  -- ---- what is lent of them
+
+  module _ (same : SameLengths m n) where
+    pub lent-same : (ps : List Place) → allLent n ps ≡ allLent m ps
+    unfolding allLent lentAt
+    lent-same [] = refl
+    lent-same (p ∷ ps) = ap₂ _&&_ (ap (λ (l : ℕ). ltb (indexOf (p .tag) (p .address)) l) (same (p .tag))) (lent-same ps)
+
+    -- what a call is given is refused alike
+    pub given-same : (s : State) → givenNumber s n ≡ givenNumber s m
+    unfolding givenNumber withinLimits spaceOf
+    given-same s = ap₂ (λ (a b : ℕ). first (unless (leb a (limitOf false) && leb b (limitOf true)) 11) (unless (sound s) 10)) (same false) (same true)
+
+    -- so the stages of a call give the same number
+    pub number-same : (stages : List Stage) → stagesNumber n stages ≡ stagesNumber m stages
+    unfolding stagesNumber
+    number-same [] = refl
+    number-same (s ∷ rest) = ap₂ (λ (a : Bool) (b : ℕ). first (unless a 2) (first (s .judged) b)) (lent-same (s .places)) (number-same rest)

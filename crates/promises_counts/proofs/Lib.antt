@@ -1,0 +1,9 @@
+pub mod AgreeLaws
+pub mod TraceLaws
+pub mod DeedLaws
+pub mod Attention
+pub mod Instruction
+pub mod Transfer
+pub mod Step
+pub mod Counts
+pub mod Widest

@@ -1,0 +1,155 @@
+-- The list of a step is complete: that of the transfer step or the instruction that was chosen, and none of an external end.
+-- Assumes nothing.
+use Prim.Native.Nat.{ℕ}
+use borrow.Author.Tests.{eq-eqb, ne-eqb}
+use lib.Dec.{eqb, ltb}
+use mathlib.Core.Bool.{Bool, true, false}
+use mathlib.Core.List.{List, []}
+use mathlib.Core.Path.{_≡_, refl, sym, ap, _∙_}
+use native.Mathlib.Decide.{ℕ-discrete}
+use Rattle.words.specs.Choice.{pick}
+use Rattle.memory.specs.Buffers.{Buffers}
+use Rattle.memory.specs.Places.{Place}
+use Rattle.machine.specs.Outcomes.{unless, first}
+use Rattle.machine.specs.Psw.{transferring}
+use Rattle.machine.specs.States.{channelOf, blockOf, busyIn}
+use Rattle.machine.specs.declared.Channel.{Channel}
+use Rattle.machine.specs.declared.State.{State}
+use Rattle.transfer.proofs.StepLaws.{refused as transfer-refused}
+use Rattle.transfer.specs.Steps.{Transfer, transferOf, touchedByTransfer}
+use Rattle.execute.proofs.OutcomeLaws.{refused as instruction-refused}
+use Rattle.execute.specs.Execute.{Executed, executeOf, touchedByInstruction}
+use Rattle.step.specs.Choosing.{choiceOf}
+use Rattle.step.specs.Step.{Step, refusedAs, doneAs, refusedStep, doneStep, settledStep, transferStep, instructionStep, externalStep, channelStep, chosenStep, entryNumber, stepOf}
+use Rattle.step.specs.Touched.{touchedIn, touchedByStep}
+use Rattle.step.specs.declared.Kind.{Kind}
+use Rattle.step.specs.declared.Kind.the-variants.{Transfer as TransferKind, Instruction as InstructionKind}
+use Rattle.step.specs.declared.Stepped.{Stepped}
+use Rattle.step.specs.declared.turns.Choice.{Choice}
+use Rattle.step.specs.declared.turns.Choice.the-variants.{Nobody, Ends, Steps}
+use Rattle.promises_counts.specs.Complete.{SameLengths, AgreeOn}
+use Rattle.promises_counts.specs.Lists.{stepAnswer, StepComplete}
+use Rattle.promises_counts.specs.Stores.{storesMade, storePlaces}
+use Rattle.promises_counts.proofs.AgreeLaws.{given-same}
+use Rattle.promises_counts.proofs.Instruction.{instruction-traced}
+use Rattle.promises_counts.proofs.TraceLaws.{Traced, complete}
+use Rattle.promises_counts.proofs.Transfer.{transfer-traced}
+
+module _ (s : State) (b : Bool) (kind : Kind) where
+  -- a channel's own step: what it answers, by number and channel
+  answerBy : ℕ × Channel → Stepped
+  answerBy a = pick (eqb (a .0) 0) (doneAs s b (a .1) kind) (refusedAs (a .0) s)
+
+  told-by : (k : ℕ) (c : Channel) (o o′ : Buffers) → stepAnswer (settledStep k s o b c o′ kind) ≡ answerBy (k, c)
+  unfolding settledStep answerBy
+  told-by k c o o′ = go (eqb k 0)
+    where
+      go : (x : Bool) → stepAnswer (pick x (doneStep s b c o′ kind) (refusedStep k s o)) ≡ pick x (doneAs s b c kind) (refusedAs k s)
+      go true = refl
+      go false = refl
+
+  -- and what it leaves
+  left-by : (k : ℕ) (c : Channel) (o o′ : Buffers) → ((k ≡ 0 → ⊥) → o′ ≡ o) → (settledStep k s o b c o′ kind) .memory ≡ o′
+  unfolding settledStep
+  left-by k c o o′ kept = go (ℕ-discrete k 0)
+    where
+      go : Dec (k ≡ 0) → (settledStep k s o b c o′ kind) .memory ≡ o′
+      go (yes z) = rw (eq-eqb k 0 z)
+      go (no ne) = rw (ne-eqb k 0 ne) (sym (kept ne))
+
+  -- so a traced transfer step or instruction is a traced step
+  own-traced : (touched : Buffers → List Place) (number : Buffers → ℕ) (channel : Buffers → Channel) (after : Buffers → Buffers) (m : Buffers)
+      → ((n : Buffers) → (number n ≡ 0 → ⊥) → after n ≡ n)
+      → Traced {A = ℕ × Channel} touched (λ n. (number n, channel n)) after m
+      → Traced touched (λ n. stepAnswer (settledStep (number n) s n b (channel n) (after n) kind)) (λ n. (settledStep (number n) s n b (channel n) (after n) kind) .memory) m
+  own-traced touched number channel after m kept t =
+      record {
+        reads = t .reads;
+        stores = t .stores;
+        done = t .done;
+        split = t .split;
+        same = λ n l h. record {
+          list = t .same n l h .list;
+          told = told-by (number n) (channel n) n (after n) ∙ ap answerBy (t .same n l h .told) ∙ sym (told-by (number m) (channel m) m (after m));
+          left = left-by (number n) (channel n) n (after n) (kept n) ∙ t .same n l h .left;
+        };
+      }
+
+-- a call that touches nothing
+none-traced : {A : Type 0} (a : A) (m : Buffers) → Traced (λ n. []) (λ n. a) (λ n. n) m
+unfolding storePlaces storesMade
+none-traced a m =
+    record {
+      reads = [];
+      stores = [];
+      done = false;
+      split = refl;
+      same = λ n l h. record { list = refl; told = refl; left = refl };
+    }
+
+module _ (s : State) (m : Buffers) where
+  transfer-kept : (b : Bool) (n : Buffers) → ((transferOf (channelOf s b) n) .number ≡ 0 → ⊥) → (transferOf (channelOf s b) n) .memory ≡ n
+  transfer-kept b n ne = ap (λ (o : Transfer). o .memory) (transfer-refused (channelOf s b) n ne)
+
+  instruction-kept : (b : Bool) (n : Buffers) → ((executeOf (channelOf s b) (busyIn (blockOf s b)) n) .number ≡ 0 → ⊥) → (executeOf (channelOf s b) (busyIn (blockOf s b)) n) .memory ≡ n
+  instruction-kept b n ne = ap (λ (o : Executed). o .memory) (instruction-refused (channelOf s b) (busyIn (blockOf s b)) n ne)
+
+  -- the turn of a channel, by whether it transfers
+  turn-traced : (b x : Bool)
+      → Traced (λ n. pick x (touchedByTransfer (channelOf s b) n) (touchedByInstruction n (channelOf s b) (busyIn (blockOf s b))))
+      (λ n. stepAnswer (pick x (transferStep s n b) (instructionStep s n b))) (λ n. (pick x (transferStep s n b) (instructionStep s n b)) .memory) m
+  unfolding transferStep instructionStep
+  turn-traced b true =
+      let c = channelOf s b in
+      own-traced s b TransferKind (touchedByTransfer c) (λ n. transferOf c n .number) (λ n. transferOf c n .channel) (λ n. transferOf c n .memory) m
+      (transfer-kept b) (transfer-traced c m)
+  turn-traced b false =
+      let c = channelOf s b in
+      let busy = busyIn (blockOf s b) in
+      own-traced s b InstructionKind (λ n. touchedByInstruction n c busy) (λ n. executeOf c busy n .number) (λ n. executeOf c busy n .channel) (λ n. executeOf c busy n .memory) m
+      (instruction-kept b) (instruction-traced c busy m)
+
+  -- what was chosen
+  chosen-traced : (x : Choice) → Traced (touchedIn x s) (λ n. stepAnswer (chosenStep x s n)) (λ n. (chosenStep x s n) .memory) m
+  unfolding touchedIn chosenStep channelStep externalStep
+  chosen-traced Nobody = none-traced _ m
+  chosen-traced (Ends b) = none-traced _ m
+  chosen-traced (Steps b) = turn-traced b (transferring (channelOf s b .psw))
+
+  -- what is given is refused alike
+  entry-same : (lines : ℕ) (n : Buffers) → SameLengths m n → entryNumber s n lines ≡ entryNumber s m lines
+  unfolding entryNumber
+  entry-same lines n l = ap (first (unless (ltb lines 16) 12)) (given-same m n l s)
+
+module _ (s : State) (lines : ℕ) (m : Buffers) where
+  -- the step by the number of its entry
+  stepBy : ℕ → Buffers → Step
+  stepBy k n = pick (eqb k 0) (chosenStep (choiceOf s lines) s n) (refusedStep k s n)
+
+  stepped-same : (x : Bool) (t : Traced (touchedIn (choiceOf s lines) s) (λ n. stepAnswer (chosenStep (choiceOf s lines) s n)) (λ n. (chosenStep (choiceOf s lines) s n) .memory) m)
+      (n : Buffers) → SameLengths m n → AgreeOn (t .reads) m n
+      → (stepAnswer (pick x (chosenStep (choiceOf s lines) s n) (refusedStep (entryNumber s m lines) s n)) ≡ stepAnswer (pick x (chosenStep (choiceOf s lines) s m) (refusedStep (entryNumber s m lines) s m)))
+      × ((pick x (chosenStep (choiceOf s lines) s n) (refusedStep (entryNumber s m lines) s n)) .memory ≡ storesMade n (pick (pick x (t .done) false) (t .stores) []))
+  unfolding storesMade
+  stepped-same true t n l h = (t .same n l h .told, t .same n l h .left)
+  stepped-same false t n l h = (refl, refl)
+
+  step-traced : Traced (λ n. touchedByStep s n lines) (λ n. stepAnswer (stepOf s n lines)) (λ n. stepOf s n lines .memory) m
+  unfolding touchedByStep stepOf stepBy
+  step-traced =
+      let t = chosen-traced s m (choiceOf s lines) in
+      record {
+        reads = t .reads;
+        stores = t .stores;
+        done = pick (eqb (entryNumber s m lines) 0) (t .done) false;
+        split = t .split;
+        same = λ n l h. record {
+          list = t .same n l h .list;
+          told = ap (λ (k : ℕ). stepAnswer (stepBy k n)) (entry-same s m lines n l) ∙ stepped-same (eqb (entryNumber s m lines) 0) t n l h .0;
+          left = ap (λ (k : ℕ). stepBy k n .memory) (entry-same s m lines n l) ∙ stepped-same (eqb (entryNumber s m lines) 0) t n l h .1;
+        };
+      }
+
+  -- its list is complete
+  pub step-complete : StepComplete s lines m
+  step-complete = complete step-traced

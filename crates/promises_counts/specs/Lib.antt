@@ -1,0 +1,5 @@
+pub mod Stores
+pub mod Complete
+pub mod Lists
+pub mod Counts
+pub mod Widest

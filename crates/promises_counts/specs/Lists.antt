@@ -1,0 +1,53 @@
+-- The calls that have a list of touched places, and that the list of each is complete.
+use mathlib.Core.List.{List}
+use Prim.Native.Nat.{ℕ}
+use Rattle.memory.specs.Buffers.{Buffers}
+use Rattle.memory.specs.Places.{Place}
+use Rattle.machine.specs.Outcomes.{Outcome}
+use Rattle.machine.specs.States.{channelOf, isSecond}
+use Rattle.machine.specs.declared.Answer.{Answer}
+use Rattle.machine.specs.declared.Channel.{Channel}
+use Rattle.machine.specs.declared.State.{State}
+use Rattle.attention.specs.Attention.{orderTo, attentionOf}
+use Rattle.attention.specs.Touched.{touchedByOrder}
+use Rattle.transfer.specs.Steps.{Transfer, touchedByTransfer, transferOf}
+use Rattle.execute.specs.Execute.{Executed, touchedByInstruction, executeOf}
+use Rattle.step.specs.Step.{Step, stepOf}
+use Rattle.step.specs.Touched.{touchedByStep}
+use Rattle.step.specs.declared.Stepped.{Stepped}
+use Rattle.promises_counts.specs.Complete.{Complete}
+
+-- the bytes that an attention reads or stores, each access once
+unfoldable pub touchedByAttention : State → Buffers → ℕ → List Place
+touchedByAttention s m channel = touchedByOrder (orderTo s m (isSecond channel)) (channelOf s (isSecond channel) .mode)
+
+-- what each call answers, beside the memories
+abbrev pub attentionAnswer : Outcome → Answer
+attentionAnswer o = record { number = o .number; state = o .state }
+
+abbrev pub transferAnswer : Transfer → ℕ × Channel
+transferAnswer o = (o .number, o .channel)
+
+abbrev pub instructionAnswer : Executed → ℕ × Channel
+instructionAnswer o = (o .number, o .channel)
+
+abbrev pub stepAnswer : Step → Stepped
+stepAnswer o = record { number = o .number; state = o .state; channel = o .channel; kind = o .kind }
+
+-- the list of an attention is complete
+abbrev pub AttentionComplete : State → ℕ → Buffers → Type 0
+AttentionComplete s channel =
+    Complete (λ n. touchedByAttention s n channel) (λ n. attentionAnswer (attentionOf s n channel)) (λ n. attentionOf s n channel .memory)
+
+-- that of a channel's transfer step
+abbrev pub TransferComplete : Channel → Buffers → Type 0
+TransferComplete c = Complete (touchedByTransfer c) (λ n. transferAnswer (transferOf c n)) (λ n. transferOf c n .memory)
+
+-- that of a channel's instruction
+abbrev pub InstructionComplete : Channel → ℕ → Buffers → Type 0
+InstructionComplete c busy =
+    Complete (λ n. touchedByInstruction n c busy) (λ n. instructionAnswer (executeOf c busy n)) (λ n. executeOf c busy n .memory)
+
+-- that of a step
+abbrev pub StepComplete : State → ℕ → Buffers → Type 0
+StepComplete s lines = Complete (λ n. touchedByStep s n lines) (λ n. stepAnswer (stepOf s n lines)) (λ n. stepOf s n lines .memory)
