@@ -44,6 +44,7 @@ use Rattle.decode_shapes.specs.declared.Second.the-variants.{Operand, NoSecond}
 use Rattle.decode_shapes.specs.declared.Shape.{Shape}
 use Rattle.decode_shapes.specs.declared.Shape.the-variants.{Nop, Sintr, Xfer, Wid, Hlt, Lpdi, RegisterImmediate, Register, JumpRegister, RegisterMemory, MemoryRegister, MemoryImmediate, MemoryAlone, JumpMemory, Lpd, MovpLoad, MovpStore, MovMemory, Tsl, Call, JumpMasked, JumpBit, Bit}
 use Rattle.decode_shapes.specs.declared.Work.{Work}
+use Rattle.decode_shapes.specs.declared.Work.the-variants.{Mov, Add, Or, And}
 use Rattle.execute_operands.specs.Changes.{placesOf}
 use Rattle.execute_operands.specs.Marks.{pastInstruction}
 use Rattle.execute_operands.specs.Operands.{byteHere, bytesAt, sizeOf, indexed, effective, afterPair, isMove}
@@ -67,7 +68,7 @@ use Rattle.step.specs.Touched.{touchedIn, touchedByStep}
 use Rattle.step.specs.declared.Kind.{Kind}
 use Rattle.step.specs.declared.turns.Choice.{Choice}
 use Rattle.step.specs.declared.turns.Choice.the-variants.{Nobody, Ends, Steps}
-use Rattle.promises_counts.specs.Counts.{counted, commandCount, secondOffset, accessCount, instructionCount, AttentionCounts, TransferCounts, InstructionCounts, StepCounts}
+use Rattle.promises_counts.specs.Counts.{counted, commandCount, secondOffset, workReads, accessCount, instructionCount, AttentionCounts, TransferCounts, InstructionCounts, StepCounts}
 use Rattle.promises_counts.specs.Lists.{touchedByAttention}
 use Rattle.promises_counts.proofs.AgreeLaws.{span-length}
 
@@ -214,6 +215,14 @@ deed-length d = length (d .reads) + d .change .count
 row-and : (p : Pointer) (k j : ℕ) → length (bytesAt p k) + j ≡ k + j
 row-and p k j = ap (λ (x : ℕ). x + j) (span-length (p .tag) (p .address) k)
 
+first-reads : (work : Work) (wide : Bool) → readFirst work wide ≡ workReads work wide
+unfolding readFirst isMove workReads
+first-reads Mov wide = refl
+first-reads Add wide = refl
+first-reads Or wide = refl
+first-reads And wide = refl
+first-reads Work.Not wide = refl
+
 mov-length : (m : Buffers) (c : Channel) (tp : Pointer) (o : Memory) (x : Second) → (movSecondDeed m c tp o x) .second ≡ 0
     → deed-length (movSecondDeed m c tp o x) ≡ secondOffset x + sizeOf (o .wide) + sizeOf (o .wide)
 unfolding deed-length movSecondDeed movOperandDeed secondOffset
@@ -247,8 +256,8 @@ module _ (m : Buffers) (c : Channel) (busy : ℕ) where
   shape-length (Register single rrr) h = refl
   shape-length (JumpRegister zero rrr two) h = refl
   shape-length (RegisterMemory work rrr o) h = row-and _ (sizeOf (o .wide)) 0 ∙ add-zero (sizeOf (o .wide))
-  shape-length (MemoryRegister work rrr o) h = row-and _ (readFirst work (o .wide)) (sizeOf (o .wide))
-  shape-length (MemoryImmediate work o) h = row-and _ (readFirst work (o .wide)) (sizeOf (o .wide))
+  shape-length (MemoryRegister work rrr o) h = row-and _ (readFirst work (o .wide)) (sizeOf (o .wide)) ∙ ap (λ (x : ℕ). x + sizeOf (o .wide)) (first-reads work (o .wide))
+  shape-length (MemoryImmediate work o) h = row-and _ (readFirst work (o .wide)) (sizeOf (o .wide)) ∙ ap (λ (x : ℕ). x + sizeOf (o .wide)) (first-reads work (o .wide))
   shape-length (MemoryAlone single o) h = row-and _ (sizeOf (o .wide)) (sizeOf (o .wide))
   shape-length (JumpMemory zero o two) h = row-and _ (sizeOf (o .wide)) 0 ∙ add-zero (sizeOf (o .wide))
   shape-length (Lpd ppp o) h = refl
@@ -297,13 +306,13 @@ size-small : (wide : Bool) → sizeOf wide ≤ 2
 size-small true = lit≤ tt
 size-small false = lit≤ tt
 
-read-small : (work : Work) (wide : Bool) → readFirst work wide ≤ 2
-unfolding readFirst
-read-small work wide = go (isMove work)
-  where
-    go : (b : Bool) → pick b 0 (sizeOf wide) ≤ 2
-    go true = lit≤ tt
-    go false = size-small wide
+read-small : (work : Work) (wide : Bool) → workReads work wide ≤ 2
+unfolding workReads
+read-small Mov wide = lit≤ tt
+read-small Add wide = size-small wide
+read-small Or wide = size-small wide
+read-small And wide = size-small wide
+read-small Work.Not wide = size-small wide
 
 second-small : (x : Second) → secondOffset x ≤ 1
 unfolding secondOffset offsetLength

@@ -20,9 +20,11 @@ use Rattle.decode_shapes.specs.declared.Second.{Second}
 use Rattle.decode_shapes.specs.declared.Second.the-variants.{Operand, NoSecond}
 use Rattle.decode_shapes.specs.declared.Shape.{Shape}
 use Rattle.decode_shapes.specs.declared.Shape.the-variants.{Nop, Sintr, Xfer, Wid, Hlt, Lpdi, RegisterImmediate, Register, JumpRegister, RegisterMemory, MemoryRegister, MemoryImmediate, MemoryAlone, JumpMemory, Lpd, MovpLoad, MovpStore, MovMemory, Tsl, Call, JumpMasked, JumpBit, Bit}
+use Rattle.decode_shapes.specs.declared.Work.{Work}
+use Rattle.decode_shapes.specs.declared.Work.the-variants.{Mov, Add, Or, And}
 use Rattle.decode.specs.Lengths.{offsetLength, lengthOf}
 use Rattle.execute_operands.specs.Operands.{byteHere, sizeOf, effective}
-use Rattle.execute_deeds.specs.MemoryForms.{readFirst, secondAt}
+use Rattle.execute_deeds.specs.MemoryForms.{secondAt}
 use Rattle.execute.specs.Execute.{decodedAt, touchedByInstruction, executeOf}
 use Rattle.transfer.specs.Reads.{dataOf}
 use Rattle.transfer.specs.Sides.{twoMove}
@@ -53,6 +55,14 @@ unfoldable pub secondOffset : Second → ℕ
 secondOffset (Operand q) = offsetLength q
 secondOffset NoSecond = 0
 
+-- the bytes that work with a memory operand reads of it: a move replaces it unread
+unfoldable pub workReads : Work → Bool → ℕ
+workReads Mov wide = 0
+workReads Add wide = sizeOf wide
+workReads Or wide = sizeOf wide
+workReads And wide = sizeOf wide
+workReads Work.Not wide = sizeOf wide
+
 -- what an instruction of each shape accesses besides the bytes of `lengthOf`: a second pair's offset byte, the operand bytes that it reads, those that it stores
 unfoldable pub accessCount : Shape → Buffers → Channel → ℕ
 accessCount Nop m c = 0
@@ -66,9 +76,8 @@ accessCount (RegisterImmediate work rrr wide) m c = 0
 accessCount (Register single rrr) m c = 0
 accessCount (JumpRegister zero rrr two) m c = 0
 accessCount (RegisterMemory work rrr o) m c = sizeOf (o .wide)
--- a move reads nothing of what it replaces
-accessCount (MemoryRegister work rrr o) m c = readFirst work (o .wide) + sizeOf (o .wide)
-accessCount (MemoryImmediate work o) m c = readFirst work (o .wide) + sizeOf (o .wide)
+accessCount (MemoryRegister work rrr o) m c = workReads work (o .wide) + sizeOf (o .wide)
+accessCount (MemoryImmediate work o) m c = workReads work (o .wide) + sizeOf (o .wide)
 accessCount (MemoryAlone single o) m c = sizeOf (o .wide) + sizeOf (o .wide)
 accessCount (JumpMemory zero o two) m c = sizeOf (o .wide)
 accessCount (Lpd ppp o) m c = 4
