@@ -16,7 +16,6 @@ use Rattle.machine.proofs.OutcomeLaws.{first-some}
 use Rattle.machine.specs.Outcomes.{outcome, unless, first, settled}
 use Rattle.machine.specs.Stages.{stagesNumber, stagesTouched}
 use Rattle.machine.specs.States.{channelOf, withChannel, isSecond, isChannel, blockOf, busyIn}
-use Rattle.machine.specs.declared.Answer.{Answer}
 use Rattle.machine.specs.declared.Channel.{Channel}
 use Rattle.machine.specs.declared.Mode.{Mode}
 use Rattle.machine.specs.declared.State.{State}
@@ -224,15 +223,15 @@ module _ (s : State) (channel : ℕ) (m : Buffers) where
   -- ---- the attention
 
   -- what is answered and left, by the number
-  answerBy : ℕ → Channel → Answer
-  answerBy k ch = pick (eqb k 0) (record { number = 0; state = withChannel s (isSecond channel) ch }) (record { number = k; state = s })
+  answerBy : ℕ → Channel → ℕ × State
+  answerBy k ch = pick (eqb k 0) (0, withChannel s (isSecond channel) ch) (k, s)
 
   told-by : (k : ℕ) (ch : Channel) (o o′ : Buffers) → attentionAnswer (settled k s o (withChannel s (isSecond channel) ch) o′) ≡ answerBy k ch
   unfolding settled answerBy
   told-by k ch o o′ = go (eqb k 0)
     where
       go : (b : Bool) → attentionAnswer (pick b (outcome 0 (withChannel s (isSecond channel) ch) o′) (outcome k s o))
-          ≡ pick b (record { number = 0; state = withChannel s (isSecond channel) ch }) (record { number = k; state = s })
+          ≡ pick b (0, withChannel s (isSecond channel) ch) (k, s)
       go true = refl
       go false = refl
 

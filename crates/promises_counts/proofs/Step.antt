@@ -20,11 +20,10 @@ use Rattle.transfer.specs.Steps.{Transfer, transferOf, touchedByTransfer}
 use Rattle.execute.proofs.OutcomeLaws.{refused as instruction-refused}
 use Rattle.execute.specs.Execute.{Executed, executeOf, touchedByInstruction}
 use Rattle.step.specs.Choosing.{choiceOf}
-use Rattle.step.specs.Step.{Step, refusedAs, doneAs, refusedStep, doneStep, settledStep, transferStep, instructionStep, externalStep, channelStep, chosenStep, entryNumber, stepOf}
+use Rattle.step.specs.Step.{Step, refusedStep, doneStep, settledStep, transferStep, instructionStep, externalStep, channelStep, chosenStep, entryNumber, stepOf}
 use Rattle.step.specs.Touched.{touchedIn, touchedByStep}
 use Rattle.step.specs.declared.Kind.{Kind}
 use Rattle.step.specs.declared.Kind.the-variants.{Transfer as TransferKind, Instruction as InstructionKind}
-use Rattle.step.specs.declared.Stepped.{Stepped}
 use Rattle.step.specs.declared.turns.Choice.{Choice}
 use Rattle.step.specs.declared.turns.Choice.the-variants.{Nobody, Ends, Steps}
 use Rattle.promises_counts.specs.Complete.{SameLengths, AgreeOn}
@@ -36,15 +35,12 @@ use Rattle.promises_counts.proofs.TraceLaws.{Traced, complete}
 use Rattle.promises_counts.proofs.Transfer.{transfer-traced}
 
 module _ (s : State) (b : Bool) (kind : Kind) where
-  -- a channel's own step: what it answers, by number and channel
-  answerBy : ℕ × Channel → Stepped
-  answerBy a = pick (eqb (a .0) 0) (doneAs s b (a .1) kind) (refusedAs (a .0) s)
-
-  told-by : (k : ℕ) (c : Channel) (o o′ : Buffers) → stepAnswer (settledStep k s o b c o′ kind) ≡ answerBy (k, c)
-  unfolding settledStep answerBy
-  told-by k c o o′ = go (eqb k 0)
+  -- a channel's own step answers by its number and its channel, whatever the memories are
+  told-by : (k : ℕ) (c : Channel) (m m′ n n′ : Buffers) → stepAnswer (settledStep k s m b c m′ kind) ≡ stepAnswer (settledStep k s n b c n′ kind)
+  unfolding settledStep
+  told-by k c m m′ n n′ = go (eqb k 0)
     where
-      go : (x : Bool) → stepAnswer (pick x (doneStep s b c o′ kind) (refusedStep k s o)) ≡ pick x (doneAs s b c kind) (refusedAs k s)
+      go : (x : Bool) → stepAnswer (pick x (doneStep s b c m′ kind) (refusedStep k s m)) ≡ stepAnswer (pick x (doneStep s b c n′ kind) (refusedStep k s n))
       go true = refl
       go false = refl
 
@@ -70,7 +66,7 @@ module _ (s : State) (b : Bool) (kind : Kind) where
         split = t .split;
         same = λ n l h. record {
           list = t .same n l h .list;
-          told = told-by (number n) (channel n) n (after n) ∙ ap answerBy (t .same n l h .told) ∙ sym (told-by (number m) (channel m) m (after m));
+          told = told-by (number n) (channel n) n (after n) m m ∙ ap (λ (a : ℕ × Channel). stepAnswer (settledStep (a .0) s m b (a .1) m kind)) (t .same n l h .told) ∙ told-by (number m) (channel m) m m m (after m);
           left = left-by (number n) (channel n) n (after n) (kept n) ∙ t .same n l h .left;
         };
       }

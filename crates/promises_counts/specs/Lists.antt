@@ -5,7 +5,6 @@ use Rattle.memory.specs.Buffers.{Buffers}
 use Rattle.memory.specs.Places.{Place}
 use Rattle.machine.specs.Outcomes.{Outcome}
 use Rattle.machine.specs.States.{channelOf, isSecond}
-use Rattle.machine.specs.declared.Answer.{Answer}
 use Rattle.machine.specs.declared.Channel.{Channel}
 use Rattle.machine.specs.declared.State.{State}
 use Rattle.attention.specs.Attention.{orderTo, attentionOf}
@@ -14,7 +13,7 @@ use Rattle.transfer.specs.Steps.{Transfer, touchedByTransfer, transferOf}
 use Rattle.execute.specs.Execute.{Executed, touchedByInstruction, executeOf}
 use Rattle.step.specs.Step.{Step, stepOf}
 use Rattle.step.specs.Touched.{touchedByStep}
-use Rattle.step.specs.declared.Stepped.{Stepped}
+use Rattle.step.specs.declared.Kind.{Kind}
 use Rattle.promises_counts.specs.Complete.{Complete}
 
 -- the bytes that an attention reads or stores, each access once
@@ -22,8 +21,8 @@ unfoldable pub touchedByAttention : State → Buffers → ℕ → List Place
 touchedByAttention s m channel = touchedByOrder (orderTo s m (isSecond channel)) (channelOf s (isSecond channel) .mode)
 
 -- what each call answers, beside the memories
-abbrev pub attentionAnswer : Outcome → Answer
-attentionAnswer o = record { number = o .number; state = o .state }
+abbrev pub attentionAnswer : Outcome → ℕ × State
+attentionAnswer o = (o .number, o .state)
 
 abbrev pub transferAnswer : Transfer → ℕ × Channel
 transferAnswer o = (o .number, o .channel)
@@ -31,8 +30,8 @@ transferAnswer o = (o .number, o .channel)
 abbrev pub instructionAnswer : Executed → ℕ × Channel
 instructionAnswer o = (o .number, o .channel)
 
-abbrev pub stepAnswer : Step → Stepped
-stepAnswer o = record { number = o .number; state = o .state; channel = o .channel; kind = o .kind }
+abbrev pub stepAnswer : Step → ℕ × State × ℕ × Kind
+stepAnswer o = (o .number, o .state, o .channel, o .kind)
 
 -- the list of an attention is complete
 abbrev pub AttentionComplete : State → ℕ → Buffers → Type 0
