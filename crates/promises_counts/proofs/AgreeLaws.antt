@@ -20,7 +20,6 @@ use Rattle.memory.specs.declared.Pointer.{Pointer}
 use Rattle.machine.specs.Outcomes.{unless, first, givenNumber}
 use Rattle.machine.specs.Registers.{baseOf}
 use Rattle.machine.specs.Stages.{Stage, stagesNumber}
-use Rattle.machine.specs.States.{sound}
 use Rattle.machine.specs.declared.Channel.{Channel}
 use Rattle.machine.specs.declared.State.{State}
 use Rattle.decode.specs.Lengths.{moreBy, oneOrTwo, offsetLength}
@@ -159,9 +158,13 @@ module _ (m n : Buffers) where
     lent-same (p ∷ ps) = ap₂ _&&_ (ap (λ (l : ℕ). ltb (indexOf (p .tag) (p .address)) l) (same (p .tag))) (lent-same ps)
 
     -- what a call is given is refused alike
+    limits-same : withinLimits n ≡ withinLimits m
+    unfolding withinLimits spaceOf
+    limits-same = ap₂ (λ (a b : ℕ). leb a (limitOf false) && leb b (limitOf true)) (same false) (same true)
+
     pub given-same : (s : State) → givenNumber s n ≡ givenNumber s m
-    unfolding givenNumber withinLimits spaceOf
-    given-same s = ap₂ (λ (a b : ℕ). first (unless (leb a (limitOf false) && leb b (limitOf true)) 11) (unless (sound s) 10)) (same false) (same true)
+    unfolding givenNumber
+    given-same s = rw limits-same
 
     -- so the stages of a call give the same number
     pub number-same : (stages : List Stage) → stagesNumber n stages ≡ stagesNumber m stages

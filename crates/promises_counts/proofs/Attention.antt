@@ -9,12 +9,12 @@ use mathlib.Core.Path.{_≡_, refl, sym, ap, ap₂, _∙_}
 use Rattle.words.specs.Choice.{pick}
 use Rattle.words.specs.Stored.{storedLow, storedMiddle, storedHigh}
 use Rattle.memory.specs.Buffers.{Buffers}
-use Rattle.memory.specs.Places.{Place, span, allLent}
+use Rattle.memory.specs.Places.{Place, span}
 use Rattle.memory.specs.Values.{pointer, storePointer}
 use Rattle.machine.proofs.ConditionLaws.{first-none-left, first-none-right}
 use Rattle.machine.proofs.OutcomeLaws.{first-some}
 use Rattle.machine.specs.Outcomes.{outcome, unless, first, settled}
-use Rattle.machine.specs.Stages.{stagesNumber, stagesTouched}
+use Rattle.machine.specs.Stages.{Stage, stage, stagesNumber, stagesTouched}
 use Rattle.machine.specs.States.{channelOf, withChannel, isSecond, isChannel, blockOf, busyIn}
 use Rattle.machine.specs.declared.Channel.{Channel}
 use Rattle.machine.specs.declared.Mode.{Mode}
@@ -30,7 +30,7 @@ use Rattle.attention.specs.declared.Order.{Order}
 use Rattle.promises_counts.specs.Complete.{SameLengths, AgreeOn}
 use Rattle.promises_counts.specs.Lists.{touchedByAttention, attentionAnswer, AttentionComplete}
 use Rattle.promises_counts.specs.Stores.{Store, storesMade, storePlaces}
-use Rattle.promises_counts.proofs.AgreeLaws.{agree-left, agree-right, agree-at, word-same, doubleword-same, pointer-same, lent-same, given-same, number-same}
+use Rattle.promises_counts.proofs.AgreeLaws.{agree-left, agree-right, agree-at, word-same, doubleword-same, pointer-same, given-same, number-same}
 use Rattle.promises_counts.proofs.TraceLaws.{Traced, complete, storesAt, four-made}
 
 -- ---- what a command stores
@@ -130,11 +130,9 @@ refused-list : (o : Order) (mode : Mode) → eqb (commandNumber (o .command) mod
 unfolding touchedByOrder stagesTouched orderStages
 refused-list o mode e = rw e
 
-refused-number : (m : Buffers) (o : Order) (mode : Mode) → eqb (commandNumber (o .command) mode) 0 ≡ false
-    → orderNumber m o mode ≡ first (unless (allLent m (span false (o .block) 1)) 2) (commandNumber (o .command) mode)
-unfolding orderNumber stagesNumber orderStages
-refused-number m o mode e =
-    ap (first (unless (allLent m (span false (o .block) 1)) 2)) (first-some (commandNumber (o .command) mode) _ (eqb-false (commandNumber (o .command) mode) 0 e))
+refused-number : (m : Buffers) (ps : List Place) (k : ℕ) (rest rest′ : List Stage) → (k ≡ 0 → ⊥) → stagesNumber m (stage ps k ∷ rest) ≡ stagesNumber m (stage ps k ∷ rest′)
+unfolding stagesNumber
+refused-number m ps k rest rest′ ne = ap (first _) (first-some k (stagesNumber m rest) ne ∙ sym (first-some k (stagesNumber m rest′) ne))
 
 module _ (s : State) (channel : ℕ) (m : Buffers) where
   abbrev c : Channel
@@ -188,7 +186,7 @@ module _ (s : State) (channel : ℕ) (m : Buffers) where
             ∙ sym (refused-list (order m) (c .mode) e)
 
     order-number : orderNumber n (order n) (c .mode) ≡ orderNumber m (order m) (c .mode)
-    unfolding orderNumber
+    unfolding orderNumber orderStages
     order-number = go (eqb (commandNumber ((order m) .command) (c .mode)) 0) refl
       where
         go : (b : Bool) → eqb (commandNumber ((order m) .command) (c .mode)) 0 ≡ b → orderNumber n (order n) (c .mode) ≡ orderNumber m (order m) (c .mode)
@@ -196,11 +194,10 @@ module _ (s : State) (channel : ℕ) (m : Buffers) where
             number-same m n l (orderStages (order n) (c .mode))
             ∙ ap (λ (o : Order). stagesNumber m (orderStages o (c .mode))) (order-same e)
         go false e =
-            refused-number n (order n) (c .mode) (refused-same e)
-            ∙ ap₂ (λ (b : Bool) (k : ℕ). first (unless b 2) k)
-            (lent-same m n l (span false ((order n) .block) 1) ∙ ap (λ (b : ℕ). allLent m (span false b 1)) block-same)
-            (ap (λ (k : Command). commandNumber k (c .mode)) command-same)
-            ∙ sym (refused-number m (order m) (c .mode) e)
+            number-same m n l (orderStages (order n) (c .mode))
+            ∙ ap₂ (λ (b : ℕ) (k : Command). stagesNumber m (stage (span false b 1) (commandNumber k (c .mode)) ∷ stage (others (order n)) 0 ∷ [])) block-same command-same
+            ∙ refused-number m (span false ((order m) .block) 1) (commandNumber ((order m) .command) (c .mode)) (stage (others (order n)) 0 ∷ []) (stage (others (order m)) 0 ∷ [])
+            (eqb-false (commandNumber ((order m) .command) (c .mode)) 0 e)
 
     number-is : attentionNumber s n channel ≡ attentionNumber s m channel
     unfolding attentionNumber givenTo
