@@ -3,7 +3,7 @@
 use Prim.Native.Nat.{ℕ, zero, suc, _+_, _%_, _<_, _≤_}
 use lib.Dec.{ltb, leb, eqb, lit<}
 use lib.ListN.{length}
-use mathlib.Core.Bool.{Bool, true, false, _&&_}
+use mathlib.Core.Bool.{Bool, true, false, _&&_, _||_}
 use mathlib.Core.List.{List, [], _∷_, _++_}
 use mathlib.Core.Path.{_≡_, refl, sym, ap, ap₂, subst, _∙_}
 use native.Mathlib.Nat.{add-zero, add-assoc, mod-add-mod, not-suc-le-zero, le-of-suc-le-suc}
@@ -13,8 +13,8 @@ use Rattle.words.specs.Choice.{pick}
 use Rattle.words.specs.Signs.{signedOf, extended}
 use Rattle.words.specs.Sums.{addressOf}
 use Rattle.memory.proofs.PlaceLaws.{index-after, byte-index}
-use Rattle.memory.specs.Buffers.{Buffers, spaceOf, limitOf, indexOf, lentAt, byteAt, withinLimits}
-use Rattle.memory.specs.Places.{Place, span, allLent}
+use Rattle.memory.specs.Buffers.{Buffers, spaceOf, limitOf, indexOf, lentAt, touchableAt, byteAt, withinLimits}
+use Rattle.memory.specs.Places.{Place, span, allPass, allTouchable}
 use Rattle.memory.specs.Values.{pointer, onward, wordAt, doublewordAt, pointerAt}
 use Rattle.memory.specs.declared.Pointer.{Pointer}
 use Rattle.machine.specs.Outcomes.{unless, first, givenNumber}
@@ -149,13 +149,13 @@ module _ (m n : Buffers) where
       go false true h = h .0
       go false false h = refl
 
-  -- ---- what is lent of them
+  -- ---- what may be touched of them
 
   module _ (same : SameLengths m n) where
-    pub lent-same : (ps : List Place) → allLent n ps ≡ allLent m ps
-    unfolding allLent lentAt
-    lent-same [] = refl
-    lent-same (p ∷ ps) = ap₂ _&&_ (ap (λ (l : ℕ). ltb (indexOf (p .tag) (p .address)) l) (same (p .tag))) (lent-same ps)
+    touchable-same : (ps : List Place) → allTouchable n ps ≡ allTouchable m ps
+    unfolding allPass touchableAt lentAt
+    touchable-same [] = refl
+    touchable-same (p ∷ ps) = ap₂ _&&_ (ap (λ (l : ℕ). p .tag || ltb (indexOf (p .tag) (p .address)) l) (same (p .tag))) (touchable-same ps)
 
     -- what a call is given is refused alike
     limits-same : withinLimits n ≡ withinLimits m
@@ -170,4 +170,4 @@ module _ (m n : Buffers) where
     pub number-same : (stages : List Stage) → stagesNumber n stages ≡ stagesNumber m stages
     unfolding stagesNumber
     number-same [] = refl
-    number-same (s ∷ rest) = ap₂ (λ (a : Bool) (b : ℕ). first (unless a 2) (first (s .judged) b)) (lent-same (s .places)) (number-same rest)
+    number-same (s ∷ rest) = ap₂ (λ (a : Bool) (b : ℕ). first (unless a 2) (first (s .judged) b)) (touchable-same (s .places)) (number-same rest)
