@@ -48,7 +48,7 @@ use Rattle.words.specs.Bits.{bitOf, withBit}
 use Rattle.words.specs.Choice.{pick}
 use Rattle.words.specs.Compare.{matchOf}
 use Rattle.promises.specs.SheetWords.{bit, formOf, tagsOf, tagIn, pointing}
-use Rattle.promises.specs.SheetOperands.{Ran, ranChannel, codeByte, baseAddress, baseTag, addedBy, operandAddress, offsetBytes, grownBy, rawIn, operandIn, ddOf, displacementIn, whether, worksOf, singlesOf, resultBytes, registersAt, pastBy, jumpedBy, valuePast, RegistersLeft, keptIn, BytesLeft}
+use Rattle.promises.specs.SheetOperands.{Ran, ranChannel, codeByte, baseAddress, baseTag, addedBy, operandAddress, offsetBytes, grownBy, rawIn, operandIn, ddOf, displacementIn, whether, worksOf, singlesOf, resultBytes, registersAt, pastBy, jumpedBy, valuePast, RegistersLeft, storedThere, BytesLeft}
 use Rattle.promises.specs.SheetRegisters.{Goes}
 use Rattle.promises.specs.SheetMemory.{Stores, pastPair, byteOperand, landed, MemorySheet}
 use Rattle.promises.proofs.SheetOperands.{pairWith, pair-is, base-is, task-left, deedIn, channel-left, memory-left, places-touchable, memoryWith, place-is, operand-is, grown-left, jumped-left}
@@ -57,7 +57,7 @@ use Rattle.promises.proofs.SheetRegisters.{ap₃, pair-length, size-is,
 -- ---- bytes stored in a row
 
 -- what is read where a byte went: the byte, or FFh from an empty slot
-read-kept : (m : Buffers) (t : Bool) (a v : ℕ) → touchableAt m t a ≡ true → byteAt (storeByte m t a v) t a ≡ keptIn m t a v
+read-kept : (m : Buffers) (t : Bool) (a v : ℕ) → touchableAt m t a ≡ true → byteAt (storeByte m t a v) t a ≡ storedThere m t a v
 unfolding touchableAt
 read-kept m false a v h = read-same m false a v h
 read-kept m true a v h = go (lentAt m true a) refl
@@ -81,15 +81,15 @@ module _ (m : Buffers) (t : Bool) (a : ℕ) where
   zeroth u b h = subst (λ (n : ℕ). Apart t n u b) (add-zero a) h
 
   -- the first byte, then the second, then the third
-  first-kept : (u : ℕ) → touchableAt m t a ≡ true → byteAt (stored₁ u) t a ≡ keptIn m t (a + 0) u
-  first-kept u h = read-kept m t a u h ∙ ap (λ (b : ℕ). keptIn m t b u) (sym (add-zero a))
+  first-kept : (u : ℕ) → touchableAt m t a ≡ true → byteAt (stored₁ u) t a ≡ storedThere m t (a + 0) u
+  first-kept u h = read-kept m t a u h ∙ ap (λ (b : ℕ). storedThere m t b u) (sym (add-zero a))
 
-  second-kept : (u v : ℕ) → touchableAt m t (a + 1) ≡ true → byteAt (stored₂ u v) t (a + 1) ≡ keptIn m t (a + 1) v
+  second-kept : (u v : ℕ) → touchableAt m t (a + 1) ≡ true → byteAt (stored₂ u v) t (a + 1) ≡ storedThere m t (a + 1) v
   second-kept u v h =
       read-kept (stored₁ u) t (a + 1) v (store-touchable m t t a (a + 1) u ∙ h)
       ∙ ap (λ (x : Bool). pick (t && not x) 0xFF v) (store-lent m t t a (a + 1) u)
 
-  third-kept : (u v w : ℕ) → touchableAt m t (a + 2) ≡ true → byteAt (stored₃ u v w) t (a + 2) ≡ keptIn m t (a + 2) w
+  third-kept : (u v w : ℕ) → touchableAt m t (a + 2) ≡ true → byteAt (stored₃ u v w) t (a + 2) ≡ storedThere m t (a + 2) w
   third-kept u v w h =
       read-kept (stored₂ u v) t (a + 2) w (store-touchable (stored₁ u) t t (a + 1) (a + 2) v ∙ store-touchable m t t a (a + 2) u ∙ h)
       ∙ ap (λ (x : Bool). pick (t && not x) 0xFF w) (store-lent (stored₁ u) t t (a + 1) (a + 2) v ∙ store-lent m t t a (a + 2) u)
@@ -100,7 +100,7 @@ module _ (m : Buffers) (t : Bool) (a : ℕ) where
     others = λ d b ne. read-other m t a u d b (zeroth d b (ne 0 (lit< tt)));
   }
     where
-      at : (i : ℕ) → i < 1 → byteAt (stored₁ u) t (a + i) ≡ keptIn m t (a + i) (getD (u ∷ []) i 0)
+      at : (i : ℕ) → i < 1 → byteAt (stored₁ u) t (a + i) ≡ storedThere m t (a + i) (getD (u ∷ []) i 0)
       at zero k = ap (byteAt (stored₁ u) t) (add-zero a) ∙ first-kept u (span-first (touchableAt m) t a 1 h (lit< tt))
       at (suc i) k = absurd (omega arith)
 
@@ -110,7 +110,7 @@ module _ (m : Buffers) (t : Bool) (a : ℕ) where
     others = λ d b ne. read-other (stored₁ u) t (a + 1) v d b (ne 1 (lit< tt)) ∙ read-other m t a u d b (zeroth d b (ne 0 (lit< tt)));
   }
     where
-      at : (i : ℕ) → i < 2 → byteAt (stored₂ u v) t (a + i) ≡ keptIn m t (a + i) (getD (u ∷ v ∷ []) i 0)
+      at : (i : ℕ) → i < 2 → byteAt (stored₂ u v) t (a + i) ≡ storedThere m t (a + i) (getD (u ∷ v ∷ []) i 0)
       at zero k =
           ap (byteAt (stored₂ u v) t) (add-zero a) ∙ read-other (stored₁ u) t (a + 1) v t a (after t a 1 (lit< tt) (lit< tt))
           ∙ first-kept u (span-first (touchableAt m) t a 2 h (lit< tt))
@@ -124,7 +124,7 @@ module _ (m : Buffers) (t : Bool) (a : ℕ) where
         read-other (stored₂ u v) t (a + 2) w d b (ne 2 (lit< tt)) ∙ read-other (stored₁ u) t (a + 1) v d b (ne 1 (lit< tt)) ∙ read-other m t a u d b (zeroth d b (ne 0 (lit< tt)));
   }
     where
-      at : (i : ℕ) → i < 3 → byteAt (stored₃ u v w) t (a + i) ≡ keptIn m t (a + i) (getD (u ∷ v ∷ w ∷ []) i 0)
+      at : (i : ℕ) → i < 3 → byteAt (stored₃ u v w) t (a + i) ≡ storedThere m t (a + i) (getD (u ∷ v ∷ w ∷ []) i 0)
       at zero k =
           ap (byteAt (stored₃ u v w) t) (add-zero a) ∙ read-other (stored₂ u v) t (a + 2) w t a (after t a 2 (lit< tt) (lit< tt))
           ∙ read-other (stored₁ u) t (a + 1) v t a (after t a 1 (lit< tt) (lit< tt)) ∙ first-kept u (span-first (touchableAt m) t a 3 h (lit< tt))

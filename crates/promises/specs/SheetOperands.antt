@@ -129,10 +129,10 @@ pub record RegistersLeft (before after : Channel) (numbers : List ℕ) (spaces :
   pub status : (k : ℕ) → bit (after .psw) k ≡ pick (before .armed && eqb k 6) 1 (bit (before .psw) k)
 
 -- a byte as it reads where it was stored: an empty slot of I/O space keeps nothing and reads FFh (§1.3)
-abbrev pub keptIn : Buffers → Bool → ℕ → ℕ → ℕ
-keptIn m tag a v = pick (tag && not (lentAt m tag a)) 0xFF v
+abbrev pub storedThere : Buffers → Bool → ℕ → ℕ → ℕ
+storedThere m tag a v = pick (tag && not (lentAt m tag a)) 0xFF v
 
 -- memory after bytes were stored from a place on: those, and every other as it was
 pub record BytesLeft (tag : Bool) (a : ℕ) (bytes : List ℕ) (m m′ : Buffers) : Type 0 where
-  pub stored : (i : ℕ) → i < length bytes → byteAt m′ tag (a + i) ≡ keptIn m tag (a + i) (getD bytes i 0)
+  pub stored : (i : ℕ) → i < length bytes → byteAt m′ tag (a + i) ≡ storedThere m tag (a + i) (getD bytes i 0)
   pub others : (u : Bool) (b : ℕ) → ((i : ℕ) → i < length bytes → Apart tag (a + i) u b) → byteAt m′ u b ≡ byteAt m u b
