@@ -7,10 +7,11 @@ use mathlib.Core.List.{List, [], _∷_}
 use mathlib.Core.Path.{_≡_, refl}
 use native.Mathlib.Omega.{arith}
 use Rattle.machine.proofs.OutcomeLaws.{accepted}
+use Rattle.machine.specs.Cc.{split, sameFlag, sameFields}
 use Rattle.machine.specs.Outcomes.{outcome, unless, first, settled, givenNumber}
 use Rattle.machine.specs.Stages.{stagesNumber}
 use Rattle.machine.specs.Psw.{withPsw}
-use Rattle.machine.specs.States.{idleChannel, freshState, channelOf, withChannel, soundChannel, sound, isChannel, isSecond, blockOf, busyIn, isRunning, isSuspended}
+use Rattle.machine.specs.States.{idleChannel, freshState, channelOf, withChannel, soundChannel, sound, isChannel, isSecond, blockOf, busyIn, isRunning, isSuspended, fieldsAgree, agree}
 use Rattle.machine.specs.declared.Mode.the-variants.{Running}
 use Rattle.machine.specs.declared.State.{State}
 use Rattle.memory.specs.Buffers.{Buffers, buffers, spaceOf, limitOf, indexOf, lentAt, touchableAt, beyondIn, byteAt, storeByte, withinLimits}
@@ -34,7 +35,7 @@ input =
 -- its attention starts channel 1 at 20h of system space, with PB at 10h, TB 1 and BUSY FFh
 pub example-starts : attentionOf (freshState 0) (buffers input []) 1
     ≡ outcome 0 (withChannel (freshState 0) false (withControl idleChannel (pointer 32 false) 16 4 Running false)) (buffers (set input 1 255) [])
-unfolding freshState idleChannel attentionOf attentionNumber givenTo givenNumber unless first isChannel withinLimits limitOf sound soundChannel orderNumber stagesNumber orderStages orderTo orderOf blockOf busyIn channelOf isSecond ccwOf commandCoded fieldOf parameterBlock doublewordAt wordAt byteAt beyondIn indexOf spaceOf allPass touchableAt lentAt span commandNumber isKnown modeNumber isRunning isSuspended others readBy storedBy settled orderedMemory writesMade writesOf saved storePointer marked storeByte orderedChannel channelOrdered commanded started suspended stoppedPsw resumed pointerAt ordered copied obeyed withPsw withBit bitOf withControl withChannel
+unfolding freshState idleChannel attentionOf attentionNumber givenTo givenNumber unless first isChannel withinLimits limitOf sound soundChannel agree fieldsAgree sameFields sameFlag split orderNumber stagesNumber orderStages orderTo orderOf blockOf busyIn channelOf isSecond ccwOf commandCoded fieldOf parameterBlock doublewordAt wordAt byteAt beyondIn indexOf spaceOf allPass touchableAt lentAt span commandNumber isKnown modeNumber isRunning isSuspended others readBy storedBy settled orderedMemory writesMade writesOf saved storePointer marked storeByte orderedChannel channelOrdered commanded started suspended stoppedPsw resumed pointerAt ordered copied obeyed withPsw withBit bitOf withControl withChannel
 example-starts = refl
 
 -- a state whose channel 1 runs a transfer at 12345h of I/O space, with PB at 8
@@ -51,7 +52,7 @@ toResume = buffers (5 ∷ 0 ∷ 0 ∷ 0 ∷ 0 ∷ 0 ∷ 0 ∷ 0 ∷ 69 ∷ 35 �
 
 -- so a pause as it is defined can happen
 pub some-pause : Pause running toSuspend (attentionOf running toSuspend 1 .state) toResume 1
-unfolding freshState idleChannel attentionOf attentionNumber givenTo givenNumber unless first isChannel withinLimits limitOf sound soundChannel orderNumber stagesNumber orderStages orderTo orderOf blockOf busyIn channelOf isSecond ccwOf commandCoded fieldOf parameterBlock doublewordAt wordAt byteAt beyondIn indexOf spaceOf allPass touchableAt lentAt span commandNumber isKnown modeNumber isRunning isSuspended others readBy storedBy settled orderedMemory writesMade writesOf saved storePointer marked storeByte orderedChannel channelOrdered commanded started suspended stoppedPsw resumed pointerAt ordered copied obeyed withPsw withBit bitOf withControl withChannel
+unfolding freshState idleChannel attentionOf attentionNumber givenTo givenNumber unless first isChannel withinLimits limitOf sound soundChannel agree fieldsAgree sameFields sameFlag split orderNumber stagesNumber orderStages orderTo orderOf blockOf busyIn channelOf isSecond ccwOf commandCoded fieldOf parameterBlock doublewordAt wordAt byteAt beyondIn indexOf spaceOf allPass touchableAt lentAt span commandNumber isKnown modeNumber isRunning isSuspended others readBy storedBy settled orderedMemory writesMade writesOf saved storePointer marked storeByte orderedChannel channelOrdered commanded started suspended stoppedPsw resumed pointerAt ordered copied obeyed withPsw withBit bitOf withControl withChannel
 some-pause = record {
   accepted = refl;
   suspends = refl;

@@ -16,8 +16,9 @@ use Rattle.memory.specs.Places.{span}
 use Rattle.words.proofs.BitLaws.{field-lt}
 use Rattle.words.proofs.ChoiceLaws.{apart}
 use Rattle.machine.proofs.ConditionLaws.{step, last, rewritten, first-assoc, skip, hit, either, end, foreign, never, given-most, told-touchable}
-use Rattle.machine.proofs.GivenLaws.{given-chain, skip-given}
-use Rattle.machine.specs.Conditions.{Given, TooLong, NotSound, NotPowered, Beyond}
+use Rattle.machine.proofs.FieldLaws.{told-agree}
+use Rattle.machine.proofs.GivenLaws.{told-powered, given-chain, skip-given}
+use Rattle.machine.specs.Conditions.{Given, TooLong, NotSound, NotPowered, FieldsDisagree, Ready, Beyond}
 use Rattle.attention.specs.Attention.{orderTo, orderNumber, orderedChannel, orderedMemory, givenTo, attentionNumber, attentionOf}
 use Rattle.attention.specs.Blocks.{orderOf}
 use Rattle.attention.specs.Commands.{codeOf}
@@ -45,9 +46,9 @@ module _ (s : State) (m : Buffers) (channel : ℕ) where
       (step 9 refl (told-suspend code mode)
       (last n 2 refl (told-touchable m (others o)))))))))))
 
-  -- the number is at most 13
-  pub attention-most : attentionOf s m channel .number ≤ 13
-  attention-most = given-most 13 (attentionChecks s m channel) refl ((given-exactly (attentionOf s m channel .number)) .0 refl)
+  -- the number is at most 14
+  pub attention-most : attentionOf s m channel .number ≤ 14
+  attention-most = given-most 14 (attentionChecks s m channel) refl ((given-exactly (attentionOf s m channel .number)) .0 refl)
 
   -- no check after the first k gives n
   later : (n k : ℕ) → foreign n (drop k (attentionChecks s m channel)) ≡ true → ¬ (Given (drop k (attentionChecks s m channel)) n)
@@ -69,15 +70,20 @@ module _ (s : State) (m : Buffers) (channel : ℕ) where
   pub gives-13 : (attentionOf s m channel .number ≡ 13) ↔ (¬ (NoChannel channel) × (¬ (TooLong m) × (¬ (NotSound s) × NotPowered s)))
   gives-13 = Iff·trans (given-exactly 13) (skip refl (skip refl (skip refl (hit (later 13 4 refl)))))
 
-  -- so of one that is powered up the number is at most 12
-  pub attention-powered : s .board .powered ≡ true → attentionOf s m channel .number ≤ 12
-  attention-powered p =
-      let other : ¬ (attentionOf s m channel .number ≡ 13) = λ e. apart (sym p ∙ gives-13 .0 e .1 .1 .1) in
-      omega (arith, attention-most, other)
+  -- 14: the fields of a channel are not those of its CC
+  pub gives-14 : (attentionOf s m channel .number ≡ 14) ↔ (¬ (NoChannel channel) × (¬ (TooLong m) × (¬ (NotSound s) × (¬ (NotPowered s) × FieldsDisagree s))))
+  gives-14 = Iff·trans (given-exactly 14) (skip refl (skip refl (skip refl (skip refl (hit (later 14 5 refl))))))
+
+  -- so of a state that is powered up and agrees the number is at most 12
+  pub attention-ready : Ready s → attentionOf s m channel .number ≤ 12
+  attention-ready r =
+      let up : ¬ (attentionOf s m channel .number ≡ 13) = λ e. told-powered s .holds (r .0) (gives-13 .0 e .1 .1 .1) in
+      let same : ¬ (attentionOf s m channel .number ≡ 14) = λ e. told-agree s .holds (r .1) (gives-14 .0 e .1 .1 .1 .1) in
+      omega (arith, attention-most, up, same)
 
   -- 2: CCW lies beyond lent memory, or, after every other check, another byte does; all are of system space
   pub gives-2 : (attentionOf s m channel .number ≡ 2) ↔ AttentionAfterGiven s m channel (CcwBeyond s m channel ⊎ AfterMode s m channel (OthersBeyond s m channel))
-  gives-2 = Iff·trans (given-exactly 2) (skip refl (skip-given s m refl refl refl (either (skip refl (skip refl (skip refl (skip refl (hit (later 2 10 refl)))))))))
+  gives-2 = Iff·trans (given-exactly 2) (skip refl (skip-given s m refl refl refl refl (either (skip refl (skip refl (skip refl (skip refl (hit (later 2 11 refl)))))))))
 
   -- 2, said of all the bytes that the order touches: one of them, up to where the order stops, lies beyond lent memory
   pub touched-2 : (attentionOf s m channel .number ≡ 2) ↔ AttentionAfterGiven s m channel (Beyond m (touchedByOrder (orderTo s m (isSecond channel)) (modeTo s channel)))
@@ -92,28 +98,28 @@ module _ (s : State) (m : Buffers) (channel : ℕ) where
       (step 12 refl (told-channel channel)
       (given-chain s m
       (beyond-exactly m (orderStages o mode) (never-two (o .command) mode, (refl, tt)))))
-      (skip refl (skip-given s m refl refl refl (λ h. h, λ h. h)))))
+      (skip refl (skip-given s m refl refl refl refl (λ h. h, λ h. h)))))
 
   -- 6: command 010 or 100
   pub gives-6 : (attentionOf s m channel .number ≡ 6) ↔ AttentionAfterGiven s m channel (¬ (CcwBeyond s m channel) × NoCommand (codeTo s m channel))
-  gives-6 = Iff·trans (given-exactly 6) (skip refl (skip-given s m refl refl refl (skip refl (hit (later 6 6 refl)))))
+  gives-6 = Iff·trans (given-exactly 6) (skip refl (skip-given s m refl refl refl refl (skip refl (hit (later 6 7 refl)))))
 
   -- 7: resume, channel not suspended
   pub gives-7 : (attentionOf s m channel .number ≡ 7)
       ↔ AttentionAfterGiven s m channel (AfterCommand s m channel (ResumesOther (codeTo s m channel) (modeTo s channel)))
-  gives-7 = Iff·trans (given-exactly 7) (skip refl (skip-given s m refl refl refl (skip refl (skip refl (hit (later 7 7 refl))))))
+  gives-7 = Iff·trans (given-exactly 7) (skip refl (skip-given s m refl refl refl refl (skip refl (skip refl (hit (later 7 8 refl))))))
 
   -- 8: start, channel running
   pub gives-8 : (attentionOf s m channel .number ≡ 8)
       ↔ AttentionAfterGiven s m channel (AfterCommand s m channel (¬ (ResumesOther (codeTo s m channel) (modeTo s channel)) × StartsRunning (codeTo s m channel) (modeTo s channel)))
-  gives-8 = Iff·trans (given-exactly 8) (skip refl (skip-given s m refl refl refl (skip refl (skip refl (skip refl (hit (later 8 8 refl)))))))
+  gives-8 = Iff·trans (given-exactly 8) (skip refl (skip-given s m refl refl refl refl (skip refl (skip refl (skip refl (hit (later 8 9 refl)))))))
 
   -- 9: suspend, channel not running
   pub gives-9 : (attentionOf s m channel .number ≡ 9)
       ↔ AttentionAfterGiven s m channel (AfterCommand s m channel
       (¬ (ResumesOther (codeTo s m channel) (modeTo s channel)) × (¬ (StartsRunning (codeTo s m channel) (modeTo s channel)) × SuspendsOther (codeTo s m channel) (modeTo s channel))))
-  gives-9 = Iff·trans (given-exactly 9) (skip refl (skip-given s m refl refl refl (skip refl (skip refl (skip refl (skip refl (hit (later 9 9 refl))))))))
+  gives-9 = Iff·trans (given-exactly 9) (skip refl (skip-given s m refl refl refl refl (skip refl (skip refl (skip refl (skip refl (hit (later 9 10 refl))))))))
 
   -- 0: no check applies
   pub gives-0 : (attentionOf s m channel .number ≡ 0) ↔ AttentionAfterGiven s m channel (AfterMode s m channel (¬ (OthersBeyond s m channel)))
-  gives-0 = Iff·trans (given-exactly 0) (skip refl (skip-given s m refl refl refl (skip refl (skip refl (skip refl (skip refl (skip refl (end refl refl))))))))
+  gives-0 = Iff·trans (given-exactly 0) (skip refl (skip-given s m refl refl refl refl (skip refl (skip refl (skip refl (skip refl (skip refl (end refl refl))))))))

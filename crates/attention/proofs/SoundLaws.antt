@@ -1,18 +1,20 @@
--- An accepted attention leaves a sound state (§2.9).
+-- An accepted attention leaves a sound state (§2.9), and every attention one that agrees (§2.12) where it was given one.
 -- Assumes nothing.
 use Prim.Native.Nat.{ℕ, _+_, _*_, _/_, _<_}
 use mathlib.Core.Bool.{Bool, true, false}
-use mathlib.Core.Path.{_≡_, ap, _∙_}
+use mathlib.Core.Path.{_≡_, refl, ap, _∙_}
 use native.Mathlib.Omega.{arith}
 use Rattle.machine.proofs.ChannelLaws.{put-sound, sound-channel-of, sound-pp, controlled-sound}
+use Rattle.machine.proofs.FieldLaws.{same-agrees, agree-channel-of, put-agree}
+use Rattle.machine.proofs.OutcomeLaws.{settled-state}
 use Rattle.machine.specs.Outcomes.{Outcome}
-use Rattle.machine.specs.States.{channelOf, soundChannel, sound, isSecond, blockOf}
+use Rattle.machine.specs.States.{channelOf, withChannel, soundChannel, sound, fieldsAgree, agree, isSecond, blockOf}
 use Rattle.machine.specs.Updates.{withControl, halted}
 use Rattle.machine.specs.declared.Channel.{Channel}
 use Rattle.machine.specs.declared.State.{State}
 use Rattle.memory.specs.Buffers.{Buffers, AllBytes, byteAt}
 use Rattle.memory.specs.Values.{wordAt, doublewordAt, pointer, pointerAt}
-use Rattle.attention.specs.Attention.{orderTo, orderedChannel, attentionOf}
+use Rattle.attention.specs.Attention.{orderTo, orderedChannel, orderedMemory, attentionNumber, attentionOf}
 use Rattle.attention.specs.Blocks.{pointerOf, parameterBlock, orderOf}
 use Rattle.attention.specs.Effects.{started, suspended, resumed, commanded, channelOrdered}
 use Rattle.attention.specs.declared.Command.{Command}
@@ -50,6 +52,17 @@ commanded-sound Resume m block c bytes h =
 commanded-sound Halt m block c bytes h = h
 commanded-sound Unknown m block c bytes h = h
 
+-- no command writes CC or its fields
+commanded-control : (k : Command) (m : Buffers) (pb : ℕ) (c : Channel) → (commanded k m pb c .cc ≡ c .cc) × (commanded k m pb c .fields ≡ c .fields)
+unfolding commanded started suspended resumed halted withControl
+commanded-control Update m pb c = (refl, refl)
+commanded-control StartLocal m pb c = (refl, refl)
+commanded-control StartSystem m pb c = (refl, refl)
+commanded-control Suspend m pb c = (refl, refl)
+commanded-control Resume m pb c = (refl, refl)
+commanded-control Halt m pb c = (refl, refl)
+commanded-control Unknown m pb c = (refl, refl)
+
 module _ (s : State) (m : Buffers) (channel : ℕ) where
   -- so does an order, which changes PSW besides
   ordered-sound : (b : Bool) → AllBytes m → sound s ≡ true → soundChannel (orderedChannel s m b) ≡ true
@@ -63,3 +76,18 @@ module _ (s : State) (m : Buffers) (channel : ℕ) where
       let h = passed-sound s m channel e in
       ap (λ (r : Outcome). sound (r .state)) (accepted-order s m channel e)
       ∙ put-sound s b (orderedChannel s m b) h (ordered-sound b bytes h)
+
+  -- nor does an order
+  ordered-agree : (b : Bool) → agree s ≡ true → fieldsAgree (orderedChannel s m b) ≡ true
+  unfolding orderedChannel channelOrdered orderTo orderOf withControl
+  ordered-agree b h =
+      let k = commanded-control (orderTo s m b .command) m (orderTo s m b .pb) (channelOf s b) in
+      same-agrees (channelOf s b) (orderedChannel s m b) (k .0) (k .1) (agree-channel-of s b h)
+
+  -- so a state that agrees still does after an attention, and the next call is not refused by 14
+  pub attention-agree : agree s ≡ true → agree (attentionOf s m channel .state) ≡ true
+  unfolding attentionOf
+  attention-agree h =
+      let b = isSecond channel in
+      settled-state (λ x. agree x ≡ true) (attentionNumber s m channel) s m (withChannel s b (orderedChannel s m b)) (orderedMemory s m b) h
+      (put-agree s b (orderedChannel s m b) h (ordered-agree b h))

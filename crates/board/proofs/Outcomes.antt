@@ -14,7 +14,7 @@ use Rattle.panel.proofs.Bounds.{call-most, attended-most, attended-steps}
 use Rattle.panel.proofs.RunLaws.{call-limit}
 use Rattle.panel.specs.Run.{Run, ran, attendedRun, startedRun, callNumber, answerOf}
 use Rattle.power.proofs.Numbers.{power-most}
-use Rattle.power.proofs.Outcomes.{power-refused, power-accepted, found-powered}
+use Rattle.power.proofs.Outcomes.{power-refused, power-accepted, found-powered, found-agree}
 use Rattle.power.specs.Power.{foundState, foundMemory, powerUpOf}
 use Rattle.board.specs.Board.{poweredRun, boardRunOf}
 
@@ -57,7 +57,7 @@ module _ (m : Buffers) (channel lines limit : ℕ) where
 
   -- the number is at most 12, so never 13
   pub number-most : boardRunOf m channel lines limit .number ≤ 12
-  number-most = run-by (λ r. r .number ≤ 12) (λ n h. h) (λ h. attended-most (foundState m) (foundMemory m) channel lines limit (found-powered m))
+  number-most = run-by (λ r. r .number ≤ 12) (λ n h. h) (λ h. attended-most (foundState m) (foundMemory m) channel lines limit (found-powered m, found-agree m))
 
   -- no more steps are done than the limit, and fewer than 65,536
   pub steps-most : boardRunOf m channel lines limit .steps ≤ limit

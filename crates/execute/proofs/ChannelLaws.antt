@@ -1,4 +1,4 @@
--- What an instruction leaves of a channel: that a sound one stays sound, PP, the mode, and how the mark of XFER is used up.
+-- What an instruction leaves of a channel: that a sound one stays sound, that the fields stay those of CC, PP, the mode, and how the mark of XFER is used up.
 -- Assumes nothing.
 use Prim.Native.Nat.{ℕ, _+_, _-_, _%_}
 use borrow.Author.Tests.{eqb-false, lt-ltb}
@@ -15,9 +15,10 @@ use Rattle.decode_shapes.specs.declared.Second.the-variants.{Operand, NoSecond}
 use Rattle.decode_shapes.specs.declared.Shape.{Shape}
 use Rattle.decode_shapes.specs.declared.Shape.the-variants.{Nop, Sintr, Xfer, Wid, Hlt, Lpdi, RegisterImmediate, Register, JumpRegister, RegisterMemory, MemoryRegister, MemoryImmediate, MemoryAlone, JumpMemory, Lpd, MovpLoad, MovpStore, MovMemory, Tsl, Call, JumpMasked, JumpBit, Bit}
 use Rattle.decode_shapes.specs.declared.Work.{Work}
+use Rattle.machine.proofs.FieldLaws.{same-agrees, written-agrees}
 use Rattle.machine.specs.Psw.{programRunning, interruptControl, transferring, withPsw}
 use Rattle.machine.specs.Registers.{tagOf, withRegister, moved, worked}
-use Rattle.machine.specs.States.{soundChannel}
+use Rattle.machine.specs.States.{soundChannel, fieldsAgree}
 use Rattle.machine.specs.Updates.{withControl, renewed, stoppedPsw, halted}
 use Rattle.machine.specs.declared.Channel.{Channel}
 use Rattle.machine.specs.declared.Mode.the-variants.{Idle}
@@ -86,9 +87,10 @@ record Steady (c d : Channel) : Type 0 where
   armed : d .armed ≡ c .armed
   psw : d .psw ≡ c .psw
   sound : soundChannel c ≡ true → soundChannel d ≡ true
+  agree : fieldsAgree c ≡ true → fieldsAgree d ≡ true
 
 same : (c : Channel) → Steady c c
-same c = record { pp = refl; mode = refl; armed = refl; psw = refl; sound = λ h. h }
+same c = record { pp = refl; mode = refl; armed = refl; psw = refl; sound = λ h. h; agree = λ h. h }
 
 then : {c d e : Channel} → Steady c d → Steady d e → Steady c e
 then p q = record {
@@ -97,6 +99,7 @@ then p q = record {
   armed = q .armed ∙ p .armed;
   psw = q .psw ∙ p .psw;
   sound = λ h. q .sound (p .sound h);
+  agree = λ h. q .agree (p .agree h);
 }
 
 chosen : {c : Channel} (b : Bool) (d e : Channel) → Steady c d → Steady c e → Steady c (pick b d e)
@@ -111,6 +114,7 @@ registered c r v tag = record {
   armed = refl;
   psw = refl;
   sound = sound-by c (withRegister c r v tag) refl (pick-small (eqb r 0) v tag (c .ga)) (pick-small (eqb r 1) v tag (c .gb)) (pick-small (eqb r 2) v tag (c .gc)) (pick-small (eqb r 4) v tag (c .tp));
+  agree = written-agrees c r v tag;
 }
 
 placed : (c : Channel) (tp : Pointer) (ix : ℕ) → (Small (c .tp) → Small tp) → Steady c (renewed c tp ix (c .psw) (c .mode) (c .armed))
@@ -121,6 +125,7 @@ placed c tp ix h = record {
   armed = refl;
   psw = refl;
   sound = sound-by c (renewed c tp ix (c .psw) (c .mode) (c .armed)) refl (λ s. s) (λ s. s) (λ s. s) h;
+  agree = same-agrees c (renewed c tp ix (c .psw) (c .mode) (c .armed)) refl refl;
 }
 
 grows : (c : Channel) (o : Memory) (by : ℕ) → Steady c (grown c o by)
@@ -157,6 +162,7 @@ record After (s : Shape) (armed : Bool) (c d : Channel) : Type 0 where
   mark : d .armed ≡ pick arms (not armed) false
   xf : transferring (d .psw) ≡ pick halts false (transferring (c .psw))
   sound : soundChannel c ≡ true → soundChannel d ≡ true
+  agree : fieldsAgree c ≡ true → fieldsAgree d ≡ true
 
 steady : {s : Shape} {armed : Bool} {c d : Channel} → c .armed ≡ false → Steady c d → After s armed c d
 steady e p = record {
@@ -169,6 +175,7 @@ steady e p = record {
   mark = p .armed ∙ e;
   xf = ap transferring (p .psw);
   sound = p .sound;
+  agree = p .agree;
 }
 
 -- another PSW, with XF as it was
@@ -184,6 +191,7 @@ statused c psw e x = record {
   mark = e;
   xf = x;
   sound = sound-by c (withStatus c psw) refl (λ s. s) (λ s. s) (λ s. s) (λ s. s);
+  agree = same-agrees c (withStatus c psw) refl refl;
 }
 
 -- a PSW with another bit than XF changed
@@ -211,6 +219,7 @@ armed-xfer c armed = record {
   mark = refl;
   xf = refl;
   sound = sound-by c ((xferDeed c armed) .channel) refl (λ s. s) (λ s. s) (λ s. s) (λ s. s);
+  agree = same-agrees c ((xferDeed c armed) .channel) refl refl;
 }
 
 hlt-halts : (c : Channel) (busy : ℕ) (armed : Bool) → After Hlt armed c ((hltDeed c busy) .channel)
@@ -225,6 +234,7 @@ hlt-halts c busy armed = record {
   mark = refl;
   xf = bit-same (withBit (c .psw) 2 false) 6 false;
   sound = sound-by c ((hltDeed c busy) .channel) refl (λ s. s) (λ s. s) (λ s. s) (λ s. s);
+  agree = same-agrees c ((hltDeed c busy) .channel) refl refl;
 }
 
 module _ (m : Buffers) (c : Channel) (tp : Pointer) where
@@ -276,6 +286,11 @@ advanced-sound : (c : Channel) (n : ℕ) → soundChannel c ≡ true → soundCh
 unfolding pastInstruction renewed
 advanced-sound c n = sound-by c (pastInstruction c n) refl (λ s. s) (λ s. s) (λ s. s) (λ s. onward-small (c .tp) n)
 
+-- and its fields those of CC
+advanced-agree : (c : Channel) (n : ℕ) → fieldsAgree c ≡ true → fieldsAgree (pastInstruction c n) ≡ true
+unfolding pastInstruction renewed
+advanced-agree c n = same-agrees c (pastInstruction c n) refl refl
+
 -- it has XF where it was marked, and as it was where it was not
 marked-xf : (armed : Bool) (psw : ℕ) → transferring (usedUp armed psw) ≡ (armed || transferring psw)
 unfolding usedUp withPsw
@@ -293,6 +308,13 @@ module _ (c : Channel) (busy : ℕ) (m : Buffers) where
       by-number c busy m (λ o. soundChannel (o .channel) ≡ true)
       (λ n ne. h)
       (λ s e z. after-shape s .sound (advanced-sound c (lengthOf s) h))
+
+  -- the fields stay those of CC, also where the instruction writes CC
+  pub execute-agree : fieldsAgree c ≡ true → fieldsAgree ((executeOf c busy m) .channel) ≡ true
+  execute-agree h =
+      by-number c busy m (λ o. fieldsAgree (o .channel) ≡ true)
+      (λ n ne. h)
+      (λ s e z. after-shape s .agree (advanced-agree c (lengthOf s) h))
 
   -- PP never changes
   pub pp-kept : (executeOf c busy m) .channel .pp ≡ c .pp

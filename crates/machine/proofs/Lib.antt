@@ -1,6 +1,7 @@
 pub mod ChannelLaws
 pub mod OutcomeLaws
 pub mod ConditionLaws
+pub mod FieldLaws
 pub mod GivenLaws
 pub mod StageLaws
 pub mod Determined

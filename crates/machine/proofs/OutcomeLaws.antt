@@ -2,10 +2,11 @@
 -- Assumes nothing.
 use Prim.Native.Nat.{ℕ, zero, suc}
 use borrow.Author.Tests.{eq-eqb, ne-eqb}
-use lib.Dec.{eqb·suc-zero}
-use mathlib.Core.Bool.{true, false}
+use lib.Dec.{eqb, eqb·suc-zero}
+use mathlib.Core.Bool.{Bool, true, false}
 use mathlib.Core.Path.{_≡_, refl}
 use Rattle.memory.specs.Buffers.{Buffers}
+use Rattle.words.specs.Choice.{pick}
 use Rattle.machine.specs.Outcomes.{outcome, unless, first, settled}
 use Rattle.machine.specs.declared.State.{State}
 
@@ -51,3 +52,12 @@ unless-true number = refl
 pub unless-false : (number : ℕ) → unless false number ≡ number
 unfolding unless
 unless-false number = refl
+
+-- what holds of the given state and of the one that is made holds of the one that a call leaves
+pub settled-state : (P : State → Type 0) (number : ℕ) (s : State) (m : Buffers) (s′ : State) (m′ : Buffers) → P s → P s′ → P (settled number s m s′ m′ .state)
+unfolding settled
+settled-state P number s m s′ m′ p q = go (eqb number 0)
+  where
+    go : (b : Bool) → P ((pick b (outcome 0 s′ m′) (outcome number s m)) .state)
+    go true = q
+    go false = p

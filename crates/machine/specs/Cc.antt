@@ -1,44 +1,41 @@
--- CC (§2.4): 15 destination moves on, 14 source moves on, 13 translate, 12-11 SYN, 10 source is GB, 8 chained, 7 TS, 6-5 TX, 4-3 TBC, 2-0 TMC.
-use mathlib.Core.Bool.{Bool}
+-- CC (§2.4) and its fields, which a channel keeps beside it: 15 destination moves on, 14 source moves on, 13 translate, 12-11 SYN, 10 source is GB, 8 chained, 7 TS, 6-5 TX, 4-3 TBC, 2-0 TMC.
+use mathlib.Core.Bool.{Bool, not, _&&_}
 use Prim.Native.Nat.{ℕ}
+use lib.Dec.{eqb}
 use Rattle.words.specs.Bits.{fieldOf, bitOf}
+use Rattle.words.specs.Choice.{pick}
+use Rattle.machine.specs.declared.Fields.{Fields}
 
--- bit 15: the destination moves on
-abbrev pub destinationMoves : ℕ → Bool
-destinationMoves cc = bitOf cc 15
+-- CC taken apart; bit 9 is in no field
+unfoldable pub split : ℕ → Fields
+split cc =
+    record {
+      destinationMoves = bitOf cc 15;
+      sourceMoves = bitOf cc 14;
+      translates = bitOf cc 13;
+      synchronised = fieldOf cc 11 2;
+      sourceIsGB = bitOf cc 10;
+      chained = bitOf cc 8;
+      singleTransfer = bitOf cc 7;
+      externalEnd = fieldOf cc 5 2;
+      countEnd = fieldOf cc 3 2;
+      matchEnd = fieldOf cc 0 3;
+    }
 
--- bit 14: the source moves on
-abbrev pub sourceMoves : ℕ → Bool
-sourceMoves cc = bitOf cc 14
+-- two flags are the same
+unfoldable pub sameFlag : Bool → Bool → Bool
+sameFlag a b = pick a b (not b)
 
--- bit 13: translate
-abbrev pub translates : ℕ → Bool
-translates cc = bitOf cc 13
-
--- bits 12-11, SYN: 0 none, 1 source, 2 destination
-abbrev pub synchronised : ℕ → ℕ
-synchronised cc = fieldOf cc 11 2
-
--- bit 10: the source is GB, else GA
-abbrev pub sourceIsGB : ℕ → Bool
-sourceIsGB cc = bitOf cc 10
-
--- bit 8: chained
-abbrev pub chained : ℕ → Bool
-chained cc = bitOf cc 8
-
--- bit 7, TS: a single transfer
-abbrev pub singleTransfer : ℕ → Bool
-singleTransfer cc = bitOf cc 7
-
--- bits 6-5, TX: the external end
-abbrev pub externalEnd : ℕ → ℕ
-externalEnd cc = fieldOf cc 5 2
-
--- bits 4-3, TBC: the byte count's end
-abbrev pub countEnd : ℕ → ℕ
-countEnd cc = fieldOf cc 3 2
-
--- bits 2-0, TMC: the masked compare's end
-abbrev pub matchEnd : ℕ → ℕ
-matchEnd cc = fieldOf cc 0 3
+-- two channels' fields are the same, one by one; all three bits of TMC count
+unfoldable pub sameFields : Fields → Fields → Bool
+sameFields f g =
+    sameFlag (f .destinationMoves) (g .destinationMoves)
+    && sameFlag (f .sourceMoves) (g .sourceMoves)
+    && sameFlag (f .translates) (g .translates)
+    && eqb (f .synchronised) (g .synchronised)
+    && sameFlag (f .sourceIsGB) (g .sourceIsGB)
+    && sameFlag (f .chained) (g .chained)
+    && sameFlag (f .singleTransfer) (g .singleTransfer)
+    && eqb (f .externalEnd) (g .externalEnd)
+    && eqb (f .countEnd) (g .countEnd)
+    && eqb (f .matchEnd) (g .matchEnd)

@@ -1,5 +1,5 @@
--- Which number a call gives (§3.2): checks in their order, and the conditions of 11, 10, 13 and 2, which every attention and step has.
-use mathlib.Core.Bool.{false}
+-- Which number a call gives (§3.2): checks in their order, and the conditions of 11, 10, 13, 14 and 2, which every attention and step has.
+use mathlib.Core.Bool.{true, false}
 use mathlib.Core.List.{List, [], _∷_, _++_}
 use mathlib.Core.Logic.{_⊎_}
 use mathlib.Core.Path.{_≡_}
@@ -7,6 +7,8 @@ use Prim.Native.Nat.{ℕ, _%_, _<_, _≤_}
 use lib.ListN.{length}
 use Rattle.memory.specs.Buffers.{Buffers}
 use Rattle.memory.specs.Places.{Place}
+use Rattle.machine.specs.Cc.{split}
+use Rattle.machine.specs.States.{agree}
 use Rattle.machine.specs.declared.Channel.{Channel}
 use Rattle.machine.specs.declared.State.{State}
 
@@ -44,13 +46,21 @@ NotSound s = SomePast (pointersOf (s .first) ++ (pointersOf (s .second) ++ (s .c
 abbrev pub NotPowered : State → Type 0
 NotPowered s = s .board .powered ≡ false
 
+-- 14: the fields of a channel are not those of its CC
+abbrev pub FieldsDisagree : State → Type 0
+FieldsDisagree s = ¬ (s .first .fields ≡ split (s .first .cc)) ⊎ ¬ (s .second .fields ≡ split (s .second .cc))
+
+-- a state that neither 13 nor 14 refuses
+abbrev pub Ready : State → Type 0
+Ready s = (s .board .powered ≡ true) × (agree s ≡ true)
+
 -- the checks of what every attention and step is given, in their order, and those after them
 abbrev pub givenChecks : State → Buffers → List Check → List Check
-givenChecks s m next = check 11 (TooLong m) ∷ check 10 (NotSound s) ∷ check 13 (NotPowered s) ∷ next
+givenChecks s m next = check 11 (TooLong m) ∷ check 10 (NotSound s) ∷ check 13 (NotPowered s) ∷ check 14 (FieldsDisagree s) ∷ next
 
 -- a condition that counts where none of them applies
 abbrev pub AfterGiven : State → Buffers → Type 0 → Type 0
-AfterGiven s m next = ¬ (TooLong m) × (¬ (NotSound s) × (¬ (NotPowered s) × next))
+AfterGiven s m next = ¬ (TooLong m) × (¬ (NotSound s) × (¬ (NotPowered s) × (¬ (FieldsDisagree s) × next)))
 
 -- 2: one of some bytes is of system space and not lent (§1.3); no byte of I/O space counts
 abbrev pub Beyond : Buffers → List Place → Type 0

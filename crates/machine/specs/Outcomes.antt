@@ -5,7 +5,7 @@ use lib.Dec.{eqb}
 use Rattle.words.specs.Choice.{pick}
 use Rattle.memory.specs.Buffers.{Buffers, withinLimits}
 use Rattle.machine.specs.declared.State.{State}
-use Rattle.machine.specs.States.{sound}
+use Rattle.machine.specs.States.{sound, agree}
 
 -- the number, the state and both memories after a call
 pub record Outcome : Type 0 where
@@ -28,6 +28,7 @@ first a b = pick (eqb a 0) b a
 unfoldable pub settled : ℕ → State → Buffers → State → Buffers → Outcome
 settled number s m s′ m′ = pick (eqb number 0) (outcome 0 s′ m′) (outcome number s m)
 
--- what every attention and step asks of what it is given: 11, 10, then 13, that the processor is powered up (§3.4)
+-- what every attention and step asks of what it is given: 11, 10, 13, that the processor is powered up, then 14, that the fields are those of CC (§3.4)
 unfoldable pub givenNumber : State → Buffers → ℕ
-givenNumber s m = first (unless (withinLimits m) 11) (first (unless (sound s) 10) (unless (s .board .powered) 13))
+givenNumber s m =
+    first (unless (withinLimits m) 11) (first (unless (sound s) 10) (first (unless (s .board .powered) 13) (unless (agree s) 14)))

@@ -5,6 +5,7 @@ use lib.Dec.{ltb, eqb}
 use Rattle.words.specs.Choice.{pick}
 use Rattle.words.specs.Sums.{sum20}
 use Rattle.memory.specs.Values.{pointer}
+use Rattle.machine.specs.Cc.{split, sameFields}
 use Rattle.machine.specs.declared.Mode.{Mode}
 use Rattle.machine.specs.declared.Mode.the-variants.{Idle, Running, Suspended}
 use Rattle.machine.specs.declared.Channel.{Channel}
@@ -12,7 +13,7 @@ use Rattle.machine.specs.declared.State.{State}
 use Rattle.machine.specs.declared.Answer.{Answer}
 use Rattle.machine.specs.declared.Board.{Board}
 
--- a channel with all at 0 and idle
+-- a channel with all at 0 and idle; the fields are those of CC 0
 unfoldable pub idleChannel : Channel
 idleChannel =
     record {
@@ -28,6 +29,7 @@ idleChannel =
       psw = 0;
       mode = Idle;
       armed = false;
+      fields = split 0;
     }
 
 -- what the board set up: powered up or not, SYSBUS bit 0 and SOC bit 0, the physical widths of the system and of the I/O bus, and SOC bit 1
@@ -75,6 +77,14 @@ soundChannel c =
 -- a sound state (§2.9): both channels are, and CP is below 1,048,576
 unfoldable pub sound : State → Bool
 sound s = soundChannel (s .first) && soundChannel (s .second) && ltb (s .cp) 1048576
+
+-- the fields of a channel are those of its CC
+unfoldable pub fieldsAgree : Channel → Bool
+fieldsAgree c = sameFields (c .fields) (split (c .cc))
+
+-- a state that agrees (§2.12): both channels do, whatever their modes
+unfoldable pub agree : State → Bool
+agree s = fieldsAgree (s .first) && fieldsAgree (s .second)
 
 -- the channel is running; the mode alone says so (§2.6)
 unfoldable pub isRunning : Mode → Bool

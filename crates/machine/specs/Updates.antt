@@ -23,6 +23,7 @@ withControl c tp pp psw mode armed =
       psw = psw;
       mode = mode;
       armed = armed;
+      fields = c .fields;
     }
 
 -- TP, IX, PSW, mode and mark, which are all that an instruction can change besides the register that it writes
@@ -41,12 +42,27 @@ renewed c tp ix psw mode armed =
       psw = psw;
       mode = mode;
       armed = armed;
+      fields = c .fields;
     }
 
 -- GA, GB, TP, BC and PSW, which are all that a transfer can change
 unfoldable pub withTransfer : Channel → Pointer → Pointer → Pointer → ℕ → ℕ → Channel
 withTransfer c ga gb tp bc psw =
-    record { ga = ga; gb = gb; gc = c .gc; tp = tp; pp = c .pp; bc = bc; ix = c .ix; cc = c .cc; mc = c .mc; psw = psw; mode = c .mode; armed = c .armed }
+    record {
+      ga = ga;
+      gb = gb;
+      gc = c .gc;
+      tp = tp;
+      pp = c .pp;
+      bc = bc;
+      ix = c .ix;
+      cc = c .cc;
+      mc = c .mc;
+      psw = psw;
+      mode = c .mode;
+      armed = c .armed;
+      fields = c .fields;
+    }
 
 -- PSW of a channel that stops: TB and XF are 0
 unfoldable pub stoppedPsw : ℕ → ℕ

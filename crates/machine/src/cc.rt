@@ -1,73 +1,47 @@
-// The fields of CC under their names.
+// CC taken apart into its fields, and whether two sets of fields are the same.
+use crate::Fields;
 ghost use mathlib.Core.Path.{_≡_};
 ghost use Rattle.machine.specs.Cc as Cc;
+ghost use Rattle.machine.specs.Cc.{sameFlag, sameFields};
 
-// Whether the destination moves on.
-pub fn destination_moves(cc: u16) -> bool
-    ensures { λ r. ⌜ r ≡ Cc.destinationMoves cc ⌝ }
+// The fields of a CC.
+pub fn split(cc: u16) -> Fields
+    ensures { λ r. ⌜ r ≡ Cc.split cc ⌝ }
 {
-    words::bit(cc as u32, 15)
+    let w = cc as u32;
+    Fields {
+        destinationMoves: words::bit(w, 15),
+        sourceMoves: words::bit(w, 14),
+        translates: words::bit(w, 13),
+        synchronised: words::field(w, 11, 2) as u8,
+        sourceIsGB: words::bit(w, 10),
+        chained: words::bit(w, 8),
+        singleTransfer: words::bit(w, 7),
+        externalEnd: words::field(w, 5, 2) as u8,
+        countEnd: words::field(w, 3, 2) as u8,
+        matchEnd: words::field(w, 0, 3) as u8,
+    }
 }
 
-// Whether the source moves on.
-pub fn source_moves(cc: u16) -> bool
-    ensures { λ r. ⌜ r ≡ Cc.sourceMoves cc ⌝ }
+// Whether two flags are the same.
+fn same_flag(a: bool, b: bool) -> bool
+    ensures { λ r. ⌜ r ≡ sameFlag a b ⌝ }
 {
-    words::bit(cc as u32, 14)
+    if a { b } else { !b }
 }
 
-// Whether bytes are translated.
-pub fn translates(cc: u16) -> bool
-    ensures { λ r. ⌜ r ≡ Cc.translates cc ⌝ }
+// Whether two sets of fields are the same, one by one.
+pub fn same(f: Fields, g: Fields) -> bool
+    ensures { λ r. ⌜ r ≡ sameFields f g ⌝ }
 {
-    words::bit(cc as u32, 13)
-}
-
-// Whether the source is GB, else GA.
-pub fn source_is_gb(cc: u16) -> bool
-    ensures { λ r. ⌜ r ≡ Cc.sourceIsGB cc ⌝ }
-{
-    words::bit(cc as u32, 10)
-}
-
-// Whether the program is chained.
-pub fn chained(cc: u16) -> bool
-    ensures { λ r. ⌜ r ≡ Cc.chained cc ⌝ }
-{
-    words::bit(cc as u32, 8)
-}
-
-// TS: whether one transfer ends it.
-pub fn single_transfer(cc: u16) -> bool
-    ensures { λ r. ⌜ r ≡ Cc.singleTransfer cc ⌝ }
-{
-    words::bit(cc as u32, 7)
-}
-
-// SYN: 0 none, 1 source, 2 destination.
-pub fn synchronised(cc: u16) -> u32
-    ensures { λ r. ⌜ r ≡ Cc.synchronised cc ⌝ }
-{
-    words::field(cc as u32, 11, 2)
-}
-
-// TX: the external end.
-pub fn external_end(cc: u16) -> u32
-    ensures { λ r. ⌜ r ≡ Cc.externalEnd cc ⌝ }
-{
-    words::field(cc as u32, 5, 2)
-}
-
-// TBC: the byte count's end.
-pub fn count_end(cc: u16) -> u32
-    ensures { λ r. ⌜ r ≡ Cc.countEnd cc ⌝ }
-{
-    words::field(cc as u32, 3, 2)
-}
-
-// TMC: the masked compare's end.
-pub fn match_end(cc: u16) -> u32
-    ensures { λ r. ⌜ r ≡ Cc.matchEnd cc ⌝ }
-{
-    words::field(cc as u32, 0, 3)
+    same_flag(f.destinationMoves, g.destinationMoves)
+        & same_flag(f.sourceMoves, g.sourceMoves)
+        & same_flag(f.translates, g.translates)
+        & (f.synchronised == g.synchronised)
+        & same_flag(f.sourceIsGB, g.sourceIsGB)
+        & same_flag(f.chained, g.chained)
+        & same_flag(f.singleTransfer, g.singleTransfer)
+        & (f.externalEnd == g.externalEnd)
+        & (f.countEnd == g.countEnd)
+        & (f.matchEnd == g.matchEnd)
 }

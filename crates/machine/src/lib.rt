@@ -4,7 +4,7 @@ use memory::Pointer;
 
 // The fields of PSW.
 pub mod psw;
-// The fields of CC.
+// CC taken apart.
 pub mod cc;
 // The registers of a channel by RRR, and the bases by MM.
 pub mod registers;
@@ -20,7 +20,22 @@ pub enum Mode {
     Suspended,
 }
 
-// The registers of a channel.
+// The fields of CC: which sides move on, whether bytes are translated, SYN (0 none, 1 source, 2 destination), whether the
+// source is GB, else GA, whether the program is chained, TS, and the codes of TX, TBC and TMC.
+pub struct Fields {
+    pub destinationMoves: bool,
+    pub sourceMoves: bool,
+    pub translates: bool,
+    pub synchronised: u8,
+    pub sourceIsGB: bool,
+    pub chained: bool,
+    pub singleTransfer: bool,
+    pub externalEnd: u8,
+    pub countEnd: u8,
+    pub matchEnd: u8,
+}
+
+// The registers of a channel; beside CC stand its fields, which every operation that writes CC renews.
 pub struct Channel {
     pub ga: Pointer,
     pub gb: Pointer,
@@ -34,6 +49,7 @@ pub struct Channel {
     pub psw: u8,
     pub mode: Mode,
     pub armed: bool,
+    pub fields: Fields,
 }
 
 // What the board set up: whether the processor is powered up, the physical widths, SYSBUS bit 0 of the system bus and SOC

@@ -4,13 +4,14 @@ use crate::Board;
 use crate::Channel;
 use crate::Mode;
 use crate::State;
+use crate::cc;
 use memory::Pointer;
 ghost use mathlib.Core.Bool.{false};
 ghost use mathlib.Core.Path.{_≡_};
 ghost use Rattle.memory.specs.Buffers.{buffers};
 ghost use Rattle.machine.specs.Outcomes.{givenNumber};
 ghost use Rattle.machine.specs.States as States;
-ghost use Rattle.machine.specs.States.{boardWith, idleChannel, blankState, resetState, freshOf, channelOf, withChannel, withLast, soundChannel, isRunning, isSuspended, blockOf, isChannel, isSecond, channelNumber};
+ghost use Rattle.machine.specs.States.{boardWith, idleChannel, blankState, resetState, freshOf, channelOf, withChannel, withLast, soundChannel, fieldsAgree, isRunning, isSuspended, blockOf, isChannel, isSecond, channelNumber};
 
 // A channel with all at 0 and idle.
 pub fn idle() -> Channel
@@ -33,6 +34,7 @@ pub fn idle() -> Channel
         psw: 0,
         mode: Mode::Idle,
         armed: false,
+        fields: cc::split(0),
     }
 }
 
@@ -98,6 +100,21 @@ pub fn sound(s: State) -> bool
     ensures { λ r. ⌜ r ≡ States.sound s ⌝ }
 {
     sound_channel(s.first) & sound_channel(s.second) & (s.cp < 1048576)
+}
+
+// Whether the fields of a channel are those of its CC.
+pub fn fields_agree(c: Channel) -> bool
+    ensures { λ r. ⌜ r ≡ fieldsAgree c ⌝ }
+{
+    let fields = c.fields;
+    cc::same(fields, cc::split(c.cc))
+}
+
+// Whether the fields of both channels are those of their CC.
+pub fn agree(s: State) -> bool
+    ensures { λ r. ⌜ r ≡ States.agree s ⌝ }
+{
+    fields_agree(s.first) & fields_agree(s.second)
 }
 
 // The channel of a name: false is channel 1, true is channel 2.
@@ -180,7 +197,7 @@ pub fn number(second: bool) -> u32
 }
 
 // The refusal of what a call is given: 11 for a buffer past its limit, 10 for a state that is not sound, 13 for one that
-// is not powered up, else 0.
+// is not powered up, 14 for one whose fields are not those of CC, else 0.
 pub fn given_number(s: State, sys: &[u8], io: &[u8]) -> u32
     ensures { λ r. ⌜ r ≡ givenNumber s (buffers (now (sys .entry)) (now (io .entry))) ⌝ }
 {
@@ -190,5 +207,8 @@ pub fn given_number(s: State, sys: &[u8], io: &[u8]) -> u32
     if !sound(s) {
         return 10;
     }
-    if s.board.powered { 0 } else { 13 }
+    if !s.board.powered {
+        return 13;
+    }
+    if agree(s) { 0 } else { 14 }
 }

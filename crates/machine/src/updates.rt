@@ -14,6 +14,7 @@ pub fn with_control(c: Channel, tp: Pointer, pp: u32, psw: u8, mode: Mode, armed
     let ga = c.ga;
     let gb = c.gb;
     let gc = c.gc;
+    let fields = c.fields;
     Channel {
         ga,
         gb,
@@ -27,6 +28,7 @@ pub fn with_control(c: Channel, tp: Pointer, pp: u32, psw: u8, mode: Mode, armed
         psw,
         mode,
         armed,
+        fields,
     }
 }
 
@@ -37,6 +39,7 @@ pub fn renewed(c: Channel, tp: Pointer, ix: u16, psw: u8, mode: Mode, armed: boo
     let ga = c.ga;
     let gb = c.gb;
     let gc = c.gc;
+    let fields = c.fields;
     Channel {
         ga,
         gb,
@@ -50,6 +53,7 @@ pub fn renewed(c: Channel, tp: Pointer, ix: u16, psw: u8, mode: Mode, armed: boo
         psw,
         mode,
         armed,
+        fields,
     }
 }
 

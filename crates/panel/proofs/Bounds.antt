@@ -1,4 +1,4 @@
--- The bounds of a run: its number is at most 12, since a state from a CP counts as powered up, and its steps at most the limit, so both can be taken back out of the answer.
+-- The bounds of a run: its number is at most 12, since a state from a CP counts as powered up and agrees, and its steps at most the limit, so both can be taken back out of the answer.
 -- Assumes nothing.
 use Prim.Native.Nat.{ℕ, zero, suc, _+_, _*_, _/_, _%_, _<_, _≤_}
 use lib.Dec.{eqb, ltb, lit≤}
@@ -7,16 +7,20 @@ use mathlib.Core.Path.{_≡_, refl, sym, ap, subst, _∙_}
 use native.Mathlib.Decide.{ℕ-discrete, decLt}
 use native.Mathlib.Nat.{mod-eq-of-lt}
 use native.Mathlib.Omega.{arith}
-use Rattle.attention.proofs.Numbers.{attention-powered}
+use Rattle.attention.proofs.Numbers.{attention-ready}
+use Rattle.attention.proofs.SoundLaws.{attention-agree}
 use Rattle.attention.proofs.Outcomes.{shared-kept}
 use Rattle.attention.specs.Attention.{attentionOf}
+use Rattle.machine.proofs.FieldLaws.{blank-agree}
+use Rattle.machine.specs.Conditions.{Ready}
 use Rattle.machine.specs.Outcomes.{unless, first}
-use Rattle.machine.specs.States.{freshState, isChannel}
+use Rattle.machine.specs.States.{boardWith, freshState, agree, isChannel}
 use Rattle.machine.specs.declared.Board.{Board}
 use Rattle.machine.specs.declared.State.{State}
 use Rattle.memory.specs.Buffers.{Buffers, withinLimits}
-use Rattle.step.proofs.NumberLaws.{step-powered}
+use Rattle.step.proofs.NumberLaws.{step-ready}
 use Rattle.step.proofs.OutcomeLaws.{board-kept}
+use Rattle.step.proofs.SoundLaws.{step-agree}
 use Rattle.step.specs.Step.{stepOf}
 use Rattle.words.specs.Choice.{pick}
 use Rattle.panel.specs.Run.{Run, ran, stepsFrom, attendedRun, callNumber, runOf, answerOf}
@@ -42,18 +46,24 @@ either : (P : Run → Type 0) (b : Bool) (r q : Run) → P r → P q → P (pick
 either P true r q p p′ = p
 either P false r q p p′ = p′
 
--- a state is powered up where the state that its board was taken over from is
-still-powered : (s s′ : State) → s′ .board ≡ s .board → s .board .powered ≡ true → s′ .board .powered ≡ true
-still-powered s s′ e p = ap (λ (x : Board). x .powered) e ∙ p
+-- a state of the same board that agrees is powered up where the other is
+still-ready : (s s′ : State) → s′ .board ≡ s .board → agree s′ ≡ true → Ready s → Ready s′
+still-ready s s′ e a r = (ap (λ (x : Board). x .powered) e ∙ r .0, a)
 
--- the steps' number is one of a step's of a processor that is powered up, or 0
-steps-number : (left : ℕ) (s : State) (m : Buffers) (lines done : ℕ) → s .board .powered ≡ true → stepsFrom left s m lines done .number ≤ 12
+stepped-ready : (s : State) (m : Buffers) (lines : ℕ) → Ready s → Ready (stepOf s m lines .state)
+stepped-ready s m lines r = still-ready s (stepOf s m lines .state) (board-kept s m lines) (step-agree s m lines (r .1)) r
+
+pub attended-ready : (s : State) (m : Buffers) (channel : ℕ) → Ready s → Ready (attentionOf s m channel .state)
+attended-ready s m channel r = still-ready s (attentionOf s m channel .state) (shared-kept s m channel .2) (attention-agree s m channel (r .1)) r
+
+-- the steps' number is one of a step's of a state that is powered up and agrees, or 0
+steps-number : (left : ℕ) (s : State) (m : Buffers) (lines done : ℕ) → Ready s → stepsFrom left s m lines done .number ≤ 12
 unfolding stepsFrom
-steps-number zero s m lines done p = lit≤ tt
-steps-number (suc left) s m lines done p =
+steps-number zero s m lines done r = lit≤ tt
+steps-number (suc left) s m lines done r =
     let o = stepOf s m lines in
     either (λ r. r .number ≤ 12) (eqb (o .number) 0) (stepsFrom left (o .state) (o .memory) lines (done + 1)) (ran (o .number) done (o .memory))
-    (steps-number left (o .state) (o .memory) lines (done + 1) (still-powered s (o .state) (board-kept s m lines) p)) (step-powered s m lines p)
+    (steps-number left (o .state) (o .memory) lines (done + 1) (stepped-ready s m lines r)) (step-ready s m lines r)
 
 -- no more than those that are left are done
 steps-done : (left : ℕ) (s : State) (m : Buffers) (lines done : ℕ) → stepsFrom left s m lines done .steps ≤ done + left
@@ -67,13 +77,13 @@ steps-done (suc left) s m lines done =
 -- ---- the attention and the steps
 
 module _ (s : State) (m : Buffers) (channel lines limit : ℕ) where
-  -- of a processor that is powered up their number is at most 12
-  pub attended-most : s .board .powered ≡ true → attendedRun (attentionOf s m channel) lines limit .number ≤ 12
+  -- of a state that is powered up and agrees their number is at most 12
+  pub attended-most : Ready s → attendedRun (attentionOf s m channel) lines limit .number ≤ 12
   unfolding attendedRun
   attended-most p =
       let o = attentionOf s m channel in
       either (λ r. r .number ≤ 12) (eqb (o .number) 0) (stepsFrom limit (o .state) (o .memory) lines 0) (ran (o .number) 0 (o .memory))
-      (steps-number limit (o .state) (o .memory) lines 0 (still-powered s (o .state) (shared-kept s m channel .2) p)) (attention-powered s m channel p)
+      (steps-number limit (o .state) (o .memory) lines 0 (attended-ready s m channel p)) (attention-ready s m channel p)
 
   -- and no more are done than the limit
   pub attended-steps : attendedRun (attentionOf s m channel) lines limit .steps ≤ limit
@@ -86,12 +96,12 @@ module _ (s : State) (m : Buffers) (channel lines limit : ℕ) where
 -- ---- the run
 
 module _ (m : Buffers) (cp channel lines limit : ℕ) where
-  fresh-on : freshState cp .board .powered ≡ true
+  fresh-on : Ready (freshState cp)
   unfolding freshState
-  fresh-on = refl
+  fresh-on = (refl, blank-agree cp (boardWith true false false false))
 
-  -- what holds of a run that is refused before its steps, and of the steps of a processor that is powered up under a limit of sixteen bits, holds of the run
-  pub run-by : (P : Run → Type 0) → ((n : ℕ) → n ≤ 12 → P (ran n 0 m)) → (limit < 65536 → (s : State) (m′ : Buffers) → s .board .powered ≡ true → P (stepsFrom limit s m′ lines 0))
+  -- what holds of a run that is refused before its steps, and of the steps of a state that is powered up and agrees under a limit of sixteen bits, holds of the run
+  pub run-by : (P : Run → Type 0) → ((n : ℕ) → n ≤ 12 → P (ran n 0 m)) → (limit < 65536 → (s : State) (m′ : Buffers) → Ready s → P (stepsFrom limit s m′ lines 0))
       → P (runOf m cp channel lines limit)
   run-by P refused steps = called (ℕ-discrete (callNumber m channel lines limit) 0)
     where
@@ -99,10 +109,10 @@ module _ (m : Buffers) (cp channel lines limit : ℕ) where
       attended e h (yes a) =
           subst P (sym (accepted-attention m cp channel lines limit e h a))
           (steps (call-limit m channel lines limit e) (attentionOf (freshState cp) m channel .state) (attentionOf (freshState cp) m channel .memory)
-          (still-powered (freshState cp) (attentionOf (freshState cp) m channel .state) (shared-kept (freshState cp) m channel .2) fresh-on))
+          (attended-ready (freshState cp) m channel fresh-on))
       attended e h (no a) =
           subst P (sym (refused-attention m cp channel lines limit e h a))
-          (refused (attentionOf (freshState cp) m channel .number) (attention-powered (freshState cp) m channel fresh-on))
+          (refused (attentionOf (freshState cp) m channel .number) (attention-ready (freshState cp) m channel fresh-on))
 
       fresh : callNumber m channel lines limit ≡ 0 → Dec (cp < 1048576) → P (runOf m cp channel lines limit)
       fresh e (yes h) = attended e h (ℕ-discrete (attentionOf (freshState cp) m channel .number) 0)

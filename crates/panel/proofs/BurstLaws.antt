@@ -9,7 +9,7 @@ use native.Mathlib.Decide.{ℕ-discrete}
 use native.Mathlib.Nat.{not-suc-le-zero}
 use native.Mathlib.Omega.{arith}
 use Rattle.machine.proofs.ChannelLaws.{put-back}
-use Rattle.machine.specs.States.{channelOf, withChannel, withLast, soundChannel, isRunning}
+use Rattle.machine.specs.States.{channelOf, withChannel, withLast, soundChannel, fieldsAgree, isRunning}
 use Rattle.machine.specs.declared.Channel.{Channel}
 use Rattle.machine.specs.declared.State.{State}
 use Rattle.memory.specs.Buffers.{Buffers, withinLimits}
@@ -63,6 +63,7 @@ pub record Turns (lines : ℕ) (b : Bool) (one : Channel → Buffers → Own) (o
   pub again : (s : State) (m : Buffers) → Ready s m → isRunning (channelOf s (not b) .mode) ≡ false → on ((one (channelOf s b) m) .channel) ≡ true
       → Ready (withLast (withChannel s b ((one (channelOf s b) m) .channel)) b) ((one (channelOf s b) m) .memory)
   pub sounds : (c : Channel) (m : Buffers) → soundChannel c ≡ true → soundChannel ((one c m) .channel) ≡ true
+  pub agrees : (c : Channel) (m : Buffers) → fieldsAgree c ≡ true → fieldsAgree ((one c m) .channel) ≡ true
   pub limits : (c : Channel) (m : Buffers) → withinLimits ((one c m) .memory) ≡ withinLimits m
 
 -- the rest of a run after a burst of a channel
@@ -81,19 +82,20 @@ unfolding withLast
 last-again s b = refl
 
 module _ (lines : ℕ) (b : Bool) (one : Channel → Buffers → Own) (on : Channel → Bool) (t : Turns lines b one on) where
-  -- what a burst leaves is a sound channel and memories as long as before; it counts on, and no further than it may
+  -- what a burst leaves is a sound channel that agrees and memories as long as before; it counts on, and no further than it may
   pub record Bounds (l : BurstLeft) (m : Buffers) (done n : ℕ) : Type 0 where
     pub least : done ≤ l .steps
     pub most : l .steps ≤ done + n
     pub further : 0 < n → l .number ≡ 0 → done < l .steps
     pub sound : soundChannel (l .channel) ≡ true
+    pub agree : fieldsAgree (l .channel) ≡ true
     pub limits : withinLimits (l .memory) ≡ withinLimits m
 
-  pub bounds : (n : ℕ) (c : Channel) (m : Buffers) (done : ℕ) → soundChannel c ≡ true → Bounds (burstFrom one on n c m done) m done n
+  pub bounds : (n : ℕ) (c : Channel) (m : Buffers) (done : ℕ) → soundChannel c ≡ true → fieldsAgree c ≡ true → Bounds (burstFrom one on n c m done) m done n
   unfolding burstFrom
-  bounds zero c m done h = record { least = omega arith; most = omega arith; further = λ z e. omega arith; sound = h; limits = refl }
-  bounds (suc n) c m done h =
-      go (bounds n ((one c m) .channel) ((one c m) .memory) (done + 1) (t .sounds c m h)) (eqb ((one c m) .number) 0) refl (on ((one c m) .channel))
+  bounds zero c m done h a = record { least = omega arith; most = omega arith; further = λ z e. omega arith; sound = h; agree = a; limits = refl }
+  bounds (suc n) c m done h a =
+      go (bounds n ((one c m) .channel) ((one c m) .memory) (done + 1) (t .sounds c m h) (t .agrees c m a)) (eqb ((one c m) .number) 0) refl (on ((one c m) .channel))
     where
       o : Own
       o = one c m
@@ -108,6 +110,7 @@ module _ (lines : ℕ) (b : Bool) (one : Channel → Buffers → Own) (on : Chan
         most = omega (arith, later .most);
         further = λ z f. omega (arith, later .least);
         sound = later .sound;
+        agree = later .agree;
         limits = later .limits ∙ t .limits c m;
       }
       go later true e false = record {
@@ -115,6 +118,7 @@ module _ (lines : ℕ) (b : Bool) (one : Channel → Buffers → Own) (on : Chan
         most = omega arith;
         further = λ z f. omega arith;
         sound = t .sounds c m h;
+        agree = t .agrees c m a;
         limits = t .limits c m;
       }
       go later false e y = record {
@@ -122,6 +126,7 @@ module _ (lines : ℕ) (b : Bool) (one : Channel → Buffers → Own) (on : Chan
         most = omega arith;
         further = λ z f. absurd (eqb-false (o .number) 0 e f);
         sound = h;
+        agree = a;
         limits = t .limits c m;
       }
 

@@ -6,18 +6,19 @@ use lib.Dec.{eqb}
 use mathlib.Core.Bool.{Bool, true, false, not, _&&_, _||_}
 use mathlib.Core.Path.{_≡_, refl, sym, ap, ap₂, subst, _∙_}
 use native.Mathlib.Omega.{arith}
-use Rattle.execute.proofs.ChannelLaws.{execute-sound}
+use Rattle.execute.proofs.ChannelLaws.{execute-sound, execute-agree}
 use Rattle.execute.proofs.MemoryLaws.{lengths-kept as executed-lengths}
 use Rattle.machine.proofs.ChannelLaws.{sound-channel-of}
 use Rattle.machine.proofs.ConditionLaws.{running-is}
+use Rattle.machine.proofs.FieldLaws.{agree-channel-of}
 use Rattle.machine.specs.Psw.{transferring}
-use Rattle.machine.specs.States.{channelOf, withChannel, withLast, soundChannel, sound, isRunning, blockOf, busyIn}
+use Rattle.machine.specs.States.{channelOf, withChannel, withLast, soundChannel, sound, fieldsAgree, agree, isRunning, blockOf, busyIn}
 use Rattle.machine.specs.Updates.{withTransfer}
 use Rattle.machine.specs.declared.Channel.{Channel}
 use Rattle.machine.specs.declared.Mode.{Mode}
 use Rattle.machine.specs.declared.State.{State}
 use Rattle.memory.specs.Buffers.{Buffers, withinLimits}
-use Rattle.step.proofs.SoundLaws.{done-sound, done-board, entry-sound, entry-again, limits-kept}
+use Rattle.step.proofs.SoundLaws.{done-sound, done-agree, done-board, entry-sound, entry-agree, entry-again, limits-kept}
 use Rattle.step.proofs.StayLaws.{mine-after, transfer-stays, instruction-stays}
 use Rattle.step.proofs.StepLaws.{transfer-kept, execute-kept}
 use Rattle.step.specs.Choosing.{choiceOf}
@@ -25,7 +26,7 @@ use Rattle.step.specs.Step.{Step, refusedStep, doneStep, settledStep, transferS
 use Rattle.step.specs.declared.Kind.the-variants.{Transfer, Instruction, External}
 use Rattle.step.specs.declared.turns.Choice.{Choice}
 use Rattle.step.specs.declared.turns.Choice.the-variants.{Nobody, Ends, Steps}
-use Rattle.transfer.proofs.KeptLaws.{only-these, transfer-sound, external-sound, lengths-kept}
+use Rattle.transfer.proofs.KeptLaws.{only-these, transfer-sound, external-sound, transfer-agree, external-agree, lengths-kept}
 use Rattle.transfer.specs.Ends.{externallyEnded}
 use Rattle.transfer.specs.Steps.{transferOf}
 use Rattle.words.proofs.ChoiceLaws.{apart, both-left, both-right}
@@ -132,14 +133,17 @@ module _ (lines : ℕ) (b : Bool) where
     again = λ s m r idle on.
         let c = channelOf s b in
         let t = transferOf c m in
-        let q = entry-sound s m lines (r .0) in (
+        let q = entry-sound s m lines (r .0) in
+        let a = entry-agree s m lines (r .0) in (
           entry-again s (withLast (withChannel s b (t .channel)) b) m (t .memory) lines (r .0) (done-sound s b (t .channel) q (transfer-sound c m (sound-channel-of s b q)))
+              (done-agree s b (t .channel) a (transfer-agree c m (agree-channel-of s b a)))
               (done-board s b (t .channel))
               (limits-kept m (t .memory) (lengths-kept c m)),
-          transfer-stays s lines b (t .channel) idle (r .1) (ap (λ (x : Channel). x .mode) (only-these c m)) (ap (λ (x : Channel). x .cc) (only-these c m)) (on ∙ sym (r .2)),
+          transfer-stays s lines b (t .channel) idle (r .1) (ap (λ (x : Channel). x .mode) (only-these c m)) (ap (λ (x : Channel). x .fields) (only-these c m)) (on ∙ sym (r .2)),
           ap (λ (x : Channel). transferring (x .psw)) (mine-after s b (t .channel)) ∙ on,
         );
     sounds = λ c m h. transfer-sound c m h;
+    agrees = λ c m h. transfer-agree c m h;
     limits = λ c m. limits-kept m ((transferOf c m) .memory) (lengths-kept c m);
   }
 
@@ -155,10 +159,12 @@ module _ (lines : ℕ) (b : Bool) where
         let c = channelOf s b in
         let e = executes busy c m in
         let q = entry-sound s m lines (r .0 .0) in
+        let a = entry-agree s m lines (r .0 .0) in
         let running = running-is (e .channel .mode) (both-left (isRunning (e .channel .mode)) (not (transferring (e .channel .psw))) on) in
         let no-xf = not-true (transferring (e .channel .psw)) (both-right (isRunning (e .channel .mode)) (not (transferring (e .channel .psw))) on) in (
           (
             entry-again s (withLast (withChannel s b (e .channel)) b) m (e .memory) lines (r .0 .0) (done-sound s b (e .channel) q (execute-sound c busy m (sound-channel-of s b q)))
+                (done-agree s b (e .channel) a (execute-agree c busy m (agree-channel-of s b a)))
                 (done-board s b (e .channel))
                 (limits-kept m (e .memory) (executed-lengths c busy m)),
             instruction-stays s lines b (e .channel) idle running no-xf,
@@ -167,6 +173,7 @@ module _ (lines : ℕ) (b : Bool) where
           r .1,
         );
     sounds = λ c m h. execute-sound c busy m h;
+    agrees = λ c m h. execute-agree c busy m h;
     limits = λ c m. limits-kept m ((executes busy c m) .memory) (executed-lengths c busy m);
   }
 
@@ -213,7 +220,8 @@ module _ (p : Pair) (shared : Shared) (lines limit done : ℕ) (m : Buffers) (h 
     most = rw (ap (λ (x : BurstLeft). x .steps) e) (omega (arith, own .most, u .1, u .0));
     ready = λ k.
         entry-again s (stateOf (pairAfter p c) shared) m m′ lines z
-        (ap sound (done-of p shared c) ∙ done-sound s (p .second) c q (ap (λ (x : BurstLeft). soundChannel (x .channel)) e ∙ own .sound)) refl
+        (ap sound (done-of p shared c) ∙ done-sound s (p .second) c q (ap (λ (x : BurstLeft). soundChannel (x .channel)) e ∙ own .sound))
+        (ap agree (done-of p shared c) ∙ done-agree s (p .second) c a (ap (λ (x : BurstLeft). fieldsAgree (x .channel)) e ∙ own .agree)) refl
         (ap (λ (x : BurstLeft). withinLimits (x .memory)) e ∙ own .limits);
   }
     where
@@ -229,11 +237,15 @@ module _ (p : Pair) (shared : Shared) (lines limit done : ℕ) (m : Buffers) (h 
       q : sound s ≡ true
       q = entry-sound s m lines z
 
+      a : agree s ≡ true
+      a = entry-agree s m lines z
+
       total : limit ≡ limit - done + done
       total = omega arith
 
       own : Bounds lines (p .second) one on t (burstFrom one on n (p .mine) m done) m done n
       own = bounds lines (p .second) one on t n (p .mine) m done (sym (ap soundChannel (mine-of p shared)) ∙ sound-channel-of s (p .second) q)
+          (sym (ap fieldsAgree (mine-of p shared)) ∙ agree-channel-of s (p .second) a)
 
   -- transfer steps and instructions are
   pub transfers-round : choiceOf (stateOf p shared) lines ≡ Steps (p .second) → transferring (p .mine .psw) ≡ true
@@ -276,7 +288,8 @@ module _ (p : Pair) (shared : Shared) (lines limit done : ℕ) (m : Buffers) (h 
     most = omega arith;
     ready = λ k.
         entry-again s (stateOf (pairAfter p c) shared) m m lines z
-        (ap sound (done-of p shared c) ∙ done-sound s (p .second) c q (external-sound (p .mine) (sym (ap soundChannel (mine-of p shared)) ∙ sound-channel-of s (p .second) q))) refl
+        (ap sound (done-of p shared c) ∙ done-sound s (p .second) c q (external-sound (p .mine) (sym (ap soundChannel (mine-of p shared)) ∙ sound-channel-of s (p .second) q)))
+        (ap agree (done-of p shared c) ∙ done-agree s (p .second) c a (external-agree (p .mine) (sym (ap fieldsAgree (mine-of p shared)) ∙ agree-channel-of s (p .second) a))) refl
         refl;
   }
     where
@@ -288,6 +301,9 @@ module _ (p : Pair) (shared : Shared) (lines limit done : ℕ) (m : Buffers) (h 
 
       q : sound s ≡ true
       q = entry-sound s m lines z
+
+      a : agree s ≡ true
+      a = entry-agree s m lines z
 
       less : limit - (done + 1) ≡ limit - done - 1
       less = omega arith

@@ -9,10 +9,11 @@ use mathlib.Core.Path.{_≡_, refl, sym, ap, _∙_}
 use native.Mathlib.Decide.{ℕ-discrete}
 use native.Mathlib.Nat.{mod-lt}
 use Rattle.machine.proofs.ConditionLaws.{first-none-right, unless-none}
+use Rattle.machine.proofs.FieldLaws.{blank-agree}
 use Rattle.machine.proofs.OutcomeLaws.{refused, accepted}
 use Rattle.machine.specs.Outcomes.{Outcome, outcome, unless}
 use Rattle.machine.specs.Stages.{stagesTouched}
-use Rattle.machine.specs.States.{idleChannel, soundChannel, sound, busyIn}
+use Rattle.machine.specs.States.{idleChannel, soundChannel, sound, agree, busyIn}
 use Rattle.machine.specs.declared.State.{State}
 use Rattle.memory.proofs.SpanLaws.{span-first}
 use Rattle.memory.proofs.StoreLaws.{store-length, read-same, read-other}
@@ -95,6 +96,11 @@ found-sound m = lt-ltb (controlOf m) 1048576 (control-small m)
 pub found-powered : (m : Buffers) → foundState m .board .powered ≡ true
 unfolding foundState boardOf
 found-powered m = refl
+
+-- and its fields are those of CC
+pub found-agree : (m : Buffers) → agree (foundState m) ≡ true
+unfolding foundState
+found-agree m = blank-agree (controlOf m) (boardOf m)
 
 -- eleven bytes are touched
 pub power-touches : (m : Buffers) → length (touchedByPower m) ≡ 11

@@ -9,7 +9,6 @@ use mathlib.Core.Path.{_≡_, refl, sym, ap, subst, _∙_}
 use native.Mathlib.Decide.{decLt}
 use native.Mathlib.Omega.{arith}
 use Rattle.machine.proofs.ConditionLaws.{Says, says-true, says-eqb, says-running, says-not, says-and, says-or, running-is}
-use Rattle.machine.specs.Cc.{synchronised, chained, externalEnd}
 use Rattle.machine.specs.Psw.{transferring, priority}
 use Rattle.machine.specs.States.{channelOf, isRunning}
 use Rattle.machine.specs.declared.Channel.{Channel}
@@ -62,9 +61,9 @@ says-ends c ext =
       fails = λ e h. all .fails e (((h .0, h .1), h .2), h .3);
     }
   where
-    all : Says (isRunning (c .mode) && transferring (c .psw) && not (eqb (externalEnd (c .cc)) 0) && ext)
-        ((((c .mode ≡ Running) × (transferring (c .psw) ≡ true)) × ¬ (externalEnd (c .cc) ≡ 0)) × (ext ≡ true))
-    all = says-and (says-and (says-and (says-running (c .mode)) (says-true (transferring (c .psw)))) (says-not (says-eqb (externalEnd (c .cc)) 0))) (says-true ext)
+    all : Says (isRunning (c .mode) && transferring (c .psw) && not (eqb (c .fields .externalEnd) 0) && ext)
+        ((((c .mode ≡ Running) × (transferring (c .psw) ≡ true)) × ¬ (c .fields .externalEnd ≡ 0)) × (ext ≡ true))
+    all = says-and (says-and (says-and (says-running (c .mode)) (says-true (transferring (c .psw)))) (says-not (says-eqb (c .fields .externalEnd) 0))) (says-true ext)
 
 -- so does that for a transfer that need not wait (§5.3)
 says-moves : (syn : ℕ) (drq : Bool) → Says (eqb syn 0 || drq || eqb syn 3) ((syn ≡ 0) ⊎ ((drq ≡ true) ⊎ (syn ≡ 3)))
@@ -81,13 +80,13 @@ says-moves syn drq =
 pub by-rank : (c : Channel) (drq : Bool) (P : ℕ → Type 0) → (RankOne c drq → P 1) → (RankThree c → P 3) → (¬ (HasRank c drq) → P noRank) → P (rankOf c drq)
 unfolding rankOf transferRank
 by-rank c drq P one three none =
-    go (isRunning (c .mode)) refl (transferring (c .psw)) refl (eqb (synchronised (c .cc)) 0 || drq || eqb (synchronised (c .cc)) 3) refl (chained (c .cc)) refl
+    go (isRunning (c .mode)) refl (transferring (c .psw)) refl (eqb (c .fields .synchronised) 0 || drq || eqb (c .fields .synchronised) 3) refl (c .fields .chained) refl
   where
-    moves : Says (eqb (synchronised (c .cc)) 0 || drq || eqb (synchronised (c .cc)) 3) ((synchronised (c .cc) ≡ 0) ⊎ ((drq ≡ true) ⊎ (synchronised (c .cc) ≡ 3)))
-    moves = says-moves (synchronised (c .cc)) drq
+    moves : Says (eqb (c .fields .synchronised) 0 || drq || eqb (c .fields .synchronised) 3) ((c .fields .synchronised ≡ 0) ⊎ ((drq ≡ true) ⊎ (c .fields .synchronised ≡ 3)))
+    moves = says-moves (c .fields .synchronised) drq
 
     go : (r : Bool) → isRunning (c .mode) ≡ r → (x : Bool) → transferring (c .psw) ≡ x
-        → (y : Bool) → eqb (synchronised (c .cc)) 0 || drq || eqb (synchronised (c .cc)) 3 ≡ y → (z : Bool) → chained (c .cc) ≡ z
+        → (y : Bool) → eqb (c .fields .synchronised) 0 || drq || eqb (c .fields .synchronised) 3 ≡ y → (z : Bool) → c .fields .chained ≡ z
         → P (pick r (pick x (pick y 1 noRank) (pick z 1 3)) noRank)
     go true e true f true g z h = one (running-is (c .mode) e, inl (f, moves .holds g))
     go true e true f false g z h =
@@ -303,7 +302,7 @@ waiting-never s lines second w =
     (λ e. w .3 (ends-chosen s lines second e), λ e. unranked (steps-chosen s lines second e .1))
   where
     syn : ℕ
-    syn = synchronised (channelOf s second .cc)
+    syn = channelOf s second .fields .synchronised
 
     still : (syn ≡ 1) ⊎ (syn ≡ 2) → (syn ≡ 0) ⊎ ((requested lines second ≡ true) ⊎ (syn ≡ 3)) → ⊥
     still =

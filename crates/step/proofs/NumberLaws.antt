@@ -13,9 +13,9 @@ use Rattle.execute.proofs.NumberLaws.{number-given as instruction-given, exactl
 use Rattle.execute.specs.Conditions.{instructionChecks as instructionChecks, InstructionGiven2, InstructionGiven3, InstructionGiven4, InstructionGiven0}
 use Rattle.execute.specs.Execute.{decodedAt, touchedByInstruction, executeOf}
 use Rattle.machine.proofs.ConditionLaws.{Told, step, last, rewritten, first-assoc, skip, hit, end, never, upTo, given-most, up-to-either, told-ltb, told-touchable, told-by, says-true, says-eqb, says-and, says-or}
-use Rattle.machine.proofs.GivenLaws.{given-chain, skip-given}
-use Rattle.machine.specs.Cc.{synchronised, translates}
-use Rattle.machine.specs.Conditions.{check, Given, TooLong, NotSound, NotPowered, Beyond}
+use Rattle.machine.proofs.FieldLaws.{told-agree}
+use Rattle.machine.proofs.GivenLaws.{told-powered, given-chain, skip-given}
+use Rattle.machine.specs.Conditions.{check, Given, TooLong, NotSound, NotPowered, FieldsDisagree, Ready, Beyond}
 use Rattle.machine.specs.Outcomes.{first, unless, givenNumber}
 use Rattle.machine.specs.Stages.{stagesTouched}
 use Rattle.machine.specs.Psw.{transferring, sourceWide, destinationWide}
@@ -75,7 +75,7 @@ moved-number c m = go (transferNumber c m)
 
 told-bad : (c : Channel) → Told (not (badMode c)) (BadTransfer c)
 unfolding badMode source destination
-told-bad c = told-by (says-or (says-eqb (synchronised (c .cc)) 3) (says-and (says-true (translates (c .cc))) (says-or (says-true (sourceWide (c .psw))) (says-true (destinationWide (c .psw))))))
+told-bad c = told-by (says-or (says-eqb (c .fields .synchronised) 3) (says-and (says-true (c .fields .translates)) (says-or (says-true (sourceWide (c .psw))) (says-true (destinationWide (c .psw))))))
 
 transfer-given : (c : Channel) (m : Buffers) (n : ℕ) → ((transferOf c m) .number ≡ n) ↔ Given (transferChecks c m) n
 transfer-given c m n = rewritten (moved-number c m ∙ chain c m) (step 5 refl (told-bad c) (last n 2 refl (told-touchable m (touchedByTransfer c m))))
@@ -115,14 +115,14 @@ number-given s m lines n =
     (given-chain s m
     (chosen-given s m lines n (choiceOf s lines) refl)))
 
--- the number is at most 13, whoever was chosen
-pub step-most : (s : State) (m : Buffers) (lines : ℕ) → stepOf s m lines .number ≤ 13
-step-most s m lines = given-most 13 (stepChecks s m lines) (chosen (choiceOf s lines)) ((number-given s m lines (stepOf s m lines .number)) .0 refl)
+-- the number is at most 14, whoever was chosen
+pub step-most : (s : State) (m : Buffers) (lines : ℕ) → stepOf s m lines .number ≤ 14
+step-most s m lines = given-most 14 (stepChecks s m lines) (chosen (choiceOf s lines)) ((number-given s m lines (stepOf s m lines .number)) .0 refl)
   where
-    chosen : (x : Choice) → upTo 13 (chosenChecks x s m) ≡ true
+    chosen : (x : Choice) → upTo 14 (chosenChecks x s m) ≡ true
     chosen Nobody = refl
     chosen (Ends b) = refl
-    chosen (Steps b) = up-to-either 13 (transferring (channelOf s b .psw)) _ _ refl refl
+    chosen (Steps b) = up-to-either 14 (transferring (channelOf s b .psw)) _ _ refl refl
 
 -- ---- each number
 
@@ -141,39 +141,46 @@ module _ (s : State) (m : Buffers) (lines : ℕ) where
   pub exactly-12 : ((stepOf s m lines) .number ≡ 12) ↔ LinesOver lines
   exactly-12 =
       Iff·trans (number-given s m lines 12)
-      (hit (λ g. chosen-never 12 refl refl refl refl refl (choiceOf s lines) ((skip-given s m refl refl refl (skip refl Iff·rfl)) .0 g .1 .1 .1 .1)))
+      (hit (λ g. chosen-never 12 refl refl refl refl refl (choiceOf s lines) ((skip-given s m refl refl refl refl (skip refl Iff·rfl)) .0 g .1 .1 .1 .1 .1)))
 
   -- 11: a buffer that is longer than its limit
   pub exactly-11 : ((stepOf s m lines) .number ≡ 11) ↔ (¬ (LinesOver lines) × TooLong m)
   exactly-11 =
       Iff·trans (number-given s m lines 11)
-      (skip refl (hit (λ g. chosen-never 11 refl refl refl refl refl (choiceOf s lines) ((skip refl (skip refl (skip refl Iff·rfl))) .0 g .1 .1 .1))))
+      (skip refl (hit (λ g. chosen-never 11 refl refl refl refl refl (choiceOf s lines) ((skip refl (skip refl (skip refl (skip refl Iff·rfl)))) .0 g .1 .1 .1 .1))))
 
   -- 10: a state that is not sound
   pub exactly-10 : ((stepOf s m lines) .number ≡ 10) ↔ (¬ (LinesOver lines) × (¬ (TooLong m) × NotSound s))
   exactly-10 =
       Iff·trans (number-given s m lines 10)
-      (skip refl (skip refl (hit (λ g. chosen-never 10 refl refl refl refl refl (choiceOf s lines) ((skip refl (skip refl Iff·rfl)) .0 g .1 .1)))))
+      (skip refl (skip refl (hit (λ g. chosen-never 10 refl refl refl refl refl (choiceOf s lines) ((skip refl (skip refl (skip refl Iff·rfl))) .0 g .1 .1 .1)))))
 
   -- 13: the processor is not powered up
   pub exactly-13 : ((stepOf s m lines) .number ≡ 13) ↔ (¬ (LinesOver lines) × (¬ (TooLong m) × (¬ (NotSound s) × NotPowered s)))
   exactly-13 =
       Iff·trans (number-given s m lines 13)
-      (skip refl (skip refl (skip refl (hit (λ g. chosen-never 13 refl refl refl refl refl (choiceOf s lines) ((skip refl Iff·rfl) .0 g .1))))))
+      (skip refl (skip refl (skip refl (hit (λ g. chosen-never 13 refl refl refl refl refl (choiceOf s lines) ((skip refl (skip refl Iff·rfl)) .0 g .1 .1))))))
 
-  -- so of one that is powered up the number is at most 12
-  pub step-powered : s .board .powered ≡ true → stepOf s m lines .number ≤ 12
-  step-powered p =
-      let other : ¬ (stepOf s m lines .number ≡ 13) = λ e. apart (sym p ∙ exactly-13 .0 e .1 .1 .1) in
-      omega (arith, step-most s m lines, other)
+  -- 14: the fields of a channel are not those of its CC
+  pub exactly-14 : ((stepOf s m lines) .number ≡ 14) ↔ (¬ (LinesOver lines) × (¬ (TooLong m) × (¬ (NotSound s) × (¬ (NotPowered s) × FieldsDisagree s))))
+  exactly-14 =
+      Iff·trans (number-given s m lines 14)
+      (skip refl (skip refl (skip refl (skip refl (hit (λ g. chosen-never 14 refl refl refl refl refl (choiceOf s lines) ((skip refl Iff·rfl) .0 g .1)))))))
+
+  -- so of a state that is powered up and agrees the number is at most 12
+  pub step-ready : Ready s → stepOf s m lines .number ≤ 12
+  step-ready r =
+      let up : ¬ (stepOf s m lines .number ≡ 13) = λ e. told-powered s .holds (r .0) (exactly-13 .0 e .1 .1 .1) in
+      let same : ¬ (stepOf s m lines .number ≡ 14) = λ e. told-agree s .holds (r .1) (exactly-14 .0 e .1 .1 .1 .1) in
+      omega (arith, step-most s m lines, up, same)
 
   -- 1: nobody can step
   pub exactly-1 : ((stepOf s m lines) .number ≡ 1) ↔ StepAfterGiven s m lines (NoneRuns s lines)
   exactly-1 =
       Iff·trans (number-given s m lines 1)
-      (skip refl (skip-given s m refl refl refl (hit (chosen-never 1 refl refl refl refl refl (choiceOf s lines)))))
+      (skip refl (skip-given s m refl refl refl refl (hit (chosen-never 1 refl refl refl refl refl (choiceOf s lines)))))
 
-  -- what is left once 12, 11, 10, 13 and 1 do not apply: by what was chosen
+  -- what is left once 12, 11, 10, 13, 14 and 1 do not apply: by what was chosen
   Own : Choice → ℕ → Type 0
   Own x n =
       OnEnd x s (λ b. n ≡ 0)
@@ -237,11 +244,11 @@ module _ (s : State) (m : Buffers) (lines : ℕ) where
   no-instruction (Ends b) f h = absurd h
   no-instruction (Steps b) f h = absurd (f b (h .1))
 
-  own-number : (n : ℕ) {Q : Type 0} → eqb n 12 ≡ false → eqb n 11 ≡ false → eqb n 10 ≡ false → eqb n 13 ≡ false → eqb n 1 ≡ false → (Own (choiceOf s lines) n ↔ Q)
+  own-number : (n : ℕ) {Q : Type 0} → eqb n 12 ≡ false → eqb n 11 ≡ false → eqb n 10 ≡ false → eqb n 13 ≡ false → eqb n 14 ≡ false → eqb n 1 ≡ false → (Own (choiceOf s lines) n ↔ Q)
       → ((stepOf s m lines) .number ≡ n) ↔ StepAfterGiven s m lines Q
-  own-number n n₁₂ n₁₁ n₁₀ n₁₃ n₁ q =
+  own-number n n₁₂ n₁₁ n₁₀ n₁₃ n₁₄ n₁ q =
       Iff·trans (number-given s m lines n)
-      (skip n₁₂ (skip-given s m n₁₁ n₁₀ n₁₃ (Iff·trans (own-cases n (choiceOf s lines) n₁ refl) q)))
+      (skip n₁₂ (skip-given s m n₁₁ n₁₀ n₁₃ n₁₄ (Iff·trans (own-cases n (choiceOf s lines) n₁ refl) q)))
 
   -- what an instruction's checks give is what its own law says of that number
   by-instruction : {Q : Type 0} (n : ℕ) (b : Bool) → ((executeOf (channelOf s b) (busyIn (blockOf s b)) m) .number ≡ n ↔ Q) → Given (instructionChecks m (channelOf s b) (busyIn (blockOf s b))) n ↔ Q
@@ -252,7 +259,7 @@ module _ (s : State) (m : Buffers) (lines : ℕ) where
   unfolding Own
   exactly-5 =
       let x = choiceOf s lines in
-      own-number 5 refl refl refl refl refl (
+      own-number 5 refl refl refl refl refl refl (
         ⊎-elim (no-end x (λ b. eqb-false 5 0 refl))
             (⊎-elim (on-transfer x (λ b. bad b .0)) (no-instruction x (λ b. never 5 (instructionChecks m (channelOf s b) (busyIn (blockOf s b))) refl))),
         λ h. inr (inl (on-transfer x (λ b. bad b .1) h)),
@@ -268,7 +275,7 @@ module _ (s : State) (m : Buffers) (lines : ℕ) where
   unfolding Own
   exactly-2 =
       let x = choiceOf s lines in
-      own-number 2 refl refl refl refl refl (
+      own-number 2 refl refl refl refl refl refl (
         ⊎-elim (no-end x (λ b. eqb-false 2 0 refl))
             (⊎-elim (λ h. inl (on-transfer x (λ b. beyond b .0) h)) (λ h. inr (on-instruction x (λ b. (of-2 b) .0) h))),
         ⊎-elim (λ h. inr (inl (on-transfer x (λ b. beyond b .1) h))) (λ h. inr (inr (on-instruction x (λ b. (of-2 b) .1) h))),
@@ -283,7 +290,7 @@ module _ (s : State) (m : Buffers) (lines : ℕ) where
   -- that is, exactly where a byte of the chosen channel's list, up to the stage where it stops, may not be touched
   pub two-exactly : ((stepOf s m lines) .number ≡ 2) ↔ StepAfterGiven s m lines (allTouchable m (reachedIn (choiceOf s lines) s m) ≡ false)
   unfolding Own reachedIn allPass
-  two-exactly = own-number 2 refl refl refl refl refl (go (choiceOf s lines))
+  two-exactly = own-number 2 refl refl refl refl refl refl (go (choiceOf s lines))
     where
       transfer : (b : Bool) → Given (transferChecks (channelOf s b) m) 2 ↔ (allTouchable m (stagesTouched (transferStages (channelOf s b) m)) ≡ false)
       transfer b =
@@ -307,7 +314,7 @@ module _ (s : State) (m : Buffers) (lines : ℕ) where
   unfolding Own
   exactly-3 =
       let x = choiceOf s lines in
-      own-number 3 refl refl refl refl refl (
+      own-number 3 refl refl refl refl refl refl (
         ⊎-elim (no-end x (λ b. eqb-false 3 0 refl))
             (⊎-elim (no-transfer x (λ b. never 3 (transferChecks (channelOf s b) m) refl)) (on-instruction x (λ b. (of-3 b) .0))),
         λ h. inr (inr (on-instruction x (λ b. (of-3 b) .1) h)),
@@ -321,7 +328,7 @@ module _ (s : State) (m : Buffers) (lines : ℕ) where
   unfolding Own
   exactly-4 =
       let x = choiceOf s lines in
-      own-number 4 refl refl refl refl refl (
+      own-number 4 refl refl refl refl refl refl (
         ⊎-elim (no-end x (λ b. eqb-false 4 0 refl))
             (⊎-elim (no-transfer x (λ b. never 4 (transferChecks (channelOf s b) m) refl)) (on-instruction x (λ b. (of-4 b) .0))),
         λ h. inr (inr (on-instruction x (λ b. (of-4 b) .1) h)),
@@ -338,7 +345,7 @@ module _ (s : State) (m : Buffers) (lines : ℕ) where
   unfolding Own
   exactly-0 =
       let x = choiceOf s lines in
-      own-number 0 refl refl refl refl refl (
+      own-number 0 refl refl refl refl refl refl (
         ⊎-elim (λ h. inl (on-end x (λ b k. tt) h))
             (⊎-elim (λ h. inr (inl (on-transfer x (λ b. right b .0) h))) (λ h. inr (inr (on-instruction x (λ b. (of-0 b) .0) h)))),
         ⊎-elim (λ h. inl (on-end x (λ b k. refl) h))
@@ -353,7 +360,7 @@ module _ (s : State) (m : Buffers) (lines : ℕ) where
 
   -- and no other number
   pub no-other : (n : ℕ) → eqb n 0 ≡ false → eqb n 1 ≡ false → eqb n 2 ≡ false → eqb n 3 ≡ false → eqb n 4 ≡ false → eqb n 5 ≡ false
-      → eqb n 10 ≡ false → eqb n 11 ≡ false → eqb n 12 ≡ false → eqb n 13 ≡ false → ¬ ((stepOf s m lines) .number ≡ n)
-  no-other n n₀ n₁ n₂ n₃ n₄ n₅ n₁₀ n₁₁ n₁₂ n₁₃ e =
+      → eqb n 10 ≡ false → eqb n 11 ≡ false → eqb n 12 ≡ false → eqb n 13 ≡ false → eqb n 14 ≡ false → ¬ ((stepOf s m lines) .number ≡ n)
+  no-other n n₀ n₁ n₂ n₃ n₄ n₅ n₁₀ n₁₁ n₁₂ n₁₃ n₁₄ e =
       chosen-never n n₀ n₂ n₃ n₄ n₅ (choiceOf s lines)
-      ((skip n₁₂ (skip-given s m n₁₁ n₁₀ n₁₃ (skip n₁ Iff·rfl))) .0 ((number-given s m lines n) .0 e) .1 .1 .1 .1 .1)
+      ((skip n₁₂ (skip-given s m n₁₁ n₁₀ n₁₃ n₁₄ (skip n₁ Iff·rfl))) .0 ((number-given s m lines n) .0 e) .1 .1 .1 .1 .1 .1)

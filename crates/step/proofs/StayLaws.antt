@@ -7,7 +7,6 @@ use mathlib.Core.Path.{_≡_, refl, sym, ap, _∙_}
 use native.Mathlib.Omega.{arith}
 use Rattle.machine.proofs.ChannelLaws.{put-same, put-other, last-channel}
 use Rattle.machine.proofs.ConditionLaws.{says-running}
-use Rattle.machine.specs.Cc.{chained}
 use Rattle.machine.specs.Psw.{transferring}
 use Rattle.machine.specs.States.{channelOf, withChannel, withLast, isRunning}
 use Rattle.machine.specs.declared.Channel.{Channel}
@@ -43,9 +42,9 @@ alone-steps s lines b off ends ranked =
 
 -- a running channel without XF has a rank
 executing : (c : Channel) (drq : Bool) → c .mode ≡ Running → transferring (c .psw) ≡ false → HasRank c drq
-executing c drq r f = go (chained (c .cc)) refl
+executing c drq r f = go (c .fields .chained) refl
   where
-    go : (x : Bool) → chained (c .cc) ≡ x → HasRank c drq
+    go : (x : Bool) → c .fields .chained ≡ x → HasRank c drq
     go true e = inl (r, inr (f, e))
     go false e = inr (r, f, e)
 
@@ -58,13 +57,13 @@ module _ (s : State) (lines : ℕ) (b : Bool) (c : Channel) (idle : isRunning (c
   pub idle-after : isRunning (channelOf (withLast (withChannel s b c) b) (not b) .mode) ≡ false
   idle-after = ap (λ (x : Channel). isRunning (x .mode)) (last-channel (withChannel s b c) b (not b) ∙ put-other s b c) ∙ idle
 
-  -- after a step that changes neither mode, CC nor XF the choice is the same
-  pub transfer-stays : choiceOf s lines ≡ Steps b → c .mode ≡ channelOf s b .mode → c .cc ≡ channelOf s b .cc → transferring (c .psw) ≡ transferring (channelOf s b .psw)
+  -- after a step that changes neither mode, the fields of CC nor XF the choice is the same
+  pub transfer-stays : choiceOf s lines ≡ Steps b → c .mode ≡ channelOf s b .mode → c .fields ≡ channelOf s b .fields → transferring (c .psw) ≡ transferring (channelOf s b .psw)
       → choiceOf (withLast (withChannel s b c) b) lines ≡ Steps b
-  transfer-stays e mode cc xf =
+  transfer-stays e mode fields xf =
       let was = steps-chosen s lines b e in
-      let ends : ¬ (EndsNow c (external lines b)) = λ h. was .0 b (rw (mode, cc, xf) at h) in
-      let ranked : HasRank c (requested lines b) = rw (mode, cc, xf) (was .1) in
+      let ends : ¬ (EndsNow c (external lines b)) = λ h. was .0 b (rw (mode, fields, xf) at h) in
+      let ranked : HasRank c (requested lines b) = rw (mode, fields, xf) (was .1) in
       alone-steps (withLast (withChannel s b c) b) lines b idle-after (rw (mine-after s b c) ends) (rw (mine-after s b c) ranked)
 
   -- after one that leaves a channel that runs without XF it has its turn

@@ -7,7 +7,6 @@ use Rattle.words.specs.Bits.{bitOf}
 use Rattle.machine.specs.declared.Channel.{Channel}
 use Rattle.machine.specs.declared.State.{State}
 use Rattle.machine.specs.Psw.{transferring, priority}
-use Rattle.machine.specs.Cc.{synchronised, chained, externalEnd}
 use Rattle.machine.specs.States.{isRunning}
 use Rattle.step.specs.declared.turns.Choice.{Choice}
 use Rattle.step.specs.declared.turns.Choice.the-variants.{Nobody, Ends, Steps}
@@ -22,7 +21,7 @@ external lines second = bitOf lines (pick second 3 2)
 
 -- a channel has an external end: it runs, with XF set, TX on and its EXT up (§5.2)
 unfoldable pub endsNow : Channel → Bool → Bool
-endsNow c ext = isRunning (c .mode) && transferring (c .psw) && not (eqb (externalEnd (c .cc)) 0) && ext
+endsNow c ext = isRunning (c .mode) && transferring (c .psw) && not (eqb (c .fields .externalEnd) 0) && ext
 
 -- a channel that cannot step has a rank past all others
 abbrev pub noRank : ℕ
@@ -30,15 +29,15 @@ noRank = 4
 
 -- a running channel with XF has rank 1, unless it is synchronised and its DRQ is down: then it waits (§5.3)
 unfoldable pub transferRank : ℕ → Bool → ℕ
-transferRank cc drq = pick (eqb (synchronised cc) 0 || drq || eqb (synchronised cc) 3) 1 noRank
+transferRank syn drq = pick (eqb syn 0 || drq || eqb syn 3) 1 noRank
 
 -- with XF by its transfer; without, 1 where it is chained, else 3; a channel that does not run has none (§5.3)
 unfoldable pub rankOf : Channel → Bool → ℕ
 rankOf c drq =
     pick (isRunning (c .mode))
     (pick (transferring (c .psw))
-    (transferRank (c .cc) drq)
-    (pick (chained (c .cc)) 1 3))
+    (transferRank (c .fields .synchronised) drq)
+    (pick (c .fields .chained) 1 3))
     noRank
 
 -- whether channel 2 goes first: by the lower rank, then by priority, then by not being last (§5.4)

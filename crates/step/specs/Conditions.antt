@@ -5,7 +5,6 @@ use mathlib.Core.List.{List, [], _∷_}
 use mathlib.Core.Logic.{_⊎_}
 use mathlib.Core.Path.{_≡_}
 use Rattle.execute.specs.Conditions.{instructionChecks}
-use Rattle.machine.specs.Cc.{synchronised, translates}
 use Rattle.machine.specs.Conditions.{Check, check, Beyond, givenChecks, AfterGiven}
 use Rattle.machine.specs.Psw.{transferring, sourceWide, destinationWide}
 use Rattle.machine.specs.States.{channelOf, blockOf, busyIn}
@@ -25,7 +24,7 @@ LinesOver lines = 16 ≤ lines
 
 -- 5: a transfer with SYN 11, or one that translates with a side of 16 bits
 abbrev pub BadTransfer : Channel → Type 0
-BadTransfer c = (synchronised (c .cc) ≡ 3) ⊎ ((translates (c .cc) ≡ true) × ((sourceWide (c .psw) ≡ true) ⊎ (destinationWide (c .psw) ≡ true)))
+BadTransfer c = (c .fields .synchronised ≡ 3) ⊎ ((c .fields .translates ≡ true) × ((sourceWide (c .psw) ≡ true) ⊎ (destinationWide (c .psw) ≡ true)))
 
 -- of a transfer step: 5, then 2
 abbrev pub transferChecks : Channel → Buffers → List Check

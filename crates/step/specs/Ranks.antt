@@ -3,7 +3,6 @@ use Prim.Native.Nat.{ℕ}
 use mathlib.Core.Bool.{Bool, true, false}
 use mathlib.Core.Logic.{_⊎_}
 use mathlib.Core.Path.{_≡_}
-use Rattle.machine.specs.Cc.{synchronised, chained, externalEnd}
 use Rattle.machine.specs.Psw.{transferring}
 use Rattle.machine.specs.States.{channelOf}
 use Rattle.machine.specs.declared.Channel.{Channel}
@@ -13,15 +12,15 @@ use Rattle.step.specs.Choosing.{requested, external, rankOf}
 
 -- an external end is due: the channel runs, with XF set, TX on and its EXT up
 abbrev pub EndsNow : Channel → Bool → Type 0
-EndsNow c ext = (c .mode ≡ Running) × (transferring (c .psw) ≡ true) × ¬ (externalEnd (c .cc) ≡ 0) × (ext ≡ true)
+EndsNow c ext = (c .mode ≡ Running) × (transferring (c .psw) ≡ true) × ¬ (c .fields .externalEnd ≡ 0) × (ext ≡ true)
 
 -- its transfer need not wait: no synchronisation, or its DRQ up, or SYN 11
 abbrev pub MayMove : Channel → Bool → Type 0
-MayMove c drq = (transferring (c .psw) ≡ true) × ((synchronised (c .cc) ≡ 0) ⊎ ((drq ≡ true) ⊎ (synchronised (c .cc) ≡ 3)))
+MayMove c drq = (transferring (c .psw) ≡ true) × ((c .fields .synchronised ≡ 0) ⊎ ((drq ≡ true) ⊎ (c .fields .synchronised ≡ 3)))
 
 -- it executes and is chained
 abbrev pub ChainedProgram : Channel → Type 0
-ChainedProgram c = (transferring (c .psw) ≡ false) × (chained (c .cc) ≡ true)
+ChainedProgram c = (transferring (c .psw) ≡ false) × (c .fields .chained ≡ true)
 
 -- rank 1, of a running channel
 abbrev pub RankOne : Channel → Bool → Type 0
@@ -29,7 +28,7 @@ RankOne c drq = (c .mode ≡ Running) × (MayMove c drq ⊎ ChainedProgram c)
 
 -- rank 3, of a running channel: it executes and is not chained
 abbrev pub RankThree : Channel → Type 0
-RankThree c = (c .mode ≡ Running) × (transferring (c .psw) ≡ false) × (chained (c .cc) ≡ false)
+RankThree c = (c .mode ≡ Running) × (transferring (c .psw) ≡ false) × (c .fields .chained ≡ false)
 
 -- a channel that has a rank
 abbrev pub HasRank : Channel → Bool → Type 0
@@ -37,7 +36,7 @@ HasRank c drq = RankOne c drq ⊎ RankThree c
 
 -- its transfer waits for its DRQ, and no external end is due
 abbrev pub Waits : Channel → Bool → Bool → Type 0
-Waits c drq ext = (transferring (c .psw) ≡ true) × ((synchronised (c .cc) ≡ 1) ⊎ (synchronised (c .cc) ≡ 2)) × (drq ≡ false) × ¬ (EndsNow c ext)
+Waits c drq ext = (transferring (c .psw) ≡ true) × ((c .fields .synchronised ≡ 1) ⊎ (c .fields .synchronised ≡ 2)) × (drq ≡ false) × ¬ (EndsNow c ext)
 
 -- the same of a state's channel, with the lines as given
 abbrev pub ExternalAt : State → ℕ → Bool → Type 0

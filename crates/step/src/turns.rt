@@ -39,17 +39,17 @@ fn ends_now(c: Channel, ext: bool) -> bool
     ensures { λ r. ⌜ r ≡ endsNow c ext ⌝ }
 {
     let mode = c.mode;
+    let f = c.fields;
     machine::states::is_running(mode)
         & machine::psw::transferring(c.psw)
-        & !(machine::cc::external_end(c.cc) == 0)
+        & !(f.externalEnd == 0)
         & ext
 }
 
-// The rank of a running channel with XF.
-fn transfer_rank(cc: u16, drq: bool) -> u32
-    ensures { λ r. ⌜ r ≡ Choosing.transferRank cc drq ⌝ }
+// The rank of a running channel with XF, by its SYN.
+fn transfer_rank(syn: u8, drq: bool) -> u32
+    ensures { λ r. ⌜ r ≡ Choosing.transferRank syn drq ⌝ }
 {
-    let syn = machine::cc::synchronised(cc);
     if (syn == 0) | drq | (syn == 3) { 1 } else { 4 }
 }
 
@@ -58,13 +58,14 @@ fn rank(c: Channel, drq: bool) -> u32
     ensures { λ r. ⌜ r ≡ rankOf c drq ⌝ }
 {
     let mode = c.mode;
+    let f = c.fields;
     if !machine::states::is_running(mode) {
         return 4;
     }
     if machine::psw::transferring(c.psw) {
-        return transfer_rank(c.cc, drq);
+        return transfer_rank(f.synchronised, drq);
     }
-    if machine::cc::chained(c.cc) { 1 } else { 3 }
+    if f.chained { 1 } else { 3 }
 }
 
 // Whether channel 2 goes before channel 1.

@@ -6,14 +6,14 @@ use lib.Dec.{eqb}
 use mathlib.Core.Bool.{Bool, true, false, _||_}
 use mathlib.Core.Path.{_≡_, refl, ap, ap₂, _∙_}
 use native.Mathlib.Omega.{arith}
-use Rattle.machine.specs.Cc.{destinationMoves, sourceMoves, translates, synchronised, sourceIsGB, singleTransfer, countEnd, matchEnd}
 use Rattle.machine.specs.Psw.{destinationWide, sourceWide}
 use Rattle.machine.specs.declared.Channel.{Channel}
+use Rattle.machine.specs.declared.Fields.{Fields}
 use Rattle.memory.proofs.PlaceLaws.{index-reduced, touchable-index, byte-reduced, store-reduced}
 use Rattle.memory.specs.Buffers.{Buffers, touchableAt, byteAt, storeByte}
 use Rattle.memory.specs.Places.{allTouchable}
 use Rattle.memory.specs.declared.Pointer.{Pointer}
-use Rattle.words.proofs.ChoiceLaws.{pick-same, and-true, and-false, or-true, pick-under}
+use Rattle.words.proofs.ChoiceLaws.{apart, pick-same, and-true, and-false, or-true, pick-under}
 use Rattle.words.specs.Bits.{bitOf}
 use Rattle.words.specs.Choice.{pick}
 use Rattle.words.specs.Sums.{sum20, countDown}
@@ -31,14 +31,14 @@ use Rattle.transfer.proofs.MatchLaws.{off-whole, off-stores, off-unmet}
 use Rattle.transfer.proofs.StepLaws.{outcome-0}
 use Rattle.transfer.proofs.TouchLaws.{reads-touchable, places-touchable, touched-all}
 
--- the CC of such a transfer: both sides move on, no translation, TMC off, TS 0, TBC on
-pub record Block (cc : ℕ) : Type 0 where
-  pub from : sourceMoves cc ≡ true
-  pub into : destinationMoves cc ≡ true
-  pub plain : translates cc ≡ false
-  pub unmatched : matchEnd cc % 4 ≡ 0
-  pub ongoing : singleTransfer cc ≡ false
-  pub counts : countEnd cc ≡ 0 → ⊥
+-- the fields of such a transfer: both sides move on, no translation, TMC off, TS 0, TBC on
+pub record Block (f : Fields) : Type 0 where
+  pub from : f .sourceMoves ≡ true
+  pub into : f .destinationMoves ≡ true
+  pub plain : f .translates ≡ false
+  pub unmatched : f .matchEnd % 4 ≡ 0
+  pub ongoing : f .singleTransfer ≡ false
+  pub counts : f .countEnd ≡ 0 → ⊥
 
 -- the bytes that such a step moves
 abbrev pub stride : Channel → ℕ
@@ -86,9 +86,9 @@ unfolding twoMove
 one-moves c h k = rw (h, k)
 
 -- one byte moves where TBC is on and one is left
-pub last-moves : (c : Channel) → (countEnd (c .cc) ≡ 0 → ⊥) → c .bc ≡ 1 → twoMove c ≡ false
+pub last-moves : (c : Channel) → (c .fields .countEnd ≡ 0 → ⊥) → c .bc ≡ 1 → twoMove c ≡ false
 unfolding twoMove
-last-moves c ne e = rw (ne-eqb (countEnd (c .cc)) 0 ne, eq-eqb (c .bc) 1 e) (and-false (wordSide (source c) || wordSide (destination c)))
+last-moves c ne e = rw (ne-eqb (c .fields .countEnd) 0 ne, eq-eqb (c .bc) 1 e) (and-false (wordSide (source c) || wordSide (destination c)))
 
 -- two move where some side is a word side and not just one is left
 pub two-moves : (c : Channel) → wordSide (source c) || wordSide (destination c) ≡ true → (c .bc ≡ 1 → ⊥) → twoMove c ≡ true
@@ -98,11 +98,11 @@ two-moves c h ne = rw (h, ne-eqb (c .bc) 1 ne, and-false)
 -- ---- no end but the byte count's
 
 -- all bytes that move are stored
-pub block-stores : (c : Channel) (d : Data) → Block (c .cc) → storesTwo c d ≡ twoMove c
+pub block-stores : (c : Channel) (d : Data) → Block (c .fields) → storesTwo c d ≡ twoMove c
 block-stores c d k = off-stores c d (k .unmatched)
 
 -- and all of them count
-block-counts : (c : Channel) (d : Data) → Block (c .cc) → bytesCounted c d ≡ stride c
+block-counts : (c : Channel) (d : Data) → Block (c .fields) → bytesCounted c d ≡ stride c
 unfolding bytesStored
 block-counts c d k = whole-counts c d (off-whole c d (k .unmatched)) ∙ rw (block-stores c d k)
 
@@ -116,20 +116,21 @@ unfolding larger
 larger-right n = rw (le-ltb n 0 (omega arith))
 
 -- the step ends exactly where BC becomes 0
-pub block-end : (c : Channel) (d : Data) → Block (c .cc) → endCode c d ≡ codeIf (eqb (remaining c) 0) (countEnd (c .cc))
+pub block-end : (c : Channel) (d : Data) → Block (c .fields) → endCode c d ≡ codeIf (eqb (remaining c) 0) (c .fields .countEnd)
 unfolding endCode countAfter codeIf
-block-end c d k = rw (off-unmet c d (k .unmatched), block-counts c d k, k .ongoing) (ends (codeIf (eqb (remaining c) 0) (countEnd (c .cc))))
+block-end c d k = rw (off-unmet c d (k .unmatched), block-counts c d k) (ends (c .fields .singleTransfer) (k .ongoing) (codeIf (eqb (remaining c) 0) (c .fields .countEnd)))
   where
-    ends : (n : ℕ) → larger (larger (codeIf false (matchEnd (c .cc) % 4)) n) (codeIf false 1) ≡ n
-    ends n = larger-right (larger 0 n) ∙ larger-left n
+    ends : (single : Bool) → single ≡ false → (n : ℕ) → larger (larger (codeIf false (c .fields .matchEnd % 4)) n) (codeIf single 1) ≡ n
+    ends true e n = apart e
+    ends false e n = larger-right (larger 0 n) ∙ larger-left n
 
 -- ---- the channel
 
-block-stride : (c : Channel) (d : Data) → Block (c .cc) → bytesStored c d ≡ stride c
+block-stride : (c : Channel) (d : Data) → Block (c .fields) → bytesStored c d ≡ stride c
 unfolding bytesStored
 block-stride c d k = rw (block-stores c d k)
 
-block-moved : (c : Channel) → Block (c .cc) → movedBy c (stride c) (remaining c) ≡ carried c
+block-moved : (c : Channel) → Block (c .fields) → movedBy c (stride c) (remaining c) ≡ carried c
 unfolding carried movedBy withTransfer
 block-moved c k =
     ap₂ (λ (p q : Pointer). withTransfer c p q (c .tp) (remaining c) (c .psw))
@@ -137,7 +138,7 @@ block-moved c k =
     (gb-after c (stride c) (remaining c) ∙ rw (k .from, k .into, pick-same))
 
 -- the channel after the step, in one: on by the bytes moved, ended where BC becomes 0
-pub block-channel : (c : Channel) (d : Data) → Block (c .cc) → movedChannel c d ≡ endedBy (carried c) (codeIf (eqb (remaining c) 0) (countEnd (c .cc)))
+pub block-channel : (c : Channel) (d : Data) → Block (c .fields) → movedChannel c d ≡ endedBy (carried c) (codeIf (eqb (remaining c) 0) (c .fields .countEnd))
 unfolding movedChannel countAfter bytesMoved bytesCounted
 block-channel c d k = rw (block-end c d k, block-stride c d k, block-moved c k)
 
@@ -145,23 +146,23 @@ block-channel c d k = rw (block-end c d k, block-stride c d k, block-moved c k)
 pub carried-source : (c : Channel) → source (carried c) ≡ side (gained true ((source c) .pointer) (stride c)) ((source c) .moves) ((source c) .wide)
 unfolding source carried withTransfer
 carried-source c =
-    ap (λ (p : Pointer). side p (sourceMoves (c .cc)) (sourceWide (c .psw)))
-    (pick-under (λ (p : Pointer). gained true p (stride c)) (sourceIsGB (c .cc)) (c .gb) (c .ga))
+    ap (λ (p : Pointer). side p (c .fields .sourceMoves) (sourceWide (c .psw)))
+    (pick-under (λ (p : Pointer). gained true p (stride c)) (c .fields .sourceIsGB) (c .gb) (c .ga))
 
 -- and so is its destination
 pub carried-destination : (c : Channel) → destination (carried c) ≡ side (gained true ((destination c) .pointer) (stride c)) ((destination c) .moves) ((destination c) .wide)
 unfolding destination carried withTransfer
 carried-destination c =
-    ap (λ (p : Pointer). side p (destinationMoves (c .cc)) (destinationWide (c .psw)))
-    (pick-under (λ (p : Pointer). gained true p (stride c)) (sourceIsGB (c .cc)) (c .ga) (c .gb))
+    ap (λ (p : Pointer). side p (c .fields .destinationMoves) (destinationWide (c .psw)))
+    (pick-under (λ (p : Pointer). gained true p (stride c)) (c .fields .sourceIsGB) (c .ga) (c .gb))
 
 -- while bytes remain, TP and PSW stay
-pub block-going : (c : Channel) (d : Data) → Block (c .cc) → (remaining c ≡ 0 → ⊥) → movedChannel c d ≡ carried c
+pub block-going : (c : Channel) (d : Data) → Block (c .fields) → (remaining c ≡ 0 → ⊥) → movedChannel c d ≡ carried c
 unfolding codeIf
 block-going c d k ne = block-channel c d k ∙ rw (ne-eqb (remaining c) 0 ne) (ended-none (carried c))
 
 -- with the last byte TBC ends the transfer
-pub block-last : (c : Channel) (d : Data) → Block (c .cc) → remaining c ≡ 0 → movedChannel c d ≡ endedBy (carried c) (countEnd (c .cc))
+pub block-last : (c : Channel) (d : Data) → Block (c .fields) → remaining c ≡ 0 → movedChannel c d ≡ endedBy (carried c) (c .fields .countEnd)
 unfolding codeIf
 block-last c d k e = block-channel c d k ∙ rw (eq-eqb (remaining c) 0 e)
 
@@ -176,29 +177,29 @@ next : (s : Side) → s .moves ≡ true → secondAddress s ≡ sum20 (s .pointe
 unfolding secondAddress wordSide
 next s h = rw (h, or-true)
 
-next-source : (c : Channel) → Block (c .cc) → secondAddress (source c) ≡ sum20 ((source c) .pointer .address) 1
+next-source : (c : Channel) → Block (c .fields) → secondAddress (source c) ≡ sum20 ((source c) .pointer .address) 1
 unfolding source
 next-source c k = next (source c) (k .from)
 
-next-destination : (c : Channel) → Block (c .cc) → secondAddress (destination c) ≡ sum20 ((destination c) .pointer .address) 1
+next-destination : (c : Channel) → Block (c .fields) → secondAddress (destination c) ≡ sum20 ((destination c) .pointer .address) 1
 unfolding destination
 next-destination c k = next (destination c) (k .into)
 
-first-is : (c : Channel) (m : Buffers) → Block (c .cc) → (dataOf c m) .first ≡ byteAt m ((source c) .pointer .tag) ((source c) .pointer .address)
+first-is : (c : Channel) (m : Buffers) → Block (c .fields) → (dataOf c m) .first ≡ byteAt m ((source c) .pointer .tag) ((source c) .pointer .address)
 unfolding dataOf delivered fetched
 first-is c m k = rw (k .plain)
 
-second-is : (c : Channel) (m : Buffers) → Block (c .cc) → twoMove c ≡ true → (dataOf c m) .second ≡ byteAt m ((source c) .pointer .tag) ((source c) .pointer .address + 1)
+second-is : (c : Channel) (m : Buffers) → Block (c .fields) → twoMove c ≡ true → (dataOf c m) .second ≡ byteAt m ((source c) .pointer .tag) ((source c) .pointer .address + 1)
 unfolding dataOf fetchedSecond
 second-is c m k h = rw (h, next-source c k) (byte-reduced m ((source c) .pointer .tag) ((source c) .pointer .address + 1))
 
 -- one byte is copied
-pub block-copies : (c : Channel) (m : Buffers) → Block (c .cc) → twoMove c ≡ false → movedMemory c (dataOf c m) m ≡ copied c m
+pub block-copies : (c : Channel) (m : Buffers) → Block (c .fields) → twoMove c ≡ false → movedMemory c (dataOf c m) m ≡ copied c m
 unfolding movedMemory putOn
 block-copies c m k h = rw (block-stores c (dataOf c m) k, h, first-is c m k)
 
 -- or two are
-pub block-copies-two : (c : Channel) (m : Buffers) → Block (c .cc) → twoMove c ≡ true → movedMemory c (dataOf c m) m ≡ copiedTwo c m
+pub block-copies-two : (c : Channel) (m : Buffers) → Block (c .fields) → twoMove c ≡ true → movedMemory c (dataOf c m) m ≡ copiedTwo c m
 unfolding movedMemory putOn
 block-copies-two c m k h =
     rw (block-stores c (dataOf c m) k, h, first-is c m k, second-is c m k h, next-destination c k)
@@ -207,18 +208,18 @@ block-copies-two c m k h =
 -- ---- the step
 
 -- no such transfer is refused by 5, short of SYN 11
-pub block-mode : (c : Channel) → Block (c .cc) → (synchronised (c .cc) ≡ 3 → ⊥) → badMode c ≡ false
+pub block-mode : (c : Channel) → Block (c .fields) → (c .fields .synchronised ≡ 3 → ⊥) → badMode c ≡ false
 unfolding badMode
-block-mode c k ne = rw (ne-eqb (synchronised (c .cc)) 3 ne, k .plain)
+block-mode c k ne = rw (ne-eqb (c .fields .synchronised) 3 ne, k .plain)
 
 -- the bytes of a step of one may be touched where the two sides' may
-block-touchable : (c : Channel) (m : Buffers) → Block (c .cc) → twoMove c ≡ false
+block-touchable : (c : Channel) (m : Buffers) → Block (c .fields) → twoMove c ≡ false
     → touchableAt m ((source c) .pointer .tag) ((source c) .pointer .address) ≡ true → touchableAt m ((destination c) .pointer .tag) ((destination c) .pointer .address) ≡ true
     → allTouchable m (touchedByTransfer c m) ≡ true
 unfolding storedPlaces
-block-touchable c m k h s d = touched-all c m ∙ rw (reads-touchable, places-touchable, block-stores c (dataOf c m) k, h, k .plain, s, d)
+block-touchable c m k h s d = touched-all c m ∙ rw (reads-touchable, places-touchable, block-stores c (dataOf c m) k, h, s, d, k .plain)
 
-block-touchable-two : (c : Channel) (m : Buffers) → Block (c .cc) → twoMove c ≡ true
+block-touchable-two : (c : Channel) (m : Buffers) → Block (c .fields) → twoMove c ≡ true
     → touchableAt m ((source c) .pointer .tag) ((source c) .pointer .address) ≡ true → touchableAt m ((source c) .pointer .tag) ((source c) .pointer .address + 1) ≡ true
     → touchableAt m ((destination c) .pointer .tag) ((destination c) .pointer .address) ≡ true → touchableAt m ((destination c) .pointer .tag) ((destination c) .pointer .address + 1) ≡ true
     → allTouchable m (touchedByTransfer c m) ≡ true
@@ -227,16 +228,16 @@ block-touchable-two c m k h s s′ d d′ =
     let p = (source c) .pointer in
     let q = (destination c) .pointer in
     touched-all c m
-    ∙ rw (reads-touchable, places-touchable, block-stores c (dataOf c m) k, h, k .plain, next-source c k, next-destination c k, s, d, touchable-reduced m (p .tag) (p .address + 1), s′, touchable-reduced m (q .tag) (q .address + 1), d′)
+    ∙ rw (reads-touchable, places-touchable, block-stores c (dataOf c m) k, h, next-source c k, next-destination c k, s, d, touchable-reduced m (p .tag) (p .address + 1), s′, touchable-reduced m (q .tag) (q .address + 1), d′, k .plain)
 
 -- a step of one byte, whole
-pub block-step : (c : Channel) (m : Buffers) → Block (c .cc) → (synchronised (c .cc) ≡ 3 → ⊥) → twoMove c ≡ false
+pub block-step : (c : Channel) (m : Buffers) → Block (c .fields) → (c .fields .synchronised ≡ 3 → ⊥) → twoMove c ≡ false
     → touchableAt m ((source c) .pointer .tag) ((source c) .pointer .address) ≡ true → touchableAt m ((destination c) .pointer .tag) ((destination c) .pointer .address) ≡ true
     → transferOf c m ≡ transferred 0 (movedChannel c (dataOf c m)) (copied c m)
 block-step c m k ne h s d = outcome-0 c m (block-mode c k ne) (block-touchable c m k h s d) ∙ ap (transferred 0 (movedChannel c (dataOf c m))) (block-copies c m k h)
 
 -- a step of two bytes, whole
-pub block-step-two : (c : Channel) (m : Buffers) → Block (c .cc) → (synchronised (c .cc) ≡ 3 → ⊥) → twoMove c ≡ true
+pub block-step-two : (c : Channel) (m : Buffers) → Block (c .fields) → (c .fields .synchronised ≡ 3 → ⊥) → twoMove c ≡ true
     → touchableAt m ((source c) .pointer .tag) ((source c) .pointer .address) ≡ true → touchableAt m ((source c) .pointer .tag) ((source c) .pointer .address + 1) ≡ true
     → touchableAt m ((destination c) .pointer .tag) ((destination c) .pointer .address) ≡ true → touchableAt m ((destination c) .pointer .tag) ((destination c) .pointer .address + 1) ≡ true
     → transferOf c m ≡ transferred 0 (movedChannel c (dataOf c m)) (copiedTwo c m)

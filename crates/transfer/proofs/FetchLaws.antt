@@ -4,7 +4,6 @@ use Prim.Native.Nat.{ℕ}
 use lib.Dec.{eqb}
 use mathlib.Core.Bool.{Bool, true, false, not, _&&_, _||_}
 use mathlib.Core.Path.{_≡_, refl, sym}
-use Rattle.machine.specs.Cc.{translates, synchronised}
 use Rattle.machine.specs.Psw.{destinationWide, sourceWide}
 use Rattle.machine.specs.declared.Channel.{Channel}
 use Rattle.memory.specs.Buffers.{Buffers, touchableAt, byteAt}
@@ -21,11 +20,11 @@ use Rattle.transfer.specs.declared.Setup.{Setup}
 use Rattle.transfer.proofs.TouchLaws.{reads-touchable}
 
 -- where no mode is bad, a step of two bytes does not translate
-two-plain : (c : Channel) → badMode c ≡ false → twoMove c ≡ true → translates (c .cc) ≡ false
+two-plain : (c : Channel) → badMode c ≡ false → twoMove c ≡ true → c .fields .translates ≡ false
 unfolding badMode twoMove wordSide source destination
 two-plain c e f =
-    go (eqb (synchronised (c .cc)) 3) (translates (c .cc)) (sourceWide (c .psw)) (destinationWide (c .psw)) (not (bitOf ((source c) .pointer .address) 0))
-    (not (bitOf ((destination c) .pointer .address) 0)) (not (countOn (c .cc) && eqb (c .bc) 1)) e f
+    go (eqb (c .fields .synchronised) 3) (c .fields .translates) (sourceWide (c .psw)) (destinationWide (c .psw)) (not (bitOf ((source c) .pointer .address) 0))
+    (not (bitOf ((destination c) .pointer .address) 0)) (not (countOn (c .fields) && eqb (c .bc) 1)) e f
   where
     go : (s t a b x y k : Bool) → (s || (t && (a || b))) ≡ false → (((a && x) || (b && y)) && k) ≡ true → t ≡ false
     go s false a b x y k e f = refl
@@ -73,21 +72,21 @@ module _ (c : Channel) (m : Buffers) (p : Setup) (known : p ≡ setupOf c) where
   pub both-read : (first next : ℕ) → badMode c ≡ false → SourceTouchable true → SourceIs first → p .two ≡ true → next ≡ secondAddress (p .source)
       → touchableAt m (p .source .pointer .tag) next ≡ true → fetchOf c m ≡ here first (byteAt m (p .source .pointer .tag) next)
   unfolding fetchOf setupOf delivered fetched fetchedSecond
-  both-read first next bad = rw known (λ h e two n l. rw (reads-touchable, h, two, rw n at l, two-plain c bad two, e, n))
+  both-read first next bad = rw known (λ h e two n l. rw (reads-touchable, h, two, rw n at l, e, n, two-plain c bad two))
 
   -- of one that is translated, what stands for it may not be touched
-  pub entry-beyond : (first entry : ℕ) → SourceTouchable true → SourceIs first → p .two ≡ false → p .translates ≡ true → entry ≡ sum20 (c .gc .address) first
+  pub entry-beyond : (first entry : ℕ) → SourceTouchable true → SourceIs first → p .two ≡ false → c .fields .translates ≡ true → entry ≡ sum20 (c .gc .address) first
       → touchableAt m (c .gc .tag) entry ≡ false → fetchOf c m ≡ beyond
   unfolding fetchOf setupOf entryOf fetched
-  entry-beyond first entry = rw known (λ h e one on n l. rw (reads-touchable, h, one, on, rw (n, e) at l))
+  entry-beyond first entry = rw known (λ h e one on n l. rw (reads-touchable, h, one, rw (n, e) at l, on))
 
   -- it is read
-  pub translated : (first entry : ℕ) → SourceTouchable true → SourceIs first → p .two ≡ false → p .translates ≡ true → entry ≡ sum20 (c .gc .address) first
+  pub translated : (first entry : ℕ) → SourceTouchable true → SourceIs first → p .two ≡ false → c .fields .translates ≡ true → entry ≡ sum20 (c .gc .address) first
       → touchableAt m (c .gc .tag) entry ≡ true → fetchOf c m ≡ here (byteAt m (c .gc .tag) entry) 0
   unfolding fetchOf setupOf delivered entryOf fetched fetchedSecond
-  translated first entry = rw known (λ h e one on n l. rw (reads-touchable, h, one, on, rw (n, e) at l, n, e))
+  translated first entry = rw known (λ h e one on n l. rw (reads-touchable, h, one, rw (n, e) at l, n, e, on))
 
   -- one byte as it is
-  pub one-read : (first : ℕ) → SourceTouchable true → SourceIs first → p .two ≡ false → p .translates ≡ false → fetchOf c m ≡ here first 0
+  pub one-read : (first : ℕ) → SourceTouchable true → SourceIs first → p .two ≡ false → c .fields .translates ≡ false → fetchOf c m ≡ here first 0
   unfolding fetchOf setupOf delivered fetched fetchedSecond
-  one-read first = rw known (λ h e one off. rw (reads-touchable, h, one, off, e))
+  one-read first = rw known (λ h e one off. rw (reads-touchable, h, one, e, off))

@@ -1,4 +1,4 @@
--- What a transfer step and an external end leave alone: bytes, lengths, registers, tags, and that a sound channel stays sound.
+-- What a transfer step and an external end leave alone: bytes, lengths, registers, tags, that a sound channel stays sound, and that the fields stay those of CC.
 -- Assumes nothing.
 use Prim.Native.Nat.{ℕ, _+_, _%_}
 use borrow.Author.Tests.{eqb-false, lt-ltb, ne-eqb}
@@ -7,9 +7,9 @@ use lib.ListN.{length}
 use mathlib.Core.Bool.{Bool, true, false, not, _&&_}
 use mathlib.Core.Path.{_≡_, refl, ap, ap₂, _∙_}
 use native.Mathlib.Nat.{mod-lt}
-use Rattle.machine.specs.Cc.{destinationMoves, sourceMoves, sourceIsGB, externalEnd}
+use Rattle.machine.proofs.FieldLaws.{same-agrees}
 use Rattle.machine.specs.Psw.{transferring, withPsw}
-use Rattle.machine.specs.States.{soundChannel}
+use Rattle.machine.specs.States.{soundChannel, fieldsAgree}
 use Rattle.machine.specs.declared.Channel.{Channel}
 use Rattle.memory.proofs.StoreLaws.{store-length, read-other}
 use Rattle.memory.specs.Buffers.{Buffers, spaceOf, indexOf, lentAt, byteAt, storeByte}
@@ -87,14 +87,14 @@ gained-as true s d p q by = refl
 gained-as false s d p q by = refl
 
 -- GA gains what the step moves where the side that it is moves on
-pub ga-after : (c : Channel) (by bc : ℕ) → (movedBy c by bc) .ga ≡ gained (pick (sourceIsGB (c .cc)) (destinationMoves (c .cc)) (sourceMoves (c .cc))) (c .ga) by
+pub ga-after : (c : Channel) (by bc : ℕ) → (movedBy c by bc) .ga ≡ gained (pick (c .fields .sourceIsGB) (c .fields .destinationMoves) (c .fields .sourceMoves)) (c .ga) by
 unfolding movedBy withTransfer source destination
-ga-after c by bc = gained-as (sourceIsGB (c .cc)) (destinationMoves (c .cc)) (sourceMoves (c .cc)) (c .ga) (c .gb) by
+ga-after c by bc = gained-as (c .fields .sourceIsGB) (c .fields .destinationMoves) (c .fields .sourceMoves) (c .ga) (c .gb) by
 
 -- and so does GB
-pub gb-after : (c : Channel) (by bc : ℕ) → (movedBy c by bc) .gb ≡ gained (pick (sourceIsGB (c .cc)) (sourceMoves (c .cc)) (destinationMoves (c .cc))) (c .gb) by
+pub gb-after : (c : Channel) (by bc : ℕ) → (movedBy c by bc) .gb ≡ gained (pick (c .fields .sourceIsGB) (c .fields .sourceMoves) (c .fields .destinationMoves)) (c .gb) by
 unfolding movedBy withTransfer source destination
-gb-after c by bc = gained-as (sourceIsGB (c .cc)) (sourceMoves (c .cc)) (destinationMoves (c .cc)) (c .gb) (c .ga) by
+gb-after c by bc = gained-as (c .fields .sourceIsGB) (c .fields .sourceMoves) (c .fields .destinationMoves) (c .gb) (c .ga) by
 
 -- a pointer that gains bytes keeps its tag
 gained-tag : (on : Bool) (p : Pointer) (n : ℕ) → (gained on p n) .tag ≡ p .tag
@@ -149,8 +149,8 @@ pub source-after : (c : Channel) (d : Data) → source (movedChannel c d) ≡ si
 unfolding source movedChannel endedBy movedBy withTransfer
 source-after c d =
     let n = bytesMoved c d in
-    ap₂ (λ (p : Pointer) (w : Bool). side p (sourceMoves (c .cc)) w)
-    (pick-back (sourceIsGB (c .cc)) (sideAfter (source c) n) (sideAfter (destination c) n))
+    ap₂ (λ (p : Pointer) (w : Bool). side p (c .fields .sourceMoves) w)
+    (pick-back (c .fields .sourceIsGB) (sideAfter (source c) n) (sideAfter (destination c) n))
     (psw-kept (movedBy c n (countAfter c d)) (endCode c d) 1 (eqb-false 1 6 refl))
 
 -- and so the destination
@@ -158,8 +158,8 @@ pub destination-after : (c : Channel) (d : Data) → destination (movedChannel c
 unfolding destination movedChannel endedBy movedBy withTransfer
 destination-after c d =
     let n = bytesMoved c d in
-    ap₂ (λ (p : Pointer) (w : Bool). side p (destinationMoves (c .cc)) w)
-    (pick-back (sourceIsGB (c .cc)) (sideAfter (destination c) n) (sideAfter (source c) n))
+    ap₂ (λ (p : Pointer) (w : Bool). side p (c .fields .destinationMoves) w)
+    (pick-back (c .fields .sourceIsGB) (sideAfter (destination c) n) (sideAfter (source c) n))
     (psw-kept (movedBy c n (countAfter c d)) (endCode c d) 0 (eqb-false 0 6 refl))
 
 -- an external end leaves GA, GB and BC alone, and all that a transfer step leaves alone
@@ -168,14 +168,14 @@ unfolding externallyEnded endedBy withTransfer
 external-kept c = refl
 
 -- where TX is on, TP gains its offset
-pub external-tp : (c : Channel) → (externalEnd (c .cc) ≡ 0 → ⊥) → (externallyEnded c) .tp ≡ pointer (sum20 (c .tp .address) (offsetOf (externalEnd (c .cc)))) (c .tp .tag)
+pub external-tp : (c : Channel) → (c .fields .externalEnd ≡ 0 → ⊥) → (externallyEnded c) .tp ≡ pointer (sum20 (c .tp .address) (offsetOf (c .fields .externalEnd))) (c .tp .tag)
 unfolding externallyEnded
-external-tp c ne = ended-tp c (externalEnd (c .cc)) ne
+external-tp c ne = ended-tp c (c .fields .externalEnd) ne
 
 -- and XF clears
-pub external-clears : (c : Channel) → (externalEnd (c .cc) ≡ 0 → ⊥) → transferring ((externallyEnded c) .psw) ≡ false
+pub external-clears : (c : Channel) → (c .fields .externalEnd ≡ 0 → ⊥) → transferring ((externallyEnded c) .psw) ≡ false
 unfolding externallyEnded
-external-clears c ne = ended-clears c (externalEnd (c .cc)) ne
+external-clears c ne = ended-clears c (c .fields .externalEnd) ne
 
 -- ---- soundness
 
@@ -209,7 +209,7 @@ ended-sound c code = with-sound c (c .ga) (c .gb) (endedTP c code) (c .bc) (ende
 -- and so over an external end
 pub external-sound : (c : Channel) → soundChannel c ≡ true → soundChannel (externallyEnded c) ≡ true
 unfolding externallyEnded
-external-sound c = ended-sound c (externalEnd (c .cc))
+external-sound c = ended-sound c (c .fields .externalEnd)
 
 -- and over a transfer step
 pub transfer-sound : (c : Channel) (m : Buffers) → soundChannel c ≡ true → soundChannel ((transferOf c m) .channel) ≡ true
@@ -228,3 +228,13 @@ transfer-sound c m h = by-number c m (λ o. soundChannel (o .channel) ≡ true) 
         (λ s. rw (ga-after c by bc) (gained-small _ (c .ga) by s))
         (λ s. rw (gb-after c by bc) (gained-small _ (c .gb) by s))
         (λ s. s) h
+
+-- ---- the fields of CC
+
+pub external-agree : (c : Channel) → fieldsAgree c ≡ true → fieldsAgree (externallyEnded c) ≡ true
+unfolding externallyEnded endedBy withTransfer
+external-agree c = same-agrees c (externallyEnded c) refl refl
+
+pub transfer-agree : (c : Channel) (m : Buffers) → fieldsAgree c ≡ true → fieldsAgree ((transferOf c m) .channel) ≡ true
+unfolding movedChannel endedBy movedBy withTransfer
+transfer-agree c m h = by-number c m (λ o. fieldsAgree (o .channel) ≡ true) (λ g. h) (λ g. h) (λ g. same-agrees c (movedChannel c (dataOf c m)) refl refl h)

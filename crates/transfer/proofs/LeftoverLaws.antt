@@ -7,7 +7,6 @@ use mathlib.Core.Bool.{Bool, true, false, not, _&&_, _||_}
 use mathlib.Core.List.{List}
 use mathlib.Core.Path.{_≡_, refl, sym}
 use native.Mathlib.Omega.{arith}
-use Rattle.machine.specs.Cc.{translates, singleTransfer, countEnd, matchEnd}
 use Rattle.machine.specs.Updates.{withTransfer}
 use Rattle.machine.specs.declared.Channel.{Channel}
 use Rattle.memory.specs.Buffers.{Buffers, storeByte}
@@ -28,9 +27,9 @@ also-length true p ps = omega arith
 also-length false p ps = omega arith
 
 -- the bytes fetched are the places read at the source; translation reads one place more
-pub fetched-places : (c : Channel) (m : Buffers) → length (readPlaces c m) ≡ bytesFetched c + pick (translates (c .cc)) 1 0
+pub fetched-places : (c : Channel) (m : Buffers) → length (readPlaces c m) ≡ bytesFetched c + pick (c .fields .translates) 1 0
 unfolding readPlaces
-fetched-places c m = rw (also-length, also-length) (go (twoMove c) (translates (c .cc)))
+fetched-places c m = rw (also-length, also-length) (go (twoMove c) (c .fields .translates))
   where
     go : (two on : Bool) → suc (0 + pick on 1 0 + pick two 1 0) ≡ pick two 2 1 + pick on 1 0
     go true true = refl
@@ -43,7 +42,7 @@ fetched-places c m = rw (also-length, also-length) (go (twoMove c) (translates (
 -- a word was fetched, and goes to a side that is no word side
 pub cut-sides : (c : Channel) (d : Data) → cutShort c d ≡ true → (wordSide (source c) ≡ true) × (wordSide (destination c) ≡ false)
 unfolding cutShort storedSingly twoMove
-cut-sides c d = go (wordSide (source c)) (wordSide (destination c)) (not (countOn (c .cc) && eqb (c .bc) 1))
+cut-sides c d = go (wordSide (source c)) (wordSide (destination c)) (not (countOn (c .fields) && eqb (c .bc) 1))
   where
     go : (from into more : Bool) → (((from || into) && more) && not into) && firstMeets c d ≡ true → (from ≡ true) × (into ≡ false)
     go true false more h = (refl, refl)
@@ -89,7 +88,7 @@ unfolding cutShort matchMet
 cut-met c d h = rw (both-right (storedSingly c) (firstMeets c d) h)
 
 pub cut-ends : (c : Channel) (d : Data) → cutShort c d ≡ true
-    → endCode c d ≡ larger (larger (matchEnd (c .cc) % 4) (codeIf (eqb (countDown (c .bc) 2) 0) (countEnd (c .cc)))) (codeIf (singleTransfer (c .cc)) 1)
+    → endCode c d ≡ larger (larger (c .fields .matchEnd % 4) (codeIf (eqb (countDown (c .bc) 2) 0) (c .fields .countEnd))) (codeIf (c .fields .singleTransfer) 1)
 unfolding endCode countAfter codeIf
 cut-ends c d h = rw (cut-met c d h, cut-counts c d h)
 

@@ -4,7 +4,6 @@ use Prim.Native.Nat.{ℕ, _%_}
 use borrow.Author.Tests.{eq-eqb}
 use mathlib.Core.Bool.{true, false}
 use mathlib.Core.Path.{_≡_}
-use Rattle.machine.specs.Cc.{matchEnd}
 use Rattle.machine.specs.declared.Channel.{Channel}
 use Rattle.words.proofs.ChoiceLaws.{and-true, and-false, or-false}
 use Rattle.transfer.specs.Ends.{meetsTmc}
@@ -18,19 +17,19 @@ unfolding meetsTmc
 off tmc mc byte h = rw (eq-eqb (tmc % 4) 0 h)
 
 -- so no store is prevented
-pub off-whole : (c : Channel) (d : Data) → matchEnd (c .cc) % 4 ≡ 0 → cutShort c d ≡ false
+pub off-whole : (c : Channel) (d : Data) → c .fields .matchEnd % 4 ≡ 0 → cutShort c d ≡ false
 unfolding cutShort firstMeets
-off-whole c d h = rw (off (matchEnd (c .cc)) (c .mc) (d .first) h) (and-false (storedSingly c))
+off-whole c d h = rw (off (c .fields .matchEnd) (c .mc) (d .first) h) (and-false (storedSingly c))
 
 -- and all bytes that move are stored
-pub off-stores : (c : Channel) (d : Data) → matchEnd (c .cc) % 4 ≡ 0 → storesTwo c d ≡ twoMove c
+pub off-stores : (c : Channel) (d : Data) → c .fields .matchEnd % 4 ≡ 0 → storesTwo c d ≡ twoMove c
 unfolding storesTwo
 off-stores c d h = rw (off-whole c d h) (and-true (twoMove c))
 
 -- and no end comes of it
-pub off-unmet : (c : Channel) (d : Data) → matchEnd (c .cc) % 4 ≡ 0 → matchMet c d ≡ false
+pub off-unmet : (c : Channel) (d : Data) → c .fields .matchEnd % 4 ≡ 0 → matchMet c d ≡ false
 unfolding matchMet firstMeets
-off-unmet c d h = rw (off (matchEnd (c .cc)) (c .mc) (d .first) h, off (matchEnd (c .cc)) (c .mc) (d .second) h, and-false)
+off-unmet c d h = rw (off (c .fields .matchEnd) (c .mc) (d .first) h, off (c .fields .matchEnd) (c .mc) (d .second) h, and-false)
 
 -- of a word that is stored only the low byte is compared (§7.7)
 pub low-compared : (c : Channel) (d : Data) → wordSide (destination c) ≡ true → matchMet c d ≡ firstMeets c d

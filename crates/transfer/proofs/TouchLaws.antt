@@ -3,7 +3,6 @@
 use mathlib.Core.Bool.{Bool, true, false, not, _&&_, _||_}
 use mathlib.Core.List.{List, []}
 use mathlib.Core.Path.{_≡_, refl, _∙_}
-use Rattle.machine.specs.Cc.{translates}
 use Rattle.machine.specs.declared.Channel.{Channel}
 use Rattle.memory.specs.Buffers.{Buffers, touchableAt, storeByte}
 use Rattle.memory.specs.Places.{Place, allPass, allTouchable}
@@ -32,7 +31,7 @@ last-touchable m on p = also-touchable m on p [] ∙ and-true (not on || touchab
 pub reads-touchable : (c : Channel) (m : Buffers)
     → allTouchable m (readPlaces c m)
     ≡ touchableAt m ((source c) .pointer .tag) ((source c) .pointer .address)
-    && ((not (twoMove c) || touchableAt m ((source c) .pointer .tag) (secondAddress (source c))) && (not (translates (c .cc)) || touchableAt m (c .gc .tag) (entryOf c m)))
+    && ((not (twoMove c) || touchableAt m ((source c) .pointer .tag) (secondAddress (source c))) && (not (c .fields .translates) || touchableAt m (c .gc .tag) (entryOf c m)))
 unfolding readPlaces allPass
 reads-touchable c m = rw (also-touchable, last-touchable)
 

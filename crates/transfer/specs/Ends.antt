@@ -7,7 +7,6 @@ use Rattle.words.specs.Bits.{bitOf}
 use Rattle.words.specs.Compare.{matchOf}
 use Rattle.memory.specs.declared.Pointer.{Pointer}
 use Rattle.machine.specs.declared.Channel.{Channel}
-use Rattle.machine.specs.Cc.{externalEnd}
 use Rattle.machine.specs.Psw.{withPsw}
 use Rattle.machine.specs.Updates.{withTransfer}
 use Rattle.transfer.specs.Sides.{gained}
@@ -42,4 +41,4 @@ endedBy c code = withTransfer c (c .ga) (c .gb) (endedTP c code) (c .bc) (endedP
 
 -- an external end: TP gains the offset of TX, XF becomes clear, and no byte moves (§5.2)
 unfoldable pub externallyEnded : Channel → Channel
-externallyEnded c = endedBy c (externalEnd (c .cc))
+externallyEnded c = endedBy c (c .fields .externalEnd)

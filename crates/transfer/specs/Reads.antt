@@ -7,7 +7,6 @@ use Rattle.words.specs.Sums.{sum20}
 use Rattle.memory.specs.Buffers.{Buffers, byteAt}
 use Rattle.memory.specs.Places.{Place}
 use Rattle.machine.specs.declared.Channel.{Channel}
-use Rattle.machine.specs.Cc.{translates}
 use Rattle.transfer.specs.declared.Data.{Data}
 use Rattle.transfer.specs.Sides.{source, secondAddress, twoMove}
 
@@ -25,7 +24,7 @@ entryOf c m = sum20 (c .gc .address) (fetched c m)
 
 -- the first byte to be stored: the one read, or with translation the one that stands for it, in GC's space (§7.6)
 unfoldable pub delivered : Channel → Buffers → ℕ
-delivered c m = pick (translates (c .cc)) (byteAt m (c .gc .tag) (entryOf c m)) (fetched c m)
+delivered c m = pick (c .fields .translates) (byteAt m (c .gc .tag) (entryOf c m)) (fetched c m)
 
 -- how many bytes are fetched from the source: two where two move, whether the second is then stored or not
 abbrev pub bytesFetched : Channel → ℕ
@@ -44,4 +43,4 @@ unfoldable pub readPlaces : Channel → Buffers → List Place
 readPlaces c m =
     record { tag = (source c) .pointer .tag; address = (source c) .pointer .address }
     ∷ also (twoMove c) (record { tag = (source c) .pointer .tag; address = secondAddress (source c) })
-    (also (translates (c .cc)) (record { tag = c .gc .tag; address = entryOf c m }) [])
+    (also (c .fields .translates) (record { tag = c .gc .tag; address = entryOf c m }) [])

@@ -8,7 +8,7 @@ use Rattle.words.specs.Sums.{sum20}
 use Rattle.memory.specs.declared.Pointer.{Pointer}
 use Rattle.memory.specs.Values.{onward}
 use Rattle.machine.specs.declared.Channel.{Channel}
-use Rattle.machine.specs.Cc.{destinationMoves, sourceMoves, translates, sourceIsGB, countEnd}
+use Rattle.machine.specs.declared.Fields.{Fields}
 use Rattle.machine.specs.Psw.{destinationWide, sourceWide}
 use Rattle.transfer.specs.declared.Side.{Side}
 use Rattle.transfer.specs.declared.Setup.{Setup}
@@ -19,11 +19,11 @@ side p moves wide = record { pointer = p; moves = moves; wide = wide }
 
 -- the source is GA, or GB with bit 10 of CC set (§7.1)
 unfoldable pub source : Channel → Side
-source c = side (pick (sourceIsGB (c .cc)) (c .gb) (c .ga)) (sourceMoves (c .cc)) (sourceWide (c .psw))
+source c = side (pick (c .fields .sourceIsGB) (c .gb) (c .ga)) (c .fields .sourceMoves) (sourceWide (c .psw))
 
 -- the destination is the other of the two (§7.1)
 unfoldable pub destination : Channel → Side
-destination c = side (pick (sourceIsGB (c .cc)) (c .ga) (c .gb)) (destinationMoves (c .cc)) (destinationWide (c .psw))
+destination c = side (pick (c .fields .sourceIsGB) (c .ga) (c .gb)) (c .fields .destinationMoves) (destinationWide (c .psw))
 
 -- a word side is 16 bits wide and at an even address (§7.2)
 unfoldable pub wordSide : Side → Bool
@@ -42,12 +42,12 @@ abbrev pub sideAfter : Side → ℕ → Pointer
 sideAfter s by = gained (s .moves) (s .pointer) by
 
 -- TBC is on
-abbrev pub countOn : ℕ → Bool
-countOn cc = not (eqb (countEnd cc) 0)
+abbrev pub countOn : Fields → Bool
+countOn f = not (eqb (f .countEnd) 0)
 
 -- two bytes move where a side is a word side, but the last of a count goes alone (§7.3)
 unfoldable pub twoMove : Channel → Bool
-twoMove c = (wordSide (source c) || wordSide (destination c)) && not (countOn (c .cc) && eqb (c .bc) 1)
+twoMove c = (wordSide (source c) || wordSide (destination c)) && not (countOn (c .fields) && eqb (c .bc) 1)
 
 -- two bytes go to a side that is no word side, so each is stored singly (§7.5)
 unfoldable pub storedSingly : Channel → Bool
@@ -59,9 +59,6 @@ setupOf c =
     record {
       source = source c;
       destination = destination c;
-      gb = sourceIsGB (c .cc);
-      translates = translates (c .cc);
-      tbc = countEnd (c .cc);
       two = twoMove c;
       singly = storedSingly c;
     }

@@ -8,7 +8,6 @@ use Rattle.words.specs.Choice.{pick}
 use Rattle.memory.specs.Buffers.{Buffers}
 use Rattle.memory.specs.Places.{Place, allTouchable}
 use Rattle.machine.specs.declared.Channel.{Channel}
-use Rattle.machine.specs.Cc.{translates, synchronised}
 use Rattle.machine.specs.Outcomes.{unless}
 use Rattle.machine.specs.Stages.{Stage, stage, stagesNumber}
 use Rattle.transfer.specs.Sides.{source, destination}
@@ -30,7 +29,7 @@ touchedByTransfer c m = readPlaces c m ++ storedPlaces c (dataOf c m)
 
 -- a mode that is refused: SYN 11, or translation with a side of 16 bits (§7.11)
 unfoldable pub badMode : Channel → Bool
-badMode c = eqb (synchronised (c .cc)) 3 || translates (c .cc) && ((source c) .wide || (destination c) .wide)
+badMode c = eqb (c .fields .synchronised) 3 || c .fields .translates && ((source c) .wide || (destination c) .wide)
 
 -- the stages of the step: the mode, for which no byte is looked at, then every byte (§7.11)
 unfoldable pub transferStages : Channel → Buffers → List Stage

@@ -8,7 +8,6 @@ use Rattle.words.specs.Sums.{countDown}
 use Rattle.memory.specs.Buffers.{Buffers, storeByte}
 use Rattle.memory.specs.Places.{Place}
 use Rattle.machine.specs.declared.Channel.{Channel}
-use Rattle.machine.specs.Cc.{sourceIsGB, singleTransfer, countEnd, matchEnd}
 use Rattle.transfer.specs.declared.Side.{Side}
 use Rattle.transfer.specs.declared.Data.{Data}
 use Rattle.transfer.specs.Sides.{source, destination, secondAddress, sideAfter, twoMove, storedSingly}
@@ -18,11 +17,11 @@ use Rattle.machine.specs.Updates.{withTransfer}
 
 -- the first byte meets TMC, whether it is stored singly or as the low byte of a word
 unfoldable pub firstMeets : Channel → Data → Bool
-firstMeets c d = meetsTmc (matchEnd (c .cc)) (c .mc) (d .first)
+firstMeets c d = meetsTmc (c .fields .matchEnd) (c .mc) (d .first)
 
 -- TMC is met by a byte that is stored singly, or by the low byte of a word (§7.7)
 unfoldable pub matchMet : Channel → Data → Bool
-matchMet c d = firstMeets c d || storedSingly c && meetsTmc (matchEnd (c .cc)) (c .mc) (d .second)
+matchMet c d = firstMeets c d || storedSingly c && meetsTmc (c .fields .matchEnd) (c .mc) (d .second)
 
 -- the first of two single stores meets TMC, so the second is not made (§7.8)
 unfoldable pub cutShort : Channel → Data → Bool
@@ -52,15 +51,15 @@ countAfter c d = countDown (c .bc) (bytesCounted c d)
 unfoldable pub endCode : Channel → Data → ℕ
 endCode c d =
     larger
-    (larger (codeIf (matchMet c d) (matchEnd (c .cc) % 4)) (codeIf (eqb (countAfter c d) 0) (countEnd (c .cc))))
-    (codeIf (singleTransfer (c .cc)) 1)
+    (larger (codeIf (matchMet c d) (c .fields .matchEnd % 4)) (codeIf (eqb (countAfter c d) 0) (c .fields .countEnd)))
+    (codeIf (c .fields .singleTransfer) 1)
 
 -- the channel with its moving sides on by some bytes, and a new BC
 unfoldable pub movedBy : Channel → ℕ → ℕ → Channel
 movedBy c by bc =
     withTransfer c
-    (pick (sourceIsGB (c .cc)) (sideAfter (destination c) by) (sideAfter (source c) by))
-    (pick (sourceIsGB (c .cc)) (sideAfter (source c) by) (sideAfter (destination c) by))
+    (pick (c .fields .sourceIsGB) (sideAfter (destination c) by) (sideAfter (source c) by))
+    (pick (c .fields .sourceIsGB) (sideAfter (source c) by) (sideAfter (destination c) by))
     (c .tp) bc (c .psw)
 
 -- the channel after the step

@@ -23,13 +23,10 @@ struct Side {
     wide: bool,
 }
 
-// What a channel says of its transfer before a byte is read, each field of CC taken out once.
+// What a channel says of its transfer before a byte is read.
 struct Setup {
     source: Side,
     destination: Side,
-    gb: bool,
-    translates: bool,
-    tbc: u32,
     two: bool,
     singly: bool,
 }
@@ -51,9 +48,10 @@ fn bad_mode(c: Channel, p: Setup) -> bool
     requires { ⌜ p ≡ setupOf c ⌝ }
     ensures { λ r. ⌜ r ≡ badMode c ⌝ }
 {
+    let f = c.fields;
     let source = p.source;
     let destination = p.destination;
-    (machine::cc::synchronised(c.cc) == 3) | (p.translates & (source.wide | destination.wide))
+    (f.synchronised == 3) | (f.translates & (source.wide | destination.wide))
 }
 
 // A refused step: the channel as it was.
@@ -89,5 +87,6 @@ pub fn transfer(c: Channel, sys: &mut [u8], io: &mut [u8]) -> Transferred
 pub fn external_end(c: Channel) -> Channel
     ensures { λ r. ⌜ r ≡ externallyEnded c ⌝ }
 {
-    ends::ended(c, machine::cc::external_end(c.cc))
+    let f = c.fields;
+    ends::ended(c, f.externalEnd as u32)
 }

@@ -81,7 +81,8 @@ pub(crate) fn fetch(c: Channel, p: Setup, sys: &[u8], io: &[u8]) -> Fetched
         }
         return some(first, next.byte);
     }
-    if p.translates {
+    let f = c.fields;
+    if f.translates {
         let gc = c.gc;
         let entry = see(gc.tag, words::sum20(gc.address, first as u32), sys, io);
         if !entry.touchable {

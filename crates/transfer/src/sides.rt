@@ -46,26 +46,22 @@ pub(crate) fn gained(moves: bool, p: Pointer, by: u32) -> Pointer
 pub(crate) fn plan(c: Channel) -> Setup
     ensures { λ r. ⌜ r ≡ setupOf c ⌝ }
 {
-    let gb = machine::cc::source_is_gb(c.cc);
+    let f = c.fields;
     let source = Side {
-        pointer: chosen(gb, c.gb, c.ga),
-        moves: machine::cc::source_moves(c.cc),
+        pointer: chosen(f.sourceIsGB, c.gb, c.ga),
+        moves: f.sourceMoves,
         wide: machine::psw::source_wide(c.psw),
     };
     let destination = Side {
-        pointer: chosen(gb, c.ga, c.gb),
-        moves: machine::cc::destination_moves(c.cc),
+        pointer: chosen(f.sourceIsGB, c.ga, c.gb),
+        moves: f.destinationMoves,
         wide: machine::psw::destination_wide(c.psw),
     };
-    let tbc = machine::cc::count_end(c.cc);
     let whole = word(destination);
-    let two = (word(source) | whole) & !((tbc != 0) & (c.bc == 1));
+    let two = (word(source) | whole) & !((f.countEnd != 0) & (c.bc == 1));
     Setup {
         source,
         destination,
-        gb,
-        translates: machine::cc::translates(c.cc),
-        tbc,
         two,
         singly: two & !whole,
     }

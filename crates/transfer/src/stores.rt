@@ -7,7 +7,6 @@ ghost use mathlib.Core.Path.{_≡_};
 ghost use Rattle.words.specs.Choice.{pick};
 ghost use Rattle.memory.specs.Buffers.{buffers, touchableAt, storeByte};
 ghost use Rattle.memory.specs.Places.{allTouchable};
-ghost use Rattle.machine.specs.Cc.{matchEnd};
 ghost use Rattle.transfer.specs.Sides.{setupOf};
 ghost use Rattle.transfer.specs.Ends.{codeIf};
 ghost use Rattle.transfer.specs.Stores.{matchMet, storesTwo, movedBy, movedChannel, putOn, placesOn};
@@ -28,9 +27,10 @@ pub(crate) struct Done {
 // What the masked compare decides; where TMC is off no byte is looked at.
 fn compare(c: Channel, p: Setup, d: Data) -> Compared
     requires { ⌜ p ≡ setupOf c ⌝ }
-    ensures { λ r. ⌜ r ≡ record { two = storesTwo c d; code = codeIf (matchMet c d) (matchEnd (c .cc) % 4) } ⌝ }
+    ensures { λ r. ⌜ r ≡ record { two = storesTwo c d; code = codeIf (matchMet c d) (c .fields .matchEnd % 4) } ⌝ }
 {
-    let tmc = machine::cc::match_end(c.cc);
+    let f = c.fields;
+    let tmc = f.matchEnd as u32;
     if tmc % 4 == 0 {
         return Compared {
             two: p.two,
@@ -61,9 +61,10 @@ fn moved_by(c: Channel, p: Setup, by: u32, bc: u16) -> Channel
     let d = p.destination;
     let source = crate::sides::gained(s.moves, s.pointer, by);
     let destination = crate::sides::gained(d.moves, d.pointer, by);
+    let f = c.fields;
     let mut next = c;
-    next.ga = crate::sides::chosen(p.gb, destination, source);
-    next.gb = crate::sides::chosen(p.gb, source, destination);
+    next.ga = crate::sides::chosen(f.sourceIsGB, destination, source);
+    next.gb = crate::sides::chosen(f.sourceIsGB, source, destination);
     next.bc = bc;
     next
 }
@@ -73,13 +74,14 @@ pub(crate) fn finish(c: Channel, p: Setup, d: Data) -> Done
     requires { ⌜ p ≡ setupOf c ⌝ }
     ensures { λ r. ⌜ r ≡ record { two = storesTwo c d; channel = movedChannel c d } ⌝ }
 {
+    let f = c.fields;
     let fetched = one_or_two(p.two);
     let before = c.bc;
     let bc = words::count_down(before, fetched);
-    let counted = crate::ends::code_if(bc == 0, p.tbc);
+    let counted = crate::ends::code_if(bc == 0, f.countEnd as u32);
     let k = compare(c, p, d);
     let stored = one_or_two(k.two);
-    let single = crate::ends::code_if(machine::cc::single_transfer(c.cc), 1);
+    let single = crate::ends::code_if(f.singleTransfer, 1);
     let code = crate::ends::larger(crate::ends::larger(k.code, counted), single);
     let next = moved_by(c, p, stored as u32, bc);
     Done {

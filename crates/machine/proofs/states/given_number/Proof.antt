@@ -22,12 +22,19 @@ returns-2 c = simp (not-true (c .before .sound .result) (c .if2 .taken), ← (c 
 
 returns-3 : tie.Need-returns-3
 unfolding givenNumber first unless
-returns-3 c = simp (c .if3 .taken, not-false (c .before .before .sound .result) (c .before .if2 .left), ← (c .before .before .sound .ensures), not-false (c .before .before .before .before .within-limits .result) (c .before .before .before .if1 .left), ← (c .before .before .before .before .within-limits .ensures))
+returns-3 c = simp (not-true (c .before .before .before .before .before .before .before .before .args .s .board .powered) (c .if3 .taken), not-false (c .before .before .before .sound .result) (c .before .before .if2 .left), ← (c .before .before .before .sound .ensures), not-false (c .before .before .before .before .before .within-limits .result) (c .before .before .before .before .if1 .left), ← (c .before .before .before .before .before .within-limits .ensures))
+
+agree-requires : tie.Need-agree-requires
+agree-requires c κs = search needs
 
 returns-4 : tie.Need-returns-4
 unfolding givenNumber first unless
-returns-4 c = simp (c .if3 .left, not-false (c .before .before .sound .result) (c .before .if2 .left), ← (c .before .before .sound .ensures), not-false (c .before .before .before .before .within-limits .result) (c .before .before .before .if1 .left), ← (c .before .before .before .before .within-limits .ensures))
+returns-4 c = simp (c .if4 .taken, ← (c .before .agree .ensures), not-false (c .before .before .before .before .before .before .before .before .before .before .args .s .board .powered) (c .before .before .if3 .left), not-false (c .before .before .before .before .before .sound .result) (c .before .before .before .before .if2 .left), ← (c .before .before .before .before .before .sound .ensures), not-false (c .before .before .before .before .before .before .before .within-limits .result) (c .before .before .before .before .before .before .if1 .left), ← (c .before .before .before .before .before .before .before .within-limits .ensures))
+
+returns-5 : tie.Need-returns-5
+unfolding givenNumber first unless
+returns-5 c = simp (c .if4 .left, ← (c .before .agree .ensures), not-false (c .before .before .before .before .before .before .before .before .before .before .args .s .board .powered) (c .before .before .if3 .left), not-false (c .before .before .before .before .before .sound .result) (c .before .before .before .before .if2 .left), ← (c .before .before .before .before .before .sound .ensures), not-false (c .before .before .before .before .before .before .before .within-limits .result) (c .before .before .before .before .before .before .if1 .left), ← (c .before .before .before .before .before .before .before .within-limits .ensures))
 
 pub given-number-spec : {M : Type 1} → statement M
 given-number-spec =
-    tie.close (tie.spec within-limits-requires returns sound-requires returns-2 returns-3 returns-4)
+    tie.close (tie.spec within-limits-requires returns sound-requires returns-2 returns-3 agree-requires returns-4 returns-5)

@@ -12,13 +12,10 @@ is-running-requires c κs = search needs
 transferring-requires : tie.Need-transferring-requires
 transferring-requires c κs = search needs
 
-external-end-requires : tie.Need-external-end-requires
-external-end-requires c κs = search needs
-
 returns : tie.Need-returns
 unfolding endsNow
-returns c = simp (c .external-end .ensures, c .before .transferring .ensures, c .before .before .is-running .ensures)
+returns c = simp (c .before .transferring .ensures, c .before .before .is-running .ensures)
 
 pub ends-now-spec : {M : Type 1} → statement M
 ends-now-spec =
-    tie.close (tie.spec is-running-requires transferring-requires external-end-requires returns)
+    tie.close (tie.spec is-running-requires transferring-requires returns)

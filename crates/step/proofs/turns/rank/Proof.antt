@@ -3,7 +3,6 @@
 use borrow.Author.Needs.{needs}
 use borrow.Author.Tests.{not-true, not-false}
 use mathlib.Core.Path.{sym, _∙_}
-use Rattle.machine.specs.Cc.{chained}
 use Rattle.machine.specs.Psw.{transferring}
 use Rattle.step.specs.Choosing.{rankOf}
 use Rattle.step.proofs.turns.rank.Statement.{statement}
@@ -26,16 +25,13 @@ returns-2 : tie.Need-returns-2
 unfolding rankOf
 returns-2 c = simp (c .transfer-rank .ensures, sym (c .before .before .transferring .ensures) ∙ c .before .if2 .taken, sym (c .before .before .before .before .is-running .ensures) ∙ not-false _ (c .before .before .before .if1 .left))
 
-chained-requires : tie.Need-chained-requires
-chained-requires c κs = search needs
-
 returns-3 : tie.Need-returns-3
 unfolding rankOf
-returns-3 c = simp (sym (c .before .chained .ensures) ∙ c .if3 .taken, sym (c .before .before .before .transferring .ensures) ∙ c .before .before .if2 .left, sym (c .before .before .before .before .before .is-running .ensures) ∙ not-false _ (c .before .before .before .before .if1 .left))
+returns-3 c = simp (c .if3 .taken, sym (c .before .before .transferring .ensures) ∙ c .before .if2 .left, sym (c .before .before .before .before .is-running .ensures) ∙ not-false _ (c .before .before .before .if1 .left))
 
 returns-4 : tie.Need-returns-4
 unfolding rankOf
-returns-4 c = simp (sym (c .before .chained .ensures) ∙ c .if3 .left, sym (c .before .before .before .transferring .ensures) ∙ c .before .before .if2 .left, sym (c .before .before .before .before .before .is-running .ensures) ∙ not-false _ (c .before .before .before .before .if1 .left))
+returns-4 c = simp (c .if3 .left, sym (c .before .before .transferring .ensures) ∙ c .before .if2 .left, sym (c .before .before .before .before .is-running .ensures) ∙ not-false _ (c .before .before .before .if1 .left))
 
 pub rank-spec : {M : Type 1} → statement M
 rank-spec =
@@ -46,6 +42,5 @@ rank-spec =
     transferring-requires
     transfer-rank-requires
     returns-2
-    chained-requires
     returns-3
     returns-4)

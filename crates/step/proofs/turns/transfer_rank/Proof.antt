@@ -1,21 +1,16 @@
 -- `step::turns/transfer_rank` meets its contract.
 -- Assumes nothing.
-use borrow.Author.Needs.{needs}
-use Rattle.machine.specs.Cc.{synchronised}
 use Rattle.step.specs.Choosing.{transferRank}
 use Rattle.step.proofs.turns.transfer_rank.Statement.{statement}
 use Rattle.step.proofs.turns.transfer_rank.Tie as tie
 
-synchronised-requires : tie.Need-synchronised-requires
-synchronised-requires c κs = search needs
-
 returns : tie.Need-returns
 unfolding transferRank
-returns c = rw (rw (c .before .synchronised .ensures) at (c .if1 .taken))
+returns c = rw (c .if1 .taken)
 
 returns-2 : tie.Need-returns-2
 unfolding transferRank
-returns-2 c = rw (rw (c .before .synchronised .ensures) at (c .if1 .left))
+returns-2 c = rw (c .if1 .left)
 
 pub transfer-rank-spec : {M : Type 1} → statement M
-transfer-rank-spec = tie.close (tie.spec synchronised-requires returns returns-2)
+transfer-rank-spec = tie.close (tie.spec returns returns-2)

@@ -76,11 +76,11 @@ none-requires-3 c κs = search needs
 
 returns-4 : tie.Need-returns-4
 returns-4 c =
-    let a = c .before .before .before .before .before .before .before .before .before .before .before .before .before .before .before .args in
+    let a = c .before .before .before .before .before .before .before .before .before .before .before .before .before .before .before .before .args in
     c .none3 .ensures
     ∙ sym
-    (entry-beyond (a .c) (buffers (now (a .sys)) (now (a .io))) (a .p) (c .before .before .before .before .before .before .before .before .before .before .before .before .before .before .before .pre .0) (c .before .before .before .before .before .before .before .before .before .before .see .result .byte) (c .before .before .before .before .sum20 .result)
-    (sym (ap touchable (c .before .before .before .before .before .before .before .before .before .before .see .ensures)) ∙ not-false _ (c .before .before .before .before .before .before .before .before .if1 .left)) (ap byte (c .before .before .before .before .before .before .before .before .before .before .see .ensures)) (c .before .before .before .before .before .before .before .if2 .left) (c .before .before .before .before .before .before .if4 .taken) (c .before .before .before .before .sum20 .ensures)
+    (entry-beyond (a .c) (buffers (now (a .sys)) (now (a .io))) (a .p) (c .before .before .before .before .before .before .before .before .before .before .before .before .before .before .before .before .pre .0) (c .before .before .before .before .before .before .before .before .before .before .before .see .result .byte) (c .before .before .before .before .sum20 .result)
+    (sym (ap touchable (c .before .before .before .before .before .before .before .before .before .before .before .see .ensures)) ∙ not-false _ (c .before .before .before .before .before .before .before .before .before .if1 .left)) (ap byte (c .before .before .before .before .before .before .before .before .before .before .before .see .ensures)) (c .before .before .before .before .before .before .before .before .if2 .left) (c .before .before .before .before .before .before .if4 .taken) (c .before .before .before .before .sum20 .ensures)
     (sym (ap touchable (c .before .before .before .see3 .ensures)) ∙ not-true _ (c .before .if5 .taken)))
 
 some-requires-2 : tie.Need-some-requires-2
@@ -88,12 +88,12 @@ some-requires-2 c κs = search needs
 
 returns-5 : tie.Need-returns-5
 returns-5 c =
-    let a = c .before .before .before .before .before .before .before .before .before .before .before .before .before .before .before .args in
+    let a = c .before .before .before .before .before .before .before .before .before .before .before .before .before .before .before .before .args in
     c .some2 .ensures
     ∙ ap (λ (n : ℕ). here n 0) (ap byte (c .before .before .before .see3 .ensures))
     ∙ sym
-    (translated (a .c) (buffers (now (a .sys)) (now (a .io))) (a .p) (c .before .before .before .before .before .before .before .before .before .before .before .before .before .before .before .pre .0) (c .before .before .before .before .before .before .before .before .before .before .see .result .byte) (c .before .before .before .before .sum20 .result)
-    (sym (ap touchable (c .before .before .before .before .before .before .before .before .before .before .see .ensures)) ∙ not-false _ (c .before .before .before .before .before .before .before .before .if1 .left)) (ap byte (c .before .before .before .before .before .before .before .before .before .before .see .ensures)) (c .before .before .before .before .before .before .before .if2 .left) (c .before .before .before .before .before .before .if4 .taken) (c .before .before .before .before .sum20 .ensures)
+    (translated (a .c) (buffers (now (a .sys)) (now (a .io))) (a .p) (c .before .before .before .before .before .before .before .before .before .before .before .before .before .before .before .before .pre .0) (c .before .before .before .before .before .before .before .before .before .before .before .see .result .byte) (c .before .before .before .before .sum20 .result)
+    (sym (ap touchable (c .before .before .before .before .before .before .before .before .before .before .before .see .ensures)) ∙ not-false _ (c .before .before .before .before .before .before .before .before .before .if1 .left)) (ap byte (c .before .before .before .before .before .before .before .before .before .before .before .see .ensures)) (c .before .before .before .before .before .before .before .before .if2 .left) (c .before .before .before .before .before .before .if4 .taken) (c .before .before .before .before .sum20 .ensures)
     (sym (ap touchable (c .before .before .before .see3 .ensures)) ∙ not-false _ (c .before .if5 .left)))
 
 some-requires-3 : tie.Need-some-requires-3
@@ -101,11 +101,11 @@ some-requires-3 c κs = search needs
 
 returns-6 : tie.Need-returns-6
 returns-6 c =
-    let a = c .before .before .before .before .before .before .before .before .before .before .args in
+    let a = c .before .before .before .before .before .before .before .before .before .before .before .args in
     c .some3 .ensures
     ∙ sym
-    (one-read (a .c) (buffers (now (a .sys)) (now (a .io))) (a .p) (c .before .before .before .before .before .before .before .before .before .before .pre .0) (c .before .before .before .before .before .see .result .byte)
-    (sym (ap touchable (c .before .before .before .before .before .see .ensures)) ∙ not-false _ (c .before .before .before .if1 .left)) (ap byte (c .before .before .before .before .before .see .ensures)) (c .before .before .if2 .left) (c .before .if4 .left))
+    (one-read (a .c) (buffers (now (a .sys)) (now (a .io))) (a .p) (c .before .before .before .before .before .before .before .before .before .before .before .pre .0) (c .before .before .before .before .before .before .see .result .byte)
+    (sym (ap touchable (c .before .before .before .before .before .before .see .ensures)) ∙ not-false _ (c .before .before .before .before .if1 .left)) (ap byte (c .before .before .before .before .before .before .see .ensures)) (c .before .before .before .if2 .left) (c .before .if4 .left))
 
 pub fetch-spec : {M : Type 1} → statement M
 fetch-spec =

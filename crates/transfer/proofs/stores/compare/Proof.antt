@@ -1,9 +1,6 @@
 -- `transfer::stores/compare` meets its contract.
 -- Assumes nothing.
-use Prim.Native.Nat.{ℕ, _%_}
 use borrow.Author.Needs.{needs}
-use mathlib.Core.Path.{_≡_, sym, ap, _∙_}
-use Rattle.machine.specs.Cc.{matchEnd}
 use Rattle.transfer.specs.Ends.{codeIf}
 use Rattle.transfer.specs.Sides.{setupOf}
 use Rattle.transfer.specs.Stores.{firstMeets, matchMet, cutShort, storesTwo}
@@ -11,15 +8,14 @@ use Rattle.transfer.proofs.MatchLaws.{off-stores, off-unmet}
 use Rattle.transfer.proofs.stores.compare.Statement.{statement}
 use Rattle.transfer.proofs.stores.compare.Tie as tie
 
-match-end-requires : tie.Need-match-end-requires
-match-end-requires c κs = search needs
+cast-tmc : tie.Need-cast-tmc
+cast-tmc c = search needs
 
 returns : tie.Need-returns
 unfolding setupOf codeIf
 returns c =
-    let a = c .before .before .args in
-    let off : matchEnd (a .c .cc) % 4 ≡ 0 = ap (λ (n : ℕ). n % 4) (sym (c .before .match-end .ensures)) ∙ c .if1 .taken in
-    rw (off-stores (a .c) (a .d) off, off-unmet (a .c) (a .d) off, c .before .before .pre)
+    let a = c .before .before .before .args in
+    rw (off-stores (a .c) (a .d) (c .if1 .taken), off-unmet (a .c) (a .d) (c .if1 .taken), c .before .before .before .pre)
 
 meets-requires : tie.Need-meets-requires
 meets-requires c κs = search needs
@@ -32,13 +28,13 @@ code-if-requires c κs = search needs
 
 returns-2 : tie.Need-returns-2
 unfolding setupOf storesTwo matchMet cutShort firstMeets
-returns-2 c = rw (c .code-if .ensures, c .before .before .before .before .meets2 .ensures, c .before .before .before .before .before .meets .ensures, c .before .before .before .before .before .before .before .match-end .ensures, c .before .before .before .before .before .before .before .before .pre)
+returns-2 c = rw (c .code-if .ensures, c .before .before .before .before .meets2 .ensures, c .before .before .before .before .before .meets .ensures, c .before .before .before .before .before .before .before .before .before .pre)
 
 pub compare-spec : {M : Type 1} → statement M
 compare-spec =
     tie.close
     (tie.spec
-    match-end-requires
+    cast-tmc
     returns
     meets-requires
     meets-requires-2

@@ -12,6 +12,9 @@ one-or-two-requires c κs = search needs
 count-down-requires : tie.Need-count-down-requires
 count-down-requires c κs = search needs
 
+cast-code-if : tie.Need-cast-code-if
+cast-code-if c = search needs
+
 code-if-requires : tie.Need-code-if-requires
 code-if-requires c κs = search needs
 
@@ -20,9 +23,6 @@ compare-requires c κs = search needs
 
 one-or-two-requires-2 : tie.Need-one-or-two-requires-2
 one-or-two-requires-2 c κs = search needs
-
-single-transfer-requires : tie.Need-single-transfer-requires
-single-transfer-requires c κs = search needs
 
 code-if-requires-2 : tie.Need-code-if-requires-2
 code-if-requires-2 c κs = search needs
@@ -37,7 +37,7 @@ cast-moved-by : tie.Need-cast-moved-by
 cast-moved-by c = search needs
 
 moved-by-requires : tie.Need-moved-by-requires
-moved-by-requires c κs = c .before .before .before .before .before .before .before .before .before .pre
+moved-by-requires c κs = c .before .before .before .before .before .before .before .before .before .before .pre
 
 ended-requires : tie.Need-ended-requires
 ended-requires c κs = search needs
@@ -45,7 +45,7 @@ ended-requires c κs = search needs
 returns : tie.Need-returns
 unfolding movedChannel endCode countAfter bytesCounted bytesMoved bytesStored setupOf
 returns c =
-    rw (c .ended .ensures, c .before .moved-by .ensures, c .before .before .larger2 .ensures, c .before .before .before .larger .ensures, c .before .before .before .before .code-if2 .ensures, c .before .before .before .before .before .single-transfer .ensures, c .before .before .before .before .before .before .one-or-two2 .ensures, c .before .before .before .before .before .before .before .compare .ensures, c .before .before .before .before .before .before .before .before .code-if .ensures, c .before .before .before .before .before .before .before .before .before .count-down .ensures, c .before .before .before .before .before .before .before .before .before .before .one-or-two .ensures, c .before .before .before .before .before .before .before .before .before .before .before .pre)
+    rw (c .ended .ensures, c .before .moved-by .ensures, c .before .before .larger2 .ensures, c .before .before .before .larger .ensures, c .before .before .before .before .code-if2 .ensures, c .before .before .before .before .before .one-or-two2 .ensures, c .before .before .before .before .before .before .compare .ensures, c .before .before .before .before .before .before .before .code-if .ensures, c .before .before .before .before .before .before .before .before .before .count-down .ensures, c .before .before .before .before .before .before .before .before .before .before .one-or-two .ensures, c .before .before .before .before .before .before .before .before .before .before .before .before .pre)
 
 pub finish-spec : {M : Type 1} → statement M
 finish-spec =
@@ -53,10 +53,10 @@ finish-spec =
     (tie.spec
     one-or-two-requires
     count-down-requires
+    cast-code-if
     code-if-requires
     compare-requires
     one-or-two-requires-2
-    single-transfer-requires
     code-if-requires-2
     larger-requires
     larger-requires-2

@@ -1,0 +1,144 @@
+-- The laws of the fields beside CC: they are those of CC exactly where the test says so, a register written renews them, and a channel put back agrees where it did.
+-- Assumes nothing.
+use Prim.Native.Nat.{ℕ, _%_}
+use lib.Dec.{eqb, ltb}
+use mathlib.Core.Bool.{Bool, true, false, not, _&&_}
+use mathlib.Core.Path.{_≡_, refl, sym, ap, _∙_}
+use Rattle.words.proofs.ChoiceLaws.{apart, both-left, both-right}
+use Rattle.words.specs.Choice.{pick}
+use Rattle.machine.specs.Cc.{split, sameFlag, sameFields}
+use Rattle.machine.specs.Conditions.{FieldsDisagree}
+use Rattle.machine.specs.Registers.{withRegister}
+use Rattle.machine.specs.States.{boardWith, idleChannel, freshState, freshOf, blankState, channelOf, withChannel, withLast, fieldsAgree, agree}
+use Rattle.machine.specs.declared.Answer.{Answer}
+use Rattle.machine.specs.declared.Board.{Board}
+use Rattle.machine.specs.declared.Channel.{Channel}
+use Rattle.machine.specs.declared.Fields.{Fields}
+use Rattle.machine.specs.declared.State.{State}
+use Rattle.machine.proofs.ConditionLaws.{Told, Says, says-and, says-eqb, says-yes, told-and}
+
+-- ---- the test
+
+says-flag : (a b : Bool) → Says (sameFlag a b) (a ≡ b)
+unfolding sameFlag
+says-flag true true = record { holds = λ e. refl; fails = λ e. apart e }
+says-flag true false = record { holds = λ e. apart (sym e); fails = λ e h. apart h }
+says-flag false true = record { holds = λ e. apart (sym e); fails = λ e h. apart (sym h) }
+says-flag false false = record { holds = λ e. refl; fails = λ e. apart e }
+
+-- fields given one by one
+made : Bool → Bool → Bool → ℕ → Bool → Bool → Bool → ℕ → ℕ → ℕ → Fields
+made destinationMoves sourceMoves translates synchronised sourceIsGB chained singleTransfer externalEnd countEnd matchEnd =
+    record {
+      destinationMoves = destinationMoves;
+      sourceMoves = sourceMoves;
+      translates = translates;
+      synchronised = synchronised;
+      sourceIsGB = sourceIsGB;
+      chained = chained;
+      singleTransfer = singleTransfer;
+      externalEnd = externalEnd;
+      countEnd = countEnd;
+      matchEnd = matchEnd;
+    }
+
+-- each field is the same
+abbrev Alike : Fields → Fields → Type 0
+Alike f g =
+    ((((((((((f .destinationMoves ≡ g .destinationMoves)
+    × (f .sourceMoves ≡ g .sourceMoves))
+    × (f .translates ≡ g .translates))
+    × (f .synchronised ≡ g .synchronised))
+    × (f .sourceIsGB ≡ g .sourceIsGB))
+    × (f .chained ≡ g .chained))
+    × (f .singleTransfer ≡ g .singleTransfer))
+    × (f .externalEnd ≡ g .externalEnd))
+    × (f .countEnd ≡ g .countEnd))
+    × (f .matchEnd ≡ g .matchEnd))
+
+joined : (f g : Fields) → Alike f g → f ≡ g
+unfolding made
+joined f g h = go
+  where
+    go : made (f .destinationMoves) (f .sourceMoves) (f .translates) (f .synchronised) (f .sourceIsGB) (f .chained) (f .singleTransfer) (f .externalEnd) (f .countEnd) (f .matchEnd) ≡ made (g .destinationMoves) (g .sourceMoves) (g .translates) (g .synchronised) (g .sourceIsGB) (g .chained) (g .singleTransfer) (g .externalEnd) (g .countEnd) (g .matchEnd)
+    go = rw (h .0 .0 .0 .0 .0 .0 .0 .0 .0, h .0 .0 .0 .0 .0 .0 .0 .0 .1, h .0 .0 .0 .0 .0 .0 .0 .1, h .0 .0 .0 .0 .0 .0 .1, h .0 .0 .0 .0 .0 .1, h .0 .0 .0 .0 .1, h .0 .0 .0 .1, h .0 .0 .1, h .0 .1, h .1)
+
+pub says-same : (f g : Fields) → Says (sameFields f g) (f ≡ g)
+unfolding sameFields
+says-same f g = record { holds = λ e. joined f g (each .holds e); fails = λ e h. each .fails e ((((((((((ap (λ (x : Fields). x .destinationMoves) h, ap (λ (x : Fields). x .sourceMoves) h), ap (λ (x : Fields). x .translates) h), ap (λ (x : Fields). x .synchronised) h), ap (λ (x : Fields). x .sourceIsGB) h), ap (λ (x : Fields). x .chained) h), ap (λ (x : Fields). x .singleTransfer) h), ap (λ (x : Fields). x .externalEnd) h), ap (λ (x : Fields). x .countEnd) h), ap (λ (x : Fields). x .matchEnd) h)) }
+  where
+    each : Says (sameFields f g) (Alike f g)
+    each = says-and (says-and (says-and (says-and (says-and (says-and (says-and (says-and (says-and (says-flag (f .destinationMoves) (g .destinationMoves)) (says-flag (f .sourceMoves) (g .sourceMoves))) (says-flag (f .translates) (g .translates))) (says-eqb (f .synchronised) (g .synchronised))) (says-flag (f .sourceIsGB) (g .sourceIsGB))) (says-flag (f .chained) (g .chained))) (says-flag (f .singleTransfer) (g .singleTransfer))) (says-eqb (f .externalEnd) (g .externalEnd))) (says-eqb (f .countEnd) (g .countEnd))) (says-eqb (f .matchEnd) (g .matchEnd))
+
+-- ---- a channel whose fields are those of CC
+
+-- the test says so
+pub agreed : (c : Channel) → fieldsAgree c ≡ true → c .fields ≡ split (c .cc)
+unfolding fieldsAgree
+agreed c e = says-same (c .fields) (split (c .cc)) .holds e
+
+pub agrees : (c : Channel) → c .fields ≡ split (c .cc) → fieldsAgree c ≡ true
+unfolding fieldsAgree
+agrees c h = says-yes (says-same (c .fields) (split (c .cc))) h
+
+told-fields : (c : Channel) → Told (fieldsAgree c) (¬ (c .fields ≡ split (c .cc)))
+unfolding fieldsAgree
+told-fields c =
+    let s = says-same (c .fields) (split (c .cc)) in
+    record { holds = λ e h. h (s .holds e); fails = s .fails }
+
+pub told-agree : (s : State) → Told (agree s) (FieldsDisagree s)
+unfolding agree
+told-agree s = told-and (told-fields (s .first)) (told-fields (s .second))
+
+-- a channel with the CC and the fields of one that agrees does too
+pub same-agrees : (c c′ : Channel) → c′ .cc ≡ c .cc → c′ .fields ≡ c .fields → fieldsAgree c ≡ true → fieldsAgree c′ ≡ true
+unfolding fieldsAgree
+same-agrees c c′ e f h = rw (e, f) h
+
+-- a register written leaves fields that are those of CC, CC itself too
+pub written-agrees : (c : Channel) (r v : ℕ) (tag : Bool) → fieldsAgree c ≡ true → fieldsAgree (withRegister c r v tag) ≡ true
+unfolding withRegister
+written-agrees c r v tag h = agrees (withRegister c r v tag) (go (eqb r 6))
+  where
+    go : (b : Bool) → pick b (split (v % 65536)) (c .fields) ≡ split (pick b (v % 65536) (c .cc))
+    go true = refl
+    go false = agreed c h
+
+-- ---- a state that agrees
+
+joint : {a b : Bool} → a ≡ true → b ≡ true → a && b ≡ true
+joint e f = rw (e, f)
+
+pub agree-channel-of : (s : State) (b : Bool) → agree s ≡ true → fieldsAgree (channelOf s b) ≡ true
+unfolding agree channelOf
+agree-channel-of s true h = both-right (fieldsAgree (s .first)) (fieldsAgree (s .second)) h
+agree-channel-of s false h = both-left (fieldsAgree (s .first)) (fieldsAgree (s .second)) h
+
+pub put-agree : (s : State) (b : Bool) (c : Channel) → agree s ≡ true → fieldsAgree c ≡ true → agree (withChannel s b c) ≡ true
+unfolding agree withChannel channelOf
+put-agree s b c h k = go b
+  where
+    go : (b : Bool) → fieldsAgree (pick b (s .first) c) && fieldsAgree (pick b c (s .second)) ≡ true
+    go true = joint (agree-channel-of s false h) k
+    go false = joint k (agree-channel-of s true h)
+
+-- noting which channel stepped changes nothing of it
+pub last-agree : (s : State) (b : Bool) → agree (withLast s b) ≡ agree s
+unfolding agree withLast
+last-agree s b = refl
+
+-- a state of which only CP and the board are known agrees: a fresh one, one after reset, one after power-up
+pub blank-agree : (cp : ℕ) (b : Board) → agree (blankState cp b) ≡ true
+unfolding agree idleChannel
+blank-agree cp b =
+    let idle : fieldsAgree idleChannel ≡ true = agrees idleChannel refl in
+    joint idle idle
+
+pub fresh-agree : (cp : ℕ) → agree ((freshOf cp) .state) ≡ true
+unfolding freshOf freshState
+fresh-agree cp = go (ltb cp 1048576)
+  where
+    go : (b : Bool) → agree ((pick {A = Answer} b (record { number = 0; state = freshState cp }) (record { number = 10; state = freshState 0 })) .state) ≡ true
+    go true = blank-agree cp (boardWith true false false false)
+    go false = blank-agree 0 (boardWith true false false false)
