@@ -43,7 +43,7 @@ orderedMemory s m second =
     let o = orderTo s m second in
     writesMade m (writesOf (o .command) (o .block) (o .pb) (channelOf s second))
 
--- the refusal of what it is given: 12, 11, 10, 13
+-- the refusal of what it is given: 12, 11, 10, 13, 14
 unfoldable pub givenTo : State → Buffers → ℕ → ℕ
 givenTo s m channel = first (unless (isChannel channel) 12) (givenNumber s m)
 

@@ -64,7 +64,7 @@ attentionChecks s m channel =
     ∷ check 2 (OthersBeyond s m channel)
     ∷ [])
 
--- a condition that counts where 12, 11, 10 and 13 do not apply
+-- a condition that counts where 12, 11, 10, 13 and 14 do not apply
 abbrev pub AttentionAfterGiven : State → Buffers → ℕ → Type 0 → Type 0
 AttentionAfterGiven s m channel next = ¬ (NoChannel channel) × AfterGiven s m next
 

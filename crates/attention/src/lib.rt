@@ -56,7 +56,7 @@ pub struct Upshot {
     pub writes: Writes,
 }
 
-// The refusal of what an attention is given: 12, 11, 10, then 13, else 0.
+// The refusal of what an attention is given: 12, 11, 10, 13, then 14, else 0.
 fn given_number(s: State, sys: &[u8], io: &[u8], channel: u32) -> u32
     ensures { λ r. ⌜ r ≡ givenTo s (buffers (now (sys .entry)) (now (io .entry))) channel ⌝ }
 {

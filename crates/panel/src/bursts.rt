@@ -248,7 +248,7 @@ fn turn(
     }
 }
 
-// Rounds until a number other than 0 or the limit, of channels that no step refuses by 12, 11, 10 or 13.
+// Rounds until a number other than 0 or the limit, of channels that no step refuses by 12, 11, 10, 13 or 14.
 pub(crate) fn rounds(
     p: Pair,
     shared: Shared,

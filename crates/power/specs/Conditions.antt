@@ -4,6 +4,6 @@ use Rattle.memory.specs.Buffers.{Buffers}
 use Rattle.machine.specs.Conditions.{Check, check, TooLong, Beyond}
 use Rattle.power.specs.Power.{powerPlaces}
 
--- 11, then 2; there is no 10 and no 13
+-- 11, then 2; there is no 10, no 13 and no 14
 abbrev pub powerChecks : Buffers → List Check
 powerChecks m = check 11 (TooLong m) ∷ check 2 (Beyond m (powerPlaces m)) ∷ []

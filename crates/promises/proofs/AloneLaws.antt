@@ -11,16 +11,18 @@ use native.Mathlib.Decide.{decLt, decLe}
 use native.Mathlib.Omega.{arith}
 use Rattle.execute.specs.Execute.{Executed, executed, executeOf}
 use Rattle.machine.proofs.ConditionLaws.{running-is, says-running}
-use Rattle.machine.specs.Cc.{synchronised, chained, externalEnd}
 use Rattle.machine.specs.Outcomes.{first, unless, givenNumber}
 use Rattle.machine.specs.Psw.{transferring}
-use Rattle.machine.specs.States.{freshState, channelOf, withChannel, channelNumber, isRunning, sound, blockOf, busyIn}
+use Rattle.machine.proofs.FieldLaws.{put-agree, blank-agree}
+use Rattle.machine.specs.Conditions.{Ready}
+use Rattle.machine.specs.States.{boardWith, fieldsAgree, agree, freshState, channelOf, withChannel, channelNumber, isRunning, sound, blockOf, busyIn}
 use Rattle.machine.specs.declared.Channel.{Channel}
+use Rattle.machine.specs.declared.Fields.{Fields}
 use Rattle.machine.specs.declared.Mode.the-variants.{Running}
 use Rattle.machine.specs.declared.State.{State}
 use Rattle.memory.specs.Buffers.{Buffers, spaceOf, limitOf, withinLimits}
 use Rattle.step.proofs.OutcomeLaws.{other-kept, cp-kept, board-kept}
-use Rattle.step.proofs.SoundLaws.{sound-kept, entry-again}
+use Rattle.step.proofs.SoundLaws.{sound-kept, entry-again, entry-agree, step-agree}
 use Rattle.step.proofs.TouchedLaws.{lengths-kept}
 use Rattle.step.specs.Step.{refusedStep, doneStep, settledStep, instructionStep, chosenStep, entryNumber, stepOf}
 use Rattle.step.specs.declared.Kind.the-variants.{Instruction}
@@ -37,7 +39,7 @@ use Rattle.promises.specs.Totals.{movedAfter, total}
 use Rattle.promises.proofs.CopyLaws.{within-then, down}
 use Rattle.promises.proofs.InstructionLaws.{turn-executes}
 use Rattle.promises.proofs.MachineLaws.{demand3-calls}
-use Rattle.promises.proofs.StageLaws.{mid-cc}
+use Rattle.promises.proofs.StageLaws.{mid-fields}
 
 -- ---- its turn
 
@@ -77,14 +79,14 @@ module _ (b : Bool) (s : State) (m : Buffers) (lines : ℕ) (a : RunsAlone b s m
 
     -- to execute
     pub program-turn : transferring (channelOf s b .psw) ≡ false → Turn b s m lines
-    program-turn x = alone-turn (go (chained (channelOf s b .cc)) refl) (λ e. apart (sym (e .1) ∙ x))
+    program-turn x = alone-turn (go (channelOf s b .fields .chained) refl) (λ e. apart (sym (e .1) ∙ x))
       where
-        go : (z : Bool) → chained (channelOf s b .cc) ≡ z → HasRank (channelOf s b) (requested lines b)
+        go : (z : Bool) → channelOf s b .fields .chained ≡ z → HasRank (channelOf s b) (requested lines b)
         go true e = inl (running, inr (x, e))
         go false e = inr (running, x, e)
 
     -- and to transfer, unsynchronised and with no external end
-    pub transfer-turn : transferring (channelOf s b .psw) ≡ true → synchronised (channelOf s b .cc) ≡ 0 → externalEnd (channelOf s b .cc) ≡ 0 → Turn b s m lines
+    pub transfer-turn : transferring (channelOf s b .psw) ≡ true → channelOf s b .fields .synchronised ≡ 0 → channelOf s b .fields .externalEnd ≡ 0 → Turn b s m lines
     transfer-turn x y z = alone-turn (inl (running, inl (x, inl y))) (λ e. e .2 z)
 
 -- ---- it stays alone
@@ -94,29 +96,29 @@ pub limits-kept : (m m′ : Buffers) → ((u : Bool) → length (spaceOf m′ u)
 unfolding withinLimits spaceOf
 limits-kept m m′ e = ap₂ (λ (x y : ℕ). leb x (limitOf false) && leb y (limitOf true)) (e false) (e true)
 
--- none of 12, 11, 10 and 13 refuses the next step either
-entry-next : (s : State) (m : Buffers) (lines : ℕ) (s′ : State) (m′ : Buffers) → entryNumber s m lines ≡ 0 → sound s′ ≡ true → s′ .board ≡ s .board
+-- none of 12, 11, 10, 13 and 14 refuses the next step either
+entry-next : (s : State) (m : Buffers) (lines : ℕ) (s′ : State) (m′ : Buffers) → entryNumber s m lines ≡ 0 → sound s′ ≡ true → agree s′ ≡ true → s′ .board ≡ s .board
     → ((u : Bool) → length (spaceOf m′ u) ≡ length (spaceOf m u)) → entryNumber s′ m′ lines ≡ 0
-entry-next s m lines s′ m′ z h b e = entry-again s s′ m m′ lines z h b (limits-kept m m′ e)
+entry-next s m lines s′ m′ z h a b e = entry-again s s′ m m′ lines z h a b (limits-kept m m′ e)
 
 -- after a done step of its own
 pub alone-next : (b : Bool) (s : State) (m : Buffers) (lines : ℕ) → RunsAlone b s m lines → (stepOf s m lines) .number ≡ 0 → (stepOf s m lines) .channel ≡ channelNumber b
     → RunsAlone b ((stepOf s m lines) .state) ((stepOf s m lines) .memory) lines
 alone-next b s m lines a z e =
     record {
-      entered = entry-next s m lines ((stepOf s m lines) .state) ((stepOf s m lines) .memory) (a .entered) (sound-kept s m lines z) (board-kept s m lines) (lengths-kept s m lines);
+      entered = entry-next s m lines ((stepOf s m lines) .state) ((stepOf s m lines) .memory) (a .entered) (sound-kept s m lines z) (step-agree s m lines (entry-agree s m lines (a .entered))) (board-kept s m lines) (lengths-kept s m lines);
       idle = ap (λ (c : Channel). isRunning (c .mode)) (other-kept s m lines b e) ∙ a .idle;
     }
 
--- a step of a sound state that is powered up, in buffers within their limits, is refused by none of them
-pub entered : (s : State) (m : Buffers) (lines : ℕ) → lines < 16 → withinLimits m ≡ true → sound s ≡ true → s .board .powered ≡ true → entryNumber s m lines ≡ 0
+-- a step of a sound state that is powered up and agrees, in buffers within their limits, is refused by none of them
+pub entered : (s : State) (m : Buffers) (lines : ℕ) → lines < 16 → withinLimits m ≡ true → sound s ≡ true → Ready s → entryNumber s m lines ≡ 0
 unfolding entryNumber givenNumber first unless
-entered s m lines h w q p = rw (lt-ltb lines 16 h, w, q, p)
+entered s m lines h w q p = rw (lt-ltb lines 16 h, w, q, p .1, p .0)
 
--- as a fresh one is, whatever channel is put into it
-pub put-powered : (cp : ℕ) (b : Bool) (c : Channel) → (withChannel (freshState cp) b c) .board .powered ≡ true
+-- as a fresh one is, whatever channel that agrees is put into it
+pub put-ready : (cp : ℕ) (b : Bool) (c : Channel) → fieldsAgree c ≡ true → Ready (withChannel (freshState cp) b c)
 unfolding freshState withChannel
-put-powered cp b c = refl
+put-ready cp b c h = (refl, put-agree (freshState cp) b c (blank-agree cp (boardWith true false false false)) h)
 
 -- ---- its instruction
 
@@ -165,13 +167,13 @@ module _ (b : Bool) (n : ℕ) (s₀ : State) (m₀ : Buffers) (lines : ℕ) (p :
       g : Going n (channelOf s₀ b) m₀ k (channelOf s b) m
       g = demand3-calls p .before (t .calls) h
 
-      cc : channelOf s b .cc ≡ channelOf s₀ b .cc
-      cc = ap (λ (c : Channel). c .cc) (g .registers) ∙ mid-cc (channelOf s₀ b) n (movedAfter (channelOf s₀ b) n k)
+      fields : channelOf s b .fields ≡ channelOf s₀ b .fields
+      fields = ap (λ (c : Channel). c .fields) (g .registers) ∙ mid-fields (channelOf s₀ b) n (movedAfter (channelOf s₀ b) n k)
 
       turn : Turn b s m lines
       turn =
           transfer-turn b s m lines (t .alone) (g .runs) (g .transfers)
-          (ap synchronised cc ∙ p .plain .unsynchronised) (ap externalEnd cc ∙ p .plain .unended)
+          (ap (λ (f : Fields). f .synchronised) fields ∙ p .plain .unsynchronised) (ap (λ (f : Fields). f .externalEnd) fields ∙ p .plain .unended)
 
       moves : Moves b n s₀ s m lines
       moves = demand3-calls p .turns (t .calls) h lines turn

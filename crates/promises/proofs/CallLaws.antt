@@ -9,7 +9,6 @@ use native.Mathlib.Decide.{ℕ-discrete}
 use Rattle.attention.specs.Attention.{givenTo, attentionNumber, attentionOf, orderedChannel as attended, orderedMemory as attendedMemory}
 use Rattle.execute.specs.Execute.{executeOf}
 use Rattle.machine.proofs.ChannelLaws.{put-same, put-other, last-channel}
-use Rattle.machine.specs.Cc.{externalEnd}
 use Rattle.machine.specs.Outcomes.{outcome, unless, first, settled}
 use Rattle.machine.specs.Psw.{transferring, priority}
 use Rattle.machine.specs.States.{channelOf, withChannel, blockOf, busyIn, isChannel, isSecond, channelNumber}
@@ -127,12 +126,12 @@ ranked-none s r₁ r₂ b = go (eqb r₁ noRank && eqb r₂ noRank)
     go false = refl
 
 -- with TX off no external end is due
-ends-not : (c : Channel) (ext : Bool) → externalEnd (c .cc) ≡ 0 → endsNow c ext ≡ false
+ends-not : (c : Channel) (ext : Bool) → c .fields .externalEnd ≡ 0 → endsNow c ext ≡ false
 unfolding endsNow
-ends-not c ext e = rw (eq-eqb (externalEnd (c .cc)) 0 e, and-false)
+ends-not c ext e = rw (eq-eqb (c .fields .externalEnd) 0 e, and-false)
 
 -- with TX off no end is a channel's
-choice-not : (s : State) (lines : ℕ) (b : Bool) → externalEnd (channelOf s b .cc) ≡ 0 → endsIt (choiceOf s lines) b ≡ false
+choice-not : (s : State) (lines : ℕ) (b : Bool) → channelOf s b .fields .externalEnd ≡ 0 → endsIt (choiceOf s lines) b ≡ false
 unfolding choiceOf channelOf
 choice-not s lines true e = rw (ends-not (s .second) (external lines true) e) (go (endsNow (s .first) (external lines false)))
   where
@@ -152,7 +151,7 @@ choice-not s lines false e = rw (ends-not (s .first) (external lines false) e) (
     go false = ranked-none s (rankOf (s .first) (requested lines false)) (rankOf (s .second) (requested lines true)) false
 
 -- so a step call that is not the channel's turn leaves it alone
-pub step-kept : (b : Bool) (s : State) (m : Buffers) (lines : ℕ) → externalEnd (channelOf s b .cc) ≡ 0 → (Turn b s m lines → ⊥)
+pub step-kept : (b : Bool) (s : State) (m : Buffers) (lines : ℕ) → channelOf s b .fields .externalEnd ≡ 0 → (Turn b s m lines → ⊥)
     → channelOf ((stepOf s m lines) .state) b ≡ channelOf s b
 unfolding stepOf
 step-kept b s m lines e ne = go (ℕ-discrete (entryNumber s m lines) 0)

@@ -5,9 +5,10 @@ use mathlib.Core.Bool.{Bool, true, false, not}
 use mathlib.Core.List.{List}
 use mathlib.Core.Path.{_≡_, refl, sym, ap, subst, _∙_}
 use native.Mathlib.Omega.{arith}
+use Rattle.machine.specs.Cc.{split, sameFlag, sameFields}
 use Rattle.machine.specs.Outcomes.{givenNumber}
 use Rattle.machine.specs.Psw.{transferring}
-use Rattle.machine.specs.States.{channelOf, withChannel, withLast, soundChannel, sound, isRunning, channelNumber}
+use Rattle.machine.specs.States.{channelOf, withChannel, withLast, soundChannel, sound, isRunning, channelNumber, fieldsAgree, agree}
 use Rattle.machine.specs.declared.State.{State}
 use Rattle.memory.proofs.SpanLaws.{span-at}
 use Rattle.memory.specs.Buffers.{Buffers, spaceOf, limitOf, indexOf, lentAt, beyondIn, byteAt, withinLimits}
@@ -20,7 +21,7 @@ use Rattle.step.specs.declared.turns.Choice.the-variants.{Nobody, Ends, Steps}
 use Rattle.step.specs.declared.Kind.the-variants.{Transfer}
 use Rattle.transfer.specs.Sides.{source, destination}
 use Rattle.words.proofs.ChoiceLaws.{apart}
-use Rattle.words.specs.Bits.{bitOf}
+use Rattle.words.specs.Bits.{bitOf, fieldOf}
 use Rattle.promises.specs.Calls.{Calls, EndsAtCall, begin, transfer, step}
 use Rattle.promises.specs.Premises.{Lent}
 use Rattle.promises.specs.Rows.{Untouched}
@@ -116,7 +117,7 @@ theirs {k} s m s′ m′ r b u e =
 -- what channel 2's steps leave alone
 spared : (a b c d e a′ b′ c′ d′ e′ : ℕ) (io : List ℕ) → Lent (memoryWith (six a′ b′ c′ d′ e′) io) (pointer 16 true) 5
     → Untouched (narrowAt 0 16 5) 5 (memoryWith (six a b c d e) io) (memoryWith (six a′ b′ c′ d′ e′) io)
-unfolding channelWith memoryWith source destination bitOf byteAt beyondIn lentAt spaceOf indexOf limitOf
+unfolding channelWith memoryWith source destination bitOf byteAt beyondIn lentAt spaceOf indexOf limitOf split
 spared a b c d e a′ b′ c′ d′ e′ io l =
     record {
       fromLeft = record { bytes = five (λ i. _) refl refl refl refl refl; lent = five (λ i. _) refl refl refl refl refl };
@@ -125,7 +126,7 @@ spared a b c d e a′ b′ c′ d′ e′ io l =
 
 -- a step call with all that it is made of laid open, so that it computes
 unfoldable pub stepOpen : State → Buffers → ℕ → Step
-unfolding stepOf chosenStep channelStep transferStep settledStep choiceOf endsNow external requested rankOf transferRank secondWins ranked isRunning entryNumber givenNumber withinLimits sound soundChannel channelOf withChannel withLast channelNumber bothWith transferOpen
+unfolding stepOf chosenStep channelStep transferStep settledStep choiceOf endsNow external requested rankOf transferRank secondWins ranked isRunning entryNumber givenNumber withinLimits sound soundChannel agree fieldsAgree sameFields sameFlag split channelOf withChannel withLast channelNumber bothWith transferOpen bitOf fieldOf
 stepOpen s m lines = stepOf s m lines
 
 -- each call, computed: channel 1 and channel 2 take turns, and channel 1 goes on when channel 2's transfer has ended

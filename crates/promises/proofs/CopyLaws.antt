@@ -7,7 +7,6 @@ use mathlib.Core.Path.{_≡_, refl, sym, ap, _∙_}
 use native.Mathlib.Decide.{decLe, ℕ-discrete}
 use native.Mathlib.Nat.{add-assoc}
 use native.Mathlib.Omega.{arith}
-use Rattle.machine.specs.Cc.{synchronised}
 use Rattle.machine.specs.declared.Channel.{Channel}
 use Rattle.memory.proofs.PlaceLaws.{index-reduced, index-after, touchable-index, byte-index, store-index, byte-reduced, store-reduced}
 use Rattle.memory.proofs.StoreLaws.{lent-touchable, store-length, read-other}
@@ -108,7 +107,7 @@ copied-on-two p q j m =
 
 -- a step of a channel whose sides are on by j, where one byte moves
 step-one : (c : Channel) (m : Buffers) (p q : Pointer) (j : ℕ) → (source c) .pointer ≡ onBy p j → (destination c) .pointer ≡ onBy q j
-    → Block (c .cc) → (synchronised (c .cc) ≡ 3 → ⊥) → twoMove c ≡ false
+    → Block (c .fields) → (c .fields .synchronised ≡ 3 → ⊥) → twoMove c ≡ false
     → lentAt m (p .tag) (p .address + j) ≡ true → lentAt m (q .tag) (q .address + j) ≡ true
     → transferOf c m ≡ transferred 0 (movedChannel c (dataOf c m)) (put1 p q j m)
 step-one c m p q j es ed b ne one lp lq =
@@ -117,7 +116,7 @@ step-one c m p q j es ed b ne one lp lq =
 
 -- and one that moves two
 step-two : (c : Channel) (m : Buffers) (p q : Pointer) (j : ℕ) → (source c) .pointer ≡ onBy p j → (destination c) .pointer ≡ onBy q j
-    → Block (c .cc) → (synchronised (c .cc) ≡ 3 → ⊥) → twoMove c ≡ true
+    → Block (c .fields) → (c .fields .synchronised ≡ 3 → ⊥) → twoMove c ≡ true
     → lentAt m (p .tag) (p .address + j) ≡ true → lentAt m (p .tag) (p .address + (j + 1)) ≡ true
     → lentAt m (q .tag) (q .address + j) ≡ true → lentAt m (q .tag) (q .address + (j + 1)) ≡ true
     → transferOf c m ≡ transferred 0 (movedChannel c (dataOf c m)) (put2 p q j m)

@@ -8,7 +8,9 @@ use mathlib.Core.Bool.{Bool, true, false, not}
 use mathlib.Core.Path.{_≡_, refl, sym, ap, subst, _∙_}
 use native.Mathlib.Omega.{arith}
 use Rattle.machine.proofs.ChannelLaws.{put-same, put-other}
-use Rattle.machine.specs.States.{freshState, idleChannel, channelOf, withLast, soundChannel, sound, isRunning}
+use Rattle.machine.specs.States.{freshState, idleChannel, channelOf, withLast, soundChannel, sound, fieldsAgree, isRunning}
+use Rattle.machine.proofs.FieldLaws.{agrees}
+use Rattle.machine.specs.Cc.{split}
 use Rattle.machine.specs.declared.Channel.{Channel}
 use Rattle.memory.proofs.PlaceLaws.{index-small}
 use Rattle.memory.specs.Buffers.{spaceOf, limitOf, indexOf, lentAt, withinLimits}
@@ -21,7 +23,7 @@ use Rattle.promises.specs.Met.{pswOf, copying, zerosOf, zeros, onlyIn, M
 use Rattle.promises.specs.Premises.{Plain, Copy}
 use Rattle.promises.specs.Totals.{total}
 use Rattle.promises.specs.Witness.{channelWith}
-use Rattle.promises.proofs.AloneLaws.{entered, put-powered, through}
+use Rattle.promises.proofs.AloneLaws.{entered, put-ready, through}
 use Rattle.promises.proofs.CaseLaws.{total-8, total-even, total-odd, total-mixed}
 
 -- ---- the memory
@@ -47,12 +49,12 @@ zeros-within = within-of 1048576 (omega arith)
 module _ (from into : ℕ) (fromWide intoWide : Bool) (n : ℕ) (low : from < 1048576) (high : into < 1048576) where
   -- no pointer is past 20 bits
   sound-met : soundChannel (copying from into fromWide intoWide n) ≡ true
-  unfolding copying channelWith soundChannel
+  unfolding copying channelWith soundChannel split
   sound-met = rw (lt-ltb from 1048576 low, lt-ltb into 1048576 high)
 
   -- every premise on the channel
   plain-met : Plain (copying from into fromWide intoWide n)
-  unfolding copying channelWith isRunning bitOf fieldOf
+  unfolding copying channelWith isRunning split bitOf fieldOf
   plain-met =
       record {
         runs = refl;
@@ -66,6 +68,7 @@ module _ (from into : ℕ) (fromWide intoWide : Bool) (n : ℕ) (low : from < 10
         unended = refl;
         ongoing = refl;
         sound = sound-met;
+        agree = agrees (copying from into fromWide intoWide n) refl;
       }
     where
       flag : (s d : Bool) → bitOf (pswOf s d) 6 ≡ true
@@ -77,7 +80,7 @@ module _ (from into : ℕ) (fromWide intoWide : Bool) (n : ℕ) (low : from < 10
 -- every premise on the start
 pub copy-met : (from into : ℕ) (fromWide intoWide : Bool) (n : ℕ) → 1 ≤ n → n ≤ 65536 → from + n ≤ into → into + n ≤ 1048576
     → Copy n (copying from into fromWide intoWide n) zeros
-unfolding copying channelWith source destination bitOf indexOf limitOf
+unfolding copying channelWith source destination bitOf indexOf limitOf split
 copy-met from into fromWide intoWide n some most before fits =
     record {
       plain = plain-met from into fromWide intoWide n (omega arith) (omega arith);
@@ -92,7 +95,7 @@ copy-met from into fromWide intoWide n some most before fits =
 -- ---- the calls
 
 -- the channel alone in a state
-module _ (b : Bool) (c : Channel) (q : soundChannel c ≡ true) where
+module _ (b : Bool) (c : Channel) (q : soundChannel c ≡ true) (a : fieldsAgree c ≡ true) where
   only-sound : sound (onlyIn b c) ≡ true
   unfolding sound withLast
   only-sound = done-sound (freshState 0) b c (unfold freshState idleChannel sound soundChannel in refl) q
@@ -101,7 +104,7 @@ module _ (b : Bool) (c : Channel) (q : soundChannel c ≡ true) where
   unfolding freshState channelOf idleChannel isRunning
   only-alone =
       record {
-        entered = entered (onlyIn b c) zeros 0 (lit< tt) zeros-within only-sound (put-powered 0 b c);
+        entered = entered (onlyIn b c) zeros 0 (lit< tt) zeros-within only-sound (put-ready 0 b c a);
         idle = ap (λ (d : Channel). isRunning (d .mode)) (put-other (freshState 0) b c) ∙ idle b;
       }
     where
@@ -113,7 +116,7 @@ module _ (b : Bool) (c : Channel) (q : soundChannel c ≡ true) where
 met : {sides : Channel → Type 0} {count steps : ℕ} (b : Bool) (from into : ℕ) (fromWide intoWide : Bool) (n : ℕ) → 1 ≤ n → n ≤ 65536
     → from + n ≤ into → into + n ≤ 1048576 → n % 65536 ≡ count → sides (copying from into fromWide intoWide n)
     → total (copying from into fromWide intoWide n) n ≡ steps → Met sides count steps b
-unfolding copying channelWith
+unfolding copying channelWith split
 met {sides} b from into fromWide intoWide n some most before fits first such e =
     record {
       state = onlyIn b c;
@@ -123,7 +126,7 @@ met {sides} b from into fromWide intoWide n some most before fits first such e =
       first = ap (λ (d : Channel). d .bc) same ∙ first;
       such = subst sides (sym same) such;
       row =
-          through b n (onlyIn b c) zeros 0 copy (only-alone b c (k .plain .sound)) _
+          through b n (onlyIn b c) zeros 0 copy (only-alone b c (k .plain .sound) (k .plain .agree)) _
           (omega (arith, e, ap (λ (d : Channel). total d n) same));
     }
   where
@@ -144,26 +147,26 @@ met {sides} b from into fromWide intoWide n some most before fits first such e =
 module _ (b : Bool) (n : ℕ) (some : 1 ≤ n) (most : n ≤ 65536) where
   -- both widths 8
   met-8 : Met Both8 (n % 65536) n b
-  unfolding copying channelWith source destination bitOf
+  unfolding copying channelWith source destination bitOf split
   met-8 = met b 0 65536 false false n some most (omega arith) (omega arith) refl (refl, refl) (total-8 (copying 0 65536 false false n) n (refl, refl) some)
 
   -- both 16 and even
   met-even : Met Both16Even (n % 65536) ((n + 1) / 2) b
-  unfolding copying channelWith source destination bitOf
+  unfolding copying channelWith source destination bitOf split
   met-even =
       met b 0 65536 true true n some most (omega arith) (omega arith) refl ((refl, refl), refl, refl)
       (total-even (copying 0 65536 true true n) n ((refl, refl), refl, refl) some)
 
   -- both 16 and odd
   met-odd : Met Both16Odd (n % 65536) (1 + n / 2) b
-  unfolding copying channelWith source destination bitOf
+  unfolding copying channelWith source destination bitOf split
   met-odd =
       met b 1 65537 true true n some most (omega arith) (omega arith) refl ((refl, refl), refl, refl)
       (total-odd (copying 1 65537 true true n) n ((refl, refl), refl, refl) some)
 
   -- from 16 at an odd address into 8
   met-mixed : Met From16OddInto8 (n % 65536) (1 + n / 2) b
-  unfolding copying channelWith source destination bitOf
+  unfolding copying channelWith source destination bitOf split
   met-mixed =
       met b 1 65537 true false n some most (omega arith) (omega arith) refl (refl, refl, refl)
       (total-mixed (copying 1 65537 true false n) n (refl, refl, refl) some)

@@ -46,6 +46,7 @@ only-control before after e = record {
   ix = ap (λ (c : Channel). c .ix) e;
   cc = ap (λ (c : Channel). c .cc) e;
   mc = ap (λ (c : Channel). c .mc) e;
+  fields = ap (λ (c : Channel). c .fields) e;
 }
 
 pub attention-does : (s : State) (m : Buffers) (channel : ℕ) → AttentionDoes s m channel

@@ -5,7 +5,6 @@ use mathlib.Core.Bool.{true, false}
 use mathlib.Core.Path.{_≡_, refl, sym, subst, _∙_}
 use native.Mathlib.Decide.{decLt}
 use native.Mathlib.Omega.{arith}
-use Rattle.machine.specs.Cc.{countEnd}
 use Rattle.machine.specs.Psw.{transferring, withPsw}
 use Rattle.machine.specs.States.{isRunning}
 use Rattle.machine.specs.declared.Channel.{Channel}
@@ -68,7 +67,7 @@ unfolding finished withTransfer withPsw
 end-over c n = bit-same (c .psw) 6 false
 
 -- TP has gained the offset of TBC
-end-tp : (c : Channel) (n : ℕ) → (finished c n) .tp ≡ onBy (c .tp) (offsetOf (countEnd (c .cc)))
+end-tp : (c : Channel) (n : ℕ) → (finished c n) .tp ≡ onBy (c .tp) (offsetOf (c .fields .countEnd))
 unfolding finished withTransfer
 end-tp c n = refl
 

@@ -8,13 +8,14 @@ use mathlib.Core.Bool.{true, false}
 use mathlib.Core.List.{List, _++_}
 use mathlib.Core.Path.{_≡_, refl}
 use native.Mathlib.Omega.{arith}
+use Rattle.machine.specs.Cc.{split, sameFlag, sameFields}
 use Rattle.machine.specs.Outcomes.{unless, first, givenNumber}
-use Rattle.machine.specs.States.{idleChannel, channelOf, soundChannel, sound, isRunning}
+use Rattle.machine.specs.States.{idleChannel, channelOf, soundChannel, sound, isRunning, fieldsAgree, agree}
 use Rattle.memory.specs.Buffers.{spaceOf, limitOf, indexOf, lentAt, beyondIn, byteAt, withinLimits}
 use Rattle.memory.specs.Values.{pointer}
 use Rattle.step.specs.Choosing.{requested, external, endsNow, transferRank, rankOf, secondWins, ranked, choiceOf}
 use Rattle.step.specs.Step.{entryNumber}
-use Rattle.words.specs.Bits.{bitOf}
+use Rattle.words.specs.Bits.{bitOf, fieldOf}
 use Rattle.promises.specs.Cases.{Stand, Executes}
 use Rattle.promises.specs.Witness.{channelWith, bothWith, programAt, bytesFrom}
 
@@ -40,10 +41,10 @@ module _ (a : ℕ) (code : List ℕ) (fits : a + length code ≤ 1048576) where
 
   -- no number refuses the call
   entered : a < 1048576 → entryNumber (programAt a) (bytesFrom a code) 0 ≡ 0
-  unfolding entryNumber givenNumber first unless withinLimits limitOf sound soundChannel bothWith channelWith idleChannel
+  unfolding entryNumber givenNumber first unless withinLimits limitOf sound soundChannel agree fieldsAgree sameFields sameFlag split bothWith channelWith idleChannel bitOf fieldOf
   entered h = rw (ends, le-leb (a + length code) 1048576 fits, lt-ltb a 1048576 h)
 
   -- and it is channel 1's turn to execute them
   pub executes-met : a < 1048576 → Executes false (programAt a) (bytesFrom a code) 0 code
-  unfolding channelOf bothWith channelWith idleChannel bitOf choiceOf ranked secondWins rankOf transferRank endsNow external requested isRunning
+  unfolding channelOf bothWith channelWith idleChannel bitOf choiceOf ranked secondWins rankOf transferRank endsNow external requested isRunning split
   executes-met h = record { turn = record { entered = entered h; chosen = refl }; program = refl; there = stand }

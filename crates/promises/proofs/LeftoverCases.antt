@@ -5,6 +5,7 @@ use lib.Dec.{lit≤}
 use mathlib.Core.Bool.{true, false}
 use mathlib.Core.Path.{_≡_, refl}
 use Prim.Native.Nat.{_-_}
+use Rattle.machine.specs.Cc.{split}
 use Rattle.machine.specs.Registers.{withRegister}
 use Rattle.machine.specs.States.{idleChannel, channelOf}
 use Rattle.machine.specs.declared.State.{State}

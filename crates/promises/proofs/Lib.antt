@@ -1,3 +1,4 @@
+pub mod AgreeLaws
 pub mod CountLaws
 pub mod HeldLaws
 pub mod StageLaws
@@ -30,6 +31,7 @@ pub mod Showpiece
 pub mod ImageLaws
 pub mod Made
 pub mod Powering
+pub mod Fields
 pub mod BoardWitness
 pub mod SheetLaws
 pub mod SheetAttention

@@ -4,10 +4,10 @@ use Prim.Native.Nat.{ℕ, suc}
 use mathlib.Core.Bool.{Bool, true}
 use mathlib.Core.Path.{_≡_, refl, sym, ap, subst, _∙_}
 use Rattle.attention.specs.Attention.{attentionOf}
-use Rattle.machine.specs.Cc.{externalEnd}
 use Rattle.machine.specs.Psw.{transferring}
 use Rattle.machine.specs.States.{channelOf, channelNumber}
 use Rattle.machine.specs.declared.Channel.{Channel}
+use Rattle.machine.specs.declared.Fields.{Fields}
 use Rattle.machine.specs.declared.State.{State}
 use Rattle.memory.specs.Buffers.{Buffers}
 use Rattle.step.specs.Step.{Step, doneStep, stepOf}
@@ -25,15 +25,15 @@ use Rattle.promises.proofs.CallLaws.{turn-is, settled-done, transfer-ch
 use Rattle.promises.proofs.Demand3.{going, ended}
 
 -- a transfer step leaves CC
-transfer-cc : (c : Channel) (m : Buffers) → (transferOf c m) .channel .cc ≡ c .cc
+transfer-fields : (c : Channel) (m : Buffers) → (transferOf c m) .channel .fields ≡ c .fields
 unfolding withTransfer
-transfer-cc c m = ap (λ (x : Channel). x .cc) (only-these c m)
+transfer-fields c m = ap (λ (x : Channel). x .fields) (only-these c m)
 
 -- and so over the row
-row-cc : {n : ℕ} {c₀ : Channel} {m₀ : Buffers} {k : ℕ} {c : Channel} {m : Buffers} → Row n c₀ m₀ k c m → c .cc ≡ c₀ .cc
-row-cc start = refl
-row-cc (steps {c = c} {m = m} r) = transfer-cc c m ∙ row-cc r
-row-cc (other r u) = row-cc r
+row-fields : {n : ℕ} {c₀ : Channel} {m₀ : Buffers} {k : ℕ} {c : Channel} {m : Buffers} → Row n c₀ m₀ k c m → c .fields ≡ c₀ .fields
+row-fields start = refl
+row-fields (steps {c = c} {m = m} r) = transfer-fields c m ∙ row-fields r
+row-fields (other r u) = row-fields r
 
 -- its transfer step, for the channel
 row-transfer : (b : Bool) (n : ℕ) (c₀ : Channel) (m₀ : Buffers) (k : ℕ) (s : State) (m : Buffers) (lines : ℕ) → Turn b s m lines
@@ -42,10 +42,10 @@ row-transfer : (b : Bool) (n : ℕ) (c₀ : Channel) (m₀ : Buffers) (k : ℕ) 
 row-transfer b n c₀ m₀ k s m lines t x r = rw (turn-is b s m lines t x, transfer-channel b s m, transfer-memory b s m) (steps r)
 
 -- a step call that is not its turn
-row-step : (b : Bool) (n : ℕ) (c₀ : Channel) (m₀ : Buffers) (k : ℕ) (s : State) (m : Buffers) (lines : ℕ) → externalEnd (c₀ .cc) ≡ 0 → (Turn b s m lines → ⊥)
+row-step : (b : Bool) (n : ℕ) (c₀ : Channel) (m₀ : Buffers) (k : ℕ) (s : State) (m : Buffers) (lines : ℕ) → c₀ .fields .externalEnd ≡ 0 → (Turn b s m lines → ⊥)
     → Untouched c₀ n m ((stepOf s m lines) .memory) → Row n c₀ m₀ k (channelOf s b) m
     → Row n c₀ m₀ k (channelOf ((stepOf s m lines) .state) b) ((stepOf s m lines) .memory)
-row-step b n c₀ m₀ k s m lines e ne u r = rw (step-kept b s m lines (ap externalEnd (row-cc r) ∙ e) ne) (other r u)
+row-step b n c₀ m₀ k s m lines e ne u r = rw (step-kept b s m lines (ap (λ (f : Fields). f .externalEnd) (row-fields r) ∙ e) ne) (other r u)
 
 -- an attention that is not to it
 row-attention : (b : Bool) (n : ℕ) (c₀ : Channel) (m₀ : Buffers) (k : ℕ) (s : State) (m : Buffers) (channel : ℕ) → (channel ≡ channelNumber b → ⊥)
@@ -54,7 +54,7 @@ row-attention : (b : Bool) (n : ℕ) (c₀ : Channel) (m₀ : Buffers) (k : ℕ)
 row-attention b n c₀ m₀ k s m channel ne u r = rw (attention-kept b s m channel ne) (other r u)
 
 -- the calls, for the channel
-pub row-of : {b : Bool} {n : ℕ} {s₀ : State} {m₀ : Buffers} {k : ℕ} {s : State} {m : Buffers} → externalEnd (channelOf s₀ b .cc) ≡ 0
+pub row-of : {b : Bool} {n : ℕ} {s₀ : State} {m₀ : Buffers} {k : ℕ} {s : State} {m : Buffers} → channelOf s₀ b .fields .externalEnd ≡ 0
     → Calls b n s₀ m₀ k s m → Row n (channelOf s₀ b) m₀ k (channelOf s b) m
 row-of e begin = start
 row-of {b} {n} {s₀} {m₀} e (transfer {k = k} {s = s} {m = m} r lines t x) = row-transfer b n (channelOf s₀ b) m₀ k s m lines t x (row-of e r)
@@ -86,7 +86,7 @@ moves b n s₀ m₀ k s m lines g t =
 -- the demand on the whole machine: the transfer ends at the channel's transfer step that is the total, and not before
 pub demand3-calls : {b : Bool} {n : ℕ} {s : State} {m : Buffers} → Copy n (channelOf s b) m → EndsAtCall b n s m (total (channelOf s b) n)
 demand3-calls {b} {n} {s = s₀} {m = m₀} p =
-    let e : externalEnd (channelOf s₀ b .cc) ≡ 0 = p .plain .unended in
+    let e : channelOf s₀ b .fields .externalEnd ≡ 0 = p .plain .unended in
     record {
       before = λ r h. going p (row-of e r) h;
       turns = λ {j} {s} {m} r h lines t. moves b n s₀ m₀ j s m lines (going p (row-of e r) h) t;

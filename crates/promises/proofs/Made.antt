@@ -1,15 +1,15 @@
--- Every state that calls make from a fresh one or from a power-up is sound and powered up, so none of them is ever refused by 10 or by 13; and 3 and 4 of an instruction by the rows of the table.
+-- Every state that calls make from a fresh one or from a power-up is sound, powered up and agrees, so none of them is ever refused by 10, 13 or 14; and 3 and 4 of an instruction by the rows of the table.
 -- Assumes nothing.
 use lib.Dec.{eqb}
 use borrow.Author.Tests.{eqb-true, eqb-false}
 use mathlib.Core.Bool.{Bool, true, false}
 use mathlib.Core.Logic.{_↔_, Iff·trans}
 use mathlib.Core.Path.{_≡_, refl, sym, ap, _∙_}
-use Prim.Native.Nat.{ℕ}
+use Prim.Native.Nat.{ℕ, _≤_}
 use native.Mathlib.Omega.{arith}
-use Rattle.attention.proofs.Numbers.{attention-powered}
+use Rattle.attention.proofs.Numbers.{attention-ready}
 use Rattle.attention.proofs.Outcomes.{refused-nothing, shared-kept}
-use Rattle.attention.proofs.SoundLaws.{attention-sound}
+use Rattle.attention.proofs.SoundLaws.{attention-sound, attention-agree}
 use Rattle.attention.specs.Attention.{attentionOf}
 use Rattle.decode.proofs.Outcomes.{three-exactly, four-exactly}
 use Rattle.decode.specs.Reading.{numberOf}
@@ -19,18 +19,19 @@ use Rattle.execute.specs.Conditions.{NoCode, ControlTouched}
 use Rattle.execute.specs.Execute.{decodedAt}
 use Rattle.execute_operands.specs.Operands.{byteHere}
 use Rattle.machine.proofs.ChannelLaws.{fresh-sound, fresh-powered}
+use Rattle.machine.proofs.FieldLaws.{fresh-agree}
 use Rattle.machine.specs.Outcomes.{Outcome}
-use Rattle.machine.specs.States.{sound}
+use Rattle.machine.specs.States.{sound, agree}
 use Rattle.machine.specs.declared.Board.{Board}
 use Rattle.machine.specs.declared.Channel.{Channel}
 use Rattle.machine.specs.declared.State.{State}
 use Rattle.memory.specs.Buffers.{Buffers, AllBytes}
 use Rattle.memory.specs.Values.{onward}
-use Rattle.power.proofs.Outcomes.{power-accepted, found-sound, found-powered}
+use Rattle.power.proofs.Outcomes.{power-accepted, found-sound, found-powered, found-agree}
 use Rattle.power.specs.Power.{powerUpOf}
-use Rattle.step.proofs.NumberLaws.{step-powered}
+use Rattle.step.proofs.NumberLaws.{step-ready}
 use Rattle.step.proofs.OutcomeLaws.{refused, board-kept}
-use Rattle.step.proofs.SoundLaws.{sound-kept}
+use Rattle.step.proofs.SoundLaws.{sound-kept, step-agree}
 use Rattle.step.specs.Step.{Step, stepOf}
 use Rattle.promises.specs.Made.{Made, NoRow, RowUsesControl}
 use Rattle.promises.specs.Made.Made.{fresh, power, attention, step}
@@ -69,12 +70,19 @@ made-powered (power s m e) = ap (λ (o : Outcome). o .state .board .powered) (po
 made-powered (attention {s} made m bytes channel) = ap (λ (b : Board). b .powered) (shared-kept s m channel .2) ∙ made-powered made
 made-powered (step {s} made m lines) = ap (λ (b : Board). b .powered) (board-kept s m lines) ∙ made-powered made
 
--- so no attention to it and no step of it is 13
-pub made-attends : {s : State} → Made s → (m : Buffers) (channel : ℕ) → ¬ (attentionOf s m channel .number ≡ 13)
-made-attends {s} made m channel e = omega (arith, attention-powered s m channel (made-powered made), e)
+-- the fields of every such state are those of CC
+pub made-agree : {s : State} → Made s → agree s ≡ true
+made-agree (fresh cp) = fresh-agree cp
+made-agree (power s m e) = ap (λ (o : Outcome). agree (o .state)) (power-accepted s m e) ∙ found-agree m
+made-agree (attention {s} made m bytes channel) = attention-agree s m channel (made-agree made)
+made-agree (step {s} made m lines) = step-agree s m lines (made-agree made)
 
-pub made-steps : {s : State} → Made s → (m : Buffers) (lines : ℕ) → ¬ (stepOf s m lines .number ≡ 13)
-made-steps {s} made m lines e = omega (arith, step-powered s m lines (made-powered made), e)
+-- so no attention to it and no step of it is 13 or 14
+pub made-attends : {s : State} → Made s → (m : Buffers) (channel : ℕ) → attentionOf s m channel .number ≤ 12
+made-attends {s} made m channel = attention-ready s m channel (made-powered made, made-agree made)
+
+pub made-steps : {s : State} → Made s → (m : Buffers) (lines : ℕ) → stepOf s m lines .number ≤ 12
+made-steps {s} made m lines = step-ready s m lines (made-powered made, made-agree made)
 
 -- ---- 3 and 4 in the rows' own words
 

@@ -16,10 +16,11 @@ use Rattle.execute_deeds.specs.JumpForms.{callDeed}
 use Rattle.execute_deeds.specs.MemoryForms.{movpStoreDeed}
 use Rattle.execute_deeds.specs.RegisterForms.{movpLoadDeed}
 use Rattle.execute.specs.Execute.{decodedAt, performed, deedOf, laterBytes, laterFrom, deedFrom, stagesFrom, instructionStages, executeNumber, executeOf}
+use Rattle.machine.specs.Cc.{split, sameFlag, sameFields}
 use Rattle.machine.specs.Outcomes.{unless, first, givenNumber}
 use Rattle.machine.specs.Stages.{stagesNumber}
 use Rattle.machine.specs.Registers.{byRRR, registerOf, tagOf, withRegister, baseOf}
-use Rattle.machine.specs.States.{freshState, idleChannel, channelOf, withChannel, withLast, soundChannel, sound, isRunning, blockOf, busyIn, channelNumber}
+use Rattle.machine.specs.States.{freshState, idleChannel, channelOf, withChannel, withLast, soundChannel, sound, isRunning, blockOf, busyIn, channelNumber, fieldsAgree, agree}
 use Rattle.machine.specs.declared.Channel.{Channel}
 use Rattle.machine.specs.declared.Mode.the-variants.{Running}
 use Rattle.memory.proofs.SpanLaws.{span-at}
@@ -54,6 +55,7 @@ running =
       psw = 4;
       mode = Running;
       armed = false;
+      fields = split 0;
     }
 
 -- the operand [GA], of W 1 or 0
@@ -81,7 +83,7 @@ abbrev calls : List ℕ
 calls = 0x88 ∷ 0x9C ∷ 0 ∷ 0x41 ∷ 0x8C ∷ []
 
 both-go : GoesAndComes movps (MovpStore 1 (atGa true)) (atGa true) × GoesAndComes calls (Call (atGa false) false) (atGa false)
-unfolding stepOf entryNumber givenNumber first unless withinLimits limitOf spaceOf indexOf touchableAt lentAt byteAt beyondIn storeByte allPass span sound soundChannel freshState idleChannel channelOf withChannel withLast isRunning blockOf channelNumber requested external endsNow transferRank rankOf secondWins ranked choiceOf settledStep busyIn instructionStep channelStep chosenStep fieldOf bitOf decodedAt performed deedOf laterBytes laterFrom deedFrom stagesFrom instructionStages stagesNumber executeNumber executeOf onward renewed usedUp pastInstruction placesOf changed storedValue pairOf lookup decodeOf table lengthOf dataLength displacementLength offsetLength movpStoreDeed movpLoadDeed callDeed effective grown baseOf registerOf tagOf byRRR withRegister pointerAt indexed jumpedIf landing displacementAt displacedBy signedOf
+unfolding stepOf entryNumber givenNumber first unless withinLimits limitOf spaceOf indexOf touchableAt lentAt byteAt beyondIn storeByte allPass span sound soundChannel agree fieldsAgree sameFields sameFlag split freshState idleChannel channelOf withChannel withLast isRunning blockOf channelNumber requested external endsNow transferRank rankOf secondWins ranked choiceOf settledStep busyIn instructionStep channelStep chosenStep fieldOf bitOf decodedAt performed deedOf laterBytes laterFrom deedFrom stagesFrom instructionStages stagesNumber executeNumber executeOf onward renewed usedUp pastInstruction placesOf changed storedValue pairOf lookup decodeOf table lengthOf dataLength displacementLength offsetLength movpStoreDeed movpLoadDeed callDeed effective grown baseOf registerOf tagOf byRRR withRegister pointerAt indexed jumpedIf landing displacementAt displacedBy signedOf
 both-go = (
   record {
     goes = record { done = refl; chosen = refl; program = refl; reads = refl };

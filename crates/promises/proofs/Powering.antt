@@ -42,7 +42,7 @@ use Rattle.promises.proofs.SheetLaws.{far-alike}
 
 blank-idle : Blank idleChannel
 unfolding idleChannel
-blank-idle = record { ga = refl; gb = refl; gc = refl; tp = refl; pp = refl; bc = refl; ix = refl; cc = refl; mc = refl; psw = refl; mode = refl; armed = refl }
+blank-idle = record { ga = refl; gb = refl; gc = refl; tp = refl; pp = refl; bc = refl; ix = refl; cc = refl; mc = refl; psw = refl; mode = refl; armed = refl; fields = refl }
 
 -- ---- reset
 
@@ -55,7 +55,7 @@ reset-sound : ¬ (NotSound resetState)
 unfolding resetState idleChannel sound soundChannel
 reset-sound = told-sound resetState .holds refl
 
--- in a chain that has 10 and 13 after 12 and 11, 10 never applies of it and 13 does
+-- in a chain that has 10, 13 and 14 after 12 and 11, 10 never applies of it and 13 does
 thirteen : {argument G : Type 0} (m : Buffers) (n : ℕ) → ((argument × (n ≡ 12)) ⊎ (¬ argument × GivenOr resetState m n G)) ↔ Given (thirteenAfter argument m) n
 unfolding resetState
 thirteen m n = (

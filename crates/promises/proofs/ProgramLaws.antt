@@ -7,10 +7,11 @@ use mathlib.Core.Path.{_≡_, refl, sym, ap, ap₂, subst, _∙_}
 use native.Mathlib.Nat.{mod-mod}
 use native.Mathlib.Omega.{arith}
 use Rattle.machine.proofs.ChannelLaws.{put-same, last-channel}
-use Rattle.machine.specs.Cc.{destinationMoves, sourceMoves, sourceIsGB, translates, synchronised, singleTransfer, externalEnd, countEnd, matchEnd}
 use Rattle.machine.specs.Psw.{transferring, sourceWide, destinationWide}
-use Rattle.machine.specs.States.{channelOf, withChannel, soundChannel, isRunning, blockOf, busyIn}
+use Rattle.machine.specs.Cc.{split}
+use Rattle.machine.specs.States.{channelOf, withChannel, soundChannel, isRunning, blockOf, busyIn, fieldsAgree}
 use Rattle.machine.specs.declared.Channel.{Channel}
+use Rattle.machine.specs.declared.Fields.{Fields}
 use Rattle.machine.specs.declared.Mode.the-variants.{Running}
 use Rattle.machine.specs.declared.State.{State}
 use Rattle.memory.specs.Buffers.{Buffers}
@@ -102,17 +103,17 @@ pub place-is : (offset segment : ℕ) → pointer (addressOf (wordOf (lowByte of
 place-is offset segment = ap₂ (λ (x y : ℕ). pointer (addressOf x y) false) (word-is offset) (word-is segment)
 
 -- registers that are the same
-view-same : {ga ga′ gb gb′ tp tp′ : Pointer} {bc bc′ cc psw : ℕ} → ga ≡ ga′ → gb ≡ gb′ → tp ≡ tp′ → bc ≡ bc′
-    → view ga gb tp bc cc psw Running false ≡ view ga′ gb′ tp′ bc′ cc psw Running false
+view-same : {ga ga′ gb gb′ tp tp′ : Pointer} {bc bc′ psw : ℕ} {fields : Fields} → ga ≡ ga′ → gb ≡ gb′ → tp ≡ tp′ → bc ≡ bc′
+    → view ga gb tp bc fields psw Running false ≡ view ga′ gb′ tp′ bc′ fields psw Running false
 view-same e f g h = rw (e, f, g, h)
 
 -- the registers when the transfer begins
 abbrev pub begins : Job → Pointer → View
-begins j tp = view (fromPlace j) (intoPlace j) tp (j .count % 65536) 0xC008 (pswOf (j .fromWide) (j .intoWide)) Running false
+begins j tp = view (fromPlace j) (intoPlace j) tp (j .count % 65536) (split 0xC008) (pswOf (j .fromWide) (j .intoWide)) Running false
 
 module _ {lines : ℕ} {b : Bool} {s₀ : State} {m : Buffers} (j : Job) (tp : Pointer) (there : Stand m tp (programOf j)) where
   -- six instructions
-  pub six : Come lines b s₀ m 0 (view (pointer 0 false) (pointer 0 false) tp 0 0 4 Running false) → Come lines b s₀ m 6 (begins j (onBy tp haltAt))
+  pub six : Come lines b s₀ m 0 (view (pointer 0 false) (pointer 0 false) tp 0 (split 0) 4 Running false) → Come lines b s₀ m 6 (begins j (onBy tp haltAt))
   unfolding programOf isRunning bitOf
   six q₀ =
       let busy = busyIn (blockOf s₀ b) in
@@ -149,42 +150,43 @@ module _ (j : Job) (tp : Pointer) (c : Channel) (seen : viewOf c ≡ begins j tp
 
   -- its sides
   pub source-is : source c ≡ side (fromPlace j) true (j .fromWide)
-  unfolding source bitOf
+  unfolding source split bitOf
   source-is =
-      part (λ v. side (pick (sourceIsGB (v .cc)) (v .gb) (v .ga)) (sourceMoves (v .cc)) (sourceWide (v .psw)))
+      part (λ v. side (pick (v .fields .sourceIsGB) (v .gb) (v .ga)) (v .fields .sourceMoves) (sourceWide (v .psw)))
       ∙ ap (side (fromPlace j) true) (widths (j .fromWide) (j .intoWide) .1)
 
   pub destination-is : destination c ≡ side (intoPlace j) true (j .intoWide)
-  unfolding destination bitOf
+  unfolding destination split bitOf
   destination-is =
-      part (λ v. side (pick (sourceIsGB (v .cc)) (v .ga) (v .gb)) (destinationMoves (v .cc)) (destinationWide (v .psw)))
+      part (λ v. side (pick (v .fields .sourceIsGB) (v .ga) (v .gb)) (v .fields .destinationMoves) (destinationWide (v .psw)))
       ∙ ap (side (intoPlace j) true) (widths (j .fromWide) (j .intoWide) .2)
 
   -- where they begin
   pub from-is : from c ≡ fromPlace j
-  unfolding source bitOf
-  from-is = part (λ v. pick (sourceIsGB (v .cc)) (v .gb) (v .ga))
+  unfolding source split bitOf
+  from-is = part (λ v. pick (v .fields .sourceIsGB) (v .gb) (v .ga))
 
   pub into-is : into c ≡ intoPlace j
-  unfolding destination bitOf
-  into-is = part (λ v. pick (sourceIsGB (v .cc)) (v .ga) (v .gb))
+  unfolding destination split bitOf
+  into-is = part (λ v. pick (v .fields .sourceIsGB) (v .ga) (v .gb))
 
   -- all that demand 3 asks of it
-  pub plain-is : soundChannel c ≡ true → Plain c
-  unfolding bitOf fieldOf isRunning
-  plain-is q =
+  pub plain-is : soundChannel c ≡ true → fieldsAgree c ≡ true → Plain c
+  unfolding split bitOf fieldOf isRunning
+  plain-is q a =
       record {
         runs = part (λ v. isRunning (v .mode));
         transfers = part (λ v. transferring (v .psw)) ∙ widths (j .fromWide) (j .intoWide) .0;
-        leaves = part (λ v. sourceMoves (v .cc));
-        enters = part (λ v. destinationMoves (v .cc));
-        unsynchronised = part (λ v. synchronised (v .cc));
-        untranslated = part (λ v. translates (v .cc));
-        counts = λ e. eqb-false 1 0 refl (sym (part (λ v. countEnd (v .cc))) ∙ e);
-        unmatched = part (λ v. matchEnd (v .cc) % 4);
-        unended = part (λ v. externalEnd (v .cc));
-        ongoing = part (λ v. singleTransfer (v .cc));
+        leaves = part (λ v. v .fields .sourceMoves);
+        enters = part (λ v. v .fields .destinationMoves);
+        unsynchronised = part (λ v. v .fields .synchronised);
+        untranslated = part (λ v. v .fields .translates);
+        counts = λ e. eqb-false 1 0 refl (sym (part (λ v. v .fields .countEnd)) ∙ e);
+        unmatched = part (λ v. v .fields .matchEnd % 4);
+        unended = part (λ v. v .fields .externalEnd);
+        ongoing = part (λ v. v .fields .singleTransfer);
         sound = q;
+        agree = a;
       }
 
 -- the total depends on the sides alone

@@ -15,11 +15,13 @@ use Rattle.attention.specs.Attention.{orderTo, orderedChannel, orderedMemory, a
 use Rattle.attention.specs.Conditions.{NoChannel}
 use Rattle.machine.proofs.ChannelLaws.{fresh-sound, named}
 use Rattle.machine.proofs.ConditionLaws.{told-sound, told-touchable, says-running}
+use Rattle.machine.proofs.FieldLaws.{agrees, told-agree, blank-agree}
 use Rattle.machine.proofs.GivenLaws.{told-powered}
+use Rattle.machine.specs.Cc.{split}
 use Rattle.machine.specs.Conditions.{TooLong}
 use Rattle.machine.specs.Outcomes.{outcome}
 use Rattle.machine.specs.Psw.{withPsw}
-use Rattle.machine.specs.States.{idleChannel, freshState, channelOf, withChannel, soundChannel, sound, isRunning, blockOf, busyIn, channelNumber, isSecond}
+use Rattle.machine.specs.States.{idleChannel, freshState, channelOf, withChannel, soundChannel, sound, isRunning, blockOf, busyIn, channelNumber, isSecond, boardWith, fieldsAgree, agree}
 use Rattle.machine.specs.declared.Answer.{Answer}
 use Rattle.machine.specs.declared.Channel.{Channel}
 use Rattle.machine.specs.declared.Mode.the-variants.{Running}
@@ -55,8 +57,9 @@ pub record Starts (m : Buffers) (block pb program : ℕ) : Type 0 where
 pub record Begun (cp : ℕ) (second : Bool) (m : Buffers) (program : ℕ) : Type 0 where
   pub channel : Channel
   pub given : attentionOf (freshState cp) m (channelNumber second) ≡ outcome 0 (withChannel (freshState cp) second channel) (storeByte m false (blockOf (freshState cp) second + 1) 255)
-  pub seen : viewOf channel ≡ view (pointer 0 false) (pointer 0 false) (pointer program false) 0 0 4 Running false
+  pub seen : viewOf channel ≡ view (pointer 0 false) (pointer 0 false) (pointer program false) 0 (split 0) 4 Running false
   pub sound : soundChannel channel ≡ true
+  pub agree : fieldsAgree channel ≡ true
 
 -- a fresh state's channels are idle
 fresh-idle : (cp : ℕ) (b : Bool) → channelOf (freshState cp) b ≡ idleChannel
@@ -68,6 +71,11 @@ fresh-idle cp false = refl
 pub fresh-still : (cp : ℕ) (b : Bool) → isRunning (channelOf (freshState cp) b .mode) ≡ false
 unfolding idleChannel isRunning
 fresh-still cp b = ap (λ (c : Channel). isRunning (c .mode)) (fresh-idle cp b)
+
+-- its fields are those of CC
+fresh-agrees : (cp : ℕ) → agree (freshState cp) ≡ true
+unfolding freshState
+fresh-agrees cp = blank-agree cp (boardWith true false false false)
 
 -- it counts as powered up
 fresh-on : (cp : ℕ) → freshState cp .board .powered ≡ true
@@ -124,9 +132,9 @@ module _ (cp : ℕ) (b : Bool) (m : Buffers) (pb program : ℕ) (k : Starts m (b
   channel-is = ap₂ (channelOrdered m) order-is (fresh-idle cp b)
 
   -- with its registers
-  seen : viewOf (channelOrdered m order idleChannel) ≡ view (pointer 0 false) (pointer 0 false) (pointer program false) 0 0 4 Running false
+  seen : viewOf (channelOrdered m order idleChannel) ≡ view (pointer 0 false) (pointer 0 false) (pointer program false) 0 (split 0) 4 Running false
   unfolding order idleChannel channelOrdered commanded started withControl ordered copied obeyed withPsw withBit bitOf fieldOf
-  seen = ap (λ (a : ℕ). view (pointer 0 false) (pointer 0 false) (pointer a false) 0 0 4 Running false) (k .task)
+  seen = ap (λ (a : ℕ). view (pointer 0 false) (pointer 0 false) (pointer a false) 0 (split 0) 4 Running false) (k .task)
 
   -- of 20 bits
   sound-is : soundChannel (channelOrdered m order idleChannel) ≡ true
@@ -136,6 +144,11 @@ module _ (cp : ℕ) (b : Bool) (m : Buffers) (pb program : ℕ) (k : Starts m (b
         lt-ltb (doublewordAt m false pb) 1048576 (mod-lt (wordAt m false (pb + 2) * 16 + wordAt m false pb) (lit< tt)),
         lt-ltb pb 1048576 (subst (λ (a : ℕ). a < 1048576) (k .parameters) (mod-lt (wordAt m false (blockOf (freshState cp) b + 2 + 2) * 16 + wordAt m false (blockOf (freshState cp) b + 2)) (lit< tt))),
       )
+
+  -- with the fields of its CC
+  agree-is : fieldsAgree (channelOrdered m order idleChannel) ≡ true
+  unfolding order idleChannel channelOrdered commanded started withControl
+  agree-is = agrees (channelOrdered m order idleChannel) refl
 
   -- and memory
   memory-is : orderedMemory (freshState cp) m b ≡ storeByte m false (blockOf (freshState cp) b + 1) 255
@@ -163,17 +176,20 @@ module _ (cp : ℕ) (b : Bool) (m : Buffers) (pb program : ℕ) (k : Starts m (b
               told-sound (freshState cp) .holds (sound-fresh cp h),
               (
                 told-powered (freshState cp) .holds (fresh-on cp),
-                rw (named b, order-is) (
-                  told-touchable m (span false (blockOf (freshState cp) b) 1) .holds block-touchable,
-                  (
-                    ⊎-elim (eqb-false 3 2 refl) (eqb-false 3 4 refl),
+                (
+                  told-agree (freshState cp) .holds (fresh-agrees cp),
+                  rw (named b, order-is) (
+                    told-touchable m (span false (blockOf (freshState cp) b) 1) .holds block-touchable,
                     (
-                      (λ r. eqb-false 3 5 refl (r .0)),
+                      ⊎-elim (eqb-false 3 2 refl) (eqb-false 3 4 refl),
                       (
-                        (λ r. says-running (channelOf (freshState cp) (isSecond (channelNumber b)) .mode) .fails (fresh-still cp (isSecond (channelNumber b))) (r .1)),
+                        (λ r. eqb-false 3 5 refl (r .0)),
                         (
-                          (λ r. eqb-false 3 6 refl (r .0)),
-                          told-touchable m (others order) .holds others-touchable,
+                          (λ r. says-running (channelOf (freshState cp) (isSecond (channelNumber b)) .mode) .fails (fresh-still cp (isSecond (channelNumber b))) (r .1)),
+                          (
+                            (λ r. eqb-false 3 6 refl (r .0)),
+                            told-touchable m (others order) .holds others-touchable,
+                          ),
                         ),
                       ),
                     ),
@@ -195,4 +211,5 @@ module _ (cp : ℕ) (b : Bool) (m : Buffers) (pb program : ℕ) (k : Starts m (b
               ∙ ap₂ (λ (c : Channel) (n : Buffers). outcome 0 (withChannel (freshState cp) b c) n) channel-is memory-is;
           seen = seen;
           sound = sound-is;
+          agree = agree-is;
         }

@@ -6,8 +6,10 @@ use lib.Dec.{eqb, ltb, lit<, eqb·suc-zero}
 use mathlib.Core.Bool.{Bool, true, false, not, _&&_, _||_}
 use mathlib.Core.Path.{_≡_, refl, sym, subst, ap, _∙_}
 use native.Mathlib.Nat.{mod-lt}
+use Rattle.machine.proofs.FieldLaws.{agree-channel-of}
+use Rattle.machine.specs.Cc.{split}
 use Rattle.machine.specs.Psw.{transferring, withPsw}
-use Rattle.machine.specs.States.{channelOf}
+use Rattle.machine.specs.States.{channelOf, fieldsAgree}
 use Rattle.machine.specs.Updates.{withTransfer}
 use Rattle.machine.specs.declared.Channel.{Channel}
 use Rattle.machine.specs.declared.State.{State}
@@ -29,6 +31,7 @@ use Rattle.promises.specs.SheetWords.{bit, field}
 use Rattle.promises.specs.SheetOperands.{ranChannel}
 use Rattle.promises.specs.SheetTurns.{offsetIn}
 use Rattle.promises.specs.SheetTransfer.{firstByte, secondByte, meetsIn, singly, gainsIn, storedCount, countLeft, codeOfEnd, TransferLeft, TransferSheet}
+use Rattle.promises.proofs.AgreeLaws.{agreeing, by-bits, done-agrees}
 use Rattle.promises.proofs.CallLaws.{turn-is, transfer-channel, transfer-memory}
 use Rattle.promises.proofs.SheetControl.{bit-set}
 use Rattle.promises.proofs.SheetTurns.{offset-is}
@@ -94,9 +97,9 @@ gains-is : (c : Channel) (m : Buffers) (on : Bool) (p : Pointer) → gained on p
 unfolding gained onward
 gains-is c m on p = refl
 
-transfer-left : (c : Channel) (m : Buffers) → TransferLeft c m (movedChannel c (dataOf c m)) (movedMemory c (dataOf c m) m)
-unfolding movedChannel movedBy endedBy endedTP endedPSW endCode larger codeIf matchMet firstMeets cutShort storesTwo storedSingly bytesMoved bytesCounted bytesStored countAfter twoMove wordSide secondAddress source destination dataOf delivered fetched fetchedSecond entryOf meetsTmc matchOf movedMemory putOn fieldOf bitOf withTransfer
-transfer-left c m = record {
+moved-left : (c : Channel) (m : Buffers) → TransferLeft (agreeing c) m (movedChannel (agreeing c) (dataOf (agreeing c) m)) (movedMemory (agreeing c) (dataOf (agreeing c) m) m)
+unfolding movedChannel movedBy endedBy endedTP endedPSW endCode larger codeIf matchMet firstMeets cutShort storesTwo storedSingly bytesMoved bytesCounted bytesStored countAfter twoMove wordSide secondAddress source destination dataOf delivered fetched fetchedSecond entryOf meetsTmc matchOf movedMemory putOn split fieldOf bitOf withTransfer
+moved-left c m = record {
   ga = first-side (eqb (bit (c .cc) 10) 1) (c .ga) (c .gb) (eqb (bit (c .cc) 15) 1) (eqb (bit (c .cc) 14) 1) (storedCount c m)
       ∙ ap (λ (on : Bool). gained on (c .ga) (storedCount c m)) (bit-picked (eqb (bit (c .cc) 10) 1) (c .cc) 15 14) ∙ gains-is c m _ (c .ga);
   gb = second-side (eqb (bit (c .cc) 10) 1) (c .ga) (c .gb) (eqb (bit (c .cc) 15) 1) (eqb (bit (c .cc) 14) 1) (storedCount c m)
@@ -108,11 +111,15 @@ transfer-left c m = record {
   pp = refl;
   ix = refl;
   cc = refl;
+  fields = refl;
   mc = refl;
   mode = refl;
   mark = refl;
   stored = refl;
 }
+
+transfer-left : (c : Channel) (m : Buffers) → fieldsAgree c ≡ true → TransferLeft c m (movedChannel c (dataOf c m)) (movedMemory c (dataOf c m) m)
+transfer-left c m h = by-bits (λ x. TransferLeft x m (movedChannel x (dataOf x m)) (movedMemory x (dataOf x m) m)) c h (moved-left c m)
 
 -- a transfer step that is done has number 0 of its own
 settle : (n : ℕ) (s : State) (m : Buffers) (b : Bool) (o : Taken) → settledStep n s m b (o .channel) (o .memory) Transfer .number ≡ n
@@ -138,5 +145,5 @@ transfer-sheet b s m lines = record {
       let memory : (stepOf s m lines) .memory ≡ movedMemory c (dataOf c m) m =
       ap (λ (o : Step). o .memory) step ∙ transfer-memory b s m ∙ ap (λ (o : Taken). o .memory) made in
       subst (λ (k : Channel). TransferLeft c m k ((stepOf s m lines) .memory)) (sym channel)
-      (subst (λ (n : Buffers). TransferLeft c m (movedChannel c (dataOf c m)) n) (sym memory) (transfer-left c m));
+      (subst (λ (n : Buffers). TransferLeft c m (movedChannel c (dataOf c m)) n) (sym memory) (transfer-left c m (agree-channel-of s b (done-agrees s m lines z))));
 }

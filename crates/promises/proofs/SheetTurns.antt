@@ -10,8 +10,10 @@ use mathlib.Core.Path.{_≡_, refl, ap, ap₂, _∙_}
 use native.Mathlib.Nat.{mod-lt}
 use native.Mathlib.Omega.{arith}
 use Rattle.machine.proofs.ChannelLaws.{put-same, last-channel}
+use Rattle.machine.proofs.FieldLaws.{told-agree, agree-channel-of}
+use Rattle.machine.specs.Cc.{split}
 use Rattle.machine.specs.Psw.{withPsw}
-use Rattle.machine.specs.States.{channelOf, withChannel, isRunning}
+use Rattle.machine.specs.States.{channelOf, withChannel, fieldsAgree, isRunning}
 use Rattle.machine.specs.Updates.{withTransfer}
 use Rattle.machine.specs.declared.Channel.{Channel}
 use Rattle.machine.specs.declared.Mode.{Mode}
@@ -30,6 +32,7 @@ use Rattle.words.specs.Choice.{pick}
 use Rattle.promises.specs.SheetWords.{bit}
 use Rattle.promises.specs.SheetOperands.{ranChannel}
 use Rattle.promises.specs.SheetTurns.{runsIn, endsIn, rankIn, choiceIn, offsetIn, ExternalLeft, TurnSheet}
+use Rattle.promises.proofs.AgreeLaws.{agreeing, by-bits, told-not, done-agrees}
 use Rattle.promises.proofs.Demand2.{step-does}
 use Rattle.promises.proofs.SheetControl.{bit-set}
 
@@ -51,23 +54,26 @@ rank-syn (suc (suc (suc zero))) h true = refl
 rank-syn (suc (suc (suc zero))) h false = refl
 rank-syn (suc (suc (suc (suc k)))) h drq = absurd (omega arith)
 
-rank-is : (c : Channel) (drq : ℕ) → rankOf c (eqb drq 1) ≡ rankIn c drq
-unfolding rankOf transferRank fieldOf bitOf
-rank-is c drq =
-    ap₂ (λ (r : Bool) (n : ℕ). pick r (pick (eqb (bit (c .psw) 6) 1) n (pick (eqb (bit (c .cc) 8) 1) 1 3)) 4)
-    (runs-is (c .mode)) (rank-syn (c .cc / 2048 % 4) (mod-lt (c .cc / 2048) (lit< tt)) (eqb drq 1))
+rank-is : (c : Channel) → fieldsAgree c ≡ true → (drq : ℕ) → rankOf c (eqb drq 1) ≡ rankIn c drq
+unfolding rankOf transferRank split fieldOf bitOf
+rank-is c h drq =
+    by-bits (λ x. rankOf x (eqb drq 1) ≡ rankIn x drq) c h
+    (ap₂ (λ (r : Bool) (n : ℕ). pick r (pick (eqb (bit (c .psw) 6) 1) n (pick (eqb (bit (c .cc) 8) 1) 1 3)) 4)
+    (runs-is (c .mode)) (rank-syn (c .cc / 2048 % 4) (mod-lt (c .cc / 2048) (lit< tt)) (eqb drq 1)))
 
-ends-is : (c : Channel) (ext : ℕ) → endsNow c (eqb ext 1) ≡ endsIn c ext
-unfolding endsNow fieldOf bitOf
-ends-is c ext = ap (λ (r : Bool). r && eqb (bit (c .psw) 6) 1 && not (eqb (c .cc / 32 % 4) 0) && eqb ext 1) (runs-is (c .mode))
+ends-is : (c : Channel) → fieldsAgree c ≡ true → (ext : ℕ) → endsNow c (eqb ext 1) ≡ endsIn c ext
+unfolding endsNow split fieldOf bitOf
+ends-is c h ext =
+    by-bits (λ x. endsNow x (eqb ext 1) ≡ endsIn x ext) c h
+    (ap (λ (r : Bool). r && eqb (bit (c .psw) 6) 1 && not (eqb (c .cc / 32 % 4) 0) && eqb ext 1) (runs-is (c .mode)))
 
-choice-is : (s : State) (lines : ℕ) → choiceOf s lines ≡ choiceIn s lines
+choice-is : (s : State) → fieldsAgree (s .first) ≡ true → fieldsAgree (s .second) ≡ true → (lines : ℕ) → choiceOf s lines ≡ choiceIn s lines
 unfolding choiceOf ranked secondWins requested external bitOf
-choice-is s lines =
+choice-is s h₁ h₂ lines =
     ap₂ (λ (x y : Bool). pick x (Ends false) (pick y (Ends true) (ranked s (rankOf (s .first) (eqb (bit lines 0) 1)) (rankOf (s .second) (eqb (bit lines 1) 1)))))
-    (ends-is (s .first) (bit lines 2)) (ends-is (s .second) (bit lines 3))
+    (ends-is (s .first) h₁ (bit lines 2)) (ends-is (s .second) h₂ (bit lines 3))
     ∙ ap₂ (λ (x y : ℕ). pick (endsIn (s .first) (bit lines 2)) (Ends false) (pick (endsIn (s .second) (bit lines 3)) (Ends true) (ranked s x y)))
-    (rank-is (s .first) (bit lines 0)) (rank-is (s .second) (bit lines 1))
+    (rank-is (s .first) h₁ (bit lines 0)) (rank-is (s .second) h₂ (bit lines 1))
 
 -- the offset of a code that is on
 pub offset-is : (code : ℕ) → code < 4 → offsetOf code ≡ offsetIn code
@@ -78,9 +84,9 @@ offset-is (suc (suc zero)) h = refl
 offset-is (suc (suc (suc zero))) h = refl
 offset-is (suc (suc (suc (suc k)))) h = absurd (omega arith)
 
-external-left : (c : Channel) → eqb (c .cc / 32 % 4) 0 ≡ false → ExternalLeft c (externallyEnded c)
-unfolding externallyEnded endedBy endedTP endedPSW gained onward withTransfer withPsw fieldOf
-external-left c on = record {
+by-end : (c : Channel) → eqb (c .cc / 32 % 4) 0 ≡ false → ExternalLeft (agreeing c) (externallyEnded (agreeing c))
+unfolding externallyEnded endedBy endedTP endedPSW gained onward withTransfer withPsw split fieldOf
+by-end c on = record {
   tp = rw on (ap (λ (n : ℕ). pointer ((c .tp .address + n) % 1048576) (c .tp .tag)) (offset-is (c .cc / 32 % 4) (mod-lt (c .cc / 32) (lit< tt))));
   status = λ k. rw on (bit-set (c .psw) 6 false k);
   ga = refl;
@@ -90,21 +96,26 @@ external-left c on = record {
   bc = refl;
   ix = refl;
   cc = refl;
+  fields = refl;
   mc = refl;
   mode = refl;
   mark = refl;
 }
 
+external-left : (c : Channel) → fieldsAgree c ≡ true → eqb (c .fields .externalEnd) 0 ≡ false → ExternalLeft c (externallyEnded c)
+unfolding split fieldOf
+external-left c h = by-bits (λ x. eqb (x .fields .externalEnd) 0 ≡ false → ExternalLeft x (externallyEnded x)) c h (by-end c)
+
 pub turn-sheet : (s : State) (m : Buffers) (lines : ℕ) → TurnSheet s m lines
-unfolding fieldOf
+unfolding channelOf
 turn-sheet s m lines = record {
-  choice = choice-is s lines;
+  choice = λ ne. let h = told-not (told-agree s) ne in choice-is s (agree-channel-of s false h) (agree-channel-of s true h) lines;
   external = λ second z e.
       let whole = step-does s m lines .ends second z e in
       let after : ranChannel second s m lines ≡ externallyEnded (channelOf s second) =
       ap (λ (o : Step). channelOf (o .state) second) whole
       ∙ last-channel (withChannel s second (externallyEnded (channelOf s second))) second second
       ∙ put-same s second (externallyEnded (channelOf s second)) in
-      let on : eqb (channelOf s second .cc / 32 % 4) 0 ≡ false = ne-eqb (channelOf s second .cc / 32 % 4) 0 (ends-chosen s lines second e .2) in
-      (rw after (external-left (channelOf s second) on), ap (λ (o : Step). o .memory) whole);
+      let on = ne-eqb (channelOf s second .fields .externalEnd) 0 (ends-chosen s lines second e .2) in
+      (rw after (external-left (channelOf s second) (agree-channel-of s second (done-agrees s m lines z)) on), ap (λ (o : Step). o .memory) whole);
 }

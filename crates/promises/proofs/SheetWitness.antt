@@ -11,9 +11,10 @@ use Rattle.attention.specs.Attention.{orderTo, orderNumber, givenTo, attentionN
 use Rattle.attention.specs.Blocks.{ccwOf, parameterBlock, orderOf}
 use Rattle.attention.specs.Commands.{commandCoded, isKnown, modeNumber, commandNumber}
 use Rattle.attention.specs.Touched.{readBy, storedBy, others, orderStages}
+use Rattle.machine.specs.Cc.{split, sameFlag, sameFields}
 use Rattle.machine.specs.Outcomes.{unless, first, settled, givenNumber}
 use Rattle.machine.specs.Stages.{stagesNumber}
-use Rattle.machine.specs.States.{freshState, idleChannel, channelOf, sound, soundChannel, isRunning, blockOf, busyIn, isChannel, isSecond, channelNumber, withLast}
+use Rattle.machine.specs.States.{freshState, idleChannel, channelOf, sound, soundChannel, isRunning, blockOf, busyIn, isChannel, isSecond, channelNumber, withLast, fieldsAgree, agree}
 use Rattle.machine.specs.declared.State.{State}
 use Rattle.memory.specs.Buffers.{Buffers, buffers, spaceOf, limitOf, indexOf, lentAt, touchableAt, beyondIn, byteAt, withinLimits, AllBytes}
 use Rattle.memory.specs.Places.{span, allPass}
@@ -47,7 +48,7 @@ abbrev started : Buffers
 started = buffers (0x01 ∷ 0 ∷ 8 ∷ 0 ∷ 0 ∷ 0 ∷ 0 ∷ 0 ∷ 0x34 ∷ 0x12 ∷ []) []
 
 start-met : Attends false (freshState 0) started 1
-unfolding attentionOf attentionNumber givenTo givenNumber orderNumber orderTo orderOf ccwOf parameterBlock commandCoded commandNumber isKnown modeNumber readBy storedBy others orderStages stagesNumber settled first unless sound soundChannel freshState idleChannel channelOf isRunning blockOf busyIn isChannel isSecond channelNumber spaceOf limitOf indexOf touchableAt lentAt byteAt beyondIn withinLimits span allPass wordAt doublewordAt fieldOf
+unfolding attentionOf attentionNumber givenTo givenNumber orderNumber orderTo orderOf ccwOf parameterBlock commandCoded commandNumber isKnown modeNumber readBy storedBy others orderStages stagesNumber settled first unless sound soundChannel agree fieldsAgree sameFields sameFlag split freshState idleChannel channelOf isRunning blockOf busyIn isChannel isSecond channelNumber spaceOf limitOf indexOf touchableAt lentAt byteAt beyondIn withinLimits span allPass wordAt doublewordAt fieldOf bitOf
 start-met = record { done = refl; code = refl }
 
 -- TP is 1234h in I/O space
@@ -59,12 +60,12 @@ start-leaves = attention-sheet false (freshState 0) started .startLocal start-me
 
 -- LPD GA,[PP+IX+] at 8, with zeros at 0: PP and IX are 0
 lpd-met : Ran false (programAt 8) (bytesFrom 8 (0x07 ∷ 0x8B ∷ [])) 0 0 0 3 1 0x22 3
-unfolding stepOf entryNumber givenNumber first unless withinLimits limitOf spaceOf indexOf touchableAt lentAt byteAt beyondIn allPass span sound soundChannel idleChannel channelOf withLast isRunning blockOf channelNumber requested external endsNow transferRank rankOf secondWins ranked choiceOf settledStep busyIn instructionStep channelStep chosenStep fieldOf bitOf decodedAt performed deedOf laterBytes laterFrom deedFrom stagesFrom instructionStages stagesNumber executeNumber executeOf onward renewed usedUp pastInstruction placesOf changed pairOf lookup decodeOf table lengthOf dataLength displacementLength offsetLength effective grown baseOf registerOf byRRR withRegister indexed jumpedIf landing displacementAt displacedBy signedOf lpdDeed jumpRegisterDeed doublewordAt wordAt bothWith channelWith
+unfolding stepOf entryNumber givenNumber first unless withinLimits limitOf spaceOf indexOf touchableAt lentAt byteAt beyondIn allPass span sound soundChannel agree fieldsAgree sameFields sameFlag split idleChannel channelOf withLast isRunning blockOf channelNumber requested external endsNow transferRank rankOf secondWins ranked choiceOf settledStep busyIn instructionStep channelStep chosenStep fieldOf bitOf decodedAt performed deedOf laterBytes laterFrom deedFrom stagesFrom instructionStages stagesNumber executeNumber executeOf onward renewed usedUp pastInstruction placesOf changed pairOf lookup decodeOf table lengthOf dataLength displacementLength offsetLength effective grown baseOf registerOf byRRR withRegister indexed jumpedIf landing displacementAt displacedBy signedOf lpdDeed jumpRegisterDeed doublewordAt wordAt bothWith channelWith
 lpd-met = record { executes = executes-met 8 (0x07 ∷ 0x8B ∷ []) (lit≤ tt) (lit< tt); done = refl; rrr = lit< tt; two = lit< tt; mode = lit< tt; wide = lit< tt; base = lit< tt }
 
 -- GA is 0 with tag 0, TP 10 and IX 4
 pub lpd-leaves : registerValues (ranChannel false (programAt 8) (bytesFrom 8 (0x07 ∷ 0x8B ∷ [])) 0) ≡ 0 ∷ 0 ∷ 0 ∷ 0 ∷ 10 ∷ 4 ∷ 0 ∷ 0 ∷ []
-unfolding byteAt beyondIn spaceOf indexOf limitOf bothWith channelWith channelOf
+unfolding byteAt beyondIn spaceOf indexOf limitOf bothWith channelWith channelOf split
 lpd-leaves = register-sheet false (programAt 8) (bytesFrom 8 (0x07 ∷ 0x8B ∷ [])) 0 .lpd 0 3 3 refl lpd-met .0 .values
 
 -- JZ GA at 0 with GA 10000h, of which the low 16 bits are 0; 5 bytes on
@@ -75,7 +76,7 @@ abbrev jzCode : Buffers
 jzCode = buffers (0x08 ∷ 0x44 ∷ 5 ∷ []) []
 
 jz-met : Ran false sixteen jzCode 0 0 1 0 0 0x11 0
-unfolding stepOf entryNumber givenNumber first unless withinLimits limitOf spaceOf indexOf touchableAt lentAt byteAt beyondIn allPass span sound soundChannel idleChannel channelOf withLast isRunning blockOf channelNumber requested external endsNow transferRank rankOf secondWins ranked choiceOf settledStep busyIn instructionStep channelStep chosenStep fieldOf bitOf decodedAt performed deedOf laterBytes laterFrom deedFrom stagesFrom instructionStages stagesNumber executeNumber executeOf onward renewed usedUp pastInstruction placesOf changed pairOf lookup decodeOf table lengthOf dataLength displacementLength offsetLength effective grown baseOf registerOf byRRR withRegister indexed jumpedIf landing displacementAt displacedBy signedOf lpdDeed jumpRegisterDeed doublewordAt wordAt bothWith channelWith
+unfolding stepOf entryNumber givenNumber first unless withinLimits limitOf spaceOf indexOf touchableAt lentAt byteAt beyondIn allPass span sound soundChannel agree fieldsAgree sameFields sameFlag split idleChannel channelOf withLast isRunning blockOf channelNumber requested external endsNow transferRank rankOf secondWins ranked choiceOf settledStep busyIn instructionStep channelStep chosenStep fieldOf bitOf decodedAt performed deedOf laterBytes laterFrom deedFrom stagesFrom instructionStages stagesNumber executeNumber executeOf onward renewed usedUp pastInstruction placesOf changed pairOf lookup decodeOf table lengthOf dataLength displacementLength offsetLength effective grown baseOf registerOf byRRR withRegister indexed jumpedIf landing displacementAt displacedBy signedOf lpdDeed jumpRegisterDeed doublewordAt wordAt bothWith channelWith
 jz-met = record {
   executes = record { turn = record { entered = refl; chosen = refl }; program = refl; there = record { lent = lent; read = read } };
   done = refl;
@@ -109,5 +110,5 @@ jz-bytes false a = go (indexOf false a)
 
 -- it jumps: TP is 3 + 5
 pub jz-leaves : registerValues (ranChannel false sixteen jzCode 0) ≡ 0x10000 ∷ 0 ∷ 0 ∷ 0 ∷ 8 ∷ 0 ∷ 0 ∷ 0 ∷ []
-unfolding byteAt beyondIn spaceOf indexOf limitOf bothWith channelWith channelOf
+unfolding byteAt beyondIn spaceOf indexOf limitOf bothWith channelWith channelOf split
 jz-leaves = register-sheet false sixteen jzCode 0 .jump true false 0 jz-bytes refl jz-met .0 .values

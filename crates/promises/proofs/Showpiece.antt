@@ -10,8 +10,9 @@ use native.Mathlib.Nat.{add-zero}
 use native.Mathlib.Omega.{arith}
 use Rattle.attention.specs.Conditions.{NoChannel}
 use Rattle.machine.proofs.ChannelLaws.{put-same, put-other, put-cp, sound-channel-of}
-use Rattle.machine.proofs.ConditionLaws.{Told, told-limits}
-use Rattle.machine.specs.Cc.{countEnd}
+use Rattle.machine.proofs.ConditionLaws.{told-limits}
+use Rattle.machine.proofs.FieldLaws.{agree-channel-of}
+use Rattle.machine.specs.Cc.{split}
 use Rattle.machine.specs.Conditions.{Given}
 use Rattle.machine.specs.Outcomes.{Outcome, outcome}
 use Rattle.machine.specs.States.{freshState, channelOf, withChannel, withLast, sound, isRunning, channelNumber, blockOf, busyIn}
@@ -23,7 +24,7 @@ use Rattle.memory.specs.Buffers.{Buffers, indexOf, lentAt, byteAt, storeByte, w
 use Rattle.memory.specs.Places.{Apart}
 use Rattle.memory.specs.Values.{pointer}
 use Rattle.memory.specs.declared.Pointer.{Pointer}
-use Rattle.step.proofs.SoundLaws.{done-sound, entry-sound}
+use Rattle.step.proofs.SoundLaws.{done-sound, entry-sound, entry-agree}
 use Rattle.transfer.specs.Ends.{offsetOf}
 use Rattle.transfer.specs.Sides.{source, destination, wordSide}
 use Rattle.words.specs.Bits.{fieldOf, bitOf}
@@ -37,7 +38,8 @@ use Rattle.promises.specs.Runs.{DoneSteps, firstAttention, startChecks, 
 use Rattle.promises.specs.Stages.{onBy, Outside}
 use Rattle.promises.specs.Totals.{narrow, total}
 use Rattle.promises.specs.Witness.{channelWith}
-use Rattle.promises.proofs.AloneLaws.{entered, put-powered, limits-kept, through}
+use Rattle.promises.proofs.AgreeLaws.{told-not}
+use Rattle.promises.proofs.AloneLaws.{entered, put-ready, limits-kept, through}
 use Rattle.promises.proofs.CaseLaws.{pointer-given}
 use Rattle.promises.proofs.CountLaws.{total-narrow, total-wide, alone-none, alone-one}
 use Rattle.promises.proofs.Joined.{busy-same, run-halts}
@@ -45,11 +47,6 @@ use Rattle.promises.proofs.ProgramLaws.{Come, begins, six, from-is, int
 use Rattle.promises.proofs.ProgramStart.{Starts, Begun, begun, fresh-still, sound-fresh}
 use Rattle.promises.proofs.ProgramSteps.{View, viewOf}
 use Rattle.promises.proofs.StandLaws.{on-index, stand-on, stand-kept}
-
--- a test whose condition does not apply holds
-told-not : {ok : Bool} {A : Type 0} → Told ok A → ¬ A → ok ≡ true
-told-not {ok = true} t n = refl
-told-not {ok = false} t n = absurd (n (t .fails refl))
 
 -- different bytes, the other way round
 apart-back : (t : Bool) (a : ℕ) (u : Bool) (b : ℕ) → Apart t a u b → Apart u b t a
@@ -101,7 +98,7 @@ module _ {j : Job} {l : Layout} {m : Buffers} {lines limit : ℕ} (r : Ready j l
   alone₀ : RunsAlone b s₀ m₀ lines
   alone₀ =
       record {
-        entered = entered s₀ m₀ lines (r .linesFit) within sound-start (put-powered (l .cp) b (start .channel));
+        entered = entered s₀ m₀ lines (r .linesFit) within sound-start (put-ready (l .cp) b (start .channel) (start .agree));
         idle = ap (λ (c : Channel). isRunning (c .mode)) (put-other (freshState (l .cp)) b (start .channel)) ∙ fresh-still (l .cp) (not b);
       }
 
@@ -138,7 +135,7 @@ module _ {j : Job} {l : Layout} {m : Buffers} {lines limit : ℕ} (r : Ready j l
   copy : Copy n c₁ m₀
   copy =
       record {
-        plain = plain-is j (onBy (programPlace l) haltAt) c₁ (come .seen) (sound-channel-of s₁ b (entry-sound s₁ m₀ lines (come .lonely .entered)));
+        plain = plain-is j (onBy (programPlace l) haltAt) c₁ (come .seen) (sound-channel-of s₁ b (entry-sound s₁ m₀ lines (come .lonely .entered))) (agree-channel-of s₁ b (entry-agree s₁ m₀ lines (come .lonely .entered)));
         some = r .some;
         most = r .most;
         count = ap (λ (v : View). v .bc) (come .seen);
@@ -149,8 +146,8 @@ module _ {j : Job} {l : Layout} {m : Buffers} {lines limit : ℕ} (r : Ready j l
 
   -- its end leads to HLT
   end-is : endOf c₁ ≡ onBy (programPlace l) haltAt
-  unfolding fieldOf offsetOf
-  end-is = ap (λ (v : View). onBy (v .tp) (offsetOf (countEnd (v .cc)))) (come .seen) ∙ on-twice (programPlace l) haltAt 0
+  unfolding split fieldOf offsetOf
+  end-is = ap (λ (v : View). onBy (v .tp) (offsetOf (v .fields .countEnd))) (come .seen) ∙ on-twice (programPlace l) haltAt 0
 
   halt : Stand m₀ (endOf c₁) (0x20 ∷ 0x48 ∷ [])
   unfolding programOf

@@ -13,10 +13,11 @@ use Rattle.execute_deeds.specs.RegisterForms.{registerWritten, registerImmediat
 use Rattle.execute_operands.specs.Changes.{placesOf, changed}
 use Rattle.execute_operands.specs.Marks.{usedUp, pastInstruction}
 use Rattle.execute_operands.specs.Operands.{indexed, effective, grown, operandAt, isMove, workOf}
+use Rattle.machine.specs.Cc.{split, sameFlag, sameFields}
 use Rattle.machine.specs.Outcomes.{unless, first, givenNumber}
 use Rattle.machine.specs.Registers.{byRRR, registerOf, withRegister, baseOf}
 use Rattle.machine.specs.Stages.{stagesNumber}
-use Rattle.machine.specs.States.{idleChannel, channelOf, withChannel, withLast, sound, soundChannel, isRunning, blockOf, busyIn, channelNumber}
+use Rattle.machine.specs.States.{idleChannel, channelOf, withChannel, withLast, sound, soundChannel, isRunning, blockOf, busyIn, channelNumber, fieldsAgree, agree}
 use Rattle.machine.specs.Updates.{renewed, withControl}
 use Rattle.machine.specs.declared.Mode.the-variants.{Running}
 use Rattle.machine.specs.declared.State.{State}
@@ -53,5 +54,5 @@ Coded =
     × (stepOf (running true) (buffers [] (0x08 ∷ [])) 0 .number ≡ 3)
 
 pub slots-met : Read × Stored × Coded
-unfolding stepOf entryNumber givenNumber first unless withinLimits limitOf spaceOf indexOf touchableAt lentAt byteAt beyondIn storeByte allPass span sound soundChannel idleChannel channelOf withChannel withLast withControl isRunning blockOf channelNumber requested external endsNow transferRank rankOf secondWins ranked choiceOf settledStep busyIn instructionStep channelStep chosenStep fieldOf bitOf decodedAt performed deedOf laterBytes laterFrom deedFrom stagesFrom instructionStages stagesNumber executeNumber executeOf onward renewed usedUp pastInstruction placesOf changed pairOf lookup decodeOf table lengthOf dataLength displacementLength offsetLength effective grown baseOf registerOf byRRR withRegister indexed operandAt extended isMove workOf registerWritten registerMemoryDeed registerImmediateDeed memoryRegisterDeed memoryWorkDeed workedBack readFirst wordAt bothWith channelWith
+unfolding stepOf entryNumber givenNumber first unless withinLimits limitOf spaceOf indexOf touchableAt lentAt byteAt beyondIn storeByte allPass span sound soundChannel agree fieldsAgree sameFields sameFlag split idleChannel channelOf withChannel withLast withControl isRunning blockOf channelNumber requested external endsNow transferRank rankOf secondWins ranked choiceOf settledStep busyIn instructionStep channelStep chosenStep fieldOf bitOf decodedAt performed deedOf laterBytes laterFrom deedFrom stagesFrom instructionStages stagesNumber executeNumber executeOf onward renewed usedUp pastInstruction placesOf changed pairOf lookup decodeOf table lengthOf dataLength displacementLength offsetLength effective grown baseOf registerOf byRRR withRegister indexed operandAt extended isMove workOf registerWritten registerMemoryDeed registerImmediateDeed memoryRegisterDeed memoryWorkDeed workedBack readFirst wordAt bothWith channelWith
 slots-met = ((refl, refl), refl, (refl, refl, refl))

@@ -114,10 +114,10 @@ attended : (s : State) (m : Buffers) (channel : ℕ) → SystemLent m (touchedBy
     → ¬ (attentionOf s m channel .number ≡ 2)
 attended s m channel h e =
     let ps = touchedByOrder (orderTo s m (isSecond channel)) (modeTo s channel) in
-    told-touchable m ps .holds (served m ps h) (touched-2 s m channel .0 e .1 .1 .1 .1)
+    told-touchable m ps .holds (served m ps h) (touched-2 s m channel .0 e .1 .1 .1 .1 .1)
 
 stepped : (s : State) (m : Buffers) (lines : ℕ) → SystemLent m (reachedIn (choiceOf s lines) s m) → ¬ (stepOf s m lines .number ≡ 2)
-stepped s m lines h e = apart (sym (served m (reachedIn (choiceOf s lines) s m) h) ∙ two-exactly s m lines .0 e .1 .1 .1 .1)
+stepped s m lines h e = apart (sym (served m (reachedIn (choiceOf s lines) s m) h) ∙ two-exactly s m lines .0 e .1 .1 .1 .1 .1)
 
 -- ---- code
 

@@ -7,10 +7,10 @@ use mathlib.Core.Bool.{Bool, true, false, not, _&&_, _||_}
 use mathlib.Core.Path.{_≡_, refl, sym, ap, ap₂, _∙_}
 use native.Mathlib.Decide.{decLt, ℕ-discrete}
 use native.Mathlib.Omega.{arith}
-use Rattle.machine.specs.Cc.{destinationMoves, sourceMoves, synchronised, sourceIsGB, countEnd}
 use Rattle.machine.specs.Psw.{destinationWide, sourceWide, withPsw}
 use Rattle.machine.specs.States.{soundChannel}
 use Rattle.machine.specs.declared.Channel.{Channel}
+use Rattle.machine.specs.declared.Fields.{Fields}
 use Rattle.memory.specs.Buffers.{Buffers}
 use Rattle.memory.specs.Values.{pointer, onward}
 use Rattle.memory.specs.declared.Pointer.{Pointer}
@@ -68,12 +68,12 @@ gb-small c h =
 -- the source on the way is on by the bytes moved
 pub mid-source : (c : Channel) (n j : ℕ) → source (midway c n j) ≡ side (onBy (from c) j) ((source c) .moves) ((source c) .wide)
 unfolding source midway withTransfer
-mid-source c n j = ap (λ (p : Pointer). side p (sourceMoves (c .cc)) (sourceWide (c .psw))) (pick-under (λ (p : Pointer). onBy p j) (sourceIsGB (c .cc)) (c .gb) (c .ga))
+mid-source c n j = ap (λ (p : Pointer). side p (c .fields .sourceMoves) (sourceWide (c .psw))) (pick-under (λ (p : Pointer). onBy p j) (c .fields .sourceIsGB) (c .gb) (c .ga))
 
 -- and so is the destination
 pub mid-destination : (c : Channel) (n j : ℕ) → destination (midway c n j) ≡ side (onBy (into c) j) ((destination c) .moves) ((destination c) .wide)
 unfolding destination midway withTransfer
-mid-destination c n j = ap (λ (p : Pointer). side p (destinationMoves (c .cc)) (destinationWide (c .psw))) (pick-under (λ (p : Pointer). onBy p j) (sourceIsGB (c .cc)) (c .ga) (c .gb))
+mid-destination c n j = ap (λ (p : Pointer). side p (c .fields .destinationMoves) (destinationWide (c .psw))) (pick-under (λ (p : Pointer). onBy p j) (c .fields .sourceIsGB) (c .ga) (c .gb))
 
 -- BC on the way
 pub mid-count : (c : Channel) (n j : ℕ) → (midway c n j) .bc ≡ (n - j) % 65536
@@ -81,12 +81,12 @@ unfolding midway withTransfer
 mid-count c n j = refl
 
 -- CC stays
-pub mid-cc : (c : Channel) (n j : ℕ) → (midway c n j) .cc ≡ c .cc
+pub mid-fields : (c : Channel) (n j : ℕ) → (midway c n j) .fields ≡ c .fields
 unfolding midway withTransfer
-mid-cc c n j = refl
+mid-fields c n j = refl
 
 -- such a transfer's CC
-pub plain-block : (c : Channel) → Plain c → Block (c .cc)
+pub plain-block : (c : Channel) → Plain c → Block (c .fields)
 plain-block c k =
     record {
       from = k .leaves;
@@ -98,12 +98,12 @@ plain-block c k =
     }
 
 -- on the way too
-pub mid-block : (c : Channel) (n j : ℕ) → Plain c → Block ((midway c n j) .cc)
-mid-block c n j k = rw mid-cc (plain-block c k)
+pub mid-block : (c : Channel) (n j : ℕ) → Plain c → Block ((midway c n j) .fields)
+mid-block c n j k = rw mid-fields (plain-block c k)
 
 -- SYN is not 11
-pub mid-syn : (c : Channel) (n j : ℕ) → Plain c → synchronised ((midway c n j) .cc) ≡ 3 → ⊥
-mid-syn c n j k e = eqb-false 0 3 refl (sym (k .unsynchronised) ∙ ap synchronised (sym (mid-cc c n j)) ∙ e)
+pub mid-syn : (c : Channel) (n j : ℕ) → Plain c → (midway c n j) .fields .synchronised ≡ 3 → ⊥
+mid-syn c n j k e = eqb-false 0 3 refl (sym (k .unsynchronised) ∙ ap (λ (f : Fields). f .synchronised) (sym (mid-fields c n j)) ∙ e)
 
 -- ---- word sides
 
@@ -165,7 +165,7 @@ words-none c n j h = rw h
 
 -- one byte is left, one byte
 pub words-last : (c : Channel) (n j : ℕ) → Plain c → j < n → n - j ≡ 1 → twoMove (midway c n j) ≡ false
-words-last c n j k h e = last-moves (midway c n j) (rw mid-cc (k .counts)) (mid-count c n j ∙ omega arith)
+words-last c n j k h e = last-moves (midway c n j) (rw mid-fields (k .counts)) (mid-count c n j ∙ omega arith)
 
 -- a word side, and more than one byte left: two
 pub words-two : (c : Channel) (n j : ℕ) → wordSide (source (midway c n j)) || wordSide (destination (midway c n j)) ≡ true → j < n → n ≤ 65536 → (n - j ≡ 1 → ⊥)
@@ -194,15 +194,15 @@ left-mid : (c : Channel) (n j s : ℕ) → stride (midway c n j) ≡ s → s ≤
 left-mid c n j s e two fits most = rw (e, mid-count c n j) (omega arith)
 
 -- the end
-ends-mid : (c : Channel) (n : ℕ) → (countEnd (c .cc) ≡ 0 → ⊥) → endedBy (midway c n n) (countEnd (c .cc)) ≡ finished c n
+ends-mid : (c : Channel) (n : ℕ) → (c .fields .countEnd ≡ 0 → ⊥) → endedBy (midway c n n) (c .fields .countEnd) ≡ finished c n
 unfolding endedBy endedTP endedPSW midway finished withTransfer gained onward
 ends-mid c n ne = λ i. withTransfer c (onBy (c .ga) n) (onBy (c .gb) n) (tp i) (bc i) (psw i)
   where
-    tp : gained (not (eqb (countEnd (c .cc)) 0)) (c .tp) (offsetOf (countEnd (c .cc))) ≡ onBy (c .tp) (offsetOf (countEnd (c .cc)))
-    tp = rw (ne-eqb (countEnd (c .cc)) 0 ne)
+    tp : gained (not (eqb (c .fields .countEnd) 0)) (c .tp) (offsetOf (c .fields .countEnd)) ≡ onBy (c .tp) (offsetOf (c .fields .countEnd))
+    tp = rw (ne-eqb (c .fields .countEnd) 0 ne)
 
-    psw : pick (eqb (countEnd (c .cc)) 0) (c .psw) (withPsw (c .psw) 6 false) ≡ withPsw (c .psw) 6 false
-    psw = rw (ne-eqb (countEnd (c .cc)) 0 ne)
+    psw : pick (eqb (c .fields .countEnd) 0) (c .psw) (withPsw (c .psw) 6 false) ≡ withPsw (c .psw) 6 false
+    psw = rw (ne-eqb (c .fields .countEnd) 0 ne)
 
     bc : (n - n) % 65536 ≡ 0
     bc = omega arith
@@ -225,7 +225,7 @@ stage-next c n j s m k e one two fits most = go (decLt (j + s) n)
         let all : j + s ≡ n = omega arith in
         rw (le-ltb (j + s) n (omega arith))
         (block-last (midway c n j) (dataOf (midway c n j) m) (mid-block c n j k) (left ∙ omega arith)
-        ∙ ap₂ endedBy (next ∙ ap (midway c n) all) (ap countEnd (mid-cc c n j))
+        ∙ ap₂ endedBy (next ∙ ap (midway c n) all) (ap (λ (f : Fields). f .countEnd) (mid-fields c n j))
         ∙ ends-mid c n (k .counts))
 
 -- at the start none has moved

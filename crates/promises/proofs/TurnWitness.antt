@@ -8,6 +8,7 @@ use Rattle.attention.specs.Attention.{orderTo, orderNumber, orderedChannel, ord
 use Rattle.attention.specs.Blocks.{ccwOf, parameterBlock, orderOf}
 use Rattle.attention.specs.Commands.{commandCoded, isKnown, modeNumber, commandNumber, copied, obeyed, ordered}
 use Rattle.attention.specs.Effects.{started as startedBy, commanded, channelOrdered, writesOf, marked, writesMade}
+use Rattle.machine.specs.Cc.{split, sameFlag, sameFields}
 use Rattle.machine.specs.Updates.{withControl}
 use Rattle.attention.specs.Touched.{readBy, storedBy, others, orderStages}
 use Rattle.decode.specs.Lengths.{lengthOf, dataLength, displacementLength}
@@ -19,7 +20,7 @@ use Rattle.execute.specs.Execute.{decodedAt, performed, deedOf, laterBytes, lat
 use Rattle.machine.specs.Outcomes.{outcome, unless, first, settled, givenNumber}
 use Rattle.machine.specs.Psw.{withPsw}
 use Rattle.machine.specs.Stages.{stagesNumber}
-use Rattle.machine.specs.States.{boardWith, freshState, idleChannel, channelOf, withChannel, withLast, soundChannel, sound, isRunning, blockOf, busyIn, channelNumber, isChannel, isSecond}
+use Rattle.machine.specs.States.{boardWith, freshState, idleChannel, channelOf, withChannel, withLast, soundChannel, sound, isRunning, blockOf, busyIn, channelNumber, isChannel, isSecond, fieldsAgree, agree}
 use Rattle.machine.specs.declared.Channel.{Channel}
 use Rattle.machine.specs.declared.Mode.the-variants.{Running}
 use Rattle.machine.specs.declared.State.{State}
@@ -54,12 +55,12 @@ busy =
 
 -- so the two attentions leave it
 both-started : startedBoth ≡ outcome 0 (both 0x18 0x1C true) busy
-unfolding both program busy freshState idleChannel attentionOf attentionNumber givenTo givenNumber unless first isChannel withinLimits limitOf sound soundChannel orderNumber stagesNumber orderStages orderTo orderOf blockOf busyIn channelOf isSecond ccwOf commandCoded fieldOf parameterBlock doublewordAt wordAt byteAt beyondIn indexOf spaceOf allPass touchableAt lentAt span commandNumber isKnown modeNumber isRunning others readBy storedBy settled orderedMemory writesMade writesOf marked storeByte orderedChannel channelOrdered commanded startedBy ordered copied obeyed withPsw withBit bitOf withControl withChannel
+unfolding both program busy freshState idleChannel attentionOf attentionNumber givenTo givenNumber unless first isChannel withinLimits limitOf sound soundChannel agree fieldsAgree sameFields sameFlag split orderNumber stagesNumber orderStages orderTo orderOf blockOf busyIn channelOf isSecond ccwOf commandCoded fieldOf parameterBlock doublewordAt wordAt byteAt beyondIn indexOf spaceOf allPass touchableAt lentAt span commandNumber isKnown modeNumber isRunning others readBy storedBy settled orderedMemory writesMade writesOf marked storeByte orderedChannel channelOrdered commanded startedBy ordered copied obeyed withPsw withBit bitOf withControl withChannel
 both-started = refl
 
 -- wherever they have come to, they are such programs
 both-programs : (tp₁ tp₂ : ℕ) (last : Bool) → Programs (both tp₁ tp₂ last)
-unfolding both program withControl idleChannel channelOf bitOf
+unfolding both program withControl idleChannel channelOf bitOf split
 both-programs tp₁ tp₂ last = record { unchained = unchained; equal = refl }
   where
     unchained : (second : Bool) → RankThree (channelOf (both tp₁ tp₂ last) second)
@@ -68,7 +69,7 @@ both-programs tp₁ tp₂ last = record { unchained = unchained; equal = refl }
 
 -- four steps of them, each a NOP
 pub started-turns : Turns (startedBoth .state) (startedBoth .memory) (1 ∷ 2 ∷ 1 ∷ 2 ∷ [])
-unfolding both program busy withControl stepOf entryNumber givenNumber first unless withinLimits limitOf spaceOf indexOf touchableAt lentAt byteAt beyondIn allPass span sound soundChannel idleChannel channelOf withChannel withLast isRunning blockOf channelNumber requested external endsNow transferRank rankOf secondWins ranked choiceOf settledStep busyIn instructionStep channelStep chosenStep fieldOf bitOf decodedAt performed deedOf laterBytes laterFrom deedFrom stagesFrom instructionStages stagesNumber executeNumber executeOf onward renewed usedUp pastInstruction nopDeed placesOf changed pairOf lookup decodeOf table lengthOf dataLength displacementLength
+unfolding both program busy withControl stepOf entryNumber givenNumber first unless withinLimits limitOf spaceOf indexOf touchableAt lentAt byteAt beyondIn allPass span sound soundChannel agree fieldsAgree sameFields sameFlag split idleChannel channelOf withChannel withLast isRunning blockOf channelNumber requested external endsNow transferRank rankOf secondWins ranked choiceOf settledStep busyIn instructionStep channelStep chosenStep fieldOf bitOf decodedAt performed deedOf laterBytes laterFrom deedFrom stagesFrom instructionStages stagesNumber executeNumber executeOf onward renewed usedUp pastInstruction nopDeed placesOf changed pairOf lookup decodeOf table lengthOf dataLength displacementLength
 started-turns =
     rw both-started
     (turn (both-programs 0x18 0x1C true) 0 refl

@@ -5,10 +5,11 @@ use lib.Dec.{lit≤}
 use mathlib.Core.Bool.{true, false}
 use mathlib.Core.Path.{_≡_, refl, subst}
 use native.Mathlib.Omega.{arith}
+use Rattle.machine.specs.Cc.{split, sameFlag, sameFields}
 use Rattle.machine.specs.Outcomes.{unless, first}
 use Rattle.machine.specs.Stages.{stagesNumber}
 use Rattle.machine.specs.Psw.{withPsw}
-use Rattle.machine.specs.States.{soundChannel, isRunning}
+use Rattle.machine.specs.States.{soundChannel, isRunning, fieldsAgree}
 use Rattle.machine.specs.declared.Channel.{Channel}
 use Rattle.memory.proofs.SpanLaws.{span-at}
 use Rattle.memory.specs.Buffers.{Buffers, spaceOf, limitOf, indexOf, lentAt, touchableAt, beyondIn, byteAt, storeByte}
@@ -31,7 +32,7 @@ use Rattle.promises.proofs.Demand3.{demand3}
 
 -- every premise on a channel, both widths 8
 narrow-plain : Plain (narrowAt 0 16 5)
-unfolding channelWith isRunning soundChannel bitOf fieldOf
+unfolding channelWith isRunning soundChannel fieldsAgree sameFields sameFlag bitOf fieldOf split
 narrow-plain =
     record {
       runs = refl;
@@ -45,11 +46,12 @@ narrow-plain =
       unended = refl;
       ongoing = refl;
       sound = refl;
+      agree = refl;
     }
 
 -- and both 16
 wide-plain : Plain (wideAt 8 0 5)
-unfolding channelWith isRunning soundChannel bitOf fieldOf
+unfolding channelWith isRunning soundChannel fieldsAgree sameFields sameFlag bitOf fieldOf split
 wide-plain =
     record {
       runs = refl;
@@ -63,11 +65,12 @@ wide-plain =
       unended = refl;
       ongoing = refl;
       sound = refl;
+      agree = refl;
     }
 
 -- every premise on the start, both widths 8
 pub narrow-met : Copy 5 (narrowAt 0 16 5) memoryStart
-unfolding channelWith memoryWith source destination bitOf span allPass touchableAt lentAt spaceOf indexOf limitOf
+unfolding channelWith memoryWith source destination bitOf span allPass touchableAt lentAt spaceOf indexOf limitOf split
 narrow-met =
     record {
       plain = narrow-plain;
@@ -81,7 +84,7 @@ narrow-met =
 
 -- and both 16, in one space
 pub wide-met : Copy 5 (wideAt 8 0 5) memoryStart
-unfolding channelWith memoryWith source destination bitOf span allPass touchableAt lentAt spaceOf indexOf limitOf
+unfolding channelWith memoryWith source destination bitOf span allPass touchableAt lentAt spaceOf indexOf limitOf split
 wide-met =
     record {
       plain = wide-plain;
@@ -95,12 +98,12 @@ wide-met =
 
 -- a transfer step with all that it is made of laid open, so that it computes
 unfoldable pub transferOpen : Channel → Buffers → Transfer
-unfolding channelWith memoryWith transferOf transferNumber transferStages stagesNumber first unless badMode source destination touchedByTransfer readPlaces also entryOf storedPlaces placesOn allPass touchableAt lentAt spaceOf indexOf limitOf dataOf delivered fetched fetchedSecond twoMove wordSide secondAddress bitOf fieldOf storesTwo cutShort storedSingly firstMeets meetsTmc matchMet movedMemory putOn storeByte byteAt beyondIn movedChannel endedBy endedTP endedPSW movedBy withTransfer gained onward bytesMoved bytesStored bytesCounted countAfter endCode codeIf larger offsetOf withPsw withBit matchOf
+unfolding channelWith memoryWith transferOf transferNumber transferStages stagesNumber first unless badMode source destination touchedByTransfer readPlaces also entryOf storedPlaces placesOn allPass touchableAt lentAt spaceOf indexOf limitOf dataOf delivered fetched fetchedSecond twoMove wordSide secondAddress bitOf fieldOf storesTwo cutShort storedSingly firstMeets meetsTmc matchMet movedMemory putOn storeByte byteAt beyondIn movedChannel endedBy endedTP endedPSW movedBy withTransfer gained onward bytesMoved bytesStored bytesCounted countAfter endCode codeIf larger offsetOf withPsw withBit matchOf split
 transferOpen c m = transferOf c m
 
 -- both widths 8: the total is five
 pub narrow-total : total (narrowAt 0 16 5) 5 ≡ 5
-unfolding total narrow channelWith source destination bitOf
+unfolding total narrow channelWith source destination bitOf split
 narrow-total = refl
 
 -- and five steps, computed, end it
@@ -110,7 +113,7 @@ narrow-run = refl
 
 -- both widths 16 and even: the total is three
 pub wide-total : total (wideAt 8 0 5) 5 ≡ 3
-unfolding total narrow alone channelWith source destination bitOf wordSide
+unfolding total narrow alone channelWith source destination bitOf wordSide split
 wide-total = refl
 
 -- and three steps, computed, end it

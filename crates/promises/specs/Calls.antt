@@ -15,7 +15,7 @@ use Rattle.promises.specs.Premises.{into}
 use Rattle.promises.specs.Stages.{Within, Going, Ended}
 use Rattle.promises.specs.Rows.{Untouched}
 
--- a step call is a channel's turn: none of 12, 11, 10 and 13 refuses it, and the choice falls on that channel
+-- a step call is a channel's turn: none of 12, 11, 10, 13 and 14 refuses it, and the choice falls on that channel
 pub record Turn (second : Bool) (s : State) (m : Buffers) (lines : ℕ) : Type 0 where
   pub entered : entryNumber s m lines ≡ 0
   pub chosen : choiceOf s lines ≡ Steps second

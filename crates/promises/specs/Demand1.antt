@@ -8,6 +8,7 @@ use mathlib.Core.Path.{_≡_}
 use Prim.Native.Nat.{ℕ, _+_, _*_, _/_, _%_, _<_, _≤_}
 use Rattle.memory.specs.Buffers.{Buffers}
 use Rattle.memory.specs.Values.{pointer}
+use Rattle.machine.specs.Cc.{split}
 use Rattle.machine.specs.declared.Channel.{Channel}
 use Rattle.machine.specs.declared.Mode.the-variants.{Idle}
 use Rattle.machine.specs.declared.State.{State}
@@ -34,6 +35,8 @@ pub record Blank (c : Channel) : Type 0 where
   pub psw : c .psw ≡ 0
   pub mode : c .mode ≡ Idle
   pub armed : c .armed ≡ false
+  -- the fields are those of CC 0
+  pub fields : c .fields ≡ split 0
 
 -- a fresh state of any CP
 pub record FreshAnswers (cp : ℕ) : Type 0 where
@@ -56,8 +59,8 @@ pub record AttentionAnswers (s : State) (m : Buffers) (channel : ℕ) : Type 0 w
   pub sameState : ¬ (attentionOf s m channel .number ≡ 0) → attentionOf s m channel .state ≡ s
   -- and every byte of both memories
   pub sameMemory : ¬ (attentionOf s m channel .number ≡ 0) → attentionOf s m channel .memory ≡ m
-  -- no number is over 13
-  pub bound : attentionOf s m channel .number ≤ 13
+  -- no number is over 14
+  pub bound : attentionOf s m channel .number ≤ 14
 
 -- a step with any lines, of any state and memories
 pub record StepAnswers (s : State) (m : Buffers) (lines : ℕ) : Type 0 where
@@ -69,14 +72,14 @@ pub record StepAnswers (s : State) (m : Buffers) (lines : ℕ) : Type 0 where
   pub sameMemory : ¬ (stepOf s m lines .number ≡ 0) → stepOf s m lines .memory ≡ m
   -- it is of no channel
   pub noChannel : ¬ (stepOf s m lines .number ≡ 0) → stepOf s m lines .channel ≡ 0
-  -- no number is over 13
-  pub bound : stepOf s m lines .number ≤ 13
+  -- no number is over 14
+  pub bound : stepOf s m lines .number ≤ 14
 
 -- a run with any CP, channel, lines and limit, in any memories
 pub record RunAnswers (m : Buffers) (cp channel lines limit : ℕ) : Type 0 where
   -- a run is r, its number, steps and memories, exactly where it ends so
   pub ends : (r : Run) → (runOf m cp channel lines limit ≡ r) ↔ RunEnds m cp channel lines limit r
-  -- no number is over 12, so none is 13: a state from a CP counts as powered up; and no more steps are done than the limit, nor more than 65,535
+  -- no number is over 12, so none is 13 or 14: a state from a CP counts as powered up, and its fields stay those of CC; and no more steps are done than the limit, nor more than 65,535
   pub bound : runOf m cp channel lines limit .number ≤ 12
   pub stepsBound : runOf m cp channel lines limit .steps ≤ limit
   pub stepsSmall : runOf m cp channel lines limit .steps < 65536

@@ -38,6 +38,7 @@ pub record OnlyControl (before after : Channel) : Type 0 where
   pub ix : after .ix ≡ before .ix
   pub cc : after .cc ≡ before .cc
   pub mc : after .mc ≡ before .mc
+  pub fields : after .fields ≡ before .fields
 
 -- an attention, to any channel in any state and memories
 pub record AttentionDoes (s : State) (m : Buffers) (channel : ℕ) : Type 0 where

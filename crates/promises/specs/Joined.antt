@@ -10,7 +10,6 @@ use Rattle.memory.specs.Places.{Apart}
 use Rattle.memory.specs.declared.Pointer.{Pointer}
 use Rattle.machine.specs.declared.Channel.{Channel}
 use Rattle.machine.specs.declared.State.{State}
-use Rattle.machine.specs.Cc.{countEnd}
 use Rattle.machine.specs.Conditions.{Given}
 use Rattle.machine.specs.States.{channelOf, isRunning, channelNumber, blockOf, busyIn}
 use Rattle.transfer.specs.Ends.{offsetOf}
@@ -23,7 +22,7 @@ use Rattle.promises.specs.Runs.{DoneSteps, startChecks, firstAttention}
 use Rattle.promises.specs.Stages.{onBy, Outside, Within}
 use Rattle.promises.specs.Totals.{total}
 
--- a channel is alone: none of 12, 11, 10 and 13 refuses a step, and the other channel does not run
+-- a channel is alone: none of 12, 11, 10, 13 and 14 refuses a step, and the other channel does not run
 pub record RunsAlone (second : Bool) (s : State) (m : Buffers) (lines : ℕ) : Type 0 where
   pub entered : entryNumber s m lines ≡ 0
   pub idle : isRunning (channelOf s (not second) .mode) ≡ false
@@ -41,7 +40,7 @@ pub record Through (second : Bool) (n : ℕ) (s₀ : State) (m₀ : Buffers) (li
 
 -- where TP is once a transfer has ended by its count
 abbrev pub endOf : Channel → Pointer
-endOf c = onBy (c .tp) (offsetOf (countEnd (c .cc)))
+endOf c = onBy (c .tp) (offsetOf (c .fields .countEnd))
 
 -- a run comes to a transfer: it is started and its attention accepted, and k done steps lead to a state and a memory in which its channel is alone and
 -- meets demand 3's premises. HLT stands where the transfer's end leads, and is no byte of the destination; its BUSY is lent; the limit lets the

@@ -16,6 +16,7 @@ pub mod Program
 pub mod Image
 pub mod Made
 pub mod Powering
+pub mod Fields
 pub mod SheetWords
 pub mod SheetAttention
 pub mod SheetOperands

@@ -6,9 +6,8 @@ use Rattle.memory.specs.declared.Pointer.{Pointer}
 use Rattle.memory.specs.Buffers.{Buffers, lentAt}
 use Rattle.memory.specs.Places.{Apart}
 use Rattle.machine.specs.declared.Channel.{Channel}
-use Rattle.machine.specs.Cc.{destinationMoves, sourceMoves, translates, synchronised, singleTransfer, externalEnd, countEnd, matchEnd}
 use Rattle.machine.specs.Psw.{transferring}
-use Rattle.machine.specs.States.{isRunning, soundChannel}
+use Rattle.machine.specs.States.{isRunning, soundChannel, fieldsAgree}
 use Rattle.transfer.specs.Sides.{source, destination}
 
 -- where the source's bytes begin
@@ -34,19 +33,21 @@ pub record Plain (c : Channel) : Type 0 where
   -- and transfers: XF is set
   pub transfers : transferring (c .psw) ≡ true
   -- both sides move on
-  pub leaves : sourceMoves (c .cc) ≡ true
-  pub enters : destinationMoves (c .cc) ≡ true
+  pub leaves : c .fields .sourceMoves ≡ true
+  pub enters : c .fields .destinationMoves ≡ true
   -- no synchronisation: SYN 00
-  pub unsynchronised : synchronised (c .cc) ≡ 0
+  pub unsynchronised : c .fields .synchronised ≡ 0
   -- no translation
-  pub untranslated : translates (c .cc) ≡ false
+  pub untranslated : c .fields .translates ≡ false
   -- the byte count alone can end it: TBC on, TMC off, TX off, TS 0
-  pub counts : countEnd (c .cc) ≡ 0 → ⊥
-  pub unmatched : matchEnd (c .cc) % 4 ≡ 0
-  pub unended : externalEnd (c .cc) ≡ 0
-  pub ongoing : singleTransfer (c .cc) ≡ false
+  pub counts : c .fields .countEnd ≡ 0 → ⊥
+  pub unmatched : c .fields .matchEnd % 4 ≡ 0
+  pub unended : c .fields .externalEnd ≡ 0
+  pub ongoing : c .fields .singleTransfer ≡ false
   -- its pointers are of 20 bits; with any other every step is refused by 10
   pub sound : soundChannel c ≡ true
+  -- its fields are those of its CC; with any other every step is refused by 14
+  pub agree : fieldsAgree c ≡ true
 
 -- the start: the channel, n bytes to go (BC 0 stands for 65,536), and both ranges. That a range does not wrap is not asked: a range that wraps
 -- is copied just so

@@ -104,6 +104,7 @@ pub record TransferLeft (c : Channel) (m : Buffers) (after : Channel) (m′ : Bu
   pub pp : after .pp ≡ c .pp
   pub ix : after .ix ≡ c .ix
   pub cc : after .cc ≡ c .cc
+  pub fields : after .fields ≡ c .fields
   pub mc : after .mc ≡ c .mc
   pub mode : after .mode ≡ c .mode
   pub mark : after .armed ≡ c .armed

@@ -8,6 +8,7 @@ use lib.ListN.{getD}
 use Rattle.words.specs.Choice.{pick}
 use Rattle.memory.specs.Buffers.{Buffers}
 use Rattle.memory.specs.Values.{pointer}
+use Rattle.machine.specs.Conditions.{FieldsDisagree}
 use Rattle.machine.specs.States.{channelOf}
 use Rattle.machine.specs.declared.Channel.{Channel}
 use Rattle.machine.specs.declared.Mode.{Mode}
@@ -70,12 +71,13 @@ pub record ExternalLeft (before after : Channel) : Type 0 where
   pub bc : after .bc ≡ before .bc
   pub ix : after .ix ≡ before .ix
   pub cc : after .cc ≡ before .cc
+  pub fields : after .fields ≡ before .fields
   pub mc : after .mc ≡ before .mc
   pub mode : after .mode ≡ before .mode
   pub mark : after .armed ≡ before .armed
 
--- a step call
+-- a step call; where the fields are not those of CC no choice is made, since 14 refuses it
 pub record TurnSheet (s : State) (m : Buffers) (lines : ℕ) : Type 0 where
-  pub choice : choiceOf s lines ≡ choiceIn s lines
+  pub choice : ¬ (FieldsDisagree s) → choiceOf s lines ≡ choiceIn s lines
   pub external : (second : Bool) → (stepOf s m lines) .number ≡ 0 → choiceOf s lines ≡ Ends second
       → ExternalLeft (channelOf s second) (ranChannel second s m lines) × ((stepOf s m lines) .memory ≡ m)

@@ -9,7 +9,6 @@ use Rattle.memory.specs.Values.{pointer}
 use Rattle.memory.specs.Buffers.{Buffers, spaceOf, byteAt}
 use Rattle.memory.specs.Places.{Apart}
 use Rattle.machine.specs.declared.Channel.{Channel}
-use Rattle.machine.specs.Cc.{countEnd}
 use Rattle.machine.specs.Psw.{transferring, withPsw}
 use Rattle.machine.specs.States.{isRunning}
 use Rattle.transfer.specs.Ends.{offsetOf}
@@ -30,7 +29,7 @@ midway c n j = withTransfer c (onBy (c .ga) j) (onBy (c .gb) j) (c .tp) ((n - j)
 -- register as at the start
 unfoldable pub finished : Channel → ℕ → Channel
 finished c n =
-    withTransfer c (onBy (c .ga) n) (onBy (c .gb) n) (onBy (c .tp) (offsetOf (countEnd (c .cc)))) 0 (withPsw (c .psw) 6 false)
+    withTransfer c (onBy (c .ga) n) (onBy (c .gb) n) (onBy (c .tp) (offsetOf (c .fields .countEnd))) 0 (withPsw (c .psw) 6 false)
 
 -- the ranges of n bytes from p and into q when j bytes have moved, m₀ being memory as it was at the start: the first j bytes of the source have
 -- arrived in order, the others have not, the source is as it was, and all is lent
@@ -69,4 +68,4 @@ pub record Ended (n : ℕ) (c₀ : Channel) (m₀ : Buffers) (c : Channel) (m : 
   pub count : c .bc ≡ 0
   pub over : transferring (c .psw) ≡ false
   pub runs : isRunning (c .mode) ≡ true
-  pub pointer : c .tp ≡ onBy (c₀ .tp) (offsetOf (countEnd (c₀ .cc)))
+  pub pointer : c .tp ≡ onBy (c₀ .tp) (offsetOf (c₀ .fields .countEnd))

@@ -10,9 +10,10 @@ use Rattle.memory.specs.Buffers.{Buffers, buffers}
 use Rattle.machine.specs.declared.Channel.{Channel}
 use Rattle.machine.specs.declared.Mode.the-variants.{Running}
 use Rattle.machine.specs.declared.State.{State}
+use Rattle.machine.specs.Cc.{split}
 use Rattle.machine.specs.States.{boardWith, idleChannel}
 
--- a running channel with these registers; the others are 0
+-- a running channel with these registers and the fields of its CC; the others are 0
 unfoldable pub channelWith : Pointer → Pointer → ℕ → ℕ → ℕ → ℕ → Channel
 channelWith ga gb tp bc cc psw =
     record {
@@ -28,6 +29,7 @@ channelWith ga gb tp bc cc psw =
       psw = psw;
       mode = Running;
       armed = false;
+      fields = split cc;
     }
 
 -- both widths 8 (PSW 44h: TB and XF), from GA to GB, CC C010h: both sides move on, TBC 10 (offset 4)

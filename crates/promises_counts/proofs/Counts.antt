@@ -16,7 +16,6 @@ use Rattle.memory.specs.Buffers.{Buffers}
 use Rattle.memory.specs.Places.{Place, span}
 use Rattle.memory.specs.Values.{onward}
 use Rattle.memory.specs.declared.Pointer.{Pointer}
-use Rattle.machine.specs.Cc.{translates, synchronised}
 use Rattle.machine.specs.Outcomes.{unless, first}
 use Rattle.machine.specs.Psw.{transferring}
 use Rattle.machine.specs.Registers.{baseOf}
@@ -127,12 +126,12 @@ also-length true p ps = sym (add-one′ (length ps))
 also-length false p ps = omega arith
 
 module _ (c : Channel) (m : Buffers) where
-  reads-length : length (readPlaces c m) ≡ suc (moreBy (twoMove c) + (moreBy (translates (c .cc)) + 0))
+  reads-length : length (readPlaces c m) ≡ suc (moreBy (twoMove c) + (moreBy (c .fields .translates) + 0))
   unfolding readPlaces
   reads-length =
       let second : Place = record { tag = (source c) .pointer .tag; address = secondAddress (source c) } in
       let entry : Place = record { tag = c .gc .tag; address = entryOf c m } in
-      ap suc (also-length (twoMove c) second (also (translates (c .cc)) entry []) ∙ ap (λ (k : ℕ). moreBy (twoMove c) + k) (also-length (translates (c .cc)) entry []))
+      ap suc (also-length (twoMove c) second (also (c .fields .translates) entry []) ∙ ap (λ (k : ℕ). moreBy (twoMove c) + k) (also-length (c .fields .translates) entry []))
 
   stores-length : length (storedPlaces c (dataOf c m)) ≡ suc (moreBy (storesTwo c (dataOf c m)) + 0)
   unfolding storedPlaces placesOn
@@ -140,12 +139,12 @@ module _ (c : Channel) (m : Buffers) where
       ap suc (also-length (storesTwo c (dataOf c m)) (record { tag = (destination c) .pointer .tag; address = secondAddress (destination c) }) [])
 
   -- the source's one or two, the translated one, the destination's one or two
-  touched-length : length (touchedByTransfer c m) ≡ 2 + moreBy (twoMove c) + moreBy (translates (c .cc)) + moreBy (storesTwo c (dataOf c m))
+  touched-length : length (touchedByTransfer c m) ≡ 2 + moreBy (twoMove c) + moreBy (c .fields .translates) + moreBy (storesTwo c (dataOf c m))
   unfolding touchedByTransfer
   touched-length = length-append (readPlaces c m) (storedPlaces c (dataOf c m)) ∙ ap₂ _+_ reads-length stores-length ∙ omega arith
 
   -- with translation no side is wide, so one byte moves
-  narrow : transferOf c m .number ≡ 0 → translates (c .cc) ≡ true → twoMove c ≡ false
+  narrow : transferOf c m .number ≡ 0 → c .fields .translates ≡ true → twoMove c ≡ false
   unfolding badMode
   narrow e t = one-moves c (word-narrow (source c) (left ((source c) .wide) ((destination c) .wide) thin)) (word-narrow (destination c) (right ((source c) .wide) ((destination c) .wide) thin))
     where
@@ -163,27 +162,27 @@ module _ (c : Channel) (m : Buffers) where
       after false false z h k = apart (sym k)
 
       thin : (source c) .wide || (destination c) .wide ≡ false
-      thin = after (eqb (synchronised (c .cc)) 3) (translates (c .cc)) ((source c) .wide || (destination c) .wide) ((exactly-0 c m) .0 e .0) t
+      thin = after (eqb (c .fields .synchronised) 3) (c .fields .translates) ((source c) .wide || (destination c) .wide) ((exactly-0 c m) .0 e .0) t
 
   -- where two bytes move nothing is translated
-  untranslated : transferOf c m .number ≡ 0 → twoMove c ≡ true → translates (c .cc) ≡ false
-  untranslated e two = go (translates (c .cc)) refl
+  untranslated : transferOf c m .number ≡ 0 → twoMove c ≡ true → c .fields .translates ≡ false
+  untranslated e two = go (c .fields .translates) refl
     where
-      go : (b : Bool) → translates (c .cc) ≡ b → translates (c .cc) ≡ false
+      go : (b : Bool) → c .fields .translates ≡ b → c .fields .translates ≡ false
       go true h = apart (sym two ∙ narrow e h)
       go false h = h
 
-  one-byte : transferOf c m .number ≡ 0 → twoMove c ≡ false → translates (c .cc) ≡ false → length (touchedByTransfer c m) ≡ 2
+  one-byte : transferOf c m .number ≡ 0 → twoMove c ≡ false → c .fields .translates ≡ false → length (touchedByTransfer c m) ≡ 2
   unfolding storesTwo
   one-byte e two t = touched-length ∙ rw (two, t)
 
-  translated-byte : transferOf c m .number ≡ 0 → translates (c .cc) ≡ true → length (touchedByTransfer c m) ≡ 3
+  translated-byte : transferOf c m .number ≡ 0 → c .fields .translates ≡ true → length (touchedByTransfer c m) ≡ 3
   unfolding storesTwo
   translated-byte e t = touched-length ∙ rw (narrow e t, t)
 
   two-bytes : transferOf c m .number ≡ 0 → twoMove c ≡ true → cutShort c (dataOf c m) ≡ false → length (touchedByTransfer c m) ≡ 4
   unfolding storesTwo
-  two-bytes e two cut = touched-length ∙ rw (untranslated e two, two, cut)
+  two-bytes e two cut = touched-length ∙ rw (two, cut, untranslated e two)
 
   singly-two : cutShort c (dataOf c m) ≡ true → twoMove c ≡ true
   unfolding cutShort storedSingly
@@ -191,12 +190,12 @@ module _ (c : Channel) (m : Buffers) where
 
   prevented-store : transferOf c m .number ≡ 0 → cutShort c (dataOf c m) ≡ true → length (touchedByTransfer c m) ≡ 3
   unfolding storesTwo
-  prevented-store e cut = touched-length ∙ rw (untranslated e (singly-two cut), singly-two cut, cut)
+  prevented-store e cut = touched-length ∙ rw (singly-two cut, cut, untranslated e (singly-two cut))
 
   at-most : transferOf c m .number ≡ 0 → length (touchedByTransfer c m) ≤ 4
-  at-most e = go (twoMove c) refl (translates (c .cc)) refl (cutShort c (dataOf c m)) refl
+  at-most e = go (twoMove c) refl (c .fields .translates) refl (cutShort c (dataOf c m)) refl
     where
-      go : (b : Bool) → twoMove c ≡ b → (t : Bool) → translates (c .cc) ≡ t → (x : Bool) → cutShort c (dataOf c m) ≡ x → length (touchedByTransfer c m) ≤ 4
+      go : (b : Bool) → twoMove c ≡ b → (t : Bool) → c .fields .translates ≡ t → (x : Bool) → cutShort c (dataOf c m) ≡ x → length (touchedByTransfer c m) ≤ 4
       go true two t h false cut = subst (λ (k : ℕ). k ≤ 4) (sym (two-bytes e two cut)) (lit≤ tt)
       go true two t h true cut = subst (λ (k : ℕ). k ≤ 4) (sym (prevented-store e cut)) (lit≤ tt)
       go false two true h x cut = subst (λ (k : ℕ). k ≤ 4) (sym (translated-byte e h)) (lit≤ tt)

@@ -9,7 +9,6 @@ use Rattle.words.specs.Choice.{pick}
 use Rattle.words.specs.Sums.{sum20}
 use Rattle.memory.specs.Buffers.{Buffers, byteAt}
 use Rattle.memory.specs.Places.{Place}
-use Rattle.machine.specs.Cc.{translates}
 use Rattle.machine.specs.Outcomes.{unless}
 use Rattle.machine.specs.Stages.{stage, stagesNumber}
 use Rattle.machine.specs.declared.Channel.{Channel}
@@ -63,11 +62,11 @@ module _ (c : Channel) (m n : Buffers) where
 
     -- the second byte, and the one that stands for the first
     behind : (pick (twoMove c) (byteAt n ((source c) .pointer .tag) (secondAddress (source c))) 0 ≡ pick (twoMove c) (byteAt m ((source c) .pointer .tag) (secondAddress (source c))) 0)
-        × AgreeOn (also (translates (c .cc)) (record { tag = c .gc .tag; address = entryOf c m }) []) m n
+        × AgreeOn (also (c .fields .translates) (record { tag = c .gc .tag; address = entryOf c m }) []) m n
     unfolding readPlaces
     behind =
         also-same (twoMove c) (record { tag = (source c) .pointer .tag; address = secondAddress (source c) })
-        (also (translates (c .cc)) (record { tag = c .gc .tag; address = entryOf c m }) []) (h .1)
+        (also (c .fields .translates) (record { tag = c .gc .tag; address = entryOf c m }) []) (h .1)
 
     second-same : fetchedSecond c n ≡ fetchedSecond c m
     unfolding fetchedSecond
@@ -76,8 +75,8 @@ module _ (c : Channel) (m n : Buffers) where
     delivered-same : delivered c n ≡ delivered c m
     unfolding delivered also
     delivered-same =
-        ap₂ (λ (e f : ℕ). pick (translates (c .cc)) (byteAt n (c .gc .tag) e) f) entry-same fetched-same
-        ∙ go (translates (c .cc)) (behind .1)
+        ap₂ (λ (e f : ℕ). pick (c .fields .translates) (byteAt n (c .gc .tag) e) f) entry-same fetched-same
+        ∙ go (c .fields .translates) (behind .1)
       where
         go : (x : Bool) → AgreeOn (also x (record { tag = c .gc .tag; address = entryOf c m }) []) m n
             → pick x (byteAt n (c .gc .tag) (entryOf c m)) (fetched c m) ≡ pick x (byteAt m (c .gc .tag) (entryOf c m)) (fetched c m)
@@ -94,7 +93,7 @@ module _ (c : Channel) (m n : Buffers) where
         ap₂ (λ e d.
         (record { tag = (source c) .pointer .tag; address = (source c) .pointer .address }
         ∷ also (twoMove c) (record { tag = (source c) .pointer .tag; address = secondAddress (source c) })
-        (also (translates (c .cc)) (record { tag = c .gc .tag; address = e }) []))
+        (also (c .fields .translates) (record { tag = c .gc .tag; address = e }) []))
         ++ storedPlaces c d) entry-same data-same
 
 -- ---- the step

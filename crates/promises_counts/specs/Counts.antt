@@ -8,7 +8,6 @@ use lib.ListN.{length}
 use Rattle.words.specs.Choice.{pick}
 use Rattle.memory.specs.Buffers.{Buffers}
 use Rattle.memory.specs.Places.{Place}
-use Rattle.machine.specs.Cc.{translates}
 use Rattle.machine.specs.States.{isSecond}
 use Rattle.machine.specs.declared.Channel.{Channel}
 use Rattle.machine.specs.declared.State.{State}
@@ -106,8 +105,8 @@ pub record AttentionCounts (s : State) (channel : ℕ) (m : Buffers) : Type 0 wh
 -- a done transfer step, by what it moves
 pub record TransferCounts (c : Channel) (m : Buffers) : Type 0 where
   -- one byte, as it is or translated
-  pub oneByte : transferOf c m .number ≡ 0 → twoMove c ≡ false → translates (c .cc) ≡ false → length (touchedByTransfer c m) ≡ 2
-  pub translated : transferOf c m .number ≡ 0 → translates (c .cc) ≡ true → length (touchedByTransfer c m) ≡ 3
+  pub oneByte : transferOf c m .number ≡ 0 → twoMove c ≡ false → c .fields .translates ≡ false → length (touchedByTransfer c m) ≡ 2
+  pub translated : transferOf c m .number ≡ 0 → c .fields .translates ≡ true → length (touchedByTransfer c m) ≡ 3
   -- two bytes; a port that does not move on is taken twice
   pub twoBytes : transferOf c m .number ≡ 0 → twoMove c ≡ true → cutShort c (dataOf c m) ≡ false → length (touchedByTransfer c m) ≡ 4
   -- two bytes, of which a match prevents the second store

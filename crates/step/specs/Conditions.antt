@@ -45,7 +45,7 @@ stepChecks s m lines =
     (check 1 (NoneRuns s lines)
     ∷ chosenChecks (choiceOf s lines) s m)
 
--- a condition that counts where 12, 11, 10 and 13 do not apply
+-- a condition that counts where 12, 11, 10, 13 and 14 do not apply
 abbrev pub StepAfterGiven : State → Buffers → ℕ → Type 0 → Type 0
 StepAfterGiven s m lines next = ¬ (LinesOver lines) × AfterGiven s m next
 

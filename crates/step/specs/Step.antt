@@ -78,7 +78,7 @@ chosenStep Nobody s m = refusedStep (choiceNumber Nobody) s m
 chosenStep (Ends second) s m = externalStep s m second
 chosenStep (Steps second) s m = channelStep s m second
 
--- what a step asks of what it is given: 12, 11, 10, then 13 (§3.4)
+-- what a step asks of what it is given: 12, 11, 10, 13, then 14 (§3.4)
 unfoldable pub entryNumber : State → Buffers → ℕ → ℕ
 entryNumber s m lines = first (unless (ltb lines 16) 12) (givenNumber s m)
 

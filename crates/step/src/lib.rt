@@ -109,7 +109,7 @@ fn chosen(choice: Choice, s: State, sys: &mut [u8], io: &mut [u8]) -> Stepped
     }
 }
 
-// The refusal of what a step is given: 12 for lines past 15, then 11, 10 and 13, else 0.
+// The refusal of what a step is given: 12 for lines past 15, then 11, 10, 13 and 14, else 0.
 pub fn entry_number(s: State, lines: u32, sys: &[u8], io: &[u8]) -> u32
     ensures { λ r. ⌜ r ≡ entryNumber s (buffers (now (sys .entry)) (now (io .entry))) lines ⌝ }
 {

@@ -1,0 +1,55 @@
+-- A channel whose fields are those of its CC, so that what is said by fields is said by bits of CC.
+-- Assumes nothing.
+use Prim.Native.Nat.{ℕ}
+use mathlib.Core.Bool.{Bool, true, false}
+use mathlib.Core.Path.{_≡_, refl, sym, ap, subst}
+use Rattle.machine.proofs.ConditionLaws.{Told}
+use Rattle.machine.proofs.FieldLaws.{agreed}
+use Rattle.machine.specs.Cc.{split}
+use Rattle.machine.specs.States.{fieldsAgree, agree}
+use Rattle.machine.specs.declared.Channel.{Channel}
+use Rattle.machine.specs.declared.Fields.{Fields}
+use Rattle.machine.specs.declared.State.{State}
+use Rattle.memory.specs.Buffers.{Buffers}
+use Rattle.step.proofs.OutcomeLaws.{by-step}
+use Rattle.step.proofs.SoundLaws.{entry-agree}
+use Rattle.step.specs.Step.{stepOf}
+
+abbrev with : Channel → Fields → Channel
+with c fields =
+    record {
+      ga = c .ga;
+      gb = c .gb;
+      gc = c .gc;
+      tp = c .tp;
+      pp = c .pp;
+      bc = c .bc;
+      ix = c .ix;
+      cc = c .cc;
+      mc = c .mc;
+      psw = c .psw;
+      mode = c .mode;
+      armed = c .armed;
+      fields = fields;
+    }
+
+-- the channel with its CC taken apart
+abbrev pub agreeing : Channel → Channel
+agreeing c = with c (split (c .cc))
+
+-- what holds of that channel holds of one that agrees
+pub by-bits : (P : Channel → Type 0) (c : Channel) → fieldsAgree c ≡ true → P (agreeing c) → P c
+by-bits P c h p = subst P (ap (with c) (sym (agreed c h))) p
+
+-- a test holds where its condition does not apply
+pub told-not : {ok : Bool} {A : Type 0} → Told ok A → ¬ A → ok ≡ true
+told-not {ok = true} t n = refl
+told-not {ok = false} t n = absurd (n (t .fails refl))
+
+-- the state of a done step agrees, since 14 did not refuse it
+pub done-agrees : (s : State) (m : Buffers) (lines : ℕ) → (stepOf s m lines) .number ≡ 0 → agree s ≡ true
+done-agrees s m lines =
+    by-step s m lines (λ o. o .number ≡ 0 → agree s ≡ true) (λ k ne e. absurd (ne e))
+    (λ b z e h. entry-agree s m lines z)
+    (λ b z e f h. entry-agree s m lines z)
+    (λ b z e f h. entry-agree s m lines z)
