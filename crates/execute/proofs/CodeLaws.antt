@@ -13,6 +13,7 @@ use Rattle.decode.specs.Reading.{numberOf}
 use Rattle.decode_shapes.specs.declared.Decoded.{Decoded}
 use Rattle.decode_shapes.specs.declared.Decoded.the-variants.{Instruction, NoInstruction, ControlUsed}
 use Rattle.decode_shapes.specs.declared.Shape.{Shape}
+use Rattle.machine.specs.Updates.{fieldsRenewed}
 use Rattle.machine.proofs.ConditionLaws.{first-assoc}
 use Rattle.machine.proofs.OutcomeLaws.{first-some, first-none}
 use Rattle.machine.specs.Outcomes.{unless, first}
@@ -103,7 +104,7 @@ module _ (m : Buffers) (c : Channel) (busy : ℕ) where
   stores-number b z e = split ∙ first-none (planNumber m c busy) (unless (allTouchable m (placesOf ((deedAt m c busy) .change))) 2) z ∙ ap (λ (x : Bool). unless x 2) e
 
   -- a plan that is not is done where its stores may be touched, and else refused by 2
-  pub plan-done : planNumber m c busy ≡ 0 → allTouchable m (placesOf ((deedAt m c busy) .change)) ≡ true → executeOf c busy m ≡ executed 0 ((deedAt m c busy) .channel) (changed m ((deedAt m c busy) .change))
+  pub plan-done : planNumber m c busy ≡ 0 → allTouchable m (placesOf ((deedAt m c busy) .change)) ≡ true → executeOf c busy m ≡ executed 0 (fieldsRenewed (c .cc) ((deedAt m c busy) .channel)) (changed m ((deedAt m c busy) .change))
   unfolding unless
   plan-done z e = done-by c busy m (stores-number true z e)
 

@@ -200,7 +200,10 @@ pub fn execute(c: Channel, busy: u32, sys: &mut [u8], io: &mut [u8]) -> Done
     let change = e.change;
     let channel = e.channel;
     if changes::made(change, sys, io) {
-        Done { number: 0, channel }
+        Done {
+            number: 0,
+            channel: machine::updates::fields_renewed(c.cc, channel),
+        }
     } else {
         Done {
             number: 2,

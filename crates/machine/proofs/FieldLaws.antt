@@ -1,6 +1,7 @@
--- The laws of the fields beside CC: they are those of CC exactly where the test says so, a register written renews them, and a channel put back agrees where it did.
+-- The laws of the fields beside CC: they are those of CC exactly where the test says so, an instruction leaves them so, and a state agrees where its channels do.
 -- Assumes nothing.
 use Prim.Native.Nat.{ℕ, _%_}
+use borrow.Author.Tests.{eqb-true}
 use lib.Dec.{eqb, ltb}
 use mathlib.Core.Bool.{Bool, true, false, not, _&&_}
 use mathlib.Core.Path.{_≡_, refl, sym, ap, _∙_}
@@ -8,8 +9,8 @@ use Rattle.words.proofs.ChoiceLaws.{apart, both-left, both-right}
 use Rattle.words.specs.Choice.{pick}
 use Rattle.machine.specs.Cc.{split, sameFlag, sameFields}
 use Rattle.machine.specs.Conditions.{FieldsDisagree}
-use Rattle.machine.specs.Registers.{withRegister}
 use Rattle.machine.specs.States.{boardWith, idleChannel, freshState, freshOf, blankState, channelOf, withChannel, withLast, fieldsAgree, agree}
+use Rattle.machine.specs.Updates.{fieldsRenewed}
 use Rattle.machine.specs.declared.Answer.{Answer}
 use Rattle.machine.specs.declared.Board.{Board}
 use Rattle.machine.specs.declared.Channel.{Channel}
@@ -96,14 +97,14 @@ pub same-agrees : (c c′ : Channel) → c′ .cc ≡ c .cc → c′ .fields ≡
 unfolding fieldsAgree
 same-agrees c c′ e f h = rw (e, f) h
 
--- a register written leaves fields that are those of CC, CC itself too
-pub written-agrees : (c : Channel) (r v : ℕ) (tag : Bool) → fieldsAgree c ≡ true → fieldsAgree (withRegister c r v tag) ≡ true
-unfolding withRegister
-written-agrees c r v tag h = agrees (withRegister c r v tag) (go (eqb r 6))
+-- a channel that an instruction leaves agrees, CC written or not, where the channel before it did and nothing but CC is taken apart
+pub renewed-agrees : (c d : Channel) → d .fields ≡ c .fields → fieldsAgree c ≡ true → fieldsAgree (fieldsRenewed (c .cc) d) ≡ true
+unfolding fieldsRenewed
+renewed-agrees c d e h = agrees (fieldsRenewed (c .cc) d) (go (eqb (d .cc) (c .cc)) refl)
   where
-    go : (b : Bool) → pick b (split (v % 65536)) (c .fields) ≡ split (pick b (v % 65536) (c .cc))
-    go true = refl
-    go false = agreed c h
+    go : (b : Bool) → eqb (d .cc) (c .cc) ≡ b → pick b (d .fields) (split (d .cc)) ≡ split (d .cc)
+    go true same = e ∙ agreed c h ∙ ap split (sym (eqb-true (d .cc) (c .cc) same))
+    go false same = refl
 
 -- ---- a state that agrees
 

@@ -1,6 +1,5 @@
 // The registers of a channel by RRR, with the rules of the tags, and the bases by MM.
 use crate::Channel;
-use crate::cc;
 use memory::Pointer;
 ghost use mathlib.Core.Path.{_≡_};
 ghost use Rattle.machine.specs.Registers as Registers;
@@ -35,7 +34,7 @@ pub fn tag(c: Channel, rrr: u32) -> bool
     }
 }
 
-// The channel with a register written; a pointer takes the tag too, and CC renews its fields.
+// The channel with a register written; a pointer takes the tag too.
 pub fn with(c: Channel, rrr: u32, value: u32, tag: bool) -> Channel
     ensures { λ r. ⌜ r ≡ withRegister c rrr value tag ⌝ }
 {
@@ -52,10 +51,7 @@ pub fn with(c: Channel, rrr: u32, value: u32, tag: bool) -> Channel
         3 => next.bc = w,
         4 => next.tp = p,
         5 => next.ix = w,
-        6 => {
-            next.cc = w;
-            next.fields = cc::split(w);
-        }
+        6 => next.cc = w,
         _ => next.mc = w,
     }
     next

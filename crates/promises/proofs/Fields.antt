@@ -11,7 +11,6 @@ use Rattle.attention.proofs.SoundLaws.{attention-agree}
 use Rattle.machine.proofs.FieldLaws.{agreed, agree-channel-of, blank-agree, fresh-agree, told-agree}
 use Rattle.machine.specs.Cc.{split, sameFlag, sameFields}
 use Rattle.machine.specs.Outcomes.{Outcome}
-use Rattle.machine.specs.Registers.{withRegister}
 use Rattle.machine.specs.States.{boardWith, resetState, agree}
 use Rattle.machine.specs.declared.Channel.{Channel}
 use Rattle.machine.specs.declared.State.{State}
@@ -74,7 +73,7 @@ each : (s : State) → agree s ≡ true → Agree s
 each s h second = agreed _ (agree-channel-of s second h)
 
 pub fields-kept : FieldsKept
-unfolding resetState withRegister
+unfolding resetState
 fields-kept = record {
   bits = by-bits;
   ninth = ninth;
@@ -85,6 +84,7 @@ fields-kept = record {
   step = λ s m lines e. each _ (step-agree s m lines (done-agrees s m lines e));
   otherAttended = λ s m channel second e. ap (λ (c : Channel). c .fields) (attention-does s m channel .other second e);
   otherStepped = λ s m lines second e. ap (λ (c : Channel). c .fields) (step-does s m lines .other second e);
-  renews = λ c v tag. refl;
-  leaves = λ c r v tag ne. rw ne;
+  sameControl = λ s m lines second e same.
+      let h = done-agrees s m lines e in
+      each _ (step-agree s m lines h) second ∙ ap split same ∙ sym (each s h second);
 }

@@ -7,11 +7,12 @@ use mathlib.Core.Path.{_≡_, refl, sym, ap, ap₂, subst, _∙_}
 use native.Mathlib.Nat.{mod-mod}
 use native.Mathlib.Omega.{arith}
 use Rattle.machine.proofs.ChannelLaws.{put-same, last-channel}
-use Rattle.machine.specs.Psw.{transferring, sourceWide, destinationWide}
+use Rattle.machine.proofs.FieldLaws.{agrees, agreed}
 use Rattle.machine.specs.Cc.{split}
+use Rattle.machine.specs.declared.Fields.{Fields}
+use Rattle.machine.specs.Psw.{transferring, sourceWide, destinationWide}
 use Rattle.machine.specs.States.{channelOf, withChannel, soundChannel, isRunning, blockOf, busyIn, fieldsAgree}
 use Rattle.machine.specs.declared.Channel.{Channel}
-use Rattle.machine.specs.declared.Fields.{Fields}
 use Rattle.machine.specs.declared.Mode.the-variants.{Running}
 use Rattle.machine.specs.declared.State.{State}
 use Rattle.memory.specs.Buffers.{Buffers}
@@ -103,17 +104,17 @@ pub place-is : (offset segment : ℕ) → pointer (addressOf (wordOf (lowByte of
 place-is offset segment = ap₂ (λ (x y : ℕ). pointer (addressOf x y) false) (word-is offset) (word-is segment)
 
 -- registers that are the same
-view-same : {ga ga′ gb gb′ tp tp′ : Pointer} {bc bc′ psw : ℕ} {fields : Fields} → ga ≡ ga′ → gb ≡ gb′ → tp ≡ tp′ → bc ≡ bc′
-    → view ga gb tp bc fields psw Running false ≡ view ga′ gb′ tp′ bc′ fields psw Running false
+view-same : {ga ga′ gb gb′ tp tp′ : Pointer} {bc bc′ cc psw : ℕ} → ga ≡ ga′ → gb ≡ gb′ → tp ≡ tp′ → bc ≡ bc′
+    → view ga gb tp bc cc psw Running false ≡ view ga′ gb′ tp′ bc′ cc psw Running false
 view-same e f g h = rw (e, f, g, h)
 
 -- the registers when the transfer begins
 abbrev pub begins : Job → Pointer → View
-begins j tp = view (fromPlace j) (intoPlace j) tp (j .count % 65536) (split 0xC008) (pswOf (j .fromWide) (j .intoWide)) Running false
+begins j tp = view (fromPlace j) (intoPlace j) tp (j .count % 65536) 0xC008 (pswOf (j .fromWide) (j .intoWide)) Running false
 
 module _ {lines : ℕ} {b : Bool} {s₀ : State} {m : Buffers} (j : Job) (tp : Pointer) (there : Stand m tp (programOf j)) where
   -- six instructions
-  pub six : Come lines b s₀ m 0 (view (pointer 0 false) (pointer 0 false) tp 0 (split 0) 4 Running false) → Come lines b s₀ m 6 (begins j (onBy tp haltAt))
+  pub six : Come lines b s₀ m 0 (view (pointer 0 false) (pointer 0 false) tp 0 0 4 Running false) → Come lines b s₀ m 6 (begins j (onBy tp haltAt))
   unfolding programOf isRunning bitOf
   six q₀ =
       let busy = busyIn (blockOf s₀ b) in
@@ -135,7 +136,7 @@ module _ {lines : ℕ} {b : Bool} {s₀ : State} {m : Buffers} (j : Job) (tp : P
 
 -- ---- the transfer
 
-module _ (j : Job) (tp : Pointer) (c : Channel) (seen : viewOf c ≡ begins j tp) where
+module _ (j : Job) (tp : Pointer) (c : Channel) (seen : viewOf c ≡ begins j tp) (a : fieldsAgree c ≡ true) where
   -- a part of what is seen
   abbrev pub part : {A : Type 0} (f : View → A) → f (viewOf c) ≡ f (begins j tp)
   part f = ap f seen
@@ -152,39 +153,45 @@ module _ (j : Job) (tp : Pointer) (c : Channel) (seen : viewOf c ≡ begins j tp
   pub source-is : source c ≡ side (fromPlace j) true (j .fromWide)
   unfolding source split bitOf
   source-is =
-      part (λ v. side (pick (v .fields .sourceIsGB) (v .gb) (v .ga)) (v .fields .sourceMoves) (sourceWide (v .psw)))
+      ap (λ (f : Fields). side (pick (f .sourceIsGB) (c .gb) (c .ga)) (f .sourceMoves) (sourceWide (c .psw))) (agreed c a)
+      ∙ part (λ v. side (pick (bitOf (v .cc) 10) (v .gb) (v .ga)) (bitOf (v .cc) 14) (sourceWide (v .psw)))
       ∙ ap (side (fromPlace j) true) (widths (j .fromWide) (j .intoWide) .1)
 
   pub destination-is : destination c ≡ side (intoPlace j) true (j .intoWide)
   unfolding destination split bitOf
   destination-is =
-      part (λ v. side (pick (v .fields .sourceIsGB) (v .ga) (v .gb)) (v .fields .destinationMoves) (destinationWide (v .psw)))
+      ap (λ (f : Fields). side (pick (f .sourceIsGB) (c .ga) (c .gb)) (f .destinationMoves) (destinationWide (c .psw))) (agreed c a)
+      ∙ part (λ v. side (pick (bitOf (v .cc) 10) (v .ga) (v .gb)) (bitOf (v .cc) 15) (destinationWide (v .psw)))
       ∙ ap (side (intoPlace j) true) (widths (j .fromWide) (j .intoWide) .2)
 
   -- where they begin
   pub from-is : from c ≡ fromPlace j
   unfolding source split bitOf
-  from-is = part (λ v. pick (v .fields .sourceIsGB) (v .gb) (v .ga))
+  from-is = ap (λ (f : Fields). pick (f .sourceIsGB) (c .gb) (c .ga)) (agreed c a) ∙ part (λ v. pick (bitOf (v .cc) 10) (v .gb) (v .ga))
 
   pub into-is : into c ≡ intoPlace j
   unfolding destination split bitOf
-  into-is = part (λ v. pick (v .fields .sourceIsGB) (v .ga) (v .gb))
+  into-is = ap (λ (f : Fields). pick (f .sourceIsGB) (c .ga) (c .gb)) (agreed c a) ∙ part (λ v. pick (bitOf (v .cc) 10) (v .ga) (v .gb))
+
+  -- a field of its CC, which is C008h
+  taken : {A : Type 0} (f : Fields → A) → f (c .fields) ≡ f (split 0xC008)
+  taken f = ap f (agreed c a ∙ part (λ v. split (v .cc)))
 
   -- all that demand 3 asks of it
-  pub plain-is : soundChannel c ≡ true → fieldsAgree c ≡ true → Plain c
+  pub plain-is : soundChannel c ≡ true → Plain c
   unfolding split bitOf fieldOf isRunning
-  plain-is q a =
+  plain-is q =
       record {
         runs = part (λ v. isRunning (v .mode));
         transfers = part (λ v. transferring (v .psw)) ∙ widths (j .fromWide) (j .intoWide) .0;
-        leaves = part (λ v. v .fields .sourceMoves);
-        enters = part (λ v. v .fields .destinationMoves);
-        unsynchronised = part (λ v. v .fields .synchronised);
-        untranslated = part (λ v. v .fields .translates);
-        counts = λ e. eqb-false 1 0 refl (sym (part (λ v. v .fields .countEnd)) ∙ e);
-        unmatched = part (λ v. v .fields .matchEnd % 4);
-        unended = part (λ v. v .fields .externalEnd);
-        ongoing = part (λ v. v .fields .singleTransfer);
+        leaves = taken (λ f. f .sourceMoves);
+        enters = taken (λ f. f .destinationMoves);
+        unsynchronised = taken (λ f. f .synchronised);
+        untranslated = taken (λ f. f .translates);
+        counts = λ e. eqb-false 1 0 refl (sym (taken (λ f. f .countEnd)) ∙ e);
+        unmatched = taken (λ f. f .matchEnd % 4);
+        unended = taken (λ f. f .externalEnd);
+        ongoing = taken (λ f. f .singleTransfer);
         sound = q;
         agree = a;
       }
@@ -195,10 +202,11 @@ unfolding total narrow alone
 total-same c d n e f = rw (e, f)
 
 -- so it is the job's
-pub total-is : (j : Job) (tp : Pointer) (c : Channel) → viewOf c ≡ begins j tp → total c (j .count) ≡ stepsOf j
+pub total-is : (j : Job) (tp : Pointer) (c : Channel) → viewOf c ≡ begins j tp → fieldsAgree c ≡ true → total c (j .count) ≡ stepsOf j
 unfolding copying channelWith
-total-is j tp c seen =
+total-is j tp c seen a =
     let d = copying (fromPlace j .address) (intoPlace j .address) (j .fromWide) (j .intoWide) (j .count) in
+    let e = agrees d refl in
     total-same c d (j .count)
-    (source-is j tp c seen ∙ sym (source-is j (pointer 0 false) d refl))
-    (destination-is j tp c seen ∙ sym (destination-is j (pointer 0 false) d refl))
+    (source-is j tp c seen a ∙ sym (source-is j (pointer 0 false) d refl e))
+    (destination-is j tp c seen a ∙ sym (destination-is j (pointer 0 false) d refl e))

@@ -57,7 +57,7 @@ pub record Starts (m : Buffers) (block pb program : ℕ) : Type 0 where
 pub record Begun (cp : ℕ) (second : Bool) (m : Buffers) (program : ℕ) : Type 0 where
   pub channel : Channel
   pub given : attentionOf (freshState cp) m (channelNumber second) ≡ outcome 0 (withChannel (freshState cp) second channel) (storeByte m false (blockOf (freshState cp) second + 1) 255)
-  pub seen : viewOf channel ≡ view (pointer 0 false) (pointer 0 false) (pointer program false) 0 (split 0) 4 Running false
+  pub seen : viewOf channel ≡ view (pointer 0 false) (pointer 0 false) (pointer program false) 0 0 4 Running false
   pub sound : soundChannel channel ≡ true
   pub agree : fieldsAgree channel ≡ true
 
@@ -132,9 +132,9 @@ module _ (cp : ℕ) (b : Bool) (m : Buffers) (pb program : ℕ) (k : Starts m (b
   channel-is = ap₂ (channelOrdered m) order-is (fresh-idle cp b)
 
   -- with its registers
-  seen : viewOf (channelOrdered m order idleChannel) ≡ view (pointer 0 false) (pointer 0 false) (pointer program false) 0 (split 0) 4 Running false
+  seen : viewOf (channelOrdered m order idleChannel) ≡ view (pointer 0 false) (pointer 0 false) (pointer program false) 0 0 4 Running false
   unfolding order idleChannel channelOrdered commanded started withControl ordered copied obeyed withPsw withBit bitOf fieldOf
-  seen = ap (λ (a : ℕ). view (pointer 0 false) (pointer 0 false) (pointer a false) 0 (split 0) 4 Running false) (k .task)
+  seen = ap (λ (a : ℕ). view (pointer 0 false) (pointer 0 false) (pointer a false) 0 0 4 Running false) (k .task)
 
   -- of 20 bits
   sound-is : soundChannel (channelOrdered m order idleChannel) ≡ true

@@ -7,9 +7,7 @@ use mathlib.Core.List.{List, _∷_}
 use mathlib.Core.Path.{_≡_, refl, sym, ap, ap₂, subst, _∙_}
 use native.Mathlib.Nat.{mod-mod}
 use native.Mathlib.Omega.{arith}
-use Rattle.machine.specs.Cc.{split}
-use Rattle.machine.specs.declared.Fields.{Fields}
-use Rattle.machine.specs.Updates.{renewed, withControl, stoppedPsw, halted}
+use Rattle.machine.specs.Updates.{renewed, withControl, fieldsRenewed, stoppedPsw, halted}
 use Rattle.decode.specs.Lengths.{dataLength, displacementLength, lengthOf}
 use Rattle.decode.specs.Reading.{lookup, decodeOf}
 use Rattle.decode.specs.Table.{table}
@@ -54,17 +52,17 @@ pub record View : Type 0 where
   pub gb : Pointer
   pub tp : Pointer
   pub bc : ℕ
-  pub fields : Fields
+  pub cc : ℕ
   pub psw : ℕ
   pub mode : Mode
   pub armed : Bool
 
-abbrev pub view : Pointer → Pointer → Pointer → ℕ → Fields → ℕ → Mode → Bool → View
-view ga gb tp bc fields psw mode armed = record { ga = ga; gb = gb; tp = tp; bc = bc; fields = fields; psw = psw; mode = mode; armed = armed }
+abbrev pub view : Pointer → Pointer → Pointer → ℕ → ℕ → ℕ → Mode → Bool → View
+view ga gb tp bc cc psw mode armed = record { ga = ga; gb = gb; tp = tp; bc = bc; cc = cc; psw = psw; mode = mode; armed = armed }
 
 -- those of a channel
 abbrev pub viewOf : Channel → View
-viewOf c = view (c .ga) (c .gb) (c .tp) (c .bc) (c .fields) (c .psw) (c .mode) (c .armed)
+viewOf c = view (c .ga) (c .gb) (c .tp) (c .bc) (c .cc) (c .psw) (c .mode) (c .armed)
 
 -- a done instruction: the channel that it leaves with the registers that it has, and the memory
 pub record After (m : Buffers) (c : Channel) (busy : ℕ) (v : View) (m′ : Buffers) : Type 0 where
@@ -127,35 +125,36 @@ module _ (m : Buffers) (c : Channel) (busy : ℕ) where
   shape-executed : (shape : Shape) {one two : ℕ} {rest : List ℕ} → Stand m (c .tp) (one ∷ two ∷ rest) → decodeOf one two ≡ Instruction shape
       → allTouchable m (laterBytes shape c) ≡ true → (deedOf shape m c busy) .second ≡ 0 → allTouchable m ((deedOf shape m c busy) .reads) ≡ true
       → allTouchable m (placesOf ((deedOf shape m c busy) .change)) ≡ true
-      → executeOf c busy m ≡ executed 0 ((deedOf shape m c busy) .channel) (changed m ((deedOf shape m c busy) .change))
+      → executeOf c busy m ≡ executed 0 (fieldsRenewed (c .cc) ((deedOf shape m c busy) .channel)) (changed m ((deedOf shape m c busy) .change))
   shape-executed shape there e = done-where c busy m shape (decoded there (omega arith) ∙ e) (pair-touchable there (omega arith))
 
   -- LPDI of a register
   lpdi-executed : (r : ℕ) {one lo hi lo′ hi′ : ℕ} {rest : List ℕ} → Stand m (c .tp) (one ∷ 0x08 ∷ lo ∷ hi ∷ lo′ ∷ hi′ ∷ rest)
-      → decodeOf one 0x08 ≡ Instruction (Lpdi r) → executeOf c busy m ≡ executed 0 (loaded (pastInstruction c 6) r (addressOf (wordOf lo hi) (wordOf lo′ hi′))) m
+      → decodeOf one 0x08 ≡ Instruction (Lpdi r) → executeOf c busy m ≡ executed 0 (fieldsRenewed (c .cc) (loaded (pastInstruction c 6) r (addressOf (wordOf lo hi) (wordOf lo′ hi′)))) m
   unfolding changed deedOf performed lpdiDeed placesOf laterBytes span allPass lengthOf dataLength displacementLength onward
   lpdi-executed r there e =
       shape-executed (Lpdi r) there e (rest-touchable there 2 4 (omega arith)) refl refl refl
-      ∙ ap (λ (a : ℕ). executed 0 (loaded (pastInstruction c 6) r a) m) (pointer-given m (onBy (c .tp) 2) _ (stand-on there 2) (omega arith))
+      ∙ ap (λ (a : ℕ). executed 0 (fieldsRenewed (c .cc) (loaded (pastInstruction c 6) r a)) m) (pointer-given m (onBy (c .tp) 2) _ (stand-on there 2) (omega arith))
 
   -- bytes that stand where TP is known to be
   here : {v : View} {code : List ℕ} → viewOf c ≡ v → Stand m (v .tp) code → Stand m (c .tp) code
   here {code = code} s there = subst (λ (v : View). Stand m (v .tp) code) (sym s) there
 
-  module _ {ga gb tp : Pointer} {bc psw : ℕ} {fields : Fields} (s : viewOf c ≡ view ga gb tp bc fields psw Running false) where
+  module _ {ga gb tp : Pointer} {bc cc psw : ℕ} (s : viewOf c ≡ view ga gb tp bc cc psw Running false) where
     -- TP past an instruction
-    seen-on : (n : ℕ) → viewOf (pastInstruction c n) ≡ view ga gb (onBy tp n) bc fields psw Running false
+    seen-on : (n : ℕ) → viewOf (pastInstruction c n) ≡ view ga gb (onBy tp n) bc cc psw Running false
     unfolding pastInstruction renewed onward usedUp
-    seen-on n = ap (λ (v : View). view (v .ga) (v .gb) (onBy (v .tp) n) (v .bc) (v .fields) (usedUp (v .armed) (v .psw)) (v .mode) false) s
+    seen-on n = ap (λ (v : View). view (v .ga) (v .gb) (onBy (v .tp) n) (v .bc) (v .cc) (usedUp (v .armed) (v .psw)) (v .mode) false) s
 
     -- LPDI of a register, by what it puts into the view
     lpdi-to : (r : ℕ) (into : Pointer → View → View) {one lo hi lo′ hi′ : ℕ} {rest : List ℕ} → decodeOf one 0x08 ≡ Instruction (Lpdi r)
         → ((d : Channel) (a : ℕ) → viewOf (loaded d r a) ≡ into (pointer (a % 1048576) false) (viewOf d)) → Stand m tp (one ∷ 0x08 ∷ lo ∷ hi ∷ lo′ ∷ hi′ ∷ rest)
-        → After m c busy (into (pointer (addressOf (wordOf lo hi) (wordOf lo′ hi′)) false) (view ga gb (onBy tp 6) bc fields psw Running false)) m
+        → After m c busy (into (pointer (addressOf (wordOf lo hi) (wordOf lo′ hi′)) false) (view ga gb (onBy tp 6) bc cc psw Running false)) m
+    unfolding fieldsRenewed
     lpdi-to r into {lo = lo} {hi} {lo′} {hi′} code puts there =
         let address = addressOf (wordOf lo hi) (wordOf lo′ hi′) in
         record {
-          channel = loaded (pastInstruction c 6) r address;
+          channel = fieldsRenewed (c .cc) (loaded (pastInstruction c 6) r address);
           step = lpdi-executed r (here s there) code;
           seen =
               puts (pastInstruction c 6) address
@@ -165,8 +164,8 @@ module _ (m : Buffers) (c : Channel) (busy : ℕ) where
     -- MOVI of a word to a register, so too
     movi-to : (r : ℕ) (into : ℕ → View → View) {one lo hi : ℕ} {rest : List ℕ} → decodeOf one 0x30 ≡ Instruction (RegisterImmediate Mov r true)
         → ((d : Channel) (a : ℕ) → viewOf (moved d r a) ≡ into (a % 65536) (viewOf d)) → Stand m tp (one ∷ 0x30 ∷ lo ∷ hi ∷ rest)
-        → After m c busy (into (wordOf lo hi % 65536) (view ga gb (onBy tp 4) bc fields psw Running false)) m
-    unfolding registerWritten isMove workOf lengthOf dataLength displacementLength
+        → After m c busy (into (wordOf lo hi % 65536) (view ga gb (onBy tp 4) bc cc psw Running false)) m
+    unfolding fieldsRenewed registerWritten isMove workOf lengthOf dataLength displacementLength
     movi-to r into {one} {lo} {hi} {rest} code puts there =
         record {
           channel = immediateDone Mov r true c (one ∷ 0x30 ∷ lo ∷ hi ∷ rest);
@@ -176,57 +175,57 @@ module _ (m : Buffers) (c : Channel) (busy : ℕ) where
 
     -- LPDI GA
     pub lpdi-ga : {lo hi lo′ hi′ : ℕ} {rest : List ℕ} → Stand m tp (0x11 ∷ 0x08 ∷ lo ∷ hi ∷ lo′ ∷ hi′ ∷ rest)
-        → After m c busy (view (pointer (addressOf (wordOf lo hi) (wordOf lo′ hi′)) false) gb (onBy tp 6) bc fields psw Running false) m
+        → After m c busy (view (pointer (addressOf (wordOf lo hi) (wordOf lo′ hi′)) false) gb (onBy tp 6) bc cc psw Running false) m
     unfolding withRegister
-    lpdi-ga = lpdi-to 0 (λ p v. view p (v .gb) (v .tp) (v .bc) (v .fields) (v .psw) (v .mode) (v .armed)) (lpdi-codes .0) (λ d a. refl)
+    lpdi-ga = lpdi-to 0 (λ p v. view p (v .gb) (v .tp) (v .bc) (v .cc) (v .psw) (v .mode) (v .armed)) (lpdi-codes .0) (λ d a. refl)
 
     -- LPDI GB
     pub lpdi-gb : {lo hi lo′ hi′ : ℕ} {rest : List ℕ} → Stand m tp (0x31 ∷ 0x08 ∷ lo ∷ hi ∷ lo′ ∷ hi′ ∷ rest)
-        → After m c busy (view ga (pointer (addressOf (wordOf lo hi) (wordOf lo′ hi′)) false) (onBy tp 6) bc fields psw Running false) m
+        → After m c busy (view ga (pointer (addressOf (wordOf lo hi) (wordOf lo′ hi′)) false) (onBy tp 6) bc cc psw Running false) m
     unfolding withRegister
-    lpdi-gb = lpdi-to 1 (λ p v. view (v .ga) p (v .tp) (v .bc) (v .fields) (v .psw) (v .mode) (v .armed)) (lpdi-codes .1) (λ d a. refl)
+    lpdi-gb = lpdi-to 1 (λ p v. view (v .ga) p (v .tp) (v .bc) (v .cc) (v .psw) (v .mode) (v .armed)) (lpdi-codes .1) (λ d a. refl)
 
     -- MOVI BC
     pub movi-bc : {lo hi : ℕ} {rest : List ℕ} → Stand m tp (0x71 ∷ 0x30 ∷ lo ∷ hi ∷ rest)
-        → After m c busy (view ga gb (onBy tp 4) (wordOf lo hi % 65536) fields psw Running false) m
+        → After m c busy (view ga gb (onBy tp 4) (wordOf lo hi % 65536) cc psw Running false) m
     unfolding withRegister
-    movi-bc = movi-to 3 (λ x v. view (v .ga) (v .gb) (v .tp) x (v .fields) (v .psw) (v .mode) (v .armed)) (movi-codes .0) (λ d a. refl)
+    movi-bc = movi-to 3 (λ x v. view (v .ga) (v .gb) (v .tp) x (v .cc) (v .psw) (v .mode) (v .armed)) (movi-codes .0) (λ d a. refl)
 
     -- MOVI CC
     pub movi-cc : {lo hi : ℕ} {rest : List ℕ} → Stand m tp (0xD1 ∷ 0x30 ∷ lo ∷ hi ∷ rest)
-        → After m c busy (view ga gb (onBy tp 4) bc (split (wordOf lo hi % 65536)) psw Running false) m
+        → After m c busy (view ga gb (onBy tp 4) bc (wordOf lo hi % 65536) psw Running false) m
     unfolding withRegister
-    movi-cc = movi-to 6 (λ x v. view (v .ga) (v .gb) (v .tp) (v .bc) (split x) (v .psw) (v .mode) (v .armed)) (movi-codes .1) (λ d a. refl)
+    movi-cc = movi-to 6 (λ x v. view (v .ga) (v .gb) (v .tp) (v .bc) x (v .psw) (v .mode) (v .armed)) (movi-codes .1) (λ d a. refl)
 
     -- XFER
-    pub xfer-arms : {rest : List ℕ} → Stand m tp (0x60 ∷ 0x00 ∷ rest) → After m c busy (view ga gb (onBy tp 2) bc fields psw Running true) m
-    unfolding changed deedOf performed xferDeed markSet placesOf laterBytes allPass lengthOf dataLength displacementLength span pastInstruction renewed onward usedUp
+    pub xfer-arms : {rest : List ℕ} → Stand m tp (0x60 ∷ 0x00 ∷ rest) → After m c busy (view ga gb (onBy tp 2) bc cc psw Running true) m
+    unfolding fieldsRenewed changed deedOf performed xferDeed markSet placesOf laterBytes allPass lengthOf dataLength displacementLength span pastInstruction renewed onward usedUp
     xfer-arms there =
         record {
-          channel = (deedOf Xfer m c busy) .channel;
+          channel = fieldsRenewed (c .cc) ((deedOf Xfer m c busy) .channel);
           step = shape-executed Xfer (here s there) (control-codes .0) refl refl refl refl;
-          seen = ap (λ (v : View). view (v .ga) (v .gb) (onBy (v .tp) 2) (v .bc) (v .fields) (usedUp (v .armed) (v .psw)) (v .mode) (not (v .armed))) s;
+          seen = ap (λ (v : View). view (v .ga) (v .gb) (onBy (v .tp) 2) (v .bc) (v .cc) (usedUp (v .armed) (v .psw)) (v .mode) (not (v .armed))) s;
         }
 
   -- WID as the instruction after XFER, of a program with TB alone in PSW: the transfer begins
-  pub wid-begins : {ga gb tp : Pointer} {bc : ℕ} {fields : Fields} (source destination : Bool) {rest : List ℕ} → viewOf c ≡ view ga gb tp bc fields 4 Running true
-      → Stand m tp (widOf source destination ∷ 0x00 ∷ rest) → After m c busy (view ga gb (onBy tp 2) bc fields (pswOf source destination) Running false) m
-  unfolding changed deedOf performed widDeed withStatus placesOf laterBytes allPass lengthOf dataLength displacementLength span pastInstruction renewed onward
-  wid-begins {ga} {gb} {tp} {bc} {fields} source destination s there =
+  pub wid-begins : {ga gb tp : Pointer} {bc cc : ℕ} (source destination : Bool) {rest : List ℕ} → viewOf c ≡ view ga gb tp bc cc 4 Running true
+      → Stand m tp (widOf source destination ∷ 0x00 ∷ rest) → After m c busy (view ga gb (onBy tp 2) bc cc (pswOf source destination) Running false) m
+  unfolding fieldsRenewed changed deedOf performed widDeed withStatus placesOf laterBytes allPass lengthOf dataLength displacementLength span pastInstruction renewed onward
+  wid-begins {ga} {gb} {tp} {bc} {cc} source destination s there =
       record {
-        channel = (deedOf (Wid source destination) m c busy) .channel;
+        channel = fieldsRenewed (c .cc) ((deedOf (Wid source destination) m c busy) .channel);
         step = shape-executed (Wid source destination) (here s there) (wid-code source destination) refl refl refl refl;
         seen =
-            ap (λ (v : View). view (v .ga) (v .gb) (onBy (v .tp) 2) (v .bc) (v .fields) (withPsw (withPsw (usedUp (v .armed) (v .psw)) 1 source) 0 destination) (v .mode) false) s
-            ∙ ap (λ (psw : ℕ). view ga gb (onBy tp 2) bc fields psw Running false) (wid-psw source destination);
+            ap (λ (v : View). view (v .ga) (v .gb) (onBy (v .tp) 2) (v .bc) (v .cc) (withPsw (withPsw (usedUp (v .armed) (v .psw)) 1 source) 0 destination) (v .mode) false) s
+            ∙ ap (λ (psw : ℕ). view ga gb (onBy tp 2) bc cc psw Running false) (wid-psw source destination);
       }
 
   -- HLT: BUSY is 0, and the channel does not run
   pub hlt-stops : {rest : List ℕ} → Stand m (c .tp) (0x20 ∷ 0x48 ∷ rest) → lentAt m false busy ≡ true → Stopped m c busy
-  unfolding changed deedOf performed hltDeed halted withControl placesOf laterBytes allPass touchableAt lengthOf dataLength displacementLength span isRunning
+  unfolding fieldsRenewed changed deedOf performed hltDeed halted withControl placesOf laterBytes allPass touchableAt lengthOf dataLength displacementLength span isRunning
   hlt-stops there l =
       record {
-        channel = (deedOf Hlt m c busy) .channel;
+        channel = fieldsRenewed (c .cc) ((deedOf Hlt m c busy) .channel);
         step = shape-executed Hlt there (control-codes .1) refl refl refl (rw l);
         still = refl;
       }

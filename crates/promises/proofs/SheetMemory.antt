@@ -51,7 +51,7 @@ use Rattle.promises.specs.SheetWords.{bit, formOf, tagsOf, tagIn, pointi
 use Rattle.promises.specs.SheetOperands.{Ran, ranChannel, codeByte, baseAddress, baseTag, addedBy, operandAddress, offsetBytes, grownBy, rawIn, operandIn, ddOf, displacementIn, whether, worksOf, singlesOf, resultBytes, registersAt, pastBy, jumpedBy, valuePast, RegistersLeft, storedThere, BytesLeft}
 use Rattle.promises.specs.SheetRegisters.{Goes}
 use Rattle.promises.specs.SheetMemory.{Stores, pastPair, byteOperand, landed, MemorySheet}
-use Rattle.promises.proofs.SheetOperands.{pairWith, pair-is, base-is, task-left, deedIn, channel-left, memory-left, places-touchable, memoryWith, place-is, operand-is, grown-left, jumped-left}
+use Rattle.promises.proofs.SheetOperands.{pairWith, pair-is, base-is, task-left, deedIn, registers-left, memory-left, places-touchable, memoryWith, place-is, operand-is, grown-left, jumped-left}
 use Rattle.promises.proofs.SheetRegisters.{ap₃, pair-length, size-is, found, tag-past, goes}
 
 -- ---- bytes stored in a row
@@ -235,7 +235,7 @@ module _ {b : Bool} {s : State} {m : Buffers} {lines r dd aa w op mm : ℕ} (x :
       → (allTouchable m (placesOf ch) ≡ true → BytesLeft (baseTag (channelOf s b) mm) (operandAddress m (channelOf s b) mm aa) bytes m (changed m ch))
       → Stores b s m lines mm aa bytes tp ix
   stores {tp} {ix} {k} {bytes} ch l e f left = (
-    subst (λ (k′ : Channel). RegistersLeft (channelOf s b) k′ (registersAt (channelOf s b) tp ix) (tagsOf (channelOf s b))) (sym (channel-left x shape small reads ∙ e)) l,
+    registers-left x shape small reads e l,
     subst (λ (m′ : Buffers). BytesLeft (baseTag (channelOf s b) mm) (operandAddress m (channelOf s b) mm aa) bytes m m′)
         (sym (memory-left x shape small reads ∙ ap (changed m) f))
         (left (ap (λ (z : Change). allTouchable m (placesOf z)) (sym f) ∙ places-touchable x shape small reads)),
@@ -602,8 +602,7 @@ module _ {b : Bool} {s : State} {m : Buffers} {lines : ℕ} where
       (pairs-long aa (x .mode)) (size-is w (x .wide)) (behind-is c mm aa w (x .mode))
       ∙ ap₂ (λ (p y : Pointer). resultTo p (eqb w 1) (operandAt m y (eqb w 1))) (second-place m c aa w mm aa₂ mm₂ (x .mode) (x .wide) (x .base) ha₂ hm₂) (place-is m c k₀ mm aa w (x .mode) (x .base))
       ∙ ap (resultTo (pointer a₂ (baseTag c mm₂)) (eqb w 1)) (operand-is m (baseTag c mm) (operandAddress m c mm aa) (operandAddress m c mm aa) w (x .wide) refl)) in (
-        subst (λ (k′ : Channel). RegistersLeft c k′ (registersAt c (pastPair b s m lines aa (2 + offsetBytes aa₂)) (grownBy (grownBy (c .ix) aa (w + 1)) aa₂ (w + 1))) (tagsOf c))
-            (sym (channel-left x (MovMemory o) (lit< tt) refl ∙ channel)) (both-left′ m c aa w mm aa₂ mm₂ (x .mode) (x .wide) (x .base) ha₂ hm₂),
+        registers-left x (MovMemory o) (lit< tt) refl channel (both-left′ m c aa w mm aa₂ mm₂ (x .mode) (x .wide) (x .base) ha₂ hm₂),
         subst (λ (m′ : Buffers). BytesLeft (baseTag c mm₂) a₂ (resultBytes v w) m m′)
             (sym (memory-left x (MovMemory o) (lit< tt) refl ∙ ap (changed m) change))
             (result-left m (baseTag c mm₂) a₂ v w (x .wide) (ap (λ (z : Change). allTouchable m (placesOf z)) (sym change) ∙ places-touchable x (MovMemory o) (lit< tt) refl)),

@@ -37,7 +37,7 @@ use Rattle.promises.specs.SheetWords.{farIn, storedIn, storedTagIn, tags
 use Rattle.promises.specs.SheetOperands.{Ran, baseTag, operandAddress, offsetBytes, grownBy, operandIn, ddOf, displacementIn, whether, worksOf, singlesOf, registersAt, pastBy, jumpedBy, valuePast, RegistersLeft}
 use Rattle.promises.specs.SheetRegisters.{Loads, Goes, RegisterSheet}
 use Rattle.promises.proofs.SheetLaws.{far-alike}
-use Rattle.promises.proofs.SheetOperands.{pairWith, deedIn, channel-left, memory-left, memoryWith, place-is, operand-is, value-is, tag-is, past-left, grown-left, written-left, jumped-left}
+use Rattle.promises.proofs.SheetOperands.{pairWith, deedIn, registers-left, memory-left, memoryWith, place-is, operand-is, value-is, tag-is, past-left, grown-left, written-left, jumped-left}
 
 -- three equations under a function
 pub ap₃ : {A B C D : Type 0} (f : A → B → C → D) {a a′ : A} {b b′ : B} {c c′ : C} → a ≡ a′ → b ≡ b′ → c ≡ c′ → f a b c ≡ f a′ b′ c′
@@ -76,8 +76,7 @@ module _ {b : Bool} {s : State} {m : Buffers} {lines r dd aa w op mm : ℕ} (x :
   loads : {k : Channel} (n : ℕ) {ix : ℕ} (v : ℕ) (tag : Bool) → RegistersLeft (channelOf s b) k (registersAt (channelOf s b) (pastBy (channelOf s b) n) ix) (tagsOf (channelOf s b))
       → deedIn s m b shape .channel ≡ withRegister k r v tag → changed m (deedIn s m b shape .change) ≡ m → Loads b s m lines r v tag n ix
   loads {k} n {ix} v tag l e f = (
-    subst (λ (k′ : Channel). RegistersLeft (channelOf s b) k′ (setValue (registersAt (channelOf s b) (pastBy (channelOf s b) n) ix) r v) (setTag (tagsOf (channelOf s b)) r tag))
-        (sym (channel-left x shape small reads ∙ e)) (written-left (channelOf s b) r v tag (x .rrr) l),
+    registers-left x shape small reads e (written-left (channelOf s b) r v tag (x .rrr) l),
     memory-left x shape small reads ∙ f,
   )
 
@@ -85,7 +84,7 @@ module _ {b : Bool} {s : State} {m : Buffers} {lines r dd aa w op mm : ℕ} (x :
   pub goes : {tp ix : ℕ} {k : Channel} → RegistersLeft (channelOf s b) k (registersAt (channelOf s b) tp ix) (tagsOf (channelOf s b))
       → deedIn s m b shape .channel ≡ k → changed m (deedIn s m b shape .change) ≡ m → Goes b s m lines tp ix
   goes {tp} {ix} l e f = (
-    subst (λ (k′ : Channel). RegistersLeft (channelOf s b) k′ (registersAt (channelOf s b) tp ix) (tagsOf (channelOf s b))) (sym (channel-left x shape small reads ∙ e)) l,
+    registers-left x shape small reads e l,
     memory-left x shape small reads ∙ f,
   )
 

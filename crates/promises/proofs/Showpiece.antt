@@ -11,11 +11,12 @@ use native.Mathlib.Omega.{arith}
 use Rattle.attention.specs.Conditions.{NoChannel}
 use Rattle.machine.proofs.ChannelLaws.{put-same, put-other, put-cp, sound-channel-of}
 use Rattle.machine.proofs.ConditionLaws.{told-limits}
-use Rattle.machine.proofs.FieldLaws.{agree-channel-of}
+use Rattle.machine.proofs.FieldLaws.{agreed, agree-channel-of}
+use Rattle.machine.specs.declared.Fields.{Fields}
 use Rattle.machine.specs.Cc.{split}
 use Rattle.machine.specs.Conditions.{Given}
 use Rattle.machine.specs.Outcomes.{Outcome, outcome}
-use Rattle.machine.specs.States.{freshState, channelOf, withChannel, withLast, sound, isRunning, channelNumber, blockOf, busyIn}
+use Rattle.machine.specs.States.{freshState, channelOf, withChannel, withLast, sound, isRunning, channelNumber, blockOf, busyIn, fieldsAgree}
 use Rattle.machine.specs.declared.Channel.{Channel}
 use Rattle.machine.specs.declared.State.{State}
 use Rattle.memory.proofs.PlaceLaws.{index-reduced, lent-index, byte-index}
@@ -120,13 +121,17 @@ module _ {j : Job} {l : Layout} {m : Buffers} {lines limit : ℕ} (r : Ready j l
   abbrev c₁ : Channel
   c₁ = channelOf s₁ b
 
+  -- its fields are those of its CC
+  agree₁ : fieldsAgree c₁ ≡ true
+  agree₁ = agree-channel-of s₁ b (entry-agree s₁ m₀ lines (come .lonely .entered))
+
   -- ---- the transfer
 
   source-at : from c₁ ≡ fromPlace j
-  source-at = from-is j (onBy (programPlace l) haltAt) c₁ (come .seen)
+  source-at = from-is j (onBy (programPlace l) haltAt) c₁ (come .seen) agree₁
 
   destination-at : into c₁ ≡ intoPlace j
-  destination-at = into-is j (onBy (programPlace l) haltAt) c₁ (come .seen)
+  destination-at = into-is j (onBy (programPlace l) haltAt) c₁ (come .seen) agree₁
 
   -- what is lent is lent
   kept : (u : Bool) (a : ℕ) → lentAt m₀ u a ≡ lentAt m u a
@@ -135,7 +140,7 @@ module _ {j : Job} {l : Layout} {m : Buffers} {lines limit : ℕ} (r : Ready j l
   copy : Copy n c₁ m₀
   copy =
       record {
-        plain = plain-is j (onBy (programPlace l) haltAt) c₁ (come .seen) (sound-channel-of s₁ b (entry-sound s₁ m₀ lines (come .lonely .entered))) (agree-channel-of s₁ b (entry-agree s₁ m₀ lines (come .lonely .entered)));
+        plain = plain-is j (onBy (programPlace l) haltAt) c₁ (come .seen) agree₁ (sound-channel-of s₁ b (entry-sound s₁ m₀ lines (come .lonely .entered)));
         some = r .some;
         most = r .most;
         count = ap (λ (v : View). v .bc) (come .seen);
@@ -147,7 +152,9 @@ module _ {j : Job} {l : Layout} {m : Buffers} {lines limit : ℕ} (r : Ready j l
   -- its end leads to HLT
   end-is : endOf c₁ ≡ onBy (programPlace l) haltAt
   unfolding split fieldOf offsetOf
-  end-is = ap (λ (v : View). onBy (v .tp) (offsetOf (v .fields .countEnd))) (come .seen) ∙ on-twice (programPlace l) haltAt 0
+  end-is =
+      ap (λ (f : Fields). onBy (c₁ .tp) (offsetOf (f .countEnd))) (agreed c₁ agree₁)
+      ∙ ap (λ (v : View). onBy (v .tp) (offsetOf (fieldOf (v .cc) 3 2))) (come .seen) ∙ on-twice (programPlace l) haltAt 0
 
   halt : Stand m₀ (endOf c₁) (0x20 ∷ 0x48 ∷ [])
   unfolding programOf
@@ -197,7 +204,7 @@ module _ {j : Job} {l : Layout} {m : Buffers} {lines limit : ℕ} (r : Ready j l
         halt = halt;
         haltKept = halt-kept;
         busy = busy-lent;
-        enough = omega (arith, r .enough, total-is j (onBy (programPlace l) haltAt) c₁ (come .seen));
+        enough = omega (arith, r .enough, total-is j (onBy (programPlace l) haltAt) c₁ (come .seen) agree₁);
       }
 
   run : Halted b n 6 s₁ m₀ (runIn l m lines limit)
@@ -232,14 +239,14 @@ module _ {j : Job} {l : Layout} {m : Buffers} {lines limit : ℕ} (r : Ready j l
         accepted = comes .accepted;
         instructions = comes .steps;
         copy = copy;
-        row = through b n s₁ m₀ lines copy (come .lonely) (stepsOf j) (omega (arith, total-is j (onBy (programPlace l) haltAt) c₁ (come .seen)));
+        row = through b n s₁ m₀ lines copy (come .lonely) (stepsOf j) (omega (arith, total-is j (onBy (programPlace l) haltAt) c₁ (come .seen) agree₁));
       }
 
   runs : RunCopies j l m (runIn l m lines limit)
   runs =
       record {
         number = run .number;
-        steps = omega (arith, run .steps, total-is j (onBy (programPlace l) haltAt) c₁ (come .seen));
+        steps = omega (arith, run .steps, total-is j (onBy (programPlace l) haltAt) c₁ (come .seen) agree₁);
         memory = moved;
       }
 

@@ -7,6 +7,7 @@ use mathlib.Core.Bool.{Bool}
 use mathlib.Core.Path.{_≡_, sym, ap, ap₂, _∙_}
 use Rattle.memory.specs.Buffers.{Buffers, buffers}
 use Rattle.memory.specs.Places.{allTouchable}
+use Rattle.machine.specs.Updates.{fieldsRenewed}
 use Rattle.words.specs.Choice.{pick}
 use Rattle.execute_operands.specs.Changes.{placesOf, changed}
 use Rattle.execute_deeds.specs.Deeds.{unread}
@@ -38,6 +39,9 @@ returns c =
 made-requires : tie.Need-made-requires
 made-requires c κs = search needs
 
+fields-renewed-requires : tie.Need-fields-renewed-requires
+fields-renewed-requires c κs = search needs
+
 same-length-3 : tie.Need-same-length-3
 same-length-3 c = search needs
 
@@ -46,16 +50,17 @@ same-length-4 c = search needs
 
 returns-2 : tie.Need-returns-2
 returns-2 c =
-    let a = c .before .before .before .before .before .before .before .before .before .before .before .before .before .before .before .before .before .args in
+    let a = c .before .before .before .before .before .before .before .before .before .before .before .before .before .before .before .before .before .before .args in
     let m = buffers (now (a .sys)) (now (a .io)) in
-    let e = c .before .before .before .before .before .before .before .before .before .before .before .before .plan .result in
-    let p = c .before .before .before .before .before .before .before .before .before .before .before .before .plan .ensures in
-    let z : planNumber m (a .c) (a .busy) ≡ 0 = sym (p .told) ∙ c .before .before .before .before .before .before .before .before .before .before .if1 .left in
+    let e = c .before .before .before .before .before .before .before .before .before .before .before .before .before .plan .result in
+    let p = c .before .before .before .before .before .before .before .before .before .before .before .before .before .plan .ensures in
+    let z : planNumber m (a .c) (a .busy) ≡ 0 = sym (p .told) ∙ c .before .before .before .before .before .before .before .before .before .before .before .if1 .left in
     let same : e ≡ unread (deedAt m (a .c) (a .busy)) = p .done z in
-    let made = c .before .before .before .before .before .made in
-    let touchable = ap (λ (x : Effect). allTouchable m (placesOf (x .change))) (sym same) ∙ sym (made .ensures .0) ∙ c .if2 .taken in
-    ap (executed 0 (e .channel)) (made .ensures .1 ∙ ap (λ (x : Bool). pick x (changed m (e .change)) m) (c .if2 .taken))
-    ∙ ap (λ (x : Effect). executed 0 (x .channel) (changed m (x .change))) same
+    let made = c .before .before .before .before .before .before .made in
+    let taken = c .before .if2 .taken in
+    let touchable = ap (λ (x : Effect). allTouchable m (placesOf (x .change))) (sym same) ∙ sym (made .ensures .0) ∙ taken in
+    ap₂ (executed 0) (c .fields-renewed .ensures) (made .ensures .1 ∙ ap (λ (x : Bool). pick x (changed m (e .change)) m) taken)
+    ∙ ap (λ (x : Effect). executed 0 (fieldsRenewed (a .c .cc) (x .channel)) (changed m (x .change))) same
     ∙ sym (plan-done m (a .c) (a .busy) z touchable)
 
 same-length-5 : tie.Need-same-length-5
@@ -86,6 +91,7 @@ execute-spec =
     same-length-2
     returns
     made-requires
+    fields-renewed-requires
     same-length-3
     same-length-4
     returns-2
