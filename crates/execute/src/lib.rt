@@ -199,15 +199,17 @@ pub fn execute(c: Channel, busy: u32, sys: &mut [u8], io: &mut [u8]) -> Done
     }
     let change = e.change;
     let channel = e.channel;
-    if changes::made(change, sys, io) {
-        Done {
-            number: 0,
-            channel: machine::updates::fields_renewed(c.cc, channel),
-        }
-    } else {
-        Done {
+    if !changes::made(change, sys, io) {
+        return Done {
             number: 2,
             channel: c,
-        }
+        };
+    }
+    if channel.cc == c.cc {
+        return Done { number: 0, channel };
+    }
+    Done {
+        number: 0,
+        channel: machine::updates::fields_renewed(c.cc, channel),
     }
 }

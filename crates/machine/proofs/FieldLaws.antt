@@ -1,7 +1,7 @@
 -- The laws of the fields beside CC: they are those of CC exactly where the test says so, an instruction leaves them so, and a state agrees where its channels do.
 -- Assumes nothing.
 use Prim.Native.Nat.{ℕ, _%_}
-use borrow.Author.Tests.{eqb-true}
+use borrow.Author.Tests.{eqb-true, eq-eqb}
 use lib.Dec.{eqb, ltb}
 use mathlib.Core.Bool.{Bool, true, false, not, _&&_}
 use mathlib.Core.Path.{_≡_, refl, sym, ap, _∙_}
@@ -96,6 +96,11 @@ told-agree s = told-and (told-fields (s .first)) (told-fields (s .second))
 pub same-agrees : (c c′ : Channel) → c′ .cc ≡ c .cc → c′ .fields ≡ c .fields → fieldsAgree c ≡ true → fieldsAgree c′ ≡ true
 unfolding fieldsAgree
 same-agrees c c′ e f h = rw (e, f) h
+
+-- where CC is what it was nothing is taken apart
+pub same-control : (before : ℕ) (c : Channel) → c .cc ≡ before → fieldsRenewed before c ≡ c
+unfolding fieldsRenewed
+same-control before c e = rw (eq-eqb (c .cc) before e)
 
 -- a channel that an instruction leaves agrees, CC written or not, where the channel before it did and nothing but CC is taken apart
 pub renewed-agrees : (c d : Channel) → d .fields ≡ c .fields → fieldsAgree c ≡ true → fieldsAgree (fieldsRenewed (c .cc) d) ≡ true

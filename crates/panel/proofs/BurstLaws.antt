@@ -23,7 +23,7 @@ use Rattle.panel.proofs.RunLaws.{stops, goes}
 
 -- ---- step by step
 
-module _ (one : Channel → Buffers → Own) (on : Channel → Bool) (c : Channel) (m : Buffers) (done : ℕ) where
+module _ (one : Channel → Buffers → Own) (on : Channel → Channel → Bool) (c : Channel) (m : Buffers) (done : ℕ) where
   -- a refused step ends the burst
   pub burst-stops : (left : ℕ) → 0 < left → ((one c m) .number ≡ 0 → ⊥) → burstFrom one on left c m done ≡ burst ((one c m) .number) done c ((one c m) .memory)
   unfolding burstFrom
@@ -31,14 +31,14 @@ module _ (one : Channel → Buffers → Own) (on : Channel → Bool) (c : Channe
   burst-stops (suc left) h ne = rw (ne-eqb ((one c m) .number) 0 ne)
 
   -- so does a done step after which the channel does not go on
-  pub burst-ends : (left : ℕ) → 0 < left → (one c m) .number ≡ 0 → on ((one c m) .channel) ≡ false
+  pub burst-ends : (left : ℕ) → 0 < left → (one c m) .number ≡ 0 → on c ((one c m) .channel) ≡ false
       → burstFrom one on left c m done ≡ burst 0 (done + 1) ((one c m) .channel) ((one c m) .memory)
   unfolding burstFrom
   burst-ends zero h e f = absurd (not-suc-le-zero h)
   burst-ends (suc left) h e f = rw (eq-eqb ((one c m) .number) 0 e, f)
 
   -- any other done step leaves the rest of the burst
-  pub burst-goes : (left : ℕ) → 0 < left → (one c m) .number ≡ 0 → on ((one c m) .channel) ≡ true
+  pub burst-goes : (left : ℕ) → 0 < left → (one c m) .number ≡ 0 → on c ((one c m) .channel) ≡ true
       → burstFrom one on left c m done ≡ burstFrom one on (left - 1) ((one c m) .channel) ((one c m) .memory) (done + 1)
   unfolding burstFrom
   burst-goes zero h e f = absurd (not-suc-le-zero h)
@@ -54,13 +54,13 @@ module _ (one : Channel → Buffers → Own) (on : Channel → Bool) (c : Channe
 -- ---- a channel's own steps in a run
 
 -- what a burst rests on: while a state is ready, the step of the machine is the channel's own; and what a done step keeps
-pub record Turns (lines : ℕ) (b : Bool) (one : Channel → Buffers → Own) (on : Channel → Bool) : Type 1 where
+pub record Turns (lines : ℕ) (b : Bool) (one : Channel → Buffers → Own) (on : Channel → Channel → Bool) : Type 1 where
   pub Ready : State → Buffers → Type 0
   pub kind : Kind
   pub steps : (s : State) (m : Buffers) → Ready s m
       → stepOf s m lines ≡ settledStep ((one (channelOf s b) m) .number) s m b ((one (channelOf s b) m) .channel) ((one (channelOf s b) m) .memory) kind
   pub kept : (c : Channel) (m : Buffers) → ((one c m) .number ≡ 0 → ⊥) → (one c m) .memory ≡ m
-  pub again : (s : State) (m : Buffers) → Ready s m → isRunning (channelOf s (not b) .mode) ≡ false → on ((one (channelOf s b) m) .channel) ≡ true
+  pub again : (s : State) (m : Buffers) → Ready s m → isRunning (channelOf s (not b) .mode) ≡ false → on (channelOf s b) ((one (channelOf s b) m) .channel) ≡ true
       → Ready (withLast (withChannel s b ((one (channelOf s b) m) .channel)) b) ((one (channelOf s b) m) .memory)
   pub sounds : (c : Channel) (m : Buffers) → soundChannel c ≡ true → soundChannel ((one c m) .channel) ≡ true
   pub agrees : (c : Channel) (m : Buffers) → fieldsAgree c ≡ true → fieldsAgree ((one c m) .channel) ≡ true
@@ -81,7 +81,7 @@ last-again : (s : State) (b : Bool) → withLast (withLast s b) b ≡ withLast s
 unfolding withLast
 last-again s b = refl
 
-module _ (lines : ℕ) (b : Bool) (one : Channel → Buffers → Own) (on : Channel → Bool) (t : Turns lines b one on) where
+module _ (lines : ℕ) (b : Bool) (one : Channel → Buffers → Own) (on : Channel → Channel → Bool) (t : Turns lines b one on) where
   -- what a burst leaves is a sound channel that agrees and memories as long as before; it counts on, and no further than it may
   pub record Bounds (l : BurstLeft) (m : Buffers) (done n : ℕ) : Type 0 where
     pub least : done ≤ l .steps
@@ -95,7 +95,7 @@ module _ (lines : ℕ) (b : Bool) (one : Channel → Buffers → Own) (on : Chan
   unfolding burstFrom
   bounds zero c m done h a = record { least = omega arith; most = omega arith; further = λ z e. omega arith; sound = h; agree = a; limits = refl }
   bounds (suc n) c m done h a =
-      go (bounds n ((one c m) .channel) ((one c m) .memory) (done + 1) (t .sounds c m h) (t .agrees c m a)) (eqb ((one c m) .number) 0) refl (on ((one c m) .channel))
+      go (bounds n ((one c m) .channel) ((one c m) .memory) (done + 1) (t .sounds c m h) (t .agrees c m a)) (eqb ((one c m) .number) 0) refl (on c ((one c m) .channel))
     where
       o : Own
       o = one c m
@@ -140,7 +140,7 @@ module _ (lines : ℕ) (b : Bool) (one : Channel → Buffers → Own) (on : Chan
       ∙ ap₂ (λ (k : ℕ) (x : State). stepsFrom k x m lines done) e (ap (λ (x : State). withLast x b) (put-back s b) ∙ l refl)
   joins (suc n) zero s m done h r i l = absurd (not-suc-le-zero h)
   joins (suc n) (suc left) s m done h r i l =
-      go (λ w x y z. joins n left next (o .memory) (done + 1) w x y z) (ℕ-discrete (o .number) 0) (on (o .channel)) refl
+      go (λ w x y z. joins n left next (o .memory) (done + 1) w x y z) (ℕ-discrete (o .number) 0) (on c (o .channel)) refl
     where
       c : Channel
       c = channelOf s b
@@ -173,7 +173,7 @@ module _ (lines : ℕ) (b : Bool) (one : Channel → Buffers → Own) (on : Chan
 
       go : (n ≤ left → (0 < n → t .Ready next (o .memory)) → (1 < n → isRunning (channelOf next (not b) .mode) ≡ false) → (n ≡ 0 → withLast next b ≡ next)
           → afterBurst lines b next (left + (done + 1)) (burstFrom one on n (channelOf next b) (o .memory) (done + 1)) ≡ stepsFrom left next (o .memory) lines (done + 1))
-          → Dec (o .number ≡ 0) → (x : Bool) → on (o .channel) ≡ x
+          → Dec (o .number ≡ 0) → (x : Bool) → on c (o .channel) ≡ x
           → afterBurst lines b s (suc left + done) (burstFrom one on (suc n) c m done) ≡ stepsFrom (suc left) s m lines done
       go rest (no ne) x f = refused ne
       go rest (yes z) false f =

@@ -160,8 +160,9 @@ module _ (lines : ℕ) (b : Bool) where
         let e = executes busy c m in
         let q = entry-sound s m lines (r .0 .0) in
         let a = entry-agree s m lines (r .0 .0) in
-        let running = running-is (e .channel .mode) (both-left (isRunning (e .channel .mode)) (not (transferring (e .channel .psw))) on) in
-        let no-xf = not-true (transferring (e .channel .psw)) (both-right (isRunning (e .channel .mode)) (not (transferring (e .channel .psw))) on) in (
+        let goes = both-left (isRunning (e .channel .mode) && not (transferring (e .channel .psw))) (eqb (e .channel .cc) (c .cc)) on in
+        let running = running-is (e .channel .mode) (both-left (isRunning (e .channel .mode)) (not (transferring (e .channel .psw))) goes) in
+        let no-xf = not-true (transferring (e .channel .psw)) (both-right (isRunning (e .channel .mode)) (not (transferring (e .channel .psw))) goes) in (
           (
             entry-again s (withLast (withChannel s b (e .channel)) b) m (e .memory) lines (r .0 .0) (done-sound s b (e .channel) q (execute-sound c busy m (sound-channel-of s b q)))
                 (done-agree s b (e .channel) a (execute-agree c busy m (agree-channel-of s b a)))
@@ -204,7 +205,7 @@ until-later other done limit h = omega (arith, until-bounds other done limit h .
 
 module _ (p : Pair) (shared : Shared) (lines limit done : ℕ) (m : Buffers) (h : done < limit) (z : entryNumber (stateOf p shared) m lines ≡ 0) where
   -- steps of the one at hand are a round, where they are its own steps in the run
-  pub burst-round : (one : Channel → Buffers → Own) (on : Channel → Bool) (t : Turns lines (p .second) one on) → t .Ready (stateOf p shared) m
+  pub burst-round : (one : Channel → Buffers → Own) (on : Channel → Channel → Bool) (t : Turns lines (p .second) one on) → t .Ready (stateOf p shared) m
       → (number steps : ℕ) (c : Channel) (m′ : Buffers) → burst number steps c m′ ≡ burstFrom one on (untilOf (p .other .mode) done limit - done) (p .mine) m done
       → Rounded (roundAfter number steps (pairAfter p c)) (stateOf p shared) m m′ lines limit done
   unfolding restOf stateOf

@@ -37,29 +37,29 @@ pub record BurstLeft : Type 0 where
 abbrev pub burst : ℕ → ℕ → Channel → Buffers → BurstLeft
 burst number steps c m = record { number = number; steps = steps; channel = c; memory = m }
 
--- steps of a channel in a row, while its own step is done and leaves it as `on` asks: `left` may still be done, `done` were
-unfoldable pub burstFrom : (Channel → Buffers → Own) → (Channel → Bool) → ℕ → Channel → Buffers → ℕ → BurstLeft
+-- steps of a channel in a row, while its own step is done and takes it on as `on` asks of it before and after: `left` may still be done, `done` were
+unfoldable pub burstFrom : (Channel → Buffers → Own) → (Channel → Channel → Bool) → ℕ → Channel → Buffers → ℕ → BurstLeft
 burstFrom one on zero c m done = burst 0 done c m
 burstFrom one on (suc left) c m done =
     let o = one c m in
     let rest = burstFrom one on left (o .channel) (o .memory) (done + 1) in
     pick (eqb (o .number) 0)
-    (pick (on (o .channel)) rest (burst 0 (done + 1) (o .channel) (o .memory)))
+    (pick (on c (o .channel)) rest (burst 0 (done + 1) (o .channel) (o .memory)))
     (burst (o .number) done c (o .memory))
 
 -- a transfer step, and whether the transfer goes on
 abbrev pub moves : Channel → Buffers → Own
 moves c m = let t = transferOf c m in own (t .number) (t .channel) (t .memory)
 
-abbrev pub transfersOn : Channel → Bool
-transfersOn c = transferring (c .psw)
+abbrev pub transfersOn : Channel → Channel → Bool
+transfersOn c after = transferring (after .psw)
 
--- an instruction, and whether another follows
+-- an instruction, and whether another follows; one that changes CC ends the row, so that the fields are those of its start
 abbrev pub executes : ℕ → Channel → Buffers → Own
 executes busy c m = let e = executeOf c busy m in own (e .number) (e .channel) (e .memory)
 
-abbrev pub executesOn : Channel → Bool
-executesOn c = isRunning (c .mode) && not (transferring (c .psw))
+abbrev pub executesOn : Channel → Channel → Bool
+executesOn c after = isRunning (after .mode) && not (transferring (after .psw)) && eqb (after .cc) (c .cc)
 
 -- where a burst stops at the latest: after one step where the other channel runs too, else at the limit
 unfoldable pub untilOf : Mode → ℕ → ℕ → ℕ

@@ -78,7 +78,7 @@ fn transfers(c: Channel, sys: &mut [u8], io: &mut [u8], from: u16, stop: u16) ->
     }
 }
 
-// Instructions of a channel until it stops or starts a transfer, one is refused, or none is left; BUSY is at `busy` of system memory.
+// Instructions of a channel until it stops, starts a transfer or gets another CC, one is refused, or none is left; BUSY is at `busy` of system memory.
 fn instructions(c: Channel, busy: u32, sys: &mut [u8], io: &mut [u8], from: u16, stop: u16) -> Burst
     requires { ⌜ from ≤ stop ⌝ }
     ensures { λ r. ⌜ burst (r .number) (r .steps) (r .channel) (buffers (now (sys .exit)) (now (io .exit))) ≡ burstFrom (executes busy) executesOn (stop - from) c (buffers (now (sys .entry)) (now (io .entry))) from ⌝ }
@@ -96,9 +96,10 @@ fn instructions(c: Channel, busy: u32, sys: &mut [u8], io: &mut [u8], from: u16,
         }
         let next = e.channel;
         let mode = next.mode;
+        let same = next.cc == mine.cc;
         mine = next;
         done += 1;
-        if !(machine::states::is_running(mode) & !machine::psw::transferring(next.psw)) {
+        if !(machine::states::is_running(mode) & !machine::psw::transferring(next.psw) & same) {
             return Burst {
                 number: 0,
                 steps: done,

@@ -2,11 +2,13 @@
 -- Assumes nothing.
 use Prim.Native.Nat.{ℕ}
 use borrow.Author.Needs.{needs}
+use borrow.Author.Tests.{not-true, not-false}
 use denote.Ref.{now}
 use mathlib.Core.Bool.{Bool}
 use mathlib.Core.Path.{_≡_, sym, ap, ap₂, _∙_}
 use Rattle.memory.specs.Buffers.{Buffers, buffers}
 use Rattle.memory.specs.Places.{allTouchable}
+use Rattle.machine.proofs.FieldLaws.{same-control}
 use Rattle.machine.specs.Updates.{fieldsRenewed}
 use Rattle.words.specs.Choice.{pick}
 use Rattle.execute_operands.specs.Changes.{placesOf, changed}
@@ -39,9 +41,6 @@ returns c =
 made-requires : tie.Need-made-requires
 made-requires c κs = search needs
 
-fields-renewed-requires : tie.Need-fields-renewed-requires
-fields-renewed-requires c κs = search needs
-
 same-length-3 : tie.Need-same-length-3
 same-length-3 c = search needs
 
@@ -50,18 +49,17 @@ same-length-4 c = search needs
 
 returns-2 : tie.Need-returns-2
 returns-2 c =
-    let a = c .before .before .before .before .before .before .before .before .before .before .before .before .before .before .before .before .before .before .args in
+    let a = c .before .before .before .before .before .before .before .before .before .before .before .before .before .before .before .before .before .args in
     let m = buffers (now (a .sys)) (now (a .io)) in
-    let e = c .before .before .before .before .before .before .before .before .before .before .before .before .before .plan .result in
-    let p = c .before .before .before .before .before .before .before .before .before .before .before .before .before .plan .ensures in
-    let z : planNumber m (a .c) (a .busy) ≡ 0 = sym (p .told) ∙ c .before .before .before .before .before .before .before .before .before .before .before .if1 .left in
+    let e = c .before .before .before .before .before .before .before .before .before .before .before .before .plan .result in
+    let p = c .before .before .before .before .before .before .before .before .before .before .before .before .plan .ensures in
+    let z : planNumber m (a .c) (a .busy) ≡ 0 = sym (p .told) ∙ c .before .before .before .before .before .before .before .before .before .before .if1 .left in
     let same : e ≡ unread (deedAt m (a .c) (a .busy)) = p .done z in
-    let made = c .before .before .before .before .before .before .made in
-    let taken = c .before .if2 .taken in
-    let touchable = ap (λ (x : Effect). allTouchable m (placesOf (x .change))) (sym same) ∙ sym (made .ensures .0) ∙ taken in
-    ap₂ (executed 0) (c .fields-renewed .ensures) (made .ensures .1 ∙ ap (λ (x : Bool). pick x (changed m (e .change)) m) taken)
-    ∙ ap (λ (x : Effect). executed 0 (fieldsRenewed (a .c .cc) (x .channel)) (changed m (x .change))) same
-    ∙ sym (plan-done m (a .c) (a .busy) z touchable)
+    let made = c .before .before .before .before .before .made in
+    let not-made = not-true (made .result) (c .if2 .taken) in
+    let beyond = ap (λ (x : Effect). allTouchable m (placesOf (x .change))) (sym same) ∙ sym (made .ensures .0) ∙ not-made in
+    ap (executed 2 (a .c)) (made .ensures .1 ∙ ap (λ (x : Bool). pick x (changed m (e .change)) m) not-made)
+    ∙ sym (plan-unstored m (a .c) (a .busy) z beyond)
 
 same-length-5 : tie.Need-same-length-5
 same-length-5 c = search needs
@@ -71,16 +69,42 @@ same-length-6 c = search needs
 
 returns-3 : tie.Need-returns-3
 returns-3 c =
-    let a = c .before .before .before .before .before .before .before .before .before .before .before .before .before .before .before .before .before .args in
+    let a = c .before .before .before .before .before .before .before .before .before .before .before .before .before .before .before .before .before .before .before .before .args in
     let m = buffers (now (a .sys)) (now (a .io)) in
-    let e = c .before .before .before .before .before .before .before .before .before .before .before .before .plan .result in
-    let p = c .before .before .before .before .before .before .before .before .before .before .before .before .plan .ensures in
-    let z : planNumber m (a .c) (a .busy) ≡ 0 = sym (p .told) ∙ c .before .before .before .before .before .before .before .before .before .before .if1 .left in
+    let e = c .before .before .before .before .before .before .before .before .before .before .before .before .before .before .before .plan .result in
+    let p = c .before .before .before .before .before .before .before .before .before .before .before .before .before .before .before .plan .ensures in
+    let z : planNumber m (a .c) (a .busy) ≡ 0 = sym (p .told) ∙ c .before .before .before .before .before .before .before .before .before .before .before .before .before .if1 .left in
     let same : e ≡ unread (deedAt m (a .c) (a .busy)) = p .done z in
-    let made = c .before .before .before .before .before .made in
-    let beyond = ap (λ (x : Effect). allTouchable m (placesOf (x .change))) (sym same) ∙ sym (made .ensures .0) ∙ c .if2 .left in
-    ap (executed 2 (a .c)) (made .ensures .1 ∙ ap (λ (x : Bool). pick x (changed m (e .change)) m) (c .if2 .left))
-    ∙ sym (plan-unstored m (a .c) (a .busy) z beyond)
+    let made = c .before .before .before .before .before .before .before .before .made in
+    let is-made = not-false (made .result) (c .before .before .before .if2 .left) in
+    let touchable = ap (λ (x : Effect). allTouchable m (placesOf (x .change))) (sym same) ∙ sym (made .ensures .0) ∙ is-made in
+    ap₂ (executed 0) (sym (same-control (a .c .cc) (e .channel) (c .if3 .taken))) (made .ensures .1 ∙ ap (λ (x : Bool). pick x (changed m (e .change)) m) is-made)
+    ∙ ap (λ (x : Effect). executed 0 (fieldsRenewed (a .c .cc) (x .channel)) (changed m (x .change))) same
+    ∙ sym (plan-done m (a .c) (a .busy) z touchable)
+
+fields-renewed-requires : tie.Need-fields-renewed-requires
+fields-renewed-requires c κs = search needs
+
+same-length-7 : tie.Need-same-length-7
+same-length-7 c = search needs
+
+same-length-8 : tie.Need-same-length-8
+same-length-8 c = search needs
+
+returns-4 : tie.Need-returns-4
+returns-4 c =
+    let a = c .before .before .before .before .before .before .before .before .before .before .before .before .before .before .before .before .before .before .before .before .before .args in
+    let m = buffers (now (a .sys)) (now (a .io)) in
+    let e = c .before .before .before .before .before .before .before .before .before .before .before .before .before .before .before .before .plan .result in
+    let p = c .before .before .before .before .before .before .before .before .before .before .before .before .before .before .before .before .plan .ensures in
+    let z : planNumber m (a .c) (a .busy) ≡ 0 = sym (p .told) ∙ c .before .before .before .before .before .before .before .before .before .before .before .before .before .before .if1 .left in
+    let same : e ≡ unread (deedAt m (a .c) (a .busy)) = p .done z in
+    let made = c .before .before .before .before .before .before .before .before .before .made in
+    let is-made = not-false (made .result) (c .before .before .before .before .if2 .left) in
+    let touchable = ap (λ (x : Effect). allTouchable m (placesOf (x .change))) (sym same) ∙ sym (made .ensures .0) ∙ is-made in
+    ap₂ (executed 0) (c .fields-renewed .ensures) (made .ensures .1 ∙ ap (λ (x : Bool). pick x (changed m (e .change)) m) is-made)
+    ∙ ap (λ (x : Effect). executed 0 (fieldsRenewed (a .c .cc) (x .channel)) (changed m (x .change))) same
+    ∙ sym (plan-done m (a .c) (a .busy) z touchable)
 
 pub execute-spec : {M : Type 1} → statement M
 execute-spec =
@@ -91,10 +115,13 @@ execute-spec =
     same-length-2
     returns
     made-requires
-    fields-renewed-requires
     same-length-3
     same-length-4
     returns-2
     same-length-5
     same-length-6
-    returns-3)
+    returns-3
+    fields-renewed-requires
+    same-length-7
+    same-length-8
+    returns-4)
