@@ -152,6 +152,66 @@ static uint32_t from_doubleword(uint32_t bytes)
     return ((bytes >> 16) * 16 + (bytes & MASK16)) & MASK20;
 }
 
+/* ---- The fields of CC ---- */
+
+struct emu_fields emu_fields_of(uint16_t cc)
+{
+    struct emu_fields f;
+    f.destination_moves = (cc >> 15 & 1u) != 0;
+    f.source_moves = (cc >> 14 & 1u) != 0;
+    f.translate = (cc >> 13 & 1u) != 0;
+    f.syn = cc >> 11 & 3u;
+    f.source_is_gb = (cc >> 10 & 1u) != 0;
+    f.chained = (cc >> 8 & 1u) != 0;
+    f.ts = (cc >> 7 & 1u) != 0;
+    f.tx = cc >> 5 & 3u;
+    f.tbc = cc >> 3 & 3u;
+    f.tmc = cc & 7u;
+    return f;
+}
+
+uint16_t emu_fields_value(const struct emu_fields *f)
+{
+    return (uint16_t)(f->destination_moves << 15 | f->source_moves << 14 | f->translate << 13 | f->syn << 11 |
+                      f->source_is_gb << 10 | f->chained << 8 | f->ts << 7 | f->tx << 5 | f->tbc << 3 | f->tmc);
+}
+
+void emu_set_cc(struct emu_channel *ch, uint16_t cc)
+{
+    ch->cc = cc;
+    ch->fields = emu_fields_of(cc);
+}
+
+/* The bits of CC in which it differs from its fields; bit 9, which is LOCK and left out, is in no field. */
+static inline unsigned bits_apart(const struct emu_channel *ch)
+{
+    return (unsigned)(emu_fields_value(&ch->fields) ^ ch->cc) & ~0x0200u;
+}
+
+/* What counters call the fields, and their bits. */
+static const struct {
+    const char *name;
+    uint16_t bits;
+} fields[EMU_FIELDS] = {
+    {"destination moves", 0x8000}, {"source moves", 0x4000}, {"translate", 0x2000}, {"SYN", 0x1800},
+    {"source is GB", 0x0400},      {"chained", 0x0100},      {"TS", 0x0080},        {"TX", 0x0060},
+    {"TBC", 0x0018},               {"TMC", 0x0007},
+};
+
+const char *emu_field_name(unsigned field)
+{
+    return fields[field].name;
+}
+
+uint16_t emu_field_bits(unsigned field)
+{
+    return fields[field].bits;
+}
+
+/* The low two bits of TMC say whether and with which offset a match ends the transfer, the third that no match does. */
+static unsigned tmc_code(const struct emu_channel *ch) { return ch->fields.tmc & 3u; }
+static bool ends_on_no_match(const struct emu_channel *ch) { return (ch->fields.tmc & 4u) != 0; }
+
 /* ---- Registers ---- */
 
 /* The pointer that RRR names, or NULL for a 16-bit register. */
@@ -179,6 +239,10 @@ static uint32_t read_register(struct emu_channel *ch, unsigned rrr)
 static void write_register(struct emu_channel *ch, unsigned rrr, uint32_t value, bool moved)
 {
     struct emu_pointer *p = pointer_register(ch, rrr);
+    if (rrr == RRR_CC) {
+        emu_set_cc(ch, (uint16_t)value);
+        return;
+    }
     if (p == NULL) {
         *word_register(ch, rrr) = (uint16_t)value;
         return;
@@ -230,14 +294,44 @@ static bool channel_sound(const struct emu_channel *ch)
            ch->tp.address <= MASK20 && ch->pp <= MASK20;
 }
 
-/* Refusals 12, 11, 10 and 13, in this order. */
-static unsigned early_refusal(bool arguments_good, const struct emu_memory *memory, const struct emu_state *state)
+/* Refusals 12, 11, 10, 13 and 14, in this order; 14 looks at both channels, whatever their modes. */
+static unsigned early_number(bool arguments_good, const struct emu_memory *memory, const struct emu_state *state)
 {
     if (!arguments_good) return EMU_BAD_ARGUMENT;
     if (!buffers_fit(memory)) return EMU_BAD_BUFFER;
     if (state->cp > MASK20 || !channel_sound(&state->channel[0]) || !channel_sound(&state->channel[1]))
         return EMU_BAD_POINTER;
-    return state->powered ? EMU_DONE : EMU_NOT_POWERED_UP;
+    if (!state->powered) return EMU_NOT_POWERED_UP;
+    bool apart = bits_apart(&state->channel[0]) != 0 || bits_apart(&state->channel[1]) != 0;
+    return apart ? EMU_FIELDS_DISAGREE : EMU_DONE;
+}
+
+/* Counts a channel whose fields disagree in these bits in a call that is refused for it; alone, if no other does. */
+static void count_apart(const struct emu_channel *ch, unsigned index, unsigned apart, bool alone)
+{
+    emu_coverage->apart_mode[index][ch->mode]++;
+    for (unsigned i = 0; alone && i < EMU_FIELDS; i++)
+        if ((apart & ~(unsigned)fields[i].bits) == 0) emu_coverage->apart[index][i]++;
+}
+
+/* Counts how CC and its fields stood to each other in a call that came to this number. */
+static void count_fields(const struct emu_state *state, unsigned number)
+{
+    unsigned apart[2] = {bits_apart(&state->channel[0]), bits_apart(&state->channel[1])};
+    if ((apart[0] | apart[1]) != 0) emu_coverage->apart_number[number]++;
+    for (unsigned i = 0; i < 2; i++) {
+        if (number == EMU_FIELDS_DISAGREE && apart[i] != 0)
+            count_apart(&state->channel[i], i, apart[i], apart[1 - i] == 0);
+        if (number == EMU_DONE && (state->channel[i].cc & 0x0200u) != 0) emu_coverage->bit_9[i]++;
+    }
+}
+
+/* The refusals above, counted. */
+static unsigned early_refusal(bool arguments_good, const struct emu_memory *memory, const struct emu_state *state)
+{
+    unsigned number = early_number(arguments_good, memory, state);
+    if (emu_coverage != NULL) count_fields(state, number);
+    return number;
 }
 
 /* ---- Fresh, reset and power-up ---- */
@@ -969,6 +1063,7 @@ static void count_instruction(const struct work *w, const struct instruction *in
 {
     if (emu_coverage == NULL || w->number != EMU_DONE) return;
     emu_coverage->row[in->row - rows]++;
+    if (in->row->act == to_register && in->rrr == RRR_CC) emu_coverage->cc_written[in->row->source == FROM_I]++;
     if (w->jumped) emu_coverage->taken[in->row - rows]++;
 }
 
@@ -989,19 +1084,6 @@ static void instruction_step(struct work *w)
 }
 
 /* ---- Transfers ---- */
-
-/* The fields of CC, each named as the paper names it; bit 9 is LOCK, which is left out. */
-static bool cc_destination_moves(uint16_t cc) { return (cc >> 15 & 1u) != 0; }
-static bool cc_source_moves(uint16_t cc) { return (cc >> 14 & 1u) != 0; }
-static bool cc_translate(uint16_t cc) { return (cc >> 13 & 1u) != 0; }
-static unsigned cc_syn(uint16_t cc) { return cc >> 11 & 3u; }
-static bool cc_source_is_gb(uint16_t cc) { return (cc >> 10 & 1u) != 0; }
-static bool cc_chained(uint16_t cc) { return (cc >> 8 & 1u) != 0; }
-static bool cc_ts(uint16_t cc) { return (cc >> 7 & 1u) != 0; }
-static unsigned cc_tx(uint16_t cc) { return cc >> 5 & 3u; }
-static unsigned cc_tbc(uint16_t cc) { return cc >> 3 & 3u; }
-static bool cc_ends_on_no_match(uint16_t cc) { return (cc >> 2 & 1u) != 0; }
-static unsigned cc_tmc(uint16_t cc) { return cc & 3u; }
 
 /* What an end code that is on (01, 10, 11) adds to TP. */
 static unsigned end_offset(unsigned code)
@@ -1031,14 +1113,14 @@ static struct emu_pointer second_place(const struct side *s)
 /* Whether storing this byte ends the transfer by TMC. */
 static bool meets_tmc(const struct emu_channel *ch, uint32_t byte)
 {
-    return cc_tmc(ch->cc) != 0 && matches(ch->mc, byte) != cc_ends_on_no_match(ch->cc);
+    return tmc_code(ch) != 0 && matches(ch->mc, byte) != ends_on_no_match(ch);
 }
 
 /* Refusal 5. */
 static bool bad_transfer(const struct emu_channel *ch)
 {
     bool some_wide = (ch->psw & (EMU_PSW_S | EMU_PSW_D)) != 0;
-    return cc_syn(ch->cc) == 3 || (cc_translate(ch->cc) && some_wide);
+    return ch->fields.syn == 3 || (ch->fields.translate && some_wide);
 }
 
 /* Fetches the byte or the two bytes that are to be stored, low byte first. */
@@ -1046,7 +1128,7 @@ static uint32_t fetch(struct work *w, const struct side *source, bool two)
 {
     uint32_t data = read_bytes(w, *source->pointer, 1, EMU_SOURCE);
     if (two) data |= read_bytes(w, second_place(source), 1, EMU_SOURCE) << 8;
-    if (!cc_translate(w->ch->cc)) return data;
+    if (!w->ch->fields.translate) return data;
     w->translated = true;
     return read_bytes(w, plus(w->ch->gc, data & MASK8), 1, EMU_TABLE);
 }
@@ -1089,9 +1171,9 @@ static void consider_end(struct work *w, unsigned end, unsigned offset)
 static void end_if_due(struct work *w)
 {
     struct emu_channel *ch = w->ch;
-    if ((w->ends & EMU_END_TMC) != 0) consider_end(w, EMU_END_TMC, end_offset(cc_tmc(ch->cc)));
-    if (cc_tbc(ch->cc) != 0 && ch->bc == 0) consider_end(w, EMU_END_TBC, end_offset(cc_tbc(ch->cc)));
-    if (cc_ts(ch->cc)) consider_end(w, EMU_END_TS, 0);
+    if ((w->ends & EMU_END_TMC) != 0) consider_end(w, EMU_END_TMC, end_offset(tmc_code(ch)));
+    if (ch->fields.tbc != 0 && ch->bc == 0) consider_end(w, EMU_END_TBC, end_offset(ch->fields.tbc));
+    if (ch->fields.ts) consider_end(w, EMU_END_TS, 0);
     if (w->ends == 0) return;
     ch->psw &= (uint8_t)~EMU_PSW_XF;
     ch->tp = plus(ch->tp, w->end_offset);
@@ -1107,9 +1189,9 @@ static unsigned shape_of(const struct side *source, const struct side *destinati
 }
 
 /* Names what BC was before a step whose first of two single stores met TMC, for the counters. */
-static enum emu_leftover leftover_of(uint16_t cc, uint16_t before)
+static enum emu_leftover leftover_of(const struct emu_channel *ch, uint16_t before)
 {
-    unsigned tbc = cc_tbc(cc), tmc = cc_tmc(cc);
+    unsigned tbc = ch->fields.tbc, tmc = tmc_code(ch);
     if (tbc == 0) return before > 2 ? EMU_LEFTOVER_OFF_MORE : (enum emu_leftover)(EMU_LEFTOVER_OFF_0 + before);
     if (before != 2) return before == 0 ? EMU_LEFTOVER_TBC_0 : EMU_LEFTOVER_TBC_MORE;
     if (tbc == tmc) return EMU_LEFTOVER_TBC_2_SAME;
@@ -1120,26 +1202,26 @@ static enum emu_leftover leftover_of(uint16_t cc, uint16_t before)
 static void count_transfer(const struct work *w, uint16_t before)
 {
     if (emu_coverage == NULL || w->number != EMU_DONE) return;
-    uint16_t cc = w->ch->cc;
     emu_coverage->shape[w->shape]++;
-    if (w->shape == EMU_SHAPE_W_B_CUT) emu_coverage->leftover[cc_ends_on_no_match(cc)][leftover_of(cc, before)]++;
+    if (w->shape == EMU_SHAPE_W_B_CUT)
+        emu_coverage->leftover[ends_on_no_match(w->ch)][leftover_of(w->ch, before)]++;
     emu_coverage->end[w->ends]++;
     if (w->translated) emu_coverage->translated++;
     if (w->ends != 0) emu_coverage->end_offset[w->end_offset / 4]++;
 }
 
-/* The side that is read from: GB or GA, as CC says. */
+/* The side that is read from: GB or GA, as its field says. */
 static struct side source_side(struct emu_channel *ch)
 {
-    struct emu_pointer *pointer = cc_source_is_gb(ch->cc) ? &ch->gb : &ch->ga;
-    return make_side(pointer, (ch->psw & EMU_PSW_S) != 0, cc_source_moves(ch->cc));
+    struct emu_pointer *pointer = ch->fields.source_is_gb ? &ch->gb : &ch->ga;
+    return make_side(pointer, (ch->psw & EMU_PSW_S) != 0, ch->fields.source_moves);
 }
 
 /* The side that is stored to: the other one. */
 static struct side destination_side(struct emu_channel *ch)
 {
-    struct emu_pointer *pointer = cc_source_is_gb(ch->cc) ? &ch->ga : &ch->gb;
-    return make_side(pointer, (ch->psw & EMU_PSW_D) != 0, cc_destination_moves(ch->cc));
+    struct emu_pointer *pointer = ch->fields.source_is_gb ? &ch->ga : &ch->gb;
+    return make_side(pointer, (ch->psw & EMU_PSW_D) != 0, ch->fields.destination_moves);
 }
 
 /* One transfer step; with one byte left to count, a word must not run past the count. BC falls while bytes are fetched,
@@ -1152,7 +1234,7 @@ static void transfer_step(struct work *w)
         return;
     }
     struct side source = source_side(ch), destination = destination_side(ch);
-    bool one_left = cc_tbc(ch->cc) != 0 && ch->bc == 1;
+    bool one_left = ch->fields.tbc != 0 && ch->bc == 1;
     bool two = (source.word || destination.word) && !one_left;
     uint32_t data = fetch(w, &source, two);
     uint16_t before = ch->bc;
@@ -1191,7 +1273,7 @@ static bool transferring(const struct emu_channel *ch)
 static bool externally_ended(const struct emu_state *state, unsigned channel, uint32_t lines)
 {
     const struct emu_channel *ch = &state->channel[channel - 1];
-    return ch->mode == EMU_RUNNING && transferring(ch) && cc_tx(ch->cc) != 0 && line_up(lines, LINE_EXT, channel);
+    return ch->mode == EMU_RUNNING && transferring(ch) && ch->fields.tx != 0 && line_up(lines, LINE_EXT, channel);
 }
 
 /* A channel's rank; a transfer with SYN 11 does not wait, so that it can be refused. */
@@ -1199,8 +1281,8 @@ static enum rank rank_of(const struct emu_state *state, unsigned channel, uint32
 {
     const struct emu_channel *ch = &state->channel[channel - 1];
     if (ch->mode != EMU_RUNNING) return RANK_NONE;
-    if (!transferring(ch)) return cc_chained(ch->cc) ? RANK_FIRST : RANK_PLAIN;
-    bool waits = cc_syn(ch->cc) == 1 || cc_syn(ch->cc) == 2;
+    if (!transferring(ch)) return ch->fields.chained ? RANK_FIRST : RANK_PLAIN;
+    bool waits = ch->fields.syn == 1 || ch->fields.syn == 2;
     return !waits || line_up(lines, LINE_DRQ, channel) ? RANK_FIRST : RANK_NONE;
 }
 
@@ -1219,7 +1301,7 @@ static unsigned choose(const struct emu_state *state, uint32_t lines)
 /* An external end: TP gains the TX offset and no byte moves. */
 static void external_step(struct work *w)
 {
-    unsigned offset = end_offset(cc_tx(w->ch->cc));
+    unsigned offset = end_offset(w->ch->fields.tx);
     w->ch->tp = plus(w->ch->tp, offset);
     w->ch->psw &= (uint8_t)~EMU_PSW_XF;
     if (emu_coverage != NULL) emu_coverage->external[offset / 4]++;
@@ -1364,7 +1446,8 @@ static bool same_channel(const struct emu_channel *a, const struct emu_channel *
 {
     return same_pointer(a->ga, b->ga) && same_pointer(a->gb, b->gb) && same_pointer(a->gc, b->gc) &&
            same_pointer(a->tp, b->tp) && a->pp == b->pp && a->bc == b->bc && a->ix == b->ix && a->cc == b->cc &&
-           a->mc == b->mc && a->psw == b->psw && a->mode == b->mode && a->armed == b->armed;
+           emu_fields_value(&a->fields) == emu_fields_value(&b->fields) && a->mc == b->mc && a->psw == b->psw &&
+           a->mode == b->mode && a->armed == b->armed;
 }
 
 bool emu_same_state(const struct emu_state *a, const struct emu_state *b)

@@ -32,7 +32,8 @@ enum emu_number {
     EMU_BAD_BUFFER = 11,
     EMU_BAD_ARGUMENT = 12,
     EMU_NOT_POWERED_UP = 13,
-    EMU_NUMBERS = 14
+    EMU_FIELDS_DISAGREE = 14,
+    EMU_NUMBERS = 15
 };
 
 /* Bits of the PSW. */
@@ -56,11 +57,23 @@ struct emu_pointer {
     bool tag;
 };
 
-/* One channel's registers and marks; PP has no tag since it is always system. */
+/* The fields of CC in the paper's order, each with its bits as a number; bit 9 is in none of them. */
+struct emu_fields {
+    bool destination_moves, source_moves, translate;
+    uint8_t syn;
+    bool source_is_gb, chained, ts;
+    uint8_t tx, tbc, tmc;
+};
+
+/* How many fields there are. */
+#define EMU_FIELDS 10
+
+/* One channel's registers and marks; PP has no tag since it is always system, and beside CC are kept its fields. */
 struct emu_channel {
     struct emu_pointer ga, gb, gc, tp;
     uint32_t pp;
     uint16_t bc, ix, cc, mc;
+    struct emu_fields fields;
     uint8_t psw;
     enum emu_mode mode;
     bool armed;
@@ -153,10 +166,28 @@ struct emu_coverage {
     unsigned long slot[EMU_ACCESSES][EMU_SLOT_SETS]; /* steps that met empty slots, by what for and how many */
     unsigned long powered[8];               /* accepted power-ups, by SYSBUS bit 0, SOC bit 0 and SOC bit 1 */
     unsigned long power_refused[EMU_NUMBERS];
+    unsigned long cc_written[2];            /* done instructions that wrote CC: MOV, MOVI */
+    unsigned long apart[2][EMU_FIELDS];     /* refused by 14, where one field of one channel alone disagreed */
+    unsigned long apart_mode[2][3];         /* refused by 14, by a channel whose fields disagreed and its mode */
+    unsigned long apart_number[EMU_NUMBERS]; /* attentions and steps with fields that disagreed, by number */
+    unsigned long bit_9[2];                 /* not refused so far, by a channel in whose CC bit 9 is 1 */
 };
 
 /* The lent counters, or NULL for none. */
 extern struct emu_coverage *emu_coverage;
+
+/* The fields of a CC value. */
+struct emu_fields emu_fields_of(uint16_t cc);
+
+/* The CC value that has these fields, with bit 9 at 0. */
+uint16_t emu_fields_value(const struct emu_fields *fields);
+
+/* Writes a channel's CC and renews its fields. */
+void emu_set_cc(struct emu_channel *channel, uint16_t cc);
+
+/* The name of a field and the bits of CC that it is, by its place in the paper's order. */
+const char *emu_field_name(unsigned field);
+uint16_t emu_field_bits(unsigned field);
 
 /* Makes the fresh state for CP; answers 10, with the state for CP 0, where CP has more than 20 bits. */
 unsigned emu_fresh(uint32_t cp, struct emu_state *out);

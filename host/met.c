@@ -35,6 +35,8 @@ static void print_formats(const struct emu_coverage *coverage)
 {
     puts("instructions carried out, by format:");
     for (unsigned i = 0; i < EMU_ROWS; i++) print_count(emu_row_name(i), coverage->row[i]);
+    print_count("of these, MOV to CC", coverage->cc_written[0]);
+    print_count("of these, MOVI to CC", coverage->cc_written[1]);
 }
 
 /* Prints how the bytes of transfer steps moved. */
@@ -60,6 +62,26 @@ void print_leftovers(const struct emu_coverage *coverage)
     for (unsigned none = 0; none < 2; none++) {
         printf("first of two single stores met TMC, which ends on %smatch:\n", none != 0 ? "no " : "a ");
         for (unsigned i = 0; i < EMU_LEFTOVERS; i++) print_count(names[i], coverage->leftover[none][i]);
+    }
+}
+
+void print_fields(const struct emu_coverage *coverage)
+{
+    static const char *const modes[3] = {"idle", "running", "suspended"};
+    char name[60];
+    puts("fields that disagreed with CC, by number:");
+    for (unsigned i = EMU_BAD_POINTER; i < EMU_NUMBERS; i++) {
+        snprintf(name, sizeof name, "number %u", i);
+        print_count(name, coverage->apart_number[i]);
+    }
+    for (unsigned ch = 0; ch < 2; ch++) {
+        printf("refused by 14 for channel %u:\n", ch + 1);
+        for (unsigned i = 0; i < EMU_FIELDS; i++) {
+            snprintf(name, sizeof name, "%s alone", emu_field_name(i));
+            print_count(name, coverage->apart[ch][i]);
+        }
+        for (unsigned i = 0; i < 3; i++) print_count(modes[i], coverage->apart_mode[ch][i]);
+        print_count("not refused, bit 9 of CC set", coverage->bit_9[ch]);
     }
 }
 

@@ -16,6 +16,9 @@ void print_numbers(const char *what, const unsigned long counts[EMU_NUMBERS], un
 /* Prints BC before steps in which the first of two single stores met TMC. */
 void print_leftovers(const struct emu_coverage *coverage);
 
+/* Prints how CC and its fields stood to each other in attentions and steps, done and refused by each early number. */
+void print_fields(const struct emu_coverage *coverage);
+
 /* Prints the accepted commands of the set, the rows carried out, and the shapes and ends of transfer steps. */
 void print_coverage(const struct emu_coverage *coverage, unsigned commands);
 

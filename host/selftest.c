@@ -331,7 +331,7 @@ static unsigned long transfer_steps(unsigned widths, uint32_t from, uint32_t to,
     for (unsigned long i = 0; i < bytes; i++) now.sys[from + i] = (uint8_t)(i * 7 + i / 256 + 1);
     want_same();
     N.psw = (uint8_t)(EMU_PSW_TB | EMU_PSW_XF | widths);
-    N.cc = 0xC008;
+    emu_set_cc(&N, 0xC008);
     N.bc = (uint16_t)n;
     N.ga.address = from;
     N.gb.address = to;
@@ -431,7 +431,7 @@ static void test_fresh(void)
     for (unsigned i = 0; i < 2; i++) {
         const struct emu_channel *c = &a.channel[i];
         CHECK(c->mode == EMU_IDLE && !c->armed && c->psw == 0 && c->pp == 0);
-        CHECK(c->bc == 0 && c->ix == 0 && c->cc == 0 && c->mc == 0);
+        CHECK(c->bc == 0 && c->ix == 0 && c->cc == 0 && c->mc == 0 && emu_fields_value(&c->fields) == 0);
         CHECK(c->ga.address == 0 && !c->ga.tag && c->gb.address == 0 && !c->gb.tag);
         CHECK(c->gc.address == 0 && !c->gc.tag && c->tp.address == 0 && !c->tp.tag);
     }
@@ -1485,7 +1485,7 @@ static void test_moves(void)
     reset();
     sys(0x1000, "FF 7F");
     code("C1 80");
-    W.cc = 0x7FFF;
+    emu_set_cc(&W, 0x7FFF);
     DONE('I');
     reset();
     sys(0x1000, "FF 7F");
@@ -1495,11 +1495,11 @@ static void test_moves(void)
     /* MOVI, byte and word, also to CC */
     reset();
     code("D1 30 20 88");
-    W.cc = 0x8820;
+    emu_set_cc(&W, 0x8820);
     DONE('I');
     reset();
     code("C8 30 80");
-    W.cc = 0xFF80;
+    emu_set_cc(&W, 0xFF80);
     DONE('I');
     reset();
     code("E8 30 7F");
@@ -1532,7 +1532,7 @@ static void test_moves(void)
     want_sys(0x1000, "DE");
     DONE('I');
     reset();
-    N.cc = 0x1234;
+    emu_set_cc(&N, 0x1234);
     code("C1 84");
     want_sys(0x1000, "34 12");
     DONE('I');
@@ -2297,7 +2297,7 @@ static void test_xfer(void)
     reset();
     N.armed = true;
     N.psw |= EMU_PSW_XF;
-    N.cc = 0x0020;
+    emu_set_cc(&N, 0x0020);
     want_same();
     want.s.last = 1;
     W.bc = 0xFFFF;
@@ -2319,7 +2319,7 @@ static void transfer(unsigned widths, unsigned cc, unsigned bc)
 {
     reset();
     N.psw = (uint8_t)(EMU_PSW_TB | EMU_PSW_XF | widths);
-    N.cc = (uint16_t)cc;
+    emu_set_cc(&N, (uint16_t)cc);
     N.bc = (uint16_t)bc;
     sys(0x1000, "11 22 33 44");
 }
@@ -2772,7 +2772,7 @@ static void test_transfer_translate(void)
         N.gb.address = 0x2001;
         REFUSED(5);
         N.bc = 1;
-        N.cc |= 0x0008;
+        emu_set_cc(&N, (uint16_t)(N.cc | 0x0008));
         REFUSED(5);
     }
 }
@@ -2961,13 +2961,13 @@ static void test_choice(void)
     now.s.last = 2;
     CHECK(goes(0) == 2);
     /* rank before priority: chained, transfer */
-    N.cc = 0x0100;
+    emu_set_cc(&N, 0x0100);
     CHECK(goes(0) == 1);
-    N.cc = 0;
+    emu_set_cc(&N, 0);
     N.psw |= EMU_PSW_XF;
     CHECK(goes(0) == 1);
     /* a transfer and a chained program have one rank */
-    N2.cc = 0x0100;
+    emu_set_cc(&N2, 0x0100);
     CHECK(goes(0) == 2);
     N2.psw = EMU_PSW_TB;
     CHECK(goes(0) == 1);
@@ -2976,14 +2976,14 @@ static void test_choice(void)
     /* waiting for DRQ: none; each channel has its own DRQ */
     both_ready();
     N.psw |= EMU_PSW_XF;
-    N.cc = 0x0800;
+    emu_set_cc(&N, 0x0800);
     CHECK(goes(0) == 2);
     CHECK(goes(2) == 2);
     CHECK(goes(1) == 1);
-    N.cc = 0x1000;
+    emu_set_cc(&N, 0x1000);
     CHECK(goes(0) == 2);
     CHECK(goes(1) == 1);
-    N.cc = 0x1100;
+    emu_set_cc(&N, 0x1100);
     CHECK(goes(0) == 2);
     N2.mode = EMU_IDLE;
     REFUSED(1);
@@ -2991,7 +2991,7 @@ static void test_choice(void)
     REFUSED_ON(1, 4);
     both_ready();
     N2.psw |= EMU_PSW_XF;
-    N2.cc = 0x1000;
+    emu_set_cc(&N2, 0x1000);
     now.s.last = 1;
     CHECK(goes(0) == 1);
     CHECK(goes(1) == 1);
@@ -2999,7 +2999,7 @@ static void test_choice(void)
     /* SYN 11 does not wait: it goes, and is refused, and the other channel is not tried */
     both_ready();
     N2.psw |= EMU_PSW_XF;
-    N2.cc = 0x1800;
+    emu_set_cc(&N2, 0x1800);
     REFUSED(5);
     /* a refused instruction is not tried on the other channel */
     both_ready();
@@ -3013,7 +3013,7 @@ static void test_choice(void)
     N2.mode = EMU_IDLE;
     REFUSED(1);
     N.psw |= EMU_PSW_XF;
-    N.cc = 0x0020;
+    emu_set_cc(&N, 0x0020);
     REFUSED_ON(1, 15);
     /* a running channel with TB 0 runs */
     both_ready();
@@ -3044,7 +3044,7 @@ static void test_external(void)
     DONE_ON('T', 1, 8);
     /* no XF: EXT says nothing */
     reset();
-    N.cc = 0x0060;
+    emu_set_cc(&N, 0x0060);
     code("00 00");
     DONE_ON('I', 1, 4);
     /* it goes first, before priority and DRQ; channel 1 before 2 */
@@ -3052,7 +3052,7 @@ static void test_external(void)
     N2 = N;
     N2.tp.address = 0x200;
     N2.psw |= EMU_PSW_PRIORITY;
-    N2.cc = 0xC040;
+    emu_set_cc(&N2, 0xC040);
     now.s.last = 1;
     want_same();
     W.psw &= (uint8_t)~EMU_PSW_XF;
@@ -3087,6 +3087,164 @@ static void test_external(void)
     now.m.io_len = 0;
     N2.pp = 0x100000;
     REFUSED_ON(10, 4);
+}
+
+/* ---- The fields of CC ---- */
+
+/* Every CC value taken apart by division, and put together again without bit 9. */
+static void test_fields(void)
+{
+    unsigned wrong = 0, all = 0;
+    for (unsigned cc = 0; cc < 65536; cc++) {
+        struct emu_fields f = emu_fields_of((uint16_t)cc);
+        wrong += f.destination_moves != cc / 32768 || f.source_moves != cc / 16384 % 2 || f.translate != cc / 8192 % 2;
+        wrong += f.syn != cc / 2048 % 4 || f.source_is_gb != cc / 1024 % 2 || f.chained != cc / 256 % 2;
+        wrong += f.ts != cc / 128 % 2 || f.tx != cc / 32 % 4 || f.tbc != cc / 8 % 4 || f.tmc != cc % 8;
+        wrong += emu_fields_value(&f) != (cc & 0xFDFF);
+    }
+    CHECK(wrong == 0);
+    /* the fields' bits are all of CC but bit 9, each in one field */
+    for (unsigned i = 0; i < EMU_FIELDS; i++) {
+        CHECK((all & emu_field_bits(i)) == 0);
+        all |= emu_field_bits(i);
+    }
+    CHECK(all == 0xFDFF);
+}
+
+/* 14 looks at every bit but bit 9, of both channels, whatever their mode. */
+static void test_refusal_14(void)
+{
+    for (unsigned i = 0; i < 2 * 3 * 16; i++) {
+        unsigned channel = i % 2, mode = i / 2 % 3, bit = i / 6;
+        reset();
+        sys(0x100, "00 00");
+        sys(0x40, "00");
+        struct emu_channel *c = &now.s.channel[channel];
+        c->mode = (enum emu_mode)mode;
+        emu_set_cc(c, 0x5A35);
+        c->cc ^= (uint16_t)(1u << bit);
+        struct emu_state given = now.s;
+        unsigned number = bit == 9 ? 0 : 14;
+        CHECK(emu_attention(&now.s, &now.m, 1) == number);
+        CHECK(emu_same_state(&now.s, &given) || number == 0);
+        now.s = given;
+        bool none_runs = N.mode != EMU_RUNNING && N2.mode != EMU_RUNNING;
+        CHECK(emu_step(&now.s, &now.m, 0).number == (number == 0 && none_runs ? 1 : number));
+        CHECK(emu_same_state(&now.s, &given) || number == 0);
+        /* the fields made those of CC, or CC that of the fields */
+        now.s = given;
+        c->fields = emu_fields_of(c->cc);
+        CHECK(emu_attention(&now.s, &now.m, 1) == 0);
+        now.s = given;
+        c->cc = emu_fields_value(&c->fields);
+        CHECK(emu_attention(&now.s, &now.m, 1) == 0);
+    }
+    /* TMC 100 and 000 disagree, though both are off */
+    reset();
+    sys(0x100, "00 00");
+    emu_set_cc(&N, 0x0004);
+    N.cc = 0;
+    REFUSED(14);
+    ATTEND_REFUSED(2, 14);
+}
+
+/* 14 comes behind 12, 11, 10 and 13 and before everything else; power-up, fresh and reset do not ask. */
+static void test_14_in_order(void)
+{
+    reset();
+    N2.cc = 0x8000;
+    now.s.powered = false;
+    now.s.cp = 0x100000;
+    now.m.io_len = EMU_IO_LIMIT + 1;
+    REFUSED_ON(12, 16);
+    ATTEND_REFUSED(3, 12);
+    REFUSED(11);
+    ATTEND_REFUSED(1, 11);
+    now.m.io_len = 0;
+    REFUSED(10);
+    ATTEND_REFUSED(1, 10);
+    now.s.cp = 0x40;
+    REFUSED(13);
+    ATTEND_REFUSED(1, 13);
+    now.s.powered = true;
+    REFUSED(14);
+    ATTEND_REFUSED(1, 14);
+    /* before 2 of the CCW, 6 and 9; before 1, 2 of the code, 3 and 5 */
+    now.m.sys_len = 0;
+    REFUSED(14);
+    ATTEND_REFUSED(1, 14);
+    now.m.sys_len = MIB;
+    sys(0x40, "02");
+    sys(0x48, "06");
+    ATTEND_REFUSED(1, 14);
+    ATTEND_REFUSED(2, 14);
+    sys(0x100, "04 04");
+    REFUSED(14);
+    N.mode = EMU_IDLE;
+    REFUSED(14);
+    transfer(0, 0x1800, 9);
+    N2.cc = 0x8000;
+    REFUSED(14);
+    N2.cc = 0;
+    REFUSED(5);
+    /* an external end asks too */
+    transfer(0, 0x0020, 9);
+    N.cc = 0x0021;
+    REFUSED_ON(14, 4);
+    /* power-up from such a state */
+    board("00", "00");
+    emu_fresh(0x500, &want.s);
+    want_sys(0x501, "00");
+    N.cc = 0xFFFF;
+    N2.fields.syn = 2;
+    powers(0, __LINE__);
+}
+
+/* MOV and MOVI to CC renew this channel's fields and no other's; nothing else touches them. */
+static void test_renewed(void)
+{
+    for (unsigned i = 0; i < 4; i++) {
+        static const char *const movi[2] = {"D1 30 5A A5", "D1 30 A5 5A"}, *const mov[2] = {"5A A5", "A5 5A"};
+        uint16_t value = i % 2 == 0 ? 0xA55A : 0x5AA5;
+        reset();
+        emu_set_cc(&N, (uint16_t)~value);
+        emu_set_cc(&N2, 0x1234);
+        sys(0x1000, mov[i % 2]);
+        code(i < 2 ? movi[i % 2] : "C1 80");
+        W.cc = value;
+        W.fields = emu_fields_of(value);
+        DONE('I');
+        CHECK(emu_fields_value(&N2.fields) == (0x1234 & 0xFDFF) && N2.cc == 0x1234);
+    }
+    /* MOV from CC stores CC itself, bit 9 with it */
+    reset();
+    emu_set_cc(&N, 0);
+    N.cc = 0x0200;
+    code("C1 84");
+    want_sys(0x1000, "00 02");
+    DONE('I');
+    /* the next step goes by what was moved: chained, channel 1 goes again before channel 2 */
+    reset();
+    N2 = N;
+    N2.tp.address = 0x200;
+    sys(0x100, "D1 30 00 01 00 00 D1 30 00 00 00 00");
+    sys(0x200, "00 00 00 00");
+    static const unsigned order[] = {1, 1, 1, 2, 1, 2};
+    for (unsigned i = 0; i < 6; i++) CHECK(emu_step(&now.s, &now.m, 0).channel == order[i]);
+    /* attentions leave them */
+    for (unsigned channel = 1; channel <= 2; channel++) {
+        static const uint8_t commands[] = {0x03, 0x06, 0x05, 0x00, 0x07};
+        reset();
+        N.mode = EMU_IDLE;
+        emu_set_cc(&N, 0xBEEF);
+        emu_set_cc(&N2, 0x4321);
+        for (unsigned i = 0; i < sizeof commands; i++) {
+            block(channel, commands[i]);
+            CHECK(emu_attention(&now.s, &now.m, channel) == 0);
+            CHECK(N.cc == 0xBEEF && emu_fields_value(&N.fields) == (0xBEEF & 0xFDFF));
+            CHECK(N2.cc == 0x4321 && emu_fields_value(&N2.fields) == (0x4321 & 0xFDFF));
+        }
+    }
 }
 
 /* ---- The panel ---- */
@@ -3245,14 +3403,15 @@ static void made_up_channel(struct emu_channel *c)
     c->pp = made_up_address() & 0xFFFFF;
     c->bc = (uint16_t)(made_up() % 5);
     c->ix = (uint16_t)(made_up() % 8);
-    c->cc = (uint16_t)made_up();
+    emu_set_cc(c, (uint16_t)made_up());
+    if (made_up() % 50 == 0) c->cc ^= (uint16_t)(1u << made_up() % 16);
     c->mc = (uint16_t)made_up();
     c->psw = (uint8_t)made_up();
     c->mode = (enum emu_mode)(made_up() % 3);
     c->armed = made_up() % 4 == 0;
 }
 
-/* Whether every 20-bit register of a state is one. */
+/* Whether every 20-bit register of a state is one, and the fields are those of CC. */
 static bool sound(const struct emu_state *s)
 {
     bool good = s->cp <= 0xFFFFF;
@@ -3260,6 +3419,7 @@ static bool sound(const struct emu_state *s)
         const struct emu_channel *c = &s->channel[i];
         good = good && c->ga.address <= 0xFFFFF && c->gb.address <= 0xFFFFF && c->gc.address <= 0xFFFFF;
         good = good && c->tp.address <= 0xFFFFF && c->pp <= 0xFFFFF;
+        good = good && emu_fields_value(&c->fields) == (c->cc & 0xFDFF);
     }
     return good;
 }
@@ -3327,12 +3487,19 @@ static void test_coverage(void)
     block(1, 0x06);
     CHECK(emu_attention(&now.s, &now.m, 1) == 0);
     CHECK(emu_attention(&now.s, &now.m, 1) == 9);
+    N2.cc = 0x0A00;
+    CHECK(emu_attention(&now.s, &now.m, 1) == 14);
+    CHECK(emu_step(&now.s, &now.m, 16).number == 12);
+    N.cc ^= 1;
+    CHECK(emu_step(&now.s, &now.m, 0).number == 14);
     emu_coverage = NULL;
     CHECK(strcmp(emu_row_name(emu_row_of(0x88, 0x20)), "JMP") == 0);
     CHECK(c.row[emu_row_of(0x88, 0x20)] == 1 && c.step_refused[3] == 1);
     CHECK(c.shape[EMU_SHAPE_W_B_CUT] == 1 && c.end[EMU_END_TMC | EMU_END_TS] == 1 && c.end_offset[1] == 1);
     CHECK(c.leftover[0][EMU_LEFTOVER_TBC_MORE] == 1);
     CHECK(c.external[2] == 1 && c.attention[6] == 1 && c.attention_refused[9] == 1);
+    CHECK(c.apart[1][3] == 1 && c.apart_number[12] == 1 && c.apart_number[14] == 2 && c.apart_number[0] == 0);
+    CHECK(c.apart_mode[1][EMU_IDLE] == 2 && c.apart_mode[0][EMU_SUSPENDED] == 1 && c.bit_9[0] + c.bit_9[1] == 0);
     unsigned long all = 0;
     for (unsigned row = 0; row < EMU_ROWS; row++) all += c.row[row];
     CHECK(all == 1);
@@ -3387,6 +3554,10 @@ int main(void)
     test_transfer_refusals();
     test_choice();
     test_external();
+    test_fields();
+    test_refusal_14();
+    test_14_in_order();
+    test_renewed();
     test_panel_program();
     test_run();
     test_invariants();

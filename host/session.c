@@ -105,7 +105,7 @@ static void set_register(struct session *s, uint32_t channel, unsigned which, ui
     switch (which) {
     case SET_BC: ch->bc = (uint16_t)value; break;
     case SET_IX: ch->ix = (uint16_t)value; break;
-    case SET_CC: ch->cc = (uint16_t)value; break;
+    case SET_CC: emu_set_cc(ch, (uint16_t)value); break;
     case SET_MC: ch->mc = (uint16_t)value; break;
     case SET_PSW: ch->psw = (uint8_t)value; break;
     case SET_GA_TAG: ch->ga.tag = value != 0; break;

@@ -77,7 +77,7 @@ static struct emu_channel channel_at(const uint8_t *block)
     c.pp = number_at(block + 20, 4);
     c.bc = (uint16_t)number_at(block + 24, 2);
     c.ix = (uint16_t)number_at(block + 26, 2);
-    c.cc = (uint16_t)number_at(block + 28, 2);
+    emu_set_cc(&c, (uint16_t)number_at(block + 28, 2));
     c.mc = (uint16_t)number_at(block + 30, 2);
     c.psw = block[32];
     c.mode = (enum emu_mode)block[33];
