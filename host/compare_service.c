@@ -1,5 +1,5 @@
-/* Compares the service archive with the emulator: rows of calls on states in bytes, sound and unsound, whole and
- * damaged, with other lines at each step, and runs that a board's power-up begins. */
+/* Compares the service archive with the emulator: rows of calls on states in bytes, sound and unsound, with fields that
+ * agree with CC or not, whole and damaged, with other lines at each step, and runs that a board's power-up begins. */
 #include "cases.h"
 #include "iop89_service.h"
 #include "met.h"
@@ -143,6 +143,13 @@ static uint32_t some_value(struct dice *d, const struct run_case *c, enum iop89_
     }
 }
 
+/* Sets a register of a channel; CC mostly with its fields. */
+static void set_register(struct dice *d, unsigned channel, enum iop89_register which, uint32_t value)
+{
+    if (which == IOP89_CC && chance(d, 970)) iop89_set_cc(proved.state, channel, value);
+    else iop89_set(proved.state, channel, which, value);
+}
+
 /* Sets some registers, in both sides' bytes. */
 static void poke(struct dice *d, const struct run_case *c)
 {
@@ -151,7 +158,7 @@ static void poke(struct dice *d, const struct run_case *c)
                                               IOP89_MC, IOP89_PSW,    IOP89_MODE, IOP89_ARMED};
     for (unsigned i = 1 + below(d, 4); i > 0; i--) {
         enum iop89_register which = ONE_OF(d, all);
-        iop89_set(proved.state, 1 + below(d, 2), which, some_value(d, c, which));
+        set_register(d, 1 + below(d, 2), which, some_value(d, c, which));
     }
     if (chance(d, 60)) iop89_set_cp(proved.state, choose_cp(d, c->sys_len));
     if (chance(d, 60)) iop89_set_last(proved.state, 1 + below(d, 2));
@@ -159,7 +166,7 @@ static void poke(struct dice *d, const struct run_case *c)
     memcpy(emulated.state, proved.state, STATE_BYTES);
 }
 
-/* Fills the bytes of a state with anything, then makes them one, mostly with pointers of 20 bits. */
+/* Fills the bytes of a state with anything, then makes them one, mostly with pointers of 20 bits and CC's own fields. */
 static void any_state(struct dice *d, const struct run_case *c)
 {
     static const enum iop89_register pointers[] = {IOP89_GA, IOP89_GB, IOP89_GC, IOP89_TP, IOP89_PP};
@@ -170,6 +177,8 @@ static void any_state(struct dice *d, const struct run_case *c)
     proved.state[0] = IOP89_STATE_VERSION;
     for (enum state_fault fault = FAULT_LAST; fault < STATE_FAULTS; fault++)
         proved.state[state_fault_at(fault)] = (uint8_t)below(d, state_fault_from(fault));
+    for (unsigned channel = 1; channel <= 2; channel++)
+        set_register(d, channel, IOP89_CC, iop89_get(proved.state, channel, IOP89_CC));
     if (chance(d, 900)) proved.state[IOP89_AT_POWERED] = 1;
     memcpy(emulated.state, proved.state, STATE_BYTES);
 }
@@ -189,6 +198,30 @@ static void damage(struct dice *d)
     uint32_t from = fault == FAULT_VERSION && chance(d, 300) ? 0 : state_fault_from(fault);
     uint32_t value = from == 0 || chance(d, 600) ? from : from + below(d, 256 - from);
     proved.state[at] = emulated.state[at] = (uint8_t)value;
+}
+
+/* Changes a field of CC to another value that it can have, or a bit of CC, in a channel of both sides' bytes. */
+static void part_once(struct dice *d)
+{
+    unsigned channel = 1 + below(d, 2), field = below(d, EMU_FIELDS);
+    enum state_fault fault = (enum state_fault)((channel == 1 ? FAULT_FIELDS_1 : FAULT_FIELDS_2) + field);
+    size_t at = state_fault_at(fault);
+    uint32_t cc = iop89_get(proved.state, channel, IOP89_CC), values = state_fault_from(fault);
+    if (chance(d, 400)) iop89_set(proved.state, channel, IOP89_CC, cc ^ 1u << below(d, 16));
+    else proved.state[at] = (uint8_t)((proved.state[at] + 1 + below(d, values - 1)) % values);
+}
+
+/* Makes CC and its fields disagree, mostly in one channel and one field; at times with channels in other modes, or with
+ * what is refused before it. */
+static void part(struct dice *d)
+{
+    static const enum iop89_register pointers[] = {IOP89_GA, IOP89_GB, IOP89_GC, IOP89_TP, IOP89_PP};
+    for (unsigned i = chance(d, 800) ? 1 : 2; i > 0; i--) part_once(d);
+    for (unsigned channel = 1; channel <= 2; channel++)
+        if (chance(d, 300)) iop89_set(proved.state, channel, IOP89_MODE, below(d, 3));
+    if (chance(d, 100)) proved.state[IOP89_AT_POWERED] = 0;
+    if (chance(d, 100)) iop89_set(proved.state, 1 + below(d, 2), ONE_OF(d, pointers), 1048576 + below(d, 4));
+    memcpy(emulated.state, proved.state, STATE_BYTES);
 }
 
 /* Writes a command into a channel's block, in both memories. */
@@ -289,12 +322,13 @@ static bool agree_on(const struct run_case *c, struct call call, unsigned index,
     return false;
 }
 
-/* Makes a case's calls in a row; a damaged state is made whole again behind its call. */
+/* Makes a case's calls in a row; a state that was damaged or whose fields disagree is made whole again behind the call
+ * that it refused. */
 static bool agree(uint64_t seed, uint64_t number, bool shown)
 {
     struct dice d = seeded(seed + 1000003, number);
     struct run_case c = {emulated.sys, emulated.io, 0, 0, 0, 0, 0, 0};
-    uint8_t whole[STATE_BYTES];
+    uint8_t whole[STATE_BYTES], given[STATE_BYTES];
     make_case(&c, seed, number);
     lend(proved.sys, emulated.sys, c.sys_len);
     lend(proved.io, emulated.io, c.io_len);
@@ -302,15 +336,17 @@ static bool agree(uint64_t seed, uint64_t number, bool shown)
     memset(emulated.state, 0, STATE_ROOM);
     any_state(&d, &c);
     for (unsigned i = 0, calls = 4 + below(&d, MOST_CALLS - 4); i < calls; i++) {
-        bool spoiled = chance(&d, 40);
+        bool spoiled = chance(&d, 40), parted = chance(&d, 40);
         if (i > 1 && chance(&d, 80)) poke(&d, &c);
         if (chance(&d, 4)) any_state(&d, &c);
         struct call call = next_call(&d, &c, i);
-        if (makes_anew(call.kind)) spoiled = false;
+        if (makes_anew(call.kind)) spoiled = parted = false;
         memcpy(whole, proved.state, STATE_BYTES);
+        if (parted) part(&d);
         if (spoiled) damage(&d);
+        memcpy(given, proved.state, STATE_BYTES);
         if (!agree_on(&c, call, i, shown)) return false;
-        if (!spoiled) continue;
+        if ((!spoiled && !parted) || memcmp(given, proved.state, STATE_BYTES) != 0) continue;
         memcpy(proved.state, whole, STATE_BYTES);
         memcpy(emulated.state, whole, STATE_BYTES);
     }
@@ -383,6 +419,63 @@ static unsigned every_pair(uint64_t seed)
     return differences + (met != 65536);
 }
 
+/* ---- Every CC ---- */
+
+/* MOVI to CC of a value at the pair's place, with NOP behind it, and command 000 for channel 1, in both memories. */
+static void put_movi(const struct run_case *c, uint32_t value)
+{
+    put_both(c, 0, 0);
+    put_pair(c, 0x30D1);
+    put_both(c, PAIR_AT + 2, (uint8_t)value);
+    put_both(c, PAIR_AT + 3, (uint8_t)(value >> 8));
+}
+
+/* An attention or a step with one bit of CC of a channel not what its fields say; the state is put back behind it. */
+static bool agree_apart(const struct run_case *c, uint32_t value, unsigned bit, bool shown)
+{
+    uint8_t whole[STATE_BYTES];
+    struct call call = {(value >> 1 & 1u) != 0 ? CALL_STEP : CALL_ATTENTION, 1, STATE_BYTES, 0, 0};
+    memcpy(whole, proved.state, STATE_BYTES);
+    iop89_set(proved.state, 1 + ((bit ^ value) & 1u), IOP89_CC, value ^ 1u << bit);
+    memcpy(emulated.state, proved.state, STATE_BYTES);
+    bool same = agree_on(c, call, bit, shown);
+    memcpy(proved.state, whole, STATE_BYTES);
+    memcpy(emulated.state, whole, STATE_BYTES);
+    return same;
+}
+
+/* How many attentions and steps were refused by 14. */
+static unsigned long answered_14(void)
+{
+    return numbers[CALL_ATTENTION][IOP89_FIELDS_DISAGREE] + numbers[CALL_STEP][IOP89_FIELDS_DISAGREE];
+}
+
+/* Moves each of the 65,536 values to CC of channel 1, has iop89_set_cc write it to channel 2, and then calls with each
+ * bit of one of them changed, which bit 9 alone may be; how many values differ. */
+static unsigned every_cc(void)
+{
+    struct run_case c = {emulated.sys, emulated.io, PAIR_SYSTEM, PAIR_IO, 0, 1, 0, 0};
+    struct call step = {CALL_STEP, 0, STATE_BYTES, 0, 0};
+    unsigned differences = 0;
+    unsigned long before = answered_14();
+    for (uint32_t value = 0; value < 65536; value++) {
+        bool shown = differences < SHOWN, same;
+        stand_at_pair();
+        put_movi(&c, value);
+        same = agree_on(&c, step, value, shown);
+        iop89_set_cc(proved.state, 2, value);
+        memcpy(emulated.state, proved.state, STATE_BYTES);
+        for (unsigned bit = 0; bit < 16; bit++) same = agree_apart(&c, value, bit, shown) && same;
+        if (same && same_memory(&c)) continue;
+        if (shown) printf("DIFFERENCE at CC %04" PRIX32 "\n", value);
+        differences++;
+    }
+    unsigned long refused = answered_14() - before;
+    print_count("CC values with one bit changed, refused by 14", refused);
+    if (refused != 15 * 65536) puts("this should be all bits but one");
+    return differences + (refused != 15 * 65536);
+}
+
 /* ---- What was met ---- */
 
 /* Prints how often a call answered each number that it can. */
@@ -400,8 +493,8 @@ static void print_call_numbers(enum call_kind kind, unsigned set)
 #define FRESH_NUMBERS (1u << 0 | 1u << 10 | 1u << 17)
 #define RESET_NUMBERS (1u << 0 | 1u << 17)
 #define POWER_NUMBERS (1u << 0 | 1u << 2 | 1u << 11 | 1u << 17)
-#define ATTENTION_NUMBERS (1u << 0 | 1u << 2 | 15u << 6 | 15u << 10 | 1u << 17)
-#define STEP_NUMBERS (63u | 15u << 10 | 1u << 17)
+#define ATTENTION_NUMBERS (1u << 0 | 1u << 2 | 15u << 6 | 31u << 10 | 1u << 17)
+#define STEP_NUMBERS (63u | 31u << 10 | 1u << 17)
 #define BOARD_NUMBERS (255u | 1u << 9 | 3u << 11)
 #define COMMANDS (0xFFu & ~(1u << 2 | 1u << 4))
 
@@ -421,8 +514,12 @@ static void print_met(void)
         print_count(name, coverage.powered[i]);
     }
     puts("17, by its cause:");
-    for (enum state_fault fault = FAULT_LENGTH; fault < STATE_FAULTS; fault++)
+    for (enum state_fault fault = FAULT_LENGTH; fault < STATE_FAULTS; fault++) {
+        if (fault == FAULT_CHANNEL_1 || fault == FAULT_CHANNEL_2)
+            printf("17, in the block of channel %u:\n", fault == FAULT_CHANNEL_1 ? 1 : 2);
         print_count(state_fault_name(fault), faults[fault]);
+    }
+    print_fields(&coverage);
     print_coverage(&coverage, COMMANDS);
 }
 
@@ -446,7 +543,8 @@ int main(int count, char **words)
     uint64_t first = argument(count, words, 3, 0);
     emulated = new_side();
     proved = new_side();
-    differences += every_pair(seed);
+    differences += every_pair(seed) + every_cc();
+    memset(&coverage, 0, sizeof coverage); /* what was met is asked of the rows of calls */
     for (uint64_t i = first; i < first + cases; i++) {
         if (agree(seed, i, false)) continue;
         if (differences++ >= SHOWN) continue;

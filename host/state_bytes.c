@@ -2,27 +2,32 @@
 #include "state_bytes.h"
 
 /* Offsets of the layout. */
-enum { AT_CP = 1, AT_LAST = 5, AT_BOARD = 6, AT_CHANNELS = 10, BLOCK = 35, VERSION = 2 };
+enum { AT_CP = 1, AT_LAST = 5, AT_BOARD = 6, AT_CHANNELS = 10, BLOCK = 45, VERSION = 3 };
 
-/* Of a block: where its flags and its mode are. */
-static const uint8_t marks[6] = {4, 9, 14, 19, 33, 34};
+/* Of a block: a byte with a range, where it is and the smallest value out of range. */
+struct mark {
+    const char *name;
+    uint8_t at, from;
+};
 
-/* The place of the mode among them. */
-enum { MARK_MODE = 4 };
+static const struct mark marks[CHANNEL_MARKS] = {
+    {"GA's tag", 4, 2},      {"GB's tag", 9, 2},  {"GC's tag", 14, 2},         {"TP's tag", 19, 2},
+    {"mode", 33, 3},         {"armed", 34, 2},    {"destination moves", 35, 2}, {"source moves", 36, 2},
+    {"translate", 37, 2},    {"SYN", 38, 4},      {"source is GB", 39, 2},     {"chained", 40, 2},
+    {"TS", 41, 2},           {"TX", 42, 4},       {"TBC", 43, 4},              {"TMC", 44, 8},
+};
+
+/* The mark of its channel that a fault is about. */
+static const struct mark *mark_of(enum state_fault fault)
+{
+    return &marks[(unsigned)(fault - FAULT_CHANNEL_1) % CHANNEL_MARKS];
+}
 
 const char *state_fault_name(enum state_fault fault)
 {
-    static const char *const names[STATE_FAULTS] = {
-        "none",       "length",     "version",    "last",       "powered up", "SYSBUS bit 0", "SOC bit 0", "SOC bit 1",
-        "GA's tag 1", "GB's tag 1", "GC's tag 1", "TP's tag 1", "mode 1",     "armed 1",
-        "GA's tag 2", "GB's tag 2", "GC's tag 2", "TP's tag 2", "mode 2",     "armed 2"};
-    return names[fault];
-}
-
-/* Which of its channel's marks a fault is about. */
-static unsigned mark_of(enum state_fault fault)
-{
-    return (unsigned)(fault - FAULT_CHANNEL_1) % 6;
+    static const char *const names[FAULT_CHANNEL_1] = {"none",       "length",       "version",   "last",
+                                                       "powered up", "SYSBUS bit 0", "SOC bit 0", "SOC bit 1"};
+    return fault < FAULT_CHANNEL_1 ? names[fault] : mark_of(fault)->name;
 }
 
 size_t state_fault_at(enum state_fault fault)
@@ -30,12 +35,12 @@ size_t state_fault_at(enum state_fault fault)
     if (fault == FAULT_VERSION) return 0;
     if (fault == FAULT_LAST) return AT_LAST;
     if (fault < FAULT_CHANNEL_1) return AT_BOARD + (size_t)(fault - FAULT_BOARD);
-    return (fault < FAULT_CHANNEL_2 ? AT_CHANNELS : AT_CHANNELS + BLOCK) + (size_t)marks[mark_of(fault)];
+    return (fault < FAULT_CHANNEL_2 ? AT_CHANNELS : AT_CHANNELS + BLOCK) + (size_t)mark_of(fault)->at;
 }
 
 uint8_t state_fault_from(enum state_fault fault)
 {
-    return fault >= FAULT_CHANNEL_1 && mark_of(fault) == MARK_MODE ? 3 : 2;
+    return fault >= FAULT_CHANNEL_1 ? mark_of(fault)->from : 2;
 }
 
 /* The number of some bytes, little end first. */
@@ -66,6 +71,38 @@ static void put_pointer(uint8_t *bytes, struct emu_pointer p)
     bytes[4] = p.tag ? 1 : 0;
 }
 
+/* Reads the fields of CC. */
+static struct emu_fields fields_at(const uint8_t *bytes)
+{
+    struct emu_fields f;
+    f.destination_moves = bytes[0] == 1;
+    f.source_moves = bytes[1] == 1;
+    f.translate = bytes[2] == 1;
+    f.syn = bytes[3];
+    f.source_is_gb = bytes[4] == 1;
+    f.chained = bytes[5] == 1;
+    f.ts = bytes[6] == 1;
+    f.tx = bytes[7];
+    f.tbc = bytes[8];
+    f.tmc = bytes[9];
+    return f;
+}
+
+/* Writes the fields of CC. */
+static void put_fields(uint8_t *bytes, const struct emu_fields *f)
+{
+    bytes[0] = f->destination_moves ? 1 : 0;
+    bytes[1] = f->source_moves ? 1 : 0;
+    bytes[2] = f->translate ? 1 : 0;
+    bytes[3] = f->syn;
+    bytes[4] = f->source_is_gb ? 1 : 0;
+    bytes[5] = f->chained ? 1 : 0;
+    bytes[6] = f->ts ? 1 : 0;
+    bytes[7] = f->tx;
+    bytes[8] = f->tbc;
+    bytes[9] = f->tmc;
+}
+
 /* Reads a channel from its block. */
 static struct emu_channel channel_at(const uint8_t *block)
 {
@@ -77,11 +114,12 @@ static struct emu_channel channel_at(const uint8_t *block)
     c.pp = number_at(block + 20, 4);
     c.bc = (uint16_t)number_at(block + 24, 2);
     c.ix = (uint16_t)number_at(block + 26, 2);
-    emu_set_cc(&c, (uint16_t)number_at(block + 28, 2));
+    c.cc = (uint16_t)number_at(block + 28, 2);
     c.mc = (uint16_t)number_at(block + 30, 2);
     c.psw = block[32];
     c.mode = (enum emu_mode)block[33];
     c.armed = block[34] == 1;
+    c.fields = fields_at(block + 35);
     return c;
 }
 
@@ -100,6 +138,7 @@ static void put_channel(uint8_t *block, const struct emu_channel *c)
     block[32] = c->psw;
     block[33] = (uint8_t)c->mode;
     block[34] = c->armed ? 1 : 0;
+    put_fields(block + 35, &c->fields);
 }
 
 enum state_fault state_from_bytes(const uint8_t *bytes, size_t length, struct emu_state *out)

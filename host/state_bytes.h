@@ -5,9 +5,12 @@
 #include "emulator.h"
 
 /* How many bytes a state has. */
-enum { STATE_BYTES = 80 };
+enum { STATE_BYTES = 100 };
 
-/* Why bytes are no state: their length, their version, or the first flag or mode that is out of range. */
+/* How many bytes of a channel's block have a range: its flags, its mode and the fields of CC. */
+enum { CHANNEL_MARKS = 6 + EMU_FIELDS };
+
+/* Why bytes are no state: their length, their version, or the first flag, mode or field that is out of range. */
 enum state_fault {
     FAULT_NONE,
     FAULT_LENGTH,
@@ -15,8 +18,10 @@ enum state_fault {
     FAULT_LAST,
     FAULT_BOARD,                        /* powered up, SYSBUS bit 0, SOC bit 0, SOC bit 1 */
     FAULT_CHANNEL_1 = FAULT_BOARD + 4,  /* GA's tag, GB's, GC's, TP's, the mode, the armed mark */
-    FAULT_CHANNEL_2 = FAULT_CHANNEL_1 + 6,
-    STATE_FAULTS = FAULT_CHANNEL_2 + 6
+    FAULT_FIELDS_1 = FAULT_CHANNEL_1 + 6, /* the fields of CC in the paper's order */
+    FAULT_CHANNEL_2 = FAULT_CHANNEL_1 + CHANNEL_MARKS,
+    FAULT_FIELDS_2 = FAULT_CHANNEL_2 + 6,
+    STATE_FAULTS = FAULT_CHANNEL_2 + CHANNEL_MARKS
 };
 
 /* A fault in words. */

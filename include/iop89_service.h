@@ -10,13 +10,17 @@ extern "C" {
 #endif
 
 /* How many bytes a state has, and the version that its first byte holds: a layout with more fields has a higher one. */
-#define IOP89_STATE_LENGTH 80u
-#define IOP89_STATE_VERSION 2u
+#define IOP89_STATE_LENGTH 100u
+#define IOP89_STATE_VERSION 3u
 
 /* The number for an attention or a step before power-up. A state from a CP counts as powered up. */
 #define IOP89_NOT_POWERED_UP 13u
 
-/* The number for bytes that are no state: of another length or version, or with a mode or flag out of range. */
+/* The number for an attention or a step of a state in which CC of a channel, whatever its mode, and the fields beside it
+ * disagree, directly after 13. MOV and MOVI to CC renew the fields; who sets CC in a state's bytes has iop89_set_cc. */
+#define IOP89_FIELDS_DISAGREE 14u
+
+/* The number for bytes that are no state: of another length or version, or with a mode, flag or field out of range. */
 #define IOP89_NO_STATE 17u
 
 /* The parts of an answer: the number and, of a done step, the channel (1 or 2) and what it did, else both 0. */
@@ -72,7 +76,7 @@ uint32_t iop89_board(uint8_t *sys, size_t sys_len, uint8_t *io, size_t io_len, u
 #define IOP89_AT_SOC_1 9u
 
 /* Where the block of a channel, 1 or 2, starts, and its length. */
-#define IOP89_BLOCK_LENGTH 35u
+#define IOP89_BLOCK_LENGTH 45u
 #define IOP89_AT_CHANNEL(channel) (10u + IOP89_BLOCK_LENGTH * ((channel) - 1u))
 
 /* The registers of a channel, by their offsets in its block. */
@@ -92,7 +96,17 @@ enum iop89_register {
     IOP89_MC = 30,
     IOP89_PSW = 32,     /* one byte each */
     IOP89_MODE = 33,
-    IOP89_ARMED = 34
+    IOP89_ARMED = 34,
+    IOP89_DESTINATION_MOVES = 35, /* the fields of CC, one byte each: bit 15 */
+    IOP89_SOURCE_MOVES = 36,      /* 14 */
+    IOP89_TRANSLATE = 37,         /* 13 */
+    IOP89_SYN = 38,               /* 12 and 11 */
+    IOP89_SOURCE_IS_GB = 39,      /* 10; bit 9 is in no field */
+    IOP89_CHAINED = 40,           /* 8 */
+    IOP89_TS = 41,                /* 7 */
+    IOP89_TX = 42,                /* 6 and 5 */
+    IOP89_TBC = 43,               /* 4 and 3 */
+    IOP89_TMC = 44                /* 2 to 0 */
 };
 
 /* What a channel is doing. */
@@ -122,7 +136,8 @@ static inline void iop89_set_bytes(uint8_t *state, size_t at, size_t width, uint
     for (size_t i = 0; i < width; i++, value >>= 8) state[at + i] = value & 0xFFu;
 }
 
-/* A register of a channel, 1 or 2, read and set. A tag, mode or mark out of range makes the next call answer 17. */
+/* A register of a channel, 1 or 2, read and set. A tag, mode, mark or field out of range makes the next call answer 17.
+ * iop89_set with IOP89_CC writes CC alone, and the fields stay: see iop89_set_cc. */
 static inline uint32_t iop89_get(const uint8_t *state, unsigned channel, enum iop89_register which)
 {
     return iop89_bytes(state, IOP89_AT_CHANNEL(channel) + which, iop89_width(which));
@@ -131,6 +146,22 @@ static inline uint32_t iop89_get(const uint8_t *state, unsigned channel, enum io
 static inline void iop89_set(uint8_t *state, unsigned channel, enum iop89_register which, uint32_t value)
 {
     iop89_set_bytes(state, IOP89_AT_CHANNEL(channel) + which, iop89_width(which), value);
+}
+
+/* CC of a channel set with its fields, as MOVI to CC does it. */
+static inline void iop89_set_cc(uint8_t *state, unsigned channel, uint32_t value)
+{
+    iop89_set(state, channel, IOP89_CC, value);
+    iop89_set(state, channel, IOP89_DESTINATION_MOVES, value >> 15 & 1u);
+    iop89_set(state, channel, IOP89_SOURCE_MOVES, value >> 14 & 1u);
+    iop89_set(state, channel, IOP89_TRANSLATE, value >> 13 & 1u);
+    iop89_set(state, channel, IOP89_SYN, value >> 11 & 3u);
+    iop89_set(state, channel, IOP89_SOURCE_IS_GB, value >> 10 & 1u);
+    iop89_set(state, channel, IOP89_CHAINED, value >> 8 & 1u);
+    iop89_set(state, channel, IOP89_TS, value >> 7 & 1u);
+    iop89_set(state, channel, IOP89_TX, value >> 5 & 3u);
+    iop89_set(state, channel, IOP89_TBC, value >> 3 & 3u);
+    iop89_set(state, channel, IOP89_TMC, value & 7u);
 }
 
 /* The control block's address. */
@@ -167,6 +198,7 @@ static inline const char *iop89_service_words(unsigned number)
     case IOP89_BAD_POINTER: return "a pointer, PP or CP of the state is over 1,048,575";
     case IOP89_BAD_ARGUMENT: return "the channel is neither 1 nor 2, or the line number over 15";
     case IOP89_NOT_POWERED_UP: return "not powered up";
+    case IOP89_FIELDS_DISAGREE: return "CC of a channel and its fields disagree";
     case IOP89_NO_STATE: return "the bytes are no state";
     default: return iop89_words(number);
     }
