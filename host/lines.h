@@ -8,7 +8,8 @@
 /* Buffers of more bytes than this, in both spaces together, are dumped seldom: their digests take long. */
 #define SMALL_BUFFERS 4096u
 
-/* A script in the making: the machine, the calls left to write, and where each channel's last program was put. */
+/* A script in the making: the machine, the calls left to write, where each channel's last program was put, and whose turn
+   it is among the fields of CC to disagree with it. */
 struct writer {
     struct dice d;
     struct session s;
@@ -18,6 +19,7 @@ struct writer {
     unsigned since_dump;
     uint32_t program[2];
     bool program_in_io[2];
+    unsigned turn;
     struct program p;
 };
 

@@ -14,8 +14,9 @@
 /* The numbers that a fresh state, a power-up, an attention and a step can answer. */
 #define MAKE_NUMBERS (1u << EMU_DONE | 1u << EMU_BAD_POINTER)
 #define POWER_NUMBERS (1u << EMU_DONE | 1u << EMU_BEYOND_LENT_MEMORY | 1u << EMU_BAD_BUFFER)
-#define EARLY_NUMBERS \
-    (1u << EMU_BAD_POINTER | 1u << EMU_BAD_BUFFER | 1u << EMU_BAD_ARGUMENT | 1u << EMU_NOT_POWERED_UP)
+#define EARLY_NUMBERS                                                                              \
+    (1u << EMU_BAD_POINTER | 1u << EMU_BAD_BUFFER | 1u << EMU_BAD_ARGUMENT | 1u << EMU_NOT_POWERED_UP | \
+     1u << EMU_FIELDS_DISAGREE)
 #define CA_NUMBERS                                                                                                    \
     (EARLY_NUMBERS | 1u << EMU_DONE | 1u << EMU_BEYOND_LENT_MEMORY | 1u << EMU_BAD_COMMAND | 1u << EMU_NOT_SUSPENDED | \
      1u << EMU_ALREADY_RUNNING | 1u << EMU_NOT_RUNNING)
@@ -220,6 +221,7 @@ static int met(const char *tally_name)
     print_steps(&t);
     print_registers(&t);
     print_texts(&t);
+    print_fields(&t.coverage);
     print_coverage(&t.coverage, COMMANDS);
     bool all = all_met(t.calls, CALLS_TO_MEET_ALL, "calls");
     printf("%lu scripts, %lu calls\n", t.scripts, t.calls);

@@ -80,6 +80,7 @@ const struct script_register script_registers[SCRIPT_REGISTERS] = {
     [SET_MODE] = {"mode", 0, 2, false},       [SET_LAST] = {"last", 1, 2, true},
     [SET_UP] = {"up", 0, 1, true},            [SET_SYSBUS] = {"sysbus", 0, 1, true},
     [SET_SOC] = {"soc", 0, 1, true},          [SET_GRANT] = {"grant", 0, 1, true},
+    [SET_FIELDS] = {"fields", 0, 0xFFFF, false},
 };
 
 /* The register of this name, or SCRIPT_REGISTERS. */
@@ -98,14 +99,14 @@ uint32_t *session_address(struct session *s, uint32_t channel, unsigned which)
     return named[which];
 }
 
-/* Sets a register to a value that it takes. */
+/* Sets a register to a value that it takes; CC without its fields, and these, as those of a CC value, without CC. */
 static void set_register(struct session *s, uint32_t channel, unsigned which, uint32_t value)
 {
     struct emu_channel *ch = &s->state.channel[channel == 2];
     switch (which) {
     case SET_BC: ch->bc = (uint16_t)value; break;
     case SET_IX: ch->ix = (uint16_t)value; break;
-    case SET_CC: emu_set_cc(ch, (uint16_t)value); break;
+    case SET_CC: ch->cc = (uint16_t)value; break;
     case SET_MC: ch->mc = (uint16_t)value; break;
     case SET_PSW: ch->psw = (uint8_t)value; break;
     case SET_GA_TAG: ch->ga.tag = value != 0; break;
@@ -119,6 +120,7 @@ static void set_register(struct session *s, uint32_t channel, unsigned which, ui
     case SET_SYSBUS: s->state.system_wide = value != 0; break;
     case SET_SOC: s->state.io_wide = value != 0; break;
     case SET_GRANT: s->state.soc_1 = value != 0; break;
+    case SET_FIELDS: ch->fields = emu_fields_of((uint16_t)value); break;
     default: *session_address(s, channel, which) = value; break;
     }
 }
@@ -285,7 +287,8 @@ static void print_channel(const struct session *s, unsigned channel, FILE *out)
     print_pointer("gb", ch->gb, out);
     print_pointer("gc", ch->gc, out);
     print_pointer("tp", ch->tp, out);
-    fprintf(out, " pp %08" PRIx32 " bc %04x ix %04x cc %04x mc %04x", ch->pp, ch->bc, ch->ix, ch->cc, ch->mc);
+    fprintf(out, " pp %08" PRIx32 " bc %04x ix %04x", ch->pp, ch->bc, ch->ix);
+    fprintf(out, " cc %04x fields %04x mc %04x", ch->cc, emu_fields_value(&ch->fields), ch->mc);
     fprintf(out, " psw %02x mode %d arm %d\n", ch->psw, (int)ch->mode, ch->armed);
 }
 

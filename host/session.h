@@ -26,7 +26,7 @@ enum script_name {
     SET_GA, SET_GB, SET_GC, SET_TP, SET_PP, SET_CP, SCRIPT_ADDRESSES,
     SET_BC = SCRIPT_ADDRESSES, SET_IX, SET_CC, SET_MC, SET_PSW,
     SET_GA_TAG, SET_GB_TAG, SET_GC_TAG, SET_TP_TAG, SET_ARM, SET_MODE, SET_LAST,
-    SET_UP, SET_SYSBUS, SET_SOC, SET_GRANT, SCRIPT_REGISTERS
+    SET_UP, SET_SYSBUS, SET_SOC, SET_GRANT, SET_FIELDS, SCRIPT_REGISTERS
 };
 
 /* A register's name, the values that it takes, and whether it is shared (channel 0). */

@@ -146,17 +146,40 @@ static uint32_t some_value(struct writer *w, unsigned which)
     const struct script_register *r = &script_registers[which];
     if (which == SET_CP) return choose_cp(&w->d, w->s.memory.sys_len) & MASK20;
     if (which < SCRIPT_ADDRESSES) return chance(&w->d, 700) ? data_place(w, false) : below(&w->d, EMU_SYSTEM_LIMIT);
-    if (which == SET_CC) return transfer_cc(&w->d);
+    if (which == SET_CC || which == SET_FIELDS) return transfer_cc(&w->d);
     if (which == SET_UP) return 1;
     return r->least + below(&w->d, r->most - r->least + 1);
 }
 
-/* Sets any register. */
+/* Sets CC and its fields, in either order; the fields at times from a value with the other bit 9. */
+static void set_cc(struct writer *w, uint32_t channel, uint32_t cc)
+{
+    uint32_t fields = chance(&w->d, 100) ? cc ^ 0x0200u : cc;
+    bool cc_first = chance(&w->d, 700);
+    if (cc_first) set(w, channel, SET_CC, cc);
+    set(w, channel, SET_FIELDS, fields);
+    if (!cc_first) set(w, channel, SET_CC, cc);
+}
+
+/* Makes the fields of both channels those of CC again, or CC theirs. */
+static void mend_fields(struct writer *w)
+{
+    for (uint32_t channel = 1; channel <= 2; channel++) {
+        uint16_t cc = channel_of(w, channel)->cc, fields = emu_fields_value(&channel_of(w, channel)->fields);
+        if (((cc ^ fields) & 0xFDFFu) == 0) continue;
+        if (chance(&w->d, 500)) set(w, channel, SET_FIELDS, cc);
+        else set(w, channel, SET_CC, fields);
+    }
+}
+
+/* Sets any register; CC and its fields both, where it is one of them. */
 static void set_any(struct writer *w)
 {
     uint32_t channel = some_channel(w);
     unsigned which = below(&w->d, SCRIPT_REGISTERS);
-    set(w, channel, which, some_value(w, which));
+    uint32_t value = some_value(w, which);
+    if (which == SET_CC || which == SET_FIELDS) set_cc(w, channel, value);
+    else set(w, channel, which, value);
 }
 
 /* Calls under a state that is not sound, or under one of the bad arguments that are refused before it; then mends it. */
@@ -171,6 +194,47 @@ static void go_unsound(struct writer *w)
         else step(w, below(&w->d, 18));
     }
     set(w, channel, which, sound);
+}
+
+/* Sets CC without its fields, or these without it, to a value that differs in one field. */
+static void part(struct writer *w, uint32_t channel, unsigned field)
+{
+    uint32_t bits = emu_field_bits(field), lowest = bits & (0u - bits), some = bits & (1 + below(&w->d, 7)) * lowest;
+    uint32_t value = channel_of(w, channel)->cc ^ (some != 0 ? some : lowest);
+    set(w, channel, chance(&w->d, 500) ? SET_CC : SET_FIELDS, value);
+}
+
+/* Calls once while a field disagrees by itself; the channels, their modes and their fields take turns. */
+static void part_in_turn(struct writer *w)
+{
+    uint32_t channel = 1 + w->turn / EMU_FIELDS % 2;
+    enum emu_mode mode = channel_of(w, channel)->mode;
+    set(w, channel, SET_MODE, w->turn % 3);
+    part(w, channel, w->turn % EMU_FIELDS);
+    if (chance(&w->d, 500)) say(w, "ca %u", (unsigned)some_channel(w));
+    else step(w, below(&w->d, 16));
+    mend_fields(w);
+    set(w, channel, SET_MODE, (uint32_t)mode);
+    w->turn++;
+}
+
+/* Calls while CC and its fields disagree in some channel, at times with what is refused before; then mends it. */
+static void go_apart(struct writer *w)
+{
+    uint32_t channel = some_channel(w), sound = *session_address(&w->s, channel, SET_GC);
+    bool alone = chance(&w->d, 300), unsound = !alone && chance(&w->d, 500), down = !alone && !unsound;
+    part(w, channel, below(&w->d, EMU_FIELDS));
+    if (chance(&w->d, 200)) set(w, 3 - channel, SET_FIELDS, below(&w->d, 65536));
+    if (unsound) set(w, channel, SET_GC, unsound_address(w));
+    if (down) set(w, 0, SET_UP, 0);
+    for (unsigned i = 1 + below(&w->d, 3); i > 0; i--) {
+        if (chance(&w->d, 100)) give_odd_attention(w);
+        else if (chance(&w->d, 400)) give_command(w);
+        else step(w, below(&w->d, 18));
+    }
+    if (unsound) set(w, channel, SET_GC, sound);
+    if (down) set(w, 0, SET_UP, 1);
+    mend_fields(w);
 }
 
 /* A CC for a transfer of its own: any bits, but seldom SYN 11, which is refused, and often all ends. */
@@ -209,7 +273,7 @@ static void transfer_once(struct writer *w, uint32_t channel, uint32_t cc)
 {
     set(w, channel, SET_BC, chance(&w->d, 700) ? 1 + below(&w->d, 3) : transfer_count(&w->d));
     set(w, channel, SET_MC, transfer_mc(&w->d));
-    set(w, channel, SET_CC, cc);
+    set_cc(w, channel, cc);
     set(w, channel, SET_PSW, transfer_psw(w, cc));
     w->s.answered = EMU_DONE;
     for (unsigned i = 12; i > 0 && w->s.answered == EMU_DONE && transfers(w, channel); i--)
@@ -224,7 +288,7 @@ static void search_once(struct writer *w, uint32_t channel)
     set(w, channel, source, *session_address(&w->s, channel, source) & ~1u);
     set(w, channel, SET_BC, search_count(&w->d));
     set(w, channel, SET_MC, search_mc(&w->d, cc));
-    set(w, channel, SET_CC, cc);
+    set_cc(w, channel, cc);
     set(w, channel, SET_PSW, (EMU_PSW_XF | EMU_PSW_TB | EMU_PSW_S | below(&w->d, 256)) & ~(uint32_t)EMU_PSW_D);
     step(w, good_lines(w, 50));
 }
@@ -310,18 +374,30 @@ static void work_in_slots(struct writer *w, uint32_t channel)
     }
 }
 
-/* Makes one transfer step of two bytes, the last of I/O memory and the slot behind it, out of there or into it. */
+/* Makes one transfer step of two bytes, the last of I/O memory or none and the slot behind, out of there or into it. */
 static void transfer_over_edge(struct writer *w, uint32_t channel)
 {
     bool into = chance(&w->d, 500);
+    uint32_t there = chance(&w->d, 700) ? 1 : 0;
     unsigned edge = into ? SET_GB : SET_GA, other = into ? SET_GA : SET_GB;
     execute_at(w, channel, false, 16);
-    set(w, channel, edge, (uint32_t)(w->s.memory.io_len - 1) & 0xFFFFu);
+    set(w, channel, edge, (uint32_t)(w->s.memory.io_len - there) & 0xFFFFu);
     set(w, channel, edge - SET_GA + SET_GA_TAG, true);
     set(w, channel, other, 2 * below(&w->d, 32));
     set(w, channel, other - SET_GA + SET_GA_TAG, false);
-    set(w, channel, SET_CC, 0xC080);
+    set_cc(w, channel, 0xC080);
     set(w, channel, SET_PSW, EMU_PSW_TB | EMU_PSW_XF | EMU_PSW_S | EMU_PSW_D);
+    step(w, 0);
+}
+
+/* Makes one transfer step of a byte whose entry in the table is in a slot. */
+static void translate_in_slots(struct writer *w, uint32_t channel)
+{
+    execute_at(w, channel, false, 16);
+    set(w, channel, SET_GC, (uint32_t)w->s.memory.io_len & 0xFFFFu);
+    set(w, channel, SET_GC_TAG, true);
+    set_cc(w, channel, 0xE080);
+    set(w, channel, SET_PSW, EMU_PSW_TB | EMU_PSW_XF);
     step(w, 0);
 }
 
@@ -332,7 +408,22 @@ static void meet_slots(struct writer *w)
     if (w->s.memory.io_len >= EMU_IO_LIMIT) return;
     if (kind < 300) execute_into_slots(w, some_channel(w));
     else if (kind < 500) transfer_over_edge(w, some_channel(w));
+    else if (kind < 570) translate_in_slots(w, some_channel(w));
     else work_in_slots(w, some_channel(w));
+}
+
+/* Moves a value to CC, by MOV or MOVI, and transfers as it says. */
+static void move_to_cc(struct writer *w)
+{
+    uint32_t channel = some_channel(w), cc = transfer_cc(&w->d), tp = 16 + below(&w->d, 16);
+    uint8_t mov[] = {0xC1, 0x80, 0x60, 0x00, 0x00, 0x00}, value[] = {(uint8_t)cc, (uint8_t)(cc >> 8)};
+    uint8_t movi[] = {0xD1, 0x30, value[0], value[1], 0x60, 0x00, 0x00, 0x00};
+    bool by_mov = chance(&w->d, 500);
+    execute_at(w, channel, false, tp);
+    if (by_mov) point(w, channel, SET_GA);
+    if (by_mov) place(w, channel_of(w, channel)->ga.tag, channel_of(w, channel)->ga.address, value, sizeof value);
+    place(w, false, tp, by_mov ? mov : movi, by_mov ? sizeof mov : sizeof movi);
+    for (unsigned i = 3 + below(&w->d, 4); i > 0; i--) step(w, good_lines(w, 250));
 }
 
 /* Gives a channel another program, and starts it from whatever mode. */
@@ -468,7 +559,8 @@ static void say_no_call(struct writer *w)
         "list", "list 0 0", "list 2 0 1", "list 0 0 0", "list 0 0 401", "list 0 0 1 0", "list 0 ffffffff 1",
         "list 0 0 g", "List 0 0 1", "reset 0", "Reset", "resets", "rese", "power 1", "POWER", "powerup", "power-up",
         "set 1 up 1", "set 0 up 2", "set 0 sysbus 2", "set 2 soc 0", "set 0 grant 10", "set 0 grants 1",
-        "set 0 sysbuss 1", "prom 0", "Prom", "proms", "end", "end 0", ":00000001FF",
+        "set 0 sysbuss 1", "set 0 fields 0", "set 1 fields 10000", "set 2 field 0", "set 1 fieldss 0", "set 1 Fields 0",
+        "set 1 fields", "set 2 fields.t 0", "prom 0", "Prom", "proms", "end", "end 0", ":00000001FF",
         "dump\t", "\tdump", "ca\t1", "dump\r\r", "\rstep 1", "ca\r1", "\r\r", "\t", "ca \xC3\xA9", "a b c d e f g h",
     };
     perform(w, ONE_OF(&w->d, lines));
@@ -480,23 +572,27 @@ static void say_damaged(struct writer *w)
     static const char *const calls[] = {"make 200 80 10", "put 0 0 0011", "put 1 7f 0A", "set 1 ga 12345",
                                         "set 2 tp.t 1",   "set 0 last 1", "set 0 cp 0",  "set 2 psw 44",
                                         "ca 1",           "step 3",       "dump",        "show 0 0",
-                                        "reset",          "power",        "set 0 up 1",  "set 0 sysbus 1"};
+                                        "reset",          "power",        "set 0 up 1",  "set 0 sysbus 1",
+                                        "set 1 cc c028",  "set 2 fields 418"};
     char line[32], put_in[] = "0123456789abcdefgABCDEFG xyz#.-\t?";
     size_t length = (size_t)snprintf(line, sizeof line, "%s", ONE_OF(&w->d, calls));
     line[below(&w->d, length)] = put_in[below(&w->d, sizeof put_in - 1)];
     if (line[0] == '#') write_line(w, line);
     else perform(w, line);
+    mend_fields(w);
 }
 
 /* Writes whatever comes next. */
 static void go_on(struct writer *w)
 {
     unsigned kind = below(&w->d, 1000);
-    if (kind < 260) steps(w);
-    else if (kind < 390) give_command(w);
-    else if (kind < 420) give_odd_attention(w);
-    else if (kind < 500) set_any(w);
-    else if (kind < 530) go_unsound(w);
+    if (kind < 240) steps(w);
+    else if (kind < 360) give_command(w);
+    else if (kind < 390) give_odd_attention(w);
+    else if (kind < 480) set_any(w);
+    else if (kind < 505) go_unsound(w);
+    else if (kind < 520) go_apart(w);
+    else if (kind < 530) move_to_cc(w);
     else if (kind < 630) transfer(w);
     else if (kind < 750) try_instructions(w, some_channel(w));
     else if (kind < 770) show(w);
@@ -549,12 +645,17 @@ static void make(struct writer *w)
     put(w, true, 0, bytes, length.io);
 }
 
+/* Whether every call is refused. */
+static bool stuck(const struct writer *w)
+{
+    const struct emu_memory *m = &w->s.memory;
+    return m->sys_len < 80 || m->sys_len > EMU_SYSTEM_LIMIT || m->io_len > EMU_IO_LIMIT;
+}
+
 /* How many calls a machine is worth: few where all of them are refused. */
 static unsigned long worth(struct writer *w)
 {
-    const struct emu_memory *m = &w->s.memory;
-    bool stuck = m->sys_len < 80 || m->sys_len > EMU_SYSTEM_LIMIT || m->io_len > EMU_IO_LIMIT;
-    return stuck ? 12 + below(&w->d, 10) : 60 + below(&w->d, 120);
+    return stuck(w) ? 12 + below(&w->d, 10) : 60 + below(&w->d, 120);
 }
 
 /* Makes a machine and calls it, until it has had enough or the script is long enough. */
@@ -568,6 +669,8 @@ static void use_machine(struct writer *w)
     }
     if (w->s.memory.sys_len > EMU_SYSTEM_LIMIT) load(w);
     if (w->s.memory.sys_len >= EMU_SYSTEM_LIMIT || w->s.memory.io_len > EMU_IO_LIMIT) start_over(w);
+    if (!stuck(w)) part_in_turn(w);
+    else if (w->s.memory.sys_len >= 80 || w->s.memory.io_len > EMU_IO_LIMIT) go_apart(w);
     while (w->left > end) go_on(w);
     perform(w, "dump");
 }
@@ -588,6 +691,7 @@ bool write_script(uint64_t seed, unsigned long calls, size_t length, FILE *out)
     w.d = seeded(seed, 0);
     w.out = out;
     w.left = calls;
+    w.turn = (unsigned)(seed % (2 * EMU_FIELDS)) * 7;
     session_begin(&w.s);
     while (w.left > 0) use_machine(&w);
     finish(&w, length);
