@@ -11,8 +11,8 @@ use mathlib.Core.Path.{_≡_, refl, sym, ap, ap₂, _∙_}
 use native.Mathlib.Omega.{arith}
 use Rattle.words.proofs.ChoiceLaws.{both-left, both-right}
 use Rattle.service.specs.Conditions.{Bytes}
-use Rattle.service.specs.Fields.{flagOf, flagIn, isFlag, modeByte, modeIn, isMode}
-use Rattle.service.specs.Layout.{pointerBytes, pointersBytes, numbersBytes, marksBytes, channelBytes, boardBytes, bytesOf, pointerIn, channelIn, boardIn, stateIn, isBlock, isBoard, isState, stateLength, version, firstAt, secondFrom}
+use Rattle.service.specs.Fields.{flagOf, flagIn, isFlag, modeByte, modeIn, isMode, isCode}
+use Rattle.service.specs.Layout.{pointerBytes, pointersBytes, numbersBytes, marksBytes, sidesBytes, endsBytes, fieldsBytes, channelBytes, boardBytes, bytesOf, pointerIn, fieldsIn, channelIn, boardIn, stateIn, isFields, isBlock, isBoard, isState, stateLength, version, firstAt, secondFrom}
 use Rattle.service.proofs.CallLaws.{state-length}
 use Rattle.service.proofs.LittleLaws.{little-forth}
 
@@ -50,13 +50,50 @@ mode-forth : (b : List ℕ) (at : ℕ) → at < length b → isMode b at ≡ tru
 unfolding isMode
 mode-forth b at h e = rw (mode-number b at (getD b at 0) refl (ltb-true (getD b at 0) 3 e)) (single b at h)
 
+-- the fields of CC that were read are put back
+fields-forth : (b : List ℕ) (at : ℕ) → at + 10 ≤ length b → isFields b at ≡ true → fieldsBytes (fieldsIn b at) ≡ part b at 10
+unfolding sidesBytes endsBytes fieldsBytes fieldsIn isFields
+fields-forth b at h f =
+    let p = isFlag b at in
+    let q = isFlag b (at + 1) in
+    let r = isFlag b (at + 2) in
+    let t = isCode b (at + 3) 4 in
+    let u = isFlag b (at + 4) in
+    let v = isFlag b (at + 5) in
+    let w = isFlag b (at + 6) in
+    let x = isCode b (at + 7) 4 in
+    let y = isCode b (at + 8) 4 in
+    let f7 = both-left (p && q && r && t && u && v && w) x (both-left (p && q && r && t && u && v && w && x) y (both-left (p && q && r && t && u && v && w && x && y) (isCode b (at + 9) 8) f)) in
+    let f6 = both-left (p && q && r && t && u && v) w f7 in
+    let f5 = both-left (p && q && r && t && u) v f6 in
+    let f3 = both-left (p && q && r) t (both-left (p && q && r && t) u f5) in
+    let f2 = both-left (p && q) r f3 in
+    ap₂ _++_ (flag-forth b at (omega arith) (both-left p q f2))
+    (ap₂ _++_ (flag-forth b (at + 1) (omega arith) (both-right p q f2))
+    (ap₂ _++_ (flag-forth b (at + 2) (omega arith) (both-right (p && q) r f3))
+    (ap₂ _++_ (single b (at + 3) (omega arith))
+    (ap₂ _++_ (flag-forth b (at + 4) (omega arith) (both-right (p && q && r && t) u f5))
+    (ap₂ _++_ (flag-forth b (at + 5) (omega arith) (both-right (p && q && r && t && u) v f6))
+    (ap₂ _++_ (flag-forth b (at + 6) (omega arith) (both-right (p && q && r && t && u && v) w f7))
+    (ap₂ _++_ (single b (at + 7) (omega arith))
+    (ap₂ _++_ (single b (at + 8) (omega arith)) (single b (at + 9) (omega arith))
+    ∙ joined b (at + 8) 1 1 (at + 9) (omega arith))
+    ∙ joined b (at + 7) 1 2 (at + 8) (omega arith))
+    ∙ joined b (at + 6) 1 3 (at + 7) (omega arith))
+    ∙ joined b (at + 5) 1 4 (at + 6) (omega arith))
+    ∙ joined b (at + 4) 1 5 (at + 5) (omega arith))
+    ∙ joined b (at + 3) 1 6 (at + 4) (omega arith))
+    ∙ joined b (at + 2) 1 7 (at + 3) (omega arith))
+    ∙ joined b (at + 1) 1 8 (at + 2) (omega arith))
+    ∙ joined b at 1 9 (at + 1) refl
+
 module _ (b : List ℕ) (byte : Bytes b) where
   pointer-forth : (at : ℕ) → at + 5 ≤ length b → isFlag b (at + 4) ≡ true → pointerBytes (pointerIn b at) ≡ part b at 5
   unfolding pointerBytes pointerIn
   pointer-forth at h f =
       ap₂ _++_ (little-forth 4 b at byte (omega arith)) (flag-forth b (at + 4) (omega arith) f) ∙ joined b at 4 1 (at + 4) refl
 
-  module _ (at : ℕ) (h : at + 35 ≤ length b) where
+  module _ (at : ℕ) (h : at + 45 ≤ length b) where
     pointers-forth : isFlag b (at + 4) ≡ true → isFlag b (at + 5 + 4) ≡ true → isFlag b (at + 10 + 4) ≡ true → isFlag b (at + 15 + 4) ≡ true
         → pointersBytes (channelIn b at) ≡ part b at 20
     unfolding pointersBytes channelIn
@@ -88,15 +125,17 @@ module _ (b : List ℕ) (byte : Bytes b) where
         ∙ joined b (at + 33) 1 1 (at + 34) (omega arith))
         ∙ joined b (at + 32) 1 2 (at + 33) (omega arith)
 
-    channel-forth : isBlock b at ≡ true → channelBytes (channelIn b at) ≡ part b at 35
-    unfolding channelBytes isBlock
+    channel-forth : isBlock b at ≡ true → channelBytes (channelIn b at) ≡ part b at 45
+    unfolding channelBytes isBlock channelIn
     channel-forth f =
         let p = isFlag b (at + 4) in
         let q = isFlag b (at + 9) in
         let r = isFlag b (at + 14) in
         let t = isFlag b (at + 19) in
         let k = isMode b (at + 33) in
-        let f5 = both-left (p && q && r && t && k) (isFlag b (at + 34)) f in
+        let a = isFlag b (at + 34) in
+        let f6 = both-left (p && q && r && t && k && a) (isFields b (at + 35)) f in
+        let f5 = both-left (p && q && r && t && k) a f6 in
         let f4 = both-left (p && q && r && t) k f5 in
         let f3 = both-left (p && q && r) t f4 in
         let f2 = both-left (p && q) r f3 in
@@ -104,9 +143,11 @@ module _ (b : List ℕ) (byte : Bytes b) where
         let three : at + 10 + 4 ≡ at + 14 = omega arith in
         let four : at + 15 + 4 ≡ at + 19 = omega arith in
         ap₂ _++_ (pointers-forth (both-left p q f2) (rw two (both-right p q f2)) (rw three (both-right (p && q) r f3)) (rw four (both-right (p && q && r) t f4)))
-        (ap₂ _++_ numbers-forth (marks-forth (both-right (p && q && r && t) k f5) (both-right (p && q && r && t && k) (isFlag b (at + 34)) f))
-        ∙ joined b (at + 20) 12 3 (at + 32) (omega arith))
-        ∙ joined b at 20 15 (at + 20) refl
+        (ap₂ _++_ numbers-forth
+        (ap₂ _++_ (marks-forth (both-right (p && q && r && t) k f5) (both-right (p && q && r && t && k) a f6)) (fields-forth b (at + 35) (omega arith) (both-right (p && q && r && t && k && a) (isFields b (at + 35)) f))
+        ∙ joined b (at + 32) 3 10 (at + 35) (omega arith))
+        ∙ joined b (at + 20) 12 13 (at + 32) (omega arith))
+        ∙ joined b at 20 25 (at + 20) refl
 
   board-forth : 10 ≤ length b → isBoard b ≡ true → boardBytes (boardIn b) ≡ part b 6 4
   unfolding boardBytes boardIn isBoard
@@ -142,10 +183,10 @@ module _ (b : List ℕ) (byte : Bytes b) where
       (ap₂ _++_ (little-forth 4 b 1 byte (omega arith))
       (ap₂ _++_ (flag-forth b 5 (omega arith) (both-right (a && v) l h2))
       (ap₂ _++_ (board-forth (omega arith) (both-right (a && v && l) o h3))
-      (ap₂ _++_ (channel-forth 10 (omega arith) (both-right (a && v && l && o) one h4)) (channel-forth 45 (omega arith) (both-right (a && v && l && o && one) (isBlock b secondFrom) h))
-      ∙ joined b 10 35 35 45 refl)
-      ∙ joined b 6 4 70 10 refl)
-      ∙ joined b 5 1 74 6 refl)
-      ∙ joined b 1 4 75 5 refl)
-      ∙ joined b 0 1 79 1 refl
-      ∙ take-all 80 b (omega arith)
+      (ap₂ _++_ (channel-forth 10 (omega arith) (both-right (a && v && l && o) one h4)) (channel-forth 55 (omega arith) (both-right (a && v && l && o && one) (isBlock b secondFrom) h))
+      ∙ joined b 10 45 45 55 refl)
+      ∙ joined b 6 4 90 10 refl)
+      ∙ joined b 5 1 94 6 refl)
+      ∙ joined b 1 4 95 5 refl)
+      ∙ joined b 0 1 99 1 refl
+      ∙ take-all 100 b (omega arith)

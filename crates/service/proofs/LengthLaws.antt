@@ -6,9 +6,10 @@ use mathlib.Core.Path.{_≡_, refl, ap}
 use Rattle.memory.specs.declared.Pointer.{Pointer}
 use Rattle.machine.specs.declared.Board.{Board}
 use Rattle.machine.specs.declared.Channel.{Channel}
+use Rattle.machine.specs.declared.Fields.{Fields}
 use Rattle.machine.specs.declared.State.{State}
 use Rattle.service.specs.Fields.{littleEnd}
-use Rattle.service.specs.Layout.{pointerBytes, pointersBytes, numbersBytes, marksBytes, channelBytes, boardBytes, bytesOf, stateLength}
+use Rattle.service.specs.Layout.{pointerBytes, pointersBytes, numbersBytes, marksBytes, sidesBytes, endsBytes, fieldsBytes, channelBytes, boardBytes, bytesOf, stateLength}
 
 -- a number has as many bytes as its width says
 pub length-little : (width n : ℕ) → length (littleEnd width n) ≡ width
@@ -28,8 +29,16 @@ pub length-numbers : (c : Channel) → length (numbersBytes c) ≡ 12
 unfolding numbersBytes littleEnd
 length-numbers c = refl
 
-pub length-channel : (c : Channel) → length (channelBytes c) ≡ 35
-unfolding channelBytes pointersBytes pointerBytes numbersBytes marksBytes littleEnd
+pub length-marks : (c : Channel) → length (marksBytes c) ≡ 3
+unfolding marksBytes
+length-marks c = refl
+
+pub length-sides : (f : Fields) → length (sidesBytes f) ≡ 5
+unfolding sidesBytes
+length-sides f = refl
+
+pub length-channel : (c : Channel) → length (channelBytes c) ≡ 45
+unfolding channelBytes pointersBytes pointerBytes numbersBytes marksBytes sidesBytes endsBytes fieldsBytes littleEnd
 length-channel c = refl
 
 pub length-board : (b : Board) → length (boardBytes b) ≡ 4
@@ -37,5 +46,5 @@ unfolding boardBytes
 length-board b = refl
 
 pub length-state : (s : State) → length (bytesOf s) ≡ stateLength
-unfolding bytesOf boardBytes channelBytes pointersBytes pointerBytes numbersBytes marksBytes littleEnd
+unfolding bytesOf boardBytes channelBytes pointersBytes pointerBytes numbersBytes marksBytes sidesBytes endsBytes fieldsBytes littleEnd
 length-state s = refl

@@ -22,9 +22,9 @@ use Rattle.power.specs.Power.{powerUpOf}
 use Rattle.step.proofs.NumberLaws.{number-given, step-most}
 use Rattle.step.specs.Step.{stepOf}
 use Rattle.service.specs.Calls.{made, served, noState, kindNumber, answerFrom, freshMade, resetMade, powerServed, attentionServed, stepServed}
-use Rattle.service.specs.Conditions.{NoState, NoBlock, NoBoard, freshChecksOn, resetChecksOn, powerChecksOn, attentionChecksOn, stepChecksOn}
-use Rattle.service.specs.Fields.{isFlag, isMode}
-use Rattle.service.specs.Layout.{bytesOf, stateIn, isBlock, isBoard, isState, stateLength, version, firstAt, secondFrom}
+use Rattle.service.specs.Conditions.{NoState, NoFields, NoBlock, NoBoard, freshChecksOn, resetChecksOn, powerChecksOn, attentionChecksOn, stepChecksOn}
+use Rattle.service.specs.Fields.{isFlag, isMode, isCode}
+use Rattle.service.specs.Layout.{bytesOf, stateIn, isFields, isBlock, isBoard, isState, stateLength, version, firstAt, secondFrom}
 
 -- ---- the parts of an answer
 
@@ -44,6 +44,20 @@ module _ (number channel kind : ℕ) where
 
 -- ---- 17
 
+told-fields : (b : List ℕ) (at : ℕ) → Told (isFields b at) (NoFields b at)
+unfolding isFields isFlag isCode
+told-fields b at =
+    simp and-assoc
+    (told-and (told-ltb (getD b at 0) 2)
+    (told-and (told-ltb (getD b (at + 1) 0) 2)
+    (told-and (told-ltb (getD b (at + 2) 0) 2)
+    (told-and (told-ltb (getD b (at + 3) 0) 4)
+    (told-and (told-ltb (getD b (at + 4) 0) 2)
+    (told-and (told-ltb (getD b (at + 5) 0) 2)
+    (told-and (told-ltb (getD b (at + 6) 0) 2)
+    (told-and (told-ltb (getD b (at + 7) 0) 4)
+    (told-and (told-ltb (getD b (at + 8) 0) 4) (told-ltb (getD b (at + 9) 0) 8))))))))))
+
 told-block : (b : List ℕ) (at : ℕ) → Told (isBlock b at) (NoBlock b at)
 unfolding isBlock isFlag isMode
 told-block b at =
@@ -52,7 +66,8 @@ told-block b at =
     (told-and (told-ltb (getD b (at + 9) 0) 2)
     (told-and (told-ltb (getD b (at + 14) 0) 2)
     (told-and (told-ltb (getD b (at + 19) 0) 2)
-    (told-and (told-ltb (getD b (at + 33) 0) 3) (told-ltb (getD b (at + 34) 0) 2))))))
+    (told-and (told-ltb (getD b (at + 33) 0) 3)
+    (told-and (told-ltb (getD b (at + 34) 0) 2) (told-fields b (at + 35))))))))
 
 told-board : (b : List ℕ) → Told (isBoard b) (NoBoard b)
 unfolding isBoard isFlag
@@ -78,13 +93,13 @@ told-17 : {A Q : Type 0} (ok : Bool) (n number answer : ℕ) → Told ok A → a
 told-17 true n number answer t e q = (λ h. inr (t .holds refl, q .0 (sym e ∙ h)), ⊎-elim (λ h. absurd (t .holds refl (h .0))) (λ h. e ∙ q .1 (h .1)))
 told-17 false n number answer t e q = (λ h. inl (t .fails refl, sym h ∙ e), ⊎-elim (λ h. e ∙ sym (h .1)) (λ h. absurd (h .0 (t .fails refl))))
 
--- 17 itself, where the other numbers are at most 13
-exactly-17 : {A : Type 0} (ok : Bool) (number answer : ℕ) → Told ok A → answer ≡ pick ok number 17 → number ≤ 13 → (answer ≡ 17) ↔ A
+-- 17 itself, where the other numbers are at most 14
+exactly-17 : {A : Type 0} (ok : Bool) (number answer : ℕ) → Told ok A → answer ≡ pick ok number 17 → number ≤ 14 → (answer ≡ 17) ↔ A
 exactly-17 true number answer t e small = (λ h. absurd (let f : answer ≡ number = e in omega arith), λ h. absurd (t .holds refl h))
 exactly-17 false number answer t e small = (λ h. t .fails refl, λ h. e)
 
 -- what a call answers, whether its bytes are a state or not
-answer-number : (ok : Bool) (number channel kind : ℕ) (bytes b : List ℕ) (m′ m : Buffers) → number ≤ 13
+answer-number : (ok : Bool) (number channel kind : ℕ) (bytes b : List ℕ) (m′ m : Buffers) → number ≤ 14
     → (pick ok (served (answerFrom number channel kind) bytes m′) (noState b m)) .answer % 256 ≡ pick ok number 17
 answer-number true number channel kind bytes b m′ m h = number-part number channel kind (omega arith)
 answer-number false number channel kind bytes b m′ m h = refl

@@ -1,4 +1,4 @@
--- What a call leaves: a refused one leaves the bytes and both memories as they were, and no two outcomes meet a call's contract.
+-- What a call leaves: a refused one leaves the bytes and both memories as they were, every one leaves a state where it was given one, and no two outcomes meet a call's contract.
 -- Assumes nothing.
 use Prim.Native.Nat.{ℕ, _%_, _≤_}
 use contract.Lifetimes.{Lfts}
@@ -8,22 +8,31 @@ use denote.Triple.Clauses.{AtExit}
 use mathlib.Core.Bool.{Bool, true, false}
 use mathlib.Core.List.{List}
 use mathlib.Core.Path.{_≡_, refl, sym, ap, _∙_}
+use native.Mathlib.Decide.{ℕ-discrete}
 use native.Mathlib.Omega.{arith}
 use Rattle.words.specs.Choice.{pick}
 use Rattle.memory.specs.Buffers.{Buffers, buffers}
-use Rattle.machine.specs.Outcomes.{Outcome}
+use Rattle.machine.proofs.ConditionLaws.{first-none-left, first-none-right}
+use Rattle.machine.proofs.GivenLaws.{given-agree}
+use Rattle.machine.proofs.OutcomeLaws.{settled-number}
+use Rattle.machine.specs.Outcomes.{Outcome, settled}
+use Rattle.machine.specs.States.{agree, withChannel, isSecond}
+use Rattle.machine.specs.declared.State.{State}
 use Rattle.attention.proofs.Numbers.{attention-most}
 use Rattle.attention.proofs.Outcomes.{refused-nothing}
-use Rattle.attention.specs.Attention.{attentionOf}
+use Rattle.attention.proofs.SoundLaws.{attention-agree}
+use Rattle.attention.specs.Attention.{givenTo, orderedChannel, orderedMemory, attentionNumber, attentionOf}
 use Rattle.power.proofs.Numbers.{power-most}
-use Rattle.power.proofs.Outcomes.{power-refused}
+use Rattle.power.proofs.Outcomes.{power-refused, power-accepted, found-agree}
 use Rattle.power.specs.Power.{powerUpOf}
 use Rattle.step.proofs.NumberLaws.{step-most}
-use Rattle.step.proofs.OutcomeLaws.{refused}
+use Rattle.step.proofs.OutcomeLaws.{by-step, refused}
+use Rattle.step.proofs.SoundLaws.{entry-agree, step-agree}
 use Rattle.step.specs.Step.{Step, stepOf}
 use Rattle.service.specs.Calls.{Service, made, served, noState, answerFrom, kindNumber, powerServed, attentionServed, stepServed}
 use Rattle.service.specs.Conditions.{Bytes}
 use Rattle.service.specs.Layout.{bytesOf, stateIn, isState}
+use Rattle.service.proofs.BackLaws.{bytes-are}
 use Rattle.service.proofs.ForthLaws.{bytes-back}
 use Rattle.service.proofs.NumberLaws.{number-part}
 use Rattle.service.proofs.iop89_fresh.Kinds as fresh-kinds
@@ -44,7 +53,7 @@ module _ (b : List ℕ) (byte : Bytes b) (m : Buffers) where
   pub Kept : Service → Type 0
   Kept o = ¬ (o .answer % 256 ≡ 0) → (o .bytes ≡ b) × (o .memory ≡ m)
 
-  kept : (ok : Bool) (number channel kind : ℕ) (bytes : List ℕ) (m′ : Buffers) → number ≤ 13
+  kept : (ok : Bool) (number channel kind : ℕ) (bytes : List ℕ) (m′ : Buffers) → number ≤ 14
       → (ok ≡ true → ¬ (number ≡ 0) → (bytes ≡ b) × (m′ ≡ m)) → Kept (pick ok (served (answerFrom number channel kind) bytes m′) (noState b m))
   unfolding Kept
   kept true number channel kind bytes m′ h same ne = same refl (λ e. ne (number-part number channel kind (omega arith) ∙ e))
@@ -73,6 +82,56 @@ module _ (b : List ℕ) (byte : Bytes b) (m : Buffers) where
       kept (isState b) (o .number) (o .channel) (kindNumber (o .kind)) (bytesOf (o .state)) (o .memory) (step-most (stateIn b) m lines)
       (λ h ne. let same = refused (stateIn b) m lines ne in
       (ap (λ (x : Step). bytesOf (x .state)) same ∙ bytes-back b byte h, ap (λ (x : Step). x .memory) same))
+
+-- ---- a call that was given a state leaves one
+
+-- an attention and a step that were done were given one that agrees
+attention-agreed : (s : State) (m : Buffers) (channel : ℕ) → attentionOf s m channel .number ≡ 0 → agree s ≡ true
+unfolding attentionOf attentionNumber givenTo
+attention-agreed s m channel e =
+    let b = isSecond channel in
+    given-agree s m (first-none-right _ _ (first-none-left _ _ (sym (settled-number (attentionNumber s m channel) s m (withChannel s b (orderedChannel s m b)) (orderedMemory s m b)) ∙ e)))
+
+step-agreed : (s : State) (m : Buffers) (lines : ℕ) → stepOf s m lines .number ≡ 0 → agree s ≡ true
+step-agreed s m lines =
+    by-step s m lines (λ o. o .number ≡ 0 → agree s ≡ true) (λ k ne e. absurd (ne e))
+    (λ b z e h. entry-agree s m lines z) (λ b z e f h. entry-agree s m lines z) (λ b z e f h. entry-agree s m lines z)
+
+module _ (b : List ℕ) (byte : Bytes b) (m : Buffers) (h : isState b ≡ true) where
+  -- what is left agrees where the call was done, and is what was given where it was refused
+  stays : (number : ℕ) (s : State) → (number ≡ 0 → agree s ≡ true) → (¬ (number ≡ 0) → s ≡ stateIn b) → isState (bytesOf s) ≡ true
+  stays number s done same = go (ℕ-discrete number 0)
+    where
+      go : Dec (number ≡ 0) → isState (bytesOf s) ≡ true
+      go (yes z) = bytes-are s (done z)
+      go (no ne) = ap (λ (x : State). isState (bytesOf x)) (same ne) ∙ ap isState (bytes-back b byte h) ∙ h
+
+  pub power-stays : isState (powerServed b m .bytes) ≡ true
+  unfolding powerServed
+  power-stays =
+      let o = powerUpOf (stateIn b) m in
+      rw h
+      (stays (o .number) (o .state)
+      (λ z. ap (λ (x : Outcome). agree (x .state)) (power-accepted (stateIn b) m z) ∙ found-agree m)
+      (λ ne. ap (λ (x : Outcome). x .state) (power-refused (stateIn b) m ne)))
+
+  pub attention-stays : (channel : ℕ) → isState (attentionServed b m channel .bytes) ≡ true
+  unfolding attentionServed
+  attention-stays channel =
+      let o = attentionOf (stateIn b) m channel in
+      rw h
+      (stays (o .number) (o .state)
+      (λ z. attention-agree (stateIn b) m channel (attention-agreed (stateIn b) m channel z))
+      (λ ne. ap (λ (x : Outcome). x .state) (refused-nothing (stateIn b) m channel ne)))
+
+  pub step-stays : (lines : ℕ) → isState (stepServed b m lines .bytes) ≡ true
+  unfolding stepServed
+  step-stays lines =
+      let o = stepOf (stateIn b) m lines in
+      rw h
+      (stays (o .number) (o .state)
+      (λ z. step-agree (stateIn b) m lines (step-agreed (stateIn b) m lines z))
+      (λ ne. ap (λ (x : Step). x .state) (refused (stateIn b) m lines ne)))
 
 -- ---- the contracts as the code has them: the answer, the bytes and both memories are determined
 

@@ -22,7 +22,25 @@ NoFlag b at = 2 ≤ getD b at 0
 abbrev pub NoMode : List ℕ → ℕ → Type 0
 NoMode b at = 3 ≤ getD b at 0
 
--- a tag, the mode or the armed mark of a block is out of range
+-- a byte stands for no field of CC that has so many values
+abbrev pub NoCode : List ℕ → ℕ → ℕ → Type 0
+NoCode b at values = values ≤ getD b at 0
+
+-- a field of CC is out of range
+abbrev pub NoFields : List ℕ → ℕ → Type 0
+NoFields b at =
+    NoFlag b at
+    ⊎ NoFlag b (at + 1)
+    ⊎ NoFlag b (at + 2)
+    ⊎ NoCode b (at + 3) 4
+    ⊎ NoFlag b (at + 4)
+    ⊎ NoFlag b (at + 5)
+    ⊎ NoFlag b (at + 6)
+    ⊎ NoCode b (at + 7) 4
+    ⊎ NoCode b (at + 8) 4
+    ⊎ NoCode b (at + 9) 8
+
+-- a tag, the mode, the armed mark or a field of CC of a block is out of range
 abbrev pub NoBlock : List ℕ → ℕ → Type 0
 NoBlock b at =
     NoFlag b (at + 4)
@@ -31,12 +49,13 @@ NoBlock b at =
     ⊎ NoFlag b (at + 19)
     ⊎ NoMode b (at + 33)
     ⊎ NoFlag b (at + 34)
+    ⊎ NoFields b (at + 35)
 
 -- a byte of what the board set up is out of range
 abbrev pub NoBoard : List ℕ → Type 0
 NoBoard b = NoFlag b 6 ⊎ NoFlag b 7 ⊎ NoFlag b 8 ⊎ NoFlag b 9
 
--- 17: another length or version, or a mode or flag out of range
+-- 17: another length or version, or a mode, flag or field out of range
 abbrev pub NoState : List ℕ → Type 0
 NoState b =
     ¬ (length b ≡ stateLength)

@@ -1,4 +1,4 @@
--- What one field of a state is in bytes: a number of some width, little end first; a truth value; a mode.
+-- What one part of a state is in bytes: a number of some width, little end first; a truth value; a mode; a code of CC.
 use mathlib.Core.Bool.{Bool}
 use mathlib.Core.List.{List, [], _∷_}
 use Prim.Native.Nat.{ℕ, zero, suc, _+_, _*_, _/_, _%_}
@@ -43,3 +43,7 @@ modeIn b at = pick (eqb (getD b at 0) 0) Idle (pick (eqb (getD b at 0) 1) Runnin
 -- a byte stands for a mode (else 17)
 unfoldable pub isMode : List ℕ → ℕ → Bool
 isMode b at = ltb (getD b at 0) 3
+
+-- a byte stands for a field of CC that has so many values (else 17)
+unfoldable pub isCode : List ℕ → ℕ → ℕ → Bool
+isCode b at values = ltb (getD b at 0) values

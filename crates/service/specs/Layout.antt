@@ -1,4 +1,4 @@
--- A state as the caller keeps it, 80 bytes: version, CP, the channel that stepped last, what the board set up, then a block of 35 bytes for each channel.
+-- A state as the caller keeps it, 100 bytes: version, CP, the channel that stepped last, what the board set up, then a block of 45 bytes for each channel.
 use mathlib.Core.Bool.{Bool, _&&_}
 use mathlib.Core.List.{List, [], _∷_, _++_}
 use Prim.Native.Nat.{ℕ, _+_}
@@ -9,8 +9,9 @@ use Rattle.memory.specs.declared.Pointer.{Pointer}
 use Rattle.machine.specs.States.{boardWith}
 use Rattle.machine.specs.declared.Board.{Board}
 use Rattle.machine.specs.declared.Channel.{Channel}
+use Rattle.machine.specs.declared.Fields.{Fields}
 use Rattle.machine.specs.declared.State.{State}
-use Rattle.service.specs.Fields.{littleEnd, littleIn, flagOf, flagIn, isFlag, modeByte, modeIn, isMode}
+use Rattle.service.specs.Fields.{littleEnd, littleIn, flagOf, flagIn, isFlag, modeByte, modeIn, isMode, isCode}
 
 -- ---- a state to bytes
 
@@ -30,9 +31,27 @@ numbersBytes c = littleEnd 4 (c .pp) ++ (littleEnd 2 (c .bc) ++ (littleEnd 2 (c 
 unfoldable pub marksBytes : Channel → List ℕ
 marksBytes c = (c .psw ∷ []) ++ ((modeByte (c .mode) ∷ []) ++ (flagOf (c .armed) ∷ []))
 
+-- of the fields of CC those of a transfer's sides, a byte each
+unfoldable pub sidesBytes : Fields → List ℕ
+sidesBytes f =
+    (flagOf (f .destinationMoves) ∷ [])
+    ++ ((flagOf (f .sourceMoves) ∷ [])
+    ++ ((flagOf (f .translates) ∷ []) ++ ((f .synchronised ∷ []) ++ (flagOf (f .sourceIsGB) ∷ []))))
+
+-- the chained bit and those of a transfer's ends
+unfoldable pub endsBytes : Fields → List ℕ
+endsBytes f =
+    (flagOf (f .chained) ∷ [])
+    ++ ((flagOf (f .singleTransfer) ∷ [])
+    ++ ((f .externalEnd ∷ []) ++ ((f .countEnd ∷ []) ++ (f .matchEnd ∷ []))))
+
+-- all of them
+unfoldable pub fieldsBytes : Fields → List ℕ
+fieldsBytes f = sidesBytes f ++ endsBytes f
+
 -- a channel's block
 unfoldable pub channelBytes : Channel → List ℕ
-channelBytes c = pointersBytes c ++ (numbersBytes c ++ marksBytes c)
+channelBytes c = pointersBytes c ++ (numbersBytes c ++ (marksBytes c ++ fieldsBytes (c .fields)))
 
 -- what the board set up: powered up, SYSBUS bit 0, SOC bit 0 and SOC bit 1, a byte each
 unfoldable pub boardBytes : Board → List ℕ
@@ -40,7 +59,7 @@ boardBytes b = (flagOf (b .powered) ∷ []) ++ ((flagOf (b .sysbus) ∷ []) ++ (
 
 -- the layout's number, which each change of the layout raises
 abbrev pub version : ℕ
-version = 2
+version = 3
 
 -- the whole state
 unfoldable pub bytesOf : State → List ℕ
@@ -56,7 +75,7 @@ bytesOf s =
 
 -- how many bytes a state has
 abbrev pub stateLength : ℕ
-stateLength = 80
+stateLength = 100
 
 -- where the block of channel 1 starts
 abbrev pub firstAt : ℕ
@@ -64,11 +83,27 @@ firstAt = 10
 
 -- where the block of channel 2 starts
 abbrev pub secondFrom : ℕ
-secondFrom = 45
+secondFrom = 55
 
 -- the pointer at an offset
 unfoldable pub pointerIn : List ℕ → ℕ → Pointer
 pointerIn b at = pointer (littleIn 4 b at) (flagIn b (at + 4))
+
+-- the fields of CC from an offset on
+unfoldable pub fieldsIn : List ℕ → ℕ → Fields
+fieldsIn b at =
+    record {
+      destinationMoves = flagIn b at;
+      sourceMoves = flagIn b (at + 1);
+      translates = flagIn b (at + 2);
+      synchronised = getD b (at + 3) 0;
+      sourceIsGB = flagIn b (at + 4);
+      chained = flagIn b (at + 5);
+      singleTransfer = flagIn b (at + 6);
+      externalEnd = getD b (at + 7) 0;
+      countEnd = getD b (at + 8) 0;
+      matchEnd = getD b (at + 9) 0;
+    }
 
 -- the channel whose block starts at an offset
 unfoldable pub channelIn : List ℕ → ℕ → Channel
@@ -86,6 +121,7 @@ channelIn b at =
       psw = getD b (at + 32) 0;
       mode = modeIn b (at + 33);
       armed = flagIn b (at + 34);
+      fields = fieldsIn b (at + 35);
     }
 
 -- what the board set up, from its four bytes
@@ -98,7 +134,21 @@ stateIn b = record { first = channelIn b firstAt; second = channelIn b secondFro
 
 -- ---- which bytes are a state
 
--- a channel's tags and armed mark are truth values, and its mode is one
+-- the flags of CC are truth values, SYN, TX and TBC have two bits, and TMC has three
+unfoldable pub isFields : List ℕ → ℕ → Bool
+isFields b at =
+    isFlag b at
+    && isFlag b (at + 1)
+    && isFlag b (at + 2)
+    && isCode b (at + 3) 4
+    && isFlag b (at + 4)
+    && isFlag b (at + 5)
+    && isFlag b (at + 6)
+    && isCode b (at + 7) 4
+    && isCode b (at + 8) 4
+    && isCode b (at + 9) 8
+
+-- a channel's tags and armed mark are truth values, its mode is one, and so are its fields of CC
 unfoldable pub isBlock : List ℕ → ℕ → Bool
 isBlock b at =
     isFlag b (at + 4)
@@ -107,12 +157,13 @@ isBlock b at =
     && isFlag b (at + 19)
     && isMode b (at + 33)
     && isFlag b (at + 34)
+    && isFields b (at + 35)
 
 -- what the board set up is four truth values
 unfoldable pub isBoard : List ℕ → Bool
 isBoard b = isFlag b 6 && isFlag b 7 && isFlag b 8 && isFlag b 9
 
--- of the right length and version, and each flag and mode is one (else 17)
+-- of the right length and version, and each flag, mode and field is one (else 17)
 unfoldable pub isState : List ℕ → Bool
 isState b =
     eqb (length b) stateLength

@@ -1,5 +1,5 @@
-// One field of a state: a byte, a word, a long number of four bytes, a truth value or a mode, read from bytes that have
-// it and put into them.
+// One part of a state: a byte, a word, a long number of four bytes, a truth value, a mode or a code of CC, read from bytes
+// that have it and put into them.
 use machine::Mode;
 ghost use mathlib.Core.Path.{_≡_};
 ghost use mathlib.Core.List.{[], _∷_};
@@ -7,7 +7,7 @@ ghost use Prim.Native.Nat.{_+_, _<_, _≤_};
 ghost use lib.ListN.{length, getD};
 ghost use lib.Seq.{sets};
 ghost use Rattle.service.specs.Fields as Fields;
-ghost use Rattle.service.specs.Fields.{littleEnd, littleIn, flagOf, flagIn, isFlag, modeIn, isMode};
+ghost use Rattle.service.specs.Fields.{littleEnd, littleIn, flagOf, flagIn, isFlag, modeIn, isMode, isCode};
 
 // The byte at an offset.
 pub(crate) fn byte(bytes: &[u8], at: usize) -> u8
@@ -67,6 +67,14 @@ pub(crate) fn is_mode(bytes: &[u8], at: usize) -> bool
     ensures { λ r. ⌜ r ≡ isMode (now (bytes .entry)) at ⌝ }
 {
     byte(bytes, at) < 3
+}
+
+// Whether the byte at an offset stands for a field of CC that has so many values.
+pub(crate) fn is_code(bytes: &[u8], at: usize, values: u8) -> bool
+    requires { ⌜ at < length (now bytes) ⌝ }
+    ensures { λ r. ⌜ r ≡ isCode (now (bytes .entry)) at values ⌝ }
+{
+    byte(bytes, at) < values
 }
 
 // A byte put at an offset.

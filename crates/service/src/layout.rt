@@ -1,7 +1,9 @@
-// A whole state in 80 bytes: pointers, channels, what the board set up and the state itself, read, tested and put.
+// A whole state in 100 bytes: pointers, fields of CC, channels, what the board set up and the state itself, read, tested
+// and put.
 use crate::fields;
 use machine::Board;
 use machine::Channel;
+use machine::Fields;
 use machine::State;
 use memory::Pointer;
 ghost use mathlib.Core.Path.{_≡_};
@@ -9,13 +11,13 @@ ghost use Prim.Native.Nat.{_+_, _≤_};
 ghost use lib.ListN.{length};
 ghost use lib.Seq.{sets};
 ghost use Rattle.service.specs.Conditions.{ChannelFits};
-ghost use Rattle.service.specs.Layout.{pointerBytes, pointersBytes, numbersBytes, marksBytes, channelBytes, boardBytes, bytesOf, pointerIn, channelIn, boardIn, stateIn, isBlock, isBoard, isState, stateLength};
+ghost use Rattle.service.specs.Layout.{pointerBytes, pointersBytes, numbersBytes, marksBytes, sidesBytes, endsBytes, channelBytes, boardBytes, bytesOf, pointerIn, fieldsIn, channelIn, boardIn, stateIn, isFields, isBlock, isBoard, isState, stateLength};
 
 // Where the block of channel 1 starts.
 const FIRST_AT: usize = 10;
 
 // Where the block of channel 2 starts.
-const SECOND_AT: usize = 45;
+const SECOND_AT: usize = 55;
 
 // The pointer at an offset.
 fn pointer_in(bytes: &[u8], at: usize) -> Pointer
@@ -28,9 +30,28 @@ fn pointer_in(bytes: &[u8], at: usize) -> Pointer
     }
 }
 
+// The fields of CC from an offset on.
+fn fields_in(bytes: &[u8], at: usize) -> Fields
+    requires { ⌜ at + 10 ≤ length (now bytes) ⌝ }
+    ensures { λ r. ⌜ r ≡ fieldsIn (now (bytes .entry)) at ⌝ }
+{
+    Fields {
+        destinationMoves: fields::flag(bytes, at),
+        sourceMoves: fields::flag(bytes, at + 1),
+        translates: fields::flag(bytes, at + 2),
+        synchronised: fields::byte(bytes, at + 3),
+        sourceIsGB: fields::flag(bytes, at + 4),
+        chained: fields::flag(bytes, at + 5),
+        singleTransfer: fields::flag(bytes, at + 6),
+        externalEnd: fields::byte(bytes, at + 7),
+        countEnd: fields::byte(bytes, at + 8),
+        matchEnd: fields::byte(bytes, at + 9),
+    }
+}
+
 // The channel whose block starts at an offset.
 fn channel_in(bytes: &[u8], at: usize) -> Channel
-    requires { ⌜ at + 35 ≤ length (now bytes) ⌝ }
+    requires { ⌜ at + 45 ≤ length (now bytes) ⌝ }
     ensures { λ r. ⌜ r ≡ channelIn (now (bytes .entry)) at ⌝ }
 {
     Channel {
@@ -46,6 +67,7 @@ fn channel_in(bytes: &[u8], at: usize) -> Channel
         psw: fields::byte(bytes, at + 32),
         mode: fields::mode(bytes, at + 33),
         armed: fields::flag(bytes, at + 34),
+        fields: fields_in(bytes, at + 35),
     }
 }
 
@@ -76,9 +98,26 @@ pub(crate) fn state_in(bytes: &[u8]) -> State
     }
 }
 
-// Whether the flags and the mode of a block are such.
+// Whether each field of CC is one.
+fn is_fields(bytes: &[u8], at: usize) -> bool
+    requires { ⌜ at + 10 ≤ length (now bytes) ⌝ }
+    ensures { λ r. ⌜ r ≡ isFields (now (bytes .entry)) at ⌝ }
+{
+    fields::is_flag(bytes, at)
+        & fields::is_flag(bytes, at + 1)
+        & fields::is_flag(bytes, at + 2)
+        & fields::is_code(bytes, at + 3, 4)
+        & fields::is_flag(bytes, at + 4)
+        & fields::is_flag(bytes, at + 5)
+        & fields::is_flag(bytes, at + 6)
+        & fields::is_code(bytes, at + 7, 4)
+        & fields::is_code(bytes, at + 8, 4)
+        & fields::is_code(bytes, at + 9, 8)
+}
+
+// Whether the flags, the mode and the fields of a block are such.
 fn is_block(bytes: &[u8], at: usize) -> bool
-    requires { ⌜ at + 35 ≤ length (now bytes) ⌝ }
+    requires { ⌜ at + 45 ≤ length (now bytes) ⌝ }
     ensures { λ r. ⌜ r ≡ isBlock (now (bytes .entry)) at ⌝ }
 {
     fields::is_flag(bytes, at + 4)
@@ -87,6 +126,7 @@ fn is_block(bytes: &[u8], at: usize) -> bool
         & fields::is_flag(bytes, at + 19)
         & fields::is_mode(bytes, at + 33)
         & fields::is_flag(bytes, at + 34)
+        & is_fields(bytes, at + 35)
 }
 
 // Whether what the board set up is four truth values.
@@ -104,10 +144,10 @@ fn is_board(bytes: &[u8]) -> bool
 pub fn is_state(bytes: &[u8]) -> bool
     ensures { λ r. ⌜ r ≡ isState (now (bytes .entry)) ⌝ }
 {
-    if bytes.len() != 80 {
+    if bytes.len() != 100 {
         return false;
     }
-    (fields::byte(bytes, 0) == 2)
+    (fields::byte(bytes, 0) == 3)
         & fields::is_flag(bytes, 5)
         & is_board(bytes)
         & is_block(bytes, FIRST_AT)
@@ -157,15 +197,41 @@ fn put_marks(bytes: &mut [u8], at: usize, c: Channel)
     fields::put(bytes, at + 2, fields::flag_byte(c.armed));
 }
 
+// The fields of CC for a transfer's sides put at an offset.
+fn put_sides(bytes: &mut [u8], at: usize, f: Fields)
+    requires { ⌜ at + 5 ≤ length (now bytes) ⌝ }
+    ensures { λ r. ⌜ now (bytes .exit) ≡ sets (now (bytes .entry)) at (sidesBytes f) ⌝ }
+{
+    fields::put(bytes, at, fields::flag_byte(f.destinationMoves));
+    fields::put(bytes, at + 1, fields::flag_byte(f.sourceMoves));
+    fields::put(bytes, at + 2, fields::flag_byte(f.translates));
+    fields::put(bytes, at + 3, f.synchronised);
+    fields::put(bytes, at + 4, fields::flag_byte(f.sourceIsGB));
+}
+
+// The chained bit and the fields for a transfer's ends put at an offset.
+fn put_ends(bytes: &mut [u8], at: usize, f: Fields)
+    requires { ⌜ at + 5 ≤ length (now bytes) ⌝ }
+    ensures { λ r. ⌜ now (bytes .exit) ≡ sets (now (bytes .entry)) at (endsBytes f) ⌝ }
+{
+    fields::put(bytes, at, fields::flag_byte(f.chained));
+    fields::put(bytes, at + 1, fields::flag_byte(f.singleTransfer));
+    fields::put(bytes, at + 2, f.externalEnd);
+    fields::put(bytes, at + 3, f.countEnd);
+    fields::put(bytes, at + 4, f.matchEnd);
+}
+
 // A channel's block put at an offset; its registers have the widths of their types.
 fn put_channel(bytes: &mut [u8], at: usize, c: Channel)
-    requires { ⌜ at + 35 ≤ length (now bytes) ⌝ }
+    requires { ⌜ at + 45 ≤ length (now bytes) ⌝ }
     ensures fits { λ r. ⌜ ChannelFits c ⌝ }
     ensures put { λ r. ⌜ now (bytes .exit) ≡ sets (now (bytes .entry)) at (channelBytes c) ⌝ }
 {
     put_pointers(bytes, at, c);
     put_numbers(bytes, at + 20, c);
     put_marks(bytes, at + 32, c);
+    put_sides(bytes, at + 35, c.fields);
+    put_ends(bytes, at + 40, c.fields);
 }
 
 // What the board set up put at its place.
@@ -185,7 +251,7 @@ pub(crate) fn put_state(bytes: &mut [u8], s: State)
     ensures put { λ r. ⌜ now (bytes .exit) ≡ sets (now (bytes .entry)) 0 (bytesOf s) ⌝ }
     ensures whole { λ r. ⌜ stateIn (bytesOf s) ≡ s ⌝ }
 {
-    fields::put(bytes, 0, 2);
+    fields::put(bytes, 0, 3);
     fields::put_long(bytes, 1, s.cp);
     fields::put(bytes, 5, fields::flag_byte(s.last));
     put_board(bytes, s.board);

@@ -74,9 +74,15 @@ add-flag c = search needs
 flag-requires : tie.Need-flag-requires
 flag-requires c κs = search needs
 
+add-fields-in : tie.Need-add-fields-in
+add-fields-in c = search needs
+
+fields-in-requires : tie.Need-fields-in-requires
+fields-in-requires c κs = search needs
+
 returns : tie.Need-returns
 unfolding channelIn
-returns c = rw (c .flag .ensures, c .before .mode .ensures, c .before .before .byte .ensures, c .before .before .before .word4 .ensures, c .before .before .before .before .word3 .ensures, c .before .before .before .before .before .word2 .ensures, c .before .before .before .before .before .before .word .ensures, c .before .before .before .before .before .before .before .long .ensures, c .before .before .before .before .before .before .before .before .pointer-in4 .ensures, c .before .before .before .before .before .before .before .before .before .pointer-in3 .ensures, c .before .before .before .before .before .before .before .before .before .before .pointer-in2 .ensures, c .before .before .before .before .before .before .before .before .before .before .before .pointer-in .ensures)
+returns c = rw (c .fields-in .ensures, c .before .flag .ensures, c .before .before .mode .ensures, c .before .before .before .byte .ensures, c .before .before .before .before .word4 .ensures, c .before .before .before .before .before .word3 .ensures, c .before .before .before .before .before .before .word2 .ensures, c .before .before .before .before .before .before .before .word .ensures, c .before .before .before .before .before .before .before .before .long .ensures, c .before .before .before .before .before .before .before .before .before .pointer-in4 .ensures, c .before .before .before .before .before .before .before .before .before .before .pointer-in3 .ensures, c .before .before .before .before .before .before .before .before .before .before .before .pointer-in2 .ensures, c .before .before .before .before .before .before .before .before .before .before .before .before .pointer-in .ensures)
 
 pub channel-in-spec : {M : Type 1} → statement M
 channel-in-spec =
@@ -105,4 +111,6 @@ channel-in-spec =
     mode-requires
     add-flag
     flag-requires
+    add-fields-in
+    fields-in-requires
     returns)

@@ -41,9 +41,15 @@ add-is-flag-5 c = search needs
 is-flag-requires-5 : tie.Need-is-flag-requires-5
 is-flag-requires-5 c κs = search needs
 
+add-is-fields : tie.Need-add-is-fields
+add-is-fields c = search needs
+
+is-fields-requires : tie.Need-is-fields-requires
+is-fields-requires c κs = search needs
+
 returns : tie.Need-returns
 unfolding isBlock
-returns c = simp (c .is-flag5 .ensures, c .before .is-mode .ensures, c .before .before .is-flag4 .ensures, c .before .before .before .is-flag3 .ensures, c .before .before .before .before .is-flag2 .ensures, c .before .before .before .before .before .is-flag .ensures)
+returns c = simp (c .is-fields .ensures, c .before .is-flag5 .ensures, c .before .before .is-mode .ensures, c .before .before .before .is-flag4 .ensures, c .before .before .before .before .is-flag3 .ensures, c .before .before .before .before .before .is-flag2 .ensures, c .before .before .before .before .before .before .is-flag .ensures)
 
 pub is-block-spec : {M : Type 1} → statement M
 is-block-spec =
@@ -61,4 +67,6 @@ is-block-spec =
     is-mode-requires
     add-is-flag-5
     is-flag-requires-5
+    add-is-fields
+    is-fields-requires
     returns)

@@ -3,8 +3,9 @@
 use borrow.Author.Needs.{needs}
 use mathlib.Core.Path.{_∙_}
 use native.Mathlib.Nat.{add-assoc}
-use Rattle.service.specs.Layout.{channelBytes}
-use Rattle.service.proofs.LengthLaws.{length-pointers, length-numbers}
+use native.Mathlib.Omega.{arith}
+use Rattle.service.specs.Layout.{fieldsBytes, channelBytes}
+use Rattle.service.proofs.LengthLaws.{length-pointers, length-numbers, length-marks, length-sides}
 use Rattle.service.proofs.SetsLaws.{sets-append}
 use Rattle.service.proofs.layout.put_channel.Statement.{statement}
 use Rattle.service.proofs.layout.put_channel.Tie as tie
@@ -24,15 +25,28 @@ add-put-marks c = search needs
 put-marks-requires : tie.Need-put-marks-requires
 put-marks-requires c κs = search needs
 
+add-put-sides : tie.Need-add-put-sides
+add-put-sides c = search needs
+
+put-sides-requires : tie.Need-put-sides-requires
+put-sides-requires c κs = search needs
+
+add-put-ends : tie.Need-add-put-ends
+add-put-ends c = search needs
+
+put-ends-requires : tie.Need-put-ends-requires
+put-ends-requires c κs = search needs
+
 same-length : tie.Need-same-length
 same-length c = search needs
 
 returns : tie.Need-returns
-unfolding channelBytes
-returns c = (
-  record { ga = search needs; gb = search needs; gc = search needs; tp = search needs; pp = search needs; bc = search needs; ix = search needs; cc = search needs; mc = search needs; psw = search needs },
-  c .before .before .put-marks .ensures ∙ rw (c .before .before .before .before .before .before .put-numbers .ensures, c .before .before .before .before .before .before .before .before .before .before .put-pointers .ensures) (simp (sets-append, length-pointers, length-numbers, add-assoc)),
-)
+unfolding channelBytes fieldsBytes
+returns c =
+    let g = c .before .before .before .before .before .before .before .before .before .before .before .before .before .before .before .before .before .before .before .before .before .good .1 .1 .0 in (
+      record { ga = omega (arith, g .1 .1 .0 .1 .1 .0); gb = omega (arith, g .1 .1 .1 .0 .1 .1 .0); gc = omega (arith, g .1 .1 .1 .1 .0 .1 .1 .0); tp = omega (arith, g .1 .1 .1 .1 .1 .0 .1 .1 .0); pp = omega (arith, g .1 .1 .1 .1 .1 .1 .0); bc = omega (arith, g .1 .1 .1 .1 .1 .1 .1 .0); ix = omega (arith, g .1 .1 .1 .1 .1 .1 .1 .1 .0); cc = omega (arith, g .1 .1 .1 .1 .1 .1 .1 .1 .1 .0); mc = omega (arith, g .1 .1 .1 .1 .1 .1 .1 .1 .1 .1 .0); psw = omega (arith, g .1 .1 .1 .1 .1 .1 .1 .1 .1 .1 .1 .0) },
+      c .before .before .put-ends .ensures ∙ rw (c .before .before .before .before .before .before .put-sides .ensures, c .before .before .before .before .before .before .before .before .before .before .put-marks .ensures, c .before .before .before .before .before .before .before .before .before .before .before .before .before .before .put-numbers .ensures, c .before .before .before .before .before .before .before .before .before .before .before .before .before .before .before .before .before .before .put-pointers .ensures) (simp (sets-append, length-pointers, length-numbers, length-marks, length-sides, add-assoc)),
+    )
 
 pub put-channel-spec : {M : Type 1} → statement M
 put-channel-spec =
@@ -43,5 +57,9 @@ put-channel-spec =
     put-numbers-requires
     add-put-marks
     put-marks-requires
+    add-put-sides
+    put-sides-requires
+    add-put-ends
+    put-ends-requires
     same-length
     returns)
