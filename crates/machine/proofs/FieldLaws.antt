@@ -1,13 +1,16 @@
--- The laws of the fields beside CC: they are those of CC exactly where the test says so, an instruction leaves them so, and a state agrees where its channels do.
+-- The laws of the fields beside CC: they are those of CC exactly where the test says so, a CC put together of them has them, an instruction leaves them so, and a state agrees where its channels do.
 -- Assumes nothing.
-use Prim.Native.Nat.{ℕ, _%_}
+use Prim.Native.Nat.{ℕ, _+_, _*_, _/_, _%_, _^_, _<_, _≤_}
 use borrow.Author.Tests.{eqb-true, eq-eqb}
 use lib.Dec.{eqb, ltb}
 use mathlib.Core.Bool.{Bool, true, false, not, _&&_}
 use mathlib.Core.Path.{_≡_, refl, sym, ap, _∙_}
+use native.Mathlib.Omega.{arith}
+use Rattle.words.proofs.BitLaws.{field-lt}
 use Rattle.words.proofs.ChoiceLaws.{apart, both-left, both-right}
+use Rattle.words.specs.Bits.{fieldOf, bitOf}
 use Rattle.words.specs.Choice.{pick}
-use Rattle.machine.specs.Cc.{split, sameFlag, sameFields}
+use Rattle.machine.specs.Cc.{split, bitWorth, joined, sameFlag, sameFields}
 use Rattle.machine.specs.Conditions.{FieldsDisagree}
 use Rattle.machine.specs.States.{boardWith, idleChannel, freshState, freshOf, blankState, channelOf, withChannel, withLast, fieldsAgree, agree}
 use Rattle.machine.specs.Updates.{fieldsRenewed}
@@ -57,19 +60,99 @@ Alike f g =
     × (f .countEnd ≡ g .countEnd))
     × (f .matchEnd ≡ g .matchEnd))
 
-joined : (f g : Fields) → Alike f g → f ≡ g
+alike : (f g : Fields) → Alike f g → f ≡ g
 unfolding made
-joined f g h = go
+alike f g h = go
   where
     go : made (f .destinationMoves) (f .sourceMoves) (f .translates) (f .synchronised) (f .sourceIsGB) (f .chained) (f .singleTransfer) (f .externalEnd) (f .countEnd) (f .matchEnd) ≡ made (g .destinationMoves) (g .sourceMoves) (g .translates) (g .synchronised) (g .sourceIsGB) (g .chained) (g .singleTransfer) (g .externalEnd) (g .countEnd) (g .matchEnd)
     go = rw (h .0 .0 .0 .0 .0 .0 .0 .0 .0, h .0 .0 .0 .0 .0 .0 .0 .0 .1, h .0 .0 .0 .0 .0 .0 .0 .1, h .0 .0 .0 .0 .0 .0 .1, h .0 .0 .0 .0 .0 .1, h .0 .0 .0 .0 .1, h .0 .0 .0 .1, h .0 .0 .1, h .0 .1, h .1)
 
 pub says-same : (f g : Fields) → Says (sameFields f g) (f ≡ g)
 unfolding sameFields
-says-same f g = record { holds = λ e. joined f g (each .holds e); fails = λ e h. each .fails e ((((((((((ap (λ (x : Fields). x .destinationMoves) h, ap (λ (x : Fields). x .sourceMoves) h), ap (λ (x : Fields). x .translates) h), ap (λ (x : Fields). x .synchronised) h), ap (λ (x : Fields). x .sourceIsGB) h), ap (λ (x : Fields). x .chained) h), ap (λ (x : Fields). x .singleTransfer) h), ap (λ (x : Fields). x .externalEnd) h), ap (λ (x : Fields). x .countEnd) h), ap (λ (x : Fields). x .matchEnd) h)) }
+says-same f g = record { holds = λ e. alike f g (each .holds e); fails = λ e h. each .fails e ((((((((((ap (λ (x : Fields). x .destinationMoves) h, ap (λ (x : Fields). x .sourceMoves) h), ap (λ (x : Fields). x .translates) h), ap (λ (x : Fields). x .synchronised) h), ap (λ (x : Fields). x .sourceIsGB) h), ap (λ (x : Fields). x .chained) h), ap (λ (x : Fields). x .singleTransfer) h), ap (λ (x : Fields). x .externalEnd) h), ap (λ (x : Fields). x .countEnd) h), ap (λ (x : Fields). x .matchEnd) h)) }
   where
     each : Says (sameFields f g) (Alike f g)
     each = says-and (says-and (says-and (says-and (says-and (says-and (says-and (says-and (says-and (says-flag (f .destinationMoves) (g .destinationMoves)) (says-flag (f .sourceMoves) (g .sourceMoves))) (says-flag (f .translates) (g .translates))) (says-eqb (f .synchronised) (g .synchronised))) (says-flag (f .sourceIsGB) (g .sourceIsGB))) (says-flag (f .chained) (g .chained))) (says-flag (f .singleTransfer) (g .singleTransfer))) (says-eqb (f .externalEnd) (g .externalEnd))) (says-eqb (f .countEnd) (g .countEnd))) (says-eqb (f .matchEnd) (g .matchEnd))
+
+-- ---- CC put together of its fields
+
+-- a flag as a number; what it adds is that number of its bit
+flagNumber : Bool → ℕ
+flagNumber on = pick on 1 0
+
+worth-times : (on : Bool) (worth : ℕ) → bitWorth on worth ≡ flagNumber on * worth
+unfolding bitWorth flagNumber
+worth-times true worth = omega arith
+worth-times false worth = omega arith
+
+flag-small : (on : Bool) → flagNumber on ≤ 1
+unfolding flagNumber
+flag-small true = omega arith
+flag-small false = omega arith
+
+flag-back : (x at : ℕ) (on : Bool) → x / 2 ^ at % 2 ≡ flagNumber on → bitOf x at ≡ on
+unfolding bitOf flagNumber
+flag-back x at true e = rw e
+flag-back x at false e = rw e
+
+-- fields that have their widths are those of the CC put together of them
+module _ (f : Fields) (syn : f .synchronised < 4) (tx : f .externalEnd < 4) (tbc : f .countEnd < 4) (tmc : f .matchEnd < 8) where
+  sum : joined f
+      ≡ flagNumber (f .destinationMoves) * 32768
+      + flagNumber (f .sourceMoves) * 16384
+      + flagNumber (f .translates) * 8192
+      + f .synchronised % 4 * 2048
+      + flagNumber (f .sourceIsGB) * 1024
+      + flagNumber (f .chained) * 256
+      + flagNumber (f .singleTransfer) * 128
+      + f .externalEnd % 4 * 32
+      + f .countEnd % 4 * 8
+      + f .matchEnd % 8
+  unfolding joined
+  sum = rw (worth-times (f .destinationMoves) 32768, worth-times (f .sourceMoves) 16384, worth-times (f .translates) 8192, worth-times (f .sourceIsGB) 1024, worth-times (f .chained) 256, worth-times (f .singleTransfer) 128)
+
+  split-of-joined : split (joined f) ≡ f
+  unfolding split fieldOf
+  split-of-joined =
+      let a = flag-small (f .destinationMoves) in
+      let b = flag-small (f .sourceMoves) in
+      let c = flag-small (f .translates) in
+      let d = flag-small (f .sourceIsGB) in
+      let g = flag-small (f .chained) in
+      let h = flag-small (f .singleTransfer) in
+      alike (split (joined f)) f (
+        (
+          (
+            (
+              (
+                (
+                  (
+                    (
+                      (
+                        flag-back (joined f) 15 (f .destinationMoves) (omega (arith, sum)),
+                        flag-back (joined f) 14 (f .sourceMoves) (omega (arith, sum)),
+                      ),
+                      flag-back (joined f) 13 (f .translates) (omega (arith, sum)),
+                    ),
+                    omega (arith, sum),
+                  ),
+                  flag-back (joined f) 10 (f .sourceIsGB) (omega (arith, sum)),
+                ),
+                flag-back (joined f) 8 (f .chained) (omega (arith, sum)),
+              ),
+              flag-back (joined f) 7 (f .singleTransfer) (omega (arith, sum)),
+            ),
+            omega (arith, sum),
+          ),
+          omega (arith, sum),
+        ),
+        omega (arith, sum),
+      )
+
+-- so a CC put together of the fields of one has the same fields
+pub split-joined : (w : ℕ) → split (joined (split w)) ≡ split w
+unfolding split
+split-joined w = split-of-joined (split w) (field-lt w 11 2) (field-lt w 5 2) (field-lt w 3 2) (field-lt w 0 3)
 
 -- ---- a channel whose fields are those of CC
 

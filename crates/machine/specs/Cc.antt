@@ -1,6 +1,6 @@
 -- CC (§2.4) and its fields, which a channel keeps beside it: 15 destination moves on, 14 source moves on, 13 translate, 12-11 SYN, 10 source is GB, 8 chained, 7 TS, 6-5 TX, 4-3 TBC, 2-0 TMC.
 use mathlib.Core.Bool.{Bool, not, _&&_}
-use Prim.Native.Nat.{ℕ}
+use Prim.Native.Nat.{ℕ, _+_, _*_, _%_}
 use lib.Dec.{eqb}
 use Rattle.words.specs.Bits.{fieldOf, bitOf}
 use Rattle.words.specs.Choice.{pick}
@@ -21,6 +21,24 @@ split cc =
       countEnd = fieldOf cc 3 2;
       matchEnd = fieldOf cc 0 3;
     }
+
+-- what a flag adds to a CC: its bit where it is set
+unfoldable pub bitWorth : Bool → ℕ → ℕ
+bitWorth on worth = pick on worth 0
+
+-- the CC that has the fields, each at its place and reduced to its width, with bit 9 at 0
+unfoldable pub joined : Fields → ℕ
+joined f =
+    bitWorth (f .destinationMoves) 32768
+    + bitWorth (f .sourceMoves) 16384
+    + bitWorth (f .translates) 8192
+    + f .synchronised % 4 * 2048
+    + bitWorth (f .sourceIsGB) 1024
+    + bitWorth (f .chained) 256
+    + bitWorth (f .singleTransfer) 128
+    + f .externalEnd % 4 * 32
+    + f .countEnd % 4 * 8
+    + f .matchEnd % 8
 
 -- two flags are the same
 unfoldable pub sameFlag : Bool → Bool → Bool

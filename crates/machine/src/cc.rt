@@ -1,8 +1,9 @@
-// CC taken apart into its fields, and whether two sets of fields are the same.
+// CC taken apart into its fields and put together of them, and whether two sets of fields are the same.
 use crate::Fields;
 ghost use mathlib.Core.Path.{_≡_};
+ghost use Prim.Native.Nat.{_≤_};
 ghost use Rattle.machine.specs.Cc as Cc;
-ghost use Rattle.machine.specs.Cc.{sameFlag, sameFields};
+ghost use Rattle.machine.specs.Cc.{bitWorth, sameFlag, sameFields};
 
 // The fields of a CC.
 pub fn split(cc: u16) -> Fields
@@ -21,6 +22,30 @@ pub fn split(cc: u16) -> Fields
         countEnd: words::field(w, 3, 2) as u8,
         matchEnd: words::field(w, 0, 3) as u8,
     }
+}
+
+// What a flag adds to a CC, at most its bit.
+fn bit_worth(on: bool, worth: u16) -> u16
+    ensures is { λ r. ⌜ r ≡ bitWorth on worth ⌝ }
+    ensures most { λ r. ⌜ r ≤ worth ⌝ }
+{
+    if on { worth } else { 0 }
+}
+
+// The CC that has the fields, with bit 9 at 0.
+pub fn joined(f: Fields) -> u16
+    ensures { λ r. ⌜ r ≡ Cc.joined f ⌝ }
+{
+    bit_worth(f.destinationMoves, 32768)
+        + bit_worth(f.sourceMoves, 16384)
+        + bit_worth(f.translates, 8192)
+        + (f.synchronised % 4) as u16 * 2048
+        + bit_worth(f.sourceIsGB, 1024)
+        + bit_worth(f.chained, 256)
+        + bit_worth(f.singleTransfer, 128)
+        + (f.externalEnd % 4) as u16 * 32
+        + (f.countEnd % 4) as u16 * 8
+        + (f.matchEnd % 8) as u16
 }
 
 // Whether two flags are the same.
