@@ -94,6 +94,10 @@ abbrev pub 'ix : ℕ
 abbrev pub 'cc : ℕ
 'cc = 0x16363
 
+-- `fields`
+abbrev pub 'fields : ℕ
+'fields = 0x16669656c6473
+
 -- `mc`
 abbrev pub 'mc : ℕ
 'mc = 0x16d63

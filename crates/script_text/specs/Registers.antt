@@ -10,14 +10,15 @@ use Rattle.machine.specs.declared.Mode.the-variants.{Idle, Running, Suspended}
 use Rattle.machine.specs.declared.Board.{Board}
 use Rattle.machine.specs.declared.Channel.{Channel}
 use Rattle.machine.specs.declared.State.{State}
+use Rattle.machine.specs.Cc.{split}
 use Rattle.machine.specs.States.{boardWith, channelOf, withChannel, isSecond}
-use Rattle.script_text.specs.Names.{'ga, 'gb, 'gc, 'tp, 'pp, 'bc, 'ix, 'cc, 'mc, 'psw, 'ga-t, 'gb-t, 'gc-t, 'tp-t, 'arm, 'mode, 'cp, 'last, 'up, 'sysbus, 'soc, 'grant}
+use Rattle.script_text.specs.Names.{'ga, 'gb, 'gc, 'tp, 'pp, 'bc, 'ix, 'cc, 'fields, 'mc, 'psw, 'ga-t, 'gb-t, 'gc-t, 'tp-t, 'arm, 'mode, 'cp, 'last, 'up, 'sysbus, 'soc, 'grant}
 
 -- how many values fit a channel's register: 8 digits, 4, 2, a tag or mark, a mode; 0 where there is no such register
 unfoldable pub valuesOf : ℕ → ℕ
 valuesOf r =
     pick (eqb r 'ga || eqb r 'gb || eqb r 'gc || eqb r 'tp || eqb r 'pp) 4294967296
-    (pick (eqb r 'bc || eqb r 'ix || eqb r 'cc || eqb r 'mc) 65536
+    (pick (eqb r 'bc || eqb r 'ix || eqb r 'cc || eqb r 'fields || eqb r 'mc) 65536
     (pick (eqb r 'psw) 256
     (pick (eqb r 'ga-t || eqb r 'gb-t || eqb r 'gc-t || eqb r 'tp-t || eqb r 'arm) 2 (pick (eqb r 'mode) 3 0))))
 
@@ -42,7 +43,7 @@ modeNumbered v = pick (eqb v 0) Idle (pick (eqb v 1) Running Suspended)
 unfoldable pub pointerSet : Bool → Bool → Pointer → ℕ → Pointer
 pointerSet address tag p v = pointer (pick address v (p .address)) (pick tag (eqb v 1) (p .tag))
 
--- a channel with a register set as it stands
+-- a channel with a register set as it stands: CC without its fields, and these, as those of a CC value, without CC
 unfoldable pub withRaw : Channel → ℕ → ℕ → Channel
 withRaw c r v =
     record {
@@ -58,6 +59,7 @@ withRaw c r v =
       psw = pick (eqb r 'psw) (v % 256) (c .psw);
       mode = pick (eqb r 'mode) (modeNumbered v) (c .mode);
       armed = pick (eqb r 'arm) (eqb v 1) (c .armed);
+      fields = pick (eqb r 'fields) (split (v % 65536)) (c .fields);
     }
 
 -- what the board set up, with one of its marks set

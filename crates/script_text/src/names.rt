@@ -39,6 +39,8 @@ pub const IX: u64 = 0x1_6978;
 
 pub const CC: u64 = 0x1_6363;
 
+pub const FIELDS: u64 = 0x1_6669_656c_6473;
+
 pub const MC: u64 = 0x1_6d63;
 
 pub const PSW: u64 = 0x170_7377;

@@ -24,6 +24,7 @@ fn values(register: u64) -> u64
         names::BC => 65536,
         names::IX => 65536,
         names::CC => 65536,
+        names::FIELDS => 65536,
         names::MC => 65536,
         names::PSW => 256,
         names::GA_TAG => 2,
@@ -88,6 +89,7 @@ fn with_mode(c: Channel, value: u32) -> Channel
     let gb = c.gb;
     let gc = c.gc;
     let tp = c.tp;
+    let fields = c.fields;
     let mode = mode_of(value);
     Channel {
         ga,
@@ -102,6 +104,7 @@ fn with_mode(c: Channel, value: u32) -> Channel
         psw: c.psw,
         mode,
         armed: c.armed,
+        fields,
     }
 }
 
@@ -125,7 +128,7 @@ fn with_tag(p: Pointer, tag: bool) -> Pointer
     }
 }
 
-// A channel with a register set as it stands.
+// A channel with a register set as it stands, CC without its fields and these without CC.
 fn with_raw(c: Channel, register: u64, value: u32) -> Channel
     ensures { λ r. ⌜ r ≡ withRaw c register value ⌝ }
 {
@@ -145,6 +148,7 @@ fn with_raw(c: Channel, register: u64, value: u32) -> Channel
         names::BC => next.bc = w,
         names::IX => next.ix = w,
         names::CC => next.cc = w,
+        names::FIELDS => next.fields = machine::cc::split(w),
         names::MC => next.mc = w,
         names::PSW => next.psw = (value % 256) as u8,
         names::GA_TAG => next.ga = with_tag(ga, on),

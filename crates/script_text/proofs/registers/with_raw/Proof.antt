@@ -21,6 +21,9 @@ with-address-requires-3 c κs = search needs
 with-address-requires-4 : tie.Need-with-address-requires-4
 with-address-requires-4 c κs = search needs
 
+split-requires : tie.Need-split-requires
+split-requires c κs = search needs
+
 cast-next : tie.Need-cast-next
 cast-next c = search needs
 
@@ -41,7 +44,7 @@ with-mode-requires c κs = search needs
 
 returns : tie.Need-returns
 unfolding withRaw pointerSet
-returns c = simp (c .with-mode .ensures, c .before .match .keys16)
+returns c = simp (c .with-mode .ensures, c .before .match .keys17)
 
 returns-2 : tie.Need-returns-2
 unfolding withRaw pointerSet
@@ -77,7 +80,7 @@ returns-9 c = simp (c .match .keys8)
 
 returns-10 : tie.Need-returns-10
 unfolding withRaw pointerSet
-returns-10 c = simp (c .match .keys9)
+returns-10 c = simp (c .split .ensures, c .before .match .keys9)
 
 returns-11 : tie.Need-returns-11
 unfolding withRaw pointerSet
@@ -85,27 +88,31 @@ returns-11 c = simp (c .match .keys10)
 
 returns-12 : tie.Need-returns-12
 unfolding withRaw pointerSet
-returns-12 c = simp (c .with-tag .ensures, c .before .match .keys11)
+returns-12 c = simp (c .match .keys11)
 
 returns-13 : tie.Need-returns-13
 unfolding withRaw pointerSet
-returns-13 c = simp (c .with-tag2 .ensures, c .before .match .keys12)
+returns-13 c = simp (c .with-tag .ensures, c .before .match .keys12)
 
 returns-14 : tie.Need-returns-14
 unfolding withRaw pointerSet
-returns-14 c = simp (c .with-tag3 .ensures, c .before .match .keys13)
+returns-14 c = simp (c .with-tag2 .ensures, c .before .match .keys13)
 
 returns-15 : tie.Need-returns-15
 unfolding withRaw pointerSet
-returns-15 c = simp (c .with-tag4 .ensures, c .before .match .keys14)
+returns-15 c = simp (c .with-tag3 .ensures, c .before .match .keys14)
 
 returns-16 : tie.Need-returns-16
 unfolding withRaw pointerSet
-returns-16 c = simp (c .match .keys15)
+returns-16 c = simp (c .with-tag4 .ensures, c .before .match .keys15)
 
 returns-17 : tie.Need-returns-17
 unfolding withRaw pointerSet
-returns-17 c = simp (ne-eqb _ _ (c .match .rest .1), ne-eqb _ _ (c .match .rest .0 .1), ne-eqb _ _ (c .match .rest .0 .0 .1), ne-eqb _ _ (c .match .rest .0 .0 .0 .1), ne-eqb _ _ (c .match .rest .0 .0 .0 .0 .1), ne-eqb _ _ (c .match .rest .0 .0 .0 .0 .0 .1), ne-eqb _ _ (c .match .rest .0 .0 .0 .0 .0 .0 .1), ne-eqb _ _ (c .match .rest .0 .0 .0 .0 .0 .0 .0 .1), ne-eqb _ _ (c .match .rest .0 .0 .0 .0 .0 .0 .0 .0 .1), ne-eqb _ _ (c .match .rest .0 .0 .0 .0 .0 .0 .0 .0 .0 .1), ne-eqb _ _ (c .match .rest .0 .0 .0 .0 .0 .0 .0 .0 .0 .0 .1), ne-eqb _ _ (c .match .rest .0 .0 .0 .0 .0 .0 .0 .0 .0 .0 .0 .1), ne-eqb _ _ (c .match .rest .0 .0 .0 .0 .0 .0 .0 .0 .0 .0 .0 .0 .1), ne-eqb _ _ (c .match .rest .0 .0 .0 .0 .0 .0 .0 .0 .0 .0 .0 .0 .0 .1), ne-eqb _ _ (c .match .rest .0 .0 .0 .0 .0 .0 .0 .0 .0 .0 .0 .0 .0 .0 .1), ne-eqb _ _ (c .match .rest .0 .0 .0 .0 .0 .0 .0 .0 .0 .0 .0 .0 .0 .0 .0 .1))
+returns-17 c = simp (c .match .keys16)
+
+returns-18 : tie.Need-returns-18
+unfolding withRaw pointerSet
+returns-18 c = simp (ne-eqb _ _ (c .match .rest .1), ne-eqb _ _ (c .match .rest .0 .1), ne-eqb _ _ (c .match .rest .0 .0 .1), ne-eqb _ _ (c .match .rest .0 .0 .0 .1), ne-eqb _ _ (c .match .rest .0 .0 .0 .0 .1), ne-eqb _ _ (c .match .rest .0 .0 .0 .0 .0 .1), ne-eqb _ _ (c .match .rest .0 .0 .0 .0 .0 .0 .1), ne-eqb _ _ (c .match .rest .0 .0 .0 .0 .0 .0 .0 .1), ne-eqb _ _ (c .match .rest .0 .0 .0 .0 .0 .0 .0 .0 .1), ne-eqb _ _ (c .match .rest .0 .0 .0 .0 .0 .0 .0 .0 .0 .1), ne-eqb _ _ (c .match .rest .0 .0 .0 .0 .0 .0 .0 .0 .0 .0 .1), ne-eqb _ _ (c .match .rest .0 .0 .0 .0 .0 .0 .0 .0 .0 .0 .0 .1), ne-eqb _ _ (c .match .rest .0 .0 .0 .0 .0 .0 .0 .0 .0 .0 .0 .0 .1), ne-eqb _ _ (c .match .rest .0 .0 .0 .0 .0 .0 .0 .0 .0 .0 .0 .0 .0 .1), ne-eqb _ _ (c .match .rest .0 .0 .0 .0 .0 .0 .0 .0 .0 .0 .0 .0 .0 .0 .1), ne-eqb _ _ (c .match .rest .0 .0 .0 .0 .0 .0 .0 .0 .0 .0 .0 .0 .0 .0 .0 .1), ne-eqb _ _ (c .match .rest .0 .0 .0 .0 .0 .0 .0 .0 .0 .0 .0 .0 .0 .0 .0 .0 .1))
 
 pub with-raw-spec : {M : Type 1} → statement M
 with-raw-spec =
@@ -116,6 +123,7 @@ with-raw-spec =
     with-address-requires-2
     with-address-requires-3
     with-address-requires-4
+    split-requires
     cast-next
     with-tag-requires
     with-tag-requires-2
@@ -138,4 +146,5 @@ with-raw-spec =
     returns-14
     returns-15
     returns-16
-    returns-17)
+    returns-17
+    returns-18)
