@@ -14,6 +14,7 @@ use Rattle.machine.specs.declared.Mode.{Mode}
 use Rattle.machine.specs.declared.Board.{Board}
 use Rattle.machine.specs.declared.Channel.{Channel}
 use Rattle.machine.specs.declared.State.{State}
+use Rattle.machine.specs.Cc.{joined}
 use Rattle.machine.specs.States.{channelNumber}
 use Rattle.step.specs.declared.Kind.{Kind}
 use Rattle.notation.specs.Characters.{ascii}
@@ -64,14 +65,15 @@ pointers-short ga gb gc tp =
     (both (pointerText (ascii " gb ") gb) _ 14 28 (pointer-short (ascii " gb ") gb)
     (both (pointerText (ascii " gc ") gc) _ 14 14 (pointer-short (ascii " gc ") gc) (pointer-short (ascii " tp ") tp)))
 
-numbers-short : (pp bc ix cc mc psw : ℕ) → length (numbersText pp bc ix cc mc psw) ≤ 51
+numbers-short : (pp bc ix cc fields mc psw : ℕ) → length (numbersText pp bc ix cc fields mc psw) ≤ 63
 unfolding numbersText
-numbers-short pp bc ix control mc psw =
-    both (registerText (ascii " pp ") pp 8) _ 12 39 (register-short (ascii " pp ") pp 8)
-    (both (registerText (ascii " bc ") bc 4) _ 8 31 (register-short (ascii " bc ") bc 4)
-    (both (registerText (ascii " ix ") ix 4) _ 8 23 (register-short (ascii " ix ") ix 4)
-    (both (registerText (ascii " cc ") control 4) _ 8 15 (register-short (ascii " cc ") control 4)
-    (both (registerText (ascii " mc ") mc 4) _ 8 7 (register-short (ascii " mc ") mc 4) (register-short (ascii " psw ") psw 2)))))
+numbers-short pp bc ix control fields mc psw =
+    both (registerText (ascii " pp ") pp 8) _ 12 51 (register-short (ascii " pp ") pp 8)
+    (both (registerText (ascii " bc ") bc 4) _ 8 43 (register-short (ascii " bc ") bc 4)
+    (both (registerText (ascii " ix ") ix 4) _ 8 35 (register-short (ascii " ix ") ix 4)
+    (both (registerText (ascii " cc ") control 4) _ 8 27 (register-short (ascii " cc ") control 4)
+    (both (registerText (ascii " fields ") fields 4) _ 12 15 (register-short (ascii " fields ") fields 4)
+    (both (registerText (ascii " mc ") mc 4) _ 8 7 (register-short (ascii " mc ") mc 4) (register-short (ascii " psw ") psw 2))))))
 
 marks-short : (mode : Mode) (armed : Bool) → length (marksText mode armed) ≤ 14
 unfolding marksText
@@ -79,12 +81,12 @@ marks-short mode armed =
     both (registerText (ascii " mode ") (numberOfMode mode) 1) _ 7 7 (register-short (ascii " mode ") (numberOfMode mode) 1)
     (both (registerText (ascii " arm ") (markNumber armed) 1) feed 6 1 (register-short (ascii " arm ") (markNumber armed) 1) (omega arith))
 
-channel-short : (name : List ℕ) (c : Channel) → length (channelLine name c) ≤ length name + 121
+channel-short : (name : List ℕ) (c : Channel) → length (channelLine name c) ≤ length name + 133
 unfolding channelLine
 channel-short name c =
-    both name _ (length name) 121 (omega arith)
-    (both (pointersText (c .ga) (c .gb) (c .gc) (c .tp)) _ 56 65 (pointers-short (c .ga) (c .gb) (c .gc) (c .tp))
-    (both (numbersText (c .pp) (c .bc) (c .ix) (c .cc) (c .mc) (c .psw)) _ 51 14 (numbers-short (c .pp) (c .bc) (c .ix) (c .cc) (c .mc) (c .psw)) (marks-short (c .mode) (c .armed))))
+    both name _ (length name) 133 (omega arith)
+    (both (pointersText (c .ga) (c .gb) (c .gc) (c .tp)) _ 56 77 (pointers-short (c .ga) (c .gb) (c .gc) (c .tp))
+    (both (numbersText (c .pp) (c .bc) (c .ix) (c .cc) (joined (c .fields)) (c .mc) (c .psw)) _ 63 14 (numbers-short (c .pp) (c .bc) (c .ix) (c .cc) (joined (c .fields)) (c .mc) (c .psw)) (marks-short (c .mode) (c .armed))))
 
 buffer-short : (name buffer : List ℕ) → length (bufferText name buffer) ≤ length name + 17
 unfolding bufferText
@@ -109,11 +111,11 @@ shared-short cp last board sys io =
     (both (bufferText (ascii " sys ") sys) _ 22 22 (buffer-short (ascii " sys ") sys)
     (both (bufferText (ascii " io ") io) feed 21 1 (buffer-short (ascii " io ") io) (omega arith)))))
 
-pub dump-short : (s : State) (m : Buffers) → length (dumpText s m) ≤ 340
+pub dump-short : (s : State) (m : Buffers) → length (dumpText s m) ≤ 364
 unfolding dumpText
 dump-short s m =
-    both (channelLine (ascii "ch 1") (s .first)) _ 125 215 (channel-short (ascii "ch 1") (s .first))
-    (both (channelLine (ascii "ch 2") (s .second)) _ 125 90 (channel-short (ascii "ch 2") (s .second)) (shared-short (s .cp) (s .last) (s .board) (m .sys) (m .io)))
+    both (channelLine (ascii "ch 1") (s .first)) _ 137 227 (channel-short (ascii "ch 1") (s .first))
+    (both (channelLine (ascii "ch 2") (s .second)) _ 137 90 (channel-short (ascii "ch 2") (s .second)) (shared-short (s .cp) (s .last) (s .board) (m .sys) (m .io)))
 
 byte-short : (buffer : List ℕ) (at : ℕ) → length (byteText buffer at) ≤ 3
 unfolding byteText

@@ -12,6 +12,7 @@ use Rattle.machine.specs.declared.Mode.the-variants.{Idle, Running, Suspended}
 use Rattle.machine.specs.declared.Board.{Board}
 use Rattle.machine.specs.declared.Channel.{Channel}
 use Rattle.machine.specs.declared.State.{State}
+use Rattle.machine.specs.Cc.{joined}
 use Rattle.machine.specs.States.{channelNumber}
 use Rattle.step.specs.declared.Kind.{Kind}
 use Rattle.notation.specs.Characters.{ascii}
@@ -58,13 +59,14 @@ pointersText ga gb gc tp =
     pointerText (ascii " ga ") ga
     ++ (pointerText (ascii " gb ") gb ++ (pointerText (ascii " gc ") gc ++ pointerText (ascii " tp ") tp))
 
--- the numbers of a channel
-unfoldable pub numbersText : ℕ → ℕ → ℕ → ℕ → ℕ → ℕ → List ℕ
-numbersText pp bc ix cc mc psw =
+-- the numbers of a channel; the fields of CC are shown as the CC that has them
+unfoldable pub numbersText : ℕ → ℕ → ℕ → ℕ → ℕ → ℕ → ℕ → List ℕ
+numbersText pp bc ix cc fields mc psw =
     registerText (ascii " pp ") pp 8
     ++ (registerText (ascii " bc ") bc 4
     ++ (registerText (ascii " ix ") ix 4
-    ++ (registerText (ascii " cc ") cc 4 ++ (registerText (ascii " mc ") mc 4 ++ registerText (ascii " psw ") psw 2))))
+    ++ (registerText (ascii " cc ") cc 4
+    ++ (registerText (ascii " fields ") fields 4 ++ (registerText (ascii " mc ") mc 4 ++ registerText (ascii " psw ") psw 2)))))
 
 -- 0 for idle, 1 for running, 2 for suspended
 unfoldable pub numberOfMode : Mode → ℕ
@@ -82,7 +84,7 @@ unfoldable pub channelLine : List ℕ → Channel → List ℕ
 channelLine name c =
     name
     ++ (pointersText (c .ga) (c .gb) (c .gc) (c .tp)
-    ++ (numbersText (c .pp) (c .bc) (c .ix) (c .cc) (c .mc) (c .psw) ++ marksText (c .mode) (c .armed)))
+    ++ (numbersText (c .pp) (c .bc) (c .ix) (c .cc) (joined (c .fields)) (c .mc) (c .psw) ++ marksText (c .mode) (c .armed)))
 
 -- a buffer behind its name: its length, and the digest of its bytes
 unfoldable pub bufferText : List ℕ → List ℕ → List ℕ

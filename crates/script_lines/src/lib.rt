@@ -79,15 +79,26 @@ fn pointers(out: &mut [u8], at: usize, ga: Pointer, gb: Pointer, gc: Pointer, tp
 }
 
 // The numbers of a channel.
-fn numbers(out: &mut [u8], at: usize, pp: u32, bc: u16, ix: u16, cc: u16, mc: u16, psw: u8) -> usize
-    ensures { λ r. ⌜ Behind (page (now (out .entry)) at) (page (now (out .exit)) r) (numbersText pp bc ix cc mc psw) ⌝ }
+fn numbers(
+    out: &mut [u8],
+    at: usize,
+    pp: u32,
+    bc: u16,
+    ix: u16,
+    cc: u16,
+    fields: u16,
+    mc: u16,
+    psw: u8,
+) -> usize
+    ensures { λ r. ⌜ Behind (page (now (out .entry)) at) (page (now (out .exit)) r) (numbersText pp bc ix cc fields mc psw) ⌝ }
 {
     let a = register(out, at, b" pp ", pp as u64, 8);
     let b = register(out, a, b" bc ", bc as u64, 4);
     let c = register(out, b, b" ix ", ix as u64, 4);
     let d = register(out, c, b" cc ", cc as u64, 4);
-    let e = register(out, d, b" mc ", mc as u64, 4);
-    register(out, e, b" psw ", psw as u64, 2)
+    let e = register(out, d, b" fields ", fields as u64, 4);
+    let f = register(out, e, b" mc ", mc as u64, 4);
+    register(out, f, b" psw ", psw as u64, 2)
 }
 
 // 0 for idle, 1 for running, 2 for suspended.
@@ -121,7 +132,8 @@ fn channel_line(out: &mut [u8], at: usize, name: &[u8], c: Channel) -> usize
     let mode = c.mode;
     let named = page::append(out, at, name);
     let pointed = pointers(out, named, ga, gb, gc, tp);
-    let numbered = numbers(out, pointed, c.pp, c.bc, c.ix, c.cc, c.mc, c.psw);
+    let fields = machine::cc::joined(c.fields);
+    let numbered = numbers(out, pointed, c.pp, c.bc, c.ix, c.cc, fields, c.mc, c.psw);
     marks(out, numbered, mode, c.armed)
 }
 

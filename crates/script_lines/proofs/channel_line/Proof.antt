@@ -12,6 +12,9 @@ append-requires c κs = search needs
 pointers-requires : tie.Need-pointers-requires
 pointers-requires c κs = search needs
 
+joined-requires : tie.Need-joined-requires
+joined-requires c κs = search needs
+
 numbers-requires : tie.Need-numbers-requires
 numbers-requires c κs = search needs
 
@@ -24,11 +27,11 @@ same-length c = search needs
 returns : tie.Need-returns
 unfolding channelLine
 returns c =
-    let t1 = c .before .before .before .before .before .before .before .before .before .before .before .before .before .before .append .ensures in
-    let t2 = c .before .before .before .before .before .before .before .before .before .before .pointers .ensures in
+    let t1 = c .before .before .before .before .before .before .before .before .before .before .before .before .before .before .before .append .ensures in
+    let t2 = c .before .before .before .before .before .before .before .before .before .before .before .pointers .ensures in
     let t3 = c .before .before .before .before .before .before .numbers .ensures in
     let t4 = c .before .before .marks .ensures in
-    then t1 (then t2 (then t3 t4))
+    rw (← (c .before .before .before .before .before .before .before .before .joined .ensures)) (then t1 (then t2 (then t3 t4)))
 
 pub channel-line-spec : {M : Type 1} → statement M
 channel-line-spec =
@@ -36,6 +39,7 @@ channel-line-spec =
     (tie.spec
     append-requires
     pointers-requires
+    joined-requires
     numbers-requires
     marks-requires
     same-length
