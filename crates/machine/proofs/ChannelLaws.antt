@@ -11,7 +11,7 @@ use Rattle.words.specs.Choice.{pick}
 use Rattle.machine.specs.Outcomes.{first}
 use Rattle.machine.specs.States.{idleChannel, freshState, freshOf, channelOf, withChannel, withLast, soundChannel, sound, isSecond, channelNumber}
 use Rattle.machine.specs.Updates.{withControl}
-use Rattle.machine.specs.declared.Answer.{Answer}
+use Rattle.machine.specs.declared.Made.{Made}
 use Rattle.machine.specs.declared.Channel.{Channel}
 use Rattle.machine.specs.declared.Mode.{Mode}
 use Rattle.machine.specs.declared.State.{State}
@@ -99,7 +99,7 @@ pub fresh-sound : (cp : ℕ) → sound ((freshOf cp) .state) ≡ true
 unfolding freshOf freshState idleChannel sound soundChannel
 fresh-sound cp = go (ltb cp 1048576) refl
   where
-    go : (b : Bool) → ltb cp 1048576 ≡ b → sound ((pick {A = Answer} b (record { number = 0; state = freshState cp }) (record { number = 10; state = freshState 0 })) .state) ≡ true
+    go : (b : Bool) → ltb cp 1048576 ≡ b → sound ((pick {A = Made} b (record { number = 0; state = freshState cp }) (record { number = 10; state = freshState 0 })) .state) ≡ true
     go true e = e
     go false e = refl
 
@@ -108,7 +108,7 @@ pub fresh-powered : (cp : ℕ) → (freshOf cp) .state .board .powered ≡ true
 unfolding freshOf freshState
 fresh-powered cp = go (ltb cp 1048576)
   where
-    go : (b : Bool) → (pick {A = Answer} b (record { number = 0; state = freshState cp }) (record { number = 10; state = freshState 0 })) .state .board .powered ≡ true
+    go : (b : Bool) → (pick {A = Made} b (record { number = 0; state = freshState cp }) (record { number = 10; state = freshState 0 })) .state .board .powered ≡ true
     go true = refl
     go false = refl
 

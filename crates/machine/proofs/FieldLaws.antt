@@ -14,7 +14,7 @@ use Rattle.machine.specs.Cc.{split, bitWorth, joined, sameFlag, sameFiel
 use Rattle.machine.specs.Conditions.{FieldsDisagree}
 use Rattle.machine.specs.States.{boardWith, idleChannel, freshState, freshOf, blankState, channelOf, withChannel, withLast, fieldsAgree, agree}
 use Rattle.machine.specs.Updates.{fieldsRenewed}
-use Rattle.machine.specs.declared.Answer.{Answer}
+use Rattle.machine.specs.declared.Made.{Made}
 use Rattle.machine.specs.declared.Board.{Board}
 use Rattle.machine.specs.declared.Channel.{Channel}
 use Rattle.machine.specs.declared.Fields.{Fields}
@@ -228,6 +228,6 @@ pub fresh-agree : (cp : ℕ) → agree ((freshOf cp) .state) ≡ true
 unfolding freshOf freshState
 fresh-agree cp = go (ltb cp 1048576)
   where
-    go : (b : Bool) → agree ((pick {A = Answer} b (record { number = 0; state = freshState cp }) (record { number = 10; state = freshState 0 })) .state) ≡ true
+    go : (b : Bool) → agree ((pick {A = Made} b (record { number = 0; state = freshState cp }) (record { number = 10; state = freshState 0 })) .state) ≡ true
     go true = blank-agree cp (boardWith true false false false)
     go false = blank-agree 0 (boardWith true false false false)

@@ -3,11 +3,14 @@
 use Prim.Native.Nat.{ℕ, zero, suc}
 use borrow.Author.Tests.{eq-eqb, ne-eqb}
 use lib.Dec.{eqb, eqb·suc-zero}
+use lib.ListN.{length}
 use mathlib.Core.Bool.{Bool, true, false}
+use mathlib.Core.List.{List}
 use mathlib.Core.Path.{_≡_, refl}
 use Rattle.memory.specs.Buffers.{Buffers}
+use Rattle.memory.specs.Places.{Place}
 use Rattle.words.specs.Choice.{pick}
-use Rattle.machine.specs.Outcomes.{outcome, unless, first, settled}
+use Rattle.machine.specs.Outcomes.{outcome, unless, first, settled, counted}
 use Rattle.machine.specs.declared.State.{State}
 
 -- a refused call is the given state and memories
@@ -25,6 +28,15 @@ pub settled-number : (number : ℕ) (s : State) (m : Buffers) (s′ : State) (m�
 unfolding settled
 settled-number zero s m s′ m′ = refl
 settled-number (suc n) s m s′ m′ = rw (eqb·suc-zero n)
+
+-- a refused call counts nothing, a done one its list
+pub refused-counts : (number : ℕ) (ps : List Place) → (number ≡ 0 → ⊥) → counted number ps ≡ 0
+unfolding counted
+refused-counts number ps ne = rw (ne-eqb number 0 ne)
+
+pub done-counts : (number : ℕ) (ps : List Place) → number ≡ 0 → counted number ps ≡ length ps
+unfolding counted
+done-counts number ps e = rw (eq-eqb number 0 e)
 
 -- where the first is none, the second decides; where it is one, it does
 pub first-none : (a b : ℕ) → a ≡ 0 → first a b ≡ b

@@ -1,9 +1,12 @@
 -- What a call leaves (§3.3), and its refusals in their order (§3.2).
 use mathlib.Core.Bool.{Bool}
+use mathlib.Core.List.{List}
 use Prim.Native.Nat.{ℕ}
 use lib.Dec.{eqb}
+use lib.ListN.{length}
 use Rattle.words.specs.Choice.{pick}
 use Rattle.memory.specs.Buffers.{Buffers, withinLimits}
+use Rattle.memory.specs.Places.{Place}
 use Rattle.machine.specs.declared.State.{State}
 use Rattle.machine.specs.States.{sound, agree}
 
@@ -27,6 +30,10 @@ first a b = pick (eqb a 0) b a
 -- a refused call leaves the state and the memories as they were given
 unfoldable pub settled : ℕ → State → Buffers → State → Buffers → Outcome
 settled number s m s′ m′ = pick (eqb number 0) (outcome 0 s′ m′) (outcome number s m)
+
+-- the count that goes with a number: of a done call the length of the list of places that it touches, of a refused one 0
+unfoldable pub counted : ℕ → List Place → ℕ
+counted number touched = pick (eqb number 0) (length touched) 0
 
 -- what every attention and step asks of what it is given: 11, 10, 13, that the processor is powered up, then 14, that the fields are those of CC (§3.4)
 unfoldable pub givenNumber : State → Buffers → ℕ

@@ -10,7 +10,7 @@ use Rattle.machine.specs.declared.Mode.{Mode}
 use Rattle.machine.specs.declared.Mode.the-variants.{Idle, Running, Suspended}
 use Rattle.machine.specs.declared.Channel.{Channel}
 use Rattle.machine.specs.declared.State.{State}
-use Rattle.machine.specs.declared.Answer.{Answer}
+use Rattle.machine.specs.declared.Made.{Made}
 use Rattle.machine.specs.declared.Board.{Board}
 
 -- a channel with all at 0 and idle; the fields are those of CC 0
@@ -49,7 +49,7 @@ unfoldable pub resetState : State
 resetState = blankState 0 (boardWith false false false false)
 
 -- a CP of more than 20 bits is answered by 10 and the fresh state of CP 0
-unfoldable pub freshOf : ℕ → Answer
+unfoldable pub freshOf : ℕ → Made
 freshOf cp = pick (ltb cp 1048576) (record { number = 0; state = freshState cp }) (record { number = 10; state = freshState 0 })
 
 -- the channel of a name

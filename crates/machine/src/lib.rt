@@ -70,8 +70,15 @@ pub struct State {
     pub board: Board,
 }
 
-// What a call answers: its number, 0 for done, and the state.
+// What a call answers: its number, 0 for done, how many bytes it read and stored, and the state.
 pub struct Answer {
+    pub number: u32,
+    pub count: u32,
+    pub state: State,
+}
+
+// A state that was made of a CP, and the number of that, 0 for done.
+pub struct Made {
     pub number: u32,
     pub state: State,
 }

@@ -1,7 +1,7 @@
 // A fresh state, a state after reset, a sound state, and the channels of a state by their names and numbers.
-use crate::Answer;
 use crate::Board;
 use crate::Channel;
+use crate::Made;
 use crate::Mode;
 use crate::State;
 use crate::cc;
@@ -65,15 +65,15 @@ fn unread(powered: bool) -> Board
 }
 
 // A fresh state of a CP, or 10 and the one of CP 0.
-pub fn fresh(cp: u32) -> Answer
+pub fn fresh(cp: u32) -> Made
     ensures { λ r. ⌜ r ≡ freshOf cp ⌝ }
 {
     if cp < 1048576 {
         let state = blank(cp, unread(true));
-        Answer { number: 0, state }
+        Made { number: 0, state }
     } else {
         let state = blank(0, unread(true));
-        Answer { number: 10, state }
+        Made { number: 10, state }
     }
 }
 

@@ -30,6 +30,12 @@ span-at test t a (suc n) (suc k) h hk =
 pub span-first : (test : Bool → ℕ → Bool) (t : Bool) (a n : ℕ) → allPass test (span t a n) ≡ true → 0 < n → test t a ≡ true
 span-first test t a n h hn = rw add-zero at (span-at test t a n 0 h hn)
 
+-- bytes in a row are as many as they are
+pub span-length : (t : Bool) (a k : ℕ) → length (span t a k) ≡ k
+unfolding span
+span-length t a zero = refl
+span-length t a (suc k) = ap suc (span-length t (a + 1) k)
+
 -- two lists pass a test where each does
 pub all-append : (test : Bool → ℕ → Bool) (ps qs : List Place) → allPass test (ps ++ qs) ≡ (allPass test ps && allPass test qs)
 unfolding allPass
