@@ -1,4 +1,5 @@
 pub mod PlanLaws
+pub mod CountLaws
 pub mod ConditionLaws
 pub mod Outcomes
 pub mod SoundLaws

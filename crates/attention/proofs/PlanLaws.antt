@@ -12,6 +12,7 @@ use Rattle.machine.specs.declared.State.{State}
 use Rattle.memory.specs.Buffers.{Buffers}
 use Rattle.words.specs.Choice.{pick}
 use Rattle.attention.specs.Attention.{orderTo, plannedOf, orderedChannel, orderedMemory, givenTo, attentionNumber, attentionOf}
+use Rattle.attention.specs.Touched.{commandCount}
 use Rattle.attention.specs.Effects.{channelOrdered, writes, writesOf, writesMade}
 use Rattle.attention.specs.declared.Upshot.{Upshot}
 use Rattle.attention.specs.declared.Order.{Order}
@@ -35,8 +36,8 @@ planned-settled s m channel e is = rw is (go (eqb (attentionNumber s m channel) 
     left : Bool → Upshot
     left x =
         pick x
-        (record { number = 0; channel = channelOrdered m o c; writes = writesOf (o .command) (o .block) (o .pb) c })
-        (record { number = attentionNumber s m channel; channel = c; writes = writes false false 0 (o .block) (o .pb) c })
+        (record { number = 0; count = commandCount (o .command); channel = channelOrdered m o c; writes = writesOf (o .command) (o .block) (o .pb) c })
+        (record { number = attentionNumber s m channel; count = 0; channel = c; writes = writes false false 0 (o .block) (o .pb) c })
 
     go : (x : Bool) → outcome (left x .number) (withChannel s b (left x .channel)) (writesMade m (left x .writes))
         ≡ pick x (outcome 0 (withChannel s b (orderedChannel s m b)) (orderedMemory s m b)) (outcome (attentionNumber s m channel) s m)

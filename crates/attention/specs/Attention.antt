@@ -1,10 +1,12 @@
 -- The attention call (§4): its number, by the first test that applies (§3.5), and its whole outcome.
 use mathlib.Core.Bool.{Bool, false}
+use mathlib.Core.List.{List}
 use Prim.Native.Nat.{ℕ}
 use lib.Dec.{eqb}
 use Rattle.words.specs.Choice.{pick}
 use Rattle.memory.specs.Buffers.{Buffers}
-use Rattle.machine.specs.Outcomes.{Outcome, unless, first, settled, givenNumber}
+use Rattle.memory.specs.Places.{Place}
+use Rattle.machine.specs.Outcomes.{Outcome, unless, first, settled, counted, givenNumber}
 use Rattle.machine.specs.Stages.{stagesNumber}
 use Rattle.machine.specs.States.{channelOf, withChannel, isChannel, isSecond, blockOf}
 use Rattle.machine.specs.declared.Channel.{Channel}
@@ -13,7 +15,7 @@ use Rattle.machine.specs.declared.State.{State}
 use Rattle.attention.specs.declared.Upshot.{Upshot}
 use Rattle.attention.specs.declared.Order.{Order}
 use Rattle.attention.specs.Blocks.{orderOf}
-use Rattle.attention.specs.Touched.{orderStages}
+use Rattle.attention.specs.Touched.{orderStages, touchedByOrder, commandCount}
 use Rattle.attention.specs.Effects.{channelOrdered, writes, writesOf, writesMade}
 
 -- the order that a channel's block holds
@@ -30,8 +32,8 @@ plannedOf m given block c =
     let o = orderOf m block (c .pp) in
     let number = first given (orderNumber m o (c .mode)) in
     pick (eqb number 0)
-    (record { number = 0; channel = channelOrdered m o c; writes = writesOf (o .command) (o .block) (o .pb) c })
-    (record { number = number; channel = c; writes = writes false false 0 (o .block) (o .pb) c })
+    (record { number = 0; count = commandCount (o .command); channel = channelOrdered m o c; writes = writesOf (o .command) (o .block) (o .pb) c })
+    (record { number = number; count = 0; channel = c; writes = writes false false 0 (o .block) (o .pb) c })
 
 -- the channel after the order that its block holds, where that is accepted
 unfoldable pub orderedChannel : State → Buffers → Bool → Channel
@@ -59,3 +61,11 @@ attentionOf s m channel =
     settled (attentionNumber s m channel) s m
     (withChannel s (isSecond channel) (orderedChannel s m (isSecond channel)))
     (orderedMemory s m (isSecond channel))
+
+-- the bytes that an attention reads or stores, each access once
+unfoldable pub touchedByAttention : State → Buffers → ℕ → List Place
+touchedByAttention s m channel = touchedByOrder (orderTo s m (isSecond channel)) (channelOf s (isSecond channel) .mode)
+
+-- how many they are; none of a refused one
+unfoldable pub attentionCount : State → Buffers → ℕ → ℕ
+attentionCount s m channel = counted (attentionNumber s m channel) (touchedByAttention s m channel)

@@ -43,3 +43,13 @@ orderStages o mode = stage (span false (o .block) 1) (commandNumber (o .command)
 -- all that it touches: CCW alone where the command is refused
 unfoldable pub touchedByOrder : Order → Mode → List Place
 touchedByOrder o mode = stagesTouched (orderStages o mode)
+
+-- how many bytes an accepted command reads and stores: CCW; for a start the block's pointer and PB's first word (001) or first two (011); for suspend and resume PB's four bytes; for all but 000 BUSY
+unfoldable pub commandCount : Command → ℕ
+commandCount Update = 1
+commandCount StartLocal = 8
+commandCount StartSystem = 10
+commandCount Suspend = 6
+commandCount Resume = 6
+commandCount Halt = 2
+commandCount Unknown = 0

@@ -7,6 +7,7 @@ ghost use mathlib.Core.Path.{_≡_};
 ghost use Rattle.machine.specs.Outcomes.{unless};
 ghost use Rattle.attention.specs.Commands as Commands;
 ghost use Rattle.attention.specs.Commands.{commandOf, commandNumber};
+ghost use Rattle.attention.specs.Touched.{commandCount};
 
 // The command of a CCW.
 pub fn command(ccw: u8) -> Command
@@ -42,6 +43,21 @@ pub fn refusal(command: Command, mode: Mode) -> u32
         Command::Resume => refuse_unless(states::is_suspended(mode), 7),
         Command::Halt => 0,
         Command::Unknown => 6,
+    }
+}
+
+// How many bytes an accepted command reads and stores.
+pub fn count(command: Command) -> u32
+    ensures { λ r. ⌜ r ≡ commandCount command ⌝ }
+{
+    match command {
+        Command::Update => 1,
+        Command::StartLocal => 8,
+        Command::StartSystem => 10,
+        Command::Suspend => 6,
+        Command::Resume => 6,
+        Command::Halt => 2,
+        Command::Unknown => 0,
     }
 }
 

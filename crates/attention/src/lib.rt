@@ -8,7 +8,7 @@ use memory::Pointer;
 ghost use mathlib.Core.Path.{_≡_};
 ghost use Rattle.memory.specs.Buffers.{buffers};
 ghost use Rattle.machine.specs.Outcomes.{outcome, first};
-ghost use Rattle.attention.specs.Attention.{orderNumber, plannedOf, givenTo, attentionOf};
+ghost use Rattle.attention.specs.Attention.{orderNumber, plannedOf, givenTo, attentionOf, attentionCount};
 
 // The command of a CCW, what it asks of the mode, and what it does to PSW.
 pub mod commands;
@@ -49,9 +49,10 @@ pub struct Writes {
     pub busy: u8,
 }
 
-// What an order comes to: its number, the channel after it, and what it stores.
+// What an order comes to: its number, how many bytes it reads and stores, the channel after it, and what it stores.
 pub struct Upshot {
     pub number: u32,
+    pub count: u32,
     pub channel: Channel,
     pub writes: Writes,
 }
@@ -95,14 +96,17 @@ fn planned(sys: &[u8], io: &[u8], given: u32, block: u32, c: Channel) -> Upshot
         let writes = effects::writes(o, c, false, false, 0);
         return Upshot {
             number,
+            count: 0,
             channel: c,
             writes,
         };
     }
     let channel = effects::channel_ordered(sys, io, o, c);
     let writes = effects::writes_of(o, c);
+    let command = o.command;
     Upshot {
         number: 0,
+        count: commands::count(command),
         channel,
         writes,
     }
@@ -110,7 +114,8 @@ fn planned(sys: &[u8], io: &[u8], given: u32, block: u32, c: Channel) -> Upshot
 
 // Gives a channel attention.
 pub fn attention(s: State, sys: &mut [u8], io: &mut [u8], channel: u32) -> Answer
-    ensures { λ r. ⌜ outcome (r .number) (r .state) (buffers (now (sys .exit)) (now (io .exit))) ≡ attentionOf s (buffers (now (sys .entry)) (now (io .entry))) channel ⌝ }
+    ensures left { λ r. ⌜ outcome (r .number) (r .state) (buffers (now (sys .exit)) (now (io .exit))) ≡ attentionOf s (buffers (now (sys .entry)) (now (io .entry))) channel ⌝ }
+    ensures count { λ r. ⌜ r .count ≡ attentionCount s (buffers (now (sys .entry)) (now (io .entry))) channel ⌝ }
 {
     let given = given_number(s, sys, io, channel);
     let second = states::is_second(channel);
@@ -122,6 +127,7 @@ pub fn attention(s: State, sys: &mut [u8], io: &mut [u8], channel: u32) -> Answe
     let state = states::with_channel(s, second, after);
     Answer {
         number: e.number,
+        count: e.count,
         state,
     }
 }

@@ -2,7 +2,11 @@
 -- Assumes nothing.
 use borrow.Author.Needs.{needs}
 use denote.Ref.{now}
+use mathlib.Core.Path.{_≡_}
+use Rattle.machine.specs.States.{channelOf, isSecond, blockOf}
 use Rattle.memory.specs.Buffers.{buffers}
+use Rattle.attention.specs.Attention.{plannedOf, givenTo}
+use Rattle.attention.proofs.CountLaws.{planned-counts}
 use Rattle.attention.proofs.PlanLaws.{planned-settled}
 use Rattle.attention.proofs.attention.Statement.{statement}
 use Rattle.attention.proofs.attention.Tie as tie
@@ -37,10 +41,15 @@ same-length-2 c = search needs
 returns : tie.Need-returns
 returns c =
     let a = c .before .before .before .before .before .before .before .before .before .before .before .before .before .before .before .before .before .before .before .before .before .args in
-    rw (c .with-channel .ensures, c .before .before .before .before .before .before .write .ensures, c .before .before .before .before .before .before .before .before .before .before .before .before .before .before .before .is-second .ensures)
-    (planned-settled (a .s) (buffers (now (a .sys)) (now (a .io))) (a .channel) (c .before .before .before .before .before .before .before .before .before .before .planned .result)
-    (rw (← (c .before .before .before .before .before .before .before .before .before .before .before .before .before .before .before .before .given-number .ensures), ← (c .before .before .before .before .before .before .before .before .before .before .before .before .before .before .before .is-second .ensures), ← (c .before .before .before .before .before .before .before .before .before .before .before .before .before .before .channel .ensures), ← (c .before .before .before .before .before .before .before .before .before .before .before .block .ensures))
-    (c .before .before .before .before .before .before .before .before .before .before .planned .ensures)))
+    let m = buffers (now (a .sys)) (now (a .io)) in
+    let e = c .before .before .before .before .before .before .before .before .before .before .planned .result in
+    let planned : e ≡ plannedOf m (givenTo (a .s) m (a .channel)) (blockOf (a .s) (isSecond (a .channel))) (channelOf (a .s) (isSecond (a .channel))) =
+    rw (← (c .before .before .before .before .before .before .before .before .before .before .before .before .before .before .before .before .given-number .ensures), ← (c .before .before .before .before .before .before .before .before .before .before .before .before .before .before .before .is-second .ensures), ← (c .before .before .before .before .before .before .before .before .before .before .before .before .before .before .channel .ensures), ← (c .before .before .before .before .before .before .before .before .before .before .before .block .ensures))
+    (c .before .before .before .before .before .before .before .before .before .before .planned .ensures) in (
+      rw (c .with-channel .ensures, c .before .before .before .before .before .before .write .ensures, c .before .before .before .before .before .before .before .before .before .before .before .before .before .before .before .is-second .ensures)
+          (planned-settled (a .s) m (a .channel) e planned),
+      planned-counts (a .s) m (a .channel) e planned,
+    )
 
 pub attention-spec : {M : Type 1} → statement M
 attention-spec =

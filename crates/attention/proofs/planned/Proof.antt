@@ -25,9 +25,12 @@ channel-ordered-requires c κs = search needs
 writes-of-requires : tie.Need-writes-of-requires
 writes-of-requires c κs = search needs
 
+count-requires : tie.Need-count-requires
+count-requires c κs = search needs
+
 returns-2 : tie.Need-returns-2
 unfolding plannedOf
-returns-2 c = simp (← (c .writes-of .ensures), ← (c .before .channel-ordered .ensures), c .before .before .if1 .left, eq-eqb _ _ (c .before .before .if1 .left), ← (c .before .before .before .number .ensures), ← (c .before .before .before .before .order .ensures))
+returns-2 c = simp (← (c .count .ensures), ← (c .before .writes-of .ensures), ← (c .before .before .channel-ordered .ensures), c .before .before .before .if1 .left, eq-eqb _ _ (c .before .before .before .if1 .left), ← (c .before .before .before .before .number .ensures), ← (c .before .before .before .before .before .order .ensures))
 
 pub planned-spec : {M : Type 1} → statement M
 planned-spec =
@@ -39,4 +42,5 @@ planned-spec =
     returns
     channel-ordered-requires
     writes-of-requires
+    count-requires
     returns-2)
