@@ -12,5 +12,5 @@ use Rattle.power.proofs.power_up.Reads as reads
 
 pub power-determined : (κs : Lfts 2) (a : Dens κs kinds.ps) (r q : resT kinds.r κs .Denot) (e f : AtExit (endedOf 2 kinds.ps kinds.r) κs)
     → reads.Post κs a r e → reads.Post κs a q f
-    → outcome (r .number) (r .state) (buffers (now (e .1 .0)) (now (e .1 .1 .0))) ≡ outcome (q .number) (q .state) (buffers (now (f .1 .0)) (now (f .1 .1 .0)))
-power-determined κs a r q e f p w = p ∙ sym w
+    → (outcome (r .number) (r .state) (buffers (now (e .1 .0)) (now (e .1 .1 .0))) ≡ outcome (q .number) (q .state) (buffers (now (f .1 .0)) (now (f .1 .1 .0)))) × (r .count ≡ q .count)
+power-determined κs a r q e f p w = (p .0 ∙ sym (w .0), p .1 ∙ sym (w .1))

@@ -7,7 +7,7 @@ use Rattle.words.specs.Sums.{sum20}
 use Rattle.memory.specs.Buffers.{Buffers, byteAt, storeByte, withinLimits}
 use Rattle.memory.specs.Places.{Place, span}
 use Rattle.memory.specs.Values.{doublewordAt}
-use Rattle.machine.specs.Outcomes.{Outcome, unless, first, settled}
+use Rattle.machine.specs.Outcomes.{Outcome, unless, first, settled, counted}
 use Rattle.machine.specs.Stages.{Stage, stage, stagesNumber, stagesTouched}
 use Rattle.machine.specs.States.{boardWith, blankState, busyIn}
 use Rattle.machine.specs.declared.Board.{Board}
@@ -73,3 +73,7 @@ foundMemory m = storeByte m false (busyIn (controlOf m)) 0
 -- what a power-up leaves
 unfoldable pub powerUpOf : State → Buffers → Outcome
 powerUpOf s m = settled (powerNumber m) s m (foundState m) (foundMemory m)
+
+-- how many bytes it reads and stores; none where it is refused
+unfoldable pub powerCount : Buffers → ℕ
+powerCount m = counted (powerNumber m) (touchedByPower m)

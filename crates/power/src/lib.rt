@@ -6,7 +6,7 @@ ghost use mathlib.Core.Path.{_≡_};
 ghost use Rattle.memory.specs.Buffers.{buffers};
 ghost use Rattle.memory.specs.Places.{allTouchable};
 ghost use Rattle.machine.specs.Outcomes.{outcome};
-ghost use Rattle.power.specs.Power.{configurationOf, controlOf, boardOf, powerPlaces, powerNumber, powerUpOf};
+ghost use Rattle.power.specs.Power.{configurationOf, controlOf, boardOf, powerPlaces, powerNumber, powerUpOf, powerCount};
 
 // Where SYSBUS stands.
 const SYSBUS_AT: u32 = 0xFFFF6;
@@ -67,15 +67,24 @@ fn power_number(sys: &[u8], io: &[u8]) -> u32
 
 // Powers the processor up: the fresh state of the CP found, with what the board set up, and BUSY of channel 1 cleared.
 pub fn power_up(s: State, sys: &mut [u8], io: &mut [u8]) -> Answer
-    ensures { λ r. ⌜ outcome (r .number) (r .state) (buffers (now (sys .exit)) (now (io .exit))) ≡ powerUpOf s (buffers (now (sys .entry)) (now (io .entry))) ⌝ }
+    ensures left { λ r. ⌜ outcome (r .number) (r .state) (buffers (now (sys .exit)) (now (io .exit))) ≡ powerUpOf s (buffers (now (sys .entry)) (now (io .entry))) ⌝ }
+    ensures count { λ r. ⌜ r .count ≡ powerCount (buffers (now (sys .entry)) (now (io .entry))) ⌝ }
 {
     let number = power_number(sys, io);
     if number != 0 {
-        return Answer { number, state: s };
+        return Answer {
+            number,
+            count: 0,
+            state: s,
+        };
     }
     let cp = control(sys, io);
     let board = read_board(sys, io);
     let state = machine::states::blank(cp, board);
     memory::store_byte(sys, io, false, words::sum20(cp, 1), 0);
-    Answer { number: 0, state }
+    Answer {
+        number: 0,
+        count: 11,
+        state,
+    }
 }

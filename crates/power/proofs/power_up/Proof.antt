@@ -3,10 +3,11 @@
 use borrow.Author.Needs.{needs}
 use denote.Ref.{now}
 use mathlib.Core.Path.{sym, _∙_}
-use Rattle.machine.proofs.OutcomeLaws.{refused, accepted}
+use Rattle.machine.proofs.OutcomeLaws.{refused, accepted, refused-counts, done-counts}
 use Rattle.machine.specs.States.{busyIn}
 use Rattle.memory.specs.Buffers.{buffers}
-use Rattle.power.specs.Power.{powerNumber, foundState, foundMemory, powerUpOf}
+use Rattle.power.specs.Power.{touchedByPower, powerNumber, foundState, foundMemory, powerUpOf, powerCount}
+use Rattle.power.proofs.Outcomes.{power-touches}
 use Rattle.power.proofs.power_up.Statement.{statement}
 use Rattle.power.proofs.power_up.Tie as tie
 
@@ -20,12 +21,12 @@ same-length-2 : tie.Need-same-length-2
 same-length-2 c = search needs
 
 returns : tie.Need-returns
-unfolding powerUpOf
+unfolding powerUpOf powerCount
 returns c =
     let a = c .before .before .before .before .before .before .args in
     let m = buffers (now (a .sys)) (now (a .io)) in
     let n = c .before .power-number .ensures in
-    rw n (sym (refused (powerNumber m) (a .s) m (foundState m) (foundMemory m) (λ z. c .if1 .taken (n ∙ z))))
+    (rw n (sym (refused (powerNumber m) (a .s) m (foundState m) (foundMemory m) (λ z. c .if1 .taken (n ∙ z)))), sym (refused-counts (powerNumber m) (touchedByPower m) (λ z. c .if1 .taken (n ∙ z))))
 
 control-requires : tie.Need-control-requires
 control-requires c κs = search needs
@@ -49,12 +50,15 @@ same-length-4 : tie.Need-same-length-4
 same-length-4 c = search needs
 
 returns-2 : tie.Need-returns-2
-unfolding powerUpOf foundState foundMemory busyIn
+unfolding powerUpOf powerCount foundState foundMemory busyIn
 returns-2 c =
     let a = c .before .before .before .before .before .before .before .before .before .before .before .before .before .before .before .before .before .before .before .before .before .args in
     let m = buffers (now (a .sys)) (now (a .io)) in
-    rw (c .before .before .before .before .store-byte .ensures, c .before .before .before .before .before .sum20 .ensures, c .before .before .before .before .before .before .before .before .blank .ensures, c .before .before .before .before .before .before .before .before .before .read-board .ensures, c .before .before .before .before .before .before .before .before .before .before .before .before .control .ensures)
-    (sym (accepted (powerNumber m) (a .s) m (foundState m) (foundMemory m) (sym (c .before .before .before .before .before .before .before .before .before .before .before .before .before .before .before .before .power-number .ensures) ∙ c .before .before .before .before .before .before .before .before .before .before .before .before .before .before .before .if1 .left)))
+    let z = sym (c .before .before .before .before .before .before .before .before .before .before .before .before .before .before .before .before .power-number .ensures) ∙ c .before .before .before .before .before .before .before .before .before .before .before .before .before .before .before .if1 .left in (
+      rw (c .before .before .before .before .store-byte .ensures, c .before .before .before .before .before .sum20 .ensures, c .before .before .before .before .before .before .before .before .blank .ensures, c .before .before .before .before .before .before .before .before .before .read-board .ensures, c .before .before .before .before .before .before .before .before .before .before .before .before .control .ensures)
+          (sym (accepted (powerNumber m) (a .s) m (foundState m) (foundMemory m) z)),
+      sym (done-counts (powerNumber m) (touchedByPower m) z ∙ power-touches m),
+    )
 
 pub power-up-spec : {M : Type 1} → statement M
 power-up-spec =
