@@ -1,6 +1,7 @@
 -- What an instruction does once it is read: what its second pair is, what it reads, what the channel becomes and what it stores.
 use mathlib.Core.List.{List}
 use Prim.Native.Nat.{ℕ}
+use lib.ListN.{length}
 use Rattle.memory.specs.Buffers.{Buffers}
 use Rattle.memory.specs.Places.{Place, allTouchable}
 use Rattle.machine.specs.declared.Channel.{Channel}
@@ -19,11 +20,16 @@ pub record Deed : Type 0 where
 abbrev pub deed : List Place → Channel → Change → Deed
 deed reads c ch = record { second = 0; reads = reads; channel = c; change = ch }
 
--- a deed with the number that its reading gives: that of the second pair, then 2
+-- a deed with the number that its reading gives, that of the second pair, then 2, and with how many bytes it reads
 unfoldable pub effectOf : Buffers → Deed → Effect
 effectOf m d =
-    record { number = first (d .second) (unless (allTouchable m (d .reads)) 2); channel = d .channel; change = d .change }
+    record {
+      number = first (d .second) (unless (allTouchable m (d .reads)) 2);
+      reads = length (d .reads);
+      channel = d .channel;
+      change = d .change;
+    }
 
--- a deed that reads no operand
+-- a deed that is not refused
 abbrev pub unread : Deed → Effect
-unread d = record { number = 0; channel = d .channel; change = d .change }
+unread d = record { number = 0; reads = length (d .reads); channel = d .channel; change = d .change }

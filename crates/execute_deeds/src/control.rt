@@ -14,6 +14,7 @@ pub fn only(c: Channel) -> Effect
 {
     Effect {
         number: 0,
+        reads: 0,
         channel: c,
         change: changes::nothing(),
     }
@@ -69,6 +70,7 @@ pub fn hlt(c: Channel, busy: u32) -> Effect
 {
     Effect {
         number: 0,
+        reads: 0,
         channel: machine::updates::halted(c),
         change: changes::byte_to(
             Pointer {

@@ -114,6 +114,7 @@ pub fn tsl(c: Channel, tp: Pointer, m: Memory, sys: &[u8], io: &[u8]) -> Effect
     if execute_operands::byte(at, sys, io) == 0 {
         return Effect {
             number: execute_operands::read_number(at, 1, sys, io),
+            reads: 1,
             channel: next,
             change: changes::byte_to(at, execute_operands::byte(p, sys, io)),
         };
@@ -132,6 +133,7 @@ pub fn call(c: Channel, tp: Pointer, m: Memory, two: bool, sys: &[u8], io: &[u8]
     next.tp = execute_operands::landing(back, p, two, sys, io);
     Effect {
         number: 0,
+        reads: 0,
         channel: next,
         change: changes::pointer_to(execute_operands::effective(c, m, tp, sys, io), back),
     }

@@ -11,9 +11,11 @@ pub mod memories;
 // Instructions that jump.
 pub mod jumps;
 
-// What an instruction would do: a number other than 0 where it is refused, the channel after it, and what it stores.
+// What an instruction would do: a number other than 0 where it is refused, how many operand bytes it reads, with the
+// offset byte of a second pair, the channel after it, and what it stores.
 pub struct Effect {
     pub number: u32,
+    pub reads: u32,
     pub channel: Channel,
     pub change: Change,
 }

@@ -47,8 +47,10 @@ pub fn memory_register(
 {
     let at = execute_operands::effective(c, m, tp, sys, io);
     let v = machine::registers::value(c, rrr);
+    let n = read_first(work, m.wide);
     Effect {
-        number: execute_operands::read_number(at, read_first(work, m.wide), sys, io),
+        number: execute_operands::read_number(at, n, sys, io),
+        reads: n,
         channel: execute_operands::grown_by_size(c, m),
         change: worked_back(at, work, m.wide, v, sys, io),
     }
@@ -67,8 +69,10 @@ pub fn memory_immediate(
 {
     let at = execute_operands::effective(c, m, tp, sys, io);
     let v = execute_operands::operand(execute_operands::after_pair(tp, m), m.wide, sys, io);
+    let n = read_first(work, m.wide);
     Effect {
-        number: execute_operands::read_number(at, read_first(work, m.wide), sys, io),
+        number: execute_operands::read_number(at, n, sys, io),
+        reads: n,
         channel: execute_operands::grown_by_size(c, m),
         change: worked_back(at, work, m.wide, v, sys, io),
     }
@@ -87,8 +91,10 @@ pub fn memory_alone(
 {
     let at = execute_operands::effective(c, m, tp, sys, io);
     let w = execute_operands::single(single, execute_operands::operand(at, m.wide, sys, io));
+    let n = execute_operands::size(m.wide);
     Effect {
-        number: execute_operands::read_number(at, execute_operands::size(m.wide), sys, io),
+        number: execute_operands::read_number(at, n, sys, io),
+        reads: n,
         channel: execute_operands::grown_by_size(c, m),
         change: changes::result_to(at, m.wide, w),
     }
@@ -104,6 +110,7 @@ pub fn movp_store(c: Channel, tp: Pointer, ppp: u32, m: Memory, sys: &[u8], io: 
     };
     Effect {
         number: 0,
+        reads: 0,
         channel: execute_operands::grown(c, m, 3),
         change: changes::pointer_to(execute_operands::effective(c, m, tp, sys, io), p),
     }
@@ -124,6 +131,7 @@ pub fn bit(c: Channel, tp: Pointer, on: bool, bit: u32, m: Memory, sys: &[u8], i
     let v = bit_written(execute_operands::byte(at, sys, io), bit, on);
     Effect {
         number: execute_operands::read_number(at, 1, sys, io),
+        reads: 1,
         channel: execute_operands::grown(c, m, 1),
         change: changes::result_to(at, false, v),
     }
@@ -139,10 +147,12 @@ fn mov_operand(c: Channel, tp: Pointer, m: Memory, q: Memory, sys: &[u8], io: &[
     let to = execute_operands::effective(next, q, pair, sys, io);
     let n = decode::offset_length(q);
     let v = execute_operands::operand(at, m.wide, sys, io);
+    let size = execute_operands::size(m.wide);
     let ok = execute_operands::touchable(memory::onward(pair, 2), n, sys, io)
-        & execute_operands::touchable(at, execute_operands::size(m.wide), sys, io);
+        & execute_operands::touchable(at, size, sys, io);
     Effect {
         number: execute_operands::two_unless(ok),
+        reads: n + size,
         channel: execute_operands::further(execute_operands::grown_by_size(next, q), n),
         change: changes::result_to(to, m.wide, v),
     }
@@ -161,6 +171,7 @@ pub fn mov_memory(c: Channel, tp: Pointer, m: Memory, sys: &[u8], io: &[u8]) -> 
     let Second::Operand(q) = second else {
         return Effect {
             number: decode::second_number(second),
+            reads: 0,
             channel: c,
             change: changes::nothing(),
         };

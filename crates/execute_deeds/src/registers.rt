@@ -27,10 +27,11 @@ fn write(work: Work, c: Channel, rrr: u32, v: u32) -> Channel
 
 // A channel after n operand bytes were read at a place.
 pub fn after(at: Pointer, n: u32, c: Channel, sys: &[u8], io: &[u8]) -> Effect
-    ensures { λ r. ⌜ r ≡ record { number = readNumber (buffers (now (sys .entry)) (now (io .entry))) at n; channel = c; change = nothing } ⌝ }
+    ensures { λ r. ⌜ r ≡ record { number = readNumber (buffers (now (sys .entry)) (now (io .entry))) at n; reads = n; channel = c; change = nothing } ⌝ }
 {
     Effect {
         number: execute_operands::read_number(at, n, sys, io),
+        reads: n,
         channel: c,
         change: changes::nothing(),
     }

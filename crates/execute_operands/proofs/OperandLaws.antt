@@ -1,12 +1,14 @@
 -- Operands in numbers: a byte is extended by its sign, and a displacement counts from the end of its instruction.
 -- Assumes nothing.
-use mathlib.Core.Bool.{Bool, false}
+use Prim.Native.Nat.{_≤_}
+use lib.Dec.{lit≤}
+use mathlib.Core.Bool.{Bool, true, false}
 use mathlib.Core.Path.{_≡_}
 use Rattle.memory.specs.Buffers.{Buffers}
 use Rattle.memory.specs.Values.{pointer}
 use Rattle.memory.specs.declared.Pointer.{Pointer}
 use Rattle.words.specs.Signs.{signedOf, extended, displacedBy}
-use Rattle.execute_operands.specs.Operands.{byteHere, operandAt, displacementAt, landing}
+use Rattle.execute_operands.specs.Operands.{byteHere, sizeOf, operandAt, displacementAt, landing}
 
 -- a byte 80h is FFF80h
 pub byte-extended : (m : Buffers) (p : Pointer) → byteHere m p ≡ 0x80 → operandAt m p false ≡ 0xFFF80
@@ -17,3 +19,8 @@ byte-extended m p e = rw e
 pub byte-leads : (m : Buffers) (p : Pointer) (tag : Bool) → byteHere m p ≡ 0xFB → landing m (pointer 0x303 tag) p false ≡ pointer 0x2FE tag
 unfolding landing displacementAt signedOf displacedBy
 byte-leads m p tag e = rw e
+
+-- an operand has at most two bytes
+pub size-small : (wide : Bool) → sizeOf wide ≤ 2
+size-small true = lit≤ tt
+size-small false = lit≤ tt

@@ -1,6 +1,7 @@
 -- `execute_deeds::jumps::jump_bit` meets its contract.
 -- Assumes nothing.
 use borrow.Author.Needs.{needs}
+use Rattle.memory.proofs.SpanLaws.{span-length}
 use Rattle.machine.specs.Outcomes.{first}
 use Rattle.machine.specs.Updates.{renewed}
 use Rattle.execute_deeds.specs.Deeds.{effectOf}
@@ -38,7 +39,7 @@ after-requires c κs = search needs
 
 returns : tie.Need-returns
 unfolding jumpBitDeed jumpByteDeed jumpedIf grown renewed effectOf first readNumber
-returns c = simp (c .after .ensures, c .before .led .ensures, c .before .before .grown .ensures, c .before .before .before .after-pair .ensures, c .before .before .before .before .agrees .ensures, c .before .before .before .before .before .bit .ensures, c .before .before .before .before .before .before .byte .ensures, c .before .before .before .before .before .before .before .effective .ensures)
+returns c = simp (span-length, c .after .ensures, c .before .led .ensures, c .before .before .grown .ensures, c .before .before .before .after-pair .ensures, c .before .before .before .before .agrees .ensures, c .before .before .before .before .before .bit .ensures, c .before .before .before .before .before .before .byte .ensures, c .before .before .before .before .before .before .before .effective .ensures)
 
 pub jump-bit-spec : {M : Type 1} → statement M
 jump-bit-spec =

@@ -3,6 +3,7 @@
 use borrow.Author.Needs.{needs}
 use borrow.Author.Tests.{eq-eqb, ne-eqb}
 use mathlib.Core.Path.{sym, _∙_}
+use Rattle.memory.proofs.SpanLaws.{span-length}
 use Rattle.machine.specs.Outcomes.{first}
 use Rattle.machine.specs.Updates.{renewed}
 use Rattle.memory.specs.Values.{onward}
@@ -37,7 +38,7 @@ returns : tie.Need-returns
 unfolding tslDeed effectOf first readNumber
 returns c =
     let e = simp (c .before .before .before .before .before .before .before .effective .ensures) at (sym (c .before .before .before .before .byte .ensures) ∙ c .before .before .before .if1 .taken) in
-    simp (c .byte-to .ensures, c .before .byte2 .ensures, c .before .before .read-number .ensures, c .before .before .before .before .before .after-pair .ensures, c .before .before .before .before .before .before .grown .ensures, c .before .before .before .before .before .before .before .effective .ensures, eq-eqb _ 0 e)
+    simp (span-length, c .byte-to .ensures, c .before .byte2 .ensures, c .before .before .read-number .ensures, c .before .before .before .before .before .after-pair .ensures, c .before .before .before .before .before .before .grown .ensures, c .before .before .before .before .before .before .before .effective .ensures, eq-eqb _ 0 e)
 
 onward-requires : tie.Need-onward-requires
 onward-requires c κs = search needs
@@ -52,7 +53,7 @@ returns-2 : tie.Need-returns-2
 unfolding tslDeed jumpedIf grown renewed effectOf first readNumber
 returns-2 c =
     let e = simp (c .before .before .before .before .byte .ensures, c .before .before .before .before .before .before .before .effective .ensures) at (ne-eqb (c .before .before .before .before .byte .result) 0 (c .before .before .before .if1 .left)) in
-    simp (c .after .ensures, c .before .landing .ensures, c .before .before .onward .ensures, c .before .before .before .before .before .after-pair .ensures, c .before .before .before .before .before .before .grown .ensures, c .before .before .before .before .before .before .before .effective .ensures, e)
+    simp (span-length, c .after .ensures, c .before .landing .ensures, c .before .before .onward .ensures, c .before .before .before .before .before .after-pair .ensures, c .before .before .before .before .before .before .grown .ensures, c .before .before .before .before .before .before .before .effective .ensures, e)
 
 pub tsl-spec : {M : Type 1} → statement M
 tsl-spec =

@@ -1,6 +1,7 @@
 -- `execute_deeds::memories::bit` meets its contract.
 -- Assumes nothing.
 use borrow.Author.Needs.{needs}
+use Rattle.memory.proofs.SpanLaws.{span-length}
 use Rattle.machine.specs.Outcomes.{first}
 use Rattle.execute_operands.specs.Operands.{readNumber, effective, grown}
 use Rattle.execute_deeds.specs.Deeds.{effectOf}
@@ -28,7 +29,7 @@ result-to-requires c κs = search needs
 
 returns : tie.Need-returns
 unfolding bitDeed effectOf first readNumber
-returns c = simp (c .result-to .ensures, c .before .grown .ensures, c .before .before .read-number .ensures, c .before .before .before .bit-written .ensures, c .before .before .before .before .byte .ensures, c .before .before .before .before .before .effective .ensures)
+returns c = simp (span-length, c .result-to .ensures, c .before .grown .ensures, c .before .before .read-number .ensures, c .before .before .before .bit-written .ensures, c .before .before .before .before .byte .ensures, c .before .before .before .before .before .effective .ensures)
 
 pub bit-spec : {M : Type 1} → statement M
 bit-spec =

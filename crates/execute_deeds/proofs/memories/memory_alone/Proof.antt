@@ -1,6 +1,7 @@
 -- `execute_deeds::memories::memory_alone` meets its contract.
 -- Assumes nothing.
 use borrow.Author.Needs.{needs}
+use Rattle.memory.proofs.SpanLaws.{span-length}
 use Rattle.machine.specs.Outcomes.{first}
 use Rattle.execute_deeds.specs.Deeds.{effectOf}
 use Rattle.execute_operands.specs.Operands.{readNumber, effective}
@@ -31,7 +32,7 @@ result-to-requires c κs = search needs
 
 returns : tie.Need-returns
 unfolding memoryAloneDeed effectOf first readNumber
-returns c = simp (c .result-to .ensures, c .before .grown-by-size .ensures, c .before .before .read-number .ensures, c .before .before .before .size .ensures, c .before .before .before .before .single .ensures, c .before .before .before .before .before .operand .ensures, c .before .before .before .before .before .before .effective .ensures)
+returns c = simp (span-length, c .result-to .ensures, c .before .grown-by-size .ensures, c .before .before .read-number .ensures, c .before .before .before .size .ensures, c .before .before .before .before .single .ensures, c .before .before .before .before .before .operand .ensures, c .before .before .before .before .before .before .effective .ensures)
 
 pub memory-alone-spec : {M : Type 1} → statement M
 memory-alone-spec =

@@ -1,10 +1,15 @@
 -- `execute_deeds::memories::mov_operand` meets its contract.
 -- Assumes nothing.
 use borrow.Author.Needs.{needs}
+use lib.ListN.{length-append}
+use native.Mathlib.Omega.{arith}
+use Rattle.decode.proofs.LengthLaws.{offset-small}
+use Rattle.decode.specs.Lengths.{offsetLength}
 use Rattle.machine.specs.Outcomes.{first}
-use Rattle.memory.proofs.SpanLaws.{all-append}
+use Rattle.memory.proofs.SpanLaws.{span-length, all-append}
 use Rattle.memory.specs.Values.{onward}
 use Rattle.execute_deeds.specs.Deeds.{effectOf}
+use Rattle.execute_operands.proofs.OperandLaws.{size-small}
 use Rattle.execute_operands.specs.Operands.{further, effective}
 use Rattle.execute_deeds.specs.MemoryForms.{movOperandDeed}
 use Rattle.execute_deeds.proofs.memories.mov_operand.Statement.{statement}
@@ -28,20 +33,24 @@ offset-length-requires c κs = search needs
 operand-requires : tie.Need-operand-requires
 operand-requires c κs = search needs
 
+size-requires : tie.Need-size-requires
+size-requires c κs = search needs
+
 onward-requires : tie.Need-onward-requires
 onward-requires c κs = search needs
 
 touchable-requires : tie.Need-touchable-requires
 touchable-requires c κs = search needs
 
-size-requires : tie.Need-size-requires
-size-requires c κs = search needs
-
 touchable-requires-2 : tie.Need-touchable-requires-2
 touchable-requires-2 c κs = search needs
 
 two-unless-requires : tie.Need-two-unless-requires
 two-unless-requires c κs = search needs
+
+add-t19 : tie.Need-add-t19
+unfolding offsetLength
+add-t19 c = omega (arith, c .before .before .before .before .before .before .offset-length .ensures, offset-small (c .before .before .before .before .before .before .before .before .before .before .before .before .before .args .q .aa), c .before .before .before .before .size .ensures, size-small (c .before .before .before .before .before .before .before .before .before .before .before .before .before .args .m .wide))
 
 grown-by-size-requires-2 : tie.Need-grown-by-size-requires-2
 grown-by-size-requires-2 c κs = search needs
@@ -54,7 +63,7 @@ result-to-requires c κs = search needs
 
 returns : tie.Need-returns
 unfolding movOperandDeed effectOf first
-returns c = simp (all-append, c .result-to .ensures, c .before .further .ensures, c .before .before .grown-by-size2 .ensures, c .before .before .before .two-unless .ensures, c .before .before .before .before .touchable2 .ensures, c .before .before .before .before .before .size .ensures, c .before .before .before .before .before .before .touchable .ensures, c .before .before .before .before .before .before .before .onward .ensures, c .before .before .before .before .before .before .before .before .operand .ensures, c .before .before .before .before .before .before .before .before .before .offset-length .ensures, c .before .before .before .before .before .before .before .before .before .before .effective2 .ensures, c .before .before .before .before .before .before .before .before .before .before .before .grown-by-size .ensures, c .before .before .before .before .before .before .before .before .before .before .before .before .after-pair .ensures, c .before .before .before .before .before .before .before .before .before .before .before .before .before .effective .ensures)
+returns c = simp (length-append, span-length, all-append, c .result-to .ensures, c .before .further .ensures, c .before .before .grown-by-size2 .ensures, c .before .before .before .two-unless .ensures, c .before .before .before .before .touchable2 .ensures, c .before .before .before .before .before .touchable .ensures, c .before .before .before .before .before .before .onward .ensures, c .before .before .before .before .before .before .before .size .ensures, c .before .before .before .before .before .before .before .before .operand .ensures, c .before .before .before .before .before .before .before .before .before .offset-length .ensures, c .before .before .before .before .before .before .before .before .before .before .effective2 .ensures, c .before .before .before .before .before .before .before .before .before .before .before .grown-by-size .ensures, c .before .before .before .before .before .before .before .before .before .before .before .before .after-pair .ensures, c .before .before .before .before .before .before .before .before .before .before .before .before .before .effective .ensures)
 
 pub mov-operand-spec : {M : Type 1} → statement M
 mov-operand-spec =
@@ -66,11 +75,12 @@ mov-operand-spec =
     effective-requires-2
     offset-length-requires
     operand-requires
+    size-requires
     onward-requires
     touchable-requires
-    size-requires
     touchable-requires-2
     two-unless-requires
+    add-t19
     grown-by-size-requires-2
     further-requires
     result-to-requires

@@ -1,6 +1,7 @@
 -- `execute_deeds::registers::lpd` meets its contract.
 -- Assumes nothing.
 use borrow.Author.Needs.{needs}
+use Rattle.memory.proofs.SpanLaws.{span-length}
 use Rattle.machine.specs.Outcomes.{first}
 use Rattle.machine.specs.Registers.{loaded}
 use Rattle.memory.proofs.PlaceLaws.{after}
@@ -27,7 +28,7 @@ after-requires c κs = search needs
 
 returns : tie.Need-returns
 unfolding lpdDeed effectOf first readNumber
-returns c = simp (c .after .ensures, c .before .loaded .ensures, c .before .before .grown .ensures, c .before .before .before .doubleword .ensures, c .before .before .before .before .effective .ensures)
+returns c = simp (span-length, c .after .ensures, c .before .loaded .ensures, c .before .before .grown .ensures, c .before .before .before .doubleword .ensures, c .before .before .before .before .effective .ensures)
 
 pub lpd-spec : {M : Type 1} → statement M
 lpd-spec =

@@ -1,6 +1,7 @@
 -- `execute_deeds::registers::movp_load` meets its contract.
 -- Assumes nothing.
 use borrow.Author.Needs.{needs}
+use Rattle.memory.proofs.SpanLaws.{span-length}
 use Rattle.machine.specs.Outcomes.{first}
 use Rattle.memory.proofs.PlaceLaws.{after}
 use Rattle.execute_operands.specs.Operands.{readNumber, effective, grown}
@@ -26,7 +27,7 @@ after-requires c κs = search needs
 
 returns : tie.Need-returns
 unfolding movpLoadDeed effectOf first readNumber
-returns c = simp (c .after .ensures, c .before .with .ensures, c .before .before .grown .ensures, c .before .before .before .stored-pointer .ensures, c .before .before .before .before .effective .ensures)
+returns c = simp (span-length, c .after .ensures, c .before .with .ensures, c .before .before .grown .ensures, c .before .before .before .stored-pointer .ensures, c .before .before .before .before .effective .ensures)
 
 pub movp-load-spec : {M : Type 1} → statement M
 movp-load-spec =

@@ -1,6 +1,7 @@
 -- `execute_deeds::registers::register_memory` meets its contract.
 -- Assumes nothing.
 use borrow.Author.Needs.{needs}
+use Rattle.memory.proofs.SpanLaws.{span-length}
 use Rattle.machine.specs.Outcomes.{first}
 use Rattle.memory.proofs.PlaceLaws.{after}
 use Rattle.execute_operands.specs.Operands.{readNumber, effective}
@@ -35,7 +36,7 @@ after-requires c κs = search needs
 
 returns : tie.Need-returns
 unfolding registerMemoryDeed effectOf first readNumber
-returns c = simp (c .after .ensures, c .before .size .ensures, c .before .before .write .ensures, c .before .before .before .grown-by-size .ensures, c .before .before .before .before .work .ensures, c .before .before .before .before .before .operand .ensures, c .before .before .before .before .before .before .value .ensures, c .before .before .before .before .before .before .before .effective .ensures)
+returns c = simp (span-length, c .after .ensures, c .before .size .ensures, c .before .before .write .ensures, c .before .before .before .grown-by-size .ensures, c .before .before .before .before .work .ensures, c .before .before .before .before .before .operand .ensures, c .before .before .before .before .before .before .value .ensures, c .before .before .before .before .before .before .before .effective .ensures)
 
 pub register-memory-spec : {M : Type 1} → statement M
 register-memory-spec =
