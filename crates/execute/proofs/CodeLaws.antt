@@ -1,7 +1,8 @@
 -- The laws of an instruction that is worked out before its stores: its number so far, and what comes of it.
 -- Assumes nothing.
-use Prim.Native.Nat.{ℕ}
+use Prim.Native.Nat.{ℕ, _+_, _≤_}
 use borrow.Author.Tests.{eqb-false}
+use lib.ListN.{length}
 use denote.Enum.Declared.{tagOf as variant}
 use mathlib.Core.Bool.{Bool, true, false, _&&_}
 use mathlib.Core.List.{[], _∷_, _++_}
@@ -9,13 +10,14 @@ use mathlib.Core.Logic.{⊎-elim}
 use mathlib.Core.Path.{_≡_, refl, sym, ap, subst, _∙_}
 use types.Run.{OneOf}
 use Rattle.decode_shapes.proofs.Decoded.{the-type}
+use Rattle.decode.specs.Lengths.{lengthOf}
 use Rattle.decode.specs.Reading.{numberOf}
 use Rattle.decode_shapes.specs.declared.Decoded.{Decoded}
 use Rattle.decode_shapes.specs.declared.Decoded.the-variants.{Instruction, NoInstruction, ControlUsed}
 use Rattle.decode_shapes.specs.declared.Shape.{Shape}
 use Rattle.machine.specs.Updates.{fieldsRenewed}
 use Rattle.machine.proofs.ConditionLaws.{first-assoc}
-use Rattle.machine.proofs.OutcomeLaws.{first-some, first-none}
+use Rattle.machine.proofs.OutcomeLaws.{refused-counts, done-counts, first-some, first-none}
 use Rattle.machine.specs.Outcomes.{unless, first}
 use Rattle.machine.specs.Stages.{stagesNumber}
 use Rattle.machine.specs.declared.Channel.{Channel}
@@ -23,24 +25,34 @@ use Rattle.memory.proofs.SpanLaws.{all-append}
 use Rattle.memory.specs.Buffers.{Buffers}
 use Rattle.memory.specs.Places.{allTouchable}
 use Rattle.execute_operands.specs.Changes.{placesOf, changed, nothing}
+use Rattle.execute_operands.specs.Marks.{pastInstruction}
 use Rattle.execute_operands.specs.Operands.{bytesAt}
-use Rattle.execute_deeds.specs.Deeds.{Deed, effectOf, unread}
+use Rattle.execute_deeds.specs.Deeds.{Deed, effectOf}
 use Rattle.execute_deeds.specs.declared.Effect.{Effect}
-use Rattle.execute.specs.Execute.{decodedAt, deedOf, laterBytes, laterFrom, deedFrom, stagesFrom, instructionStages, executeNumber, executed, executeOf}
-use Rattle.execute.specs.Plan.{laterNumber, planFrom, planNumber, Planned}
+use Rattle.execute.specs.Execute.{decodedAt, performed, deedOf, laterBytes, laterFrom, lengthFrom, deedFrom, stagesFrom, instructionStages, executeNumber, touchedByInstruction, Executed, executed, executeOf, executeCount}
+use Rattle.execute.specs.Plan.{laterNumber, planFrom, planNumber, readWith, Planned}
 use Rattle.execute.specs.Kept.{deedAt}
-use Rattle.execute.proofs.OutcomeLaws.{refused-by, done-by}
+use Rattle.execute.proofs.CountLaws.{deed-most, touched-length}
+use Rattle.execute.proofs.OutcomeLaws.{refused-by, done-by, number-is}
 
 -- a refusal by a number other than 0 is as planned
-pub refusal-planned : {number n : ℕ} {d : Deed} {e : Effect} {c : Channel} → e ≡ record { number = n; channel = c; change = nothing } → n ≡ number → (n ≡ 0 → ⊥) → Planned number d e
+pub refusal-planned : {number n own : ℕ} {d : Deed} {e : Effect} {c : Channel} → e ≡ record { number = n; reads = 0; channel = c; change = nothing } → n ≡ number → (n ≡ 0 → ⊥) → Planned number own d e
 refusal-planned r e ne = record { told = ap (λ (x : Effect). x .number) r ∙ e; done = λ z. absurd (ne (e ∙ z)) }
 
--- and so is a deed with the number that its reading gives
-pub deed-planned : {number : ℕ} {d : Deed} {e : Effect} (m : Buffers) → e ≡ effectOf m d → number ≡ (effectOf m d) .number → Planned number d e
+-- and so is a deed with the number that its reading gives, and with `count` bytes more that are read
+pub deed-planned : {number own : ℕ} {d : Deed} (m : Buffers) (count : ℕ) (e : Effect) → e ≡ effectOf m d → number ≡ (effectOf m d) .number → count ≡ own
+    → Planned number own d (record { number = e .number; reads = count + e .reads; channel = e .channel; change = e .change })
 unfolding effectOf
-deed-planned {d = d} m e n = record { told = ap (λ (x : Effect). x .number) e ∙ sym n; done = λ z. e ∙ ap (λ (x : ℕ). record { number = x; channel = d .channel; change = d .change }) (sym n ∙ z) }
+deed-planned {own = own} {d = d} m count e is n long =
+    rw (is, long) (record { told = sym n; done = λ z. ap (λ (x : ℕ). record { number = x; reads = own + length (d .reads); channel = d .channel; change = d .change }) (sym n ∙ z) })
 
 module _ (m : Buffers) (c : Channel) (busy : ℕ) where
+  -- what is performed once TP is past the instruction is its deed
+  pub performed-deed : (s : Shape) (n : ℕ) (x : Channel) (e : Effect) → e ≡ effectOf m (performed s m x (c .tp) (c .armed) busy) → x ≡ pastInstruction c n → n ≡ lengthOf s
+      → e ≡ effectOf m (deedOf s m c busy)
+  unfolding deedOf
+  performed-deed s n x e is past long = is ∙ ap (λ (y : Channel). effectOf m (performed s m y (c .tp) (c .armed) busy)) (past ∙ ap (pastInstruction c) long)
+
   -- an instruction whose later bytes may not be touched is refused by 2
   pub later-beyond : (s : Shape) → allTouchable m (laterBytes s c) ≡ false → 2 ≡ laterNumber (Instruction s) m c busy
   unfolding laterNumber laterFrom first unless
@@ -68,11 +80,11 @@ module _ (m : Buffers) (c : Channel) (busy : ℕ) where
   plan-none d h there e = rw e (none-from d h there)
 
   -- what is one is as planned from its later bytes on
-  shaped-from : (d : Decoded) {e : Effect} (s : Shape) → d ≡ Instruction s → allTouchable m (bytesAt (c .tp) 2) ≡ true → Planned (laterNumber (Instruction s) m c busy) (deedOf s m c busy) e → Planned (planFrom d m c busy) (deedFrom d m c busy) e
-  unfolding planFrom deedFrom first unless
+  shaped-from : (d : Decoded) {e : Effect} (s : Shape) → d ≡ Instruction s → allTouchable m (bytesAt (c .tp) 2) ≡ true → Planned (laterNumber (Instruction s) m c busy) (lengthOf s) (deedOf s m c busy) e → Planned (planFrom d m c busy) (lengthFrom d) (deedFrom d m c busy) e
+  unfolding planFrom deedFrom lengthFrom first unless
   shaped-from d s i there p = rw (i, there) p
 
-  pub plan-shaped : {e : Effect} (s : Shape) → decodedAt m (c .tp) ≡ Instruction s → allTouchable m (bytesAt (c .tp) 2) ≡ true → Planned (laterNumber (Instruction s) m c busy) (deedOf s m c busy) e → Planned (planNumber m c busy) (deedAt m c busy) e
+  pub plan-shaped : {e : Effect} (s : Shape) → decodedAt m (c .tp) ≡ Instruction s → allTouchable m (bytesAt (c .tp) 2) ≡ true → Planned (laterNumber (Instruction s) m c busy) (lengthOf s) (deedOf s m c busy) e → Planned (planNumber m c busy) (lengthFrom (decodedAt m (c .tp))) (deedAt m c busy) e
   unfolding planNumber
   plan-shaped s i there p = shaped-from (decodedAt m (c .tp)) s i there p
 
@@ -103,13 +115,36 @@ module _ (m : Buffers) (c : Channel) (busy : ℕ) where
   stores-number : (b : Bool) → planNumber m c busy ≡ 0 → allTouchable m (placesOf ((deedAt m c busy) .change)) ≡ b → executeNumber m c busy ≡ unless b 2
   stores-number b z e = split ∙ first-none (planNumber m c busy) (unless (allTouchable m (placesOf ((deedAt m c busy) .change))) 2) z ∙ ap (λ (x : Bool). unless x 2) e
 
+  -- so a plan that is not refused passes where its stores may be touched
+  pub plan-passed : planNumber m c busy ≡ 0 → allTouchable m (placesOf ((deedAt m c busy) .change)) ≡ true → executeNumber m c busy ≡ 0
+  unfolding unless
+  plan-passed z e = stores-number true z e
+
   -- a plan that is not is done where its stores may be touched, and else refused by 2
   pub plan-done : planNumber m c busy ≡ 0 → allTouchable m (placesOf ((deedAt m c busy) .change)) ≡ true → executeOf c busy m ≡ executed 0 (fieldsRenewed (c .cc) ((deedAt m c busy) .channel)) (changed m ((deedAt m c busy) .change))
-  unfolding unless
-  plan-done z e = done-by c busy m (stores-number true z e)
+  plan-done z e = done-by c busy m (plan-passed z e)
 
   pub plan-unstored : planNumber m c busy ≡ 0 → allTouchable m (placesOf ((deedAt m c busy) .change)) ≡ false → executeOf c busy m ≡ executed 2 c m
   unfolding unless
   plan-unstored z e =
       let two : executeNumber m c busy ≡ 2 = stores-number false z e in
       refused-by c busy m (λ n. eqb-false 2 0 refl (sym two ∙ n)) ∙ ap (λ (n : ℕ). executed n c m) two
+
+  -- ---- the count
+
+  -- a refusal counts nothing
+  pub none-counted : (n : ℕ) → executeOf c busy m ≡ executed n c m → (n ≡ 0 → ⊥) → 0 ≡ executeCount c busy m
+  unfolding executeCount
+  none-counted n e ne =
+      sym (refused-counts (executeNumber m c busy) (touchedByInstruction m c busy) (λ z. ne (sym (ap (λ (o : Executed). o .number) e) ∙ number-is c busy m ∙ z)))
+
+  -- what is read and stored of a plan is at most ten bytes
+  pub plan-most : (e : Effect) → e ≡ readWith (lengthFrom (decodedAt m (c .tp))) (deedAt m c busy) → e .reads + e .change .count ≤ 10
+  plan-most e is = subst (λ (x : Effect). x .reads + x .change .count ≤ 10) (sym is) (deed-most m c busy (decodedAt m (c .tp)))
+
+  -- and of a done one it is its list
+  pub plan-counted : (e : Effect) → e ≡ readWith (lengthFrom (decodedAt m (c .tp))) (deedAt m c busy) → executeNumber m c busy ≡ 0 → e .reads + e .change .count ≡ executeCount c busy m
+  unfolding executeCount
+  plan-counted e is z =
+      ap (λ (x : Effect). x .reads + x .change .count) is
+      ∙ sym (done-counts (executeNumber m c busy) (touchedByInstruction m c busy) z ∙ touched-length m c busy z)

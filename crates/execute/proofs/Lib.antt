@@ -1,5 +1,6 @@
 pub mod OutcomeLaws
 pub mod CodeLaws
+pub mod CountLaws
 pub mod NumberLaws
 pub mod MemoryLaws
 pub mod PointerLaws

@@ -8,6 +8,7 @@ use Rattle.memory.specs.Buffers.{Buffers}
 use Rattle.memory.specs.Values.{onward}
 use Rattle.memory.specs.Places.{Place}
 use Rattle.memory.specs.declared.Pointer.{Pointer}
+use Rattle.machine.specs.Outcomes.{counted}
 use Rattle.machine.specs.declared.Channel.{Channel}
 use Rattle.machine.specs.Updates.{fieldsRenewed}
 use Rattle.machine.specs.Stages.{Stage, stage, stagesNumber, stagesTouched}
@@ -76,6 +77,12 @@ laterFrom (Instruction s) c = laterBytes s c
 laterFrom NoInstruction c = []
 laterFrom ControlUsed c = []
 
+-- how many bytes it then has, without the offset byte of a second pair
+unfoldable pub lengthFrom : Decoded → ℕ
+lengthFrom (Instruction s) = lengthOf s
+lengthFrom NoInstruction = 0
+lengthFrom ControlUsed = 0
+
 -- the stages of an instruction, d being what its first two bytes are
 unfoldable pub stagesFrom : Decoded → Buffers → Channel → ℕ → List Stage
 stagesFrom d m c busy =
@@ -115,3 +122,7 @@ executeOf c busy m =
     let number = executeNumber m c busy in
     let done = deedFrom (decodedAt m (c .tp)) m c busy in
     pick (eqb number 0) (executed 0 (fieldsRenewed (c .cc) (done .channel)) (changed m (done .change))) (executed number c m)
+
+-- how many bytes an instruction reads and stores; none where it is refused
+unfoldable pub executeCount : Channel → ℕ → Buffers → ℕ
+executeCount c busy m = counted (executeNumber m c busy) (touchedByInstruction m c busy)

@@ -1,4 +1,5 @@
 pub mod Execute
+pub mod Counts
 pub mod Plan
 pub mod Conditions
 pub mod Kept

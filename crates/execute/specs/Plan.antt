@@ -1,6 +1,7 @@
 -- What is worked out of an instruction before its stores are tested.
 use mathlib.Core.Path.{_≡_}
-use Prim.Native.Nat.{ℕ}
+use Prim.Native.Nat.{ℕ, _+_}
+use lib.ListN.{length}
 use Rattle.memory.specs.Buffers.{Buffers}
 use Rattle.memory.specs.Places.{allTouchable}
 use Rattle.machine.specs.Outcomes.{first, unless}
@@ -8,7 +9,7 @@ use Rattle.machine.specs.declared.Channel.{Channel}
 use Rattle.decode_shapes.specs.declared.Decoded.{Decoded}
 use Rattle.decode.specs.Reading.{numberOf}
 use Rattle.execute_operands.specs.Operands.{bytesAt}
-use Rattle.execute_deeds.specs.Deeds.{Deed, effectOf, unread}
+use Rattle.execute_deeds.specs.Deeds.{Deed, effectOf}
 use Rattle.execute_deeds.specs.declared.Effect.{Effect}
 use Rattle.execute.specs.Execute.{decodedAt, deedFrom, laterFrom}
 
@@ -23,7 +24,11 @@ planFrom d m c busy = first (unless (allTouchable m (bytesAt (c .tp) 2)) 2) (fir
 unfoldable pub planNumber : Buffers → Channel → ℕ → ℕ
 planNumber m c busy = planFrom (decodedAt m (c .tp)) m c busy
 
+-- what a deed does, not refused, of an instruction whose own bytes are read too
+abbrev pub readWith : ℕ → Deed → Effect
+readWith own d = record { number = 0; reads = own + length (d .reads); channel = d .channel; change = d .change }
+
 -- an effect that has a number and, where that is 0, is what a deed does
-pub record Planned (number : ℕ) (d : Deed) (e : Effect) : Type 0 where
+pub record Planned (number own : ℕ) (d : Deed) (e : Effect) : Type 0 where
   pub told : e .number ≡ number
-  pub done : number ≡ 0 → e ≡ unread d
+  pub done : number ≡ 0 → e ≡ readWith own d

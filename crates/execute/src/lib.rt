@@ -13,13 +13,14 @@ ghost use Rattle.execute_deeds.specs.Deeds.{effectOf};
 ghost use Rattle.decode_shapes.specs.declared.Decoded.the-variants.{Instruction};
 ghost use Rattle.decode.specs.Lengths.{lengthOf};
 ghost use Rattle.execute_operands.specs.Changes.{nothing};
-ghost use Rattle.execute.specs.Execute.{performed, deedOf, executed, executeOf};
+ghost use Rattle.execute.specs.Execute.{decodedAt, performed, deedOf, lengthFrom, executed, executeOf, executeCount};
 ghost use Rattle.execute.specs.Plan.{laterNumber, planNumber, Planned};
 ghost use Rattle.execute.specs.Kept.{deedAt};
 
-// What an instruction answers: its number, and the channel after it.
+// What an instruction answers: its number, how many bytes it read and stored, and the channel after it.
 pub struct Done {
     pub number: u32,
+    pub count: u32,
     pub channel: Channel,
 }
 
@@ -139,25 +140,27 @@ fn perform(
 
 // A refusal: the channel as it was, and nothing stored.
 fn refused(c: Channel, number: u32) -> Effect
-    ensures { λ r. ⌜ r ≡ record { number = number; channel = c; change = nothing } ⌝ }
+    ensures { λ r. ⌜ r ≡ record { number = number; reads = 0; channel = c; change = nothing } ⌝ }
 {
     Effect {
         number,
+        reads: 0,
         channel: c,
         change: changes::nothing(),
     }
 }
 
-// An instruction of a channel that was decoded and has `count` bytes, worked out and not yet stored.
+// An instruction of a channel that was decoded and has `count` bytes, worked out and not yet stored; its own bytes are
+// among those that are read.
 fn shaped(shape: Shape, count: u32, c: Channel, busy: u32, sys: &[u8], io: &[u8]) -> Effect
     requires { ⌜ count ≡ lengthOf shape ⌝ }
-    ensures { λ r. ⌜ Planned (laterNumber (Instruction shape) (buffers (now (sys .entry)) (now (io .entry))) c busy) (deedOf shape (buffers (now (sys .entry)) (now (io .entry))) c busy) r ⌝ }
+    ensures { λ r. ⌜ Planned (laterNumber (Instruction shape) (buffers (now (sys .entry)) (now (io .entry))) c busy) (lengthOf shape) (deedOf shape (buffers (now (sys .entry)) (now (io .entry))) c busy) r ⌝ }
 {
     let tp = c.tp;
     if !execute_operands::touchable(memory::onward(tp, 2), count - 2, sys, io) {
         return refused(c, 2);
     }
-    perform(
+    let mut e = perform(
         shape,
         execute_operands::advanced(c, count),
         tp,
@@ -165,12 +168,14 @@ fn shaped(shape: Shape, count: u32, c: Channel, busy: u32, sys: &[u8], io: &[u8]
         busy,
         sys,
         io,
-    )
+    );
+    e.reads = count + e.reads;
+    e
 }
 
 // The next instruction of a channel, worked out and not yet stored; BUSY is at `busy` of system memory.
 fn plan(c: Channel, busy: u32, sys: &[u8], io: &[u8]) -> Effect
-    ensures { λ r. ⌜ Planned (planNumber (buffers (now (sys .entry)) (now (io .entry))) c busy) (deedAt (buffers (now (sys .entry)) (now (io .entry))) c busy) r ⌝ }
+    ensures { λ r. ⌜ Planned (planNumber (buffers (now (sys .entry)) (now (io .entry))) c busy) (lengthFrom (decodedAt (buffers (now (sys .entry)) (now (io .entry))) (c .tp))) (deedAt (buffers (now (sys .entry)) (now (io .entry))) c busy) r ⌝ }
 {
     let tp = c.tp;
     if !execute_operands::touchable(tp, 2, sys, io) {
@@ -188,12 +193,14 @@ fn plan(c: Channel, busy: u32, sys: &[u8], io: &[u8]) -> Effect
 
 // One instruction of a channel, done or refused; BUSY is at `busy` of system memory.
 pub fn execute(c: Channel, busy: u32, sys: &mut [u8], io: &mut [u8]) -> Done
-    ensures { λ r. ⌜ executed (r .number) (r .channel) (buffers (now (sys .exit)) (now (io .exit))) ≡ executeOf c busy (buffers (now (sys .entry)) (now (io .entry))) ⌝ }
+    ensures left { λ r. ⌜ executed (r .number) (r .channel) (buffers (now (sys .exit)) (now (io .exit))) ≡ executeOf c busy (buffers (now (sys .entry)) (now (io .entry))) ⌝ }
+    ensures count { λ r. ⌜ r .count ≡ executeCount c busy (buffers (now (sys .entry)) (now (io .entry))) ⌝ }
 {
     let e = plan(c, busy, sys, io);
     if e.number != 0 {
         return Done {
             number: e.number,
+            count: 0,
             channel: c,
         };
     }
@@ -202,14 +209,21 @@ pub fn execute(c: Channel, busy: u32, sys: &mut [u8], io: &mut [u8]) -> Done
     if !changes::made(change, sys, io) {
         return Done {
             number: 2,
+            count: 0,
             channel: c,
         };
     }
+    let count = e.reads + change.count;
     if channel.cc == c.cc {
-        return Done { number: 0, channel };
+        return Done {
+            number: 0,
+            count,
+            channel,
+        };
     }
     Done {
         number: 0,
+        count,
         channel: machine::updates::fields_renewed(c.cc, channel),
     }
 }

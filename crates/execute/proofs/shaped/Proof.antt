@@ -2,17 +2,17 @@
 -- Assumes nothing.
 use borrow.Author.Needs.{needs}
 use denote.Ref.{now}
-use mathlib.Core.Path.{_≡_, refl, sym, ap, _∙_}
+use mathlib.Core.Path.{refl, sym, ap, _∙_}
 use borrow.Author.Tests.{eqb-false, not-true, not-false}
 use native.Mathlib.Omega.{arith}
 use Rattle.decode.proofs.LengthLaws.{bounded}
-use Rattle.machine.specs.declared.Channel.{Channel}
 use Rattle.memory.specs.Buffers.{buffers}
 use Rattle.memory.specs.Values.{onward}
-use Rattle.execute_operands.specs.Marks.{pastInstruction}
 use Rattle.execute_deeds.specs.Deeds.{effectOf}
-use Rattle.execute.specs.Execute.{performed, deedOf, laterBytes}
-use Rattle.execute.proofs.CodeLaws.{refusal-planned, deed-planned, later-beyond, later-touchable}
+use Rattle.execute_deeds.specs.declared.Effect.{Effect}
+use Rattle.execute.specs.Execute.{laterBytes}
+use Rattle.execute.proofs.CodeLaws.{refusal-planned, deed-planned, performed-deed, later-beyond, later-touchable}
+use Rattle.execute.proofs.CountLaws.{reads-most}
 use Rattle.execute.proofs.shaped.Statement.{statement}
 use Rattle.execute.proofs.shaped.Tie as tie
 
@@ -42,15 +42,22 @@ advanced-requires c κs = search needs
 perform-requires : tie.Need-perform-requires
 perform-requires c κs = search needs
 
-returns-2 : tie.Need-returns-2
-unfolding laterBytes deedOf
-returns-2 c =
-    let a = c .before .before .before .before .before .before .before .before .args in
+add-e : tie.Need-add-e
+unfolding effectOf
+add-e c =
+    let a = c .before .before .before .before .before .before .before .before .before .args in
     let m = buffers (now (a .sys)) (now (a .io)) in
-    let later = simp (c .before .before .before .before .onward .ensures, c .before .before .before .before .before .before .before .before .pre) at (sym (c .before .before .before .touchable .ensures) ∙ not-false _ (c .before .before .if1 .left)) in
-    let e : c .perform .result ≡ effectOf m (deedOf (a .shape) m (a .c) (a .busy)) =
-    c .perform .ensures ∙ ap (λ (x : Channel). effectOf m (performed (a .shape) m x (a .c .tp) (a .c .armed) (a .busy))) (c .before .advanced .ensures ∙ ap (pastInstruction (a .c)) (c .before .before .before .before .before .before .before .before .pre)) in
-    deed-planned m e (later-touchable m (a .c) (a .busy) (a .shape) later)
+    let e = performed-deed m (a .c) (a .busy) (a .shape) (a .count) (c .before .before .advanced .result) (c .before .perform .result) (c .before .perform .ensures) (c .before .before .advanced .ensures) (c .before .before .before .before .before .before .before .before .before .pre) in
+    omega (arith, c .before .before .before .before .before .before .before .before .before .pre, ap (λ (x : Effect). x .reads) e, reads-most m (a .c) (a .busy) (a .shape))
+
+returns-2 : tie.Need-returns-2
+unfolding laterBytes
+returns-2 c =
+    let a = c .before .before .before .before .before .before .before .before .before .args in
+    let m = buffers (now (a .sys)) (now (a .io)) in
+    let later = simp (c .before .before .before .before .before .onward .ensures, c .before .before .before .before .before .before .before .before .before .pre) at (sym (c .before .before .before .before .touchable .ensures) ∙ not-false _ (c .before .before .before .if1 .left)) in
+    let e = performed-deed m (a .c) (a .busy) (a .shape) (a .count) (c .before .before .advanced .result) (c .before .perform .result) (c .before .perform .ensures) (c .before .before .advanced .ensures) (c .before .before .before .before .before .before .before .before .before .pre) in
+    deed-planned m (a .count) (c .before .perform .result) e (later-touchable m (a .c) (a .busy) (a .shape) later) (c .before .before .before .before .before .before .before .before .before .pre)
 
 pub shaped-spec : {M : Type 1} → statement M
 shaped-spec =
@@ -63,4 +70,5 @@ shaped-spec =
     returns
     advanced-requires
     perform-requires
+    add-e
     returns-2)
