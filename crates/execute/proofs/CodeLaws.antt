@@ -136,7 +136,7 @@ module _ (m : Buffers) (c : Channel) (busy : ℕ) where
   pub none-counted : (n : ℕ) → executeOf c busy m ≡ executed n c m → (n ≡ 0 → ⊥) → 0 ≡ executeCount c busy m
   unfolding executeCount
   none-counted n e ne =
-      sym (refused-counts (executeNumber m c busy) (touchedByInstruction m c busy) (λ z. ne (sym (ap (λ (o : Executed). o .number) e) ∙ number-is c busy m ∙ z)))
+      sym (refused-counts (executeOf c busy m .number) (touchedByInstruction m c busy) (λ z. ne (sym (ap (λ (o : Executed). o .number) e) ∙ z)))
 
   -- what is read and stored of a plan is at most ten bytes
   pub plan-most : (e : Effect) → e ≡ readWith (lengthFrom (decodedAt m (c .tp))) (deedAt m c busy) → e .reads + e .change .count ≤ 10
@@ -147,4 +147,4 @@ module _ (m : Buffers) (c : Channel) (busy : ℕ) where
   unfolding executeCount
   plan-counted e is z =
       ap (λ (x : Effect). x .reads + x .change .count) is
-      ∙ sym (done-counts (executeNumber m c busy) (touchedByInstruction m c busy) z ∙ touched-length m c busy z)
+      ∙ sym (done-counts (executeOf c busy m .number) (touchedByInstruction m c busy) (number-is c busy m ∙ z) ∙ touched-length m c busy z)

@@ -125,4 +125,4 @@ executeOf c busy m =
 
 -- how many bytes an instruction reads and stores; none where it is refused
 unfoldable pub executeCount : Channel → ℕ → Buffers → ℕ
-executeCount c busy m = counted (executeNumber m c busy) (touchedByInstruction m c busy)
+executeCount c busy m = counted (executeOf c busy m .number) (touchedByInstruction m c busy)

@@ -13,8 +13,8 @@ use Rattle.transfer.proofs.external_end.Kinds as external-end-kinds
 use Rattle.transfer.proofs.external_end.Reads as external-end-reads
 
 pub transfer-determined : (κs : Lfts 2) (a : Dens κs transfer-kinds.ps) (r q : resT transfer-kinds.r κs .Denot) (e f : AtExit (endedOf 2 transfer-kinds.ps transfer-kinds.r) κs)
-    → transfer-reads.Post κs a r e → transfer-reads.Post κs a q f → transferred (r .number) (r .channel) (buffers (now (e .1 .0)) (now (e .1 .1 .0))) ≡ transferred (q .number) (q .channel) (buffers (now (f .1 .0)) (now (f .1 .1 .0)))
-transfer-determined κs a r q e f p w = p ∙ sym w
+    → transfer-reads.Post κs a r e → transfer-reads.Post κs a q f → (transferred (r .number) (r .channel) (buffers (now (e .1 .0)) (now (e .1 .1 .0))) ≡ transferred (q .number) (q .channel) (buffers (now (f .1 .0)) (now (f .1 .1 .0)))) × (r .count ≡ q .count)
+transfer-determined κs a r q e f p w = (p .0 ∙ sym (w .0), p .1 ∙ sym (w .1))
 
 pub external-end-determined : (κs : Lfts 0) (a : Dens κs external-end-kinds.ps) (r q : resT external-end-kinds.r κs .Denot) (e f : AtExit (endedOf 0 external-end-kinds.ps external-end-kinds.r) κs)
     → external-end-reads.Post κs a r e → external-end-reads.Post κs a q f → r ≡ q

@@ -3,6 +3,7 @@ pub mod FetchLaws
 pub mod MatchLaws
 pub mod LeftoverLaws
 pub mod StepLaws
+pub mod CountLaws
 pub mod KeptLaws
 pub mod BlockLaws
 pub mod Determined

@@ -2,19 +2,20 @@
 -- Assumes nothing.
 use borrow.Author.Tests.{eqb-false}
 use lib.Dec.{eqb}
+use lib.ListN.{length}
 use mathlib.Core.Bool.{Bool, true, false, not}
 use mathlib.Core.Logic.{_↔_}
 use mathlib.Core.Path.{_≡_, refl, sym, ap, _∙_}
 use Rattle.machine.proofs.OutcomeLaws.{first-right}
 use Rattle.machine.proofs.StageLaws.{two-exactly}
-use Rattle.machine.specs.Outcomes.{unless, first}
+use Rattle.machine.specs.Outcomes.{unless, first, counted}
 use Rattle.machine.specs.Stages.{stagesNumber, stagesTouched}
 use Rattle.machine.specs.declared.Channel.{Channel}
 use Rattle.memory.specs.Buffers.{Buffers}
 use Rattle.memory.specs.Places.{allPass, allTouchable}
 use Rattle.transfer.specs.Ends.{externallyEnded}
 use Rattle.transfer.specs.Reads.{dataOf}
-use Rattle.transfer.specs.Steps.{Transfer, transferred, touchedByTransfer, badMode, transferStages, TransferGiven5, TransferGiven2, TransferGiven0, transferNumber, transferOf}
+use Rattle.transfer.specs.Steps.{Transfer, transferred, touchedByTransfer, badMode, transferStages, TransferGiven5, TransferGiven2, TransferGiven0, transferNumber, transferOf, transferCount}
 use Rattle.transfer.specs.Stores.{movedChannel, movedMemory}
 
 -- no two outcomes meet the contract of a transfer step
@@ -45,6 +46,19 @@ pub outcome-0 : (c : Channel) (m : Buffers) → badMode c ≡ false → allTouch
     → transferOf c m ≡ transferred 0 (movedChannel c (dataOf c m)) (movedMemory c (dataOf c m) m)
 unfolding transferOf first unless
 outcome-0 c m h l = rw (chain c m, h, l)
+
+-- the first two count nothing, a done one its list
+pub counts-5 : (c : Channel) (m : Buffers) → badMode c ≡ true → 0 ≡ transferCount c m
+unfolding transferCount counted
+counts-5 c m h = rw (outcome-5 c m h)
+
+pub counts-2 : (c : Channel) (m : Buffers) → badMode c ≡ false → allTouchable m (touchedByTransfer c m) ≡ false → 0 ≡ transferCount c m
+unfolding transferCount counted
+counts-2 c m h l = rw (outcome-2 c m h l)
+
+pub counts-0 : (c : Channel) (m : Buffers) → badMode c ≡ false → allTouchable m (touchedByTransfer c m) ≡ true → length (touchedByTransfer c m) ≡ transferCount c m
+unfolding transferCount counted
+counts-0 c m h l = rw (outcome-0 c m h l)
 
 -- the three cases of a step: what holds of each outcome under its condition holds of the step
 pub by-number : (c : Channel) (m : Buffers) (P : Transfer → Type 0)

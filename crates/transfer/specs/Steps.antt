@@ -2,13 +2,13 @@
 use mathlib.Core.Bool.{Bool, true, false, not, _&&_, _||_}
 use mathlib.Core.List.{List, [], _∷_, _++_}
 use mathlib.Core.Path.{_≡_}
-use Prim.Native.Nat.{ℕ}
+use Prim.Native.Nat.{ℕ, _+_}
 use lib.Dec.{eqb}
 use Rattle.words.specs.Choice.{pick}
 use Rattle.memory.specs.Buffers.{Buffers}
 use Rattle.memory.specs.Places.{Place, allTouchable}
 use Rattle.machine.specs.declared.Channel.{Channel}
-use Rattle.machine.specs.Outcomes.{unless}
+use Rattle.machine.specs.Outcomes.{unless, counted}
 use Rattle.machine.specs.Stages.{Stage, stage, stagesNumber}
 use Rattle.transfer.specs.Sides.{source, destination}
 use Rattle.transfer.specs.Reads.{dataOf, readPlaces}
@@ -26,6 +26,10 @@ transferred number c m = record { number = number; channel = c; memory = m }
 -- every byte that the step reads or stores, each access once (§7.11)
 unfoldable pub touchedByTransfer : Channel → Buffers → List Place
 touchedByTransfer c m = readPlaces c m ++ storedPlaces c (dataOf c m)
+
+-- how many those are: the source's one or two, the destination's one or two, and the translated one
+abbrev pub accesses : Bool → Bool → Bool → ℕ
+accesses two stored translated = pick two 2 1 + pick stored 2 1 + pick translated 1 0
 
 -- a mode that is refused: SYN 11, or translation with a side of 16 bits (§7.11)
 unfoldable pub badMode : Channel → Bool
@@ -57,3 +61,7 @@ transferOf c m =
     pick (eqb (transferNumber c m) 0)
     (transferred 0 (movedChannel c (dataOf c m)) (movedMemory c (dataOf c m) m))
     (transferred (transferNumber c m) c m)
+
+-- how many bytes the step reads and stores; none where it is refused
+unfoldable pub transferCount : Channel → Buffers → ℕ
+transferCount c m = counted (transferOf c m .number) (touchedByTransfer c m)

@@ -5,7 +5,7 @@ ghost use mathlib.Core.Path.{_≡_};
 ghost use Rattle.memory.specs.Buffers.{buffers};
 ghost use Rattle.transfer.specs.Sides.{setupOf};
 ghost use Rattle.transfer.specs.Ends.{externallyEnded};
-ghost use Rattle.transfer.specs.Steps.{badMode, transferred, transferOf};
+ghost use Rattle.transfer.specs.Steps.{accesses, badMode, transferred, transferOf, transferCount};
 
 // The two sides, and what the channel says of a step.
 mod sides;
@@ -37,9 +37,10 @@ struct Data {
     second: u8,
 }
 
-// What a transfer step answers: its number, 0 for done, and the channel.
+// What a transfer step answers: its number, 0 for done, how many bytes it read and stored, and the channel.
 pub struct Transferred {
     pub number: u32,
+    pub count: u32,
     pub channel: Channel,
 }
 
@@ -56,14 +57,27 @@ fn bad_mode(c: Channel, p: Setup) -> bool
 
 // A refused step: the channel as it was.
 fn refused(c: Channel, number: u32) -> Transferred
-    ensures { λ r. ⌜ r ≡ record { number = number; channel = c } ⌝ }
+    ensures { λ r. ⌜ r ≡ record { number = number; count = 0; channel = c } ⌝ }
 {
-    Transferred { number, channel: c }
+    Transferred {
+        number,
+        count: 0,
+        channel: c,
+    }
+}
+
+// How many bytes a step reads and stores, by whether two move, two are stored, and a byte is translated.
+fn count(two: bool, stored: bool, translated: bool) -> u32
+    ensures { λ r. ⌜ r ≡ accesses two stored translated ⌝ }
+{
+    let moved = stores::one_or_two(two) as u32 + stores::one_or_two(stored) as u32;
+    if translated { moved + 1 } else { moved }
 }
 
 // One transfer step.
 pub fn transfer(c: Channel, sys: &mut [u8], io: &mut [u8]) -> Transferred
-    ensures { λ r. ⌜ transferred (r .number) (r .channel) (buffers (now (sys .exit)) (now (io .exit))) ≡ transferOf c (buffers (now (sys .entry)) (now (io .entry))) ⌝ }
+    ensures left { λ r. ⌜ transferred (r .number) (r .channel) (buffers (now (sys .exit)) (now (io .exit))) ≡ transferOf c (buffers (now (sys .entry)) (now (io .entry))) ⌝ }
+    ensures count { λ r. ⌜ r .count ≡ transferCount c (buffers (now (sys .entry)) (now (io .entry))) ⌝ }
 {
     let p = sides::plan(c);
     if bad_mode(c, p) {
@@ -80,7 +94,12 @@ pub fn transfer(c: Channel, sys: &mut [u8], io: &mut [u8]) -> Transferred
         return refused(c, 2);
     }
     let channel = done.channel;
-    Transferred { number: 0, channel }
+    let f = c.fields;
+    Transferred {
+        number: 0,
+        count: count(p.two, done.two, f.translates),
+        channel,
+    }
 }
 
 // The end that EXT brings: TP gains the offset of TX and XF clears; where TX is off nothing changes.

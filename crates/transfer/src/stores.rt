@@ -46,7 +46,7 @@ fn compare(c: Channel, p: Setup, d: Data) -> Compared
 }
 
 // The number of bytes, of two or of one.
-fn one_or_two(two: bool) -> u16
+pub(crate) fn one_or_two(two: bool) -> u16
     ensures { λ r. ⌜ r ≡ pick two 2 1 ⌝ }
 {
     if two { 2 } else { 1 }

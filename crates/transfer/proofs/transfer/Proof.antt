@@ -3,6 +3,7 @@
 use borrow.Author.Needs.{needs}
 use borrow.Author.Tests.{not-true, not-false}
 use denote.Ref.{now}
+use lib.ListN.{length}
 use mathlib.Core.Bool.{Bool, true, false, _&&_}
 use mathlib.Core.Path.{_≡_, sym, ap, ap₂, _∙_}
 use Rattle.machine.specs.declared.Channel.{Channel}
@@ -11,7 +12,7 @@ use Rattle.memory.specs.Places.{allTouchable}
 use Rattle.transfer.specs.Fetches.{fetchOf}
 use Rattle.transfer.specs.Reads.{dataOf, readPlaces}
 use Rattle.transfer.specs.Sides.{destination, setupOf}
-use Rattle.transfer.specs.Steps.{transferred, touchedByTransfer}
+use Rattle.transfer.specs.Steps.{transferred, touchedByTransfer, accesses}
 use Rattle.transfer.specs.Stores.{storesTwo, movedChannel, putOn, movedMemory, placesOn, storedPlaces}
 use Rattle.transfer.specs.declared.Data.{Data}
 use Rattle.transfer.specs.declared.Setup.{Setup}
@@ -19,8 +20,9 @@ use Rattle.transfer.specs.declared.Side.{Side}
 use Rattle.transfer.specs.declared.Transferred.{Transferred}
 use Rattle.transfer.specs.declared.reads.Fetched.{Fetched}
 use Rattle.transfer.specs.declared.stores.Done.{Done}
+use Rattle.transfer.proofs.CountLaws.{touched-length}
 use Rattle.transfer.proofs.FetchLaws.{fetch-touchable, fetch-bytes}
-use Rattle.transfer.proofs.StepLaws.{outcome-5, outcome-2, outcome-0}
+use Rattle.transfer.proofs.StepLaws.{outcome-5, outcome-2, outcome-0, counts-5, counts-2, counts-0}
 use Rattle.transfer.proofs.TouchLaws.{touched-all}
 use Rattle.transfer.proofs.transfer.Statement.{statement}
 use Rattle.transfer.proofs.transfer.Tie as tie
@@ -51,6 +53,10 @@ module _ (c : Channel) (m : Buffers) (p : Setup) (f : Fetched) (done : Done) (ep
     all : (b : Bool) → allTouchable m (placesOn (p .destination) (done .two)) ≡ b → allTouchable m (touchedByTransfer c m) ≡ b
     all b h = touched-all c m ∙ ap₂ (λ (x y : Bool). x && y) (sym reads ∙ touchable) (sym (ap (allTouchable m) places) ∙ h)
 
+    counts : accesses (p .two) (done .two) (c .fields .translates) ≡ length (touchedByTransfer c m)
+    unfolding setupOf
+    counts = ap₂ (λ (x : Setup) (y : Done). accesses (x .two) (y .two) (c .fields .translates)) ep becomes ∙ sym (touched-length c m)
+
 plan-requires : tie.Need-plan-requires
 plan-requires c κs = search needs
 
@@ -64,8 +70,8 @@ returns : tie.Need-returns
 returns c =
     let a = c .before .before .before .before .before .before .args in
     let m = buffers (now (a .sys)) (now (a .io)) in
-    ap (λ (x : Transferred). transferred (x .number) (x .channel) m) (c .refused .ensures)
-    ∙ sym (outcome-5 (a .c) m (sym (c .before .before .bad-mode .ensures) ∙ c .before .if1 .taken))
+    let bad = sym (c .before .before .bad-mode .ensures) ∙ c .before .if1 .taken in
+    (ap (λ (x : Transferred). transferred (x .number) (x .channel) m) (c .refused .ensures) ∙ sym (outcome-5 (a .c) m bad), ap (λ (x : Transferred). x .count) (c .refused .ensures) ∙ counts-5 (a .c) m bad)
 
 fetch-requires : tie.Need-fetch-requires
 fetch-requires c κs = (c .before .before .before .before .plan .ensures, sym (c .before .before .before .bad-mode .ensures) ∙ c .before .before .if1 .left)
@@ -84,8 +90,12 @@ returns-2 c =
     let a = c .before .before .before .before .before .before .before .before .before .before .before .args in
     let m = buffers (now (a .sys)) (now (a .io)) in
     let gone : allTouchable m (readPlaces (a .c) m) ≡ false = sym (ap (λ (x : Fetched). x .touchable) (c .before .before .before .fetch .ensures) ∙ fetch-touchable (a .c) m) ∙ not-true _ (c .before .if2 .taken) in
-    ap (λ (x : Transferred). transferred (x .number) (x .channel) m) (c .refused2 .ensures)
-    ∙ sym (outcome-2 (a .c) m (sym (c .before .before .before .before .before .before .before .bad-mode .ensures) ∙ c .before .before .before .before .before .before .if1 .left) (touched-all (a .c) m ∙ rw gone))
+    let good = sym (c .before .before .before .before .before .before .before .bad-mode .ensures) ∙ c .before .before .before .before .before .before .if1 .left in
+    let touched : allTouchable m (touchedByTransfer (a .c) m) ≡ false = touched-all (a .c) m ∙ rw gone in (
+      ap (λ (x : Transferred). transferred (x .number) (x .channel) m) (c .refused2 .ensures)
+          ∙ sym (outcome-2 (a .c) m good touched),
+      ap (λ (x : Transferred). x .count) (c .refused2 .ensures) ∙ counts-2 (a .c) m good touched,
+    )
 
 finish-requires : tie.Need-finish-requires
 finish-requires c κs = c .before .before .before .before .before .before .before .before .plan .ensures
@@ -108,8 +118,11 @@ returns-3 c =
     let m = buffers (now (a .sys)) (now (a .io)) in
     let no = not-true _ (c .before .if3 .taken) in
     let touched = all (a .c) m (c .before .before .before .before .before .before .before .before .before .before .before .before .before .before .before .before .before .before .before .plan .result) (c .before .before .before .before .before .before .before .before .before .before .before .before .before .before .fetch .result) (c .before .before .before .before .before .before .before .before .before .before .finish .result) (c .before .before .before .before .before .before .before .before .before .before .before .before .before .before .before .before .before .before .before .plan .ensures) (c .before .before .before .before .before .before .before .before .before .before .before .before .before .before .fetch .ensures) (c .before .before .before .before .before .before .before .before .before .before .finish .ensures) (not-false _ (c .before .before .before .before .before .before .before .before .before .before .before .before .if2 .left)) false (sym (c .before .before .before .before .before .before .put .ensures .0) ∙ no) in
-    ap₂ (λ (x : Transferred) (y : Buffers). transferred (x .number) (x .channel) y) (c .refused3 .ensures) (c .before .before .before .before .before .before .put .ensures .1 ∙ rw no)
-    ∙ sym (outcome-2 (a .c) m (sym (c .before .before .before .before .before .before .before .before .before .before .before .before .before .before .before .before .before .before .bad-mode .ensures) ∙ c .before .before .before .before .before .before .before .before .before .before .before .before .before .before .before .before .before .if1 .left) touched)
+    let good = sym (c .before .before .before .before .before .before .before .before .before .before .before .before .before .before .before .before .before .before .bad-mode .ensures) ∙ c .before .before .before .before .before .before .before .before .before .before .before .before .before .before .before .before .before .if1 .left in (
+      ap₂ (λ (x : Transferred) (y : Buffers). transferred (x .number) (x .channel) y) (c .refused3 .ensures) (c .before .before .before .before .before .before .put .ensures .1 ∙ rw no)
+          ∙ sym (outcome-2 (a .c) m good touched),
+      ap (λ (x : Transferred). x .count) (c .refused3 .ensures) ∙ counts-2 (a .c) m good touched,
+    )
 
 same-length-5 : tie.Need-same-length-5
 same-length-5 c = search needs
@@ -117,17 +130,27 @@ same-length-5 c = search needs
 same-length-6 : tie.Need-same-length-6
 same-length-6 c = search needs
 
+count-requires : tie.Need-count-requires
+count-requires c κs = search needs
+
 returns-4 : tie.Need-returns-4
 returns-4 c =
-    let a = c .before .before .before .before .before .before .before .before .before .before .before .before .before .before .before .before .before .before .before .before .before .before .args in
+    let a = c .before .before .before .before .before .before .before .before .before .before .before .before .before .before .before .before .before .before .before .before .before .before .before .before .args in
     let m = buffers (now (a .sys)) (now (a .io)) in
-    let yes = not-false _ (c .before .if3 .left) in
-    let touchable = not-false _ (c .before .before .before .before .before .before .before .before .before .before .before .before .if2 .left) in
-    let touched = all (a .c) m (c .before .before .before .before .before .before .before .before .before .before .before .before .before .before .before .before .before .before .before .plan .result) (c .before .before .before .before .before .before .before .before .before .before .before .before .before .before .fetch .result) (c .before .before .before .before .before .before .before .before .before .before .finish .result) (c .before .before .before .before .before .before .before .before .before .before .before .before .before .before .before .before .before .before .before .plan .ensures) (c .before .before .before .before .before .before .before .before .before .before .before .before .before .before .fetch .ensures) (c .before .before .before .before .before .before .before .before .before .before .finish .ensures) touchable true (sym (c .before .before .before .before .before .before .put .ensures .0) ∙ yes) in
-    ap₂ (λ (x : Done) (y : Buffers). transferred 0 (x .channel) y)
-    (becomes (a .c) m (c .before .before .before .before .before .before .before .before .before .before .before .before .before .before .before .before .before .before .before .plan .result) (c .before .before .before .before .before .before .before .before .before .before .before .before .before .before .fetch .result) (c .before .before .before .before .before .before .before .before .before .before .finish .result) (c .before .before .before .before .before .before .before .before .before .before .before .before .before .before .before .before .before .before .before .plan .ensures) (c .before .before .before .before .before .before .before .before .before .before .before .before .before .before .fetch .ensures) (c .before .before .before .before .before .before .before .before .before .before .finish .ensures) touchable)
-    (c .before .before .before .before .before .before .put .ensures .1 ∙ rw yes (puts (a .c) m (c .before .before .before .before .before .before .before .before .before .before .before .before .before .before .before .before .before .before .before .plan .result) (c .before .before .before .before .before .before .before .before .before .before .before .before .before .before .fetch .result) (c .before .before .before .before .before .before .before .before .before .before .finish .result) (c .before .before .before .before .before .before .before .before .before .before .before .before .before .before .before .before .before .before .before .plan .ensures) (c .before .before .before .before .before .before .before .before .before .before .before .before .before .before .fetch .ensures) (c .before .before .before .before .before .before .before .before .before .before .finish .ensures) touchable))
-    ∙ sym (outcome-0 (a .c) m (sym (c .before .before .before .before .before .before .before .before .before .before .before .before .before .before .before .before .before .before .bad-mode .ensures) ∙ c .before .before .before .before .before .before .before .before .before .before .before .before .before .before .before .before .before .if1 .left) touched)
+    let put = c .before .before .before .before .before .before .before .before .put .ensures in
+    let yes = not-false _ (c .before .before .before .if3 .left) in
+    let touchable = not-false _ (c .before .before .before .before .before .before .before .before .before .before .before .before .before .before .if2 .left) in
+    let good = sym (c .before .before .before .before .before .before .before .before .before .before .before .before .before .before .before .before .before .before .before .before .bad-mode .ensures) ∙ c .before .before .before .before .before .before .before .before .before .before .before .before .before .before .before .before .before .before .before .if1 .left in
+    let p = c .before .before .before .before .before .before .before .before .before .before .before .before .before .before .before .before .before .before .before .before .before .plan in
+    let f = c .before .before .before .before .before .before .before .before .before .before .before .before .before .before .before .before .fetch in
+    let done = c .before .before .before .before .before .before .before .before .before .before .before .before .finish in
+    let touched = all (a .c) m (p .result) (f .result) (done .result) (p .ensures) (f .ensures) (done .ensures) touchable true (sym (put .0) ∙ yes) in (
+      ap₂ (λ (x : Done) (y : Buffers). transferred 0 (x .channel) y)
+          (becomes (a .c) m (p .result) (f .result) (done .result) (p .ensures) (f .ensures) (done .ensures) touchable)
+          (put .1 ∙ rw yes (puts (a .c) m (p .result) (f .result) (done .result) (p .ensures) (f .ensures) (done .ensures) touchable))
+          ∙ sym (outcome-0 (a .c) m good touched),
+      c .count .ensures ∙ counts (a .c) m (p .result) (f .result) (done .result) (p .ensures) (f .ensures) (done .ensures) touchable ∙ counts-0 (a .c) m good touched,
+    )
 
 pub transfer-spec : {M : Type 1} → statement M
 transfer-spec =
@@ -148,6 +171,7 @@ transfer-spec =
     same-length-3
     same-length-4
     returns-3
+    count-requires
     same-length-5
     same-length-6
     returns-4)
