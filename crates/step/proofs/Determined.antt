@@ -17,5 +17,5 @@ pub choose-determined : (κs : Lfts 0) (a : Dens κs choose-kinds.ps) (r q : res
 choose-determined κs a r q e f p w = p ∙ sym w
 
 pub step-determined : (κs : Lfts 2) (a : Dens κs step-kinds.ps) (r q : resT step-kinds.r κs .Denot) (e f : AtExit (endedOf 2 step-kinds.ps step-kinds.r) κs)
-    → step-reads.Post κs a r e → step-reads.Post κs a q f → left r (buffers (now (e .1 .0)) (now (e .1 .1 .0))) ≡ left q (buffers (now (f .1 .0)) (now (f .1 .1 .0)))
-step-determined κs a r q e f p w = p ∙ sym w
+    → step-reads.Post κs a r e → step-reads.Post κs a q f → (left r (buffers (now (e .1 .0)) (now (e .1 .1 .0))) ≡ left q (buffers (now (f .1 .0)) (now (f .1 .1 .0)))) × (r .count ≡ q .count)
+step-determined κs a r q e f p w = (p .0 ∙ sym (w .0), p .1 ∙ sym (w .1))

@@ -34,19 +34,20 @@ stepped number s m channel kind = record { number = number; state = s; memory = 
 abbrev pub left : Stepped → Buffers → Step
 left a m = stepped (a .number) (a .state) m (a .channel) (a .kind)
 
--- a refused step answers the state as it was, of no channel and no kind (§3.3)
+-- a refused step answers the state as it was, of no channel and no kind, and no byte touched (§3.3)
 abbrev pub refusedAs : ℕ → State → Stepped
-refusedAs number s = record { number = number; state = s; channel = 0; kind = Nothing }
+refusedAs number s = record { number = number; count = 0; state = s; channel = 0; kind = Nothing }
 
 -- a done step puts its channel back and makes it last (§5.6)
-abbrev pub doneAs : State → Bool → Channel → Kind → Stepped
-doneAs s second c kind = record { number = 0; state = withLast (withChannel s second c) second; channel = channelNumber second; kind = kind }
+abbrev pub doneAs : State → Bool → Channel → Kind → ℕ → Stepped
+doneAs s second c kind count =
+    record { number = 0; count = count; state = withLast (withChannel s second c) second; channel = channelNumber second; kind = kind }
 
 abbrev pub refusedStep : ℕ → State → Buffers → Step
 refusedStep number s m = left (refusedAs number s) m
 
 abbrev pub doneStep : State → Bool → Channel → Buffers → Kind → Step
-doneStep s second c m kind = left (doneAs s second c kind) m
+doneStep s second c m kind = stepped 0 (withLast (withChannel s second c) second) m (channelNumber second) kind
 
 -- what a channel's own step came to, refused or done
 unfoldable pub settledStep : ℕ → State → Buffers → Bool → Channel → Buffers → Kind → Step

@@ -2,6 +2,7 @@
 use Prim.Native.Nat.{ℕ}
 use mathlib.Core.List.{List, []}
 use Rattle.execute.specs.Execute.{touchedByInstruction as executed}
+use Rattle.machine.specs.Outcomes.{counted}
 use Rattle.machine.specs.Psw.{transferring}
 use Rattle.machine.specs.Stages.{stagesTouched}
 use Rattle.machine.specs.States.{channelOf, blockOf, busyIn}
@@ -11,6 +12,7 @@ use Rattle.memory.specs.Places.{Place}
 use Rattle.transfer.specs.Steps.{transferStages, touchedByTransfer as moved}
 use Rattle.words.specs.Choice.{pick}
 use Rattle.step.specs.Choosing.{choiceOf}
+use Rattle.step.specs.Step.{stepOf}
 use Rattle.step.specs.declared.turns.Choice.{Choice}
 use Rattle.step.specs.declared.turns.Choice.the-variants.{Nobody, Ends, Steps}
 
@@ -24,6 +26,10 @@ touchedIn (Steps second) s m =
 -- the bytes that a step reads or stores
 unfoldable pub touchedByStep : State → Buffers → ℕ → List Place
 touchedByStep s m lines = touchedIn (choiceOf s lines) s m
+
+-- how many they are; none where the step is refused
+unfoldable pub stepCount : State → Buffers → ℕ → ℕ
+stepCount s m lines = counted (stepOf s m lines .number) (touchedByStep s m lines)
 
 -- the bytes of a choice up to the stage where it stops: a bad mode stops a transfer step before its first byte (§3.7)
 unfoldable pub reachedIn : Choice → State → Buffers → List Place

@@ -6,6 +6,12 @@ ghost use mathlib.Core.Path.{_≡_};
 ghost use Rattle.memory.specs.Buffers.{buffers};
 ghost use lib.Dec.{eqb};
 ghost use Rattle.words.specs.Choice.{pick};
+ghost use Rattle.machine.specs.Outcomes.{counted};
+ghost use Rattle.machine.specs.States.{channelOf, blockOf, busyIn};
+ghost use Rattle.execute.specs.Execute.{touchedByInstruction};
+ghost use Rattle.transfer.specs.Steps.{touchedByTransfer};
+ghost use Rattle.step.specs.declared.turns.Choice.the-variants.{Steps};
+ghost use Rattle.step.specs.Touched.{touchedIn, stepCount};
 ghost use Rattle.step.specs.Step.{left, refusedAs, doneAs, transferStep, instructionStep, channelStep, chosenStep, entryNumber, stepOf};
 
 // Which channel steps.
@@ -19,9 +25,11 @@ pub enum Kind {
     External,
 }
 
-// What a step answers: its number, 0 for done, the state, and the number of the channel and the kind of its step.
+// What a step answers: its number, 0 for done, how many bytes it read and stored, the state, and the number of the
+// channel and the kind of its step.
 pub struct Stepped {
     pub number: u32,
+    pub count: u32,
     pub state: State,
     pub channel: u32,
     pub kind: Kind,
@@ -33,6 +41,7 @@ fn refused(s: State, number: u32) -> Stepped
 {
     Stepped {
         number,
+        count: 0,
         state: s,
         channel: 0,
         kind: Kind::Nothing,
@@ -40,11 +49,12 @@ fn refused(s: State, number: u32) -> Stepped
 }
 
 // A done step: the channel is put back, and it was the last to step.
-fn done(s: State, second: bool, c: Channel, kind: Kind) -> Stepped
-    ensures { λ r. ⌜ r ≡ doneAs s second c kind ⌝ }
+fn done(s: State, second: bool, c: Channel, kind: Kind, count: u32) -> Stepped
+    ensures { λ r. ⌜ r ≡ doneAs s second c kind count ⌝ }
 {
     Stepped {
         number: 0,
+        count,
         state: machine::states::with_last(machine::states::with_channel(s, second, c), second),
         channel: machine::states::number(second),
         kind,
@@ -52,11 +62,11 @@ fn done(s: State, second: bool, c: Channel, kind: Kind) -> Stepped
 }
 
 // What a channel's own step came to.
-fn settled(number: u32, s: State, second: bool, c: Channel, kind: Kind) -> Stepped
-    ensures { λ r. ⌜ r ≡ pick (eqb number 0) (doneAs s second c kind) (refusedAs number s) ⌝ }
+fn settled(number: u32, s: State, second: bool, c: Channel, kind: Kind, count: u32) -> Stepped
+    ensures { λ r. ⌜ r ≡ pick (eqb number 0) (doneAs s second c kind count) (refusedAs number s) ⌝ }
 {
     if number == 0 {
-        done(s, second, c, kind)
+        done(s, second, c, kind, count)
     } else {
         refused(s, number)
     }
@@ -64,26 +74,29 @@ fn settled(number: u32, s: State, second: bool, c: Channel, kind: Kind) -> Stepp
 
 // One transfer step of a channel.
 fn transfer_step(s: State, second: bool, sys: &mut [u8], io: &mut [u8]) -> Stepped
-    ensures { λ r. ⌜ left r (buffers (now (sys .exit)) (now (io .exit))) ≡ transferStep s (buffers (now (sys .entry)) (now (io .entry))) second ⌝ }
+    ensures left { λ r. ⌜ left r (buffers (now (sys .exit)) (now (io .exit))) ≡ transferStep s (buffers (now (sys .entry)) (now (io .entry))) second ⌝ }
+    ensures count { λ r. ⌜ r .count ≡ counted (r .number) (touchedByTransfer (channelOf s second) (buffers (now (sys .entry)) (now (io .entry)))) ⌝ }
 {
     let t = transfer::transfer(machine::states::channel(s, second), sys, io);
     let c = t.channel;
-    settled(t.number, s, second, c, Kind::Transfer)
+    settled(t.number, s, second, c, Kind::Transfer, t.count)
 }
 
 // One instruction of a channel.
 fn instruction_step(s: State, second: bool, sys: &mut [u8], io: &mut [u8]) -> Stepped
-    ensures { λ r. ⌜ left r (buffers (now (sys .exit)) (now (io .exit))) ≡ instructionStep s (buffers (now (sys .entry)) (now (io .entry))) second ⌝ }
+    ensures left { λ r. ⌜ left r (buffers (now (sys .exit)) (now (io .exit))) ≡ instructionStep s (buffers (now (sys .entry)) (now (io .entry))) second ⌝ }
+    ensures count { λ r. ⌜ r .count ≡ counted (r .number) (touchedByInstruction (buffers (now (sys .entry)) (now (io .entry))) (channelOf s second) (busyIn (blockOf s second))) ⌝ }
 {
     let busy = words::sum20(machine::states::block(s, second), 1);
     let e = execute::execute(machine::states::channel(s, second), busy, sys, io);
     let c = e.channel;
-    settled(e.number, s, second, c, Kind::Instruction)
+    settled(e.number, s, second, c, Kind::Instruction, e.count)
 }
 
 // One step of a channel that has its turn.
 fn channel_step(s: State, second: bool, sys: &mut [u8], io: &mut [u8]) -> Stepped
-    ensures { λ r. ⌜ left r (buffers (now (sys .exit)) (now (io .exit))) ≡ channelStep s (buffers (now (sys .entry)) (now (io .entry))) second ⌝ }
+    ensures left { λ r. ⌜ left r (buffers (now (sys .exit)) (now (io .exit))) ≡ channelStep s (buffers (now (sys .entry)) (now (io .entry))) second ⌝ }
+    ensures count { λ r. ⌜ r .count ≡ counted (r .number) (touchedIn (Steps second) s (buffers (now (sys .entry)) (now (io .entry)))) ⌝ }
 {
     let c = machine::states::channel(s, second);
     if machine::psw::transferring(c.psw) {
@@ -95,7 +108,8 @@ fn channel_step(s: State, second: bool, sys: &mut [u8], io: &mut [u8]) -> Steppe
 
 // The step of a choice.
 fn chosen(choice: Choice, s: State, sys: &mut [u8], io: &mut [u8]) -> Stepped
-    ensures { λ r. ⌜ left r (buffers (now (sys .exit)) (now (io .exit))) ≡ chosenStep choice s (buffers (now (sys .entry)) (now (io .entry))) ⌝ }
+    ensures left { λ r. ⌜ left r (buffers (now (sys .exit)) (now (io .exit))) ≡ chosenStep choice s (buffers (now (sys .entry)) (now (io .entry))) ⌝ }
+    ensures count { λ r. ⌜ r .count ≡ counted (r .number) (touchedIn choice s (buffers (now (sys .entry)) (now (io .entry)))) ⌝ }
 {
     match choice {
         Choice::Nobody => refused(s, 1),
@@ -104,6 +118,7 @@ fn chosen(choice: Choice, s: State, sys: &mut [u8], io: &mut [u8]) -> Stepped
             second,
             transfer::external_end(machine::states::channel(s, second)),
             Kind::External,
+            0,
         ),
         Choice::Steps(second) => channel_step(s, second, sys, io),
     }
@@ -122,7 +137,8 @@ pub fn entry_number(s: State, lines: u32, sys: &[u8], io: &[u8]) -> u32
 
 // One step of the machine.
 pub fn step(s: State, sys: &mut [u8], io: &mut [u8], lines: u32) -> Stepped
-    ensures { λ r. ⌜ left r (buffers (now (sys .exit)) (now (io .exit))) ≡ stepOf s (buffers (now (sys .entry)) (now (io .entry))) lines ⌝ }
+    ensures left { λ r. ⌜ left r (buffers (now (sys .exit)) (now (io .exit))) ≡ stepOf s (buffers (now (sys .entry)) (now (io .entry))) lines ⌝ }
+    ensures count { λ r. ⌜ r .count ≡ stepCount s (buffers (now (sys .entry)) (now (io .entry))) lines ⌝ }
 {
     let number = entry_number(s, lines, sys, io);
     if number != 0 {

@@ -5,6 +5,7 @@ use mathlib.Core.Path.{sym, ap, _∙_}
 use Rattle.machine.specs.Psw.{transferring}
 use Rattle.machine.specs.declared.Channel.{Channel}
 use Rattle.step.specs.Step.{channelStep}
+use Rattle.step.specs.Touched.{touchedIn}
 use Rattle.step.proofs.channel_step.Statement.{statement}
 use Rattle.step.proofs.channel_step.Tie as tie
 
@@ -27,10 +28,10 @@ same-length-2 : tie.Need-same-length-2
 same-length-2 c = search needs
 
 returns : tie.Need-returns
-unfolding channelStep
+unfolding channelStep touchedIn
 returns c =
     let flag = sym (c .before .before .before .before .before .before .before .before .transferring .ensures ∙ ap (λ (x : Channel). transferring (x .psw)) (c .before .before .before .before .before .before .before .before .before .channel .ensures)) ∙ c .before .before .before .before .before .before .before .if1 .taken in
-    c .before .before .before .before .transfer-step .ensures ∙ rw flag
+    (c .before .before .before .before .transfer-step .ensures .0 ∙ rw flag, c .before .before .before .before .transfer-step .ensures .1 ∙ rw flag)
 
 same-length-3 : tie.Need-same-length-3
 same-length-3 c = search needs
@@ -39,10 +40,10 @@ same-length-4 : tie.Need-same-length-4
 same-length-4 c = search needs
 
 returns-2 : tie.Need-returns-2
-unfolding channelStep
+unfolding channelStep touchedIn
 returns-2 c =
     let flag = sym (c .before .before .before .before .before .before .before .before .transferring .ensures ∙ ap (λ (x : Channel). transferring (x .psw)) (c .before .before .before .before .before .before .before .before .before .channel .ensures)) ∙ c .before .before .before .before .before .before .before .if1 .left in
-    c .before .before .before .before .instruction-step .ensures ∙ rw flag
+    (c .before .before .before .before .instruction-step .ensures .0 ∙ rw flag, c .before .before .before .before .instruction-step .ensures .1 ∙ rw flag)
 
 pub channel-step-spec : {M : Type 1} → statement M
 channel-step-spec =

@@ -3,10 +3,13 @@
 use borrow.Author.Needs.{needs}
 use denote.Ref.{now}
 use mathlib.Core.Path.{sym, ap, _∙_}
+use Rattle.machine.specs.Outcomes.{counted}
 use Rattle.memory.specs.Buffers.{buffers}
 use Rattle.step.specs.declared.turns.Choice.{Choice}
 use Rattle.step.specs.Step.{left, externalStep, chosenStep}
+use Rattle.step.specs.Touched.{touchedIn}
 use Rattle.step.specs.declared.Stepped.{Stepped}
+use Rattle.step.proofs.StepLaws.{counts-none}
 use Rattle.step.proofs.chosen.Statement.{statement}
 use Rattle.step.proofs.chosen.Tie as tie
 
@@ -35,20 +38,27 @@ channel-step-requires : tie.Need-channel-step-requires
 channel-step-requires c κs = search needs
 
 returns : tie.Need-returns
-unfolding chosenStep
+unfolding chosenStep touchedIn
 returns c =
     let a = c .before .before .before .before .before .args in
     let m = buffers (now (a .sys)) (now (a .io)) in
-    ap (λ (x : Stepped). left x m) (c .refused .ensures) ∙ ap (λ (x : Choice). chosenStep x (a .s) m) (sym (c .before .enum-told .given .1))
+    let r = c .refused .result in
+    let told = sym (c .before .enum-told .given .1) in (
+      ap (λ (x : Stepped). left x m) (c .refused .ensures) ∙ ap (λ (x : Choice). chosenStep x (a .s) m) told,
+      ap (λ (x : Stepped). x .count) (c .refused .ensures) ∙ sym (counts-none (r .number)) ∙ ap (λ (x : Choice). counted (r .number) (touchedIn x (a .s) m)) told,
+    )
 
 returns-2 : tie.Need-returns-2
-unfolding chosenStep externalStep
+unfolding chosenStep externalStep touchedIn
 returns-2 c =
     let a = c .before .before .before .before .before .before .before .before .args in
     let m = buffers (now (a .sys)) (now (a .io)) in
+    let r = c .done .result in
     let e = simp (c .before .external-end .ensures, c .before .before .channel .ensures) at (c .done .ensures) in
-    ap (λ (x : Stepped). left x m) e
-    ∙ ap (λ (x : Choice). chosenStep x (a .s) m) (sym (c .before .before .before .before .choice .given .1))
+    let told = sym (c .before .before .before .before .choice .given .1) in (
+      ap (λ (x : Stepped). left x m) e ∙ ap (λ (x : Choice). chosenStep x (a .s) m) told,
+      ap (λ (x : Stepped). x .count) (c .done .ensures) ∙ sym (counts-none (r .number)) ∙ ap (λ (x : Choice). counted (r .number) (touchedIn x (a .s) m)) told,
+    )
 
 same-length : tie.Need-same-length
 same-length c = search needs
@@ -61,7 +71,9 @@ unfolding chosenStep
 returns-3 c =
     let a = c .before .before .before .before .before .before .before .before .before .before .before .before .args in
     let m = buffers (now (a .sys)) (now (a .io)) in
-    c .before .before .before .before .channel-step .ensures ∙ ap (λ (x : Choice). chosenStep x (a .s) m) (sym (c .before .before .before .before .before .before .before .before .choice2 .given .1))
+    let r = c .before .before .before .before .channel-step in
+    let told = sym (c .before .before .before .before .before .before .before .before .choice2 .given .1) in
+    (r .ensures .0 ∙ ap (λ (x : Choice). chosenStep x (a .s) m) told, r .ensures .1 ∙ ap (λ (x : Choice). counted (r .result .number) (touchedIn x (a .s) m)) told)
 
 pub chosen-spec : {M : Type 1} → statement M
 chosen-spec =
