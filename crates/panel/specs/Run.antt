@@ -5,7 +5,7 @@ use lib.Dec.{eqb, ltb}
 use Rattle.words.specs.Choice.{pick}
 use Rattle.memory.specs.Buffers.{Buffers, withinLimits}
 use Rattle.machine.specs.declared.State.{State}
-use Rattle.machine.specs.declared.Answer.{Answer}
+use Rattle.machine.specs.declared.Made.{Made}
 use Rattle.machine.specs.Outcomes.{Outcome, first, unless}
 use Rattle.machine.specs.States.{isChannel, freshOf}
 use Rattle.attention.specs.Attention.{attentionOf}
@@ -33,7 +33,7 @@ unfoldable pub attendedRun : Outcome → ℕ → ℕ → Run
 attendedRun o lines limit = pick (eqb (o .number) 0) (stepsFrom limit (o .state) (o .memory) lines 0) (ran (o .number) 0 (o .memory))
 
 -- a fresh state gets one attention; a CP that is refused by 10 none (§8.2)
-unfoldable pub startedRun : Answer → Buffers → ℕ → ℕ → ℕ → Run
+unfoldable pub startedRun : Made → Buffers → ℕ → ℕ → ℕ → Run
 startedRun fresh m channel lines limit =
     pick (eqb (fresh .number) 0) (attendedRun (attentionOf (fresh .state) m channel) lines limit) (ran (fresh .number) 0 m)
 

@@ -1,5 +1,5 @@
 // The panel's side: one call from C that runs a channel's program in two lent buffers.
-use machine::Answer;
+use machine::Made;
 use machine::State;
 ghost use mathlib.Core.Path.{_≡_};
 ghost use Rattle.memory.specs.Buffers.{buffers};
@@ -60,7 +60,7 @@ fn attend(s: State, sys: &mut [u8], io: &mut [u8], channel: u32, lines: u32, lim
 
 // A run from a state that was made, or the number by which none was.
 pub fn start(
-    fresh: Answer,
+    fresh: Made,
     sys: &mut [u8],
     io: &mut [u8],
     channel: u32,

@@ -26,7 +26,7 @@ returns c =
     let a = c .before .before .before .before .before .before .before .before .before .before .before .args in
     let m = buffers (now (a .sys)) (now (a .io)) in
     let o = attentionOf (a .s) m (a .channel) in
-    let e = c .before .before .before .before .before .before .attention .ensures in
+    let e = c .before .before .before .before .before .before .attention .ensures .0 in
     ap (λ (x : Outcome). ran (x .number) 0 (x .memory)) e
     ∙ rw (ne-eqb (o .number) 0 (λ z. c .if1 .taken (ap (λ (x : Outcome). x .number) e ∙ z)))
 
@@ -45,7 +45,7 @@ returns-2 c =
     let a = c .before .before .before .before .before .before .before .before .before .before .before .before .before .before .before .before .before .before .before .args in
     let m = buffers (now (a .sys)) (now (a .io)) in
     let o = attentionOf (a .s) m (a .channel) in
-    let e = c .before .before .before .before .before .before .before .before .before .before .before .before .before .before .attention .ensures in
+    let e = c .before .before .before .before .before .before .before .before .before .before .before .before .before .before .attention .ensures .0 in
     c .before .before .before .before .steps .ensures
     ∙ ap (λ (x : Outcome). stepsFrom (a .limit) (x .state) (x .memory) (a .lines) 0) e
     ∙ rw (eq-eqb (o .number) 0 (sym (ap (λ (x : Outcome). x .number) e) ∙ c .before .before .before .before .before .before .before .before .if1 .left))

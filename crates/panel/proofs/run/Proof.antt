@@ -6,7 +6,7 @@ use borrow.Author.Tests.{eq-eqb, ne-eqb}
 use denote.Ref.{now}
 use mathlib.Core.Path.{sym, ap, ap₂, _∙_}
 use native.Mathlib.Nat.{mod-eq-of-lt}
-use Rattle.machine.specs.declared.Answer.{Answer}
+use Rattle.machine.specs.declared.Made.{Made}
 use Rattle.memory.specs.Buffers.{buffers}
 use Rattle.panel.specs.Run.{startedRun, ran, callNumber, runOf}
 use Rattle.panel.proofs.RunLaws.{call-limit}
@@ -52,7 +52,7 @@ returns-2 c =
     let m = buffers (now (a .sys)) (now (a .io)) in
     let n = sym (c .before .before .before .before .before .before .before .before .before .call-number .ensures) ∙ c .before .before .before .before .before .before .before .before .if1 .left in
     c .before .before .before .before .start .ensures
-    ∙ ap₂ (λ (f : Answer) (k : ℕ). startedRun f m (a .channel) (a .lines) k) (c .before .before .before .before .before .before .before .fresh .ensures) (mod-eq-of-lt (call-limit m (a .channel) (a .lines) (a .limit) n))
+    ∙ ap₂ (λ (f : Made) (k : ℕ). startedRun f m (a .channel) (a .lines) k) (c .before .before .before .before .before .before .before .fresh .ensures) (mod-eq-of-lt (call-limit m (a .channel) (a .lines) (a .limit) n))
     ∙ rw (eq-eqb (callNumber m (a .channel) (a .lines) (a .limit)) 0 n)
 
 pub run-spec : {M : Type 1} → statement M

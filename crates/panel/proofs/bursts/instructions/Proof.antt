@@ -42,7 +42,7 @@ returns c =
     let l = c .before .before .before .before .before .before .before .before .before .before .loop in
     let a = c .before .before .before .before .before .before .before .before .before .before .before .before .before .args in
     let m = buffers (l .sys) (l .io) in
-    let e = c .before .before .before .before .before .before .execute .ensures in
+    let e = c .before .before .before .before .before .before .execute .ensures .0 in
     ap (λ (o : Executed). burst (o .number) (l .done) (l .mine) (o .memory)) e
     ∙ sym
     (burst-stops (executes (a .busy)) executesOn (l .mine) m (l .done) (a .stop - l .done) (omega (arith, c .before .before .before .before .before .before .before .before .before .loop-test .taken)) (λ z. c .if1 .taken (ap (λ (o : Executed). o .number) e ∙ z)))
@@ -68,7 +68,7 @@ returns-2 c =
     let l = c .before .before .before .before .before .before .before .before .before .before .before .before .before .before .before .before .loop in
     let a = c .before .before .before .before .before .before .before .before .before .before .before .before .before .before .before .before .before .before .before .args in
     let m = buffers (l .sys) (l .io) in
-    let e = c .before .before .before .before .before .before .before .before .before .before .before .before .execute .ensures in
+    let e = c .before .before .before .before .before .before .before .before .before .before .before .before .execute .ensures .0 in
     ap (λ (o : Executed). burst 0 (l .done + 1) (o .channel) (o .memory)) e
     ∙ sym
     (burst-ends (executes (a .busy)) executesOn (l .mine) m (l .done) (a .stop - l .done) (omega (arith, c .before .before .before .before .before .before .before .before .before .before .before .before .before .before .before .loop-test .taken)) (sym (ap (λ (o : Executed). o .number) e) ∙ c .before .before .before .before .before .before .if1 .left)
@@ -83,7 +83,7 @@ loop-again c =
     let l = c .before .before .before .before .before .before .before .before .before .before .before .before .before .before .before .before .loop in
     let a = c .before .before .before .before .before .before .before .before .before .before .before .before .before .before .before .before .before .before .before .args in
     let m = buffers (l .sys) (l .io) in
-    let e = c .before .before .before .before .before .before .before .before .before .before .before .before .execute .ensures in
+    let e = c .before .before .before .before .before .before .before .before .before .before .before .before .execute .ensures .0 in
     let left : a .stop - (l .done + 1) ≡ a .stop - l .done - 1 = omega arith in (
       omega (arith, c .before .before .before .before .before .before .before .before .before .before .before .before .before .before .before .loop-test .taken),
       c .before .before .before .before .before .before .before .before .before .before .before .before .execute .kept .1 .1 .0 ∙ l .inv .1,
