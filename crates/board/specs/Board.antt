@@ -5,12 +5,12 @@ use Rattle.words.specs.Choice.{pick}
 use Rattle.memory.specs.Buffers.{Buffers}
 use Rattle.machine.specs.Outcomes.{Outcome}
 use Rattle.machine.specs.States.{resetState}
-use Rattle.machine.specs.declared.Answer.{Answer}
+use Rattle.machine.specs.declared.Made.{Made}
 use Rattle.panel.specs.Run.{Run, ran, startedRun, callNumber}
 use Rattle.power.specs.Power.{powerUpOf}
 
 -- what a power-up answers, apart from the memories that it leaves
-abbrev pub poweredAs : Outcome → Answer
+abbrev pub poweredAs : Outcome → Made
 poweredAs o = record { number = o .number; state = o .state }
 
 -- what comes of a power-up: where it is refused its number, else one attention to the state found, and steps

@@ -1,4 +1,5 @@
 // The board's side: one call from C that powers the processor up and runs a channel's program in two lent buffers.
+use machine::Made;
 use panel::Ran;
 ghost use mathlib.Core.Path.{_≡_};
 ghost use Rattle.memory.specs.Buffers.{buffers};
@@ -14,7 +15,12 @@ pub fn board_run(sys: &mut [u8], io: &mut [u8], channel: u32, lines: u32, limit:
         return Ran { number, steps: 0 };
     }
     let found = power::power_up(machine::states::reset(), sys, io);
-    panel::start(found, sys, io, channel, lines, (limit % 65536) as u16)
+    let state = found.state;
+    let made = Made {
+        number: found.number,
+        state,
+    };
+    panel::start(made, sys, io, channel, lines, (limit % 65536) as u16)
 }
 
 // The same for C: number × 65,536 + steps done.

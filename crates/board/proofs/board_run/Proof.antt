@@ -54,11 +54,11 @@ same-length-4 c = search needs
 returns-2 : tie.Need-returns-2
 unfolding boardRunOf poweredRun
 returns-2 c =
-    let a = c .before .before .before .before .before .before .before .before .before .before .before .before .before .before .before .before .before .before .before .before .before .args in
+    let a = c .before .before .before .before .before .before .before .before .before .before .before .before .before .before .before .before .before .before .before .before .before .before .args in
     let m = buffers (now (a .sys)) (now (a .io)) in
-    let n = sym (c .before .before .before .before .before .before .before .before .before .before .before .before .before .before .before .before .call-number .ensures) ∙ c .before .before .before .before .before .before .before .before .before .before .before .before .before .before .before .if1 .left in
+    let n = sym (c .before .before .before .before .before .before .before .before .before .before .before .before .before .before .before .before .before .call-number .ensures) ∙ c .before .before .before .before .before .before .before .before .before .before .before .before .before .before .before .before .if1 .left in
     c .before .before .before .before .start .ensures
-    ∙ ap₂ (λ (o : Outcome) (k : ℕ). poweredRun o (a .channel) (a .lines) k) (c .before .before .before .before .before .before .before .before .before .before .before .power-up .ensures ∙ ap (λ (s : State). powerUpOf s m) (c .before .before .before .before .before .before .before .before .before .before .before .before .before .before .reset .ensures)) (mod-eq-of-lt (call-limit m (a .channel) (a .lines) (a .limit) n))
+    ∙ ap₂ (λ (o : Outcome) (k : ℕ). poweredRun o (a .channel) (a .lines) k) (c .before .before .before .before .before .before .before .before .before .before .before .before .power-up .ensures .0 ∙ ap (λ (s : State). powerUpOf s m) (c .before .before .before .before .before .before .before .before .before .before .before .before .before .before .before .reset .ensures)) (mod-eq-of-lt (call-limit m (a .channel) (a .lines) (a .limit) n))
     ∙ rw (eq-eqb (callNumber m (a .channel) (a .lines) (a .limit)) 0 n)
 
 pub board-run-spec : {M : Type 1} → statement M
