@@ -34,7 +34,7 @@ unfolding attendedText attendedRun
 returns c =
     let a = c .before .before .before .before .before .before .before .before .before .before .before .before .before .before .before .before .args in
     let o = attentionOf (a .s) (buffers (now (a .sys)) (now (a .io))) 1 in
-    let e = c .before .before .before .before .before .before .before .before .before .before .attention .ensures in
+    let e = c .before .before .before .before .before .before .before .before .before .before .attention .ensures .0 in
     let last = c .before .before .end-line in
     let refused = ne-eqb (o .number) 0 (λ z. c .before .before .before .before .if1 .taken (ap (λ (x : Outcome). x .number) e ∙ z)) in (
       reads (ap (λ (x : Outcome). endLine (x .number) 0) e ∙ rw refused) (last .ensures),
@@ -58,7 +58,7 @@ unfolding attendedText attendedRun
 returns-2 c =
     let a = c .before .before .before .before .before .before .before .before .before .before .before .before .before .before .before .before .before .before .before .before .before .before .before .args in
     let o = attentionOf (a .s) (buffers (now (a .sys)) (now (a .io))) 1 in
-    let e = c .before .before .before .before .before .before .before .before .before .before .before .before .before .before .before .before .before .attention .ensures in
+    let e = c .before .before .before .before .before .before .before .before .before .before .before .before .before .before .before .before .before .attention .ensures .0 in
     let rest = c .before .before .before .before .before .before .steps in
     let accepted = eq-eqb (o .number) 0 (sym (ap (λ (x : Outcome). x .number) e) ∙ c .before .before .before .before .before .before .before .before .before .before .before .if1 .left) in (
       reads (ap (λ (x : Outcome). stepsText 1000 (x .state) (x .memory) 0) e ∙ rw accepted) (rest .ensures .0),

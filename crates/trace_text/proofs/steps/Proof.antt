@@ -52,7 +52,7 @@ returns : tie.Need-returns Inv-loop μ-loop
 returns c =
     let l = c .before .before .before .before .before .before .before .before .before .before .before .before .before .before .loop in
     let m = buffers (l .sys) (l .io) in
-    let e = c .before .before .before .before .before .before .before .before .before .before .step .ensures in
+    let e = c .before .before .before .before .before .before .before .before .before .before .step .ensures .0 in
     let last = c .before .before .end-line in
     let refused : stepOf (l .state) m 0 .number ≡ 0 → ⊥ = λ z. c .before .before .before .before .if1 .taken (ap (λ (o : Step). o .number) e ∙ z) in (
       record {
@@ -82,7 +82,7 @@ loop-again c =
     let l = c .before .before .before .before .before .before .before .before .before .before .before .before .before .before .before .loop in
     let m = buffers (l .sys) (l .io) in
     let went = c .before .before .before .before .before .before .before .before .before .before .before .step in
-    let e = went .ensures in
+    let e = went .ensures .0 in
     let line = c .before .before .step-line in
     let o = stepOf (l .state) m 0 in
     let head = page (l .out) (l .at) in

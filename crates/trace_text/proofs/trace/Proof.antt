@@ -6,7 +6,7 @@ use denote.Ref.{now}
 use lib.ListN.{length}
 use mathlib.Core.Path.{_≡_, sym, ap, _∙_}
 use native.Mathlib.Omega.{arith}
-use Rattle.machine.specs.declared.Answer.{Answer}
+use Rattle.machine.specs.declared.Made.{Made}
 use Rattle.machine.specs.States.{freshOf}
 use Rattle.attention.specs.Attention.{attentionOf}
 use Rattle.page.proofs.PageLaws.{printed, reads}
@@ -49,9 +49,9 @@ returns-2 c =
     let fits : length (now (a .input)) ≤ 4096 = omega arith in
     let e = c .before .before .before .before .before .before .before .before .fresh .ensures in
     let r = c .before .before .before .attended in
-    let run = r .ensures .1 ∙ ap (λ (f : Answer). attendedRun (attentionOf (f .state) (tracedMemory (now (a .input))) 1) 0 1000) e ∙ sym (run-attended (now (a .input)) fits) in
+    let run = r .ensures .1 ∙ ap (λ (f : Made). attendedRun (attentionOf (f .state) (tracedMemory (now (a .input))) 1) 0 1000) e ∙ sym (run-attended (now (a .input)) fits) in
     let whole : attendedText (attentionOf (freshOf 0 .state) (tracedMemory (now (a .input))) 1) ≡ traceOf (now (a .input)) = rw (le-leb (length (now (a .input))) 4096 fits) in
-    let text = reads (ap (λ (f : Answer). attendedText (attentionOf (f .state) (tracedMemory (now (a .input))) 1)) e ∙ whole) (r .ensures .0) in (
+    let text = reads (ap (λ (f : Made). attendedText (attentionOf (f .state) (tracedMemory (now (a .input))) 1)) e ∙ whole) (r .ensures .0) in (
       printed _ _ _ _ (omega (arith, trace-short (now (a .input)))) text,
       (ap (λ (x : Run). x .number) run, ap (λ (x : Run). x .steps) run, ap (λ (x : Run). x .memory .sys) run),
     )
