@@ -10,7 +10,7 @@ use Rattle.attention.proofs.Outcomes.{refused-nothing}
 use Rattle.machine.proofs.ConditionLaws.{last, rewritten, told-ltb}
 use Rattle.machine.specs.Outcomes.{Outcome}
 use Rattle.machine.specs.States.{boardWith, idleChannel, freshState, freshOf, channelOf}
-use Rattle.machine.specs.declared.Answer.{Answer}
+use Rattle.machine.specs.declared.Made.{Made}
 use Rattle.machine.specs.declared.State.{State}
 use Rattle.memory.specs.Buffers.{Buffers}
 use Rattle.panel.proofs.Bounds.{number-most, steps-most, steps-below, answer-is, number-back, steps-back}
@@ -39,11 +39,11 @@ pub fresh-answers : (cp : ℕ) → FreshAnswers cp
 unfolding freshState
 fresh-answers cp = record {
   numbers = λ n. rewritten (fresh-number cp) (last n 10 refl (told-ltb cp 1048576));
-  takesCp = λ h. ap (λ (a : Answer). a .state .cp) (fresh-good cp h);
+  takesCp = λ h. ap (λ (a : Made). a .state .cp) (fresh-good cp h);
   channels = λ second. made cp (λ s. Blank (channelOf s second)) (λ k. blank k second);
   last = made cp (λ s. s .last ≡ true) (λ k. refl);
   board = made cp (λ s. s .board ≡ boardWith true false false false) (λ k. refl);
-  badCp = λ h. ap (λ (a : Answer). a .state .cp) (fresh-bad cp h);
+  badCp = λ h. ap (λ (a : Made). a .state .cp) (fresh-bad cp h);
 }
 
 pub attention-answers : (s : State) (m : Buffers) (channel : ℕ) → AttentionAnswers s m channel

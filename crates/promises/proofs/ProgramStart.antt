@@ -22,7 +22,7 @@ use Rattle.machine.specs.Conditions.{TooLong}
 use Rattle.machine.specs.Outcomes.{outcome}
 use Rattle.machine.specs.Psw.{withPsw}
 use Rattle.machine.specs.States.{idleChannel, freshState, channelOf, withChannel, soundChannel, sound, isRunning, blockOf, busyIn, channelNumber, isSecond, boardWith, fieldsAgree, agree}
-use Rattle.machine.specs.declared.Answer.{Answer}
+use Rattle.machine.specs.declared.Made.{Made}
 use Rattle.machine.specs.declared.Channel.{Channel}
 use Rattle.machine.specs.declared.Mode.the-variants.{Running}
 use Rattle.memory.proofs.PlaceLaws.{index-reduced, index-after, lent-index, word-reduced, store-reduced}
@@ -84,7 +84,7 @@ fresh-on cp = refl
 
 -- a fresh state of a good CP is sound
 pub sound-fresh : (cp : ℕ) → cp < 1048576 → sound (freshState cp) ≡ true
-sound-fresh cp h = ap (λ (a : Answer). sound (a .state)) (sym (fresh-good cp h)) ∙ fresh-sound cp
+sound-fresh cp h = ap (λ (a : Made). sound (a .state)) (sym (fresh-good cp h)) ∙ fresh-sound cp
 
 -- a reduced address serves for a doubleword pointer
 doubleword-reduced : (m : Buffers) (t : Bool) (a : ℕ) → doublewordAt m t (a % 1048576) ≡ doublewordAt m t a

@@ -16,7 +16,7 @@ use Rattle.machine.proofs.OutcomeLaws.{first-none, first-some}
 use Rattle.machine.specs.Conditions.{Given}
 use Rattle.machine.specs.Outcomes.{unless, first}
 use Rattle.machine.specs.States.{freshState, freshOf, isChannel}
-use Rattle.machine.specs.declared.Answer.{Answer}
+use Rattle.machine.specs.declared.Made.{Made}
 use Rattle.machine.specs.declared.State.{State}
 use Rattle.memory.specs.Buffers.{Buffers}
 use Rattle.panel.proofs.Outcomes.{refused-call, refused-cp, refused-attention, accepted-attention}
@@ -114,8 +114,8 @@ unfolding unless
 fresh-number cp = go (decLt cp 1048576)
   where
     go : Dec (cp < 1048576) → freshOf cp .number ≡ unless (ltb cp 1048576) 10
-    go (yes h) = ap (λ (a : Answer). a .number) (fresh-good cp h) ∙ rw (lt-ltb cp 1048576 h)
-    go (no h) = let past : 1048576 ≤ cp = omega arith in ap (λ (a : Answer). a .number) (fresh-bad cp past) ∙ rw (le-ltb cp 1048576 past)
+    go (yes h) = ap (λ (a : Made). a .number) (fresh-good cp h) ∙ rw (lt-ltb cp 1048576 h)
+    go (no h) = let past : 1048576 ≤ cp = omega arith in ap (λ (a : Made). a .number) (fresh-bad cp past) ∙ rw (le-ltb cp 1048576 past)
 
 -- 12 of a run
 pub told-call : (channel lines limit : ℕ) → Told (isChannel channel && ltb lines 16 && ltb limit 65536) (NoChannel channel ⊎ (LinesOver lines ⊎ LimitOver limit))
@@ -142,7 +142,7 @@ module _ (m : Buffers) (cp channel lines limit : ℕ) where
     where
       go : Dec (cp < 1048576) → cp < 1048576
       go (yes h) = h
-      go (no h) = let past : 1048576 ≤ cp = omega arith in absurd (omega (arith, z, ap (λ (a : Answer). a .number) (fresh-bad cp past)))
+      go (no h) = let past : 1048576 ≤ cp = omega arith in absurd (omega (arith, z, ap (λ (a : Made). a .number) (fresh-bad cp past)))
 
   -- a run ends in one of these ways
   pub run-so : RunEnds m cp channel lines limit (runOf m cp channel lines limit)
@@ -154,19 +154,19 @@ module _ (m : Buffers) (cp channel lines limit : ℕ) where
       attended : callNumber m channel lines limit ≡ 0 → cp < 1048576 → Dec (firstAttention m cp channel .number ≡ 0) → RunEnds m cp channel lines limit (runOf m cp channel lines limit)
       attended z h (yes a) =
           let o = firstAttention m cp channel in
-          after (given 0 z (ap (λ (a : Answer). a .number) (fresh-good cp h))) a
+          after (given 0 z (ap (λ (a : Made). a .number) (fresh-good cp h))) a
           (subst (StepsEnd lines limit (o .state) (o .memory)) (sym (accepted-attention m cp channel lines limit z h a))
           (steps-so lines limit (o .state) (o .memory) limit none (omega arith)))
       attended z h (no ne) =
           subst (RunEnds m cp channel lines limit) (sym (refused-attention m cp channel lines limit z h ne))
-          (notAccepted (given 0 z (ap (λ (a : Answer). a .number) (fresh-good cp h))) ne)
+          (notAccepted (given 0 z (ap (λ (a : Made). a .number) (fresh-good cp h))) ne)
 
       fresh : callNumber m channel lines limit ≡ 0 → Dec (cp < 1048576) → RunEnds m cp channel lines limit (runOf m cp channel lines limit)
       fresh z (yes h) = attended z h (ℕ-discrete (firstAttention m cp channel .number) 0)
       fresh z (no h) =
           let past : 1048576 ≤ cp = omega arith in
           subst (RunEnds m cp channel lines limit) (sym (refused-cp m cp channel lines limit z past))
-          (notStarted (given 10 z (ap (λ (a : Answer). a .number) (fresh-bad cp past))) (omega arith))
+          (notStarted (given 10 z (ap (λ (a : Made). a .number) (fresh-bad cp past))) (omega arith))
 
       called : Dec (callNumber m channel lines limit ≡ 0) → RunEnds m cp channel lines limit (runOf m cp channel lines limit)
       called (yes z) = fresh z (decLt cp 1048576)
@@ -182,10 +182,10 @@ module _ (m : Buffers) (cp channel lines limit : ℕ) where
       number = (start-given n) .1 g
 
       fresh : callNumber m channel lines limit ≡ 0 → freshOf cp .number ≡ n → Dec (cp < 1048576) → runOf m cp channel lines limit ≡ ran n 0 m
-      fresh z e (yes h) = absurd (ne (sym e ∙ ap (λ (a : Answer). a .number) (fresh-good cp h)))
+      fresh z e (yes h) = absurd (ne (sym e ∙ ap (λ (a : Made). a .number) (fresh-good cp h)))
       fresh z e (no h) =
           let past : 1048576 ≤ cp = omega arith in
-          refused-cp m cp channel lines limit z past ∙ ap (λ (k : ℕ). ran k 0 m) (sym (ap (λ (a : Answer). a .number) (fresh-bad cp past)) ∙ e)
+          refused-cp m cp channel lines limit z past ∙ ap (λ (k : ℕ). ran k 0 m) (sym (ap (λ (a : Made). a .number) (fresh-bad cp past)) ∙ e)
 
       called : Dec (callNumber m channel lines limit ≡ 0) → runOf m cp channel lines limit ≡ ran n 0 m
       called (yes z) = fresh z (sym (first-none (callNumber m channel lines limit) (freshOf cp .number) z) ∙ number) (decLt cp 1048576)

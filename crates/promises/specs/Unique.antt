@@ -6,11 +6,13 @@ use Rattle.memory.specs.Buffers.{Buffers, buffers}
 use Rattle.machine.specs.Outcomes.{outcome}
 use Rattle.machine.specs.States.{resetState, freshOf}
 use Rattle.machine.specs.declared.Answer.{Answer}
+use Rattle.machine.specs.declared.Made.{Made}
 use Rattle.machine.specs.declared.State.{State}
-use Rattle.attention.specs.Attention.{attentionOf}
-use Rattle.power.specs.Power.{powerUpOf}
+use Rattle.attention.specs.Attention.{attentionOf, attentionCount}
+use Rattle.power.specs.Power.{powerUpOf, powerCount}
 use Rattle.step.specs.Choosing.{choiceOf}
 use Rattle.step.specs.Step.{stepped, stepOf}
+use Rattle.step.specs.Touched.{stepCount}
 use Rattle.step.specs.declared.turns.Choice.{Choice}
 use Rattle.step.specs.declared.Stepped.{Stepped}
 use Rattle.panel.specs.Run.{ran, runOf, answerOf, called}
@@ -18,7 +20,7 @@ use Rattle.panel.specs.declared.Ran.{Ran}
 use Rattle.board.specs.Board.{boardRunOf}
 
 -- `machine::states::fresh`: the answer r to a CP
-abbrev pub FreshMeets : ℕ → Answer → Type 0
+abbrev pub FreshMeets : ℕ → Made → Type 0
 FreshMeets cp r = r ≡ freshOf cp
 
 -- `machine::states::reset`: the state r
@@ -27,11 +29,12 @@ ResetMeets r = r ≡ resetState
 
 -- `power::power_up`: the answer r, and both buffers as they are left
 abbrev pub PowerMeets : State → Buffers → Answer → List ℕ → List ℕ → Type 0
-PowerMeets s m r sys io = outcome (r .number) (r .state) (buffers sys io) ≡ powerUpOf s m
+PowerMeets s m r sys io = (outcome (r .number) (r .state) (buffers sys io) ≡ powerUpOf s m) × (r .count ≡ powerCount m)
 
 -- `attention::attention`: the answer r, and both buffers as they are left
 abbrev pub AttentionMeets : State → Buffers → ℕ → Answer → List ℕ → List ℕ → Type 0
-AttentionMeets s m channel r sys io = outcome (r .number) (r .state) (buffers sys io) ≡ attentionOf s m channel
+AttentionMeets s m channel r sys io =
+    (outcome (r .number) (r .state) (buffers sys io) ≡ attentionOf s m channel) × (r .count ≡ attentionCount s m channel)
 
 -- `step::choose`: who steps
 abbrev pub ChooseMeets : State → ℕ → Choice → Type 0
@@ -39,7 +42,8 @@ ChooseMeets s lines r = r ≡ choiceOf s lines
 
 -- `step::step`: the answer r, and both buffers as they are left
 abbrev pub StepMeets : State → Buffers → ℕ → Stepped → List ℕ → List ℕ → Type 0
-StepMeets s m lines r sys io = stepped (r .number) (r .state) (buffers sys io) (r .channel) (r .kind) ≡ stepOf s m lines
+StepMeets s m lines r sys io =
+    (stepped (r .number) (r .state) (buffers sys io) (r .channel) (r .kind) ≡ stepOf s m lines) × (r .count ≡ stepCount s m lines)
 
 -- `panel::run`: the answer r, and both buffers as they are left
 abbrev pub RunMeets : Buffers → ℕ → ℕ → ℕ → ℕ → Ran → List ℕ → List ℕ → Type 0
@@ -64,9 +68,9 @@ pub record Same {A : Type 0} (r r′ : A) (sys sys′ io io′ : List ℕ) : Typ
   pub system : sys ≡ sys′
   pub inputOutput : io ≡ io′
 
--- number, state and both memories are determined for all inputs, refused ones too: two outcomes that meet an equation are the same
+-- number, count, state and both memories are determined for all inputs, refused ones too: two outcomes that meet an equation are the same
 pub record OneOutcome : Type 0 where
-  pub fresh : (cp : ℕ) (r r′ : Answer) → FreshMeets cp r → FreshMeets cp r′ → r ≡ r′
+  pub fresh : (cp : ℕ) (r r′ : Made) → FreshMeets cp r → FreshMeets cp r′ → r ≡ r′
   pub reset : (r r′ : State) → ResetMeets r → ResetMeets r′ → r ≡ r′
   pub power : (s : State) (m : Buffers) (r r′ : Answer) (sys sys′ io io′ : List ℕ)
       → PowerMeets s m r sys io → PowerMeets s m r′ sys′ io′ → Same r r′ sys sys′ io io′
