@@ -2,7 +2,6 @@
 -- Assumes nothing.
 use Prim.Native.Nat.{ℕ, zero, suc, _+_, _%_, _<_, _≤_}
 use lib.Dec.{ltb, leb, eqb, lit<}
-use lib.ListN.{length}
 use mathlib.Core.Bool.{Bool, true, false, _&&_, _||_}
 use mathlib.Core.List.{List, [], _∷_, _++_}
 use mathlib.Core.Path.{_≡_, refl, sym, ap, ap₂, subst, _∙_}
@@ -31,12 +30,6 @@ use Rattle.promises_counts.specs.Complete.{SameLengths, AgreeOn}
 pub agree-self : (ps : List Place) (m : Buffers) → AgreeOn ps m m
 agree-self [] m = tt
 agree-self (p ∷ ps) m = (refl, agree-self ps m)
-
--- bytes in a row are as many as they are
-pub span-length : (t : Bool) (a k : ℕ) → length (span t a k) ≡ k
-unfolding span
-span-length t a zero = refl
-span-length t a (suc k) = ap suc (span-length t (a + 1) k)
 
 -- a pointer on, and on again
 pub onward-twice : (p : Pointer) (i j : ℕ) → onward (onward p i) j ≡ onward p (i + j)
@@ -158,7 +151,7 @@ module _ (m n : Buffers) where
     touchable-same (p ∷ ps) = ap₂ _&&_ (ap (λ (l : ℕ). p .tag || ltb (indexOf (p .tag) (p .address)) l) (same (p .tag))) (touchable-same ps)
 
     -- what a call is given is refused alike
-    limits-same : withinLimits n ≡ withinLimits m
+    pub limits-same : withinLimits n ≡ withinLimits m
     unfolding withinLimits spaceOf
     limits-same = ap₂ (λ (a b : ℕ). leb a (limitOf false) && leb b (limitOf true)) (same false) (same true)
 

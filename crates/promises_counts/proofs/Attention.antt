@@ -13,13 +13,13 @@ use Rattle.memory.specs.Places.{Place, span}
 use Rattle.memory.specs.Values.{pointer, storePointer}
 use Rattle.machine.proofs.ConditionLaws.{first-none-left, first-none-right}
 use Rattle.machine.proofs.OutcomeLaws.{first-some}
-use Rattle.machine.specs.Outcomes.{outcome, unless, first, settled}
+use Rattle.machine.specs.Outcomes.{unless, first, settled}
 use Rattle.machine.specs.Stages.{Stage, stage, stagesNumber, stagesTouched}
 use Rattle.machine.specs.States.{channelOf, withChannel, isSecond, isChannel, blockOf, busyIn}
 use Rattle.machine.specs.declared.Channel.{Channel}
 use Rattle.machine.specs.declared.Mode.{Mode}
 use Rattle.machine.specs.declared.State.{State}
-use Rattle.attention.specs.Attention.{orderTo, orderNumber, orderedChannel, orderedMemory, givenTo, attentionNumber, attentionOf}
+use Rattle.attention.specs.Attention.{orderTo, orderNumber, orderedChannel, orderedMemory, givenTo, attentionNumber, attentionOf, touchedByAttention}
 use Rattle.attention.specs.Blocks.{ccwOf, pointerOf, parameterBlock, orderOf}
 use Rattle.attention.specs.Commands.{commandOf, commandNumber, ordered}
 use Rattle.attention.specs.Effects.{onlyPsw, started, resumed, commanded, channelOrdered, writesOf, saved, marked, writesMade}
@@ -28,10 +28,10 @@ use Rattle.attention.specs.declared.Command.{Command}
 use Rattle.attention.specs.declared.Command.the-variants.{Update, StartLocal, StartSystem, Suspend, Resume, Halt, Unknown}
 use Rattle.attention.specs.declared.Order.{Order}
 use Rattle.promises_counts.specs.Complete.{SameLengths, AgreeOn}
-use Rattle.promises_counts.specs.Lists.{touchedByAttention, attentionAnswer, AttentionComplete}
+use Rattle.promises_counts.specs.Lists.{callAnswer, AttentionComplete}
 use Rattle.promises_counts.specs.Stores.{Store, storesMade, storePlaces}
 use Rattle.promises_counts.proofs.AgreeLaws.{agree-left, agree-right, agree-at, word-same, doubleword-same, pointer-same, given-same, number-same}
-use Rattle.promises_counts.proofs.TraceLaws.{Traced, complete, storesAt, four-made}
+use Rattle.promises_counts.proofs.TraceLaws.{Traced, complete, settled-told, settled-left, storesAt, four-made}
 
 -- ---- what a command stores
 
@@ -223,22 +223,9 @@ module _ (s : State) (channel : ℕ) (m : Buffers) where
   answerBy : ℕ → Channel → ℕ × State
   answerBy k ch = pick (eqb k 0) (0, withChannel s (isSecond channel) ch) (k, s)
 
-  told-by : (k : ℕ) (ch : Channel) (o o′ : Buffers) → attentionAnswer (settled k s o (withChannel s (isSecond channel) ch) o′) ≡ answerBy k ch
-  unfolding settled answerBy
-  told-by k ch o o′ = go (eqb k 0)
-    where
-      go : (b : Bool) → attentionAnswer (pick b (outcome 0 (withChannel s (isSecond channel) ch) o′) (outcome k s o))
-          ≡ pick b (0, withChannel s (isSecond channel) ch) (k, s)
-      go true = refl
-      go false = refl
-
-  left-by : (k : ℕ) (s′ : State) (o o′ : Buffers) → (settled k s o s′ o′) .memory ≡ pick (eqb k 0) o′ o
-  unfolding settled
-  left-by k s′ o o′ = go (eqb k 0)
-    where
-      go : (b : Bool) → (pick b (outcome 0 s′ o′) (outcome k s o)) .memory ≡ pick b o′ o
-      go true = refl
-      go false = refl
+  told-by : (k : ℕ) (ch : Channel) (o o′ : Buffers) → callAnswer (settled k s o (withChannel s (isSecond channel) ch) o′) ≡ answerBy k ch
+  unfolding answerBy
+  told-by k ch o o′ = settled-told k s (withChannel s (isSecond channel) ch) o o′
 
   -- an accepted one has a command that was accepted
   command-passed : eqb (attentionNumber s m channel) 0 ≡ true → eqb (commandNumber ((order m) .command) (c .mode)) 0 ≡ true
@@ -247,7 +234,7 @@ module _ (s : State) (channel : ℕ) (m : Buffers) where
       eq-eqb (commandNumber ((order m) .command) (c .mode)) 0
       (first-none-left _ _ (first-none-right _ _ (first-none-right _ _ (eqb-true (attentionNumber s m channel) 0 e))))
 
-  told-same : (n : Buffers) → SameLengths m n → AgreeOn (readIn (order m) (c .mode)) m n → attentionAnswer (attentionOf s n channel) ≡ attentionAnswer (attentionOf s m channel)
+  told-same : (n : Buffers) → SameLengths m n → AgreeOn (readIn (order m) (c .mode)) m n → callAnswer (attentionOf s n channel) ≡ callAnswer (attentionOf s m channel)
   unfolding attentionOf answerBy
   told-same n l h =
       told-by (attentionNumber s n channel) (orderedChannel s n (isSecond channel)) n (orderedMemory s n (isSecond channel))
@@ -264,7 +251,7 @@ module _ (s : State) (channel : ℕ) (m : Buffers) where
       → attentionOf s n channel .memory ≡ storesMade n (pick (eqb (attentionNumber s m channel) 0) (storedIn (order m) c) [])
   unfolding attentionOf storedIn storesMade
   left-same n l h =
-      left-by (attentionNumber s n channel) (withChannel s (isSecond channel) (orderedChannel s n (isSecond channel))) n (orderedMemory s n (isSecond channel))
+      settled-left (attentionNumber s n channel) s (withChannel s (isSecond channel) (orderedChannel s n (isSecond channel))) n (orderedMemory s n (isSecond channel))
       ∙ ap (λ (k : ℕ). pick (eqb k 0) (orderedMemory s n (isSecond channel)) n) (number-is n l h)
       ∙ go (eqb (attentionNumber s m channel) 0) refl
     where
@@ -272,7 +259,7 @@ module _ (s : State) (channel : ℕ) (m : Buffers) where
       go true e = rw (command-passed e) (memory-same n l h (command-passed e))
       go false e = refl
 
-  attention-traced : Traced (λ n. touchedByAttention s n channel) (λ n. attentionAnswer (attentionOf s n channel)) (λ n. attentionOf s n channel .memory) m
+  attention-traced : Traced (λ n. touchedByAttention s n channel) (λ n. callAnswer (attentionOf s n channel)) (λ n. attentionOf s n channel .memory) m
   unfolding touchedByAttention
   attention-traced =
       record {

@@ -1,96 +1,67 @@
--- How long the lists are: of each command, of each kind of transfer step, of each shape of instruction, and of a step.
+-- What each call counts: its list where it is done, exactly, and nothing where it is refused.
 -- Assumes nothing.
-use Prim.Native.Nat.{ℕ, suc, _+_, _-_, _≤_}
-use borrow.Author.Tests.{eqb-false, eq-eqb, ne-eqb}
+use Prim.Native.Nat.{ℕ, _+_, _≤_}
+use borrow.Author.Tests.{eq-eqb, ne-eqb}
 use lib.Dec.{eqb, lit≤}
-use lib.ListN.{length, length-append}
+use lib.ListN.{length}
 use mathlib.Core.Bool.{Bool, true, false, not, _&&_, _||_}
-use mathlib.Core.List.{List, [], _++_}
-use mathlib.Core.Path.{_≡_, refl, sym, ap, ap₂, subst, _∙_}
+use mathlib.Core.List.{List}
+use mathlib.Core.Path.{_≡_, refl, sym, ap, subst, _∙_}
 use native.Mathlib.Decide.{ℕ-discrete}
-use native.Mathlib.Nat.{add-zero}
 use native.Mathlib.Omega.{arith}
 use Rattle.words.proofs.ChoiceLaws.{apart, both-left}
 use Rattle.words.specs.Choice.{pick}
 use Rattle.memory.specs.Buffers.{Buffers}
-use Rattle.memory.specs.Places.{Place, span}
-use Rattle.memory.specs.Values.{onward}
-use Rattle.memory.specs.declared.Pointer.{Pointer}
-use Rattle.machine.specs.Outcomes.{unless, first}
+use Rattle.memory.specs.Places.{Place}
+use Rattle.machine.proofs.OutcomeLaws.{refused-counts, done-counts}
+use Rattle.machine.specs.Outcomes.{counted}
 use Rattle.machine.specs.Psw.{transferring}
-use Rattle.machine.specs.Registers.{baseOf}
-use Rattle.machine.specs.Stages.{stagesTouched}
 use Rattle.machine.specs.States.{channelOf, isSecond, blockOf, busyIn}
-use Rattle.machine.specs.Updates.{renewed}
 use Rattle.machine.specs.declared.Channel.{Channel}
-use Rattle.machine.specs.declared.Mode.{Mode}
 use Rattle.machine.specs.declared.State.{State}
-use Rattle.attention.proofs.Outcomes.{passed-command}
-use Rattle.attention.specs.Attention.{orderTo, attentionOf}
-use Rattle.attention.specs.Commands.{commandNumber, isKnown}
-use Rattle.attention.specs.Touched.{readBy, storedBy, others, orderStages, touchedByOrder}
+use Rattle.attention.proofs.CountLaws.{number-left, touched-length as order-length}
+use Rattle.attention.specs.Attention.{orderTo, attentionNumber, attentionOf, touchedByAttention, attentionCount}
+use Rattle.attention.specs.Touched.{commandCount}
 use Rattle.attention.specs.declared.Command.{Command}
 use Rattle.attention.specs.declared.Command.the-variants.{Update, StartLocal, StartSystem, Suspend, Resume, Halt, Unknown}
-use Rattle.attention.specs.declared.Order.{Order}
-use Rattle.decode.proofs.LengthLaws.{more-small, offset-small, bounded}
-use Rattle.decode.specs.Lengths.{moreBy, offsetLength, dataLength, displacementLength, lengthOf}
-use Rattle.decode.specs.Reading.{numberOf}
-use Rattle.decode_shapes.specs.declared.Decoded.{Decoded}
-use Rattle.decode_shapes.specs.declared.Decoded.the-variants.{Instruction, NoInstruction, ControlUsed}
-use Rattle.decode_shapes.specs.declared.Memory.{Memory}
-use Rattle.decode_shapes.specs.declared.Second.{Second}
-use Rattle.decode_shapes.specs.declared.Second.the-variants.{Operand, NoSecond}
+use Rattle.power.proofs.Numbers.{power-number}
+use Rattle.power.proofs.Outcomes.{power-touches}
+use Rattle.power.specs.Power.{touchedByPower, powerNumber, powerUpOf, powerCount}
+use Rattle.decode.specs.Lengths.{dataLength, displacementLength, lengthOf}
+use Rattle.decode_shapes.specs.declared.Decoded.the-variants.{Instruction}
 use Rattle.decode_shapes.specs.declared.Shape.{Shape}
-use Rattle.decode_shapes.specs.declared.Shape.the-variants.{Nop, Sintr, Xfer, Wid, Hlt, Lpdi, RegisterImmediate, Register, JumpRegister, RegisterMemory, MemoryRegister, MemoryImmediate, MemoryAlone, JumpMemory, Lpd, MovpLoad, MovpStore, MovMemory, Tsl, Call, JumpMasked, JumpBit, Bit}
-use Rattle.decode_shapes.specs.declared.Work.{Work}
-use Rattle.decode_shapes.specs.declared.Work.the-variants.{Mov, Add, Or, And}
-use Rattle.execute_operands.specs.Changes.{placesOf}
-use Rattle.execute_operands.specs.Marks.{pastInstruction}
-use Rattle.execute_operands.specs.Operands.{byteHere, bytesAt, sizeOf, indexed, effective, afterPair, isMove}
-use Rattle.execute_operands.specs.declared.Change.{Change}
-use Rattle.execute_deeds.specs.Deeds.{Deed, deed}
-use Rattle.execute_deeds.specs.Control.{nopDeed, sintrDeed, xferDeed, widDeed, hltDeed}
-use Rattle.execute_deeds.specs.RegisterForms.{registerImmediateDeed, registerDeed, registerMemoryDeed, lpdiDeed, lpdDeed, movpLoadDeed}
-use Rattle.execute_deeds.specs.MemoryForms.{readFirst, workedBack, memoryWorkDeed, memoryRegisterDeed, memoryImmediateDeed, memoryAloneDeed, movpStoreDeed, bitDeed, movOperandDeed, movSecondDeed, secondAt, movMemoryDeed}
-use Rattle.execute_deeds.specs.JumpForms.{jumpRegisterDeed, jumpMemoryDeed, jumpByteDeed, jumpMaskedDeed, jumpBitDeed, tslDeed, callDeed}
-use Rattle.execute.proofs.OutcomeLaws.{number-is, pair-passed, second-passed}
-use Rattle.execute.specs.Execute.{decodedAt, performed, deedOf, laterBytes, deedFrom, laterFrom, stagesFrom, instructionStages, touchedByInstruction, executeOf}
+use Rattle.decode_shapes.specs.declared.Shape.the-variants.{Hlt, Tsl}
+use Rattle.execute_operands.specs.Operands.{byteHere, effective}
+use Rattle.execute.proofs.CountLaws.{touched-exact, touched-most}
+use Rattle.execute.proofs.OutcomeLaws.{number-is}
+use Rattle.execute.specs.Counts.{accessCount, instructionCount}
+use Rattle.execute.specs.Execute.{decodedAt, touchedByInstruction, executeOf, executeCount}
 use Rattle.transfer.proofs.BlockLaws.{word-narrow, one-moves}
+use Rattle.transfer.proofs.CountLaws.{touched-length as moved-length}
 use Rattle.transfer.proofs.StepLaws.{exactly-0}
-use Rattle.transfer.specs.Reads.{entryOf, dataOf, also, readPlaces}
-use Rattle.transfer.specs.Sides.{source, destination, secondAddress, twoMove, storedSingly}
-use Rattle.transfer.specs.Steps.{touchedByTransfer, badMode, transferOf}
-use Rattle.transfer.specs.Stores.{cutShort, storesTwo, placesOn, storedPlaces}
+use Rattle.transfer.specs.Reads.{dataOf}
+use Rattle.transfer.specs.Sides.{source, destination, twoMove, storedSingly}
+use Rattle.transfer.specs.Steps.{touchedByTransfer, accesses, badMode, transferOf, transferCount}
+use Rattle.transfer.specs.Stores.{cutShort, storesTwo}
+use Rattle.step.proofs.StepLaws.{counts-none}
 use Rattle.step.specs.Choosing.{choiceOf}
 use Rattle.step.specs.Step.{settledStep, transferStep, instructionStep, channelStep, chosenStep, entryNumber, stepOf}
-use Rattle.step.specs.Touched.{touchedIn, touchedByStep}
+use Rattle.step.specs.Touched.{touchedIn, touchedByStep, stepCount}
 use Rattle.step.specs.declared.Kind.{Kind}
 use Rattle.step.specs.declared.turns.Choice.{Choice}
 use Rattle.step.specs.declared.turns.Choice.the-variants.{Nobody, Ends, Steps}
-use Rattle.promises_counts.specs.Counts.{counted, commandCount, secondOffset, workReads, accessCount, instructionCount, AttentionCounts, TransferCounts, InstructionCounts, StepCounts}
-use Rattle.promises_counts.specs.Lists.{touchedByAttention}
-use Rattle.promises_counts.proofs.AgreeLaws.{span-length}
+use Rattle.promises_counts.specs.Counts.{CountedWithin, CommandCounts, AttentionCounts, PowerCounts, TransferCounts, InstructionCounts, StepCounts}
 
--- a refused call counts nothing
-refused-none : (number : ℕ) (ps : List Place) → ¬ (number ≡ 0) → counted number ps ≡ 0
-unfolding counted
-refused-none number ps ne = ap (λ (b : Bool). pick b (length ps) 0) (ne-eqb number 0 ne)
+-- a count that goes with a number, by its list
+counted-within : (most number : ℕ) (ps : List Place) → (number ≡ 0 → length ps ≤ most) → CountedWithin most number (counted number ps) (length ps)
+counted-within most number ps h =
+    record {
+      list = done-counts number ps;
+      bounded = λ e. subst (λ (k : ℕ). k ≤ most) (sym (done-counts number ps e)) (h e);
+      refused = refused-counts number ps;
+    }
 
 -- ---- an attention
-
-command-length : (k : Command) (mode : Mode) (block pb : ℕ) → commandNumber k mode ≡ 0 → length (span false block 1 ++ ((readBy k block pb ++ storedBy k block pb) ++ [])) ≡ commandCount k
-unfolding span readBy storedBy commandCount commandNumber isKnown first unless
-command-length Update mode block pb h = refl
-command-length StartLocal mode block pb h = refl
-command-length StartSystem mode block pb h = refl
-command-length Suspend mode block pb h = refl
-command-length Resume mode block pb h = refl
-command-length Halt mode block pb h = refl
-command-length Unknown mode block pb h = absurd (eqb-false 6 0 refl h)
-
-order-length : (o : Order) (mode : Mode) → commandNumber (o .command) mode ≡ 0 → length (touchedByOrder o mode) ≡ commandCount (o .command)
-unfolding touchedByOrder stagesTouched orderStages others
-order-length o mode h = rw (eq-eqb (commandNumber (o .command) mode) 0 h) (command-length (o .command) mode (o .block) (o .pb) h)
 
 command-most : (k : Command) → commandCount k ≤ 10
 unfolding commandCount
@@ -103,46 +74,55 @@ command-most Halt = lit≤ tt
 command-most Unknown = lit≤ tt
 
 module _ (s : State) (channel : ℕ) (m : Buffers) where
-  attention-exact : attentionOf s m channel .number ≡ 0 → length (touchedByAttention s m channel) ≡ commandCount (orderTo s m (isSecond channel) .command)
-  unfolding touchedByAttention
-  attention-exact e = order-length (orderTo s m (isSecond channel)) (channelOf s (isSecond channel) .mode) (passed-command s m channel e)
+  attention-within : CountedWithin 10 (attentionOf s m channel .number) (attentionCount s m channel) (length (touchedByAttention s m channel))
+  unfolding attentionCount
+  attention-within =
+      subst (λ (k : ℕ). CountedWithin 10 k (attentionCount s m channel) (length (touchedByAttention s m channel))) (sym (number-left s m channel))
+      (counted-within 10 (attentionNumber s m channel) (touchedByAttention s m channel)
+      (λ z. subst (λ (k : ℕ). k ≤ 10) (sym (order-length s m channel z)) (command-most (orderTo s m (isSecond channel) .command))))
+
+  command-counts : (k : Command) → CommandCounts s channel m k (commandCount k)
+  command-counts k e is = attention-within .list e ∙ order-length s m channel (sym (number-left s m channel) ∙ e) ∙ ap commandCount is
 
   pub attention-counts : AttentionCounts s channel m
+  unfolding commandCount
   attention-counts =
       record {
-        exact = attention-exact;
-        most = λ e. subst (λ (k : ℕ). k ≤ 10) (sym (attention-exact e)) (command-most (orderTo s m (isSecond channel) .command));
-        refused = refused-none (attentionOf s m channel .number) (touchedByAttention s m channel);
+        within = attention-within;
+        update = command-counts Update;
+        startLocal = command-counts StartLocal;
+        startSystem = command-counts StartSystem;
+        suspend = command-counts Suspend;
+        resume = command-counts Resume;
+        halt = command-counts Halt;
       }
+
+-- ---- a power-up
+
+module _ (s : State) (m : Buffers) where
+  power-within : CountedWithin 11 (powerUpOf s m .number) (powerCount m) (length (touchedByPower m))
+  unfolding powerCount
+  power-within =
+      subst (λ (k : ℕ). CountedWithin 11 k (powerCount m) (length (touchedByPower m))) (sym (power-number s m))
+      (counted-within 11 (powerNumber m) (touchedByPower m) (λ z. subst (λ (k : ℕ). k ≤ 11) (sym (power-touches m)) (lit≤ tt)))
+
+  pub power-counts : PowerCounts s m
+  power-counts = record { within = power-within; eleven = λ e. power-within .list e ∙ power-touches m }
 
 -- ---- a transfer step
 
-also-length : (on : Bool) (p : Place) (ps : List Place) → length (also on p ps) ≡ moreBy on + length ps
-unfolding also
-also-length true p ps = sym (add-one′ (length ps))
-  where
-    add-one′ : (k : ℕ) → 1 + k ≡ suc k
-    add-one′ k = omega arith
-also-length false p ps = omega arith
+two-accesses : (two cut translated : Bool) → two ≡ true → translated ≡ false → accesses two (two && not cut) translated ≡ pick cut 3 4
+two-accesses true true false h k = refl
+two-accesses true false false h k = refl
+two-accesses true cut true h k = apart k
+two-accesses false cut translated h k = apart (sym h)
+
+one-accesses : (two cut translated : Bool) → two ≡ false → accesses two (two && not cut) translated ≡ pick translated 3 2
+one-accesses false cut true h = refl
+one-accesses false cut false h = refl
+one-accesses true cut translated h = apart h
 
 module _ (c : Channel) (m : Buffers) where
-  reads-length : length (readPlaces c m) ≡ suc (moreBy (twoMove c) + (moreBy (c .fields .translates) + 0))
-  unfolding readPlaces
-  reads-length =
-      let second : Place = record { tag = (source c) .pointer .tag; address = secondAddress (source c) } in
-      let entry : Place = record { tag = c .gc .tag; address = entryOf c m } in
-      ap suc (also-length (twoMove c) second (also (c .fields .translates) entry []) ∙ ap (λ (k : ℕ). moreBy (twoMove c) + k) (also-length (c .fields .translates) entry []))
-
-  stores-length : length (storedPlaces c (dataOf c m)) ≡ suc (moreBy (storesTwo c (dataOf c m)) + 0)
-  unfolding storedPlaces placesOn
-  stores-length =
-      ap suc (also-length (storesTwo c (dataOf c m)) (record { tag = (destination c) .pointer .tag; address = secondAddress (destination c) }) [])
-
-  -- the source's one or two, the translated one, the destination's one or two
-  touched-length : length (touchedByTransfer c m) ≡ 2 + moreBy (twoMove c) + moreBy (c .fields .translates) + moreBy (storesTwo c (dataOf c m))
-  unfolding touchedByTransfer
-  touched-length = length-append (readPlaces c m) (storedPlaces c (dataOf c m)) ∙ ap₂ _+_ reads-length stores-length ∙ omega arith
-
   -- with translation no side is wide, so one byte moves
   narrow : transferOf c m .number ≡ 0 → c .fields .translates ≡ true → twoMove c ≡ false
   unfolding badMode
@@ -172,196 +152,67 @@ module _ (c : Channel) (m : Buffers) where
       go true h = apart (sym two ∙ narrow e h)
       go false h = h
 
-  one-byte : transferOf c m .number ≡ 0 → twoMove c ≡ false → c .fields .translates ≡ false → length (touchedByTransfer c m) ≡ 2
-  unfolding storesTwo
-  one-byte e two t = touched-length ∙ rw (two, t)
-
-  translated-byte : transferOf c m .number ≡ 0 → c .fields .translates ≡ true → length (touchedByTransfer c m) ≡ 3
-  unfolding storesTwo
-  translated-byte e t = touched-length ∙ rw (narrow e t, t)
-
-  two-bytes : transferOf c m .number ≡ 0 → twoMove c ≡ true → cutShort c (dataOf c m) ≡ false → length (touchedByTransfer c m) ≡ 4
-  unfolding storesTwo
-  two-bytes e two cut = touched-length ∙ rw (two, cut, untranslated e two)
-
   singly-two : cutShort c (dataOf c m) ≡ true → twoMove c ≡ true
   unfolding cutShort storedSingly
   singly-two cut = both-left (twoMove c) _ (both-left (storedSingly c) _ cut)
 
-  prevented-store : transferOf c m .number ≡ 0 → cutShort c (dataOf c m) ≡ true → length (touchedByTransfer c m) ≡ 3
+  -- two bytes, of which a match prevents the second store or not; one byte, translated or not
+  two-length : transferOf c m .number ≡ 0 → twoMove c ≡ true → length (touchedByTransfer c m) ≡ pick (cutShort c (dataOf c m)) 3 4
   unfolding storesTwo
-  prevented-store e cut = touched-length ∙ rw (singly-two cut, cut, untranslated e (singly-two cut))
+  two-length e two = moved-length c m ∙ two-accesses (twoMove c) (cutShort c (dataOf c m)) (c .fields .translates) two (untranslated e two)
+
+  one-length : twoMove c ≡ false → length (touchedByTransfer c m) ≡ pick (c .fields .translates) 3 2
+  unfolding storesTwo
+  one-length two = moved-length c m ∙ one-accesses (twoMove c) (cutShort c (dataOf c m)) (c .fields .translates) two
 
   at-most : transferOf c m .number ≡ 0 → length (touchedByTransfer c m) ≤ 4
-  at-most e = go (twoMove c) refl (c .fields .translates) refl (cutShort c (dataOf c m)) refl
+  at-most e = go (twoMove c) refl
     where
-      go : (b : Bool) → twoMove c ≡ b → (t : Bool) → c .fields .translates ≡ t → (x : Bool) → cutShort c (dataOf c m) ≡ x → length (touchedByTransfer c m) ≤ 4
-      go true two t h false cut = subst (λ (k : ℕ). k ≤ 4) (sym (two-bytes e two cut)) (lit≤ tt)
-      go true two t h true cut = subst (λ (k : ℕ). k ≤ 4) (sym (prevented-store e cut)) (lit≤ tt)
-      go false two true h x cut = subst (λ (k : ℕ). k ≤ 4) (sym (translated-byte e h)) (lit≤ tt)
-      go false two false h x cut = subst (λ (k : ℕ). k ≤ 4) (sym (one-byte e two h)) (lit≤ tt)
+      three : (x : Bool) → pick x 3 4 ≤ 4
+      three true = lit≤ tt
+      three false = lit≤ tt
+
+      less : (x : Bool) → pick x 3 2 ≤ 4
+      less true = lit≤ tt
+      less false = lit≤ tt
+
+      go : (b : Bool) → twoMove c ≡ b → length (touchedByTransfer c m) ≤ 4
+      go true two = subst (λ (k : ℕ). k ≤ 4) (sym (two-length e two)) (three (cutShort c (dataOf c m)))
+      go false two = subst (λ (k : ℕ). k ≤ 4) (sym (one-length two)) (less (c .fields .translates))
 
   pub transfer-counts : TransferCounts c m
-  transfer-counts = record { oneByte = one-byte; translated = translated-byte; twoBytes = two-bytes; prevented = prevented-store; most = at-most }
+  unfolding transferCount
+  transfer-counts =
+      let within = counted-within 4 (transferOf c m .number) (touchedByTransfer c m) at-most in
+      record {
+        within = within;
+        oneByte = λ e two t. within .list e ∙ one-length two ∙ ap (λ (x : Bool). pick x 3 2) t;
+        translated = λ e t. within .list e ∙ one-length (narrow e t) ∙ ap (λ (x : Bool). pick x 3 2) t;
+        twoBytes = λ e two cut. within .list e ∙ two-length e two ∙ ap (λ (x : Bool). pick x 3 4) cut;
+        prevented = λ e cut. within .list e ∙ two-length e (singly-two cut) ∙ ap (λ (x : Bool). pick x 3 4) cut;
+      }
 
 -- ---- an instruction
 
--- what a deed reads and stores
-deed-length : Deed → ℕ
-deed-length d = length (d .reads) + d .change .count
-
--- bytes in a row, and others after them
-row-and : (p : Pointer) (k j : ℕ) → length (bytesAt p k) + j ≡ k + j
-row-and p k j = ap (λ (x : ℕ). x + j) (span-length (p .tag) (p .address) k)
-
-first-reads : (work : Work) (wide : Bool) → readFirst work wide ≡ workReads work wide
-unfolding readFirst isMove workReads
-first-reads Mov wide = refl
-first-reads Add wide = refl
-first-reads Or wide = refl
-first-reads And wide = refl
-first-reads Work.Not wide = refl
-
-mov-length : (m : Buffers) (c : Channel) (tp : Pointer) (o : Memory) (x : Second) → (movSecondDeed m c tp o x) .second ≡ 0
-    → deed-length (movSecondDeed m c tp o x) ≡ secondOffset x + sizeOf (o .wide) + sizeOf (o .wide)
-unfolding deed-length movSecondDeed movOperandDeed secondOffset
-mov-length m c tp o NoSecond h = absurd (eqb-false 3 0 refl h)
-mov-length m c tp o (Operand q) h =
-    ap (λ (x : ℕ). x + sizeOf (o .wide))
-    (length-append (bytesAt (onward (afterPair tp o) 2) (offsetLength q)) (bytesAt (effective m c o tp) (sizeOf (o .wide)))
-    ∙ ap₂ _+_ (span-length _ _ (offsetLength q)) (span-length _ _ (sizeOf (o .wide))))
-
-tsl-length : (x : Bool) (p : Pointer) (a b : Channel) (e f : Change) → e .count ≡ 1 → f .count ≡ 0
-    → deed-length (pick x (deed (bytesAt p 1) a e) (deed (bytesAt p 1) b f)) ≡ 1 + pick x 1 0
-unfolding deed-length span
-tsl-length true p a b e f h k = ap (λ (y : ℕ). 1 + y) h
-tsl-length false p a b e f h k = ap (λ (y : ℕ). 1 + y) k
-
--- where an operand lies does not depend on TP and the mark
-effective-past : (m : Buffers) (c : Channel) (n : ℕ) (o : Memory) (p : Pointer) → effective m (pastInstruction c n) o p ≡ effective m c o p
-unfolding effective indexed baseOf pastInstruction renewed
-effective-past m c n o p = refl
-
-module _ (m : Buffers) (c : Channel) (busy : ℕ) where
-  shape-length : (s : Shape) → (deedOf s m c busy) .second ≡ 0 → deed-length (deedOf s m c busy) ≡ accessCount s m c
-  unfolding deedOf performed deed-length span accessCount nopDeed sintrDeed xferDeed widDeed hltDeed registerImmediateDeed registerDeed registerMemoryDeed lpdiDeed lpdDeed movpLoadDeed workedBack memoryWorkDeed memoryRegisterDeed memoryImmediateDeed memoryAloneDeed movpStoreDeed bitDeed movMemoryDeed jumpRegisterDeed jumpMemoryDeed jumpByteDeed jumpMaskedDeed jumpBitDeed tslDeed callDeed
-  shape-length Nop h = refl
-  shape-length Sintr h = refl
-  shape-length Xfer h = refl
-  shape-length (Wid wideFrom wideInto) h = refl
-  shape-length Hlt h = refl
-  shape-length (Lpdi ppp) h = refl
-  shape-length (RegisterImmediate work rrr wide) h = refl
-  shape-length (Register single rrr) h = refl
-  shape-length (JumpRegister zero rrr two) h = refl
-  shape-length (RegisterMemory work rrr o) h = row-and _ (sizeOf (o .wide)) 0 ∙ add-zero (sizeOf (o .wide))
-  shape-length (MemoryRegister work rrr o) h = row-and _ (readFirst work (o .wide)) (sizeOf (o .wide)) ∙ ap (λ (x : ℕ). x + sizeOf (o .wide)) (first-reads work (o .wide))
-  shape-length (MemoryImmediate work o) h = row-and _ (readFirst work (o .wide)) (sizeOf (o .wide)) ∙ ap (λ (x : ℕ). x + sizeOf (o .wide)) (first-reads work (o .wide))
-  shape-length (MemoryAlone single o) h = row-and _ (sizeOf (o .wide)) (sizeOf (o .wide))
-  shape-length (JumpMemory zero o two) h = row-and _ (sizeOf (o .wide)) 0 ∙ add-zero (sizeOf (o .wide))
-  shape-length (Lpd ppp o) h = refl
-  shape-length (MovpLoad ppp o) h = refl
-  shape-length (MovpStore ppp o) h = refl
-  shape-length (MovMemory o) h = mov-length m (pastInstruction c (lengthOf (MovMemory o))) (c .tp) o (secondAt m (c .tp) o) h
-  shape-length (Tsl o) h =
-      tsl-length (eqb (byteHere m (effective m (pastInstruction c (lengthOf (Tsl o))) o (c .tp))) 0) (effective m (pastInstruction c (lengthOf (Tsl o))) o (c .tp)) _ _ _ _ refl refl
-      ∙ ap (λ (p : Pointer). 1 + pick (eqb (byteHere m p) 0) 1 0) (effective-past m c (lengthOf (Tsl o)) o (c .tp))
-  shape-length (Call o two) h = refl
-  shape-length (JumpMasked equal o two) h = refl
-  shape-length (JumpBit set bit o two) h = refl
-  shape-length (Bit on bit o) h = refl
-
-  -- the pair, the bytes after it, and what the deed reads and stores
-  stages-length : (s : Shape) → (deedOf s m c busy) .second ≡ 0
-      → length (stagesTouched (stagesFrom (Instruction s) m c busy)) ≡ lengthOf s + deed-length (deedOf s m c busy)
-  unfolding stagesTouched stagesFrom laterFrom deedFrom laterBytes placesOf deed-length
-  stages-length s h =
-      let d = deedOf s m c busy in
-      let later = bytesAt (onward (c .tp) 2) (lengthOf s - 2) in
-      let stored = bytesAt (d .change .at) (d .change .count) in
-      let e₀ : length (bytesAt (c .tp) 2) ≡ 2 = span-length (c .tp .tag) (c .tp .address) 2 in
-      let e₁ : length later ≡ lengthOf s - 2 = span-length ((onward (c .tp) 2) .tag) ((onward (c .tp) 2) .address) (lengthOf s - 2) in
-      let e₂ : length stored ≡ d .change .count = span-length (d .change .at .tag) (d .change .at .address) (d .change .count) in
-      let two : 2 ≤ lengthOf s = bounded s .0 in
-      rw (eq-eqb (d .second) 0 h)
-      (length-append (bytesAt (c .tp) 2) (later ++ ((d .reads ++ stored) ++ []))
-      ∙ ap₂ _+_ e₀ (length-append later ((d .reads ++ stored) ++ []) ∙ ap₂ _+_ e₁ (length-append (d .reads ++ stored) [] ∙ ap₂ _+_ (length-append (d .reads) stored ∙ ap (λ (x : ℕ). length (d .reads) + x) e₂) refl))
-      ∙ sum (lengthOf s) (length (d .reads)) (d .change .count) two)
-    where
-      sum : (l r w : ℕ) → 2 ≤ l → 2 + (l - 2 + (r + w + 0)) ≡ l + (r + w)
-      sum l r w h = omega arith
-
-  instruction-exact : (s : Shape) → decodedAt m (c .tp) ≡ Instruction s → executeOf c busy m .number ≡ 0 → length (touchedByInstruction m c busy) ≡ instructionCount s m c
-  unfolding touchedByInstruction instructionStages instructionCount deedFrom
-  instruction-exact s e z =
-      let passed : (deedOf s m c busy) .second ≡ 0 = ap (λ (d : Decoded). (deedFrom d m c busy) .second) (sym e) ∙ second-passed c busy m (sym (number-is c busy m) ∙ z) in
-      ap (λ (d : Decoded). length (stagesTouched (stagesFrom d m c busy))) e
-      ∙ stages-length s passed
-      ∙ ap (λ (x : ℕ). lengthOf s + x) (shape-length s passed)
-
--- ---- at most ten
-
-size-small : (wide : Bool) → sizeOf wide ≤ 2
-size-small true = lit≤ tt
-size-small false = lit≤ tt
-
-read-small : (work : Work) (wide : Bool) → workReads work wide ≤ 2
-unfolding workReads
-read-small Mov wide = lit≤ tt
-read-small Add wide = size-small wide
-read-small Or wide = size-small wide
-read-small And wide = size-small wide
-read-small Work.Not wide = size-small wide
-
-second-small : (x : Second) → secondOffset x ≤ 1
-unfolding secondOffset offsetLength
-second-small (Operand q) = offset-small (q .aa)
-second-small NoSecond = lit≤ tt
-
-shape-most : (s : Shape) (m : Buffers) (c : Channel) → instructionCount s m c ≤ 10
-unfolding instructionCount accessCount lengthOf dataLength displacementLength
-shape-most Nop m c = omega arith
-shape-most Sintr m c = omega arith
-shape-most Xfer m c = omega arith
-shape-most (Wid wideFrom wideInto) m c = omega arith
-shape-most Hlt m c = omega arith
-shape-most (Lpdi ppp) m c = omega arith
-shape-most (RegisterImmediate work rrr wide) m c = omega (arith, more-small wide)
-shape-most (Register single rrr) m c = omega arith
-shape-most (JumpRegister zero rrr two) m c = omega (arith, more-small two)
-shape-most (RegisterMemory work rrr o) m c = omega (arith, offset-small (o .aa), size-small (o .wide))
-shape-most (MemoryRegister work rrr o) m c = omega (arith, offset-small (o .aa), size-small (o .wide), read-small work (o .wide))
-shape-most (MemoryImmediate work o) m c = omega (arith, offset-small (o .aa), more-small (o .wide), size-small (o .wide), read-small work (o .wide))
-shape-most (MemoryAlone single o) m c = omega (arith, offset-small (o .aa), size-small (o .wide))
-shape-most (JumpMemory zero o two) m c = omega (arith, offset-small (o .aa), more-small two, size-small (o .wide))
-shape-most (Lpd ppp o) m c = omega (arith, offset-small (o .aa))
-shape-most (MovpLoad ppp o) m c = omega (arith, offset-small (o .aa))
-shape-most (MovpStore ppp o) m c = omega (arith, offset-small (o .aa))
-shape-most (MovMemory o) m c = omega (arith, offset-small (o .aa), size-small (o .wide), second-small (secondAt m (c .tp) o))
-shape-most (Tsl o) m c = omega (arith, offset-small (o .aa), more-small (eqb (byteHere m (effective m c o (c .tp))) 0))
-shape-most (Call o two) m c = omega (arith, offset-small (o .aa), more-small two)
-shape-most (JumpMasked equal o two) m c = omega (arith, offset-small (o .aa), more-small two)
-shape-most (JumpBit set bit o two) m c = omega (arith, offset-small (o .aa), more-small two)
-shape-most (Bit on bit o) m c = omega (arith, offset-small (o .aa))
-
 module _ (c : Channel) (busy : ℕ) (m : Buffers) where
-  hlt-length : decodedAt m (c .tp) ≡ Instruction Hlt → executeOf c busy m .number ≡ 0 → length (touchedByInstruction m c busy) ≡ 3
-  unfolding instructionCount accessCount lengthOf dataLength displacementLength
-  hlt-length e z = instruction-exact m c busy Hlt e z
+  instruction-within : CountedWithin 10 (executeOf c busy m .number) (executeCount c busy m) (length (touchedByInstruction m c busy))
+  unfolding executeCount
+  instruction-within =
+      counted-within 10 (executeOf c busy m .number) (touchedByInstruction m c busy) (λ e. touched-most m c busy (sym (number-is c busy m) ∙ e))
 
-  instruction-most : executeOf c busy m .number ≡ 0 → length (touchedByInstruction m c busy) ≤ 10
-  instruction-most z = go (decodedAt m (c .tp)) refl
-    where
-      passed : numberOf (decodedAt m (c .tp)) ≡ 0
-      passed = pair-passed c busy m (sym (number-is c busy m) ∙ z)
-
-      go : (d : Decoded) → decodedAt m (c .tp) ≡ d → length (touchedByInstruction m c busy) ≤ 10
-      go (Instruction s) e = subst (λ (k : ℕ). k ≤ 10) (sym (instruction-exact m c busy s e z)) (shape-most s m c)
-      go NoInstruction e = absurd (eqb-false 3 0 refl (ap numberOf (sym e) ∙ passed))
-      go ControlUsed e = absurd (eqb-false 4 0 refl (ap numberOf (sym e) ∙ passed))
+  instruction-exact : (s : Shape) → decodedAt m (c .tp) ≡ Instruction s → executeOf c busy m .number ≡ 0 → executeCount c busy m ≡ instructionCount s m c
+  instruction-exact s d e = instruction-within .list e ∙ touched-exact m c busy s d (sym (number-is c busy m) ∙ e)
 
   pub instruction-counts : InstructionCounts c busy m
-  instruction-counts = record { exact = instruction-exact m c busy; halts = hlt-length; most = instruction-most }
+  unfolding instructionCount accessCount lengthOf dataLength displacementLength
+  instruction-counts =
+      record {
+        within = instruction-within;
+        exact = instruction-exact;
+        halts = instruction-exact Hlt;
+        found = λ o d e z. instruction-exact (Tsl o) d e ∙ ap (λ (x : Bool). lengthOf (Tsl o) + (1 + pick x 1 0)) (eq-eqb (byteHere m (effective m c o (c .tp))) 0 z);
+        taken = λ o d e ne. instruction-exact (Tsl o) d e ∙ ap (λ (x : Bool). lengthOf (Tsl o) + (1 + pick x 1 0)) (ne-eqb (byteHere m (effective m c o (c .tp))) 0 ne);
+      }
 
 -- ---- a step
 
@@ -386,9 +237,10 @@ module _ (s : State) (lines : ℕ) (m : Buffers) where
       → length (pick x (touchedByTransfer (channelOf s b) m) (touchedByInstruction m (channelOf s b) (busyIn (blockOf s b)))) ≤ 10
   unfolding transferStep instructionStep
   turn-most b true e =
-      let most : length (touchedByTransfer (channelOf s b) m) ≤ 4 = transfer-counts (channelOf s b) m .most (sym (settled-number _ s m b _ _ _) ∙ e) in
+      let most : length (touchedByTransfer (channelOf s b) m) ≤ 4 = at-most (channelOf s b) m (sym (settled-number _ s m b _ _ _) ∙ e) in
       omega arith
-  turn-most b false e = instruction-most (channelOf s b) (busyIn (blockOf s b)) m (sym (settled-number _ s m b _ _ _) ∙ e)
+  turn-most b false e =
+      touched-most m (channelOf s b) (busyIn (blockOf s b)) (sym (number-is (channelOf s b) (busyIn (blockOf s b)) m) ∙ sym (settled-number _ s m b _ _ _) ∙ e)
 
   chosen-most : (x : Choice) → (chosenStep x s m) .number ≡ 0 → length (touchedIn x s m) ≤ 10
   unfolding touchedIn chosenStep channelStep
@@ -396,13 +248,14 @@ module _ (s : State) (lines : ℕ) (m : Buffers) where
   chosen-most (Ends b) e = lit≤ tt
   chosen-most (Steps b) e = turn-most b (transferring (channelOf s b .psw)) e
 
-  step-ends : (b : Bool) → choiceOf s lines ≡ Ends b → length (touchedByStep s m lines) ≡ 0
-  unfolding touchedByStep touchedIn
-  step-ends b e = rw e
-
-  step-most : stepOf s m lines .number ≡ 0 → length (touchedByStep s m lines) ≤ 10
-  unfolding touchedByStep
-  step-most e = chosen-most (choiceOf s lines) (entered e)
+  step-ends : (b : Bool) → choiceOf s lines ≡ Ends b → stepCount s m lines ≡ 0
+  unfolding stepCount touchedByStep touchedIn
+  step-ends b e = ap (λ (x : Choice). counted (stepOf s m lines .number) (touchedIn x s m)) e ∙ counts-none (stepOf s m lines .number)
 
   pub step-counts : StepCounts s lines m
-  step-counts = record { ends = step-ends; most = step-most; refused = refused-none (stepOf s m lines .number) (touchedByStep s m lines) }
+  unfolding stepCount touchedByStep
+  step-counts =
+      record {
+        within = counted-within 10 (stepOf s m lines .number) (touchedByStep s m lines) (λ e. chosen-most (choiceOf s lines) (entered e));
+        ends = step-ends;
+      }

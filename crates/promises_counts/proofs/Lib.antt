@@ -2,6 +2,7 @@ pub mod AgreeLaws
 pub mod TraceLaws
 pub mod DeedLaws
 pub mod Attention
+pub mod Power
 pub mod Instruction
 pub mod Transfer
 pub mod Step

@@ -1,6 +1,7 @@
 -- From what a call reads and would store to the completeness of its list, and what follows from that; stores at addresses in a row.
 -- Assumes nothing.
 use Prim.Native.Nat.{ℕ, _+_}
+use lib.Dec.{eqb}
 use lib.ListN.{length}
 use mathlib.Core.Bool.{Bool, true, false}
 use mathlib.Core.List.{List, [], _∷_, _++_, append-nil}
@@ -11,7 +12,10 @@ use Rattle.memory.proofs.SpanLaws.{apart-right}
 use Rattle.memory.proofs.StoreLaws.{store-length, read-other}
 use Rattle.memory.specs.Buffers.{Buffers, spaceOf, byteAt, storeByte}
 use Rattle.memory.specs.Places.{Place, span, ApartFrom}
+use Rattle.machine.specs.Outcomes.{outcome, settled}
+use Rattle.machine.specs.declared.State.{State}
 use Rattle.promises_counts.specs.Complete.{SameLengths, AgreeOn, Complete}
+use Rattle.promises_counts.specs.Lists.{callAnswer}
 use Rattle.promises_counts.specs.Stores.{Store, storesMade, storePlaces}
 use Rattle.promises_counts.proofs.AgreeLaws.{agree-self, agree-left}
 
@@ -57,6 +61,24 @@ complete {A} {touched} {answer} {after} {m} t = go (t .done) (t .same)
           sameAnswer = λ n l h. f n l (read n h) .told;
           sameStores = λ n l h. f n l (read n h) .left;
         }
+
+-- ---- what a settled call answers and leaves, by its number
+
+pub settled-told : (k : ℕ) (s s′ : State) (o o′ : Buffers) → callAnswer (settled k s o s′ o′) ≡ pick (eqb k 0) (0, s′) (k, s)
+unfolding settled
+settled-told k s s′ o o′ = go (eqb k 0)
+  where
+    go : (b : Bool) → callAnswer (pick b (outcome 0 s′ o′) (outcome k s o)) ≡ pick b (0, s′) (k, s)
+    go true = refl
+    go false = refl
+
+pub settled-left : (k : ℕ) (s s′ : State) (o o′ : Buffers) → (settled k s o s′ o′) .memory ≡ pick (eqb k 0) o′ o
+unfolding settled
+settled-left k s s′ o o′ = go (eqb k 0)
+  where
+    go : (b : Bool) → (pick b (outcome 0 s′ o′) (outcome k s o)) .memory ≡ pick b o′ o
+    go true = refl
+    go false = refl
 
 -- ---- what a complete list gives
 

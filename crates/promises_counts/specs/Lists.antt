@@ -1,14 +1,11 @@
 -- The calls that have a list of touched places, and that the list of each is complete.
-use mathlib.Core.List.{List}
 use Prim.Native.Nat.{ℕ}
 use Rattle.memory.specs.Buffers.{Buffers}
-use Rattle.memory.specs.Places.{Place}
 use Rattle.machine.specs.Outcomes.{Outcome}
-use Rattle.machine.specs.States.{channelOf, isSecond}
 use Rattle.machine.specs.declared.Channel.{Channel}
 use Rattle.machine.specs.declared.State.{State}
-use Rattle.attention.specs.Attention.{orderTo, attentionOf}
-use Rattle.attention.specs.Touched.{touchedByOrder}
+use Rattle.attention.specs.Attention.{attentionOf, touchedByAttention}
+use Rattle.power.specs.Power.{touchedByPower, powerUpOf}
 use Rattle.transfer.specs.Steps.{Transfer, touchedByTransfer, transferOf}
 use Rattle.execute.specs.Execute.{Executed, touchedByInstruction, executeOf}
 use Rattle.step.specs.Step.{Step, stepOf}
@@ -16,13 +13,9 @@ use Rattle.step.specs.Touched.{touchedByStep}
 use Rattle.step.specs.declared.Kind.{Kind}
 use Rattle.promises_counts.specs.Complete.{Complete}
 
--- the bytes that an attention reads or stores, each access once
-unfoldable pub touchedByAttention : State → Buffers → ℕ → List Place
-touchedByAttention s m channel = touchedByOrder (orderTo s m (isSecond channel)) (channelOf s (isSecond channel) .mode)
-
 -- what each call answers, beside the memories
-abbrev pub attentionAnswer : Outcome → ℕ × State
-attentionAnswer o = (o .number, o .state)
+abbrev pub callAnswer : Outcome → ℕ × State
+callAnswer o = (o .number, o .state)
 
 abbrev pub transferAnswer : Transfer → ℕ × Channel
 transferAnswer o = (o .number, o .channel)
@@ -36,7 +29,11 @@ stepAnswer o = (o .number, o .state, o .channel, o .kind)
 -- the list of an attention is complete
 abbrev pub AttentionComplete : State → ℕ → Buffers → Type 0
 AttentionComplete s channel =
-    Complete (λ n. touchedByAttention s n channel) (λ n. attentionAnswer (attentionOf s n channel)) (λ n. attentionOf s n channel .memory)
+    Complete (λ n. touchedByAttention s n channel) (λ n. callAnswer (attentionOf s n channel)) (λ n. attentionOf s n channel .memory)
+
+-- that of a power-up
+abbrev pub PowerComplete : State → Buffers → Type 0
+PowerComplete s = Complete touchedByPower (λ n. callAnswer (powerUpOf s n)) (λ n. powerUpOf s n .memory)
 
 -- that of a channel's transfer step
 abbrev pub TransferComplete : Channel → Buffers → Type 0
