@@ -10,16 +10,17 @@ use Rattle.words.specs.Choice.{pick}
 use Rattle.memory.specs.Buffers.{Buffers, buffers}
 use Rattle.machine.specs.declared.State.{State}
 use Rattle.machine.specs.States.{freshOf}
-use Rattle.attention.specs.Attention.{attentionOf}
-use Rattle.power.specs.Power.{powerUpOf}
+use Rattle.attention.specs.Attention.{attentionOf, attentionCount}
+use Rattle.power.specs.Power.{powerUpOf, powerCount}
 use Rattle.step.specs.Step.{stepOf}
+use Rattle.step.specs.Touched.{stepCount}
 use Rattle.notation.specs.Characters.{ascii}
 use Rattle.prom.specs.Load.{loadOf}
 use Rattle.page.specs.Pages.{page, Behind, Printed}
 use Rattle.page.proofs.PageLaws.{printed, nothing-behind}
 use Rattle.script_text.specs.declared.text.Call.{Call}
 use Rattle.script_text.specs.declared.text.Call.the-variants.{Nothing, Unknown, Make, Put, Set, Attention, Step, Dump, Show, Listing, Load, Reset, PowerUp}
-use Rattle.script_lines.proofs.LengthLaws.{answer-short, stepped-short, loaded-short, dump-short, shown-short}
+use Rattle.script_lines.proofs.LengthLaws.{answer-short, counted-short, stepped-short, loaded-short, dump-short, shown-short}
 use Rattle.script_answers.specs.Machine.{callMade}
 use Rattle.script_answers.specs.Shown.{advancedLine, putLine, loadText, callText}
 use Rattle.script_answers.proofs.ListingLaws.{listed-short}
@@ -37,8 +38,8 @@ call-short Unknown line s m = omega arith
 call-short (Make sys io cp) line s m = omega (arith, answer-short (ascii "make ") (freshOf cp .number))
 call-short (Put space address) line s m = omega (arith, put-short (callMade (Put space address) line m))
 call-short (Set channel register value) line s m = omega (arith, answer-short (ascii "set ") 0)
-call-short (Attention channel) line s m = omega (arith, answer-short (ascii "ca ") (attentionOf s m channel .number))
-call-short (Step lines) line s m = omega (arith, stepped-short (stepOf s m lines .number) (stepOf s m lines .channel) (stepOf s m lines .kind))
+call-short (Attention channel) line s m = omega (arith, counted-short (ascii "ca ") (attentionOf s m channel .number) (attentionCount s m channel))
+call-short (Step lines) line s m = omega (arith, stepped-short (stepOf s m lines .number) (stepOf s m lines .channel) (stepOf s m lines .kind) (stepCount s m lines))
 call-short Dump line s m = omega (arith, dump-short s m)
 call-short (Show space address) line s m = omega (arith, shown-short (pick space (m .io) (m .sys)) address)
 call-short (Listing space address count) line s m = listed-short (pick space (m .io) (m .sys)) address count
@@ -46,7 +47,7 @@ call-short Load line s m =
     let l = loadOf line (buffers (m .sys) []) in
     omega (arith, loaded-short (l .number) (l .line) (l .start))
 call-short Reset line s m = omega (arith, answer-short (ascii "reset ") 0)
-call-short PowerUp line s m = omega (arith, answer-short (ascii "power ") (powerUpOf s m .number))
+call-short PowerUp line s m = omega (arith, counted-short (ascii "power ") (powerUpOf s m .number) (powerCount m))
 
 -- the text that was written from the start of such a buffer is the call's, whole
 pub shows : {call this : Call} (line : List ℕ) (s : State) (m : Buffers) {before after : List ℕ} {count : ℕ} → call ≡ this → 32768 ≡ length before

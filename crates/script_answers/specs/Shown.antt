@@ -7,20 +7,21 @@ use Rattle.words.specs.Choice.{pick}
 use Rattle.memory.specs.Buffers.{Buffers, buffers}
 use Rattle.machine.specs.declared.State.{State}
 use Rattle.machine.specs.States.{freshOf}
-use Rattle.attention.specs.Attention.{attentionOf}
-use Rattle.power.specs.Power.{powerUpOf}
+use Rattle.attention.specs.Attention.{attentionOf, attentionCount}
+use Rattle.power.specs.Power.{powerUpOf, powerCount}
 use Rattle.step.specs.Step.{stepOf}
+use Rattle.step.specs.Touched.{stepCount}
 use Rattle.lister.specs.Listings.{linesOf, allChars}
 use Rattle.notation.specs.Characters.{ascii}
 use Rattle.prom.specs.Load.{Loading, loadOf}
 use Rattle.script_text.specs.declared.text.Call.{Call}
 use Rattle.script_text.specs.declared.text.Call.the-variants.{Nothing, Unknown, Make, Put, Set, Attention, Step, Dump, Show, Listing, Load, Reset, PowerUp}
-use Rattle.script_lines.specs.Lines.{refusedLine, answerLine, steppedLine, loadedLine, dumpText, shownLine}
+use Rattle.script_lines.specs.Lines.{refusedLine, answerLine, countedLine, steppedLine, loadedLine, dumpText, shownLine}
 use Rattle.script_answers.specs.Machine.{isPart, callMade}
 
 -- the line of what a step answered
 unfoldable pub advancedLine : State → Buffers → ℕ → List ℕ
-advancedLine s m lines = steppedLine (stepOf s m lines .number) (stepOf s m lines .channel) (stepOf s m lines .kind)
+advancedLine s m lines = steppedLine (stepOf s m lines .number) (stepOf s m lines .channel) (stepOf s m lines .kind) (stepCount s m lines)
 
 -- the line of `put`: that of a call that was shut out where a byte would lie past the buffer's end
 unfoldable pub putLine : Bool → List ℕ
@@ -41,11 +42,11 @@ callText Unknown line s m = refusedLine
 callText (Make sys io cp) line s m = answerLine (ascii "make ") (freshOf cp .number)
 callText (Put space address) line s m = putLine (callMade (Put space address) line m)
 callText (Set channel register value) line s m = answerLine (ascii "set ") 0
-callText (Attention channel) line s m = answerLine (ascii "ca ") (attentionOf s m channel .number)
+callText (Attention channel) line s m = countedLine (ascii "ca ") (attentionOf s m channel .number) (attentionCount s m channel)
 callText (Step lines) line s m = advancedLine s m lines
 callText Dump line s m = dumpText s m
 callText (Show space address) line s m = shownLine (pick space (m .io) (m .sys)) address
 callText (Listing space address count) line s m = listedText (pick space (m .io) (m .sys)) address count
 callText Load line s m = loadText (loadOf line (buffers (m .sys) []))
 callText Reset line s m = answerLine (ascii "reset ") 0
-callText PowerUp line s m = answerLine (ascii "power ") (powerUpOf s m .number)
+callText PowerUp line s m = countedLine (ascii "power ") (powerUpOf s m .number) (powerCount m)

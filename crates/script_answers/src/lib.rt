@@ -11,8 +11,8 @@ ghost use Prim.Native.Nat.{_≤_};
 ghost use lib.ListN.{length};
 ghost use Rattle.memory.specs.Buffers.{buffers};
 ghost use Rattle.machine.specs.States.{freshOf};
-ghost use Rattle.attention.specs.Attention.{attentionOf};
-ghost use Rattle.power.specs.Power.{powerUpOf};
+ghost use Rattle.attention.specs.Attention.{attentionOf, attentionCount};
+ghost use Rattle.power.specs.Power.{powerUpOf, powerCount};
 ghost use Rattle.notation.specs.Characters.{ascii};
 ghost use Rattle.page.specs.Pages.{page, Behind, Printed};
 ghost use Rattle.prom.specs.Load.{loadOf};
@@ -20,7 +20,7 @@ ghost use Rattle.script_text.specs.Text.{spanned, fourthSpan};
 ghost use Rattle.script_text.specs.Registers.{withNamed};
 ghost use Rattle.words.specs.Choice.{pick};
 ghost use Rattle.script_text.specs.Buffers.{hasRoom};
-ghost use Rattle.script_lines.specs.Lines.{answerLine, shownLine};
+ghost use Rattle.script_lines.specs.Lines.{answerLine, countedLine, shownLine};
 ghost use Rattle.script_answers.specs.Machine.{machine, remade, putInto, machineAttended, machineAdvanced, machineLoaded, machinePowered, isPart, callPerformed, callMade};
 ghost use Rattle.script_answers.specs.Shown.{advancedLine, putLine, listedText, loadText, callText};
 
@@ -75,14 +75,14 @@ fn put_line(out: &mut [u8], made: bool) -> usize
 // Gives a channel attention.
 fn attend(s: State, channel: u32, sys: &mut [u8], io: &mut [u8], out: &mut [u8]) -> Performed
     ensures { λ r. ⌜ (machine (r .state) (buffers (now (sys .exit)) (now (io .exit))) ≡ machineAttended s (buffers (now (sys .entry)) (now (io .entry))) channel) × (r .made ≡ true) ⌝ }
-    ensures { λ r. ⌜ Behind (page (now (out .entry)) 0) (page (now (out .exit)) (r .count)) (answerLine (ascii "ca ") (attentionOf s (buffers (now (sys .entry)) (now (io .entry))) channel .number)) ⌝ }
+    ensures { λ r. ⌜ Behind (page (now (out .entry)) 0) (page (now (out .exit)) (r .count)) (countedLine (ascii "ca ") (attentionOf s (buffers (now (sys .entry)) (now (io .entry))) channel .number) (attentionCount s (buffers (now (sys .entry)) (now (io .entry))) channel)) ⌝ }
 {
     let a = attention::attention(s, sys, io, channel);
     let state = a.state;
     Performed {
         state,
         made: true,
-        count: script_lines::answer_line(out, 0, b"ca ", a.number),
+        count: script_lines::counted_line(out, 0, b"ca ", a.number, a.count),
     }
 }
 
@@ -97,7 +97,7 @@ fn advance(s: State, lines: u32, sys: &mut [u8], io: &mut [u8], out: &mut [u8]) 
     Performed {
         state,
         made: true,
-        count: script_lines::stepped_line(out, 0, r.number, r.channel, kind),
+        count: script_lines::stepped_line(out, 0, r.number, r.channel, kind, r.count),
     }
 }
 
@@ -182,14 +182,14 @@ fn load(file: &[u8], sys: &mut [u8], out: &mut [u8]) -> usize
 // Powers the machine up.
 fn wake(s: State, sys: &mut [u8], io: &mut [u8], out: &mut [u8]) -> Performed
     ensures { λ r. ⌜ (machine (r .state) (buffers (now (sys .exit)) (now (io .exit))) ≡ machinePowered s (buffers (now (sys .entry)) (now (io .entry)))) × (r .made ≡ true) ⌝ }
-    ensures { λ r. ⌜ Behind (page (now (out .entry)) 0) (page (now (out .exit)) (r .count)) (answerLine (ascii "power ") (powerUpOf s (buffers (now (sys .entry)) (now (io .entry))) .number)) ⌝ }
+    ensures { λ r. ⌜ Behind (page (now (out .entry)) 0) (page (now (out .exit)) (r .count)) (countedLine (ascii "power ") (powerUpOf s (buffers (now (sys .entry)) (now (io .entry))) .number) (powerCount (buffers (now (sys .entry)) (now (io .entry))))) ⌝ }
 {
     let a = power::power_up(s, sys, io);
     let state = a.state;
     Performed {
         state,
         made: true,
-        count: script_lines::answer_line(out, 0, b"power ", a.number),
+        count: script_lines::counted_line(out, 0, b"power ", a.number, a.count),
     }
 }
 

@@ -8,6 +8,8 @@ use mathlib.Core.Path.{_≡_, sym, _∙_}
 use Rattle.page.specs.Pages.{page}
 use Rattle.script_lines.proofs.answer_line.Kinds as answer-kinds
 use Rattle.script_lines.proofs.answer_line.Reads as answer-reads
+use Rattle.script_lines.proofs.counted_line.Kinds as counted-kinds
+use Rattle.script_lines.proofs.counted_line.Reads as counted-reads
 use Rattle.script_lines.proofs.dump.Kinds as dump-kinds
 use Rattle.script_lines.proofs.dump.Reads as dump-reads
 use Rattle.script_lines.proofs.loaded_line.Kinds as loaded-kinds
@@ -20,6 +22,10 @@ use Rattle.script_lines.proofs.stepped_line.Reads as stepped-reads
 pub answer-line-determined : (κs : Lfts 2) (a : Dens κs answer-kinds.ps) (r q : resT answer-kinds.r κs .Denot) (e f : AtExit (endedOf 2 answer-kinds.ps answer-kinds.r) κs)
     → answer-reads.Post κs a r e → answer-reads.Post κs a q f → page (now (e .0)) r ≡ page (now (f .0)) q
 answer-line-determined κs a r q e f p w = p .is ∙ sym (w .is)
+
+pub counted-line-determined : (κs : Lfts 2) (a : Dens κs counted-kinds.ps) (r q : resT counted-kinds.r κs .Denot) (e f : AtExit (endedOf 2 counted-kinds.ps counted-kinds.r) κs)
+    → counted-reads.Post κs a r e → counted-reads.Post κs a q f → page (now (e .0)) r ≡ page (now (f .0)) q
+counted-line-determined κs a r q e f p w = p .is ∙ sym (w .is)
 
 pub stepped-line-determined : (κs : Lfts 1) (a : Dens κs stepped-kinds.ps) (r q : resT stepped-kinds.r κs .Denot) (e f : AtExit (endedOf 1 stepped-kinds.ps stepped-kinds.r) κs)
     → stepped-reads.Post κs a r e → stepped-reads.Post κs a q f → page (now (e .0)) r ≡ page (now (f .0)) q

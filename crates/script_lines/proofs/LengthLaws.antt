@@ -21,7 +21,7 @@ use Rattle.notation.specs.Characters.{ascii}
 use Rattle.page.specs.Numbers.{hex, decimal, letter}
 use Rattle.page.proofs.NumberLaws.{hex-short, decimal-short}
 use Rattle.script_text.specs.Buffers.{digestOf}
-use Rattle.script_lines.specs.Lines.{feed, answerLine, steppedLine, loadedLine, registerText, markNumber, pointerText, pointersText, numbersText, numberOfMode, marksText, channelLine, bufferText, boardText, sharedLine, dumpText, byteText, bytesText, shownLine}
+use Rattle.script_lines.specs.Lines.{feed, answerLine, countText, countedLine, steppedLine, loadedLine, registerText, markNumber, pointerText, pointersText, numbersText, numberOfMode, marksText, channelLine, bufferText, boardText, sharedLine, dumpText, byteText, bytesText, shownLine}
 
 -- two texts in a row
 both : (a b : List ℕ) (m n : ℕ) → length a ≤ m → length b ≤ n → length (a ++ b) ≤ m + n
@@ -32,12 +32,22 @@ pub answer-short : (name : List ℕ) (number : ℕ) → length (answerLine name 
 unfolding answerLine
 answer-short name number = both name (decimal number ++ feed) (length name) 11 (omega arith) (both (decimal number) feed 10 1 (decimal-short number) (omega arith))
 
-pub stepped-short : (number channel : ℕ) (kind : Kind) → length (steppedLine number channel kind) ≤ 29
+count-short : (count : ℕ) → length (countText count) ≤ 12
+unfolding countText
+count-short count = both (32 ∷ decimal count) feed 11 1 (omega (arith, decimal-short count)) (omega arith)
+
+pub counted-short : (name : List ℕ) (number count : ℕ) → length (countedLine name number count) ≤ length name + 22
+unfolding countedLine
+counted-short name number count =
+    both name (decimal number ++ countText count) (length name) 22 (omega arith) (both (decimal number) (countText count) 10 12 (decimal-short number) (count-short count))
+
+pub stepped-short : (number channel : ℕ) (kind : Kind) (count : ℕ) → length (steppedLine number channel kind count) ≤ 40
 unfolding steppedLine
-stepped-short number channel kind =
-    both (ascii "step ") (decimal number ++ (ascii " " ++ (decimal channel ++ (32 ∷ letter kind ∷ feed)))) 5 24 (omega arith)
-    (both (decimal number) (ascii " " ++ (decimal channel ++ (32 ∷ letter kind ∷ feed))) 10 14 (decimal-short number)
-    (both (32 ∷ decimal channel) (32 ∷ letter kind ∷ feed) 11 3 (omega (arith, decimal-short channel)) (omega arith)))
+stepped-short number channel kind count =
+    both (ascii "step ") (decimal number ++ (ascii " " ++ (decimal channel ++ ((32 ∷ letter kind ∷ []) ++ countText count)))) 5 35 (omega arith)
+    (both (decimal number) (ascii " " ++ (decimal channel ++ ((32 ∷ letter kind ∷ []) ++ countText count))) 10 25 (decimal-short number)
+    (both (32 ∷ decimal channel) ((32 ∷ letter kind ∷ []) ++ countText count) 11 14 (omega (arith, decimal-short channel))
+    (both (32 ∷ letter kind ∷ []) (countText count) 2 12 (omega arith) (count-short count))))
 
 pub loaded-short : (number line start : ℕ) → length (loadedLine number line start) ≤ 36
 unfolding loadedLine

@@ -31,10 +31,18 @@ refusedLine = 63 ∷ feed
 unfoldable pub answerLine : List ℕ → ℕ → List ℕ
 answerLine name number = name ++ (decimal number ++ feed)
 
--- what a step answered: its number, the channel, and the letter of its kind
-unfoldable pub steppedLine : ℕ → ℕ → Kind → List ℕ
-steppedLine number channel kind =
-    ascii "step " ++ (decimal number ++ (ascii " " ++ (decimal channel ++ (32 ∷ letter kind ∷ feed))))
+-- how many bytes a call read and stored, which ends its line
+unfoldable pub countText : ℕ → List ℕ
+countText count = ascii " " ++ (decimal count ++ feed)
+
+-- a call's name, a space behind it, its number and its count
+unfoldable pub countedLine : List ℕ → ℕ → ℕ → List ℕ
+countedLine name number count = name ++ (decimal number ++ countText count)
+
+-- what a step answered: its number, the channel, the letter of its kind, and its count
+unfoldable pub steppedLine : ℕ → ℕ → Kind → ℕ → List ℕ
+steppedLine number channel kind count =
+    ascii "step " ++ (decimal number ++ (ascii " " ++ (decimal channel ++ ((32 ∷ letter kind ∷ []) ++ countText count))))
 
 -- what a load answered: its number, the line that decided, and the start address
 unfoldable pub loadedLine : ℕ → ℕ → ℕ → List ℕ

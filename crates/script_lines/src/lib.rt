@@ -9,7 +9,7 @@ use step::Kind;
 ghost use mathlib.Core.Path.{_≡_};
 ghost use Rattle.memory.specs.Buffers.{buffers};
 ghost use Rattle.page.specs.Pages.{page, Behind};
-ghost use Rattle.script_lines.specs.Lines.{answerLine, steppedLine, loadedLine, registerText, markNumber, pointerText, pointersText, numbersText, numberOfMode, marksText, channelLine, bufferText, boardText, sharedLine, dumpText, byteText, bytesText, shownLine};
+ghost use Rattle.script_lines.specs.Lines.{answerLine, countText, countedLine, steppedLine, loadedLine, registerText, markNumber, pointerText, pointersText, numbersText, numberOfMode, marksText, channelLine, bufferText, boardText, sharedLine, dumpText, byteText, bytesText, shownLine};
 
 // A call's name and its number.
 pub fn answer_line(out: &mut [u8], at: usize, name: &[u8], number: u32) -> usize
@@ -20,16 +20,42 @@ pub fn answer_line(out: &mut [u8], at: usize, name: &[u8], number: u32) -> usize
     page::append(out, numbered, b"\n")
 }
 
-// What a step answered: its number, the channel, and the letter of its kind.
-pub fn stepped_line(out: &mut [u8], at: usize, number: u32, channel: u32, kind: Kind) -> usize
-    ensures { λ r. ⌜ Behind (page (now (out .entry)) at) (page (now (out .exit)) r) (steppedLine number channel kind) ⌝ }
+// How many bytes a call read and stored, which ends its line.
+fn count_text(out: &mut [u8], at: usize, count: u32) -> usize
+    ensures { λ r. ⌜ Behind (page (now (out .entry)) at) (page (now (out .exit)) r) (countText count) ⌝ }
+{
+    let spaced = page::append(out, at, b" ");
+    let counted = page::append_decimal(out, spaced, count);
+    page::append(out, counted, b"\n")
+}
+
+// A call's name, its number and its count.
+pub fn counted_line(out: &mut [u8], at: usize, name: &[u8], number: u32, count: u32) -> usize
+    ensures { λ r. ⌜ Behind (page (now (out .entry)) at) (page (now (out .exit)) r) (countedLine (now (name .entry)) number count) ⌝ }
+{
+    let named = page::append(out, at, name);
+    let numbered = page::append_decimal(out, named, number);
+    count_text(out, numbered, count)
+}
+
+// What a step answered: its number, the channel, the letter of its kind, and its count.
+pub fn stepped_line(
+    out: &mut [u8],
+    at: usize,
+    number: u32,
+    channel: u32,
+    kind: Kind,
+    count: u32,
+) -> usize
+    ensures { λ r. ⌜ Behind (page (now (out .entry)) at) (page (now (out .exit)) r) (steppedLine number channel kind count) ⌝ }
 {
     let named = page::append(out, at, b"step ");
     let numbered = page::append_decimal(out, named, number);
     let spaced = page::append(out, numbered, b" ");
     let stepped = page::append_decimal(out, spaced, channel);
-    let end = [32u8, page::letter(kind), 10u8];
-    page::append(out, stepped, &end)
+    let end = [32u8, page::letter(kind)];
+    let lettered = page::append(out, stepped, &end);
+    count_text(out, lettered, count)
 }
 
 // What a load answered: its number, the line that decided, and the start address.

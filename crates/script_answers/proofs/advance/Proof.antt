@@ -1,6 +1,7 @@
 -- `script_answers::advance` meets its contract.
 -- Assumes nothing.
-use mathlib.Core.Path.{refl, ap}
+use Prim.Native.Nat.{ℕ}
+use mathlib.Core.Path.{refl, ap, ap₂}
 use Rattle.page.proofs.PageLaws.{reads}
 use Rattle.step.specs.Step.{Step}
 use Rattle.script_lines.specs.Lines.{steppedLine}
@@ -29,7 +30,7 @@ returns : tie.Need-returns
 unfolding machineAdvanced advancedLine
 returns c =
     let e = c .before .before .before .before .before .before .before .before .before .step .ensures in
-    ((ap (λ (o : Step). machine (o .state) (o .memory)) e, refl), reads (ap (λ (o : Step). steppedLine (o .number) (o .channel) (o .kind)) e) (c .before .before .stepped-line .ensures))
+    ((ap (λ (o : Step). machine (o .state) (o .memory)) (e .0), refl), reads (ap₂ (λ (o : Step) (k : ℕ). steppedLine (o .number) (o .channel) (o .kind) k) (e .0) (e .1)) (c .before .before .stepped-line .ensures))
 
 pub advance-spec : {M : Type 1} → statement M
 advance-spec =

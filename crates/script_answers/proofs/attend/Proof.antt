@@ -1,10 +1,11 @@
 -- `script_answers::attend` meets its contract.
 -- Assumes nothing.
-use mathlib.Core.Path.{refl, ap}
+use Prim.Native.Nat.{ℕ}
+use mathlib.Core.Path.{refl, ap, ap₂}
 use Rattle.machine.specs.Outcomes.{Outcome}
 use Rattle.notation.specs.Characters.{ascii}
 use Rattle.page.proofs.PageLaws.{reads}
-use Rattle.script_lines.specs.Lines.{answerLine}
+use Rattle.script_lines.specs.Lines.{countedLine}
 use Rattle.script_answers.specs.Machine.{machine, machineAttended}
 use borrow.Author.Needs.{needs}
 use Rattle.script_answers.proofs.attend.Statement.{statement}
@@ -13,11 +14,11 @@ use Rattle.script_answers.proofs.attend.Tie as tie
 attention-requires : tie.Need-attention-requires
 attention-requires c κs = search needs
 
-slice-aggregate-answer-line : tie.Need-slice-aggregate-answer-line
-slice-aggregate-answer-line c = search needs
+slice-aggregate-counted-line : tie.Need-slice-aggregate-counted-line
+slice-aggregate-counted-line c = search needs
 
-answer-line-requires : tie.Need-answer-line-requires
-answer-line-requires c κs = search needs
+counted-line-requires : tie.Need-counted-line-requires
+counted-line-requires c κs = search needs
 
 same-length : tie.Need-same-length
 same-length c = search needs
@@ -32,15 +33,15 @@ returns : tie.Need-returns
 unfolding machineAttended
 returns c =
     let e = c .before .before .before .before .before .before .before .before .before .before .attention .ensures in
-    ((ap (λ (o : Outcome). machine (o .state) (o .memory)) e, refl), reads (ap (λ (o : Outcome). answerLine (ascii "ca ") (o .number)) e) (c .before .before .answer-line .ensures))
+    ((ap (λ (o : Outcome). machine (o .state) (o .memory)) (e .0), refl), reads (ap₂ (λ (o : Outcome) (k : ℕ). countedLine (ascii "ca ") (o .number) k) (e .0) (e .1)) (c .before .before .counted-line .ensures))
 
 pub attend-spec : {M : Type 1} → statement M
 attend-spec =
     tie.close
     (tie.spec
     attention-requires
-    slice-aggregate-answer-line
-    answer-line-requires
+    slice-aggregate-counted-line
+    counted-line-requires
     same-length
     same-length-2
     same-length-3

@@ -5,7 +5,7 @@ use denote.Ref.{now}
 use lib.ListN.{length, replicate}
 use mathlib.Core.List.{List}
 use mathlib.Core.Path.{refl, ap, ap₂, _∙_}
-use Rattle.machine.specs.declared.Answer.{Answer}
+use Rattle.machine.specs.declared.Made.{Made}
 use Rattle.memory.specs.Buffers.{buffers}
 use Rattle.notation.specs.Characters.{ascii}
 use Rattle.page.proofs.PageLaws.{reads}
@@ -46,8 +46,8 @@ returns c =
     let f = c .before .before .before .before .before .before .fresh in
     let made =
     ap₂ (λ (s i : List ℕ). machine (f .result .state) (buffers s i)) (c .before .before .before .before .before .before .before .before .before .before .before .before .before .clear .ensures) (c .before .before .before .before .before .before .before .before .before .clear2 .ensures)
-    ∙ ap (λ (x : Answer). machine (x .state) (buffers (replicate (length (now (a .sys))) 0) (replicate (length (now (a .io))) 0))) (f .ensures) in
-    ((made, refl), reads (ap (λ (x : Answer). answerLine (ascii "make ") (x .number)) (f .ensures)) (c .before .before .answer-line .ensures))
+    ∙ ap (λ (x : Made). machine (x .state) (buffers (replicate (length (now (a .sys))) 0) (replicate (length (now (a .io))) 0))) (f .ensures) in
+    ((made, refl), reads (ap (λ (x : Made). answerLine (ascii "make ") (x .number)) (f .ensures)) (c .before .before .answer-line .ensures))
 
 pub make-spec : {M : Type 1} → statement M
 make-spec =

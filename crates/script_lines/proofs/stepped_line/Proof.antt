@@ -33,18 +33,22 @@ slice-aggregate-append-3 c = search needs
 append-requires-3 : tie.Need-append-requires-3
 append-requires-3 c κs = search needs
 
+count-text-requires : tie.Need-count-text-requires
+count-text-requires c κs = search needs
+
 same-length : tie.Need-same-length
 same-length c = search needs
 
 returns : tie.Need-returns
 unfolding steppedLine
 returns c =
-    let t1 = c .before .before .before .before .before .before .before .before .before .before .before .before .before .before .before .before .before .before .before .before .before .append .ensures in
-    let t2 = c .before .before .before .before .before .before .before .before .before .before .before .before .before .before .before .before .before .append-decimal .ensures in
-    let t3 = c .before .before .before .before .before .before .before .before .before .before .before .before .append2 .ensures in
-    let t4 = c .before .before .before .before .before .before .before .before .append-decimal2 .ensures in
-    let t5 = c .before .before .append3 .ensures in
-    reads (simp (c .before .before .before .before .before .letter .ensures)) (then t1 (then t2 (then t3 (then t4 t5))))
+    let t1 = c .before .before .before .before .before .before .before .before .before .before .before .before .before .before .before .before .before .before .before .before .before .before .before .before .before .append .ensures in
+    let t2 = c .before .before .before .before .before .before .before .before .before .before .before .before .before .before .before .before .before .before .before .before .before .append-decimal .ensures in
+    let t3 = c .before .before .before .before .before .before .before .before .before .before .before .before .before .before .before .before .append2 .ensures in
+    let t4 = c .before .before .before .before .before .before .before .before .before .before .before .before .append-decimal2 .ensures in
+    let t5 = c .before .before .before .before .before .before .append3 .ensures in
+    let t6 = c .before .before .count-text .ensures in
+    reads (simp (c .before .before .before .before .before .before .before .before .before .letter .ensures)) (then t1 (then t2 (then t3 (then t4 (then t5 t6)))))
 
 pub stepped-line-spec : {M : Type 1} → statement M
 stepped-line-spec =
@@ -59,5 +63,6 @@ stepped-line-spec =
     letter-requires
     slice-aggregate-append-3
     append-requires-3
+    count-text-requires
     same-length
     returns)

@@ -1,0 +1,32 @@
+-- `script_lines::counted_line` meets its contract.
+-- Assumes nothing.
+use Rattle.page.proofs.PageLaws.{then}
+use Rattle.script_lines.specs.Lines.{countedLine}
+use borrow.Author.Needs.{needs}
+use Rattle.script_lines.proofs.counted_line.Statement.{statement}
+use Rattle.script_lines.proofs.counted_line.Tie as tie
+
+append-requires : tie.Need-append-requires
+append-requires c κs = search needs
+
+append-decimal-requires : tie.Need-append-decimal-requires
+append-decimal-requires c κs = search needs
+
+count-text-requires : tie.Need-count-text-requires
+count-text-requires c κs = search needs
+
+same-length : tie.Need-same-length
+same-length c = search needs
+
+returns : tie.Need-returns
+unfolding countedLine
+returns c =
+    let t1 = c .before .before .before .before .before .before .before .before .before .before .append .ensures in
+    let t2 = c .before .before .before .before .before .before .append-decimal .ensures in
+    let t3 = c .before .before .count-text .ensures in
+    then t1 (then t2 t3)
+
+pub counted-line-spec : {M : Type 1} → statement M
+counted-line-spec =
+    tie.close
+    (tie.spec append-requires append-decimal-requires count-text-requires same-length returns)
