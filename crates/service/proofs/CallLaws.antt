@@ -12,11 +12,12 @@ use Rattle.words.proofs.ChoiceLaws.{apart, both-left}
 use Rattle.memory.specs.Buffers.{Buffers}
 use Rattle.machine.specs.Outcomes.{Outcome}
 use Rattle.machine.specs.States.{resetState, freshOf}
-use Rattle.machine.specs.declared.Answer.{Answer}
+use Rattle.machine.specs.declared.Made.{Made}
 use Rattle.machine.specs.declared.State.{State}
-use Rattle.attention.specs.Attention.{attentionOf}
-use Rattle.power.specs.Power.{powerUpOf}
+use Rattle.attention.specs.Attention.{attentionOf, attentionCount}
+use Rattle.power.specs.Power.{powerUpOf, powerCount}
 use Rattle.step.specs.Step.{Step, stepOf}
+use Rattle.step.specs.Touched.{stepCount}
 use Rattle.service.specs.Fields.{isFlag}
 use Rattle.service.specs.Layout.{bytesOf, stateIn, isBlock, isBoard, isState, stateLength, version, firstAt, secondFrom}
 use Rattle.service.specs.Calls.{made, served, answerFrom, kindNumber, freshMade, resetMade, outcomeServed, powerServed, attentionServed, stepServed}
@@ -48,12 +49,12 @@ pub fresh-short : (b : List ℕ) (cp : ℕ) → ¬ (length b ≡ stateLength)
 unfolding freshMade
 fresh-short b cp ne = (rw (ne-eqb (length b) stateLength ne), λ e. absurd (ne e))
 
-pub fresh-made : (b : List ℕ) (cp : ℕ) (a : Answer) → length b ≡ stateLength → a ≡ freshOf cp → stateIn (bytesOf (a .state)) ≡ a .state
-    → (made (answerFrom (a .number) 0 0) (sets b 0 (bytesOf (a .state))) ≡ freshMade b cp)
+pub fresh-made : (b : List ℕ) (cp : ℕ) (a : Made) → length b ≡ stateLength → a ≡ freshOf cp → stateIn (bytesOf (a .state)) ≡ a .state
+    → (made (answerFrom (a .number) 0 0 0) (sets b 0 (bytesOf (a .state))) ≡ freshMade b cp)
     × (length b ≡ stateLength → stateIn (sets b 0 (bytesOf (a .state))) ≡ freshOf cp .state)
 unfolding freshMade
 fresh-made b cp a e p w =
-    (rw (eq-eqb (length b) stateLength e, put-whole b (a .state) e, p), λ h. put-stands b (a .state) e w ∙ ap (λ (x : Answer). x .state) p)
+    (rw (eq-eqb (length b) stateLength e, put-whole b (a .state) e, p), λ h. put-stands b (a .state) e w ∙ ap (λ (x : Made). x .state) p)
 
 -- so it is with reset
 pub reset-short : (b : List ℕ) → ¬ (length b ≡ stateLength) → (made 17 b ≡ resetMade b) × (length b ≡ stateLength → stateIn b ≡ resetState)
@@ -61,23 +62,23 @@ unfolding resetMade
 reset-short b ne = (rw (ne-eqb (length b) stateLength ne), λ e. absurd (ne e))
 
 pub reset-made : (b : List ℕ) (s : State) → length b ≡ stateLength → s ≡ resetState → stateIn (bytesOf s) ≡ s
-    → (made (answerFrom 0 0 0) (sets b 0 (bytesOf s)) ≡ resetMade b) × (length b ≡ stateLength → stateIn (sets b 0 (bytesOf s)) ≡ resetState)
+    → (made (answerFrom 0 0 0 0) (sets b 0 (bytesOf s)) ≡ resetMade b) × (length b ≡ stateLength → stateIn (sets b 0 (bytesOf s)) ≡ resetState)
 unfolding resetMade
 reset-made b s e p w = (rw (eq-eqb (length b) stateLength e, put-whole b s e, p), λ h. put-stands b s e w ∙ p)
 
 module _ (b : List ℕ) (m : Buffers) where
   -- bytes that are no state are left by a power-up, an attention and a step, with both memories
-  outcome-none : (o : Outcome) → isState b ≡ false → (served 17 b m ≡ outcomeServed o b m) × (isState b ≡ true → stateIn b ≡ o .state)
-  outcome-none o h = (rw h, λ e. apart (sym e ∙ h))
+  outcome-none : (o : Outcome) (count : ℕ) → isState b ≡ false → (served 17 b m ≡ outcomeServed o count b m) × (isState b ≡ true → stateIn b ≡ o .state)
+  outcome-none o count h = (rw h, λ e. apart (sym e ∙ h))
 
   pub power-none : isState b ≡ false → (served 17 b m ≡ powerServed b m) × (isState b ≡ true → stateIn b ≡ powerUpOf (stateIn b) m .state)
   unfolding powerServed
-  power-none = outcome-none (powerUpOf (stateIn b) m)
+  power-none = outcome-none (powerUpOf (stateIn b) m) (powerCount m)
 
   pub attention-none : (channel : ℕ) → isState b ≡ false
       → (served 17 b m ≡ attentionServed b m channel) × (isState b ≡ true → stateIn b ≡ attentionOf (stateIn b) m channel .state)
   unfolding attentionServed
-  attention-none channel = outcome-none (attentionOf (stateIn b) m channel)
+  attention-none channel = outcome-none (attentionOf (stateIn b) m channel) (attentionCount (stateIn b) m channel)
 
   pub step-none : (lines : ℕ) → isState b ≡ false
       → (served 17 b m ≡ stepServed b m lines) × (isState b ≡ true → stateIn b ≡ stepOf (stateIn b) m lines .state)
@@ -86,27 +87,28 @@ module _ (b : List ℕ) (m : Buffers) where
 
   module _ (h : isState b ≡ true) where
     -- others become the bytes of what the call left
-    outcome-served : (o left : Outcome) → o ≡ left → stateIn (bytesOf (o .state)) ≡ o .state
-        → (served (answerFrom (o .number) 0 0) (sets b 0 (bytesOf (o .state))) (o .memory) ≡ outcomeServed left b m)
+    outcome-served : (o left : Outcome) (k count : ℕ) → o ≡ left → k ≡ count → stateIn (bytesOf (o .state)) ≡ o .state
+        → (served (answerFrom (o .number) 0 0 k) (sets b 0 (bytesOf (o .state))) (o .memory) ≡ outcomeServed left count b m)
         × (isState b ≡ true → stateIn (sets b 0 (bytesOf (o .state))) ≡ left .state)
-    outcome-served o left p w =
-        (rw (h, put-whole b (o .state) (state-length b h), p), λ e. put-stands b (o .state) (state-length b h) w ∙ ap (λ (x : Outcome). x .state) p)
+    outcome-served o left k count p q w =
+        (rw (h, put-whole b (o .state) (state-length b h), p, q), λ e. put-stands b (o .state) (state-length b h) w ∙ ap (λ (x : Outcome). x .state) p)
 
-    pub power-served : (o : Outcome) → o ≡ powerUpOf (stateIn b) m → stateIn (bytesOf (o .state)) ≡ o .state
-        → (served (answerFrom (o .number) 0 0) (sets b 0 (bytesOf (o .state))) (o .memory) ≡ powerServed b m)
+    pub power-served : (o : Outcome) (k : ℕ) → o ≡ powerUpOf (stateIn b) m → k ≡ powerCount m → stateIn (bytesOf (o .state)) ≡ o .state
+        → (served (answerFrom (o .number) 0 0 k) (sets b 0 (bytesOf (o .state))) (o .memory) ≡ powerServed b m)
         × (isState b ≡ true → stateIn (sets b 0 (bytesOf (o .state))) ≡ powerUpOf (stateIn b) m .state)
     unfolding powerServed
-    power-served o = outcome-served o (powerUpOf (stateIn b) m)
+    power-served o k = outcome-served o (powerUpOf (stateIn b) m) k (powerCount m)
 
-    pub attention-served : (channel : ℕ) (o : Outcome) → o ≡ attentionOf (stateIn b) m channel → stateIn (bytesOf (o .state)) ≡ o .state
-        → (served (answerFrom (o .number) 0 0) (sets b 0 (bytesOf (o .state))) (o .memory) ≡ attentionServed b m channel)
+    pub attention-served : (channel : ℕ) (o : Outcome) (k : ℕ) → o ≡ attentionOf (stateIn b) m channel → k ≡ attentionCount (stateIn b) m channel
+        → stateIn (bytesOf (o .state)) ≡ o .state
+        → (served (answerFrom (o .number) 0 0 k) (sets b 0 (bytesOf (o .state))) (o .memory) ≡ attentionServed b m channel)
         × (isState b ≡ true → stateIn (sets b 0 (bytesOf (o .state))) ≡ attentionOf (stateIn b) m channel .state)
     unfolding attentionServed
-    attention-served channel o = outcome-served o (attentionOf (stateIn b) m channel)
+    attention-served channel o k = outcome-served o (attentionOf (stateIn b) m channel) k (attentionCount (stateIn b) m channel)
 
-    pub step-served : (lines : ℕ) (o : Step) → o ≡ stepOf (stateIn b) m lines → stateIn (bytesOf (o .state)) ≡ o .state
-        → (served (answerFrom (o .number) (o .channel) (kindNumber (o .kind))) (sets b 0 (bytesOf (o .state))) (o .memory) ≡ stepServed b m lines)
+    pub step-served : (lines : ℕ) (o : Step) (k : ℕ) → o ≡ stepOf (stateIn b) m lines → k ≡ stepCount (stateIn b) m lines → stateIn (bytesOf (o .state)) ≡ o .state
+        → (served (answerFrom (o .number) (o .channel) (kindNumber (o .kind)) k) (sets b 0 (bytesOf (o .state))) (o .memory) ≡ stepServed b m lines)
         × (isState b ≡ true → stateIn (sets b 0 (bytesOf (o .state))) ≡ stepOf (stateIn b) m lines .state)
     unfolding stepServed
-    step-served lines o p w =
-        (rw (h, put-whole b (o .state) (state-length b h), p), λ e. put-stands b (o .state) (state-length b h) w ∙ ap (λ (x : Step). x .state) p)
+    step-served lines o k p q w =
+        (rw (h, put-whole b (o .state) (state-length b h), p, q), λ e. put-stands b (o .state) (state-length b h) w ∙ ap (λ (x : Step). x .state) p)

@@ -14,13 +14,14 @@ use Rattle.machine.proofs.ConditionLaws.{Told, told-and, told-eqb, told-ltb, la
 use Rattle.machine.specs.Conditions.{Given}
 use Rattle.machine.specs.Outcomes.{unless}
 use Rattle.machine.specs.States.{freshState, resetState, freshOf}
-use Rattle.machine.specs.declared.Answer.{Answer}
+use Rattle.machine.specs.declared.Made.{Made}
 use Rattle.attention.proofs.Numbers.{given-exactly, attention-most}
-use Rattle.attention.specs.Attention.{attentionOf}
+use Rattle.attention.specs.Attention.{attentionOf, attentionCount}
 use Rattle.power.proofs.Numbers.{power-given, power-most}
-use Rattle.power.specs.Power.{powerUpOf}
+use Rattle.power.specs.Power.{powerUpOf, powerCount}
 use Rattle.step.proofs.NumberLaws.{number-given, step-most}
 use Rattle.step.specs.Step.{stepOf}
+use Rattle.step.specs.Touched.{stepCount}
 use Rattle.service.specs.Calls.{made, served, noState, kindNumber, answerFrom, freshMade, resetMade, powerServed, attentionServed, stepServed}
 use Rattle.service.specs.Conditions.{NoState, NoFields, NoBlock, NoBoard, freshChecksOn, resetChecksOn, powerChecksOn, attentionChecksOn, stepChecksOn}
 use Rattle.service.specs.Fields.{isFlag, isMode, isCode}
@@ -28,19 +29,23 @@ use Rattle.service.specs.Layout.{bytesOf, stateIn, isFields, isBlock, is
 
 -- ---- the parts of an answer
 
-module _ (number channel kind : ℕ) where
-  -- bits 0 to 7, 8 and 9, 10 and 11
-  pub number-part : number < 256 → answerFrom number channel kind % 256 ≡ number
+module _ (number channel kind count : ℕ) where
+  -- bits 0 to 7, 8 and 9, 10 and 11, 12 to 15
+  pub number-part : number < 256 → answerFrom number channel kind count % 256 ≡ number
   unfolding answerFrom
   number-part h = omega arith
 
-  pub channel-part : channel < 4 → answerFrom number channel kind / 256 % 4 ≡ channel
+  pub channel-part : channel < 4 → answerFrom number channel kind count / 256 % 4 ≡ channel
   unfolding answerFrom
   channel-part h = omega arith
 
-  pub kind-part : kind < 4 → answerFrom number channel kind / 1024 % 4 ≡ kind
+  pub kind-part : kind < 4 → answerFrom number channel kind count / 1024 % 4 ≡ kind
   unfolding answerFrom
   kind-part h = omega arith
+
+  pub count-part : count < 16 → answerFrom number channel kind count / 4096 ≡ count
+  unfolding answerFrom
+  count-part h = omega arith
 
 -- ---- 17
 
@@ -99,17 +104,17 @@ exactly-17 true number answer t e small = (λ h. absurd (let f : answer ≡ numb
 exactly-17 false number answer t e small = (λ h. t .fails refl, λ h. e)
 
 -- what a call answers, whether its bytes are a state or not
-answer-number : (ok : Bool) (number channel kind : ℕ) (bytes b : List ℕ) (m′ m : Buffers) → number ≤ 14
-    → (pick ok (served (answerFrom number channel kind) bytes m′) (noState b m)) .answer % 256 ≡ pick ok number 17
-answer-number true number channel kind bytes b m′ m h = number-part number channel kind (omega arith)
-answer-number false number channel kind bytes b m′ m h = refl
+answer-number : (ok : Bool) (number channel kind count : ℕ) (bytes b : List ℕ) (m′ m : Buffers) → number ≤ 14
+    → (pick ok (served (answerFrom number channel kind count) bytes m′) (noState b m)) .answer % 256 ≡ pick ok number 17
+answer-number true number channel kind count bytes b m′ m h = number-part number channel kind count (omega arith)
+answer-number false number channel kind count bytes b m′ m h = refl
 
 -- the number of a fresh state: 17, then 10
 fresh-number : (cp : ℕ) → freshOf cp .number ≡ unless (ltb cp 1048576) 10
 unfolding freshOf unless
 fresh-number cp = go (ltb cp 1048576)
   where
-    go : (ok : Bool) → (pick {A = Answer} ok (record { number = 0; state = freshState cp }) (record { number = 10; state = freshState 0 })) .number ≡ pick ok 0 10
+    go : (ok : Bool) → (pick {A = Made} ok (record { number = 0; state = freshState cp }) (record { number = 10; state = freshState 0 })) .number ≡ pick ok 0 10
     go true = refl
     go false = refl
 
@@ -124,8 +129,8 @@ fresh-given b cp n =
     told-17 (eqb (length b) stateLength) n (freshOf cp .number) (freshMade b cp .answer % 256) (told-eqb (length b) stateLength) (part (eqb (length b) stateLength))
     (rewritten (fresh-number cp) (last n 10 refl (told-ltb cp 1048576)))
   where
-    part : (ok : Bool) → (pick ok (made (answerFrom (freshOf cp .number) 0 0) (bytesOf (freshOf cp .state))) (made 17 b)) .answer % 256 ≡ pick ok (freshOf cp .number) 17
-    part true = number-part (freshOf cp .number) 0 0 (rw (fresh-number cp) (unless-small (ltb cp 1048576)))
+    part : (ok : Bool) → (pick ok (made (answerFrom (freshOf cp .number) 0 0 0) (bytesOf (freshOf cp .state))) (made 17 b)) .answer % 256 ≡ pick ok (freshOf cp .number) 17
+    part true = number-part (freshOf cp .number) 0 0 0 (rw (fresh-number cp) (unless-small (ltb cp 1048576)))
     part false = refl
 
 -- reset: 17, else 0
@@ -133,7 +138,7 @@ pub reset-given : (b : List ℕ) (n : ℕ) → (resetMade b .answer % 256 ≡ n)
 unfolding resetMade answerFrom
 reset-given b n = told-17 (eqb (length b) stateLength) n 0 (resetMade b .answer % 256) (told-eqb (length b) stateLength) (part (eqb (length b) stateLength)) (sym, sym)
   where
-    part : (ok : Bool) → (pick ok (made (answerFrom 0 0 0) (bytesOf resetState)) (made 17 b)) .answer % 256 ≡ pick ok 0 17
+    part : (ok : Bool) → (pick ok (made (answerFrom 0 0 0 0) (bytesOf resetState)) (made 17 b)) .answer % 256 ≡ pick ok 0 17
     part true = refl
     part false = refl
 
@@ -142,7 +147,7 @@ module _ (b : List ℕ) (m : Buffers) where
   unfolding powerServed
   power-number =
       let o = powerUpOf (stateIn b) m in
-      answer-number (isState b) (o .number) 0 0 (bytesOf (o .state)) b (o .memory) m (omega (arith, power-most (stateIn b) m))
+      answer-number (isState b) (o .number) 0 0 (powerCount m) (bytesOf (o .state)) b (o .memory) m (omega (arith, power-most (stateIn b) m))
 
   -- the number of a power-up: 17, then 11 and 2
   pub power-given-on : (n : ℕ) → (powerServed b m .answer % 256 ≡ n) ↔ Given (powerChecksOn b m) n
@@ -154,7 +159,7 @@ module _ (b : List ℕ) (m : Buffers) where
   unfolding attentionServed
   attention-number channel =
       let o = attentionOf (stateIn b) m channel in
-      answer-number (isState b) (o .number) 0 0 (bytesOf (o .state)) b (o .memory) m (attention-most (stateIn b) m channel)
+      answer-number (isState b) (o .number) 0 0 (attentionCount (stateIn b) m channel) (bytesOf (o .state)) b (o .memory) m (attention-most (stateIn b) m channel)
 
   -- the number of an attention: 17, then those of attention on the state, in their order
   pub attention-given : (channel n : ℕ) → (attentionServed b m channel .answer % 256 ≡ n) ↔ Given (attentionChecksOn b m channel) n
@@ -166,7 +171,7 @@ module _ (b : List ℕ) (m : Buffers) where
   unfolding stepServed
   step-number lines =
       let o = stepOf (stateIn b) m lines in
-      answer-number (isState b) (o .number) (o .channel) (kindNumber (o .kind)) (bytesOf (o .state)) b (o .memory) m (step-most (stateIn b) m lines)
+      answer-number (isState b) (o .number) (o .channel) (kindNumber (o .kind)) (stepCount (stateIn b) m lines) (bytesOf (o .state)) b (o .memory) m (step-most (stateIn b) m lines)
 
   -- the number of a step: 17, then those of the step on the state, in their order
   pub step-given : (lines n : ℕ) → (stepServed b m lines .answer % 256 ≡ n) ↔ Given (stepChecksOn b m lines) n

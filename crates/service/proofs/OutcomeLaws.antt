@@ -21,14 +21,15 @@ use Rattle.machine.specs.declared.State.{State}
 use Rattle.attention.proofs.Numbers.{attention-most}
 use Rattle.attention.proofs.Outcomes.{refused-nothing}
 use Rattle.attention.proofs.SoundLaws.{attention-agree}
-use Rattle.attention.specs.Attention.{givenTo, orderedChannel, orderedMemory, attentionNumber, attentionOf}
+use Rattle.attention.specs.Attention.{givenTo, orderedChannel, orderedMemory, attentionNumber, attentionOf, attentionCount}
 use Rattle.power.proofs.Numbers.{power-most}
 use Rattle.power.proofs.Outcomes.{power-refused, power-accepted, found-agree}
-use Rattle.power.specs.Power.{powerUpOf}
+use Rattle.power.specs.Power.{powerUpOf, powerCount}
 use Rattle.step.proofs.NumberLaws.{step-most}
 use Rattle.step.proofs.OutcomeLaws.{by-step, refused}
 use Rattle.step.proofs.SoundLaws.{entry-agree, step-agree}
 use Rattle.step.specs.Step.{Step, stepOf}
+use Rattle.step.specs.Touched.{stepCount}
 use Rattle.service.specs.Calls.{Service, made, served, noState, answerFrom, kindNumber, powerServed, attentionServed, stepServed}
 use Rattle.service.specs.Conditions.{Bytes}
 use Rattle.service.specs.Layout.{bytesOf, stateIn, isState}
@@ -53,17 +54,17 @@ module _ (b : List ℕ) (byte : Bytes b) (m : Buffers) where
   pub Kept : Service → Type 0
   Kept o = ¬ (o .answer % 256 ≡ 0) → (o .bytes ≡ b) × (o .memory ≡ m)
 
-  kept : (ok : Bool) (number channel kind : ℕ) (bytes : List ℕ) (m′ : Buffers) → number ≤ 14
-      → (ok ≡ true → ¬ (number ≡ 0) → (bytes ≡ b) × (m′ ≡ m)) → Kept (pick ok (served (answerFrom number channel kind) bytes m′) (noState b m))
+  kept : (ok : Bool) (number channel kind count : ℕ) (bytes : List ℕ) (m′ : Buffers) → number ≤ 14
+      → (ok ≡ true → ¬ (number ≡ 0) → (bytes ≡ b) × (m′ ≡ m)) → Kept (pick ok (served (answerFrom number channel kind count) bytes m′) (noState b m))
   unfolding Kept
-  kept true number channel kind bytes m′ h same ne = same refl (λ e. ne (number-part number channel kind (omega arith) ∙ e))
-  kept false number channel kind bytes m′ h same ne = (refl, refl)
+  kept true number channel kind count bytes m′ h same ne = same refl (λ e. ne (number-part number channel kind count (omega arith) ∙ e))
+  kept false number channel kind count bytes m′ h same ne = (refl, refl)
 
   pub power-kept : Kept (powerServed b m)
   unfolding powerServed
   power-kept =
       let o = powerUpOf (stateIn b) m in
-      kept (isState b) (o .number) 0 0 (bytesOf (o .state)) (o .memory) (omega (arith, power-most (stateIn b) m))
+      kept (isState b) (o .number) 0 0 (powerCount m) (bytesOf (o .state)) (o .memory) (omega (arith, power-most (stateIn b) m))
       (λ h ne. let same = power-refused (stateIn b) m ne in
       (ap (λ (x : Outcome). bytesOf (x .state)) same ∙ bytes-back b byte h, ap (λ (x : Outcome). x .memory) same))
 
@@ -71,7 +72,7 @@ module _ (b : List ℕ) (byte : Bytes b) (m : Buffers) where
   unfolding attentionServed
   attention-kept channel =
       let o = attentionOf (stateIn b) m channel in
-      kept (isState b) (o .number) 0 0 (bytesOf (o .state)) (o .memory) (attention-most (stateIn b) m channel)
+      kept (isState b) (o .number) 0 0 (attentionCount (stateIn b) m channel) (bytesOf (o .state)) (o .memory) (attention-most (stateIn b) m channel)
       (λ h ne. let same = refused-nothing (stateIn b) m channel ne in
       (ap (λ (x : Outcome). bytesOf (x .state)) same ∙ bytes-back b byte h, ap (λ (x : Outcome). x .memory) same))
 
@@ -79,7 +80,7 @@ module _ (b : List ℕ) (byte : Bytes b) (m : Buffers) where
   unfolding stepServed
   step-kept lines =
       let o = stepOf (stateIn b) m lines in
-      kept (isState b) (o .number) (o .channel) (kindNumber (o .kind)) (bytesOf (o .state)) (o .memory) (step-most (stateIn b) m lines)
+      kept (isState b) (o .number) (o .channel) (kindNumber (o .kind)) (stepCount (stateIn b) m lines) (bytesOf (o .state)) (o .memory) (step-most (stateIn b) m lines)
       (λ h ne. let same = refused (stateIn b) m lines ne in
       (ap (λ (x : Step). bytesOf (x .state)) same ∙ bytes-back b byte h, ap (λ (x : Step). x .memory) same))
 

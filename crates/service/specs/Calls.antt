@@ -7,11 +7,12 @@ use Rattle.words.specs.Choice.{pick}
 use Rattle.memory.specs.Buffers.{Buffers}
 use Rattle.machine.specs.Outcomes.{Outcome}
 use Rattle.machine.specs.States.{resetState, freshOf}
-use Rattle.attention.specs.Attention.{attentionOf}
-use Rattle.power.specs.Power.{powerUpOf}
+use Rattle.attention.specs.Attention.{attentionOf, attentionCount}
+use Rattle.power.specs.Power.{powerUpOf, powerCount}
 use Rattle.step.specs.declared.Kind.{Kind}
 use Rattle.step.specs.declared.Kind.the-variants.{Nothing, Instruction, Transfer, External}
 use Rattle.step.specs.Step.{stepOf}
+use Rattle.step.specs.Touched.{stepCount}
 use Rattle.service.specs.Layout.{bytesOf, stateIn, isState, stateLength}
 
 -- what a call leaves: its answer, the state's bytes, and both memories
@@ -31,9 +32,9 @@ kindNumber Instruction = 1
 kindNumber Transfer = 2
 kindNumber External = 3
 
--- an answer: the number in bits 0 to 7, the channel in 8 and 9, the kind in 10 and 11
-unfoldable pub answerFrom : ℕ → ℕ → ℕ → ℕ
-answerFrom number channel kind = number % 256 + channel % 4 * 256 + kind % 4 * 1024
+-- an answer: the number in bits 0 to 7, the channel in 8 and 9, the kind in 10 and 11, the bytes read and stored in 12 to 15
+unfoldable pub answerFrom : ℕ → ℕ → ℕ → ℕ → ℕ
+answerFrom number channel kind count = number % 256 + channel % 4 * 256 + kind % 4 * 1024 + count % 16 * 4096
 
 -- bytes that are no state: 17, and nothing changes
 abbrev pub noState : List ℕ → Buffers → Service
@@ -51,26 +52,29 @@ made answer bytes = record { answer = answer; bytes = bytes }
 -- a fresh state looks at the length alone
 unfoldable pub freshMade : List ℕ → ℕ → Made
 freshMade b cp =
-    pick (eqb (length b) stateLength) (made (answerFrom (freshOf cp .number) 0 0) (bytesOf (freshOf cp .state))) (made 17 b)
+    pick (eqb (length b) stateLength) (made (answerFrom (freshOf cp .number) 0 0 0) (bytesOf (freshOf cp .state))) (made 17 b)
 
 -- so does reset, which is refused by nothing else
 unfoldable pub resetMade : List ℕ → Made
-resetMade b = pick (eqb (length b) stateLength) (made (answerFrom 0 0 0) (bytesOf resetState)) (made 17 b)
+resetMade b = pick (eqb (length b) stateLength) (made (answerFrom 0 0 0 0) (bytesOf resetState)) (made 17 b)
 
--- a call that leaves this of the state that the bytes stand for
-abbrev pub outcomeServed : Outcome → List ℕ → Buffers → Service
-outcomeServed o b m = pick (isState b) (served (answerFrom (o .number) 0 0) (bytesOf (o .state)) (o .memory)) (noState b m)
+-- a call that leaves this of the state that the bytes stand for, and counts so many bytes
+abbrev pub outcomeServed : Outcome → ℕ → List ℕ → Buffers → Service
+outcomeServed o count b m =
+    pick (isState b) (served (answerFrom (o .number) 0 0 count) (bytesOf (o .state)) (o .memory)) (noState b m)
 
 -- a power-up of it
 unfoldable pub powerServed : List ℕ → Buffers → Service
-powerServed b m = outcomeServed (powerUpOf (stateIn b) m) b m
+powerServed b m = outcomeServed (powerUpOf (stateIn b) m) (powerCount m) b m
 
 -- an attention on it
 unfoldable pub attentionServed : List ℕ → Buffers → ℕ → Service
-attentionServed b m channel = outcomeServed (attentionOf (stateIn b) m channel) b m
+attentionServed b m channel = outcomeServed (attentionOf (stateIn b) m channel) (attentionCount (stateIn b) m channel) b m
 
 -- a step of it
 unfoldable pub stepServed : List ℕ → Buffers → ℕ → Service
 stepServed b m lines =
     let o = stepOf (stateIn b) m lines in
-    pick (isState b) (served (answerFrom (o .number) (o .channel) (kindNumber (o .kind))) (bytesOf (o .state)) (o .memory)) (noState b m)
+    pick (isState b)
+    (served (answerFrom (o .number) (o .channel) (kindNumber (o .kind)) (stepCount (stateIn b) m lines)) (bytesOf (o .state)) (o .memory))
+    (noState b m)

@@ -30,11 +30,11 @@ fn kind_number(kind: Kind) -> u32
     }
 }
 
-// An answer of its three parts.
-fn answer(number: u32, channel: u32, kind: u32) -> u32
-    ensures { λ r. ⌜ r ≡ answerFrom number channel kind ⌝ }
+// An answer of its four parts.
+fn answer(number: u32, channel: u32, kind: u32, count: u32) -> u32
+    ensures { λ r. ⌜ r ≡ answerFrom number channel kind count ⌝ }
 {
-    number % 256 + channel % 4 * 256 + kind % 4 * 1024
+    number % 256 + channel % 4 * 256 + kind % 4 * 1024 + count % 16 * 4096
 }
 
 // Makes a fresh state of a CP.
@@ -49,7 +49,7 @@ pub extern "C" fn iop89_fresh(state: &mut [u8], cp: u32) -> u32
     let a = machine::states::fresh(cp);
     let fresh = a.state;
     layout::put_state(state, fresh);
-    answer(a.number, 0, 0)
+    answer(a.number, 0, 0, 0)
 }
 
 // Makes the state after reset.
@@ -62,7 +62,7 @@ pub extern "C" fn iop89_reset(state: &mut [u8]) -> u32
         return 17;
     }
     layout::put_state(state, machine::states::reset());
-    answer(0, 0, 0)
+    answer(0, 0, 0, 0)
 }
 
 // Powers the machine up.
@@ -77,7 +77,7 @@ pub extern "C" fn iop89_power_up(state: &mut [u8], sys: &mut [u8], io: &mut [u8]
     let a = power::power_up(layout::state_in(state), sys, io);
     let after = a.state;
     layout::put_state(state, after);
-    answer(a.number, 0, 0)
+    answer(a.number, 0, 0, a.count)
 }
 
 // Gives a channel attention.
@@ -97,7 +97,7 @@ pub extern "C" fn iop89_attention(
     let a = attention::attention(layout::state_in(state), sys, io, channel);
     let after = a.state;
     layout::put_state(state, after);
-    answer(a.number, 0, 0)
+    answer(a.number, 0, 0, a.count)
 }
 
 // Does one step of the machine.
@@ -113,5 +113,5 @@ pub extern "C" fn iop89_step(state: &mut [u8], sys: &mut [u8], io: &mut [u8], li
     let after = r.state;
     layout::put_state(state, after);
     let kind = r.kind;
-    answer(r.number, r.channel, kind_number(kind))
+    answer(r.number, r.channel, kind_number(kind), r.count)
 }

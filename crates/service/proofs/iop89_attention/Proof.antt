@@ -4,7 +4,7 @@ use borrow.Author.Needs.{needs}
 use borrow.Author.Tests.{not-true, not-false}
 use denote.Ref.{now}
 use mathlib.Core.Path.{sym, ap, _∙_}
-use Rattle.attention.specs.Attention.{attentionOf}
+use Rattle.attention.specs.Attention.{attentionOf, attentionCount}
 use Rattle.machine.specs.declared.State.{State}
 use Rattle.memory.specs.Buffers.{buffers}
 use Rattle.service.proofs.CallLaws.{state-length, attention-none, attention-served}
@@ -48,8 +48,9 @@ returns-2 c =
     let a = c .before .before .before .before .before .before .before .before .before .before .before .before .before .before .before .before .before .before .before .before .before .args in
     let m = buffers (now (a .sys)) (now (a .io)) in
     rw (c .answer .ensures, c .before .before .before .put-state .ensures .0)
-    (attention-served (now (a .state)) m (sym (c .before .before .before .before .before .before .before .before .before .before .before .before .before .before .before .before .is-state .ensures) ∙ not-false _ (c .before .before .before .before .before .before .before .before .before .before .before .before .before .before .before .if1 .left)) (a .channel) _
-    (c .before .before .before .before .before .before .before .before .before .before .attention .ensures ∙ ap (λ (s : State). attentionOf s m (a .channel)) (c .before .before .before .before .before .before .before .before .before .before .before .before .before .state-in .ensures)) (c .before .before .before .put-state .ensures .1))
+    (attention-served (now (a .state)) m (sym (c .before .before .before .before .before .before .before .before .before .before .before .before .before .before .before .before .is-state .ensures) ∙ not-false _ (c .before .before .before .before .before .before .before .before .before .before .before .before .before .before .before .if1 .left)) (a .channel) _ _
+    (c .before .before .before .before .before .before .before .before .before .before .attention .ensures .0 ∙ ap (λ (s : State). attentionOf s m (a .channel)) (c .before .before .before .before .before .before .before .before .before .before .before .before .before .state-in .ensures))
+    (c .before .before .before .before .before .before .before .before .before .before .attention .ensures .1 ∙ ap (λ (s : State). attentionCount s m (a .channel)) (c .before .before .before .before .before .before .before .before .before .before .before .before .before .state-in .ensures)) (c .before .before .before .put-state .ensures .1))
 
 pub iop89-attention-spec : {M : Type 1} → statement M
 iop89-attention-spec =

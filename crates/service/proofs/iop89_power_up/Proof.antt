@@ -48,8 +48,8 @@ returns-2 c =
     let a = c .before .before .before .before .before .before .before .before .before .before .before .before .before .before .before .before .before .before .before .before .before .args in
     let m = buffers (now (a .sys)) (now (a .io)) in
     rw (c .answer .ensures, c .before .before .before .put-state .ensures .0)
-    (power-served (now (a .state)) m (sym (c .before .before .before .before .before .before .before .before .before .before .before .before .before .before .before .before .is-state .ensures) ∙ not-false _ (c .before .before .before .before .before .before .before .before .before .before .before .before .before .before .before .if1 .left)) _
-    (c .before .before .before .before .before .before .before .before .before .before .power-up .ensures ∙ ap (λ (s : State). powerUpOf s m) (c .before .before .before .before .before .before .before .before .before .before .before .before .before .state-in .ensures)) (c .before .before .before .put-state .ensures .1))
+    (power-served (now (a .state)) m (sym (c .before .before .before .before .before .before .before .before .before .before .before .before .before .before .before .before .is-state .ensures) ∙ not-false _ (c .before .before .before .before .before .before .before .before .before .before .before .before .before .before .before .if1 .left)) _ _
+    (c .before .before .before .before .before .before .before .before .before .before .power-up .ensures .0 ∙ ap (λ (s : State). powerUpOf s m) (c .before .before .before .before .before .before .before .before .before .before .before .before .before .state-in .ensures)) (c .before .before .before .before .before .before .before .before .before .before .power-up .ensures .1) (c .before .before .before .put-state .ensures .1))
 
 pub iop89-power-up-spec : {M : Type 1} → statement M
 iop89-power-up-spec =

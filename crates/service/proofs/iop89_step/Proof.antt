@@ -7,6 +7,7 @@ use mathlib.Core.Path.{sym, ap, _∙_}
 use Rattle.machine.specs.declared.State.{State}
 use Rattle.memory.specs.Buffers.{buffers}
 use Rattle.step.specs.Step.{stepOf}
+use Rattle.step.specs.Touched.{stepCount}
 use Rattle.service.proofs.CallLaws.{state-length, step-none, step-served}
 use Rattle.service.proofs.iop89_step.Statement.{statement}
 use Rattle.service.proofs.iop89_step.Tie as tie
@@ -51,8 +52,9 @@ returns-2 c =
     let a = c .before .before .before .before .before .before .before .before .before .before .before .before .before .before .before .before .before .before .before .before .before .before .args in
     let m = buffers (now (a .sys)) (now (a .io)) in
     rw (c .answer .ensures, c .before .kind-number .ensures, c .before .before .before .before .put-state .ensures .0)
-    (step-served (now (a .state)) m (sym (c .before .before .before .before .before .before .before .before .before .before .before .before .before .before .before .before .before .is-state .ensures) ∙ not-false _ (c .before .before .before .before .before .before .before .before .before .before .before .before .before .before .before .before .if1 .left)) (a .lines) _
-    (c .before .before .before .before .before .before .before .before .before .before .before .step .ensures ∙ ap (λ (s : State). stepOf s m (a .lines)) (c .before .before .before .before .before .before .before .before .before .before .before .before .before .before .state-in .ensures)) (c .before .before .before .before .put-state .ensures .1))
+    (step-served (now (a .state)) m (sym (c .before .before .before .before .before .before .before .before .before .before .before .before .before .before .before .before .before .is-state .ensures) ∙ not-false _ (c .before .before .before .before .before .before .before .before .before .before .before .before .before .before .before .before .if1 .left)) (a .lines) _ _
+    (c .before .before .before .before .before .before .before .before .before .before .before .step .ensures .0 ∙ ap (λ (s : State). stepOf s m (a .lines)) (c .before .before .before .before .before .before .before .before .before .before .before .before .before .before .state-in .ensures))
+    (c .before .before .before .before .before .before .before .before .before .before .before .step .ensures .1 ∙ ap (λ (s : State). stepCount s m (a .lines)) (c .before .before .before .before .before .before .before .before .before .before .before .before .before .before .state-in .ensures)) (c .before .before .before .before .put-state .ensures .1))
 
 pub iop89-step-spec : {M : Type 1} → statement M
 iop89-step-spec =
