@@ -177,7 +177,7 @@ static void print_before(const struct run_case *c, uint32_t limit)
     struct emu_state state;
     const struct emu_channel *ch = &state.channel[c->channel == 2];
     print_bytes("block", &m, c->channel == 2 ? c->cp + 8 : c->cp, false, 6);
-    if (emu_fresh(c->cp, &state) != EMU_DONE || emu_attention(&state, &m, c->channel) != EMU_DONE) return;
+    if (emu_fresh(c->cp, &state) != EMU_DONE || emu_attention(&state, &m, c->channel).number != EMU_DONE) return;
     for (uint32_t i = 1; i < limit; i++)
         if (emu_step(&state, &m, c->lines).number != EMU_DONE) break;
     print_channel(ch);

@@ -35,7 +35,7 @@ struct side {
 
 static struct side emulated, proved;
 static struct emu_coverage coverage;
-static unsigned long numbers[CALLS][IOP89_NO_STATE + 1], faults[STATE_FAULTS];
+static unsigned long numbers[CALLS][IOP89_NO_STATE + 1], faults[STATE_FAULTS], bytes[BYTES_KINDS][BYTES_COUNTS];
 static const char *const call_names[CALLS] = {"fresh", "reset", "power-up", "attention", "step", "board"};
 
 /* ---- Buffers ---- */
@@ -93,21 +93,33 @@ static uint32_t by_emulator(const struct run_case *c, struct call call)
 {
     struct emu_memory memory = {emulated.sys, c->sys_len, emulated.io, c->io_len};
     struct emu_state state;
-    struct emu_stepped stepped = {0, 0, 0};
+    struct emu_stepped stepped = {0, 0, 0, 0};
+    struct emu_answer answer = {0, 0};
     memset(&state, 0, sizeof state);
     if (call.kind == CALL_BOARD) return emu_board(&memory, call.argument, call.lines, call.limit);
     enum state_fault fault = call.state_len != STATE_BYTES ? FAULT_LENGTH : FAULT_NONE;
     if (!makes_anew(call.kind)) fault = state_from_bytes(emulated.state, call.state_len, &state);
     faults[fault]++;
     if (fault != FAULT_NONE) return IOP89_NO_STATE;
-    if (call.kind == CALL_FRESH) stepped.number = emu_fresh(call.argument, &state);
+    if (call.kind == CALL_FRESH) answer.number = emu_fresh(call.argument, &state);
     else if (call.kind == CALL_RESET) emu_reset(&state);
-    else if (call.kind == CALL_POWER) stepped.number = emu_power_up(&state, &memory);
-    else if (call.kind == CALL_ATTENTION) stepped.number = emu_attention(&state, &memory, call.argument);
+    else if (call.kind == CALL_POWER) answer = emu_power_up(&state, &memory);
+    else if (call.kind == CALL_ATTENTION) answer = emu_attention(&state, &memory, call.argument);
     else stepped = emu_step(&state, &memory, call.argument);
     state_to_bytes(&state, emulated.state);
     uint32_t kind = stepped.kind == 'I' ? 1 : stepped.kind == 'T' ? 2 : stepped.kind == 'X' ? 3 : 0;
-    return stepped.number | stepped.channel << 8 | kind << 10;
+    if (call.kind != CALL_STEP) return answer.number | answer.count << 12;
+    return stepped.number | stepped.channel << 8 | kind << 10 | stepped.count << 12;
+}
+
+/* Counts an answer of the archive by the bytes that the call read and stored; fresh, reset and a run have no such count. */
+static void count_bytes(enum call_kind kind, uint32_t answer)
+{
+    if (makes_anew(kind)) return;
+    enum met_bytes of = kind == CALL_POWER ? BYTES_OF_POWER_UP : BYTES_OF_ATTENTION;
+    if (kind == CALL_STEP) of = bytes_of_step("-ITX"[IOP89_ANSWER_KIND(answer)]);
+    if (IOP89_ANSWER_NUMBER(answer) != IOP89_DONE) of = BYTES_OF_REFUSED;
+    bytes[of][IOP89_ANSWER_COUNT(answer)]++;
 }
 
 /* The archive's answer. */
@@ -312,6 +324,7 @@ static bool agree_on(const struct run_case *c, struct call call, unsigned index,
     emu_coverage = NULL;
     uint32_t archive = by_archive(c, call);
     numbers[call.kind][call.kind == CALL_BOARD ? IOP89_NUMBER(emulator) : IOP89_ANSWER_NUMBER(emulator)]++;
+    count_bytes(call.kind, archive);
     bool same = emulator == archive && same_state();
     if (same || !shown) return same;
     printf("  call %u, %s %" PRIu32 " on %zu bytes: emulator %05" PRIX32 ", archive %05" PRIX32 "\n", index,
@@ -519,6 +532,7 @@ static void print_met(void)
             printf("17, in the block of channel %u:\n", fault == FAULT_CHANNEL_1 ? 1 : 2);
         print_count(state_fault_name(fault), faults[fault]);
     }
+    print_touched(bytes);
     print_fields(&coverage);
     print_coverage(&coverage, COMMANDS);
 }
@@ -545,6 +559,7 @@ int main(int count, char **words)
     proved = new_side();
     differences += every_pair(seed) + every_cc();
     memset(&coverage, 0, sizeof coverage); /* what was met is asked of the rows of calls */
+    memset(bytes, 0, sizeof bytes);
     for (uint64_t i = first; i < first + cases; i++) {
         if (agree(seed, i, false)) continue;
         if (differences++ >= SHOWN) continue;

@@ -33,6 +33,7 @@ struct work {
     const struct emu_memory *memory;
     uint32_t block;
     unsigned number;
+    unsigned touched;
     unsigned stores;
     struct store store[MOST_STORES];
     unsigned shape, ends, end_offset;
@@ -56,13 +57,21 @@ static void begin(struct work *w, const struct emu_state *state, const struct em
     w->block = channel == 1 ? state->cp : state->cp + 8;
 }
 
-/* Makes an accepted call count; a refused one leaves state and memory as given. */
-static unsigned finish(const struct work *w, struct emu_state *state)
+/* The answer of a refused call, which reports no bytes. */
+static struct emu_answer refused_by(unsigned number)
 {
-    if (w->number != EMU_DONE) return w->number;
+    struct emu_answer answer = {number, 0};
+    return answer;
+}
+
+/* Makes an accepted call count; a refused one leaves state and memory as given. */
+static struct emu_answer finish(const struct work *w, struct emu_state *state)
+{
+    struct emu_answer done = {EMU_DONE, w->touched};
+    if (w->number != EMU_DONE) return refused_by(w->number);
     for (unsigned i = 0; i < w->stores; i++) *w->store[i].cell = w->store[i].byte;
     *state = w->state;
-    return EMU_DONE;
+    return done;
 }
 
 /* ---- Addresses, bytes and stored pointers ---- */
@@ -89,10 +98,12 @@ static inline uint8_t *cell(const struct emu_memory *memory, struct emu_pointer 
     return (p.tag ? memory->io : memory->sys) + at;
 }
 
-/* The lent byte at a place that a call accesses. Where none is lent, I/O space has an empty slot, and system space refuses. */
+/* The lent byte at a place that a call accesses, counted whether or not it is there. Where none is lent, I/O space has an
+ * empty slot, and system space refuses. */
 static inline uint8_t *accessed(struct work *w, struct emu_pointer p, enum emu_access access)
 {
     uint8_t *c = cell(w->memory, p);
+    w->touched++;
     if (p.tag) {
         w->in_io[access]++;
         w->empty[access] = (uint8_t)(w->empty[access] + (c == NULL));
@@ -355,7 +366,7 @@ void emu_reset(struct emu_state *out)
 enum { SYSBUS_AT = 0xFFFF6, CONFIGURATION_AT = 0xFFFF8 };
 
 /* A power-up in buffers that fit: SYSBUS, SOC and CP are read, then BUSY of channel 1 is cleared. */
-static unsigned wake(struct emu_state *state, const struct emu_memory *memory)
+static struct emu_answer wake(struct emu_state *state, const struct emu_memory *memory)
 {
     struct emu_state after_reset;
     struct work w;
@@ -375,11 +386,11 @@ static unsigned wake(struct emu_state *state, const struct emu_memory *memory)
     return finish(&w, state);
 }
 
-unsigned emu_power_up(struct emu_state *state, struct emu_memory *memory)
+struct emu_answer emu_power_up(struct emu_state *state, struct emu_memory *memory)
 {
-    unsigned number = buffers_fit(memory) ? wake(state, memory) : EMU_BAD_BUFFER;
-    if (emu_coverage != NULL && number != EMU_DONE) emu_coverage->power_refused[number]++;
-    return number;
+    struct emu_answer answer = buffers_fit(memory) ? wake(state, memory) : refused_by(EMU_BAD_BUFFER);
+    if (emu_coverage != NULL && answer.number != EMU_DONE) emu_coverage->power_refused[answer.number]++;
+    return answer;
 }
 
 /* ---- Attention ---- */
@@ -472,25 +483,25 @@ static void obey_command(struct work *w, unsigned command)
 }
 
 /* An attention whose arguments, buffers and state passed. */
-static unsigned attend(struct emu_state *state, const struct emu_memory *memory, uint32_t channel)
+static struct emu_answer attend(struct emu_state *state, const struct emu_memory *memory, uint32_t channel)
 {
     struct work w;
     begin(&w, state, memory, channel);
     unsigned ccw = read_bytes(&w, in_system(w.block), 1, EMU_READ);
     refuse(&w, command_refusal(ccw & 7, w.ch->mode));
-    if (w.number != EMU_DONE) return w.number;
+    if (w.number != EMU_DONE) return refused_by(w.number);
     obey_command(&w, ccw & 7);
     obey_upper_ccw(w.ch, ccw);
     if (emu_coverage != NULL && w.number == EMU_DONE) emu_coverage->attention[ccw & 7]++;
     return finish(&w, state);
 }
 
-unsigned emu_attention(struct emu_state *state, struct emu_memory *memory, uint32_t channel)
+struct emu_answer emu_attention(struct emu_state *state, struct emu_memory *memory, uint32_t channel)
 {
-    unsigned number = early_refusal(channel == 1 || channel == 2, memory, state);
-    if (number == EMU_DONE) number = attend(state, memory, channel);
-    if (emu_coverage != NULL && number != EMU_DONE) emu_coverage->attention_refused[number]++;
-    return number;
+    struct emu_answer answer = refused_by(early_refusal(channel == 1 || channel == 2, memory, state));
+    if (answer.number == EMU_DONE) answer = attend(state, memory, channel);
+    if (emu_coverage != NULL && answer.number != EMU_DONE) emu_coverage->attention_refused[answer.number]++;
+    return answer;
 }
 
 /* ---- Instructions: shapes ---- */
@@ -1318,8 +1329,8 @@ static void count_slots(const struct work *w)
     }
 }
 
-/* Does the step that a channel has before it, and answers its number. */
-static unsigned do_step(struct emu_state *state, const struct emu_memory *memory, unsigned channel, char kind)
+/* Does the step that a channel has before it, and answers its number and count. */
+static struct emu_answer do_step(struct emu_state *state, const struct emu_memory *memory, unsigned channel, char kind)
 {
     struct work w;
     begin(&w, state, memory, channel);
@@ -1334,7 +1345,7 @@ static unsigned do_step(struct emu_state *state, const struct emu_memory *memory
 /* A step whose lines, buffers and state passed. */
 static struct emu_stepped step_soundly(struct emu_state *state, const struct emu_memory *memory, uint32_t lines)
 {
-    struct emu_stepped refused = {EMU_NO_CHANNEL_CAN_RUN, 0, 0}, done = {EMU_DONE, 0, 'X'};
+    struct emu_stepped refused = {EMU_NO_CHANNEL_CAN_RUN, 0, 0, 0}, done = {EMU_DONE, 0, 'X', 0};
     if (externally_ended(state, 1, lines)) done.channel = 1;
     else if (externally_ended(state, 2, lines)) done.channel = 2;
     else {
@@ -1342,13 +1353,15 @@ static struct emu_stepped step_soundly(struct emu_state *state, const struct emu
         if (done.channel == 0) return refused;
         done.kind = transferring(&state->channel[done.channel - 1]) ? 'T' : 'I';
     }
-    refused.number = do_step(state, memory, done.channel, done.kind);
-    return refused.number == EMU_DONE ? done : refused;
+    struct emu_answer answer = do_step(state, memory, done.channel, done.kind);
+    done.count = answer.count;
+    refused.number = answer.number;
+    return answer.number == EMU_DONE ? done : refused;
 }
 
 struct emu_stepped emu_step(struct emu_state *state, struct emu_memory *memory, uint32_t lines)
 {
-    struct emu_stepped stepped = {early_refusal(lines <= 15, memory, state), 0, 0};
+    struct emu_stepped stepped = {early_refusal(lines <= 15, memory, state), 0, 0, 0};
     if (stepped.number == EMU_DONE) stepped = step_soundly(state, memory, lines);
     if (emu_coverage != NULL && stepped.number != EMU_DONE) emu_coverage->step_refused[stepped.number]++;
     return stepped;
@@ -1373,7 +1386,7 @@ static unsigned run_refusal(const struct emu_memory *memory, uint32_t channel, u
 static unsigned set_going(struct emu_state *state, struct emu_memory *memory, uint32_t cp, uint32_t channel)
 {
     unsigned number = emu_fresh(cp, state);
-    return number != EMU_DONE ? number : emu_attention(state, memory, channel);
+    return number != EMU_DONE ? number : emu_attention(state, memory, channel).number;
 }
 
 /* Steps until one is refused or the limit is reached, unless the run was refused before. */
@@ -1400,8 +1413,8 @@ uint32_t emu_board(struct emu_memory *memory, uint32_t channel, uint32_t lines, 
     struct emu_state state;
     unsigned number = run_refusal(memory, channel, lines, limit);
     emu_reset(&state);
-    if (number == EMU_DONE) number = emu_power_up(&state, memory);
-    if (number == EMU_DONE) number = emu_attention(&state, memory, channel);
+    if (number == EMU_DONE) number = emu_power_up(&state, memory).number;
+    if (number == EMU_DONE) number = emu_attention(&state, memory, channel).number;
     return go_on(number, &state, memory, lines, limit);
 }
 

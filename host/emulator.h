@@ -96,11 +96,19 @@ struct emu_memory {
     size_t io_len;
 };
 
-/* What a step did: its number, and for a done step the channel and I, T or X (both 0 if refused). */
+/* What an attention or a power-up answered: its number, and how many bytes it read and stored, each access of each byte
+ * counted once (0 if refused). */
+struct emu_answer {
+    unsigned number;
+    unsigned count;
+};
+
+/* What a step did: its number, for a done step the channel and I, T or X (both 0 if refused), and the same count. */
 struct emu_stepped {
     unsigned number;
     unsigned channel;
     char kind;
+    unsigned count;
 };
 
 /* Ways in which the bytes of one transfer step moved; the last is two bytes of which one was stored. */
@@ -196,10 +204,10 @@ unsigned emu_fresh(uint32_t cp, struct emu_state *out);
 void emu_reset(struct emu_state *out);
 
 /* Powers the processor up from what its board holds in system memory. */
-unsigned emu_power_up(struct emu_state *state, struct emu_memory *memory);
+struct emu_answer emu_power_up(struct emu_state *state, struct emu_memory *memory);
 
 /* Gives a channel one attention. */
-unsigned emu_attention(struct emu_state *state, struct emu_memory *memory, uint32_t channel);
+struct emu_answer emu_attention(struct emu_state *state, struct emu_memory *memory, uint32_t channel);
 
 /* Does one step under the given lines. */
 struct emu_stepped emu_step(struct emu_state *state, struct emu_memory *memory, uint32_t lines);

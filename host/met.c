@@ -1,7 +1,7 @@
 /* Prints counters of a comparison, each in a line, and keeps count of those that stayed 0. */
 #include "met.h"
 
-/* How many things that can be met were not. */
+/* How many things that can be met were not, and how many were that cannot be. */
 static unsigned missing;
 
 void print_count(const char *name, unsigned long count)
@@ -17,6 +17,36 @@ void print_numbers(const char *what, const unsigned long counts[EMU_NUMBERS], un
     for (unsigned i = 0; i < EMU_NUMBERS; i++) {
         snprintf(name, sizeof name, "number %u", i);
         if ((set >> i & 1u) != 0) print_count(name, counts[i]);
+    }
+}
+
+enum met_bytes bytes_of_step(char kind)
+{
+    return kind == 'I' ? BYTES_OF_INSTRUCTION : kind == 'T' ? BYTES_OF_TRANSFER : BYTES_OF_EXTERNAL_END;
+}
+
+void print_touched(unsigned long met[BYTES_KINDS][BYTES_COUNTS])
+{
+    static const struct {
+        const char *what;
+        unsigned set;
+    } kinds[BYTES_KINDS] = {
+        [BYTES_OF_ATTENTION] = {"attention", 1u << 1 | 1u << 2 | 1u << 6 | 1u << 8 | 1u << 10},
+        [BYTES_OF_POWER_UP] = {"power-up", 1u << 11},
+        [BYTES_OF_INSTRUCTION] = {"instruction", 0x7FCu},
+        [BYTES_OF_TRANSFER] = {"transfer step", 1u << 2 | 1u << 3 | 1u << 4},
+        [BYTES_OF_EXTERNAL_END] = {"external end", 1u << 0},
+        [BYTES_OF_REFUSED] = {"refused", 1u << 0},
+    };
+    puts("bytes read and stored:");
+    for (unsigned kind = 0; kind < BYTES_KINDS; kind++) {
+        for (unsigned i = 0; i < BYTES_COUNTS; i++) {
+            char name[40];
+            bool can_be = (kinds[kind].set >> i & 1u) != 0;
+            snprintf(name, sizeof name, "%s, %u%s", kinds[kind].what, i, can_be ? "" : " (CANNOT BE)");
+            if (can_be || met[kind][i] > 0) print_count(name, met[kind][i]);
+            missing += !can_be && met[kind][i] > 0;
+        }
     }
 }
 

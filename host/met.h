@@ -7,6 +7,26 @@
 /* Every number, as a set of bits. */
 #define ALL_NUMBERS ((1u << EMU_NUMBERS) - 1)
 
+/* What answers how many bytes it read and stored: done calls by what they did, and refused ones. */
+enum met_bytes {
+    BYTES_OF_ATTENTION,
+    BYTES_OF_POWER_UP,
+    BYTES_OF_INSTRUCTION,
+    BYTES_OF_TRANSFER,
+    BYTES_OF_EXTERNAL_END,
+    BYTES_OF_REFUSED,
+    BYTES_KINDS
+};
+
+/* How many counts an answer has room for. */
+enum { BYTES_COUNTS = 16 };
+
+/* What a done step of this kind is among them. */
+enum met_bytes bytes_of_step(char kind);
+
+/* Prints how often each count was answered that such a call can give, and notes those that it cannot. */
+void print_touched(unsigned long met[BYTES_KINDS][BYTES_COUNTS]);
+
 /* Prints a count, and notes it where nothing was met. */
 void print_count(const char *name, unsigned long count);
 

@@ -219,6 +219,7 @@ static int met(const char *tally_name)
     print_numbers("attentions", t.ca, CA_NUMBERS);
     print_numbers("steps", t.step, STEP_NUMBERS);
     print_steps(&t);
+    print_touched(t.bytes);
     print_registers(&t);
     print_texts(&t);
     print_fields(&t.coverage);

@@ -116,7 +116,7 @@ static void refused(unsigned number, uint32_t lines, int line)
     want_same();
     struct emu_stepped stepped = emu_step(&now.s, &now.m, lines);
     check(stepped.number == number, "number of refusal", line);
-    check(stepped.kind == 0 && stepped.channel == 0, "no kind, no channel", line);
+    check(stepped.kind == 0 && stepped.channel == 0 && stepped.count == 0, "no kind, no channel, no bytes", line);
     check_all(line);
 }
 
@@ -124,7 +124,9 @@ static void refused(unsigned number, uint32_t lines, int line)
 static void attend(uint32_t channel, unsigned number, int line)
 {
     if (number != 0) want_same();
-    check(emu_attention(&now.s, &now.m, channel) == number, "number of attention", line);
+    struct emu_answer answer = emu_attention(&now.s, &now.m, channel);
+    check(answer.number == number, "number of attention", line);
+    check((answer.count == 0) == (number != 0), "bytes where it is accepted", line);
     check_all(line);
 }
 
@@ -460,7 +462,9 @@ static void board(const char *sysbus, const char *soc)
 /* Powers up and wants this number, state and memory. */
 static void powers(unsigned number, int line)
 {
-    check(emu_power_up(&now.s, &now.m) == number, "power-up's number", line);
+    struct emu_answer answer = emu_power_up(&now.s, &now.m);
+    check(answer.number == number, "power-up's number", line);
+    check(answer.count == (number == 0 ? 11u : 0u), "power-up's eleven bytes", line);
     check_all(line);
 }
 
@@ -616,10 +620,10 @@ static void test_refusal_10(void)
                 *named_registers[which] = 0x100000;
                 struct emu_state given = now.s;
                 CHECK(emu_step(&now.s, &now.m, 0).number == 10);
-                CHECK(emu_attention(&now.s, &now.m, 1) == 10 && emu_attention(&now.s, &now.m, 2) == 10);
+                CHECK(emu_attention(&now.s, &now.m, 1).number == 10 && emu_attention(&now.s, &now.m, 2).number == 10);
                 CHECK(emu_same_state(&now.s, &given));
                 *named_registers[which] = 0xFFFFF;
-                CHECK(emu_attention(&now.s, &now.m, 1) == 0);
+                CHECK(emu_attention(&now.s, &now.m, 1).number == 0);
             }
         }
     }
@@ -703,7 +707,7 @@ static void test_start(void)
     ATTEND_REFUSED(1, 8);
     N.mode = EMU_IDLE;
     N.psw = EMU_PSW_TB;
-    CHECK(emu_attention(&now.s, &now.m, 1) == 0);
+    CHECK(emu_attention(&now.s, &now.m, 1).number == 0);
 }
 
 /* Start reads before BUSY is stored, also where PB is the block itself. */
@@ -865,7 +869,7 @@ static void test_command_refusals(void)
                                                                            : 0;
             if (command == 5) expected = mode != EMU_SUSPENDED ? 7 : 0;
             if (expected != 0) ATTEND_REFUSED(1, expected);
-            else CHECK(emu_attention(&now.s, &now.m, 1) == 0);
+            else CHECK(emu_attention(&now.s, &now.m, 1).number == 0);
         }
     }
     /* 6 comes before other bytes, and a CCW beyond memory before 6 */
@@ -916,14 +920,14 @@ static void test_attention_bytes(void)
     now.m.sys_len = 0x45;
     ATTEND_REFUSED(1, 2);
     now.m.sys_len = 0x46;
-    CHECK(emu_attention(&now.s, &now.m, 1) == 0);
+    CHECK(emu_attention(&now.s, &now.m, 1).number == 0);
     reset();
     N.mode = EMU_IDLE;
     block(1, 0x01);
     now.m.sys_len = 0x501;
     ATTEND_REFUSED(1, 2);
     now.m.sys_len = 0x502;
-    CHECK(emu_attention(&now.s, &now.m, 1) == 0);
+    CHECK(emu_attention(&now.s, &now.m, 1).number == 0);
     /* start 011: PB's first four */
     reset();
     N.mode = EMU_IDLE;
@@ -933,7 +937,7 @@ static void test_attention_bytes(void)
     now.m.sys_len = 0x503;
     ATTEND_REFUSED(1, 2);
     now.m.sys_len = 0x504;
-    CHECK(emu_attention(&now.s, &now.m, 1) == 0);
+    CHECK(emu_attention(&now.s, &now.m, 1).number == 0);
     /* suspend and resume: PB's four at PP and BUSY */
     for (unsigned i = 0; i < 2; i++) {
         reset();
@@ -942,7 +946,7 @@ static void test_attention_bytes(void)
         now.m.sys_len = 0x403;
         ATTEND_REFUSED(1, 2);
         now.m.sys_len = 0x404;
-        CHECK(emu_attention(&now.s, &now.m, 1) == 0);
+        CHECK(emu_attention(&now.s, &now.m, 1).number == 0);
         reset();
         N.mode = i == 0 ? EMU_RUNNING : EMU_SUSPENDED;
         N.pp = 0;
@@ -950,7 +954,7 @@ static void test_attention_bytes(void)
         now.m.sys_len = 0x41;
         ATTEND_REFUSED(1, 2);
         now.m.sys_len = 0x42;
-        CHECK(emu_attention(&now.s, &now.m, 1) == 0);
+        CHECK(emu_attention(&now.s, &now.m, 1).number == 0);
     }
     /* BUSY that wraps past a short memory's end */
     reset();
@@ -976,9 +980,9 @@ static void test_icf(void)
             reset();
             block(1, upper << 3);
             N.psw = (uint8_t)(psw | 0x47);
-            CHECK(emu_attention(&now.s, &now.m, 1) == 0 && N.psw == expected && N.mode == EMU_RUNNING);
+            CHECK(emu_attention(&now.s, &now.m, 1).number == 0 && N.psw == expected && N.mode == EMU_RUNNING);
             block(1, upper << 3 | 7);
-            CHECK(emu_attention(&now.s, &now.m, 1) == 0 && N.psw == (expected & ~0x44u) && N.mode == EMU_IDLE);
+            CHECK(emu_attention(&now.s, &now.m, 1).number == 0 && N.psw == (expected & ~0x44u) && N.mode == EMU_IDLE);
         }
     }
     /* halt from any mode takes the mark; a command leaves "last" and the other channel alone */
@@ -2290,9 +2294,9 @@ static void test_xfer(void)
     reset();
     N.armed = true;
     block(1, 0x06);
-    CHECK(emu_attention(&now.s, &now.m, 1) == 0 && N.armed);
+    CHECK(emu_attention(&now.s, &now.m, 1).number == 0 && N.armed);
     block(1, 0x05);
-    CHECK(emu_attention(&now.s, &now.m, 1) == 0 && N.armed);
+    CHECK(emu_attention(&now.s, &now.m, 1).number == 0 && N.armed);
     /* a transfer step and an external end leave the mark alone */
     reset();
     N.armed = true;
@@ -3125,7 +3129,7 @@ static void test_refusal_14(void)
         c->cc ^= (uint16_t)(1u << bit);
         struct emu_state given = now.s;
         unsigned number = bit == 9 ? 0 : 14;
-        CHECK(emu_attention(&now.s, &now.m, 1) == number);
+        CHECK(emu_attention(&now.s, &now.m, 1).number == number);
         CHECK(emu_same_state(&now.s, &given) || number == 0);
         now.s = given;
         bool none_runs = N.mode != EMU_RUNNING && N2.mode != EMU_RUNNING;
@@ -3134,10 +3138,10 @@ static void test_refusal_14(void)
         /* the fields made those of CC, or CC that of the fields */
         now.s = given;
         c->fields = emu_fields_of(c->cc);
-        CHECK(emu_attention(&now.s, &now.m, 1) == 0);
+        CHECK(emu_attention(&now.s, &now.m, 1).number == 0);
         now.s = given;
         c->cc = emu_fields_value(&c->fields);
-        CHECK(emu_attention(&now.s, &now.m, 1) == 0);
+        CHECK(emu_attention(&now.s, &now.m, 1).number == 0);
     }
     /* TMC 100 and 000 disagree, though both are off */
     reset();
@@ -3240,7 +3244,7 @@ static void test_renewed(void)
         emu_set_cc(&N2, 0x4321);
         for (unsigned i = 0; i < sizeof commands; i++) {
             block(channel, commands[i]);
-            CHECK(emu_attention(&now.s, &now.m, channel) == 0);
+            CHECK(emu_attention(&now.s, &now.m, channel).number == 0);
             CHECK(N.cc == 0xBEEF && emu_fields_value(&N.fields) == (0xBEEF & 0xFDFF));
             CHECK(N2.cc == 0x4321 && emu_fields_value(&N2.fields) == (0x4321 & 0xFDFF));
         }
@@ -3443,15 +3447,21 @@ static void test_invariants(void)
         memcpy(a0, a, sizeof a);
         memcpy(b0, b, sizeof b);
         bool attention = made_up() % 4 == 0;
-        unsigned channel = made_up() % 2 + 1, number;
+        unsigned channel = made_up() % 2 + 1, number, count, least = 1, most = 10;
         if (attention) {
-            number = emu_attention(&s, &m, channel);
+            struct emu_answer answer = emu_attention(&s, &m, channel);
+            number = answer.number;
+            count = answer.count;
         } else {
             struct emu_stepped stepped = emu_step(&s, &m, made_up() % 17);
             number = stepped.number;
             channel = stepped.channel;
+            count = stepped.count;
+            least = stepped.kind == 'X' ? 0 : 2;
+            most = stepped.kind == 'X' ? 0 : stepped.kind == 'T' ? 4 : 10;
         }
         numbers[number]++;
+        broken += number != 0 ? count != 0 : count < least || count > most;
         bool changed = !emu_same_state(&s, &s0) || memcmp(a, a0, sizeof a) != 0 || memcmp(b, b0, sizeof b) != 0;
         if (number != 0) {
             broken += changed;
@@ -3464,6 +3474,128 @@ static void test_invariants(void)
     }
     CHECK(broken == 0);
     for (unsigned number = 0; number < EMU_NUMBERS; number++) CHECK(number == 11 || numbers[number] > 0);
+}
+
+/* ---- How many bytes a call touches ---- */
+
+/* An instruction, what stands at GA and 5 behind it, and how many bytes it reads and stores. */
+struct counted {
+    const char *hex, *at_ga;
+    unsigned count;
+};
+
+/* Instructions: their own bytes, and each access of their operands. */
+static void test_counts_of_instructions(void)
+{
+    static const struct counted cases[] = {
+        /* nothing but their own bytes, and HLT's BUSY */
+        {"00 00", "00", 2}, {"40 00", "00", 2}, {"60 00", "00", 2}, {"E0 00", "00", 2}, {"60 38", "00", 2},
+        {"20 48", "00", 3}, {"68 30 12", "00", 3}, {"71 30 34 12", "00", 4}, {"71 20 34 12", "00", 4},
+        {"88 20 00", "00", 3}, {"91 20 00 00", "00", 4}, {"11 08 00 00 00 00", "00", 6},
+        /* an operand read, or stored */
+        {"60 80", "00", 3}, {"61 80", "00", 4}, {"63 80 05", "00", 5}, {"63 A0 05", "00", 5}, {"63 AC 05", "00", 5},
+        {"60 84", "00", 3}, {"63 84 05", "00", 5}, {"08 4C 12", "00", 4}, {"13 4C 05 34 12", "00", 7},
+        {"03 88 05", "00", 7}, {"03 8C 05", "00", 6}, {"03 98 05", "00", 6},
+        /* read and then stored: the same byte twice */
+        {"00 E8", "00", 4}, {"03 E8 05", "00", 7}, {"03 EC 05", "00", 7}, {"03 DC 05", "00", 7}, {"63 D0 05", "00", 7},
+        {"13 C0 05 34 12", "00", 9}, {"02 F4 05", "00", 5}, {"02 F8 05", "00", 5},
+        /* MOV M,M of bytes and words, with none, one and two offset bytes */
+        {"00 90 00 CD", "00", 6}, {"01 90 01 CD", "00", 8}, {"03 90 05 01 CD", "00", 9}, {"01 90 03 CD 05", "00", 9},
+        {"03 91 08 03 CC 0A", "00", 10},
+        /* jumps, taken and not: the displacement counts both ways */
+        {"09 E4 05", "00 00", 5}, {"09 E4 05", "00 01", 5}, {"11 E4 05 00", "00 00", 6}, {"11 E4 05 00", "00 01", 6},
+        {"13 E4 05 00 00", "00", 7}, {"68 40 10", "00", 3}, {"70 44 10 00", "00", 4}, {"70 40 10 00", "00", 4},
+        {"08 BC 10", "01", 4}, {"08 BC 10", "00", 4}, {"12 BC 05 10 00", "00", 6}, {"12 B0 05 10 00", "00", 6},
+        {"8B 9C 05 00", "00", 7}, {"93 9C 05 00 00", "00", 8},
+        /* TSL stores where it found 0 */
+        {"18 94 FF 10", "00", 6}, {"18 94 FF 10", "01", 5}, {"1A 94 05 FF 10", "00 00 00 00 00 00", 7},
+        {"1A 94 05 FF 10", "00 00 00 00 00 80", 6},
+    };
+    for (unsigned i = 0; i < sizeof cases / sizeof cases[0]; i++) {
+        reset();
+        sys(0x1000, cases[i].at_ga);
+        sys(0x100, cases[i].hex);
+        struct emu_stepped stepped = emu_step(&now.s, &now.m, 0);
+        check(stepped.number == 0 && stepped.kind == 'I' && stepped.count == cases[i].count, cases[i].hex, __LINE__);
+    }
+    /* empty slots count: INC of a word of which one byte or none is there */
+    for (size_t io_len = 0; io_len < 2; io_len++) {
+        slot(0, io_len);
+        sys(0x100, "01 E8");
+        CHECK(emu_step(&now.s, &now.m, 0).count == 6);
+    }
+}
+
+/* Attention: the CCW, and what its command reads and stores. */
+static void test_counts_of_attentions(void)
+{
+    static const unsigned ccw[] = {0, 7, 6, 5, 1, 3}, counts[] = {1, 2, 6, 6, 8, 10};
+    static const enum emu_mode modes[] = {EMU_IDLE, EMU_IDLE, EMU_RUNNING, EMU_SUSPENDED, EMU_IDLE, EMU_SUSPENDED};
+    for (unsigned i = 0; i < 12; i++) {
+        unsigned channel = 1 + i / 6;
+        reset();
+        now.s.channel[channel - 1].mode = modes[i % 6];
+        block(channel, ccw[i % 6] | 0x38);
+        struct emu_answer answer = emu_attention(&now.s, &now.m, channel);
+        CHECK(answer.number == 0 && answer.count == counts[i % 6]);
+    }
+    /* refused by its command, and by a byte that is not lent, after bytes were read */
+    reset();
+    block(1, 3);
+    CHECK(emu_attention(&now.s, &now.m, 1).number == 8 && emu_attention(&now.s, &now.m, 1).count == 0);
+    N.mode = EMU_IDLE;
+    now.m.sys_len = 0x501;
+    CHECK(emu_attention(&now.s, &now.m, 1).number == 2 && emu_attention(&now.s, &now.m, 1).count == 0);
+}
+
+/* One step of a transfer, and how many bytes it read and stored. */
+static void transfer_counts(unsigned count, int line)
+{
+    struct emu_stepped stepped = emu_step(&now.s, &now.m, 0);
+    check(stepped.number == 0 && stepped.kind == 'T' && stepped.count == count, "a transfer step's bytes", line);
+}
+
+/* Transfer steps: one byte, one translated, two, two where a match prevents the second store; and external ends. */
+static void test_counts_of_transfers(void)
+{
+    static const unsigned both = EMU_PSW_S | EMU_PSW_D;
+    transfer(0, 0xC008, 9);
+    transfer_counts(2, __LINE__);
+    transfer(0, 0xE008, 9);
+    transfer_counts(3, __LINE__);
+    transfer(both, 0xC008, 9);
+    transfer_counts(4, __LINE__);
+    transfer(both, 0xC008, 1);
+    transfer_counts(2, __LINE__);
+    /* ports that do not move on are taken twice */
+    transfer(EMU_PSW_D, 0x8008, 9);
+    transfer_counts(4, __LINE__);
+    transfer(EMU_PSW_S, 0x4008, 9);
+    transfer_counts(4, __LINE__);
+    /* the first of two single stores meets TMC, the second does, and a word's low byte does */
+    transfer(EMU_PSW_S, 0xC001, 9);
+    N.mc = 0xFF11;
+    transfer_counts(3, __LINE__);
+    transfer(EMU_PSW_S, 0xC001, 9);
+    N.mc = 0xFF22;
+    transfer_counts(4, __LINE__);
+    transfer(both, 0xC001, 9);
+    N.mc = 0xFF11;
+    transfer_counts(4, __LINE__);
+    /* from and to empty slots */
+    transfer(both, 0xC008, 9);
+    N.ga.tag = N.gb.tag = true;
+    now.m.io_len = 0;
+    transfer_counts(4, __LINE__);
+    /* refused: SYN 11, and a byte of the destination beyond what is lent */
+    transfer(0, 0xD808, 9);
+    CHECK(emu_step(&now.s, &now.m, 0).number == 5 && emu_step(&now.s, &now.m, 0).count == 0);
+    transfer(both, 0xC008, 9);
+    now.m.sys_len = 0x2001;
+    CHECK(emu_step(&now.s, &now.m, 0).number == 2 && emu_step(&now.s, &now.m, 0).count == 0);
+    transfer(both, 0xC060, 9);
+    struct emu_stepped stepped = emu_step(&now.s, &now.m, 4);
+    CHECK(stepped.number == 0 && stepped.kind == 'X' && stepped.count == 0);
 }
 
 /* ---- Counters ---- */
@@ -3485,10 +3617,10 @@ static void test_coverage(void)
     transfer(EMU_PSW_S, 0xC060, 9);
     CHECK(emu_step(&now.s, &now.m, 4).number == 0);
     block(1, 0x06);
-    CHECK(emu_attention(&now.s, &now.m, 1) == 0);
-    CHECK(emu_attention(&now.s, &now.m, 1) == 9);
+    CHECK(emu_attention(&now.s, &now.m, 1).number == 0);
+    CHECK(emu_attention(&now.s, &now.m, 1).number == 9);
     N2.cc = 0x0A00;
-    CHECK(emu_attention(&now.s, &now.m, 1) == 14);
+    CHECK(emu_attention(&now.s, &now.m, 1).number == 14);
     CHECK(emu_step(&now.s, &now.m, 16).number == 12);
     N.cc ^= 1;
     CHECK(emu_step(&now.s, &now.m, 0).number == 14);
@@ -3560,6 +3692,9 @@ int main(void)
     test_renewed();
     test_panel_program();
     test_run();
+    test_counts_of_instructions();
+    test_counts_of_attentions();
+    test_counts_of_transfers();
     test_invariants();
     test_coverage();
     printf("%lu checks, %lu failures\n", checks, failures);

@@ -234,9 +234,11 @@ static unsigned call_reset(struct session *s, const struct text *word, FILE *out
 static unsigned call_power(struct session *s, const struct text *word, FILE *out)
 {
     (void)word;
-    s->answered = emu_power_up(&s->state, &s->memory);
-    s->tally.power[s->answered]++;
-    fprintf(out, "power %u\n", s->answered);
+    struct emu_answer a = emu_power_up(&s->state, &s->memory);
+    s->answered = a.number;
+    s->tally.power[a.number]++;
+    s->tally.bytes[a.number == EMU_DONE ? BYTES_OF_POWER_UP : BYTES_OF_REFUSED][a.count]++;
+    fprintf(out, "power %u %u\n", a.number, a.count);
     return 1;
 }
 
@@ -245,9 +247,11 @@ static unsigned call_ca(struct session *s, const struct text *word, FILE *out)
 {
     uint32_t channel;
     if (!number(word[1], UINT32_MAX, &channel)) return 0;
-    s->answered = emu_attention(&s->state, &s->memory, channel);
-    s->tally.ca[s->answered]++;
-    fprintf(out, "ca %u\n", s->answered);
+    struct emu_answer a = emu_attention(&s->state, &s->memory, channel);
+    s->answered = a.number;
+    s->tally.ca[a.number]++;
+    s->tally.bytes[a.number == EMU_DONE ? BYTES_OF_ATTENTION : BYTES_OF_REFUSED][a.count]++;
+    fprintf(out, "ca %u %u\n", a.number, a.count);
     return 1;
 }
 
@@ -267,8 +271,9 @@ static unsigned call_step(struct session *s, const struct text *word, FILE *out)
     bool done = stepped.number == EMU_DONE;
     s->answered = stepped.number;
     s->tally.step[stepped.number]++;
+    s->tally.bytes[done ? bytes_of_step(stepped.kind) : BYTES_OF_REFUSED][stepped.count]++;
     if (done) count_done(&s->tally, stepped, lines);
-    fprintf(out, "step %u %u %c\n", stepped.number, stepped.channel, done ? stepped.kind : '.');
+    fprintf(out, "step %u %u %c %u\n", stepped.number, stepped.channel, done ? stepped.kind : '.', stepped.count);
     return 1;
 }
 

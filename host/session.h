@@ -5,6 +5,7 @@
 #include "emulator.h"
 #include "hex.h"
 #include "listing.h"
+#include "met.h"
 
 /* The longest text of which calls are made, and the longest buffers that a script can ask for. */
 #define SCRIPT_LIMIT 1048576u
@@ -47,6 +48,7 @@ struct tally {
     unsigned long listed_instructions, listed_data, started;
     unsigned long kind[2][3];
     unsigned long stepped_under[16];
+    unsigned long bytes[BYTES_KINDS][BYTES_COUNTS];
     unsigned long set[2][SCRIPT_REGISTERS];
     struct emu_coverage coverage;
 };

@@ -23,10 +23,13 @@ extern "C" {
 /* The number for bytes that are no state: of another length or version, or with a mode, flag or field out of range. */
 #define IOP89_NO_STATE 17u
 
-/* The parts of an answer: the number and, of a done step, the channel (1 or 2) and what it did, else both 0. */
+/* The parts of an answer: the number; of a done step the channel (1 or 2) and what it did, else both 0; and of a done
+ * power-up, attention or step how many bytes of both memories it read and stored, each access of each byte counted once,
+ * else 0. A power-up counts 11, an attention 1 to 10, an instruction 2 to 10, a transfer step 2 to 4, an external end 0. */
 #define IOP89_ANSWER_NUMBER(answer) ((answer) & 0xFFu)
 #define IOP89_ANSWER_CHANNEL(answer) ((answer) >> 8 & 3u)
 #define IOP89_ANSWER_KIND(answer) ((answer) >> 10 & 3u)
+#define IOP89_ANSWER_COUNT(answer) ((answer) >> 12 & 15u)
 
 /* What a done step was. */
 enum iop89_kind { IOP89_NONE = 0, IOP89_INSTRUCTION = 1, IOP89_TRANSFER = 2, IOP89_EXTERNAL_END = 3 };
