@@ -16,7 +16,7 @@ struct command {
 static const struct command commands[] = {
     {"run", "one run, as iop89_run makes it: the number, the steps done, and which channel still runs",
      "iop89 run examples/copy-odd.bin -show 0x80 96", tool_run},
-    {"step", "the same call by call: a line for each step, with channel, kind (I, T, X), TP and the registers changed",
+    {"step", "the same call by call: a line for each step: channel, kind (I, T, X), bytes touched, TP, registers changed",
      "iop89 step examples/external.bin -lines 1 -limit 20", tool_step},
     {"load", "what PROM files hold: the ranges that they store with their bytes, the start address, and how many bytes",
      "iop89 load examples/prom/srecord-segments.hex", tool_show_files},

@@ -117,10 +117,9 @@ static enum tool_status status_of(unsigned number, const uint8_t *state)
 }
 
 /* Gives one attention. */
-static unsigned attend(uint8_t *state, struct tool_memory *m, uint32_t channel)
+static uint32_t attend(uint8_t *state, struct tool_memory *m, uint32_t channel)
 {
-    uint32_t answer = iop89_attention(state, IOP89_STATE_LENGTH, m->sys, m->sys_len, m->io, m->io_len, channel);
-    return IOP89_ANSWER_NUMBER(answer);
+    return iop89_attention(state, IOP89_STATE_LENGTH, m->sys, m->sys_len, m->io, m->io_len, channel);
 }
 
 /* Does one step. */
@@ -129,12 +128,12 @@ static uint32_t step(uint8_t *state, struct tool_memory *m, uint32_t lines)
     return iop89_step(state, IOP89_STATE_LENGTH, m->sys, m->sys_len, m->io, m->io_len, lines);
 }
 
-/* Makes the state that the calls begin with, of CP or by reset and power-up; answers the number that refused it. */
-static unsigned make_state(const struct tool_order *order, uint8_t *state, struct tool_memory *m)
+/* Makes the state that the calls begin with, of CP or by reset and power-up; hands back the last one's answer. */
+static uint32_t make_state(const struct tool_order *order, uint8_t *state, struct tool_memory *m)
 {
-    if (!order->board) return IOP89_ANSWER_NUMBER(iop89_fresh(state, IOP89_STATE_LENGTH, order->cp));
+    if (!order->board) return iop89_fresh(state, IOP89_STATE_LENGTH, order->cp);
     iop89_reset(state, IOP89_STATE_LENGTH);
-    return IOP89_ANSWER_NUMBER(iop89_power_up(state, IOP89_STATE_LENGTH, m->sys, m->sys_len, m->io, m->io_len));
+    return iop89_power_up(state, IOP89_STATE_LENGTH, m->sys, m->sys_len, m->io, m->io_len);
 }
 
 /* The state that a run leaves behind so many steps: the same calls once more, on a copy of its memory. */
@@ -182,7 +181,7 @@ static unsigned step_lines(const struct tool_order *order, uint8_t *state, struc
         uint32_t answer = step(state, memory, order->lines);
         unsigned channel = IOP89_ANSWER_CHANNEL(answer);
         if (IOP89_ANSWER_NUMBER(answer) != IOP89_DONE) return IOP89_ANSWER_NUMBER(answer);
-        printf("%" PRIu32 " %u %c ", i + 1, channel, "-ITX"[IOP89_ANSWER_KIND(answer)]);
+        printf("%" PRIu32 " %u %c %u ", i + 1, channel, "-ITX"[IOP89_ANSWER_KIND(answer)], IOP89_ANSWER_COUNT(answer));
         print_tp(state, channel);
         print_changes(before, state, channel);
         putchar('\n');
@@ -190,26 +189,37 @@ static unsigned step_lines(const struct tool_order *order, uint8_t *state, struc
     return IOP89_DONE;
 }
 
-/* Prints what a power-up found. */
-static void print_power_up(unsigned number, const uint8_t *state)
+/* Prints how many bytes a done call read and stored. */
+static void print_count(uint32_t answer)
 {
-    if (number != IOP89_DONE) puts("power-up: refused");
-    else
-        printf("power-up: CP %05" PRIX32 ", SYSBUS bit 0 %u, SOC bit 0 %u, SOC bit 1 %u\n", iop89_cp(state),
-               state[IOP89_AT_SYSBUS], state[IOP89_AT_SOC], state[IOP89_AT_SOC_1]);
+    unsigned count = IOP89_ANSWER_COUNT(answer);
+    printf(", %u byte%s\n", count, count == 1 ? "" : "s");
+}
+
+/* Prints what a power-up found. */
+static void print_power_up(uint32_t answer, const uint8_t *state)
+{
+    if (IOP89_ANSWER_NUMBER(answer) != IOP89_DONE) {
+        puts("power-up: refused");
+        return;
+    }
+    printf("power-up: CP %05" PRIX32 ", SYSBUS bit 0 %u, SOC bit 0 %u, SOC bit 1 %u", iop89_cp(state),
+           state[IOP89_AT_SYSBUS], state[IOP89_AT_SOC], state[IOP89_AT_SOC_1]);
+    print_count(answer);
 }
 
 /* Makes the state and gives the attentions; answers the number that refused one of them. */
 static unsigned start(const struct tool_order *order, uint8_t *state, struct tool_memory *memory)
 {
-    unsigned number = make_state(order, state, memory);
-    if (order->board) print_power_up(number, state);
-    for (unsigned i = 0; number == IOP89_DONE && i < order->channels; i++) {
-        number = attend(state, memory, order->channel[i]);
-        if (number == IOP89_DONE) printf("attention to channel %" PRIu32 ": accepted\n", order->channel[i]);
-        else printf("attention to channel %" PRIu32 ": refused\n", order->channel[i]);
+    uint32_t answer = make_state(order, state, memory);
+    if (order->board) print_power_up(answer, state);
+    for (unsigned i = 0; IOP89_ANSWER_NUMBER(answer) == IOP89_DONE && i < order->channels; i++) {
+        answer = attend(state, memory, order->channel[i]);
+        bool accepted = IOP89_ANSWER_NUMBER(answer) == IOP89_DONE;
+        printf("attention to channel %" PRIu32 ": %s", order->channel[i], accepted ? "accepted" : "refused\n");
+        if (accepted) print_count(answer);
     }
-    return number;
+    return IOP89_ANSWER_NUMBER(answer);
 }
 
 enum tool_status tool_step(const struct tool_order *order)
