@@ -346,7 +346,7 @@ static void execute_at(struct writer *w, uint32_t channel, bool in_io, uint32_t 
 static void execute_into_slots(struct writer *w, uint32_t channel)
 {
     static const uint8_t movi_bc[] = {0x71, 0x30, 0x34, 0x12}, jmp[] = {0x88, 0x20, 0x05};
-    bool word = chance(&w->d, 700);
+    bool word = chance(&w->d, 500);
     size_t length = word ? sizeof movi_bc : sizeof jmp, there = 1 + below(&w->d, length - 1);
     uint32_t tp = (uint32_t)(w->s.memory.io_len - there) & 0xFFFFu;
     execute_at(w, channel, true, tp);
@@ -424,6 +424,19 @@ static void move_to_cc(struct writer *w)
     if (by_mov) place(w, channel_of(w, channel)->ga.tag, channel_of(w, channel)->ga.address, value, sizeof value);
     place(w, false, tp, by_mov ? mov : movi, by_mov ? sizeof mov : sizeof movi);
     for (unsigned i = 3 + below(&w->d, 4); i > 0; i--) step(w, good_lines(w, 250));
+}
+
+/* Moves a word from one memory operand to another with an offset byte each, which touches most bytes. */
+static void move_widely(struct writer *w)
+{
+    uint32_t channel = some_channel(w), tp = 16 + below(&w->d, 16), from = below(&w->d, 3), to = below(&w->d, 3);
+    uint8_t mov[] = {0x03, (uint8_t)(0x90 | from), (uint8_t)below(&w->d, 16),
+                     0x03, (uint8_t)(0xCC | to),   (uint8_t)below(&w->d, 16)};
+    execute_at(w, channel, false, tp);
+    point(w, channel, SET_GA + from);
+    point(w, channel, SET_GA + to);
+    place(w, false, tp, mov, sizeof mov);
+    step(w, good_lines(w, 250));
 }
 
 /* Gives a channel another program, and starts it from whatever mode. */
@@ -594,6 +607,7 @@ static void go_on(struct writer *w)
     else if (kind < 520) go_apart(w);
     else if (kind < 530) move_to_cc(w);
     else if (kind < 630) transfer(w);
+    else if (kind < 638) move_widely(w);
     else if (kind < 750) try_instructions(w, some_channel(w));
     else if (kind < 770) show(w);
     else if (kind < 785) put_at_end(w);
