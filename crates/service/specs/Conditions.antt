@@ -23,8 +23,8 @@ abbrev pub NoMode : List ℕ → ℕ → Type 0
 NoMode b at = 3 ≤ getD b at 0
 
 -- a byte stands for no field of CC that has so many values
-abbrev pub NoCode : List ℕ → ℕ → ℕ → Type 0
-NoCode b at values = values ≤ getD b at 0
+abbrev pub PastWidth : List ℕ → ℕ → ℕ → Type 0
+PastWidth b at values = values ≤ getD b at 0
 
 -- a field of CC is out of range
 abbrev pub NoFields : List ℕ → ℕ → Type 0
@@ -32,13 +32,13 @@ NoFields b at =
     NoFlag b at
     ⊎ NoFlag b (at + 1)
     ⊎ NoFlag b (at + 2)
-    ⊎ NoCode b (at + 3) 4
+    ⊎ PastWidth b (at + 3) 4
     ⊎ NoFlag b (at + 4)
     ⊎ NoFlag b (at + 5)
     ⊎ NoFlag b (at + 6)
-    ⊎ NoCode b (at + 7) 4
-    ⊎ NoCode b (at + 8) 4
-    ⊎ NoCode b (at + 9) 8
+    ⊎ PastWidth b (at + 7) 4
+    ⊎ PastWidth b (at + 8) 4
+    ⊎ PastWidth b (at + 9) 8
 
 -- a tag, the mode, the armed mark or a field of CC of a block is out of range
 abbrev pub NoBlock : List ℕ → ℕ → Type 0
