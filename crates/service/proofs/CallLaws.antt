@@ -16,11 +16,10 @@ use Rattle.machine.specs.declared.Made.{Made}
 use Rattle.machine.specs.declared.State.{State}
 use Rattle.attention.specs.Attention.{attentionOf, attentionCount}
 use Rattle.power.specs.Power.{powerUpOf, powerCount}
-use Rattle.step.specs.Step.{Step, stepOf}
-use Rattle.step.specs.Touched.{stepCount}
+use Rattle.step.specs.Step.{stepOf}
 use Rattle.service.specs.Fields.{isFlag}
 use Rattle.service.specs.Layout.{bytesOf, stateIn, isBlock, isBoard, isState, stateLength, version, firstAt, secondFrom}
-use Rattle.service.specs.Calls.{made, served, answerFrom, kindNumber, freshMade, resetMade, outcomeServed, powerServed, attentionServed, stepServed}
+use Rattle.service.specs.Calls.{made, served, answerFrom, freshMade, resetMade, outcomeServed, powerServed, attentionServed, stepServed}
 use Rattle.service.proofs.LengthLaws.{length-state}
 use Rattle.service.proofs.SetsLaws.{sets-whole}
 
@@ -105,10 +104,3 @@ module _ (b : List ℕ) (m : Buffers) where
         × (isState b ≡ true → stateIn (sets b 0 (bytesOf (o .state))) ≡ attentionOf (stateIn b) m channel .state)
     unfolding attentionServed
     attention-served channel o k = outcome-served o (attentionOf (stateIn b) m channel) k (attentionCount (stateIn b) m channel)
-
-    pub step-served : (lines : ℕ) (o : Step) (k : ℕ) → o ≡ stepOf (stateIn b) m lines → k ≡ stepCount (stateIn b) m lines → stateIn (bytesOf (o .state)) ≡ o .state
-        → (served (answerFrom (o .number) (o .channel) (kindNumber (o .kind)) k) (sets b 0 (bytesOf (o .state))) (o .memory) ≡ stepServed b m lines)
-        × (isState b ≡ true → stateIn (sets b 0 (bytesOf (o .state))) ≡ stepOf (stateIn b) m lines .state)
-    unfolding stepServed
-    step-served lines o k p q w =
-        (rw (h, put-whole b (o .state) (state-length b h), p, q), λ e. put-stands b (o .state) (state-length b h) w ∙ ap (λ (x : Step). x .state) p)

@@ -4,5 +4,6 @@ pub mod LittleLaws
 pub mod BackLaws
 pub mod CallLaws
 pub mod ForthLaws
+pub mod TurnLaws
 pub mod NumberLaws
 pub mod OutcomeLaws

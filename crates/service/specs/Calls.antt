@@ -11,7 +11,7 @@ use Rattle.attention.specs.Attention.{attentionOf, attentionCount}
 use Rattle.power.specs.Power.{powerUpOf, powerCount}
 use Rattle.step.specs.declared.Kind.{Kind}
 use Rattle.step.specs.declared.Kind.the-variants.{Nothing, Instruction, Transfer, External}
-use Rattle.step.specs.Step.{stepOf}
+use Rattle.step.specs.Step.{Step, stepOf}
 use Rattle.step.specs.Touched.{stepCount}
 use Rattle.service.specs.Layout.{bytesOf, stateIn, isState, stateLength}
 
@@ -71,10 +71,11 @@ powerServed b m = outcomeServed (powerUpOf (stateIn b) m) (powerCount m) b m
 unfoldable pub attentionServed : List ℕ → Buffers → ℕ → Service
 attentionServed b m channel = outcomeServed (attentionOf (stateIn b) m channel) (attentionCount (stateIn b) m channel) b m
 
+-- what a step leaves, told with its count
+abbrev pub stepLeft : Step → ℕ → Service
+stepLeft o count = served (answerFrom (o .number) (o .channel) (kindNumber (o .kind)) count) (bytesOf (o .state)) (o .memory)
+
 -- a step of it
 unfoldable pub stepServed : List ℕ → Buffers → ℕ → Service
 stepServed b m lines =
-    let o = stepOf (stateIn b) m lines in
-    pick (isState b)
-    (served (answerFrom (o .number) (o .channel) (kindNumber (o .kind)) (stepCount (stateIn b) m lines)) (bytesOf (o .state)) (o .memory))
-    (noState b m)
+    pick (isState b) (stepLeft (stepOf (stateIn b) m lines) (stepCount (stateIn b) m lines)) (noState b m)

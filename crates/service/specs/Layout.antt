@@ -4,6 +4,7 @@ use mathlib.Core.List.{List, [], _∷_, _++_}
 use Prim.Native.Nat.{ℕ, _+_}
 use lib.Dec.{eqb}
 use lib.ListN.{length, getD}
+use Rattle.words.specs.Choice.{pick}
 use Rattle.memory.specs.Values.{pointer}
 use Rattle.memory.specs.declared.Pointer.{Pointer}
 use Rattle.machine.specs.States.{boardWith}
@@ -84,6 +85,10 @@ firstAt = 10
 -- where the block of channel 2 starts
 abbrev pub secondFrom : ℕ
 secondFrom = 55
+
+-- where the block of a channel starts
+unfoldable pub blockAt : Bool → ℕ
+blockAt second = pick second secondFrom firstAt
 
 -- the pointer at an offset
 unfoldable pub pointerIn : List ℕ → ℕ → Pointer

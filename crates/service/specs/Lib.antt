@@ -2,3 +2,4 @@ pub mod Fields
 pub mod Layout
 pub mod Calls
 pub mod Conditions
+pub mod Turns

@@ -6,18 +6,27 @@ use machine::Channel;
 use machine::Fields;
 use machine::State;
 use memory::Pointer;
+ghost use mathlib.Core.Bool.{true};
 ghost use mathlib.Core.Path.{_≡_};
 ghost use Prim.Native.Nat.{_+_, _≤_};
 ghost use lib.ListN.{length};
 ghost use lib.Seq.{sets};
+ghost use Rattle.machine.specs.States.{channelOf, withChannel, withLast};
 ghost use Rattle.service.specs.Conditions.{ChannelFits};
-ghost use Rattle.service.specs.Layout.{pointerBytes, pointersBytes, numbersBytes, marksBytes, sidesBytes, endsBytes, channelBytes, boardBytes, bytesOf, pointerIn, fieldsIn, channelIn, boardIn, stateIn, isFields, isBlock, isBoard, isState, stateLength};
+ghost use Rattle.service.specs.Layout.{pointerBytes, pointersBytes, numbersBytes, marksBytes, sidesBytes, endsBytes, channelBytes, boardBytes, bytesOf, pointerIn, fieldsIn, channelIn, boardIn, stateIn, isFields, isBlock, isBoard, isState, stateLength, blockAt};
 
 // Where the block of channel 1 starts.
 const FIRST_AT: usize = 10;
 
 // Where the block of channel 2 starts.
 const SECOND_AT: usize = 55;
+
+// Where the block of a channel starts.
+fn block_at(second: bool) -> usize
+    ensures { λ r. ⌜ r ≡ blockAt second ⌝ }
+{
+    if second { SECOND_AT } else { FIRST_AT }
+}
 
 // The pointer at an offset.
 fn pointer_in(bytes: &[u8], at: usize) -> Pointer
@@ -96,6 +105,29 @@ pub(crate) fn state_in(bytes: &[u8]) -> State
         last: fields::flag(bytes, 5),
         board: board_in(bytes),
     }
+}
+
+// The same for the step, which looks at a part of it: a function of one caller is inlined, and what is not looked at is
+// not read.
+pub(crate) fn looked_at(bytes: &[u8]) -> State
+    requires { ⌜ length (now bytes) ≡ stateLength ⌝ }
+    ensures { λ r. ⌜ r ≡ stateIn (now (bytes .entry)) ⌝ }
+{
+    State {
+        first: channel_in(bytes, FIRST_AT),
+        second: channel_in(bytes, SECOND_AT),
+        cp: fields::long(bytes, 1),
+        last: fields::flag(bytes, 5),
+        board: board_in(bytes),
+    }
+}
+
+// The channel of a name.
+pub(crate) fn channel(bytes: &[u8], second: bool) -> Channel
+    requires { ⌜ length (now bytes) ≡ stateLength ⌝ }
+    ensures { λ r. ⌜ r ≡ channelOf (stateIn (now (bytes .entry))) second ⌝ }
+{
+    channel_in(bytes, block_at(second))
 }
 
 // Whether each field of CC is one.
@@ -257,4 +289,14 @@ pub(crate) fn put_state(bytes: &mut [u8], s: State)
     put_board(bytes, s.board);
     put_channel(bytes, FIRST_AT, s.first);
     put_channel(bytes, SECOND_AT, s.second);
+}
+
+// What a done step changed put: its channel, and that it was the last to step.
+pub(crate) fn put_step(bytes: &mut [u8], second: bool, c: Channel)
+    requires { ⌜ isState (now bytes) ≡ true ⌝ }
+    ensures put { λ r. ⌜ now (bytes .exit) ≡ bytesOf (withLast (withChannel (stateIn (now (bytes .entry))) second c) second) ⌝ }
+    ensures whole { λ r. ⌜ stateIn (now (bytes .exit)) ≡ withLast (withChannel (stateIn (now (bytes .entry))) second c) second ⌝ }
+{
+    fields::put(bytes, 5, fields::flag_byte(second));
+    put_channel(bytes, block_at(second), c);
 }

@@ -1,17 +1,26 @@
 // The machine call by call for C: a state lives in the caller's bytes, and each call takes it from there and leaves it
 // there.
+use machine::Channel;
+use machine::State;
 use step::Kind;
+use step::turns::Choice;
 ghost use mathlib.Core.Bool.{true};
 ghost use mathlib.Core.Path.{_≡_};
 ghost use lib.ListN.{length};
-ghost use Rattle.memory.specs.Buffers.{buffers};
-ghost use Rattle.machine.specs.States.{resetState, freshOf};
+ghost use Rattle.memory.specs.Buffers.{Buffers, buffers};
+ghost use Rattle.machine.specs.Outcomes.{counted};
+ghost use Rattle.machine.specs.States.{resetState, freshOf, channelOf};
 ghost use Rattle.attention.specs.Attention.{attentionOf};
 ghost use Rattle.power.specs.Power.{powerUpOf};
-ghost use Rattle.step.specs.Step.{stepOf};
+ghost use Rattle.transfer.specs.Ends.{externallyEnded};
+ghost use Rattle.step.specs.Step.{channelStep, entryNumber, stepOf};
+ghost use Rattle.step.specs.Touched.{touchedIn};
+ghost use Rattle.step.specs.declared.Kind.the-variants.{External};
+ghost use Rattle.step.specs.declared.turns.Choice.the-variants.{Steps};
 ghost use Rattle.service.specs.Layout.{stateIn, isState, stateLength};
 ghost use Rattle.service.specs.Calls as Calls;
-ghost use Rattle.service.specs.Calls.{made, served, answerFrom, freshMade, resetMade, powerServed, attentionServed, stepServed};
+ghost use Rattle.service.specs.Turns.{turned};
+ghost use Rattle.service.specs.Calls.{made, served, stepLeft, answerFrom, freshMade, resetMade, powerServed, attentionServed, stepServed};
 
 // One field of a state in bytes.
 mod fields;
@@ -100,6 +109,102 @@ pub extern "C" fn iop89_attention(
     answer(a.number, 0, 0, a.count)
 }
 
+// What a channel's step comes to: its number, 0 for done, how many bytes it read and stored, the channel after it and its
+// kind. Only this channel is taken from the bytes and put back; the other's stay where they are.
+struct Turn {
+    number: u32,
+    count: u32,
+    channel: Channel,
+    kind: Kind,
+}
+
+// The refusal of what a step is given. `step::entry_number` says the same, but is not inlined, since an attention asks it
+// too, and would have the whole state go through memory.
+fn entry_number(s: State, lines: u32, sys: &[u8], io: &[u8]) -> u32
+    ensures { λ r. ⌜ r ≡ entryNumber s (buffers (now (sys .entry)) (now (io .entry))) lines ⌝ }
+{
+    if 16 <= lines {
+        return 12;
+    }
+    if !memory::within_limits(sys, io) {
+        return 11;
+    }
+    if !machine::states::sound(s) {
+        return 10;
+    }
+    if !s.board.powered {
+        return 13;
+    }
+    if !machine::states::fields_agree(s.first) {
+        return 14;
+    }
+    if machine::states::fields_agree(s.second) {
+        0
+    } else {
+        14
+    }
+}
+
+// The external end of a channel's transfer.
+fn end_turn(c: Channel) -> Turn
+    ensures { λ r. ⌜ r ≡ record { number = 0; count = 0; channel = externallyEnded c; kind = External } ⌝ }
+{
+    let channel = transfer::external_end(c);
+    Turn {
+        number: 0,
+        count: 0,
+        channel,
+        kind: Kind::External,
+    }
+}
+
+// One step of a channel that has its turn.
+fn channel_turn(s: State, second: bool, c: Channel, sys: &mut [u8], io: &mut [u8]) -> Turn
+    requires { ⌜ c ≡ channelOf s second ⌝ }
+    ensures left { λ r. ⌜ turned s second r (buffers (now (sys .exit)) (now (io .exit))) ≡ channelStep s (buffers (now (sys .entry)) (now (io .entry))) second ⌝ }
+    ensures count { λ r. ⌜ r .count ≡ counted (r .number) (touchedIn (Steps second) s (buffers (now (sys .entry)) (now (io .entry)))) ⌝ }
+{
+    if machine::psw::transferring(c.psw) {
+        let t = transfer::transfer(c, sys, io);
+        let channel = t.channel;
+        return Turn {
+            number: t.number,
+            count: t.count,
+            channel,
+            kind: Kind::Transfer,
+        };
+    }
+    let busy = words::sum20(machine::states::block(s, second), 1);
+    let e = execute::execute(c, busy, sys, io);
+    let channel = e.channel;
+    Turn {
+        number: e.number,
+        count: e.count,
+        channel,
+        kind: Kind::Instruction,
+    }
+}
+
+// The answer of a channel's step, which is put into the bytes where it is done.
+fn answered(state: &mut [u8], second: bool, t: Turn) -> u32
+    requires { ⌜ (isState (now state) ≡ true) × (¬ (t .number ≡ 0) → t .count ≡ 0) ⌝ }
+    ensures left { λ r. ⌜ ((m : Buffers) → served r (now (state .exit)) m ≡ stepLeft (turned (stateIn (now (state .entry))) second t m) (t .count)) ⌝ }
+    ensures whole { λ r. ⌜ ((m : Buffers) → stateIn (now (state .exit)) ≡ turned (stateIn (now (state .entry))) second t m .state) ⌝ }
+{
+    if t.number != 0 {
+        return answer(t.number, 0, 0, 0);
+    }
+    let c = t.channel;
+    let kind = t.kind;
+    layout::put_step(state, second, c);
+    answer(
+        0,
+        machine::states::number(second),
+        kind_number(kind),
+        t.count,
+    )
+}
+
 // Does one step of the machine.
 #[no_mangle]
 pub extern "C" fn iop89_step(state: &mut [u8], sys: &mut [u8], io: &mut [u8], lines: u32) -> u32
@@ -109,9 +214,17 @@ pub extern "C" fn iop89_step(state: &mut [u8], sys: &mut [u8], io: &mut [u8], li
     if !layout::is_state(state) {
         return 17;
     }
-    let r = step::step(layout::state_in(state), sys, io, lines);
-    let after = r.state;
-    layout::put_state(state, after);
-    let kind = r.kind;
-    answer(r.number, r.channel, kind_number(kind), r.count)
+    let s = layout::looked_at(state);
+    let number = entry_number(s, lines, sys, io);
+    if number != 0 {
+        return answer(number, 0, 0, 0);
+    }
+    match step::turns::choose(s, lines) {
+        Choice::Nobody => answer(1, 0, 0, 0),
+        Choice::Ends(second) => answered(state, second, end_turn(layout::channel(state, second))),
+        Choice::Steps(second) => {
+            let t = channel_turn(s, second, layout::channel(state, second), sys, io);
+            answered(state, second, t)
+        }
+    }
 }

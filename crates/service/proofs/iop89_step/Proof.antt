@@ -1,14 +1,22 @@
 -- `service::iop89_step` meets its contract.
 -- Assumes nothing.
+use Prim.Native.Nat.{ℕ}
 use borrow.Author.Needs.{needs}
-use borrow.Author.Tests.{not-true, not-false}
+use borrow.Author.Tests.{not-true, not-false, eqb-false}
 use denote.Ref.{now}
-use mathlib.Core.Path.{sym, ap, _∙_}
+use mathlib.Core.Path.{refl, sym, ap, _∙_}
+use native.Mathlib.Omega.{arith}
+use Rattle.machine.proofs.OutcomeLaws.{refused-counts}
 use Rattle.machine.specs.declared.State.{State}
 use Rattle.memory.specs.Buffers.{buffers}
-use Rattle.step.specs.Step.{stepOf}
-use Rattle.step.specs.Touched.{stepCount}
-use Rattle.service.proofs.CallLaws.{state-length, step-none, step-served}
+use Rattle.step.specs.Choosing.{choiceOf}
+use Rattle.step.specs.Step.{chosenStep, entryNumber}
+use Rattle.step.specs.declared.turns.Choice.the-variants.{Nobody}
+use Rattle.service.specs.Calls.{answerFrom}
+use Rattle.service.specs.Layout.{stateIn}
+use Rattle.service.specs.declared.Turn.{Turn}
+use Rattle.service.proofs.CallLaws.{state-length, step-none}
+use Rattle.service.proofs.TurnLaws.{entry-refused, chosen-step, end-turned, refused-served, turn-served}
 use Rattle.service.proofs.iop89_step.Statement.{statement}
 use Rattle.service.proofs.iop89_step.Tie as tie
 
@@ -23,17 +31,11 @@ returns c =
     let a = c .before .before .before .before .before .before .args in
     step-none (now (a .state)) (buffers (now (a .sys)) (now (a .io))) (a .lines) (sym (c .before .is-state .ensures) ∙ not-true _ (c .if1 .taken))
 
-state-in-requires : tie.Need-state-in-requires
-state-in-requires c κs = state-length _ (sym (c .before .before .is-state .ensures) ∙ not-false _ (c .before .if1 .left))
+looked-at-requires : tie.Need-looked-at-requires
+looked-at-requires c κs = state-length _ (sym (c .before .before .is-state .ensures) ∙ not-false _ (c .before .if1 .left))
 
-step-requires : tie.Need-step-requires
-step-requires c κs = search needs
-
-put-state-requires : tie.Need-put-state-requires
-put-state-requires c κs = state-length _ (sym (c .before .before .before .before .before .before .before .before .before .before .before .before .is-state .ensures) ∙ not-false _ (c .before .before .before .before .before .before .before .before .before .before .before .if1 .left))
-
-kind-number-requires : tie.Need-kind-number-requires
-kind-number-requires c κs = search needs
+entry-number-requires : tie.Need-entry-number-requires
+entry-number-requires c κs = search needs
 
 answer-requires : tie.Need-answer-requires
 answer-requires c κs = search needs
@@ -49,12 +51,105 @@ same-length-4 c = search needs
 
 returns-2 : tie.Need-returns-2
 returns-2 c =
-    let a = c .before .before .before .before .before .before .before .before .before .before .before .before .before .before .before .before .before .before .before .before .before .before .args in
+    let a = c .before .before .before .before .before .before .before .before .before .before .before .before .before .args in
+    let b = now (a .state) in
     let m = buffers (now (a .sys)) (now (a .io)) in
-    rw (c .answer .ensures, c .before .kind-number .ensures, c .before .before .before .before .put-state .ensures .0)
-    (step-served (now (a .state)) m (sym (c .before .before .before .before .before .before .before .before .before .before .before .before .before .before .before .before .before .is-state .ensures) ∙ not-false _ (c .before .before .before .before .before .before .before .before .before .before .before .before .before .before .before .before .if1 .left)) (a .lines) _ _
-    (c .before .before .before .before .before .before .before .before .before .before .before .step .ensures .0 ∙ ap (λ (s : State). stepOf s m (a .lines)) (c .before .before .before .before .before .before .before .before .before .before .before .before .before .before .state-in .ensures))
-    (c .before .before .before .before .before .before .before .before .before .before .before .step .ensures .1 ∙ ap (λ (s : State). stepCount s m (a .lines)) (c .before .before .before .before .before .before .before .before .before .before .before .before .before .before .state-in .ensures)) (c .before .before .before .before .put-state .ensures .1))
+    let n = c .before .before .entry-number .ensures ∙ ap (λ (s : State). entryNumber s m (a .lines)) (c .before .before .before .before .before .looked-at .ensures) in
+    refused-served b m (sym (c .before .before .before .before .before .before .before .before .is-state .ensures) ∙ not-false _ (c .before .before .before .before .before .before .before .if1 .left)) (a .lines) (λ i. omega (arith, c .before .before .before .before .before .before .before .before .before .before .before .before .slice-known .given i)) (entryNumber (stateIn b) m (a .lines)) (λ z. c .before .if2 .taken (n ∙ z))
+    (entry-refused (stateIn b) m (a .lines) (λ z. c .before .if2 .taken (n ∙ z))) _ (c .answer .ensures ∙ ap (λ (k : ℕ). answerFrom k 0 0 0) n)
+
+choose-requires : tie.Need-choose-requires
+choose-requires c κs = search needs
+
+enum-told : tie.Need-enum-told
+enum-told c = search needs
+
+answer-requires-2 : tie.Need-answer-requires-2
+answer-requires-2 c κs = search needs
+
+enum-known-second : tie.Need-enum-known-second
+enum-known-second c = search needs
+
+channel-requires : tie.Need-channel-requires
+channel-requires c κs = state-length _ (sym (c .before .before .before .before .before .before .before .before .before .before .before .before .before .is-state .ensures) ∙ not-false _ (c .before .before .before .before .before .before .before .before .before .before .before .before .if1 .left))
+
+end-turn-requires : tie.Need-end-turn-requires
+end-turn-requires c κs = search needs
+
+answered-requires : tie.Need-answered-requires
+answered-requires c κs = (sym (c .before .before .before .before .before .before .before .before .before .before .before .before .before .before .before .is-state .ensures) ∙ not-false _ (c .before .before .before .before .before .before .before .before .before .before .before .before .before .before .if1 .left), λ ne. absurd (ne (ap (λ (t : Turn). t .number) (c .end-turn .ensures))))
+
+enum-known-second-2 : tie.Need-enum-known-second-2
+enum-known-second-2 c = search needs
+
+channel-requires-2 : tie.Need-channel-requires-2
+channel-requires-2 c κs = state-length _ (sym (c .before .before .before .before .before .before .before .before .before .before .before .before .is-state .ensures) ∙ not-false _ (c .before .before .before .before .before .before .before .before .before .before .before .if1 .left))
+
+channel-turn-requires : tie.Need-channel-turn-requires
+channel-turn-requires c κs = rw (c .before .before .channel2 .ensures, c .before .before .before .before .before .before .before .before .before .before .before .before .looked-at .ensures)
+
+answered-requires-2 : tie.Need-answered-requires-2
+answered-requires-2 c κs = (sym (c .before .before .before .before .before .before .before .before .before .before .before .before .before .before .before .before .before .before .before .before .before .is-state .ensures) ∙ not-false _ (c .before .before .before .before .before .before .before .before .before .before .before .before .before .before .before .before .before .before .before .before .if1 .left), λ ne. c .before .before .before .before .before .channel-turn .ensures .1 ∙ refused-counts _ _ ne)
+
+same-length-5 : tie.Need-same-length-5
+same-length-5 c = search needs
+
+same-length-6 : tie.Need-same-length-6
+same-length-6 c = search needs
+
+same-length-7 : tie.Need-same-length-7
+same-length-7 c = search needs
+
+returns-3 : tie.Need-returns-3
+unfolding chosenStep
+returns-3 c =
+    let a = c .before .before .before .before .before .before .before .before .before .before .before .before .before .before .before .before .args in
+    let b = now (a .state) in
+    let m = buffers (now (a .sys)) (now (a .io)) in
+    let s = c .before .before .before .before .before .before .before .before .looked-at .ensures in
+    let z = sym (c .before .before .before .before .before .entry-number .ensures ∙ ap (λ (x : State). entryNumber x m (a .lines)) s) ∙ c .before .before .before .before .if2 .left in
+    let who = sym (c .before .before .before .choose .ensures ∙ ap (λ (x : State). choiceOf x (a .lines)) s) ∙ c .before .enum-told .given .1 in
+    refused-served b m (sym (c .before .before .before .before .before .before .before .before .before .before .before .is-state .ensures) ∙ not-false _ (c .before .before .before .before .before .before .before .before .before .before .if1 .left)) (a .lines) (λ i. omega (arith, c .before .before .before .before .before .before .before .before .before .before .before .before .before .before .before .slice-known .given i)) 1 (eqb-false 1 0 refl)
+    (chosen-step (stateIn b) m (a .lines) Nobody z who) _ (c .answer2 .ensures)
+
+same-length-8 : tie.Need-same-length-8
+same-length-8 c = search needs
+
+same-length-9 : tie.Need-same-length-9
+same-length-9 c = search needs
+
+same-length-10 : tie.Need-same-length-10
+same-length-10 c = search needs
+
+returns-4 : tie.Need-returns-4
+returns-4 c =
+    let a = c .before .before .before .before .before .before .before .before .before .before .before .before .before .before .before .before .before .before .before .before .before .before .before .args in
+    let m = buffers (now (a .sys)) (now (a .io)) in
+    let s = c .before .before .before .before .before .before .before .before .before .before .before .before .before .before .before .looked-at in
+    let left = c .before .before .answered .ensures in
+    let ended = end-turned (s .result) _ (s .ensures) m _ (c .before .before .before .before .channel .result) (c .before .before .before .end-turn .result) (c .before .before .before .before .channel .ensures) (c .before .before .before .end-turn .ensures) in
+    turn-served (now (a .state)) m (sym (c .before .before .before .before .before .before .before .before .before .before .before .before .before .before .before .before .before .before .is-state .ensures) ∙ not-false _ (c .before .before .before .before .before .before .before .before .before .before .before .before .before .before .before .before .before .if1 .left)) (a .lines) (s .result) (s .ensures) _ _ (c .before .before .before .end-turn .result) m
+    (sym (c .before .before .before .before .before .before .before .before .before .before .before .before .entry-number .ensures) ∙ c .before .before .before .before .before .before .before .before .before .before .before .if2 .left) (sym (c .before .before .before .before .before .before .before .before .before .before .choose .ensures) ∙ c .before .before .before .before .before .before .before .before .second .given .1) (ended .0) (ended .1) _ _ (left .0 m) (left .1 m)
+
+same-length-11 : tie.Need-same-length-11
+same-length-11 c = search needs
+
+same-length-12 : tie.Need-same-length-12
+same-length-12 c = search needs
+
+same-length-13 : tie.Need-same-length-13
+same-length-13 c = search needs
+
+returns-5 : tie.Need-returns-5
+unfolding chosenStep
+returns-5 c =
+    let a = c .before .before .before .before .before .before .before .before .before .before .before .before .before .before .before .before .before .before .before .before .before .before .before .before .before .before .before .before .before .args in
+    let m = buffers (now (a .sys)) (now (a .io)) in
+    let s = c .before .before .before .before .before .before .before .before .before .before .before .before .before .before .before .before .before .before .before .before .before .looked-at in
+    let t = c .before .before .before .before .before .before .before .before .channel-turn in
+    let left = c .before .before .answered2 .ensures in
+    turn-served (now (a .state)) m (sym (c .before .before .before .before .before .before .before .before .before .before .before .before .before .before .before .before .before .before .before .before .before .before .before .before .is-state .ensures) ∙ not-false _ (c .before .before .before .before .before .before .before .before .before .before .before .before .before .before .before .before .before .before .before .before .before .before .before .if1 .left)) (a .lines) (s .result) (s .ensures) _ _ (t .result) _
+    (sym (c .before .before .before .before .before .before .before .before .before .before .before .before .before .before .before .before .before .before .entry-number .ensures) ∙ c .before .before .before .before .before .before .before .before .before .before .before .before .before .before .before .before .before .if2 .left) (sym (c .before .before .before .before .before .before .before .before .before .before .before .before .before .before .before .before .choose .ensures) ∙ c .before .before .before .before .before .before .before .before .before .before .before .before .before .before .second2 .given .1) (t .ensures .0) (t .ensures .1) _ _ (left .0 _) (left .1 _)
 
 pub iop89-step-spec : {M : Type 1} → statement M
 iop89-step-spec =
@@ -63,12 +158,33 @@ iop89-step-spec =
     is-state-requires
     same-length
     returns
-    state-in-requires
-    step-requires
-    put-state-requires
-    kind-number-requires
+    looked-at-requires
+    entry-number-requires
     answer-requires
     same-length-2
     same-length-3
     same-length-4
-    returns-2)
+    returns-2
+    choose-requires
+    enum-told
+    answer-requires-2
+    enum-known-second
+    channel-requires
+    end-turn-requires
+    answered-requires
+    enum-known-second-2
+    channel-requires-2
+    channel-turn-requires
+    answered-requires-2
+    same-length-5
+    same-length-6
+    same-length-7
+    returns-3
+    same-length-8
+    same-length-9
+    same-length-10
+    returns-4
+    same-length-11
+    same-length-12
+    same-length-13
+    returns-5)

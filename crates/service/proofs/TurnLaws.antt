@@ -1,0 +1,194 @@
+-- A step through one channel: where its block lies, what it leaves of a state, and what it puts into the state's bytes.
+-- Assumes nothing.
+use Prim.Native.Nat.{ℕ, zero, suc, _+_, _^_, _<_, _≤_}
+use borrow.Author.Tests.{eq-eqb, ne-eqb}
+use lib.Seq.{sets}
+use mathlib.Core.Bool.{Bool, true, false}
+use mathlib.Core.List.{List, [], _∷_}
+use mathlib.Core.Path.{_≡_, refl, sym, ap, _∙_}
+use native.Mathlib.Decide.{ℕ-discrete}
+use native.Mathlib.Omega.{arith}
+use Rattle.memory.specs.Buffers.{Buffers}
+use Rattle.machine.proofs.OutcomeLaws.{refused-counts}
+use Rattle.machine.specs.Outcomes.{counted}
+use Rattle.machine.specs.States.{channelOf, withChannel, withLast, blockOf, busyIn, channelNumber}
+use Rattle.machine.specs.declared.Channel.{Channel}
+use Rattle.machine.specs.declared.State.{State}
+use Rattle.transfer.specs.Ends.{externallyEnded}
+use Rattle.transfer.specs.Steps.{transferOf}
+use Rattle.transfer.specs.Steps as Steps
+use Rattle.execute.specs.Execute.{Executed, executeOf}
+use Rattle.step.proofs.StepLaws.{transfer-kept, execute-kept, counts-none}
+use Rattle.step.specs.Choosing.{choiceOf}
+use Rattle.step.specs.Step.{Step, refusedStep, settledStep, transferStep, instructionStep, externalStep, chosenStep, entryNumber, stepOf}
+use Rattle.step.specs.Touched.{touchedIn, touchedByStep, stepCount}
+use Rattle.step.specs.declared.Kind.{Kind}
+use Rattle.step.specs.declared.Kind.the-variants.{Instruction, Transfer, External}
+use Rattle.step.specs.declared.turns.Choice.{Choice}
+use Rattle.step.specs.declared.turns.Choice.the-variants.{Ends}
+use Rattle.service.specs.Calls.{served, answerFrom, kindNumber, stepLeft, stepServed}
+use Rattle.service.specs.Conditions.{Bytes, ChannelFits, StateFits}
+use Rattle.service.specs.Fields.{littleEnd, littleIn, flagOf}
+use Rattle.service.specs.Layout.{pointerBytes, pointersBytes, numbersBytes, marksBytes, sidesBytes, endsBytes, fieldsBytes, channelBytes, boardBytes, bytesOf, pointerIn, channelIn, stateIn, isState, stateLength, blockAt}
+use Rattle.service.specs.Turns.{turned}
+use Rattle.service.specs.declared.Turn.{Turn}
+use Rattle.service.proofs.BackLaws.{state-back}
+use Rattle.service.proofs.ForthLaws.{bytes-back}
+
+-- ---- a channel's block
+
+pub block-inside : (n : ℕ) (second : Bool) → n ≡ stateLength → blockAt second + 45 ≤ n
+unfolding blockAt
+block-inside n true e = omega arith
+block-inside n false e = omega arith
+
+pub channel-at : (b : List ℕ) (second : Bool) → channelIn b (blockAt second) ≡ channelOf (stateIn b) second
+unfolding blockAt channelOf stateIn
+channel-at b true = refl
+channel-at b false = refl
+
+-- ---- what a done step puts
+
+-- a number that was read has its width
+little-fits : (width : ℕ) (b : List ℕ) (at : ℕ) → Bytes b → littleIn width b at < 256 ^ width
+unfolding littleIn
+little-fits zero b at byte = omega arith
+little-fits (suc width) b at byte = omega (arith, byte at, little-fits width b (at + 1) byte)
+
+channel-fits : (b : List ℕ) (at : ℕ) → Bytes b → ChannelFits (channelIn b at)
+unfolding channelIn pointerIn
+channel-fits b at byte =
+    record {
+      ga = little-fits 4 b at byte;
+      gb = little-fits 4 b (at + 5) byte;
+      gc = little-fits 4 b (at + 10) byte;
+      tp = little-fits 4 b (at + 15) byte;
+      pp = little-fits 4 b (at + 20) byte;
+      bc = little-fits 2 b (at + 24) byte;
+      ix = little-fits 2 b (at + 26) byte;
+      cc = little-fits 2 b (at + 28) byte;
+      mc = little-fits 2 b (at + 30) byte;
+      psw = byte (at + 32);
+    }
+
+-- the state after a done step
+abbrev done : State → Bool → Channel → State
+done s second c = withLast (withChannel s second c) second
+
+done-fits : (b : List ℕ) → Bytes b → (second : Bool) (c : Channel) → ChannelFits c → StateFits (done (stateIn b) second c)
+unfolding withLast withChannel stateIn
+done-fits b byte true c h = record { first = channel-fits b 10 byte; second = h; cp = little-fits 4 b 1 byte }
+done-fits b byte false c h = record { first = h; second = channel-fits b 55 byte; cp = little-fits 4 b 1 byte }
+
+-- of a state's bytes it changes that of the last channel and one block
+done-bytes : (s : State) (second : Bool) (c : Channel) → sets (sets (bytesOf s) 5 (flagOf second ∷ [])) (blockAt second) (channelBytes c) ≡ bytesOf (done s second c)
+unfolding withLast withChannel blockAt bytesOf boardBytes channelBytes pointersBytes pointerBytes numbersBytes marksBytes sidesBytes endsBytes fieldsBytes littleEnd
+done-bytes s true c = refl
+done-bytes s false c = refl
+
+pub put-done : (b : List ℕ) (byte : Bytes b) (h : isState b ≡ true) (second : Bool) (c : Channel) → ChannelFits c
+    → (x : List ℕ) → x ≡ sets (sets b 5 (flagOf second ∷ [])) (blockAt second) (channelBytes c)
+    → (x ≡ bytesOf (done (stateIn b) second c)) × (stateIn x ≡ done (stateIn b) second c)
+put-done b byte h second c fits x e =
+    let s = stateIn b in
+    let is : x ≡ bytesOf (done s second c) =
+    e ∙ ap (λ (l : List ℕ). sets (sets l 5 (flagOf second ∷ [])) (blockAt second) (channelBytes c)) (sym (bytes-back b byte h)) ∙ done-bytes s second c in
+    (is, ap stateIn is ∙ state-back (done s second c) (done-fits b byte second c fits))
+
+-- ---- what a channel's step leaves
+
+-- a refused one leaves memory as it was
+kept-settled : (number : ℕ) (s : State) (m m′ : Buffers) (second : Bool) (c : Channel) (kind : Kind) → ((number ≡ 0 → ⊥) → m′ ≡ m)
+    → settledStep number s m′ second c m′ kind ≡ settledStep number s m second c m′ kind
+unfolding settledStep
+kept-settled number s m m′ second c kind kept = go (ℕ-discrete number 0)
+  where
+    go : Dec (number ≡ 0) → settledStep number s m′ second c m′ kind ≡ settledStep number s m second c m′ kind
+    go (yes z) = rw (eq-eqb number 0 z)
+    go (no ne) = rw (ne-eqb number 0 ne, kept ne)
+
+pub transfer-turned : (s : State) (m : Buffers) (second : Bool) (t : Steps.Transfer) → t ≡ transferOf (channelOf s second) m
+    → settledStep (t .number) s (t .memory) second (t .channel) (t .memory) Transfer ≡ transferStep s m second
+unfolding transferStep
+transfer-turned s m second t e =
+    let o = transferOf (channelOf s second) m in
+    ap (λ (x : Steps.Transfer). settledStep (x .number) s (x .memory) second (x .channel) (x .memory) Transfer) e
+    ∙ kept-settled (o .number) s m (o .memory) second (o .channel) Transfer (transfer-kept (channelOf s second) m)
+
+pub instruction-turned : (s : State) (m : Buffers) (second : Bool) (x : Executed) → x ≡ executeOf (channelOf s second) (busyIn (blockOf s second)) m
+    → settledStep (x .number) s (x .memory) second (x .channel) (x .memory) Instruction ≡ instructionStep s m second
+unfolding instructionStep
+instruction-turned s m second x e =
+    let o = executeOf (channelOf s second) (busyIn (blockOf s second)) m in
+    ap (λ (y : Executed). settledStep (y .number) s (y .memory) second (y .channel) (y .memory) Instruction) e
+    ∙ kept-settled (o .number) s m (o .memory) second (o .channel) Instruction (execute-kept (channelOf s second) (busyIn (blockOf s second)) m)
+
+-- ---- what is answered of it
+
+pub refused-left : (b : List ℕ) (byte : Bytes b) (h : isState b ≡ true) (second : Bool) (t : Turn) → ¬ (t .number ≡ 0) → t .count ≡ 0
+    → (r : ℕ) → r ≡ answerFrom (t .number) 0 0 0
+    → ((m : Buffers) → served r b m ≡ stepLeft (turned (stateIn b) second t m) (t .count)) × ((m : Buffers) → stateIn b ≡ turned (stateIn b) second t m .state)
+unfolding settledStep kindNumber
+refused-left b byte h second t ne none r e =
+    (λ m. rw (ne-eqb (t .number) 0 ne, none, bytes-back b byte h, e), λ m. rw (ne-eqb (t .number) 0 ne))
+
+pub done-left : (b : List ℕ) (second : Bool) (t : Turn) → t .number ≡ 0 → (x : List ℕ) (r : ℕ) → r ≡ answerFrom 0 (channelNumber second) (kindNumber (t .kind)) (t .count)
+    → x ≡ bytesOf (done (stateIn b) second (t .channel)) → stateIn x ≡ done (stateIn b) second (t .channel)
+    → ((m : Buffers) → served r x m ≡ stepLeft (turned (stateIn b) second t m) (t .count)) × ((m : Buffers) → stateIn x ≡ turned (stateIn b) second t m .state)
+unfolding settledStep
+done-left b second t z x r e put whole = (λ m. rw (eq-eqb (t .number) 0 z, e, put), λ m. rw (eq-eqb (t .number) 0 z) whole)
+
+-- ---- the step that it is
+
+turned-number : (s : State) (second : Bool) (t : Turn) (m : Buffers) → turned s second t m .number ≡ t .number
+unfolding settledStep
+turned-number s second t m = go (ℕ-discrete (t .number) 0)
+  where
+    go : Dec (t .number ≡ 0) → turned s second t m .number ≡ t .number
+    go (yes z) = rw (eq-eqb (t .number) 0 z) (sym z)
+    go (no ne) = rw (ne-eqb (t .number) 0 ne)
+
+pub entry-refused : (s : State) (m : Buffers) (lines : ℕ) → ¬ (entryNumber s m lines ≡ 0) → stepOf s m lines ≡ refusedStep (entryNumber s m lines) s m
+unfolding stepOf
+entry-refused s m lines ne = rw (ne-eqb (entryNumber s m lines) 0 ne)
+
+pub chosen-step : (s : State) (m : Buffers) (lines : ℕ) (choice : Choice) → entryNumber s m lines ≡ 0 → choiceOf s lines ≡ choice → stepOf s m lines ≡ chosenStep choice s m
+unfolding stepOf
+chosen-step s m lines choice z who = rw (eq-eqb (entryNumber s m lines) 0 z, who)
+
+-- an external end touches nothing
+pub end-turned : (s o : State) → s ≡ o → (m : Buffers) (second : Bool) (c : Channel) (t : Turn) → c ≡ channelOf o second
+    → t ≡ record { number = 0; count = 0; channel = externallyEnded c; kind = External }
+    → (turned s second t m ≡ chosenStep (Ends second) s m) × (t .count ≡ counted (t .number) (touchedIn (Ends second) s m))
+unfolding chosenStep externalStep settledStep touchedIn
+end-turned s o same m second c t of e =
+    (rw (e, of, same), ap (λ (x : Turn). x .count) e ∙ sym (counts-none (t .number)))
+
+module _ (b : List ℕ) (m : Buffers) (h : isState b ≡ true) (lines : ℕ) where
+  -- a step of the state is what the call leaves
+  left-served : (o : Step) (count : ℕ) → o ≡ stepOf (stateIn b) m lines → count ≡ stepCount (stateIn b) m lines → (x : List ℕ) (r : ℕ) (m′ : Buffers)
+      → served r x m′ ≡ stepLeft o count → stateIn x ≡ o .state
+      → (served r x m′ ≡ stepServed b m lines) × (isState b ≡ true → stateIn x ≡ stepOf (stateIn b) m lines .state)
+  unfolding stepServed
+  left-served o count p q x r m′ e f = (rw h (e ∙ rw (p, q)), λ k. f ∙ ap (λ (y : Step). y .state) p)
+
+  -- a refused one, of what it is given or since nobody is chosen
+  pub refused-served : (byte : Bytes b) (k : ℕ) → ¬ (k ≡ 0) → stepOf (stateIn b) m lines ≡ refusedStep k (stateIn b) m → (r : ℕ) → r ≡ answerFrom k 0 0 0
+      → (served r b m ≡ stepServed b m lines) × (isState b ≡ true → stateIn b ≡ stepOf (stateIn b) m lines .state)
+  unfolding kindNumber stepCount
+  refused-served byte k ne e r a =
+      left-served (refusedStep k (stateIn b) m) 0 (sym e)
+      (sym (refused-counts (stepOf (stateIn b) m lines .number) (touchedByStep (stateIn b) m lines) (λ z. ne (sym (ap (λ (o : Step). o .number) e) ∙ z))))
+      b r m (rw (a, bytes-back b byte h)) refl
+
+  -- that of the chosen channel
+  pub turn-served : (s : State) → s ≡ stateIn b → (choice : Choice) (second : Bool) (t : Turn) (m′ : Buffers) → entryNumber s m lines ≡ 0 → choiceOf s lines ≡ choice
+      → turned s second t m′ ≡ chosenStep choice s m → t .count ≡ counted (t .number) (touchedIn choice s m)
+      → (x : List ℕ) (r : ℕ) → served r x m′ ≡ stepLeft (turned (stateIn b) second t m′) (t .count) → stateIn x ≡ turned (stateIn b) second t m′ .state
+      → (served r x m′ ≡ stepServed b m lines) × (isState b ≡ true → stateIn x ≡ stepOf (stateIn b) m lines .state)
+  unfolding stepCount touchedByStep
+  turn-served s of choice second t m′ z who e count x r a f =
+      let is : turned s second t m′ ≡ stepOf s m lines = e ∙ sym (chosen-step s m lines choice z who) in
+      let counts : t .count ≡ stepCount s m lines =
+      count ∙ rw who (ap (λ (n : ℕ). counted n (touchedIn choice s m)) (sym (turned-number s second t m′) ∙ ap (λ (o : Step). o .number) is)) in
+      left-served (turned (stateIn b) second t m′) (t .count) (rw of at is) (rw of at counts) x r m′ a f

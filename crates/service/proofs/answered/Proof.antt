@@ -1,0 +1,51 @@
+-- `service::answered` meets its contract.
+-- Assumes nothing.
+use borrow.Author.Needs.{needs}
+use denote.Ref.{now}
+use mathlib.Core.Path.{_∙_}
+use native.Mathlib.Omega.{arith}
+use Rattle.service.proofs.TurnLaws.{refused-left, done-left}
+use Rattle.service.proofs.answered.Statement.{statement}
+use Rattle.service.proofs.answered.Tie as tie
+
+answer-requires : tie.Need-answer-requires
+answer-requires c κs = search needs
+
+returns : tie.Need-returns
+returns c =
+    let a = c .before .before .before .before .args in
+    refused-left (now (a .state)) (λ i. omega (arith, c .before .before .before .slice-known .given i)) (c .before .before .before .before .pre .0) (a .second) (a .t) (c .before .if1 .taken) (c .before .before .before .before .pre .1 (c .before .if1 .taken)) _ (c .answer .ensures)
+
+put-step-requires : tie.Need-put-step-requires
+put-step-requires c κs = c .before .before .before .before .before .pre .0
+
+number-requires : tie.Need-number-requires
+number-requires c κs = search needs
+
+kind-number-requires : tie.Need-kind-number-requires
+kind-number-requires c κs = search needs
+
+answer-requires-2 : tie.Need-answer-requires-2
+answer-requires-2 c κs = search needs
+
+same-length : tie.Need-same-length
+same-length c = search needs
+
+returns-2 : tie.Need-returns-2
+returns-2 c =
+    let a = c .before .before .before .before .before .before .before .before .before .before .before .args in
+    let put = c .before .before .before .before .before .put-step .ensures in
+    done-left (now (a .state)) (a .second) (a .t) (c .before .before .before .before .before .before .before .before .if1 .left) _ _ (c .answer2 .ensures ∙ rw (c .before .kind-number .ensures, c .before .before .number .ensures)) (put .0) (put .1)
+
+pub answered-spec : {M : Type 1} → statement M
+answered-spec =
+    tie.close
+    (tie.spec
+    answer-requires
+    returns
+    put-step-requires
+    number-requires
+    kind-number-requires
+    answer-requires-2
+    same-length
+    returns-2)
