@@ -29,7 +29,7 @@ use Rattle.step.specs.declared.turns.Choice.the-variants.{Ends}
 use Rattle.service.specs.Calls.{served, answerFrom, kindNumber, stepLeft, stepServed}
 use Rattle.service.specs.Conditions.{Bytes, ChannelFits, StateFits}
 use Rattle.service.specs.Fields.{littleEnd, littleIn, flagOf}
-use Rattle.service.specs.Layout.{pointerBytes, pointersBytes, numbersBytes, marksBytes, sidesBytes, endsBytes, fieldsBytes, channelBytes, boardBytes, bytesOf, pointerIn, channelIn, stateIn, isState, stateLength, blockAt}
+use Rattle.service.specs.Layout.{pointerBytes, pointersBytes, numbersBytes, marksBytes, sidesBytes, endsBytes, fieldsBytes, channelBytes, boardBytes, bytesOf, pointerIn, channelIn, stateIn, isState, stateLength, blockFrom}
 use Rattle.service.specs.Turns.{turned}
 use Rattle.service.specs.declared.Turn.{Turn}
 use Rattle.service.proofs.BackLaws.{state-back}
@@ -37,13 +37,13 @@ use Rattle.service.proofs.ForthLaws.{bytes-back}
 
 -- ---- a channel's block
 
-pub block-inside : (n : ℕ) (second : Bool) → n ≡ stateLength → blockAt second + 45 ≤ n
-unfolding blockAt
+pub block-inside : (n : ℕ) (second : Bool) → n ≡ stateLength → blockFrom second + 45 ≤ n
+unfolding blockFrom
 block-inside n true e = omega arith
 block-inside n false e = omega arith
 
-pub channel-at : (b : List ℕ) (second : Bool) → channelIn b (blockAt second) ≡ channelOf (stateIn b) second
-unfolding blockAt channelOf stateIn
+pub channel-at : (b : List ℕ) (second : Bool) → channelIn b (blockFrom second) ≡ channelOf (stateIn b) second
+unfolding blockFrom channelOf stateIn
 channel-at b true = refl
 channel-at b false = refl
 
@@ -81,18 +81,18 @@ done-fits b byte true c h = record { first = channel-fits b 10 byte; second = h;
 done-fits b byte false c h = record { first = h; second = channel-fits b 55 byte; cp = little-fits 4 b 1 byte }
 
 -- of a state's bytes it changes that of the last channel and one block
-done-bytes : (s : State) (second : Bool) (c : Channel) → sets (sets (bytesOf s) 5 (flagOf second ∷ [])) (blockAt second) (channelBytes c) ≡ bytesOf (done s second c)
-unfolding withLast withChannel blockAt bytesOf boardBytes channelBytes pointersBytes pointerBytes numbersBytes marksBytes sidesBytes endsBytes fieldsBytes littleEnd
+done-bytes : (s : State) (second : Bool) (c : Channel) → sets (sets (bytesOf s) 5 (flagOf second ∷ [])) (blockFrom second) (channelBytes c) ≡ bytesOf (done s second c)
+unfolding withLast withChannel blockFrom bytesOf boardBytes channelBytes pointersBytes pointerBytes numbersBytes marksBytes sidesBytes endsBytes fieldsBytes littleEnd
 done-bytes s true c = refl
 done-bytes s false c = refl
 
 pub put-done : (b : List ℕ) (byte : Bytes b) (h : isState b ≡ true) (second : Bool) (c : Channel) → ChannelFits c
-    → (x : List ℕ) → x ≡ sets (sets b 5 (flagOf second ∷ [])) (blockAt second) (channelBytes c)
+    → (x : List ℕ) → x ≡ sets (sets b 5 (flagOf second ∷ [])) (blockFrom second) (channelBytes c)
     → (x ≡ bytesOf (done (stateIn b) second c)) × (stateIn x ≡ done (stateIn b) second c)
 put-done b byte h second c fits x e =
     let s = stateIn b in
     let is : x ≡ bytesOf (done s second c) =
-    e ∙ ap (λ (l : List ℕ). sets (sets l 5 (flagOf second ∷ [])) (blockAt second) (channelBytes c)) (sym (bytes-back b byte h)) ∙ done-bytes s second c in
+    e ∙ ap (λ (l : List ℕ). sets (sets l 5 (flagOf second ∷ [])) (blockFrom second) (channelBytes c)) (sym (bytes-back b byte h)) ∙ done-bytes s second c in
     (is, ap stateIn is ∙ state-back (done s second c) (done-fits b byte second c fits))
 
 -- ---- what a channel's step leaves

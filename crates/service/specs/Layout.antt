@@ -87,8 +87,8 @@ abbrev pub secondFrom : ℕ
 secondFrom = 55
 
 -- where the block of a channel starts
-unfoldable pub blockAt : Bool → ℕ
-blockAt second = pick second secondFrom firstAt
+unfoldable pub blockFrom : Bool → ℕ
+blockFrom second = pick second secondFrom firstAt
 
 -- the pointer at an offset
 unfoldable pub pointerIn : List ℕ → ℕ → Pointer

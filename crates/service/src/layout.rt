@@ -13,7 +13,7 @@ ghost use lib.ListN.{length};
 ghost use lib.Seq.{sets};
 ghost use Rattle.machine.specs.States.{channelOf, withChannel, withLast};
 ghost use Rattle.service.specs.Conditions.{ChannelFits};
-ghost use Rattle.service.specs.Layout.{pointerBytes, pointersBytes, numbersBytes, marksBytes, sidesBytes, endsBytes, channelBytes, boardBytes, bytesOf, pointerIn, fieldsIn, channelIn, boardIn, stateIn, isFields, isBlock, isBoard, isState, stateLength, blockAt};
+ghost use Rattle.service.specs.Layout.{pointerBytes, pointersBytes, numbersBytes, marksBytes, sidesBytes, endsBytes, channelBytes, boardBytes, bytesOf, pointerIn, fieldsIn, channelIn, boardIn, stateIn, isFields, isBlock, isBoard, isState, stateLength, blockFrom};
 
 // Where the block of channel 1 starts.
 const FIRST_AT: usize = 10;
@@ -23,7 +23,7 @@ const SECOND_AT: usize = 55;
 
 // Where the block of a channel starts.
 fn block_at(second: bool) -> usize
-    ensures { λ r. ⌜ r ≡ blockAt second ⌝ }
+    ensures { λ r. ⌜ r ≡ blockFrom second ⌝ }
 {
     if second { SECOND_AT } else { FIRST_AT }
 }

@@ -1,15 +1,15 @@
 -- `service::layout::block_at` meets its contract.
 -- Assumes nothing.
-use Rattle.service.specs.Layout.{blockAt}
+use Rattle.service.specs.Layout.{blockFrom}
 use Rattle.service.proofs.layout.block_at.Statement.{statement}
 use Rattle.service.proofs.layout.block_at.Tie as tie
 
 returns : tie.Need-returns
-unfolding blockAt
+unfolding blockFrom
 returns c = rw (c .if1 .taken)
 
 returns-2 : tie.Need-returns-2
-unfolding blockAt
+unfolding blockFrom
 returns-2 c = rw (c .if1 .left)
 
 pub block-at-spec : {M : Type 1} → statement M
