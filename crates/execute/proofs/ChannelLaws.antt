@@ -15,11 +15,11 @@ use Rattle.decode_shapes.specs.declared.Second.the-variants.{Operand, NoSecond}
 use Rattle.decode_shapes.specs.declared.Shape.{Shape}
 use Rattle.decode_shapes.specs.declared.Shape.the-variants.{Nop, Sintr, Xfer, Wid, Hlt, Lpdi, RegisterImmediate, Register, JumpRegister, RegisterMemory, MemoryRegister, MemoryImmediate, MemoryAlone, JumpMemory, Lpd, MovpLoad, MovpStore, MovMemory, Tsl, Call, JumpMasked, JumpBit, Bit}
 use Rattle.decode_shapes.specs.declared.Work.{Work}
-use Rattle.machine.proofs.FieldLaws.{renewed-agrees}
+use Rattle.machine.proofs.FieldLaws.{same-agrees, written-agrees}
 use Rattle.machine.specs.Psw.{programRunning, interruptControl, transferring, withPsw}
 use Rattle.machine.specs.Registers.{tagOf, withRegister, moved, worked}
 use Rattle.machine.specs.States.{soundChannel, fieldsAgree}
-use Rattle.machine.specs.Updates.{withControl, renewed, fieldsRenewed, stoppedPsw, halted}
+use Rattle.machine.specs.Updates.{withControl, renewed, stoppedPsw, halted}
 use Rattle.machine.specs.declared.Channel.{Channel}
 use Rattle.machine.specs.declared.Mode.the-variants.{Idle}
 use Rattle.memory.proofs.StoreLaws.{system-touchable, read-same}
@@ -87,10 +87,10 @@ record Steady (c d : Channel) : Type 0 where
   armed : d .armed ≡ c .armed
   psw : d .psw ≡ c .psw
   sound : soundChannel c ≡ true → soundChannel d ≡ true
-  fields : d .fields ≡ c .fields
+  agree : fieldsAgree c ≡ true → fieldsAgree d ≡ true
 
 same : (c : Channel) → Steady c c
-same c = record { pp = refl; mode = refl; armed = refl; psw = refl; sound = λ h. h; fields = refl }
+same c = record { pp = refl; mode = refl; armed = refl; psw = refl; sound = λ h. h; agree = λ h. h }
 
 then : {c d e : Channel} → Steady c d → Steady d e → Steady c e
 then p q = record {
@@ -99,7 +99,7 @@ then p q = record {
   armed = q .armed ∙ p .armed;
   psw = q .psw ∙ p .psw;
   sound = λ h. q .sound (p .sound h);
-  fields = q .fields ∙ p .fields;
+  agree = λ h. q .agree (p .agree h);
 }
 
 chosen : {c : Channel} (b : Bool) (d e : Channel) → Steady c d → Steady c e → Steady c (pick b d e)
@@ -114,7 +114,7 @@ registered c r v tag = record {
   armed = refl;
   psw = refl;
   sound = sound-by c (withRegister c r v tag) refl (pick-small (eqb r 0) v tag (c .ga)) (pick-small (eqb r 1) v tag (c .gb)) (pick-small (eqb r 2) v tag (c .gc)) (pick-small (eqb r 4) v tag (c .tp));
-  fields = refl;
+  agree = written-agrees c r v tag;
 }
 
 placed : (c : Channel) (tp : Pointer) (ix : ℕ) → (Small (c .tp) → Small tp) → Steady c (renewed c tp ix (c .psw) (c .mode) (c .armed))
@@ -125,7 +125,7 @@ placed c tp ix h = record {
   armed = refl;
   psw = refl;
   sound = sound-by c (renewed c tp ix (c .psw) (c .mode) (c .armed)) refl (λ s. s) (λ s. s) (λ s. s) h;
-  fields = refl;
+  agree = same-agrees c (renewed c tp ix (c .psw) (c .mode) (c .armed)) refl refl;
 }
 
 grows : (c : Channel) (o : Memory) (by : ℕ) → Steady c (grown c o by)
@@ -162,7 +162,7 @@ record After (s : Shape) (armed : Bool) (c d : Channel) : Type 0 where
   mark : d .armed ≡ pick arms (not armed) false
   xf : transferring (d .psw) ≡ pick halts false (transferring (c .psw))
   sound : soundChannel c ≡ true → soundChannel d ≡ true
-  fields : d .fields ≡ c .fields
+  agree : fieldsAgree c ≡ true → fieldsAgree d ≡ true
 
 steady : {s : Shape} {armed : Bool} {c d : Channel} → c .armed ≡ false → Steady c d → After s armed c d
 steady e p = record {
@@ -175,7 +175,7 @@ steady e p = record {
   mark = p .armed ∙ e;
   xf = ap transferring (p .psw);
   sound = p .sound;
-  fields = p .fields;
+  agree = p .agree;
 }
 
 -- another PSW, with XF as it was
@@ -191,7 +191,7 @@ statused c psw e x = record {
   mark = e;
   xf = x;
   sound = sound-by c (withStatus c psw) refl (λ s. s) (λ s. s) (λ s. s) (λ s. s);
-  fields = refl;
+  agree = same-agrees c (withStatus c psw) refl refl;
 }
 
 -- a PSW with another bit than XF changed
@@ -219,7 +219,7 @@ armed-xfer c armed = record {
   mark = refl;
   xf = refl;
   sound = sound-by c ((xferDeed c armed) .channel) refl (λ s. s) (λ s. s) (λ s. s) (λ s. s);
-  fields = refl;
+  agree = same-agrees c ((xferDeed c armed) .channel) refl refl;
 }
 
 hlt-halts : (c : Channel) (busy : ℕ) (armed : Bool) → After Hlt armed c ((hltDeed c busy) .channel)
@@ -234,7 +234,7 @@ hlt-halts c busy armed = record {
   mark = refl;
   xf = bit-same (withBit (c .psw) 2 false) 6 false;
   sound = sound-by c ((hltDeed c busy) .channel) refl (λ s. s) (λ s. s) (λ s. s) (λ s. s);
-  fields = refl;
+  agree = same-agrees c ((hltDeed c busy) .channel) refl refl;
 }
 
 module _ (m : Buffers) (c : Channel) (tp : Pointer) where
@@ -286,6 +286,11 @@ advanced-sound : (c : Channel) (n : ℕ) → soundChannel c ≡ true → soundCh
 unfolding pastInstruction renewed
 advanced-sound c n = sound-by c (pastInstruction c n) refl (λ s. s) (λ s. s) (λ s. s) (λ s. onward-small (c .tp) n)
 
+-- and its fields those of CC
+advanced-agree : (c : Channel) (n : ℕ) → fieldsAgree c ≡ true → fieldsAgree (pastInstruction c n) ≡ true
+unfolding pastInstruction renewed
+advanced-agree c n = same-agrees c (pastInstruction c n) refl refl
+
 -- it has XF where it was marked, and as it was where it was not
 marked-xf : (armed : Bool) (psw : ℕ) → transferring (usedUp armed psw) ≡ (armed || transferring psw)
 unfolding usedUp withPsw
@@ -299,7 +304,6 @@ module _ (c : Channel) (busy : ℕ) (m : Buffers) where
 
   -- a sound channel stays sound
   pub execute-sound : soundChannel c ≡ true → soundChannel ((executeOf c busy m) .channel) ≡ true
-  unfolding fieldsRenewed soundChannel
   execute-sound h =
       by-number c busy m (λ o. soundChannel (o .channel) ≡ true)
       (λ n ne. h)
@@ -307,15 +311,14 @@ module _ (c : Channel) (busy : ℕ) (m : Buffers) where
 
   -- the fields stay those of CC, also where the instruction writes CC
   pub execute-agree : fieldsAgree c ≡ true → fieldsAgree ((executeOf c busy m) .channel) ≡ true
-  unfolding pastInstruction renewed
   execute-agree h =
       by-number c busy m (λ o. fieldsAgree (o .channel) ≡ true)
       (λ n ne. h)
-      (λ s e z. renewed-agrees c ((deedOf s m c busy) .channel) (after-shape s .fields) h)
+      (λ s e z. after-shape s .agree (advanced-agree c (lengthOf s) h))
 
   -- PP never changes
   pub pp-kept : (executeOf c busy m) .channel .pp ≡ c .pp
-  unfolding fieldsRenewed pastInstruction renewed
+  unfolding pastInstruction renewed
   pp-kept = by-number c busy m (λ o. o .channel .pp ≡ c .pp) (λ n ne. refl) (λ s e z. after-shape s .pp)
 
   shape-else : (s t : Shape) → decodedAt m (c .tp) ≡ Instruction s → (decodedAt m (c .tp) ≡ Instruction t → ⊥) → (b : Bool) → (b ≡ true → s ≡ t) → b ≡ false
@@ -324,7 +327,7 @@ module _ (c : Channel) (busy : ℕ) (m : Buffers) where
 
   -- the mode changes by HLT alone
   pub mode-kept : ¬ (Halts m c) → (executeOf c busy m) .channel .mode ≡ c .mode
-  unfolding fieldsRenewed pastInstruction renewed
+  unfolding pastInstruction renewed
   mode-kept ne =
       by-number c busy m (λ o. o .channel .mode ≡ c .mode)
       (λ n z. refl)
@@ -332,7 +335,7 @@ module _ (c : Channel) (busy : ℕ) (m : Buffers) where
 
   -- XF after a done instruction other than HLT: it is 1 where the channel was armed, and as it was where not
   pub xf-after : ¬ (Halts m c) → (executeOf c busy m) .number ≡ 0 → transferring ((executeOf c busy m) .channel .psw) ≡ (c .armed || transferring (c .psw))
-  unfolding fieldsRenewed pastInstruction renewed
+  unfolding pastInstruction renewed
   xf-after ne =
       by-number c busy m (λ o. o .number ≡ 0 → transferring (o .channel .psw) ≡ (c .armed || transferring (c .psw)))
       (λ n no-zero z. absurd (no-zero z))
@@ -343,7 +346,6 @@ module _ (c : Channel) (busy : ℕ) (m : Buffers) where
 
   -- no instruction but XFER leaves a mark
   pub mark-used : ¬ (Arms m c) → (executeOf c busy m) .number ≡ 0 → (executeOf c busy m) .channel .armed ≡ false
-  unfolding fieldsRenewed
   mark-used ne =
       by-number c busy m (λ o. o .number ≡ 0 → o .channel .armed ≡ false)
       (λ n no-zero z. absurd (no-zero z))
@@ -352,7 +354,6 @@ module _ (c : Channel) (busy : ℕ) (m : Buffers) where
   -- an armed channel has XF after its next done instruction that is not HLT, and the mark is gone
   pub armed-then : c .armed ≡ true → ¬ (Halts m c) → (executeOf c busy m) .number ≡ 0
       → (transferring ((executeOf c busy m) .channel .psw) ≡ true) × ((executeOf c busy m) .channel .armed ≡ false)
-  unfolding fieldsRenewed
   armed-then h ne z = (xf-after ne z ∙ ap (λ (b : Bool). b || transferring (c .psw)) h, gone z)
     where
       spent : (b : Bool) → pick b false false ≡ false
@@ -368,14 +369,14 @@ module _ (c : Channel) (busy : ℕ) (m : Buffers) where
   -- XFER arms a channel that is not armed, and leaves XF
   pub xfer-arms : Arms m c → c .armed ≡ false → (executeOf c busy m) .number ≡ 0
       → ((executeOf c busy m) .channel .armed ≡ true) × ((executeOf c busy m) .channel .psw ≡ c .psw)
-  unfolding fieldsRenewed deedOf performed xferDeed markSet pastInstruction renewed usedUp
+  unfolding deedOf performed xferDeed markSet pastInstruction renewed usedUp
   xfer-arms e h z = rw (done c busy m Xfer e z) (rw h (refl, refl))
 
   -- HLT leaves no mark and no XF, as halt does: idle, TB and XF 0, unarmed
   pub hlt-ends : Halts m c → (executeOf c busy m) .number ≡ 0
       → ((executeOf c busy m) .channel .armed ≡ false) × (transferring ((executeOf c busy m) .channel .psw) ≡ false)
       × (programRunning ((executeOf c busy m) .channel .psw) ≡ false) × ((executeOf c busy m) .channel .mode ≡ Idle)
-  unfolding fieldsRenewed deedOf performed hltDeed halted withControl stoppedPsw pastInstruction renewed withPsw
+  unfolding deedOf performed hltDeed halted withControl stoppedPsw pastInstruction renewed withPsw
   hlt-ends e z =
       let psw = usedUp (c .armed) (c .psw) in
       rw (done c busy m Hlt e z)

@@ -7,7 +7,7 @@ use denote.Enum.Declared.{tagOf as variant}
 use mathlib.Core.Bool.{Bool, true, false, _&&_}
 use mathlib.Core.List.{[], _∷_, _++_}
 use mathlib.Core.Logic.{⊎-elim}
-use mathlib.Core.Path.{_≡_, refl, sym, ap, subst, _∙_}
+use mathlib.Core.Path.{_≡_, refl, sym, ap, ap₂, subst, _∙_}
 use types.Run.{OneOf}
 use Rattle.decode_shapes.proofs.Decoded.{the-type}
 use Rattle.decode.specs.Lengths.{lengthOf}
@@ -15,7 +15,6 @@ use Rattle.decode.specs.Reading.{numberOf}
 use Rattle.decode_shapes.specs.declared.Decoded.{Decoded}
 use Rattle.decode_shapes.specs.declared.Decoded.the-variants.{Instruction, NoInstruction, ControlUsed}
 use Rattle.decode_shapes.specs.declared.Shape.{Shape}
-use Rattle.machine.specs.Updates.{fieldsRenewed}
 use Rattle.machine.proofs.ConditionLaws.{first-assoc}
 use Rattle.machine.proofs.OutcomeLaws.{refused-counts, done-counts, first-some, first-none}
 use Rattle.machine.specs.Outcomes.{unless, first}
@@ -27,7 +26,8 @@ use Rattle.memory.specs.Places.{allTouchable}
 use Rattle.execute_operands.specs.Changes.{placesOf, changed, nothing}
 use Rattle.execute_operands.specs.Marks.{pastInstruction}
 use Rattle.execute_operands.specs.Operands.{bytesAt}
-use Rattle.execute_deeds.specs.Deeds.{Deed, effectOf}
+use Rattle.execute_deeds.specs.Deeds.{Deed, effectOf, afterWrite}
+use Rattle.execute_deeds.specs.Writes.{noWrite}
 use Rattle.execute_deeds.specs.declared.Effect.{Effect}
 use Rattle.execute.specs.Execute.{decodedAt, performed, deedOf, laterBytes, laterFrom, lengthFrom, deedFrom, stagesFrom, instructionStages, executeNumber, touchedByInstruction, Executed, executed, executeOf, executeCount}
 use Rattle.execute.specs.Plan.{laterNumber, planFrom, planNumber, readWith, Planned}
@@ -36,20 +36,24 @@ use Rattle.execute.proofs.CountLaws.{deed-most, touched-length}
 use Rattle.execute.proofs.OutcomeLaws.{refused-by, done-by, number-is}
 
 -- a refusal by a number other than 0 is as planned
-pub refusal-planned : {number n own : ℕ} {d : Deed} {e : Effect} {c : Channel} → e ≡ record { number = n; reads = 0; channel = c; change = nothing } → n ≡ number → (n ≡ 0 → ⊥) → Planned number own d e
+pub refusal-planned : {number n own : ℕ} {d : Deed} {e : Effect} {c : Channel} → e ≡ record { number = n; reads = 0; channel = c; change = nothing; write = noWrite } → n ≡ number → (n ≡ 0 → ⊥) → Planned number own d e
 refusal-planned r e ne = record { told = ap (λ (x : Effect). x .number) r ∙ e; done = λ z. absurd (ne (e ∙ z)) }
 
 -- and so is a deed with the number that its reading gives, and with `count` bytes more that are read
-pub deed-planned : {number own : ℕ} {d : Deed} (m : Buffers) (count : ℕ) (e : Effect) → e ≡ effectOf m d → number ≡ (effectOf m d) .number → count ≡ own
-    → Planned number own d (record { number = e .number; reads = count + e .reads; channel = e .channel; change = e .change })
+pub deed-planned : {number own : ℕ} {d : Deed} (m : Buffers) (count : ℕ) (e : Effect) → afterWrite e ≡ effectOf m d → number ≡ (effectOf m d) .number → count ≡ own
+    → Planned number own d (record { number = e .number; reads = count + e .reads; channel = e .channel; change = e .change; write = e .write })
 unfolding effectOf
 deed-planned {own = own} {d = d} m count e is n long =
-    rw (is, long) (record { told = sym n; done = λ z. ap (λ (x : ℕ). record { number = x; reads = own + length (d .reads); channel = d .channel; change = d .change }) (sym n ∙ z) })
+    record {
+      told = ap (λ (x : Effect). x .number) is ∙ sym n;
+      done = λ z. ap₂ (λ (x : Effect) (k : ℕ). record { number = x .number; reads = k + x .reads; channel = x .channel; change = x .change; write = noWrite }) is long
+          ∙ ap (λ (x : ℕ). record { number = x; reads = own + length (d .reads); channel = d .channel; change = d .change; write = noWrite }) (sym n ∙ z);
+    }
 
 module _ (m : Buffers) (c : Channel) (busy : ℕ) where
   -- what is performed once TP is past the instruction is its deed
-  pub performed-deed : (s : Shape) (n : ℕ) (x : Channel) (e : Effect) → e ≡ effectOf m (performed s m x (c .tp) (c .armed) busy) → x ≡ pastInstruction c n → n ≡ lengthOf s
-      → e ≡ effectOf m (deedOf s m c busy)
+  pub performed-deed : (s : Shape) (n : ℕ) (x : Channel) (e : Effect) → afterWrite e ≡ effectOf m (performed s m x (c .tp) (c .armed) busy) → x ≡ pastInstruction c n → n ≡ lengthOf s
+      → afterWrite e ≡ effectOf m (deedOf s m c busy)
   unfolding deedOf
   performed-deed s n x e is past long = is ∙ ap (λ (y : Channel). effectOf m (performed s m y (c .tp) (c .armed) busy)) (past ∙ ap (pastInstruction c) long)
 
@@ -121,7 +125,7 @@ module _ (m : Buffers) (c : Channel) (busy : ℕ) where
   plan-passed z e = stores-number true z e
 
   -- a plan that is not is done where its stores may be touched, and else refused by 2
-  pub plan-done : planNumber m c busy ≡ 0 → allTouchable m (placesOf ((deedAt m c busy) .change)) ≡ true → executeOf c busy m ≡ executed 0 (fieldsRenewed (c .cc) ((deedAt m c busy) .channel)) (changed m ((deedAt m c busy) .change))
+  pub plan-done : planNumber m c busy ≡ 0 → allTouchable m (placesOf ((deedAt m c busy) .change)) ≡ true → executeOf c busy m ≡ executed 0 ((deedAt m c busy) .channel) (changed m ((deedAt m c busy) .change))
   plan-done z e = done-by c busy m (plan-passed z e)
 
   pub plan-unstored : planNumber m c busy ≡ 0 → allTouchable m (placesOf ((deedAt m c busy) .change)) ≡ false → executeOf c busy m ≡ executed 2 c m
@@ -139,11 +143,11 @@ module _ (m : Buffers) (c : Channel) (busy : ℕ) where
       sym (refused-counts (executeOf c busy m .number) (touchedByInstruction m c busy) (λ z. ne (sym (ap (λ (o : Executed). o .number) e) ∙ z)))
 
   -- what is read and stored of a plan is at most ten bytes
-  pub plan-most : (e : Effect) → e ≡ readWith (lengthFrom (decodedAt m (c .tp))) (deedAt m c busy) → e .reads + e .change .count ≤ 10
+  pub plan-most : (e : Effect) → afterWrite e ≡ readWith (lengthFrom (decodedAt m (c .tp))) (deedAt m c busy) → e .reads + e .change .count ≤ 10
   plan-most e is = subst (λ (x : Effect). x .reads + x .change .count ≤ 10) (sym is) (deed-most m c busy (decodedAt m (c .tp)))
 
   -- and of a done one it is its list
-  pub plan-counted : (e : Effect) → e ≡ readWith (lengthFrom (decodedAt m (c .tp))) (deedAt m c busy) → executeNumber m c busy ≡ 0 → e .reads + e .change .count ≡ executeCount c busy m
+  pub plan-counted : (e : Effect) → afterWrite e ≡ readWith (lengthFrom (decodedAt m (c .tp))) (deedAt m c busy) → executeNumber m c busy ≡ 0 → e .reads + e .change .count ≡ executeCount c busy m
   unfolding executeCount
   plan-counted e is z =
       ap (λ (x : Effect). x .reads + x .change .count) is

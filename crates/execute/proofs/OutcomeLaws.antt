@@ -19,7 +19,6 @@ use Rattle.words.proofs.ChoiceLaws.{both-right}
 use Rattle.decode.specs.Reading.{numberOf}
 use Rattle.execute_operands.specs.Changes.{placesOf, changed}
 use Rattle.execute_operands.specs.Operands.{bytesAt}
-use Rattle.machine.specs.Updates.{fieldsRenewed}
 use Rattle.machine.proofs.ConditionLaws.{first-none-left, first-none-right, unless-none}
 use Rattle.execute.specs.Execute.{decodedAt, deedOf, deedFrom, laterBytes, laterFrom, stagesFrom, instructionStages, executeNumber, Executed, executed, executeOf}
 use Rattle.execute.specs.Kept.{deedAt}
@@ -35,7 +34,7 @@ module _ (c : Channel) (busy : ℕ) (m : Buffers) where
   refused-by ne = rw (ne-eqb (executeNumber m c busy) 0 ne)
 
   -- what none refuses is done
-  pub done-by : executeNumber m c busy ≡ 0 → executeOf c busy m ≡ executed 0 (fieldsRenewed (c .cc) ((deedAt m c busy) .channel)) (changed m ((deedAt m c busy) .change))
+  pub done-by : executeNumber m c busy ≡ 0 → executeOf c busy m ≡ executed 0 ((deedAt m c busy) .channel) (changed m ((deedAt m c busy) .change))
   unfolding executeOf
   done-by e = rw (eq-eqb (executeNumber m c busy) 0 e)
 
@@ -72,12 +71,12 @@ module _ (c : Channel) (busy : ℕ) (m : Buffers) where
   -- so what is done is an instruction of some shape
   pub by-number : (P : Executed → Type 0)
       → ((n : ℕ) → (n ≡ 0 → ⊥) → P (executed n c m))
-      → ((s : Shape) → decodedAt m (c .tp) ≡ Instruction s → executeNumber m c busy ≡ 0 → P (executed 0 (fieldsRenewed (c .cc) ((deedOf s m c busy) .channel)) (changed m ((deedOf s m c busy) .change))))
+      → ((s : Shape) → decodedAt m (c .tp) ≡ Instruction s → executeNumber m c busy ≡ 0 → P (executed 0 ((deedOf s m c busy) .channel) (changed m ((deedOf s m c busy) .change))))
       → P (executeOf c busy m)
   unfolding deedFrom
   by-number P not-done is-done = go (ℕ-discrete (executeNumber m c busy) 0)
     where
-      shape : (d : Decoded) → decodedAt m (c .tp) ≡ d → executeNumber m c busy ≡ 0 → P (executed 0 (fieldsRenewed (c .cc) ((deedFrom d m c busy) .channel)) (changed m ((deedFrom d m c busy) .change)))
+      shape : (d : Decoded) → decodedAt m (c .tp) ≡ d → executeNumber m c busy ≡ 0 → P (executed 0 ((deedFrom d m c busy) .channel) (changed m ((deedFrom d m c busy) .change)))
       shape (Instruction s) e z = is-done s e z
       shape NoInstruction e z = absurd (eqb-false 3 0 refl (ap numberOf (sym e) ∙ pair-passed z))
       shape ControlUsed e z = absurd (eqb-false 4 0 refl (ap numberOf (sym e) ∙ pair-passed z))
@@ -88,9 +87,9 @@ module _ (c : Channel) (busy : ℕ) (m : Buffers) where
 
   -- a done instruction of some shape is what that shape does
   pub done : (s : Shape) → decodedAt m (c .tp) ≡ Instruction s → (executeOf c busy m) .number ≡ 0
-      → executeOf c busy m ≡ executed 0 (fieldsRenewed (c .cc) ((deedOf s m c busy) .channel)) (changed m ((deedOf s m c busy) .change))
+      → executeOf c busy m ≡ executed 0 ((deedOf s m c busy) .channel) (changed m ((deedOf s m c busy) .change))
   unfolding deedFrom
-  done s e z = done-by (sym number-is ∙ z) ∙ ap (λ (d : Decoded). executed 0 (fieldsRenewed (c .cc) ((deedFrom d m c busy) .channel)) (changed m ((deedFrom d m c busy) .change))) e
+  done s e z = done-by (sym number-is ∙ z) ∙ ap (λ (d : Decoded). executed 0 ((deedFrom d m c busy) .channel) (changed m ((deedFrom d m c busy) .change))) e
 
   -- an instruction of some shape is done where its bytes may be touched and its second pair is not refused
   none-refuses : (s : Shape) → allTouchable m (bytesAt (c .tp) 2) ≡ true → allTouchable m (laterBytes s c) ≡ true → (deedOf s m c busy) .second ≡ 0
@@ -105,5 +104,5 @@ module _ (c : Channel) (busy : ℕ) (m : Buffers) where
 
   pub done-where : (s : Shape) → decodedAt m (c .tp) ≡ Instruction s → allTouchable m (bytesAt (c .tp) 2) ≡ true → allTouchable m (laterBytes s c) ≡ true → (deedOf s m c busy) .second ≡ 0
       → allTouchable m ((deedOf s m c busy) .reads) ≡ true → allTouchable m (placesOf ((deedOf s m c busy) .change)) ≡ true
-      → executeOf c busy m ≡ executed 0 (fieldsRenewed (c .cc) ((deedOf s m c busy) .channel)) (changed m ((deedOf s m c busy) .change))
+      → executeOf c busy m ≡ executed 0 ((deedOf s m c busy) .channel) (changed m ((deedOf s m c busy) .change))
   done-where s e pair later second reads stores = done s e (number-is ∙ number-at (Instruction s) e ∙ none-refuses s pair later second reads stores)

@@ -10,7 +10,6 @@ use Rattle.memory.specs.Places.{Place}
 use Rattle.memory.specs.declared.Pointer.{Pointer}
 use Rattle.machine.specs.Outcomes.{counted}
 use Rattle.machine.specs.declared.Channel.{Channel}
-use Rattle.machine.specs.Updates.{fieldsRenewed}
 use Rattle.machine.specs.Stages.{Stage, stage, stagesNumber, stagesTouched}
 use Rattle.decode_shapes.specs.declared.Shape.{Shape}
 use Rattle.decode_shapes.specs.declared.Shape.the-variants.{Nop, Sintr, Xfer, Wid, Hlt, Lpdi, RegisterImmediate, Register, JumpRegister, RegisterMemory, MemoryRegister, MemoryImmediate, MemoryAlone, JumpMemory, Lpd, MovpLoad, MovpStore, MovMemory, Tsl, Call, JumpMasked, JumpBit, Bit}
@@ -116,12 +115,12 @@ pub record Executed : Type 0 where
 abbrev pub executed : ℕ → Channel → Buffers → Executed
 executed number c m = record { number = number; channel = c; memory = m }
 
--- a refused instruction leaves the channel and changes no byte; any other does its deed, and a CC that it wrote is taken apart
+-- a refused instruction leaves the channel and changes no byte; any other does its deed
 unfoldable pub executeOf : Channel → ℕ → Buffers → Executed
 executeOf c busy m =
     let number = executeNumber m c busy in
     let done = deedFrom (decodedAt m (c .tp)) m c busy in
-    pick (eqb number 0) (executed 0 (fieldsRenewed (c .cc) (done .channel)) (changed m (done .change))) (executed number c m)
+    pick (eqb number 0) (executed 0 (done .channel) (changed m (done .change))) (executed number c m)
 
 -- how many bytes an instruction reads and stores; none where it is refused
 unfoldable pub executeCount : Channel → ℕ → Buffers → ℕ

@@ -9,7 +9,8 @@ use Rattle.machine.specs.declared.Channel.{Channel}
 use Rattle.decode_shapes.specs.declared.Decoded.{Decoded}
 use Rattle.decode.specs.Reading.{numberOf}
 use Rattle.execute_operands.specs.Operands.{bytesAt}
-use Rattle.execute_deeds.specs.Deeds.{Deed, effectOf}
+use Rattle.execute_deeds.specs.Deeds.{Deed, effectOf, afterWrite}
+use Rattle.execute_deeds.specs.Writes.{noWrite}
 use Rattle.execute_deeds.specs.declared.Effect.{Effect}
 use Rattle.execute.specs.Execute.{decodedAt, deedFrom, laterFrom}
 
@@ -26,9 +27,9 @@ planNumber m c busy = planFrom (decodedAt m (c .tp)) m c busy
 
 -- what a deed does, not refused, of an instruction whose own bytes are read too
 abbrev pub readWith : ℕ → Deed → Effect
-readWith own d = record { number = 0; reads = own + length (d .reads); channel = d .channel; change = d .change }
+readWith own d = record { number = 0; reads = own + length (d .reads); channel = d .channel; change = d .change; write = noWrite }
 
--- an effect that has a number and, where that is 0, is what a deed does
+-- an effect that has a number and, where that is 0, is what a deed does once its register is written
 pub record Planned (number own : ℕ) (d : Deed) (e : Effect) : Type 0 where
   pub told : e .number ≡ number
-  pub done : number ≡ 0 → e ≡ readWith own d
+  pub done : number ≡ 0 → afterWrite e ≡ readWith own d

@@ -1,7 +1,8 @@
-// One instruction of a channel: fetched, decoded, carried out on the registers, and its one store made last.
+// One instruction of a channel: fetched, decoded, worked out, and its one store and its one register write made last.
 use decode_shapes::Decoded;
 use decode_shapes::Shape;
 use execute_deeds::Effect;
+use execute_deeds::NO_WRITE;
 use execute_deeds::control;
 use execute_deeds::registers;
 use execute_operands::changes;
@@ -9,7 +10,8 @@ use machine::Channel;
 use memory::Pointer;
 ghost use mathlib.Core.Path.{_≡_};
 ghost use Rattle.memory.specs.Buffers.{buffers};
-ghost use Rattle.execute_deeds.specs.Deeds.{effectOf};
+ghost use Rattle.execute_deeds.specs.Deeds.{effectOf, afterWrite};
+ghost use Rattle.execute_deeds.specs.Writes.{noWrite};
 ghost use Rattle.decode_shapes.specs.declared.Decoded.the-variants.{Instruction};
 ghost use Rattle.decode.specs.Lengths.{lengthOf};
 ghost use Rattle.execute_operands.specs.Changes.{nothing};
@@ -35,7 +37,7 @@ fn perform(
     sys: &[u8],
     io: &[u8],
 ) -> Effect
-    ensures { λ r. ⌜ r ≡ effectOf (buffers (now (sys .entry)) (now (io .entry))) (performed shape (buffers (now (sys .entry)) (now (io .entry))) c tp armed busy) ⌝ }
+    ensures { λ r. ⌜ afterWrite r ≡ effectOf (buffers (now (sys .entry)) (now (io .entry))) (performed shape (buffers (now (sys .entry)) (now (io .entry))) c tp armed busy) ⌝ }
 {
     match shape {
         Shape::Nop => control::nop(c),
@@ -138,20 +140,21 @@ fn perform(
     }
 }
 
-// A refusal: the channel as it was, and nothing stored.
+// A refusal: the channel as it was, and nothing stored or written.
 fn refused(c: Channel, number: u32) -> Effect
-    ensures { λ r. ⌜ r ≡ record { number = number; reads = 0; channel = c; change = nothing } ⌝ }
+    ensures { λ r. ⌜ r ≡ record { number = number; reads = 0; channel = c; change = nothing; write = noWrite } ⌝ }
 {
     Effect {
         number,
         reads: 0,
         channel: c,
         change: changes::nothing(),
+        write: NO_WRITE,
     }
 }
 
-// An instruction of a channel that was decoded and has `count` bytes, worked out and not yet stored; its own bytes are
-// among those that are read.
+// An instruction of a channel that was decoded and has `count` bytes, worked out and neither stored nor written; its own
+// bytes are among those that are read.
 fn shaped(shape: Shape, count: u32, c: Channel, busy: u32, sys: &[u8], io: &[u8]) -> Effect
     requires { ⌜ count ≡ lengthOf shape ⌝ }
     ensures { λ r. ⌜ Planned (laterNumber (Instruction shape) (buffers (now (sys .entry)) (now (io .entry))) c busy) (lengthOf shape) (deedOf shape (buffers (now (sys .entry)) (now (io .entry))) c busy) r ⌝ }
@@ -173,7 +176,7 @@ fn shaped(shape: Shape, count: u32, c: Channel, busy: u32, sys: &[u8], io: &[u8]
     e
 }
 
-// The next instruction of a channel, worked out and not yet stored; BUSY is at `busy` of system memory.
+// The next instruction of a channel, worked out and neither stored nor written; BUSY is at `busy` of system memory.
 fn plan(c: Channel, busy: u32, sys: &[u8], io: &[u8]) -> Effect
     ensures { λ r. ⌜ Planned (planNumber (buffers (now (sys .entry)) (now (io .entry))) c busy) (lengthFrom (decodedAt (buffers (now (sys .entry)) (now (io .entry))) (c .tp))) (deedAt (buffers (now (sys .entry)) (now (io .entry))) c busy) r ⌝ }
 {
@@ -214,7 +217,8 @@ pub fn execute(c: Channel, busy: u32, sys: &mut [u8], io: &mut [u8]) -> Done
         };
     }
     let count = e.reads + change.count;
-    if channel.cc == c.cc {
+    let write = e.write;
+    if !write.any {
         return Done {
             number: 0,
             count,
@@ -224,6 +228,6 @@ pub fn execute(c: Channel, busy: u32, sys: &mut [u8], io: &mut [u8]) -> Done
     Done {
         number: 0,
         count,
-        channel: machine::updates::fields_renewed(c.cc, channel),
+        channel: machine::registers::with(channel, write.rrr, write.value, write.tag),
     }
 }

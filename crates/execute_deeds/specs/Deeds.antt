@@ -7,6 +7,7 @@ use Rattle.memory.specs.Places.{Place, allTouchable}
 use Rattle.machine.specs.declared.Channel.{Channel}
 use Rattle.machine.specs.Outcomes.{first, unless}
 use Rattle.execute_operands.specs.declared.Change.{Change}
+use Rattle.execute_deeds.specs.Writes.{noWrite, writeMade}
 use Rattle.execute_deeds.specs.declared.Effect.{Effect}
 
 -- `second` is the number of the second pair, 0 where there is none to refuse; `reads` are the offset byte of a second pair and the operand bytes read
@@ -28,8 +29,14 @@ effectOf m d =
       reads = length (d .reads);
       channel = d .channel;
       change = d .change;
+      write = noWrite;
     }
 
 -- a deed that is not refused
 abbrev pub unread : Deed → Effect
-unread d = record { number = 0; reads = length (d .reads); channel = d .channel; change = d .change }
+unread d = record { number = 0; reads = length (d .reads); channel = d .channel; change = d .change; write = noWrite }
+
+-- an effect once its register is written
+abbrev pub afterWrite : Effect → Effect
+afterWrite e =
+    record { number = e .number; reads = e .reads; channel = writeMade (e .channel) (e .write); change = e .change; write = noWrite }

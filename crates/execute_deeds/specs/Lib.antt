@@ -1,3 +1,4 @@
+pub mod Writes
 pub mod Deeds
 pub mod Control
 pub mod RegisterForms

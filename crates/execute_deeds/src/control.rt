@@ -1,5 +1,6 @@
 // NOP, SINTR, XFER, WID and HLT.
 use crate::Effect;
+use crate::NO_WRITE;
 use execute_operands::changes;
 use machine::Channel;
 use machine::psw;
@@ -17,6 +18,7 @@ pub fn only(c: Channel) -> Effect
         reads: 0,
         channel: c,
         change: changes::nothing(),
+        write: NO_WRITE,
     }
 }
 
@@ -79,5 +81,6 @@ pub fn hlt(c: Channel, busy: u32) -> Effect
             },
             0,
         ),
+        write: NO_WRITE,
     }
 }

@@ -1,5 +1,6 @@
 // Instructions that jump.
 use crate::Effect;
+use crate::NO_WRITE;
 use crate::control;
 use crate::registers;
 use decode_shapes::Memory;
@@ -54,7 +55,7 @@ pub fn jump_memory(
     let p = execute_operands::after_pair(tp, m);
     let mut next = execute_operands::grown_by_size(c, m);
     next.tp = execute_operands::led(taken, c.tp, p, two, sys, io);
-    registers::after(at, execute_operands::size(m.wide), next, sys, io)
+    registers::after(at, execute_operands::size(m.wide), next, NO_WRITE, sys, io)
 }
 
 // JMCE and JMCNE.
@@ -77,7 +78,7 @@ pub fn jump_masked(
     let p = execute_operands::after_pair(tp, m);
     let mut next = execute_operands::grown(c, m, 1);
     next.tp = execute_operands::led(taken, c.tp, p, two, sys, io);
-    registers::after(at, 1, next, sys, io)
+    registers::after(at, 1, next, NO_WRITE, sys, io)
 }
 
 // JBT and JNBT.
@@ -101,7 +102,7 @@ pub fn jump_bit(
     let p = execute_operands::after_pair(tp, m);
     let mut next = execute_operands::grown(c, m, 1);
     next.tp = execute_operands::led(taken, c.tp, p, two, sys, io);
-    registers::after(at, 1, next, sys, io)
+    registers::after(at, 1, next, NO_WRITE, sys, io)
 }
 
 // TSL.
@@ -117,10 +118,11 @@ pub fn tsl(c: Channel, tp: Pointer, m: Memory, sys: &[u8], io: &[u8]) -> Effect
             reads: 1,
             channel: next,
             change: changes::byte_to(at, execute_operands::byte(p, sys, io)),
+            write: NO_WRITE,
         };
     }
     next.tp = execute_operands::landing(c.tp, memory::onward(p, 1), false, sys, io);
-    registers::after(at, 1, next, sys, io)
+    registers::after(at, 1, next, NO_WRITE, sys, io)
 }
 
 // CALL.
@@ -136,5 +138,6 @@ pub fn call(c: Channel, tp: Pointer, m: Memory, two: bool, sys: &[u8], io: &[u8]
         reads: 0,
         channel: next,
         change: changes::pointer_to(execute_operands::effective(c, m, tp, sys, io), back),
+        write: NO_WRITE,
     }
 }

@@ -1,5 +1,6 @@
 // Instructions whose result goes into memory.
 use crate::Effect;
+use crate::NO_WRITE;
 use decode_shapes::Memory;
 use decode_shapes::Second;
 use decode_shapes::Single;
@@ -53,6 +54,7 @@ pub fn memory_register(
         reads: n,
         channel: execute_operands::grown_by_size(c, m),
         change: worked_back(at, work, m.wide, v, sys, io),
+        write: NO_WRITE,
     }
 }
 
@@ -75,6 +77,7 @@ pub fn memory_immediate(
         reads: n,
         channel: execute_operands::grown_by_size(c, m),
         change: worked_back(at, work, m.wide, v, sys, io),
+        write: NO_WRITE,
     }
 }
 
@@ -97,6 +100,7 @@ pub fn memory_alone(
         reads: n,
         channel: execute_operands::grown_by_size(c, m),
         change: changes::result_to(at, m.wide, w),
+        write: NO_WRITE,
     }
 }
 
@@ -113,6 +117,7 @@ pub fn movp_store(c: Channel, tp: Pointer, ppp: u32, m: Memory, sys: &[u8], io: 
         reads: 0,
         channel: execute_operands::grown(c, m, 3),
         change: changes::pointer_to(execute_operands::effective(c, m, tp, sys, io), p),
+        write: NO_WRITE,
     }
 }
 
@@ -134,6 +139,7 @@ pub fn bit(c: Channel, tp: Pointer, on: bool, bit: u32, m: Memory, sys: &[u8], i
         reads: 1,
         channel: execute_operands::grown(c, m, 1),
         change: changes::result_to(at, false, v),
+        write: NO_WRITE,
     }
 }
 
@@ -155,6 +161,7 @@ fn mov_operand(c: Channel, tp: Pointer, m: Memory, q: Memory, sys: &[u8], io: &[
         reads: n + size,
         channel: execute_operands::further(execute_operands::grown_by_size(next, q), n),
         change: changes::result_to(to, m.wide, v),
+        write: NO_WRITE,
     }
 }
 
@@ -174,6 +181,7 @@ pub fn mov_memory(c: Channel, tp: Pointer, m: Memory, sys: &[u8], io: &[u8]) -> 
             reads: 0,
             channel: c,
             change: changes::nothing(),
+            write: NO_WRITE,
         };
     };
     mov_operand(c, tp, m, q, sys, io)

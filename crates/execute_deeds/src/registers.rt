@@ -1,6 +1,6 @@
 // Instructions whose result goes into a register.
 use crate::Effect;
-use crate::control;
+use crate::Write;
 use decode_shapes::Memory;
 use decode_shapes::Single;
 use decode_shapes::Work;
@@ -9,31 +9,58 @@ use machine::Channel;
 use memory::Pointer;
 ghost use mathlib.Core.Path.{_≡_};
 ghost use Rattle.memory.specs.Buffers.{buffers};
-ghost use Rattle.execute_deeds.specs.Deeds.{effectOf, unread};
+ghost use Rattle.execute_deeds.specs.Deeds.{effectOf, unread, afterWrite};
 ghost use Rattle.execute_operands.specs.Operands.{readNumber};
 ghost use Rattle.execute_operands.specs.Changes.{nothing};
-ghost use Rattle.execute_deeds.specs.RegisterForms.{registerWritten, registerImmediateDeed, registerDeed, registerMemoryDeed, lpdiDeed, lpdDeed, movpLoadDeed};
+ghost use Rattle.execute_deeds.specs.Writes.{writeTo};
+ghost use Rattle.execute_deeds.specs.RegisterForms.{workWrite, registerImmediateDeed, registerDeed, registerMemoryDeed, lpdiDeed, lpdDeed, movpLoadDeed};
 
-// A register written as MOV does or as other work does.
-fn write(work: Work, c: Channel, rrr: u32, v: u32) -> Channel
-    ensures { λ r. ⌜ r ≡ registerWritten work c rrr v ⌝ }
+// A register with its value, and with its tag where it is a pointer.
+fn to(rrr: u32, value: u32, tag: bool) -> Write
+    ensures { λ r. ⌜ r ≡ writeTo rrr value tag ⌝ }
 {
-    if execute_operands::is_move(work) {
-        machine::registers::moved(c, rrr, v)
-    } else {
-        machine::registers::worked(c, rrr, v)
+    Write {
+        any: true,
+        rrr,
+        value,
+        tag,
     }
 }
 
-// A channel after n operand bytes were read at a place.
-pub fn after(at: Pointer, n: u32, c: Channel, sys: &[u8], io: &[u8]) -> Effect
-    ensures { λ r. ⌜ r ≡ record { number = readNumber (buffers (now (sys .entry)) (now (io .entry))) at n; reads = n; channel = c; change = nothing } ⌝ }
+// The register that work writes: a move sets the tag of a pointer, other work keeps it.
+fn write(work: Work, c: Channel, rrr: u32, v: u32) -> Write
+    ensures { λ r. ⌜ r ≡ workWrite work c rrr v ⌝ }
+{
+    to(
+        rrr,
+        v,
+        execute_operands::is_move(work) | machine::registers::tag(c, rrr),
+    )
+}
+
+// A channel and the register to be written, where nothing is read.
+fn writing(c: Channel, write: Write) -> Effect
+    ensures { λ r. ⌜ r ≡ record { number = 0; reads = 0; channel = c; change = nothing; write = write } ⌝ }
+{
+    Effect {
+        number: 0,
+        reads: 0,
+        channel: c,
+        change: changes::nothing(),
+        write,
+    }
+}
+
+// A channel and the register to be written, after n operand bytes were read at a place.
+pub fn after(at: Pointer, n: u32, c: Channel, write: Write, sys: &[u8], io: &[u8]) -> Effect
+    ensures { λ r. ⌜ r ≡ record { number = readNumber (buffers (now (sys .entry)) (now (io .entry))) at n; reads = n; channel = c; change = nothing; write = write } ⌝ }
 {
     Effect {
         number: execute_operands::read_number(at, n, sys, io),
         reads: n,
         channel: c,
         change: changes::nothing(),
+        write,
     }
 }
 
@@ -47,23 +74,19 @@ pub fn register_immediate(
     sys: &[u8],
     io: &[u8],
 ) -> Effect
-    ensures { λ r. ⌜ r ≡ unread (registerImmediateDeed (buffers (now (sys .entry)) (now (io .entry))) c tp work rrr wide) ⌝ }
+    ensures { λ r. ⌜ afterWrite r ≡ unread (registerImmediateDeed (buffers (now (sys .entry)) (now (io .entry))) c tp work rrr wide) ⌝ }
 {
     let v = execute_operands::operand(memory::onward(tp, 2), wide, sys, io);
-    control::only(write(
-        work,
-        c,
-        rrr,
-        execute_operands::work(work, machine::registers::value(c, rrr), v),
-    ))
+    let w = execute_operands::work(work, machine::registers::value(c, rrr), v);
+    writing(c, write(work, c, rrr, w))
 }
 
 // NOT, INC and DEC of a register.
 pub fn register(c: Channel, single: Single, rrr: u32) -> Effect
-    ensures { λ r. ⌜ r ≡ unread (registerDeed c single rrr) ⌝ }
+    ensures { λ r. ⌜ afterWrite r ≡ unread (registerDeed c single rrr) ⌝ }
 {
     let v = execute_operands::single(single, machine::registers::value(c, rrr));
-    control::only(machine::registers::worked(c, rrr, v))
+    writing(c, to(rrr, v, machine::registers::tag(c, rrr)))
 }
 
 // MOV, ADD, OR, AND and NOT to a register from memory.
@@ -76,7 +99,7 @@ pub fn register_memory(
     sys: &[u8],
     io: &[u8],
 ) -> Effect
-    ensures { λ r. ⌜ r ≡ effectOf (buffers (now (sys .entry)) (now (io .entry))) (registerMemoryDeed (buffers (now (sys .entry)) (now (io .entry))) c tp work rrr m) ⌝ }
+    ensures { λ r. ⌜ afterWrite r ≡ effectOf (buffers (now (sys .entry)) (now (io .entry))) (registerMemoryDeed (buffers (now (sys .entry)) (now (io .entry))) c tp work rrr m) ⌝ }
 {
     let at = execute_operands::effective(c, m, tp, sys, io);
     let v = execute_operands::work(
@@ -84,32 +107,37 @@ pub fn register_memory(
         machine::registers::value(c, rrr),
         execute_operands::operand(at, m.wide, sys, io),
     );
-    let next = write(work, execute_operands::grown_by_size(c, m), rrr, v);
-    after(at, execute_operands::size(m.wide), next, sys, io)
+    let next = execute_operands::grown_by_size(c, m);
+    after(
+        at,
+        execute_operands::size(m.wide),
+        next,
+        write(work, next, rrr, v),
+        sys,
+        io,
+    )
 }
 
 // LPDI.
 pub fn lpdi(c: Channel, tp: Pointer, ppp: u32, sys: &[u8], io: &[u8]) -> Effect
-    ensures { λ r. ⌜ r ≡ unread (lpdiDeed (buffers (now (sys .entry)) (now (io .entry))) c tp ppp) ⌝ }
+    ensures { λ r. ⌜ afterWrite r ≡ unread (lpdiDeed (buffers (now (sys .entry)) (now (io .entry))) c tp ppp) ⌝ }
 {
     let at = memory::onward(tp, 2);
-    control::only(machine::registers::loaded(
-        c,
-        ppp,
-        memory::doubleword(sys, io, at.tag, at.address),
-    ))
+    let v = memory::doubleword(sys, io, at.tag, at.address);
+    writing(c, to(ppp, v, false))
 }
 
 // LPD.
 pub fn lpd(c: Channel, tp: Pointer, ppp: u32, m: Memory, sys: &[u8], io: &[u8]) -> Effect
-    ensures { λ r. ⌜ r ≡ effectOf (buffers (now (sys .entry)) (now (io .entry))) (lpdDeed (buffers (now (sys .entry)) (now (io .entry))) c tp ppp m) ⌝ }
+    ensures { λ r. ⌜ afterWrite r ≡ effectOf (buffers (now (sys .entry)) (now (io .entry))) (lpdDeed (buffers (now (sys .entry)) (now (io .entry))) c tp ppp m) ⌝ }
 {
     let at = execute_operands::effective(c, m, tp, sys, io);
     let v = memory::doubleword(sys, io, at.tag, at.address);
     after(
         at,
         4,
-        machine::registers::loaded(execute_operands::grown(c, m, 4), ppp, v),
+        execute_operands::grown(c, m, 4),
+        to(ppp, v, false),
         sys,
         io,
     )
@@ -117,14 +145,15 @@ pub fn lpd(c: Channel, tp: Pointer, ppp: u32, m: Memory, sys: &[u8], io: &[u8]) 
 
 // MOVP to a pointer.
 pub fn movp_load(c: Channel, tp: Pointer, ppp: u32, m: Memory, sys: &[u8], io: &[u8]) -> Effect
-    ensures { λ r. ⌜ r ≡ effectOf (buffers (now (sys .entry)) (now (io .entry))) (movpLoadDeed (buffers (now (sys .entry)) (now (io .entry))) c tp ppp m) ⌝ }
+    ensures { λ r. ⌜ afterWrite r ≡ effectOf (buffers (now (sys .entry)) (now (io .entry))) (movpLoadDeed (buffers (now (sys .entry)) (now (io .entry))) c tp ppp m) ⌝ }
 {
     let at = execute_operands::effective(c, m, tp, sys, io);
     let p = memory::stored_pointer(sys, io, at.tag, at.address);
     after(
         at,
         3,
-        machine::registers::with(execute_operands::grown(c, m, 3), ppp, p.address, p.tag),
+        execute_operands::grown(c, m, 3),
+        to(ppp, p.address, p.tag),
         sys,
         io,
     )

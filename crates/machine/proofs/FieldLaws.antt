@@ -1,7 +1,6 @@
--- The laws of the fields beside CC: they are those of CC exactly where the test says so, a CC put together of them has them, an instruction leaves them so, and a state agrees where its channels do.
+-- The laws of the fields beside CC: they are those of CC exactly where the test says so, a CC put together of them has them, a register written leaves them so, and a state agrees where its channels do.
 -- Assumes nothing.
 use Prim.Native.Nat.{ℕ, _+_, _*_, _/_, _%_, _^_, _<_, _≤_}
-use borrow.Author.Tests.{eqb-true, eq-eqb}
 use lib.Dec.{eqb, ltb}
 use mathlib.Core.Bool.{Bool, true, false, not, _&&_}
 use mathlib.Core.Path.{_≡_, refl, sym, ap, _∙_}
@@ -12,8 +11,8 @@ use Rattle.words.specs.Bits.{fieldOf, bitOf}
 use Rattle.words.specs.Choice.{pick}
 use Rattle.machine.specs.Cc.{split, bitWorth, joined, sameFlag, sameFields}
 use Rattle.machine.specs.Conditions.{FieldsDisagree}
+use Rattle.machine.specs.Registers.{withRegister}
 use Rattle.machine.specs.States.{boardWith, idleChannel, freshState, freshOf, blankState, channelOf, withChannel, withLast, fieldsAgree, agree}
-use Rattle.machine.specs.Updates.{fieldsRenewed}
 use Rattle.machine.specs.declared.Made.{Made}
 use Rattle.machine.specs.declared.Board.{Board}
 use Rattle.machine.specs.declared.Channel.{Channel}
@@ -180,19 +179,14 @@ pub same-agrees : (c c′ : Channel) → c′ .cc ≡ c .cc → c′ .fields ≡
 unfolding fieldsAgree
 same-agrees c c′ e f h = rw (e, f) h
 
--- where CC is what it was nothing is taken apart
-pub same-control : (before : ℕ) (c : Channel) → c .cc ≡ before → fieldsRenewed before c ≡ c
-unfolding fieldsRenewed
-same-control before c e = rw (eq-eqb (c .cc) before e)
-
--- a channel that an instruction leaves agrees, CC written or not, where the channel before it did and nothing but CC is taken apart
-pub renewed-agrees : (c d : Channel) → d .fields ≡ c .fields → fieldsAgree c ≡ true → fieldsAgree (fieldsRenewed (c .cc) d) ≡ true
-unfolding fieldsRenewed
-renewed-agrees c d e h = agrees (fieldsRenewed (c .cc) d) (go (eqb (d .cc) (c .cc)) refl)
+-- a register written leaves fields that are those of CC, where CC itself is written too
+pub written-agrees : (c : Channel) (r v : ℕ) (tag : Bool) → fieldsAgree c ≡ true → fieldsAgree (withRegister c r v tag) ≡ true
+unfolding withRegister
+written-agrees c r v tag h = agrees (withRegister c r v tag) (go (eqb r 6))
   where
-    go : (b : Bool) → eqb (d .cc) (c .cc) ≡ b → pick b (d .fields) (split (d .cc)) ≡ split (d .cc)
-    go true same = e ∙ agreed c h ∙ ap split (sym (eqb-true (d .cc) (c .cc) same))
-    go false same = refl
+    go : (b : Bool) → pick b (split (v % 65536)) (c .fields) ≡ split (pick b (v % 65536) (c .cc))
+    go true = refl
+    go false = agreed c h
 
 -- ---- a state that agrees
 

@@ -5,6 +5,7 @@ use lib.Dec.{eqb, leb}
 use Rattle.words.specs.Choice.{pick}
 use Rattle.memory.specs.declared.Pointer.{Pointer}
 use Rattle.memory.specs.Values.{pointer}
+use Rattle.machine.specs.Cc.{split}
 use Rattle.machine.specs.declared.Channel.{Channel}
 
 -- one of eight by RRR: 0 is the first, and 7 and more the last
@@ -20,7 +21,7 @@ registerOf c r = byRRR r (c .ga .address) (c .gb .address) (c .gc .address) (c .
 unfoldable pub tagOf : Channel → ℕ → Bool
 tagOf c r = byRRR r (c .ga .tag) (c .gb .tag) (c .gc .tag) false (c .tp .tag) false false false
 
--- a register written, with as many low bits as it has (§6.9); a pointer takes the tag too
+-- a register written, with as many low bits as it has (§6.9); a pointer takes the tag too, and CC renews its fields (§2.12)
 unfoldable pub withRegister : Channel → ℕ → ℕ → Bool → Channel
 withRegister c r v tag =
     record {
@@ -36,7 +37,7 @@ withRegister c r v tag =
       psw = c .psw;
       mode = c .mode;
       armed = c .armed;
-      fields = c .fields;
+      fields = pick (eqb r 6) (split (v % 65536)) (c .fields);
     }
 
 -- MOV and MOVI set the tag of a pointer

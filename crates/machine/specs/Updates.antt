@@ -1,10 +1,7 @@
 -- A channel with some of its registers changed and every other as it was; a new register is carried on here and nowhere else.
 use mathlib.Core.Bool.{Bool, false}
 use Prim.Native.Nat.{ℕ}
-use lib.Dec.{eqb}
-use Rattle.words.specs.Choice.{pick}
 use Rattle.memory.specs.declared.Pointer.{Pointer}
-use Rattle.machine.specs.Cc.{split}
 use Rattle.machine.specs.Psw.{withPsw}
 use Rattle.machine.specs.declared.Channel.{Channel}
 use Rattle.machine.specs.declared.Mode.{Mode}
@@ -65,25 +62,6 @@ withTransfer c ga gb tp bc psw =
       mode = c .mode;
       armed = c .armed;
       fields = c .fields;
-    }
-
--- a channel after an instruction that found CC to be `before`: where CC is another now, its fields are taken out of it anew (§2.12)
-unfoldable pub fieldsRenewed : ℕ → Channel → Channel
-fieldsRenewed before c =
-    record {
-      ga = c .ga;
-      gb = c .gb;
-      gc = c .gc;
-      tp = c .tp;
-      pp = c .pp;
-      bc = c .bc;
-      ix = c .ix;
-      cc = c .cc;
-      mc = c .mc;
-      psw = c .psw;
-      mode = c .mode;
-      armed = c .armed;
-      fields = pick (eqb (c .cc) before) (c .fields) (split (c .cc));
     }
 
 -- PSW of a channel that stops: TB and XF are 0

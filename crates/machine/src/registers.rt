@@ -1,8 +1,8 @@
-// The registers of a channel by RRR, with the rules of the tags, and the bases by MM.
+// The registers of a channel by RRR, and the bases by MM.
 use crate::Channel;
+use crate::cc;
 use memory::Pointer;
 ghost use mathlib.Core.Path.{_≡_};
-ghost use Rattle.machine.specs.Registers as Registers;
 ghost use Rattle.machine.specs.Registers.{registerOf, tagOf, withRegister, baseOf};
 
 // The value of a register: a pointer's address, or 16 bits.
@@ -34,7 +34,7 @@ pub fn tag(c: Channel, rrr: u32) -> bool
     }
 }
 
-// The channel with a register written; a pointer takes the tag too.
+// The channel with a register written; a pointer takes the tag too, and CC renews its fields.
 pub fn with(c: Channel, rrr: u32, value: u32, tag: bool) -> Channel
     ensures { λ r. ⌜ r ≡ withRegister c rrr value tag ⌝ }
 {
@@ -51,31 +51,13 @@ pub fn with(c: Channel, rrr: u32, value: u32, tag: bool) -> Channel
         3 => next.bc = w,
         4 => next.tp = p,
         5 => next.ix = w,
-        6 => next.cc = w,
+        6 => {
+            next.cc = w;
+            next.fields = cc::split(w);
+        }
         _ => next.mc = w,
     }
     next
-}
-
-// A register as MOV and MOVI write it: a pointer's tag is set.
-pub fn moved(c: Channel, rrr: u32, value: u32) -> Channel
-    ensures { λ r. ⌜ r ≡ Registers.moved c rrr value ⌝ }
-{
-    with(c, rrr, value, true)
-}
-
-// A register as arithmetic and logic write it: a pointer's tag stays.
-pub fn worked(c: Channel, rrr: u32, value: u32) -> Channel
-    ensures { λ r. ⌜ r ≡ Registers.worked c rrr value ⌝ }
-{
-    with(c, rrr, value, tag(c, rrr))
-}
-
-// A register as LPD and LPDI write it: a pointer's tag is cleared.
-pub fn loaded(c: Channel, rrr: u32, value: u32) -> Channel
-    ensures { λ r. ⌜ r ≡ Registers.loaded c rrr value ⌝ }
-{
-    with(c, rrr, value, false)
 }
 
 // The base pointer that MM names.

@@ -1,12 +1,11 @@
 // A channel with some of its registers changed and every other as it was.
 use crate::Channel;
 use crate::Mode;
-use crate::cc;
 use crate::psw;
 use memory::Pointer;
 ghost use mathlib.Core.Path.{_≡_};
 ghost use Rattle.machine.specs.Updates as Updates;
-ghost use Rattle.machine.specs.Updates.{withControl, fieldsRenewed, stoppedPsw};
+ghost use Rattle.machine.specs.Updates.{withControl, stoppedPsw};
 
 // The channel with other TP, PP, PSW, mode and mark.
 pub fn with_control(c: Channel, tp: Pointer, pp: u32, psw: u8, mode: Mode, armed: bool) -> Channel
@@ -56,17 +55,6 @@ pub fn renewed(c: Channel, tp: Pointer, ix: u16, psw: u8, mode: Mode, armed: boo
         armed,
         fields,
     }
-}
-
-// The channel after an instruction that found CC to be `before`: where CC is another now, it is taken apart anew.
-pub fn fields_renewed(before: u16, c: Channel) -> Channel
-    ensures { λ r. ⌜ r ≡ fieldsRenewed before c ⌝ }
-{
-    let mut next = c;
-    if c.cc != before {
-        next.fields = cc::split(c.cc);
-    }
-    next
 }
 
 // PSW of a channel that stops.

@@ -11,6 +11,7 @@ use Rattle.attention.proofs.SoundLaws.{attention-agree}
 use Rattle.machine.proofs.FieldLaws.{agreed, agree-channel-of, blank-agree, fresh-agree, told-agree}
 use Rattle.machine.specs.Cc.{split, sameFlag, sameFields}
 use Rattle.machine.specs.Outcomes.{Outcome}
+use Rattle.machine.specs.Registers.{withRegister}
 use Rattle.machine.specs.States.{boardWith, resetState, agree}
 use Rattle.machine.specs.declared.Channel.{Channel}
 use Rattle.machine.specs.declared.State.{State}
@@ -73,7 +74,7 @@ each : (s : State) → agree s ≡ true → Agree s
 each s h second = agreed _ (agree-channel-of s second h)
 
 pub fields-kept : FieldsKept
-unfolding resetState
+unfolding resetState withRegister
 fields-kept = record {
   bits = by-bits;
   ninth = ninth;
@@ -87,4 +88,6 @@ fields-kept = record {
   sameControl = λ s m lines second e same.
       let h = done-agrees s m lines e in
       each _ (step-agree s m lines h) second ∙ ap split same ∙ sym (each s h second);
+  renews = λ c v tag. refl;
+  leaves = λ c r v tag ne. rw ne;
 }

@@ -16,7 +16,6 @@ use Rattle.decode_shapes.specs.declared.Work.{Work}
 use Rattle.execute_deeds.specs.RegisterForms.{registerWritten, registerImmediateDeed}
 use Rattle.execute.proofs.OutcomeLaws.{done-where}
 use Rattle.execute.specs.Execute.{decodedAt, performed, deedOf, laterBytes, Executed, executed, executeOf}
-use Rattle.machine.specs.Updates.{fieldsRenewed}
 use Rattle.machine.proofs.ChannelLaws.{put-same, last-channel}
 use Rattle.machine.specs.Psw.{transferring}
 use Rattle.machine.specs.Registers.{registerOf}
@@ -86,9 +85,8 @@ module _ {m : Buffers} {p : Pointer} {bytes : List ℕ} (there : Stand m p bytes
 -- the channel after it
 abbrev pub immediateDone : Work → ℕ → Bool → Channel → List ℕ → Channel
 immediateDone work r wide c code =
-    fieldsRenewed (c .cc)
-    (let c′ = pastInstruction c (lengthOf (RegisterImmediate work r wide)) in
-    registerWritten work c′ r (workOf work (registerOf c′ r) (immediateOf code wide)))
+    let c′ = pastInstruction c (lengthOf (RegisterImmediate work r wide)) in
+    registerWritten work c′ r (workOf work (registerOf c′ r) (immediateOf code wide))
 
 -- it has its pair and the data
 data-length : (work : Work) (r : ℕ) (wide : Bool) → lengthOf (RegisterImmediate work r wide) - 2 ≡ sizeOf wide
@@ -111,7 +109,7 @@ immediate-executed work r wide m c code there whole e busy =
     let shape = RegisterImmediate work r wide in
     done-where c busy m shape (decoded there pair ∙ e) (pair-touchable there pair)
     (ap (λ (n : ℕ). allTouchable m (bytesAt (onward (c .tp) 2) n)) (data-length work r wide) ∙ data-touchable there wide whole) refl refl refl
-    ∙ ap (λ (v : ℕ). executed 0 (fieldsRenewed (c .cc) (registerWritten work (pastInstruction c (lengthOf shape)) r (workOf work (registerOf (pastInstruction c (lengthOf shape)) r) v))) m) (immediate-read there wide whole)
+    ∙ ap (λ (v : ℕ). executed 0 (registerWritten work (pastInstruction c (lengthOf shape)) r (workOf work (registerOf (pastInstruction c (lengthOf shape)) r) v)) m) (immediate-read there wide whole)
 
 -- ---- its step
 

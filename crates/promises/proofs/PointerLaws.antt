@@ -42,7 +42,7 @@ use Rattle.execute_operands.specs.Changes.{changed, pointerTo}
 use Rattle.execute_operands.proofs.ChangeLaws.{pointer-changed}
 use Rattle.execute_operands.specs.Marks.{pastInstruction}
 use Rattle.execute_operands.specs.Operands.{byteHere, grown}
-use Rattle.machine.specs.Updates.{fieldsRenewed, renewed}
+use Rattle.machine.specs.Updates.{renewed}
 use Rattle.memory.specs.Values.{onward}
 use Rattle.step.proofs.SoundLaws.{entry-sound}
 use Rattle.step.specs.Step.{Step, doneStep, settledStep, instructionStep, channelStep, chosenStep, entryNumber, stepOf}
@@ -89,12 +89,8 @@ module _ (k : StepCall) (shape : Shape) (x : Executes k shape) where
   unfolding instructionStep
   none = sym (settle (executedOn k .number) (executedOn k)) ∙ sym (ap (λ (o : Step). o .number) own) ∙ x .done
 
-  -- the channel that its deed leaves, its CC taken apart where that is another
-  abbrev after : Channel
-  after = fieldsRenewed (channelOn k .cc) (deedOn k shape .channel)
-
   -- so it leaves what an instruction of that shape does
-  leaves : leftBy k ≡ doneStep (k .state) (k .second) after (changed (k .memory) (deedOn k shape .change)) Kind.Instruction
+  leaves : leftBy k ≡ doneStep (k .state) (k .second) (deedOn k shape .channel) (changed (k .memory) (deedOn k shape .change)) Kind.Instruction
   unfolding instructionStep settledStep
   leaves =
       own
@@ -102,11 +98,11 @@ module _ (k : StepCall) (shape : Shape) (x : Executes k shape) where
       (ap (λ (o : Executed). doneStep (k .state) (k .second) (o .channel) (o .memory) Kind.Instruction) (done (channelOn k) (busyOn k) (k .memory) shape (x .reads) none))
 
   -- the channel after it
-  channel-left : channelOf (leftBy k .state) (k .second) ≡ after
+  channel-left : channelOf (leftBy k .state) (k .second) ≡ deedOn k shape .channel
   channel-left =
       ap (λ (o : Step). channelOf (o .state) (k .second)) leaves
-      ∙ last-channel (withChannel (k .state) (k .second) after) (k .second) (k .second)
-      ∙ put-same (k .state) (k .second) after
+      ∙ last-channel (withChannel (k .state) (k .second) (deedOn k shape .channel)) (k .second) (k .second)
+      ∙ put-same (k .state) (k .second) (deedOn k shape .channel)
 
   -- a pointer of 20 bits that it stores in lent bytes reads back from where it went
   stored-back : (at p : Pointer) → deedOn k shape .change ≡ pointerTo at p → Lent (k .memory) at 3 → p .address < 1048576
@@ -232,13 +228,13 @@ three-same m m′ at e = rw (rw add-zero at (e 0 (lit< tt)), e 1 (lit< tt), e 2 
 -- MOVP P,M loads the pointer that its three bytes hold
 loads-back : {k : StepCall} {at : Pointer} {k′ : StepCall} {r : ℕ} {o : Memory} (p : Pointer) → LoadsFrom k at k′ r o
     → p .address < 1048576 → pointerAt (leftBy k .memory) (at .tag) (at .address) ≡ p → Holds (channelOf (leftBy k′ .state) (k′ .second)) r (p .address) (p .tag)
-unfolding fieldsRenewed registerOf tagOf deedOf performed movpLoadDeed
+unfolding deedOf performed movpLoadDeed
 loads-back {k} {at} {k′} {r} {o} p l small e =
     let shape = MovpLoad r o in
     let here : pointerAt (k′ .memory) (operandOf k′ shape o .tag) (operandOf k′ shape o .address) ≡ p =
     ap (λ (q : Pointer). pointerAt (k′ .memory) (q .tag) (q .address)) (l .place) ∙ three-same (leftBy k .memory) (k′ .memory) at (l .bytes) ∙ e in
-    let after : channelOf (leftBy k′ .state) (k′ .second) ≡ fieldsRenewed (channelOn k′ .cc) (withRegister (grown (found k′ shape) o 3) r (p .address) (p .tag)) =
-    channel-left k′ shape (l .loads) ∙ ap (λ (q : Pointer). fieldsRenewed (channelOn k′ .cc) (withRegister (grown (found k′ shape) o 3) r (q .address) (q .tag))) here in
+    let after : channelOf (leftBy k′ .state) (k′ .second) ≡ withRegister (grown (found k′ shape) o 3) r (p .address) (p .tag) =
+    channel-left k′ shape (l .loads) ∙ ap (λ (q : Pointer). withRegister (grown (found k′ shape) o 3) r (q .address) (q .tag)) here in
     let there : IsPointer r = executes-pointer (l .loads) in
     rw after (record {
       value = register-written (grown (found k′ shape) o 3) r (p .address) (p .tag) there ∙ mod-eq-of-lt small;

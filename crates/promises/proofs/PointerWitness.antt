@@ -30,7 +30,7 @@ use Rattle.memory.specs.Values.{pointer, pointerAt}
 use Rattle.execute_operands.specs.Changes.{placesOf, changed, storedValue}
 use Rattle.execute_operands.specs.Marks.{usedUp, pastInstruction}
 use Rattle.execute_operands.specs.Operands.{indexed, effective, grown, displacementAt, landing, jumpedIf}
-use Rattle.machine.specs.Updates.{renewed, fieldsRenewed}
+use Rattle.machine.specs.Updates.{renewed}
 use Rattle.memory.specs.Values.{onward}
 use Rattle.step.specs.Choosing.{requested, external, endsNow, transferRank, rankOf, secondWins, ranked, choiceOf}
 use Rattle.step.specs.Step.{settledStep, instructionStep, channelStep, chosenStep, entryNumber, stepOf}
@@ -83,7 +83,7 @@ abbrev calls : List ℕ
 calls = 0x88 ∷ 0x9C ∷ 0 ∷ 0x41 ∷ 0x8C ∷ []
 
 both-go : GoesAndComes movps (MovpStore 1 (atGa true)) (atGa true) × GoesAndComes calls (Call (atGa false) false) (atGa false)
-unfolding stepOf entryNumber givenNumber first unless withinLimits limitOf spaceOf indexOf touchableAt lentAt byteAt beyondIn storeByte allPass span sound soundChannel agree fieldsAgree sameFields sameFlag split freshState idleChannel channelOf withChannel withLast isRunning blockOf channelNumber requested external endsNow transferRank rankOf secondWins ranked choiceOf settledStep busyIn instructionStep channelStep chosenStep fieldOf bitOf decodedAt performed deedOf laterBytes laterFrom deedFrom stagesFrom instructionStages stagesNumber executeNumber executeOf onward renewed usedUp pastInstruction placesOf changed storedValue pairOf lookup decodeOf table lengthOf dataLength displacementLength offsetLength movpStoreDeed movpLoadDeed callDeed effective grown baseOf registerOf tagOf byRRR withRegister pointerAt indexed jumpedIf landing displacementAt displacedBy signedOf fieldsRenewed
+unfolding stepOf entryNumber givenNumber first unless withinLimits limitOf spaceOf indexOf touchableAt lentAt byteAt beyondIn storeByte allPass span sound soundChannel agree fieldsAgree sameFields sameFlag split freshState idleChannel channelOf withChannel withLast isRunning blockOf channelNumber requested external endsNow transferRank rankOf secondWins ranked choiceOf settledStep busyIn instructionStep channelStep chosenStep fieldOf bitOf decodedAt performed deedOf laterBytes laterFrom deedFrom stagesFrom instructionStages stagesNumber executeNumber executeOf onward renewed usedUp pastInstruction placesOf changed storedValue pairOf lookup decodeOf table lengthOf dataLength displacementLength offsetLength movpStoreDeed movpLoadDeed callDeed effective grown baseOf registerOf tagOf byRRR withRegister pointerAt indexed jumpedIf landing displacementAt displacedBy signedOf
 both-go = (
   record {
     goes = record { done = refl; chosen = refl; program = refl; reads = refl };

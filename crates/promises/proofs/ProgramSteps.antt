@@ -7,7 +7,7 @@ use mathlib.Core.List.{List, _∷_}
 use mathlib.Core.Path.{_≡_, refl, sym, ap, ap₂, subst, _∙_}
 use native.Mathlib.Nat.{mod-mod}
 use native.Mathlib.Omega.{arith}
-use Rattle.machine.specs.Updates.{renewed, withControl, fieldsRenewed, stoppedPsw, halted}
+use Rattle.machine.specs.Updates.{renewed, withControl, stoppedPsw, halted}
 use Rattle.decode.specs.Lengths.{dataLength, displacementLength, lengthOf}
 use Rattle.decode.specs.Reading.{lookup, decodeOf}
 use Rattle.decode.specs.Table.{table}
@@ -125,16 +125,16 @@ module _ (m : Buffers) (c : Channel) (busy : ℕ) where
   shape-executed : (shape : Shape) {one two : ℕ} {rest : List ℕ} → Stand m (c .tp) (one ∷ two ∷ rest) → decodeOf one two ≡ Instruction shape
       → allTouchable m (laterBytes shape c) ≡ true → (deedOf shape m c busy) .second ≡ 0 → allTouchable m ((deedOf shape m c busy) .reads) ≡ true
       → allTouchable m (placesOf ((deedOf shape m c busy) .change)) ≡ true
-      → executeOf c busy m ≡ executed 0 (fieldsRenewed (c .cc) ((deedOf shape m c busy) .channel)) (changed m ((deedOf shape m c busy) .change))
+      → executeOf c busy m ≡ executed 0 ((deedOf shape m c busy) .channel) (changed m ((deedOf shape m c busy) .change))
   shape-executed shape there e = done-where c busy m shape (decoded there (omega arith) ∙ e) (pair-touchable there (omega arith))
 
   -- LPDI of a register
   lpdi-executed : (r : ℕ) {one lo hi lo′ hi′ : ℕ} {rest : List ℕ} → Stand m (c .tp) (one ∷ 0x08 ∷ lo ∷ hi ∷ lo′ ∷ hi′ ∷ rest)
-      → decodeOf one 0x08 ≡ Instruction (Lpdi r) → executeOf c busy m ≡ executed 0 (fieldsRenewed (c .cc) (loaded (pastInstruction c 6) r (addressOf (wordOf lo hi) (wordOf lo′ hi′)))) m
+      → decodeOf one 0x08 ≡ Instruction (Lpdi r) → executeOf c busy m ≡ executed 0 (loaded (pastInstruction c 6) r (addressOf (wordOf lo hi) (wordOf lo′ hi′))) m
   unfolding changed deedOf performed lpdiDeed placesOf laterBytes span allPass lengthOf dataLength displacementLength onward
   lpdi-executed r there e =
       shape-executed (Lpdi r) there e (rest-touchable there 2 4 (omega arith)) refl refl refl
-      ∙ ap (λ (a : ℕ). executed 0 (fieldsRenewed (c .cc) (loaded (pastInstruction c 6) r a)) m) (pointer-given m (onBy (c .tp) 2) _ (stand-on there 2) (omega arith))
+      ∙ ap (λ (a : ℕ). executed 0 (loaded (pastInstruction c 6) r a) m) (pointer-given m (onBy (c .tp) 2) _ (stand-on there 2) (omega arith))
 
   -- bytes that stand where TP is known to be
   here : {v : View} {code : List ℕ} → viewOf c ≡ v → Stand m (v .tp) code → Stand m (c .tp) code
@@ -150,11 +150,10 @@ module _ (m : Buffers) (c : Channel) (busy : ℕ) where
     lpdi-to : (r : ℕ) (into : Pointer → View → View) {one lo hi lo′ hi′ : ℕ} {rest : List ℕ} → decodeOf one 0x08 ≡ Instruction (Lpdi r)
         → ((d : Channel) (a : ℕ) → viewOf (loaded d r a) ≡ into (pointer (a % 1048576) false) (viewOf d)) → Stand m tp (one ∷ 0x08 ∷ lo ∷ hi ∷ lo′ ∷ hi′ ∷ rest)
         → After m c busy (into (pointer (addressOf (wordOf lo hi) (wordOf lo′ hi′)) false) (view ga gb (onBy tp 6) bc cc psw Running false)) m
-    unfolding fieldsRenewed
     lpdi-to r into {lo = lo} {hi} {lo′} {hi′} code puts there =
         let address = addressOf (wordOf lo hi) (wordOf lo′ hi′) in
         record {
-          channel = fieldsRenewed (c .cc) (loaded (pastInstruction c 6) r address);
+          channel = loaded (pastInstruction c 6) r address;
           step = lpdi-executed r (here s there) code;
           seen =
               puts (pastInstruction c 6) address
@@ -165,7 +164,7 @@ module _ (m : Buffers) (c : Channel) (busy : ℕ) where
     movi-to : (r : ℕ) (into : ℕ → View → View) {one lo hi : ℕ} {rest : List ℕ} → decodeOf one 0x30 ≡ Instruction (RegisterImmediate Mov r true)
         → ((d : Channel) (a : ℕ) → viewOf (moved d r a) ≡ into (a % 65536) (viewOf d)) → Stand m tp (one ∷ 0x30 ∷ lo ∷ hi ∷ rest)
         → After m c busy (into (wordOf lo hi % 65536) (view ga gb (onBy tp 4) bc cc psw Running false)) m
-    unfolding fieldsRenewed registerWritten isMove workOf lengthOf dataLength displacementLength
+    unfolding registerWritten isMove workOf lengthOf dataLength displacementLength
     movi-to r into {one} {lo} {hi} {rest} code puts there =
         record {
           channel = immediateDone Mov r true c (one ∷ 0x30 ∷ lo ∷ hi ∷ rest);
@@ -199,10 +198,10 @@ module _ (m : Buffers) (c : Channel) (busy : ℕ) where
 
     -- XFER
     pub xfer-arms : {rest : List ℕ} → Stand m tp (0x60 ∷ 0x00 ∷ rest) → After m c busy (view ga gb (onBy tp 2) bc cc psw Running true) m
-    unfolding fieldsRenewed changed deedOf performed xferDeed markSet placesOf laterBytes allPass lengthOf dataLength displacementLength span pastInstruction renewed onward usedUp
+    unfolding changed deedOf performed xferDeed markSet placesOf laterBytes allPass lengthOf dataLength displacementLength span pastInstruction renewed onward usedUp
     xfer-arms there =
         record {
-          channel = fieldsRenewed (c .cc) ((deedOf Xfer m c busy) .channel);
+          channel = (deedOf Xfer m c busy) .channel;
           step = shape-executed Xfer (here s there) (control-codes .0) refl refl refl refl;
           seen = ap (λ (v : View). view (v .ga) (v .gb) (onBy (v .tp) 2) (v .bc) (v .cc) (usedUp (v .armed) (v .psw)) (v .mode) (not (v .armed))) s;
         }
@@ -210,10 +209,10 @@ module _ (m : Buffers) (c : Channel) (busy : ℕ) where
   -- WID as the instruction after XFER, of a program with TB alone in PSW: the transfer begins
   pub wid-begins : {ga gb tp : Pointer} {bc cc : ℕ} (source destination : Bool) {rest : List ℕ} → viewOf c ≡ view ga gb tp bc cc 4 Running true
       → Stand m tp (widOf source destination ∷ 0x00 ∷ rest) → After m c busy (view ga gb (onBy tp 2) bc cc (pswOf source destination) Running false) m
-  unfolding fieldsRenewed changed deedOf performed widDeed withStatus placesOf laterBytes allPass lengthOf dataLength displacementLength span pastInstruction renewed onward
+  unfolding changed deedOf performed widDeed withStatus placesOf laterBytes allPass lengthOf dataLength displacementLength span pastInstruction renewed onward
   wid-begins {ga} {gb} {tp} {bc} {cc} source destination s there =
       record {
-        channel = fieldsRenewed (c .cc) ((deedOf (Wid source destination) m c busy) .channel);
+        channel = (deedOf (Wid source destination) m c busy) .channel;
         step = shape-executed (Wid source destination) (here s there) (wid-code source destination) refl refl refl refl;
         seen =
             ap (λ (v : View). view (v .ga) (v .gb) (onBy (v .tp) 2) (v .bc) (v .cc) (withPsw (withPsw (usedUp (v .armed) (v .psw)) 1 source) 0 destination) (v .mode) false) s
@@ -222,10 +221,10 @@ module _ (m : Buffers) (c : Channel) (busy : ℕ) where
 
   -- HLT: BUSY is 0, and the channel does not run
   pub hlt-stops : {rest : List ℕ} → Stand m (c .tp) (0x20 ∷ 0x48 ∷ rest) → lentAt m false busy ≡ true → Stopped m c busy
-  unfolding fieldsRenewed changed deedOf performed hltDeed halted withControl placesOf laterBytes allPass touchableAt lengthOf dataLength displacementLength span isRunning
+  unfolding changed deedOf performed hltDeed halted withControl placesOf laterBytes allPass touchableAt lengthOf dataLength displacementLength span isRunning
   hlt-stops there l =
       record {
-        channel = fieldsRenewed (c .cc) ((deedOf Hlt m c busy) .channel);
+        channel = (deedOf Hlt m c busy) .channel;
         step = shape-executed Hlt there (control-codes .1) refl refl refl (rw l);
         still = refl;
       }

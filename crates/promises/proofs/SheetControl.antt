@@ -19,7 +19,7 @@ use Rattle.execute_operands.specs.Changes.{placesOf, changed}
 use Rattle.execute_operands.specs.Marks.{usedUp, pastInstruction, markSet}
 use Rattle.machine.specs.Psw.{withPsw}
 use Rattle.machine.specs.States.{channelOf, blockOf, busyIn}
-use Rattle.machine.specs.Updates.{fieldsRenewed, renewed, withControl, stoppedPsw, halted}
+use Rattle.machine.specs.Updates.{renewed, withControl, stoppedPsw, halted}
 use Rattle.machine.specs.declared.Channel.{Channel}
 use Rattle.machine.specs.declared.Mode.{Mode}
 use Rattle.machine.specs.declared.Mode.the-variants.{Idle}
@@ -60,8 +60,8 @@ module _ (s : State) (b : Bool) (m : Buffers) where
 
 -- the parts that no instruction here changes
 done-left : {c k : Channel} {status : ℕ → ℕ} {mode : Mode} {armed : Bool} → RegistersLeft c k (registersAt c (pastBy c 2) (c .ix)) (tagsOf c) → (psw : ℕ)
-    → ((i : ℕ) → bit psw i ≡ status i) → (k′ : Channel) → k′ ≡ fieldsRenewed (c .cc) (renewed k (k .tp) (k .ix) psw mode armed) → ControlDone c k′ status mode armed
-unfolding renewed fieldsRenewed
+    → ((i : ℕ) → bit psw i ≡ status i) → (k′ : Channel) → k′ ≡ renewed k (k .tp) (k .ix) psw mode armed → ControlDone c k′ status mode armed
+unfolding renewed
 done-left l psw h k′ e = record {
   values = ap registerValues e ∙ l .values;
   tags = ap tagsOf e ∙ l .tags;
@@ -77,7 +77,7 @@ module _ {b : Bool} {s : State} {m : Buffers} {lines : ℕ} where
     control : (psw : ℕ) (mode : Mode) (armed : Bool) {status : ℕ → ℕ} → ((i : ℕ) → bit psw i ≡ status i)
         → deedIn s m b shape .channel ≡ renewed (pastInstruction (channelOf s b) 2) (pastInstruction (channelOf s b) 2 .tp) (pastInstruction (channelOf s b) 2 .ix) psw mode armed
         → ControlDone (channelOf s b) (ranChannel b s m lines) status mode armed
-    control psw mode armed h e = done-left (past-left (channelOf s b) 2) psw h (ranChannel b s m lines) (channel-left x shape small reads ∙ ap (fieldsRenewed (channelOf s b .cc)) e)
+    control psw mode armed h e = done-left (past-left (channelOf s b) 2) psw h (ranChannel b s m lines) (channel-left x shape small reads ∙ e)
 
     -- no byte changes
     still : changed m (deedIn s m b shape .change) ≡ m → (stepOf s m lines) .memory ≡ m

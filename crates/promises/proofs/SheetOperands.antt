@@ -27,7 +27,7 @@ use Rattle.machine.proofs.ChannelLaws.{put-same, last-channel}
 use Rattle.machine.specs.Psw.{withPsw}
 use Rattle.machine.specs.Registers.{byRRR, registerOf, tagOf, withRegister, baseOf}
 use Rattle.machine.specs.States.{channelOf, withChannel, blockOf, busyIn}
-use Rattle.machine.specs.Updates.{fieldsRenewed, renewed}
+use Rattle.machine.specs.Updates.{renewed}
 use Rattle.machine.specs.declared.Channel.{Channel}
 use Rattle.machine.specs.declared.State.{State}
 use Rattle.memory.proofs.PlaceLaws.{byte-reduced}
@@ -94,31 +94,25 @@ module _ {b : Bool} {s : State} {m : Buffers} {lines r dd aa w op mm : ℕ} (x :
   unfolding instructionStep
   none = sym (settle (executedIn s m b .number) (executedIn s m b)) ∙ sym (ap (λ (o : Step). o .number) own) ∙ x .done
 
-  -- the channel that its deed leaves, its CC taken apart where that is another
-  abbrev after : Channel
-  after = fieldsRenewed (channelOf s b .cc) (deedIn s m b shape .channel)
-
   -- so the step leaves what that shape does
-  leaves : stepOf s m lines ≡ doneStep s b after (changed m (deedIn s m b shape .change)) Kind.Instruction
+  leaves : stepOf s m lines ≡ doneStep s b (deedIn s m b shape .channel) (changed m (deedIn s m b shape .change)) Kind.Instruction
   unfolding instructionStep settledStep
   leaves =
       own
       ∙ rw (eq-eqb (executedIn s m b .number) 0 none)
       (ap (λ (o : Executed). doneStep s b (o .channel) (o .memory) Kind.Instruction) (done (channelOf s b) (busyIn (blockOf s b)) m shape shape-is none))
 
-  pub channel-left : ranChannel b s m lines ≡ after
+  pub channel-left : ranChannel b s m lines ≡ deedIn s m b shape .channel
   channel-left =
       ap (λ (o : Step). channelOf (o .state) b) leaves
-      ∙ last-channel (withChannel s b after) b b
-      ∙ put-same s b after
+      ∙ last-channel (withChannel s b (deedIn s m b shape .channel)) b b
+      ∙ put-same s b (deedIn s m b shape .channel)
 
-  -- the registers that its deed leaves, since its fields are none of them
+  -- the registers that its deed leaves
   pub registers-left : {k : Channel} {values : List ℕ} {tags : List Bool} → deedIn s m b shape .channel ≡ k → RegistersLeft (channelOf s b) k values tags
       → RegistersLeft (channelOf s b) (ranChannel b s m lines) values tags
-  unfolding fieldsRenewed
   registers-left {k} {values} {tags} e l =
-      subst (λ (k′ : Channel). RegistersLeft (channelOf s b) k′ values tags) (sym (channel-left ∙ ap (fieldsRenewed (channelOf s b .cc)) e))
-      (record { values = l .values; tags = l .tags; pp = l .pp; mode = l .mode; mark = l .mark; status = l .status })
+      subst (λ (k′ : Channel). RegistersLeft (channelOf s b) k′ values tags) (sym (channel-left ∙ e)) l
 
   pub memory-left : (stepOf s m lines) .memory ≡ changed m (deedIn s m b shape .change)
   memory-left = ap (λ (o : Step). o .memory) leaves

@@ -31,7 +31,7 @@ use Rattle.machine.specs.Registers.{byRRR, registerOf, withRegister, baseOf}
 use Rattle.execute_operands.specs.Changes.{placesOf, changed}
 use Rattle.execute_operands.specs.Marks.{usedUp, pastInstruction}
 use Rattle.execute_operands.specs.Operands.{indexed, effective, grown, displacementAt, landing, jumpedIf}
-use Rattle.machine.specs.Updates.{renewed, fieldsRenewed}
+use Rattle.machine.specs.Updates.{renewed}
 use Rattle.step.specs.Choosing.{requested, external, endsNow, transferRank, rankOf, secondWins, ranked, choiceOf}
 use Rattle.step.specs.Step.{settledStep, instructionStep, channelStep, chosenStep, entryNumber, stepOf}
 use Rattle.words.specs.Signs.{signedOf, displacedBy}
@@ -60,7 +60,7 @@ start-leaves = attention-sheet false (freshState 0) started .startLocal start-me
 
 -- LPD GA,[PP+IX+] at 8, with zeros at 0: PP and IX are 0
 lpd-met : Ran false (programAt 8) (bytesFrom 8 (0x07 ∷ 0x8B ∷ [])) 0 0 0 3 1 0x22 3
-unfolding stepOf entryNumber givenNumber first unless withinLimits limitOf spaceOf indexOf touchableAt lentAt byteAt beyondIn allPass span sound soundChannel agree fieldsAgree sameFields sameFlag split idleChannel channelOf withLast isRunning blockOf channelNumber requested external endsNow transferRank rankOf secondWins ranked choiceOf settledStep busyIn instructionStep channelStep chosenStep fieldOf bitOf decodedAt performed deedOf laterBytes laterFrom deedFrom stagesFrom instructionStages stagesNumber executeNumber executeOf onward renewed usedUp pastInstruction placesOf changed pairOf lookup decodeOf table lengthOf dataLength displacementLength offsetLength effective grown baseOf registerOf byRRR withRegister indexed jumpedIf landing displacementAt displacedBy signedOf lpdDeed jumpRegisterDeed doublewordAt wordAt bothWith channelWith fieldsRenewed
+unfolding stepOf entryNumber givenNumber first unless withinLimits limitOf spaceOf indexOf touchableAt lentAt byteAt beyondIn allPass span sound soundChannel agree fieldsAgree sameFields sameFlag split idleChannel channelOf withLast isRunning blockOf channelNumber requested external endsNow transferRank rankOf secondWins ranked choiceOf settledStep busyIn instructionStep channelStep chosenStep fieldOf bitOf decodedAt performed deedOf laterBytes laterFrom deedFrom stagesFrom instructionStages stagesNumber executeNumber executeOf onward renewed usedUp pastInstruction placesOf changed pairOf lookup decodeOf table lengthOf dataLength displacementLength offsetLength effective grown baseOf registerOf byRRR withRegister indexed jumpedIf landing displacementAt displacedBy signedOf lpdDeed jumpRegisterDeed doublewordAt wordAt bothWith channelWith
 lpd-met = record { executes = executes-met 8 (0x07 ∷ 0x8B ∷ []) (lit≤ tt) (lit< tt); done = refl; rrr = lit< tt; two = lit< tt; mode = lit< tt; wide = lit< tt; base = lit< tt }
 
 -- GA is 0 with tag 0, TP 10 and IX 4
@@ -76,7 +76,7 @@ abbrev jzCode : Buffers
 jzCode = buffers (0x08 ∷ 0x44 ∷ 5 ∷ []) []
 
 jz-met : Ran false sixteen jzCode 0 0 1 0 0 0x11 0
-unfolding stepOf entryNumber givenNumber first unless withinLimits limitOf spaceOf indexOf touchableAt lentAt byteAt beyondIn allPass span sound soundChannel agree fieldsAgree sameFields sameFlag split idleChannel channelOf withLast isRunning blockOf channelNumber requested external endsNow transferRank rankOf secondWins ranked choiceOf settledStep busyIn instructionStep channelStep chosenStep fieldOf bitOf decodedAt performed deedOf laterBytes laterFrom deedFrom stagesFrom instructionStages stagesNumber executeNumber executeOf onward renewed usedUp pastInstruction placesOf changed pairOf lookup decodeOf table lengthOf dataLength displacementLength offsetLength effective grown baseOf registerOf byRRR withRegister indexed jumpedIf landing displacementAt displacedBy signedOf lpdDeed jumpRegisterDeed doublewordAt wordAt bothWith channelWith fieldsRenewed
+unfolding stepOf entryNumber givenNumber first unless withinLimits limitOf spaceOf indexOf touchableAt lentAt byteAt beyondIn allPass span sound soundChannel agree fieldsAgree sameFields sameFlag split idleChannel channelOf withLast isRunning blockOf channelNumber requested external endsNow transferRank rankOf secondWins ranked choiceOf settledStep busyIn instructionStep channelStep chosenStep fieldOf bitOf decodedAt performed deedOf laterBytes laterFrom deedFrom stagesFrom instructionStages stagesNumber executeNumber executeOf onward renewed usedUp pastInstruction placesOf changed pairOf lookup decodeOf table lengthOf dataLength displacementLength offsetLength effective grown baseOf registerOf byRRR withRegister indexed jumpedIf landing displacementAt displacedBy signedOf lpdDeed jumpRegisterDeed doublewordAt wordAt bothWith channelWith
 jz-met = record {
   executes = record { turn = record { entered = refl; chosen = refl }; program = refl; there = record { lent = lent; read = read } };
   done = refl;

@@ -18,7 +18,7 @@ use Rattle.machine.specs.Outcomes.{unless, first, givenNumber}
 use Rattle.machine.specs.Registers.{byRRR, registerOf, withRegister, baseOf}
 use Rattle.machine.specs.Stages.{stagesNumber}
 use Rattle.machine.specs.States.{idleChannel, channelOf, withChannel, withLast, sound, soundChannel, isRunning, blockOf, busyIn, channelNumber, fieldsAgree, agree}
-use Rattle.machine.specs.Updates.{renewed, withControl, fieldsRenewed}
+use Rattle.machine.specs.Updates.{renewed, withControl}
 use Rattle.machine.specs.declared.Mode.the-variants.{Running}
 use Rattle.machine.specs.declared.State.{State}
 use Rattle.memory.specs.Buffers.{buffers, spaceOf, limitOf, indexOf, lentAt, touchableAt, beyondIn, byteAt, storeByte, withinLimits}
@@ -54,5 +54,5 @@ Coded =
     × (stepOf (running true) (buffers [] (0x08 ∷ [])) 0 .number ≡ 3)
 
 pub slots-met : Read × Stored × Coded
-unfolding stepOf entryNumber givenNumber first unless withinLimits limitOf spaceOf indexOf touchableAt lentAt byteAt beyondIn storeByte allPass span sound soundChannel agree fieldsAgree sameFields sameFlag split idleChannel channelOf withChannel withLast withControl isRunning blockOf channelNumber requested external endsNow transferRank rankOf secondWins ranked choiceOf settledStep busyIn instructionStep channelStep chosenStep fieldOf bitOf decodedAt performed deedOf laterBytes laterFrom deedFrom stagesFrom instructionStages stagesNumber executeNumber executeOf onward renewed usedUp pastInstruction placesOf changed pairOf lookup decodeOf table lengthOf dataLength displacementLength offsetLength effective grown baseOf registerOf byRRR withRegister indexed operandAt extended isMove workOf registerWritten registerMemoryDeed registerImmediateDeed memoryRegisterDeed memoryWorkDeed workedBack readFirst wordAt bothWith channelWith fieldsRenewed
+unfolding stepOf entryNumber givenNumber first unless withinLimits limitOf spaceOf indexOf touchableAt lentAt byteAt beyondIn storeByte allPass span sound soundChannel agree fieldsAgree sameFields sameFlag split idleChannel channelOf withChannel withLast withControl isRunning blockOf channelNumber requested external endsNow transferRank rankOf secondWins ranked choiceOf settledStep busyIn instructionStep channelStep chosenStep fieldOf bitOf decodedAt performed deedOf laterBytes laterFrom deedFrom stagesFrom instructionStages stagesNumber executeNumber executeOf onward renewed usedUp pastInstruction placesOf changed pairOf lookup decodeOf table lengthOf dataLength displacementLength offsetLength effective grown baseOf registerOf byRRR withRegister indexed operandAt extended isMove workOf registerWritten registerMemoryDeed registerImmediateDeed memoryRegisterDeed memoryWorkDeed workedBack readFirst wordAt bothWith channelWith
 slots-met = ((refl, refl), refl, (refl, refl, refl))

@@ -20,7 +20,7 @@ use Rattle.memory.specs.Buffers.{Buffers}
 use Rattle.memory.specs.Values.{pointer}
 use Rattle.execute_operands.specs.Marks.{pastInstruction}
 use Rattle.execute_operands.specs.Operands.{workOf, isMove}
-use Rattle.machine.specs.Updates.{renewed, fieldsRenewed}
+use Rattle.machine.specs.Updates.{renewed}
 use Rattle.memory.specs.Values.{onward}
 use Rattle.words.specs.Bits.{fieldOf}
 use Rattle.words.specs.Compare.{matchOf}
@@ -34,22 +34,22 @@ use Rattle.promises.proofs.TurnWitness.{started-turns}
 
 -- 1. MOVI GA with the byte 80h
 pub case-1 : Does (0x08 ∷ 0x30 ∷ 0x80 ∷ []) (λ c c′. c′ .ga ≡ pointer 0xFFF80 true)
-unfolding decodeOf lookup table pairOf fieldOf registerWritten isMove workOf withRegister extended fieldsRenewed
+unfolding decodeOf lookup table pairOf fieldOf registerWritten isMove workOf withRegister extended
 case-1 b s m lines x = let d = immediate-step b s m lines Mov 0 false (lit< tt) refl x in (d .0, ap (λ (c : Channel). c .ga) (d .1))
 
 -- 2. MOVI BC with a word
 pub case-2 : Does (0x71 ∷ 0x30 ∷ 0x34 ∷ 0x12 ∷ []) (λ c c′. c′ .bc ≡ 0x1234)
-unfolding decodeOf lookup table pairOf fieldOf registerWritten isMove workOf withRegister extended fieldsRenewed
+unfolding decodeOf lookup table pairOf fieldOf registerWritten isMove workOf withRegister extended
 case-2 b s m lines x = let d = immediate-step b s m lines Mov 3 true (lit< tt) refl x in (d .0, ap (λ (c : Channel). c .bc) (d .1))
 
 -- 3. JMP back by two
 pub case-3 : Does (0x88 ∷ 0x20 ∷ 0xFE ∷ []) (λ c c′. c .tp .address ≡ 0x100 → c′ .tp ≡ pointer 0x101 (c .tp .tag))
-unfolding decodeOf lookup table pairOf fieldOf registerWritten isMove workOf withRegister extended registerOf tagOf byRRR pastInstruction renewed onward lengthOf dataLength displacementLength fieldsRenewed
+unfolding decodeOf lookup table pairOf fieldOf registerWritten isMove workOf withRegister extended registerOf tagOf byRRR pastInstruction renewed onward lengthOf dataLength displacementLength
 case-3 b s m lines x = let d = immediate-step b s m lines Add 4 false (lit< tt) refl x in (d .0, λ e. ap (λ (c : Channel). c .tp) (d .1) ∙ rw e)
 
 -- 4. ADDI GA with the byte FFh
 pub case-4 : Does (0x08 ∷ 0x20 ∷ 0xFF ∷ []) (λ c c′. c .ga .address ≡ 0 → c′ .ga ≡ pointer 0xFFFFF (c .ga .tag))
-unfolding decodeOf lookup table pairOf fieldOf registerWritten isMove workOf withRegister extended registerOf tagOf byRRR pastInstruction renewed fieldsRenewed
+unfolding decodeOf lookup table pairOf fieldOf registerWritten isMove workOf withRegister extended registerOf tagOf byRRR pastInstruction renewed
 case-4 b s m lines x = let d = immediate-step b s m lines Add 0 false (lit< tt) refl x in (d .0, λ e. ap (λ (c : Channel). c .ga) (d .1) ∙ rw e)
 
 -- 5. a pointer in its three bytes

@@ -9,7 +9,7 @@ use Rattle.attention.specs.Blocks.{ccwOf, parameterBlock, orderOf}
 use Rattle.attention.specs.Commands.{commandCoded, isKnown, modeNumber, commandNumber, copied, obeyed, ordered}
 use Rattle.attention.specs.Effects.{started as startedBy, commanded, channelOrdered, writesOf, marked, writesMade}
 use Rattle.machine.specs.Cc.{split, sameFlag, sameFields}
-use Rattle.machine.specs.Updates.{withControl, fieldsRenewed}
+use Rattle.machine.specs.Updates.{withControl}
 use Rattle.attention.specs.Touched.{readBy, storedBy, others, orderStages}
 use Rattle.decode.specs.Lengths.{lengthOf, dataLength, displacementLength}
 use Rattle.decode_shapes.specs.Pairs.{pairOf}
@@ -69,7 +69,7 @@ both-programs tp₁ tp₂ last = record { unchained = unchained; equal = refl }
 
 -- four steps of them, each a NOP
 pub started-turns : Turns (startedBoth .state) (startedBoth .memory) (1 ∷ 2 ∷ 1 ∷ 2 ∷ [])
-unfolding both program busy withControl stepOf entryNumber givenNumber first unless withinLimits limitOf spaceOf indexOf touchableAt lentAt byteAt beyondIn allPass span sound soundChannel agree fieldsAgree sameFields sameFlag split idleChannel channelOf withChannel withLast isRunning blockOf channelNumber requested external endsNow transferRank rankOf secondWins ranked choiceOf settledStep busyIn instructionStep channelStep chosenStep fieldOf bitOf decodedAt performed deedOf laterBytes laterFrom deedFrom stagesFrom instructionStages stagesNumber executeNumber executeOf onward renewed usedUp pastInstruction nopDeed placesOf changed pairOf lookup decodeOf table lengthOf dataLength displacementLength fieldsRenewed
+unfolding both program busy withControl stepOf entryNumber givenNumber first unless withinLimits limitOf spaceOf indexOf touchableAt lentAt byteAt beyondIn allPass span sound soundChannel agree fieldsAgree sameFields sameFlag split idleChannel channelOf withChannel withLast isRunning blockOf channelNumber requested external endsNow transferRank rankOf secondWins ranked choiceOf settledStep busyIn instructionStep channelStep chosenStep fieldOf bitOf decodedAt performed deedOf laterBytes laterFrom deedFrom stagesFrom instructionStages stagesNumber executeNumber executeOf onward renewed usedUp pastInstruction nopDeed placesOf changed pairOf lookup decodeOf table lengthOf dataLength displacementLength
 started-turns =
     rw both-started
     (turn (both-programs 0x18 0x1C true) 0 refl

@@ -1,4 +1,4 @@
--- The fields of CC beside CC (§2.12): which bits each is, that no call leaves a state in which they are not those of CC, and that they stay where CC does.
+-- The fields of CC beside CC (§2.12): which bits each is, that no call leaves a state in which they are not those of CC, that a register written renews them where it is CC, and that they stay where CC does.
 use mathlib.Core.Bool.{Bool, false, not}
 use mathlib.Core.List.{List, [], _∷_}
 use mathlib.Core.Path.{_≡_}
@@ -6,7 +6,9 @@ use Prim.Native.Nat.{ℕ, _+_, _^_}
 use lib.Dec.{eqb}
 use Rattle.memory.specs.Buffers.{Buffers}
 use Rattle.machine.specs.Cc.{split, sameFields}
+use Rattle.machine.specs.Registers.{withRegister}
 use Rattle.machine.specs.States.{freshOf, resetState, channelOf, channelNumber}
+use Rattle.machine.specs.declared.Channel.{Channel}
 use Rattle.machine.specs.declared.Fields.{Fields}
 use Rattle.machine.specs.declared.State.{State}
 use Rattle.attention.specs.Attention.{attentionOf}
@@ -59,3 +61,6 @@ pub record FieldsKept : Type 0 where
   pub sameControl : (s : State) (m : Buffers) (lines : ℕ) (second : Bool) → stepOf s m lines .number ≡ 0
       → channelOf (stepOf s m lines .state) second .cc ≡ channelOf s second .cc
       → channelOf (stepOf s m lines .state) second .fields ≡ channelOf s second .fields
+  -- a register written renews them where it is CC, RRR 6, and leaves them where it is another
+  pub renews : (c : Channel) (v : ℕ) (tag : Bool) → withRegister c 6 v tag .fields ≡ split (withRegister c 6 v tag .cc)
+  pub leaves : (c : Channel) (r v : ℕ) (tag : Bool) → eqb r 6 ≡ false → withRegister c r v tag .fields ≡ c .fields

@@ -13,7 +13,6 @@ use Rattle.words.specs.Choice.{pick}
 use Rattle.memory.specs.Buffers.{Buffers, storeByte}
 use Rattle.memory.specs.Places.{Place, span}
 use Rattle.memory.specs.declared.Pointer.{Pointer}
-use Rattle.machine.specs.Updates.{fieldsRenewed}
 use Rattle.machine.specs.Stages.{stage, stagesNumber, stagesTouched}
 use Rattle.machine.specs.declared.Channel.{Channel}
 use Rattle.decode.specs.Lengths.{lengthOf}
@@ -228,11 +227,11 @@ module _ (c : Channel) (busy : ℕ) (m : Buffers) where
 
   -- by its number and its deed
   settledAs : ℕ → Deed → Buffers → Executed
-  settledAs k d o = pick (eqb k 0) (executed 0 (fieldsRenewed (c .cc) (d .channel)) (changed o (d .change))) (executed k c o)
+  settledAs k d o = pick (eqb k 0) (executed 0 (d .channel) (changed o (d .change))) (executed k c o)
 
   told-same : (b : Bool) (k : ℕ) (d : Deed) (n : Buffers)
-      → instructionAnswer (pick b (executed 0 (fieldsRenewed (c .cc) (d .channel)) (changed n (d .change))) (executed k c n))
-      ≡ instructionAnswer (pick b (executed 0 (fieldsRenewed (c .cc) (d .channel)) (changed m (d .change))) (executed k c m))
+      → instructionAnswer (pick b (executed 0 (d .channel) (changed n (d .change))) (executed k c n))
+      ≡ instructionAnswer (pick b (executed 0 (d .channel) (changed m (d .change))) (executed k c m))
   told-same true k d n = refl
   told-same false k d n = refl
 
@@ -244,7 +243,7 @@ module _ (c : Channel) (busy : ℕ) (m : Buffers) where
       rw (eq-eqb (numberOf d) 0 (pair-passed c busy m z), eq-eqb ((deedFrom d m c busy) .second) 0 (second-passed c busy m z))
 
   left-same : (n : Buffers) (b : Bool) → eqb (executeNumber m c busy) 0 ≡ b
-      → (pick b (executed 0 (fieldsRenewed (c .cc) ((deedFrom (decodedAt m (c .tp)) m c busy) .channel)) (changed n ((deedFrom (decodedAt m (c .tp)) m c busy) .change))) (executed (executeNumber m c busy) c n)) .memory
+      → (pick b (executed 0 ((deedFrom (decodedAt m (c .tp)) m c busy) .channel) (changed n ((deedFrom (decodedAt m (c .tp)) m c busy) .change))) (executed (executeNumber m c busy) c n)) .memory
       ≡ storesMade n (pick b (storedIn (decodedAt m (c .tp))) [])
   unfolding storesMade
   left-same n true e =

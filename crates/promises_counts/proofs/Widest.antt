@@ -11,7 +11,7 @@ use Rattle.machine.specs.Outcomes.{unless, first, counted, givenNumber}
 use Rattle.machine.specs.Registers.{baseOf}
 use Rattle.machine.specs.Stages.{stagesNumber, stagesTouched}
 use Rattle.machine.specs.States.{idleChannel, freshState, channelOf, withChannel, withLast, soundChannel, sound, isRunning, blockOf, busyIn, channelNumber, fieldsAgree, agree}
-use Rattle.machine.specs.Updates.{withControl, renewed, fieldsRenewed}
+use Rattle.machine.specs.Updates.{withControl, renewed}
 use Rattle.decode.specs.Lengths.{offsetLength, dataLength, displacementLength, lengthOf}
 use Rattle.decode.specs.Reading.{lookup, decodeOf, secondOf}
 use Rattle.decode.specs.Table.{table}
@@ -27,5 +27,5 @@ use Rattle.step.specs.Touched.{touchedIn, touchedByStep, stepCount}
 use Rattle.promises_counts.specs.Widest.{widestState, widestMemory, WidestCounts}
 
 pub widest-counts : WidestCounts
-unfolding widestState widestMemory fieldOf bitOf extended spaceOf limitOf indexOf lentAt touchableAt beyondIn byteAt storeByte withinLimits span allPass onward wordAt unless first givenNumber baseOf stagesNumber stagesTouched idleChannel freshState channelOf withChannel withLast soundChannel agree fieldsAgree sameFields sameFlag split sound isRunning blockOf busyIn channelNumber withControl renewed offsetLength dataLength displacementLength lengthOf lookup decodeOf secondOf table pairOf placesOf changed usedUp pastInstruction further indexed effective grown operandAt movOperandDeed movSecondDeed secondAt movMemoryDeed decodedAt performed deedOf laterBytes deedFrom laterFrom stagesFrom instructionStages executeNumber touchedByInstruction executeOf requested external endsNow transferRank rankOf secondWins ranked choiceOf settledStep instructionStep channelStep chosenStep entryNumber stepOf touchedIn touchedByStep fieldsRenewed stepCount counted
+unfolding widestState widestMemory fieldOf bitOf extended spaceOf limitOf indexOf lentAt touchableAt beyondIn byteAt storeByte withinLimits span allPass onward wordAt unless first givenNumber baseOf stagesNumber stagesTouched idleChannel freshState channelOf withChannel withLast soundChannel agree fieldsAgree sameFields sameFlag split sound isRunning blockOf busyIn channelNumber withControl renewed offsetLength dataLength displacementLength lengthOf lookup decodeOf secondOf table pairOf placesOf changed usedUp pastInstruction further indexed effective grown operandAt movOperandDeed movSecondDeed secondAt movMemoryDeed decodedAt performed deedOf laterBytes deedFrom laterFrom stagesFrom instructionStages executeNumber touchedByInstruction executeOf requested external endsNow transferRank rankOf secondWins ranked choiceOf settledStep instructionStep channelStep chosenStep entryNumber stepOf touchedIn touchedByStep stepCount counted
 widest-counts = record { done = refl; executes = refl; low = refl; high = refl; ten = refl }

@@ -9,10 +9,9 @@ use mathlib.Core.Path.{_≡_, refl, sym, ap, ap₂, _∙_}
 use native.Mathlib.Omega.{arith}
 use Rattle.memory.specs.Buffers.{Buffers, buffers}
 use Rattle.memory.specs.Places.{allTouchable}
-use Rattle.machine.proofs.FieldLaws.{same-control}
-use Rattle.machine.specs.Updates.{fieldsRenewed}
 use Rattle.words.specs.Choice.{pick}
 use Rattle.execute_operands.specs.Changes.{placesOf, changed}
+use Rattle.execute_deeds.proofs.DeedLaws.{named-written, none-written}
 use Rattle.execute_deeds.specs.declared.Effect.{Effect}
 use Rattle.execute.specs.Execute.{executed}
 use Rattle.execute.specs.Plan.{planNumber}
@@ -85,14 +84,14 @@ returns-3 c =
     let made = c .before .before .before .before .before .before .before .before .before .before .made in
     let is-made = not-false (made .result) (c .before .before .before .before .before .if2 .left) in
     let touchable = ap (λ (x : Effect). allTouchable m (placesOf (x .change))) (sym same) ∙ sym (made .ensures .0) ∙ is-made in (
-      ap₂ (executed 0) (sym (same-control (a .c .cc) (e .channel) (c .if3 .taken))) (made .ensures .1 ∙ ap (λ (x : Bool). pick x (changed m (e .change)) m) is-made)
-          ∙ ap (λ (x : Effect). executed 0 (fieldsRenewed (a .c .cc) (x .channel)) (changed m (x .change))) same
+      ap₂ (executed 0) (none-written (e .channel) (e .write) (not-true (e .write .any) (c .if3 .taken))) (made .ensures .1 ∙ ap (λ (x : Bool). pick x (changed m (e .change)) m) is-made)
+          ∙ ap (λ (x : Effect). executed 0 (x .channel) (changed m (x .change))) same
           ∙ sym (plan-done m (a .c) (a .busy) z touchable),
       plan-counted m (a .c) (a .busy) e same (plan-passed m (a .c) (a .busy) z touchable),
     )
 
-fields-renewed-requires : tie.Need-fields-renewed-requires
-fields-renewed-requires c κs = search needs
+with-requires : tie.Need-with-requires
+with-requires c κs = search needs
 
 same-length-7 : tie.Need-same-length-7
 same-length-7 c = c .before .before .before .before .before .before .before .before .before .before .before .made .kept .1 .0
@@ -111,8 +110,8 @@ returns-4 c =
     let made = c .before .before .before .before .before .before .before .before .before .before .before .made in
     let is-made = not-false (made .result) (c .before .before .before .before .before .before .if2 .left) in
     let touchable = ap (λ (x : Effect). allTouchable m (placesOf (x .change))) (sym same) ∙ sym (made .ensures .0) ∙ is-made in (
-      ap₂ (executed 0) (c .fields-renewed .ensures) (made .ensures .1 ∙ ap (λ (x : Bool). pick x (changed m (e .change)) m) is-made)
-          ∙ ap (λ (x : Effect). executed 0 (fieldsRenewed (a .c .cc) (x .channel)) (changed m (x .change))) same
+      ap₂ (executed 0) (c .with .ensures ∙ named-written (e .channel) (e .write) (not-false (e .write .any) (c .before .if3 .left))) (made .ensures .1 ∙ ap (λ (x : Bool). pick x (changed m (e .change)) m) is-made)
+          ∙ ap (λ (x : Effect). executed 0 (x .channel) (changed m (x .change))) same
           ∙ sym (plan-done m (a .c) (a .busy) z touchable),
       plan-counted m (a .c) (a .busy) e same (plan-passed m (a .c) (a .busy) z touchable),
     )
@@ -133,7 +132,7 @@ execute-spec =
     same-length-5
     same-length-6
     returns-3
-    fields-renewed-requires
+    with-requires
     same-length-7
     same-length-8
     returns-4)

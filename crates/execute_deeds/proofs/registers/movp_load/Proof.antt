@@ -7,6 +7,7 @@ use Rattle.memory.proofs.PlaceLaws.{after}
 use Rattle.execute_operands.specs.Operands.{readNumber, effective, grown}
 use Rattle.execute_deeds.specs.Deeds.{effectOf}
 use Rattle.execute_deeds.specs.RegisterForms.{movpLoadDeed}
+use Rattle.execute_deeds.specs.Writes.{writeMade}
 use Rattle.execute_deeds.proofs.registers.movp_load.Statement.{statement}
 use Rattle.execute_deeds.proofs.registers.movp_load.Tie as tie
 
@@ -19,23 +20,15 @@ stored-pointer-requires c κs = search needs
 grown-requires : tie.Need-grown-requires
 grown-requires c κs = search needs
 
-with-requires : tie.Need-with-requires
-with-requires c κs = search needs
+to-requires : tie.Need-to-requires
+to-requires c κs = search needs
 
 after-requires : tie.Need-after-requires
 after-requires c κs = search needs
 
 returns : tie.Need-returns
-unfolding movpLoadDeed effectOf first readNumber
-returns c = simp (span-length, c .after .ensures, c .before .with .ensures, c .before .before .grown .ensures, c .before .before .before .stored-pointer .ensures, c .before .before .before .before .effective .ensures)
+unfolding movpLoadDeed effectOf first readNumber writeMade
+returns c = simp (span-length, c .after .ensures, c .before .to .ensures, c .before .before .grown .ensures, c .before .before .before .stored-pointer .ensures, c .before .before .before .before .effective .ensures)
 
 pub movp-load-spec : {M : Type 1} → statement M
-movp-load-spec =
-    tie.close
-    (tie.spec
-    effective-requires
-    stored-pointer-requires
-    grown-requires
-    with-requires
-    after-requires
-    returns)
+movp-load-spec = tie.close (tie.spec effective-requires stored-pointer-requires grown-requires to-requires after-requires returns)

@@ -2,7 +2,7 @@
 -- Assumes nothing.
 use borrow.Author.Needs.{needs}
 use Rattle.memory.specs.Values.{onward}
-use Rattle.execute_deeds.specs.Control.{nopDeed}
+use Rattle.execute_deeds.proofs.DeedLaws.{work-written}
 use Rattle.execute_deeds.specs.RegisterForms.{registerImmediateDeed}
 use Rattle.execute_deeds.proofs.registers.register_immediate.Statement.{statement}
 use Rattle.execute_deeds.proofs.registers.register_immediate.Tie as tie
@@ -22,21 +22,12 @@ work-requires c κs = search needs
 write-requires : tie.Need-write-requires
 write-requires c κs = search needs
 
-only-requires : tie.Need-only-requires
-only-requires c κs = search needs
+writing-requires : tie.Need-writing-requires
+writing-requires c κs = search needs
 
 returns : tie.Need-returns
-unfolding registerImmediateDeed nopDeed
-returns c = simp (c .only .ensures, c .before .write .ensures, c .before .before .work .ensures, c .before .before .before .value .ensures, c .before .before .before .before .operand .ensures, c .before .before .before .before .before .onward .ensures)
+unfolding registerImmediateDeed
+returns c = simp (work-written, c .writing .ensures, c .before .write .ensures, c .before .before .work .ensures, c .before .before .before .value .ensures, c .before .before .before .before .operand .ensures, c .before .before .before .before .before .onward .ensures)
 
 pub register-immediate-spec : {M : Type 1} → statement M
-register-immediate-spec =
-    tie.close
-    (tie.spec
-    onward-requires
-    operand-requires
-    value-requires
-    work-requires
-    write-requires
-    only-requires
-    returns)
+register-immediate-spec = tie.close (tie.spec onward-requires operand-requires value-requires work-requires write-requires writing-requires returns)

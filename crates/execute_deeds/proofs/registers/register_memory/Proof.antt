@@ -5,6 +5,7 @@ use Rattle.memory.proofs.SpanLaws.{span-length}
 use Rattle.machine.specs.Outcomes.{first}
 use Rattle.memory.proofs.PlaceLaws.{after}
 use Rattle.execute_operands.specs.Operands.{readNumber, effective}
+use Rattle.execute_deeds.proofs.DeedLaws.{work-written}
 use Rattle.execute_deeds.specs.Deeds.{effectOf}
 use Rattle.execute_deeds.specs.RegisterForms.{registerMemoryDeed}
 use Rattle.execute_deeds.proofs.registers.register_memory.Statement.{statement}
@@ -25,29 +26,18 @@ work-requires c κs = search needs
 grown-by-size-requires : tie.Need-grown-by-size-requires
 grown-by-size-requires c κs = search needs
 
-write-requires : tie.Need-write-requires
-write-requires c κs = search needs
-
 size-requires : tie.Need-size-requires
 size-requires c κs = search needs
+
+write-requires : tie.Need-write-requires
+write-requires c κs = search needs
 
 after-requires : tie.Need-after-requires
 after-requires c κs = search needs
 
 returns : tie.Need-returns
 unfolding registerMemoryDeed effectOf first readNumber
-returns c = simp (span-length, c .after .ensures, c .before .size .ensures, c .before .before .write .ensures, c .before .before .before .grown-by-size .ensures, c .before .before .before .before .work .ensures, c .before .before .before .before .before .operand .ensures, c .before .before .before .before .before .before .value .ensures, c .before .before .before .before .before .before .before .effective .ensures)
+returns c = simp (span-length, work-written, c .after .ensures, c .before .write .ensures, c .before .before .size .ensures, c .before .before .before .grown-by-size .ensures, c .before .before .before .before .work .ensures, c .before .before .before .before .before .operand .ensures, c .before .before .before .before .before .before .value .ensures, c .before .before .before .before .before .before .before .effective .ensures)
 
 pub register-memory-spec : {M : Type 1} → statement M
-register-memory-spec =
-    tie.close
-    (tie.spec
-    effective-requires
-    value-requires
-    operand-requires
-    work-requires
-    grown-by-size-requires
-    write-requires
-    size-requires
-    after-requires
-    returns)
+register-memory-spec = tie.close (tie.spec effective-requires value-requires operand-requires work-requires grown-by-size-requires size-requires write-requires after-requires returns)

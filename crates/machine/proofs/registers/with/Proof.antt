@@ -36,9 +36,12 @@ returns-6 : tie.Need-returns-6
 unfolding withRegister
 returns-6 c = simp (c .match .keys6)
 
+split-requires : tie.Need-split-requires
+split-requires c κs = search needs
+
 returns-7 : tie.Need-returns-7
 unfolding withRegister
-returns-7 c = simp (c .match .keys7)
+returns-7 c = simp (c .split .ensures, c .before .match .keys7)
 
 -- the next number is reached where this one is not meant
 past : {i k : ℕ} → i ≤ k → (k ≡ i → ⊥) → suc i ≤ k
@@ -55,4 +58,4 @@ returns-8 c =
 pub with-spec : {M : Type 1} → statement M
 with-spec =
     tie.close
-    (tie.spec cast-w returns returns-2 returns-3 returns-4 returns-5 returns-6 returns-7 returns-8)
+    (tie.spec cast-w split-requires returns returns-2 returns-3 returns-4 returns-5 returns-6 returns-7 returns-8)
