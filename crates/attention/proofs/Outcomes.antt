@@ -23,7 +23,7 @@ use Rattle.attention.specs.Touched.{others, orderStages}
 use Rattle.attention.specs.declared.Command.{Command}
 use Rattle.attention.specs.declared.Command.the-variants.{Update, StartLocal, StartSystem, Suspend, Resume, Halt, Unknown}
 use Rattle.attention.specs.declared.Order.{Order}
-use Rattle.machine.specs.Updates.{withControl, halted}
+use Rattle.machine.specs.Updates.{withControl, holding, halted}
 
 -- what holds of a refusal's outcome and of an accepted call's holds of the settled one
 pub settled-by : (P : Outcome → Type 0) (number : ℕ) (s : State) (m : Buffers) (s′ : State) (m′ : Buffers)
@@ -37,7 +37,7 @@ settled-by P number s m s′ m′ given done = go (eqb number 0)
 
 -- a channel with the registers of another that a command can change
 abbrev pub controlledAs : Channel → Channel → Channel
-controlledAs c d = withControl c (d .tp) (d .pp) (d .psw) (d .mode) (d .armed)
+controlledAs c d = holding (withControl c (d .tp) (d .pp) (d .psw) (d .mode) (d .armed)) (d .held)
 
 -- a command changes no other register
 control-alone : (k : Command) (m : Buffers) (pb : ℕ) (c : Channel) → commanded k m pb c ≡ controlledAs c (commanded k m pb c)
@@ -95,7 +95,7 @@ module _ (s : State) (m : Buffers) (channel : ℕ) where
       attention-by (λ (r : Outcome). (r .state .cp ≡ s .cp) × (r .state .last ≡ s .last) × (r .state .board ≡ s .board)) (refl, refl, refl)
       (put-cp s (isSecond channel) (orderedChannel s m (isSecond channel)), put-last s (isSecond channel) (orderedChannel s m (isSecond channel)), put-board s (isSecond channel) (orderedChannel s m (isSecond channel)))
 
-  -- of the channel itself only TP, PP, PSW, the mode and the armed mark can change
+  -- of the channel itself only TP, PP, PSW, the mode, the armed mark and the held byte can change
   pub registers-kept : channelOf (attentionOf s m channel .state) (isSecond channel)
       ≡ controlledAs (channelOf s (isSecond channel)) (channelOf (attentionOf s m channel .state) (isSecond channel))
   unfolding orderedChannel withControl

@@ -5,7 +5,7 @@ use Rattle.words.specs.Choice.{pick}
 use Rattle.memory.specs.Buffers.{Buffers, byteAt, storeByte}
 use Rattle.memory.specs.Values.{wordAt, doublewordAt, pointer, pointerAt, storePointer}
 use Rattle.memory.specs.declared.Pointer.{Pointer}
-use Rattle.machine.specs.Updates.{withControl, stoppedPsw, halted}
+use Rattle.machine.specs.Updates.{withControl, dropped, stoppedPsw, halted}
 use Rattle.machine.specs.Psw.{withPsw}
 use Rattle.machine.specs.declared.Channel.{Channel}
 use Rattle.machine.specs.States.{busyIn}
@@ -20,19 +20,19 @@ use Rattle.attention.specs.Commands.{ordered}
 abbrev pub onlyPsw : Channel → ℕ → Channel
 onlyPsw c psw = withControl c (c .tp) (c .pp) psw (c .mode) (c .armed)
 
--- start: PP and TP are new; running, TB 1, XF 0, without the mark
+-- start: PP and TP are new; running, TB 1, XF 0, without the mark; a held byte is dropped
 unfoldable pub started : Channel → ℕ → Pointer → Channel
-started c pp tp = withControl c tp pp (withPsw (withPsw (c .psw) 2 true) 6 false) Running false
+started c pp tp = dropped (withControl c tp pp (withPsw (withPsw (c .psw) 2 true) 6 false) Running false)
 
--- suspend: TB and XF 0, the mark stays
+-- suspend: TB and XF 0, the mark stays, and so does a held byte
 unfoldable pub suspended : Channel → Channel
 suspended c = withControl c (c .tp) (c .pp) (stoppedPsw (c .psw)) Suspended (c .armed)
 
--- resume: TP and PSW as they were saved, but that TB is 1; running, the mark stays
+-- resume: TP and PSW as they were saved, but that TB is 1; running, the mark stays, and so does a held byte
 unfoldable pub resumed : Channel → Pointer → ℕ → Channel
 resumed c tp psw = withControl c tp (c .pp) (withPsw psw 2 true) Running (c .armed)
 
--- what each command makes of its channel: 001 takes TP from PB's first word, with tag 1, and 011 from its first two as a doubleword pointer, with tag 0
+-- what each command makes of its channel: 000 leaves it, a held byte too; 001 takes TP from PB's first word, with tag 1, and 011 from its first two as a doubleword pointer, with tag 0
 unfoldable pub commanded : Command → Buffers → ℕ → Channel → Channel
 commanded Update m pb c = c
 commanded StartLocal m pb c = started c pb (pointer (wordAt m false pb) true)

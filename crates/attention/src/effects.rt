@@ -4,6 +4,7 @@ use crate::Order;
 use crate::Writes;
 use crate::commands;
 use machine::Channel;
+use machine::Held;
 use machine::Mode;
 use machine::psw;
 use machine::updates;
@@ -19,7 +20,10 @@ fn started(c: Channel, pp: u32, tp: Pointer) -> Channel
     ensures { λ r. ⌜ r ≡ Effects.started c pp tp ⌝ }
 {
     let after = psw::with(psw::with(c.psw, psw::TB, true), psw::XF, false);
-    updates::with_control(c, tp, pp, after, Mode::Running, false)
+    updates::holds(
+        updates::with_control(c, tp, pp, after, Mode::Running, false),
+        Held::NoByte,
+    )
 }
 
 // The channel after suspend.

@@ -21,6 +21,7 @@ use Rattle.machine.specs.Registers.{tagOf, withRegister, moved, worked}
 use Rattle.machine.specs.States.{soundChannel, fieldsAgree}
 use Rattle.machine.specs.Updates.{withControl, renewed, stoppedPsw, halted}
 use Rattle.machine.specs.declared.Channel.{Channel}
+use Rattle.machine.specs.declared.Held.the-variants.{NoByte}
 use Rattle.machine.specs.declared.Mode.the-variants.{Idle}
 use Rattle.memory.proofs.StoreLaws.{system-touchable, read-same}
 use Rattle.memory.specs.Buffers.{Buffers, touchableAt, byteAt}
@@ -86,11 +87,12 @@ record Steady (c d : Channel) : Type 0 where
   mode : d .mode ≡ c .mode
   armed : d .armed ≡ c .armed
   psw : d .psw ≡ c .psw
+  held : d .held ≡ c .held
   sound : soundChannel c ≡ true → soundChannel d ≡ true
   agree : fieldsAgree c ≡ true → fieldsAgree d ≡ true
 
 same : (c : Channel) → Steady c c
-same c = record { pp = refl; mode = refl; armed = refl; psw = refl; sound = λ h. h; agree = λ h. h }
+same c = record { pp = refl; mode = refl; armed = refl; psw = refl; held = refl; sound = λ h. h; agree = λ h. h }
 
 then : {c d e : Channel} → Steady c d → Steady d e → Steady c e
 then p q = record {
@@ -98,6 +100,7 @@ then p q = record {
   mode = q .mode ∙ p .mode;
   armed = q .armed ∙ p .armed;
   psw = q .psw ∙ p .psw;
+  held = q .held ∙ p .held;
   sound = λ h. q .sound (p .sound h);
   agree = λ h. q .agree (p .agree h);
 }
@@ -113,6 +116,7 @@ registered c r v tag = record {
   mode = refl;
   armed = refl;
   psw = refl;
+  held = refl;
   sound = sound-by c (withRegister c r v tag) refl (pick-small (eqb r 0) v tag (c .ga)) (pick-small (eqb r 1) v tag (c .gb)) (pick-small (eqb r 2) v tag (c .gc)) (pick-small (eqb r 4) v tag (c .tp));
   agree = written-agrees c r v tag;
 }
@@ -124,6 +128,7 @@ placed c tp ix h = record {
   mode = refl;
   armed = refl;
   psw = refl;
+  held = refl;
   sound = sound-by c (renewed c tp ix (c .psw) (c .mode) (c .armed)) refl (λ s. s) (λ s. s) (λ s. s) h;
   agree = same-agrees c (renewed c tp ix (c .psw) (c .mode) (c .armed)) refl refl;
 }
@@ -161,6 +166,7 @@ record After (s : Shape) (armed : Bool) (c d : Channel) : Type 0 where
   mode : d .mode ≡ pick halts Idle (c .mode)
   mark : d .armed ≡ pick arms (not armed) false
   xf : transferring (d .psw) ≡ pick halts false (transferring (c .psw))
+  held : c .held ≡ NoByte → d .held ≡ NoByte
   sound : soundChannel c ≡ true → soundChannel d ≡ true
   agree : fieldsAgree c ≡ true → fieldsAgree d ≡ true
 
@@ -174,6 +180,7 @@ steady e p = record {
   mode = p .mode;
   mark = p .armed ∙ e;
   xf = ap transferring (p .psw);
+  held = λ h. p .held ∙ h;
   sound = p .sound;
   agree = p .agree;
 }
@@ -190,6 +197,7 @@ statused c psw e x = record {
   mode = refl;
   mark = e;
   xf = x;
+  held = λ h. h;
   sound = sound-by c (withStatus c psw) refl (λ s. s) (λ s. s) (λ s. s) (λ s. s);
   agree = same-agrees c (withStatus c psw) refl refl;
 }
@@ -218,6 +226,7 @@ armed-xfer c armed = record {
   mode = refl;
   mark = refl;
   xf = refl;
+  held = λ h. h;
   sound = sound-by c ((xferDeed c armed) .channel) refl (λ s. s) (λ s. s) (λ s. s) (λ s. s);
   agree = same-agrees c ((xferDeed c armed) .channel) refl refl;
 }
@@ -233,6 +242,7 @@ hlt-halts c busy armed = record {
   mode = refl;
   mark = refl;
   xf = bit-same (withBit (c .psw) 2 false) 6 false;
+  held = λ h. refl;
   sound = sound-by c ((hltDeed c busy) .channel) refl (λ s. s) (λ s. s) (λ s. s) (λ s. s);
   agree = same-agrees c ((hltDeed c busy) .channel) refl refl;
 }
@@ -315,6 +325,14 @@ module _ (c : Channel) (busy : ℕ) (m : Buffers) where
       by-number c busy m (λ o. fieldsAgree (o .channel) ≡ true)
       (λ n ne. h)
       (λ s e z. after-shape s .agree (advanced-agree c (lengthOf s) h))
+
+  -- a done instruction leaves nothing held
+  pub execute-drops : (executeOf c busy m) .number ≡ 0 → (executeOf c busy m) .channel .held ≡ NoByte
+  unfolding pastInstruction
+  execute-drops =
+      by-number c busy m (λ o. o .number ≡ 0 → o .channel .held ≡ NoByte)
+      (λ n no-zero z. absurd (no-zero z))
+      (λ s e z zero-number. after-shape s .held refl)
 
   -- PP never changes
   pub pp-kept : (executeOf c busy m) .channel .pp ≡ c .pp

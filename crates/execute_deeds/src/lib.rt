@@ -34,6 +34,6 @@ pub struct Effect {
     pub number: u32,
     pub reads: u32,
     pub channel: Channel,
-    pub change: Change,
     pub write: Write,
+    pub change: Change,
 }

@@ -5,15 +5,15 @@ use Rattle.words.specs.Choice.{pick}
 use Rattle.memory.specs.Values.{onward}
 use Rattle.machine.specs.declared.Channel.{Channel}
 use Rattle.machine.specs.Psw.{withPsw}
-use Rattle.machine.specs.Updates.{renewed}
+use Rattle.machine.specs.Updates.{renewed, dropped}
 
 -- PSW once a mark is used up: XF is 1
 unfoldable pub usedUp : Bool → ℕ → ℕ
 usedUp armed psw = pick armed (withPsw psw 6 true) psw
 
--- a channel as each instruction finds it, n being its bytes: TP is past it, and the mark that was there is used up
+-- a channel as each instruction finds it, n being its bytes: TP is past it, the mark that was there is used up, and a held byte is dropped (§7.14)
 unfoldable pub pastInstruction : Channel → ℕ → Channel
-pastInstruction c n = renewed c (onward (c .tp) n) (c .ix) (usedUp (c .armed) (c .psw)) (c .mode) false
+pastInstruction c n = dropped (renewed c (onward (c .tp) n) (c .ix) (usedUp (c .armed) (c .psw)) (c .mode) false)
 
 -- what XFER then makes of it: it sets the mark, unless it was itself the instruction that used one up
 unfoldable pub markSet : Channel → Bool → Channel

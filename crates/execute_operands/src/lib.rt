@@ -61,8 +61,7 @@ pub fn advanced(c: Channel, n: u32) -> Channel
     ensures { λ r. ⌜ r ≡ pastInstruction c n ⌝ }
 {
     let psw = used_up(c.armed, c.psw);
-    let mode = c.mode;
-    machine::updates::renewed(c, memory::onward(c.tp, n), c.ix, psw, mode, false)
+    machine::updates::begun(c, memory::onward(c.tp, n), psw)
 }
 
 // The channel with TP moved on by n more bytes.

@@ -1,5 +1,6 @@
 pub mod Psw
 pub mod Updates
+pub mod Holdings
 pub mod Cc
 pub mod Registers
 pub mod States

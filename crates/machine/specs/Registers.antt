@@ -38,6 +38,7 @@ withRegister c r v tag =
       mode = c .mode;
       armed = c .armed;
       fields = pick (eqb r 6) (split (v % 65536)) (c .fields);
+      held = c .held;
     }
 
 -- MOV and MOVI set the tag of a pointer

@@ -9,11 +9,12 @@ use Rattle.machine.specs.Cc.{split, sameFields}
 use Rattle.machine.specs.declared.Mode.{Mode}
 use Rattle.machine.specs.declared.Mode.the-variants.{Idle, Running, Suspended}
 use Rattle.machine.specs.declared.Channel.{Channel}
+use Rattle.machine.specs.declared.Held.the-variants.{NoByte}
 use Rattle.machine.specs.declared.State.{State}
 use Rattle.machine.specs.declared.Made.{Made}
 use Rattle.machine.specs.declared.Board.{Board}
 
--- a channel with all at 0 and idle; the fields are those of CC 0
+-- a channel with all at 0 and idle; the fields are those of CC 0, and no byte is held
 unfoldable pub idleChannel : Channel
 idleChannel =
     record {
@@ -30,6 +31,7 @@ idleChannel =
       mode = Idle;
       armed = false;
       fields = split 0;
+      held = NoByte;
     }
 
 -- what the board set up: powered up or not, SYSBUS bit 0 and SOC bit 0, the physical widths of the system and of the I/O bus, and SOC bit 1

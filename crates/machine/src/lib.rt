@@ -10,6 +10,8 @@ pub mod cc;
 pub mod registers;
 // A channel with some of its registers changed.
 pub mod updates;
+// The held byte as a number.
+pub mod holdings;
 // A fresh state, a state after reset, a sound state, and its channels.
 pub mod states;
 
@@ -35,6 +37,12 @@ pub struct Fields {
     pub matchEnd: u8,
 }
 
+// The byte that a channel holds between the two halves of a pair of transfer steps, or none.
+pub enum Held {
+    NoByte,
+    Byte(u8),
+}
+
 // The registers of a channel; beside CC stand its fields, which every operation that writes CC renews.
 pub struct Channel {
     pub ga: Pointer,
@@ -46,6 +54,7 @@ pub struct Channel {
     pub ix: u16,
     pub cc: u16,
     pub mc: u16,
+    pub held: Held,
     pub psw: u8,
     pub mode: Mode,
     pub armed: bool,

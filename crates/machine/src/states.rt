@@ -1,6 +1,7 @@
 // A fresh state, a state after reset, a sound state, and the channels of a state by their names and numbers.
 use crate::Board;
 use crate::Channel;
+use crate::Held;
 use crate::Made;
 use crate::Mode;
 use crate::State;
@@ -35,6 +36,7 @@ pub fn idle() -> Channel
         mode: Mode::Idle,
         armed: false,
         fields: cc::split(0),
+        held: Held::NoByte,
     }
 }
 

@@ -1,11 +1,13 @@
 // A channel with some of its registers changed and every other as it was.
 use crate::Channel;
+use crate::Held;
 use crate::Mode;
 use crate::psw;
 use memory::Pointer;
+ghost use mathlib.Core.Bool.{false};
 ghost use mathlib.Core.Path.{_≡_};
 ghost use Rattle.machine.specs.Updates as Updates;
-ghost use Rattle.machine.specs.Updates.{withControl, stoppedPsw};
+ghost use Rattle.machine.specs.Updates.{withControl, renewed, holding, dropped, stoppedPsw};
 
 // The channel with other TP, PP, PSW, mode and mark.
 pub fn with_control(c: Channel, tp: Pointer, pp: u32, psw: u8, mode: Mode, armed: bool) -> Channel
@@ -15,6 +17,7 @@ pub fn with_control(c: Channel, tp: Pointer, pp: u32, psw: u8, mode: Mode, armed
     let gb = c.gb;
     let gc = c.gc;
     let fields = c.fields;
+    let held = c.held;
     Channel {
         ga,
         gb,
@@ -29,16 +32,18 @@ pub fn with_control(c: Channel, tp: Pointer, pp: u32, psw: u8, mode: Mode, armed
         mode,
         armed,
         fields,
+        held,
     }
 }
 
-// The channel with TP, IX, PSW, mode and mark renewed.
-pub fn renewed(c: Channel, tp: Pointer, ix: u16, psw: u8, mode: Mode, armed: bool) -> Channel
-    ensures { λ r. ⌜ r ≡ Updates.renewed c tp ix psw mode armed ⌝ }
+// The channel as an instruction finds it: other TP and PSW, no mark, and nothing held.
+pub fn begun(c: Channel, tp: Pointer, psw: u8) -> Channel
+    ensures { λ r. ⌜ r ≡ dropped (renewed c tp (c .ix) psw (c .mode) false) ⌝ }
 {
     let ga = c.ga;
     let gb = c.gb;
     let gc = c.gc;
+    let mode = c.mode;
     let fields = c.fields;
     Channel {
         ga,
@@ -47,13 +52,42 @@ pub fn renewed(c: Channel, tp: Pointer, ix: u16, psw: u8, mode: Mode, armed: boo
         tp,
         pp: c.pp,
         bc: c.bc,
-        ix,
+        ix: c.ix,
         cc: c.cc,
         mc: c.mc,
         psw,
         mode,
-        armed,
+        armed: false,
         fields,
+        held: Held::NoByte,
+    }
+}
+
+// The channel that holds a byte, or none, and is otherwise as it was.
+pub fn holds(c: Channel, held: Held) -> Channel
+    ensures { λ r. ⌜ r ≡ holding c held ⌝ }
+{
+    let ga = c.ga;
+    let gb = c.gb;
+    let gc = c.gc;
+    let tp = c.tp;
+    let mode = c.mode;
+    let fields = c.fields;
+    Channel {
+        ga,
+        gb,
+        gc,
+        tp,
+        pp: c.pp,
+        bc: c.bc,
+        ix: c.ix,
+        cc: c.cc,
+        mc: c.mc,
+        psw: c.psw,
+        mode,
+        armed: c.armed,
+        fields,
+        held,
     }
 }
 
@@ -69,5 +103,8 @@ pub fn halted(c: Channel) -> Channel
     ensures { λ r. ⌜ r ≡ Updates.halted c ⌝ }
 {
     let tp = c.tp;
-    with_control(c, tp, c.pp, stopped_psw(c.psw), Mode::Idle, false)
+    holds(
+        with_control(c, tp, c.pp, stopped_psw(c.psw), Mode::Idle, false),
+        Held::NoByte,
+    )
 }

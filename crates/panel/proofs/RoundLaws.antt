@@ -28,6 +28,7 @@ use Rattle.step.specs.declared.turns.Choice.{Choice}
 use Rattle.step.specs.declared.turns.Choice.the-variants.{Nobody, Ends, Steps}
 use Rattle.transfer.proofs.KeptLaws.{only-these, transfer-sound, external-sound, transfer-agree, external-agree, lengths-kept}
 use Rattle.transfer.specs.Ends.{externallyEnded}
+use Rattle.transfer.specs.Parts.{isHalf}
 use Rattle.transfer.specs.Steps.{transferOf}
 use Rattle.words.proofs.ChoiceLaws.{apart, both-left, both-right}
 use Rattle.words.specs.Choice.{pick}
@@ -134,13 +135,14 @@ module _ (lines : ℕ) (b : Bool) where
         let c = channelOf s b in
         let t = transferOf c m in
         let q = entry-sound s m lines (r .0) in
-        let a = entry-agree s m lines (r .0) in (
+        let a = entry-agree s m lines (r .0) in
+        let xf = both-left (transferring (t .channel .psw)) (not (isHalf (t .channel))) (both-right (not (isHalf c)) (transferring (t .channel .psw) && not (isHalf (t .channel))) on) in (
           entry-again s (withLast (withChannel s b (t .channel)) b) m (t .memory) lines (r .0) (done-sound s b (t .channel) q (transfer-sound c m (sound-channel-of s b q)))
               (done-agree s b (t .channel) a (transfer-agree c m (agree-channel-of s b a)))
               (done-board s b (t .channel))
               (limits-kept m (t .memory) (lengths-kept c m)),
-          transfer-stays s lines b (t .channel) idle (r .1) (ap (λ (x : Channel). x .mode) (only-these c m)) (ap (λ (x : Channel). x .fields) (only-these c m)) (on ∙ sym (r .2)),
-          ap (λ (x : Channel). transferring (x .psw)) (mine-after s b (t .channel)) ∙ on,
+          transfer-stays s lines b (t .channel) idle (r .1) (ap (λ (x : Channel). x .mode) (only-these c m)) (ap (λ (x : Channel). x .fields) (only-these c m)) (xf ∙ sym (r .2)),
+          ap (λ (x : Channel). transferring (x .psw)) (mine-after s b (t .channel)) ∙ xf,
         );
     sounds = λ c m h. transfer-sound c m h;
     agrees = λ c m h. transfer-agree c m h;
@@ -160,9 +162,8 @@ module _ (lines : ℕ) (b : Bool) where
         let e = executes busy c m in
         let q = entry-sound s m lines (r .0 .0) in
         let a = entry-agree s m lines (r .0 .0) in
-        let goes = both-left (isRunning (e .channel .mode) && not (transferring (e .channel .psw))) (eqb (e .channel .cc) (c .cc)) on in
-        let running = running-is (e .channel .mode) (both-left (isRunning (e .channel .mode)) (not (transferring (e .channel .psw))) goes) in
-        let no-xf = not-true (transferring (e .channel .psw)) (both-right (isRunning (e .channel .mode)) (not (transferring (e .channel .psw))) goes) in (
+        let running = running-is (e .channel .mode) (both-left (isRunning (e .channel .mode)) (not (transferring (e .channel .psw))) on) in
+        let no-xf = not-true (transferring (e .channel .psw)) (both-right (isRunning (e .channel .mode)) (not (transferring (e .channel .psw))) on) in (
           (
             entry-again s (withLast (withChannel s b (e .channel)) b) m (e .memory) lines (r .0 .0) (done-sound s b (e .channel) q (execute-sound c busy m (sound-channel-of s b q)))
                 (done-agree s b (e .channel) a (execute-agree c busy m (agree-channel-of s b a)))
@@ -199,6 +200,9 @@ until-bounds other done limit h = go (isRunning other)
     go : (x : Bool) → (done < pick x (done + 1) limit) × (pick x (done + 1) limit ≤ limit) × (1 < pick x (done + 1) limit - done → x ≡ false)
     go true = (omega arith, omega arith, λ k. absurd (omega (arith, k)))
     go false = (h, omega arith, λ k. refl)
+
+pub until-after : (other : Mode) (done limit : ℕ) → done < limit → done < untilOf other done limit
+until-after other done limit h = until-bounds other done limit h .0
 
 pub until-later : (other : Mode) (done limit : ℕ) → done < limit → done ≤ untilOf other done limit
 until-later other done limit h = omega (arith, until-bounds other done limit h .0)

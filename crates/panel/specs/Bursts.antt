@@ -10,6 +10,7 @@ use Rattle.machine.specs.declared.Mode.{Mode}
 use Rattle.machine.specs.declared.State.{State}
 use Rattle.machine.specs.Psw.{transferring}
 use Rattle.machine.specs.States.{boardWith, channelOf, isRunning}
+use Rattle.transfer.specs.Parts.{isHalf}
 use Rattle.transfer.specs.Steps.{transferOf}
 use Rattle.execute.specs.Execute.{executeOf}
 use Rattle.step.specs.Step.{entryNumber}
@@ -47,19 +48,19 @@ burstFrom one on (suc left) c m done =
     (pick (on c (o .channel)) rest (burst 0 (done + 1) (o .channel) (o .memory)))
     (burst (o .number) done c (o .memory))
 
--- a transfer step, and whether the transfer goes on
+-- a transfer step, and whether another follows in the row; a half of a pair is a row of its own
 abbrev pub moves : Channel → Buffers → Own
 moves c m = let t = transferOf c m in own (t .number) (t .channel) (t .memory)
 
 abbrev pub transfersOn : Channel → Channel → Bool
-transfersOn c after = transferring (after .psw)
+transfersOn c after = not (isHalf c) && (transferring (after .psw) && not (isHalf after))
 
--- an instruction, and whether another follows; one that changes CC ends the row, so that the fields are those of its start
+-- an instruction, and whether another follows
 abbrev pub executes : ℕ → Channel → Buffers → Own
 executes busy c m = let e = executeOf c busy m in own (e .number) (e .channel) (e .memory)
 
 abbrev pub executesOn : Channel → Channel → Bool
-executesOn c after = isRunning (after .mode) && not (transferring (after .psw)) && eqb (after .cc) (c .cc)
+executesOn c after = isRunning (after .mode) && not (transferring (after .psw))
 
 -- where a burst stops at the latest: after one step where the other channel runs too, else at the limit
 unfoldable pub untilOf : Mode → ℕ → ℕ → ℕ

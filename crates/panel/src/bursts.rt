@@ -10,6 +10,7 @@ ghost use mathlib.Core.Bool.{true, false};
 ghost use Prim.Native.Nat.{_-_, _<_, _≤_};
 ghost use Rattle.memory.specs.Buffers.{buffers};
 ghost use Rattle.machine.specs.Psw.{transferring};
+ghost use Rattle.transfer.specs.Parts.{isHalf};
 ghost use Rattle.step.specs.Choosing.{choiceOf};
 ghost use Rattle.step.specs.Step.{entryNumber};
 ghost use Rattle.step.specs.declared.turns.Choice.the-variants.{Steps};
@@ -44,15 +45,39 @@ pub(crate) struct Round {
     pub(crate) pair: Pair,
 }
 
-// Transfer steps of a channel until its transfer ends, one is refused, or none is left.
-fn transfers(c: Channel, sys: &mut [u8], io: &mut [u8], from: u16, stop: u16) -> Burst
-    requires { ⌜ from ≤ stop ⌝ }
+// A half of a pair of transfer steps, which is a row of its own.
+fn half_row(c: Channel, sys: &mut [u8], io: &mut [u8], from: u16, stop: u16) -> Burst
+    requires { ⌜ (from < stop) × (isHalf c ≡ true) ⌝ }
     ensures { λ r. ⌜ burst (r .number) (r .steps) (r .channel) (buffers (now (sys .exit)) (now (io .exit))) ≡ burstFrom moves transfersOn (stop - from) c (buffers (now (sys .entry)) (now (io .entry))) from ⌝ }
 {
+    let t = transfer::half(c, sys, io);
+    if t.number != 0 {
+        return Burst {
+            number: t.number,
+            steps: from,
+            channel: c,
+        };
+    }
+    let channel = t.channel;
+    Burst {
+        number: 0,
+        steps: from + 1,
+        channel,
+    }
+}
+
+// Transfer steps of a channel until its transfer ends, a half of a pair is due, one is refused, or none is left.
+fn transfers(c: Channel, sys: &mut [u8], io: &mut [u8], from: u16, stop: u16) -> Burst
+    requires { ⌜ from < stop ⌝ }
+    ensures { λ r. ⌜ burst (r .number) (r .steps) (r .channel) (buffers (now (sys .exit)) (now (io .exit))) ≡ burstFrom moves transfersOn (stop - from) c (buffers (now (sys .entry)) (now (io .entry))) from ⌝ }
+{
+    if transfer::is_half(c) {
+        return half_row(c, sys, io, from, stop);
+    }
     let mut mine = c;
     let mut done = from;
     while done < stop {
-        let t = transfer::transfer(mine, sys, io);
+        let t = transfer::whole(mine, sys, io);
         if t.number != 0 {
             return Burst {
                 number: t.number,
@@ -63,7 +88,7 @@ fn transfers(c: Channel, sys: &mut [u8], io: &mut [u8], from: u16, stop: u16) ->
         let next = t.channel;
         mine = next;
         done += 1;
-        if !machine::psw::transferring(next.psw) {
+        if !machine::psw::transferring(next.psw) | transfer::is_half(next) {
             return Burst {
                 number: 0,
                 steps: done,
@@ -78,7 +103,7 @@ fn transfers(c: Channel, sys: &mut [u8], io: &mut [u8], from: u16, stop: u16) ->
     }
 }
 
-// Instructions of a channel until it stops, starts a transfer or gets another CC, one is refused, or none is left; BUSY is at `busy` of system memory.
+// Instructions of a channel until it stops or starts a transfer, one is refused, or none is left; BUSY is at `busy` of system memory.
 fn instructions(c: Channel, busy: u32, sys: &mut [u8], io: &mut [u8], from: u16, stop: u16) -> Burst
     requires { ⌜ from ≤ stop ⌝ }
     ensures { λ r. ⌜ burst (r .number) (r .steps) (r .channel) (buffers (now (sys .exit)) (now (io .exit))) ≡ burstFrom (executes busy) executesOn (stop - from) c (buffers (now (sys .entry)) (now (io .entry))) from ⌝ }
@@ -96,10 +121,9 @@ fn instructions(c: Channel, busy: u32, sys: &mut [u8], io: &mut [u8], from: u16,
         }
         let next = e.channel;
         let mode = next.mode;
-        let same = next.cc == mine.cc;
         mine = next;
         done += 1;
-        if !(machine::states::is_running(mode) & !machine::psw::transferring(next.psw) & same) {
+        if !(machine::states::is_running(mode) & !machine::psw::transferring(next.psw)) {
             return Burst {
                 number: 0,
                 steps: done,

@@ -24,11 +24,9 @@ use Rattle.machine.specs.declared.Channel.{Channel}
 use Rattle.machine.specs.declared.State.{State}
 use Rattle.memory.specs.Buffers.{Buffers}
 use Rattle.memory.specs.Places.{allPass, allTouchable}
-use Rattle.transfer.proofs.StepLaws.{chain, two-touched}
-use Rattle.transfer.specs.Reads.{dataOf}
+use Rattle.transfer.proofs.StepLaws.{number-is as moved-number, chain, two-touched}
 use Rattle.transfer.specs.Sides.{source, destination}
 use Rattle.transfer.specs.Steps.{transferred, touchedByTransfer, badMode, transferStages, transferNumber, transferOf}
-use Rattle.transfer.specs.Stores.{movedChannel, movedMemory}
 use Rattle.words.proofs.ChoiceLaws.{apart}
 use Rattle.words.specs.Choice.{pick}
 use Rattle.step.specs.Choosing.{choiceOf}
@@ -63,15 +61,6 @@ pub settled-number : (number : ℕ) (s : State) (m : Buffers) (b : Bool) (c : Ch
 unfolding settledStep
 settled-number zero s m b c m′ kind = refl
 settled-number (suc n) s m b c m′ kind = rw (eqb·suc-zero n)
-
--- a transfer step's
-moved-number : (c : Channel) (m : Buffers) → (transferOf c m) .number ≡ transferNumber c m
-unfolding transferOf
-moved-number c m = go (transferNumber c m)
-  where
-    go : (k : ℕ) → (pick (eqb k 0) (transferred 0 (movedChannel c (dataOf c m)) (movedMemory c (dataOf c m) m)) (transferred k c m)) .number ≡ k
-    go zero = refl
-    go (suc k) = rw (eqb·suc-zero k)
 
 told-bad : (c : Channel) → Told (not (badMode c)) (BadTransfer c)
 unfolding badMode source destination

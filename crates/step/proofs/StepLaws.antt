@@ -15,9 +15,8 @@ use Rattle.machine.specs.declared.Channel.{Channel}
 use Rattle.machine.specs.declared.State.{State}
 use Rattle.memory.specs.Buffers.{Buffers}
 use Rattle.memory.specs.Places.{Place}
-use Rattle.transfer.specs.Reads.{dataOf}
-use Rattle.transfer.specs.Steps.{Transfer, transferred, transferNumber, transferOf}
-use Rattle.transfer.specs.Stores.{movedChannel, movedMemory}
+use Rattle.transfer.proofs.StepLaws.{refused as transfer-refused}
+use Rattle.transfer.specs.Steps.{Transfer, transferOf}
 use Rattle.words.specs.Choice.{pick}
 use Rattle.step.specs.Step.{left, refusedAs, doneAs, settledStep}
 use Rattle.step.specs.declared.Kind.{Kind}
@@ -25,15 +24,7 @@ use Rattle.step.specs.declared.Stepped.{Stepped}
 
 -- a refused transfer step changes no byte
 pub transfer-kept : (c : Channel) (m : Buffers) → ((transferOf c m) .number ≡ 0 → ⊥) → (transferOf c m) .memory ≡ m
-unfolding transferOf
-transfer-kept c m ne = go (eqb (transferNumber c m) 0) ne
-  where
-    both : Bool → Transfer
-    both b = pick b (transferred 0 (movedChannel c (dataOf c m)) (movedMemory c (dataOf c m) m)) (transferred (transferNumber c m) c m)
-
-    go : (b : Bool) → ((both b) .number ≡ 0 → ⊥) → (both b) .memory ≡ m
-    go true ne = absurd (ne refl)
-    go false ne = refl
+transfer-kept c m ne = ap (λ (o : Transfer). o .memory) (transfer-refused c m ne)
 
 -- a refused instruction changes no byte
 pub execute-kept : (c : Channel) (busy : ℕ) (m : Buffers) → ((executeOf c busy m) .number ≡ 0 → ⊥) → (executeOf c busy m) .memory ≡ m

@@ -18,16 +18,18 @@ use Rattle.words.specs.Bits.{bitOf}
 use Rattle.words.specs.Choice.{pick}
 use Rattle.words.specs.Sums.{sum20, countDown}
 use Rattle.transfer.specs.Ends.{codeIf, larger, endedBy}
-use Rattle.machine.specs.Updates.{withTransfer}
+use Rattle.machine.specs.Updates.{withTransfer, dropped}
+use Rattle.transfer.specs.Parts.{Whole}
 use Rattle.transfer.specs.Reads.{fetched, fetchedSecond, delivered, dataOf}
 use Rattle.transfer.specs.Sides.{side, source, destination, wordSide, secondAddress, gained, twoMove}
-use Rattle.transfer.specs.Steps.{transferred, touchedByTransfer, badMode, transferOf}
+use Rattle.transfer.specs.Steps.{transferred, touchedBy, channelBy, memoryBy, badMode, transferOf}
 use Rattle.transfer.specs.Stores.{storesTwo, bytesStored, bytesMoved, bytesCounted, countAfter, endCode, movedBy, movedChannel, putOn, movedMemory, storedPlaces}
 use Rattle.transfer.specs.declared.Data.{Data}
 use Rattle.transfer.specs.declared.Side.{Side}
 use Rattle.transfer.proofs.KeptLaws.{ga-after, gb-after, ended-none}
 use Rattle.transfer.proofs.LeftoverLaws.{whole-counts}
 use Rattle.transfer.proofs.MatchLaws.{off-whole, off-stores, off-unmet}
+use Rattle.transfer.proofs.PartLaws.{unsynchronised-whole}
 use Rattle.transfer.proofs.StepLaws.{outcome-0}
 use Rattle.transfer.proofs.TouchLaws.{reads-touchable, places-touchable, touched-all}
 
@@ -48,9 +50,9 @@ stride c = pick (twoMove c) 2 1
 abbrev pub remaining : Channel → ℕ
 remaining c = countDown (c .bc) (stride c)
 
--- the channel with both pointers on by the bytes moved, and BC lowered by them
+-- the channel with both pointers on by the bytes moved, and BC lowered by them; a held byte is dropped
 unfoldable pub carried : Channel → Channel
-carried c = withTransfer c (gained true (c .ga) (stride c)) (gained true (c .gb) (stride c)) (c .tp) (remaining c) (c .psw)
+carried c = dropped (withTransfer c (gained true (c .ga) (stride c)) (gained true (c .gb) (stride c)) (c .tp) (remaining c) (c .psw))
 
 -- the memory with one byte copied from source to destination, and with the next one too
 abbrev pub copied : Channel → Buffers → Buffers
@@ -133,7 +135,7 @@ block-stride c d k = rw (block-stores c d k)
 block-moved : (c : Channel) → Block (c .fields) → movedBy c (stride c) (remaining c) ≡ carried c
 unfolding carried movedBy withTransfer
 block-moved c k =
-    ap₂ (λ (p q : Pointer). withTransfer c p q (c .tp) (remaining c) (c .psw))
+    ap₂ (λ (p q : Pointer). dropped (withTransfer c p q (c .tp) (remaining c) (c .psw)))
     (ga-after c (stride c) (remaining c) ∙ rw (k .from, k .into, pick-same))
     (gb-after c (stride c) (remaining c) ∙ rw (k .from, k .into, pick-same))
 
@@ -207,22 +209,22 @@ block-copies-two c m k h =
 
 -- ---- the step
 
--- no such transfer is refused by 5, short of SYN 11
-pub block-mode : (c : Channel) → Block (c .fields) → (c .fields .synchronised ≡ 3 → ⊥) → badMode c ≡ false
+-- no such transfer is refused by 5 where it is not synchronised
+pub block-mode : (c : Channel) → Block (c .fields) → c .fields .synchronised ≡ 0 → badMode c ≡ false
 unfolding badMode
-block-mode c k ne = rw (ne-eqb (c .fields .synchronised) 3 ne, k .plain)
+block-mode c k free = rw (free, k .plain)
 
 -- the bytes of a step of one may be touched where the two sides' may
 block-touchable : (c : Channel) (m : Buffers) → Block (c .fields) → twoMove c ≡ false
     → touchableAt m ((source c) .pointer .tag) ((source c) .pointer .address) ≡ true → touchableAt m ((destination c) .pointer .tag) ((destination c) .pointer .address) ≡ true
-    → allTouchable m (touchedByTransfer c m) ≡ true
+    → allTouchable m (touchedBy Whole c m) ≡ true
 unfolding storedPlaces
 block-touchable c m k h s d = touched-all c m ∙ rw (reads-touchable, places-touchable, block-stores c (dataOf c m) k, h, s, d, k .plain)
 
 block-touchable-two : (c : Channel) (m : Buffers) → Block (c .fields) → twoMove c ≡ true
     → touchableAt m ((source c) .pointer .tag) ((source c) .pointer .address) ≡ true → touchableAt m ((source c) .pointer .tag) ((source c) .pointer .address + 1) ≡ true
     → touchableAt m ((destination c) .pointer .tag) ((destination c) .pointer .address) ≡ true → touchableAt m ((destination c) .pointer .tag) ((destination c) .pointer .address + 1) ≡ true
-    → allTouchable m (touchedByTransfer c m) ≡ true
+    → allTouchable m (touchedBy Whole c m) ≡ true
 unfolding storedPlaces
 block-touchable-two c m k h s s′ d d′ =
     let p = (source c) .pointer in
@@ -230,16 +232,23 @@ block-touchable-two c m k h s s′ d d′ =
     touched-all c m
     ∙ rw (reads-touchable, places-touchable, block-stores c (dataOf c m) k, h, next-source c k, next-destination c k, s, d, touchable-reduced m (p .tag) (p .address + 1), s′, touchable-reduced m (q .tag) (q .address + 1), d′, k .plain)
 
+-- it is a whole step, which moves both sides on
+free-step : (c : Channel) (m m′ : Buffers) → Block (c .fields) → c .fields .synchronised ≡ 0 → allTouchable m (touchedBy Whole c m) ≡ true → movedMemory c (dataOf c m) m ≡ m′
+    → transferOf c m ≡ transferred 0 (movedChannel c (dataOf c m)) m′
+unfolding transferOf channelBy memoryBy
+free-step c m m′ k free all copies =
+    let e = unsynchronised-whole c free in
+    rw e (outcome-0 Whole c m (block-mode c k free) all ∙ ap (transferred 0 (movedChannel c (dataOf c m))) copies)
+
 -- a step of one byte, whole
-pub block-step : (c : Channel) (m : Buffers) → Block (c .fields) → (c .fields .synchronised ≡ 3 → ⊥) → twoMove c ≡ false
+pub block-step : (c : Channel) (m : Buffers) → Block (c .fields) → c .fields .synchronised ≡ 0 → twoMove c ≡ false
     → touchableAt m ((source c) .pointer .tag) ((source c) .pointer .address) ≡ true → touchableAt m ((destination c) .pointer .tag) ((destination c) .pointer .address) ≡ true
     → transferOf c m ≡ transferred 0 (movedChannel c (dataOf c m)) (copied c m)
-block-step c m k ne h s d = outcome-0 c m (block-mode c k ne) (block-touchable c m k h s d) ∙ ap (transferred 0 (movedChannel c (dataOf c m))) (block-copies c m k h)
+block-step c m k free h s d = free-step c m (copied c m) k free (block-touchable c m k h s d) (block-copies c m k h)
 
 -- a step of two bytes, whole
-pub block-step-two : (c : Channel) (m : Buffers) → Block (c .fields) → (c .fields .synchronised ≡ 3 → ⊥) → twoMove c ≡ true
+pub block-step-two : (c : Channel) (m : Buffers) → Block (c .fields) → c .fields .synchronised ≡ 0 → twoMove c ≡ true
     → touchableAt m ((source c) .pointer .tag) ((source c) .pointer .address) ≡ true → touchableAt m ((source c) .pointer .tag) ((source c) .pointer .address + 1) ≡ true
     → touchableAt m ((destination c) .pointer .tag) ((destination c) .pointer .address) ≡ true → touchableAt m ((destination c) .pointer .tag) ((destination c) .pointer .address + 1) ≡ true
     → transferOf c m ≡ transferred 0 (movedChannel c (dataOf c m)) (copiedTwo c m)
-block-step-two c m k ne h s s′ d d′ =
-    outcome-0 c m (block-mode c k ne) (block-touchable-two c m k h s s′ d d′) ∙ ap (transferred 0 (movedChannel c (dataOf c m))) (block-copies-two c m k h)
+block-step-two c m k free h s s′ d d′ = free-step c m (copiedTwo c m) k free (block-touchable-two c m k h s s′ d d′) (block-copies-two c m k h)

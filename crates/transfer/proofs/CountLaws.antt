@@ -1,4 +1,4 @@
--- How long the list of a transfer step is, by what moves, what is stored and whether it is translated.
+-- How long the list of a whole transfer step is, by what moves, what is stored and whether it is translated.
 -- Assumes nothing.
 use Prim.Native.Nat.{ℕ, suc, _+_}
 use lib.ListN.{length, length-append}
@@ -10,9 +10,10 @@ use Rattle.words.specs.Choice.{pick}
 use Rattle.memory.specs.Buffers.{Buffers}
 use Rattle.memory.specs.Places.{Place}
 use Rattle.machine.specs.declared.Channel.{Channel}
+use Rattle.transfer.specs.Parts.{Whole}
 use Rattle.transfer.specs.Reads.{entryOf, dataOf, also, readPlaces}
 use Rattle.transfer.specs.Sides.{source, destination, secondAddress, twoMove}
-use Rattle.transfer.specs.Steps.{touchedByTransfer, accesses}
+use Rattle.transfer.specs.Steps.{touchedBy, accesses}
 use Rattle.transfer.specs.Stores.{storesTwo, placesOn, storedPlaces}
 
 also-length : (on : Bool) (p : Place) (ps : List Place) → length (also on p ps) ≡ pick on 1 0 + length ps
@@ -42,8 +43,8 @@ module _ (c : Channel) (m : Buffers) where
       ap suc (also-length (storesTwo c (dataOf c m)) (record { tag = (destination c) .pointer .tag; address = secondAddress (destination c) }) [])
 
   -- the source's one or two, the destination's one or two, the translated one
-  pub touched-length : length (touchedByTransfer c m) ≡ accesses (twoMove c) (storesTwo c (dataOf c m)) (c .fields .translates)
-  unfolding touchedByTransfer
+  pub touched-length : length (touchedBy Whole c m) ≡ accesses (twoMove c) (storesTwo c (dataOf c m)) (c .fields .translates)
+  unfolding touchedBy
   touched-length =
       length-append (readPlaces c m) (storedPlaces c (dataOf c m))
       ∙ ap₂ _+_ reads-length stores-length

@@ -20,7 +20,7 @@ use Rattle.transfer.specs.declared.Setup.{Setup}
 use Rattle.transfer.proofs.TouchLaws.{reads-touchable}
 
 -- where no mode is bad, a step of two bytes does not translate
-two-plain : (c : Channel) → badMode c ≡ false → twoMove c ≡ true → c .fields .translates ≡ false
+pub two-plain : (c : Channel) → badMode c ≡ false → twoMove c ≡ true → c .fields .translates ≡ false
 unfolding badMode twoMove wordSide source destination
 two-plain c e f =
     go (eqb (c .fields .synchronised) 3) (c .fields .translates) (sourceWide (c .psw)) (destinationWide (c .psw)) (not (bitOf ((source c) .pointer .address) 0))

@@ -5,7 +5,7 @@ use borrow.Author.Tests.{eqb-false, lt-ltb, ne-eqb}
 use lib.Dec.{ltb, eqb, lit<}
 use lib.ListN.{length}
 use mathlib.Core.Bool.{Bool, true, false, not, _&&_}
-use mathlib.Core.Path.{_≡_, refl, ap, ap₂, _∙_}
+use mathlib.Core.Path.{_≡_, refl, sym, ap, ap₂, _∙_}
 use native.Mathlib.Nat.{mod-lt}
 use Rattle.machine.proofs.FieldLaws.{same-agrees}
 use Rattle.machine.specs.Psw.{transferring, withPsw}
@@ -13,22 +13,28 @@ use Rattle.machine.specs.States.{soundChannel, fieldsAgree}
 use Rattle.machine.specs.declared.Channel.{Channel}
 use Rattle.memory.proofs.StoreLaws.{store-length, read-other}
 use Rattle.memory.specs.Buffers.{Buffers, spaceOf, indexOf, lentAt, byteAt, storeByte}
-use Rattle.memory.specs.Places.{Apart}
+use Rattle.memory.proofs.SpanLaws.{apart-right}
+use Rattle.memory.specs.Places.{Apart, ApartFrom}
 use Rattle.memory.specs.Values.{pointer, onward}
 use Rattle.memory.specs.declared.Pointer.{Pointer}
 use Rattle.words.proofs.BitLaws.{bit-same, bit-other}
-use Rattle.words.proofs.ChoiceLaws.{both-left, both-right, pick-back}
+use Rattle.words.proofs.ChoiceLaws.{apart, both-left, both-right, pick-back}
 use Rattle.words.specs.Bits.{bitOf, withBit}
 use Rattle.words.specs.Choice.{pick}
 use Rattle.words.specs.Sums.{sum20}
 use Rattle.transfer.specs.Ends.{offsetOf, endedTP, endedPSW, endedBy, externallyEnded}
-use Rattle.machine.specs.Updates.{withTransfer}
-use Rattle.transfer.specs.Reads.{dataOf}
+use Rattle.machine.specs.Updates.{withTransfer, holding, dropped}
+use Rattle.machine.specs.declared.Held.{Held}
+use Rattle.machine.specs.declared.Held.the-variants.{NoByte, Byte}
+use Rattle.transfer.specs.Halves.{wordWith, pairCount, secondCode, secondStored}
+use Rattle.transfer.specs.Parts.{Part, Whole, FirstFetch, SecondFetch, FirstStore, SecondStore, partOf}
+use Rattle.transfer.specs.Reads.{fetched, fetchedSecond, dataOf, also, readPlaces}
 use Rattle.transfer.specs.Sides.{side, source, destination, secondAddress, gained, sideAfter}
-use Rattle.transfer.specs.Steps.{transferOf}
-use Rattle.transfer.specs.Stores.{storesTwo, bytesMoved, countAfter, endCode, movedBy, movedChannel, putOn, movedMemory}
+use Rattle.transfer.specs.Steps.{touchedBy, channelBy, memoryBy, touchedByTransfer, transferOf}
+use Rattle.transfer.specs.Stores.{firstMeets, storesTwo, bytesMoved, countAfter, endCode, movedBy, movedChannel, putOn, movedMemory, placesOn, storedPlaces}
 use Rattle.transfer.specs.declared.Data.{Data}
 use Rattle.transfer.specs.declared.Side.{Side}
+use Rattle.transfer.proofs.PartLaws.{second-fetch-apart, word-stored}
 use Rattle.transfer.proofs.StepLaws.{by-number}
 
 -- ---- memory
@@ -50,36 +56,86 @@ put-other s true d m u b ne₁ ne₂ =
     read-other (storeByte m (p .tag) (p .address) (d .first)) (p .tag) (secondAddress s) (d .second) u b (ne₂ refl) ∙ read-other m (p .tag) (p .address) (d .first) u b ne₁
 put-other s false d m u b ne₁ ne₂ = let p = s .pointer in read-other m (p .tag) (p .address) (d .first) u b ne₁
 
+-- no part of a move changes a length
+part-length : (k : Part) (c : Channel) (m : Buffers) (u : Bool) → length (spaceOf (memoryBy k c m) u) ≡ length (spaceOf m u)
+unfolding memoryBy movedMemory
+part-length Whole c m u = put-length (destination c) (storesTwo c (dataOf c m)) (dataOf c m) m u
+part-length FirstFetch c m u = refl
+part-length (SecondFetch byte) c m u = put-length (destination c) (storesTwo c (wordWith byte c m)) (wordWith byte c m) m u
+part-length FirstStore c m u = let p = (destination c) .pointer in store-length m (p .tag) u (p .address) (dataOf c m .first)
+part-length (SecondStore byte) c m u = store-length m ((destination c) .pointer .tag) u (secondAddress (destination c)) byte
+
 -- a step changes no length
 pub lengths-kept : (c : Channel) (m : Buffers) (u : Bool) → length (spaceOf ((transferOf c m) .memory) u) ≡ length (spaceOf m u)
-unfolding movedMemory
 lengths-kept c m u =
     by-number c m (λ o. length (spaceOf (o .memory) u) ≡ length (spaceOf m u)) (λ g. refl) (λ g. refl)
-    (λ g. put-length (destination c) (storesTwo c (dataOf c m)) (dataOf c m) m u)
+    (λ g. part-length (partOf c) c m u)
 
 -- and so takes nothing that is lent
 pub lent-kept : (c : Channel) (m : Buffers) (u : Bool) (b : ℕ) → lentAt ((transferOf c m) .memory) u b ≡ lentAt m u b
 unfolding lentAt
 lent-kept c m u b = ap (λ (n : ℕ). ltb (indexOf u b) n) (lengths-kept c m u)
 
--- every byte outside the stored places is as it was
-pub bytes-kept : (c : Channel) (m : Buffers) (u : Bool) (b : ℕ) → Apart ((destination c) .pointer .tag) ((destination c) .pointer .address) u b
-    → (storesTwo c (dataOf c m) ≡ true → Apart ((destination c) .pointer .tag) (secondAddress (destination c)) u b)
-    → byteAt ((transferOf c m) .memory) u b ≡ byteAt m u b
-unfolding movedMemory
-bytes-kept c m u b ne₁ ne₂ =
+-- a byte outside the places of a store of one or two is as it was
+placed-kept : (s : Side) (two : Bool) (d : Data) (m : Buffers) (u : Bool) (b : ℕ) → ApartFrom (placesOn s two) u b → byteAt (putOn s two d m) u b ≡ byteAt m u b
+unfolding placesOn also
+placed-kept s true d m u b h = put-other s true d m u b (h .0) (λ e. h .1 .0)
+placed-kept s false d m u b h = put-other s false d m u b (h .0) (λ e. apart (sym e))
+
+-- every byte outside the touched places is as it was
+pub bytes-kept : (c : Channel) (m : Buffers) (u : Bool) (b : ℕ) → ApartFrom (touchedByTransfer c m) u b → byteAt ((transferOf c m) .memory) u b ≡ byteAt m u b
+unfolding touchedByTransfer touchedBy memoryBy movedMemory storedPlaces
+bytes-kept c m u b h =
     by-number c m (λ o. byteAt (o .memory) u b ≡ byteAt m u b) (λ g. refl) (λ g. refl)
-    (λ g. put-other (destination c) (storesTwo c (dataOf c m)) (dataOf c m) m u b ne₁ ne₂)
+    (λ g. go (partOf c) refl h)
+  where
+    go : (k : Part) → partOf c ≡ k → ApartFrom (touchedBy k c m) u b → byteAt (memoryBy k c m) u b ≡ byteAt m u b
+    go Whole e x =
+        placed-kept (destination c) (storesTwo c (dataOf c m)) (dataOf c m) m u b
+        (apart-right (readPlaces c m) (placesOn (destination c) (storesTwo c (dataOf c m))) u b x)
+    go FirstFetch e x = refl
+    go (SecondFetch byte) e x =
+        rw (word-stored c (wordWith byte c m) (second-fetch-apart c byte e))
+        (placed-kept (destination c) true (wordWith byte c m) m u b (x .1))
+    go FirstStore e x = read-other m ((destination c) .pointer .tag) ((destination c) .pointer .address) (dataOf c m .first) u b (x .1 .1 .0)
+    go (SecondStore byte) e x = read-other m ((destination c) .pointer .tag) (secondAddress (destination c)) byte u b (x .0)
 
 -- ---- the channel
 
--- only GA, GB, TP, BC and PSW of the channel can change
+-- the channel after a move of some bytes with a new BC, ended by a code; a second half is one, and so is a first that a match ends
+abbrev after : Channel → ℕ → ℕ → ℕ → Channel
+after c by bc code = endedBy (movedBy c by bc) code
+
+-- what holds of a channel that holds a byte and is otherwise as it was, and of one that moved on, holds of a part's channel
+part-by : (P : Channel → Type 0) (c : Channel) (m : Buffers)
+    → ((byte : ℕ) → P (holding c (Byte byte)))
+    → ((by bc code : ℕ) → P (after c by bc code))
+    → (k : Part) → P (channelBy k c m)
+unfolding channelBy movedChannel secondStored
+part-by P c m held moved Whole = moved (bytesMoved c (dataOf c m)) (countAfter c (dataOf c m)) (endCode c (dataOf c m))
+part-by P c m held moved FirstFetch = held (fetched c m)
+part-by P c m held moved (SecondFetch byte) = let d = wordWith byte c m in moved (bytesMoved c d) (countAfter c d) (endCode c d)
+part-by P c m held moved FirstStore = go (firstMeets c (dataOf c m))
+  where
+    go : (b : Bool) → P (pick b (after c (bytesMoved c (dataOf c m)) (countAfter c (dataOf c m)) (endCode c (dataOf c m))) (holding c (Byte (fetchedSecond c m))))
+    go true = moved (bytesMoved c (dataOf c m)) (countAfter c (dataOf c m)) (endCode c (dataOf c m))
+    go false = held (fetchedSecond c m)
+part-by P c m held moved (SecondStore byte) = moved 2 (pairCount c) (secondCode c byte)
+
+-- what holds of the given channel, of one that holds a byte and of one that moved on holds of the one after a step
+pub step-by : (P : Channel → Type 0) (c : Channel) (m : Buffers) → P c
+    → ((byte : ℕ) → P (holding c (Byte byte)))
+    → ((by bc code : ℕ) → P (after c by bc code))
+    → P ((transferOf c m) .channel)
+step-by P c m same held moved = by-number c m (λ o. P (o .channel)) (λ g. same) (λ g. same) (λ g. part-by P c m held moved (partOf c))
+
+-- only GA, GB, TP, BC, PSW and the held byte of the channel can change
 pub only-these : (c : Channel) (m : Buffers)
     → (transferOf c m) .channel
-    ≡ withTransfer c ((transferOf c m) .channel .ga) ((transferOf c m) .channel .gb) ((transferOf c m) .channel .tp) ((transferOf c m) .channel .bc) ((transferOf c m) .channel .psw)
-unfolding movedChannel endedBy movedBy withTransfer
+    ≡ holding (withTransfer c ((transferOf c m) .channel .ga) ((transferOf c m) .channel .gb) ((transferOf c m) .channel .tp) ((transferOf c m) .channel .bc) ((transferOf c m) .channel .psw)) ((transferOf c m) .channel .held)
+unfolding endedBy movedBy withTransfer
 only-these c m =
-    by-number c m (λ o. o .channel ≡ withTransfer c (o .channel .ga) (o .channel .gb) (o .channel .tp) (o .channel .bc) (o .channel .psw)) (λ g. refl) (λ g. refl) (λ g. refl)
+    step-by (λ x. x ≡ holding (withTransfer c (x .ga) (x .gb) (x .tp) (x .bc) (x .psw)) (x .held)) c m refl (λ byte. refl) (λ by bc code. refl)
 
 -- a pointer gains as the side that it is does, whichever side that is
 gained-as : (b s d : Bool) (p q : Pointer) (by : ℕ) → pick b (gained s (pick b p q) by) (gained d (pick b q p) by) ≡ gained (pick b s d) p by
@@ -105,18 +161,12 @@ gained-tag false p n = refl
 -- no tag changes
 pub tags-kept : (c : Channel) (m : Buffers)
     → ((transferOf c m) .channel .ga .tag ≡ c .ga .tag) × ((transferOf c m) .channel .gb .tag ≡ c .gb .tag) × ((transferOf c m) .channel .tp .tag ≡ c .tp .tag)
-unfolding movedChannel endedBy movedBy withTransfer endedTP
+unfolding endedBy movedBy withTransfer endedTP
 tags-kept c m =
-    by-number c m (λ o. (o .channel .ga .tag ≡ c .ga .tag) × (o .channel .gb .tag ≡ c .gb .tag) × (o .channel .tp .tag ≡ c .tp .tag))
-    (λ g. (refl, refl, refl)) (λ g. (refl, refl, refl))
-    (λ g. (ap tag (ga-after c by bc) ∙ gained-tag _ (c .ga) by, ap tag (gb-after c by bc) ∙ gained-tag _ (c .gb) by, gained-tag _ (c .tp) _))
+    step-by (λ x. (x .ga .tag ≡ c .ga .tag) × (x .gb .tag ≡ c .gb .tag) × (x .tp .tag ≡ c .tp .tag)) c m
+    (refl, refl, refl) (λ byte. (refl, refl, refl))
+    (λ by bc code. (ap tag (ga-after c by bc) ∙ gained-tag _ (c .ga) by, ap tag (gb-after c by bc) ∙ gained-tag _ (c .gb) by, gained-tag _ (c .tp) _))
   where
-    by : ℕ
-    by = bytesMoved c (dataOf c m)
-
-    bc : ℕ
-    bc = countAfter c (dataOf c m)
-
     tag : Pointer → Bool
     tag p = p .tag
 
@@ -162,20 +212,20 @@ destination-after c d =
     (pick-back (c .fields .sourceIsGB) (sideAfter (destination c) n) (sideAfter (source c) n))
     (psw-kept (movedBy c n (countAfter c d)) (endCode c d) 0 (eqb-false 0 6 refl))
 
--- an external end leaves GA, GB and BC alone, and all that a transfer step leaves alone
-pub external-kept : (c : Channel) → externallyEnded c ≡ withTransfer c (c .ga) (c .gb) ((externallyEnded c) .tp) (c .bc) ((externallyEnded c) .psw)
+-- an external end leaves GA, GB and BC alone, and all that a transfer step leaves alone; it drops a held byte
+pub external-kept : (c : Channel) → externallyEnded c ≡ dropped (withTransfer c (c .ga) (c .gb) ((externallyEnded c) .tp) (c .bc) ((externallyEnded c) .psw))
 unfolding externallyEnded endedBy withTransfer
 external-kept c = refl
 
 -- where TX is on, TP gains its offset
 pub external-tp : (c : Channel) → (c .fields .externalEnd ≡ 0 → ⊥) → (externallyEnded c) .tp ≡ pointer (sum20 (c .tp .address) (offsetOf (c .fields .externalEnd))) (c .tp .tag)
 unfolding externallyEnded
-external-tp c ne = ended-tp c (c .fields .externalEnd) ne
+external-tp c ne = ended-tp (dropped c) (c .fields .externalEnd) ne
 
 -- and XF clears
 pub external-clears : (c : Channel) → (c .fields .externalEnd ≡ 0 → ⊥) → transferring ((externallyEnded c) .psw) ≡ false
 unfolding externallyEnded
-external-clears c ne = ended-clears c (c .fields .externalEnd) ne
+external-clears c ne = ended-clears (dropped c) (c .fields .externalEnd) ne
 
 -- ---- soundness
 
@@ -206,24 +256,26 @@ pub ended-sound : (c : Channel) (code : ℕ) → soundChannel c ≡ true → sou
 unfolding endedBy endedTP
 ended-sound c code = with-sound c (c .ga) (c .gb) (endedTP c code) (c .bc) (endedPSW c code) (λ h. h) (λ h. h) (gained-small (not (eqb code 0)) (c .tp) (offsetOf code))
 
+-- what is held plays no part in it
+held-sound : (c : Channel) (held : Held) → soundChannel c ≡ true → soundChannel (holding c held) ≡ true
+unfolding soundChannel
+held-sound c held h = h
+
 -- and so over an external end
 pub external-sound : (c : Channel) → soundChannel c ≡ true → soundChannel (externallyEnded c) ≡ true
 unfolding externallyEnded
-external-sound c = ended-sound c (c .fields .externalEnd)
+external-sound c h = ended-sound (dropped c) (c .fields .externalEnd) (held-sound c NoByte h)
 
 -- and over a transfer step
 pub transfer-sound : (c : Channel) (m : Buffers) → soundChannel c ≡ true → soundChannel ((transferOf c m) .channel) ≡ true
-unfolding movedChannel movedBy withTransfer
-transfer-sound c m h = by-number c m (λ o. soundChannel (o .channel) ≡ true) (λ g. h) (λ g. h) (λ g. ended-sound (movedBy c by bc) (endCode c (dataOf c m)) moved)
+unfolding movedBy withTransfer
+transfer-sound c m h = step-by (λ x. soundChannel x ≡ true) c m h (λ byte. held-sound c (Byte byte) h) (λ by bc code. ended-sound (movedBy c by bc) code (held-sound (sides by bc) NoByte (moved by bc)))
   where
-    by : ℕ
-    by = bytesMoved c (dataOf c m)
+    sides : ℕ → ℕ → Channel
+    sides by bc = withTransfer c ((movedBy c by bc) .ga) ((movedBy c by bc) .gb) (c .tp) bc (c .psw)
 
-    bc : ℕ
-    bc = countAfter c (dataOf c m)
-
-    moved : soundChannel (movedBy c by bc) ≡ true
-    moved =
+    moved : (by bc : ℕ) → soundChannel (sides by bc) ≡ true
+    moved by bc =
         with-sound c ((movedBy c by bc) .ga) ((movedBy c by bc) .gb) (c .tp) bc (c .psw)
         (λ s. rw (ga-after c by bc) (gained-small _ (c .ga) by s))
         (λ s. rw (gb-after c by bc) (gained-small _ (c .gb) by s))
@@ -236,5 +288,5 @@ unfolding externallyEnded endedBy withTransfer
 external-agree c = same-agrees c (externallyEnded c) refl refl
 
 pub transfer-agree : (c : Channel) (m : Buffers) → fieldsAgree c ≡ true → fieldsAgree ((transferOf c m) .channel) ≡ true
-unfolding movedChannel endedBy movedBy withTransfer
-transfer-agree c m h = by-number c m (λ o. fieldsAgree (o .channel) ≡ true) (λ g. h) (λ g. h) (λ g. same-agrees c (movedChannel c (dataOf c m)) refl refl h)
+unfolding endedBy movedBy withTransfer
+transfer-agree c m h = step-by (λ x. fieldsAgree x ≡ true) c m h (λ byte. same-agrees c (holding c (Byte byte)) refl refl h) (λ by bc code. same-agrees c (after c by bc code) refl refl h)

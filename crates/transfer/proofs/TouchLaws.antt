@@ -11,9 +11,10 @@ use Rattle.words.specs.Choice.{pick}
 use Prim.Native.Nat.{ℕ}
 use Rattle.memory.proofs.SpanLaws.{all-append}
 use Rattle.memory.proofs.StoreLaws.{store-beyond}
+use Rattle.transfer.specs.Parts.{Whole}
 use Rattle.transfer.specs.Reads.{entryOf, dataOf, also, readPlaces}
 use Rattle.transfer.specs.Sides.{source, secondAddress, twoMove}
-use Rattle.transfer.specs.Steps.{touchedByTransfer}
+use Rattle.transfer.specs.Steps.{touchedBy}
 use Rattle.transfer.specs.Stores.{placesOn, storedPlaces}
 use Rattle.transfer.specs.declared.Side.{Side}
 
@@ -40,9 +41,9 @@ pub places-touchable : (m : Buffers) (s : Side) (two : Bool) → allTouchable m 
 unfolding placesOn allPass
 places-touchable m s two = rw last-touchable
 
--- what is read and what is stored is all that is touched
-pub touched-all : (c : Channel) (m : Buffers) → allTouchable m (touchedByTransfer c m) ≡ allTouchable m (readPlaces c m) && allTouchable m (storedPlaces c (dataOf c m))
-unfolding touchedByTransfer
+-- what is read and what is stored is all that a whole step touches
+pub touched-all : (c : Channel) (m : Buffers) → allTouchable m (touchedBy Whole c m) ≡ allTouchable m (readPlaces c m) && allTouchable m (storedPlaces c (dataOf c m))
+unfolding touchedBy
 touched-all c m = all-append (touchableAt m) (readPlaces c m) (storedPlaces c (dataOf c m))
 
 -- of two stores the second may not be made

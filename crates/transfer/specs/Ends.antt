@@ -8,7 +8,7 @@ use Rattle.words.specs.Compare.{matchOf}
 use Rattle.memory.specs.declared.Pointer.{Pointer}
 use Rattle.machine.specs.declared.Channel.{Channel}
 use Rattle.machine.specs.Psw.{withPsw}
-use Rattle.machine.specs.Updates.{withTransfer}
+use Rattle.machine.specs.Updates.{withTransfer, dropped}
 use Rattle.transfer.specs.Sides.{gained}
 
 -- a byte meets TMC: one that matches, or with bit 2 set one that does not; never where the low two bits are 0 (§7.7)
@@ -39,6 +39,6 @@ endedPSW c code = pick (eqb code 0) (c .psw) (withPsw (c .psw) 6 false)
 unfoldable pub endedBy : Channel → ℕ → Channel
 endedBy c code = withTransfer c (c .ga) (c .gb) (endedTP c code) (c .bc) (endedPSW c code)
 
--- an external end: TP gains the offset of TX, XF becomes clear, and no byte moves (§5.2)
+-- an external end: TP gains the offset of TX, XF becomes clear, no byte moves, and a held byte is dropped (§5.2)
 unfoldable pub externallyEnded : Channel → Channel
-externallyEnded c = endedBy c (c .fields .externalEnd)
+externallyEnded c = endedBy (dropped c) (c .fields .externalEnd)

@@ -1,6 +1,9 @@
 pub mod Sides
+pub mod Parts
 pub mod Reads
 pub mod Fetches
 pub mod Ends
 pub mod Stores
+pub mod Halves
 pub mod Steps
+pub mod Moves

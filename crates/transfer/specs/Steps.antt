@@ -5,14 +5,18 @@ use mathlib.Core.Path.{_≡_}
 use Prim.Native.Nat.{ℕ, _+_}
 use lib.Dec.{eqb}
 use Rattle.words.specs.Choice.{pick}
-use Rattle.memory.specs.Buffers.{Buffers}
+use Rattle.memory.specs.Buffers.{Buffers, storeByte}
 use Rattle.memory.specs.Places.{Place, allTouchable}
 use Rattle.machine.specs.declared.Channel.{Channel}
 use Rattle.machine.specs.Outcomes.{unless, counted}
 use Rattle.machine.specs.Stages.{Stage, stage, stagesNumber}
-use Rattle.transfer.specs.Sides.{source, destination}
-use Rattle.transfer.specs.Reads.{dataOf, readPlaces}
-use Rattle.transfer.specs.Stores.{movedChannel, movedMemory, storedPlaces}
+use Rattle.machine.specs.Updates.{holding}
+use Rattle.machine.specs.declared.Held.the-variants.{Byte}
+use Rattle.transfer.specs.Sides.{source, destination, secondAddress}
+use Rattle.transfer.specs.Parts.{Part, Whole, FirstFetch, SecondFetch, FirstStore, SecondStore, isHalf, partOf}
+use Rattle.transfer.specs.Reads.{fetched, fetchedSecond, dataOf, readPlaces}
+use Rattle.transfer.specs.Stores.{firstMeets, movedChannel, movedMemory, placesOn, storedPlaces}
+use Rattle.transfer.specs.Halves.{firstPlace, secondPlace, wordWith, secondStored}
 
 -- the number, the channel and both memories after a transfer step
 pub record Transfer : Type 0 where
@@ -23,11 +27,35 @@ pub record Transfer : Type 0 where
 abbrev pub transferred : ℕ → Channel → Buffers → Transfer
 transferred number c m = record { number = number; channel = c; memory = m }
 
--- every byte that the step reads or stores, each access once (§7.11)
-unfoldable pub touchedByTransfer : Channel → Buffers → List Place
-touchedByTransfer c m = readPlaces c m ++ storedPlaces c (dataOf c m)
+-- every byte that a step of a part reads or stores, each access once (§7.11, §7.14)
+unfoldable pub touchedBy : Part → Channel → Buffers → List Place
+touchedBy Whole c m = readPlaces c m ++ storedPlaces c (dataOf c m)
+touchedBy FirstFetch c m = firstPlace (source c) ∷ []
+touchedBy (SecondFetch byte) c m = secondPlace (source c) ∷ placesOn (destination c) true
+touchedBy FirstStore c m = firstPlace (source c) ∷ secondPlace (source c) ∷ firstPlace (destination c) ∷ []
+touchedBy (SecondStore byte) c m = secondPlace (destination c) ∷ []
 
--- how many those are: the source's one or two, the destination's one or two, and the translated one
+-- what a step of a part makes of the channel: a first half holds a byte and changes no other register, unless a match ends it there
+unfoldable pub channelBy : Part → Channel → Buffers → Channel
+channelBy Whole c m = movedChannel c (dataOf c m)
+channelBy FirstFetch c m = holding c (Byte (fetched c m))
+channelBy (SecondFetch byte) c m = movedChannel c (wordWith byte c m)
+channelBy FirstStore c m = pick (firstMeets c (dataOf c m)) (movedChannel c (dataOf c m)) (holding c (Byte (fetchedSecond c m)))
+channelBy (SecondStore byte) c m = secondStored c byte
+
+-- what it stores: a first fetch nothing, a second fetch the word, a first store the first byte, a second store the one that was held
+unfoldable pub memoryBy : Part → Channel → Buffers → Buffers
+memoryBy Whole c m = movedMemory c (dataOf c m) m
+memoryBy FirstFetch c m = m
+memoryBy (SecondFetch byte) c m = movedMemory c (wordWith byte c m) m
+memoryBy FirstStore c m = storeByte m ((destination c) .pointer .tag) ((destination c) .pointer .address) (dataOf c m .first)
+memoryBy (SecondStore byte) c m = storeByte m ((destination c) .pointer .tag) (secondAddress (destination c)) byte
+
+-- every byte that a channel's next transfer step reads or stores
+unfoldable pub touchedByTransfer : Channel → Buffers → List Place
+touchedByTransfer c m = touchedBy (partOf c) c m
+
+-- how many those of a whole step are: the source's one or two, the destination's one or two, and the translated one
 abbrev pub accesses : Bool → Bool → Bool → ℕ
 accesses two stored translated = pick two 2 1 + pick stored 2 1 + pick translated 1 0
 
@@ -35,13 +63,51 @@ accesses two stored translated = pick two 2 1 + pick stored 2 1 + pick translate
 unfoldable pub badMode : Channel → Bool
 badMode c = eqb (c .fields .synchronised) 3 || c .fields .translates && ((source c) .wide || (destination c) .wide)
 
--- the stages of the step: the mode, for which no byte is looked at, then every byte (§7.11)
-unfoldable pub transferStages : Channel → Buffers → List Stage
-transferStages c m = stage [] (unless (not (badMode c)) 5) ∷ stage (touchedByTransfer c m) 0 ∷ []
+-- the stages of a step of a part: the mode, for which no byte is looked at, then every byte (§7.11)
+unfoldable pub stagesBy : Part → Channel → Buffers → List Stage
+stagesBy k c m = stage [] (unless (not (badMode c)) 5) ∷ stage (touchedBy k c m) 0 ∷ []
 
--- the number of the step by its stages: 5, then 2
+-- its number by its stages: 5, then 2
+unfoldable pub numberBy : Part → Channel → Buffers → ℕ
+numberBy k c m = stagesNumber m (stagesBy k c m)
+
+-- the step of a part: refused, the given channel and memories; done, what it makes of them
+unfoldable pub stepBy : Part → Channel → Buffers → Transfer
+stepBy k c m =
+    pick (eqb (numberBy k c m) 0)
+    (transferred 0 (channelBy k c m) (memoryBy k c m))
+    (transferred (numberBy k c m) c m)
+
+-- how many bytes it reads and stores; none where it is refused
+unfoldable pub countBy : Part → Channel → Buffers → ℕ
+countBy k c m = counted (stepBy k c m .number) (touchedBy k c m)
+
+-- the stages, the number and the outcome of a channel's next transfer step, and how many bytes it reads and stores
+unfoldable pub transferStages : Channel → Buffers → List Stage
+transferStages c m = stagesBy (partOf c) c m
+
 unfoldable pub transferNumber : Channel → Buffers → ℕ
-transferNumber c m = stagesNumber m (transferStages c m)
+transferNumber c m = numberBy (partOf c) c m
+
+unfoldable pub transferOf : Channel → Buffers → Transfer
+transferOf c m = stepBy (partOf c) c m
+
+unfoldable pub transferCount : Channel → Buffers → ℕ
+transferCount c m = counted (transferOf c m .number) (touchedByTransfer c m)
+
+-- the whole move in one step, whether that is what is due or not
+unfoldable pub wholeStep : Channel → Buffers → Transfer
+wholeStep c m = stepBy Whole c m
+
+unfoldable pub wholeCount : Channel → Buffers → ℕ
+wholeCount c m = countBy Whole c m
+
+-- the half that is due; where none is, nothing
+unfoldable pub halfStep : Channel → Buffers → Transfer
+halfStep c m = pick (isHalf c) (transferOf c m) (transferred 0 c m)
+
+unfoldable pub halfCount : Channel → Buffers → ℕ
+halfCount c m = pick (isHalf c) (transferCount c m) 0
 
 -- when 5 is given: a bad mode
 abbrev pub TransferGiven5 : Channel → Type 0
@@ -54,14 +120,3 @@ TransferGiven2 c m = (badMode c ≡ false) × (allTouchable m (touchedByTransfer
 -- when 0 is given: neither
 abbrev pub TransferGiven0 : Channel → Buffers → Type 0
 TransferGiven0 c m = (badMode c ≡ false) × (allTouchable m (touchedByTransfer c m) ≡ true)
-
--- the step: refused, the given channel and memories; done, what it makes of them
-unfoldable pub transferOf : Channel → Buffers → Transfer
-transferOf c m =
-    pick (eqb (transferNumber c m) 0)
-    (transferred 0 (movedChannel c (dataOf c m)) (movedMemory c (dataOf c m) m))
-    (transferred (transferNumber c m) c m)
-
--- how many bytes the step reads and stores; none where it is refused
-unfoldable pub transferCount : Channel → Buffers → ℕ
-transferCount c m = counted (transferOf c m .number) (touchedByTransfer c m)

@@ -13,7 +13,7 @@ use Rattle.transfer.specs.declared.Data.{Data}
 use Rattle.transfer.specs.Sides.{source, destination, secondAddress, sideAfter, twoMove, storedSingly}
 use Rattle.transfer.specs.Reads.{bytesFetched, also}
 use Rattle.transfer.specs.Ends.{meetsTmc, codeIf, larger, endedBy}
-use Rattle.machine.specs.Updates.{withTransfer}
+use Rattle.machine.specs.Updates.{withTransfer, dropped}
 
 -- the first byte meets TMC, whether it is stored singly or as the low byte of a word
 unfoldable pub firstMeets : Channel → Data → Bool
@@ -48,19 +48,27 @@ unfoldable pub countAfter : Channel → Data → ℕ
 countAfter c d = countDown (c .bc) (bytesCounted c d)
 
 -- the code of the end: TMC met, or the count now at 0, or TS with offset 0, the largest of those that came; 0 is no end (§7.10)
-unfoldable pub endCode : Channel → Data → ℕ
-endCode c d =
+abbrev pub endFrom : Channel → Bool → ℕ → ℕ
+endFrom c met count =
     larger
-    (larger (codeIf (matchMet c d) (c .fields .matchEnd % 4)) (codeIf (eqb (countAfter c d) 0) (c .fields .countEnd)))
+    (larger (codeIf met (c .fields .matchEnd % 4)) (codeIf (eqb count 0) (c .fields .countEnd)))
     (codeIf (c .fields .singleTransfer) 1)
 
--- the channel with its moving sides on by some bytes, and a new BC
+unfoldable pub endCode : Channel → Data → ℕ
+endCode c d = endFrom c (matchMet c d) (countAfter c d)
+
+-- the channel with its moving sides on by some bytes, and a new BC; whoever moves them on holds nothing more (§7.14)
 unfoldable pub movedBy : Channel → ℕ → ℕ → Channel
 movedBy c by bc =
-    withTransfer c
+    dropped
+    (withTransfer c
     (pick (c .fields .sourceIsGB) (sideAfter (destination c) by) (sideAfter (source c) by))
     (pick (c .fields .sourceIsGB) (sideAfter (source c) by) (sideAfter (destination c) by))
-    (c .tp) bc (c .psw)
+    (c .tp) bc (c .psw))
+
+-- that channel, BC fallen by the bytes fetched, ended by a code
+unfoldable pub landedBy : Channel → ℕ → ℕ → Channel
+landedBy c by code = endedBy (movedBy c by (countDown (c .bc) (bytesFetched c))) code
 
 -- the channel after the step
 unfoldable pub movedChannel : Channel → Data → Channel

@@ -1,11 +1,13 @@
 // One transfer step of a channel, and the external end of a transfer.
 use machine::Channel;
+use machine::Held;
 use memory::Pointer;
 ghost use mathlib.Core.Path.{_≡_};
 ghost use Rattle.memory.specs.Buffers.{buffers};
 ghost use Rattle.transfer.specs.Sides.{setupOf};
 ghost use Rattle.transfer.specs.Ends.{externallyEnded};
-ghost use Rattle.transfer.specs.Steps.{accesses, badMode, transferred, transferOf, transferCount};
+ghost use Rattle.transfer.specs.Parts.{isHalf};
+ghost use Rattle.transfer.specs.Steps.{accesses, badMode, transferred, transferOf, transferCount, wholeStep, wholeCount, halfStep, halfCount};
 
 // The two sides, and what the channel says of a step.
 mod sides;
@@ -15,6 +17,10 @@ mod reads;
 mod ends;
 // The bytes stored, and the channel after.
 mod stores;
+// The halves of a pair of steps.
+mod halves;
+// What a half comes to.
+mod moves;
 
 // One side of a transfer: its pointer, whether it moves on, and whether it is 16 bits wide.
 struct Side {
@@ -37,6 +43,16 @@ struct Data {
     second: u8,
 }
 
+// What a half comes to before its channel is written: its number, how many bytes it read and stored, by how many bytes
+// the sides go on, 0 where a byte is held instead, the code of its end, and the byte that is held.
+struct Moved {
+    number: u32,
+    count: u32,
+    by: u32,
+    code: u32,
+    byte: u8,
+}
+
 // What a transfer step answers: its number, 0 for done, how many bytes it read and stored, and the channel.
 pub struct Transferred {
     pub number: u32,
@@ -55,7 +71,7 @@ fn bad_mode(c: Channel, p: Setup) -> bool
     (f.synchronised == 3) | (f.translates & (source.wide | destination.wide))
 }
 
-// A refused step: the channel as it was.
+// A step that is refused, or none: the channel as it was.
 fn refused(c: Channel, number: u32) -> Transferred
     ensures { λ r. ⌜ r ≡ record { number = number; count = 0; channel = c } ⌝ }
 {
@@ -66,7 +82,7 @@ fn refused(c: Channel, number: u32) -> Transferred
     }
 }
 
-// How many bytes a step reads and stores, by whether two move, two are stored, and a byte is translated.
+// How many bytes a whole step reads and stores, by whether two move, two are stored, and a byte is translated.
 fn count(two: bool, stored: bool, translated: bool) -> u32
     ensures { λ r. ⌜ r ≡ accesses two stored translated ⌝ }
 {
@@ -74,10 +90,10 @@ fn count(two: bool, stored: bool, translated: bool) -> u32
     if translated { moved + 1 } else { moved }
 }
 
-// One transfer step.
-pub fn transfer(c: Channel, sys: &mut [u8], io: &mut [u8]) -> Transferred
-    ensures left { λ r. ⌜ transferred (r .number) (r .channel) (buffers (now (sys .exit)) (now (io .exit))) ≡ transferOf c (buffers (now (sys .entry)) (now (io .entry))) ⌝ }
-    ensures count { λ r. ⌜ r .count ≡ transferCount c (buffers (now (sys .entry)) (now (io .entry))) ⌝ }
+// The whole move in one step.
+pub fn whole(c: Channel, sys: &mut [u8], io: &mut [u8]) -> Transferred
+    ensures left { λ r. ⌜ transferred (r .number) (r .channel) (buffers (now (sys .exit)) (now (io .exit))) ≡ wholeStep c (buffers (now (sys .entry)) (now (io .entry))) ⌝ }
+    ensures count { λ r. ⌜ r .count ≡ wholeCount c (buffers (now (sys .entry)) (now (io .entry))) ⌝ }
 {
     let p = sides::plan(c);
     if bad_mode(c, p) {
@@ -93,19 +109,63 @@ pub fn transfer(c: Channel, sys: &mut [u8], io: &mut [u8]) -> Transferred
     if !stores::put(side, done.two, bytes, sys, io) {
         return refused(c, 2);
     }
-    let channel = done.channel;
     let f = c.fields;
     Transferred {
         number: 0,
         count: count(p.two, done.two, f.translates),
-        channel,
+        channel: stores::landed(c, p, stores::one_or_two(done.two) as u32, done.code),
     }
 }
 
-// The end that EXT brings: TP gains the offset of TX and XF clears; where TX is off nothing changes.
+// Whether a channel's next transfer step is one half of a pair.
+pub fn is_half(c: Channel) -> bool
+    ensures { λ r. ⌜ r ≡ isHalf c ⌝ }
+{
+    halves::apart(c, sides::plan(c))
+}
+
+// The half of a pair that is due; where none is, nothing.
+pub fn half(c: Channel, sys: &mut [u8], io: &mut [u8]) -> Transferred
+    ensures left { λ r. ⌜ transferred (r .number) (r .channel) (buffers (now (sys .exit)) (now (io .exit))) ≡ halfStep c (buffers (now (sys .entry)) (now (io .entry))) ⌝ }
+    ensures count { λ r. ⌜ r .count ≡ halfCount c (buffers (now (sys .entry)) (now (io .entry))) ⌝ }
+{
+    let p = sides::plan(c);
+    if !halves::apart(c, p) {
+        return refused(c, 0);
+    }
+    if bad_mode(c, p) {
+        return refused(c, 5);
+    }
+    let m = halves::due(c, p, sys, io);
+    if m.number != 0 {
+        return refused(c, m.number);
+    }
+    Transferred {
+        number: 0,
+        count: m.count,
+        channel: halves::left(c, p, m),
+    }
+}
+
+// One transfer step: a half where one is due, else the whole move.
+pub fn transfer(c: Channel, sys: &mut [u8], io: &mut [u8]) -> Transferred
+    ensures left { λ r. ⌜ transferred (r .number) (r .channel) (buffers (now (sys .exit)) (now (io .exit))) ≡ transferOf c (buffers (now (sys .entry)) (now (io .entry))) ⌝ }
+    ensures count { λ r. ⌜ r .count ≡ transferCount c (buffers (now (sys .entry)) (now (io .entry))) ⌝ }
+{
+    if is_half(c) {
+        half(c, sys, io)
+    } else {
+        whole(c, sys, io)
+    }
+}
+
+// The end that EXT brings: TP gains the offset of TX and XF clears, where TX is on; a held byte is dropped.
 pub fn external_end(c: Channel) -> Channel
     ensures { λ r. ⌜ r ≡ externallyEnded c ⌝ }
 {
     let f = c.fields;
-    ends::ended(c, f.externalEnd as u32)
+    ends::ended(
+        machine::updates::holds(c, Held::NoByte),
+        f.externalEnd as u32,
+    )
 }

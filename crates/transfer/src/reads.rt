@@ -22,7 +22,7 @@ pub(crate) struct Seen {
 }
 
 // The byte at an address, and whether a call may touch it; the space is asked for once.
-fn see(tag: bool, address: u32, sys: &[u8], io: &[u8]) -> Seen
+pub(crate) fn see(tag: bool, address: u32, sys: &[u8], io: &[u8]) -> Seen
     ensures { λ r. ⌜ r ≡ seen (buffers (now (sys .entry)) (now (io .entry))) tag address ⌝ }
 {
     if tag {

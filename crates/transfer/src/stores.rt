@@ -3,13 +3,16 @@ use crate::Data;
 use crate::Setup;
 use crate::Side;
 use machine::Channel;
+use machine::Held;
 ghost use mathlib.Core.Path.{_≡_};
 ghost use Rattle.words.specs.Choice.{pick};
 ghost use Rattle.memory.specs.Buffers.{buffers, touchableAt, storeByte};
 ghost use Rattle.memory.specs.Places.{allTouchable};
 ghost use Rattle.transfer.specs.Sides.{setupOf};
-ghost use Rattle.transfer.specs.Ends.{codeIf};
-ghost use Rattle.transfer.specs.Stores.{matchMet, storesTwo, movedBy, movedChannel, putOn, placesOn};
+ghost use Rattle.transfer.specs.Ends.{codeIf, larger};
+ghost use Rattle.transfer.specs.Stores.{matchMet, storesTwo, endCode, movedBy, landedBy, putOn, placesOn};
+ghost use Rattle.transfer.specs.Halves.{secondCode};
+ghost use lib.Dec.{eqb};
 ghost use Prim.Native.Nat.{_%_};
 
 // What the masked compare decides: whether two bytes are stored, and the code of its end.
@@ -18,10 +21,10 @@ struct Compared {
     code: u32,
 }
 
-// What a step does with the bytes: whether two are stored, and the channel after.
+// What a step does with the bytes: whether two are stored, and the code of its end.
 pub(crate) struct Done {
     pub(crate) two: bool,
-    pub(crate) channel: Channel,
+    pub(crate) code: u32,
 }
 
 // What the masked compare decides; where TMC is off no byte is looked at.
@@ -52,7 +55,7 @@ pub(crate) fn one_or_two(two: bool) -> u16
     if two { 2 } else { 1 }
 }
 
-// The channel with its moving sides on by some bytes, and a new BC.
+// The channel with its moving sides on by some bytes, and a new BC; nothing is held.
 fn moved_by(c: Channel, p: Setup, by: u32, bc: u16) -> Channel
     requires { ⌜ p ≡ setupOf c ⌝ }
     ensures { λ r. ⌜ r ≡ movedBy c by bc ⌝ }
@@ -61,37 +64,76 @@ fn moved_by(c: Channel, p: Setup, by: u32, bc: u16) -> Channel
     let d = p.destination;
     let source = crate::sides::gained(s.moves, s.pointer, by);
     let destination = crate::sides::gained(d.moves, d.pointer, by);
+    let fields = c.fields;
+    let gc = c.gc;
+    let tp = c.tp;
+    let mode = c.mode;
+    Channel {
+        ga: crate::sides::chosen(fields.sourceIsGB, destination, source),
+        gb: crate::sides::chosen(fields.sourceIsGB, source, destination),
+        gc,
+        tp,
+        pp: c.pp,
+        bc,
+        ix: c.ix,
+        cc: c.cc,
+        mc: c.mc,
+        psw: c.psw,
+        mode,
+        armed: c.armed,
+        fields,
+        held: Held::NoByte,
+    }
+}
+
+// The code of the end by what the masked compare brought, by BC after the step and by TS.
+fn end_from(c: Channel, matched: u32, bc: u16) -> u32
+    ensures { λ r. ⌜ r ≡ larger (larger matched (codeIf (eqb bc 0) (c .fields .countEnd))) (codeIf (c .fields .singleTransfer) 1) ⌝ }
+{
     let f = c.fields;
-    let mut next = c;
-    next.ga = crate::sides::chosen(f.sourceIsGB, destination, source);
-    next.gb = crate::sides::chosen(f.sourceIsGB, source, destination);
-    next.bc = bc;
-    next
+    let counted = crate::ends::code_if(bc == 0, f.countEnd as u32);
+    let single = crate::ends::code_if(f.singleTransfer, 1);
+    crate::ends::larger(crate::ends::larger(matched, counted), single)
 }
 
 // What a step does with the bytes that it read.
 pub(crate) fn finish(c: Channel, p: Setup, d: Data) -> Done
     requires { ⌜ p ≡ setupOf c ⌝ }
-    ensures { λ r. ⌜ r ≡ record { two = storesTwo c d; channel = movedChannel c d } ⌝ }
+    ensures { λ r. ⌜ r ≡ record { two = storesTwo c d; code = endCode c d } ⌝ }
 {
-    let f = c.fields;
-    let fetched = one_or_two(p.two);
-    let before = c.bc;
-    let bc = words::count_down(before, fetched);
-    let counted = crate::ends::code_if(bc == 0, f.countEnd as u32);
+    let bc = words::count_down(c.bc, one_or_two(p.two));
     let k = compare(c, p, d);
-    let stored = one_or_two(k.two);
-    let single = crate::ends::code_if(f.singleTransfer, 1);
-    let code = crate::ends::larger(crate::ends::larger(k.code, counted), single);
-    let next = moved_by(c, p, stored as u32, bc);
     Done {
         two: k.two,
-        channel: crate::ends::ended(next, code),
+        code: end_from(c, k.code, bc),
     }
 }
 
+// The code of the end of a second store, whose byte is compared by itself.
+pub(crate) fn second_code(c: Channel, byte: u8) -> u32
+    ensures { λ r. ⌜ r ≡ secondCode c byte ⌝ }
+{
+    let f = c.fields;
+    let tmc = f.matchEnd as u32;
+    let met = crate::ends::meets(tmc, c.mc, byte);
+    end_from(
+        c,
+        crate::ends::code_if(met, tmc % 4),
+        words::count_down(c.bc, 2),
+    )
+}
+
+// The channel whose moving sides go on by some bytes, BC by those fetched, and that an end of a code ends.
+pub(crate) fn landed(c: Channel, p: Setup, by: u32, code: u32) -> Channel
+    requires { ⌜ p ≡ setupOf c ⌝ }
+    ensures { λ r. ⌜ r ≡ landedBy c by code ⌝ }
+{
+    let bc = words::count_down(c.bc, one_or_two(p.two));
+    crate::ends::ended(moved_by(c, p, by, bc), code)
+}
+
 // A byte stored where a call may touch it, else nothing; and whether it may. The space is asked for once.
-fn put_one(tag: bool, address: u32, v: u8, sys: &mut [u8], io: &mut [u8]) -> bool
+pub(crate) fn put_one(tag: bool, address: u32, v: u8, sys: &mut [u8], io: &mut [u8]) -> bool
     ensures { λ r. ⌜ (r ≡ touchableAt (buffers (now (sys .entry)) (now (io .entry))) tag address) × (buffers (now (sys .exit)) (now (io .exit)) ≡ storeByte (buffers (now (sys .entry)) (now (io .entry))) tag address v) ⌝ }
 {
     if tag {

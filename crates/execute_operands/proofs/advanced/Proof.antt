@@ -13,12 +13,12 @@ used-up-requires c κs = search needs
 onward-requires : tie.Need-onward-requires
 onward-requires c κs = search needs
 
-renewed-requires : tie.Need-renewed-requires
-renewed-requires c κs = search needs
+begun-requires : tie.Need-begun-requires
+begun-requires c κs = search needs
 
 returns : tie.Need-returns
 unfolding pastInstruction
-returns c = simp (c .renewed .ensures, c .before .onward .ensures, c .before .before .used-up .ensures)
+returns c = simp (c .begun .ensures, c .before .onward .ensures, c .before .before .used-up .ensures)
 
 pub advanced-spec : {M : Type 1} → statement M
-advanced-spec = tie.close (tie.spec used-up-requires onward-requires renewed-requires returns)
+advanced-spec = tie.close (tie.spec used-up-requires onward-requires begun-requires returns)

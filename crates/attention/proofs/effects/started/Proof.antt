@@ -14,9 +14,12 @@ with-requires-2 c κs = search needs
 with-control-requires : tie.Need-with-control-requires
 with-control-requires c κs = search needs
 
+holds-requires : tie.Need-holds-requires
+holds-requires c κs = search needs
+
 returns : tie.Need-returns
 unfolding started
-returns c = simp (c .with-control .ensures, c .before .with2 .ensures, c .before .before .with .ensures)
+returns c = simp (c .holds .ensures, c .before .with-control .ensures, c .before .before .with2 .ensures, c .before .before .before .with .ensures)
 
 pub started-spec : {M : Type 1} → statement M
-started-spec = tie.close (tie.spec with-requires with-requires-2 with-control-requires returns)
+started-spec = tie.close (tie.spec with-requires with-requires-2 with-control-requires holds-requires returns)

@@ -11,9 +11,12 @@ stopped-psw-requires c κs = search needs
 with-control-requires : tie.Need-with-control-requires
 with-control-requires c κs = search needs
 
+holds-requires : tie.Need-holds-requires
+holds-requires c κs = search needs
+
 returns : tie.Need-returns
 unfolding halted
-returns c = simp (c .with-control .ensures, c .before .stopped-psw .ensures)
+returns c = simp (c .holds .ensures, c .before .with-control .ensures, c .before .before .stopped-psw .ensures)
 
 pub halted-spec : {M : Type 1} → statement M
-halted-spec = tie.close (tie.spec stopped-psw-requires with-control-requires returns)
+halted-spec = tie.close (tie.spec stopped-psw-requires with-control-requires holds-requires returns)

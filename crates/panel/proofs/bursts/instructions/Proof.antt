@@ -3,7 +3,6 @@
 use Prim.Native.Nat.{ℕ, _+_, _-_, _≤_}
 use borrow.Author.Needs.{needs}
 use borrow.Author.Tests.{not-true, not-false}
-use lib.Dec.{eqb}
 use lib.ListN.{length}
 use mathlib.Core.Bool.{Bool, not, _&&_}
 use mathlib.Core.Path.{_≡_, refl, sym, ap, ap₂, _∙_}
@@ -49,7 +48,7 @@ returns c =
     ∙ l .inv .3
 
 add-done : tie.Need-add-done Inv-loop μ-loop
-add-done c = omega (arith, c .before .before .before .before .before .before .before .before .before .before .before .before .loop-test .taken, c .before .before .before .before .before .before .before .before .before .before .before .before .before .before .before .before .fits .stop .fits)
+add-done c = omega (arith, c .before .before .before .before .before .before .before .before .before .before .loop-test .taken, c .before .before .before .before .before .before .before .before .before .before .before .before .before .before .fits .stop .fits)
 
 is-running-requires : tie.Need-is-running-requires Inv-loop μ-loop
 is-running-requires c κs = search needs
@@ -58,41 +57,41 @@ transferring-requires : tie.Need-transferring-requires Inv-loop μ-loop
 transferring-requires c κs = search needs
 
 same-length-3 : tie.Need-same-length-3 Inv-loop μ-loop
-same-length-3 c = c .before .before .before .before .before .before .before .before .before .before .before .before .execute .kept .1 .1 .0 ∙ c .before .before .before .before .before .before .before .before .before .before .before .before .before .before .before .before .loop .inv .1
+same-length-3 c = c .before .before .before .before .before .before .before .before .before .before .execute .kept .1 .1 .0 ∙ c .before .before .before .before .before .before .before .before .before .before .before .before .before .before .loop .inv .1
 
 same-length-4 : tie.Need-same-length-4 Inv-loop μ-loop
-same-length-4 c = c .before .before .before .before .before .before .before .before .before .before .before .before .execute .kept .1 .1 .1 .0 ∙ c .before .before .before .before .before .before .before .before .before .before .before .before .before .before .before .before .loop .inv .2
+same-length-4 c = c .before .before .before .before .before .before .before .before .before .before .execute .kept .1 .1 .1 .0 ∙ c .before .before .before .before .before .before .before .before .before .before .before .before .before .before .loop .inv .2
 
 returns-2 : tie.Need-returns-2 Inv-loop μ-loop
 returns-2 c =
-    let l = c .before .before .before .before .before .before .before .before .before .before .before .before .before .before .before .before .loop in
-    let a = c .before .before .before .before .before .before .before .before .before .before .before .before .before .before .before .before .before .before .before .args in
+    let l = c .before .before .before .before .before .before .before .before .before .before .before .before .before .before .loop in
+    let a = c .before .before .before .before .before .before .before .before .before .before .before .before .before .before .before .before .before .args in
     let m = buffers (l .sys) (l .io) in
-    let e = c .before .before .before .before .before .before .before .before .before .before .before .before .execute .ensures .0 in
+    let e = c .before .before .before .before .before .before .before .before .before .before .execute .ensures .0 in
     ap (λ (o : Executed). burst 0 (l .done + 1) (o .channel) (o .memory)) e
     ∙ sym
-    (burst-ends (executes (a .busy)) executesOn (l .mine) m (l .done) (a .stop - l .done) (omega (arith, c .before .before .before .before .before .before .before .before .before .before .before .before .before .before .before .loop-test .taken)) (sym (ap (λ (o : Executed). o .number) e) ∙ c .before .before .before .before .before .before .if1 .left)
-    (ap (λ (o : Executed). executesOn (l .mine) (o .channel)) (sym e) ∙ sym (ap₂ (λ (x y : Bool). x && not y && eqb (c .before .before .before .before .before .before .before .before .before .before .before .before .execute .result .channel .cc) (l .mine .cc)) (c .before .before .is-running .ensures) (c .before .transferring .ensures)) ∙ not-true _ (c .if2 .taken)))
+    (burst-ends (executes (a .busy)) executesOn (l .mine) m (l .done) (a .stop - l .done) (omega (arith, c .before .before .before .before .before .before .before .before .before .before .before .before .before .loop-test .taken)) (sym (ap (λ (o : Executed). o .number) e) ∙ c .before .before .before .before .if1 .left)
+    (ap (λ (o : Executed). executesOn (l .mine) (o .channel)) (sym e) ∙ sym (ap₂ (λ (x y : Bool). x && not y) (c .before .before .is-running .ensures) (c .before .transferring .ensures)) ∙ not-true _ (c .if2 .taken)))
     ∙ l .inv .3
 
 loop-less : tie.Need-loop-less Inv-loop μ-loop
-loop-less c = omega (arith, c .before .before .before .before .before .before .before .before .before .before .before .before .before .before .before .loop-test .taken)
+loop-less c = omega (arith, c .before .before .before .before .before .before .before .before .before .before .before .before .before .loop-test .taken)
 
 loop-again : tie.Need-loop-again Inv-loop μ-loop
 loop-again c =
-    let l = c .before .before .before .before .before .before .before .before .before .before .before .before .before .before .before .before .loop in
-    let a = c .before .before .before .before .before .before .before .before .before .before .before .before .before .before .before .before .before .before .before .args in
+    let l = c .before .before .before .before .before .before .before .before .before .before .before .before .before .before .loop in
+    let a = c .before .before .before .before .before .before .before .before .before .before .before .before .before .before .before .before .before .args in
     let m = buffers (l .sys) (l .io) in
-    let e = c .before .before .before .before .before .before .before .before .before .before .before .before .execute .ensures .0 in
+    let e = c .before .before .before .before .before .before .before .before .before .before .execute .ensures .0 in
     let left : a .stop - (l .done + 1) ≡ a .stop - l .done - 1 = omega arith in (
-      omega (arith, c .before .before .before .before .before .before .before .before .before .before .before .before .before .before .before .loop-test .taken),
-      c .before .before .before .before .before .before .before .before .before .before .before .before .execute .kept .1 .1 .0 ∙ l .inv .1,
-      c .before .before .before .before .before .before .before .before .before .before .before .before .execute .kept .1 .1 .1 .0 ∙ l .inv .2,
+      omega (arith, c .before .before .before .before .before .before .before .before .before .before .before .before .before .loop-test .taken),
+      c .before .before .before .before .before .before .before .before .before .before .execute .kept .1 .1 .0 ∙ l .inv .1,
+      c .before .before .before .before .before .before .before .before .before .before .execute .kept .1 .1 .1 .0 ∙ l .inv .2,
       ap (λ (o : Executed). burstFrom (executes (a .busy)) executesOn (a .stop - (l .done + 1)) (o .channel) (o .memory) (l .done + 1)) e
           ∙ ap (λ (n : ℕ). burstFrom (executes (a .busy)) executesOn n ((executeOf (l .mine) (a .busy) m) .channel) ((executeOf (l .mine) (a .busy) m) .memory) (l .done + 1)) left
           ∙ sym
-          (burst-goes (executes (a .busy)) executesOn (l .mine) m (l .done) (a .stop - l .done) (omega (arith, c .before .before .before .before .before .before .before .before .before .before .before .before .before .before .before .loop-test .taken)) (sym (ap (λ (o : Executed). o .number) e) ∙ c .before .before .before .before .before .before .if1 .left)
-          (ap (λ (o : Executed). executesOn (l .mine) (o .channel)) (sym e) ∙ sym (ap₂ (λ (x y : Bool). x && not y && eqb (c .before .before .before .before .before .before .before .before .before .before .before .before .execute .result .channel .cc) (l .mine .cc)) (c .before .before .is-running .ensures) (c .before .transferring .ensures)) ∙ not-false _ (c .if2 .left)))
+          (burst-goes (executes (a .busy)) executesOn (l .mine) m (l .done) (a .stop - l .done) (omega (arith, c .before .before .before .before .before .before .before .before .before .before .before .before .before .loop-test .taken)) (sym (ap (λ (o : Executed). o .number) e) ∙ c .before .before .before .before .if1 .left)
+          (ap (λ (o : Executed). executesOn (l .mine) (o .channel)) (sym e) ∙ sym (ap₂ (λ (x y : Bool). x && not y) (c .before .before .is-running .ensures) (c .before .transferring .ensures)) ∙ not-false _ (c .if2 .left)))
           ∙ l .inv .3,
     )
 

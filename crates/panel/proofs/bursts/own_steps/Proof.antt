@@ -8,7 +8,7 @@ use Rattle.machine.specs.States.{blockOf, busyIn}
 use Rattle.machine.specs.declared.State.{State}
 use Rattle.memory.specs.Buffers.{buffers}
 use Rattle.panel.specs.Bursts.{burstFrom, moves, transfersOn, executes, executesOn}
-use Rattle.panel.proofs.RoundLaws.{until-later, transfers-round, instructions-round}
+use Rattle.panel.proofs.RoundLaws.{until-after, until-later, transfers-round, instructions-round}
 use Rattle.panel.proofs.bursts.own_steps.Statement.{statement}
 use Rattle.panel.proofs.bursts.own_steps.Tie as tie
 
@@ -19,7 +19,7 @@ transferring-requires : tie.Need-transferring-requires
 transferring-requires c κs = search needs
 
 transfers-requires : tie.Need-transfers-requires
-transfers-requires c κs = rw (c .before .before .before .before .stop-at .ensures) (until-later (c .before .before .before .before .before .before .before .before .before .args .p .other .mode) (c .before .before .before .before .before .before .before .before .before .args .done) (c .before .before .before .before .before .before .before .before .before .args .limit) (c .before .before .before .before .before .before .before .before .before .pre .0))
+transfers-requires c κs = rw (c .before .before .before .before .stop-at .ensures) (until-after (c .before .before .before .before .before .before .before .before .before .args .p .other .mode) (c .before .before .before .before .before .before .before .before .before .args .done) (c .before .before .before .before .before .before .before .before .before .args .limit) (c .before .before .before .before .before .before .before .before .before .pre .0))
 
 after-requires : tie.Need-after-requires
 after-requires c κs = search needs

@@ -21,7 +21,7 @@ chosen-requires-2 c κs = search needs
 
 returns : tie.Need-returns
 unfolding movedBy withTransfer setupOf
-returns c = rw (c .chosen2 .ensures, c .before .chosen .ensures, c .before .before .before .gained2 .ensures, c .before .before .before .before .gained .ensures, c .before .before .before .before .before .before .before .pre)
+returns c = rw (c .chosen2 .ensures, c .before .chosen .ensures, c .before .before .before .before .before .gained2 .ensures, c .before .before .before .before .before .before .gained .ensures, c .before .before .before .before .before .before .before .before .before .pre)
 
 pub moved-by-spec : {M : Type 1} → statement M
 moved-by-spec =

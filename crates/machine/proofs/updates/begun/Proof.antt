@@ -1,0 +1,13 @@
+-- `machine::updates::begun` meets its contract.
+-- Assumes nothing.
+use mathlib.Core.Path.{refl}
+use Rattle.machine.specs.Updates.{renewed}
+use Rattle.machine.proofs.updates.begun.Statement.{statement}
+use Rattle.machine.proofs.updates.begun.Tie as tie
+
+returns : tie.Need-returns
+unfolding renewed
+returns c = refl
+
+pub begun-spec : {M : Type 1} → statement M
+begun-spec = tie.close (tie.spec returns)

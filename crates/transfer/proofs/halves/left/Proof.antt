@@ -1,0 +1,24 @@
+-- `transfer::halves::left` meets its contract.
+-- Assumes nothing.
+use Rattle.transfer.specs.Moves.{landed}
+use borrow.Author.Needs.{needs}
+use borrow.Author.Tests.{eq-eqb, ne-eqb}
+use Rattle.transfer.proofs.halves.left.Statement.{statement}
+use Rattle.transfer.proofs.halves.left.Tie as tie
+
+holds-requires : tie.Need-holds-requires
+holds-requires c κs = search needs
+
+landed-requires : tie.Need-landed-requires
+landed-requires c κs = search needs
+
+returns : tie.Need-returns
+unfolding landed
+returns c = rw (c .holds .ensures, eq-eqb _ _ (c .before .if1 .taken))
+
+returns-2 : tie.Need-returns-2
+unfolding landed
+returns-2 c = rw (c .landed .ensures, ne-eqb _ _ (c .before .if1 .left))
+
+pub left-spec : {M : Type 1} → statement M
+left-spec = tie.close (tie.spec holds-requires landed-requires returns returns-2)

@@ -1,0 +1,140 @@
+-- `transfer::halves::second_fetch` meets its contract.
+-- Assumes nothing.
+use Prim.Native.Nat.{ℕ}
+use Rattle.machine.specs.declared.Channel.{Channel}
+use Rattle.memory.specs.Buffers.{Buffers, buffers, touchableAt, byteAt, storeByte}
+use Rattle.memory.specs.Places.{allTouchable}
+use Rattle.transfer.proofs.HalfLaws.{beyond-left, goes-left, second-fetch-touches, second-fetch-reads, second-fetch-stores, second-fetch-goes}
+use Rattle.transfer.specs.Fetches.{seen}
+use Rattle.transfer.specs.Halves.{wordWith}
+use Rattle.transfer.specs.Moves.{movedBeyond, movedOn, leftByMove}
+use Rattle.transfer.specs.Parts.{SecondFetch, fetchesApart}
+use Rattle.transfer.specs.Reads.{also}
+use Rattle.transfer.specs.Sides.{source, destination, secondAddress, setupOf}
+use Rattle.transfer.specs.Steps.{touchedBy, memoryBy, badMode, stepBy, countBy}
+use Rattle.transfer.specs.Stores.{storesTwo, endCode, putOn, placesOn}
+use Rattle.transfer.specs.declared.Data.{Data}
+use Rattle.transfer.specs.declared.Moved.{Moved}
+use Rattle.transfer.specs.declared.Setup.{Setup}
+use Rattle.transfer.specs.declared.Side.{Side}
+use Rattle.transfer.specs.declared.reads.Seen.{Seen}
+use Rattle.transfer.specs.declared.stores.Done.{Done}
+use Rattle.words.specs.Choice.{pick}
+use borrow.Author.Needs.{needs}
+use borrow.Author.Tests.{not-true, not-false}
+use denote.Ref.{now}
+use mathlib.Core.Bool.{Bool, true, false, _&&_}
+use mathlib.Core.Path.{_≡_, refl, sym, ap, _∙_}
+use Rattle.transfer.proofs.halves.second_fetch.Statement.{statement}
+use Rattle.transfer.proofs.halves.second_fetch.Tie as tie
+
+-- what the step has seen is the source's second byte, and what it puts is the word that this completes
+module _ (c : Channel) (m : Buffers) (p : Setup) (byte next : ℕ) (s : Seen) (ep : p ≡ setupOf c) (good : badMode c ≡ false) (h : fetchesApart c ≡ true)
+    (en : next ≡ secondAddress (p .source)) (es : s ≡ seen m (p .source .pointer .tag) next) where
+  there : s ≡ seen m ((source c) .pointer .tag) (secondAddress (source c))
+  unfolding setupOf
+  there = es ∙ ap (λ (n : ℕ). seen m (p .source .pointer .tag) n) en ∙ ap (λ (x : Setup). seen m (x .source .pointer .tag) (secondAddress (x .source))) ep
+
+  lost : s .touchable ≡ false → (r : Moved) → r ≡ movedBeyond → (leftByMove c r m ≡ stepBy (SecondFetch byte) c m) × (r .count ≡ countBy (SecondFetch byte) c m)
+  lost t r e = rw e (beyond-left (SecondFetch byte) c m good (second-fetch-touches c m byte ∙ rw (sym (ap (λ (x : Seen). x .touchable) there) ∙ t)))
+
+  read : record { first = byte; second = s .byte } ≡ wordWith byte c m
+  read = ap (λ (x : Seen). record { first = byte; second = x .byte }) there ∙ sym (second-fetch-reads c m byte h)
+
+  module _ (t : s .touchable ≡ true) (b : Bool) (m′ : Buffers) (eb : b ≡ allTouchable m (placesOn (p .destination) true))
+      (em : m′ ≡ pick b (putOn (p .destination) true (record { first = byte; second = s .byte }) m) m) where
+    touches : allTouchable m (touchedBy (SecondFetch byte) c m) ≡ b
+    unfolding setupOf
+    touches =
+        second-fetch-touches c m byte
+        ∙ rw (sym (ap (λ (x : Seen). x .touchable) there) ∙ t) (sym (eb ∙ ap (λ (x : Setup). allTouchable m (placesOn (x .destination) true)) ep))
+
+    unplaced : b ≡ false → (r : Moved) → r ≡ movedBeyond → (leftByMove c r m′ ≡ stepBy (SecondFetch byte) c m) × (r .count ≡ countBy (SecondFetch byte) c m)
+    unplaced f r e = rw (e, em, f) (beyond-left (SecondFetch byte) c m good (touches ∙ f))
+
+    puts : b ≡ true → m′ ≡ putOn (destination c) true (wordWith byte c m) m
+    unfolding setupOf
+    puts f = em ∙ rw f (ap (λ (x : Setup). putOn (x .destination) true (record { first = byte; second = s .byte }) m) ep ∙ ap (λ (d : Data). putOn (destination c) true d m) read)
+
+    gone : b ≡ true → (r : Moved) (done : Done) → r ≡ movedOn 3 2 (done .code)
+        → done ≡ record { two = storesTwo c (record { first = byte; second = s .byte }); code = endCode c (record { first = byte; second = s .byte }) }
+        → (leftByMove c r m′ ≡ stepBy (SecondFetch byte) c m) × (r .count ≡ countBy (SecondFetch byte) c m)
+    unfolding touchedBy placesOn also
+    gone f r done e k =
+        rw (e, ap (λ (x : Done). x .code) k ∙ ap (λ (d : Data). endCode c d) read)
+        (goes-left (SecondFetch byte) c m good (touches ∙ f) m′ (second-fetch-stores c m byte h ∙ sym (puts f)) 3 refl 1 (endCode c (wordWith byte c m)) (second-fetch-goes c m byte h))
+
+second-requires : tie.Need-second-requires
+second-requires c κs = search needs
+
+see-requires : tie.Need-see-requires
+see-requires c κs = search needs
+
+beyond-requires : tie.Need-beyond-requires
+beyond-requires c κs = search needs
+
+same-length : tie.Need-same-length
+same-length c = search needs
+
+same-length-2 : tie.Need-same-length-2
+same-length-2 c = search needs
+
+returns : tie.Need-returns
+returns c = let a = c .before .before .before .before .before .before .before .before .before .before .before .args in
+    let m = buffers (now (a .sys)) (now (a .io)) in
+    lost (a .c) m (a .p) (a .byte) (c .before .before .before .before .before .before .second .result) (c .before .before .before .see .result) (c .before .before .before .before .before .before .before .before .before .before .before .pre .0) (c .before .before .before .before .before .before .before .before .before .before .before .pre .1) (c .before .before .before .before .before .before .before .before .before .before .before .pre .2) (c .before .before .before .before .before .before .second .ensures) (c .before .before .before .see .ensures) (not-true _ (c .before .if1 .taken)) (c .beyond .result) (c .beyond .ensures)
+
+put-requires : tie.Need-put-requires
+put-requires c κs = search needs
+
+beyond-requires-2 : tie.Need-beyond-requires-2
+beyond-requires-2 c κs = search needs
+
+same-length-3 : tie.Need-same-length-3
+same-length-3 c = search needs
+
+same-length-4 : tie.Need-same-length-4
+same-length-4 c = search needs
+
+returns-2 : tie.Need-returns-2
+returns-2 c = let a = c .before .before .before .before .before .before .before .before .before .before .before .before .before .before .before .before .before .before .before .before .args in
+    let m = buffers (now (a .sys)) (now (a .io)) in
+    unplaced (a .c) m (a .p) (a .byte) (c .before .before .before .before .before .before .before .before .before .before .before .before .before .before .before .second .result) (c .before .before .before .before .before .before .before .before .before .before .before .before .see .result) (c .before .before .before .before .before .before .before .before .before .before .before .before .before .before .before .before .before .before .before .before .pre .0) (c .before .before .before .before .before .before .before .before .before .before .before .before .before .before .before .before .before .before .before .before .pre .1) (c .before .before .before .before .before .before .before .before .before .before .before .before .before .before .before .before .before .before .before .before .pre .2) (c .before .before .before .before .before .before .before .before .before .before .before .before .before .before .before .second .ensures) (c .before .before .before .before .before .before .before .before .before .before .before .before .see .ensures) (not-false _ (c .before .before .before .before .before .before .before .before .before .before .if1 .left)) (c .before .before .before .before .before .before .put .result) _ (c .before .before .before .before .before .before .put .ensures .0) (c .before .before .before .before .before .before .put .ensures .1) (not-true _ (c .before .if2 .taken)) (c .beyond2 .result) (c .beyond2 .ensures)
+
+finish-requires : tie.Need-finish-requires
+finish-requires c κs = search needs
+
+goes-requires : tie.Need-goes-requires
+goes-requires c κs = search needs
+
+same-length-5 : tie.Need-same-length-5
+same-length-5 c = search needs
+
+same-length-6 : tie.Need-same-length-6
+same-length-6 c = search needs
+
+returns-3 : tie.Need-returns-3
+returns-3 c = let a = c .before .before .before .before .before .before .before .before .before .before .before .before .before .before .before .before .before .before .before .before .before .args in
+    let m = buffers (now (a .sys)) (now (a .io)) in
+    gone (a .c) m (a .p) (a .byte) (c .before .before .before .before .before .before .before .before .before .before .before .before .before .before .before .before .second .result) (c .before .before .before .before .before .before .before .before .before .before .before .before .before .see .result) (c .before .before .before .before .before .before .before .before .before .before .before .before .before .before .before .before .before .before .before .before .before .pre .0) (c .before .before .before .before .before .before .before .before .before .before .before .before .before .before .before .before .before .before .before .before .before .pre .1) (c .before .before .before .before .before .before .before .before .before .before .before .before .before .before .before .before .before .before .before .before .before .pre .2) (c .before .before .before .before .before .before .before .before .before .before .before .before .before .before .before .before .second .ensures) (c .before .before .before .before .before .before .before .before .before .before .before .before .before .see .ensures) (not-false _ (c .before .before .before .before .before .before .before .before .before .before .before .if1 .left)) (c .before .before .before .before .before .before .before .put .result) _ (c .before .before .before .before .before .before .before .put .ensures .0) (c .before .before .before .before .before .before .before .put .ensures .1) (not-false _ (c .before .before .if2 .left)) (c .goes .result) (c .before .finish .result) (c .goes .ensures) (c .before .finish .ensures)
+
+pub second-fetch-spec : {M : Type 1} → statement M
+second-fetch-spec =
+    tie.close
+    (tie.spec
+    second-requires
+    see-requires
+    beyond-requires
+    same-length
+    same-length-2
+    returns
+    put-requires
+    beyond-requires-2
+    same-length-3
+    same-length-4
+    returns-2
+    finish-requires
+    goes-requires
+    same-length-5
+    same-length-6
+    returns-3)
