@@ -31,6 +31,7 @@ with c fields =
       mode = c .mode;
       armed = c .armed;
       fields = fields;
+      held = c .held;
     }
 
 -- the channel with its CC taken apart

@@ -11,10 +11,11 @@ use Rattle.execute.specs.Execute.{executeOf}
 use Rattle.machine.proofs.ChannelLaws.{put-same, put-other, last-channel}
 use Rattle.machine.specs.Outcomes.{outcome, unless, first, settled}
 use Rattle.machine.specs.Psw.{transferring, priority}
-use Rattle.machine.specs.States.{channelOf, withChannel, blockOf, busyIn, isChannel, isSecond, channelNumber}
+use Rattle.machine.specs.States.{channelOf, withChannel, withLast, blockOf, busyIn, isChannel, isSecond, channelNumber}
 use Rattle.machine.specs.declared.Channel.{Channel}
 use Rattle.machine.specs.declared.State.{State}
 use Rattle.memory.specs.Buffers.{Buffers}
+use Rattle.step.proofs.OutcomeLaws.{by-step}
 use Rattle.step.specs.Choosing.{requested, external, endsNow, noRank, rankOf, secondWins, ranked, choiceOf}
 use Rattle.step.specs.Step.{refusedStep, doneStep, settledStep, transferStep, instructionStep, externalStep, channelStep, chosenStep, entryNumber, stepOf}
 use Rattle.step.specs.declared.turns.Choice.{Choice}
@@ -195,3 +196,16 @@ attention-kept false s m channel ne = go (ℕ-discrete channel 2)
         settled-channel false (isSecond channel) (attentionNumber s m channel) s m (attended s m (isSecond channel))
         (attendedMemory s m (isSecond channel)) (eq-eqb channel 2 e)
     go (no ne′) = rw (ne-eqb channel 1 ne, ne-eqb channel 2 ne′) refl
+
+-- a step that is not of a channel leaves it alone
+pub not-of : (b : Bool) (s : State) (m : Buffers) (lines : ℕ) → ((stepOf s m lines) .channel ≡ channelNumber b → ⊥)
+    → channelOf ((stepOf s m lines) .state) b ≡ channelOf s b
+not-of b s m lines =
+    by-step s m lines (λ o. (o .channel ≡ channelNumber b → ⊥) → channelOf (o .state) b ≡ channelOf s b)
+    (λ k ne x. refl) (λ a z e x. other a b _ x) (λ a z e f x. other a b _ x) (λ a z e f x. other a b _ x)
+  where
+    other : (a b : Bool) (c : Channel) → (channelNumber a ≡ channelNumber b → ⊥) → channelOf (withLast (withChannel s a c) a) b ≡ channelOf s b
+    other true true c x = absurd (x refl)
+    other true false c x = last-channel (withChannel s true c) true false ∙ put-other s true c
+    other false true c x = last-channel (withChannel s false c) false true ∙ put-other s false c
+    other false false c x = absurd (x refl)

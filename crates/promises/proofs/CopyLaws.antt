@@ -107,21 +107,21 @@ copied-on-two p q j m =
 
 -- a step of a channel whose sides are on by j, where one byte moves
 step-one : (c : Channel) (m : Buffers) (p q : Pointer) (j : ℕ) → (source c) .pointer ≡ onBy p j → (destination c) .pointer ≡ onBy q j
-    → Block (c .fields) → (c .fields .synchronised ≡ 3 → ⊥) → twoMove c ≡ false
+    → Block (c .fields) → c .fields .synchronised ≡ 0 → twoMove c ≡ false
     → lentAt m (p .tag) (p .address + j) ≡ true → lentAt m (q .tag) (q .address + j) ≡ true
     → transferOf c m ≡ transferred 0 (movedChannel c (dataOf c m)) (put1 p q j m)
-step-one c m p q j es ed b ne one lp lq =
-    block-step c m b ne one (rw es (touch-on m p j lp)) (rw ed (touch-on m q j lq))
+step-one c m p q j es ed b free one lp lq =
+    block-step c m b free one (rw es (touch-on m p j lp)) (rw ed (touch-on m q j lq))
     ∙ ap (transferred 0 (movedChannel c (dataOf c m))) (rw (es, ed) (copied-on p q j m))
 
 -- and one that moves two
 step-two : (c : Channel) (m : Buffers) (p q : Pointer) (j : ℕ) → (source c) .pointer ≡ onBy p j → (destination c) .pointer ≡ onBy q j
-    → Block (c .fields) → (c .fields .synchronised ≡ 3 → ⊥) → twoMove c ≡ true
+    → Block (c .fields) → c .fields .synchronised ≡ 0 → twoMove c ≡ true
     → lentAt m (p .tag) (p .address + j) ≡ true → lentAt m (p .tag) (p .address + (j + 1)) ≡ true
     → lentAt m (q .tag) (q .address + j) ≡ true → lentAt m (q .tag) (q .address + (j + 1)) ≡ true
     → transferOf c m ≡ transferred 0 (movedChannel c (dataOf c m)) (put2 p q j m)
-step-two c m p q j es ed b ne two lp lp′ lq lq′ =
-    block-step-two c m b ne two (rw es (touch-on m p j lp)) (rw es (touch-on-two m p j lp′)) (rw ed (touch-on m q j lq)) (rw ed (touch-on-two m q j lq′))
+step-two c m p q j es ed b free two lp lp′ lq lq′ =
+    block-step-two c m b free two (rw es (touch-on m p j lp)) (rw es (touch-on-two m p j lp′)) (rw ed (touch-on m q j lq)) (rw ed (touch-on-two m q j lq′))
     ∙ ap (transferred 0 (movedChannel c (dataOf c m))) (rw (es, ed) (copied-on-two p q j m))
 
 -- ---- the row

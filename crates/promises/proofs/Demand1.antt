@@ -24,8 +24,8 @@ use Rattle.promises.proofs.RunLaws.{fresh-good, fresh-bad, fresh-number
 -- a fresh state of 20 bits of CP has blank channels, and channel 2 as the last
 blank : (cp : ℕ) (second : Bool) → Blank (channelOf (freshState cp) second)
 unfolding channelOf freshState idleChannel
-blank cp true = record { ga = refl; gb = refl; gc = refl; tp = refl; pp = refl; bc = refl; ix = refl; cc = refl; mc = refl; psw = refl; mode = refl; armed = refl; fields = refl }
-blank cp false = record { ga = refl; gb = refl; gc = refl; tp = refl; pp = refl; bc = refl; ix = refl; cc = refl; mc = refl; psw = refl; mode = refl; armed = refl; fields = refl }
+blank cp true = record { ga = refl; gb = refl; gc = refl; tp = refl; pp = refl; bc = refl; ix = refl; cc = refl; mc = refl; psw = refl; mode = refl; armed = refl; fields = refl; held = refl }
+blank cp false = record { ga = refl; gb = refl; gc = refl; tp = refl; pp = refl; bc = refl; ix = refl; cc = refl; mc = refl; psw = refl; mode = refl; armed = refl; fields = refl; held = refl }
 
 -- every answer has a state made of some CP
 made : (cp : ℕ) (P : State → Type 0) → ((k : ℕ) → P (freshState k)) → P (freshOf cp .state)

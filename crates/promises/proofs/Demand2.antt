@@ -12,7 +12,7 @@ use Rattle.attention.proofs.Pauses.{suspend-resume, ordered-else}
 use Rattle.attention.proofs.Stores.{bytes-kept as attention-bytes, lengths-kept as attention-lengths}
 use Rattle.attention.specs.Attention.{orderTo, attentionOf}
 use Rattle.attention.specs.Commands.{ordered}
-use Rattle.machine.specs.Updates.{withControl}
+use Rattle.machine.specs.Updates.{withControl, holding}
 use Rattle.machine.proofs.ChannelLaws.{named}
 use Rattle.machine.specs.Psw.{withPsw}
 use Rattle.machine.specs.States.{channelOf, isSecond}
@@ -36,7 +36,7 @@ use Rattle.promises.proofs.PointerLaws.{movp-back, call-back}
 
 -- ---- an attention
 
-only-control : (before after : Channel) → after ≡ withControl before (after .tp) (after .pp) (after .psw) (after .mode) (after .armed) → OnlyControl before after
+only-control : (before after : Channel) → after ≡ holding (withControl before (after .tp) (after .pp) (after .psw) (after .mode) (after .armed)) (after .held) → OnlyControl before after
 unfolding withControl
 only-control before after e = record {
   ga = ap (λ (c : Channel). c .ga) e;

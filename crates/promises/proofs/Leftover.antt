@@ -1,30 +1,32 @@
 -- The leftover count, from the sheet of a transfer step: what one step makes of BC, and what BC says after calls in a row.
 -- Assumes nothing.
 use Prim.Native.Nat.{ℕ, zero, suc, _+_, _-_, _%_, _^_, _/_, _<_, _≤_}
-use borrow.Author.Tests.{ltb-true, ltb-false, eqb-false, not-true, eq-eqb, ne-eqb}
+use borrow.Author.Tests.{ltb-true, ltb-false, eqb-false, eqb-true, not-true, eq-eqb, ne-eqb}
 use lib.Dec.{eqb, ltb, lit<}
 use mathlib.Core.Bool.{Bool, true, false, not, _&&_, _||_}
 use mathlib.Core.Logic.{inl, inr, _⊎_}
 use mathlib.Core.Path.{_≡_, refl, sym, ap, ap₂, subst, _∙_}
 use native.Mathlib.Decide.{ℕ-discrete}
-use native.Mathlib.Nat.{mod-lt}
+use native.Mathlib.Nat.{mod-lt, add-assoc}
 use native.Mathlib.Omega.{arith}
-use Rattle.machine.proofs.ChannelLaws.{put-other, last-channel}
-use Rattle.machine.specs.States.{channelOf, withChannel, withLast, channelNumber}
+use Rattle.machine.specs.States.{channelOf}
 use Rattle.machine.specs.declared.Channel.{Channel}
+use Rattle.machine.specs.declared.Held.{Held as HeldByte}
+use Rattle.machine.specs.declared.Held.the-variants.{NoByte, Byte}
 use Rattle.machine.specs.declared.State.{State}
 use Rattle.memory.specs.Buffers.{Buffers, storeByte}
-use Rattle.step.proofs.OutcomeLaws.{by-step}
 use Rattle.step.specs.Step.{stepOf}
 use Rattle.words.proofs.ChoiceLaws.{apart, both-left, both-right, and-true, and-false, pick-under}
 use Rattle.words.specs.Choice.{pick}
-use Rattle.promises.specs.Leftover.{Transfers, bcLess, firstEnds, FirstLeft, LeftoverSheet, Sector, SectorLeft, DriverSum, begin, transfer, step, attention}
+use Rattle.promises.specs.Leftover.{bcLess, opens, closes, fetchedNow, storedNow, firstEnds, FirstLeft, LeftoverSheet, Sector, SectorLeft, DriverSum, begin, transfer, step, attention}
 use Rattle.promises.specs.SheetOperands.{ranChannel}
-use Rattle.promises.specs.SheetTransfer.{intoPointer, intoWordSide, intoSecond, fromWordSide, twoGo, firstByte, secondByte, meetsIn, singly, twoStored, storedCount, fetchedCount, countLeft, maxOf, codeOfEnd, TransferLeft}
+use Rattle.promises.specs.SheetTransfer.{intoPointer, intoWordSide, intoSecond, fromWordSide, twoGo, firstByte, secondByte, meetsIn, singly, twoStored, storedCount, fetchedCount, countLeft, maxOf, codeOfEnd, halfDue, storesTwice, fetchesTwice, Transfers, TransferLeft}
 use Rattle.promises.specs.SheetTurns.{offsetIn}
 use Rattle.promises.specs.SheetWords.{bit, field}
 use Rattle.promises.specs.Stages.{onBy}
-use Rattle.promises.proofs.CallLaws.{attention-kept}
+use Rattle.promises.proofs.CallLaws.{attention-kept, not-of}
+use Rattle.promises.specs.SheetHalves.{isNone, OnlyHeld, pairLess, pairCode, PairLeft, HalfLeft}
+use Rattle.promises.proofs.SheetHalves.{half-sheet}
 use Rattle.promises.proofs.SheetTransfer.{larger-small, pick-small, transfer-sheet}
 
 -- ---- codes and offsets
@@ -170,16 +172,191 @@ module _ (c : Channel) (m : Buffers) (after : Channel) (m′ : Buffers) (l : Tra
   both-left-2 : firstEnds c m ≡ false → twoGo c m ≡ true → (after .bc ≡ bcLess c 2) × (storedCount c m ≡ 2)
   both-left-2 h two = (bc-by true two, ap (λ (x : Bool). pick x 2 1) (others-stored h ∙ two))
 
--- the sheet of the call that is a transfer step
-sheet-of : (b : Bool) (s : State) (m : Buffers) (lines : ℕ) → Transfers b s m lines → TransferLeft (channelOf s b) m (ranChannel b s m lines) ((stepOf s m lines) .memory)
-sheet-of b s m lines t = transfer-sheet b s m lines .transfer (t .turn) (t .on) (t .done)
+-- ---- what a step adds
+
+-- a step that fetches f bytes and stores g: BC falls by f, and where less is stored, or BC is now 0 with TBC on, the transfer is over
+record Falls (c : Channel) (f g : ℕ) (after : Channel) : Type 0 where
+  cc : after .cc ≡ c .cc
+  bc : after .bc ≡ bcLess c f
+  came : (f ≡ g) ⊎ ((f ≡ g + 1) × (bit (after .psw) 6 ≡ 0))
+  over : eqb (bcLess c f) 0 ≡ true → eqb (field (c .cc) 3 2) 0 ≡ false → bit (after .psw) 6 ≡ 0
+
+-- the count ends a transfer whose code is made of its code and others
+count-over : (a b ts : ℕ) → eqb b 0 ≡ false → eqb (pick (ltb (pick (ltb a b) b a) ts) ts (pick (ltb a b) b a)) 0 ≡ false
+count-over a b ts h = code-left (pick (ltb a b) b a) ts (code-right a b h)
+
+-- the whole move
+whole-falls : (c : Channel) (m : Buffers) (after : Channel) (m′ : Buffers) → TransferLeft c m after m′ → Falls c (fetchedCount c m) (storedCount c m) after
+whole-falls c m after m′ l = record {
+  cc = l .cc;
+  bc = l .bc;
+  came = go (firstEnds c m) refl;
+  over = λ e t. over-by c m after m′ l (count-over (pick (meetsIn c m (firstByte c m) || singly c m && meetsIn c m (secondByte c m)) (field (c .cc) 0 3 % 4) 0) (pick (eqb (countLeft c m) 0) (field (c .cc) 3 2) 0) (pick (eqb (bit (c .cc) 7) 1) 1 0) (ap (λ (x : Bool). eqb (pick x (field (c .cc) 3 2) 0) 0) e ∙ t));
+}
+  where
+    go : (x : Bool) → firstEnds c m ≡ x → (fetchedCount c m ≡ storedCount c m) ⊎ ((fetchedCount c m ≡ storedCount c m + 1) × (bit (after .psw) 6 ≡ 0))
+    go true h =
+        inr (ap (λ (x : Bool). pick x 2 1) (first-two c m after m′ l h) ∙ ap (λ (x : Bool). pick x 2 1 + 1) (sym (first-one c m after m′ l h)), first-left c m after m′ l h .over)
+    go false h = inl (ap (λ (x : Bool). pick x 2 1) (sym (others-stored c m after m′ l h)))
+
+-- a pair that is over
+module _ (c : Channel) (m : Buffers) (by : ℕ) (met : Bool) (after : Channel) (l : PairLeft c m by met after) where
+  pair-over : eqb (pairCode c m met) 0 ≡ false → bit (after .psw) 6 ≡ 0
+  pair-over e = l .status 6 ∙ ap (λ (x : Bool). pick (not x && eqb 6 6) 0 (bit (c .psw) 6)) e
+
+  pair-counts : eqb (pairLess c) 0 ≡ true → eqb (field (c .cc) 3 2) 0 ≡ false → bit (after .psw) 6 ≡ 0
+  pair-counts e t = pair-over (count-over (pick met (field (c .cc) 0 3 % 4) 0) (pick (eqb (pairLess c) 0) (field (c .cc) 3 2) 0) (pick (eqb (bit (c .cc) 7) 1) 1 0) (ap (λ (x : Bool). eqb (pick x (field (c .cc) 3 2) 0) 0) e ∙ t))
+
+-- TMC that is met is on
+met-on : (c : Channel) (m : Buffers) (byte : ℕ) → meetsIn c m byte ≡ true → eqb (field (c .cc) 0 3 % 4) 0 ≡ false
+met-on c m byte h = not-true (eqb (field (c .cc) 0 3 % 4) 0) (both-left (not (eqb (field (c .cc) 0 3 % 4) 0)) _ h)
+
+met-code : (c : Channel) (m : Buffers) (byte : ℕ) → meetsIn c m byte ≡ true → eqb (pairCode c m true) 0 ≡ false
+met-code c m byte h =
+    let counting = pick (eqb (pairLess c) 0) (field (c .cc) 3 2) 0 in
+    code-left (maxOf c m (field (c .cc) 0 3 % 4) counting) (pick (eqb (bit (c .cc) 7) 1) 1 0) (code-left (field (c .cc) 0 3 % 4) counting (met-on c m byte h))
+
+module _ (c : Channel) (m : Buffers) (after : Channel) (two : twoGo c m ≡ true) where
+  abbrev fetchedTwo : fetchedCount c m ≡ 2
+  fetchedTwo = ap (λ (x : Bool). pick x 2 1) two
+
+  -- its second half
+  closed-falls : (met : Bool) → PairLeft c m 2 met after → Falls c (fetchedCount c m) 2 after
+  closed-falls met l =
+      subst (λ (f : ℕ). Falls c f 2 after) (sym fetchedTwo) (record { cc = l .cc; bc = l .bc; came = inl refl; over = pair-counts c m 2 met after l })
+
+  -- its first, which a match ends
+  met-falls : singly c m ≡ true → meetsIn c m (firstByte c m) ≡ true → PairLeft c m 1 true after → Falls c (fetchedCount c m) (storedCount c m) after
+  met-falls alone met l =
+      let one : storedCount c m ≡ 1 = ap₂ (λ (x y : Bool). pick (x && not y) 2 1) two (ap₂ (λ (x y : Bool). x && y) alone met) in
+      subst (λ (f : ℕ). Falls c f (storedCount c m) after) (sym fetchedTwo)
+      (subst (λ (g : ℕ). Falls c 2 g after) (sym one)
+      (record {
+        cc = l .cc;
+        bc = l .bc;
+        came = inr (refl, pair-over c m 1 true after l (met-code c m (firstByte c m) met));
+        over = pair-counts c m 1 true after l;
+      }))
+
+-- the two ways of a pair
+either-way : (a b : Bool) → a || b ≡ true → a ≡ false → b ≡ true
+either-way a b h e = sym (ap (λ (x : Bool). x || b) e) ∙ h
+
+never-both : (syn : ℕ) (x y : Bool) → eqb syn 1 && x ≡ true → eqb syn 2 && y ≡ false
+never-both syn x y e = ap (λ (b : Bool). b && y) (ne-eqb syn 2 (λ z. eqb-false 1 2 refl (sym (eqb-true syn 1 (both-left (eqb syn 1) x e)) ∙ z)))
+
+-- what a done transfer step adds: nothing yet, where it is a first half that no match ends; else as it falls
+Adds : Channel → Buffers → Channel → Type 0
+Adds c m after = ((opens c m ≡ true) × OnlyHeld c after) ⊎ ((opens c m ≡ false) × Falls c (fetchedCount c m) (pick (closes c m) 2 (storedCount c m)) after)
+
+module _ (c : Channel) (m : Buffers) (after : Channel) (m′ : Buffers) where
+  abbrev opened : Bool → Bool → Bool → Bool
+  opened half none stop = half && (none && not stop)
+
+  abbrev stopsHere : Bool
+  stopsHere = storesTwice c m && meetsIn c m (firstByte c m)
+
+  opens-as : (half none stop : Bool) → halfDue c m ≡ half → isNone (c .held) ≡ none → stopsHere ≡ stop → opens c m ≡ opened half none stop
+  opens-as half none stop e f g = ap₂ (λ (x y : Bool). opened x y stopsHere) e f ∙ ap (opened half none) g
+
+  closes-as : (half none : Bool) → halfDue c m ≡ half → isNone (c .held) ≡ none → closes c m ≡ (half && not none)
+  closes-as half none e f = ap₂ (λ (x y : Bool). x && not y) e f
+
+  from-fetches : fetchesTwice c m ≡ true → twoGo c m ≡ true
+  from-fetches f = both-left (twoGo c m) _ (both-right (eqb (field (c .cc) 11 2) 1) _ f)
+
+  from-stores : storesTwice c m ≡ true → singly c m ≡ true
+  from-stores f = both-right (eqb (field (c .cc) 11 2) 2) (singly c m) f
+
+  adds : (halfDue c m ≡ false → TransferLeft c m after m′) → HalfLeft c m after m′ → Adds c m after
+  unfolding Adds
+  adds whole half = go (halfDue c m) refl (c .held) refl (fetchesTwice c m) refl (meetsIn c m (firstByte c m)) refl
+    where
+      go : (x : Bool) → halfDue c m ≡ x → (h : HeldByte) → c .held ≡ h → (y : Bool) → fetchesTwice c m ≡ y → (z : Bool) → meetsIn c m (firstByte c m) ≡ z → Adds c m after
+      go false ex h eh y ey z ez =
+          inr (opens-as false (isNone (c .held)) stopsHere ex refl refl, subst (λ (x : Bool). Falls c (fetchedCount c m) (pick x 2 (storedCount c m)) after) (sym (closes-as false (isNone (c .held)) ex refl)) (whole-falls c m after m′ (whole ex)))
+      go true ex (Byte byte) eh true ey z ez =
+          inr (opens-as true false stopsHere ex (ap isNone eh) refl, subst (λ (x : Bool). Falls c (fetchedCount c m) (pick x 2 (storedCount c m)) after) (sym (closes-as true false ex (ap isNone eh))) (closed-falls c m after (from-fetches ey) _ (half .secondFetch byte ey eh .0)))
+      go true ex (Byte byte) eh false ey z ez =
+          let f = either-way (fetchesTwice c m) (storesTwice c m) ex ey in
+          inr (opens-as true false stopsHere ex (ap isNone eh) refl, subst (λ (x : Bool). Falls c (fetchedCount c m) (pick x 2 (storedCount c m)) after) (sym (closes-as true false ex (ap isNone eh))) (closed-falls c m after (both-left (twoGo c m) _ (from-stores f)) _ (half .secondStore byte f eh .0)))
+      go true ex NoByte eh true ey z ez =
+          inl (opens-as true true false ex (ap isNone eh) (ap (λ (x : Bool). x && meetsIn c m (firstByte c m)) (never-both (field (c .cc) 11 2) _ (singly c m) ey)), half .firstFetch ey eh .0)
+      go true ex NoByte eh false ey true ez =
+          let f = either-way (fetchesTwice c m) (storesTwice c m) ex ey in
+          inr (opens-as true true true ex (ap isNone eh) (ap₂ (λ (x y : Bool). x && y) f ez), subst (λ (x : Bool). Falls c (fetchedCount c m) (pick x 2 (storedCount c m)) after) (sym (closes-as true true ex (ap isNone eh))) (met-falls c m after (both-left (twoGo c m) _ (from-stores f)) (from-stores f) ez (half .firstMet f eh ez .0)))
+      go true ex NoByte eh false ey false ez =
+          let f = either-way (fetchesTwice c m) (storesTwice c m) ex ey in
+          inl (opens-as true true false ex (ap isNone eh) (ap₂ (λ (x y : Bool). x && y) f ez), half .firstStore f eh ez .0)
+
+-- the sheets of the call that is a transfer step
+sheet-of : (b : Bool) (s : State) (m : Buffers) (lines : ℕ) → Transfers b s m lines → halfDue (channelOf s b) m ≡ false → TransferLeft (channelOf s b) m (ranChannel b s m lines) ((stepOf s m lines) .memory)
+sheet-of b s m lines t undue = transfer-sheet b s m lines .transfer t undue
+
+step-adds : (b : Bool) (s : State) (m : Buffers) (lines : ℕ) → Transfers b s m lines → Adds (channelOf s b) m (ranChannel b s m lines)
+step-adds b s m lines t = adds (channelOf s b) m (ranChannel b s m lines) ((stepOf s m lines) .memory) (sheet-of b s m lines t) (half-sheet b s m lines .half t)
+
+-- a first of two single stores that meets TMC, where the two are a step each
+pair-first : (c : Channel) (m : Buffers) (after : Channel) (m′ : Buffers) → HalfLeft c m after m′ → halfDue c m ≡ true → firstEnds c m ≡ true → closes c m ≡ false → FirstLeft c m after m′
+pair-first c m after m′ half due h first-half =
+    let met = both-right (singly c m) (meetsIn c m (firstByte c m)) h in
+    let l = half .firstMet stores free met in
+    let on = met-code c m (firstByte c m) met in
+    record {
+      bc = l .0 .bc;
+      ga = l .0 .ga;
+      gb = l .0 .gb;
+      stored = l .1;
+      over = pair-over c m 1 true after (l .0) on;
+      tp = l .0 .tp ∙ ap (λ (x : Bool). pick x (c .tp) (onBy (c .tp) (offsetIn (pairCode c m true)))) on ∙ ap (onBy (c .tp)) offset;
+    }
+  where
+    small : field (c .cc) 0 3 % 4 < 4
+    small = mod-lt (field (c .cc) 0 3) (lit< tt)
+
+    counting : ℕ
+    counting = pick (eqb (pairLess c) 0) (field (c .cc) 3 2) 0
+
+    counts : counting < 4
+    counts = pick-small (eqb (pairLess c) 0) (field (c .cc) 3 2) (mod-lt (c .cc / 2 ^ 3) (lit< tt))
+
+    offset : offsetIn (pairCode c m true) ≡ maxOf c m (offsetIn (field (c .cc) 0 3 % 4)) (pick (eqb (bcLess c 2) 0) (offsetIn (field (c .cc) 3 2)) 0)
+    offset =
+        single-offset (eqb (bit (c .cc) 7) 1) (maxOf c m (field (c .cc) 0 3 % 4) counting) (larger-small (field (c .cc) 0 3 % 4) counting small counts)
+        ∙ larger-offset (field (c .cc) 0 3 % 4) counting small counts
+        ∙ ap (maxOf c m (offsetIn (field (c .cc) 0 3 % 4))) (sym (pick-under offsetIn (eqb (pairLess c) 0) (field (c .cc) 3 2) 0))
+
+    none-from : (more syn : Bool) → syn && ((true && more) && false) ≡ false
+    none-from true true = refl
+    none-from true false = refl
+    none-from false true = refl
+    none-from false false = refl
+
+    apart-sides : (from into more syn : Bool) → ((from || into) && more) && not into ≡ true → syn && (((from || into) && more) && not from) ≡ false
+    apart-sides true false more syn k = none-from more syn
+    apart-sides true true true syn k = apart (sym k)
+    apart-sides true true false syn k = apart (sym k)
+    apart-sides false true true syn k = apart (sym k)
+    apart-sides false true false syn k = apart (sym k)
+    apart-sides false false more syn k = apart (sym k)
+
+    -- a destination that is no word side has a source that is one, so the fetches are no pair
+    stores : storesTwice c m ≡ true
+    stores = either-way (fetchesTwice c m) (storesTwice c m) due (apart-sides (fromWordSide c m) (intoWordSide c m) (not (not (eqb (field (c .cc) 3 2) 0) && eqb (c .bc) 1)) (eqb (field (c .cc) 11 2) 1) (both-left (singly c m) (meetsIn c m (firstByte c m)) h))
+
+    none : (x : HeldByte) → c .held ≡ x → c .held ≡ NoByte
+    none NoByte e = e
+    none (Byte byte) e = apart (sym (ap₂ (λ (x y : Bool). x && not y) due (ap isNone e)) ∙ first-half)
+
+    free : c .held ≡ NoByte
+    free = none (c .held) refl
 
 pub leftover-sheet : (second : Bool) (s : State) (m : Buffers) (lines : ℕ) → LeftoverSheet second s m lines
 leftover-sheet b s m lines = record {
-  firstMet = λ t. first-left c m after m′ (sheet-of b s m lines t);
-  others = λ t. others-left c m after m′ (sheet-of b s m lines t);
-  secondMet = λ t h f g. both-left-2 c m after m′ (sheet-of b s m lines t) (unmet (singly c m) (meetsIn c m (firstByte c m)) f) (both-left (twoGo c m) (not (intoWordSide c m)) h);
-  wordStored = λ t h w. both-left-2 c m after m′ (sheet-of b s m lines t) (whole (twoGo c m) (intoWordSide c m) (meetsIn c m (firstByte c m)) w) h;
+  firstMet = λ t h first-half. first (halfDue c m) refl t h first-half;
+  others = λ t undue. others-left c m after m′ (sheet-of b s m lines t undue);
+  secondMet = λ t undue h f g. both-left-2 c m after m′ (sheet-of b s m lines t undue) (unmet (singly c m) (meetsIn c m (firstByte c m)) f) (both-left (twoGo c m) (not (intoWordSide c m)) h);
+  wordStored = λ t undue h w. both-left-2 c m after m′ (sheet-of b s m lines t undue) (whole (twoGo c m) (intoWordSide c m) (meetsIn c m (firstByte c m)) w) h;
 }
   where
     c : Channel
@@ -191,6 +368,10 @@ leftover-sheet b s m lines = record {
     m′ : Buffers
     m′ = (stepOf s m lines) .memory
 
+    first : (x : Bool) → halfDue c m ≡ x → Transfers b s m lines → firstEnds c m ≡ true → closes c m ≡ false → FirstLeft c m after m′
+    first true due t h first-half = pair-first c m after m′ (half-sheet b s m lines .half t) due h first-half
+    first false undue t h first-half = first-left c m after m′ (sheet-of b s m lines t undue) h
+
     unmet : (x y : Bool) → y ≡ false → x && y ≡ false
     unmet x y e = rw e (and-false x)
 
@@ -199,51 +380,51 @@ leftover-sheet b s m lines = record {
 
 -- ---- calls in a row
 
--- a step that is not of a channel leaves it alone
-not-of : (b : Bool) (s : State) (m : Buffers) (lines : ℕ) → ((stepOf s m lines) .channel ≡ channelNumber b → ⊥)
-    → channelOf ((stepOf s m lines) .state) b ≡ channelOf s b
-not-of b s m lines =
-    by-step s m lines (λ o. (o .channel ≡ channelNumber b → ⊥) → channelOf (o .state) b ≡ channelOf s b)
-    (λ k ne x. refl) (λ a z e x. other a b _ x) (λ a z e f x. other a b _ x) (λ a z e f x. other a b _ x)
-  where
-    other : (a b : Bool) (c : Channel) → (channelNumber a ≡ channelNumber b → ⊥) → channelOf (withLast (withChannel s a c) a) b ≡ channelOf s b
-    other true true c x = absurd (x refl)
-    other true false c x = last-channel (withChannel s true c) true false ∙ put-other s true c
-    other false true c x = last-channel (withChannel s false c) false true ∙ put-other s false c
-    other false false c x = absurd (x refl)
-
 -- one transfer step more
-sector-next : (c : Channel) (m : Buffers) (after : Channel) (m′ : Buffers) → TransferLeft c m after m′ → bit (c .psw) 6 ≡ 1 → (count fetched stored : ℕ)
-    → SectorLeft count fetched stored c → SectorLeft count (fetched + fetchedCount c m) (stored + storedCount c m) after
-sector-next c m after m′ l on count fetched stored i = record {
-  left = ap (λ (n : ℕ). (n + (fetched + fetchedCount c m)) % 65536) (l .bc) ∙ fallen (twoGo c m);
-  small = λ h. subst (λ (n : ℕ). n < 65536) (sym (l .bc)) (mod-lt (c .bc + (65536 - fetchedCount c m)) (lit< tt));
-  came = so (i .came);
-}
+sector-next : (c : Channel) (m : Buffers) (after : Channel) → Adds c m after → bit (c .psw) 6 ≡ 1 → (count fetched stored : ℕ)
+    → SectorLeft count fetched stored c → SectorLeft count (fetched + fetchedNow c m) (stored + storedNow c m) after
+unfolding Adds
+sector-next c m after (inl (o, l)) on count fetched stored i =
+    let f : fetchedNow c m ≡ 0 = ap (λ (x : Bool). pick x 0 (fetchedCount c m)) o in
+    let g : storedNow c m ≡ 0 = ap (λ (x : Bool). pick x 0 (pick (closes c m) 2 (storedCount c m))) o in
+    let e : (c .bc + fetched) % 65536 ≡ count % 65536 = i .left in
+    record {
+      left = ap (λ (n : ℕ). (n + (fetched + fetchedNow c m)) % 65536) (l .bc) ∙ omega arith;
+      small = λ h. subst (λ (n : ℕ). n < 65536) (sym (l .bc)) (i .small (omega arith));
+      came = so (i .came) f g;
+    }
+  where
+    so : (fetched ≡ stored) ⊎ ((fetched ≡ stored + 1) × (bit (c .psw) 6 ≡ 0)) → fetchedNow c m ≡ 0 → storedNow c m ≡ 0
+        → (fetched + fetchedNow c m ≡ stored + storedNow c m) ⊎ ((fetched + fetchedNow c m ≡ stored + storedNow c m + 1) × (bit (after .psw) 6 ≡ 0))
+    so (inl e) f g = inl (omega arith)
+    so (inr (e, off)) f g = absurd (eqb-false 0 1 refl (sym off ∙ on))
+sector-next c m after (inr (o, l)) on count fetched stored i =
+    subst (λ (f : ℕ). SectorLeft count (fetched + f) (stored + storedNow c m) after) (sym (ap (λ (x : Bool). pick x 0 (fetchedCount c m)) o))
+    (subst (λ (g : ℕ). SectorLeft count (fetched + fetchedCount c m) (stored + g) after) (sym (ap (λ (x : Bool). pick x 0 (pick (closes c m) 2 (storedCount c m))) o))
+    (record {
+      left = ap (λ (n : ℕ). (n + (fetched + fetchedCount c m)) % 65536) (l .bc) ∙ fallen (twoGo c m);
+      small = λ h. subst (λ (n : ℕ). n < 65536) (sym (l .bc)) (mod-lt (c .bc + (65536 - fetchedCount c m)) (lit< tt));
+      came = so (i .came) (l .came);
+    }))
   where
     fallen : (two : Bool) → (bcLess c (pick two 2 1) + (fetched + pick two 2 1)) % 65536 ≡ count % 65536
     fallen true = let e : (c .bc + fetched) % 65536 ≡ count % 65536 = i .left in omega arith
     fallen false = let e : (c .bc + fetched) % 65536 ≡ count % 65536 = i .left in omega arith
 
-    Came : Type 0
-    Came = (fetched + fetchedCount c m ≡ stored + storedCount c m) ⊎ ((fetched + fetchedCount c m ≡ stored + storedCount c m + 1) × (bit (after .psw) 6 ≡ 0))
+    g : ℕ
+    g = pick (closes c m) 2 (storedCount c m)
 
-    by-first : (x : Bool) → firstEnds c m ≡ x → fetched ≡ stored → Came
-    by-first true h e =
-        let two : fetchedCount c m ≡ 2 = ap (λ (x : Bool). pick x 2 1) (first-two c m after m′ l h) in
-        let one : storedCount c m ≡ 1 = ap (λ (x : Bool). pick x 2 1) (first-one c m after m′ l h) in
-        inr (omega arith, first-left c m after m′ l h .over)
-    by-first false h e = inl (ap₂ (λ (n : ℕ) (two : Bool). n + pick two 2 1) e (sym (others-stored c m after m′ l h)))
-
-    so : (fetched ≡ stored) ⊎ ((fetched ≡ stored + 1) × (bit (c .psw) 6 ≡ 0)) → Came
-    so (inl e) = by-first (firstEnds c m) refl e
-    so (inr (e, off)) = absurd (eqb-false 0 1 refl (sym off ∙ on))
+    so : (fetched ≡ stored) ⊎ ((fetched ≡ stored + 1) × (bit (c .psw) 6 ≡ 0)) → (fetchedCount c m ≡ g) ⊎ ((fetchedCount c m ≡ g + 1) × (bit (after .psw) 6 ≡ 0))
+        → (fetched + fetchedCount c m ≡ stored + g) ⊎ ((fetched + fetchedCount c m ≡ stored + g + 1) × (bit (after .psw) 6 ≡ 0))
+    so (inl e) (inl k) = inl (ap₂ _+_ e k)
+    so (inl e) (inr (k, off)) = inr (ap₂ _+_ e k ∙ sym (add-assoc stored g 1), off)
+    so (inr (e, off)) k = absurd (eqb-false 0 1 refl (sym off ∙ on))
 
 pub sector : {second : Bool} {s₀ : State} {fetched stored : ℕ} {s : State} → Sector second s₀ fetched stored s
     → SectorLeft (channelOf s₀ second .bc) fetched stored (channelOf s second)
 sector {second = b} {s₀ = s₀} begin = record { left = ap (λ (n : ℕ). n % 65536) (omega arith); small = λ h. absurd (omega arith); came = inl refl }
 sector {second = b} {s₀ = s₀} (transfer {fetched = f} {stored = g} {s = s} r m lines t) =
-    sector-next (channelOf s b) m (ranChannel b s m lines) ((stepOf s m lines) .memory) (sheet-of b s m lines t) (t .on) (channelOf s₀ b .bc) f g (sector r)
+    sector-next (channelOf s b) m (ranChannel b s m lines) (step-adds b s m lines t) (t .on) (channelOf s₀ b .bc) f g (sector r)
 sector {second = b} {s₀ = s₀} (step {fetched = f} {stored = g} {s = s} r m lines ne) = subst (SectorLeft (channelOf s₀ b .bc) f g) (sym (not-of b s m lines ne)) (sector r)
 sector {second = b} {s₀ = s₀} (attention {fetched = f} {stored = g} {s = s} r m channel ne) = subst (SectorLeft (channelOf s₀ b .bc) f g) (sym (attention-kept b s m channel ne)) (sector r)
 
@@ -257,16 +438,33 @@ record Counted (n cc fetched : ℕ) (c : Channel) : Type 0 where
   going : bit (c .psw) 6 ≡ 1 → fetched < n
 
 -- one transfer step more
-counted-next : (c : Channel) (m : Buffers) (after : Channel) (m′ : Buffers) → TransferLeft c m after m′ → bit (c .psw) 6 ≡ 1 → (n cc fetched : ℕ) → n ≤ 65536
-    → (field cc 3 2 ≡ 0 → ⊥) → (c .bc + fetched) % 65536 ≡ n % 65536 → (after .bc + (fetched + fetchedCount c m)) % 65536 ≡ n % 65536
-    → Counted n cc fetched c → Counted n cc (fetched + fetchedCount c m) after
-counted-next c m after m′ l on n cc fetched large tbc left left′ i = record {
-  same = l .cc ∙ i .same;
-  word = word;
-  most = fits (twoGo c m) refl;
-  going = λ on′. short (ℕ-discrete (fetched + fetchedCount c m) n) on′;
-}
+counted-next : (c : Channel) (m : Buffers) (after : Channel) → Adds c m after → bit (c .psw) 6 ≡ 1 → (n cc fetched : ℕ) → n ≤ 65536
+    → (field cc 3 2 ≡ 0 → ⊥) → (c .bc + fetched) % 65536 ≡ n % 65536 → (after .bc + (fetched + fetchedNow c m)) % 65536 ≡ n % 65536
+    → Counted n cc fetched c → Counted n cc (fetched + fetchedNow c m) after
+unfolding Adds
+counted-next c m after (inl (o, l)) on n cc fetched large tbc left left′ i =
+    let f : fetchedNow c m ≡ 0 = ap (λ (x : Bool). pick x 0 (fetchedCount c m)) o in
+    record {
+      same = l .cc ∙ i .same;
+      word = subst (λ (k : ℕ). k < 65536) (sym (l .bc)) (i .word);
+      most = let k : fetched ≤ n = i .most in omega arith;
+      going = λ on′. let k : fetched < n = i .going on in omega arith;
+    }
+counted-next c m after (inr (o, l)) on n cc fetched large tbc left left′ i =
+    subst (λ (f : ℕ). Counted n cc (fetched + f) after) (sym now)
+    (record {
+      same = l .cc ∙ i .same;
+      word = word;
+      most = fits (twoGo c m) refl;
+      going = λ on′. short (ℕ-discrete (fetched + fetchedCount c m) n) on′;
+    })
   where
+    now : fetchedNow c m ≡ fetchedCount c m
+    now = ap (λ (x : Bool). pick x 0 (fetchedCount c m)) o
+
+    fallen : (after .bc + (fetched + fetchedCount c m)) % 65536 ≡ n % 65536
+    fallen = ap (λ (f : ℕ). (after .bc + (fetched + f)) % 65536) (sym now) ∙ left′
+
     word : after .bc < 65536
     word = subst (λ (k : ℕ). k < 65536) (sym (l .bc)) (mod-lt (c .bc + (65536 - fetchedCount c m)) (lit< tt))
 
@@ -291,11 +489,9 @@ counted-next c m after m′ l on n cc fetched large tbc left left′ i = record 
     -- with the last of them the count ends it
     ended : fetched + fetchedCount c m ≡ n → bit (after .psw) 6 ≡ 0
     ended e =
-        let none : after .bc ≡ 0 = omega arith in
-        over-by c m after m′ l
-        (code-left _ (pick (eqb (bit (c .cc) 7) 1) 1 0)
-        (code-right (pick (meetsIn c m (firstByte c m) || singly c m && meetsIn c m (secondByte c m)) (field (c .cc) 0 3 % 4) 0) (pick (eqb (countLeft c m) 0) (field (c .cc) 3 2) 0)
-        (ap (λ (x : Bool). eqb (pick x (field (c .cc) 3 2) 0) 0) (eq-eqb (countLeft c m) 0 (sym (l .bc) ∙ none)) ∙ counts)))
+        let k : (after .bc + (fetched + fetchedCount c m)) % 65536 ≡ n % 65536 = fallen in
+        let none : after .bc ≡ 0 = omega (arith, word) in
+        l .over (eq-eqb (bcLess c (fetchedCount c m)) 0 (sym (l .bc) ∙ none)) counts
 
     short : Dec (fetched + fetchedCount c m ≡ n) → bit (after .psw) 6 ≡ 1 → fetched + fetchedCount c m < n
     short (yes e) on′ = absurd (eqb-false 0 1 refl (sym (ended e) ∙ on′))
@@ -309,7 +505,7 @@ module _ {b : Bool} {s₀ : State} {n : ℕ} (some : 1 ≤ n) (large : n ≤ 655
   counted : {fetched stored : ℕ} {s : State} → Sector b s₀ fetched stored s → Counted n (channelOf s₀ b .cc) fetched (channelOf s b)
   counted begin = record { same = refl; word = subst (λ (k : ℕ). k < 65536) (sym e) (mod-lt n (lit< tt)); most = omega arith; going = λ on. some }
   counted (transfer {fetched = f} {s = s} r m lines t) =
-      counted-next (channelOf s b) m (ranChannel b s m lines) ((stepOf s m lines) .memory) (sheet-of b s m lines t) (t .on) n (channelOf s₀ b .cc) f large tbc
+      counted-next (channelOf s b) m (ranChannel b s m lines) (step-adds b s m lines t) (t .on) n (channelOf s₀ b .cc) f large tbc
       (left-of r) (left-of (transfer r m lines t)) (counted r)
   counted (step {fetched = f} {s = s} r m lines ne) = subst (Counted n (channelOf s₀ b .cc) f) (sym (not-of b s m lines ne)) (counted r)
   counted (attention {fetched = f} {s = s} r m channel ne) = subst (Counted n (channelOf s₀ b .cc) f) (sym (attention-kept b s m channel ne)) (counted r)

@@ -41,6 +41,8 @@ pub mod SheetMemory
 pub mod SheetControl
 pub mod SheetTurns
 pub mod SheetTransfer
+pub mod SheetHalves
+pub mod HalfWitness
 pub mod Leftover
 pub mod LeftoverCases
 pub mod Sheet

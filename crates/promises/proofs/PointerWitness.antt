@@ -22,6 +22,7 @@ use Rattle.machine.specs.Stages.{stagesNumber}
 use Rattle.machine.specs.Registers.{byRRR, registerOf, tagOf, withRegister, baseOf}
 use Rattle.machine.specs.States.{freshState, idleChannel, channelOf, withChannel, withLast, soundChannel, sound, isRunning, blockOf, busyIn, channelNumber, fieldsAgree, agree}
 use Rattle.machine.specs.declared.Channel.{Channel}
+use Rattle.machine.specs.declared.Held.the-variants.{NoByte}
 use Rattle.machine.specs.declared.Mode.the-variants.{Running}
 use Rattle.memory.proofs.SpanLaws.{span-at}
 use Rattle.memory.specs.Buffers.{buffers, spaceOf, limitOf, indexOf, lentAt, touchableAt, beyondIn, byteAt, storeByte, withinLimits}
@@ -56,6 +57,7 @@ running =
       mode = Running;
       armed = false;
       fields = split 0;
+      held = NoByte;
     }
 
 -- the operand [GA], of W 1 or 0

@@ -42,7 +42,7 @@ use Rattle.promises.proofs.SheetLaws.{far-alike}
 
 blank-idle : Blank idleChannel
 unfolding idleChannel
-blank-idle = record { ga = refl; gb = refl; gc = refl; tp = refl; pp = refl; bc = refl; ix = refl; cc = refl; mc = refl; psw = refl; mode = refl; armed = refl; fields = refl }
+blank-idle = record { ga = refl; gb = refl; gc = refl; tp = refl; pp = refl; bc = refl; ix = refl; cc = refl; mc = refl; psw = refl; mode = refl; armed = refl; fields = refl; held = refl }
 
 -- ---- reset
 

@@ -6,6 +6,7 @@ use Rattle.promises.proofs.SheetControl.{control-sheet}
 use Rattle.promises.proofs.SheetLaws.{names}
 use Rattle.promises.proofs.SheetMemory.{memory-sheet}
 use Rattle.promises.proofs.SheetRegisters.{register-sheet}
+use Rattle.promises.proofs.SheetHalves.{half-sheet, held-through}
 use Rattle.promises.proofs.SheetTransfer.{transfer-sheet}
 use Rattle.promises.proofs.SheetTurns.{turn-sheet}
 
@@ -18,4 +19,6 @@ sheet = record {
   control = control-sheet;
   turns = turn-sheet;
   transfer = transfer-sheet;
+  halves = half-sheet;
+  through = held-through;
 }

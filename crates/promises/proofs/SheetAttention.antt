@@ -24,6 +24,7 @@ use Rattle.machine.specs.Psw.{withPsw}
 use Rattle.machine.specs.States.{channelOf, withChannel, blockOf, busyIn, channelNumber}
 use Rattle.machine.specs.Updates.{withControl, stoppedPsw, halted}
 use Rattle.machine.specs.declared.Channel.{Channel}
+use Rattle.machine.specs.declared.Held.{Held as HeldByte}
 use Rattle.machine.specs.declared.Mode.{Mode}
 use Rattle.machine.specs.declared.State.{State}
 use Rattle.memory.proofs.PlaceLaws.{store-index, index-reduced, later, after}
@@ -224,15 +225,16 @@ module _ (b : Bool) (s : State) (m : Buffers) {code : ℕ} (x : Attends b s m co
       (sym (all-append (touchableAt m) (readBy k (blockOf s b) pb) (storedBy k (blockOf s b) pb)) ∙ both)
 
   -- the channel by its fields
-  control-left : {tp : Pointer} {pp psw tb xf : ℕ} {mode : Mode} {armed : Bool} → made .tp ≡ tp → made .pp ≡ pp → Made psw tb xf (made .psw)
-      → made .mode ≡ mode → made .armed ≡ armed → ControlLeft (ccwAt s m b) (channelAfter s m b) tp pp psw tb xf mode armed
+  control-left : {tp : Pointer} {pp psw tb xf : ℕ} {mode : Mode} {armed : Bool} {byte : HeldByte} → made .tp ≡ tp → made .pp ≡ pp → Made psw tb xf (made .psw)
+      → made .mode ≡ mode → made .armed ≡ armed → made .held ≡ byte → ControlLeft (ccwAt s m b) (channelAfter s m b) tp pp psw tb xf mode armed byte
   unfolding withControl
-  control-left {tp} {pp} {psw} {tb} {xf} {mode} {armed} h₁ h₂ h₃ h₄ h₅ = record {
+  control-left {tp} {pp} {psw} {tb} {xf} {mode} {armed} {byte} h₁ h₂ h₃ h₄ h₅ h₆ = record {
     tp = ap (λ (c : Channel). c .tp) channel-is ∙ h₁;
     pp = ap (λ (c : Channel). c .pp) channel-is ∙ h₂;
     status = subst (λ (n : ℕ). StatusLeft (ccwAt s m b) psw tb xf n) (sym (ap (λ (c : Channel). c .psw) channel-is)) (status-left (ccwAt s m b) h₃);
     mode = ap (λ (c : Channel). c .mode) channel-is ∙ h₄;
     mark = ap (λ (c : Channel). c .armed) channel-is ∙ h₅;
+    held = ap (λ (c : Channel). c .held) channel-is ∙ h₆;
   }
 
 -- ---- memory
@@ -337,19 +339,19 @@ no-command b s m code x coded =
 pub attention-sheet : (second : Bool) (s : State) (m : Buffers) → AttentionSheet second s m
 unfolding commandCoded commanded started suspended resumed halted stoppedPsw withPsw withControl parameterBlock writesOf writesMade storedBy pointerAt bitOf pb made
 attention-sheet b s m = record {
-  update = λ x. control-left b s m x Update refl refl refl (made-none (channelOf s b .psw)) refl refl;
+  update = λ x. control-left b s m x Update refl refl refl (made-none (channelOf s b .psw)) refl refl refl;
   updateMemory = λ x. memory-is b s m x Update refl;
   startLocal = λ x. control-left b s m x StartLocal refl
-      (ap (λ (a : ℕ). pointer a true) (ap (wordAt m false) (pb-is s b m) ∙ word-alike m false (pbAt s m b) (pbAt s m b) refl)) (pb-is s b m) (made-both (channelOf s b .psw) true false) refl refl;
+      (ap (λ (a : ℕ). pointer a true) (ap (wordAt m false) (pb-is s b m) ∙ word-alike m false (pbAt s m b) (pbAt s m b) refl)) (pb-is s b m) (made-both (channelOf s b .psw) true false) refl refl refl;
   startLocalMemory = λ x. busy-left s b m 255 (outcomeTo s m b .memory) (memory-is b s m x StartLocal refl) (touchable-is b s m x StartLocal refl);
   startSystem = λ x. control-left b s m x StartSystem refl
-      (ap (λ (a : ℕ). pointer a false) (ap (doublewordAt m false) (pb-is s b m) ∙ far-alike m false (pbAt s m b) (pbAt s m b) refl)) (pb-is s b m) (made-both (channelOf s b .psw) true false) refl refl;
+      (ap (λ (a : ℕ). pointer a false) (ap (doublewordAt m false) (pb-is s b m) ∙ far-alike m false (pbAt s m b) (pbAt s m b) refl)) (pb-is s b m) (made-both (channelOf s b .psw) true false) refl refl refl;
   startSystemMemory = λ x. busy-left s b m 255 (outcomeTo s m b .memory) (memory-is b s m x StartSystem refl) (touchable-is b s m x StartSystem refl);
-  suspend = λ x. control-left b s m x Suspend refl refl refl (made-both (channelOf s b .psw) false false) refl refl;
+  suspend = λ x. control-left b s m x Suspend refl refl refl (made-both (channelOf s b .psw) false false) refl refl refl;
   suspendMemory = λ x. saved-left s b m (outcomeTo s m b .memory) (memory-is b s m x Suspend refl) (touchable-is b s m x Suspend refl);
-  resume = λ x. control-left b s m x Resume refl refl refl (made-one (byteAt m false (channelOf s b .pp + 3)) true) refl refl;
+  resume = λ x. control-left b s m x Resume refl refl refl (made-one (byteAt m false (channelOf s b .pp + 3)) true) refl refl refl;
   resumeMemory = λ x. busy-left s b m 255 (outcomeTo s m b .memory) (memory-is b s m x Resume refl) (touchable-is b s m x Resume refl);
-  halt = λ x. control-left b s m x Halt refl refl refl (made-both (channelOf s b .psw) false false) refl refl;
+  halt = λ x. control-left b s m x Halt refl refl refl (made-both (channelOf s b .psw) false false) refl refl refl;
   haltMemory = λ x. busy-left s b m 0 (outcomeTo s m b .memory) (memory-is b s m x Halt refl) (touchable-is b s m x Halt refl);
   none = (λ x. no-command b s m 2 x refl, λ x. no-command b s m 4 x refl);
 }

@@ -21,8 +21,10 @@ use Rattle.step.specs.declared.Kind.the-variants.{Transfer}
 use Rattle.transfer.specs.Ends.{meetsTmc, codeIf, larger, offsetOf, endedTP, endedPSW, endedBy}
 use Rattle.transfer.specs.Reads.{fetched, fetchedSecond, entryOf, delivered, dataOf}
 use Rattle.transfer.specs.Sides.{source, destination, wordSide, secondAddress, gained, twoMove, storedSingly}
+use Rattle.transfer.proofs.PartLaws.{not-half}
 use Rattle.transfer.proofs.StepLaws.{done}
-use Rattle.transfer.specs.Steps.{Transfer as Taken, transferred, transferOf}
+use Rattle.transfer.specs.Parts.{Part, Whole, fetchesApart, storesApart, isHalf, partOf}
+use Rattle.transfer.specs.Steps.{Transfer as Taken, channelBy, memoryBy, transferOf}
 use Rattle.transfer.specs.Stores.{firstMeets, matchMet, cutShort, storesTwo, bytesStored, bytesMoved, bytesCounted, countAfter, endCode, movedBy, movedChannel, putOn, movedMemory}
 use Rattle.words.specs.Bits.{fieldOf, bitOf}
 use Rattle.words.specs.Choice.{pick}
@@ -30,7 +32,7 @@ use Rattle.words.specs.Compare.{matchOf}
 use Rattle.promises.specs.SheetWords.{bit, field}
 use Rattle.promises.specs.SheetOperands.{ranChannel}
 use Rattle.promises.specs.SheetTurns.{offsetIn}
-use Rattle.promises.specs.SheetTransfer.{firstByte, secondByte, meetsIn, singly, gainsIn, storedCount, countLeft, codeOfEnd, TransferLeft, TransferSheet}
+use Rattle.promises.specs.SheetTransfer.{firstByte, secondByte, meetsIn, singly, gainsIn, storedCount, countLeft, codeOfEnd, halfDue, Transfers, TransferLeft, TransferSheet}
 use Rattle.promises.proofs.AgreeLaws.{agreeing, by-bits, done-agrees}
 use Rattle.promises.proofs.CallLaws.{turn-is, transfer-channel, transfer-memory}
 use Rattle.promises.proofs.SheetControl.{bit-set}
@@ -66,20 +68,20 @@ code-small c m =
     ts = eqb (bit (c .cc) 7) 1
 
 -- the sides by GA and GB
-first-side : (g : Bool) (p q : Pointer) (a b : Bool) (n : ℕ) → pick g (gained a (pick g p q) n) (gained b (pick g q p) n) ≡ gained (pick g a b) p n
+pub first-side : (g : Bool) (p q : Pointer) (a b : Bool) (n : ℕ) → pick g (gained a (pick g p q) n) (gained b (pick g q p) n) ≡ gained (pick g a b) p n
 first-side true p q a b n = refl
 first-side false p q a b n = refl
 
-second-side : (g : Bool) (p q : Pointer) (a b : Bool) (n : ℕ) → pick g (gained b (pick g q p) n) (gained a (pick g p q) n) ≡ gained (pick g b a) q n
+pub second-side : (g : Bool) (p q : Pointer) (a b : Bool) (n : ℕ) → pick g (gained b (pick g q p) n) (gained a (pick g p q) n) ≡ gained (pick g b a) q n
 second-side true p q a b n = refl
 second-side false p q a b n = refl
 
-bit-picked : (g : Bool) (x i j : ℕ) → pick g (eqb (bit x i) 1) (eqb (bit x j) 1) ≡ eqb (bit x (pick g i j)) 1
+pub bit-picked : (g : Bool) (x i j : ℕ) → pick g (eqb (bit x i) 1) (eqb (bit x j) 1) ≡ eqb (bit x (pick g i j)) 1
 bit-picked true x i j = refl
 bit-picked false x i j = refl
 
 -- TP and PSW at an end or at none
-ended-task : (p : Pointer) (code : ℕ) → code < 4
+pub ended-task : (p : Pointer) (code : ℕ) → code < 4
     → gained (not (eqb code 0)) p (offsetOf code) ≡ pick (eqb code 0) p (pointer ((p .address + offsetIn code) % 1048576) (p .tag))
 unfolding gained onward
 ended-task p code h = ap (λ (n : ℕ). pick (not (eqb code 0)) (pointer ((p .address + n) % 1048576) (p .tag)) p) (offset-is code h) ∙ go (eqb code 0)
@@ -88,7 +90,7 @@ ended-task p code h = ap (λ (n : ℕ). pick (not (eqb code 0)) (pointer ((p .ad
     go true = refl
     go false = refl
 
-ended-status : (on : Bool) (psw k : ℕ) → bit (pick on psw (withPsw psw 6 false)) k ≡ pick (not on && eqb k 6) 0 (bit psw k)
+pub ended-status : (on : Bool) (psw k : ℕ) → bit (pick on psw (withPsw psw 6 false)) k ≡ pick (not on && eqb k 6) 0 (bit psw k)
 unfolding withPsw
 ended-status true psw k = refl
 ended-status false psw k = bit-set psw 6 false k
@@ -115,35 +117,57 @@ moved-left c m = record {
   mc = refl;
   mode = refl;
   mark = refl;
+  held = refl;
   stored = refl;
 }
 
-transfer-left : (c : Channel) (m : Buffers) → fieldsAgree c ≡ true → TransferLeft c m (movedChannel c (dataOf c m)) (movedMemory c (dataOf c m) m)
+pub transfer-left : (c : Channel) (m : Buffers) → fieldsAgree c ≡ true → TransferLeft c m (movedChannel c (dataOf c m)) (movedMemory c (dataOf c m) m)
 transfer-left c m h = by-bits (λ x. TransferLeft x m (movedChannel x (dataOf x m)) (movedMemory x (dataOf x m) m)) c h (moved-left c m)
 
+-- a half is due as the bits say
+pub half-is : (c : Channel) (m : Buffers) → fieldsAgree c ≡ true → isHalf c ≡ halfDue c m
+unfolding isHalf fetchesApart storesApart twoMove storedSingly wordSide source destination split fieldOf bitOf
+half-is c m h = by-bits (λ x. isHalf x ≡ halfDue x m) c h refl
+
 -- a transfer step that is done has number 0 of its own
-settle : (n : ℕ) (s : State) (m : Buffers) (b : Bool) (o : Taken) → settledStep n s m b (o .channel) (o .memory) Transfer .number ≡ n
+pub settle : (n : ℕ) (s : State) (m : Buffers) (b : Bool) (o : Taken) → settledStep n s m b (o .channel) (o .memory) Transfer .number ≡ n
 unfolding settledStep
 settle zero s m b o = refl
 settle (suc n) s m b o = rw (eqb·suc-zero n)
 
-on : (psw : ℕ) → bit psw 6 ≡ 1 → transferring psw ≡ true
+pub on : (psw : ℕ) → bit psw 6 ≡ 1 → transferring psw ≡ true
 unfolding bitOf
 on psw f = eq-eqb (bit psw 6) 1 f
 
+-- a transfer step that is done, by its part
+module _ (b : Bool) (s : State) (m : Buffers) (lines : ℕ) (t : Transfers b s m lines) where
+  -- its channel's fields are those of CC
+  pub done-fields : fieldsAgree (channelOf s b) ≡ true
+  done-fields = agree-channel-of s b (done-agrees s m lines (t .done))
+
+  step-is : stepOf s m lines ≡ transferStep s m b
+  step-is = turn-is b s m lines (t .turn) (on (channelOf s b .psw) (t .on))
+
+  pub done-number : (transferOf (channelOf s b) m) .number ≡ 0
+  unfolding transferStep
+  done-number =
+      let o = transferOf (channelOf s b) m in
+      sym (settle (o .number) s m b o) ∙ sym (ap (λ (o : Step). o .number) step-is) ∙ t .done
+
+  pub done-channel : ranChannel b s m lines ≡ channelBy (partOf (channelOf s b)) (channelOf s b) m
+  done-channel = ap (λ (o : Step). channelOf (o .state) b) step-is ∙ transfer-channel b s m ∙ ap (λ (o : Taken). o .channel) (done (channelOf s b) m done-number)
+
+  pub done-memory : (stepOf s m lines) .memory ≡ memoryBy (partOf (channelOf s b)) (channelOf s b) m
+  done-memory = ap (λ (o : Step). o .memory) step-is ∙ transfer-memory b s m ∙ ap (λ (o : Taken). o .memory) (done (channelOf s b) m done-number)
+
 pub transfer-sheet : (second : Bool) (s : State) (m : Buffers) (lines : ℕ) → TransferSheet second s m lines
-unfolding transferStep
+unfolding channelBy memoryBy
 transfer-sheet b s m lines = record {
-  transfer = λ t f z.
+  transfer = λ t no.
       let c = channelOf s b in
-      let x : transferring (c .psw) ≡ true = on (c .psw) f in
-      let step : stepOf s m lines ≡ transferStep s m b = turn-is b s m lines t x in
-      let none : (transferOf c m) .number ≡ 0 = sym (settle ((transferOf c m) .number) s m b (transferOf c m)) ∙ sym (ap (λ (o : Step). o .number) step) ∙ z in
-      let made : transferOf c m ≡ transferred 0 (movedChannel c (dataOf c m)) (movedMemory c (dataOf c m) m) = done c m none in
-      let channel : ranChannel b s m lines ≡ movedChannel c (dataOf c m) =
-      ap (λ (o : Step). channelOf (o .state) b) step ∙ transfer-channel b s m ∙ ap (λ (o : Taken). o .channel) made in
-      let memory : (stepOf s m lines) .memory ≡ movedMemory c (dataOf c m) m =
-      ap (λ (o : Step). o .memory) step ∙ transfer-memory b s m ∙ ap (λ (o : Taken). o .memory) made in
+      let whole : partOf c ≡ Whole = not-half c (half-is c m (done-fields b s m lines t) ∙ no) in
+      let channel : ranChannel b s m lines ≡ movedChannel c (dataOf c m) = done-channel b s m lines t ∙ ap (λ (k : Part). channelBy k c m) whole in
+      let memory : (stepOf s m lines) .memory ≡ movedMemory c (dataOf c m) m = done-memory b s m lines t ∙ ap (λ (k : Part). memoryBy k c m) whole in
       subst (λ (k : Channel). TransferLeft c m k ((stepOf s m lines) .memory)) (sym channel)
-      (subst (λ (n : Buffers). TransferLeft c m (movedChannel c (dataOf c m)) n) (sym memory) (transfer-left c m (agree-channel-of s b (done-agrees s m lines z))));
+      (subst (λ (n : Buffers). TransferLeft c m (movedChannel c (dataOf c m)) n) (sym memory) (transfer-left c m (done-fields b s m lines t)));
 }

@@ -100,6 +100,7 @@ by-end c on = record {
   mc = refl;
   mode = refl;
   mark = refl;
+  held = refl;
 }
 
 external-left : (c : Channel) → fieldsAgree c ≡ true → eqb (c .fields .externalEnd) 0 ≡ false → ExternalLeft c (externallyEnded c)

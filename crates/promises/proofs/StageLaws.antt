@@ -17,7 +17,8 @@ use Rattle.memory.specs.declared.Pointer.{Pointer}
 use Rattle.transfer.proofs.BlockLaws.{Block, stride, remaining, carried, word-narrow, one-moves, last-moves, two-moves, block-going, block-last}
 use Rattle.words.proofs.ChoiceLaws.{pick-under, apart, both-left, both-right}
 use Rattle.transfer.specs.Ends.{offsetOf, endedTP, endedPSW, endedBy}
-use Rattle.machine.specs.Updates.{withTransfer}
+use Rattle.machine.specs.Updates.{withTransfer, holding}
+use Rattle.machine.specs.declared.Held.the-variants.{NoByte}
 use Rattle.transfer.specs.Reads.{dataOf}
 use Rattle.transfer.specs.Sides.{side, source, destination, wordSide, gained, twoMove}
 use Rattle.transfer.specs.Stores.{movedChannel}
@@ -25,7 +26,7 @@ use Rattle.words.specs.Bits.{bitOf}
 use Rattle.words.specs.Choice.{pick}
 use Rattle.words.specs.Sums.{countDown}
 use Rattle.promises.specs.Premises.{from, into, Plain}
-use Rattle.promises.specs.Stages.{onBy, midway, finished}
+use Rattle.promises.specs.Stages.{onBy, heldOn, midway, finished}
 use Rattle.promises.specs.Totals.{narrow}
 
 -- the channel when j of n bytes have moved, and at n the end
@@ -101,9 +102,9 @@ plain-block c k =
 pub mid-block : (c : Channel) (n j : ℕ) → Plain c → Block ((midway c n j) .fields)
 mid-block c n j k = rw mid-fields (plain-block c k)
 
--- SYN is not 11
-pub mid-syn : (c : Channel) (n j : ℕ) → Plain c → (midway c n j) .fields .synchronised ≡ 3 → ⊥
-mid-syn c n j k e = eqb-false 0 3 refl (sym (k .unsynchronised) ∙ ap (λ (f : Fields). f .synchronised) (sym (mid-fields c n j)) ∙ e)
+-- SYN is 00
+pub mid-syn : (c : Channel) (n j : ℕ) → Plain c → (midway c n j) .fields .synchronised ≡ 0
+mid-syn c n j k = ap (λ (f : Fields). f .synchronised) (mid-fields c n j) ∙ k .unsynchronised
 
 -- ---- word sides
 
@@ -175,11 +176,14 @@ words-two c n j h l most ne = two-moves (midway c n j) h (λ e. let x : (n - j) 
 -- ---- the next stage
 
 -- both pointers and BC after the next step
-carried-mid : (c : Channel) (n j s : ℕ) → stride (midway c n j) ≡ s → s ≤ 2 → j + s ≤ n → n ≤ 65536 → carried (midway c n j) ≡ midway c n (j + s)
+carried-mid : (c : Channel) (n j s : ℕ) → stride (midway c n j) ≡ s → 1 ≤ s → s ≤ 2 → j + s ≤ n → n ≤ 65536 → carried (midway c n j) ≡ midway c n (j + s)
 unfolding carried midway withTransfer
-carried-mid c n j s e two fits most =
-    λ i. withTransfer c (ga i) (gb i) (c .tp) (bc i) (c .psw)
+carried-mid c n j s e one two fits most =
+    λ i. holding (withTransfer c (ga i) (gb i) (c .tp) (bc i) (c .psw)) (held i)
   where
+    held : NoByte ≡ heldOn c (j + s)
+    held = rw (ne-eqb (j + s) 0 (omega arith))
+
     ga : gained true (onBy (c .ga) j) (stride (midway c n j)) ≡ onBy (c .ga) (j + s)
     ga = rw e (on-on (c .ga) j s)
 
@@ -194,10 +198,13 @@ left-mid : (c : Channel) (n j s : ℕ) → stride (midway c n j) ≡ s → s ≤
 left-mid c n j s e two fits most = rw (e, mid-count c n j) (omega arith)
 
 -- the end
-ends-mid : (c : Channel) (n : ℕ) → (c .fields .countEnd ≡ 0 → ⊥) → endedBy (midway c n n) (c .fields .countEnd) ≡ finished c n
+ends-mid : (c : Channel) (n : ℕ) → 1 ≤ n → (c .fields .countEnd ≡ 0 → ⊥) → endedBy (midway c n n) (c .fields .countEnd) ≡ finished c n
 unfolding endedBy endedTP endedPSW midway finished withTransfer gained onward
-ends-mid c n ne = λ i. withTransfer c (onBy (c .ga) n) (onBy (c .gb) n) (tp i) (bc i) (psw i)
+ends-mid c n some ne = λ i. holding (withTransfer c (onBy (c .ga) n) (onBy (c .gb) n) (tp i) (bc i) (psw i)) (held i)
   where
+    held : heldOn c n ≡ NoByte
+    held = rw (ne-eqb n 0 (omega arith))
+
     tp : gained (not (eqb (c .fields .countEnd) 0)) (c .tp) (offsetOf (c .fields .countEnd)) ≡ onBy (c .tp) (offsetOf (c .fields .countEnd))
     tp = rw (ne-eqb (c .fields .countEnd) 0 ne)
 
@@ -217,7 +224,7 @@ stage-next c n j s m k e one two fits most = go (decLt (j + s) n)
     left = left-mid c n j s e two fits most
 
     next : carried (midway c n j) ≡ midway c n (j + s)
-    next = carried-mid c n j s e two fits most
+    next = carried-mid c n j s e one two fits most
 
     go : Dec (j + s < n) → movedChannel (midway c n j) (dataOf (midway c n j) m) ≡ pick (ltb (j + s) n) (midway c n (j + s)) (finished c n)
     go (yes h) = rw (lt-ltb (j + s) n h) (block-going (midway c n j) (dataOf (midway c n j) m) (mid-block c n j k) (λ z. let x : (n - (j + s)) % 65536 ≡ 0 = sym left ∙ z in omega arith) ∙ next)
@@ -226,12 +233,12 @@ stage-next c n j s m k e one two fits most = go (decLt (j + s) n)
         rw (le-ltb (j + s) n (omega arith))
         (block-last (midway c n j) (dataOf (midway c n j) m) (mid-block c n j k) (left ∙ omega arith)
         ∙ ap₂ endedBy (next ∙ ap (midway c n) all) (ap (λ (f : Fields). f .countEnd) (mid-fields c n j))
-        ∙ ends-mid c n (k .counts))
+        ∙ ends-mid c n (omega arith) (k .counts))
 
 -- at the start none has moved
 pub stage-start : (c : Channel) (n : ℕ) → Plain c → 1 ≤ n → c .bc ≡ n % 65536 → stage c n 0 ≡ c
 unfolding stage midway withTransfer
-stage-start c n k one e = rw (lt-ltb 0 n one) (λ i. withTransfer c (on-none (c .ga) ga i) (on-none (c .gb) gb i) (c .tp) (bc i) (c .psw))
+stage-start c n k one e = rw (lt-ltb 0 n one) (λ i. holding (withTransfer c (on-none (c .ga) ga i) (on-none (c .gb) gb i) (c .tp) (bc i) (c .psw)) (c .held))
   where
     ga : c .ga .address < 1048576
     ga = ga-small c (k .sound)

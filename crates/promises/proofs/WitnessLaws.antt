@@ -19,7 +19,8 @@ use Rattle.transfer.specs.Ends.{meetsTmc, codeIf, larger, offsetOf, endedTP, en
 use Rattle.machine.specs.Updates.{withTransfer}
 use Rattle.transfer.specs.Reads.{fetched, fetchedSecond, entryOf, delivered, dataOf, also, readPlaces}
 use Rattle.transfer.specs.Sides.{source, destination, wordSide, secondAddress, gained, twoMove, storedSingly}
-use Rattle.transfer.specs.Steps.{Transfer, touchedByTransfer, transferred, badMode, transferStages, transferNumber, transferOf}
+use Rattle.transfer.specs.Parts.{fetchesApart, storesApart, fetchPart, storePart, partOf}
+use Rattle.transfer.specs.Steps.{Transfer, transferred, badMode, transferOf, stepBy, numberBy, stagesBy, channelBy, memoryBy, touchedBy}
 use Rattle.transfer.specs.Stores.{movedChannel, movedMemory, firstMeets, matchMet, cutShort, storesTwo, bytesStored, bytesMoved, bytesCounted, countAfter, endCode, movedBy, putOn, placesOn, storedPlaces}
 use Rattle.words.proofs.ChoiceLaws.{apart}
 use Rattle.words.specs.Bits.{fieldOf, bitOf, withBit}
@@ -98,7 +99,7 @@ wide-met =
 
 -- a transfer step with all that it is made of laid open, so that it computes
 unfoldable pub transferOpen : Channel → Buffers → Transfer
-unfolding channelWith memoryWith transferOf transferNumber transferStages stagesNumber first unless badMode source destination touchedByTransfer readPlaces also entryOf storedPlaces placesOn allPass touchableAt lentAt spaceOf indexOf limitOf dataOf delivered fetched fetchedSecond twoMove wordSide secondAddress bitOf fieldOf storesTwo cutShort storedSingly firstMeets meetsTmc matchMet movedMemory putOn storeByte byteAt beyondIn movedChannel endedBy endedTP endedPSW movedBy withTransfer gained onward bytesMoved bytesStored bytesCounted countAfter endCode codeIf larger offsetOf withPsw withBit matchOf split
+unfolding channelWith memoryWith transferOf stepBy numberBy stagesBy partOf fetchesApart storesApart fetchPart storePart channelBy memoryBy touchedBy stagesNumber first unless badMode source destination readPlaces also entryOf storedPlaces placesOn allPass touchableAt lentAt spaceOf indexOf limitOf dataOf delivered fetched fetchedSecond twoMove wordSide secondAddress bitOf fieldOf storesTwo cutShort storedSingly firstMeets meetsTmc matchMet movedMemory putOn storeByte byteAt beyondIn movedChannel endedBy endedTP endedPSW movedBy withTransfer gained onward bytesMoved bytesStored bytesCounted countAfter endCode codeIf larger offsetOf withPsw withBit matchOf split
 transferOpen c m = transferOf c m
 
 -- both widths 8: the total is five

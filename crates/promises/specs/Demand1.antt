@@ -10,6 +10,7 @@ use Rattle.memory.specs.Buffers.{Buffers}
 use Rattle.memory.specs.Values.{pointer}
 use Rattle.machine.specs.Cc.{split}
 use Rattle.machine.specs.declared.Channel.{Channel}
+use Rattle.machine.specs.declared.Held.the-variants.{NoByte}
 use Rattle.machine.specs.declared.Mode.the-variants.{Idle}
 use Rattle.machine.specs.declared.State.{State}
 use Rattle.machine.specs.Conditions.{check, Given}
@@ -37,6 +38,8 @@ pub record Blank (c : Channel) : Type 0 where
   pub armed : c .armed ≡ false
   -- the fields are those of CC 0
   pub fields : c .fields ≡ split 0
+  -- nothing is held
+  pub held : c .held ≡ NoByte
 
 -- a fresh state of any CP
 pub record FreshAnswers (cp : ℕ) : Type 0 where

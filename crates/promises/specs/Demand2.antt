@@ -29,7 +29,7 @@ abbrev pub storedByOrder : State → Buffers → ℕ → List Place
 storedByOrder s m channel =
     storedBy (orderTo s m (isSecond channel) .command) (orderTo s m (isSecond channel) .block) (orderTo s m (isSecond channel) .pb)
 
--- no register but TP, PP, PSW, the mode and the armed mark has changed
+-- no register but TP, PP, PSW, the mode, the armed mark and the held byte has changed
 pub record OnlyControl (before after : Channel) : Type 0 where
   pub ga : after .ga ≡ before .ga
   pub gb : after .gb ≡ before .gb
@@ -47,7 +47,7 @@ pub record AttentionDoes (s : State) (m : Buffers) (channel : ℕ) : Type 0 wher
       → attentionOf s m channel ≡ outcome 0 (withChannel s (isSecond channel) (orderedChannel s m (isSecond channel))) (orderedMemory s m (isSecond channel))
   -- no register of the other channel changes
   pub other : (second : Bool) → channel ≡ channelNumber second → channelOf (attentionOf s m channel .state) (not second) ≡ channelOf s (not second)
-  -- of its own channel it changes no register but TP, PP, PSW, the mode and the armed mark
+  -- of its own channel it changes no register but TP, PP, PSW, the mode, the armed mark and the held byte (SheetAttention says which command keeps it)
   pub own : OnlyControl (channelOf s (isSecond channel)) (channelOf (attentionOf s m channel .state) (isSecond channel))
   -- of what the channels share it changes nothing
   pub controlBlock : attentionOf s m channel .state .cp ≡ s .cp

@@ -1,6 +1,6 @@
 -- The leftover count (§7.8 to §7.10): what BC, sides and TP become where a match ends a transfer step, and what a driver works out from BC after
 -- calls in a row.
-use mathlib.Core.Bool.{Bool, true, false, _&&_}
+use mathlib.Core.Bool.{Bool, true, false, not, _&&_}
 use mathlib.Core.List.{List}
 use mathlib.Core.Logic.{_⊎_}
 use mathlib.Core.Path.{_≡_}
@@ -16,19 +16,13 @@ use Rattle.machine.specs.declared.State.{State}
 use Rattle.attention.specs.Attention.{attentionOf}
 use Rattle.transfer.specs.Steps.{transferred, transferOf}
 use Rattle.step.specs.Step.{stepOf}
-use Rattle.promises.specs.Calls.{Turn}
 use Rattle.promises.specs.Stages.{onBy}
 use Rattle.promises.specs.SheetWords.{bit, field}
 use Rattle.promises.specs.SheetOperands.{ranChannel}
 use Rattle.promises.specs.SheetTurns.{offsetIn}
-use Rattle.promises.specs.SheetTransfer.{intoPointer, intoWordSide, twoGo, firstByte, secondByte, meetsIn, singly, storedCount, fetchedCount, maxOf}
+use Rattle.promises.specs.SheetTransfer.{intoPointer, intoWordSide, twoGo, firstByte, secondByte, meetsIn, singly, storedCount, fetchedCount, maxOf, storesTwice, halfDue, Transfers}
+use Rattle.promises.specs.SheetHalves.{isNone}
 use Rattle.promises.specs.Witness.{channelWith, memoryWith, six, memoryStart}
-
--- a step call is a channel's transfer step, and is done
-pub record Transfers (second : Bool) (s : State) (m : Buffers) (lines : ℕ) : Type 0 where
-  pub turn : Turn second s m lines
-  pub on : bit (channelOf s second .psw) 6 ≡ 1
-  pub done : (stepOf s m lines) .number ≡ 0
 
 -- ---- one step
 
@@ -51,34 +45,50 @@ pub record FirstLeft (c : Channel) (m : Buffers) (after : Channel) (m′ : Buffe
   pub tp : after .tp
       ≡ onBy (c .tp) (maxOf c m (offsetIn (field (c .cc) 0 3 % 4)) (pick (eqb (bcLess c 2) 0) (offsetIn (field (c .cc) 3 2)) 0))
 
+-- a first half of a pair that no match ends: its bytes count when the pair is whole
+abbrev pub opens : Channel → Buffers → Bool
+opens c m = halfDue c m && (isNone (c .held) && not (storesTwice c m && meetsIn c m (firstByte c m)))
+
+-- a second half
+abbrev pub closes : Channel → Buffers → Bool
+closes c m = halfDue c m && not (isNone (c .held))
+
+-- the bytes that a step adds to those fetched and to those stored: none at a first half that no match ends, both at a second half
+abbrev pub fetchedNow : Channel → Buffers → ℕ
+fetchedNow c m = pick (opens c m) 0 (fetchedCount c m)
+
+abbrev pub storedNow : Channel → Buffers → ℕ
+storedNow c m = pick (opens c m) 0 (pick (closes c m) 2 (storedCount c m))
+
 -- both of two bytes are stored, and both count
 abbrev pub BothCount : Bool → State → Buffers → ℕ → Type 0
 BothCount second s m lines = (ranChannel second s m lines .bc ≡ bcLess (channelOf s second) 2) × (storedCount (channelOf s second) m ≡ 2)
 
 -- what a transfer step makes of BC
 pub record LeftoverSheet (second : Bool) (s : State) (m : Buffers) (lines : ℕ) : Type 0 where
-  pub firstMet : Transfers second s m lines → firstEnds (channelOf s second) m ≡ true
+  -- the first of two single stores meets TMC; where the two are a step each, this ends the transfer at the first
+  pub firstMet : Transfers second s m lines → firstEnds (channelOf s second) m ≡ true → closes (channelOf s second) m ≡ false
       → FirstLeft (channelOf s second) m (ranChannel second s m lines) ((stepOf s m lines) .memory)
-  -- in every other step it falls by the bytes stored
-  pub others : Transfers second s m lines → firstEnds (channelOf s second) m ≡ false
+  -- in every other step that is no half of a pair it falls by the bytes stored
+  pub others : Transfers second s m lines → halfDue (channelOf s second) m ≡ false → firstEnds (channelOf s second) m ≡ false
       → ranChannel second s m lines .bc ≡ bcLess (channelOf s second) (storedCount (channelOf s second) m)
   -- so by 2 where the second of two single stores meets TMC
-  pub secondMet : Transfers second s m lines → singly (channelOf s second) m ≡ true
+  pub secondMet : Transfers second s m lines → halfDue (channelOf s second) m ≡ false → singly (channelOf s second) m ≡ true
       → meetsIn (channelOf s second) m (firstByte (channelOf s second) m) ≡ false → meetsIn (channelOf s second) m (secondByte (channelOf s second) m) ≡ true
       → BothCount second s m lines
   -- and where a word is stored, whether its low byte meets TMC or not
-  pub wordStored : Transfers second s m lines → twoGo (channelOf s second) m ≡ true → intoWordSide (channelOf s second) m ≡ true
+  pub wordStored : Transfers second s m lines → halfDue (channelOf s second) m ≡ false → twoGo (channelOf s second) m ≡ true → intoWordSide (channelOf s second) m ≡ true
       → BothCount second s m lines
 
 -- ---- calls in a row
 
 -- what comes of a state by calls in a row, each with the state that the one before handed back and with any memory and lines, when this channel's
--- transfer steps have fetched and stored so many bytes: the start; a transfer step of it; a step of the other channel, or a refused one; an attention
+-- transfer steps have fetched and stored so many bytes, those of a pair of halves with its second: the start; a transfer step of it; a step of the other channel, or a refused one; an attention
 -- that is not to it. So no other end stops its transfer, and once it has ended no more is fetched
 pub data Sector (second : Bool) (s₀ : State) : ℕ → ℕ → State → Type 0 where
   begin : Sector second s₀ 0 0 s₀
   transfer : {fetched stored : ℕ} {s : State} → Sector second s₀ fetched stored s → (m : Buffers) (lines : ℕ) → Transfers second s m lines
-      → Sector second s₀ (fetched + fetchedCount (channelOf s second) m) (stored + storedCount (channelOf s second) m) ((stepOf s m lines) .state)
+      → Sector second s₀ (fetched + fetchedNow (channelOf s second) m) (stored + storedNow (channelOf s second) m) ((stepOf s m lines) .state)
   step : {fetched stored : ℕ} {s : State} → Sector second s₀ fetched stored s → (m : Buffers) (lines : ℕ)
       → ((stepOf s m lines) .channel ≡ channelNumber second → ⊥) → Sector second s₀ fetched stored ((stepOf s m lines) .state)
   attention : {fetched stored : ℕ} {s : State} → Sector second s₀ fetched stored s → (m : Buffers) (channel : ℕ)

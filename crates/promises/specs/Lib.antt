@@ -25,6 +25,7 @@ pub mod SheetMemory
 pub mod SheetControl
 pub mod SheetTurns
 pub mod SheetTransfer
+pub mod SheetHalves
 pub mod Leftover
 pub mod Sheet
 pub mod Slots

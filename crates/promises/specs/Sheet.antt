@@ -1,5 +1,5 @@
--- The sheet of the machine: what each command of attention, each family of rows of the table of codes, a choice and a transfer step leave, by
--- fields and numbers. It says again what the definitions of the crates below say, in other words, so that a wrong rule meets a theorem here.
+-- The sheet of the machine: what each command of attention, each family of rows of the table of codes, a choice, a transfer step and each half of a
+-- pair leave, by fields and numbers. It says again what the definitions of the crates below say, in other words, so that a wrong rule meets a theorem here.
 use mathlib.Core.Bool.{Bool}
 use Prim.Native.Nat.{ℕ}
 use Rattle.memory.specs.Buffers.{Buffers}
@@ -11,6 +11,7 @@ use Rattle.promises.specs.SheetMemory.{MemorySheet}
 use Rattle.promises.specs.SheetControl.{ControlSheet}
 use Rattle.promises.specs.SheetTurns.{TurnSheet}
 use Rattle.promises.specs.SheetTransfer.{TransferSheet}
+use Rattle.promises.specs.SheetHalves.{HalfSheet, HeldThrough}
 
 pub record Sheet : Type 0 where
   pub names : Names
@@ -20,3 +21,5 @@ pub record Sheet : Type 0 where
   pub control : (second : Bool) (s : State) (m : Buffers) (lines : ℕ) → ControlSheet second s m lines
   pub turns : (s : State) (m : Buffers) (lines : ℕ) → TurnSheet s m lines
   pub transfer : (second : Bool) (s : State) (m : Buffers) (lines : ℕ) → TransferSheet second s m lines
+  pub halves : (second : Bool) (s : State) (m : Buffers) (lines : ℕ) → HalfSheet second s m lines
+  pub through : HeldThrough

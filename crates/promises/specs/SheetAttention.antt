@@ -12,6 +12,8 @@ use Rattle.memory.specs.Values.{pointer}
 use Rattle.memory.specs.declared.Pointer.{Pointer}
 use Rattle.machine.specs.States.{channelOf, channelNumber}
 use Rattle.machine.specs.declared.Channel.{Channel}
+use Rattle.machine.specs.declared.Held.{Held as HeldByte}
+use Rattle.machine.specs.declared.Held.the-variants.{NoByte}
 use Rattle.machine.specs.declared.Mode.{Mode}
 use Rattle.machine.specs.declared.Mode.the-variants.{Idle, Running, Suspended}
 use Rattle.machine.specs.declared.State.{State}
@@ -62,13 +64,14 @@ pub record StatusLeft (ccw psw tb xf after : ℕ) : Type 0 where
   pub transfer : bit after 6 ≡ xf
   pub priority : bit after 7 ≡ bit ccw 7
 
--- the channel after a command: TP with its tag, PP, PSW, mode and mark
-pub record ControlLeft (ccw : ℕ) (after : Channel) (task : Pointer) (parameters psw tb xf : ℕ) (state : Mode) (armed : Bool) : Type 0 where
+-- the channel after a command: TP with its tag, PP, PSW, mode, mark and the held byte
+pub record ControlLeft (ccw : ℕ) (after : Channel) (task : Pointer) (parameters psw tb xf : ℕ) (state : Mode) (armed : Bool) (byte : HeldByte) : Type 0 where
   pub tp : after .tp ≡ task
   pub pp : after .pp ≡ parameters
   pub status : StatusLeft ccw psw tb xf (after .psw)
   pub mode : after .mode ≡ state
   pub mark : after .armed ≡ armed
+  pub held : after .held ≡ byte
 
 -- memory after a command that stores BUSY alone
 pub record BusyLeft (s : State) (second : Bool) (value : ℕ) (m m′ : Buffers) : Type 0 where
@@ -90,8 +93,8 @@ module _ (second : Bool) (s : State) (m : Buffers) where
   was = channelOf s second
 
   -- a command makes its channel so
-  abbrev pub Becomes : Pointer → ℕ → ℕ → ℕ → ℕ → Mode → Bool → Type 0
-  Becomes tp pp psw tb xf mode armed = ControlLeft (ccwAt s m second) (channelAfter s m second) tp pp psw tb xf mode armed
+  abbrev pub Becomes : Pointer → ℕ → ℕ → ℕ → ℕ → Mode → Bool → HeldByte → Type 0
+  Becomes tp pp psw tb xf mode armed byte = ControlLeft (ccwAt s m second) (channelAfter s m second) tp pp psw tb xf mode armed byte
 
   -- it stores BUSY alone
   abbrev pub Marks : ℕ → Type 0
@@ -101,26 +104,26 @@ module _ (second : Bool) (s : State) (m : Buffers) where
   pub record AttentionSheet : Type 0 where
     -- 000: PSW alone (§4.4)
     pub update : Attends second s m 0
-        → Becomes (was .tp) (was .pp) (was .psw) (bit (was .psw) 2) (bit (was .psw) 6) (was .mode) (was .armed)
+        → Becomes (was .tp) (was .pp) (was .psw) (bit (was .psw) 2) (bit (was .psw) 6) (was .mode) (was .armed) (was .held)
     pub updateMemory : Attends second s m 0 → outcomeTo s m second .memory ≡ m
-    -- 001: TP is PB's first word, with tag 1 (§4.5)
+    -- 001: TP is PB's first word, with tag 1, and nothing is held (§4.5)
     pub startLocal : Attends second s m 1
-        → Becomes (pointer (wordIn m false (pbAt s m second)) true) (pbAt s m second) (was .psw) 1 0 Running false
+        → Becomes (pointer (wordIn m false (pbAt s m second)) true) (pbAt s m second) (was .psw) 1 0 Running false NoByte
     pub startLocalMemory : Attends second s m 1 → Marks 0xFF
     -- 011: TP is PB's first two words as a doubleword pointer, with tag 0
     pub startSystem : Attends second s m 3
-        → Becomes (pointer (farIn m false (pbAt s m second)) false) (pbAt s m second) (was .psw) 1 0 Running false
+        → Becomes (pointer (farIn m false (pbAt s m second)) false) (pbAt s m second) (was .psw) 1 0 Running false NoByte
     pub startSystemMemory : Attends second s m 3 → Marks 0xFF
-    -- 110: TB and XF are 0, the mark stays (§4.6)
-    pub suspend : Attends second s m 6 → Becomes (was .tp) (was .pp) (was .psw) 0 0 Suspended (was .armed)
+    -- 110: TB and XF are 0, the mark and a held byte stay (§4.6)
+    pub suspend : Attends second s m 6 → Becomes (was .tp) (was .pp) (was .psw) 0 0 Suspended (was .armed) (was .held)
     pub suspendMemory : Attends second s m 6 → SavedLeft s second m (outcomeTo s m second .memory)
-    -- 101: TP, its tag and PSW from the four bytes at PP, then TB is 1; XF comes back, the mark stays (§4.7)
+    -- 101: TP, its tag and PSW from the four bytes at PP, then TB is 1; XF comes back, the mark and a held byte stay (§4.7)
     pub resume : Attends second s m 5
         → Becomes (pointer (storedIn m false (was .pp)) (storedTagIn m false (was .pp))) (was .pp)
-        (byteAt m false (was .pp + 3)) 1 (bit (byteAt m false (was .pp + 3)) 6) Running (was .armed)
+        (byteAt m false (was .pp + 3)) 1 (bit (byteAt m false (was .pp + 3)) 6) Running (was .armed) (was .held)
     pub resumeMemory : Attends second s m 5 → Marks 0xFF
-    -- 111: idle, TB and XF 0, without the mark (§4.8)
-    pub halt : Attends second s m 7 → Becomes (was .tp) (was .pp) (was .psw) 0 0 Idle false
+    -- 111: idle, TB and XF 0, without the mark, nothing held (§4.8)
+    pub halt : Attends second s m 7 → Becomes (was .tp) (was .pp) (was .psw) 0 0 Idle false NoByte
     pub haltMemory : Attends second s m 7 → Marks 0
     -- 010 and 100 are none (§4.2)
     pub none : ¬ (Attends second s m 2) × ¬ (Attends second s m 4)

@@ -1,5 +1,5 @@
 -- The sheet of a transfer step (§7): sides, bytes, ends and counts by bits of CC and PSW.
-use mathlib.Core.Bool.{Bool, not, _&&_, _||_}
+use mathlib.Core.Bool.{Bool, false, not, _&&_, _||_}
 use mathlib.Core.Path.{_≡_}
 use Prim.Native.Nat.{ℕ, _+_, _-_, _/_, _%_}
 use lib.Bits.{bitAnd, bitXor}
@@ -10,6 +10,7 @@ use Rattle.memory.specs.Values.{pointer}
 use Rattle.memory.specs.declared.Pointer.{Pointer}
 use Rattle.machine.specs.States.{channelOf}
 use Rattle.machine.specs.declared.Channel.{Channel}
+use Rattle.machine.specs.declared.Held.the-variants.{NoByte}
 use Rattle.machine.specs.declared.State.{State}
 use Rattle.step.specs.Step.{stepOf}
 use Rattle.promises.specs.Calls.{Turn}
@@ -89,11 +90,22 @@ module _ (c : Channel) (m : Buffers) where
       (maxOf (pick (meetsIn firstByte || singly && meetsIn secondByte) (field (c .cc) 0 3 % 4) 0) (pick (eqb countLeft 0) (field (c .cc) 3 2) 0))
       (pick (eqb (bit (c .cc) 7) 1) 1 0)
 
+  -- one request, one byte (§7.14): SYN, bits 12-11 of CC, is 01 and two bytes come from a source that is no word side, or it is 10 and they go to
+  -- a destination that is none
+  abbrev pub fetchesTwice : Bool
+  fetchesTwice = eqb (field (c .cc) 11 2) 1 && (twoGo && not fromWordSide)
+
+  abbrev pub storesTwice : Bool
+  storesTwice = eqb (field (c .cc) 11 2) 2 && singly
+
+  abbrev pub halfDue : Bool
+  halfDue = fetchesTwice || storesTwice
+
   -- a pointer on by the bytes stored
   abbrev pub gainsIn : Bool → Pointer → Pointer
   gainsIn on p = pick on (pointer ((p .address + storedCount) % 1048576) (p .tag)) p
 
--- the channel and memory after a transfer step
+-- the channel and memory after a transfer step that is no half of a pair
 pub record TransferLeft (c : Channel) (m : Buffers) (after : Channel) (m′ : Buffers) : Type 0 where
   pub ga : after .ga ≡ gainsIn c m (eqb (bit (c .cc) (pick (eqb (bit (c .cc) 10) 1) 15 14)) 1) (c .ga)
   pub gb : after .gb ≡ gainsIn c m (eqb (bit (c .cc) (pick (eqb (bit (c .cc) 10) 1) 14 15)) 1) (c .gb)
@@ -108,12 +120,19 @@ pub record TransferLeft (c : Channel) (m : Buffers) (after : Channel) (m′ : Bu
   pub mc : after .mc ≡ c .mc
   pub mode : after .mode ≡ c .mode
   pub mark : after .armed ≡ c .armed
+  pub held : after .held ≡ NoByte
   pub stored : m′
       ≡ pick (twoStored c m)
       (storeByte (storeByte m (intoPointer c m .tag) (intoPointer c m .address) (firstByte c m)) (intoPointer c m .tag) (intoSecond c m) (secondByte c m))
       (storeByte m (intoPointer c m .tag) (intoPointer c m .address) (firstByte c m))
 
--- a step call that is a channel's turn with XF and is done
+-- a step call is a channel's transfer step, and is done
+pub record Transfers (second : Bool) (s : State) (m : Buffers) (lines : ℕ) : Type 0 where
+  pub turn : Turn second s m lines
+  pub on : bit (channelOf s second .psw) 6 ≡ 1
+  pub done : (stepOf s m lines) .number ≡ 0
+
+-- a step call that is a channel's turn with XF, is done and is no half of a pair
 pub record TransferSheet (second : Bool) (s : State) (m : Buffers) (lines : ℕ) : Type 0 where
-  pub transfer : Turn second s m lines → bit (channelOf s second .psw) 6 ≡ 1 → (stepOf s m lines) .number ≡ 0
+  pub transfer : Transfers second s m lines → halfDue (channelOf s second) m ≡ false
       → TransferLeft (channelOf s second) m (ranChannel second s m lines) ((stepOf s m lines) .memory)

@@ -11,6 +11,7 @@ use Rattle.memory.specs.Values.{pointer}
 use Rattle.machine.specs.Conditions.{FieldsDisagree}
 use Rattle.machine.specs.States.{channelOf}
 use Rattle.machine.specs.declared.Channel.{Channel}
+use Rattle.machine.specs.declared.Held.the-variants.{NoByte}
 use Rattle.machine.specs.declared.Mode.{Mode}
 use Rattle.machine.specs.declared.Mode.the-variants.{Idle, Running, Suspended}
 use Rattle.machine.specs.declared.State.{State}
@@ -60,7 +61,7 @@ choiceIn s lines =
 abbrev pub offsetIn : ℕ → ℕ
 offsetIn code = getD (0 ∷ 0 ∷ 4 ∷ 8 ∷ []) code 0
 
--- the channel after an external end (§5.2)
+-- the channel after an external end (§5.2); a held byte is dropped
 pub record ExternalLeft (before after : Channel) : Type 0 where
   pub tp : after .tp ≡ pointer ((before .tp .address + offsetIn (before .cc / 32 % 4)) % 1048576) (before .tp .tag)
   pub status : (k : ℕ) → bit (after .psw) k ≡ pick (eqb k 6) 0 (bit (before .psw) k)
@@ -75,6 +76,7 @@ pub record ExternalLeft (before after : Channel) : Type 0 where
   pub mc : after .mc ≡ before .mc
   pub mode : after .mode ≡ before .mode
   pub mark : after .armed ≡ before .armed
+  pub held : after .held ≡ NoByte
 
 -- a step call; where the fields are not those of CC no choice is made, since 14 refuses it
 pub record TurnSheet (s : State) (m : Buffers) (lines : ℕ) : Type 0 where

@@ -12,7 +12,11 @@ use Rattle.machine.specs.declared.Channel.{Channel}
 use Rattle.machine.specs.Psw.{transferring, withPsw}
 use Rattle.machine.specs.States.{isRunning}
 use Rattle.transfer.specs.Ends.{offsetOf}
-use Rattle.machine.specs.Updates.{withTransfer}
+use Rattle.machine.specs.Updates.{withTransfer, holding, dropped}
+use Rattle.machine.specs.declared.Held.{Held as HeldByte}
+use Rattle.machine.specs.declared.Held.the-variants.{NoByte}
+use lib.Dec.{eqb}
+use Rattle.words.specs.Choice.{pick}
 use Rattle.transfer.specs.Steps.{transferOf}
 use Rattle.promises.specs.Premises.{from, into, Lent}
 use Rattle.promises.specs.Totals.{movedAfter}
@@ -21,15 +25,18 @@ use Rattle.promises.specs.Totals.{movedAfter}
 abbrev pub onBy : Pointer → ℕ → Pointer
 onBy p by = pointer (sum20 (p .address) by) (p .tag)
 
--- the channel when j of n bytes have moved: GA and GB on by j, BC n - j, every other register as at the start
-unfoldable pub midway : Channel → ℕ → ℕ → Channel
-midway c n j = withTransfer c (onBy (c .ga) j) (onBy (c .gb) j) (c .tp) ((n - j) % 65536) (c .psw)
+-- what the channel holds when j bytes have moved: what it held at the start, which the first step drops
+abbrev pub heldOn : Channel → ℕ → HeldByte
+heldOn c j = pick (eqb j 0) (c .held) NoByte
 
--- the channel at the end: GA and GB on by n, BC 0, XF clear, TP on by the offset of TBC, every other
--- register as at the start
+-- the channel when j of n bytes have moved: GA and GB on by j, BC n - j, a held byte dropped, every other register as at the start
+unfoldable pub midway : Channel → ℕ → ℕ → Channel
+midway c n j = holding (withTransfer c (onBy (c .ga) j) (onBy (c .gb) j) (c .tp) ((n - j) % 65536) (c .psw)) (heldOn c j)
+
+-- the channel at the end: GA and GB on by n, BC 0, XF clear, TP on by the offset of TBC, nothing held, every other register as at the start
 unfoldable pub finished : Channel → ℕ → Channel
 finished c n =
-    withTransfer c (onBy (c .ga) n) (onBy (c .gb) n) (onBy (c .tp) (offsetOf (c .fields .countEnd))) 0 (withPsw (c .psw) 6 false)
+    dropped (withTransfer c (onBy (c .ga) n) (onBy (c .gb) n) (onBy (c .tp) (offsetOf (c .fields .countEnd))) 0 (withPsw (c .psw) 6 false))
 
 -- the ranges of n bytes from p and into q when j bytes have moved, m₀ being memory as it was at the start: the first j bytes of the source have
 -- arrived in order, the others have not, the source is as it was, and all is lent

@@ -8,6 +8,7 @@ use Rattle.memory.specs.declared.Pointer.{Pointer}
 use Rattle.memory.specs.Values.{pointer}
 use Rattle.memory.specs.Buffers.{Buffers, buffers}
 use Rattle.machine.specs.declared.Channel.{Channel}
+use Rattle.machine.specs.declared.Held.the-variants.{NoByte}
 use Rattle.machine.specs.declared.Mode.the-variants.{Running}
 use Rattle.machine.specs.declared.State.{State}
 use Rattle.machine.specs.Cc.{split}
@@ -30,6 +31,7 @@ channelWith ga gb tp bc cc psw =
       mode = Running;
       armed = false;
       fields = split cc;
+      held = NoByte;
     }
 
 -- both widths 8 (PSW 44h: TB and XF), from GA to GB, CC C010h: both sides move on, TBC 10 (offset 4)

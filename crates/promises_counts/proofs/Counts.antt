@@ -38,11 +38,13 @@ use Rattle.execute.specs.Counts.{accessCount, instructionCount}
 use Rattle.execute.specs.Execute.{decodedAt, touchedByInstruction, executeOf, executeCount}
 use Rattle.transfer.proofs.BlockLaws.{word-narrow, one-moves}
 use Rattle.transfer.proofs.CountLaws.{touched-length as moved-length}
+use Rattle.transfer.proofs.PartLaws.{one-whole}
 use Rattle.transfer.proofs.StepLaws.{exactly-0}
-use Rattle.transfer.specs.Reads.{dataOf}
+use Rattle.transfer.specs.Parts.{Part, Whole, FirstFetch, SecondFetch, FirstStore, SecondStore, partOf}
+use Rattle.transfer.specs.Reads.{dataOf, also}
 use Rattle.transfer.specs.Sides.{source, destination, twoMove, storedSingly}
-use Rattle.transfer.specs.Steps.{touchedByTransfer, accesses, badMode, transferOf, transferCount}
-use Rattle.transfer.specs.Stores.{cutShort, storesTwo}
+use Rattle.transfer.specs.Steps.{touchedBy, touchedByTransfer, accesses, badMode, transferOf, transferCount}
+use Rattle.transfer.specs.Stores.{cutShort, storesTwo, placesOn}
 use Rattle.step.proofs.StepLaws.{counts-none}
 use Rattle.step.specs.Choosing.{choiceOf}
 use Rattle.step.specs.Step.{settledStep, transferStep, instructionStep, channelStep, chosenStep, entryNumber, stepOf}
@@ -156,17 +158,26 @@ module _ (c : Channel) (m : Buffers) where
   unfolding cutShort storedSingly
   singly-two cut = both-left (twoMove c) _ (both-left (storedSingly c) _ cut)
 
+  -- the list of a part
+  part-length : (k : Part) (n : ℕ) → partOf c ≡ k → length (touchedBy k c m) ≡ n → length (touchedByTransfer c m) ≡ n
+  unfolding touchedByTransfer
+  part-length k n e h = ap (λ (x : Part). length (touchedBy x c m)) e ∙ h
+
   -- two bytes, of which a match prevents the second store or not; one byte, translated or not
-  two-length : transferOf c m .number ≡ 0 → twoMove c ≡ true → length (touchedByTransfer c m) ≡ pick (cutShort c (dataOf c m)) 3 4
+  two-length : transferOf c m .number ≡ 0 → twoMove c ≡ true → length (touchedBy Whole c m) ≡ pick (cutShort c (dataOf c m)) 3 4
   unfolding storesTwo
   two-length e two = moved-length c m ∙ two-accesses (twoMove c) (cutShort c (dataOf c m)) (c .fields .translates) two (untranslated e two)
 
-  one-length : twoMove c ≡ false → length (touchedByTransfer c m) ≡ pick (c .fields .translates) 3 2
+  one-length : twoMove c ≡ false → length (touchedBy Whole c m) ≡ pick (c .fields .translates) 3 2
   unfolding storesTwo
   one-length two = moved-length c m ∙ one-accesses (twoMove c) (cutShort c (dataOf c m)) (c .fields .translates) two
 
+  one-listed : twoMove c ≡ false → length (touchedByTransfer c m) ≡ pick (c .fields .translates) 3 2
+  one-listed two = part-length Whole (pick (c .fields .translates) 3 2) (one-whole c two) (one-length two)
+
   at-most : transferOf c m .number ≡ 0 → length (touchedByTransfer c m) ≤ 4
-  at-most e = go (twoMove c) refl
+  unfolding touchedByTransfer touchedBy placesOn also
+  at-most e = by-part (partOf c)
     where
       three : (x : Bool) → pick x 3 4 ≤ 4
       three true = lit≤ tt
@@ -176,20 +187,31 @@ module _ (c : Channel) (m : Buffers) where
       less true = lit≤ tt
       less false = lit≤ tt
 
-      go : (b : Bool) → twoMove c ≡ b → length (touchedByTransfer c m) ≤ 4
+      go : (b : Bool) → twoMove c ≡ b → length (touchedBy Whole c m) ≤ 4
       go true two = subst (λ (k : ℕ). k ≤ 4) (sym (two-length e two)) (three (cutShort c (dataOf c m)))
       go false two = subst (λ (k : ℕ). k ≤ 4) (sym (one-length two)) (less (c .fields .translates))
 
+      by-part : (k : Part) → length (touchedBy k c m) ≤ 4
+      by-part Whole = go (twoMove c) refl
+      by-part FirstFetch = lit≤ tt
+      by-part (SecondFetch byte) = lit≤ tt
+      by-part FirstStore = lit≤ tt
+      by-part (SecondStore byte) = lit≤ tt
+
   pub transfer-counts : TransferCounts c m
-  unfolding transferCount
+  unfolding transferCount touchedBy placesOn also
   transfer-counts =
       let within = counted-within 4 (transferOf c m .number) (touchedByTransfer c m) at-most in
       record {
         within = within;
-        oneByte = λ e two t. within .list e ∙ one-length two ∙ ap (λ (x : Bool). pick x 3 2) t;
-        translated = λ e t. within .list e ∙ one-length (narrow e t) ∙ ap (λ (x : Bool). pick x 3 2) t;
-        twoBytes = λ e two cut. within .list e ∙ two-length e two ∙ ap (λ (x : Bool). pick x 3 4) cut;
-        prevented = λ e cut. within .list e ∙ two-length e (singly-two cut) ∙ ap (λ (x : Bool). pick x 3 4) cut;
+        oneByte = λ e two t. within .list e ∙ one-listed two ∙ ap (λ (x : Bool). pick x 3 2) t;
+        translated = λ e t. within .list e ∙ one-listed (narrow e t) ∙ ap (λ (x : Bool). pick x 3 2) t;
+        twoBytes = λ e k two cut. within .list e ∙ part-length Whole 4 k (two-length e two ∙ ap (λ (x : Bool). pick x 3 4) cut);
+        prevented = λ e k cut. within .list e ∙ part-length Whole 3 k (two-length e (singly-two cut) ∙ ap (λ (x : Bool). pick x 3 4) cut);
+        firstFetch = λ e k. within .list e ∙ part-length FirstFetch 1 k refl;
+        secondFetch = λ byte e k. within .list e ∙ part-length (SecondFetch byte) 3 k refl;
+        firstStore = λ e k. within .list e ∙ part-length FirstStore 3 k refl;
+        secondStore = λ byte e k. within .list e ∙ part-length (SecondStore byte) 1 k refl;
       }
 
 -- ---- an instruction

@@ -5,17 +5,25 @@ use lib.Dec.{eqb}
 use mathlib.Core.Bool.{Bool, true, false, not}
 use mathlib.Core.List.{List, [], _∷_, _++_}
 use mathlib.Core.Path.{_≡_, refl, sym, ap, ap₂, _∙_}
+use Rattle.words.proofs.ChoiceLaws.{apart}
 use Rattle.words.specs.Choice.{pick}
 use Rattle.words.specs.Sums.{sum20}
-use Rattle.memory.specs.Buffers.{Buffers, byteAt}
+use Rattle.memory.specs.Buffers.{Buffers, byteAt, storeByte}
 use Rattle.memory.specs.Places.{Place}
-use Rattle.machine.specs.Outcomes.{unless}
+use Rattle.machine.specs.Outcomes.{unless, first}
 use Rattle.machine.specs.Stages.{stage, stagesNumber}
 use Rattle.machine.specs.declared.Channel.{Channel}
 use Rattle.transfer.specs.Reads.{fetched, fetchedSecond, entryOf, delivered, dataOf, also, readPlaces}
 use Rattle.transfer.specs.Sides.{source, destination, secondAddress, twoMove}
-use Rattle.transfer.specs.Steps.{transferred, touchedByTransfer, badMode, transferStages, transferNumber, transferOf}
-use Rattle.transfer.specs.Stores.{storesTwo, movedChannel, putOn, movedMemory, placesOn, storedPlaces}
+use Rattle.machine.specs.Updates.{holding}
+use Rattle.machine.specs.declared.Held.the-variants.{Byte}
+use Rattle.transfer.proofs.FetchLaws.{two-plain}
+use Rattle.transfer.proofs.PartLaws.{second-fetch-apart, first-store-apart, stores-two, word-stored}
+use Rattle.transfer.proofs.StepLaws.{chain-by, outcome-5}
+use Rattle.transfer.specs.Halves.{firstPlace, secondPlace, wordWith}
+use Rattle.transfer.specs.Parts.{Part, Whole, FirstFetch, SecondFetch, FirstStore, SecondStore, partOf}
+use Rattle.transfer.specs.Steps.{Transfer, transferred, touchedBy, channelBy, memoryBy, badMode, stagesBy, numberBy, stepBy, touchedByTransfer, transferOf}
+use Rattle.transfer.specs.Stores.{firstMeets, storesTwo, movedChannel, putOn, movedMemory, placesOn, storedPlaces}
 use Rattle.promises_counts.specs.Complete.{SameLengths, AgreeOn}
 use Rattle.promises_counts.specs.Lists.{transferAnswer, TransferComplete}
 use Rattle.promises_counts.specs.Stores.{Store, storesMade, storePlaces}
@@ -87,8 +95,8 @@ module _ (c : Channel) (m n : Buffers) where
     unfolding dataOf
     data-same = ap₂ (λ (a b : ℕ). record { first = a; second = b }) delivered-same second-same
 
-    touched-same : touchedByTransfer c n ≡ touchedByTransfer c m
-    unfolding touchedByTransfer readPlaces
+    touched-same : touchedBy Whole c n ≡ touchedBy Whole c m
+    unfolding touchedBy readPlaces
     touched-same =
         ap₂ (λ e d.
         (record { tag = (source c) .pointer .tag; address = (source c) .pointer .address }
@@ -96,50 +104,157 @@ module _ (c : Channel) (m n : Buffers) where
         (also (c .fields .translates) (record { tag = c .gc .tag; address = e }) []))
         ++ storedPlaces c d) entry-same data-same
 
--- ---- the step
+  -- the two bytes that a step without translation reads
+  two-read : twoMove c ≡ true → c .fields .translates ≡ false → AgreeOn (firstPlace (source c) ∷ secondPlace (source c) ∷ []) m n → AgreeOn (readPlaces c m) m n
+  unfolding readPlaces also
+  two-read two plain h = go (twoMove c) (c .fields .translates) two plain
+    where
+      go : (t x : Bool) → t ≡ true → x ≡ false → AgreeOn (firstPlace (source c) ∷ also t (secondPlace (source c)) (also x (record { tag = c .gc .tag; address = entryOf c m }) [])) m n
+      go true false e f = h
+      go true true e f = apart f
+      go false x e f = apart (sym e)
+
+-- ---- a step of a part
 
 module _ (c : Channel) (m : Buffers) where
-  told-same : (b : Bool) (k : ℕ) (n : Buffers)
-      → transferAnswer (pick b (transferred 0 (movedChannel c (dataOf c m)) (movedMemory c (dataOf c m) n)) (transferred k c n))
-      ≡ transferAnswer (pick b (transferred 0 (movedChannel c (dataOf c m)) (movedMemory c (dataOf c m) m)) (transferred k c m))
-  told-same true k n = refl
-  told-same false k n = refl
+  -- what a part reads and stores, and that nothing else matters to it
+  record Parted (k : Part) : Type 0 where
+    reads : List Place
+    stores : List Store
+    split : touchedBy k c m ≡ reads ++ storePlaces stores
+    list : (n : Buffers) → AgreeOn reads m n → touchedBy k c n ≡ touchedBy k c m
+    channel : badMode c ≡ false → (n : Buffers) → AgreeOn reads m n → channelBy k c n ≡ channelBy k c m
+    memory : badMode c ≡ false → (n : Buffers) → AgreeOn reads m n → memoryBy k c n ≡ storesMade n stores
 
-  left-same : (b : Bool) (k : ℕ) (n : Buffers)
-      → (pick b (transferred 0 (movedChannel c (dataOf c m)) (movedMemory c (dataOf c m) n)) (transferred k c n)) .memory
-      ≡ storesMade n (pick b (storesOf c m (storesTwo c (dataOf c m))) [])
-  unfolding movedMemory storesMade
-  left-same true k n = made-of c m (storesTwo c (dataOf c m)) n
-  left-same false k n = refl
+  told-same : (b : Bool) (x : ℕ) (y : Channel) (a a′ n n′ : Buffers)
+      → transferAnswer (pick b (transferred 0 y a) (transferred x c n)) ≡ transferAnswer (pick b (transferred 0 y a′) (transferred x c n′))
+  told-same true x y a a′ n n′ = refl
+  told-same false x y a a′ n n′ = refl
 
-  number-is : (n : Buffers) → SameLengths m n → AgreeOn (readPlaces c m) m n → transferNumber c n ≡ transferNumber c m
-  unfolding transferNumber transferStages
-  number-is n l h =
-      number-same m n l (transferStages c n)
-      ∙ ap (λ (ps : List Place). stagesNumber m (stage [] (unless (not (badMode c)) 5) ∷ stage ps 0 ∷ [])) (touched-same c m n h)
+  left-same : (b : Bool) (x : ℕ) (y : Channel) (a n : Buffers) (ws : List Store) → a ≡ storesMade n ws
+      → (pick b (transferred 0 y a) (transferred x c n)) .memory ≡ storesMade n (pick b ws [])
+  unfolding storesMade
+  left-same true x y a n ws e = e
+  left-same false x y a n ws e = refl
 
-  same : (n : Buffers) → SameLengths m n → AgreeOn (readPlaces c m) m n
-      → SameIn (touchedByTransfer c) (λ n. transferAnswer (transferOf c n)) (λ n. transferOf c n .memory) m
-      (pick (eqb (transferNumber c m) 0) (storesOf c m (storesTwo c (dataOf c m))) []) n
-  unfolding transferOf
-  same n l h =
-      let k = transferNumber c m in
-      record {
-        list = touched-same c m n h;
-        told = ap₂ (λ x y. transferAnswer (pick (eqb x 0) (transferred 0 (movedChannel c y) (movedMemory c y n)) (transferred x c n))) (number-is n l h) (data-same c m n h) ∙ told-same (eqb k 0) k n;
-        left = ap₂ (λ x y. (pick (eqb x 0) (transferred 0 (movedChannel c y) (movedMemory c y n)) (transferred x c n)) .memory) (number-is n l h) (data-same c m n h) ∙ left-same (eqb k 0) k n;
-      }
+  module _ (k : Part) (p : Parted k) where
+    number-is : (n : Buffers) → SameLengths m n → AgreeOn (p .reads) m n → numberBy k c n ≡ numberBy k c m
+    unfolding numberBy stagesBy
+    number-is n l h =
+        number-same m n l (stagesBy k c n)
+        ∙ ap (λ (ps : List Place). stagesNumber m (stage [] (unless (not (badMode c)) 5) ∷ stage ps 0 ∷ [])) (p .list n h)
+
+    -- a bad mode is refused by 5, whatever is read
+    bad-number : badMode c ≡ true → numberBy k c m ≡ 5
+    unfolding first unless
+    bad-number e = chain-by k c m ∙ rw e
+
+    abbrev Same : Buffers → Type 0
+    Same n = SameIn (touchedBy k c) (λ n. transferAnswer (stepBy k c n)) (λ n. stepBy k c n .memory) m (pick (eqb (numberBy k c m) 0) (p .stores) []) n
+
+    same-in : (b : Bool) → badMode c ≡ b → (n : Buffers) → SameLengths m n → AgreeOn (p .reads) m n → Same n
+    unfolding stepBy storesMade
+    same-in true e n l h =
+        record {
+          list = p .list n h;
+          told = ap (λ (o : Transfer). transferAnswer o) (outcome-5 k c n e) ∙ sym (ap (λ (o : Transfer). transferAnswer o) (outcome-5 k c m e));
+          left = ap (λ (o : Transfer). o .memory) (outcome-5 k c n e) ∙ sym (ap (λ (x : ℕ). storesMade n (pick (eqb x 0) (p .stores) [])) (bad-number e));
+        }
+    same-in false e n l h =
+        let x = numberBy k c m in
+        record {
+          list = p .list n h;
+          told = ap₂ (λ (x : ℕ) (y : Channel). transferAnswer (pick (eqb x 0) (transferred 0 y (memoryBy k c n)) (transferred x c n))) (number-is n l h) (p .channel e n h)
+              ∙ told-same (eqb x 0) x (channelBy k c m) (memoryBy k c n) (memoryBy k c m) n m;
+          left = ap (λ (x : ℕ). (pick (eqb x 0) (transferred 0 (channelBy k c n) (memoryBy k c n)) (transferred x c n)) .memory) (number-is n l h)
+              ∙ left-same (eqb x 0) x (channelBy k c n) (memoryBy k c n) n (p .stores) (p .memory e n h);
+        }
+
+    part-traced : Traced (touchedBy k c) (λ n. transferAnswer (stepBy k c n)) (λ n. stepBy k c n .memory) m
+    part-traced = record { reads = p .reads; stores = p .stores; done = eqb (numberBy k c m) 0; split = p .split; same = same-in (badMode c) refl }
+
+  -- ---- each part
+
+  whole : Parted Whole
+  unfolding touchedBy storedPlaces channelBy memoryBy movedMemory
+  whole = record {
+    reads = readPlaces c m;
+    stores = storesOf c m (storesTwo c (dataOf c m));
+    split = ap (λ (ps : List Place). readPlaces c m ++ ps) (sym (places-of c m (storesTwo c (dataOf c m))));
+    list = λ n h. touched-same c m n h;
+    channel = λ good n h. ap (movedChannel c) (data-same c m n h);
+    memory = λ good n h. ap (λ d. putOn (destination c) (storesTwo c d) d n) (data-same c m n h) ∙ made-of c m (storesTwo c (dataOf c m)) n;
+  }
+
+  -- the second byte of the source
+  second-again : (n : Buffers) → byteAt n ((source c) .pointer .tag) (secondAddress (source c)) ≡ byteAt m ((source c) .pointer .tag) (secondAddress (source c)) → fetchedSecond c n ≡ fetchedSecond c m
+  unfolding fetchedSecond
+  second-again n e = ap (λ (v : ℕ). pick (twoMove c) v 0) e
+
+  first-fetch : Parted FirstFetch
+  unfolding touchedBy channelBy memoryBy storePlaces storesMade fetched
+  first-fetch = record {
+    reads = firstPlace (source c) ∷ [];
+    stores = [];
+    split = refl;
+    list = λ n h. refl;
+    channel = λ good n h. ap (λ (v : ℕ). holding c (Byte v)) (h .0);
+    memory = λ good n h. refl;
+  }
+
+  second-fetch : (byte : ℕ) → partOf c ≡ SecondFetch byte → Parted (SecondFetch byte)
+  unfolding touchedBy channelBy memoryBy placesOn also storePlaces storesMade movedMemory putOn wordWith
+  second-fetch byte e = record {
+    reads = secondPlace (source c) ∷ [];
+    stores = record { place = firstPlace (destination c); value = byte } ∷ record { place = secondPlace (destination c); value = fetchedSecond c m } ∷ [];
+    split = refl;
+    list = λ n h. refl;
+    channel = λ good n h. ap (λ (v : ℕ). movedChannel c (record { first = byte; second = v })) (second-again n (h .0));
+    memory = λ good n h.
+        ap (λ (b : Bool). putOn (destination c) b (wordWith byte c n) n) (word-stored c (wordWith byte c n) (second-fetch-apart c byte e))
+        ∙ ap (λ (v : ℕ). putOn (destination c) true (record { first = byte; second = v }) n) (second-again n (h .0));
+  }
+
+  first-store : partOf c ≡ FirstStore → Parted FirstStore
+  unfolding touchedBy channelBy memoryBy storePlaces storesMade
+  first-store e = record {
+    reads = firstPlace (source c) ∷ secondPlace (source c) ∷ [];
+    stores = record { place = firstPlace (destination c); value = (dataOf c m) .first } ∷ [];
+    split = refl;
+    list = λ n h. refl;
+    channel = λ good n h. ap₂ (λ d (v : ℕ). pick (firstMeets c d) (movedChannel c d) (holding c (Byte v))) (same good n h) (second-again n (h .1 .0));
+    memory = λ good n h. ap (λ d. storeByte n ((destination c) .pointer .tag) ((destination c) .pointer .address) (d .first)) (same good n h);
+  }
+    where
+      two : twoMove c ≡ true
+      two = stores-two c (first-store-apart c e)
+
+      same : badMode c ≡ false → (n : Buffers) → AgreeOn (firstPlace (source c) ∷ secondPlace (source c) ∷ []) m n → dataOf c n ≡ dataOf c m
+      same good n h = data-same c m n (two-read c m n two (two-plain c good two) h)
+
+  second-store : (byte : ℕ) → Parted (SecondStore byte)
+  unfolding touchedBy channelBy memoryBy storePlaces storesMade
+  second-store byte = record {
+    reads = [];
+    stores = record { place = secondPlace (destination c); value = byte } ∷ [];
+    split = refl;
+    list = λ n h. refl;
+    channel = λ good n h. refl;
+    memory = λ good n h. refl;
+  }
+
+  parted : (k : Part) → partOf c ≡ k → Parted k
+  parted Whole e = whole
+  parted FirstFetch e = first-fetch
+  parted (SecondFetch byte) e = second-fetch byte e
+  parted FirstStore e = first-store e
+  parted (SecondStore byte) e = second-store byte
+
+  -- ---- the step
 
   pub transfer-traced : Traced (touchedByTransfer c) (λ n. transferAnswer (transferOf c n)) (λ n. transferOf c n .memory) m
-  unfolding touchedByTransfer storedPlaces
-  transfer-traced =
-      record {
-        reads = readPlaces c m;
-        stores = storesOf c m (storesTwo c (dataOf c m));
-        done = eqb (transferNumber c m) 0;
-        split = ap (λ (ps : List Place). readPlaces c m ++ ps) (sym (places-of c m (storesTwo c (dataOf c m))));
-        same = same;
-      }
+  unfolding touchedByTransfer transferOf
+  transfer-traced = part-traced (partOf c) (parted (partOf c) refl)
 
   -- its list is complete
   pub transfer-complete : TransferComplete c m

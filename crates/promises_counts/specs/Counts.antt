@@ -19,6 +19,7 @@ use Rattle.decode.specs.Lengths.{lengthOf}
 use Rattle.execute_operands.specs.Operands.{byteHere, effective}
 use Rattle.execute.specs.Counts.{instructionCount}
 use Rattle.execute.specs.Execute.{decodedAt, touchedByInstruction, executeOf, executeCount}
+use Rattle.transfer.specs.Parts.{Whole, FirstFetch, SecondFetch, FirstStore, SecondStore, partOf}
 use Rattle.transfer.specs.Reads.{dataOf}
 use Rattle.transfer.specs.Sides.{twoMove}
 use Rattle.transfer.specs.Steps.{touchedByTransfer, transferOf, transferCount}
@@ -63,10 +64,15 @@ pub record TransferCounts (c : Channel) (m : Buffers) : Type 0 where
   -- one byte, as it is or translated
   pub oneByte : transferOf c m .number ≡ 0 → twoMove c ≡ false → c .fields .translates ≡ false → transferCount c m ≡ 2
   pub translated : transferOf c m .number ≡ 0 → c .fields .translates ≡ true → transferCount c m ≡ 3
-  -- two bytes; a port that does not move on is taken twice
-  pub twoBytes : transferOf c m .number ≡ 0 → twoMove c ≡ true → cutShort c (dataOf c m) ≡ false → transferCount c m ≡ 4
+  -- two bytes in one step; a port that does not move on is taken twice
+  pub twoBytes : transferOf c m .number ≡ 0 → partOf c ≡ Whole → twoMove c ≡ true → cutShort c (dataOf c m) ≡ false → transferCount c m ≡ 4
   -- two bytes, of which a match prevents the second store
-  pub prevented : transferOf c m .number ≡ 0 → cutShort c (dataOf c m) ≡ true → transferCount c m ≡ 3
+  pub prevented : transferOf c m .number ≡ 0 → partOf c ≡ Whole → cutShort c (dataOf c m) ≡ true → transferCount c m ≡ 3
+  -- the halves of a pair: a byte, and a byte with the word stored; or a word with the byte stored, and a byte
+  pub firstFetch : transferOf c m .number ≡ 0 → partOf c ≡ FirstFetch → transferCount c m ≡ 1
+  pub secondFetch : (byte : ℕ) → transferOf c m .number ≡ 0 → partOf c ≡ SecondFetch byte → transferCount c m ≡ 3
+  pub firstStore : transferOf c m .number ≡ 0 → partOf c ≡ FirstStore → transferCount c m ≡ 3
+  pub secondStore : (byte : ℕ) → transferOf c m .number ≡ 0 → partOf c ≡ SecondStore byte → transferCount c m ≡ 1
 
 -- a done instruction: its own bytes, those of a displacement also where it does not jump, and its accesses
 pub record InstructionCounts (c : Channel) (busy : ℕ) (m : Buffers) : Type 0 where
