@@ -10,8 +10,8 @@ extern "C" {
 #endif
 
 /* How many bytes a state has, and the version that its first byte holds: a layout with more fields has a higher one. */
-#define IOP89_STATE_LENGTH 100u
-#define IOP89_STATE_VERSION 3u
+#define IOP89_STATE_LENGTH 104u
+#define IOP89_STATE_VERSION 4u
 
 /* The number for an attention or a step before power-up. A state from a CP counts as powered up. */
 #define IOP89_NOT_POWERED_UP 13u
@@ -20,12 +20,13 @@ extern "C" {
  * disagree, directly after 13. MOV and MOVI to CC renew the fields; who sets CC in a state's bytes has iop89_set_cc. */
 #define IOP89_FIELDS_DISAGREE 14u
 
-/* The number for bytes that are no state: of another length or version, or with a mode, flag or field out of range. */
+/* The number for bytes that are no state: of another length or version, or with a mode, flag, field or held byte out of
+ * range. */
 #define IOP89_NO_STATE 17u
 
 /* The parts of an answer: the number; of a done step the channel (1 or 2) and what it did, else both 0; and of a done
  * power-up, attention or step how many bytes of both memories it read and stored, each access of each byte counted once,
- * else 0. A power-up counts 11, an attention 1 to 10, an instruction 2 to 10, a transfer step 2 to 4, an external end 0. */
+ * else 0. A power-up counts 11, an attention 1 to 10, an instruction 2 to 10, a transfer step 1 to 4, an external end 0. */
 #define IOP89_ANSWER_NUMBER(answer) ((answer) & 0xFFu)
 #define IOP89_ANSWER_CHANNEL(answer) ((answer) >> 8 & 3u)
 #define IOP89_ANSWER_KIND(answer) ((answer) >> 10 & 3u)
@@ -51,7 +52,9 @@ uint32_t iop89_power_up(uint8_t *state, size_t state_len, uint8_t *sys, size_t s
 uint32_t iop89_attention(uint8_t *state, size_t state_len, uint8_t *sys, size_t sys_len, uint8_t *io, size_t io_len,
                          uint32_t channel);
 
-/* Does one step under these lines: an instruction, a transfer step or an external end of one channel. */
+/* Does one step under these lines: an instruction, a transfer step or an external end of one channel. Of two bytes that
+ * a transfer under requests takes singly on the side that asks for them, each has a step and a request of its own, and
+ * between them the channel holds a byte: IOP89_HELD. */
 uint32_t iop89_step(uint8_t *state, size_t state_len, uint8_t *sys, size_t sys_len, uint8_t *io, size_t io_len,
                     uint32_t lines);
 
@@ -79,7 +82,7 @@ uint32_t iop89_board(uint8_t *sys, size_t sys_len, uint8_t *io, size_t io_len, u
 #define IOP89_AT_SOC_1 9u
 
 /* Where the block of a channel, 1 or 2, starts, and its length. */
-#define IOP89_BLOCK_LENGTH 45u
+#define IOP89_BLOCK_LENGTH 47u
 #define IOP89_AT_CHANNEL(channel) (10u + IOP89_BLOCK_LENGTH * ((channel) - 1u))
 
 /* The registers of a channel, by their offsets in its block. */
@@ -109,8 +112,12 @@ enum iop89_register {
     IOP89_TS = 41,                /* 7 */
     IOP89_TX = 42,                /* 6 and 5 */
     IOP89_TBC = 43,               /* 4 and 3 */
-    IOP89_TMC = 44                /* 2 to 0 */
+    IOP89_TMC = 44,               /* 2 to 0 */
+    IOP89_HELD = 45     /* two bytes: 0 where no byte is held, IOP89_HELD_BYTE of it where one is, and nothing else */
 };
+
+/* What IOP89_HELD is while a byte is held: 100h and the byte. */
+#define IOP89_HELD_BYTE(byte) (0x100u | ((byte) & 0xFFu))
 
 /* What a channel is doing. */
 enum iop89_mode { IOP89_IDLE = 0, IOP89_RUNNING = 1, IOP89_SUSPENDED = 2 };
@@ -120,7 +127,7 @@ static inline size_t iop89_width(enum iop89_register which)
 {
     switch (which) {
     case IOP89_GA: case IOP89_GB: case IOP89_GC: case IOP89_TP: case IOP89_PP: return 4;
-    case IOP89_BC: case IOP89_IX: case IOP89_CC: case IOP89_MC: return 2;
+    case IOP89_BC: case IOP89_IX: case IOP89_CC: case IOP89_MC: case IOP89_HELD: return 2;
     default: return 1;
     }
 }
@@ -139,7 +146,8 @@ static inline void iop89_set_bytes(uint8_t *state, size_t at, size_t width, uint
     for (size_t i = 0; i < width; i++, value >>= 8) state[at + i] = value & 0xFFu;
 }
 
-/* A register of a channel, 1 or 2, read and set. A tag, mode, mark or field out of range makes the next call answer 17.
+/* A register of a channel, 1 or 2, read and set. A tag, mode, mark, field or held byte out of range makes the next call
+ * answer 17.
  * iop89_set with IOP89_CC writes CC alone, and the fields stay: see iop89_set_cc. */
 static inline uint32_t iop89_get(const uint8_t *state, unsigned channel, enum iop89_register which)
 {

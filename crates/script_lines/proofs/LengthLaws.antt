@@ -10,11 +10,13 @@ use lib.ListN.{length, getD, length-append}
 use Rattle.words.specs.Choice.{pick}
 use Rattle.memory.specs.Buffers.{Buffers}
 use Rattle.memory.specs.declared.Pointer.{Pointer}
+use Rattle.machine.specs.declared.Held.{Held}
 use Rattle.machine.specs.declared.Mode.{Mode}
 use Rattle.machine.specs.declared.Board.{Board}
 use Rattle.machine.specs.declared.Channel.{Channel}
 use Rattle.machine.specs.declared.State.{State}
 use Rattle.machine.specs.Cc.{joined}
+use Rattle.machine.specs.Holdings.{heldNumber}
 use Rattle.machine.specs.States.{channelNumber}
 use Rattle.step.specs.declared.Kind.{Kind}
 use Rattle.notation.specs.Characters.{ascii}
@@ -85,18 +87,19 @@ numbers-short pp bc ix control fields mc psw =
     (both (registerText (ascii " fields ") fields 4) _ 12 15 (register-short (ascii " fields ") fields 4)
     (both (registerText (ascii " mc ") mc 4) _ 8 7 (register-short (ascii " mc ") mc 4) (register-short (ascii " psw ") psw 2))))))
 
-marks-short : (mode : Mode) (armed : Bool) → length (marksText mode armed) ≤ 14
+marks-short : (mode : Mode) (armed : Bool) (held : Held) → length (marksText mode armed held) ≤ 24
 unfolding marksText
-marks-short mode armed =
-    both (registerText (ascii " mode ") (numberOfMode mode) 1) _ 7 7 (register-short (ascii " mode ") (numberOfMode mode) 1)
-    (both (registerText (ascii " arm ") (markNumber armed) 1) feed 6 1 (register-short (ascii " arm ") (markNumber armed) 1) (omega arith))
+marks-short mode armed held =
+    both (registerText (ascii " mode ") (numberOfMode mode) 1) _ 7 17 (register-short (ascii " mode ") (numberOfMode mode) 1)
+    (both (registerText (ascii " arm ") (markNumber armed) 1) _ 6 11 (register-short (ascii " arm ") (markNumber armed) 1)
+    (both (registerText (ascii " held ") (heldNumber held) 4) feed 10 1 (register-short (ascii " held ") (heldNumber held) 4) (omega arith)))
 
-channel-short : (name : List ℕ) (c : Channel) → length (channelLine name c) ≤ length name + 133
+channel-short : (name : List ℕ) (c : Channel) → length (channelLine name c) ≤ length name + 143
 unfolding channelLine
 channel-short name c =
-    both name _ (length name) 133 (omega arith)
-    (both (pointersText (c .ga) (c .gb) (c .gc) (c .tp)) _ 56 77 (pointers-short (c .ga) (c .gb) (c .gc) (c .tp))
-    (both (numbersText (c .pp) (c .bc) (c .ix) (c .cc) (joined (c .fields)) (c .mc) (c .psw)) _ 63 14 (numbers-short (c .pp) (c .bc) (c .ix) (c .cc) (joined (c .fields)) (c .mc) (c .psw)) (marks-short (c .mode) (c .armed))))
+    both name _ (length name) 143 (omega arith)
+    (both (pointersText (c .ga) (c .gb) (c .gc) (c .tp)) _ 56 87 (pointers-short (c .ga) (c .gb) (c .gc) (c .tp))
+    (both (numbersText (c .pp) (c .bc) (c .ix) (c .cc) (joined (c .fields)) (c .mc) (c .psw)) _ 63 24 (numbers-short (c .pp) (c .bc) (c .ix) (c .cc) (joined (c .fields)) (c .mc) (c .psw)) (marks-short (c .mode) (c .armed) (c .held))))
 
 buffer-short : (name buffer : List ℕ) → length (bufferText name buffer) ≤ length name + 17
 unfolding bufferText
@@ -121,11 +124,11 @@ shared-short cp last board sys io =
     (both (bufferText (ascii " sys ") sys) _ 22 22 (buffer-short (ascii " sys ") sys)
     (both (bufferText (ascii " io ") io) feed 21 1 (buffer-short (ascii " io ") io) (omega arith)))))
 
-pub dump-short : (s : State) (m : Buffers) → length (dumpText s m) ≤ 364
+pub dump-short : (s : State) (m : Buffers) → length (dumpText s m) ≤ 384
 unfolding dumpText
 dump-short s m =
-    both (channelLine (ascii "ch 1") (s .first)) _ 137 227 (channel-short (ascii "ch 1") (s .first))
-    (both (channelLine (ascii "ch 2") (s .second)) _ 137 90 (channel-short (ascii "ch 2") (s .second)) (shared-short (s .cp) (s .last) (s .board) (m .sys) (m .io)))
+    both (channelLine (ascii "ch 1") (s .first)) _ 147 237 (channel-short (ascii "ch 1") (s .first))
+    (both (channelLine (ascii "ch 2") (s .second)) _ 147 90 (channel-short (ascii "ch 2") (s .second)) (shared-short (s .cp) (s .last) (s .board) (m .sys) (m .io)))
 
 byte-short : (buffer : List ℕ) (at : ℕ) → length (byteText buffer at) ≤ 3
 unfolding byteText

@@ -7,12 +7,14 @@ use lib.ListN.{length, getD}
 use Rattle.words.specs.Choice.{pick}
 use Rattle.memory.specs.Buffers.{Buffers}
 use Rattle.memory.specs.declared.Pointer.{Pointer}
+use Rattle.machine.specs.declared.Held.{Held}
 use Rattle.machine.specs.declared.Mode.{Mode}
 use Rattle.machine.specs.declared.Mode.the-variants.{Idle, Running, Suspended}
 use Rattle.machine.specs.declared.Board.{Board}
 use Rattle.machine.specs.declared.Channel.{Channel}
 use Rattle.machine.specs.declared.State.{State}
 use Rattle.machine.specs.Cc.{joined}
+use Rattle.machine.specs.Holdings.{heldNumber}
 use Rattle.machine.specs.States.{channelNumber}
 use Rattle.step.specs.declared.Kind.{Kind}
 use Rattle.notation.specs.Characters.{ascii}
@@ -82,17 +84,18 @@ numberOfMode Idle = 0
 numberOfMode Running = 1
 numberOfMode Suspended = 2
 
--- the mode of a channel and its armed mark, which end its line
-unfoldable pub marksText : Mode → Bool → List ℕ
-marksText mode armed =
-    registerText (ascii " mode ") (numberOfMode mode) 1 ++ (registerText (ascii " arm ") (markNumber armed) 1 ++ feed)
+-- the mode of a channel, its armed mark and what it holds, as the number that stands for it, which end its line
+unfoldable pub marksText : Mode → Bool → Held → List ℕ
+marksText mode armed held =
+    registerText (ascii " mode ") (numberOfMode mode) 1
+    ++ (registerText (ascii " arm ") (markNumber armed) 1 ++ (registerText (ascii " held ") (heldNumber held) 4 ++ feed))
 
 -- a channel's line of a dump
 unfoldable pub channelLine : List ℕ → Channel → List ℕ
 channelLine name c =
     name
     ++ (pointersText (c .ga) (c .gb) (c .gc) (c .tp)
-    ++ (numbersText (c .pp) (c .bc) (c .ix) (c .cc) (joined (c .fields)) (c .mc) (c .psw) ++ marksText (c .mode) (c .armed)))
+    ++ (numbersText (c .pp) (c .bc) (c .ix) (c .cc) (joined (c .fields)) (c .mc) (c .psw) ++ marksText (c .mode) (c .armed) (c .held)))
 
 -- a buffer behind its name: its length, and the digest of its bytes
 unfoldable pub bufferText : List ℕ → List ℕ → List ℕ

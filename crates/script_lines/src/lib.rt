@@ -1,6 +1,7 @@
 // The lines that the script program shows, put into a lent buffer behind the text that it has: answers of calls, bytes, and dumps.
 use machine::Board;
 use machine::Channel;
+use machine::Held;
 use machine::Mode;
 use machine::State;
 use memory::Pointer;
@@ -138,13 +139,20 @@ fn number_of_mode(mode: Mode) -> u64
     }
 }
 
-// The mode of a channel and its armed mark, which end its line.
-fn marks(out: &mut [u8], at: usize, mode: Mode, armed: bool) -> usize
-    ensures { λ r. ⌜ Behind (page (now (out .entry)) at) (page (now (out .exit)) r) (marksText mode armed) ⌝ }
+// The mode of a channel, its armed mark and what it holds, which end its line.
+fn marks(out: &mut [u8], at: usize, mode: Mode, armed: bool, held: Held) -> usize
+    ensures { λ r. ⌜ Behind (page (now (out .entry)) at) (page (now (out .exit)) r) (marksText mode armed held) ⌝ }
 {
     let moded = register(out, at, b" mode ", number_of_mode(mode), 1);
     let marked = register(out, moded, b" arm ", mark_number(armed), 1);
-    page::append(out, marked, b"\n")
+    let holding = register(
+        out,
+        marked,
+        b" held ",
+        machine::holdings::number(held) as u64,
+        4,
+    );
+    page::append(out, holding, b"\n")
 }
 
 // A channel's line of a dump.
@@ -156,11 +164,12 @@ fn channel_line(out: &mut [u8], at: usize, name: &[u8], c: Channel) -> usize
     let gc = c.gc;
     let tp = c.tp;
     let mode = c.mode;
+    let held = c.held;
     let named = page::append(out, at, name);
     let pointed = pointers(out, named, ga, gb, gc, tp);
     let fields = machine::cc::joined(c.fields);
     let numbered = numbers(out, pointed, c.pp, c.bc, c.ix, c.cc, fields, c.mc, c.psw);
-    marks(out, numbered, mode, c.armed)
+    marks(out, numbered, mode, c.armed, held)
 }
 
 // A buffer behind its name: its length, and the digest of its bytes.

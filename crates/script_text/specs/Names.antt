@@ -130,6 +130,10 @@ abbrev pub 'arm : ℕ
 abbrev pub 'mode : ℕ
 'mode = 0x16d6f6465
 
+-- `held`
+abbrev pub 'held : ℕ
+'held = 0x168656c64
+
 -- `cp`
 abbrev pub 'cp : ℕ
 'cp = 0x16370

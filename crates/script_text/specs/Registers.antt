@@ -11,16 +11,21 @@ use Rattle.machine.specs.declared.Board.{Board}
 use Rattle.machine.specs.declared.Channel.{Channel}
 use Rattle.machine.specs.declared.State.{State}
 use Rattle.machine.specs.Cc.{split}
+use Rattle.machine.specs.Holdings.{heldFrom, isHeldNumber}
 use Rattle.machine.specs.States.{boardWith, channelOf, withChannel, isSecond}
-use Rattle.script_text.specs.Names.{'ga, 'gb, 'gc, 'tp, 'pp, 'bc, 'ix, 'cc, 'fields, 'mc, 'psw, 'ga-t, 'gb-t, 'gc-t, 'tp-t, 'arm, 'mode, 'cp, 'last, 'up, 'sysbus, 'soc, 'grant}
+use Rattle.script_text.specs.Names.{'ga, 'gb, 'gc, 'tp, 'pp, 'bc, 'ix, 'cc, 'fields, 'mc, 'psw, 'ga-t, 'gb-t, 'gc-t, 'tp-t, 'arm, 'mode, 'held, 'cp, 'last, 'up, 'sysbus, 'soc, 'grant}
 
--- how many values fit a channel's register: 8 digits, 4, 2, a tag or mark, a mode; 0 where there is no such register
+-- how many values, from 0 on, fit a channel's register other than `held`: 8 digits, 4, 2, a tag or mark, a mode; 0 where there is no such register
 unfoldable pub valuesOf : ℕ → ℕ
 valuesOf r =
     pick (eqb r 'ga || eqb r 'gb || eqb r 'gc || eqb r 'tp || eqb r 'pp) 4294967296
     (pick (eqb r 'bc || eqb r 'ix || eqb r 'cc || eqb r 'fields || eqb r 'mc) 65536
     (pick (eqb r 'psw) 256
     (pick (eqb r 'ga-t || eqb r 'gb-t || eqb r 'gc-t || eqb r 'tp-t || eqb r 'arm) 2 (pick (eqb r 'mode) 3 0))))
+
+-- what fits a channel's register: `held` the numbers that stand for a byte or none
+unfoldable pub fitsOwn : ℕ → ℕ → Bool
+fitsOwn r v = pick (eqb r 'held) (isHeldNumber v) (ltb v (valuesOf r))
 
 -- the marks of the board: powered up, SYSBUS bit 0, SOC bit 0 and SOC bit 1
 unfoldable pub isBoardMark : ℕ → Bool
@@ -33,7 +38,7 @@ fitsShared r v = pick (eqb r 'cp) true (pick (eqb r 'last) (eqb v 1 || eqb v 2) 
 -- there is such a register of channel 1 or 2, or a shared one for channel 0, and the value fits it
 unfoldable pub fitsRegister : ℕ → ℕ → ℕ → Bool
 fitsRegister channel r v =
-    pick (eqb channel 0) (fitsShared r v) (pick (eqb channel 1) (ltb v (valuesOf r)) (pick (eqb channel 2) (ltb v (valuesOf r)) false))
+    pick (eqb channel 0) (fitsShared r v) (pick (eqb channel 1) (fitsOwn r v) (pick (eqb channel 2) (fitsOwn r v) false))
 
 -- the mode of a number: 0 idle, 1 running, 2 suspended
 unfoldable pub modeNumbered : ℕ → Mode
@@ -60,6 +65,7 @@ withRaw c r v =
       mode = pick (eqb r 'mode) (modeNumbered v) (c .mode);
       armed = pick (eqb r 'arm) (eqb v 1) (c .armed);
       fields = pick (eqb r 'fields) (split (v % 65536)) (c .fields);
+      held = pick (eqb r 'held) (heldFrom v) (c .held);
     }
 
 -- what the board set up, with one of its marks set

@@ -57,6 +57,8 @@ pub const ARM: u64 = 0x161_726d;
 
 pub const MODE: u64 = 0x1_6d6f_6465;
 
+pub const HELD: u64 = 0x1_6865_6c64;
+
 pub const CP: u64 = 0x1_6370;
 
 pub const LAST: u64 = 0x1_6c61_7374;

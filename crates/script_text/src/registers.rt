@@ -9,9 +9,9 @@ ghost use mathlib.Core.Path.{_≡_};
 ghost use mathlib.Core.Bool.{true, false};
 ghost use Rattle.memory.specs.Values.{pointer};
 ghost use Rattle.script_text.specs.Names.{'mode};
-ghost use Rattle.script_text.specs.Registers.{valuesOf, isBoardMark, fitsShared, fitsRegister, modeNumbered, withRaw, boardMarked, withShared, withNamed};
+ghost use Rattle.script_text.specs.Registers.{valuesOf, fitsOwn, isBoardMark, fitsShared, fitsRegister, modeNumbered, withRaw, boardMarked, withShared, withNamed};
 
-// How many values fit a channel's register; 0 where there is no such register.
+// How many values, from 0 on, fit a channel's register other than `held`; 0 where there is no such register.
 fn values(register: u64) -> u64
     ensures { λ r. ⌜ r ≡ valuesOf register ⌝ }
 {
@@ -35,6 +35,16 @@ fn values(register: u64) -> u64
         names::MODE => 3,
         _ => 0,
     }
+}
+
+// Whether a value fits a channel's register.
+fn fits_own(register: u64, value: u32) -> bool
+    ensures { λ r. ⌜ r ≡ fitsOwn register value ⌝ }
+{
+    if register == names::HELD {
+        return machine::holdings::stands(value);
+    }
+    (value as u64) < values(register)
 }
 
 // Whether a register is a mark of the board.
@@ -64,8 +74,8 @@ pub fn fits(channel: u32, register: u64, value: u32) -> bool
 {
     match channel {
         0 => fits_shared(register, value),
-        1 => (value as u64) < values(register),
-        2 => (value as u64) < values(register),
+        1 => fits_own(register, value),
+        2 => fits_own(register, value),
         _ => false,
     }
 }
@@ -85,27 +95,9 @@ fn mode_of(value: u32) -> Mode
 fn with_mode(c: Channel, value: u32) -> Channel
     ensures { λ r. ⌜ r ≡ withRaw c 'mode value ⌝ }
 {
-    let ga = c.ga;
-    let gb = c.gb;
-    let gc = c.gc;
     let tp = c.tp;
-    let fields = c.fields;
     let mode = mode_of(value);
-    Channel {
-        ga,
-        gb,
-        gc,
-        tp,
-        pp: c.pp,
-        bc: c.bc,
-        ix: c.ix,
-        cc: c.cc,
-        mc: c.mc,
-        psw: c.psw,
-        mode,
-        armed: c.armed,
-        fields,
-    }
+    machine::updates::with_control(c, tp, c.pp, c.psw, mode, c.armed)
 }
 
 // A pointer to another address.
@@ -157,6 +149,7 @@ fn with_raw(c: Channel, register: u64, value: u32) -> Channel
         names::TP_TAG => next.tp = with_tag(tp, on),
         names::ARM => next.armed = on,
         names::MODE => return with_mode(c, value),
+        names::HELD => return machine::updates::holds(c, machine::holdings::from(value)),
         _ => {}
     }
     next

@@ -10,9 +10,11 @@ use mathlib.Core.List.{List, [], _∷_, _++_}
 use mathlib.Core.Path.{_≡_, refl, sym, ap, ap₂, _∙_}
 use native.Mathlib.Omega.{arith}
 use Rattle.words.proofs.ChoiceLaws.{both-left, both-right}
+use Rattle.machine.proofs.HoldingLaws.{number-back}
+use Rattle.machine.specs.Holdings.{isHeldNumber}
 use Rattle.service.specs.Conditions.{Bytes}
-use Rattle.service.specs.Fields.{flagOf, flagIn, isFlag, modeByte, modeIn, isMode, isCode}
-use Rattle.service.specs.Layout.{pointerBytes, pointersBytes, numbersBytes, marksBytes, sidesBytes, endsBytes, fieldsBytes, channelBytes, boardBytes, bytesOf, pointerIn, fieldsIn, channelIn, boardIn, stateIn, isFields, isBlock, isBoard, isState, stateLength, version, firstAt, secondFrom}
+use Rattle.service.specs.Fields.{littleEnd, littleIn, flagOf, flagIn, isFlag, modeByte, modeIn, isMode, isCode}
+use Rattle.service.specs.Layout.{pointerBytes, pointersBytes, numbersBytes, marksBytes, sidesBytes, endsBytes, fieldsBytes, heldBytes, channelBytes, boardBytes, bytesOf, pointerIn, fieldsIn, channelIn, boardIn, stateIn, isFields, isBlock, isBoard, isState, stateLength, version, firstAt, secondFrom}
 use Rattle.service.proofs.CallLaws.{state-length}
 use Rattle.service.proofs.LittleLaws.{little-forth}
 
@@ -93,7 +95,7 @@ module _ (b : List ℕ) (byte : Bytes b) where
   pointer-forth at h f =
       ap₂ _++_ (little-forth 4 b at byte (omega arith)) (flag-forth b (at + 4) (omega arith) f) ∙ joined b at 4 1 (at + 4) refl
 
-  module _ (at : ℕ) (h : at + 45 ≤ length b) where
+  module _ (at : ℕ) (h : at + 47 ≤ length b) where
     pointers-forth : isFlag b (at + 4) ≡ true → isFlag b (at + 5 + 4) ≡ true → isFlag b (at + 10 + 4) ≡ true → isFlag b (at + 15 + 4) ≡ true
         → pointersBytes (channelIn b at) ≡ part b at 20
     unfolding pointersBytes channelIn
@@ -125,7 +127,11 @@ module _ (b : List ℕ) (byte : Bytes b) where
         ∙ joined b (at + 33) 1 1 (at + 34) (omega arith))
         ∙ joined b (at + 32) 1 2 (at + 33) (omega arith)
 
-    channel-forth : isBlock b at ≡ true → channelBytes (channelIn b at) ≡ part b at 45
+    held-forth : isHeldNumber (littleIn 2 b (at + 45)) ≡ true → heldBytes (channelIn b at) ≡ part b (at + 45) 2
+    unfolding heldBytes channelIn
+    held-forth p = ap (littleEnd 2) (number-back (littleIn 2 b (at + 45)) p) ∙ little-forth 2 b (at + 45) byte (omega arith)
+
+    channel-forth : isBlock b at ≡ true → channelBytes (channelIn b at) ≡ part b at 47
     unfolding channelBytes isBlock channelIn
     channel-forth f =
         let p = isFlag b (at + 4) in
@@ -134,7 +140,10 @@ module _ (b : List ℕ) (byte : Bytes b) where
         let t = isFlag b (at + 19) in
         let k = isMode b (at + 33) in
         let a = isFlag b (at + 34) in
-        let f6 = both-left (p && q && r && t && k && a) (isFields b (at + 35)) f in
+        let l = isFields b (at + 35) in
+        let held = isHeldNumber (littleIn 2 b (at + 45)) in
+        let f7 = both-left (p && q && r && t && k && a && l) held f in
+        let f6 = both-left (p && q && r && t && k && a) l f7 in
         let f5 = both-left (p && q && r && t && k) a f6 in
         let f4 = both-left (p && q && r && t) k f5 in
         let f3 = both-left (p && q && r) t f4 in
@@ -144,10 +153,12 @@ module _ (b : List ℕ) (byte : Bytes b) where
         let four : at + 15 + 4 ≡ at + 19 = omega arith in
         ap₂ _++_ (pointers-forth (both-left p q f2) (rw two (both-right p q f2)) (rw three (both-right (p && q) r f3)) (rw four (both-right (p && q && r) t f4)))
         (ap₂ _++_ numbers-forth
-        (ap₂ _++_ (marks-forth (both-right (p && q && r && t) k f5) (both-right (p && q && r && t && k) a f6)) (fields-forth b (at + 35) (omega arith) (both-right (p && q && r && t && k && a) (isFields b (at + 35)) f))
-        ∙ joined b (at + 32) 3 10 (at + 35) (omega arith))
-        ∙ joined b (at + 20) 12 13 (at + 32) (omega arith))
-        ∙ joined b at 20 25 (at + 20) refl
+        (ap₂ _++_ (marks-forth (both-right (p && q && r && t) k f5) (both-right (p && q && r && t && k) a f6))
+        (ap₂ _++_ (fields-forth b (at + 35) (omega arith) (both-right (p && q && r && t && k && a) l f7)) (held-forth (both-right (p && q && r && t && k && a && l) held f))
+        ∙ joined b (at + 35) 10 2 (at + 45) (omega arith))
+        ∙ joined b (at + 32) 3 12 (at + 35) (omega arith))
+        ∙ joined b (at + 20) 12 15 (at + 32) (omega arith))
+        ∙ joined b at 20 27 (at + 20) refl
 
   board-forth : 10 ≤ length b → isBoard b ≡ true → boardBytes (boardIn b) ≡ part b 6 4
   unfolding boardBytes boardIn isBoard
@@ -183,10 +194,10 @@ module _ (b : List ℕ) (byte : Bytes b) where
       (ap₂ _++_ (little-forth 4 b 1 byte (omega arith))
       (ap₂ _++_ (flag-forth b 5 (omega arith) (both-right (a && v) l h2))
       (ap₂ _++_ (board-forth (omega arith) (both-right (a && v && l) o h3))
-      (ap₂ _++_ (channel-forth 10 (omega arith) (both-right (a && v && l && o) one h4)) (channel-forth 55 (omega arith) (both-right (a && v && l && o && one) (isBlock b secondFrom) h))
-      ∙ joined b 10 45 45 55 refl)
-      ∙ joined b 6 4 90 10 refl)
-      ∙ joined b 5 1 94 6 refl)
-      ∙ joined b 1 4 95 5 refl)
-      ∙ joined b 0 1 99 1 refl
-      ∙ take-all 100 b (omega arith)
+      (ap₂ _++_ (channel-forth 10 (omega arith) (both-right (a && v && l && o) one h4)) (channel-forth 57 (omega arith) (both-right (a && v && l && o && one) (isBlock b secondFrom) h))
+      ∙ joined b 10 47 47 57 refl)
+      ∙ joined b 6 4 94 10 refl)
+      ∙ joined b 5 1 98 6 refl)
+      ∙ joined b 1 4 99 5 refl)
+      ∙ joined b 0 1 103 1 refl
+      ∙ take-all 104 b (omega arith)

@@ -2,6 +2,7 @@
 -- Assumes nothing.
 use Prim.Native.Nat.{ℕ, zero, suc, _/_}
 use lib.ListN.{length}
+use mathlib.Core.List.{_++_}
 use mathlib.Core.Path.{_≡_, refl, ap}
 use Rattle.memory.specs.declared.Pointer.{Pointer}
 use Rattle.machine.specs.declared.Board.{Board}
@@ -9,7 +10,7 @@ use Rattle.machine.specs.declared.Channel.{Channel}
 use Rattle.machine.specs.declared.Fields.{Fields}
 use Rattle.machine.specs.declared.State.{State}
 use Rattle.service.specs.Fields.{littleEnd}
-use Rattle.service.specs.Layout.{pointerBytes, pointersBytes, numbersBytes, marksBytes, sidesBytes, endsBytes, fieldsBytes, channelBytes, boardBytes, bytesOf, stateLength}
+use Rattle.service.specs.Layout.{pointerBytes, pointersBytes, numbersBytes, marksBytes, sidesBytes, endsBytes, fieldsBytes, heldBytes, channelBytes, boardBytes, bytesOf, stateLength}
 
 -- a number has as many bytes as its width says
 pub length-little : (width n : ℕ) → length (littleEnd width n) ≡ width
@@ -37,8 +38,12 @@ pub length-sides : (f : Fields) → length (sidesBytes f) ≡ 5
 unfolding sidesBytes
 length-sides f = refl
 
-pub length-channel : (c : Channel) → length (channelBytes c) ≡ 45
-unfolding channelBytes pointersBytes pointerBytes numbersBytes marksBytes sidesBytes endsBytes fieldsBytes littleEnd
+pub length-fields : (f : Fields) → length (sidesBytes f ++ endsBytes f) ≡ 10
+unfolding sidesBytes endsBytes
+length-fields f = refl
+
+pub length-channel : (c : Channel) → length (channelBytes c) ≡ 47
+unfolding channelBytes pointersBytes pointerBytes numbersBytes marksBytes sidesBytes endsBytes fieldsBytes heldBytes littleEnd
 length-channel c = refl
 
 pub length-board : (b : Board) → length (boardBytes b) ≡ 4
@@ -46,5 +51,5 @@ unfolding boardBytes
 length-board b = refl
 
 pub length-state : (s : State) → length (bytesOf s) ≡ stateLength
-unfolding bytesOf boardBytes channelBytes pointersBytes pointerBytes numbersBytes marksBytes sidesBytes endsBytes fieldsBytes littleEnd
+unfolding bytesOf boardBytes channelBytes pointersBytes pointerBytes numbersBytes marksBytes sidesBytes endsBytes fieldsBytes heldBytes littleEnd
 length-state s = refl

@@ -1,6 +1,7 @@
 pub mod SetsLaws
 pub mod LengthLaws
 pub mod LittleLaws
+pub mod HeldLaws
 pub mod BackLaws
 pub mod CallLaws
 pub mod ForthLaws

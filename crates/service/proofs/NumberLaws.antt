@@ -10,8 +10,9 @@ use mathlib.Core.Path.{_≡_, refl, sym, _∙_}
 use native.Mathlib.Omega.{arith}
 use Rattle.words.specs.Choice.{pick}
 use Rattle.memory.specs.Buffers.{Buffers}
-use Rattle.machine.proofs.ConditionLaws.{Told, told-and, told-eqb, told-ltb, last, rewritten}
+use Rattle.machine.proofs.ConditionLaws.{Told, told-and, told-or, told-eqb, told-ltb, told-leb, last, rewritten}
 use Rattle.machine.specs.Conditions.{Given}
+use Rattle.machine.specs.Holdings.{isHeldNumber}
 use Rattle.machine.specs.Outcomes.{unless}
 use Rattle.machine.specs.States.{freshState, resetState, freshOf}
 use Rattle.machine.specs.declared.Made.{Made}
@@ -23,8 +24,8 @@ use Rattle.step.proofs.NumberLaws.{number-given, step-most}
 use Rattle.step.specs.Step.{stepOf}
 use Rattle.step.specs.Touched.{stepCount}
 use Rattle.service.specs.Calls.{made, served, noState, kindNumber, answerFrom, freshMade, resetMade, powerServed, attentionServed, stepServed}
-use Rattle.service.specs.Conditions.{NoState, NoFields, NoBlock, NoBoard, freshChecksOn, resetChecksOn, powerChecksOn, attentionChecksOn, stepChecksOn}
-use Rattle.service.specs.Fields.{isFlag, isMode, isCode}
+use Rattle.service.specs.Conditions.{NoState, NoFields, NoHeld, NoBlock, NoBoard, freshChecksOn, resetChecksOn, powerChecksOn, attentionChecksOn, stepChecksOn}
+use Rattle.service.specs.Fields.{littleIn, isFlag, isMode, isCode}
 use Rattle.service.specs.Layout.{bytesOf, stateIn, isFields, isBlock, isBoard, isState, stateLength, version, firstAt, secondFrom}
 
 -- ---- the parts of an answer
@@ -63,6 +64,10 @@ told-fields b at =
     (told-and (told-ltb (getD b (at + 7) 0) 4)
     (told-and (told-ltb (getD b (at + 8) 0) 4) (told-ltb (getD b (at + 9) 0) 8))))))))))
 
+told-held : (b : List ℕ) (at : ℕ) → Told (isHeldNumber (littleIn 2 b at)) (NoHeld b at)
+unfolding isHeldNumber
+told-held b at = let n = littleIn 2 b at in told-or (told-eqb n 0) (told-and (told-leb 256 n) (told-ltb n 512))
+
 told-block : (b : List ℕ) (at : ℕ) → Told (isBlock b at) (NoBlock b at)
 unfolding isBlock isFlag isMode
 told-block b at =
@@ -72,7 +77,8 @@ told-block b at =
     (told-and (told-ltb (getD b (at + 14) 0) 2)
     (told-and (told-ltb (getD b (at + 19) 0) 2)
     (told-and (told-ltb (getD b (at + 33) 0) 3)
-    (told-and (told-ltb (getD b (at + 34) 0) 2) (told-fields b (at + 35))))))))
+    (told-and (told-ltb (getD b (at + 34) 0) 2)
+    (told-and (told-fields b (at + 35)) (told-held b (at + 45)))))))))
 
 told-board : (b : List ℕ) → Told (isBoard b) (NoBoard b)
 unfolding isBoard isFlag

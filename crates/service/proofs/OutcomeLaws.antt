@@ -11,7 +11,7 @@ use mathlib.Core.Path.{_≡_, refl, sym, ap, _∙_}
 use native.Mathlib.Decide.{ℕ-discrete}
 use native.Mathlib.Omega.{arith}
 use Rattle.words.specs.Choice.{pick}
-use Rattle.memory.specs.Buffers.{Buffers, buffers}
+use Rattle.memory.specs.Buffers.{Buffers, buffers, AllBytes}
 use Rattle.machine.proofs.ConditionLaws.{first-none-left, first-none-right}
 use Rattle.machine.proofs.GivenLaws.{given-agree}
 use Rattle.machine.proofs.OutcomeLaws.{settled-number}
@@ -35,7 +35,9 @@ use Rattle.service.specs.Conditions.{Bytes}
 use Rattle.service.specs.Layout.{bytesOf, stateIn, isState}
 use Rattle.service.proofs.BackLaws.{bytes-are}
 use Rattle.service.proofs.ForthLaws.{bytes-back}
+use Rattle.service.proofs.HeldLaws.{HeldFit, found-held, attention-held, step-held}
 use Rattle.service.proofs.NumberLaws.{number-part}
+use Rattle.service.proofs.TurnLaws.{state-held}
 use Rattle.service.proofs.iop89_fresh.Kinds as fresh-kinds
 use Rattle.service.proofs.iop89_fresh.Reads as fresh-reads
 use Rattle.service.proofs.iop89_reset.Kinds as reset-kinds
@@ -99,12 +101,12 @@ step-agreed s m lines =
     (λ b z e h. entry-agree s m lines z) (λ b z e f h. entry-agree s m lines z) (λ b z e f h. entry-agree s m lines z)
 
 module _ (b : List ℕ) (byte : Bytes b) (m : Buffers) (h : isState b ≡ true) where
-  -- what is left agrees where the call was done, and is what was given where it was refused
-  stays : (number : ℕ) (s : State) → (number ≡ 0 → agree s ≡ true) → (¬ (number ≡ 0) → s ≡ stateIn b) → isState (bytesOf s) ≡ true
-  stays number s done same = go (ℕ-discrete number 0)
+  -- what is left agrees where the call was done and holds bytes or nothing, and is what was given where it was refused
+  stays : (number : ℕ) (s : State) → (number ≡ 0 → agree s ≡ true) → (number ≡ 0 → HeldFit s) → (¬ (number ≡ 0) → s ≡ stateIn b) → isState (bytesOf s) ≡ true
+  stays number s done held same = go (ℕ-discrete number 0)
     where
       go : Dec (number ≡ 0) → isState (bytesOf s) ≡ true
-      go (yes z) = bytes-are s (done z)
+      go (yes z) = bytes-are s (done z) (held z)
       go (no ne) = ap (λ (x : State). isState (bytesOf x)) (same ne) ∙ ap isState (bytes-back b byte h) ∙ h
 
   pub power-stays : isState (powerServed b m .bytes) ≡ true
@@ -114,6 +116,7 @@ module _ (b : List ℕ) (byte : Bytes b) (m : Buffers) (h : isState b ≡ true) 
       rw h
       (stays (o .number) (o .state)
       (λ z. ap (λ (x : Outcome). agree (x .state)) (power-accepted (stateIn b) m z) ∙ found-agree m)
+      (λ z. rw (power-accepted (stateIn b) m z) (found-held m))
       (λ ne. ap (λ (x : Outcome). x .state) (power-refused (stateIn b) m ne)))
 
   pub attention-stays : (channel : ℕ) → isState (attentionServed b m channel .bytes) ≡ true
@@ -123,15 +126,18 @@ module _ (b : List ℕ) (byte : Bytes b) (m : Buffers) (h : isState b ≡ true) 
       rw h
       (stays (o .number) (o .state)
       (λ z. attention-agree (stateIn b) m channel (attention-agreed (stateIn b) m channel z))
+      (λ z. attention-held (stateIn b) m channel (state-held b))
       (λ ne. ap (λ (x : Outcome). x .state) (refused-nothing (stateIn b) m channel ne)))
 
-  pub step-stays : (lines : ℕ) → isState (stepServed b m lines .bytes) ≡ true
+  -- a step where memory is of bytes, as every buffer is: one of them may then be held
+  pub step-stays : AllBytes m → (lines : ℕ) → isState (stepServed b m lines .bytes) ≡ true
   unfolding stepServed
-  step-stays lines =
+  step-stays all lines =
       let o = stepOf (stateIn b) m lines in
       rw h
       (stays (o .number) (o .state)
       (λ z. step-agree (stateIn b) m lines (step-agreed (stateIn b) m lines z))
+      (λ z. step-held (stateIn b) m lines all (state-held b))
       (λ ne. ap (λ (x : Step). x .state) (refused (stateIn b) m lines ne)))
 
 -- ---- the contracts as the code has them: the answer, the bytes and both memories are determined

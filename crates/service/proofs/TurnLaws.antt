@@ -9,7 +9,9 @@ use mathlib.Core.Path.{_≡_, refl, sym, ap, _∙_}
 use native.Mathlib.Decide.{ℕ-discrete}
 use native.Mathlib.Omega.{arith}
 use Rattle.memory.specs.Buffers.{Buffers}
+use Rattle.machine.proofs.HoldingLaws.{from-fits}
 use Rattle.machine.proofs.OutcomeLaws.{refused-counts}
+use Rattle.machine.specs.Holdings.{heldFrom}
 use Rattle.machine.specs.Outcomes.{counted}
 use Rattle.machine.specs.States.{channelOf, withChannel, withLast, blockOf, busyIn, channelNumber}
 use Rattle.machine.specs.declared.Channel.{Channel}
@@ -29,15 +31,16 @@ use Rattle.step.specs.declared.turns.Choice.the-variants.{Ends}
 use Rattle.service.specs.Calls.{served, answerFrom, kindNumber, stepLeft, stepServed}
 use Rattle.service.specs.Conditions.{Bytes, ChannelFits, StateFits}
 use Rattle.service.specs.Fields.{littleEnd, littleIn, flagOf}
-use Rattle.service.specs.Layout.{pointerBytes, pointersBytes, numbersBytes, marksBytes, sidesBytes, endsBytes, fieldsBytes, channelBytes, boardBytes, bytesOf, pointerIn, channelIn, stateIn, isState, stateLength, blockFrom}
+use Rattle.service.specs.Layout.{pointerBytes, pointersBytes, numbersBytes, marksBytes, sidesBytes, endsBytes, fieldsBytes, heldBytes, channelBytes, boardBytes, bytesOf, pointerIn, channelIn, stateIn, isState, stateLength, blockFrom}
 use Rattle.service.specs.Turns.{turned}
 use Rattle.service.specs.declared.Turn.{Turn}
 use Rattle.service.proofs.BackLaws.{state-back}
 use Rattle.service.proofs.ForthLaws.{bytes-back}
+use Rattle.service.proofs.HeldLaws.{HeldFit, held-small}
 
 -- ---- a channel's block
 
-pub block-inside : (n : ℕ) (second : Bool) → n ≡ stateLength → blockFrom second + 45 ≤ n
+pub block-inside : (n : ℕ) (second : Bool) → n ≡ stateLength → blockFrom second + 47 ≤ n
 unfolding blockFrom
 block-inside n true e = omega arith
 block-inside n false e = omega arith
@@ -69,7 +72,13 @@ channel-fits b at byte =
       cc = little-fits 2 b (at + 28) byte;
       mc = little-fits 2 b (at + 30) byte;
       psw = byte (at + 32);
+      held = held-small (heldFrom (littleIn 2 b (at + 45))) (from-fits (littleIn 2 b (at + 45)));
     }
+
+-- each channel that was read holds a byte or nothing
+pub state-held : (b : List ℕ) → HeldFit (stateIn b)
+unfolding stateIn channelIn
+state-held b = (from-fits (littleIn 2 b 55), from-fits (littleIn 2 b 102))
 
 -- the state after a done step
 abbrev done : State → Bool → Channel → State
@@ -78,11 +87,11 @@ done s second c = withLast (withChannel s second c) second
 done-fits : (b : List ℕ) → Bytes b → (second : Bool) (c : Channel) → ChannelFits c → StateFits (done (stateIn b) second c)
 unfolding withLast withChannel stateIn
 done-fits b byte true c h = record { first = channel-fits b 10 byte; second = h; cp = little-fits 4 b 1 byte }
-done-fits b byte false c h = record { first = h; second = channel-fits b 55 byte; cp = little-fits 4 b 1 byte }
+done-fits b byte false c h = record { first = h; second = channel-fits b 57 byte; cp = little-fits 4 b 1 byte }
 
 -- of a state's bytes it changes that of the last channel and one block
 done-bytes : (s : State) (second : Bool) (c : Channel) → sets (sets (bytesOf s) 5 (flagOf second ∷ [])) (blockFrom second) (channelBytes c) ≡ bytesOf (done s second c)
-unfolding withLast withChannel blockFrom bytesOf boardBytes channelBytes pointersBytes pointerBytes numbersBytes marksBytes sidesBytes endsBytes fieldsBytes littleEnd
+unfolding withLast withChannel blockFrom bytesOf boardBytes channelBytes pointersBytes pointerBytes numbersBytes marksBytes sidesBytes endsBytes fieldsBytes heldBytes littleEnd
 done-bytes s true c = refl
 done-bytes s false c = refl
 

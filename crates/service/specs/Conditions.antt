@@ -7,11 +7,13 @@ use lib.ListN.{length, getD}
 use Rattle.memory.specs.Buffers.{Buffers}
 use Rattle.memory.specs.declared.Pointer.{Pointer}
 use Rattle.machine.specs.Conditions.{Check, check}
+use Rattle.machine.specs.Holdings.{heldNumber}
 use Rattle.machine.specs.declared.Channel.{Channel}
 use Rattle.machine.specs.declared.State.{State}
 use Rattle.attention.specs.Conditions.{attentionChecks as attentionChecks}
 use Rattle.power.specs.Conditions.{powerChecks}
 use Rattle.step.specs.Conditions.{stepChecks as stepChecks}
+use Rattle.service.specs.Fields.{littleIn}
 use Rattle.service.specs.Layout.{stateIn, stateLength, version, firstAt, secondFrom}
 
 -- a byte stands for no truth value
@@ -40,7 +42,11 @@ NoFields b at =
     ⊎ PastWidth b (at + 8) 4
     ⊎ PastWidth b (at + 9) 8
 
--- a tag, the mode, the armed mark or a field of CC of a block is out of range
+-- two bytes are no held number: neither 0 nor 256 to 511
+abbrev pub NoHeld : List ℕ → ℕ → Type 0
+NoHeld b at = ¬ (littleIn 2 b at ≡ 0) × (littleIn 2 b at < 256 ⊎ 512 ≤ littleIn 2 b at)
+
+-- a tag, the mode, the armed mark, a field of CC or the held number of a block is out of range
 abbrev pub NoBlock : List ℕ → ℕ → Type 0
 NoBlock b at =
     NoFlag b (at + 4)
@@ -50,12 +56,13 @@ NoBlock b at =
     ⊎ NoMode b (at + 33)
     ⊎ NoFlag b (at + 34)
     ⊎ NoFields b (at + 35)
+    ⊎ NoHeld b (at + 45)
 
 -- a byte of what the board set up is out of range
 abbrev pub NoBoard : List ℕ → Type 0
 NoBoard b = NoFlag b 6 ⊎ NoFlag b 7 ⊎ NoFlag b 8 ⊎ NoFlag b 9
 
--- 17: another length or version, or a mode, flag or field out of range
+-- 17: another length or version, or a mode, flag, field or held number out of range
 abbrev pub NoState : List ℕ → Type 0
 NoState b =
     ¬ (length b ≡ stateLength)
@@ -105,6 +112,7 @@ pub record ChannelFits (c : Channel) : Type 0 where
   pub cc : c .cc < 65536
   pub mc : c .mc < 65536
   pub psw : c .psw < 256
+  pub held : heldNumber (c .held) < 512
 
 -- and every one of a state
 pub record StateFits (s : State) : Type 0 where

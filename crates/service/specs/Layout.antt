@@ -1,4 +1,4 @@
--- A state as the caller keeps it, 100 bytes: version, CP, the channel that stepped last, what the board set up, then a block of 45 bytes for each channel.
+-- A state as the caller keeps it, 104 bytes: version, CP, the channel that stepped last, what the board set up, then a block of 47 bytes for each channel.
 use mathlib.Core.Bool.{Bool, _&&_}
 use mathlib.Core.List.{List, [], _∷_, _++_}
 use Prim.Native.Nat.{ℕ, _+_}
@@ -7,6 +7,7 @@ use lib.ListN.{length, getD}
 use Rattle.words.specs.Choice.{pick}
 use Rattle.memory.specs.Values.{pointer}
 use Rattle.memory.specs.declared.Pointer.{Pointer}
+use Rattle.machine.specs.Holdings.{heldNumber, heldFrom, isHeldNumber}
 use Rattle.machine.specs.States.{boardWith}
 use Rattle.machine.specs.declared.Board.{Board}
 use Rattle.machine.specs.declared.Channel.{Channel}
@@ -50,9 +51,13 @@ endsBytes f =
 unfoldable pub fieldsBytes : Fields → List ℕ
 fieldsBytes f = sidesBytes f ++ endsBytes f
 
+-- what a channel holds, as the number that stands for it
+unfoldable pub heldBytes : Channel → List ℕ
+heldBytes c = littleEnd 2 (heldNumber (c .held))
+
 -- a channel's block
 unfoldable pub channelBytes : Channel → List ℕ
-channelBytes c = pointersBytes c ++ (numbersBytes c ++ (marksBytes c ++ fieldsBytes (c .fields)))
+channelBytes c = pointersBytes c ++ (numbersBytes c ++ (marksBytes c ++ (fieldsBytes (c .fields) ++ heldBytes c)))
 
 -- what the board set up: powered up, SYSBUS bit 0, SOC bit 0 and SOC bit 1, a byte each
 unfoldable pub boardBytes : Board → List ℕ
@@ -60,7 +65,7 @@ boardBytes b = (flagOf (b .powered) ∷ []) ++ ((flagOf (b .sysbus) ∷ []) ++ (
 
 -- the layout's number, which each change of the layout raises
 abbrev pub version : ℕ
-version = 3
+version = 4
 
 -- the whole state
 unfoldable pub bytesOf : State → List ℕ
@@ -76,7 +81,7 @@ bytesOf s =
 
 -- how many bytes a state has
 abbrev pub stateLength : ℕ
-stateLength = 100
+stateLength = 104
 
 -- where the block of channel 1 starts
 abbrev pub firstAt : ℕ
@@ -84,7 +89,7 @@ firstAt = 10
 
 -- where the block of channel 2 starts
 abbrev pub secondFrom : ℕ
-secondFrom = 55
+secondFrom = 57
 
 -- where the block of a channel starts
 unfoldable pub blockFrom : Bool → ℕ
@@ -127,6 +132,7 @@ channelIn b at =
       mode = modeIn b (at + 33);
       armed = flagIn b (at + 34);
       fields = fieldsIn b (at + 35);
+      held = heldFrom (littleIn 2 b (at + 45));
     }
 
 -- what the board set up, from its four bytes
@@ -153,7 +159,7 @@ isFields b at =
     && isCode b (at + 8) 4
     && isCode b (at + 9) 8
 
--- a channel's tags and armed mark are truth values, its mode is one, and so are its fields of CC
+-- a channel's tags and armed mark are truth values, its mode is one, so are its fields of CC, and a number stands for what it holds
 unfoldable pub isBlock : List ℕ → ℕ → Bool
 isBlock b at =
     isFlag b (at + 4)
@@ -163,12 +169,13 @@ isBlock b at =
     && isMode b (at + 33)
     && isFlag b (at + 34)
     && isFields b (at + 35)
+    && isHeldNumber (littleIn 2 b (at + 45))
 
 -- what the board set up is four truth values
 unfoldable pub isBoard : List ℕ → Bool
 isBoard b = isFlag b 6 && isFlag b 7 && isFlag b 8 && isFlag b 9
 
--- of the right length and version, and each flag, mode and field is one (else 17)
+-- of the right length and version, and each flag, mode, field and held number is one (else 17)
 unfoldable pub isState : List ℕ → Bool
 isState b =
     eqb (length b) stateLength

@@ -1,4 +1,4 @@
-// A whole state in 100 bytes: pointers, fields of CC, channels, what the board set up and the state itself, read, tested
+// A whole state in 104 bytes: pointers, fields of CC, channels, what the board set up and the state itself, read, tested
 // and put.
 use crate::fields;
 use machine::Board;
@@ -19,7 +19,7 @@ ghost use Rattle.service.specs.Layout.{pointerBytes, pointersBytes, numb
 const FIRST_AT: usize = 10;
 
 // Where the block of channel 2 starts.
-const SECOND_AT: usize = 55;
+const SECOND_AT: usize = 57;
 
 // Where the block of a channel starts.
 fn block_at(second: bool) -> usize
@@ -60,7 +60,7 @@ fn fields_in(bytes: &[u8], at: usize) -> Fields
 
 // The channel whose block starts at an offset.
 fn channel_in(bytes: &[u8], at: usize) -> Channel
-    requires { ⌜ at + 45 ≤ length (now bytes) ⌝ }
+    requires { ⌜ at + 47 ≤ length (now bytes) ⌝ }
     ensures { λ r. ⌜ r ≡ channelIn (now (bytes .entry)) at ⌝ }
 {
     Channel {
@@ -77,6 +77,7 @@ fn channel_in(bytes: &[u8], at: usize) -> Channel
         mode: fields::mode(bytes, at + 33),
         armed: fields::flag(bytes, at + 34),
         fields: fields_in(bytes, at + 35),
+        held: machine::holdings::from(fields::word(bytes, at + 45) as u32),
     }
 }
 
@@ -147,9 +148,9 @@ fn is_fields(bytes: &[u8], at: usize) -> bool
         & fields::is_code(bytes, at + 9, 8)
 }
 
-// Whether the flags, the mode and the fields of a block are such.
+// Whether the flags, the mode, the fields and the held number of a block are such.
 fn is_block(bytes: &[u8], at: usize) -> bool
-    requires { ⌜ at + 45 ≤ length (now bytes) ⌝ }
+    requires { ⌜ at + 47 ≤ length (now bytes) ⌝ }
     ensures { λ r. ⌜ r ≡ isBlock (now (bytes .entry)) at ⌝ }
 {
     fields::is_flag(bytes, at + 4)
@@ -159,6 +160,7 @@ fn is_block(bytes: &[u8], at: usize) -> bool
         & fields::is_mode(bytes, at + 33)
         & fields::is_flag(bytes, at + 34)
         & is_fields(bytes, at + 35)
+        & machine::holdings::stands(fields::word(bytes, at + 45) as u32)
 }
 
 // Whether what the board set up is four truth values.
@@ -176,10 +178,10 @@ fn is_board(bytes: &[u8]) -> bool
 pub fn is_state(bytes: &[u8]) -> bool
     ensures { λ r. ⌜ r ≡ isState (now (bytes .entry)) ⌝ }
 {
-    if bytes.len() != 100 {
+    if bytes.len() != 104 {
         return false;
     }
-    (fields::byte(bytes, 0) == 3)
+    (fields::byte(bytes, 0) == 4)
         & fields::is_flag(bytes, 5)
         & is_board(bytes)
         & is_block(bytes, FIRST_AT)
@@ -255,7 +257,7 @@ fn put_ends(bytes: &mut [u8], at: usize, f: Fields)
 
 // A channel's block put at an offset; its registers have the widths of their types.
 fn put_channel(bytes: &mut [u8], at: usize, c: Channel)
-    requires { ⌜ at + 45 ≤ length (now bytes) ⌝ }
+    requires { ⌜ at + 47 ≤ length (now bytes) ⌝ }
     ensures fits { λ r. ⌜ ChannelFits c ⌝ }
     ensures put { λ r. ⌜ now (bytes .exit) ≡ sets (now (bytes .entry)) at (channelBytes c) ⌝ }
 {
@@ -264,6 +266,8 @@ fn put_channel(bytes: &mut [u8], at: usize, c: Channel)
     put_marks(bytes, at + 32, c);
     put_sides(bytes, at + 35, c.fields);
     put_ends(bytes, at + 40, c.fields);
+    let held = c.held;
+    fields::put_word(bytes, at + 45, machine::holdings::number(held));
 }
 
 // What the board set up put at its place.
@@ -283,7 +287,7 @@ pub(crate) fn put_state(bytes: &mut [u8], s: State)
     ensures put { λ r. ⌜ now (bytes .exit) ≡ sets (now (bytes .entry)) 0 (bytesOf s) ⌝ }
     ensures whole { λ r. ⌜ stateIn (bytesOf s) ≡ s ⌝ }
 {
-    fields::put(bytes, 0, 3);
+    fields::put(bytes, 0, 4);
     fields::put_long(bytes, 1, s.cp);
     fields::put(bytes, 5, fields::flag_byte(s.last));
     put_board(bytes, s.board);

@@ -52,7 +52,7 @@ pub extern "C" fn iop89_fresh(state: &mut [u8], cp: u32) -> u32
     ensures left { λ r. ⌜ made r (now (state .exit)) ≡ freshMade (now (state .entry)) cp ⌝ }
     ensures whole { λ r. ⌜ (length (now (state .entry)) ≡ stateLength → stateIn (now (state .exit)) ≡ freshOf cp .state) ⌝ }
 {
-    if state.len() != 100 {
+    if state.len() != 104 {
         return 17;
     }
     let a = machine::states::fresh(cp);
@@ -67,7 +67,7 @@ pub extern "C" fn iop89_reset(state: &mut [u8]) -> u32
     ensures left { λ r. ⌜ made r (now (state .exit)) ≡ resetMade (now (state .entry)) ⌝ }
     ensures whole { λ r. ⌜ (length (now (state .entry)) ≡ stateLength → stateIn (now (state .exit)) ≡ resetState) ⌝ }
 {
-    if state.len() != 100 {
+    if state.len() != 104 {
         return 17;
     }
     layout::put_state(state, machine::states::reset());

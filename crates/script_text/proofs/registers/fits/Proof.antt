@@ -9,11 +9,11 @@ use Rattle.script_text.proofs.registers.fits.Tie as tie
 fits-shared-requires : tie.Need-fits-shared-requires
 fits-shared-requires c κs = search needs
 
-values-requires : tie.Need-values-requires
-values-requires c κs = search needs
+fits-own-requires : tie.Need-fits-own-requires
+fits-own-requires c κs = search needs
 
-values-requires-2 : tie.Need-values-requires-2
-values-requires-2 c κs = search needs
+fits-own-requires-2 : tie.Need-fits-own-requires-2
+fits-own-requires-2 c κs = search needs
 
 returns : tie.Need-returns
 unfolding fitsRegister
@@ -21,11 +21,11 @@ returns c = simp (c .fits-shared .ensures, c .before .match .keys1)
 
 returns-2 : tie.Need-returns-2
 unfolding fitsRegister
-returns-2 c = simp (c .values .ensures, c .before .match .keys2)
+returns-2 c = simp (c .fits-own .ensures, c .before .match .keys2)
 
 returns-3 : tie.Need-returns-3
 unfolding fitsRegister
-returns-3 c = simp (c .values2 .ensures, c .before .match .keys3)
+returns-3 c = simp (c .fits-own2 .ensures, c .before .match .keys3)
 
 returns-4 : tie.Need-returns-4
 unfolding fitsRegister
@@ -36,8 +36,8 @@ fits-spec =
     tie.close
     (tie.spec
     fits-shared-requires
-    values-requires
-    values-requires-2
+    fits-own-requires
+    fits-own-requires-2
     returns
     returns-2
     returns-3

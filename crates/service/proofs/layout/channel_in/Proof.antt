@@ -1,6 +1,7 @@
 -- `service::layout::channel_in` meets its contract.
 -- Assumes nothing.
 use borrow.Author.Needs.{needs}
+use native.Mathlib.Omega.{arith}
 use Rattle.service.specs.Layout.{channelIn}
 use Rattle.service.proofs.layout.channel_in.Statement.{statement}
 use Rattle.service.proofs.layout.channel_in.Tie as tie
@@ -80,9 +81,21 @@ add-fields-in c = search needs
 fields-in-requires : tie.Need-fields-in-requires
 fields-in-requires c κs = search needs
 
+add-word-5 : tie.Need-add-word-5
+add-word-5 c = omega (arith, c .before .before .before .before .before .before .before .before .before .before .before .before .before .before .pre, c .before .before .before .before .before .before .before .before .before .before .before .before .before .before .good)
+
+word-requires-5 : tie.Need-word-requires-5
+word-requires-5 c κs = search needs
+
+cast-from : tie.Need-cast-from
+cast-from c = search needs
+
+from-requires : tie.Need-from-requires
+from-requires c κs = search needs
+
 returns : tie.Need-returns
 unfolding channelIn
-returns c = rw (c .fields-in .ensures, c .before .flag .ensures, c .before .before .mode .ensures, c .before .before .before .byte .ensures, c .before .before .before .before .word4 .ensures, c .before .before .before .before .before .word3 .ensures, c .before .before .before .before .before .before .word2 .ensures, c .before .before .before .before .before .before .before .word .ensures, c .before .before .before .before .before .before .before .before .long .ensures, c .before .before .before .before .before .before .before .before .before .pointer-in4 .ensures, c .before .before .before .before .before .before .before .before .before .before .pointer-in3 .ensures, c .before .before .before .before .before .before .before .before .before .before .before .pointer-in2 .ensures, c .before .before .before .before .before .before .before .before .before .before .before .before .pointer-in .ensures)
+returns c = rw (c .from .ensures, c .before .word5 .ensures, c .before .before .fields-in .ensures, c .before .before .before .flag .ensures, c .before .before .before .before .mode .ensures, c .before .before .before .before .before .byte .ensures, c .before .before .before .before .before .before .word4 .ensures, c .before .before .before .before .before .before .before .word3 .ensures, c .before .before .before .before .before .before .before .before .word2 .ensures, c .before .before .before .before .before .before .before .before .before .word .ensures, c .before .before .before .before .before .before .before .before .before .before .long .ensures, c .before .before .before .before .before .before .before .before .before .before .before .pointer-in4 .ensures, c .before .before .before .before .before .before .before .before .before .before .before .before .pointer-in3 .ensures, c .before .before .before .before .before .before .before .before .before .before .before .before .before .pointer-in2 .ensures, c .before .before .before .before .before .before .before .before .before .before .before .before .before .before .pointer-in .ensures)
 
 pub channel-in-spec : {M : Type 1} → statement M
 channel-in-spec =
@@ -113,4 +126,8 @@ channel-in-spec =
     flag-requires
     add-fields-in
     fields-in-requires
+    add-word-5
+    word-requires-5
+    cast-from
+    from-requires
     returns)

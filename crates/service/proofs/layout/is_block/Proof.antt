@@ -47,9 +47,21 @@ add-is-fields c = search needs
 is-fields-requires : tie.Need-is-fields-requires
 is-fields-requires c κs = search needs
 
+add-word : tie.Need-add-word
+add-word c = search needs
+
+word-requires : tie.Need-word-requires
+word-requires c κs = search needs
+
+cast-stands : tie.Need-cast-stands
+cast-stands c = search needs
+
+stands-requires : tie.Need-stands-requires
+stands-requires c κs = search needs
+
 returns : tie.Need-returns
 unfolding isBlock
-returns c = simp (c .is-fields .ensures, c .before .is-flag5 .ensures, c .before .before .is-mode .ensures, c .before .before .before .is-flag4 .ensures, c .before .before .before .before .is-flag3 .ensures, c .before .before .before .before .before .is-flag2 .ensures, c .before .before .before .before .before .before .is-flag .ensures)
+returns c = simp (c .stands .ensures, c .before .word .ensures, c .before .before .is-fields .ensures, c .before .before .before .is-flag5 .ensures, c .before .before .before .before .is-mode .ensures, c .before .before .before .before .before .is-flag4 .ensures, c .before .before .before .before .before .before .is-flag3 .ensures, c .before .before .before .before .before .before .before .is-flag2 .ensures, c .before .before .before .before .before .before .before .before .is-flag .ensures)
 
 pub is-block-spec : {M : Type 1} → statement M
 is-block-spec =
@@ -69,4 +81,8 @@ is-block-spec =
     is-flag-requires-5
     add-is-fields
     is-fields-requires
+    add-word
+    word-requires
+    cast-stands
+    stands-requires
     returns)

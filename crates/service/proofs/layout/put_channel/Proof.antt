@@ -4,8 +4,9 @@ use borrow.Author.Needs.{needs}
 use mathlib.Core.Path.{_∙_}
 use native.Mathlib.Nat.{add-assoc}
 use native.Mathlib.Omega.{arith}
-use Rattle.service.specs.Layout.{fieldsBytes, channelBytes}
-use Rattle.service.proofs.LengthLaws.{length-pointers, length-numbers, length-marks, length-sides}
+use Rattle.service.specs.Layout.{fieldsBytes, heldBytes, channelBytes}
+use Rattle.service.proofs.HeldLaws.{held-small, good-fits}
+use Rattle.service.proofs.LengthLaws.{length-pointers, length-numbers, length-marks, length-sides, length-fields}
 use Rattle.service.proofs.SetsLaws.{sets-append}
 use Rattle.service.proofs.layout.put_channel.Statement.{statement}
 use Rattle.service.proofs.layout.put_channel.Tie as tie
@@ -37,15 +38,24 @@ add-put-ends c = search needs
 put-ends-requires : tie.Need-put-ends-requires
 put-ends-requires c κs = search needs
 
+add-put-word : tie.Need-add-put-word
+add-put-word c = search needs
+
+number-requires : tie.Need-number-requires
+number-requires c κs = search needs
+
+put-word-requires : tie.Need-put-word-requires
+put-word-requires c κs = search needs
+
 same-length : tie.Need-same-length
 same-length c = search needs
 
 returns : tie.Need-returns
-unfolding channelBytes fieldsBytes
+unfolding channelBytes fieldsBytes heldBytes
 returns c =
-    let g = c .before .before .before .before .before .before .before .before .before .before .before .before .before .before .before .before .before .before .before .before .before .good .1 .1 .0 in (
-      record { ga = omega (arith, g .1 .1 .0 .1 .1 .0); gb = omega (arith, g .1 .1 .1 .0 .1 .1 .0); gc = omega (arith, g .1 .1 .1 .1 .0 .1 .1 .0); tp = omega (arith, g .1 .1 .1 .1 .1 .0 .1 .1 .0); pp = omega (arith, g .1 .1 .1 .1 .1 .1 .0); bc = omega (arith, g .1 .1 .1 .1 .1 .1 .1 .0); ix = omega (arith, g .1 .1 .1 .1 .1 .1 .1 .1 .0); cc = omega (arith, g .1 .1 .1 .1 .1 .1 .1 .1 .1 .0); mc = omega (arith, g .1 .1 .1 .1 .1 .1 .1 .1 .1 .1 .0); psw = omega (arith, g .1 .1 .1 .1 .1 .1 .1 .1 .1 .1 .1 .0) },
-      c .before .before .put-ends .ensures ∙ rw (c .before .before .before .before .before .before .put-sides .ensures, c .before .before .before .before .before .before .before .before .before .before .put-marks .ensures, c .before .before .before .before .before .before .before .before .before .before .before .before .before .before .put-numbers .ensures, c .before .before .before .before .before .before .before .before .before .before .before .before .before .before .before .before .before .before .put-pointers .ensures) (simp (sets-append, length-pointers, length-numbers, length-marks, length-sides, add-assoc)),
+    let g = c .before .before .before .before .before .before .before .before .before .before .before .before .before .before .before .before .before .before .before .before .before .before .before .before .before .before .good .1 .1 .0 in (
+      record { ga = omega (arith, g .1 .1 .0 .1 .1 .0); gb = omega (arith, g .1 .1 .1 .0 .1 .1 .0); gc = omega (arith, g .1 .1 .1 .1 .0 .1 .1 .0); tp = omega (arith, g .1 .1 .1 .1 .1 .0 .1 .1 .0); pp = omega (arith, g .1 .1 .1 .1 .1 .1 .0); bc = omega (arith, g .1 .1 .1 .1 .1 .1 .1 .0); ix = omega (arith, g .1 .1 .1 .1 .1 .1 .1 .1 .0); cc = omega (arith, g .1 .1 .1 .1 .1 .1 .1 .1 .1 .0); mc = omega (arith, g .1 .1 .1 .1 .1 .1 .1 .1 .1 .1 .0); psw = omega (arith, g .1 .1 .1 .1 .1 .1 .1 .1 .1 .1 .1 .1 .0); held = held-small (c .before .before .before .before .before .before .before .before .before .before .before .before .before .before .before .before .before .before .before .before .before .before .before .before .before .before .args .c .held) (good-fits (c .before .before .before .before .before .before .before .before .before .before .before .before .before .before .before .before .before .before .before .before .before .before .before .before .before .before .args .c .held) _ (g .1 .1 .1 .1 .1 .1 .1 .1 .1 .1 .1 .0)) },
+      c .before .before .put-word .ensures ∙ rw (c .before .before .before .number .ensures, c .before .before .before .before .before .before .before .put-ends .ensures, c .before .before .before .before .before .before .before .before .before .before .before .put-sides .ensures, c .before .before .before .before .before .before .before .before .before .before .before .before .before .before .before .put-marks .ensures, c .before .before .before .before .before .before .before .before .before .before .before .before .before .before .before .before .before .before .before .put-numbers .ensures, c .before .before .before .before .before .before .before .before .before .before .before .before .before .before .before .before .before .before .before .before .before .before .before .put-pointers .ensures) (simp (sets-append, length-pointers, length-numbers, length-marks, length-sides, length-fields, add-assoc)),
     )
 
 pub put-channel-spec : {M : Type 1} → statement M
@@ -61,5 +71,8 @@ put-channel-spec =
     put-sides-requires
     add-put-ends
     put-ends-requires
+    add-put-word
+    number-requires
+    put-word-requires
     same-length
     returns)
