@@ -1,6 +1,6 @@
 #!/usr/bin/env python3
-"""Writes the example images into a folder: each is system memory with channel 1's control block at address 0; and a
-board's PROM file."""
+"""Writes the example images into a folder: each is system memory with channel 1's control block at address 0; the ports of
+a disk controller; and a board's PROM file."""
 import sys
 from pathlib import Path
 
@@ -101,6 +101,43 @@ SECTOR = code(
     "20 48             ; HLT",
 )
 
+# Reads a sector from an eight-bit controller at ports 60h to 64h (status, bit 7 busy; command; sector; nothing; data) into
+# words: a request for each byte, two for each word. The parameter block holds what SECTOR's does.
+DISK_READ = code(
+    "51 30 60 00       ; MOVI  GC,60H",
+    "11 30 64 00       ; MOVI  GA,64H: the data port",
+    "23 8B 04          ; LPD   GB,[PP].4: where the bytes go",
+    "63 83 08          ; MOV   BC,[PP].8: how many",
+    "A0 00             ; WID   8,16",
+    "D1 30 48 88       ; MOVI  CC,8848H: port to block, synchronised with the port; count ends at 0, EXT at 4",
+    "EA BE 00 FC       ; JBT   [GC].0,7: here again while it is busy",
+    "02 93 0A 02 CE 02 ; MOVB  [GC].2,[PP].10",
+    "60 00             ; XFER",
+    "0A 4E 01 52       ; MOVBI [GC].1,'R': it begins to read",
+    "91 20 04 00       ; LJMP  past the next line: the whole sector came in",
+    "0A 4F 0B 45       ; MOVBI [PP].11,'E': the controller gave up",
+    "40 00             ; SINTR",
+    "20 48             ; HLT",
+)
+
+# Writes a sector to the same controller out of words.
+DISK_WRITE = code(
+    "51 30 60 00       ; MOVI  GC,60H",
+    "03 8B 04          ; LPD   GA,[PP].4: where the bytes are",
+    "31 30 64 00       ; MOVI  GB,64H: the data port",
+    "63 83 08          ; MOV   BC,[PP].8: how many",
+    "C0 00             ; WID   16,8",
+    "D1 30 48 50       ; MOVI  CC,5048H: block to port, synchronised with the port; count ends at 0, EXT at 4",
+    "EA BE 00 FC       ; JBT   [GC].0,7: here again while it is busy",
+    "02 93 0A 02 CE 02 ; MOVB  [GC].2,[PP].10",
+    "60 00             ; XFER",
+    "0A 4E 01 57       ; MOVBI [GC].1,'W': it begins to write",
+    "91 20 04 00       ; LJMP  past the next line: the whole sector went out",
+    "0A 4F 0B 45       ; MOVBI [PP].11,'E': the controller gave up",
+    "40 00             ; SINTR",
+    "20 48             ; HLT",
+)
+
 # Copies text up to a full stop: ends by match at offset 4, by count at offset 0.
 MATCH = code(
     "11 08 00 00 08 00 ; LPDI GA,0,8: 80h",
@@ -161,6 +198,12 @@ def transfer(cc, widths):
     return bytes([0xD1, 0x30]) + word(cc) + code("60 00") + widths + code("20 48")
 
 
+def disk(program, buffer):
+    """A transfer of five bytes with the controller, between its data port and this buffer at C0h."""
+    return started(0x100, program, (0xC0, buffer), control=INTERRUPTS,
+                   parameters=doubleword(0xC0) + word(5) + bytes([7, 0x2E]))
+
+
 WID_8_8, WID_16_16 = code("80 00"), code("E0 00")
 
 
@@ -178,6 +221,8 @@ IMAGES = {
     "save": started(0x80, LOAD + SAVE, parameters=bytes([0xEE] * 17)),
     "sector": started(0x100, SECTOR, (0xC0, bytes([0xEE] * 16)), control=INTERRUPTS,
                       parameters=doubleword(0xC0) + word(16) + bytes([7, 0x2E])),
+    "disk-read": disk(DISK_READ, bytes([0xEE] * 6)),
+    "disk-write": disk(DISK_WRITE, b"sector"),
     "match": started(0x100, MATCH, (0x80, b"end. not this...")),
     "leftover": started(0x100, LEFTOVER, (0x80, b"stop. not this..")),
     "translate": started(0x100, TRANSLATE, (0x80, bytes([3, 1, 2, 0])), (0xA0, b"ZYXW")),
@@ -195,6 +240,10 @@ IMAGES = {
     "refused-7-resume": image(0x20, (0, block(RESUME))),
     "refused-9-suspend": image(0x20, (0, block(SUSPEND))),
 }
+
+
+# I/O memory with the controller's ports, for the bench tool: the data port reads 5Ah.
+PORTS = image(0x100, (0x64, bytes([0x5A])))
 
 
 def record(kind, address, data):
@@ -225,6 +274,7 @@ def main():
     folder = Path(sys.argv[1] if len(sys.argv) > 1 else Path(__file__).parent)
     for name, data in IMAGES.items():
         (folder / (name + ".bin")).write_bytes(data)
+    (folder / "disk.ports").write_bytes(PORTS)
     (folder / "board.hex").write_text(BOARD)
 
 

@@ -166,7 +166,7 @@ static void print_channel(const struct emu_channel *ch)
     print_pointer("GC", ch->gc);
     print_pointer("TP", ch->tp);
     printf(" PP %05" PRIX32 "\n          ", ch->pp);
-    printf(" BC %04X IX %04X CC %04X MC %04X PSW %02X%s\n", ch->bc, ch->ix, ch->cc, ch->mc, ch->psw,
+    printf(" BC %04X IX %04X CC %04X MC %04X PSW %02X held %03X%s\n", ch->bc, ch->ix, ch->cc, ch->mc, ch->psw, ch->held,
            ch->armed ? " armed" : "");
 }
 
@@ -275,6 +275,7 @@ int main(int count, char **words)
            (double)clock() / CLOCKS_PER_SEC);
     print_numbers("answers", numbers, RUN_NUMBERS);
     print_coverage(&coverage, FRESH_COMMANDS);
+    print_pairs(&coverage, PAIRS_UNDISTURBED);
     bool met = all_met(cases, CASES_TO_MEET_ALL, "cases");
     printf("differences: %llu\n", differences);
     return differences > 0 || !met ? 1 : 0;

@@ -1,5 +1,6 @@
 /* Compares the service archive with the emulator: rows of calls on states in bytes, sound and unsound, with fields that
- * agree with CC or not, whole and damaged, with other lines at each step, and runs that a board's power-up begins. */
+ * agree with CC or not, with held bytes and without, whole and damaged, with other lines at each step, and runs that a
+ * board's power-up begins. */
 #include "cases.h"
 #include "iop89_service.h"
 #include "met.h"
@@ -36,6 +37,7 @@ struct side {
 static struct side emulated, proved;
 static struct emu_coverage coverage;
 static unsigned long numbers[CALLS][IOP89_NO_STATE + 1], faults[STATE_FAULTS], bytes[BYTES_KINDS][BYTES_COUNTS];
+static unsigned long anew[ANEWS];
 static const char *const call_names[CALLS] = {"fresh", "reset", "power-up", "attention", "step", "board"};
 
 /* ---- Buffers ---- */
@@ -86,6 +88,21 @@ static void put_both(const struct run_case *c, uint32_t address, uint8_t byte)
 static bool makes_anew(enum call_kind kind)
 {
     return kind == CALL_FRESH || kind == CALL_RESET || kind == CALL_BOARD;
+}
+
+/* Whether the bytes of the archive's state hold a byte in some channel. */
+static bool bytes_hold(void)
+{
+    return iop89_get(proved.state, 1, IOP89_HELD) != 0 || iop89_get(proved.state, 2, IOP89_HELD) != 0;
+}
+
+/* Counts a done call that made a state anew, by whether a byte was held before it. */
+static void count_anew(enum call_kind kind, uint32_t answer, bool held)
+{
+    if (!held || IOP89_ANSWER_NUMBER(answer) != IOP89_DONE) return;
+    if (kind == CALL_FRESH) anew[ANEW_FRESH]++;
+    if (kind == CALL_RESET) anew[ANEW_RESET]++;
+    if (kind == CALL_POWER) anew[ANEW_POWER_UP]++;
 }
 
 /* The emulator's answer; counts what it met. */
@@ -149,6 +166,7 @@ static uint32_t some_value(struct dice *d, const struct run_case *c, enum iop89_
     case IOP89_BC: return transfer_count(d);
     case IOP89_MC: return transfer_mc(d);
     case IOP89_MODE: return chance(d, 700) ? 1 : below(d, 3);
+    case IOP89_HELD: return chance(d, 700) ? IOP89_HELD_BYTE(below(d, 256)) : 0;
     case IOP89_PSW: return below(d, 256);
     case IOP89_IX: return below(d, 65536);
     default: return below(d, 2);
@@ -167,7 +185,7 @@ static void poke(struct dice *d, const struct run_case *c)
 {
     static const enum iop89_register all[] = {IOP89_GA, IOP89_GA_TAG, IOP89_GB, IOP89_GB_TAG, IOP89_GC,  IOP89_GC_TAG,
                                               IOP89_TP, IOP89_TP_TAG, IOP89_PP, IOP89_BC,     IOP89_IX,  IOP89_CC,
-                                              IOP89_MC, IOP89_PSW,    IOP89_MODE, IOP89_ARMED};
+                                              IOP89_MC, IOP89_PSW,    IOP89_MODE, IOP89_ARMED, IOP89_HELD};
     for (unsigned i = 1 + below(d, 4); i > 0; i--) {
         enum iop89_register which = ONE_OF(d, all);
         set_register(d, 1 + below(d, 2), which, some_value(d, c, which));
@@ -175,6 +193,26 @@ static void poke(struct dice *d, const struct run_case *c)
     if (chance(d, 60)) iop89_set_cp(proved.state, choose_cp(d, c->sys_len));
     if (chance(d, 60)) iop89_set_last(proved.state, 1 + below(d, 2));
     if (chance(d, 60)) proved.state[IOP89_AT_POWERED + below(d, 4)] = (uint8_t)below(d, 2);
+    memcpy(emulated.state, proved.state, STATE_BYTES);
+}
+
+/* Puts a channel into a transfer of pairs by its registers, mostly with nothing held yet, in both sides' bytes. */
+static void pair_up(struct dice *d, const struct run_case *c)
+{
+    static struct program p;
+    unsigned channel = 1 + below(d, 2);
+    new_program(&p, d, c->sys_len, c->io_len);
+    struct pairs s = some_pairs(&p);
+    for (unsigned i = 0; i < 2; i++) {
+        iop89_set(proved.state, channel, i == 0 ? IOP89_GA : IOP89_GB, s.address[i]);
+        iop89_set(proved.state, channel, i == 0 ? IOP89_GA_TAG : IOP89_GB_TAG, s.in_io[i]);
+    }
+    iop89_set_cc(proved.state, channel, s.cc);
+    iop89_set(proved.state, channel, IOP89_BC, s.bc);
+    iop89_set(proved.state, channel, IOP89_MC, s.mc);
+    iop89_set(proved.state, channel, IOP89_PSW, (below(d, 256) & ~3u) | EMU_PSW_XF | EMU_PSW_TB | s.widths);
+    iop89_set(proved.state, channel, IOP89_MODE, IOP89_RUNNING);
+    if (chance(d, 500)) iop89_set(proved.state, channel, IOP89_HELD, some_value(d, c, IOP89_HELD));
     memcpy(emulated.state, proved.state, STATE_BYTES);
 }
 
@@ -191,6 +229,8 @@ static void any_state(struct dice *d, const struct run_case *c)
         proved.state[state_fault_at(fault)] = (uint8_t)below(d, state_fault_from(fault));
     for (unsigned channel = 1; channel <= 2; channel++)
         set_register(d, channel, IOP89_CC, iop89_get(proved.state, channel, IOP89_CC));
+    for (unsigned channel = 1; channel <= 2; channel++)
+        iop89_set(proved.state, channel, IOP89_HELD, some_value(d, c, IOP89_HELD));
     if (chance(d, 900)) proved.state[IOP89_AT_POWERED] = 1;
     memcpy(emulated.state, proved.state, STATE_BYTES);
 }
@@ -210,6 +250,7 @@ static void damage(struct dice *d)
     uint32_t from = fault == FAULT_VERSION && chance(d, 300) ? 0 : state_fault_from(fault);
     uint32_t value = from == 0 || chance(d, 600) ? from : from + below(d, 256 - from);
     proved.state[at] = emulated.state[at] = (uint8_t)value;
+    if (state_fault_of_byte(fault)) proved.state[at + 1] = emulated.state[at + 1] = 0;
 }
 
 /* Changes a field of CC to another value that it can have, or a bit of CC, in a channel of both sides' bytes. */
@@ -319,10 +360,12 @@ static bool same_memory(const struct run_case *c)
 /* Makes one call on both sides; answers whether they agree, and says how where they do not. */
 static bool agree_on(const struct run_case *c, struct call call, unsigned index, bool shown)
 {
+    bool held = bytes_hold();
     emu_coverage = &coverage;
     uint32_t emulator = by_emulator(c, call);
     emu_coverage = NULL;
     uint32_t archive = by_archive(c, call);
+    count_anew(call.kind, archive, held);
     numbers[call.kind][call.kind == CALL_BOARD ? IOP89_NUMBER(emulator) : IOP89_ANSWER_NUMBER(emulator)]++;
     count_bytes(call.kind, archive);
     bool same = emulator == archive && same_state();
@@ -351,6 +394,7 @@ static bool agree(uint64_t seed, uint64_t number, bool shown)
     for (unsigned i = 0, calls = 4 + below(&d, MOST_CALLS - 4); i < calls; i++) {
         bool spoiled = chance(&d, 40), parted = chance(&d, 40);
         if (i > 1 && chance(&d, 80)) poke(&d, &c);
+        if (i > 1 && chance(&d, 50)) pair_up(&d, &c);
         if (chance(&d, 4)) any_state(&d, &c);
         struct call call = next_call(&d, &c, i);
         if (makes_anew(call.kind)) spoiled = parted = false;
@@ -489,6 +533,42 @@ static unsigned every_cc(void)
     return differences + (refused != 15 * 65536);
 }
 
+/* ---- Every held number ---- */
+
+/* A channel in a transfer of pairs in system memory, of stores or of fetches, that holds this number, in both sides' bytes. */
+static void stand_in_pair(unsigned channel, bool stores, uint32_t held)
+{
+    iop89_fresh(proved.state, STATE_BYTES, 0);
+    iop89_set(proved.state, channel, IOP89_MODE, IOP89_RUNNING);
+    iop89_set(proved.state, channel, IOP89_PSW, EMU_PSW_TB | EMU_PSW_XF | (stores ? EMU_PSW_S : EMU_PSW_D));
+    iop89_set_cc(proved.state, channel, stores ? 0xD000 : 0xC800);
+    iop89_set(proved.state, channel, IOP89_GA, 0x400);
+    iop89_set(proved.state, channel, IOP89_GB, 0x500);
+    iop89_set(proved.state, channel, IOP89_HELD, held);
+    memcpy(emulated.state, proved.state, STATE_BYTES);
+}
+
+/* One step under a request with each of the 65,536 numbers held, by either channel and in either kind of pair: a first half
+ * for 0, a second for 100h to 1FFh, and 17 for all others; how many differ. */
+static unsigned every_held(void)
+{
+    struct run_case c = {emulated.sys, emulated.io, PAIR_SYSTEM, PAIR_IO, 0, 1, 0, 0};
+    unsigned differences = 0;
+    unsigned long before = numbers[CALL_STEP][IOP89_NO_STATE];
+    for (uint32_t i = 0; i < 4 * 65536; i++) {
+        struct call call = {CALL_STEP, 1 + i % 2, STATE_BYTES, 0, 0};
+        bool shown = differences < SHOWN;
+        stand_in_pair(1 + i % 2, i / 2 % 2 != 0, i / 4);
+        if (agree_on(&c, call, i, shown) && same_memory(&c)) continue;
+        if (shown) printf("DIFFERENCE at the held number %04" PRIX32 "\n", i / 4);
+        differences++;
+    }
+    unsigned long refused = numbers[CALL_STEP][IOP89_NO_STATE] - before;
+    print_count("held numbers refused by 17", refused);
+    if (refused != 4 * (65536 - 257)) puts("this should be all but 0 and 100h to 1FFh");
+    return differences + (refused != 4 * (65536 - 257));
+}
+
 /* ---- What was met ---- */
 
 /* Prints how often a call answered each number that it can. */
@@ -535,6 +615,9 @@ static void print_met(void)
     print_touched(bytes);
     print_fields(&coverage);
     print_coverage(&coverage, COMMANDS);
+    print_pairs(&coverage, PAIRS_OF_ANY_KIND);
+    print_held(&coverage);
+    print_anew(anew);
 }
 
 /* ---- The command line ---- */
@@ -557,9 +640,10 @@ int main(int count, char **words)
     uint64_t first = argument(count, words, 3, 0);
     emulated = new_side();
     proved = new_side();
-    differences += every_pair(seed) + every_cc();
+    differences += every_pair(seed) + every_cc() + every_held();
     memset(&coverage, 0, sizeof coverage); /* what was met is asked of the rows of calls */
     memset(bytes, 0, sizeof bytes);
+    memset(anew, 0, sizeof anew);
     for (uint64_t i = first; i < first + cases; i++) {
         if (agree(seed, i, false)) continue;
         if (differences++ >= SHOWN) continue;

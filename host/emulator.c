@@ -36,6 +36,7 @@ struct work {
     unsigned touched;
     unsigned stores;
     struct store store[MOST_STORES];
+    enum emu_half half;
     unsigned shape, ends, end_offset;
     bool translated, jumped;
     uint8_t in_io[EMU_ACCESSES], empty[EMU_ACCESSES];
@@ -275,6 +276,27 @@ static bool matches(uint16_t mc, uint32_t data)
     return ((data ^ mc) & (uint32_t)(mc >> 8) & MASK8) == 0;
 }
 
+/* Whether a channel holds a byte, and which. */
+static bool holds(const struct emu_channel *ch) { return ch->held != EMU_NONE_HELD; }
+static uint32_t held_byte(const struct emu_channel *ch) { return ch->held & MASK8; }
+
+/* Holds a byte until the second half of its pair. */
+static void hold(struct emu_channel *ch, uint32_t byte)
+{
+    ch->held = (uint16_t)(EMU_HELD | (byte & MASK8));
+}
+
+/* Holds no byte any more. */
+static void drop(struct emu_channel *ch)
+{
+    ch->held = EMU_NONE_HELD;
+}
+
+bool emu_holds(const struct emu_state *state)
+{
+    return holds(&state->channel[0]) || holds(&state->channel[1]);
+}
+
 /* BUSY is the block's second byte. */
 static void set_busy(struct work *w, uint8_t value)
 {
@@ -287,6 +309,7 @@ static void halt(struct work *w)
     w->ch->mode = EMU_IDLE;
     w->ch->psw &= (uint8_t) ~(EMU_PSW_TB | EMU_PSW_XF);
     w->ch->armed = false;
+    drop(w->ch);
     set_busy(w, 0x00);
 }
 
@@ -430,10 +453,11 @@ static void start(struct work *w, bool in_io)
     ch->mode = EMU_RUNNING;
     ch->psw = (uint8_t)((ch->psw & ~EMU_PSW_XF) | EMU_PSW_TB);
     ch->armed = false;
+    drop(ch);
     set_busy(w, 0xFF);
 }
 
-/* Suspend: TP and the PSW as they were go into PB, and only then do TB and XF clear. */
+/* Suspend: TP and the PSW as they were go into PB, and only then do TB and XF clear; a held byte stays. */
 static void suspend(struct work *w)
 {
     struct emu_channel *ch = w->ch;
@@ -482,6 +506,29 @@ static void obey_command(struct work *w, unsigned command)
     }
 }
 
+/* Counts a done call of one channel while the other holds a byte. */
+static void count_beside(const struct emu_state *given, uint32_t channel, enum emu_beside did)
+{
+    if (holds(&given->channel[2 - channel])) emu_coverage->held_beside[did]++;
+}
+
+/* Counts an accepted attention. */
+static void count_attention(const struct emu_state *given, uint32_t channel, unsigned command)
+{
+    if (emu_coverage == NULL) return;
+    emu_coverage->attention[command]++;
+    if (holds(&given->channel[channel - 1])) emu_coverage->held_attention[command]++;
+    count_beside(given, channel, EMU_BESIDE_ATTENTION);
+}
+
+/* Counts the number of a refused attention or step. */
+static void count_refused(unsigned long *counts, const struct emu_state *given, unsigned number)
+{
+    if (emu_coverage == NULL || number == EMU_DONE) return;
+    counts[number]++;
+    if (emu_holds(given)) emu_coverage->held_refused[number]++;
+}
+
 /* An attention whose arguments, buffers and state passed. */
 static struct emu_answer attend(struct emu_state *state, const struct emu_memory *memory, uint32_t channel)
 {
@@ -492,7 +539,7 @@ static struct emu_answer attend(struct emu_state *state, const struct emu_memory
     if (w.number != EMU_DONE) return refused_by(w.number);
     obey_command(&w, ccw & 7);
     obey_upper_ccw(w.ch, ccw);
-    if (emu_coverage != NULL && w.number == EMU_DONE) emu_coverage->attention[ccw & 7]++;
+    if (w.number == EMU_DONE) count_attention(state, channel, ccw & 7);
     return finish(&w, state);
 }
 
@@ -500,7 +547,7 @@ struct emu_answer emu_attention(struct emu_state *state, struct emu_memory *memo
 {
     struct emu_answer answer = refused_by(early_refusal(channel == 1 || channel == 2, memory, state));
     if (answer.number == EMU_DONE) answer = attend(state, memory, channel);
-    if (emu_coverage != NULL && answer.number != EMU_DONE) emu_coverage->attention_refused[answer.number]++;
+    if (emu_coverage != NULL) count_refused(emu_coverage->attention_refused, state, answer.number);
     return answer;
 }
 
@@ -1078,7 +1125,7 @@ static void count_instruction(const struct work *w, const struct instruction *in
     if (w->jumped) emu_coverage->taken[in->row - rows]++;
 }
 
-/* One instruction; a mark from before it, unless it halts, becomes XF behind it. */
+/* One instruction; a mark from before it, unless it halts, becomes XF behind it, and no byte is held any more. */
 static void instruction_step(struct work *w)
 {
     struct instruction in;
@@ -1091,6 +1138,7 @@ static void instruction_step(struct work *w)
         w->ch->psw |= EMU_PSW_XF;
         w->ch->armed = false;
     }
+    drop(w->ch);
     count_instruction(w, &in);
 }
 
@@ -1144,16 +1192,21 @@ static uint32_t fetch(struct work *w, const struct side *source, bool two)
     return read_bytes(w, plus(w->ch->gc, data & MASK8), 1, EMU_TABLE);
 }
 
+/* Stores one byte and looks at it for a match; answers whether it ends the transfer so. */
+static bool store_one(struct work *w, struct emu_pointer place, uint32_t byte)
+{
+    bool met = meets_tmc(w->ch, byte);
+    write_bytes(w, place, byte, 1, EMU_DESTINATION);
+    if (met) w->ends |= EMU_END_TMC;
+    return met;
+}
+
 /* Stores singly: a first byte that meets TMC keeps the second from being stored or tested. */
 static unsigned store_singly(struct work *w, const struct side *destination, uint32_t data, bool two)
 {
-    uint32_t low = data & MASK8, high = data >> 8 & MASK8;
-    bool low_meets = meets_tmc(w->ch, low);
-    write_bytes(w, *destination->pointer, low, 1, EMU_DESTINATION);
-    if (low_meets) w->ends |= EMU_END_TMC;
-    if (!two || low_meets) return 1;
-    write_bytes(w, second_place(destination), high, 1, EMU_DESTINATION);
-    if (meets_tmc(w->ch, high)) w->ends |= EMU_END_TMC;
+    bool low_met = store_one(w, *destination->pointer, data & MASK8);
+    if (!two || low_met) return 1;
+    store_one(w, second_place(destination), data >> 8 & MASK8);
     return 2;
 }
 
@@ -1190,14 +1243,6 @@ static void end_if_due(struct work *w)
     ch->tp = plus(ch->tp, w->end_offset);
 }
 
-/* Names the way in which the bytes moved, for the counters. */
-static unsigned shape_of(const struct side *source, const struct side *destination, bool two, unsigned stored)
-{
-    if (!two) return EMU_SHAPE_B_B;
-    if (stored == 1) return EMU_SHAPE_W_B_CUT;
-    if (!destination->word) return EMU_SHAPE_W_BB;
-    return source->word ? EMU_SHAPE_W_W : EMU_SHAPE_BB_W;
-}
 
 /* Names what BC was before a step whose first of two single stores met TMC, for the counters. */
 static enum emu_leftover leftover_of(const struct emu_channel *ch, uint16_t before)
@@ -1207,18 +1252,6 @@ static enum emu_leftover leftover_of(const struct emu_channel *ch, uint16_t befo
     if (before != 2) return before == 0 ? EMU_LEFTOVER_TBC_0 : EMU_LEFTOVER_TBC_MORE;
     if (tbc == tmc) return EMU_LEFTOVER_TBC_2_SAME;
     return tbc > tmc ? EMU_LEFTOVER_TBC_2_COUNT : EMU_LEFTOVER_TBC_2_MATCH;
-}
-
-/* Counts a done transfer step. */
-static void count_transfer(const struct work *w, uint16_t before)
-{
-    if (emu_coverage == NULL || w->number != EMU_DONE) return;
-    emu_coverage->shape[w->shape]++;
-    if (w->shape == EMU_SHAPE_W_B_CUT)
-        emu_coverage->leftover[ends_on_no_match(w->ch)][leftover_of(w->ch, before)]++;
-    emu_coverage->end[w->ends]++;
-    if (w->translated) emu_coverage->translated++;
-    if (w->ends != 0) emu_coverage->end_offset[w->end_offset / 4]++;
 }
 
 /* The side that is read from: GB or GA, as its field says. */
@@ -1235,29 +1268,203 @@ static struct side destination_side(struct emu_channel *ch)
     return make_side(pointer, (ch->psw & EMU_PSW_D) != 0, ch->fields.destination_moves);
 }
 
-/* One transfer step; with one byte left to count, a word must not run past the count. BC falls while bytes are fetched,
- * the pointers move with those that are stored. */
+/* A transfer step as its channel stands: both sides, and whether two bytes move. */
+struct move {
+    struct side source, destination;
+    bool two;
+};
+
+/* The step that a channel has before it; with one byte left to count, a word must not run past the count. */
+static struct move move_of(struct emu_channel *ch)
+{
+    struct move m = {source_side(ch), destination_side(ch), false};
+    bool one_left = ch->fields.tbc != 0 && ch->bc == 1;
+    m.two = (m.source.word || m.destination.word) && !one_left;
+    return m;
+}
+
+/* The side whose device asks for bytes, or NULL where SYN is 00. */
+static const struct side *synchronised_side(const struct emu_channel *ch, const struct move *m)
+{
+    return ch->fields.syn == 1 ? &m->source : ch->fields.syn == 2 ? &m->destination : NULL;
+}
+
+/* The half of a pair that a step is: two bytes move, and the side that asks for them takes them one by one. */
+static enum emu_half half_of(const struct emu_channel *ch, const struct move *m)
+{
+    const struct side *asking = synchronised_side(ch, m);
+    if (!m->two || asking == NULL || asking->word) return EMU_WHOLE;
+    if (asking == &m->source) return holds(ch) ? EMU_SECOND_FETCH : EMU_FIRST_FETCH;
+    return holds(ch) ? EMU_SECOND_STORE : EMU_FIRST_STORE;
+}
+
+/* Names the way in which the bytes of a whole step moved, for the counters. */
+static unsigned shape_of(const struct move *m, unsigned stored)
+{
+    if (!m->two) return EMU_SHAPE_B_B;
+    if (stored == 1) return EMU_SHAPE_W_B_CUT;
+    if (!m->destination.word) return EMU_SHAPE_W_BB;
+    return m->source.word ? EMU_SHAPE_W_W : EMU_SHAPE_BB_W;
+}
+
+/* What follows the last store of a step or pair: BC falls by the bytes fetched, the pointers move with those stored, ends
+ * are looked for, and nothing is held. */
+static void complete(struct work *w, const struct move *m, unsigned fetched, unsigned stored)
+{
+    move_on(&m->source, stored);
+    move_on(&m->destination, stored);
+    w->ch->bc = (uint16_t)(w->ch->bc - fetched);
+    drop(w->ch);
+    end_if_due(w);
+}
+
+/* A step that is no half. */
+static void whole_step(struct work *w, const struct move *m)
+{
+    uint32_t data = fetch(w, &m->source, m->two);
+    unsigned stored = m->two && m->destination.word ? store_word(w, &m->destination, data)
+                                                    : store_singly(w, &m->destination, data, m->two);
+    w->shape = shape_of(m, stored);
+    complete(w, m, m->two ? 2 : 1, stored);
+}
+
+/* The first of two fetches, whose byte waits for the second. */
+static void first_fetch(struct work *w, const struct move *m)
+{
+    hold(w->ch, read_bytes(w, *m->source.pointer, 1, EMU_SOURCE));
+}
+
+/* The second of two fetches, and the word that the two bytes are. */
+static void second_fetch(struct work *w, const struct move *m)
+{
+    uint32_t low = held_byte(w->ch), high = read_bytes(w, second_place(&m->source), 1, EMU_SOURCE);
+    unsigned stored = store_word(w, &m->destination, low | high << 8);
+    complete(w, m, 2, stored);
+}
+
+/* A word, and the first of its two stores, which ends the transfer where it meets TMC; else the other byte waits. */
+static void first_store(struct work *w, const struct move *m)
+{
+    uint32_t data = fetch(w, &m->source, true);
+    if (store_one(w, *m->destination.pointer, data & MASK8)) complete(w, m, 2, 1);
+    else hold(w->ch, data >> 8);
+}
+
+/* The second of two stores, of the byte that waited. */
+static void second_store(struct work *w, const struct move *m)
+{
+    store_one(w, second_place(&m->destination), held_byte(w->ch));
+    complete(w, m, 2, 2);
+}
+
+/* ---- Counting transfer steps ---- */
+
+/* Names why a step is whole. */
+static enum emu_whole whole_for(const struct emu_channel *ch, const struct move *m)
+{
+    const struct side *asking = synchronised_side(ch, m);
+    if (asking == NULL) return EMU_WHOLE_UNSYNCHRONISED;
+    if (!m->source.word && !m->destination.word) return EMU_WHOLE_NO_WORD;
+    return asking->word ? EMU_WHOLE_SYNCHRONISED_WORD : EMU_WHOLE_LAST_BYTE;
+}
+
+/* Names the synchronised side of a pair. */
+static unsigned synchronised_kind(const struct emu_channel *ch, const struct move *m)
+{
+    const struct side *asking = synchronised_side(ch, m);
+    unsigned wide = asking == &m->source ? EMU_PSW_S : EMU_PSW_D;
+    return (asking->moves ? EMU_SIDE_MOVES : 0u) | ((ch->psw & wide) != 0 ? EMU_SIDE_ODD : 0u) |
+           (asking->pointer->tag ? EMU_SIDE_IO : 0u);
+}
+
+bool emu_half_has(enum emu_half half, enum emu_pair_byte byte)
+{
+    static const bool own[EMU_HALVES][EMU_PAIR_BYTES] = {[EMU_FIRST_FETCH] = {true, false, false, false},
+                                                         [EMU_SECOND_FETCH] = {false, true, true, true},
+                                                         [EMU_FIRST_STORE] = {true, true, true, false},
+                                                         [EMU_SECOND_STORE] = {false, false, false, true}};
+    return own[half][byte];
+}
+
+/* Counts the bytes of a pair that are not lent: those of a half by whether it was refused for them or met slots, and
+ * those of the other half, which it leaves alone. */
+static void count_pair_bytes(enum emu_half half, const struct move *m, const struct emu_memory *memory, bool refused)
+{
+    const struct emu_pointer places[EMU_PAIR_BYTES] = {*m->source.pointer, second_place(&m->source),
+                                                       *m->destination.pointer, second_place(&m->destination)};
+    bool found = false;
+    for (unsigned i = 0; i < EMU_PAIR_BYTES; i++) {
+        bool own = emu_half_has(half, i), in_io = places[i].tag;
+        if (cell(memory, places[i]) != NULL) continue;
+        if (refused && own && !in_io && !found) emu_coverage->half_beyond[half][i]++;
+        if (!refused && own) emu_coverage->half_slot[half][i]++;
+        if (!refused && !own && !in_io) emu_coverage->half_spared[half][i]++;
+        found = found || (own && !in_io);
+    }
+}
+
+/* Counts a half that was done or refused by 2, from the channel as it was given. */
+static void count_half(const struct work *w, struct emu_channel *given)
+{
+    struct move m = move_of(given);
+    if (w->number == EMU_DONE) emu_coverage->half_side[w->half][synchronised_kind(given, &m)]++;
+    count_pair_bytes(w->half, &m, w->memory, w->number != EMU_DONE);
+}
+
+/* Counts a whole step that was done. */
+static void count_whole(const struct work *w, struct emu_channel *given)
+{
+    struct move m = move_of(given);
+    emu_coverage->shape[w->shape]++;
+    if (holds(given)) emu_coverage->held_whole[whole_for(given, &m)]++;
+}
+
+/* Counts a step that 5 refused. */
+static void count_bad_transfer(const struct emu_channel *given)
+{
+    emu_coverage->bad_transfer[holds(given)][given->fields.syn != 3]++;
+}
+
+/* Whether the first of two single stores was the last. */
+static bool cut_short(const struct work *w)
+{
+    return w->half == EMU_FIRST_STORE ? w->ends != 0 : w->half == EMU_WHOLE && w->shape == EMU_SHAPE_W_B_CUT;
+}
+
+/* Counts a transfer step of a channel that was given so. */
+static void count_transfer(const struct work *w, struct emu_channel given)
+{
+    if (emu_coverage == NULL) return;
+    if (w->number == EMU_BAD_TRANSFER) count_bad_transfer(&given);
+    if (w->number != EMU_BAD_TRANSFER && w->half != EMU_WHOLE) count_half(w, &given);
+    if (w->number != EMU_DONE) return;
+    if (w->half == EMU_WHOLE) count_whole(w, &given);
+    if (cut_short(w))
+        emu_coverage->leftover[w->half != EMU_WHOLE][ends_on_no_match(&given)][leftover_of(&given, given.bc)]++;
+    emu_coverage->half_end[w->half][w->ends]++;
+    emu_coverage->end[w->ends]++;
+    if (w->translated) emu_coverage->translated++;
+    if (w->ends != 0) emu_coverage->end_offset[w->end_offset / 4]++;
+}
+
+/* One transfer step: whole, or a half of a pair. */
 static void transfer_step(struct work *w)
 {
-    struct emu_channel *ch = w->ch;
-    if (bad_transfer(ch)) {
+    struct emu_channel given = *w->ch;
+    struct move m = move_of(w->ch);
+    if (bad_transfer(w->ch)) {
         refuse(w, EMU_BAD_TRANSFER);
-        return;
+    } else {
+        w->half = half_of(w->ch, &m);
+        switch (w->half) {
+        case EMU_FIRST_FETCH: first_fetch(w, &m); break;
+        case EMU_SECOND_FETCH: second_fetch(w, &m); break;
+        case EMU_FIRST_STORE: first_store(w, &m); break;
+        case EMU_SECOND_STORE: second_store(w, &m); break;
+        default: whole_step(w, &m); break;
+        }
     }
-    struct side source = source_side(ch), destination = destination_side(ch);
-    bool one_left = ch->fields.tbc != 0 && ch->bc == 1;
-    bool two = (source.word || destination.word) && !one_left;
-    uint32_t data = fetch(w, &source, two);
-    uint16_t before = ch->bc;
-    unsigned fetched = two ? 2 : 1;
-    unsigned stored = two && destination.word ? store_word(w, &destination, data)
-                                              : store_singly(w, &destination, data, two);
-    w->shape = shape_of(&source, &destination, two, stored);
-    move_on(&source, stored);
-    move_on(&destination, stored);
-    ch->bc = (uint16_t)(before - fetched);
-    end_if_due(w);
-    count_transfer(w, before);
+    count_transfer(w, given);
 }
 
 /* ---- Which channel steps ---- */
@@ -1309,12 +1516,13 @@ static unsigned choose(const struct emu_state *state, uint32_t lines)
     return state->last == 1 ? 2 : 1;
 }
 
-/* An external end: TP gains the TX offset and no byte moves. */
+/* An external end: TP gains the TX offset, no byte moves, and one that was held is lost. */
 static void external_step(struct work *w)
 {
     unsigned offset = end_offset(w->ch->fields.tx);
     w->ch->tp = plus(w->ch->tp, offset);
     w->ch->psw &= (uint8_t)~EMU_PSW_XF;
+    drop(w->ch);
     if (emu_coverage != NULL) emu_coverage->external[offset / 4]++;
 }
 
@@ -1329,6 +1537,17 @@ static void count_slots(const struct work *w)
     }
 }
 
+/* Counts a done step by what held bytes met with it. */
+static void count_held(const struct emu_state *given, unsigned channel, char kind)
+{
+    if (emu_coverage == NULL) return;
+    bool held = holds(&given->channel[channel - 1]);
+    if (held && kind == 'I') emu_coverage->held_instruction++;
+    if (held && kind == 'X') emu_coverage->held_external++;
+    count_beside(given, channel,
+                 kind == 'I' ? EMU_BESIDE_INSTRUCTION : kind == 'T' ? EMU_BESIDE_TRANSFER : EMU_BESIDE_EXTERNAL);
+}
+
 /* Does the step that a channel has before it, and answers its number and count. */
 static struct emu_answer do_step(struct emu_state *state, const struct emu_memory *memory, unsigned channel, char kind)
 {
@@ -1339,6 +1558,7 @@ static struct emu_answer do_step(struct emu_state *state, const struct emu_memor
     else if (kind == 'T') transfer_step(&w);
     else instruction_step(&w);
     count_slots(&w);
+    if (w.number == EMU_DONE) count_held(state, channel, kind);
     return finish(&w, state);
 }
 
@@ -1363,7 +1583,7 @@ struct emu_stepped emu_step(struct emu_state *state, struct emu_memory *memory, 
 {
     struct emu_stepped stepped = {early_refusal(lines <= 15, memory, state), 0, 0, 0};
     if (stepped.number == EMU_DONE) stepped = step_soundly(state, memory, lines);
-    if (emu_coverage != NULL && stepped.number != EMU_DONE) emu_coverage->step_refused[stepped.number]++;
+    if (emu_coverage != NULL) count_refused(emu_coverage->step_refused, state, stepped.number);
     return stepped;
 }
 
@@ -1460,7 +1680,7 @@ static bool same_channel(const struct emu_channel *a, const struct emu_channel *
     return same_pointer(a->ga, b->ga) && same_pointer(a->gb, b->gb) && same_pointer(a->gc, b->gc) &&
            same_pointer(a->tp, b->tp) && a->pp == b->pp && a->bc == b->bc && a->ix == b->ix && a->cc == b->cc &&
            emu_fields_value(&a->fields) == emu_fields_value(&b->fields) && a->mc == b->mc && a->psw == b->psw &&
-           a->mode == b->mode && a->armed == b->armed;
+           a->mode == b->mode && a->armed == b->armed && a->held == b->held;
 }
 
 bool emu_same_state(const struct emu_state *a, const struct emu_state *b)

@@ -68,7 +68,12 @@ struct emu_fields {
 /* How many fields there are. */
 #define EMU_FIELDS 10
 
-/* One channel's registers and marks; PP has no tag since it is always system, and beside CC are kept its fields. */
+/* What a channel holds between the halves of a pair, as a number: no byte, or this and the byte. */
+#define EMU_NONE_HELD 0u
+#define EMU_HELD 0x100u
+
+/* One channel's registers and marks; PP has no tag since it is always system, beside CC are kept its fields, and held is
+ * what stands above. */
 struct emu_channel {
     struct emu_pointer ga, gb, gc, tp;
     uint32_t pp;
@@ -77,6 +82,7 @@ struct emu_channel {
     uint8_t psw;
     enum emu_mode mode;
     bool armed;
+    uint16_t held;
 };
 
 /* Both channels, the control block's address and the channel that stepped last (1 or 2); whether the processor was
@@ -111,7 +117,36 @@ struct emu_stepped {
     unsigned count;
 };
 
-/* Ways in which the bytes of one transfer step moved; the last is two bytes of which one was stored. */
+/* Which half of a pair a transfer step was, if one: of two fetches (SYN 01) or of two stores (SYN 10), each with a
+ * request of its own. */
+enum emu_half {
+    EMU_WHOLE,
+    EMU_FIRST_FETCH,
+    EMU_SECOND_FETCH,
+    EMU_FIRST_STORE,
+    EMU_SECOND_STORE,
+    EMU_HALVES
+};
+
+/* Why a step was whole: SYN is 00, no side is a word side, the synchronised one is, or TBC is on and BC 1. */
+enum emu_whole {
+    EMU_WHOLE_UNSYNCHRONISED,
+    EMU_WHOLE_NO_WORD,
+    EMU_WHOLE_SYNCHRONISED_WORD,
+    EMU_WHOLE_LAST_BYTE,
+    EMU_WHOLES
+};
+
+/* The bytes of a pair, of which each half reads and stores its own. */
+enum emu_pair_byte { EMU_FIRST_READ, EMU_SECOND_READ, EMU_FIRST_STORED, EMU_SECOND_STORED, EMU_PAIR_BYTES };
+
+/* The synchronised side of a pair, as a sum: it moves on, it is 16 bits wide and odd, it is in I/O space. */
+enum emu_synchronised { EMU_SIDE_MOVES = 1, EMU_SIDE_ODD = 2, EMU_SIDE_IO = 4, EMU_SIDES = 8 };
+
+/* What a channel does while the other one holds a byte. */
+enum emu_beside { EMU_BESIDE_ATTENTION, EMU_BESIDE_INSTRUCTION, EMU_BESIDE_TRANSFER, EMU_BESIDE_EXTERNAL, EMU_BESIDES };
+
+/* Ways in which the bytes of one whole transfer step moved; the last is two bytes of which one was stored. */
 enum emu_shape {
     EMU_SHAPE_B_B,
     EMU_SHAPE_BB_W,
@@ -164,8 +199,8 @@ struct emu_coverage {
     unsigned long attention_refused[EMU_NUMBERS];
     unsigned long row[EMU_ROWS];            /* carried out, by row */
     unsigned long taken[EMU_ROWS];          /* of these, jumps that were taken */
-    unsigned long shape[EMU_SHAPES];        /* done transfer steps, by shape */
-    unsigned long leftover[2][EMU_LEFTOVERS]; /* first of two single stores met, by TMC's bit 2 and BC before */
+    unsigned long shape[EMU_SHAPES];        /* done transfer steps that are no half, by shape */
+    unsigned long leftover[2][2][EMU_LEFTOVERS]; /* first of two single stores met: whole, half; TMC's bit 2; BC before */
     unsigned long translated;               /* done transfer steps with translation */
     unsigned long end[EMU_END_SETS];        /* done transfer steps, by the set of ends (0: goes on) */
     unsigned long end_offset[3];            /* ended ones, by offset 0, 4, 8 */
@@ -179,6 +214,18 @@ struct emu_coverage {
     unsigned long apart_mode[2][3];         /* refused by 14, by a channel whose fields disagreed and its mode */
     unsigned long apart_number[EMU_NUMBERS]; /* attentions and steps with fields that disagreed, by number */
     unsigned long bit_9[2];                 /* not refused so far, by a channel in whose CC bit 9 is 1 */
+    unsigned long half_end[EMU_HALVES][EMU_END_SETS];    /* done transfer steps, by half and set of ends */
+    unsigned long half_side[EMU_HALVES][EMU_SIDES];      /* done halves, by their synchronised side */
+    unsigned long half_beyond[EMU_HALVES][EMU_PAIR_BYTES]; /* halves refused by 2, by the byte of their own */
+    unsigned long half_spared[EMU_HALVES][EMU_PAIR_BYTES]; /* done ones, by a byte of the other half that is not lent */
+    unsigned long half_slot[EMU_HALVES][EMU_PAIR_BYTES]; /* done ones, by a byte of their own in an empty slot */
+    unsigned long held_whole[EMU_WHOLES];   /* done whole steps of a channel that held a byte, by why they were whole */
+    unsigned long held_instruction;         /* done instructions of such a channel */
+    unsigned long held_external;            /* external ends of such a channel */
+    unsigned long held_attention[8];        /* accepted attentions to such a channel, by command */
+    unsigned long held_beside[EMU_BESIDES]; /* done calls of one channel while the other held a byte */
+    unsigned long held_refused[EMU_NUMBERS]; /* attentions and steps that were refused while a byte was held */
+    unsigned long bad_transfer[2][2];       /* refused by 5: without and with a held byte, by SYN 11 and by translation */
 };
 
 /* The lent counters, or NULL for none. */
@@ -196,6 +243,12 @@ void emu_set_cc(struct emu_channel *channel, uint16_t cc);
 /* The name of a field and the bits of CC that it is, by its place in the paper's order. */
 const char *emu_field_name(unsigned field);
 uint16_t emu_field_bits(unsigned field);
+
+/* Whether a byte of a pair is one that this half reads or stores. */
+bool emu_half_has(enum emu_half half, enum emu_pair_byte byte);
+
+/* Whether some channel of a state holds a byte. */
+bool emu_holds(const struct emu_state *state);
 
 /* Makes the fresh state for CP; answers 10, with the state for CP 0, where CP has more than 20 bits. */
 unsigned emu_fresh(uint32_t cp, struct emu_state *out);

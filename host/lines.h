@@ -9,7 +9,8 @@
 #define SMALL_BUFFERS 4096u
 
 /* A script in the making: the machine, the calls left to write, where each channel's last program was put, and whose turn
-   it is among the fields of CC to disagree with it. */
+   it is: among the fields of CC to disagree with it, the registers to be set, the counts of a search, the kinds of pairs,
+   their bytes not to be lent, and what meets a held byte. */
 struct writer {
     struct dice d;
     struct session s;
@@ -19,7 +20,7 @@ struct writer {
     unsigned since_dump;
     uint32_t program[2];
     bool program_in_io[2];
-    unsigned turn;
+    unsigned turn, set_turn, search_turn, pair_turn, edge_turn, held_turn;
     struct program p;
 };
 

@@ -34,7 +34,7 @@ void print_touched(unsigned long met[BYTES_KINDS][BYTES_COUNTS])
         [BYTES_OF_ATTENTION] = {"attention", 1u << 1 | 1u << 2 | 1u << 6 | 1u << 8 | 1u << 10},
         [BYTES_OF_POWER_UP] = {"power-up", 1u << 11},
         [BYTES_OF_INSTRUCTION] = {"instruction", 0x7FCu},
-        [BYTES_OF_TRANSFER] = {"transfer step", 1u << 2 | 1u << 3 | 1u << 4},
+        [BYTES_OF_TRANSFER] = {"transfer step", 1u << 1 | 1u << 2 | 1u << 3 | 1u << 4},
         [BYTES_OF_EXTERNAL_END] = {"external end", 1u << 0},
         [BYTES_OF_REFUSED] = {"refused", 1u << 0},
     };
@@ -72,7 +72,7 @@ static void print_formats(const struct emu_coverage *coverage)
 /* Prints how the bytes of transfer steps moved. */
 static void print_shapes(const struct emu_coverage *coverage)
 {
-    puts("transfer steps, by shape:");
+    puts("transfer steps that are no half, by shape:");
     print_count("byte to byte", coverage->shape[EMU_SHAPE_B_B]);
     print_count("two bytes to word", coverage->shape[EMU_SHAPE_BB_W]);
     print_count("word to two bytes", coverage->shape[EMU_SHAPE_W_BB]);
@@ -81,7 +81,7 @@ static void print_shapes(const struct emu_coverage *coverage)
     print_count("translated", coverage->translated);
 }
 
-void print_leftovers(const struct emu_coverage *coverage)
+void print_leftovers(const struct emu_coverage *coverage, bool halves)
 {
     static const char *const names[EMU_LEFTOVERS] = {
         "TBC on, 2 left: ended too, its offset larger", "TBC on, 2 left: ended too, TMC's offset larger",
@@ -90,8 +90,9 @@ void print_leftovers(const struct emu_coverage *coverage)
         "TBC off, BC 1",                                "TBC off, BC 2",
         "TBC off, BC 3 or more"};
     for (unsigned none = 0; none < 2; none++) {
-        printf("first of two single stores met TMC, which ends on %smatch:\n", none != 0 ? "no " : "a ");
-        for (unsigned i = 0; i < EMU_LEFTOVERS; i++) print_count(names[i], coverage->leftover[none][i]);
+        printf("first of two single stores%s met TMC, which ends on %smatch:\n", halves ? ", a half," : "",
+               none != 0 ? "no " : "a ");
+        for (unsigned i = 0; i < EMU_LEFTOVERS; i++) print_count(names[i], coverage->leftover[halves][none][i]);
     }
 }
 
@@ -115,15 +116,17 @@ void print_fields(const struct emu_coverage *coverage)
     }
 }
 
-/* Prints how transfers ended. */
-static void print_ends(const struct emu_coverage *coverage)
-{
-    static const char *const sets[EMU_END_SETS] = {"goes on",          "match",
+/* What a set of ends is called. */
+static const char *const end_sets[EMU_END_SETS] = {"goes on",          "match",
                                                    "count",            "match and count",
                                                    "single",           "match and single",
                                                    "count and single", "match, count and single"};
+
+/* Prints how transfers ended. */
+static void print_ends(const struct emu_coverage *coverage)
+{
     puts("transfer steps, by their ends:");
-    for (unsigned i = 0; i < EMU_END_SETS; i++) print_count(sets[i], coverage->end[i]);
+    for (unsigned i = 0; i < EMU_END_SETS; i++) print_count(end_sets[i], coverage->end[i]);
     print_count("ended at offset 0", coverage->end_offset[0]);
     print_count("ended at offset 4", coverage->end_offset[1]);
     print_count("ended at offset 8", coverage->end_offset[2]);
@@ -152,12 +155,102 @@ static void print_slots(const struct emu_coverage *coverage)
             if (names[i][of] != NULL) print_count(names[i][of], coverage->slot[i][of]);
 }
 
+/* What the halves of a pair are called. */
+static const char *const half_names[EMU_HALVES] = {
+    [EMU_FIRST_FETCH] = "first fetch", [EMU_SECOND_FETCH] = "second fetch",
+    [EMU_FIRST_STORE] = "first store", [EMU_SECOND_STORE] = "second store"};
+
+/* Prints by which ends a half went on or ended: a first fetch by none, a first store by a match, with others or not. */
+static void print_half_ends(const struct emu_coverage *coverage, enum emu_half half)
+{
+    printf("%s of a pair, by ends:\n", half_names[half]);
+    for (unsigned i = 0; i < EMU_END_SETS; i++) {
+        bool can_be = half == EMU_FIRST_FETCH ? i == 0 : half != EMU_FIRST_STORE || i == 0 || (i & EMU_END_TMC) != 0;
+        if (can_be) print_count(end_sets[i], coverage->half_end[half][i]);
+    }
+}
+
+/* Prints of which kind the synchronised side of a half was. */
+static void print_half_sides(const struct emu_coverage *coverage, enum emu_half half)
+{
+    char name[60];
+    for (unsigned i = 0; i < EMU_SIDES; i++) {
+        snprintf(name, sizeof name, "%s, %s, in %s space", (i & EMU_SIDE_ODD) != 0 ? "16 bits and odd" : "8 bits",
+                 (i & EMU_SIDE_MOVES) != 0 ? "moving on" : "staying", (i & EMU_SIDE_IO) != 0 ? "I/O" : "system");
+        print_count(name, coverage->half_side[half][i]);
+    }
+}
+
+/* Prints which bytes of its own and of the other half were not lent. In a run the bytes of a first half are lent at the
+ * second too. */
+static void print_half_bytes(const struct emu_coverage *coverage, enum emu_half half, enum met_pairs what)
+{
+    static const char *const names[EMU_PAIR_BYTES] = {"first byte read", "second byte read", "first byte stored",
+                                                      "second byte stored"};
+    bool first = half == EMU_FIRST_FETCH || half == EMU_FIRST_STORE;
+    char name[60];
+    for (unsigned i = 0; i < EMU_PAIR_BYTES; i++) {
+        bool own = emu_half_has(half, i);
+        snprintf(name, sizeof name, "%s not lent: %s", names[i], own ? "2" : "done all the same");
+        if (own) print_count(name, coverage->half_beyond[half][i]);
+        else if (first || what == PAIRS_OF_ANY_KIND) print_count(name, coverage->half_spared[half][i]);
+        snprintf(name, sizeof name, "%s in an empty slot", names[i]);
+        if (own) print_count(name, coverage->half_slot[half][i]);
+    }
+}
+
+void print_pairs(const struct emu_coverage *coverage, enum met_pairs what)
+{
+    for (enum emu_half half = EMU_FIRST_FETCH; half < EMU_HALVES; half++) {
+        print_half_ends(coverage, half);
+        print_half_sides(coverage, half);
+        print_half_bytes(coverage, half, what);
+    }
+    print_leftovers(coverage, true);
+}
+
+void print_held(const struct emu_coverage *coverage)
+{
+    static const char *const wholes[EMU_WHOLES] = {"not synchronised", "no word side", "the word side is synchronised",
+                                                   "one byte left"};
+    static const char *const beside[EMU_BESIDES] = {"attention", "instruction", "transfer step", "external end"};
+    static const char *const commands[8] = {"000, which keeps it", "001, which drops it", NULL, "011, which drops it",
+                                            NULL, "101, which keeps it", "110, which keeps it", "111, which drops it"};
+    char name[60];
+    puts("a held byte dropped by a whole transfer step, by why it was whole:");
+    for (unsigned i = 0; i < EMU_WHOLES; i++) print_count(wholes[i], coverage->held_whole[i]);
+    puts("a held byte and what its channel did:");
+    print_count("instruction, which drops it", coverage->held_instruction);
+    print_count("external end, which drops it", coverage->held_external);
+    for (unsigned i = 0; i < 8; i++)
+        if (commands[i] != NULL) print_count(commands[i], coverage->held_attention[i]);
+    puts("a held byte and what the other channel did, which keeps it:");
+    for (unsigned i = 0; i < EMU_BESIDES; i++) print_count(beside[i], coverage->held_beside[i]);
+    puts("a held byte and a refused attention or step, by number:");
+    for (unsigned i = EMU_NO_CHANNEL_CAN_RUN; i < EMU_NUMBERS; i++) {
+        snprintf(name, sizeof name, "number %u", i);
+        print_count(name, coverage->held_refused[i]);
+    }
+    puts("refused by 5:");
+    for (unsigned i = 0; i < 4; i++) {
+        snprintf(name, sizeof name, "%s, %s", i % 2 == 0 ? "SYN 11" : "translation", i < 2 ? "none held" : "a byte held");
+        print_count(name, coverage->bad_transfer[i / 2][i % 2]);
+    }
+}
+
+void print_anew(const unsigned long met[ANEWS])
+{
+    static const char *const names[ANEWS] = {"fresh", "reset", "power-up"};
+    puts("made anew where a byte was held:");
+    for (unsigned i = 0; i < ANEWS; i++) print_count(names[i], met[i]);
+}
+
 void print_coverage(const struct emu_coverage *coverage, unsigned commands)
 {
     print_commands(coverage, commands);
     print_formats(coverage);
     print_shapes(coverage);
-    print_leftovers(coverage);
+    print_leftovers(coverage, false);
     print_ends(coverage);
     print_slots(coverage);
 }

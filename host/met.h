@@ -33,8 +33,24 @@ void print_count(const char *name, unsigned long count);
 /* Prints how often each number was answered of those in the set. */
 void print_numbers(const char *what, const unsigned long counts[EMU_NUMBERS], unsigned set);
 
-/* Prints BC before steps in which the first of two single stores met TMC. */
-void print_leftovers(const struct emu_coverage *coverage);
+/* Prints BC before steps in which the first of two single stores met TMC: whole ones, or first halves of pairs. */
+void print_leftovers(const struct emu_coverage *coverage, bool halves);
+
+/* What a comparison's calls can meet of pairs: halves one after the other and nothing else, as in a run, whose lines and
+ * registers stay between them; or all, where registers can be set and attentions given there. */
+enum met_pairs { PAIRS_UNDISTURBED, PAIRS_OF_ANY_KIND };
+
+/* Prints the halves of pairs: their ends and sides, and what of their bytes was not lent. */
+void print_pairs(const struct emu_coverage *coverage, enum met_pairs what);
+
+/* Prints what met a held byte: calls of its channel and of the other one, and refusals. */
+void print_held(const struct emu_coverage *coverage);
+
+/* What makes a state anew. */
+enum met_anew { ANEW_FRESH, ANEW_RESET, ANEW_POWER_UP, ANEWS };
+
+/* Prints how often a state was made anew in the place of one in which a byte was held. */
+void print_anew(const unsigned long met[ANEWS]);
 
 /* Prints how CC and its fields stood to each other in attentions and steps, done and refused by each early number. */
 void print_fields(const struct emu_coverage *coverage);

@@ -258,17 +258,24 @@ static void add_movi(struct program *p, unsigned rrr, uint32_t word)
     add_word(p, word);
 }
 
-/* Points a pointer at some place of either space, with these bits cleared; I/O space by MOVI, system space by LPDI. */
-static void add_pointing_without(struct program *p, unsigned ppp, uint32_t bits)
+/* Points a pointer at a place: in I/O space by MOVI, in system space by LPDI. */
+static void add_pointing_at(struct program *p, unsigned ppp, bool in_io, uint32_t at)
 {
-    if (chance(p->d, 400)) {
-        add_movi(p, ppp, some_place(p, true) & ~bits);
+    if (in_io) {
+        add_movi(p, ppp, at);
         return;
     }
     begin(p);
     add(p, ppp << 5 | 0x11);
     add(p, 0x08);
-    add_doubleword(p, some_place(p, false) & ~bits);
+    add_doubleword(p, at);
+}
+
+/* Points a pointer at some place of either space, with these bits cleared. */
+static void add_pointing_without(struct program *p, unsigned ppp, uint32_t bits)
+{
+    bool in_io = chance(p->d, 400);
+    add_pointing_at(p, ppp, in_io, some_place(p, in_io) & ~bits);
 }
 
 /* Points a pointer at some place of either space. */
@@ -339,6 +346,37 @@ uint32_t search_mc(struct dice *d, uint32_t cc)
     return chance(d, 800) ? ((cc >> 2 & 1u) != 0 ? 0xFF00u : 0) | below(d, 256) : transfer_mc(d);
 }
 
+/* A place for one side of a pair, with this lowest bit (2 for either): any, or close to an end of system space. */
+static uint32_t pair_place(struct program *p, bool in_io, unsigned lowest)
+{
+    unsigned kind = below(p->d, 1000);
+    uint32_t at = some_place(p, in_io);
+    if (kind < 100 && !in_io) at = (uint32_t)(p->sys_len + 1 - below(p->d, 4)) & MASK20;
+    if (kind >= 100 && kind < 120) at = MASK20;
+    return lowest > 1 ? at : (at & ~1u) | lowest;
+}
+
+/* A CC for pairs: SYN 01 or 10, both sides moving on or not, and each end often. */
+static uint32_t pairs_cc(struct dice *d)
+{
+    uint32_t cc = (chance(d, 500) ? 1u : 2u) << 11 | below(d, 4) << 14 | below(d, 8) << 8;
+    if (chance(d, 200)) cc |= 1u << 7;
+    return cc | end_code(d, 700) << 5 | end_code(d, 400) << 3 | below(d, 2) << 2 | end_code(d, 500);
+}
+
+struct pairs some_pairs(struct program *p)
+{
+    static const uint8_t few[] = {0, 1, 2, 2, 2, 2, 3, 3, 4, 6};
+    struct pairs s = {pairs_cc(p->d), ONE_OF(p->d, few), 0, 0, {0, 0}, {chance(p->d, 400), chance(p->d, 400)}};
+    bool stores = (s.cc >> 12 & 1u) != 0, odd = chance(p->d, 400), source_is_gb = (s.cc >> 10 & 1u) != 0;
+    unsigned asking = stores != source_is_gb ? 1 : 0;
+    s.mc = search_mc(p->d, s.cc ^ (chance(p->d, 500) ? 4u : 0));
+    s.widths = odd ? 3u : stores ? 2u : 1u;
+    s.address[asking] = pair_place(p, s.in_io[asking], odd ? 1 : 2);
+    s.address[1 - asking] = pair_place(p, s.in_io[1 - asking], 0);
+    return s;
+}
+
 /* Adds WID; translation goes mostly with 8 bits on both sides. */
 static void add_widths(struct program *p, uint32_t cc)
 {
@@ -380,6 +418,31 @@ static void add_search(struct program *p)
     add_movi(p, MC, search_mc(p->d, cc));
     add_arming(p, cc);
     add_narrowing(p);
+    add_endings(p);
+}
+
+/* Adds MOVI to memory of a word at the source whose second byte, and not its first, meets TMC; answers the MC for it. */
+static uint32_t add_late_match(struct program *p, uint32_t cc)
+{
+    uint32_t second = below(p->d, 256), first = second ^ (1 + below(p->d, 255));
+    begin(p);
+    add(p, 0x11);
+    add(p, 0x4C | (cc >> 10 & 1u));
+    add_word(p, second << 8 | first);
+    return 0xFF00u | ((cc >> 2 & 1u) != 0 ? first : second);
+}
+
+/* Adds a transfer of pairs, which waits where its request is not up. */
+static void add_pairs(struct program *p)
+{
+    struct pairs s = some_pairs(p);
+    for (unsigned i = 0; i < 2; i++) add_pointing_at(p, GA + i, s.in_io[i], s.address[i]);
+    if (chance(p->d, 400)) s.mc = add_late_match(p, s.cc);
+    add_movi(p, BC, s.bc);
+    add_movi(p, MC, s.mc);
+    add_arming(p, s.cc);
+    begin(p);
+    add_word(p, (4 | s.widths) << 5);
     add_endings(p);
 }
 
@@ -444,6 +507,7 @@ static void add_parts(struct program *p, unsigned parts)
 {
     for (; parts > 0; parts--) {
         if (chance(p->d, 20)) add_search(p);
+        else if (chance(p->d, 40)) add_pairs(p);
         else if (chance(p->d, 120)) add_transfer(p);
         else add_any(p);
     }

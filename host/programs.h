@@ -4,6 +4,8 @@
 
 #include "dice.h"
 
+#include <stdbool.h>
+
 /* Addresses have 20 bits. */
 #define MASK20 0xFFFFFu
 
@@ -73,6 +75,17 @@ uint32_t search_count(struct dice *d);
 
 /* A compare word for a search that mostly ends at its first byte. */
 uint32_t search_mc(struct dice *d, uint32_t cc);
+
+/* A channel set up for pairs: a transfer of two bytes under requests, singly on the side that asks for them. */
+struct pairs {
+    uint32_t cc, bc, mc, widths;
+    uint32_t address[2];
+    bool in_io[2]; /* GA, GB */
+};
+
+/* Sets up pairs: the side that asks 8 bits wide or odd, the other a word side, in either space, now and then at the end
+ * of lent memory, with any ends and few bytes left. */
+struct pairs some_pairs(struct program *p);
 
 /* Writes an address as offset and segment, one of the many pairs that mean it. */
 void as_doubleword(struct dice *d, uint32_t address, uint8_t out[4]);

@@ -9,7 +9,7 @@
 #include <string.h>
 
 /* Calls after which everything that scripts can meet must have been met. */
-#define CALLS_TO_MEET_ALL 20000u
+#define CALLS_TO_MEET_ALL 40000u
 
 /* The numbers that a fresh state, a power-up, an attention and a step can answer. */
 #define MAKE_NUMBERS (1u << EMU_DONE | 1u << EMU_BAD_POINTER)
@@ -189,6 +189,8 @@ static void print_registers(const struct tally *t)
         if (!r->shared) print_count(name, t->set[i % 2][i / 2]);
         else if (i % 2 == 0) print_count(r->name, t->set[0][i / 2]);
     }
+    print_count("held of channel 1, to none", t->none_held[0]);
+    print_count("held of channel 2, to none", t->none_held[1]);
 }
 
 /* Prints what listings and files met. */
@@ -224,6 +226,9 @@ static int met(const char *tally_name)
     print_texts(&t);
     print_fields(&t.coverage);
     print_coverage(&t.coverage, COMMANDS);
+    print_pairs(&t.coverage, PAIRS_OF_ANY_KIND);
+    print_held(&t.coverage);
+    print_anew(t.anew);
     bool all = all_met(t.calls, CALLS_TO_MEET_ALL, "calls");
     printf("%lu scripts, %lu calls\n", t.scripts, t.calls);
     return all ? 0 : 1;
@@ -251,12 +256,13 @@ static int trace(const char *tally_name)
     return 0;
 }
 
-/* Prints how transfers of a tally's traces ended by the first of two single stores; fails where one way never came. */
+/* Prints how transfers of a tally's traces ended by the first of two single stores; fails where one way never came. No
+ * line is up in a trace, so that none has pairs. */
 static int traced(const char *tally_name)
 {
     static struct tally t;
     load_tally(&t, tally_name);
-    print_leftovers(&t.coverage);
+    print_leftovers(&t.coverage, false);
     return all_met(1, 1, "images") ? 0 : 1;
 }
 

@@ -3379,6 +3379,749 @@ static void test_run(void)
     }
 }
 
+/* ---- One request, one byte: pairs ---- */
+
+/* Wants a half that holds this byte for the other one and changes nothing else. */
+static void want_half(unsigned byte)
+{
+    want_same();
+    want.s.last = 1;
+    W.held = (uint16_t)(EMU_HELD | byte);
+}
+
+/* Wants the second half of a pair, which ended by this offset (or went on, if negative). */
+static void want_pair(int end)
+{
+    want_moved(2, end);
+    W.held = EMU_NONE_HELD;
+}
+
+/* SYN 01: two fetches, and the word is stored with the second. */
+static void test_pair_fetches(void)
+{
+    /* both sides move on: pointers and BC wait for the second half, and so does the word */
+    transfer(EMU_PSW_D, 0xC800, 9);
+    want_half(0x11);
+    DONE_ON('T', 1, 1);
+    want_pair(-1);
+    CHECK(W.ga.address == 0x1002 && W.gb.address == 0x2002 && W.bc == 7);
+    want_sys(0x2000, "11 22");
+    DONE_ON('T', 1, 1);
+    /* the next pair begins with a fetch again */
+    want_half(0x33);
+    DONE_ON('T', 1, 1);
+    want_pair(-1);
+    want_sys(0x2002, "33 44");
+    DONE_ON('T', 1, 1);
+    /* a port that stays is read at both halves, and not again for the byte that is held */
+    transfer(EMU_PSW_D, 0x8800, 9);
+    want_half(0x11);
+    DONE_ON('T', 1, 1);
+    sys(0x1000, "77");
+    want_pair(-1);
+    want_sys(0x2000, "11 77");
+    DONE_ON('T', 1, 1);
+    /* what is held need not be what stands there now */
+    transfer(EMU_PSW_D, 0xC800, 9);
+    N.held = EMU_HELD | 0x99;
+    want_pair(-1);
+    want_sys(0x2000, "99 22");
+    DONE_ON('T', 1, 1);
+    /* a held byte 0 is one */
+    transfer(EMU_PSW_D, 0xC800, 9);
+    sys(0x1000, "00");
+    want_half(0);
+    DONE_ON('T', 1, 1);
+    sys(0x1000, "88");
+    want_pair(-1);
+    want_sys(0x2000, "00 22");
+    DONE_ON('T', 1, 1);
+    /* 16 bits wide at an odd address, moving on or not; the word side may stay */
+    for (unsigned moves = 0; moves < 4; moves++) {
+        transfer(EMU_PSW_S | EMU_PSW_D, 0x0800 | moves << 14, 9);
+        N.ga.address = 0x1001;
+        want_half(0x22);
+        DONE_ON('T', 1, 1);
+        want_pair(-1);
+        want_sys(0x2000, (moves & 1) != 0 ? "22 33" : "22 22");
+        DONE_ON('T', 1, 1);
+        CHECK(N.ga.address == ((moves & 1) != 0 ? 0x1003 : 0x1001) && N.bc == 7);
+    }
+    /* from an I/O port into system memory, the source being GB; and from system memory into I/O memory */
+    transfer(EMU_PSW_D, 0x8C00, 9);
+    N.ga = (struct emu_pointer){0x3000, false};
+    N.gb = (struct emu_pointer){0xF8004, true};
+    io(0x8004, "C1");
+    want_half(0xC1);
+    DONE_ON('T', 1, 1);
+    io(0x8004, "C2");
+    want_pair(-1);
+    want_sys(0x3000, "C1 C2");
+    DONE_ON('T', 1, 1);
+    transfer(EMU_PSW_D, 0xC800, 9);
+    N.gb = (struct emu_pointer){0x20, true};
+    want_half(0x11);
+    DONE_ON('T', 1, 1);
+    want_pair(-1);
+    want_io(0x20, "11 22");
+    DONE_ON('T', 1, 1);
+    /* each byte's place wraps by itself */
+    transfer(EMU_PSW_S | EMU_PSW_D, 0xC800, 9);
+    N.ga.address = 0xFFFFF;
+    sys(0xFFFFF, "D1");
+    sys(0, "D2");
+    want_half(0xD1);
+    DONE_ON('T', 1, 1);
+    want_pair(-1);
+    CHECK(W.ga.address == 1);
+    want_sys(0x2000, "D1 D2");
+    DONE_ON('T', 1, 1);
+}
+
+/* SYN 10: the word is read with the first of two stores. */
+static void test_pair_stores(void)
+{
+    transfer(EMU_PSW_S, 0xD000, 9);
+    want_half(0x22);
+    want_sys(0x2000, "11");
+    DONE_ON('T', 1, 1);
+    /* the second store has the byte that was read then, not the one that stands there now */
+    sys(0x1001, "77");
+    want_pair(-1);
+    CHECK(W.ga.address == 0x1002 && W.gb.address == 0x2002 && W.bc == 7);
+    want_sys(0x2001, "22");
+    DONE_ON('T', 1, 1);
+    want_half(0x44);
+    want_sys(0x2002, "33");
+    DONE_ON('T', 1, 1);
+    /* a port that stays is stored to twice */
+    transfer(EMU_PSW_S, 0x5000, 9);
+    want_half(0x22);
+    want_sys(0x2000, "11");
+    DONE_ON('T', 1, 1);
+    want_pair(-1);
+    CHECK(W.ga.address == 0x1002 && W.gb.address == 0x2000 && W.bc == 7);
+    want_sys(0x2000, "22");
+    DONE_ON('T', 1, 1);
+    /* 16 bits wide at an odd address, moving on or not; the word side may stay */
+    for (unsigned moves = 0; moves < 4; moves++) {
+        transfer(EMU_PSW_S | EMU_PSW_D, 0x1000 | moves << 14, 9);
+        N.gb.address = 0x2001;
+        want_half(0x22);
+        want_sys(0x2001, "11");
+        DONE_ON('T', 1, 1);
+        want_pair(-1);
+        want_sys((moves & 2) != 0 ? 0x2002 : 0x2001, "22");
+        DONE_ON('T', 1, 1);
+        CHECK(N.ga.address == ((moves & 1) != 0 ? 0x1002 : 0x1000) && N.bc == 7);
+    }
+    /* from system memory to an I/O port, the source being GB */
+    transfer(EMU_PSW_S, 0x5400, 9);
+    N.ga = (struct emu_pointer){0xF8004, true};
+    N.gb = (struct emu_pointer){0x1000, false};
+    want_half(0x22);
+    want_io(0x8004, "11");
+    DONE_ON('T', 1, 1);
+    want_pair(-1);
+    want_io(0x8004, "22");
+    DONE_ON('T', 1, 1);
+    /* what a first half of the other kind held is stored, where the step has become this one */
+    transfer(EMU_PSW_S, 0xD000, 9);
+    N.held = EMU_HELD | 0x99;
+    want_pair(-1);
+    want_sys(0x2001, "99");
+    DONE_ON('T', 1, 1);
+}
+
+/* Each half has a request of its own, is a step of its channel and makes it the last one. */
+static void test_pair_requests(void)
+{
+    for (unsigned syn = 1; syn < 3; syn++) {
+        transfer(syn == 1 ? EMU_PSW_D : EMU_PSW_S, 0xC000 | syn << 11, 9);
+        REFUSED_ON(1, 0);
+        CHECK(emu_step(&now.s, &now.m, 1).number == 0);
+        REFUSED_ON(1, 0);
+        REFUSED_ON(1, 2);
+        REFUSED_ON(1, 14);
+        CHECK(N.held == (EMU_HELD | (syn == 1 ? 0x11 : 0x22)) && N.bc == 9);
+        CHECK(emu_step(&now.s, &now.m, 1).number == 0);
+        CHECK(N.held == EMU_NONE_HELD && N.bc == 7);
+        REFUSED_ON(1, 0);
+    }
+    /* two channels take turns, half by half, and each holds its own byte */
+    transfer(EMU_PSW_D, 0xC800, 9);
+    N2 = N;
+    N2.ga.address = 0x1002;
+    N2.gb.address = 0x2002;
+    for (unsigned i = 0; i < 4; i++) {
+        struct emu_stepped stepped = emu_step(&now.s, &now.m, 3);
+        CHECK(stepped.number == 0 && stepped.channel == 1 + i % 2 && stepped.kind == 'T' && now.s.last == 1 + i % 2);
+        CHECK(N.held == (i < 2 ? 0x111 : 0) && N2.held == (i == 1 || i == 2 ? 0x133 : 0));
+    }
+    CHECK(now.sys[0x2000] == 0x11 && now.sys[0x2001] == 0x22 && now.sys[0x2002] == 0x33 && now.sys[0x2003] == 0x44);
+    /* channel 2's DRQ is line 2 */
+    transfer(EMU_PSW_D, 0xC800, 9);
+    N2 = N;
+    N.mode = EMU_IDLE;
+    N.held = EMU_HELD | 0x55;
+    REFUSED_ON(1, 1);
+    want_same();
+    want.s.last = 2;
+    W2.held = EMU_HELD | 0x11;
+    DONE_ON('T', 2, 2);
+}
+
+/* Ends: by count, TS and match at the second half, or at a first store that meets TMC. */
+static void test_pair_ends(void)
+{
+    /* TS does not end it at the first half, and does at the second */
+    for (unsigned syn = 1; syn < 3; syn++) {
+        transfer(syn == 1 ? EMU_PSW_D : EMU_PSW_S, 0xC080 | syn << 11, 9);
+        want_half(syn == 1 ? 0x11 : 0x22);
+        if (syn == 2) want_sys(0x2000, "11");
+        DONE_ON('T', 1, 1);
+        want_pair(0);
+        want_sys(0x2000, "11 22");
+        DONE_ON('T', 1, 1);
+    }
+    /* the count: 2 ends at the second half, by TBC's offset; 0 and 3 go on; with TBC off nothing ends, and 1 is a pair */
+    for (unsigned syn = 1; syn < 3; syn++) {
+        static const struct {
+            unsigned cc, before;
+            int end;
+        } rows[] = {{0x08, 2, 0}, {0x10, 2, 4}, {0x18, 2, 8}, {0x18, 0, -1}, {0x18, 3, -1}, {0x00, 2, -1}, {0x00, 1, -1},
+                    {0x98, 2, 8}, {0x88, 0, 0}};
+        for (unsigned i = 0; i < sizeof rows / sizeof rows[0]; i++) {
+            transfer(syn == 1 ? EMU_PSW_D : EMU_PSW_S, 0xC000 | syn << 11 | rows[i].cc, rows[i].before);
+            want_half(syn == 1 ? 0x11 : 0x22);
+            if (syn == 2) want_sys(0x2000, "11");
+            DONE_ON('T', 1, 1);
+            want_pair(rows[i].end);
+            want_sys(0x2000, "11 22");
+            DONE_ON('T', 1, 1);
+        }
+    }
+    /* of a word that came in two fetches the low byte, which is the held one, is looked at */
+    transfer(EMU_PSW_D, 0xC802, 9);
+    N.mc = 0xFF11;
+    want_half(0x11);
+    DONE_ON('T', 1, 1);
+    want_pair(4);
+    want_sys(0x2000, "11 22");
+    DONE_ON('T', 1, 1);
+    transfer(EMU_PSW_D, 0xC802, 9);
+    N.mc = 0xFF22;
+    want_half(0x11);
+    DONE_ON('T', 1, 1);
+    want_pair(-1);
+    want_sys(0x2000, "11 22");
+    DONE_ON('T', 1, 1);
+    transfer(EMU_PSW_D, 0xC806, 9);
+    N.mc = 0xFF22;
+    N.held = EMU_HELD | 0x22;
+    want_pair(-1);
+    want_sys(0x2000, "22 22");
+    DONE_ON('T', 1, 1);
+    transfer(EMU_PSW_D, 0xC806, 9);
+    N.mc = 0xFF22;
+    N.held = EMU_HELD | 0x23;
+    want_pair(4);
+    want_sys(0x2000, "23 22");
+    DONE_ON('T', 1, 1);
+    /* of two stores the second */
+    transfer(EMU_PSW_S, 0xD003, 9);
+    N.mc = 0xFF22;
+    want_half(0x22);
+    want_sys(0x2000, "11");
+    DONE_ON('T', 1, 1);
+    want_pair(8);
+    want_sys(0x2001, "22");
+    DONE_ON('T', 1, 1);
+    /* match, count and TS at a second half: the largest offset */
+    for (unsigned syn = 1; syn < 3; syn++) {
+        transfer(syn == 1 ? EMU_PSW_D : EMU_PSW_S, 0xC093 | syn << 11, 2);
+        N.mc = 0xFF99;
+        N.held = EMU_HELD | 0x99;
+        want_pair(8);
+        want_sys(syn == 1 ? 0x2000 : 0x2001, syn == 1 ? "99 22" : "99");
+        DONE_ON('T', 1, 1);
+    }
+}
+
+/* The first of two stores meets TMC: it ends there, pointers by 1, BC by 2, and nothing is held. */
+static void test_pair_cut(void)
+{
+    static const struct {
+        unsigned cc, before, after;
+        int end;
+    } rows[] = {
+        {0xD019, 2, 0, 8},      /* TBC + 8, TMC + 0: the count has ended too */
+        {0xD00B, 2, 0, 8},      /* TBC + 0, TMC + 8 */
+        {0xD012, 2, 0, 4},      /* both + 4 */
+        {0xD001, 2, 0, 0},      /* TBC off: BC 0 is no end, though the match is */
+        {0xD002, 1, 0xFFFF, 4}, /* TBC off */
+        {0xD003, 0, 0xFFFE, 8}, /* TBC off */
+        {0xD01A, 0, 0xFFFE, 4}, /* TBC on: no end by the count */
+        {0xD019, 3, 1, 0},      /* TBC on, one byte would be left */
+        {0xD082, 9, 7, 4},      /* TS too */
+        {0xD099, 2, 0, 8},      /* all three */
+    };
+    for (unsigned i = 0; i < 2 * (sizeof rows / sizeof rows[0]); i++) {
+        bool none = i % 2 == 1;
+        transfer(EMU_PSW_S, rows[i / 2].cc | (none ? 4u : 0), rows[i / 2].before);
+        N.mc = none ? 0xFF22 : 0xFF11;
+        want_cut(rows[i / 2].end);
+        CHECK(W.ga.address == 0x1001 && W.gb.address == 0x2001 && W.bc == rows[i / 2].after && W.held == EMU_NONE_HELD);
+        DONE_ON('T', 1, 1);
+    }
+    /* the second store is then neither made nor tested, the second fetch is */
+    transfer(EMU_PSW_S, 0xD001, 9);
+    N.mc = 0xFF11;
+    now.m.sys_len = 0x2001;
+    want_cut(0);
+    DONE_ON('T', 1, 1);
+}
+
+/* What is no pair is done in one step, under a request or without. */
+static void test_pair_never(void)
+{
+    static const struct {
+        unsigned widths, cc, from, to, bc;
+        bool two;
+    } rows[] = {
+        {EMU_PSW_D, 0xC000, 0x1000, 0x2000, 9, true},             /* not synchronised */
+        {EMU_PSW_S, 0xC000, 0x1000, 0x2000, 9, true},
+        {EMU_PSW_S, 0xC800, 0x1000, 0x2000, 9, true},             /* the word side is the synchronised one */
+        {EMU_PSW_D, 0xD000, 0x1000, 0x2000, 9, true},
+        {EMU_PSW_S | EMU_PSW_D, 0xC800, 0x1000, 0x2001, 9, true},
+        {EMU_PSW_S | EMU_PSW_D, 0xD000, 0x1001, 0x2000, 9, true},
+        {EMU_PSW_S | EMU_PSW_D, 0xC800, 0x1000, 0x2000, 9, true}, /* words on both sides */
+        {EMU_PSW_S | EMU_PSW_D, 0xD000, 0x1000, 0x2000, 9, true},
+        {0, 0xC800, 0x1000, 0x2000, 9, false},                    /* no word side */
+        {0, 0xD000, 0x1000, 0x2000, 9, false},
+        {EMU_PSW_D, 0xC800, 0x1000, 0x2001, 9, false},
+        {EMU_PSW_S, 0xD000, 0x1001, 0x2000, 9, false},
+        {EMU_PSW_D, 0xC808, 0x1000, 0x2000, 1, false},            /* the last byte goes alone */
+        {EMU_PSW_S, 0xD010, 0x1000, 0x2000, 1, false},
+        {EMU_PSW_S | EMU_PSW_D, 0xC818, 0x1001, 0x2000, 1, false},
+    };
+    for (unsigned i = 0; i < 2 * (sizeof rows / sizeof rows[0]); i++) {
+        transfer(rows[i / 2].widths, rows[i / 2].cc, rows[i / 2].bc);
+        N.ga.address = rows[i / 2].from;
+        N.gb.address = rows[i / 2].to;
+        /* a held byte is not used, and is dropped */
+        if (i % 2 == 1) N.held = EMU_HELD | 0x99;
+        want_moved(rows[i / 2].two ? 2 : 1, rows[i / 2].bc == 1 ? (int)((rows[i / 2].cc >> 3 & 3) - 1) * 4 : -1);
+        W.held = EMU_NONE_HELD;
+        memcpy(want.sys + rows[i / 2].to, now.sys + rows[i / 2].from, rows[i / 2].two ? 2 : 1);
+        DONE_ON('T', 1, 1);
+    }
+    /* translation under a request moves one byte, whatever is held */
+    transfer(0, 0xE800, 9);
+    N.held = EMU_HELD | 0x12;
+    sys(0x3011, "99");
+    want_moved(1, -1);
+    W.held = EMU_NONE_HELD;
+    want_sys(0x2000, "99");
+    DONE_ON('T', 1, 1);
+}
+
+/* Gives channel 1 an attention with this CCW while it holds 5Ah in this mode, and wants that it then holds so much. */
+static void attend_holding(unsigned ccw, enum emu_mode mode, unsigned held, int line)
+{
+    transfer(EMU_PSW_D, 0xC800, 9);
+    N.mode = mode;
+    N.held = EMU_HELD | 0x5A;
+    N2.held = EMU_HELD | 0xA5;
+    block(1, ccw);
+    check(emu_attention(&now.s, &now.m, 1).number == 0, "accepted with a byte held", line);
+    check(N.held == held, "held behind an attention", line);
+    check(N2.held == (EMU_HELD | 0xA5), "the other channel's byte", line);
+}
+
+/* What keeps a held byte. */
+static void test_held_kept(void)
+{
+    for (unsigned upper = 0; upper < 32; upper++) {
+        for (unsigned mode = 0; mode < 3; mode++) attend_holding(upper << 3, (enum emu_mode)mode, 0x15A, __LINE__);
+        attend_holding(upper << 3 | 6, EMU_RUNNING, 0x15A, __LINE__);
+        attend_holding(upper << 3 | 5, EMU_SUSPENDED, 0x15A, __LINE__);
+    }
+    /* over a suspend and a resume, and then used */
+    for (unsigned syn = 1; syn < 3; syn++) {
+        transfer(syn == 1 ? EMU_PSW_D : EMU_PSW_S, 0xC000 | syn << 11, 9);
+        CHECK(emu_step(&now.s, &now.m, 1).number == 0);
+        block(1, 6);
+        want_same();
+        want_sys(0x400, syn == 1 ? "00 01 00 45" : "00 01 00 46");
+        want_sys(0x41, "00");
+        W.mode = EMU_SUSPENDED;
+        W.psw &= (uint8_t) ~(EMU_PSW_TB | EMU_PSW_XF);
+        ATTEND(1);
+        REFUSED_ON(1, 15);
+        block(1, 5);
+        want_same();
+        want_sys(0x41, "FF");
+        W.mode = EMU_RUNNING;
+        W.psw |= EMU_PSW_TB | EMU_PSW_XF;
+        ATTEND(1);
+        REFUSED_ON(1, 0);
+        sys(0x1000, syn == 1 ? "88" : "88 99");
+        want_pair(-1);
+        want_sys(0x2000, "11 22");
+        DONE_ON('T', 1, 1);
+    }
+    /* what the other channel does: attentions, instructions, transfers, external ends */
+    for (unsigned command = 0; command < 8; command++) {
+        static const enum emu_mode taken[8] = {EMU_IDLE, EMU_IDLE,      EMU_IDLE,    EMU_IDLE,
+                                               EMU_IDLE, EMU_SUSPENDED, EMU_RUNNING, EMU_RUNNING};
+        if (command == 2 || command == 4) continue;
+        transfer(EMU_PSW_D, 0xC800, 9);
+        N.held = EMU_HELD | 0x5A;
+        N2.mode = taken[command];
+        block(2, command);
+        CHECK(emu_attention(&now.s, &now.m, 2).number == 0 && N.held == 0x15A);
+    }
+    for (unsigned i = 0; i < 3; i++) {
+        transfer(EMU_PSW_D, 0xC800, 9);
+        N.held = EMU_HELD | 0x5A;
+        N2 = N;
+        N2.held = EMU_NONE_HELD;
+        emu_set_cc(&N2, i == 0 ? 0 : i == 1 ? 0xC000 : 0xC020);
+        N2.psw = (uint8_t)(i == 0 ? EMU_PSW_TB : N2.psw);
+        sys(0x100, "00 00");
+        struct emu_stepped stepped = emu_step(&now.s, &now.m, i == 2 ? 8 : 0);
+        CHECK(stepped.number == 0 && stepped.channel == 2 && stepped.kind == "ITX"[i] && N.held == 0x15A);
+    }
+    /* refused: resume, start and suspend in the wrong mode, a start whose bytes are not lent, and steps */
+    transfer(EMU_PSW_D, 0xC800, 9);
+    N.held = EMU_HELD | 0x5A;
+    block(1, 5);
+    ATTEND_REFUSED(1, 7);
+    block(1, 3);
+    ATTEND_REFUSED(1, 8);
+    block(1, 2);
+    ATTEND_REFUSED(1, 6);
+    N.mode = EMU_IDLE;
+    block(1, 6);
+    ATTEND_REFUSED(1, 9);
+    block(1, 3);
+    now.m.sys_len = 0x501;
+    ATTEND_REFUSED(1, 2);
+    reset();
+    N.held = EMU_HELD | 0x5A;
+    sys(0x100, "04 04");
+    REFUSED(3);
+    sys(0x100, "C0 38");
+    REFUSED(4);
+    N.mode = EMU_SUSPENDED;
+    REFUSED(1);
+}
+
+/* What drops a held byte. */
+static void test_held_dropped(void)
+{
+    /* start in either space, from idle and suspended; halt from any mode */
+    for (unsigned mode = 0; mode < 3; mode++) {
+        if (mode != EMU_RUNNING) attend_holding(1, (enum emu_mode)mode, 0, __LINE__);
+        if (mode != EMU_RUNNING) attend_holding(3, (enum emu_mode)mode, 0, __LINE__);
+        attend_holding(7, (enum emu_mode)mode, 0, __LINE__);
+    }
+    /* an instruction, HLT among them; where the mark becomes XF too */
+    reset();
+    N.held = EMU_HELD | 0x5A;
+    code("00 00");
+    W.held = EMU_NONE_HELD;
+    DONE('I');
+    reset();
+    N.held = EMU_HELD | 0x5A;
+    N.armed = true;
+    code("A0 00");
+    W.held = EMU_NONE_HELD;
+    W.armed = false;
+    W.psw |= EMU_PSW_XF | EMU_PSW_D;
+    DONE('I');
+    reset();
+    N.held = EMU_HELD | 0x5A;
+    code("20 48");
+    W.held = EMU_NONE_HELD;
+    W.mode = EMU_IDLE;
+    W.psw = 0;
+    want_sys(0x41, "00");
+    DONE('I');
+    /* an external end stores nothing and moves neither pointers nor BC, with DRQ up or not */
+    for (unsigned i = 0; i < 4; i++) {
+        transfer(i % 2 == 0 ? EMU_PSW_D : EMU_PSW_S, (i % 2 == 0 ? 0xC800 : 0xD000) | 0x60, 9);
+        CHECK(emu_step(&now.s, &now.m, 1).number == 0 && N.held != EMU_NONE_HELD);
+        want_same();
+        W.held = EMU_NONE_HELD;
+        W.psw &= (uint8_t)~EMU_PSW_XF;
+        W.tp.address += 8;
+        DONE_ON('X', 1, i < 2 ? 4 : 5);
+    }
+    /* a pair whose second half comes when one byte is left: that byte goes alone, read anew */
+    transfer(EMU_PSW_D, 0xC818, 9);
+    CHECK(emu_step(&now.s, &now.m, 1).number == 0 && N.held == 0x111);
+    N.bc = 1;
+    sys(0x1000, "77");
+    want_moved(1, 8);
+    W.held = EMU_NONE_HELD;
+    want_sys(0x2000, "77");
+    DONE_ON('T', 1, 1);
+    transfer(EMU_PSW_S, 0xD018, 9);
+    CHECK(emu_step(&now.s, &now.m, 1).number == 0 && N.held == 0x122);
+    N.bc = 1;
+    sys(0x1000, "77");
+    want_moved(1, 8);
+    W.held = EMU_NONE_HELD;
+    want_sys(0x2000, "77");
+    DONE_ON('T', 1, 1);
+    /* nothing is held in a state that is made */
+    struct emu_state s;
+    memset(&s, 0xFF, sizeof s);
+    CHECK(emu_fresh(0x40, &s) == 0 && s.channel[0].held == EMU_NONE_HELD && s.channel[1].held == EMU_NONE_HELD);
+    memset(&s, 0xFF, sizeof s);
+    CHECK(emu_fresh(0x100000, &s) == 10 && s.channel[0].held == EMU_NONE_HELD && s.channel[1].held == EMU_NONE_HELD);
+    memset(&s, 0xFF, sizeof s);
+    emu_reset(&s);
+    CHECK(s.channel[0].held == EMU_NONE_HELD && s.channel[1].held == EMU_NONE_HELD);
+    reset();
+    board("01", "00");
+    N.held = EMU_HELD | 0x5A;
+    N2.held = EMU_HELD | 0xA5;
+    CHECK(emu_power_up(&now.s, &now.m).number == 0 && N.held == EMU_NONE_HELD && N2.held == EMU_NONE_HELD);
+    reset();
+    N.held = EMU_HELD | 0x5A;
+    now.m.sys_len = 0x10;
+    CHECK(emu_power_up(&now.s, &now.m).number == 2 && N.held == 0x15A);
+}
+
+/* Refusals 5 and 2: either half asks for 5 first, and for 2 only at the bytes that it reads or stores. */
+static void test_pair_refusals(void)
+{
+    /* 5, whatever is held and lent */
+    for (unsigned i = 0; i < 2; i++) {
+        transfer(EMU_PSW_D, 0xD800, 9);
+        if (i == 1) N.held = EMU_HELD | 0x5A;
+        REFUSED_ON(5, 1);
+        now.m.sys_len = 0;
+        REFUSED_ON(5, 1);
+        for (unsigned syn = 1; syn < 3; syn++) {
+            transfer(syn == 1 ? EMU_PSW_D : EMU_PSW_S, 0xE000 | syn << 11, 9);
+            if (i == 1) N.held = EMU_HELD | 0x5A;
+            REFUSED_ON(5, 1);
+            now.m.sys_len = 0;
+            REFUSED_ON(5, 1);
+        }
+    }
+    /* first fetch: the first source byte and no other */
+    transfer(EMU_PSW_D, 0xC800, 9);
+    now.m.sys_len = 0x1000;
+    REFUSED_ON(2, 1);
+    now.m.sys_len = 0x1001;
+    want_half(0x11);
+    DONE_ON('T', 1, 1);
+    /* second fetch: the second source byte, then both of the word */
+    REFUSED_ON(2, 1);
+    now.m.sys_len = 0x1002;
+    REFUSED_ON(2, 1);
+    now.m.sys_len = 0x2001;
+    REFUSED_ON(2, 1);
+    now.m.sys_len = 0x2002;
+    want_pair(-1);
+    want_sys(0x2000, "11 22");
+    DONE_ON('T', 1, 1);
+    /* it does not ask for the first source byte again */
+    transfer(EMU_PSW_S | EMU_PSW_D, 0xC800, 9);
+    N.ga.address = 0xFFFFF;
+    N.held = EMU_HELD | 0x5A;
+    sys(0, "33");
+    now.m.sys_len = 0x2002;
+    want_pair(-1);
+    want_sys(0x2000, "5A 33");
+    DONE_ON('T', 1, 1);
+    /* first store: both source bytes and the first place */
+    transfer(EMU_PSW_S, 0xD000, 9);
+    N.gb.address = 0x0800;
+    now.m.sys_len = 0x1000;
+    REFUSED_ON(2, 1);
+    now.m.sys_len = 0x1001;
+    REFUSED_ON(2, 1);
+    transfer(EMU_PSW_S, 0xD000, 9);
+    now.m.sys_len = 0x2000;
+    REFUSED_ON(2, 1);
+    now.m.sys_len = 0x2001;
+    want_half(0x22);
+    want_sys(0x2000, "11");
+    DONE_ON('T', 1, 1);
+    /* second store: the second place and no other */
+    REFUSED_ON(2, 1);
+    now.m.sys_len = 0x2002;
+    N.ga.address = 0x3000;
+    want_pair(-1);
+    want_sys(0x2001, "22");
+    DONE_ON('T', 1, 1);
+    transfer(EMU_PSW_S | EMU_PSW_D, 0xD000, 9);
+    N.ga.address = 0x3000;
+    N.gb.address = 0xFFFFF;
+    N.held = EMU_HELD | 0x5A;
+    now.m.sys_len = 1;
+    want_pair(-1);
+    want_sys(0, "5A");
+    DONE_ON('T', 1, 1);
+    /* a byte that ends at the first store asks for the second source byte nevertheless */
+    transfer(EMU_PSW_S, 0xD001, 9);
+    N.ga.address = 0x2FFE;
+    N.mc = 0x0000;
+    now.m.sys_len = 0x2FFF;
+    REFUSED_ON(2, 1);
+}
+
+/* Pairs from and to empty slots. */
+static void test_pair_slots(void)
+{
+    const struct emu_pointer gone = {0x2000, true};
+    transfer(EMU_PSW_D, 0x8800, 9);
+    N.ga = gone;
+    now.m.io_len = 0x1000;
+    want_half(0xFF);
+    DONE_ON('T', 1, 1);
+    want_pair(-1);
+    want_sys(0x2000, "FF FF");
+    DONE_ON('T', 1, 1);
+    /* into slots: what vanishes is looked at, and counts */
+    transfer(EMU_PSW_D, 0xC801, 9);
+    N.gb = gone;
+    N.mc = 0xFF11;
+    now.m.io_len = 0x1000;
+    want_half(0x11);
+    DONE_ON('T', 1, 1);
+    want_pair(0);
+    DONE_ON('T', 1, 1);
+    transfer(EMU_PSW_S, 0x5000, 9);
+    N.gb = gone;
+    now.m.io_len = 0x1000;
+    want_half(0x22);
+    DONE_ON('T', 1, 1);
+    want_pair(-1);
+    DONE_ON('T', 1, 1);
+    /* a card that is pulled between the halves */
+    transfer(EMU_PSW_D, 0x8800, 9);
+    N.ga = gone;
+    io(0x2000, "31");
+    want_half(0x31);
+    DONE_ON('T', 1, 1);
+    now.m.io_len = 0x2000;
+    want_pair(-1);
+    want_sys(0x2000, "31 FF");
+    DONE_ON('T', 1, 1);
+}
+
+/* How many bytes each half reads and stores: 1 and 3, or 3 and 1; and 3 for a first store that ends. */
+static void test_counts_of_halves(void)
+{
+    static const unsigned counts[2][2] = {{1, 3}, {3, 1}};
+    for (unsigned i = 0; i < 4; i++) {
+        bool stores = i % 2 == 1;
+        transfer(stores ? EMU_PSW_S : EMU_PSW_D, (stores ? 0xD000 : 0xC800) & (i < 2 ? 0xFFFF : 0x3FFF), 9);
+        if (i >= 2) N.ga.tag = N.gb.tag = true, now.m.io_len = 0;
+        for (unsigned half = 0; half < 2; half++) {
+            struct emu_stepped stepped = emu_step(&now.s, &now.m, 1);
+            CHECK(stepped.number == 0 && stepped.kind == 'T' && stepped.count == counts[stores][half]);
+        }
+        CHECK(N.held == EMU_NONE_HELD && N.bc == 7);
+    }
+    transfer(EMU_PSW_S, 0xD001, 9);
+    N.mc = 0xFF11;
+    CHECK(emu_step(&now.s, &now.m, 1).count == 3 && N.held == EMU_NONE_HELD);
+    /* a waiting step and a refused half count none */
+    transfer(EMU_PSW_D, 0xC800, 9);
+    CHECK(emu_step(&now.s, &now.m, 0).count == 0);
+    now.m.sys_len = 0x1001;
+    CHECK(emu_step(&now.s, &now.m, 1).count == 1 && emu_step(&now.s, &now.m, 1).count == 0);
+}
+
+/* States that differ in what is held differ. */
+static void test_held_compared(void)
+{
+    reset();
+    want_same();
+    CHECK(emu_same_state(&now.s, &want.s) && !emu_holds(&now.s));
+    N.held = EMU_HELD;
+    CHECK(!emu_same_state(&now.s, &want.s) && emu_holds(&now.s));
+    W.held = EMU_HELD | 1;
+    CHECK(!emu_same_state(&now.s, &want.s));
+    N.held = W.held = EMU_NONE_HELD;
+    N2.held = EMU_HELD | 0xFF;
+    CHECK(!emu_same_state(&now.s, &want.s) && emu_holds(&now.s));
+}
+
+/* A run with DRQ up throughout: both halves are steps. */
+static void test_pair_run(void)
+{
+    static uint8_t bytes[0x100], ports[16];
+    struct emu_memory m = {bytes, sizeof bytes, ports, sizeof ports};
+    memset(bytes, 0, sizeof bytes);
+    put(bytes, sizeof bytes, 0, "03 00 10 00 00 00");
+    put(bytes, sizeof bytes, 0x10, "20 00 00 00");
+    /* MOVI GA,4; LPDI GB,80h,0; MOVI BC,5; MOVI CC,8808h; XFER; WID 8,16; HLT */
+    put(bytes, sizeof bytes, 0x20, "11 30 04 00 31 08 80 00 00 00 71 30 05 00 D1 30 08 88 60 00 A0 00 20 48");
+    ports[4] = 0x5A;
+    CHECK(emu_run(&m, 0, 1, 0, 100) == 1 * 65536 + 6);
+    put(bytes, sizeof bytes, 0, "03 00");
+    CHECK(emu_run(&m, 0, 1, 1, 100) == 1 * 65536 + 12);
+    for (unsigned i = 0; i < 6; i++) CHECK(bytes[0x80 + i] == (i < 5 ? 0x5A : 0));
+    /* at a limit between the halves nothing is stored yet of the second word */
+    memset(bytes + 0x80, 0, 8);
+    put(bytes, sizeof bytes, 0, "03 00");
+    CHECK(emu_run(&m, 0, 1, 1, 9) == 9);
+    CHECK(bytes[0x81] == 0x5A && bytes[0x82] == 0);
+}
+
+/* The counters of pairs and held bytes. */
+static void test_pair_coverage(void)
+{
+    static struct emu_coverage c;
+    memset(&c, 0, sizeof c);
+    emu_coverage = &c;
+    transfer(EMU_PSW_D, 0x8898, 3);
+    N.ga = (struct emu_pointer){0x2000, true};
+    now.m.io_len = 0;
+    now.m.sys_len = 0x2001;
+    CHECK(emu_step(&now.s, &now.m, 1).number == 0 && emu_step(&now.s, &now.m, 1).number == 2);
+    now.m.sys_len = 0x2002;
+    CHECK(emu_step(&now.s, &now.m, 1).number == 0);
+    transfer(EMU_PSW_S | EMU_PSW_D, 0xD002, 9);
+    N.gb.address = 0x2001;
+    N.mc = 0xFF11;
+    N2.held = EMU_HELD;
+    CHECK(emu_step(&now.s, &now.m, 1).number == 0);
+    N.psw |= EMU_PSW_XF;
+    N.held = EMU_HELD;
+    emu_set_cc(&N, 0xC800);
+    N.ga.address = 0x1000;
+    CHECK(emu_step(&now.s, &now.m, 1).number == 0);
+    N.held = EMU_HELD;
+    emu_set_cc(&N, 0xF800);
+    CHECK(emu_step(&now.s, &now.m, 1).number == 5);
+    block(1, 0);
+    CHECK(emu_attention(&now.s, &now.m, 1).number == 0);
+    emu_coverage = NULL;
+    CHECK(c.half_end[EMU_FIRST_FETCH][0] == 1 && c.half_end[EMU_SECOND_FETCH][EMU_END_TS] == 1);
+    CHECK(c.half_end[EMU_FIRST_STORE][EMU_END_TMC] == 1 && c.half_end[EMU_FIRST_STORE][0] == 0);
+    CHECK(c.half_side[EMU_FIRST_FETCH][EMU_SIDE_IO] == 1 && c.half_side[EMU_SECOND_FETCH][EMU_SIDE_IO] == 1);
+    CHECK(c.half_side[EMU_FIRST_STORE][EMU_SIDE_MOVES | EMU_SIDE_ODD] == 1);
+    CHECK(c.half_spared[EMU_FIRST_FETCH][EMU_SECOND_STORED] == 1);
+    CHECK(c.half_spared[EMU_FIRST_FETCH][EMU_FIRST_STORED] == 0);
+    CHECK(c.half_beyond[EMU_SECOND_FETCH][EMU_SECOND_STORED] == 1);
+    CHECK(c.half_beyond[EMU_SECOND_FETCH][EMU_FIRST_STORED] == 0);
+    CHECK(c.half_slot[EMU_FIRST_FETCH][EMU_FIRST_READ] == 1 && c.half_slot[EMU_SECOND_FETCH][EMU_SECOND_READ] == 1);
+    CHECK(c.leftover[1][0][EMU_LEFTOVER_OFF_MORE] == 1 && c.leftover[0][0][EMU_LEFTOVER_OFF_MORE] == 0);
+    CHECK(c.held_whole[EMU_WHOLE_SYNCHRONISED_WORD] == 1 && c.bad_transfer[1][0] == 1 && c.bad_transfer[0][0] == 0);
+    CHECK(c.held_attention[0] == 1 && c.held_refused[2] == 1 && c.held_refused[5] == 1);
+    CHECK(c.held_beside[EMU_BESIDE_TRANSFER] == 2 && c.held_beside[EMU_BESIDE_ATTENTION] == 1);
+}
+
 /* ---- Invariants over made-up calls ---- */
 
 /* A number from a fixed sequence. */
@@ -3413,9 +4156,10 @@ static void made_up_channel(struct emu_channel *c)
     c->psw = (uint8_t)made_up();
     c->mode = (enum emu_mode)(made_up() % 3);
     c->armed = made_up() % 4 == 0;
+    c->held = (uint16_t)(made_up() % 2 == 0 ? EMU_NONE_HELD : EMU_HELD | made_up() % 256);
 }
 
-/* Whether every 20-bit register of a state is one, and the fields are those of CC. */
+/* Whether every 20-bit register of a state is one, the fields are those of CC, and what is held is a byte or nothing. */
 static bool sound(const struct emu_state *s)
 {
     bool good = s->cp <= 0xFFFFF;
@@ -3424,6 +4168,7 @@ static bool sound(const struct emu_state *s)
         good = good && c->ga.address <= 0xFFFFF && c->gb.address <= 0xFFFFF && c->gc.address <= 0xFFFFF;
         good = good && c->tp.address <= 0xFFFFF && c->pp <= 0xFFFFF;
         good = good && emu_fields_value(&c->fields) == (c->cc & 0xFDFF);
+        good = good && (c->held == EMU_NONE_HELD || (c->held >= EMU_HELD && c->held <= 0x1FF));
     }
     return good;
 }
@@ -3457,7 +4202,7 @@ static void test_invariants(void)
             number = stepped.number;
             channel = stepped.channel;
             count = stepped.count;
-            least = stepped.kind == 'X' ? 0 : 2;
+            least = stepped.kind == 'X' ? 0 : stepped.kind == 'T' ? 1 : 2;
             most = stepped.kind == 'X' ? 0 : stepped.kind == 'T' ? 4 : 10;
         }
         numbers[number]++;
@@ -3628,7 +4373,7 @@ static void test_coverage(void)
     CHECK(strcmp(emu_row_name(emu_row_of(0x88, 0x20)), "JMP") == 0);
     CHECK(c.row[emu_row_of(0x88, 0x20)] == 1 && c.step_refused[3] == 1);
     CHECK(c.shape[EMU_SHAPE_W_B_CUT] == 1 && c.end[EMU_END_TMC | EMU_END_TS] == 1 && c.end_offset[1] == 1);
-    CHECK(c.leftover[0][EMU_LEFTOVER_TBC_MORE] == 1);
+    CHECK(c.leftover[0][0][EMU_LEFTOVER_TBC_MORE] == 1 && c.leftover[1][0][EMU_LEFTOVER_TBC_MORE] == 0);
     CHECK(c.external[2] == 1 && c.attention[6] == 1 && c.attention_refused[9] == 1);
     CHECK(c.apart[1][3] == 1 && c.apart_number[12] == 1 && c.apart_number[14] == 2 && c.apart_number[0] == 0);
     CHECK(c.apart_mode[1][EMU_IDLE] == 2 && c.apart_mode[0][EMU_SUSPENDED] == 1 && c.bit_9[0] + c.bit_9[1] == 0);
@@ -3695,8 +4440,22 @@ int main(void)
     test_counts_of_instructions();
     test_counts_of_attentions();
     test_counts_of_transfers();
+    test_pair_fetches();
+    test_pair_stores();
+    test_pair_requests();
+    test_pair_ends();
+    test_pair_cut();
+    test_pair_never();
+    test_held_kept();
+    test_held_dropped();
+    test_pair_refusals();
+    test_pair_slots();
+    test_counts_of_halves();
+    test_held_compared();
+    test_pair_run();
     test_invariants();
     test_coverage();
+    test_pair_coverage();
     printf("%lu checks, %lu failures\n", checks, failures);
     return failures == 0 ? 0 : 1;
 }

@@ -80,8 +80,15 @@ const struct script_register script_registers[SCRIPT_REGISTERS] = {
     [SET_MODE] = {"mode", 0, 2, false},       [SET_LAST] = {"last", 1, 2, true},
     [SET_UP] = {"up", 0, 1, true},            [SET_SYSBUS] = {"sysbus", 0, 1, true},
     [SET_SOC] = {"soc", 0, 1, true},          [SET_GRANT] = {"grant", 0, 1, true},
-    [SET_FIELDS] = {"fields", 0, 0xFFFF, false},
+    [SET_FIELDS] = {"fields", 0, 0xFFFF, false}, [SET_HELD] = {"held", EMU_HELD, EMU_HELD | 0xFF, false},
 };
+
+/* Whether a register takes a value. */
+static bool takes(unsigned which, uint32_t value)
+{
+    const struct script_register *r = &script_registers[which];
+    return (value >= r->least && value <= r->most) || (which == SET_HELD && value == EMU_NONE_HELD);
+}
 
 /* The register of this name, or SCRIPT_REGISTERS. */
 static unsigned find_register(struct text name)
@@ -121,6 +128,7 @@ static void set_register(struct session *s, uint32_t channel, unsigned which, ui
     case SET_SOC: s->state.io_wide = value != 0; break;
     case SET_GRANT: s->state.soc_1 = value != 0; break;
     case SET_FIELDS: ch->fields = emu_fields_of((uint16_t)value); break;
+    case SET_HELD: ch->held = (uint16_t)value; break;
     default: *session_address(s, channel, which) = value; break;
     }
 }
@@ -187,6 +195,7 @@ static unsigned call_make(struct session *s, const struct text *word, FILE *out)
     if (!number(word[1], SCRIPT_SYSTEM_ROOM, &sys_len) || !number(word[2], SCRIPT_IO_ROOM, &io_len)) return 0;
     if (!number(word[3], UINT32_MAX, &cp)) return 0;
     lend(s, sys_len, io_len);
+    s->tally.anew[ANEW_FRESH] += emu_holds(&s->state);
     unsigned answer = emu_fresh(cp, &s->state);
     s->tally.make[answer]++;
     fprintf(out, "make %u\n", answer);
@@ -214,9 +223,10 @@ static unsigned call_set(struct session *s, const struct text *word, FILE *out)
     unsigned which = find_register(word[2]);
     if (!number(word[1], 2, &channel) || which == SCRIPT_REGISTERS) return 0;
     const struct script_register *r = &script_registers[which];
-    if (r->shared != (channel == 0) || !number(word[3], r->most, &value) || value < r->least) return 0;
+    if (r->shared != (channel == 0) || !number(word[3], UINT32_MAX, &value) || !takes(which, value)) return 0;
     set_register(s, channel, which, value);
     s->tally.set[channel == 2][which]++;
+    s->tally.none_held[channel == 2] += which == SET_HELD && value == EMU_NONE_HELD;
     fputs("set 0\n", out);
     return 1;
 }
@@ -225,6 +235,7 @@ static unsigned call_set(struct session *s, const struct text *word, FILE *out)
 static unsigned call_reset(struct session *s, const struct text *word, FILE *out)
 {
     (void)word;
+    s->tally.anew[ANEW_RESET] += emu_holds(&s->state);
     emu_reset(&s->state);
     fputs("reset 0\n", out);
     return 1;
@@ -234,7 +245,9 @@ static unsigned call_reset(struct session *s, const struct text *word, FILE *out
 static unsigned call_power(struct session *s, const struct text *word, FILE *out)
 {
     (void)word;
+    bool held = emu_holds(&s->state);
     struct emu_answer a = emu_power_up(&s->state, &s->memory);
+    s->tally.anew[ANEW_POWER_UP] += held && a.number == EMU_DONE;
     s->answered = a.number;
     s->tally.power[a.number]++;
     s->tally.bytes[a.number == EMU_DONE ? BYTES_OF_POWER_UP : BYTES_OF_REFUSED][a.count]++;
@@ -294,7 +307,7 @@ static void print_channel(const struct session *s, unsigned channel, FILE *out)
     print_pointer("tp", ch->tp, out);
     fprintf(out, " pp %08" PRIx32 " bc %04x ix %04x", ch->pp, ch->bc, ch->ix);
     fprintf(out, " cc %04x fields %04x mc %04x", ch->cc, emu_fields_value(&ch->fields), ch->mc);
-    fprintf(out, " psw %02x mode %d arm %d\n", ch->psw, (int)ch->mode, ch->armed);
+    fprintf(out, " psw %02x mode %d arm %d held %04x\n", ch->psw, (int)ch->mode, ch->armed, ch->held);
 }
 
 /* Prints a buffer's length and digest. */

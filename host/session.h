@@ -27,10 +27,10 @@ enum script_name {
     SET_GA, SET_GB, SET_GC, SET_TP, SET_PP, SET_CP, SCRIPT_ADDRESSES,
     SET_BC = SCRIPT_ADDRESSES, SET_IX, SET_CC, SET_MC, SET_PSW,
     SET_GA_TAG, SET_GB_TAG, SET_GC_TAG, SET_TP_TAG, SET_ARM, SET_MODE, SET_LAST,
-    SET_UP, SET_SYSBUS, SET_SOC, SET_GRANT, SET_FIELDS, SCRIPT_REGISTERS
+    SET_UP, SET_SYSBUS, SET_SOC, SET_GRANT, SET_FIELDS, SET_HELD, SCRIPT_REGISTERS
 };
 
-/* A register's name, the values that it takes, and whether it is shared (channel 0). */
+/* A register's name, the values that it takes (what is held takes 0 besides), and whether it is shared (channel 0). */
 struct script_register {
     const char *name;
     uint32_t least, most;
@@ -50,6 +50,7 @@ struct tally {
     unsigned long stepped_under[16];
     unsigned long bytes[BYTES_KINDS][BYTES_COUNTS];
     unsigned long set[2][SCRIPT_REGISTERS];
+    unsigned long none_held[2], anew[ANEWS];
     struct emu_coverage coverage;
 };
 

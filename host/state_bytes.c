@@ -2,7 +2,7 @@
 #include "state_bytes.h"
 
 /* Offsets of the layout. */
-enum { AT_CP = 1, AT_LAST = 5, AT_BOARD = 6, AT_CHANNELS = 10, BLOCK = 45, VERSION = 3 };
+enum { AT_CP = 1, AT_LAST = 5, AT_BOARD = 6, AT_CHANNELS = 10, BLOCK = 47, VERSION = 4 };
 
 /* Of a block: a byte with a range, where it is and the smallest value out of range. */
 struct mark {
@@ -15,6 +15,7 @@ static const struct mark marks[CHANNEL_MARKS] = {
     {"mode", 33, 3},         {"armed", 34, 2},    {"destination moves", 35, 2}, {"source moves", 36, 2},
     {"translate", 37, 2},    {"SYN", 38, 4},      {"source is GB", 39, 2},     {"chained", 40, 2},
     {"TS", 41, 2},           {"TX", 42, 4},       {"TBC", 43, 4},              {"TMC", 44, 8},
+    {"held", 46, 2},         {"a byte, and none held", 45, 1},
 };
 
 /* The mark of its channel that a fault is about. */
@@ -36,6 +37,11 @@ size_t state_fault_at(enum state_fault fault)
     if (fault == FAULT_LAST) return AT_LAST;
     if (fault < FAULT_CHANNEL_1) return AT_BOARD + (size_t)(fault - FAULT_BOARD);
     return (fault < FAULT_CHANNEL_2 ? AT_CHANNELS : AT_CHANNELS + BLOCK) + (size_t)mark_of(fault)->at;
+}
+
+bool state_fault_of_byte(enum state_fault fault)
+{
+    return fault == FAULT_BYTE_1 || fault == FAULT_BYTE_2;
 }
 
 uint8_t state_fault_from(enum state_fault fault)
@@ -120,6 +126,7 @@ static struct emu_channel channel_at(const uint8_t *block)
     c.mode = (enum emu_mode)block[33];
     c.armed = block[34] == 1;
     c.fields = fields_at(block + 35);
+    c.held = (uint16_t)number_at(block + 45, 2);
     return c;
 }
 
@@ -139,6 +146,15 @@ static void put_channel(uint8_t *block, const struct emu_channel *c)
     block[33] = (uint8_t)c->mode;
     block[34] = c->armed ? 1 : 0;
     put_fields(block + 35, &c->fields);
+    put_number(block + 45, 2, c->held);
+}
+
+/* Whether a byte of a state is out of its range. */
+static bool is_faulty(const uint8_t *bytes, enum state_fault fault)
+{
+    size_t at = state_fault_at(fault);
+    bool ranged = !state_fault_of_byte(fault) || bytes[at + 1] == 0;
+    return ranged && bytes[at] >= state_fault_from(fault);
 }
 
 enum state_fault state_from_bytes(const uint8_t *bytes, size_t length, struct emu_state *out)
@@ -146,7 +162,7 @@ enum state_fault state_from_bytes(const uint8_t *bytes, size_t length, struct em
     if (length != STATE_BYTES) return FAULT_LENGTH;
     if (bytes[0] != VERSION) return FAULT_VERSION;
     for (enum state_fault fault = FAULT_LAST; fault < STATE_FAULTS; fault++)
-        if (bytes[state_fault_at(fault)] >= state_fault_from(fault)) return fault;
+        if (is_faulty(bytes, fault)) return fault;
     out->cp = number_at(bytes + AT_CP, 4);
     out->last = bytes[AT_LAST] + 1u;
     out->powered = bytes[AT_BOARD] == 1;

@@ -37,7 +37,8 @@ static const char options[] =
     "  -board          reset and power-up in its place: the board's bytes at FFFF6h name the control block\n"
     "  -channel N      channel that gets attention, 1 or 2 (1); for step twice: both, in this order\n"
     "  -lines N        sum of DRQ1 = 1, DRQ2 = 2, EXT1 = 4, EXT2 = 8, held throughout (0)\n"
-    "  -limit N        most steps (1000)\n"
+    "  -lines N,N..    for step: in turn, one for each step that is tried; where a channel waits, the next one is tried\n"
+    "  -limit N        most steps (1000); under several line numbers, most that are tried\n"
     "  -show FROM N    shows N bytes of system memory from FROM on, as they are at the end; -show-io, of I/O memory\n"
     "  -from N, -count N   for list: the bytes to be listed (all)\n"
     "  -first N        for list: the address of the first of them, from which jump targets count (the same as -from)\n"
@@ -81,7 +82,7 @@ static int ended(enum tool_status status)
 
 int main(int count, char **words)
 {
-    struct tool_order order = {.system_length = UINT32_MAX, .io_length = UINT32_MAX, .limit = 1000,
+    struct tool_order order = {.system_length = UINT32_MAX, .io_length = UINT32_MAX, .limit = 1000, .line_numbers = 1,
                                .count = UINT32_MAX, .first = UINT32_MAX};
     if (count < 2) tool_usage("no command", NULL);
     if (strcmp(words[1], "help") == 0) {

@@ -9,8 +9,8 @@
 /* The most bytes of a file and of lent memory; I/O memory's own limit is lower, so that 11 can be seen. */
 #define TOOL_MOST 1048576u
 
-/* How many files, shown ranges and channels a command takes. */
-enum { TOOL_FILES = 16, TOOL_SHOWN = 16, TOOL_CHANNELS = 2 };
+/* How many files, shown ranges, channels and line numbers a command takes. */
+enum { TOOL_FILES = 16, TOOL_SHOWN = 16, TOOL_CHANNELS = 2, TOOL_LINES = 16 };
 
 /* What a command ends with: done or halted, refused or waiting, and what is no answer of the machine at all. */
 enum tool_status { TOOL_DONE = 0, TOOL_REFUSED = 1, TOOL_FAILED = 2 };
@@ -32,10 +32,10 @@ struct tool_range {
 struct tool_order {
     struct tool_file file[TOOL_FILES];
     struct tool_range shown[TOOL_SHOWN];
-    uint32_t channel[TOOL_CHANNELS];
-    unsigned files, ranges, channels;
+    uint32_t channel[TOOL_CHANNELS], lines[TOOL_LINES];
+    unsigned files, ranges, channels, line_numbers;
     const char *io_image;
-    uint32_t system_length, io_length, cp, lines, limit;
+    uint32_t system_length, io_length, cp, limit;
     uint32_t from, count, first;
     bool source, board, has_cp;
 };

@@ -45,6 +45,13 @@ static void print_tp(const uint8_t *state, unsigned channel)
     printf("%05" PRIX32 "%s", iop89_get(state, channel, IOP89_TP), space);
 }
 
+/* Prints what a channel holds between the halves of a pair: the byte, or that there is none. */
+static void print_held(uint32_t held)
+{
+    if (held == 0) fputs(" held=none", stdout);
+    else printf(" held=%02" PRIX32, held & 0xFFu);
+}
+
 /* Prints every register of a channel that is not what it was, TP left aside. */
 static void print_changes(const uint8_t *before, const uint8_t *state, unsigned channel)
 {
@@ -55,6 +62,8 @@ static void print_changes(const uint8_t *before, const uint8_t *state, unsigned 
         printf(" %s=%0*" PRIX32 "%s", registers[i].name, registers[i].digits, value, tag != 0 ? "/io" : "");
     }
     uint32_t mode = iop89_get(state, channel, IOP89_MODE), armed = iop89_get(state, channel, IOP89_ARMED);
+    uint32_t held = iop89_get(state, channel, IOP89_HELD);
+    if (held != iop89_get(before, channel, IOP89_HELD)) print_held(held);
     if (mode != iop89_get(before, channel, IOP89_MODE)) printf(" %s", mode_name(mode));
     if (armed != iop89_get(before, channel, IOP89_ARMED)) printf(" %s", armed ? "armed" : "unarmed");
 }
@@ -141,7 +150,7 @@ static void state_behind(const struct tool_order *order, struct tool_memory agai
 {
     make_state(order, state, &again);
     attend(state, &again, order->channel[0]);
-    for (uint32_t i = 0; i < steps; i++) step(state, &again, order->lines);
+    for (uint32_t i = 0; i < steps; i++) step(state, &again, order->lines[0]);
 }
 
 /* Whether a run with this number came as far as its attention. */
@@ -154,11 +163,12 @@ enum tool_status tool_run(const struct tool_order *order)
 {
     uint8_t state[IOP89_STATE_LENGTH];
     if (order->channels > 1) tool_usage("run starts one channel", NULL);
+    if (order->line_numbers > 1) tool_usage("run takes one line number", NULL);
     struct tool_memory memory = tool_load(order), again = tool_copy(memory);
     uint32_t answer = order->board ? iop89_board(memory.sys, memory.sys_len, memory.io, memory.io_len,
-                                                 order->channel[0], order->lines, order->limit)
+                                                 order->channel[0], order->lines[0], order->limit)
                                    : iop89_run(memory.sys, memory.sys_len, memory.io, memory.io_len, order->cp,
-                                               order->channel[0], order->lines, order->limit);
+                                               order->channel[0], order->lines[0], order->limit);
     unsigned number = IOP89_NUMBER(answer);
     if (was_started(number)) state_behind(order, again, IOP89_STEPS(answer), state);
     else iop89_fresh(state, IOP89_STATE_LENGTH, 0);
@@ -172,19 +182,40 @@ enum tool_status tool_run(const struct tool_order *order)
 
 /* ---- Call by call ---- */
 
-/* Does steps up to the limit, a line for each; answers the number that stopped them. */
+/* Prints a done step: its number, what it was, and the registers that it changed. */
+static void print_step(uint32_t number, uint32_t answer, const uint8_t *before, const uint8_t *state)
+{
+    unsigned channel = IOP89_ANSWER_CHANNEL(answer);
+    printf("%" PRIu32 " %u %c %u ", number, channel, "-ITX"[IOP89_ANSWER_KIND(answer)], IOP89_ANSWER_COUNT(answer));
+    print_tp(state, channel);
+    print_changes(before, state, channel);
+    putchar('\n');
+}
+
+/* Prints a step that was tried while every running channel waited, a line for each of them. */
+static void print_waiting(uint32_t number, const uint8_t *state)
+{
+    for (unsigned channel = 1; channel <= 2; channel++) {
+        if (iop89_get(state, channel, IOP89_MODE) != IOP89_RUNNING) continue;
+        printf("%" PRIu32 " %u - 0 ", number, channel);
+        print_tp(state, channel);
+        puts(" waits");
+    }
+}
+
+/* Tries steps up to the limit, their line numbers in turn and a line for each; answers the number that stopped them.
+ * Under one line number a channel that waits would wait for ever; under several the next may be what it waits for. */
 static unsigned step_lines(const struct tool_order *order, uint8_t *state, struct tool_memory *memory)
 {
     uint8_t before[IOP89_STATE_LENGTH];
     for (uint32_t i = 0; i < order->limit; i++) {
         memcpy(before, state, sizeof before);
-        uint32_t answer = step(state, memory, order->lines);
-        unsigned channel = IOP89_ANSWER_CHANNEL(answer);
-        if (IOP89_ANSWER_NUMBER(answer) != IOP89_DONE) return IOP89_ANSWER_NUMBER(answer);
-        printf("%" PRIu32 " %u %c %u ", i + 1, channel, "-ITX"[IOP89_ANSWER_KIND(answer)], IOP89_ANSWER_COUNT(answer));
-        print_tp(state, channel);
-        print_changes(before, state, channel);
-        putchar('\n');
+        uint32_t answer = step(state, memory, order->lines[i % order->line_numbers]);
+        unsigned number = IOP89_ANSWER_NUMBER(answer);
+        bool goes_on = number == IOP89_NO_CHANNEL && order->line_numbers > 1 && waits(state);
+        if (number == IOP89_DONE) print_step(i + 1, answer, before, state);
+        else if (goes_on) print_waiting(i + 1, state);
+        else return number;
     }
     return IOP89_DONE;
 }

@@ -17,21 +17,27 @@ static unsigned digit(char c)
     return 16;
 }
 
-/* The number that a word writes: decimal, or hexadecimal behind 0x; a leading 0 alone means nothing. */
-static uint32_t number_of(const char *option, const char *word)
+/* The number that some characters of a word write: decimal, or hexadecimal behind 0x; a leading 0 alone means nothing. */
+static uint32_t number_in(const char *word, const char *from, size_t length)
 {
-    if (word == NULL) tool_usage("a number is missing behind", option);
-    bool hex = word[0] == '0' && (word[1] == 'x' || word[1] == 'X');
+    bool hex = length >= 2 && from[0] == '0' && (from[1] == 'x' || from[1] == 'X');
     unsigned base = hex ? 16 : 10;
     uint64_t value = 0;
-    const char *at = hex ? word + 2 : word;
-    if (*at == '\0') tool_usage("not a number", word);
-    for (; *at != '\0'; at++) {
-        if (digit(*at) >= base) tool_usage("not a number", word);
-        value = value * base + digit(*at);
+    size_t at = hex ? 2 : 0;
+    if (at == length) tool_usage("not a number", word);
+    for (; at < length; at++) {
+        if (digit(from[at]) >= base) tool_usage("not a number", word);
+        value = value * base + digit(from[at]);
         if (value > UINT32_MAX) tool_usage("a number over 4,294,967,295", word);
     }
     return (uint32_t)value;
+}
+
+/* The number that a whole word writes. */
+static uint32_t number_of(const char *option, const char *word)
+{
+    if (word == NULL) tool_usage("a number is missing behind", option);
+    return number_in(word, word, strlen(word));
 }
 
 /* The number behind an option, held to the most that it may be. */
@@ -48,10 +54,23 @@ static uint32_t length_of(const char *option, const char *word)
 static uint32_t *place_of(struct tool_order *order, const char *option)
 {
     if (strcmp(option, "-cp") == 0) return &order->cp;
-    if (strcmp(option, "-lines") == 0) return &order->lines;
     if (strcmp(option, "-limit") == 0) return &order->limit;
     if (strcmp(option, "-first") == 0) return &order->first;
     return NULL;
+}
+
+/* Takes the line numbers of a word, with commas between them. */
+static void take_lines(struct tool_order *order, const char *word)
+{
+    if (word == NULL) tool_usage("a number is missing behind", "-lines");
+    order->line_numbers = 0;
+    for (const char *from = word;; from++) {
+        size_t length = strcspn(from, ",");
+        if (order->line_numbers == TOOL_LINES) tool_usage("more than 16 line numbers", word);
+        order->lines[order->line_numbers++] = number_in(word, from, length);
+        from += length;
+        if (*from == '\0') return;
+    }
 }
 
 /* Adds a channel. */
@@ -85,6 +104,7 @@ static int take_option(struct tool_order *order, char **words, uint32_t *at)
     }
     if (strcmp(words[0], "-cp") == 0) order->has_cp = true;
     if (place != NULL) *place = number_of(words[0], words[1]);
+    else if (strcmp(words[0], "-lines") == 0) take_lines(order, words[1]);
     else if (strcmp(words[0], "-at") == 0) *at = length_of(words[0], words[1]);
     else if (strcmp(words[0], "-from") == 0) order->from = length_of(words[0], words[1]);
     else if (strcmp(words[0], "-count") == 0) order->count = length_of(words[0], words[1]);

@@ -148,6 +148,7 @@ static uint32_t some_value(struct writer *w, unsigned which)
     if (which < SCRIPT_ADDRESSES) return chance(&w->d, 700) ? data_place(w, false) : below(&w->d, EMU_SYSTEM_LIMIT);
     if (which == SET_CC || which == SET_FIELDS) return transfer_cc(&w->d);
     if (which == SET_UP) return 1;
+    if (which == SET_HELD && chance(&w->d, 300)) return EMU_NONE_HELD;
     return r->least + below(&w->d, r->most - r->least + 1);
 }
 
@@ -172,11 +173,11 @@ static void mend_fields(struct writer *w)
     }
 }
 
-/* Sets any register; CC and its fields both, where it is one of them. */
+/* Sets the next register; CC and its fields both, where it is one of them. */
 static void set_any(struct writer *w)
 {
     uint32_t channel = some_channel(w);
-    unsigned which = below(&w->d, SCRIPT_REGISTERS);
+    unsigned which = w->set_turn++ % SCRIPT_REGISTERS;
     uint32_t value = some_value(w, which);
     if (which == SET_CC || which == SET_FIELDS) set_cc(w, channel, value);
     else set(w, channel, which, value);
@@ -280,17 +281,52 @@ static void transfer_once(struct writer *w, uint32_t channel, uint32_t cc)
         step(w, good_lines(w, 250) | 1u << (channel - 1));
 }
 
-/* Lets a channel search words for a pattern, with hardly any or no count left, and store them as bytes. */
-static void search_once(struct writer *w, uint32_t channel)
+/* Sets what a channel holds to none, where it holds a byte. */
+static void let_go(struct writer *w, uint32_t channel)
 {
-    uint32_t cc = search_cc(&w->d);
+    if (channel_of(w, channel)->held != EMU_NONE_HELD) set(w, channel, SET_HELD, EMU_NONE_HELD);
+}
+
+/* Lets a channel hold some byte. */
+static void let_hold(struct writer *w, uint32_t channel)
+{
+    set(w, channel, SET_HELD, EMU_HELD | below(&w->d, 256));
+}
+
+/* How a search begins: TBC, TMC without its bit 2, and BC. */
+struct search {
+    uint32_t tbc, tmc, bc;
+};
+
+/* A search whose first byte meets TMC with this count left. */
+static struct search search_with(struct writer *w, unsigned leftover)
+{
+    uint32_t code = 1 + below(&w->d, 3), less = 1 + below(&w->d, 2), more = less + 1 + below(&w->d, 3 - less);
+    struct search off = {0, code, leftover - EMU_LEFTOVER_OFF_0}, on = {code, 1 + below(&w->d, 3), 0};
+    struct search count = {more, less, 2}, match = {less, more, 2}, same = {code, code, 2};
+    if (leftover == EMU_LEFTOVER_TBC_2_COUNT) return count;
+    if (leftover == EMU_LEFTOVER_TBC_2_MATCH) return match;
+    if (leftover == EMU_LEFTOVER_TBC_2_SAME) return same;
+    if (leftover == EMU_LEFTOVER_TBC_MORE) on.bc = 3 + below(&w->d, 6);
+    return leftover < EMU_LEFTOVER_OFF_0 ? on : off;
+}
+
+/* Lets a channel search words for a pattern and store them as bytes, with a request for each or without; the counts that
+   are left take turns. */
+static void search_in_turn(struct writer *w, uint32_t channel)
+{
+    unsigned turn = w->search_turn++;
+    bool asking = turn % 2 != 0, none = turn / 2 % 2 != 0;
+    struct search s = search_with(w, turn / 4 % EMU_LEFTOVERS);
+    uint32_t cc = (search_cc(&w->d) & ~0x1Fu) | (asking ? 2u << 11 : 0) | s.tbc << 3 | (none ? 4u : 0) | s.tmc;
     unsigned source = (cc >> 10 & 1u) != 0 ? SET_GB : SET_GA;
     set(w, channel, source, *session_address(&w->s, channel, source) & ~1u);
-    set(w, channel, SET_BC, search_count(&w->d));
+    set(w, channel, SET_BC, s.bc);
     set(w, channel, SET_MC, search_mc(&w->d, cc));
     set_cc(w, channel, cc);
     set(w, channel, SET_PSW, (EMU_PSW_XF | EMU_PSW_TB | EMU_PSW_S | below(&w->d, 256)) & ~(uint32_t)EMU_PSW_D);
-    step(w, good_lines(w, 50));
+    if (asking) let_go(w, channel);
+    step(w, good_lines(w, 50) | (asking ? channel : 0));
 }
 
 /* Points a channel's pointers at data and lets it transfer, mostly without the other channel. */
@@ -304,7 +340,7 @@ static void transfer(struct writer *w)
     point(w, channel, SET_GB);
     if (chance(&w->d, 300)) point(w, channel, SET_GC);
     for (unsigned i = 1 + below(&w->d, 3); i > 0; i--) transfer_once(w, channel, any_cc(w));
-    for (unsigned i = 1 + below(&w->d, 4); i > 0; i--) search_once(w, channel);
+    for (unsigned i = 2 + below(&w->d, 4); i > 0; i--) search_in_turn(w, channel);
 }
 
 /* ---- What comes next ---- */
@@ -323,6 +359,7 @@ static void try_instructions(struct writer *w, uint32_t channel)
     const struct emu_channel *ch = channel_of(w, channel);
     if (chance(&w->d, 700)) point(w, channel, some_pointer(w));
     if (chance(&w->d, 300)) set(w, channel, SET_IX, below(&w->d, 64));
+    if (chance(&w->d, 200)) let_hold(w, channel);
     if (transfers(w, channel)) set(w, channel, SET_PSW, ch->psw & ~(uint32_t)EMU_PSW_XF);
     if (ch->mode != EMU_RUNNING) set(w, channel, SET_MODE, EMU_RUNNING);
     struct program *p = fresh_program(w);
@@ -341,6 +378,199 @@ static void execute_at(struct writer *w, uint32_t channel, bool in_io, uint32_t 
     set(w, channel, SET_TP_TAG, in_io);
     set(w, channel, SET_TP, tp);
 }
+
+/* ---- Pairs and held bytes ---- */
+
+/* A transfer of pairs in the making: whether its stores are asked for or its fetches, the two sides, and CC. */
+struct pair {
+    uint32_t channel;
+    bool stores, moves, odd;
+    bool asking_in_io, word_in_io;
+    uint32_t asking, word, cc, bc, mc;
+};
+
+/* A pair of the next kind of side that asks, somewhere in lent memory or, of I/O space, behind it; no end is on. */
+static struct pair new_pair(struct writer *w, unsigned turn)
+{
+    struct pair p = {.channel = some_channel(w), .stores = turn % 2 != 0, .bc = 4 + below(&w->d, 8)};
+    unsigned kind = turn / 2 % EMU_SIDES;
+    uint32_t edge = (uint32_t)w->s.memory.io_len, most = edge > 64 ? edge : 64;
+    p.moves = (kind & EMU_SIDE_MOVES) != 0;
+    p.odd = (kind & EMU_SIDE_ODD) != 0;
+    p.asking_in_io = (kind & EMU_SIDE_IO) != 0;
+    p.word_in_io = chance(&w->d, 200);
+    p.asking = p.asking_in_io && chance(&w->d, 800) ? below(&w->d, most) : 32 + below(&w->d, 16);
+    p.word = p.word_in_io && chance(&w->d, 800) ? below(&w->d, most) : 48 + below(&w->d, 30);
+    p.cc = (p.stores ? 2u : 1u) << 11 | below(&w->d, 8) << 8;
+    p.cc |= (p.moves ? 1u : 0) << (p.stores ? 15 : 14) | below(&w->d, 2) << (p.stores ? 14 : 15);
+    return p;
+}
+
+/* Puts a channel into a transfer of pairs by its registers, mostly alone, and holding no byte yet. */
+static void set_pair(struct writer *w, const struct pair *p)
+{
+    bool source_is_gb = (p->cc >> 10 & 1u) != 0, asking_is_gb = p->stores != source_is_gb;
+    unsigned asking = asking_is_gb ? SET_GB : SET_GA, word = asking_is_gb ? SET_GA : SET_GB;
+    uint32_t widths = p->odd ? EMU_PSW_S | EMU_PSW_D : p->stores ? EMU_PSW_S : EMU_PSW_D;
+    uint32_t other = 3 - p->channel;
+    if (channel_of(w, other)->mode == EMU_RUNNING && chance(&w->d, 900)) set(w, other, SET_MODE, EMU_IDLE);
+    set(w, p->channel, SET_MODE, EMU_RUNNING);
+    set(w, p->channel, asking, p->odd ? p->asking | 1u : p->asking);
+    set(w, p->channel, asking - SET_GA + SET_GA_TAG, p->asking_in_io);
+    set(w, p->channel, word, p->word & ~1u);
+    set(w, p->channel, word - SET_GA + SET_GA_TAG, p->word_in_io);
+    set(w, p->channel, SET_BC, p->bc);
+    set(w, p->channel, SET_MC, p->mc);
+    set_cc(w, p->channel, p->cc);
+    set(w, p->channel, SET_PSW, (below(&w->d, 256) & ~3u) | EMU_PSW_XF | EMU_PSW_TB | widths);
+    let_go(w, p->channel);
+}
+
+/* The byte at a place as a processor reads it; 0 of system space where none is lent. */
+static uint8_t byte_at(const struct writer *w, bool in_io, uint32_t address)
+{
+    const struct emu_memory *m = &w->s.memory;
+    uint32_t at = address & (in_io ? 0xFFFFu : MASK20);
+    if (at >= (in_io ? m->io_len : m->sys_len)) return in_io ? 0xFF : 0;
+    return (in_io ? m->io : m->sys)[at];
+}
+
+/* Lets TMC be met by the byte that the first fetch reads, or by one of two stores, mostly the second, and not by the other. */
+static void let_meet(struct writer *w, struct pair *p, bool on_no_match)
+{
+    uint32_t first_read = p->odd ? p->asking | 1u : p->asking, word = p->word & ~1u;
+    uint8_t met = byte_at(w, p->asking_in_io, first_read), other = met ^ 1u;
+    if (p->stores) {
+        unsigned late = chance(&w->d, 600) ? 1 : 0;
+        uint8_t bytes[2] = {(uint8_t)below(&w->d, 256), 0};
+        bytes[1] = bytes[0] ^ (uint8_t)(1 + below(&w->d, 255));
+        place(w, p->word_in_io, word, bytes, sizeof bytes);
+        met = byte_at(w, p->word_in_io, word + late);
+        other = byte_at(w, p->word_in_io, word + 1 - late);
+    }
+    p->mc = 0xFF00u | (on_no_match ? other : met);
+}
+
+/* Lets a pair end so. */
+static void let_end(struct writer *w, struct pair *p, unsigned ends)
+{
+    uint32_t none = below(&w->d, 2);
+    let_meet(w, p, none != 0);
+    if ((ends & EMU_END_TMC) != 0) p->cc |= none << 2 | (1 + below(&w->d, 3));
+    if ((ends & EMU_END_TBC) != 0) p->cc |= (1 + below(&w->d, 3)) << 3, p->bc = 2;
+    if ((ends & EMU_END_TS) != 0) p->cc |= 1u << 7;
+}
+
+/* Calls something between the halves of a pair that lets the held byte be. */
+static void interrupt_pair(struct writer *w, uint32_t channel)
+{
+    unsigned kind = below(&w->d, 6);
+    if (kind == 0) step(w, good_lines(w, 0) & ~channel);
+    else if (kind == 1) command(w, channel, 0);
+    else if (kind == 2) command(w, 3 - channel, below(&w->d, 8));
+    else if (kind < 5) {
+        command(w, channel, 6);
+        if (chance(&w->d, 200)) step(w, good_lines(w, 0));
+        command(w, channel, 5);
+    } else give_odd_attention(w);
+}
+
+/* Makes the halves of one pair, the side that asks and the ends taking turns, at times with something between them. */
+static void pair_in_turn(struct writer *w)
+{
+    unsigned turn = w->pair_turn++;
+    struct pair p = new_pair(w, turn);
+    let_end(w, &p, turn / 2 % (EMU_END_SETS + 1) % EMU_END_SETS);
+    set_pair(w, &p);
+    step(w, p.channel);
+    if (chance(&w->d, 300)) interrupt_pair(w, p.channel);
+    step(w, p.channel);
+}
+
+/* Makes one half of a pair of which a byte or two are not lent: of the side that asks, its second or both, or its first
+   where the second wraps; of the word side, its second, twice since that wants an odd length, or both; the sides and
+   halves take turns. */
+static void edge_in_turn(struct writer *w)
+{
+    enum { ASKING_GONE, ASKING_OVER, ASKING_WRAPS, WORD_GONE, WORD_OVER, WORD_OVER_AGAIN, EDGES };
+    unsigned turn = w->edge_turn++, edge = turn / 4 % EDGES;
+    bool in_io = chance(&w->d, 300);
+    uint32_t length = (uint32_t)(in_io ? w->s.memory.io_len : w->s.memory.sys_len);
+    struct pair p = new_pair(w, turn % 2);
+    if (edge >= WORD_GONE) p.word_in_io = in_io;
+    else p.asking_in_io = in_io;
+    if (edge == ASKING_GONE) p.asking = length;
+    if (edge == ASKING_OVER) p.asking = length - 1;
+    if (edge == ASKING_WRAPS) p.asking = MASK20;
+    if (edge == WORD_GONE) p.word = length + 1;
+    if (edge >= WORD_OVER) p.word = length - 1;
+    p.asking &= MASK20;
+    p.word &= MASK20;
+    if (edge == ASKING_OVER || edge == ASKING_WRAPS) p.cc |= 1u << (p.stores ? 15 : 14);
+    set_pair(w, &p);
+    if (turn / 2 % 2 != 0) let_hold(w, p.channel);
+    step(w, p.channel);
+}
+
+/* Lets a channel take a command that is accepted in this mode, while it holds a byte. */
+static void command_holding(struct writer *w, uint32_t channel, enum emu_mode mode, unsigned bits)
+{
+    set(w, channel, SET_MODE, (uint32_t)mode);
+    set(w, channel, SET_PP, 16 + below(&w->d, 32));
+    let_hold(w, channel);
+    if (bits != 1 && bits != 3) command(w, channel, bits);
+    else {
+        w->program_in_io[channel - 1] = bits == 1;
+        start(w, channel);
+    }
+}
+
+/* Makes a transfer step that is no half, or one that 5 refuses, by a channel that holds a byte or, refused, by one that
+   holds none. */
+static void step_holding(struct writer *w, unsigned kind)
+{
+    enum { UNSYNCHRONISED, NO_WORD, SYNCHRONISED_WORD, LAST_BYTE, SYN_11, TRANSLATION };
+    struct pair p = new_pair(w, below(&w->d, 2));
+    p.word_in_io = p.asking_in_io = false;
+    if (kind == UNSYNCHRONISED) p.cc &= ~(3u << 11);
+    if (kind == SYNCHRONISED_WORD) p.cc ^= 3u << 11;
+    if (kind == LAST_BYTE) p.cc |= (1 + below(&w->d, 3)) << 3, p.bc = 1;
+    if (kind == SYN_11) p.cc |= 3u << 11;
+    if (kind == TRANSLATION) p.cc |= 1u << 13;
+    set_pair(w, &p);
+    if (kind == NO_WORD) set(w, p.channel, SET_PSW, EMU_PSW_XF | EMU_PSW_TB);
+    if (kind < SYN_11 || chance(&w->d, 500)) let_hold(w, p.channel);
+    step(w, p.channel);
+}
+
+/* Lets a held byte meet what drops or keeps it, each in its turn. */
+static void hold_in_turn(struct writer *w)
+{
+    static const enum emu_mode taken[8] = {EMU_IDLE, EMU_SUSPENDED, EMU_IDLE,    EMU_IDLE,
+                                           EMU_IDLE, EMU_SUSPENDED, EMU_RUNNING, EMU_RUNNING};
+    static const uint8_t nop[] = {0, 0};
+    uint32_t channel = some_channel(w), tp = 16 + below(&w->d, 32);
+    unsigned kind = w->held_turn++ % 16;
+    if (kind == 2) {
+        execute_at(w, channel, false, tp);
+        place(w, false, tp, nop, sizeof nop);
+        let_hold(w, channel);
+        step(w, 0);
+    } else if (kind == 4) {
+        execute_at(w, channel, false, tp);
+        set_cc(w, channel, any_cc(w) | 1u << 5);
+        set(w, channel, SET_PSW, transfer_psw(w, 0));
+        let_hold(w, channel);
+        step(w, 4u << (channel - 1) | below(&w->d, 4));
+    } else if (kind < 8) command_holding(w, channel, taken[kind], kind);
+    else if (kind < 14) step_holding(w, kind - 8);
+    else {
+        let_hold(w, channel);
+        give_command(w);
+    }
+}
+
+/* ---- Empty slots and single instructions ---- */
 
 /* Puts an instruction of which some bytes are cut off at the end of I/O memory, and steps. */
 static void execute_into_slots(struct writer *w, uint32_t channel)
@@ -406,9 +636,9 @@ static void meet_slots(struct writer *w)
 {
     unsigned kind = below(&w->d, 1000);
     if (w->s.memory.io_len >= EMU_IO_LIMIT) return;
-    if (kind < 300) execute_into_slots(w, some_channel(w));
-    else if (kind < 500) transfer_over_edge(w, some_channel(w));
-    else if (kind < 570) translate_in_slots(w, some_channel(w));
+    if (kind < 400) execute_into_slots(w, some_channel(w));
+    else if (kind < 560) transfer_over_edge(w, some_channel(w));
+    else if (kind < 660) translate_in_slots(w, some_channel(w));
     else work_in_slots(w, some_channel(w));
 }
 
@@ -492,6 +722,7 @@ static void start_over(struct writer *w)
 {
     if (chance(&w->d, 700)) say(w, "reset");
     else set(w, 0, SET_UP, 0);
+    if (chance(&w->d, 850)) let_hold(w, some_channel(w));
     for (unsigned i = 1 + below(&w->d, 3); i > 0; i--) {
         if (chance(&w->d, 500)) say(w, "ca %u", (unsigned)some_channel(w));
         else step(w, below(&w->d, 18));
@@ -534,12 +765,16 @@ static void list(struct writer *w)
     say(w, "list %d %s %s", in_io, number(w, at).text, number(w, count).text);
 }
 
-/* The hexadecimal text of bytes at a place for data. */
+/* The characters of an end record: colon, ten digits, line feed. */
+enum { END_RECORD = 12 };
+
+/* The hexadecimal text of bytes at a place for data, at times without its end record. */
 static size_t some_image(struct writer *w, char *file)
 {
     uint8_t bytes[64];
     fill(&w->d, bytes, sizeof bytes);
-    return hex_image((uint8_t *)file, bytes, 1 + below(&w->d, sizeof bytes), data_place(w, false));
+    size_t length = hex_image((uint8_t *)file, bytes, 1 + below(&w->d, sizeof bytes), data_place(w, false));
+    return chance(&w->d, 100) ? length - END_RECORD : length;
 }
 
 /* Loads a file: of a few bytes that mostly fit, or one of the comparison of files, good or damaged. */
@@ -548,7 +783,7 @@ static void load(struct writer *w)
     static char file[HEX_TEXT_ROOM + 1];
     struct hex_case c = {(uint8_t *)file, 0, 0, NULL};
     size_t length;
-    if (chance(&w->d, 400)) length = some_image(w, file);
+    if (chance(&w->d, 300)) length = some_image(w, file);
     else {
         make_hex_case(&c, roll(&w->d), 0);
         length = c.text_len;
@@ -573,7 +808,9 @@ static void say_no_call(struct writer *w)
         "list 0 0 g", "List 0 0 1", "reset 0", "Reset", "resets", "rese", "power 1", "POWER", "powerup", "power-up",
         "set 1 up 1", "set 0 up 2", "set 0 sysbus 2", "set 2 soc 0", "set 0 grant 10", "set 0 grants 1",
         "set 0 sysbuss 1", "set 0 fields 0", "set 1 fields 10000", "set 2 field 0", "set 1 fieldss 0", "set 1 Fields 0",
-        "set 1 fields", "set 2 fields.t 0", "prom 0", "Prom", "proms", "end", "end 0", ":00000001FF",
+        "set 1 fields", "set 2 fields.t 0", "set 0 held 0", "set 1 held", "set 1 held 1", "set 2 held ff",
+        "set 1 held 200", "set 2 held ffff", "set 1 held 10000", "set 1 held 15a 0", "set 1 Held 0", "set 2 hel 0",
+        "set 1 helds 0", "set 1 held none", "prom 0", "Prom", "proms", "end", "end 0", ":00000001FF",
         "dump\t", "\tdump", "ca\t1", "dump\r\r", "\rstep 1", "ca\r1", "\r\r", "\t", "ca \xC3\xA9", "a b c d e f g h",
     };
     perform(w, ONE_OF(&w->d, lines));
@@ -586,7 +823,7 @@ static void say_damaged(struct writer *w)
                                         "set 2 tp.t 1",   "set 0 last 1", "set 0 cp 0",  "set 2 psw 44",
                                         "ca 1",           "step 3",       "dump",        "show 0 0",
                                         "reset",          "power",        "set 0 up 1",  "set 0 sysbus 1",
-                                        "set 1 cc c028",  "set 2 fields 418"};
+                                        "set 1 cc c028",  "set 2 fields 418", "set 1 held 15a", "set 2 held 0"};
     char line[32], put_in[] = "0123456789abcdefgABCDEFG xyz#.-\t?";
     size_t length = (size_t)snprintf(line, sizeof line, "%s", ONE_OF(&w->d, calls));
     line[below(&w->d, length)] = put_in[below(&w->d, sizeof put_in - 1)];
@@ -600,22 +837,25 @@ static void go_on(struct writer *w)
 {
     unsigned kind = below(&w->d, 1000);
     if (kind < 240) steps(w);
-    else if (kind < 360) give_command(w);
-    else if (kind < 390) give_odd_attention(w);
-    else if (kind < 480) set_any(w);
-    else if (kind < 505) go_unsound(w);
-    else if (kind < 520) go_apart(w);
-    else if (kind < 530) move_to_cc(w);
-    else if (kind < 630) transfer(w);
-    else if (kind < 638) move_widely(w);
-    else if (kind < 750) try_instructions(w, some_channel(w));
-    else if (kind < 770) show(w);
-    else if (kind < 785) put_at_end(w);
-    else if (kind < 820) list(w);
+    else if (kind < 350) give_command(w);
+    else if (kind < 380) give_odd_attention(w);
+    else if (kind < 490) set_any(w);
+    else if (kind < 515) go_unsound(w);
+    else if (kind < 530) go_apart(w);
+    else if (kind < 540) move_to_cc(w);
+    else if (kind < 600) transfer(w);
+    else if (kind < 608) move_widely(w);
+    else if (kind < 620) pair_in_turn(w);
+    else if (kind < 632) edge_in_turn(w);
+    else if (kind < 640) hold_in_turn(w);
+    else if (kind < 740) try_instructions(w, some_channel(w));
+    else if (kind < 760) show(w);
+    else if (kind < 775) put_at_end(w);
+    else if (kind < 810) list(w);
     else if (kind < 890) load(w);
     else if (kind < 910) start_over(w);
-    else if (kind < 955) meet_slots(w);
-    else if (kind < 970) say_damaged(w);
+    else if (kind < 965) meet_slots(w);
+    else if (kind < 978) say_damaged(w);
     else say_no_call(w);
 }
 
@@ -683,8 +923,13 @@ static void use_machine(struct writer *w)
     }
     if (w->s.memory.sys_len > EMU_SYSTEM_LIMIT) load(w);
     if (w->s.memory.sys_len >= EMU_SYSTEM_LIMIT || w->s.memory.io_len > EMU_IO_LIMIT) start_over(w);
-    if (!stuck(w)) part_in_turn(w);
-    else if (w->s.memory.sys_len >= 80 || w->s.memory.io_len > EMU_IO_LIMIT) go_apart(w);
+    if (chance(&w->d, 300)) let_hold(w, some_channel(w));
+    if (!stuck(w)) {
+        part_in_turn(w);
+        pair_in_turn(w);
+        edge_in_turn(w);
+        hold_in_turn(w);
+    } else if (w->s.memory.sys_len >= 80 || w->s.memory.io_len > EMU_IO_LIMIT) go_apart(w);
     while (w->left > end) go_on(w);
     perform(w, "dump");
 }
@@ -706,6 +951,10 @@ bool write_script(uint64_t seed, unsigned long calls, size_t length, FILE *out)
     w.out = out;
     w.left = calls;
     w.turn = (unsigned)(seed % (2 * EMU_FIELDS)) * 7;
+    w.pair_turn = (unsigned)(seed % 144) * 11;
+    w.edge_turn = w.held_turn = (unsigned)(seed % 80) * 7;
+    w.search_turn = (unsigned)(seed % 36) * 7;
+    w.set_turn = (unsigned)(seed % SCRIPT_REGISTERS) * 7;
     session_begin(&w.s);
     while (w.left > 0) use_machine(&w);
     finish(&w, length);
