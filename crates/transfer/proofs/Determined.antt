@@ -9,12 +9,30 @@ use Rattle.memory.specs.Buffers.{buffers}
 use Rattle.transfer.specs.Steps.{transferred}
 use Rattle.transfer.proofs.transfer.Kinds as transfer-kinds
 use Rattle.transfer.proofs.transfer.Reads as transfer-reads
+use Rattle.transfer.proofs.whole.Kinds as whole-kinds
+use Rattle.transfer.proofs.whole.Reads as whole-reads
+use Rattle.transfer.proofs.half.Kinds as half-kinds
+use Rattle.transfer.proofs.half.Reads as half-reads
+use Rattle.transfer.proofs.is_half.Kinds as is-half-kinds
+use Rattle.transfer.proofs.is_half.Reads as is-half-reads
 use Rattle.transfer.proofs.external_end.Kinds as external-end-kinds
 use Rattle.transfer.proofs.external_end.Reads as external-end-reads
 
 pub transfer-determined : (κs : Lfts 2) (a : Dens κs transfer-kinds.ps) (r q : resT transfer-kinds.r κs .Denot) (e f : AtExit (endedOf 2 transfer-kinds.ps transfer-kinds.r) κs)
     → transfer-reads.Post κs a r e → transfer-reads.Post κs a q f → (transferred (r .number) (r .channel) (buffers (now (e .1 .0)) (now (e .1 .1 .0))) ≡ transferred (q .number) (q .channel) (buffers (now (f .1 .0)) (now (f .1 .1 .0)))) × (r .count ≡ q .count)
 transfer-determined κs a r q e f p w = (p .0 ∙ sym (w .0), p .1 ∙ sym (w .1))
+
+pub whole-determined : (κs : Lfts 2) (a : Dens κs whole-kinds.ps) (r q : resT whole-kinds.r κs .Denot) (e f : AtExit (endedOf 2 whole-kinds.ps whole-kinds.r) κs)
+    → whole-reads.Post κs a r e → whole-reads.Post κs a q f → (transferred (r .number) (r .channel) (buffers (now (e .1 .0)) (now (e .1 .1 .0))) ≡ transferred (q .number) (q .channel) (buffers (now (f .1 .0)) (now (f .1 .1 .0)))) × (r .count ≡ q .count)
+whole-determined κs a r q e f p w = (p .0 ∙ sym (w .0), p .1 ∙ sym (w .1))
+
+pub half-determined : (κs : Lfts 2) (a : Dens κs half-kinds.ps) (r q : resT half-kinds.r κs .Denot) (e f : AtExit (endedOf 2 half-kinds.ps half-kinds.r) κs)
+    → half-reads.Post κs a r e → half-reads.Post κs a q f → (transferred (r .number) (r .channel) (buffers (now (e .1 .0)) (now (e .1 .1 .0))) ≡ transferred (q .number) (q .channel) (buffers (now (f .1 .0)) (now (f .1 .1 .0)))) × (r .count ≡ q .count)
+half-determined κs a r q e f p w = (p .0 ∙ sym (w .0), p .1 ∙ sym (w .1))
+
+pub is-half-determined : (κs : Lfts 0) (a : Dens κs is-half-kinds.ps) (r q : resT is-half-kinds.r κs .Denot) (e f : AtExit (endedOf 0 is-half-kinds.ps is-half-kinds.r) κs)
+    → is-half-reads.Post κs a r e → is-half-reads.Post κs a q f → r ≡ q
+is-half-determined κs a r q e f p w = p ∙ sym w
 
 pub external-end-determined : (κs : Lfts 0) (a : Dens κs external-end-kinds.ps) (r q : resT external-end-kinds.r κs .Denot) (e f : AtExit (endedOf 0 external-end-kinds.ps external-end-kinds.r) κs)
     → external-end-reads.Post κs a r e → external-end-reads.Post κs a q f → r ≡ q
