@@ -1,7 +1,9 @@
 -- The laws of the fields beside CC: they are those of CC exactly where the test says so, a CC put together of them has them, a register written leaves them so, and a state agrees where its channels do.
 -- Assumes nothing.
-use Prim.Native.Nat.{ℕ, _+_, _*_, _/_, _%_, _^_, _<_, _≤_}
+use Prim.Native.Nat.{ℕ, zero, suc, _+_, _*_, _/_, _%_, _^_, _<_, _≤_}
+use borrow.Author.Tests.{eq-eqb, ne-eqb}
 use lib.Dec.{eqb, ltb}
+use lib.Pow.{shr-shr, high, field, mod-mod-pow, mod-pow-add}
 use mathlib.Core.Bool.{Bool, true, false, not, _&&_}
 use mathlib.Core.Path.{_≡_, refl, sym, ap, _∙_}
 use native.Mathlib.Omega.{arith}
@@ -9,7 +11,7 @@ use Rattle.words.proofs.BitLaws.{field-lt}
 use Rattle.words.proofs.ChoiceLaws.{apart, both-left, both-right}
 use Rattle.words.specs.Bits.{fieldOf, bitOf}
 use Rattle.words.specs.Choice.{pick}
-use Rattle.machine.specs.Cc.{split, bitWorth, joined, sameFlag, sameFields}
+use Rattle.machine.specs.Cc.{split, bitWorth, joined, withoutLock, sameFlag, sameFields}
 use Rattle.machine.specs.Conditions.{FieldsDisagree}
 use Rattle.machine.specs.Registers.{withRegister}
 use Rattle.machine.specs.States.{boardWith, idleChannel, freshState, freshOf, blankState, channelOf, withChannel, withLast, fieldsAgree, agree}
@@ -148,7 +150,70 @@ module _ (f : Fields) (syn : f .synchronised < 4) (tx : f .externalEnd < 4) (tbc
         omega (arith, sum),
       )
 
--- so a CC put together of the fields of one has the same fields
+-- a bit's worth is that number of it
+pub bit-worth : (n worth : ℕ) → n < 2 → bitWorth (eqb n 1) worth ≡ n * worth
+unfolding bitWorth
+bit-worth zero worth h = omega arith
+bit-worth (suc zero) worth h = omega arith
+bit-worth (suc (suc n)) worth h = omega arith
+
+-- without the LOCK bit the digits above it are the same, and those below it
+module _ (w : ℕ) where
+  above : (k : ℕ) → withoutLock w / 2 ^ (10 + k) ≡ w / 2 ^ (10 + k)
+  unfolding withoutLock
+  above k = sym (shr-shr (withoutLock w) 10 k) ∙ ap (λ (n : ℕ). n / 2 ^ k) (high (w / 1024) 10 (omega arith)) ∙ shr-shr w 10 k
+
+  below : (r j k : ℕ) → r + (j + k) ≡ 9 → withoutLock w / 2 ^ k % 2 ^ j ≡ w / 2 ^ k % 2 ^ j
+  unfolding withoutLock
+  below r j k e = sym (field (withoutLock w) j k) ∙ ap (λ (n : ℕ). n / 2 ^ k) (sym (last (withoutLock w)) ∙ ap (λ (n : ℕ). n % 2 ^ (j + k)) same ∙ last w) ∙ field w j k
+    where
+      last : (n : ℕ) → n % 512 % 2 ^ (j + k) ≡ n % 2 ^ (j + k)
+      last n = ap (λ (p : ℕ). n % 2 ^ p % 2 ^ (j + k)) (sym e) ∙ mod-mod-pow n r (j + k)
+
+      same : withoutLock w % 512 ≡ w % 512
+      same = omega arith
+
+  split-without : split (withoutLock w) ≡ split w
+  unfolding split bitOf fieldOf
+  split-without = rw (above 5, above 4, above 3, above 1, above 0, below 0 1 8 refl, below 1 1 7 refl, below 2 2 5 refl, below 4 2 3 refl, below 6 3 0 refl)
+
+-- the fields of a CC make up that CC without the LOCK bit
+regroup : (a b c d e f g h i j m q low : ℕ) → a + (b + (c + (d + (e + m)))) ≡ q + m → f + (g + (h + (i + j))) ≡ low → a + b + c + d + e + f + g + h + i + j ≡ q + low
+regroup a b c d e f g h i j m q low x y = omega arith
+
+joined-split : (w : ℕ) → w < 65536 → joined (split w) ≡ withoutLock w
+unfolding joined split bitOf fieldOf withoutLock
+joined-split w h =
+    rw (bit-worth (w / 2 ^ 15 % 2) 32768 (omega arith), bit-worth (w / 2 ^ 14 % 2) 16384 (omega arith), bit-worth (w / 2 ^ 13 % 2) 8192 (omega arith), bit-worth (w / 2 ^ 10 % 2) 1024 (omega arith), bit-worth (w / 2 ^ 8 % 2) 256 (omega arith), bit-worth (w / 2 ^ 7 % 2) 128 (omega arith), twice (w / 2 ^ 11), twice (w / 2 ^ 5), twice (w / 2 ^ 3), lowest)
+    (regroup _ _ _ _ _ _ _ _ _ _ (w % 1024) (w / 1024 * 1024) (w % 512) upper lower)
+  where
+    twice : (n : ℕ) → n % 2 ^ 2 % 4 ≡ n % 2 ^ 2
+    twice n = omega arith
+
+    lowest : w / 2 ^ 0 % 2 ^ 3 % 8 ≡ w % 8
+    lowest = omega arith
+
+    digit : ℕ → ℕ → ℕ → ℕ
+    digit k j n = w / 2 ^ k % 2 ^ j * 2 ^ k + n
+
+    upper : digit 15 1 (digit 14 1 (digit 13 1 (digit 11 2 (digit 10 1 (w % 1024))))) ≡ w / 1024 * 1024 + w % 1024
+    upper = sym (mod-pow-add w 1 15 ∙ ap (digit 15 1) (mod-pow-add w 1 14 ∙ ap (digit 14 1) (mod-pow-add w 1 13 ∙ ap (digit 13 1) (mod-pow-add w 2 11 ∙ ap (digit 11 2) (mod-pow-add w 1 10))))) ∙ omega (arith, h)
+
+    lower : digit 8 1 (digit 7 1 (digit 5 2 (digit 3 2 (w % 8)))) ≡ w % 512
+    lower = sym (mod-pow-add w 1 8 ∙ ap (digit 8 1) (mod-pow-add w 1 7 ∙ ap (digit 7 1) (mod-pow-add w 2 5 ∙ ap (digit 5 2) (mod-pow-add w 2 3))))
+
+-- so fields that have their widths are those of a CC exactly where they make up that CC without the LOCK bit
+pub same-by-number : (f : Fields) (w : ℕ) → f .synchronised < 4 → f .externalEnd < 4 → f .countEnd < 4 → f .matchEnd < 8 → w < 65536 → eqb (joined f) (withoutLock w) ≡ sameFields f (split w)
+same-by-number f w syn tx tbc tmc h = go (sameFields f (split w)) refl
+  where
+    s : Says (sameFields f (split w)) (f ≡ split w)
+    s = says-same f (split w)
+
+    go : (b : Bool) → sameFields f (split w) ≡ b → eqb (joined f) (withoutLock w) ≡ b
+    go true e = eq-eqb _ _ (ap joined (s .holds e) ∙ joined-split w h)
+    go false e = ne-eqb _ _ (λ z. s .fails e (sym (split-of-joined f syn tx tbc tmc) ∙ ap split z ∙ split-without w))
+
+-- and a CC put together of the fields of one has the same fields
 pub split-joined : (w : ℕ) → split (joined (split w)) ≡ split w
 unfolding split
 split-joined w = split-of-joined (split w) (field-lt w 11 2) (field-lt w 5 2) (field-lt w 3 2) (field-lt w 0 3)

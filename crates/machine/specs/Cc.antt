@@ -1,6 +1,6 @@
 -- CC (§2.4) and its fields, which a channel keeps beside it: 15 destination moves on, 14 source moves on, 13 translate, 12-11 SYN, 10 source is GB, 8 chained, 7 TS, 6-5 TX, 4-3 TBC, 2-0 TMC.
 use mathlib.Core.Bool.{Bool, not, _&&_}
-use Prim.Native.Nat.{ℕ, _+_, _*_, _%_}
+use Prim.Native.Nat.{ℕ, _+_, _*_, _/_, _%_}
 use lib.Dec.{eqb}
 use Rattle.words.specs.Bits.{fieldOf, bitOf}
 use Rattle.words.specs.Choice.{pick}
@@ -39,6 +39,10 @@ joined f =
     + f .externalEnd % 4 * 32
     + f .countEnd % 4 * 8
     + f .matchEnd % 8
+
+-- a CC with bit 9, its LOCK bit, at 0; that bit is in no field
+unfoldable pub withoutLock : ℕ → ℕ
+withoutLock cc = cc / 1024 * 1024 + cc % 512
 
 -- two flags are the same
 unfoldable pub sameFlag : Bool → Bool → Bool

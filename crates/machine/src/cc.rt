@@ -48,6 +48,13 @@ pub fn joined(f: Fields) -> u16
         + (f.matchEnd % 8) as u16
 }
 
+// A CC without bit 9, its LOCK bit, which is in no field.
+pub fn without_lock(cc: u16) -> u16
+    ensures { λ r. ⌜ r ≡ Cc.withoutLock cc ⌝ }
+{
+    cc / 1024 * 1024 + cc % 512
+}
+
 // Whether two flags are the same.
 fn same_flag(a: bool, b: bool) -> bool
     ensures { λ r. ⌜ r ≡ sameFlag a b ⌝ }

@@ -36,48 +36,30 @@ pub fn with_control(c: Channel, tp: Pointer, pp: u32, psw: u8, mode: Mode, armed
     }
 }
 
-// The channel as an instruction finds it: other TP and PSW, no mark, and nothing held.
-pub fn begun(c: Channel, tp: Pointer, psw: u8) -> Channel
-    ensures { λ r. ⌜ r ≡ dropped (renewed c tp (c .ix) psw (c .mode) false) ⌝ }
-{
-    let ga = c.ga;
-    let gb = c.gb;
-    let gc = c.gc;
-    let mode = c.mode;
-    let fields = c.fields;
-    Channel {
-        ga,
-        gb,
-        gc,
-        tp,
-        pp: c.pp,
-        bc: c.bc,
-        ix: c.ix,
-        cc: c.cc,
-        mc: c.mc,
-        psw,
-        mode,
-        armed: false,
-        fields,
-        held: Held::NoByte,
-    }
-}
-
-// The channel that holds a byte, or none, and is otherwise as it was.
+// The channel that holds a byte, or none, and is otherwise as it was. Its pointers are copied by their parts: as one of
+// eight bytes each would be taken apart and put together again at every step.
 pub fn holds(c: Channel, held: Held) -> Channel
     ensures { λ r. ⌜ r ≡ holding c held ⌝ }
 {
-    let ga = c.ga;
-    let gb = c.gb;
-    let gc = c.gc;
-    let tp = c.tp;
     let mode = c.mode;
     let fields = c.fields;
     Channel {
-        ga,
-        gb,
-        gc,
-        tp,
+        ga: Pointer {
+            address: c.ga.address,
+            tag: c.ga.tag,
+        },
+        gb: Pointer {
+            address: c.gb.address,
+            tag: c.gb.tag,
+        },
+        gc: Pointer {
+            address: c.gc.address,
+            tag: c.gc.tag,
+        },
+        tp: Pointer {
+            address: c.tp.address,
+            tag: c.tp.tag,
+        },
         pp: c.pp,
         bc: c.bc,
         ix: c.ix,
@@ -89,6 +71,17 @@ pub fn holds(c: Channel, held: Held) -> Channel
         fields,
         held,
     }
+}
+
+// The channel as an instruction finds it: other TP and PSW, no mark, and nothing held.
+pub fn begun(c: Channel, tp: Pointer, psw: u8) -> Channel
+    ensures { λ r. ⌜ r ≡ dropped (renewed c tp (c .ix) psw (c .mode) false) ⌝ }
+{
+    let mut next = holds(c, Held::NoByte);
+    next.tp = tp;
+    next.psw = psw;
+    next.armed = false;
+    next
 }
 
 // PSW of a channel that stops.

@@ -108,7 +108,9 @@ fn instructions(c: Channel, busy: u32, sys: &mut [u8], io: &mut [u8], from: u16,
     requires { ⌜ from ≤ stop ⌝ }
     ensures { λ r. ⌜ burst (r .number) (r .steps) (r .channel) (buffers (now (sys .exit)) (now (io .exit))) ≡ burstFrom (executes busy) executesOn (stop - from) c (buffers (now (sys .entry)) (now (io .entry))) from ⌝ }
 {
-    let mut mine = c;
+    // Its pointers by their parts, so that within the loop each tag is known for a truth value.
+    let held = c.held;
+    let mut mine = machine::updates::holds(c, held);
     let mut done = from;
     while done < stop {
         let e = execute::execute(mine, busy, sys, io);

@@ -1,6 +1,7 @@
 pub mod SetsLaws
 pub mod LengthLaws
 pub mod LittleLaws
+pub mod AgreeLaws
 pub mod HeldLaws
 pub mod BackLaws
 pub mod CallLaws

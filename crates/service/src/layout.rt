@@ -11,7 +11,9 @@ ghost use mathlib.Core.Path.{_≡_};
 ghost use Prim.Native.Nat.{_+_, _≤_};
 ghost use lib.ListN.{length};
 ghost use lib.Seq.{sets};
-ghost use Rattle.machine.specs.States.{channelOf, withChannel, withLast};
+ghost use Rattle.machine.specs.Cc.{joined};
+ghost use Rattle.machine.specs.States as States;
+ghost use Rattle.machine.specs.States.{channelOf, withChannel, withLast, fieldsAgree};
 ghost use Rattle.service.specs.Conditions.{ChannelFits};
 ghost use Rattle.service.specs.Layout.{pointerBytes, pointersBytes, numbersBytes, marksBytes, sidesBytes, endsBytes, channelBytes, boardBytes, bytesOf, pointerIn, fieldsIn, channelIn, boardIn, stateIn, isFields, isBlock, isBoard, isState, stateLength, blockFrom};
 
@@ -186,6 +188,38 @@ pub fn is_state(bytes: &[u8]) -> bool
         & is_board(bytes)
         & is_block(bytes, FIRST_AT)
         & is_block(bytes, SECOND_AT)
+}
+
+// The CC that the fields from an offset on make up, its LOCK bit at 0: each stands behind those before it, by its bits.
+fn joined_in(bytes: &[u8], at: usize) -> u32
+    requires { ⌜ (at + 10 ≤ length (now bytes)) × (isFields (now bytes) at ≡ true) ⌝ }
+    ensures { λ r. ⌜ r ≡ joined (fieldsIn (now (bytes .entry)) at) ⌝ }
+{
+    let moves = fields::byte(bytes, at) as u32 * 2 + fields::byte(bytes, at + 1) as u32;
+    let syn = (moves * 2 + fields::byte(bytes, at + 2) as u32) * 4
+        + fields::byte(bytes, at + 3) as u32;
+    let chained = (syn * 2 + fields::byte(bytes, at + 4) as u32) * 4
+        + fields::byte(bytes, at + 5) as u32;
+    let tx = (chained * 2 + fields::byte(bytes, at + 6) as u32) * 4
+        + fields::byte(bytes, at + 7) as u32;
+    (tx * 4 + fields::byte(bytes, at + 8) as u32) * 8 + fields::byte(bytes, at + 9) as u32
+}
+
+// Whether the fields of a block are those of its CC: they make it up but for its LOCK bit.
+fn agrees(bytes: &[u8], at: usize) -> bool
+    requires { ⌜ (at + 47 ≤ length (now bytes)) × (isFields (now bytes) (at + 35) ≡ true) ⌝ }
+    ensures { λ r. ⌜ r ≡ fieldsAgree (channelIn (now (bytes .entry)) at) ⌝ }
+{
+    let cc = fields::word(bytes, at + 28);
+    joined_in(bytes, at + 35) == machine::cc::without_lock(cc) as u32
+}
+
+// Whether the fields of both channels are those of their CC; asked field by field that takes some 60 instructions more.
+pub(crate) fn agree(bytes: &[u8]) -> bool
+    requires { ⌜ isState (now bytes) ≡ true ⌝ }
+    ensures { λ r. ⌜ r ≡ States.agree (stateIn (now (bytes .entry))) ⌝ }
+{
+    agrees(bytes, FIRST_AT) & agrees(bytes, SECOND_AT)
 }
 
 // A pointer put at an offset.

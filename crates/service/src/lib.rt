@@ -118,9 +118,10 @@ struct Turn {
     kind: Kind,
 }
 
-// The refusal of what a step is given. `step::entry_number` says the same, but is not inlined, since an attention asks it
-// too, and would have the whole state go through memory.
-fn entry_number(s: State, lines: u32, sys: &[u8], io: &[u8]) -> u32
+// The refusal of what a step is given; 14 is asked of the bytes. `step::entry_number` says the same, but is not inlined,
+// since an attention asks it too, and would have the whole state go through memory.
+fn entry_number(state: &[u8], s: State, lines: u32, sys: &[u8], io: &[u8]) -> u32
+    requires { ⌜ (isState (now state) ≡ true) × (s ≡ stateIn (now state)) ⌝ }
     ensures { λ r. ⌜ r ≡ entryNumber s (buffers (now (sys .entry)) (now (io .entry))) lines ⌝ }
 {
     if 16 <= lines {
@@ -135,14 +136,7 @@ fn entry_number(s: State, lines: u32, sys: &[u8], io: &[u8]) -> u32
     if !s.board.powered {
         return 13;
     }
-    if !machine::states::fields_agree(s.first) {
-        return 14;
-    }
-    if machine::states::fields_agree(s.second) {
-        0
-    } else {
-        14
-    }
+    if layout::agree(state) { 0 } else { 14 }
 }
 
 // The external end of a channel's transfer.
@@ -215,7 +209,7 @@ pub extern "C" fn iop89_step(state: &mut [u8], sys: &mut [u8], io: &mut [u8], li
         return 17;
     }
     let s = layout::looked_at(state);
-    let number = entry_number(s, lines, sys, io);
+    let number = entry_number(state, s, lines, sys, io);
     if number != 0 {
         return answer(number, 0, 0, 0);
     }

@@ -8,11 +8,21 @@ ghost use Rattle.words.specs.Choice.{pick};
 ghost use Rattle.transfer.specs.Sides as Sides;
 ghost use Rattle.transfer.specs.Sides.{wordSide, secondAddress, setupOf};
 
-// One of two pointers.
+// One of two pointers, by its parts, as the channel has them.
 pub(crate) fn chosen(test: bool, a: Pointer, b: Pointer) -> Pointer
     ensures { λ r. ⌜ r ≡ pick test a b ⌝ }
 {
-    if test { a } else { b }
+    if test {
+        Pointer {
+            address: a.address,
+            tag: a.tag,
+        }
+    } else {
+        Pointer {
+            address: b.address,
+            tag: b.tag,
+        }
+    }
 }
 
 // Whether a side is a word side.
@@ -39,7 +49,14 @@ pub(crate) fn second(s: Side) -> u32
 pub(crate) fn gained(moves: bool, p: Pointer, by: u32) -> Pointer
     ensures { λ r. ⌜ r ≡ Sides.gained moves p by ⌝ }
 {
-    if moves { memory::onward(p, by) } else { p }
+    if moves {
+        memory::onward(p, by)
+    } else {
+        Pointer {
+            address: p.address,
+            tag: p.tag,
+        }
+    }
 }
 
 // What a channel says of its transfer.

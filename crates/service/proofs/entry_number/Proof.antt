@@ -2,6 +2,7 @@
 -- Assumes nothing.
 use borrow.Author.Needs.{needs}
 use borrow.Author.Tests.{lt-ltb, le-ltb, le-leb, lt-leb, not-true, not-false}
+use mathlib.Core.Path.{sym, ap, _∙_}
 use Rattle.machine.specs.Outcomes.{unless, first, givenNumber}
 use Rattle.machine.specs.States.{agree}
 use Rattle.step.specs.Step.{entryNumber}
@@ -28,25 +29,18 @@ returns-3 c = simp (not-true (c .before .sound .result) (c .if3 .taken), ← (c 
 
 returns-4 : tie.Need-returns-4
 unfolding entryNumber givenNumber first unless
-returns-4 c = simp (not-true (c .before .before .before .before .before .before .before .before .before .args .s .board .powered) (c .if4 .taken), not-false (c .before .before .before .sound .result) (c .before .before .if3 .left), ← (c .before .before .before .sound .ensures), not-false (c .before .before .before .before .before .within-limits .result) (c .before .before .before .before .if2 .left), ← (c .before .before .before .before .before .within-limits .ensures), lt-ltb _ _ (c .before .before .before .before .before .before .if1 .left))
+returns-4 c = simp (not-true (c .before .before .before .before .before .before .before .before .before .before .args .s .board .powered) (c .if4 .taken), not-false (c .before .before .before .sound .result) (c .before .before .if3 .left), ← (c .before .before .before .sound .ensures), not-false (c .before .before .before .before .before .within-limits .result) (c .before .before .before .before .if2 .left), ← (c .before .before .before .before .before .within-limits .ensures), lt-ltb _ _ (c .before .before .before .before .before .before .if1 .left))
 
-fields-agree-requires : tie.Need-fields-agree-requires
-fields-agree-requires c κs = search needs
+agree-requires : tie.Need-agree-requires
+agree-requires c κs = c .before .before .before .before .before .before .before .before .before .before .pre .0
 
 returns-5 : tie.Need-returns-5
-unfolding entryNumber givenNumber agree first unless
-returns-5 c = simp (not-true (c .before .fields-agree .result) (c .if5 .taken), ← (c .before .fields-agree .ensures), not-false (c .before .before .before .before .before .before .before .before .before .before .before .args .s .board .powered) (c .before .before .if4 .left), not-false (c .before .before .before .before .before .sound .result) (c .before .before .before .before .if3 .left), ← (c .before .before .before .before .before .sound .ensures), not-false (c .before .before .before .before .before .before .before .within-limits .result) (c .before .before .before .before .before .before .if2 .left), ← (c .before .before .before .before .before .before .before .within-limits .ensures), lt-ltb _ _ (c .before .before .before .before .before .before .before .before .if1 .left))
-
-fields-agree-requires-2 : tie.Need-fields-agree-requires-2
-fields-agree-requires-2 c κs = search needs
+unfolding entryNumber givenNumber first unless
+returns-5 c = simp (ap agree (c .before .before .before .before .before .before .before .before .before .before .before .before .pre .1) ∙ sym (c .before .agree .ensures) ∙ c .if5 .taken, not-false (c .before .before .before .before .before .before .before .before .before .before .before .before .args .s .board .powered) (c .before .before .if4 .left), not-false (c .before .before .before .before .before .sound .result) (c .before .before .before .before .if3 .left), ← (c .before .before .before .before .before .sound .ensures), not-false (c .before .before .before .before .before .before .before .within-limits .result) (c .before .before .before .before .before .before .if2 .left), ← (c .before .before .before .before .before .before .before .within-limits .ensures), lt-ltb _ _ (c .before .before .before .before .before .before .before .before .if1 .left))
 
 returns-6 : tie.Need-returns-6
-unfolding entryNumber givenNumber agree first unless
-returns-6 c = simp (c .if6 .taken, ← (c .before .fields-agree2 .ensures), not-false (c .before .before .before .fields-agree .result) (c .before .before .if5 .left), ← (c .before .before .before .fields-agree .ensures), not-false (c .before .before .before .before .before .before .before .before .before .before .before .before .before .args .s .board .powered) (c .before .before .before .before .if4 .left), not-false (c .before .before .before .before .before .before .before .sound .result) (c .before .before .before .before .before .before .if3 .left), ← (c .before .before .before .before .before .before .before .sound .ensures), not-false (c .before .before .before .before .before .before .before .before .before .within-limits .result) (c .before .before .before .before .before .before .before .before .if2 .left), ← (c .before .before .before .before .before .before .before .before .before .within-limits .ensures), lt-ltb _ _ (c .before .before .before .before .before .before .before .before .before .before .if1 .left))
-
-returns-7 : tie.Need-returns-7
-unfolding entryNumber givenNumber agree first unless
-returns-7 c = simp (c .if6 .left, ← (c .before .fields-agree2 .ensures), not-false (c .before .before .before .fields-agree .result) (c .before .before .if5 .left), ← (c .before .before .before .fields-agree .ensures), not-false (c .before .before .before .before .before .before .before .before .before .before .before .before .before .args .s .board .powered) (c .before .before .before .before .if4 .left), not-false (c .before .before .before .before .before .before .before .sound .result) (c .before .before .before .before .before .before .if3 .left), ← (c .before .before .before .before .before .before .before .sound .ensures), not-false (c .before .before .before .before .before .before .before .before .before .within-limits .result) (c .before .before .before .before .before .before .before .before .if2 .left), ← (c .before .before .before .before .before .before .before .before .before .within-limits .ensures), lt-ltb _ _ (c .before .before .before .before .before .before .before .before .before .before .if1 .left))
+unfolding entryNumber givenNumber first unless
+returns-6 c = simp (ap agree (c .before .before .before .before .before .before .before .before .before .before .before .before .pre .1) ∙ sym (c .before .agree .ensures) ∙ c .if5 .left, not-false (c .before .before .before .before .before .before .before .before .before .before .before .before .args .s .board .powered) (c .before .before .if4 .left), not-false (c .before .before .before .before .before .sound .result) (c .before .before .before .before .if3 .left), ← (c .before .before .before .before .before .sound .ensures), not-false (c .before .before .before .before .before .before .before .within-limits .result) (c .before .before .before .before .before .before .if2 .left), ← (c .before .before .before .before .before .before .before .within-limits .ensures), lt-ltb _ _ (c .before .before .before .before .before .before .before .before .if1 .left))
 
 pub entry-number-spec : {M : Type 1} → statement M
 entry-number-spec =
@@ -58,8 +52,6 @@ entry-number-spec =
     sound-requires
     returns-3
     returns-4
-    fields-agree-requires
+    agree-requires
     returns-5
-    fields-agree-requires-2
-    returns-6
-    returns-7)
+    returns-6)

@@ -35,7 +35,7 @@ looked-at-requires : tie.Need-looked-at-requires
 looked-at-requires c κs = state-length _ (sym (c .before .before .is-state .ensures) ∙ not-false _ (c .before .if1 .left))
 
 entry-number-requires : tie.Need-entry-number-requires
-entry-number-requires c κs = search needs
+entry-number-requires c κs = (sym (c .before .before .before .before .before .before .is-state .ensures) ∙ not-false _ (c .before .before .before .before .before .if1 .left), c .before .before .before .looked-at .ensures)
 
 answer-requires : tie.Need-answer-requires
 answer-requires c κs = search needs
@@ -51,11 +51,11 @@ same-length-4 c = search needs
 
 returns-2 : tie.Need-returns-2
 returns-2 c =
-    let a = c .before .before .before .before .before .before .before .before .before .before .before .before .before .args in
+    let a = c .before .before .before .before .before .before .before .before .before .before .before .before .before .before .args in
     let b = now (a .state) in
     let m = buffers (now (a .sys)) (now (a .io)) in
-    let n = c .before .before .entry-number .ensures ∙ ap (λ (s : State). entryNumber s m (a .lines)) (c .before .before .before .before .before .looked-at .ensures) in
-    refused-served b m (sym (c .before .before .before .before .before .before .before .before .is-state .ensures) ∙ not-false _ (c .before .before .before .before .before .before .before .if1 .left)) (a .lines) (λ i. omega (arith, c .before .before .before .before .before .before .before .before .before .before .before .before .slice-known .given i)) (entryNumber (stateIn b) m (a .lines)) (λ z. c .before .if2 .taken (n ∙ z))
+    let n = c .before .before .entry-number .ensures ∙ ap (λ (s : State). entryNumber s m (a .lines)) (c .before .before .before .before .before .before .looked-at .ensures) in
+    refused-served b m (sym (c .before .before .before .before .before .before .before .before .before .is-state .ensures) ∙ not-false _ (c .before .before .before .before .before .before .before .before .if1 .left)) (a .lines) (λ i. omega (arith, c .before .before .before .before .before .before .before .before .before .before .before .before .before .slice-known .given i)) (entryNumber (stateIn b) m (a .lines)) (λ z. c .before .if2 .taken (n ∙ z))
     (entry-refused (stateIn b) m (a .lines) (λ z. c .before .if2 .taken (n ∙ z))) _ (c .answer .ensures ∙ ap (λ (k : ℕ). answerFrom k 0 0 0) n)
 
 choose-requires : tie.Need-choose-requires
@@ -71,25 +71,25 @@ enum-known-second : tie.Need-enum-known-second
 enum-known-second c = search needs
 
 channel-requires : tie.Need-channel-requires
-channel-requires c κs = state-length _ (sym (c .before .before .before .before .before .before .before .before .before .before .before .before .before .is-state .ensures) ∙ not-false _ (c .before .before .before .before .before .before .before .before .before .before .before .before .if1 .left))
+channel-requires c κs = state-length _ (sym (c .before .before .before .before .before .before .before .before .before .before .before .before .before .before .is-state .ensures) ∙ not-false _ (c .before .before .before .before .before .before .before .before .before .before .before .before .before .if1 .left))
 
 end-turn-requires : tie.Need-end-turn-requires
 end-turn-requires c κs = search needs
 
 answered-requires : tie.Need-answered-requires
-answered-requires c κs = (sym (c .before .before .before .before .before .before .before .before .before .before .before .before .before .before .before .is-state .ensures) ∙ not-false _ (c .before .before .before .before .before .before .before .before .before .before .before .before .before .before .if1 .left), λ ne. absurd (ne (ap (λ (t : Turn). t .number) (c .end-turn .ensures))))
+answered-requires c κs = (sym (c .before .before .before .before .before .before .before .before .before .before .before .before .before .before .before .before .is-state .ensures) ∙ not-false _ (c .before .before .before .before .before .before .before .before .before .before .before .before .before .before .before .if1 .left), λ ne. absurd (ne (ap (λ (t : Turn). t .number) (c .end-turn .ensures))))
 
 enum-known-second-2 : tie.Need-enum-known-second-2
 enum-known-second-2 c = search needs
 
 channel-requires-2 : tie.Need-channel-requires-2
-channel-requires-2 c κs = state-length _ (sym (c .before .before .before .before .before .before .before .before .before .before .before .before .is-state .ensures) ∙ not-false _ (c .before .before .before .before .before .before .before .before .before .before .before .if1 .left))
+channel-requires-2 c κs = state-length _ (sym (c .before .before .before .before .before .before .before .before .before .before .before .before .before .is-state .ensures) ∙ not-false _ (c .before .before .before .before .before .before .before .before .before .before .before .before .if1 .left))
 
 channel-turn-requires : tie.Need-channel-turn-requires
-channel-turn-requires c κs = rw (c .before .before .channel2 .ensures, c .before .before .before .before .before .before .before .before .before .before .before .before .looked-at .ensures)
+channel-turn-requires c κs = rw (c .before .before .channel2 .ensures, c .before .before .before .before .before .before .before .before .before .before .before .before .before .looked-at .ensures)
 
 answered-requires-2 : tie.Need-answered-requires-2
-answered-requires-2 c κs = (sym (c .before .before .before .before .before .before .before .before .before .before .before .before .before .before .before .before .before .before .before .before .before .is-state .ensures) ∙ not-false _ (c .before .before .before .before .before .before .before .before .before .before .before .before .before .before .before .before .before .before .before .before .if1 .left), λ ne. c .before .before .before .before .before .channel-turn .ensures .1 ∙ refused-counts _ _ ne)
+answered-requires-2 c κs = (sym (c .before .before .before .before .before .before .before .before .before .before .before .before .before .before .before .before .before .before .before .before .before .before .is-state .ensures) ∙ not-false _ (c .before .before .before .before .before .before .before .before .before .before .before .before .before .before .before .before .before .before .before .before .before .if1 .left), λ ne. c .before .before .before .before .before .channel-turn .ensures .1 ∙ refused-counts _ _ ne)
 
 same-length-5 : tie.Need-same-length-5
 same-length-5 c = search needs
@@ -103,13 +103,13 @@ same-length-7 c = search needs
 returns-3 : tie.Need-returns-3
 unfolding chosenStep
 returns-3 c =
-    let a = c .before .before .before .before .before .before .before .before .before .before .before .before .before .before .before .before .args in
+    let a = c .before .before .before .before .before .before .before .before .before .before .before .before .before .before .before .before .before .args in
     let b = now (a .state) in
     let m = buffers (now (a .sys)) (now (a .io)) in
-    let s = c .before .before .before .before .before .before .before .before .looked-at .ensures in
+    let s = c .before .before .before .before .before .before .before .before .before .looked-at .ensures in
     let z = sym (c .before .before .before .before .before .entry-number .ensures ∙ ap (λ (x : State). entryNumber x m (a .lines)) s) ∙ c .before .before .before .before .if2 .left in
     let who = sym (c .before .before .before .choose .ensures ∙ ap (λ (x : State). choiceOf x (a .lines)) s) ∙ c .before .enum-told .given .1 in
-    refused-served b m (sym (c .before .before .before .before .before .before .before .before .before .before .before .is-state .ensures) ∙ not-false _ (c .before .before .before .before .before .before .before .before .before .before .if1 .left)) (a .lines) (λ i. omega (arith, c .before .before .before .before .before .before .before .before .before .before .before .before .before .before .before .slice-known .given i)) 1 (eqb-false 1 0 refl)
+    refused-served b m (sym (c .before .before .before .before .before .before .before .before .before .before .before .before .is-state .ensures) ∙ not-false _ (c .before .before .before .before .before .before .before .before .before .before .before .if1 .left)) (a .lines) (λ i. omega (arith, c .before .before .before .before .before .before .before .before .before .before .before .before .before .before .before .before .slice-known .given i)) 1 (eqb-false 1 0 refl)
     (chosen-step (stateIn b) m (a .lines) Nobody z who) _ (c .answer2 .ensures)
 
 same-length-8 : tie.Need-same-length-8
@@ -123,12 +123,12 @@ same-length-10 c = search needs
 
 returns-4 : tie.Need-returns-4
 returns-4 c =
-    let a = c .before .before .before .before .before .before .before .before .before .before .before .before .before .before .before .before .before .before .before .before .before .before .before .args in
+    let a = c .before .before .before .before .before .before .before .before .before .before .before .before .before .before .before .before .before .before .before .before .before .before .before .before .args in
     let m = buffers (now (a .sys)) (now (a .io)) in
-    let s = c .before .before .before .before .before .before .before .before .before .before .before .before .before .before .before .looked-at in
+    let s = c .before .before .before .before .before .before .before .before .before .before .before .before .before .before .before .before .looked-at in
     let left = c .before .before .answered .ensures in
     let ended = end-turned (s .result) _ (s .ensures) m _ (c .before .before .before .before .channel .result) (c .before .before .before .end-turn .result) (c .before .before .before .before .channel .ensures) (c .before .before .before .end-turn .ensures) in
-    turn-served (now (a .state)) m (sym (c .before .before .before .before .before .before .before .before .before .before .before .before .before .before .before .before .before .before .is-state .ensures) ∙ not-false _ (c .before .before .before .before .before .before .before .before .before .before .before .before .before .before .before .before .before .if1 .left)) (a .lines) (s .result) (s .ensures) _ _ (c .before .before .before .end-turn .result) m
+    turn-served (now (a .state)) m (sym (c .before .before .before .before .before .before .before .before .before .before .before .before .before .before .before .before .before .before .before .is-state .ensures) ∙ not-false _ (c .before .before .before .before .before .before .before .before .before .before .before .before .before .before .before .before .before .before .if1 .left)) (a .lines) (s .result) (s .ensures) _ _ (c .before .before .before .end-turn .result) m
     (sym (c .before .before .before .before .before .before .before .before .before .before .before .before .entry-number .ensures) ∙ c .before .before .before .before .before .before .before .before .before .before .before .if2 .left) (sym (c .before .before .before .before .before .before .before .before .before .before .choose .ensures) ∙ c .before .before .before .before .before .before .before .before .second .given .1) (ended .0) (ended .1) _ _ (left .0 m) (left .1 m)
 
 same-length-11 : tie.Need-same-length-11
@@ -143,12 +143,12 @@ same-length-13 c = search needs
 returns-5 : tie.Need-returns-5
 unfolding chosenStep
 returns-5 c =
-    let a = c .before .before .before .before .before .before .before .before .before .before .before .before .before .before .before .before .before .before .before .before .before .before .before .before .before .before .before .before .before .args in
+    let a = c .before .before .before .before .before .before .before .before .before .before .before .before .before .before .before .before .before .before .before .before .before .before .before .before .before .before .before .before .before .before .args in
     let m = buffers (now (a .sys)) (now (a .io)) in
-    let s = c .before .before .before .before .before .before .before .before .before .before .before .before .before .before .before .before .before .before .before .before .before .looked-at in
+    let s = c .before .before .before .before .before .before .before .before .before .before .before .before .before .before .before .before .before .before .before .before .before .before .looked-at in
     let t = c .before .before .before .before .before .before .before .before .channel-turn in
     let left = c .before .before .answered2 .ensures in
-    turn-served (now (a .state)) m (sym (c .before .before .before .before .before .before .before .before .before .before .before .before .before .before .before .before .before .before .before .before .before .before .before .before .is-state .ensures) ∙ not-false _ (c .before .before .before .before .before .before .before .before .before .before .before .before .before .before .before .before .before .before .before .before .before .before .before .if1 .left)) (a .lines) (s .result) (s .ensures) _ _ (t .result) _
+    turn-served (now (a .state)) m (sym (c .before .before .before .before .before .before .before .before .before .before .before .before .before .before .before .before .before .before .before .before .before .before .before .before .before .is-state .ensures) ∙ not-false _ (c .before .before .before .before .before .before .before .before .before .before .before .before .before .before .before .before .before .before .before .before .before .before .before .before .if1 .left)) (a .lines) (s .result) (s .ensures) _ _ (t .result) _
     (sym (c .before .before .before .before .before .before .before .before .before .before .before .before .before .before .before .before .before .before .entry-number .ensures) ∙ c .before .before .before .before .before .before .before .before .before .before .before .before .before .before .before .before .before .if2 .left) (sym (c .before .before .before .before .before .before .before .before .before .before .before .before .before .before .before .before .choose .ensures) ∙ c .before .before .before .before .before .before .before .before .before .before .before .before .before .before .second2 .given .1) (t .ensures .0) (t .ensures .1) _ _ (left .0 _) (left .1 _)
 
 pub iop89-step-spec : {M : Type 1} → statement M

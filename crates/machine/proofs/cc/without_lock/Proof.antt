@@ -1,0 +1,21 @@
+-- `machine::cc::without_lock` meets its contract.
+-- Assumes nothing.
+use borrow.Author.Needs.{needs}
+use mathlib.Core.Path.{refl}
+use native.Mathlib.Omega.{arith}
+use Rattle.machine.specs.Cc.{withoutLock}
+use Rattle.machine.proofs.cc.without_lock.Statement.{statement}
+use Rattle.machine.proofs.cc.without_lock.Tie as tie
+
+mul-result : tie.Need-mul-result
+mul-result c = search needs
+
+add-result : tie.Need-add-result
+add-result c = omega (arith, c .fits .cc .fits)
+
+returns : tie.Need-returns
+unfolding withoutLock
+returns c = refl
+
+pub without-lock-spec : {M : Type 1} → statement M
+without-lock-spec = tie.close (tie.spec mul-result add-result returns)
