@@ -8,8 +8,8 @@ use machine::State;
 use memory::Pointer;
 ghost use mathlib.Core.Bool.{true};
 ghost use mathlib.Core.Path.{_≡_};
-ghost use Prim.Native.Nat.{_+_, _≤_};
-ghost use lib.ListN.{length};
+ghost use Prim.Native.Nat.{_+_, _*_, _<_, _≤_};
+ghost use lib.ListN.{length, getD};
 ghost use lib.Seq.{sets};
 ghost use Rattle.machine.specs.Cc.{joined};
 ghost use Rattle.machine.specs.States as States;
@@ -190,19 +190,29 @@ pub fn is_state(bytes: &[u8]) -> bool
         & is_block(bytes, SECOND_AT)
 }
 
-// The CC that the fields from an offset on make up, its LOCK bit at 0: each stands behind those before it, by its bits.
+// A number with the byte at an offset put behind it, as a digit of so many values.
+fn behind(above: u32, values: u32, bytes: &[u8], at: usize) -> u32
+    requires { ⌜ (above < 16777216) × (values ≤ 8) × (at < length (now bytes)) ⌝ }
+    ensures is { λ r. ⌜ r ≡ above * values + getD (now (bytes .entry)) at 0 ⌝ }
+    ensures most { λ r. ⌜ r ≤ above * values + 255 ⌝ }
+{
+    above * values + fields::byte(bytes, at) as u32
+}
+
+// The CC that the fields from an offset on make up, its LOCK bit, between the source's and the chained one, at 0.
 fn joined_in(bytes: &[u8], at: usize) -> u32
     requires { ⌜ (at + 10 ≤ length (now bytes)) × (isFields (now bytes) at ≡ true) ⌝ }
     ensures { λ r. ⌜ r ≡ joined (fieldsIn (now (bytes .entry)) at) ⌝ }
 {
-    let moves = fields::byte(bytes, at) as u32 * 2 + fields::byte(bytes, at + 1) as u32;
-    let syn = (moves * 2 + fields::byte(bytes, at + 2) as u32) * 4
-        + fields::byte(bytes, at + 3) as u32;
-    let chained = (syn * 2 + fields::byte(bytes, at + 4) as u32) * 4
-        + fields::byte(bytes, at + 5) as u32;
-    let tx = (chained * 2 + fields::byte(bytes, at + 6) as u32) * 4
-        + fields::byte(bytes, at + 7) as u32;
-    (tx * 4 + fields::byte(bytes, at + 8) as u32) * 8 + fields::byte(bytes, at + 9) as u32
+    let moves = behind(fields::byte(bytes, at) as u32, 2, bytes, at + 1);
+    let translates = behind(moves, 2, bytes, at + 2);
+    let syn = behind(translates, 4, bytes, at + 3);
+    let source = behind(syn, 2, bytes, at + 4);
+    let chained = behind(source, 4, bytes, at + 5);
+    let single = behind(chained, 2, bytes, at + 6);
+    let tx = behind(single, 4, bytes, at + 7);
+    let tbc = behind(tx, 4, bytes, at + 8);
+    behind(tbc, 8, bytes, at + 9)
 }
 
 // Whether the fields of a block are those of its CC: they make it up but for its LOCK bit.

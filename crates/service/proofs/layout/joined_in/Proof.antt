@@ -9,196 +9,88 @@ use Rattle.service.proofs.layout.joined_in.Tie as tie
 byte-requires : tie.Need-byte-requires
 byte-requires c κs = search needs
 
-cast-moves : tie.Need-cast-moves
-cast-moves c = search needs
+cast-behind : tie.Need-cast-behind
+cast-behind c = search needs
 
-mul-moves : tie.Need-mul-moves
-mul-moves c = search needs
+add-behind : tie.Need-add-behind
+add-behind c = search needs
 
-add-byte : tie.Need-add-byte
-add-byte c = search needs
+behind-requires : tie.Need-behind-requires
+behind-requires c κs = search needs
 
-byte-requires-2 : tie.Need-byte-requires-2
-byte-requires-2 c κs = search needs
+add-behind-2 : tie.Need-add-behind-2
+add-behind-2 c = search needs
 
-cast-moves-2 : tie.Need-cast-moves-2
-cast-moves-2 c = search needs
+behind-requires-2 : tie.Need-behind-requires-2
+behind-requires-2 c κs = search needs
 
-add-moves : tie.Need-add-moves
-add-moves c = search needs
+add-behind-3 : tie.Need-add-behind-3
+add-behind-3 c = search needs
 
-mul-syn : tie.Need-mul-syn
-mul-syn c = search needs
+behind-requires-3 : tie.Need-behind-requires-3
+behind-requires-3 c κs = search needs
 
-add-byte-2 : tie.Need-add-byte-2
-add-byte-2 c = search needs
+add-behind-4 : tie.Need-add-behind-4
+add-behind-4 c = search needs
 
-byte-requires-3 : tie.Need-byte-requires-3
-byte-requires-3 c κs = search needs
+behind-requires-4 : tie.Need-behind-requires-4
+behind-requires-4 c κs = search needs
 
-cast-syn : tie.Need-cast-syn
-cast-syn c = search needs
+add-behind-5 : tie.Need-add-behind-5
+add-behind-5 c = search needs
 
-add-syn : tie.Need-add-syn
-add-syn c = search needs
+behind-requires-5 : tie.Need-behind-requires-5
+behind-requires-5 c κs = search needs
 
-mul-syn-2 : tie.Need-mul-syn-2
-mul-syn-2 c = search needs
+add-behind-6 : tie.Need-add-behind-6
+add-behind-6 c = search needs
 
-add-byte-3 : tie.Need-add-byte-3
-add-byte-3 c = search needs
+behind-requires-6 : tie.Need-behind-requires-6
+behind-requires-6 c κs = search needs
 
-byte-requires-4 : tie.Need-byte-requires-4
-byte-requires-4 c κs = search needs
+add-behind-7 : tie.Need-add-behind-7
+add-behind-7 c = search needs
 
-cast-syn-2 : tie.Need-cast-syn-2
-cast-syn-2 c = search needs
+behind-requires-7 : tie.Need-behind-requires-7
+behind-requires-7 c κs = search needs
 
-add-syn-2 : tie.Need-add-syn-2
-add-syn-2 c = search needs
+add-behind-8 : tie.Need-add-behind-8
+add-behind-8 c = search needs
 
-mul-chained : tie.Need-mul-chained
-mul-chained c = search needs
+behind-requires-8 : tie.Need-behind-requires-8
+behind-requires-8 c κs = search needs
 
-add-byte-4 : tie.Need-add-byte-4
-add-byte-4 c = search needs
+add-behind-9 : tie.Need-add-behind-9
+add-behind-9 c = search needs
 
-byte-requires-5 : tie.Need-byte-requires-5
-byte-requires-5 c κs = search needs
-
-cast-chained : tie.Need-cast-chained
-cast-chained c = search needs
-
-add-chained : tie.Need-add-chained
-add-chained c = search needs
-
-mul-chained-2 : tie.Need-mul-chained-2
-mul-chained-2 c = search needs
-
-add-byte-5 : tie.Need-add-byte-5
-add-byte-5 c = search needs
-
-byte-requires-6 : tie.Need-byte-requires-6
-byte-requires-6 c κs = search needs
-
-cast-chained-2 : tie.Need-cast-chained-2
-cast-chained-2 c = search needs
-
-add-chained-2 : tie.Need-add-chained-2
-add-chained-2 c = search needs
-
-mul-tx : tie.Need-mul-tx
-mul-tx c = search needs
-
-add-byte-6 : tie.Need-add-byte-6
-add-byte-6 c = search needs
-
-byte-requires-7 : tie.Need-byte-requires-7
-byte-requires-7 c κs = search needs
-
-cast-tx : tie.Need-cast-tx
-cast-tx c = search needs
-
-add-tx : tie.Need-add-tx
-add-tx c = search needs
-
-mul-tx-2 : tie.Need-mul-tx-2
-mul-tx-2 c = search needs
-
-add-byte-7 : tie.Need-add-byte-7
-add-byte-7 c = search needs
-
-byte-requires-8 : tie.Need-byte-requires-8
-byte-requires-8 c κs = search needs
-
-cast-tx-2 : tie.Need-cast-tx-2
-cast-tx-2 c = search needs
-
-add-tx-2 : tie.Need-add-tx-2
-add-tx-2 c = search needs
-
-mul-result : tie.Need-mul-result
-mul-result c = search needs
-
-add-byte-8 : tie.Need-add-byte-8
-add-byte-8 c = search needs
-
-byte-requires-9 : tie.Need-byte-requires-9
-byte-requires-9 c κs = search needs
-
-cast-result : tie.Need-cast-result
-cast-result c = search needs
-
-add-result : tie.Need-add-result
-add-result c = search needs
-
-mul-result-2 : tie.Need-mul-result-2
-mul-result-2 c = search needs
-
-add-byte-9 : tie.Need-add-byte-9
-add-byte-9 c = search needs
-
-byte-requires-10 : tie.Need-byte-requires-10
-byte-requires-10 c κs = search needs
-
-cast-result-2 : tie.Need-cast-result-2
-cast-result-2 c = search needs
-
-add-result-2 : tie.Need-add-result-2
-add-result-2 c = search needs
+behind-requires-9 : tie.Need-behind-requires-9
+behind-requires-9 c κs = search needs
 
 returns : tie.Need-returns
-returns c = let a = c .before .before .before .before .before .before .before .before .before .before .before in rw (c .byte10 .ensures, c .before .byte9 .ensures, c .before .before .byte8 .ensures, c .before .before .before .byte7 .ensures, c .before .before .before .before .byte6 .ensures, c .before .before .before .before .before .byte5 .ensures, c .before .before .before .before .before .before .byte4 .ensures, c .before .before .before .before .before .before .before .byte3 .ensures, c .before .before .before .before .before .before .before .before .byte2 .ensures, c .before .before .before .before .before .before .before .before .before .byte .ensures) (made-up (now (a .args .bytes)) (a .args .at) (a .pre .1))
+returns c = let a = c .before .before .before .before .before .before .before .before .before .before .before in rw (c .behind9 .ensures .0, c .before .behind8 .ensures .0, c .before .before .behind7 .ensures .0, c .before .before .before .behind6 .ensures .0, c .before .before .before .before .behind5 .ensures .0, c .before .before .before .before .before .behind4 .ensures .0, c .before .before .before .before .before .before .behind3 .ensures .0, c .before .before .before .before .before .before .before .behind2 .ensures .0, c .before .before .before .before .before .before .before .before .behind .ensures .0, c .before .before .before .before .before .before .before .before .before .byte .ensures) (made-up (now (a .args .bytes)) (a .args .at) (a .pre .1))
 
 pub joined-in-spec : {M : Type 1} → statement M
 joined-in-spec =
     tie.close
     (tie.spec
     byte-requires
-    cast-moves
-    mul-moves
-    add-byte
-    byte-requires-2
-    cast-moves-2
-    add-moves
-    mul-syn
-    add-byte-2
-    byte-requires-3
-    cast-syn
-    add-syn
-    mul-syn-2
-    add-byte-3
-    byte-requires-4
-    cast-syn-2
-    add-syn-2
-    mul-chained
-    add-byte-4
-    byte-requires-5
-    cast-chained
-    add-chained
-    mul-chained-2
-    add-byte-5
-    byte-requires-6
-    cast-chained-2
-    add-chained-2
-    mul-tx
-    add-byte-6
-    byte-requires-7
-    cast-tx
-    add-tx
-    mul-tx-2
-    add-byte-7
-    byte-requires-8
-    cast-tx-2
-    add-tx-2
-    mul-result
-    add-byte-8
-    byte-requires-9
-    cast-result
-    add-result
-    mul-result-2
-    add-byte-9
-    byte-requires-10
-    cast-result-2
-    add-result-2
+    cast-behind
+    add-behind
+    behind-requires
+    add-behind-2
+    behind-requires-2
+    add-behind-3
+    behind-requires-3
+    add-behind-4
+    behind-requires-4
+    add-behind-5
+    behind-requires-5
+    add-behind-6
+    behind-requires-6
+    add-behind-7
+    behind-requires-7
+    add-behind-8
+    behind-requires-8
+    add-behind-9
+    behind-requires-9
     returns)
