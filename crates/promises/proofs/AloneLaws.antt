@@ -32,14 +32,14 @@ use Rattle.step.specs.Ranks.{HasRank, ExternalAt, rankAt}
 use Rattle.words.proofs.ChoiceLaws.{apart}
 use Rattle.promises.specs.Calls.{Turn, Calls, Moves, EndsAtCall, begin, transfer, step, attention, host}
 use Rattle.promises.specs.Joined.{RunsAlone, Through}
-use Rattle.promises.specs.Premises.{into, Copy}
+use Rattle.block_rules.specs.Premises.{into, Copy}
 use Rattle.promises.specs.Runs.{none, more}
-use Rattle.promises.specs.Stages.{Going, Ended}
-use Rattle.promises.specs.Totals.{movedAfter, total}
-use Rattle.promises.proofs.CopyLaws.{within-then, down}
+use Rattle.block_rules.specs.Stages.{Going, Ended}
+use Rattle.block_rules.specs.Totals.{movedAfter, total}
+use Rattle.block_rules.proofs.CopyLaws.{within-then, down}
 use Rattle.promises.proofs.InstructionLaws.{turn-executes}
 use Rattle.promises.proofs.MachineLaws.{demand3-calls}
-use Rattle.promises.proofs.StageLaws.{mid-fields}
+use Rattle.block_rules.proofs.StageLaws.{mid-fields}
 
 -- ---- its turn
 
@@ -145,41 +145,40 @@ none-steps s m lines z h =
 -- ---- its transfer goes through
 
 module _ (b : Bool) (n : ℕ) (s₀ : State) (m₀ : Buffers) (lines : ℕ) (p : Copy n (channelOf s₀ b) m₀) where
+  -- short of the total: it goes on, the next step call is its turn, and that step is done
+  module _ (k : ℕ) (h : k < total (channelOf s₀ b) n) (t : Through b n s₀ m₀ lines k) where
+    pub going-on : Going n (channelOf s₀ b) m₀ k (channelOf (t .state) b) (t .memory)
+    going-on = demand3-calls p .before (t .calls) h
+
+    pub fields-on : channelOf (t .state) b .fields ≡ channelOf s₀ b .fields
+    fields-on = ap (λ (c : Channel). c .fields) (going-on .registers) ∙ mid-fields (channelOf s₀ b) n (movedAfter (channelOf s₀ b) n k)
+
+    pub turn-on : Turn b (t .state) (t .memory) lines
+    turn-on =
+        transfer-turn b (t .state) (t .memory) lines (t .alone) (going-on .runs) (going-on .transfers)
+        (ap (λ (f : Fields). f .synchronised) fields-on ∙ p .plain .unsynchronised) (ap (λ (f : Fields). f .externalEnd) fields-on ∙ p .plain .unended)
+
+    pub moves-on : Moves b n s₀ (t .state) (t .memory) lines
+    moves-on = demand3-calls p .turns (t .calls) h lines turn-on
+
   -- one more of its transfer steps
-  through-next : (k : ℕ) → k < total (channelOf s₀ b) n → Through b n s₀ m₀ lines k → Through b n s₀ m₀ lines (suc k)
+  unfoldable pub through-next : (k : ℕ) → k < total (channelOf s₀ b) n → Through b n s₀ m₀ lines k → Through b n s₀ m₀ lines (suc k)
   through-next k h t =
+      let s = t .state in
+      let m = t .memory in
+      let moves = moves-on k h t in
       record {
         state = (stepOf s m lines) .state;
         memory = (stepOf s m lines) .memory;
         done = more (t .done) (moves .done);
-        calls = transfer (t .calls) lines turn (g .transfers);
+        calls = transfer (t .calls) lines (turn-on k h t) (going-on k h t .transfers);
         alone = alone-next b s m lines (t .alone) (moves .done) (moves .channel);
         control = cp-kept s m lines ∙ t .control;
         spares = within-then (into (channelOf s₀ b)) n m₀ m ((stepOf s m lines) .memory) (t .spares) (moves .spares);
       }
-    where
-      s : State
-      s = t .state
-
-      m : Buffers
-      m = t .memory
-
-      g : Going n (channelOf s₀ b) m₀ k (channelOf s b) m
-      g = demand3-calls p .before (t .calls) h
-
-      fields : channelOf s b .fields ≡ channelOf s₀ b .fields
-      fields = ap (λ (c : Channel). c .fields) (g .registers) ∙ mid-fields (channelOf s₀ b) n (movedAfter (channelOf s₀ b) n k)
-
-      turn : Turn b s m lines
-      turn =
-          transfer-turn b s m lines (t .alone) (g .runs) (g .transfers)
-          (ap (λ (f : Fields). f .synchronised) fields ∙ p .plain .unsynchronised) (ap (λ (f : Fields). f .externalEnd) fields ∙ p .plain .unended)
-
-      moves : Moves b n s₀ s m lines
-      moves = demand3-calls p .turns (t .calls) h lines turn
 
   -- as many as there are up to the total
-  pub through : RunsAlone b s₀ m₀ lines → (k : ℕ) → k ≤ total (channelOf s₀ b) n → Through b n s₀ m₀ lines k
+  unfoldable pub through : RunsAlone b s₀ m₀ lines → (k : ℕ) → k ≤ total (channelOf s₀ b) n → Through b n s₀ m₀ lines k
   through a zero h =
       record {
         state = s₀;

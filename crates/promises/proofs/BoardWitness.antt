@@ -28,7 +28,7 @@ use Rattle.promises.specs.Image.{put, layoutOf, copyOf, imageIn}
 use Rattle.promises.specs.Met.{zerosOf, zeros}
 use Rattle.promises.specs.Powering.{RowPowered, topBytes, boardedImage, RowPoweredMet}
 use Rattle.promises.specs.Program.{Job, Layout, blockAt, doubleword, programOf, mostBy, Ready}
-use Rattle.promises.specs.Stages.{Outside}
+use Rattle.block_rules.specs.Stages.{Outside}
 use Rattle.promises.proofs.CaseLaws.{pointer-given}
 use Rattle.promises.proofs.CopyWitness.{zeros-within}
 use Rattle.promises.proofs.ImageLaws.{put-length, put-other, stand-put, differ, whole-put, whole-stand, block-low, ready-met, zeros-whole}

@@ -23,9 +23,9 @@ use Rattle.transfer.specs.Sides.{source, destination}
 use Rattle.words.proofs.ChoiceLaws.{apart}
 use Rattle.words.specs.Bits.{bitOf, fieldOf}
 use Rattle.promises.specs.Calls.{Calls, EndsAtCall, begin, transfer, step}
-use Rattle.promises.specs.Premises.{Lent}
-use Rattle.promises.specs.Rows.{Untouched}
-use Rattle.promises.specs.Stages.{Ended}
+use Rattle.block_rules.specs.Premises.{Lent}
+use Rattle.block_rules.specs.Rows.{Untouched}
+use Rattle.block_rules.specs.Stages.{Ended}
 use Rattle.promises.specs.Witness.{channelWith, narrowAt, narrowEnd, wideAt, wideEnd, memoryWith, six, bothWith}
 use Rattle.promises.proofs.MachineLaws.{demand3-calls}
 use Rattle.promises.proofs.WitnessLaws.{narrow-met, transferOpen, narrow-total}

@@ -20,9 +20,9 @@ use Rattle.words.specs.Bytes.{wordOf}
 use Rattle.words.specs.Sums.{addressOf}
 use Rattle.promises.specs.Calls.{EndsAtCall}
 use Rattle.promises.specs.Cases.{Stand, storedForm, Both8, Both16Even, Both16Odd, From16OddInto8, Takes}
-use Rattle.promises.specs.Premises.{Lent}
-use Rattle.promises.specs.Totals.{narrow, total}
-use Rattle.promises.proofs.CountLaws.{total-narrow, total-wide, alone-none, alone-one}
+use Rattle.block_rules.specs.Premises.{Lent}
+use Rattle.block_rules.specs.Totals.{narrow, total}
+use Rattle.block_rules.proofs.CountLaws.{total-narrow, total-wide, alone-none, alone-one}
 use Rattle.promises.proofs.InstructionLaws.{word-at}
 use Rattle.promises.proofs.MachineLaws.{demand3-calls}
 

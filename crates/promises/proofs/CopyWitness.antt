@@ -20,8 +20,8 @@ use Rattle.words.specs.Bits.{fieldOf, bitOf}
 use Rattle.promises.specs.Cases.{Both8, Both16Even, Both16Odd, From16OddInto8}
 use Rattle.promises.specs.Joined.{RunsAlone}
 use Rattle.promises.specs.Met.{pswOf, copying, zerosOf, zeros, onlyIn, Met, CasesMet}
-use Rattle.promises.specs.Premises.{Plain, Copy}
-use Rattle.promises.specs.Totals.{total}
+use Rattle.block_rules.specs.Premises.{Plain, Copy}
+use Rattle.block_rules.specs.Totals.{total}
 use Rattle.promises.specs.Witness.{channelWith}
 use Rattle.promises.proofs.AloneLaws.{entered, put-ready, through}
 use Rattle.promises.proofs.CaseLaws.{total-8, total-even, total-odd, total-mixed}

@@ -23,9 +23,9 @@ use Rattle.words.specs.Choice.{pick}
 use Rattle.promises.specs.Cases.{Stand}
 use Rattle.promises.specs.Image.{put, layoutOf, copyOf, imageIn, ReadyMet}
 use Rattle.promises.specs.Met.{zerosOf, zeros}
-use Rattle.promises.specs.Premises.{Lent}
+use Rattle.block_rules.specs.Premises.{Lent}
 use Rattle.promises.specs.Program.{Job, Layout, systemPlace, fromPlace, intoPlace, blockAt, busyAt, doubleword, programOf, mostBy, mostOf, Ready, RunCopies, runIn, RowMade}
-use Rattle.promises.specs.Stages.{Outside}
+use Rattle.block_rules.specs.Stages.{Outside}
 use Rattle.promises.proofs.CopyWitness.{zeros-within}
 use Rattle.promises.proofs.Showpiece.{fits-exactly, showpiece, row-made}
 use Rattle.promises.proofs.StandLaws.{stand-kept}

@@ -22,10 +22,10 @@ use Rattle.words.specs.Choice.{pick}
 use Rattle.words.specs.Sums.{sum20}
 use Rattle.promises.specs.Cases.{Stand}
 use Rattle.promises.specs.Joined.{RunsAlone, Through, endOf, Comes, Halted}
-use Rattle.promises.specs.Premises.{into}
+use Rattle.block_rules.specs.Premises.{into}
 use Rattle.promises.specs.Runs.{DoneSteps, StepsEnd, firstAttention, none, more, after}
-use Rattle.promises.specs.Stages.{Ended}
-use Rattle.promises.specs.Totals.{total}
+use Rattle.block_rules.specs.Stages.{Ended}
+use Rattle.block_rules.specs.Totals.{total}
 use Rattle.promises.proofs.AloneLaws.{each, program-turn, alone-next, instruction-done, none-steps, through}
 use Rattle.promises.proofs.MachineLaws.{demand3-calls}
 use Rattle.promises.proofs.ProgramSteps.{Stopped, hlt-stops}

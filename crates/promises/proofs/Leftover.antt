@@ -23,7 +23,7 @@ use Rattle.promises.specs.SheetOperands.{ranChannel}
 use Rattle.promises.specs.SheetTransfer.{intoPointer, intoWordSide, intoSecond, fromWordSide, twoGo, firstByte, secondByte, meetsIn, singly, twoStored, storedCount, fetchedCount, countLeft, maxOf, codeOfEnd, halfDue, storesTwice, fetchesTwice, Transfers, TransferLeft}
 use Rattle.promises.specs.SheetTurns.{offsetIn}
 use Rattle.promises.specs.SheetWords.{bit, field}
-use Rattle.promises.specs.Stages.{onBy}
+use Rattle.block_rules.specs.Stages.{onBy}
 use Rattle.promises.proofs.CallLaws.{attention-kept, not-of}
 use Rattle.promises.specs.SheetHalves.{isNone, OnlyHeld, pairLess, pairCode, PairLeft, HalfLeft}
 use Rattle.promises.proofs.SheetHalves.{half-sheet}

@@ -1,9 +1,4 @@
 pub mod AgreeLaws
-pub mod CountLaws
-pub mod HeldLaws
-pub mod StageLaws
-pub mod CopyLaws
-pub mod Demand3
 pub mod CallLaws
 pub mod MachineLaws
 pub mod InstructionLaws

@@ -17,12 +17,12 @@ use Rattle.transfer.proofs.KeptLaws.{only-these}
 use Rattle.machine.specs.Updates.{withTransfer}
 use Rattle.transfer.specs.Steps.{transferOf}
 use Rattle.promises.specs.Calls.{Turn, Calls, Moves, EndsAtCall, begin, transfer, step, attention, host}
-use Rattle.promises.specs.Premises.{into, Copy}
-use Rattle.promises.specs.Rows.{Untouched, Row, start, steps, other}
-use Rattle.promises.specs.Stages.{Within, Going}
-use Rattle.promises.specs.Totals.{total}
+use Rattle.block_rules.specs.Premises.{into, Copy}
+use Rattle.block_rules.specs.Rows.{Untouched, Row, start, steps, other}
+use Rattle.block_rules.specs.Stages.{Within, Going}
+use Rattle.block_rules.specs.Totals.{total}
 use Rattle.promises.proofs.CallLaws.{turn-is, settled-done, transfer-channel, transfer-memory, step-kept, attention-kept}
-use Rattle.promises.proofs.Demand3.{going, ended}
+use Rattle.block_rules.proofs.Demand3.{going, ended}
 
 -- a transfer step leaves CC
 transfer-fields : (c : Channel) (m : Buffers) → (transferOf c m) .channel .fields ≡ c .fields

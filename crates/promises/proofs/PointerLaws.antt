@@ -49,7 +49,7 @@ use Rattle.step.specs.Step.{Step, doneStep, settledStep, instructionStep, chann
 use Rattle.step.specs.declared.Kind.{Kind}
 use Rattle.words.proofs.ChoiceLaws.{apart, both-left, both-right, or-false}
 use Rattle.words.specs.Choice.{pick}
-use Rattle.promises.specs.Premises.{Lent}
+use Rattle.block_rules.specs.Premises.{Lent}
 use Rattle.promises.specs.Pointers.{Holds, StepCall, leftBy, channelOn, Executes, found, operandOf, SameThree, LoadsFrom}
 
 -- ---- what a done step that executes has passed, and what it leaves

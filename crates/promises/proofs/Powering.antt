@@ -34,7 +34,7 @@ use Rattle.words.specs.Bits.{bitOf}
 use Rattle.promises.specs.Demand1.{Blank}
 use Rattle.promises.specs.Powering.{Unused, setIn, configurationIn, controlIn, thirteenAfter, ResetLeaves, elevenIn, PowerLeaves, boardChecks, BoardRuns, Breaks, RowBroken}
 use Rattle.promises.specs.Runs.{LimitOver}
-use Rattle.promises.specs.Stages.{Going, Ended}
+use Rattle.block_rules.specs.Stages.{Going, Ended}
 use Rattle.promises.proofs.RunLaws.{told-call}
 use Rattle.promises.proofs.SheetLaws.{far-alike}
 

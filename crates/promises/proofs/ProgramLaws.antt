@@ -29,11 +29,11 @@ use Rattle.words.specs.Sums.{addressOf}
 use Rattle.promises.specs.Cases.{Stand}
 use Rattle.promises.specs.Joined.{RunsAlone}
 use Rattle.promises.specs.Met.{pswOf, copying}
-use Rattle.promises.specs.Premises.{from, into, Plain}
+use Rattle.block_rules.specs.Premises.{from, into, Plain}
 use Rattle.promises.specs.Program.{Job, systemPlace, fromPlace, intoPlace, programOf, haltAt, stepsOf}
 use Rattle.promises.specs.Runs.{DoneSteps, more}
-use Rattle.promises.specs.Stages.{onBy}
-use Rattle.promises.specs.Totals.{narrow, alone, total}
+use Rattle.block_rules.specs.Stages.{onBy}
+use Rattle.block_rules.specs.Totals.{narrow, alone, total}
 use Rattle.promises.specs.Witness.{channelWith}
 use Rattle.promises.proofs.AloneLaws.{program-turn, alone-next, instruction-done}
 use Rattle.promises.proofs.Joined.{busy-same}

@@ -38,7 +38,7 @@ use Rattle.attention.specs.declared.Command.the-variants.{StartSystem}
 use Rattle.attention.specs.declared.Order.{Order}
 use Rattle.words.specs.Bits.{fieldOf, bitOf, withBit}
 use Rattle.words.specs.Sums.{addressOf}
-use Rattle.promises.specs.Premises.{Lent}
+use Rattle.block_rules.specs.Premises.{Lent}
 use Rattle.promises.proofs.ProgramSteps.{view, viewOf}
 use Rattle.promises.proofs.RunLaws.{fresh-good}
 use Rattle.promises.proofs.StandLaws.{span-touchable}

@@ -41,7 +41,7 @@ use Rattle.words.specs.Sums.{addressOf}
 use Rattle.promises.specs.Cases.{Stand}
 use Rattle.promises.specs.Met.{pswOf}
 use Rattle.promises.specs.Program.{widOf}
-use Rattle.promises.specs.Stages.{onBy}
+use Rattle.block_rules.specs.Stages.{onBy}
 use Rattle.promises.proofs.CaseLaws.{pointer-given}
 use Rattle.promises.proofs.InstructionLaws.{decoded, pair-touchable, immediateDone, immediate-executed}
 use Rattle.promises.proofs.StandLaws.{stand-on, rest-touchable}

@@ -30,7 +30,7 @@ use Rattle.promises.specs.Runs.{LimitOver, CpPast, startChecks, firstAtt
 -- ---- the steps
 
 -- after k done steps a run goes on as one from there
-goes-on : {lines : ℕ} {s₀ : State} {m₀ : Buffers} {k : ℕ} {s : State} {m : Buffers} → DoneSteps lines s₀ m₀ k s m
+pub goes-on : {lines : ℕ} {s₀ : State} {m₀ : Buffers} {k : ℕ} {s : State} {m : Buffers} → DoneSteps lines s₀ m₀ k s m
     → (left done : ℕ) → stepsFrom (k + left) s₀ m₀ lines done ≡ stepsFrom left s m lines (done + k)
 goes-on {lines} {s₀} {m₀} none left done =
     let all : 0 + left ≡ left = omega arith in

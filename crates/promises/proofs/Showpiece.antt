@@ -33,16 +33,16 @@ use Rattle.panel.specs.Run.{answerOf, Call}
 use Rattle.promises.specs.Cases.{Stand}
 use Rattle.promises.specs.Joined.{RunsAlone, endOf, Comes, Halted}
 use Rattle.promises.specs.Met.{copying}
-use Rattle.promises.specs.Premises.{from, into, Lent, ShareNone, Copy}
+use Rattle.block_rules.specs.Premises.{from, into, Lent, ShareNone, Copy}
 use Rattle.promises.specs.Program.{Job, Layout, fromPlace, intoPlace, pbPlace, programPlace, blockAt, busyAt, programOf, haltAt, stepsOf, Ready, BlockMoved, RunCopies, runIn, Showpiece, ShowpieceCall, RowMade, mostBy, FitsExactly}
 use Rattle.promises.specs.Runs.{DoneSteps, firstAttention, startChecks, none}
-use Rattle.promises.specs.Stages.{onBy, Outside}
-use Rattle.promises.specs.Totals.{narrow, total}
+use Rattle.block_rules.specs.Stages.{onBy, Outside}
+use Rattle.block_rules.specs.Totals.{narrow, total}
 use Rattle.promises.specs.Witness.{channelWith}
 use Rattle.promises.proofs.AgreeLaws.{told-not}
 use Rattle.promises.proofs.AloneLaws.{entered, put-ready, limits-kept, through}
 use Rattle.promises.proofs.CaseLaws.{pointer-given}
-use Rattle.promises.proofs.CountLaws.{total-narrow, total-wide, alone-none, alone-one}
+use Rattle.block_rules.proofs.CountLaws.{total-narrow, total-wide, alone-none, alone-one}
 use Rattle.promises.proofs.Joined.{busy-same, run-halts}
 use Rattle.promises.proofs.ProgramLaws.{Come, begins, six, from-is, into-is, plain-is, total-is, place-is, on-twice}
 use Rattle.promises.proofs.ProgramStart.{Starts, Begun, begun, fresh-still, sound-fresh}

@@ -14,8 +14,8 @@ use Rattle.memory.specs.Buffers.{Buffers, indexOf, lentAt, byteAt}
 use Rattle.memory.specs.Places.{span, allPass, allTouchable}
 use Rattle.memory.specs.declared.Pointer.{Pointer}
 use Rattle.promises.specs.Cases.{Stand}
-use Rattle.promises.specs.Premises.{Lent}
-use Rattle.promises.specs.Stages.{onBy}
+use Rattle.block_rules.specs.Premises.{Lent}
+use Rattle.block_rules.specs.Stages.{onBy}
 
 -- bytes in a row that are lent may be touched, as a list of places
 pub span-touchable : (m : Buffers) (t : Bool) (a n : ℕ) → ((i : ℕ) → i < n → lentAt m t (a + i) ≡ true) → allTouchable m (span t a n) ≡ true

@@ -25,11 +25,11 @@ use Rattle.transfer.specs.Stores.{movedChannel, movedMemory, firstMeets, matchM
 use Rattle.words.proofs.ChoiceLaws.{apart}
 use Rattle.words.specs.Bits.{fieldOf, bitOf, withBit}
 use Rattle.words.specs.Compare.{matchOf}
-use Rattle.promises.specs.Premises.{Plain, Copy}
-use Rattle.promises.specs.Rows.{after, EndsAt}
-use Rattle.promises.specs.Totals.{narrow, alone, total}
+use Rattle.block_rules.specs.Premises.{Plain, Copy}
+use Rattle.block_rules.specs.Rows.{after, EndsAt}
+use Rattle.block_rules.specs.Totals.{narrow, alone, total}
 use Rattle.promises.specs.Witness.{channelWith, narrowAt, narrowEnd, wideAt, wideEnd, memoryWith, six, memoryStart}
-use Rattle.promises.proofs.Demand3.{demand3}
+use Rattle.block_rules.proofs.Demand3.{demand3}
 
 -- every premise on a channel, both widths 8
 narrow-plain : Plain (narrowAt 0 16 5)

@@ -11,9 +11,9 @@ use Rattle.step.specs.declared.turns.Choice.the-variants.{Steps}
 use Rattle.step.specs.declared.Kind.the-variants.{Transfer}
 use Rattle.step.specs.Choosing.{choiceOf}
 use Rattle.step.specs.Step.{entryNumber, stepOf}
-use Rattle.promises.specs.Premises.{into}
-use Rattle.promises.specs.Stages.{Within, Going, Ended}
-use Rattle.promises.specs.Rows.{Untouched}
+use Rattle.block_rules.specs.Premises.{into}
+use Rattle.block_rules.specs.Stages.{Within, Going, Ended}
+use Rattle.block_rules.specs.Rows.{Untouched}
 
 -- a step call is a channel's turn: none of 12, 11, 10, 13 and 14 refuses it, and the choice falls on that channel
 pub record Turn (second : Bool) (s : State) (m : Buffers) (lines : ℕ) : Type 0 where

@@ -18,7 +18,7 @@ use Rattle.transfer.specs.Sides.{source, destination}
 use Rattle.step.specs.Ranks.{RankThree}
 use Rattle.step.specs.Step.{stepOf}
 use Rattle.promises.specs.Calls.{Turn, EndsAtCall}
-use Rattle.promises.specs.Premises.{from, into, Lent, Copy}
+use Rattle.block_rules.specs.Premises.{from, into, Lent, Copy}
 
 -- ---- bytes, instructions and pointers
 

@@ -17,10 +17,10 @@ use Rattle.step.specs.Step.{entryNumber}
 use Rattle.panel.specs.Run.{Run}
 use Rattle.promises.specs.Calls.{Calls}
 use Rattle.promises.specs.Cases.{Stand}
-use Rattle.promises.specs.Premises.{from, into, Copy}
+use Rattle.block_rules.specs.Premises.{from, into, Copy}
 use Rattle.promises.specs.Runs.{DoneSteps, startChecks, firstAttention}
-use Rattle.promises.specs.Stages.{onBy, Outside, Within}
-use Rattle.promises.specs.Totals.{total}
+use Rattle.block_rules.specs.Stages.{onBy, Outside, Within}
+use Rattle.block_rules.specs.Totals.{total}
 
 -- a channel is alone: none of 12, 11, 10, 13 and 14 refuses a step, and the other channel does not run
 pub record RunsAlone (second : Bool) (s : State) (m : Buffers) (lines : ℕ) : Type 0 where

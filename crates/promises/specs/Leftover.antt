@@ -16,7 +16,7 @@ use Rattle.machine.specs.declared.State.{State}
 use Rattle.attention.specs.Attention.{attentionOf}
 use Rattle.transfer.specs.Steps.{transferred, transferOf}
 use Rattle.step.specs.Step.{stepOf}
-use Rattle.promises.specs.Stages.{onBy}
+use Rattle.block_rules.specs.Stages.{onBy}
 use Rattle.promises.specs.SheetWords.{bit, field}
 use Rattle.promises.specs.SheetOperands.{ranChannel}
 use Rattle.promises.specs.SheetTurns.{offsetIn}

@@ -12,7 +12,7 @@ use Rattle.machine.specs.declared.State.{State}
 use Rattle.machine.specs.States.{freshState, channelOf, withChannel}
 use Rattle.promises.specs.Cases.{Both8, Both16Even, Both16Odd, From16OddInto8}
 use Rattle.promises.specs.Joined.{Through}
-use Rattle.promises.specs.Premises.{Copy}
+use Rattle.block_rules.specs.Premises.{Copy}
 use Rattle.promises.specs.Witness.{channelWith}
 
 -- PSW of a running program with XF and these widths, source then destination

@@ -27,7 +27,7 @@ use Rattle.execute.specs.Execute.{decodedAt}
 use Rattle.step.specs.declared.turns.Choice.the-variants.{Steps}
 use Rattle.step.specs.Choosing.{choiceOf}
 use Rattle.step.specs.Step.{Step, stepOf}
-use Rattle.promises.specs.Premises.{Lent}
+use Rattle.block_rules.specs.Premises.{Lent}
 
 -- the stored form of an address with its tag, read back, is that address and that tag
 pub record FormKept (address : ℕ) (tag : Bool) : Type 0 where

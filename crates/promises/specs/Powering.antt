@@ -25,7 +25,7 @@ use Rattle.promises.specs.Image.{put, layoutOf, copyOf, imageIn}
 use Rattle.promises.specs.Program.{Job, Layout, mostBy, RowMade}
 use Rattle.promises.specs.Runs.{LimitOver}
 use Rattle.promises.specs.SheetWords.{bit, farIn}
-use Rattle.promises.specs.Stages.{Going, Ended}
+use Rattle.block_rules.specs.Stages.{Going, Ended}
 
 -- ---- what is left
 

@@ -19,10 +19,10 @@ use Rattle.panel.specs.Run.{Run, runOf}
 use Rattle.promises.specs.Cases.{Stand}
 use Rattle.promises.specs.Joined.{Through}
 use Rattle.promises.specs.Met.{copying}
-use Rattle.promises.specs.Premises.{Lent, ShareNone, Copy}
+use Rattle.block_rules.specs.Premises.{Lent, ShareNone, Copy}
 use Rattle.promises.specs.Runs.{DoneSteps, firstAttention}
-use Rattle.promises.specs.Stages.{Outside}
-use Rattle.promises.specs.Totals.{total}
+use Rattle.block_rules.specs.Stages.{Outside}
+use Rattle.block_rules.specs.Totals.{total}
 use Rattle.promises.specs.Unique.{CallMeets}
 
 -- ---- what is copied, and where things stand

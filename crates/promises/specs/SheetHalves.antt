@@ -18,7 +18,7 @@ use Rattle.transfer.specs.Steps.{touchedByTransfer}
 use Rattle.step.specs.Step.{stepOf}
 use Rattle.step.specs.Touched.{stepCount}
 use Rattle.promises.specs.Calls.{Turn}
-use Rattle.promises.specs.Stages.{onBy}
+use Rattle.block_rules.specs.Stages.{onBy}
 use Rattle.promises.specs.SheetWords.{bit, field}
 use Rattle.promises.specs.SheetOperands.{ranChannel}
 use Rattle.promises.specs.SheetTurns.{offsetIn}

@@ -5,8 +5,8 @@ use Rattle.memory.specs.declared.Pointer.{Pointer}
 use Rattle.memory.specs.Buffers.{Buffers, byteAt}
 use Rattle.machine.specs.declared.Channel.{Channel}
 use Rattle.transfer.specs.Steps.{Transfer, transferred, transferOf}
-use Rattle.promises.specs.Premises.{from, into, Lent}
-use Rattle.promises.specs.Stages.{Going, Ended}
+use Rattle.block_rules.specs.Premises.{from, into, Lent}
+use Rattle.block_rules.specs.Stages.{Going, Ended}
 
 -- the bytes of a range of n are in m′ as they are in m, and lent; buffers may be other ones everywhere else, and of other lengths
 pub record Left (p : Pointer) (n : ℕ) (m m′ : Buffers) : Type 0 where

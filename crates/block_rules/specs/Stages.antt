@@ -18,8 +18,8 @@ use Rattle.machine.specs.declared.Held.the-variants.{NoByte}
 use lib.Dec.{eqb}
 use Rattle.words.specs.Choice.{pick}
 use Rattle.transfer.specs.Steps.{transferOf}
-use Rattle.promises.specs.Premises.{from, into, Lent}
-use Rattle.promises.specs.Totals.{movedAfter}
+use Rattle.block_rules.specs.Premises.{from, into, Lent}
+use Rattle.block_rules.specs.Totals.{movedAfter}
 
 -- a pointer on by some bytes
 abbrev pub onBy : Pointer → ℕ → Pointer

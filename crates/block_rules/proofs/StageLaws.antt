@@ -25,9 +25,9 @@ use Rattle.transfer.specs.Stores.{movedChannel}
 use Rattle.words.specs.Bits.{bitOf}
 use Rattle.words.specs.Choice.{pick}
 use Rattle.words.specs.Sums.{countDown}
-use Rattle.promises.specs.Premises.{from, into, Plain}
-use Rattle.promises.specs.Stages.{onBy, heldOn, midway, finished}
-use Rattle.promises.specs.Totals.{narrow}
+use Rattle.block_rules.specs.Premises.{from, into, Plain}
+use Rattle.block_rules.specs.Stages.{onBy, heldOn, midway, finished}
+use Rattle.block_rules.specs.Totals.{narrow}
 
 -- the channel when j of n bytes have moved, and at n the end
 unfoldable pub stage : Channel → ℕ → ℕ → Channel

@@ -18,13 +18,13 @@ use Rattle.transfer.specs.Sides.{source, destination, wordSide, twoMove}
 use Rattle.transfer.specs.Steps.{transferred, transferOf}
 use Rattle.transfer.specs.Stores.{movedChannel}
 use Rattle.words.specs.Sums.{sum20}
-use Rattle.promises.specs.Premises.{from, into, Plain, Copy}
-use Rattle.promises.specs.Rows.{Untouched, Row, start, steps, other}
-use Rattle.promises.specs.Stages.{onBy, midway, finished, Held, Within}
-use Rattle.promises.specs.Totals.{movedAfter, narrow, alone, total}
-use Rattle.promises.proofs.CountLaws.{moved-narrow, total-narrow, moved-wide, alone-none, alone-one, moved-zero, moved-le, moved-short}
-use Rattle.promises.proofs.HeldLaws.{held-start, copy-one, copy-two, held-left}
-use Rattle.promises.proofs.StageLaws.{stage, mid-source, mid-destination, mid-block, mid-syn, words-even, words-odd, narrow-one, words-none, words-last, words-two, stage-next, stage-start}
+use Rattle.block_rules.specs.Premises.{from, into, Plain, Copy}
+use Rattle.block_rules.specs.Rows.{Untouched, Row, start, steps, other}
+use Rattle.block_rules.specs.Stages.{onBy, midway, finished, Held, Within}
+use Rattle.block_rules.specs.Totals.{movedAfter, narrow, alone, total}
+use Rattle.block_rules.proofs.CountLaws.{moved-narrow, total-narrow, moved-wide, alone-none, alone-one, moved-zero, moved-le, moved-short}
+use Rattle.block_rules.proofs.HeldLaws.{held-start, copy-one, copy-two, held-left}
+use Rattle.block_rules.proofs.StageLaws.{stage, mid-source, mid-destination, mid-block, mid-syn, words-even, words-odd, narrow-one, words-none, words-last, words-two, stage-next, stage-start}
 
 -- ---- how many bytes the next step moves
 

@@ -11,9 +11,9 @@ use Rattle.memory.proofs.StoreLaws.{store-lent, read-same, read-other}
 use Rattle.memory.specs.Buffers.{Buffers, byteAt, storeByte}
 use Rattle.memory.specs.declared.Pointer.{Pointer}
 use Rattle.words.proofs.ChoiceLaws.{apart}
-use Rattle.promises.specs.Premises.{Lent, ShareNone}
-use Rattle.promises.specs.Rows.{Left}
-use Rattle.promises.specs.Stages.{Held}
+use Rattle.block_rules.specs.Premises.{Lent, ShareNone}
+use Rattle.block_rules.specs.Rows.{Left}
+use Rattle.block_rules.specs.Stages.{Held}
 
 -- at the start none has arrived
 pub held-start : (p q : Pointer) (n : ℕ) (m : Buffers) → Lent m p n → Lent m q n → Held p q n m 0 m

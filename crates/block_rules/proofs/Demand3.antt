@@ -15,12 +15,12 @@ use Rattle.machine.specs.Updates.{withTransfer}
 use Rattle.transfer.specs.Steps.{transferOf}
 use Rattle.words.proofs.BitLaws.{bit-same}
 use Rattle.words.proofs.ChoiceLaws.{apart}
-use Rattle.promises.specs.Premises.{into, Plain, Copy}
-use Rattle.promises.specs.Rows.{after, Row, EndsAt, start, steps}
-use Rattle.promises.specs.Stages.{onBy, midway, finished, Within, Going, Ended}
-use Rattle.promises.specs.Totals.{movedAfter, total}
-use Rattle.promises.proofs.CopyLaws.{Reached, Made, within-then, stage-end, next-made, reached-mid, down, reached}
-use Rattle.promises.proofs.CountLaws.{moved-short, moved-all}
+use Rattle.block_rules.specs.Premises.{into, Plain, Copy}
+use Rattle.block_rules.specs.Rows.{after, Row, EndsAt, start, steps}
+use Rattle.block_rules.specs.Stages.{onBy, midway, finished, Within, Going, Ended}
+use Rattle.block_rules.specs.Totals.{movedAfter, total}
+use Rattle.block_rules.proofs.CopyLaws.{Reached, Made, within-then, stage-end, next-made, reached-mid, down, reached}
+use Rattle.block_rules.proofs.CountLaws.{moved-short, moved-all}
 
 -- on the way the mode and PSW are as at the start: it runs
 mid-runs : (c : Channel) (n j : ℕ) → Plain c → isRunning ((midway c n j) .mode) ≡ true

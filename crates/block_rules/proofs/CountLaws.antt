@@ -7,7 +7,7 @@ use native.Mathlib.Omega.{arith}
 use Rattle.machine.specs.declared.Channel.{Channel}
 use Rattle.transfer.specs.Sides.{source, destination, wordSide}
 use Rattle.words.specs.Choice.{pick}
-use Rattle.promises.specs.Totals.{movedAfter, narrow, alone, total}
+use Rattle.block_rules.specs.Totals.{movedAfter, narrow, alone, total}
 
 -- both sides are eight bits wide: a byte at each step
 pub moved-narrow : (c : Channel) (n k : ℕ) → narrow c ≡ true → movedAfter c n k ≡ min k n
@@ -47,6 +47,14 @@ alone-le c = go (wordSide (source c) || wordSide (destination c))
     go : (b : Bool) → pick b 0 1 ≤ 1
     go true = omega arith
     go false = omega arith
+
+-- a transfer of some bytes takes at most a step for each
+pub total-most : (c : Channel) (n : ℕ) → 1 ≤ n → total c n ≤ n
+total-most c n some = go (narrow c) refl
+  where
+    go : (b : Bool) → narrow c ≡ b → total c n ≤ n
+    go true h = omega (arith, total-narrow c n h)
+    go false h = omega (arith, total-wide c n h, alone-le c)
 
 -- at the start none has moved
 pub moved-zero : (c : Channel) (n : ℕ) → movedAfter c n 0 ≡ 0

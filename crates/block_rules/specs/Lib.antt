@@ -1,0 +1,4 @@
+pub mod Premises
+pub mod Totals
+pub mod Stages
+pub mod Rows
