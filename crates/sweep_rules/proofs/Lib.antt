@@ -1,0 +1,4 @@
+pub mod RangeLaws
+pub mod ConditionLaws
+pub mod PassedLaws
+pub mod LeftLaws

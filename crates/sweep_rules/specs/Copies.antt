@@ -1,0 +1,11 @@
+-- A block of bytes put elsewhere, one byte after the other in ascending order.
+use Prim.Native.Nat.{ℕ, zero, suc, _+_}
+use Rattle.memory.specs.Buffers.{Buffers, byteAt, storeByte}
+use Rattle.memory.specs.declared.Pointer.{Pointer}
+
+-- n bytes from one pointer on put where another points, each read when its turn comes
+unfoldable pub copiedOn : Buffers → Pointer → Pointer → ℕ → Buffers
+copiedOn m p q zero = m
+copiedOn m p q (suc n) =
+    let k = copiedOn m p q n in
+    storeByte k (q .tag) (q .address + n) (byteAt k (p .tag) (p .address + n))
