@@ -1,0 +1,2 @@
+pub mod SpaceLaws
+pub mod Determined
