@@ -13,12 +13,16 @@ extern "C" {
 #define IOP89_STATE_LENGTH 104u
 #define IOP89_STATE_VERSION 4u
 
-/* The number for an attention or a step before power-up. A state from a CP counts as powered up. */
+/* The number for an attention, a step or a sweep before power-up. A state from a CP counts as powered up. */
 #define IOP89_NOT_POWERED_UP 13u
 
-/* The number for an attention or a step of a state in which CC of a channel, whatever its mode, and the fields beside it
- * disagree, directly after 13. MOV and MOVI to CC renew the fields; who sets CC in a state's bytes has iop89_set_cc. */
+/* The number for an attention, a step or a sweep of a state in which CC of a channel, whatever its mode, and the fields
+ * beside it disagree, directly after 13. MOV and MOVI to CC renew the fields; who sets CC in a state's bytes has
+ * iop89_set_cc. */
 #define IOP89_FIELDS_DISAGREE 14u
+
+/* The number for a sweep whose conditions are not met: see iop89_sweep. */
+#define IOP89_NOT_SWEEPABLE 15u
 
 /* The number for bytes that are no state: of another length or version, or with a mode, flag, field or held byte out of
  * range. */
@@ -57,6 +61,29 @@ uint32_t iop89_attention(uint8_t *state, size_t state_len, uint8_t *sys, size_t 
  * between them the channel holds a byte: IOP89_HELD. */
 uint32_t iop89_step(uint8_t *state, size_t state_len, uint8_t *sys, size_t sys_len, uint8_t *io, size_t io_len,
                     uint32_t lines);
+
+/*
+ * Moves in one call every byte that a block transfer of the channel has left, and leaves what the plain steps under
+ * these lines would have left: state, both memories, steps and count. Answers 15, and changes nothing, unless
+ *   no EXT line is up, neither channel's (DRQ lines are free), and the other channel is idle or suspended;
+ *   the channel runs with XF set, both sides move on, SYN 00, no translation, TBC on, TMC's low two bits 00, TX 00, TS 0;
+ *   both ranges, of BC bytes or of 65,536 where BC is 0, are lent without wrapping, and share no byte.
+ * Its parts by the macros below: the number; of a done sweep the steps that it stands for, 1 to 65,536, and how many
+ * bytes it read and stored, two for each byte moved; else both 0.
+ */
+uint64_t iop89_sweep(uint8_t *state, size_t state_len, uint8_t *sys, size_t sys_len, uint8_t *io, size_t io_len,
+                     uint32_t channel, uint32_t lines);
+
+/* The low half of a 64-bit number, by the cast that each language likes. */
+#ifdef __cplusplus
+#define IOP89_LOW_32(number) static_cast<uint32_t>(number)
+#else
+#define IOP89_LOW_32(number) ((uint32_t)(number))
+#endif
+
+#define IOP89_SWEEP_NUMBER(answer) (IOP89_LOW_32(answer) & 0xFFu)
+#define IOP89_SWEEP_STEPS(answer) (IOP89_LOW_32(answer) >> 8)
+#define IOP89_SWEEP_COUNT(answer) IOP89_LOW_32((answer) >> 32)
 
 /* The run of iop89.h with reset and power-up in the place of a CP: 12, 11, power-up's 2, then one attention and steps.
  * The answer is iop89_run's. */
@@ -210,6 +237,7 @@ static inline const char *iop89_service_words(unsigned number)
     case IOP89_BAD_ARGUMENT: return "the channel is neither 1 nor 2, or the line number over 15";
     case IOP89_NOT_POWERED_UP: return "not powered up";
     case IOP89_FIELDS_DISAGREE: return "CC of a channel and its fields disagree";
+    case IOP89_NOT_SWEEPABLE: return "the transfer cannot be swept";
     case IOP89_NO_STATE: return "the bytes are no state";
     default: return iop89_words(number);
     }
@@ -232,13 +260,6 @@ enum iop89_load_refusal {
  * The two buffers must not overlap, and neither pointer may be null, also where its length is 0.
  */
 uint64_t iop89_load(const uint8_t *text, size_t text_len, uint8_t *sys, size_t sys_len);
-
-/* The low half of a 64-bit number, by the cast that each language likes. */
-#ifdef __cplusplus
-#define IOP89_LOW_32(number) static_cast<uint32_t>(number)
-#else
-#define IOP89_LOW_32(number) ((uint32_t)(number))
-#endif
 
 #define IOP89_LOAD_NUMBER(answer) iop89_load_number(answer)
 #define IOP89_LOAD_START(answer) iop89_load_start(answer)

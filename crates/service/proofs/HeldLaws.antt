@@ -74,7 +74,7 @@ unfolding withChannel
 put-held s true c h k = (h .0, k)
 put-held s false c h k = (k, h .1)
 
-done-held : (s : State) (b : Bool) (c : Channel) → HeldFit s → HeldFits (c .held) → HeldFit (withLast (withChannel s b c) b)
+pub done-held : (s : State) (b : Bool) (c : Channel) → HeldFit s → HeldFits (c .held) → HeldFit (withLast (withChannel s b c) b)
 unfolding withLast
 done-held s b c h k = put-held s b c h k
 

@@ -8,4 +8,5 @@ pub mod CallLaws
 pub mod ForthLaws
 pub mod TurnLaws
 pub mod NumberLaws
+pub mod SweepLaws
 pub mod OutcomeLaws

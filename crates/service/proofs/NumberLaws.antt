@@ -23,8 +23,11 @@ use Rattle.power.specs.Power.{powerUpOf, powerCount}
 use Rattle.step.proofs.NumberLaws.{number-given, step-most}
 use Rattle.step.specs.Step.{stepOf}
 use Rattle.step.specs.Touched.{stepCount}
-use Rattle.service.specs.Calls.{made, served, noState, kindNumber, answerFrom, freshMade, resetMade, powerServed, attentionServed, stepServed}
-use Rattle.service.specs.Conditions.{NoState, NoFields, NoHeld, NoBlock, NoBoard, freshChecksOn, resetChecksOn, powerChecksOn, attentionChecksOn, stepChecksOn}
+use Rattle.sweep_rules.proofs.ConditionLaws.{sweep-given}
+use Rattle.sweep_rules.proofs.PassedLaws.{number-is, number-most}
+use Rattle.sweep_rules.specs.Sweep.{sweepOf}
+use Rattle.service.specs.Calls.{made, served, noState, kindNumber, answerFrom, freshMade, resetMade, powerServed, attentionServed, stepServed, sweepAnswerFrom, sweepServed}
+use Rattle.service.specs.Conditions.{NoState, NoFields, NoHeld, NoBlock, NoBoard, freshChecksOn, resetChecksOn, powerChecksOn, attentionChecksOn, stepChecksOn, sweepChecksOn}
 use Rattle.service.specs.Fields.{littleIn, isFlag, isMode, isCode}
 use Rattle.service.specs.Layout.{bytesOf, stateIn, isFields, isBlock, isBoard, isState, stateLength, version, firstAt, secondFrom}
 
@@ -47,6 +50,20 @@ module _ (number channel kind count : ℕ) where
   pub count-part : count < 16 → answerFrom number channel kind count / 4096 ≡ count
   unfolding answerFrom
   count-part h = omega arith
+
+module _ (number steps count : ℕ) (n : number < 256) (k : steps < 16777216) where
+  -- of a sweep's answer: bits 0 to 7, 8 to 31, and those above
+  pub sweep-number-part : sweepAnswerFrom number steps count % 256 ≡ number
+  unfolding sweepAnswerFrom
+  sweep-number-part = omega arith
+
+  pub sweep-steps-part : sweepAnswerFrom number steps count / 256 % 16777216 ≡ steps
+  unfolding sweepAnswerFrom
+  sweep-steps-part = omega arith
+
+  pub sweep-count-part : sweepAnswerFrom number steps count / 4294967296 ≡ count
+  unfolding sweepAnswerFrom
+  sweep-count-part = omega arith
 
 -- ---- 17
 
@@ -100,12 +117,12 @@ told-state b =
     (told-and (told-block b firstAt) (told-block b secondFrom))))))
 
 -- a number that is 17 for bytes that are no state, and below 256 otherwise
-told-17 : {A Q : Type 0} (ok : Bool) (n number answer : ℕ) → Told ok A → answer ≡ pick ok number 17 → (number ≡ n ↔ Q) → (answer ≡ n) ↔ ((A × (n ≡ 17)) ⊎ (¬ A × Q))
+pub told-17 : {A Q : Type 0} (ok : Bool) (n number answer : ℕ) → Told ok A → answer ≡ pick ok number 17 → (number ≡ n ↔ Q) → (answer ≡ n) ↔ ((A × (n ≡ 17)) ⊎ (¬ A × Q))
 told-17 true n number answer t e q = (λ h. inr (t .holds refl, q .0 (sym e ∙ h)), ⊎-elim (λ h. absurd (t .holds refl (h .0))) (λ h. e ∙ q .1 (h .1)))
 told-17 false n number answer t e q = (λ h. inl (t .fails refl, sym h ∙ e), ⊎-elim (λ h. e ∙ sym (h .1)) (λ h. absurd (h .0 (t .fails refl))))
 
--- 17 itself, where the other numbers are at most 14
-exactly-17 : {A : Type 0} (ok : Bool) (number answer : ℕ) → Told ok A → answer ≡ pick ok number 17 → number ≤ 14 → (answer ≡ 17) ↔ A
+-- 17 itself, where the other numbers are below it
+pub exactly-17 : {A : Type 0} (ok : Bool) (number answer : ℕ) → Told ok A → answer ≡ pick ok number 17 → number ≤ 16 → (answer ≡ 17) ↔ A
 exactly-17 true number answer t e small = (λ h. absurd (let f : answer ≡ number = e in omega arith), λ h. absurd (t .holds refl h))
 exactly-17 false number answer t e small = (λ h. t .fails refl, λ h. e)
 
@@ -189,9 +206,39 @@ module _ (b : List ℕ) (m : Buffers) where
   pub attention-17 : (channel : ℕ) → (attentionServed b m channel .answer % 256 ≡ 17) ↔ NoState b
   attention-17 channel =
       exactly-17 (isState b) (attentionOf (stateIn b) m channel .number) (attentionServed b m channel .answer % 256) (told-state b)
-      (attention-number channel) (attention-most (stateIn b) m channel)
+      (attention-number channel) (omega (arith, attention-most (stateIn b) m channel))
 
   pub step-17 : (lines : ℕ) → (stepServed b m lines .answer % 256 ≡ 17) ↔ NoState b
   step-17 lines =
       exactly-17 (isState b) (stepOf (stateIn b) m lines .number) (stepServed b m lines .answer % 256) (told-state b)
-      (step-number lines) (step-most (stateIn b) m lines)
+      (step-number lines) (omega (arith, step-most (stateIn b) m lines))
+
+-- ---- a sweep
+
+-- its number comes out of its answer whatever the steps are
+sweep-low : (ok : Bool) (number steps count : ℕ) (bytes b : List ℕ) (m′ m : Buffers) → number < 256
+    → (pick ok (served (sweepAnswerFrom number steps count) bytes m′) (noState b m)) .answer % 256 ≡ pick ok number 17
+unfolding sweepAnswerFrom
+sweep-low true number steps count bytes b m′ m h = omega arith
+sweep-low false number steps count bytes b m′ m h = refl
+
+module _ (b : List ℕ) (m : Buffers) (channel lines : ℕ) where
+  sweep-most : sweepOf (stateIn b) m channel lines .number ≤ 15
+  sweep-most = omega (arith, number-is (stateIn b) m channel lines, number-most (stateIn b) m channel lines)
+
+  sweep-number : sweepServed b m channel lines .answer % 256 ≡ pick (isState b) (sweepOf (stateIn b) m channel lines .number) 17
+  unfolding sweepServed
+  sweep-number =
+      let o = sweepOf (stateIn b) m channel lines in
+      sweep-low (isState b) (o .number) (o .steps) (o .count) (bytesOf (o .state)) b (o .memory) m (omega (arith, sweep-most))
+
+  -- 17, then those of the sweep on the state, in their order
+  pub sweep-given-on : (n : ℕ) → (sweepServed b m channel lines .answer % 256 ≡ n) ↔ Given (sweepChecksOn b m channel lines) n
+  sweep-given-on n =
+      told-17 (isState b) n (sweepOf (stateIn b) m channel lines .number) (sweepServed b m channel lines .answer % 256) (told-state b) sweep-number
+      (rewritten (number-is (stateIn b) m channel lines) (sweep-given (stateIn b) m channel lines n))
+
+  pub sweep-17 : (sweepServed b m channel lines .answer % 256 ≡ 17) ↔ NoState b
+  sweep-17 =
+      exactly-17 (isState b) (sweepOf (stateIn b) m channel lines .number) (sweepServed b m channel lines .answer % 256) (told-state b) sweep-number
+      (omega (arith, sweep-most))

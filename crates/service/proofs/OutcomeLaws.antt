@@ -1,6 +1,6 @@
 -- What a call leaves: a refused one leaves the bytes and both memories as they were, every one leaves a state where it was given one, and no two outcomes meet a call's contract.
 -- Assumes nothing.
-use Prim.Native.Nat.{ℕ, _%_, _≤_}
+use Prim.Native.Nat.{ℕ, _/_, _%_, _<_, _≤_}
 use contract.Lifetimes.{Lfts}
 use borrow.Fn.Kinds.{Dens, resT, endedOf}
 use denote.Ref.{now}
@@ -16,7 +16,8 @@ use Rattle.machine.proofs.ConditionLaws.{first-none-left, first-none-right}
 use Rattle.machine.proofs.GivenLaws.{given-agree}
 use Rattle.machine.proofs.OutcomeLaws.{settled-number}
 use Rattle.machine.specs.Outcomes.{Outcome, settled}
-use Rattle.machine.specs.States.{agree, withChannel, isSecond}
+use Rattle.machine.specs.States.{agree, channelOf, withChannel, isSecond}
+use Rattle.machine.specs.Updates.{withTransfer}
 use Rattle.machine.specs.declared.State.{State}
 use Rattle.attention.proofs.Numbers.{attention-most}
 use Rattle.attention.proofs.Outcomes.{refused-nothing}
@@ -30,14 +31,18 @@ use Rattle.step.proofs.OutcomeLaws.{by-step, refused}
 use Rattle.step.proofs.SoundLaws.{entry-agree, step-agree}
 use Rattle.step.specs.Step.{Step, stepOf}
 use Rattle.step.specs.Touched.{stepCount}
-use Rattle.service.specs.Calls.{Service, made, served, noState, answerFrom, kindNumber, powerServed, attentionServed, stepServed}
+use Rattle.block_rules.specs.Stages.{finished}
+use Rattle.sweep_rules.proofs.LeftLaws.{swept-agree, steps-most}
+use Rattle.sweep_rules.proofs.PassedLaws.{passed-given, accepted-sweep, refused-sweep, number-is, number-most}
+use Rattle.sweep_rules.specs.Sweep.{Sweep, doneSweep, sweepOf}
+use Rattle.service.specs.Calls.{Service, made, served, noState, answerFrom, kindNumber, powerServed, attentionServed, stepServed, sweepAnswerFrom, sweepLeft, sweepServed}
 use Rattle.service.specs.Conditions.{Bytes}
 use Rattle.service.specs.Layout.{bytesOf, stateIn, isState}
 use Rattle.service.proofs.BackLaws.{bytes-are}
 use Rattle.service.proofs.ForthLaws.{bytes-back}
-use Rattle.service.proofs.HeldLaws.{HeldFit, found-held, attention-held, step-held}
-use Rattle.service.proofs.NumberLaws.{number-part}
-use Rattle.service.proofs.TurnLaws.{state-held}
+use Rattle.service.proofs.HeldLaws.{HeldFit, done-held, found-held, attention-held, step-held}
+use Rattle.service.proofs.NumberLaws.{number-part, sweep-number-part, sweep-steps-part, sweep-count-part}
+use Rattle.service.proofs.TurnLaws.{state-held, state-count}
 use Rattle.service.proofs.iop89_fresh.Kinds as fresh-kinds
 use Rattle.service.proofs.iop89_fresh.Reads as fresh-reads
 use Rattle.service.proofs.iop89_reset.Kinds as reset-kinds
@@ -48,8 +53,15 @@ use Rattle.service.proofs.iop89_attention.Kinds as attention-kinds
 use Rattle.service.proofs.iop89_attention.Reads as attention-reads
 use Rattle.service.proofs.iop89_step.Kinds as step-kinds
 use Rattle.service.proofs.iop89_step.Reads as step-reads
+use Rattle.service.proofs.iop89_sweep.Kinds as sweep-kinds
+use Rattle.service.proofs.iop89_sweep.Reads as sweep-reads
 
 -- ---- a refused call
+
+-- a sweep's answer without a number has none in its low bits
+done-low : (steps count : ℕ) → sweepAnswerFrom 0 steps count % 256 ≡ 0
+unfolding sweepAnswerFrom
+done-low steps count = omega arith
 
 module _ (b : List ℕ) (byte : Bytes b) (m : Buffers) where
   -- an answer whose number is not 0 comes with the bytes and memories that were given
@@ -86,6 +98,19 @@ module _ (b : List ℕ) (byte : Bytes b) (m : Buffers) where
       (λ h ne. let same = refused (stateIn b) m lines ne in
       (ap (λ (x : Step). bytesOf (x .state)) same ∙ bytes-back b byte h, ap (λ (x : Step). x .memory) same))
 
+  pub sweep-kept : (channel lines : ℕ) → Kept (sweepServed b m channel lines)
+  unfolding sweepServed Kept
+  sweep-kept channel lines = go (isState b) refl
+    where
+      o : Sweep
+      o = sweepOf (stateIn b) m channel lines
+
+      go : (ok : Bool) → isState b ≡ ok → Kept (pick ok (sweepLeft o) (noState b m))
+      go false h ne = (refl, refl)
+      go true h ne =
+          let same = refused-sweep (stateIn b) m channel lines (λ z. ne (ap (λ (k : ℕ). sweepAnswerFrom k (o .steps) (o .count) % 256) (number-is (stateIn b) m channel lines ∙ z) ∙ done-low (o .steps) (o .count))) in
+          (ap (λ (x : Sweep). bytesOf (x .state)) same ∙ bytes-back b byte h, ap (λ (x : Sweep). x .memory) same)
+
 -- ---- a call that was given a state leaves one
 
 -- an attention and a step that were done were given one that agrees
@@ -100,9 +125,18 @@ step-agreed s m lines =
     by-step s m lines (λ o. o .number ≡ 0 → agree s ≡ true) (λ k ne e. absurd (ne e))
     (λ b z e h. entry-agree s m lines z) (λ b z e f h. entry-agree s m lines z) (λ b z e f h. entry-agree s m lines z)
 
+-- a done sweep holds nothing
+swept-held : (s : State) (m : Buffers) (second : Bool) → HeldFit s → HeldFit (doneSweep s m second .state)
+unfolding doneSweep finished withTransfer
+swept-held s m second h = done-held s second _ h tt
+
+-- a sweep of a count of 16 bits stands for at most 65,536 steps
+steps-few : (s : State) (m : Buffers) (channel lines : ℕ) → channelOf s (isSecond channel) .bc < 65536 → sweepOf s m channel lines .steps < 16777216
+steps-few s m channel lines small = omega (arith, steps-most s m channel lines small)
+
 module _ (b : List ℕ) (byte : Bytes b) (m : Buffers) (h : isState b ≡ true) where
   -- what is left agrees where the call was done and holds bytes or nothing, and is what was given where it was refused
-  stays : (number : ℕ) (s : State) → (number ≡ 0 → agree s ≡ true) → (number ≡ 0 → HeldFit s) → (¬ (number ≡ 0) → s ≡ stateIn b) → isState (bytesOf s) ≡ true
+  pub stays : (number : ℕ) (s : State) → (number ≡ 0 → agree s ≡ true) → (number ≡ 0 → HeldFit s) → (¬ (number ≡ 0) → s ≡ stateIn b) → isState (bytesOf s) ≡ true
   stays number s done held same = go (ℕ-discrete number 0)
     where
       go : Dec (number ≡ 0) → isState (bytesOf s) ≡ true
@@ -140,6 +174,30 @@ module _ (b : List ℕ) (byte : Bytes b) (m : Buffers) (h : isState b ≡ true) 
       (λ z. step-held (stateIn b) m lines all (state-held b))
       (λ ne. ap (λ (x : Step). x .state) (refused (stateIn b) m lines ne)))
 
+  pub sweep-stays : (channel lines : ℕ) → isState (sweepServed b m channel lines .bytes) ≡ true
+  unfolding sweepServed
+  sweep-stays channel lines =
+      let s = stateIn b in
+      let o = sweepOf s m channel lines in
+      let accepted : o .number ≡ 0 → o ≡ doneSweep s m (isSecond channel) = λ z. accepted-sweep s m channel lines (sym (number-is s m channel lines) ∙ z) in
+      rw h
+      (stays (o .number) (o .state)
+      (λ z. ap (λ (x : Sweep). agree (x .state)) (accepted z)
+      ∙ swept-agree s m (isSecond channel) (given-agree s m (passed-given s m channel lines (sym (number-is s m channel lines) ∙ z))))
+      (λ z. rw (accepted z) (swept-held s m (isSecond channel) (state-held b)))
+      (λ ne. ap (λ (x : Sweep). x .state) (refused-sweep s m channel lines (λ z. ne (number-is s m channel lines ∙ z)))))
+
+  -- and its parts come out of its answer as they went in
+  pub sweep-parts : (channel lines : ℕ) → let o = sweepOf (stateIn b) m channel lines in let a = sweepServed b m channel lines .answer in
+      (a % 256 ≡ o .number) × (a / 256 % 16777216 ≡ o .steps) × (a / 4294967296 ≡ o .count)
+  unfolding sweepServed
+  sweep-parts channel lines =
+      let s = stateIn b in
+      let o = sweepOf s m channel lines in
+      let low : o .number < 256 = omega (arith, number-is s m channel lines, number-most s m channel lines) in
+      let few : o .steps < 16777216 = steps-few s m channel lines (state-count b byte (isSecond channel)) in
+      rw h (sweep-number-part (o .number) (o .steps) (o .count) low few, sweep-steps-part (o .number) (o .steps) (o .count) low few, sweep-count-part (o .number) (o .steps) (o .count) low few)
+
 -- ---- the contracts as the code has them: the answer, the bytes and both memories are determined
 
 pub unique-fresh : (κs : Lfts 1) (a : Dens κs fresh-kinds.ps) (r q : resT fresh-kinds.r κs .Denot) (e f : AtExit (endedOf 1 fresh-kinds.ps fresh-kinds.r) κs)
@@ -164,3 +222,8 @@ pub unique-step : (κs : Lfts 3) (a : Dens κs step-kinds.ps) (r q : resT step-k
     → step-reads.Post κs a r e → step-reads.Post κs a q f
     → served r (now (e .0)) (buffers (now (e .1 .0)) (now (e .1 .1 .0))) ≡ served q (now (f .0)) (buffers (now (f .1 .0)) (now (f .1 .1 .0)))
 unique-step κs a r q e f p w = p .0 ∙ sym (w .0)
+
+pub unique-sweep : (κs : Lfts 3) (a : Dens κs sweep-kinds.ps) (r q : resT sweep-kinds.r κs .Denot) (e f : AtExit (endedOf 3 sweep-kinds.ps sweep-kinds.r) κs)
+    → sweep-reads.Post κs a r e → sweep-reads.Post κs a q f
+    → served r (now (e .0)) (buffers (now (e .1 .0)) (now (e .1 .1 .0))) ≡ served q (now (f .0)) (buffers (now (f .1 .0)) (now (f .1 .1 .0)))
+unique-sweep κs a r q e f p w = p .0 ∙ sym (w .0)

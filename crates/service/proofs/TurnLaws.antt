@@ -75,6 +75,12 @@ channel-fits b at byte =
       held = held-small (heldFrom (littleIn 2 b (at + 45))) (from-fits (littleIn 2 b (at + 45)));
     }
 
+-- BC of a channel that was read has 16 bits
+pub state-count : (b : List ℕ) → Bytes b → (second : Bool) → channelOf (stateIn b) second .bc < 65536
+unfolding stateIn channelOf
+state-count b byte true = channel-fits b 57 byte .bc
+state-count b byte false = channel-fits b 10 byte .bc
+
 -- each channel that was read holds a byte or nothing
 pub state-held : (b : List ℕ) → HeldFit (stateIn b)
 unfolding stateIn channelIn

@@ -13,6 +13,7 @@ use Rattle.step.specs.declared.Kind.{Kind}
 use Rattle.step.specs.declared.Kind.the-variants.{Nothing, Instruction, Transfer, External}
 use Rattle.step.specs.Step.{Step, stepOf}
 use Rattle.step.specs.Touched.{stepCount}
+use Rattle.sweep_rules.specs.Sweep.{Sweep, sweepOf}
 use Rattle.service.specs.Layout.{bytesOf, stateIn, isState, stateLength}
 
 -- what a call leaves: its answer, the state's bytes, and both memories
@@ -79,3 +80,15 @@ stepLeft o count = served (answerFrom (o .number) (o .channel) (kindNumber (o .k
 unfoldable pub stepServed : List ℕ → Buffers → ℕ → Service
 stepServed b m lines =
     pick (isState b) (stepLeft (stepOf (stateIn b) m lines) (stepCount (stateIn b) m lines)) (noState b m)
+
+-- the answer of a sweep, in 64 bits: the number in bits 0 to 7, the steps that it stands for in 8 to 31, the bytes read and stored above
+unfoldable pub sweepAnswerFrom : ℕ → ℕ → ℕ → ℕ
+sweepAnswerFrom number steps count = number % 256 + steps % 16777216 * 256 + count * 4294967296
+
+-- what a sweep leaves
+abbrev pub sweepLeft : Sweep → Service
+sweepLeft o = served (sweepAnswerFrom (o .number) (o .steps) (o .count)) (bytesOf (o .state)) (o .memory)
+
+-- a sweep of it
+unfoldable pub sweepServed : List ℕ → Buffers → ℕ → ℕ → Service
+sweepServed b m channel lines = pick (isState b) (sweepLeft (sweepOf (stateIn b) m channel lines)) (noState b m)

@@ -13,6 +13,7 @@ use Rattle.machine.specs.declared.State.{State}
 use Rattle.attention.specs.Conditions.{attentionChecks as attentionChecks}
 use Rattle.power.specs.Conditions.{powerChecks}
 use Rattle.step.specs.Conditions.{stepChecks as stepChecks}
+use Rattle.sweep_rules.specs.Conditions.{sweepChecks}
 use Rattle.service.specs.Fields.{littleIn}
 use Rattle.service.specs.Layout.{stateIn, stateLength, version, firstAt, secondFrom}
 
@@ -91,6 +92,10 @@ attentionChecksOn b m channel = check 17 (NoState b) ∷ attentionChecks (stateI
 -- the checks of a step likewise
 abbrev pub stepChecksOn : List ℕ → Buffers → ℕ → List Check
 stepChecksOn b m lines = check 17 (NoState b) ∷ stepChecks (stateIn b) m lines
+
+-- the checks of a sweep likewise
+abbrev pub sweepChecksOn : List ℕ → Buffers → ℕ → ℕ → List Check
+sweepChecksOn b m channel lines = check 17 (NoState b) ∷ sweepChecks (stateIn b) m channel lines
 
 -- every element is a byte
 abbrev pub Bytes : List ℕ → Type 0

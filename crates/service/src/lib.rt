@@ -17,10 +17,11 @@ ghost use Rattle.step.specs.Step.{channelStep, entryNumber, stepOf};
 ghost use Rattle.step.specs.Touched.{touchedIn};
 ghost use Rattle.step.specs.declared.Kind.the-variants.{External};
 ghost use Rattle.step.specs.declared.turns.Choice.the-variants.{Steps};
+ghost use Rattle.sweep_rules.specs.Sweep.{sweepOf};
 ghost use Rattle.service.specs.Layout.{stateIn, isState, stateLength};
 ghost use Rattle.service.specs.Calls as Calls;
 ghost use Rattle.service.specs.Turns.{turned};
-ghost use Rattle.service.specs.Calls.{made, served, stepLeft, answerFrom, freshMade, resetMade, powerServed, attentionServed, stepServed};
+ghost use Rattle.service.specs.Calls.{made, served, stepLeft, answerFrom, freshMade, resetMade, powerServed, attentionServed, stepServed, sweepAnswerFrom, sweepServed};
 
 // One field of a state in bytes.
 mod fields;
@@ -221,4 +222,36 @@ pub extern "C" fn iop89_step(state: &mut [u8], sys: &mut [u8], io: &mut [u8], li
             answered(state, second, t)
         }
     }
+}
+
+// The answer of a sweep: its number, the steps that it stands for and how many bytes it read and stored.
+fn sweep_answer(number: u32, steps: u32, count: u32) -> u64
+    ensures { λ r. ⌜ r ≡ sweepAnswerFrom number steps count ⌝ }
+{
+    (number % 256) as u64 + (steps % 16777216) as u64 * 256 + count as u64 * 4294967296
+}
+
+// Moves all bytes that a channel's block transfer has left.
+#[no_mangle]
+pub extern "C" fn iop89_sweep(
+    state: &mut [u8],
+    sys: &mut [u8],
+    io: &mut [u8],
+    channel: u32,
+    lines: u32,
+) -> u64
+    ensures left { λ r. ⌜ served r (now (state .exit)) (buffers (now (sys .exit)) (now (io .exit))) ≡ sweepServed (now (state .entry)) (buffers (now (sys .entry)) (now (io .entry))) channel lines ⌝ }
+    ensures whole { λ r. ⌜ (isState (now (state .entry)) ≡ true → stateIn (now (state .exit)) ≡ sweepOf (stateIn (now (state .entry))) (buffers (now (sys .entry)) (now (io .entry))) channel lines .state) ⌝ }
+{
+    if !layout::is_state(state) {
+        return 17;
+    }
+    let a = sweep::sweep(layout::state_in(state), sys, io, channel, lines);
+    if a.number != 0 {
+        return sweep_answer(a.number, 0, 0);
+    }
+    let after = a.state;
+    let second = machine::states::is_second(channel);
+    layout::put_step(state, second, machine::states::channel(after, second));
+    sweep_answer(0, a.steps, a.count)
 }
