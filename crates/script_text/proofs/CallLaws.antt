@@ -9,12 +9,12 @@ use lib.Dec.{leb, ltb, eqb}
 use lib.ListN.{getD}
 use Rattle.words.specs.Choice.{pick}
 use Rattle.script_text.specs.declared.text.Call.{Call}
-use Rattle.script_text.specs.declared.text.Call.the-variants.{Nothing, Unknown, Make, Put, Set, Attention, Step, Dump, Show, Listing, Load, Reset, PowerUp}
+use Rattle.script_text.specs.declared.text.Call.the-variants.{Nothing, Unknown, Make, Put, Set, Attention, Step, Dump, Show, Listing, Load, Reset, PowerUp, Sweep}
 use Rattle.script_text.specs.declared.text.Words.{Words}
-use Rattle.script_text.specs.Names.{'none, 'make, 'put, 'set, 'ca, 'step, 'dump, 'show, 'list, 'prom, 'reset, 'power}
+use Rattle.script_text.specs.Names.{'none, 'make, 'put, 'set, 'ca, 'step, 'dump, 'show, 'list, 'prom, 'reset, 'power, 'sweep}
 use Rattle.script_text.specs.Text.{noNumber, wordsOf}
 use Rattle.script_text.specs.Registers.{fitsRegister}
-use Rattle.script_text.specs.Calls.{only, makeCall, putCall, setCall, attentionCall, stepCall, bareCall, showCall, listCall, callFrom, callOf, Limited}
+use Rattle.script_text.specs.Calls.{only, makeCall, putCall, setCall, attentionCall, stepCall, bareCall, showCall, listCall, sweepCall, callFrom, callOf, Limited}
 
 -- of two calls that keep the limits either one does
 either : (t : Bool) (a b : Call) → Limited a → Limited b → Limited (pick t a b)
@@ -71,6 +71,11 @@ list-limited space address length after =
     (either (ltb address noNumber) _ Unknown (either (ltb length noNumber) (Listing (eqb space 1) address length) Unknown tt tt) tt) tt)
     tt
 
+sweep-limited : (channel lines after : ℕ) → Limited (sweepCall channel lines after)
+unfolding sweepCall
+sweep-limited channel lines after =
+    either (eqb after 'none) _ Unknown (either (ltb channel noNumber) _ Unknown (either (ltb lines noNumber) (Sweep channel lines) Unknown tt tt) tt) tt
+
 words-limited : (w : Words) → Limited (callFrom w)
 unfolding callFrom
 words-limited w =
@@ -86,7 +91,8 @@ words-limited w =
     (either (eqb name 'list) _ _ (list-limited (w .second .number) (w .third .number) (w .fourth .number) (w .fifth .name))
     (either (eqb name 'prom) _ _ (bare-limited Load (w .second .name) tt)
     (either (eqb name 'reset) _ _ (bare-limited Reset (w .second .name) tt)
-    (either (eqb name 'power) _ Unknown (bare-limited PowerUp (w .second .name) tt) tt)))))))))))
+    (either (eqb name 'power) _ _ (bare-limited PowerUp (w .second .name) tt)
+    (either (eqb name 'sweep) _ Unknown (sweep-limited (w .second .number) (w .third .number) (w .fourth .name)) tt))))))))))))
 
 -- the call of a line lends no more than `make` allows
 pub line-limited : (line : List ℕ) → Limited (callOf line)

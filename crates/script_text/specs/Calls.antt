@@ -6,9 +6,9 @@ use lib.Dec.{ltb, leb, eqb}
 use lib.ListN.{getD}
 use Rattle.words.specs.Choice.{pick}
 use Rattle.script_text.specs.declared.text.Call.{Call}
-use Rattle.script_text.specs.declared.text.Call.the-variants.{Nothing, Unknown, Make, Put, Set, Attention, Step, Dump, Show, Listing, Load, Reset, PowerUp}
+use Rattle.script_text.specs.declared.text.Call.the-variants.{Nothing, Unknown, Make, Put, Set, Attention, Step, Dump, Show, Listing, Load, Reset, PowerUp, Sweep}
 use Rattle.script_text.specs.declared.text.Words.{Words}
-use Rattle.script_text.specs.Names.{'none, 'make, 'put, 'set, 'ca, 'step, 'dump, 'show, 'list, 'prom, 'reset, 'power}
+use Rattle.script_text.specs.Names.{'none, 'make, 'put, 'set, 'ca, 'step, 'dump, 'show, 'list, 'prom, 'reset, 'power, 'sweep}
 use Rattle.script_text.specs.Text.{noNumber, wordsOf}
 use Rattle.script_text.specs.Registers.{fitsRegister}
 
@@ -56,6 +56,11 @@ listCall space address length after =
     only (eqb after 'none)
     (only (ltb space 2) (only (ltb address noNumber) (only (ltb length noNumber) (Listing (eqb space 1) address length))))
 
+-- `sweep CHANNEL LINES`
+unfoldable pub sweepCall : ℕ → ℕ → ℕ → Call
+sweepCall channel lines after =
+    only (eqb after 'none) (only (ltb channel noNumber) (only (ltb lines noNumber) (Sweep channel lines)))
+
 -- the call that words are: the first is its name, and none stands behind those it has
 unfoldable pub callFrom : Words → Call
 callFrom w =
@@ -71,7 +76,8 @@ callFrom w =
     (pick (eqb name 'list) (listCall (w .second .number) (w .third .number) (w .fourth .number) (w .fifth .name))
     (pick (eqb name 'prom) (bareCall Load (w .second .name))
     (pick (eqb name 'reset) (bareCall Reset (w .second .name))
-    (pick (eqb name 'power) (bareCall PowerUp (w .second .name)) Unknown)))))))))))
+    (pick (eqb name 'power) (bareCall PowerUp (w .second .name))
+    (pick (eqb name 'sweep) (sweepCall (w .second .number) (w .third .number) (w .fourth .name)) Unknown))))))))))))
 
 -- the call that a line is; one that has no word or begins with `#` is passed over
 unfoldable pub callOf : List ℕ → Call
@@ -92,3 +98,4 @@ Limited (Listing space address length) = Unit {0}
 Limited Load = Unit {0}
 Limited Reset = Unit {0}
 Limited PowerUp = Unit {0}
+Limited (Sweep channel lines) = Unit {0}

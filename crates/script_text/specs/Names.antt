@@ -62,6 +62,10 @@ abbrev pub 'reset : ℕ
 abbrev pub 'power : ℕ
 'power = 0x1706f776572
 
+-- `sweep`
+abbrev pub 'sweep : ℕ
+'sweep = 0x17377656570
+
 -- `ga`
 abbrev pub 'ga : ℕ
 'ga = 0x16761

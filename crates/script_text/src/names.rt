@@ -23,6 +23,8 @@ pub const RESET: u64 = 0x172_6573_6574;
 
 pub const POWER: u64 = 0x170_6f77_6572;
 
+pub const SWEEP: u64 = 0x173_7765_6570;
+
 pub const GA: u64 = 0x1_6761;
 
 pub const GB: u64 = 0x1_6762;

@@ -6,7 +6,7 @@ ghost use Prim.Native.Nat.{_+_, _≤_};
 ghost use lib.ListN.{length, drop, getD};
 ghost use Rattle.script_text.specs.Names.{nameOf};
 ghost use Rattle.script_text.specs.Text.{digitOf, untilSame, untilOther, numeralOf, allDigits, isPairs, spanAt, lineWordAt, wordsOf, fourthSpan};
-ghost use Rattle.script_text.specs.Calls.{makeCall, putCall, setCall, attentionCall, stepCall, bareCall, showCall, listCall, callFrom, callOf};
+ghost use Rattle.script_text.specs.Calls.{makeCall, putCall, setCall, attentionCall, stepCall, bareCall, showCall, listCall, sweepCall, callFrom, callOf};
 
 // What a line calls for; nothing where it is passed over, unknown where it is no call.
 pub enum Call {
@@ -23,6 +23,7 @@ pub enum Call {
     Load,
     Reset,
     PowerUp,
+    Sweep(u32, u32),
 }
 
 // Where a word lies in its line.
@@ -354,6 +355,22 @@ fn list_call(space: u64, address: u64, length: u64, after: u64) -> Call
     Call::Listing(space == 1, address as u32, length as u32)
 }
 
+// The call of `sweep`.
+fn sweep_call(channel: u64, lines: u64, after: u64) -> Call
+    ensures { λ r. ⌜ r ≡ sweepCall channel lines after ⌝ }
+{
+    if after != names::NONE {
+        return Call::Unknown;
+    }
+    if NO_NUMBER <= channel {
+        return Call::Unknown;
+    }
+    if NO_NUMBER <= lines {
+        return Call::Unknown;
+    }
+    Call::Sweep(channel as u32, lines as u32)
+}
+
 // The call that words are.
 fn call_from(w: Words) -> Call
     ensures { λ r. ⌜ r ≡ callFrom w ⌝ }
@@ -377,6 +394,7 @@ fn call_from(w: Words) -> Call
         names::PROM => bare_call(Call::Load, second.name),
         names::RESET => bare_call(Call::Reset, second.name),
         names::POWER => bare_call(Call::PowerUp, second.name),
+        names::SWEEP => sweep_call(second.number, third.number, fourth.name),
         _ => Call::Unknown,
     }
 }

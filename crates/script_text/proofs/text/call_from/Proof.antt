@@ -39,6 +39,9 @@ bare-call-requires-3 c κs = search needs
 bare-call-requires-4 : tie.Need-bare-call-requires-4
 bare-call-requires-4 c κs = search needs
 
+sweep-call-requires : tie.Need-sweep-call-requires
+sweep-call-requires c κs = search needs
+
 returns : tie.Need-returns
 unfolding callFrom
 returns c = simp (c .match .keys1)
@@ -89,7 +92,11 @@ returns-12 c = simp (c .bare-call4 .ensures, c .before .match .keys12)
 
 returns-13 : tie.Need-returns-13
 unfolding callFrom
-returns-13 c = simp (ne-eqb _ _ (c .match .rest .1), ne-eqb _ _ (c .match .rest .0 .1), ne-eqb _ _ (c .match .rest .0 .0 .1), ne-eqb _ _ (c .match .rest .0 .0 .0 .1), ne-eqb _ _ (c .match .rest .0 .0 .0 .0 .1), ne-eqb _ _ (c .match .rest .0 .0 .0 .0 .0 .1), ne-eqb _ _ (c .match .rest .0 .0 .0 .0 .0 .0 .1), ne-eqb _ _ (c .match .rest .0 .0 .0 .0 .0 .0 .0 .1), ne-eqb _ _ (c .match .rest .0 .0 .0 .0 .0 .0 .0 .0 .1), ne-eqb _ _ (c .match .rest .0 .0 .0 .0 .0 .0 .0 .0 .0 .1), ne-eqb _ _ (c .match .rest .0 .0 .0 .0 .0 .0 .0 .0 .0 .0 .1), ne-eqb _ _ (c .match .rest .0 .0 .0 .0 .0 .0 .0 .0 .0 .0 .0 .1))
+returns-13 c = simp (c .sweep-call .ensures, c .before .match .keys13)
+
+returns-14 : tie.Need-returns-14
+unfolding callFrom
+returns-14 c = simp (ne-eqb _ _ (c .match .rest .1), ne-eqb _ _ (c .match .rest .0 .1), ne-eqb _ _ (c .match .rest .0 .0 .1), ne-eqb _ _ (c .match .rest .0 .0 .0 .1), ne-eqb _ _ (c .match .rest .0 .0 .0 .0 .1), ne-eqb _ _ (c .match .rest .0 .0 .0 .0 .0 .1), ne-eqb _ _ (c .match .rest .0 .0 .0 .0 .0 .0 .1), ne-eqb _ _ (c .match .rest .0 .0 .0 .0 .0 .0 .0 .1), ne-eqb _ _ (c .match .rest .0 .0 .0 .0 .0 .0 .0 .0 .1), ne-eqb _ _ (c .match .rest .0 .0 .0 .0 .0 .0 .0 .0 .0 .1), ne-eqb _ _ (c .match .rest .0 .0 .0 .0 .0 .0 .0 .0 .0 .0 .1), ne-eqb _ _ (c .match .rest .0 .0 .0 .0 .0 .0 .0 .0 .0 .0 .0 .1), ne-eqb _ _ (c .match .rest .0 .0 .0 .0 .0 .0 .0 .0 .0 .0 .0 .0 .1))
 
 pub call-from-spec : {M : Type 1} → statement M
 call-from-spec =
@@ -106,6 +113,7 @@ call-from-spec =
     bare-call-requires-2
     bare-call-requires-3
     bare-call-requires-4
+    sweep-call-requires
     returns
     returns-2
     returns-3
@@ -118,4 +126,5 @@ call-from-spec =
     returns-10
     returns-11
     returns-12
-    returns-13)
+    returns-13
+    returns-14)
