@@ -18,6 +18,8 @@ use Rattle.script_lines.proofs.shown_line.Kinds as shown-kinds
 use Rattle.script_lines.proofs.shown_line.Reads as shown-reads
 use Rattle.script_lines.proofs.stepped_line.Kinds as stepped-kinds
 use Rattle.script_lines.proofs.stepped_line.Reads as stepped-reads
+use Rattle.script_lines.proofs.swept_line.Kinds as swept-kinds
+use Rattle.script_lines.proofs.swept_line.Reads as swept-reads
 
 pub answer-line-determined : (κs : Lfts 2) (a : Dens κs answer-kinds.ps) (r q : resT answer-kinds.r κs .Denot) (e f : AtExit (endedOf 2 answer-kinds.ps answer-kinds.r) κs)
     → answer-reads.Post κs a r e → answer-reads.Post κs a q f → page (now (e .0)) r ≡ page (now (f .0)) q
@@ -30,6 +32,10 @@ counted-line-determined κs a r q e f p w = p .is ∙ sym (w .is)
 pub stepped-line-determined : (κs : Lfts 1) (a : Dens κs stepped-kinds.ps) (r q : resT stepped-kinds.r κs .Denot) (e f : AtExit (endedOf 1 stepped-kinds.ps stepped-kinds.r) κs)
     → stepped-reads.Post κs a r e → stepped-reads.Post κs a q f → page (now (e .0)) r ≡ page (now (f .0)) q
 stepped-line-determined κs a r q e f p w = p .is ∙ sym (w .is)
+
+pub swept-line-determined : (κs : Lfts 1) (a : Dens κs swept-kinds.ps) (r q : resT swept-kinds.r κs .Denot) (e f : AtExit (endedOf 1 swept-kinds.ps swept-kinds.r) κs)
+    → swept-reads.Post κs a r e → swept-reads.Post κs a q f → page (now (e .0)) r ≡ page (now (f .0)) q
+swept-line-determined κs a r q e f p w = p .is ∙ sym (w .is)
 
 pub loaded-line-determined : (κs : Lfts 1) (a : Dens κs loaded-kinds.ps) (r q : resT loaded-kinds.r κs .Denot) (e f : AtExit (endedOf 1 loaded-kinds.ps loaded-kinds.r) κs)
     → loaded-reads.Post κs a r e → loaded-reads.Post κs a q f → page (now (e .0)) r ≡ page (now (f .0)) q

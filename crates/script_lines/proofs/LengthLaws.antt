@@ -23,7 +23,7 @@ use Rattle.notation.specs.Characters.{ascii}
 use Rattle.page.specs.Numbers.{hex, decimal, letter}
 use Rattle.page.proofs.NumberLaws.{hex-short, decimal-short}
 use Rattle.script_text.specs.Buffers.{digestOf}
-use Rattle.script_lines.specs.Lines.{feed, answerLine, countText, countedLine, steppedLine, loadedLine, registerText, markNumber, pointerText, pointersText, numbersText, numberOfMode, marksText, channelLine, bufferText, boardText, sharedLine, dumpText, byteText, bytesText, shownLine}
+use Rattle.script_lines.specs.Lines.{feed, answerLine, countText, countedLine, steppedLine, sweptLine, loadedLine, registerText, markNumber, pointerText, pointersText, numbersText, numberOfMode, marksText, channelLine, bufferText, boardText, sharedLine, dumpText, byteText, bytesText, shownLine}
 
 -- two texts in a row
 both : (a b : List ℕ) (m n : ℕ) → length a ≤ m → length b ≤ n → length (a ++ b) ≤ m + n
@@ -50,6 +50,13 @@ stepped-short number channel kind count =
     (both (decimal number) (ascii " " ++ (decimal channel ++ ((32 ∷ letter kind ∷ []) ++ countText count))) 10 25 (decimal-short number)
     (both (32 ∷ decimal channel) ((32 ∷ letter kind ∷ []) ++ countText count) 11 14 (omega (arith, decimal-short channel))
     (both (32 ∷ letter kind ∷ []) (countText count) 2 12 (omega arith) (count-short count))))
+
+pub swept-short : (number steps count : ℕ) → length (sweptLine number steps count) ≤ 39
+unfolding sweptLine
+swept-short number steps count =
+    both (ascii "sweep ") (decimal number ++ (ascii " " ++ (decimal steps ++ countText count))) 6 33 (omega arith)
+    (both (decimal number) (ascii " " ++ (decimal steps ++ countText count)) 10 23 (decimal-short number)
+    (both (32 ∷ decimal steps) (countText count) 11 12 (omega (arith, decimal-short steps)) (count-short count)))
 
 pub loaded-short : (number line start : ℕ) → length (loadedLine number line start) ≤ 36
 unfolding loadedLine

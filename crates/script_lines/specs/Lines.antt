@@ -46,6 +46,10 @@ unfoldable pub steppedLine : ℕ → ℕ → Kind → ℕ → List ℕ
 steppedLine number channel kind count =
     ascii "step " ++ (decimal number ++ (ascii " " ++ (decimal channel ++ ((32 ∷ letter kind ∷ []) ++ countText count))))
 
+-- what a sweep answered: its number, the steps that it stands for, and its count
+unfoldable pub sweptLine : ℕ → ℕ → ℕ → List ℕ
+sweptLine number steps count = ascii "sweep " ++ (decimal number ++ (ascii " " ++ (decimal steps ++ countText count)))
+
 -- what a load answered: its number, the line that decided, and the start address
 unfoldable pub loadedLine : ℕ → ℕ → ℕ → List ℕ
 loadedLine number line start =

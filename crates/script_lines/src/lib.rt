@@ -10,7 +10,7 @@ use step::Kind;
 ghost use mathlib.Core.Path.{_≡_};
 ghost use Rattle.memory.specs.Buffers.{buffers};
 ghost use Rattle.page.specs.Pages.{page, Behind};
-ghost use Rattle.script_lines.specs.Lines.{answerLine, countText, countedLine, steppedLine, loadedLine, registerText, markNumber, pointerText, pointersText, numbersText, numberOfMode, marksText, channelLine, bufferText, boardText, sharedLine, dumpText, byteText, bytesText, shownLine};
+ghost use Rattle.script_lines.specs.Lines.{answerLine, countText, countedLine, steppedLine, sweptLine, loadedLine, registerText, markNumber, pointerText, pointersText, numbersText, numberOfMode, marksText, channelLine, bufferText, boardText, sharedLine, dumpText, byteText, bytesText, shownLine};
 
 // A call's name and its number.
 pub fn answer_line(out: &mut [u8], at: usize, name: &[u8], number: u32) -> usize
@@ -57,6 +57,17 @@ pub fn stepped_line(
     let end = [32u8, page::letter(kind)];
     let lettered = page::append(out, stepped, &end);
     count_text(out, lettered, count)
+}
+
+// What a sweep answered: its number, the steps that it stands for, and its count.
+pub fn swept_line(out: &mut [u8], at: usize, number: u32, steps: u32, count: u32) -> usize
+    ensures { λ r. ⌜ Behind (page (now (out .entry)) at) (page (now (out .exit)) r) (sweptLine number steps count) ⌝ }
+{
+    let named = page::append(out, at, b"sweep ");
+    let numbered = page::append_decimal(out, named, number);
+    let spaced = page::append(out, numbered, b" ");
+    let stepped = page::append_decimal(out, spaced, steps);
+    count_text(out, stepped, count)
 }
 
 // What a load answered: its number, the line that decided, and the start address.
