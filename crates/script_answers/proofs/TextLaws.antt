@@ -14,15 +14,16 @@ use Rattle.attention.specs.Attention.{attentionOf, attentionCount}
 use Rattle.power.specs.Power.{powerUpOf, powerCount}
 use Rattle.step.specs.Step.{stepOf}
 use Rattle.step.specs.Touched.{stepCount}
+use Rattle.sweep_rules.specs.Sweep.{sweepOf}
 use Rattle.notation.specs.Characters.{ascii}
 use Rattle.prom.specs.Load.{loadOf}
 use Rattle.page.specs.Pages.{page, Behind, Printed}
 use Rattle.page.proofs.PageLaws.{printed, nothing-behind}
 use Rattle.script_text.specs.declared.text.Call.{Call}
-use Rattle.script_text.specs.declared.text.Call.the-variants.{Nothing, Unknown, Make, Put, Set, Attention, Step, Dump, Show, Listing, Load, Reset, PowerUp}
-use Rattle.script_lines.proofs.LengthLaws.{answer-short, counted-short, stepped-short, loaded-short, dump-short, shown-short}
+use Rattle.script_text.specs.declared.text.Call.the-variants.{Nothing, Unknown, Make, Put, Set, Attention, Step, Dump, Show, Listing, Load, Reset, PowerUp, Sweep}
+use Rattle.script_lines.proofs.LengthLaws.{answer-short, counted-short, stepped-short, swept-short, loaded-short, dump-short, shown-short}
 use Rattle.script_answers.specs.Machine.{callMade}
-use Rattle.script_answers.specs.Shown.{advancedLine, putLine, loadText, callText}
+use Rattle.script_answers.specs.Shown.{advancedLine, sweepText, putLine, loadText, callText}
 use Rattle.script_answers.proofs.ListingLaws.{listed-short}
 
 put-short : (made : Bool) → length (putLine made) ≤ 15
@@ -32,7 +33,7 @@ put-short false = omega arith
 
 -- no call's text is longer than a listing's can be
 pub call-short : (call : Call) (line : List ℕ) (s : State) (m : Buffers) → length (callText call line s m) ≤ 28672
-unfolding callText advancedLine loadText
+unfolding callText advancedLine sweepText loadText
 call-short Nothing line s m = omega arith
 call-short Unknown line s m = omega arith
 call-short (Make sys io cp) line s m = omega (arith, answer-short (ascii "make ") (freshOf cp .number))
@@ -48,6 +49,8 @@ call-short Load line s m =
     omega (arith, loaded-short (l .number) (l .line) (l .start))
 call-short Reset line s m = omega (arith, answer-short (ascii "reset ") 0)
 call-short PowerUp line s m = omega (arith, counted-short (ascii "power ") (powerUpOf s m .number) (powerCount m))
+call-short (Sweep channel lines) line s m =
+    omega (arith, swept-short (sweepOf s m channel lines .number) (sweepOf s m channel lines .steps) (sweepOf s m channel lines .count))
 
 -- the text that was written from the start of such a buffer is the call's, whole
 pub shows : {call this : Call} (line : List ℕ) (s : State) (m : Buffers) {before after : List ℕ} {count : ℕ} → call ≡ this → 32768 ≡ length before

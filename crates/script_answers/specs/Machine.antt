@@ -11,9 +11,10 @@ use Rattle.machine.specs.States.{resetState, freshOf}
 use Rattle.attention.specs.Attention.{attentionOf}
 use Rattle.power.specs.Power.{powerUpOf}
 use Rattle.step.specs.Step.{stepOf}
+use Rattle.sweep_rules.specs.Sweep.{sweepOf}
 use Rattle.prom.specs.Load.{loadOf}
 use Rattle.script_text.specs.declared.text.Call.{Call}
-use Rattle.script_text.specs.declared.text.Call.the-variants.{Nothing, Unknown, Make, Put, Set, Attention, Step, Dump, Show, Listing, Load, Reset, PowerUp}
+use Rattle.script_text.specs.declared.text.Call.the-variants.{Nothing, Unknown, Make, Put, Set, Attention, Step, Dump, Show, Listing, Load, Reset, PowerUp, Sweep}
 use Rattle.script_text.specs.Text.{spanned, fourthSpan}
 use Rattle.script_text.specs.Registers.{withNamed}
 use Rattle.script_text.specs.Buffers.{bytesWritten, hasRoom}
@@ -54,6 +55,10 @@ machineLoaded s m file = machine s (buffers (loadOf file (buffers (m .sys) []) .
 unfoldable pub machinePowered : State → Buffers → Machine
 machinePowered s m = machine (powerUpOf s m .state) (powerUpOf s m .memory)
 
+-- `sweep`
+unfoldable pub machineSwept : State → Buffers → ℕ → ℕ → Machine
+machineSwept s m channel lines = machine (sweepOf s m channel lines .state) (sweepOf s m channel lines .memory)
+
 -- a part of a buffer that `list` lists: one byte to 1,024, none past the end
 unfoldable pub isPart : List ℕ → ℕ → ℕ → Bool
 isPart s at count = pick (leb 1 count) (pick (leb count 1024) (leb (at + count) (length s)) false) false
@@ -73,6 +78,7 @@ callPerformed (Listing space address count) line s m = machine s m
 callPerformed Load line s m = machineLoaded s m line
 callPerformed Reset line s m = machine resetState m
 callPerformed PowerUp line s m = machinePowered s m
+callPerformed (Sweep channel lines) line s m = machineSwept s m channel lines
 
 -- whether a line's call was made: no call at all was not, no `put` past its buffer's end, and no `list` of what is no part
 unfoldable pub callMade : Call → List ℕ → Buffers → Bool
@@ -89,3 +95,4 @@ callMade (Listing space address count) line m = isPart (pick space (m .io) (m .s
 callMade Load line m = true
 callMade Reset line m = true
 callMade PowerUp line m = true
+callMade (Sweep channel lines) line m = true

@@ -11,17 +11,23 @@ use Rattle.attention.specs.Attention.{attentionOf, attentionCount}
 use Rattle.power.specs.Power.{powerUpOf, powerCount}
 use Rattle.step.specs.Step.{stepOf}
 use Rattle.step.specs.Touched.{stepCount}
+use Rattle.sweep_rules.specs.Sweep.{sweepOf}
 use Rattle.lister.specs.Listings.{linesOf, allChars}
 use Rattle.notation.specs.Characters.{ascii}
 use Rattle.prom.specs.Load.{Loading, loadOf}
 use Rattle.script_text.specs.declared.text.Call.{Call}
-use Rattle.script_text.specs.declared.text.Call.the-variants.{Nothing, Unknown, Make, Put, Set, Attention, Step, Dump, Show, Listing, Load, Reset, PowerUp}
-use Rattle.script_lines.specs.Lines.{refusedLine, answerLine, countedLine, steppedLine, loadedLine, dumpText, shownLine}
+use Rattle.script_text.specs.declared.text.Call.the-variants.{Nothing, Unknown, Make, Put, Set, Attention, Step, Dump, Show, Listing, Load, Reset, PowerUp, Sweep}
+use Rattle.script_lines.specs.Lines.{refusedLine, answerLine, countedLine, steppedLine, sweptLine, loadedLine, dumpText, shownLine}
 use Rattle.script_answers.specs.Machine.{isPart, callMade}
 
 -- the line of what a step answered
 unfoldable pub advancedLine : State → Buffers → ℕ → List ℕ
 advancedLine s m lines = steppedLine (stepOf s m lines .number) (stepOf s m lines .channel) (stepOf s m lines .kind) (stepCount s m lines)
+
+-- the line of what a sweep answered
+unfoldable pub sweepText : State → Buffers → ℕ → ℕ → List ℕ
+sweepText s m channel lines =
+    sweptLine (sweepOf s m channel lines .number) (sweepOf s m channel lines .steps) (sweepOf s m channel lines .count)
 
 -- the line of `put`: that of a call that was shut out where a byte would lie past the buffer's end
 unfoldable pub putLine : Bool → List ℕ
@@ -50,3 +56,4 @@ callText (Listing space address count) line s m = listedText (pick space (m .io)
 callText Load line s m = loadText (loadOf line (buffers (m .sys) []))
 callText Reset line s m = answerLine (ascii "reset ") 0
 callText PowerUp line s m = countedLine (ascii "power ") (powerUpOf s m .number) (powerCount m)
+callText (Sweep channel lines) line s m = sweepText s m channel lines

@@ -21,8 +21,8 @@ ghost use Rattle.script_text.specs.Registers.{withNamed};
 ghost use Rattle.words.specs.Choice.{pick};
 ghost use Rattle.script_text.specs.Buffers.{hasRoom};
 ghost use Rattle.script_lines.specs.Lines.{answerLine, countedLine, shownLine};
-ghost use Rattle.script_answers.specs.Machine.{machine, remade, putInto, machineAttended, machineAdvanced, machineLoaded, machinePowered, isPart, callPerformed, callMade};
-ghost use Rattle.script_answers.specs.Shown.{advancedLine, putLine, listedText, loadText, callText};
+ghost use Rattle.script_answers.specs.Machine.{machine, remade, putInto, machineAttended, machineAdvanced, machineLoaded, machinePowered, machineSwept, isPart, callPerformed, callMade};
+ghost use Rattle.script_answers.specs.Shown.{advancedLine, sweepText, putLine, listedText, loadText, callText};
 
 // The state after a line, whether its call was made, and how many bytes its text has.
 pub struct Performed {
@@ -193,6 +193,27 @@ fn wake(s: State, sys: &mut [u8], io: &mut [u8], out: &mut [u8]) -> Performed
     }
 }
 
+// Makes a sweep.
+fn sweep_channel(
+    s: State,
+    channel: u32,
+    lines: u32,
+    sys: &mut [u8],
+    io: &mut [u8],
+    out: &mut [u8],
+) -> Performed
+    ensures { λ r. ⌜ (machine (r .state) (buffers (now (sys .exit)) (now (io .exit))) ≡ machineSwept s (buffers (now (sys .entry)) (now (io .entry))) channel lines) × (r .made ≡ true) ⌝ }
+    ensures { λ r. ⌜ Behind (page (now (out .entry)) 0) (page (now (out .exit)) (r .count)) (sweepText s (buffers (now (sys .entry)) (now (io .entry))) channel lines) ⌝ }
+{
+    let r = sweep::sweep(s, sys, io, channel, lines);
+    let state = r.state;
+    Performed {
+        state,
+        made: true,
+        count: script_lines::swept_line(out, 0, r.number, r.steps, r.count),
+    }
+}
+
 // Makes the call of a line, in the buffers that are lent after it; `line` is its line, for `prom` the file that follows it.
 pub fn perform(
     s: State,
@@ -268,5 +289,6 @@ pub fn perform(
             }
         }
         Call::PowerUp => wake(s, sys, io, out),
+        Call::Sweep(channel, lines) => sweep_channel(s, channel, lines, sys, io, out),
     }
 }

@@ -108,6 +108,12 @@ enum-told-6 c = search needs
 wake-requires : tie.Need-wake-requires
 wake-requires c κs = search needs
 
+enum-known-call-8 : tie.Need-enum-known-call-8
+enum-known-call-8 c = search needs
+
+sweep-channel-requires : tie.Need-sweep-channel-requires
+sweep-channel-requires c κs = search needs
+
 returns : tie.Need-returns
 unfolding callPerformed callMade callText
 returns c =
@@ -302,6 +308,23 @@ returns-13 c =
     let told = ap (λ (x : Call). callMade x line m) (sym is) in
     (c .before .before .before .before .wake .ensures .0 .0 ∙ after, (c .before .before .before .before .wake .ensures .0 .1 ∙ told, shows line (a .s) m is (omega arith) (c .before .before .before .before .wake .ensures .1)))
 
+same-length-18 : tie.Need-same-length-18
+same-length-18 c = search needs
+
+same-length-19 : tie.Need-same-length-19
+same-length-19 c = search needs
+
+returns-14 : tie.Need-returns-14
+unfolding callPerformed callMade callText
+returns-14 c =
+    let a = c .before .before .before .before .before .before .before .before .before .before .before .before .before .before .args in
+    let line = now (a .line) in
+    let m = buffers (now (a .sys)) (now (a .io)) in
+    let is = c .before .before .before .before .before .before .before .before .before .call8 .given .1 in
+    let after = ap (λ (x : Call). callPerformed x line (a .s) m) (sym is) in
+    let told = ap (λ (x : Call). callMade x line m) (sym is) in
+    (c .before .before .before .before .sweep-channel .ensures .0 .0 ∙ after, (c .before .before .before .before .sweep-channel .ensures .0 .1 ∙ told, shows line (a .s) m is (omega arith) (c .before .before .before .before .sweep-channel .ensures .1)))
+
 pub perform-spec : {M : Type 1} → statement M
 perform-spec =
     tie.close
@@ -337,6 +360,8 @@ perform-spec =
     answer-line-requires-2
     enum-told-6
     wake-requires
+    enum-known-call-8
+    sweep-channel-requires
     returns
     returns-2
     same-length
@@ -366,4 +391,7 @@ perform-spec =
     returns-12
     same-length-16
     same-length-17
-    returns-13)
+    returns-13
+    same-length-18
+    same-length-19
+    returns-14)
