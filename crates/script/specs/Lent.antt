@@ -1,6 +1,6 @@
 -- How many bytes of each buffer a call leaves lent.
 use Rattle.script_text.specs.declared.text.Call.{Call}
-use Rattle.script_text.specs.declared.text.Call.the-variants.{Nothing, Unknown, Make, Put, Set, Attention, Step, Dump, Show, Listing, Load, Reset, PowerUp}
+use Rattle.script_text.specs.declared.text.Call.the-variants.{Nothing, Unknown, Make, Put, Set, Attention, Step, Dump, Show, Listing, Load, Reset, PowerUp, Sweep}
 use Rattle.script.specs.declared.Lent.{Lent}
 
 -- how many bytes are lent after a call: `make` lends buffers of the lengths that it names, no other call changes them
@@ -18,3 +18,4 @@ lentAfter (Listing space address count) lent = lent
 lentAfter Load lent = lent
 lentAfter Reset lent = lent
 lentAfter PowerUp lent = lent
+lentAfter (Sweep channel lines) lent = lent

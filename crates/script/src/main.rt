@@ -44,6 +44,7 @@ fn lent_after(call: Call, lent: Lent) -> Lent
         Call::Load => lent,
         Call::Reset => lent,
         Call::PowerUp => lent,
+        Call::Sweep(_, _) => lent,
     }
 }
 

@@ -50,6 +50,9 @@ enum-told-11 c = search needs
 enum-told-12 : tie.Need-enum-told-12
 enum-told-12 c = search needs
 
+enum-told-13 : tie.Need-enum-told-13
+enum-told-13 c = search needs
+
 returns : tie.Need-returns
 unfolding lentAfter
 returns c = let e = c .before .call .given .1 in (rw e, rw e at (c .before .before .before .pre .0))
@@ -102,6 +105,10 @@ returns-13 : tie.Need-returns-13
 unfolding lentAfter
 returns-13 c = (rw (c .enum-told12 .given .1), c .before .before .pre .1)
 
+returns-14 : tie.Need-returns-14
+unfolding lentAfter
+returns-14 c = (rw (c .enum-told13 .given .1), c .before .before .pre .1)
+
 pub lent-after-spec : {M : Type 1} → statement M
 lent-after-spec =
     tie.close
@@ -121,6 +128,7 @@ lent-after-spec =
     enum-told-10
     enum-told-11
     enum-told-12
+    enum-told-13
     returns
     returns-2
     returns-3
@@ -133,4 +141,5 @@ lent-after-spec =
     returns-10
     returns-11
     returns-12
-    returns-13)
+    returns-13
+    returns-14)
