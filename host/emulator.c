@@ -1587,6 +1587,165 @@ struct emu_stepped emu_step(struct emu_state *state, struct emu_memory *memory, 
     return stepped;
 }
 
+/* ---- Sweeps ---- */
+
+/* How many bytes a transfer has left: BC, with 0 as 65,536. */
+static uint32_t bytes_left(const struct emu_channel *ch)
+{
+    return ch->bc == 0 ? 65536u : ch->bc;
+}
+
+/* Where a range begins in its space: in I/O space at the low 16 bits of its pointer. */
+static uint32_t beginning(struct emu_pointer p)
+{
+    return p.address & (p.tag ? MASK16 : MASK20);
+}
+
+/* Whether n bytes from a place on are lent; none of them wraps, since no buffer is longer than its space. */
+static bool range_lent(const struct emu_memory *memory, struct emu_pointer p, uint32_t n)
+{
+    return beginning(p) + n <= (p.tag ? memory->io_len : memory->sys_len);
+}
+
+/* Whether two ranges of n bytes share one; in two spaces they never do. */
+static bool ranges_share(struct emu_pointer a, struct emu_pointer b, uint32_t n)
+{
+    return a.tag == b.tag && beginning(a) < beginning(b) + n && beginning(b) < beginning(a) + n;
+}
+
+/* Where the source is. */
+static struct emu_pointer source_of(const struct emu_channel *ch)
+{
+    return ch->fields.source_is_gb ? ch->gb : ch->ga;
+}
+
+/* Where the destination is. */
+static struct emu_pointer destination_of(const struct emu_channel *ch)
+{
+    return ch->fields.source_is_gb ? ch->ga : ch->gb;
+}
+
+/* The conditions on the fields of CC that a channel fails: a block transfer that its byte count alone ends. */
+static unsigned field_bars(const struct emu_fields *f)
+{
+    unsigned bars = 0;
+    if (!f->destination_moves) bars |= 1u << EMU_BAR_DESTINATION_STAYS;
+    if (!f->source_moves) bars |= 1u << EMU_BAR_SOURCE_STAYS;
+    if (f->translate) bars |= 1u << EMU_BAR_TRANSLATES;
+    if (f->syn != 0) bars |= 1u << EMU_BAR_SYN;
+    if (f->ts) bars |= 1u << EMU_BAR_TS;
+    if (f->tx != 0) bars |= 1u << EMU_BAR_TX;
+    if (f->tbc == 0) bars |= 1u << EMU_BAR_TBC_OFF;
+    if ((f->tmc & 3u) != 0) bars |= 1u << EMU_BAR_TMC;
+    return bars;
+}
+
+/* The conditions on its two ranges. */
+static unsigned range_bars(const struct emu_channel *ch, const struct emu_memory *memory)
+{
+    struct emu_pointer source = source_of(ch), destination = destination_of(ch);
+    uint32_t n = bytes_left(ch);
+    unsigned bars = 0;
+    if (!range_lent(memory, source, n)) bars |= 1u << EMU_BAR_SOURCE_NOT_LENT;
+    if (!range_lent(memory, destination, n)) bars |= 1u << EMU_BAR_DESTINATION_NOT_LENT;
+    if (ranges_share(source, destination, n)) bars |= 1u << EMU_BAR_SHARED;
+    return bars;
+}
+
+unsigned emu_bars(const struct emu_state *state, const struct emu_memory *memory, uint32_t channel, uint32_t lines)
+{
+    const struct emu_channel *ch = &state->channel[channel - 1], *other = &state->channel[2 - channel];
+    unsigned bars = field_bars(&ch->fields) | range_bars(ch, memory);
+    if (line_up(lines, LINE_EXT, 1) || line_up(lines, LINE_EXT, 2)) bars |= 1u << EMU_BAR_EXT;
+    if (other->mode == EMU_RUNNING) bars |= 1u << EMU_BAR_OTHER_RUNS;
+    if (ch->mode != EMU_RUNNING) bars |= 1u << EMU_BAR_STANDS;
+    if (!transferring(ch)) bars |= 1u << EMU_BAR_NO_XF;
+    return bars;
+}
+
+const char *emu_bar_name(enum emu_bar bar)
+{
+    static const char *const names[EMU_BARS] = {"EXT is up",       "the other channel runs", "the channel does not run",
+                                                "XF is clear",     "the destination stays",  "the source stays",
+                                                "translation",     "SYN is not 00",          "TS is on",
+                                                "TX is on",        "TBC is off",             "TMC is on",
+                                                "source not lent", "destination not lent",   "a byte in both ranges"};
+    return names[bar];
+}
+
+/* How many steps n bytes take: n with two 8-bit sides; otherwise one for the lone byte where no 16-bit side begins at an
+ * even address, and half of the rest, rounded up. */
+static uint32_t steps_of(const struct emu_channel *ch, uint32_t n)
+{
+    bool from_words = (ch->psw & EMU_PSW_S) != 0, from_even = source_of(ch).address % 2 == 0;
+    bool to_words = (ch->psw & EMU_PSW_D) != 0, to_even = destination_of(ch).address % 2 == 0;
+    uint32_t lone = (from_words && from_even) || (to_words && to_even) ? 0 : 1;
+    return from_words || to_words ? lone + (n - lone + 1) / 2 : n;
+}
+
+/* Moves the bytes of a transfer that meets every condition. */
+static void move_all(const struct emu_channel *ch, const struct emu_memory *memory)
+{
+    memcpy(cell(memory, destination_of(ch)), cell(memory, source_of(ch)), bytes_left(ch));
+}
+
+/* Ends such a transfer by its count; its bytes have moved. */
+static void end_swept(struct emu_channel *ch)
+{
+    uint32_t n = bytes_left(ch);
+    ch->ga = plus(ch->ga, n);
+    ch->gb = plus(ch->gb, n);
+    ch->bc = 0;
+    ch->psw &= (uint8_t)~EMU_PSW_XF;
+    ch->tp = plus(ch->tp, end_offset(ch->fields.tbc));
+    drop(ch);
+}
+
+/* Counts a done sweep of a channel that was given so. */
+static void count_swept(const struct emu_channel *given)
+{
+    struct emu_pointer source = source_of(given), destination = destination_of(given);
+    unsigned widths = ((given->psw & EMU_PSW_S) != 0 ? 1u : 0) | ((given->psw & EMU_PSW_D) != 0 ? 2u : 0);
+    unsigned odd = (source.address & 1u) | (destination.address & 1u) << 1;
+    unsigned spaces = (source.tag ? 1u : 0) | (destination.tag ? 2u : 0);
+    emu_coverage->swept[widths][odd][spaces]++;
+    if (holds(given)) emu_coverage->swept_held++;
+    if (given->armed) emu_coverage->swept_armed++;
+    if (given->bc == 0) emu_coverage->swept_all++;
+}
+
+/* Counts a sweep by the conditions that it failed, if that was one. */
+static void count_barred(unsigned bars)
+{
+    for (unsigned i = 0; i < EMU_BARS; i++)
+        if (bars == 1u << i) emu_coverage->barred[i]++;
+}
+
+/* A sweep whose arguments, buffers and state passed. */
+static struct emu_swept sweep_soundly(struct emu_state *state, const struct emu_memory *memory, uint32_t channel,
+                                      uint32_t lines)
+{
+    struct emu_channel *ch = &state->channel[channel - 1];
+    struct emu_swept refused = {EMU_NOT_SWEEPABLE, 0, 0}, done = {EMU_DONE, 0, 0};
+    unsigned bars = emu_bars(state, memory, channel, lines);
+    if (emu_coverage != NULL) count_barred(bars);
+    if (bars != 0) return refused;
+    if (emu_coverage != NULL) count_swept(ch);
+    done.steps = steps_of(ch, bytes_left(ch));
+    done.count = 2 * bytes_left(ch);
+    move_all(ch, memory);
+    end_swept(ch);
+    state->last = channel;
+    return done;
+}
+
+struct emu_swept emu_sweep(struct emu_state *state, struct emu_memory *memory, uint32_t channel, uint32_t lines)
+{
+    bool arguments_good = (channel == 1 || channel == 2) && lines <= 15;
+    struct emu_swept refused = {early_number(arguments_good, memory, state), 0, 0};
+    return refused.number == EMU_DONE ? sweep_soundly(state, memory, channel, lines) : refused;
+}
+
 /* ---- The panel's side ---- */
 
 /* The panel's answer. */

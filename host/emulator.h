@@ -33,7 +33,8 @@ enum emu_number {
     EMU_BAD_ARGUMENT = 12,
     EMU_NOT_POWERED_UP = 13,
     EMU_FIELDS_DISAGREE = 14,
-    EMU_NUMBERS = 15
+    EMU_NOT_SWEEPABLE = 15,
+    EMU_NUMBERS = 16
 };
 
 /* Bits of the PSW. */
@@ -115,6 +116,32 @@ struct emu_stepped {
     unsigned channel;
     char kind;
     unsigned count;
+};
+
+/* What a sweep did: its number, the steps that it stands for, and how many bytes it read and stored (both 0 if refused). */
+struct emu_swept {
+    unsigned number;
+    uint32_t steps, count;
+};
+
+/* What bars a sweep: the lines, the two channels, the fields of CC in the paper's order, the two ranges. */
+enum emu_bar {
+    EMU_BAR_EXT,
+    EMU_BAR_OTHER_RUNS,
+    EMU_BAR_STANDS,
+    EMU_BAR_NO_XF,
+    EMU_BAR_DESTINATION_STAYS,
+    EMU_BAR_SOURCE_STAYS,
+    EMU_BAR_TRANSLATES,
+    EMU_BAR_SYN,
+    EMU_BAR_TS,
+    EMU_BAR_TX,
+    EMU_BAR_TBC_OFF,
+    EMU_BAR_TMC,
+    EMU_BAR_SOURCE_NOT_LENT,
+    EMU_BAR_DESTINATION_NOT_LENT,
+    EMU_BAR_SHARED,
+    EMU_BARS
 };
 
 /* Which half of a pair a transfer step was, if one: of two fetches (SYN 01) or of two stores (SYN 10), each with a
@@ -226,6 +253,11 @@ struct emu_coverage {
     unsigned long held_beside[EMU_BESIDES]; /* done calls of one channel while the other held a byte */
     unsigned long held_refused[EMU_NUMBERS]; /* attentions and steps that were refused while a byte was held */
     unsigned long bad_transfer[2][2];       /* refused by 5: without and with a held byte, by SYN 11 and by translation */
+    unsigned long barred[EMU_BARS];         /* sweeps that were refused by 15 for one thing alone */
+    unsigned long swept[4][4][4];           /* done ones, by sides that are wide, odd, in I/O space: 1 source, 2 other */
+    unsigned long swept_held;               /* of these, those of a channel that held a byte */
+    unsigned long swept_armed;              /* those of an armed channel */
+    unsigned long swept_all;                /* those of 65,536 bytes */
 };
 
 /* The lent counters, or NULL for none. */
@@ -264,6 +296,15 @@ struct emu_answer emu_attention(struct emu_state *state, struct emu_memory *memo
 
 /* Does one step under the given lines. */
 struct emu_stepped emu_step(struct emu_state *state, struct emu_memory *memory, uint32_t lines);
+
+/* Moves every byte that a block transfer of a channel has left, as its steps under the given lines would. */
+struct emu_swept emu_sweep(struct emu_state *state, struct emu_memory *memory, uint32_t channel, uint32_t lines);
+
+/* What bars a sweep of channel 1 or 2, as a set of bits, where arguments, buffers and state pass every other test. */
+unsigned emu_bars(const struct emu_state *state, const struct emu_memory *memory, uint32_t channel, uint32_t lines);
+
+/* What bars a sweep, in words. */
+const char *emu_bar_name(enum emu_bar bar);
 
 /* The panel's call: fresh state, one attention, steps; answers number x 65,536 + steps done. */
 uint32_t emu_run(struct emu_memory *memory, uint32_t cp, uint32_t channel, uint32_t lines, uint32_t limit);

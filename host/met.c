@@ -101,7 +101,7 @@ void print_fields(const struct emu_coverage *coverage)
     static const char *const modes[3] = {"idle", "running", "suspended"};
     char name[60];
     puts("fields that disagreed with CC, by number:");
-    for (unsigned i = EMU_BAD_POINTER; i < EMU_NUMBERS; i++) {
+    for (unsigned i = EMU_BAD_POINTER; i <= EMU_FIELDS_DISAGREE; i++) {
         snprintf(name, sizeof name, "number %u", i);
         print_count(name, coverage->apart_number[i]);
     }
@@ -227,7 +227,7 @@ void print_held(const struct emu_coverage *coverage)
     puts("a held byte and what the other channel did, which keeps it:");
     for (unsigned i = 0; i < EMU_BESIDES; i++) print_count(beside[i], coverage->held_beside[i]);
     puts("a held byte and a refused attention or step, by number:");
-    for (unsigned i = EMU_NO_CHANNEL_CAN_RUN; i < EMU_NUMBERS; i++) {
+    for (unsigned i = EMU_NO_CHANNEL_CAN_RUN; i <= EMU_FIELDS_DISAGREE; i++) {
         snprintf(name, sizeof name, "number %u", i);
         print_count(name, coverage->held_refused[i]);
     }

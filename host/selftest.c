@@ -4218,7 +4218,7 @@ static void test_invariants(void)
         broken += !emu_same_state(&s, &s0);
     }
     CHECK(broken == 0);
-    for (unsigned number = 0; number < EMU_NUMBERS; number++) CHECK(number == 11 || numbers[number] > 0);
+    for (unsigned number = 0; number < EMU_NOT_SWEEPABLE; number++) CHECK(number == 11 || numbers[number] > 0);
 }
 
 /* ---- How many bytes a call touches ---- */
@@ -4384,6 +4384,377 @@ static void test_coverage(void)
     CHECK(strcmp(emu_row_name(EMU_NO_ROW), "3") == 0);
 }
 
+/* ---- A sweep in one go ---- */
+
+/* Sweeps and wants it done, for so many steps and two accesses of each of n bytes. */
+static void swept(uint32_t channel, uint32_t lines, uint32_t steps, uint32_t n, int line)
+{
+    struct emu_swept answer = emu_sweep(&now.s, &now.m, channel, lines);
+    check(answer.number == 0, "sweep done", line);
+    check(answer.steps == steps && answer.count == 2 * n, "steps and bytes of a sweep", line);
+    check_all(line);
+}
+
+/* Sweeps and wants it refused, with nothing changed. */
+static void unswept(unsigned number, uint32_t channel, uint32_t lines, int line)
+{
+    want_same();
+    struct emu_swept answer = emu_sweep(&now.s, &now.m, channel, lines);
+    check(answer.number == number, "number of sweep", line);
+    check(answer.steps == 0 && answer.count == 0, "no steps, no bytes", line);
+    check_all(line);
+}
+
+#define SWEPT(steps, n) swept(1, 0, (steps), (n), __LINE__)
+#define UNSWEPT(number) unswept((number), 1, 0, __LINE__)
+
+/* Wants a sweep of n bytes that ended by this offset; the case says which bytes arrive. */
+static void want_swept(uint32_t n, unsigned end)
+{
+    want_same();
+    want.s.last = 1;
+    W.ga.address = (W.ga.address + n) & 0xFFFFF;
+    W.gb.address = (W.gb.address + n) & 0xFFFFF;
+    W.bc = 0;
+    W.psw &= (uint8_t)~EMU_PSW_XF;
+    W.tp.address = (W.tp.address + end) & 0xFFFFF;
+    W.held = EMU_NONE_HELD;
+}
+
+/* Sweeps worked out by hand. */
+static void test_sweep_worked(void)
+{
+    /* both sides 16 bits and odd in I/O space, with high bits in both pointers: a lone byte, then two words */
+    transfer(EMU_PSW_S | EMU_PSW_D, 0xC010, 5);
+    N.ga = (struct emu_pointer){0x30011, true};
+    N.gb = (struct emu_pointer){0x50021, true};
+    io(0x0011, "A1 A2 A3 A4 A5 A6");
+    want_swept(5, 4);
+    want_io(0x0021, "A1 A2 A3 A4 A5");
+    CHECK(W.ga.address == 0x30016 && W.gb.address == 0x50026 && W.tp.address == 0x104);
+    SWEPT(3, 5);
+    /* from system space by GB into I/O space by GA, bytes into words: three words and a last byte */
+    transfer(EMU_PSW_D, 0xC408, 7);
+    N.ga = (struct emu_pointer){0x0044, true};
+    N.gb = (struct emu_pointer){0x1001, false};
+    sys(0x1000, "10 11 12 13 14 15 16 17 18");
+    want_swept(7, 0);
+    want_io(0x0044, "11 12 13 14 15 16 17");
+    SWEPT(4, 7);
+    /* one byte left, for any widths and addresses */
+    for (unsigned i = 0; i < 16; i++) {
+        transfer(i % 4, 0xC018, 1);
+        N.ga.address += i / 4 % 2;
+        N.gb.address += i / 8;
+        want_swept(1, 8);
+        want_sys(0x2000 + i / 8, i / 4 % 2 == 0 ? "11" : "22");
+        SWEPT(1, 1);
+    }
+    /* TP wraps in 20 bits and keeps its tag, a pointer at the top goes to 0 */
+    transfer(0, 0xC018, 2);
+    N.tp = (struct emu_pointer){0xFFFFC, true};
+    N.gb.address = 0xFFFFE;
+    want_swept(2, 8);
+    want_sys(0xFFFFE, "11 22");
+    CHECK(W.tp.address == 0x00004 && W.gb.address == 0);
+    SWEPT(2, 2);
+}
+
+/* The paper's cases 8 to 11, and their neighbours: how many steps a sweep stands for. */
+static void test_sweep_steps(void)
+{
+    static const unsigned both = EMU_PSW_S | EMU_PSW_D;
+    static const struct {
+        unsigned widths;
+        uint32_t from, to, n, steps;
+    } cases[] = {
+        {0, 0, 0, 5, 5}, {both, 0, 0, 5, 3}, {both, 1, 1, 1, 1}, {both, 1, 1, 4, 3}, {EMU_PSW_S, 1, 0, 2, 2},
+        /* two 8-bit sides take a byte a step, wherever they are */
+        {0, 1, 0, 4, 4}, {0, 0, 1, 4, 4}, {0, 1, 1, 4, 4},
+        /* one word side is enough for two bytes a step */
+        {both, 0, 1, 4, 2}, {both, 1, 0, 4, 2}, {EMU_PSW_S, 0, 1, 4, 2}, {EMU_PSW_D, 1, 0, 4, 2},
+        {both, 0, 1, 5, 3}, {EMU_PSW_D, 1, 0, 5, 3}, {both, 0, 0, 2, 1}, {both, 0, 0, 3, 2},
+        /* none at the start: a lone byte comes first */
+        {EMU_PSW_S, 1, 0, 3, 2}, {EMU_PSW_S, 1, 1, 4, 3}, {EMU_PSW_D, 0, 1, 4, 3}, {EMU_PSW_D, 1, 1, 5, 3},
+        {both, 1, 1, 2, 2}, {both, 1, 1, 3, 2}, {EMU_PSW_D, 0, 1, 2, 2}, {EMU_PSW_D, 0, 1, 1, 1},
+    };
+    for (unsigned i = 0; i < sizeof cases / sizeof cases[0]; i++) {
+        transfer(cases[i].widths, 0xC008, cases[i].n);
+        N.ga.address = 0x3000 + cases[i].from;
+        N.gb.address = 0x4000 + cases[i].to;
+        sys(0x3000, "01 02 03 04 05 06");
+        want_swept(cases[i].n, 0);
+        memcpy(want.sys + 0x4000 + cases[i].to, want.sys + 0x3000 + cases[i].from, cases[i].n);
+        SWEPT(cases[i].steps, cases[i].n);
+    }
+}
+
+/* BC 0 is 65,536 bytes, here with all of I/O space on one side. */
+static void test_sweep_all(void)
+{
+    static const unsigned both = EMU_PSW_S | EMU_PSW_D;
+    static const struct {
+        unsigned widths;
+        uint32_t at, steps;
+        bool from_io;
+    } cases[] = {
+        {0, 0x20000, 65536, false},         {both, 0x20000, 32768, false}, {both, 0x20001, 32768, false},
+        {EMU_PSW_S, 0x20001, 32769, false}, {0, 0xF0000, 65536, true},     {EMU_PSW_D, 0xEFFFF, 32769, true},
+    };
+    for (unsigned i = 0; i < sizeof cases / sizeof cases[0]; i++) {
+        transfer(cases[i].widths, 0xC008, 0);
+        N.ga = cases[i].from_io ? (struct emu_pointer){0x70000, true} : (struct emu_pointer){cases[i].at, false};
+        N.gb = cases[i].from_io ? (struct emu_pointer){cases[i].at, false} : (struct emu_pointer){0x70000, true};
+        for (unsigned j = 0; j < 65536; j++) {
+            now.sys[cases[i].at + j] = (uint8_t)(j * 7 + j / 256 + 1);
+            now.io[j] = (uint8_t)(j * 5 + j / 256 + 3);
+        }
+        want_swept(65536, 0);
+        if (cases[i].from_io) memcpy(want.sys + cases[i].at, now.io, 65536);
+        else memcpy(want.io, now.sys + cases[i].at, 65536);
+        CHECK((cases[i].from_io ? W.ga : W.gb).address == 0x80000);
+        SWEPT(cases[i].steps, 65536);
+    }
+    /* within system space, and one byte less than lent */
+    transfer(both, 0xC008, 0);
+    N.ga.address = 0x00001;
+    N.gb.address = 0x10001;
+    now.m.sys_len = 0x20001;
+    want_swept(65536, 0);
+    memcpy(want.sys + 0x10001, now.sys + 1, 65536);
+    SWEPT(32769, 65536);
+    transfer(both, 0xC008, 0);
+    N.ga.address = 0x00001;
+    N.gb.address = 0x10001;
+    now.m.sys_len = 0x20000;
+    UNSWEPT(15);
+}
+
+/* What a sweep leaves alone: marks, other bits of the PSW, other registers, the other channel; and what it does not ask. */
+static void test_sweep_keeps(void)
+{
+    for (unsigned lines = 0; lines < 4; lines++) {
+        transfer(EMU_PSW_S, 0xC308 | (lines % 2) << 2, 4);
+        N.psw |= EMU_PSW_PRIORITY | EMU_PSW_LOAD_LIMIT | EMU_PSW_IS | EMU_PSW_IC;
+        N.armed = true;
+        N.held = EMU_HELD | 0x5A;
+        N.ix = 0x1234;
+        N.mc = 0xFF11;
+        N.ga.tag = lines >= 2;
+        N.gc = (struct emu_pointer){0xABCDE, true};
+        N2.held = EMU_HELD | 0xA5;
+        N2.armed = true;
+        N2.psw = 0xFF;
+        N2.mode = lines % 2 != 0 ? EMU_SUSPENDED : EMU_IDLE;
+        emu_set_cc(&N2, 0xFFFF);
+        now.s.system_wide = now.s.io_wide = now.s.soc_1 = true;
+        io(0x1000, "51 52 53 54");
+        want_swept(4, 0);
+        want_sys(0x2000, lines < 2 ? "11 22 33 44" : "51 52 53 54");
+        CHECK(W.armed && W.psw == 0xBE);
+        swept(1, lines, 2, 4, __LINE__);
+        /* with XF clear there is no second one */
+        unswept(15, 1, lines, __LINE__);
+    }
+    /* without TB, and by channel 2, whose turn it was */
+    transfer(0, 0xC008, 3);
+    N2 = N;
+    N2.psw = EMU_PSW_XF;
+    N.mode = EMU_SUSPENDED;
+    now.s.last = 2;
+    want_same();
+    W2.ga.address += 3;
+    W2.gb.address += 3;
+    W2.bc = 0;
+    W2.psw = 0;
+    want_sys(0x2000, "11 22 33");
+    swept(2, 3, 3, 3, __LINE__);
+}
+
+/* Each condition by itself: met, it is swept; failed, it is 15. */
+static void test_sweep_bars(void)
+{
+    for (unsigned i = 0; i < 16; i++) {
+        transfer(0, 0xC008, 4);
+        if (i < 4) CHECK(emu_sweep(&now.s, &now.m, 1, i).number == 0);
+        else unswept(15, 1, i, __LINE__);
+    }
+    /* modes: this channel running, the other not, also where that one only waits */
+    for (unsigned i = 0; i < 9; i++) {
+        transfer(0, 0xC008, 4);
+        N.mode = (enum emu_mode)(i % 3);
+        N2.mode = (enum emu_mode)(i / 3);
+        N2.psw = EMU_PSW_XF;
+        emu_set_cc(&N2, 0x0800);
+        if (N.mode == EMU_RUNNING && N2.mode != EMU_RUNNING) CHECK(emu_sweep(&now.s, &now.m, 1, 0).number == 0);
+        else UNSWEPT(15);
+    }
+    /* every CC: both sides move, no translation, SYN 00, TS 0, TX 00, TBC on, TMC's low bits 00; the rest is free */
+    unsigned done_ones = 0, wrong = 0;
+    transfer(0, 0xC008, 4);
+    for (unsigned cc = 0; cc < 65536; cc++) {
+        struct emu_state s = now.s;
+        emu_set_cc(&s.channel[0], (uint16_t)cc);
+        bool plain = (cc & 0xF8E3) == 0xC000 && (cc & 0x0018) != 0;
+        struct emu_swept answer = emu_sweep(&s, &now.m, 1, 0);
+        wrong += answer.number != (plain ? 0u : 15u) || answer.steps != (plain ? 4u : 0u);
+        done_ones += answer.number == 0;
+    }
+    CHECK(wrong == 0);
+    CHECK(done_ones == 3 * 2 * 8);
+    transfer(0, 0xC008, 4);
+    N.psw = 0xFF & ~EMU_PSW_XF;
+    UNSWEPT(15);
+}
+
+/* The fields decide where CC and they agree, and bit 9 of CC is in none. */
+static void test_sweep_fields(void)
+{
+    transfer(0, 0xC008, 4);
+    N.cc ^= 0x0200;
+    CHECK(emu_sweep(&now.s, &now.m, 1, 0).number == 0);
+    for (unsigned bit = 0; bit < 16; bit++) {
+        transfer(0, 0xC008, 4);
+        N.cc ^= (uint16_t)(1u << bit);
+        if (bit != 9) UNSWEPT(14);
+    }
+}
+
+/* Points both sides, which move n bytes, and lends so much. */
+static void ranges(struct emu_pointer from, struct emu_pointer to, uint32_t n, size_t sys_len, size_t io_len)
+{
+    transfer(0, 0xC008, n);
+    N.ga = from;
+    N.gb = to;
+    now.m.sys_len = sys_len;
+    now.m.io_len = io_len;
+}
+
+/* Whether a sweep of such ranges is done. */
+#define FITS(...) (ranges(__VA_ARGS__), emu_sweep(&now.s, &now.m, 1, 0).number == 0)
+#define SYS(at) (struct emu_pointer){(at), false}
+#define IO(at) (struct emu_pointer){(at), true}
+
+/* Ranges: lent to their last byte, without wrapping, and no byte in both. */
+static void test_sweep_ranges(void)
+{
+    /* up to the end of what is lent, and one byte past it */
+    CHECK(FITS(SYS(0x10), SYS(0x20), 8, 0x28, 0) && !FITS(SYS(0x10), SYS(0x20), 8, 0x27, 0));
+    CHECK(FITS(SYS(0x20), SYS(0x10), 8, 0x28, 0) && !FITS(SYS(0x20), SYS(0x10), 8, 0x27, 0));
+    CHECK(FITS(IO(0x10), SYS(0), 8, 8, 0x18) && FITS(SYS(0), IO(0x10), 8, 8, 0x18));
+    CHECK(!FITS(IO(0x10), SYS(0), 8, 8, 0x17) && !FITS(IO(0x10), SYS(0), 8, 7, 0x18));
+    CHECK(!FITS(SYS(0), IO(0x10), 8, 8, 0x17) && !FITS(SYS(0), IO(0x10), 8, 7, 0x18));
+    CHECK(!FITS(IO(0), SYS(0), 1, 1, 0) && !FITS(SYS(0), IO(0), 1, 0, 1) && FITS(SYS(0), IO(0), 1, 1, 1));
+    /* the last byte at the top of its space, and past it, where the next would be at 0 */
+    CHECK(FITS(SYS(0xFFFF8), SYS(0x20), 8, MIB, 0) && !FITS(SYS(0xFFFF9), SYS(0x20), 8, MIB, 0));
+    CHECK(FITS(SYS(0x20), SYS(0xFFFF8), 8, MIB, 0) && !FITS(SYS(0x20), SYS(0xFFFF9), 8, MIB, 0));
+    CHECK(FITS(IO(0xFFF8), IO(0x20), 8, 0, 65536) && !FITS(IO(0xFFF9), IO(0x20), 8, 0, 65536));
+    CHECK(FITS(IO(0x20), IO(0xFFF8), 8, 0, 65536) && !FITS(IO(0x20), IO(0xFFF9), 8, 0, 65536));
+    CHECK(FITS(IO(0xAFFF8), IO(0x20), 8, 0, 65536) && !FITS(IO(0xAFFF9), IO(0x20), 8, 0, 65536));
+    CHECK(FITS(SYS(0xFFFFF), IO(0xFFFF), 1, MIB, 65536) && !FITS(SYS(0xFFFFF), IO(0xFFFF), 2, MIB, 65536));
+    CHECK(FITS(SYS(0xFFFE), SYS(0x20), 8, MIB, 0) && !FITS(IO(0xFFFE), SYS(0x20), 8, MIB, 65536));
+    /* next to each other, and with one byte in both, either way round */
+    CHECK(FITS(SYS(0x10), SYS(0x18), 8, 0x40, 0) && !FITS(SYS(0x10), SYS(0x17), 8, 0x40, 0));
+    CHECK(FITS(SYS(0x18), SYS(0x10), 8, 0x40, 0) && !FITS(SYS(0x17), SYS(0x10), 8, 0x40, 0));
+    CHECK(FITS(IO(0x10), IO(0x18), 8, 0, 0x40) && !FITS(IO(0x10), IO(0x17), 8, 0, 0x40));
+    CHECK(!FITS(SYS(0x10), SYS(0x10), 8, 0x40, 0) && !FITS(SYS(0x10), SYS(0x10), 1, 0x40, 0));
+    /* only the low 16 bits tell places of I/O space apart, and two spaces share nothing */
+    CHECK(!FITS(IO(0x10010), IO(0x20017), 8, 0, 0x40) && FITS(IO(0x10010), IO(0x20018), 8, 0, 0x40));
+    CHECK(FITS(SYS(0x10), IO(0x10), 8, 0x40, 0x40) && FITS(IO(0x10), SYS(0x10), 8, 0x40, 0x40));
+    CHECK(FITS(SYS(0x10010), SYS(0x20017), 8, MIB, 0));
+}
+
+/* 12, 11, 10, 13, 14, 15, in this order. */
+static void test_sweep_order(void)
+{
+    transfer(0, 0xC008, 4);
+    N.psw = 0;
+    N2.cc ^= 1;
+    now.s.powered = false;
+    N2.gc.address = 0x100000;
+    now.m.io_len = EMU_IO_LIMIT + 1;
+    unswept(12, 0, 0, __LINE__);
+    unswept(12, 3, 16, __LINE__);
+    unswept(12, 0xFFFFFFFF, 0, __LINE__);
+    unswept(12, 1, 16, __LINE__);
+    unswept(12, 2, 0xFFFFFFFF, __LINE__);
+    UNSWEPT(11);
+    now.m.io_len = EMU_IO_LIMIT;
+    now.m.sys_len = MIB + 1;
+    unswept(11, 2, 15, __LINE__);
+    now.m.sys_len = MIB;
+    UNSWEPT(10);
+    N2.gc.address = 0;
+    now.s.cp = 0x100000;
+    UNSWEPT(10);
+    now.s.cp = 0;
+    UNSWEPT(13);
+    now.s.powered = true;
+    UNSWEPT(14);
+    N2.cc ^= 1;
+    UNSWEPT(15);
+    N.psw = EMU_PSW_XF;
+    want_swept(4, 0);
+    want_sys(0x2000, "11 22 33 44");
+    SWEPT(4, 4);
+}
+
+/* Sweeps beside the plain steps of the emulator, over widths, addresses, spaces and counts. */
+static void test_sweep_plainly(void)
+{
+    unsigned unlike = 0;
+    for (unsigned i = 0; i < 4 * 4 * 4 * 24; i++) {
+        uint8_t a[128], b[128], a0[128], b0[128];
+        struct emu_memory m = {a, sizeof a, b, sizeof b}, m0 = {a0, sizeof a0, b0, sizeof b0};
+        struct emu_state s, s0;
+        uint32_t steps = 0, count = 0;
+        for (unsigned j = 0; j < 128; j++) a[j] = a0[j] = (uint8_t)made_up(), b[j] = b0[j] = (uint8_t)made_up();
+        emu_fresh(0, &s);
+        struct emu_channel *c = &s.channel[i / 7 % 2];
+        made_up_channel(c);
+        c->gc.address = c->tp.address = 0x12345;
+        c->mode = EMU_RUNNING;
+        c->psw = (uint8_t)((c->psw & ~3u) | EMU_PSW_XF | i % 4);
+        emu_set_cc(c, (uint16_t)(0xC000 | (made_up() & 0x0704) | (1 + made_up() % 3) << 3));
+        c->ga = (struct emu_pointer){10 + i / 4 % 2, i / 16 % 2 != 0};
+        c->gb = (struct emu_pointer){60 + i / 8 % 2, i / 32 % 2 != 0};
+        c->bc = (uint16_t)(1 + i / 64);
+        s0 = s;
+        while ((s0.channel[i / 7 % 2].psw & EMU_PSW_XF) != 0 && steps < 100) {
+            count += emu_step(&s0, &m0, i % 4).count;
+            steps++;
+        }
+        struct emu_swept answer = emu_sweep(&s, &m, 1 + i / 7 % 2, i % 4);
+        unlike += answer.number != 0 || answer.steps != steps || answer.count != count || !emu_same_state(&s, &s0);
+        unlike += memcmp(a, a0, sizeof a) != 0 || memcmp(b, b0, sizeof b) != 0;
+    }
+    CHECK(unlike == 0);
+}
+
+/* The counters of sweeps: refused ones by what alone barred them, and done ones by their sides. */
+static void test_sweep_coverage(void)
+{
+    static struct emu_coverage c;
+    memset(&c, 0, sizeof c);
+    emu_coverage = &c;
+    transfer(EMU_PSW_D, 0xC408, 0);
+    N.held = EMU_HELD;
+    N.armed = true;
+    N.gb = (struct emu_pointer){0x20001, false};
+    N.ga = (struct emu_pointer){0, true};
+    CHECK(emu_sweep(&now.s, &now.m, 1, 4).number == 15 && emu_sweep(&now.s, &now.m, 1, 0).number == 0);
+    transfer(0, 0xC008, 4);
+    N.ga.address = N.gb.address;
+    CHECK(emu_sweep(&now.s, &now.m, 1, 0).number == 15 && emu_sweep(&now.s, &now.m, 1, 8).number == 15);
+    CHECK(emu_bars(&now.s, &now.m, 1, 8) == (1u << EMU_BAR_EXT | 1u << EMU_BAR_SHARED));
+    emu_coverage = NULL;
+    unsigned long all = 0;
+    for (unsigned i = 0; i < EMU_BARS; i++) all += c.barred[i];
+    CHECK(all == 2 && c.barred[EMU_BAR_EXT] == 1 && c.barred[EMU_BAR_SHARED] == 1);
+    CHECK(c.swept[2][1][2] == 1 && c.swept_held == 1 && c.swept_armed == 1 && c.swept_all == 1);
+    CHECK(strcmp(emu_bar_name(EMU_BAR_SHARED), "a byte in both ranges") == 0);
+}
+
 /* Runs every case and fails if one check did. */
 int main(void)
 {
@@ -4456,6 +4827,16 @@ int main(void)
     test_invariants();
     test_coverage();
     test_pair_coverage();
+    test_sweep_worked();
+    test_sweep_steps();
+    test_sweep_all();
+    test_sweep_keeps();
+    test_sweep_bars();
+    test_sweep_fields();
+    test_sweep_ranges();
+    test_sweep_order();
+    test_sweep_plainly();
+    test_sweep_coverage();
     printf("%lu checks, %lu failures\n", checks, failures);
     return failures == 0 ? 0 : 1;
 }
