@@ -5,6 +5,7 @@ DEMO ?= examples/copy-odd.bin
 SEED ?= 1
 CASES ?= 200000
 SERVICE_CASES ?= 300000
+SWEEPS ?= 200000
 TEXTS ?= 20000
 PARTS ?= 2000
 CALLS ?= 40000
@@ -19,13 +20,14 @@ override DEMO := $(value DEMO)
 override SEED := $(value SEED)
 override CASES := $(value CASES)
 override SERVICE_CASES := $(value SERVICE_CASES)
+override SWEEPS := $(value SWEEPS)
 override TEXTS := $(value TEXTS)
 override PARTS := $(value PARTS)
 override CALLS := $(value CALLS)
 override IMAGES := $(value IMAGES)
 override PREFIX := $(value PREFIX)
 override DESTDIR := $(value DESTDIR)
-export IMAGE FILE DEMO SEED CASES SERVICE_CASES TEXTS PARTS CALLS IMAGES PREFIX DESTDIR
+export IMAGE FILE DEMO SEED CASES SERVICE_CASES SWEEPS TEXTS PARTS CALLS IMAGES PREFIX DESTDIR
 
 CFLAGS ?= -O2
 STRICT = -std=c11 -Wall -Wextra -Wpedantic -Wconversion
@@ -227,6 +229,21 @@ given-service:
 
 compare-service: given-service build/compare_service
 	tools/x86 build/compare_service "$$SEED" "$$SERVICE_CASES"
+
+# Sweeps three ways: the archive's call, the emulator's own, and plain steps of the archive.
+.PHONY: compare-sweep given-sweeps
+
+given-sweeps:
+	@tools/given number SEED && tools/given number SWEEPS
+
+COMPARE_SWEEP = $(addprefix host/,compare_sweep.c sweeps.c state_bytes.c)
+COMPARE_SWEEP_H = $(addprefix host/,sweeps.h state_bytes.h) include/iop89_service.h
+
+build/compare_sweep: $(COMPARE_SWEEP) $(COMPARE_SWEEP_H) $(COMMON) $(COMMON_H) $(SERVICE_LIB) | x86-compiler
+	$(X86_CC) $(STRICT) $(CFLAGS) -Iinclude $(COMPARE_SWEEP) $(COMMON) $(SERVICE_LIB) $(X86_LDFLAGS) -o $@
+
+compare-sweep: given-sweeps build/compare_sweep
+	tools/x86 build/compare_sweep "$$SEED" "$$SWEEPS"
 
 # ---- The bench tool, over both archives
 

@@ -245,6 +245,31 @@ void print_anew(const unsigned long met[ANEWS])
     for (unsigned i = 0; i < ANEWS; i++) print_count(names[i], met[i]);
 }
 
+void print_barred(const struct emu_coverage *coverage)
+{
+    puts("sweeps refused by 15 for one thing alone:");
+    for (unsigned i = 0; i < EMU_BARS; i++) print_count(emu_bar_name(i), coverage->barred[i]);
+}
+
+void print_swept(const struct emu_coverage *coverage)
+{
+    static const char *const names[12] = {"8 into 8 bits",      "16 into 8 bits",  "8 into 16 bits",  "16 into 16 bits",
+                                          "even into even",     "odd into even",   "even into odd",   "odd into odd",
+                                          "system into system", "I/O into system", "system into I/O", "I/O into I/O"};
+    unsigned long counts[12] = {0};
+    for (unsigned i = 0; i < 64; i++) {
+        unsigned long done = coverage->swept[i / 16][i / 4 % 4][i % 4];
+        counts[i / 16] += done;
+        counts[4 + i / 4 % 4] += done;
+        counts[8 + i % 4] += done;
+    }
+    puts("done sweeps:");
+    for (unsigned i = 0; i < 12; i++) print_count(names[i], counts[i]);
+    print_count("of a channel that held a byte", coverage->swept_held);
+    print_count("of an armed channel", coverage->swept_armed);
+    print_count("of 65,536 bytes", coverage->swept_all);
+}
+
 void print_coverage(const struct emu_coverage *coverage, unsigned commands)
 {
     print_commands(coverage, commands);

@@ -55,6 +55,12 @@ void print_anew(const unsigned long met[ANEWS]);
 /* Prints how CC and its fields stood to each other in attentions and steps, done and refused by each early number. */
 void print_fields(const struct emu_coverage *coverage);
 
+/* Prints what alone barred sweeps that were refused by 15. */
+void print_barred(const struct emu_coverage *coverage);
+
+/* Prints the done sweeps by their sides' widths, odd addresses and spaces, and by what their channels held. */
+void print_swept(const struct emu_coverage *coverage);
+
 /* Prints the accepted commands of the set, the rows carried out, and the shapes and ends of transfer steps. */
 void print_coverage(const struct emu_coverage *coverage, unsigned commands);
 

@@ -1,0 +1,473 @@
+/* Compares sweeps made three ways: by the service archive, by the emulator, and in plain steps of the archive. What they
+ * answer, the state and every lent byte must be the same, and a refused sweep changes nothing. */
+#include "iop89_service.h"
+#include "met.h"
+#include "sweeps.h"
+
+#include <inttypes.h>
+#include <stdlib.h>
+#include <string.h>
+#include <time.h>
+
+/* How many sweeps meet everything, bytes around a buffer that nobody may touch, more steps than a sweep stands for, and
+ * how many differences are shown. */
+enum { SWEEPS_TO_MEET_ALL = 200000, FENCE = 16, FENCE_BYTE = 0xA5, STEP_LIMIT = 70000, SHOWN = 5 };
+
+/* What the plain steps came to: the number of the last, how many were done, and the sum of their counts. */
+struct plainly {
+    uint32_t number, steps, count;
+};
+
+/* As it was given, as the emulator and the archive left it by a sweep, and as the archive left it by plain steps. */
+static struct machine given, emulated, swept, stepped;
+static struct emu_coverage coverage;
+
+/* ---- Buffers ---- */
+
+/* Room with a fence before and behind. */
+static uint8_t *fenced(size_t length)
+{
+    uint8_t *bytes = malloc(length + 2 * FENCE);
+    if (bytes == NULL) {
+        fputs("compare_sweep: out of memory\n", stderr);
+        exit(2);
+    }
+    memset(bytes, FENCE_BYTE, length + 2 * FENCE);
+    return bytes + FENCE;
+}
+
+/* Room for one machine. */
+static struct machine new_machine(void)
+{
+    struct machine m = {fenced(STATE_ROOM), {fenced(CASE_SYSTEM_ROOM), fenced(CASE_IO_ROOM)}};
+    return m;
+}
+
+/* Whether the fences before and behind a buffer are whole. */
+static bool fences_stand(const uint8_t *bytes, size_t length)
+{
+    for (size_t i = 0; i < FENCE; i++)
+        if ((bytes - FENCE)[i] != FENCE_BYTE || bytes[length + i] != FENCE_BYTE) return false;
+    return true;
+}
+
+/* Copies what was given to another machine, with fences right behind what is lent. */
+static void lend(const struct machine *to, const struct sweep *s)
+{
+    memcpy(to->state, given.state, STATE_ROOM);
+    for (unsigned i = 0; i < 2; i++) {
+        memcpy(to->memory[i], given.memory[i], s->length[i]);
+        memset(to->memory[i] + s->length[i], FENCE_BYTE, FENCE);
+    }
+}
+
+/* Whether two machines are the same, also behind the state's end, and the second has its fences. */
+static bool same_machine(const struct machine *a, const struct machine *b, const struct sweep *s)
+{
+    bool same = memcmp(a->state, b->state, STATE_ROOM) == 0 && fences_stand(b->state, STATE_ROOM);
+    for (unsigned i = 0; i < 2 && same; i++)
+        same = memcmp(a->memory[i], b->memory[i], s->length[i]) == 0 && fences_stand(b->memory[i], s->length[i]);
+    return same;
+}
+
+/* ---- The three answers ---- */
+
+/* The emulator's answer, laid out as the archive's. */
+static uint64_t by_emulator(const struct sweep *s)
+{
+    struct emu_memory memory = {emulated.memory[0], s->length[0], emulated.memory[1], s->length[1]};
+    struct emu_state state;
+    if (state_from_bytes(emulated.state, s->state_len, &state) != FAULT_NONE) return IOP89_NO_STATE;
+    struct emu_swept answer = emu_sweep(&state, &memory, s->channel, s->lines);
+    state_to_bytes(&state, emulated.state);
+    return (uint64_t)answer.count << 32 | (uint64_t)answer.steps << 8 | answer.number;
+}
+
+/* The archive's answer. */
+static uint64_t by_archive(const struct sweep *s)
+{
+    return iop89_sweep(swept.state, s->state_len, swept.memory[0], s->length[0], swept.memory[1], s->length[1],
+                       s->channel, s->lines);
+}
+
+/* The archive's plain steps under the same lines, until XF of the channel is clear or one is refused. */
+static struct plainly by_steps(const struct sweep *s)
+{
+    struct plainly p = {IOP89_DONE, 0, 0};
+    while (p.steps < STEP_LIMIT && (iop89_get(stepped.state, s->channel, IOP89_PSW) & EMU_PSW_XF) != 0) {
+        uint32_t answer = iop89_step(stepped.state, s->state_len, stepped.memory[0], s->length[0], stepped.memory[1],
+                                     s->length[1], s->lines);
+        p.number = IOP89_ANSWER_NUMBER(answer);
+        if (p.number != IOP89_DONE) return p;
+        p.count += IOP89_ANSWER_COUNT(answer);
+        p.steps++;
+    }
+    return p;
+}
+
+/* ---- What was met ---- */
+
+/* What done sweeps meet besides their sides: channels, fields, marks, pointers, and how their ranges lie. */
+enum met {
+    MET_GA, MET_GB, MET_IDLE, MET_SUSPENDED, MET_OTHER_LAST, MET_SAME_LAST, MET_TMC_000, MET_TMC_100, MET_CHAINED,
+    MET_BIT_9, MET_PRIORITY, MET_NO_TB, MET_HELD_ARMED, MET_OTHER_HOLDS, MET_TP_WRAPS, MET_SOURCE_HIGH,
+    MET_DESTINATION_HIGH, MET_EQUAL, MET_SOURCE_FIRST, MET_DESTINATION_FIRST, MET_SOURCE_NEXT, MET_DESTINATION_NEXT, METS
+};
+
+static const char *const met_names[METS] = {
+    "source GA", "source GB", "the other channel idle", "the other channel suspended", "the other channel stepped last",
+    "the same channel stepped last", "TMC 000", "TMC 100", "chained", "bit 9 of CC set", "priority set", "TB clear",
+    "a byte held and the armed mark set", "the other channel holds a byte", "TP wraps",
+    "high bits in the source's I/O pointer", "high bits in the destination's I/O pointer", "equal addresses in two spaces",
+    "source before destination", "destination before source", "source right before destination",
+    "destination right before source"};
+
+/* Sweeps that were refused by 15 for one thing alone, where there are several of its kind. */
+enum alone {
+    ALONE_IDLE, ALONE_SUSPENDED, ALONE_SOURCE_PAST, ALONE_SOURCE_WRAPS, ALONE_DESTINATION_PAST, ALONE_DESTINATION_WRAPS,
+    ALONE_SHARED_BEHIND, ALONE_SHARED_BEFORE, ALONE_SHARED_ALL, ALONE_SHARED_HIGH, ALONES
+};
+
+static const char *const alone_names[ALONES] = {
+    "the channel idle", "the channel suspended", "source one byte past what is lent",
+    "source across the top of its space", "destination one byte past what is lent",
+    "destination across the top of its space", "the source's last byte is the destination's first",
+    "the destination's last byte is the source's first", "both ranges the same",
+    "shared in I/O space, high bits of the pointers not the same"};
+
+static unsigned long numbers[IOP89_NO_STATE + 1], order[IOP89_NO_STATE + 1][IOP89_NO_STATE + 1], faults[STATE_FAULTS];
+static unsigned long met[METS], alone[ALONES], syn[4], tx[4], tmc[8], ext[16], under[2][4], ends[2][2][2], tbc[4];
+static unsigned long few[FEW + 1], between, many[4], plain, plain_many[4];
+static unsigned long by_channel, by_lines, by_system, by_io, by_count;
+
+/* The ranges of a channel's transfer, as the papers have them. */
+struct ranges {
+    struct emu_pointer pointer[2]; /* source, destination */
+    uint32_t at[2], n;
+};
+
+/* The ranges that a state gives a channel. */
+static struct ranges ranges_of(const struct emu_channel *c)
+{
+    struct ranges r = {{c->ga, c->gb}, {0, 0}, c->bc == 0 ? MOST : c->bc};
+    if (c->fields.source_is_gb) r.pointer[0] = c->gb, r.pointer[1] = c->ga;
+    for (unsigned i = 0; i < 2; i++) r.at[i] = r.pointer[i].address % space_limits[r.pointer[i].tag];
+    return r;
+}
+
+/* Counts how the ranges of a done sweep lie. */
+static void count_ranges(const struct sweep *s, const struct ranges *r)
+{
+    bool together = r->pointer[0].tag == r->pointer[1].tag;
+    met[MET_SOURCE_HIGH] += r->pointer[0].tag && r->pointer[0].address > 0xFFFF;
+    met[MET_DESTINATION_HIGH] += r->pointer[1].tag && r->pointer[1].address > 0xFFFF;
+    met[MET_EQUAL] += !together && r->at[0] == r->at[1];
+    met[MET_SOURCE_FIRST] += together && r->at[0] < r->at[1];
+    met[MET_DESTINATION_FIRST] += together && r->at[0] > r->at[1];
+    met[MET_SOURCE_NEXT] += together && r->at[0] + r->n == r->at[1];
+    met[MET_DESTINATION_NEXT] += together && r->at[1] + r->n == r->at[0];
+    for (unsigned i = 0; i < 2; i++) {
+        bool in_io = r->pointer[i].tag, top = s->length[in_io] == space_limits[in_io];
+        if (r->at[i] + r->n == s->length[in_io]) ends[i][in_io][top]++;
+    }
+}
+
+/* Counts a done sweep. */
+static void count_done(const struct sweep *s, const struct emu_state *state)
+{
+    const struct emu_channel *c = &state->channel[s->channel - 1], *other = &state->channel[2 - s->channel];
+    struct ranges r = ranges_of(c);
+    met[c->fields.source_is_gb ? MET_GB : MET_GA]++;
+    met[other->mode == EMU_IDLE ? MET_IDLE : MET_SUSPENDED]++;
+    met[state->last == s->channel ? MET_SAME_LAST : MET_OTHER_LAST]++;
+    met[c->fields.tmc == 4 ? MET_TMC_100 : MET_TMC_000]++;
+    met[MET_CHAINED] += c->fields.chained;
+    met[MET_BIT_9] += (c->cc & 0x0200u) != 0;
+    met[MET_PRIORITY] += (c->psw & EMU_PSW_PRIORITY) != 0;
+    met[MET_NO_TB] += (c->psw & EMU_PSW_TB) == 0;
+    met[MET_HELD_ARMED] += c->held != EMU_NONE_HELD && c->armed;
+    met[MET_OTHER_HOLDS] += other->held != EMU_NONE_HELD;
+    met[MET_TP_WRAPS] += c->tp.address + 4 * (c->fields.tbc - 1u) > MASK20;
+    under[s->channel - 1][s->lines & 3u]++;
+    tbc[c->fields.tbc]++;
+    if (r.n <= FEW) few[r.n]++;
+    else if (r.n < MANY) between++;
+    else many[r.n - MANY]++;
+    count_ranges(s, &r);
+}
+
+/* Counts ranges that alone bar a sweep: one not lent, or two that share bytes. */
+static void count_bad_ranges(const struct sweep *s, const struct ranges *r, unsigned bars)
+{
+    for (unsigned i = 0; i < 2; i++) {
+        uint32_t length = (uint32_t)s->length[r->pointer[i].tag];
+        bool whole = length == space_limits[r->pointer[i].tag], past = r->at[i] + r->n == length + 1;
+        if (bars != 1u << (i == 0 ? EMU_BAR_SOURCE_NOT_LENT : EMU_BAR_DESTINATION_NOT_LENT)) continue;
+        alone[i == 0 ? ALONE_SOURCE_PAST : ALONE_DESTINATION_PAST] += past && !whole;
+        alone[i == 0 ? ALONE_SOURCE_WRAPS : ALONE_DESTINATION_WRAPS] += whole;
+    }
+    if (bars != 1u << EMU_BAR_SHARED) return;
+    bool in_io = r->pointer[0].tag, high = (r->pointer[0].address ^ r->pointer[1].address) > 0xFFFF;
+    alone[ALONE_SHARED_BEHIND] += r->n > 1 && r->at[1] == r->at[0] + r->n - 1;
+    alone[ALONE_SHARED_BEFORE] += r->n > 1 && r->at[0] == r->at[1] + r->n - 1;
+    alone[ALONE_SHARED_ALL] += r->at[0] == r->at[1];
+    alone[ALONE_SHARED_HIGH] += in_io && high;
+}
+
+/* Counts a sweep that 15 refused, by what alone barred it. */
+static void count_barred(const struct sweep *s, const struct emu_state *state)
+{
+    const struct emu_memory memory = {given.memory[0], s->length[0], given.memory[1], s->length[1]};
+    const struct emu_channel *c = &state->channel[s->channel - 1];
+    struct ranges r = ranges_of(c);
+    unsigned bars = emu_bars(state, &memory, s->channel, s->lines), not_lent = 3u << EMU_BAR_SOURCE_NOT_LENT;
+    by_count += c->bc == 0 && (bars & ~(not_lent | 1u << EMU_BAR_SHARED)) == 0;
+    if (bars == 1u << EMU_BAR_EXT) ext[s->lines & 15u]++;
+    if (bars == 1u << EMU_BAR_STANDS) alone[c->mode == EMU_IDLE ? ALONE_IDLE : ALONE_SUSPENDED]++;
+    if (bars == 1u << EMU_BAR_SYN) syn[c->fields.syn]++;
+    if (bars == 1u << EMU_BAR_TX) tx[c->fields.tx]++;
+    if (bars == 1u << EMU_BAR_TMC) tmc[c->fields.tmc]++;
+    count_bad_ranges(s, &r, bars);
+}
+
+/* Counts a sweep by its number, and where two things were wrong with it, by that of the other too. */
+static void count(const struct sweep *s, uint64_t answer)
+{
+    struct emu_state state;
+    unsigned number = IOP89_SWEEP_NUMBER(answer);
+    enum state_fault fault = state_from_bytes(given.state, s->state_len, &state);
+    numbers[number]++;
+    faults[fault]++;
+    if (s->flaw[0] != NO_FLAW && number == number_of_flaw(s->flaw[1])) order[number][number_of_flaw(s->flaw[0])]++;
+    by_channel += number == IOP89_BAD_ARGUMENT && s->lines <= 15;
+    by_lines += number == IOP89_BAD_ARGUMENT && (s->channel == 1 || s->channel == 2);
+    by_system += number == IOP89_BAD_BUFFER && s->length[1] <= space_limits[1];
+    by_io += number == IOP89_BAD_BUFFER && s->length[0] <= space_limits[0];
+    if (number == IOP89_DONE) count_done(s, &state);
+    if (number == IOP89_NOT_SWEEPABLE) count_barred(s, &state);
+}
+
+/* ---- One sweep ---- */
+
+/* Whether the plain steps came to the sweep's end in its number of steps and with its count. */
+static bool agree_plainly(const struct sweep *s, uint64_t answer, bool shown)
+{
+    lend(&stepped, s);
+    struct plainly p = by_steps(s);
+    bool same = p.number == IOP89_DONE && p.steps == IOP89_SWEEP_STEPS(answer) && p.count == IOP89_SWEEP_COUNT(answer);
+    if (!shown) plain++;
+    if (!shown && s->n >= MANY) plain_many[s->n - MANY]++;
+    if (shown)
+        printf("  plain steps: number %" PRIu32 ", %" PRIu32 " steps, count %" PRIu32 "\n", p.number, p.steps, p.count);
+    return same_machine(&stepped, &swept, s) && same;
+}
+
+/* Shows the bytes of the state that two machines do not have alike. */
+static void show_states(const char *name, const struct machine *m)
+{
+    for (size_t i = 0; i < STATE_ROOM; i++)
+        if (m->state[i] != swept.state[i])
+            printf("  state byte %zu: %s %02X, archive's sweep %02X\n", i, name, m->state[i], swept.state[i]);
+}
+
+/* Shows what one sweep was given and answered. */
+static void show(const struct sweep *s, uint64_t emulator, uint64_t archive)
+{
+    printf("  channel %" PRIu32 ", lines %" PRIu32 ", %" PRIu32 " bytes, %zu and %zu lent, %zu of a state\n",
+           s->channel, s->lines, s->n, s->length[0], s->length[1], s->state_len);
+    printf("  emulator: number %" PRIu32 ", %" PRIu32 " steps, count %" PRIu32 "\n", IOP89_SWEEP_NUMBER(emulator),
+           IOP89_SWEEP_STEPS(emulator), IOP89_SWEEP_COUNT(emulator));
+    printf("  archive: number %" PRIu32 ", %" PRIu32 " steps, count %" PRIu32 "\n", IOP89_SWEEP_NUMBER(archive),
+           IOP89_SWEEP_STEPS(archive), IOP89_SWEEP_COUNT(archive));
+    show_states("emulator", &emulated);
+}
+
+/* Makes one sweep in all ways; answers whether they agree, and whether a refused one changed nothing. */
+static bool agree(uint64_t seed, uint64_t number, bool shown)
+{
+    struct sweep s = make_sweep(given, seed, number);
+    lend(&emulated, &s);
+    lend(&swept, &s);
+    emu_coverage = shown ? NULL : &coverage;
+    uint64_t emulator = by_emulator(&s), archive = by_archive(&s);
+    emu_coverage = NULL;
+    if (shown) show(&s, emulator, archive);
+    else count(&s, emulator);
+    bool same = emulator == archive && same_machine(&emulated, &swept, &s);
+    bool done = IOP89_SWEEP_NUMBER(archive) == IOP89_DONE;
+    if (!done) return same && archive >> 8 == 0 && same_machine(&given, &swept, &s);
+    if (s.plain) same = agree_plainly(&s, archive, shown) && same;
+    return same;
+}
+
+/* ---- Every CC ---- */
+
+/* Sweeps a transfer of seven bytes with each of the 65,536 values in CC; how many differ. Of these 48 are done: TBC 01, 10
+ * and 11, with bits 10, 9, 8 and 2 free. */
+static unsigned every_cc(void)
+{
+    struct dice d = seeded(4000037, 0);
+    struct sweep s = {.given = given, .length = {64, 64}, .state_len = STATE_BYTES, .channel = 1, .n = 7};
+    struct range source = {false, 8}, destination = {true, 8};
+    unsigned differences = 0, done = 0;
+    s.source = source;
+    s.destination = destination;
+    make_state(&d, &s);
+    for (uint32_t cc = 0; cc < 65536; cc++) {
+        iop89_set_cc(given.state, s.channel, cc);
+        lend(&emulated, &s);
+        lend(&swept, &s);
+        uint64_t emulator = by_emulator(&s), archive = by_archive(&s);
+        done += IOP89_SWEEP_NUMBER(archive) == IOP89_DONE;
+        if (emulator == archive && same_machine(&emulated, &swept, &s)) continue;
+        if (differences++ < SHOWN) printf("DIFFERENCE at CC %04" PRIX32 "\n", cc);
+    }
+    print_count("CC values of which a sweep is done", done);
+    if (done != 48) puts("this should be 48");
+    return differences + (done != 48);
+}
+
+/* ---- What is printed ---- */
+
+/* Prints the counters of a table, each with its name. */
+static void print_table(const char *heading, const char *const names[], const unsigned long counts[], unsigned length)
+{
+    puts(heading);
+    for (unsigned i = 0; i < length; i++) print_count(names[i], counts[i]);
+}
+
+/* Prints the counters of the numbers from one to another, each with its number in its name; the first is at index 0. */
+static void print_row(const char *form, const unsigned long counts[], unsigned from, unsigned to)
+{
+    char name[60];
+    for (unsigned i = from; i <= to; i++) {
+        snprintf(name, sizeof name, form, i);
+        print_count(name, counts[i - from]);
+    }
+}
+
+/* Prints the sweeps by number, refusals by what is wrong, by which of two comes first, and 17 by its cause. */
+static void print_refused(void)
+{
+    static const unsigned first[] = {17, 12, 11, 10, 13, 14, 15};
+    char name[120];
+    puts("sweeps, by number:");
+    for (unsigned i = 0; i <= IOP89_NO_STATE; i++) {
+        snprintf(name, sizeof name, "%u %s", i, iop89_service_words(i));
+        if (i == IOP89_DONE || (i >= IOP89_BAD_POINTER && i != 16)) print_count(name, numbers[i]);
+    }
+    print_count("12 for the channel alone", by_channel);
+    print_count("12 for the lines alone", by_lines);
+    print_count("11 for system memory alone", by_system);
+    print_count("11 for I/O memory alone", by_io);
+    print_count("15 for BC 0 and the ranges of 65,536 bytes", by_count);
+    puts("where two numbers could be given:");
+    for (unsigned i = 0; i < 7; i++) {
+        for (unsigned j = i + 1; j < 7; j++) {
+            snprintf(name, sizeof name, "%u before %u", first[i], first[j]);
+            print_count(name, order[first[i]][first[j]]);
+        }
+    }
+    puts("17, by its cause:");
+    for (enum state_fault fault = FAULT_LENGTH; fault < STATE_FAULTS; fault++) {
+        if (fault == FAULT_CHANNEL_1 || fault == FAULT_CHANNEL_2)
+            printf("17, in the block of channel %u:\n", fault == FAULT_CHANNEL_1 ? 1 : 2);
+        print_count(state_fault_name(fault), faults[fault]);
+    }
+}
+
+/* Prints what alone barred sweeps, in each of its ways. */
+static void print_alone(void)
+{
+    print_barred(&coverage);
+    print_table("of these:", alone_names, alone, ALONES);
+    print_row("under line number %u", ext + 4, 4, 15);
+    print_row("SYN %u", syn + 1, 1, 3);
+    print_row("TX %u", tx + 1, 1, 3);
+    print_row("TMC %u", tmc + 1, 1, 3);
+    print_row("TMC %u", tmc + 5, 5, 7);
+}
+
+/* Prints the done sweeps by both sides' widths, odd addresses and spaces together. */
+static void print_sides(void)
+{
+    static const char *const ways[3][4] = {
+        {"8 into 8 bits", "16 into 8 bits", "8 into 16 bits", "16 into 16 bits"},
+        {"even into even", "odd into even", "even into odd", "odd into odd"},
+        {"system into system", "I/O into system", "system into I/O", "I/O into I/O"}};
+    char name[80];
+    puts("done sweeps, by sides:");
+    for (unsigned i = 0; i < 64; i++) {
+        snprintf(name, sizeof name, "%s, %s, %s", ways[0][i / 16], ways[1][i / 4 % 4], ways[2][i % 4]);
+        print_count(name, coverage.swept[i / 16][i / 4 % 4][i % 4]);
+    }
+}
+
+/* Prints where the ranges of done sweeps ended. */
+static void print_ends(void)
+{
+    char name[80];
+    for (unsigned i = 0; i < 8; i++) {
+        snprintf(name, sizeof name, "%s up to the %s %s", i / 4 == 0 ? "source" : "destination",
+                 i % 2 != 0 ? "top of" : "end of what is lent in", i / 2 % 2 == 0 ? "system space" : "I/O space");
+        print_count(name, ends[i / 4][i / 2 % 2][i % 2]);
+    }
+}
+
+/* Prints everything that was met. */
+static void print_met(void)
+{
+    print_refused();
+    print_alone();
+    print_sides();
+    print_swept(&coverage);
+    print_table("done sweeps, by what they were given:", met_names, met, METS);
+    print_ends();
+    print_row("TBC %u", tbc + 1, 1, 3);
+    print_row("channel 1 under line number %u", under[0], 0, 3);
+    print_row("channel 2 under line number %u", under[1], 0, 3);
+    print_row("bytes: %u", few + 1, 1, FEW);
+    print_count("bytes: more, and fewer than 65533", between);
+    print_row("bytes: %u", many, MANY, MOST);
+    print_count("made in plain steps too", plain);
+    print_row("made in plain steps too, bytes: %u", plain_many, MANY, MOST);
+}
+
+/* ---- The command line ---- */
+
+/* The number in one word of the command line, or the usual one where it is left out. */
+static uint64_t argument(int count, char **words, int at, uint64_t usual)
+{
+    char *end = NULL;
+    if (at >= count) return usual;
+    uint64_t value = strtoull(words[at], &end, 0);
+    if (*words[at] >= '0' && *words[at] <= '9' && *end == '\0' && count <= 4) return value;
+    fputs("usage: compare_sweep [SEED [SWEEPS [FIRST]]]\n", stderr);
+    exit(2);
+}
+
+int main(int count, char **words)
+{
+    uint64_t seed = argument(count, words, 1, 1), sweeps = argument(count, words, 2, SWEEPS_TO_MEET_ALL);
+    uint64_t first = argument(count, words, 3, 0);
+    struct dice d = seeded(seed, 0);
+    given = new_machine();
+    emulated = new_machine();
+    swept = new_machine();
+    stepped = new_machine();
+    scatter(&d, given.memory[0], CASE_SYSTEM_ROOM);
+    scatter(&d, given.memory[1], CASE_IO_ROOM);
+    unsigned long long differences = every_cc();
+    for (uint64_t i = first; i < first + sweeps; i++) {
+        if (agree(seed, i, false)) continue;
+        if (differences++ >= SHOWN) continue;
+        printf("DIFFERENCE in sweep %" PRIu64 " (again: compare_sweep %" PRIu64 " 1 %" PRIu64 ")\n", i, seed, i);
+        agree(seed, i, true);
+    }
+    printf("seed %" PRIu64 ", %" PRIu64 " sweeps from %" PRIu64 ", %.1f seconds of processor time\n", seed, sweeps,
+           first, (double)clock() / CLOCKS_PER_SEC);
+    print_met();
+    bool all = all_met(sweeps, SWEEPS_TO_MEET_ALL, "sweeps");
+    printf("%llu differences\n", differences);
+    return differences > 0 || !all ? 1 : 0;
+}
