@@ -123,3 +123,9 @@ void step(struct writer *w, uint32_t lines)
 {
     say(w, "step %s", number(w, lines).text);
 }
+
+void sweep(struct writer *w, uint32_t channel, uint32_t lines)
+{
+    struct digits of = number(w, channel);
+    say(w, "sweep %s %s", of.text, number(w, lines).text);
+}

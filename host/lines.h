@@ -10,7 +10,7 @@
 
 /* A script in the making: the machine, the calls left to write, where each channel's last program was put, and whose turn
    it is: among the fields of CC to disagree with it, the registers to be set, the counts of a search, the kinds of pairs,
-   their bytes not to be lent, and what meets a held byte. */
+   their bytes not to be lent, what meets a held byte, and what bars a sweep. */
 struct writer {
     struct dice d;
     struct session s;
@@ -20,7 +20,7 @@ struct writer {
     unsigned since_dump;
     uint32_t program[2];
     bool program_in_io[2];
-    unsigned turn, set_turn, search_turn, pair_turn, edge_turn, held_turn;
+    unsigned turn, set_turn, search_turn, pair_turn, edge_turn, held_turn, sweep_turn;
     struct program p;
 };
 
@@ -59,5 +59,8 @@ void set(struct writer *w, uint32_t channel, unsigned which, uint32_t value);
 
 /* Writes a step with these lines. */
 void step(struct writer *w, uint32_t lines);
+
+/* Writes a sweep of a channel with these lines. */
+void sweep(struct writer *w, uint32_t channel, uint32_t lines);
 
 #endif

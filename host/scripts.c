@@ -11,7 +11,7 @@
 /* Calls after which everything that scripts can meet must have been met. */
 #define CALLS_TO_MEET_ALL 40000u
 
-/* The numbers that a fresh state, a power-up, an attention and a step can answer. */
+/* The numbers that a fresh state, a power-up, an attention, a step and a sweep can answer. */
 #define MAKE_NUMBERS (1u << EMU_DONE | 1u << EMU_BAD_POINTER)
 #define POWER_NUMBERS (1u << EMU_DONE | 1u << EMU_BEYOND_LENT_MEMORY | 1u << EMU_BAD_BUFFER)
 #define EARLY_NUMBERS                                                                              \
@@ -23,6 +23,8 @@
 #define STEP_NUMBERS                                                                                                 \
     (EARLY_NUMBERS | 1u << EMU_DONE | 1u << EMU_NO_CHANNEL_CAN_RUN | 1u << EMU_BEYOND_LENT_MEMORY |                  \
      1u << EMU_NO_INSTRUCTION | 1u << EMU_CC_USED | 1u << EMU_BAD_TRANSFER)
+
+#define SWEEP_NUMBERS (EARLY_NUMBERS | 1u << EMU_DONE | 1u << EMU_NOT_SWEEPABLE)
 
 /* The commands that are in use. */
 #define COMMANDS (0xFFu & ~(1u << 2 | 1u << 4))
@@ -156,7 +158,7 @@ static int where(unsigned long asked)
 static void print_calls(const struct tally *t)
 {
     static const char *const names[SCRIPT_CALLS] = {"make", "put",  "set",   "ca",    "step", "dump",
-                                                    "show", "list", "reset", "power", "prom"};
+                                                    "show", "list", "reset", "power", "sweep", "prom"};
     puts("calls of the scripts:");
     for (unsigned i = 0; i < SCRIPT_CALLS; i++) print_count(names[i], t->call[i]);
     print_count("? (no call, or one that is shut out)", t->no_call);
@@ -220,6 +222,7 @@ static int met(const char *tally_name)
     print_numbers("power-ups", t.power, POWER_NUMBERS);
     print_numbers("attentions", t.ca, CA_NUMBERS);
     print_numbers("steps", t.step, STEP_NUMBERS);
+    print_numbers("sweeps", t.sweep, SWEEP_NUMBERS);
     print_steps(&t);
     print_touched(t.bytes);
     print_registers(&t);
@@ -229,6 +232,8 @@ static int met(const char *tally_name)
     print_pairs(&t.coverage, PAIRS_OF_ANY_KIND);
     print_held(&t.coverage);
     print_anew(t.anew);
+    print_barred(&t.coverage);
+    print_swept(&t.coverage);
     bool all = all_met(t.calls, CALLS_TO_MEET_ALL, "calls");
     printf("%lu scripts, %lu calls\n", t.scripts, t.calls);
     return all ? 0 : 1;

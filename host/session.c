@@ -290,6 +290,18 @@ static unsigned call_step(struct session *s, const struct text *word, FILE *out)
     return 1;
 }
 
+/* sweep CHANNEL LINES */
+static unsigned call_sweep(struct session *s, const struct text *word, FILE *out)
+{
+    uint32_t channel, lines;
+    if (!number(word[1], UINT32_MAX, &channel) || !number(word[2], UINT32_MAX, &lines)) return 0;
+    struct emu_swept a = emu_sweep(&s->state, &s->memory, channel, lines);
+    s->answered = a.number;
+    s->tally.sweep[a.number]++;
+    fprintf(out, "sweep %u %" PRIu32 " %" PRIu32 "\n", a.number, a.steps, a.count);
+    return 1;
+}
+
 /* Prints a pointer and its tag. */
 static void print_pointer(const char *name, struct emu_pointer p, FILE *out)
 {
@@ -380,7 +392,7 @@ static const struct {
     [CALL_MAKE] = {"make", 4, call_make}, [CALL_PUT] = {"put", 4, call_put},    [CALL_SET] = {"set", 4, call_set},
     [CALL_CA] = {"ca", 2, call_ca},       [CALL_STEP] = {"step", 2, call_step}, [CALL_DUMP] = {"dump", 1, call_dump},
     [CALL_SHOW] = {"show", 3, call_show}, [CALL_LIST] = {"list", 4, call_list}, [CALL_RESET] = {"reset", 1, call_reset},
-    [CALL_POWER] = {"power", 1, call_power},
+    [CALL_POWER] = {"power", 1, call_power}, [CALL_SWEEP] = {"sweep", 3, call_sweep},
 };
 
 bool session_opens_file(const char *line, size_t length)

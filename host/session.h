@@ -18,7 +18,7 @@ enum { SCRIPT_LIST_LIMIT = 0x400, SCRIPT_LIST_LINE = 28 };
 /* The calls, in the order of their table; `prom` stands behind them, since the lines behind it belong to it. */
 enum script_call {
     CALL_MAKE, CALL_PUT, CALL_SET, CALL_CA, CALL_STEP, CALL_DUMP, CALL_SHOW, CALL_LIST, CALL_RESET,
-    CALL_POWER, SCRIPT_LINES,
+    CALL_POWER, CALL_SWEEP, SCRIPT_LINES,
     CALL_PROM = SCRIPT_LINES, SCRIPT_CALLS
 };
 
@@ -44,7 +44,8 @@ extern const struct script_register script_registers[SCRIPT_REGISTERS];
 struct tally {
     unsigned long scripts, calls, no_call;
     unsigned long call[SCRIPT_CALLS];
-    unsigned long make[EMU_NUMBERS], power[EMU_NUMBERS], ca[EMU_NUMBERS], step[EMU_NUMBERS], prom[HEX_NUMBERS];
+    unsigned long make[EMU_NUMBERS], power[EMU_NUMBERS], ca[EMU_NUMBERS], step[EMU_NUMBERS], sweep[EMU_NUMBERS];
+    unsigned long prom[HEX_NUMBERS];
     unsigned long listed_instructions, listed_data, started;
     unsigned long kind[2][3];
     unsigned long stepped_under[16];
@@ -54,7 +55,7 @@ struct tally {
     struct emu_coverage coverage;
 };
 
-/* One machine with its buffers, and what its last power-up, attention or step answered. */
+/* One machine with its buffers, and what its last power-up, attention, step or sweep answered. */
 struct session {
     struct emu_state state;
     struct emu_memory memory;

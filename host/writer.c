@@ -110,11 +110,25 @@ static void give_command(struct writer *w)
     command(w, channel, chance(&w->d, 500) ? likely_command(w, mode) : below(&w->d, 8));
 }
 
+/* A channel's number, or what is none. */
+static uint32_t odd_channel(struct writer *w)
+{
+    static const uint32_t channels[] = {0, 1, 2, 3, 4, 0x101, 0x10001, 0x10002, 0x80000001, 0xFFFFFFFF};
+    return ONE_OF(&w->d, channels);
+}
+
 /* Gives an attention to what is no channel, or with whatever the block holds. */
 static void give_odd_attention(struct writer *w)
 {
-    static const uint32_t channels[] = {0, 1, 2, 3, 4, 0x101, 0x10001, 0x10002, 0x80000001, 0xFFFFFFFF};
-    say(w, "ca %s", number(w, ONE_OF(&w->d, channels)).text);
+    say(w, "ca %s", number(w, odd_channel(w)).text);
+}
+
+/* Steps, or sweeps a channel, under any lines or a number that is no line number. */
+static void step_or_sweep(struct writer *w)
+{
+    uint32_t lines = below(&w->d, 18);
+    if (chance(&w->d, 650)) step(w, lines);
+    else sweep(w, chance(&w->d, 900) ? some_channel(w) : odd_channel(w), lines);
 }
 
 /* ---- Registers ---- */
@@ -192,16 +206,22 @@ static void go_unsound(struct writer *w)
     set(w, channel, which, unsound_address(w));
     for (unsigned i = 1 + below(&w->d, 3); i > 0; i--) {
         if (chance(&w->d, 500)) give_odd_attention(w);
-        else step(w, below(&w->d, 18));
+        else step_or_sweep(w);
     }
     set(w, channel, which, sound);
+}
+
+/* Bits of a field of CC, at least one. */
+static uint32_t some_bits(struct writer *w, unsigned field)
+{
+    uint32_t bits = emu_field_bits(field), lowest = bits & (0u - bits), some = bits & (1 + below(&w->d, 7)) * lowest;
+    return some != 0 ? some : lowest;
 }
 
 /* Sets CC without its fields, or these without it, to a value that differs in one field. */
 static void part(struct writer *w, uint32_t channel, unsigned field)
 {
-    uint32_t bits = emu_field_bits(field), lowest = bits & (0u - bits), some = bits & (1 + below(&w->d, 7)) * lowest;
-    uint32_t value = channel_of(w, channel)->cc ^ (some != 0 ? some : lowest);
+    uint32_t value = channel_of(w, channel)->cc ^ some_bits(w, field);
     set(w, channel, chance(&w->d, 500) ? SET_CC : SET_FIELDS, value);
 }
 
@@ -213,7 +233,8 @@ static void part_in_turn(struct writer *w)
     set(w, channel, SET_MODE, w->turn % 3);
     part(w, channel, w->turn % EMU_FIELDS);
     if (chance(&w->d, 500)) say(w, "ca %u", (unsigned)some_channel(w));
-    else step(w, below(&w->d, 16));
+    else if (chance(&w->d, 600)) step(w, below(&w->d, 16));
+    else sweep(w, some_channel(w), below(&w->d, 16));
     mend_fields(w);
     set(w, channel, SET_MODE, (uint32_t)mode);
     w->turn++;
@@ -231,7 +252,7 @@ static void go_apart(struct writer *w)
     for (unsigned i = 1 + below(&w->d, 3); i > 0; i--) {
         if (chance(&w->d, 100)) give_odd_attention(w);
         else if (chance(&w->d, 400)) give_command(w);
-        else step(w, below(&w->d, 18));
+        else step_or_sweep(w);
     }
     if (unsound) set(w, channel, SET_GC, sound);
     if (down) set(w, 0, SET_UP, 1);
@@ -570,6 +591,133 @@ static void hold_in_turn(struct writer *w)
     }
 }
 
+/* ---- Sweeps ---- */
+
+/* A block transfer in the making: its channel, how many bytes, CC and PSW, and of GA and GB the space and the place. */
+struct block {
+    uint32_t channel, n, cc, psw;
+    bool in_io[2];
+    uint32_t at[2];
+};
+
+/* Some bytes near the start of their spaces, apart from each other; in I/O space where there is enough of it. */
+static struct block some_block(struct writer *w)
+{
+    uint32_t first = below(&w->d, 2), free_bits = below(&w->d, 8) << 8 | below(&w->d, 2) << 2;
+    struct block b = {.channel = some_channel(w), .n = 2 + below(&w->d, 8)};
+    for (unsigned i = 0; i < 2; i++) {
+        b.in_io[i] = w->s.memory.io_len >= 80 && chance(&w->d, 500);
+        b.at[i] = (i == first ? 32 : 56) + below(&w->d, 8);
+    }
+    b.cc = 0xC000u | free_bits | (1 + below(&w->d, 3)) << 3;
+    b.psw = below(&w->d, 256) | EMU_PSW_XF;
+    return b;
+}
+
+/* Points GA or GB at its range, in I/O space with any high bits. */
+static void set_range(struct writer *w, const struct block *b, unsigned which)
+{
+    uint32_t high = b->in_io[which] ? below(&w->d, 16) << 16 : 0;
+    set(w, b->channel, SET_GA + which, b->at[which] | high);
+    set(w, b->channel, SET_GA_TAG + which, b->in_io[which]);
+}
+
+/* Puts a channel into such a transfer by its registers, so that it can be swept; at times armed, or with a byte held. */
+static void set_block(struct writer *w, const struct block *b)
+{
+    uint32_t other = 3 - b->channel;
+    enum emu_mode mode = chance(&w->d, 500) ? EMU_IDLE : EMU_SUSPENDED;
+    if (channel_of(w, other)->mode == EMU_RUNNING) set(w, other, SET_MODE, (uint32_t)mode);
+    set_range(w, b, 0);
+    set_range(w, b, 1);
+    set(w, b->channel, SET_BC, b->n & 0xFFFFu);
+    set_cc(w, b->channel, b->cc);
+    set(w, b->channel, SET_PSW, b->psw);
+    set(w, b->channel, SET_MODE, EMU_RUNNING);
+    if (chance(&w->d, 400)) set(w, b->channel, SET_ARM, 1);
+    if (chance(&w->d, 400)) let_hold(w, b->channel);
+}
+
+/* Sweeps under a CC that differs in these bits. */
+static void sweep_with(struct writer *w, const struct block *b, uint32_t bits)
+{
+    set_cc(w, b->channel, b->cc ^ bits);
+    sweep(w, b->channel, below(&w->d, 4));
+    set_cc(w, b->channel, b->cc);
+}
+
+/* Sweeps while a channel, this or the other one, has another mode. */
+static void sweep_while(struct writer *w, const struct block *b, uint32_t channel, enum emu_mode mode)
+{
+    enum emu_mode own = channel_of(w, channel)->mode;
+    set(w, channel, SET_MODE, (uint32_t)mode);
+    sweep(w, b->channel, below(&w->d, 4));
+    set(w, channel, SET_MODE, (uint32_t)own);
+}
+
+/* Sweeps while XF is clear. */
+static void sweep_without_xf(struct writer *w, const struct block *b)
+{
+    set(w, b->channel, SET_PSW, b->psw & ~(uint32_t)EMU_PSW_XF);
+    sweep(w, b->channel, below(&w->d, 4));
+    set(w, b->channel, SET_PSW, b->psw);
+}
+
+/* Sweeps while GA or GB is at another place, in its space or in the other one's. */
+static void sweep_at(struct writer *w, const struct block *b, unsigned which, bool in_io, uint32_t at)
+{
+    struct block moved = *b;
+    moved.in_io[which] = in_io;
+    moved.at[which] = at;
+    set_range(w, &moved, which);
+    sweep(w, b->channel, below(&w->d, 4));
+    set_range(w, b, which);
+}
+
+/* Sweeps the transfer while this alone bars it. */
+static void sweep_barred(struct writer *w, const struct block *b, enum emu_bar bar)
+{
+    static const unsigned fields[] = {0, 1, 2, 3, 6, 7}; /* from the destination to TX */
+    unsigned source = (b->cc >> 10 & 1u) != 0 ? 1 : 0, which = bar == EMU_BAR_SOURCE_NOT_LENT ? source : 1 - source;
+    size_t length = b->in_io[which] ? w->s.memory.io_len : w->s.memory.sys_len;
+    switch (bar) {
+    case EMU_BAR_EXT: sweep(w, b->channel, 4 + below(&w->d, 12)); return;
+    case EMU_BAR_OTHER_RUNS: sweep_while(w, b, 3 - b->channel, EMU_RUNNING); return;
+    case EMU_BAR_STANDS: sweep_while(w, b, b->channel, chance(&w->d, 500) ? EMU_IDLE : EMU_SUSPENDED); return;
+    case EMU_BAR_NO_XF: sweep_without_xf(w, b); return;
+    case EMU_BAR_TBC_OFF: sweep_with(w, b, b->cc & 0x0018u); return;
+    case EMU_BAR_TMC: sweep_with(w, b, 1 + below(&w->d, 3)); return;
+    case EMU_BAR_SOURCE_NOT_LENT:
+    case EMU_BAR_DESTINATION_NOT_LENT: sweep_at(w, b, which, b->in_io[which], (uint32_t)length - b->n + 1); return;
+    case EMU_BAR_SHARED: sweep_at(w, b, 0, b->in_io[1], b->at[1] + below(&w->d, b->n)); return;
+    default: sweep_with(w, b, some_bits(w, fields[bar - EMU_BAR_DESTINATION_STAYS])); return;
+    }
+}
+
+/* Sweeps a block transfer: barred by three things, each alone and in its turn, at times with a bad argument, then done. */
+static void sweep_in_turn(struct writer *w)
+{
+    struct block b = some_block(w);
+    set_block(w, &b);
+    for (unsigned i = 0; i < 3; i++) sweep_barred(w, &b, (enum emu_bar)(w->sweep_turn++ % EMU_BARS));
+    if (chance(&w->d, 150)) sweep(w, odd_channel(w), below(&w->d, 4));
+    if (chance(&w->d, 150)) sweep(w, b.channel, 16 + below(&w->d, 4));
+    sweep(w, b.channel, below(&w->d, 4));
+}
+
+/* Sweeps 65,536 bytes between all of I/O space and some of system space, where both are lent. */
+static void sweep_all(struct writer *w)
+{
+    struct block b = some_block(w);
+    unsigned which = below(&w->d, 2);
+    b.n = 65536;
+    b.in_io[which] = true;
+    b.in_io[1 - which] = false;
+    b.at[which] = 0;
+    set_block(w, &b);
+    sweep(w, b.channel, below(&w->d, 4));
+}
+
 /* ---- Empty slots and single instructions ---- */
 
 /* Puts an instruction of which some bytes are cut off at the end of I/O memory, and steps. */
@@ -725,7 +873,7 @@ static void start_over(struct writer *w)
     if (chance(&w->d, 850)) let_hold(w, some_channel(w));
     for (unsigned i = 1 + below(&w->d, 3); i > 0; i--) {
         if (chance(&w->d, 500)) say(w, "ca %u", (unsigned)some_channel(w));
-        else step(w, below(&w->d, 18));
+        else step_or_sweep(w);
     }
     if (chance(&w->d, 900)) place_board(w);
     say(w, "power");
@@ -811,6 +959,8 @@ static void say_no_call(struct writer *w)
         "set 1 fields", "set 2 fields.t 0", "set 0 held 0", "set 1 held", "set 1 held 1", "set 2 held ff",
         "set 1 held 200", "set 2 held ffff", "set 1 held 10000", "set 1 held 15a 0", "set 1 Held 0", "set 2 hel 0",
         "set 1 helds 0", "set 1 held none", "prom 0", "Prom", "proms", "end", "end 0", ":00000001FF",
+        "sweep", "sweep 1", "sweep 1 0 0", "Sweep 1 0", "sweeps 1 0", "swee 1 0", "sweep x 0", "sweep 1 g",
+        "sweep 1, 0", "sweep 123456789 0", "sweep 1 123456789", "sweep1 0",
         "dump\t", "\tdump", "ca\t1", "dump\r\r", "\rstep 1", "ca\r1", "\r\r", "\t", "ca \xC3\xA9", "a b c d e f g h",
     };
     perform(w, ONE_OF(&w->d, lines));
@@ -823,7 +973,8 @@ static void say_damaged(struct writer *w)
                                         "set 2 tp.t 1",   "set 0 last 1", "set 0 cp 0",  "set 2 psw 44",
                                         "ca 1",           "step 3",       "dump",        "show 0 0",
                                         "reset",          "power",        "set 0 up 1",  "set 0 sysbus 1",
-                                        "set 1 cc c028",  "set 2 fields 418", "set 1 held 15a", "set 2 held 0"};
+                                        "set 1 cc c028",  "set 2 fields 418", "set 1 held 15a", "set 2 held 0",
+                                        "sweep 1 0"};
     char line[32], put_in[] = "0123456789abcdefgABCDEFG xyz#.-\t?";
     size_t length = (size_t)snprintf(line, sizeof line, "%s", ONE_OF(&w->d, calls));
     line[below(&w->d, length)] = put_in[below(&w->d, sizeof put_in - 1)];
@@ -839,7 +990,8 @@ static void go_on(struct writer *w)
     if (kind < 240) steps(w);
     else if (kind < 350) give_command(w);
     else if (kind < 380) give_odd_attention(w);
-    else if (kind < 490) set_any(w);
+    else if (kind < 470) set_any(w);
+    else if (kind < 490) sweep_in_turn(w);
     else if (kind < 515) go_unsound(w);
     else if (kind < 530) go_apart(w);
     else if (kind < 540) move_to_cc(w);
@@ -931,6 +1083,7 @@ static void use_machine(struct writer *w)
         hold_in_turn(w);
     } else if (w->s.memory.sys_len >= 80 || w->s.memory.io_len > EMU_IO_LIMIT) go_apart(w);
     while (w->left > end) go_on(w);
+    if (w->s.memory.sys_len > EMU_IO_LIMIT + 80 && w->s.memory.io_len == EMU_IO_LIMIT) sweep_all(w);
     perform(w, "dump");
 }
 
@@ -954,6 +1107,7 @@ bool write_script(uint64_t seed, unsigned long calls, size_t length, FILE *out)
     w.pair_turn = (unsigned)(seed % 144) * 11;
     w.edge_turn = w.held_turn = (unsigned)(seed % 80) * 7;
     w.search_turn = (unsigned)(seed % 36) * 7;
+    w.sweep_turn = (unsigned)(seed % EMU_BARS) * 7;
     w.set_turn = (unsigned)(seed % SCRIPT_REGISTERS) * 7;
     session_begin(&w.s);
     while (w.left > 0) use_machine(&w);
