@@ -38,6 +38,7 @@ static const char options[] =
     "  -channel N      channel that gets attention, 1 or 2 (1); for step twice: both, in this order\n"
     "  -lines N        sum of DRQ1 = 1, DRQ2 = 2, EXT1 = 4, EXT2 = 8, held throughout (0)\n"
     "  -lines N,N..    for step: in turn, one for each step that is tried; where a channel waits, the next one is tried\n"
+    "  -sweep          for step: a block transfer that can be swept is one call and one line, and counts as its steps\n"
     "  -limit N        most steps (1000); under several line numbers, most that are tried\n"
     "  -show FROM N    shows N bytes of system memory from FROM on, as they are at the end; -show-io, of I/O memory\n"
     "  -from N, -count N   for list: the bytes to be listed (all)\n"

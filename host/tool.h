@@ -37,7 +37,7 @@ struct tool_order {
     const char *io_image;
     uint32_t system_length, io_length, cp, limit;
     uint32_t from, count, first;
-    bool source, board, has_cp;
+    bool source, board, has_cp, sweep;
 };
 
 /* Lent memory. */

@@ -164,6 +164,7 @@ enum tool_status tool_run(const struct tool_order *order)
     uint8_t state[IOP89_STATE_LENGTH];
     if (order->channels > 1) tool_usage("run starts one channel", NULL);
     if (order->line_numbers > 1) tool_usage("run takes one line number", NULL);
+    if (order->sweep) tool_usage("run makes no sweeps", NULL);
     struct tool_memory memory = tool_load(order), again = tool_copy(memory);
     uint32_t answer = order->board ? iop89_board(memory.sys, memory.sys_len, memory.io, memory.io_len,
                                                  order->channel[0], order->lines[0], order->limit)
@@ -203,21 +204,101 @@ static void print_waiting(uint32_t number, const uint8_t *state)
     }
 }
 
-/* Tries steps up to the limit, their line numbers in turn and a line for each; answers the number that stopped them.
- * Under one line number a channel that waits would wait for ever; under several the next may be what it waits for. */
-static unsigned step_lines(const struct tool_order *order, uint8_t *state, struct tool_memory *memory)
+/* The line number of a step that is tried, from 0 on. */
+static uint32_t lines_at(const struct tool_order *order, uint32_t at)
+{
+    return order->lines[at % order->line_numbers];
+}
+
+/* Tries one step, and prints its line; answers the number that stops the steps, 0 where they go on. Under one line
+ * number a channel that waits would wait for ever; under several the next may be what it waits for. */
+static unsigned step_line(const struct tool_order *order, uint8_t *state, struct tool_memory *memory, uint32_t at)
 {
     uint8_t before[IOP89_STATE_LENGTH];
-    for (uint32_t i = 0; i < order->limit; i++) {
-        memcpy(before, state, sizeof before);
-        uint32_t answer = step(state, memory, order->lines[i % order->line_numbers]);
-        unsigned number = IOP89_ANSWER_NUMBER(answer);
-        bool goes_on = number == IOP89_NO_CHANNEL && order->line_numbers > 1 && waits(state);
-        if (number == IOP89_DONE) print_step(i + 1, answer, before, state);
-        else if (goes_on) print_waiting(i + 1, state);
-        else return number;
-    }
+    memcpy(before, state, sizeof before);
+    uint32_t answer = step(state, memory, lines_at(order, at));
+    unsigned number = IOP89_ANSWER_NUMBER(answer);
+    bool goes_on = number == IOP89_NO_CHANNEL && order->line_numbers > 1 && waits(state);
+    if (number == IOP89_DONE) print_step(at + 1, answer, before, state);
+    else if (goes_on) print_waiting(at + 1, state);
+    else return number;
     return IOP89_DONE;
+}
+
+/* ---- A transfer in one go ---- */
+
+/* XF of PSW: a transfer is under way. */
+enum { XF = 0x40 };
+
+/* The first running channel with a transfer under way, 0 where there is none. That the other must not run the sweep
+ * tests itself. */
+static unsigned transferring(const uint8_t *state)
+{
+    for (unsigned channel = 1; channel <= 2; channel++) {
+        bool runs = iop89_get(state, channel, IOP89_MODE) == IOP89_RUNNING;
+        if (runs && (iop89_get(state, channel, IOP89_PSW) & XF) != 0) return channel;
+    }
+    return 0;
+}
+
+/* Makes one sweep. */
+static uint64_t sweep(uint8_t *state, struct tool_memory *m, unsigned channel, uint32_t lines)
+{
+    return iop89_sweep(state, IOP89_STATE_LENGTH, m->sys, m->sys_len, m->io, m->io_len, channel, lines);
+}
+
+/* Whether each of so many steps, from one on, has a line number that a sweep takes: one up to 15 with no EXT up. A sweep
+ * has one line number for all its steps; it stands for steps under several of them only where each of these would do. */
+static bool lines_fit(const struct tool_order *order, uint32_t at, uint32_t steps)
+{
+    for (uint32_t i = 0; i < steps && i < order->line_numbers; i++)
+        if (lines_at(order, at + i) > (IOP89_DRQ1 | IOP89_DRQ2)) return false;
+    return true;
+}
+
+/* How many steps a sweep would stand for here, 0 where the next step is to be made plainly. It is asked of a copy of the
+ * state and of spare memory as long as the machine's: what lies in memory changes neither its number nor its steps. */
+static uint32_t steps_ahead(const struct tool_order *order, const uint8_t *state, struct tool_memory *spare, uint32_t at)
+{
+    uint8_t asked[IOP89_STATE_LENGTH];
+    unsigned channel = transferring(state);
+    if (!order->sweep || channel == 0) return 0;
+    memcpy(asked, state, sizeof asked);
+    uint32_t steps = IOP89_SWEEP_STEPS(sweep(asked, spare, channel, lines_at(order, at)));
+    return steps <= order->limit - at && lines_fit(order, at, steps) ? steps : 0;
+}
+
+/* Makes the sweep from a step on, and prints it as one line: the numbers of its first and last step, what a step's line
+ * has, and how many steps it stands for. */
+static void sweep_line(const struct tool_order *order, uint8_t *state, struct tool_memory *memory, uint32_t at)
+{
+    uint8_t before[IOP89_STATE_LENGTH];
+    unsigned channel = transferring(state);
+    memcpy(before, state, sizeof before);
+    uint64_t answer = sweep(state, memory, channel, lines_at(order, at));
+    uint32_t steps = IOP89_SWEEP_STEPS(answer);
+    printf("%" PRIu32 "-%" PRIu32 " %u T %" PRIu32 " ", at + 1, at + steps, channel, IOP89_SWEEP_COUNT(answer));
+    print_tp(state, channel);
+    print_changes(before, state, channel);
+    printf(" %" PRIu32 " step%s swept\n", steps, steps == 1 ? "" : "s");
+}
+
+/* ---- From the first call to the last ---- */
+
+/* Tries steps up to the limit, their line numbers in turn and a line for each, or for each sweep; answers the number
+ * that stopped them. */
+static unsigned step_lines(const struct tool_order *order, uint8_t *state, struct tool_memory *memory)
+{
+    struct tool_memory spare = tool_copy(*memory);
+    unsigned number = IOP89_DONE;
+    for (uint32_t at = 0; number == IOP89_DONE && at < order->limit;) {
+        uint32_t ahead = steps_ahead(order, state, &spare, at);
+        if (ahead > 0) sweep_line(order, state, memory, at);
+        else number = step_line(order, state, memory, at);
+        at += ahead > 0 ? ahead : 1;
+    }
+    tool_free(spare);
+    return number;
 }
 
 /* Prints how many bytes a done call read and stored. */

@@ -59,6 +59,15 @@ static uint32_t *place_of(struct tool_order *order, const char *option)
     return NULL;
 }
 
+/* The mark that an option without a value sets, or NULL for any other word. */
+static bool *mark_of(struct tool_order *order, const char *option)
+{
+    if (strcmp(option, "-source") == 0) return &order->source;
+    if (strcmp(option, "-board") == 0) return &order->board;
+    if (strcmp(option, "-sweep") == 0) return &order->sweep;
+    return NULL;
+}
+
 /* Takes the line numbers of a word, with commas between them. */
 static void take_lines(struct tool_order *order, const char *word)
 {
@@ -94,12 +103,9 @@ static void add_range(struct tool_order *order, char **words, bool in_io)
 static int take_option(struct tool_order *order, char **words, uint32_t *at)
 {
     uint32_t *place = place_of(order, words[0]);
-    if (strcmp(words[0], "-source") == 0) {
-        order->source = true;
-        return 1;
-    }
-    if (strcmp(words[0], "-board") == 0) {
-        order->board = true;
+    bool *mark = mark_of(order, words[0]);
+    if (mark != NULL) {
+        *mark = true;
         return 1;
     }
     if (strcmp(words[0], "-cp") == 0) order->has_cp = true;
