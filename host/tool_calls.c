@@ -247,8 +247,8 @@ static uint64_t sweep(uint8_t *state, struct tool_memory *m, unsigned channel, u
     return iop89_sweep(state, IOP89_STATE_LENGTH, m->sys, m->sys_len, m->io, m->io_len, channel, lines);
 }
 
-/* Whether each of so many steps, from one on, has a line number that a sweep takes: one up to 15 with no EXT up. A sweep
- * has one line number for all its steps; it stands for steps under several of them only where each of these would do. */
+/* Whether each of so many steps, from one on, has a line number that a sweep takes: no EXT up, and DRQ as it likes. A
+ * sweep has one number for all its steps, so it stands for steps under several only where each of these would do. */
 static bool lines_fit(const struct tool_order *order, uint32_t at, uint32_t steps)
 {
     for (uint32_t i = 0; i < steps && i < order->line_numbers; i++)
@@ -256,9 +256,10 @@ static bool lines_fit(const struct tool_order *order, uint32_t at, uint32_t step
     return true;
 }
 
-/* How many steps a sweep would stand for here, 0 where the next step is to be made plainly. It is asked of a copy of the
- * state and of spare memory as long as the machine's: what lies in memory changes neither its number nor its steps. */
-static uint32_t steps_ahead(const struct tool_order *order, const uint8_t *state, struct tool_memory *spare, uint32_t at)
+/* How many steps a sweep would stand for here, 0 where the next step is to be made plainly. It is tried on a copy of the
+ * state and on spare memory of the same lengths: what lies in memory changes neither its number nor its steps. */
+static uint32_t steps_ahead(const struct tool_order *order, const uint8_t *state, struct tool_memory *spare,
+                            uint32_t at)
 {
     uint8_t asked[IOP89_STATE_LENGTH];
     unsigned channel = transferring(state);
