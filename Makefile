@@ -202,7 +202,8 @@ build/emulator.o: host/emulator.c host/emulator.h | x86-compiler
 	@mkdir -p build
 	$(X86_CC) $(STRICT) -O2 -c host/emulator.c -o $@
 
-build/bench: host/bench.c host/emulator.h include/iop89.h include/iop89_service.h build/emulator.o $(IOP89_LIB) $(SERVICE_LIB)
+build/bench: host/bench.c host/emulator.h host/sweep_case.h include/iop89.h include/iop89_service.h build/emulator.o \
+		$(IOP89_LIB) $(SERVICE_LIB)
 	$(X86_CC) $(STRICT) -O2 -Iinclude host/bench.c build/emulator.o $(IOP89_LIB) $(SERVICE_LIB) $(X86_LDFLAGS) -o $@
 
 # ---- The service archive: the machine call by call, and what stands on both archives
@@ -333,3 +334,21 @@ compare-list: given-parts build/compare-list
 # Counts the instructions of both listers for each byte that they list.
 bench-list: count-needs build/bench-list
 	@tools/bench-list build/bench-list
+
+# ---- A sweep's time beside memcpy's
+
+.PHONY: bench-sweep x86-machine
+
+# Times say nothing where an emulator runs the library, so it is said before anything is proved.
+x86-machine:
+	@[ "$$(uname -m)" = x86_64 ] || \
+		{ echo "bench-sweep: times say nothing here: this is no x86-64, and an emulator runs the library" >&2; exit 2; }
+
+# What is timed is always compiled at -O2.
+build/bench-sweep: host/bench_sweep.c host/sweep_case.h include/iop89.h include/iop89_service.h $(SERVICE_LIB) | \
+		x86-compiler
+	$(X86_CC) $(STRICT) -D_POSIX_C_SOURCE=200809L -O2 -Iinclude host/bench_sweep.c $(SERVICE_LIB) $(X86_LDFLAGS) -o $@
+
+# Times a sweep of 65,535 and of 65,536 bytes against memcpy, in nine alternating rounds.
+bench-sweep: x86-machine build/bench-sweep
+	@build/bench-sweep

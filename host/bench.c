@@ -1,6 +1,8 @@
-/* One run of a known program by the proved library or by the plain emulator, for tools/bench to count instructions. */
+/* One run of a known program by the proved library or by the plain emulator, or some sweeps, for tools/bench to count
+ * instructions. */
 #include "emulator.h"
 #include "iop89_service.h"
+#include "sweep_case.h"
 
 #include <stdlib.h>
 #include <string.h>
@@ -130,6 +132,7 @@ static const struct workload workloads[] = {
 static _Noreturn void usage(void)
 {
     fputs("usage: bench proved|plain mix|8/8|16/16|8/16|16/8|both small|full STEPS\n"
+          "       bench swept|stepped within|across|one COUNT\n"
           "       bench loop TURNS\n",
           stderr);
     exit(2);
@@ -194,6 +197,60 @@ static uint32_t step_both(bool proved, size_t sys_len, size_t io_len, uint32_t s
     return done;
 }
 
+/* ---- Sweeps ---- */
+
+/* The transfers that are swept, and stepped for comparison. */
+static const struct sweep_case sweeps[] = {
+    {"within", 0x10000, 0x30000, 65535, false},
+    {"across", 0x10000, 0, 65535, true},
+    {"one", 0x10000, 0x30000, 1, false},
+};
+
+/* The states that they are made on: as many for every count, so that making them falls away between two counts. */
+enum { SWEEP_STATES = 9 };
+static uint8_t states[SWEEP_STATES][IOP89_STATE_LENGTH];
+
+/* The sweep of a name. */
+static const struct sweep_case *sweep_of(const char *name)
+{
+    for (size_t i = 0; i < sizeof sweeps / sizeof sweeps[0]; i++)
+        if (strcmp(sweeps[i].name, name) == 0) return &sweeps[i];
+    usage();
+}
+
+/* So many sweeps, each on a state of its own; answers how many were done. */
+static uint32_t sweep_all(uint32_t count)
+{
+    uint32_t done = 0;
+    for (uint32_t i = 0; i < count; i++) {
+        uint64_t answer = iop89_sweep(states[i], IOP89_STATE_LENGTH, sys, sizeof sys, io, sizeof io, 1, 0);
+        done += IOP89_SWEEP_NUMBER(answer) == 0;
+    }
+    return done;
+}
+
+/* So many plain steps, all on the first state, or each on a state of its own; answers how many moved bytes. */
+static uint32_t step_all(uint32_t count, bool apart)
+{
+    uint32_t done = 0;
+    for (uint32_t i = 0; i < count; i++) {
+        uint32_t answer = iop89_step(states[apart ? i : 0], IOP89_STATE_LENGTH, sys, sizeof sys, io, sizeof io, 0);
+        done += IOP89_ANSWER_KIND(answer) == IOP89_TRANSFER;
+    }
+    return done;
+}
+
+/* The sweeps or the steps of a case; whether all were done. */
+static bool made(const char *how, const struct sweep_case *c, uint32_t count)
+{
+    bool swept = strcmp(how, "swept") == 0, apart = swept || c->bytes == 1;
+    if ((!swept && strcmp(how, "stepped") != 0) || (apart && count > SWEEP_STATES)) usage();
+    for (size_t i = 0; i < SWEEP_STATES; i++) sweep_case_state(c, states[i]);
+    return (swept ? sweep_all(count) : step_all(count, apart)) == count;
+}
+
+/* ---- The program ---- */
+
 /* So many turns of two instructions each, by which a way of counting is checked. */
 static void turn(unsigned long turns)
 {
@@ -211,6 +268,7 @@ int main(int count, char **words)
         turn(number_of(words[2]));
         return 0;
     }
+    if (count == 4) return made(words[1], sweep_of(words[2]), number_of(words[3])) ? 0 : 1;
     if (count != 5 || (strcmp(words[3], "small") != 0 && strcmp(words[3], "full") != 0)) usage();
     bool small = strcmp(words[3], "small") == 0;
     uint32_t limit = number_of(words[4]);
