@@ -63,7 +63,7 @@ row-of {b} {n} {s₀} {m₀} e (attention {k = k} {s = s} {m = m} r channel ne u
 row-of e (host r u) = other (row-of e r) u
 
 -- a turn on the way is a transfer step that is done
-moves : (b : Bool) (n : ℕ) (s₀ : State) (m₀ : Buffers) (k : ℕ) (s : State) (m : Buffers) (lines : ℕ) → Going n (channelOf s₀ b) m₀ k (channelOf s b) m
+pub moves : (b : Bool) (n : ℕ) (s₀ : State) (m₀ : Buffers) (k : ℕ) (s : State) (m : Buffers) (lines : ℕ) → Going n (channelOf s₀ b) m₀ k (channelOf s b) m
     → Turn b s m lines → Moves b n s₀ s m lines
 moves b n s₀ m₀ k s m lines g t =
     record { done = ap number e; channel = ap channel e; kind = ap kind e; spares = subst (λ (x : Buffers). Within (into (channelOf s₀ b)) n m x) (sym (ap memory e)) (g .spares) }

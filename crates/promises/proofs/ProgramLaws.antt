@@ -6,12 +6,14 @@ use mathlib.Core.Bool.{Bool, true, false}
 use mathlib.Core.Path.{_≡_, refl, sym, ap, ap₂, subst, _∙_}
 use native.Mathlib.Nat.{mod-mod}
 use native.Mathlib.Omega.{arith}
+use Rattle.execute.proofs.ChannelLaws.{pp-kept}
+use Rattle.execute.specs.Execute.{Executed}
 use Rattle.machine.proofs.ChannelLaws.{put-same, last-channel}
 use Rattle.machine.proofs.FieldLaws.{agrees, agreed}
 use Rattle.machine.specs.Cc.{split}
 use Rattle.machine.specs.declared.Fields.{Fields}
 use Rattle.machine.specs.Psw.{transferring, sourceWide, destinationWide}
-use Rattle.machine.specs.States.{channelOf, withChannel, soundChannel, isRunning, blockOf, busyIn, fieldsAgree}
+use Rattle.machine.specs.States.{channelOf, withChannel, withLast, soundChannel, isRunning, blockOf, busyIn, fieldsAgree}
 use Rattle.machine.specs.declared.Channel.{Channel}
 use Rattle.machine.specs.declared.Mode.the-variants.{Running}
 use Rattle.machine.specs.declared.State.{State}
@@ -48,6 +50,7 @@ pub record Come (lines : ℕ) (b : Bool) (s₀ : State) (m : Buffers) (k : ℕ) 
   pub done : DoneSteps lines s₀ m k state m
   pub lonely : RunsAlone b state m lines
   pub control : state .cp ≡ s₀ .cp
+  pub parameters : channelOf state b .pp ≡ channelOf s₀ b .pp
   pub seen : viewOf (channelOf state b) ≡ v
 
 module _ {lines : ℕ} {b : Bool} {s₀ : State} {m : Buffers} where
@@ -60,7 +63,8 @@ module _ {lines : ℕ} {b : Bool} {s₀ : State} {m : Buffers} where
         done = subst (λ (x : Buffers). DoneSteps lines s₀ m (suc k) (stepOf s m lines .state) x) memory (more (q .done) number);
         lonely = subst (λ (x : Buffers). RunsAlone b (stepOf s m lines .state) x lines) memory (alone-next b s m lines (q .lonely) number (ap (λ (o : Step). o .channel) e));
         control = cp-kept s m lines ∙ q .control;
-        seen = ap (λ (o : Step). viewOf (channelOf (o .state) b)) e ∙ ap viewOf (last-channel (withChannel s b (a .channel)) b b ∙ put-same s b (a .channel)) ∙ a .seen;
+        parameters = ap (λ (o : Step). channelOf (o .state) b .pp) e ∙ ap (λ (c : Channel). c .pp) put ∙ ap (λ (x : Executed). x .channel .pp) (sym (a .step)) ∙ pp-kept (channelOf s b) (busyIn (blockOf s b)) m ∙ q .parameters;
+        seen = ap (λ (o : Step). viewOf (channelOf (o .state) b)) e ∙ ap viewOf put ∙ a .seen;
       }
     where
       s : State
@@ -68,6 +72,9 @@ module _ {lines : ℕ} {b : Bool} {s₀ : State} {m : Buffers} where
 
       a : After m (channelOf s b) (busyIn (blockOf s b)) v′ m
       a = subst (λ (busy : ℕ). After m (channelOf s b) busy v′ m) (sym (busy-same s₀ s b (q .control))) (next (channelOf s b) (q .seen))
+
+      put : channelOf (withLast (withChannel s b (a .channel)) b) b ≡ a .channel
+      put = last-channel (withChannel s b (a .channel)) b b ∙ put-same s b (a .channel)
 
       off : transferring (channelOf s b .psw) ≡ false
       off = ap (λ (x : View). transferring (x .psw)) (q .seen) ∙ executes

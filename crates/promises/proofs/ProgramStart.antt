@@ -58,6 +58,7 @@ pub record Begun (cp : ℕ) (second : Bool) (m : Buffers) (program : ℕ) : Type
   pub channel : Channel
   pub given : attentionOf (freshState cp) m (channelNumber second) ≡ outcome 0 (withChannel (freshState cp) second channel) (storeByte m false (blockOf (freshState cp) second + 1) 255)
   pub seen : viewOf channel ≡ view (pointer 0 false) (pointer 0 false) (pointer program false) 0 0 4 Running false
+  pub parameters : channel .pp ≡ doublewordAt m false (blockOf (freshState cp) second + 2)
   pub sound : soundChannel channel ≡ true
   pub agree : fieldsAgree channel ≡ true
 
@@ -136,6 +137,11 @@ module _ (cp : ℕ) (b : Bool) (m : Buffers) (pb program : ℕ) (k : Starts m (b
   unfolding order idleChannel channelOrdered commanded started withControl ordered copied obeyed withPsw withBit bitOf fieldOf
   seen = ap (λ (a : ℕ). view (pointer 0 false) (pointer 0 false) (pointer a false) 0 0 4 Running false) (k .task)
 
+  -- PP is where the block says that PB is
+  parameters-are : (channelOrdered m order idleChannel) .pp ≡ doublewordAt m false (blockOf (freshState cp) b + 2)
+  unfolding order channelOrdered commanded started withControl
+  parameters-are = sym (k .parameters)
+
   -- of 20 bits
   sound-is : soundChannel (channelOrdered m order idleChannel) ≡ true
   unfolding order idleChannel channelOrdered commanded started withControl soundChannel doublewordAt
@@ -210,6 +216,7 @@ module _ (cp : ℕ) (b : Bool) (m : Buffers) (pb program : ℕ) (k : Starts m (b
               ∙ ap (λ (x : Bool). outcome 0 (withChannel (freshState cp) x (orderedChannel (freshState cp) m x)) (orderedMemory (freshState cp) m x)) (named b)
               ∙ ap₂ (λ (c : Channel) (n : Buffers). outcome 0 (withChannel (freshState cp) b c) n) channel-is memory-is;
           seen = seen;
+          parameters = parameters-are;
           sound = sound-is;
           agree = agree-is;
         }

@@ -62,7 +62,7 @@ module _ {j : Job} {l : Layout} {m : Buffers} {lines limit : ℕ} (r : Ready j l
   abbrev n : ℕ
   n = j .count
 
-  starts : Starts m (blockAt l) (pbPlace l .address) (programPlace l .address)
+  pub starts : Starts m (blockAt l) (pbPlace l .address) (programPlace l .address)
   starts =
       record {
         command = ap (byteAt m false) (sym (add-zero (blockAt l))) ∙ r .command .read 0 (lit< tt);
@@ -76,7 +76,7 @@ module _ {j : Job} {l : Layout} {m : Buffers} {lines limit : ℕ} (r : Ready j l
         taskLent = r .task .lent;
       }
 
-  start : Begun (l .cp) b m (programPlace l .address)
+  pub start : Begun (l .cp) b m (programPlace l .address)
   start = begun (l .cp) b m (pbPlace l .address) (programPlace l .address) starts (r .cpFits) (r .buffersFit)
 
   abbrev s₀ : State
@@ -110,10 +110,10 @@ module _ {j : Job} {l : Layout} {m : Buffers} {lines limit : ℕ} (r : Ready j l
       stand-kept (r .program) m₀ (λ u a. store-lent m false u (busyAt l) a 255)
       (λ i h. other false (programPlace l .address + i) (apart-back false (programPlace l .address + i) false (busyAt l) (r .busyProgram i h)))
 
-  come : Come lines b s₀ m₀ 6 (begins j (onBy (programPlace l) haltAt))
+  pub come : Come lines b s₀ m₀ 6 (begins j (onBy (programPlace l) haltAt))
   come =
       six j (programPlace l) there
-      (record { state = s₀; done = none; lonely = alone₀; control = refl; seen = ap viewOf (put-same (freshState (l .cp)) b (start .channel)) ∙ start .seen })
+      (record { state = s₀; done = none; lonely = alone₀; control = refl; parameters = refl; seen = ap viewOf (put-same (freshState (l .cp)) b (start .channel)) ∙ start .seen })
 
   abbrev s₁ : State
   s₁ = come .state
@@ -127,17 +127,17 @@ module _ {j : Job} {l : Layout} {m : Buffers} {lines limit : ℕ} (r : Ready j l
 
   -- ---- the transfer
 
-  source-at : from c₁ ≡ fromPlace j
+  pub source-at : from c₁ ≡ fromPlace j
   source-at = from-is j (onBy (programPlace l) haltAt) c₁ (come .seen) agree₁
 
-  destination-at : into c₁ ≡ intoPlace j
+  pub destination-at : into c₁ ≡ intoPlace j
   destination-at = into-is j (onBy (programPlace l) haltAt) c₁ (come .seen) agree₁
 
   -- what is lent is lent
   kept : (u : Bool) (a : ℕ) → lentAt m₀ u a ≡ lentAt m u a
   kept u a = store-lent m false u (busyAt l) a 255
 
-  copy : Copy n c₁ m₀
+  pub copy : Copy n c₁ m₀
   copy =
       record {
         plain = plain-is j (onBy (programPlace l) haltAt) c₁ (come .seen) agree₁ (sound-channel-of s₁ b (entry-sound s₁ m₀ lines (come .lonely .entered)));
@@ -193,7 +193,7 @@ module _ {j : Job} {l : Layout} {m : Buffers} {lines limit : ℕ} (r : Ready j l
   first-is : firstAttention m (l .cp) (channelNumber b) ≡ outcome 0 s₀ m₀
   first-is = start .given
 
-  comes : Comes m (l .cp) b lines limit n 6 s₁ m₀
+  pub comes : Comes m (l .cp) b lines limit n 6 s₁ m₀
   comes =
       record {
         started = given;

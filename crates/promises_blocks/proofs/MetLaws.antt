@@ -100,7 +100,7 @@ module _ (s : State) (m : Buffers) (b : Bool) (lines : ℕ) (given : givenNumber
 -- ---- and back: demand 3's premises, of ranges that do not wrap, are the sweep's conditions
 
 -- a range that is lent byte for byte and does not wrap ends within the lent length
-lent-range : (m : Buffers) (p : Pointer) (n : ℕ) → 1 ≤ n → placeOf p + n ≤ limitOf (p .tag) → Lent m p n → RangeLent m p n
+pub lent-range : (m : Buffers) (p : Pointer) (n : ℕ) → 1 ≤ n → placeOf p + n ≤ limitOf (p .tag) → Lent m p n → RangeLent m p n
 unfolding lentAt
 lent-range m p n some whole lent =
     let k : ℕ = n - 1 in
@@ -109,7 +109,7 @@ lent-range m p n some whole lent =
     omega (arith, e, l)
 
 -- two that share no byte lie in two spaces, or one behind the other
-apart-ranges : (p q : Pointer) (n : ℕ) → 1 ≤ n → placeOf p + n ≤ limitOf (p .tag) → placeOf q + n ≤ limitOf (q .tag) → ShareNone p q n → RangesApart p q n
+pub apart-ranges : (p q : Pointer) (n : ℕ) → 1 ≤ n → placeOf p + n ≤ limitOf (p .tag) → placeOf q + n ≤ limitOf (q .tag) → ShareNone p q n → RangesApart p q n
 apart-ranges p q n some wp wq none = go (Bool-discrete (p .tag) (q .tag)) (decLe (placeOf p + n) (placeOf q)) (decLe (placeOf q + n) (placeOf p)) (decLe (placeOf p) (placeOf q))
   where
     at-p : (i : ℕ) → i < n → indexOf (p .tag) (p .address + i) ≡ placeOf p + i

@@ -63,17 +63,17 @@ state-is false s s′ other cp last board = λ i. record { first = s′ .first; 
 -- ---- one after the other
 
 -- steps and bytes in front of others
-abbrev before : ℕ → ℕ → Sweep → Sweep
+abbrev pub before : ℕ → ℕ → Sweep → Sweep
 before steps count x = sweptTo (x .number) (x .state) (x .memory) (steps + x .steps) (count + x .count)
 
 -- a channel whose XF is clear makes no more
-plainly-stops : (left : ℕ) (s : State) (m : Buffers) (b : Bool) (lines : ℕ) → transferring (channelOf s b .psw) ≡ false → plainly left s m b lines ≡ sweptTo 0 s m 0 0
+pub plainly-stops : (left : ℕ) (s : State) (m : Buffers) (b : Bool) (lines : ℕ) → transferring (channelOf s b .psw) ≡ false → plainly left s m b lines ≡ sweptTo 0 s m 0 0
 unfolding plainly
 plainly-stops zero s m b lines e = refl
 plainly-stops (suc left) s m b lines e = rw e
 
 -- one with XF whose step is done makes that one, and the others behind it
-plainly-goes : (left : ℕ) (s : State) (m : Buffers) (b : Bool) (lines : ℕ) → transferring (channelOf s b .psw) ≡ true → (stepOf s m lines) .number ≡ 0
+pub plainly-goes : (left : ℕ) (s : State) (m : Buffers) (b : Bool) (lines : ℕ) → transferring (channelOf s b .psw) ≡ true → (stepOf s m lines) .number ≡ 0
     → plainly (suc left) s m b lines ≡ before 1 (stepCount s m lines) (plainly left ((stepOf s m lines) .state) ((stepOf s m lines) .memory) b lines)
 unfolding plainly
 plainly-goes left s m b lines e z = rw (e, eq-eqb ((stepOf s m lines) .number) 0 z) (ap (λ (k : ℕ). sweptTo (r .number) (r .state) (r .memory) k (stepCount s m lines + r .count)) (omega arith))

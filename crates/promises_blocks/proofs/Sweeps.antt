@@ -138,7 +138,7 @@ module _ (s : State) (m : Buffers) (b : Bool) (lines : ℕ) (accepted : sweepOf 
 -- ---- 15
 
 -- where nothing before it applies, 15 is given exactly where the conditions are not met
-then-conditions : (s : State) (m : Buffers) (b : Bool) (lines : ℕ) → givenNumber s m ≡ 0 → lines < 16
+pub then-conditions : (s : State) (m : Buffers) (b : Bool) (lines : ℕ) → givenNumber s m ≡ 0 → lines < 16
     → sweepOf s m (channelNumber b) lines .number ≡ pick (sweepable s m b lines) 0 15
 unfolding sweepNumber first unless isChannel channelNumber
 then-conditions s m b lines given few = number-is s m (channelNumber b) lines ∙ go b
