@@ -588,3 +588,85 @@ void write_one(struct program *p)
     add_instruction(p, &formats[below(p->d, FORMATS)], &f);
     choose_ways(p);
 }
+
+/* ---- Programs that store in rooms of their own ---- */
+
+/* Whether a format stores at its operand alone, changes no pointer and, by a displacement of 0, goes on behind itself. */
+static bool stays(const struct format *format)
+{
+    bool leads_away = format->follow == WAY || format->follow == DOUBLEWORD || format->follow == SECOND_PAIR;
+    return !leads_away && format->digits[0] != 'P';
+}
+
+/* Adds an instruction of such a format, its operand near a pointer. */
+static void add_confined(struct program *p)
+{
+    static const uint8_t plain[] = {BC, IX, MC};
+    const struct format *format = formats;
+    struct fields f = choose_fields(p->d);
+    while (!stays(format)) format = &formats[below(p->d, FORMATS - ENDING_FORMATS)];
+    f.rrr = ONE_OF(p->d, plain);
+    f.aa = below(p->d, 2);
+    f.mm = below(p->d, 3);
+    begin(p);
+    add_pair(p, format->digits, &f);
+    if (strchr(format->digits, 'A') != NULL && f.aa == 1) p->byte[p->length - 1] &= 15u;
+    add_following(p, format->follow, &f);
+}
+
+/* Adds a transfer of a few bytes between the rooms that GA and GB are at, under requests or not. */
+static void add_confined_transfer(struct program *p)
+{
+    static const uint8_t syn[] = {0, 0, 1, 2};
+    uint32_t cc = 0xC000u | (uint32_t)ONE_OF(p->d, syn) << 11 | below(p->d, 2) << 10 | below(p->d, 2) << 8;
+    add_movi(p, BC, 1 + below(p->d, 8));
+    add_arming(p, cc | end_code(p->d, 500) << 5 | (1 + below(p->d, 3)) << 3);
+    add_widths(p, cc);
+    add_endings(p);
+}
+
+/* Points every pointer into a room, and adds some instructions there and mostly a transfer. */
+static void add_round(struct program *p, const struct room rooms[2])
+{
+    for (unsigned ppp = GA; ppp <= GC; ppp++) {
+        const struct room *room = &rooms[below(p->d, 2)];
+        add_pointing_at(p, ppp, room->in_io, room->at + below(p->d, 8));
+    }
+    for (unsigned i = below(p->d, 5); i > 0; i--) add_confined(p);
+    if (chance(p->d, 700)) add_confined_transfer(p);
+}
+
+void write_confined(struct program *p, const struct room rooms[2])
+{
+    for (unsigned i = 1 + below(p->d, 3); i > 0; i--) add_round(p, rooms);
+    begin(p);
+    add_word(p, 0x2091);
+    add_word(p, 0u - (p->length + 2));
+}
+
+/* Adds WID for these widths, as the PSW has them. */
+static void add_these_widths(struct program *p, uint32_t widths)
+{
+    begin(p);
+    add_word(p, (4 | widths) << 5);
+}
+
+unsigned write_block(struct program *p, const struct room rooms[2], const struct block_transfer *b)
+{
+    bool early = chance(p->d, 500);
+    if (chance(p->d, 600)) add_round(p, rooms);
+    for (unsigned i = 0, first = below(p->d, 3); i < 3; i++) {
+        unsigned which = (first + i) % 3;
+        if (which == 2) add_movi(p, BC, b->bc);
+        else add_pointing_at(p, GA + which, b->in_io[which], b->address[which]);
+    }
+    if (early) add_these_widths(p, b->widths);
+    add_arming(p, b->cc);
+    if (early) add_movi(p, chance(p->d, 500) ? IX : MC, below(p->d, 65536));
+    else add_these_widths(p, b->widths);
+    unsigned begins = p->length;
+    add_endings(p);
+    begin(p);
+    add_word(p, 0x4820);
+    return begins;
+}

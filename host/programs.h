@@ -55,6 +55,26 @@ unsigned write_cut(struct program *p);
 /* Adds an instruction of any format. */
 void write_one(struct program *p);
 
+/* So many bytes that a program may store in, and where they begin. */
+enum { ROOM_BYTES = 32 };
+struct room {
+    bool in_io;
+    uint32_t at;
+};
+
+/* A program that goes round for ever, instructions of most formats and transfers, and stores in two rooms alone. */
+void write_confined(struct program *p, const struct room rooms[2]);
+
+/* What a block transfer is set up with. */
+struct block_transfer {
+    uint32_t address[2], bc, cc, widths;
+    bool in_io[2]; /* GA, GB */
+};
+
+/* A program that does up to one such round, sets up a block transfer and starts it; answers at which of its bytes TP is
+ * then. */
+unsigned write_block(struct program *p, const struct room rooms[2], const struct block_transfer *b);
+
 /* A place for data in one space: inside lent memory, at its end, at the top of the space, or with low bits all 0. */
 uint32_t some_place(struct program *p, bool in_io);
 
