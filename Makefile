@@ -6,6 +6,7 @@ SEED ?= 1
 CASES ?= 200000
 SERVICE_CASES ?= 300000
 SWEEPS ?= 200000
+PAUSES ?= 20000
 TEXTS ?= 20000
 PARTS ?= 2000
 CALLS ?= 40000
@@ -21,13 +22,14 @@ override SEED := $(value SEED)
 override CASES := $(value CASES)
 override SERVICE_CASES := $(value SERVICE_CASES)
 override SWEEPS := $(value SWEEPS)
+override PAUSES := $(value PAUSES)
 override TEXTS := $(value TEXTS)
 override PARTS := $(value PARTS)
 override CALLS := $(value CALLS)
 override IMAGES := $(value IMAGES)
 override PREFIX := $(value PREFIX)
 override DESTDIR := $(value DESTDIR)
-export IMAGE FILE DEMO SEED CASES SERVICE_CASES SWEEPS TEXTS PARTS CALLS IMAGES PREFIX DESTDIR
+export IMAGE FILE DEMO SEED CASES SERVICE_CASES SWEEPS PAUSES TEXTS PARTS CALLS IMAGES PREFIX DESTDIR
 
 CFLAGS ?= -O2
 STRICT = -std=c11 -Wall -Wextra -Wpedantic -Wconversion
@@ -245,6 +247,21 @@ build/compare_sweep: $(COMPARE_SWEEP) $(COMPARE_SWEEP_H) $(COMMON) $(COMMON_H) $
 
 compare-sweep: given-sweeps build/compare_sweep
 	tools/x86 build/compare_sweep "$$SEED" "$$SWEEPS"
+
+# Block transfers with their channel suspended and resumed in the middle: archive and emulator, with pauses and without.
+.PHONY: compare-pauses given-pauses
+
+given-pauses:
+	@tools/given number SEED && tools/given number PAUSES
+
+COMPARE_PAUSES = $(addprefix host/,compare_pauses.c pauses.c twin.c fences.c sweeps.c state_bytes.c)
+COMPARE_PAUSES_H = $(addprefix host/,pauses.h twin.h fences.h sweeps.h state_bytes.h) include/iop89_service.h
+
+build/compare_pauses: $(COMPARE_PAUSES) $(COMPARE_PAUSES_H) $(COMMON) $(COMMON_H) $(SERVICE_LIB) | x86-compiler
+	$(X86_CC) $(STRICT) $(CFLAGS) -Iinclude $(COMPARE_PAUSES) $(COMMON) $(SERVICE_LIB) $(X86_LDFLAGS) -o $@
+
+compare-pauses: given-pauses build/compare_pauses
+	tools/x86 build/compare_pauses "$$SEED" "$$PAUSES"
 
 # ---- The bench tool, over both archives
 
