@@ -178,8 +178,8 @@ compare-traces: given-images compiler program-trace build/scripts
 selftest: build/selftest
 	build/selftest
 
-# Runs every row of the table in examples/README.md.
-check-examples: x86-compiler build/example
+# Runs every row of the table in examples/README.md, and the script with a pause.
+check-examples: x86-compiler build/example build/scripts
 	tools/check-examples
 
 # Goes through README's commands and through misuse of them.
