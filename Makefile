@@ -154,8 +154,8 @@ build/stack: host/stack.c include/iop89.h $(IOP89_LIB) | x86-compiler
 stack: build/stack
 	@tools/x86 build/stack examples/*.bin
 
-build/compare: host/compare.c $(COMMON) $(COMMON_H) $(IOP89_LIB) | x86-compiler
-	$(X86_CC) $(STRICT) $(CFLAGS) -Iinclude host/compare.c $(COMMON) $(IOP89_LIB) $(X86_LDFLAGS) -o $@
+build/compare: host/compare.c host/fences.c host/fences.h $(COMMON) $(COMMON_H) $(IOP89_LIB) | x86-compiler
+	$(X86_CC) $(STRICT) $(CFLAGS) -Iinclude host/compare.c host/fences.c $(COMMON) $(IOP89_LIB) $(X86_LDFLAGS) -o $@
 
 # The emulator's own checks, and its side of what the programs print, need no library: they run on the machine at hand.
 build/scripts: $(SCRIPTS) $(SCRIPTS_H) $(COMMON) $(COMMON_H) | compiler
@@ -222,10 +222,11 @@ $(SERVICE_LIB): $(SERVICE_CRATES:%=build/%.sums)
 	@for crate in $(SERVICE_CRATES); do tools/prove staticlib $$crate || exit $$?; done
 	@AR="$(X86_AR)" tools/join-archives $@ $(SERVICE_CRATES:%=target/staticlib/lib%.a)
 
-build/compare_service: host/compare_service.c host/state_bytes.c host/state_bytes.h include/iop89_service.h $(COMMON) \
-		$(COMMON_H) $(SERVICE_LIB) | x86-compiler
-	$(X86_CC) $(STRICT) $(CFLAGS) -Iinclude host/compare_service.c host/state_bytes.c $(COMMON) $(SERVICE_LIB) \
-		$(X86_LDFLAGS) -o $@
+COMPARE_SERVICE = $(addprefix host/,compare_service.c fences.c state_bytes.c)
+COMPARE_SERVICE_H = $(addprefix host/,fences.h state_bytes.h) include/iop89_service.h
+
+build/compare_service: $(COMPARE_SERVICE) $(COMPARE_SERVICE_H) $(COMMON) $(COMMON_H) $(SERVICE_LIB) | x86-compiler
+	$(X86_CC) $(STRICT) $(CFLAGS) -Iinclude $(COMPARE_SERVICE) $(COMMON) $(SERVICE_LIB) $(X86_LDFLAGS) -o $@
 
 given-service:
 	@tools/given number SEED && tools/given number SERVICE_CASES
@@ -239,8 +240,8 @@ compare-service: given-service build/compare_service
 given-sweeps:
 	@tools/given number SEED && tools/given number SWEEPS
 
-COMPARE_SWEEP = $(addprefix host/,compare_sweep.c sweeps.c state_bytes.c)
-COMPARE_SWEEP_H = $(addprefix host/,sweeps.h state_bytes.h) include/iop89_service.h
+COMPARE_SWEEP = $(addprefix host/,compare_sweep.c sweeps.c fences.c state_bytes.c)
+COMPARE_SWEEP_H = $(addprefix host/,sweeps.h fences.h state_bytes.h) include/iop89_service.h
 
 build/compare_sweep: $(COMPARE_SWEEP) $(COMPARE_SWEEP_H) $(COMMON) $(COMMON_H) $(SERVICE_LIB) | x86-compiler
 	$(X86_CC) $(STRICT) $(CFLAGS) -Iinclude $(COMPARE_SWEEP) $(COMMON) $(SERVICE_LIB) $(X86_LDFLAGS) -o $@
@@ -254,8 +255,8 @@ compare-sweep: given-sweeps build/compare_sweep
 given-pauses:
 	@tools/given number SEED && tools/given number PAUSES
 
-COMPARE_PAUSES = $(addprefix host/,compare_pauses.c pauses.c twin.c fences.c sweeps.c state_bytes.c)
-COMPARE_PAUSES_H = $(addprefix host/,pauses.h twin.h fences.h sweeps.h state_bytes.h) include/iop89_service.h
+COMPARE_PAUSES = $(addprefix host/,compare_pauses.c pauses.c twin.c sweeps.c fences.c state_bytes.c)
+COMPARE_PAUSES_H = $(addprefix host/,pauses.h twin.h sweeps.h fences.h state_bytes.h) include/iop89_service.h
 
 build/compare_pauses: $(COMPARE_PAUSES) $(COMPARE_PAUSES_H) $(COMMON) $(COMMON_H) $(SERVICE_LIB) | x86-compiler
 	$(X86_CC) $(STRICT) $(CFLAGS) -Iinclude $(COMPARE_PAUSES) $(COMMON) $(SERVICE_LIB) $(X86_LDFLAGS) -o $@

@@ -1,6 +1,7 @@
 /* Compares the library's run with the independent emulator's over random cases: the answer and every lent byte. */
 #include "cases.h"
 #include "emulator.h"
+#include "fences.h"
 #include "iop89.h"
 #include "met.h"
 
@@ -9,10 +10,6 @@
 #include <stdlib.h>
 #include <string.h>
 #include <time.h>
-
-/* Bytes beside each buffer lent to the library, which must stay as they are. */
-#define FENCE 64u
-#define FENCE_BYTE 0xC7
 
 /* How many differences are shown in full, and how many bytes of each. */
 enum { SHOWN_DIFFERENCES = 3, SHOWN_BYTES = 16 };
@@ -33,18 +30,6 @@ static uint64_t seed = 1, current;
 
 /* ---- Running one case ---- */
 
-/* Room with a fence before and behind. */
-static uint8_t *fenced(size_t length)
-{
-    uint8_t *bytes = malloc(length + 2 * FENCE);
-    if (bytes == NULL) {
-        fputs("compare: out of memory\n", stderr);
-        exit(2);
-    }
-    memset(bytes, FENCE_BYTE, length + 2 * FENCE);
-    return bytes + FENCE;
-}
-
 /* Room for one side. */
 static struct side new_side(void)
 {
@@ -52,19 +37,11 @@ static struct side new_side(void)
     return side;
 }
 
-/* Whether the fences before and behind a buffer are whole. */
-static bool fences_stand(const uint8_t *bytes, size_t length)
-{
-    for (size_t i = 0; i < FENCE; i++)
-        if ((bytes - FENCE)[i] != FENCE_BYTE || bytes[length + i] != FENCE_BYTE) return false;
-    return true;
-}
-
 /* Copies a case's lent bytes into the library's buffer, with the fence right behind them. */
 static void lend(uint8_t *to, const uint8_t *from, size_t length)
 {
     memcpy(to, from, length);
-    memset(to + length, FENCE_BYTE, FENCE);
+    fence_behind(to, length);
 }
 
 /* Makes a case in the given side's buffers. */

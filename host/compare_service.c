@@ -2,6 +2,7 @@
  * agree with CC or not, with held bytes and without, whole and damaged, with other lines at each step, and runs that a
  * board's power-up begins. */
 #include "cases.h"
+#include "fences.h"
 #include "iop89_service.h"
 #include "met.h"
 #include "state_bytes.h"
@@ -11,10 +12,9 @@
 #include <string.h>
 #include <time.h>
 
-/* How many cases meet everything, the most calls of one, bytes around a buffer that nobody may touch, and room for
- * state bytes of a wrong length. */
-enum { CASES_TO_MEET_ALL = 300000, MOST_CALLS = 60, FENCE = 16, FENCE_BYTE = 0xA5 };
-enum { STATE_ROOM = 2 * STATE_BYTES, SHOWN = 5 };
+/* How many cases meet everything, the most calls of one, room for state bytes of a wrong length, and how many differences
+ * are shown. */
+enum { CASES_TO_MEET_ALL = 300000, MOST_CALLS = 60, STATE_ROOM = 2 * STATE_BYTES, SHOWN = 5 };
 
 enum call_kind { CALL_FRESH, CALL_RESET, CALL_POWER, CALL_ATTENTION, CALL_STEP, CALL_BOARD, CALLS };
 
@@ -42,18 +42,6 @@ static const char *const call_names[CALLS] = {"fresh", "reset", "power-up", "att
 
 /* ---- Buffers ---- */
 
-/* Room with a fence before and behind. */
-static uint8_t *fenced(size_t length)
-{
-    uint8_t *bytes = malloc(length + 2 * FENCE);
-    if (bytes == NULL) {
-        fputs("compare_service: out of memory\n", stderr);
-        exit(2);
-    }
-    memset(bytes, FENCE_BYTE, length + 2 * FENCE);
-    return bytes + FENCE;
-}
-
 /* Room for one side. */
 static struct side new_side(void)
 {
@@ -61,19 +49,11 @@ static struct side new_side(void)
     return side;
 }
 
-/* Whether the fences before and behind a buffer are whole. */
-static bool fences_stand(const uint8_t *bytes, size_t length)
-{
-    for (size_t i = 0; i < FENCE; i++)
-        if ((bytes - FENCE)[i] != FENCE_BYTE || bytes[length + i] != FENCE_BYTE) return false;
-    return true;
-}
-
 /* Copies lent bytes to the other side, with the fence right behind them. */
 static void lend(uint8_t *to, const uint8_t *from, size_t length)
 {
     memcpy(to, from, length);
-    memset(to + length, FENCE_BYTE, FENCE);
+    fence_behind(to, length);
 }
 
 /* Puts a byte into both sides' memory, if it is lent. */

@@ -1,5 +1,6 @@
 /* Compares sweeps made three ways: by the service archive, by the emulator, and in plain steps of the archive. What they
  * answer, the state and every lent byte must be the same, and a refused sweep changes nothing. */
+#include "fences.h"
 #include "iop89_service.h"
 #include "met.h"
 #include "sweeps.h"
@@ -9,9 +10,8 @@
 #include <string.h>
 #include <time.h>
 
-/* How many sweeps meet everything, bytes around a buffer that nobody may touch, more steps than a sweep stands for, and
- * how many differences are shown. */
-enum { SWEEPS_TO_MEET_ALL = 200000, FENCE = 16, FENCE_BYTE = 0xA5, STEP_LIMIT = 70000, SHOWN = 5 };
+/* How many sweeps meet everything, more steps than a sweep stands for, and how many differences are shown. */
+enum { SWEEPS_TO_MEET_ALL = 200000, STEP_LIMIT = 70000, SHOWN = 5 };
 
 /* What the plain steps came to: the number of the last, how many were done, and the sum of their counts. */
 struct plainly {
@@ -24,31 +24,11 @@ static struct emu_coverage coverage;
 
 /* ---- Buffers ---- */
 
-/* Room with a fence before and behind. */
-static uint8_t *fenced(size_t length)
-{
-    uint8_t *bytes = malloc(length + 2 * FENCE);
-    if (bytes == NULL) {
-        fputs("compare_sweep: out of memory\n", stderr);
-        exit(2);
-    }
-    memset(bytes, FENCE_BYTE, length + 2 * FENCE);
-    return bytes + FENCE;
-}
-
 /* Room for one machine. */
 static struct machine new_machine(void)
 {
     struct machine m = {fenced(STATE_ROOM), {fenced(CASE_SYSTEM_ROOM), fenced(CASE_IO_ROOM)}};
     return m;
-}
-
-/* Whether the fences before and behind a buffer are whole. */
-static bool fences_stand(const uint8_t *bytes, size_t length)
-{
-    for (size_t i = 0; i < FENCE; i++)
-        if ((bytes - FENCE)[i] != FENCE_BYTE || bytes[length + i] != FENCE_BYTE) return false;
-    return true;
 }
 
 /* Copies what was given to another machine, with fences right behind what is lent. */
@@ -57,7 +37,7 @@ static void lend(const struct machine *to, const struct sweep *s)
     memcpy(to->state, given.state, STATE_ROOM);
     for (unsigned i = 0; i < 2; i++) {
         memcpy(to->memory[i], given.memory[i], s->length[i]);
-        memset(to->memory[i] + s->length[i], FENCE_BYTE, FENCE);
+        fence_behind(to->memory[i], s->length[i]);
     }
 }
 

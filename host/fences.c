@@ -5,7 +5,7 @@
 #include <stdlib.h>
 #include <string.h>
 
-enum { FENCE = 16, FENCE_BYTE = 0xA5 };
+enum { FENCE = 64, FENCE_BYTE = 0xA5 };
 
 uint8_t *fenced(size_t length)
 {
