@@ -1,0 +1,7 @@
+pub mod RowLaws
+pub mod SumLaws
+pub mod CountLaws
+pub mod StoreLaws
+pub mod WaitLaws
+pub mod ScheduleLaws
+pub mod ExactLaws

@@ -1,0 +1,139 @@
+-- The laws of the bytes that transfer steps store: with those that they read they are the touched ones, and a step stores two at most.
+-- Assumes nothing.
+use Prim.Native.Nat.{ℕ, _+_, _*_, _≤_}
+use borrow.Author.Tests.{eq-eqb}
+use lib.Dec.{eqb}
+use lib.ListN.{length, length-append}
+use mathlib.Core.Bool.{Bool, true, false, _&&_}
+use mathlib.Core.List.{_++_}
+use mathlib.Core.Path.{_≡_, refl, sym, ap, _∙_}
+use native.Mathlib.Omega.{arith}
+use Rattle.machine.specs.Outcomes.{counted}
+use Rattle.machine.specs.Psw.{transferring}
+use Rattle.machine.specs.States.{channelOf, channelNumber}
+use Rattle.machine.specs.declared.Channel.{Channel}
+use Rattle.machine.specs.declared.State.{State}
+use Rattle.memory.specs.Buffers.{Buffers}
+use Rattle.step.proofs.NumberLaws.{settled-number}
+use Rattle.step.proofs.OutcomeLaws.{by-step}
+use Rattle.step.specs.Choosing.{choiceOf}
+use Rattle.step.specs.Step.{Step, transferStep, channelStep, chosenStep, entryNumber, stepOf}
+use Rattle.step.specs.declared.Kind.the-variants.{Transfer}
+use Rattle.step.specs.Touched.{touchedIn, touchedByStep, stepCount}
+use Rattle.step.specs.declared.turns.Choice.the-variants.{Steps}
+use Rattle.transfer.specs.Parts.{Part, Whole, FirstFetch, SecondFetch, FirstStore, SecondStore, partOf}
+use Rattle.transfer.specs.Reads.{dataOf, also}
+use Rattle.transfer.specs.Sides.{destination}
+use Rattle.transfer.proofs.StepLaws.{exactly-0}
+use Rattle.transfer.specs.Steps.{touchedBy, touchedByTransfer, badMode, transferOf}
+use Rattle.transfer.specs.Stores.{storesTwo, placesOn, storedPlaces}
+use Rattle.words.proofs.ChoiceLaws.{apart, both-right, and-false}
+use Rattle.words.specs.Choice.{pick}
+use Rattle.schedule.specs.Counts.{onceIf, isTransfer, isDone, doneAt, transferAt, readsBy, storesBy, storedAt}
+use Rattle.schedule.specs.Rows.{Bench, isStep}
+use Rattle.schedule.specs.declared.ScheduleRow.{ScheduleRow}
+
+-- what a transfer step touches is what it reads and then what it stores
+pub touched-apart : (k : Part) (c : Channel) (m : Buffers) → touchedBy k c m ≡ readsBy k c m ++ storesBy k c m
+unfolding touchedBy readsBy storesBy
+touched-apart Whole c m = refl
+touched-apart FirstFetch c m = refl
+touched-apart (SecondFetch byte) c m = refl
+touched-apart FirstStore c m = refl
+touched-apart (SecondStore byte) c m = refl
+
+-- one byte or two on a side
+places-most : (c : Channel) (two : Bool) → length (placesOn (destination c) two) ≤ 2
+unfolding placesOn also
+places-most c true = omega arith
+places-most c false = omega arith
+
+-- no part stores more than two bytes
+pub stores-most : (k : Part) (c : Channel) (m : Buffers) → length (storesBy k c m) ≤ 2
+unfolding storesBy storedPlaces
+stores-most Whole c m = places-most c (storesTwo c (dataOf c m))
+stores-most FirstFetch c m = omega arith
+stores-most (SecondFetch byte) c m = places-most c true
+stores-most FirstStore c m = omega arith
+stores-most (SecondStore byte) c m = omega arith
+
+-- a row stores at most two bytes for a transfer step, and nothing else does
+pub stored-most : (second : Bool) (p : Bench) (r : ScheduleRow) → storedAt second p r ≤ 2 * transferAt second p r
+unfolding storedAt transferAt
+stored-most second p r = go (doneAt isTransfer second p r)
+  where
+    c : Channel
+    c = channelOf (p .state) second
+
+    go : (b : Bool) → pick b (length (storesBy (partOf c) c (p .memory))) 0 ≤ 2 * onceIf b
+    go true = stores-most (partOf c) c (p .memory)
+    go false = omega arith
+
+pub stored-two : (second : Bool) (p : Bench) (r : ScheduleRow) → storedAt second p r ≤ 2
+unfolding storedAt
+stored-two second p r = go (doneAt isTransfer second p r)
+  where
+    c : Channel
+    c = channelOf (p .state) second
+
+    go : (b : Bool) → pick b (length (storesBy (partOf c) c (p .memory))) 0 ≤ 2
+    go true = stores-most (partOf c) c (p .memory)
+    go false = omega arith
+
+-- two channels of one number are one
+same-channel : (a b : Bool) → eqb (channelNumber a) (channelNumber b) && true ≡ true → a ≡ b
+unfolding channelNumber
+same-channel true true h = refl
+same-channel true false h = apart (sym h)
+same-channel false true h = apart (sym h)
+same-channel false false h = refl
+
+-- a transfer step that a channel did was its turn, and XF was set
+pub transfer-chosen : (s : State) (m : Buffers) (lines : ℕ) (second : Bool) → isDone isTransfer second (stepOf s m lines) ≡ true
+    → (stepOf s m lines .number ≡ 0) × (choiceOf s lines ≡ Steps second) × (transferring (channelOf s second .psw) ≡ true) × (entryNumber s m lines ≡ 0)
+transfer-chosen s m lines second =
+    by-step s m lines
+    (λ (t : Step). isDone isTransfer second t ≡ true → (t .number ≡ 0) × (choiceOf s lines ≡ Steps second) × (transferring (channelOf s second .psw) ≡ true) × (entryNumber s m lines ≡ 0))
+    (λ k ne h. none (eqb k 0 && eqb 0 (channelNumber second)) h) (λ b z e h. none (eqb (channelNumber b) (channelNumber second)) h)
+    (λ b z e f h. let q = same-channel b second h in (refl, e ∙ ap Steps q, ap (λ (x : Bool). transferring (channelOf s x .psw)) (sym q) ∙ f, z))
+    (λ b z e f h. none (eqb (channelNumber b) (channelNumber second)) h)
+  where
+    none : {A : Type 0} (b : Bool) → b && false ≡ true → A
+    none b h = apart (sym (sym (and-false b) ∙ h))
+
+-- its number is the transfer step's own
+chosen-number : (s : State) (m : Buffers) (lines : ℕ) (second : Bool) → entryNumber s m lines ≡ 0 → choiceOf s lines ≡ Steps second
+    → transferring (channelOf s second .psw) ≡ true → stepOf s m lines .number ≡ transferOf (channelOf s second) m .number
+unfolding stepOf chosenStep channelStep transferStep
+chosen-number s m lines second z e f =
+    let t = transferOf (channelOf s second) m in
+    rw (eq-eqb (entryNumber s m lines) 0 z, e, f) (settled-number (t .number) s m second (t .channel) (t .memory) Transfer)
+
+-- and its mode was not refused
+pub transfer-mode : (s : State) (m : Buffers) (lines : ℕ) (second : Bool) → isDone isTransfer second (stepOf s m lines) ≡ true → badMode (channelOf s second) ≡ false
+transfer-mode s m lines second h =
+    let o = transfer-chosen s m lines second h in
+    exactly-0 (channelOf s second) m .0 (sym (chosen-number s m lines second (o .3) (o .1) (o .2)) ∙ o .0) .0
+
+-- what a step answers for it that it read and stored is what its part reads, and what is counted here as stored
+pub counts-agree : (second : Bool) (p : Bench) (r : ScheduleRow) → transferAt second p r ≡ 1
+    → let c = channelOf (p .state) second in
+    stepCount (p .state) (p .memory) (r .value) ≡ length (readsBy (partOf c) c (p .memory)) + storedAt second p r
+unfolding transferAt storedAt doneAt stepCount touchedByStep touchedIn counted touchedByTransfer
+counts-agree second p r = go (doneAt isTransfer second p r) refl
+  where
+    s : State
+    s = p .state
+
+    m : Buffers
+    m = p .memory
+
+    c : Channel
+    c = channelOf s second
+
+    go : (b : Bool) → doneAt isTransfer second p r ≡ b → onceIf b ≡ 1
+        → stepCount s m (r .value) ≡ length (readsBy (partOf c) c m) + pick b (length (storesBy (partOf c) c m)) 0
+    go false h z = absurd (omega arith)
+    go true h z =
+        let o = transfer-chosen s m (r .value) second (both-right (isStep r) (isDone isTransfer second (stepOf s m (r .value))) h) in
+        rw (o .0, o .1, o .2) (ap length (touched-apart (partOf c) c m) ∙ length-append (readsBy (partOf c) c m) (storesBy (partOf c) c m))

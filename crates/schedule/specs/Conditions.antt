@@ -1,0 +1,39 @@
+-- When 16 is given, and when a row counts for a channel: as an attention, as a done step, as one that found it waiting for its DRQ.
+use mathlib.Core.Bool.{Bool, true, false}
+use mathlib.Core.List.{List, [], _∷_}
+use mathlib.Core.Logic.{_⊎_}
+use mathlib.Core.Path.{_≡_}
+use Prim.Native.Nat.{_<_}
+use Rattle.machine.specs.Psw.{transferring}
+use Rattle.machine.specs.States.{channelOf, channelNumber}
+use Rattle.machine.specs.declared.Mode.the-variants.{Running}
+use Rattle.step.specs.Choosing.{requested}
+use Rattle.step.specs.Step.{stepOf}
+use Rattle.step.specs.declared.Kind.{Kind}
+use Rattle.schedule.specs.Rows.{Bench}
+use Rattle.schedule.specs.declared.ScheduleRow.{ScheduleRow}
+
+-- 16: a row's kind is neither 1 nor 2
+abbrev pub UnknownIn : List ScheduleRow → Type 0
+UnknownIn [] = ⊥
+UnknownIn (r ∷ rows) = (¬ (r .kind ≡ 1) × ¬ (r .kind ≡ 2)) ⊎ UnknownIn rows
+
+-- a row of kind 1 whose value is the channel's number
+abbrev pub AttentionRow : Bool → ScheduleRow → Type 0
+AttentionRow second r = (r .kind ≡ 1) × (r .value ≡ channelNumber second)
+
+-- a row of kind 2 whose step is done, by this channel, and of this kind
+pub record StepRow (kind : Kind) (second : Bool) (p : Bench) (r : ScheduleRow) : Type 0 where
+  pub steps : r .kind ≡ 2
+  pub done : stepOf (p .state) (p .memory) (r .value) .number ≡ 0
+  pub channel : stepOf (p .state) (p .memory) (r .value) .channel ≡ channelNumber second
+  pub of : stepOf (p .state) (p .memory) (r .value) .kind ≡ kind
+
+-- a step row with a line number up to 15, before which the channel runs with XF, its fields have SYN 01 or 10, and its DRQ is down
+pub record FoundWaiting (second : Bool) (p : Bench) (r : ScheduleRow) : Type 0 where
+  pub steps : r .kind ≡ 2
+  pub lines : r .value < 16
+  pub runs : channelOf (p .state) second .mode ≡ Running
+  pub transfers : transferring (channelOf (p .state) second .psw) ≡ true
+  pub synchronised : (channelOf (p .state) second .fields .synchronised ≡ 1) ⊎ (channelOf (p .state) second .fields .synchronised ≡ 2)
+  pub request : requested (r .value) second ≡ false

@@ -1,0 +1,133 @@
+-- What is counted of a row, each count from the row and the bench before it by a definition of its own, and summed over rows.
+use mathlib.Core.Bool.{Bool, true, false, not, _&&_, _||_}
+use mathlib.Core.List.{List, [], _∷_}
+use Prim.Native.Nat.{ℕ, _+_}
+use lib.Dec.{eqb, ltb}
+use lib.ListN.{length}
+use Rattle.words.specs.Choice.{pick}
+use Rattle.memory.specs.Buffers.{Buffers}
+use Rattle.memory.specs.Places.{Place}
+use Rattle.machine.specs.Psw.{transferring}
+use Rattle.machine.specs.States.{channelOf, channelNumber, isRunning}
+use Rattle.machine.specs.declared.Channel.{Channel}
+use Rattle.attention.specs.Attention.{attentionOf}
+use Rattle.transfer.specs.Halves.{firstPlace, secondPlace}
+use Rattle.transfer.specs.Parts.{Part, Whole, FirstFetch, SecondFetch, FirstStore, SecondStore, partOf}
+use Rattle.transfer.specs.Reads.{dataOf, readPlaces}
+use Rattle.transfer.specs.Sides.{source, destination}
+use Rattle.transfer.specs.Stores.{placesOn, storedPlaces}
+use Rattle.step.specs.Choosing.{requested}
+use Rattle.step.specs.Step.{Step, stepOf}
+use Rattle.step.specs.declared.Kind.{Kind}
+use Rattle.step.specs.declared.Kind.the-variants.{Nothing, Instruction, Transfer, External}
+use Rattle.schedule.specs.Rows.{Bench, isAttention, isStep, rowNumber, rowLeft}
+use Rattle.schedule.specs.declared.ScheduleRow.{ScheduleRow}
+
+-- what each row and the bench before it come to, summed over rows
+unfoldable pub overRows : (Bench → ScheduleRow → ℕ) → Bench → List ScheduleRow → ℕ
+overRows f p [] = 0
+overRows f p (r ∷ rows) = f p r + overRows f (rowLeft p r) rows
+
+-- 1 where a test holds
+abbrev pub onceIf : Bool → ℕ
+onceIf holds = pick holds 1 0
+
+-- ---- over all
+
+-- a row that is done
+unfoldable pub acceptedAt : Bench → ScheduleRow → ℕ
+acceptedAt p r = onceIf (eqb (rowNumber p r) 0)
+
+-- a row that is refused
+unfoldable pub refusedAt : Bench → ScheduleRow → ℕ
+refusedAt p r = onceIf (not (eqb (rowNumber p r) 0))
+
+-- ---- attentions to a channel
+
+-- a row is an attention to this channel
+abbrev pub isAttentionTo : Bool → ScheduleRow → Bool
+isAttentionTo second r = isAttention r && eqb (r .value) (channelNumber second)
+
+-- one that is done
+unfoldable pub attendedAt : Bool → Bench → ScheduleRow → ℕ
+attendedAt second p r = onceIf (isAttentionTo second r && eqb (attentionOf (p .state) (p .memory) (r .value) .number) 0)
+
+-- one that is refused
+unfoldable pub rejectedAt : Bool → Bench → ScheduleRow → ℕ
+rejectedAt second p r = onceIf (isAttentionTo second r && not (eqb (attentionOf (p .state) (p .memory) (r .value) .number) 0))
+
+-- ---- done steps of a channel
+
+-- the kinds of a step, told apart
+abbrev pub isInstruction : Kind → Bool
+isInstruction Nothing = false
+isInstruction Instruction = true
+isInstruction Transfer = false
+isInstruction External = false
+
+abbrev pub isTransfer : Kind → Bool
+isTransfer Nothing = false
+isTransfer Instruction = false
+isTransfer Transfer = true
+isTransfer External = false
+
+abbrev pub isExternal : Kind → Bool
+isExternal Nothing = false
+isExternal Instruction = false
+isExternal Transfer = false
+isExternal External = true
+
+-- a step was done, by this channel, and its kind passes
+abbrev pub isDone : (Kind → Bool) → Bool → Step → Bool
+isDone kind second t = eqb (t .number) 0 && eqb (t .channel) (channelNumber second) && kind (t .kind)
+
+-- a row is such a step
+unfoldable pub doneAt : (Kind → Bool) → Bool → Bench → ScheduleRow → Bool
+doneAt kind second p r = isStep r && isDone kind second (stepOf (p .state) (p .memory) (r .value))
+
+-- an instruction
+unfoldable pub instructionAt : Bool → Bench → ScheduleRow → ℕ
+instructionAt second p r = onceIf (doneAt isInstruction second p r)
+
+-- a transfer step, each half of a pair too
+unfoldable pub transferAt : Bool → Bench → ScheduleRow → ℕ
+transferAt second p r = onceIf (doneAt isTransfer second p r)
+
+-- an external end
+unfoldable pub endAt : Bool → Bench → ScheduleRow → ℕ
+endAt second p r = onceIf (doneAt isExternal second p r)
+
+-- ---- bytes that transfer steps store
+
+-- the places that a transfer step of a part reads
+unfoldable pub readsBy : Part → Channel → Buffers → List Place
+readsBy Whole c m = readPlaces c m
+readsBy FirstFetch c m = firstPlace (source c) ∷ []
+readsBy (SecondFetch byte) c m = secondPlace (source c) ∷ []
+readsBy FirstStore c m = firstPlace (source c) ∷ secondPlace (source c) ∷ []
+readsBy (SecondStore byte) c m = []
+
+-- the places that it stores to, empty slots too; a store that a match prevents is none
+unfoldable pub storesBy : Part → Channel → Buffers → List Place
+storesBy Whole c m = storedPlaces c (dataOf c m)
+storesBy FirstFetch c m = []
+storesBy (SecondFetch byte) c m = placesOn (destination c) true
+storesBy FirstStore c m = firstPlace (destination c) ∷ []
+storesBy (SecondStore byte) c m = secondPlace (destination c) ∷ []
+
+-- how many bytes a row stores that is a transfer step of this channel
+unfoldable pub storedAt : Bool → Bench → ScheduleRow → ℕ
+storedAt second p r =
+    let c = channelOf (p .state) second in
+    pick (doneAt isTransfer second p r) (length (storesBy (partOf c) c (p .memory))) 0
+
+-- ---- rows that found a channel waiting
+
+-- a channel waits for its DRQ: it runs with XF, its fields have SYN 01 or 10, and DRQ is down
+unfoldable pub waitsForDrq : Channel → Bool → Bool
+waitsForDrq c drq =
+    isRunning (c .mode) && transferring (c .psw) && (eqb (c .fields .synchronised) 1 || eqb (c .fields .synchronised) 2) && not drq
+
+-- a step row with a line number up to 15 that found this channel so, whatever becomes of the row
+unfoldable pub waitAt : Bool → Bench → ScheduleRow → ℕ
+waitAt second p r = onceIf (isStep r && ltb (r .value) 16 && waitsForDrq (channelOf (p .state) second) (requested (r .value) second))
