@@ -126,7 +126,7 @@ pub(crate) fn looked_at(bytes: &[u8]) -> State
 }
 
 // The channel of a name.
-pub(crate) fn channel(bytes: &[u8], second: bool) -> Channel
+pub fn channel(bytes: &[u8], second: bool) -> Channel
     requires { ⌜ length (now bytes) ≡ stateLength ⌝ }
     ensures { λ r. ⌜ r ≡ channelOf (stateIn (now (bytes .entry))) second ⌝ }
 {

@@ -26,7 +26,7 @@ ghost use Rattle.service.specs.Calls.{made, served, stepLeft, answerFrom
 // One field of a state in bytes.
 mod fields;
 // A whole state in bytes.
-mod layout;
+pub mod layout;
 
 // The number of a step's kind.
 fn kind_number(kind: Kind) -> u32

@@ -1,0 +1,17 @@
+-- `schedule_calls::finding::request` meets its contract.
+-- Assumes nothing.
+use borrow.Author.Needs.{needs}
+use Rattle.step.specs.Choosing.{requested}
+use Rattle.schedule_calls.proofs.finding.request.Statement.{statement}
+use Rattle.schedule_calls.proofs.finding.request.Tie as tie
+
+returns : tie.Need-returns
+unfolding requested
+returns c = simp (c .bit .ensures, c .before .if1 .taken)
+
+returns-2 : tie.Need-returns-2
+unfolding requested
+returns-2 c = simp (c .bit2 .ensures, c .before .if1 .left)
+
+pub request-spec : {M : Type 1} → statement M
+request-spec = tie.close (tie.spec (λ c κs. search needs) (λ c κs. search needs) returns returns-2)

@@ -1,0 +1,48 @@
+-- `schedule_calls::turn` meets its contract.
+-- Assumes nothing.
+use borrow.Author.Needs.{needs}
+use mathlib.Core.Path.{refl}
+use Rattle.schedule_calls.specs.Turns.{attentionRow, stepRow}
+use Rattle.schedule_calls.proofs.TurnLaws.{row-attends, row-steps, run-as}
+use Rattle.schedule_calls.proofs.turn.Statement.{statement}
+use Rattle.schedule_calls.proofs.turn.Tie as tie
+
+returns : tie.Need-returns
+returns c = record { runs = λ z. absurd (c .if1 .taken z); stays = λ ne. refl }
+
+attend-requires : tie.Need-attend-requires
+attend-requires c κs = c .before .before .before .before .before .before .before .before .before .before .before .pre .ready (c .before .before .before .before .before .before .if1 .left)
+
+step-requires : tie.Need-step-requires
+step-requires c κs = c .before .before .before .before .before .before .before .before .before .before .before .pre .ready (c .before .before .before .before .before .before .if1 .left)
+
+returns-2 : tie.Need-returns-2
+returns-2 c =
+    let a = c .before .before .before .before .before .before .before .before .before .before .before .before .before .before .before .before .before .before .before .before .args in
+    let e = row-attends (a .row) (c .before .before .before .before .before .before .before .before .before .before .before .before .before .if2 .taken) in
+    record { runs = λ z. run-as (attentionRow (a .row .value)) (a .row) e (c .before .before .before .before .before .before .before .before .attend .ensures); stays = λ ne. absurd (ne (c .before .before .before .before .before .before .before .before .before .before .before .before .before .before .before .if1 .left)) }
+
+returns-3 : tie.Need-returns-3
+returns-3 c =
+    let a = c .before .before .before .before .before .before .before .before .before .before .before .before .before .before .before .before .before .before .before .before .args in
+    let zero = c .before .before .before .before .before .before .before .before .before .before .before .before .before .before .before .if1 .left in
+    let e = row-steps (a .row) (c .before .before .before .before .before .before .before .before .before .before .before .before .before .before .before .before .before .before .before .before .pre .known zero) (c .before .before .before .before .before .before .before .before .before .before .before .before .before .if2 .left) in
+    record { runs = λ z. run-as (stepRow (a .row .value)) (a .row) e (c .before .before .before .before .before .before .before .before .step .ensures); stays = λ ne. absurd (ne zero) }
+
+pub turn-spec : {M : Type 1} → statement M
+turn-spec =
+    tie.close
+    (tie.spec
+    returns
+    attend-requires
+    step-requires
+    (λ c. search needs)
+    (λ c. search needs)
+    (λ c. search needs)
+    (λ c. search needs)
+    returns-2
+    (λ c. search needs)
+    (λ c. search needs)
+    (λ c. search needs)
+    (λ c. search needs)
+    returns-3)

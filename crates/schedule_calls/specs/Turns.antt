@@ -1,0 +1,57 @@
+-- What stands between two rows, and what one row makes of it.
+use mathlib.Core.Bool.{true, _||_}
+use mathlib.Core.List.{List}
+use mathlib.Core.Path.{_≡_}
+use Prim.Native.Nat.{ℕ}
+use Rattle.memory.specs.Buffers.{Buffers}
+use Rattle.service.specs.Layout.{bytesOf, stateIn, isState}
+use Rattle.schedule.specs.Rows.{Bench, bench, isAttention, isStep, rowLeft}
+use Rattle.schedule.specs.declared.ScheduleRow.{ScheduleRow}
+use Rattle.schedule_calls.specs.Words.{addedOn, Low, rowWords}
+
+-- a state's bytes, both memories and the report's words
+pub record Standing : Type 0 where
+  pub bytes : List ℕ
+  pub memory : Buffers
+  pub words : List ℕ
+
+abbrev pub standing : List ℕ → Buffers → List ℕ → Standing
+standing b m w = record { bytes = b; memory = m; words = w }
+
+-- the bench that stands there
+abbrev pub benchIn : Standing → Bench
+benchIn x = bench (stateIn (x .bytes)) (x .memory)
+
+-- bytes that are a state, and what it is put as
+pub record StateBytes (b : List ℕ) : Type 0 where
+  pub is : isState b ≡ true
+  pub back : bytesOf (stateIn b) ≡ b
+
+-- what a row needs: a state, and room in every word
+pub record RowReady (x : Standing) : Type 0 where
+  pub state : StateBytes (x .bytes)
+  pub room : Low 4611686018427387904 (x .words)
+
+-- what it makes of it: the bench is what the row leaves, the words have what it counts, and the bytes are a state
+pub record RowRun (r : ScheduleRow) (x y : Standing) : Type 0 where
+  pub bench : benchIn y ≡ rowLeft (benchIn x) r
+  pub words : y .words ≡ addedOn (rowWords (benchIn x) r) (x .words)
+  pub state : StateBytes (y .bytes)
+
+-- a row is run where the number before the first row is 0; else nothing changes
+pub record Turned (number : ℕ) (r : ScheduleRow) (x y : Standing) : Type 0 where
+  pub runs : number ≡ 0 → RowRun r x y
+  pub stays : ¬ (number ≡ 0) → y ≡ x
+
+-- what the turn of a row needs
+pub record TurnReady (number : ℕ) (r : ScheduleRow) (x : Standing) : Type 0 where
+  pub ready : number ≡ 0 → RowReady x
+  pub known : number ≡ 0 → (isAttention r || isStep r) ≡ true
+
+-- a row that is an attention to a channel
+abbrev pub attentionRow : ℕ → ScheduleRow
+attentionRow channel = record { kind = 1; value = channel }
+
+-- a row that is a step with a line number
+abbrev pub stepRow : ℕ → ScheduleRow
+stepRow lines = record { kind = 2; value = lines }
