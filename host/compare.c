@@ -209,11 +209,11 @@ static bool agree(uint64_t number)
 
 /* ---- What was met ---- */
 
-/* The numbers that a run can answer: all but 8, 13, 14 and 15, since it starts with idle channels from a CP, every
- * operation that writes CC renews its fields, and it makes no sweep. */
+/* The numbers that a run can answer: all but 8, 13, 14, 15 and 16, since it starts with idle channels from a CP, every
+ * operation that writes CC renews its fields, and it makes no sweep and has no rows. */
 #define RUN_NUMBERS                                                                              \
     (ALL_NUMBERS & ~(1u << EMU_ALREADY_RUNNING | 1u << EMU_NOT_POWERED_UP | 1u << EMU_FIELDS_DISAGREE | \
-                     1u << EMU_NOT_SWEEPABLE))
+                     1u << EMU_NOT_SWEEPABLE | 1u << EMU_UNKNOWN_ROW))
 
 /* The commands that a fresh channel takes. */
 #define FRESH_COMMANDS (1u << 0 | 1u << 1 | 1u << 3 | 1u << 7)

@@ -1548,8 +1548,15 @@ static void count_held(const struct emu_state *given, unsigned channel, char kin
                  kind == 'I' ? EMU_BESIDE_INSTRUCTION : kind == 'T' ? EMU_BESIDE_TRANSFER : EMU_BESIDE_EXTERNAL);
 }
 
-/* Does the step that a channel has before it, and answers its number and count. */
-static struct emu_answer do_step(struct emu_state *state, const struct emu_memory *memory, unsigned channel, char kind)
+/* How many bytes a transfer step stored: those that are lent, and those that empty slots swallowed. */
+static unsigned stored_by(const struct work *w)
+{
+    return w->stores + w->empty[EMU_DESTINATION];
+}
+
+/* Does the step that a channel has before it, and answers its number and count; a schedule asks what a transfer stored. */
+static struct emu_answer do_step(struct emu_state *state, const struct emu_memory *memory, unsigned channel, char kind,
+                                 unsigned *stored)
 {
     struct work w;
     begin(&w, state, memory, channel);
@@ -1559,11 +1566,13 @@ static struct emu_answer do_step(struct emu_state *state, const struct emu_memor
     else instruction_step(&w);
     count_slots(&w);
     if (w.number == EMU_DONE) count_held(state, channel, kind);
+    if (stored != NULL && kind == 'T') *stored = stored_by(&w);
     return finish(&w, state);
 }
 
 /* A step whose lines, buffers and state passed. */
-static struct emu_stepped step_soundly(struct emu_state *state, const struct emu_memory *memory, uint32_t lines)
+static struct emu_stepped step_soundly(struct emu_state *state, const struct emu_memory *memory, uint32_t lines,
+                                       unsigned *stored)
 {
     struct emu_stepped refused = {EMU_NO_CHANNEL_CAN_RUN, 0, 0, 0}, done = {EMU_DONE, 0, 'X', 0};
     if (externally_ended(state, 1, lines)) done.channel = 1;
@@ -1573,18 +1582,25 @@ static struct emu_stepped step_soundly(struct emu_state *state, const struct emu
         if (done.channel == 0) return refused;
         done.kind = transferring(&state->channel[done.channel - 1]) ? 'T' : 'I';
     }
-    struct emu_answer answer = do_step(state, memory, done.channel, done.kind);
+    struct emu_answer answer = do_step(state, memory, done.channel, done.kind, stored);
     done.count = answer.count;
     refused.number = answer.number;
     return answer.number == EMU_DONE ? done : refused;
 }
 
-struct emu_stepped emu_step(struct emu_state *state, struct emu_memory *memory, uint32_t lines)
+/* A step, and of a done one of a transfer how many bytes it stored, where that is asked. */
+static inline struct emu_stepped step_storing(struct emu_state *state, const struct emu_memory *memory, uint32_t lines,
+                                              unsigned *stored)
 {
     struct emu_stepped stepped = {early_refusal(lines <= 15, memory, state), 0, 0, 0};
-    if (stepped.number == EMU_DONE) stepped = step_soundly(state, memory, lines);
+    if (stepped.number == EMU_DONE) stepped = step_soundly(state, memory, lines, stored);
     if (emu_coverage != NULL) count_refused(emu_coverage->step_refused, state, stepped.number);
     return stepped;
+}
+
+struct emu_stepped emu_step(struct emu_state *state, struct emu_memory *memory, uint32_t lines)
+{
+    return step_storing(state, memory, lines, NULL);
 }
 
 /* ---- Sweeps ---- */
@@ -1744,6 +1760,71 @@ struct emu_swept emu_sweep(struct emu_state *state, struct emu_memory *memory, u
     bool arguments_good = (channel == 1 || channel == 2) && lines <= 15;
     struct emu_swept refused = {early_number(arguments_good, memory, state), 0, 0};
     return refused.number == EMU_DONE ? sweep_soundly(state, memory, channel, lines) : refused;
+}
+
+/* ---- Schedules ---- */
+
+/* Whether a row is an attention or a step. */
+static bool is_known(struct emu_row row)
+{
+    return row.kind == EMU_ROW_ATTENTION || row.kind == EMU_ROW_STEP;
+}
+
+/* It runs with XF, its field SYN is 01 or 10, and its DRQ is down; a number over 15 says nothing of a line. */
+bool emu_waits(const struct emu_state *state, unsigned channel, uint32_t lines)
+{
+    const struct emu_channel *ch = &state->channel[channel - 1];
+    bool synchronised = ch->fields.syn == 1 || ch->fields.syn == 2;
+    return lines <= 15 && ch->mode == EMU_RUNNING && transferring(ch) && synchronised &&
+           !line_up(lines, LINE_DRQ, channel);
+}
+
+/* Counts a row that came to this number over all. */
+static void count_row(struct emu_report *report, unsigned number)
+{
+    if (number == EMU_DONE) report->accepted++;
+    else report->refused++;
+}
+
+/* Runs an attention; one to no channel counts over all only. */
+static void run_attention(struct emu_state *state, struct emu_memory *memory, uint32_t channel,
+                          struct emu_report *report)
+{
+    unsigned number = emu_attention(state, memory, channel).number;
+    count_row(report, number);
+    if (channel != 1 && channel != 2) return;
+    struct emu_tally *tally = &report->channel[channel - 1];
+    if (number == EMU_DONE) tally->attentions_accepted++;
+    else tally->attentions_refused++;
+}
+
+/* Runs a step; who waits is asked before it, and a refused one belongs to no channel. */
+static void run_step(struct emu_state *state, struct emu_memory *memory, uint32_t lines, struct emu_report *report)
+{
+    for (unsigned channel = 1; channel <= 2; channel++)
+        if (emu_waits(state, channel, lines)) report->channel[channel - 1].waiting_rows++;
+    unsigned stored = 0;
+    struct emu_stepped stepped = step_storing(state, memory, lines, &stored);
+    count_row(report, stepped.number);
+    if (stepped.number != EMU_DONE) return;
+    struct emu_tally *tally = &report->channel[stepped.channel - 1];
+    if (stepped.kind == 'I') tally->instructions++;
+    if (stepped.kind == 'T') tally->transfer_steps++;
+    if (stepped.kind == 'X') tally->external_ends++;
+    tally->bytes_stored += stored;
+}
+
+unsigned emu_schedule(struct emu_state *state, struct emu_memory *memory, const struct emu_row *rows, size_t count,
+                      struct emu_report *report)
+{
+    memset(report, 0, sizeof *report);
+    for (size_t i = 0; i < count; i++)
+        if (!is_known(rows[i])) return EMU_UNKNOWN_ROW;
+    for (size_t i = 0; i < count; i++) {
+        if (rows[i].kind == EMU_ROW_ATTENTION) run_attention(state, memory, rows[i].value, report);
+        else run_step(state, memory, rows[i].value, report);
+    }
+    return EMU_DONE;
 }
 
 /* ---- The panel's side ---- */

@@ -34,7 +34,8 @@ enum emu_number {
     EMU_NOT_POWERED_UP = 13,
     EMU_FIELDS_DISAGREE = 14,
     EMU_NOT_SWEEPABLE = 15,
-    EMU_NUMBERS = 16
+    EMU_UNKNOWN_ROW = 16,
+    EMU_NUMBERS = 17
 };
 
 /* Bits of the PSW. */
@@ -122,6 +123,26 @@ struct emu_stepped {
 struct emu_swept {
     unsigned number;
     uint32_t steps, count;
+};
+
+/* A row of a schedule: its kind, and the channel of an attention or the line number of a step. */
+struct emu_row {
+    uint32_t kind, value;
+};
+
+/* The kinds of rows that are known. */
+enum emu_row_kind { EMU_ROW_ATTENTION = 1, EMU_ROW_STEP = 2 };
+
+/* What a schedule counts of one channel. */
+struct emu_tally {
+    uint64_t attentions_accepted, attentions_refused, instructions, transfer_steps, bytes_stored, external_ends,
+        waiting_rows;
+};
+
+/* What a schedule counts: rows over all, and of each channel. */
+struct emu_report {
+    uint64_t accepted, refused;
+    struct emu_tally channel[2];
 };
 
 /* What bars a sweep: the lines, the two channels, the fields of CC in the paper's order, the two ranges. */
@@ -305,6 +326,14 @@ unsigned emu_bars(const struct emu_state *state, const struct emu_memory *memory
 
 /* What bars a sweep, in words. */
 const char *emu_bar_name(enum emu_bar bar);
+
+/* Runs the rows of a schedule in order, refused ones too, and counts what they did; answers 16, and does nothing, where a
+ * row is of unknown kind. */
+unsigned emu_schedule(struct emu_state *state, struct emu_memory *memory, const struct emu_row *rows, size_t count,
+                      struct emu_report *report);
+
+/* Whether a step under these lines finds a channel, 1 or 2, waiting for its request. */
+bool emu_waits(const struct emu_state *state, unsigned channel, uint32_t lines);
 
 /* The panel's call: fresh state, one attention, steps; answers number x 65,536 + steps done. */
 uint32_t emu_run(struct emu_memory *memory, uint32_t cp, uint32_t channel, uint32_t lines, uint32_t limit);

@@ -4755,6 +4755,299 @@ static void test_sweep_coverage(void)
     CHECK(strcmp(emu_bar_name(EMU_BAR_SHARED), "a byte in both ranges") == 0);
 }
 
+/* ---- Schedules ---- */
+
+/* Rows as a case writes them. */
+#define CA(channel) {EMU_ROW_ATTENTION, (channel)}
+#define STEP(lines) {EMU_ROW_STEP, (lines)}
+
+/* Whether two reports agree. */
+static bool same_report(const struct emu_report *a, const struct emu_report *b)
+{
+    bool same = a->accepted == b->accepted && a->refused == b->refused;
+    for (unsigned i = 0; i < 2; i++) {
+        const struct emu_tally *x = &a->channel[i], *y = &b->channel[i];
+        same = same && x->attentions_accepted == y->attentions_accepted && x->attentions_refused == y->attentions_refused;
+        same = same && x->instructions == y->instructions && x->transfer_steps == y->transfer_steps;
+        same = same && x->bytes_stored == y->bytes_stored && x->external_ends == y->external_ends;
+        same = same && x->waiting_rows == y->waiting_rows;
+    }
+    return same;
+}
+
+/* Runs rows on the rig and wants this number and this report; what stood in the report before does not count. */
+static void scheduled(const struct emu_row *rows, size_t count, unsigned number, struct emu_report wanted, int line)
+{
+    struct emu_report report;
+    memset(&report, 0xEE, sizeof report);
+    check(emu_schedule(&now.s, &now.m, rows, count, &report) == number, "number of schedule", line);
+    check(same_report(&report, &wanted), "report as wanted", line);
+}
+
+/* The report of these counts: accepted, refused, and seven of each channel in the report's order. */
+#define REPORT(...) (struct emu_report){__VA_ARGS__}
+
+/* Rows, written out, and their report. */
+#define SCHEDULED(rows, ...) scheduled((rows), sizeof(rows) / sizeof((rows)[0]), 0, REPORT(__VA_ARGS__), __LINE__)
+
+/* A card that drops its request after each byte, in both directions: four halves, and a row that waits before each. */
+static void test_schedule_card(void)
+{
+    static const struct emu_row rows[] = {STEP(0), STEP(1), STEP(0), STEP(1), STEP(0), STEP(1), STEP(0), STEP(1)};
+    transfer(EMU_PSW_D, 0xC808, 4);
+    want_same();
+    want_sys(0x2000, "11 22 33 44");
+    SCHEDULED(rows, 4, 4, {{0, 0, 0, 4, 4, 0, 4}, {0}});
+    CHECK(memcmp(now.sys, want.sys, sizeof now.sys) == 0 && N.bc == 0 && (N.psw & EMU_PSW_XF) == 0);
+    transfer(EMU_PSW_S, 0xD008, 4);
+    SCHEDULED(rows, 4, 4, {{0, 0, 0, 4, 4, 0, 4}, {0}});
+    CHECK(memcmp(now.sys, want.sys, sizeof now.sys) == 0 && N.bc == 0 && (N.psw & EMU_PSW_XF) == 0);
+    /* a first fetch stores nothing, and the word is stored with the second */
+    transfer(EMU_PSW_D, 0xC808, 4);
+    scheduled(rows, 2, 0, REPORT(1, 1, {{0, 0, 0, 1, 0, 0, 1}, {0}}), __LINE__);
+    scheduled(rows, 2, 0, REPORT(1, 1, {{0, 0, 0, 1, 2, 0, 1}, {0}}), __LINE__);
+    /* of two stores each has its own */
+    transfer(EMU_PSW_S, 0xD008, 4);
+    scheduled(rows, 2, 0, REPORT(1, 1, {{0, 0, 0, 1, 1, 0, 1}, {0}}), __LINE__);
+    scheduled(rows, 2, 0, REPORT(1, 1, {{0, 0, 0, 1, 1, 0, 1}, {0}}), __LINE__);
+}
+
+/* What transfer steps store: bytes, words, a word of which a match lets one byte by, and what empty slots swallow. */
+static void test_schedule_stored(void)
+{
+    static const struct emu_row one[] = {STEP(0)};
+    static const unsigned both = EMU_PSW_S | EMU_PSW_D;
+    static const struct {
+        unsigned widths, cc, bc, stored;
+    } cases[] = {{0, 0xC000, 4, 1},         {both, 0xC000, 4, 2}, {EMU_PSW_S, 0xC000, 4, 2}, {EMU_PSW_D, 0xC000, 4, 2},
+                 {both, 0xC008, 1, 1},      {0, 0xE000, 4, 1},    {EMU_PSW_S, 0xC001, 4, 1}, {EMU_PSW_S, 0xC009, 2, 1},
+                 {EMU_PSW_D, 0xC001, 4, 2}, {both, 0xC001, 4, 2}, {0, 0xC001, 4, 1}};
+    for (unsigned i = 0; i < sizeof cases / sizeof cases[0]; i++) {
+        for (unsigned lent = 0; lent < 2; lent++) {
+            transfer(cases[i].widths, cases[i].cc, cases[i].bc);
+            N.mc = 0xFF11;
+            N.gb.tag = true;
+            now.m.io_len = lent == 0 ? 0x2000 : EMU_IO_LIMIT;
+            SCHEDULED(one, 1, 0, {{0, 0, 0, 1, cases[i].stored, 0, 0}, {0}});
+        }
+    }
+    /* BC fell by 2 where one byte was stored */
+    transfer(EMU_PSW_S, 0xC001, 4);
+    N.mc = 0xFF11;
+    SCHEDULED(one, 1, 0, {{0, 0, 0, 1, 1, 0, 0}, {0}});
+    CHECK(N.bc == 2 && N.gb.address == 0x2001);
+    /* a half that a match ends stored one too */
+    transfer(EMU_PSW_S, 0xD001, 4);
+    N.mc = 0xFF11;
+    static const struct emu_row asked[] = {STEP(1)};
+    SCHEDULED(asked, 1, 0, {{0, 0, 0, 1, 1, 0, 0}, {0}});
+    CHECK(N.bc == 2 && (N.psw & EMU_PSW_XF) == 0);
+    /* what an instruction stores is not among them, nor what a refused step would have stored */
+    reset();
+    code("11 4C 34 12");
+    SCHEDULED(one, 1, 0, {{0, 0, 1, 0, 0, 0, 0}, {0}});
+    transfer(0, 0xC000, 4);
+    now.m.sys_len = 0x2000;
+    SCHEDULED(one, 0, 1, {{0}, {0}});
+}
+
+/* Which rows find a channel waiting: by its mode, XF, SYN and the lines. */
+static void test_schedule_waits(void)
+{
+    for (uint32_t lines = 0; lines < 20; lines++) {
+        for (unsigned syn = 0; syn < 4; syn++) {
+            struct emu_row row = STEP(lines);
+            transfer(0, 0xC000 | syn << 11, 9);
+            N2 = N;
+            bool synchronised = syn == 1 || syn == 2, line = lines <= 15;
+            bool waits1 = line && synchronised && lines % 2 == 0, waits2 = line && synchronised && lines / 2 % 2 == 0;
+            bool moves = line && syn != 3 && !(waits1 && waits2), first = moves && !waits1 && now.s.last == 2;
+            bool second = moves && !first;
+            scheduled(&row, 1, 0,
+                      REPORT(moves, !moves, {{0, 0, 0, first, first, 0, waits1}, {0, 0, 0, second, second, 0, waits2}}),
+                      __LINE__);
+            CHECK(emu_waits(&now.s, 1, lines) == waits1 && emu_waits(&now.s, 2, lines) == waits2);
+        }
+    }
+    /* not without XF, nor idle or suspended; with a held byte as without */
+    static const struct emu_row one[] = {STEP(0)};
+    for (unsigned i = 0; i < 3; i++) {
+        transfer(EMU_PSW_D, 0xC800, 9);
+        N.mode = (enum emu_mode)i;
+        SCHEDULED(one, 0, 1, {{0, 0, 0, 0, 0, 0, i == EMU_RUNNING}, {0}});
+        N.held = EMU_HELD;
+        SCHEDULED(one, 0, 1, {{0, 0, 0, 0, 0, 0, i == EMU_RUNNING}, {0}});
+    }
+    transfer(EMU_PSW_D, 0xC800, 9);
+    N.psw &= (uint8_t)~EMU_PSW_XF;
+    sys(0x100, "00 00");
+    SCHEDULED(one, 1, 0, {{0, 0, 1, 0, 0, 0, 0}, {0}});
+}
+
+/* A waiting row counts whatever becomes of it: done by the other channel, ended by EXT, refused. */
+static void test_schedule_waits_anyway(void)
+{
+    static const struct emu_row none[] = {STEP(0)}, ext[] = {STEP(4)}, all[] = {STEP(15)};
+    /* the other channel's instruction */
+    transfer(0, 0xC800, 9);
+    N2.mode = EMU_RUNNING;
+    N2.tp.address = 0x180;
+    sys(0x180, "00 00");
+    SCHEDULED(none, 1, 0, {{0, 0, 0, 0, 0, 0, 1}, {0, 0, 1, 0, 0, 0, 0}});
+    /* its own external end, with DRQ down and up */
+    transfer(0, 0xC820, 9);
+    SCHEDULED(ext, 1, 0, {{0, 0, 0, 0, 0, 1, 1}, {0}});
+    transfer(0, 0xC820, 9);
+    SCHEDULED(all, 1, 0, {{0, 0, 0, 0, 0, 1, 0}, {0}});
+    /* the other one's, and that one refused by 5 or 3 */
+    transfer(0, 0xC800, 9);
+    N2 = N;
+    emu_set_cc(&N2, 0xC040);
+    static const struct emu_row ext2[] = {STEP(8)};
+    SCHEDULED(ext2, 1, 0, {{0, 0, 0, 0, 0, 0, 1}, {0, 0, 0, 0, 0, 1, 0}});
+    transfer(0, 0xC800, 9);
+    N2 = N;
+    emu_set_cc(&N2, 0xD800);
+    SCHEDULED(none, 0, 1, {{0, 0, 0, 0, 0, 0, 1}, {0}});
+    transfer(0, 0xC800, 9);
+    N2.mode = EMU_RUNNING;
+    N2.tp.address = 0x180;
+    sys(0x180, "20 00");
+    SCHEDULED(none, 0, 1, {{0, 0, 0, 0, 0, 0, 1}, {0}});
+    /* refused by 10, 11, 13, 14 */
+    for (unsigned i = 0; i < 4; i++) {
+        transfer(0, 0xC800, 9);
+        if (i == 0) N2.gc.address = 0x100000;
+        if (i == 1) now.m.io_len = EMU_IO_LIMIT + 1;
+        if (i == 2) now.s.powered = false;
+        if (i == 3) N2.cc ^= 1;
+        SCHEDULED(none, 0, 1, {{0, 0, 0, 0, 0, 0, 1}, {0}});
+        now.m.io_len = EMU_IO_LIMIT;
+    }
+    /* SYN by the field and not by CC, either way round */
+    transfer(0, 0xC800, 9);
+    N.cc = 0xC000;
+    SCHEDULED(none, 0, 1, {{0, 0, 0, 0, 0, 0, 1}, {0}});
+    transfer(0, 0xC000, 9);
+    N.cc = 0xC800;
+    SCHEDULED(none, 0, 1, {{0}, {0}});
+    /* the state before the row counts: the one that sets XF does not wait, the next does */
+    transfer(0, 0xC800, 9);
+    N.psw = EMU_PSW_TB;
+    N.armed = true;
+    sys(0x100, "00 00");
+    static const struct emu_row two[] = {STEP(0), STEP(0)};
+    SCHEDULED(two, 1, 1, {{0, 0, 1, 0, 0, 0, 1}, {0}});
+}
+
+/* Attentions: accepted and refused ones of each channel, and those to none. */
+static void test_schedule_attentions(void)
+{
+    static const struct emu_row rows[] = {CA(1), CA(2), CA(2), CA(3), CA(0), CA(0xFFFFFFFF), CA(257), CA(1)};
+    reset();
+    N.mode = EMU_IDLE;
+    sys(0x40, "00 00");
+    sys(0x48, "02 00");
+    want_same();
+    SCHEDULED(rows, 2, 6, {{2, 0, 0, 0, 0, 0, 0}, {0, 2, 0, 0, 0, 0, 0}});
+    check_all(__LINE__);
+    /* a start is accepted once, and steps under a number over 15 belong to no channel */
+    static const struct emu_row start[] = {CA(2), CA(2), STEP(0), STEP(16), STEP(0xFFFFFFFF), STEP(0)};
+    reset();
+    N.mode = EMU_IDLE;
+    sys(0x48, "03 00 00 05 00 00");
+    sys(0x500, "00 06 00 00");
+    sys(0x600, "00 00 20 48");
+    SCHEDULED(start, 3, 3, {{0}, {1, 1, 2, 0, 0, 0, 0}});
+    CHECK(N2.mode == EMU_IDLE && now.s.last == 2);
+}
+
+/* 16: found before the first row is run, at any place and for any number but 1 and 2. */
+static void test_schedule_unknown(void)
+{
+    static const uint32_t kinds[] = {0, 3, 4, 255, 257, 258, 65537, 65538, 0x80000001, 0xFFFFFFFF};
+    for (unsigned i = 0; i < sizeof kinds / sizeof kinds[0]; i++) {
+        for (unsigned at = 0; at < 3; at++) {
+            struct emu_row rows[3] = {STEP(0), STEP(0), STEP(0)};
+            rows[at].kind = kinds[i];
+            transfer(0, 0xC000, 9);
+            want_same();
+            scheduled(rows, 3, 16, REPORT(0, 0, {{0}, {0}}), __LINE__);
+            check_all(__LINE__);
+        }
+    }
+    /* it looks at no state and no memory; no rows at all are done, and change nothing */
+    static const struct emu_row unknown[] = {{0, 0}};
+    transfer(0, 0xC800, 9);
+    now.s.cp = 0x100000;
+    now.m.sys_len = MIB + 1;
+    want_same();
+    scheduled(unknown, 1, 16, REPORT(0, 0, {{0}, {0}}), __LINE__);
+    scheduled(unknown, 0, 0, REPORT(0, 0, {{0}, {0}}), __LINE__);
+    now.m.sys_len = MIB;
+    check_all(__LINE__);
+}
+
+/* Adds the counts of a second report to a first. */
+static void add_report(struct emu_report *to, const struct emu_report *from)
+{
+    to->accepted += from->accepted;
+    to->refused += from->refused;
+    for (unsigned i = 0; i < 2; i++) {
+        struct emu_tally *x = &to->channel[i];
+        const struct emu_tally *y = &from->channel[i];
+        x->attentions_accepted += y->attentions_accepted;
+        x->attentions_refused += y->attentions_refused;
+        x->instructions += y->instructions;
+        x->transfer_steps += y->transfer_steps;
+        x->bytes_stored += y->bytes_stored;
+        x->external_ends += y->external_ends;
+        x->waiting_rows += y->waiting_rows;
+    }
+}
+
+/* Whether the counts of a report of so many rows stand to each other as they must. */
+static bool adds_up(const struct emu_report *r, uint64_t rows)
+{
+    const struct emu_tally *x = &r->channel[0], *y = &r->channel[1];
+    uint64_t attended = x->attentions_accepted + y->attentions_accepted;
+    uint64_t done_steps = x->instructions + x->transfer_steps + x->external_ends + y->instructions + y->transfer_steps +
+                          y->external_ends;
+    return r->accepted + r->refused == rows && r->accepted == attended + done_steps &&
+           x->bytes_stored <= 2 * x->transfer_steps && y->bytes_stored <= 2 * y->transfer_steps;
+}
+
+/* Schedules of made-up rows on made-up machines: cut in two, they leave the same and their counts add. */
+static void test_schedule_cut(void)
+{
+    unsigned unlike = 0;
+    for (unsigned i = 0; i < 20000; i++) {
+        uint8_t a[256], b[256], a0[256], b0[256];
+        struct emu_memory m = {a, sizeof a, b, made_up() % 257}, m0 = {a0, sizeof a0, b0, m.io_len};
+        struct emu_state s, s0;
+        struct emu_row rows[24];
+        struct emu_report whole, first, second;
+        size_t count = made_up() % 25, cut = made_up() % (count + 1);
+        for (unsigned j = 0; j < 256; j++) a[j] = a0[j] = (uint8_t)made_up(), b[j] = b0[j] = (uint8_t)(made_up() % 4);
+        for (size_t j = 0; j < count; j++) {
+            bool attention = made_up() % 8 == 0;
+            rows[j] = (struct emu_row){attention ? 1 : 2, made_up() % (attention ? 4 : 17)};
+        }
+        emu_fresh(made_up() % 200, &s);
+        made_up_channel(&s.channel[0]);
+        made_up_channel(&s.channel[1]);
+        s0 = s;
+        unlike += emu_schedule(&s, &m, rows, count, &whole) != 0;
+        unlike += emu_schedule(&s0, &m0, rows, cut, &first) != 0;
+        unlike += emu_schedule(&s0, &m0, rows + cut, count - cut, &second) != 0;
+        unlike += !adds_up(&whole, count) || !adds_up(&first, cut) || !adds_up(&second, count - cut);
+        add_report(&first, &second);
+        unlike += !same_report(&whole, &first) || !emu_same_state(&s, &s0);
+        unlike += memcmp(a, a0, sizeof a) != 0 || memcmp(b, b0, sizeof b) != 0;
+    }
+    CHECK(unlike == 0);
+}
+
 /* Runs every case and fails if one check did. */
 int main(void)
 {
@@ -4837,6 +5130,13 @@ int main(void)
     test_sweep_order();
     test_sweep_plainly();
     test_sweep_coverage();
+    test_schedule_card();
+    test_schedule_stored();
+    test_schedule_waits();
+    test_schedule_waits_anyway();
+    test_schedule_attentions();
+    test_schedule_unknown();
+    test_schedule_cut();
     printf("%lu checks, %lu failures\n", checks, failures);
     return failures == 0 ? 0 : 1;
 }

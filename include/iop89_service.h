@@ -24,6 +24,9 @@ extern "C" {
 /* The number for a sweep whose conditions are not met: see iop89_sweep. */
 #define IOP89_NOT_SWEEPABLE 15u
 
+/* The number for a schedule with a row of unknown kind: see iop89_schedule. */
+#define IOP89_UNKNOWN_ROW 16u
+
 /* The number for bytes that are no state: of another length or version, or with a mode, flag, field or held byte out of
  * range. */
 #define IOP89_NO_STATE 17u
@@ -85,13 +88,66 @@ uint64_t iop89_sweep(uint8_t *state, size_t state_len, uint8_t *sys, size_t sys_
 #define IOP89_SWEEP_STEPS(answer) (IOP89_LOW_32(answer) >> 8)
 #define IOP89_SWEEP_COUNT(answer) IOP89_LOW_32((answer) >> 32)
 
+/* A row of a schedule: its kind, and the channel that an attention goes to or the line number of a step. */
+struct iop89_row {
+    uint32_t kind, value;
+};
+
+/* The kinds of rows; 0 and all from 3 on are unknown. */
+enum iop89_row_kind { IOP89_ROW_ATTENTION = 1, IOP89_ROW_STEP = 2 };
+
+/* How many counts a report has, and the place of each: rows over all, then what belongs to channel 1 and to channel 2. */
+#define IOP89_REPORT_LENGTH 16u
+enum iop89_report {
+    IOP89_ROWS_ACCEPTED = 0,
+    IOP89_ROWS_REFUSED = 1,
+    IOP89_ATTENTIONS_ACCEPTED_1 = 2,
+    IOP89_ATTENTIONS_REFUSED_1 = 3,
+    IOP89_INSTRUCTIONS_1 = 4,
+    IOP89_TRANSFER_STEPS_1 = 5,
+    IOP89_BYTES_STORED_1 = 6,
+    IOP89_EXTERNAL_ENDS_1 = 7,
+    IOP89_WAITING_ROWS_1 = 8,
+    IOP89_ATTENTIONS_ACCEPTED_2 = 9,
+    IOP89_ATTENTIONS_REFUSED_2 = 10,
+    IOP89_INSTRUCTIONS_2 = 11,
+    IOP89_TRANSFER_STEPS_2 = 12,
+    IOP89_BYTES_STORED_2 = 13,
+    IOP89_EXTERNAL_ENDS_2 = 14,
+    IOP89_WAITING_ROWS_2 = 15
+};
+
+/* The place of a count, named as channel 1's, for a channel, 1 or 2. */
+#define IOP89_REPORT_AT(channel, count) ((count) + 7u * ((channel) - 1u))
+
+/*
+ * Runs the rows in order, each as iop89_attention or iop89_step would, and counts what they did. A refused row changes
+ * nothing, is counted, and the next one follows. Answers 0; 17 first, for bytes that are no state; or 16 where a row is
+ * of unknown kind, which is found before the first row is run. No other number is answered, and nothing else is tested
+ * before the first row.
+ *   state, state_len     the state that the first row is given; the last one leaves its own there
+ *   rows, row_count      the rows, any number of them; they are only read
+ *   report, report_len   gets the counts, whatever stood there: of a report shorter than 16 those that have room are
+ *                        written, of a longer one the rest stays. With 16 and 17 they are zeros, and state and memories
+ *                        stay.
+ * The counts: instructions, transfer steps and external ends are done ones, halves are transfer steps each. Stored are the
+ * bytes that transfer steps stored, those into empty slots too. A waiting row is a step with a line number up to 15 that
+ * found the channel running with XF, SYN 01 or 10 by its field, and its DRQ down, whatever became of the row; one row can
+ * be so for both channels. A refused step belongs to no channel, nor does an attention to one that is neither 1 nor 2:
+ * these count over all only. Accepted and refused rows add up to row_count.
+ * A schedule cut in two, the second with what the first left, leaves the same, and the two reports add up to the whole's.
+ * Rows and report are aligned as C aligns them and overlap no other buffer.
+ */
+uint32_t iop89_schedule(uint8_t *state, size_t state_len, const struct iop89_row *rows, size_t row_count, uint8_t *sys,
+                        size_t sys_len, uint8_t *io, size_t io_len, uint64_t *report, size_t report_len);
+
 /* The run of iop89.h with reset and power-up in the place of a CP: 12, 11, power-up's 2, then one attention and steps.
  * The answer is iop89_run's. */
 uint32_t iop89_board(uint8_t *sys, size_t sys_len, uint8_t *io, size_t io_len, uint32_t channel, uint32_t lines,
                      uint32_t limit);
 
 /* Of the calls on a state: 17 comes before every other number, and a refused call changes no byte, but for iop89_fresh
- * with 10.
+ * with 10 and a schedule's report.
  * The buffers must not overlap each other, and no pointer may be null, also where its length is 0. */
 
 /* ---- Where the bytes of a state are; numbers stand little end first ---- */
@@ -238,6 +294,7 @@ static inline const char *iop89_service_words(unsigned number)
     case IOP89_NOT_POWERED_UP: return "not powered up";
     case IOP89_FIELDS_DISAGREE: return "CC of a channel and its fields disagree";
     case IOP89_NOT_SWEEPABLE: return "the transfer cannot be swept";
+    case IOP89_UNKNOWN_ROW: return "a row of unknown kind";
     case IOP89_NO_STATE: return "the bytes are no state";
     default: return iop89_words(number);
     }
