@@ -222,8 +222,12 @@ $(SERVICE_LIB): $(SERVICE_CRATES:%=build/%.sums)
 	@for crate in $(SERVICE_CRATES); do tools/prove staticlib $$crate || exit $$?; done
 	@AR="$(X86_AR)" tools/join-archives $@ $(SERVICE_CRATES:%=target/staticlib/lib%.a)
 
-COMPARE_SERVICE = $(addprefix host/,compare_service.c fences.c state_bytes.c)
-COMPARE_SERVICE_H = $(addprefix host/,fences.h state_bytes.h) include/iop89_service.h
+# Random states in bytes, on which single calls and schedules are compared.
+STATES = $(addprefix host/,states.c state_bytes.c)
+STATES_H = $(addprefix host/,states.h state_bytes.h) include/iop89_service.h
+
+COMPARE_SERVICE = $(addprefix host/,compare_service.c fences.c) $(STATES)
+COMPARE_SERVICE_H = host/fences.h $(STATES_H)
 
 build/compare_service: $(COMPARE_SERVICE) $(COMPARE_SERVICE_H) $(COMMON) $(COMMON_H) $(SERVICE_LIB) | x86-compiler
 	$(X86_CC) $(STRICT) $(CFLAGS) -Iinclude $(COMPARE_SERVICE) $(COMMON) $(SERVICE_LIB) $(X86_LDFLAGS) -o $@

@@ -6,6 +6,7 @@
 #include "iop89_service.h"
 #include "met.h"
 #include "state_bytes.h"
+#include "states.h"
 
 #include <inttypes.h>
 #include <stdlib.h>
@@ -135,135 +136,17 @@ static uint32_t by_archive(const struct run_case *c, struct call call)
 
 /* ---- What comes next ---- */
 
-/* A register's value: any, or one that fits a program. */
-static uint32_t some_value(struct dice *d, const struct run_case *c, enum iop89_register which)
+/* Gives the emulator's side the bytes of the archive's state. */
+static void share_state(void)
 {
-    switch (which) {
-    case IOP89_GA: case IOP89_GB: case IOP89_GC: case IOP89_TP: case IOP89_PP:
-        if (chance(d, 10)) return chance(d, 500) ? 1048576 + below(d, 4) : (uint32_t)roll(d);
-        return chance(d, 800) ? below(d, c->sys_len + 4) & MASK20 : below(d, 1048576);
-    case IOP89_CC: return transfer_cc(d);
-    case IOP89_BC: return transfer_count(d);
-    case IOP89_MC: return transfer_mc(d);
-    case IOP89_MODE: return chance(d, 700) ? 1 : below(d, 3);
-    case IOP89_HELD: return chance(d, 700) ? IOP89_HELD_BYTE(below(d, 256)) : 0;
-    case IOP89_PSW: return below(d, 256);
-    case IOP89_IX: return below(d, 65536);
-    default: return below(d, 2);
-    }
-}
-
-/* Sets a register of a channel; CC mostly with its fields. */
-static void set_register(struct dice *d, unsigned channel, enum iop89_register which, uint32_t value)
-{
-    if (which == IOP89_CC && chance(d, 970)) iop89_set_cc(proved.state, channel, value);
-    else iop89_set(proved.state, channel, which, value);
-}
-
-/* Sets some registers, in both sides' bytes. */
-static void poke(struct dice *d, const struct run_case *c)
-{
-    static const enum iop89_register all[] = {IOP89_GA, IOP89_GA_TAG, IOP89_GB, IOP89_GB_TAG, IOP89_GC,  IOP89_GC_TAG,
-                                              IOP89_TP, IOP89_TP_TAG, IOP89_PP, IOP89_BC,     IOP89_IX,  IOP89_CC,
-                                              IOP89_MC, IOP89_PSW,    IOP89_MODE, IOP89_ARMED, IOP89_HELD};
-    for (unsigned i = 1 + below(d, 4); i > 0; i--) {
-        enum iop89_register which = ONE_OF(d, all);
-        set_register(d, 1 + below(d, 2), which, some_value(d, c, which));
-    }
-    if (chance(d, 60)) iop89_set_cp(proved.state, choose_cp(d, c->sys_len));
-    if (chance(d, 60)) iop89_set_last(proved.state, 1 + below(d, 2));
-    if (chance(d, 60)) proved.state[IOP89_AT_POWERED + below(d, 4)] = (uint8_t)below(d, 2);
-    memcpy(emulated.state, proved.state, STATE_BYTES);
-}
-
-/* Puts a channel into a transfer of pairs by its registers, mostly with nothing held yet, in both sides' bytes. */
-static void pair_up(struct dice *d, const struct run_case *c)
-{
-    static struct program p;
-    unsigned channel = 1 + below(d, 2);
-    new_program(&p, d, c->sys_len, c->io_len);
-    struct pairs s = some_pairs(&p);
-    for (unsigned i = 0; i < 2; i++) {
-        iop89_set(proved.state, channel, i == 0 ? IOP89_GA : IOP89_GB, s.address[i]);
-        iop89_set(proved.state, channel, i == 0 ? IOP89_GA_TAG : IOP89_GB_TAG, s.in_io[i]);
-    }
-    iop89_set_cc(proved.state, channel, s.cc);
-    iop89_set(proved.state, channel, IOP89_BC, s.bc);
-    iop89_set(proved.state, channel, IOP89_MC, s.mc);
-    iop89_set(proved.state, channel, IOP89_PSW, (below(d, 256) & ~3u) | EMU_PSW_XF | EMU_PSW_TB | s.widths);
-    iop89_set(proved.state, channel, IOP89_MODE, IOP89_RUNNING);
-    if (chance(d, 500)) iop89_set(proved.state, channel, IOP89_HELD, some_value(d, c, IOP89_HELD));
-    memcpy(emulated.state, proved.state, STATE_BYTES);
-}
-
-/* Fills the bytes of a state with anything, then makes them one, mostly with pointers of 20 bits and CC's own fields. */
-static void any_state(struct dice *d, const struct run_case *c)
-{
-    static const enum iop89_register pointers[] = {IOP89_GA, IOP89_GB, IOP89_GC, IOP89_TP, IOP89_PP};
-    fill(d, proved.state, STATE_BYTES);
-    for (unsigned i = 0; i < 10; i++)
-        if (chance(d, 990)) iop89_set(proved.state, 1 + i / 5, pointers[i % 5], some_value(d, c, pointers[i % 5]));
-    if (chance(d, 950)) iop89_set_cp(proved.state, choose_cp(d, c->sys_len));
-    proved.state[0] = IOP89_STATE_VERSION;
-    for (enum state_fault fault = FAULT_LAST; fault < STATE_FAULTS; fault++)
-        proved.state[state_fault_at(fault)] = (uint8_t)below(d, state_fault_from(fault));
-    for (unsigned channel = 1; channel <= 2; channel++)
-        set_register(d, channel, IOP89_CC, iop89_get(proved.state, channel, IOP89_CC));
-    for (unsigned channel = 1; channel <= 2; channel++)
-        iop89_set(proved.state, channel, IOP89_HELD, some_value(d, c, IOP89_HELD));
-    if (chance(d, 900)) proved.state[IOP89_AT_POWERED] = 1;
-    memcpy(emulated.state, proved.state, STATE_BYTES);
-}
-
-/* Spoils a byte that only some values may have, in both sides' bytes; mostly by as little as can be. At times all the
- * bytes become anything. */
-static void damage(struct dice *d)
-{
-    if (chance(d, 100)) {
-        fill(d, proved.state, STATE_BYTES);
-        if (chance(d, 800)) proved.state[0] = IOP89_STATE_VERSION;
-        memcpy(emulated.state, proved.state, STATE_BYTES);
-        return;
-    }
-    enum state_fault fault = (enum state_fault)(FAULT_VERSION + below(d, STATE_FAULTS - FAULT_VERSION));
-    size_t at = state_fault_at(fault);
-    uint32_t from = fault == FAULT_VERSION && chance(d, 300) ? 0 : state_fault_from(fault);
-    uint32_t value = from == 0 || chance(d, 600) ? from : from + below(d, 256 - from);
-    proved.state[at] = emulated.state[at] = (uint8_t)value;
-    if (state_fault_of_byte(fault)) proved.state[at + 1] = emulated.state[at + 1] = 0;
-}
-
-/* Changes a field of CC to another value that it can have, or a bit of CC, in a channel of both sides' bytes. */
-static void part_once(struct dice *d)
-{
-    unsigned channel = 1 + below(d, 2), field = below(d, EMU_FIELDS);
-    enum state_fault fault = (enum state_fault)((channel == 1 ? FAULT_FIELDS_1 : FAULT_FIELDS_2) + field);
-    size_t at = state_fault_at(fault);
-    uint32_t cc = iop89_get(proved.state, channel, IOP89_CC), values = state_fault_from(fault);
-    if (chance(d, 400)) iop89_set(proved.state, channel, IOP89_CC, cc ^ 1u << below(d, 16));
-    else proved.state[at] = (uint8_t)((proved.state[at] + 1 + below(d, values - 1)) % values);
-}
-
-/* Makes CC and its fields disagree, mostly in one channel and one field; at times with channels in other modes, or with
- * what is refused before it. */
-static void part(struct dice *d)
-{
-    static const enum iop89_register pointers[] = {IOP89_GA, IOP89_GB, IOP89_GC, IOP89_TP, IOP89_PP};
-    for (unsigned i = chance(d, 800) ? 1 : 2; i > 0; i--) part_once(d);
-    for (unsigned channel = 1; channel <= 2; channel++)
-        if (chance(d, 300)) iop89_set(proved.state, channel, IOP89_MODE, below(d, 3));
-    if (chance(d, 100)) proved.state[IOP89_AT_POWERED] = 0;
-    if (chance(d, 100)) iop89_set(proved.state, 1 + below(d, 2), ONE_OF(d, pointers), 1048576 + below(d, 4));
     memcpy(emulated.state, proved.state, STATE_BYTES);
 }
 
 /* Writes a command into a channel's block, in both memories. */
 static void put_command(struct dice *d, const struct run_case *c, uint32_t channel)
 {
-    static const uint8_t likely[] = {0, 3, 5, 6, 6, 7};
-    uint8_t command = chance(d, 700) ? ONE_OF(d, likely) : (uint8_t)below(d, 8);
     uint32_t block = (iop89_cp(proved.state) + (channel == 2 ? 8 : 0)) & MASK20;
-    put_both(c, block, (uint8_t)(command | below(d, 32) << 3));
+    put_both(c, block, some_ccw(d));
 }
 
 /* Writes a doubleword pointer to an address at another, in both memories. */
@@ -370,22 +253,24 @@ static bool agree(uint64_t seed, uint64_t number, bool shown)
     lend(proved.io, emulated.io, c.io_len);
     memset(proved.state, 0, STATE_ROOM);
     memset(emulated.state, 0, STATE_ROOM);
-    any_state(&d, &c);
+    any_state(&d, &c, proved.state);
+    share_state();
     for (unsigned i = 0, calls = 4 + below(&d, MOST_CALLS - 4); i < calls; i++) {
         bool spoiled = chance(&d, 40), parted = chance(&d, 40);
-        if (i > 1 && chance(&d, 80)) poke(&d, &c);
-        if (i > 1 && chance(&d, 50)) pair_up(&d, &c);
-        if (chance(&d, 4)) any_state(&d, &c);
+        if (i > 1 && chance(&d, 80)) poke_state(&d, &c, proved.state);
+        if (i > 1 && chance(&d, 50)) pair_up(&d, &c, proved.state);
+        if (chance(&d, 4)) any_state(&d, &c, proved.state);
         struct call call = next_call(&d, &c, i);
         if (makes_anew(call.kind)) spoiled = parted = false;
         memcpy(whole, proved.state, STATE_BYTES);
-        if (parted) part(&d);
-        if (spoiled) damage(&d);
+        if (parted) part_fields(&d, proved.state);
+        if (spoiled) damage_state(&d, proved.state);
+        share_state();
         memcpy(given, proved.state, STATE_BYTES);
         if (!agree_on(&c, call, i, shown)) return false;
         if ((!spoiled && !parted) || memcmp(given, proved.state, STATE_BYTES) != 0) continue;
         memcpy(proved.state, whole, STATE_BYTES);
-        memcpy(emulated.state, whole, STATE_BYTES);
+        share_state();
     }
     bool same = same_memory(&c);
     if (!same && shown) puts("  the memories differ, or a byte beside them was stored");
@@ -410,7 +295,7 @@ static void stand_at_pair(void)
     iop89_set(proved.state, 1, IOP89_GC, 0x600);
     iop89_set(proved.state, 1, IOP89_IX, 0x20);
     iop89_set(proved.state, 1, IOP89_MC, 0x0F05);
-    memcpy(emulated.state, proved.state, STATE_BYTES);
+    share_state();
 }
 
 /* A pair, an offset byte where its AA asks for one, a second pair that fits it, and zeros, in both memories. */
@@ -474,7 +359,7 @@ static bool agree_apart(const struct run_case *c, uint32_t value, unsigned bit, 
     struct call call = {(value >> 1 & 1u) != 0 ? CALL_STEP : CALL_ATTENTION, 1, STATE_BYTES, 0, 0};
     memcpy(whole, proved.state, STATE_BYTES);
     iop89_set(proved.state, 1 + ((bit ^ value) & 1u), IOP89_CC, value ^ 1u << bit);
-    memcpy(emulated.state, proved.state, STATE_BYTES);
+    share_state();
     bool same = agree_on(c, call, bit, shown);
     memcpy(proved.state, whole, STATE_BYTES);
     memcpy(emulated.state, whole, STATE_BYTES);
@@ -501,7 +386,7 @@ static unsigned every_cc(void)
         put_movi(&c, value);
         same = agree_on(&c, step, value, shown);
         iop89_set_cc(proved.state, 2, value);
-        memcpy(emulated.state, proved.state, STATE_BYTES);
+        share_state();
         for (unsigned bit = 0; bit < 16; bit++) same = agree_apart(&c, value, bit, shown) && same;
         if (same && same_memory(&c)) continue;
         if (shown) printf("DIFFERENCE at CC %04" PRIX32 "\n", value);
@@ -525,7 +410,7 @@ static void stand_in_pair(unsigned channel, bool stores, uint32_t held)
     iop89_set(proved.state, channel, IOP89_GA, 0x400);
     iop89_set(proved.state, channel, IOP89_GB, 0x500);
     iop89_set(proved.state, channel, IOP89_HELD, held);
-    memcpy(emulated.state, proved.state, STATE_BYTES);
+    share_state();
 }
 
 /* One step under a request with each of the 65,536 numbers held, by either channel and in either kind of pair: a first half

@@ -1,0 +1,26 @@
+/* Random states in bytes for the cases that single calls and schedules are compared on. */
+#ifndef STATES_H
+#define STATES_H
+
+#include "cases.h"
+
+/* Fills the bytes of a state with anything, then makes them one, mostly with pointers of 20 bits and CC's own fields. */
+void any_state(struct dice *d, const struct run_case *c, uint8_t *state);
+
+/* Sets some registers. */
+void poke_state(struct dice *d, const struct run_case *c, uint8_t *state);
+
+/* Puts a channel into a transfer of pairs by its registers, mostly with nothing held yet. */
+void pair_up(struct dice *d, const struct run_case *c, uint8_t *state);
+
+/* Spoils a byte that only some values may have, mostly by as little as can be. At times all the bytes become anything. */
+void damage_state(struct dice *d, uint8_t *state);
+
+/* Makes CC and its fields disagree, mostly in one channel and one field; at times with channels in other modes, or with
+ * what is refused before it. */
+void part_fields(struct dice *d, uint8_t *state);
+
+/* A CCW with any upper bits and a command that is mostly none of the two that are refused. */
+uint8_t some_ccw(struct dice *d);
+
+#endif
