@@ -7,6 +7,7 @@ CASES ?= 200000
 SERVICE_CASES ?= 300000
 SWEEPS ?= 200000
 PAUSES ?= 20000
+SCHEDULES ?= 200000
 TEXTS ?= 20000
 PARTS ?= 2000
 CALLS ?= 40000
@@ -23,13 +24,14 @@ override CASES := $(value CASES)
 override SERVICE_CASES := $(value SERVICE_CASES)
 override SWEEPS := $(value SWEEPS)
 override PAUSES := $(value PAUSES)
+override SCHEDULES := $(value SCHEDULES)
 override TEXTS := $(value TEXTS)
 override PARTS := $(value PARTS)
 override CALLS := $(value CALLS)
 override IMAGES := $(value IMAGES)
 override PREFIX := $(value PREFIX)
 override DESTDIR := $(value DESTDIR)
-export IMAGE FILE DEMO SEED CASES SERVICE_CASES SWEEPS PAUSES TEXTS PARTS CALLS IMAGES PREFIX DESTDIR
+export IMAGE FILE DEMO SEED CASES SERVICE_CASES SWEEPS PAUSES SCHEDULES TEXTS PARTS CALLS IMAGES PREFIX DESTDIR
 
 CFLAGS ?= -O2
 STRICT = -std=c11 -Wall -Wextra -Wpedantic -Wconversion
@@ -267,6 +269,21 @@ build/compare_pauses: $(COMPARE_PAUSES) $(COMPARE_PAUSES_H) $(COMMON) $(COMMON_H
 
 compare-pauses: given-pauses build/compare_pauses
 	tools/x86 build/compare_pauses "$$SEED" "$$PAUSES"
+
+# Schedules, whole and cut in two: the archive's call, the emulator's own, and single calls of the archive.
+.PHONY: compare-schedule given-schedules
+
+given-schedules:
+	@tools/given number SEED && tools/given number SCHEDULES
+
+COMPARE_SCHEDULE = $(addprefix host/,compare_schedule.c schedules.c)
+
+build/compare_schedule: $(COMPARE_SCHEDULE) host/schedules.h $(STATES) $(STATES_H) $(COMMON) $(COMMON_H) $(SERVICE_LIB) | \
+		x86-compiler
+	$(X86_CC) $(STRICT) $(CFLAGS) -Iinclude $(COMPARE_SCHEDULE) $(STATES) $(COMMON) $(SERVICE_LIB) $(X86_LDFLAGS) -o $@
+
+compare-schedule: given-schedules build/compare_schedule
+	tools/x86 build/compare_schedule "$$SEED" "$$SCHEDULES"
 
 # ---- The bench tool, over both archives
 

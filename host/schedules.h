@@ -1,0 +1,36 @@
+/* Random schedules for the cases that single calls are compared on: rows, where they are cut, and what the report has room
+ * for. */
+#ifndef SCHEDULES_H
+#define SCHEDULES_H
+
+#include "cases.h"
+#include "iop89_service.h"
+#include "state_bytes.h"
+
+/* The most rows of a schedule, and rows of an unknown kind around them, which nobody may read. */
+enum { MOST_ROWS = 200, ROW_FENCE = 8 };
+
+/* The most words of a report, and words around it that nobody may touch. */
+enum { MOST_WORDS = 24, WORD_FENCE = 4 };
+
+/* A report with what is around it. */
+typedef uint64_t report_words[WORD_FENCE + MOST_WORDS + WORD_FENCE];
+
+/* One schedule: its rows as a slice of an array, where it is cut, the lengths of state and report, and what stands in the
+ * report before. */
+struct schedule {
+    struct iop89_row array[ROW_FENCE + MOST_ROWS + ROW_FENCE];
+    size_t start, count, cut, state_len, report_len;
+    uint64_t before;
+};
+
+/* The rows of a schedule. */
+const struct iop89_row *rows_of(const struct schedule *s);
+
+/* Makes a schedule for a case; the first on a state mostly begins with the attention that starts the case's channel. */
+void make_schedule(struct dice *d, const struct run_case *c, bool first, struct schedule *s);
+
+/* Whether a row is of a kind that is known. */
+bool row_known(struct iop89_row row);
+
+#endif
