@@ -108,7 +108,7 @@ static const char *const met_names[METS] = {
     "no rows", "one row", "200 rows", "cut before the first row", "cut between two rows", "cut behind the last row",
     "cut where a byte is held", "16 for the first row alone",
     "16 for a row in the middle alone", "16 for the last row alone", "16 for the only row", "16 for several rows",
-    "16 of the whole and the second part, rows of the first ran", "16 of the whole and the first part, rows of the second ran",
+    "16 for a row of the second part alone, and the first ran", "16 for rows of the first part alone, and the second ran",
     "17", "17 before 16", "a step under line number 15", "a step under line number 16",
     "a step under a larger line number", "an attention to channel 0", "an attention to channel 3",
     "an attention to a larger channel"};
@@ -213,7 +213,8 @@ static bool asks(uint32_t syn)
 /* Whether a channel of a state's bytes runs with XF. */
 static bool in_transfer(const uint8_t *state, unsigned channel)
 {
-    return iop89_get(state, channel, IOP89_MODE) == IOP89_RUNNING && (iop89_get(state, channel, IOP89_PSW) & EMU_PSW_XF) != 0;
+    bool runs = iop89_get(state, channel, IOP89_MODE) == IOP89_RUNNING;
+    return runs && (iop89_get(state, channel, IOP89_PSW) & EMU_PSW_XF) != 0;
 }
 
 /* Whether a channel's DRQ is up. */
@@ -235,7 +236,8 @@ static void count_near(const uint8_t *state, unsigned channel, uint32_t lines)
     unsigned long *near = nears[channel - 1];
     uint32_t syn = iop89_get(state, channel, IOP89_SYN), by_cc = iop89_get(state, channel, IOP89_CC) >> 11 & 3u;
     uint32_t mode = iop89_get(state, channel, IOP89_MODE);
-    bool xf = (iop89_get(state, channel, IOP89_PSW) & EMU_PSW_XF) != 0, up = asked(channel, lines), runs = mode == IOP89_RUNNING;
+    bool runs = mode == IOP89_RUNNING, xf = (iop89_get(state, channel, IOP89_PSW) & EMU_PSW_XF) != 0;
+    bool up = asked(channel, lines);
     if (lines > IOP89_LINES_LIMIT) {
         near[NEAR_LINES] += runs && xf && asks(syn) && !up;
         return;
@@ -277,8 +279,8 @@ static bool into_words(const uint8_t *state, unsigned channel)
     return even && (iop89_get(state, channel, IOP89_PSW) & EMU_PSW_D) != 0;
 }
 
-/* How many bytes a done transfer step stored, from how many it touched: of one, none where it is held since, else that;
- * of two, one; of three, a fetched byte and a word, or a byte that was one of a word or stands in a table; of four, two. */
+/* How many bytes a done transfer step stored, from how many it touched: of one, none where it is held since, else that
+ * one; of two, one; of three, both of a word behind the byte that was fetched, else one; of four, two. */
 static unsigned bytes_stored(const uint8_t *before, const uint8_t *state, uint32_t answer)
 {
     unsigned channel = IOP89_ANSWER_CHANNEL(answer), touched = IOP89_ANSWER_COUNT(answer);
@@ -378,12 +380,13 @@ static uint32_t by_emulator(const struct run_case *c, const struct schedule *s, 
     struct emu_state state;
     struct emu_report r;
     uint32_t number = IOP89_NO_STATE;
-    memset(&r, 0, sizeof r);
+    bool good = state_from_bytes(m->state, s->state_len, &state) == FAULT_NONE;
+    memset(&r, good ? FENCE_BYTE : 0, sizeof r);
     for (size_t i = from; i < to; i++) {
         rows[i - from].kind = rows_of(s)[i].kind;
         rows[i - from].value = rows_of(s)[i].value;
     }
-    if (state_from_bytes(m->state, s->state_len, &state) == FAULT_NONE) {
+    if (good) {
         number = emu_schedule(&state, &memory, rows, to - from, &r);
         state_to_bytes(&state, m->state);
     }
@@ -418,9 +421,9 @@ static void make_all(const struct run_case *c, const struct schedule *s)
     emu_coverage = counting ? &coverage : NULL;
     o[EMULATED].number[0] = by_emulator(c, s, EMULATED, 0, s->count, o[EMULATED].report[0], s->report_len);
     emu_coverage = NULL;
-    o[EMULATED_CUT].number[0] = by_emulator(c, s, EMULATED_CUT, 0, s->cut, o[EMULATED_CUT].report[0], IOP89_REPORT_LENGTH);
-    o[EMULATED_CUT].number[1] =
-        by_emulator(c, s, EMULATED_CUT, s->cut, s->count, o[EMULATED_CUT].report[1], IOP89_REPORT_LENGTH);
+    o += EMULATED_CUT;
+    o->number[0] = by_emulator(c, s, EMULATED_CUT, 0, s->cut, o->report[0], IOP89_REPORT_LENGTH);
+    o->number[1] = by_emulator(c, s, EMULATED_CUT, s->cut, s->count, o->report[1], IOP89_REPORT_LENGTH);
 }
 
 /* ---- One schedule ---- */
@@ -476,8 +479,8 @@ static void show_report(const char *name, const uint64_t *words, const char *oth
 {
     for (size_t i = 0; i < WORD_FENCE + MOST_WORDS + WORD_FENCE; i++)
         if (words[i] != other[i])
-            printf("  word %td of the report: %s %" PRIu64 ", %s %" PRIu64 "\n", (ptrdiff_t)i - WORD_FENCE, name, words[i],
-                   other_name, other[i]);
+            printf("  word %td of the report: %s %" PRIu64 ", %s %" PRIu64 "\n", (ptrdiff_t)i - WORD_FENCE, name,
+                   words[i], other_name, other[i]);
 }
 
 /* Shows where a way's machine is not the other's. */
@@ -487,7 +490,8 @@ static void show_machine(const struct run_case *c, enum way a, enum way b)
         if (machines[a].state[i] != machines[b].state[i])
             printf("  state byte %zu: %s %02X, %s %02X\n", i, way_names[a], machines[a].state[i], way_names[b],
                    machines[b].state[i]);
-    if (!same_memory(c, a, b)) printf("  memory: %s and %s differ, or a byte beside it was stored\n", way_names[a], way_names[b]);
+    if (!same_memory(c, a, b))
+        printf("  memory: %s and %s differ, or a byte beside it was stored\n", way_names[a], way_names[b]);
 }
 
 /* Shows a schedule and what its ways answered. */
@@ -764,8 +768,9 @@ static void print_stored(void)
         print_count(halves[i], all);
     }
     for (unsigned i = 0; i < EMU_SLOT_SETS; i++) vanished += coverage.slot[EMU_DESTINATION][i];
-    for (unsigned i = 0; i < 2 * 2 * EMU_LEFTOVERS; i++)
-        cut[i / (2 * EMU_LEFTOVERS)] += coverage.leftover[i / (2 * EMU_LEFTOVERS)][i / EMU_LEFTOVERS % 2][i % EMU_LEFTOVERS];
+    for (unsigned i = 0; i < EMU_LEFTOVERS; i++)
+        for (unsigned half = 0; half < 2; half++)
+            cut[half] += coverage.leftover[half][0][i] + coverage.leftover[half][1][i];
     print_count("translated steps", coverage.translated);
     print_count("steps whose stores vanished, all or one", vanished);
     print_count("whole steps that stored one byte, and BC fell by 2", cut[0]);

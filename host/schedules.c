@@ -25,7 +25,7 @@ static size_t some_rows(struct dice *d)
     return kind < 998 ? 102 + below(d, 98) : MOST_ROWS;
 }
 
-/* A row: a step under the case's lines or any others, at times an attention, and rarely to no channel or under no lines. */
+/* A row: a step under the case's lines or any others, at times an attention; rarely under no lines or to no channel. */
 static struct iop89_row some_row(struct dice *d, const struct run_case *c)
 {
     static const uint32_t channels[] = {0, 3, 4, 255, 257, 65537, 65538, 0x80000001, 0xFFFFFFFF};
@@ -61,7 +61,8 @@ static size_t some_words(struct dice *d)
 {
     unsigned kind = below(d, 1000);
     if (kind < 600) return IOP89_REPORT_LENGTH;
-    return kind < 900 ? below(d, IOP89_REPORT_LENGTH) : IOP89_REPORT_LENGTH + 1 + below(d, MOST_WORDS - IOP89_REPORT_LENGTH);
+    if (kind < 900) return below(d, IOP89_REPORT_LENGTH);
+    return IOP89_REPORT_LENGTH + 1 + below(d, MOST_WORDS - IOP89_REPORT_LENGTH);
 }
 
 void make_schedule(struct dice *d, const struct run_case *c, bool first, struct schedule *s)
