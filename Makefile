@@ -287,7 +287,7 @@ compare-schedule: given-schedules build/compare_schedule
 
 # ---- The bench tool, over both archives
 
-TOOL = $(addprefix host/,tool.c tool_order.c tool_calls.c tool_hex.c tool_list.c)
+TOOL = $(addprefix host/,tool.c tool_order.c tool_calls.c tool_schedule.c tool_hex.c tool_list.c)
 
 .PHONY: tool check-tool
 

@@ -138,6 +138,26 @@ DISK_WRITE = code(
     "20 48             ; HLT",
 )
 
+# Reads from a card's port 64h in I/O space into words, and writes words to its port 66h: a request for each byte.
+CARD_READ = code(
+    "11 30 64 00 ; MOVI GA,64H: the port",
+    "23 8B 04    ; LPD  GB,[PP].4: where the bytes go",
+    "63 83 08    ; MOV  BC,[PP].8: how many",
+    "D1 30 08 88 ; MOVI CC,8808H: port to block, synchronised with the port; count ends at 0",
+    "60 00       ; XFER",
+    "A0 00       ; WID  8,16",
+    "20 48       ; HLT",
+)
+CARD_WRITE = code(
+    "03 8B 04    ; LPD  GA,[PP].4: where the bytes are",
+    "31 30 66 00 ; MOVI GB,66H: the port",
+    "63 83 08    ; MOV  BC,[PP].8: how many",
+    "D1 30 08 50 ; MOVI CC,5008H: block to port, synchronised with the port; count ends at 0",
+    "60 00       ; XFER",
+    "C0 00       ; WID  16,8",
+    "20 48       ; HLT",
+)
+
 # Copies text up to a full stop: ends by match at offset 4, by count at offset 0.
 MATCH = code(
     "11 08 00 00 08 00 ; LPDI GA,0,8: 80h",
@@ -204,6 +224,14 @@ def disk(program, buffer):
                    parameters=doubleword(0xC0) + word(5) + bytes([7, 0x2E]))
 
 
+def card(read, written, size):
+    """A card in both directions: channel 1 reads so many bytes from it to C0h, channel 2 writes as many from E0h."""
+    second = (8, bytes([START_SYSTEM, 0]) + doubleword(0x20))
+    block = (0x20, doubleword(0x80) + doubleword(0xE0) + word(size))
+    return started(0x100, CARD_READ, second, block, (0x80, CARD_WRITE), (0xC0, read), (0xE0, written),
+                   parameters=doubleword(0xC0) + word(size))
+
+
 WID_8_8, WID_16_16 = code("80 00"), code("E0 00")
 
 
@@ -223,6 +251,7 @@ IMAGES = {
                       parameters=doubleword(0xC0) + word(16) + bytes([7, 0x2E])),
     "disk-read": disk(DISK_READ, bytes([0xEE] * 6)),
     "disk-write": disk(DISK_WRITE, b"sector"),
+    "card": card(bytes([0xEE] * 4), b"data", 3),
     "match": started(0x100, MATCH, (0x80, b"end. not this...")),
     "leftover": started(0x100, LEFTOVER, (0x80, b"stop. not this..")),
     "translate": started(0x100, TRANSLATE, (0x80, bytes([3, 1, 2, 0])), (0xA0, b"ZYXW")),

@@ -18,6 +18,8 @@ static const struct command commands[] = {
      "iop89 run examples/copy-odd.bin -show 0x80 96", tool_run},
     {"step", "the same call by call: a line for each step: channel, kind (I, T, X), bytes touched, TP, registers changed",
      "iop89 step examples/external.bin -lines 1 -limit 20", tool_step},
+    {"schedule", "rows of a text, attentions and steps in order, refused ones too, and a table of what they came to",
+     "iop89 schedule examples/card.rows examples/card.bin -trace", tool_schedule},
     {"load", "what PROM files hold: the ranges that they store with their bytes, the start address, and how many bytes",
      "iop89 load examples/prom/srecord-segments.hex", tool_show_files},
     {"list", "a channel program in the maker's notation, with address and bytes before each line",
@@ -28,7 +30,7 @@ enum { COMMANDS = sizeof commands / sizeof commands[0] };
 
 /* The options that the commands share. */
 static const char options[] =
-    "Options, for every command that runs the machine:\n"
+    "Options, for every command that runs the machine; schedule takes no -channel, -lines, -sweep and -limit:\n"
     "  -at N           system address of the next FILE (0)\n"
     "  -system N       length of system memory (as long as the files need)\n"
     "  -io N           length of I/O memory, all zeros (256)\n"
@@ -40,21 +42,25 @@ static const char options[] =
     "  -lines N,N..    for step: in turn, one for each step that is tried; where a channel waits, the next one is tried\n"
     "  -sweep          for step: a block transfer that can be swept is one call and one line, and counts as its steps\n"
     "  -limit N        most steps (1000); under several line numbers, most that are tried\n"
+    "  -trace          for schedule: a line for each row: its place, the row, its number, and what it did\n"
     "  -show FROM N    shows N bytes of system memory from FROM on, as they are at the end; -show-io, of I/O memory\n"
     "  -from N, -count N   for list: the bytes to be listed (all)\n"
     "  -first N        for list: the address of the first of them, from which jump targets count (the same as -from)\n"
     "  -source         for list: the lines alone\n"
+    "schedule's first FILE has the rows, one a line: attention CHANNEL, step LINES, or kind K N for any row; a blank line\n"
+    "and what follows # are left out.\n"
     "A FILE whose name ends in .hex is a PROM file (Intel hexadecimal): its records say where its bytes go.\n"
     "Numbers are decimal, or hexadecimal behind 0x; 010 is ten. A file has at most 1,048,576 bytes.\n"
-    "Ends with 0 at the limit or where the channel halted, 1 where it was refused or waits, 2 for anything else.\n";
+    "Ends with 0 at the limit or where the channel halted, 1 where it was refused or waits, 2 for anything else.\n"
+    "schedule ends with 0 whatever rows were refused, and with 1 for a row of unknown kind.\n";
 
 /* Prints the commands and the options. */
 static void print_help(FILE *out)
 {
     fputs("usage: iop89 COMMAND [OPTIONS] FILE..\n", out);
     for (size_t i = 0; i < COMMANDS; i++)
-        fprintf(out, "  %-6s %s\n         %s\n", commands[i].name, commands[i].does, commands[i].example);
-    fputs("  help   this text\n         iop89 help\n", out);
+        fprintf(out, "  %-8s %s\n           %s\n", commands[i].name, commands[i].does, commands[i].example);
+    fputs("  help     this text\n           iop89 help\n", out);
     fputs(options, out);
 }
 

@@ -37,7 +37,7 @@ struct tool_order {
     const char *io_image;
     uint32_t system_length, io_length, cp, limit;
     uint32_t from, count, first;
-    bool source, board, has_cp, sweep;
+    bool source, board, has_cp, has_lines, has_limit, has_channel, sweep, trace;
 };
 
 /* Lent memory. */
@@ -52,6 +52,9 @@ _Noreturn void tool_give_up(const char *what);
 
 /* Reads the words behind a command; the order has room for them. */
 void tool_read_order(struct tool_order *order, int count, char **words);
+
+/* Reads a number of some characters; answers what is wrong with it, or NULL. */
+const char *tool_read_number(const char *from, size_t length, uint32_t *number);
 
 /* The memory that an order asks for, the files loaded; a copy of it; and what was taken for it given back. */
 struct tool_memory tool_load(const struct tool_order *order);
@@ -68,6 +71,19 @@ enum tool_status tool_run(const struct tool_order *order);
 enum tool_status tool_step(const struct tool_order *order);
 enum tool_status tool_show_files(const struct tool_order *order);
 enum tool_status tool_list(const struct tool_order *order);
+enum tool_status tool_schedule(const struct tool_order *order);
+
+/* Makes the state that calls begin with, of CP or by reset and power-up, which it prints; hands back its number. */
+unsigned tool_make_state(const struct tool_order *order, uint8_t *state, struct tool_memory *memory);
+
+/* Prints what a done step did: channel, kind, how many bytes it read and stored, TP, and the registers that it changed. */
+void tool_print_done(uint32_t answer, const uint8_t *before, const uint8_t *state);
+
+/* Prints how many bytes a done call read and stored, and ends the line. */
+void tool_print_count(uint32_t answer);
+
+/* Prints the ranges that an order asks for. */
+void tool_print_shown(const struct tool_order *order, const struct tool_memory *memory);
 
 /* Prints the instruction that some bytes begin with, its address and bytes before it; nothing where there are none. */
 void tool_print_instruction(const uint8_t *code, size_t length, uint32_t address);

@@ -93,8 +93,8 @@ static void print_number(unsigned number, const char *words, const uint8_t *stat
     if (number == IOP89_NO_CHANNEL && !any) puts("halted");
 }
 
-/* Prints the ranges that were asked for, sixteen bytes to a row, -- where nothing is lent. */
-static void print_shown(const struct tool_order *order, const struct tool_memory *memory)
+/* Sixteen bytes to a row, -- where nothing is lent. */
+void tool_print_shown(const struct tool_order *order, const struct tool_memory *memory)
 {
     for (unsigned i = 0; i < order->ranges; i++) {
         struct tool_range range = order->shown[i];
@@ -175,7 +175,7 @@ enum tool_status tool_run(const struct tool_order *order)
     else iop89_fresh(state, IOP89_STATE_LENGTH, 0);
     print_number(number, iop89_words(number), state, &memory);
     printf("steps done: %u\n", IOP89_STEPS(answer));
-    print_shown(order, &memory);
+    tool_print_shown(order, &memory);
     tool_free(memory);
     tool_free(again);
     return status_of(number, state);
@@ -183,11 +183,10 @@ enum tool_status tool_run(const struct tool_order *order)
 
 /* ---- Call by call ---- */
 
-/* Prints a done step: its number, what it was, and the registers that it changed. */
-static void print_step(uint32_t number, uint32_t answer, const uint8_t *before, const uint8_t *state)
+void tool_print_done(uint32_t answer, const uint8_t *before, const uint8_t *state)
 {
     unsigned channel = IOP89_ANSWER_CHANNEL(answer);
-    printf("%" PRIu32 " %u %c %u ", number, channel, "-ITX"[IOP89_ANSWER_KIND(answer)], IOP89_ANSWER_COUNT(answer));
+    printf(" %u %c %u ", channel, "-ITX"[IOP89_ANSWER_KIND(answer)], IOP89_ANSWER_COUNT(answer));
     print_tp(state, channel);
     print_changes(before, state, channel);
     putchar('\n');
@@ -219,7 +218,7 @@ static unsigned step_line(const struct tool_order *order, uint8_t *state, struct
     uint32_t answer = step(state, memory, lines_at(order, at));
     unsigned number = IOP89_ANSWER_NUMBER(answer);
     bool goes_on = number == IOP89_NO_CHANNEL && order->line_numbers > 1 && waits(state);
-    if (number == IOP89_DONE) print_step(at + 1, answer, before, state);
+    if (number == IOP89_DONE) printf("%" PRIu32, at + 1), tool_print_done(answer, before, state);
     else if (goes_on) print_waiting(at + 1, state);
     else return number;
     return IOP89_DONE;
@@ -302,8 +301,7 @@ static unsigned step_lines(const struct tool_order *order, uint8_t *state, struc
     return number;
 }
 
-/* Prints how many bytes a done call read and stored. */
-static void print_count(uint32_t answer)
+void tool_print_count(uint32_t answer)
 {
     unsigned count = IOP89_ANSWER_COUNT(answer);
     printf(", %u byte%s\n", count, count == 1 ? "" : "s");
@@ -318,21 +316,27 @@ static void print_power_up(uint32_t answer, const uint8_t *state)
     }
     printf("power-up: CP %05" PRIX32 ", SYSBUS bit 0 %u, SOC bit 0 %u, SOC bit 1 %u", iop89_cp(state),
            state[IOP89_AT_SYSBUS], state[IOP89_AT_SOC], state[IOP89_AT_SOC_1]);
-    print_count(answer);
+    tool_print_count(answer);
+}
+
+unsigned tool_make_state(const struct tool_order *order, uint8_t *state, struct tool_memory *memory)
+{
+    uint32_t answer = make_state(order, state, memory);
+    if (order->board) print_power_up(answer, state);
+    return IOP89_ANSWER_NUMBER(answer);
 }
 
 /* Makes the state and gives the attentions; answers the number that refused one of them. */
 static unsigned start(const struct tool_order *order, uint8_t *state, struct tool_memory *memory)
 {
-    uint32_t answer = make_state(order, state, memory);
-    if (order->board) print_power_up(answer, state);
-    for (unsigned i = 0; IOP89_ANSWER_NUMBER(answer) == IOP89_DONE && i < order->channels; i++) {
-        answer = attend(state, memory, order->channel[i]);
-        bool accepted = IOP89_ANSWER_NUMBER(answer) == IOP89_DONE;
-        printf("attention to channel %" PRIu32 ": %s", order->channel[i], accepted ? "accepted" : "refused\n");
-        if (accepted) print_count(answer);
+    unsigned number = tool_make_state(order, state, memory);
+    for (unsigned i = 0; number == IOP89_DONE && i < order->channels; i++) {
+        uint32_t answer = attend(state, memory, order->channel[i]);
+        number = IOP89_ANSWER_NUMBER(answer);
+        printf("attention to channel %" PRIu32 ": %s", order->channel[i], number == IOP89_DONE ? "accepted" : "refused\n");
+        if (number == IOP89_DONE) tool_print_count(answer);
     }
-    return IOP89_ANSWER_NUMBER(answer);
+    return number;
 }
 
 enum tool_status tool_step(const struct tool_order *order)
@@ -344,7 +348,7 @@ enum tool_status tool_step(const struct tool_order *order)
     if (started) number = step_lines(order, state, &memory);
     if (number == IOP89_DONE) puts("the limit");
     else print_number(number, iop89_service_words(number), state, &memory);
-    print_shown(order, &memory);
+    tool_print_shown(order, &memory);
     tool_free(memory);
     return started ? status_of(number, state) : TOOL_REFUSED;
 }

@@ -17,20 +17,30 @@ static unsigned digit(char c)
     return 16;
 }
 
-/* The number that some characters of a word write: decimal, or hexadecimal behind 0x; a leading 0 alone means nothing. */
-static uint32_t number_in(const char *word, const char *from, size_t length)
+/* Decimal, or hexadecimal behind 0x; a leading 0 alone means nothing. */
+const char *tool_read_number(const char *from, size_t length, uint32_t *number)
 {
     bool hex = length >= 2 && from[0] == '0' && (from[1] == 'x' || from[1] == 'X');
     unsigned base = hex ? 16 : 10;
     uint64_t value = 0;
     size_t at = hex ? 2 : 0;
-    if (at == length) tool_usage("not a number", word);
+    if (at == length) return "not a number";
     for (; at < length; at++) {
-        if (digit(from[at]) >= base) tool_usage("not a number", word);
+        if (digit(from[at]) >= base) return "not a number";
         value = value * base + digit(from[at]);
-        if (value > UINT32_MAX) tool_usage("a number over 4,294,967,295", word);
+        if (value > UINT32_MAX) return "a number over 4,294,967,295";
     }
-    return (uint32_t)value;
+    *number = (uint32_t)value;
+    return NULL;
+}
+
+/* The number that some characters of a word write. */
+static uint32_t number_in(const char *word, const char *from, size_t length)
+{
+    uint32_t number = 0;
+    const char *complaint = tool_read_number(from, length, &number);
+    if (complaint != NULL) tool_usage(complaint, word);
+    return number;
 }
 
 /* The number that a whole word writes. */
@@ -65,6 +75,17 @@ static bool *mark_of(struct tool_order *order, const char *option)
     if (strcmp(option, "-source") == 0) return &order->source;
     if (strcmp(option, "-board") == 0) return &order->board;
     if (strcmp(option, "-sweep") == 0) return &order->sweep;
+    if (strcmp(option, "-trace") == 0) return &order->trace;
+    return NULL;
+}
+
+/* The mark that says that an option was given at all, or NULL where nobody asks. */
+static bool *given_mark(struct tool_order *order, const char *option)
+{
+    if (strcmp(option, "-cp") == 0) return &order->has_cp;
+    if (strcmp(option, "-lines") == 0) return &order->has_lines;
+    if (strcmp(option, "-limit") == 0) return &order->has_limit;
+    if (strcmp(option, "-channel") == 0) return &order->has_channel;
     return NULL;
 }
 
@@ -103,12 +124,12 @@ static void add_range(struct tool_order *order, char **words, bool in_io)
 static int take_option(struct tool_order *order, char **words, uint32_t *at)
 {
     uint32_t *place = place_of(order, words[0]);
-    bool *mark = mark_of(order, words[0]);
+    bool *mark = mark_of(order, words[0]), *given = given_mark(order, words[0]);
     if (mark != NULL) {
         *mark = true;
         return 1;
     }
-    if (strcmp(words[0], "-cp") == 0) order->has_cp = true;
+    if (given != NULL) *given = true;
     if (place != NULL) *place = number_of(words[0], words[1]);
     else if (strcmp(words[0], "-lines") == 0) take_lines(order, words[1]);
     else if (strcmp(words[0], "-at") == 0) *at = length_of(words[0], words[1]);
