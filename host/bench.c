@@ -1,5 +1,5 @@
-/* One run of a known program by the proved library or by the plain emulator, or some sweeps, for tools/bench to count
- * instructions. */
+/* One run of a known program by the proved library or by the plain emulator, some sweeps, or the rows of a schedule, for
+ * tools/bench to count instructions. */
 #include "emulator.h"
 #include "iop89_service.h"
 #include "sweep_case.h"
@@ -126,6 +126,7 @@ static const struct workload workloads[] = {
     {"16/16", transfer, sizeof transfer, 0xE0},
     {"8/16", transfer, sizeof transfer, 0xA0},
     {"16/8", transfer, sizeof transfer, 0xC0},
+    {"wait", transfer, sizeof transfer, 0x80},
 };
 
 /* Says how the program is called, and ends it. */
@@ -133,6 +134,7 @@ static _Noreturn void usage(void)
 {
     fputs("usage: bench proved|plain mix|8/8|16/16|8/16|16/8|both small|full STEPS\n"
           "       bench swept|stepped within|across|one COUNT\n"
+          "       bench scheduled|singly both|8/8|16/16|wait ROWS\n"
           "       bench loop TURNS\n",
           stderr);
     exit(2);
@@ -174,6 +176,14 @@ static uint32_t run(const char *side, size_t sys_len, size_t io_len, uint32_t li
     usage();
 }
 
+/* Puts channel 2's blocks and program beside the first one's. */
+static void make_second(void)
+{
+    memcpy(sys + SECOND_BLOCK, second_block, sizeof second_block);
+    memcpy(sys + SECOND_PARAMETER_BLOCK, second_parameter_block, sizeof second_parameter_block);
+    memcpy(sys + SECOND_PROGRAM, second_program, sizeof second_program);
+}
+
 /* So many steps of both channels by the service calls, or by those of the emulator; answers how many were done. */
 static uint32_t step_both(bool proved, size_t sys_len, size_t io_len, uint32_t steps)
 {
@@ -181,9 +191,7 @@ static uint32_t step_both(bool proved, size_t sys_len, size_t io_len, uint32_t s
     struct emu_state plain;
     uint8_t state[IOP89_STATE_LENGTH];
     uint32_t done = 0;
-    memcpy(sys + SECOND_BLOCK, second_block, sizeof second_block);
-    memcpy(sys + SECOND_PARAMETER_BLOCK, second_parameter_block, sizeof second_parameter_block);
-    memcpy(sys + SECOND_PROGRAM, second_program, sizeof second_program);
+    make_second();
     iop89_fresh(state, sizeof state, CONTROL_BLOCK);
     emu_fresh(CONTROL_BLOCK, &plain);
     for (uint32_t channel = 1; channel <= 2; channel++) {
@@ -249,6 +257,53 @@ static bool made(const char *how, const struct sweep_case *c, uint32_t count)
     return (swept ? sweep_all(count) : step_all(count, apart)) == count;
 }
 
+/* ---- Schedules ---- */
+
+/* The most rows; they are filled in for every count, so that this falls away between two counts. */
+enum { SCHEDULE_ROWS = 400 };
+static struct iop89_row rows[SCHEDULE_ROWS];
+
+/* CC of a transfer that waits for its source's DRQ, and where the program has CC's high byte. */
+enum { WAITING_CC_HIGH = 0xC8, TRANSFER_CC_HIGH = 19 };
+
+/* The steps that set a transfer up. */
+enum { SETTING_UP = 7 };
+
+/* One step row on a state by its single call. */
+static uint32_t step_once(uint8_t *state, uint32_t lines)
+{
+    return iop89_step(state, IOP89_STATE_LENGTH, sys, SMALL, io, SMALL, lines);
+}
+
+/* Makes the state that the rows are run on: both channels on their programs, or channel 1 in its transfer. */
+static void make_started(const struct workload *w, uint8_t *state)
+{
+    bool both = strcmp(w->name, "both") == 0;
+    make_image(w);
+    if (both) make_second();
+    if (strcmp(w->name, "wait") == 0) sys[PROGRAM + TRANSFER_CC_HIGH] = WAITING_CC_HIGH;
+    iop89_fresh(state, IOP89_STATE_LENGTH, CONTROL_BLOCK);
+    for (uint32_t channel = 1; channel <= (both ? 2 : 1); channel++)
+        (void)iop89_attention(state, IOP89_STATE_LENGTH, sys, SMALL, io, SMALL, channel);
+    for (unsigned i = 0; !both && i < SETTING_UP; i++) (void)step_once(state, 0);
+}
+
+/* So many step rows by one schedule, or each by a call of its own; whether all were done, or all waited. */
+static bool row_all(const char *how, const struct workload *w, uint32_t count)
+{
+    uint8_t state[IOP89_STATE_LENGTH];
+    uint64_t report[IOP89_REPORT_LENGTH] = {0};
+    bool singly = strcmp(how, "singly") == 0, waits = strcmp(w->name, "wait") == 0;
+    if (count > SCHEDULE_ROWS) usage();
+    make_started(w, state);
+    for (size_t i = 0; i < SCHEDULE_ROWS; i++) rows[i].kind = IOP89_ROW_STEP;
+    for (uint32_t i = 0; singly && i < count; i++)
+        report[IOP89_ANSWER_NUMBER(step_once(state, rows[i].value)) == 0 ? IOP89_ROWS_ACCEPTED : IOP89_ROWS_REFUSED]++;
+    if (!singly)
+        (void)iop89_schedule(state, sizeof state, rows, count, sys, SMALL, io, SMALL, report, IOP89_REPORT_LENGTH);
+    return report[waits ? IOP89_ROWS_REFUSED : IOP89_ROWS_ACCEPTED] == count;
+}
+
 /* ---- The program ---- */
 
 /* So many turns of two instructions each, by which a way of counting is checked. */
@@ -268,6 +323,8 @@ int main(int count, char **words)
         turn(number_of(words[2]));
         return 0;
     }
+    if (count == 4 && (strcmp(words[1], "scheduled") == 0 || strcmp(words[1], "singly") == 0))
+        return row_all(words[1], workload_of(words[2]), number_of(words[3])) ? 0 : 1;
     if (count == 4) return made(words[1], sweep_of(words[2]), number_of(words[3])) ? 0 : 1;
     if (count != 5 || (strcmp(words[3], "small") != 0 && strcmp(words[3], "full") != 0)) usage();
     bool small = strcmp(words[3], "small") == 0;
