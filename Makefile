@@ -218,7 +218,7 @@ build/bench: host/bench.c host/emulator.h host/sweep_case.h include/iop89.h incl
 service-lib: $(SERVICE_LIB)
 
 # Each crate's archive has the functions that it exports, and all else in it is local, so they join into one.
-SERVICE_CRATES = service board prom lister
+SERVICE_CRATES = service schedule_calls board prom lister
 
 $(SERVICE_LIB): $(SERVICE_CRATES:%=build/%.sums)
 	@for crate in $(SERVICE_CRATES); do tools/prove staticlib $$crate || exit $$?; done
