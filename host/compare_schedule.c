@@ -416,7 +416,8 @@ static void make_all(const struct run_case *c, const struct schedule *s)
     struct outcome *o = outcomes;
     o[WHOLE].number[0] = by_archive(c, s, WHOLE, 0, s->count, o[WHOLE].report[0], s->report_len);
     o[CUT].number[0] = by_archive(c, s, CUT, 0, s->cut, o[CUT].report[0], IOP89_REPORT_LENGTH);
-    if (counting) met[MET_CUT_HELD] += s->cut > 0 && s->cut < s->count && bytes_hold(machines[CUT].state);
+    bool inside = s->cut > 0 && s->cut < s->count && o[CUT].number[0] == IOP89_DONE;
+    if (counting) met[MET_CUT_HELD] += inside && bytes_hold(machines[CUT].state);
     o[CUT].number[1] = by_archive(c, s, CUT, s->cut, s->count, o[CUT].report[1], IOP89_REPORT_LENGTH);
     emu_coverage = counting ? &coverage : NULL;
     o[EMULATED].number[0] = by_emulator(c, s, EMULATED, 0, s->count, o[EMULATED].report[0], s->report_len);

@@ -135,7 +135,8 @@ enum iop89_report {
  * found the channel running with XF, SYN 01 or 10 by its field, and its DRQ down, whatever became of the row; one row can
  * be so for both channels. A refused step belongs to no channel, nor does an attention to one that is neither 1 nor 2:
  * these count over all only. Accepted and refused rows add up to row_count.
- * A schedule cut in two, the second with what the first left, leaves the same, and the two reports add up to the whole's.
+ * A schedule of known kinds that is cut in two, the second call with what the first left, leaves the same, and the two
+ * reports add up to that of the whole.
  * Rows and report are aligned as C aligns them and overlap no other buffer.
  */
 uint32_t iop89_schedule(uint8_t *state, size_t state_len, const struct iop89_row *rows, size_t row_count, uint8_t *sys,
