@@ -24,16 +24,13 @@ use Rattle.block_rules.specs.Totals.{total}
 use Rattle.promises.proofs.CallLaws.{turn-is, settled-done, transfer-channel, transfer-memory, step-kept, attention-kept}
 use Rattle.block_rules.proofs.Demand3.{going, ended}
 
--- a transfer step leaves CC
-transfer-fields : (c : Channel) (m : Buffers) → (transferOf c m) .channel .fields ≡ c .fields
+-- a transfer step leaves PP and the fields of CC, and so does a row
+pub row-kept : {n : ℕ} {c₀ : Channel} {m₀ : Buffers} {k : ℕ} {c : Channel} {m : Buffers} → Row n c₀ m₀ k c m → (c .pp ≡ c₀ .pp) × (c .fields ≡ c₀ .fields)
 unfolding withTransfer
-transfer-fields c m = ap (λ (x : Channel). x .fields) (only-these c m)
-
--- and so over the row
-row-fields : {n : ℕ} {c₀ : Channel} {m₀ : Buffers} {k : ℕ} {c : Channel} {m : Buffers} → Row n c₀ m₀ k c m → c .fields ≡ c₀ .fields
-row-fields start = refl
-row-fields (steps {c = c} {m = m} r) = transfer-fields c m ∙ row-fields r
-row-fields (other r u) = row-fields r
+row-kept start = (refl, refl)
+row-kept (steps {c = c} {m = m} r) =
+    (ap (λ (x : Channel). x .pp) (only-these c m) ∙ row-kept r .0, ap (λ (x : Channel). x .fields) (only-these c m) ∙ row-kept r .1)
+row-kept (other r u) = row-kept r
 
 -- its transfer step, for the channel
 row-transfer : (b : Bool) (n : ℕ) (c₀ : Channel) (m₀ : Buffers) (k : ℕ) (s : State) (m : Buffers) (lines : ℕ) → Turn b s m lines
@@ -45,7 +42,7 @@ row-transfer b n c₀ m₀ k s m lines t x r = rw (turn-is b s m lines t x, tran
 row-step : (b : Bool) (n : ℕ) (c₀ : Channel) (m₀ : Buffers) (k : ℕ) (s : State) (m : Buffers) (lines : ℕ) → c₀ .fields .externalEnd ≡ 0 → (Turn b s m lines → ⊥)
     → Untouched c₀ n m ((stepOf s m lines) .memory) → Row n c₀ m₀ k (channelOf s b) m
     → Row n c₀ m₀ k (channelOf ((stepOf s m lines) .state) b) ((stepOf s m lines) .memory)
-row-step b n c₀ m₀ k s m lines e ne u r = rw (step-kept b s m lines (ap (λ (f : Fields). f .externalEnd) (row-fields r) ∙ e) ne) (other r u)
+row-step b n c₀ m₀ k s m lines e ne u r = rw (step-kept b s m lines (ap (λ (f : Fields). f .externalEnd) (row-kept r .1) ∙ e) ne) (other r u)
 
 -- an attention that is not to it
 row-attention : (b : Bool) (n : ℕ) (c₀ : Channel) (m₀ : Buffers) (k : ℕ) (s : State) (m : Buffers) (channel : ℕ) → (channel ≡ channelNumber b → ⊥)

@@ -1,15 +1,16 @@
--- A sweep's conditions are demand 3's: the ranges, the channel, and that it is alone.
+-- A sweep's conditions are demand 3's: the ranges, the channel, and that it is alone; and the rest of a transfer that is going on meets them.
 -- Assumes nothing.
 use Prim.Native.Nat.{ℕ, _+_, _-_, _<_, _≤_}
 use borrow.Author.Tests.{lt-ltb, ltb-true}
 use lib.ListN.{length}
-use mathlib.Core.Bool.{Bool, true, not, Bool-discrete}
+use mathlib.Core.Bool.{Bool, true, false, not, Bool-discrete}
 use mathlib.Core.Logic.{⊎-elim, inl, inr, _↔_}
-use mathlib.Core.Path.{_≡_, sym, _∙_}
+use mathlib.Core.Path.{_≡_, sym, ap, subst, _∙_}
 use native.Mathlib.Decide.{decLe}
 use native.Mathlib.Omega.{arith}
 use Rattle.memory.specs.Buffers.{Buffers, spaceOf, limitOf, indexOf, lentAt, withinLimits}
 use Rattle.memory.specs.declared.Pointer.{Pointer}
+use Rattle.memory.proofs.PlaceLaws.{index-reduced}
 use Rattle.machine.proofs.ChannelLaws.{sound-channel-of}
 use Rattle.machine.proofs.ConditionLaws.{says-yes, says-no, says-running, running-is}
 use Rattle.machine.proofs.FieldLaws.{agree-channel-of}
@@ -18,14 +19,18 @@ use Rattle.machine.specs.Outcomes.{first, unless, givenNumber}
 use Rattle.machine.specs.States.{channelOf}
 use Rattle.machine.specs.declared.Channel.{Channel}
 use Rattle.machine.specs.declared.State.{State}
+use Rattle.step.specs.Choosing.{external}
 use Rattle.step.specs.Step.{entryNumber}
 use Rattle.sweep_rules.proofs.LeftLaws.{to-go}
 use Rattle.sweep_rules.proofs.PassedLaws.{length-most}
 use Rattle.sweep_rules.proofs.RangeLaws.{index-on}
 use Rattle.sweep_rules.specs.Ranges.{placeOf}
 use Rattle.sweep_rules.specs.Sweep.{bytesToGo}
-use Rattle.sweep_rules.specs.Conditions.{RangeLent, RangesApart, Sweepable}
+use Rattle.sweep_rules.specs.Conditions.{RangeLent, RangesApart, PlainFields, Sweepable}
 use Rattle.block_rules.specs.Premises.{from, into, Lent, ShareNone, Plain, Copy}
+use Rattle.block_rules.specs.Stages.{onBy, Going}
+use Rattle.block_rules.specs.Totals.{movedAfter}
+use Rattle.block_rules.proofs.StageLaws.{mid-source, mid-destination, mid-count, mid-fields}
 use Rattle.promises.specs.Joined.{RunsAlone}
 use Rattle.promises_blocks.specs.Sweeps.{Demanded}
 
@@ -100,7 +105,7 @@ module _ (s : State) (m : Buffers) (b : Bool) (lines : ℕ) (given : givenNumber
 -- ---- and back: demand 3's premises, of ranges that do not wrap, are the sweep's conditions
 
 -- a range that is lent byte for byte and does not wrap ends within the lent length
-pub lent-range : (m : Buffers) (p : Pointer) (n : ℕ) → 1 ≤ n → placeOf p + n ≤ limitOf (p .tag) → Lent m p n → RangeLent m p n
+lent-range : (m : Buffers) (p : Pointer) (n : ℕ) → 1 ≤ n → placeOf p + n ≤ limitOf (p .tag) → Lent m p n → RangeLent m p n
 unfolding lentAt
 lent-range m p n some whole lent =
     let k : ℕ = n - 1 in
@@ -109,7 +114,7 @@ lent-range m p n some whole lent =
     omega (arith, e, l)
 
 -- two that share no byte lie in two spaces, or one behind the other
-pub apart-ranges : (p q : Pointer) (n : ℕ) → 1 ≤ n → placeOf p + n ≤ limitOf (p .tag) → placeOf q + n ≤ limitOf (q .tag) → ShareNone p q n → RangesApart p q n
+apart-ranges : (p q : Pointer) (n : ℕ) → 1 ≤ n → placeOf p + n ≤ limitOf (p .tag) → placeOf q + n ≤ limitOf (q .tag) → ShareNone p q n → RangesApart p q n
 apart-ranges p q n some wp wq none = go (Bool-discrete (p .tag) (q .tag)) (decLe (placeOf p + n) (placeOf q)) (decLe (placeOf q + n) (placeOf p)) (decLe (placeOf p) (placeOf q))
   where
     at-p : (i : ℕ) → i < n → indexOf (p .tag) (p .address + i) ≡ placeOf p + i
@@ -130,6 +135,20 @@ apart-ranges p q n some wp wq none = go (Bool-discrete (p .tag) (q .tag)) (decLe
         let i : ℕ = placeOf p - placeOf q in
         let h : i < n = omega arith in
         absurd (none 0 i (omega arith) h (sym t) (at-q i h ∙ omega arith ∙ sym (at-p 0 (omega arith))))
+
+-- a plain channel's fields are
+plain-fields : {c : Channel} → Plain c → PlainFields (c .fields)
+plain-fields k =
+    record {
+      leaves = k .leaves;
+      enters = k .enters;
+      unsynchronised = k .unsynchronised;
+      untranslated = k .untranslated;
+      counts = k .counts;
+      unmatched = k .unmatched;
+      unended = k .unended;
+      ongoing = k .ongoing;
+    }
 
 module _ (s : State) (m : Buffers) (b : Bool) (lines : ℕ) (given : givenNumber s m ≡ 0) (few : lines < 16) (small : channelOf s b .bc < 65536) where
   -- the two are the same
@@ -158,17 +177,46 @@ module _ (s : State) (m : Buffers) (b : Bool) (lines : ℕ) (given : givenNumber
             still = d .still;
             runs = running-is (c .mode) (k .runs);
             transfers = k .transfers;
-            plain = record {
-              leaves = k .leaves;
-              enters = k .enters;
-              unsynchronised = k .unsynchronised;
-              untranslated = k .untranslated;
-              counts = k .counts;
-              unmatched = k .unmatched;
-              unended = k .unended;
-              ongoing = k .ongoing;
-            };
+            plain = plain-fields k;
             fromLent = lent-range m (from c) (bytesToGo c) (d .copy .some) (d .fromWhole) (d .copy .fromLent);
             intoLent = lent-range m (into c) (bytesToGo c) (d .copy .some) (d .intoWhole) (d .copy .intoLent);
             parted = apart-ranges (from c) (into c) (bytesToGo c) (d .copy .some) (d .fromWhole) (d .intoWhole) (d .copy .apart);
           }
+
+-- ---- the rest of a transfer that is going on
+
+-- of ranges that do not wrap it meets the conditions, while the other channel does not run and no EXT is up
+pub rest-sweepable : {b : Bool} {n : ℕ} {c₀ : Channel} {m₀ : Buffers} (lines : ℕ) → Copy n c₀ m₀ → placeOf (from c₀) + n ≤ limitOf (from c₀ .tag)
+    → placeOf (into c₀) + n ≤ limitOf (into c₀ .tag) → ((x : Bool) → external lines x ≡ false)
+    → (k : ℕ) (s : State) (m : Buffers) → Going n c₀ m₀ k (channelOf s b) m → RunsAlone b s m lines → Sweepable s m b lines
+rest-sweepable {b} {n} {c₀} lines p fromWhole intoWhole quiet k s m g a =
+    record {
+      quiet = quiet;
+      still = says-running (channelOf s (not b) .mode) .fails (a .idle);
+      runs = running-is (channelOf s b .mode) (g .runs);
+      transfers = g .transfers;
+      plain = subst PlainFields (sym (ap (λ (c : Channel). c .fields) (g .registers) ∙ mid-fields c₀ n j)) (plain-fields (p .plain));
+      fromLent = rw (source-on, left) (omega (arith, on (from c₀) fromWhole, lent-range m (from c₀) n (p .some) fromWhole (g .bytes .fromLent)));
+      intoLent = rw (destination-on, left) (omega (arith, on (into c₀) intoWhole, lent-range m (into c₀) n (p .some) intoWhole (g .bytes .intoLent)));
+      parted = rw (source-on, destination-on, left)
+          (⊎-elim inl (⊎-elim (λ h. inr (inl (omega (arith, h, on (from c₀) fromWhole, on (into c₀) intoWhole))))
+          (λ h. inr (inr (omega (arith, h, on (from c₀) fromWhole, on (into c₀) intoWhole)))))
+          (apart-ranges (from c₀) (into c₀) n (p .some) fromWhole intoWhole (p .apart)));
+    }
+  where
+    j : ℕ
+    j = movedAfter c₀ n k
+
+    source-on : from (channelOf s b) ≡ onBy (from c₀) j
+    source-on = ap from (g .registers) ∙ rw (from, mid-source c₀ n j)
+
+    destination-on : into (channelOf s b) ≡ onBy (into c₀) j
+    destination-on = ap into (g .registers) ∙ rw (into, mid-destination c₀ n j)
+
+    left : bytesToGo (channelOf s b) ≡ n - j
+    left =
+        let count = ap (λ (c : Channel). c .bc) (g .registers) ∙ mid-count c₀ n j in
+        omega (arith, count, to-go (channelOf s b) (omega (arith, count)), g .short, p .most)
+
+    on : (q : Pointer) → placeOf q + n ≤ limitOf (q .tag) → placeOf (onBy q j) ≡ placeOf q + j
+    on q h = index-reduced (q .tag) (q .address + j) ∙ index-on (q .tag) (q .address) j (limitOf (q .tag)) (omega (arith, h, g .short)) (omega arith)

@@ -4,12 +4,13 @@ use Prim.Native.Nat.{ℕ, _+_, _-_, _*_, _<_, _≤_}
 use mathlib.Core.Bool.{Bool, true, false}
 use mathlib.Core.Logic.{_↔_}
 use mathlib.Core.Path.{_≡_, refl, sym, ap, subst, _∙_}
-use borrow.Author.Tests.{lt-ltb, eq-eqb}
+use borrow.Author.Tests.{lt-ltb, ltb-true, eq-eqb}
+use lib.Dec.{ltb}
 use native.Mathlib.Omega.{arith}
 use Rattle.words.specs.Choice.{pick}
-use Rattle.memory.specs.Buffers.{Buffers}
+use Rattle.memory.specs.Buffers.{Buffers, limitOf}
 use Rattle.machine.proofs.ChannelLaws.{named}
-use Rattle.machine.proofs.ConditionLaws.{says-yes, says-no}
+use Rattle.machine.proofs.ConditionLaws.{says-yes, says-no, unless-none, first-none-left, first-none-right}
 use Rattle.machine.proofs.GivenLaws.{given-sound, given-powered, given-agree}
 use Rattle.machine.specs.Outcomes.{first, unless, givenNumber}
 use Rattle.machine.specs.States.{channelOf, withChannel, withLast, channelNumber, isChannel}
@@ -18,20 +19,23 @@ use Rattle.machine.specs.declared.Channel.{Channel}
 use Rattle.machine.specs.declared.State.{State}
 use Rattle.block_rules.proofs.CountLaws.{total-most, total-narrow, total-wide}
 use Rattle.block_rules.specs.Premises.{from, into, Copy}
-use Rattle.block_rules.specs.Stages.{Ended}
+use Rattle.block_rules.specs.Stages.{Going, Ended}
 use Rattle.block_rules.specs.Totals.{total}
+use Rattle.step.specs.Choosing.{external}
+use Rattle.step.specs.Step.{entryNumber}
 use Rattle.sweep_rules.proofs.ConditionLaws.{says-sweepable, sweep-given}
 use Rattle.sweep_rules.proofs.LeftLaws.{copied-spares, swept-sound, swept-agree, swept-board, swept-other, swept-cp, swept-last, swept-spares}
 use Rattle.sweep_rules.proofs.PassedLaws.{number-is, number-most, lines-few, passed-given, passed-limits, passed-conditions, accepted-sweep, refused-sweep}
 use Rattle.sweep_rules.specs.Conditions.{Sweepable}
 use Rattle.sweep_rules.specs.Copies.{copiedOn}
 use Rattle.sweep_rules.specs.Plainly.{plainly}
+use Rattle.sweep_rules.specs.Ranges.{placeOf}
 use Rattle.sweep_rules.specs.Sweep.{Sweep, sweptTo, bytesToGo, sweepable, doneSweep, sweepNumber, sweepOf}
 use Rattle.promises.proofs.RunLaws.{goes-on}
 use Rattle.promises.specs.Joined.{RunsAlone, Through}
 use Rattle.promises_blocks.specs.Sweeps.{SweepAnswers, SweepDoes, SweepLeaves, Sweeps}
 use Rattle.promises_blocks.proofs.MemoryLaws.{same-in, copied-held}
-use Rattle.promises_blocks.proofs.MetLaws.{copy-met, alone-met, demanded}
+use Rattle.promises_blocks.proofs.MetLaws.{copy-met, alone-met, demanded, rest-sweepable}
 use Rattle.promises_blocks.proofs.PlainLaws.{end, ends, plainly-ends, ends-state}
 
 -- ---- demand 1
@@ -138,7 +142,7 @@ module _ (s : State) (m : Buffers) (b : Bool) (lines : ℕ) (accepted : sweepOf 
 -- ---- 15
 
 -- where nothing before it applies, 15 is given exactly where the conditions are not met
-pub then-conditions : (s : State) (m : Buffers) (b : Bool) (lines : ℕ) → givenNumber s m ≡ 0 → lines < 16
+then-conditions : (s : State) (m : Buffers) (b : Bool) (lines : ℕ) → givenNumber s m ≡ 0 → lines < 16
     → sweepOf s m (channelNumber b) lines .number ≡ pick (sweepable s m b lines) 0 15
 unfolding sweepNumber first unless isChannel channelNumber
 then-conditions s m b lines given few = number-is s m (channelNumber b) lines ∙ go b
@@ -146,6 +150,16 @@ then-conditions s m b lines given few = number-is s m (channelNumber b) lines �
     go : (b : Bool) → sweepNumber s m (channelNumber b) lines ≡ pick (sweepable s m b lines) 0 15
     go true = rw (lt-ltb lines 16 few, given, named true)
     go false = rw (lt-ltb lines 16 few, given, named false)
+
+-- so a sweep of the rest of a transfer that is going on is accepted, of ranges that do not wrap, while the other channel does not run and no EXT is up
+pub rest-accepted : {b : Bool} {n : ℕ} {c₀ : Channel} {m₀ : Buffers} (lines : ℕ) → Copy n c₀ m₀ → placeOf (from c₀) + n ≤ limitOf (from c₀ .tag)
+    → placeOf (into c₀) + n ≤ limitOf (into c₀ .tag) → ((x : Bool) → external lines x ≡ false)
+    → (k : ℕ) (s : State) (m : Buffers) → Going n c₀ m₀ k (channelOf s b) m → RunsAlone b s m lines → sweepOf s m (channelNumber b) lines .number ≡ 0
+unfolding entryNumber
+rest-accepted {b} lines p fromWhole intoWhole quiet k s m g a =
+    let given : givenNumber s m ≡ 0 = first-none-right (unless (ltb lines 16) 12) (givenNumber s m) (a .entered) in
+    let few : lines < 16 = ltb-true lines 16 (unless-none 12 refl (first-none-left (unless (ltb lines 16) 12) (givenNumber s m) (a .entered))) in
+    then-conditions s m b lines given few ∙ rw (says-yes (says-sweepable s m b lines) (rest-sweepable lines p fromWhole intoWhole quiet k s m g a))
 
 fifteen : (s : State) (m : Buffers) (b : Bool) (lines : ℕ) → givenNumber s m ≡ 0 → lines < 16
     → (sweepOf s m (channelNumber b) lines .number ≡ 15) ↔ ¬ (Sweepable s m b lines)

@@ -1,321 +1,342 @@
--- Demand 3 with pauses: calls in a row with pauses are, for the channel, a row of its transfer steps with other things between.
+-- Demand 3 with pauses: a pause gives back the channel; calls in a row with pauses are, for the channel, a row of its transfer steps with other things
+-- between; and what is left can be swept.
 -- Assumes nothing.
-use Prim.Native.Nat.{ℕ, suc, _+_, _<_, _≤_}
+use Prim.Native.Nat.{ℕ, zero, suc, _+_, _-_, _*_, _/_, _%_, _^_, _<_, _≤_}
+use borrow.Author.Tests.{eqb-false, eq-eqb, ne-eqb}
+use lib.{Dec.eqb, Pow.split, Pow.mod-pow-add}
 use mathlib.Core.Bool.{Bool, true, false}
 use mathlib.Core.List.{List, [], _++_}
 use mathlib.Core.Logic.{inr}
 use mathlib.Core.Path.{_≡_, refl, sym, ap, subst, _∙_}
-use native.Mathlib.Decide.{decLt}
-use native.Mathlib.Omega.{arith}
-use Rattle.words.proofs.ChoiceLaws.{apart}
-use Rattle.memory.specs.declared.Pointer.{Pointer}
-use Rattle.memory.specs.Buffers.{Buffers}
-use Rattle.memory.specs.Places.{Place}
+use native.Mathlib.{Decide.ℕ-discrete, Nat.add-comm, Nat.add-assoc, Nat.one-mul, Nat.zero-mul, Omega.arith}
 use Rattle.memory.proofs.SpanLaws.{apart-right}
-use Rattle.machine.specs.declared.Channel.{Channel}
-use Rattle.machine.specs.declared.Fields.{Fields}
-use Rattle.machine.specs.declared.Mode.the-variants.{Suspended}
-use Rattle.machine.specs.declared.State.{State}
-use Rattle.machine.specs.Psw.{transferring, programRunning}
-use Rattle.machine.specs.States.{channelOf, channelNumber, blockOf, isRunning}
-use Rattle.machine.specs.Updates.{withControl, withTransfer}
-use Rattle.machine.proofs.ChannelLaws.{named}
-use Rattle.attention.specs.declared.Command.{Command}
-use Rattle.attention.specs.declared.Command.the-variants.{Suspend, Resume}
-use Rattle.attention.specs.Attention.{orderTo, attentionOf}
-use Rattle.attention.specs.Blocks.{orderOf, parameterBlock}
-use Rattle.attention.specs.Effects.{suspended}
-use Rattle.attention.specs.Touched.{storedBy}
-use Rattle.attention.proofs.Outcomes.{refused-nothing, shared-kept}
-use Rattle.attention.proofs.Stores.{bytes-kept, lengths-kept}
-use Rattle.transfer.proofs.KeptLaws.{only-these}
-use Rattle.step.specs.Step.{stepOf}
-use Rattle.step.proofs.ChoosingLaws.{chosen-running}
-use Rattle.step.proofs.OutcomeLaws.{cp-kept}
-use Rattle.block_rules.specs.Premises.{from, into, Lent, Copy}
-use Rattle.block_rules.specs.Rows.{Left, Untouched, Row, start, steps, other}
-use Rattle.block_rules.specs.Stages.{midway, Held, Going, Ended}
-use Rattle.block_rules.specs.Totals.{movedAfter, total}
-use Rattle.block_rules.proofs.CopyLaws.{down, reached}
-use Rattle.block_rules.proofs.Demand3.{going, ended}
-use Rattle.promises.specs.Calls.{Turn, Calls, EndsAtCall}
-use Rattle.promises.specs.Joined.{RunsAlone}
-use Rattle.promises.proofs.AloneLaws.{transfer-turn}
+use Rattle.words.{specs.Choice.pick, specs.Bits.bitOf, specs.Bits.withBit, proofs.BitLaws.bit-other, proofs.ChoiceLaws.apart}
+use Rattle.memory.specs.{declared.Pointer.Pointer, Buffers.Buffers, Buffers.limitOf, Places.Place, Places.ApartFrom}
+use Rattle.machine.specs.{declared.Channel.Channel, declared.Fields.Fields, declared.Mode.the-variants.Suspended, declared.State.State, Outcomes.Outcome}
+use Rattle.machine.specs.{Psw.transferring, Psw.programRunning, Psw.withPsw, Updates.withControl, Updates.withTransfer, Updates.stoppedPsw}
+use Rattle.machine.specs.States.{channelOf, channelNumber, blockOf, busyIn, isRunning}
+use Rattle.machine.proofs.ChannelLaws.{put-same, named}
+use Rattle.attention.specs.{declared.Command.Command, declared.Command.the-variants.Suspend, declared.Command.the-variants.Resume}
+use Rattle.attention.specs.{Attention.orderTo, Attention.orderedChannel, Blocks.orderOf, Blocks.parameterBlock, Touched.storedBy}
+use Rattle.attention.specs.{Commands.copied, Commands.obeyed, Commands.ordered, Effects.onlyPsw, Effects.suspended, Effects.commanded, Effects.channelOrdered}
+use Rattle.attention.proofs.Outcomes.{accepted-order, refused-nothing, shared-kept}
+use Rattle.attention.proofs.{Pauses.suspend-resume, Stores.bytes-kept, Stores.lengths-kept}
+use Rattle.step.{specs.Choosing.external, specs.Step.stepOf, proofs.ChoosingLaws.chosen-running, proofs.OutcomeLaws.cp-kept}
+use Rattle.block_rules.specs.{Premises.from, Premises.into, Premises.Lent, Premises.Copy, Totals.movedAfter, Totals.total}
+use Rattle.block_rules.specs.{Rows.Left, Rows.Untouched, Rows.Row, Rows.start, Rows.steps, Rows.other, Stages.midway, Stages.Held, Stages.Ended}
+use Rattle.sweep_rules.specs.{Plainly.plainly, Ranges.placeOf, Sweep.sweepOf}
+use Rattle.block_rules.proofs.{CopyLaws.reached, Demand3.going, Demand3.ended, StageLaws.mid-count}
+use Rattle.promises.specs.{Calls.Turn, Calls.Calls, Calls.EndsAtCall, Joined.RunsAlone, SheetAttention.outcomeTo, SheetAttention.channelAfter}
 use Rattle.promises.proofs.CallLaws.{turn-is, transfer-channel, transfer-memory, step-kept, attention-kept}
-use Rattle.promises.proofs.Joined.{busy-same, same-lent}
-use Rattle.promises.proofs.MachineLaws.{moves}
-use Rattle.promises_pauses.specs.Pausing.{Quietly, blockBytes, busyByte, Clear, PauseApart, BlockKept, Spared, PausedCalls, PauseStores, EndsPaused, SameEnd, begin, transfer, step, attention, host, suspend, resume}
-use Rattle.promises_pauses.proofs.PauseLaws.{suspend-only, pause-same}
+use Rattle.promises.proofs.{AloneLaws.transfer-turn, AloneLaws.alone-next, Joined.busy-same, Joined.same-lent, MachineLaws.row-kept, MachineLaws.moves}
+use Rattle.promises_blocks.proofs.{PlainLaws.plainly-stops, PlainLaws.plainly-goes, Sweeps.rest-accepted, Sweeps.sweeps}
+use Rattle.promises_pauses.specs.Pausing.{Quietly, blockBytes, busyByte, Clear, BlockKept, PauseStores, PauseApart, Spared, PausedCalls, EndsPaused}
+use Rattle.promises_pauses.specs.Pausing.{SameEnd, SweptRest, begin, transfer, step, attention, host, suspend, resume}
 
--- a transfer step leaves PP and the fields of CC, and so does a row
-row-kept : {n : ℕ} {c₀ : Channel} {m₀ : Buffers} {k : ℕ} {c : Channel} {m : Buffers} → Row n c₀ m₀ k c m → (c .pp ≡ c₀ .pp) × (c .fields ≡ c₀ .fields)
-unfolding withTransfer
-row-kept start = (refl, refl)
-row-kept (steps {c = c} {m = m} r) = (ap (λ (x : Channel). x .pp) (only-these c m) ∙ row-kept r .0, ap (λ (x : Channel). x .fields) (only-these c m) ∙ row-kept r .1)
-row-kept (other r u) = row-kept r
+-- ---- a pause by itself
+
+-- a bit that is made what it is leaves the number
+pub with-bit-back : (x k : ℕ) → withBit x k (bitOf x k) ≡ x
+unfolding withBit bitOf
+with-bit-back x k =
+    rw (digit (ℕ-discrete (x / 2 ^ k % 2) 1))
+    (add-assoc (x / 2 ^ (k + 1) * 2 ^ (k + 1)) (x / 2 ^ k % 2 * 2 ^ k) (x % 2 ^ k)
+    ∙ ap (λ (y : ℕ). x / 2 ^ (k + 1) * 2 ^ (k + 1) + y) (sym (mod-pow-add x 1 k) ∙ ap (λ (i : ℕ). x % 2 ^ i) (add-comm 1 k))
+    ∙ split x (k + 1))
+  where
+    digit : Dec (x / 2 ^ k % 2 ≡ 1) → pick (eqb (x / 2 ^ k % 2) 1) (2 ^ k) 0 ≡ x / 2 ^ k % 2 * 2 ^ k
+    digit (yes e) = rw (eq-eqb (x / 2 ^ k % 2) 1 e, e) (sym (one-mul (2 ^ k)))
+    digit (no ne) = let z : x / 2 ^ k % 2 ≡ 0 = omega arith in rw (ne-eqb (x / 2 ^ k % 2) 1 ne, z) (sym (zero-mul (2 ^ k)))
+
+-- bits other than TB and XF are none that suspend clears
+stopped-bit : (psw j : ℕ) → ¬ (j ≡ 2) → ¬ (j ≡ 6) → bitOf (stoppedPsw psw) j ≡ bitOf psw j
+unfolding stoppedPsw withPsw
+stopped-bit psw j h g = bit-other (withBit psw 2 false) 6 j false g ∙ bit-other psw 2 j false h
+
+-- a quiet CCW leaves a PSW that differs from the channel's in TB and XF alone
+quiet-same : {b : Bool} {command : Command} {s : State} {m : Buffers} → Quietly b command s m → (psw : ℕ)
+    → ((j : ℕ) → ¬ (j ≡ 2) → ¬ (j ≡ 6) → bitOf (channelOf s b .psw) j ≡ bitOf psw j) → ordered (orderTo s m b .ccw) psw ≡ psw
+unfolding ordered obeyed copied withPsw
+quiet-same q psw e =
+    let five = q .limit ∙ e 5 (eqb-false 5 2 refl) (eqb-false 5 6 refl) in
+    let seven = q .ranked ∙ e 7 (eqb-false 7 2 refl) (eqb-false 7 6 refl) in
+    rw (q .interrupts, five, seven, with-bit-back psw 5, with-bit-back psw 7)
+
+-- what an accepted attention makes of its channel
+pub ordered-channel : (b : Bool) (s : State) (m : Buffers) → outcomeTo s m b .number ≡ 0 → channelAfter s m b ≡ orderedChannel s m b
+ordered-channel b s m z =
+    ap (λ (o : Outcome). channelOf (o .state) b) (accepted-order s m (channelNumber b) z) ∙ rw named (put-same s b (orderedChannel s m b))
+
+-- a quiet suspend does what suspend does, and no more
+pub suspend-only : (b : Bool) (s : State) (m : Buffers) → Quietly b Suspend s m → channelAfter s m b ≡ suspended (channelOf s b)
+unfolding orderedChannel channelOrdered orderTo orderOf commanded suspended withControl
+suspend-only b s m q =
+    let psw = channelOf s b .psw in
+    ordered-channel b s m (q .accepted) ∙ rw (q .commands, quiet-same q (stoppedPsw psw) (λ j h g. sym (stopped-bit psw j h g)))
+
+-- so a channel that is suspended and resumed so is the channel itself, its held byte, mark and fields too
+pub pause-same : (b : Bool) (s s′ : State) (m m′ : Buffers) → Quietly b Suspend s m → Quietly b Resume s′ m′ → channelOf s′ b ≡ channelAfter s m b
+    → BlockKept (channelOf s b .pp) (outcomeTo s m b .memory) m′ → ApartFrom (blockBytes b s) false (busyIn (blockOf s b))
+    → programRunning (channelOf s b .psw) ≡ true → channelAfter s′ m′ b ≡ channelOf s b
+unfolding suspended withControl withPsw
+pause-same b s s′ m m′ q q′ registers bytes busy tb =
+    let psw = channelOf s b .psw in
+    (rw named at (suspend-resume s m s′ m′ (channelNumber b) (record {
+      accepted = q .accepted;
+      suspends = rw named (q .commands);
+      accepted′ = q′ .accepted;
+      resumes = rw named (q′ .commands);
+      registers = rw named registers;
+      bytes = rw named bytes;
+      busy = rw named busy;
+    })))
+    ∙ ap (onlyPsw (channelOf s b))
+    (ap (ordered (orderTo s′ m′ b .ccw)) (ap (withBit psw 2) (sym tb) ∙ with-bit-back psw 2)
+    ∙ quiet-same q′ psw (λ j h g. ap (λ (c : Channel). bitOf (c .psw) j) (registers ∙ suspend-only b s m q) ∙ stopped-bit psw j h g))
 
 -- what an attention with such a command stores
 stores : (b : Bool) (command : Command) (s : State) (m : Buffers) → Quietly b command s m
-    → PauseStores (storedBy command (blockOf s b) (parameterBlock command m (blockOf s b) (channelOf s b .pp))) m (attentionOf s m (channelNumber b) .memory)
+    → PauseStores (storedBy command (blockOf s b) (parameterBlock command m (blockOf s b) (channelOf s b .pp))) m (outcomeTo s m b .memory)
 unfolding orderTo orderOf
 stores b command s m q =
     record { others = λ u a h. bytes-kept s m (channelNumber b) u a (rw (named b, q .commands) h); lengths = lengths-kept s m (channelNumber b) }
 
-module _ {b : Bool} {n : ℕ} {s₀ : State} {m₀ : Buffers} (p : Copy n (channelOf s₀ b) m₀) (tb : programRunning (channelOf s₀ b .psw) ≡ true) (far : PauseApart b n s₀) where
+-- suspend leaves PP and the fields of CC
+pick-kept : (paused : Bool) (c : Channel) → (pick paused (suspended c) c .pp ≡ c .pp) × (pick paused (suspended c) c .fields ≡ c .fields)
+unfolding suspended withControl
+pick-kept true c = (refl, refl)
+pick-kept false c = (refl, refl)
+
+module _ {b : Bool} {n : ℕ} {s₀ : State} {m₀ : Buffers} (p : Copy n (channelOf s₀ b) m₀) (tb : programRunning (channelOf s₀ b .psw) ≡ true)
+    (far : PauseApart b n s₀) where
   abbrev c₀ : Channel
   c₀ = channelOf s₀ b
 
-  -- ---- what holds after each call
+  -- a quiet resume gives back that channel, while neither the registers nor PB's bytes have changed
+  abbrev Back : Channel → State → Buffers → Type 0
+  Back c s m = (s′ : State) (m′ : Buffers) → channelOf s′ b ≡ channelOf s b → BlockKept (c₀ .pp) m m′ → Quietly b Resume s′ m′ → channelAfter s′ m′ b ≡ c
 
-  -- while the channel is not suspended
-  record On (k : ℕ) (s : State) (m : Buffers) : Type 0 where
-    pub row : Row n c₀ m₀ k (channelOf s b) m
+  -- what holds after each call: the channel of the undisturbed run, which is this one or the one that was suspended on its way
+  record Seen (k : ℕ) (paused : Bool) (s : State) (m : Buffers) : Type 0 where
+    pub was : Channel
+    pub row : Row n c₀ m₀ k was m
     pub most : k ≤ total c₀ n
     pub control : s .cp ≡ s₀ .cp
+    pub now : channelOf s b ≡ pick paused (suspended was) was
+    pub off : paused ≡ true → (k < total c₀ n) × Back was s m
 
-  -- while it is: it was suspended on its way, and since then neither its registers nor PB's bytes have changed
-  record Off (k : ℕ) (s : State) (m : Buffers) : Type 0 where
-    pub was : State
-    pub then : Buffers
-    pub row : Row n c₀ m₀ k (channelOf was b) m
-    pub short : k < total c₀ n
-    pub control : (s .cp ≡ s₀ .cp) × (was .cp ≡ s₀ .cp)
-    pub quiet : Quietly b Suspend was then
-    pub registers : channelOf s b ≡ channelOf (attentionOf was then (channelNumber b) .state) b
-    pub bytes : BlockKept (c₀ .pp) (attentionOf was then (channelNumber b) .memory) m
+  module _ {k : ℕ} {paused : Bool} {s : State} {m : Buffers} (o : Seen k paused s m) where
+    -- the bytes that have moved have arrived
+    held : Held (from c₀) (into c₀) n m₀ (movedAfter c₀ n k) m
+    held = reached p (o .row) (o .most) .bytes
 
-  data Seen : ℕ → Bool → State → Buffers → Type 0 where
-    on : {k : ℕ} {s : State} {m : Buffers} → On k s m → Seen k false s m
-    off : {k : ℕ} {s : State} {m : Buffers} → Off k s m → Seen k true s m
+    -- PP and the fields of CC are those of the start
+    kept : (channelOf s b .pp ≡ c₀ .pp) × (channelOf s b .fields ≡ c₀ .fields)
+    kept =
+        let e = pick-kept paused (o .was) in
+        (ap (λ (c : Channel). c .pp) (o .now) ∙ e .0 ∙ row-kept (o .row) .0, ap (λ (c : Channel). c .fields) (o .now) ∙ e .1 ∙ row-kept (o .row) .1)
 
-  on-of : {k : ℕ} {s : State} {m : Buffers} → Seen k false s m → On k s m
-  on-of (on o) = o
+    -- stores that are clear of both ranges leave them alone
+    untouched : {m′ : Buffers} {places : List Place} → Clear places (from c₀) n → Clear places (into c₀) n → PauseStores places m m′ → Untouched c₀ n m m′
+    untouched {m′} {places} source destination w =
+        record { fromLeft = left (from c₀) source (held .fromLent); intoLeft = left (into c₀) destination (held .intoLent) }
+      where
+        left : (q : Pointer) → Clear places q n → Lent m q n → Left q n m m′
+        left q clear lent = record { bytes = λ i h. w .others _ _ (clear i h); lent = λ i h. same-lent m m′ (w .lengths) (q .tag) (q .address + i) ∙ lent i h }
 
-  off-of : {k : ℕ} {s : State} {m : Buffers} → Seen k true s m → Off k s m
-  off-of (off o) = o
+    -- what suspend and resume store
+    suspend-stores : Quietly b Suspend s m → PauseStores (blockBytes b s₀ ++ busyByte b s₀) m (outcomeTo s m b .memory)
+    unfolding storedBy parameterBlock
+    suspend-stores q = rw (← (kept .0), ← (busy-same s₀ s b (o .control))) (stores b Suspend s m q)
 
-  -- XF is set short of the end only
-  short-of : {k : ℕ} {s : State} {m : Buffers} → On k s m → transferring (channelOf s b .psw) ≡ true → k < total c₀ n
-  short-of {k} o x = go (decLt k (total c₀ n))
-    where
-      go : Dec (k < total c₀ n) → k < total c₀ n
-      go (yes h) = h
-      go (no h) = let all : k ≡ total c₀ n = omega (arith, o .most) in apart (sym x ∙ ended p (o .row) all .over)
+    resume-stores : Quietly b Resume s m → PauseStores (busyByte b s₀) m (outcomeTo s m b .memory)
+    unfolding storedBy parameterBlock
+    resume-stores q = rw (← (busy-same s₀ s b (o .control))) (stores b Resume s m q)
 
-  -- the bytes that have moved have arrived, suspended or not
-  held-of : {k : ℕ} {paused : Bool} {s : State} {m : Buffers} → Seen k paused s m → Held (from c₀) (into c₀) n m₀ (movedAfter c₀ n k) m
-  held-of (on o) = reached p (o .row) (o .most) .bytes
-  held-of {k} (off o) = reached p (o .row) (down k (total c₀ n) (o .short)) .bytes
+    -- after a call that leaves both ranges and CP alone
+    seen-on : (next : Bool) {s′ : State} {m′ : Buffers} → Untouched c₀ n m m′ → s′ .cp ≡ s .cp → channelOf s′ b ≡ pick next (suspended (o .was)) (o .was)
+        → (next ≡ true → (k < total c₀ n) × Back (o .was) s′ m′) → Seen k next s′ m′
+    seen-on next u f now off = record { was = o .was; row = other (o .row) u; most = o .most; control = f ∙ o .control; now = now; off = off }
 
-  -- stores that are clear of both ranges leave them alone
-  untouched : {k : ℕ} {paused : Bool} {s : State} {m m′ : Buffers} {places : List Place} → Seen k paused s m → Clear places (from c₀) n → Clear places (into c₀) n
-      → PauseStores places m m′ → Untouched c₀ n m m′
-  untouched {m = m} {m′ = m′} {places = places} x source destination w =
-      record { fromLeft = left (from c₀) source (held-of x .fromLent); intoLeft = left (into c₀) destination (held-of x .intoLent) }
-    where
-      left : (q : Pointer) → Clear places q n → Lent m q n → Left q n m m′
-      left q clear lent =
-          record {
-            bytes = λ i h. w .others (q .tag) (q .address + i) (clear i h);
-            lent = λ i h. same-lent m m′ (w .lengths) (q .tag) (q .address + i) ∙ lent i h;
-          }
+    -- and the channel
+    seen-other : (s′ : State) {m′ : Buffers} → channelOf s′ b ≡ channelOf s b → s′ .cp ≡ s .cp → Spared b n s₀ paused m m′ → Seen k paused s′ m′
+    seen-other s′ e f w = seen-on paused (w .ranges) f (e ∙ o .now) (λ x. (o .off x .0, λ s″ m″ g y. o .off x .1 s″ m″ (g ∙ e) (λ i h. y i h ∙ w .block x i h)))
 
-  -- what suspend stores
-  suspend-stores : {k : ℕ} {s : State} {m : Buffers} → On k s m → Quietly b Suspend s m → PauseStores (blockBytes b s₀ ++ busyByte b s₀) m (attentionOf s m (channelNumber b) .memory)
-  unfolding storedBy parameterBlock
-  suspend-stores {s = s} {m = m} o q = rw (← (row-kept (o .row) .0), ← (busy-same s₀ s b (o .control))) (stores b Suspend s m q)
+  module _ {k : ℕ} {s : State} {m : Buffers} (o : Seen k false s m) (x : transferring (channelOf s b .psw) ≡ true) where
+    -- XF is set short of the end only
+    short-of : k < total c₀ n
+    short-of =
+        let ne : ¬ (k ≡ total c₀ n) = λ all. apart (sym x ∙ ap (λ (c : Channel). transferring (c .psw)) (o .now) ∙ ended p (o .row) all .over) in
+        omega (arith, o .most)
 
-  -- a suspended channel: it does not run, and PP and the fields of CC are those of the start
-  off-channel : {k : ℕ} {s : State} {m : Buffers} → Off k s m → (channelOf s b .mode ≡ Suspended) × (channelOf s b .pp ≡ c₀ .pp) × (channelOf s b .fields ≡ c₀ .fields)
-  unfolding suspended withControl
-  off-channel o =
-      let e = o .registers ∙ suspend-only b (o .was) (o .then) (o .quiet) in
-      (ap (λ (c : Channel). c .mode) e, ap (λ (c : Channel). c .pp) e ∙ row-kept (o .row) .0, ap (λ (c : Channel). c .fields) e ∙ row-kept (o .row) .1)
+    -- its transfer step
+    seen-transfer : (lines : ℕ) → Turn b s m lines → Seen (suc k) false (stepOf s m lines .state) (stepOf s m lines .memory)
+    seen-transfer lines t =
+        record {
+          was = channelOf (stepOf s m lines .state) b;
+          row = rw (turn-is b s m lines t x, transfer-channel b s m, transfer-memory b s m, o .now) (steps (o .row));
+          most = short-of;
+          control = cp-kept s m lines ∙ o .control;
+          now = refl;
+          off = λ e. apart (sym e);
+        }
 
-  -- so no step is its turn
-  no-turn : {k : ℕ} {s : State} {m : Buffers} → Off k s m → (lines : ℕ) → Turn b s m lines → ⊥
-  unfolding isRunning
-  no-turn {s = s} o lines t = apart (sym (ap isRunning (chosen-running s lines b (inr (t .chosen)))) ∙ ap isRunning (off-channel o .0))
+    -- a suspend
+    seen-suspend : Quietly b Suspend s m → Seen k true (outcomeTo s m b .state) (outcomeTo s m b .memory)
+    unfolding midway withTransfer
+    seen-suspend q =
+        let running = ap (λ (c : Channel). programRunning (c .psw)) (o .now ∙ going p (o .row) short-of .registers) ∙ tb in
+        let busy : ApartFrom (blockBytes b s) false (busyIn (blockOf s b)) = rw (kept o .0, busy-same s₀ s b (o .control)) (far .busy) in
+        seen-on o true (untouched o (far .source) (far .destination) (suspend-stores o q)) (shared-kept s m (channelNumber b) .0)
+        (suspend-only b s m q ∙ ap suspended (o .now)) (λ _. (short-of, λ s′ m′ e y q′. pause-same b s s′ m m′ q q′ e (rw (kept o .0) y) busy running ∙ o .now))
 
-  -- it was suspended on its way
-  was-mid : {k : ℕ} {s : State} {m : Buffers} (o : Off k s m) → channelOf (o .was) b ≡ midway c₀ n (movedAfter c₀ n k)
-  was-mid o = going p (o .row) (o .short) .registers
+  module _ {k : ℕ} {s : State} {m : Buffers} (o : Seen k true s m) where
+    -- suspended it does not run, so no step is its turn
+    waits : (channelOf s b .mode ≡ Suspended) × ((lines : ℕ) → Turn b s m lines → ⊥)
+    unfolding suspended withControl isRunning
+    waits =
+        let e = ap (λ (c : Channel). c .mode) (o .now) in
+        (e, λ lines t. apart (sym (ap isRunning (chosen-running s lines b (inr (t .chosen)))) ∙ ap isRunning e))
 
-  -- resumed so, it is what it was
-  given-back : {k : ℕ} {s : State} {m : Buffers} (o : Off k s m) → Quietly b Resume s m → channelOf (attentionOf s m (channelNumber b) .state) b ≡ channelOf (o .was) b
-  unfolding midway withTransfer
-  given-back {s = s} {m = m} o q =
-      pause-same b (o .was) s (o .then) m (o .quiet) q (o .registers) (rw (row-kept (o .row) .0) (o .bytes))
-      (rw (row-kept (o .row) .0, busy-same s₀ (o .was) b (o .control .1)) (far .busy)) (ap (λ (c : Channel). programRunning (c .psw)) (was-mid o) ∙ tb)
+    -- resumed so, it is what it was
+    given-back : Quietly b Resume s m → channelAfter s m b ≡ o .was
+    given-back q = o .off refl .1 s m refl (λ i h. refl) q
 
-  -- what resume stores
-  resume-stores : {k : ℕ} {s : State} {m : Buffers} → Off k s m → Quietly b Resume s m → PauseStores (busyByte b s₀) m (attentionOf s m (channelNumber b) .memory)
-  unfolding storedBy parameterBlock
-  resume-stores {s = s} {m = m} o q = rw (← (busy-same s₀ s b (o .control .0))) (stores b Resume s m q)
+    seen-resume : Quietly b Resume s m → Seen k false (outcomeTo s m b .state) (outcomeTo s m b .memory)
+    seen-resume q =
+        let clear = apart-right (blockBytes b s₀) (busyByte b s₀) in
+        seen-on o false (untouched o (λ i h. clear _ _ (far .source i h)) (λ i h. clear _ _ (far .destination i h)) (resume-stores o q))
+        (shared-kept s m (channelNumber b) .0) (given-back q) (λ e. apart (sym e))
 
-  -- what leaves the channel alone, suspended or not
-  seen-other : {k : ℕ} {paused : Bool} {s : State} {m : Buffers} (s′ : State) (m′ : Buffers) → channelOf s′ b ≡ channelOf s b → s′ .cp ≡ s .cp
-      → Spared b paused n s₀ m m′ → Seen k paused s m → Seen k paused s′ m′
-  seen-other {k} s′ m′ e f w (on o) =
-      on (record { row = subst (λ (c : Channel). Row n c₀ m₀ k c m′) (sym e) (other (o .row) (w .ranges)); most = o .most; control = f ∙ o .control })
-  seen-other s′ m′ e f w (off o) =
-      off (record {
-        was = o .was;
-        then = o .then;
-        row = other (o .row) (w .ranges);
-        short = o .short;
-        control = (f ∙ o .control .0, o .control .1);
-        quiet = o .quiet;
-        registers = e ∙ o .registers;
-        bytes = λ i h. w .block refl i h ∙ o .bytes i h;
-      })
-
-  -- TX stays off
-  seen-unended : {k : ℕ} {paused : Bool} {s : State} {m : Buffers} → Seen k paused s m → channelOf s b .fields .externalEnd ≡ 0
-  seen-unended (on o) = ap (λ (f : Fields). f .externalEnd) (row-kept (o .row) .1) ∙ p .plain .unended
-  seen-unended (off o) = ap (λ (f : Fields). f .externalEnd) (off-channel o .2) ∙ p .plain .unended
-
-  -- after every call the one or the other holds
   seen : {k : ℕ} {paused : Bool} {s : State} {m : Buffers} → PausedCalls b n s₀ m₀ k paused s m → Seen k paused s m
-  seen begin = on (record { row = start; most = omega arith; control = refl })
-  seen (transfer {k = k} {s = s} {m = m} r lines t x) =
-      let o = on-of (seen r) in
-      on {k = suc k} {s = (stepOf s m lines) .state} {m = (stepOf s m lines) .memory} (record {
-        row = rw (turn-is b s m lines t x, transfer-channel b s m, transfer-memory b s m) (steps (o .row));
-        most = short-of o x;
-        control = cp-kept s m lines ∙ o .control;
-      })
-  seen (step {s = s} {m = m} r lines ne w) = seen-other _ _ (step-kept b s m lines (seen-unended (seen r)) ne) (cp-kept s m lines) w (seen r)
-  seen (attention {s = s} {m = m} r channel ne w) = seen-other _ _ (attention-kept b s m channel ne) (shared-kept s m channel .0) w (seen r)
-  seen (host {s = s} r w) = seen-other s _ refl refl w (seen r)
-  seen (suspend {s = s} {m = m} r x q) =
-      let o = on-of (seen r) in
-      off (record {
-        was = s;
-        then = m;
-        row = other (o .row) (untouched (on o) (far .source) (far .destination) (suspend-stores o q));
-        short = short-of o x;
-        control = (shared-kept s m (channelNumber b) .0 ∙ o .control, o .control);
-        quiet = q;
-        registers = refl;
-        bytes = λ i h. refl;
-      })
-  seen (resume {k = k} {s = s} {m = m} r q) =
-      let o = off-of (seen r) in
-      let most : k ≤ total c₀ n = down k (total c₀ n) (o .short) in
-      on (record {
-        row =
-            subst (λ (c : Channel). Row n c₀ m₀ k c ((attentionOf s m (channelNumber b)) .memory)) (sym (given-back o q))
-            (other (o .row) (untouched (off o) (λ i h. apart-right (blockBytes b s₀) (busyByte b s₀) _ _ (far .source i h))
-            (λ i h. apart-right (blockBytes b s₀) (busyByte b s₀) _ _ (far .destination i h)) (resume-stores o q)));
-        most = most;
-        control = shared-kept s m (channelNumber b) .0 ∙ o .control .0;
-      })
+  seen begin = record { was = c₀; row = start; most = omega arith; control = refl; now = refl; off = λ e. apart (sym e) }
+  seen (transfer r lines t x) = seen-transfer (seen r) x lines t
+  seen (step {s = s} {m = m} r lines ne w) =
+      let unended = ap (λ (f : Fields). f .externalEnd) (kept (seen r) .1) ∙ p .plain .unended in
+      seen-other (seen r) _ (step-kept b s m lines unended ne) (cp-kept s m lines) w
+  seen (attention {s = s} {m = m} r channel ne w) = seen-other (seen r) _ (attention-kept b s m channel ne) (shared-kept s m channel .0) w
+  seen (host {s = s} r w) = seen-other (seen r) s refl refl w
+  seen (suspend r x q) = seen-suspend (seen r) x q
+  seen (resume r q) = seen-resume (seen r) q
 
   -- demand 3 with pauses: the transfer ends at demand 3's own total
   pub demand13 : EndsPaused b n s₀ m₀ (total c₀ n)
   demand13 =
       record {
-        before = λ r h. going p (on-of (seen r) .row) h;
-        turns = λ {j} {s} {m} r h lines t. moves b n s₀ m₀ j s m lines (going p (on-of (seen r) .row) h) t;
-        then = λ r. ended p (on-of (seen r) .row) refl;
-        short = λ r. off-of (seen r) .short;
-        waits = λ r. (off-channel (off-of (seen r)) .0, no-turn (off-of (seen r)));
-        bytes = λ r. held-of (seen r);
-        back = λ r q. given-back (off-of (seen r)) q ∙ was-mid (off-of (seen r));
-        suspends = λ r q. suspend-stores (on-of (seen r)) q;
-        resumes = λ r q. resume-stores (off-of (seen r)) q;
+        before = λ r h. rw (seen r .now) (going p (seen r .row) h);
+        turns = λ {j} {s} {m} r h lines t. moves b n s₀ m₀ j s m lines (rw (seen r .now) (going p (seen r .row) h)) t;
+        then = λ r. rw (seen r .now) (ended p (seen r .row) refl);
+        short = λ r. seen r .off refl .0;
+        waits = λ r. waits (seen r);
+        bytes = λ r. held (seen r);
+        back = λ r q. given-back (seen r) q ∙ going p (seen r .row) (seen r .off refl .0) .registers;
+        suspends = λ r q. suspend-stores (seen r) q;
+        resumes = λ r q. resume-stores (seen r) q;
       }
+
+  -- ---- what follows
+
+  -- PP and CP stay
+  pub places-stay : {k : ℕ} {paused : Bool} {s : State} {m : Buffers} → PausedCalls b n s₀ m₀ k paused s m → (channelOf s b .pp ≡ c₀ .pp) × (s .cp ≡ s₀ .cp)
+  places-stay r = (kept (seen r) .0, seen r .control)
+
+  -- a suspended channel, whole: suspend has done to the one of the undisturbed run what suspend does
+  pub off-registers : {k : ℕ} {s : State} {m : Buffers} → PausedCalls b n s₀ m₀ k true s m → channelOf s b ≡ suspended (midway c₀ n (movedAfter c₀ n k))
+  off-registers r = seen r .now ∙ ap suspended (going p (seen r .row) (seen r .off refl .0) .registers)
+
+  -- a refused attention to the channel is nothing at all
+  pub refused-stays : {k : ℕ} {paused : Bool} {s : State} {m : Buffers} → PausedCalls b n s₀ m₀ k paused s m → ¬ (outcomeTo s m b .number ≡ 0)
+      → PausedCalls b n s₀ m₀ k paused (outcomeTo s m b .state) (outcomeTo s m b .memory)
+  refused-stays {s = s} {m = m} r ne =
+      let same : PauseStores [] m m = record { others = λ u a h. refl; lengths = λ u. refl } in
+      rw (refused-nothing s m (channelNumber b) ne) (host r (record { ranges = untouched (seen r) (λ i h. tt) (λ i h. tt) same; block = λ e i h. refl }))
 
   -- short of the total, and while the other channel does not run, the next step call is the channel's turn
   pub lone-turn : {k : ℕ} {s : State} {m : Buffers} {lines : ℕ} → PausedCalls b n s₀ m₀ k false s m → k < total c₀ n → RunsAlone b s m lines → Turn b s m lines
   lone-turn {s = s} {m = m} {lines = lines} r h a =
-      let g = going p (on-of (seen r) .row) h in
-      let e = row-kept (on-of (seen r) .row) .1 in
-      transfer-turn b s m lines a (g .runs) (g .transfers) (ap (λ (f : Fields). f .synchronised) e ∙ p .plain .unsynchronised) (ap (λ (f : Fields). f .externalEnd) e ∙ p .plain .unended)
+      let g = demand13 .before r h in
+      let e = kept (seen r) .1 in
+      transfer-turn b s m lines a (g .runs) (g .transfers) (ap (λ (f : Fields). f .synchronised) e ∙ p .plain .unsynchronised)
+      (ap (λ (f : Fields). f .externalEnd) e ∙ p .plain .unended)
 
-  -- PP and CP stay
-  stay-of : {k : ℕ} {paused : Bool} {s : State} {m : Buffers} → Seen k paused s m → (channelOf s b .pp ≡ c₀ .pp) × (s .cp ≡ s₀ .cp)
-  stay-of (on o) = (row-kept (o .row) .0, o .control)
-  stay-of (off o) = (off-channel o .1, o .control .0)
+  -- ---- a sweep of the rest
 
-  pub places-stay : {k : ℕ} {paused : Bool} {s : State} {m : Buffers} → PausedCalls b n s₀ m₀ k paused s m → (channelOf s b .pp ≡ c₀ .pp) × (s .cp ≡ s₀ .cp)
-  places-stay r = stay-of (seen r)
+  -- the plain steps of what is left lead to the total, and stop there
+  plain-rest : (lines left more k : ℕ) {s : State} {m : Buffers} → k + left ≡ total c₀ n → PausedCalls b n s₀ m₀ k false s m → RunsAlone b s m lines
+      → SweptRest b n s₀ m₀ left (plainly (left + more) s m b lines)
+  plain-rest lines zero more k {s} {m} e r a =
+      let at : k ≡ total c₀ n = omega arith in
+      let x = demand13 .then (subst (λ (j : ℕ). PausedCalls b n s₀ m₀ j false s m) at r) in
+      rw (plainly-stops (0 + more) s m b lines (x .over)) (record { steps = refl; ended = x })
+  plain-rest lines (suc left) more k {s} {m} e r a =
+      let h : k < total c₀ n = omega arith in
+      let x = demand13 .before r h .transfers in
+      let t = lone-turn r h a in
+      let v = demand13 .turns r h lines t in
+      let rest = plain-rest lines left more (suc k) (omega arith) (transfer r lines t x) (alone-next b s m lines a (v .done) (v .channel)) in
+      let same : suc left + more ≡ suc (left + more) = omega arith in
+      rw (same, plainly-goes (left + more) s m b lines x (v .done)) (record { steps = omega (arith, rest .steps); ended = rest .ended })
 
-  -- a suspended channel, whole: suspend has done to the one of the undisturbed run what suspend does
-  pub off-registers : {k : ℕ} {s : State} {m : Buffers} → PausedCalls b n s₀ m₀ k true s m → channelOf s b ≡ suspended (midway c₀ n (movedAfter c₀ n k))
-  off-registers r = let o = off-of (seen r) in o .registers ∙ suspend-only b (o .was) (o .then) (o .quiet) ∙ ap suspended (was-mid o)
+  -- so an accepted sweep that the channel is given while it is not suspended takes exactly those steps, and leaves what the undisturbed run leaves
+  pub takes-rest : (lines : ℕ) {k : ℕ} {s : State} {m : Buffers} → PausedCalls b n s₀ m₀ k false s m → k < total c₀ n → RunsAlone b s m lines
+      → sweepOf s m (channelNumber b) lines .number ≡ 0 → SweptRest b n s₀ m₀ (total c₀ n - k) (sweepOf s m (channelNumber b) lines)
+  takes-rest lines {k} {s} {m} r h a z =
+      let small = ap (λ (c : Channel). c .bc) (demand13 .before r h .registers) ∙ mid-count c₀ n (movedAfter c₀ n k) in
+      let o = sweepOf s m (channelNumber b) lines in
+      let plain = sweeps .does s m b lines z (omega (arith, small)) .plain (total c₀ n - k + o .steps) (omega arith) in
+      rw plain (plain-rest lines (total c₀ n - k) (o .steps) k (omega arith) r a)
 
-  -- stores that are clear of both ranges leave them alone at every call
-  pub leaves-ranges : {k : ℕ} {paused : Bool} {s : State} {m m′ : Buffers} {places : List Place} → PausedCalls b n s₀ m₀ k paused s m → Clear places (from c₀) n → Clear places (into c₀) n
-      → PauseStores places m m′ → Untouched c₀ n m m′
-  leaves-ranges r = untouched (seen r)
+  -- and it is accepted, of ranges that do not wrap, while the other channel does not run and no EXT is up
+  pub swept-rest : (lines : ℕ) → placeOf (from c₀) + n ≤ limitOf (from c₀ .tag) → placeOf (into c₀) + n ≤ limitOf (into c₀ .tag)
+      → ((x : Bool) → external lines x ≡ false) → {k : ℕ} {s : State} {m : Buffers} → PausedCalls b n s₀ m₀ k false s m → k < total c₀ n → RunsAlone b s m lines
+      → (sweepOf s m (channelNumber b) lines .number ≡ 0) × SweptRest b n s₀ m₀ (total c₀ n - k) (sweepOf s m (channelNumber b) lines)
+  swept-rest lines fromWhole intoWhole quiet {k} {s} {m} r h a =
+      let z = rest-accepted lines p fromWhole intoWhole quiet k s m (demand13 .before r h) a in
+      (z, takes-rest lines r h a z)
 
-  -- so a refused attention to the channel is nothing at all
-  pub refused-stays : {k : ℕ} {paused : Bool} {s : State} {m : Buffers} → PausedCalls b n s₀ m₀ k paused s m → ¬ (attentionOf s m (channelNumber b) .number ≡ 0)
-      → PausedCalls b n s₀ m₀ k paused (attentionOf s m (channelNumber b) .state) (attentionOf s m (channelNumber b) .memory)
-  refused-stays {s = s} {m = m} r ne =
-      rw (refused-nothing s m (channelNumber b) ne)
-      (host r (record { ranges = leaves-ranges {places = []} r (λ i h. tt) (λ i h. tt) (record { others = λ u a h. refl; lengths = λ u. refl }); block = λ e i h. refl }))
+-- ---- without pauses, and the total
 
-  -- where it is not suspended and XF is clear, the row is at the total, and the transfer has ended
-  at-end : {k : ℕ} {s : State} {m : Buffers} → PausedCalls b n s₀ m₀ k false s m → transferring (channelOf s b .psw) ≡ false
-      → (k ≡ total c₀ n) × Ended n c₀ m₀ (channelOf s b) m
-  at-end {k} r x = let e = go (decLt k (total c₀ n)) in (e, ended p (on-of (seen r) .row) e)
-    where
-      go : Dec (k < total c₀ n) → k ≡ total c₀ n
-      go (yes h) = apart (sym (going p (on-of (seen r) .row) h .transfers) ∙ x)
-      go (no h) = omega (arith, on-of (seen r) .most)
+module _ {b : Bool} {n : ℕ} {s₀ : State} {m₀ : Buffers} where
+  -- demand 3's calls are such a row
+  pub paused-of : {k : ℕ} {s : State} {m : Buffers} → Calls b n s₀ m₀ k s m → PausedCalls b n s₀ m₀ k false s m
+  paused-of Calls.begin = begin
+  paused-of (Calls.transfer r lines t x) = transfer (paused-of r) lines t x
+  paused-of (Calls.step r lines ne u) = step (paused-of r) lines ne (record { ranges = u; block = λ e. apart (sym e) })
+  paused-of (Calls.attention r channel ne u) = attention (paused-of r) channel ne (record { ranges = u; block = λ e. apart (sym e) })
+  paused-of (Calls.host r u) = host (paused-of r) (record { ranges = u; block = λ e. apart (sym e) })
 
--- ---- without pauses
+  -- so demand 3 is the case without pauses
+  pub ends-unpaused : {k : ℕ} → EndsPaused b n s₀ m₀ k → EndsAtCall b n s₀ m₀ k
+  ends-unpaused e = record { before = λ r. e .before (paused-of r); turns = λ r. e .turns (paused-of r); then = λ r. e .then (paused-of r) }
 
--- demand 3's calls are such a row
-pub paused-of : {b : Bool} {n : ℕ} {s₀ : State} {m₀ : Buffers} {k : ℕ} {s : State} {m : Buffers} → Calls b n s₀ m₀ k s m → PausedCalls b n s₀ m₀ k false s m
-paused-of Calls.begin = begin
-paused-of (Calls.transfer r lines t x) = transfer (paused-of r) lines t x
-paused-of (Calls.step r lines ne u) = step (paused-of r) lines ne (record { ranges = u; block = λ e. apart (sym e) })
-paused-of (Calls.attention r channel ne u) = attention (paused-of r) channel ne (record { ranges = u; block = λ e. apart (sym e) })
-paused-of (Calls.host r u) = host (paused-of r) (record { ranges = u; block = λ e. apart (sym e) })
+  module _ {end : ℕ} (e : EndsPaused b n s₀ m₀ end) where
+    -- no row has more transfer steps than those of the end
+    most-steps : {k : ℕ} {paused : Bool} {s : State} {m : Buffers} → PausedCalls b n s₀ m₀ k paused s m → k ≤ end
+    most-steps begin = omega arith
+    most-steps (transfer {k = k} {s = s} {m = m} r lines t x) =
+        let ne : ¬ (k ≡ end) = λ at. apart (sym x ∙ e .then (subst (λ (i : ℕ). PausedCalls b n s₀ m₀ i false s m) at r) .over) in
+        omega (arith, most-steps r)
+    most-steps (step r lines ne w) = most-steps r
+    most-steps (attention r channel ne w) = most-steps r
+    most-steps (host r w) = most-steps r
+    most-steps (suspend r x q) = most-steps r
+    most-steps (resume r q) = most-steps r
 
--- so demand 3 is the case without them
-pub ends-unpaused : {b : Bool} {n : ℕ} {s₀ : State} {m₀ : Buffers} {k : ℕ} → EndsPaused b n s₀ m₀ k → EndsAtCall b n s₀ m₀ k
-ends-unpaused e = record { before = λ r h. e .before (paused-of r) h; turns = λ r h lines t. e .turns (paused-of r) h lines t; then = λ r. e .then (paused-of r) }
+    -- where the channel is not suspended and XF is clear, the row is at the end
+    at-end : {k : ℕ} {s : State} {m : Buffers} → PausedCalls b n s₀ m₀ k false s m → transferring (channelOf s b .psw) ≡ false → k ≡ end
+    at-end {k} r x = let ne : ¬ (k < end) = λ h. apart (sym (e .before r h .transfers) ∙ x) in omega (arith, most-steps r)
 
--- a row with pauses and one without, from one start, that come to an end
-pub paused-same-end : {b : Bool} {n : ℕ} {s₀ : State} {m₀ : Buffers} {k j : ℕ} {s s′ : State} {m m′ : Buffers} → Copy n (channelOf s₀ b) m₀
-    → programRunning (channelOf s₀ b .psw) ≡ true → PauseApart b n s₀ → PausedCalls b n s₀ m₀ k false s m → transferring (channelOf s b .psw) ≡ false
-    → Calls b n s₀ m₀ j s′ m′ → transferring (channelOf s′ b .psw) ≡ false → SameEnd b n s₀ k j s s′ m m′
-paused-same-end p tb far r x r′ x′ =
-    let e = at-end p tb far r x in
-    let e′ = at-end p tb far (paused-of r′) x′ in
-    record { steps = e .0 ∙ sym (e′ .0); channel = e .1 .registers ∙ sym (e′ .1 .registers); destination = λ i h. e .1 .copied i h ∙ sym (e′ .1 .copied i h) }
+  -- where such a row comes to an end at all, it is at one transfer step
+  pub ends-once-paused : {k k′ : ℕ} {s : State} {m : Buffers} → PausedCalls b n s₀ m₀ k false s m → EndsPaused b n s₀ m₀ k → EndsPaused b n s₀ m₀ k′ → k ≡ k′
+  ends-once-paused r x y = at-end y r (x .then r .over)
 
--- ---- the total is no other
-
--- such a row came by each number of transfer steps below its own while it was not suspended
-came-by : {b : Bool} {n : ℕ} {s₀ : State} {m₀ : Buffers} {k : ℕ} {paused : Bool} {s : State} {m : Buffers} → PausedCalls b n s₀ m₀ k paused s m → (j : ℕ) → j < k
-    → (s′ : State) × ((m′ : Buffers) × PausedCalls b n s₀ m₀ j false s′ m′)
-came-by begin j h = absurd (omega arith)
-came-by {b} {n} {s₀} {m₀} (transfer {k = k} {s = s} {m = m} r lines t x) j h = go (decLt j k) (λ l. came-by r j l)
-  where
-    go : Dec (j < k) → (j < k → (s′ : State) × ((m′ : Buffers) × PausedCalls b n s₀ m₀ j false s′ m′)) → (s′ : State) × ((m′ : Buffers) × PausedCalls b n s₀ m₀ j false s′ m′)
-    go (yes l) sooner = sooner l
-    go (no l) sooner = let e : k ≡ j = omega arith in (s, (m, subst (λ (i : ℕ). PausedCalls b n s₀ m₀ i false s m) e r))
-came-by (step r lines ne w) j h = came-by r j h
-came-by (attention r channel ne w) j h = came-by r j h
-came-by (host r w) j h = came-by r j h
-came-by (suspend r x q) j h = came-by r j h
-came-by (resume r q) j h = came-by r j h
-
--- where such a row comes to an end at all, it is at one transfer step
-pub ends-once-paused : {b : Bool} {n : ℕ} {s₀ : State} {m₀ : Buffers} {k k′ : ℕ} {s : State} {m : Buffers} → PausedCalls b n s₀ m₀ k false s m
-    → EndsPaused b n s₀ m₀ k → EndsPaused b n s₀ m₀ k′ → k ≡ k′
-ends-once-paused {b} {n} {s₀} {m₀} {k} {k′} r x y = go (decLt k k′) (decLt k′ k)
-  where
-    never : {c : Channel} {m : Buffers} {j : ℕ} → Going n (channelOf s₀ b) m₀ j c m → Ended n (channelOf s₀ b) m₀ c m → ⊥
-    never g e = apart (sym (g .transfers) ∙ e .over)
-
-    go : Dec (k < k′) → Dec (k′ < k) → k ≡ k′
-    go (yes h) d = absurd (never (y .before r h) (x .then r))
-    go (no h) (yes h′) = let u = came-by r k′ h′ in absurd (never (x .before (u .1 .1) h′) (y .then (u .1 .1)))
-    go (no h) (no h′) = omega arith
+  -- a row with pauses and one without, from one start, that come to an end
+  pub paused-same-end : {k j : ℕ} {s s′ : State} {m m′ : Buffers} → Copy n (channelOf s₀ b) m₀ → programRunning (channelOf s₀ b .psw) ≡ true → PauseApart b n s₀
+      → PausedCalls b n s₀ m₀ k false s m → transferring (channelOf s b .psw) ≡ false → Calls b n s₀ m₀ j s′ m′ → transferring (channelOf s′ b .psw) ≡ false
+      → SameEnd b n s₀ k j s s′ m m′
+  paused-same-end {s = s} {s′ = s′} {m = m} {m′ = m′} p tb far r x r′ x′ =
+      let all = demand13 p tb far in
+      let e : Ended n (channelOf s₀ b) m₀ (channelOf s b) m = all .then (rw (at-end all r x) at r) in
+      let e′ : Ended n (channelOf s₀ b) m₀ (channelOf s′ b) m′ = all .then (rw (at-end all (paused-of r′) x′) at (paused-of r′)) in
+      let steps = at-end all r x ∙ sym (at-end all (paused-of r′) x′) in
+      record { steps = steps; channel = e .registers ∙ sym (e′ .registers); destination = λ i h. e .copied i h ∙ sym (e′ .copied i h) }
