@@ -15,7 +15,7 @@ use Rattle.memory.specs.{declared.Pointer.Pointer, Places.Place, Places.span, P
 use Rattle.memory.proofs.StoreLaws.{store-length, store-lent, read-other}
 use Rattle.machine.specs.{declared.Channel.Channel, declared.State.State, Cc.split, Conditions.TooLong, Stages.stagesNumber}
 use Rattle.machine.specs.Outcomes.{Outcome, unless, first, givenNumber}
-use Rattle.machine.specs.Psw.{programRunning, loadLimit, priority, withPsw}
+use Rattle.machine.specs.Psw.{programRunning, withPsw}
 use Rattle.machine.specs.States.{freshState, channelOf, channelNumber, withChannel, isRunning, isSuspended, isChannel, isSecond, sound, soundChannel}
 use Rattle.machine.specs.{States.blockOf, States.busyIn, Updates.withControl, Updates.withTransfer, Updates.stoppedPsw}
 use Rattle.machine.proofs.ChannelLaws.{put-same, put-cp, put-sound, named, last-channel, sound-channel-of, controlled-sound}
@@ -159,12 +159,12 @@ module _ (given : Buffers) (full : Whole given) (fit : ¬ (TooLong given)) where
   low-spared : {paused : Bool} {m m′ : Buffers} → Whole m → Low m m′ → Spared false 5 s₁ paused m m′
   low-spared {m = m} {m′ = m′} whole low =
       record {
-        ranges = record { fromLeft = rw (source-at ready) (left 0x41 (lit≤ tt, lit≤ tt)); intoLeft = rw (destination-at ready) (left 0x10051 (lit≤ tt, lit≤ tt)) };
+        ranges = record { fromLeft = rw (source-at ready) (left 0x41 (lit≤ tt) (lit≤ tt)); intoLeft = rw (destination-at ready) (left 0x10051 (lit≤ tt) (lit≤ tt)) };
         block = λ _ i h. rw pp₁ (low .others (0x10 + i) (omega arith) (omega arith));
       }
     where
-      left : (a : ℕ) → (16 ≤ a) × (a + 5 ≤ 1048576) → Left (pointer a false) 5 m m′
-      left a h =
+      left : (a : ℕ) → 16 ≤ a → a + 5 ≤ 1048576 → Left (pointer a false) 5 m m′
+      left a h g =
           record { bytes = λ i l. low .others (a + i) (omega arith) (omega arith); lent = λ i l. whole-lent m′ (a + i) (omega (arith, low .lengths false)) }
 
   module _ {k : ℕ} {paused : Bool} (w : Way k paused) (ccw : ℕ) where
@@ -197,11 +197,11 @@ module _ (given : Buffers) (full : Whole given) (fit : ¬ (TooLong given)) where
 
     -- an attention with such a CCW is quiet, and leaves the other channel
     attended : {next : Bool} {c : Command} → commandCoded (fieldOf ccw 0 3) ≡ c → fieldOf ccw 3 2 ≡ 0 → commandNumber c (channelOf (w .state) false .mode) ≡ 0
-        → bitOf ccw 5 ≡ loadLimit (channelOf (w .state) false .psw) → bitOf ccw 7 ≡ priority (channelOf (w .state) false .psw)
+        → {psw : ℕ} → channelOf (w .state) false .psw ≡ psw → (bitOf ccw 5 ≡ bitOf psw 5) × (bitOf ccw 7 ≡ bitOf psw 7)
         → (Quietly false c (w .state) anew → PausedCalls false 5 s₁ m₁ k next (outcomeTo (w .state) anew false .state) (outcomeTo (w .state) anew false .memory))
-        → (Quietly false c (w .state) anew → soundChannel (channelAfter (w .state) anew false) ≡ true) → Way k next
+        → (Quietly false c (w .state) anew → soundChannel (channelAfter (w .state) anew false) ≡ soundChannel (channelOf (w .state) false)) → Way k next
     unfolding orderTo orderOf ccwOf blockOf channelNumber hosted
-    attended {c = c} code icf fits five seven calls fit =
+    attended {c = c} code icf fits e bits calls fit =
         let s = w .state in
         let is : orderTo s anew false .ccw ≡ ccw = rw cp-is (stands .read 0 (lit< tt)) in
         let commands : orderTo s anew false .command ≡ c = ap (λ (x : ℕ). commandCoded (fieldOf x 0 3)) is ∙ code in
@@ -209,40 +209,34 @@ module _ (given : Buffers) (full : Whole given) (fit : ¬ (TooLong given)) where
           accepted = accepts false s anew (hosted .lone .entered) (hosted .whole) commands fits;
           commands = commands;
           interrupts = ap (λ (x : ℕ). fieldOf x 3 2) is ∙ icf;
-          limit = ap (λ (x : ℕ). bitOf x 5) is ∙ five;
-          ranked = ap (λ (x : ℕ). bitOf x 7) is ∙ seven;
+          limit = ap (λ (x : ℕ). bitOf x 5) is ∙ bits .0 ∙ sym (ap (λ (x : ℕ). bitOf x 5) e);
+          ranked = ap (λ (x : ℕ). bitOf x 7) is ∙ bits .1 ∙ sym (ap (λ (x : ℕ). bitOf x 7) e);
         } in
+        let whole = sound-channel-of s false (entry-sound s (w .memory) 0 (w .lone .entered)) in
         let idle = ap (λ (c : Channel). isRunning (c .mode)) (attention-kept true s anew 1 (eqb-false 1 2 refl)) ∙ w .lone .idle in
         record {
           state = attentionOf s anew 1 .state;
           memory = attentionOf s anew 1 .memory;
           calls = calls q;
-          lone = record { entered = enters false s anew (hosted .lone .entered) (q .accepted) (fit q); idle = idle };
+          lone = record { entered = enters false s anew (hosted .lone .entered) (q .accepted) (fit q ∙ whole); idle = idle };
           whole = omega (arith, hosted .whole, lengths-kept s anew 1 false);
         }
 
   suspends : {k : ℕ} → Way k false → k < 3 → Way k true
   unfolding hosted commandCoded fieldOf bitOf commandNumber isKnown modeNumber first unless midway withTransfer suspended withControl soundChannel
   suspends w h =
-      let s = w .state in
       let g = ends .before (w .calls) h in
-      let e = ap (λ (c : Channel). c .psw) (g .registers) ∙ psw₁ in
-      let five = ap (λ (x : ℕ). bitOf x 5) e in
-      let seven = ap (λ (x : ℕ). bitOf x 7) e in
-      attended w 0x06 refl refl (rw (g .runs)) (sym five) (sym seven) (suspend (hosted w 0x06 .calls) (g .transfers))
-      (λ q. ap soundChannel (suspend-only false s (anew w 0x06) q) ∙ sound-channel-of s false (entry-sound s (w .memory) 0 (w .lone .entered)))
+      attended w 0x06 refl refl (rw (g .runs)) (ap (λ (c : Channel). c .psw) (g .registers) ∙ psw₁) (refl, refl) (suspend (hosted w 0x06 .calls) (g .transfers))
+      (λ q. ap soundChannel (suspend-only false (w .state) (anew w 0x06) q))
 
   resumes : {k : ℕ} → Way k true → Way k false
   unfolding hosted commandCoded fieldOf bitOf withBit withPsw stoppedPsw commandNumber isKnown modeNumber isSuspended first unless midway withTransfer suspended withControl soundChannel
   resumes w =
-      let s = w .state in
       let o = off-registers (copy ready) tb₁ far (w .calls) in
       let e = ap (λ (c : Channel). c .psw) o ∙ ap (λ (x : ℕ). stoppedPsw x) psw₁ in
       let v = hosted w 0x05 .calls in
-      let five = ap (λ (x : ℕ). bitOf x 5) e in
-      let seven = ap (λ (x : ℕ). bitOf x 7) e in
-      attended w 0x05 refl refl (rw (ap (λ (c : Channel). c .mode) o)) (sym five) (sym seven) (resume v)
-      (λ q. ap soundChannel (ends .back v q) ∙ ap soundChannel (sym o) ∙ sound-channel-of s false (entry-sound s (w .memory) 0 (w .lone .entered)))
+      attended w 0x05 refl refl (rw (ap (λ (c : Channel). c .mode) o)) e (refl, refl) (resume v)
+      (λ q. ap soundChannel (ends .back v q) ∙ ap soundChannel (sym o))
 
   -- one of the channel's transfer steps
   advances : {k : ℕ} → Way k false → k < 3 → Way (suc k) false

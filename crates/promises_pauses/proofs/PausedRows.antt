@@ -199,14 +199,11 @@ module _ {b : Bool} {n : ℕ} {s₀ : State} {m₀ : Buffers} (p : Copy n (chann
         (e, λ lines t. apart (sym (ap isRunning (chosen-running s lines b (inr (t .chosen)))) ∙ ap isRunning e))
 
     -- resumed so, it is what it was
-    given-back : Quietly b Resume s m → channelAfter s m b ≡ o .was
-    given-back q = o .off refl .1 s m refl (λ i h. refl) q
-
     seen-resume : Quietly b Resume s m → Seen k false (outcomeTo s m b .state) (outcomeTo s m b .memory)
     seen-resume q =
         let clear = apart-right (blockBytes b s₀) (busyByte b s₀) in
         seen-on o false (untouched o (λ i h. clear _ _ (far .source i h)) (λ i h. clear _ _ (far .destination i h)) (resume-stores o q))
-        (shared-kept s m (channelNumber b) .0) (given-back q) (λ e. apart (sym e))
+        (shared-kept s m (channelNumber b) .0) (o .off refl .1 s m refl (λ i h. refl) q) (λ e. apart (sym e))
 
   seen : {k : ℕ} {paused : Bool} {s : State} {m : Buffers} → PausedCalls b n s₀ m₀ k paused s m → Seen k paused s m
   seen begin = record { was = c₀; row = start; most = omega arith; control = refl; now = refl; off = λ e. apart (sym e) }
@@ -229,7 +226,7 @@ module _ {b : Bool} {n : ℕ} {s₀ : State} {m₀ : Buffers} (p : Copy n (chann
         short = λ r. seen r .off refl .0;
         waits = λ r. waits (seen r);
         bytes = λ r. held (seen r);
-        back = λ r q. given-back (seen r) q ∙ going p (seen r .row) (seen r .off refl .0) .registers;
+        back = λ {j} {s} {m} r q. seen r .off refl .1 s m refl (λ i h. refl) q ∙ going p (seen r .row) (seen r .off refl .0) .registers;
         suspends = λ r q. suspend-stores (seen r) q;
         resumes = λ r q. resume-stores (seen r) q;
       }
