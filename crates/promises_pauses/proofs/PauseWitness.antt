@@ -43,11 +43,11 @@ use Rattle.promises_pauses.specs.Pausing.{begin, transfer, step, attenti
 use Rattle.promises_pauses.proofs.PausedRows.{ordered-channel, suspend-only, demand13, lone-turn, places-stay, off-registers}
 
 -- all of system memory is lent
-abbrev Whole : Buffers → Type 0
-Whole m = 1048576 ≤ length (spaceOf m false)
+abbrev WholeSystem : Buffers → Type 0
+WholeSystem m = 1048576 ≤ length (spaceOf m false)
 
 -- so all may be touched
-touch : (m : Buffers) → Whole m → (ps : List Place) → allTouchable m ps ≡ true
+touch : (m : Buffers) → WholeSystem m → (ps : List Place) → allTouchable m ps ≡ true
 unfolding allPass
 touch m whole [] = refl
 touch m whole (p ∷ ps) = ap₂ _&&_ (at (p .tag)) (touch m whole ps)
@@ -58,7 +58,7 @@ touch m whole (p ∷ ps) = ap₂ _&&_ (at (p .tag)) (touch m whole ps)
 
 module _ (b : Bool) (s : State) (m : Buffers) (z : entryNumber s m 0 ≡ 0) where
   -- there, where a step is not refused for what it is given, a command that fits the mode is accepted
-  accepts : Whole m → {k : Command} → orderTo s m b .command ≡ k → commandNumber k (channelOf s b .mode) ≡ 0 → outcomeTo s m b .number ≡ 0
+  accepts : WholeSystem m → {k : Command} → orderTo s m b .command ≡ k → commandNumber k (channelOf s b .mode) ≡ 0 → outcomeTo s m b .number ≡ 0
   unfolding attentionOf attentionNumber givenTo orderNumber orderStages stagesNumber entryNumber others first unless
   accepts whole c e =
       settled-number (attentionNumber s m (channelNumber b)) s m _ _
@@ -78,7 +78,7 @@ module _ (b : Bool) (s : State) (m : Buffers) (z : entryNumber s m 0 ≡ 0) wher
       (attention-agree s m n (entry-agree s m 0 z)) (shared-kept s m n .2) (limits-kept m (attentionOf s m n .memory) (lengths-kept s m n))
 
 -- nothing changes but system memory's bytes below 10h
-record Low (m m′ : Buffers) : Type 0 where
+record OnlyLow (m m′ : Buffers) : Type 0 where
   pub others : (a : ℕ) → 16 ≤ a → a < 1048576 → byteAt m′ false a ≡ byteAt m false a
   pub lengths : (u : Bool) → length (spaceOf m′ u) ≡ length (spaceOf m u)
 
@@ -90,12 +90,14 @@ blocks ccw = ccw ∷ 0 ∷ 0x0E ∷ 0 ∷ 0 ∷ 0 ∷ 0 ∷ 0 ∷ 0x03 ∷ 0 ∷
 abbrev job : Job
 job = copyOf true true true true 5
 
-module _ (given : Buffers) (full : Whole given) (fit : ¬ (TooLong given)) where
+module _ (given : Buffers) (full : WholeSystem given) (fit : ¬ (TooLong given)) where
   -- ---- the row's start
 
+  -- the image is ready for the program
   ready : Ready job (layoutOf false) (imageIn given job (layoutOf false)) 0 65535
   ready = ready-met given full fit false true true true true 5 0 (lit≤ tt) (lit≤ tt) (lit< tt)
 
+  -- where it has come to: the state, the channel, memory
   abbrev s₁ : State
   s₁ = come ready .state
 
@@ -142,21 +144,22 @@ module _ (given : Buffers) (full : Whole given) (fit : ¬ (TooLong given)) where
   unfolding total narrow alone copying channelWith source destination bitOf wordSide split
   three = total-is job (onBy (programPlace (layoutOf false)) haltAt) c₁ (come ready .seen) (copy ready .plain .agree)
 
+  -- so the transfer ends at the third of its steps
   ends : EndsPaused false 5 s₁ m₁ 3
   ends = subst (EndsPaused false 5 s₁ m₁) three (demand13 (copy ready) tb₁ far)
 
   -- ---- the calls, one by one
 
   -- a row so far from which a call more can be made: the other channel does not run, and all of system memory is lent
-  record Way (k : ℕ) (paused : Bool) : Type 0 where
+  record RowSoFar (k : ℕ) (paused : Bool) : Type 0 where
     pub state : State
     pub memory : Buffers
     pub calls : PausedCalls false 5 s₁ m₁ k paused state memory
     pub lone : RunsAlone false state memory 0
-    pub whole : Whole memory
+    pub whole : WholeSystem memory
 
   -- stores below 10h leave both ranges and PB alone
-  low-spared : {paused : Bool} {m m′ : Buffers} → Whole m → Low m m′ → Spared false 5 s₁ paused m m′
+  low-spared : {paused : Bool} {m m′ : Buffers} → WholeSystem m → OnlyLow m m′ → Spared false 5 s₁ paused m m′
   low-spared {m = m} {m′ = m′} whole low =
       record {
         ranges = record { fromLeft = rw (source-at ready) (left 0x41 (lit≤ tt) (lit≤ tt)); intoLeft = rw (destination-at ready) (left 0x10051 (lit≤ tt) (lit≤ tt)) };
@@ -167,15 +170,15 @@ module _ (given : Buffers) (full : Whole given) (fit : ¬ (TooLong given)) where
       left a h g =
           record { bytes = λ i l. low .others (a + i) (omega arith) (omega arith); lent = λ i l. whole-lent m′ (a + i) (omega (arith, low .lengths false)) }
 
-  module _ {k : ℕ} {paused : Bool} (w : Way k paused) (ccw : ℕ) where
+  module _ {k : ℕ} {paused : Bool} (w : RowSoFar k paused) (ccw : ℕ) where
     -- the host writes both blocks anew
     abbrev anew : Buffers
     anew = put (w .memory) 0 (blocks ccw)
 
-    hosted : Way k paused
+    hosted : RowSoFar k paused
     hosted =
         let z = w .lone .entered in
-        let low : Low (w .memory) anew = record {
+        let low : OnlyLow (w .memory) anew = record {
           others = λ a h g. put-other (w .memory) 0 (blocks ccw) false a (λ i l. differ (0 + i) a (omega arith) g (λ e. omega arith));
           lengths = put-length (w .memory) 0 (blocks ccw);
         } in
@@ -199,7 +202,7 @@ module _ (given : Buffers) (full : Whole given) (fit : ¬ (TooLong given)) where
     attended : {next : Bool} {c : Command} → commandCoded (fieldOf ccw 0 3) ≡ c → fieldOf ccw 3 2 ≡ 0 → commandNumber c (channelOf (w .state) false .mode) ≡ 0
         → {psw : ℕ} → channelOf (w .state) false .psw ≡ psw → (bitOf ccw 5 ≡ bitOf psw 5) × (bitOf ccw 7 ≡ bitOf psw 7)
         → (Quietly false c (w .state) anew → PausedCalls false 5 s₁ m₁ k next (outcomeTo (w .state) anew false .state) (outcomeTo (w .state) anew false .memory))
-        → (Quietly false c (w .state) anew → soundChannel (channelAfter (w .state) anew false) ≡ soundChannel (channelOf (w .state) false)) → Way k next
+        → (Quietly false c (w .state) anew → soundChannel (channelAfter (w .state) anew false) ≡ soundChannel (channelOf (w .state) false)) → RowSoFar k next
     unfolding orderTo orderOf ccwOf blockOf channelNumber hosted
     attended {c = c} code icf fits e bits calls fit =
         let s = w .state in
@@ -222,14 +225,15 @@ module _ (given : Buffers) (full : Whole given) (fit : ¬ (TooLong given)) where
           whole = omega (arith, hosted .whole, lengths-kept s anew 1 false);
         }
 
-  suspends : {k : ℕ} → Way k false → k < 3 → Way k true
+  -- suspend, and resume
+  suspends : {k : ℕ} → RowSoFar k false → k < 3 → RowSoFar k true
   unfolding hosted commandCoded fieldOf bitOf commandNumber isKnown modeNumber first unless midway withTransfer suspended withControl soundChannel
   suspends w h =
       let g = ends .before (w .calls) h in
       attended w 0x06 refl refl (rw (g .runs)) (ap (λ (c : Channel). c .psw) (g .registers) ∙ psw₁) (refl, refl) (suspend (hosted w 0x06 .calls) (g .transfers))
       (λ q. ap soundChannel (suspend-only false (w .state) (anew w 0x06) q))
 
-  resumes : {k : ℕ} → Way k true → Way k false
+  resumes : {k : ℕ} → RowSoFar k true → RowSoFar k false
   unfolding hosted commandCoded fieldOf bitOf withBit withPsw stoppedPsw commandNumber isKnown modeNumber isSuspended first unless midway withTransfer suspended withControl soundChannel
   resumes w =
       let o = off-registers (copy ready) tb₁ far (w .calls) in
@@ -239,7 +243,7 @@ module _ (given : Buffers) (full : Whole given) (fit : ¬ (TooLong given)) where
       (λ q. ap soundChannel (ends .back v q) ∙ ap soundChannel (sym o))
 
   -- one of the channel's transfer steps
-  advances : {k : ℕ} → Way k false → k < 3 → Way (suc k) false
+  advances : {k : ℕ} → RowSoFar k false → k < 3 → RowSoFar (suc k) false
   advances {k} w h =
       let turn = lone-turn (copy ready) tb₁ far (w .calls) (subst (λ (x : ℕ). k < x) (sym three) h) (w .lone) in
       let v = ends .turns (w .calls) h 0 turn in
@@ -252,7 +256,7 @@ module _ (given : Buffers) (full : Whole given) (fit : ¬ (TooLong given)) where
       }
 
   -- meanwhile the other channel is started, and steps: its program halts
-  other-steps : {k : ℕ} → Way k true → Way k true
+  other-steps : {k : ℕ} → RowSoFar k true → RowSoFar k true
   unfolding hosted orderTo orderOf ccwOf blockOf busyIn commandCoded fieldOf bitOf commandNumber isKnown modeNumber first unless isSecond channelNumber isRunning soundChannel withControl
   other-steps {k} w =
       let s = w .state in
@@ -270,8 +274,8 @@ module _ (given : Buffers) (full : Whole given) (fit : ¬ (TooLong given)) where
       let tp : c₂ .tp ≡ pointer 0x0E false = left .tp ∙ rw (pb, byte 2 (lit< tt), byte 3 (lit< tt), byte 4 (lit< tt), byte 5 (lit< tt)) in
       let kept : (a : ℕ) → 10 ≤ a → a < 1048576 → byteAt m₂ false a ≡ byteAt m false a =
       λ a h g. attention-sheet true s m .startSystemMemory x .others false a (rw cp (differ 9 a (lit< tt) g (λ e. omega arith))) in
-      let low₂ : Low m m₂ = record { others = λ a h g. kept a (omega arith) g; lengths = lengths-kept s m 2 } in
-      let whole₂ : Whole m₂ = omega (arith, v .whole, low₂ .lengths false) in
+      let low₂ : OnlyLow m m₂ = record { others = λ a h g. kept a (omega arith) g; lengths = lengths-kept s m 2 } in
+      let whole₂ : WholeSystem m₂ = omega (arith, v .whole, low₂ .lengths false) in
       let calls₂ : PausedCalls false 5 s₁ m₁ k true s₂ m₂ = attention (v .calls) 2 (eqb-false 2 1 refl) (low-spared (v .whole) low₂) in
       let sound₂ =
       ap soundChannel (registers-kept s m 2)
@@ -285,7 +289,7 @@ module _ (given : Buffers) (full : Whole given) (fit : ¬ (TooLong given)) where
       let h = hlt-stops m₂ c₂ busy there (whole-lent m₂ busy whole₂) in
       let off = ap (λ (y : ℕ). eqb y 1) (left .status .transfer) in
       let e = instruction-done true s₂ m₂ 0 (program-turn true s₂ m₂ 0 lone₂ (ap isRunning (left .mode)) off) off (h .step) in
-      let low₃ : Low m₂ (stepOf s₂ m₂ 0 .memory) = rw e (record {
+      let low₃ : OnlyLow m₂ (stepOf s₂ m₂ 0 .memory) = rw e (record {
         others = λ a l g. read-other m₂ false busy 0 false a (rw (places-stay (copy ready) tb₁ far calls₂ .1, cp₁) (differ 9 a (lit< tt) g (λ z. omega arith)));
         lengths = λ u. store-length m₂ false u busy 0;
       }) in
@@ -303,18 +307,21 @@ module _ (given : Buffers) (full : Whole given) (fit : ¬ (TooLong given)) where
 
   -- ---- the whole row
 
-  begins : Way 0 false
+  -- it begins where the program has come to
+  begins : RowSoFar 0 false
   unfolding imageIn
   begins =
       let lengths : length (spaceOf m₁ false) ≡ length (spaceOf given false) = simp (store-length, put-length) in
       record { state = s₁; memory = m₁; calls = begin; lone = come ready .lonely; whole = omega arith }
 
-  whole-row : Way 3 false
+  -- one pause, two transfer steps, another, and the last step
+  whole-row : RowSoFar 3 false
   whole-row =
       let first = resumes (other-steps (suspends begins (lit< tt))) in
       let second = resumes (other-steps (suspends (advances (advances first (lit< tt)) (lit< tt)) (lit< tt))) in
       advances second (lit< tt)
 
+  -- so in any such memory there is one
   pub paused-row : PausedMet (imageIn given job (layoutOf false))
   unfolding movedAfter narrow alone wordSide bitOf channelNumber pausesOf whole-row begins hosted attended suspends resumes advances other-steps
   paused-row =
@@ -332,6 +339,6 @@ module _ (given : Buffers) (full : Whole given) (fit : ¬ (TooLong given)) where
         ended = ends .then (whole-row .calls);
       }
 
--- there is such a memory: all zeros
+-- there is such a memory: zeros
 pub paused-met : PausedMet (imageIn zeros job (layoutOf false))
 paused-met = paused-row zeros (omega (arith, zeros-whole 1048576)) (told-limits zeros .holds zeros-within)

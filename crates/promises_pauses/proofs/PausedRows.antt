@@ -113,8 +113,8 @@ module _ {b : Bool} {n : ℕ} {s₀ : State} {m₀ : Buffers} (p : Copy n (chann
   c₀ = channelOf s₀ b
 
   -- a quiet resume gives back that channel, while neither the registers nor PB's bytes have changed
-  abbrev Back : Channel → State → Buffers → Type 0
-  Back c s m = (s′ : State) (m′ : Buffers) → channelOf s′ b ≡ channelOf s b → BlockKept (c₀ .pp) m m′ → Quietly b Resume s′ m′ → channelAfter s′ m′ b ≡ c
+  abbrev GivesBack : Channel → State → Buffers → Type 0
+  GivesBack c s m = (s′ : State) (m′ : Buffers) → channelOf s′ b ≡ channelOf s b → BlockKept (c₀ .pp) m m′ → Quietly b Resume s′ m′ → channelAfter s′ m′ b ≡ c
 
   -- what holds after each call: the channel of the undisturbed run, which is this one or the one that was suspended on its way
   record Seen (k : ℕ) (paused : Bool) (s : State) (m : Buffers) : Type 0 where
@@ -123,7 +123,7 @@ module _ {b : Bool} {n : ℕ} {s₀ : State} {m₀ : Buffers} (p : Copy n (chann
     pub most : k ≤ total c₀ n
     pub control : s .cp ≡ s₀ .cp
     pub now : channelOf s b ≡ pick paused (suspended was) was
-    pub off : paused ≡ true → (k < total c₀ n) × Back was s m
+    pub off : paused ≡ true → (k < total c₀ n) × GivesBack was s m
 
   module _ {k : ℕ} {paused : Bool} {s : State} {m : Buffers} (o : Seen k paused s m) where
     -- the bytes that have moved have arrived
@@ -155,7 +155,7 @@ module _ {b : Bool} {n : ℕ} {s₀ : State} {m₀ : Buffers} (p : Copy n (chann
 
     -- after a call that leaves both ranges and CP alone
     seen-on : (next : Bool) {s′ : State} {m′ : Buffers} → Untouched c₀ n m m′ → s′ .cp ≡ s .cp → channelOf s′ b ≡ pick next (suspended (o .was)) (o .was)
-        → (next ≡ true → (k < total c₀ n) × Back (o .was) s′ m′) → Seen k next s′ m′
+        → (next ≡ true → (k < total c₀ n) × GivesBack (o .was) s′ m′) → Seen k next s′ m′
     seen-on next u f now off = record { was = o .was; row = other (o .row) u; most = o .most; control = f ∙ o .control; now = now; off = off }
 
     -- and the channel
@@ -205,6 +205,7 @@ module _ {b : Bool} {n : ℕ} {s₀ : State} {m₀ : Buffers} (p : Copy n (chann
         seen-on o false (untouched o (λ i h. clear _ _ (far .source i h)) (λ i h. clear _ _ (far .destination i h)) (resume-stores o q))
         (shared-kept s m (channelNumber b) .0) (o .off refl .1 s m refl (λ i h. refl) q) (λ e. apart (sym e))
 
+  -- so it holds after each
   seen : {k : ℕ} {paused : Bool} {s : State} {m : Buffers} → PausedCalls b n s₀ m₀ k paused s m → Seen k paused s m
   seen begin = record { was = c₀; row = start; most = omega arith; control = refl; now = refl; off = λ e. apart (sym e) }
   seen (transfer r lines t x) = seen-transfer (seen r) x lines t
