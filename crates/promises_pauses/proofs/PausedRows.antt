@@ -1,16 +1,15 @@
 -- Demand 3 with pauses: a pause gives back the channel; calls in a row with pauses are, for the channel, a row of its transfer steps with other things
 -- between; and what is left can be swept.
 -- Assumes nothing.
-use Prim.Native.Nat.{ℕ, zero, suc, _+_, _-_, _*_, _/_, _%_, _^_, _<_, _≤_}
-use borrow.Author.Tests.{eqb-false, eq-eqb, ne-eqb}
-use lib.{Dec.eqb, Pow.split, Pow.mod-pow-add}
+use Prim.Native.Nat.{ℕ, zero, suc, _+_, _-_, _<_, _≤_}
+use borrow.Author.Tests.{eqb-false}
 use mathlib.Core.Bool.{Bool, true, false}
 use mathlib.Core.List.{List, [], _++_}
 use mathlib.Core.Logic.{inr}
 use mathlib.Core.Path.{_≡_, refl, sym, ap, subst, _∙_}
-use native.Mathlib.{Decide.ℕ-discrete, Nat.add-comm, Nat.add-assoc, Nat.one-mul, Nat.zero-mul, Omega.arith}
+use native.Mathlib.Omega.{arith}
 use Rattle.memory.proofs.SpanLaws.{apart-right}
-use Rattle.words.{specs.Choice.pick, specs.Bits.bitOf, specs.Bits.withBit, proofs.BitLaws.bit-other, proofs.ChoiceLaws.apart}
+use Rattle.words.{specs.Choice.pick, specs.Bits.bitOf, specs.Bits.withBit, proofs.BitLaws.bit-other, proofs.BitLaws.with-bit-back, proofs.ChoiceLaws.apart}
 use Rattle.memory.specs.{declared.Pointer.Pointer, Buffers.Buffers, Buffers.limitOf, Places.Place, Places.ApartFrom}
 use Rattle.machine.specs.{declared.Channel.Channel, declared.Fields.Fields, declared.Mode.the-variants.Suspended, declared.State.State, Outcomes.Outcome}
 use Rattle.machine.specs.{Psw.transferring, Psw.programRunning, Psw.withPsw, Updates.withControl, Updates.withTransfer, Updates.stoppedPsw}
@@ -34,19 +33,6 @@ use Rattle.promises_pauses.specs.Pausing.{Quietly, blockBytes, busyByte,
 use Rattle.promises_pauses.specs.Pausing.{SameEnd, SweptRest, begin, transfer, step, attention, host, suspend, resume}
 
 -- ---- a pause by itself
-
--- a bit that is made what it is leaves the number
-pub with-bit-back : (x k : ℕ) → withBit x k (bitOf x k) ≡ x
-unfolding withBit bitOf
-with-bit-back x k =
-    rw (digit (ℕ-discrete (x / 2 ^ k % 2) 1))
-    (add-assoc (x / 2 ^ (k + 1) * 2 ^ (k + 1)) (x / 2 ^ k % 2 * 2 ^ k) (x % 2 ^ k)
-    ∙ ap (λ (y : ℕ). x / 2 ^ (k + 1) * 2 ^ (k + 1) + y) (sym (mod-pow-add x 1 k) ∙ ap (λ (i : ℕ). x % 2 ^ i) (add-comm 1 k))
-    ∙ split x (k + 1))
-  where
-    digit : Dec (x / 2 ^ k % 2 ≡ 1) → pick (eqb (x / 2 ^ k % 2) 1) (2 ^ k) 0 ≡ x / 2 ^ k % 2 * 2 ^ k
-    digit (yes e) = rw (eq-eqb (x / 2 ^ k % 2) 1 e, e) (sym (one-mul (2 ^ k)))
-    digit (no ne) = let z : x / 2 ^ k % 2 ≡ 0 = omega arith in rw (ne-eqb (x / 2 ^ k % 2) 1 ne, z) (sym (zero-mul (2 ^ k)))
 
 -- bits other than TB and XF are none that suspend clears
 stopped-bit : (psw j : ℕ) → ¬ (j ≡ 2) → ¬ (j ≡ 6) → bitOf (stoppedPsw psw) j ≡ bitOf psw j

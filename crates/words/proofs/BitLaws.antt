@@ -3,11 +3,11 @@
 use mathlib.Core.Bool.{Bool, true, false}
 use mathlib.Core.Path.{_≡_, refl, sym, ap, ap₂, subst, _∙_}
 use Prim.Native.Nat.{ℕ, zero, suc, _+_, _-_, _*_, _/_, _%_, _^_, _<_, _≤_}
-use native.Mathlib.Nat.{mod-lt, mod-eq-of-lt, mod-mod, div-eq-of-lt, div-le-self, zero-mod, zero-mul, one-mul, add-zero, mul-assoc, mul-comm, add-mul, lt-of-lt-of-le, lt-of-le-of-lt}
+use native.Mathlib.Nat.{mod-lt, mod-eq-of-lt, mod-mod, div-eq-of-lt, div-le-self, zero-mod, zero-mul, one-mul, add-zero, add-comm, add-assoc, mul-assoc, mul-comm, add-mul, lt-of-lt-of-le, lt-of-le-of-lt}
 use native.Mathlib.Decide.{ℕ-discrete, decLt}
 use native.Mathlib.Omega.{arith}
 use lib.Bits.{bitAnd, bitOr, and-mask, and-high, and-block, and-le-l, or-block, or-step, or-zero-r, or-lt}
-use lib.Pow.{pow-pos, pow-mono, pow-add, pow-lt, ones-lt, high-ones, shr-shr, shr-mod, shr-lt, split, high, low, field, mod-mod-pow}
+use lib.Pow.{pow-pos, pow-mono, pow-add, pow-lt, ones-lt, high-ones, shr-shr, shr-mod, shr-lt, split, high, low, field, mod-mod-pow, mod-pow-add}
 use borrow.Author.Tests.{eq-eqb, ne-eqb}
 use lib.Dec.{eqb}
 use Rattle.words.specs.Choice.{pick}
@@ -138,3 +138,16 @@ bit-other x k j on ne = ap (λ (n : ℕ). eqb n 1) (go (decLt j k))
         let e : k + 1 + (j - (k + 1)) ≡ j = omega arith in
         ap (λ (n : ℕ). n % 2)
         (subst (λ (n : ℕ). withBit x k on / 2 ^ n ≡ x / 2 ^ n) e (bits-above (withBit x k on) x (j - (k + 1)) (k + 1) (kept-above x k on)))
+
+-- a bit that is made what it is leaves the number
+pub with-bit-back : (x k : ℕ) → withBit x k (bitOf x k) ≡ x
+unfolding withBit bitOf
+with-bit-back x k =
+    rw (digit (ℕ-discrete (x / 2 ^ k % 2) 1))
+    (add-assoc (x / 2 ^ (k + 1) * 2 ^ (k + 1)) (x / 2 ^ k % 2 * 2 ^ k) (x % 2 ^ k)
+    ∙ ap (λ (y : ℕ). x / 2 ^ (k + 1) * 2 ^ (k + 1) + y) (sym (mod-pow-add x 1 k) ∙ ap (λ (i : ℕ). x % 2 ^ i) (add-comm 1 k))
+    ∙ split x (k + 1))
+  where
+    digit : Dec (x / 2 ^ k % 2 ≡ 1) → pick (eqb (x / 2 ^ k % 2) 1) (2 ^ k) 0 ≡ x / 2 ^ k % 2 * 2 ^ k
+    digit (yes e) = rw (eq-eqb (x / 2 ^ k % 2) 1 e, e) (sym (one-mul (2 ^ k)))
+    digit (no ne) = let z : x / 2 ^ k % 2 ≡ 0 = omega arith in rw (ne-eqb (x / 2 ^ k % 2) 1 ne, z) (sym (zero-mul (2 ^ k)))
