@@ -13,8 +13,8 @@ use Rattle.machine.specs.declared.Channel.{Channel}
 use Rattle.attention.specs.Attention.{attentionOf}
 use Rattle.transfer.specs.Halves.{firstPlace, secondPlace}
 use Rattle.transfer.specs.Parts.{Part, Whole, FirstFetch, SecondFetch, FirstStore, SecondStore, partOf}
-use Rattle.transfer.specs.Reads.{dataOf, readPlaces}
-use Rattle.transfer.specs.Sides.{source, destination}
+use Rattle.transfer.specs.Reads.{dataOf}
+use Rattle.transfer.specs.Sides.{destination}
 use Rattle.transfer.specs.Stores.{placesOn, storedPlaces}
 use Rattle.step.specs.Choosing.{requested}
 use Rattle.step.specs.Step.{Step, stepOf}
@@ -23,8 +23,12 @@ use Rattle.step.specs.declared.Kind.the-variants.{Nothing, Instruction, Transfe
 use Rattle.schedule.specs.Rows.{Bench, isAttention, isStep, rowNumber, rowLeft}
 use Rattle.schedule.specs.declared.ScheduleRow.{ScheduleRow}
 
--- what each row and the bench before it come to, summed over rows
-unfoldable pub overRows : (Bench → ScheduleRow → ℕ) → Bench → List ScheduleRow → ℕ
+-- what is counted of a row and the bench before it
+abbrev pub Counted : Type 0
+Counted = Bench → ScheduleRow → ℕ
+
+-- that summed over rows
+unfoldable pub overRows : Counted → Bench → List ScheduleRow → ℕ
 overRows f p [] = 0
 overRows f p (r ∷ rows) = f p r + overRows f (rowLeft p r) rows
 
@@ -35,11 +39,11 @@ onceIf holds = pick holds 1 0
 -- ---- over all
 
 -- a row that is done
-unfoldable pub acceptedAt : Bench → ScheduleRow → ℕ
+unfoldable pub acceptedAt : Counted
 acceptedAt p r = onceIf (eqb (rowNumber p r) 0)
 
 -- a row that is refused
-unfoldable pub refusedAt : Bench → ScheduleRow → ℕ
+unfoldable pub refusedAt : Counted
 refusedAt p r = onceIf (not (eqb (rowNumber p r) 0))
 
 -- ---- attentions to a channel
@@ -49,11 +53,11 @@ abbrev pub isAttentionTo : Bool → ScheduleRow → Bool
 isAttentionTo second r = isAttention r && eqb (r .value) (channelNumber second)
 
 -- one that is done
-unfoldable pub attendedAt : Bool → Bench → ScheduleRow → ℕ
+unfoldable pub attendedAt : Bool → Counted
 attendedAt second p r = onceIf (isAttentionTo second r && eqb (attentionOf (p .state) (p .memory) (r .value) .number) 0)
 
 -- one that is refused
-unfoldable pub rejectedAt : Bool → Bench → ScheduleRow → ℕ
+unfoldable pub rejectedAt : Bool → Counted
 rejectedAt second p r = onceIf (isAttentionTo second r && not (eqb (attentionOf (p .state) (p .memory) (r .value) .number) 0))
 
 -- ---- done steps of a channel
@@ -86,28 +90,20 @@ unfoldable pub doneAt : (Kind → Bool) → Bool → Bench → ScheduleRow → B
 doneAt kind second p r = isStep r && isDone kind second (stepOf (p .state) (p .memory) (r .value))
 
 -- an instruction
-unfoldable pub instructionAt : Bool → Bench → ScheduleRow → ℕ
+unfoldable pub instructionAt : Bool → Counted
 instructionAt second p r = onceIf (doneAt isInstruction second p r)
 
 -- a transfer step, each half of a pair too
-unfoldable pub transferAt : Bool → Bench → ScheduleRow → ℕ
+unfoldable pub transferAt : Bool → Counted
 transferAt second p r = onceIf (doneAt isTransfer second p r)
 
 -- an external end
-unfoldable pub endAt : Bool → Bench → ScheduleRow → ℕ
+unfoldable pub endAt : Bool → Counted
 endAt second p r = onceIf (doneAt isExternal second p r)
 
 -- ---- bytes that transfer steps store
 
--- the places that a transfer step of a part reads
-unfoldable pub readsBy : Part → Channel → Buffers → List Place
-readsBy Whole c m = readPlaces c m
-readsBy FirstFetch c m = firstPlace (source c) ∷ []
-readsBy (SecondFetch byte) c m = secondPlace (source c) ∷ []
-readsBy FirstStore c m = firstPlace (source c) ∷ secondPlace (source c) ∷ []
-readsBy (SecondStore byte) c m = []
-
--- the places that it stores to, empty slots too; a store that a match prevents is none
+-- the places that a transfer step of a part stores to, empty slots too; a store that a match prevents is none
 unfoldable pub storesBy : Part → Channel → Buffers → List Place
 storesBy Whole c m = storedPlaces c (dataOf c m)
 storesBy FirstFetch c m = []
@@ -116,7 +112,7 @@ storesBy FirstStore c m = firstPlace (destination c) ∷ []
 storesBy (SecondStore byte) c m = secondPlace (destination c) ∷ []
 
 -- how many bytes a row stores that is a transfer step of this channel
-unfoldable pub storedAt : Bool → Bench → ScheduleRow → ℕ
+unfoldable pub storedAt : Bool → Counted
 storedAt second p r =
     let c = channelOf (p .state) second in
     pick (doneAt isTransfer second p r) (length (storesBy (partOf c) c (p .memory))) 0
@@ -129,5 +125,5 @@ waitsForDrq c drq =
     isRunning (c .mode) && transferring (c .psw) && (eqb (c .fields .synchronised) 1 || eqb (c .fields .synchronised) 2) && not drq
 
 -- a step row with a line number up to 15 that found this channel so, whatever becomes of the row
-unfoldable pub waitAt : Bool → Bench → ScheduleRow → ℕ
+unfoldable pub waitAt : Bool → Counted
 waitAt second p r = onceIf (isStep r && ltb (r .value) 16 && waitsForDrq (channelOf (p .state) second) (requested (r .value) second))

@@ -1,6 +1,6 @@
--- How long the list of a whole transfer step is, by what moves, what is stored and whether it is translated.
+-- How long the list of a whole transfer step is, by what moves, what is stored and whether it is translated; and how many bytes each part reads.
 -- Assumes nothing.
-use Prim.Native.Nat.{ℕ, suc, _+_}
+use Prim.Native.Nat.{ℕ, suc, _+_, _≤_}
 use lib.ListN.{length, length-append}
 use mathlib.Core.Bool.{Bool, true, false}
 use mathlib.Core.List.{List, []}
@@ -10,11 +10,14 @@ use Rattle.words.specs.Choice.{pick}
 use Rattle.memory.specs.Buffers.{Buffers}
 use Rattle.memory.specs.Places.{Place}
 use Rattle.machine.specs.declared.Channel.{Channel}
-use Rattle.transfer.specs.Parts.{Whole}
+use Rattle.machine.specs.declared.Held.{Held}
+use Rattle.machine.specs.declared.Held.the-variants.{NoByte, Byte}
+use Rattle.transfer.specs.Parts.{Part, Whole, FirstFetch, SecondFetch, FirstStore, SecondStore, isHalf, fetchPart, storePart, partOf}
 use Rattle.transfer.specs.Reads.{entryOf, dataOf, also, readPlaces}
 use Rattle.transfer.specs.Sides.{source, destination, secondAddress, twoMove}
-use Rattle.transfer.specs.Steps.{touchedBy, accesses}
+use Rattle.transfer.specs.Steps.{touchedBy, readsBy, accesses}
 use Rattle.transfer.specs.Stores.{storesTwo, placesOn, storedPlaces}
+use Rattle.transfer.proofs.PartLaws.{half-fetches, half-stores, fetch-due, store-due, not-half}
 
 also-length : (on : Bool) (p : Place) (ps : List Place) → length (also on p ps) ≡ pick on 1 0 + length ps
 unfolding also
@@ -49,3 +52,36 @@ module _ (c : Channel) (m : Buffers) where
       length-append (readPlaces c m) (storedPlaces c (dataOf c m))
       ∙ ap₂ _+_ reads-length stores-length
       ∙ omega (arith, one-also (twoMove c), one-also (storesTwo c (dataOf c m)))
+
+  -- ---- what each part reads
+
+  -- a whole step: the source's one or two, and the translated one
+  pub whole-reads : isHalf c ≡ false → pick (twoMove c) 2 1 + pick (c .fields .translates) 1 0 ≡ length (readsBy (partOf c) c m)
+  unfolding readsBy
+  whole-reads h = rw (not-half c h) (omega (arith, reads-length, one-also (twoMove c)))
+
+  -- no part more than three
+  pub reads-most : (k : Part) → length (readsBy k c m) ≤ 3
+  unfolding readsBy
+  reads-most Whole = omega (arith, reads-length, one (twoMove c), one (c .fields .translates))
+    where
+      one : (b : Bool) → pick b 1 0 ≤ 1
+      one true = omega arith
+      one false = omega arith
+  reads-most FirstFetch = omega arith
+  reads-most (SecondFetch byte) = omega arith
+  reads-most FirstStore = omega arith
+  reads-most (SecondStore byte) = omega arith
+
+  -- with SYN 01 each of two fetches one
+  pub fetch-reads : isHalf c ≡ true → c .fields .synchronised ≡ 1 → 1 ≡ length (readsBy (partOf c) c m)
+  unfolding readsBy fetchPart
+  fetch-reads h e = rw (fetch-due c (c .held) (half-fetches c h e) refl) (one (c .held))
+    where
+      one : (held : Held) → 1 ≡ length (readsBy (fetchPart held) c m)
+      one NoByte = refl
+      one (Byte byte) = refl
+
+  -- else the first of two stores the word, the second nothing more
+  pub store-reads : (held : Held) → isHalf c ≡ true → ¬ (c .fields .synchronised ≡ 1) → c .held ≡ held → length (readsBy (storePart held) c m) ≡ length (readsBy (partOf c) c m)
+  store-reads held h ne e = let apart = half-stores c h ne in rw (store-due c held (apart .0) (apart .1) e)

@@ -5,6 +5,7 @@ use contract.Lifetimes.{Lfts}
 use denote.Ref.{now}
 use denote.Triple.Clauses.{AtExit}
 use mathlib.Core.Path.{_≡_, sym, _∙_}
+use mathlib.Core.List.{[]}
 use Rattle.memory.specs.Buffers.{buffers}
 use Rattle.transfer.specs.Steps.{transferred}
 use Rattle.transfer.proofs.transfer.Kinds as transfer-kinds
@@ -15,6 +16,8 @@ use Rattle.transfer.proofs.half.Kinds as half-kinds
 use Rattle.transfer.proofs.half.Reads as half-reads
 use Rattle.transfer.proofs.is_half.Kinds as is-half-kinds
 use Rattle.transfer.proofs.is_half.Reads as is-half-reads
+use Rattle.transfer.proofs.bytes_read.Kinds as bytes-read-kinds
+use Rattle.transfer.proofs.bytes_read.Reads as bytes-read-reads
 use Rattle.transfer.proofs.external_end.Kinds as external-end-kinds
 use Rattle.transfer.proofs.external_end.Reads as external-end-reads
 
@@ -33,6 +36,10 @@ half-determined κs a r q e f p w = (p .0 ∙ sym (w .0), p .1 ∙ sym (w .1))
 pub is-half-determined : (κs : Lfts 0) (a : Dens κs is-half-kinds.ps) (r q : resT is-half-kinds.r κs .Denot) (e f : AtExit (endedOf 0 is-half-kinds.ps is-half-kinds.r) κs)
     → is-half-reads.Post κs a r e → is-half-reads.Post κs a q f → r ≡ q
 is-half-determined κs a r q e f p w = p ∙ sym w
+
+pub bytes-read-determined : (κs : Lfts 0) (a : Dens κs bytes-read-kinds.ps) (r q : resT bytes-read-kinds.r κs .Denot) (e f : AtExit (endedOf 0 bytes-read-kinds.ps bytes-read-kinds.r) κs)
+    → bytes-read-reads.Post κs a r e → bytes-read-reads.Post κs a q f → r ≡ q
+bytes-read-determined κs a r q e f p w = p (buffers [] []) ∙ sym (w (buffers [] []))
 
 pub external-end-determined : (κs : Lfts 0) (a : Dens κs external-end-kinds.ps) (r q : resT external-end-kinds.r κs .Denot) (e f : AtExit (endedOf 0 external-end-kinds.ps external-end-kinds.r) κs)
     → external-end-reads.Post κs a r e → external-end-reads.Post κs a q f → r ≡ q

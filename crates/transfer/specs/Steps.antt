@@ -35,6 +35,14 @@ touchedBy (SecondFetch byte) c m = secondPlace (source c) ∷ placesOn (destinat
 touchedBy FirstStore c m = firstPlace (source c) ∷ secondPlace (source c) ∷ firstPlace (destination c) ∷ []
 touchedBy (SecondStore byte) c m = secondPlace (destination c) ∷ []
 
+-- of those the ones that it reads
+unfoldable pub readsBy : Part → Channel → Buffers → List Place
+readsBy Whole c m = readPlaces c m
+readsBy FirstFetch c m = firstPlace (source c) ∷ []
+readsBy (SecondFetch byte) c m = secondPlace (source c) ∷ []
+readsBy FirstStore c m = firstPlace (source c) ∷ secondPlace (source c) ∷ []
+readsBy (SecondStore byte) c m = []
+
 -- what a step of a part makes of the channel: a first half holds a byte and changes no other register, unless a match ends it there
 unfoldable pub channelBy : Part → Channel → Buffers → Channel
 channelBy Whole c m = movedChannel c (dataOf c m)

@@ -3,11 +3,12 @@ use machine::Channel;
 use machine::Held;
 use memory::Pointer;
 ghost use mathlib.Core.Path.{_≡_};
-ghost use Rattle.memory.specs.Buffers.{buffers};
+ghost use lib.ListN.{length};
+ghost use Rattle.memory.specs.Buffers.{Buffers, buffers};
 ghost use Rattle.transfer.specs.Sides.{setupOf};
 ghost use Rattle.transfer.specs.Ends.{externallyEnded};
-ghost use Rattle.transfer.specs.Parts.{isHalf};
-ghost use Rattle.transfer.specs.Steps.{accesses, badMode, transferred, transferOf, transferCount, wholeStep, wholeCount, halfStep, halfCount};
+ghost use Rattle.transfer.specs.Parts.{isHalf, partOf};
+ghost use Rattle.transfer.specs.Steps.{readsBy, accesses, badMode, transferred, transferOf, transferCount, wholeStep, wholeCount, halfStep, halfCount};
 
 // The two sides, and what the channel says of a step.
 mod sides;
@@ -122,6 +123,25 @@ pub fn is_half(c: Channel) -> bool
     ensures { λ r. ⌜ r ≡ isHalf c ⌝ }
 {
     halves::apart(c, sides::plan(c))
+}
+
+// How many bytes a channel's next transfer step reads: a half its own, a whole one all that move and the translated one.
+pub fn bytes_read(c: Channel) -> u32
+    ensures { λ r. ⌜ ((m : Buffers) → r ≡ length (readsBy (partOf c) c m)) ⌝ }
+{
+    let p = sides::plan(c);
+    let f = c.fields;
+    if !halves::apart(c, p) {
+        return stores::one_or_two(p.two) as u32 + f.translates as u32;
+    }
+    if f.synchronised == 1 {
+        return 1;
+    }
+    let held = c.held;
+    match held {
+        Held::NoByte => 2,
+        Held::Byte(_) => 0,
+    }
 }
 
 // The half of a pair that is due; where none is, nothing.
