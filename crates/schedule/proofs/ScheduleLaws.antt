@@ -2,26 +2,25 @@
 -- Assumes nothing.
 use Prim.Native.Nat.{ℕ, _+_, _*_, _≤_}
 use borrow.Author.Tests.{eqb-false}
-use lib.Dec.{eqb, ltb}
-use lib.ListN.{length}
-use mathlib.Core.Bool.{Bool, true, false, not, _&&_}
-use mathlib.Core.List.{List, [], _∷_, _++_}
+use lib.Dec.{ltb}
+use lib.ListN.{length, getD}
+use mathlib.Core.Bool.{Bool, true, false, _&&_}
+use mathlib.Core.List.{List, [], _∷_, _++_, map}
 use mathlib.Core.Logic.{_↔_}
-use mathlib.Core.Path.{_≡_, refl, sym, ap, _∙_}
+use mathlib.Core.Path.{_≡_, refl, sym, ap, ap₂, _∙_}
 use native.Mathlib.Omega.{arith}
 use Rattle.machine.proofs.ConditionLaws.{told-exactly}
 use Rattle.machine.specs.States.{channelOf}
-use Rattle.attention.specs.Attention.{attentionOf}
 use Rattle.step.specs.Choosing.{requested}
 use Rattle.words.proofs.ChoiceLaws.{apart, both-left, both-right}
 use Rattle.words.specs.Choice.{pick}
 use Rattle.schedule.specs.Conditions.{UnknownIn}
-use Rattle.schedule.specs.Counts.{onceIf, overRows, acceptedAt, refusedAt, isAttentionTo, attendedAt, rejectedAt, isInstruction, isTransfer, isExternal, doneAt, instructionAt, transferAt, storedAt, endAt, waitsForDrq, waitAt}
-use Rattle.schedule.specs.Reports.{ChannelCounts, channelCounts, reportOf, noReport, bothCounts, bothReports, allRun, noneRun, scheduleOf, countsIn, reportWords}
-use Rattle.schedule.specs.Rows.{Bench, isStep, allKnown, rowNumber, rowsLeft}
+use Rattle.schedule.specs.Counts.{Counted, onceIf, overRows, acceptedAt, refusedAt, isAttentionTo, attendedAt, rejectedAt, isInstruction, isTransfer, isExternal, doneAt, instructionAt, transferAt, storedAt, endAt, waitsForDrq, waitAt}
+use Rattle.schedule.specs.Reports.{channelCounts, allCounts, reportOf, noReport, bothReports, allRun, noneRun, scheduleOf}
+use Rattle.schedule.specs.Rows.{Bench, isStep, allKnown, rowsLeft}
 use Rattle.schedule.specs.declared.ScheduleRow.{ScheduleRow}
 use Rattle.schedule.proofs.RowLaws.{told-known, known-cut, left-cut}
-use Rattle.schedule.proofs.SumLaws.{Counted, over-cut, over-known, over-sum, over-both, over-twice, over-length}
+use Rattle.schedule.proofs.SumLaws.{over-cut, over-known, over-sum, over-both, over-twice, over-length}
 use Rattle.schedule.proofs.CountLaws.{once-most, accepted-or-refused, attentions-of, accepted-is}
 use Rattle.schedule.proofs.StoreLaws.{stored-most, stored-two}
 
@@ -48,121 +47,110 @@ gives-16 p rows = go (allKnown rows) refl
 
 -- no row leaves everything and counts nothing
 pub none-given : (p : Bench) → scheduleOf p [] ≡ record { number = 0; bench = p; report = noReport }
-unfolding scheduleOf allKnown rowsLeft reportOf channelCounts overRows
+unfolding scheduleOf allKnown rowsLeft reportOf overRows
 none-given p = refl
 
 -- ---- sums
 
 -- accepted and refused rows add up to the rows given
-pub rows-add-up : (p : Bench) (rows : List ScheduleRow) → reportOf p rows .accepted + reportOf p rows .refused ≡ length rows
-unfolding reportOf
+pub rows-add-up : (p : Bench) (rows : List ScheduleRow) → overRows acceptedAt p rows + overRows refusedAt p rows ≡ length rows
 rows-add-up p rows = over-sum acceptedAt refusedAt (λ q r. 1) accepted-or-refused p rows ∙ over-length p rows
 
-pub add-up : (p : Bench) (rows : List ScheduleRow) → allKnown rows ≡ true → scheduleOf p rows .report .accepted + scheduleOf p rows .report .refused ≡ length rows
+-- so do the first two words of the report of known kinds
+pub add-up : (p : Bench) (rows : List ScheduleRow) → allKnown rows ≡ true → getD (scheduleOf p rows .report) 0 0 + getD (scheduleOf p rows .report) 1 0 ≡ length rows
+unfolding reportOf
 add-up p rows h = rw (known-runs p rows h) (rows-add-up p rows)
 
 -- a channel's attentions, accepted and refused, are the rows that are attentions to it
 pub attentions-add-up : (second : Bool) (p : Bench) (rows : List ScheduleRow)
-    → channelCounts second p rows .attended + channelCounts second p rows .rejected ≡ overRows (λ q r. onceIf (isAttentionTo second r)) p rows
-unfolding channelCounts
-attentions-add-up second p rows =
-    over-sum (attendedAt second) (rejectedAt second) (λ q r. onceIf (isAttentionTo second r)) (attentions-of second) p rows
+    → overRows (attendedAt second) p rows + overRows (rejectedAt second) p rows ≡ overRows (λ q r. onceIf (isAttentionTo second r)) p rows
+attentions-add-up second p rows = over-sum (attendedAt second) (rejectedAt second) (λ q r. onceIf (isAttentionTo second r)) (attentions-of second) p rows
 
--- what one channel was accepted for
-abbrev pub workOf : ChannelCounts → ℕ
-workOf c = c .instructions + c .transfers + c .ends
+-- what a channel was accepted for but attentions
+abbrev pub workAt : Bool → Counted
+workAt second q r = instructionAt second q r + transferAt second q r + endAt second q r
 
 -- of known kinds the accepted rows are the attentions accepted, instructions, transfer steps and external ends of both channels together
 pub accepted-are : (p : Bench) (rows : List ScheduleRow) → allKnown rows ≡ true
-    → let r = reportOf p rows in
-    r .accepted ≡ (r .first .attended + r .second .attended) + (workOf (r .first) + workOf (r .second))
-unfolding reportOf channelCounts
+    → let total : (Bool → Counted) → ℕ = λ f. overRows (f false) p rows + overRows (f true) p rows in
+    overRows acceptedAt p rows ≡ total attendedAt + (total instructionAt + total transferAt + total endAt)
 accepted-are p rows h =
-    over-known acceptedAt (λ q r. attention q r + (work false q r + work true q r)) accepted-is p rows h
-    ∙ over-both attention (λ q r. work false q r + work true q r) p rows
-    ∙ omega (arith, over-both (attendedAt false) (attendedAt true) p rows, over-both (work false) (work true) p rows, works false, works true)
+    over-known acceptedAt (λ q r. both attendedAt q r + both workAt q r) accepted-is p rows h
+    ∙ over-both (both attendedAt) (both workAt) p rows
+    ∙ omega (arith, sums attendedAt, sums workAt, works false, works true)
   where
-    attention : Counted
-    attention q r = attendedAt false q r + attendedAt true q r
+    both : (Bool → Counted) → Counted
+    both f q r = f false q r + f true q r
 
-    work : Bool → Counted
-    work second q r = instructionAt second q r + transferAt second q r + endAt second q r
+    sums : (f : Bool → Counted) → overRows (both f) p rows ≡ overRows (f false) p rows + overRows (f true) p rows
+    sums f = over-both (f false) (f true) p rows
 
-    works : (second : Bool) → overRows (work second) p rows
-        ≡ overRows (instructionAt second) p rows + overRows (transferAt second) p rows + overRows (endAt second) p rows
-    works second =
-        over-both (λ q r. instructionAt second q r + transferAt second q r) (endAt second) p rows
-        ∙ ap (λ (n : ℕ). n + overRows (endAt second) p rows) (over-both (instructionAt second) (transferAt second) p rows)
+    works : (b : Bool) → overRows (workAt b) p rows ≡ (overRows (instructionAt b) p rows + overRows (transferAt b) p rows) + overRows (endAt b) p rows
+    works b =
+        over-both (λ q r. instructionAt b q r + transferAt b q r) (endAt b) p rows
+        ∙ ap (λ (n : ℕ). n + overRows (endAt b) p rows) (over-both (instructionAt b) (transferAt b) p rows)
 
 -- ---- bounds
 
 -- a channel's stored bytes are at most twice its transfer steps
-pub stored-bytes : (second : Bool) (p : Bench) (rows : List ScheduleRow) → channelCounts second p rows .stored ≤ 2 * channelCounts second p rows .transfers
-unfolding channelCounts
+pub stored-bytes : (second : Bool) (p : Bench) (rows : List ScheduleRow) → overRows (storedAt second) p rows ≤ 2 * overRows (transferAt second) p rows
 stored-bytes second p rows = over-twice (storedAt second) (transferAt second) (stored-most second) p rows
 
--- none of some words is over a number
-abbrev pub AllMost : ℕ → List ℕ → Type 0
-AllMost k [] = Unit {0}
-AllMost k (x ∷ xs) = (x ≤ k) × AllMost k xs
+-- a row adds at most 2 to each of some counts
+abbrev pub MostTwo : List Counted → Type 0
+MostTwo [] = Unit {0}
+MostTwo (f ∷ fs) = ((q : Bench) (r : ScheduleRow) → f q r ≤ 2) × MostTwo fs
 
-most-append : (k : ℕ) (xs ys : List ℕ) → AllMost k xs → AllMost k ys → AllMost k (xs ++ ys)
-most-append k [] ys h l = l
-most-append k (x ∷ xs) ys h l = (h .0, most-append k xs ys (h .1) l)
+two-append : (fs gs : List Counted) → MostTwo fs → MostTwo gs → MostTwo (fs ++ gs)
+two-append [] gs h k = k
+two-append (f ∷ fs) gs h k = (h .0, two-append fs gs (h .1) k)
 
--- a count to which no row adds more than 2 is at most twice the rows
-over-most : (f : Counted) → ((q : Bench) (r : ScheduleRow) → f q r ≤ 2) → (p : Bench) (rows : List ScheduleRow) → overRows f p rows ≤ 2 * length rows
+channel-two : (second : Bool) → MostTwo (channelCounts second)
+unfolding instructionAt transferAt endAt waitAt
+channel-two second =
+    let attentions : (q : Bench) (r : ScheduleRow) → attendedAt second q r + rejectedAt second q r ≤ 2 = λ q r. omega (arith, attentions-of second q r, once-most (isAttentionTo second r)) in (
+      λ q r. omega (arith, attentions q r),
+      (
+        λ q r. omega (arith, attentions q r),
+        (
+          λ q r. once-most (doneAt isInstruction second q r),
+          (
+            λ q r. once-most (doneAt isTransfer second q r),
+            (
+              stored-two second,
+              (
+                λ q r. once-most (doneAt isExternal second q r),
+                (λ q r. once-most (isStep r && ltb (r .value) 16 && waitsForDrq (channelOf (q .state) second) (requested (r .value) second)), tt),
+              ),
+            ),
+          ),
+        ),
+      ),
+    )
+
+-- so does it to every count
+pub counts-two : MostTwo allCounts
+counts-two =
+    (λ q r. omega (arith, accepted-or-refused q r), (λ q r. omega (arith, accepted-or-refused q r), two-append (channelCounts false) (channelCounts true) (channel-two false) (channel-two true)))
+
+-- so a count is at most twice the rows
+pub over-most : (f : Counted) → ((q : Bench) (r : ScheduleRow) → f q r ≤ 2) → (p : Bench) (rows : List ScheduleRow) → overRows f p rows ≤ 2 * length rows
 over-most f h p rows =
     let k = over-twice f (λ q r. 1) (λ q r. omega (arith, h q r)) p rows in
     omega (arith, over-length p rows)
 
--- so is one that counts a row once
-once-over : (t : Bench → ScheduleRow → Bool) (p : Bench) (rows : List ScheduleRow) → overRows (λ q r. onceIf (t q r)) p rows ≤ 2 * length rows
-once-over t = over-most (λ q r. onceIf (t q r)) (λ q r. once-most (t q r))
-
-channel-most : (second : Bool) (p : Bench) (rows : List ScheduleRow) → AllMost (2 * length rows) (countsIn (channelCounts second p rows))
-unfolding channelCounts attendedAt rejectedAt instructionAt transferAt endAt waitAt
-channel-most second p rows = (
-  once-over (λ q r. isAttentionTo second r && eqb (attentionOf (q .state) (q .memory) (r .value) .number) 0) p rows,
-  (
-    once-over (λ q r. isAttentionTo second r && not (eqb (attentionOf (q .state) (q .memory) (r .value) .number) 0)) p rows,
-    (
-      once-over (doneAt isInstruction second) p rows,
-      (
-        once-over (doneAt isTransfer second) p rows,
-        (
-          over-most (storedAt second) (stored-two second) p rows,
-          (
-            once-over (doneAt isExternal second) p rows,
-            (once-over (λ q r. isStep r && ltb (r .value) 16 && waitsForDrq (channelOf (q .state) second) (requested (r .value) second)) p rows, tt),
-          ),
-        ),
-      ),
-    ),
-  ),
-)
-
--- so is every count
-pub counts-most : (p : Bench) (rows : List ScheduleRow) → AllMost (2 * length rows) (reportWords (reportOf p rows))
-unfolding reportOf acceptedAt refusedAt
-counts-most p rows = (
-  once-over (λ q r. eqb (rowNumber q r) 0) p rows,
-  (
-    once-over (λ q r. not (eqb (rowNumber q r) 0)) p rows,
-    most-append (2 * length rows) (countsIn (channelCounts false p rows)) (countsIn (channelCounts true p rows)) (channel-most false p rows) (channel-most true p rows),
-  ),
-)
-
 -- ---- a schedule cut into two
 
-counts-cut : (second : Bool) (p : Bench) (a b : List ScheduleRow) → channelCounts second p (a ++ b) ≡ bothCounts (channelCounts second p a) (channelCounts second (rowsLeft p a) b)
-unfolding channelCounts
-counts-cut second p a b = simp over-cut
+-- each of some counts is the sum of the two counts
+sums-cut : (fs : List Counted) (p : Bench) (a b : List ScheduleRow)
+    → map (λ f. overRows f p (a ++ b)) fs ≡ bothReports (map (λ f. overRows f p a) fs) (map (λ f. overRows f (rowsLeft p a) b) fs)
+unfolding bothReports
+sums-cut [] p a b = refl
+sums-cut (f ∷ fs) p a b = ap₂ _∷_ (over-cut f p a b) (sums-cut fs p a b)
 
--- each count is the sum of the two counts
 pub report-cut : (p : Bench) (a b : List ScheduleRow) → reportOf p (a ++ b) ≡ bothReports (reportOf p a) (reportOf (rowsLeft p a) b)
 unfolding reportOf
-report-cut p a b = simp (over-cut, counts-cut)
+report-cut p a b = sums-cut allCounts p a b
 
 -- of known kinds: the end is the second part's from the first's end, and the counts add
 pub schedule-cut : (p : Bench) (a b : List ScheduleRow) → allKnown (a ++ b) ≡ true

@@ -25,11 +25,11 @@ use Rattle.transfer.specs.Parts.{Part, Whole, FirstFetch, SecondFetch, FirstSto
 use Rattle.transfer.specs.Reads.{dataOf, also}
 use Rattle.transfer.specs.Sides.{destination}
 use Rattle.transfer.proofs.StepLaws.{exactly-0}
-use Rattle.transfer.specs.Steps.{touchedBy, touchedByTransfer, badMode, transferOf}
+use Rattle.transfer.specs.Steps.{touchedBy, readsBy, touchedByTransfer, badMode, transferOf}
 use Rattle.transfer.specs.Stores.{storesTwo, placesOn, storedPlaces}
 use Rattle.words.proofs.ChoiceLaws.{apart, both-right, and-false}
 use Rattle.words.specs.Choice.{pick}
-use Rattle.schedule.specs.Counts.{onceIf, isTransfer, isDone, doneAt, transferAt, readsBy, storesBy, storedAt}
+use Rattle.schedule.specs.Counts.{onceIf, isTransfer, isDone, doneAt, transferAt, storesBy, storedAt}
 use Rattle.schedule.specs.Rows.{Bench, isStep}
 use Rattle.schedule.specs.declared.ScheduleRow.{ScheduleRow}
 
@@ -115,25 +115,26 @@ transfer-mode s m lines second h =
     let o = transfer-chosen s m lines second h in
     exactly-0 (channelOf s second) m .0 (sym (chosen-number s m lines second (o .3) (o .1) (o .2)) ∙ o .0) .0
 
--- what a step answers for it that it read and stored is what its part reads, and what is counted here as stored
+-- it touches what its part reads and what that stores
+pub transfer-count : (s : State) (m : Buffers) (lines : ℕ) (second : Bool) → isDone isTransfer second (stepOf s m lines) ≡ true
+    → let c = channelOf s second in stepCount s m lines ≡ length (readsBy (partOf c) c m) + length (storesBy (partOf c) c m)
+unfolding stepCount touchedByStep touchedIn counted touchedByTransfer
+transfer-count s m lines second h =
+    let o = transfer-chosen s m lines second h in
+    let c = channelOf s second in
+    rw (o .0, o .1, o .2) (ap length (touched-apart (partOf c) c m) ∙ length-append (readsBy (partOf c) c m) (storesBy (partOf c) c m))
+
+-- so what a step answers for it that it read and stored is what its part reads, and what is counted here as stored
 pub counts-agree : (second : Bool) (p : Bench) (r : ScheduleRow) → transferAt second p r ≡ 1
     → let c = channelOf (p .state) second in
     stepCount (p .state) (p .memory) (r .value) ≡ length (readsBy (partOf c) c (p .memory)) + storedAt second p r
-unfolding transferAt storedAt doneAt stepCount touchedByStep touchedIn counted touchedByTransfer
+unfolding transferAt storedAt doneAt
 counts-agree second p r = go (doneAt isTransfer second p r) refl
   where
-    s : State
-    s = p .state
-
-    m : Buffers
-    m = p .memory
-
     c : Channel
-    c = channelOf s second
+    c = channelOf (p .state) second
 
     go : (b : Bool) → doneAt isTransfer second p r ≡ b → onceIf b ≡ 1
-        → stepCount s m (r .value) ≡ length (readsBy (partOf c) c m) + pick b (length (storesBy (partOf c) c m)) 0
+        → stepCount (p .state) (p .memory) (r .value) ≡ length (readsBy (partOf c) c (p .memory)) + pick b (length (storesBy (partOf c) c (p .memory))) 0
     go false h z = absurd (omega arith)
-    go true h z =
-        let o = transfer-chosen s m (r .value) second (both-right (isStep r) (isDone isTransfer second (stepOf s m (r .value))) h) in
-        rw (o .0, o .1, o .2) (ap length (touched-apart (partOf c) c m) ∙ length-append (readsBy (partOf c) c m) (storesBy (partOf c) c m))
+    go true h z = transfer-count (p .state) (p .memory) (r .value) second (both-right (isStep r) (isDone isTransfer second (stepOf (p .state) (p .memory) (r .value))) h)

@@ -7,13 +7,9 @@ use mathlib.Core.List.{List, [], _∷_, _++_}
 use mathlib.Core.Path.{_≡_, refl, ap₂}
 use native.Mathlib.Omega.{arith}
 use Rattle.words.proofs.ChoiceLaws.{both-left, both-right}
-use Rattle.schedule.specs.Counts.{overRows}
+use Rattle.schedule.specs.Counts.{Counted, overRows}
 use Rattle.schedule.specs.Rows.{Bench, isAttention, isStep, allKnown, rowLeft, rowsLeft}
 use Rattle.schedule.specs.declared.ScheduleRow.{ScheduleRow}
-
--- what is counted of a row and the bench before it
-abbrev pub Counted : Type 0
-Counted = Bench → ScheduleRow → ℕ
 
 -- any count of rows cut into two is the sum of the two counts
 pub over-cut : (f : Counted) (p : Bench) (a b : List ScheduleRow) → overRows f p (a ++ b) ≡ overRows f p a + overRows f (rowsLeft p a) b

@@ -1,5 +1,4 @@
 pub mod WordLaws
-pub mod FindLaws
 pub mod TurnLaws
 mod Again
 mod RunLaws

@@ -1,27 +1,28 @@
 -- What the loop over a schedule's rows holds after some of them: the number before the first row, and what those rows left and counted where it is 0; from the start, one row on, and at the end.
 -- Assumes nothing.
-use Prim.Native.Nat.{ℕ, zero, suc, _+_, _*_, _≤_, _<_}
+use Prim.Native.Nat.{ℕ, zero, suc, _+_, _≤_, _<_}
 use borrow.Author.Tests.{ltb-true, ltb-false}
 use lib.Dec.{ltb}
 use lib.ListN.{length, getD, take}
 use lib.Seq.{take-suc, take-length, length-take-le}
 use mathlib.Core.Bool.{Bool, true, false}
-use mathlib.Core.List.{List, [], _∷_, _++_}
+use mathlib.Core.List.{List, [], _∷_, _++_, map}
 use mathlib.Core.Logic.{_⊎_, inl, inr}
-use mathlib.Core.Path.{_≡_, refl, sym, ap, _∙_, subst}
+use mathlib.Core.Path.{_≡_, refl, sym, ap, ap₂, _∙_, subst}
 use native.Mathlib.Numerals.{add-one}
 use native.Mathlib.Omega.{arith}
 use Rattle.words.specs.Choice.{pick}
 use Rattle.service.specs.Layout.{bytesOf, stateIn, isState}
 use Rattle.schedule.proofs.RowLaws.{known-at, left-cut}
-use Rattle.schedule.proofs.ScheduleLaws.{AllMost, counts-most, report-cut}
-use Rattle.schedule.specs.Counts.{overRows}
-use Rattle.schedule.specs.Reports.{Report, bothReports, noReport, channelCounts, reportOf, scheduleOf, reportWords, putOver}
+use Rattle.schedule.proofs.ScheduleLaws.{MostTwo, counts-two, over-most}
+use Rattle.schedule.proofs.SumLaws.{over-cut}
+use Rattle.schedule.specs.Counts.{Counted, overRows}
+use Rattle.schedule.specs.Reports.{allCounts, noReport, reportOf, scheduleOf, putOver}
 use Rattle.schedule.specs.Rows.{Bench, allKnown, rowLeft, rowsLeft}
 use Rattle.schedule.specs.declared.ScheduleRow.{ScheduleRow}
 use Rattle.schedule_calls.specs.Calls.{scheduled, scheduleServed}
 use Rattle.schedule_calls.specs.Turns.{Standing, standing, benchIn, StateBytes, RowRun, Turned, TurnReady}
-use Rattle.schedule_calls.specs.Words.{addedOn, sumWords, Low, channelWords, rowWords}
+use Rattle.schedule_calls.specs.Words.{addedOn}
 
 -- in place of a row past the last
 abbrev pub noRow : ScheduleRow
@@ -29,7 +30,7 @@ noRow = record { kind = 0; value = 0 }
 
 -- what stands where every count is 0
 abbrev pub clearedAt : Standing → Standing
-clearedAt x = standing (x .bytes) (x .memory) (putOver (reportWords noReport) (x .words))
+clearedAt x = standing (x .bytes) (x .memory) (putOver noReport (x .words))
 
 -- the number before the first row
 abbrev pub firstNumber : Standing → List ScheduleRow → ℕ
@@ -42,7 +43,7 @@ Back x = isState (x .bytes) ≡ true → bytesOf (stateIn (x .bytes)) ≡ x .byt
 -- what some rows leave and count
 pub record Ran (x : Standing) (rows : List ScheduleRow) (y : Standing) : Type 0 where
   pub bench : benchIn y ≡ rowsLeft (benchIn x) rows
-  pub words : y .words ≡ putOver (reportWords (reportOf (benchIn x) rows)) (x .words)
+  pub words : y .words ≡ putOver (reportOf (benchIn x) rows) (x .words)
   pub state : StateBytes (y .bytes)
 
 -- what stands after i of the rows
@@ -62,7 +63,7 @@ zero-is : (x : Standing) (rows : List ScheduleRow) (number : ℕ) → number ≡
 zero-is x rows number e z = zero-case number (isState (x .bytes)) (allKnown rows) e z
 
 pub along-start : (x : Standing) (rows : List ScheduleRow) (number : ℕ) → number ≡ firstNumber x rows → Back x → Along x rows number 0 (clearedAt x)
-unfolding rowsLeft reportOf channelCounts overRows
+unfolding rowsLeft reportOf overRows
 along-start x rows number e back = record {
   first = e;
   back = back;
@@ -70,49 +71,22 @@ along-start x rows number e back = record {
   stays = λ ne. refl;
 }
 
--- words of one length added over those that were put
-added-put : (ws vs xs : List ℕ) → length vs ≡ length ws → addedOn vs (putOver ws xs) ≡ putOver (sumWords ws vs) xs
-unfolding addedOn putOver sumWords
-added-put [] [] xs e = refl
-added-put [] (v ∷ vs) xs e = absurd (omega arith)
-added-put (w ∷ ws) [] xs e = absurd (omega arith)
-added-put (w ∷ ws) (v ∷ vs) [] e = refl
-added-put (w ∷ ws) (v ∷ vs) (x ∷ xs) e = ap (λ (l : List ℕ). (w + v) ∷ l) (added-put ws vs xs (omega arith))
+-- what more rows count, added over what some counted, is put as what all count: none of these words wraps
+counted-on : (fs : List Counted) → MostTwo fs → (p : Bench) (a b : List ScheduleRow) → length (a ++ b) ≤ 1152921504606846976 → (xs : List ℕ)
+    → addedOn (map (λ f. overRows f (rowsLeft p a) b) fs) (putOver (map (λ f. overRows f p a) fs) xs) ≡ putOver (map (λ f. overRows f p (a ++ b)) fs) xs
+unfolding addedOn putOver
+counted-on [] h p a b few xs = refl
+counted-on (f ∷ fs) h p a b few [] = refl
+counted-on (f ∷ fs) h p a b few (x ∷ xs) = ap₂ _∷_ (omega (arith, over-cut f p a b, over-most f (h .0) p (a ++ b))) (counted-on fs (h .1) p a b few xs)
 
-plus-none : (x : ℕ) → x + 0 ≡ x
-plus-none x = omega arith
-
--- two reports' words added are the words of both
-both-words : (a b : Report) → sumWords (reportWords a) (reportWords b) ≡ reportWords (bothReports a b)
-unfolding sumWords
-both-words a b = refl
-
--- a row's words are those of its own report
-one-row : (q : Bench) (r : ScheduleRow) → rowWords q r ≡ reportWords (reportOf q (r ∷ []))
-unfolding rowWords channelWords reportOf channelCounts overRows
-one-row q r = simp plus-none
-
--- so added to those of the rows before it they are the words of both
-row-sum : (p : Bench) (a : List ScheduleRow) (r : ScheduleRow) → sumWords (reportWords (reportOf p a)) (rowWords (rowsLeft p a) r) ≡ reportWords (reportOf p (a ++ (r ∷ [])))
-row-sum p a r =
-    ap (λ (ws : List ℕ). sumWords (reportWords (reportOf p a)) ws) (one-row (rowsLeft p a) r)
-    ∙ both-words (reportOf p a) (reportOf (rowsLeft p a) (r ∷ []))
-    ∙ ap (λ (x : Report). reportWords x) (sym (report-cut p a (r ∷ [])))
-
-row-length : (p q : Bench) (a : List ScheduleRow) (r : ScheduleRow) → length (rowWords q r) ≡ length (reportWords (reportOf p a))
-unfolding rowWords channelWords reportOf channelCounts
-row-length p q a r = refl
-
-ran-next : (x : Standing) (a : List ScheduleRow) (r : ScheduleRow) (y z : Standing) → Ran x a y → RowRun r y z → Ran x (a ++ (r ∷ [])) z
-unfolding rowsLeft
-ran-next x a r y z h t = record {
+ran-next : (x : Standing) (a : List ScheduleRow) (r : ScheduleRow) (y z : Standing) → length (a ++ (r ∷ [])) ≤ 1152921504606846976 → Ran x a y → RowRun r y z → Ran x (a ++ (r ∷ [])) z
+unfolding rowsLeft reportOf
+ran-next x a r y z few h t = record {
   bench = t .bench ∙ ap (λ (p : Bench). rowLeft p r) (h .bench) ∙ sym (left-cut (benchIn x) a (r ∷ []));
   words =
       t .words
-      ∙ ap (λ (p : Bench). addedOn (rowWords p r) (y .words)) (h .bench)
-      ∙ ap (λ (ws : List ℕ). addedOn (rowWords (rowsLeft (benchIn x) a) r) ws) (h .words)
-      ∙ added-put (reportWords (reportOf (benchIn x) a)) (rowWords (rowsLeft (benchIn x) a) r) (x .words) (row-length (benchIn x) (rowsLeft (benchIn x) a) a r)
-      ∙ ap (λ (ws : List ℕ). putOver ws (x .words)) (row-sum (benchIn x) a r);
+      ∙ ap₂ (λ (p : Bench) (ws : List ℕ). addedOn (reportOf p (r ∷ [])) ws) (h .bench) (h .words)
+      ∙ counted-on allCounts counts-two (benchIn x) a (r ∷ []) few (x .words);
   state = t .state;
 }
 
@@ -120,34 +94,21 @@ taken : (rows : List ScheduleRow) (i : ℕ) → i < length rows → take i rows 
 taken rows i l = sym (take-suc rows i noRow l) ∙ ap (λ (k : ℕ). take k rows) (sym (add-one i))
 
 -- one row on
-pub along-next : (x : Standing) (rows : List ScheduleRow) (number i : ℕ) (y z : Standing) → i < length rows → Along x rows number i y → Turned number (getD rows i noRow) y z → Along x rows number (i + 1) z
-along-next x rows number i y z l h t = record {
+pub along-next : (x : Standing) (rows : List ScheduleRow) (number i : ℕ) (y z : Standing) → i < length rows → length rows ≤ 1152921504606846976
+    → Along x rows number i y → Turned number (getD rows i noRow) y z → Along x rows number (i + 1) z
+along-next x rows number i y z l few h t = record {
   first = h .first;
   back = h .back;
-  runs = λ e. subst (λ (a : List ScheduleRow). Ran x a z) (taken rows i l) (ran-next x (take i rows) (getD rows i noRow) y z (h .runs e) (t .runs e));
+  runs = λ e. subst (λ (a : List ScheduleRow). Ran x a z) (taken rows i l) (ran-next x (take i rows) (getD rows i noRow) y z short (h .runs e) (t .runs e));
   stays = λ ne. t .stays ne ∙ h .stays ne;
 }
-
-over-low : (k : ℕ) (ws xs : List ℕ) (i : ℕ) → AllMost k ws → i < length ws → getD (putOver ws xs) i 0 ≤ k
-unfolding putOver
-over-low k [] xs i h l = absurd (omega arith)
-over-low k (w ∷ ws) [] i h l = omega arith
-over-low k (w ∷ ws) (x ∷ xs) zero h l = h .0
-over-low k (w ∷ ws) (x ∷ xs) (suc i) h l = over-low k ws xs i (h .1) (omega arith)
-
--- no count of at most 2^60 rows is over 2^61, so every word has room
-ran-low : (x : Standing) (a : List ScheduleRow) (y : Standing) → length a ≤ 1152921504606846976 → Ran x a y → Low 4611686018427387904 (y .words)
-unfolding reportOf channelCounts
-ran-low x a y few h i l =
-    let low = over-low (2 * length a) (reportWords (reportOf (benchIn x) a)) (x .words) i (counts-most (benchIn x) a) l in
-    subst (λ (ws : List ℕ). getD ws i 0 ≤ 4611686018427387904) (sym (h .words)) (omega (arith, low, few))
+  where
+    short : length (take i rows ++ (getD rows i noRow ∷ [])) ≤ 1152921504606846976
+    short = rw (taken rows i l) (omega (arith, length-take-le (i + 1) rows (omega arith), few, l))
 
 -- what the next row needs
-pub along-ready : (x : Standing) (rows : List ScheduleRow) (number i : ℕ) (y : Standing) → i < length rows → length rows ≤ 1152921504606846976 → Along x rows number i y → TurnReady number (getD rows i noRow) y
-along-ready x rows number i y l few h = record {
-  ready = λ e. record { state = h .runs e .state; room = ran-low x (take i rows) y (omega (arith, length-take-le i rows (omega arith), few, l)) (h .runs e) };
-  known = λ e. known-at rows i noRow (zero-is x rows number (h .first) e .1) l;
-}
+pub along-ready : (x : Standing) (rows : List ScheduleRow) (number i : ℕ) (y : Standing) → i < length rows → Along x rows number i y → TurnReady number (getD rows i noRow) y
+along-ready x rows number i y l h = record { state = λ e. h .runs e .state; known = λ e. known-at rows i noRow (zero-is x rows number (h .first) e .1) l }
 
 -- ---- the end
 
@@ -167,7 +128,7 @@ none-end x rows back ne = go (isState (x .bytes)) refl (allKnown rows) refl
   where
     go : (b : Bool) → isState (x .bytes) ≡ b → (k : Bool) → allKnown rows ≡ k → scheduled (firstNumber x rows) (clearedAt x) ≡ scheduleServed x rows
     go true e true k = absurd (ne (rw (e, k)))
-    go true e false k = rw (e, k) (ap (λ (b : List ℕ). scheduled 16 (standing b (x .memory) (putOver (reportWords noReport) (x .words)))) (sym (back e)))
+    go true e false k = rw (e, k) (ap (λ (b : List ℕ). scheduled 16 (standing b (x .memory) (putOver noReport (x .words)))) (sym (back e)))
     go false e k′ k = rw e
 
 zero-or-not : (n : ℕ) → (n ≡ 0) ⊎ (¬ (n ≡ 0))

@@ -3,7 +3,7 @@ use mathlib.Core.List.{List}
 use Prim.Native.Nat.{ℕ}
 use Rattle.words.specs.Choice.{pick}
 use Rattle.service.specs.Layout.{bytesOf, stateIn, isState}
-use Rattle.schedule.specs.Reports.{noReport, Scheduled, scheduleOf, reportWords, putOver}
+use Rattle.schedule.specs.Reports.{noReport, Scheduled, scheduleOf, putOver}
 use Rattle.schedule.specs.Rows.{bench}
 use Rattle.schedule.specs.declared.ScheduleRow.{ScheduleRow}
 use Rattle.schedule_calls.specs.Turns.{Standing, standing}
@@ -18,11 +18,11 @@ scheduled answer x = record { answer = answer; left = x }
 
 -- a schedule of the state that bytes stand for, told in bytes and words
 abbrev pub scheduleLeft : Scheduled → List ℕ → ScheduleService
-scheduleLeft o words = scheduled (o .number) (standing (bytesOf (o .bench .state)) (o .bench .memory) (putOver (reportWords (o .report)) words))
+scheduleLeft o words = scheduled (o .number) (standing (bytesOf (o .bench .state)) (o .bench .memory) (putOver (o .report) words))
 
 -- bytes that are no state: 17, nothing is run, and every count is 0
 abbrev pub noSchedule : Standing → ScheduleService
-noSchedule x = scheduled 17 (standing (x .bytes) (x .memory) (putOver (reportWords noReport) (x .words)))
+noSchedule x = scheduled 17 (standing (x .bytes) (x .memory) (putOver noReport (x .words)))
 
 -- what the call leaves
 unfoldable pub scheduleServed : Standing → List ScheduleRow → ScheduleService

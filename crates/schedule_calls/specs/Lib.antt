@@ -1,4 +1,3 @@
 pub mod Words
-pub mod Finds
 pub mod Turns
 pub mod Calls

@@ -1,13 +1,14 @@
 -- What stands between two rows, and what one row makes of it.
 use mathlib.Core.Bool.{true, _||_}
-use mathlib.Core.List.{List}
+use mathlib.Core.List.{List, [], _∷_}
 use mathlib.Core.Path.{_≡_}
 use Prim.Native.Nat.{ℕ}
 use Rattle.memory.specs.Buffers.{Buffers}
 use Rattle.service.specs.Layout.{bytesOf, stateIn, isState}
+use Rattle.schedule.specs.Reports.{reportOf}
 use Rattle.schedule.specs.Rows.{Bench, bench, isAttention, isStep, rowLeft}
 use Rattle.schedule.specs.declared.ScheduleRow.{ScheduleRow}
-use Rattle.schedule_calls.specs.Words.{addedOn, Low, rowWords}
+use Rattle.schedule_calls.specs.Words.{addedOn}
 
 -- a state's bytes, both memories and the report's words
 pub record Standing : Type 0 where
@@ -27,15 +28,10 @@ pub record StateBytes (b : List ℕ) : Type 0 where
   pub is : isState b ≡ true
   pub back : bytesOf (stateIn b) ≡ b
 
--- what a row needs: a state, and room in every word
-pub record RowReady (x : Standing) : Type 0 where
-  pub state : StateBytes (x .bytes)
-  pub room : Low 4611686018427387904 (x .words)
-
--- what it makes of it: the bench is what the row leaves, the words have what it counts, and the bytes are a state
+-- what a row makes of a state: the bench is what it leaves, the words have its own report added, and the bytes are a state
 pub record RowRun (r : ScheduleRow) (x y : Standing) : Type 0 where
   pub bench : benchIn y ≡ rowLeft (benchIn x) r
-  pub words : y .words ≡ addedOn (rowWords (benchIn x) r) (x .words)
+  pub words : y .words ≡ addedOn (reportOf (benchIn x) (r ∷ [])) (x .words)
   pub state : StateBytes (y .bytes)
 
 -- a row is run where the number before the first row is 0; else nothing changes
@@ -45,7 +41,7 @@ pub record Turned (number : ℕ) (r : ScheduleRow) (x y : Standing) : Type 0 whe
 
 -- what the turn of a row needs
 pub record TurnReady (number : ℕ) (r : ScheduleRow) (x : Standing) : Type 0 where
-  pub ready : number ≡ 0 → RowReady x
+  pub state : number ≡ 0 → StateBytes (x .bytes)
   pub known : number ≡ 0 → (isAttention r || isStep r) ≡ true
 
 -- a row that is an attention to a channel

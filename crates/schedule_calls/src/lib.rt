@@ -5,10 +5,10 @@ ghost use mathlib.Core.Path.{_≡_};
 ghost use Rattle.words.specs.Choice.{pick};
 ghost use Rattle.memory.specs.Buffers.{buffers};
 ghost use Rattle.service.specs.Layout.{bytesOf, stateIn, isState};
-ghost use Rattle.schedule.specs.Reports.{noReport, reportWords, putOver};
+ghost use Rattle.schedule.specs.Reports.{noReport, putOver};
 ghost use Rattle.schedule.specs.Rows.{isAttention, isStep, allKnown};
 ghost use Rattle.schedule_calls.specs.Calls.{scheduled, scheduleServed};
-ghost use Rattle.schedule_calls.specs.Turns.{standing, RowReady, RowRun, TurnReady, Turned, attentionRow, stepRow};
+ghost use Rattle.schedule_calls.specs.Turns.{standing, StateBytes, RowRun, TurnReady, Turned, attentionRow, stepRow};
 
 // The words of a report.
 mod counting;
@@ -40,7 +40,7 @@ fn known(rows: &[ScheduleRow]) -> bool
 fn begin(state: &mut [u8], report: &mut [u64], known: bool) -> u32
     ensures number { λ r. ⌜ r ≡ pick (isState (now (state .entry))) (pick known 0 16) 17 ⌝ }
     ensures same { λ r. ⌜ now (state .exit) ≡ now (state .entry) ⌝ }
-    ensures cleared { λ r. ⌜ now (report .exit) ≡ putOver (reportWords noReport) (now (report .entry)) ⌝ }
+    ensures cleared { λ r. ⌜ now (report .exit) ≡ putOver noReport (now (report .entry)) ⌝ }
     ensures back { λ r. ⌜ (isState (now (state .entry)) ≡ true → bytesOf (stateIn (now (state .entry))) ≡ now (state .entry)) ⌝ }
 {
     counting::clear(report);
@@ -52,7 +52,7 @@ fn begin(state: &mut [u8], report: &mut [u64], known: bool) -> u32
 
 // A row that is an attention to a channel.
 fn attend(state: &mut [u8], channel: u32, sys: &mut [u8], io: &mut [u8], report: &mut [u64])
-    requires { ⌜ RowReady (standing (now state) (buffers (now sys) (now io)) (now report)) ⌝ }
+    requires { ⌜ StateBytes (now state) ⌝ }
     ensures { λ r. ⌜ RowRun (attentionRow channel) (standing (now (state .entry)) (buffers (now (sys .entry)) (now (io .entry))) (now (report .entry))) (standing (now (state .exit)) (buffers (now (sys .exit)) (now (io .exit))) (now (report .exit))) ⌝ }
 {
     let answer = service::iop89_attention(state, sys, io, channel);
@@ -61,14 +61,13 @@ fn attend(state: &mut [u8], channel: u32, sys: &mut [u8], io: &mut [u8], report:
 
 // A row that is a step with a line number.
 fn step(state: &mut [u8], lines: u32, sys: &mut [u8], io: &mut [u8], report: &mut [u64])
-    requires { ⌜ RowReady (standing (now state) (buffers (now sys) (now io)) (now report)) ⌝ }
+    requires { ⌜ StateBytes (now state) ⌝ }
     ensures { λ r. ⌜ RowRun (stepRow lines) (standing (now (state .entry)) (buffers (now (sys .entry)) (now (io .entry))) (now (report .entry))) (standing (now (state .exit)) (buffers (now (sys .exit)) (now (io .exit))) (now (report .exit))) ⌝ }
 {
     let first = finding::find(service::layout::channel(state, false), lines, false);
     let second = finding::find(service::layout::channel(state, true), lines, true);
     let answer = service::iop89_step(state, sys, io, lines);
-    counting::waits(report, first.waits, second.waits);
-    counting::step(report, answer, first.due, second.due);
+    counting::step(report, first, second, answer);
 }
 
 // The turn of one row, where the number before the first row is 0; else nothing.

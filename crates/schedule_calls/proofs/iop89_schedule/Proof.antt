@@ -57,7 +57,7 @@ use denote.Exit.{yes}
 use Rattle.words.specs.Choice.{pick}
 use Rattle.memory.specs.Buffers.{buffers}
 use Rattle.service.specs.Layout.{bytesOf, stateIn, isState}
-use Rattle.schedule.specs.Reports.{noReport, reportWords, putOver}
+use Rattle.schedule.specs.Reports.{noReport, putOver}
 use Rattle.schedule.specs.Rows.{allKnown}
 use Rattle.schedule.specs.declared.ScheduleRow.{ScheduleRow}
 use Rattle.schedule.proofs.ScheduleRow as R
@@ -272,7 +272,7 @@ module _ {M : Type 1} (𝓤 : URA M) (H : Heap 𝓤) (A : Atoms 𝓤) (W : Given
       asks : (u : Turn) (ν₀ ν₁ ν₂ ν₃ : ℕ) (δ₀ δ₁ δ₂ δ₃ : GName) → u .i < n → Is R.the-row (elem (u .i)) (R′.lowered (elem (u .i)) ∷ [])
           → ent 𝓤 (⋆ 𝓤 H A (lent u ν₀ ν₁ ν₂ ν₃ δ₀ δ₁ δ₂ δ₃)) (Turns 𝓤 H A at-mem at-run .pre (to-turn u ν₀ ν₁ ν₂ ν₃ δ₀ δ₁ δ₂ δ₃))
       asks u ν₀ ν₁ ν₂ ν₃ δ₀ δ₁ δ₂ δ₃ l fr =
-          qed W (lent u ν₀ ν₁ ν₂ ν₃ δ₀ δ₁ δ₂ δ₃) ∵ says ! (along-ready before ys number (u .i) (stands u) l few (u .along)) $
+          qed W (lent u ν₀ ν₁ ν₂ ν₃ δ₀ δ₁ δ₂ δ₃) ∵ says ! (along-ready before ys number (u .i) (stands u) l (u .along)) $
           -- the tokens
           nothing ! $ move ! (4 ∷ 0 ∷ []) $ join ! $ move ! (3 ∷ 0 ∷ []) $ join ! $ move ! (2 ∷ 0 ∷ []) $ join ! $ move ! (1 ∷ 0 ∷ []) $ join ! $ frame ! $
           -- what the parameters own, from the last to the first
@@ -400,7 +400,7 @@ module _ {M : Type 1} (𝓤 : URA M) (H : Heap 𝓤) (A : Atoms 𝓤) (W : Given
             len₂ = e₂ ∙ u .len₂;
             len₃ = e₃ ∙ u .len₃;
             len₄ = e₄ ∙ u .len₄;
-            along = along-next before ys number (u .i) (stands u) (standing st′ (buffers sys′ io′) rep′) l (u .along) e;
+            along = along-next before ys number (u .i) (stands u) (standing st′ (buffers sys′ io′) rep′) l few (u .along) e;
           }
 
       -- the turn that leaves the loop, and the rest of the body
@@ -427,7 +427,7 @@ module _ {M : Type 1} (𝓤 : URA M) (H : Heap 𝓤) (A : Atoms 𝓤) (W : Given
       looped u = first ! $ blocks ! $ loops ! 𝓣 Nearer Nearer-wf At turns u
 
     -- the first turn, after `begin`
-    abbrev start : (number : ℕ) (fits : number < 2 ^ 32) (t : Bool) (st′ rep′ : List ℕ) → number ≡ pick (isState st₀) (pick t 0 16) 17 → t ≡ allKnown ys → st′ ≡ st₀ → rep′ ≡ putOver (reportWords noReport) rep₀ → Back before → length st′ ≡ length st₀ → length rep′ ≡ length rep₀ → Turn number fits
+    abbrev start : (number : ℕ) (fits : number < 2 ^ 32) (t : Bool) (st′ rep′ : List ℕ) → number ≡ pick (isState st₀) (pick t 0 16) 17 → t ≡ allKnown ys → st′ ≡ st₀ → rep′ ≡ putOver noReport rep₀ → Back before → length st′ ≡ length st₀ → length rep′ ≡ length rep₀ → Turn number fits
     start number fits t st′ rep′ e all same cleared back e₀ e₄ = record {
       i = 0;
       st = st′;
@@ -487,8 +487,8 @@ module _ {M : Type 1} (𝓤 : URA M) (H : Heap 𝓤) (A : Atoms 𝓤) (W : Given
         move ! (5 ∷ 2 ∷ 3 ∷ 0 ∷ []) $ group ! 4 $ use1 W (raw (Begin 𝓤 H A at-mem at-run .pre (to-begin ν₀ ν₁ δ₀ δ₁ t))) (goes-begin ν₀ ν₁ δ₀ δ₁ t) $
         calls-at ! (fmOf 𝓤 H (W .laws) 𝓣) (Begin 𝓤 H A at-mem at-run) met-begin (to-begin ν₀ ν₁ δ₀ δ₁ t) (and-then ! (load ! (from ! (stop !)) (look ! 42 refl)) (and-then ! (load ! (from ! (stop !)) (look ! 38 refl)) (and-then ! (load ! (from ! (stop !)) (look ! 36 refl)) (no-more !)))) (λ w.
         use1 W (later (some (λ (r : ℕ). ((‵ (flft (ν₀ ∷ []) fullShare) ⊛ ‵ (flft (ν₁ ∷ []) fullShare) ⊛ ‵ ftrue) ⊛ ‵ (u32 .own r (w ∷ []))) ⊛ raw (ensured 𝓤 H A begin.ended (begin.clauses 𝓤 H A at-mem at-run) (ν₀ ∷ [], (ν₁ ∷ [], tt)) (x₀ δ₀ st₀, (x₄ δ₁ rep₀, (t, tt))) tt r)))) (id⊢ 𝓤 _) $ await ! tt $ take-out ! (λ r.
-        split ! $ move ! (1 ∷ []) $ use1 W (some (λ (zs : List ℕ × (List ℕ × (Unit {0} × Unit {0}))). ‵ (lasts begin.ended (ν₀ ∷ [], (ν₁ ∷ [], tt)) (x₀ δ₀ st₀, (x₄ δ₁ rep₀, (t, tt))) zs) ⊛ (raw (fact 𝓤 (r ≡ pick (isState st₀) (pick t 0 16) 17)) ⊛ (raw (fact 𝓤 ((zs .0) ≡ st₀)) ⊛ (raw (fact 𝓤 ((zs .1 .0) ≡ putOver (reportWords noReport) rep₀)) ⊛ raw (fact 𝓤 (isState st₀ ≡ true → bytesOf (stateIn st₀) ≡ st₀))))))) (id⊢ 𝓤 _) $ take-out ! (λ zs.
-        split ! $ move ! (1 ∷ []) $ split ! $ heard ! (r ≡ pick (isState st₀) (pick t 0 16) 17) (λ is-number. split ! $ heard ! ((zs .0) ≡ st₀) (λ same. split ! $ heard ! ((zs .1 .0) ≡ putOver (reportWords noReport) rep₀) (λ cleared. heard ! (isState st₀ ≡ true → bytesOf (stateIn st₀) ≡ st₀) (λ back.
+        split ! $ move ! (1 ∷ []) $ use1 W (some (λ (zs : List ℕ × (List ℕ × (Unit {0} × Unit {0}))). ‵ (lasts begin.ended (ν₀ ∷ [], (ν₁ ∷ [], tt)) (x₀ δ₀ st₀, (x₄ δ₁ rep₀, (t, tt))) zs) ⊛ (raw (fact 𝓤 (r ≡ pick (isState st₀) (pick t 0 16) 17)) ⊛ (raw (fact 𝓤 ((zs .0) ≡ st₀)) ⊛ (raw (fact 𝓤 ((zs .1 .0) ≡ putOver noReport rep₀)) ⊛ raw (fact 𝓤 (isState st₀ ≡ true → bytesOf (stateIn st₀) ≡ st₀))))))) (id⊢ 𝓤 _) $ take-out ! (λ zs.
+        split ! $ move ! (1 ∷ []) $ split ! $ heard ! (r ≡ pick (isState st₀) (pick t 0 16) 17) (λ is-number. split ! $ heard ! ((zs .0) ≡ st₀) (λ same. split ! $ heard ! ((zs .1 .0) ≡ putOver noReport rep₀) (λ cleared. heard ! (isState st₀ ≡ true → bytesOf (stateIn st₀) ≡ st₀) (λ back.
         fsplit ! $ fsplit ! $ move ! (1 ∷ []) $ feqL ! (λ e₀. move ! (1 ∷ []) $ fsplit ! $ fsplit ! $ move ! (1 ∷ []) $ feqL ! (λ e₄.
         move ! (3 ∷ []) $ split ! $ move ! (1 ∷ []) $ peeks ! u32 (Is u32) (shows 𝓤 H A u32) r (w ∷ []) (λ is.
         land ! (from ! (stop !)) (init ! 52 refl (uint-lawful 𝓤 H A W w32 .typed r _ is .0)) $

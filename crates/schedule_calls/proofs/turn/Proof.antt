@@ -11,10 +11,10 @@ returns : tie.Need-returns
 returns c = record { runs = λ z. absurd (c .if1 .taken z); stays = λ ne. refl }
 
 attend-requires : tie.Need-attend-requires
-attend-requires c κs = c .before .before .before .before .before .before .before .before .before .before .before .pre .ready (c .before .before .before .before .before .before .if1 .left)
+attend-requires c κs = c .before .before .before .before .before .before .before .before .before .before .before .pre .state (c .before .before .before .before .before .before .if1 .left)
 
 step-requires : tie.Need-step-requires
-step-requires c κs = c .before .before .before .before .before .before .before .before .before .before .before .pre .ready (c .before .before .before .before .before .before .if1 .left)
+step-requires c κs = c .before .before .before .before .before .before .before .before .before .before .before .pre .state (c .before .before .before .before .before .before .if1 .left)
 
 returns-2 : tie.Need-returns-2
 returns-2 c =

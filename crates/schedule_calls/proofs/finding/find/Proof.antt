@@ -2,35 +2,33 @@
 -- Assumes nothing.
 use borrow.Author.Needs.{needs}
 use borrow.Author.Tests.{not-true, not-false}
-use lib.Dec.{eqb, ltb}
-use mathlib.Core.Bool.{Bool, _&&_, _||_}
-use mathlib.Core.Path.{sym, ap, _∙_}
-use native.Mathlib.Omega.{arith}
-use Rattle.step.specs.Choosing.{requested}
-use Rattle.transfer.specs.Parts.{partOf}
-use Rattle.schedule_calls.proofs.FindLaws.{found-nothing, found-waiting, due-most}
+use lib.Dec.{eqb}
+use mathlib.Core.Bool.{_||_, and-assoc}
+use mathlib.Core.Path.{sym, _∙_}
+use Rattle.words.proofs.ChoiceLaws.{apart, and-true, and-false}
+use Rattle.schedule.specs.Counts.{waitsForDrq}
 use Rattle.schedule_calls.proofs.finding.find.Statement.{statement}
 use Rattle.schedule_calls.proofs.finding.find.Tie as tie
 
 returns : tie.Need-returns
+unfolding waitsForDrq
 returns c =
-    let a = c .before .before .before .before .before .before .args in
-    let x = a .c .fields .synchronised in
-    let none = found-nothing (a .c) (ltb (a .lines) 16) (requested (a .lines) (a .second)) (ap (λ (t : Bool). t && (eqb x 1 || eqb x 2)) (sym (c .before .before .transferring .ensures)) ∙ not-true _ (c .before .if1 .taken)) in
-    rw (c .nothing .ensures) (none .0, (none .1, omega arith))
+    let off = sym (c .before .transferring .ensures) ∙ not-true _ (c .if1 .taken) in
+    (rw off (simp and-false), λ on. apart (sym on ∙ off))
 
 returns-2 : tie.Need-returns-2
+unfolding waitsForDrq
 returns-2 c =
-    let a = c .before .before .before .before .before .before .before .before .args in
-    let x = a .c .fields .synchronised in
-    let both = ap (λ (t : Bool). t && (eqb x 1 || eqb x 2)) (sym (c .before .before .before .before .transferring .ensures)) ∙ not-false _ (c .before .before .before .if1 .left) in (
-      rw (c .before .before .is-running .ensures, c .before .request .ensures) (found-waiting (a .c) (ltb (a .lines) 16) (requested (a .lines) (a .second)) both),
-      (
-        λ t. c .due .ensures,
-        rw (c .due .ensures) (due-most (partOf (a .c))),
-      ),
-    )
+    let x = c .before .before .before .before .before .before .before .args .c .fields .synchronised in
+    (rw (not-true (eqb x 1 || eqb x 2) (c .if2 .taken)) (simp and-false), λ on. c .before .before .before .before .bytes-read .ensures)
+
+returns-3 : tie.Need-returns-3
+unfolding waitsForDrq
+returns-3 c =
+    let d = c .before .before .before .before .before .before in
+    let x = d .before .before .before .args .c .fields .synchronised in
+    let on = sym (d .before .before .transferring .ensures) ∙ not-false _ (d .before .if1 .left) in
+    (rw (on, not-false (eqb x 1 || eqb x 2) (c .before .before .if2 .left), c .before .is-running .ensures, c .request .ensures) (simp (and-true, and-assoc)), λ x. d .bytes-read .ensures)
 
 pub find-spec : {M : Type 1} → statement M
-find-spec =
-    tie.close (tie.spec (λ c κs. search needs) (λ c κs. search needs) returns (λ c κs. search needs) (λ c κs. search needs) (λ c κs. search needs) returns-2)
+find-spec = tie.close (tie.spec (λ c κs. search needs) returns (λ c κs. search needs) returns-2 (λ c κs. search needs) (λ c κs. search needs) returns-3)
