@@ -17,10 +17,10 @@ use Rattle.schedule.proofs.RowLaws.{known-at, left-cut}
 use Rattle.schedule.proofs.ScheduleLaws.{MostTwo, counts-two, over-most}
 use Rattle.schedule.proofs.SumLaws.{over-cut}
 use Rattle.schedule.specs.Counts.{Counted, overRows}
-use Rattle.schedule.specs.Reports.{allCounts, noReport, reportOf, scheduleOf, putOver}
+use Rattle.schedule.specs.Reports.{allCounts, noReport, reportOf, allRun, noneRun, scheduleOf, putOver}
 use Rattle.schedule.specs.Rows.{Bench, allKnown, rowLeft, rowsLeft}
 use Rattle.schedule.specs.declared.ScheduleRow.{ScheduleRow}
-use Rattle.schedule_calls.specs.Calls.{scheduled, scheduleServed}
+use Rattle.schedule_calls.specs.Calls.{scheduled, scheduleServed, ScheduleMet}
 use Rattle.schedule_calls.specs.Turns.{Standing, standing, benchIn, StateBytes, RowRun, Turned, TurnReady}
 use Rattle.schedule_calls.specs.Words.{addedOn}
 
@@ -135,18 +135,24 @@ zero-or-not : (n : ℕ) → (n ≡ 0) ⊎ (¬ (n ≡ 0))
 zero-or-not zero = inl refl
 zero-or-not (suc n) = inr (λ e. absurd (omega (arith, e)))
 
-pub along-end : (x : Standing) (rows : List ScheduleRow) (number i : ℕ) (y : Standing) → i ≡ length rows → Along x rows number i y → scheduled number y ≡ scheduleServed x rows
+pub along-end : (x : Standing) (rows : List ScheduleRow) (number i : ℕ) (y : Standing) → i ≡ length rows → Along x rows number i y → ScheduleMet number y x rows
+unfolding scheduleOf
 along-end x rows number i y e h = go (zero-or-not number)
   where
-    go : (number ≡ 0) ⊎ (¬ (number ≡ 0)) → scheduled number y ≡ scheduleServed x rows
+    go : (number ≡ 0) ⊎ (¬ (number ≡ 0)) → ScheduleMet number y x rows
     go (inl z) =
         let both = zero-is x rows number (h .first) z in
-        ap (λ (n : ℕ). scheduled n y) z
-        ∙ run-end x rows y (subst (λ (a : List ScheduleRow). Ran x a y) (ap (λ (k : ℕ). take k rows) e ∙ take-length rows) (h .runs z)) (both .0) (both .1)
+        let ran = subst (λ (a : List ScheduleRow). Ran x a y) (ap (λ (k : ℕ). take k rows) e ∙ take-length rows) (h .runs z) in
+        (ap (λ (n : ℕ). scheduled n y) z ∙ run-end x rows y ran (both .0) (both .1), λ is. (ran .state .is, rw (both .1) (ap (λ (p : Bench). p .state) (ran .bench))))
     go (inr ne) =
-        ap (λ (s : Standing). scheduled number s) (h .stays ne)
-        ∙ ap (λ (n : ℕ). scheduled n (clearedAt x)) (h .first)
-        ∙ none-end x rows (h .back) (λ z. ne (h .first ∙ z))
+        let number-is = h .first in (
+          ap (λ (s : Standing). scheduled number s) (h .stays ne) ∙ ap (λ (n : ℕ). scheduled n (clearedAt x)) number-is ∙ none-end x rows (h .back) (λ z. ne (number-is ∙ z)),
+          λ is. (ap (λ (s : Standing). isState (s .bytes)) (h .stays ne) ∙ is, ap (λ (s : Standing). stateIn (s .bytes)) (h .stays ne) ∙ none-run (allKnown rows) refl is),
+        )
+      where
+        none-run : (k : Bool) → allKnown rows ≡ k → isState (x .bytes) ≡ true → stateIn (x .bytes) ≡ pick k (allRun (benchIn x) rows) (noneRun (benchIn x)) .bench .state
+        none-run true k is = absurd (ne (h .first ∙ rw (is, k)))
+        none-run false k is = refl
 
 lt-or-ge-at : (i n : ℕ) (b : Bool) → ltb i n ≡ b → (i < n) ⊎ (n ≤ i)
 lt-or-ge-at i n true e = inl (ltb-true i n e)

@@ -1,12 +1,13 @@
 -- The call for C: a state's bytes, rows, both memories and the words of a report.
+use mathlib.Core.Bool.{true}
 use mathlib.Core.List.{List}
+use mathlib.Core.Path.{_≡_}
 use Prim.Native.Nat.{ℕ}
 use Rattle.words.specs.Choice.{pick}
 use Rattle.service.specs.Layout.{bytesOf, stateIn, isState}
 use Rattle.schedule.specs.Reports.{noReport, Scheduled, scheduleOf, putOver}
-use Rattle.schedule.specs.Rows.{bench}
 use Rattle.schedule.specs.declared.ScheduleRow.{ScheduleRow}
-use Rattle.schedule_calls.specs.Turns.{Standing, standing}
+use Rattle.schedule_calls.specs.Turns.{Standing, standing, benchIn}
 
 -- what the call leaves: its answer, the state's bytes, both memories and the report's words
 pub record ScheduleService : Type 0 where
@@ -27,4 +28,9 @@ noSchedule x = scheduled 17 (standing (x .bytes) (x .memory) (putOver noReport (
 -- what the call leaves
 unfoldable pub scheduleServed : Standing → List ScheduleRow → ScheduleService
 scheduleServed x rows =
-    pick (isState (x .bytes)) (scheduleLeft (scheduleOf (bench (stateIn (x .bytes)) (x .memory)) rows) (x .words)) (noSchedule x)
+    pick (isState (x .bytes)) (scheduleLeft (scheduleOf (benchIn x) rows) (x .words)) (noSchedule x)
+
+-- what the call promises: that, and that a state's bytes stay such, and then stand for the state that the schedule leaves
+abbrev pub ScheduleMet : ℕ → Standing → Standing → List ScheduleRow → Type 0
+ScheduleMet answer y x rows =
+    (scheduled answer y ≡ scheduleServed x rows) × (isState (x .bytes) ≡ true → (isState (y .bytes) ≡ true) × (stateIn (y .bytes) ≡ scheduleOf (benchIn x) rows .bench .state))

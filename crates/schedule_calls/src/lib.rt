@@ -7,7 +7,7 @@ ghost use Rattle.memory.specs.Buffers.{buffers};
 ghost use Rattle.service.specs.Layout.{bytesOf, stateIn, isState};
 ghost use Rattle.schedule.specs.Reports.{noReport, putOver};
 ghost use Rattle.schedule.specs.Rows.{isAttention, isStep, allKnown};
-ghost use Rattle.schedule_calls.specs.Calls.{scheduled, scheduleServed};
+ghost use Rattle.schedule_calls.specs.Calls.{ScheduleMet};
 ghost use Rattle.schedule_calls.specs.Turns.{standing, StateBytes, RowRun, TurnReady, Turned, attentionRow, stepRow};
 
 // The words of a report.
@@ -101,7 +101,7 @@ pub extern "C" fn iop89_schedule(
     io: &mut [u8],
     report: &mut [u64],
 ) -> u32
-    ensures { λ r. ⌜ scheduled r (standing (now (state .exit)) (buffers (now (sys .exit)) (now (io .exit))) (now (report .exit))) ≡ scheduleServed (standing (now (state .entry)) (buffers (now (sys .entry)) (now (io .entry))) (now (report .entry))) (now (rows .entry)) ⌝ }
+    ensures { λ r. ⌜ ScheduleMet r (standing (now (state .exit)) (buffers (now (sys .exit)) (now (io .exit))) (now (report .exit))) (standing (now (state .entry)) (buffers (now (sys .entry)) (now (io .entry))) (now (report .entry))) (now (rows .entry)) ⌝ }
 {
     let number = begin(state, report, known(rows));
     let mut i: usize = 0;

@@ -62,7 +62,7 @@ use Rattle.schedule.specs.Rows.{allKnown}
 use Rattle.schedule.specs.declared.ScheduleRow.{ScheduleRow}
 use Rattle.schedule.proofs.ScheduleRow as R
 use Rattle.schedule.proofs.ScheduleRow.Laws as R′
-use Rattle.schedule_calls.specs.Calls.{scheduled, scheduleServed}
+use Rattle.schedule_calls.specs.Calls.{ScheduleMet}
 use Rattle.schedule_calls.specs.Turns.{Standing, standing, Turned}
 use Rattle.schedule_calls.proofs.Again.{LentAgain, lends-again, comes-back}
 use Rattle.schedule_calls.proofs.RunLaws.{noRow, Back, Along, along-start, along-ready, along-next, along-end, lt-or-ge}
@@ -285,7 +285,7 @@ module _ {M : Type 1} (𝓤 : URA M) (H : Heap 𝓤) (A : Atoms 𝓤) (W : Given
           ∷ ‵ (MutSlice (named 0) κ₀ u8 .own (x₀ γ₀ st) (v₀ st₀ ∷ [])) ∷ ‵ (ShrSlice (named 1) κ₁ R.the-row .own rows (vrows ∷ [])) ∷ ‵ (MutSlice (named 2) κ₂ u8 .own (x₂ γ₂ sys) (v₂ sys₀ ∷ []))
           ∷ ‵ (MutSlice (named 3) κ₃ u8 .own (x₃ γ₃ io) (v₃ io₀ ∷ [])) ∷ ‵ (MutSlice (named 4) κ₄ u64 .own (x₄ γ₄ rep) (v₄ rep₀ ∷ [])) ∷ []
 
-      exits : (u : Turn) → scheduled number (stands u) ≡ scheduleServed before ys → ent 𝓤 (⋆ 𝓤 H A (ends-with (u .st) (u .sys) (u .io) (u .rep))) (Post (vint w32 number))
+      exits : (u : Turn) → ScheduleMet number (stands u) before ys → ent 𝓤 (⋆ 𝓤 H A (ends-with (u .st) (u .sys) (u .io) (u .rep))) (Post (vint w32 number))
       exits u e =
           qed W (ends-with (u .st) (u .sys) (u .io) (u .rep)) ∵
           suffices ! _ (ends-at 𝓤 H A schedule.ended stayed (schedule.clauses 𝓤 H A at-mem at-run) W ((lfts, parts, tt, args, vals), tt) (vint w32 number) number (u .st, (tt, (u .sys, (u .io, (u .rep, tt))))) (u .len₀, (tt, (u .len₂, (u .len₃, (u .len₄, tt)))))) $ says ! e $
