@@ -32,9 +32,9 @@ once-each : (a b : Bool) → onceIf (a && b) + onceIf (a && not b) ≡ onceIf a
 once-each true b = once-or-not b
 once-each false b = refl
 
-pub once-most : (b : Bool) → onceIf b ≤ 2
-once-most true = omega arith
-once-most false = omega arith
+pub once-one : (b : Bool) → onceIf b ≤ 1
+once-one true = omega arith
+once-one false = omega arith
 
 -- a row is accepted or refused
 pub accepted-or-refused : (p : Bench) (r : ScheduleRow) → acceptedAt p r + refusedAt p r ≡ 1

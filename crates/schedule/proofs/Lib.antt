@@ -5,3 +5,4 @@ pub mod StoreLaws
 pub mod WaitLaws
 pub mod ScheduleLaws
 pub mod ExactLaws
+mod Cases

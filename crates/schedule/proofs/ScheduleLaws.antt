@@ -3,7 +3,7 @@
 use Prim.Native.Nat.{ℕ, _+_, _*_, _≤_}
 use borrow.Author.Tests.{eqb-false}
 use lib.Dec.{ltb}
-use lib.ListN.{length, getD}
+use lib.ListN.{length, getD, replicate}
 use mathlib.Core.Bool.{Bool, true, false, _&&_}
 use mathlib.Core.List.{List, [], _∷_, _++_, map}
 use mathlib.Core.Logic.{_↔_}
@@ -16,12 +16,12 @@ use Rattle.words.proofs.ChoiceLaws.{apart, both-left, both-right}
 use Rattle.words.specs.Choice.{pick}
 use Rattle.schedule.specs.Conditions.{UnknownIn}
 use Rattle.schedule.specs.Counts.{Counted, onceIf, overRows, acceptedAt, refusedAt, isAttentionTo, attendedAt, rejectedAt, isInstruction, isTransfer, isExternal, doneAt, instructionAt, transferAt, storedAt, endAt, waitsForDrq, waitAt}
-use Rattle.schedule.specs.Reports.{channelCounts, allCounts, reportOf, noReport, bothReports, allRun, noneRun, scheduleOf}
+use Rattle.schedule.specs.Reports.{channelCounts, allCounts, reportOf, bothReports, allRun, noneRun, scheduleOf}
 use Rattle.schedule.specs.Rows.{Bench, isStep, allKnown, rowsLeft}
 use Rattle.schedule.specs.declared.ScheduleRow.{ScheduleRow}
 use Rattle.schedule.proofs.RowLaws.{told-known, known-cut, left-cut}
 use Rattle.schedule.proofs.SumLaws.{over-cut, over-known, over-sum, over-both, over-twice, over-length}
-use Rattle.schedule.proofs.CountLaws.{once-most, accepted-or-refused, attentions-of, accepted-is}
+use Rattle.schedule.proofs.CountLaws.{once-one, accepted-or-refused, attentions-of, accepted-is}
 use Rattle.schedule.proofs.StoreLaws.{stored-most, stored-two}
 
 -- ---- 16
@@ -32,7 +32,7 @@ unfolding scheduleOf
 known-runs p rows h = rw h
 
 -- with a row of another kind none is, also not those before it
-pub unknown-stays : (p : Bench) (rows : List ScheduleRow) → UnknownIn rows → scheduleOf p rows ≡ noneRun p
+pub unknown-stays : (p : Bench) (rows : List ScheduleRow) → UnknownIn rows → scheduleOf p rows ≡ record { number = 16; bench = p; report = replicate 16 0 }
 unfolding scheduleOf
 unknown-stays p rows u = rw (told-exactly (told-known rows) .1 u)
 
@@ -46,7 +46,7 @@ gives-16 p rows = go (allKnown rows) refl
     go false h = (λ e. told-exactly (told-known rows) .0 h, λ u. refl)
 
 -- no row leaves everything and counts nothing
-pub none-given : (p : Bench) → scheduleOf p [] ≡ record { number = 0; bench = p; report = noReport }
+pub none-given : (p : Bench) → scheduleOf p [] ≡ record { number = 0; bench = p; report = replicate 16 0 }
 unfolding scheduleOf allKnown rowsLeft reportOf overRows
 none-given p = refl
 
@@ -108,19 +108,20 @@ two-append (f ∷ fs) gs h k = (h .0, two-append fs gs (h .1) k)
 channel-two : (second : Bool) → MostTwo (channelCounts second)
 unfolding instructionAt transferAt endAt waitAt
 channel-two second =
-    let attentions : (q : Bench) (r : ScheduleRow) → attendedAt second q r + rejectedAt second q r ≤ 2 = λ q r. omega (arith, attentions-of second q r, once-most (isAttentionTo second r)) in (
+    let most : (b : Bool) → onceIf b ≤ 2 = λ b. omega (arith, once-one b) in
+    let attentions : (q : Bench) (r : ScheduleRow) → attendedAt second q r + rejectedAt second q r ≤ 2 = λ q r. omega (arith, attentions-of second q r, once-one (isAttentionTo second r)) in (
       λ q r. omega (arith, attentions q r),
       (
         λ q r. omega (arith, attentions q r),
         (
-          λ q r. once-most (doneAt isInstruction second q r),
+          λ q r. most (doneAt isInstruction second q r),
           (
-            λ q r. once-most (doneAt isTransfer second q r),
+            λ q r. most (doneAt isTransfer second q r),
             (
               stored-two second,
               (
-                λ q r. once-most (doneAt isExternal second q r),
-                (λ q r. once-most (isStep r && ltb (r .value) 16 && waitsForDrq (channelOf (q .state) second) (requested (r .value) second)), tt),
+                λ q r. most (doneAt isExternal second q r),
+                (λ q r. most (isStep r && ltb (r .value) 16 && waitsForDrq (channelOf (q .state) second) (requested (r .value) second)), tt),
               ),
             ),
           ),

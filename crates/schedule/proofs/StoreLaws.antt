@@ -1,7 +1,6 @@
 -- The laws of the bytes that transfer steps store: with those that they read they are the touched ones, and a step stores two at most.
 -- Assumes nothing.
 use Prim.Native.Nat.{ℕ, _+_, _*_, _≤_}
-use borrow.Author.Tests.{eq-eqb}
 use lib.Dec.{eqb}
 use lib.ListN.{length, length-append}
 use mathlib.Core.Bool.{Bool, true, false, _&&_}
@@ -14,21 +13,19 @@ use Rattle.machine.specs.States.{channelOf, channelNumber}
 use Rattle.machine.specs.declared.Channel.{Channel}
 use Rattle.machine.specs.declared.State.{State}
 use Rattle.memory.specs.Buffers.{Buffers}
-use Rattle.step.proofs.NumberLaws.{settled-number}
 use Rattle.step.proofs.OutcomeLaws.{by-step}
 use Rattle.step.specs.Choosing.{choiceOf}
-use Rattle.step.specs.Step.{Step, transferStep, channelStep, chosenStep, entryNumber, stepOf}
-use Rattle.step.specs.declared.Kind.the-variants.{Transfer}
+use Rattle.step.specs.Step.{Step, entryNumber, stepOf}
 use Rattle.step.specs.Touched.{touchedIn, touchedByStep, stepCount}
 use Rattle.step.specs.declared.turns.Choice.the-variants.{Steps}
 use Rattle.transfer.specs.Parts.{Part, Whole, FirstFetch, SecondFetch, FirstStore, SecondStore, partOf}
 use Rattle.transfer.specs.Reads.{dataOf, also}
 use Rattle.transfer.specs.Sides.{destination}
-use Rattle.transfer.proofs.StepLaws.{exactly-0}
-use Rattle.transfer.specs.Steps.{touchedBy, readsBy, touchedByTransfer, badMode, transferOf}
+use Rattle.transfer.specs.Steps.{touchedBy, readsBy, touchedByTransfer}
 use Rattle.transfer.specs.Stores.{storesTwo, placesOn, storedPlaces}
 use Rattle.words.proofs.ChoiceLaws.{apart, both-right, and-false}
 use Rattle.words.specs.Choice.{pick}
+use Rattle.schedule.proofs.CountLaws.{once-one}
 use Rattle.schedule.specs.Counts.{onceIf, isTransfer, isDone, doneAt, transferAt, storesBy, storedAt}
 use Rattle.schedule.specs.Rows.{Bench, isStep}
 use Rattle.schedule.specs.declared.ScheduleRow.{ScheduleRow}
@@ -70,15 +67,8 @@ stored-most second p r = go (doneAt isTransfer second p r)
     go false = omega arith
 
 pub stored-two : (second : Bool) (p : Bench) (r : ScheduleRow) → storedAt second p r ≤ 2
-unfolding storedAt
-stored-two second p r = go (doneAt isTransfer second p r)
-  where
-    c : Channel
-    c = channelOf (p .state) second
-
-    go : (b : Bool) → pick b (length (storesBy (partOf c) c (p .memory))) 0 ≤ 2
-    go true = stores-most (partOf c) c (p .memory)
-    go false = omega arith
+unfolding transferAt
+stored-two second p r = let h = stored-most second p r in omega (arith, once-one (doneAt isTransfer second p r))
 
 -- two channels of one number are one
 same-channel : (a b : Bool) → eqb (channelNumber a) (channelNumber b) && true ≡ true → a ≡ b
@@ -100,20 +90,6 @@ transfer-chosen s m lines second =
   where
     none : {A : Type 0} (b : Bool) → b && false ≡ true → A
     none b h = apart (sym (sym (and-false b) ∙ h))
-
--- its number is the transfer step's own
-chosen-number : (s : State) (m : Buffers) (lines : ℕ) (second : Bool) → entryNumber s m lines ≡ 0 → choiceOf s lines ≡ Steps second
-    → transferring (channelOf s second .psw) ≡ true → stepOf s m lines .number ≡ transferOf (channelOf s second) m .number
-unfolding stepOf chosenStep channelStep transferStep
-chosen-number s m lines second z e f =
-    let t = transferOf (channelOf s second) m in
-    rw (eq-eqb (entryNumber s m lines) 0 z, e, f) (settled-number (t .number) s m second (t .channel) (t .memory) Transfer)
-
--- and its mode was not refused
-pub transfer-mode : (s : State) (m : Buffers) (lines : ℕ) (second : Bool) → isDone isTransfer second (stepOf s m lines) ≡ true → badMode (channelOf s second) ≡ false
-transfer-mode s m lines second h =
-    let o = transfer-chosen s m lines second h in
-    exactly-0 (channelOf s second) m .0 (sym (chosen-number s m lines second (o .3) (o .1) (o .2)) ∙ o .0) .0
 
 -- it touches what its part reads and what that stores
 pub transfer-count : (s : State) (m : Buffers) (lines : ℕ) (second : Bool) → isDone isTransfer second (stepOf s m lines) ≡ true

@@ -1,0 +1,99 @@
+-- Some schedules in numbers: who waits, what is refused and for whom, rows of an unknown kind, and what the halves of a pair store.
+-- Assumes nothing.
+use Prim.Native.Nat.{ℕ}
+use lib.ListN.{replicate}
+use mathlib.Core.Bool.{true, false}
+use mathlib.Core.List.{List, [], _∷_, _++_}
+use mathlib.Core.Path.{_≡_, refl}
+use native.Mathlib.Omega.{arith}
+use Rattle.words.specs.{Bits.fieldOf, Bits.bitOf, Bits.withBit, Compare.matchOf}
+use Rattle.memory.specs.Buffers.{buffers, spaceOf, limitOf, indexOf, lentAt, touchableAt, beyondIn, byteAt, storeByte, withinLimits}
+use Rattle.memory.specs.{Places.allPass, Values.pointer, Values.onward}
+use Rattle.machine.specs.States.{boardWith, channelOf, withChannel, withLast, soundChannel, sound, isRunning, channelNumber, fieldsAgree, agree}
+use Rattle.machine.specs.{Cc.split, Cc.sameFlag, Cc.sameFields, Outcomes.unless, Outcomes.first, Outcomes.givenNumber, Psw.withPsw, Stages.stagesNumber}
+use Rattle.machine.specs.{Updates.withTransfer, declared.Channel.Channel}
+use Rattle.machine.specs.{declared.Held.the-variants.NoByte, declared.Mode.the-variants.Running, declared.State.State}
+use Rattle.transfer.specs.{Ends.meetsTmc, Ends.codeIf, Ends.larger, Ends.offsetOf, Ends.endedTP, Ends.endedPSW, Ends.endedBy}
+use Rattle.transfer.specs.Halves.{wordWith, secondStored}
+use Rattle.transfer.specs.Parts.{fetchesApart, storesApart, fetchPart, storePart, partOf}
+use Rattle.transfer.specs.Reads.{fetched, fetchedSecond, entryOf, delivered, dataOf, also, readPlaces}
+use Rattle.transfer.specs.Sides.{source, destination, wordSide, secondAddress, gained, twoMove, storedSingly}
+use Rattle.transfer.specs.Steps.{badMode, transferOf, stepBy, numberBy, stagesBy, channelBy, memoryBy, touchedBy}
+use Rattle.transfer.specs.Stores.{movedChannel, movedMemory, firstMeets, matchMet, cutShort, storesTwo, bytesStored, bytesMoved, bytesCounted, countAfter, endCode, movedBy, putOn, placesOn, storedPlaces}
+use Rattle.attention.proofs.Numbers.{gives-12}
+use Rattle.step.specs.Choosing.{requested, external, endsNow, transferRank, rankOf, secondWins, ranked, choiceOf}
+use Rattle.step.specs.Step.{settledStep, transferStep, channelStep, chosenStep, entryNumber, stepOf}
+use Rattle.schedule.specs.Counts.{overRows, acceptedAt, refusedAt, attendedAt, rejectedAt, doneAt, instructionAt, transferAt, storesBy, storedAt, endAt, waitsForDrq, waitAt}
+use Rattle.schedule.specs.Reports.{reportOf, scheduleOf}
+use Rattle.schedule.specs.Rows.{Bench, bench, allKnown, rowNumber, rowLeft}
+use Rattle.schedule.specs.declared.ScheduleRow.{ScheduleRow}
+
+-- a row, by its kind
+abbrev row : ℕ → ℕ → ScheduleRow
+row kind value = record { kind = kind; value = value }
+
+-- a channel that transfers from I/O address 16 to system address 8, with these CC and PSW
+abbrev moving : ℕ → ℕ → Channel
+moving cc psw =
+    record {
+      ga = pointer 16 true;
+      gb = pointer 8 false;
+      gc = pointer 0 false;
+      tp = pointer 256 false;
+      pp = 0;
+      bc = 4;
+      ix = 0;
+      cc = cc;
+      mc = 0;
+      held = NoByte;
+      psw = psw;
+      mode = Running;
+      armed = false;
+      fields = split cc;
+    }
+
+-- two of them, over sixteen bytes of system memory and eighteen of I/O memory
+abbrev pairOf : Channel → Channel → Bench
+pairOf c d = bench (record { first = c; second = d; cp = 0; last = true; board = boardWith true false false false }) (buffers (replicate 16 0) (replicate 18 7))
+
+-- SYN 01 with two fetches for a word, and SYN 11
+abbrev fetches : Channel
+fetches = moving 0x8810 0x45
+
+abbrev never : Channel
+never = moving 0x9810 0x45
+
+-- a report with all that it is made of laid open, so that it computes
+unfoldable reportOpen : Bench → List ScheduleRow → List ℕ
+unfolding reportOf overRows acceptedAt refusedAt attendedAt rejectedAt doneAt instructionAt transferAt storesBy storedAt endAt waitsForDrq waitAt rowNumber rowLeft stepOf chosenStep channelStep transferStep settledStep choiceOf endsNow external requested rankOf transferRank secondWins ranked isRunning entryNumber givenNumber withinLimits sound soundChannel agree fieldsAgree sameFields sameFlag split channelOf withChannel withLast channelNumber transferOf stepBy numberBy stagesBy partOf fetchesApart storesApart fetchPart storePart channelBy memoryBy touchedBy stagesNumber first unless badMode source destination readPlaces also entryOf storedPlaces placesOn allPass touchableAt lentAt spaceOf indexOf limitOf dataOf delivered fetched fetchedSecond twoMove wordSide secondAddress bitOf fieldOf storesTwo cutShort storedSingly firstMeets meetsTmc matchMet movedMemory putOn storeByte byteAt beyondIn movedChannel endedBy endedTP endedPSW movedBy withTransfer gained onward bytesMoved bytesStored bytesCounted countAfter endCode codeIf larger offsetOf withPsw withBit matchOf wordWith secondStored
+reportOpen p rows = reportOf p rows
+
+-- with no DRQ up nobody steps, and both channels wait
+both-wait : reportOf (pairOf fetches fetches) (row 2 0 ∷ []) ≡ 0 ∷ 1 ∷ (replicate 6 0 ++ (1 ∷ [])) ++ (replicate 6 0 ++ (1 ∷ []))
+unfolding reportOpen
+both-wait = refl
+
+-- SYN 11 does not wait: its step is refused
+never-waits : reportOf (pairOf never never) (row 2 0 ∷ []) ≡ 0 ∷ 1 ∷ replicate 14 0
+unfolding reportOpen
+never-waits = refl
+
+-- a line number of 16 is refused, and nobody was found waiting
+sixteen-lines : reportOf (pairOf fetches fetches) (row 2 16 ∷ []) ≡ 0 ∷ 1 ∷ replicate 14 0
+unfolding reportOpen
+sixteen-lines = refl
+
+-- channel 1's DRQ up in two rows: two fetches, of which the second stores the word; channel 2 waited in both
+two-halves : reportOf (pairOf fetches fetches) (row 2 1 ∷ row 2 1 ∷ []) ≡ 2 ∷ 0 ∷ (0 ∷ 0 ∷ 0 ∷ 2 ∷ 2 ∷ 0 ∷ 0 ∷ []) ++ (replicate 6 0 ++ (2 ∷ []))
+unfolding reportOpen
+two-halves = refl
+
+-- an attention to channel 3 counts over all and for neither channel
+third-channel : (p : Bench) → reportOf p (row 1 3 ∷ []) ≡ 0 ∷ 1 ∷ replicate 14 0
+unfolding reportOf overRows acceptedAt refusedAt attendedAt rejectedAt doneAt instructionAt transferAt storedAt endAt waitAt rowNumber channelNumber
+third-channel p = rw (gives-12 (p .state) (p .memory) 3 .1 (λ e. absurd (omega arith), λ e. absurd (omega arith)))
+
+-- a row of kind 3 behind one that could have run: nothing is run, and nothing counted
+unknown-last : scheduleOf (pairOf fetches fetches) (row 2 1 ∷ row 3 1 ∷ []) ≡ record { number = 16; bench = pairOf fetches fetches; report = replicate 16 0 }
+unfolding scheduleOf allKnown
+unknown-last = refl
