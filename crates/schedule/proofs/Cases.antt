@@ -2,20 +2,15 @@
 -- Assumes nothing.
 use Prim.Native.Nat.{ℕ}
 use lib.ListN.{replicate}
-use mathlib.Core.Bool.{true, false}
-use mathlib.Core.List.{List, [], _∷_, _++_}
-use mathlib.Core.Path.{_≡_, refl}
+use mathlib.Core.{Bool.true, Bool.false, List.List, List.[], List._∷_, List._++_, Path._≡_, Path.refl}
 use native.Mathlib.Omega.{arith}
 use Rattle.words.specs.{Bits.fieldOf, Bits.bitOf, Bits.withBit, Compare.matchOf}
 use Rattle.memory.specs.Buffers.{buffers, spaceOf, limitOf, indexOf, lentAt, touchableAt, beyondIn, byteAt, storeByte, withinLimits}
 use Rattle.memory.specs.{Places.allPass, Values.pointer, Values.onward}
 use Rattle.machine.specs.States.{boardWith, channelOf, withChannel, withLast, soundChannel, sound, isRunning, channelNumber, fieldsAgree, agree}
-use Rattle.machine.specs.{Cc.split, Cc.sameFlag, Cc.sameFields, Outcomes.unless, Outcomes.first, Outcomes.givenNumber, Psw.withPsw, Stages.stagesNumber}
-use Rattle.machine.specs.{Updates.withTransfer, declared.Channel.Channel}
-use Rattle.machine.specs.{declared.Held.the-variants.NoByte, declared.Mode.the-variants.Running, declared.State.State}
+use Rattle.machine.specs.{Cc.split, Cc.sameFlag, Cc.sameFields, Outcomes.unless, Outcomes.first, Outcomes.givenNumber, Psw.withPsw, Stages.stagesNumber, Updates.withTransfer, declared.Channel.Channel, declared.Held.the-variants.NoByte, declared.Mode.the-variants.Running, declared.State.State}
 use Rattle.transfer.specs.{Ends.meetsTmc, Ends.codeIf, Ends.larger, Ends.offsetOf, Ends.endedTP, Ends.endedPSW, Ends.endedBy}
-use Rattle.transfer.specs.Halves.{wordWith, secondStored}
-use Rattle.transfer.specs.Parts.{fetchesApart, storesApart, fetchPart, storePart, partOf}
+use Rattle.transfer.specs.{Halves.wordWith, Halves.secondStored, Parts.fetchesApart, Parts.storesApart, Parts.fetchPart, Parts.storePart, Parts.partOf}
 use Rattle.transfer.specs.Reads.{fetched, fetchedSecond, entryOf, delivered, dataOf, also, readPlaces}
 use Rattle.transfer.specs.Sides.{source, destination, wordSide, secondAddress, gained, twoMove, storedSingly}
 use Rattle.transfer.specs.Steps.{badMode, transferOf, stepBy, numberBy, stagesBy, channelBy, memoryBy, touchedBy}
@@ -24,8 +19,7 @@ use Rattle.attention.proofs.Numbers.{gives-12}
 use Rattle.step.specs.Choosing.{requested, external, endsNow, transferRank, rankOf, secondWins, ranked, choiceOf}
 use Rattle.step.specs.Step.{settledStep, transferStep, channelStep, chosenStep, entryNumber, stepOf}
 use Rattle.schedule.specs.Counts.{overRows, acceptedAt, refusedAt, attendedAt, rejectedAt, doneAt, instructionAt, transferAt, storesBy, storedAt, endAt, waitsForDrq, waitAt}
-use Rattle.schedule.specs.Reports.{reportOf, scheduleOf}
-use Rattle.schedule.specs.Rows.{Bench, bench, allKnown, rowNumber, rowLeft}
+use Rattle.schedule.specs.{Reports.reportOf, Reports.scheduleOf, Rows.Bench, Rows.bench, Rows.allKnown, Rows.rowNumber, Rows.rowLeft}
 use Rattle.schedule.specs.declared.ScheduleRow.{ScheduleRow}
 
 -- a row, by its kind

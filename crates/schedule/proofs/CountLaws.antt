@@ -3,24 +3,19 @@
 use Prim.Native.Nat.{ℕ, _+_, _≤_}
 use borrow.Author.Tests.{eqb-true, eqb-false, ne-eqb}
 use lib.Dec.{eqb}
-use mathlib.Core.Bool.{Bool, true, false, not, _&&_, _||_}
-use mathlib.Core.Path.{_≡_, refl, sym, ap, _∙_}
+use mathlib.Core.{Bool.Bool, Bool.true, Bool.false, Bool.not, Bool._&&_, Bool._||_, Path._≡_, Path.refl, Path.sym, Path.ap, Path._∙_}
 use native.Mathlib.Omega.{arith}
-use Rattle.attention.proofs.ConditionLaws.{told-channel}
-use Rattle.attention.proofs.Numbers.{gives-12}
+use Rattle.attention.proofs.{ConditionLaws.told-channel, Numbers.gives-12}
 use Rattle.attention.specs.Attention.{attentionOf}
-use Rattle.machine.specs.States.{isChannel, channelNumber}
-use Rattle.machine.specs.declared.State.{State}
+use Rattle.machine.specs.{States.isChannel, States.channelNumber, declared.State.State}
 use Rattle.memory.specs.Buffers.{Buffers}
 use Rattle.step.proofs.OutcomeLaws.{by-step}
-use Rattle.step.specs.Step.{Step, stepOf}
-use Rattle.step.specs.declared.Kind.{Kind}
+use Rattle.step.specs.{Step.Step, Step.stepOf, declared.Kind.Kind}
 use Rattle.step.specs.declared.Kind.the-variants.{Nothing, Instruction, Transfer, External}
 use Rattle.words.proofs.ChoiceLaws.{apart, and-false}
 use Rattle.words.specs.Choice.{pick}
 use Rattle.schedule.specs.Counts.{onceIf, acceptedAt, refusedAt, isAttentionTo, attendedAt, rejectedAt, isInstruction, isTransfer, isExternal, isDone, doneAt, instructionAt, transferAt, endAt}
-use Rattle.schedule.specs.Rows.{Bench, isAttention, isStep, rowNumber}
-use Rattle.schedule.specs.declared.ScheduleRow.{ScheduleRow}
+use Rattle.schedule.specs.{Rows.Bench, Rows.isAttention, Rows.isStep, Rows.rowNumber, declared.ScheduleRow.ScheduleRow}
 
 -- a test holds or does not: once together
 once-or-not : (b : Bool) → onceIf b + onceIf (not b) ≡ 1

@@ -1,19 +1,15 @@
 -- When a row counts for a channel, in its kind, its value and what its own call answers: attentions, and steps of each kind.
 -- Assumes nothing.
-use mathlib.Core.Bool.{Bool, true}
-use mathlib.Core.Logic.{_↔_}
-use mathlib.Core.Path.{_≡_, refl, sym, ap, _∙_}
+use mathlib.Core.{Bool.Bool, Bool.true, Logic._↔_, Path._≡_, Path.refl, Path.sym, Path.ap, Path._∙_}
 use Rattle.words.proofs.ChoiceLaws.{apart}
 use Rattle.machine.proofs.ConditionLaws.{Says, says-eqb, says-not, says-and}
 use Rattle.machine.specs.States.{channelNumber}
 use Rattle.attention.specs.Attention.{attentionOf}
-use Rattle.step.specs.Step.{stepOf}
-use Rattle.step.specs.declared.Kind.{Kind}
+use Rattle.step.specs.{Step.stepOf, declared.Kind.Kind}
 use Rattle.step.specs.declared.Kind.the-variants.{Nothing, Instruction, Transfer, External}
 use Rattle.schedule.specs.Conditions.{AttentionRow, StepRow}
 use Rattle.schedule.specs.Counts.{attendedAt, rejectedAt, isInstruction, isTransfer, isExternal, doneAt, instructionAt, transferAt, endAt}
-use Rattle.schedule.specs.Rows.{Bench}
-use Rattle.schedule.specs.declared.ScheduleRow.{ScheduleRow}
+use Rattle.schedule.specs.{Rows.Bench, declared.ScheduleRow.ScheduleRow}
 use Rattle.schedule.proofs.WaitLaws.{once-exactly}
 
 -- ---- attentions

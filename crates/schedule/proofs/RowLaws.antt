@@ -2,19 +2,17 @@
 -- Assumes nothing.
 use Prim.Native.Nat.{ℕ, zero, suc, _<_}
 use lib.ListN.{length, getD}
-use mathlib.Core.Bool.{Bool, true, false, _&&_, _||_, and-assoc}
-use mathlib.Core.List.{List, [], _∷_, _++_}
+use mathlib.Core.{Bool.Bool, Bool.true, Bool.false, Bool._&&_, Bool._||_, Bool.and-assoc, List.List, List.[], List._∷_, List._++_}
 use mathlib.Core.Path.{_≡_, refl, sym, ap, _∙_}
 use native.Mathlib.Omega.{arith}
 use Rattle.machine.proofs.ConditionLaws.{Told, told-true, told-eqb, told-and, told-or}
 use Rattle.machine.specs.Outcomes.{Outcome}
 use Rattle.attention.proofs.Outcomes.{refused-nothing}
 use Rattle.step.proofs.OutcomeLaws.{refused}
-use Rattle.step.specs.Step.{Step}
+use Rattle.step.specs.Step.{Step, stepOf}
 use Rattle.words.proofs.ChoiceLaws.{both-left, both-right}
 use Rattle.words.specs.Choice.{pick}
 use Rattle.attention.specs.Attention.{attentionOf}
-use Rattle.step.specs.Step.{stepOf}
 use Rattle.schedule.specs.Conditions.{UnknownIn}
 use Rattle.schedule.specs.Rows.{Bench, bench, isAttention, isStep, allKnown, rowNumber, rowLeft, rowsLeft}
 use Rattle.schedule.specs.declared.ScheduleRow.{ScheduleRow}

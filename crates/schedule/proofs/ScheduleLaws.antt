@@ -2,11 +2,8 @@
 -- Assumes nothing.
 use Prim.Native.Nat.{ℕ, _+_, _*_, _≤_}
 use borrow.Author.Tests.{eqb-false}
-use lib.Dec.{ltb}
-use lib.ListN.{length, getD, replicate}
-use mathlib.Core.Bool.{Bool, true, false, _&&_}
-use mathlib.Core.List.{List, [], _∷_, _++_, map}
-use mathlib.Core.Logic.{_↔_}
+use lib.{Dec.ltb, ListN.length, ListN.getD, ListN.replicate}
+use mathlib.Core.{Bool.Bool, Bool.true, Bool.false, Bool._&&_, List.List, List.[], List._∷_, List._++_, List.map, Logic._↔_}
 use mathlib.Core.Path.{_≡_, refl, sym, ap, ap₂, _∙_}
 use native.Mathlib.Omega.{arith}
 use Rattle.machine.proofs.ConditionLaws.{told-exactly}
@@ -17,8 +14,7 @@ use Rattle.words.specs.Choice.{pick}
 use Rattle.schedule.specs.Conditions.{UnknownIn}
 use Rattle.schedule.specs.Counts.{Counted, onceIf, overRows, acceptedAt, refusedAt, isAttentionTo, attendedAt, rejectedAt, isInstruction, isTransfer, isExternal, doneAt, instructionAt, transferAt, storedAt, endAt, waitsForDrq, waitAt}
 use Rattle.schedule.specs.Reports.{channelCounts, allCounts, reportOf, bothReports, allRun, noneRun, scheduleOf}
-use Rattle.schedule.specs.Rows.{Bench, isStep, allKnown, rowsLeft}
-use Rattle.schedule.specs.declared.ScheduleRow.{ScheduleRow}
+use Rattle.schedule.specs.{Rows.Bench, Rows.isStep, Rows.allKnown, Rows.rowsLeft, declared.ScheduleRow.ScheduleRow}
 use Rattle.schedule.proofs.RowLaws.{told-known, known-cut, left-cut}
 use Rattle.schedule.proofs.SumLaws.{over-cut, over-known, over-sum, over-both, over-twice, over-length}
 use Rattle.schedule.proofs.CountLaws.{once-one, accepted-or-refused, attentions-of, accepted-is}

@@ -1,34 +1,22 @@
 -- The laws of the bytes that transfer steps store: with those that they read they are the touched ones, and a step stores two at most.
 -- Assumes nothing.
 use Prim.Native.Nat.{ℕ, _+_, _*_, _≤_}
-use lib.Dec.{eqb}
-use lib.ListN.{length, length-append}
-use mathlib.Core.Bool.{Bool, true, false, _&&_}
-use mathlib.Core.List.{_++_}
-use mathlib.Core.Path.{_≡_, refl, sym, ap, _∙_}
+use lib.{Dec.eqb, ListN.length, ListN.length-append}
+use mathlib.Core.{Bool.Bool, Bool.true, Bool.false, Bool._&&_, List._++_, Path._≡_, Path.refl, Path.sym, Path.ap, Path._∙_}
 use native.Mathlib.Omega.{arith}
-use Rattle.machine.specs.Outcomes.{counted}
-use Rattle.machine.specs.Psw.{transferring}
-use Rattle.machine.specs.States.{channelOf, channelNumber}
-use Rattle.machine.specs.declared.Channel.{Channel}
-use Rattle.machine.specs.declared.State.{State}
+use Rattle.machine.specs.{Outcomes.counted, Psw.transferring, States.channelOf, States.channelNumber, declared.Channel.Channel, declared.State.State}
 use Rattle.memory.specs.Buffers.{Buffers}
 use Rattle.step.proofs.OutcomeLaws.{by-step}
-use Rattle.step.specs.Choosing.{choiceOf}
-use Rattle.step.specs.Step.{Step, entryNumber, stepOf}
-use Rattle.step.specs.Touched.{touchedIn, touchedByStep, stepCount}
+use Rattle.step.specs.{Choosing.choiceOf, Step.Step, Step.entryNumber, Step.stepOf, Touched.touchedIn, Touched.touchedByStep, Touched.stepCount}
 use Rattle.step.specs.declared.turns.Choice.the-variants.{Steps}
 use Rattle.transfer.specs.Parts.{Part, Whole, FirstFetch, SecondFetch, FirstStore, SecondStore, partOf}
-use Rattle.transfer.specs.Reads.{dataOf, also}
-use Rattle.transfer.specs.Sides.{destination}
-use Rattle.transfer.specs.Steps.{touchedBy, readsBy, touchedByTransfer}
+use Rattle.transfer.specs.{Reads.dataOf, Reads.also, Sides.destination, Steps.touchedBy, Steps.readsBy, Steps.touchedByTransfer}
 use Rattle.transfer.specs.Stores.{storesTwo, placesOn, storedPlaces}
 use Rattle.words.proofs.ChoiceLaws.{apart, both-right, and-false}
 use Rattle.words.specs.Choice.{pick}
 use Rattle.schedule.proofs.CountLaws.{once-one}
 use Rattle.schedule.specs.Counts.{onceIf, isTransfer, isDone, doneAt, transferAt, storesBy, storedAt}
-use Rattle.schedule.specs.Rows.{Bench, isStep}
-use Rattle.schedule.specs.declared.ScheduleRow.{ScheduleRow}
+use Rattle.schedule.specs.{Rows.Bench, Rows.isStep, declared.ScheduleRow.ScheduleRow}
 
 -- what a transfer step touches is what it reads and then what it stores
 pub touched-apart : (k : Part) (c : Channel) (m : Buffers) → touchedBy k c m ≡ readsBy k c m ++ storesBy k c m

@@ -2,13 +2,10 @@
 -- Assumes nothing.
 use Prim.Native.Nat.{ℕ, _+_, _*_, _≤_}
 use lib.ListN.{length}
-use mathlib.Core.Bool.{true, _||_}
-use mathlib.Core.List.{List, [], _∷_, _++_}
-use mathlib.Core.Path.{_≡_, refl, ap₂}
+use mathlib.Core.{Bool.true, Bool._||_, List.List, List.[], List._∷_, List._++_, Path._≡_, Path.refl, Path.ap₂}
 use native.Mathlib.Omega.{arith}
 use Rattle.words.proofs.ChoiceLaws.{both-left, both-right}
-use Rattle.schedule.specs.Counts.{Counted, overRows}
-use Rattle.schedule.specs.Rows.{Bench, isAttention, isStep, allKnown, rowLeft, rowsLeft}
+use Rattle.schedule.specs.{Counts.Counted, Counts.overRows, Rows.Bench, Rows.isAttention, Rows.isStep, Rows.allKnown, Rows.rowLeft, Rows.rowsLeft}
 use Rattle.schedule.specs.declared.ScheduleRow.{ScheduleRow}
 
 -- any count of rows cut into two is the sum of the two counts

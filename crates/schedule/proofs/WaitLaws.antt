@@ -3,23 +3,16 @@
 use Prim.Native.Nat.{ℕ, _<_}
 use borrow.Author.Tests.{ltb-true, ltb-false}
 use lib.Dec.{ltb}
-use mathlib.Core.Bool.{Bool, true, false}
-use mathlib.Core.Logic.{⊎-elim, _⊎_, _↔_}
-use mathlib.Core.Path.{_≡_, refl}
+use mathlib.Core.{Bool.Bool, Bool.true, Bool.false, Logic.⊎-elim, Logic._⊎_, Logic._↔_, Path._≡_, Path.refl}
 use native.Mathlib.Omega.{arith}
 use Rattle.machine.proofs.ConditionLaws.{Says, says-true, says-false, says-eqb, says-running, says-and, says-or}
-use Rattle.machine.specs.Psw.{transferring}
-use Rattle.machine.specs.States.{channelOf, isRunning}
-use Rattle.machine.specs.declared.Channel.{Channel}
-use Rattle.machine.specs.declared.Mode.the-variants.{Running}
+use Rattle.machine.specs.{Psw.transferring, States.channelOf, States.isRunning, declared.Channel.Channel, declared.Mode.the-variants.Running}
 use Rattle.step.proofs.ChoosingLaws.{rank-none, steps-chosen}
-use Rattle.step.specs.Choosing.{requested, noRank, transferRank, rankOf}
-use Rattle.step.specs.Step.{stepOf}
+use Rattle.step.specs.{Choosing.requested, Choosing.noRank, Choosing.transferRank, Choosing.rankOf, Step.stepOf}
 use Rattle.words.proofs.ChoiceLaws.{both-right}
 use Rattle.schedule.specs.Conditions.{FoundWaiting}
 use Rattle.schedule.specs.Counts.{onceIf, isTransfer, isDone, doneAt, transferAt, waitsForDrq, waitAt}
-use Rattle.schedule.specs.Rows.{Bench, isStep}
-use Rattle.schedule.specs.declared.ScheduleRow.{ScheduleRow}
+use Rattle.schedule.specs.{Rows.Bench, Rows.isStep, declared.ScheduleRow.ScheduleRow}
 use Rattle.schedule.proofs.StoreLaws.{transfer-chosen}
 
 says-ltb : (a b : ℕ) → Says (ltb a b) (a < b)

@@ -1,17 +1,9 @@
 -- When 16 is given, and when a row counts for a channel: as an attention, as a done step, as one that found it waiting for its DRQ.
-use mathlib.Core.Bool.{Bool, true, false}
-use mathlib.Core.List.{List, [], _∷_}
-use mathlib.Core.Logic.{_⊎_}
-use mathlib.Core.Path.{_≡_}
+use mathlib.Core.{Bool.Bool, Bool.true, Bool.false, List.List, List.[], List._∷_, Logic._⊎_, Path._≡_}
 use Prim.Native.Nat.{_<_}
-use Rattle.machine.specs.Psw.{transferring}
-use Rattle.machine.specs.States.{channelOf, channelNumber}
-use Rattle.machine.specs.declared.Mode.the-variants.{Running}
-use Rattle.step.specs.Choosing.{requested}
-use Rattle.step.specs.Step.{stepOf}
-use Rattle.step.specs.declared.Kind.{Kind}
-use Rattle.schedule.specs.Rows.{Bench}
-use Rattle.schedule.specs.declared.ScheduleRow.{ScheduleRow}
+use Rattle.machine.specs.{Psw.transferring, States.channelOf, States.channelNumber, declared.Mode.the-variants.Running}
+use Rattle.step.specs.{Choosing.requested, Step.stepOf, declared.Kind.Kind}
+use Rattle.schedule.specs.{Rows.Bench, declared.ScheduleRow.ScheduleRow}
 
 -- 16: a row's kind is neither 1 nor 2
 abbrev pub UnknownIn : List ScheduleRow → Type 0

@@ -1,27 +1,17 @@
 -- What is counted of a row, each count from the row and the bench before it by a definition of its own, and summed over rows.
-use mathlib.Core.Bool.{Bool, true, false, not, _&&_, _||_}
-use mathlib.Core.List.{List, [], _∷_}
+use mathlib.Core.{Bool.Bool, Bool.true, Bool.false, Bool.not, Bool._&&_, Bool._||_, List.List, List.[], List._∷_}
 use Prim.Native.Nat.{ℕ, _+_}
-use lib.Dec.{eqb, ltb}
-use lib.ListN.{length}
+use lib.{Dec.eqb, Dec.ltb, ListN.length}
 use Rattle.words.specs.Choice.{pick}
-use Rattle.memory.specs.Buffers.{Buffers}
-use Rattle.memory.specs.Places.{Place}
-use Rattle.machine.specs.Psw.{transferring}
-use Rattle.machine.specs.States.{channelOf, channelNumber, isRunning}
-use Rattle.machine.specs.declared.Channel.{Channel}
+use Rattle.memory.specs.{Buffers.Buffers, Places.Place}
+use Rattle.machine.specs.{Psw.transferring, States.channelOf, States.channelNumber, States.isRunning, declared.Channel.Channel}
 use Rattle.attention.specs.Attention.{attentionOf}
 use Rattle.transfer.specs.Halves.{firstPlace, secondPlace}
-use Rattle.transfer.specs.Parts.{Part, Whole, FirstFetch, SecondFetch, FirstStore, SecondStore, partOf}
-use Rattle.transfer.specs.Reads.{dataOf}
-use Rattle.transfer.specs.Sides.{destination}
-use Rattle.transfer.specs.Stores.{placesOn, storedPlaces}
-use Rattle.step.specs.Choosing.{requested}
-use Rattle.step.specs.Step.{Step, stepOf}
-use Rattle.step.specs.declared.Kind.{Kind}
+use Rattle.transfer.specs.{Parts.Part, Parts.Whole, Parts.FirstFetch, Parts.SecondFetch, Parts.FirstStore, Parts.SecondStore, Parts.partOf, Reads.dataOf}
+use Rattle.transfer.specs.{Sides.destination, Stores.placesOn, Stores.storedPlaces}
+use Rattle.step.specs.{Choosing.requested, Step.Step, Step.stepOf, declared.Kind.Kind}
 use Rattle.step.specs.declared.Kind.the-variants.{Nothing, Instruction, Transfer, External}
-use Rattle.schedule.specs.Rows.{Bench, isAttention, isStep, rowNumber, rowLeft}
-use Rattle.schedule.specs.declared.ScheduleRow.{ScheduleRow}
+use Rattle.schedule.specs.{Rows.Bench, Rows.isAttention, Rows.isStep, Rows.rowNumber, Rows.rowLeft, declared.ScheduleRow.ScheduleRow}
 
 -- what is counted of a row and the bench before it
 abbrev pub Counted : Type 0

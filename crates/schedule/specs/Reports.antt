@@ -1,12 +1,10 @@
 -- The report of a schedule, what the whole call leaves, and the report in lent words.
-use mathlib.Core.Bool.{Bool, true, false}
-use mathlib.Core.List.{List, [], _∷_, _++_, map}
+use mathlib.Core.{Bool.Bool, Bool.true, Bool.false, List.List, List.[], List._∷_, List._++_, List.map}
 use Prim.Native.Nat.{ℕ, _+_}
 use lib.ListN.{replicate}
 use Rattle.words.specs.Choice.{pick}
 use Rattle.schedule.specs.Counts.{Counted, overRows, acceptedAt, refusedAt, attendedAt, rejectedAt, instructionAt, transferAt, storedAt, endAt, waitAt}
-use Rattle.schedule.specs.Rows.{Bench, allKnown, rowsLeft}
-use Rattle.schedule.specs.declared.ScheduleRow.{ScheduleRow}
+use Rattle.schedule.specs.{Rows.Bench, Rows.allKnown, Rows.rowsLeft, declared.ScheduleRow.ScheduleRow}
 
 -- what is counted of a channel, in its order: attentions done and refused, instructions, transfer steps, bytes stored, external ends, waiting rows
 abbrev pub channelCounts : Bool → List Counted

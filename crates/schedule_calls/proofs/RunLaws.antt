@@ -2,24 +2,16 @@
 -- Assumes nothing.
 use Prim.Native.Nat.{ℕ, zero, suc, _+_, _≤_, _<_}
 use borrow.Author.Tests.{ltb-true, ltb-false}
-use lib.Dec.{ltb}
-use lib.ListN.{length, getD, take}
-use lib.Seq.{take-suc, take-length, length-take-le}
-use mathlib.Core.Bool.{Bool, true, false}
-use mathlib.Core.List.{List, [], _∷_, _++_, map}
-use mathlib.Core.Logic.{_⊎_, inl, inr}
+use lib.{Dec.ltb, ListN.length, ListN.getD, ListN.take, Seq.take-suc, Seq.take-length, Seq.length-take-le}
+use mathlib.Core.{Bool.Bool, Bool.true, Bool.false, List.List, List.[], List._∷_, List._++_, List.map, Logic._⊎_, Logic.inl, Logic.inr}
 use mathlib.Core.Path.{_≡_, refl, sym, ap, ap₂, _∙_, subst}
-use native.Mathlib.Numerals.{add-one}
-use native.Mathlib.Omega.{arith}
+use native.Mathlib.{Numerals.add-one, Omega.arith}
 use Rattle.words.specs.Choice.{pick}
 use Rattle.service.specs.Layout.{bytesOf, stateIn, isState}
-use Rattle.schedule.proofs.RowLaws.{known-at, left-cut}
-use Rattle.schedule.proofs.ScheduleLaws.{MostTwo, counts-two, over-most}
-use Rattle.schedule.proofs.SumLaws.{over-cut}
+use Rattle.schedule.proofs.{RowLaws.known-at, RowLaws.left-cut, ScheduleLaws.MostTwo, ScheduleLaws.counts-two, ScheduleLaws.over-most, SumLaws.over-cut}
 use Rattle.schedule.specs.Counts.{Counted, overRows}
 use Rattle.schedule.specs.Reports.{allCounts, noReport, reportOf, allRun, noneRun, scheduleOf, putOver}
-use Rattle.schedule.specs.Rows.{Bench, allKnown, rowLeft, rowsLeft}
-use Rattle.schedule.specs.declared.ScheduleRow.{ScheduleRow}
+use Rattle.schedule.specs.{Rows.Bench, Rows.allKnown, Rows.rowLeft, Rows.rowsLeft, declared.ScheduleRow.ScheduleRow}
 use Rattle.schedule_calls.specs.Calls.{scheduled, scheduleServed, ScheduleMet}
 use Rattle.schedule_calls.specs.Turns.{Standing, standing, benchIn, StateBytes, RowRun, Turned, TurnReady}
 use Rattle.schedule_calls.specs.Words.{addedOn}

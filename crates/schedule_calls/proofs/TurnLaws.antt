@@ -2,45 +2,31 @@
 -- Assumes nothing.
 use Prim.Native.Nat.{ℕ, zero, suc, _+_, _-_, _/_, _%_, _≤_, _<_}
 use borrow.Author.Tests.{eqb-true, eq-eqb, ne-eqb}
-use lib.Dec.{eqb, ltb, lit<}
-use lib.ListN.{length, getD, replicate}
-use mathlib.Core.Bool.{Bool, true, false, not, _&&_, _||_}
-use mathlib.Core.List.{List, [], _∷_, _++_}
+use lib.{Dec.eqb, Dec.ltb, Dec.lit<, ListN.length, ListN.getD, ListN.replicate}
+use mathlib.Core.{Bool.Bool, Bool.true, Bool.false, Bool.not, Bool._&&_, Bool._||_, List.List, List.[], List._∷_, List._++_}
 use mathlib.Core.Path.{_≡_, refl, sym, ap, ap₂, _∙_}
 use native.Mathlib.Omega.{arith}
 use Rattle.memory.specs.Buffers.{Buffers, buffers, spaceOf, indexOf, beyondIn, byteAt, AllBytes}
-use Rattle.machine.specs.Outcomes.{Outcome}
-use Rattle.machine.specs.Psw.{transferring}
-use Rattle.machine.specs.States.{channelOf, channelNumber}
-use Rattle.machine.specs.declared.Channel.{Channel}
-use Rattle.machine.specs.declared.State.{State}
+use Rattle.machine.specs.{Outcomes.Outcome, Psw.transferring, States.channelOf, States.channelNumber, declared.Channel.Channel, declared.State.State}
 use Rattle.attention.proofs.Numbers.{attention-most}
 use Rattle.attention.specs.Attention.{attentionOf, attentionCount}
 use Rattle.transfer.proofs.CountLaws.{reads-most}
-use Rattle.transfer.specs.Parts.{partOf}
-use Rattle.transfer.specs.Steps.{readsBy}
-use Rattle.step.proofs.NumberLaws.{step-most}
-use Rattle.step.proofs.OutcomeLaws.{by-step}
-use Rattle.step.specs.Choosing.{requested}
-use Rattle.step.specs.Step.{Step, stepOf}
-use Rattle.step.specs.Touched.{stepCount}
-use Rattle.step.specs.declared.Kind.{Kind}
+use Rattle.transfer.specs.{Parts.partOf, Steps.readsBy}
+use Rattle.step.proofs.{NumberLaws.step-most, OutcomeLaws.by-step}
+use Rattle.step.specs.{Choosing.requested, Step.Step, Step.stepOf, Touched.stepCount, declared.Kind.Kind}
 use Rattle.step.specs.declared.Kind.the-variants.{Nothing, Instruction, Transfer, External}
 use Rattle.service.proofs.NumberLaws.{number-part, channel-part, kind-part, count-part}
 use Rattle.service.proofs.OutcomeLaws.{attention-stays, step-stays}
 use Rattle.service.specs.Calls.{Service, served, kindNumber, answerFrom, attentionServed, stepLeft, stepServed}
-use Rattle.service.specs.Conditions.{Bytes}
-use Rattle.service.specs.Layout.{bytesOf, stateIn, isState}
+use Rattle.service.specs.{Conditions.Bytes, Layout.bytesOf, Layout.stateIn, Layout.isState}
 use Rattle.words.proofs.ChoiceLaws.{apart, both-left, both-right, and-true, and-false}
 use Rattle.words.specs.Choice.{pick}
 use Rattle.schedule.proofs.StoreLaws.{transfer-chosen, transfer-count, stores-most}
 use Rattle.schedule.specs.Counts.{onceIf, overRows, acceptedAt, refusedAt, attendedAt, rejectedAt, isInstruction, isTransfer, isExternal, isDone, doneAt, instructionAt, transferAt, storesBy, storedAt, endAt, waitsForDrq, waitAt}
-use Rattle.schedule.specs.Reports.{reportOf, noReport}
-use Rattle.schedule.specs.Rows.{Bench, bench, isAttention, isStep, rowNumber, rowLeft}
+use Rattle.schedule.specs.{Reports.reportOf, Reports.noReport, Rows.Bench, Rows.bench, Rows.isAttention, Rows.isStep, Rows.rowNumber, Rows.rowLeft}
 use Rattle.schedule.specs.declared.ScheduleRow.{ScheduleRow}
 use Rattle.schedule_calls.specs.Turns.{Standing, standing, RowRun, attentionRow, stepRow}
-use Rattle.schedule_calls.specs.Words.{adds, addedOn, attentionAdds, stepAdds}
-use Rattle.schedule_calls.specs.declared.finding.Found.{Found}
+use Rattle.schedule_calls.specs.{Words.adds, Words.addedOn, Words.attentionAdds, Words.stepAdds, declared.finding.Found.Found}
 use Rattle.schedule_calls.proofs.WordLaws.{Small, plusAll, Within, adds-are}
 
 plus-none : (x : ℕ) → x + 0 ≡ x

@@ -2,10 +2,8 @@
 -- Assumes nothing.
 use Prim.Native.Nat.{ℕ, zero, suc, _+_, _%_, _≤_, _<_, _^_}
 use lib.ListN.{length, getD, set, replicate, length-set}
-use mathlib.Core.List.{List, [], _∷_}
-use mathlib.Core.Path.{_≡_, refl, ap₂, ap, sym, _∙_, subst}
-use native.Mathlib.Numerals.{add-one}
-use native.Mathlib.Omega.{arith}
+use mathlib.Core.{List.List, List.[], List._∷_, Path._≡_, Path.refl, Path.ap₂, Path.ap, Path.sym, Path._∙_, Path.subst}
+use native.Mathlib.{Numerals.add-one, Omega.arith}
 use Rattle.schedule.specs.Reports.{noReport, putOver}
 use Rattle.schedule_calls.specs.Words.{addedAt, adds, addedOn}
 

@@ -1,12 +1,9 @@
 -- The call for C: a state's bytes, rows, both memories and the words of a report.
-use mathlib.Core.Bool.{true}
-use mathlib.Core.List.{List}
-use mathlib.Core.Path.{_≡_}
+use mathlib.Core.{Bool.true, List.List, Path._≡_}
 use Prim.Native.Nat.{ℕ}
 use Rattle.words.specs.Choice.{pick}
 use Rattle.service.specs.Layout.{bytesOf, stateIn, isState}
-use Rattle.schedule.specs.Reports.{noReport, Scheduled, scheduleOf, putOver}
-use Rattle.schedule.specs.declared.ScheduleRow.{ScheduleRow}
+use Rattle.schedule.specs.{Reports.noReport, Reports.Scheduled, Reports.scheduleOf, Reports.putOver, declared.ScheduleRow.ScheduleRow}
 use Rattle.schedule_calls.specs.Turns.{Standing, standing, benchIn}
 
 -- what the call leaves: its answer, the state's bytes, both memories and the report's words

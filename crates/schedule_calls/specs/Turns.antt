@@ -1,13 +1,9 @@
 -- What stands between two rows, and what one row makes of it.
-use mathlib.Core.Bool.{true, _||_}
-use mathlib.Core.List.{List, [], _∷_}
-use mathlib.Core.Path.{_≡_}
+use mathlib.Core.{Bool.true, Bool._||_, List.List, List.[], List._∷_, Path._≡_}
 use Prim.Native.Nat.{ℕ}
 use Rattle.memory.specs.Buffers.{Buffers}
 use Rattle.service.specs.Layout.{bytesOf, stateIn, isState}
-use Rattle.schedule.specs.Reports.{reportOf}
-use Rattle.schedule.specs.Rows.{Bench, bench, isAttention, isStep, rowLeft}
-use Rattle.schedule.specs.declared.ScheduleRow.{ScheduleRow}
+use Rattle.schedule.specs.{Reports.reportOf, Rows.Bench, Rows.bench, Rows.isAttention, Rows.isStep, Rows.rowLeft, declared.ScheduleRow.ScheduleRow}
 use Rattle.schedule_calls.specs.Words.{addedOn}
 
 -- a state's bytes, both memories and the report's words

@@ -1,9 +1,7 @@
 -- The words of a report as the code counts in them: what is added to lent words, and what it adds for an attention and for a step.
-use mathlib.Core.Bool.{Bool}
-use mathlib.Core.List.{List, [], _∷_}
+use mathlib.Core.{Bool.Bool, List.List, List.[], List._∷_}
 use Prim.Native.Nat.{ℕ, _+_, _*_, _/_, _%_, _^_}
-use lib.Dec.{eqb}
-use lib.ListN.{getD, set}
+use lib.{Dec.eqb, ListN.getD, ListN.set}
 use Rattle.words.specs.Choice.{pick}
 use Rattle.schedule.specs.Counts.{onceIf}
 

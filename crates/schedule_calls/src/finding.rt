@@ -1,13 +1,10 @@
 // What a row finds of a channel before its step: whether it waits, and what its next transfer step would read.
 use machine::Channel;
-ghost use mathlib.Core.Bool.{true, _&&_};
-ghost use mathlib.Core.Path.{_≡_};
-ghost use lib.Dec.{ltb};
-ghost use lib.ListN.{length};
+ghost use mathlib.Core.{Bool.true, Bool._&&_, Path._≡_};
+ghost use lib.{Dec.ltb, ListN.length};
 ghost use Rattle.memory.specs.Buffers.{Buffers};
 ghost use Rattle.machine.specs.Psw.{transferring};
-ghost use Rattle.transfer.specs.Parts.{partOf};
-ghost use Rattle.transfer.specs.Steps.{readsBy};
+ghost use Rattle.transfer.specs.{Parts.partOf, Steps.readsBy};
 ghost use Rattle.step.specs.Choosing.{requested};
 ghost use Rattle.schedule.specs.Counts.{waitsForDrq};
 

@@ -2,8 +2,7 @@
 -- Assumes nothing.
 use borrow.Author.Needs.{needs}
 use native.Mathlib.Omega.{arith}
-use Rattle.schedule_calls.proofs.TurnLaws.{attention-row}
-use Rattle.schedule_calls.proofs.attend.Statement.{statement}
+use Rattle.schedule_calls.proofs.{TurnLaws.attention-row, attend.Statement.statement}
 use Rattle.schedule_calls.proofs.attend.Tie as tie
 
 returns : tie.Need-returns

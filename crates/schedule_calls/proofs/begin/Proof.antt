@@ -1,7 +1,6 @@
 -- `schedule_calls::begin` meets its contract.
 -- Assumes nothing.
-use borrow.Author.Needs.{needs}
-use borrow.Author.Tests.{not-true, not-false}
+use borrow.Author.{Needs.needs, Tests.not-true, Tests.not-false}
 use denote.Ref.{now}
 use mathlib.Core.Path.{refl, sym, _∙_}
 use native.Mathlib.Omega.{arith}

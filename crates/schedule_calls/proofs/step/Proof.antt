@@ -6,8 +6,7 @@ use mathlib.Core.Path.{_≡_}
 use native.Mathlib.Omega.{arith}
 use Rattle.memory.specs.Buffers.{buffers}
 use Rattle.service.proofs.CallLaws.{state-length}
-use Rattle.schedule_calls.proofs.TurnLaws.{all-bytes, step-row, found-of}
-use Rattle.schedule_calls.proofs.step.Statement.{statement}
+use Rattle.schedule_calls.proofs.{TurnLaws.all-bytes, TurnLaws.step-row, TurnLaws.found-of, step.Statement.statement}
 use Rattle.schedule_calls.proofs.step.Tie as tie
 
 channel-requires : tie.Need-channel-requires

@@ -3,8 +3,7 @@
 use borrow.Author.Needs.{needs}
 use mathlib.Core.Path.{refl}
 use Rattle.schedule_calls.specs.Turns.{attentionRow, stepRow}
-use Rattle.schedule_calls.proofs.TurnLaws.{row-attends, row-steps, run-as}
-use Rattle.schedule_calls.proofs.turn.Statement.{statement}
+use Rattle.schedule_calls.proofs.{TurnLaws.row-attends, TurnLaws.row-steps, TurnLaws.run-as, turn.Statement.statement}
 use Rattle.schedule_calls.proofs.turn.Tie as tie
 
 returns : tie.Need-returns

@@ -1,13 +1,11 @@
 -- `schedule_calls::counting::add` meets its contract.
 -- Assumes nothing.
-use borrow.Author.Needs.{needs}
-use borrow.Author.Tests.{not-true, not-false}
+use borrow.Author.{Needs.needs, Tests.not-true, Tests.not-false}
 use denote.Ref.{now}
 use mathlib.Core.Path.{sym}
 use native.Mathlib.Omega.{arith}
 use Rattle.schedule_calls.specs.Words.{addedAt}
-use Rattle.schedule_calls.proofs.WordLaws.{none-at, set-beyond}
-use Rattle.schedule_calls.proofs.counting.add.Statement.{statement}
+use Rattle.schedule_calls.proofs.{WordLaws.none-at, WordLaws.set-beyond, counting.add.Statement.statement}
 use Rattle.schedule_calls.proofs.counting.add.Tie as tie
 
 returns : tie.Need-returns

@@ -4,12 +4,10 @@ use Prim.Native.Nat.{ℕ, _-_, _≤_}
 use borrow.Author.Needs.{needs}
 use denote.Ref.{now}
 use lib.ListN.{length, set, replicate}
-use mathlib.Core.List.{List}
-use mathlib.Core.Path.{_≡_, refl, ap, _∙_}
+use mathlib.Core.{List.List, Path._≡_, Path.refl, Path.ap, Path._∙_}
 use native.Mathlib.Omega.{arith}
 use Rattle.schedule.specs.Reports.{putOver}
-use Rattle.schedule_calls.proofs.WordLaws.{clear-next, over-length}
-use Rattle.schedule_calls.proofs.counting.clear.Statement.{statement}
+use Rattle.schedule_calls.proofs.{WordLaws.clear-next, WordLaws.over-length, counting.clear.Statement.statement}
 use Rattle.schedule_calls.proofs.counting.clear.Tie as tie
 
 abbrev Inv-loop : tie.InvT-loop

@@ -2,8 +2,7 @@
 -- Assumes nothing.
 use borrow.Author.Needs.{needs}
 use mathlib.Core.Path.{sym}
-use Rattle.schedule_calls.proofs.WordLaws.{set-beyond}
-use Rattle.schedule_calls.proofs.counting.clear_word.Statement.{statement}
+use Rattle.schedule_calls.proofs.{WordLaws.set-beyond, counting.clear_word.Statement.statement}
 use Rattle.schedule_calls.proofs.counting.clear_word.Tie as tie
 
 returns-2 : tie.Need-returns-2

@@ -1,7 +1,6 @@
 -- `schedule_calls::counting::step` meets its contract.
 -- Assumes nothing.
-use borrow.Author.Needs.{needs}
-use borrow.Author.Tests.{eq-eqb, ne-eqb}
+use borrow.Author.{Needs.needs, Tests.eq-eqb, Tests.ne-eqb}
 use Rattle.schedule_calls.specs.Words.{adds}
 use Rattle.schedule_calls.proofs.counting.step.Statement.{statement}
 use Rattle.schedule_calls.proofs.counting.step.Tie as tie

@@ -1,10 +1,8 @@
 -- `schedule_calls::finding::find` meets its contract.
 -- Assumes nothing.
-use borrow.Author.Needs.{needs}
-use borrow.Author.Tests.{not-true, not-false}
+use borrow.Author.{Needs.needs, Tests.not-true, Tests.not-false}
 use lib.Dec.{eqb}
-use mathlib.Core.Bool.{_||_, and-assoc}
-use mathlib.Core.Path.{sym, _∙_}
+use mathlib.Core.{Bool._||_, Bool.and-assoc, Path.sym, Path._∙_}
 use Rattle.words.proofs.ChoiceLaws.{apart, and-true, and-false}
 use Rattle.schedule.specs.Counts.{waitsForDrq}
 use Rattle.schedule_calls.proofs.finding.find.Statement.{statement}
