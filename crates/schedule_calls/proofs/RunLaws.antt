@@ -5,7 +5,7 @@ use borrow.Author.Tests.{ltb-true, ltb-false}
 use lib.{Dec.ltb, ListN.length, ListN.getD, ListN.take, Seq.take-suc, Seq.take-length, Seq.length-take-le}
 use mathlib.Core.{Bool.Bool, Bool.true, Bool.false, List.List, List.[], List._∷_, List._++_, List.map, Logic._⊎_, Logic.inl, Logic.inr}
 use mathlib.Core.Path.{_≡_, refl, sym, ap, ap₂, _∙_, subst}
-use native.Mathlib.{Numerals.add-one, Omega.arith}
+use native.Mathlib.{Decide.ℕ-discrete, Numerals.add-one, Omega.arith}
 use Rattle.words.specs.Choice.{pick}
 use Rattle.service.specs.Layout.{bytesOf, stateIn, isState}
 use Rattle.schedule.proofs.{RowLaws.known-at, RowLaws.left-cut, ScheduleLaws.MostTwo, ScheduleLaws.counts-two, ScheduleLaws.over-most, SumLaws.over-cut}
@@ -45,14 +45,14 @@ pub record Along (x : Standing) (rows : List ScheduleRow) (number i : ℕ) (y : 
   pub runs : number ≡ 0 → Ran x (take i rows) y
   pub stays : ¬ (number ≡ 0) → y ≡ clearedAt x
 
-zero-case : (n : ℕ) (b k : Bool) → n ≡ pick b (pick k 0 16) 17 → n ≡ 0 → (b ≡ true) × (k ≡ true)
-zero-case n true true e z = (refl, refl)
-zero-case n true false e z = absurd (omega (arith, e, z))
-zero-case n false k e z = absurd (omega (arith, e, z))
-
 -- the number is 0 for a state and known rows alone
 zero-is : (x : Standing) (rows : List ScheduleRow) (number : ℕ) → number ≡ firstNumber x rows → number ≡ 0 → (isState (x .bytes) ≡ true) × (allKnown rows ≡ true)
-zero-is x rows number e z = zero-case number (isState (x .bytes)) (allKnown rows) e z
+zero-is x rows number e z = go (isState (x .bytes)) (allKnown rows) e
+  where
+    go : (b k : Bool) → number ≡ pick b (pick k 0 16) 17 → (b ≡ true) × (k ≡ true)
+    go true true h = (refl, refl)
+    go true false h = absurd (omega arith)
+    go false k h = absurd (omega arith)
 
 pub along-start : (x : Standing) (rows : List ScheduleRow) (number : ℕ) → number ≡ firstNumber x rows → Back x → Along x rows number 0 (clearedAt x)
 unfolding rowsLeft reportOf overRows
@@ -123,20 +123,16 @@ none-end x rows back ne = go (isState (x .bytes)) refl (allKnown rows) refl
     go true e false k = rw (e, k) (ap (λ (b : List ℕ). scheduled 16 (standing b (x .memory) (putOver noReport (x .words)))) (sym (back e)))
     go false e k′ k = rw e
 
-zero-or-not : (n : ℕ) → (n ≡ 0) ⊎ (¬ (n ≡ 0))
-zero-or-not zero = inl refl
-zero-or-not (suc n) = inr (λ e. absurd (omega (arith, e)))
-
 pub along-end : (x : Standing) (rows : List ScheduleRow) (number i : ℕ) (y : Standing) → i ≡ length rows → Along x rows number i y → ScheduleMet number y x rows
 unfolding scheduleOf
-along-end x rows number i y e h = go (zero-or-not number)
+along-end x rows number i y e h = go (ℕ-discrete number 0)
   where
-    go : (number ≡ 0) ⊎ (¬ (number ≡ 0)) → ScheduleMet number y x rows
-    go (inl z) =
+    go : Dec (number ≡ 0) → ScheduleMet number y x rows
+    go (yes z) =
         let both = zero-is x rows number (h .first) z in
         let ran = subst (λ (a : List ScheduleRow). Ran x a y) (ap (λ (k : ℕ). take k rows) e ∙ take-length rows) (h .runs z) in
         (ap (λ (n : ℕ). scheduled n y) z ∙ run-end x rows y ran (both .0) (both .1), λ is. (ran .state .is, rw (both .1) (ap (λ (p : Bench). p .state) (ran .bench))))
-    go (inr ne) =
+    go (no ne) =
         let number-is = h .first in (
           ap (λ (s : Standing). scheduled number s) (h .stays ne) ∙ ap (λ (n : ℕ). scheduled n (clearedAt x)) number-is ∙ none-end x rows (h .back) (λ z. ne (number-is ∙ z)),
           λ is. (ap (λ (s : Standing). isState (s .bytes)) (h .stays ne) ∙ is, ap (λ (s : Standing). stateIn (s .bytes)) (h .stays ne) ∙ none-run (allKnown rows) refl is),

@@ -14,7 +14,7 @@ use package.mir.Val.{Val, vbool, vint, vptr}
 use base.Logic.{SProp, ent, emp, id⊢, via, exE, fst∗, snd∗}
 use base.Fml.{Lft, Share, GName, ftrue, fat, froom, fdies, flft, fres, fshr-bor}
 use prog.{Memory.Memory, Routine.Routine}
-use prog.Wp.{Heap, Out, Env, afterSeq, afterBlock, afterTurn, Calls, Loops, Wp, atReturn, WpFn, Tables}
+use prog.Wp.{Heap, Out, Env, afterSeq, afterBlock, afterTurn, Wp, atReturn, WpFn, Tables}
 use ghost.Atoms.{Atoms, sem}
 use contract.{Monad.Fun, Monad.fact, Running.givenOf, Running.tables, Running.tablesOf}
 use types.Kit.{Given, Item, ‵, raw, _⊛_, some, later, runs, anyQ, atRet, Sq, ⋆, _$_, _∵_, !, qed, by, move, keep, group, drop as away, use1, use2, use3, split, join, pick as take-out, rewrite, fsplit, fjoin, feqL, suffices, frame, await, done}
@@ -70,20 +70,14 @@ half = tyInt w32
 abbrev word : Ty
 word = tyInt w64
 
-abbrev slice₀ : Ty
-slice₀ = sliceTy (tyRef (named 0) mut (tyInt w8))
+abbrev bytes : ℕ → Ty
+bytes k = sliceTy (tyRef (named k) mut (tyInt w8))
 
 abbrev slice₁ : Ty
 slice₁ = sliceTy (tyRef (named 1) imm (pointee (R.the-row .written)))
 
-abbrev slice₂ : Ty
-slice₂ = sliceTy (tyRef (named 2) mut (tyInt w8))
-
-abbrev slice₃ : Ty
-slice₃ = sliceTy (tyRef (named 3) mut (tyInt w8))
-
 abbrev slice₄ : Ty
-slice₄ = sliceTy (tyRef (named 4) mut (tyInt w64))
+slice₄ = sliceTy (tyRef (named 4) mut word)
 
 -- bytes and words that are lent again
 abbrev ref8 : Ty
@@ -127,39 +121,21 @@ module _ {M : Type 1} (𝓤 : URA M) (H : Heap 𝓤) (A : Atoms 𝓤) (W : Given
   vrows = sliceVal (b₁, o₁) n
 
   -- the state, both memories and the report, under a name and at a list
-  abbrev x₀ : GName → List ℕ → RefT (List ℕ)
-  x₀ δ l = record { ptr = (b₀, o₀); name = δ; now = l }
+  abbrev lies : ℕ → ℕ → GName → List ℕ → RefT (List ℕ)
+  lies b o δ l = record { ptr = (b, o); name = δ; now = l }
 
-  abbrev x₂ : GName → List ℕ → RefT (List ℕ)
-  x₂ δ l = record { ptr = (b₂, o₂); name = δ; now = l }
-
-  abbrev x₃ : GName → List ℕ → RefT (List ℕ)
-  x₃ δ l = record { ptr = (b₃, o₃); name = δ; now = l }
-
-  abbrev x₄ : GName → List ℕ → RefT (List ℕ)
-  x₄ δ l = record { ptr = (b₄, o₄); name = δ; now = l }
-
-  abbrev v₀ : List ℕ → Val
-  v₀ l = sliceVal (b₀, o₀) (length l)
-
-  abbrev v₂ : List ℕ → Val
-  v₂ l = sliceVal (b₂, o₂) (length l)
-
-  abbrev v₃ : List ℕ → Val
-  v₃ l = sliceVal (b₃, o₃) (length l)
-
-  abbrev v₄ : List ℕ → Val
-  v₄ l = sliceVal (b₄, o₄) (length l)
+  abbrev span : ℕ → ℕ → List ℕ → Val
+  span b o l = sliceVal (b, o) (length l)
 
   -- what stands before the first row
   abbrev before : Standing
   before = standing st₀ (buffers sys₀ io₀) rep₀
 
   abbrev args : RefT (List ℕ) × (RefT (List ScheduleRow) × (RefT (List ℕ) × (RefT (List ℕ) × (RefT (List ℕ) × Unit {0}))))
-  args = (x₀ γ₀ st₀, (rows, (x₂ γ₂ sys₀, (x₃ γ₃ io₀, (x₄ γ₄ rep₀, tt)))))
+  args = (lies b₀ o₀ γ₀ st₀, (rows, (lies b₂ o₂ γ₂ sys₀, (lies b₃ o₃ γ₃ io₀, (lies b₄ o₄ γ₄ rep₀, tt)))))
 
   abbrev vals : List Val × (List Val × (List Val × (List Val × (List Val × Unit {0}))))
-  vals = (v₀ st₀ ∷ [], (vrows ∷ [], (v₂ sys₀ ∷ [], (v₃ io₀ ∷ [], (v₄ rep₀ ∷ [], tt)))))
+  vals = (span b₀ o₀ st₀ ∷ [], (vrows ∷ [], (span b₂ o₂ sys₀ ∷ [], (span b₃ o₃ io₀ ∷ [], (span b₄ o₄ rep₀ ∷ [], tt)))))
 
   abbrev lfts : Lft × (Lft × (Lft × (Lft × (Lft × Unit {0}))))
   lfts = (κ₀, (κ₁, (κ₂, (κ₃, (κ₄, tt)))))
@@ -185,26 +161,20 @@ module _ {M : Type 1} (𝓤 : URA M) (H : Heap 𝓤) (A : Atoms 𝓤) (W : Given
   goes-known = qed W (‵ (flft κ₁ q₁) ∷ ‵ (ShrSlice (named 0) κ₁ R.the-row .own rows (vrows ∷ [])) ∷ []) ∵ suffices ! _ (∗emp 𝓤 _) $ nothing ! $ move ! (1 ∷ 0 ∷ []) $ join ! $ frame ! $ nothing ! $ move ! (1 ∷ 0 ∷ []) $ fjoin ! $ done !
 
   abbrev to-begin : (ν₀ ν₁ : ℕ) (δ₀ δ₁ : GName) → Bool → Begin 𝓤 H A at-mem at-run .Ghost
-  to-begin ν₀ ν₁ δ₀ δ₁ t = (((ν₀ ∷ [], (ν₁ ∷ [], tt)), (fullShare, (fullShare, tt)), tt, (x₀ δ₀ st₀, (x₄ δ₁ rep₀, (t, tt))), (v₀ st₀ ∷ [], (v₄ rep₀ ∷ [], (vbool t ∷ [], tt)))), tt)
+  to-begin ν₀ ν₁ δ₀ δ₁ t = (((ν₀ ∷ [], (ν₁ ∷ [], tt)), (fullShare, (fullShare, tt)), tt, (lies b₀ o₀ δ₀ st₀, (lies b₄ o₄ δ₁ rep₀, (t, tt))), (span b₀ o₀ st₀ ∷ [], (span b₄ o₄ rep₀ ∷ [], (vbool t ∷ [], tt)))), tt)
 
   goes-begin : (ν₀ ν₁ : ℕ) (δ₀ δ₁ : GName) (t : Bool)
-      → ent 𝓤 (⋆ 𝓤 H A (‵ (flft (ν₀ ∷ []) fullShare) ∷ ‵ (flft (ν₁ ∷ []) fullShare) ∷ ‵ (MutSlice (named 0) (ν₀ ∷ []) u8 .own (x₀ δ₀ st₀) (v₀ st₀ ∷ [])) ∷ ‵ (MutSlice (named 1) (ν₁ ∷ []) u64 .own (x₄ δ₁ rep₀) (v₄ rep₀ ∷ [])) ∷ []))
+      → ent 𝓤 (⋆ 𝓤 H A (‵ (flft (ν₀ ∷ []) fullShare) ∷ ‵ (flft (ν₁ ∷ []) fullShare) ∷ ‵ (MutSlice (named 0) (ν₀ ∷ []) u8 .own (lies b₀ o₀ δ₀ st₀) (span b₀ o₀ st₀ ∷ [])) ∷ ‵ (MutSlice (named 1) (ν₁ ∷ []) u64 .own (lies b₄ o₄ δ₁ rep₀) (span b₄ o₄ rep₀ ∷ [])) ∷ []))
       (Begin 𝓤 H A at-mem at-run .pre (to-begin ν₀ ν₁ δ₀ δ₁ t))
   goes-begin ν₀ ν₁ δ₀ δ₁ t =
-      qed W (‵ (flft (ν₀ ∷ []) fullShare) ∷ ‵ (flft (ν₁ ∷ []) fullShare) ∷ ‵ (MutSlice (named 0) (ν₀ ∷ []) u8 .own (x₀ δ₀ st₀) (v₀ st₀ ∷ [])) ∷ ‵ (MutSlice (named 1) (ν₁ ∷ []) u64 .own (x₄ δ₁ rep₀) (v₄ rep₀ ∷ [])) ∷ []) ∵
+      qed W (‵ (flft (ν₀ ∷ []) fullShare) ∷ ‵ (flft (ν₁ ∷ []) fullShare) ∷ ‵ (MutSlice (named 0) (ν₀ ∷ []) u8 .own (lies b₀ o₀ δ₀ st₀) (span b₀ o₀ st₀ ∷ [])) ∷ ‵ (MutSlice (named 1) (ν₁ ∷ []) u64 .own (lies b₄ o₄ δ₁ rep₀) (span b₄ o₄ rep₀ ∷ [])) ∷ []) ∵
       suffices ! _ (∗emp 𝓤 _) $ nothing ! $ move ! (2 ∷ 0 ∷ []) $ join ! $ move ! (1 ∷ 0 ∷ []) $ join ! $ frame ! $
       nothing ! $ owned ! bool (Is bool) (bool-makes 𝓤 H A W) t _ refl $ fjoin ! $ move ! (2 ∷ 0 ∷ []) $ fjoin ! $ move ! (1 ∷ 0 ∷ []) $ fjoin ! $ done !
 
   module _ (𝓣 : Tables 𝓤 H) (met-known : Triple 𝓤 (𝓣 .C #known) (Known 𝓤 H A at-mem at-run)) (met-begin : Triple 𝓤 (𝓣 .C #begin) (Begin 𝓤 H A at-mem at-run)) (met-turn : Triple 𝓤 (𝓣 .C #turn) (Turns 𝓤 H A at-mem at-run))
       (l₀ l₁ l₂ l₃ l₄ l₅ l₆ l₇ l₈ l₉ l₁₀ l₁₁ l₁₂ l₁₃ l₁₄ l₁₅ l₁₆ l₁₇ l₁₈ l₁₉ l₂₀ l₂₁ l₂₂ l₂₃ l₂₄ l₂₅ : ℕ) where
-    abbrev C : Calls 𝓤 H
-    C = 𝓣 .C
-
-    abbrev Λ : Loops 𝓤 H
-    Λ = 𝓣 .Λ
-
     abbrev En : Env 𝓤 H
-    En = (half, l₀) ∷ (slice₀, l₁) ∷ (slice₁, l₂) ∷ (slice₂, l₃) ∷ (slice₃, l₄) ∷ (slice₄, l₅) ∷ (half, l₆) ∷ (word, l₇) ∷ (ref8, l₈) ∷ (slice8, l₉) ∷ (ref64, l₁₀) ∷ (slice64, l₁₁) ∷ (tyBool, l₁₂) ∷ (word, l₁₃) ∷ (tyBool, l₁₄) ∷ (tyUnit, l₁₅) ∷ (ref8, l₁₆) ∷ (slice8, l₁₇) ∷ (tyPtr, l₁₈) ∷ (R′.mir, l₁₉) ∷ (ref8, l₂₀) ∷ (slice8, l₂₁) ∷ (ref8, l₂₂) ∷ (slice8, l₂₃) ∷ (ref64, l₂₄) ∷ (slice64, l₂₅) ∷ []
+    En = (half, l₀) ∷ (bytes 0, l₁) ∷ (slice₁, l₂) ∷ (bytes 2, l₃) ∷ (bytes 3, l₄) ∷ (slice₄, l₅) ∷ (half, l₆) ∷ (word, l₇) ∷ (ref8, l₈) ∷ (slice8, l₉) ∷ (ref64, l₁₀) ∷ (slice64, l₁₁) ∷ (tyBool, l₁₂) ∷ (word, l₁₃) ∷ (tyBool, l₁₄) ∷ (tyUnit, l₁₅) ∷ (ref8, l₁₆) ∷ (slice8, l₁₇) ∷ (tyPtr, l₁₈) ∷ (R′.mir, l₁₉) ∷ (ref8, l₂₀) ∷ (slice8, l₂₁) ∷ (ref8, l₂₂) ∷ (slice8, l₂₃) ∷ (ref64, l₂₄) ∷ (slice64, l₂₅) ∷ []
 
     -- ---- the loop, once the number is known
     module _ (number : ℕ) (number-fits : number < 2 ^ 32) where
@@ -233,17 +203,17 @@ module _ {M : Type 1} (𝓤 : URA M) (H : Heap 𝓤) (A : Atoms 𝓤) (W : Given
 
       -- what `turn` is passed, the four lists under the names δ for the lifetimes ν
       abbrev passed : Turn → GName → GName → GName → GName → ℕ × (RefT (List ℕ) × (ScheduleRow × (RefT (List ℕ) × (RefT (List ℕ) × (RefT (List ℕ) × Unit {0})))))
-      passed u δ₀ δ₁ δ₂ δ₃ = (number, (x₀ δ₀ (u .st), (elem (u .i), (x₂ δ₁ (u .sys), (x₃ δ₂ (u .io), (x₄ δ₃ (u .rep), tt))))))
+      passed u δ₀ δ₁ δ₂ δ₃ = (number, (lies b₀ o₀ δ₀ (u .st), (elem (u .i), (lies b₂ o₂ δ₁ (u .sys), (lies b₃ o₃ δ₂ (u .io), (lies b₄ o₄ δ₃ (u .rep), tt))))))
 
       abbrev to-turn : (u : Turn) (ν₀ ν₁ ν₂ ν₃ : ℕ) (δ₀ δ₁ δ₂ δ₃ : GName) → Turns 𝓤 H A at-mem at-run .Ghost
       to-turn u ν₀ ν₁ ν₂ ν₃ δ₀ δ₁ δ₂ δ₃ =
-          (((ν₀ ∷ [], (ν₁ ∷ [], (ν₂ ∷ [], (ν₃ ∷ [], tt)))), (fullShare, (fullShare, (fullShare, (fullShare, tt)))), tt, passed u δ₀ δ₁ δ₂ δ₃, (vint w32 number ∷ [], (v₀ (u .st) ∷ [], (R′.lowered (elem (u .i)) ∷ [], (v₂ (u .sys) ∷ [], (v₃ (u .io) ∷ [], (v₄ (u .rep) ∷ [], tt))))))), tt)
+          (((ν₀ ∷ [], (ν₁ ∷ [], (ν₂ ∷ [], (ν₃ ∷ [], tt)))), (fullShare, (fullShare, (fullShare, (fullShare, tt)))), tt, passed u δ₀ δ₁ δ₂ δ₃, (vint w32 number ∷ [], (span b₀ o₀ (u .st) ∷ [], (R′.lowered (elem (u .i)) ∷ [], (span b₂ o₂ (u .sys) ∷ [], (span b₃ o₃ (u .io) ∷ [], (span b₄ o₄ (u .rep) ∷ [], tt))))))), tt)
 
       abbrev lent : (u : Turn) (ν₀ ν₁ ν₂ ν₃ : ℕ) (δ₀ δ₁ δ₂ δ₃ : GName) → List (Item 𝓤)
       lent u ν₀ ν₁ ν₂ ν₃ δ₀ δ₁ δ₂ δ₃ =
           ‵ (flft (ν₀ ∷ []) fullShare) ∷ ‵ (flft (ν₁ ∷ []) fullShare) ∷ ‵ (flft (ν₂ ∷ []) fullShare) ∷ ‵ (flft (ν₃ ∷ []) fullShare)
-          ∷ ‵ (MutSlice (named 0) (ν₀ ∷ []) u8 .own (x₀ δ₀ (u .st)) (v₀ (u .st) ∷ [])) ∷ ‵ (MutSlice (named 1) (ν₁ ∷ []) u8 .own (x₂ δ₁ (u .sys)) (v₂ (u .sys) ∷ []))
-          ∷ ‵ (MutSlice (named 2) (ν₂ ∷ []) u8 .own (x₃ δ₂ (u .io)) (v₃ (u .io) ∷ [])) ∷ ‵ (MutSlice (named 3) (ν₃ ∷ []) u64 .own (x₄ δ₃ (u .rep)) (v₄ (u .rep) ∷ [])) ∷ []
+          ∷ ‵ (MutSlice (named 0) (ν₀ ∷ []) u8 .own (lies b₀ o₀ δ₀ (u .st)) (span b₀ o₀ (u .st) ∷ [])) ∷ ‵ (MutSlice (named 1) (ν₁ ∷ []) u8 .own (lies b₂ o₂ δ₁ (u .sys)) (span b₂ o₂ (u .sys) ∷ []))
+          ∷ ‵ (MutSlice (named 2) (ν₂ ∷ []) u8 .own (lies b₃ o₃ δ₂ (u .io)) (span b₃ o₃ (u .io) ∷ [])) ∷ ‵ (MutSlice (named 3) (ν₃ ∷ []) u64 .own (lies b₄ o₄ δ₃ (u .rep)) (span b₄ o₄ (u .rep) ∷ [])) ∷ []
 
       asks : (u : Turn) (ν₀ ν₁ ν₂ ν₃ : ℕ) (δ₀ δ₁ δ₂ δ₃ : GName) → u .i < n → Is R.the-row (elem (u .i)) (R′.lowered (elem (u .i)) ∷ [])
           → ent 𝓤 (⋆ 𝓤 H A (lent u ν₀ ν₁ ν₂ ν₃ δ₀ δ₁ δ₂ δ₃)) (Turns 𝓤 H A at-mem at-run .pre (to-turn u ν₀ ν₁ ν₂ ν₃ δ₀ δ₁ δ₂ δ₃))
@@ -258,8 +228,8 @@ module _ {M : Type 1} (𝓤 : URA M) (H : Heap 𝓤) (A : Atoms 𝓤) (W : Given
       abbrev ends-with : (st sys io rep : List ℕ) → List (Item 𝓤)
       ends-with st sys io rep =
           ‵ (flft κ₀ q₀) ∷ ‵ (flft κ₁ q₁) ∷ ‵ (flft κ₂ q₂) ∷ ‵ (flft κ₃ q₃) ∷ ‵ (flft κ₄ q₄)
-          ∷ ‵ (MutSlice (named 0) κ₀ u8 .own (x₀ γ₀ st) (v₀ st₀ ∷ [])) ∷ ‵ (ShrSlice (named 1) κ₁ R.the-row .own rows (vrows ∷ [])) ∷ ‵ (MutSlice (named 2) κ₂ u8 .own (x₂ γ₂ sys) (v₂ sys₀ ∷ []))
-          ∷ ‵ (MutSlice (named 3) κ₃ u8 .own (x₃ γ₃ io) (v₃ io₀ ∷ [])) ∷ ‵ (MutSlice (named 4) κ₄ u64 .own (x₄ γ₄ rep) (v₄ rep₀ ∷ [])) ∷ []
+          ∷ ‵ (MutSlice (named 0) κ₀ u8 .own (lies b₀ o₀ γ₀ st) (span b₀ o₀ st₀ ∷ [])) ∷ ‵ (ShrSlice (named 1) κ₁ R.the-row .own rows (vrows ∷ [])) ∷ ‵ (MutSlice (named 2) κ₂ u8 .own (lies b₂ o₂ γ₂ sys) (span b₂ o₂ sys₀ ∷ []))
+          ∷ ‵ (MutSlice (named 3) κ₃ u8 .own (lies b₃ o₃ γ₃ io) (span b₃ o₃ io₀ ∷ [])) ∷ ‵ (MutSlice (named 4) κ₄ u64 .own (lies b₄ o₄ γ₄ rep) (span b₄ o₄ rep₀ ∷ [])) ∷ []
 
       exits : (u : Turn) → ScheduleMet number (stands u) before ys → ent 𝓤 (⋆ 𝓤 H A (ends-with (u .st) (u .sys) (u .io) (u .rep))) (Post (vint w32 number))
       exits u e =
@@ -272,22 +242,22 @@ module _ {M : Type 1} (𝓤 : URA M) (H : Heap 𝓤) (A : Atoms 𝓤) (W : Given
       -- 0 the borrow of the rows and 1 its token; 2 the state, 4 sys, 6 io, 8 the report, each with its token; then _25 at 10 down to _0 at 60, each with what frees it; 62 the rows' ghost
       abbrev At : Turn → List (Item 𝓤)
       At u = ‵ (fshr-bor κ₁ (λ s. arr-parts (shares R.the-row) n .part s ys b₁ o₁)) ∷ ‵ (flft κ₁ q₁)
-          ∷ ‵ (MutSlice (named 0) κ₀ u8 .own (x₀ γ₀ (u .st)) (v₀ (u .st) ∷ [])) ∷ ‵ (flft κ₀ q₀) ∷ ‵ (MutSlice (named 2) κ₂ u8 .own (x₂ γ₂ (u .sys)) (v₂ (u .sys) ∷ [])) ∷ ‵ (flft κ₂ q₂)
-          ∷ ‵ (MutSlice (named 3) κ₃ u8 .own (x₃ γ₃ (u .io)) (v₃ (u .io) ∷ [])) ∷ ‵ (flft κ₃ q₃) ∷ ‵ (MutSlice (named 4) κ₄ u64 .own (x₄ γ₄ (u .rep)) (v₄ (u .rep) ∷ [])) ∷ ‵ (flft κ₄ q₄)
+          ∷ ‵ (MutSlice (named 0) κ₀ u8 .own (lies b₀ o₀ γ₀ (u .st)) (span b₀ o₀ (u .st) ∷ [])) ∷ ‵ (flft κ₀ q₀) ∷ ‵ (MutSlice (named 2) κ₂ u8 .own (lies b₂ o₂ γ₂ (u .sys)) (span b₂ o₂ (u .sys) ∷ [])) ∷ ‵ (flft κ₂ q₂)
+          ∷ ‵ (MutSlice (named 3) κ₃ u8 .own (lies b₃ o₃ γ₃ (u .io)) (span b₃ o₃ (u .io) ∷ [])) ∷ ‵ (flft κ₃ q₃) ∷ ‵ (MutSlice (named 4) κ₄ u64 .own (lies b₄ o₄ γ₄ (u .rep)) (span b₄ o₄ (u .rep) ∷ [])) ∷ ‵ (flft κ₄ q₄)
           ∷ ‵ (froom slice64 l₂₅ 0) ∷ ‵ (fdies slice64 l₂₅) ∷ ‵ (froom ref64 l₂₄ 0) ∷ ‵ (fdies ref64 l₂₄) ∷ ‵ (froom slice8 l₂₃ 0) ∷ ‵ (fdies slice8 l₂₃) ∷ ‵ (froom ref8 l₂₂ 0) ∷ ‵ (fdies ref8 l₂₂)
           ∷ ‵ (froom slice8 l₂₁ 0) ∷ ‵ (fdies slice8 l₂₁) ∷ ‵ (froom ref8 l₂₀ 0) ∷ ‵ (fdies ref8 l₂₀) ∷ ‵ (froom R′.mir l₁₉ 0) ∷ ‵ (fdies R′.mir l₁₉) ∷ ‵ (froom tyPtr l₁₈ 0) ∷ ‵ (fdies tyPtr l₁₈)
           ∷ ‵ (froom slice8 l₁₇ 0) ∷ ‵ (fdies slice8 l₁₇) ∷ ‵ (froom ref8 l₁₆ 0) ∷ ‵ (fdies ref8 l₁₆) ∷ ‵ (froom tyUnit l₁₅ 0) ∷ ‵ (fdies tyUnit l₁₅) ∷ ‵ (froom tyBool l₁₄ 0) ∷ ‵ (fdies tyBool l₁₄)
           ∷ ‵ (froom word l₁₃ 0) ∷ ‵ (fdies word l₁₃) ∷ ‵ (froom tyBool l₁₂ 0) ∷ ‵ (fdies tyBool l₁₂) ∷ ‵ (froom slice64 l₁₁ 0) ∷ ‵ (fdies slice64 l₁₁) ∷ ‵ (froom ref64 l₁₀ 0) ∷ ‵ (fdies ref64 l₁₀)
           ∷ ‵ (froom slice8 l₉ 0) ∷ ‵ (fdies slice8 l₉) ∷ ‵ (froom ref8 l₈ 0) ∷ ‵ (fdies ref8 l₈) ∷ ‵ (fat fullShare word l₇ 0 (vint w64 (u .i))) ∷ ‵ (fdies word l₇) ∷ ‵ (fat fullShare half l₆ 0 (vint w32 number)) ∷ ‵ (fdies half l₆)
-          ∷ ‵ (fat fullShare slice₄ l₅ 0 (v₄ (u .rep))) ∷ ‵ (fdies slice₄ l₅) ∷ ‵ (fat fullShare slice₃ l₄ 0 (v₃ (u .io))) ∷ ‵ (fdies slice₃ l₄) ∷ ‵ (fat fullShare slice₂ l₃ 0 (v₂ (u .sys))) ∷ ‵ (fdies slice₂ l₃) ∷ ‵ (fat fullShare slice₁ l₂ 0 vrows) ∷ ‵ (fdies slice₁ l₂)
-          ∷ ‵ (fat fullShare slice₀ l₁ 0 (v₀ (u .st))) ∷ ‵ (fdies slice₀ l₁) ∷ ‵ (froom half l₀ 0) ∷ ‵ (fdies half l₀)
+          ∷ ‵ (fat fullShare slice₄ l₅ 0 (span b₄ o₄ (u .rep))) ∷ ‵ (fdies slice₄ l₅) ∷ ‵ (fat fullShare (bytes 3) l₄ 0 (span b₃ o₃ (u .io))) ∷ ‵ (fdies (bytes 3) l₄) ∷ ‵ (fat fullShare (bytes 2) l₃ 0 (span b₂ o₂ (u .sys))) ∷ ‵ (fdies (bytes 2) l₃) ∷ ‵ (fat fullShare slice₁ l₂ 0 vrows) ∷ ‵ (fdies slice₁ l₂)
+          ∷ ‵ (fat fullShare (bytes 0) l₁ 0 (span b₀ o₀ (u .st))) ∷ ‵ (fdies (bytes 0) l₁) ∷ ‵ (froom half l₀ 0) ∷ ‵ (fdies half l₀)
           ∷ ‵ (fres γ₁ (codedHoleys R.the-row .code (heres R.the-row ys))) ∷ []
 
       abbrev AfterTurn : Turn → Out → SProp 𝓤
-      AfterTurn u = afterTurn 𝓤 H (Below 𝓤 H A Nearer At u) (afterBlock 𝓤 H (afterSeq 𝓤 H (Wp 𝓤 H C Λ En mir.t-9 (atReturn 𝓤 H En Post)) (atReturn 𝓤 H En Post)))
+      AfterTurn u = afterTurn 𝓤 H (Below 𝓤 H A Nearer At u) (afterBlock 𝓤 H (afterSeq 𝓤 H (Wp 𝓤 H (𝓣 .C) (𝓣 .Λ) En mir.t-9 (atReturn 𝓤 H En Post)) (atReturn 𝓤 H En Post)))
 
       -- a turn that runs a row
-      goes-on : (u : Turn) → u .i < n → Sq W (At u) (runs C Λ En mir.turn-1 (anyQ (AfterTurn u)))
+      goes-on : (u : Turn) → u .i < n → Sq W (At u) (runs (𝓣 .C) (𝓣 .Λ) En mir.turn-1 (anyQ (AfterTurn u)))
       unfolding afterTurn
       goes-on u l =
           assigns ! (of-opd ! (load ! (from ! (fld ! refl (stop !))) (look-in ! 56 (sub ! 1 refl (whole !))))) (from ! (stop !)) (init ! 34 refl (tt, record { fits = g₁ .0 })) $
@@ -312,13 +282,13 @@ module _ {M : Type 1} (𝓤 : URA M) (H : Heap 𝓤) (A : Atoms 𝓤) (W : Given
           assigns ! (agg ! (and-then ! (load ! (from ! (stop !)) (look ! 12 refl)) (and-then ! (load ! (from ! (fld ! refl (stop !))) (look-in ! 50 (sub ! 1 refl (whole !)))) (no-more !)))) (from ! (stop !)) (init ! 10 refl (tt, (tt, (record { fits = room₄ .0 }, tt)))) $
           -- [κ₁; the borrow; state; κ₀; sys; κ₂; io; κ₃; report; κ₄; _25; …]: each is lent again
           lft-new ! tt (λ ν₀. move ! (3 ∷ 4 ∷ []) $
-          use2 W (later (some (λ (δ : GName). ‵ (MutSlice (named 0) (ν₀ ∷ []) u8 .own (x₀ δ (u .st)) (v₀ (u .st) ∷ [])) ⊛ ‵ (LentAgain u8 κ₀ (ν₀ ∷ []) q₀ γ₀ b₀ o₀ δ (u .st))))) (lends-again u8 κ₀ (ν₀ ∷ []) q₀ γ₀ b₀ o₀ 𝓤 H A W (named 0) (named 0) (u .st)) $ await ! tt $ take-out ! (λ δ₀. split ! $
+          use2 W (later (some (λ (δ : GName). ‵ (MutSlice (named 0) (ν₀ ∷ []) u8 .own (lies b₀ o₀ δ (u .st)) (span b₀ o₀ (u .st) ∷ [])) ⊛ ‵ (LentAgain u8 κ₀ (ν₀ ∷ []) q₀ γ₀ b₀ o₀ δ (u .st))))) (lends-again u8 κ₀ (ν₀ ∷ []) q₀ γ₀ b₀ o₀ 𝓤 H A W (named 0) (named 0) (u .st)) $ await ! tt $ take-out ! (λ δ₀. split ! $
           lft-new ! tt (λ ν₁. move ! (6 ∷ 7 ∷ []) $
-          use2 W (later (some (λ (δ : GName). ‵ (MutSlice (named 1) (ν₁ ∷ []) u8 .own (x₂ δ (u .sys)) (v₂ (u .sys) ∷ [])) ⊛ ‵ (LentAgain u8 κ₂ (ν₁ ∷ []) q₂ γ₂ b₂ o₂ δ (u .sys))))) (lends-again u8 κ₂ (ν₁ ∷ []) q₂ γ₂ b₂ o₂ 𝓤 H A W (named 2) (named 1) (u .sys)) $ await ! tt $ take-out ! (λ δ₁. split ! $
+          use2 W (later (some (λ (δ : GName). ‵ (MutSlice (named 1) (ν₁ ∷ []) u8 .own (lies b₂ o₂ δ (u .sys)) (span b₂ o₂ (u .sys) ∷ [])) ⊛ ‵ (LentAgain u8 κ₂ (ν₁ ∷ []) q₂ γ₂ b₂ o₂ δ (u .sys))))) (lends-again u8 κ₂ (ν₁ ∷ []) q₂ γ₂ b₂ o₂ 𝓤 H A W (named 2) (named 1) (u .sys)) $ await ! tt $ take-out ! (λ δ₁. split ! $
           lft-new ! tt (λ ν₂. move ! (9 ∷ 10 ∷ []) $
-          use2 W (later (some (λ (δ : GName). ‵ (MutSlice (named 2) (ν₂ ∷ []) u8 .own (x₃ δ (u .io)) (v₃ (u .io) ∷ [])) ⊛ ‵ (LentAgain u8 κ₃ (ν₂ ∷ []) q₃ γ₃ b₃ o₃ δ (u .io))))) (lends-again u8 κ₃ (ν₂ ∷ []) q₃ γ₃ b₃ o₃ 𝓤 H A W (named 3) (named 2) (u .io)) $ await ! tt $ take-out ! (λ δ₂. split ! $
+          use2 W (later (some (λ (δ : GName). ‵ (MutSlice (named 2) (ν₂ ∷ []) u8 .own (lies b₃ o₃ δ (u .io)) (span b₃ o₃ (u .io) ∷ [])) ⊛ ‵ (LentAgain u8 κ₃ (ν₂ ∷ []) q₃ γ₃ b₃ o₃ δ (u .io))))) (lends-again u8 κ₃ (ν₂ ∷ []) q₃ γ₃ b₃ o₃ 𝓤 H A W (named 3) (named 2) (u .io)) $ await ! tt $ take-out ! (λ δ₂. split ! $
           lft-new ! tt (λ ν₃. move ! (12 ∷ 13 ∷ []) $
-          use2 W (later (some (λ (δ : GName). ‵ (MutSlice (named 3) (ν₃ ∷ []) u64 .own (x₄ δ (u .rep)) (v₄ (u .rep) ∷ [])) ⊛ ‵ (LentAgain u64 κ₄ (ν₃ ∷ []) q₄ γ₄ b₄ o₄ δ (u .rep))))) (lends-again u64 κ₄ (ν₃ ∷ []) q₄ γ₄ b₄ o₄ 𝓤 H A W (named 4) (named 3) (u .rep)) $ await ! tt $ take-out ! (λ δ₃. split ! $
+          use2 W (later (some (λ (δ : GName). ‵ (MutSlice (named 3) (ν₃ ∷ []) u64 .own (lies b₄ o₄ δ (u .rep)) (span b₄ o₄ (u .rep) ∷ [])) ⊛ ‵ (LentAgain u64 κ₄ (ν₃ ∷ []) q₄ γ₄ b₄ o₄ δ (u .rep))))) (lends-again u64 κ₄ (ν₃ ∷ []) q₄ γ₄ b₄ o₄ 𝓤 H A W (named 4) (named 3) (u .rep)) $ await ! tt $ take-out ! (λ δ₃. split ! $
           -- [report; what comes back of it; ν₃; io; …; ν₂; sys; …; ν₁; state; …; ν₀; κ₁; the borrow; _25; …]
           move ! (11 ∷ 8 ∷ 5 ∷ 2 ∷ 9 ∷ 6 ∷ 3 ∷ 0 ∷ []) $ group ! 8 $ use1 W (raw (Turns 𝓤 H A at-mem at-run .pre (to-turn u ν₀ ν₁ ν₂ ν₃ δ₀ δ₁ δ₂ δ₃))) (asks u ν₀ ν₁ ν₂ ν₃ δ₀ δ₁ δ₂ δ₃ l fr) $
           calls-at ! (fmOf 𝓤 H (W .laws) 𝓣) (Turns 𝓤 H A at-mem at-run) met-turn (to-turn u ν₀ ν₁ ν₂ ν₃ δ₀ δ₁ δ₂ δ₃) (and-then ! (load ! (from ! (stop !)) (look ! 45 refl)) (and-then ! (load ! (from ! (stop !)) (look ! 23 refl)) (and-then ! (load ! (from ! (stop !)) (look ! 19 refl)) (and-then ! (load ! (from ! (stop !)) (look ! 15 refl)) (and-then ! (load ! (from ! (stop !)) (look ! 11 refl)) (and-then ! (load ! (from ! (stop !)) (look ! 7 refl)) (no-more !))))))) (λ w.
@@ -331,19 +301,19 @@ module _ {M : Type 1} (𝓤 : URA M) (H : Heap 𝓤) (A : Atoms 𝓤) (W : Given
           land ! (from ! (stop !)) (init ! 33 refl (nothing-lawful 𝓤 H A W .typed r _ is .0)) $ away ! $
           -- the lifetimes are ended, and all four come back
           split ! $ lft-end ! tt $ move ! (0 ∷ 10 ∷ 6 ∷ []) $
-          use3 W (later (‵ (MutSlice (named 0) κ₀ u8 .own (x₀ γ₀ (zs .1 .0)) (v₀ (u .st) ∷ [])) ⊛ ‵ (flft κ₀ q₀))) (comes-back u8 κ₀ (ν₀ ∷ []) q₀ γ₀ b₀ o₀ 𝓤 H A W (named 0) (named 0) (u .st) δ₀ (zs .1 .0) room₀ e₀) $ await ! tt $ split ! $
+          use3 W (later (‵ (MutSlice (named 0) κ₀ u8 .own (lies b₀ o₀ γ₀ (zs .1 .0)) (span b₀ o₀ (u .st) ∷ [])) ⊛ ‵ (flft κ₀ q₀))) (comes-back u8 κ₀ (ν₀ ∷ []) q₀ γ₀ b₀ o₀ 𝓤 H A W (named 0) (named 0) (u .st) δ₀ (zs .1 .0) room₀ e₀) $ await ! tt $ split ! $
           move ! (2 ∷ []) $ split ! $ lft-end ! tt $ move ! (0 ∷ 10 ∷ 7 ∷ []) $
-          use3 W (later (‵ (MutSlice (named 2) κ₂ u8 .own (x₂ γ₂ (zs .1 .1 .1 .0)) (v₂ (u .sys) ∷ [])) ⊛ ‵ (flft κ₂ q₂))) (comes-back u8 κ₂ (ν₁ ∷ []) q₂ γ₂ b₂ o₂ 𝓤 H A W (named 2) (named 1) (u .sys) δ₁ (zs .1 .1 .1 .0) room₂ e₂) $ await ! tt $ split ! $
+          use3 W (later (‵ (MutSlice (named 2) κ₂ u8 .own (lies b₂ o₂ γ₂ (zs .1 .1 .1 .0)) (span b₂ o₂ (u .sys) ∷ [])) ⊛ ‵ (flft κ₂ q₂))) (comes-back u8 κ₂ (ν₁ ∷ []) q₂ γ₂ b₂ o₂ 𝓤 H A W (named 2) (named 1) (u .sys) δ₁ (zs .1 .1 .1 .0) room₂ e₂) $ await ! tt $ split ! $
           move ! (2 ∷ []) $ split ! $ lft-end ! tt $ move ! (0 ∷ 10 ∷ 8 ∷ []) $
-          use3 W (later (‵ (MutSlice (named 3) κ₃ u8 .own (x₃ γ₃ (zs .1 .1 .1 .1 .0)) (v₃ (u .io) ∷ [])) ⊛ ‵ (flft κ₃ q₃))) (comes-back u8 κ₃ (ν₂ ∷ []) q₃ γ₃ b₃ o₃ 𝓤 H A W (named 3) (named 2) (u .io) δ₂ (zs .1 .1 .1 .1 .0) room₃ e₃) $ await ! tt $ split ! $
+          use3 W (later (‵ (MutSlice (named 3) κ₃ u8 .own (lies b₃ o₃ γ₃ (zs .1 .1 .1 .1 .0)) (span b₃ o₃ (u .io) ∷ [])) ⊛ ‵ (flft κ₃ q₃))) (comes-back u8 κ₃ (ν₂ ∷ []) q₃ γ₃ b₃ o₃ 𝓤 H A W (named 3) (named 2) (u .io) δ₂ (zs .1 .1 .1 .1 .0) room₃ e₃) $ await ! tt $ split ! $
           move ! (2 ∷ []) $ split ! $ lft-end ! tt $ move ! (0 ∷ 10 ∷ 8 ∷ []) $
-          use3 W (later (‵ (MutSlice (named 4) κ₄ u64 .own (x₄ γ₄ (zs .1 .1 .1 .1 .1 .0)) (v₄ (u .rep) ∷ [])) ⊛ ‵ (flft κ₄ q₄))) (comes-back u64 κ₄ (ν₃ ∷ []) q₄ γ₄ b₄ o₄ 𝓤 H A W (named 4) (named 3) (u .rep) δ₃ (zs .1 .1 .1 .1 .1 .0) room₄ e₄) $ await ! tt $ split ! $
+          use3 W (later (‵ (MutSlice (named 4) κ₄ u64 .own (lies b₄ o₄ γ₄ (zs .1 .1 .1 .1 .1 .0)) (span b₄ o₄ (u .rep) ∷ [])) ⊛ ‵ (flft κ₄ q₄))) (comes-back u64 κ₄ (ν₃ ∷ []) q₄ γ₄ b₄ o₄ 𝓤 H A W (named 4) (named 3) (u .rep) δ₃ (zs .1 .1 .1 .1 .1 .0) room₄ e₄) $ await ! tt $ split ! $
           -- [report; κ₄; true; io; κ₃; sys; κ₂; state; κ₀; true; κ₁; the borrow; _25; …]
           move ! (2 ∷ 9 ∷ 11 ∷ 10 ∷ 7 ∷ 8 ∷ 5 ∷ 6 ∷ 3 ∷ 4 ∷ 0 ∷ 1 ∷ []) $ away ! $ away ! $
-          rewrite ! 2 (λ (m : ℕ). ‵ (MutSlice (named 0) κ₀ u8 .own (x₀ γ₀ (zs .1 .0)) (sliceVal (b₀, o₀) m ∷ []))) (sym e₀) refl $ rewrite ! 58 (λ (m : ℕ). ‵ (fat fullShare slice₀ l₁ 0 (sliceVal (b₀, o₀) m))) (sym e₀) refl $
-          rewrite ! 4 (λ (m : ℕ). ‵ (MutSlice (named 2) κ₂ u8 .own (x₂ γ₂ (zs .1 .1 .1 .0)) (sliceVal (b₂, o₂) m ∷ []))) (sym e₂) refl $ rewrite ! 54 (λ (m : ℕ). ‵ (fat fullShare slice₂ l₃ 0 (sliceVal (b₂, o₂) m))) (sym e₂) refl $
-          rewrite ! 6 (λ (m : ℕ). ‵ (MutSlice (named 3) κ₃ u8 .own (x₃ γ₃ (zs .1 .1 .1 .1 .0)) (sliceVal (b₃, o₃) m ∷ []))) (sym e₃) refl $ rewrite ! 52 (λ (m : ℕ). ‵ (fat fullShare slice₃ l₄ 0 (sliceVal (b₃, o₃) m))) (sym e₃) refl $
-          rewrite ! 8 (λ (m : ℕ). ‵ (MutSlice (named 4) κ₄ u64 .own (x₄ γ₄ (zs .1 .1 .1 .1 .1 .0)) (sliceVal (b₄, o₄) m ∷ []))) (sym e₄) refl $ rewrite ! 50 (λ (m : ℕ). ‵ (fat fullShare slice₄ l₅ 0 (sliceVal (b₄, o₄) m))) (sym e₄) refl $
+          rewrite ! 2 (λ (m : ℕ). ‵ (MutSlice (named 0) κ₀ u8 .own (lies b₀ o₀ γ₀ (zs .1 .0)) (sliceVal (b₀, o₀) m ∷ []))) (sym e₀) refl $ rewrite ! 58 (λ (m : ℕ). ‵ (fat fullShare (bytes 0) l₁ 0 (sliceVal (b₀, o₀) m))) (sym e₀) refl $
+          rewrite ! 4 (λ (m : ℕ). ‵ (MutSlice (named 2) κ₂ u8 .own (lies b₂ o₂ γ₂ (zs .1 .1 .1 .0)) (sliceVal (b₂, o₂) m ∷ []))) (sym e₂) refl $ rewrite ! 54 (λ (m : ℕ). ‵ (fat fullShare (bytes 2) l₃ 0 (sliceVal (b₂, o₂) m))) (sym e₂) refl $
+          rewrite ! 6 (λ (m : ℕ). ‵ (MutSlice (named 3) κ₃ u8 .own (lies b₃ o₃ γ₃ (zs .1 .1 .1 .1 .0)) (sliceVal (b₃, o₃) m ∷ []))) (sym e₃) refl $ rewrite ! 52 (λ (m : ℕ). ‵ (fat fullShare (bytes 3) l₄ 0 (sliceVal (b₃, o₃) m))) (sym e₃) refl $
+          rewrite ! 8 (λ (m : ℕ). ‵ (MutSlice (named 4) κ₄ u64 .own (lies b₄ o₄ γ₄ (zs .1 .1 .1 .1 .1 .0)) (sliceVal (b₄, o₄) m ∷ []))) (sym e₄) refl $ rewrite ! 50 (λ (m : ℕ). ‵ (fat fullShare slice₄ l₅ 0 (sliceVal (b₄, o₄) m))) (sym e₄) refl $
           assigns-last ! (bin ! (load ! (from ! (stop !)) (look ! 46 refl)) (lit ! tt) (record { fits = omega (arith, g₁ .0, l) })) (from ! (stop !)) (store ! 46 refl (tt, record { fits = omega (arith, g₁ .0, l) })) $
           forget ! 10 refl $ forget ! 12 refl $ forget ! 14 refl $ forget ! 16 refl $ forget ! 18 refl $ forget ! 20 refl $ forget ! 22 refl $ forget ! 24 refl $ forget ! 26 refl $ forget ! 28 refl $ forget ! 30 refl $ forget ! 32 refl $ forget ! 34 refl $
           again ! Nearer At u (next (zs .1 .0) (zs .1 .1 .1 .0) (zs .1 .1 .1 .1 .0) (zs .1 .1 .1 .1 .1 .0) e e₀ e₂ e₃ e₄) (add-one-dec n (u .i) l))))))))))))))))))))
@@ -380,26 +350,26 @@ module _ {M : Type 1} (𝓤 : URA M) (H : Heap 𝓤) (A : Atoms 𝓤) (W : Given
           }
 
       -- the turn that leaves the loop, and the rest of the body
-      leaves : (u : Turn) → n ≤ u .i → Sq W (At u) (runs C Λ En mir.turn-1 (anyQ (AfterTurn u)))
+      leaves : (u : Turn) → n ≤ u .i → Sq W (At u) (runs (𝓣 .C) (𝓣 .Λ) En mir.turn-1 (anyQ (AfterTurn u)))
       unfolding afterTurn
       leaves u l =
           assigns ! (of-opd ! (load ! (from ! (fld ! refl (stop !))) (look-in ! 56 (sub ! 1 refl (whole !))))) (from ! (stop !)) (init ! 34 refl (tt, record { fits = g₁ .0 })) $
           assigns ! (bin ! (load ! (from ! (stop !)) (look ! 46 refl)) (load ! (from ! (stop !)) (look ! 34 refl)) tt) (from ! (stop !)) (init ! 32 refl (tt, tt)) $
           rewrite ! 32 (λ (t : Bool). ‵ (fat fullShare tyBool l₁₄ 0 (vbool t))) (le-ltb (u .i) n l) refl $ leaves-loop ! (load ! (from ! (stop !)) (look ! 32 refl)) $
-          exec ! C Λ En mir.t-9 (atRet En Post) $
+          exec ! (𝓣 .C) (𝓣 .Λ) En mir.t-9 (atRet En Post) $
           assigns ! (of-opd ! (load ! (from ! (stop !)) (look ! 48 refl))) (from ! (stop !)) (init ! 60 refl (tt, record { fits = number-fits })) $
           returns ! (look ! 60 refl) $ forget ! 32 refl $ forget ! 34 refl $ forget ! 46 refl $ forget ! 48 refl $ forget ! 50 refl $ forget ! 52 refl $ forget ! 54 refl $ forget ! 56 refl $ forget ! 58 refl $ forget ! 60 refl $
           move ! (60 ∷ 61 ∷ []) $ free1 ! $ move ! (58 ∷ 59 ∷ []) $ free1 ! $ move ! (56 ∷ 57 ∷ []) $ free1 ! $ move ! (54 ∷ 55 ∷ []) $ free1 ! $ move ! (52 ∷ 53 ∷ []) $ free1 ! $ move ! (50 ∷ 51 ∷ []) $ free1 ! $ move ! (48 ∷ 49 ∷ []) $ free1 ! $ move ! (46 ∷ 47 ∷ []) $ free1 ! $ move ! (44 ∷ 45 ∷ []) $ free1 ! $ move ! (42 ∷ 43 ∷ []) $ free1 ! $ move ! (40 ∷ 41 ∷ []) $ free1 ! $ move ! (38 ∷ 39 ∷ []) $ free1 ! $ move ! (36 ∷ 37 ∷ []) $ free1 ! $ move ! (34 ∷ 35 ∷ []) $ free1 ! $ move ! (32 ∷ 33 ∷ []) $ free1 ! $ move ! (30 ∷ 31 ∷ []) $ free1 ! $ move ! (28 ∷ 29 ∷ []) $ free1 ! $ move ! (26 ∷ 27 ∷ []) $ free1 ! $ move ! (24 ∷ 25 ∷ []) $ free1 ! $ move ! (22 ∷ 23 ∷ []) $ free1 ! $ move ! (20 ∷ 21 ∷ []) $ free1 ! $ move ! (18 ∷ 19 ∷ []) $ free1 ! $ move ! (16 ∷ 17 ∷ []) $ free1 ! $ move ! (14 ∷ 15 ∷ []) $ free1 ! $ move ! (12 ∷ 13 ∷ []) $ free1 ! $ move ! (10 ∷ 11 ∷ []) $ free1 ! $ free0 ! $
           -- [the borrow; κ₁; state; κ₀; sys; κ₂; io; κ₃; report; κ₄; ghost]
-          rewrite ! 2 (λ (m : ℕ). ‵ (MutSlice (named 0) κ₀ u8 .own (x₀ γ₀ (u .st)) (sliceVal (b₀, o₀) m ∷ []))) (u .len₀) refl $ rewrite ! 4 (λ (m : ℕ). ‵ (MutSlice (named 2) κ₂ u8 .own (x₂ γ₂ (u .sys)) (sliceVal (b₂, o₂) m ∷ []))) (u .len₂) refl $ rewrite ! 6 (λ (m : ℕ). ‵ (MutSlice (named 3) κ₃ u8 .own (x₃ γ₃ (u .io)) (sliceVal (b₃, o₃) m ∷ []))) (u .len₃) refl $ rewrite ! 8 (λ (m : ℕ). ‵ (MutSlice (named 4) κ₄ u64 .own (x₄ γ₄ (u .rep)) (sliceVal (b₄, o₄) m ∷ []))) (u .len₄) refl $
+          rewrite ! 2 (λ (m : ℕ). ‵ (MutSlice (named 0) κ₀ u8 .own (lies b₀ o₀ γ₀ (u .st)) (sliceVal (b₀, o₀) m ∷ []))) (u .len₀) refl $ rewrite ! 4 (λ (m : ℕ). ‵ (MutSlice (named 2) κ₂ u8 .own (lies b₂ o₂ γ₂ (u .sys)) (sliceVal (b₂, o₂) m ∷ []))) (u .len₂) refl $ rewrite ! 6 (λ (m : ℕ). ‵ (MutSlice (named 3) κ₃ u8 .own (lies b₃ o₃ γ₃ (u .io)) (sliceVal (b₃, o₃) m ∷ []))) (u .len₃) refl $ rewrite ! 8 (λ (m : ℕ). ‵ (MutSlice (named 4) κ₄ u64 .own (lies b₄ o₄ γ₄ (u .rep)) (sliceVal (b₄, o₄) m ∷ []))) (u .len₄) refl $
           move ! (10 ∷ 0 ∷ []) $ fjoin ! $ pureI ! (at-slice R.the-row rows (vrows ∷ [])) (tt, (tt, tt)) (refl, g₁) $ fjoin ! $ move ! (3 ∷ 1 ∷ 5 ∷ 7 ∷ 9 ∷ 2 ∷ 0 ∷ 4 ∷ 6 ∷ 8 ∷ []) $
           by ! (exits u (along-end before ys number (u .i) (stands u) (le-antisymm (u .within) l) (u .along)))
 
-      turns : (u : Turn) → Sq W (At u) (runs C Λ En mir.turn-1 (anyQ (AfterTurn u)))
+      turns : (u : Turn) → Sq W (At u) (runs (𝓣 .C) (𝓣 .Λ) En mir.turn-1 (anyQ (AfterTurn u)))
       turns u = ⊎-elim (goes-on u) (leaves u) (lt-or-ge (u .i) n)
 
       -- the loop, from any turn, and what follows it
-      looped : (u : Turn) → Sq W (At u) (runs C Λ En mir.t-8 (atRet En Post))
+      looped : (u : Turn) → Sq W (At u) (runs (𝓣 .C) (𝓣 .Λ) En mir.t-8 (atRet En Post))
       looped u = first ! $ blocks ! $ loops ! 𝓣 Nearer Nearer-wf At turns u
 
     -- the first turn, after `begin`
@@ -424,19 +394,19 @@ module _ {M : Type 1} (𝓤 : URA M) (H : Heap 𝓤) (A : Atoms 𝓤) (W : Given
     -- what stands on entry, in the order that the loop has it
     abbrev Entered : List (Item 𝓤)
     Entered = ‵ (fshr-bor κ₁ (λ s. arr-parts (shares R.the-row) n .part s ys b₁ o₁)) ∷ ‵ (flft κ₁ q₁)
-        ∷ ‵ (MutSlice (named 0) κ₀ u8 .own (x₀ γ₀ st₀) (v₀ st₀ ∷ [])) ∷ ‵ (flft κ₀ q₀) ∷ ‵ (MutSlice (named 2) κ₂ u8 .own (x₂ γ₂ sys₀) (v₂ sys₀ ∷ [])) ∷ ‵ (flft κ₂ q₂)
-        ∷ ‵ (MutSlice (named 3) κ₃ u8 .own (x₃ γ₃ io₀) (v₃ io₀ ∷ [])) ∷ ‵ (flft κ₃ q₃) ∷ ‵ (MutSlice (named 4) κ₄ u64 .own (x₄ γ₄ rep₀) (v₄ rep₀ ∷ [])) ∷ ‵ (flft κ₄ q₄)
+        ∷ ‵ (MutSlice (named 0) κ₀ u8 .own (lies b₀ o₀ γ₀ st₀) (span b₀ o₀ st₀ ∷ [])) ∷ ‵ (flft κ₀ q₀) ∷ ‵ (MutSlice (named 2) κ₂ u8 .own (lies b₂ o₂ γ₂ sys₀) (span b₂ o₂ sys₀ ∷ [])) ∷ ‵ (flft κ₂ q₂)
+        ∷ ‵ (MutSlice (named 3) κ₃ u8 .own (lies b₃ o₃ γ₃ io₀) (span b₃ o₃ io₀ ∷ [])) ∷ ‵ (flft κ₃ q₃) ∷ ‵ (MutSlice (named 4) κ₄ u64 .own (lies b₄ o₄ γ₄ rep₀) (span b₄ o₄ rep₀ ∷ [])) ∷ ‵ (flft κ₄ q₄)
         ∷ ‵ (froom slice64 l₂₅ 0) ∷ ‵ (fdies slice64 l₂₅) ∷ ‵ (froom ref64 l₂₄ 0) ∷ ‵ (fdies ref64 l₂₄) ∷ ‵ (froom slice8 l₂₃ 0) ∷ ‵ (fdies slice8 l₂₃) ∷ ‵ (froom ref8 l₂₂ 0) ∷ ‵ (fdies ref8 l₂₂)
         ∷ ‵ (froom slice8 l₂₁ 0) ∷ ‵ (fdies slice8 l₂₁) ∷ ‵ (froom ref8 l₂₀ 0) ∷ ‵ (fdies ref8 l₂₀) ∷ ‵ (froom R′.mir l₁₉ 0) ∷ ‵ (fdies R′.mir l₁₉) ∷ ‵ (froom tyPtr l₁₈ 0) ∷ ‵ (fdies tyPtr l₁₈)
         ∷ ‵ (froom slice8 l₁₇ 0) ∷ ‵ (fdies slice8 l₁₇) ∷ ‵ (froom ref8 l₁₆ 0) ∷ ‵ (fdies ref8 l₁₆) ∷ ‵ (froom tyUnit l₁₅ 0) ∷ ‵ (fdies tyUnit l₁₅) ∷ ‵ (froom tyBool l₁₄ 0) ∷ ‵ (fdies tyBool l₁₄)
         ∷ ‵ (froom word l₁₃ 0) ∷ ‵ (fdies word l₁₃) ∷ ‵ (froom tyBool l₁₂ 0) ∷ ‵ (fdies tyBool l₁₂) ∷ ‵ (froom slice64 l₁₁ 0) ∷ ‵ (fdies slice64 l₁₁) ∷ ‵ (froom ref64 l₁₀ 0) ∷ ‵ (fdies ref64 l₁₀)
         ∷ ‵ (froom slice8 l₉ 0) ∷ ‵ (fdies slice8 l₉) ∷ ‵ (froom ref8 l₈ 0) ∷ ‵ (fdies ref8 l₈) ∷ ‵ (froom word l₇ 0) ∷ ‵ (fdies word l₇) ∷ ‵ (froom half l₆ 0) ∷ ‵ (fdies half l₆)
-        ∷ ‵ (fat fullShare slice₄ l₅ 0 (v₄ rep₀)) ∷ ‵ (fdies slice₄ l₅) ∷ ‵ (fat fullShare slice₃ l₄ 0 (v₃ io₀)) ∷ ‵ (fdies slice₃ l₄) ∷ ‵ (fat fullShare slice₂ l₃ 0 (v₂ sys₀)) ∷ ‵ (fdies slice₂ l₃) ∷ ‵ (fat fullShare slice₁ l₂ 0 vrows) ∷ ‵ (fdies slice₁ l₂)
-        ∷ ‵ (fat fullShare slice₀ l₁ 0 (v₀ st₀)) ∷ ‵ (fdies slice₀ l₁) ∷ ‵ (froom half l₀ 0) ∷ ‵ (fdies half l₀)
+        ∷ ‵ (fat fullShare slice₄ l₅ 0 (span b₄ o₄ rep₀)) ∷ ‵ (fdies slice₄ l₅) ∷ ‵ (fat fullShare (bytes 3) l₄ 0 (span b₃ o₃ io₀)) ∷ ‵ (fdies (bytes 3) l₄) ∷ ‵ (fat fullShare (bytes 2) l₃ 0 (span b₂ o₂ sys₀)) ∷ ‵ (fdies (bytes 2) l₃) ∷ ‵ (fat fullShare slice₁ l₂ 0 vrows) ∷ ‵ (fdies slice₁ l₂)
+        ∷ ‵ (fat fullShare (bytes 0) l₁ 0 (span b₀ o₀ st₀)) ∷ ‵ (fdies (bytes 0) l₁) ∷ ‵ (froom half l₀ 0) ∷ ‵ (fdies half l₀)
         ∷ ‵ (fres γ₁ (codedHoleys R.the-row .code (heres R.the-row ys))) ∷ []
 
     -- `known`, `begin`, and the loop
-    begins : Sq W Entered (runs C Λ En mir.t-1 (atRet En Post))
+    begins : Sq W Entered (runs (𝓣 .C) (𝓣 .Λ) En mir.t-1 (atRet En Post))
     begins =
         assigns ! (addr ! (from ! (fld ! refl (hop ! (look-in ! 58 (sub ! 0 refl (whole !))) (stop !))))) (from ! (stop !)) (init ! 44 refl (tt, tt)) $
         assigns ! (agg ! (and-then ! (load ! (from ! (stop !)) (look ! 44 refl)) (and-then ! (load ! (from ! (fld ! refl (stop !))) (look-in ! 58 (sub ! 1 refl (whole !)))) (no-more !)))) (from ! (stop !)) (init ! 42 refl (tt, (tt, (record { fits = g₀ .0 }, tt)))) $
@@ -456,14 +426,14 @@ module _ {M : Type 1} (𝓤 : URA M) (H : Heap 𝓤) (A : Atoms 𝓤) (W : Given
         move ! (1 ∷ 3 ∷ 2 ∷ 0 ∷ []) $ away ! $
         -- `begin`, with the state and the report lent again
         lft-new ! tt (λ ν₀. move ! (4 ∷ 5 ∷ []) $
-        use2 W (later (some (λ (δ : GName). ‵ (MutSlice (named 0) (ν₀ ∷ []) u8 .own (x₀ δ st₀) (v₀ st₀ ∷ [])) ⊛ ‵ (LentAgain u8 κ₀ (ν₀ ∷ []) q₀ γ₀ b₀ o₀ δ st₀)))) (lends-again u8 κ₀ (ν₀ ∷ []) q₀ γ₀ b₀ o₀ 𝓤 H A W (named 0) (named 0) st₀) $ await ! tt $ take-out ! (λ δ₀. split ! $
+        use2 W (later (some (λ (δ : GName). ‵ (MutSlice (named 0) (ν₀ ∷ []) u8 .own (lies b₀ o₀ δ st₀) (span b₀ o₀ st₀ ∷ [])) ⊛ ‵ (LentAgain u8 κ₀ (ν₀ ∷ []) q₀ γ₀ b₀ o₀ δ st₀)))) (lends-again u8 κ₀ (ν₀ ∷ []) q₀ γ₀ b₀ o₀ 𝓤 H A W (named 0) (named 0) st₀) $ await ! tt $ take-out ! (λ δ₀. split ! $
         lft-new ! tt (λ ν₁. move ! (11 ∷ 12 ∷ []) $
-        use2 W (later (some (λ (δ : GName). ‵ (MutSlice (named 1) (ν₁ ∷ []) u64 .own (x₄ δ rep₀) (v₄ rep₀ ∷ [])) ⊛ ‵ (LentAgain u64 κ₄ (ν₁ ∷ []) q₄ γ₄ b₄ o₄ δ rep₀)))) (lends-again u64 κ₄ (ν₁ ∷ []) q₄ γ₄ b₄ o₄ 𝓤 H A W (named 4) (named 1) rep₀) $ await ! tt $ take-out ! (λ δ₁. split ! $
+        use2 W (later (some (λ (δ : GName). ‵ (MutSlice (named 1) (ν₁ ∷ []) u64 .own (lies b₄ o₄ δ rep₀) (span b₄ o₄ rep₀ ∷ [])) ⊛ ‵ (LentAgain u64 κ₄ (ν₁ ∷ []) q₄ γ₄ b₄ o₄ δ rep₀)))) (lends-again u64 κ₄ (ν₁ ∷ []) q₄ γ₄ b₄ o₄ 𝓤 H A W (named 4) (named 1) rep₀) $ await ! tt $ take-out ! (λ δ₁. split ! $
         -- [report; what comes back of it; ν₁; state; …; ν₀; ghost; the borrow; κ₁; sys; κ₂; io; κ₃; _25; …]
         move ! (5 ∷ 2 ∷ 3 ∷ 0 ∷ []) $ group ! 4 $ use1 W (raw (Begin 𝓤 H A at-mem at-run .pre (to-begin ν₀ ν₁ δ₀ δ₁ t))) (goes-begin ν₀ ν₁ δ₀ δ₁ t) $
         calls-at ! (fmOf 𝓤 H (W .laws) 𝓣) (Begin 𝓤 H A at-mem at-run) met-begin (to-begin ν₀ ν₁ δ₀ δ₁ t) (and-then ! (load ! (from ! (stop !)) (look ! 42 refl)) (and-then ! (load ! (from ! (stop !)) (look ! 38 refl)) (and-then ! (load ! (from ! (stop !)) (look ! 36 refl)) (no-more !)))) (λ w.
-        use1 W (later (some (λ (r : ℕ). ((‵ (flft (ν₀ ∷ []) fullShare) ⊛ ‵ (flft (ν₁ ∷ []) fullShare) ⊛ ‵ ftrue) ⊛ ‵ (u32 .own r (w ∷ []))) ⊛ raw (ensured 𝓤 H A begin.ended (begin.clauses 𝓤 H A at-mem at-run) (ν₀ ∷ [], (ν₁ ∷ [], tt)) (x₀ δ₀ st₀, (x₄ δ₁ rep₀, (t, tt))) tt r)))) (id⊢ 𝓤 _) $ await ! tt $ take-out ! (λ r.
-        split ! $ move ! (1 ∷ []) $ use1 W (some (λ (zs : List ℕ × (List ℕ × (Unit {0} × Unit {0}))). ‵ (lasts begin.ended (ν₀ ∷ [], (ν₁ ∷ [], tt)) (x₀ δ₀ st₀, (x₄ δ₁ rep₀, (t, tt))) zs) ⊛ (raw (fact 𝓤 (r ≡ pick (isState st₀) (pick t 0 16) 17)) ⊛ (raw (fact 𝓤 ((zs .0) ≡ st₀)) ⊛ (raw (fact 𝓤 ((zs .1 .0) ≡ putOver noReport rep₀)) ⊛ raw (fact 𝓤 (isState st₀ ≡ true → bytesOf (stateIn st₀) ≡ st₀))))))) (id⊢ 𝓤 _) $ take-out ! (λ zs.
+        use1 W (later (some (λ (r : ℕ). ((‵ (flft (ν₀ ∷ []) fullShare) ⊛ ‵ (flft (ν₁ ∷ []) fullShare) ⊛ ‵ ftrue) ⊛ ‵ (u32 .own r (w ∷ []))) ⊛ raw (ensured 𝓤 H A begin.ended (begin.clauses 𝓤 H A at-mem at-run) (ν₀ ∷ [], (ν₁ ∷ [], tt)) (lies b₀ o₀ δ₀ st₀, (lies b₄ o₄ δ₁ rep₀, (t, tt))) tt r)))) (id⊢ 𝓤 _) $ await ! tt $ take-out ! (λ r.
+        split ! $ move ! (1 ∷ []) $ use1 W (some (λ (zs : List ℕ × (List ℕ × (Unit {0} × Unit {0}))). ‵ (lasts begin.ended (ν₀ ∷ [], (ν₁ ∷ [], tt)) (lies b₀ o₀ δ₀ st₀, (lies b₄ o₄ δ₁ rep₀, (t, tt))) zs) ⊛ (raw (fact 𝓤 (r ≡ pick (isState st₀) (pick t 0 16) 17)) ⊛ (raw (fact 𝓤 ((zs .0) ≡ st₀)) ⊛ (raw (fact 𝓤 ((zs .1 .0) ≡ putOver noReport rep₀)) ⊛ raw (fact 𝓤 (isState st₀ ≡ true → bytesOf (stateIn st₀) ≡ st₀))))))) (id⊢ 𝓤 _) $ take-out ! (λ zs.
         split ! $ move ! (1 ∷ []) $ split ! $ heard ! (r ≡ pick (isState st₀) (pick t 0 16) 17) (λ is-number. split ! $ heard ! ((zs .0) ≡ st₀) (λ same. split ! $ heard ! ((zs .1 .0) ≡ putOver noReport rep₀) (λ cleared. heard ! (isState st₀ ≡ true → bytesOf (stateIn st₀) ≡ st₀) (λ back.
         fsplit ! $ fsplit ! $ move ! (1 ∷ []) $ feqL ! (λ e₀. move ! (1 ∷ []) $ fsplit ! $ fsplit ! $ move ! (1 ∷ []) $ feqL ! (λ e₄.
         move ! (3 ∷ []) $ split ! $ move ! (1 ∷ []) $ peeks ! u32 (Is u32) (shows 𝓤 H A u32) r (w ∷ []) (λ is.
@@ -471,21 +441,21 @@ module _ {M : Type 1} (𝓤 : URA M) (H : Heap 𝓤) (A : Atoms 𝓤) (W : Given
         rewrite ! 52 (λ (v : Val). ‵ (fat fullShare half l₆ 0 v)) (ap only (uint-tells w32 r (w ∷ []) is)) refl $ away ! $
         -- the lifetimes are ended, and both come back
         split ! $ lft-end ! tt $ move ! (0 ∷ 6 ∷ 4 ∷ []) $
-        use3 W (later (‵ (MutSlice (named 0) κ₀ u8 .own (x₀ γ₀ (zs .0)) (v₀ st₀ ∷ [])) ⊛ ‵ (flft κ₀ q₀))) (comes-back u8 κ₀ (ν₀ ∷ []) q₀ γ₀ b₀ o₀ 𝓤 H A W (named 0) (named 0) st₀ δ₀ (zs .0) g₀ e₀) $ await ! tt $ split ! $
+        use3 W (later (‵ (MutSlice (named 0) κ₀ u8 .own (lies b₀ o₀ γ₀ (zs .0)) (span b₀ o₀ st₀ ∷ [])) ⊛ ‵ (flft κ₀ q₀))) (comes-back u8 κ₀ (ν₀ ∷ []) q₀ γ₀ b₀ o₀ 𝓤 H A W (named 0) (named 0) st₀ δ₀ (zs .0) g₀ e₀) $ await ! tt $ split ! $
         move ! (2 ∷ []) $ split ! $ lft-end ! tt $ move ! (0 ∷ 6 ∷ 4 ∷ []) $
-        use3 W (later (‵ (MutSlice (named 4) κ₄ u64 .own (x₄ γ₄ (zs .1 .0)) (v₄ rep₀ ∷ [])) ⊛ ‵ (flft κ₄ q₄))) (comes-back u64 κ₄ (ν₁ ∷ []) q₄ γ₄ b₄ o₄ 𝓤 H A W (named 4) (named 1) rep₀ δ₁ (zs .1 .0) g₄ e₄) $ await ! tt $ split ! $
+        use3 W (later (‵ (MutSlice (named 4) κ₄ u64 .own (lies b₄ o₄ γ₄ (zs .1 .0)) (span b₄ o₄ rep₀ ∷ [])) ⊛ ‵ (flft κ₄ q₄))) (comes-back u64 κ₄ (ν₁ ∷ []) q₄ γ₄ b₄ o₄ 𝓤 H A W (named 4) (named 1) rep₀ δ₁ (zs .1 .0) g₄ e₄) $ await ! tt $ split ! $
         -- [report; κ₄; true; state; κ₀; true; ghost; the borrow; κ₁; sys; κ₂; io; κ₃; _25; …]
-        rewrite ! 3 (λ (m : ℕ). ‵ (MutSlice (named 0) κ₀ u8 .own (x₀ γ₀ (zs .0)) (sliceVal (b₀, o₀) m ∷ []))) (sym e₀) refl $ rewrite ! 61 (λ (m : ℕ). ‵ (fat fullShare slice₀ l₁ 0 (sliceVal (b₀, o₀) m))) (sym e₀) refl $
-        rewrite ! 0 (λ (m : ℕ). ‵ (MutSlice (named 4) κ₄ u64 .own (x₄ γ₄ (zs .1 .0)) (sliceVal (b₄, o₄) m ∷ []))) (sym e₄) refl $ rewrite ! 53 (λ (m : ℕ). ‵ (fat fullShare slice₄ l₅ 0 (sliceVal (b₄, o₄) m))) (sym e₄) refl $
+        rewrite ! 3 (λ (m : ℕ). ‵ (MutSlice (named 0) κ₀ u8 .own (lies b₀ o₀ γ₀ (zs .0)) (sliceVal (b₀, o₀) m ∷ []))) (sym e₀) refl $ rewrite ! 61 (λ (m : ℕ). ‵ (fat fullShare (bytes 0) l₁ 0 (sliceVal (b₀, o₀) m))) (sym e₀) refl $
+        rewrite ! 0 (λ (m : ℕ). ‵ (MutSlice (named 4) κ₄ u64 .own (lies b₄ o₄ γ₄ (zs .1 .0)) (sliceVal (b₄, o₄) m ∷ []))) (sym e₄) refl $ rewrite ! 53 (λ (m : ℕ). ‵ (fat fullShare slice₄ l₅ 0 (sliceVal (b₄, o₄) m))) (sym e₄) refl $
         assigns ! (of-opd ! (lit ! tt)) (from ! (stop !)) (init ! 49 refl (tt, record { fits = lit< tt })) $
         keep ! (7 ∷ 8 ∷ 3 ∷ 4 ∷ 9 ∷ 10 ∷ 11 ∷ 12 ∷ 0 ∷ 1 ∷ 13 ∷ 14 ∷ 15 ∷ 16 ∷ 17 ∷ 18 ∷ 19 ∷ 20 ∷ 21 ∷ 22 ∷ 23 ∷ 24 ∷ 25 ∷ 26 ∷ 27 ∷ 28 ∷ 29 ∷ 30 ∷ 31 ∷ 32 ∷ 33 ∷ 34 ∷ 35 ∷ 36 ∷ 37 ∷ 38 ∷ 39 ∷ 40 ∷ 41 ∷ 42 ∷ 43 ∷ 44 ∷ 45 ∷ 46 ∷ 47 ∷ 48 ∷ 49 ∷ 50 ∷ 51 ∷ 52 ∷ 53 ∷ 54 ∷ 55 ∷ 56 ∷ 57 ∷ 58 ∷ 59 ∷ 60 ∷ 61 ∷ 62 ∷ 63 ∷ 64 ∷ 6 ∷ []) $
         forget ! 36 refl $ forget ! 38 refl $ forget ! 40 refl $ forget ! 42 refl $ forget ! 44 refl $
         looped r (is .1) (start r (is .1) t (zs .0) (zs .1 .0) is-number all same cleared back e₀ e₄)))))))))))))))))))
 
   walk : (𝓣 : Tables 𝓤 H) → Triple 𝓤 (𝓣 .C #known) (Known 𝓤 H A at-mem at-run) → Triple 𝓤 (𝓣 .C #begin) (Begin 𝓤 H A at-mem at-run) → Triple 𝓤 (𝓣 .C #turn) (Turns 𝓤 H A at-mem at-run)
-      → ent 𝓤 (onEntry 𝓤 H A schedule.signature lfts parts args vals) (WpFn 𝓤 H (𝓣 .C) (𝓣 .Λ) code.function (v₀ st₀ ∷ vrows ∷ v₂ sys₀ ∷ v₃ io₀ ∷ v₄ rep₀ ∷ []) Post)
+      → ent 𝓤 (onEntry 𝓤 H A schedule.signature lfts parts args vals) (WpFn 𝓤 H (𝓣 .C) (𝓣 .Λ) code.function (span b₀ o₀ st₀ ∷ vrows ∷ span b₂ o₂ sys₀ ∷ span b₃ o₃ io₀ ∷ span b₄ o₄ rep₀ ∷ []) Post)
   walk 𝓣 met-known met-begin met-turn =
-      qed W ((‵ (flft κ₀ q₀) ⊛ ‵ (flft κ₁ q₁) ⊛ ‵ (flft κ₂ q₂) ⊛ ‵ (flft κ₃ q₃) ⊛ ‵ (flft κ₄ q₄) ⊛ ‵ ftrue) ∷ ‵ (owns (MutSlice (named 0) κ₀ u8 ∷ ShrSlice (named 1) κ₁ R.the-row ∷ MutSlice (named 2) κ₂ u8 ∷ MutSlice (named 3) κ₃ u8 ∷ MutSlice (named 4) κ₄ u64 ∷ []) args vals) ∷ []) ∵ enter ! (𝓣 .C) (𝓣 .Λ) code.function (v₀ st₀ ∷ vrows ∷ v₂ sys₀ ∷ v₃ io₀ ∷ v₄ rep₀ ∷ []) _ $
+      qed W ((‵ (flft κ₀ q₀) ⊛ ‵ (flft κ₁ q₁) ⊛ ‵ (flft κ₂ q₂) ⊛ ‵ (flft κ₃ q₃) ⊛ ‵ (flft κ₄ q₄) ⊛ ‵ ftrue) ∷ ‵ (owns (MutSlice (named 0) κ₀ u8 ∷ ShrSlice (named 1) κ₁ R.the-row ∷ MutSlice (named 2) κ₂ u8 ∷ MutSlice (named 3) κ₃ u8 ∷ MutSlice (named 4) κ₄ u64 ∷ []) args vals) ∷ []) ∵ enter ! (𝓣 .C) (𝓣 .Λ) code.function (span b₀ o₀ st₀ ∷ vrows ∷ span b₂ o₂ sys₀ ∷ span b₃ o₃ io₀ ∷ span b₄ o₄ rep₀ ∷ []) _ $
       alloc1 ! (λ l₀. alloc1 ! (λ l₁. alloc1 ! (λ l₂. alloc1 ! (λ l₃. alloc1 ! (λ l₄. alloc1 ! (λ l₅. alloc1 ! (λ l₆. alloc1 ! (λ l₇. alloc1 ! (λ l₈. alloc1 ! (λ l₉. alloc1 ! (λ l₁₀. alloc1 ! (λ l₁₁. alloc1 ! (λ l₁₂. alloc1 ! (λ l₁₃. alloc1 ! (λ l₁₄. alloc1 ! (λ l₁₅. alloc1 ! (λ l₁₆. alloc1 ! (λ l₁₇. alloc1 ! (λ l₁₈. alloc1 ! (λ l₁₉. alloc1 ! (λ l₂₀. alloc1 ! (λ l₂₁. alloc1 ! (λ l₂₂. alloc1 ! (λ l₂₃. alloc1 ! (λ l₂₄. alloc1 ! (λ l₂₅. alloc0 ! $ params1 ! $
       pass1 ! (init ! 48 refl (tt, (tt, (record { fits = g₀ .0 }, tt)))) $ pass1 ! (init ! 46 refl (tt, (tt, (record { fits = g₁ .0 }, tt)))) $ pass1 ! (init ! 44 refl (tt, (tt, (record { fits = g₂ .0 }, tt)))) $ pass1 ! (init ! 42 refl (tt, (tt, (record { fits = g₃ .0 }, tt)))) $ pass1 ! (init ! 40 refl (tt, (tt, (record { fits = g₄ .0 }, tt)))) $ pass0 ! $
       -- [_25; …; _0; …; the tokens; what the parameters own]
