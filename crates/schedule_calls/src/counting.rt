@@ -59,7 +59,7 @@ pub(crate) fn attention(report: &mut [u64], done: bool, channel: u32)
 }
 
 // One of two numbers.
-fn chosen(test: bool, a: u32, b: u32) -> u32
+pub(crate) fn chosen(test: bool, a: u32, b: u32) -> u32
     ensures { λ r. ⌜ r ≡ pick test a b ⌝ }
 {
     if test { a } else { b }

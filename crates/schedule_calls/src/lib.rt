@@ -42,10 +42,8 @@ fn begin(state: &mut [u8], report: &mut [u64], known: bool) -> u32
     ensures back { λ r. ⌜ (isState (now (state .entry)) ≡ true → bytesOf (stateIn (now (state .entry))) ≡ now (state .entry)) ⌝ }
 {
     counting::clear(report);
-    if !service::layout::is_state(state) {
-        return 17;
-    }
-    if known { 0 } else { 16 }
+    let number = counting::chosen(known, 0, 16);
+    counting::chosen(service::layout::is_state(state), number, 17)
 }
 
 // A row that is an attention to a channel.

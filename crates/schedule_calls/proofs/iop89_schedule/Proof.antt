@@ -22,7 +22,7 @@ use types.{Part.agg, Part.whole, Part.sub, Part.look-in, Share.arr-parts}
 use types.Run.{look, look-raw, store, init, forget, stop, hop, fld, from, load, addr, lit, of-opd, bin, and-then, no-more, assigns, assigns-last, first, blocks, stays, leaves-loop, land, returns, enter, alloc1, alloc0, params1, pass1, pass0, free1, free0, exec, Below, again, loops}
 use types.Tokens.{lft-new, lft-end, res-dup, shr-bor-dup}
 use sound.{Laws.∗emp, WpLaws.fmOf, WpLaws.WpFn-mono}
-use denote.{RattleType.owns, Laws.Is, Laws.shows, Shadow.pureI, Memory.pointee, Memory.shares}
+use denote.{RattleType.RattleType, RattleType.owns, Laws.Is, Laws.shows, Shadow.pureI, Memory.pointee, Memory.shares}
 use denote.Plain.{uint-makes, uint-tells, uint-lawful, bool-makes, bool-tells, bool-lawful, nothing-lawful}
 use denote.{Builtin.u8, Builtin.u32, Builtin.u64, Builtin.bool, Builtin.unit, Ref.RefT, Ref.now}
 use denote.Slice.{sliceTy, sliceVal, ShrSlice, MutSlice, Room, slice-vals, shr-slice-tells, mut-slice-tells, codedHoleys, heres, at-slice}
@@ -152,6 +152,10 @@ module _ {M : Type 1} (𝓤 : URA M) (H : Heap 𝓤) (A : Atoms 𝓤) (W : Given
   few : n ≤ 1152921504606846976
   few = omega (arith, g₁ .1)
 
+  -- lists of one length have the same room
+  kept : (T : RattleType) {k m : ℕ} → k ≡ m → Room T m → Room T k
+  kept T e g = subst (Room T) (sym e) g
+
   -- ---- what `known` and `begin` are passed
 
   abbrev to-known : Known 𝓤 H A at-mem at-run .Ghost
@@ -264,7 +268,7 @@ module _ {M : Type 1} (𝓤 : URA M) (H : Heap 𝓤) (A : Atoms 𝓤) (W : Given
           assigns ! (bin ! (load ! (from ! (stop !)) (look ! 46 refl)) (load ! (from ! (stop !)) (look ! 34 refl)) tt) (from ! (stop !)) (init ! 32 refl (tt, tt)) $
           rewrite ! 32 (λ (t : Bool). ‵ (fat fullShare tyBool l₁₄ 0 (vbool t))) (lt-ltb (u .i) n l) refl $ stays ! (load ! (from ! (stop !)) (look ! 32 refl)) $
           assigns ! (addr ! (from ! (fld ! refl (hop ! (look-in ! 58 (sub ! 0 refl (whole !))) (stop !))))) (from ! (stop !)) (init ! 28 refl (tt, tt)) $
-          assigns ! (agg ! (and-then ! (load ! (from ! (stop !)) (look ! 28 refl)) (and-then ! (load ! (from ! (fld ! refl (stop !))) (look-in ! 58 (sub ! 1 refl (whole !)))) (no-more !)))) (from ! (stop !)) (init ! 26 refl (tt, (tt, (record { fits = room₀ .0 }, tt)))) $
+          assigns ! (agg ! (and-then ! (load ! (from ! (stop !)) (look ! 28 refl)) (and-then ! (load ! (from ! (fld ! refl (stop !))) (look-in ! 58 (sub ! 1 refl (whole !)))) (no-more !)))) (from ! (stop !)) (init ! 26 refl (tt, (tt, (record { fits = (kept u8 (u .len₀) g₀) .0 }, tt)))) $
           assigns ! (bin ! (load ! (from ! (stop !)) (look ! 46 refl)) (lit ! tt) (record { fits = omega (arith, g₁ .1, l) })) (from ! (stop !)) (store ! 34 refl (tt, record { fits = omega (arith, g₁ .1, l) })) $
           assigns ! (bin ! (load ! (from ! (fld ! refl (stop !))) (look-in ! 56 (sub ! 0 refl (whole !)))) (load ! (from ! (stop !)) (look ! 34 refl)) tt) (from ! (stop !)) (init ! 24 refl (tt, tt)) $
           rewrite ! 24 (λ (p : ℕ). ‵ (fat fullShare tyPtr l₁₈ 0 (vptr b₁ p))) (sym (place-is 8 o₁ (u .i))) refl $
@@ -275,11 +279,11 @@ module _ {M : Type 1} (𝓤 : URA M) (H : Heap 𝓤) (A : Atoms 𝓤) (W : Given
           elem-back ! R.the-row q′ ys (u .i) noRow (R′.lowered (elem (u .i)) ∷ []) b₁ o₁ l $ shuts-slice ! tt R.the-row q′ ys b₁ o₁ $
           -- the pointers and counts are put together again
           assigns ! (addr ! (from ! (fld ! refl (hop ! (look-in ! 54 (sub ! 0 refl (whole !))) (stop !))))) (from ! (stop !)) (init ! 20 refl (tt, tt)) $
-          assigns ! (agg ! (and-then ! (load ! (from ! (stop !)) (look ! 20 refl)) (and-then ! (load ! (from ! (fld ! refl (stop !))) (look-in ! 54 (sub ! 1 refl (whole !)))) (no-more !)))) (from ! (stop !)) (init ! 18 refl (tt, (tt, (record { fits = room₂ .0 }, tt)))) $
+          assigns ! (agg ! (and-then ! (load ! (from ! (stop !)) (look ! 20 refl)) (and-then ! (load ! (from ! (fld ! refl (stop !))) (look-in ! 54 (sub ! 1 refl (whole !)))) (no-more !)))) (from ! (stop !)) (init ! 18 refl (tt, (tt, (record { fits = (kept u8 (u .len₂) g₂) .0 }, tt)))) $
           assigns ! (addr ! (from ! (fld ! refl (hop ! (look-in ! 52 (sub ! 0 refl (whole !))) (stop !))))) (from ! (stop !)) (init ! 16 refl (tt, tt)) $
-          assigns ! (agg ! (and-then ! (load ! (from ! (stop !)) (look ! 16 refl)) (and-then ! (load ! (from ! (fld ! refl (stop !))) (look-in ! 52 (sub ! 1 refl (whole !)))) (no-more !)))) (from ! (stop !)) (init ! 14 refl (tt, (tt, (record { fits = room₃ .0 }, tt)))) $
+          assigns ! (agg ! (and-then ! (load ! (from ! (stop !)) (look ! 16 refl)) (and-then ! (load ! (from ! (fld ! refl (stop !))) (look-in ! 52 (sub ! 1 refl (whole !)))) (no-more !)))) (from ! (stop !)) (init ! 14 refl (tt, (tt, (record { fits = (kept u8 (u .len₃) g₃) .0 }, tt)))) $
           assigns ! (addr ! (from ! (fld ! refl (hop ! (look-in ! 50 (sub ! 0 refl (whole !))) (stop !))))) (from ! (stop !)) (init ! 12 refl (tt, tt)) $
-          assigns ! (agg ! (and-then ! (load ! (from ! (stop !)) (look ! 12 refl)) (and-then ! (load ! (from ! (fld ! refl (stop !))) (look-in ! 50 (sub ! 1 refl (whole !)))) (no-more !)))) (from ! (stop !)) (init ! 10 refl (tt, (tt, (record { fits = room₄ .0 }, tt)))) $
+          assigns ! (agg ! (and-then ! (load ! (from ! (stop !)) (look ! 12 refl)) (and-then ! (load ! (from ! (fld ! refl (stop !))) (look-in ! 50 (sub ! 1 refl (whole !)))) (no-more !)))) (from ! (stop !)) (init ! 10 refl (tt, (tt, (record { fits = (kept u64 (u .len₄) g₄) .0 }, tt)))) $
           -- [κ₁; the borrow; state; κ₀; sys; κ₂; io; κ₃; report; κ₄; _25; …]: each is lent again
           lft-new ! tt (λ ν₀. move ! (3 ∷ 4 ∷ []) $
           use2 W (later (some (λ (δ : GName). ‵ (MutSlice (named 0) (ν₀ ∷ []) u8 .own (lies b₀ o₀ δ (u .st)) (span b₀ o₀ (u .st) ∷ [])) ⊛ ‵ (LentAgain u8 κ₀ (ν₀ ∷ []) q₀ γ₀ b₀ o₀ δ (u .st))))) (lends-again u8 κ₀ (ν₀ ∷ []) q₀ γ₀ b₀ o₀ 𝓤 H A W (named 0) (named 0) (u .st)) $ await ! tt $ take-out ! (λ δ₀. split ! $
@@ -301,13 +305,13 @@ module _ {M : Type 1} (𝓤 : URA M) (H : Heap 𝓤) (A : Atoms 𝓤) (W : Given
           land ! (from ! (stop !)) (init ! 33 refl (nothing-lawful 𝓤 H A W .typed r _ is .0)) $ away ! $
           -- the lifetimes are ended, and all four come back
           split ! $ lft-end ! tt $ move ! (0 ∷ 10 ∷ 6 ∷ []) $
-          use3 W (later (‵ (MutSlice (named 0) κ₀ u8 .own (lies b₀ o₀ γ₀ (zs .1 .0)) (span b₀ o₀ (u .st) ∷ [])) ⊛ ‵ (flft κ₀ q₀))) (comes-back u8 κ₀ (ν₀ ∷ []) q₀ γ₀ b₀ o₀ 𝓤 H A W (named 0) (named 0) (u .st) δ₀ (zs .1 .0) room₀ e₀) $ await ! tt $ split ! $
+          use3 W (later (‵ (MutSlice (named 0) κ₀ u8 .own (lies b₀ o₀ γ₀ (zs .1 .0)) (span b₀ o₀ (u .st) ∷ [])) ⊛ ‵ (flft κ₀ q₀))) (comes-back u8 κ₀ (ν₀ ∷ []) q₀ γ₀ b₀ o₀ 𝓤 H A W (named 0) (named 0) (u .st) δ₀ (zs .1 .0) (kept u8 (u .len₀) g₀) e₀) $ await ! tt $ split ! $
           move ! (2 ∷ []) $ split ! $ lft-end ! tt $ move ! (0 ∷ 10 ∷ 7 ∷ []) $
-          use3 W (later (‵ (MutSlice (named 2) κ₂ u8 .own (lies b₂ o₂ γ₂ (zs .1 .1 .1 .0)) (span b₂ o₂ (u .sys) ∷ [])) ⊛ ‵ (flft κ₂ q₂))) (comes-back u8 κ₂ (ν₁ ∷ []) q₂ γ₂ b₂ o₂ 𝓤 H A W (named 2) (named 1) (u .sys) δ₁ (zs .1 .1 .1 .0) room₂ e₂) $ await ! tt $ split ! $
+          use3 W (later (‵ (MutSlice (named 2) κ₂ u8 .own (lies b₂ o₂ γ₂ (zs .1 .1 .1 .0)) (span b₂ o₂ (u .sys) ∷ [])) ⊛ ‵ (flft κ₂ q₂))) (comes-back u8 κ₂ (ν₁ ∷ []) q₂ γ₂ b₂ o₂ 𝓤 H A W (named 2) (named 1) (u .sys) δ₁ (zs .1 .1 .1 .0) (kept u8 (u .len₂) g₂) e₂) $ await ! tt $ split ! $
           move ! (2 ∷ []) $ split ! $ lft-end ! tt $ move ! (0 ∷ 10 ∷ 8 ∷ []) $
-          use3 W (later (‵ (MutSlice (named 3) κ₃ u8 .own (lies b₃ o₃ γ₃ (zs .1 .1 .1 .1 .0)) (span b₃ o₃ (u .io) ∷ [])) ⊛ ‵ (flft κ₃ q₃))) (comes-back u8 κ₃ (ν₂ ∷ []) q₃ γ₃ b₃ o₃ 𝓤 H A W (named 3) (named 2) (u .io) δ₂ (zs .1 .1 .1 .1 .0) room₃ e₃) $ await ! tt $ split ! $
+          use3 W (later (‵ (MutSlice (named 3) κ₃ u8 .own (lies b₃ o₃ γ₃ (zs .1 .1 .1 .1 .0)) (span b₃ o₃ (u .io) ∷ [])) ⊛ ‵ (flft κ₃ q₃))) (comes-back u8 κ₃ (ν₂ ∷ []) q₃ γ₃ b₃ o₃ 𝓤 H A W (named 3) (named 2) (u .io) δ₂ (zs .1 .1 .1 .1 .0) (kept u8 (u .len₃) g₃) e₃) $ await ! tt $ split ! $
           move ! (2 ∷ []) $ split ! $ lft-end ! tt $ move ! (0 ∷ 10 ∷ 8 ∷ []) $
-          use3 W (later (‵ (MutSlice (named 4) κ₄ u64 .own (lies b₄ o₄ γ₄ (zs .1 .1 .1 .1 .1 .0)) (span b₄ o₄ (u .rep) ∷ [])) ⊛ ‵ (flft κ₄ q₄))) (comes-back u64 κ₄ (ν₃ ∷ []) q₄ γ₄ b₄ o₄ 𝓤 H A W (named 4) (named 3) (u .rep) δ₃ (zs .1 .1 .1 .1 .1 .0) room₄ e₄) $ await ! tt $ split ! $
+          use3 W (later (‵ (MutSlice (named 4) κ₄ u64 .own (lies b₄ o₄ γ₄ (zs .1 .1 .1 .1 .1 .0)) (span b₄ o₄ (u .rep) ∷ [])) ⊛ ‵ (flft κ₄ q₄))) (comes-back u64 κ₄ (ν₃ ∷ []) q₄ γ₄ b₄ o₄ 𝓤 H A W (named 4) (named 3) (u .rep) δ₃ (zs .1 .1 .1 .1 .1 .0) (kept u64 (u .len₄) g₄) e₄) $ await ! tt $ split ! $
           -- [report; κ₄; true; io; κ₃; sys; κ₂; state; κ₀; true; κ₁; the borrow; _25; …]
           move ! (2 ∷ 9 ∷ 11 ∷ 10 ∷ 7 ∷ 8 ∷ 5 ∷ 6 ∷ 3 ∷ 4 ∷ 0 ∷ 1 ∷ []) $ away ! $ away ! $
           rewrite ! 2 (λ (m : ℕ). ‵ (MutSlice (named 0) κ₀ u8 .own (lies b₀ o₀ γ₀ (zs .1 .0)) (sliceVal (b₀, o₀) m ∷ []))) (sym e₀) refl $ rewrite ! 58 (λ (m : ℕ). ‵ (fat fullShare (bytes 0) l₁ 0 (sliceVal (b₀, o₀) m))) (sym e₀) refl $
@@ -321,18 +325,6 @@ module _ {M : Type 1} (𝓤 : URA M) (H : Heap 𝓤) (A : Atoms 𝓤) (W : Given
           -- what `turn` ensures
           Became : List ℕ → List ℕ → List ℕ → List ℕ → Type 0
           Became st′ sys′ io′ rep′ = Turned number (elem (u .i)) (stands u) (standing st′ (buffers sys′ io′) rep′)
-
-          room₀ : Room u8 (length (u .st))
-          room₀ = subst (Room u8) (sym (u .len₀)) g₀
-
-          room₂ : Room u8 (length (u .sys))
-          room₂ = subst (Room u8) (sym (u .len₂)) g₂
-
-          room₃ : Room u8 (length (u .io))
-          room₃ = subst (Room u8) (sym (u .len₃)) g₃
-
-          room₄ : Room u64 (length (u .rep))
-          room₄ = subst (Room u64) (sym (u .len₄)) g₄
 
           next : (st′ sys′ io′ rep′ : List ℕ) → Became st′ sys′ io′ rep′ → length st′ ≡ length (u .st) → length sys′ ≡ length (u .sys) → length io′ ≡ length (u .io) → length rep′ ≡ length (u .rep) → Turn
           next st′ sys′ io′ rep′ e e₀ e₂ e₃ e₄ = record {
