@@ -15,8 +15,7 @@ use Rattle.schedule.specs.Conditions.{UnknownIn}
 use Rattle.schedule.specs.Counts.{Counted, onceIf, overRows, acceptedAt, refusedAt, isAttentionTo, attendedAt, rejectedAt, isInstruction, isTransfer, isExternal, doneAt, instructionAt, transferAt, storedAt, endAt, waitsForDrq, waitAt}
 use Rattle.schedule.specs.Reports.{channelCounts, allCounts, reportOf, bothReports, allRun, noneRun, scheduleOf}
 use Rattle.schedule.specs.{Rows.Bench, Rows.isStep, Rows.allKnown, Rows.rowsLeft, declared.ScheduleRow.ScheduleRow}
-use Rattle.schedule.proofs.RowLaws.{told-known, known-cut, left-cut}
-use Rattle.schedule.proofs.SumLaws.{over-cut, over-known, over-sum, over-both, over-twice, over-length}
+use Rattle.schedule.proofs.RowLaws.{told-known, known-cut, left-cut, over-cut, over-known, over-sum, over-both, over-twice, over-length}
 use Rattle.schedule.proofs.CountLaws.{once-one, accepted-or-refused, attentions-of, accepted-is}
 use Rattle.schedule.proofs.StoreLaws.{stored-most, stored-two}
 

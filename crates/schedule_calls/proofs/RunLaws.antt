@@ -8,10 +8,10 @@ use mathlib.Core.Path.{_≡_, refl, sym, ap, ap₂, _∙_, subst}
 use native.Mathlib.{Decide.ℕ-discrete, Numerals.add-one, Omega.arith}
 use Rattle.words.specs.Choice.{pick}
 use Rattle.service.specs.Layout.{bytesOf, stateIn, isState}
-use Rattle.schedule.proofs.{RowLaws.known-at, RowLaws.left-cut, ScheduleLaws.MostTwo, ScheduleLaws.counts-two, ScheduleLaws.over-most, SumLaws.over-cut}
+use Rattle.schedule.proofs.{RowLaws.known-at, RowLaws.left-cut, ScheduleLaws.MostTwo, ScheduleLaws.counts-two, ScheduleLaws.over-most, RowLaws.over-cut}
+use Rattle.schedule.specs.{Rows.Bench, Rows.allKnown, Rows.rowLeft, Rows.rowsLeft, declared.ScheduleRow.ScheduleRow}
 use Rattle.schedule.specs.Counts.{Counted, overRows}
 use Rattle.schedule.specs.Reports.{allCounts, noReport, reportOf, allRun, noneRun, scheduleOf, putOver}
-use Rattle.schedule.specs.{Rows.Bench, Rows.allKnown, Rows.rowLeft, Rows.rowsLeft, declared.ScheduleRow.ScheduleRow}
 use Rattle.schedule_calls.specs.Calls.{scheduled, scheduleServed, ScheduleMet}
 use Rattle.schedule_calls.specs.Turns.{Standing, standing, benchIn, StateBytes, RowRun, Turned, TurnReady}
 use Rattle.schedule_calls.specs.Words.{addedOn}

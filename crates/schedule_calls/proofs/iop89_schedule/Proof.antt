@@ -180,6 +180,20 @@ module _ {M : Type 1} (𝓤 : URA M) (H : Heap 𝓤) (A : Atoms 𝓤) (W : Given
     abbrev En : Env 𝓤 H
     En = (half, l₀) ∷ (bytes 0, l₁) ∷ (slice₁, l₂) ∷ (bytes 2, l₃) ∷ (bytes 3, l₄) ∷ (slice₄, l₅) ∷ (half, l₆) ∷ (word, l₇) ∷ (ref8, l₈) ∷ (slice8, l₉) ∷ (ref64, l₁₀) ∷ (slice64, l₁₁) ∷ (tyBool, l₁₂) ∷ (word, l₁₃) ∷ (tyBool, l₁₄) ∷ (tyUnit, l₁₅) ∷ (ref8, l₁₆) ∷ (slice8, l₁₇) ∷ (tyPtr, l₁₈) ∷ (R′.mir, l₁₉) ∷ (ref8, l₂₀) ∷ (slice8, l₂₁) ∷ (ref8, l₂₂) ∷ (slice8, l₂₃) ∷ (ref64, l₂₄) ∷ (slice64, l₂₅) ∷ []
 
+    -- 0 the borrow of the rows and 1 its token; 2 the state, 4 sys, 6 io, 8 the report, each with its token; then _25 at 10 down to _0 at 60, each with what frees it; 62 the rows' ghost; the loop's index and the number as they are
+    abbrev Held : Item 𝓤 → Item 𝓤 → (st sys io rep : List ℕ) → List (Item 𝓤)
+    Held index count st sys io rep = ‵ (fshr-bor κ₁ (λ s. arr-parts (shares R.the-row) n .part s ys b₁ o₁)) ∷ ‵ (flft κ₁ q₁)
+        ∷ ‵ (MutSlice (named 0) κ₀ u8 .own (lies b₀ o₀ γ₀ st) (span b₀ o₀ st ∷ [])) ∷ ‵ (flft κ₀ q₀) ∷ ‵ (MutSlice (named 2) κ₂ u8 .own (lies b₂ o₂ γ₂ sys) (span b₂ o₂ sys ∷ [])) ∷ ‵ (flft κ₂ q₂)
+        ∷ ‵ (MutSlice (named 3) κ₃ u8 .own (lies b₃ o₃ γ₃ io) (span b₃ o₃ io ∷ [])) ∷ ‵ (flft κ₃ q₃) ∷ ‵ (MutSlice (named 4) κ₄ u64 .own (lies b₄ o₄ γ₄ rep) (span b₄ o₄ rep ∷ [])) ∷ ‵ (flft κ₄ q₄)
+        ∷ ‵ (froom slice64 l₂₅ 0) ∷ ‵ (fdies slice64 l₂₅) ∷ ‵ (froom ref64 l₂₄ 0) ∷ ‵ (fdies ref64 l₂₄) ∷ ‵ (froom slice8 l₂₃ 0) ∷ ‵ (fdies slice8 l₂₃) ∷ ‵ (froom ref8 l₂₂ 0) ∷ ‵ (fdies ref8 l₂₂)
+        ∷ ‵ (froom slice8 l₂₁ 0) ∷ ‵ (fdies slice8 l₂₁) ∷ ‵ (froom ref8 l₂₀ 0) ∷ ‵ (fdies ref8 l₂₀) ∷ ‵ (froom R′.mir l₁₉ 0) ∷ ‵ (fdies R′.mir l₁₉) ∷ ‵ (froom tyPtr l₁₈ 0) ∷ ‵ (fdies tyPtr l₁₈)
+        ∷ ‵ (froom slice8 l₁₇ 0) ∷ ‵ (fdies slice8 l₁₇) ∷ ‵ (froom ref8 l₁₆ 0) ∷ ‵ (fdies ref8 l₁₆) ∷ ‵ (froom tyUnit l₁₅ 0) ∷ ‵ (fdies tyUnit l₁₅) ∷ ‵ (froom tyBool l₁₄ 0) ∷ ‵ (fdies tyBool l₁₄)
+        ∷ ‵ (froom word l₁₃ 0) ∷ ‵ (fdies word l₁₃) ∷ ‵ (froom tyBool l₁₂ 0) ∷ ‵ (fdies tyBool l₁₂) ∷ ‵ (froom slice64 l₁₁ 0) ∷ ‵ (fdies slice64 l₁₁) ∷ ‵ (froom ref64 l₁₀ 0) ∷ ‵ (fdies ref64 l₁₀)
+        ∷ ‵ (froom slice8 l₉ 0) ∷ ‵ (fdies slice8 l₉) ∷ ‵ (froom ref8 l₈ 0) ∷ ‵ (fdies ref8 l₈) ∷ index ∷ ‵ (fdies word l₇) ∷ count ∷ ‵ (fdies half l₆)
+        ∷ ‵ (fat fullShare slice₄ l₅ 0 (span b₄ o₄ rep)) ∷ ‵ (fdies slice₄ l₅) ∷ ‵ (fat fullShare (bytes 3) l₄ 0 (span b₃ o₃ io)) ∷ ‵ (fdies (bytes 3) l₄) ∷ ‵ (fat fullShare (bytes 2) l₃ 0 (span b₂ o₂ sys)) ∷ ‵ (fdies (bytes 2) l₃) ∷ ‵ (fat fullShare slice₁ l₂ 0 vrows) ∷ ‵ (fdies slice₁ l₂)
+        ∷ ‵ (fat fullShare (bytes 0) l₁ 0 (span b₀ o₀ st)) ∷ ‵ (fdies (bytes 0) l₁) ∷ ‵ (froom half l₀ 0) ∷ ‵ (fdies half l₀)
+        ∷ ‵ (fres γ₁ (codedHoleys R.the-row .code (heres R.the-row ys))) ∷ []
+
     -- ---- the loop, once the number is known
     module _ (number : ℕ) (number-fits : number < 2 ^ 32) where
       -- what the loop has at a turn
@@ -243,19 +257,8 @@ module _ {M : Type 1} (𝓤 : URA M) (H : Heap 𝓤) (A : Atoms 𝓤) (W : Given
           nothing ! $ move ! (5 ∷ 0 ∷ []) $ fjoin ! $ move ! (4 ∷ 0 ∷ []) $ fjoin ! $ move ! (3 ∷ 0 ∷ []) $ fjoin ! $ move ! (2 ∷ 0 ∷ []) $ fjoin ! $ move ! (1 ∷ 0 ∷ []) $ fjoin ! $ frame ! $
           owned ! u32 (Is u32) (uint-makes 𝓤 H A W w32) number _ (refl, number-fits) $ done !
 
-      -- 0 the borrow of the rows and 1 its token; 2 the state, 4 sys, 6 io, 8 the report, each with its token; then _25 at 10 down to _0 at 60, each with what frees it; 62 the rows' ghost
       abbrev At : Turn → List (Item 𝓤)
-      At u = ‵ (fshr-bor κ₁ (λ s. arr-parts (shares R.the-row) n .part s ys b₁ o₁)) ∷ ‵ (flft κ₁ q₁)
-          ∷ ‵ (MutSlice (named 0) κ₀ u8 .own (lies b₀ o₀ γ₀ (u .st)) (span b₀ o₀ (u .st) ∷ [])) ∷ ‵ (flft κ₀ q₀) ∷ ‵ (MutSlice (named 2) κ₂ u8 .own (lies b₂ o₂ γ₂ (u .sys)) (span b₂ o₂ (u .sys) ∷ [])) ∷ ‵ (flft κ₂ q₂)
-          ∷ ‵ (MutSlice (named 3) κ₃ u8 .own (lies b₃ o₃ γ₃ (u .io)) (span b₃ o₃ (u .io) ∷ [])) ∷ ‵ (flft κ₃ q₃) ∷ ‵ (MutSlice (named 4) κ₄ u64 .own (lies b₄ o₄ γ₄ (u .rep)) (span b₄ o₄ (u .rep) ∷ [])) ∷ ‵ (flft κ₄ q₄)
-          ∷ ‵ (froom slice64 l₂₅ 0) ∷ ‵ (fdies slice64 l₂₅) ∷ ‵ (froom ref64 l₂₄ 0) ∷ ‵ (fdies ref64 l₂₄) ∷ ‵ (froom slice8 l₂₃ 0) ∷ ‵ (fdies slice8 l₂₃) ∷ ‵ (froom ref8 l₂₂ 0) ∷ ‵ (fdies ref8 l₂₂)
-          ∷ ‵ (froom slice8 l₂₁ 0) ∷ ‵ (fdies slice8 l₂₁) ∷ ‵ (froom ref8 l₂₀ 0) ∷ ‵ (fdies ref8 l₂₀) ∷ ‵ (froom R′.mir l₁₉ 0) ∷ ‵ (fdies R′.mir l₁₉) ∷ ‵ (froom tyPtr l₁₈ 0) ∷ ‵ (fdies tyPtr l₁₈)
-          ∷ ‵ (froom slice8 l₁₇ 0) ∷ ‵ (fdies slice8 l₁₇) ∷ ‵ (froom ref8 l₁₆ 0) ∷ ‵ (fdies ref8 l₁₆) ∷ ‵ (froom tyUnit l₁₅ 0) ∷ ‵ (fdies tyUnit l₁₅) ∷ ‵ (froom tyBool l₁₄ 0) ∷ ‵ (fdies tyBool l₁₄)
-          ∷ ‵ (froom word l₁₃ 0) ∷ ‵ (fdies word l₁₃) ∷ ‵ (froom tyBool l₁₂ 0) ∷ ‵ (fdies tyBool l₁₂) ∷ ‵ (froom slice64 l₁₁ 0) ∷ ‵ (fdies slice64 l₁₁) ∷ ‵ (froom ref64 l₁₀ 0) ∷ ‵ (fdies ref64 l₁₀)
-          ∷ ‵ (froom slice8 l₉ 0) ∷ ‵ (fdies slice8 l₉) ∷ ‵ (froom ref8 l₈ 0) ∷ ‵ (fdies ref8 l₈) ∷ ‵ (fat fullShare word l₇ 0 (vint w64 (u .i))) ∷ ‵ (fdies word l₇) ∷ ‵ (fat fullShare half l₆ 0 (vint w32 number)) ∷ ‵ (fdies half l₆)
-          ∷ ‵ (fat fullShare slice₄ l₅ 0 (span b₄ o₄ (u .rep))) ∷ ‵ (fdies slice₄ l₅) ∷ ‵ (fat fullShare (bytes 3) l₄ 0 (span b₃ o₃ (u .io))) ∷ ‵ (fdies (bytes 3) l₄) ∷ ‵ (fat fullShare (bytes 2) l₃ 0 (span b₂ o₂ (u .sys))) ∷ ‵ (fdies (bytes 2) l₃) ∷ ‵ (fat fullShare slice₁ l₂ 0 vrows) ∷ ‵ (fdies slice₁ l₂)
-          ∷ ‵ (fat fullShare (bytes 0) l₁ 0 (span b₀ o₀ (u .st))) ∷ ‵ (fdies (bytes 0) l₁) ∷ ‵ (froom half l₀ 0) ∷ ‵ (fdies half l₀)
-          ∷ ‵ (fres γ₁ (codedHoleys R.the-row .code (heres R.the-row ys))) ∷ []
+      At u = Held (‵ (fat fullShare word l₇ 0 (vint w64 (u .i)))) (‵ (fat fullShare half l₆ 0 (vint w32 number))) (u .st) (u .sys) (u .io) (u .rep)
 
       abbrev AfterTurn : Turn → Out → SProp 𝓤
       AfterTurn u = afterTurn 𝓤 H (Below 𝓤 H A Nearer At u) (afterBlock 𝓤 H (afterSeq 𝓤 H (Wp 𝓤 H (𝓣 .C) (𝓣 .Λ) En mir.t-9 (atReturn 𝓤 H En Post)) (atReturn 𝓤 H En Post)))
@@ -385,17 +388,7 @@ module _ {M : Type 1} (𝓤 : URA M) (H : Heap 𝓤) (A : Atoms 𝓤) (W : Given
 
     -- what stands on entry, in the order that the loop has it
     abbrev Entered : List (Item 𝓤)
-    Entered = ‵ (fshr-bor κ₁ (λ s. arr-parts (shares R.the-row) n .part s ys b₁ o₁)) ∷ ‵ (flft κ₁ q₁)
-        ∷ ‵ (MutSlice (named 0) κ₀ u8 .own (lies b₀ o₀ γ₀ st₀) (span b₀ o₀ st₀ ∷ [])) ∷ ‵ (flft κ₀ q₀) ∷ ‵ (MutSlice (named 2) κ₂ u8 .own (lies b₂ o₂ γ₂ sys₀) (span b₂ o₂ sys₀ ∷ [])) ∷ ‵ (flft κ₂ q₂)
-        ∷ ‵ (MutSlice (named 3) κ₃ u8 .own (lies b₃ o₃ γ₃ io₀) (span b₃ o₃ io₀ ∷ [])) ∷ ‵ (flft κ₃ q₃) ∷ ‵ (MutSlice (named 4) κ₄ u64 .own (lies b₄ o₄ γ₄ rep₀) (span b₄ o₄ rep₀ ∷ [])) ∷ ‵ (flft κ₄ q₄)
-        ∷ ‵ (froom slice64 l₂₅ 0) ∷ ‵ (fdies slice64 l₂₅) ∷ ‵ (froom ref64 l₂₄ 0) ∷ ‵ (fdies ref64 l₂₄) ∷ ‵ (froom slice8 l₂₃ 0) ∷ ‵ (fdies slice8 l₂₃) ∷ ‵ (froom ref8 l₂₂ 0) ∷ ‵ (fdies ref8 l₂₂)
-        ∷ ‵ (froom slice8 l₂₁ 0) ∷ ‵ (fdies slice8 l₂₁) ∷ ‵ (froom ref8 l₂₀ 0) ∷ ‵ (fdies ref8 l₂₀) ∷ ‵ (froom R′.mir l₁₉ 0) ∷ ‵ (fdies R′.mir l₁₉) ∷ ‵ (froom tyPtr l₁₈ 0) ∷ ‵ (fdies tyPtr l₁₈)
-        ∷ ‵ (froom slice8 l₁₇ 0) ∷ ‵ (fdies slice8 l₁₇) ∷ ‵ (froom ref8 l₁₆ 0) ∷ ‵ (fdies ref8 l₁₆) ∷ ‵ (froom tyUnit l₁₅ 0) ∷ ‵ (fdies tyUnit l₁₅) ∷ ‵ (froom tyBool l₁₄ 0) ∷ ‵ (fdies tyBool l₁₄)
-        ∷ ‵ (froom word l₁₃ 0) ∷ ‵ (fdies word l₁₃) ∷ ‵ (froom tyBool l₁₂ 0) ∷ ‵ (fdies tyBool l₁₂) ∷ ‵ (froom slice64 l₁₁ 0) ∷ ‵ (fdies slice64 l₁₁) ∷ ‵ (froom ref64 l₁₀ 0) ∷ ‵ (fdies ref64 l₁₀)
-        ∷ ‵ (froom slice8 l₉ 0) ∷ ‵ (fdies slice8 l₉) ∷ ‵ (froom ref8 l₈ 0) ∷ ‵ (fdies ref8 l₈) ∷ ‵ (froom word l₇ 0) ∷ ‵ (fdies word l₇) ∷ ‵ (froom half l₆ 0) ∷ ‵ (fdies half l₆)
-        ∷ ‵ (fat fullShare slice₄ l₅ 0 (span b₄ o₄ rep₀)) ∷ ‵ (fdies slice₄ l₅) ∷ ‵ (fat fullShare (bytes 3) l₄ 0 (span b₃ o₃ io₀)) ∷ ‵ (fdies (bytes 3) l₄) ∷ ‵ (fat fullShare (bytes 2) l₃ 0 (span b₂ o₂ sys₀)) ∷ ‵ (fdies (bytes 2) l₃) ∷ ‵ (fat fullShare slice₁ l₂ 0 vrows) ∷ ‵ (fdies slice₁ l₂)
-        ∷ ‵ (fat fullShare (bytes 0) l₁ 0 (span b₀ o₀ st₀)) ∷ ‵ (fdies (bytes 0) l₁) ∷ ‵ (froom half l₀ 0) ∷ ‵ (fdies half l₀)
-        ∷ ‵ (fres γ₁ (codedHoleys R.the-row .code (heres R.the-row ys))) ∷ []
+    Entered = Held (‵ (froom word l₇ 0)) (‵ (froom half l₆ 0)) st₀ sys₀ io₀ rep₀
 
     -- `known`, `begin`, and the loop
     begins : Sq W Entered (runs (𝓣 .C) (𝓣 .Λ) En mir.t-1 (atRet En Post))
