@@ -12,7 +12,7 @@ use Rattle.step.specs.Choosing.{requested}
 use Rattle.words.proofs.ChoiceLaws.{apart, both-left, both-right}
 use Rattle.words.specs.Choice.{pick}
 use Rattle.schedule.specs.Conditions.{UnknownIn}
-use Rattle.schedule.specs.Counts.{Counted, onceIf, overRows, acceptedAt, refusedAt, isAttentionTo, attendedAt, rejectedAt, isInstruction, isTransfer, isExternal, doneAt, instructionAt, transferAt, storedAt, endAt, waitsForDrq, waitAt}
+use Rattle.schedule.specs.Counts.{RowCount, onceIf, overRows, acceptedAt, refusedAt, isAttentionTo, attendedAt, rejectedAt, isInstruction, isTransfer, isExternal, doneAt, instructionAt, transferAt, storedAt, endAt, waitsForDrq, waitAt}
 use Rattle.schedule.specs.Reports.{channelCounts, allCounts, reportOf, bothReports, allRun, noneRun, scheduleOf}
 use Rattle.schedule.specs.{Rows.Bench, Rows.isStep, Rows.allKnown, Rows.rowsLeft, declared.ScheduleRow.ScheduleRow}
 use Rattle.schedule.proofs.RowLaws.{told-known, known-cut, left-cut, over-cut, over-known, over-sum, over-both, over-twice, over-length}
@@ -62,22 +62,22 @@ pub attentions-add-up : (second : Bool) (p : Bench) (rows : List ScheduleRow)
 attentions-add-up second p rows = over-sum (attendedAt second) (rejectedAt second) (λ q r. onceIf (isAttentionTo second r)) (attentions-of second) p rows
 
 -- what a channel was accepted for but attentions
-abbrev pub workAt : Bool → Counted
+abbrev pub workAt : Bool → RowCount
 workAt second q r = instructionAt second q r + transferAt second q r + endAt second q r
 
 -- of known kinds the accepted rows are the attentions accepted, instructions, transfer steps and external ends of both channels together
 pub accepted-are : (p : Bench) (rows : List ScheduleRow) → allKnown rows ≡ true
-    → let total : (Bool → Counted) → ℕ = λ f. overRows (f false) p rows + overRows (f true) p rows in
+    → let total : (Bool → RowCount) → ℕ = λ f. overRows (f false) p rows + overRows (f true) p rows in
     overRows acceptedAt p rows ≡ total attendedAt + (total instructionAt + total transferAt + total endAt)
 accepted-are p rows h =
     over-known acceptedAt (λ q r. both attendedAt q r + both workAt q r) accepted-is p rows h
     ∙ over-both (both attendedAt) (both workAt) p rows
     ∙ omega (arith, sums attendedAt, sums workAt, works false, works true)
   where
-    both : (Bool → Counted) → Counted
+    both : (Bool → RowCount) → RowCount
     both f q r = f false q r + f true q r
 
-    sums : (f : Bool → Counted) → overRows (both f) p rows ≡ overRows (f false) p rows + overRows (f true) p rows
+    sums : (f : Bool → RowCount) → overRows (both f) p rows ≡ overRows (f false) p rows + overRows (f true) p rows
     sums f = over-both (f false) (f true) p rows
 
     works : (b : Bool) → overRows (workAt b) p rows ≡ (overRows (instructionAt b) p rows + overRows (transferAt b) p rows) + overRows (endAt b) p rows
@@ -92,11 +92,11 @@ pub stored-bytes : (second : Bool) (p : Bench) (rows : List ScheduleRow) → ove
 stored-bytes second p rows = over-twice (storedAt second) (transferAt second) (stored-most second) p rows
 
 -- a row adds at most 2 to each of some counts
-abbrev pub MostTwo : List Counted → Type 0
+abbrev pub MostTwo : List RowCount → Type 0
 MostTwo [] = Unit {0}
 MostTwo (f ∷ fs) = ((q : Bench) (r : ScheduleRow) → f q r ≤ 2) × MostTwo fs
 
-two-append : (fs gs : List Counted) → MostTwo fs → MostTwo gs → MostTwo (fs ++ gs)
+two-append : (fs gs : List RowCount) → MostTwo fs → MostTwo gs → MostTwo (fs ++ gs)
 two-append [] gs h k = k
 two-append (f ∷ fs) gs h k = (h .0, two-append fs gs (h .1) k)
 
@@ -130,7 +130,7 @@ counts-two =
     (λ q r. omega (arith, accepted-or-refused q r), (λ q r. omega (arith, accepted-or-refused q r), two-append (channelCounts false) (channelCounts true) (channel-two false) (channel-two true)))
 
 -- so a count is at most twice the rows
-pub over-most : (f : Counted) → ((q : Bench) (r : ScheduleRow) → f q r ≤ 2) → (p : Bench) (rows : List ScheduleRow) → overRows f p rows ≤ 2 * length rows
+pub over-most : (f : RowCount) → ((q : Bench) (r : ScheduleRow) → f q r ≤ 2) → (p : Bench) (rows : List ScheduleRow) → overRows f p rows ≤ 2 * length rows
 over-most f h p rows =
     let k = over-twice f (λ q r. 1) (λ q r. omega (arith, h q r)) p rows in
     omega (arith, over-length p rows)
@@ -138,7 +138,7 @@ over-most f h p rows =
 -- ---- a schedule cut into two
 
 -- each of some counts is the sum of the two counts
-sums-cut : (fs : List Counted) (p : Bench) (a b : List ScheduleRow)
+sums-cut : (fs : List RowCount) (p : Bench) (a b : List ScheduleRow)
     → map (λ f. overRows f p (a ++ b)) fs ≡ bothReports (map (λ f. overRows f p a) fs) (map (λ f. overRows f (rowsLeft p a) b) fs)
 unfolding bothReports
 sums-cut [] p a b = refl

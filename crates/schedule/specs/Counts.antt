@@ -14,11 +14,11 @@ use Rattle.step.specs.declared.Kind.the-variants.{Nothing, Instruction, Transfe
 use Rattle.schedule.specs.{Rows.Bench, Rows.isAttention, Rows.isStep, Rows.rowNumber, Rows.rowLeft, declared.ScheduleRow.ScheduleRow}
 
 -- what is counted of a row and the bench before it
-abbrev pub Counted : Type 0
-Counted = Bench → ScheduleRow → ℕ
+abbrev pub RowCount : Type 0
+RowCount = Bench → ScheduleRow → ℕ
 
 -- that summed over rows
-unfoldable pub overRows : Counted → Bench → List ScheduleRow → ℕ
+unfoldable pub overRows : RowCount → Bench → List ScheduleRow → ℕ
 overRows f p [] = 0
 overRows f p (r ∷ rows) = f p r + overRows f (rowLeft p r) rows
 
@@ -29,11 +29,11 @@ onceIf holds = pick holds 1 0
 -- ---- over all
 
 -- a row that is done
-unfoldable pub acceptedAt : Counted
+unfoldable pub acceptedAt : RowCount
 acceptedAt p r = onceIf (eqb (rowNumber p r) 0)
 
 -- a row that is refused
-unfoldable pub refusedAt : Counted
+unfoldable pub refusedAt : RowCount
 refusedAt p r = onceIf (not (eqb (rowNumber p r) 0))
 
 -- ---- attentions to a channel
@@ -43,11 +43,11 @@ abbrev pub isAttentionTo : Bool → ScheduleRow → Bool
 isAttentionTo second r = isAttention r && eqb (r .value) (channelNumber second)
 
 -- one that is done
-unfoldable pub attendedAt : Bool → Counted
+unfoldable pub attendedAt : Bool → RowCount
 attendedAt second p r = onceIf (isAttentionTo second r && eqb (attentionOf (p .state) (p .memory) (r .value) .number) 0)
 
 -- one that is refused
-unfoldable pub rejectedAt : Bool → Counted
+unfoldable pub rejectedAt : Bool → RowCount
 rejectedAt second p r = onceIf (isAttentionTo second r && not (eqb (attentionOf (p .state) (p .memory) (r .value) .number) 0))
 
 -- ---- done steps of a channel
@@ -80,15 +80,15 @@ unfoldable pub doneAt : (Kind → Bool) → Bool → Bench → ScheduleRow → B
 doneAt kind second p r = isStep r && isDone kind second (stepOf (p .state) (p .memory) (r .value))
 
 -- an instruction
-unfoldable pub instructionAt : Bool → Counted
+unfoldable pub instructionAt : Bool → RowCount
 instructionAt second p r = onceIf (doneAt isInstruction second p r)
 
 -- a transfer step, each half of a pair too
-unfoldable pub transferAt : Bool → Counted
+unfoldable pub transferAt : Bool → RowCount
 transferAt second p r = onceIf (doneAt isTransfer second p r)
 
 -- an external end
-unfoldable pub endAt : Bool → Counted
+unfoldable pub endAt : Bool → RowCount
 endAt second p r = onceIf (doneAt isExternal second p r)
 
 -- ---- bytes that transfer steps store
@@ -102,7 +102,7 @@ storesBy FirstStore c m = firstPlace (destination c) ∷ []
 storesBy (SecondStore byte) c m = secondPlace (destination c) ∷ []
 
 -- how many bytes a row stores that is a transfer step of this channel
-unfoldable pub storedAt : Bool → Counted
+unfoldable pub storedAt : Bool → RowCount
 storedAt second p r =
     let c = channelOf (p .state) second in
     pick (doneAt isTransfer second p r) (length (storesBy (partOf c) c (p .memory))) 0
@@ -115,5 +115,5 @@ waitsForDrq c drq =
     isRunning (c .mode) && transferring (c .psw) && (eqb (c .fields .synchronised) 1 || eqb (c .fields .synchronised) 2) && not drq
 
 -- a step row with a line number up to 15 that found this channel so, whatever becomes of the row
-unfoldable pub waitAt : Bool → Counted
+unfoldable pub waitAt : Bool → RowCount
 waitAt second p r = onceIf (isStep r && ltb (r .value) 16 && waitsForDrq (channelOf (p .state) second) (requested (r .value) second))

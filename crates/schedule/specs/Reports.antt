@@ -3,16 +3,16 @@ use mathlib.Core.{Bool.Bool, Bool.true, Bool.false, List.List, List.[], List._�
 use Prim.Native.Nat.{ℕ, _+_}
 use lib.ListN.{replicate}
 use Rattle.words.specs.Choice.{pick}
-use Rattle.schedule.specs.Counts.{Counted, overRows, acceptedAt, refusedAt, attendedAt, rejectedAt, instructionAt, transferAt, storedAt, endAt, waitAt}
+use Rattle.schedule.specs.Counts.{RowCount, overRows, acceptedAt, refusedAt, attendedAt, rejectedAt, instructionAt, transferAt, storedAt, endAt, waitAt}
 use Rattle.schedule.specs.{Rows.Bench, Rows.allKnown, Rows.rowsLeft, declared.ScheduleRow.ScheduleRow}
 
 -- what is counted of a channel, in its order: attentions done and refused, instructions, transfer steps, bytes stored, external ends, waiting rows
-abbrev pub channelCounts : Bool → List Counted
+abbrev pub channelCounts : Bool → List RowCount
 channelCounts second =
     attendedAt second ∷ rejectedAt second ∷ instructionAt second ∷ transferAt second ∷ storedAt second ∷ endAt second ∷ waitAt second ∷ []
 
 -- all that is counted: rows done and refused, then channel 1, then channel 2
-abbrev pub allCounts : List Counted
+abbrev pub allCounts : List RowCount
 allCounts = acceptedAt ∷ refusedAt ∷ channelCounts false ++ channelCounts true
 
 -- the report, sixteen words: each count over rows

@@ -97,42 +97,52 @@ cut-alike x x′ a b is known r r′ s y y′ z one e f n two all =
 -- ---- of the contract that the prover made
 
 module _ {M : Type 1} (𝓤 : URA M) (H : Heap 𝓤) (A : Atoms 𝓤) (mem : Memory → SProp 𝓤) (run : Routine → Fun 𝓤) (κs : Lfts 5) where
+  -- what the call is given, what it answers, and what it leaves of what is lent
+  abbrev Given : Type 0
+  Given = Args schedule.signature κs
+
+  abbrev Answer : Type 0
+  Answer = Res schedule.signature κs
+
+  abbrev Left : Type 0
+  Left = AtExit schedule.ended κs
+
   -- what it says of an answer and of what is lent, at exit
-  abbrev pub Said : Args schedule.signature κs → Res schedule.signature κs → AtExit schedule.ended κs → SProp 𝓤
+  abbrev pub Said : Given → Answer → Left → SProp 𝓤
   Said a r e = schedule.clauses 𝓤 H A mem run κs a .ensures tt r e
 
-  abbrev pub given : Args schedule.signature κs → Standing
-  given a = standing (now (a .0)) (buffers (now (a .1 .1 .0)) (now (a .1 .1 .1 .0))) (now (a .1 .1 .1 .1 .0))
+  abbrev pub givenTo : Given → Standing
+  givenTo a = standing (now (a .0)) (buffers (now (a .1 .1 .0)) (now (a .1 .1 .1 .0))) (now (a .1 .1 .1 .1 .0))
 
-  abbrev pub left : AtExit schedule.ended κs → Standing
-  left e = standing (now (e .0)) (buffers (now (e .1 .1 .0)) (now (e .1 .1 .1 .0))) (now (e .1 .1 .1 .1 .0))
+  abbrev pub leftBy : Left → Standing
+  leftBy e = standing (now (e .0)) (buffers (now (e .1 .1 .0)) (now (e .1 .1 .1 .0))) (now (e .1 .1 .1 .1 .0))
 
-  abbrev Met : Args schedule.signature κs → Res schedule.signature κs → AtExit schedule.ended κs → Type 0
-  Met a r e = ScheduleMet r (left e) (given a) (now (a .1 .0))
+  abbrev Met : Given → Answer → Left → Type 0
+  Met a r e = ScheduleMet r (leftBy e) (givenTo a) (now (a .1 .0))
 
   -- one outcome: two answers that meet it are the same, with all that is left
-  pub one-schedule : (a : Args schedule.signature κs) (r q : Res schedule.signature κs) (e f : AtExit schedule.ended κs)
-      → ent 𝓤 (conj 𝓤 (Said a r e) (Said a q f)) (fact 𝓤 (scheduled r (left e) ≡ scheduled q (left f)))
+  pub one-schedule : (a : Given) (r q : Answer) (e f : Left)
+      → ent 𝓤 (conj 𝓤 (Said a r e) (Said a q f)) (fact 𝓤 (scheduled r (leftBy e) ≡ scheduled q (leftBy f)))
   one-schedule a r q e f = fact-use 𝓤 (Met a r e) (conjL 𝓤 _ _) (λ m. fact-use 𝓤 (Met a q f) (conjR 𝓤 _ _) (λ n. factI 𝓤 _ _ (m .0 ∙ sym (n .0))))
 
   -- of known kinds the first two words add up to the rows given
-  pub words-add-up : (a : Args schedule.signature κs) (r : Res schedule.signature κs) (e : AtExit schedule.ended κs) → isState (given a .bytes) ≡ true → allKnown (now (a .1 .0)) ≡ true
-      → 1 < length (given a .words) → ent 𝓤 (Said a r e) (fact 𝓤 (getD (left e .words) 0 0 + getD (left e .words) 1 0 ≡ length (now (a .1 .0))))
-  words-add-up a r e is known l = fact-mono 𝓤 (Met a r e) _ (λ m. adds-up (given a) (now (a .1 .0)) is known r (left e) m l)
+  pub words-add-up : (a : Given) (r : Answer) (e : Left) → isState (givenTo a .bytes) ≡ true → allKnown (now (a .1 .0)) ≡ true
+      → 1 < length (givenTo a .words) → ent 𝓤 (Said a r e) (fact 𝓤 (getD (leftBy e .words) 0 0 + getD (leftBy e .words) 1 0 ≡ length (now (a .1 .0))))
+  words-add-up a r e is known l = fact-mono 𝓤 (Met a r e) _ (λ m. adds-up (givenTo a) (now (a .1 .0)) is known r (leftBy e) m l)
 
   -- a row alone that is refused leaves the state's bytes and both memories
-  pub refused-same : (a : Args schedule.signature κs) (r : Res schedule.signature κs) (e : AtExit schedule.ended κs) (row : ScheduleRow) → now (a .1 .0) ≡ row ∷ [] → isState (given a .bytes) ≡ true
-      → Bytes (given a .bytes) → allKnown (row ∷ []) ≡ true → ¬ (rowNumber (benchIn (given a)) row ≡ 0) → ent 𝓤 (Said a r e) (fact 𝓤 ((left e .bytes ≡ given a .bytes) × (left e .memory ≡ given a .memory)))
+  pub refused-same : (a : Given) (r : Answer) (e : Left) (row : ScheduleRow) → now (a .1 .0) ≡ row ∷ [] → isState (givenTo a .bytes) ≡ true
+      → Bytes (givenTo a .bytes) → allKnown (row ∷ []) ≡ true → ¬ (rowNumber (benchIn (givenTo a)) row ≡ 0) → ent 𝓤 (Said a r e) (fact 𝓤 ((leftBy e .bytes ≡ givenTo a .bytes) × (leftBy e .memory ≡ givenTo a .memory)))
   unfolding rowsLeft
   refused-same a r e row one is byte known refused =
-      fact-mono 𝓤 (Met a r e) _ (λ m. let k = rw one at m in same-after (given a) (row ∷ []) is known r (left e) k byte (refused-row (benchIn (given a)) row refused))
+      fact-mono 𝓤 (Met a r e) _ (λ m. let k = rw one at m in same-after (givenTo a) (row ∷ []) is known r (leftBy e) k byte (refused-row (benchIn (givenTo a)) row refused))
 
   -- a schedule cut into two calls, the second from what the first left, leaves what one call over all rows does
-  pub cut-same : (a b c : Args schedule.signature κs) (r q s : Res schedule.signature κs) (e f g : AtExit schedule.ended κs) → isState (given a .bytes) ≡ true
-      → allKnown (now (a .1 .0) ++ now (b .1 .0)) ≡ true → given b .bytes ≡ left e .bytes → given b .memory ≡ left e .memory → length (given b .words) ≡ length (given a .words)
-      → given c ≡ given a → now (c .1 .0) ≡ now (a .1 .0) ++ now (b .1 .0)
-      → ent 𝓤 (conj 𝓤 (Said a r e) (conj 𝓤 (Said b q f) (Said c s g))) (fact 𝓤 (CutAlike (left e) (left f) (left g) (length (given a .words))))
+  pub cut-same : (a b c : Given) (r q s : Answer) (e f g : Left) → isState (givenTo a .bytes) ≡ true
+      → allKnown (now (a .1 .0) ++ now (b .1 .0)) ≡ true → givenTo b .bytes ≡ leftBy e .bytes → givenTo b .memory ≡ leftBy e .memory → length (givenTo b .words) ≡ length (givenTo a .words)
+      → givenTo c ≡ givenTo a → now (c .1 .0) ≡ now (a .1 .0) ++ now (b .1 .0)
+      → ent 𝓤 (conj 𝓤 (Said a r e) (conj 𝓤 (Said b q f) (Said c s g))) (fact 𝓤 (CutAlike (leftBy e) (leftBy f) (leftBy g) (length (givenTo a .words))))
   cut-same a b c r q s e f g is known bytes memory n same rows =
       fact-use 𝓤 (Met a r e) (conjL 𝓤 _ _) (λ m. fact-use 𝓤 (Met b q f) (via 𝓤 _ (conjR 𝓤 _ _) (conjL 𝓤 _ _)) (λ k. fact-use 𝓤 (Met c s g) (via 𝓤 _ (conjR 𝓤 _ _) (conjR 𝓤 _ _))
-      (λ l. let whole : ScheduleMet s (left g) (given a) (now (a .1 .0) ++ now (b .1 .0)) = subst (λ (x : Standing). ScheduleMet s (left g) x (now (a .1 .0) ++ now (b .1 .0))) same (subst (λ (rs : List ScheduleRow). ScheduleMet s (left g) (given c) rs) rows l) in
-      factI 𝓤 _ _ (cut-alike (given a) (given b) (now (a .1 .0)) (now (b .1 .0)) is known r q s (left e) (left f) (left g) m bytes memory n k whole))))
+      (λ l. let whole : ScheduleMet s (leftBy g) (givenTo a) (now (a .1 .0) ++ now (b .1 .0)) = subst (λ (x : Standing). ScheduleMet s (leftBy g) x (now (a .1 .0) ++ now (b .1 .0))) same (subst (λ (rs : List ScheduleRow). ScheduleMet s (leftBy g) (givenTo c) rs) rows l) in
+      factI 𝓤 _ _ (cut-alike (givenTo a) (givenTo b) (now (a .1 .0)) (now (b .1 .0)) is known r q s (leftBy e) (leftBy f) (leftBy g) m bytes memory n k whole))))

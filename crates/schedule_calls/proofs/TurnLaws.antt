@@ -26,8 +26,8 @@ use Rattle.schedule.specs.Counts.{onceIf, overRows, acceptedAt, refusedAt, atte
 use Rattle.schedule.specs.{Reports.reportOf, Reports.noReport, Rows.Bench, Rows.bench, Rows.isAttention, Rows.isStep, Rows.rowNumber, Rows.rowLeft}
 use Rattle.schedule.specs.declared.ScheduleRow.{ScheduleRow}
 use Rattle.schedule_calls.specs.Turns.{Standing, standing, RowRun, attentionRow, stepRow}
-use Rattle.schedule_calls.specs.{Words.adds, Words.addedOn, Words.attentionAdds, Words.stepAdds, declared.finding.Found.Found}
-use Rattle.schedule_calls.proofs.WordLaws.{Small, plusAll, Within, adds-are}
+use Rattle.schedule_calls.specs.{Words.addedAll, Words.addedOn, Words.attentionAdds, Words.stepAdds, declared.finding.Found.Found}
+use Rattle.schedule_calls.proofs.WordLaws.{FitWords, plusAll, PlacesBelow, adds-are}
 
 plus-none : (x : ℕ) → x + 0 ≡ x
 plus-none x = omega arith
@@ -50,7 +50,7 @@ attention-adds p channel = go (eqb (attentionOf (p .state) (p .memory) channel .
     go true = simp (and-true, and-false, plus-none, none-plus)
     go false = simp (and-true, and-false, plus-none, none-plus)
 
-attention-within : (done : Bool) (channel : ℕ) → Within 16 (attentionAdds done channel)
+attention-within : (done : Bool) (channel : ℕ) → PlacesBelow 16 (attentionAdds done channel)
 attention-within true channel = (lit< tt, (lit< tt, (lit< tt, tt)))
 attention-within false channel = (lit< tt, (lit< tt, (lit< tt, tt)))
 
@@ -60,8 +60,8 @@ unfolding attentionServed
 attention-left b m channel is = rw is
 
 -- what the attention call leaves of a state's bytes is what the row leaves
-pub attention-row : (b : List ℕ) (m : Buffers) (w : List ℕ) (channel answer : ℕ) (b′ : List ℕ) (m′ : Buffers) (w′ : List ℕ) → isState b ≡ true → Bytes b → Small w
-    → served answer b′ m′ ≡ attentionServed b m channel → stateIn b′ ≡ attentionOf (stateIn b) m channel .state → w′ ≡ adds (attentionAdds (eqb (answer % 256) 0) channel) w
+pub attention-row : (b : List ℕ) (m : Buffers) (w : List ℕ) (channel answer : ℕ) (b′ : List ℕ) (m′ : Buffers) (w′ : List ℕ) → isState b ≡ true → Bytes b → FitWords w
+    → served answer b′ m′ ≡ attentionServed b m channel → stateIn b′ ≡ attentionOf (stateIn b) m channel .state → w′ ≡ addedAll (attentionAdds (eqb (answer % 256) 0) channel) w
     → RowRun (attentionRow channel) (standing b m w) (standing b′ m′ w′)
 unfolding rowLeft
 attention-row b m w channel answer b′ m′ w′ is byte small e whole counts =
@@ -72,7 +72,7 @@ attention-row b m w channel answer b′ m′ w′ is byte small e whole counts =
       bench = ap₂ bench whole (ap (λ (x : Service). x .memory) left);
       words =
           counts
-          ∙ ap (λ (n : ℕ). adds (attentionAdds (eqb n 0) channel) w) number
+          ∙ ap (λ (n : ℕ). addedAll (attentionAdds (eqb n 0) channel) w) number
           ∙ adds-are (attentionAdds (eqb (o .number) 0) channel) _ w small (attention-within (eqb (o .number) 0) channel) (attention-adds (bench (stateIn b) m) channel);
       state = record {
         is = ap (λ (x : Service). isState (x .bytes)) e ∙ attention-stays b byte m is channel;
@@ -106,7 +106,7 @@ done-so false Instruction n stored waits ne h = simp (plus-none, none-plus)
 done-so false Transfer n stored waits ne h = rw (h refl) (simp (plus-none, none-plus))
 done-so false External n stored waits ne h = simp (plus-none, none-plus)
 
-step-within : (waits₁ waits₂ done second : Bool) (kind n : ℕ) → kind < 4 → Within 16 (stepAdds waits₁ waits₂ done second kind n)
+step-within : (waits₁ waits₂ done second : Bool) (kind n : ℕ) → kind < 4 → PlacesBelow 16 (stepAdds waits₁ waits₂ done second kind n)
 step-within waits₁ waits₂ false second kind n h = (lit< tt, (lit< tt, (lit< tt, tt)))
 step-within waits₁ waits₂ true true kind n h = (lit< tt, (lit< tt, (lit< tt, (omega arith, (lit< tt, tt)))))
 step-within waits₁ waits₂ true false kind n h = (lit< tt, (lit< tt, (lit< tt, (omega arith, (lit< tt, tt)))))
@@ -201,9 +201,9 @@ pub found-of : {s : State} {m : Buffers} {lines : ℕ} {second : Bool} (c : Chan
 found-of {m = m} c f e waits reads = let h : transferring (c .psw) ≡ true → f .reads ≡ length (readsBy (partOf c) c m) = λ on. reads on m in record { waits = rw e at waits; reads = rw e at h }
 
 -- what the step call leaves of a state's bytes is what the row leaves
-pub step-row : (b : List ℕ) (m : Buffers) (w : List ℕ) (lines answer : ℕ) (b′ : List ℕ) (m′ : Buffers) (w′ : List ℕ) (f g : Found) → isState b ≡ true → Bytes b → AllBytes m → Small w
+pub step-row : (b : List ℕ) (m : Buffers) (w : List ℕ) (lines answer : ℕ) (b′ : List ℕ) (m′ : Buffers) (w′ : List ℕ) (f g : Found) → isState b ≡ true → Bytes b → AllBytes m → FitWords w
     → served answer b′ m′ ≡ stepServed b m lines → stateIn b′ ≡ stepOf (stateIn b) m lines .state → FoundOf (stateIn b) m lines false f → FoundOf (stateIn b) m lines true g
-    → w′ ≡ adds (stepAdds (f .waits) (g .waits) (eqb (answer % 256) 0) (eqb (answer / 256 % 4) 2) (answer / 1024 % 4) (answer / 4096 - pick (eqb (answer / 256 % 4) 2) (g .reads) (f .reads))) w
+    → w′ ≡ addedAll (stepAdds (f .waits) (g .waits) (eqb (answer % 256) 0) (eqb (answer / 256 % 4) 2) (answer / 1024 % 4) (answer / 4096 - pick (eqb (answer / 256 % 4) 2) (g .reads) (f .reads))) w
     → RowRun (stepRow lines) (standing b m w) (standing b′ m′ w′)
 unfolding rowLeft
 step-row b m w lines answer b′ m′ w′ f g is byte all small e whole one two counts =

@@ -5,7 +5,7 @@ use lib.ListN.{length, getD, set, replicate, length-set}
 use mathlib.Core.{List.List, List.[], List._∷_, Path._≡_, Path.refl, Path.ap₂, Path.ap, Path.sym, Path._∙_, Path.subst}
 use native.Mathlib.{Numerals.add-one, Omega.arith}
 use Rattle.schedule.specs.Reports.{noReport, putOver}
-use Rattle.schedule_calls.specs.Words.{addedAt, adds, addedOn}
+use Rattle.schedule_calls.specs.Words.{addedAt, addedAll, addedOn}
 
 -- ---- cleared
 
@@ -36,17 +36,17 @@ set-beyond (x ∷ xs) (suc at) v h = ap (λ (l : List ℕ). x ∷ l) (set-beyond
 -- ---- added to
 
 -- words as they lie in lent memory
-abbrev pub Small : List ℕ → Type 0
-Small xs = (i : ℕ) → getD xs i 0 < 2 ^ 64
+abbrev pub FitWords : List ℕ → Type 0
+FitWords xs = (i : ℕ) → getD xs i 0 < 2 ^ 64
 
 -- nothing added at a place, or at each, leaves them
-pub none-at : (at : ℕ) (xs : List ℕ) → Small xs → addedAt at 0 xs ≡ xs
+pub none-at : (at : ℕ) (xs : List ℕ) → FitWords xs → addedAt at 0 xs ≡ xs
 unfolding addedAt
 none-at at [] h = refl
 none-at zero (x ∷ xs) h = let l = h 0 in ap (λ (n : ℕ). n ∷ xs) (omega arith)
 none-at (suc at) (x ∷ xs) h = ap (λ (l : List ℕ). x ∷ l) (none-at at xs (λ i. h (suc i)))
 
-none-on : (n : ℕ) (xs : List ℕ) → Small xs → xs ≡ addedOn (replicate n 0) xs
+none-on : (n : ℕ) (xs : List ℕ) → FitWords xs → xs ≡ addedOn (replicate n 0) xs
 unfolding addedOn
 none-on zero xs h = refl
 none-on (suc n) [] h = refl
@@ -60,9 +60,9 @@ abbrev pub plusAll : List (ℕ × ℕ) → List ℕ → List ℕ
 plusAll [] ws = ws
 plusAll (p ∷ ps) ws = plusAll ps (plusAt (p .0) (p .1) ws)
 
-abbrev pub Within : ℕ → List (ℕ × ℕ) → Type 0
-Within n [] = Unit {0}
-Within n (p ∷ ps) = (p .0 < n) × Within n ps
+abbrev pub PlacesBelow : ℕ → List (ℕ × ℕ) → Type 0
+PlacesBelow n [] = Unit {0}
+PlacesBelow n (p ∷ ps) = (p .0 < n) × PlacesBelow n ps
 
 -- added to words after a report they are added to the report
 one-on : (at by : ℕ) (ws xs : List ℕ) → at < length ws → addedAt at by (addedOn ws xs) ≡ addedOn (plusAt at by ws) xs
@@ -73,13 +73,13 @@ one-on zero by (w ∷ ws) (x ∷ xs) h = ap (λ (n : ℕ). n ∷ addedOn ws xs) 
 one-on (suc at) by (w ∷ ws) [] h = refl
 one-on (suc at) by (w ∷ ws) (x ∷ xs) h = ap (λ (l : List ℕ). ((x + w) % 2 ^ 64) ∷ l) (one-on at by ws xs (omega arith))
 
-all-on : (ps : List (ℕ × ℕ)) (ws xs : List ℕ) → Within (length ws) ps → adds ps (addedOn ws xs) ≡ addedOn (plusAll ps ws) xs
-unfolding adds
+all-on : (ps : List (ℕ × ℕ)) (ws xs : List ℕ) → PlacesBelow (length ws) ps → addedAll ps (addedOn ws xs) ≡ addedOn (plusAll ps ws) xs
+unfolding addedAll
 all-on [] ws xs h = refl
 all-on (p ∷ ps) ws xs h =
-    ap (adds ps) (one-on (p .0) (p .1) ws xs (h .0))
-    ∙ all-on ps (plusAt (p .0) (p .1) ws) xs (subst (λ (n : ℕ). Within n ps) (sym (length-set ws (p .0) (getD ws (p .0) 0 + p .1))) (h .1))
+    ap (addedAll ps) (one-on (p .0) (p .1) ws xs (h .0))
+    ∙ all-on ps (plusAt (p .0) (p .1) ws) xs (subst (λ (n : ℕ). PlacesBelow n ps) (sym (length-set ws (p .0) (getD ws (p .0) 0 + p .1))) (h .1))
 
 -- so numbers added one after the other are one report added
-pub adds-are : (ps : List (ℕ × ℕ)) (ws xs : List ℕ) → Small xs → Within 16 ps → plusAll ps noReport ≡ ws → adds ps xs ≡ addedOn ws xs
-adds-are ps ws xs small h e = ap (adds ps) (none-on 16 xs small) ∙ all-on ps noReport xs h ∙ ap (λ (l : List ℕ). addedOn l xs) e
+pub adds-are : (ps : List (ℕ × ℕ)) (ws xs : List ℕ) → FitWords xs → PlacesBelow 16 ps → plusAll ps noReport ≡ ws → addedAll ps xs ≡ addedOn ws xs
+adds-are ps ws xs small h e = ap (addedAll ps) (none-on 16 xs small) ∙ all-on ps noReport xs h ∙ ap (λ (l : List ℕ). addedOn l xs) e

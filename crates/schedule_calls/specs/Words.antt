@@ -10,9 +10,9 @@ unfoldable pub addedAt : ℕ → ℕ → List ℕ → List ℕ
 addedAt at by xs = set xs at ((getD xs at 0 + by) % 2 ^ 64)
 
 -- such numbers at their places, one after the other
-unfoldable pub adds : List (ℕ × ℕ) → List ℕ → List ℕ
-adds [] xs = xs
-adds (p ∷ ps) xs = adds ps (addedAt (p .0) (p .1) xs)
+unfoldable pub addedAll : List (ℕ × ℕ) → List ℕ → List ℕ
+addedAll [] xs = xs
+addedAll (p ∷ ps) xs = addedAll ps (addedAt (p .0) (p .1) xs)
 
 -- a report added to lent words, word by word, as far as both go
 unfoldable pub addedOn : List ℕ → List ℕ → List ℕ

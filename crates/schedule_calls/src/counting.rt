@@ -5,7 +5,7 @@ ghost use Prim.Native.Nat.{_-_, _/_, _%_, _≤_};
 ghost use lib.{Dec.eqb, ListN.set};
 ghost use Rattle.words.specs.Choice.{pick};
 ghost use Rattle.schedule.specs.Reports.{noReport, putOver};
-ghost use Rattle.schedule_calls.specs.Words.{addedAt, adds, attentionAdds, stepAdds};
+ghost use Rattle.schedule_calls.specs.Words.{addedAt, addedAll, attentionAdds, stepAdds};
 
 // Clears one word.
 fn clear_word(report: &mut [u64], at: usize)
@@ -50,7 +50,7 @@ fn place(test: bool, a: usize, b: usize) -> usize
 
 // Counts an attention, done or refused.
 pub(crate) fn attention(report: &mut [u64], done: bool, channel: u32)
-    ensures { λ r. ⌜ now (report .exit) ≡ adds (attentionAdds done channel) (now (report .entry)) ⌝ }
+    ensures { λ r. ⌜ now (report .exit) ≡ addedAll (attentionAdds done channel) (now (report .entry)) ⌝ }
 {
     let at = place(done, 0, 1);
     add(report, true, at, 1);
@@ -77,7 +77,7 @@ fn stored(touched: u32, read: u32) -> u64
 
 // Counts a step by what it found of each channel and by its answer.
 pub(crate) fn step(report: &mut [u64], first: Found, second: Found, answer: u32)
-    ensures { λ r. ⌜ now (report .exit) ≡ adds (stepAdds (first .waits) (second .waits) (eqb (answer % 256) 0) (eqb (answer / 256 % 4) 2) (answer / 1024 % 4) (answer / 4096 - pick (eqb (answer / 256 % 4) 2) (second .reads) (first .reads))) (now (report .entry)) ⌝ }
+    ensures { λ r. ⌜ now (report .exit) ≡ addedAll (stepAdds (first .waits) (second .waits) (eqb (answer % 256) 0) (eqb (answer / 256 % 4) 2) (answer / 1024 % 4) (answer / 4096 - pick (eqb (answer / 256 % 4) 2) (second .reads) (first .reads))) (now (report .entry)) ⌝ }
 {
     add(report, first.waits, 8, 1);
     add(report, second.waits, 15, 1);

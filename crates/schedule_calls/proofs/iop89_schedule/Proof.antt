@@ -41,7 +41,7 @@ use Rattle.schedule.proofs.ScheduleRow as R
 use Rattle.schedule.proofs.ScheduleRow.Laws as R′
 use Rattle.schedule_calls.specs.{Calls.ScheduleMet, Turns.Standing, Turns.standing, Turns.Turned}
 use Rattle.schedule_calls.proofs.Again.{LentAgain, lends-again, comes-back}
-use Rattle.schedule_calls.proofs.RunLaws.{noRow, Back, Along, along-start, along-ready, along-next, along-end, lt-or-ge}
+use Rattle.schedule_calls.proofs.RunLaws.{noRow, mostRows, Back, Along, along-start, along-ready, along-next, along-end, lt-or-ge}
 use Rattle.schedule_calls.proofs.known as known
 use Rattle.schedule_calls.proofs.known.Symbol as known-def
 use Rattle.schedule_calls.proofs.known.Symbol.{name as #known}
@@ -149,7 +149,7 @@ module _ {M : Type 1} (𝓤 : URA M) (H : Heap 𝓤) (A : Atoms 𝓤) (W : Given
   abbrev elem : ℕ → ScheduleRow
   elem i = getD ys i noRow
 
-  few : n ≤ 1152921504606846976
+  few : n ≤ mostRows
   few = omega (arith, g₁ .1)
 
   -- lists of one length have the same room

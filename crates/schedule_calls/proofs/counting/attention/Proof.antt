@@ -1,12 +1,12 @@
 -- `schedule_calls::counting::attention` meets its contract.
 -- Assumes nothing.
 use borrow.Author.Needs.{needs}
-use Rattle.schedule_calls.specs.Words.{adds}
+use Rattle.schedule_calls.specs.Words.{addedAll}
 use Rattle.schedule_calls.proofs.counting.attention.Statement.{statement}
 use Rattle.schedule_calls.proofs.counting.attention.Tie as tie
 
 returns : tie.Need-returns
-unfolding adds
+unfolding addedAll
 returns c =
     let d = c .before .before .before .before .before .before in
     rw (c .before .before .add3 .ensures, d .add2 .ensures, d .before .before .before .before .add .ensures, d .before .before .before .before .before .before .place .ensures .0)

@@ -1,18 +1,18 @@
 -- `schedule_calls::counting::step` meets its contract.
 -- Assumes nothing.
 use borrow.Author.{Needs.needs, Tests.eq-eqb, Tests.ne-eqb}
-use Rattle.schedule_calls.specs.Words.{adds}
+use Rattle.schedule_calls.specs.Words.{addedAll}
 use Rattle.schedule_calls.proofs.counting.step.Statement.{statement}
 use Rattle.schedule_calls.proofs.counting.step.Tie as tie
 
 returns : tie.Need-returns
-unfolding adds
+unfolding addedAll
 returns c =
     let d = c .before .before .before .before .before .before .before in
     rw (ne-eqb _ 0 (c .before .before .before .before .if1 .taken), c .before .before .add3 .ensures, d .add2 .ensures, d .before .before .before .before .add .ensures)
 
 returns-2 : tie.Need-returns-2
-unfolding adds
+unfolding addedAll
 returns-2 c =
     let d = c .before .before .before .before .before .before .before .before in
     let e = d .before .before .before .before .before .before in
