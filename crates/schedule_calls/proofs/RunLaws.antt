@@ -112,8 +112,8 @@ module _ (x : Standing) (rows : List ScheduleRow) (number : ℕ) where
   unfolding scheduleServed scheduleOf
   run-end y h is known = (
     rw (is, known)
-    (ap (λ (b : List ℕ). scheduled 0 (standing b (y .memory) (y .words))) (sym (h .state .back))
-    ∙ ap₂ (λ (q : Bench) (ws : List ℕ). scheduled 0 (standing (bytesOf (q .state)) (q .memory) ws)) (h .bench) (h .words)),
+        (ap (λ (b : List ℕ). scheduled 0 (standing b (y .memory) (y .words))) (sym (h .state .back))
+        ∙ ap₂ (λ (q : Bench) (ws : List ℕ). scheduled 0 (standing (bytesOf (q .state)) (q .memory) ws)) (h .bench) (h .words)),
     λ st. (h .state .is, rw known (ap (λ (q : Bench). q .state) (h .bench))),
   )
 
