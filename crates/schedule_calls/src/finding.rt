@@ -1,4 +1,5 @@
 // What a row finds of a channel before its step: whether it waits, and what its next transfer step would read.
+use crate::counting;
 use machine::Channel;
 ghost use mathlib.Core.{Bool.true, Bool._&&_, Path._≡_};
 ghost use lib.{Dec.ltb, ListN.length};
@@ -12,17 +13,6 @@ ghost use Rattle.schedule.specs.Counts.{waitsForDrq};
 pub(crate) struct Found {
     pub(crate) waits: bool,
     pub(crate) reads: u32,
-}
-
-// Whether a channel's DRQ is up.
-fn request(lines: u32, second: bool) -> bool
-    ensures { λ r. ⌜ r ≡ requested lines second ⌝ }
-{
-    if second {
-        words::bit(lines, 1)
-    } else {
-        words::bit(lines, 0)
-    }
 }
 
 // What a step row with these lines finds of a channel; what is read only where XF is set.
@@ -45,8 +35,9 @@ pub(crate) fn find(c: Channel, lines: u32, second: bool) -> Found
         };
     }
     let mode = c.mode;
+    let drq = words::bit(lines, counting::chosen(second, 1, 0));
     Found {
-        waits: (lines < 16) & machine::states::is_running(mode) & !request(lines, second),
+        waits: (lines < 16) & machine::states::is_running(mode) & !drq,
         reads,
     }
 }

@@ -10,23 +10,36 @@ returns : tie.Need-returns
 returns c = record { runs = λ z. absurd (c .if1 .taken z); stays = λ ne. refl }
 
 attend-requires : tie.Need-attend-requires
-attend-requires c κs = c .before .before .before .before .before .before .before .before .before .before .before .pre .state (c .before .before .before .before .before .before .if1 .left)
+attend-requires c κs =
+    let d = c .before .before .before .before .before .before in
+    d .before .before .before .before .before .pre .state (d .if1 .left)
 
 step-requires : tie.Need-step-requires
-step-requires c κs = c .before .before .before .before .before .before .before .before .before .before .before .pre .state (c .before .before .before .before .before .before .if1 .left)
+step-requires c κs =
+    let d = c .before .before .before .before .before .before in
+    d .before .before .before .before .before .pre .state (d .if1 .left)
 
 returns-2 : tie.Need-returns-2
 returns-2 c =
-    let a = c .before .before .before .before .before .before .before .before .before .before .before .before .before .before .before .before .before .before .before .before .args in
-    let e = row-attends (a .row) (c .before .before .before .before .before .before .before .before .before .before .before .before .before .if2 .taken) in
-    record { runs = λ z. run-as (attentionRow (a .row .value)) (a .row) e (c .before .before .before .before .before .before .before .before .attend .ensures); stays = λ ne. absurd (ne (c .before .before .before .before .before .before .before .before .before .before .before .before .before .before .before .if1 .left)) }
+    let d = c .before .before .before .before .before .before .before .before in
+    let e = d .before .before .before .before .before in
+    let a = e .before .before .before .before .before .before .before .args in
+    record {
+      runs = λ z. run-as (attentionRow (a .row .value)) (a .row) (row-attends (a .row) (e .if2 .taken)) (d .attend .ensures);
+      stays = λ ne. absurd (ne (e .before .before .if1 .left));
+    }
 
 returns-3 : tie.Need-returns-3
 returns-3 c =
-    let a = c .before .before .before .before .before .before .before .before .before .before .before .before .before .before .before .before .before .before .before .before .args in
-    let zero = c .before .before .before .before .before .before .before .before .before .before .before .before .before .before .before .if1 .left in
-    let e = row-steps (a .row) (c .before .before .before .before .before .before .before .before .before .before .before .before .before .before .before .before .before .before .before .before .pre .known zero) (c .before .before .before .before .before .before .before .before .before .before .before .before .before .if2 .left) in
-    record { runs = λ z. run-as (stepRow (a .row .value)) (a .row) e (c .before .before .before .before .before .before .before .before .step .ensures); stays = λ ne. absurd (ne zero) }
+    let d = c .before .before .before .before .before .before .before .before in
+    let e = d .before .before .before .before .before in
+    let a = e .before .before .before .before .before .before .before .args in
+    let zero = e .before .before .if1 .left in
+    let known = e .before .before .before .before .before .before .before .pre .known zero in
+    record {
+      runs = λ z. run-as (stepRow (a .row .value)) (a .row) (row-steps (a .row) known (e .if2 .left)) (d .step .ensures);
+      stays = λ ne. absurd (ne zero);
+    }
 
 pub turn-spec : {M : Type 1} → statement M
 turn-spec =

@@ -4,6 +4,7 @@ use borrow.Author.{Needs.needs, Tests.not-true, Tests.not-false}
 use lib.Dec.{eqb}
 use mathlib.Core.{Bool._||_, Bool.and-assoc, Path.sym, Path._∙_}
 use Rattle.words.proofs.ChoiceLaws.{apart, and-true, and-false}
+use Rattle.step.specs.Choosing.{requested}
 use Rattle.schedule.specs.Counts.{waitsForDrq}
 use Rattle.schedule_calls.proofs.finding.find.Statement.{statement}
 use Rattle.schedule_calls.proofs.finding.find.Tie as tie
@@ -21,12 +22,13 @@ returns-2 c =
     (rw (not-true (eqb x 1 || eqb x 2) (c .if2 .taken)) (simp and-false), λ on. c .before .before .before .before .bytes-read .ensures)
 
 returns-3 : tie.Need-returns-3
-unfolding waitsForDrq
+unfolding waitsForDrq requested
 returns-3 c =
-    let d = c .before .before .before .before .before .before in
+    let d = c .before .before .before .before .before .before .before in
     let x = d .before .before .before .args .c .fields .synchronised in
     let on = sym (d .before .before .transferring .ensures) ∙ not-false _ (d .before .if1 .left) in
-    (rw (on, not-false (eqb x 1 || eqb x 2) (c .before .before .if2 .left), c .before .is-running .ensures, c .request .ensures) (simp (and-true, and-assoc)), λ x. d .bytes-read .ensures)
+    let sync = not-false (eqb x 1 || eqb x 2) (c .before .before .before .if2 .left) in
+    (rw (on, sync, c .is-running .ensures, c .before .bit .ensures, c .before .before .chosen .ensures) (simp (and-true, and-assoc)), λ x. d .bytes-read .ensures)
 
 pub find-spec : {M : Type 1} → statement M
-find-spec = tie.close (tie.spec (λ c κs. search needs) returns (λ c κs. search needs) returns-2 (λ c κs. search needs) (λ c κs. search needs) returns-3)
+find-spec = tie.close (tie.spec (λ c κs. search needs) returns (λ c κs. search needs) returns-2 (λ c κs. search needs) (λ c κs. search needs) (λ c κs. search needs) returns-3)
