@@ -1,0 +1,4 @@
+pub mod Processors
+pub mod Lifting
+pub mod Calls
+pub mod Lifts
