@@ -17,7 +17,7 @@ fn clear_word(report: &mut [u64], at: usize)
 }
 
 // Clears as many of the sixteen words as are lent.
-pub(crate) fn clear(report: &mut [u64])
+pub fn clear(report: &mut [u64])
     ensures { λ r. ⌜ now (report .exit) ≡ putOver noReport (now (report .entry)) ⌝ }
 {
     let mut i: usize = 0;

@@ -9,7 +9,7 @@ ghost use Rattle.schedule_calls.specs.Calls.{ScheduleMet};
 ghost use Rattle.schedule_calls.specs.Turns.{standing, StateBytes, RowRun, TurnReady, Turned, attentionRow, stepRow};
 
 // The words of a report.
-mod counting;
+pub mod counting;
 // What a row finds of a channel before its step.
 mod finding;
 

@@ -65,7 +65,7 @@ done-low steps count = omega arith
 
 module _ (b : List ℕ) (byte : Bytes b) (m : Buffers) where
   -- an answer whose number is not 0 comes with the bytes and memories that were given
-  pub Kept : Service → Type 0
+  unfoldable pub Kept : Service → Type 0
   Kept o = ¬ (o .answer % 256 ≡ 0) → (o .bytes ≡ b) × (o .memory ≡ m)
 
   kept : (ok : Bool) (number channel kind count : ℕ) (bytes : List ℕ) (m′ : Buffers) → number ≤ 14

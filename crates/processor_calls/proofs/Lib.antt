@@ -1,0 +1,5 @@
+mod NamedLaws
+mod Passing
+mod ContractLaws
+pub mod Theorems
+pub mod Passed

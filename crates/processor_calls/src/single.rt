@@ -1,0 +1,80 @@
+// The calls on one processor, passed on as they are, so that one object exports every call and has the machine's code once.
+use schedule::ScheduleRow;
+ghost use mathlib.Core.Path.{_≡_};
+ghost use Rattle.memory.specs.Buffers.{buffers};
+ghost use Rattle.service.specs.Calls.{made, served, freshMade, resetMade, powerServed, attentionServed, stepServed, sweepServed};
+ghost use Rattle.schedule_calls.specs.Calls.{scheduled, scheduleServed};
+ghost use Rattle.schedule_calls.specs.Turns.{standing};
+
+// Makes a fresh state of a CP.
+#[no_mangle]
+pub extern "C" fn iop89_fresh(state: &mut [u8], cp: u32) -> u32
+    ensures { λ r. ⌜ made r (now (state .exit)) ≡ freshMade (now (state .entry)) cp ⌝ }
+{
+    service::iop89_fresh(state, cp)
+}
+
+// Makes the state after reset.
+#[no_mangle]
+pub extern "C" fn iop89_reset(state: &mut [u8]) -> u32
+    ensures { λ r. ⌜ made r (now (state .exit)) ≡ resetMade (now (state .entry)) ⌝ }
+{
+    service::iop89_reset(state)
+}
+
+// Powers the machine up.
+#[no_mangle]
+pub extern "C" fn iop89_power_up(state: &mut [u8], sys: &mut [u8], io: &mut [u8]) -> u32
+    ensures { λ r. ⌜ served r (now (state .exit)) (buffers (now (sys .exit)) (now (io .exit))) ≡ powerServed (now (state .entry)) (buffers (now (sys .entry)) (now (io .entry))) ⌝ }
+{
+    service::iop89_power_up(state, sys, io)
+}
+
+// Gives a channel attention.
+#[no_mangle]
+pub extern "C" fn iop89_attention(
+    state: &mut [u8],
+    sys: &mut [u8],
+    io: &mut [u8],
+    channel: u32,
+) -> u32
+    ensures { λ r. ⌜ served r (now (state .exit)) (buffers (now (sys .exit)) (now (io .exit))) ≡ attentionServed (now (state .entry)) (buffers (now (sys .entry)) (now (io .entry))) channel ⌝ }
+{
+    service::iop89_attention(state, sys, io, channel)
+}
+
+// Does one step of the machine.
+#[no_mangle]
+pub extern "C" fn iop89_step(state: &mut [u8], sys: &mut [u8], io: &mut [u8], lines: u32) -> u32
+    ensures { λ r. ⌜ served r (now (state .exit)) (buffers (now (sys .exit)) (now (io .exit))) ≡ stepServed (now (state .entry)) (buffers (now (sys .entry)) (now (io .entry))) lines ⌝ }
+{
+    service::iop89_step(state, sys, io, lines)
+}
+
+// Moves all bytes that a channel's block transfer has left.
+#[no_mangle]
+pub extern "C" fn iop89_sweep(
+    state: &mut [u8],
+    sys: &mut [u8],
+    io: &mut [u8],
+    channel: u32,
+    lines: u32,
+) -> u64
+    ensures { λ r. ⌜ served r (now (state .exit)) (buffers (now (sys .exit)) (now (io .exit))) ≡ sweepServed (now (state .entry)) (buffers (now (sys .entry)) (now (io .entry))) channel lines ⌝ }
+{
+    service::iop89_sweep(state, sys, io, channel, lines)
+}
+
+// Runs the rows of a schedule.
+#[no_mangle]
+pub extern "C" fn iop89_schedule(
+    state: &mut [u8],
+    rows: &[ScheduleRow],
+    sys: &mut [u8],
+    io: &mut [u8],
+    report: &mut [u64],
+) -> u32
+    ensures { λ r. ⌜ scheduled r (standing (now (state .exit)) (buffers (now (sys .exit)) (now (io .exit))) (now (report .exit))) ≡ scheduleServed (standing (now (state .entry)) (buffers (now (sys .entry)) (now (io .entry))) (now (report .entry))) (now (rows .entry)) ⌝ }
+{
+    schedule_calls::iop89_schedule(state, rows, sys, io, report)
+}
