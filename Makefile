@@ -217,8 +217,9 @@ build/bench: host/bench.c host/emulator.h host/sweep_case.h include/iop89.h incl
 # The proved calls as a second archive; both link into one program.
 service-lib: $(SERVICE_LIB)
 
-# Each crate's archive has the functions that it exports, and all else in it is local, so they join into one.
-SERVICE_CRATES = service schedule_calls board prom lister
+# Each crate's archive has the functions that it exports, and all else in it is local, so they join into one. The calls of
+# service and schedule_calls are passed on by processor_calls, so that their code stands in it once.
+SERVICE_CRATES = processor_calls board prom lister
 
 $(SERVICE_LIB): $(SERVICE_CRATES:%=build/%.sums)
 	@for crate in $(SERVICE_CRATES); do tools/prove staticlib $$crate || exit $$?; done
