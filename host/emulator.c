@@ -1827,6 +1827,74 @@ unsigned emu_schedule(struct emu_state *state, struct emu_memory *memory, const 
     return EMU_DONE;
 }
 
+/* ---- Two processors on one board ---- */
+
+/* Whether a board has a processor of this number. */
+static bool is_processor(uint32_t processor)
+{
+    return processor == 1 || processor == 2;
+}
+
+/* The registers of a processor. */
+static struct emu_state *registers_of(struct emu_processors *board, uint32_t processor)
+{
+    return &board->state[processor - 1];
+}
+
+/* What a processor sees: the board's system memory, and its own ports. */
+static struct emu_memory seen_by(const struct emu_processors *board, uint32_t processor)
+{
+    struct emu_memory memory = {board->sys, board->sys_len, board->io[processor - 1], board->io_len[processor - 1]};
+    return memory;
+}
+
+struct emu_answer emu_attention_of(struct emu_processors *board, uint32_t processor, uint32_t channel)
+{
+    if (!is_processor(processor)) return refused_by(EMU_BAD_ARGUMENT);
+    struct emu_memory memory = seen_by(board, processor);
+    return emu_attention(registers_of(board, processor), &memory, channel);
+}
+
+struct emu_stepped emu_step_of(struct emu_processors *board, uint32_t processor, uint32_t lines)
+{
+    struct emu_stepped refused = {EMU_BAD_ARGUMENT, 0, 0, 0};
+    if (!is_processor(processor)) return refused;
+    struct emu_memory memory = seen_by(board, processor);
+    return emu_step(registers_of(board, processor), &memory, lines);
+}
+
+struct emu_answer emu_power_up_of(struct emu_processors *board, uint32_t processor)
+{
+    if (!is_processor(processor)) return refused_by(EMU_BAD_ARGUMENT);
+    struct emu_memory memory = seen_by(board, processor);
+    return emu_power_up(registers_of(board, processor), &memory);
+}
+
+struct emu_answer emu_reset_of(struct emu_processors *board, uint32_t processor)
+{
+    struct emu_answer done = {EMU_DONE, 0};
+    if (!is_processor(processor)) return refused_by(EMU_BAD_ARGUMENT);
+    emu_reset(registers_of(board, processor));
+    return done;
+}
+
+struct emu_swept emu_sweep_of(struct emu_processors *board, uint32_t processor, uint32_t channel, uint32_t lines)
+{
+    struct emu_swept refused = {EMU_BAD_ARGUMENT, 0, 0};
+    if (!is_processor(processor)) return refused;
+    struct emu_memory memory = seen_by(board, processor);
+    return emu_sweep(registers_of(board, processor), &memory, channel, lines);
+}
+
+unsigned emu_schedule_of(struct emu_processors *board, uint32_t processor, const struct emu_row *rows, size_t count,
+                         struct emu_report *report)
+{
+    memset(report, 0, sizeof *report);
+    if (!is_processor(processor)) return EMU_BAD_ARGUMENT;
+    struct emu_memory memory = seen_by(board, processor);
+    return emu_schedule(registers_of(board, processor), &memory, rows, count, report);
+}
+
 /* ---- The panel's side ---- */
 
 /* The panel's answer. */

@@ -145,6 +145,15 @@ struct emu_report {
     struct emu_tally channel[2];
 };
 
+/* Two processors on one board: the state and the I/O memory of each, and the system memory that they share. */
+struct emu_processors {
+    struct emu_state state[2];
+    uint8_t *sys;
+    size_t sys_len;
+    uint8_t *io[2];
+    size_t io_len[2];
+};
+
 /* What bars a sweep: the lines, the two channels, the fields of CC in the paper's order, the two ranges. */
 enum emu_bar {
     EMU_BAR_EXT,
@@ -334,6 +343,16 @@ unsigned emu_schedule(struct emu_state *state, struct emu_memory *memory, const 
 
 /* Whether a step under these lines finds a channel, 1 or 2, waiting for its request. */
 bool emu_waits(const struct emu_state *state, unsigned channel, uint32_t lines);
+
+/* The same calls on one of two processors, 1 or 2; any other is refused by 12 before all else, and changes nothing but a
+ * report, which then counts nothing. */
+struct emu_answer emu_attention_of(struct emu_processors *board, uint32_t processor, uint32_t channel);
+struct emu_stepped emu_step_of(struct emu_processors *board, uint32_t processor, uint32_t lines);
+struct emu_answer emu_power_up_of(struct emu_processors *board, uint32_t processor);
+struct emu_answer emu_reset_of(struct emu_processors *board, uint32_t processor);
+struct emu_swept emu_sweep_of(struct emu_processors *board, uint32_t processor, uint32_t channel, uint32_t lines);
+unsigned emu_schedule_of(struct emu_processors *board, uint32_t processor, const struct emu_row *rows, size_t count,
+                         struct emu_report *report);
 
 /* The panel's call: fresh state, one attention, steps; answers number x 65,536 + steps done. */
 uint32_t emu_run(struct emu_memory *memory, uint32_t cp, uint32_t channel, uint32_t lines, uint32_t limit);

@@ -5048,6 +5048,204 @@ static void test_schedule_cut(void)
     CHECK(unlike == 0);
 }
 
+/* ---- Two processors on one board ---- */
+
+/* The rig's state and I/O memory as processor 1, and a second one that is as the first, with 3Ch in its own I/O memory. */
+static struct emu_processors two;
+static uint8_t io_2[EMU_IO_LIMIT];
+
+/* Puts the rig as it is on a board, a processor beside it. */
+static void put_on_board(void)
+{
+    memset(io_2, 0x3C, sizeof io_2);
+    two = (struct emu_processors){{now.s, now.s}, now.sys, now.m.sys_len, {now.io, io_2}, {now.m.io_len, EMU_IO_LIMIT}};
+}
+
+/* Whether a processor is as it was on another board. */
+static bool same_processor(const struct emu_processors *given, unsigned index)
+{
+    return emu_same_state(&two.state[index], &given->state[index]);
+}
+
+/* Every call with this processor, its number, and zeros in a schedule's report; how many answer otherwise. */
+static unsigned calls_refused(uint32_t processor, unsigned number)
+{
+    static const struct emu_row rows[] = {{EMU_ROW_STEP, 0}, {EMU_ROW_ATTENTION, 1}};
+    struct emu_report report;
+    memset(&report, 0xEE, sizeof report);
+    struct emu_stepped stepped = emu_step_of(&two, processor, 16);
+    struct emu_swept swept_by = emu_sweep_of(&two, processor, 3, 16);
+    struct emu_answer attended = emu_attention_of(&two, processor, 3), powered = emu_power_up_of(&two, processor);
+    struct emu_answer after_reset = emu_reset_of(&two, processor);
+    unsigned otherwise = stepped.number != number || stepped.kind != 0 || stepped.channel != 0 || stepped.count != 0;
+    otherwise += swept_by.number != number || swept_by.steps != 0 || swept_by.count != 0;
+    otherwise += attended.number != number || attended.count != 0;
+    otherwise += powered.number != number || powered.count != 0;
+    otherwise += after_reset.number != number || after_reset.count != 0;
+    otherwise += emu_schedule_of(&two, processor, rows, 2, &report) != number;
+    return otherwise + !same_report(&report, &REPORT(0, 0, {{0}, {0}}));
+}
+
+/* 12 for a processor that is neither 1 nor 2, before all else and also for reset. */
+static void test_processors_number(void)
+{
+    static const uint32_t none[] = {0, 3, 4, 255, 256, 257, 258, 65537, 65538, 0x80000001, 0xFFFFFFFF};
+    for (unsigned i = 0; i < sizeof none / sizeof none[0]; i++) {
+        transfer(0, 0xC008, 4);
+        put_on_board();
+        if (i % 2 == 1) {
+            two.sys_len = MIB + 1;
+            two.state[0].cp = 0x100000;
+            two.state[1].powered = false;
+        }
+        struct emu_processors given = two;
+        want_same();
+        CHECK(calls_refused(none[i], EMU_BAD_ARGUMENT) == 0);
+        CHECK(same_processor(&given, 0) && same_processor(&given, 1));
+        check_all(__LINE__);
+    }
+}
+
+/* A done step of one leaves the other's registers, the mark of the last channel among them, and its I/O memory. */
+static void test_processors_apart(void)
+{
+    for (uint32_t processor = 1; processor <= 2; processor++) {
+        reset();
+        sys(0x100, "0A 4C 00 77"); /* MOVBI [GA].0,77H */
+        N.ga = (struct emu_pointer){0x1234, true};
+        put_on_board();
+        struct emu_processors given = two;
+        CHECK(emu_step_of(&two, processor, 0).number == EMU_DONE);
+        CHECK(same_processor(&given, 2 - processor) && two.state[processor - 1].last == 1);
+        CHECK(two.state[processor - 1].channel[0].tp.address == 0x104);
+        CHECK(now.io[0x1234] == (processor == 1 ? 0x77 : 0x5A) && io_2[0x1234] == (processor == 2 ? 0x77 : 0x3C));
+        now.io[0x1234] = 0x5A;
+        io_2[0x1234] = 0x3C;
+        want_same();
+        memset(want.io, 0x5A, sizeof want.io);
+        CHECK(memcmp(now.io, want.io, sizeof want.io) == 0);
+        memset(want.io, 0x3C, sizeof want.io);
+        CHECK(memcmp(io_2, want.io, sizeof want.io) == 0);
+    }
+}
+
+/* 10, 11, 13 and 14 look at the one named and at system memory alone. */
+static void test_processors_refusals(void)
+{
+    static const unsigned numbers[] = {EMU_BAD_POINTER, EMU_BAD_POINTER, EMU_BAD_BUFFER, EMU_NOT_POWERED_UP,
+                                       EMU_FIELDS_DISAGREE, EMU_BAD_BUFFER};
+    for (unsigned i = 0; i < 12; i++) {
+        unsigned broken = i % 2, other = 1 - broken;
+        transfer(0, 0xC008, 4);
+        put_on_board();
+        if (i / 2 == 0) two.state[broken].cp = 0x100000;
+        if (i / 2 == 1) two.state[broken].channel[1].gc.address = 0x100000;
+        if (i / 2 == 2) two.io_len[broken] = EMU_IO_LIMIT + 1;
+        if (i / 2 == 3) two.state[broken].powered = false;
+        if (i / 2 == 4) two.state[broken].channel[1].cc ^= 1;
+        if (i / 2 == 5) two.sys_len = MIB + 1;
+        bool shared = i / 2 == 5;
+        CHECK(emu_step_of(&two, broken + 1, 0).number == numbers[i / 2]);
+        CHECK(emu_sweep_of(&two, broken + 1, 1, 0).number == numbers[i / 2]);
+        CHECK(emu_attention_of(&two, broken + 1, 1).number == numbers[i / 2]);
+        struct emu_processors given = two;
+        CHECK(emu_step_of(&two, other + 1, 0).number == (shared ? EMU_BAD_BUFFER : EMU_DONE));
+        CHECK(emu_sweep_of(&two, other + 1, 1, 0).number == (shared ? EMU_BAD_BUFFER : EMU_DONE));
+        CHECK(same_processor(&given, broken));
+    }
+}
+
+/* Each has its own power mark, and both power up from the same bytes; two control blocks come of a changed pointer. */
+static void test_processors_power_up(void)
+{
+    reset();
+    sys(0xFFFF6, "01 00 00 05 00 00");
+    sys(0x500, "02 00 00 06 00 00");
+    put_on_board();
+    struct emu_processors given = two;
+    CHECK(emu_reset_of(&two, 1).number == EMU_DONE && !two.state[0].powered && same_processor(&given, 1));
+    CHECK(emu_reset_of(&two, 2).number == EMU_DONE && !two.state[1].powered);
+    CHECK(emu_power_up_of(&two, 2).number == EMU_DONE && two.state[1].cp == 0x600 && two.state[1].powered);
+    CHECK(!two.state[0].powered && emu_step_of(&two, 1, 0).number == EMU_NOT_POWERED_UP);
+    CHECK(emu_step_of(&two, 2, 0).number == EMU_NO_CHANNEL_CAN_RUN);
+    CHECK(emu_power_up_of(&two, 1).number == EMU_DONE && two.state[0].cp == 0x600);
+    CHECK(emu_same_state(&two.state[0], &two.state[1]));
+    sys(0x502, "00 07 00 00");
+    CHECK(emu_power_up_of(&two, 1).number == EMU_DONE && two.state[0].cp == 0x700 && two.state[1].cp == 0x600);
+    CHECK(emu_power_up_of(&two, 1).count == 11);
+    two.io_len[1] = EMU_IO_LIMIT + 1;
+    CHECK(emu_power_up_of(&two, 1).number == EMU_DONE && emu_power_up_of(&two, 2).number == EMU_BAD_BUFFER);
+}
+
+/* One control block for both: each takes its own start from it, and BUSY is the one byte. What TSL finds the other left. */
+static void test_processors_shared(void)
+{
+    reset();
+    N.mode = EMU_IDLE;
+    sys(0x40, "03 00 00 05 00 00");
+    sys(0x500, "00 06 00 00");
+    sys(0x600, "1A 97 08 55 10"); /* TSL [PP].8,55H,+10H */
+    sys(0x508, "00");
+    put_on_board();
+    CHECK(emu_attention_of(&two, 1, 1).number == EMU_DONE && now.sys[0x41] == 0xFF);
+    now.sys[0x41] = 0;
+    CHECK(emu_attention_of(&two, 1, 1).number == EMU_ALREADY_RUNNING && now.sys[0x41] == 0);
+    CHECK(emu_attention_of(&two, 2, 1).number == EMU_DONE && now.sys[0x41] == 0xFF);
+    CHECK(emu_step_of(&two, 2, 0).number == EMU_DONE && now.sys[0x508] == 0x55);
+    CHECK(emu_step_of(&two, 1, 0).number == EMU_DONE && now.sys[0x508] == 0x55);
+    CHECK(two.state[0].channel[0].tp.address == 0x615 && two.state[1].channel[0].tp.address == 0x605);
+}
+
+/* A sweep asks for the other channel of its own processor; what the other processor's channels do does not matter. A
+ * schedule is its processor's too. */
+static void test_processors_sweep(void)
+{
+    static const struct emu_row rows[] = {STEP(0), STEP(0), CA(3)};
+    struct emu_report report;
+    transfer(0, 0xC008, 4);
+    put_on_board();
+    two.state[0].channel[1] = two.state[0].channel[0];
+    CHECK(emu_sweep_of(&two, 1, 1, 0).number == EMU_NOT_SWEEPABLE);
+    struct emu_processors given = two;
+    two.state[1].channel[0].gb.tag = true;
+    struct emu_swept done_by = emu_sweep_of(&two, 2, 1, 0);
+    CHECK(done_by.number == EMU_DONE && done_by.steps == 4 && done_by.count == 8 && same_processor(&given, 0));
+    CHECK(io_2[0x2000] == 0x11 && io_2[0x2003] == 0x44 && now.io[0x2000] == 0x5A && now.sys[0x2000] == 0xA5);
+    transfer(0, 0xC008, 4);
+    put_on_board();
+    given = two;
+    CHECK(emu_schedule_of(&two, 2, rows, 3, &report) == EMU_DONE && same_processor(&given, 0));
+    CHECK(same_report(&report, &REPORT(2, 1, {{0, 0, 0, 2, 2, 0, 0}, {0}})) && two.state[1].channel[0].bc == 2);
+}
+
+/* Made-up calls on made-up processors: what one does is what it does alone, and the other stays. */
+static void test_processors_alone(void)
+{
+    unsigned unlike = 0;
+    for (unsigned i = 0; i < 50000; i++) {
+        uint8_t a[256], a0[256], b[2][256], b0[2][256];
+        struct emu_processors board = {.sys = a, .sys_len = sizeof a, .io = {b[0], b[1]}};
+        for (unsigned j = 0; j < 2; j++) board.io_len[j] = made_up() % 257;
+        uint32_t processor = 1 + made_up() % 2, lines = made_up() % 17, channel = made_up() % 4;
+        for (unsigned j = 0; j < 256; j++) a[j] = (uint8_t)made_up(), b[0][j] = b[1][j] = (uint8_t)(made_up() % 4);
+        for (unsigned j = 0; j < 2; j++) {
+            emu_fresh(made_up() % 200, &board.state[j]);
+            made_up_channel(&board.state[j].channel[0]);
+            made_up_channel(&board.state[j].channel[1]);
+        }
+        memcpy(a0, a, sizeof a);
+        memcpy(b0, b, sizeof b);
+        struct emu_state alone = board.state[processor - 1], other = board.state[2 - processor];
+        struct emu_memory m = {a0, sizeof a0, b0[processor - 1], board.io_len[processor - 1]};
+        if (made_up() % 4 == 0)
+            unlike += emu_attention_of(&board, processor, channel).number != emu_attention(&alone, &m, channel).number;
+        else unlike += emu_step_of(&board, processor, lines).number != emu_step(&alone, &m, lines).number;
+        unlike += !emu_same_state(&board.state[processor - 1], &alone) || !emu_same_state(&board.state[2 - processor], &other);
+        unlike += memcmp(a, a0, sizeof a) != 0 || memcmp(b, b0, sizeof b) != 0;
+    }
+    CHECK(unlike == 0);
+}
+
 /* Runs every case and fails if one check did. */
 int main(void)
 {
@@ -5137,6 +5335,13 @@ int main(void)
     test_schedule_attentions();
     test_schedule_unknown();
     test_schedule_cut();
+    test_processors_number();
+    test_processors_apart();
+    test_processors_refusals();
+    test_processors_power_up();
+    test_processors_shared();
+    test_processors_sweep();
+    test_processors_alone();
     printf("%lu checks, %lu failures\n", checks, failures);
     return failures == 0 ? 0 : 1;
 }

@@ -147,9 +147,49 @@ uint32_t iop89_schedule(uint8_t *state, size_t state_len, const struct iop89_row
 uint32_t iop89_board(uint8_t *sys, size_t sys_len, uint8_t *io, size_t io_len, uint32_t channel, uint32_t lines,
                      uint32_t limit);
 
-/* Of the calls on a state: 17 comes before every other number, and a refused call changes no byte, but for iop89_fresh
- * with 10 and a schedule's report.
- * The buffers must not overlap each other, and no pointer may be null, also where its length is 0. */
+/* ---- Two processors on one board: one system memory, and each its own state, I/O memory and control block ---- */
+
+/*
+ * Each call below is the single call of its name on the processor that it names, 1 or 2: that one's state, system memory
+ * and its own I/O memory. The other's state and I/O memory are neither changed nor looked at: they may be bytes that are
+ * no state, a state that is unsound, disagrees or is not powered up, and I/O memory over its limit.
+ *   processor                 1 or 2. Any other is 12 before every other number, 17 too, since it names no state; a
+ *                             schedule's report then gets zeros, as with 16 and 17
+ *   state_1, state_2          the two states
+ *   sys                       the system memory of both
+ *   io_1, io_2                the I/O memory of each; they may be of different lengths
+ * What follows, the answer and every other number are the single call's. Nothing is refused for equal CPs or for control
+ * blocks that overlap. Both power up from the same FFFF6h: a host that wants two control blocks changes the pointer
+ * between the two power-ups.
+ */
+uint32_t iop89_pair_attention(uint32_t processor, uint8_t *state_1, size_t state_1_len, uint8_t *state_2,
+                              size_t state_2_len, uint8_t *sys, size_t sys_len, uint8_t *io_1, size_t io_1_len,
+                              uint8_t *io_2, size_t io_2_len, uint32_t channel);
+
+uint32_t iop89_pair_step(uint32_t processor, uint8_t *state_1, size_t state_1_len, uint8_t *state_2, size_t state_2_len,
+                         uint8_t *sys, size_t sys_len, uint8_t *io_1, size_t io_1_len, uint8_t *io_2, size_t io_2_len,
+                         uint32_t lines);
+
+uint32_t iop89_pair_power_up(uint32_t processor, uint8_t *state_1, size_t state_1_len, uint8_t *state_2,
+                             size_t state_2_len, uint8_t *sys, size_t sys_len, uint8_t *io_1, size_t io_1_len,
+                             uint8_t *io_2, size_t io_2_len);
+
+uint32_t iop89_pair_reset(uint32_t processor, uint8_t *state_1, size_t state_1_len, uint8_t *state_2,
+                          size_t state_2_len);
+
+uint64_t iop89_pair_sweep(uint32_t processor, uint8_t *state_1, size_t state_1_len, uint8_t *state_2, size_t state_2_len,
+                          uint8_t *sys, size_t sys_len, uint8_t *io_1, size_t io_1_len, uint8_t *io_2, size_t io_2_len,
+                          uint32_t channel, uint32_t lines);
+
+uint32_t iop89_pair_schedule(uint32_t processor, uint8_t *state_1, size_t state_1_len, uint8_t *state_2,
+                             size_t state_2_len, uint8_t *sys, size_t sys_len, uint8_t *io_1, size_t io_1_len,
+                             uint8_t *io_2, size_t io_2_len, const struct iop89_row *rows, size_t row_count,
+                             uint64_t *report, size_t report_len);
+
+/* Of the calls on a state: 17 comes before every other number, but for 12 of a processor that is neither 1 nor 2, and a
+ * refused call changes no byte, but for iop89_fresh with 10 and a schedule's report.
+ * The buffers of a call, all five of a pair's too, must not overlap each other, and no pointer may be null, also where its
+ * length is 0. */
 
 /* ---- Where the bytes of a state are; numbers stand little end first ---- */
 
@@ -291,7 +331,7 @@ static inline const char *iop89_service_words(unsigned number)
     case IOP89_ALREADY_RUNNING: return "start, and the channel runs";
     case IOP89_NOT_RUNNING: return "suspend, and the channel does not run";
     case IOP89_BAD_POINTER: return "a pointer, PP or CP of the state is over 1,048,575";
-    case IOP89_BAD_ARGUMENT: return "the channel is neither 1 nor 2, or the line number over 15";
+    case IOP89_BAD_ARGUMENT: return "the processor or the channel is neither 1 nor 2, or the line number over 15";
     case IOP89_NOT_POWERED_UP: return "not powered up";
     case IOP89_FIELDS_DISAGREE: return "CC of a channel and its fields disagree";
     case IOP89_NOT_SWEEPABLE: return "the transfer cannot be swept";
