@@ -189,22 +189,57 @@ static void choose_pair_arguments(struct dice *d, struct run_case *c)
     c->limit = 12 + below(d, 20);
 }
 
+/* Puts a program around one first pair into memory, so that it runs well. */
+static void put_pair(struct dice *d, struct run_case *c, unsigned pair)
+{
+    static struct program p;
+    new_program(&p, d, c->sys_len, c->io_len);
+    struct placing how = {chance(d, 300), true, 0};
+    write_pair(&p, pair);
+    place_image(d, c, how, &p);
+}
+
+void put_program(struct dice *d, struct run_case *c)
+{
+    static struct program p;
+    new_program(&p, d, c->sys_len, c->io_len);
+    struct placing how = {chance(d, 300), false, 0};
+    if (chance(d, 40)) write_noise(&p);
+    else if (chance(d, 80)) how.cut = write_cut(&p);
+    else write_rich(&p);
+    place_image(d, c, how, &p);
+}
+
 void make_case(struct run_case *c, uint64_t seed, uint64_t number)
 {
     struct dice d = seeded(seed, number);
-    static struct program p;
     bool about_pair = number % 3 == 0;
     if (about_pair) choose_pair_arguments(&d, c);
     else choose_arguments(&d, c);
     fill(&d, c->sys, c->sys_len);
     fill(&d, c->io, c->io_len);
-    new_program(&p, &d, c->sys_len, c->io_len);
-    struct placing how = {chance(&d, 300), about_pair, 0};
-    if (about_pair) write_pair(&p, (unsigned)(number / 3) & 0xFFFFu);
-    else if (chance(&d, 40)) write_noise(&p);
-    else if (chance(&d, 80)) how.cut = write_cut(&p);
-    else write_rich(&p);
-    place_image(&d, c, how, &p);
+    if (about_pair) put_pair(&d, c, (unsigned)(number / 3) & 0xFFFFu);
+    else put_program(&d, c);
+}
+
+/* ---- Boards ---- */
+
+/* Writes a doubleword pointer to an address at another. */
+static void put_far(struct dice *d, const struct run_case *c, put_byte put_it, uint32_t at, uint32_t to)
+{
+    uint8_t bytes[4];
+    as_doubleword(d, to & MASK20, bytes);
+    for (uint32_t i = 0; i < 4; i++) put_it(c, (at + i) & MASK20, bytes[i]);
+}
+
+void put_board(struct dice *d, const struct run_case *c, put_byte put_it)
+{
+    uint32_t block = chance(d, 600) ? 0xFFFF0 - below(d, 64) : choose_cp(d, c->sys_len) & MASK20;
+    uint32_t control = chance(d, 800) ? c->cp : choose_cp(d, c->sys_len);
+    put_it(c, block, (uint8_t)below(d, 256));
+    put_far(d, c, put_it, block + 2, control);
+    put_it(c, 0xFFFF6, (uint8_t)below(d, 256));
+    put_far(d, c, put_it, 0xFFFF8, block);
 }
 
 /* ---- Images for the panel's program ---- */

@@ -18,6 +18,20 @@ struct run_case {
 /* Fills in the case of this seed and number. Of any 196,608 cases in a row a third hold each first pair once. */
 void make_case(struct run_case *c, uint64_t seed, uint64_t number);
 
+/* Puts a random program with its parameter block into memory that has bytes already, and the block that starts it where
+ * the case's channel has it. */
+void put_program(struct dice *d, struct run_case *c);
+
+/* The length from which on a memory can have a board: its last byte is at FFFFBh. */
+enum { BOARD_LENGTH = 0xFFFFC };
+
+/* How a comparison writes a byte into the system memories of its machines, if it is lent. */
+typedef void (*put_byte)(const struct run_case *c, uint32_t address, uint8_t byte);
+
+/* Writes a board's bytes: SYSBUS, the pointer to a configuration block, near the top or anywhere, and there SOC and the
+ * pointer to the case's control block, at times to another. */
+void put_board(struct dice *d, const struct run_case *c, put_byte put_it);
+
 /* The most that the panel's program reads, room for longer images, and its I/O bytes. */
 enum { PANEL_LIMIT = 4096, PANEL_ROOM = 6000, PANEL_IO = 256 };
 

@@ -19,9 +19,6 @@ enum { CASES_TO_MEET_ALL = 300000, MOST_CALLS = 60, STATE_ROOM = 2 * STATE_BYTES
 
 enum call_kind { CALL_FRESH, CALL_RESET, CALL_POWER, CALL_ATTENTION, CALL_STEP, CALL_BOARD, CALLS };
 
-/* The last of the bytes at FFFF8h, from which on a memory can have a board. */
-enum { BOARD_LENGTH = 0xFFFFC };
-
 /* What one call is given; lines and limit are a run's. */
 struct call {
     enum call_kind kind;
@@ -149,26 +146,6 @@ static void put_command(struct dice *d, const struct run_case *c, uint32_t chann
     put_both(c, block, some_ccw(d));
 }
 
-/* Writes a doubleword pointer to an address at another, in both memories. */
-static void put_far(struct dice *d, const struct run_case *c, uint32_t at, uint32_t to)
-{
-    uint8_t bytes[4];
-    as_doubleword(d, to & MASK20, bytes);
-    for (uint32_t i = 0; i < 4; i++) put_both(c, (at + i) & MASK20, bytes[i]);
-}
-
-/* Writes a board's bytes: SYSBUS, the pointer to a configuration block, near the top or anywhere, and there SOC and the
- * pointer to the case's control block, at times to another. */
-static void put_board(struct dice *d, const struct run_case *c)
-{
-    uint32_t block = chance(d, 600) ? 0xFFFF0 - below(d, 64) : choose_cp(d, c->sys_len) & MASK20;
-    uint32_t control = chance(d, 800) ? c->cp : choose_cp(d, c->sys_len);
-    put_both(c, block, (uint8_t)below(d, 256));
-    put_far(d, c, block + 2, control);
-    put_both(c, 0xFFFF6, (uint8_t)below(d, 256));
-    put_far(d, c, 0xFFFF8, block);
-}
-
 /* A call that starts as the board starts, more often where there can be a board; fresh stands for none. */
 static enum call_kind board_call(struct dice *d, const struct run_case *c, unsigned index)
 {
@@ -188,7 +165,7 @@ static struct call next_call(struct dice *d, const struct run_case *c, unsigned 
     if (board != CALL_FRESH) {
         call.kind = board;
         call.argument = c->channel;
-        if (board != CALL_RESET && chance(d, 900)) put_board(d, c);
+        if (board != CALL_RESET && chance(d, 900)) put_board(d, c, put_both);
     } else if (index == 0 && chance(d, 800)) {
         call.kind = CALL_FRESH;
         call.argument = c->cp;
