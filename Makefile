@@ -225,7 +225,7 @@ $(SERVICE_LIB): $(SERVICE_CRATES:%=build/%.sums)
 	@for crate in $(SERVICE_CRATES); do tools/prove staticlib $$crate || exit $$?; done
 	@AR="$(X86_AR)" tools/join-archives $@ $(SERVICE_CRATES:%=target/staticlib/lib%.a)
 
-# Random states in bytes, on which single calls and schedules are compared.
+# Random states in bytes, on which calls, sweeps and schedules are compared.
 STATES = $(addprefix host/,states.c state_bytes.c)
 STATES_H = $(addprefix host/,states.h state_bytes.h) include/iop89_service.h
 
@@ -247,8 +247,8 @@ compare-service: given-service build/compare_service
 given-sweeps:
 	@tools/given number SEED && tools/given number SWEEPS
 
-COMPARE_SWEEP = $(addprefix host/,compare_sweep.c sweeps.c fences.c state_bytes.c)
-COMPARE_SWEEP_H = $(addprefix host/,sweeps.h fences.h state_bytes.h) include/iop89_service.h
+COMPARE_SWEEP = $(addprefix host/,compare_sweep.c sweeps.c fences.c) $(STATES)
+COMPARE_SWEEP_H = $(addprefix host/,sweeps.h fences.h) $(STATES_H)
 
 build/compare_sweep: $(COMPARE_SWEEP) $(COMPARE_SWEEP_H) $(COMMON) $(COMMON_H) $(SERVICE_LIB) | x86-compiler
 	$(X86_CC) $(STRICT) $(CFLAGS) -Iinclude $(COMPARE_SWEEP) $(COMMON) $(SERVICE_LIB) $(X86_LDFLAGS) -o $@
@@ -262,8 +262,8 @@ compare-sweep: given-sweeps build/compare_sweep
 given-pauses:
 	@tools/given number SEED && tools/given number PAUSES
 
-COMPARE_PAUSES = $(addprefix host/,compare_pauses.c pauses.c twin.c sweeps.c fences.c state_bytes.c)
-COMPARE_PAUSES_H = $(addprefix host/,pauses.h twin.h sweeps.h fences.h state_bytes.h) include/iop89_service.h
+COMPARE_PAUSES = $(addprefix host/,compare_pauses.c pauses.c twin.c sweeps.c fences.c) $(STATES)
+COMPARE_PAUSES_H = $(addprefix host/,pauses.h twin.h sweeps.h fences.h) $(STATES_H)
 
 build/compare_pauses: $(COMPARE_PAUSES) $(COMPARE_PAUSES_H) $(COMMON) $(COMMON_H) $(SERVICE_LIB) | x86-compiler
 	$(X86_CC) $(STRICT) $(CFLAGS) -Iinclude $(COMPARE_PAUSES) $(COMMON) $(SERVICE_LIB) $(X86_LDFLAGS) -o $@

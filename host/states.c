@@ -1,5 +1,5 @@
-/* Makes random states in bytes: registers with any value or one that fits a case, transfers of pairs, bytes out of range,
- * and fields that disagree with CC. */
+/* Makes random states in bytes: registers with any value or one that fits a case, transfers of pairs and of blocks, bytes
+ * and addresses out of range, and fields that disagree with CC. */
 #include "states.h"
 
 #include "iop89_service.h"
@@ -62,6 +62,23 @@ void pair_up(struct dice *d, const struct run_case *c, uint8_t *state)
     if (chance(d, 500)) iop89_set(state, channel, IOP89_HELD, some_value(d, c, IOP89_HELD));
 }
 
+void block_up(struct dice *d, const struct run_case *c, uint8_t *state)
+{
+    unsigned channel = 1 + below(d, 2);
+    uint32_t n = 1 + below(d, 40), source_is_gb = below(d, 2), free_bits = below(d, 65536) & 0x0304u;
+    for (unsigned i = 0; i < 2; i++) {
+        bool in_io = chance(d, 500);
+        size_t length = in_io ? c->io_len : c->sys_len;
+        iop89_set(state, channel, i == 0 ? IOP89_GA : IOP89_GB, length > n ? below(d, length - n + 1) & MASK20 : 0);
+        iop89_set(state, channel, i == 0 ? IOP89_GA_TAG : IOP89_GB_TAG, in_io);
+    }
+    iop89_set(state, channel, IOP89_BC, n);
+    iop89_set_cc(state, channel, 0xC000u | source_is_gb << 10 | free_bits | (1 + below(d, 3)) << 3);
+    iop89_set(state, channel, IOP89_PSW, below(d, 256) | EMU_PSW_XF);
+    iop89_set(state, channel, IOP89_MODE, IOP89_RUNNING);
+    if (chance(d, 900)) iop89_set(state, 3 - channel, IOP89_MODE, chance(d, 500) ? IOP89_IDLE : IOP89_SUSPENDED);
+}
+
 void any_state(struct dice *d, const struct run_case *c, uint8_t *state)
 {
     static const enum iop89_register pointers[] = {IOP89_GA, IOP89_GB, IOP89_GC, IOP89_TP, IOP89_PP};
@@ -77,6 +94,14 @@ void any_state(struct dice *d, const struct run_case *c, uint8_t *state)
     for (unsigned channel = 1; channel <= 2; channel++)
         iop89_set(state, channel, IOP89_HELD, some_value(d, c, IOP89_HELD));
     if (chance(d, 900)) state[IOP89_AT_POWERED] = 1;
+}
+
+void unsound_state(struct dice *d, uint8_t *state)
+{
+    static const enum iop89_register pointers[] = {IOP89_GA, IOP89_GB, IOP89_GC, IOP89_TP, IOP89_PP};
+    uint32_t value = chance(d, 800) ? 1048576 + below(d, 4) : (uint32_t)roll(d) | 1048576u;
+    if (chance(d, 90)) iop89_set_cp(state, value);
+    else iop89_set(state, 1 + below(d, 2), ONE_OF(d, pointers), value);
 }
 
 void damage_state(struct dice *d, uint8_t *state)

@@ -13,6 +13,13 @@ void poke_state(struct dice *d, const struct run_case *c, uint8_t *state);
 /* Puts a channel into a transfer of pairs by its registers, mostly with nothing held yet. */
 void pair_up(struct dice *d, const struct run_case *c, uint8_t *state);
 
+/* Puts a channel into a block transfer of few bytes, mostly one that can be swept: both ranges lent where there is room,
+ * and the other channel mostly not running. */
+void block_up(struct dice *d, const struct run_case *c, uint8_t *state);
+
+/* Gives a register, or CP, more than 20 bits. */
+void unsound_state(struct dice *d, uint8_t *state);
+
 /* Spoils a byte that only some values may have, mostly by as little as can be. At times all the bytes become anything. */
 void damage_state(struct dice *d, uint8_t *state);
 

@@ -2,6 +2,7 @@
 #include "sweeps.h"
 
 #include "iop89_service.h"
+#include "states.h"
 
 #include <string.h>
 
@@ -195,15 +196,6 @@ static void damage(struct dice *d, struct sweep *s)
     if (state_fault_of_byte(fault)) s->given.state[state_fault_at(fault) + 1] = 0;
 }
 
-/* Gives a register, or CP, more than 20 bits. */
-static void unsound(struct dice *d, const struct sweep *s)
-{
-    static const enum iop89_register pointers[] = {IOP89_GA, IOP89_GB, IOP89_GC, IOP89_TP, IOP89_PP};
-    uint32_t value = chance(d, 800) ? 1048576 + below(d, 4) : (uint32_t)roll(d) | 1048576u;
-    if (chance(d, 90)) iop89_set_cp(s->given.state, value);
-    else iop89_set(s->given.state, 1 + below(d, 2), ONE_OF(d, pointers), value);
-}
-
 /* Makes a sweep one that is refused before its conditions are looked at. */
 static void spoil(struct dice *d, struct sweep *s, enum flaw flaw)
 {
@@ -214,7 +206,7 @@ static void spoil(struct dice *d, struct sweep *s, enum flaw flaw)
     switch (flaw) {
     case FLAW_APART: iop89_set(s->given.state, channel, IOP89_CC, cc ^ 1u << (bit < 9 ? bit : bit + 1)); break;
     case FLAW_NOT_POWERED: s->given.state[IOP89_AT_POWERED] = 0; break;
-    case FLAW_POINTER: unsound(d, s); break;
+    case FLAW_POINTER: unsound_state(d, s->given.state); break;
     case FLAW_IO_LENGTH: s->length[1] = CASE_IO_ROOM; break;
     case FLAW_SYSTEM_LENGTH: s->length[0] = CASE_SYSTEM_ROOM; break;
     case FLAW_LINES: s->lines = ONE_OF(d, lines); break;
