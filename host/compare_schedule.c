@@ -341,12 +341,6 @@ static void step_singly(const struct run_case *c, const struct schedule *s, uint
 
 /* ---- The ways ---- */
 
-/* The words that stand in and around a report before a call. */
-static void clear_report(const struct schedule *s, uint64_t *words)
-{
-    for (size_t i = 0; i < WORD_FENCE + MOST_WORDS + WORD_FENCE; i++) words[i] = s->before + i;
-}
-
 /* Some rows as one schedule of the archive. */
 static uint32_t by_archive(const struct run_case *c, const struct schedule *s, enum way way, size_t from, size_t to,
                            uint64_t *report, size_t report_len)
@@ -355,19 +349,6 @@ static uint32_t by_archive(const struct run_case *c, const struct schedule *s, e
     clear_report(s, report);
     return iop89_schedule(m->state, s->state_len, rows_of(s) + from, to - from, m->sys, c->sys_len, m->io, c->io_len,
                           report + WORD_FENCE, report_len);
-}
-
-/* Puts the emulator's counts where a report has room for them. */
-static void put_report(const struct emu_report *r, uint64_t *report, size_t report_len)
-{
-    uint64_t all[IOP89_REPORT_LENGTH] = {r->accepted, r->refused};
-    for (unsigned i = 0; i < 2; i++) {
-        const struct emu_tally *t = &r->channel[i];
-        const uint64_t counts[] = {t->attentions_accepted, t->attentions_refused, t->instructions, t->transfer_steps,
-                                   t->bytes_stored,        t->external_ends,      t->waiting_rows};
-        memcpy(all + 2 + 7 * i, counts, sizeof counts);
-    }
-    for (size_t i = 0; i < report_len && i < IOP89_REPORT_LENGTH; i++) report[WORD_FENCE + i] = all[i];
 }
 
 /* Some rows as one schedule of the emulator. */
@@ -382,10 +363,7 @@ static uint32_t by_emulator(const struct run_case *c, const struct schedule *s, 
     uint32_t number = IOP89_NO_STATE;
     bool good = state_from_bytes(m->state, s->state_len, &state) == FAULT_NONE;
     memset(&r, good ? FENCE_BYTE : 0, sizeof r);
-    for (size_t i = from; i < to; i++) {
-        rows[i - from].kind = rows_of(s)[i].kind;
-        rows[i - from].value = rows_of(s)[i].value;
-    }
+    rows_for_emulator(s, from, to, rows);
     if (good) {
         number = emu_schedule(&state, &memory, rows, to - from, &r);
         state_to_bytes(&state, m->state);

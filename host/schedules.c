@@ -82,3 +82,28 @@ void make_schedule(struct dice *d, const struct run_case *c, bool first, struct 
     s->report_len = some_words(d);
     s->before = roll(d);
 }
+
+void rows_for_emulator(const struct schedule *s, size_t from, size_t to, struct emu_row rows[MOST_ROWS])
+{
+    for (size_t i = from; i < to; i++) {
+        rows[i - from].kind = rows_of(s)[i].kind;
+        rows[i - from].value = rows_of(s)[i].value;
+    }
+}
+
+void clear_report(const struct schedule *s, uint64_t *words)
+{
+    for (size_t i = 0; i < WORD_FENCE + MOST_WORDS + WORD_FENCE; i++) words[i] = s->before + i;
+}
+
+void put_report(const struct emu_report *r, uint64_t *report, size_t report_len)
+{
+    uint64_t all[IOP89_REPORT_LENGTH] = {r->accepted, r->refused};
+    for (unsigned i = 0; i < 2; i++) {
+        const struct emu_tally *t = &r->channel[i];
+        const uint64_t counts[] = {t->attentions_accepted, t->attentions_refused, t->instructions, t->transfer_steps,
+                                   t->bytes_stored,        t->external_ends,      t->waiting_rows};
+        memcpy(all + 2 + 7 * i, counts, sizeof counts);
+    }
+    for (size_t i = 0; i < report_len && i < IOP89_REPORT_LENGTH; i++) report[WORD_FENCE + i] = all[i];
+}

@@ -30,6 +30,15 @@ const struct iop89_row *rows_of(const struct schedule *s);
 /* Makes a schedule for a case; the first on a state mostly begins with the attention that starts the case's channel. */
 void make_schedule(struct dice *d, const struct run_case *c, bool first, struct schedule *s);
 
+/* Some rows of a schedule as the emulator has them. */
+void rows_for_emulator(const struct schedule *s, size_t from, size_t to, struct emu_row rows[MOST_ROWS]);
+
+/* Makes the words in and around a report what stands there before a call. */
+void clear_report(const struct schedule *s, uint64_t *words);
+
+/* Puts the emulator's counts where a report has room for them. */
+void put_report(const struct emu_report *r, uint64_t *report, size_t report_len);
+
 /* Whether a row is of a kind that is known. */
 bool row_known(struct iop89_row row);
 
