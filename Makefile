@@ -8,6 +8,7 @@ SERVICE_CASES ?= 300000
 SWEEPS ?= 200000
 PAUSES ?= 20000
 SCHEDULES ?= 200000
+PAIRS ?= 100000
 TEXTS ?= 20000
 PARTS ?= 2000
 CALLS ?= 40000
@@ -25,13 +26,14 @@ override SERVICE_CASES := $(value SERVICE_CASES)
 override SWEEPS := $(value SWEEPS)
 override PAUSES := $(value PAUSES)
 override SCHEDULES := $(value SCHEDULES)
+override PAIRS := $(value PAIRS)
 override TEXTS := $(value TEXTS)
 override PARTS := $(value PARTS)
 override CALLS := $(value CALLS)
 override IMAGES := $(value IMAGES)
 override PREFIX := $(value PREFIX)
 override DESTDIR := $(value DESTDIR)
-export IMAGE FILE DEMO SEED CASES SERVICE_CASES SWEEPS PAUSES SCHEDULES TEXTS PARTS CALLS IMAGES PREFIX DESTDIR
+export IMAGE FILE DEMO SEED CASES SERVICE_CASES SWEEPS PAUSES SCHEDULES PAIRS TEXTS PARTS CALLS IMAGES PREFIX DESTDIR
 
 CFLAGS ?= -O2
 STRICT = -std=c11 -Wall -Wextra -Wpedantic -Wconversion
@@ -285,6 +287,21 @@ build/compare_schedule: $(COMPARE_SCHEDULE) host/schedules.h $(STATES) $(STATES_
 
 compare-schedule: given-schedules build/compare_schedule
 	tools/x86 build/compare_schedule "$$SEED" "$$SCHEDULES"
+
+# Calls on two processors: the archive's, the emulator's, single calls, and the same beside noise in the other's place.
+.PHONY: compare-pair given-pairs
+
+given-pairs:
+	@tools/given number SEED && tools/given number PAIRS
+
+COMPARE_PAIR = $(addprefix host/,compare_pair.c processors.c schedules.c fences.c) $(STATES)
+COMPARE_PAIR_H = $(addprefix host/,processors.h schedules.h fences.h) $(STATES_H)
+
+build/compare_pair: $(COMPARE_PAIR) $(COMPARE_PAIR_H) $(COMMON) $(COMMON_H) $(SERVICE_LIB) | x86-compiler
+	$(X86_CC) $(STRICT) $(CFLAGS) -Iinclude $(COMPARE_PAIR) $(COMMON) $(SERVICE_LIB) $(X86_LDFLAGS) -o $@
+
+compare-pair: given-pairs build/compare_pair
+	tools/x86 build/compare_pair "$$SEED" "$$PAIRS"
 
 # ---- The bench tool, over both archives
 
