@@ -305,7 +305,7 @@ compare-pair: given-pairs build/compare_pair
 
 # ---- The bench tool, over both archives
 
-TOOL = $(addprefix host/,tool.c tool_order.c tool_calls.c tool_schedule.c tool_hex.c tool_list.c)
+TOOL = $(addprefix host/,tool.c tool_order.c tool_calls.c tool_pair.c tool_schedule.c tool_hex.c tool_list.c)
 
 .PHONY: tool check-tool
 

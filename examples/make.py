@@ -1,6 +1,6 @@
 #!/usr/bin/env python3
-"""Writes the example images into a folder: each is system memory with channel 1's control block at address 0; the ports of
-a disk controller; and a board's PROM file."""
+"""Writes the example images into a folder: each is system memory with channel 1's control block at address 0; I/O memories
+with ports; and a board's PROM file."""
 import sys
 from pathlib import Path
 
@@ -158,6 +158,39 @@ CARD_WRITE = code(
     "20 48       ; HLT",
 )
 
+# Two processors and a buffer of four bytes at C0h between them, with two semaphores at 30h: the first is 0 while it may be
+# filled, the second while it may be emptied. One fills it twice from its ports at 60h on, the other empties it into its own.
+FILL = code(
+    "51 08 00 00 03 00 ;       LPDI  GC,0,3: 30h, the semaphores",
+    "11 30 60 00       ;       MOVI  GA,60H: the ports",
+    "D1 30 08 C0       ;       MOVI  CC,0C008H: both move on, from GA, count ends at 0",
+    "B1 30 02 00       ;       MOVI  IX,2",
+    "1A 96 00 FF FB    ; WAIT: TSL   [GC].0,0FFH,WAIT: until it may be filled",
+    "31 08 00 00 0C 00 ;       LPDI  GB,0,0CH: C0h, the buffer",
+    "71 30 04 00       ;       MOVI  BC,4",
+    "60 00             ;       XFER",
+    "A0 00             ;       WID   8,16",
+    "0A 4E 01 00       ;       MOVBI [GC].1,0: now it may be emptied",
+    "A0 3C             ;       DEC   IX",
+    "A8 40 E4          ;       JNZ   IX,WAIT",
+    "20 48             ;       HLT",
+)
+EMPTY = code(
+    "51 08 00 00 03 00 ;       LPDI  GC,0,3: 30h, the semaphores",
+    "31 30 60 00       ;       MOVI  GB,60H: the ports",
+    "D1 30 08 C0       ;       MOVI  CC,0C008H: both move on, from GA, count ends at 0",
+    "B1 30 02 00       ;       MOVI  IX,2",
+    "1A 96 01 FF FB    ; WAIT: TSL   [GC].1,0FFH,WAIT: until it may be emptied",
+    "11 08 00 00 0C 00 ;       LPDI  GA,0,0CH: C0h, the buffer",
+    "71 30 04 00       ;       MOVI  BC,4",
+    "60 00             ;       XFER",
+    "C0 00             ;       WID   16,8",
+    "0A 4E 00 00       ;       MOVBI [GC].0,0: now it may be filled",
+    "A0 3C             ;       DEC   IX",
+    "A8 40 E4          ;       JNZ   IX,WAIT",
+    "20 48             ;       HLT",
+)
+
 # Copies text up to a full stop: ends by match at offset 4, by count at offset 0.
 MATCH = code(
     "11 08 00 00 08 00 ; LPDI GA,0,8: 80h",
@@ -232,6 +265,12 @@ def card(read, written, size):
                    parameters=doubleword(0xC0) + word(size))
 
 
+def pair():
+    """Two processors, the second one's control block at 20h, its parameter block at 28h and its program at 80h."""
+    second = (0x20, bytes([START_SYSTEM, 0]) + doubleword(0x28))
+    return started(0x100, FILL, second, (0x28, doubleword(0x80)), (0x30, bytes([0x00, 0xFF])), (0x80, EMPTY))
+
+
 WID_8_8, WID_16_16 = code("80 00"), code("E0 00")
 
 
@@ -252,6 +291,7 @@ IMAGES = {
     "disk-read": disk(DISK_READ, bytes([0xEE] * 6)),
     "disk-write": disk(DISK_WRITE, b"sector"),
     "card": card(bytes([0xEE] * 4), b"data", 3),
+    "pair": pair(),
     "match": started(0x100, MATCH, (0x80, b"end. not this...")),
     "leftover": started(0x100, LEFTOVER, (0x80, b"stop. not this..")),
     "translate": started(0x100, TRANSLATE, (0x80, bytes([3, 1, 2, 0])), (0xA0, b"ZYXW")),
@@ -271,8 +311,9 @@ IMAGES = {
 }
 
 
-# I/O memory with the controller's ports, for the bench tool: the data port reads 5Ah.
-PORTS = image(0x100, (0x64, bytes([0x5A])))
+# I/O memory for the bench tool: with the disk controller's ports, of which the data port reads 5Ah, and with those that
+# the first of two processors reads.
+PORTS = {"disk": image(0x100, (0x64, bytes([0x5A]))), "pair": image(0x100, (0x60, b"ANALYSER"))}
 
 
 def record(kind, address, data):
@@ -303,7 +344,8 @@ def main():
     folder = Path(sys.argv[1] if len(sys.argv) > 1 else Path(__file__).parent)
     for name, data in IMAGES.items():
         (folder / (name + ".bin")).write_bytes(data)
-    (folder / "disk.ports").write_bytes(PORTS)
+    for name, data in PORTS.items():
+        (folder / (name + ".ports")).write_bytes(data)
     (folder / "board.hex").write_text(BOARD)
 
 

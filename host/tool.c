@@ -42,6 +42,9 @@ static const char options[] =
     "  -lines N,N..    for step: in turn, one for each step that is tried; where a channel waits, the next one is tried\n"
     "  -sweep          for step: a block transfer that can be swept is one call and one line, and counts as its steps\n"
     "  -limit N        most steps (1000); under several line numbers, most that are tried\n"
+    "  -pair N         for step: a second processor on the same system memory, its control block at N; they step in turn,\n"
+    "                  each line has its processor, P1 or P2, and the limit counts both\n"
+    "  -io2, -io-image2, -channel2, -lines2, -show-io2   what -io, -io-image, .. are of the first, of the second processor\n"
     "  -trace          for schedule: a line for each row: its place, the row, its number, and what it did\n"
     "  -show FROM N    shows N bytes of system memory from FROM on, as they are at the end; -show-io, of I/O memory\n"
     "  -from N, -count N   for list: the bytes to be listed (all)\n"
@@ -89,8 +92,9 @@ static int ended(enum tool_status status)
 
 int main(int count, char **words)
 {
-    struct tool_order order = {.system_length = UINT32_MAX, .io_length = UINT32_MAX, .limit = 1000, .line_numbers = 1,
-                               .count = UINT32_MAX, .first = UINT32_MAX};
+    const struct tool_processor usual = {.line_numbers = 1, .io_length = UINT32_MAX};
+    struct tool_order order = {.of = {usual, usual}, .system_length = UINT32_MAX, .limit = 1000, .count = UINT32_MAX,
+                               .first = UINT32_MAX};
     if (count < 2) tool_usage("no command", NULL);
     if (strcmp(words[1], "help") == 0) {
         if (count > 2) tool_usage("help takes no words", words[2]);

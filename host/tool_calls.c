@@ -77,20 +77,20 @@ static void print_here(const uint8_t *state, unsigned channel, const struct tool
     if (at < length) tool_print_instruction((in_io ? memory->io : memory->sys) + at, length - at, at);
 }
 
-/* Prints a number with its words and, of one that is not 0, where each running channel stands. */
-static void print_number(unsigned number, const char *words, const uint8_t *state, const struct tool_memory *memory)
+void tool_print_number(const char *whose, unsigned number, const char *words, const uint8_t *state,
+                       const struct tool_memory *memory)
 {
     bool any = false;
-    printf("number %u: %s\n", number, words);
+    printf("%snumber %u: %s\n", whose, number, words);
     for (unsigned channel = 1; number != IOP89_DONE && channel <= 2; channel++) {
         if (iop89_get(state, channel, IOP89_MODE) != IOP89_RUNNING) continue;
-        printf("channel %u %s, TP ", channel, number == IOP89_NO_CHANNEL ? "waits" : "runs");
+        printf("%schannel %u %s, TP ", whose, channel, number == IOP89_NO_CHANNEL ? "waits" : "runs");
         print_tp(state, channel);
         putchar('\n');
         if (number != IOP89_NO_CHANNEL) print_here(state, channel, memory);
         any = true;
     }
-    if (number == IOP89_NO_CHANNEL && !any) puts("halted");
+    if (number == IOP89_NO_CHANNEL && !any) printf("%shalted\n", whose);
 }
 
 /* Sixteen bytes to a row, -- where nothing is lent. */
@@ -98,11 +98,13 @@ void tool_print_shown(const struct tool_order *order, const struct tool_memory *
 {
     for (unsigned i = 0; i < order->ranges; i++) {
         struct tool_range range = order->shown[i];
-        const uint8_t *bytes = range.in_io ? memory->io : memory->sys;
-        size_t length = range.in_io ? memory->io_len : memory->sys_len;
+        const struct tool_memory *m = &memory[range.second ? 1 : 0];
+        const uint8_t *bytes = range.in_io ? m->io : m->sys;
+        const char *space = range.second ? "/io2" : range.in_io ? "/io" : "";
+        size_t length = range.in_io ? m->io_len : m->sys_len;
         for (uint32_t k = 0; k < range.count; k++) {
             uint32_t at = range.from + k;
-            if (k % 16 == 0) printf("%s%05" PRIX32 "%s:", k > 0 ? "\n" : "", at, range.in_io ? "/io" : "");
+            if (k % 16 == 0) printf("%s%05" PRIX32 "%s:", k > 0 ? "\n" : "", at, space);
             if (at < length) printf(" %02X", bytes[at]);
             else fputs(" --", stdout);
         }
@@ -118,8 +120,8 @@ static bool waits(const uint8_t *state)
     return iop89_get(state, 1, IOP89_MODE) == IOP89_RUNNING || iop89_get(state, 2, IOP89_MODE) == IOP89_RUNNING;
 }
 
-/* What a number that stopped the steps makes of the command: no channel that can run is an end where none runs. */
-static enum tool_status status_of(unsigned number, const uint8_t *state)
+/* No channel that can run is an end where none runs. */
+enum tool_status tool_status_of(unsigned number, const uint8_t *state)
 {
     if (number == IOP89_DONE || (number == IOP89_NO_CHANNEL && !waits(state))) return TOOL_DONE;
     return TOOL_REFUSED;
@@ -140,7 +142,7 @@ static uint32_t step(uint8_t *state, struct tool_memory *m, uint32_t lines)
 /* Makes the state that the calls begin with, of CP or by reset and power-up; hands back the last one's answer. */
 static uint32_t make_state(const struct tool_order *order, uint8_t *state, struct tool_memory *m)
 {
-    if (!order->board) return iop89_fresh(state, IOP89_STATE_LENGTH, order->cp);
+    if (!order->board) return iop89_fresh(state, IOP89_STATE_LENGTH, order->of[0].cp);
     iop89_reset(state, IOP89_STATE_LENGTH);
     return iop89_power_up(state, IOP89_STATE_LENGTH, m->sys, m->sys_len, m->io, m->io_len);
 }
@@ -149,8 +151,8 @@ static uint32_t make_state(const struct tool_order *order, uint8_t *state, struc
 static void state_behind(const struct tool_order *order, struct tool_memory again, uint32_t steps, uint8_t *state)
 {
     make_state(order, state, &again);
-    attend(state, &again, order->channel[0]);
-    for (uint32_t i = 0; i < steps; i++) step(state, &again, order->lines[0]);
+    attend(state, &again, order->of[0].channel[0]);
+    for (uint32_t i = 0; i < steps; i++) step(state, &again, order->of[0].lines[0]);
 }
 
 /* Whether a run with this number came as far as its attention. */
@@ -161,24 +163,26 @@ static bool was_started(unsigned number)
 
 enum tool_status tool_run(const struct tool_order *order)
 {
+    const struct tool_processor *processor = &order->of[0];
     uint8_t state[IOP89_STATE_LENGTH];
-    if (order->channels > 1) tool_usage("run starts one channel", NULL);
-    if (order->line_numbers > 1) tool_usage("run takes one line number", NULL);
+    if (processor->channels > 1) tool_usage("run starts one channel", NULL);
+    if (processor->line_numbers > 1) tool_usage("run takes one line number", NULL);
     if (order->sweep) tool_usage("run makes no sweeps", NULL);
+    if (order->pair) tool_usage("run has one processor", NULL);
     struct tool_memory memory = tool_load(order), again = tool_copy(memory);
     uint32_t answer = order->board ? iop89_board(memory.sys, memory.sys_len, memory.io, memory.io_len,
-                                                 order->channel[0], order->lines[0], order->limit)
-                                   : iop89_run(memory.sys, memory.sys_len, memory.io, memory.io_len, order->cp,
-                                               order->channel[0], order->lines[0], order->limit);
+                                                 processor->channel[0], processor->lines[0], order->limit)
+                                   : iop89_run(memory.sys, memory.sys_len, memory.io, memory.io_len, processor->cp,
+                                               processor->channel[0], processor->lines[0], order->limit);
     unsigned number = IOP89_NUMBER(answer);
     if (was_started(number)) state_behind(order, again, IOP89_STEPS(answer), state);
     else iop89_fresh(state, IOP89_STATE_LENGTH, 0);
-    print_number(number, iop89_words(number), state, &memory);
+    tool_print_number("", number, iop89_words(number), state, &memory);
     printf("steps done: %u\n", IOP89_STEPS(answer));
     tool_print_shown(order, &memory);
     tool_free(memory);
     tool_free(again);
-    return status_of(number, state);
+    return tool_status_of(number, state);
 }
 
 /* ---- Call by call ---- */
@@ -192,34 +196,37 @@ void tool_print_done(uint32_t answer, const uint8_t *before, const uint8_t *stat
     putchar('\n');
 }
 
-/* Prints a step that was tried while every running channel waited, a line for each of them. */
-static void print_waiting(uint32_t number, const uint8_t *state)
+/* A line for each of them. */
+void tool_print_waiting(const char *whose, uint32_t number, const uint8_t *state)
 {
     for (unsigned channel = 1; channel <= 2; channel++) {
         if (iop89_get(state, channel, IOP89_MODE) != IOP89_RUNNING) continue;
-        printf("%" PRIu32 " %u - 0 ", number, channel);
+        printf("%" PRIu32 " %s%u - 0 ", number, whose, channel);
         print_tp(state, channel);
         puts(" waits");
     }
 }
 
-/* The line number of a step that is tried, from 0 on. */
-static uint32_t lines_at(const struct tool_order *order, uint32_t at)
+uint32_t tool_lines_at(const struct tool_processor *processor, uint32_t at)
 {
-    return order->lines[at % order->line_numbers];
+    return processor->lines[at % processor->line_numbers];
 }
 
-/* Tries one step, and prints its line; answers the number that stops the steps, 0 where they go on. Under one line
- * number a channel that waits would wait for ever; under several the next may be what it waits for. */
+/* Under one line number a channel that waits would wait for ever; under several the next may be what it waits for. */
+bool tool_goes_on(const struct tool_processor *processor, unsigned number, const uint8_t *state)
+{
+    return number == IOP89_NO_CHANNEL && processor->line_numbers > 1 && waits(state);
+}
+
+/* Tries one step, and prints its line; answers the number that stops the steps, 0 where they go on. */
 static unsigned step_line(const struct tool_order *order, uint8_t *state, struct tool_memory *memory, uint32_t at)
 {
     uint8_t before[IOP89_STATE_LENGTH];
     memcpy(before, state, sizeof before);
-    uint32_t answer = step(state, memory, lines_at(order, at));
+    uint32_t answer = step(state, memory, tool_lines_at(&order->of[0], at));
     unsigned number = IOP89_ANSWER_NUMBER(answer);
-    bool goes_on = number == IOP89_NO_CHANNEL && order->line_numbers > 1 && waits(state);
     if (number == IOP89_DONE) printf("%" PRIu32, at + 1), tool_print_done(answer, before, state);
-    else if (goes_on) print_waiting(at + 1, state);
+    else if (tool_goes_on(&order->of[0], number, state)) tool_print_waiting("", at + 1, state);
     else return number;
     return IOP89_DONE;
 }
@@ -250,8 +257,8 @@ static uint64_t sweep(uint8_t *state, struct tool_memory *m, unsigned channel, u
  * sweep has one number for all its steps, so it stands for steps under several only where each of these would do. */
 static bool lines_fit(const struct tool_order *order, uint32_t at, uint32_t steps)
 {
-    for (uint32_t i = 0; i < steps && i < order->line_numbers; i++)
-        if (lines_at(order, at + i) > (IOP89_DRQ1 | IOP89_DRQ2)) return false;
+    for (uint32_t i = 0; i < steps && i < order->of[0].line_numbers; i++)
+        if (tool_lines_at(&order->of[0], at + i) > (IOP89_DRQ1 | IOP89_DRQ2)) return false;
     return true;
 }
 
@@ -264,7 +271,7 @@ static uint32_t steps_ahead(const struct tool_order *order, const uint8_t *state
     unsigned channel = transferring(state);
     if (!order->sweep || channel == 0) return 0;
     memcpy(asked, state, sizeof asked);
-    uint32_t steps = IOP89_SWEEP_STEPS(sweep(asked, spare, channel, lines_at(order, at)));
+    uint32_t steps = IOP89_SWEEP_STEPS(sweep(asked, spare, channel, tool_lines_at(&order->of[0], at)));
     return steps <= order->limit - at && lines_fit(order, at, steps) ? steps : 0;
 }
 
@@ -275,7 +282,7 @@ static void sweep_line(const struct tool_order *order, uint8_t *state, struct to
     uint8_t before[IOP89_STATE_LENGTH];
     unsigned channel = transferring(state);
     memcpy(before, state, sizeof before);
-    uint64_t answer = sweep(state, memory, channel, lines_at(order, at));
+    uint64_t answer = sweep(state, memory, channel, tool_lines_at(&order->of[0], at));
     uint32_t steps = IOP89_SWEEP_STEPS(answer);
     printf("%" PRIu32 "-%" PRIu32 " %u T %" PRIu32 " ", at + 1, at + steps, channel, IOP89_SWEEP_COUNT(answer));
     print_tp(state, channel);
@@ -326,29 +333,35 @@ unsigned tool_make_state(const struct tool_order *order, uint8_t *state, struct 
     return IOP89_ANSWER_NUMBER(answer);
 }
 
+unsigned tool_print_attention(const char *whose, uint32_t channel, uint32_t answer)
+{
+    unsigned number = IOP89_ANSWER_NUMBER(answer);
+    printf("%sattention to channel %" PRIu32 ": %s", whose, channel, number == IOP89_DONE ? "accepted" : "refused\n");
+    if (number == IOP89_DONE) tool_print_count(answer);
+    return number;
+}
+
 /* Makes the state and gives the attentions; answers the number that refused one of them. */
 static unsigned start(const struct tool_order *order, uint8_t *state, struct tool_memory *memory)
 {
+    const struct tool_processor *processor = &order->of[0];
     unsigned number = tool_make_state(order, state, memory);
-    for (unsigned i = 0; number == IOP89_DONE && i < order->channels; i++) {
-        uint32_t answer = attend(state, memory, order->channel[i]);
-        number = IOP89_ANSWER_NUMBER(answer);
-        printf("attention to channel %" PRIu32 ": %s", order->channel[i], number == IOP89_DONE ? "accepted" : "refused\n");
-        if (number == IOP89_DONE) tool_print_count(answer);
-    }
+    for (unsigned i = 0; number == IOP89_DONE && i < processor->channels; i++)
+        number = tool_print_attention("", processor->channel[i], attend(state, memory, processor->channel[i]));
     return number;
 }
 
 enum tool_status tool_step(const struct tool_order *order)
 {
     uint8_t state[IOP89_STATE_LENGTH];
+    if (order->pair) return tool_step_pair(order);
     struct tool_memory memory = tool_load(order);
     unsigned number = start(order, state, &memory);
     bool started = number == IOP89_DONE;
     if (started) number = step_lines(order, state, &memory);
     if (number == IOP89_DONE) puts("the limit");
-    else print_number(number, iop89_service_words(number), state, &memory);
+    else tool_print_number("", number, iop89_service_words(number), state, &memory);
     tool_print_shown(order, &memory);
     tool_free(memory);
-    return started ? status_of(number, state) : TOOL_REFUSED;
+    return started ? tool_status_of(number, state) : TOOL_REFUSED;
 }

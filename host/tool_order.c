@@ -60,10 +60,22 @@ static uint32_t length_of(const char *option, const char *word)
 
 /* ---- Options ---- */
 
+/* The processor that an option of this name is for, the second one where it ends in 2, or NULL for any other word. */
+static struct tool_processor *processor_of(struct tool_order *order, const char *option, const char *name)
+{
+    size_t length = strlen(name);
+    if (strncmp(option, name, length) != 0) return NULL;
+    if (option[length] == '\0') return &order->of[0];
+    if (strcmp(option + length, "2") != 0) return NULL;
+    if (order->second_word == NULL) order->second_word = option;
+    return &order->of[1];
+}
+
 /* The place that an option with one number fills, or NULL for any other word. */
 static uint32_t *place_of(struct tool_order *order, const char *option)
 {
-    if (strcmp(option, "-cp") == 0) return &order->cp;
+    if (strcmp(option, "-cp") == 0) return &order->of[0].cp;
+    if (strcmp(option, "-pair") == 0) return &order->of[1].cp;
     if (strcmp(option, "-limit") == 0) return &order->limit;
     if (strcmp(option, "-first") == 0) return &order->first;
     return NULL;
@@ -83,6 +95,7 @@ static bool *mark_of(struct tool_order *order, const char *option)
 static bool *given_mark(struct tool_order *order, const char *option)
 {
     if (strcmp(option, "-cp") == 0) return &order->has_cp;
+    if (strcmp(option, "-pair") == 0) return &order->pair;
     if (strcmp(option, "-lines") == 0) return &order->has_lines;
     if (strcmp(option, "-limit") == 0) return &order->has_limit;
     if (strcmp(option, "-channel") == 0) return &order->has_channel;
@@ -90,34 +103,49 @@ static bool *given_mark(struct tool_order *order, const char *option)
 }
 
 /* Takes the line numbers of a word, with commas between them. */
-static void take_lines(struct tool_order *order, const char *word)
+static void take_lines(struct tool_processor *processor, const char *option, const char *word)
 {
-    if (word == NULL) tool_usage("a number is missing behind", "-lines");
-    order->line_numbers = 0;
+    if (word == NULL) tool_usage("a number is missing behind", option);
+    processor->line_numbers = 0;
     for (const char *from = word;; from++) {
         size_t length = strcspn(from, ",");
-        if (order->line_numbers == TOOL_LINES) tool_usage("more than 16 line numbers", word);
-        order->lines[order->line_numbers++] = number_in(word, from, length);
+        if (processor->line_numbers == TOOL_LINES) tool_usage("more than 16 line numbers", word);
+        processor->lines[processor->line_numbers++] = number_in(word, from, length);
         from += length;
         if (*from == '\0') return;
     }
 }
 
 /* Adds a channel. */
-static void add_channel(struct tool_order *order, const char *word)
+static void add_channel(struct tool_processor *processor, const char *option, const char *word)
 {
-    if (order->channels == TOOL_CHANNELS) tool_usage("more than two channels", word);
-    order->channel[order->channels++] = number_of("-channel", word);
+    if (processor->channels == TOOL_CHANNELS) tool_usage("more than two channels", word);
+    processor->channel[processor->channels++] = number_of(option, word);
 }
 
 /* Adds a range to be shown: the two words behind its option. */
-static void add_range(struct tool_order *order, char **words, bool in_io)
+static void add_range(struct tool_order *order, char **words, bool in_io, bool second)
 {
     if (order->ranges == TOOL_SHOWN) tool_usage("more than 16 ranges to show", NULL);
     struct tool_range *range = &order->shown[order->ranges++];
     range->from = length_of(words[0], words[1]);
     range->count = length_of(words[0], words[2]);
     range->in_io = in_io;
+    range->second = second;
+}
+
+/* Takes an option of one processor with its value; answers whether it is one. */
+static bool take_of_processor(struct tool_order *order, char **words)
+{
+    struct tool_processor *lines = processor_of(order, words[0], "-lines"), *io = processor_of(order, words[0], "-io");
+    struct tool_processor *channel = processor_of(order, words[0], "-channel");
+    struct tool_processor *image = processor_of(order, words[0], "-io-image");
+    if (lines != NULL) take_lines(lines, words[0], words[1]);
+    if (channel != NULL) add_channel(channel, words[0], words[1]);
+    if (io != NULL) io->io_length = length_of(words[0], words[1]);
+    if (image != NULL) image->io_image = words[1];
+    if (image != NULL && words[1] == NULL) tool_usage("a file is missing behind", words[0]);
+    return lines != NULL || channel != NULL || io != NULL || image != NULL;
 }
 
 /* Takes one option with its values; answers how many words it was, 0 for a word that is no option. */
@@ -125,26 +153,22 @@ static int take_option(struct tool_order *order, char **words, uint32_t *at)
 {
     uint32_t *place = place_of(order, words[0]);
     bool *mark = mark_of(order, words[0]), *given = given_mark(order, words[0]);
+    const struct tool_processor *shown = processor_of(order, words[0], "-show-io");
     if (mark != NULL) {
         *mark = true;
         return 1;
     }
     if (given != NULL) *given = true;
     if (place != NULL) *place = number_of(words[0], words[1]);
-    else if (strcmp(words[0], "-lines") == 0) take_lines(order, words[1]);
     else if (strcmp(words[0], "-at") == 0) *at = length_of(words[0], words[1]);
     else if (strcmp(words[0], "-from") == 0) order->from = length_of(words[0], words[1]);
     else if (strcmp(words[0], "-count") == 0) order->count = length_of(words[0], words[1]);
-    else if (strcmp(words[0], "-io") == 0) order->io_length = length_of(words[0], words[1]);
     else if (strcmp(words[0], "-system") == 0) order->system_length = length_of(words[0], words[1]);
-    else if (strcmp(words[0], "-channel") == 0) add_channel(order, words[1]);
-    else if (strcmp(words[0], "-io-image") == 0) {
-        order->io_image = words[1];
-        if (words[1] == NULL) tool_usage("a file is missing behind", words[0]);
-    } else if (strcmp(words[0], "-show") == 0 || strcmp(words[0], "-show-io") == 0) {
-        add_range(order, words, words[0][5] != '\0');
+    else if (shown != NULL || strcmp(words[0], "-show") == 0) {
+        add_range(order, words, shown != NULL, shown == &order->of[1]);
         return 3;
-    } else if (words[0][0] == '-' && words[0][1] != '\0') tool_usage("unknown option", words[0]);
+    } else if (take_of_processor(order, words)) return 2;
+    else if (words[0][0] == '-' && words[0][1] != '\0') tool_usage("unknown option", words[0]);
     else return 0;
     return 2;
 }
@@ -164,9 +188,15 @@ void tool_read_order(struct tool_order *order, int count, char **words)
     }
     if (at != UINT32_MAX) tool_usage("no file behind -at", NULL);
     if (order->files == 0) tool_usage("no file", NULL);
-    if (order->io_image != NULL && order->io_length != UINT32_MAX) tool_usage("-io and -io-image", NULL);
     if (order->board && order->has_cp) tool_usage("-board and -cp", NULL);
-    if (order->channels == 0) order->channel[order->channels++] = 1;
+    if (order->second_word != NULL && !order->pair)
+        tool_usage("no -pair, and so no second processor for", order->second_word);
+    for (unsigned i = 0; i < 2; i++) {
+        struct tool_processor *p = &order->of[i];
+        if (p->io_image != NULL && p->io_length != UINT32_MAX)
+            tool_usage(i == 0 ? "-io and -io-image" : "-io2 and -io-image2", NULL);
+        if (p->channels == 0) p->channel[p->channels++] = 1;
+    }
 }
 
 /* ---- Memory ---- */
@@ -192,9 +222,16 @@ static size_t read_file(const char *name, uint8_t *bytes, uint32_t at)
     return end;
 }
 
+/* The I/O memory that a processor asks for: a file, or zeros; answers its length. */
+static size_t load_io(const struct tool_processor *processor, uint8_t *io)
+{
+    if (processor->io_image != NULL) return read_file(processor->io_image, io, 0);
+    return processor->io_length != UINT32_MAX ? processor->io_length : 256;
+}
+
 struct tool_memory tool_load(const struct tool_order *order)
 {
-    struct tool_memory memory = {room(TOOL_MOST), room(TOOL_MOST), 0, 256};
+    struct tool_memory memory = {room(TOOL_MOST), room(TOOL_MOST), 0, 0};
     for (unsigned i = 0; i < order->files; i++) {
         const struct tool_file *file = &order->file[i];
         size_t end = tool_is_hex(file->name) ? tool_load_hex(file->name, memory.sys) : read_file(file->name, memory.sys, file->at);
@@ -204,8 +241,14 @@ struct tool_memory tool_load(const struct tool_order *order)
         if (order->system_length < memory.sys_len) tool_usage("the files need more than -system lends", NULL);
         memory.sys_len = order->system_length;
     }
-    if (order->io_image != NULL) memory.io_len = read_file(order->io_image, memory.io, 0);
-    else if (order->io_length != UINT32_MAX) memory.io_len = order->io_length;
+    memory.io_len = load_io(&order->of[0], memory.io);
+    return memory;
+}
+
+struct tool_memory tool_load_second(const struct tool_order *order, struct tool_memory first)
+{
+    struct tool_memory memory = {first.sys, room(TOOL_MOST), first.sys_len, 0};
+    memory.io_len = load_io(&order->of[1], memory.io);
     return memory;
 }
 
@@ -220,5 +263,10 @@ struct tool_memory tool_copy(struct tool_memory memory)
 void tool_free(struct tool_memory memory)
 {
     free(memory.sys);
+    free(memory.io);
+}
+
+void tool_free_second(struct tool_memory memory)
+{
     free(memory.io);
 }

@@ -233,6 +233,7 @@ static void refuse_words(const struct tool_order *order)
     if (order->has_lines) tool_usage("schedule has its line numbers in its rows", "-lines");
     if (order->has_limit) tool_usage("schedule makes all its rows", "-limit");
     if (order->sweep) tool_usage("schedule makes no sweeps", NULL);
+    if (order->pair) tool_usage("schedule has one processor", NULL);
     if (order->file[0].at != 0) tool_usage("-at before the rows", order->file[0].name);
     if (order->files < 2) tool_usage("no file behind the rows", order->file[0].name);
 }
