@@ -185,7 +185,8 @@ static uint64_t call_emulator(const struct named_call *k, const struct board *b,
     bool is_state[2];
     uint64_t answer = IOP89_NO_STATE;
     memset(&r, 0, sizeof r);
-    for (unsigned i = 0; i < 2; i++) is_state[i] = state_from_bytes(b->state[i], b->state_len[i], &two.state[i]) == FAULT_NONE;
+    for (unsigned i = 0; i < 2; i++)
+        is_state[i] = state_from_bytes(b->state[i], b->state_len[i], &two.state[i]) == FAULT_NONE;
     unsigned named = k->processor == 2;
     if (!is_processor(k->processor) || fault_at(k, b, named, &two.state[named]) == FAULT_NONE) {
         answer = emulate(k, &two, &r);
@@ -260,7 +261,8 @@ enum broken { BROKEN_17, BROKEN_10, BROKEN_13, BROKEN_14, BROKEN_11, BROKENS };
 
 static const char *const broken_names[BROKENS] = {
     "the other's bytes are no state (17)", "a pointer, PP or CP of the other is over 1,048,575 (10)",
-    "the other is not powered up (13)", "the other's fields and CC disagree (14)", "the other's I/O memory is too long (11)"};
+    "the other is not powered up (13)", "the other's fields and CC disagree (14)",
+    "the other's I/O memory is too long (11)"};
 
 /* Processors that are none: 0, 3, and others. */
 enum { NONE_0, NONE_3, NONE_LARGER, NONES };

@@ -5240,7 +5240,8 @@ static void test_processors_alone(void)
         if (made_up() % 4 == 0)
             unlike += emu_attention_of(&board, processor, channel).number != emu_attention(&alone, &m, channel).number;
         else unlike += emu_step_of(&board, processor, lines).number != emu_step(&alone, &m, lines).number;
-        unlike += !emu_same_state(&board.state[processor - 1], &alone) || !emu_same_state(&board.state[2 - processor], &other);
+        unlike += !emu_same_state(&board.state[processor - 1], &alone);
+        unlike += !emu_same_state(&board.state[2 - processor], &other);
         unlike += memcmp(a, a0, sizeof a) != 0 || memcmp(b, b0, sizeof b) != 0;
     }
     CHECK(unlike == 0);
