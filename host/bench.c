@@ -1,5 +1,5 @@
-/* One run of a known program by the proved library or by the plain emulator, some sweeps, or the rows of a schedule, for
- * tools/bench to count instructions. */
+/* One run of a known program by the proved library or by the plain emulator, some sweeps, the rows of a schedule, or steps
+ * of one of two processors, for tools/bench to count instructions. */
 #include "emulator.h"
 #include "iop89_service.h"
 #include "sweep_case.h"
@@ -134,7 +134,7 @@ static _Noreturn void usage(void)
 {
     fputs("usage: bench proved|plain mix|8/8|16/16|8/16|16/8|both small|full STEPS\n"
           "       bench swept|stepped within|across|one COUNT\n"
-          "       bench scheduled|singly both|8/8|16/16|wait ROWS\n"
+          "       bench scheduled|singly|paired-1|paired-2 both|8/8|16/16|wait ROWS\n"
           "       bench loop TURNS\n",
           stderr);
     exit(2);
@@ -304,6 +304,28 @@ static bool row_all(const char *how, const struct workload *w, uint32_t count)
     return report[waits ? IOP89_ROWS_REFUSED : IOP89_ROWS_ACCEPTED] == count;
 }
 
+/* ---- Two processors ---- */
+
+/* I/O memory of the other processor. */
+static uint8_t other_io[SMALL];
+
+/* So many steps of one of two processors, the other beside it; whether all were done, or all waited. */
+static bool step_paired(uint32_t processor, const struct workload *w, uint32_t count)
+{
+    uint8_t state[2][IOP89_STATE_LENGTH], *ports[2] = {io, io};
+    bool waits = strcmp(w->name, "wait") == 0;
+    uint32_t met[2] = {0, 0};
+    iop89_fresh(state[2 - processor], IOP89_STATE_LENGTH, CONTROL_BLOCK);
+    ports[2 - processor] = other_io;
+    make_started(w, state[processor - 1]);
+    for (uint32_t i = 0; i < count; i++) {
+        uint32_t answer = iop89_pair_step(processor, state[0], IOP89_STATE_LENGTH, state[1], IOP89_STATE_LENGTH, sys,
+                                          SMALL, ports[0], SMALL, ports[1], SMALL, 0);
+        met[IOP89_ANSWER_NUMBER(answer) == 0 ? 0 : 1]++;
+    }
+    return met[waits ? 1 : 0] == count;
+}
+
 /* ---- The program ---- */
 
 /* So many turns of two instructions each, by which a way of counting is checked. */
@@ -323,6 +345,8 @@ int main(int count, char **words)
         turn(number_of(words[2]));
         return 0;
     }
+    if (count == 4 && (strcmp(words[1], "paired-1") == 0 || strcmp(words[1], "paired-2") == 0))
+        return step_paired(words[1][7] == '1' ? 1 : 2, workload_of(words[2]), number_of(words[3])) ? 0 : 1;
     if (count == 4 && (strcmp(words[1], "scheduled") == 0 || strcmp(words[1], "singly") == 0))
         return row_all(words[1], workload_of(words[2]), number_of(words[3])) ? 0 : 1;
     if (count == 4) return made(words[1], sweep_of(words[2]), number_of(words[3])) ? 0 : 1;
