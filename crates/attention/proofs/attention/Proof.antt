@@ -11,33 +11,6 @@ use Rattle.attention.proofs.PlanLaws.{planned-settled}
 use Rattle.attention.proofs.attention.Statement.{statement}
 use Rattle.attention.proofs.attention.Tie as tie
 
-given-number-requires : tie.Need-given-number-requires
-given-number-requires c κs = search needs
-
-is-second-requires : tie.Need-is-second-requires
-is-second-requires c κs = search needs
-
-channel-requires : tie.Need-channel-requires
-channel-requires c κs = search needs
-
-block-requires : tie.Need-block-requires
-block-requires c κs = search needs
-
-planned-requires : tie.Need-planned-requires
-planned-requires c κs = search needs
-
-write-requires : tie.Need-write-requires
-write-requires c κs = search needs
-
-with-channel-requires : tie.Need-with-channel-requires
-with-channel-requires c κs = search needs
-
-same-length : tie.Need-same-length
-same-length c = search needs
-
-same-length-2 : tie.Need-same-length-2
-same-length-2 c = search needs
-
 returns : tie.Need-returns
 returns c =
     let a = c .before .before .before .before .before .before .before .before .before .before .before .before .before .before .before .before .before .before .before .before .before .args in
@@ -54,14 +27,5 @@ returns c =
 pub attention-spec : {M : Type 1} → statement M
 attention-spec =
     tie.close
-    (tie.spec
-    given-number-requires
-    is-second-requires
-    channel-requires
-    block-requires
-    planned-requires
-    write-requires
-    with-channel-requires
-    same-length
-    same-length-2
-    returns)
+    (tie.spec (λ c κs. search needs) (λ c κs. search needs) (λ c κs. search needs) (λ c κs. search needs) (λ c κs. search needs)
+    (λ c κs. search needs) (λ c κs. search needs) (λ c. search needs) (λ c. search needs) returns)

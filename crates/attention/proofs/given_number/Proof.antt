@@ -7,15 +7,9 @@ use Rattle.attention.specs.Attention.{givenTo}
 use Rattle.attention.proofs.given_number.Statement.{statement}
 use Rattle.attention.proofs.given_number.Tie as tie
 
-is-channel-requires : tie.Need-is-channel-requires
-is-channel-requires c κs = search needs
-
 returns : tie.Need-returns
 unfolding givenTo first unless
 returns c = simp (not-true (c .before .is-channel .result) (c .if1 .taken), ← (c .before .is-channel .ensures))
-
-given-number-requires : tie.Need-given-number-requires
-given-number-requires c κs = search needs
 
 returns-2 : tie.Need-returns-2
 unfolding givenTo first unless
@@ -23,4 +17,4 @@ returns-2 c = simp (← (c .given-number .ensures), not-false (c .before .before
 
 pub given-number-spec : {M : Type 1} → statement M
 given-number-spec =
-    tie.close (tie.spec is-channel-requires returns given-number-requires returns-2)
+    tie.close (tie.spec (λ c κs. search needs) returns (λ c κs. search needs) returns-2)

@@ -13,22 +13,13 @@ returns : tie.Need-returns
 unfolding orderNumber stagesNumber orderStages first unless
 returns c = simp (ne-eqb _ _ (c .if1 .taken))
 
-span-touchable-requires : tie.Need-span-touchable-requires
-span-touchable-requires c κs = search needs
-
 returns-2 : tie.Need-returns-2
 unfolding orderNumber stagesNumber orderStages first unless
 returns-2 c = simp (not-true (c .before .span-touchable .result) (c .if2 .taken), ← (c .before .span-touchable .ensures), c .before .before .if1 .left, eq-eqb _ _ (c .before .before .if1 .left))
 
-refusal-requires : tie.Need-refusal-requires
-refusal-requires c κs = search needs
-
 returns-3 : tie.Need-returns-3
 unfolding orderNumber stagesNumber orderStages first unless
 returns-3 c = simp (ne-eqb _ _ (c .if3 .taken), ← (c .before .refusal .ensures), not-false (c .before .before .before .span-touchable .result) (c .before .before .if2 .left), ← (c .before .before .before .span-touchable .ensures), c .before .before .before .before .if1 .left, eq-eqb _ _ (c .before .before .before .before .if1 .left))
-
-others-requires : tie.Need-others-requires
-others-requires c κs = search needs
 
 returns-4 : tie.Need-returns-4
 unfolding orderNumber stagesNumber orderStages first unless
@@ -41,12 +32,4 @@ returns-5 c = simp (c .if4 .left, ← (c .before .others .ensures), c .before .b
 pub number-spec : {M : Type 1} → statement M
 number-spec =
     tie.close
-    (tie.spec
-    returns
-    span-touchable-requires
-    returns-2
-    refusal-requires
-    returns-3
-    others-requires
-    returns-4
-    returns-5)
+    (tie.spec returns (λ c κs. search needs) returns-2 (λ c κs. search needs) returns-3 (λ c κs. search needs) returns-4 returns-5)

@@ -6,27 +6,9 @@ use Rattle.attention.specs.Attention.{plannedOf}
 use Rattle.attention.proofs.planned.Statement.{statement}
 use Rattle.attention.proofs.planned.Tie as tie
 
-order-requires : tie.Need-order-requires
-order-requires c κs = search needs
-
-number-requires : tie.Need-number-requires
-number-requires c κs = search needs
-
-writes-requires : tie.Need-writes-requires
-writes-requires c κs = search needs
-
 returns : tie.Need-returns
 unfolding plannedOf
 returns c = simp (← (c .writes .ensures), ne-eqb _ _ (c .before .if1 .taken), ← (c .before .before .number .ensures), ← (c .before .before .before .order .ensures))
-
-channel-ordered-requires : tie.Need-channel-ordered-requires
-channel-ordered-requires c κs = search needs
-
-writes-of-requires : tie.Need-writes-of-requires
-writes-of-requires c κs = search needs
-
-count-requires : tie.Need-count-requires
-count-requires c κs = search needs
 
 returns-2 : tie.Need-returns-2
 unfolding plannedOf
@@ -35,12 +17,5 @@ returns-2 c = simp (← (c .count .ensures), ← (c .before .writes-of .ensures)
 pub planned-spec : {M : Type 1} → statement M
 planned-spec =
     tie.close
-    (tie.spec
-    order-requires
-    number-requires
-    writes-requires
-    returns
-    channel-ordered-requires
-    writes-of-requires
-    count-requires
-    returns-2)
+    (tie.spec (λ c κs. search needs) (λ c κs. search needs) (λ c κs. search needs) returns (λ c κs. search needs) (λ c κs. search needs)
+    (λ c κs. search needs) returns-2)

@@ -16,15 +16,6 @@ use Rattle.board.specs.Board.{poweredRun, boardRunOf}
 use Rattle.board.proofs.board_run.Statement.{statement}
 use Rattle.board.proofs.board_run.Tie as tie
 
-call-number-requires : tie.Need-call-number-requires
-call-number-requires c κs = search needs
-
-same-length : tie.Need-same-length
-same-length c = search needs
-
-same-length-2 : tie.Need-same-length-2
-same-length-2 c = search needs
-
 returns : tie.Need-returns
 unfolding boardRunOf
 returns c =
@@ -32,24 +23,6 @@ returns c =
     let m = buffers (now (a .sys)) (now (a .io)) in
     let n = c .before .call-number .ensures in
     ap (λ (x : ℕ). ran x 0 m) n ∙ rw (ne-eqb (callNumber m (a .channel) (a .lines) (a .limit)) 0 (λ z. c .if1 .taken (n ∙ z)))
-
-reset-requires : tie.Need-reset-requires
-reset-requires c κs = search needs
-
-power-up-requires : tie.Need-power-up-requires
-power-up-requires c κs = search needs
-
-cast-start : tie.Need-cast-start
-cast-start c = search needs
-
-start-requires : tie.Need-start-requires
-start-requires c κs = search needs
-
-same-length-3 : tie.Need-same-length-3
-same-length-3 c = search needs
-
-same-length-4 : tie.Need-same-length-4
-same-length-4 c = search needs
 
 returns-2 : tie.Need-returns-2
 unfolding boardRunOf poweredRun
@@ -64,15 +37,5 @@ returns-2 c =
 pub board-run-spec : {M : Type 1} → statement M
 board-run-spec =
     tie.close
-    (tie.spec
-    call-number-requires
-    same-length
-    same-length-2
-    returns
-    reset-requires
-    power-up-requires
-    cast-start
-    start-requires
-    same-length-3
-    same-length-4
-    returns-2)
+    (tie.spec (λ c κs. search needs) (λ c. search needs) (λ c. search needs) returns (λ c κs. search needs) (λ c κs. search needs) (λ c. search needs)
+    (λ c κs. search needs) (λ c. search needs) (λ c. search needs) returns-2)

@@ -8,22 +8,13 @@ use Rattle.decode.proofs.LengthLaws.{more-small, two-small}
 use Rattle.decode.proofs.cell_length.Statement.{statement}
 use Rattle.decode.proofs.cell_length.Tie as tie
 
-more-requires : tie.Need-more-requires
-more-requires c κs = search needs
-
 add-result : tie.Need-add-result
 add-result c = omega (arith, c .more .ensures, more-small (eqb (c .before .before .args .p .aa) 1))
-
-announced-requires : tie.Need-announced-requires
-announced-requires c κs = search needs
 
 add-result-2 : tie.Need-add-result-2
 add-result-2 c =
     let p = c .before .before .before .args .p in
     omega (arith, c .announced .ensures, c .before .more .ensures, more-small (eqb (p .aa) 1), more-small (eqb (p .dd) 1), two-small (leb 2 (p .dd)))
-
-two-more-requires : tie.Need-two-more-requires
-two-more-requires c κs = search needs
 
 add-result-3 : tie.Need-add-result-3
 add-result-3 c =
@@ -38,4 +29,4 @@ returns c = simp (c .two-more .ensures, c .before .announced .ensures, c .before
 pub cell-length-spec : {M : Type 1} → statement M
 cell-length-spec =
     tie.close
-    (tie.spec more-requires add-result announced-requires add-result-2 two-more-requires add-result-3 returns)
+    (tie.spec (λ c κs. search needs) add-result (λ c κs. search needs) add-result-2 (λ c κs. search needs) add-result-3 returns)

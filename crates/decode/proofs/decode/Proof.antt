@@ -7,15 +7,6 @@ use Rattle.decode.proofs.CellLaws.{by-cell}
 use Rattle.decode.proofs.decode.Statement.{statement}
 use Rattle.decode.proofs.decode.Tie as tie
 
-cell-requires : tie.Need-cell-requires
-cell-requires c κs = search needs
-
-split-requires : tie.Need-split-requires
-split-requires c κs = search needs
-
-read-requires : tie.Need-read-requires
-read-requires c κs = search needs
-
 returns : tie.Need-returns
 unfolding decodeOf
 returns c =
@@ -24,4 +15,4 @@ returns c =
     ∙ sym (by-cell (a .first) (a .second))
 
 pub decode-spec : {M : Type 1} → statement M
-decode-spec = tie.close (tie.spec cell-requires split-requires read-requires returns)
+decode-spec = tie.close (tie.spec (λ c κs. search needs) (λ c κs. search needs) (λ c κs. search needs) returns)

@@ -18,15 +18,6 @@ same : (wide : Bool) (w : ℕ) → meets (pick wide '1 '0) w w ≡ eqb w (boolBy
 same true w = refl
 same false w = refl
 
-split-requires : tie.Need-split-requires
-split-requires c κs = search needs
-
-cast-if1 : tie.Need-cast-if1
-cast-if1 c = search needs
-
-operand-requires : tie.Need-operand-requires
-operand-requires c κs = search needs
-
 returns : tie.Need-returns
 unfolding secondOf
 returns c =
@@ -41,4 +32,4 @@ returns-2 c =
 
 pub decode-second-spec : {M : Type 1} → statement M
 decode-second-spec =
-    tie.close (tie.spec split-requires cast-if1 operand-requires returns returns-2)
+    tie.close (tie.spec (λ c κs. search needs) (λ c. search needs) (λ c κs. search needs) returns returns-2)

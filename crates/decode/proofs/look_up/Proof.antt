@@ -11,18 +11,6 @@ use Rattle.decode.proofs.CellLaws.{by-cell, length-by-cell}
 use Rattle.decode.proofs.look_up.Statement.{statement}
 use Rattle.decode.proofs.look_up.Tie as tie
 
-cell-requires : tie.Need-cell-requires
-cell-requires c κs = search needs
-
-split-requires : tie.Need-split-requires
-split-requires c κs = search needs
-
-read-requires : tie.Need-read-requires
-read-requires c κs = search needs
-
-cell-length-requires : tie.Need-cell-length-requires
-cell-length-requires c κs = search needs
-
 returns : tie.Need-returns
 unfolding decodeOf
 returns c =
@@ -34,4 +22,4 @@ returns c =
 
 pub look-up-spec : {M : Type 1} → statement M
 look-up-spec =
-    tie.close (tie.spec cell-requires split-requires read-requires cell-length-requires returns)
+    tie.close (tie.spec (λ c κs. search needs) (λ c κs. search needs) (λ c κs. search needs) (λ c κs. search needs) returns)

@@ -5,12 +5,9 @@ use Rattle.decode.specs.Lengths.{offsetLength}
 use Rattle.decode.proofs.offset_length.Statement.{statement}
 use Rattle.decode.proofs.offset_length.Tie as tie
 
-more-requires : tie.Need-more-requires
-more-requires c κs = search needs
-
 returns : tie.Need-returns
 unfolding offsetLength
 returns c = c .more .ensures
 
 pub offset-length-spec : {M : Type 1} → statement M
-offset-length-spec = tie.close (tie.spec more-requires returns)
+offset-length-spec = tie.close (tie.spec (λ c κs. search needs) returns)

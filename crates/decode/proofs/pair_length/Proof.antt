@@ -6,15 +6,6 @@ use Rattle.decode.proofs.CellLaws.{length-by-cell}
 use Rattle.decode.proofs.pair_length.Statement.{statement}
 use Rattle.decode.proofs.pair_length.Tie as tie
 
-cell-requires : tie.Need-cell-requires
-cell-requires c κs = search needs
-
-split-requires : tie.Need-split-requires
-split-requires c κs = search needs
-
-cell-length-requires : tie.Need-cell-length-requires
-cell-length-requires c κs = search needs
-
 returns : tie.Need-returns
 returns c =
     let a = c .before .before .before .args in
@@ -22,4 +13,4 @@ returns c =
     ∙ sym (length-by-cell (a .first) (a .second))
 
 pub pair-length-spec : {M : Type 1} → statement M
-pair-length-spec = tie.close (tie.spec cell-requires split-requires cell-length-requires returns)
+pair-length-spec = tie.close (tie.spec (λ c κs. search needs) (λ c κs. search needs) (λ c κs. search needs) returns)

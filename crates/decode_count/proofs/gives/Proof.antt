@@ -6,18 +6,6 @@ use Rattle.decode_count.specs.Tally.{givesBy}
 use Rattle.decode_count.proofs.gives.Statement.{statement}
 use Rattle.decode_count.proofs.gives.Tie as tie
 
-cast-decode : tie.Need-cast-decode
-cast-decode c = search needs
-
-cast-decode-2 : tie.Need-cast-decode-2
-cast-decode-2 c = search needs
-
-decode-requires : tie.Need-decode-requires
-decode-requires c κs = search needs
-
-number-requires : tie.Need-number-requires
-number-requires c κs = search needs
-
 returns : tie.Need-returns
 unfolding givesBy
 returns c = simp (← (c .before .before .decode .ensures), ← (c .before .number .ensures), eq-eqb _ _ (c .if1 .taken))
@@ -27,4 +15,4 @@ unfolding givesBy
 returns-2 c = simp (← (c .before .before .decode .ensures), ← (c .before .number .ensures), ne-eqb _ _ (c .if1 .left))
 
 pub gives-spec : {M : Type 1} → statement M
-gives-spec = tie.close (tie.spec cast-decode cast-decode-2 decode-requires number-requires returns returns-2)
+gives-spec = tie.close (tie.spec (λ c. search needs) (λ c. search needs) (λ c κs. search needs) (λ c κs. search needs) returns returns-2)

@@ -32,19 +32,10 @@ loop-holds : tie.Need-loop-holds Inv-loop μ-loop
 unfolding tallyOf
 loop-holds c = (lit≤ tt, lit≤ tt, refl)
 
-gives-requires : tie.Need-gives-requires Inv-loop μ-loop
-gives-requires c κs = search needs
-
 add-n : tie.Need-add-n Inv-loop μ-loop
 add-n c =
     let b = c .before .before in
     omega (arith, c .gives .ensures, once (b .before .args .number) (b .loop .place))
-
-add-place : tie.Need-add-place Inv-loop μ-loop
-add-place c = search needs
-
-loop-less : tie.Need-loop-less Inv-loop μ-loop
-loop-less c = search needs
 
 loop-again : tie.Need-loop-again Inv-loop μ-loop
 unfolding tallyOf
@@ -62,4 +53,4 @@ returns c =
 
 pub tally-spec : {M : Type 1} → statement M
 tally-spec =
-    tie.close (tie.spec Inv-loop μ-loop loop-holds gives-requires add-n add-place loop-less loop-again returns)
+    tie.close (tie.spec Inv-loop μ-loop loop-holds (λ c κs. search needs) add-n (λ c. search needs) (λ c. search needs) loop-again returns)

@@ -19,15 +19,6 @@ use Rattle.execute.proofs.CodeLaws.{plan-refused, plan-passed, plan-don
 use Rattle.execute.proofs.execute.Statement.{statement}
 use Rattle.execute.proofs.execute.Tie as tie
 
-plan-requires : tie.Need-plan-requires
-plan-requires c κs = search needs
-
-same-length : tie.Need-same-length
-same-length c = search needs
-
-same-length-2 : tie.Need-same-length-2
-same-length-2 c = search needs
-
 returns : tie.Need-returns
 returns c =
     let a = c .before .before .before .before .before .before .before .args in
@@ -36,15 +27,6 @@ returns c =
     let ne : planNumber m (a .c) (a .busy) ≡ 0 → ⊥ = λ z. c .if1 .taken (p .told ∙ z) in
     let refused = plan-refused m (a .c) (a .busy) ne in
     (ap (λ (n : ℕ). executed n (a .c) m) (p .told) ∙ sym refused, none-counted m (a .c) (a .busy) _ refused ne)
-
-made-requires : tie.Need-made-requires
-made-requires c κs = search needs
-
-same-length-3 : tie.Need-same-length-3
-same-length-3 c = search needs
-
-same-length-4 : tie.Need-same-length-4
-same-length-4 c = search needs
 
 returns-2 : tie.Need-returns-2
 returns-2 c =
@@ -67,12 +49,6 @@ add-count c =
     let p = c .before .before .before .before .before .before .before .before .before .before .before .before .before .before .plan .ensures in
     omega (arith, plan-most m (a .c) (a .busy) (c .before .before .before .before .before .before .before .before .before .before .before .before .before .before .plan .result) (p .done (sym (p .told) ∙ c .before .before .before .before .before .before .before .before .before .before .before .before .if1 .left)))
 
-same-length-5 : tie.Need-same-length-5
-same-length-5 c = search needs
-
-same-length-6 : tie.Need-same-length-6
-same-length-6 c = search needs
-
 returns-3 : tie.Need-returns-3
 returns-3 c =
     let a = c .before .before .before .before .before .before .before .before .before .before .before .before .before .before .before .before .before .before .before .before .before .before .args in
@@ -89,9 +65,6 @@ returns-3 c =
           ∙ sym (plan-done m (a .c) (a .busy) z touchable),
       plan-counted m (a .c) (a .busy) e same (plan-passed m (a .c) (a .busy) z touchable),
     )
-
-with-requires : tie.Need-with-requires
-with-requires c κs = search needs
 
 same-length-7 : tie.Need-same-length-7
 same-length-7 c = c .before .before .before .before .before .before .before .before .before .before .before .made .kept .1 .0
@@ -119,20 +92,5 @@ returns-4 c =
 pub execute-spec : {M : Type 1} → statement M
 execute-spec =
     tie.close
-    (tie.spec
-    plan-requires
-    same-length
-    same-length-2
-    returns
-    made-requires
-    same-length-3
-    same-length-4
-    returns-2
-    add-count
-    same-length-5
-    same-length-6
-    returns-3
-    with-requires
-    same-length-7
-    same-length-8
-    returns-4)
+    (tie.spec (λ c κs. search needs) (λ c. search needs) (λ c. search needs) returns (λ c κs. search needs) (λ c. search needs) (λ c. search needs)
+    returns-2 add-count (λ c. search needs) (λ c. search needs) returns-3 (λ c κs. search needs) same-length-7 same-length-8 returns-4)

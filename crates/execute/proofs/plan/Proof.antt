@@ -17,38 +17,11 @@ use Rattle.execute.proofs.CodeLaws.{refusal-planned, plan-beyond, plan-
 use Rattle.execute.proofs.plan.Statement.{statement}
 use Rattle.execute.proofs.plan.Tie as tie
 
-touchable-requires : tie.Need-touchable-requires
-touchable-requires c κs = search needs
-
-refused-requires : tie.Need-refused-requires
-refused-requires c κs = search needs
-
 returns : tie.Need-returns
 returns c =
     let a = c .before .before .before .before .before .before .args in
     let m = buffers (now (a .sys)) (now (a .io)) in
     refusal-planned (c .refused .ensures) (plan-beyond m (a .c) (a .busy) (sym (c .before .before .touchable .ensures) ∙ not-true _ (c .before .if1 .taken))) (eqb-false 2 0 refl)
-
-byte-requires : tie.Need-byte-requires
-byte-requires c κs = search needs
-
-onward-requires : tie.Need-onward-requires
-onward-requires c κs = search needs
-
-byte-requires-2 : tie.Need-byte-requires-2
-byte-requires-2 c κs = search needs
-
-look-up-requires : tie.Need-look-up-requires
-look-up-requires c κs = search needs
-
-enum-known-decoded : tie.Need-enum-known-decoded
-enum-known-decoded c = search needs
-
-number-requires : tie.Need-number-requires
-number-requires c κs = search needs
-
-refused-requires-2 : tie.Need-refused-requires-2
-refused-requires-2 c κs = search needs
 
 -- the pair is what was looked up
 what : {l : Looked} {d : Decoded} {n : ℕ} → l ≡ record { decoded = d; length = n } → l .decoded ≡ d
@@ -84,17 +57,5 @@ returns-3 c =
 pub plan-spec : {M : Type 1} → statement M
 plan-spec =
     tie.close
-    (tie.spec
-    touchable-requires
-    refused-requires
-    returns
-    byte-requires
-    onward-requires
-    byte-requires-2
-    look-up-requires
-    enum-known-decoded
-    number-requires
-    refused-requires-2
-    returns-2
-    shaped-requires
-    returns-3)
+    (tie.spec (λ c κs. search needs) (λ c κs. search needs) returns (λ c κs. search needs) (λ c κs. search needs) (λ c κs. search needs)
+    (λ c κs. search needs) (λ c. search needs) (λ c κs. search needs) (λ c κs. search needs) returns-2 shaped-requires returns-3)

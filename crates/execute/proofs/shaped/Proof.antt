@@ -16,17 +16,8 @@ use Rattle.execute.proofs.CountLaws.{reads-most}
 use Rattle.execute.proofs.shaped.Statement.{statement}
 use Rattle.execute.proofs.shaped.Tie as tie
 
-onward-requires : tie.Need-onward-requires
-onward-requires c κs = search needs
-
 sub-touchable : tie.Need-sub-touchable
 sub-touchable c = omega (arith, c .before .before .before .before .pre, bounded (c .before .before .before .before .args .shape))
-
-touchable-requires : tie.Need-touchable-requires
-touchable-requires c κs = search needs
-
-refused-requires : tie.Need-refused-requires
-refused-requires c κs = search needs
 
 returns : tie.Need-returns
 unfolding laterBytes
@@ -35,12 +26,6 @@ returns c =
     let m = buffers (now (a .sys)) (now (a .io)) in
     let later = simp (c .before .before .before .onward .ensures, c .before .before .before .before .before .before .before .pre) at (sym (c .before .before .touchable .ensures) ∙ not-true _ (c .before .if1 .taken)) in
     refusal-planned (c .refused .ensures) (later-beyond m (a .c) (a .busy) (a .shape) later) (eqb-false 2 0 refl)
-
-advanced-requires : tie.Need-advanced-requires
-advanced-requires c κs = search needs
-
-perform-requires : tie.Need-perform-requires
-perform-requires c κs = search needs
 
 add-e : tie.Need-add-e
 unfolding effectOf
@@ -62,13 +47,5 @@ returns-2 c =
 pub shaped-spec : {M : Type 1} → statement M
 shaped-spec =
     tie.close
-    (tie.spec
-    onward-requires
-    sub-touchable
-    touchable-requires
-    refused-requires
-    returns
-    advanced-requires
-    perform-requires
-    add-e
-    returns-2)
+    (tie.spec (λ c κs. search needs) sub-touchable (λ c κs. search needs) (λ c κs. search needs) returns (λ c κs. search needs) (λ c κs. search needs)
+    add-e returns-2)

@@ -8,18 +8,12 @@ use Rattle.memory.specs.Values.{onward}
 use Rattle.execute_operands.proofs.after_pair.Statement.{statement}
 use Rattle.execute_operands.proofs.after_pair.Tie as tie
 
-offset-length-requires : tie.Need-offset-length-requires
-offset-length-requires c κs = search needs
-
 add-onward : tie.Need-add-onward
 unfolding offsetLength
 add-onward c = omega (arith, c .offset-length .ensures, offset-small (c .before .args .m .aa))
-
-onward-requires : tie.Need-onward-requires
-onward-requires c κs = search needs
 
 returns : tie.Need-returns
 returns c = simp (c .onward .ensures, c .before .offset-length .ensures)
 
 pub after-pair-spec : {M : Type 1} → statement M
-after-pair-spec = tie.close (tie.spec offset-length-requires add-onward onward-requires returns)
+after-pair-spec = tie.close (tie.spec (λ c κs. search needs) add-onward (λ c κs. search needs) returns)

@@ -6,18 +6,9 @@ use Rattle.memory.specs.Values.{onward}
 use Rattle.execute_operands.proofs.effective.Statement.{statement}
 use Rattle.execute_operands.proofs.effective.Tie as tie
 
-base-requires : tie.Need-base-requires
-base-requires c κs = search needs
-
-index-requires : tie.Need-index-requires
-index-requires c κs = search needs
-
-onward-requires : tie.Need-onward-requires
-onward-requires c κs = search needs
-
 returns : tie.Need-returns
 unfolding effective
 returns c = simp (c .onward .ensures, c .before .index .ensures, c .before .before .base .ensures)
 
 pub effective-spec : {M : Type 1} → statement M
-effective-spec = tie.close (tie.spec base-requires index-requires onward-requires returns)
+effective-spec = tie.close (tie.spec (λ c κs. search needs) (λ c κs. search needs) (λ c κs. search needs) returns)

@@ -7,12 +7,9 @@ use Rattle.memory.specs.Values.{onward}
 use Rattle.execute_operands.proofs.further.Statement.{statement}
 use Rattle.execute_operands.proofs.further.Tie as tie
 
-onward-requires : tie.Need-onward-requires
-onward-requires c κs = search needs
-
 returns : tie.Need-returns
 unfolding further renewed
 returns c = simp (c .onward .ensures)
 
 pub further-spec : {M : Type 1} → statement M
-further-spec = tie.close (tie.spec onward-requires returns)
+further-spec = tie.close (tie.spec (λ c κs. search needs) returns)

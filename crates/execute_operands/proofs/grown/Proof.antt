@@ -7,9 +7,6 @@ use Rattle.machine.specs.Updates.{renewed}
 use Rattle.execute_operands.proofs.grown.Statement.{statement}
 use Rattle.execute_operands.proofs.grown.Tie as tie
 
-wrapping-add-u16-requires : tie.Need-wrapping-add-u16-requires
-wrapping-add-u16-requires c κs = search needs
-
 returns : tie.Need-returns
 unfolding grown renewed
 returns c = simp (c .wrapping-add-u16 .ensures, c .before .if1 .taken, eq-eqb _ _ (c .before .if1 .taken))
@@ -19,4 +16,4 @@ unfolding grown renewed
 returns-2 c = simp (ne-eqb _ _ (c .if1 .left))
 
 pub grown-spec : {M : Type 1} → statement M
-grown-spec = tie.close (tie.spec wrapping-add-u16-requires returns returns-2)
+grown-spec = tie.close (tie.spec (λ c κs. search needs) returns returns-2)

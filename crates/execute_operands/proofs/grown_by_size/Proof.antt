@@ -5,12 +5,6 @@ use Rattle.execute_operands.specs.Operands.{grown}
 use Rattle.execute_operands.proofs.grown_by_size.Statement.{statement}
 use Rattle.execute_operands.proofs.grown_by_size.Tie as tie
 
-grown-requires : tie.Need-grown-requires
-grown-requires c κs = search needs
-
-grown-requires-2 : tie.Need-grown-requires-2
-grown-requires-2 c κs = search needs
-
 returns : tie.Need-returns
 returns c = simp (c .grown .ensures, c .before .if1 .taken)
 
@@ -18,4 +12,4 @@ returns-2 : tie.Need-returns-2
 returns-2 c = simp (c .grown2 .ensures, c .before .if1 .left)
 
 pub grown-by-size-spec : {M : Type 1} → statement M
-grown-by-size-spec = tie.close (tie.spec grown-requires grown-requires-2 returns returns-2)
+grown-by-size-spec = tie.close (tie.spec (λ c κs. search needs) (λ c κs. search needs) returns returns-2)

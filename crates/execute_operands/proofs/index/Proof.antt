@@ -11,21 +11,9 @@ returns : tie.Need-returns
 unfolding indexed
 returns c = simp (c .if1 .taken, eq-eqb _ _ (c .if1 .taken))
 
-onward-requires : tie.Need-onward-requires
-onward-requires c κs = search needs
-
-byte-requires : tie.Need-byte-requires
-byte-requires c κs = search needs
-
-cast-result : tie.Need-cast-result
-cast-result c = search needs
-
 returns-2 : tie.Need-returns-2
 unfolding indexed
 returns-2 c = simp (c .byte .ensures, c .before .onward .ensures, c .before .before .if2 .taken, eq-eqb _ _ (c .before .before .if2 .taken), ne-eqb _ _ (c .before .before .before .if1 .left))
-
-cast-result-2 : tie.Need-cast-result-2
-cast-result-2 c = search needs
 
 returns-3 : tie.Need-returns-3
 unfolding indexed
@@ -34,4 +22,4 @@ returns-3 c = simp (ne-eqb _ _ (c .before .if2 .left), ne-eqb _ _ (c .before .be
 pub index-spec : {M : Type 1} → statement M
 index-spec =
     tie.close
-    (tie.spec returns onward-requires byte-requires cast-result returns-2 cast-result-2 returns-3)
+    (tie.spec returns (λ c κs. search needs) (λ c κs. search needs) (λ c. search needs) returns-2 (λ c. search needs) returns-3)

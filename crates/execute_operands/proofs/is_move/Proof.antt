@@ -5,21 +5,6 @@ use Rattle.execute_operands.specs.Operands.{isMove}
 use Rattle.execute_operands.proofs.is_move.Statement.{statement}
 use Rattle.execute_operands.proofs.is_move.Tie as tie
 
-enum-told : tie.Need-enum-told
-enum-told c = search needs
-
-enum-told-2 : tie.Need-enum-told-2
-enum-told-2 c = search needs
-
-enum-told-3 : tie.Need-enum-told-3
-enum-told-3 c = search needs
-
-enum-told-4 : tie.Need-enum-told-4
-enum-told-4 c = search needs
-
-enum-told-5 : tie.Need-enum-told-5
-enum-told-5 c = search needs
-
 returns : tie.Need-returns
 unfolding isMove
 returns c = simp (c .enum-told .given .1)
@@ -43,14 +28,5 @@ returns-5 c = simp (c .enum-told5 .given .1)
 pub is-move-spec : {M : Type 1} → statement M
 is-move-spec =
     tie.close
-    (tie.spec
-    enum-told
-    enum-told-2
-    enum-told-3
-    enum-told-4
-    enum-told-5
-    returns
-    returns-2
-    returns-3
-    returns-4
-    returns-5)
+    (tie.spec (λ c. search needs) (λ c. search needs) (λ c. search needs) (λ c. search needs) (λ c. search needs) returns returns-2 returns-3
+    returns-4 returns-5)

@@ -5,18 +5,6 @@ use Rattle.execute_operands.specs.Operands.{displacementAt, landing}
 use Rattle.execute_operands.proofs.landing.Statement.{statement}
 use Rattle.execute_operands.proofs.landing.Tie as tie
 
-word-requires : tie.Need-word-requires
-word-requires c κs = search needs
-
-displaced-word-requires : tie.Need-displaced-word-requires
-displaced-word-requires c κs = search needs
-
-byte-requires : tie.Need-byte-requires
-byte-requires c κs = search needs
-
-displaced-byte-requires : tie.Need-displaced-byte-requires
-displaced-byte-requires c κs = search needs
-
 returns : tie.Need-returns
 unfolding landing displacementAt
 returns c = simp (c .displaced-word .ensures, c .before .word .ensures, c .before .before .if1 .taken)
@@ -28,10 +16,4 @@ returns-2 c = simp (c .displaced-byte .ensures, c .before .byte .ensures, c .bef
 pub landing-spec : {M : Type 1} → statement M
 landing-spec =
     tie.close
-    (tie.spec
-    word-requires
-    displaced-word-requires
-    byte-requires
-    displaced-byte-requires
-    returns
-    returns-2)
+    (tie.spec (λ c κs. search needs) (λ c κs. search needs) (λ c κs. search needs) (λ c κs. search needs) returns returns-2)

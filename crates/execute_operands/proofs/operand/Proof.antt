@@ -5,18 +5,6 @@ use Rattle.execute_operands.specs.Operands.{operandAt}
 use Rattle.execute_operands.proofs.operand.Statement.{statement}
 use Rattle.execute_operands.proofs.operand.Tie as tie
 
-word-requires : tie.Need-word-requires
-word-requires c κs = search needs
-
-extend-word-requires : tie.Need-extend-word-requires
-extend-word-requires c κs = search needs
-
-byte-requires : tie.Need-byte-requires
-byte-requires c κs = search needs
-
-extend-byte-requires : tie.Need-extend-byte-requires
-extend-byte-requires c κs = search needs
-
 returns : tie.Need-returns
 unfolding operandAt
 returns c = simp (c .extend-word .ensures, c .before .word .ensures, c .before .before .if1 .taken)
@@ -28,10 +16,4 @@ returns-2 c = simp (c .extend-byte .ensures, c .before .byte .ensures, c .before
 pub operand-spec : {M : Type 1} → statement M
 operand-spec =
     tie.close
-    (tie.spec
-    word-requires
-    extend-word-requires
-    byte-requires
-    extend-byte-requires
-    returns
-    returns-2)
+    (tie.spec (λ c κs. search needs) (λ c κs. search needs) (λ c κs. search needs) (λ c κs. search needs) returns returns-2)

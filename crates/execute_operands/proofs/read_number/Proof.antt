@@ -5,15 +5,9 @@ use Rattle.execute_operands.specs.Operands.{readNumber}
 use Rattle.execute_operands.proofs.read_number.Statement.{statement}
 use Rattle.execute_operands.proofs.read_number.Tie as tie
 
-touchable-requires : tie.Need-touchable-requires
-touchable-requires c κs = search needs
-
-two-unless-requires : tie.Need-two-unless-requires
-two-unless-requires c κs = search needs
-
 returns : tie.Need-returns
 unfolding readNumber
 returns c = simp (c .two-unless .ensures, c .before .touchable .ensures)
 
 pub read-number-spec : {M : Type 1} → statement M
-read-number-spec = tie.close (tie.spec touchable-requires two-unless-requires returns)
+read-number-spec = tie.close (tie.spec (λ c κs. search needs) (λ c κs. search needs) returns)

@@ -5,9 +5,6 @@ use Rattle.execute_operands.specs.Marks.{usedUp}
 use Rattle.execute_operands.proofs.used_up.Statement.{statement}
 use Rattle.execute_operands.proofs.used_up.Tie as tie
 
-with-requires : tie.Need-with-requires
-with-requires c κs = search needs
-
 returns : tie.Need-returns
 unfolding usedUp
 returns c = simp (c .with .ensures, c .before .if1 .taken)
@@ -17,4 +14,4 @@ unfolding usedUp
 returns-2 c = simp (c .if1 .left)
 
 pub used-up-spec : {M : Type 1} → statement M
-used-up-spec = tie.close (tie.spec with-requires returns returns-2)
+used-up-spec = tie.close (tie.spec (λ c κs. search needs) returns returns-2)

@@ -6,27 +6,6 @@ use Rattle.execute_operands.specs.Operands.{workOf}
 use Rattle.execute_operands.proofs.work.Statement.{statement}
 use Rattle.execute_operands.proofs.work.Tie as tie
 
-enum-told : tie.Need-enum-told
-enum-told c = search needs
-
-enum-told-2 : tie.Need-enum-told-2
-enum-told-2 c = search needs
-
-sum20-requires : tie.Need-sum20-requires
-sum20-requires c κs = search needs
-
-enum-told-3 : tie.Need-enum-told-3
-enum-told-3 c = search needs
-
-enum-told-4 : tie.Need-enum-told-4
-enum-told-4 c = search needs
-
-enum-told-5 : tie.Need-enum-told-5
-enum-told-5 c = search needs
-
-sub-result : tie.Need-sub-result
-sub-result c = search needs
-
 returns : tie.Need-returns
 unfolding workOf
 returns c = simp (c .enum-told .given .1)
@@ -50,16 +29,5 @@ returns-5 c = simp (c .enum-told5 .given .1)
 pub work-spec : {M : Type 1} → statement M
 work-spec =
     tie.close
-    (tie.spec
-    enum-told
-    enum-told-2
-    sum20-requires
-    enum-told-3
-    enum-told-4
-    enum-told-5
-    sub-result
-    returns
-    returns-2
-    returns-3
-    returns-4
-    returns-5)
+    (tie.spec (λ c. search needs) (λ c. search needs) (λ c κs. search needs) (λ c. search needs) (λ c. search needs) (λ c. search needs)
+    (λ c. search needs) returns returns-2 returns-3 returns-4 returns-5)

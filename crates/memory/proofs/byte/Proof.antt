@@ -6,15 +6,6 @@ use Rattle.memory.specs.Buffers.{spaceOf, beyondIn, byteAt}
 use Rattle.memory.proofs.byte.Statement.{statement}
 use Rattle.memory.proofs.byte.Tie as tie
 
-index-requires : tie.Need-index-requires
-index-requires c κs = search needs
-
-read-requires : tie.Need-read-requires
-read-requires c κs = search needs
-
-read-requires-2 : tie.Need-read-requires-2
-read-requires-2 c κs = search needs
-
 returns : tie.Need-returns
 unfolding byteAt beyondIn spaceOf
 returns c = c .read .ensures ∙ rw (c .before .before .index .ensures, c .before .if1 .taken)
@@ -24,4 +15,4 @@ unfolding byteAt beyondIn spaceOf
 returns-2 c = c .read2 .ensures ∙ rw (c .before .before .index .ensures, c .before .if1 .left)
 
 pub byte-spec : {M : Type 1} → statement M
-byte-spec = tie.close (tie.spec index-requires read-requires read-requires-2 returns returns-2)
+byte-spec = tie.close (tie.spec (λ c κs. search needs) (λ c κs. search needs) (λ c κs. search needs) returns returns-2)

@@ -8,18 +8,6 @@ use Rattle.memory.proofs.PlaceLaws.{word-reduced}
 use Rattle.memory.proofs.doubleword.Statement.{statement}
 use Rattle.memory.proofs.doubleword.Tie as tie
 
-word-requires : tie.Need-word-requires
-word-requires c κs = search needs
-
-sum20-requires : tie.Need-sum20-requires
-sum20-requires c κs = search needs
-
-word-requires-2 : tie.Need-word-requires-2
-word-requires-2 c κs = search needs
-
-address-requires : tie.Need-address-requires
-address-requires c κs = search needs
-
 returns : tie.Need-returns
 unfolding doublewordAt
 returns c =
@@ -28,4 +16,4 @@ returns c =
 
 pub doubleword-spec : {M : Type 1} → statement M
 doubleword-spec =
-    tie.close (tie.spec word-requires sum20-requires word-requires-2 address-requires returns)
+    tie.close (tie.spec (λ c κs. search needs) (λ c κs. search needs) (λ c κs. search needs) (λ c κs. search needs) returns)

@@ -5,12 +5,6 @@ use Rattle.memory.specs.Buffers.{limitOf, indexOf}
 use Rattle.memory.proofs.index.Statement.{statement}
 use Rattle.memory.proofs.index.Tie as tie
 
-cast-result : tie.Need-cast-result
-cast-result c = search needs
-
-cast-result-2 : tie.Need-cast-result-2
-cast-result-2 c = search needs
-
 returns : tie.Need-returns
 unfolding indexOf limitOf
 returns c = simp (c .if1 .taken)
@@ -20,4 +14,4 @@ unfolding indexOf limitOf
 returns-2 c = simp (c .if1 .left)
 
 pub index-spec : {M : Type 1} → statement M
-index-spec = tie.close (tie.spec cast-result cast-result-2 returns returns-2)
+index-spec = tie.close (tie.spec (λ c. search needs) (λ c. search needs) returns returns-2)

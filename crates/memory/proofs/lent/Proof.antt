@@ -5,9 +5,6 @@ use Rattle.memory.specs.Buffers.{spaceOf, lentAt}
 use Rattle.memory.proofs.lent.Statement.{statement}
 use Rattle.memory.proofs.lent.Tie as tie
 
-index-requires : tie.Need-index-requires
-index-requires c κs = search needs
-
 returns : tie.Need-returns
 unfolding lentAt spaceOf
 returns c = rw (c .before .index .ensures, c .if1 .taken)
@@ -17,4 +14,4 @@ unfolding lentAt spaceOf
 returns-2 c = rw (c .before .index .ensures, c .if1 .left)
 
 pub lent-spec : {M : Type 1} → statement M
-lent-spec = tie.close (tie.spec index-requires returns returns-2)
+lent-spec = tie.close (tie.spec (λ c κs. search needs) returns returns-2)

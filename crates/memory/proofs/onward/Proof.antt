@@ -6,12 +6,9 @@ use Rattle.memory.specs.Values.{onward}
 use Rattle.memory.proofs.onward.Statement.{statement}
 use Rattle.memory.proofs.onward.Tie as tie
 
-sum20-requires : tie.Need-sum20-requires
-sum20-requires c κs = search needs
-
 returns : tie.Need-returns
 unfolding onward
 returns c = simp (c .sum20 .ensures)
 
 pub onward-spec : {M : Type 1} → statement M
-onward-spec = tie.close (tie.spec sum20-requires returns)
+onward-spec = tie.close (tie.spec (λ c κs. search needs) returns)

@@ -14,9 +14,6 @@ use Rattle.memory.proofs.read.Tie as tie
 within : (l : List ℕ) (i d e : ℕ) → i < length l → getD l i d ≡ getD l i e
 within l i d e h = sym (ap (λ (x : List ℕ). getD x i d) (set-getD l i e)) ∙ getD-set-same l i (getD l i e) d h
 
-shared-slice-read-result : tie.Need-shared-slice-read-result
-shared-slice-read-result c = search needs
-
 returns : tie.Need-returns
 returns c = let a = c .before .before .args in within (now (a .space)) (a .at) 0 (a .beyond) (c .before .if1 .taken)
 
@@ -24,4 +21,4 @@ returns-2 : tie.Need-returns-2
 returns-2 c = sym (List·getD-eq-default (now (c .before .args .space)) (c .before .args .beyond) (c .if1 .left))
 
 pub read-spec : {M : Type 1} → statement M
-read-spec = tie.close (tie.spec shared-slice-read-result returns returns-2)
+read-spec = tie.close (tie.spec (λ c. search needs) returns returns-2)

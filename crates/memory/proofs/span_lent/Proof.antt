@@ -14,9 +14,6 @@ returns : tie.Need-returns
 unfolding span allPass
 returns c = rw (c .if1 .taken)
 
-index-requires : tie.Need-index-requires
-index-requires c κs = search needs
-
 add-end : tie.Need-add-end
 add-end c = omega (arith, index-small (c .before .before .before .before .args .tag) (c .before .before .before .before .args .address), c .index .ensures)
 
@@ -33,4 +30,4 @@ returns-3 c =
     rw (← (span-tests (buffers (now (a .sys)) (now (a .io))) (a .tag) (a .address) (a .count) (c .before .before .if1 .left)), c .before .index .ensures, c .if2 .left)
 
 pub span-lent-spec : {M : Type 1} → statement M
-span-lent-spec = tie.close (tie.spec returns index-requires add-end returns-2 returns-3)
+span-lent-spec = tie.close (tie.spec returns (λ c κs. search needs) add-end returns-2 returns-3)

@@ -13,13 +13,10 @@ returns c =
     let a = c .before .before .before .args in
     rw (c .if1 .taken) (sym (span-io (buffers (now (a .sys)) (now (a .io))) (a .address) (a .count)))
 
-span-lent-requires : tie.Need-span-lent-requires
-span-lent-requires c κs = search needs
-
 returns-2 : tie.Need-returns-2
 returns-2 c =
     let a = c .before .before .before .before .args in
     c .span-lent .ensures ∙ rw (c .before .if1 .left) (sym (span-system (buffers (now (a .sys)) (now (a .io))) (a .address) (a .count)))
 
 pub span-touchable-spec : {M : Type 1} → statement M
-span-touchable-spec = tie.close (tie.spec returns span-lent-requires returns-2)
+span-touchable-spec = tie.close (tie.spec returns (λ c κs. search needs) returns-2)

@@ -9,25 +9,10 @@ use Rattle.memory.specs.Buffers.{buffers, storeByte}
 use Rattle.memory.proofs.store_byte.Statement.{statement}
 use Rattle.memory.proofs.store_byte.Tie as tie
 
-index-requires : tie.Need-index-requires
-index-requires c κs = search needs
-
-write-requires : tie.Need-write-requires
-write-requires c κs = search needs
-
-write-requires-2 : tie.Need-write-requires-2
-write-requires-2 c κs = search needs
-
-same-length : tie.Need-same-length
-same-length c = search needs
-
 returns : tie.Need-returns
 unfolding storeByte
 returns c =
     ap (buffers (now (c .before .before .before .before .before .before .before .before .args .sys))) (c .before .before .write .ensures) ∙ rw (c .before .before .before .before .before .index .ensures, c .before .before .before .before .if1 .taken)
-
-same-length-2 : tie.Need-same-length-2
-same-length-2 c = search needs
 
 returns-2 : tie.Need-returns-2
 unfolding storeByte
@@ -37,11 +22,4 @@ returns-2 c =
 pub store-byte-spec : {M : Type 1} → statement M
 store-byte-spec =
     tie.close
-    (tie.spec
-    index-requires
-    write-requires
-    write-requires-2
-    same-length
-    returns
-    same-length-2
-    returns-2)
+    (tie.spec (λ c κs. search needs) (λ c κs. search needs) (λ c κs. search needs) (λ c. search needs) returns (λ c. search needs) returns-2)

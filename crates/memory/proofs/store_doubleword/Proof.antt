@@ -8,21 +8,6 @@ use Rattle.memory.proofs.PlaceLaws.{store-word-reduced}
 use Rattle.memory.proofs.store_doubleword.Statement.{statement}
 use Rattle.memory.proofs.store_doubleword.Tie as tie
 
-store-word-requires : tie.Need-store-word-requires
-store-word-requires c κs = search needs
-
-sum20-requires : tie.Need-sum20-requires
-sum20-requires c κs = search needs
-
-store-word-requires-2 : tie.Need-store-word-requires-2
-store-word-requires-2 c κs = search needs
-
-same-length : tie.Need-same-length
-same-length c = search needs
-
-same-length-2 : tie.Need-same-length-2
-same-length-2 c = search needs
-
 returns : tie.Need-returns
 unfolding storeDoubleword
 returns c =
@@ -32,10 +17,4 @@ returns c =
 pub store-doubleword-spec : {M : Type 1} → statement M
 store-doubleword-spec =
     tie.close
-    (tie.spec
-    store-word-requires
-    sum20-requires
-    store-word-requires-2
-    same-length
-    same-length-2
-    returns)
+    (tie.spec (λ c κs. search needs) (λ c κs. search needs) (λ c κs. search needs) (λ c. search needs) (λ c. search needs) returns)

@@ -8,36 +8,6 @@ use Rattle.memory.proofs.PlaceLaws.{store-reduced}
 use Rattle.memory.proofs.store_pointer.Statement.{statement}
 use Rattle.memory.proofs.store_pointer.Tie as tie
 
-stored-low-requires : tie.Need-stored-low-requires
-stored-low-requires c κs = search needs
-
-store-byte-requires : tie.Need-store-byte-requires
-store-byte-requires c κs = search needs
-
-sum20-requires : tie.Need-sum20-requires
-sum20-requires c κs = search needs
-
-stored-middle-requires : tie.Need-stored-middle-requires
-stored-middle-requires c κs = search needs
-
-store-byte-requires-2 : tie.Need-store-byte-requires-2
-store-byte-requires-2 c κs = search needs
-
-sum20-requires-2 : tie.Need-sum20-requires-2
-sum20-requires-2 c κs = search needs
-
-stored-high-requires : tie.Need-stored-high-requires
-stored-high-requires c κs = search needs
-
-store-byte-requires-3 : tie.Need-store-byte-requires-3
-store-byte-requires-3 c κs = search needs
-
-same-length : tie.Need-same-length
-same-length c = search needs
-
-same-length-2 : tie.Need-same-length-2
-same-length-2 c = search needs
-
 returns : tie.Need-returns
 unfolding storePointer
 returns c =
@@ -47,15 +17,5 @@ returns c =
 pub store-pointer-spec : {M : Type 1} → statement M
 store-pointer-spec =
     tie.close
-    (tie.spec
-    stored-low-requires
-    store-byte-requires
-    sum20-requires
-    stored-middle-requires
-    store-byte-requires-2
-    sum20-requires-2
-    stored-high-requires
-    store-byte-requires-3
-    same-length
-    same-length-2
-    returns)
+    (tie.spec (λ c κs. search needs) (λ c κs. search needs) (λ c κs. search needs) (λ c κs. search needs) (λ c κs. search needs)
+    (λ c κs. search needs) (λ c κs. search needs) (λ c κs. search needs) (λ c. search needs) (λ c. search needs) returns)

@@ -10,12 +10,9 @@ returns : tie.Need-returns
 unfolding touchableAt
 returns c = rw (c .if1 .taken)
 
-lent-requires : tie.Need-lent-requires
-lent-requires c κs = search needs
-
 returns-2 : tie.Need-returns-2
 unfolding touchableAt
 returns-2 c = c .lent .ensures ∙ rw (c .before .if1 .left)
 
 pub touchable-spec : {M : Type 1} → statement M
-touchable-spec = tie.close (tie.spec returns lent-requires returns-2)
+touchable-spec = tie.close (tie.spec returns (λ c κs. search needs) returns-2)

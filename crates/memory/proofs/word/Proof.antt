@@ -8,18 +8,6 @@ use Rattle.memory.proofs.PlaceLaws.{byte-reduced}
 use Rattle.memory.proofs.word.Statement.{statement}
 use Rattle.memory.proofs.word.Tie as tie
 
-byte-requires : tie.Need-byte-requires
-byte-requires c κs = search needs
-
-sum20-requires : tie.Need-sum20-requires
-sum20-requires c κs = search needs
-
-byte-requires-2 : tie.Need-byte-requires-2
-byte-requires-2 c κs = search needs
-
-word-requires : tie.Need-word-requires
-word-requires c κs = search needs
-
 returns : tie.Need-returns
 unfolding wordAt
 returns c =
@@ -27,4 +15,4 @@ returns c =
     ∙ rw (c .before .byte2 .ensures, c .before .before .sum20 .ensures, c .before .before .before .byte .ensures, byte-reduced)
 
 pub word-spec : {M : Type 1} → statement M
-word-spec = tie.close (tie.spec byte-requires sum20-requires byte-requires-2 word-requires returns)
+word-spec = tie.close (tie.spec (λ c κs. search needs) (λ c κs. search needs) (λ c κs. search needs) (λ c κs. search needs) returns)

@@ -7,17 +7,8 @@ use mathlib.Core.Path.{sym}
 use Rattle.memory.proofs.write.Statement.{statement}
 use Rattle.memory.proofs.write.Tie as tie
 
-slice-write-buffer : tie.Need-slice-write-buffer
-slice-write-buffer c = search needs
-
-same-length : tie.Need-same-length
-same-length c = search needs
-
-returns : tie.Need-returns
-returns c = search needs
-
 returns-2 : tie.Need-returns-2
 returns-2 c = sym (set-out (now (c .before .args .buffer)) (c .before .args .at) (c .before .args .v) (c .if1 .left))
 
 pub write-spec : {M : Type 1} → statement M
-write-spec = tie.close (tie.spec slice-write-buffer same-length returns returns-2)
+write-spec = tie.close (tie.spec (λ c. search needs) (λ c. search needs) (λ c. search needs) returns-2)

@@ -6,27 +6,9 @@ use Rattle.page.specs.Numbers.{glyph}
 use Rattle.page.proofs.glyph.Statement.{statement}
 use Rattle.page.proofs.glyph.Tie as tie
 
-cast-result : tie.Need-cast-result
-cast-result c = search needs
-
-add-result : tie.Need-add-result
-add-result c = search needs
-
 returns : tie.Need-returns
 unfolding glyph
 returns c = simp (lt-ltb _ _ (c .if1 .taken))
-
-cast-result-2 : tie.Need-cast-result-2
-cast-result-2 c = search needs
-
-add-result-2 : tie.Need-add-result-2
-add-result-2 c = search needs
-
-cast-result-3 : tie.Need-cast-result-3
-cast-result-3 c = search needs
-
-add-result-3 : tie.Need-add-result-3
-add-result-3 c = search needs
 
 returns-2 : tie.Need-returns-2
 unfolding glyph
@@ -39,13 +21,5 @@ returns-3 c = simp (le-ltb _ _ (c .before .if1 .left), c .if2 .left)
 pub glyph-spec : {M : Type 1} → statement M
 glyph-spec =
     tie.close
-    (tie.spec
-    cast-result
-    add-result
-    returns
-    cast-result-2
-    add-result-2
-    cast-result-3
-    add-result-3
-    returns-2
-    returns-3)
+    (tie.spec (λ c. search needs) (λ c. search needs) returns (λ c. search needs) (λ c. search needs) (λ c. search needs) (λ c. search needs)
+    returns-2 returns-3)

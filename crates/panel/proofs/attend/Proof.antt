@@ -11,15 +11,6 @@ use Rattle.panel.specs.Run.{ran, stepsFrom, attendedRun}
 use Rattle.panel.proofs.attend.Statement.{statement}
 use Rattle.panel.proofs.attend.Tie as tie
 
-attention-requires : tie.Need-attention-requires
-attention-requires c κs = search needs
-
-same-length : tie.Need-same-length
-same-length c = search needs
-
-same-length-2 : tie.Need-same-length-2
-same-length-2 c = search needs
-
 returns : tie.Need-returns
 unfolding attendedRun
 returns c =
@@ -29,15 +20,6 @@ returns c =
     let e = c .before .before .before .before .before .before .attention .ensures .0 in
     ap (λ (x : Outcome). ran (x .number) 0 (x .memory)) e
     ∙ rw (ne-eqb (o .number) 0 (λ z. c .if1 .taken (ap (λ (x : Outcome). x .number) e ∙ z)))
-
-steps-requires : tie.Need-steps-requires
-steps-requires c κs = search needs
-
-same-length-3 : tie.Need-same-length-3
-same-length-3 c = search needs
-
-same-length-4 : tie.Need-same-length-4
-same-length-4 c = search needs
 
 returns-2 : tie.Need-returns-2
 unfolding attendedRun
@@ -53,12 +35,5 @@ returns-2 c =
 pub attend-spec : {M : Type 1} → statement M
 attend-spec =
     tie.close
-    (tie.spec
-    attention-requires
-    same-length
-    same-length-2
-    returns
-    steps-requires
-    same-length-3
-    same-length-4
+    (tie.spec (λ c κs. search needs) (λ c. search needs) (λ c. search needs) returns (λ c κs. search needs) (λ c. search needs) (λ c. search needs)
     returns-2)

@@ -7,12 +7,6 @@ use Rattle.panel.specs.Run.{callNumber}
 use Rattle.panel.proofs.call_number.Statement.{statement}
 use Rattle.panel.proofs.call_number.Tie as tie
 
-is-channel-requires : tie.Need-is-channel-requires
-is-channel-requires c κs = search needs
-
-within-limits-requires : tie.Need-within-limits-requires
-within-limits-requires c κs = search needs
-
 returns : tie.Need-returns
 unfolding callNumber first unless
 returns c = simp (rw (c .before .before .before .is-channel .ensures) at (c .before .before .if1 .taken), sym (c .before .within-limits .ensures) ∙ c .if2 .taken)
@@ -27,4 +21,4 @@ returns-3 c = simp (rw (c .before .is-channel .ensures) at (c .if1 .left))
 
 pub call-number-spec : {M : Type 1} → statement M
 call-number-spec =
-    tie.close (tie.spec is-channel-requires within-limits-requires returns returns-2 returns-3)
+    tie.close (tie.spec (λ c κs. search needs) (λ c κs. search needs) returns returns-2 returns-3)

@@ -15,15 +15,6 @@ use Rattle.panel.proofs.steps.Tie as tie
 returns : tie.Need-returns
 returns c = let a = c .before .before .before .args in sym (limits (a .limit) (a .s) (buffers (now (a .sys)) (now (a .io))) (a .lines) 0 (c .if1 .taken))
 
-entry-number-requires : tie.Need-entry-number-requires
-entry-number-requires c κs = search needs
-
-same-length : tie.Need-same-length
-same-length c = search needs
-
-same-length-2 : tie.Need-same-length-2
-same-length-2 c = search needs
-
 returns-2 : tie.Need-returns-2
 returns-2 c =
     let a = c .before .before .before .before .before .before .before .args in
@@ -35,12 +26,6 @@ rounds-requires : tie.Need-rounds-requires
 unfolding stateOf
 rounds-requires c κs = sym (c .before .before .before .before .before .before .entry-number .ensures) ∙ c .before .before .before .before .before .if2 .left
 
-same-length-3 : tie.Need-same-length-3
-same-length-3 c = search needs
-
-same-length-4 : tie.Need-same-length-4
-same-length-4 c = search needs
-
 returns-3 : tie.Need-returns-3
 unfolding stateOf
 returns-3 c = c .before .before .before .before .rounds .ensures
@@ -48,13 +33,5 @@ returns-3 c = c .before .before .before .before .rounds .ensures
 pub steps-spec : {M : Type 1} → statement M
 steps-spec =
     tie.close
-    (tie.spec
-    returns
-    entry-number-requires
-    same-length
-    same-length-2
-    returns-2
-    rounds-requires
-    same-length-3
-    same-length-4
+    (tie.spec returns (λ c κs. search needs) (λ c. search needs) (λ c. search needs) returns-2 rounds-requires (λ c. search needs) (λ c. search needs)
     returns-3)

@@ -5,12 +5,9 @@ use Rattle.power.specs.Power.{configurationOf}
 use Rattle.power.proofs.configuration.Statement.{statement}
 use Rattle.power.proofs.configuration.Tie as tie
 
-doubleword-requires : tie.Need-doubleword-requires
-doubleword-requires c κs = search needs
-
 returns : tie.Need-returns
 unfolding configurationOf
 returns c = c .doubleword .ensures
 
 pub configuration-spec : {M : Type 1} → statement M
-configuration-spec = tie.close (tie.spec doubleword-requires returns)
+configuration-spec = tie.close (tie.spec (λ c κs. search needs) returns)

@@ -8,15 +8,9 @@ use Rattle.power.proofs.Numbers.{power-chain}
 use Rattle.power.proofs.power_number.Statement.{statement}
 use Rattle.power.proofs.power_number.Tie as tie
 
-within-limits-requires : tie.Need-within-limits-requires
-within-limits-requires c κs = search needs
-
 returns : tie.Need-returns
 unfolding first unless
 returns c = sym (power-chain _ ∙ simp (not-true (c .before .within-limits .result) (c .if1 .taken), ← (c .before .within-limits .ensures)))
-
-board-lent-requires : tie.Need-board-lent-requires
-board-lent-requires c κs = search needs
 
 returns-2 : tie.Need-returns-2
 unfolding first unless
@@ -28,4 +22,4 @@ returns-3 c = sym (power-chain _ ∙ simp (c .if2 .left, ← (c .before .board-l
 
 pub power-number-spec : {M : Type 1} → statement M
 power-number-spec =
-    tie.close (tie.spec within-limits-requires returns board-lent-requires returns-2 returns-3)
+    tie.close (tie.spec (λ c κs. search needs) returns (λ c κs. search needs) returns-2 returns-3)

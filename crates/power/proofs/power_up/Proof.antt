@@ -11,15 +11,6 @@ use Rattle.power.proofs.Outcomes.{power-touches}
 use Rattle.power.proofs.power_up.Statement.{statement}
 use Rattle.power.proofs.power_up.Tie as tie
 
-power-number-requires : tie.Need-power-number-requires
-power-number-requires c κs = search needs
-
-same-length : tie.Need-same-length
-same-length c = search needs
-
-same-length-2 : tie.Need-same-length-2
-same-length-2 c = search needs
-
 returns : tie.Need-returns
 unfolding powerUpOf powerCount
 returns c =
@@ -27,27 +18,6 @@ returns c =
     let m = buffers (now (a .sys)) (now (a .io)) in
     let n = c .before .power-number .ensures in
     (rw n (sym (refused (powerNumber m) (a .s) m (foundState m) (foundMemory m) (λ z. c .if1 .taken (n ∙ z)))), sym (refused-counts (powerNumber m) (touchedByPower m) (λ z. c .if1 .taken (n ∙ z))))
-
-control-requires : tie.Need-control-requires
-control-requires c κs = search needs
-
-read-board-requires : tie.Need-read-board-requires
-read-board-requires c κs = search needs
-
-blank-requires : tie.Need-blank-requires
-blank-requires c κs = search needs
-
-sum20-requires : tie.Need-sum20-requires
-sum20-requires c κs = search needs
-
-store-byte-requires : tie.Need-store-byte-requires
-store-byte-requires c κs = search needs
-
-same-length-3 : tie.Need-same-length-3
-same-length-3 c = search needs
-
-same-length-4 : tie.Need-same-length-4
-same-length-4 c = search needs
 
 returns-2 : tie.Need-returns-2
 unfolding powerUpOf powerCount foundState foundMemory busyIn
@@ -63,16 +33,5 @@ returns-2 c =
 pub power-up-spec : {M : Type 1} → statement M
 power-up-spec =
     tie.close
-    (tie.spec
-    power-number-requires
-    same-length
-    same-length-2
-    returns
-    control-requires
-    read-board-requires
-    blank-requires
-    sum20-requires
-    store-byte-requires
-    same-length-3
-    same-length-4
-    returns-2)
+    (tie.spec (λ c κs. search needs) (λ c. search needs) (λ c. search needs) returns (λ c κs. search needs) (λ c κs. search needs)
+    (λ c κs. search needs) (λ c κs. search needs) (λ c κs. search needs) (λ c. search needs) (λ c. search needs) returns-2)

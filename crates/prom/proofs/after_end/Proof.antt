@@ -14,15 +14,6 @@ returns : tie.Need-returns
 unfolding endLength
 returns c = rw (drop-of-length-le (now (c .before .args .text)) (c .if1 .taken)) (omega arith)
 
-shared-slice-read-if2 : tie.Need-shared-slice-read-if2
-shared-slice-read-if2 c = search needs
-
-add-result : tie.Need-add-result
-add-result c = search needs
-
-add-result-2 : tie.Need-add-result-2
-add-result-2 c = search needs
-
 returns-2 : tie.Need-returns-2
 unfolding endLength
 returns-2 c = rw (drop-cons (now (c .before .before .before .args .text)) (c .before .before .before .args .at) 0 (c .before .before .if1 .left), eq-eqb _ _ (c .if2 .taken))
@@ -33,4 +24,4 @@ returns-3 c = rw (drop-cons (now (c .before .before .before .args .text)) (c .be
 
 pub after-end-spec : {M : Type 1} → statement M
 after-end-spec =
-    tie.close (tie.spec returns shared-slice-read-if2 add-result add-result-2 returns-2 returns-3)
+    tie.close (tie.spec returns (λ c. search needs) (λ c. search needs) (λ c. search needs) returns-2 returns-3)

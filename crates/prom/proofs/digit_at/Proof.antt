@@ -8,19 +8,10 @@ use Rattle.prom.specs.Records.{hexValue}
 use Rattle.prom.proofs.digit_at.Statement.{statement}
 use Rattle.prom.proofs.digit_at.Tie as tie
 
-shared-slice-read-digit : tie.Need-shared-slice-read-digit
-shared-slice-read-digit c = search needs
-
-digit-requires : tie.Need-digit-requires
-digit-requires c κs = search needs
-
-returns : tie.Need-returns
-returns c = search needs
-
 returns-2 : tie.Need-returns-2
 unfolding hexValue
 returns-2 c = let a = c .before .before .args in
     sym (ap hexValue (List·getD-eq-default (now (a .text)) 0 (c .if1 .left)))
 
 pub digit-at-spec : {M : Type 1} → statement M
-digit-at-spec = tie.close (tie.spec shared-slice-read-digit digit-requires returns returns-2)
+digit-at-spec = tie.close (tie.spec (λ c. search needs) (λ c κs. search needs) (λ c. search needs) returns-2)

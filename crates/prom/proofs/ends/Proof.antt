@@ -17,31 +17,19 @@ returns : tie.Need-returns
 unfolding endsHere
 returns c = rw (drop-of-length-le (now (c .before .args .text)) (c .if1 .taken))
 
-shared-slice-read-if2 : tie.Need-shared-slice-read-if2
-shared-slice-read-if2 c = search needs
-
 returns-2 : tie.Need-returns-2
 unfolding endsHere
 returns-2 c = rw (drop-cons (now (c .before .before .before .args .text)) (c .before .before .before .args .at) 0 (c .before .before .if1 .left), eq-eqb _ _ (c .if2 .taken))
 
-shared-slice-read-if3 : tie.Need-shared-slice-read-if3
-shared-slice-read-if3 c = search needs
-
 returns-3 : tie.Need-returns-3
 unfolding endsHere
 returns-3 c = rw (drop-cons (now (c .before .before .before .before .before .args .text)) (c .before .before .before .before .before .args .at) 0 (c .before .before .before .before .if1 .left), ne-eqb _ _ (c .before .before .if2 .left), ne-eqb _ _ (c .if3 .taken))
-
-add-next : tie.Need-add-next
-add-next c = search needs
 
 returns-4 : tie.Need-returns-4
 unfolding endsHere beginsLf
 returns-4 c = let a = c .before .before .before .before .before .before .args in
     let b : length (now (a .text)) ≤ suc (a .at) = omega (arith, c .if4 .taken) in
     rw (drop-cons (now (a .text)) (a .at) 0 (c .before .before .before .before .before .if1 .left), drop-of-length-le (now (a .text)) b, ne-eqb _ _ (c .before .before .before .if2 .left), eq-eqb _ _ (c .before .if3 .left))
-
-shared-slice-read-result : tie.Need-shared-slice-read-result
-shared-slice-read-result c = search needs
 
 returns-5 : tie.Need-returns-5
 unfolding endsHere beginsLf
@@ -52,13 +40,4 @@ returns-5 c = let a = c .before .before .before .before .before .before .before 
 pub ends-spec : {M : Type 1} → statement M
 ends-spec =
     tie.close
-    (tie.spec
-    returns
-    shared-slice-read-if2
-    returns-2
-    shared-slice-read-if3
-    returns-3
-    add-next
-    returns-4
-    shared-slice-read-result
-    returns-5)
+    (tie.spec returns (λ c. search needs) returns-2 (λ c. search needs) returns-3 (λ c. search needs) returns-4 (λ c. search needs) returns-5)

@@ -15,9 +15,6 @@ returns-2 : tie.Need-returns-2
 unfolding foundFirst reachOf
 returns-2 c = simp (eq-eqb _ _ (c .before .before .if1 .left), ne-eqb _ _ (c .if2 .taken))
 
-row-lent-requires : tie.Need-row-lent-requires
-row-lent-requires c κs = search needs
-
 returns-3 : tie.Need-returns-3
 unfolding foundFirst reachOf
 returns-3 c = simp (eq-eqb _ _ (c .before .before .before .before .if1 .left), eq-eqb _ _ (c .before .before .if2 .left), sym (c .before .row-lent .ensures) ∙ c .if3 .taken)
@@ -27,4 +24,4 @@ unfolding foundFirst reachOf
 returns-4 c = simp (eq-eqb _ _ (c .before .before .before .before .if1 .left), eq-eqb _ _ (c .before .before .if2 .left), sym (c .before .row-lent .ensures) ∙ c .if3 .left)
 
 pub first-beyond-spec : {M : Type 1} → statement M
-first-beyond-spec = tie.close (tie.spec returns returns-2 row-lent-requires returns-3 returns-4)
+first-beyond-spec = tie.close (tie.spec returns returns-2 (λ c κs. search needs) returns-3 returns-4)

@@ -29,21 +29,6 @@ loop-holds : tie.Need-loop-holds Inv-loop μ-loop
 unfolding textFile
 loop-holds c = (omega arith, lit< tt, refl)
 
-sub-rest : tie.Need-sub-rest Inv-loop μ-loop
-sub-rest c = search needs
-
-part-rest-start : tie.Need-part-rest-start Inv-loop μ-loop
-part-rest-start c = search needs
-
-part-rest-end : tie.Need-part-rest-end Inv-loop μ-loop
-part-rest-end c = search needs
-
-next-line-requires : tie.Need-next-line-requires Inv-loop μ-loop
-next-line-requires c κs = search needs
-
-line-number-requires : tie.Need-line-number-requires Inv-loop μ-loop
-line-number-requires c κs = search needs
-
 returns : tie.Need-returns Inv-loop μ-loop
 returns c = let s = c .before .before .before .before .before .before .before .before in
     let l = c .before .before .before .before .before .loop in
@@ -118,22 +103,5 @@ returns-3 c = let s = c .before .before .before .before in
 pub judge-spec : {M : Type 1} → statement M
 judge-spec =
     tie.close
-    (tie.spec
-    Inv-loop
-    μ-loop
-    loop-holds
-    sub-rest
-    part-rest-start
-    part-rest-end
-    next-line-requires
-    line-number-requires
-    returns
-    read-fields-requires
-    returns-2
-    first-beyond-requires
-    segment-after-requires
-    start-after-requires
-    add-at
-    loop-less
-    loop-again
-    returns-3)
+    (tie.spec Inv-loop μ-loop loop-holds (λ c. search needs) (λ c. search needs) (λ c. search needs) (λ c κs. search needs) (λ c κs. search needs)
+    returns read-fields-requires returns-2 first-beyond-requires segment-after-requires start-after-requires add-at loop-less loop-again returns-3)

@@ -20,23 +20,8 @@ no-byte (b ∷ bs) h e = omega arith
 returns : tie.Need-returns
 returns c = sym (no-colon (now (c .before .before .args .text)) (λ e. no-byte (now (c .before .before .args .text)) (c .if1 .taken) e))
 
-shared-slice-read-if2 : tie.Need-shared-slice-read-if2
-shared-slice-read-if2 c = search needs
-
 returns-2 : tie.Need-returns-2
 returns-2 c = sym (no-colon (now (c .before .before .before .before .args .text)) (c .if2 .taken))
-
-sub-run : tie.Need-sub-run
-sub-run c = search needs
-
-part-run-start : tie.Need-part-run-start
-part-run-start c = search needs
-
-part-run-end : tie.Need-part-run-end
-part-run-end c = search needs
-
-run-requires : tie.Need-run-requires
-run-requires c κs = search needs
 
 add-ends : tie.Need-add-ends
 add-ends c = omega (arith, run-end (now (c .before .before .before .before .before .before .before .args .text)) (c .before .before .before .if2 .left) (c .before .run .result .count) (c .before .run .ensures .0))
@@ -47,9 +32,6 @@ ends-requires c κs = run-end (now (c .before .before .before .before .before .b
 returns-3 : tie.Need-returns-3
 returns-3 c = line-not-ended (now (c .before .before .before .before .before .before .before .before .before .args .text)) (c .before .before .before .before .before .if2 .left) (c .before .before .before .run .result .count) (c .before .before .before .run .ensures .0) (c .before .ends .result) (c .before .ends .ensures) (c .if3 .taken)
 
-pair-requires : tie.Need-pair-requires
-pair-requires c κs = search needs
-
 add-if4 : tie.Need-add-if4
 add-if4 c = let t = now (c .before .before .before .before .before .before .before .before .before .before .args .text) in
     omega (arith, c .pair .ensures, digit-most (getD t 1 0), digit-most (getD t 2 0))
@@ -57,9 +39,6 @@ add-if4 c = let t = now (c .before .before .before .before .before .before .befo
 mul-if4 : tie.Need-mul-if4
 mul-if4 c = let t = now (c .before .before .before .before .before .before .before .before .before .before .args .text) in
     omega (arith, c .pair .ensures, digit-most (getD t 1 0), digit-most (getD t 2 0))
-
-cast-if4 : tie.Need-cast-if4
-cast-if4 c = search needs
 
 returns-4 : tie.Need-returns-4
 returns-4 c = line-wrong-count (now (c .before .before .before .before .before .before .before .before .before .before .before .before .args .text)) (c .before .before .before .before .before .before .before .before .if2 .left) (c .before .before .before .before .before .before .run .result .count) (c .before .before .before .before .before .before .run .ensures .0) (c .before .before .before .before .ends .result) (c .before .before .before .before .ends .ensures) (c .before .before .before .if3 .left)
@@ -71,9 +50,6 @@ returns-5 c = line-check (now (c .before .before .before .before .before .before
 
 pair-requires-2 : tie.Need-pair-requires-2
 pair-requires-2 c κs = omega (arith, run-end (now (c .before .before .before .before .before .before .before .before .before .before .before .before .before .before .args .text)) (c .before .before .before .before .before .before .before .before .before .before .if2 .left) (c .before .before .before .before .before .before .before .before .run .result .count) (c .before .before .before .before .before .before .before .before .run .ensures .0), c .before .before .if4 .left)
-
-fits-requires : tie.Need-fits-requires
-fits-requires c κs = search needs
 
 returns-6 : tie.Need-returns-6
 returns-6 c = rw (c .if6 .taken) at
@@ -88,24 +64,6 @@ returns-7 c = rw (c .if6 .left) at
 pub line-number-spec : {M : Type 1} → statement M
 line-number-spec =
     tie.close
-    (tie.spec
-    returns
-    shared-slice-read-if2
-    returns-2
-    sub-run
-    part-run-start
-    part-run-end
-    run-requires
-    add-ends
-    ends-requires
-    returns-3
-    pair-requires
-    add-if4
-    mul-if4
-    cast-if4
-    returns-4
-    returns-5
-    pair-requires-2
-    fits-requires
-    returns-6
-    returns-7)
+    (tie.spec returns (λ c. search needs) returns-2 (λ c. search needs) (λ c. search needs) (λ c. search needs) (λ c κs. search needs) add-ends
+    ends-requires returns-3 (λ c κs. search needs) add-if4 mul-if4 (λ c. search needs) returns-4 returns-5 pair-requires-2 (λ c κs. search needs)
+    returns-6 returns-7)

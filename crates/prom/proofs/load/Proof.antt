@@ -13,24 +13,9 @@ use Rattle.prom.proofs.LoadLaws.{load-long, load-bad, load-beyond, load
 use Rattle.prom.proofs.load.Statement.{statement}
 use Rattle.prom.proofs.load.Tie as tie
 
-slice-aggregate-within-limits : tie.Need-slice-aggregate-within-limits
-slice-aggregate-within-limits c = search needs
-
-within-limits-requires : tie.Need-within-limits-requires
-within-limits-requires c κs = search needs
-
-same-length : tie.Need-same-length
-same-length c = search needs
-
 returns : tie.Need-returns
 returns c = let a = c .before .before .before .before .before .before .args in
     sym (load-long (now (a .text)) (buffers (now (a .sys)) []) (sym (c .before .within-limits .ensures) ∙ not-true _ (c .if1 .taken)))
-
-judge-requires : tie.Need-judge-requires
-judge-requires c κs = search needs
-
-same-length-2 : tie.Need-same-length-2
-same-length-2 c = search needs
 
 returns-2 : tie.Need-returns-2
 unfolding judgedOf
@@ -39,9 +24,6 @@ returns-2 c = let a = c .before .before .before .before .before .before .before 
     let j = c .before .before .judge .ensures in
     ap (λ (r : Judged). loading (r .number) 0 (r .line) m) j
     ∙ sym (load-bad (now (a .text)) m (sym (c .before .before .before .before .before .within-limits .ensures) ∙ not-false _ (c .before .before .before .before .if1 .left)) (λ e. c .if2 .taken (ap (λ (r : Judged). r .number) j ∙ e)))
-
-same-length-3 : tie.Need-same-length-3
-same-length-3 c = search needs
 
 returns-3 : tie.Need-returns-3
 unfolding judgedOf foundFirst
@@ -56,9 +38,6 @@ store-requires : tie.Need-store-requires
 unfolding judgedOf
 store-requires c κs = sym (ap (λ (r : Judged). r .number) (c .before .before .before .before .before .judge .ensures)) ∙ c .before .before .before .if2 .left
 
-same-length-4 : tie.Need-same-length-4
-same-length-4 c = search needs
-
 returns-4 : tie.Need-returns-4
 unfolding judgedOf foundFirst
 returns-4 c = let a = c .before .before .before .before .before .before .before .before .before .before .before .before .before .before .before .before .args in
@@ -72,16 +51,5 @@ returns-4 c = let a = c .before .before .before .before .before .before .before 
 pub load-spec : {M : Type 1} → statement M
 load-spec =
     tie.close
-    (tie.spec
-    slice-aggregate-within-limits
-    within-limits-requires
-    same-length
-    returns
-    judge-requires
-    same-length-2
-    returns-2
-    same-length-3
-    returns-3
-    store-requires
-    same-length-4
-    returns-4)
+    (tie.spec (λ c. search needs) (λ c κs. search needs) (λ c. search needs) returns (λ c κs. search needs) (λ c. search needs) returns-2
+    (λ c. search needs) returns-3 store-requires (λ c. search needs) returns-4)

@@ -6,9 +6,6 @@ use Rattle.prom.specs.File.{nextLine}
 use Rattle.prom.proofs.next_line.Statement.{statement}
 use Rattle.prom.proofs.next_line.Tie as tie
 
-add-result : tie.Need-add-result
-add-result c = search needs
-
 returns : tie.Need-returns
 unfolding nextLine
 returns c = simp (lt-ltb _ _ (c .if1 .taken))
@@ -18,4 +15,4 @@ unfolding nextLine
 returns-2 c = simp (le-ltb _ _ (c .if1 .left))
 
 pub next-line-spec : {M : Type 1} → statement M
-next-line-spec = tie.close (tie.spec add-result returns returns-2)
+next-line-spec = tie.close (tie.spec (λ c. search needs) returns returns-2)

@@ -9,27 +9,15 @@ use Rattle.prom.proofs.DigitLaws.{digit-most}
 use Rattle.prom.proofs.pair.Statement.{statement}
 use Rattle.prom.proofs.pair.Tie as tie
 
-digit-at-requires : tie.Need-digit-at-requires
-digit-at-requires c κs = search needs
-
 mul-result : tie.Need-mul-result
 mul-result c = let a = c .before .before .args in
     omega (arith, c .digit-at .ensures, digit-most (getD (now (a .text)) (a .at) 0))
-
-add-digit-at : tie.Need-add-digit-at
-add-digit-at c = search needs
-
-digit-at-requires-2 : tie.Need-digit-at-requires-2
-digit-at-requires-2 c κs = search needs
 
 add-result : tie.Need-add-result
 add-result c = let a = c .before .before .before .args in
     omega (arith, c .before .digit-at .ensures, digit-most (getD (now (a .text)) (a .at) 0), c .digit-at2 .ensures, digit-most (getD (now (a .text)) (a .at + 1) 0))
 
-returns : tie.Need-returns
-returns c = search needs
-
 pub pair-spec : {M : Type 1} → statement M
 pair-spec =
     tie.close
-    (tie.spec digit-at-requires mul-result add-digit-at digit-at-requires-2 add-result returns)
+    (tie.spec (λ c κs. search needs) mul-result (λ c. search needs) (λ c κs. search needs) add-result (λ c. search needs))

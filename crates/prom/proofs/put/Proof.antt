@@ -27,23 +27,11 @@ abbrev μ-loop : tie.MeasureT-loop
 loop-holds : tie.Need-loop-holds Inv-loop μ-loop
 loop-holds c = (omega arith, refl, c .before .before .pre .2, refl)
 
-add-loop : tie.Need-add-loop Inv-loop μ-loop
-add-loop c = search needs
-
-pair-requires : tie.Need-pair-requires Inv-loop μ-loop
-pair-requires c κs = search needs
-
 mul-store-at : tie.Need-mul-store-at Inv-loop μ-loop
 mul-store-at c = omega (arith, c .before .before .before .before .before .before .pre .1)
 
 add-store-at : tie.Need-add-store-at Inv-loop μ-loop
 add-store-at c = omega (arith, c .before .before .before .before .before .before .pre .1, c .before .before .before .loop .inv .2)
-
-cast-store-at : tie.Need-cast-store-at Inv-loop μ-loop
-cast-store-at c = search needs
-
-store-at-requires : tie.Need-store-at-requires Inv-loop μ-loop
-store-at-requires c κs = search needs
 
 add-to : tie.Need-add-to Inv-loop μ-loop
 add-to c = omega (arith, c .before .before .before .before .before .before .loop .inv .2)
@@ -78,19 +66,5 @@ returns c = let s = c .before .before .before .before in
 pub put-spec : {M : Type 1} → statement M
 put-spec =
     tie.close
-    (tie.spec
-    Inv-loop
-    μ-loop
-    loop-holds
-    add-loop
-    pair-requires
-    mul-store-at
-    add-store-at
-    cast-store-at
-    store-at-requires
-    add-to
-    add-at
-    loop-less
-    loop-again
-    same-length
-    returns)
+    (tie.spec Inv-loop μ-loop loop-holds (λ c. search needs) (λ c κs. search needs) mul-store-at add-store-at (λ c. search needs)
+    (λ c κs. search needs) add-to add-at loop-less loop-again same-length returns)

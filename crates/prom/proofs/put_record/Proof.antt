@@ -29,15 +29,6 @@ add-end : tie.Need-add-end
 add-end c = let s = c .before .before .before .before .before in
     omega (arith, size-below (now (s .args .text)) (s .pre .0), s .pre .2 .size)
 
-cast-end : tie.Need-cast-end
-cast-end c = search needs
-
-sub-put : tie.Need-sub-put
-sub-put c = search needs
-
-part-put-start : tie.Need-part-put-start
-part-put-start c = search needs
-
 part-put-end : tie.Need-part-put-end
 part-put-end c = let s = c .before .before .before .before .before in
     let t = now (s .args .text) in
@@ -65,14 +56,4 @@ returns-2 c = let s = c .before .before .before .before .before .before .before 
 pub put-record-spec : {M : Type 1} → statement M
 put-record-spec =
     tie.close
-    (tie.spec
-    returns
-    mul-end
-    add-end
-    cast-end
-    sub-put
-    part-put-start
-    part-put-end
-    put-requires
-    same-length
-    returns-2)
+    (tie.spec returns mul-end add-end (λ c. search needs) (λ c. search needs) (λ c. search needs) part-put-end put-requires same-length returns-2)

@@ -31,9 +31,6 @@ mul-after-end c = omega (arith, c .before .before .pair .ensures, digit-most (ge
 add-after-end : tie.Need-add-after-end
 add-after-end c = omega (arith, c .before .before .pair .ensures, digit-most (getD (now (c .before .before .before .before .args .text)) 1 0), digit-most (getD (now (c .before .before .before .before .args .text)) 2 0))
 
-cast-after-end : tie.Need-cast-after-end
-cast-after-end c = search needs
-
 after-end-requires : tie.Need-after-end-requires
 unfolding hexSize
 after-end-requires c κs = let t = now (c .before .before .before .before .args .text) in
@@ -61,12 +58,4 @@ returns c = let t = now (c .before .before .before .before .before .args .text) 
 pub read-fields-spec : {M : Type 1} → statement M
 read-fields-spec =
     tie.close
-    (tie.spec
-    pair-requires
-    word-requires
-    pair-requires-2
-    mul-after-end
-    add-after-end
-    cast-after-end
-    after-end-requires
-    returns)
+    (tie.spec pair-requires word-requires pair-requires-2 mul-after-end add-after-end (λ c. search needs) after-end-requires returns)

@@ -25,9 +25,6 @@ loop-holds c = record { inside = omega arith; count = omega arith; added = omega
 shared-slice-read-digit : tie.Need-shared-slice-read-digit Inv-loop μ-loop
 shared-slice-read-digit c = omega arith
 
-digit-requires : tie.Need-digit-requires Inv-loop μ-loop
-digit-requires c κs = search needs
-
 returns : tie.Need-returns Inv-loop μ-loop
 returns c = let l = c .before .before .before .before .loop in
     let t = now (c .before .before .before .before .before .before .args .text) in
@@ -36,9 +33,6 @@ returns c = let l = c .before .before .before .before .loop in
 
 add-digit-at : tie.Need-add-digit-at Inv-loop μ-loop
 add-digit-at c = omega arith
-
-digit-at-requires : tie.Need-digit-at-requires Inv-loop μ-loop
-digit-at-requires c κs = search needs
 
 add-t10 : tie.Need-add-t10 Inv-loop μ-loop
 add-t10 c = omega arith
@@ -85,21 +79,5 @@ returns-3 c = let l = c .before .loop in
 pub run-spec : {M : Type 1} → statement M
 run-spec =
     tie.close
-    (tie.spec
-    Inv-loop
-    μ-loop
-    loop-holds
-    shared-slice-read-digit
-    digit-requires
-    returns
-    add-digit-at
-    digit-at-requires
-    add-t10
-    returns-2
-    mul-sum
-    add-sum
-    add-sum-2
-    add-i
-    loop-less
-    loop-again
-    returns-3)
+    (tie.spec Inv-loop μ-loop loop-holds shared-slice-read-digit (λ c κs. search needs) returns add-digit-at (λ c κs. search needs) add-t10 returns-2
+    mul-sum add-sum add-sum-2 add-i loop-less loop-again returns-3)

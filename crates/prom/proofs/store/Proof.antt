@@ -30,15 +30,6 @@ loop-holds : tie.Need-loop-holds Inv-loop μ-loop
 unfolding textFile
 loop-holds c = (omega arith, refl, lit< tt, c .before .before .pre, refl)
 
-sub-rest : tie.Need-sub-rest Inv-loop μ-loop
-sub-rest c = search needs
-
-part-rest-start : tie.Need-part-rest-start Inv-loop μ-loop
-part-rest-start c = search needs
-
-part-rest-end : tie.Need-part-rest-end Inv-loop μ-loop
-part-rest-end c = search needs
-
 read-fields-requires : tie.Need-read-fields-requires Inv-loop μ-loop
 read-fields-requires c κs = let l = c .before .before .loop in
     here-good (now (c .before .before .before .before .before .args .text)) (l .at) (c .before .loop-test .taken) (l .segment) 0 0 (l .inv .3)
@@ -101,20 +92,5 @@ returns-2 c = let l = c .before .loop in
 pub store-spec : {M : Type 1} → statement M
 store-spec =
     tie.close
-    (tie.spec
-    Inv-loop
-    μ-loop
-    loop-holds
-    sub-rest
-    part-rest-start
-    part-rest-end
-    read-fields-requires
-    same-length
-    returns
-    put-record-requires
-    segment-after-requires
-    add-at
-    loop-less
-    loop-again
-    same-length-2
-    returns-2)
+    (tie.spec Inv-loop μ-loop loop-holds (λ c. search needs) (λ c. search needs) (λ c. search needs) read-fields-requires same-length returns
+    put-record-requires segment-after-requires add-at loop-less loop-again same-length-2 returns-2)

@@ -10,15 +10,6 @@ use Rattle.memory.specs.Buffers.{buffers, storeByte, indexOf, limitOf}
 use Rattle.prom.proofs.store_at.Statement.{statement}
 use Rattle.prom.proofs.store_at.Tie as tie
 
-cast-at : tie.Need-cast-at
-cast-at c = search needs
-
-slice-write-sys : tie.Need-slice-write-sys
-slice-write-sys c = search needs
-
-same-length : tie.Need-same-length
-same-length c = search needs
-
 returns : tie.Need-returns
 unfolding storeByte indexOf limitOf
 returns c = search needs
@@ -29,4 +20,4 @@ returns-2 c = let a = c .before .args in
     ap (λ (l : List ℕ). buffers l []) (sym (set-out (now (a .sys)) (a .address % 1048576) (a .v) (c .if1 .left)))
 
 pub store-at-spec : {M : Type 1} → statement M
-store-at-spec = tie.close (tie.spec cast-at slice-write-sys same-length returns returns-2)
+store-at-spec = tie.close (tie.spec (λ c. search needs) (λ c. search needs) (λ c. search needs) returns returns-2)

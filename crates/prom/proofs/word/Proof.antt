@@ -10,19 +10,10 @@ use Rattle.prom.proofs.DigitLaws.{digit-most}
 use Rattle.prom.proofs.word.Statement.{statement}
 use Rattle.prom.proofs.word.Tie as tie
 
-pair-requires : tie.Need-pair-requires
-pair-requires c κs = search needs
-
 mul-result : tie.Need-mul-result
 mul-result c = let a = c .before .before .args in
     let t = now (a .text) in
     omega (arith, c .pair .ensures, digit-most (getD t (a .at) 0), digit-most (getD t (a .at + 1) 0))
-
-add-pair : tie.Need-add-pair
-add-pair c = search needs
-
-pair-requires-2 : tie.Need-pair-requires-2
-pair-requires-2 c κs = search needs
 
 add-result : tie.Need-add-result
 add-result c = let a = c .before .before .before .args in
@@ -36,4 +27,4 @@ returns c = let a = c .before .before .before .args in
 
 pub word-spec : {M : Type 1} → statement M
 word-spec =
-    tie.close (tie.spec pair-requires mul-result add-pair pair-requires-2 add-result returns)
+    tie.close (tie.spec (λ c κs. search needs) mul-result (λ c. search needs) (λ c κs. search needs) add-result returns)

@@ -11,36 +11,12 @@ use Rattle.script.proofs.closes_file.Tie as tie
 returns : tie.Need-returns
 returns c = rw (not-true (c .before .before .args .start) (c .if1 .taken))
 
-line-end-requires : tie.Need-line-end-requires
-line-end-requires c κs = search needs
-
-content-end-requires : tie.Need-content-end-requires
-content-end-requires c κs = search needs
-
-sub-if2 : tie.Need-sub-if2
-sub-if2 c = search needs
-
 returns-2 : tie.Need-returns-2
 unfolding closesFile
 returns-2 c =
     let a = c .before .before .before .before .before .args in
     let e : c .before .content-end .result ≡ lineContent (now (a .text)) (a .at) = c .before .content-end .ensures .0 ∙ ap (contentEnd (now (a .text)) (a .at)) (c .before .before .line-end .ensures .0) in
     rw (not-false (a .start) (c .before .before .before .if1 .left), ← e, ne-eqb _ _ (c .if2 .taken))
-
-shared-slice-read-result : tie.Need-shared-slice-read-result
-shared-slice-read-result c = search needs
-
-add-result : tie.Need-add-result
-add-result c = search needs
-
-shared-slice-read-result-2 : tie.Need-shared-slice-read-result-2
-shared-slice-read-result-2 c = search needs
-
-add-result-2 : tie.Need-add-result-2
-add-result-2 c = search needs
-
-shared-slice-read-result-3 : tie.Need-shared-slice-read-result-3
-shared-slice-read-result-3 c = search needs
 
 returns-3 : tie.Need-returns-3
 unfolding closesFile
@@ -52,15 +28,5 @@ returns-3 c =
 pub closes-file-spec : {M : Type 1} → statement M
 closes-file-spec =
     tie.close
-    (tie.spec
-    returns
-    line-end-requires
-    content-end-requires
-    sub-if2
-    returns-2
-    shared-slice-read-result
-    add-result
-    shared-slice-read-result-2
-    add-result-2
-    shared-slice-read-result-3
-    returns-3)
+    (tie.spec returns (λ c κs. search needs) (λ c κs. search needs) (λ c. search needs) returns-2 (λ c. search needs) (λ c. search needs)
+    (λ c. search needs) (λ c. search needs) (λ c. search needs) returns-3)

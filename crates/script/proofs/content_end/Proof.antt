@@ -15,15 +15,6 @@ returns-2 : tie.Need-returns-2
 unfolding contentEnd
 returns-2 c = (simp (lt-ltb _ _ (c .before .if1 .left), le-ltb _ _ (c .if2 .taken)), (omega arith, omega arith))
 
-sub-if3 : tie.Need-sub-if3
-sub-if3 c = search needs
-
-shared-slice-read-if3 : tie.Need-shared-slice-read-if3
-shared-slice-read-if3 c = search needs
-
-sub-result : tie.Need-sub-result
-sub-result c = search needs
-
 returns-3 : tie.Need-returns-3
 unfolding contentEnd
 returns-3 c = (simp (lt-ltb _ _ (c .before .before .before .if1 .left), lt-ltb _ _ (c .before .before .if2 .left), eq-eqb _ _ (c .if3 .taken)), (omega arith, omega arith))
@@ -35,4 +26,4 @@ returns-4 c = (simp (lt-ltb _ _ (c .before .before .before .if1 .left), lt-ltb _
 pub content-end-spec : {M : Type 1} → statement M
 content-end-spec =
     tie.close
-    (tie.spec returns returns-2 sub-if3 shared-slice-read-if3 sub-result returns-3 returns-4)
+    (tie.spec returns returns-2 (λ c. search needs) (λ c. search needs) (λ c. search needs) returns-3 returns-4)

@@ -5,20 +5,8 @@ use borrow.Author.Needs.{needs}
 use Rattle.script.proofs.given_to.Statement.{statement}
 use Rattle.script.proofs.given_to.Tie as tie
 
-behind-requires : tie.Need-behind-requires
-behind-requires c κs = search needs
-
-enum-told : tie.Need-enum-told
-enum-told c = search needs
-
 file-end-requires : tie.Need-file-end-requires
 file-end-requires c κs = omega (arith, c .before .before .behind .ensures)
-
-line-end-requires : tie.Need-line-end-requires
-line-end-requires c κs = search needs
-
-behind-requires-2 : tie.Need-behind-requires-2
-behind-requires-2 c κs = search needs
 
 returns : tie.Need-returns
 returns c = omega (arith, c .before .before .before .before .before .behind .ensures, c .before .before .file-end .ensures .1 .0, c .before .before .file-end .ensures .1 .1, c .before .line-end .ensures .1 .0, c .before .line-end .ensures .1 .1, c .behind2 .ensures, c .before .before .before .before .before .before .before .pre)
@@ -29,11 +17,4 @@ returns-2 c = omega (arith, c .before .behind .ensures, c .before .before .befor
 pub given-to-spec : {M : Type 1} → statement M
 given-to-spec =
     tie.close
-    (tie.spec
-    behind-requires
-    enum-told
-    file-end-requires
-    line-end-requires
-    behind-requires-2
-    returns
-    returns-2)
+    (tie.spec (λ c κs. search needs) (λ c. search needs) file-end-requires (λ c κs. search needs) (λ c κs. search needs) returns returns-2)

@@ -5,54 +5,6 @@ use Rattle.script.specs.Lent.{lentAfter}
 use Rattle.script.proofs.lent_after.Statement.{statement}
 use Rattle.script.proofs.lent_after.Tie as tie
 
-enum-known-call : tie.Need-enum-known-call
-enum-known-call c = search needs
-
-cast-t6 : tie.Need-cast-t6
-cast-t6 c = search needs
-
-cast-t7 : tie.Need-cast-t7
-cast-t7 c = search needs
-
-enum-told : tie.Need-enum-told
-enum-told c = search needs
-
-enum-told-2 : tie.Need-enum-told-2
-enum-told-2 c = search needs
-
-enum-told-3 : tie.Need-enum-told-3
-enum-told-3 c = search needs
-
-enum-told-4 : tie.Need-enum-told-4
-enum-told-4 c = search needs
-
-enum-told-5 : tie.Need-enum-told-5
-enum-told-5 c = search needs
-
-enum-told-6 : tie.Need-enum-told-6
-enum-told-6 c = search needs
-
-enum-told-7 : tie.Need-enum-told-7
-enum-told-7 c = search needs
-
-enum-told-8 : tie.Need-enum-told-8
-enum-told-8 c = search needs
-
-enum-told-9 : tie.Need-enum-told-9
-enum-told-9 c = search needs
-
-enum-told-10 : tie.Need-enum-told-10
-enum-told-10 c = search needs
-
-enum-told-11 : tie.Need-enum-told-11
-enum-told-11 c = search needs
-
-enum-told-12 : tie.Need-enum-told-12
-enum-told-12 c = search needs
-
-enum-told-13 : tie.Need-enum-told-13
-enum-told-13 c = search needs
-
 returns : tie.Need-returns
 unfolding lentAfter
 returns c = let e = c .before .call .given .1 in (rw e, rw e at (c .before .before .before .pre .0))
@@ -112,34 +64,7 @@ returns-14 c = (rw (c .enum-told13 .given .1), c .before .before .pre .1)
 pub lent-after-spec : {M : Type 1} → statement M
 lent-after-spec =
     tie.close
-    (tie.spec
-    enum-known-call
-    cast-t6
-    cast-t7
-    enum-told
-    enum-told-2
-    enum-told-3
-    enum-told-4
-    enum-told-5
-    enum-told-6
-    enum-told-7
-    enum-told-8
-    enum-told-9
-    enum-told-10
-    enum-told-11
-    enum-told-12
-    enum-told-13
-    returns
-    returns-2
-    returns-3
-    returns-4
-    returns-5
-    returns-6
-    returns-7
-    returns-8
-    returns-9
-    returns-10
-    returns-11
-    returns-12
-    returns-13
-    returns-14)
+    (tie.spec (λ c. search needs) (λ c. search needs) (λ c. search needs) (λ c. search needs) (λ c. search needs) (λ c. search needs)
+    (λ c. search needs) (λ c. search needs) (λ c. search needs) (λ c. search needs) (λ c. search needs) (λ c. search needs) (λ c. search needs)
+    (λ c. search needs) (λ c. search needs) (λ c. search needs) returns returns-2 returns-3 returns-4 returns-5 returns-6 returns-7 returns-8
+    returns-9 returns-10 returns-11 returns-12 returns-13 returns-14)

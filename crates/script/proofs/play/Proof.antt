@@ -18,29 +18,11 @@ Inv-loop text sys₀ io₀ state₀ lent₀ out₀ at₀ number₀ sys io state 
 abbrev μ-loop : tie.MeasureT-loop
 μ-loop text sys₀ io₀ state₀ lent₀ out₀ at₀ number₀ sys io state lent out at number = length text - at
 
-fresh-requires : tie.Need-fresh-requires Inv-loop μ-loop
-fresh-requires c κs = search needs
-
 loop-holds : tie.Need-loop-holds Inv-loop μ-loop
 loop-holds c = (refl, refl, omega arith, omega arith, omega arith)
 
-line-end-requires : tie.Need-line-end-requires Inv-loop μ-loop
-line-end-requires c κs = search needs
-
 content-end-requires : tie.Need-content-end-requires Inv-loop μ-loop
 content-end-requires c κs = (c .line-end .ensures .1 .0, c .line-end .ensures .1 .1)
-
-sub-call-of : tie.Need-sub-call-of Inv-loop μ-loop
-sub-call-of c = search needs
-
-part-call-of-start : tie.Need-part-call-of-start Inv-loop μ-loop
-part-call-of-start c = search needs
-
-part-call-of-end : tie.Need-part-call-of-end Inv-loop μ-loop
-part-call-of-end c = search needs
-
-call-of-requires : tie.Need-call-of-requires Inv-loop μ-loop
-call-of-requires c κs = search needs
 
 given-to-requires : tie.Need-given-to-requires Inv-loop μ-loop
 given-to-requires c κs = ((c .before .before .content-end .ensures .1 .0, c .before .before .content-end .ensures .1 .1, c .before .before .before .line-end .ensures .1 .1), c .before .before .before .before .loop-test .taken)
@@ -69,20 +51,11 @@ slice-relend-prefix-perform-2 c = omega (arith, c .before .lent-after .ensures .
 slice-aggregate-perform-2 : tie.Need-slice-aggregate-perform-2 Inv-loop μ-loop
 slice-aggregate-perform-2 c = sym (length-take-le (c .before .before .lent-after .result .io) (c .before .before .before .before .before .before .before .before .before .before .loop .io) (omega (arith, c .before .before .lent-after .ensures .1 .1, c .before .before .before .before .before .before .before .before .before .before .loop .inv .1, c .before .before .before .before .before .before .before .before .before .before .before .before .before .before .before .before .pre .1 .1)))
 
-perform-requires : tie.Need-perform-requires Inv-loop μ-loop
-perform-requires c κs = search needs
-
 array-share-prefix-out : tie.Need-array-share-prefix-out Inv-loop μ-loop
 array-share-prefix-out c = omega (arith, c .before .before .before .before .perform .ensures .1 .1 .room)
 
 slice-aggregate-write-all : tie.Need-slice-aggregate-write-all Inv-loop μ-loop
 slice-aggregate-write-all c = sym (length-take-le (c .before .before .before .before .before .perform .result .count) (c .before .before .before .before .before .perform .last .1 .1 .1 .1 .1 .0) (c .before .before .before .before .before .perform .ensures .1 .1 .room))
-
-write-all-requires : tie.Need-write-all-requires Inv-loop μ-loop
-write-all-requires c κs = search needs
-
-complain-requires : tie.Need-complain-requires Inv-loop μ-loop
-complain-requires c κs = search needs
 
 sub-feeds : tie.Need-sub-feeds Inv-loop μ-loop
 sub-feeds c = omega (arith, c .before .before .before .before .before .before .before .before .before .before .before .before .before .before .given-to .ensures .2)
@@ -92,9 +65,6 @@ part-feeds-start c = omega (arith, c .before .before .before .before .before .be
 
 part-feeds-end : tie.Need-part-feeds-end Inv-loop μ-loop
 part-feeds-end c = omega (arith, c .before .before .before .before .before .before .before .before .before .before .before .before .before .before .given-to .ensures .3)
-
-feeds-requires : tie.Need-feeds-requires Inv-loop μ-loop
-feeds-requires c κs = search needs
 
 add-number : tie.Need-add-number Inv-loop μ-loop
 add-number c =
@@ -124,44 +94,11 @@ same-length c = c .before .loop .inv .0
 same-length-2 : tie.Need-same-length-2 Inv-loop μ-loop
 same-length-2 c = c .before .loop .inv .1
 
-returns : tie.Need-returns Inv-loop μ-loop
-returns c = search needs
-
 pub play-spec : {M : Type 1} → statement M
 play-spec =
     tie.close
-    (tie.spec
-    Inv-loop
-    μ-loop
-    fresh-requires
-    loop-holds
-    line-end-requires
-    content-end-requires
-    sub-call-of
-    part-call-of-start
-    part-call-of-end
-    call-of-requires
-    given-to-requires
-    sub-line
-    part-line-start
-    part-line-end
-    lent-after-requires
-    slice-relend-prefix-perform
-    slice-aggregate-perform
-    slice-relend-prefix-perform-2
-    slice-aggregate-perform-2
-    perform-requires
-    array-share-prefix-out
-    slice-aggregate-write-all
-    write-all-requires
-    complain-requires
-    sub-feeds
-    part-feeds-start
-    part-feeds-end
-    feeds-requires
-    add-number
-    loop-less
-    loop-again
-    same-length
-    same-length-2
-    returns)
+    (tie.spec Inv-loop μ-loop (λ c κs. search needs) loop-holds (λ c κs. search needs) content-end-requires (λ c. search needs) (λ c. search needs)
+    (λ c. search needs) (λ c κs. search needs) given-to-requires sub-line part-line-start part-line-end lent-after-requires
+    slice-relend-prefix-perform slice-aggregate-perform slice-relend-prefix-perform-2 slice-aggregate-perform-2 (λ c κs. search needs)
+    array-share-prefix-out slice-aggregate-write-all (λ c κs. search needs) (λ c κs. search needs) sub-feeds part-feeds-start part-feeds-end
+    (λ c κs. search needs) add-number loop-less loop-again same-length same-length-2 (λ c. search needs))

@@ -11,21 +11,6 @@ use borrow.Author.Needs.{needs}
 use Rattle.script_answers.proofs.advance.Statement.{statement}
 use Rattle.script_answers.proofs.advance.Tie as tie
 
-step-requires : tie.Need-step-requires
-step-requires c κs = search needs
-
-stepped-line-requires : tie.Need-stepped-line-requires
-stepped-line-requires c κs = search needs
-
-same-length : tie.Need-same-length
-same-length c = search needs
-
-same-length-2 : tie.Need-same-length-2
-same-length-2 c = search needs
-
-same-length-3 : tie.Need-same-length-3
-same-length-3 c = search needs
-
 returns : tie.Need-returns
 unfolding machineAdvanced advancedLine
 returns c =
@@ -35,4 +20,4 @@ returns c =
 pub advance-spec : {M : Type 1} → statement M
 advance-spec =
     tie.close
-    (tie.spec step-requires stepped-line-requires same-length same-length-2 same-length-3 returns)
+    (tie.spec (λ c κs. search needs) (λ c κs. search needs) (λ c. search needs) (λ c. search needs) (λ c. search needs) returns)

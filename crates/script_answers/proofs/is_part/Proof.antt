@@ -14,12 +14,9 @@ returns-2 : tie.Need-returns-2
 unfolding isPart
 returns-2 c = simp (le-leb _ _ (c .before .if1 .left), lt-leb _ _ (c .if2 .taken))
 
-add-result : tie.Need-add-result
-add-result c = search needs
-
 returns-3 : tie.Need-returns-3
 unfolding isPart
 returns-3 c = simp (le-leb _ _ (c .before .if1 .left), le-leb _ _ (c .if2 .left))
 
 pub is-part-spec : {M : Type 1} → statement M
-is-part-spec = tie.close (tie.spec returns returns-2 add-result returns-3)
+is-part-spec = tie.close (tie.spec returns returns-2 (λ c. search needs) returns-3)

@@ -17,18 +17,6 @@ use borrow.Author.Needs.{needs}
 use Rattle.script_answers.proofs.list_part.Statement.{statement}
 use Rattle.script_answers.proofs.list_part.Tie as tie
 
-is-part-requires : tie.Need-is-part-requires
-is-part-requires c κs = search needs
-
-slice-aggregate-append : tie.Need-slice-aggregate-append
-slice-aggregate-append c = search needs
-
-append-requires : tie.Need-append-requires
-append-requires c κs = search needs
-
-same-length : tie.Need-same-length
-same-length c = search needs
-
 returns : tie.Need-returns
 unfolding listedText
 returns c =
@@ -37,29 +25,11 @@ returns c =
     let text : refusedLine ≡ listedText (now (a .bytes)) (a .address) (a .count) = rw no in
     (sym no, reads text (c .before .before .append .ensures))
 
-add-to : tie.Need-add-to
-add-to c = search needs
-
-sub-list : tie.Need-sub-list
-sub-list c = search needs
-
-part-list-start : tie.Need-part-list-start
-part-list-start c = search needs
-
 part-list-end : tie.Need-part-list-end
 part-list-end c =
     let a = c .before .before .before .before .args in
     let yes : isPart (now (a .bytes)) (a .address) (a .count) ≡ true = sym (c .before .is-part .ensures) ∙ not-false (c .before .is-part .result) (c .if1 .left) in
     omega (arith, parted (now (a .bytes)) (a .address) (a .count) yes .there)
-
-list-requires : tie.Need-list-requires
-list-requires c κs = search needs
-
-cast-t16 : tie.Need-cast-t16
-cast-t16 c = search needs
-
-same-length-2 : tie.Need-same-length-2
-same-length-2 c = search needs
 
 returns-2 : tie.Need-returns-2
 unfolding listedText
@@ -77,17 +47,5 @@ returns-2 c =
 pub list-part-spec : {M : Type 1} → statement M
 list-part-spec =
     tie.close
-    (tie.spec
-    is-part-requires
-    slice-aggregate-append
-    append-requires
-    same-length
-    returns
-    add-to
-    sub-list
-    part-list-start
-    part-list-end
-    list-requires
-    cast-t16
-    same-length-2
-    returns-2)
+    (tie.spec (λ c κs. search needs) (λ c. search needs) (λ c κs. search needs) (λ c. search needs) returns (λ c. search needs) (λ c. search needs)
+    (λ c. search needs) part-list-end (λ c κs. search needs) (λ c. search needs) (λ c. search needs) returns-2)

@@ -8,18 +8,6 @@ use borrow.Author.Needs.{needs}
 use Rattle.script_answers.proofs.load.Statement.{statement}
 use Rattle.script_answers.proofs.load.Tie as tie
 
-load-requires : tie.Need-load-requires
-load-requires c κs = search needs
-
-loaded-line-requires : tie.Need-loaded-line-requires
-loaded-line-requires c κs = search needs
-
-same-length : tie.Need-same-length
-same-length c = search needs
-
-same-length-2 : tie.Need-same-length-2
-same-length-2 c = search needs
-
 returns : tie.Need-returns
 unfolding loadText
 returns c =
@@ -28,4 +16,4 @@ returns c =
 
 pub load-spec : {M : Type 1} → statement M
 load-spec =
-    tie.close (tie.spec load-requires loaded-line-requires same-length same-length-2 returns)
+    tie.close (tie.spec (λ c κs. search needs) (λ c κs. search needs) (λ c. search needs) (λ c. search needs) returns)

@@ -14,24 +14,6 @@ use borrow.Author.Needs.{needs}
 use Rattle.script_answers.proofs.put.Statement.{statement}
 use Rattle.script_answers.proofs.put.Tie as tie
 
-fourth-word-requires : tie.Need-fourth-word-requires
-fourth-word-requires c κs = search needs
-
-sub-digits : tie.Need-sub-digits
-sub-digits c = search needs
-
-part-digits-start : tie.Need-part-digits-start
-part-digits-start c = search needs
-
-part-digits-end : tie.Need-part-digits-end
-part-digits-end c = search needs
-
-put-requires : tie.Need-put-requires
-put-requires c κs = search needs
-
-same-length : tie.Need-same-length
-same-length c = search needs
-
 returns : tie.Need-returns
 unfolding putInto putOf
 returns c =
@@ -44,12 +26,6 @@ returns c =
       ap (buffers (now (a .sys))) (p .ensures .1 ∙ ap (λ (t : Bool). pick t (bytesWritten (now (a .io)) (a .address) digits) (now (a .io))) (p .ensures .0))
           ∙ rw (test, w .ensures .0),
     )
-
-put-requires-2 : tie.Need-put-requires-2
-put-requires-2 c κs = search needs
-
-same-length-2 : tie.Need-same-length-2
-same-length-2 c = search needs
 
 returns-2 : tie.Need-returns-2
 unfolding putInto putOf
@@ -67,14 +43,5 @@ returns-2 c =
 pub put-spec : {M : Type 1} → statement M
 put-spec =
     tie.close
-    (tie.spec
-    fourth-word-requires
-    sub-digits
-    part-digits-start
-    part-digits-end
-    put-requires
-    same-length
-    returns
-    put-requires-2
-    same-length-2
-    returns-2)
+    (tie.spec (λ c κs. search needs) (λ c. search needs) (λ c. search needs) (λ c. search needs) (λ c κs. search needs) (λ c. search needs) returns
+    (λ c κs. search needs) (λ c. search needs) returns-2)

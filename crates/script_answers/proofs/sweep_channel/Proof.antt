@@ -10,21 +10,6 @@ use borrow.Author.Needs.{needs}
 use Rattle.script_answers.proofs.sweep_channel.Statement.{statement}
 use Rattle.script_answers.proofs.sweep_channel.Tie as tie
 
-sweep-requires : tie.Need-sweep-requires
-sweep-requires c κs = search needs
-
-swept-line-requires : tie.Need-swept-line-requires
-swept-line-requires c κs = search needs
-
-same-length : tie.Need-same-length
-same-length c = search needs
-
-same-length-2 : tie.Need-same-length-2
-same-length-2 c = search needs
-
-same-length-3 : tie.Need-same-length-3
-same-length-3 c = search needs
-
 returns : tie.Need-returns
 unfolding machineSwept sweepText
 returns c =
@@ -34,4 +19,4 @@ returns c =
 pub sweep-channel-spec : {M : Type 1} → statement M
 sweep-channel-spec =
     tie.close
-    (tie.spec sweep-requires swept-line-requires same-length same-length-2 same-length-3 returns)
+    (tie.spec (λ c κs. search needs) (λ c κs. search needs) (λ c. search needs) (λ c. search needs) (λ c. search needs) returns)

@@ -11,24 +11,6 @@ use borrow.Author.Needs.{needs}
 use Rattle.script_answers.proofs.wake.Statement.{statement}
 use Rattle.script_answers.proofs.wake.Tie as tie
 
-power-up-requires : tie.Need-power-up-requires
-power-up-requires c κs = search needs
-
-slice-aggregate-counted-line : tie.Need-slice-aggregate-counted-line
-slice-aggregate-counted-line c = search needs
-
-counted-line-requires : tie.Need-counted-line-requires
-counted-line-requires c κs = search needs
-
-same-length : tie.Need-same-length
-same-length c = search needs
-
-same-length-2 : tie.Need-same-length-2
-same-length-2 c = search needs
-
-same-length-3 : tie.Need-same-length-3
-same-length-3 c = search needs
-
 returns : tie.Need-returns
 unfolding machinePowered
 returns c =
@@ -38,11 +20,4 @@ returns c =
 pub wake-spec : {M : Type 1} → statement M
 wake-spec =
     tie.close
-    (tie.spec
-    power-up-requires
-    slice-aggregate-counted-line
-    counted-line-requires
-    same-length
-    same-length-2
-    same-length-3
-    returns)
+    (tie.spec (λ c κs. search needs) (λ c. search needs) (λ c κs. search needs) (λ c. search needs) (λ c. search needs) (λ c. search needs) returns)

@@ -6,21 +6,6 @@ use borrow.Author.Needs.{needs}
 use Rattle.script_lines.proofs.answer_line.Statement.{statement}
 use Rattle.script_lines.proofs.answer_line.Tie as tie
 
-append-requires : tie.Need-append-requires
-append-requires c κs = search needs
-
-append-decimal-requires : tie.Need-append-decimal-requires
-append-decimal-requires c κs = search needs
-
-slice-aggregate-append : tie.Need-slice-aggregate-append
-slice-aggregate-append c = search needs
-
-append-requires-2 : tie.Need-append-requires-2
-append-requires-2 c κs = search needs
-
-same-length : tie.Need-same-length
-same-length c = search needs
-
 returns : tie.Need-returns
 unfolding answerLine
 returns c =
@@ -32,10 +17,4 @@ returns c =
 pub answer-line-spec : {M : Type 1} → statement M
 answer-line-spec =
     tie.close
-    (tie.spec
-    append-requires
-    append-decimal-requires
-    slice-aggregate-append
-    append-requires-2
-    same-length
-    returns)
+    (tie.spec (λ c κs. search needs) (λ c κs. search needs) (λ c. search needs) (λ c κs. search needs) (λ c. search needs) returns)

@@ -6,24 +6,6 @@ use borrow.Author.Needs.{needs}
 use Rattle.script_lines.proofs.channel_line.Statement.{statement}
 use Rattle.script_lines.proofs.channel_line.Tie as tie
 
-append-requires : tie.Need-append-requires
-append-requires c κs = search needs
-
-pointers-requires : tie.Need-pointers-requires
-pointers-requires c κs = search needs
-
-joined-requires : tie.Need-joined-requires
-joined-requires c κs = search needs
-
-numbers-requires : tie.Need-numbers-requires
-numbers-requires c κs = search needs
-
-marks-requires : tie.Need-marks-requires
-marks-requires c κs = search needs
-
-same-length : tie.Need-same-length
-same-length c = search needs
-
 returns : tie.Need-returns
 unfolding channelLine
 returns c =
@@ -36,11 +18,5 @@ returns c =
 pub channel-line-spec : {M : Type 1} → statement M
 channel-line-spec =
     tie.close
-    (tie.spec
-    append-requires
-    pointers-requires
-    joined-requires
-    numbers-requires
-    marks-requires
-    same-length
+    (tie.spec (λ c κs. search needs) (λ c κs. search needs) (λ c κs. search needs) (λ c κs. search needs) (λ c κs. search needs) (λ c. search needs)
     returns)

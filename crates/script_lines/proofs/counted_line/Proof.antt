@@ -6,18 +6,6 @@ use borrow.Author.Needs.{needs}
 use Rattle.script_lines.proofs.counted_line.Statement.{statement}
 use Rattle.script_lines.proofs.counted_line.Tie as tie
 
-append-requires : tie.Need-append-requires
-append-requires c κs = search needs
-
-append-decimal-requires : tie.Need-append-decimal-requires
-append-decimal-requires c κs = search needs
-
-count-text-requires : tie.Need-count-text-requires
-count-text-requires c κs = search needs
-
-same-length : tie.Need-same-length
-same-length c = search needs
-
 returns : tie.Need-returns
 unfolding countedLine
 returns c =
@@ -29,4 +17,4 @@ returns c =
 pub counted-line-spec : {M : Type 1} → statement M
 counted-line-spec =
     tie.close
-    (tie.spec append-requires append-decimal-requires count-text-requires same-length returns)
+    (tie.spec (λ c κs. search needs) (λ c κs. search needs) (λ c κs. search needs) (λ c. search needs) returns)

@@ -6,24 +6,6 @@ use borrow.Author.Needs.{needs}
 use Rattle.script_lines.proofs.pointer.Statement.{statement}
 use Rattle.script_lines.proofs.pointer.Tie as tie
 
-cast-register : tie.Need-cast-register
-cast-register c = search needs
-
-register-requires : tie.Need-register-requires
-register-requires c κs = search needs
-
-slice-aggregate-register : tie.Need-slice-aggregate-register
-slice-aggregate-register c = search needs
-
-mark-number-requires : tie.Need-mark-number-requires
-mark-number-requires c κs = search needs
-
-register-requires-2 : tie.Need-register-requires-2
-register-requires-2 c κs = search needs
-
-same-length : tie.Need-same-length
-same-length c = search needs
-
 returns : tie.Need-returns
 unfolding pointerText
 returns c =
@@ -34,11 +16,4 @@ returns c =
 pub pointer-spec : {M : Type 1} → statement M
 pointer-spec =
     tie.close
-    (tie.spec
-    cast-register
-    register-requires
-    slice-aggregate-register
-    mark-number-requires
-    register-requires-2
-    same-length
-    returns)
+    (tie.spec (λ c. search needs) (λ c κs. search needs) (λ c. search needs) (λ c κs. search needs) (λ c κs. search needs) (λ c. search needs) returns)

@@ -6,15 +6,6 @@ use borrow.Author.Needs.{needs}
 use Rattle.script_lines.proofs.register.Statement.{statement}
 use Rattle.script_lines.proofs.register.Tie as tie
 
-append-requires : tie.Need-append-requires
-append-requires c κs = search needs
-
-append-hex-requires : tie.Need-append-hex-requires
-append-hex-requires c κs = search needs
-
-same-length : tie.Need-same-length
-same-length c = search needs
-
 returns : tie.Need-returns
 unfolding registerText
 returns c =
@@ -23,4 +14,4 @@ returns c =
     then t1 t2
 
 pub register-spec : {M : Type 1} → statement M
-register-spec = tie.close (tie.spec append-requires append-hex-requires same-length returns)
+register-spec = tie.close (tie.spec (λ c κs. search needs) (λ c κs. search needs) (λ c. search needs) returns)

@@ -6,39 +6,6 @@ use borrow.Author.Needs.{needs}
 use Rattle.script_lines.proofs.stepped_line.Statement.{statement}
 use Rattle.script_lines.proofs.stepped_line.Tie as tie
 
-slice-aggregate-append : tie.Need-slice-aggregate-append
-slice-aggregate-append c = search needs
-
-append-requires : tie.Need-append-requires
-append-requires c κs = search needs
-
-append-decimal-requires : tie.Need-append-decimal-requires
-append-decimal-requires c κs = search needs
-
-slice-aggregate-append-2 : tie.Need-slice-aggregate-append-2
-slice-aggregate-append-2 c = search needs
-
-append-requires-2 : tie.Need-append-requires-2
-append-requires-2 c κs = search needs
-
-append-decimal-requires-2 : tie.Need-append-decimal-requires-2
-append-decimal-requires-2 c κs = search needs
-
-letter-requires : tie.Need-letter-requires
-letter-requires c κs = search needs
-
-slice-aggregate-append-3 : tie.Need-slice-aggregate-append-3
-slice-aggregate-append-3 c = search needs
-
-append-requires-3 : tie.Need-append-requires-3
-append-requires-3 c κs = search needs
-
-count-text-requires : tie.Need-count-text-requires
-count-text-requires c κs = search needs
-
-same-length : tie.Need-same-length
-same-length c = search needs
-
 returns : tie.Need-returns
 unfolding steppedLine
 returns c =
@@ -53,16 +20,5 @@ returns c =
 pub stepped-line-spec : {M : Type 1} → statement M
 stepped-line-spec =
     tie.close
-    (tie.spec
-    slice-aggregate-append
-    append-requires
-    append-decimal-requires
-    slice-aggregate-append-2
-    append-requires-2
-    append-decimal-requires-2
-    letter-requires
-    slice-aggregate-append-3
-    append-requires-3
-    count-text-requires
-    same-length
-    returns)
+    (tie.spec (λ c. search needs) (λ c κs. search needs) (λ c κs. search needs) (λ c. search needs) (λ c κs. search needs) (λ c κs. search needs)
+    (λ c κs. search needs) (λ c. search needs) (λ c κs. search needs) (λ c κs. search needs) (λ c. search needs) returns)

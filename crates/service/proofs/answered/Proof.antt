@@ -8,9 +8,6 @@ use Rattle.service.proofs.TurnLaws.{refused-left, done-left}
 use Rattle.service.proofs.answered.Statement.{statement}
 use Rattle.service.proofs.answered.Tie as tie
 
-answer-requires : tie.Need-answer-requires
-answer-requires c κs = search needs
-
 returns : tie.Need-returns
 returns c =
     let a = c .before .before .before .before .args in
@@ -18,18 +15,6 @@ returns c =
 
 put-step-requires : tie.Need-put-step-requires
 put-step-requires c κs = c .before .before .before .before .before .pre .0
-
-number-requires : tie.Need-number-requires
-number-requires c κs = search needs
-
-kind-number-requires : tie.Need-kind-number-requires
-kind-number-requires c κs = search needs
-
-answer-requires-2 : tie.Need-answer-requires-2
-answer-requires-2 c κs = search needs
-
-same-length : tie.Need-same-length
-same-length c = search needs
 
 returns-2 : tie.Need-returns-2
 returns-2 c =
@@ -40,12 +25,5 @@ returns-2 c =
 pub answered-spec : {M : Type 1} → statement M
 answered-spec =
     tie.close
-    (tie.spec
-    answer-requires
-    returns
-    put-step-requires
-    number-requires
-    kind-number-requires
-    answer-requires-2
-    same-length
-    returns-2)
+    (tie.spec (λ c κs. search needs) returns put-step-requires (λ c κs. search needs) (λ c κs. search needs) (λ c κs. search needs)
+    (λ c. search needs) returns-2)

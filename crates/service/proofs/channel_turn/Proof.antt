@@ -19,18 +19,6 @@ use Rattle.service.proofs.TurnLaws.{transfer-turned, instruction-turned
 use Rattle.service.proofs.channel_turn.Statement.{statement}
 use Rattle.service.proofs.channel_turn.Tie as tie
 
-transferring-requires : tie.Need-transferring-requires
-transferring-requires c κs = search needs
-
-transfer-requires : tie.Need-transfer-requires
-transfer-requires c κs = search needs
-
-same-length : tie.Need-same-length
-same-length c = search needs
-
-same-length-2 : tie.Need-same-length-2
-same-length-2 c = search needs
-
 returns : tie.Need-returns
 unfolding channelStep touchedIn transferCount
 returns c =
@@ -43,21 +31,6 @@ returns c =
       rw flag (transfer-turned (a .s) m (a .second) _ e),
       rw flag (t .ensures .1 ∙ ap (λ (x : Channel). transferCount x m) of ∙ ap (λ (x : Steps.Transfer). counted (x .number) (touchedByTransfer (channelOf (a .s) (a .second)) m)) (sym e)),
     )
-
-block-requires : tie.Need-block-requires
-block-requires c κs = search needs
-
-sum20-requires : tie.Need-sum20-requires
-sum20-requires c κs = search needs
-
-execute-requires : tie.Need-execute-requires
-execute-requires c κs = search needs
-
-same-length-3 : tie.Need-same-length-3
-same-length-3 c = search needs
-
-same-length-4 : tie.Need-same-length-4
-same-length-4 c = search needs
 
 returns-2 : tie.Need-returns-2
 unfolding channelStep touchedIn executeCount busyIn
@@ -76,15 +49,5 @@ returns-2 c =
 pub channel-turn-spec : {M : Type 1} → statement M
 channel-turn-spec =
     tie.close
-    (tie.spec
-    transferring-requires
-    transfer-requires
-    same-length
-    same-length-2
-    returns
-    block-requires
-    sum20-requires
-    execute-requires
-    same-length-3
-    same-length-4
-    returns-2)
+    (tie.spec (λ c κs. search needs) (λ c κs. search needs) (λ c. search needs) (λ c. search needs) returns (λ c κs. search needs)
+    (λ c κs. search needs) (λ c κs. search needs) (λ c. search needs) (λ c. search needs) returns-2)

@@ -4,11 +4,8 @@ use borrow.Author.Needs.{needs}
 use Rattle.service.proofs.end_turn.Statement.{statement}
 use Rattle.service.proofs.end_turn.Tie as tie
 
-external-end-requires : tie.Need-external-end-requires
-external-end-requires c κs = search needs
-
 returns : tie.Need-returns
 returns c = rw (c .external-end .ensures)
 
 pub end-turn-spec : {M : Type 1} → statement M
-end-turn-spec = tie.close (tie.spec external-end-requires returns)
+end-turn-spec = tie.close (tie.spec (λ c κs. search needs) returns)

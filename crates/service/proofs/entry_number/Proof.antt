@@ -13,15 +13,9 @@ returns : tie.Need-returns
 unfolding entryNumber first unless
 returns c = simp (le-ltb _ _ (c .if1 .taken), le-leb _ _ (c .if1 .taken))
 
-within-limits-requires : tie.Need-within-limits-requires
-within-limits-requires c κs = search needs
-
 returns-2 : tie.Need-returns-2
 unfolding entryNumber givenNumber first unless
 returns-2 c = simp (not-true (c .before .within-limits .result) (c .if2 .taken), ← (c .before .within-limits .ensures), lt-ltb _ _ (c .before .before .if1 .left))
-
-sound-requires : tie.Need-sound-requires
-sound-requires c κs = search needs
 
 returns-3 : tie.Need-returns-3
 unfolding entryNumber givenNumber first unless
@@ -45,13 +39,4 @@ returns-6 c = simp (ap agree (c .before .before .before .before .before .before 
 pub entry-number-spec : {M : Type 1} → statement M
 entry-number-spec =
     tie.close
-    (tie.spec
-    returns
-    within-limits-requires
-    returns-2
-    sound-requires
-    returns-3
-    returns-4
-    agree-requires
-    returns-5
-    returns-6)
+    (tie.spec returns (λ c κs. search needs) returns-2 (λ c κs. search needs) returns-3 returns-4 agree-requires returns-5 returns-6)

@@ -20,12 +20,6 @@ use Rattle.service.proofs.TurnLaws.{entry-refused, chosen-step, end-tur
 use Rattle.service.proofs.iop89_step.Statement.{statement}
 use Rattle.service.proofs.iop89_step.Tie as tie
 
-is-state-requires : tie.Need-is-state-requires
-is-state-requires c κs = search needs
-
-same-length : tie.Need-same-length
-same-length c = search needs
-
 returns : tie.Need-returns
 returns c =
     let a = c .before .before .before .before .before .before .args in
@@ -37,18 +31,6 @@ looked-at-requires c κs = state-length _ (sym (c .before .before .is-state .ens
 entry-number-requires : tie.Need-entry-number-requires
 entry-number-requires c κs = (sym (c .before .before .before .before .before .before .is-state .ensures) ∙ not-false _ (c .before .before .before .before .before .if1 .left), c .before .before .before .looked-at .ensures)
 
-answer-requires : tie.Need-answer-requires
-answer-requires c κs = search needs
-
-same-length-2 : tie.Need-same-length-2
-same-length-2 c = search needs
-
-same-length-3 : tie.Need-same-length-3
-same-length-3 c = search needs
-
-same-length-4 : tie.Need-same-length-4
-same-length-4 c = search needs
-
 returns-2 : tie.Need-returns-2
 returns-2 c =
     let a = c .before .before .before .before .before .before .before .before .before .before .before .before .before .before .args in
@@ -58,29 +40,11 @@ returns-2 c =
     refused-served b m (sym (c .before .before .before .before .before .before .before .before .before .is-state .ensures) ∙ not-false _ (c .before .before .before .before .before .before .before .before .if1 .left)) (a .lines) (λ i. omega (arith, c .before .before .before .before .before .before .before .before .before .before .before .before .before .slice-known .given i)) (entryNumber (stateIn b) m (a .lines)) (λ z. c .before .if2 .taken (n ∙ z))
     (entry-refused (stateIn b) m (a .lines) (λ z. c .before .if2 .taken (n ∙ z))) _ (c .answer .ensures ∙ ap (λ (k : ℕ). answerFrom k 0 0 0) n)
 
-choose-requires : tie.Need-choose-requires
-choose-requires c κs = search needs
-
-enum-told : tie.Need-enum-told
-enum-told c = search needs
-
-answer-requires-2 : tie.Need-answer-requires-2
-answer-requires-2 c κs = search needs
-
-enum-known-second : tie.Need-enum-known-second
-enum-known-second c = search needs
-
 channel-requires : tie.Need-channel-requires
 channel-requires c κs = state-length _ (sym (c .before .before .before .before .before .before .before .before .before .before .before .before .before .before .is-state .ensures) ∙ not-false _ (c .before .before .before .before .before .before .before .before .before .before .before .before .before .if1 .left))
 
-end-turn-requires : tie.Need-end-turn-requires
-end-turn-requires c κs = search needs
-
 answered-requires : tie.Need-answered-requires
 answered-requires c κs = (sym (c .before .before .before .before .before .before .before .before .before .before .before .before .before .before .before .before .is-state .ensures) ∙ not-false _ (c .before .before .before .before .before .before .before .before .before .before .before .before .before .before .before .if1 .left), λ ne. absurd (ne (ap (λ (t : Turn). t .number) (c .end-turn .ensures))))
-
-enum-known-second-2 : tie.Need-enum-known-second-2
-enum-known-second-2 c = search needs
 
 channel-requires-2 : tie.Need-channel-requires-2
 channel-requires-2 c κs = state-length _ (sym (c .before .before .before .before .before .before .before .before .before .before .before .before .before .is-state .ensures) ∙ not-false _ (c .before .before .before .before .before .before .before .before .before .before .before .before .if1 .left))
@@ -90,15 +54,6 @@ channel-turn-requires c κs = rw (c .before .before .channel2 .ensures, c .befor
 
 answered-requires-2 : tie.Need-answered-requires-2
 answered-requires-2 c κs = (sym (c .before .before .before .before .before .before .before .before .before .before .before .before .before .before .before .before .before .before .before .before .before .before .is-state .ensures) ∙ not-false _ (c .before .before .before .before .before .before .before .before .before .before .before .before .before .before .before .before .before .before .before .before .before .if1 .left), λ ne. c .before .before .before .before .before .channel-turn .ensures .1 ∙ refused-counts _ _ ne)
-
-same-length-5 : tie.Need-same-length-5
-same-length-5 c = search needs
-
-same-length-6 : tie.Need-same-length-6
-same-length-6 c = search needs
-
-same-length-7 : tie.Need-same-length-7
-same-length-7 c = search needs
 
 returns-3 : tie.Need-returns-3
 unfolding chosenStep
@@ -112,15 +67,6 @@ returns-3 c =
     refused-served b m (sym (c .before .before .before .before .before .before .before .before .before .before .before .before .is-state .ensures) ∙ not-false _ (c .before .before .before .before .before .before .before .before .before .before .before .if1 .left)) (a .lines) (λ i. omega (arith, c .before .before .before .before .before .before .before .before .before .before .before .before .before .before .before .before .slice-known .given i)) 1 (eqb-false 1 0 refl)
     (chosen-step (stateIn b) m (a .lines) Nobody z who) _ (c .answer2 .ensures)
 
-same-length-8 : tie.Need-same-length-8
-same-length-8 c = search needs
-
-same-length-9 : tie.Need-same-length-9
-same-length-9 c = search needs
-
-same-length-10 : tie.Need-same-length-10
-same-length-10 c = search needs
-
 returns-4 : tie.Need-returns-4
 returns-4 c =
     let a = c .before .before .before .before .before .before .before .before .before .before .before .before .before .before .before .before .before .before .before .before .before .before .before .before .args in
@@ -130,15 +76,6 @@ returns-4 c =
     let ended = end-turned (s .result) _ (s .ensures) m _ (c .before .before .before .before .channel .result) (c .before .before .before .end-turn .result) (c .before .before .before .before .channel .ensures) (c .before .before .before .end-turn .ensures) in
     turn-served (now (a .state)) m (sym (c .before .before .before .before .before .before .before .before .before .before .before .before .before .before .before .before .before .before .before .is-state .ensures) ∙ not-false _ (c .before .before .before .before .before .before .before .before .before .before .before .before .before .before .before .before .before .before .if1 .left)) (a .lines) (s .result) (s .ensures) _ _ (c .before .before .before .end-turn .result) m
     (sym (c .before .before .before .before .before .before .before .before .before .before .before .before .entry-number .ensures) ∙ c .before .before .before .before .before .before .before .before .before .before .before .if2 .left) (sym (c .before .before .before .before .before .before .before .before .before .before .choose .ensures) ∙ c .before .before .before .before .before .before .before .before .second .given .1) (ended .0) (ended .1) _ _ (left .0 m) (left .1 m)
-
-same-length-11 : tie.Need-same-length-11
-same-length-11 c = search needs
-
-same-length-12 : tie.Need-same-length-12
-same-length-12 c = search needs
-
-same-length-13 : tie.Need-same-length-13
-same-length-13 c = search needs
 
 returns-5 : tie.Need-returns-5
 unfolding chosenStep
@@ -154,37 +91,8 @@ returns-5 c =
 pub iop89-step-spec : {M : Type 1} → statement M
 iop89-step-spec =
     tie.close
-    (tie.spec
-    is-state-requires
-    same-length
-    returns
-    looked-at-requires
-    entry-number-requires
-    answer-requires
-    same-length-2
-    same-length-3
-    same-length-4
-    returns-2
-    choose-requires
-    enum-told
-    answer-requires-2
-    enum-known-second
-    channel-requires
-    end-turn-requires
-    answered-requires
-    enum-known-second-2
-    channel-requires-2
-    channel-turn-requires
-    answered-requires-2
-    same-length-5
-    same-length-6
-    same-length-7
-    returns-3
-    same-length-8
-    same-length-9
-    same-length-10
-    returns-4
-    same-length-11
-    same-length-12
-    same-length-13
-    returns-5)
+    (tie.spec (λ c κs. search needs) (λ c. search needs) returns looked-at-requires entry-number-requires (λ c κs. search needs) (λ c. search needs)
+    (λ c. search needs) (λ c. search needs) returns-2 (λ c κs. search needs) (λ c. search needs) (λ c κs. search needs) (λ c. search needs)
+    channel-requires (λ c κs. search needs) answered-requires (λ c. search needs) channel-requires-2 channel-turn-requires answered-requires-2
+    (λ c. search needs) (λ c. search needs) (λ c. search needs) returns-3 (λ c. search needs) (λ c. search needs) (λ c. search needs) returns-4
+    (λ c. search needs) (λ c. search needs) (λ c. search needs) returns-5)

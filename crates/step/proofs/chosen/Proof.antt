@@ -13,30 +13,6 @@ use Rattle.step.proofs.StepLaws.{counts-none}
 use Rattle.step.proofs.chosen.Statement.{statement}
 use Rattle.step.proofs.chosen.Tie as tie
 
-enum-told : tie.Need-enum-told
-enum-told c = search needs
-
-refused-requires : tie.Need-refused-requires
-refused-requires c κs = search needs
-
-enum-known-choice : tie.Need-enum-known-choice
-enum-known-choice c = search needs
-
-channel-requires : tie.Need-channel-requires
-channel-requires c κs = search needs
-
-external-end-requires : tie.Need-external-end-requires
-external-end-requires c κs = search needs
-
-done-requires : tie.Need-done-requires
-done-requires c κs = search needs
-
-enum-known-choice-2 : tie.Need-enum-known-choice-2
-enum-known-choice-2 c = search needs
-
-channel-step-requires : tie.Need-channel-step-requires
-channel-step-requires c κs = search needs
-
 returns : tie.Need-returns
 unfolding chosenStep touchedIn
 returns c =
@@ -60,12 +36,6 @@ returns-2 c =
       ap (λ (x : Stepped). x .count) (c .done .ensures) ∙ sym (counts-none (r .number)) ∙ ap (λ (x : Choice). counted (r .number) (touchedIn x (a .s) m)) told,
     )
 
-same-length : tie.Need-same-length
-same-length c = search needs
-
-same-length-2 : tie.Need-same-length-2
-same-length-2 c = search needs
-
 returns-3 : tie.Need-returns-3
 unfolding chosenStep
 returns-3 c =
@@ -78,17 +48,5 @@ returns-3 c =
 pub chosen-spec : {M : Type 1} → statement M
 chosen-spec =
     tie.close
-    (tie.spec
-    enum-told
-    refused-requires
-    enum-known-choice
-    channel-requires
-    external-end-requires
-    done-requires
-    enum-known-choice-2
-    channel-step-requires
-    returns
-    returns-2
-    same-length
-    same-length-2
-    returns-3)
+    (tie.spec (λ c. search needs) (λ c κs. search needs) (λ c. search needs) (λ c κs. search needs) (λ c κs. search needs) (λ c κs. search needs)
+    (λ c. search needs) (λ c κs. search needs) returns returns-2 (λ c. search needs) (λ c. search needs) returns-3)

@@ -7,9 +7,6 @@ use Rattle.step.specs.Step.{entryNumber}
 use Rattle.step.proofs.entry_number.Statement.{statement}
 use Rattle.step.proofs.entry_number.Tie as tie
 
-given-number-requires : tie.Need-given-number-requires
-given-number-requires c κs = search needs
-
 returns : tie.Need-returns
 unfolding entryNumber first unless
 returns c = simp (c .given-number .ensures, lt-ltb _ _ (c .before .if1 .taken), lt-leb _ _ (c .before .if1 .taken))
@@ -19,4 +16,4 @@ unfolding entryNumber first unless
 returns-2 c = simp (le-ltb _ _ (c .if1 .left), le-leb _ _ (c .if1 .left))
 
 pub entry-number-spec : {M : Type 1} → statement M
-entry-number-spec = tie.close (tie.spec given-number-requires returns returns-2)
+entry-number-spec = tie.close (tie.spec (λ c κs. search needs) returns returns-2)

@@ -17,27 +17,6 @@ use Rattle.step.proofs.StepLaws.{execute-kept, settles, settled-counts}
 use Rattle.step.proofs.instruction_step.Statement.{statement}
 use Rattle.step.proofs.instruction_step.Tie as tie
 
-block-requires : tie.Need-block-requires
-block-requires c κs = search needs
-
-sum20-requires : tie.Need-sum20-requires
-sum20-requires c κs = search needs
-
-channel-requires : tie.Need-channel-requires
-channel-requires c κs = search needs
-
-execute-requires : tie.Need-execute-requires
-execute-requires c κs = search needs
-
-settled-requires : tie.Need-settled-requires
-settled-requires c κs = search needs
-
-same-length : tie.Need-same-length
-same-length c = search needs
-
-same-length-2 : tie.Need-same-length-2
-same-length-2 c = search needs
-
 returns : tie.Need-returns
 unfolding instructionStep executeCount busyIn
 returns c =
@@ -56,12 +35,5 @@ returns c =
 pub instruction-step-spec : {M : Type 1} → statement M
 instruction-step-spec =
     tie.close
-    (tie.spec
-    block-requires
-    sum20-requires
-    channel-requires
-    execute-requires
-    settled-requires
-    same-length
-    same-length-2
-    returns)
+    (tie.spec (λ c κs. search needs) (λ c κs. search needs) (λ c κs. search needs) (λ c κs. search needs) (λ c κs. search needs) (λ c. search needs)
+    (λ c. search needs) returns)

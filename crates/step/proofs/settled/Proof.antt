@@ -5,12 +5,6 @@ use borrow.Author.Tests.{eq-eqb, ne-eqb}
 use Rattle.step.proofs.settled.Statement.{statement}
 use Rattle.step.proofs.settled.Tie as tie
 
-done-requires : tie.Need-done-requires
-done-requires c κs = search needs
-
-refused-requires : tie.Need-refused-requires
-refused-requires c κs = search needs
-
 returns : tie.Need-returns
 returns c = simp (c .done .ensures, c .before .if1 .taken, eq-eqb _ _ (c .before .if1 .taken))
 
@@ -18,4 +12,4 @@ returns-2 : tie.Need-returns-2
 returns-2 c = simp (c .refused .ensures, ne-eqb _ _ (c .before .if1 .left))
 
 pub settled-spec : {M : Type 1} → statement M
-settled-spec = tie.close (tie.spec done-requires refused-requires returns returns-2)
+settled-spec = tie.close (tie.spec (λ c κs. search needs) (λ c κs. search needs) returns returns-2)

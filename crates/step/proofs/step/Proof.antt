@@ -15,18 +15,6 @@ use Rattle.step.specs.declared.Stepped.{Stepped}
 use Rattle.step.proofs.step.Statement.{statement}
 use Rattle.step.proofs.step.Tie as tie
 
-entry-number-requires : tie.Need-entry-number-requires
-entry-number-requires c κs = search needs
-
-refused-requires : tie.Need-refused-requires
-refused-requires c κs = search needs
-
-same-length : tie.Need-same-length
-same-length c = search needs
-
-same-length-2 : tie.Need-same-length-2
-same-length-2 c = search needs
-
 returns : tie.Need-returns
 unfolding stepOf stepCount
 returns c =
@@ -40,18 +28,6 @@ returns c =
       ap (λ (x : Stepped). x .count) (c .refused .ensures)
           ∙ sym (refused-counts (stepOf (a .s) m (a .lines) .number) (touchedByStep (a .s) m (a .lines)) (λ z. c .before .if1 .taken (sym (ap (λ (x : Stepped). x .number) (c .refused .ensures)) ∙ ap (λ (x : Step). x .number) e ∙ z))),
     )
-
-choose-requires : tie.Need-choose-requires
-choose-requires c κs = search needs
-
-chosen-requires : tie.Need-chosen-requires
-chosen-requires c κs = search needs
-
-same-length-3 : tie.Need-same-length-3
-same-length-3 c = search needs
-
-same-length-4 : tie.Need-same-length-4
-same-length-4 c = search needs
 
 returns-2 : tie.Need-returns-2
 unfolding stepOf stepCount touchedByStep
@@ -73,14 +49,5 @@ returns-2 c =
 pub step-spec : {M : Type 1} → statement M
 step-spec =
     tie.close
-    (tie.spec
-    entry-number-requires
-    refused-requires
-    same-length
-    same-length-2
-    returns
-    choose-requires
-    chosen-requires
-    same-length-3
-    same-length-4
-    returns-2)
+    (tie.spec (λ c κs. search needs) (λ c κs. search needs) (λ c. search needs) (λ c. search needs) returns (λ c κs. search needs)
+    (λ c κs. search needs) (λ c. search needs) (λ c. search needs) returns-2)

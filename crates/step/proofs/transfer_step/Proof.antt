@@ -17,21 +17,6 @@ use Rattle.step.proofs.StepLaws.{transfer-kept, settles, settled-counts
 use Rattle.step.proofs.transfer_step.Statement.{statement}
 use Rattle.step.proofs.transfer_step.Tie as tie
 
-channel-requires : tie.Need-channel-requires
-channel-requires c κs = search needs
-
-transfer-requires : tie.Need-transfer-requires
-transfer-requires c κs = search needs
-
-settled-requires : tie.Need-settled-requires
-settled-requires c κs = search needs
-
-same-length : tie.Need-same-length
-same-length c = search needs
-
-same-length-2 : tie.Need-same-length-2
-same-length-2 c = search needs
-
 returns : tie.Need-returns
 unfolding transferStep transferCount
 returns c =
@@ -49,10 +34,4 @@ returns c =
 pub transfer-step-spec : {M : Type 1} → statement M
 transfer-step-spec =
     tie.close
-    (tie.spec
-    channel-requires
-    transfer-requires
-    settled-requires
-    same-length
-    same-length-2
-    returns)
+    (tie.spec (λ c κs. search needs) (λ c κs. search needs) (λ c κs. search needs) (λ c. search needs) (λ c. search needs) returns)

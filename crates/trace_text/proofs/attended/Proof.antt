@@ -14,21 +14,6 @@ use borrow.Author.Needs.{needs}
 use Rattle.trace_text.proofs.attended.Statement.{statement}
 use Rattle.trace_text.proofs.attended.Tie as tie
 
-attention-requires : tie.Need-attention-requires
-attention-requires c κs = search needs
-
-end-line-requires : tie.Need-end-line-requires
-end-line-requires c κs = search needs
-
-same-length : tie.Need-same-length
-same-length c = search needs
-
-same-length-2 : tie.Need-same-length-2
-same-length-2 c = search needs
-
-same-length-3 : tie.Need-same-length-3
-same-length-3 c = search needs
-
 returns : tie.Need-returns
 unfolding attendedText attendedRun
 returns c =
@@ -40,18 +25,6 @@ returns c =
       reads (ap (λ (x : Outcome). endLine (x .number) 0) e ∙ rw refused) (last .ensures),
       ap (λ (x : Outcome). ran (x .number) 0 (x .memory)) e ∙ rw refused,
     )
-
-steps-requires : tie.Need-steps-requires
-steps-requires c κs = search needs
-
-same-length-4 : tie.Need-same-length-4
-same-length-4 c = search needs
-
-same-length-5 : tie.Need-same-length-5
-same-length-5 c = search needs
-
-same-length-6 : tie.Need-same-length-6
-same-length-6 c = search needs
 
 returns-2 : tie.Need-returns-2
 unfolding attendedText attendedRun
@@ -68,15 +41,5 @@ returns-2 c =
 pub attended-spec : {M : Type 1} → statement M
 attended-spec =
     tie.close
-    (tie.spec
-    attention-requires
-    end-line-requires
-    same-length
-    same-length-2
-    same-length-3
-    returns
-    steps-requires
-    same-length-4
-    same-length-5
-    same-length-6
-    returns-2)
+    (tie.spec (λ c κs. search needs) (λ c κs. search needs) (λ c. search needs) (λ c. search needs) (λ c. search needs) returns (λ c κs. search needs)
+    (λ c. search needs) (λ c. search needs) (λ c. search needs) returns-2)

@@ -6,33 +6,6 @@ use Rattle.page.proofs.PageLaws.{then}
 use Rattle.trace_text.proofs.end_line.Statement.{statement}
 use Rattle.trace_text.proofs.end_line.Tie as tie
 
-slice-aggregate-append : tie.Need-slice-aggregate-append
-slice-aggregate-append c = search needs
-
-append-requires : tie.Need-append-requires
-append-requires c κs = search needs
-
-append-decimal-requires : tie.Need-append-decimal-requires
-append-decimal-requires c κs = search needs
-
-slice-aggregate-append-2 : tie.Need-slice-aggregate-append-2
-slice-aggregate-append-2 c = search needs
-
-append-requires-2 : tie.Need-append-requires-2
-append-requires-2 c κs = search needs
-
-append-decimal-requires-2 : tie.Need-append-decimal-requires-2
-append-decimal-requires-2 c κs = search needs
-
-slice-aggregate-append-3 : tie.Need-slice-aggregate-append-3
-slice-aggregate-append-3 c = search needs
-
-append-requires-3 : tie.Need-append-requires-3
-append-requires-3 c κs = search needs
-
-same-length : tie.Need-same-length
-same-length c = search needs
-
 returns : tie.Need-returns
 unfolding endLine
 returns c =
@@ -46,14 +19,5 @@ returns c =
 pub end-line-spec : {M : Type 1} → statement M
 end-line-spec =
     tie.close
-    (tie.spec
-    slice-aggregate-append
-    append-requires
-    append-decimal-requires
-    slice-aggregate-append-2
-    append-requires-2
-    append-decimal-requires-2
-    slice-aggregate-append-3
-    append-requires-3
-    same-length
-    returns)
+    (tie.spec (λ c. search needs) (λ c κs. search needs) (λ c κs. search needs) (λ c. search needs) (λ c κs. search needs) (λ c κs. search needs)
+    (λ c. search needs) (λ c κs. search needs) (λ c. search needs) returns)

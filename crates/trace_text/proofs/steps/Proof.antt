@@ -33,12 +33,6 @@ abbrev μ-loop : tie.MeasureT-loop
 loop-holds : tie.Need-loop-holds Inv-loop μ-loop
 loop-holds c = (omega arith, refl, refl, refl, refl, refl)
 
-step-requires : tie.Need-step-requires Inv-loop μ-loop
-step-requires c κs = search needs
-
-end-line-requires : tie.Need-end-line-requires Inv-loop μ-loop
-end-line-requires c κs = search needs
-
 same-length : tie.Need-same-length Inv-loop μ-loop
 same-length c = c .before .before .before .before .before .before .before .before .before .before .step .kept .1 .0 ∙ c .before .before .before .before .before .before .before .before .before .before .before .before .before .before .loop .inv .1
 
@@ -69,9 +63,6 @@ returns c =
 
 add-done : tie.Need-add-done Inv-loop μ-loop
 add-done c = omega (arith, c .before .before .before .before .before .before .before .before .before .before .loop-test .taken)
-
-step-line-requires : tie.Need-step-line-requires Inv-loop μ-loop
-step-line-requires c κs = search needs
 
 loop-less : tie.Need-loop-less Inv-loop μ-loop
 loop-less c = omega (arith, c .before .before .before .before .before .before .before .before .before .before .before .before .before .before .loop-test .taken)
@@ -105,9 +96,6 @@ loop-again c =
           ∙ l .inv .5,
     )
 
-end-line-requires-2 : tie.Need-end-line-requires-2 Inv-loop μ-loop
-end-line-requires-2 c κs = search needs
-
 same-length-4 : tie.Need-same-length-4 Inv-loop μ-loop
 same-length-4 c = c .before .before .before .before .before .loop .inv .1
 
@@ -130,22 +118,5 @@ returns-2 c =
 pub steps-spec : {M : Type 1} → statement M
 steps-spec =
     tie.close
-    (tie.spec
-    Inv-loop
-    μ-loop
-    loop-holds
-    step-requires
-    end-line-requires
-    same-length
-    same-length-2
-    same-length-3
-    returns
-    add-done
-    step-line-requires
-    loop-less
-    loop-again
-    end-line-requires-2
-    same-length-4
-    same-length-5
-    same-length-6
-    returns-2)
+    (tie.spec Inv-loop μ-loop loop-holds (λ c κs. search needs) (λ c κs. search needs) same-length same-length-2 same-length-3 returns add-done
+    (λ c κs. search needs) loop-less loop-again (λ c κs. search needs) same-length-4 same-length-5 same-length-6 returns-2)

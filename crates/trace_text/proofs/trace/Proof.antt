@@ -19,9 +19,6 @@ use borrow.Author.Needs.{needs}
 use Rattle.trace_text.proofs.trace.Statement.{statement}
 use Rattle.trace_text.proofs.trace.Tie as tie
 
-end-line-requires : tie.Need-end-line-requires
-end-line-requires c κs = search needs
-
 returns : tie.Need-returns
 unfolding traceOf tracedRun
 returns c =
@@ -29,18 +26,6 @@ returns c =
     let long = lt-leb (length (now (c .before .before .before .before .args .input))) 4096 (c .before .before .if1 .taken) in
     let ended : endLine 11 0 ≡ traceOf (now (c .before .before .before .before .args .input)) = rw long in
     (printed _ _ _ _ (omega (arith, trace-short (now (c .before .before .before .before .args .input)))) (reads ended (last .ensures)), (rw long, rw long, rw long))
-
-fresh-requires : tie.Need-fresh-requires
-fresh-requires c κs = search needs
-
-slice-aggregate-attended : tie.Need-slice-aggregate-attended
-slice-aggregate-attended c = search needs
-
-attended-requires : tie.Need-attended-requires
-attended-requires c κs = search needs
-
-same-length : tie.Need-same-length
-same-length c = search needs
 
 returns-2 : tie.Need-returns-2
 unfolding traceOf
@@ -59,11 +44,4 @@ returns-2 c =
 pub trace-spec : {M : Type 1} → statement M
 trace-spec =
     tie.close
-    (tie.spec
-    end-line-requires
-    returns
-    fresh-requires
-    slice-aggregate-attended
-    attended-requires
-    same-length
-    returns-2)
+    (tie.spec (λ c κs. search needs) returns (λ c κs. search needs) (λ c. search needs) (λ c κs. search needs) (λ c. search needs) returns-2)

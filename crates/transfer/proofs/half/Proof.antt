@@ -37,14 +37,8 @@ module _ (c : Channel) (m m′ : Buffers) (k : Moved) (h : isHalf c ≡ true) (e
   unfolding halfStep halfCount leftByMove
   done z r er = rw (er, h) (sym (ap (λ (x : ℕ). transferred x (pick (eqb x 0) (landed c k) c) m′) z) ∙ e, n)
 
-plan-requires : tie.Need-plan-requires
-plan-requires c κs = search needs
-
 apart-requires : tie.Need-apart-requires
 apart-requires c κs = c .plan .ensures
-
-refused-requires : tie.Need-refused-requires
-refused-requires c κs = search needs
 
 returns : tie.Need-returns
 unfolding halfStep halfCount
@@ -55,9 +49,6 @@ returns c = let a = c .before .before .before .before .before .before .args in
 
 bad-mode-requires : tie.Need-bad-mode-requires
 bad-mode-requires c κs = c .before .before .plan .ensures
-
-refused-requires-2 : tie.Need-refused-requires-2
-refused-requires-2 c κs = search needs
 
 returns-2 : tie.Need-returns-2
 unfolding halfStep halfCount transferOf transferCount countBy touchedByTransfer
@@ -70,15 +61,6 @@ returns-2 c = let a = c .before .before .before .before .before .before .before 
 due-requires : tie.Need-due-requires
 due-requires c κs = (c .before .before .before .before .before .before .plan .ensures, sym (c .before .before .before .bad-mode .ensures) ∙ c .before .before .if2 .left, sym (c .before .before .before .before .before .apart .ensures) ∙ not-false _ (c .before .before .before .before .if1 .left))
 
-refused-requires-3 : tie.Need-refused-requires-3
-refused-requires-3 c κs = search needs
-
-same-length : tie.Need-same-length
-same-length c = search needs
-
-same-length-2 : tie.Need-same-length-2
-same-length-2 c = search needs
-
 returns-3 : tie.Need-returns-3
 returns-3 c = let a = c .before .before .before .before .before .before .before .before .before .before .before .before .before .before .before .before .before .args in
     let m = buffers (now (a .sys)) (now (a .io)) in
@@ -86,12 +68,6 @@ returns-3 c = let a = c .before .before .before .before .before .before .before 
 
 left-requires : tie.Need-left-requires
 left-requires c κs = c .before .before .before .before .before .before .before .before .before .before .before .before .before .plan .ensures
-
-same-length-3 : tie.Need-same-length-3
-same-length-3 c = search needs
-
-same-length-4 : tie.Need-same-length-4
-same-length-4 c = search needs
 
 returns-4 : tie.Need-returns-4
 returns-4 c = let a = c .before .before .before .before .before .before .before .before .before .before .before .before .before .before .before .before .before .args in
@@ -101,20 +77,5 @@ returns-4 c = let a = c .before .before .before .before .before .before .before 
 pub half-spec : {M : Type 1} → statement M
 half-spec =
     tie.close
-    (tie.spec
-    plan-requires
-    apart-requires
-    refused-requires
-    returns
-    bad-mode-requires
-    refused-requires-2
-    returns-2
-    due-requires
-    refused-requires-3
-    same-length
-    same-length-2
-    returns-3
-    left-requires
-    same-length-3
-    same-length-4
-    returns-4)
+    (tie.spec (λ c κs. search needs) apart-requires (λ c κs. search needs) returns bad-mode-requires (λ c κs. search needs) returns-2 due-requires
+    (λ c κs. search needs) (λ c. search needs) (λ c. search needs) returns-3 left-requires (λ c. search needs) (λ c. search needs) returns-4)

@@ -65,14 +65,8 @@ module _ (c : Channel) (m : Buffers) (p : Setup) (f : Fetched) (done : Done) (ep
     unfolding setupOf
     counts = ap₂ (λ (x : Setup) (y : Done). accesses (x .two) (y .two) (c .fields .translates)) ep becomes ∙ sym (touched-length c m)
 
-plan-requires : tie.Need-plan-requires
-plan-requires c κs = search needs
-
 bad-mode-requires : tie.Need-bad-mode-requires
 bad-mode-requires c κs = c .plan .ensures
-
-refused-requires : tie.Need-refused-requires
-refused-requires c κs = search needs
 
 returns : tie.Need-returns
 unfolding wholeStep wholeCount
@@ -83,15 +77,6 @@ returns c = let a = c .before .before .before .before .before .before .args in
 
 fetch-requires : tie.Need-fetch-requires
 fetch-requires c κs = (c .before .before .before .before .plan .ensures, sym (c .before .before .before .bad-mode .ensures) ∙ c .before .before .if1 .left)
-
-refused-requires-2 : tie.Need-refused-requires-2
-refused-requires-2 c κs = search needs
-
-same-length : tie.Need-same-length
-same-length c = search needs
-
-same-length-2 : tie.Need-same-length-2
-same-length-2 c = search needs
 
 returns-2 : tie.Need-returns-2
 unfolding wholeStep wholeCount
@@ -108,18 +93,6 @@ returns-2 c = let a = c .before .before .before .before .before .before .before 
 finish-requires : tie.Need-finish-requires
 finish-requires c κs = c .before .before .before .before .before .before .before .before .plan .ensures
 
-put-requires : tie.Need-put-requires
-put-requires c κs = search needs
-
-refused-requires-3 : tie.Need-refused-requires-3
-refused-requires-3 c κs = search needs
-
-same-length-3 : tie.Need-same-length-3
-same-length-3 c = search needs
-
-same-length-4 : tie.Need-same-length-4
-same-length-4 c = search needs
-
 returns-3 : tie.Need-returns-3
 unfolding wholeStep wholeCount
 returns-3 c = let a = c .before .before .before .before .before .before .before .before .before .before .before .before .before .before .before .before .before .before .before .before .before .before .args in
@@ -135,23 +108,8 @@ returns-3 c = let a = c .before .before .before .before .before .before .before 
       ap (λ (x : Transferred). x .count) (c .refused3 .ensures) ∙ counts-2 Whole (a .c) m good touched,
     )
 
-count-requires : tie.Need-count-requires
-count-requires c κs = search needs
-
-one-or-two-requires : tie.Need-one-or-two-requires
-one-or-two-requires c κs = search needs
-
-cast-landed : tie.Need-cast-landed
-cast-landed c = search needs
-
 landed-requires : tie.Need-landed-requires
 landed-requires c κs = c .before .before .before .before .before .before .before .before .before .before .before .before .before .before .before .before .before .before .before .before .before .plan .ensures
-
-same-length-5 : tie.Need-same-length-5
-same-length-5 c = search needs
-
-same-length-6 : tie.Need-same-length-6
-same-length-6 c = search needs
 
 returns-4 : tie.Need-returns-4
 unfolding wholeStep wholeCount channelBy memoryBy
@@ -175,26 +133,6 @@ returns-4 c = let a = c .before .before .before .before .before .before .before 
 pub whole-spec : {M : Type 1} → statement M
 whole-spec =
     tie.close
-    (tie.spec
-    plan-requires
-    bad-mode-requires
-    refused-requires
-    returns
-    fetch-requires
-    refused-requires-2
-    same-length
-    same-length-2
-    returns-2
-    finish-requires
-    put-requires
-    refused-requires-3
-    same-length-3
-    same-length-4
-    returns-3
-    count-requires
-    one-or-two-requires
-    cast-landed
-    landed-requires
-    same-length-5
-    same-length-6
-    returns-4)
+    (tie.spec (λ c κs. search needs) bad-mode-requires (λ c κs. search needs) returns fetch-requires (λ c κs. search needs) (λ c. search needs)
+    (λ c. search needs) returns-2 finish-requires (λ c κs. search needs) (λ c κs. search needs) (λ c. search needs) (λ c. search needs) returns-3
+    (λ c κs. search needs) (λ c κs. search needs) (λ c. search needs) landed-requires (λ c. search needs) (λ c. search needs) returns-4)

@@ -5,12 +5,9 @@ use Rattle.words.specs.Bits.{fieldOf, bitOf}
 use Rattle.words.proofs.bit.Statement.{statement}
 use Rattle.words.proofs.bit.Tie as tie
 
-field-requires : tie.Need-field-requires
-field-requires c κs = search needs
-
 returns : tie.Need-returns
 unfolding fieldOf bitOf
 returns c = rw (c .field .ensures)
 
 pub bit-spec : {M : Type 1} → statement M
-bit-spec = tie.close (tie.spec field-requires returns)
+bit-spec = tie.close (tie.spec (λ c κs. search needs) returns)

@@ -10,9 +10,6 @@ use Rattle.words.proofs.BitLaws.{one-shifted, clear-masked}
 use Rattle.words.proofs.clear_bit.Statement.{statement}
 use Rattle.words.proofs.clear_bit.Tie as tie
 
-shl-result : tie.Need-shl-result
-shl-result c = search needs
-
 returns : tie.Need-returns
 returns c =
     let a = c .before .args in
@@ -23,4 +20,4 @@ returns-2 : tie.Need-returns-2
 returns-2 c = simp (le-ltb _ _ (c .if1 .left))
 
 pub clear-bit-spec : {M : Type 1} → statement M
-clear-bit-spec = tie.close (tie.spec shl-result returns returns-2)
+clear-bit-spec = tie.close (tie.spec (λ c. search needs) returns returns-2)

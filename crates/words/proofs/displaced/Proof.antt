@@ -61,9 +61,6 @@ module _ (p : ℕ) (z : ℤ) (hp : p < 1048576) (hz : SFits w32 z) where
 within : (n : ℕ) → n % 1048576 < 1048576
 within n = mod-lt n (lit< tt)
 
-cast-from : tie.Need-cast-from
-cast-from c = search needs
-
 add-from : tie.Need-add-from
 add-from c =
     let small : c .args .pointer % 1048576 < 2 ^ 63 = omega arith in
@@ -83,9 +80,6 @@ cast-result-2 c =
     let low = below p (c .args .by) (within _) (c .fits .by) in
     rw (whole p (c .args .by) (within _) (c .fits .by)) (tt, record { fits = omega arith })
 
-cast-result-3 : tie.Need-cast-result-3
-cast-result-3 c = search needs
-
 returns : tie.Need-returns
 returns c =
     ap (λ (z : ℤ). natAbs z % 1048576) (whole (c .args .pointer % 1048576) (c .args .by) (within _) (c .fits .by))
@@ -94,4 +88,4 @@ returns c =
 pub displaced-spec : {M : Type 1} → statement M
 displaced-spec =
     tie.close
-    (tie.spec cast-from add-from cast-result add-result cast-result-2 cast-result-3 returns)
+    (tie.spec (λ c. search needs) add-from cast-result add-result cast-result-2 (λ c. search needs) returns)

@@ -12,12 +12,6 @@ use Rattle.words.proofs.SignLaws.{signed-fits}
 use Rattle.words.proofs.displaced_byte.Statement.{statement}
 use Rattle.words.proofs.displaced_byte.Tie as tie
 
-displacement-byte-requires : tie.Need-displacement-byte-requires
-displacement-byte-requires c κs = search needs
-
-displaced-requires : tie.Need-displaced-requires
-displaced-requires c κs = search needs
-
 returns : tie.Need-returns
 returns c =
     let a = c .before .before .args in
@@ -27,4 +21,4 @@ returns c =
     ∙ ap (displacedBy (a .pointer)) (toZ-ofZ fits)
 
 pub displaced-byte-spec : {M : Type 1} → statement M
-displaced-byte-spec = tie.close (tie.spec displacement-byte-requires displaced-requires returns)
+displaced-byte-spec = tie.close (tie.spec (λ c κs. search needs) (λ c κs. search needs) returns)

@@ -12,12 +12,6 @@ use Rattle.words.proofs.SignLaws.{signed-fits}
 use Rattle.words.proofs.displaced_word.Statement.{statement}
 use Rattle.words.proofs.displaced_word.Tie as tie
 
-displacement-word-requires : tie.Need-displacement-word-requires
-displacement-word-requires c κs = search needs
-
-displaced-requires : tie.Need-displaced-requires
-displaced-requires c κs = search needs
-
 returns : tie.Need-returns
 returns c =
     let a = c .before .before .args in
@@ -27,4 +21,4 @@ returns c =
     ∙ ap (displacedBy (a .pointer)) (toZ-ofZ fits)
 
 pub displaced-word-spec : {M : Type 1} → statement M
-displaced-word-spec = tie.close (tie.spec displacement-word-requires displaced-requires returns)
+displaced-word-spec = tie.close (tie.spec (λ c κs. search needs) (λ c κs. search needs) returns)

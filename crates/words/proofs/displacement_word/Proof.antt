@@ -8,12 +8,6 @@ use Rattle.words.proofs.SignLaws.{low-is, high-is, high-fits}
 use Rattle.words.proofs.displacement_word.Statement.{statement}
 use Rattle.words.proofs.displacement_word.Tie as tie
 
-cast-result : tie.Need-cast-result
-cast-result c = search needs
-
-cast-result-2 : tie.Need-cast-result-2
-cast-result-2 c = search needs
-
 sub-result : tie.Need-sub-result
 sub-result c = high-fits (c .before .args .x) 65535 (omega arith) (lit< tt)
 
@@ -25,4 +19,4 @@ returns-2 c = high-is 16 (c .before .args .x) 65535 refl (c .if1 .left) (omega a
 
 pub displacement-word-spec : {M : Type 1} → statement M
 displacement-word-spec =
-    tie.close (tie.spec cast-result cast-result-2 sub-result returns returns-2)
+    tie.close (tie.spec (λ c. search needs) (λ c. search needs) sub-result returns returns-2)

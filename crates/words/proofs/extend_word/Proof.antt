@@ -6,9 +6,6 @@ use Rattle.words.specs.Signs.{extended}
 use Rattle.words.proofs.extend_word.Statement.{statement}
 use Rattle.words.proofs.extend_word.Tie as tie
 
-add-result : tie.Need-add-result
-add-result c = search needs
-
 returns : tie.Need-returns
 unfolding extended
 returns c = simp (lt-ltb _ _ (c .if1 .taken))
@@ -18,4 +15,4 @@ unfolding extended
 returns-2 c = simp (le-ltb _ _ (c .if1 .left))
 
 pub extend-word-spec : {M : Type 1} → statement M
-extend-word-spec = tie.close (tie.spec add-result returns returns-2)
+extend-word-spec = tie.close (tie.spec (λ c. search needs) returns returns-2)

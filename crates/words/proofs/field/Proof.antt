@@ -13,17 +13,8 @@ use Rattle.words.proofs.field.Tie as tie
 returns : tie.Need-returns
 returns c = let a = c .before .args in sym (field-past 32 (a .x) (a .at) (a .width) (omega arith) (c .if1 .taken))
 
-shr-result : tie.Need-shr-result
-shr-result c = search needs
-
 returns-2 : tie.Need-returns-2
 returns-2 c = let a = c .before .before .args in sym (field-wide 32 (a .x) (a .at) (a .width) (omega arith) (c .if2 .taken))
-
-shr-result-2 : tie.Need-shr-result-2
-shr-result-2 c = search needs
-
-shl-result : tie.Need-shl-result
-shl-result c = search needs
 
 sub-result : tie.Need-sub-result
 sub-result c =
@@ -37,4 +28,4 @@ returns-3 c =
 
 pub field-spec : {M : Type 1} → statement M
 field-spec =
-    tie.close (tie.spec returns shr-result returns-2 shr-result-2 shl-result sub-result returns-3)
+    tie.close (tie.spec returns (λ c. search needs) returns-2 (λ c. search needs) (λ c. search needs) sub-result returns-3)

@@ -5,15 +5,9 @@ use Rattle.words.specs.Compare.{matchOf}
 use Rattle.words.proofs.matches.Statement.{statement}
 use Rattle.words.proofs.matches.Tie as tie
 
-low-byte-requires : tie.Need-low-byte-requires
-low-byte-requires c κs = search needs
-
-high-byte-requires : tie.Need-high-byte-requires
-high-byte-requires c κs = search needs
-
 returns : tie.Need-returns
 unfolding matchOf
 returns c = rw (c .high-byte .ensures, c .before .low-byte .ensures)
 
 pub matches-spec : {M : Type 1} → statement M
-matches-spec = tie.close (tie.spec low-byte-requires high-byte-requires returns)
+matches-spec = tie.close (tie.spec (λ c κs. search needs) (λ c κs. search needs) returns)

@@ -8,9 +8,6 @@ use Rattle.words.proofs.BitLaws.{one-shifted, set-masked}
 use Rattle.words.proofs.set_bit.Statement.{statement}
 use Rattle.words.proofs.set_bit.Tie as tie
 
-shl-result : tie.Need-shl-result
-shl-result c = search needs
-
 returns : tie.Need-returns
 returns c =
     let a = c .before .args in
@@ -20,4 +17,4 @@ returns-2 : tie.Need-returns-2
 returns-2 c = simp (le-ltb _ _ (c .if1 .left))
 
 pub set-bit-spec : {M : Type 1} → statement M
-set-bit-spec = tie.close (tie.spec shl-result returns returns-2)
+set-bit-spec = tie.close (tie.spec (λ c. search needs) returns returns-2)

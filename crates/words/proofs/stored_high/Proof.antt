@@ -5,15 +5,6 @@ use native.Mathlib.Nat.{add-zero}
 use Rattle.words.proofs.stored_high.Statement.{statement}
 use Rattle.words.proofs.stored_high.Tie as tie
 
-mul-half : tie.Need-mul-half
-mul-half c = search needs
-
-cast-half : tie.Need-cast-half
-cast-half c = search needs
-
-add-result : tie.Need-add-result
-add-result c = search needs
-
 returns : tie.Need-returns
 returns c = rw (c .if1 .taken)
 
@@ -21,4 +12,4 @@ returns-2 : tie.Need-returns-2
 returns-2 c = simp (c .if1 .left, add-zero)
 
 pub stored-high-spec : {M : Type 1} → statement M
-stored-high-spec = tie.close (tie.spec mul-half cast-half add-result returns returns-2)
+stored-high-spec = tie.close (tie.spec (λ c. search needs) (λ c. search needs) (λ c. search needs) returns returns-2)

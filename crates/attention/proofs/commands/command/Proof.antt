@@ -6,9 +6,6 @@ use Rattle.attention.specs.Commands.{commandCoded}
 use Rattle.attention.proofs.commands.command.Statement.{statement}
 use Rattle.attention.proofs.commands.command.Tie as tie
 
-field-requires : tie.Need-field-requires
-field-requires c κs = search needs
-
 returns : tie.Need-returns
 unfolding commandCoded
 returns c = simp (c .match .keys1, ← (c .before .field .ensures))
@@ -40,4 +37,4 @@ returns-7 c = simp (ne-eqb _ _ (c .match .rest .1), ne-eqb _ _ (c .match .rest .
 pub command-spec : {M : Type 1} → statement M
 command-spec =
     tie.close
-    (tie.spec field-requires returns returns-2 returns-3 returns-4 returns-5 returns-6 returns-7)
+    (tie.spec (λ c κs. search needs) returns returns-2 returns-3 returns-4 returns-5 returns-6 returns-7)

@@ -6,21 +6,6 @@ use Rattle.attention.specs.Commands.{obeyed}
 use Rattle.attention.proofs.commands.obeyed.Statement.{statement}
 use Rattle.attention.proofs.commands.obeyed.Tie as tie
 
-field-requires : tie.Need-field-requires
-field-requires c κs = search needs
-
-with-requires : tie.Need-with-requires
-with-requires c κs = search needs
-
-with-requires-2 : tie.Need-with-requires-2
-with-requires-2 c κs = search needs
-
-with-requires-3 : tie.Need-with-requires-3
-with-requires-3 c κs = search needs
-
-with-requires-4 : tie.Need-with-requires-4
-with-requires-4 c κs = search needs
-
 returns : tie.Need-returns
 unfolding obeyed
 returns c = simp (← (c .with .ensures), c .before .match .keys1, ← (c .before .before .field .ensures))
@@ -40,13 +25,5 @@ returns-4 c = simp (ne-eqb _ _ (c .match .rest .1), ne-eqb _ _ (c .match .rest .
 pub obeyed-spec : {M : Type 1} → statement M
 obeyed-spec =
     tie.close
-    (tie.spec
-    field-requires
-    with-requires
-    with-requires-2
-    with-requires-3
-    with-requires-4
-    returns
-    returns-2
-    returns-3
-    returns-4)
+    (tie.spec (λ c κs. search needs) (λ c κs. search needs) (λ c κs. search needs) (λ c κs. search needs) (λ c κs. search needs) returns returns-2
+    returns-3 returns-4)

@@ -6,51 +6,6 @@ use Rattle.attention.specs.Commands.{isKnown, modeNumber, commandNumber}
 use Rattle.attention.proofs.commands.refusal.Statement.{statement}
 use Rattle.attention.proofs.commands.refusal.Tie as tie
 
-enum-told : tie.Need-enum-told
-enum-told c = search needs
-
-enum-told-2 : tie.Need-enum-told-2
-enum-told-2 c = search needs
-
-is-running-requires : tie.Need-is-running-requires
-is-running-requires c κs = search needs
-
-refuse-unless-requires : tie.Need-refuse-unless-requires
-refuse-unless-requires c κs = search needs
-
-enum-told-3 : tie.Need-enum-told-3
-enum-told-3 c = search needs
-
-is-running-requires-2 : tie.Need-is-running-requires-2
-is-running-requires-2 c κs = search needs
-
-refuse-unless-requires-2 : tie.Need-refuse-unless-requires-2
-refuse-unless-requires-2 c κs = search needs
-
-enum-told-4 : tie.Need-enum-told-4
-enum-told-4 c = search needs
-
-is-running-requires-3 : tie.Need-is-running-requires-3
-is-running-requires-3 c κs = search needs
-
-refuse-unless-requires-3 : tie.Need-refuse-unless-requires-3
-refuse-unless-requires-3 c κs = search needs
-
-enum-told-5 : tie.Need-enum-told-5
-enum-told-5 c = search needs
-
-is-suspended-requires : tie.Need-is-suspended-requires
-is-suspended-requires c κs = search needs
-
-refuse-unless-requires-4 : tie.Need-refuse-unless-requires-4
-refuse-unless-requires-4 c κs = search needs
-
-enum-told-6 : tie.Need-enum-told-6
-enum-told-6 c = search needs
-
-enum-told-7 : tie.Need-enum-told-7
-enum-told-7 c = search needs
-
 returns : tie.Need-returns
 unfolding commandNumber isKnown modeNumber first unless
 returns c = simp (c .enum-told .given .1, c .before .match .keys1)
@@ -82,26 +37,6 @@ returns-7 c = simp (c .enum-told7 .given .1, c .before .match .keys7)
 pub refusal-spec : {M : Type 1} → statement M
 refusal-spec =
     tie.close
-    (tie.spec
-    enum-told
-    enum-told-2
-    is-running-requires
-    refuse-unless-requires
-    enum-told-3
-    is-running-requires-2
-    refuse-unless-requires-2
-    enum-told-4
-    is-running-requires-3
-    refuse-unless-requires-3
-    enum-told-5
-    is-suspended-requires
-    refuse-unless-requires-4
-    enum-told-6
-    enum-told-7
-    returns
-    returns-2
-    returns-3
-    returns-4
-    returns-5
-    returns-6
-    returns-7)
+    (tie.spec (λ c. search needs) (λ c. search needs) (λ c κs. search needs) (λ c κs. search needs) (λ c. search needs) (λ c κs. search needs)
+    (λ c κs. search needs) (λ c. search needs) (λ c κs. search needs) (λ c κs. search needs) (λ c. search needs) (λ c κs. search needs)
+    (λ c κs. search needs) (λ c. search needs) (λ c. search needs) returns returns-2 returns-3 returns-4 returns-5 returns-6 returns-7)

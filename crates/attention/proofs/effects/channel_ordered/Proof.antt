@@ -6,15 +6,9 @@ use Rattle.attention.specs.Effects.{channelOrdered}
 use Rattle.attention.proofs.effects.channel_ordered.Statement.{statement}
 use Rattle.attention.proofs.effects.channel_ordered.Tie as tie
 
-commanded-requires : tie.Need-commanded-requires
-commanded-requires c κs = search needs
-
-ordered-requires : tie.Need-ordered-requires
-ordered-requires c κs = search needs
-
 returns : tie.Need-returns
 unfolding channelOrdered withControl
 returns c = simp (c .ordered .ensures, c .before .commanded .ensures)
 
 pub channel-ordered-spec : {M : Type 1} → statement M
-channel-ordered-spec = tie.close (tie.spec commanded-requires ordered-requires returns)
+channel-ordered-spec = tie.close (tie.spec (λ c κs. search needs) (λ c κs. search needs) returns)

@@ -7,60 +7,6 @@ use Rattle.attention.specs.Effects.{commanded}
 use Rattle.attention.proofs.effects.commanded.Statement.{statement}
 use Rattle.attention.proofs.effects.commanded.Tie as tie
 
-enum-told : tie.Need-enum-told
-enum-told c = search needs
-
-enum-told-2 : tie.Need-enum-told-2
-enum-told-2 c = search needs
-
-word-requires : tie.Need-word-requires
-word-requires c κs = search needs
-
-cast-address : tie.Need-cast-address
-cast-address c = search needs
-
-started-requires : tie.Need-started-requires
-started-requires c κs = search needs
-
-enum-told-3 : tie.Need-enum-told-3
-enum-told-3 c = search needs
-
-doubleword-requires : tie.Need-doubleword-requires
-doubleword-requires c κs = search needs
-
-started-requires-2 : tie.Need-started-requires-2
-started-requires-2 c κs = search needs
-
-enum-told-4 : tie.Need-enum-told-4
-enum-told-4 c = search needs
-
-suspended-requires : tie.Need-suspended-requires
-suspended-requires c κs = search needs
-
-enum-told-5 : tie.Need-enum-told-5
-enum-told-5 c = search needs
-
-sum20-requires : tie.Need-sum20-requires
-sum20-requires c κs = search needs
-
-byte-requires : tie.Need-byte-requires
-byte-requires c κs = search needs
-
-stored-pointer-requires : tie.Need-stored-pointer-requires
-stored-pointer-requires c κs = search needs
-
-resumed-requires : tie.Need-resumed-requires
-resumed-requires c κs = search needs
-
-enum-told-6 : tie.Need-enum-told-6
-enum-told-6 c = search needs
-
-halted-requires : tie.Need-halted-requires
-halted-requires c κs = search needs
-
-enum-told-7 : tie.Need-enum-told-7
-enum-told-7 c = search needs
-
 returns : tie.Need-returns
 unfolding commanded
 returns c = simp (c .enum-told .given .1, c .before .match .keys1)
@@ -94,29 +40,7 @@ returns-7 c = simp (c .enum-told7 .given .1, c .before .match .keys7)
 pub commanded-spec : {M : Type 1} → statement M
 commanded-spec =
     tie.close
-    (tie.spec
-    enum-told
-    enum-told-2
-    word-requires
-    cast-address
-    started-requires
-    enum-told-3
-    doubleword-requires
-    started-requires-2
-    enum-told-4
-    suspended-requires
-    enum-told-5
-    sum20-requires
-    byte-requires
-    stored-pointer-requires
-    resumed-requires
-    enum-told-6
-    halted-requires
-    enum-told-7
-    returns
-    returns-2
-    returns-3
-    returns-4
-    returns-5
-    returns-6
-    returns-7)
+    (tie.spec (λ c. search needs) (λ c. search needs) (λ c κs. search needs) (λ c. search needs) (λ c κs. search needs) (λ c. search needs)
+    (λ c κs. search needs) (λ c κs. search needs) (λ c. search needs) (λ c κs. search needs) (λ c. search needs) (λ c κs. search needs)
+    (λ c κs. search needs) (λ c κs. search needs) (λ c κs. search needs) (λ c. search needs) (λ c κs. search needs) (λ c. search needs) returns
+    returns-2 returns-3 returns-4 returns-5 returns-6 returns-7)

@@ -7,18 +7,6 @@ use Rattle.attention.specs.Effects.{marked}
 use Rattle.attention.proofs.effects.mark_if.Statement.{statement}
 use Rattle.attention.proofs.effects.mark_if.Tie as tie
 
-sum20-requires : tie.Need-sum20-requires
-sum20-requires c κs = search needs
-
-store-byte-requires : tie.Need-store-byte-requires
-store-byte-requires c κs = search needs
-
-same-length : tie.Need-same-length
-same-length c = search needs
-
-same-length-2 : tie.Need-same-length-2
-same-length-2 c = search needs
-
 returns : tie.Need-returns
 unfolding marked busyIn
 returns c = c .before .before .before .before .store-byte .ensures ∙ rw (c .before .before .before .before .before .sum20 .ensures, c .before .before .before .before .before .before .before .before .if1 .taken)
@@ -29,4 +17,4 @@ returns-2 c = rw (c .if1 .left)
 pub mark-if-spec : {M : Type 1} → statement M
 mark-if-spec =
     tie.close
-    (tie.spec sum20-requires store-byte-requires same-length same-length-2 returns returns-2)
+    (tie.spec (λ c κs. search needs) (λ c κs. search needs) (λ c. search needs) (λ c. search needs) returns returns-2)

@@ -7,21 +7,6 @@ use Rattle.attention.specs.Effects.{saved}
 use Rattle.attention.proofs.effects.save_if.Statement.{statement}
 use Rattle.attention.proofs.effects.save_if.Tie as tie
 
-store-pointer-requires : tie.Need-store-pointer-requires
-store-pointer-requires c κs = search needs
-
-sum20-requires : tie.Need-sum20-requires
-sum20-requires c κs = search needs
-
-store-byte-requires : tie.Need-store-byte-requires
-store-byte-requires c κs = search needs
-
-same-length : tie.Need-same-length
-same-length c = search needs
-
-same-length-2 : tie.Need-same-length-2
-same-length-2 c = search needs
-
 returns : tie.Need-returns
 unfolding saved
 returns c =
@@ -34,11 +19,4 @@ returns-2 c = rw (c .if1 .left)
 pub save-if-spec : {M : Type 1} → statement M
 save-if-spec =
     tie.close
-    (tie.spec
-    store-pointer-requires
-    sum20-requires
-    store-byte-requires
-    same-length
-    same-length-2
-    returns
-    returns-2)
+    (tie.spec (λ c κs. search needs) (λ c κs. search needs) (λ c κs. search needs) (λ c. search needs) (λ c. search needs) returns returns-2)

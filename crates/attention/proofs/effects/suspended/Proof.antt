@@ -5,15 +5,9 @@ use Rattle.attention.specs.Effects.{suspended}
 use Rattle.attention.proofs.effects.suspended.Statement.{statement}
 use Rattle.attention.proofs.effects.suspended.Tie as tie
 
-stopped-psw-requires : tie.Need-stopped-psw-requires
-stopped-psw-requires c κs = search needs
-
-with-control-requires : tie.Need-with-control-requires
-with-control-requires c κs = search needs
-
 returns : tie.Need-returns
 unfolding suspended
 returns c = simp (c .with-control .ensures, c .before .stopped-psw .ensures)
 
 pub suspended-spec : {M : Type 1} → statement M
-suspended-spec = tie.close (tie.spec stopped-psw-requires with-control-requires returns)
+suspended-spec = tie.close (tie.spec (λ c κs. search needs) (λ c κs. search needs) returns)

@@ -5,48 +5,6 @@ use Rattle.attention.specs.Effects.{writesOf}
 use Rattle.attention.proofs.effects.writes_of.Statement.{statement}
 use Rattle.attention.proofs.effects.writes_of.Tie as tie
 
-enum-told : tie.Need-enum-told
-enum-told c = search needs
-
-writes-requires : tie.Need-writes-requires
-writes-requires c κs = search needs
-
-enum-told-2 : tie.Need-enum-told-2
-enum-told-2 c = search needs
-
-writes-requires-2 : tie.Need-writes-requires-2
-writes-requires-2 c κs = search needs
-
-enum-told-3 : tie.Need-enum-told-3
-enum-told-3 c = search needs
-
-writes-requires-3 : tie.Need-writes-requires-3
-writes-requires-3 c κs = search needs
-
-enum-told-4 : tie.Need-enum-told-4
-enum-told-4 c = search needs
-
-writes-requires-4 : tie.Need-writes-requires-4
-writes-requires-4 c κs = search needs
-
-enum-told-5 : tie.Need-enum-told-5
-enum-told-5 c = search needs
-
-writes-requires-5 : tie.Need-writes-requires-5
-writes-requires-5 c κs = search needs
-
-enum-told-6 : tie.Need-enum-told-6
-enum-told-6 c = search needs
-
-writes-requires-6 : tie.Need-writes-requires-6
-writes-requires-6 c κs = search needs
-
-enum-told-7 : tie.Need-enum-told-7
-enum-told-7 c = search needs
-
-writes-requires-7 : tie.Need-writes-requires-7
-writes-requires-7 c κs = search needs
-
 returns : tie.Need-returns
 unfolding writesOf
 returns c = simp (← (c .writes .ensures), c .before .enum-told .given .1, c .before .before .match .keys1)
@@ -78,25 +36,6 @@ returns-7 c = simp (← (c .writes7 .ensures), c .before .enum-told7 .given .1, 
 pub writes-of-spec : {M : Type 1} → statement M
 writes-of-spec =
     tie.close
-    (tie.spec
-    enum-told
-    writes-requires
-    enum-told-2
-    writes-requires-2
-    enum-told-3
-    writes-requires-3
-    enum-told-4
-    writes-requires-4
-    enum-told-5
-    writes-requires-5
-    enum-told-6
-    writes-requires-6
-    enum-told-7
-    writes-requires-7
-    returns
-    returns-2
-    returns-3
-    returns-4
-    returns-5
-    returns-6
-    returns-7)
+    (tie.spec (λ c. search needs) (λ c κs. search needs) (λ c. search needs) (λ c κs. search needs) (λ c. search needs) (λ c κs. search needs)
+    (λ c. search needs) (λ c κs. search needs) (λ c. search needs) (λ c κs. search needs) (λ c. search needs) (λ c κs. search needs)
+    (λ c. search needs) (λ c κs. search needs) returns returns-2 returns-3 returns-4 returns-5 returns-6 returns-7)

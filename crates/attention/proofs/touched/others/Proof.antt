@@ -6,42 +6,6 @@ use Rattle.attention.specs.Touched.{readBy, storedBy, others}
 use Rattle.attention.proofs.touched.others.Statement.{statement}
 use Rattle.attention.proofs.touched.others.Tie as tie
 
-enum-told : tie.Need-enum-told
-enum-told c = search needs
-
-enum-told-2 : tie.Need-enum-told-2
-enum-told-2 c = search needs
-
-started-requires : tie.Need-started-requires
-started-requires c κs = search needs
-
-enum-told-3 : tie.Need-enum-told-3
-enum-told-3 c = search needs
-
-started-requires-2 : tie.Need-started-requires-2
-started-requires-2 c κs = search needs
-
-enum-told-4 : tie.Need-enum-told-4
-enum-told-4 c = search needs
-
-stored-requires : tie.Need-stored-requires
-stored-requires c κs = search needs
-
-enum-told-5 : tie.Need-enum-told-5
-enum-told-5 c = search needs
-
-stored-requires-2 : tie.Need-stored-requires-2
-stored-requires-2 c κs = search needs
-
-enum-told-6 : tie.Need-enum-told-6
-enum-told-6 c = search needs
-
-busy-requires : tie.Need-busy-requires
-busy-requires c κs = search needs
-
-enum-told-7 : tie.Need-enum-told-7
-enum-told-7 c = search needs
-
 returns : tie.Need-returns
 unfolding others readBy storedBy allPass
 returns c = simp (c .enum-told .given .1, c .before .match .keys1)
@@ -73,23 +37,6 @@ returns-7 c = simp (c .enum-told7 .given .1, c .before .match .keys7)
 pub others-spec : {M : Type 1} → statement M
 others-spec =
     tie.close
-    (tie.spec
-    enum-told
-    enum-told-2
-    started-requires
-    enum-told-3
-    started-requires-2
-    enum-told-4
-    stored-requires
-    enum-told-5
-    stored-requires-2
-    enum-told-6
-    busy-requires
-    enum-told-7
-    returns
-    returns-2
-    returns-3
-    returns-4
-    returns-5
-    returns-6
-    returns-7)
+    (tie.spec (λ c. search needs) (λ c. search needs) (λ c κs. search needs) (λ c. search needs) (λ c κs. search needs) (λ c. search needs)
+    (λ c κs. search needs) (λ c. search needs) (λ c κs. search needs) (λ c. search needs) (λ c κs. search needs) (λ c. search needs) returns returns-2
+    returns-3 returns-4 returns-5 returns-6 returns-7)

@@ -6,17 +6,8 @@ use Rattle.memory.proofs.SpanLaws.{all-append}
 use Rattle.attention.proofs.touched.started.Statement.{statement}
 use Rattle.attention.proofs.touched.started.Tie as tie
 
-sum20-requires : tie.Need-sum20-requires
-sum20-requires c κs = search needs
-
-span-touchable-requires : tie.Need-span-touchable-requires
-span-touchable-requires c κs = search needs
-
-stored-requires : tie.Need-stored-requires
-stored-requires c κs = search needs
-
 returns : tie.Need-returns
 returns c = simp (c .stored .ensures, c .before .span-touchable .ensures, c .before .before .sum20 .ensures, all-append, and-assoc)
 
 pub started-spec : {M : Type 1} → statement M
-started-spec = tie.close (tie.spec sum20-requires span-touchable-requires stored-requires returns)
+started-spec = tie.close (tie.spec (λ c κs. search needs) (λ c κs. search needs) (λ c κs. search needs) returns)

@@ -11,12 +11,6 @@ use Rattle.decode.proofs.CellLaws.{cell-small}
 use Rattle.decode.proofs.cells.cell.Statement.{statement}
 use Rattle.decode.proofs.cells.cell.Tie as tie
 
-cast-opcode : tie.Need-cast-opcode
-cast-opcode c = search needs
-
-array-read-result : tie.Need-array-read-result
-array-read-result c = search needs
-
 cast-result : tie.Need-cast-result
 unfolding cells
 cast-result c = omega (arith, cell-small (c .args .second / 4) (omega arith))
@@ -28,4 +22,4 @@ returns c =
     ap (λ (k : ℕ). getD cells k 0) same
 
 pub cell-spec : {M : Type 1} → statement M
-cell-spec = tie.close (tie.spec cast-opcode array-read-result cast-result returns)
+cell-spec = tie.close (tie.spec (λ c. search needs) (λ c. search needs) cast-result returns)

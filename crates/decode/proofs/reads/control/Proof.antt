@@ -9,27 +9,6 @@ use Rattle.decode.proofs.TableLaws.{control-codes}
 use Rattle.decode.proofs.reads.control.Statement.{statement}
 use Rattle.decode.proofs.reads.control.Tie as tie
 
-bare-requires : tie.Need-bare-requires
-bare-requires c κs = search needs
-
-answer-requires : tie.Need-answer-requires
-answer-requires c κs = search needs
-
-answer-requires-2 : tie.Need-answer-requires-2
-answer-requires-2 c κs = search needs
-
-answer-requires-3 : tie.Need-answer-requires-3
-answer-requires-3 c κs = search needs
-
-bit-requires : tie.Need-bit-requires
-bit-requires c κs = search needs
-
-bit-requires-2 : tie.Need-bit-requires-2
-bit-requires-2 c κs = search needs
-
-answer-requires-4 : tie.Need-answer-requires-4
-answer-requires-4 c κs = search needs
-
 returns : tie.Need-returns
 returns c =
     let b = c .before .before in
@@ -71,17 +50,5 @@ returns-6 c =
 pub control-spec : {M : Type 1} → statement M
 control-spec =
     tie.close
-    (tie.spec
-    bare-requires
-    answer-requires
-    answer-requires-2
-    answer-requires-3
-    bit-requires
-    bit-requires-2
-    answer-requires-4
-    returns
-    returns-2
-    returns-3
-    returns-4
-    returns-5
-    returns-6)
+    (tie.spec (λ c κs. search needs) (λ c κs. search needs) (λ c κs. search needs) (λ c κs. search needs) (λ c κs. search needs)
+    (λ c κs. search needs) (λ c κs. search needs) returns returns-2 returns-3 returns-4 returns-5 returns-6)

@@ -11,84 +11,6 @@ use Rattle.decode.proofs.CellLaws.{by-form, no-form}
 use Rattle.decode.proofs.reads.read.Statement.{statement}
 use Rattle.decode.proofs.reads.read.Tie as tie
 
-operand-requires : tie.Need-operand-requires
-operand-requires c κs = search needs
-
-control-requires : tie.Need-control-requires
-control-requires c κs = search needs
-
-halt-requires : tie.Need-halt-requires
-halt-requires c κs = search needs
-
-work-requires : tie.Need-work-requires
-work-requires c κs = search needs
-
-register-immediate-requires : tie.Need-register-immediate-requires
-register-immediate-requires c κs = search needs
-
-single-requires : tie.Need-single-requires
-single-requires c κs = search needs
-
-register-requires : tie.Need-register-requires
-register-requires c κs = search needs
-
-jump-register-requires : tie.Need-jump-register-requires
-jump-register-requires c κs = search needs
-
-work-requires-2 : tie.Need-work-requires-2
-work-requires-2 c κs = search needs
-
-memory-immediate-requires : tie.Need-memory-immediate-requires
-memory-immediate-requires c κs = search needs
-
-work-requires-3 : tie.Need-work-requires-3
-work-requires-3 c κs = search needs
-
-register-memory-requires : tie.Need-register-memory-requires
-register-memory-requires c κs = search needs
-
-work-requires-4 : tie.Need-work-requires-4
-work-requires-4 c κs = search needs
-
-memory-register-requires : tie.Need-memory-register-requires
-memory-register-requires c κs = search needs
-
-single-requires-2 : tie.Need-single-requires-2
-single-requires-2 c κs = search needs
-
-memory-alone-requires : tie.Need-memory-alone-requires
-memory-alone-requires c κs = search needs
-
-pointer-requires : tie.Need-pointer-requires
-pointer-requires c κs = search needs
-
-pointer-memory-requires : tie.Need-pointer-memory-requires
-pointer-memory-requires c κs = search needs
-
-jump-memory-requires : tie.Need-jump-memory-requires
-jump-memory-requires c κs = search needs
-
-jump-masked-requires : tie.Need-jump-masked-requires
-jump-masked-requires c κs = search needs
-
-jump-bit-requires : tie.Need-jump-bit-requires
-jump-bit-requires c κs = search needs
-
-bit-requires : tie.Need-bit-requires
-bit-requires c κs = search needs
-
-call-requires : tie.Need-call-requires
-call-requires c κs = search needs
-
-tsl-requires : tie.Need-tsl-requires
-tsl-requires c κs = search needs
-
-lpdi-requires : tie.Need-lpdi-requires
-lpdi-requires c κs = search needs
-
-mov-memory-requires : tie.Need-mov-memory-requires
-mov-memory-requires c κs = search needs
-
 returns : tie.Need-returns
 unfolding lookup formRows
 returns c =
@@ -227,4 +149,9 @@ returns-20 c =
 pub read-spec : {M : Type 1} → statement M
 read-spec =
     tie.close
-    (tie.spec operand-requires control-requires halt-requires work-requires register-immediate-requires single-requires register-requires jump-register-requires work-requires-2 memory-immediate-requires work-requires-3 register-memory-requires work-requires-4 memory-register-requires single-requires-2 memory-alone-requires pointer-requires pointer-memory-requires jump-memory-requires jump-masked-requires jump-bit-requires bit-requires call-requires tsl-requires lpdi-requires mov-memory-requires returns returns-2 returns-3 returns-4 returns-5 returns-6 returns-7 returns-8 returns-9 returns-10 returns-11 returns-12 returns-13 returns-14 returns-15 returns-16 returns-17 returns-18 returns-19 returns-20)
+    (tie.spec (λ c κs. search needs) (λ c κs. search needs) (λ c κs. search needs) (λ c κs. search needs) (λ c κs. search needs)
+    (λ c κs. search needs) (λ c κs. search needs) (λ c κs. search needs) (λ c κs. search needs) (λ c κs. search needs) (λ c κs. search needs)
+    (λ c κs. search needs) (λ c κs. search needs) (λ c κs. search needs) (λ c κs. search needs) (λ c κs. search needs) (λ c κs. search needs)
+    (λ c κs. search needs) (λ c κs. search needs) (λ c κs. search needs) (λ c κs. search needs) (λ c κs. search needs) (λ c κs. search needs)
+    (λ c κs. search needs) (λ c κs. search needs) (λ c κs. search needs) returns returns-2 returns-3 returns-4 returns-5 returns-6 returns-7 returns-8
+    returns-9 returns-10 returns-11 returns-12 returns-13 returns-14 returns-15 returns-16 returns-17 returns-18 returns-19 returns-20)

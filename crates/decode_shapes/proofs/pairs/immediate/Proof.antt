@@ -20,11 +20,8 @@ one-more w dd = go (eqb w 0) refl (eqb w 1) refl
         let high : 2 ≤ w = omega (arith, eqb-false w 0 e, eqb-false w 1 f) in
         rw (le-ltb w 2 high, e, f)
 
-add-result : tie.Need-add-result
-add-result c = search needs
-
 returns : tie.Need-returns
 returns c = one-more (c .args .w) (c .args .dd)
 
 pub immediate-spec : {M : Type 1} → statement M
-immediate-spec = tie.close (tie.spec add-result returns)
+immediate-spec = tie.close (tie.spec (λ c. search needs) returns)

@@ -4,14 +4,8 @@ use borrow.Author.Needs.{needs}
 use Rattle.decode_shapes.proofs.rows.halt.Statement.{statement}
 use Rattle.decode_shapes.proofs.rows.halt.Tie as tie
 
-bare-requires : tie.Need-bare-requires
-bare-requires c κs = search needs
-
-answer-requires : tie.Need-answer-requires
-answer-requires c κs = search needs
-
 returns : tie.Need-returns
 returns c = simp (c .answer .ensures, c .before .bare .ensures)
 
 pub halt-spec : {M : Type 1} → statement M
-halt-spec = tie.close (tie.spec bare-requires answer-requires returns)
+halt-spec = tie.close (tie.spec (λ c κs. search needs) (λ c κs. search needs) returns)

@@ -4,14 +4,8 @@ use borrow.Author.Needs.{needs}
 use Rattle.decode_shapes.proofs.rows.lpdi.Statement.{statement}
 use Rattle.decode_shapes.proofs.rows.lpdi.Tie as tie
 
-pointer-requires : tie.Need-pointer-requires
-pointer-requires c κs = search needs
-
-answer-requires : tie.Need-answer-requires
-answer-requires c κs = search needs
-
 returns : tie.Need-returns
 returns c = simp (c .answer .ensures, c .before .before .before .before .before .pointer .ensures)
 
 pub lpdi-spec : {M : Type 1} → statement M
-lpdi-spec = tie.close (tie.spec pointer-requires answer-requires returns)
+lpdi-spec = tie.close (tie.spec (λ c κs. search needs) (λ c κs. search needs) returns)

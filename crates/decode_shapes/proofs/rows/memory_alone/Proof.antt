@@ -4,11 +4,8 @@ use borrow.Author.Needs.{needs}
 use Rattle.decode_shapes.proofs.rows.memory_alone.Statement.{statement}
 use Rattle.decode_shapes.proofs.rows.memory_alone.Tie as tie
 
-answer-requires : tie.Need-answer-requires
-answer-requires c κs = search needs
-
 returns : tie.Need-returns
 returns c = simp (c .answer .ensures)
 
 pub memory-alone-spec : {M : Type 1} → statement M
-memory-alone-spec = tie.close (tie.spec answer-requires returns)
+memory-alone-spec = tie.close (tie.spec (λ c κs. search needs) returns)

@@ -4,14 +4,8 @@ use borrow.Author.Needs.{needs}
 use Rattle.decode_shapes.proofs.rows.pointer_memory.Statement.{statement}
 use Rattle.decode_shapes.proofs.rows.pointer_memory.Tie as tie
 
-pointer-requires : tie.Need-pointer-requires
-pointer-requires c κs = search needs
-
-answer-requires : tie.Need-answer-requires
-answer-requires c κs = search needs
-
 returns : tie.Need-returns
 returns c = simp (c .answer .ensures, c .before .before .before .pointer .ensures)
 
 pub pointer-memory-spec : {M : Type 1} → statement M
-pointer-memory-spec = tie.close (tie.spec pointer-requires answer-requires returns)
+pointer-memory-spec = tie.close (tie.spec (λ c κs. search needs) (λ c κs. search needs) returns)

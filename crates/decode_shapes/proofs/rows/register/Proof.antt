@@ -4,14 +4,8 @@ use borrow.Author.Needs.{needs}
 use Rattle.decode_shapes.proofs.rows.register.Statement.{statement}
 use Rattle.decode_shapes.proofs.rows.register.Tie as tie
 
-bare-requires : tie.Need-bare-requires
-bare-requires c κs = search needs
-
-answer-requires : tie.Need-answer-requires
-answer-requires c κs = search needs
-
 returns : tie.Need-returns
 returns c = simp (c .answer .ensures, c .before .before .bare .ensures)
 
 pub register-spec : {M : Type 1} → statement M
-register-spec = tie.close (tie.spec bare-requires answer-requires returns)
+register-spec = tie.close (tie.spec (λ c κs. search needs) (λ c κs. search needs) returns)

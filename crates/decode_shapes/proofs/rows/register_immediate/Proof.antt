@@ -4,14 +4,8 @@ use borrow.Author.Needs.{needs}
 use Rattle.decode_shapes.proofs.rows.register_immediate.Statement.{statement}
 use Rattle.decode_shapes.proofs.rows.register_immediate.Tie as tie
 
-immediate-requires : tie.Need-immediate-requires
-immediate-requires c κs = search needs
-
-answer-requires : tie.Need-answer-requires
-answer-requires c κs = search needs
-
 returns : tie.Need-returns
 returns c = simp (c .answer .ensures, c .before .before .before .immediate .ensures)
 
 pub register-immediate-spec : {M : Type 1} → statement M
-register-immediate-spec = tie.close (tie.spec immediate-requires answer-requires returns)
+register-immediate-spec = tie.close (tie.spec (λ c κs. search needs) (λ c κs. search needs) returns)

@@ -5,15 +5,9 @@ use Rattle.execute_deeds.specs.Control.{hltDeed}
 use Rattle.execute_deeds.proofs.control.hlt.Statement.{statement}
 use Rattle.execute_deeds.proofs.control.hlt.Tie as tie
 
-halted-requires : tie.Need-halted-requires
-halted-requires c κs = search needs
-
-byte-to-requires : tie.Need-byte-to-requires
-byte-to-requires c κs = search needs
-
 returns : tie.Need-returns
 unfolding hltDeed
 returns c = simp (c .byte-to .ensures, c .before .halted .ensures)
 
 pub hlt-spec : {M : Type 1} → statement M
-hlt-spec = tie.close (tie.spec halted-requires byte-to-requires returns)
+hlt-spec = tie.close (tie.spec (λ c κs. search needs) (λ c κs. search needs) returns)

@@ -5,12 +5,9 @@ use Rattle.execute_deeds.specs.Control.{nopDeed}
 use Rattle.execute_deeds.proofs.control.only.Statement.{statement}
 use Rattle.execute_deeds.proofs.control.only.Tie as tie
 
-nothing-requires : tie.Need-nothing-requires
-nothing-requires c κs = search needs
-
 returns : tie.Need-returns
 unfolding nopDeed
 returns c = simp (c .nothing .ensures)
 
 pub only-spec : {M : Type 1} → statement M
-only-spec = tie.close (tie.spec nothing-requires returns)
+only-spec = tie.close (tie.spec (λ c κs. search needs) returns)

@@ -6,24 +6,6 @@ use Rattle.execute_deeds.specs.Control.{nopDeed, sintrDeed}
 use Rattle.execute_deeds.proofs.control.sintr.Statement.{statement}
 use Rattle.execute_deeds.proofs.control.sintr.Tie as tie
 
-interrupt-control-requires : tie.Need-interrupt-control-requires
-interrupt-control-requires c κs = search needs
-
-with-requires : tie.Need-with-requires
-with-requires c κs = search needs
-
-with-status-requires : tie.Need-with-status-requires
-with-status-requires c κs = search needs
-
-only-requires : tie.Need-only-requires
-only-requires c κs = search needs
-
-with-status-requires-2 : tie.Need-with-status-requires-2
-with-status-requires-2 c κs = search needs
-
-only-requires-2 : tie.Need-only-requires-2
-only-requires-2 c κs = search needs
-
 returns : tie.Need-returns
 unfolding sintrDeed nopDeed
 returns c = simp (c .only .ensures, c .before .with-status .ensures, c .before .before .with .ensures, sym (c .before .before .before .before .interrupt-control .ensures) ∙ c .before .before .before .if1 .taken)
@@ -35,12 +17,5 @@ returns-2 c = simp (c .only2 .ensures, c .before .with-status2 .ensures, sym (c 
 pub sintr-spec : {M : Type 1} → statement M
 sintr-spec =
     tie.close
-    (tie.spec
-    interrupt-control-requires
-    with-requires
-    with-status-requires
-    only-requires
-    with-status-requires-2
-    only-requires-2
-    returns
-    returns-2)
+    (tie.spec (λ c κs. search needs) (λ c κs. search needs) (λ c κs. search needs) (λ c κs. search needs) (λ c κs. search needs)
+    (λ c κs. search needs) returns returns-2)

@@ -7,12 +7,9 @@ use Rattle.execute_deeds.specs.Control.{nopDeed, xferDeed}
 use Rattle.execute_deeds.proofs.control.xfer.Statement.{statement}
 use Rattle.execute_deeds.proofs.control.xfer.Tie as tie
 
-only-requires : tie.Need-only-requires
-only-requires c κs = search needs
-
 returns : tie.Need-returns
 unfolding xferDeed markSet renewed nopDeed
 returns c = simp (c .only .ensures)
 
 pub xfer-spec : {M : Type 1} → statement M
-xfer-spec = tie.close (tie.spec only-requires returns)
+xfer-spec = tie.close (tie.spec (λ c κs. search needs) returns)

@@ -7,21 +7,6 @@ use Rattle.execute_deeds.specs.JumpForms.{callDeed}
 use Rattle.execute_deeds.proofs.jumps.call.Statement.{statement}
 use Rattle.execute_deeds.proofs.jumps.call.Tie as tie
 
-after-pair-requires : tie.Need-after-pair-requires
-after-pair-requires c κs = search needs
-
-grown-requires : tie.Need-grown-requires
-grown-requires c κs = search needs
-
-landing-requires : tie.Need-landing-requires
-landing-requires c κs = search needs
-
-effective-requires : tie.Need-effective-requires
-effective-requires c κs = search needs
-
-pointer-to-requires : tie.Need-pointer-to-requires
-pointer-to-requires c κs = search needs
-
 returns : tie.Need-returns
 unfolding callDeed jumpedIf grown renewed
 returns c = simp (c .pointer-to .ensures, c .before .effective .ensures, c .before .before .landing .ensures, c .before .before .before .grown .ensures, c .before .before .before .before .after-pair .ensures)
@@ -29,10 +14,4 @@ returns c = simp (c .pointer-to .ensures, c .before .effective .ensures, c .befo
 pub call-spec : {M : Type 1} → statement M
 call-spec =
     tie.close
-    (tie.spec
-    after-pair-requires
-    grown-requires
-    landing-requires
-    effective-requires
-    pointer-to-requires
-    returns)
+    (tie.spec (λ c κs. search needs) (λ c κs. search needs) (λ c κs. search needs) (λ c κs. search needs) (λ c κs. search needs) returns)

@@ -10,33 +10,6 @@ use Rattle.execute_deeds.specs.JumpForms.{jumpByteDeed, jumpBitDeed}
 use Rattle.execute_deeds.proofs.jumps.jump_bit.Statement.{statement}
 use Rattle.execute_deeds.proofs.jumps.jump_bit.Tie as tie
 
-effective-requires : tie.Need-effective-requires
-effective-requires c κs = search needs
-
-byte-requires : tie.Need-byte-requires
-byte-requires c κs = search needs
-
-cast-bit : tie.Need-cast-bit
-cast-bit c = search needs
-
-bit-requires : tie.Need-bit-requires
-bit-requires c κs = search needs
-
-agrees-requires : tie.Need-agrees-requires
-agrees-requires c κs = search needs
-
-after-pair-requires : tie.Need-after-pair-requires
-after-pair-requires c κs = search needs
-
-grown-requires : tie.Need-grown-requires
-grown-requires c κs = search needs
-
-led-requires : tie.Need-led-requires
-led-requires c κs = search needs
-
-after-requires : tie.Need-after-requires
-after-requires c κs = search needs
-
 returns : tie.Need-returns
 unfolding jumpBitDeed jumpByteDeed jumpedIf grown renewed effectOf first readNumber
 returns c = simp (span-length, c .after .ensures, c .before .led .ensures, c .before .before .grown .ensures, c .before .before .before .after-pair .ensures, c .before .before .before .before .agrees .ensures, c .before .before .before .before .before .bit .ensures, c .before .before .before .before .before .before .byte .ensures, c .before .before .before .before .before .before .before .effective .ensures)
@@ -44,14 +17,5 @@ returns c = simp (span-length, c .after .ensures, c .before .led .ensures, c .be
 pub jump-bit-spec : {M : Type 1} → statement M
 jump-bit-spec =
     tie.close
-    (tie.spec
-    effective-requires
-    byte-requires
-    cast-bit
-    bit-requires
-    agrees-requires
-    after-pair-requires
-    grown-requires
-    led-requires
-    after-requires
-    returns)
+    (tie.spec (λ c κs. search needs) (λ c κs. search needs) (λ c. search needs) (λ c κs. search needs) (λ c κs. search needs) (λ c κs. search needs)
+    (λ c κs. search needs) (λ c κs. search needs) (λ c κs. search needs) returns)

@@ -13,41 +13,11 @@ use Rattle.execute_deeds.specs.JumpForms.{tslDeed}
 use Rattle.execute_deeds.proofs.jumps.tsl.Statement.{statement}
 use Rattle.execute_deeds.proofs.jumps.tsl.Tie as tie
 
-effective-requires : tie.Need-effective-requires
-effective-requires c κs = search needs
-
-grown-requires : tie.Need-grown-requires
-grown-requires c κs = search needs
-
-after-pair-requires : tie.Need-after-pair-requires
-after-pair-requires c κs = search needs
-
-byte-requires : tie.Need-byte-requires
-byte-requires c κs = search needs
-
-read-number-requires : tie.Need-read-number-requires
-read-number-requires c κs = search needs
-
-byte-requires-2 : tie.Need-byte-requires-2
-byte-requires-2 c κs = search needs
-
-byte-to-requires : tie.Need-byte-to-requires
-byte-to-requires c κs = search needs
-
 returns : tie.Need-returns
 unfolding tslDeed effectOf first readNumber
 returns c =
     let e = simp (c .before .before .before .before .before .before .before .effective .ensures) at (sym (c .before .before .before .before .byte .ensures) ∙ c .before .before .before .if1 .taken) in
     simp (span-length, c .byte-to .ensures, c .before .byte2 .ensures, c .before .before .read-number .ensures, c .before .before .before .before .before .after-pair .ensures, c .before .before .before .before .before .before .grown .ensures, c .before .before .before .before .before .before .before .effective .ensures, eq-eqb _ 0 e)
-
-onward-requires : tie.Need-onward-requires
-onward-requires c κs = search needs
-
-landing-requires : tie.Need-landing-requires
-landing-requires c κs = search needs
-
-after-requires : tie.Need-after-requires
-after-requires c κs = search needs
 
 returns-2 : tie.Need-returns-2
 unfolding tslDeed jumpedIf grown renewed effectOf first readNumber
@@ -58,16 +28,5 @@ returns-2 c =
 pub tsl-spec : {M : Type 1} → statement M
 tsl-spec =
     tie.close
-    (tie.spec
-    effective-requires
-    grown-requires
-    after-pair-requires
-    byte-requires
-    read-number-requires
-    byte-requires-2
-    byte-to-requires
-    returns
-    onward-requires
-    landing-requires
-    after-requires
-    returns-2)
+    (tie.spec (λ c κs. search needs) (λ c κs. search needs) (λ c κs. search needs) (λ c κs. search needs) (λ c κs. search needs)
+    (λ c κs. search needs) (λ c κs. search needs) returns (λ c κs. search needs) (λ c κs. search needs) (λ c κs. search needs) returns-2)

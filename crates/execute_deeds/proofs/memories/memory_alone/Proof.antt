@@ -9,27 +9,6 @@ use Rattle.execute_deeds.specs.MemoryForms.{memoryAloneDeed}
 use Rattle.execute_deeds.proofs.memories.memory_alone.Statement.{statement}
 use Rattle.execute_deeds.proofs.memories.memory_alone.Tie as tie
 
-effective-requires : tie.Need-effective-requires
-effective-requires c κs = search needs
-
-operand-requires : tie.Need-operand-requires
-operand-requires c κs = search needs
-
-single-requires : tie.Need-single-requires
-single-requires c κs = search needs
-
-size-requires : tie.Need-size-requires
-size-requires c κs = search needs
-
-read-number-requires : tie.Need-read-number-requires
-read-number-requires c κs = search needs
-
-grown-by-size-requires : tie.Need-grown-by-size-requires
-grown-by-size-requires c κs = search needs
-
-result-to-requires : tie.Need-result-to-requires
-result-to-requires c κs = search needs
-
 returns : tie.Need-returns
 unfolding memoryAloneDeed effectOf first readNumber
 returns c = simp (span-length, c .result-to .ensures, c .before .grown-by-size .ensures, c .before .before .read-number .ensures, c .before .before .before .size .ensures, c .before .before .before .before .single .ensures, c .before .before .before .before .before .operand .ensures, c .before .before .before .before .before .before .effective .ensures)
@@ -37,12 +16,5 @@ returns c = simp (span-length, c .result-to .ensures, c .before .grown-by-size .
 pub memory-alone-spec : {M : Type 1} → statement M
 memory-alone-spec =
     tie.close
-    (tie.spec
-    effective-requires
-    operand-requires
-    single-requires
-    size-requires
-    read-number-requires
-    grown-by-size-requires
-    result-to-requires
-    returns)
+    (tie.spec (λ c κs. search needs) (λ c κs. search needs) (λ c κs. search needs) (λ c κs. search needs) (λ c κs. search needs)
+    (λ c κs. search needs) (λ c κs. search needs) returns)

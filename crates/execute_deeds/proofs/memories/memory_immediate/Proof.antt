@@ -9,27 +9,6 @@ use Rattle.execute_deeds.specs.MemoryForms.{memoryWorkDeed, memoryImmedi
 use Rattle.execute_deeds.proofs.memories.memory_immediate.Statement.{statement}
 use Rattle.execute_deeds.proofs.memories.memory_immediate.Tie as tie
 
-effective-requires : tie.Need-effective-requires
-effective-requires c κs = search needs
-
-after-pair-requires : tie.Need-after-pair-requires
-after-pair-requires c κs = search needs
-
-operand-requires : tie.Need-operand-requires
-operand-requires c κs = search needs
-
-read-first-requires : tie.Need-read-first-requires
-read-first-requires c κs = search needs
-
-read-number-requires : tie.Need-read-number-requires
-read-number-requires c κs = search needs
-
-grown-by-size-requires : tie.Need-grown-by-size-requires
-grown-by-size-requires c κs = search needs
-
-worked-back-requires : tie.Need-worked-back-requires
-worked-back-requires c κs = search needs
-
 returns : tie.Need-returns
 unfolding memoryImmediateDeed memoryWorkDeed effectOf first readNumber
 returns c = simp (span-length, c .worked-back .ensures, c .before .grown-by-size .ensures, c .before .before .read-number .ensures, c .before .before .before .read-first .ensures, c .before .before .before .before .operand .ensures, c .before .before .before .before .before .after-pair .ensures, c .before .before .before .before .before .before .effective .ensures)
@@ -37,12 +16,5 @@ returns c = simp (span-length, c .worked-back .ensures, c .before .grown-by-size
 pub memory-immediate-spec : {M : Type 1} → statement M
 memory-immediate-spec =
     tie.close
-    (tie.spec
-    effective-requires
-    after-pair-requires
-    operand-requires
-    read-first-requires
-    read-number-requires
-    grown-by-size-requires
-    worked-back-requires
-    returns)
+    (tie.spec (λ c κs. search needs) (λ c κs. search needs) (λ c κs. search needs) (λ c κs. search needs) (λ c κs. search needs)
+    (λ c κs. search needs) (λ c κs. search needs) returns)

@@ -9,24 +9,6 @@ use Rattle.execute_deeds.specs.MemoryForms.{memoryWorkDeed, memoryRegist
 use Rattle.execute_deeds.proofs.memories.memory_register.Statement.{statement}
 use Rattle.execute_deeds.proofs.memories.memory_register.Tie as tie
 
-effective-requires : tie.Need-effective-requires
-effective-requires c κs = search needs
-
-value-requires : tie.Need-value-requires
-value-requires c κs = search needs
-
-read-first-requires : tie.Need-read-first-requires
-read-first-requires c κs = search needs
-
-read-number-requires : tie.Need-read-number-requires
-read-number-requires c κs = search needs
-
-grown-by-size-requires : tie.Need-grown-by-size-requires
-grown-by-size-requires c κs = search needs
-
-worked-back-requires : tie.Need-worked-back-requires
-worked-back-requires c κs = search needs
-
 returns : tie.Need-returns
 unfolding memoryRegisterDeed memoryWorkDeed effectOf first readNumber
 returns c = simp (span-length, c .worked-back .ensures, c .before .grown-by-size .ensures, c .before .before .read-number .ensures, c .before .before .before .read-first .ensures, c .before .before .before .before .value .ensures, c .before .before .before .before .before .effective .ensures)
@@ -34,11 +16,5 @@ returns c = simp (span-length, c .worked-back .ensures, c .before .grown-by-size
 pub memory-register-spec : {M : Type 1} → statement M
 memory-register-spec =
     tie.close
-    (tie.spec
-    effective-requires
-    value-requires
-    read-first-requires
-    read-number-requires
-    grown-by-size-requires
-    worked-back-requires
-    returns)
+    (tie.spec (λ c κs. search needs) (λ c κs. search needs) (λ c κs. search needs) (λ c κs. search needs) (λ c κs. search needs)
+    (λ c κs. search needs) returns)

@@ -15,51 +15,9 @@ use Rattle.execute_deeds.specs.MemoryForms.{movOperandDeed}
 use Rattle.execute_deeds.proofs.memories.mov_operand.Statement.{statement}
 use Rattle.execute_deeds.proofs.memories.mov_operand.Tie as tie
 
-effective-requires : tie.Need-effective-requires
-effective-requires c κs = search needs
-
-after-pair-requires : tie.Need-after-pair-requires
-after-pair-requires c κs = search needs
-
-grown-by-size-requires : tie.Need-grown-by-size-requires
-grown-by-size-requires c κs = search needs
-
-effective-requires-2 : tie.Need-effective-requires-2
-effective-requires-2 c κs = search needs
-
-offset-length-requires : tie.Need-offset-length-requires
-offset-length-requires c κs = search needs
-
-operand-requires : tie.Need-operand-requires
-operand-requires c κs = search needs
-
-size-requires : tie.Need-size-requires
-size-requires c κs = search needs
-
-onward-requires : tie.Need-onward-requires
-onward-requires c κs = search needs
-
-touchable-requires : tie.Need-touchable-requires
-touchable-requires c κs = search needs
-
-touchable-requires-2 : tie.Need-touchable-requires-2
-touchable-requires-2 c κs = search needs
-
-two-unless-requires : tie.Need-two-unless-requires
-two-unless-requires c κs = search needs
-
 add-t19 : tie.Need-add-t19
 unfolding offsetLength
 add-t19 c = omega (arith, c .before .before .before .before .before .before .offset-length .ensures, offset-small (c .before .before .before .before .before .before .before .before .before .before .before .before .before .args .q .aa), c .before .before .before .before .size .ensures, size-small (c .before .before .before .before .before .before .before .before .before .before .before .before .before .args .m .wide))
-
-grown-by-size-requires-2 : tie.Need-grown-by-size-requires-2
-grown-by-size-requires-2 c κs = search needs
-
-further-requires : tie.Need-further-requires
-further-requires c κs = search needs
-
-result-to-requires : tie.Need-result-to-requires
-result-to-requires c κs = search needs
 
 returns : tie.Need-returns
 unfolding movOperandDeed effectOf first
@@ -68,20 +26,6 @@ returns c = simp (length-append, span-length, all-append, c .result-to .ensures,
 pub mov-operand-spec : {M : Type 1} → statement M
 mov-operand-spec =
     tie.close
-    (tie.spec
-    effective-requires
-    after-pair-requires
-    grown-by-size-requires
-    effective-requires-2
-    offset-length-requires
-    operand-requires
-    size-requires
-    onward-requires
-    touchable-requires
-    touchable-requires-2
-    two-unless-requires
-    add-t19
-    grown-by-size-requires-2
-    further-requires
-    result-to-requires
-    returns)
+    (tie.spec (λ c κs. search needs) (λ c κs. search needs) (λ c κs. search needs) (λ c κs. search needs) (λ c κs. search needs)
+    (λ c κs. search needs) (λ c κs. search needs) (λ c κs. search needs) (λ c κs. search needs) (λ c κs. search needs) (λ c κs. search needs) add-t19
+    (λ c κs. search needs) (λ c κs. search needs) (λ c κs. search needs) returns)

@@ -6,21 +6,6 @@ use Rattle.execute_deeds.specs.MemoryForms.{movpStoreDeed}
 use Rattle.execute_deeds.proofs.memories.movp_store.Statement.{statement}
 use Rattle.execute_deeds.proofs.memories.movp_store.Tie as tie
 
-value-requires : tie.Need-value-requires
-value-requires c κs = search needs
-
-tag-requires : tie.Need-tag-requires
-tag-requires c κs = search needs
-
-grown-requires : tie.Need-grown-requires
-grown-requires c κs = search needs
-
-effective-requires : tie.Need-effective-requires
-effective-requires c κs = search needs
-
-pointer-to-requires : tie.Need-pointer-to-requires
-pointer-to-requires c κs = search needs
-
 returns : tie.Need-returns
 unfolding movpStoreDeed
 returns c = simp (c .pointer-to .ensures, c .before .effective .ensures, c .before .before .grown .ensures, c .before .before .before .tag .ensures, c .before .before .before .before .value .ensures)
@@ -28,10 +13,4 @@ returns c = simp (c .pointer-to .ensures, c .before .effective .ensures, c .befo
 pub movp-store-spec : {M : Type 1} → statement M
 movp-store-spec =
     tie.close
-    (tie.spec
-    value-requires
-    tag-requires
-    grown-requires
-    effective-requires
-    pointer-to-requires
-    returns)
+    (tie.spec (λ c κs. search needs) (λ c κs. search needs) (λ c κs. search needs) (λ c κs. search needs) (λ c κs. search needs) returns)

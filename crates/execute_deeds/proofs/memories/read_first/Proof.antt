@@ -6,12 +6,6 @@ use Rattle.execute_deeds.specs.MemoryForms.{readFirst}
 use Rattle.execute_deeds.proofs.memories.read_first.Statement.{statement}
 use Rattle.execute_deeds.proofs.memories.read_first.Tie as tie
 
-is-move-requires : tie.Need-is-move-requires
-is-move-requires c κs = search needs
-
-size-requires : tie.Need-size-requires
-size-requires c κs = search needs
-
 returns : tie.Need-returns
 unfolding readFirst
 returns c = simp (sym (c .before .is-move .ensures) ∙ c .if1 .taken)
@@ -21,4 +15,4 @@ unfolding readFirst
 returns-2 c = simp (c .size .ensures, sym (c .before .before .is-move .ensures) ∙ c .before .if1 .left)
 
 pub read-first-spec : {M : Type 1} → statement M
-read-first-spec = tie.close (tie.spec is-move-requires size-requires returns returns-2)
+read-first-spec = tie.close (tie.spec (λ c κs. search needs) (λ c κs. search needs) returns returns-2)

@@ -5,18 +5,9 @@ use Rattle.execute_deeds.specs.MemoryForms.{workedBack}
 use Rattle.execute_deeds.proofs.memories.worked_back.Statement.{statement}
 use Rattle.execute_deeds.proofs.memories.worked_back.Tie as tie
 
-operand-requires : tie.Need-operand-requires
-operand-requires c κs = search needs
-
-work-requires : tie.Need-work-requires
-work-requires c κs = search needs
-
-result-to-requires : tie.Need-result-to-requires
-result-to-requires c κs = search needs
-
 returns : tie.Need-returns
 unfolding workedBack
 returns c = simp (c .result-to .ensures, c .before .work .ensures, c .before .before .operand .ensures)
 
 pub worked-back-spec : {M : Type 1} → statement M
-worked-back-spec = tie.close (tie.spec operand-requires work-requires result-to-requires returns)
+worked-back-spec = tie.close (tie.spec (λ c κs. search needs) (λ c κs. search needs) (λ c κs. search needs) returns)

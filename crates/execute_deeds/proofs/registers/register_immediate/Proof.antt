@@ -7,27 +7,10 @@ use Rattle.execute_deeds.specs.RegisterForms.{registerImmediateDeed}
 use Rattle.execute_deeds.proofs.registers.register_immediate.Statement.{statement}
 use Rattle.execute_deeds.proofs.registers.register_immediate.Tie as tie
 
-onward-requires : tie.Need-onward-requires
-onward-requires c κs = search needs
-
-operand-requires : tie.Need-operand-requires
-operand-requires c κs = search needs
-
-value-requires : tie.Need-value-requires
-value-requires c κs = search needs
-
-work-requires : tie.Need-work-requires
-work-requires c κs = search needs
-
-write-requires : tie.Need-write-requires
-write-requires c κs = search needs
-
-writing-requires : tie.Need-writing-requires
-writing-requires c κs = search needs
-
 returns : tie.Need-returns
 unfolding registerImmediateDeed
 returns c = simp (work-written, c .writing .ensures, c .before .write .ensures, c .before .before .work .ensures, c .before .before .before .value .ensures, c .before .before .before .before .operand .ensures, c .before .before .before .before .before .onward .ensures)
 
 pub register-immediate-spec : {M : Type 1} → statement M
-register-immediate-spec = tie.close (tie.spec onward-requires operand-requires value-requires work-requires write-requires writing-requires returns)
+register-immediate-spec = tie.close (tie.spec (λ c κs. search needs) (λ c κs. search needs) (λ c κs. search needs) (λ c κs. search needs)
+    (λ c κs. search needs) (λ c κs. search needs) returns)

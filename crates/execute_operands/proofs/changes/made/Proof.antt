@@ -7,27 +7,9 @@ use Rattle.execute_operands.specs.Changes.{placesOf}
 use Rattle.execute_operands.proofs.changes.made.Statement.{statement}
 use Rattle.execute_operands.proofs.changes.made.Tie as tie
 
-span-touchable-requires : tie.Need-span-touchable-requires
-span-touchable-requires c κs = search needs
-
-same-length : tie.Need-same-length
-same-length c = search needs
-
-same-length-2 : tie.Need-same-length-2
-same-length-2 c = search needs
-
 returns : tie.Need-returns
 unfolding placesOf
 returns c = (sym (sym (c .before .span-touchable .ensures) ∙ not-true _ (c .if1 .taken)), refl)
-
-store-requires : tie.Need-store-requires
-store-requires c κs = search needs
-
-same-length-3 : tie.Need-same-length-3
-same-length-3 c = search needs
-
-same-length-4 : tie.Need-same-length-4
-same-length-4 c = search needs
 
 returns-2 : tie.Need-returns-2
 unfolding placesOf
@@ -36,12 +18,5 @@ returns-2 c = (sym (sym (c .before .before .before .before .before .before .befo
 pub made-spec : {M : Type 1} → statement M
 made-spec =
     tie.close
-    (tie.spec
-    span-touchable-requires
-    same-length
-    same-length-2
-    returns
-    store-requires
-    same-length-3
-    same-length-4
+    (tie.spec (λ c κs. search needs) (λ c. search needs) (λ c. search needs) returns (λ c κs. search needs) (λ c. search needs) (λ c. search needs)
     returns-2)

@@ -4,11 +4,8 @@ use borrow.Author.Needs.{needs}
 use Rattle.execute_operands.proofs.changes.result_to.Statement.{statement}
 use Rattle.execute_operands.proofs.changes.result_to.Tie as tie
 
-size-requires : tie.Need-size-requires
-size-requires c κs = search needs
-
 returns : tie.Need-returns
 returns c = simp (c .size .ensures)
 
 pub result-to-spec : {M : Type 1} → statement M
-result-to-spec = tie.close (tie.spec size-requires returns)
+result-to-spec = tie.close (tie.spec (λ c κs. search needs) returns)

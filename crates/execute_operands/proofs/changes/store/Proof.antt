@@ -17,38 +17,11 @@ returns c =
     let m = buffers (now (a .sys)) (now (a .io)) in
     sym (stored-none m (a .change) (c .if1 .taken))
 
-cast-store-byte : tie.Need-cast-store-byte
-cast-store-byte c = search needs
-
-store-byte-requires : tie.Need-store-byte-requires
-store-byte-requires c κs = search needs
-
-same-length : tie.Need-same-length
-same-length c = search needs
-
-same-length-2 : tie.Need-same-length-2
-same-length-2 c = search needs
-
 returns-2 : tie.Need-returns-2
 returns-2 c =
     let a = c .before .before .before .before .before .before .before .before .before .before .before .args in
     let m = buffers (now (a .sys)) (now (a .io)) in
     c .before .before .before .before .before .store-byte .ensures ∙ sym (stored-one m (a .change) (c .if2 .taken))
-
-sum20-requires : tie.Need-sum20-requires
-sum20-requires c κs = search needs
-
-cast-store-byte-2 : tie.Need-cast-store-byte-2
-cast-store-byte-2 c = search needs
-
-store-byte-requires-2 : tie.Need-store-byte-requires-2
-store-byte-requires-2 c κs = search needs
-
-same-length-3 : tie.Need-same-length-3
-same-length-3 c = search needs
-
-same-length-4 : tie.Need-same-length-4
-same-length-4 c = search needs
 
 returns-3 : tie.Need-returns-3
 returns-3 c =
@@ -56,21 +29,6 @@ returns-3 c =
     let m = buffers (now (a .sys)) (now (a .io)) in
     c .before .before .before .before .before .store-byte2 .ensures
     ∙ rw (c .before .before .before .before .before .before .sum20 .ensures, c .before .before .before .before .before .before .before .before .before .before .before .before .before .before .store-byte .ensures, store-reduced) (sym (stored-two m (a .change) (c .if3 .taken)))
-
-sum20-requires-2 : tie.Need-sum20-requires-2
-sum20-requires-2 c κs = search needs
-
-cast-store-byte-3 : tie.Need-cast-store-byte-3
-cast-store-byte-3 c = search needs
-
-store-byte-requires-3 : tie.Need-store-byte-requires-3
-store-byte-requires-3 c κs = search needs
-
-same-length-5 : tie.Need-same-length-5
-same-length-5 c = search needs
-
-same-length-6 : tie.Need-same-length-6
-same-length-6 c = search needs
 
 returns-4 : tie.Need-returns-4
 returns-4 c =
@@ -82,22 +40,6 @@ returns-4 c =
 pub store-spec : {M : Type 1} → statement M
 store-spec =
     tie.close
-    (tie.spec
-    returns
-    cast-store-byte
-    store-byte-requires
-    same-length
-    same-length-2
-    returns-2
-    sum20-requires
-    cast-store-byte-2
-    store-byte-requires-2
-    same-length-3
-    same-length-4
-    returns-3
-    sum20-requires-2
-    cast-store-byte-3
-    store-byte-requires-3
-    same-length-5
-    same-length-6
-    returns-4)
+    (tie.spec returns (λ c. search needs) (λ c κs. search needs) (λ c. search needs) (λ c. search needs) returns-2 (λ c κs. search needs)
+    (λ c. search needs) (λ c κs. search needs) (λ c. search needs) (λ c. search needs) returns-3 (λ c κs. search needs) (λ c. search needs)
+    (λ c κs. search needs) (λ c. search needs) (λ c. search needs) returns-4)

@@ -16,8 +16,5 @@ slice-aggregate-result c = omega (arith, length-take listLimit (now (c .before .
 returns : tie.Need-returns
 returns c = sym (take-all listLimit (now (c .before .args .code)) (omega arith))
 
-returns-2 : tie.Need-returns-2
-returns-2 c = search needs
-
 pub lent-part-spec : {M : Type 1} → statement M
-lent-part-spec = tie.close (tie.spec slice-aggregate-result returns returns-2)
+lent-part-spec = tie.close (tie.spec slice-aggregate-result returns (λ c. search needs))

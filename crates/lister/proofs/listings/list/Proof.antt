@@ -18,9 +18,6 @@ Inv-loop code first text₀ part at₀ n₀ text at n = Going part first text₀
 abbrev μ-loop : tie.MeasureT-loop
 μ-loop code first text₀ part at₀ n₀ text at n = length part - at
 
-lent-part-requires : tie.Need-lent-part-requires Inv-loop μ-loop
-lent-part-requires c κs = search needs
-
 loop-holds : tie.Need-loop-holds Inv-loop μ-loop
 loop-holds c =
     (going-start (now (c .lent-part .result)) (c .before .before .before .args .first) (now (c .before .before .before .args .text)), omega (arith, ap length (c .lent-part .ensures), length-take listLimit (now (c .before .before .before .args .code))))
@@ -91,23 +88,5 @@ returns-2 c =
 pub list-spec : {M : Type 1} → statement M
 list-spec =
     tie.close
-    (tie.spec
-    Inv-loop
-    μ-loop
-    lent-part-requires
-    loop-holds
-    row-at-requires
-    sub-if1
-    cast-t13
-    cast-t14
-    same-length
-    returns
-    place-requires
-    add-n
-    add-at
-    loop-less
-    loop-again
-    cast-t18
-    cast-t19
-    same-length-2
-    returns-2)
+    (tie.spec Inv-loop μ-loop (λ c κs. search needs) loop-holds row-at-requires sub-if1 cast-t13 cast-t14 same-length returns place-requires add-n
+    add-at loop-less loop-again cast-t18 cast-t19 same-length-2 returns-2)

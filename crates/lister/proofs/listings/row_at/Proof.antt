@@ -12,38 +12,8 @@ use Rattle.lister.proofs.RowLaws.{rest-all, cut-there, cut-whole, cut-b
 use Rattle.lister.proofs.listings.row_at.Statement.{statement}
 use Rattle.lister.proofs.listings.row_at.Tie as tie
 
-sub-bytes : tie.Need-sub-bytes
-sub-bytes c = search needs
-
-part-bytes-start : tie.Need-part-bytes-start
-part-bytes-start c = search needs
-
-part-bytes-end : tie.Need-part-bytes-end
-part-bytes-end c = search needs
-
-read-at-requires : tie.Need-read-at-requires
-read-at-requires c κs = search needs
-
-enum-known-shape : tie.Need-enum-known-shape
-enum-known-shape c = search needs
-
-cast-count : tie.Need-cast-count
-cast-count c = search needs
-
-listed-requires : tie.Need-listed-requires
-listed-requires c κs = search needs
-
-cast-end : tie.Need-cast-end
-cast-end c = search needs
-
-add-end : tie.Need-add-end
-add-end c = search needs
-
 add-end-2 : tie.Need-add-end-2
 add-end-2 c = omega (arith, cut-there (now (c .before .before .before .before .before .before .before .before .args .part)) (c .before .before .before .before .before .before .before .before .args .at) _ (c .before .before .before .before .before .read-at .ensures) (c .before .before .before .shape .given .1), length-drop (c .before .before .before .before .before .before .before .before .args .at) (now (c .before .before .before .before .before .before .before .before .args .part)))
-
-instruction-line-requires : tie.Need-instruction-line-requires
-instruction-line-requires c κs = search needs
 
 returns : tie.Need-returns
 returns c =
@@ -57,26 +27,8 @@ returns c =
 slice-aggregate-data-line : tie.Need-slice-aggregate-data-line
 slice-aggregate-data-line c = cut-whole (now (c .before .before .before .before .before .before .before .before .before .args .part)) (c .before .before .before .before .before .before .before .before .before .args .at) _ (c .before .before .before .before .before .before .read-at .ensures) (c .before .before .before .before .shape .given .1)
 
-data-line-requires : tie.Need-data-line-requires
-data-line-requires c κs = search needs
-
-enum-told : tie.Need-enum-told
-enum-told c = search needs
-
 slice-aggregate-data-line-2 : tie.Need-slice-aggregate-data-line-2
 slice-aggregate-data-line-2 c = cut-byte (now (c .before .before .before .before .before .before .args .part)) (c .before .before .before .before .before .before .args .at) _ (c .before .before .before .read-at .ensures) (c .before .enum-told .given .1)
-
-data-line-requires-2 : tie.Need-data-line-requires-2
-data-line-requires-2 c κs = search needs
-
-enum-told-2 : tie.Need-enum-told-2
-enum-told-2 c = search needs
-
-slice-aggregate-data-line-3 : tie.Need-slice-aggregate-data-line-3
-slice-aggregate-data-line-3 c = search needs
-
-data-line-requires-3 : tie.Need-data-line-requires-3
-data-line-requires-3 c κs = search needs
 
 returns-2 : tie.Need-returns-2
 returns-2 c =
@@ -99,27 +51,7 @@ returns-4 c =
 pub row-at-spec : {M : Type 1} → statement M
 row-at-spec =
     tie.close
-    (tie.spec
-    sub-bytes
-    part-bytes-start
-    part-bytes-end
-    read-at-requires
-    enum-known-shape
-    cast-count
-    listed-requires
-    cast-end
-    add-end
-    add-end-2
-    instruction-line-requires
-    returns
-    slice-aggregate-data-line
-    data-line-requires
-    enum-told
-    slice-aggregate-data-line-2
-    data-line-requires-2
-    enum-told-2
-    slice-aggregate-data-line-3
-    data-line-requires-3
-    returns-2
-    returns-3
-    returns-4)
+    (tie.spec (λ c. search needs) (λ c. search needs) (λ c. search needs) (λ c κs. search needs) (λ c. search needs) (λ c. search needs)
+    (λ c κs. search needs) (λ c. search needs) (λ c. search needs) add-end-2 (λ c κs. search needs) returns slice-aggregate-data-line
+    (λ c κs. search needs) (λ c. search needs) slice-aggregate-data-line-2 (λ c κs. search needs) (λ c. search needs) (λ c. search needs)
+    (λ c κs. search needs) returns-2 returns-3 returns-4)

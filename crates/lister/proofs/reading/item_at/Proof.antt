@@ -15,22 +15,10 @@ returns : tie.Need-returns
 unfolding itemOf
 returns c = let h : length (now (c .before .before .args .code)) ≤ c .before .before .args .at = omega arith in rw (drop-of-length-le (now (c .before .before .args .code)) h)
 
-sub-item-of : tie.Need-sub-item-of
-sub-item-of c = search needs
-
-part-item-of-start : tie.Need-part-item-of-start
-part-item-of-start c = search needs
-
-part-item-of-end : tie.Need-part-item-of-end
-part-item-of-end c = search needs
-
-item-of-requires : tie.Need-item-of-requires
-item-of-requires c κs = search needs
-
 returns-2 : tie.Need-returns-2
 returns-2 c = c .item-of .ensures ∙ ap itemOf (rest-all (now (c .before .before .before .before .args .code)) (c .before .before .before .before .args .at))
 
 pub item-at-spec : {M : Type 1} → statement M
 item-at-spec =
     tie.close
-    (tie.spec returns sub-item-of part-item-of-start part-item-of-end item-of-requires returns-2)
+    (tie.spec returns (λ c. search needs) (λ c. search needs) (λ c. search needs) (λ c κs. search needs) returns-2)

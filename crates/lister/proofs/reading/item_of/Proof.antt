@@ -20,38 +20,14 @@ returns-2 : tie.Need-returns-2
 unfolding itemOf
 returns-2 c = rw (ne-eqb (length (now (c .before .before .before .args .bytes))) 0 (c .if2 .left), eq-eqb (length (now (c .before .before .before .args .bytes))) 1 (one-left _ (c .before .if1 .taken) (c .if2 .left)))
 
-shared-slice-read-unused : tie.Need-shared-slice-read-unused
-shared-slice-read-unused c = search needs
-
-unused-requires : tie.Need-unused-requires
-unused-requires c κs = search needs
-
 returns-3 : tie.Need-returns-3
 returns-3 c = item-unused (now (c .before .before .before .before .before .args .bytes)) (λ z. omega (arith, c .before .before .before .if1 .left, z)) (λ z. omega (arith, c .before .before .before .if1 .left, z)) (sym (c .before .unused .ensures) ∙ c .if3 .taken)
-
-shared-slice-read-look-up : tie.Need-shared-slice-read-look-up
-shared-slice-read-look-up c = search needs
-
-shared-slice-read-look-up-2 : tie.Need-shared-slice-read-look-up-2
-shared-slice-read-look-up-2 c = search needs
-
-look-up-requires : tie.Need-look-up-requires
-look-up-requires c κs = search needs
-
-enum-known-decoded : tie.Need-enum-known-decoded
-enum-known-decoded c = search needs
 
 returns-4 : tie.Need-returns-4
 returns-4 c = item-none (now (c .before .before .before .before .before .before .before .before .before .args .bytes)) (λ z. omega (arith, c .before .before .before .before .before .before .before .if1 .left, z)) (λ z. omega (arith, c .before .before .before .before .before .before .before .if1 .left, z)) _ (looked-what (c .before .look-up .ensures)) (c .match .keys2)
 
-cast-if4 : tie.Need-cast-if4
-cast-if4 c = search needs
-
 returns-5 : tie.Need-returns-5
 returns-5 c = item-short (now (c .before .before .before .before .before .before .before .before .before .before .before .before .args .bytes)) (λ z. omega (arith, c .before .before .before .before .before .before .before .before .before .before .if1 .left, z)) (λ z. omega (arith, c .before .before .before .before .before .before .before .before .before .before .if1 .left, z)) _ (looked-what (c .before .before .before .before .look-up .ensures)) _ (c .before .before .decoded .given .1) _ (looked-length (getD (now (c .before .before .before .before .before .before .before .before .before .before .before .before .args .bytes)) 0 0) (getD (now (c .before .before .before .before .before .before .before .before .before .before .before .before .args .bytes)) 1 0) _ _ (c .before .before .before .before .look-up .ensures) (c .before .before .decoded .given .1)) (c .if4 .taken)
-
-enum-known-shape : tie.Need-enum-known-shape
-enum-known-shape c = search needs
 
 mov-memory-requires : tie.Need-mov-memory-requires
 mov-memory-requires c κs = pairs-there _ _ _ _ (looked-length (getD (now (c .before .before .before .before .before .before .before .before .before .before .before .before .before .before .before .args .bytes)) 0 0) (getD (now (c .before .before .before .before .before .before .before .before .before .before .before .before .before .before .before .args .bytes)) 1 0) _ _ (c .before .before .before .before .before .before .before .look-up .ensures) (c .before .before .before .before .before .decoded .given .1)) (c .before .before .before .if4 .left) (c .before .shape .given .1)
@@ -65,20 +41,5 @@ returns-7 c = whole-single (now (c .before .before .before .before .before .befo
 pub item-of-spec : {M : Type 1} → statement M
 item-of-spec =
     tie.close
-    (tie.spec
-    returns
-    returns-2
-    shared-slice-read-unused
-    unused-requires
-    returns-3
-    shared-slice-read-look-up
-    shared-slice-read-look-up-2
-    look-up-requires
-    enum-known-decoded
-    returns-4
-    cast-if4
-    returns-5
-    enum-known-shape
-    mov-memory-requires
-    returns-6
-    returns-7)
+    (tie.spec returns returns-2 (λ c. search needs) (λ c κs. search needs) returns-3 (λ c. search needs) (λ c. search needs) (λ c κs. search needs)
+    (λ c. search needs) returns-4 (λ c. search needs) returns-5 (λ c. search needs) mov-memory-requires returns-6 returns-7)

@@ -8,47 +8,14 @@ use borrow.Author.Needs.{needs}
 use Rattle.lister.proofs.reading.mov_memory.Statement.{statement}
 use Rattle.lister.proofs.reading.mov_memory.Tie as tie
 
-offset-length-requires : tie.Need-offset-length-requires
-offset-length-requires c κs = search needs
-
-cast-i : tie.Need-cast-i
-cast-i c = search needs
-
-add-decode-second : tie.Need-add-decode-second
-add-decode-second c = search needs
-
-shared-slice-read-decode-second : tie.Need-shared-slice-read-decode-second
-shared-slice-read-decode-second c = search needs
-
-add-decode-second-2 : tie.Need-add-decode-second-2
-add-decode-second-2 c = search needs
-
-shared-slice-read-decode-second-2 : tie.Need-shared-slice-read-decode-second-2
-shared-slice-read-decode-second-2 c = search needs
-
-decode-second-requires : tie.Need-decode-second-requires
-decode-second-requires c κs = search needs
-
-enum-known-to : tie.Need-enum-known-to
-enum-known-to c = search needs
-
-enum-told : tie.Need-enum-told
-enum-told c = search needs
-
 returns : tie.Need-returns
 returns c = whole-none (now (c .before .before .before .before .before .before .before .args .bytes)) (MovMemory (c .before .before .before .before .before .before .before .args .m)) _ (second-read (now (c .before .before .before .before .before .before .before .args .bytes)) (c .before .before .before .before .before .before .before .args .m) _ _ (c .before .before .before .before .before .offset-length .ensures) (c .before .before .decode-second .ensures)) (c .enum-told .given .1)
 
 add-length : tie.Need-add-length
 add-length c = omega (arith, offset-small _ _ (c .before .before .before .before .before .before .offset-length .ensures))
 
-offset-length-requires-2 : tie.Need-offset-length-requires-2
-offset-length-requires-2 c κs = search needs
-
 add-length-2 : tie.Need-add-length-2
 add-length-2 c = omega (arith, offset-small _ _ (c .before .before .before .before .before .before .before .offset-length .ensures), offset-small _ _ (c .offset-length2 .ensures))
-
-cast-if1 : tie.Need-cast-if1
-cast-if1 c = search needs
 
 returns-2 : tie.Need-returns-2
 returns-2 c = whole-cut (now (c .before .before .before .before .before .before .before .before .before .before .args .bytes)) (MovMemory (c .before .before .before .before .before .before .before .before .before .before .args .m)) _ (second-read (now (c .before .before .before .before .before .before .before .before .before .before .args .bytes)) (c .before .before .before .before .before .before .before .before .before .before .args .m) _ _ (c .before .before .before .before .before .before .before .before .offset-length .ensures) (c .before .before .before .before .before .decode-second .ensures)) _ (mov-size _ (c .before .before .before .before .before .before .before .before .before .before .args .m) (c .before .before .before .before .before .before .before .before .offset-length .ensures)) _ (c .before .before .before .to .given .1) _ (c .before .offset-length2 .ensures) (c .if1 .taken)
@@ -59,20 +26,6 @@ returns-3 c = whole-there (now (c .before .before .before .before .before .befor
 pub mov-memory-spec : {M : Type 1} → statement M
 mov-memory-spec =
     tie.close
-    (tie.spec
-    offset-length-requires
-    cast-i
-    add-decode-second
-    shared-slice-read-decode-second
-    add-decode-second-2
-    shared-slice-read-decode-second-2
-    decode-second-requires
-    enum-known-to
-    enum-told
-    returns
-    add-length
-    offset-length-requires-2
-    add-length-2
-    cast-if1
-    returns-2
-    returns-3)
+    (tie.spec (λ c κs. search needs) (λ c. search needs) (λ c. search needs) (λ c. search needs) (λ c. search needs) (λ c. search needs)
+    (λ c κs. search needs) (λ c. search needs) (λ c. search needs) returns add-length (λ c κs. search needs) add-length-2 (λ c. search needs)
+    returns-2 returns-3)

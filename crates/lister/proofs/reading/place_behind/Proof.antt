@@ -10,30 +10,15 @@ use borrow.Author.Needs.{needs}
 use Rattle.lister.proofs.reading.place_behind.Statement.{statement}
 use Rattle.lister.proofs.reading.place_behind.Tie as tie
 
-item-at-requires : tie.Need-item-at-requires
-item-at-requires c κs = search needs
-
-enum-known-length : tie.Need-enum-known-length
-enum-known-length c = search needs
-
-cast-result : tie.Need-cast-result
-cast-result c = search needs
-
 add-result : tie.Need-add-result
 add-result c =
     let a = c .before .before .before .before .before .args in
     omega (arith, cut-there (now (c .before .before .before .before .before .args .code)) (c .before .before .before .before .before .args .at) _ (c .before .before .before .item-at .ensures) (c .before .length .given .1), length-drop (a .at) (now (a .code)))
 
-enum-told : tie.Need-enum-told
-enum-told c = search needs
-
 add-result-2 : tie.Need-add-result-2
 add-result-2 c =
     let a = c .before .before .before .before .args in
     omega (arith, cut-one (now (c .before .before .before .before .args .code)) (c .before .before .before .before .args .at) _ (c .before .before .item-at .ensures) (c .enum-told .given .1), length-drop (a .at) (now (a .code)))
-
-enum-told-2 : tie.Need-enum-told-2
-enum-told-2 c = search needs
 
 returns : tie.Need-returns
 unfolding behindOf
@@ -50,14 +35,5 @@ returns-3 c = omega (arith, ap countOf (sym (c .enum-told2 .given .1) ∙ c .bef
 pub place-behind-spec : {M : Type 1} → statement M
 place-behind-spec =
     tie.close
-    (tie.spec
-    item-at-requires
-    enum-known-length
-    cast-result
-    add-result
-    enum-told
-    add-result-2
-    enum-told-2
-    returns
-    returns-2
-    returns-3)
+    (tie.spec (λ c κs. search needs) (λ c. search needs) (λ c. search needs) add-result (λ c. search needs) add-result-2 (λ c. search needs) returns
+    returns-2 returns-3)

@@ -10,15 +10,6 @@ use borrow.Author.Needs.{needs}
 use Rattle.lister.proofs.reading.unused.Statement.{statement}
 use Rattle.lister.proofs.reading.unused.Tie as tie
 
-cast-opcode : tie.Need-cast-opcode
-cast-opcode c = search needs
-
-cast-result : tie.Need-cast-result
-cast-result c = search needs
-
-shr-result : tie.Need-shr-result
-shr-result c = search needs
-
 returns : tie.Need-returns
 unfolding fieldOf
 returns c =
@@ -26,4 +17,4 @@ returns c =
     ap (λ (k : ℕ). eqb (0x90080000FFF020FA / 2 ^ k % 2) 1) same ∙ unused-bit (c .args .second)
 
 pub unused-spec : {M : Type 1} → statement M
-unused-spec = tie.close (tie.spec cast-opcode cast-result shr-result returns)
+unused-spec = tie.close (tie.spec (λ c. search needs) (λ c. search needs) (λ c. search needs) returns)

@@ -14,44 +14,14 @@ use Rattle.machine.proofs.cc.split.Tie as tie
 narrow : (x at width : ℕ) → 2 ^ width < 256 → fieldOf x at width < 256
 narrow x at width h = omega (arith, field-lt x at width, h)
 
-bit-requires : tie.Need-bit-requires
-bit-requires c κs = search needs
-
-bit-requires-2 : tie.Need-bit-requires-2
-bit-requires-2 c κs = search needs
-
-bit-requires-3 : tie.Need-bit-requires-3
-bit-requires-3 c κs = search needs
-
-field-requires : tie.Need-field-requires
-field-requires c κs = search needs
-
 cast-t7 : tie.Need-cast-t7
 cast-t7 c = omega (arith, c .field .ensures, narrow (c .before .before .before .before .args .cc) 11 2 (lit< tt))
-
-bit-requires-4 : tie.Need-bit-requires-4
-bit-requires-4 c κs = search needs
-
-bit-requires-5 : tie.Need-bit-requires-5
-bit-requires-5 c κs = search needs
-
-bit-requires-6 : tie.Need-bit-requires-6
-bit-requires-6 c κs = search needs
-
-field-requires-2 : tie.Need-field-requires-2
-field-requires-2 c κs = search needs
 
 cast-t12 : tie.Need-cast-t12
 cast-t12 c = omega (arith, c .field2 .ensures, narrow (c .before .before .before .before .before .before .before .before .args .cc) 5 2 (lit< tt))
 
-field-requires-3 : tie.Need-field-requires-3
-field-requires-3 c κs = search needs
-
 cast-t14 : tie.Need-cast-t14
 cast-t14 c = omega (arith, c .field3 .ensures, narrow (c .before .before .before .before .before .before .before .before .before .args .cc) 3 2 (lit< tt))
-
-field-requires-4 : tie.Need-field-requires-4
-field-requires-4 c κs = search needs
 
 cast-t16 : tie.Need-cast-t16
 cast-t16 c = omega (arith, c .field4 .ensures, narrow (c .before .before .before .before .before .before .before .before .before .before .args .cc) 0 3 (lit< tt))
@@ -63,19 +33,6 @@ returns c = simp (c .field4 .ensures, c .before .field3 .ensures, c .before .bef
 pub split-spec : {M : Type 1} → statement M
 split-spec =
     tie.close
-    (tie.spec
-    bit-requires
-    bit-requires-2
-    bit-requires-3
-    field-requires
-    cast-t7
-    bit-requires-4
-    bit-requires-5
-    bit-requires-6
-    field-requires-2
-    cast-t12
-    field-requires-3
-    cast-t14
-    field-requires-4
-    cast-t16
+    (tie.spec (λ c κs. search needs) (λ c κs. search needs) (λ c κs. search needs) (λ c κs. search needs) cast-t7 (λ c κs. search needs)
+    (λ c κs. search needs) (λ c κs. search needs) (λ c κs. search needs) cast-t12 (λ c κs. search needs) cast-t14 (λ c κs. search needs) cast-t16
     returns)

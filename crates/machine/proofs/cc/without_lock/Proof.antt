@@ -7,9 +7,6 @@ use Rattle.machine.specs.Cc.{withoutLock}
 use Rattle.machine.proofs.cc.without_lock.Statement.{statement}
 use Rattle.machine.proofs.cc.without_lock.Tie as tie
 
-mul-result : tie.Need-mul-result
-mul-result c = search needs
-
 add-result : tie.Need-add-result
 add-result c = omega (arith, c .fits .cc .fits)
 
@@ -18,4 +15,4 @@ unfolding withoutLock
 returns c = refl
 
 pub without-lock-spec : {M : Type 1} → statement M
-without-lock-spec = tie.close (tie.spec mul-result add-result returns)
+without-lock-spec = tie.close (tie.spec (λ c. search needs) add-result returns)

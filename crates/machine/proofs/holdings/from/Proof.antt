@@ -10,12 +10,9 @@ returns : tie.Need-returns
 unfolding heldFrom
 returns c = simp (lt-ltb _ _ (c .if1 .taken))
 
-cast-t4 : tie.Need-cast-t4
-cast-t4 c = search needs
-
 returns-2 : tie.Need-returns-2
 unfolding heldFrom
 returns-2 c = simp (le-ltb _ _ (c .if1 .left))
 
 pub from-spec : {M : Type 1} → statement M
-from-spec = tie.close (tie.spec returns cast-t4 returns-2)
+from-spec = tie.close (tie.spec returns (λ c. search needs) returns-2)

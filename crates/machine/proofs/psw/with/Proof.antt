@@ -10,12 +10,6 @@ use Rattle.machine.specs.Psw.{withPsw}
 use Rattle.machine.proofs.psw.with.Statement.{statement}
 use Rattle.machine.proofs.psw.with.Tie as tie
 
-with-bit-requires : tie.Need-with-bit-requires
-with-bit-requires c κs = search needs
-
-cast-result : tie.Need-cast-result
-cast-result c = search needs
-
 returns : tie.Need-returns
 unfolding withPsw
 returns c =
@@ -29,4 +23,4 @@ unfolding withPsw
 returns-2 c = simp (le-ltb _ _ (c .if1 .left), le-leb _ _ (c .if1 .left))
 
 pub with-spec : {M : Type 1} → statement M
-with-spec = tie.close (tie.spec with-bit-requires cast-result returns returns-2)
+with-spec = tie.close (tie.spec (λ c κs. search needs) (λ c. search needs) returns returns-2)

@@ -6,18 +6,6 @@ use Rattle.machine.specs.Registers.{byRRR, registerOf}
 use Rattle.machine.proofs.registers.value.Statement.{statement}
 use Rattle.machine.proofs.registers.value.Tie as tie
 
-cast-result : tie.Need-cast-result
-cast-result c = search needs
-
-cast-result-2 : tie.Need-cast-result-2
-cast-result-2 c = search needs
-
-cast-result-3 : tie.Need-cast-result-3
-cast-result-3 c = search needs
-
-cast-result-4 : tie.Need-cast-result-4
-cast-result-4 c = search needs
-
 returns : tie.Need-returns
 unfolding registerOf byRRR
 returns c = simp (c .match .keys1)
@@ -53,16 +41,5 @@ returns-8 c = simp (ne-eqb _ _ (c .before .match .rest .1), ne-eqb _ _ (c .befor
 pub value-spec : {M : Type 1} → statement M
 value-spec =
     tie.close
-    (tie.spec
-    cast-result
-    cast-result-2
-    cast-result-3
-    cast-result-4
-    returns
-    returns-2
-    returns-3
-    returns-4
-    returns-5
-    returns-6
-    returns-7
-    returns-8)
+    (tie.spec (λ c. search needs) (λ c. search needs) (λ c. search needs) (λ c. search needs) returns returns-2 returns-3 returns-4 returns-5
+    returns-6 returns-7 returns-8)

@@ -9,9 +9,6 @@ use Rattle.machine.specs.Registers.{withRegister}
 use Rattle.machine.proofs.registers.with.Statement.{statement}
 use Rattle.machine.proofs.registers.with.Tie as tie
 
-cast-w : tie.Need-cast-w
-cast-w c = search needs
-
 returns : tie.Need-returns
 unfolding withRegister
 returns c = simp (c .match .keys1)
@@ -36,9 +33,6 @@ returns-6 : tie.Need-returns-6
 unfolding withRegister
 returns-6 c = simp (c .match .keys6)
 
-split-requires : tie.Need-split-requires
-split-requires c κs = search needs
-
 returns-7 : tie.Need-returns-7
 unfolding withRegister
 returns-7 c = simp (c .split .ensures, c .before .match .keys7)
@@ -58,4 +52,4 @@ returns-8 c =
 pub with-spec : {M : Type 1} → statement M
 with-spec =
     tie.close
-    (tie.spec cast-w split-requires returns returns-2 returns-3 returns-4 returns-5 returns-6 returns-7 returns-8)
+    (tie.spec (λ c. search needs) (λ c κs. search needs) returns returns-2 returns-3 returns-4 returns-5 returns-6 returns-7 returns-8)

@@ -4,11 +4,8 @@ use borrow.Author.Needs.{needs}
 use Rattle.machine.proofs.states.blank.Statement.{statement}
 use Rattle.machine.proofs.states.blank.Tie as tie
 
-idle-requires : tie.Need-idle-requires
-idle-requires c κs = search needs
-
 returns : tie.Need-returns
 returns c = rw (c .idle .ensures)
 
 pub blank-spec : {M : Type 1} → statement M
-blank-spec = tie.close (tie.spec idle-requires returns)
+blank-spec = tie.close (tie.spec (λ c κs. search needs) returns)

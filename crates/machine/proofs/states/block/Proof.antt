@@ -6,9 +6,6 @@ use Rattle.machine.specs.States.{blockOf}
 use Rattle.machine.proofs.states.block.Statement.{statement}
 use Rattle.machine.proofs.states.block.Tie as tie
 
-sum20-requires : tie.Need-sum20-requires
-sum20-requires c κs = search needs
-
 returns : tie.Need-returns
 unfolding blockOf
 returns c = simp (c .sum20 .ensures, c .before .if1 .taken)
@@ -18,4 +15,4 @@ unfolding blockOf
 returns-2 c = simp (c .if1 .left)
 
 pub block-spec : {M : Type 1} → statement M
-block-spec = tie.close (tie.spec sum20-requires returns returns-2)
+block-spec = tie.close (tie.spec (λ c κs. search needs) returns returns-2)

@@ -5,15 +5,9 @@ use Rattle.machine.specs.States.{fieldsAgree}
 use Rattle.machine.proofs.states.fields_agree.Statement.{statement}
 use Rattle.machine.proofs.states.fields_agree.Tie as tie
 
-split-requires : tie.Need-split-requires
-split-requires c κs = search needs
-
-same-requires : tie.Need-same-requires
-same-requires c κs = search needs
-
 returns : tie.Need-returns
 unfolding fieldsAgree
 returns c = rw (c .same .ensures, c .before .split .ensures)
 
 pub fields-agree-spec : {M : Type 1} → statement M
-fields-agree-spec = tie.close (tie.spec split-requires same-requires returns)
+fields-agree-spec = tie.close (tie.spec (λ c κs. search needs) (λ c κs. search needs) returns)

@@ -6,12 +6,6 @@ use Rattle.machine.specs.Outcomes.{unless, first, givenNumber}
 use Rattle.machine.proofs.states.given_number.Statement.{statement}
 use Rattle.machine.proofs.states.given_number.Tie as tie
 
-within-limits-requires : tie.Need-within-limits-requires
-within-limits-requires c κs = search needs
-
-sound-requires : tie.Need-sound-requires
-sound-requires c κs = search needs
-
 returns : tie.Need-returns
 unfolding givenNumber first unless
 returns c = simp (not-true (c .before .within-limits .result) (c .if1 .taken), ← (c .before .within-limits .ensures))
@@ -24,9 +18,6 @@ returns-3 : tie.Need-returns-3
 unfolding givenNumber first unless
 returns-3 c = simp (not-true (c .before .before .before .before .before .before .before .before .args .s .board .powered) (c .if3 .taken), not-false (c .before .before .before .sound .result) (c .before .before .if2 .left), ← (c .before .before .before .sound .ensures), not-false (c .before .before .before .before .before .within-limits .result) (c .before .before .before .before .if1 .left), ← (c .before .before .before .before .before .within-limits .ensures))
 
-agree-requires : tie.Need-agree-requires
-agree-requires c κs = search needs
-
 returns-4 : tie.Need-returns-4
 unfolding givenNumber first unless
 returns-4 c = simp (c .if4 .taken, ← (c .before .agree .ensures), not-false (c .before .before .before .before .before .before .before .before .before .before .args .s .board .powered) (c .before .before .if3 .left), not-false (c .before .before .before .before .before .sound .result) (c .before .before .before .before .if2 .left), ← (c .before .before .before .before .before .sound .ensures), not-false (c .before .before .before .before .before .before .before .within-limits .result) (c .before .before .before .before .before .before .if1 .left), ← (c .before .before .before .before .before .before .before .within-limits .ensures))
@@ -37,4 +28,4 @@ returns-5 c = simp (c .if4 .left, ← (c .before .agree .ensures), not-false (c 
 
 pub given-number-spec : {M : Type 1} → statement M
 given-number-spec =
-    tie.close (tie.spec within-limits-requires returns sound-requires returns-2 returns-3 agree-requires returns-4 returns-5)
+    tie.close (tie.spec (λ c κs. search needs) returns (λ c κs. search needs) returns-2 returns-3 (λ c κs. search needs) returns-4 returns-5)

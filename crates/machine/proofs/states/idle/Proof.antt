@@ -5,12 +5,9 @@ use Rattle.machine.specs.States.{idleChannel}
 use Rattle.machine.proofs.states.idle.Statement.{statement}
 use Rattle.machine.proofs.states.idle.Tie as tie
 
-split-requires : tie.Need-split-requires
-split-requires c κs = search needs
-
 returns : tie.Need-returns
 unfolding idleChannel
 returns c = rw (c .split .ensures)
 
 pub idle-spec : {M : Type 1} → statement M
-idle-spec = tie.close (tie.spec split-requires returns)
+idle-spec = tie.close (tie.spec (λ c κs. search needs) returns)

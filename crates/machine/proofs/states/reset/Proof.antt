@@ -5,15 +5,9 @@ use Rattle.machine.specs.States.{resetState}
 use Rattle.machine.proofs.states.reset.Statement.{statement}
 use Rattle.machine.proofs.states.reset.Tie as tie
 
-unread-requires : tie.Need-unread-requires
-unread-requires c κs = search needs
-
-blank-requires : tie.Need-blank-requires
-blank-requires c κs = search needs
-
 returns : tie.Need-returns
 unfolding resetState
 returns c = rw (c .blank .ensures, c .before .unread .ensures)
 
 pub reset-spec : {M : Type 1} → statement M
-reset-spec = tie.close (tie.spec unread-requires blank-requires returns)
+reset-spec = tie.close (tie.spec (λ c κs. search needs) (λ c κs. search needs) returns)

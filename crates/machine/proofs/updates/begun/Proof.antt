@@ -5,12 +5,9 @@ use Rattle.machine.specs.Updates.{renewed}
 use Rattle.machine.proofs.updates.begun.Statement.{statement}
 use Rattle.machine.proofs.updates.begun.Tie as tie
 
-holds-requires : tie.Need-holds-requires
-holds-requires c κs = search needs
-
 returns : tie.Need-returns
 unfolding renewed
 returns c = rw (c .holds .ensures)
 
 pub begun-spec : {M : Type 1} → statement M
-begun-spec = tie.close (tie.spec holds-requires returns)
+begun-spec = tie.close (tie.spec (λ c κs. search needs) returns)

@@ -5,15 +5,9 @@ use Rattle.machine.specs.Updates.{stoppedPsw}
 use Rattle.machine.proofs.updates.stopped_psw.Statement.{statement}
 use Rattle.machine.proofs.updates.stopped_psw.Tie as tie
 
-with-requires : tie.Need-with-requires
-with-requires c κs = search needs
-
-with-requires-2 : tie.Need-with-requires-2
-with-requires-2 c κs = search needs
-
 returns : tie.Need-returns
 unfolding stoppedPsw
 returns c = simp (c .with2 .ensures, c .before .with .ensures)
 
 pub stopped-psw-spec : {M : Type 1} → statement M
-stopped-psw-spec = tie.close (tie.spec with-requires with-requires-2 returns)
+stopped-psw-spec = tie.close (tie.spec (λ c κs. search needs) (λ c κs. search needs) returns)

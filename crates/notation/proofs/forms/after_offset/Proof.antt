@@ -7,9 +7,6 @@ use borrow.Author.Needs.{needs}
 use Rattle.notation.proofs.forms.after_offset.Statement.{statement}
 use Rattle.notation.proofs.forms.after_offset.Tie as tie
 
-offset-length-requires : tie.Need-offset-length-requires
-offset-length-requires c κs = search needs
-
 add-result : tie.Need-add-result
 add-result c = omega (arith, offset-short (c .before .args .m), c .offset-length .ensures)
 
@@ -18,4 +15,4 @@ unfolding afterOffset
 returns c = simp (c .offset-length .ensures)
 
 pub after-offset-spec : {M : Type 1} → statement M
-after-offset-spec = tie.close (tie.spec offset-length-requires add-result returns)
+after-offset-spec = tie.close (tie.spec (λ c κs. search needs) add-result returns)

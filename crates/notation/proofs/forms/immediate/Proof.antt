@@ -4,15 +4,6 @@ use borrow.Author.Needs.{needs}
 use Rattle.notation.proofs.forms.immediate.Statement.{statement}
 use Rattle.notation.proofs.forms.immediate.Tie as tie
 
-is-jump-requires : tie.Need-is-jump-requires
-is-jump-requires c κs = search needs
-
-alone-requires : tie.Need-alone-requires
-alone-requires c κs = search needs
-
-both-requires : tie.Need-both-requires
-both-requires c κs = search needs
-
 returns : tie.Need-returns
 returns c = simp (c .alone .ensures, c .before .if1 .taken, ← (c .before .before .is-jump .ensures))
 
@@ -21,4 +12,4 @@ returns-2 c = simp (c .both .ensures, c .before .if1 .left, ← (c .before .befo
 
 pub immediate-spec : {M : Type 1} → statement M
 immediate-spec =
-    tie.close (tie.spec is-jump-requires alone-requires both-requires returns returns-2)
+    tie.close (tie.spec (λ c κs. search needs) (λ c κs. search needs) (λ c κs. search needs) returns returns-2)

@@ -8,12 +8,6 @@ use borrow.Author.Needs.{needs}
 use Rattle.notation.proofs.forms.offset.Statement.{statement}
 use Rattle.notation.proofs.forms.offset.Tie as tie
 
-byte-at-requires : tie.Need-byte-at-requires
-byte-at-requires c κs = search needs
-
-byte-number-requires : tie.Need-byte-number-requires
-byte-number-requires c κs = search needs
-
 returns : tie.Need-returns
 returns c = simp (← (c .byte-number .ensures), ← (c .before .byte-at .ensures), c .before .before .if1 .taken, eq-eqb _ _ (c .before .before .if1 .taken))
 
@@ -21,4 +15,4 @@ returns-2 : tie.Need-returns-2
 returns-2 c = rw (ne-eqb _ 1 (c .if1 .left)) held-zero
 
 pub offset-spec : {M : Type 1} → statement M
-offset-spec = tie.close (tie.spec byte-at-requires byte-number-requires returns returns-2)
+offset-spec = tie.close (tie.spec (λ c κs. search needs) (λ c κs. search needs) returns returns-2)

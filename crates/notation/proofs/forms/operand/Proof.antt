@@ -8,45 +8,6 @@ use borrow.Author.Needs.{needs}
 use Rattle.notation.proofs.forms.operand.Statement.{statement}
 use Rattle.notation.proofs.forms.operand.Tie as tie
 
-enum-told : tie.Need-enum-told
-enum-told c = search needs
-
-enum-known-slot : tie.Need-enum-known-slot
-enum-known-slot c = search needs
-
-register-name-requires : tie.Need-register-name-requires
-register-name-requires c κs = search needs
-
-enum-known-slot-2 : tie.Need-enum-known-slot-2
-enum-known-slot-2 c = search needs
-
-base-name-requires : tie.Need-base-name-requires
-base-name-requires c κs = search needs
-
-mode-text-requires : tie.Need-mode-text-requires
-mode-text-requires c κs = search needs
-
-offset-requires : tie.Need-offset-requires
-offset-requires c κs = search needs
-
-enum-known-slot-3 : tie.Need-enum-known-slot-3
-enum-known-slot-3 c = search needs
-
-number-requires : tie.Need-number-requires
-number-requires c κs = search needs
-
-enum-known-slot-4 : tie.Need-enum-known-slot-4
-enum-known-slot-4 c = search needs
-
-target-requires : tie.Need-target-requires
-target-requires c κs = search needs
-
-enum-known-slot-5 : tie.Need-enum-known-slot-5
-enum-known-slot-5 c = search needs
-
-digit-requires : tie.Need-digit-requires
-digit-requires c κs = search needs
-
 returns : tie.Need-returns
 unfolding filled spelled following heldIn4 heldIn heldBy
 returns c = rw (c .enum-told .given .1)
@@ -74,23 +35,6 @@ returns-6 c = led _ (c .before .before .before .before .before .pre) (c .digit .
 pub operand-spec : {M : Type 1} → statement M
 operand-spec =
     tie.close
-    (tie.spec
-    enum-told
-    enum-known-slot
-    register-name-requires
-    enum-known-slot-2
-    base-name-requires
-    mode-text-requires
-    offset-requires
-    enum-known-slot-3
-    number-requires
-    enum-known-slot-4
-    target-requires
-    enum-known-slot-5
-    digit-requires
-    returns
-    returns-2
-    returns-3
-    returns-4
-    returns-5
-    returns-6)
+    (tie.spec (λ c. search needs) (λ c. search needs) (λ c κs. search needs) (λ c. search needs) (λ c κs. search needs) (λ c κs. search needs)
+    (λ c κs. search needs) (λ c. search needs) (λ c κs. search needs) (λ c. search needs) (λ c κs. search needs) (λ c. search needs)
+    (λ c κs. search needs) returns returns-2 returns-3 returns-4 returns-5 returns-6)

@@ -7,170 +7,11 @@ use borrow.Author.Needs.{needs}
 use Rattle.notation.proofs.forms.slots_of.Statement.{statement}
 use Rattle.notation.proofs.forms.slots_of.Tie as tie
 
-enum-told : tie.Need-enum-told
-enum-told c = search needs
-
-bare-requires : tie.Need-bare-requires
-bare-requires c κs = search needs
-
-enum-told-2 : tie.Need-enum-told-2
-enum-told-2 c = search needs
-
-bare-requires-2 : tie.Need-bare-requires-2
-bare-requires-2 c κs = search needs
-
-enum-told-3 : tie.Need-enum-told-3
-enum-told-3 c = search needs
-
-bare-requires-3 : tie.Need-bare-requires-3
-bare-requires-3 c κs = search needs
-
-enum-known-s : tie.Need-enum-known-s
-enum-known-s c = search needs
-
-width-requires : tie.Need-width-requires
-width-requires c κs = search needs
-
-width-requires-2 : tie.Need-width-requires-2
-width-requires-2 c κs = search needs
-
-both-requires : tie.Need-both-requires
-both-requires c κs = search needs
-
-enum-told-4 : tie.Need-enum-told-4
-enum-told-4 c = search needs
-
-bare-requires-4 : tie.Need-bare-requires-4
-bare-requires-4 c κs = search needs
-
-enum-known-s-2 : tie.Need-enum-known-s-2
-enum-known-s-2 c = search needs
-
-enum-known-s-3 : tie.Need-enum-known-s-3
-enum-known-s-3 c = search needs
-
-immediate-requires : tie.Need-immediate-requires
-immediate-requires c κs = search needs
-
-enum-known-s-4 : tie.Need-enum-known-s-4
-enum-known-s-4 c = search needs
-
-alone-requires : tie.Need-alone-requires
-alone-requires c κs = search needs
-
-enum-known-s-5 : tie.Need-enum-known-s-5
-enum-known-s-5 c = search needs
-
-both-requires-2 : tie.Need-both-requires-2
-both-requires-2 c κs = search needs
-
-enum-known-s-6 : tie.Need-enum-known-s-6
-enum-known-s-6 c = search needs
-
-both-requires-3 : tie.Need-both-requires-3
-both-requires-3 c κs = search needs
-
-enum-known-s-7 : tie.Need-enum-known-s-7
-enum-known-s-7 c = search needs
-
-both-requires-4 : tie.Need-both-requires-4
-both-requires-4 c κs = search needs
-
-enum-known-s-8 : tie.Need-enum-known-s-8
-enum-known-s-8 c = search needs
-
-after-offset-requires : tie.Need-after-offset-requires
-after-offset-requires c κs = search needs
-
-both-requires-5 : tie.Need-both-requires-5
-both-requires-5 c κs = search needs
-
-enum-known-s-9 : tie.Need-enum-known-s-9
-enum-known-s-9 c = search needs
-
-alone-requires-2 : tie.Need-alone-requires-2
-alone-requires-2 c κs = search needs
-
-enum-known-s-10 : tie.Need-enum-known-s-10
-enum-known-s-10 c = search needs
-
-jump-requires : tie.Need-jump-requires
-jump-requires c κs = search needs
-
-both-requires-6 : tie.Need-both-requires-6
-both-requires-6 c κs = search needs
-
-enum-known-s-11 : tie.Need-enum-known-s-11
-enum-known-s-11 c = search needs
-
-both-requires-7 : tie.Need-both-requires-7
-both-requires-7 c κs = search needs
-
-enum-known-s-12 : tie.Need-enum-known-s-12
-enum-known-s-12 c = search needs
-
-both-requires-8 : tie.Need-both-requires-8
-both-requires-8 c κs = search needs
-
-enum-known-s-13 : tie.Need-enum-known-s-13
-enum-known-s-13 c = search needs
-
-both-requires-9 : tie.Need-both-requires-9
-both-requires-9 c κs = search needs
-
-enum-known-s-14 : tie.Need-enum-known-s-14
-enum-known-s-14 c = search needs
-
-after-offset-requires-2 : tie.Need-after-offset-requires-2
-after-offset-requires-2 c κs = search needs
-
 add-t65 : tie.Need-add-t65
 add-t65 c = omega (arith, after-fits _ _ (c .after-offset2 .ensures))
 
-both-requires-10 : tie.Need-both-requires-10
-both-requires-10 c κs = search needs
-
-enum-known-s-15 : tie.Need-enum-known-s-15
-enum-known-s-15 c = search needs
-
-after-offset-requires-3 : tie.Need-after-offset-requires-3
-after-offset-requires-3 c κs = search needs
-
-after-offset-requires-4 : tie.Need-after-offset-requires-4
-after-offset-requires-4 c κs = search needs
-
 add-t72 : tie.Need-add-t72
 add-t72 c = omega (arith, after-fits _ _ (c .after-offset4 .ensures))
-
-enum-known-s-16 : tie.Need-enum-known-s-16
-enum-known-s-16 c = search needs
-
-jump-requires-2 : tie.Need-jump-requires-2
-jump-requires-2 c κs = search needs
-
-both-requires-11 : tie.Need-both-requires-11
-both-requires-11 c κs = search needs
-
-enum-known-s-17 : tie.Need-enum-known-s-17
-enum-known-s-17 c = search needs
-
-jump-requires-3 : tie.Need-jump-requires-3
-jump-requires-3 c κs = search needs
-
-both-requires-12 : tie.Need-both-requires-12
-both-requires-12 c κs = search needs
-
-enum-known-s-18 : tie.Need-enum-known-s-18
-enum-known-s-18 c = search needs
-
-jump-requires-4 : tie.Need-jump-requires-4
-jump-requires-4 c κs = search needs
-
-enum-known-s-19 : tie.Need-enum-known-s-19
-enum-known-s-19 c = search needs
-
-both-requires-13 : tie.Need-both-requires-13
-both-requires-13 c κs = search needs
 
 returns : tie.Need-returns
 unfolding slotsOf
@@ -267,82 +108,14 @@ returns-23 c = simp (c .both13 .ensures, c .before .before .s19 .given .1)
 pub slots-of-spec : {M : Type 1} → statement M
 slots-of-spec =
     tie.close
-    (tie.spec
-    enum-told
-    bare-requires
-    enum-told-2
-    bare-requires-2
-    enum-told-3
-    bare-requires-3
-    enum-known-s
-    width-requires
-    width-requires-2
-    both-requires
-    enum-told-4
-    bare-requires-4
-    enum-known-s-2
-    enum-known-s-3
-    immediate-requires
-    enum-known-s-4
-    alone-requires
-    enum-known-s-5
-    both-requires-2
-    enum-known-s-6
-    both-requires-3
-    enum-known-s-7
-    both-requires-4
-    enum-known-s-8
-    after-offset-requires
-    both-requires-5
-    enum-known-s-9
-    alone-requires-2
-    enum-known-s-10
-    jump-requires
-    both-requires-6
-    enum-known-s-11
-    both-requires-7
-    enum-known-s-12
-    both-requires-8
-    enum-known-s-13
-    both-requires-9
-    enum-known-s-14
-    after-offset-requires-2
-    add-t65
-    both-requires-10
-    enum-known-s-15
-    after-offset-requires-3
-    after-offset-requires-4
-    add-t72
-    enum-known-s-16
-    jump-requires-2
-    both-requires-11
-    enum-known-s-17
-    jump-requires-3
-    both-requires-12
-    enum-known-s-18
-    jump-requires-4
-    enum-known-s-19
-    both-requires-13
-    returns
-    returns-2
-    returns-3
-    returns-4
-    returns-5
-    returns-6
-    returns-7
-    returns-8
-    returns-9
-    returns-10
-    returns-11
-    returns-12
-    returns-13
-    returns-14
-    returns-15
-    returns-16
-    returns-17
-    returns-18
-    returns-19
-    returns-20
-    returns-21
-    returns-22
-    returns-23)
+    (tie.spec (λ c. search needs) (λ c κs. search needs) (λ c. search needs) (λ c κs. search needs) (λ c. search needs) (λ c κs. search needs)
+    (λ c. search needs) (λ c κs. search needs) (λ c κs. search needs) (λ c κs. search needs) (λ c. search needs) (λ c κs. search needs)
+    (λ c. search needs) (λ c. search needs) (λ c κs. search needs) (λ c. search needs) (λ c κs. search needs) (λ c. search needs)
+    (λ c κs. search needs) (λ c. search needs) (λ c κs. search needs) (λ c. search needs) (λ c κs. search needs) (λ c. search needs)
+    (λ c κs. search needs) (λ c κs. search needs) (λ c. search needs) (λ c κs. search needs) (λ c. search needs) (λ c κs. search needs)
+    (λ c κs. search needs) (λ c. search needs) (λ c κs. search needs) (λ c. search needs) (λ c κs. search needs) (λ c. search needs)
+    (λ c κs. search needs) (λ c. search needs) (λ c κs. search needs) add-t65 (λ c κs. search needs) (λ c. search needs) (λ c κs. search needs)
+    (λ c κs. search needs) add-t72 (λ c. search needs) (λ c κs. search needs) (λ c κs. search needs) (λ c. search needs) (λ c κs. search needs)
+    (λ c κs. search needs) (λ c. search needs) (λ c κs. search needs) (λ c. search needs) (λ c κs. search needs) returns returns-2 returns-3 returns-4
+    returns-5 returns-6 returns-7 returns-8 returns-9 returns-10 returns-11 returns-12 returns-13 returns-14 returns-15 returns-16 returns-17
+    returns-18 returns-19 returns-20 returns-21 returns-22 returns-23)

@@ -8,21 +8,6 @@ use borrow.Author.Needs.{needs}
 use Rattle.notation.proofs.forms.target.Statement.{statement}
 use Rattle.notation.proofs.forms.target.Tie as tie
 
-reach-requires : tie.Need-reach-requires
-reach-requires c κs = search needs
-
-add-t : tie.Need-add-t
-add-t c = search needs
-
-cast-word-number : tie.Need-cast-word-number
-cast-word-number c = search needs
-
-cast-word-number-2 : tie.Need-cast-word-number-2
-cast-word-number-2 c = search needs
-
-word-number-requires : tie.Need-word-number-requires
-word-number-requires c κs = search needs
-
 returns : tie.Need-returns
 unfolding targetOf
 returns c =
@@ -34,10 +19,4 @@ returns c =
 pub target-spec : {M : Type 1} → statement M
 target-spec =
     tie.close
-    (tie.spec
-    reach-requires
-    add-t
-    cast-word-number
-    cast-word-number-2
-    word-number-requires
-    returns)
+    (tie.spec (λ c κs. search needs) (λ c. search needs) (λ c. search needs) (λ c. search needs) (λ c κs. search needs) returns)

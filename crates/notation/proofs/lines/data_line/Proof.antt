@@ -19,9 +19,6 @@ Inv-loop bytes part chars₀ at₀ separator₀ i₀ chars at separator i = List
 abbrev μ-loop : tie.MeasureT-loop
 μ-loop bytes part chars₀ at₀ separator₀ i₀ chars at separator i = length part - i
 
-first-five-requires : tie.Need-first-five-requires Inv-loop μ-loop
-first-five-requires c κs = search needs
-
 put-requires : tie.Need-put-requires Inv-loop μ-loop
 unfolding heldIn heldBy
 put-requires c κs = record { size = refl; room = omega arith }
@@ -39,9 +36,6 @@ put-requires-2 c κs =
 
 shared-slice-read-byte-number : tie.Need-shared-slice-read-byte-number Inv-loop μ-loop
 shared-slice-read-byte-number c = omega arith
-
-byte-number-requires : tie.Need-byte-number-requires Inv-loop μ-loop
-byte-number-requires c κs = search needs
 
 put-requires-3 : tie.Need-put-requires-3 Inv-loop μ-loop
 put-requires-3 c κs =
@@ -77,18 +71,5 @@ returns c =
 pub data-line-spec : {M : Type 1} → statement M
 data-line-spec =
     tie.close
-    (tie.spec
-    Inv-loop
-    μ-loop
-    first-five-requires
-    put-requires
-    loop-holds
-    put-requires-2
-    shared-slice-read-byte-number
-    byte-number-requires
-    put-requires-3
-    add-i
-    loop-less
-    loop-again
-    put-requires-4
-    returns)
+    (tie.spec Inv-loop μ-loop (λ c κs. search needs) put-requires loop-holds put-requires-2 shared-slice-read-byte-number (λ c κs. search needs)
+    put-requires-3 add-i loop-less loop-again put-requires-4 returns)

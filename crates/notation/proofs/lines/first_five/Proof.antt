@@ -15,8 +15,5 @@ slice-aggregate-result c = omega (arith, length-take 5 (now (c .before .before .
 returns : tie.Need-returns
 returns c = sym (take-all 5 (now (c .before .args .bytes)) (omega arith))
 
-returns-2 : tie.Need-returns-2
-returns-2 c = search needs
-
 pub first-five-spec : {M : Type 1} → statement M
-first-five-spec = tie.close (tie.spec slice-aggregate-result returns returns-2)
+first-five-spec = tie.close (tie.spec slice-aggregate-result returns (λ c. search needs))

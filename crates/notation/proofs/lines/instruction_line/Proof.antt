@@ -12,12 +12,6 @@ use Rattle.notation.proofs.LineLaws.{line-fits}
 use Rattle.notation.proofs.lines.instruction_line.Statement.{statement}
 use Rattle.notation.proofs.lines.instruction_line.Tie as tie
 
-slots-of-requires : tie.Need-slots-of-requires
-slots-of-requires c κs = search needs
-
-mnemonic-requires : tie.Need-mnemonic-requires
-mnemonic-requires c κs = search needs
-
 put-all-requires : tie.Need-put-all-requires
 unfolding lineWith
 put-all-requires c κs =
@@ -65,15 +59,5 @@ returns c =
 pub instruction-line-spec : {M : Type 1} → statement M
 instruction-line-spec =
     tie.close
-    (tie.spec
-    slots-of-requires
-    mnemonic-requires
-    put-all-requires
-    operand-requires
-    put-all-requires-2
-    operand-requires-2
-    put-all-requires-3
-    operand-requires-3
-    put-all-requires-4
-    put-requires
-    returns)
+    (tie.spec (λ c κs. search needs) (λ c κs. search needs) put-all-requires operand-requires put-all-requires-2 operand-requires-2 put-all-requires-3
+    operand-requires-3 put-all-requires-4 put-requires returns)

@@ -5,9 +5,6 @@ use borrow.Author.Needs.{needs}
 use Rattle.notation.proofs.lines.listed.Statement.{statement}
 use Rattle.notation.proofs.lines.listed.Tie as tie
 
-enum-known-s : tie.Need-enum-known-s
-enum-known-s c = search needs
-
 returns : tie.Need-returns
 returns c = rw (c .before .s .given .1)
 
@@ -15,4 +12,4 @@ returns-2 : tie.Need-returns-2
 returns-2 c = other-listed (c .before .args .s) (c .match .keys2)
 
 pub listed-spec : {M : Type 1} → statement M
-listed-spec = tie.close (tie.spec enum-known-s returns returns-2)
+listed-spec = tie.close (tie.spec (λ c. search needs) returns returns-2)

@@ -5,21 +5,6 @@ use borrow.Author.Needs.{needs}
 use Rattle.notation.proofs.mnemonics.work_stem.Statement.{statement}
 use Rattle.notation.proofs.mnemonics.work_stem.Tie as tie
 
-enum-told : tie.Need-enum-told
-enum-told c = search needs
-
-enum-told-2 : tie.Need-enum-told-2
-enum-told-2 c = search needs
-
-enum-told-3 : tie.Need-enum-told-3
-enum-told-3 c = search needs
-
-enum-told-4 : tie.Need-enum-told-4
-enum-told-4 c = search needs
-
-enum-told-5 : tie.Need-enum-told-5
-enum-told-5 c = search needs
-
 returns : tie.Need-returns
 unfolding heldIn heldBy
 returns c = simp (c .enum-told .given .1, c .before .match .keys1)
@@ -43,14 +28,5 @@ returns-5 c = simp (c .enum-told5 .given .1, c .before .match .keys5)
 pub work-stem-spec : {M : Type 1} → statement M
 work-stem-spec =
     tie.close
-    (tie.spec
-    enum-told
-    enum-told-2
-    enum-told-3
-    enum-told-4
-    enum-told-5
-    returns
-    returns-2
-    returns-3
-    returns-4
-    returns-5)
+    (tie.spec (λ c. search needs) (λ c. search needs) (λ c. search needs) (λ c. search needs) (λ c. search needs) returns returns-2 returns-3
+    returns-4 returns-5)

@@ -10,15 +10,6 @@ use borrow.Author.Needs.{needs}
 use Rattle.notation.proofs.pieces.byte_number.Statement.{statement}
 use Rattle.notation.proofs.pieces.byte_number.Tie as tie
 
-glyph-requires : tie.Need-glyph-requires
-glyph-requires c κs = search needs
-
-glyph-requires-2 : tie.Need-glyph-requires-2
-glyph-requires-2 c κs = search needs
-
-mul-result : tie.Need-mul-result
-mul-result c = search needs
-
 add-result : tie.Need-add-result
 add-result c = omega arith
 
@@ -44,13 +35,4 @@ returns c =
 pub byte-number-spec : {M : Type 1} → statement M
 byte-number-spec =
     tie.close
-    (tie.spec
-    glyph-requires
-    glyph-requires-2
-    mul-result
-    add-result
-    mul-result-2
-    add-result-2
-    mul-result-3
-    add-result-3
-    returns)
+    (tie.spec (λ c κs. search needs) (λ c κs. search needs) (λ c. search needs) add-result mul-result-2 add-result-2 mul-result-3 add-result-3 returns)

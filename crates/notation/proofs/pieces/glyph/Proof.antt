@@ -7,12 +7,6 @@ use borrow.Author.Needs.{needs}
 use Rattle.notation.proofs.pieces.glyph.Statement.{statement}
 use Rattle.notation.proofs.pieces.glyph.Tie as tie
 
-add-result : tie.Need-add-result
-add-result c = search needs
-
-add-result-2 : tie.Need-add-result-2
-add-result-2 c = search needs
-
 returns : tie.Need-returns
 unfolding hexGlyph
 returns c = (simp (lt-ltb _ _ (c .if1 .taken), lt-leb _ _ (c .if1 .taken)), omega arith)
@@ -22,4 +16,4 @@ unfolding hexGlyph
 returns-2 c = (simp (le-ltb _ _ (c .if1 .left), le-leb _ _ (c .if1 .left)), omega arith)
 
 pub glyph-spec : {M : Type 1} → statement M
-glyph-spec = tie.close (tie.spec add-result add-result-2 returns returns-2)
+glyph-spec = tie.close (tie.spec (λ c. search needs) (λ c. search needs) returns returns-2)

@@ -10,21 +10,6 @@ use borrow.Author.Needs.{needs}
 use Rattle.notation.proofs.pieces.word_number.Statement.{statement}
 use Rattle.notation.proofs.pieces.word_number.Tie as tie
 
-glyph-requires : tie.Need-glyph-requires
-glyph-requires c κs = search needs
-
-glyph-requires-2 : tie.Need-glyph-requires-2
-glyph-requires-2 c κs = search needs
-
-glyph-requires-3 : tie.Need-glyph-requires-3
-glyph-requires-3 c κs = search needs
-
-glyph-requires-4 : tie.Need-glyph-requires-4
-glyph-requires-4 c κs = search needs
-
-mul-result : tie.Need-mul-result
-mul-result c = search needs
-
 add-result : tie.Need-add-result
 add-result c = omega arith
 
@@ -64,19 +49,5 @@ returns c =
 pub word-number-spec : {M : Type 1} → statement M
 word-number-spec =
     tie.close
-    (tie.spec
-    glyph-requires
-    glyph-requires-2
-    glyph-requires-3
-    glyph-requires-4
-    mul-result
-    add-result
-    mul-result-2
-    add-result-2
-    mul-result-3
-    add-result-3
-    mul-result-4
-    add-result-4
-    mul-result-5
-    add-result-5
-    returns)
+    (tie.spec (λ c κs. search needs) (λ c κs. search needs) (λ c κs. search needs) (λ c κs. search needs) (λ c. search needs) add-result mul-result-2
+    add-result-2 mul-result-3 add-result-3 mul-result-4 add-result-4 mul-result-5 add-result-5 returns)

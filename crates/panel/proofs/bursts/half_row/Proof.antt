@@ -13,15 +13,6 @@ use Rattle.panel.proofs.BurstLaws.{burst-stops, burst-ends}
 use Rattle.panel.proofs.bursts.half_row.Statement.{statement}
 use Rattle.panel.proofs.bursts.half_row.Tie as tie
 
-half-requires : tie.Need-half-requires
-half-requires c κs = search needs
-
-same-length : tie.Need-same-length
-same-length c = search needs
-
-same-length-2 : tie.Need-same-length-2
-same-length-2 c = search needs
-
 returns : tie.Need-returns
 returns c =
     let a = c .before .before .before .before .before .before .before .before .before .before .before .args in
@@ -33,12 +24,6 @@ returns c =
 add-t13 : tie.Need-add-t13
 add-t13 c = omega (arith, c .before .before .before .before .before .before .before .before .before .before .before .before .pre .0, c .before .before .before .before .before .before .before .before .before .before .before .before .fits .stop .fits)
 
-same-length-3 : tie.Need-same-length-3
-same-length-3 c = search needs
-
-same-length-4 : tie.Need-same-length-4
-same-length-4 c = search needs
-
 returns-2 : tie.Need-returns-2
 returns-2 c =
     let a = c .before .before .before .before .before .before .before .before .before .before .before .before .args in
@@ -48,4 +33,5 @@ returns-2 c =
     ∙ sym (burst-ends moves transfersOn (a .c) m (a .from) (a .stop - a .from) (omega (arith, c .before .before .before .before .before .before .before .before .before .before .before .before .pre .0)) (sym (ap (λ (o : Transfer). o .number) e) ∙ c .before .if1 .left) (rw (c .before .before .before .before .before .before .before .before .before .before .before .before .pre .1)))
 
 pub half-row-spec : {M : Type 1} → statement M
-half-row-spec = tie.close (tie.spec half-requires same-length same-length-2 returns add-t13 same-length-3 same-length-4 returns-2)
+half-row-spec = tie.close (tie.spec (λ c κs. search needs) (λ c. search needs) (λ c. search needs) returns add-t13 (λ c. search needs)
+    (λ c. search needs) returns-2)

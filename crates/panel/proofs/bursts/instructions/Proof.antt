@@ -31,14 +31,8 @@ Inv-loop busy sys₀ io₀ from stop mine₀ done₀ sys io mine done =
 abbrev μ-loop : tie.MeasureT-loop
 μ-loop busy sys₀ io₀ from stop mine₀ done₀ sys io mine done = stop - done
 
-holds-requires : tie.Need-holds-requires Inv-loop μ-loop
-holds-requires c κs = search needs
-
 loop-holds : tie.Need-loop-holds Inv-loop μ-loop
 loop-holds c = (c .before .before .before .pre, refl, refl, refl)
-
-execute-requires : tie.Need-execute-requires Inv-loop μ-loop
-execute-requires c κs = search needs
 
 same-length : tie.Need-same-length Inv-loop μ-loop
 same-length c = c .before .before .before .before .before .before .execute .kept .1 .1 .0 ∙ c .before .before .before .before .before .before .before .before .before .before .loop .inv .1
@@ -60,12 +54,6 @@ returns c =
 
 add-done : tie.Need-add-done Inv-loop μ-loop
 add-done c = omega (arith, c .before .before .before .before .before .before .before .before .before .before .loop-test .taken, c .before .before .before .before .before .before .before .before .before .before .before .before .before .before .before .fits .stop .fits)
-
-is-running-requires : tie.Need-is-running-requires Inv-loop μ-loop
-is-running-requires c κs = search needs
-
-transferring-requires : tie.Need-transferring-requires Inv-loop μ-loop
-transferring-requires c κs = search needs
 
 same-length-3 : tie.Need-same-length-3 Inv-loop μ-loop
 same-length-3 c = c .before .before .before .before .before .before .before .before .before .before .execute .kept .1 .1 .0 ∙ c .before .before .before .before .before .before .before .before .before .before .before .before .before .before .loop .inv .1
@@ -123,23 +111,5 @@ returns-3 c =
 pub instructions-spec : {M : Type 1} → statement M
 instructions-spec =
     tie.close
-    (tie.spec
-    Inv-loop
-    μ-loop
-    holds-requires
-    loop-holds
-    execute-requires
-    same-length
-    same-length-2
-    returns
-    add-done
-    is-running-requires
-    transferring-requires
-    same-length-3
-    same-length-4
-    returns-2
-    loop-less
-    loop-again
-    same-length-5
-    same-length-6
-    returns-3)
+    (tie.spec Inv-loop μ-loop (λ c κs. search needs) loop-holds (λ c κs. search needs) same-length same-length-2 returns add-done
+    (λ c κs. search needs) (λ c κs. search needs) same-length-3 same-length-4 returns-2 loop-less loop-again same-length-5 same-length-6 returns-3)

@@ -15,20 +15,8 @@ use Rattle.panel.proofs.bursts.own_steps.Tie as tie
 stop-at-requires : tie.Need-stop-at-requires
 stop-at-requires c κs = c .before .before .before .before .pre .0
 
-transferring-requires : tie.Need-transferring-requires
-transferring-requires c κs = search needs
-
 transfers-requires : tie.Need-transfers-requires
 transfers-requires c κs = rw (c .before .before .before .before .stop-at .ensures) (until-after (c .before .before .before .before .before .before .before .before .before .args .p .other .mode) (c .before .before .before .before .before .before .before .before .before .args .done) (c .before .before .before .before .before .before .before .before .before .args .limit) (c .before .before .before .before .before .before .before .before .before .pre .0))
-
-after-requires : tie.Need-after-requires
-after-requires c κs = search needs
-
-same-length : tie.Need-same-length
-same-length c = search needs
-
-same-length-2 : tie.Need-same-length-2
-same-length-2 c = search needs
 
 returns : tie.Need-returns
 returns c =
@@ -39,26 +27,8 @@ returns c =
     (transfers-round (a .p) (a .shared) (a .lines) (a .limit) (a .done) m (c .before .before .before .before .before .before .before .before .before .before .before .before .before .before .before .pre .0) (c .before .before .before .before .before .before .before .before .before .before .before .before .before .before .before .pre .1) (c .before .before .before .before .before .before .before .before .before .before .before .before .before .before .before .pre .2) (sym (c .before .before .before .before .before .before .before .before .before .transferring .ensures) ∙ c .before .before .before .before .before .before .before .before .if1 .taken) (b .number) (b .steps) (b .channel) _
     (c .before .before .before .before .before .transfers .ensures ∙ ap (λ (n : ℕ). burstFrom moves transfersOn (n - a .done) (a .p .mine) m (a .done)) (c .before .before .before .before .before .before .before .before .before .before .stop-at .ensures)))
 
-state-requires : tie.Need-state-requires
-state-requires c κs = search needs
-
-block-requires : tie.Need-block-requires
-block-requires c κs = search needs
-
-sum20-requires : tie.Need-sum20-requires
-sum20-requires c κs = search needs
-
 instructions-requires : tie.Need-instructions-requires
 instructions-requires c κs = rw (c .before .before .before .before .before .before .before .stop-at .ensures) (until-later (c .before .before .before .before .before .before .before .before .before .before .before .before .args .p .other .mode) (c .before .before .before .before .before .before .before .before .before .before .before .before .args .done) (c .before .before .before .before .before .before .before .before .before .before .before .before .args .limit) (c .before .before .before .before .before .before .before .before .before .before .before .before .pre .0))
-
-after-requires-2 : tie.Need-after-requires-2
-after-requires-2 c κs = search needs
-
-same-length-3 : tie.Need-same-length-3
-same-length-3 c = search needs
-
-same-length-4 : tie.Need-same-length-4
-same-length-4 c = search needs
 
 returns-2 : tie.Need-returns-2
 unfolding busyIn
@@ -75,19 +45,6 @@ returns-2 c =
 pub own-steps-spec : {M : Type 1} → statement M
 own-steps-spec =
     tie.close
-    (tie.spec
-    stop-at-requires
-    transferring-requires
-    transfers-requires
-    after-requires
-    same-length
-    same-length-2
-    returns
-    state-requires
-    block-requires
-    sum20-requires
-    instructions-requires
-    after-requires-2
-    same-length-3
-    same-length-4
-    returns-2)
+    (tie.spec stop-at-requires (λ c κs. search needs) transfers-requires (λ c κs. search needs) (λ c. search needs) (λ c. search needs) returns
+    (λ c κs. search needs) (λ c κs. search needs) (λ c κs. search needs) instructions-requires (λ c κs. search needs) (λ c. search needs)
+    (λ c. search needs) returns-2)

@@ -6,12 +6,6 @@ use Rattle.panel.specs.Bursts.{untilOf}
 use Rattle.panel.proofs.bursts.stop_at.Statement.{statement}
 use Rattle.panel.proofs.bursts.stop_at.Tie as tie
 
-is-running-requires : tie.Need-is-running-requires
-is-running-requires c κs = search needs
-
-add-result : tie.Need-add-result
-add-result c = search needs
-
 returns : tie.Need-returns
 unfolding untilOf
 returns c = rw (sym (c .before .is-running .ensures) ∙ c .if1 .taken)
@@ -21,4 +15,4 @@ unfolding untilOf
 returns-2 c = rw (sym (c .before .is-running .ensures) ∙ c .if1 .left)
 
 pub stop-at-spec : {M : Type 1} → statement M
-stop-at-spec = tie.close (tie.spec is-running-requires add-result returns returns-2)
+stop-at-spec = tie.close (tie.spec (λ c κs. search needs) (λ c. search needs) returns returns-2)

@@ -45,26 +45,14 @@ Inv-loop sys₀ io₀ from stop mine₀ done₀ sys io mine done =
 abbrev μ-loop : tie.MeasureT-loop
 μ-loop sys₀ io₀ from stop mine₀ done₀ sys io mine done = stop - done
 
-is-half-requires : tie.Need-is-half-requires Inv-loop μ-loop
-is-half-requires c κs = search needs
-
 half-row-requires : tie.Need-half-row-requires Inv-loop μ-loop
 half-row-requires c κs = (c .before .before .before .before .before .before .pre, sym (c .before .before .before .is-half .ensures) ∙ c .before .before .if1 .taken)
-
-same-length : tie.Need-same-length Inv-loop μ-loop
-same-length c = search needs
-
-same-length-2 : tie.Need-same-length-2 Inv-loop μ-loop
-same-length-2 c = search needs
 
 returns : tie.Need-returns Inv-loop μ-loop
 returns c = c .before .before .before .before .half-row .ensures
 
 loop-holds : tie.Need-loop-holds Inv-loop μ-loop
 loop-holds c = (omega (arith, c .before .before .before .before .pre), refl, refl, sym (c .before .is-half .ensures) ∙ c .if1 .left, refl)
-
-whole-requires : tie.Need-whole-requires Inv-loop μ-loop
-whole-requires c κs = search needs
 
 same-length-3 : tie.Need-same-length-3 Inv-loop μ-loop
 same-length-3 c = c .before .before .before .before .before .before .whole .kept .1 .0 ∙ c .before .before .before .before .before .before .before .before .before .before .loop .inv .1
@@ -84,12 +72,6 @@ returns-2 c =
 
 add-done : tie.Need-add-done Inv-loop μ-loop
 add-done c = omega (arith, c .before .before .before .before .before .before .before .before .before .before .loop-test .taken, c .before .before .before .before .before .before .before .before .before .before .before .before .before .before .before .before .fits .stop .fits)
-
-transferring-requires : tie.Need-transferring-requires Inv-loop μ-loop
-transferring-requires c κs = search needs
-
-is-half-requires-2 : tie.Need-is-half-requires-2 Inv-loop μ-loop
-is-half-requires-2 c κs = search needs
 
 same-length-5 : tie.Need-same-length-5 Inv-loop μ-loop
 same-length-5 c = c .before .before .before .before .before .before .before .before .before .before .whole .kept .1 .0 ∙ c .before .before .before .before .before .before .before .before .before .before .before .before .before .before .loop .inv .1
@@ -147,27 +129,6 @@ returns-4 c =
 pub transfers-spec : {M : Type 1} → statement M
 transfers-spec =
     tie.close
-    (tie.spec
-    Inv-loop
-    μ-loop
-    is-half-requires
-    half-row-requires
-    same-length
-    same-length-2
-    returns
-    loop-holds
-    whole-requires
-    same-length-3
-    same-length-4
-    returns-2
-    add-done
-    transferring-requires
-    is-half-requires-2
-    same-length-5
-    same-length-6
-    returns-3
-    loop-less
-    loop-again
-    same-length-7
-    same-length-8
-    returns-4)
+    (tie.spec Inv-loop μ-loop (λ c κs. search needs) half-row-requires (λ c. search needs) (λ c. search needs) returns loop-holds
+    (λ c κs. search needs) same-length-3 same-length-4 returns-2 add-done (λ c κs. search needs) (λ c κs. search needs) same-length-5 same-length-6
+    returns-3 loop-less loop-again same-length-7 same-length-8 returns-4)

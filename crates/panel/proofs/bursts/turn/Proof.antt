@@ -13,35 +13,8 @@ use Rattle.panel.proofs.RoundLaws.{turned-is, turned-named, turned-roun
 use Rattle.panel.proofs.bursts.turn.Statement.{statement}
 use Rattle.panel.proofs.bursts.turn.Tie as tie
 
-state-requires : tie.Need-state-requires
-state-requires c κs = search needs
-
-choose-requires : tie.Need-choose-requires
-choose-requires c κs = search needs
-
-enum-told : tie.Need-enum-told
-enum-told c = search needs
-
-enum-known-choice : tie.Need-enum-known-choice
-enum-known-choice c = search needs
-
-turned-requires : tie.Need-turned-requires
-turned-requires c κs = search needs
-
-external-end-requires : tie.Need-external-end-requires
-external-end-requires c κs = search needs
-
 add-t15 : tie.Need-add-t15
 add-t15 c = omega (arith, c .before .before .before .before .before .before .before .before .before .pre .0, c .before .before .before .before .before .before .before .before .before .fits .limit .fits)
-
-after-requires : tie.Need-after-requires
-after-requires c κs = search needs
-
-enum-known-choice-2 : tie.Need-enum-known-choice-2
-enum-known-choice-2 c = search needs
-
-turned-requires-2 : tie.Need-turned-requires-2
-turned-requires-2 c κs = search needs
 
 own-steps-requires : tie.Need-own-steps-requires
 own-steps-requires c κs =
@@ -71,12 +44,6 @@ returns-2 c =
     (sym (c .before .before .before .before .before .before .choose .ensures ∙ ap (λ (x : State). choiceOf x (a .lines)) (c .before .before .before .before .before .before .before .state .ensures)) ∙ c .before .before .before .before .choice .given .1)
     (c .before .before .turned .ensures) (c .before .external-end .result) (c .before .external-end .ensures) (c .after .result) (c .after .ensures)
 
-same-length : tie.Need-same-length
-same-length c = search needs
-
-same-length-2 : tie.Need-same-length-2
-same-length-2 c = search needs
-
 returns-3 : tie.Need-returns-3
 returns-3 c =
     let a = c .before .before .before .before .before .before .before .before .before .before .before .before .before .before .before .args in
@@ -85,20 +52,6 @@ returns-3 c =
 pub turn-spec : {M : Type 1} → statement M
 turn-spec =
     tie.close
-    (tie.spec
-    state-requires
-    choose-requires
-    enum-told
-    enum-known-choice
-    turned-requires
-    external-end-requires
-    add-t15
-    after-requires
-    enum-known-choice-2
-    turned-requires-2
-    own-steps-requires
-    returns
-    returns-2
-    same-length
-    same-length-2
-    returns-3)
+    (tie.spec (λ c κs. search needs) (λ c κs. search needs) (λ c. search needs) (λ c. search needs) (λ c κs. search needs) (λ c κs. search needs)
+    add-t15 (λ c κs. search needs) (λ c. search needs) (λ c κs. search needs) own-steps-requires returns returns-2 (λ c. search needs)
+    (λ c. search needs) returns-3)

@@ -24,9 +24,6 @@ loop-holds c = (omega arith, refl)
 shared-slice-read-digest-byte : tie.Need-shared-slice-read-digest-byte Inv-loop μ-loop
 shared-slice-read-digest-byte c = omega arith
 
-digest-byte-requires : tie.Need-digest-byte-requires Inv-loop μ-loop
-digest-byte-requires c κs = search needs
-
 add-i : tie.Need-add-i Inv-loop μ-loop
 add-i c = omega arith
 
@@ -48,13 +45,4 @@ returns c =
 pub digest-spec : {M : Type 1} → statement M
 digest-spec =
     tie.close
-    (tie.spec
-    Inv-loop
-    μ-loop
-    loop-holds
-    shared-slice-read-digest-byte
-    digest-byte-requires
-    add-i
-    loop-less
-    loop-again
-    returns)
+    (tie.spec Inv-loop μ-loop loop-holds shared-slice-read-digest-byte (λ c κs. search needs) add-i loop-less loop-again returns)

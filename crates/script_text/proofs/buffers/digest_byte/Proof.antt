@@ -14,12 +14,9 @@ cast-result c = omega (arith, xor-lt 32 (c .args .d) (c .args .b) (omega arith) 
 mul-result : tie.Need-mul-result
 mul-result c = omega (arith, xor-lt 32 (c .args .d) (c .args .b) (omega arith) (omega arith))
 
-cast-result-2 : tie.Need-cast-result-2
-cast-result-2 c = search needs
-
 returns : tie.Need-returns
 unfolding digestByte
 returns c = refl
 
 pub digest-byte-spec : {M : Type 1} → statement M
-digest-byte-spec = tie.close (tie.spec cast-result mul-result cast-result-2 returns)
+digest-byte-spec = tie.close (tie.spec cast-result mul-result (λ c. search needs) returns)

@@ -54,9 +54,6 @@ add-byte c = omega arith
 shared-slice-read-byte-2 : tie.Need-shared-slice-read-byte-2 Inv-loop μ-loop
 shared-slice-read-byte-2 c = omega arith
 
-byte-requires : tie.Need-byte-requires Inv-loop μ-loop
-byte-requires c κs = search needs
-
 add-s : tie.Need-add-s Inv-loop μ-loop
 add-s c = omega arith
 
@@ -97,23 +94,5 @@ returns-3 c =
 pub put-spec : {M : Type 1} → statement M
 put-spec =
     tie.close
-    (tie.spec
-    Inv-loop
-    μ-loop
-    returns
-    sub-if2
-    returns-2
-    loop-holds
-    mul-byte
-    shared-slice-read-byte
-    mul-byte-2
-    add-byte
-    shared-slice-read-byte-2
-    byte-requires
-    add-s
-    slice-write-s
-    add-i
-    loop-less
-    loop-again
-    same-length
-    returns-3)
+    (tie.spec Inv-loop μ-loop returns sub-if2 returns-2 loop-holds mul-byte shared-slice-read-byte mul-byte-2 add-byte shared-slice-read-byte-2
+    (λ c κs. search needs) add-s slice-write-s add-i loop-less loop-again same-length returns-3)

@@ -6,15 +6,6 @@ use borrow.Author.Needs.{needs}
 use Rattle.script_text.proofs.registers.fits.Statement.{statement}
 use Rattle.script_text.proofs.registers.fits.Tie as tie
 
-fits-shared-requires : tie.Need-fits-shared-requires
-fits-shared-requires c κs = search needs
-
-fits-own-requires : tie.Need-fits-own-requires
-fits-own-requires c κs = search needs
-
-fits-own-requires-2 : tie.Need-fits-own-requires-2
-fits-own-requires-2 c κs = search needs
-
 returns : tie.Need-returns
 unfolding fitsRegister
 returns c = simp (c .fits-shared .ensures, c .before .match .keys1)
@@ -34,11 +25,4 @@ returns-4 c = simp (ne-eqb _ _ (c .match .rest .1), ne-eqb _ _ (c .match .rest .
 pub fits-spec : {M : Type 1} → statement M
 fits-spec =
     tie.close
-    (tie.spec
-    fits-shared-requires
-    fits-own-requires
-    fits-own-requires-2
-    returns
-    returns-2
-    returns-3
-    returns-4)
+    (tie.spec (λ c κs. search needs) (λ c κs. search needs) (λ c κs. search needs) returns returns-2 returns-3 returns-4)

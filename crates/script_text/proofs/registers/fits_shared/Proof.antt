@@ -6,9 +6,6 @@ use borrow.Author.Tests.{ne-eqb}
 use Rattle.script_text.proofs.registers.fits_shared.Statement.{statement}
 use Rattle.script_text.proofs.registers.fits_shared.Tie as tie
 
-is-board-mark-requires : tie.Need-is-board-mark-requires
-is-board-mark-requires c κs = search needs
-
 returns : tie.Need-returns
 unfolding fitsShared
 returns c = simp (c .match .keys1)
@@ -22,4 +19,4 @@ unfolding fitsShared
 returns-3 c = simp (c .is-board-mark .ensures, ne-eqb _ _ (c .before .match .rest .1), ne-eqb _ _ (c .before .match .rest .0 .1))
 
 pub fits-shared-spec : {M : Type 1} → statement M
-fits-shared-spec = tie.close (tie.spec is-board-mark-requires returns returns-2 returns-3)
+fits-shared-spec = tie.close (tie.spec (λ c κs. search needs) returns returns-2 returns-3)

@@ -6,15 +6,9 @@ use borrow.Author.Needs.{needs}
 use Rattle.script_text.proofs.registers.with_mode.Statement.{statement}
 use Rattle.script_text.proofs.registers.with_mode.Tie as tie
 
-mode-of-requires : tie.Need-mode-of-requires
-mode-of-requires c κs = search needs
-
-with-control-requires : tie.Need-with-control-requires
-with-control-requires c κs = search needs
-
 returns : tie.Need-returns
 unfolding withRaw pointerSet withControl
 returns c = simp (c .with-control .ensures, c .before .mode-of .ensures)
 
 pub with-mode-spec : {M : Type 1} → statement M
-with-mode-spec = tie.close (tie.spec mode-of-requires with-control-requires returns)
+with-mode-spec = tie.close (tie.spec (λ c κs. search needs) (λ c κs. search needs) returns)

@@ -6,51 +6,9 @@ use borrow.Author.Needs.{needs}
 use Rattle.script_text.proofs.registers.with_raw.Statement.{statement}
 use Rattle.script_text.proofs.registers.with_raw.Tie as tie
 
-cast-w : tie.Need-cast-w
-cast-w c = search needs
-
-with-address-requires : tie.Need-with-address-requires
-with-address-requires c κs = search needs
-
-with-address-requires-2 : tie.Need-with-address-requires-2
-with-address-requires-2 c κs = search needs
-
-with-address-requires-3 : tie.Need-with-address-requires-3
-with-address-requires-3 c κs = search needs
-
-with-address-requires-4 : tie.Need-with-address-requires-4
-with-address-requires-4 c κs = search needs
-
-split-requires : tie.Need-split-requires
-split-requires c κs = search needs
-
-cast-next : tie.Need-cast-next
-cast-next c = search needs
-
-with-tag-requires : tie.Need-with-tag-requires
-with-tag-requires c κs = search needs
-
-with-tag-requires-2 : tie.Need-with-tag-requires-2
-with-tag-requires-2 c κs = search needs
-
-with-tag-requires-3 : tie.Need-with-tag-requires-3
-with-tag-requires-3 c κs = search needs
-
-with-tag-requires-4 : tie.Need-with-tag-requires-4
-with-tag-requires-4 c κs = search needs
-
-with-mode-requires : tie.Need-with-mode-requires
-with-mode-requires c κs = search needs
-
 returns : tie.Need-returns
 unfolding withRaw pointerSet
 returns c = simp (c .with-mode .ensures, c .before .match .keys17)
-
-from-requires : tie.Need-from-requires
-from-requires c κs = search needs
-
-holds-requires : tie.Need-holds-requires
-holds-requires c κs = search needs
 
 returns-2 : tie.Need-returns-2
 unfolding withRaw pointerSet
@@ -127,37 +85,7 @@ returns-19 c = simp (ne-eqb _ _ (c .match .rest .1), ne-eqb _ _ (c .match .rest 
 pub with-raw-spec : {M : Type 1} → statement M
 with-raw-spec =
     tie.close
-    (tie.spec
-    cast-w
-    with-address-requires
-    with-address-requires-2
-    with-address-requires-3
-    with-address-requires-4
-    split-requires
-    cast-next
-    with-tag-requires
-    with-tag-requires-2
-    with-tag-requires-3
-    with-tag-requires-4
-    with-mode-requires
-    returns
-    from-requires
-    holds-requires
-    returns-2
-    returns-3
-    returns-4
-    returns-5
-    returns-6
-    returns-7
-    returns-8
-    returns-9
-    returns-10
-    returns-11
-    returns-12
-    returns-13
-    returns-14
-    returns-15
-    returns-16
-    returns-17
-    returns-18
-    returns-19)
+    (tie.spec (λ c. search needs) (λ c κs. search needs) (λ c κs. search needs) (λ c κs. search needs) (λ c κs. search needs) (λ c κs. search needs)
+    (λ c. search needs) (λ c κs. search needs) (λ c κs. search needs) (λ c κs. search needs) (λ c κs. search needs) (λ c κs. search needs) returns
+    (λ c κs. search needs) (λ c κs. search needs) returns-2 returns-3 returns-4 returns-5 returns-6 returns-7 returns-8 returns-9 returns-10
+    returns-11 returns-12 returns-13 returns-14 returns-15 returns-16 returns-17 returns-18 returns-19)

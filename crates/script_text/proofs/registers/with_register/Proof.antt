@@ -6,24 +6,9 @@ use borrow.Author.Needs.{needs}
 use Rattle.script_text.proofs.registers.with_register.Statement.{statement}
 use Rattle.script_text.proofs.registers.with_register.Tie as tie
 
-with-shared-requires : tie.Need-with-shared-requires
-with-shared-requires c κs = search needs
-
 returns : tie.Need-returns
 unfolding withNamed
 returns c = simp (c .with-shared .ensures, c .before .if1 .taken, eq-eqb _ _ (c .before .if1 .taken))
-
-is-second-requires : tie.Need-is-second-requires
-is-second-requires c κs = search needs
-
-channel-requires : tie.Need-channel-requires
-channel-requires c κs = search needs
-
-with-raw-requires : tie.Need-with-raw-requires
-with-raw-requires c κs = search needs
-
-with-channel-requires : tie.Need-with-channel-requires
-with-channel-requires c κs = search needs
 
 returns-2 : tie.Need-returns-2
 unfolding withNamed
@@ -32,11 +17,4 @@ returns-2 c = simp (c .with-channel .ensures, c .before .with-raw .ensures, c .b
 pub with-register-spec : {M : Type 1} → statement M
 with-register-spec =
     tie.close
-    (tie.spec
-    with-shared-requires
-    returns
-    is-second-requires
-    channel-requires
-    with-raw-requires
-    with-channel-requires
-    returns-2)
+    (tie.spec (λ c κs. search needs) returns (λ c κs. search needs) (λ c κs. search needs) (λ c κs. search needs) (λ c κs. search needs) returns-2)

@@ -6,9 +6,6 @@ use borrow.Author.Tests.{ne-eqb}
 use Rattle.script_text.proofs.registers.with_shared.Statement.{statement}
 use Rattle.script_text.proofs.registers.with_shared.Tie as tie
 
-with-mark-requires : tie.Need-with-mark-requires
-with-mark-requires c κs = search needs
-
 returns : tie.Need-returns
 unfolding withShared boardMarked
 returns c = simp (c .match .keys1)
@@ -22,4 +19,4 @@ unfolding withShared
 returns-3 c = simp (c .with-mark .ensures, ne-eqb _ _ (c .before .match .rest .1), ne-eqb _ _ (c .before .match .rest .0 .1))
 
 pub with-shared-spec : {M : Type 1} → statement M
-with-shared-spec = tie.close (tie.spec with-mark-requires returns returns-2 returns-3)
+with-shared-spec = tie.close (tie.spec (λ c κs. search needs) returns returns-2 returns-3)

@@ -6,42 +6,6 @@ use borrow.Author.Needs.{needs}
 use Rattle.script_text.proofs.text.call_from.Statement.{statement}
 use Rattle.script_text.proofs.text.call_from.Tie as tie
 
-make-call-requires : tie.Need-make-call-requires
-make-call-requires c κs = search needs
-
-put-call-requires : tie.Need-put-call-requires
-put-call-requires c κs = search needs
-
-set-call-requires : tie.Need-set-call-requires
-set-call-requires c κs = search needs
-
-attention-call-requires : tie.Need-attention-call-requires
-attention-call-requires c κs = search needs
-
-step-call-requires : tie.Need-step-call-requires
-step-call-requires c κs = search needs
-
-bare-call-requires : tie.Need-bare-call-requires
-bare-call-requires c κs = search needs
-
-show-call-requires : tie.Need-show-call-requires
-show-call-requires c κs = search needs
-
-list-call-requires : tie.Need-list-call-requires
-list-call-requires c κs = search needs
-
-bare-call-requires-2 : tie.Need-bare-call-requires-2
-bare-call-requires-2 c κs = search needs
-
-bare-call-requires-3 : tie.Need-bare-call-requires-3
-bare-call-requires-3 c κs = search needs
-
-bare-call-requires-4 : tie.Need-bare-call-requires-4
-bare-call-requires-4 c κs = search needs
-
-sweep-call-requires : tie.Need-sweep-call-requires
-sweep-call-requires c κs = search needs
-
 returns : tie.Need-returns
 unfolding callFrom
 returns c = simp (c .match .keys1)
@@ -101,30 +65,7 @@ returns-14 c = simp (ne-eqb _ _ (c .match .rest .1), ne-eqb _ _ (c .match .rest 
 pub call-from-spec : {M : Type 1} → statement M
 call-from-spec =
     tie.close
-    (tie.spec
-    make-call-requires
-    put-call-requires
-    set-call-requires
-    attention-call-requires
-    step-call-requires
-    bare-call-requires
-    show-call-requires
-    list-call-requires
-    bare-call-requires-2
-    bare-call-requires-3
-    bare-call-requires-4
-    sweep-call-requires
-    returns
-    returns-2
-    returns-3
-    returns-4
-    returns-5
-    returns-6
-    returns-7
-    returns-8
-    returns-9
-    returns-10
-    returns-11
-    returns-12
-    returns-13
-    returns-14)
+    (tie.spec (λ c κs. search needs) (λ c κs. search needs) (λ c κs. search needs) (λ c κs. search needs) (λ c κs. search needs)
+    (λ c κs. search needs) (λ c κs. search needs) (λ c κs. search needs) (λ c κs. search needs) (λ c κs. search needs) (λ c κs. search needs)
+    (λ c κs. search needs) returns returns-2 returns-3 returns-4 returns-5 returns-6 returns-7 returns-8 returns-9 returns-10 returns-11 returns-12
+    returns-13 returns-14)

@@ -7,18 +7,9 @@ use Rattle.script_text.specs.Calls.{callOf}
 use Rattle.script_text.proofs.text.call_of.Statement.{statement}
 use Rattle.script_text.proofs.text.call_of.Tie as tie
 
-first-byte-requires : tie.Need-first-byte-requires
-first-byte-requires c κs = search needs
-
 returns : tie.Need-returns
 unfolding callOf
 returns c = simp (eq-eqb _ _ (sym (c .before .first-byte .ensures) ∙ c .if1 .taken))
-
-words-of-requires : tie.Need-words-of-requires
-words-of-requires c κs = search needs
-
-call-from-requires : tie.Need-call-from-requires
-call-from-requires c κs = search needs
 
 returns-2 : tie.Need-returns-2
 unfolding callOf
@@ -26,4 +17,4 @@ returns-2 c = simp (c .call-from .ensures, c .before .words-of .ensures, ne-eqb 
 
 pub call-of-spec : {M : Type 1} → statement M
 call-of-spec =
-    tie.close (tie.spec first-byte-requires returns words-of-requires call-from-requires returns-2)
+    tie.close (tie.spec (λ c κs. search needs) returns (λ c κs. search needs) (λ c κs. search needs) returns-2)

@@ -18,9 +18,6 @@ returns-3 : tie.Need-returns-3
 unfolding digitOf
 returns-3 c = simp (lt-ltb _ _ (c .if3 .taken), lt-leb _ _ (c .if3 .taken), le-ltb _ _ (c .before .if2 .left), le-leb _ _ (c .before .if2 .left), le-ltb _ _ (c .before .before .if1 .left), le-leb _ _ (c .before .before .if1 .left))
 
-sub-result : tie.Need-sub-result
-sub-result c = search needs
-
 returns-4 : tie.Need-returns-4
 unfolding digitOf
 returns-4 c = simp (lt-ltb _ _ (c .if4 .taken), lt-leb _ _ (c .if4 .taken), le-ltb _ _ (c .before .if3 .left), le-leb _ _ (c .before .if3 .left), le-ltb _ _ (c .before .before .if2 .left), le-leb _ _ (c .before .before .if2 .left), le-ltb _ _ (c .before .before .before .if1 .left), le-leb _ _ (c .before .before .before .if1 .left))
@@ -28,9 +25,6 @@ returns-4 c = simp (lt-ltb _ _ (c .if4 .taken), lt-leb _ _ (c .if4 .taken), le-l
 returns-5 : tie.Need-returns-5
 unfolding digitOf
 returns-5 c = simp (lt-ltb _ _ (c .if5 .taken), lt-leb _ _ (c .if5 .taken), le-ltb _ _ (c .before .if4 .left), le-leb _ _ (c .before .if4 .left), le-ltb _ _ (c .before .before .if3 .left), le-leb _ _ (c .before .before .if3 .left), le-ltb _ _ (c .before .before .before .if2 .left), le-leb _ _ (c .before .before .before .if2 .left), le-ltb _ _ (c .before .before .before .before .if1 .left), le-leb _ _ (c .before .before .before .before .if1 .left))
-
-sub-result-2 : tie.Need-sub-result-2
-sub-result-2 c = search needs
 
 returns-6 : tie.Need-returns-6
 unfolding digitOf
@@ -43,13 +37,4 @@ returns-7 c = simp (le-ltb _ _ (c .if6 .left), le-leb _ _ (c .if6 .left), le-ltb
 pub digit-spec : {M : Type 1} → statement M
 digit-spec =
     tie.close
-    (tie.spec
-    returns
-    returns-2
-    returns-3
-    sub-result
-    returns-4
-    returns-5
-    sub-result-2
-    returns-6
-    returns-7)
+    (tie.spec returns returns-2 returns-3 (λ c. search needs) returns-4 returns-5 (λ c. search needs) returns-6 returns-7)

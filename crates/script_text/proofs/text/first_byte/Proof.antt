@@ -7,14 +7,8 @@ use mathlib.Core.Path.{sym}
 use Rattle.script_text.proofs.text.first_byte.Statement.{statement}
 use Rattle.script_text.proofs.text.first_byte.Tie as tie
 
-shared-slice-read-result : tie.Need-shared-slice-read-result
-shared-slice-read-result c = search needs
-
-returns : tie.Need-returns
-returns c = search needs
-
 returns-2 : tie.Need-returns-2
 returns-2 c = sym (List·getD-eq-default (now (c .before .args .line)) 0 (c .if1 .left))
 
 pub first-byte-spec : {M : Type 1} → statement M
-first-byte-spec = tie.close (tie.spec shared-slice-read-result returns returns-2)
+first-byte-spec = tie.close (tie.spec (λ c. search needs) (λ c. search needs) returns-2)

@@ -5,18 +5,6 @@ use Rattle.script_text.specs.Text.{fourthSpan}
 use Rattle.script_text.proofs.text.fourth_word.Statement.{statement}
 use Rattle.script_text.proofs.text.fourth_word.Tie as tie
 
-span-at-requires : tie.Need-span-at-requires
-span-at-requires c κs = search needs
-
-span-at-requires-2 : tie.Need-span-at-requires-2
-span-at-requires-2 c κs = search needs
-
-span-at-requires-3 : tie.Need-span-at-requires-3
-span-at-requires-3 c κs = search needs
-
-span-at-requires-4 : tie.Need-span-at-requires-4
-span-at-requires-4 c κs = search needs
-
 returns : tie.Need-returns
 unfolding fourthSpan
 returns c = (simp (c .span-at4 .ensures .0, c .before .span-at3 .ensures .0, c .before .before .span-at2 .ensures .0, c .before .before .before .span-at .ensures .0), c .span-at4 .ensures .1)
@@ -24,4 +12,4 @@ returns c = (simp (c .span-at4 .ensures .0, c .before .span-at3 .ensures .0, c .
 pub fourth-word-spec : {M : Type 1} → statement M
 fourth-word-spec =
     tie.close
-    (tie.spec span-at-requires span-at-requires-2 span-at-requires-3 span-at-requires-4 returns)
+    (tie.spec (λ c κs. search needs) (λ c κs. search needs) (λ c κs. search needs) (λ c κs. search needs) returns)

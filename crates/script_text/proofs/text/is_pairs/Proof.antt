@@ -5,12 +5,9 @@ use Rattle.script_text.specs.Text.{isPairs}
 use Rattle.script_text.proofs.text.is_pairs.Statement.{statement}
 use Rattle.script_text.proofs.text.is_pairs.Tie as tie
 
-all-digits-requires : tie.Need-all-digits-requires
-all-digits-requires c κs = search needs
-
 returns : tie.Need-returns
 unfolding isPairs
 returns c = simp (c .all-digits .ensures)
 
 pub is-pairs-spec : {M : Type 1} → statement M
-is-pairs-spec = tie.close (tie.spec all-digits-requires returns)
+is-pairs-spec = tie.close (tie.spec (λ c κs. search needs) returns)

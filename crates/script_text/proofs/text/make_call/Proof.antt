@@ -22,19 +22,10 @@ returns-4 : tie.Need-returns-4
 unfolding makeCall
 returns-4 c = simp (le-ltb _ _ (c .if4 .taken), le-leb _ _ (c .if4 .taken), le-ltb _ _ (c .before .if3 .left), le-leb _ _ (c .before .if3 .left), le-ltb _ _ (c .before .before .if2 .left), le-leb _ _ (c .before .before .if2 .left), c .before .before .before .if1 .left, eq-eqb _ _ (c .before .before .before .if1 .left))
 
-cast-t6 : tie.Need-cast-t6
-cast-t6 c = search needs
-
-cast-t7 : tie.Need-cast-t7
-cast-t7 c = search needs
-
-cast-t8 : tie.Need-cast-t8
-cast-t8 c = search needs
-
 returns-5 : tie.Need-returns-5
 unfolding makeCall
 returns-5 c = simp (lt-ltb _ _ (c .if4 .left), lt-leb _ _ (c .if4 .left), le-ltb _ _ (c .before .if3 .left), le-leb _ _ (c .before .if3 .left), le-ltb _ _ (c .before .before .if2 .left), le-leb _ _ (c .before .before .if2 .left), c .before .before .before .if1 .left, eq-eqb _ _ (c .before .before .before .if1 .left))
 
 pub make-call-spec : {M : Type 1} → statement M
 make-call-spec =
-    tie.close (tie.spec returns returns-2 returns-3 returns-4 cast-t6 cast-t7 cast-t8 returns-5)
+    tie.close (tie.spec returns returns-2 returns-3 returns-4 (λ c. search needs) (λ c. search needs) (λ c. search needs) returns-5)

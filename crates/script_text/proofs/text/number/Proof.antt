@@ -33,9 +33,6 @@ loop-holds c = (omega arith, lit< tt, refl)
 shared-slice-read-digit : tie.Need-shared-slice-read-digit Inv-loop μ-loop
 shared-slice-read-digit c = omega arith
 
-digit-requires : tie.Need-digit-requires Inv-loop μ-loop
-digit-requires c κs = search needs
-
 returns-3 : tie.Need-returns-3 Inv-loop μ-loop
 unfolding numeralOf
 returns-3 c =
@@ -76,19 +73,5 @@ returns-4 c =
 pub number-spec : {M : Type 1} → statement M
 number-spec =
     tie.close
-    (tie.spec
-    Inv-loop
-    μ-loop
-    returns
-    returns-2
-    loop-holds
-    shared-slice-read-digit
-    digit-requires
-    returns-3
-    mul-n
-    cast-n
-    add-n
-    add-i
-    loop-less
-    loop-again
-    returns-4)
+    (tie.spec Inv-loop μ-loop returns returns-2 loop-holds shared-slice-read-digit (λ c κs. search needs) returns-3 mul-n cast-n add-n add-i loop-less
+    loop-again returns-4)

@@ -22,12 +22,9 @@ returns-4 : tie.Need-returns-4
 unfolding putCall
 returns-4 c = simp (le-ltb _ _ (c .if4 .taken), le-leb _ _ (c .if4 .taken), lt-ltb _ _ (c .before .if3 .left), lt-leb _ _ (c .before .if3 .left), not-false (c .before .before .before .before .args .pairs) (c .before .before .if2 .left), c .before .before .before .if1 .left, eq-eqb _ _ (c .before .before .before .if1 .left))
 
-cast-t6 : tie.Need-cast-t6
-cast-t6 c = search needs
-
 returns-5 : tie.Need-returns-5
 unfolding putCall
 returns-5 c = simp (lt-ltb _ _ (c .if4 .left), lt-leb _ _ (c .if4 .left), lt-ltb _ _ (c .before .if3 .left), lt-leb _ _ (c .before .if3 .left), not-false (c .before .before .before .before .args .pairs) (c .before .before .if2 .left), c .before .before .before .if1 .left, eq-eqb _ _ (c .before .before .before .if1 .left))
 
 pub put-call-spec : {M : Type 1} → statement M
-put-call-spec = tie.close (tie.spec returns returns-2 returns-3 returns-4 cast-t6 returns-5)
+put-call-spec = tie.close (tie.spec returns returns-2 returns-3 returns-4 (λ c. search needs) returns-5)

@@ -19,24 +19,9 @@ returns-3 : tie.Need-returns-3
 unfolding setCall
 returns-3 c = simp (le-ltb _ _ (c .if3 .taken), le-leb _ _ (c .if3 .taken), lt-ltb _ _ (c .before .if2 .left), lt-leb _ _ (c .before .if2 .left), c .before .before .if1 .left, eq-eqb _ _ (c .before .before .if1 .left))
 
-cast-fits : tie.Need-cast-fits
-cast-fits c = search needs
-
-cast-fits-2 : tie.Need-cast-fits-2
-cast-fits-2 c = search needs
-
-fits-requires : tie.Need-fits-requires
-fits-requires c κs = search needs
-
 returns-4 : tie.Need-returns-4
 unfolding setCall
 returns-4 c = simp (sym (c .before .fits2 .ensures) ∙ not-true _ (c .if4 .taken), lt-ltb _ _ (c .before .before .if3 .left), lt-leb _ _ (c .before .before .if3 .left), lt-ltb _ _ (c .before .before .before .if2 .left), lt-leb _ _ (c .before .before .before .if2 .left), c .before .before .before .before .if1 .left, eq-eqb _ _ (c .before .before .before .before .if1 .left))
-
-cast-t6 : tie.Need-cast-t6
-cast-t6 c = search needs
-
-cast-t7 : tie.Need-cast-t7
-cast-t7 c = search needs
 
 returns-5 : tie.Need-returns-5
 unfolding setCall
@@ -45,14 +30,5 @@ returns-5 c = simp (sym (c .before .fits2 .ensures) ∙ not-false _ (c .if4 .lef
 pub set-call-spec : {M : Type 1} → statement M
 set-call-spec =
     tie.close
-    (tie.spec
-    returns
-    returns-2
-    returns-3
-    cast-fits
-    cast-fits-2
-    fits-requires
-    returns-4
-    cast-t6
-    cast-t7
-    returns-5)
+    (tie.spec returns returns-2 returns-3 (λ c. search needs) (λ c. search needs) (λ c κs. search needs) returns-4 (λ c. search needs)
+    (λ c. search needs) returns-5)

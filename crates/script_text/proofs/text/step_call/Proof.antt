@@ -14,12 +14,9 @@ returns-2 : tie.Need-returns-2
 unfolding stepCall
 returns-2 c = simp (le-ltb _ _ (c .if2 .taken), le-leb _ _ (c .if2 .taken), c .before .if1 .left, eq-eqb _ _ (c .before .if1 .left))
 
-cast-t4 : tie.Need-cast-t4
-cast-t4 c = search needs
-
 returns-3 : tie.Need-returns-3
 unfolding stepCall
 returns-3 c = simp (lt-ltb _ _ (c .if2 .left), lt-leb _ _ (c .if2 .left), c .before .if1 .left, eq-eqb _ _ (c .before .if1 .left))
 
 pub step-call-spec : {M : Type 1} → statement M
-step-call-spec = tie.close (tie.spec returns returns-2 cast-t4 returns-3)
+step-call-spec = tie.close (tie.spec returns returns-2 (λ c. search needs) returns-3)

@@ -18,15 +18,9 @@ returns-3 : tie.Need-returns-3
 unfolding sweepCall
 returns-3 c = simp (le-ltb _ _ (c .if3 .taken), le-leb _ _ (c .if3 .taken), lt-ltb _ _ (c .before .if2 .left), lt-leb _ _ (c .before .if2 .left), c .before .before .if1 .left, eq-eqb _ _ (c .before .before .if1 .left))
 
-cast-t5 : tie.Need-cast-t5
-cast-t5 c = search needs
-
-cast-t6 : tie.Need-cast-t6
-cast-t6 c = search needs
-
 returns-4 : tie.Need-returns-4
 unfolding sweepCall
 returns-4 c = simp (lt-ltb _ _ (c .if3 .left), lt-leb _ _ (c .if3 .left), lt-ltb _ _ (c .before .if2 .left), lt-leb _ _ (c .before .if2 .left), c .before .before .if1 .left, eq-eqb _ _ (c .before .before .if1 .left))
 
 pub sweep-call-spec : {M : Type 1} → statement M
-sweep-call-spec = tie.close (tie.spec returns returns-2 returns-3 cast-t5 cast-t6 returns-4)
+sweep-call-spec = tie.close (tie.spec returns returns-2 returns-3 (λ c. search needs) (λ c. search needs) returns-4)

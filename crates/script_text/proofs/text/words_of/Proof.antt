@@ -5,21 +5,6 @@ use Rattle.script_text.specs.Text.{wordsOf}
 use Rattle.script_text.proofs.text.words_of.Statement.{statement}
 use Rattle.script_text.proofs.text.words_of.Tie as tie
 
-word-at-requires : tie.Need-word-at-requires
-word-at-requires c κs = search needs
-
-word-at-requires-2 : tie.Need-word-at-requires-2
-word-at-requires-2 c κs = search needs
-
-word-at-requires-3 : tie.Need-word-at-requires-3
-word-at-requires-3 c κs = search needs
-
-word-at-requires-4 : tie.Need-word-at-requires-4
-word-at-requires-4 c κs = search needs
-
-word-at-requires-5 : tie.Need-word-at-requires-5
-word-at-requires-5 c κs = search needs
-
 returns : tie.Need-returns
 unfolding wordsOf
 returns c = simp (c .word-at5 .ensures .0, c .before .word-at4 .ensures .0, c .before .before .word-at3 .ensures .0, c .before .before .before .word-at2 .ensures .0, c .before .before .before .before .word-at .ensures .0)
@@ -27,10 +12,4 @@ returns c = simp (c .word-at5 .ensures .0, c .before .word-at4 .ensures .0, c .b
 pub words-of-spec : {M : Type 1} → statement M
 words-of-spec =
     tie.close
-    (tie.spec
-    word-at-requires
-    word-at-requires-2
-    word-at-requires-3
-    word-at-requires-4
-    word-at-requires-5
-    returns)
+    (tie.spec (λ c κs. search needs) (λ c κs. search needs) (λ c κs. search needs) (λ c κs. search needs) (λ c κs. search needs) returns)

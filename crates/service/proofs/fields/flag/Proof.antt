@@ -5,12 +5,9 @@ use Rattle.service.specs.Fields.{flagIn}
 use Rattle.service.proofs.fields.flag.Statement.{statement}
 use Rattle.service.proofs.fields.flag.Tie as tie
 
-byte-requires : tie.Need-byte-requires
-byte-requires c κs = search needs
-
 returns : tie.Need-returns
 unfolding flagIn
 returns c = rw (c .byte .ensures)
 
 pub flag-spec : {M : Type 1} → statement M
-flag-spec = tie.close (tie.spec byte-requires returns)
+flag-spec = tie.close (tie.spec (λ c κs. search needs) returns)

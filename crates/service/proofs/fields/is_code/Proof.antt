@@ -5,12 +5,9 @@ use Rattle.service.specs.Fields.{isCode}
 use Rattle.service.proofs.fields.is_code.Statement.{statement}
 use Rattle.service.proofs.fields.is_code.Tie as tie
 
-byte-requires : tie.Need-byte-requires
-byte-requires c κs = search needs
-
 returns : tie.Need-returns
 unfolding isCode
 returns c = rw (c .byte .ensures)
 
 pub is-code-spec : {M : Type 1} → statement M
-is-code-spec = tie.close (tie.spec byte-requires returns)
+is-code-spec = tie.close (tie.spec (λ c κs. search needs) returns)

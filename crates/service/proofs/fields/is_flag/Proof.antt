@@ -5,12 +5,9 @@ use Rattle.service.specs.Fields.{isFlag}
 use Rattle.service.proofs.fields.is_flag.Statement.{statement}
 use Rattle.service.proofs.fields.is_flag.Tie as tie
 
-byte-requires : tie.Need-byte-requires
-byte-requires c κs = search needs
-
 returns : tie.Need-returns
 unfolding isFlag
 returns c = rw (c .byte .ensures)
 
 pub is-flag-spec : {M : Type 1} → statement M
-is-flag-spec = tie.close (tie.spec byte-requires returns)
+is-flag-spec = tie.close (tie.spec (λ c κs. search needs) returns)

@@ -5,12 +5,9 @@ use Rattle.service.specs.Fields.{isMode}
 use Rattle.service.proofs.fields.is_mode.Statement.{statement}
 use Rattle.service.proofs.fields.is_mode.Tie as tie
 
-byte-requires : tie.Need-byte-requires
-byte-requires c κs = search needs
-
 returns : tie.Need-returns
 unfolding isMode
 returns c = rw (c .byte .ensures)
 
 pub is-mode-spec : {M : Type 1} → statement M
-is-mode-spec = tie.close (tie.spec byte-requires returns)
+is-mode-spec = tie.close (tie.spec (λ c κs. search needs) returns)

@@ -7,9 +7,6 @@ use Rattle.service.specs.Fields.{modeIn}
 use Rattle.service.proofs.fields.mode.Statement.{statement}
 use Rattle.service.proofs.fields.mode.Tie as tie
 
-byte-requires : tie.Need-byte-requires
-byte-requires c κs = search needs
-
 returns : tie.Need-returns
 unfolding modeIn
 returns c = rw (sym (c .before .byte .ensures) ∙ c .match .keys1)
@@ -23,4 +20,4 @@ unfolding modeIn
 returns-3 c = rw (← (c .before .byte .ensures), ne-eqb (c .before .byte .result) 0 (c .match .rest .0 .1), ne-eqb (c .before .byte .result) 1 (c .match .rest .1))
 
 pub mode-spec : {M : Type 1} → statement M
-mode-spec = tie.close (tie.spec byte-requires returns returns-2 returns-3)
+mode-spec = tie.close (tie.spec (λ c κs. search needs) returns returns-2 returns-3)

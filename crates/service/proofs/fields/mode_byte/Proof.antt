@@ -5,15 +5,6 @@ use Rattle.service.specs.Fields.{modeByte}
 use Rattle.service.proofs.fields.mode_byte.Statement.{statement}
 use Rattle.service.proofs.fields.mode_byte.Tie as tie
 
-enum-told : tie.Need-enum-told
-enum-told c = search needs
-
-enum-told-2 : tie.Need-enum-told-2
-enum-told-2 c = search needs
-
-enum-told-3 : tie.Need-enum-told-3
-enum-told-3 c = search needs
-
 returns : tie.Need-returns
 unfolding modeByte
 returns c = simp (c .enum-told .given .1, c .before .match .keys1)
@@ -27,4 +18,4 @@ unfolding modeByte
 returns-3 c = simp (c .enum-told3 .given .1, c .before .match .keys3)
 
 pub mode-byte-spec : {M : Type 1} → statement M
-mode-byte-spec = tie.close (tie.spec enum-told enum-told-2 enum-told-3 returns returns-2 returns-3)
+mode-byte-spec = tie.close (tie.spec (λ c. search needs) (λ c. search needs) (λ c. search needs) returns returns-2 returns-3)

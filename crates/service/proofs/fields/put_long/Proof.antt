@@ -11,24 +11,6 @@ use Rattle.service.proofs.SetsLaws.{sets-then}
 use Rattle.service.proofs.fields.put_long.Statement.{statement}
 use Rattle.service.proofs.fields.put_long.Tie as tie
 
-cast-put-word : tie.Need-cast-put-word
-cast-put-word c = search needs
-
-put-word-requires : tie.Need-put-word-requires
-put-word-requires c κs = search needs
-
-add-put-word : tie.Need-add-put-word
-add-put-word c = search needs
-
-cast-put-word-2 : tie.Need-cast-put-word-2
-cast-put-word-2 c = search needs
-
-put-word-requires-2 : tie.Need-put-word-requires-2
-put-word-requires-2 c κs = search needs
-
-same-length : tie.Need-same-length
-same-length c = search needs
-
 returns : tie.Need-returns
 unfolding littleEnd
 returns c =
@@ -41,11 +23,4 @@ returns c =
 pub put-long-spec : {M : Type 1} → statement M
 put-long-spec =
     tie.close
-    (tie.spec
-    cast-put-word
-    put-word-requires
-    add-put-word
-    cast-put-word-2
-    put-word-requires-2
-    same-length
-    returns)
+    (tie.spec (λ c. search needs) (λ c κs. search needs) (λ c. search needs) (λ c. search needs) (λ c κs. search needs) (λ c. search needs) returns)

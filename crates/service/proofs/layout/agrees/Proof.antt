@@ -7,24 +7,6 @@ use Rattle.service.proofs.AgreeLaws.{agrees-by}
 use Rattle.service.proofs.layout.agrees.Statement.{statement}
 use Rattle.service.proofs.layout.agrees.Tie as tie
 
-add-word : tie.Need-add-word
-add-word c = search needs
-
-word-requires : tie.Need-word-requires
-word-requires c κs = search needs
-
-add-joined-in : tie.Need-add-joined-in
-add-joined-in c = search needs
-
-joined-in-requires : tie.Need-joined-in-requires
-joined-in-requires c κs = search needs
-
-without-lock-requires : tie.Need-without-lock-requires
-without-lock-requires c κs = search needs
-
-cast-result : tie.Need-cast-result
-cast-result c = search needs
-
 returns : tie.Need-returns
 returns c =
     let a = c .before .before .before .before in
@@ -34,4 +16,4 @@ returns c =
 pub agrees-spec : {M : Type 1} → statement M
 agrees-spec =
     tie.close
-    (tie.spec add-word word-requires add-joined-in joined-in-requires without-lock-requires cast-result returns)
+    (tie.spec (λ c. search needs) (λ c κs. search needs) (λ c. search needs) (λ c κs. search needs) (λ c κs. search needs) (λ c. search needs) returns)

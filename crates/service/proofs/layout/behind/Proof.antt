@@ -13,17 +13,8 @@ product above values h k = mul-le-mul {n₂ = 16777216} {m₂ = 8} (omega arith)
 mul-result : tie.Need-mul-result
 mul-result c = let a = c .before in omega (arith, product (a .args .above) (a .args .values) (a .pre .0) (a .pre .1))
 
-byte-requires : tie.Need-byte-requires
-byte-requires c κs = search needs
-
-cast-result : tie.Need-cast-result
-cast-result c = search needs
-
 add-result : tie.Need-add-result
 add-result c = let a = c .before .before in omega (arith, product (a .args .above) (a .args .values) (a .pre .0) (a .pre .1))
 
-returns : tie.Need-returns
-returns c = search needs
-
 pub behind-spec : {M : Type 1} → statement M
-behind-spec = tie.close (tie.spec mul-result byte-requires cast-result add-result returns)
+behind-spec = tie.close (tie.spec mul-result (λ c κs. search needs) (λ c. search needs) add-result (λ c. search needs))

@@ -5,22 +5,10 @@ use Rattle.service.specs.Layout.{boardIn}
 use Rattle.service.proofs.layout.board_in.Statement.{statement}
 use Rattle.service.proofs.layout.board_in.Tie as tie
 
-flag-requires : tie.Need-flag-requires
-flag-requires c κs = search needs
-
-flag-requires-2 : tie.Need-flag-requires-2
-flag-requires-2 c κs = search needs
-
-flag-requires-3 : tie.Need-flag-requires-3
-flag-requires-3 c κs = search needs
-
-flag-requires-4 : tie.Need-flag-requires-4
-flag-requires-4 c κs = search needs
-
 returns : tie.Need-returns
 unfolding boardIn
 returns c = rw (c .flag4 .ensures, c .before .flag3 .ensures, c .before .before .flag2 .ensures, c .before .before .before .flag .ensures)
 
 pub board-in-spec : {M : Type 1} → statement M
 board-in-spec =
-    tie.close (tie.spec flag-requires flag-requires-2 flag-requires-3 flag-requires-4 returns)
+    tie.close (tie.spec (λ c κs. search needs) (λ c κs. search needs) (λ c κs. search needs) (λ c κs. search needs) returns)

@@ -7,9 +7,6 @@ use Rattle.service.proofs.TurnLaws.{block-inside, channel-at}
 use Rattle.service.proofs.layout.channel.Statement.{statement}
 use Rattle.service.proofs.layout.channel.Tie as tie
 
-block-at-requires : tie.Need-block-at-requires
-block-at-requires c κs = search needs
-
 channel-in-requires : tie.Need-channel-in-requires
 channel-in-requires c κs = rw (c .block-at .ensures) (block-inside _ (c .before .before .args .second) (c .before .before .pre))
 
@@ -17,4 +14,4 @@ returns : tie.Need-returns
 returns c = c .channel-in .ensures ∙ rw (c .before .block-at .ensures) (channel-at (now (c .before .before .before .args .bytes)) (c .before .before .before .args .second))
 
 pub channel-spec : {M : Type 1} → statement M
-channel-spec = tie.close (tie.spec block-at-requires channel-in-requires returns)
+channel-spec = tie.close (tie.spec (λ c κs. search needs) channel-in-requires returns)

@@ -11,45 +11,6 @@ use Rattle.service.proofs.SetsLaws.{sets-append}
 use Rattle.service.proofs.layout.put_channel.Statement.{statement}
 use Rattle.service.proofs.layout.put_channel.Tie as tie
 
-put-pointers-requires : tie.Need-put-pointers-requires
-put-pointers-requires c κs = search needs
-
-add-put-numbers : tie.Need-add-put-numbers
-add-put-numbers c = search needs
-
-put-numbers-requires : tie.Need-put-numbers-requires
-put-numbers-requires c κs = search needs
-
-add-put-marks : tie.Need-add-put-marks
-add-put-marks c = search needs
-
-put-marks-requires : tie.Need-put-marks-requires
-put-marks-requires c κs = search needs
-
-add-put-sides : tie.Need-add-put-sides
-add-put-sides c = search needs
-
-put-sides-requires : tie.Need-put-sides-requires
-put-sides-requires c κs = search needs
-
-add-put-ends : tie.Need-add-put-ends
-add-put-ends c = search needs
-
-put-ends-requires : tie.Need-put-ends-requires
-put-ends-requires c κs = search needs
-
-add-put-word : tie.Need-add-put-word
-add-put-word c = search needs
-
-number-requires : tie.Need-number-requires
-number-requires c κs = search needs
-
-put-word-requires : tie.Need-put-word-requires
-put-word-requires c κs = search needs
-
-same-length : tie.Need-same-length
-same-length c = search needs
-
 returns : tie.Need-returns
 unfolding channelBytes fieldsBytes heldBytes
 returns c =
@@ -61,18 +22,6 @@ returns c =
 pub put-channel-spec : {M : Type 1} → statement M
 put-channel-spec =
     tie.close
-    (tie.spec
-    put-pointers-requires
-    add-put-numbers
-    put-numbers-requires
-    add-put-marks
-    put-marks-requires
-    add-put-sides
-    put-sides-requires
-    add-put-ends
-    put-ends-requires
-    add-put-word
-    number-requires
-    put-word-requires
-    same-length
-    returns)
+    (tie.spec (λ c κs. search needs) (λ c. search needs) (λ c κs. search needs) (λ c. search needs) (λ c κs. search needs) (λ c. search needs)
+    (λ c κs. search needs) (λ c. search needs) (λ c κs. search needs) (λ c. search needs) (λ c κs. search needs) (λ c κs. search needs)
+    (λ c. search needs) returns)

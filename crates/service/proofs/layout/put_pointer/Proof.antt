@@ -8,21 +8,6 @@ use Rattle.service.proofs.SetsLaws.{sets-append}
 use Rattle.service.proofs.layout.put_pointer.Statement.{statement}
 use Rattle.service.proofs.layout.put_pointer.Tie as tie
 
-put-long-requires : tie.Need-put-long-requires
-put-long-requires c κs = search needs
-
-add-put : tie.Need-add-put
-add-put c = search needs
-
-flag-byte-requires : tie.Need-flag-byte-requires
-flag-byte-requires c κs = search needs
-
-put-requires : tie.Need-put-requires
-put-requires c κs = search needs
-
-same-length : tie.Need-same-length
-same-length c = search needs
-
 returns : tie.Need-returns
 unfolding pointerBytes
 returns c = c .before .before .put .ensures ∙ rw (c .before .before .before .flag-byte .ensures, c .before .before .before .before .before .before .before .put-long .ensures) (simp (sets-append, length-little))
@@ -30,4 +15,4 @@ returns c = c .before .before .put .ensures ∙ rw (c .before .before .before .f
 pub put-pointer-spec : {M : Type 1} → statement M
 put-pointer-spec =
     tie.close
-    (tie.spec put-long-requires add-put flag-byte-requires put-requires same-length returns)
+    (tie.spec (λ c κs. search needs) (λ c. search needs) (λ c κs. search needs) (λ c κs. search needs) (λ c. search needs) returns)

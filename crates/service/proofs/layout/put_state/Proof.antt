@@ -10,30 +10,6 @@ use Rattle.service.proofs.SetsLaws.{sets-append}
 use Rattle.service.proofs.layout.put_state.Statement.{statement}
 use Rattle.service.proofs.layout.put_state.Tie as tie
 
-put-requires : tie.Need-put-requires
-put-requires c κs = search needs
-
-put-long-requires : tie.Need-put-long-requires
-put-long-requires c κs = search needs
-
-flag-byte-requires : tie.Need-flag-byte-requires
-flag-byte-requires c κs = search needs
-
-put-requires-2 : tie.Need-put-requires-2
-put-requires-2 c κs = search needs
-
-put-board-requires : tie.Need-put-board-requires
-put-board-requires c κs = search needs
-
-put-channel-requires : tie.Need-put-channel-requires
-put-channel-requires c κs = search needs
-
-put-channel-requires-2 : tie.Need-put-channel-requires-2
-put-channel-requires-2 c κs = search needs
-
-same-length : tie.Need-same-length
-same-length c = search needs
-
 returns : tie.Need-returns
 unfolding bytesOf
 returns c = (
@@ -44,13 +20,5 @@ returns c = (
 pub put-state-spec : {M : Type 1} → statement M
 put-state-spec =
     tie.close
-    (tie.spec
-    put-requires
-    put-long-requires
-    flag-byte-requires
-    put-requires-2
-    put-board-requires
-    put-channel-requires
-    put-channel-requires-2
-    same-length
-    returns)
+    (tie.spec (λ c κs. search needs) (λ c κs. search needs) (λ c κs. search needs) (λ c κs. search needs) (λ c κs. search needs)
+    (λ c κs. search needs) (λ c κs. search needs) (λ c. search needs) returns)

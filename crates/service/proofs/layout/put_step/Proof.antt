@@ -9,22 +9,13 @@ use Rattle.service.proofs.TurnLaws.{block-inside, put-done}
 use Rattle.service.proofs.layout.put_step.Statement.{statement}
 use Rattle.service.proofs.layout.put_step.Tie as tie
 
-flag-byte-requires : tie.Need-flag-byte-requires
-flag-byte-requires c κs = search needs
-
 put-requires : tie.Need-put-requires
 put-requires c κs = rw (state-length (now (c .before .before .before .args .bytes)) (c .before .before .before .pre)) (omega arith)
-
-block-at-requires : tie.Need-block-at-requires
-block-at-requires c κs = search needs
 
 put-channel-requires : tie.Need-put-channel-requires
 put-channel-requires c κs =
     rw (c .block-at .ensures)
     (block-inside _ (c .before .before .before .before .before .before .before .before .args .second) (c .before .before .before .before .put .kept .0 ∙ state-length (now (c .before .before .before .before .before .before .before .before .args .bytes)) (c .before .before .before .before .before .before .before .before .pre)))
-
-same-length : tie.Need-same-length
-same-length c = search needs
 
 returns : tie.Need-returns
 returns c =
@@ -35,10 +26,4 @@ returns c =
 pub put-step-spec : {M : Type 1} → statement M
 put-step-spec =
     tie.close
-    (tie.spec
-    flag-byte-requires
-    put-requires
-    block-at-requires
-    put-channel-requires
-    same-length
-    returns)
+    (tie.spec (λ c κs. search needs) put-requires (λ c κs. search needs) put-channel-requires (λ c. search needs) returns)

@@ -6,16 +6,10 @@ use Rattle.step.specs.Choosing.{endsNow}
 use Rattle.step.proofs.turns.ends_now.Statement.{statement}
 use Rattle.step.proofs.turns.ends_now.Tie as tie
 
-is-running-requires : tie.Need-is-running-requires
-is-running-requires c κs = search needs
-
-transferring-requires : tie.Need-transferring-requires
-transferring-requires c κs = search needs
-
 returns : tie.Need-returns
 unfolding endsNow
 returns c = simp (c .before .transferring .ensures, c .before .before .is-running .ensures)
 
 pub ends-now-spec : {M : Type 1} → statement M
 ends-now-spec =
-    tie.close (tie.spec is-running-requires transferring-requires returns)
+    tie.close (tie.spec (λ c κs. search needs) (λ c κs. search needs) returns)

@@ -5,12 +5,6 @@ use Rattle.step.specs.Choosing.{external}
 use Rattle.step.proofs.turns.external.Statement.{statement}
 use Rattle.step.proofs.turns.external.Tie as tie
 
-bit-requires : tie.Need-bit-requires
-bit-requires c κs = search needs
-
-bit-requires-2 : tie.Need-bit-requires-2
-bit-requires-2 c κs = search needs
-
 returns : tie.Need-returns
 unfolding external
 returns c = simp (c .bit .ensures, c .before .if1 .taken)
@@ -20,4 +14,4 @@ unfolding external
 returns-2 c = simp (c .bit2 .ensures, c .before .if1 .left)
 
 pub external-spec : {M : Type 1} → statement M
-external-spec = tie.close (tie.spec bit-requires bit-requires-2 returns returns-2)
+external-spec = tie.close (tie.spec (λ c κs. search needs) (λ c κs. search needs) returns returns-2)

@@ -8,18 +8,9 @@ use Rattle.step.specs.Choosing.{rankOf}
 use Rattle.step.proofs.turns.rank.Statement.{statement}
 use Rattle.step.proofs.turns.rank.Tie as tie
 
-is-running-requires : tie.Need-is-running-requires
-is-running-requires c κs = search needs
-
 returns : tie.Need-returns
 unfolding rankOf
 returns c = simp (sym (c .before .is-running .ensures) ∙ not-true _ (c .if1 .taken))
-
-transferring-requires : tie.Need-transferring-requires
-transferring-requires c κs = search needs
-
-transfer-rank-requires : tie.Need-transfer-rank-requires
-transfer-rank-requires c κs = search needs
 
 returns-2 : tie.Need-returns-2
 unfolding rankOf
@@ -36,11 +27,4 @@ returns-4 c = simp (c .if3 .left, sym (c .before .before .transferring .ensures)
 pub rank-spec : {M : Type 1} → statement M
 rank-spec =
     tie.close
-    (tie.spec
-    is-running-requires
-    returns
-    transferring-requires
-    transfer-rank-requires
-    returns-2
-    returns-3
-    returns-4)
+    (tie.spec (λ c κs. search needs) returns (λ c κs. search needs) (λ c κs. search needs) returns-2 returns-3 returns-4)

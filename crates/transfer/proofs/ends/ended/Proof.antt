@@ -12,18 +12,9 @@ returns : tie.Need-returns
 unfolding endedBy endedTP endedPSW withTransfer gained
 returns c = rw (c .if1 .taken)
 
-offset-requires : tie.Need-offset-requires
-offset-requires c κs = search needs
-
-gained-requires : tie.Need-gained-requires
-gained-requires c κs = search needs
-
-with-requires : tie.Need-with-requires
-with-requires c κs = search needs
-
 returns-2 : tie.Need-returns-2
 unfolding endedBy endedTP endedPSW withTransfer gained
 returns-2 c = rw (c .with .ensures, c .before .gained .ensures, c .before .before .offset .ensures, ne-eqb _ _ (c .before .before .before .if1 .left))
 
 pub ended-spec : {M : Type 1} → statement M
-ended-spec = tie.close (tie.spec returns offset-requires gained-requires with-requires returns-2)
+ended-spec = tie.close (tie.spec returns (λ c κs. search needs) (λ c κs. search needs) (λ c κs. search needs) returns-2)

@@ -5,12 +5,6 @@ use Rattle.transfer.specs.Ends.{meetsTmc}
 use Rattle.transfer.proofs.ends.meets.Statement.{statement}
 use Rattle.transfer.proofs.ends.meets.Tie as tie
 
-matches-requires : tie.Need-matches-requires
-matches-requires c κs = search needs
-
-bit-requires : tie.Need-bit-requires
-bit-requires c κs = search needs
-
 returns : tie.Need-returns
 unfolding meetsTmc
 returns c = simp (c .if1 .taken, ← (c .before .bit .ensures), ← (c .before .before .matches .ensures))
@@ -20,4 +14,4 @@ unfolding meetsTmc
 returns-2 c = simp (c .if1 .left, ← (c .before .bit .ensures), ← (c .before .before .matches .ensures))
 
 pub meets-spec : {M : Type 1} → statement M
-meets-spec = tie.close (tie.spec matches-requires bit-requires returns returns-2)
+meets-spec = tie.close (tie.spec (λ c κs. search needs) (λ c κs. search needs) returns returns-2)

@@ -12,12 +12,9 @@ returns : tie.Need-returns
 unfolding isHalf fetchesApart storesApart
 returns c = rw (c .if1 .taken) refl
 
-word-requires : tie.Need-word-requires
-word-requires c κs = search needs
-
 returns-2 : tie.Need-returns-2
 unfolding isHalf fetchesApart storesApart setupOf
 returns-2 c = rw (c .before .before .before .word .ensures, c .before .before .before .before .before .before .before .before .before .pre)
 
 pub apart-spec : {M : Type 1} → statement M
-apart-spec = tie.close (tie.spec returns word-requires returns-2)
+apart-spec = tie.close (tie.spec returns (λ c κs. search needs) returns-2)

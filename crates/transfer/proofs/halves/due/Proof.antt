@@ -25,35 +25,14 @@ due : (c : Channel) (r : Moved) (k : Part) (m m′ : Buffers) → partOf c ≡ k
 unfolding transferOf transferCount countBy touchedByTransfer
 due c r k m m′ e h = rw e h
 
-enum-told : tie.Need-enum-told
-enum-told c = search needs
-
-first-fetch-requires : tie.Need-first-fetch-requires
-first-fetch-requires c κs = search needs
-
-enum-known-held : tie.Need-enum-known-held
-enum-known-held c = search needs
-
 second-fetch-requires : tie.Need-second-fetch-requires
 second-fetch-requires c κs = (c .before .before .before .before .before .before .before .before .before .before .pre .0, c .before .before .before .before .before .before .before .before .before .before .pre .1, half-fetches _ (c .before .before .before .before .before .before .before .before .before .before .pre .2) (c .before .before .before .before .before .if1 .taken))
-
-enum-told-2 : tie.Need-enum-told-2
-enum-told-2 c = search needs
 
 first-store-requires : tie.Need-first-store-requires
 first-store-requires c κs = (c .before .before .before .before .before .before .before .before .before .pre .0, c .before .before .before .before .before .before .before .before .before .pre .1, half-stores _ (c .before .before .before .before .before .before .before .before .before .pre .2) (c .before .before .before .before .if1 .left) .1)
 
-enum-known-held-2 : tie.Need-enum-known-held-2
-enum-known-held-2 c = search needs
-
 second-store-requires : tie.Need-second-store-requires
 second-store-requires c κs = (c .before .before .before .before .before .before .before .before .before .before .pre .0, c .before .before .before .before .before .before .before .before .before .before .pre .1, half-stores _ (c .before .before .before .before .before .before .before .before .before .before .pre .2) (c .before .before .before .before .before .if1 .left) .1)
-
-same-length : tie.Need-same-length
-same-length c = search needs
-
-same-length-2 : tie.Need-same-length-2
-same-length-2 c = search needs
 
 returns : tie.Need-returns
 unfolding fetchPart
@@ -61,23 +40,11 @@ returns c = let a = c .before .before .before .before .before .before .before .b
     let m = buffers (now (a .sys)) (now (a .io)) in
     due (a .c) _ FirstFetch m _ (fetch-due (a .c) NoByte (half-fetches (a .c) (c .before .before .before .before .before .before .before .before .before .before .pre .2) (c .before .before .before .before .before .if1 .taken)) (c .before .before .before .enum-told .given .1)) (c .first-fetch .ensures)
 
-same-length-3 : tie.Need-same-length-3
-same-length-3 c = search needs
-
-same-length-4 : tie.Need-same-length-4
-same-length-4 c = search needs
-
 returns-2 : tie.Need-returns-2
 unfolding fetchPart
 returns-2 c = let a = c .before .before .before .before .before .before .before .before .before .before .before .before .before .before .before .args in
     let m = buffers (now (a .sys)) (now (a .io)) in
     due (a .c) _ (SecondFetch _) m _ (fetch-due (a .c) (Byte _) (half-fetches (a .c) (c .before .before .before .before .before .before .before .before .before .before .before .before .before .before .before .pre .2) (c .before .before .before .before .before .before .before .before .before .before .if1 .taken)) (c .before .before .before .before .before .before .before .before .held .given .1)) (c .before .before .before .before .second-fetch .ensures)
-
-same-length-5 : tie.Need-same-length-5
-same-length-5 c = search needs
-
-same-length-6 : tie.Need-same-length-6
-same-length-6 c = search needs
 
 returns-3 : tie.Need-returns-3
 unfolding storePart
@@ -85,12 +52,6 @@ returns-3 c = let a = c .before .before .before .before .before .before .before 
     let m = buffers (now (a .sys)) (now (a .io)) in
     let h = half-stores (a .c) (c .before .before .before .before .before .before .before .before .before .before .before .before .before .before .pre .2) (c .before .before .before .before .before .before .before .before .before .if1 .left) in
     due (a .c) _ FirstStore m _ (store-due (a .c) NoByte (h .0) (h .1) (c .before .before .before .before .before .before .before .enum-told2 .given .1)) (c .before .before .before .before .first-store .ensures)
-
-same-length-7 : tie.Need-same-length-7
-same-length-7 c = search needs
-
-same-length-8 : tie.Need-same-length-8
-same-length-8 c = search needs
 
 returns-4 : tie.Need-returns-4
 unfolding storePart
@@ -102,24 +63,6 @@ returns-4 c = let a = c .before .before .before .before .before .before .before 
 pub due-spec : {M : Type 1} → statement M
 due-spec =
     tie.close
-    (tie.spec
-    enum-told
-    first-fetch-requires
-    enum-known-held
-    second-fetch-requires
-    enum-told-2
-    first-store-requires
-    enum-known-held-2
-    second-store-requires
-    same-length
-    same-length-2
-    returns
-    same-length-3
-    same-length-4
-    returns-2
-    same-length-5
-    same-length-6
-    returns-3
-    same-length-7
-    same-length-8
-    returns-4)
+    (tie.spec (λ c. search needs) (λ c κs. search needs) (λ c. search needs) second-fetch-requires (λ c. search needs) first-store-requires
+    (λ c. search needs) second-store-requires (λ c. search needs) (λ c. search needs) returns (λ c. search needs) (λ c. search needs) returns-2
+    (λ c. search needs) (λ c. search needs) returns-3 (λ c. search needs) (λ c. search needs) returns-4)

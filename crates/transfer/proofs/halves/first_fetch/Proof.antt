@@ -38,15 +38,6 @@ module _ (c : Channel) (m : Buffers) (p : Setup) (s : Seen) (ep : p ≡ setupOf 
   lost : s .touchable ≡ false → (r : Moved) → r ≡ movedBeyond → (leftByMove c r m ≡ stepBy FirstFetch c m) × (r .count ≡ countBy FirstFetch c m)
   lost t r e = rw e (beyond-left FirstFetch c m good (touches false t))
 
-see-requires : tie.Need-see-requires
-see-requires c κs = search needs
-
-holds-requires : tie.Need-holds-requires
-holds-requires c κs = search needs
-
-beyond-requires : tie.Need-beyond-requires
-beyond-requires c κs = search needs
-
 returns : tie.Need-returns
 returns c = let a = c .before .before .before .before .before .before .before .args in
     let m = buffers (now (a .sys)) (now (a .io)) in
@@ -59,4 +50,4 @@ returns-2 c = let a = c .before .before .before .before .before .before .before 
 
 pub first-fetch-spec : {M : Type 1} → statement M
 first-fetch-spec =
-    tie.close (tie.spec see-requires holds-requires beyond-requires returns returns-2)
+    tie.close (tie.spec (λ c κs. search needs) (λ c κs. search needs) (λ c κs. search needs) returns returns-2)

@@ -71,62 +71,20 @@ module _ (c : Channel) (m : Buffers) (p : Setup) (f : Fetched) (ep : p ≡ setup
 fetch-requires : tie.Need-fetch-requires
 fetch-requires c κs = (c .before .before .before .before .pre .0, c .before .before .before .before .pre .1)
 
-beyond-requires : tie.Need-beyond-requires
-beyond-requires c κs = search needs
-
-same-length : tie.Need-same-length
-same-length c = search needs
-
-same-length-2 : tie.Need-same-length-2
-same-length-2 c = search needs
-
 returns : tie.Need-returns
 returns c = let a = c .before .before .before .before .before .before .before .before .args in
     let m = buffers (now (a .sys)) (now (a .io)) in
     lost (a .c) m (a .p) (c .before .before .before .fetch .result) (c .before .before .before .before .before .before .before .before .pre .0) (c .before .before .before .before .before .before .before .before .pre .1) (c .before .before .before .before .before .before .before .before .pre .2) (c .before .before .before .fetch .ensures) (not-true _ (c .before .if1 .taken)) (c .beyond .result) (c .beyond .ensures)
-
-put-requires : tie.Need-put-requires
-put-requires c κs = search needs
-
-beyond-requires-2 : tie.Need-beyond-requires-2
-beyond-requires-2 c κs = search needs
-
-same-length-3 : tie.Need-same-length-3
-same-length-3 c = search needs
-
-same-length-4 : tie.Need-same-length-4
-same-length-4 c = search needs
 
 returns-2 : tie.Need-returns-2
 returns-2 c = let a = c .before .before .before .before .before .before .before .before .before .before .before .before .before .before .before .before .before .before .args in
     let m = buffers (now (a .sys)) (now (a .io)) in
     unplaced (a .c) m (a .p) (c .before .before .before .before .before .before .before .before .before .before .before .before .before .fetch .result) (c .before .before .before .before .before .before .before .before .before .before .before .before .before .before .before .before .before .before .pre .0) (c .before .before .before .before .before .before .before .before .before .before .before .before .before .before .before .before .before .before .pre .1) (c .before .before .before .before .before .before .before .before .before .before .before .before .before .before .before .before .before .before .pre .2) (c .before .before .before .before .before .before .before .before .before .before .before .before .before .fetch .ensures) (not-false _ (c .before .before .before .before .before .before .before .before .before .before .before .if1 .left)) (c .before .before .before .before .before .before .put .result) _ (c .before .before .before .before .before .before .put .ensures .0) (c .before .before .before .before .before .before .put .ensures .1) (not-true _ (c .before .if2 .taken)) (c .beyond2 .result) (c .beyond2 .ensures)
 
-finish-requires : tie.Need-finish-requires
-finish-requires c κs = search needs
-
-holds-requires : tie.Need-holds-requires
-holds-requires c κs = search needs
-
-goes-requires : tie.Need-goes-requires
-goes-requires c κs = search needs
-
-same-length-5 : tie.Need-same-length-5
-same-length-5 c = search needs
-
-same-length-6 : tie.Need-same-length-6
-same-length-6 c = search needs
-
 returns-3 : tie.Need-returns-3
 returns-3 c = let a = c .before .before .before .before .before .before .before .before .before .before .before .before .before .before .before .before .before .before .before .before .args in
     let m = buffers (now (a .sys)) (now (a .io)) in
     held (a .c) m (a .p) (c .before .before .before .before .before .before .before .before .before .before .before .before .before .before .before .fetch .result) (c .before .before .before .before .before .before .before .before .before .before .before .before .before .before .before .before .before .before .before .before .pre .0) (c .before .before .before .before .before .before .before .before .before .before .before .before .before .before .before .before .before .before .before .before .pre .1) (c .before .before .before .before .before .before .before .before .before .before .before .before .before .before .before .before .before .before .before .before .pre .2) (c .before .before .before .before .before .before .before .before .before .before .before .before .before .before .before .fetch .ensures) (not-false _ (c .before .before .before .before .before .before .before .before .before .before .before .before .before .if1 .left)) (c .before .before .before .before .before .before .before .before .put .result) _ (c .before .before .before .before .before .before .before .before .put .ensures .0) (c .before .before .before .before .before .before .before .before .put .ensures .1) (not-false _ (c .before .before .before .if2 .left)) (c .holds .result) (c .before .before .finish .result) (c .before .before .finish .ensures) (c .before .if3 .taken) (c .holds .ensures)
-
-same-length-7 : tie.Need-same-length-7
-same-length-7 c = search needs
-
-same-length-8 : tie.Need-same-length-8
-same-length-8 c = search needs
 
 returns-4 : tie.Need-returns-4
 returns-4 c = let a = c .before .before .before .before .before .before .before .before .before .before .before .before .before .before .before .before .before .before .before .before .args in
@@ -136,23 +94,6 @@ returns-4 c = let a = c .before .before .before .before .before .before .before 
 pub first-store-spec : {M : Type 1} → statement M
 first-store-spec =
     tie.close
-    (tie.spec
-    fetch-requires
-    beyond-requires
-    same-length
-    same-length-2
-    returns
-    put-requires
-    beyond-requires-2
-    same-length-3
-    same-length-4
-    returns-2
-    finish-requires
-    holds-requires
-    goes-requires
-    same-length-5
-    same-length-6
-    returns-3
-    same-length-7
-    same-length-8
-    returns-4)
+    (tie.spec fetch-requires (λ c κs. search needs) (λ c. search needs) (λ c. search needs) returns (λ c κs. search needs) (λ c κs. search needs)
+    (λ c. search needs) (λ c. search needs) returns-2 (λ c κs. search needs) (λ c κs. search needs) (λ c κs. search needs) (λ c. search needs)
+    (λ c. search needs) returns-3 (λ c. search needs) (λ c. search needs) returns-4)

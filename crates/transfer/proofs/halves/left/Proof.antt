@@ -6,12 +6,6 @@ use borrow.Author.Tests.{eq-eqb, ne-eqb}
 use Rattle.transfer.proofs.halves.left.Statement.{statement}
 use Rattle.transfer.proofs.halves.left.Tie as tie
 
-holds-requires : tie.Need-holds-requires
-holds-requires c κs = search needs
-
-landed-requires : tie.Need-landed-requires
-landed-requires c κs = search needs
-
 returns : tie.Need-returns
 unfolding landed
 returns c = rw (c .holds .ensures, eq-eqb _ _ (c .before .if1 .taken))
@@ -21,4 +15,4 @@ unfolding landed
 returns-2 c = rw (c .landed .ensures, ne-eqb _ _ (c .before .if1 .left))
 
 pub left-spec : {M : Type 1} → statement M
-left-spec = tie.close (tie.spec holds-requires landed-requires returns returns-2)
+left-spec = tie.close (tie.spec (λ c κs. search needs) (λ c κs. search needs) returns returns-2)

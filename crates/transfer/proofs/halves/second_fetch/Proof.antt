@@ -64,54 +64,15 @@ module _ (c : Channel) (m : Buffers) (p : Setup) (byte next : ℕ) (s : Seen) (e
         rw (e, ap (λ (x : Done). x .code) k ∙ ap (λ (d : Data). endCode c d) read)
         (goes-left (SecondFetch byte) c m good (touches ∙ f) m′ (second-fetch-stores c m byte h ∙ sym (puts f)) 3 refl 1 (endCode c (wordWith byte c m)) (second-fetch-goes c m byte h))
 
-second-requires : tie.Need-second-requires
-second-requires c κs = search needs
-
-see-requires : tie.Need-see-requires
-see-requires c κs = search needs
-
-beyond-requires : tie.Need-beyond-requires
-beyond-requires c κs = search needs
-
-same-length : tie.Need-same-length
-same-length c = search needs
-
-same-length-2 : tie.Need-same-length-2
-same-length-2 c = search needs
-
 returns : tie.Need-returns
 returns c = let a = c .before .before .before .before .before .before .before .before .before .before .before .args in
     let m = buffers (now (a .sys)) (now (a .io)) in
     lost (a .c) m (a .p) (a .byte) (c .before .before .before .before .before .before .second .result) (c .before .before .before .see .result) (c .before .before .before .before .before .before .before .before .before .before .before .pre .0) (c .before .before .before .before .before .before .before .before .before .before .before .pre .1) (c .before .before .before .before .before .before .before .before .before .before .before .pre .2) (c .before .before .before .before .before .before .second .ensures) (c .before .before .before .see .ensures) (not-true _ (c .before .if1 .taken)) (c .beyond .result) (c .beyond .ensures)
 
-put-requires : tie.Need-put-requires
-put-requires c κs = search needs
-
-beyond-requires-2 : tie.Need-beyond-requires-2
-beyond-requires-2 c κs = search needs
-
-same-length-3 : tie.Need-same-length-3
-same-length-3 c = search needs
-
-same-length-4 : tie.Need-same-length-4
-same-length-4 c = search needs
-
 returns-2 : tie.Need-returns-2
 returns-2 c = let a = c .before .before .before .before .before .before .before .before .before .before .before .before .before .before .before .before .before .before .before .before .args in
     let m = buffers (now (a .sys)) (now (a .io)) in
     unplaced (a .c) m (a .p) (a .byte) (c .before .before .before .before .before .before .before .before .before .before .before .before .before .before .before .second .result) (c .before .before .before .before .before .before .before .before .before .before .before .before .see .result) (c .before .before .before .before .before .before .before .before .before .before .before .before .before .before .before .before .before .before .before .before .pre .0) (c .before .before .before .before .before .before .before .before .before .before .before .before .before .before .before .before .before .before .before .before .pre .1) (c .before .before .before .before .before .before .before .before .before .before .before .before .before .before .before .before .before .before .before .before .pre .2) (c .before .before .before .before .before .before .before .before .before .before .before .before .before .before .before .second .ensures) (c .before .before .before .before .before .before .before .before .before .before .before .before .see .ensures) (not-false _ (c .before .before .before .before .before .before .before .before .before .before .if1 .left)) (c .before .before .before .before .before .before .put .result) _ (c .before .before .before .before .before .before .put .ensures .0) (c .before .before .before .before .before .before .put .ensures .1) (not-true _ (c .before .if2 .taken)) (c .beyond2 .result) (c .beyond2 .ensures)
-
-finish-requires : tie.Need-finish-requires
-finish-requires c κs = search needs
-
-goes-requires : tie.Need-goes-requires
-goes-requires c κs = search needs
-
-same-length-5 : tie.Need-same-length-5
-same-length-5 c = search needs
-
-same-length-6 : tie.Need-same-length-6
-same-length-6 c = search needs
 
 returns-3 : tie.Need-returns-3
 returns-3 c = let a = c .before .before .before .before .before .before .before .before .before .before .before .before .before .before .before .before .before .before .before .before .before .args in
@@ -121,20 +82,6 @@ returns-3 c = let a = c .before .before .before .before .before .before .before 
 pub second-fetch-spec : {M : Type 1} → statement M
 second-fetch-spec =
     tie.close
-    (tie.spec
-    second-requires
-    see-requires
-    beyond-requires
-    same-length
-    same-length-2
-    returns
-    put-requires
-    beyond-requires-2
-    same-length-3
-    same-length-4
-    returns-2
-    finish-requires
-    goes-requires
-    same-length-5
-    same-length-6
-    returns-3)
+    (tie.spec (λ c κs. search needs) (λ c κs. search needs) (λ c κs. search needs) (λ c. search needs) (λ c. search needs) returns
+    (λ c κs. search needs) (λ c κs. search needs) (λ c. search needs) (λ c. search needs) returns-2 (λ c κs. search needs) (λ c κs. search needs)
+    (λ c. search needs) (λ c. search needs) returns-3)

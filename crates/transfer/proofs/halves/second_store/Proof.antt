@@ -41,37 +41,10 @@ module _ (c : Channel) (m : Buffers) (p : Setup) (byte next : ℕ) (b : Bool) (m
       rw (e, stored ∙ untouched m ((destination c) .pointer .tag) (secondAddress (destination c)) byte (sym there ∙ t))
       (beyond-left (SecondStore byte) c m good (second-store-touches c m byte ∙ sym there ∙ t))
 
-second-requires : tie.Need-second-requires
-second-requires c κs = search needs
-
-put-one-requires : tie.Need-put-one-requires
-put-one-requires c κs = search needs
-
-second-code-requires : tie.Need-second-code-requires
-second-code-requires c κs = search needs
-
-goes-requires : tie.Need-goes-requires
-goes-requires c κs = search needs
-
-beyond-requires : tie.Need-beyond-requires
-beyond-requires c κs = search needs
-
-same-length : tie.Need-same-length
-same-length c = search needs
-
-same-length-2 : tie.Need-same-length-2
-same-length-2 c = search needs
-
 returns : tie.Need-returns
 returns c = let a = c .before .before .before .before .before .before .before .before .before .before .before .before .before .before .before .args in
     let m = buffers (now (a .sys)) (now (a .io)) in
     gone (a .c) m (a .p) (a .byte) (c .before .before .before .before .before .before .before .before .before .before .second .result) (c .before .before .before .before .before .before .before .put-one .result) _ (c .before .before .before .before .before .before .before .before .before .before .before .before .before .before .before .pre .0) (c .before .before .before .before .before .before .before .before .before .before .before .before .before .before .before .pre .1) (c .before .before .before .before .before .before .before .before .before .before .before .before .before .before .before .pre .2) (c .before .before .before .before .before .before .before .before .before .before .second .ensures) (c .before .before .before .before .before .before .before .put-one .ensures .0) (c .before .before .before .before .before .before .before .put-one .ensures .1) (c .before .before .if1 .taken) (c .goes .result) (c .before .second-code .result) (c .goes .ensures) (c .before .second-code .ensures)
-
-same-length-3 : tie.Need-same-length-3
-same-length-3 c = search needs
-
-same-length-4 : tie.Need-same-length-4
-same-length-4 c = search needs
 
 returns-2 : tie.Need-returns-2
 returns-2 c = let a = c .before .before .before .before .before .before .before .before .before .before .before .before .before .before .args in
@@ -81,15 +54,5 @@ returns-2 c = let a = c .before .before .before .before .before .before .before 
 pub second-store-spec : {M : Type 1} → statement M
 second-store-spec =
     tie.close
-    (tie.spec
-    second-requires
-    put-one-requires
-    second-code-requires
-    goes-requires
-    beyond-requires
-    same-length
-    same-length-2
-    returns
-    same-length-3
-    same-length-4
-    returns-2)
+    (tie.spec (λ c κs. search needs) (λ c κs. search needs) (λ c κs. search needs) (λ c κs. search needs) (λ c κs. search needs) (λ c. search needs)
+    (λ c. search needs) returns (λ c. search needs) (λ c. search needs) returns-2)

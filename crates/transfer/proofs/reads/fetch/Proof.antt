@@ -19,26 +19,11 @@ touchable r = r .touchable
 abbrev byte : Seen → ℕ
 byte r = r .byte
 
-see-requires : tie.Need-see-requires
-see-requires c κs = search needs
-
-none-requires : tie.Need-none-requires
-none-requires c κs = search needs
-
 returns : tie.Need-returns
 returns c =
     let a = c .before .before .before .before .before .before .before .before .args in
     c .none .ensures
     ∙ sym (source-beyond (a .c) (buffers (now (a .sys)) (now (a .io))) (a .p) (c .before .before .before .before .before .before .before .before .pre .0) (sym (ap touchable (c .before .before .before .see .ensures)) ∙ not-true _ (c .before .if1 .taken)))
-
-second-requires : tie.Need-second-requires
-second-requires c κs = search needs
-
-see-requires-2 : tie.Need-see-requires-2
-see-requires-2 c κs = search needs
-
-none-requires-2 : tie.Need-none-requires-2
-none-requires-2 c κs = search needs
 
 returns-2 : tie.Need-returns-2
 returns-2 c =
@@ -48,9 +33,6 @@ returns-2 c =
     (second-beyond (a .c) (buffers (now (a .sys)) (now (a .io))) (a .p) (c .before .before .before .before .before .before .before .before .before .before .before .before .before .pre .0) (c .before .before .before .before .second .result)
     (sym (ap touchable (c .before .before .before .before .before .before .before .before .see .ensures)) ∙ not-false _ (c .before .before .before .before .before .before .if1 .left)) (c .before .before .before .before .before .if2 .taken) (c .before .before .before .before .second .ensures)
     (sym (ap touchable (c .before .before .before .see2 .ensures)) ∙ not-true _ (c .before .if3 .taken)))
-
-some-requires : tie.Need-some-requires
-some-requires c κs = search needs
 
 returns-3 : tie.Need-returns-3
 returns-3 c =
@@ -62,18 +44,6 @@ returns-3 c =
     (sym (ap touchable (c .before .before .before .before .before .before .before .before .see .ensures)) ∙ not-false _ (c .before .before .before .before .before .before .if1 .left)) (ap byte (c .before .before .before .before .before .before .before .before .see .ensures)) (c .before .before .before .before .before .if2 .taken) (c .before .before .before .before .second .ensures)
     (sym (ap touchable (c .before .before .before .see2 .ensures)) ∙ not-false _ (c .before .if3 .left)))
 
-cast-sum20 : tie.Need-cast-sum20
-cast-sum20 c = search needs
-
-sum20-requires : tie.Need-sum20-requires
-sum20-requires c κs = search needs
-
-see-requires-3 : tie.Need-see-requires-3
-see-requires-3 c κs = search needs
-
-none-requires-3 : tie.Need-none-requires-3
-none-requires-3 c κs = search needs
-
 returns-4 : tie.Need-returns-4
 returns-4 c =
     let a = c .before .before .before .before .before .before .before .before .before .before .before .before .before .before .before .before .args in
@@ -82,9 +52,6 @@ returns-4 c =
     (entry-beyond (a .c) (buffers (now (a .sys)) (now (a .io))) (a .p) (c .before .before .before .before .before .before .before .before .before .before .before .before .before .before .before .before .pre .0) (c .before .before .before .before .before .before .before .before .before .before .before .see .result .byte) (c .before .before .before .before .sum20 .result)
     (sym (ap touchable (c .before .before .before .before .before .before .before .before .before .before .before .see .ensures)) ∙ not-false _ (c .before .before .before .before .before .before .before .before .before .if1 .left)) (ap byte (c .before .before .before .before .before .before .before .before .before .before .before .see .ensures)) (c .before .before .before .before .before .before .before .before .if2 .left) (c .before .before .before .before .before .before .if4 .taken) (c .before .before .before .before .sum20 .ensures)
     (sym (ap touchable (c .before .before .before .see3 .ensures)) ∙ not-true _ (c .before .if5 .taken)))
-
-some-requires-2 : tie.Need-some-requires-2
-some-requires-2 c κs = search needs
 
 returns-5 : tie.Need-returns-5
 returns-5 c =
@@ -95,9 +62,6 @@ returns-5 c =
     (translated (a .c) (buffers (now (a .sys)) (now (a .io))) (a .p) (c .before .before .before .before .before .before .before .before .before .before .before .before .before .before .before .before .pre .0) (c .before .before .before .before .before .before .before .before .before .before .before .see .result .byte) (c .before .before .before .before .sum20 .result)
     (sym (ap touchable (c .before .before .before .before .before .before .before .before .before .before .before .see .ensures)) ∙ not-false _ (c .before .before .before .before .before .before .before .before .before .if1 .left)) (ap byte (c .before .before .before .before .before .before .before .before .before .before .before .see .ensures)) (c .before .before .before .before .before .before .before .before .if2 .left) (c .before .before .before .before .before .before .if4 .taken) (c .before .before .before .before .sum20 .ensures)
     (sym (ap touchable (c .before .before .before .see3 .ensures)) ∙ not-false _ (c .before .if5 .left)))
-
-some-requires-3 : tie.Need-some-requires-3
-some-requires-3 c κs = search needs
 
 returns-6 : tie.Need-returns-6
 returns-6 c =
@@ -110,22 +74,6 @@ returns-6 c =
 pub fetch-spec : {M : Type 1} → statement M
 fetch-spec =
     tie.close
-    (tie.spec
-    see-requires
-    none-requires
-    returns
-    second-requires
-    see-requires-2
-    none-requires-2
-    returns-2
-    some-requires
-    returns-3
-    cast-sum20
-    sum20-requires
-    see-requires-3
-    none-requires-3
-    returns-4
-    some-requires-2
-    returns-5
-    some-requires-3
-    returns-6)
+    (tie.spec (λ c κs. search needs) (λ c κs. search needs) returns (λ c κs. search needs) (λ c κs. search needs) (λ c κs. search needs) returns-2
+    (λ c κs. search needs) returns-3 (λ c. search needs) (λ c κs. search needs) (λ c κs. search needs) (λ c κs. search needs) returns-4
+    (λ c κs. search needs) returns-5 (λ c κs. search needs) returns-6)

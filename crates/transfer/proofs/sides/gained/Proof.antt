@@ -5,9 +5,6 @@ use Rattle.transfer.specs.Sides.{gained}
 use Rattle.transfer.proofs.sides.gained.Statement.{statement}
 use Rattle.transfer.proofs.sides.gained.Tie as tie
 
-onward-requires : tie.Need-onward-requires
-onward-requires c κs = search needs
-
 returns : tie.Need-returns
 unfolding gained
 returns c = rw (c .onward .ensures, c .before .if1 .taken)
@@ -17,4 +14,4 @@ unfolding gained
 returns-2 c = rw (c .if1 .left)
 
 pub gained-spec : {M : Type 1} → statement M
-gained-spec = tie.close (tie.spec onward-requires returns returns-2)
+gained-spec = tie.close (tie.spec (λ c κs. search needs) returns returns-2)

@@ -5,12 +5,6 @@ use Rattle.transfer.specs.Sides.{secondAddress}
 use Rattle.transfer.proofs.sides.second.Statement.{statement}
 use Rattle.transfer.proofs.sides.second.Tie as tie
 
-word-requires : tie.Need-word-requires
-word-requires c κs = search needs
-
-sum20-requires : tie.Need-sum20-requires
-sum20-requires c κs = search needs
-
 returns : tie.Need-returns
 unfolding secondAddress
 returns c = simp (← (c .sum20 .ensures), c .before .if1 .taken, ← (c .before .before .before .word .ensures))
@@ -20,4 +14,4 @@ unfolding secondAddress
 returns-2 c = simp (c .if1 .left, ← (c .before .before .word .ensures))
 
 pub second-spec : {M : Type 1} → statement M
-second-spec = tie.close (tie.spec word-requires sum20-requires returns returns-2)
+second-spec = tie.close (tie.spec (λ c κs. search needs) (λ c κs. search needs) returns returns-2)

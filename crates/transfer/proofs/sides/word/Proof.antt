@@ -5,12 +5,9 @@ use Rattle.transfer.specs.Sides.{wordSide}
 use Rattle.transfer.proofs.sides.word.Statement.{statement}
 use Rattle.transfer.proofs.sides.word.Tie as tie
 
-bit-requires : tie.Need-bit-requires
-bit-requires c κs = search needs
-
 returns : tie.Need-returns
 unfolding wordSide
 returns c = simp (← (c .before .bit .ensures))
 
 pub word-spec : {M : Type 1} → statement M
-word-spec = tie.close (tie.spec bit-requires returns)
+word-spec = tie.close (tie.spec (λ c κs. search needs) returns)

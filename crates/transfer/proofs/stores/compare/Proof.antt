@@ -8,23 +8,11 @@ use Rattle.transfer.proofs.MatchLaws.{off-stores, off-unmet}
 use Rattle.transfer.proofs.stores.compare.Statement.{statement}
 use Rattle.transfer.proofs.stores.compare.Tie as tie
 
-cast-tmc : tie.Need-cast-tmc
-cast-tmc c = search needs
-
 returns : tie.Need-returns
 unfolding setupOf codeIf
 returns c =
     let a = c .before .before .before .args in
     rw (off-stores (a .c) (a .d) (c .if1 .taken), off-unmet (a .c) (a .d) (c .if1 .taken), c .before .before .before .pre)
-
-meets-requires : tie.Need-meets-requires
-meets-requires c κs = search needs
-
-meets-requires-2 : tie.Need-meets-requires-2
-meets-requires-2 c κs = search needs
-
-code-if-requires : tie.Need-code-if-requires
-code-if-requires c κs = search needs
 
 returns-2 : tie.Need-returns-2
 unfolding setupOf storesTwo matchMet cutShort firstMeets
@@ -33,10 +21,4 @@ returns-2 c = rw (c .code-if .ensures, c .before .before .before .before .meets2
 pub compare-spec : {M : Type 1} → statement M
 compare-spec =
     tie.close
-    (tie.spec
-    cast-tmc
-    returns
-    meets-requires
-    meets-requires-2
-    code-if-requires
-    returns-2)
+    (tie.spec (λ c. search needs) returns (λ c κs. search needs) (λ c κs. search needs) (λ c κs. search needs) returns-2)

@@ -11,18 +11,6 @@ use Rattle.transfer.proofs.TouchLaws.{places-touchable, second-not, unt
 use Rattle.transfer.proofs.stores.put.Statement.{statement}
 use Rattle.transfer.proofs.stores.put.Tie as tie
 
-second-requires : tie.Need-second-requires
-second-requires c κs = search needs
-
-touchable-requires : tie.Need-touchable-requires
-touchable-requires c κs = search needs
-
-same-length : tie.Need-same-length
-same-length c = search needs
-
-same-length-2 : tie.Need-same-length-2
-same-length-2 c = search needs
-
 returns : tie.Need-returns
 returns c =
     let a = c .before .before .before .before .before .before .before .before .before .args in (
@@ -30,15 +18,6 @@ returns c =
           (sym (second-not (buffers (now (a .sys)) (now (a .io))) (a .s) (ap (touchableAt (buffers (now (a .sys)) (now (a .io))) (a .s .pointer .tag)) (sym (c .before .before .before .before .second .ensures)) ∙ sym (c .before .touchable .ensures) ∙ not-true _ (c .if2 .taken)))),
       refl,
     )
-
-put-one-requires : tie.Need-put-one-requires
-put-one-requires c κs = search needs
-
-same-length-3 : tie.Need-same-length-3
-same-length-3 c = search needs
-
-same-length-4 : tie.Need-same-length-4
-same-length-4 c = search needs
 
 returns-2 : tie.Need-returns-2
 returns-2 c =
@@ -48,30 +27,12 @@ returns-2 c =
       c .before .before .before .before .before .put-one .ensures .1 ∙ untouched (buffers (now (a .sys)) (now (a .io))) (a .s .pointer .tag) (a .s .pointer .address) (a .d .first) no,
     )
 
-store-byte-requires : tie.Need-store-byte-requires
-store-byte-requires c κs = search needs
-
-same-length-5 : tie.Need-same-length-5
-same-length-5 c = search needs
-
-same-length-6 : tie.Need-same-length-6
-same-length-6 c = search needs
-
 returns-3 : tie.Need-returns-3
 unfolding putOn
 returns-3 c = (
   rw (places-touchable, sym (c .before .before .before .before .before .before .before .before .before .before .before .before .put-one .ensures .0) ∙ not-false _ (c .before .before .before .before .before .before .before .if3 .left), c .before .before .before .before .before .before .before .before .before .before .before .before .before .before .before .before .before .before .before .before .if1 .taken, ← (c .before .before .before .before .before .before .before .before .before .before .before .before .before .before .before .before .before .before .before .second .ensures), sym (c .before .before .before .before .before .before .before .before .before .before .before .before .before .before .before .before .touchable .ensures) ∙ not-false _ (c .before .before .before .before .before .before .before .before .before .before .before .before .before .before .before .if2 .left)),
   c .before .before .before .before .store-byte .ensures ∙ rw (c .before .before .before .before .before .before .before .before .before .before .before .before .put-one .ensures .1, c .before .before .before .before .before .before .before .before .before .before .before .before .before .before .before .before .before .before .before .before .if1 .taken, c .before .before .before .before .before .before .before .before .before .before .before .before .before .before .before .before .before .before .before .second .ensures),
 )
-
-put-one-requires-2 : tie.Need-put-one-requires-2
-put-one-requires-2 c κs = search needs
-
-same-length-7 : tie.Need-same-length-7
-same-length-7 c = search needs
-
-same-length-8 : tie.Need-same-length-8
-same-length-8 c = search needs
 
 returns-4 : tie.Need-returns-4
 unfolding putOn
@@ -84,21 +45,6 @@ returns-4 c =
 pub put-spec : {M : Type 1} → statement M
 put-spec =
     tie.close
-    (tie.spec
-    second-requires
-    touchable-requires
-    same-length
-    same-length-2
-    returns
-    put-one-requires
-    same-length-3
-    same-length-4
-    returns-2
-    store-byte-requires
-    same-length-5
-    same-length-6
-    returns-3
-    put-one-requires-2
-    same-length-7
-    same-length-8
-    returns-4)
+    (tie.spec (λ c κs. search needs) (λ c κs. search needs) (λ c. search needs) (λ c. search needs) returns (λ c κs. search needs) (λ c. search needs)
+    (λ c. search needs) returns-2 (λ c κs. search needs) (λ c. search needs) (λ c. search needs) returns-3 (λ c κs. search needs) (λ c. search needs)
+    (λ c. search needs) returns-4)
