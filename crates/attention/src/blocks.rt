@@ -3,12 +3,12 @@ use crate::Command;
 use crate::Order;
 use crate::commands;
 ghost use mathlib.Core.Path.{_≡_};
-ghost use Rattle.memory.specs.Buffers.{buffers};
+ghost use Rattle.memory.specs.Buffers.{lent};
 ghost use Rattle.attention.specs.Blocks.{parameterBlock, orderOf};
 
 // Where PB lies: a start reads it in the block, any other command takes it at PP.
 fn parameter_block(sys: &[u8], io: &[u8], command: Command, block: u32, pp: u32) -> u32
-    ensures { λ r. ⌜ r ≡ parameterBlock command (buffers (now (sys .entry)) (now (io .entry))) block pp ⌝ }
+    ensures { λ r. ⌜ r ≡ parameterBlock command (lent (sys .entry) (io .entry)) block pp ⌝ }
 {
     match command {
         Command::Update => pp,
@@ -23,7 +23,7 @@ fn parameter_block(sys: &[u8], io: &[u8], command: Command, block: u32, pp: u32)
 
 // The order that a block holds for a channel with that PP.
 pub fn order(sys: &[u8], io: &[u8], block: u32, pp: u32) -> Order
-    ensures { λ r. ⌜ r ≡ orderOf (buffers (now (sys .entry)) (now (io .entry))) block pp ⌝ }
+    ensures { λ r. ⌜ r ≡ orderOf (lent (sys .entry) (io .entry)) block pp ⌝ }
 {
     let ccw = memory::byte(sys, io, false, block);
     let command = commands::command(ccw);

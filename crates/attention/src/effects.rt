@@ -11,7 +11,7 @@ use machine::updates;
 use memory::Pointer;
 ghost use mathlib.Core.Path.{_≡_};
 ghost use Rattle.words.specs.Choice.{pick};
-ghost use Rattle.memory.specs.Buffers.{buffers};
+ghost use Rattle.memory.specs.Buffers.{lent};
 ghost use Rattle.attention.specs.Effects as Effects;
 ghost use Rattle.attention.specs.Effects.{channelOrdered, writesOf, saved, marked, writesMade};
 
@@ -57,7 +57,7 @@ fn resumed(c: Channel, tp: Pointer, saved: u8) -> Channel
 
 // The channel after a command.
 fn commanded(sys: &[u8], io: &[u8], command: Command, pb: u32, c: Channel) -> Channel
-    ensures { λ r. ⌜ r ≡ Effects.commanded command (buffers (now (sys .entry)) (now (io .entry))) pb c ⌝ }
+    ensures { λ r. ⌜ r ≡ Effects.commanded command (lent (sys .entry) (io .entry)) pb c ⌝ }
 {
     match command {
         Command::Update => c,
@@ -88,7 +88,7 @@ fn commanded(sys: &[u8], io: &[u8], command: Command, pb: u32, c: Channel) -> Ch
 
 // The channel after an accepted order.
 pub fn channel_ordered(sys: &[u8], io: &[u8], o: Order, c: Channel) -> Channel
-    ensures { λ r. ⌜ r ≡ channelOrdered (buffers (now (sys .entry)) (now (io .entry))) o c ⌝ }
+    ensures { λ r. ⌜ r ≡ channelOrdered (lent (sys .entry) (io .entry)) o c ⌝ }
 {
     let command = o.command;
     let mut next = commanded(sys, io, command, o.pb, c);
@@ -130,7 +130,7 @@ pub fn writes_of(o: Order, c: Channel) -> Writes
 
 // TP and PSW saved in PB's first four bytes, or nothing.
 fn save_if(sys: &mut [u8], io: &mut [u8], on: bool, pb: u32, tp: Pointer, psw: u8)
-    ensures { λ r. ⌜ buffers (now (sys .exit)) (now (io .exit)) ≡ pick on (saved (buffers (now (sys .entry)) (now (io .entry))) pb tp psw) (buffers (now (sys .entry)) (now (io .entry))) ⌝ }
+    ensures { λ r. ⌜ lent (sys .exit) (io .exit) ≡ pick on (saved (lent (sys .entry) (io .entry)) pb tp psw) (lent (sys .entry) (io .entry)) ⌝ }
 {
     if on {
         memory::store_pointer(sys, io, false, pb, tp);
@@ -140,7 +140,7 @@ fn save_if(sys: &mut [u8], io: &mut [u8], on: bool, pb: u32, tp: Pointer, psw: u
 
 // BUSY stored, or nothing.
 fn mark_if(sys: &mut [u8], io: &mut [u8], on: bool, block: u32, busy: u8)
-    ensures { λ r. ⌜ buffers (now (sys .exit)) (now (io .exit)) ≡ pick on (marked (buffers (now (sys .entry)) (now (io .entry))) block busy) (buffers (now (sys .entry)) (now (io .entry))) ⌝ }
+    ensures { λ r. ⌜ lent (sys .exit) (io .exit) ≡ pick on (marked (lent (sys .entry) (io .entry)) block busy) (lent (sys .entry) (io .entry)) ⌝ }
 {
     if on {
         memory::store_byte(sys, io, false, words::sum20(block, 1), busy);
@@ -149,7 +149,7 @@ fn mark_if(sys: &mut [u8], io: &mut [u8], on: bool, block: u32, busy: u8)
 
 // All stores of an attention.
 pub fn write(sys: &mut [u8], io: &mut [u8], w: Writes)
-    ensures { λ r. ⌜ buffers (now (sys .exit)) (now (io .exit)) ≡ writesMade (buffers (now (sys .entry)) (now (io .entry))) w ⌝ }
+    ensures { λ r. ⌜ lent (sys .exit) (io .exit) ≡ writesMade (lent (sys .entry) (io .entry)) w ⌝ }
 {
     let tp = w.tp;
     save_if(sys, io, w.saves, w.pb, tp, w.psw);

@@ -6,7 +6,7 @@ use machine::State;
 use machine::states;
 use memory::Pointer;
 ghost use mathlib.Core.Path.{_≡_};
-ghost use Rattle.memory.specs.Buffers.{buffers};
+ghost use Rattle.memory.specs.Buffers.{lent};
 ghost use Rattle.machine.specs.Outcomes.{outcome, first};
 ghost use Rattle.attention.specs.Attention.{orderNumber, plannedOf, givenTo, attentionOf, attentionCount};
 
@@ -59,7 +59,7 @@ pub struct Upshot {
 
 // The refusal of what an attention is given: 12, 11, 10, 13, then 14, else 0.
 fn given_number(s: State, sys: &[u8], io: &[u8], channel: u32) -> u32
-    ensures { λ r. ⌜ r ≡ givenTo s (buffers (now (sys .entry)) (now (io .entry))) channel ⌝ }
+    ensures { λ r. ⌜ r ≡ givenTo s (lent (sys .entry) (io .entry)) channel ⌝ }
 {
     if !states::is_channel(channel) {
         return 12;
@@ -69,7 +69,7 @@ fn given_number(s: State, sys: &[u8], io: &[u8], channel: u32) -> u32
 
 // The number of an order to a channel in some mode, after the refusal of what was given.
 fn number(sys: &[u8], io: &[u8], given: u32, o: Order, mode: Mode) -> u32
-    ensures { λ r. ⌜ r ≡ first given (orderNumber (buffers (now (sys .entry)) (now (io .entry))) o mode) ⌝ }
+    ensures { λ r. ⌜ r ≡ first given (orderNumber (lent (sys .entry) (io .entry)) o mode) ⌝ }
 {
     if given != 0 {
         return given;
@@ -87,7 +87,7 @@ fn number(sys: &[u8], io: &[u8], given: u32, o: Order, mode: Mode) -> u32
 
 // What the order in a block comes to for its channel.
 fn planned(sys: &[u8], io: &[u8], given: u32, block: u32, c: Channel) -> Upshot
-    ensures { λ r. ⌜ r ≡ plannedOf (buffers (now (sys .entry)) (now (io .entry))) given block c ⌝ }
+    ensures { λ r. ⌜ r ≡ plannedOf (lent (sys .entry) (io .entry)) given block c ⌝ }
 {
     let o = blocks::order(sys, io, block, c.pp);
     let mode = c.mode;
@@ -114,8 +114,8 @@ fn planned(sys: &[u8], io: &[u8], given: u32, block: u32, c: Channel) -> Upshot
 
 // Gives a channel attention.
 pub fn attention(s: State, sys: &mut [u8], io: &mut [u8], channel: u32) -> Answer
-    ensures left { λ r. ⌜ outcome (r .number) (r .state) (buffers (now (sys .exit)) (now (io .exit))) ≡ attentionOf s (buffers (now (sys .entry)) (now (io .entry))) channel ⌝ }
-    ensures count { λ r. ⌜ r .count ≡ attentionCount s (buffers (now (sys .entry)) (now (io .entry))) channel ⌝ }
+    ensures left { λ r. ⌜ outcome (r .number) (r .state) (lent (sys .exit) (io .exit)) ≡ attentionOf s (lent (sys .entry) (io .entry)) channel ⌝ }
+    ensures count { λ r. ⌜ r .count ≡ attentionCount s (lent (sys .entry) (io .entry)) channel ⌝ }
 {
     let given = given_number(s, sys, io, channel);
     let second = states::is_second(channel);

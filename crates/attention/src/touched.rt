@@ -4,7 +4,7 @@ use crate::Order;
 ghost use mathlib.Core.Bool.{false};
 ghost use mathlib.Core.Path.{_≡_};
 ghost use mathlib.Core.List.{_++_};
-ghost use Rattle.memory.specs.Buffers.{buffers};
+ghost use Rattle.memory.specs.Buffers.{lent};
 ghost use Rattle.memory.specs.Places.{span, allTouchable};
 ghost use Rattle.machine.specs.States.{busyIn};
 ghost use Rattle.attention.specs.Blocks.{pointerOf};
@@ -12,21 +12,21 @@ ghost use Rattle.attention.specs.Touched as Touched;
 
 // Whether BUSY may be touched.
 fn busy(sys: &[u8], io: &[u8], block: u32) -> bool
-    ensures { λ r. ⌜ r ≡ allTouchable (buffers (now (sys .entry)) (now (io .entry))) (span false (busyIn block) 1) ⌝ }
+    ensures { λ r. ⌜ r ≡ allTouchable (lent (sys .entry) (io .entry)) (span false (busyIn block) 1) ⌝ }
 {
     memory::span_touchable(sys, io, false, words::sum20(block, 1), 1)
 }
 
 // Whether PB's first `count` bytes and BUSY may be touched.
 fn stored(sys: &[u8], io: &[u8], block: u32, pb: u32, count: u32) -> bool
-    ensures { λ r. ⌜ r ≡ allTouchable (buffers (now (sys .entry)) (now (io .entry))) (span false pb count ++ span false (busyIn block) 1) ⌝ }
+    ensures { λ r. ⌜ r ≡ allTouchable (lent (sys .entry) (io .entry)) (span false pb count ++ span false (busyIn block) 1) ⌝ }
 {
     memory::span_touchable(sys, io, false, pb, count) & busy(sys, io, block)
 }
 
 // Whether a start's bytes may be touched: the block's pointer, `count` bytes of PB, and BUSY.
 fn started(sys: &[u8], io: &[u8], block: u32, pb: u32, count: u32) -> bool
-    ensures { λ r. ⌜ r ≡ allTouchable (buffers (now (sys .entry)) (now (io .entry))) ((span false (pointerOf block) 4 ++ span false pb count) ++ span false (busyIn block) 1) ⌝ }
+    ensures { λ r. ⌜ r ≡ allTouchable (lent (sys .entry) (io .entry)) ((span false (pointerOf block) 4 ++ span false pb count) ++ span false (busyIn block) 1) ⌝ }
 {
     memory::span_touchable(sys, io, false, words::sum20(block, 2), 4)
         & stored(sys, io, block, pb, count)
@@ -34,7 +34,7 @@ fn started(sys: &[u8], io: &[u8], block: u32, pb: u32, count: u32) -> bool
 
 // Whether all bytes of an order after its CCW may be touched.
 pub fn others(sys: &[u8], io: &[u8], o: Order) -> bool
-    ensures { λ r. ⌜ r ≡ allTouchable (buffers (now (sys .entry)) (now (io .entry))) (Touched.others o) ⌝ }
+    ensures { λ r. ⌜ r ≡ allTouchable (lent (sys .entry) (io .entry)) (Touched.others o) ⌝ }
 {
     let command = o.command;
     match command {

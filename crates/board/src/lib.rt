@@ -2,13 +2,13 @@
 use machine::Made;
 use panel::Ran;
 ghost use mathlib.Core.Path.{_≡_};
-ghost use Rattle.memory.specs.Buffers.{buffers};
+ghost use Rattle.memory.specs.Buffers.{lent};
 ghost use Rattle.panel.specs.Run.{ran, answerOf, called};
 ghost use Rattle.board.specs.Board.{boardRunOf};
 
 // A run of a channel from reset and power-up on: `lines` held throughout, at most `limit` steps.
 pub fn board_run(sys: &mut [u8], io: &mut [u8], channel: u32, lines: u32, limit: u32) -> Ran
-    ensures { λ r. ⌜ ran (r .number) (r .steps) (buffers (now (sys .exit)) (now (io .exit))) ≡ boardRunOf (buffers (now (sys .entry)) (now (io .entry))) channel lines limit ⌝ }
+    ensures { λ r. ⌜ ran (r .number) (r .steps) (lent (sys .exit) (io .exit)) ≡ boardRunOf (lent (sys .entry) (io .entry)) channel lines limit ⌝ }
 {
     let number = panel::call_number(sys, io, channel, lines, limit);
     if number != 0 {
@@ -32,7 +32,7 @@ pub extern "C" fn iop89_board(
     lines: u32,
     limit: u32,
 ) -> u32
-    ensures { λ r. ⌜ called r (buffers (now (sys .exit)) (now (io .exit))) ≡ called (answerOf (boardRunOf (buffers (now (sys .entry)) (now (io .entry))) channel lines limit)) (boardRunOf (buffers (now (sys .entry)) (now (io .entry))) channel lines limit .memory) ⌝ }
+    ensures { λ r. ⌜ called r (lent (sys .exit) (io .exit)) ≡ called (answerOf (boardRunOf (lent (sys .entry) (io .entry)) channel lines limit)) (boardRunOf (lent (sys .entry) (io .entry)) channel lines limit .memory) ⌝ }
 {
     let r = board_run(sys, io, channel, lines, limit);
     r.number % 65536 * 65536 + r.steps % 65536

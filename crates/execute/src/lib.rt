@@ -9,7 +9,7 @@ use execute_operands::changes;
 use machine::Channel;
 use memory::Pointer;
 ghost use mathlib.Core.Path.{_≡_};
-ghost use Rattle.memory.specs.Buffers.{buffers};
+ghost use Rattle.memory.specs.Buffers.{lent};
 ghost use Rattle.execute_deeds.specs.Deeds.{effectOf, afterWrite};
 ghost use Rattle.execute_deeds.specs.Writes.{noWrite};
 ghost use Rattle.decode_shapes.specs.declared.Decoded.the-variants.{Instruction};
@@ -37,7 +37,7 @@ fn perform(
     sys: &[u8],
     io: &[u8],
 ) -> Effect
-    ensures { λ r. ⌜ afterWrite r ≡ effectOf (buffers (now (sys .entry)) (now (io .entry))) (performed shape (buffers (now (sys .entry)) (now (io .entry))) c tp armed busy) ⌝ }
+    ensures { λ r. ⌜ afterWrite r ≡ effectOf (lent (sys .entry) (io .entry)) (performed shape (lent (sys .entry) (io .entry)) c tp armed busy) ⌝ }
 {
     match shape {
         Shape::Nop => control::nop(c),
@@ -157,7 +157,7 @@ fn refused(c: Channel, number: u32) -> Effect
 // bytes are among those that are read.
 fn shaped(shape: Shape, count: u32, c: Channel, busy: u32, sys: &[u8], io: &[u8]) -> Effect
     requires { ⌜ count ≡ lengthOf shape ⌝ }
-    ensures { λ r. ⌜ Planned (laterNumber (Instruction shape) (buffers (now (sys .entry)) (now (io .entry))) c busy) (lengthOf shape) (deedOf shape (buffers (now (sys .entry)) (now (io .entry))) c busy) r ⌝ }
+    ensures { λ r. ⌜ Planned (laterNumber (Instruction shape) (lent (sys .entry) (io .entry)) c busy) (lengthOf shape) (deedOf shape (lent (sys .entry) (io .entry)) c busy) r ⌝ }
 {
     let tp = c.tp;
     if !execute_operands::touchable(memory::onward(tp, 2), count - 2, sys, io) {
@@ -178,7 +178,7 @@ fn shaped(shape: Shape, count: u32, c: Channel, busy: u32, sys: &[u8], io: &[u8]
 
 // The next instruction of a channel, worked out and neither stored nor written; BUSY is at `busy` of system memory.
 fn plan(c: Channel, busy: u32, sys: &[u8], io: &[u8]) -> Effect
-    ensures { λ r. ⌜ Planned (planNumber (buffers (now (sys .entry)) (now (io .entry))) c busy) (lengthFrom (decodedAt (buffers (now (sys .entry)) (now (io .entry))) (c .tp))) (deedAt (buffers (now (sys .entry)) (now (io .entry))) c busy) r ⌝ }
+    ensures { λ r. ⌜ Planned (planNumber (lent (sys .entry) (io .entry)) c busy) (lengthFrom (decodedAt (lent (sys .entry) (io .entry)) (c .tp))) (deedAt (lent (sys .entry) (io .entry)) c busy) r ⌝ }
 {
     let tp = c.tp;
     if !execute_operands::touchable(tp, 2, sys, io) {
@@ -196,8 +196,8 @@ fn plan(c: Channel, busy: u32, sys: &[u8], io: &[u8]) -> Effect
 
 // One instruction of a channel, done or refused; BUSY is at `busy` of system memory.
 pub fn execute(c: Channel, busy: u32, sys: &mut [u8], io: &mut [u8]) -> Done
-    ensures left { λ r. ⌜ executed (r .number) (r .channel) (buffers (now (sys .exit)) (now (io .exit))) ≡ executeOf c busy (buffers (now (sys .entry)) (now (io .entry))) ⌝ }
-    ensures count { λ r. ⌜ r .count ≡ executeCount c busy (buffers (now (sys .entry)) (now (io .entry))) ⌝ }
+    ensures left { λ r. ⌜ executed (r .number) (r .channel) (lent (sys .exit) (io .exit)) ≡ executeOf c busy (lent (sys .entry) (io .entry)) ⌝ }
+    ensures count { λ r. ⌜ r .count ≡ executeCount c busy (lent (sys .entry) (io .entry)) ⌝ }
 {
     let e = plan(c, busy, sys, io);
     if e.number != 0 {

@@ -8,7 +8,7 @@ use execute_operands::changes;
 use machine::Channel;
 use memory::Pointer;
 ghost use mathlib.Core.Path.{_≡_};
-ghost use Rattle.memory.specs.Buffers.{buffers};
+ghost use Rattle.memory.specs.Buffers.{lent};
 ghost use Rattle.execute_deeds.specs.Deeds.{effectOf, unread};
 ghost use Rattle.execute_deeds.specs.JumpForms as Jumps;
 ghost use Rattle.execute_deeds.specs.JumpForms.{jumpRegisterDeed, jumpMemoryDeed, jumpMaskedDeed, jumpBitDeed, tslDeed, callDeed};
@@ -30,7 +30,7 @@ pub fn jump_register(
     sys: &[u8],
     io: &[u8],
 ) -> Effect
-    ensures { λ r. ⌜ r ≡ unread (jumpRegisterDeed (buffers (now (sys .entry)) (now (io .entry))) c tp zero rrr two) ⌝ }
+    ensures { λ r. ⌜ r ≡ unread (jumpRegisterDeed (lent (sys .entry) (io .entry)) c tp zero rrr two) ⌝ }
 {
     let taken = agrees(zero, machine::registers::value(c, rrr) % 65536 == 0);
     let mut next = c;
@@ -48,7 +48,7 @@ pub fn jump_memory(
     sys: &[u8],
     io: &[u8],
 ) -> Effect
-    ensures { λ r. ⌜ r ≡ effectOf (buffers (now (sys .entry)) (now (io .entry))) (jumpMemoryDeed (buffers (now (sys .entry)) (now (io .entry))) c tp zero m two) ⌝ }
+    ensures { λ r. ⌜ r ≡ effectOf (lent (sys .entry) (io .entry)) (jumpMemoryDeed (lent (sys .entry) (io .entry)) c tp zero m two) ⌝ }
 {
     let at = execute_operands::effective(c, m, tp, sys, io);
     let taken = agrees(zero, execute_operands::operand(at, m.wide, sys, io) == 0);
@@ -68,7 +68,7 @@ pub fn jump_masked(
     sys: &[u8],
     io: &[u8],
 ) -> Effect
-    ensures { λ r. ⌜ r ≡ effectOf (buffers (now (sys .entry)) (now (io .entry))) (jumpMaskedDeed (buffers (now (sys .entry)) (now (io .entry))) c tp equal m two) ⌝ }
+    ensures { λ r. ⌜ r ≡ effectOf (lent (sys .entry) (io .entry)) (jumpMaskedDeed (lent (sys .entry) (io .entry)) c tp equal m two) ⌝ }
 {
     let at = execute_operands::effective(c, m, tp, sys, io);
     let taken = agrees(
@@ -92,7 +92,7 @@ pub fn jump_bit(
     sys: &[u8],
     io: &[u8],
 ) -> Effect
-    ensures { λ r. ⌜ r ≡ effectOf (buffers (now (sys .entry)) (now (io .entry))) (jumpBitDeed (buffers (now (sys .entry)) (now (io .entry))) c tp set bit m two) ⌝ }
+    ensures { λ r. ⌜ r ≡ effectOf (lent (sys .entry) (io .entry)) (jumpBitDeed (lent (sys .entry) (io .entry)) c tp set bit m two) ⌝ }
 {
     let at = execute_operands::effective(c, m, tp, sys, io);
     let taken = agrees(
@@ -107,7 +107,7 @@ pub fn jump_bit(
 
 // TSL.
 pub fn tsl(c: Channel, tp: Pointer, m: Memory, sys: &[u8], io: &[u8]) -> Effect
-    ensures { λ r. ⌜ r ≡ effectOf (buffers (now (sys .entry)) (now (io .entry))) (tslDeed (buffers (now (sys .entry)) (now (io .entry))) c tp m) ⌝ }
+    ensures { λ r. ⌜ r ≡ effectOf (lent (sys .entry) (io .entry)) (tslDeed (lent (sys .entry) (io .entry)) c tp m) ⌝ }
 {
     let at = execute_operands::effective(c, m, tp, sys, io);
     let mut next = execute_operands::grown(c, m, 1);
@@ -127,7 +127,7 @@ pub fn tsl(c: Channel, tp: Pointer, m: Memory, sys: &[u8], io: &[u8]) -> Effect
 
 // CALL.
 pub fn call(c: Channel, tp: Pointer, m: Memory, two: bool, sys: &[u8], io: &[u8]) -> Effect
-    ensures { λ r. ⌜ r ≡ unread (callDeed (buffers (now (sys .entry)) (now (io .entry))) c tp m two) ⌝ }
+    ensures { λ r. ⌜ r ≡ unread (callDeed (lent (sys .entry) (io .entry)) c tp m two) ⌝ }
 {
     let back = c.tp;
     let p = execute_operands::after_pair(tp, m);

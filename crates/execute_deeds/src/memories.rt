@@ -10,7 +10,7 @@ use execute_operands::changes;
 use machine::Channel;
 use memory::Pointer;
 ghost use mathlib.Core.Path.{_≡_};
-ghost use Rattle.memory.specs.Buffers.{buffers};
+ghost use Rattle.memory.specs.Buffers.{lent};
 ghost use Rattle.execute_deeds.specs.Deeds.{effectOf, unread};
 ghost use Rattle.execute_deeds.specs.MemoryForms as MemoryForms;
 ghost use Rattle.execute_deeds.specs.MemoryForms.{workedBack, memoryRegisterDeed, memoryImmediateDeed, memoryAloneDeed, movpStoreDeed, bitWritten, bitDeed, movMemoryDeed};
@@ -28,7 +28,7 @@ fn read_first(work: Work, wide: bool) -> u32
 
 // What the work of a memory operand and another value stores back.
 fn worked_back(at: Pointer, work: Work, wide: bool, v: u32, sys: &[u8], io: &[u8]) -> Change
-    ensures { λ r. ⌜ r ≡ workedBack (buffers (now (sys .entry)) (now (io .entry))) at work wide v ⌝ }
+    ensures { λ r. ⌜ r ≡ workedBack (lent (sys .entry) (io .entry)) at work wide v ⌝ }
 {
     let w = execute_operands::work(work, execute_operands::operand(at, wide, sys, io), v);
     changes::result_to(at, wide, w)
@@ -44,7 +44,7 @@ pub fn memory_register(
     sys: &[u8],
     io: &[u8],
 ) -> Effect
-    ensures { λ r. ⌜ r ≡ effectOf (buffers (now (sys .entry)) (now (io .entry))) (memoryRegisterDeed (buffers (now (sys .entry)) (now (io .entry))) c tp work rrr m) ⌝ }
+    ensures { λ r. ⌜ r ≡ effectOf (lent (sys .entry) (io .entry)) (memoryRegisterDeed (lent (sys .entry) (io .entry)) c tp work rrr m) ⌝ }
 {
     let at = execute_operands::effective(c, m, tp, sys, io);
     let v = machine::registers::value(c, rrr);
@@ -67,7 +67,7 @@ pub fn memory_immediate(
     sys: &[u8],
     io: &[u8],
 ) -> Effect
-    ensures { λ r. ⌜ r ≡ effectOf (buffers (now (sys .entry)) (now (io .entry))) (memoryImmediateDeed (buffers (now (sys .entry)) (now (io .entry))) c tp work m) ⌝ }
+    ensures { λ r. ⌜ r ≡ effectOf (lent (sys .entry) (io .entry)) (memoryImmediateDeed (lent (sys .entry) (io .entry)) c tp work m) ⌝ }
 {
     let at = execute_operands::effective(c, m, tp, sys, io);
     let v = execute_operands::operand(execute_operands::after_pair(tp, m), m.wide, sys, io);
@@ -90,7 +90,7 @@ pub fn memory_alone(
     sys: &[u8],
     io: &[u8],
 ) -> Effect
-    ensures { λ r. ⌜ r ≡ effectOf (buffers (now (sys .entry)) (now (io .entry))) (memoryAloneDeed (buffers (now (sys .entry)) (now (io .entry))) c tp single m) ⌝ }
+    ensures { λ r. ⌜ r ≡ effectOf (lent (sys .entry) (io .entry)) (memoryAloneDeed (lent (sys .entry) (io .entry)) c tp single m) ⌝ }
 {
     let at = execute_operands::effective(c, m, tp, sys, io);
     let w = execute_operands::single(single, execute_operands::operand(at, m.wide, sys, io));
@@ -106,7 +106,7 @@ pub fn memory_alone(
 
 // MOVP from a pointer.
 pub fn movp_store(c: Channel, tp: Pointer, ppp: u32, m: Memory, sys: &[u8], io: &[u8]) -> Effect
-    ensures { λ r. ⌜ r ≡ unread (movpStoreDeed (buffers (now (sys .entry)) (now (io .entry))) c tp ppp m) ⌝ }
+    ensures { λ r. ⌜ r ≡ unread (movpStoreDeed (lent (sys .entry) (io .entry)) c tp ppp m) ⌝ }
 {
     let p = Pointer {
         address: machine::registers::value(c, ppp),
@@ -130,7 +130,7 @@ fn bit_written(byte: u8, bit: u32, on: bool) -> u32
 
 // SETB and CLR.
 pub fn bit(c: Channel, tp: Pointer, on: bool, bit: u32, m: Memory, sys: &[u8], io: &[u8]) -> Effect
-    ensures { λ r. ⌜ r ≡ effectOf (buffers (now (sys .entry)) (now (io .entry))) (bitDeed (buffers (now (sys .entry)) (now (io .entry))) c tp on bit m) ⌝ }
+    ensures { λ r. ⌜ r ≡ effectOf (lent (sys .entry) (io .entry)) (bitDeed (lent (sys .entry) (io .entry)) c tp on bit m) ⌝ }
 {
     let at = execute_operands::effective(c, m, tp, sys, io);
     let v = bit_written(execute_operands::byte(at, sys, io), bit, on);
@@ -145,7 +145,7 @@ pub fn bit(c: Channel, tp: Pointer, on: bool, bit: u32, m: Memory, sys: &[u8], i
 
 // MOV M,M, its second operand read.
 fn mov_operand(c: Channel, tp: Pointer, m: Memory, q: Memory, sys: &[u8], io: &[u8]) -> Effect
-    ensures { λ r. ⌜ r ≡ effectOf (buffers (now (sys .entry)) (now (io .entry))) (MemoryForms.movOperandDeed (buffers (now (sys .entry)) (now (io .entry))) c tp m q) ⌝ }
+    ensures { λ r. ⌜ r ≡ effectOf (lent (sys .entry) (io .entry)) (MemoryForms.movOperandDeed (lent (sys .entry) (io .entry)) c tp m q) ⌝ }
 {
     let at = execute_operands::effective(c, m, tp, sys, io);
     let pair = execute_operands::after_pair(tp, m);
@@ -167,7 +167,7 @@ fn mov_operand(c: Channel, tp: Pointer, m: Memory, q: Memory, sys: &[u8], io: &[
 
 // MOV M,M.
 pub fn mov_memory(c: Channel, tp: Pointer, m: Memory, sys: &[u8], io: &[u8]) -> Effect
-    ensures { λ r. ⌜ r ≡ effectOf (buffers (now (sys .entry)) (now (io .entry))) (movMemoryDeed (buffers (now (sys .entry)) (now (io .entry))) c tp m) ⌝ }
+    ensures { λ r. ⌜ r ≡ effectOf (lent (sys .entry) (io .entry)) (movMemoryDeed (lent (sys .entry) (io .entry)) c tp m) ⌝ }
 {
     let pair = execute_operands::after_pair(tp, m);
     let second = decode::decode_second(

@@ -8,7 +8,7 @@ use execute_operands::changes;
 use machine::Channel;
 use memory::Pointer;
 ghost use mathlib.Core.Path.{_≡_};
-ghost use Rattle.memory.specs.Buffers.{buffers};
+ghost use Rattle.memory.specs.Buffers.{lent};
 ghost use Rattle.execute_deeds.specs.Deeds.{effectOf, unread, afterWrite};
 ghost use Rattle.execute_operands.specs.Operands.{readNumber};
 ghost use Rattle.execute_operands.specs.Changes.{nothing};
@@ -53,7 +53,7 @@ fn writing(c: Channel, write: Write) -> Effect
 
 // A channel and the register to be written, after n operand bytes were read at a place.
 pub fn after(at: Pointer, n: u32, c: Channel, write: Write, sys: &[u8], io: &[u8]) -> Effect
-    ensures { λ r. ⌜ r ≡ record { number = readNumber (buffers (now (sys .entry)) (now (io .entry))) at n; reads = n; channel = c; change = nothing; write = write } ⌝ }
+    ensures { λ r. ⌜ r ≡ record { number = readNumber (lent (sys .entry) (io .entry)) at n; reads = n; channel = c; change = nothing; write = write } ⌝ }
 {
     Effect {
         number: execute_operands::read_number(at, n, sys, io),
@@ -74,7 +74,7 @@ pub fn register_immediate(
     sys: &[u8],
     io: &[u8],
 ) -> Effect
-    ensures { λ r. ⌜ afterWrite r ≡ unread (registerImmediateDeed (buffers (now (sys .entry)) (now (io .entry))) c tp work rrr wide) ⌝ }
+    ensures { λ r. ⌜ afterWrite r ≡ unread (registerImmediateDeed (lent (sys .entry) (io .entry)) c tp work rrr wide) ⌝ }
 {
     let v = execute_operands::operand(memory::onward(tp, 2), wide, sys, io);
     let w = execute_operands::work(work, machine::registers::value(c, rrr), v);
@@ -99,7 +99,7 @@ pub fn register_memory(
     sys: &[u8],
     io: &[u8],
 ) -> Effect
-    ensures { λ r. ⌜ afterWrite r ≡ effectOf (buffers (now (sys .entry)) (now (io .entry))) (registerMemoryDeed (buffers (now (sys .entry)) (now (io .entry))) c tp work rrr m) ⌝ }
+    ensures { λ r. ⌜ afterWrite r ≡ effectOf (lent (sys .entry) (io .entry)) (registerMemoryDeed (lent (sys .entry) (io .entry)) c tp work rrr m) ⌝ }
 {
     let at = execute_operands::effective(c, m, tp, sys, io);
     let v = execute_operands::work(
@@ -120,7 +120,7 @@ pub fn register_memory(
 
 // LPDI.
 pub fn lpdi(c: Channel, tp: Pointer, ppp: u32, sys: &[u8], io: &[u8]) -> Effect
-    ensures { λ r. ⌜ afterWrite r ≡ unread (lpdiDeed (buffers (now (sys .entry)) (now (io .entry))) c tp ppp) ⌝ }
+    ensures { λ r. ⌜ afterWrite r ≡ unread (lpdiDeed (lent (sys .entry) (io .entry)) c tp ppp) ⌝ }
 {
     let at = memory::onward(tp, 2);
     let v = memory::doubleword(sys, io, at.tag, at.address);
@@ -129,7 +129,7 @@ pub fn lpdi(c: Channel, tp: Pointer, ppp: u32, sys: &[u8], io: &[u8]) -> Effect
 
 // LPD.
 pub fn lpd(c: Channel, tp: Pointer, ppp: u32, m: Memory, sys: &[u8], io: &[u8]) -> Effect
-    ensures { λ r. ⌜ afterWrite r ≡ effectOf (buffers (now (sys .entry)) (now (io .entry))) (lpdDeed (buffers (now (sys .entry)) (now (io .entry))) c tp ppp m) ⌝ }
+    ensures { λ r. ⌜ afterWrite r ≡ effectOf (lent (sys .entry) (io .entry)) (lpdDeed (lent (sys .entry) (io .entry)) c tp ppp m) ⌝ }
 {
     let at = execute_operands::effective(c, m, tp, sys, io);
     let v = memory::doubleword(sys, io, at.tag, at.address);
@@ -145,7 +145,7 @@ pub fn lpd(c: Channel, tp: Pointer, ppp: u32, m: Memory, sys: &[u8], io: &[u8]) 
 
 // MOVP to a pointer.
 pub fn movp_load(c: Channel, tp: Pointer, ppp: u32, m: Memory, sys: &[u8], io: &[u8]) -> Effect
-    ensures { λ r. ⌜ afterWrite r ≡ effectOf (buffers (now (sys .entry)) (now (io .entry))) (movpLoadDeed (buffers (now (sys .entry)) (now (io .entry))) c tp ppp m) ⌝ }
+    ensures { λ r. ⌜ afterWrite r ≡ effectOf (lent (sys .entry) (io .entry)) (movpLoadDeed (lent (sys .entry) (io .entry)) c tp ppp m) ⌝ }
 {
     let at = execute_operands::effective(c, m, tp, sys, io);
     let p = memory::stored_pointer(sys, io, at.tag, at.address);

@@ -3,7 +3,7 @@ use crate::Change;
 use memory::Pointer;
 ghost use mathlib.Core.Path.{_≡_};
 ghost use Rattle.words.specs.Choice.{pick};
-ghost use Rattle.memory.specs.Buffers.{buffers};
+ghost use Rattle.memory.specs.Buffers.{lent};
 ghost use Rattle.memory.specs.Places.{allTouchable};
 ghost use Rattle.execute_operands.specs.Changes as Changes;
 ghost use Rattle.execute_operands.specs.Changes.{placesOf, changed, byteTo, resultTo, pointerTo};
@@ -60,7 +60,7 @@ pub fn pointer_to(at: Pointer, p: Pointer) -> Change
 
 // The stores of a change.
 fn store(change: Change, sys: &mut [u8], io: &mut [u8])
-    ensures { λ r. ⌜ buffers (now (sys .exit)) (now (io .exit)) ≡ changed (buffers (now (sys .entry)) (now (io .entry))) change ⌝ }
+    ensures { λ r. ⌜ lent (sys .exit) (io .exit) ≡ changed (lent (sys .entry) (io .entry)) change ⌝ }
 {
     let count = change.count;
     if count == 0 {
@@ -94,8 +94,8 @@ fn store(change: Change, sys: &mut [u8], io: &mut [u8])
 
 // A change made where all its places may be touched, else nothing; and whether they may.
 pub fn made(change: Change, sys: &mut [u8], io: &mut [u8]) -> bool
-    ensures told { λ r. ⌜ r ≡ allTouchable (buffers (now (sys .entry)) (now (io .entry))) (placesOf change) ⌝ }
-    ensures stored { λ r. ⌜ buffers (now (sys .exit)) (now (io .exit)) ≡ pick r (changed (buffers (now (sys .entry)) (now (io .entry))) change) (buffers (now (sys .entry)) (now (io .entry))) ⌝ }
+    ensures told { λ r. ⌜ r ≡ allTouchable (lent (sys .entry) (io .entry)) (placesOf change) ⌝ }
+    ensures stored { λ r. ⌜ lent (sys .exit) (io .exit) ≡ pick r (changed (lent (sys .entry) (io .entry)) change) (lent (sys .entry) (io .entry)) ⌝ }
 {
     let at = change.at;
     if !memory::span_touchable(sys, io, at.tag, at.address, change.count) {

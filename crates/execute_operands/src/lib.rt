@@ -9,7 +9,7 @@ use memory::Pointer;
 pub mod changes;
 
 ghost use mathlib.Core.Path.{_≡_};
-ghost use Rattle.memory.specs.Buffers.{buffers};
+ghost use Rattle.memory.specs.Buffers.{lent};
 ghost use Rattle.memory.specs.Places.{allTouchable};
 ghost use Rattle.words.specs.Choice.{pick};
 ghost use Rattle.machine.specs.Outcomes.{unless};
@@ -26,21 +26,21 @@ pub struct Change {
 
 // The byte at a place.
 pub fn byte(p: Pointer, sys: &[u8], io: &[u8]) -> u8
-    ensures { λ r. ⌜ r ≡ byteHere (buffers (now (sys .entry)) (now (io .entry))) p ⌝ }
+    ensures { λ r. ⌜ r ≡ byteHere (lent (sys .entry) (io .entry)) p ⌝ }
 {
     memory::byte(sys, io, p.tag, p.address)
 }
 
 // The word at a place.
 pub fn word(p: Pointer, sys: &[u8], io: &[u8]) -> u16
-    ensures { λ r. ⌜ r ≡ wordHere (buffers (now (sys .entry)) (now (io .entry))) p ⌝ }
+    ensures { λ r. ⌜ r ≡ wordHere (lent (sys .entry) (io .entry)) p ⌝ }
 {
     memory::word(sys, io, p.tag, p.address)
 }
 
 // Whether n bytes at a place may be touched.
 pub fn touchable(p: Pointer, n: u32, sys: &[u8], io: &[u8]) -> bool
-    ensures { λ r. ⌜ r ≡ allTouchable (buffers (now (sys .entry)) (now (io .entry))) (bytesAt p n) ⌝ }
+    ensures { λ r. ⌜ r ≡ allTouchable (lent (sys .entry) (io .entry)) (bytesAt p n) ⌝ }
 {
     memory::span_touchable(sys, io, p.tag, p.address, n)
 }
@@ -82,7 +82,7 @@ pub fn size(wide: bool) -> u32
 
 // What AA adds to the base.
 fn index(c: Channel, m: Memory, pair: Pointer, sys: &[u8], io: &[u8]) -> u32
-    ensures { λ r. ⌜ r ≡ Operands.indexed (buffers (now (sys .entry)) (now (io .entry))) c m pair ⌝ }
+    ensures { λ r. ⌜ r ≡ Operands.indexed (lent (sys .entry) (io .entry)) c m pair ⌝ }
 {
     let aa = m.aa;
     if aa == 0 {
@@ -96,7 +96,7 @@ fn index(c: Channel, m: Memory, pair: Pointer, sys: &[u8], io: &[u8]) -> u32
 
 // The place of a memory operand whose pair is at `pair`.
 pub fn effective(c: Channel, m: Memory, pair: Pointer, sys: &[u8], io: &[u8]) -> Pointer
-    ensures { λ r. ⌜ r ≡ Operands.effective (buffers (now (sys .entry)) (now (io .entry))) c m pair ⌝ }
+    ensures { λ r. ⌜ r ≡ Operands.effective (lent (sys .entry) (io .entry)) c m pair ⌝ }
 {
     memory::onward(
         machine::registers::base(c, m.mm),
@@ -117,7 +117,7 @@ pub fn grown(c: Channel, m: Memory, by: u16) -> Channel
 
 // The operand at a place, sign-extended to 20 bits.
 pub fn operand(p: Pointer, wide: bool, sys: &[u8], io: &[u8]) -> u32
-    ensures { λ r. ⌜ r ≡ operandAt (buffers (now (sys .entry)) (now (io .entry))) p wide ⌝ }
+    ensures { λ r. ⌜ r ≡ operandAt (lent (sys .entry) (io .entry)) p wide ⌝ }
 {
     if wide {
         words::extend_word(word(p, sys, io))
@@ -128,7 +128,7 @@ pub fn operand(p: Pointer, wide: bool, sys: &[u8], io: &[u8]) -> u32
 
 // Where a jump by the displacement at a place leads.
 pub fn landing(tp: Pointer, p: Pointer, two: bool, sys: &[u8], io: &[u8]) -> Pointer
-    ensures { λ r. ⌜ r ≡ Operands.landing (buffers (now (sys .entry)) (now (io .entry))) tp p two ⌝ }
+    ensures { λ r. ⌜ r ≡ Operands.landing (lent (sys .entry) (io .entry)) tp p two ⌝ }
 {
     if two {
         Pointer {
@@ -145,7 +145,7 @@ pub fn landing(tp: Pointer, p: Pointer, two: bool, sys: &[u8], io: &[u8]) -> Poi
 
 // Where TP stands after a jump that is taken or not.
 pub fn led(taken: bool, tp: Pointer, p: Pointer, two: bool, sys: &[u8], io: &[u8]) -> Pointer
-    ensures { λ r. ⌜ r ≡ pick taken (Operands.landing (buffers (now (sys .entry)) (now (io .entry))) tp p two) tp ⌝ }
+    ensures { λ r. ⌜ r ≡ pick taken (Operands.landing (lent (sys .entry) (io .entry)) tp p two) tp ⌝ }
 {
     if taken {
         landing(tp, p, two, sys, io)
@@ -211,7 +211,7 @@ pub fn two_unless(ok: bool) -> u32
 
 // 2 where n bytes at a place may not all be touched, else 0.
 pub fn read_number(p: Pointer, n: u32, sys: &[u8], io: &[u8]) -> u32
-    ensures { λ r. ⌜ r ≡ readNumber (buffers (now (sys .entry)) (now (io .entry))) p n ⌝ }
+    ensures { λ r. ⌜ r ≡ readNumber (lent (sys .entry) (io .entry)) p n ⌝ }
 {
     two_unless(touchable(p, n, sys, io))
 }

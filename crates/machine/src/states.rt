@@ -9,7 +9,7 @@ use crate::cc;
 use memory::Pointer;
 ghost use mathlib.Core.Bool.{false};
 ghost use mathlib.Core.Path.{_≡_};
-ghost use Rattle.memory.specs.Buffers.{buffers};
+ghost use Rattle.memory.specs.Buffers.{lent};
 ghost use Rattle.machine.specs.Outcomes.{givenNumber};
 ghost use Rattle.machine.specs.States as States;
 ghost use Rattle.machine.specs.States.{boardWith, idleChannel, blankState, resetState, freshOf, channelOf, withChannel, withLast, soundChannel, fieldsAgree, isRunning, isSuspended, blockOf, isChannel, isSecond, channelNumber};
@@ -201,7 +201,7 @@ pub fn number(second: bool) -> u32
 // The refusal of what a call is given: 11 for a buffer past its limit, 10 for a state that is not sound, 13 for one that
 // is not powered up, 14 for one whose fields are not those of CC, else 0.
 pub fn given_number(s: State, sys: &[u8], io: &[u8]) -> u32
-    ensures { λ r. ⌜ r ≡ givenNumber s (buffers (now (sys .entry)) (now (io .entry))) ⌝ }
+    ensures { λ r. ⌜ r ≡ givenNumber s (lent (sys .entry) (io .entry)) ⌝ }
 {
     if !memory::within_limits(sys, io) {
         return 11;

@@ -1,5 +1,6 @@
 -- The two lent buffers (§1), and all that is decided about a single byte: where it lies, whether it is lent, whether a call may touch it, what a
 -- read gives and what a store does.
+use denote.Ref.{RefT, now}
 use mathlib.Core.Bool.{Bool, true, false, _&&_, _||_}
 use mathlib.Core.Path.{_≡_}
 use mathlib.Core.List.{List}
@@ -15,6 +16,10 @@ pub record Buffers : Type 0 where
 
 abbrev pub buffers : List ℕ → List ℕ → Buffers
 buffers sys io = record { sys = sys; io = io }
+
+-- what two lent buffers hold, as a contract speaks of them: at entry, at exit
+abbrev pub lent : RefT (List ℕ) → RefT (List ℕ) → Buffers
+lent sys io = buffers (now sys) (now io)
 
 -- the buffer that a tag names: 0 system memory, 1 I/O memory (§1.2)
 unfoldable pub spaceOf : Buffers → Bool → List ℕ

@@ -3,7 +3,7 @@
 ghost use mathlib.Core.Path.{_≡_};
 ghost use Prim.Native.Nat.{_+_};
 ghost use lib.ListN.{getD, set};
-ghost use Rattle.memory.specs.Buffers.{buffers, indexOf, lentAt, touchableAt, byteAt, storeByte, withinLimits};
+ghost use Rattle.memory.specs.Buffers.{lent, indexOf, lentAt, touchableAt, byteAt, storeByte, withinLimits};
 ghost use Rattle.memory.specs.Values as Values;
 ghost use Rattle.memory.specs.Values.{wordAt, doublewordAt, pointerAt, storeWord, storeDoubleword, storePointer};
 ghost use Rattle.memory.specs.Places.{span, allLent, allTouchable};
@@ -53,14 +53,14 @@ fn write(buffer: &mut [u8], at: usize, v: u8)
 
 // Whether neither buffer is longer than its limit.
 pub fn within_limits(sys: &[u8], io: &[u8]) -> bool
-    ensures { λ r. ⌜ r ≡ withinLimits (buffers (now (sys .entry)) (now (io .entry))) ⌝ }
+    ensures { λ r. ⌜ r ≡ withinLimits (lent (sys .entry) (io .entry)) ⌝ }
 {
     (sys.len() <= 1048576) & (io.len() <= 65536)
 }
 
 // Whether the byte at an address is lent.
 pub fn lent(sys: &[u8], io: &[u8], tag: bool, address: u32) -> bool
-    ensures { λ r. ⌜ r ≡ lentAt (buffers (now (sys .entry)) (now (io .entry))) tag address ⌝ }
+    ensures { λ r. ⌜ r ≡ lentAt (lent (sys .entry) (io .entry)) tag address ⌝ }
 {
     let at = index(tag, address);
     if tag { at < io.len() } else { at < sys.len() }
@@ -68,7 +68,7 @@ pub fn lent(sys: &[u8], io: &[u8], tag: bool, address: u32) -> bool
 
 // Whether `count` bytes in a row are lent, wherever the addresses wrap.
 pub fn span_lent(sys: &[u8], io: &[u8], tag: bool, address: u32, count: u32) -> bool
-    ensures { λ r. ⌜ r ≡ allLent (buffers (now (sys .entry)) (now (io .entry))) (span tag address count) ⌝ }
+    ensures { λ r. ⌜ r ≡ allLent (lent (sys .entry) (io .entry)) (span tag address count) ⌝ }
 {
     if count == 0 {
         return true;
@@ -83,7 +83,7 @@ pub fn span_lent(sys: &[u8], io: &[u8], tag: bool, address: u32, count: u32) -> 
 
 // Whether a call may touch the byte at an address: in I/O space always, in system space where it is lent.
 pub fn touchable(sys: &[u8], io: &[u8], tag: bool, address: u32) -> bool
-    ensures { λ r. ⌜ r ≡ touchableAt (buffers (now (sys .entry)) (now (io .entry))) tag address ⌝ }
+    ensures { λ r. ⌜ r ≡ touchableAt (lent (sys .entry) (io .entry)) tag address ⌝ }
 {
     if tag {
         return true;
@@ -93,7 +93,7 @@ pub fn touchable(sys: &[u8], io: &[u8], tag: bool, address: u32) -> bool
 
 // Whether a call may touch `count` bytes in a row.
 pub fn span_touchable(sys: &[u8], io: &[u8], tag: bool, address: u32, count: u32) -> bool
-    ensures { λ r. ⌜ r ≡ allTouchable (buffers (now (sys .entry)) (now (io .entry))) (span tag address count) ⌝ }
+    ensures { λ r. ⌜ r ≡ allTouchable (lent (sys .entry) (io .entry)) (span tag address count) ⌝ }
 {
     if tag {
         return true;
@@ -103,7 +103,7 @@ pub fn span_touchable(sys: &[u8], io: &[u8], tag: bool, address: u32, count: u32
 
 // The byte at an address; FFh from an empty slot of I/O space.
 pub fn byte(sys: &[u8], io: &[u8], tag: bool, address: u32) -> u8
-    ensures { λ r. ⌜ r ≡ byteAt (buffers (now (sys .entry)) (now (io .entry))) tag address ⌝ }
+    ensures { λ r. ⌜ r ≡ byteAt (lent (sys .entry) (io .entry)) tag address ⌝ }
 {
     let at = index(tag, address);
     if tag {
@@ -115,7 +115,7 @@ pub fn byte(sys: &[u8], io: &[u8], tag: bool, address: u32) -> u8
 
 // The word at an address.
 pub fn word(sys: &[u8], io: &[u8], tag: bool, address: u32) -> u16
-    ensures { λ r. ⌜ r ≡ wordAt (buffers (now (sys .entry)) (now (io .entry))) tag address ⌝ }
+    ensures { λ r. ⌜ r ≡ wordAt (lent (sys .entry) (io .entry)) tag address ⌝ }
 {
     let low = byte(sys, io, tag, address);
     let high = byte(sys, io, tag, words::sum20(address, 1));
@@ -124,7 +124,7 @@ pub fn word(sys: &[u8], io: &[u8], tag: bool, address: u32) -> u16
 
 // The address that the doubleword pointer at an address gives.
 pub fn doubleword(sys: &[u8], io: &[u8], tag: bool, address: u32) -> u32
-    ensures { λ r. ⌜ r ≡ doublewordAt (buffers (now (sys .entry)) (now (io .entry))) tag address ⌝ }
+    ensures { λ r. ⌜ r ≡ doublewordAt (lent (sys .entry) (io .entry)) tag address ⌝ }
 {
     let offset = word(sys, io, tag, address);
     let segment = word(sys, io, tag, words::sum20(address, 2));
@@ -133,7 +133,7 @@ pub fn doubleword(sys: &[u8], io: &[u8], tag: bool, address: u32) -> u32
 
 // The pointer that the three bytes at an address store.
 pub fn stored_pointer(sys: &[u8], io: &[u8], tag: bool, address: u32) -> Pointer
-    ensures { λ r. ⌜ r ≡ pointerAt (buffers (now (sys .entry)) (now (io .entry))) tag address ⌝ }
+    ensures { λ r. ⌜ r ≡ pointerAt (lent (sys .entry) (io .entry)) tag address ⌝ }
 {
     let low = byte(sys, io, tag, address);
     let middle = byte(sys, io, tag, words::sum20(address, 1));
@@ -146,7 +146,7 @@ pub fn stored_pointer(sys: &[u8], io: &[u8], tag: bool, address: u32) -> Pointer
 
 // A byte stored at an address.
 pub fn store_byte(sys: &mut [u8], io: &mut [u8], tag: bool, address: u32, v: u8)
-    ensures { λ r. ⌜ buffers (now (sys .exit)) (now (io .exit)) ≡ storeByte (buffers (now (sys .entry)) (now (io .entry))) tag address v ⌝ }
+    ensures { λ r. ⌜ lent (sys .exit) (io .exit) ≡ storeByte (lent (sys .entry) (io .entry)) tag address v ⌝ }
 {
     let at = index(tag, address);
     if tag {
@@ -158,7 +158,7 @@ pub fn store_byte(sys: &mut [u8], io: &mut [u8], tag: bool, address: u32, v: u8)
 
 // A word stored at an address.
 pub fn store_word(sys: &mut [u8], io: &mut [u8], tag: bool, address: u32, v: u16)
-    ensures { λ r. ⌜ buffers (now (sys .exit)) (now (io .exit)) ≡ storeWord (buffers (now (sys .entry)) (now (io .entry))) tag address v ⌝ }
+    ensures { λ r. ⌜ lent (sys .exit) (io .exit) ≡ storeWord (lent (sys .entry) (io .entry)) tag address v ⌝ }
 {
     store_byte(sys, io, tag, address, words::low_byte(v));
     store_byte(sys, io, tag, words::sum20(address, 1), words::high_byte(v));
@@ -173,7 +173,7 @@ pub fn store_doubleword(
     offset: u16,
     segment: u16,
 )
-    ensures { λ r. ⌜ buffers (now (sys .exit)) (now (io .exit)) ≡ storeDoubleword (buffers (now (sys .entry)) (now (io .entry))) tag address offset segment ⌝ }
+    ensures { λ r. ⌜ lent (sys .exit) (io .exit) ≡ storeDoubleword (lent (sys .entry) (io .entry)) tag address offset segment ⌝ }
 {
     store_word(sys, io, tag, address, offset);
     store_word(sys, io, tag, words::sum20(address, 2), segment);
@@ -181,7 +181,7 @@ pub fn store_doubleword(
 
 // A pointer stored in three bytes at an address.
 pub fn store_pointer(sys: &mut [u8], io: &mut [u8], tag: bool, address: u32, p: Pointer)
-    ensures { λ r. ⌜ buffers (now (sys .exit)) (now (io .exit)) ≡ storePointer (buffers (now (sys .entry)) (now (io .entry))) tag address p ⌝ }
+    ensures { λ r. ⌜ lent (sys .exit) (io .exit) ≡ storePointer (lent (sys .entry) (io .entry)) tag address p ⌝ }
 {
     store_byte(sys, io, tag, address, words::stored_low(p.address));
     store_byte(

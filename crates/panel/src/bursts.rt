@@ -8,7 +8,7 @@ use step::turns::Choice;
 ghost use mathlib.Core.Path.{_≡_};
 ghost use mathlib.Core.Bool.{true, false};
 ghost use Prim.Native.Nat.{_-_, _<_, _≤_};
-ghost use Rattle.memory.specs.Buffers.{buffers};
+ghost use Rattle.memory.specs.Buffers.{lent};
 ghost use Rattle.machine.specs.Psw.{transferring};
 ghost use Rattle.transfer.specs.Parts.{isHalf};
 ghost use Rattle.step.specs.Choosing.{choiceOf};
@@ -48,7 +48,7 @@ pub(crate) struct Round {
 // A half of a pair of transfer steps, which is a row of its own.
 fn half_row(c: Channel, sys: &mut [u8], io: &mut [u8], from: u16, stop: u16) -> Burst
     requires { ⌜ (from < stop) × (isHalf c ≡ true) ⌝ }
-    ensures { λ r. ⌜ burst (r .number) (r .steps) (r .channel) (buffers (now (sys .exit)) (now (io .exit))) ≡ burstFrom moves transfersOn (stop - from) c (buffers (now (sys .entry)) (now (io .entry))) from ⌝ }
+    ensures { λ r. ⌜ burst (r .number) (r .steps) (r .channel) (lent (sys .exit) (io .exit)) ≡ burstFrom moves transfersOn (stop - from) c (lent (sys .entry) (io .entry)) from ⌝ }
 {
     let t = transfer::half(c, sys, io);
     if t.number != 0 {
@@ -69,7 +69,7 @@ fn half_row(c: Channel, sys: &mut [u8], io: &mut [u8], from: u16, stop: u16) -> 
 // Transfer steps of a channel until its transfer ends, a half of a pair is due, one is refused, or none is left.
 fn transfers(c: Channel, sys: &mut [u8], io: &mut [u8], from: u16, stop: u16) -> Burst
     requires { ⌜ from < stop ⌝ }
-    ensures { λ r. ⌜ burst (r .number) (r .steps) (r .channel) (buffers (now (sys .exit)) (now (io .exit))) ≡ burstFrom moves transfersOn (stop - from) c (buffers (now (sys .entry)) (now (io .entry))) from ⌝ }
+    ensures { λ r. ⌜ burst (r .number) (r .steps) (r .channel) (lent (sys .exit) (io .exit)) ≡ burstFrom moves transfersOn (stop - from) c (lent (sys .entry) (io .entry)) from ⌝ }
 {
     if transfer::is_half(c) {
         return half_row(c, sys, io, from, stop);
@@ -106,7 +106,7 @@ fn transfers(c: Channel, sys: &mut [u8], io: &mut [u8], from: u16, stop: u16) ->
 // Instructions of a channel until it stops or starts a transfer, one is refused, or none is left; BUSY is at `busy` of system memory.
 fn instructions(c: Channel, busy: u32, sys: &mut [u8], io: &mut [u8], from: u16, stop: u16) -> Burst
     requires { ⌜ from ≤ stop ⌝ }
-    ensures { λ r. ⌜ burst (r .number) (r .steps) (r .channel) (buffers (now (sys .exit)) (now (io .exit))) ≡ burstFrom (executes busy) executesOn (stop - from) c (buffers (now (sys .entry)) (now (io .entry))) from ⌝ }
+    ensures { λ r. ⌜ burst (r .number) (r .steps) (r .channel) (lent (sys .exit) (io .exit)) ≡ burstFrom (executes busy) executesOn (stop - from) c (lent (sys .entry) (io .entry)) from ⌝ }
 {
     // Its pointers by their parts, so that within the loop each tag is known for a truth value.
     let held = c.held;
@@ -225,8 +225,8 @@ fn own_steps(
     done: u16,
     limit: u16,
 ) -> Round
-    requires { ⌜ (done < limit) × (entryNumber (stateOf p shared) (buffers (now sys) (now io)) lines ≡ 0) × (choiceOf (stateOf p shared) lines ≡ Steps (p .second)) ⌝ }
-    ensures { λ r. ⌜ Rounded r (stateOf p shared) (buffers (now (sys .entry)) (now (io .entry))) (buffers (now (sys .exit)) (now (io .exit))) lines limit done ⌝ }
+    requires { ⌜ (done < limit) × (entryNumber (stateOf p shared) (lent sys io) lines ≡ 0) × (choiceOf (stateOf p shared) lines ≡ Steps (p .second)) ⌝ }
+    ensures { λ r. ⌜ Rounded r (stateOf p shared) (lent (sys .entry) (io .entry)) (lent (sys .exit) (io .exit)) lines limit done ⌝ }
 {
     let c = p.mine;
     let other = p.other;
@@ -249,8 +249,8 @@ fn turn(
     done: u16,
     limit: u16,
 ) -> Round
-    requires { ⌜ (done < limit) × (entryNumber (stateOf p shared) (buffers (now sys) (now io)) lines ≡ 0) ⌝ }
-    ensures { λ r. ⌜ Rounded r (stateOf p shared) (buffers (now (sys .entry)) (now (io .entry))) (buffers (now (sys .exit)) (now (io .exit))) lines limit done ⌝ }
+    requires { ⌜ (done < limit) × (entryNumber (stateOf p shared) (lent sys io) lines ≡ 0) ⌝ }
+    ensures { λ r. ⌜ Rounded r (stateOf p shared) (lent (sys .entry) (io .entry)) (lent (sys .exit) (io .exit)) lines limit done ⌝ }
 {
     let choice = step::turns::choose(state(p, shared), lines);
     match choice {
@@ -284,8 +284,8 @@ pub(crate) fn rounds(
     lines: u32,
     limit: u16,
 ) -> Ran
-    requires { ⌜ entryNumber (stateOf p shared) (buffers (now sys) (now io)) lines ≡ 0 ⌝ }
-    ensures { λ r. ⌜ ran (r .number) (r .steps) (buffers (now (sys .exit)) (now (io .exit))) ≡ stepsFrom limit (stateOf p shared) (buffers (now (sys .entry)) (now (io .entry))) lines 0 ⌝ }
+    requires { ⌜ entryNumber (stateOf p shared) (lent sys io) lines ≡ 0 ⌝ }
+    ensures { λ r. ⌜ ran (r .number) (r .steps) (lent (sys .exit) (io .exit)) ≡ stepsFrom limit (stateOf p shared) (lent (sys .entry) (io .entry)) lines 0 ⌝ }
 {
     let mut pair = p;
     let mut done: u16 = 0;

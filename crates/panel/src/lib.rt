@@ -2,7 +2,7 @@
 use machine::Made;
 use machine::State;
 ghost use mathlib.Core.Path.{_≡_};
-ghost use Rattle.memory.specs.Buffers.{buffers};
+ghost use Rattle.memory.specs.Buffers.{lent};
 ghost use Rattle.machine.specs.Outcomes.{outcome};
 ghost use Rattle.panel.specs.Run.{ran, stepsFrom, attendedRun, startedRun, callNumber, runOf, answerOf, called};
 ghost use Rattle.attention.specs.Attention.{attentionOf};
@@ -18,7 +18,7 @@ pub struct Ran {
 
 // Steps until a number other than 0 or the limit, of at most 65,535; what they are given is tested once.
 fn steps(s: State, sys: &mut [u8], io: &mut [u8], lines: u32, limit: u16) -> Ran
-    ensures { λ r. ⌜ ran (r .number) (r .steps) (buffers (now (sys .exit)) (now (io .exit))) ≡ stepsFrom limit s (buffers (now (sys .entry)) (now (io .entry))) lines 0 ⌝ }
+    ensures { λ r. ⌜ ran (r .number) (r .steps) (lent (sys .exit) (io .exit)) ≡ stepsFrom limit s (lent (sys .entry) (io .entry)) lines 0 ⌝ }
 {
     if limit == 0 {
         return Ran {
@@ -45,7 +45,7 @@ fn steps(s: State, sys: &mut [u8], io: &mut [u8], lines: u32, limit: u16) -> Ran
 
 // One attention, and the steps after it where it is accepted.
 fn attend(s: State, sys: &mut [u8], io: &mut [u8], channel: u32, lines: u32, limit: u16) -> Ran
-    ensures { λ r. ⌜ ran (r .number) (r .steps) (buffers (now (sys .exit)) (now (io .exit))) ≡ attendedRun (attentionOf s (buffers (now (sys .entry)) (now (io .entry))) channel) lines limit ⌝ }
+    ensures { λ r. ⌜ ran (r .number) (r .steps) (lent (sys .exit) (io .exit)) ≡ attendedRun (attentionOf s (lent (sys .entry) (io .entry)) channel) lines limit ⌝ }
 {
     let a = attention::attention(s, sys, io, channel);
     if a.number != 0 {
@@ -67,7 +67,7 @@ pub fn start(
     lines: u32,
     limit: u16,
 ) -> Ran
-    ensures { λ r. ⌜ ran (r .number) (r .steps) (buffers (now (sys .exit)) (now (io .exit))) ≡ startedRun fresh (buffers (now (sys .entry)) (now (io .entry))) channel lines limit ⌝ }
+    ensures { λ r. ⌜ ran (r .number) (r .steps) (lent (sys .exit) (io .exit)) ≡ startedRun fresh (lent (sys .entry) (io .entry)) channel lines limit ⌝ }
 {
     if fresh.number != 0 {
         return Ran {
@@ -81,7 +81,7 @@ pub fn start(
 
 // The refusal of what a run is given: 12 for a channel, line number or limit that is none, then 11, else 0.
 pub fn call_number(sys: &[u8], io: &[u8], channel: u32, lines: u32, limit: u32) -> u32
-    ensures { λ r. ⌜ r ≡ callNumber (buffers (now (sys .entry)) (now (io .entry))) channel lines limit ⌝ }
+    ensures { λ r. ⌜ r ≡ callNumber (lent (sys .entry) (io .entry)) channel lines limit ⌝ }
 {
     if machine::states::is_channel(channel) & (lines < 16) & (limit < 65536) {
         if memory::within_limits(sys, io) {
@@ -96,7 +96,7 @@ pub fn call_number(sys: &[u8], io: &[u8], channel: u32, lines: u32, limit: u32) 
 
 // A run of a channel: at `cp` its control block, `lines` held throughout, at most `limit` steps.
 pub fn run(sys: &mut [u8], io: &mut [u8], cp: u32, channel: u32, lines: u32, limit: u32) -> Ran
-    ensures { λ r. ⌜ ran (r .number) (r .steps) (buffers (now (sys .exit)) (now (io .exit))) ≡ runOf (buffers (now (sys .entry)) (now (io .entry))) cp channel lines limit ⌝ }
+    ensures { λ r. ⌜ ran (r .number) (r .steps) (lent (sys .exit) (io .exit)) ≡ runOf (lent (sys .entry) (io .entry)) cp channel lines limit ⌝ }
 {
     let number = call_number(sys, io, channel, lines, limit);
     if number != 0 {
@@ -122,7 +122,7 @@ pub extern "C" fn iop89_run(
     lines: u32,
     limit: u32,
 ) -> u32
-    ensures { λ r. ⌜ called r (buffers (now (sys .exit)) (now (io .exit))) ≡ called (answerOf (runOf (buffers (now (sys .entry)) (now (io .entry))) cp channel lines limit)) (runOf (buffers (now (sys .entry)) (now (io .entry))) cp channel lines limit .memory) ⌝ }
+    ensures { λ r. ⌜ called r (lent (sys .exit) (io .exit)) ≡ called (answerOf (runOf (lent (sys .entry) (io .entry)) cp channel lines limit)) (runOf (lent (sys .entry) (io .entry)) cp channel lines limit .memory) ⌝ }
 {
     let r = run(sys, io, cp, channel, lines, limit);
     r.number % 65536 * 65536 + r.steps % 65536

@@ -3,7 +3,7 @@ use machine::Answer;
 use machine::Board;
 use machine::State;
 ghost use mathlib.Core.Path.{_≡_};
-ghost use Rattle.memory.specs.Buffers.{buffers};
+ghost use Rattle.memory.specs.Buffers.{lent};
 ghost use Rattle.memory.specs.Places.{allTouchable};
 ghost use Rattle.machine.specs.Outcomes.{outcome};
 ghost use Rattle.power.specs.Power.{configurationOf, controlOf, boardOf, powerPlaces, powerNumber, powerUpOf, powerCount};
@@ -16,21 +16,21 @@ const CONFIGURATION_AT: u32 = 0xFFFF8;
 
 // The configuration block.
 fn configuration(sys: &[u8], io: &[u8]) -> u32
-    ensures { λ r. ⌜ r ≡ configurationOf (buffers (now (sys .entry)) (now (io .entry))) ⌝ }
+    ensures { λ r. ⌜ r ≡ configurationOf (lent (sys .entry) (io .entry)) ⌝ }
 {
     memory::doubleword(sys, io, false, CONFIGURATION_AT)
 }
 
 // The control block.
 fn control(sys: &[u8], io: &[u8]) -> u32
-    ensures { λ r. ⌜ r ≡ controlOf (buffers (now (sys .entry)) (now (io .entry))) ⌝ }
+    ensures { λ r. ⌜ r ≡ controlOf (lent (sys .entry) (io .entry)) ⌝ }
 {
     memory::doubleword(sys, io, false, words::sum20(configuration(sys, io), 2))
 }
 
 // What the board set up.
 fn read_board(sys: &[u8], io: &[u8]) -> Board
-    ensures { λ r. ⌜ r ≡ boardOf (buffers (now (sys .entry)) (now (io .entry))) ⌝ }
+    ensures { λ r. ⌜ r ≡ boardOf (lent (sys .entry) (io .entry)) ⌝ }
 {
     let sysbus = memory::byte(sys, io, false, SYSBUS_AT) as u32;
     let soc = memory::byte(sys, io, false, configuration(sys, io)) as u32;
@@ -44,7 +44,7 @@ fn read_board(sys: &[u8], io: &[u8]) -> Board
 
 // Whether the eleven bytes are lent.
 fn board_lent(sys: &[u8], io: &[u8]) -> bool
-    ensures { λ r. ⌜ r ≡ allTouchable (buffers (now (sys .entry)) (now (io .entry))) (powerPlaces (buffers (now (sys .entry)) (now (io .entry)))) ⌝ }
+    ensures { λ r. ⌜ r ≡ allTouchable (lent (sys .entry) (io .entry)) (powerPlaces (lent (sys .entry) (io .entry))) ⌝ }
 {
     let block = configuration(sys, io);
     let busy = words::sum20(control(sys, io), 1);
@@ -57,7 +57,7 @@ fn board_lent(sys: &[u8], io: &[u8]) -> bool
 
 // The refusal of what a power-up is given: 11, then 2, else 0.
 fn power_number(sys: &[u8], io: &[u8]) -> u32
-    ensures { λ r. ⌜ r ≡ powerNumber (buffers (now (sys .entry)) (now (io .entry))) ⌝ }
+    ensures { λ r. ⌜ r ≡ powerNumber (lent (sys .entry) (io .entry)) ⌝ }
 {
     if !memory::within_limits(sys, io) {
         return 11;
@@ -67,8 +67,8 @@ fn power_number(sys: &[u8], io: &[u8]) -> u32
 
 // Powers the processor up: the fresh state of the CP found, with what the board set up, and BUSY of channel 1 cleared.
 pub fn power_up(s: State, sys: &mut [u8], io: &mut [u8]) -> Answer
-    ensures left { λ r. ⌜ outcome (r .number) (r .state) (buffers (now (sys .exit)) (now (io .exit))) ≡ powerUpOf s (buffers (now (sys .entry)) (now (io .entry))) ⌝ }
-    ensures count { λ r. ⌜ r .count ≡ powerCount (buffers (now (sys .entry)) (now (io .entry))) ⌝ }
+    ensures left { λ r. ⌜ outcome (r .number) (r .state) (lent (sys .exit) (io .exit)) ≡ powerUpOf s (lent (sys .entry) (io .entry)) ⌝ }
+    ensures count { λ r. ⌜ r .count ≡ powerCount (lent (sys .entry) (io .entry)) ⌝ }
 {
     let number = power_number(sys, io);
     if number != 0 {

@@ -1,7 +1,7 @@
 // The calls on one processor, passed on as they are, so that one object exports every call and has the machine's code once.
 use schedule::ScheduleRow;
 ghost use mathlib.Core.Path.{_≡_};
-ghost use Rattle.memory.specs.Buffers.{buffers};
+ghost use Rattle.memory.specs.Buffers.{lent};
 ghost use Rattle.service.specs.Calls.{made, served, freshMade, resetMade, powerServed, attentionServed, stepServed, sweepServed};
 ghost use Rattle.schedule_calls.specs.Calls.{scheduled, scheduleServed};
 ghost use Rattle.schedule_calls.specs.Turns.{standing};
@@ -25,7 +25,7 @@ pub extern "C" fn iop89_reset(state: &mut [u8]) -> u32
 // Powers the machine up.
 #[no_mangle]
 pub extern "C" fn iop89_power_up(state: &mut [u8], sys: &mut [u8], io: &mut [u8]) -> u32
-    ensures { λ r. ⌜ served r (now (state .exit)) (buffers (now (sys .exit)) (now (io .exit))) ≡ powerServed (now (state .entry)) (buffers (now (sys .entry)) (now (io .entry))) ⌝ }
+    ensures { λ r. ⌜ served r (now (state .exit)) (lent (sys .exit) (io .exit)) ≡ powerServed (now (state .entry)) (lent (sys .entry) (io .entry)) ⌝ }
 {
     service::iop89_power_up(state, sys, io)
 }
@@ -38,7 +38,7 @@ pub extern "C" fn iop89_attention(
     io: &mut [u8],
     channel: u32,
 ) -> u32
-    ensures { λ r. ⌜ served r (now (state .exit)) (buffers (now (sys .exit)) (now (io .exit))) ≡ attentionServed (now (state .entry)) (buffers (now (sys .entry)) (now (io .entry))) channel ⌝ }
+    ensures { λ r. ⌜ served r (now (state .exit)) (lent (sys .exit) (io .exit)) ≡ attentionServed (now (state .entry)) (lent (sys .entry) (io .entry)) channel ⌝ }
 {
     service::iop89_attention(state, sys, io, channel)
 }
@@ -46,7 +46,7 @@ pub extern "C" fn iop89_attention(
 // Does one step of the machine.
 #[no_mangle]
 pub extern "C" fn iop89_step(state: &mut [u8], sys: &mut [u8], io: &mut [u8], lines: u32) -> u32
-    ensures { λ r. ⌜ served r (now (state .exit)) (buffers (now (sys .exit)) (now (io .exit))) ≡ stepServed (now (state .entry)) (buffers (now (sys .entry)) (now (io .entry))) lines ⌝ }
+    ensures { λ r. ⌜ served r (now (state .exit)) (lent (sys .exit) (io .exit)) ≡ stepServed (now (state .entry)) (lent (sys .entry) (io .entry)) lines ⌝ }
 {
     service::iop89_step(state, sys, io, lines)
 }
@@ -60,7 +60,7 @@ pub extern "C" fn iop89_sweep(
     channel: u32,
     lines: u32,
 ) -> u64
-    ensures { λ r. ⌜ served r (now (state .exit)) (buffers (now (sys .exit)) (now (io .exit))) ≡ sweepServed (now (state .entry)) (buffers (now (sys .entry)) (now (io .entry))) channel lines ⌝ }
+    ensures { λ r. ⌜ served r (now (state .exit)) (lent (sys .exit) (io .exit)) ≡ sweepServed (now (state .entry)) (lent (sys .entry) (io .entry)) channel lines ⌝ }
 {
     service::iop89_sweep(state, sys, io, channel, lines)
 }
@@ -74,7 +74,7 @@ pub extern "C" fn iop89_schedule(
     io: &mut [u8],
     report: &mut [u64],
 ) -> u32
-    ensures { λ r. ⌜ scheduled r (standing (now (state .exit)) (buffers (now (sys .exit)) (now (io .exit))) (now (report .exit))) ≡ scheduleServed (standing (now (state .entry)) (buffers (now (sys .entry)) (now (io .entry))) (now (report .entry))) (now (rows .entry)) ⌝ }
+    ensures { λ r. ⌜ scheduled r (standing (now (state .exit)) (lent (sys .exit) (io .exit)) (now (report .exit))) ≡ scheduleServed (standing (now (state .entry)) (lent (sys .entry) (io .entry)) (now (report .entry))) (now (rows .entry)) ⌝ }
 {
     schedule_calls::iop89_schedule(state, rows, sys, io, report)
 }

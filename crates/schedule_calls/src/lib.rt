@@ -2,7 +2,7 @@
 use schedule::ScheduleRow;
 ghost use mathlib.Core.{Bool.true, Bool._||_, Path._≡_};
 ghost use Rattle.words.specs.Choice.{pick};
-ghost use Rattle.memory.specs.Buffers.{buffers};
+ghost use Rattle.memory.specs.Buffers.{lent};
 ghost use Rattle.service.specs.Layout.{bytesOf, stateIn, isState};
 ghost use Rattle.schedule.specs.{Reports.noReport, Reports.putOver, Rows.isAttention, Rows.isStep, Rows.allKnown};
 ghost use Rattle.schedule_calls.specs.Calls.{ScheduleMet};
@@ -49,7 +49,7 @@ fn begin(state: &mut [u8], report: &mut [u64], known: bool) -> u32
 // A row that is an attention to a channel.
 fn attend(state: &mut [u8], channel: u32, sys: &mut [u8], io: &mut [u8], report: &mut [u64])
     requires { ⌜ StateBytes (now state) ⌝ }
-    ensures { λ r. ⌜ RowRun (attentionRow channel) (standing (now (state .entry)) (buffers (now (sys .entry)) (now (io .entry))) (now (report .entry))) (standing (now (state .exit)) (buffers (now (sys .exit)) (now (io .exit))) (now (report .exit))) ⌝ }
+    ensures { λ r. ⌜ RowRun (attentionRow channel) (standing (now (state .entry)) (lent (sys .entry) (io .entry)) (now (report .entry))) (standing (now (state .exit)) (lent (sys .exit) (io .exit)) (now (report .exit))) ⌝ }
 {
     let answer = service::iop89_attention(state, sys, io, channel);
     counting::attention(report, answer % 256 == 0, channel);
@@ -58,7 +58,7 @@ fn attend(state: &mut [u8], channel: u32, sys: &mut [u8], io: &mut [u8], report:
 // A row that is a step with a line number.
 fn step(state: &mut [u8], lines: u32, sys: &mut [u8], io: &mut [u8], report: &mut [u64])
     requires { ⌜ StateBytes (now state) ⌝ }
-    ensures { λ r. ⌜ RowRun (stepRow lines) (standing (now (state .entry)) (buffers (now (sys .entry)) (now (io .entry))) (now (report .entry))) (standing (now (state .exit)) (buffers (now (sys .exit)) (now (io .exit))) (now (report .exit))) ⌝ }
+    ensures { λ r. ⌜ RowRun (stepRow lines) (standing (now (state .entry)) (lent (sys .entry) (io .entry)) (now (report .entry))) (standing (now (state .exit)) (lent (sys .exit) (io .exit)) (now (report .exit))) ⌝ }
 {
     let first = finding::find(service::layout::channel(state, false), lines, false);
     let second = finding::find(service::layout::channel(state, true), lines, true);
@@ -75,8 +75,8 @@ fn turn(
     io: &mut [u8],
     report: &mut [u64],
 )
-    requires { ⌜ TurnReady number row (standing (now state) (buffers (now sys) (now io)) (now report)) ⌝ }
-    ensures { λ r. ⌜ Turned number row (standing (now (state .entry)) (buffers (now (sys .entry)) (now (io .entry))) (now (report .entry))) (standing (now (state .exit)) (buffers (now (sys .exit)) (now (io .exit))) (now (report .exit))) ⌝ }
+    requires { ⌜ TurnReady number row (standing (now state) (lent sys io) (now report)) ⌝ }
+    ensures { λ r. ⌜ Turned number row (standing (now (state .entry)) (lent (sys .entry) (io .entry)) (now (report .entry))) (standing (now (state .exit)) (lent (sys .exit) (io .exit)) (now (report .exit))) ⌝ }
 {
     if number != 0 {
         return;
@@ -97,7 +97,7 @@ pub extern "C" fn iop89_schedule(
     io: &mut [u8],
     report: &mut [u64],
 ) -> u32
-    ensures { λ r. ⌜ ScheduleMet r (standing (now (state .exit)) (buffers (now (sys .exit)) (now (io .exit))) (now (report .exit))) (standing (now (state .entry)) (buffers (now (sys .entry)) (now (io .entry))) (now (report .entry))) (now (rows .entry)) ⌝ }
+    ensures { λ r. ⌜ ScheduleMet r (standing (now (state .exit)) (lent (sys .exit) (io .exit)) (now (report .exit))) (standing (now (state .entry)) (lent (sys .entry) (io .entry)) (now (report .entry))) (now (rows .entry)) ⌝ }
 {
     let number = begin(state, report, known(rows));
     let mut i: usize = 0;

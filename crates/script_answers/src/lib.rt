@@ -9,7 +9,7 @@ ghost use mathlib.Core.Bool.{true};
 ghost use mathlib.Core.List.{[]};
 ghost use Prim.Native.Nat.{_≤_};
 ghost use lib.ListN.{length};
-ghost use Rattle.memory.specs.Buffers.{buffers};
+ghost use Rattle.memory.specs.Buffers.{buffers, lent};
 ghost use Rattle.machine.specs.States.{freshOf};
 ghost use Rattle.attention.specs.Attention.{attentionOf, attentionCount};
 ghost use Rattle.power.specs.Power.{powerUpOf, powerCount};
@@ -33,7 +33,7 @@ pub struct Performed {
 
 // Makes every byte 0, and a fresh state.
 fn make(cp: u32, sys: &mut [u8], io: &mut [u8], out: &mut [u8]) -> Performed
-    ensures { λ r. ⌜ (machine (r .state) (buffers (now (sys .exit)) (now (io .exit))) ≡ remade (buffers (now (sys .entry)) (now (io .entry))) cp) × (r .made ≡ true) ⌝ }
+    ensures { λ r. ⌜ (machine (r .state) (lent (sys .exit) (io .exit)) ≡ remade (lent (sys .entry) (io .entry)) cp) × (r .made ≡ true) ⌝ }
     ensures { λ r. ⌜ Behind (page (now (out .entry)) 0) (page (now (out .exit)) (r .count)) (answerLine (ascii "make ") (freshOf cp .number)) ⌝ }
 {
     buffers::clear(sys);
@@ -50,7 +50,7 @@ fn make(cp: u32, sys: &mut [u8], io: &mut [u8], out: &mut [u8]) -> Performed
 // Writes the bytes that are a line's fourth word, and answers whether they were written.
 fn put(io_space: bool, address: u32, line: &[u8], sys: &mut [u8], io: &mut [u8]) -> bool
     ensures { λ r. ⌜ r ≡ hasRoom (pick «io_space» (now (io .entry)) (now (sys .entry))) address (spanned (now (line .entry)) (fourthSpan (now (line .entry)))) ⌝ }
-    ensures { λ r. ⌜ buffers (now (sys .exit)) (now (io .exit)) ≡ putInto (buffers (now (sys .entry)) (now (io .entry))) «io_space» address (spanned (now (line .entry)) (fourthSpan (now (line .entry)))) ⌝ }
+    ensures { λ r. ⌜ lent (sys .exit) (io .exit) ≡ putInto (lent (sys .entry) (io .entry)) «io_space» address (spanned (now (line .entry)) (fourthSpan (now (line .entry)))) ⌝ }
 {
     let span = text::fourth_word(line);
     let from = span.from;
@@ -74,8 +74,8 @@ fn put_line(out: &mut [u8], made: bool) -> usize
 
 // Gives a channel attention.
 fn attend(s: State, channel: u32, sys: &mut [u8], io: &mut [u8], out: &mut [u8]) -> Performed
-    ensures { λ r. ⌜ (machine (r .state) (buffers (now (sys .exit)) (now (io .exit))) ≡ machineAttended s (buffers (now (sys .entry)) (now (io .entry))) channel) × (r .made ≡ true) ⌝ }
-    ensures { λ r. ⌜ Behind (page (now (out .entry)) 0) (page (now (out .exit)) (r .count)) (countedLine (ascii "ca ") (attentionOf s (buffers (now (sys .entry)) (now (io .entry))) channel .number) (attentionCount s (buffers (now (sys .entry)) (now (io .entry))) channel)) ⌝ }
+    ensures { λ r. ⌜ (machine (r .state) (lent (sys .exit) (io .exit)) ≡ machineAttended s (lent (sys .entry) (io .entry)) channel) × (r .made ≡ true) ⌝ }
+    ensures { λ r. ⌜ Behind (page (now (out .entry)) 0) (page (now (out .exit)) (r .count)) (countedLine (ascii "ca ") (attentionOf s (lent (sys .entry) (io .entry)) channel .number) (attentionCount s (lent (sys .entry) (io .entry)) channel)) ⌝ }
 {
     let a = attention::attention(s, sys, io, channel);
     let state = a.state;
@@ -88,8 +88,8 @@ fn attend(s: State, channel: u32, sys: &mut [u8], io: &mut [u8], out: &mut [u8])
 
 // Makes a step.
 fn advance(s: State, lines: u32, sys: &mut [u8], io: &mut [u8], out: &mut [u8]) -> Performed
-    ensures { λ r. ⌜ (machine (r .state) (buffers (now (sys .exit)) (now (io .exit))) ≡ machineAdvanced s (buffers (now (sys .entry)) (now (io .entry))) lines) × (r .made ≡ true) ⌝ }
-    ensures { λ r. ⌜ Behind (page (now (out .entry)) 0) (page (now (out .exit)) (r .count)) (advancedLine s (buffers (now (sys .entry)) (now (io .entry))) lines) ⌝ }
+    ensures { λ r. ⌜ (machine (r .state) (lent (sys .exit) (io .exit)) ≡ machineAdvanced s (lent (sys .entry) (io .entry)) lines) × (r .made ≡ true) ⌝ }
+    ensures { λ r. ⌜ Behind (page (now (out .entry)) 0) (page (now (out .exit)) (r .count)) (advancedLine s (lent (sys .entry) (io .entry)) lines) ⌝ }
 {
     let r = step::step(s, sys, io, lines);
     let kind = r.kind;
@@ -181,8 +181,8 @@ fn load(file: &[u8], sys: &mut [u8], out: &mut [u8]) -> usize
 
 // Powers the machine up.
 fn wake(s: State, sys: &mut [u8], io: &mut [u8], out: &mut [u8]) -> Performed
-    ensures { λ r. ⌜ (machine (r .state) (buffers (now (sys .exit)) (now (io .exit))) ≡ machinePowered s (buffers (now (sys .entry)) (now (io .entry)))) × (r .made ≡ true) ⌝ }
-    ensures { λ r. ⌜ Behind (page (now (out .entry)) 0) (page (now (out .exit)) (r .count)) (countedLine (ascii "power ") (powerUpOf s (buffers (now (sys .entry)) (now (io .entry))) .number) (powerCount (buffers (now (sys .entry)) (now (io .entry))))) ⌝ }
+    ensures { λ r. ⌜ (machine (r .state) (lent (sys .exit) (io .exit)) ≡ machinePowered s (lent (sys .entry) (io .entry))) × (r .made ≡ true) ⌝ }
+    ensures { λ r. ⌜ Behind (page (now (out .entry)) 0) (page (now (out .exit)) (r .count)) (countedLine (ascii "power ") (powerUpOf s (lent (sys .entry) (io .entry)) .number) (powerCount (lent (sys .entry) (io .entry)))) ⌝ }
 {
     let a = power::power_up(s, sys, io);
     let state = a.state;
@@ -202,8 +202,8 @@ fn sweep_channel(
     io: &mut [u8],
     out: &mut [u8],
 ) -> Performed
-    ensures { λ r. ⌜ (machine (r .state) (buffers (now (sys .exit)) (now (io .exit))) ≡ machineSwept s (buffers (now (sys .entry)) (now (io .entry))) channel lines) × (r .made ≡ true) ⌝ }
-    ensures { λ r. ⌜ Behind (page (now (out .entry)) 0) (page (now (out .exit)) (r .count)) (sweepText s (buffers (now (sys .entry)) (now (io .entry))) channel lines) ⌝ }
+    ensures { λ r. ⌜ (machine (r .state) (lent (sys .exit) (io .exit)) ≡ machineSwept s (lent (sys .entry) (io .entry)) channel lines) × (r .made ≡ true) ⌝ }
+    ensures { λ r. ⌜ Behind (page (now (out .entry)) 0) (page (now (out .exit)) (r .count)) (sweepText s (lent (sys .entry) (io .entry)) channel lines) ⌝ }
 {
     let r = sweep::sweep(s, sys, io, channel, lines);
     let state = r.state;
@@ -223,9 +223,9 @@ pub fn perform(
     io: &mut [u8],
     out: &mut [u8; 32768],
 ) -> Performed
-    ensures { λ r. ⌜ machine (r .state) (buffers (now (sys .exit)) (now (io .exit))) ≡ callPerformed call (now (line .entry)) s (buffers (now (sys .entry)) (now (io .entry))) ⌝ }
-    ensures { λ r. ⌜ r .made ≡ callMade call (now (line .entry)) (buffers (now (sys .entry)) (now (io .entry))) ⌝ }
-    ensures { λ r. ⌜ Printed (now (out .entry)) (now (out .exit)) (r .count) (callText call (now (line .entry)) s (buffers (now (sys .entry)) (now (io .entry)))) ⌝ }
+    ensures { λ r. ⌜ machine (r .state) (lent (sys .exit) (io .exit)) ≡ callPerformed call (now (line .entry)) s (lent (sys .entry) (io .entry)) ⌝ }
+    ensures { λ r. ⌜ r .made ≡ callMade call (now (line .entry)) (lent (sys .entry) (io .entry)) ⌝ }
+    ensures { λ r. ⌜ Printed (now (out .entry)) (now (out .exit)) (r .count) (callText call (now (line .entry)) s (lent (sys .entry) (io .entry))) ⌝ }
 {
     match call {
         Call::Nothing => Performed {

@@ -8,7 +8,7 @@ use memory::Pointer;
 use script_text::buffers;
 use step::Kind;
 ghost use mathlib.Core.Path.{_≡_};
-ghost use Rattle.memory.specs.Buffers.{buffers};
+ghost use Rattle.memory.specs.Buffers.{buffers, lent};
 ghost use Rattle.page.specs.Pages.{page, Behind};
 ghost use Rattle.script_lines.specs.Lines.{answerLine, countText, countedLine, steppedLine, sweptLine, loadedLine, registerText, markNumber, pointerText, pointersText, numbersText, numberOfMode, marksText, channelLine, bufferText, boardText, sharedLine, dumpText, byteText, bytesText, shownLine};
 
@@ -223,7 +223,7 @@ fn shared_line(
 
 // The three lines of a dump.
 pub fn dump(out: &mut [u8], at: usize, s: State, sys: &[u8], io: &[u8]) -> usize
-    ensures { λ r. ⌜ Behind (page (now (out .entry)) at) (page (now (out .exit)) r) (dumpText s (buffers (now (sys .entry)) (now (io .entry)))) ⌝ }
+    ensures { λ r. ⌜ Behind (page (now (out .entry)) at) (page (now (out .exit)) r) (dumpText s (lent (sys .entry) (io .entry))) ⌝ }
 {
     let first = s.first;
     let second = s.second;

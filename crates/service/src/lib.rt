@@ -7,7 +7,7 @@ use step::turns::Choice;
 ghost use mathlib.Core.Bool.{true};
 ghost use mathlib.Core.Path.{_≡_};
 ghost use lib.ListN.{length};
-ghost use Rattle.memory.specs.Buffers.{Buffers, buffers};
+ghost use Rattle.memory.specs.Buffers.{Buffers, lent};
 ghost use Rattle.machine.specs.Outcomes.{counted};
 ghost use Rattle.machine.specs.States.{resetState, freshOf, channelOf};
 ghost use Rattle.attention.specs.Attention.{attentionOf};
@@ -78,8 +78,8 @@ pub extern "C" fn iop89_reset(state: &mut [u8]) -> u32
 // Powers the machine up.
 #[no_mangle]
 pub extern "C" fn iop89_power_up(state: &mut [u8], sys: &mut [u8], io: &mut [u8]) -> u32
-    ensures left { λ r. ⌜ served r (now (state .exit)) (buffers (now (sys .exit)) (now (io .exit))) ≡ powerServed (now (state .entry)) (buffers (now (sys .entry)) (now (io .entry))) ⌝ }
-    ensures whole { λ r. ⌜ (isState (now (state .entry)) ≡ true → stateIn (now (state .exit)) ≡ powerUpOf (stateIn (now (state .entry))) (buffers (now (sys .entry)) (now (io .entry))) .state) ⌝ }
+    ensures left { λ r. ⌜ served r (now (state .exit)) (lent (sys .exit) (io .exit)) ≡ powerServed (now (state .entry)) (lent (sys .entry) (io .entry)) ⌝ }
+    ensures whole { λ r. ⌜ (isState (now (state .entry)) ≡ true → stateIn (now (state .exit)) ≡ powerUpOf (stateIn (now (state .entry))) (lent (sys .entry) (io .entry)) .state) ⌝ }
 {
     if !layout::is_state(state) {
         return 17;
@@ -98,8 +98,8 @@ pub extern "C" fn iop89_attention(
     io: &mut [u8],
     channel: u32,
 ) -> u32
-    ensures left { λ r. ⌜ served r (now (state .exit)) (buffers (now (sys .exit)) (now (io .exit))) ≡ attentionServed (now (state .entry)) (buffers (now (sys .entry)) (now (io .entry))) channel ⌝ }
-    ensures whole { λ r. ⌜ (isState (now (state .entry)) ≡ true → stateIn (now (state .exit)) ≡ attentionOf (stateIn (now (state .entry))) (buffers (now (sys .entry)) (now (io .entry))) channel .state) ⌝ }
+    ensures left { λ r. ⌜ served r (now (state .exit)) (lent (sys .exit) (io .exit)) ≡ attentionServed (now (state .entry)) (lent (sys .entry) (io .entry)) channel ⌝ }
+    ensures whole { λ r. ⌜ (isState (now (state .entry)) ≡ true → stateIn (now (state .exit)) ≡ attentionOf (stateIn (now (state .entry))) (lent (sys .entry) (io .entry)) channel .state) ⌝ }
 {
     if !layout::is_state(state) {
         return 17;
@@ -123,7 +123,7 @@ struct Turn {
 // since an attention asks it too, and would have the whole state go through memory.
 fn entry_number(state: &[u8], s: State, lines: u32, sys: &[u8], io: &[u8]) -> u32
     requires { ⌜ (isState (now state) ≡ true) × (s ≡ stateIn (now state)) ⌝ }
-    ensures { λ r. ⌜ r ≡ entryNumber s (buffers (now (sys .entry)) (now (io .entry))) lines ⌝ }
+    ensures { λ r. ⌜ r ≡ entryNumber s (lent (sys .entry) (io .entry)) lines ⌝ }
 {
     if 16 <= lines {
         return 12;
@@ -156,8 +156,8 @@ fn end_turn(c: Channel) -> Turn
 // One step of a channel that has its turn.
 fn channel_turn(s: State, second: bool, c: Channel, sys: &mut [u8], io: &mut [u8]) -> Turn
     requires { ⌜ c ≡ channelOf s second ⌝ }
-    ensures left { λ r. ⌜ turned s second r (buffers (now (sys .exit)) (now (io .exit))) ≡ channelStep s (buffers (now (sys .entry)) (now (io .entry))) second ⌝ }
-    ensures count { λ r. ⌜ r .count ≡ counted (r .number) (touchedIn (Steps second) s (buffers (now (sys .entry)) (now (io .entry)))) ⌝ }
+    ensures left { λ r. ⌜ turned s second r (lent (sys .exit) (io .exit)) ≡ channelStep s (lent (sys .entry) (io .entry)) second ⌝ }
+    ensures count { λ r. ⌜ r .count ≡ counted (r .number) (touchedIn (Steps second) s (lent (sys .entry) (io .entry))) ⌝ }
 {
     if machine::psw::transferring(c.psw) {
         let t = transfer::transfer(c, sys, io);
@@ -203,8 +203,8 @@ fn answered(state: &mut [u8], second: bool, t: Turn) -> u32
 // Does one step of the machine.
 #[no_mangle]
 pub extern "C" fn iop89_step(state: &mut [u8], sys: &mut [u8], io: &mut [u8], lines: u32) -> u32
-    ensures left { λ r. ⌜ served r (now (state .exit)) (buffers (now (sys .exit)) (now (io .exit))) ≡ stepServed (now (state .entry)) (buffers (now (sys .entry)) (now (io .entry))) lines ⌝ }
-    ensures whole { λ r. ⌜ (isState (now (state .entry)) ≡ true → stateIn (now (state .exit)) ≡ stepOf (stateIn (now (state .entry))) (buffers (now (sys .entry)) (now (io .entry))) lines .state) ⌝ }
+    ensures left { λ r. ⌜ served r (now (state .exit)) (lent (sys .exit) (io .exit)) ≡ stepServed (now (state .entry)) (lent (sys .entry) (io .entry)) lines ⌝ }
+    ensures whole { λ r. ⌜ (isState (now (state .entry)) ≡ true → stateIn (now (state .exit)) ≡ stepOf (stateIn (now (state .entry))) (lent (sys .entry) (io .entry)) lines .state) ⌝ }
 {
     if !layout::is_state(state) {
         return 17;
@@ -240,8 +240,8 @@ pub extern "C" fn iop89_sweep(
     channel: u32,
     lines: u32,
 ) -> u64
-    ensures left { λ r. ⌜ served r (now (state .exit)) (buffers (now (sys .exit)) (now (io .exit))) ≡ sweepServed (now (state .entry)) (buffers (now (sys .entry)) (now (io .entry))) channel lines ⌝ }
-    ensures whole { λ r. ⌜ (isState (now (state .entry)) ≡ true → stateIn (now (state .exit)) ≡ sweepOf (stateIn (now (state .entry))) (buffers (now (sys .entry)) (now (io .entry))) channel lines .state) ⌝ }
+    ensures left { λ r. ⌜ served r (now (state .exit)) (lent (sys .exit) (io .exit)) ≡ sweepServed (now (state .entry)) (lent (sys .entry) (io .entry)) channel lines ⌝ }
+    ensures whole { λ r. ⌜ (isState (now (state .entry)) ≡ true → stateIn (now (state .exit)) ≡ sweepOf (stateIn (now (state .entry))) (lent (sys .entry) (io .entry)) channel lines .state) ⌝ }
 {
     if !layout::is_state(state) {
         return 17;

@@ -3,7 +3,7 @@ use crate::turns::Choice;
 use machine::Channel;
 use machine::State;
 ghost use mathlib.Core.Path.{_≡_};
-ghost use Rattle.memory.specs.Buffers.{buffers};
+ghost use Rattle.memory.specs.Buffers.{lent};
 ghost use lib.Dec.{eqb};
 ghost use Rattle.words.specs.Choice.{pick};
 ghost use Rattle.machine.specs.Outcomes.{counted};
@@ -74,8 +74,8 @@ fn settled(number: u32, s: State, second: bool, c: Channel, kind: Kind, count: u
 
 // One transfer step of a channel.
 fn transfer_step(s: State, second: bool, sys: &mut [u8], io: &mut [u8]) -> Stepped
-    ensures left { λ r. ⌜ left r (buffers (now (sys .exit)) (now (io .exit))) ≡ transferStep s (buffers (now (sys .entry)) (now (io .entry))) second ⌝ }
-    ensures count { λ r. ⌜ r .count ≡ counted (r .number) (touchedByTransfer (channelOf s second) (buffers (now (sys .entry)) (now (io .entry)))) ⌝ }
+    ensures left { λ r. ⌜ left r (lent (sys .exit) (io .exit)) ≡ transferStep s (lent (sys .entry) (io .entry)) second ⌝ }
+    ensures count { λ r. ⌜ r .count ≡ counted (r .number) (touchedByTransfer (channelOf s second) (lent (sys .entry) (io .entry))) ⌝ }
 {
     let t = transfer::transfer(machine::states::channel(s, second), sys, io);
     let c = t.channel;
@@ -84,8 +84,8 @@ fn transfer_step(s: State, second: bool, sys: &mut [u8], io: &mut [u8]) -> Stepp
 
 // One instruction of a channel.
 fn instruction_step(s: State, second: bool, sys: &mut [u8], io: &mut [u8]) -> Stepped
-    ensures left { λ r. ⌜ left r (buffers (now (sys .exit)) (now (io .exit))) ≡ instructionStep s (buffers (now (sys .entry)) (now (io .entry))) second ⌝ }
-    ensures count { λ r. ⌜ r .count ≡ counted (r .number) (touchedByInstruction (buffers (now (sys .entry)) (now (io .entry))) (channelOf s second) (busyIn (blockOf s second))) ⌝ }
+    ensures left { λ r. ⌜ left r (lent (sys .exit) (io .exit)) ≡ instructionStep s (lent (sys .entry) (io .entry)) second ⌝ }
+    ensures count { λ r. ⌜ r .count ≡ counted (r .number) (touchedByInstruction (lent (sys .entry) (io .entry)) (channelOf s second) (busyIn (blockOf s second))) ⌝ }
 {
     let busy = words::sum20(machine::states::block(s, second), 1);
     let e = execute::execute(machine::states::channel(s, second), busy, sys, io);
@@ -95,8 +95,8 @@ fn instruction_step(s: State, second: bool, sys: &mut [u8], io: &mut [u8]) -> St
 
 // One step of a channel that has its turn.
 fn channel_step(s: State, second: bool, sys: &mut [u8], io: &mut [u8]) -> Stepped
-    ensures left { λ r. ⌜ left r (buffers (now (sys .exit)) (now (io .exit))) ≡ channelStep s (buffers (now (sys .entry)) (now (io .entry))) second ⌝ }
-    ensures count { λ r. ⌜ r .count ≡ counted (r .number) (touchedIn (Steps second) s (buffers (now (sys .entry)) (now (io .entry)))) ⌝ }
+    ensures left { λ r. ⌜ left r (lent (sys .exit) (io .exit)) ≡ channelStep s (lent (sys .entry) (io .entry)) second ⌝ }
+    ensures count { λ r. ⌜ r .count ≡ counted (r .number) (touchedIn (Steps second) s (lent (sys .entry) (io .entry))) ⌝ }
 {
     let c = machine::states::channel(s, second);
     if machine::psw::transferring(c.psw) {
@@ -108,8 +108,8 @@ fn channel_step(s: State, second: bool, sys: &mut [u8], io: &mut [u8]) -> Steppe
 
 // The step of a choice.
 fn chosen(choice: Choice, s: State, sys: &mut [u8], io: &mut [u8]) -> Stepped
-    ensures left { λ r. ⌜ left r (buffers (now (sys .exit)) (now (io .exit))) ≡ chosenStep choice s (buffers (now (sys .entry)) (now (io .entry))) ⌝ }
-    ensures count { λ r. ⌜ r .count ≡ counted (r .number) (touchedIn choice s (buffers (now (sys .entry)) (now (io .entry)))) ⌝ }
+    ensures left { λ r. ⌜ left r (lent (sys .exit) (io .exit)) ≡ chosenStep choice s (lent (sys .entry) (io .entry)) ⌝ }
+    ensures count { λ r. ⌜ r .count ≡ counted (r .number) (touchedIn choice s (lent (sys .entry) (io .entry))) ⌝ }
 {
     match choice {
         Choice::Nobody => refused(s, 1),
@@ -126,7 +126,7 @@ fn chosen(choice: Choice, s: State, sys: &mut [u8], io: &mut [u8]) -> Stepped
 
 // The refusal of what a step is given: 12 for lines past 15, then 11, 10, 13 and 14, else 0.
 pub fn entry_number(s: State, lines: u32, sys: &[u8], io: &[u8]) -> u32
-    ensures { λ r. ⌜ r ≡ entryNumber s (buffers (now (sys .entry)) (now (io .entry))) lines ⌝ }
+    ensures { λ r. ⌜ r ≡ entryNumber s (lent (sys .entry) (io .entry)) lines ⌝ }
 {
     if lines < 16 {
         machine::states::given_number(s, sys, io)
@@ -137,8 +137,8 @@ pub fn entry_number(s: State, lines: u32, sys: &[u8], io: &[u8]) -> u32
 
 // One step of the machine.
 pub fn step(s: State, sys: &mut [u8], io: &mut [u8], lines: u32) -> Stepped
-    ensures left { λ r. ⌜ left r (buffers (now (sys .exit)) (now (io .exit))) ≡ stepOf s (buffers (now (sys .entry)) (now (io .entry))) lines ⌝ }
-    ensures count { λ r. ⌜ r .count ≡ stepCount s (buffers (now (sys .entry)) (now (io .entry))) lines ⌝ }
+    ensures left { λ r. ⌜ left r (lent (sys .exit) (io .exit)) ≡ stepOf s (lent (sys .entry) (io .entry)) lines ⌝ }
+    ensures count { λ r. ⌜ r .count ≡ stepCount s (lent (sys .entry) (io .entry)) lines ⌝ }
 {
     let number = entry_number(s, lines, sys, io);
     if number != 0 {

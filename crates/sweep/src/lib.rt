@@ -9,7 +9,7 @@ ghost use mathlib.Core.Bool.{true};
 ghost use mathlib.Core.Path.{_≡_};
 ghost use Prim.Native.Nat.{_+_, _≤_};
 ghost use lib.ListN.{length};
-ghost use Rattle.memory.specs.Buffers.{buffers, withinLimits};
+ghost use Rattle.memory.specs.Buffers.{lent, withinLimits};
 ghost use Rattle.transfer.specs.Ends.{offsetOf};
 ghost use Rattle.block_rules.specs.Stages as Stages;
 ghost use Rattle.block_rules.specs.Totals as Totals;
@@ -96,7 +96,7 @@ fn remainder_of(c: Channel) -> Remainder
 
 // Whether bytes in a row are lent, without wrapping.
 fn range_lent(sys: &[u8], io: &[u8], p: Pointer, n: u32) -> bool
-    ensures { λ r. ⌜ r ≡ rangeLent (buffers (now (sys .entry)) (now (io .entry))) p n ⌝ }
+    ensures { λ r. ⌜ r ≡ rangeLent (lent (sys .entry) (io .entry)) p n ⌝ }
 {
     let end = place(p) + n as usize;
     if p.tag {
@@ -118,7 +118,7 @@ fn ranges_apart(p: Pointer, q: Pointer, n: u32) -> bool
 
 // Whether both ranges are lent, do not wrap, and share no byte.
 fn ranges_fit(c: Channel, sys: &[u8], io: &[u8]) -> bool
-    ensures { λ r. ⌜ r ≡ rangesFit c (buffers (now (sys .entry)) (now (io .entry))) ⌝ }
+    ensures { λ r. ⌜ r ≡ rangesFit c (lent (sys .entry) (io .entry)) ⌝ }
 {
     let rest = remainder_of(c);
     let from = rest.from;
@@ -129,8 +129,8 @@ fn ranges_fit(c: Channel, sys: &[u8], io: &[u8]) -> bool
 
 // Bytes put where another pointer points, in whichever spaces both lie.
 fn copy(sys: &mut [u8], io: &mut [u8], p: Pointer, q: Pointer, n: u32)
-    requires { ⌜ (withinLimits (buffers (now sys) (now io)) ≡ true) × (rangeLent (buffers (now sys) (now io)) p n ≡ true) × (rangeLent (buffers (now sys) (now io)) q n ≡ true) ⌝ }
-    ensures { λ r. ⌜ buffers (now (sys .exit)) (now (io .exit)) ≡ copiedOn (buffers (now (sys .entry)) (now (io .entry))) p q n ⌝ }
+    requires { ⌜ (withinLimits (lent sys io) ≡ true) × (rangeLent (lent sys io) p n ≡ true) × (rangeLent (lent sys io) q n ≡ true) ⌝ }
+    ensures { λ r. ⌜ lent (sys .exit) (io .exit) ≡ copiedOn (lent (sys .entry) (io .entry)) p q n ⌝ }
 {
     let from = place(p);
     let into = place(q);
@@ -164,7 +164,7 @@ fn plain_fields(f: Fields) -> bool
 
 // Whether a channel can be swept.
 fn sweepable(s: State, sys: &[u8], io: &[u8], second: bool, lines: u32) -> bool
-    ensures { λ r. ⌜ r ≡ Sweep.sweepable s (buffers (now (sys .entry)) (now (io .entry))) second lines ⌝ }
+    ensures { λ r. ⌜ r ≡ Sweep.sweepable s (lent (sys .entry) (io .entry)) second lines ⌝ }
 {
     let c = machine::states::channel(s, second);
     let other = machine::states::channel(s, !second);
@@ -180,7 +180,7 @@ fn sweepable(s: State, sys: &[u8], io: &[u8], second: bool, lines: u32) -> bool
 
 // The refusal of a sweep, 0 for none.
 fn number(s: State, sys: &[u8], io: &[u8], channel: u32, lines: u32) -> u32
-    ensures { λ r. ⌜ r ≡ sweepNumber s (buffers (now (sys .entry)) (now (io .entry))) channel lines ⌝ }
+    ensures { λ r. ⌜ r ≡ sweepNumber s (lent (sys .entry) (io .entry)) channel lines ⌝ }
 {
     if !(machine::states::is_channel(channel) & (lines < 16)) {
         return 12;
@@ -247,7 +247,7 @@ fn finished(c: Channel, n: u32) -> Channel
 
 // All bytes that a block transfer has left, in one go.
 pub fn sweep(s: State, sys: &mut [u8], io: &mut [u8], channel: u32, lines: u32) -> Swept
-    ensures { λ r. ⌜ sweptWith r (buffers (now (sys .exit)) (now (io .exit))) ≡ sweepOf s (buffers (now (sys .entry)) (now (io .entry))) channel lines ⌝ }
+    ensures { λ r. ⌜ sweptWith r (lent (sys .exit) (io .exit)) ≡ sweepOf s (lent (sys .entry) (io .entry)) channel lines ⌝ }
 {
     let refusal = number(s, sys, io, channel, lines);
     if refusal != 0 {

@@ -2,7 +2,7 @@
 use machine::State;
 use step::Kind;
 ghost use mathlib.Core.Path.{_≡_};
-ghost use Rattle.memory.specs.Buffers.{buffers};
+ghost use Rattle.memory.specs.Buffers.{lent};
 ghost use Rattle.machine.specs.States.{channelOf, isSecond};
 ghost use Rattle.attention.specs.Attention.{attentionOf};
 ghost use Rattle.page.specs.Pages.{page, Behind, Printed};
@@ -45,8 +45,8 @@ fn end_line(out: &mut [u8], at: usize, number: u32, steps: u32) -> usize
 
 // The text of at most 1,000 steps with no line up.
 fn steps(s: State, sys: &mut [u8], io: &mut [u8], out: &mut [u8]) -> Traced
-    ensures { λ r. ⌜ Behind (page (now (out .entry)) 0) (page (now (out .exit)) (r .count)) (stepsText 1000 s (buffers (now (sys .entry)) (now (io .entry))) 0) ⌝ }
-    ensures { λ r. ⌜ ran (r .number) (r .steps) (buffers (now (sys .exit)) (now (io .exit))) ≡ stepsFrom 1000 s (buffers (now (sys .entry)) (now (io .entry))) 0 0 ⌝ }
+    ensures { λ r. ⌜ Behind (page (now (out .entry)) 0) (page (now (out .exit)) (r .count)) (stepsText 1000 s (lent (sys .entry) (io .entry)) 0) ⌝ }
+    ensures { λ r. ⌜ ran (r .number) (r .steps) (lent (sys .exit) (io .exit)) ≡ stepsFrom 1000 s (lent (sys .entry) (io .entry)) 0 0 ⌝ }
 {
     let mut state = s;
     let mut done: u32 = 0;
@@ -75,8 +75,8 @@ fn steps(s: State, sys: &mut [u8], io: &mut [u8], out: &mut [u8]) -> Traced
 
 // The text of one attention to channel 1, and of the steps after it.
 fn attended(s: State, sys: &mut [u8], io: &mut [u8], out: &mut [u8]) -> Traced
-    ensures { λ r. ⌜ Behind (page (now (out .entry)) 0) (page (now (out .exit)) (r .count)) (attendedText (attentionOf s (buffers (now (sys .entry)) (now (io .entry))) 1)) ⌝ }
-    ensures { λ r. ⌜ ran (r .number) (r .steps) (buffers (now (sys .exit)) (now (io .exit))) ≡ attendedRun (attentionOf s (buffers (now (sys .entry)) (now (io .entry))) 1) 0 1000 ⌝ }
+    ensures { λ r. ⌜ Behind (page (now (out .entry)) 0) (page (now (out .exit)) (r .count)) (attendedText (attentionOf s (lent (sys .entry) (io .entry)) 1)) ⌝ }
+    ensures { λ r. ⌜ ran (r .number) (r .steps) (lent (sys .exit) (io .exit)) ≡ attendedRun (attentionOf s (lent (sys .entry) (io .entry)) 1) 0 1000 ⌝ }
 {
     let a = attention::attention(s, sys, io, 1);
     if a.number != 0 {

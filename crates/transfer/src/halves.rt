@@ -10,7 +10,7 @@ use machine::Channel;
 use machine::Held;
 ghost use mathlib.Core.Bool.{true, false};
 ghost use mathlib.Core.Path.{_≡_};
-ghost use Rattle.memory.specs.Buffers.{buffers};
+ghost use Rattle.memory.specs.Buffers.{lent};
 ghost use Rattle.transfer.specs.Sides.{setupOf};
 ghost use Rattle.transfer.specs.Parts.{fetchesApart, storesApart, isHalf, FirstFetch, SecondFetch, FirstStore, SecondStore};
 ghost use Rattle.transfer.specs.Moves as Moves;
@@ -33,8 +33,8 @@ pub(crate) fn apart(c: Channel, p: Setup) -> bool
 // The first of two fetches: its byte is held.
 fn first_fetch(c: Channel, p: Setup, sys: &[u8], io: &[u8]) -> Moved
     requires { ⌜ (p ≡ setupOf c) × (badMode c ≡ false) ⌝ }
-    ensures left { λ r. ⌜ leftByMove c r (buffers (now (sys .entry)) (now (io .entry))) ≡ stepBy FirstFetch c (buffers (now (sys .entry)) (now (io .entry))) ⌝ }
-    ensures count { λ r. ⌜ r .count ≡ countBy FirstFetch c (buffers (now (sys .entry)) (now (io .entry))) ⌝ }
+    ensures left { λ r. ⌜ leftByMove c r (lent (sys .entry) (io .entry)) ≡ stepBy FirstFetch c (lent (sys .entry) (io .entry)) ⌝ }
+    ensures count { λ r. ⌜ r .count ≡ countBy FirstFetch c (lent (sys .entry) (io .entry)) ⌝ }
 {
     let source = p.source;
     let from = source.pointer;
@@ -49,8 +49,8 @@ fn first_fetch(c: Channel, p: Setup, sys: &[u8], io: &[u8]) -> Moved
 // The second of two fetches: a word is stored, the held byte below the one that is read.
 fn second_fetch(c: Channel, p: Setup, byte: u8, sys: &mut [u8], io: &mut [u8]) -> Moved
     requires { ⌜ (p ≡ setupOf c) × (badMode c ≡ false) × (fetchesApart c ≡ true) ⌝ }
-    ensures left { λ r. ⌜ leftByMove c r (buffers (now (sys .exit)) (now (io .exit))) ≡ stepBy (SecondFetch byte) c (buffers (now (sys .entry)) (now (io .entry))) ⌝ }
-    ensures count { λ r. ⌜ r .count ≡ countBy (SecondFetch byte) c (buffers (now (sys .entry)) (now (io .entry))) ⌝ }
+    ensures left { λ r. ⌜ leftByMove c r (lent (sys .exit) (io .exit)) ≡ stepBy (SecondFetch byte) c (lent (sys .entry) (io .entry)) ⌝ }
+    ensures count { λ r. ⌜ r .count ≡ countBy (SecondFetch byte) c (lent (sys .entry) (io .entry)) ⌝ }
 {
     let source = p.source;
     let from = source.pointer;
@@ -73,8 +73,8 @@ fn second_fetch(c: Channel, p: Setup, byte: u8, sys: &mut [u8], io: &mut [u8]) -
 // The first of two stores: the second byte is held, unless a match ends the transfer here.
 fn first_store(c: Channel, p: Setup, sys: &mut [u8], io: &mut [u8]) -> Moved
     requires { ⌜ (p ≡ setupOf c) × (badMode c ≡ false) × (storesApart c ≡ true) ⌝ }
-    ensures left { λ r. ⌜ leftByMove c r (buffers (now (sys .exit)) (now (io .exit))) ≡ stepBy FirstStore c (buffers (now (sys .entry)) (now (io .entry))) ⌝ }
-    ensures count { λ r. ⌜ r .count ≡ countBy FirstStore c (buffers (now (sys .entry)) (now (io .entry))) ⌝ }
+    ensures left { λ r. ⌜ leftByMove c r (lent (sys .exit) (io .exit)) ≡ stepBy FirstStore c (lent (sys .entry) (io .entry)) ⌝ }
+    ensures count { λ r. ⌜ r .count ≡ countBy FirstStore c (lent (sys .entry) (io .entry)) ⌝ }
 {
     let fetched = reads::fetch(c, p, sys, io);
     if !fetched.touchable {
@@ -96,8 +96,8 @@ fn first_store(c: Channel, p: Setup, sys: &mut [u8], io: &mut [u8]) -> Moved
 // The second of two stores: the held byte is stored, and nothing is read.
 fn second_store(c: Channel, p: Setup, byte: u8, sys: &mut [u8], io: &mut [u8]) -> Moved
     requires { ⌜ (p ≡ setupOf c) × (badMode c ≡ false) × (storesApart c ≡ true) ⌝ }
-    ensures left { λ r. ⌜ leftByMove c r (buffers (now (sys .exit)) (now (io .exit))) ≡ stepBy (SecondStore byte) c (buffers (now (sys .entry)) (now (io .entry))) ⌝ }
-    ensures count { λ r. ⌜ r .count ≡ countBy (SecondStore byte) c (buffers (now (sys .entry)) (now (io .entry))) ⌝ }
+    ensures left { λ r. ⌜ leftByMove c r (lent (sys .exit) (io .exit)) ≡ stepBy (SecondStore byte) c (lent (sys .entry) (io .entry)) ⌝ }
+    ensures count { λ r. ⌜ r .count ≡ countBy (SecondStore byte) c (lent (sys .entry) (io .entry)) ⌝ }
 {
     let side = p.destination;
     let at = side.pointer;
@@ -111,8 +111,8 @@ fn second_store(c: Channel, p: Setup, byte: u8, sys: &mut [u8], io: &mut [u8]) -
 // The half that is due: with the source synchronised a fetch, else a store; the first where nothing is held.
 pub(crate) fn due(c: Channel, p: Setup, sys: &mut [u8], io: &mut [u8]) -> Moved
     requires { ⌜ (p ≡ setupOf c) × (badMode c ≡ false) × (isHalf c ≡ true) ⌝ }
-    ensures left { λ r. ⌜ leftByMove c r (buffers (now (sys .exit)) (now (io .exit))) ≡ transferOf c (buffers (now (sys .entry)) (now (io .entry))) ⌝ }
-    ensures count { λ r. ⌜ r .count ≡ transferCount c (buffers (now (sys .entry)) (now (io .entry))) ⌝ }
+    ensures left { λ r. ⌜ leftByMove c r (lent (sys .exit) (io .exit)) ≡ transferOf c (lent (sys .entry) (io .entry)) ⌝ }
+    ensures count { λ r. ⌜ r .count ≡ transferCount c (lent (sys .entry) (io .entry)) ⌝ }
 {
     let f = c.fields;
     let held = c.held;

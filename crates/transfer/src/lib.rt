@@ -4,7 +4,7 @@ use machine::Held;
 use memory::Pointer;
 ghost use mathlib.Core.Path.{_≡_};
 ghost use lib.ListN.{length};
-ghost use Rattle.memory.specs.Buffers.{Buffers, buffers};
+ghost use Rattle.memory.specs.Buffers.{Buffers, lent};
 ghost use Rattle.transfer.specs.Sides.{setupOf};
 ghost use Rattle.transfer.specs.Ends.{externallyEnded};
 ghost use Rattle.transfer.specs.Parts.{isHalf, partOf};
@@ -93,8 +93,8 @@ fn count(two: bool, stored: bool, translated: bool) -> u32
 
 // The whole move in one step.
 pub fn whole(c: Channel, sys: &mut [u8], io: &mut [u8]) -> Transferred
-    ensures left { λ r. ⌜ transferred (r .number) (r .channel) (buffers (now (sys .exit)) (now (io .exit))) ≡ wholeStep c (buffers (now (sys .entry)) (now (io .entry))) ⌝ }
-    ensures count { λ r. ⌜ r .count ≡ wholeCount c (buffers (now (sys .entry)) (now (io .entry))) ⌝ }
+    ensures left { λ r. ⌜ transferred (r .number) (r .channel) (lent (sys .exit) (io .exit)) ≡ wholeStep c (lent (sys .entry) (io .entry)) ⌝ }
+    ensures count { λ r. ⌜ r .count ≡ wholeCount c (lent (sys .entry) (io .entry)) ⌝ }
 {
     let p = sides::plan(c);
     if bad_mode(c, p) {
@@ -146,8 +146,8 @@ pub fn bytes_read(c: Channel) -> u32
 
 // The half of a pair that is due; where none is, nothing.
 pub fn half(c: Channel, sys: &mut [u8], io: &mut [u8]) -> Transferred
-    ensures left { λ r. ⌜ transferred (r .number) (r .channel) (buffers (now (sys .exit)) (now (io .exit))) ≡ halfStep c (buffers (now (sys .entry)) (now (io .entry))) ⌝ }
-    ensures count { λ r. ⌜ r .count ≡ halfCount c (buffers (now (sys .entry)) (now (io .entry))) ⌝ }
+    ensures left { λ r. ⌜ transferred (r .number) (r .channel) (lent (sys .exit) (io .exit)) ≡ halfStep c (lent (sys .entry) (io .entry)) ⌝ }
+    ensures count { λ r. ⌜ r .count ≡ halfCount c (lent (sys .entry) (io .entry)) ⌝ }
 {
     let p = sides::plan(c);
     if !halves::apart(c, p) {
@@ -169,8 +169,8 @@ pub fn half(c: Channel, sys: &mut [u8], io: &mut [u8]) -> Transferred
 
 // One transfer step: a half where one is due, else the whole move.
 pub fn transfer(c: Channel, sys: &mut [u8], io: &mut [u8]) -> Transferred
-    ensures left { λ r. ⌜ transferred (r .number) (r .channel) (buffers (now (sys .exit)) (now (io .exit))) ≡ transferOf c (buffers (now (sys .entry)) (now (io .entry))) ⌝ }
-    ensures count { λ r. ⌜ r .count ≡ transferCount c (buffers (now (sys .entry)) (now (io .entry))) ⌝ }
+    ensures left { λ r. ⌜ transferred (r .number) (r .channel) (lent (sys .exit) (io .exit)) ≡ transferOf c (lent (sys .entry) (io .entry)) ⌝ }
+    ensures count { λ r. ⌜ r .count ≡ transferCount c (lent (sys .entry) (io .entry)) ⌝ }
 {
     if is_half(c) {
         half(c, sys, io)

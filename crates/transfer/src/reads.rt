@@ -4,7 +4,7 @@ use crate::Setup;
 use machine::Channel;
 ghost use mathlib.Core.Path.{_≡_};
 ghost use mathlib.Core.Bool.{false};
-ghost use Rattle.memory.specs.Buffers.{buffers};
+ghost use Rattle.memory.specs.Buffers.{lent};
 ghost use Rattle.transfer.specs.Sides.{setupOf};
 ghost use Rattle.transfer.specs.Steps.{badMode};
 ghost use Rattle.transfer.specs.Fetches.{seen, beyond, here, fetchOf};
@@ -23,7 +23,7 @@ pub(crate) struct Seen {
 
 // The byte at an address, and whether a call may touch it; the space is asked for once.
 pub(crate) fn see(tag: bool, address: u32, sys: &[u8], io: &[u8]) -> Seen
-    ensures { λ r. ⌜ r ≡ seen (buffers (now (sys .entry)) (now (io .entry))) tag address ⌝ }
+    ensures { λ r. ⌜ r ≡ seen (lent (sys .entry) (io .entry)) tag address ⌝ }
 {
     if tag {
         let byte = memory::byte(sys, io, true, address);
@@ -65,7 +65,7 @@ fn some(first: u8, second: u8) -> Fetched
 // The bytes to be stored, where all that is read for them may be touched.
 pub(crate) fn fetch(c: Channel, p: Setup, sys: &[u8], io: &[u8]) -> Fetched
     requires { ⌜ (p ≡ setupOf c) × (badMode c ≡ false) ⌝ }
-    ensures { λ r. ⌜ r ≡ fetchOf c (buffers (now (sys .entry)) (now (io .entry))) ⌝ }
+    ensures { λ r. ⌜ r ≡ fetchOf c (lent (sys .entry) (io .entry)) ⌝ }
 {
     let source = p.source;
     let from = source.pointer;

@@ -6,7 +6,7 @@ use machine::Channel;
 use machine::Held;
 ghost use mathlib.Core.Path.{_≡_};
 ghost use Rattle.words.specs.Choice.{pick};
-ghost use Rattle.memory.specs.Buffers.{buffers, touchableAt, storeByte};
+ghost use Rattle.memory.specs.Buffers.{lent, touchableAt, storeByte};
 ghost use Rattle.memory.specs.Places.{allTouchable};
 ghost use Rattle.transfer.specs.Sides.{setupOf};
 ghost use Rattle.transfer.specs.Ends.{codeIf, larger};
@@ -134,7 +134,7 @@ pub(crate) fn landed(c: Channel, p: Setup, by: u32, code: u32) -> Channel
 
 // A byte stored where a call may touch it, else nothing; and whether it may. The space is asked for once.
 pub(crate) fn put_one(tag: bool, address: u32, v: u8, sys: &mut [u8], io: &mut [u8]) -> bool
-    ensures { λ r. ⌜ (r ≡ touchableAt (buffers (now (sys .entry)) (now (io .entry))) tag address) × (buffers (now (sys .exit)) (now (io .exit)) ≡ storeByte (buffers (now (sys .entry)) (now (io .entry))) tag address v) ⌝ }
+    ensures { λ r. ⌜ (r ≡ touchableAt (lent (sys .entry) (io .entry)) tag address) × (lent (sys .exit) (io .exit) ≡ storeByte (lent (sys .entry) (io .entry)) tag address v) ⌝ }
 {
     if tag {
         memory::store_byte(sys, io, true, address, v);
@@ -147,7 +147,7 @@ pub(crate) fn put_one(tag: bool, address: u32, v: u8, sys: &mut [u8], io: &mut [
 
 // One byte or two stored on a side where each place may be touched, else nothing; and whether it may.
 pub(crate) fn put(s: Side, two: bool, d: Data, sys: &mut [u8], io: &mut [u8]) -> bool
-    ensures { λ r. ⌜ (r ≡ allTouchable (buffers (now (sys .entry)) (now (io .entry))) (placesOn s two)) × (buffers (now (sys .exit)) (now (io .exit)) ≡ pick r (putOn s two d (buffers (now (sys .entry)) (now (io .entry)))) (buffers (now (sys .entry)) (now (io .entry)))) ⌝ }
+    ensures { λ r. ⌜ (r ≡ allTouchable (lent (sys .entry) (io .entry)) (placesOn s two)) × (lent (sys .exit) (io .exit) ≡ pick r (putOn s two d (lent (sys .entry) (io .entry))) (lent (sys .entry) (io .entry))) ⌝ }
 {
     let p = s.pointer;
     if two {
