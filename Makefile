@@ -220,8 +220,9 @@ build/bench: host/bench.c host/emulator.h host/sweep_case.h include/iop89.h incl
 service-lib: $(SERVICE_LIB)
 
 # Each crate's archive has the functions that it exports, and all else in it is local, so they join into one. The calls of
-# service and schedule_calls are passed on by processor_calls, so that their code stands in it once.
-SERVICE_CRATES = processor_calls board prom lister
+# service and schedule_calls are passed on by processor_calls, so that their code stands in it once; the sweep has an
+# object of its own, which costs some bytes and saves instructions.
+SERVICE_CRATES = processor_calls sweep_call board prom lister
 
 $(SERVICE_LIB): $(SERVICE_CRATES:%=build/%.sums)
 	@for crate in $(SERVICE_CRATES); do tools/prove staticlib $$crate || exit $$?; done

@@ -15,7 +15,7 @@ use prog.Memory.{Memory}
 use prog.Routine.{Routine}
 use prog.Wp.{Heap}
 use Rattle.memory.specs.Buffers.{buffers}
-use Rattle.service.specs.Calls.{made, served, freshMade, resetMade, powerServed, attentionServed, stepServed, sweepServed}
+use Rattle.service.specs.Calls.{made, served, freshMade, resetMade, powerServed, attentionServed, stepServed}
 use Rattle.schedule_calls.specs.Calls.{scheduled, scheduleServed}
 use Rattle.schedule_calls.specs.Turns.{standing}
 use Rattle.processor_calls.proofs.single.iop89_fresh.Kinds as fresh-kinds
@@ -28,8 +28,6 @@ use Rattle.processor_calls.proofs.single.iop89_attention.Kinds as atten
 use Rattle.processor_calls.proofs.single.iop89_attention.Reads as attention-reads
 use Rattle.processor_calls.proofs.single.iop89_step.Kinds as step-kinds
 use Rattle.processor_calls.proofs.single.iop89_step.Reads as step-reads
-use Rattle.processor_calls.proofs.single.iop89_sweep.Kinds as sweep-kinds
-use Rattle.processor_calls.proofs.single.iop89_sweep.Reads as sweep-reads
 use Rattle.processor_calls.proofs.single.iop89_schedule as schedule
 
 pub fresh-passed : (κs : Lfts 1) (a : Dens κs fresh-kinds.ps) (r : resT fresh-kinds.r κs .Denot) (e : AtExit (endedOf 1 fresh-kinds.ps fresh-kinds.r) κs) → fresh-reads.Post κs a r e
@@ -56,11 +54,6 @@ pub step-passed : (κs : Lfts 3) (a : Dens κs step-kinds.ps) (r : resT step-kin
     → served r (now (e .0)) (buffers (now (e .1 .0)) (now (e .1 .1 .0)))
     ≡ stepServed (now (a .0)) (buffers (now (a .1 .0)) (now (a .1 .1 .0))) (a .1 .1 .1 .0)
 step-passed κs a r e p = p
-
-pub sweep-passed : (κs : Lfts 3) (a : Dens κs sweep-kinds.ps) (r : resT sweep-kinds.r κs .Denot) (e : AtExit (endedOf 3 sweep-kinds.ps sweep-kinds.r) κs) → sweep-reads.Post κs a r e
-    → served r (now (e .0)) (buffers (now (e .1 .0)) (now (e .1 .1 .0)))
-    ≡ sweepServed (now (a .0)) (buffers (now (a .1 .0)) (now (a .1 .1 .0))) (a .1 .1 .1 .0) (a .1 .1 .1 .1 .0)
-sweep-passed κs a r e p = p
 
 -- a schedule's contract is no plain claim to the prover's own walk: what it says of a call is the equation
 pub schedule-passed : {M : Type 1} (𝓤 : URA M) (H : Heap 𝓤) (A : Atoms 𝓤) (mem : Memory → SProp 𝓤) (run : Routine → Fun 𝓤) (κs : Lfts 5) (a : Args schedule.signature κs)

@@ -1,8 +1,9 @@
-// The calls on one processor, passed on as they are, so that one object exports every call and has the machine's code once.
+// The calls on one processor but the sweep, passed on as they are, so that one object exports them and has the machine's
+// code once.
 use schedule::ScheduleRow;
 ghost use mathlib.Core.Path.{_≡_};
 ghost use Rattle.memory.specs.Buffers.{lent};
-ghost use Rattle.service.specs.Calls.{made, served, freshMade, resetMade, powerServed, attentionServed, stepServed, sweepServed};
+ghost use Rattle.service.specs.Calls.{made, served, freshMade, resetMade, powerServed, attentionServed, stepServed};
 ghost use Rattle.schedule_calls.specs.Calls.{scheduled, scheduleServed};
 ghost use Rattle.schedule_calls.specs.Turns.{standing};
 
@@ -49,20 +50,6 @@ pub extern "C" fn iop89_step(state: &mut [u8], sys: &mut [u8], io: &mut [u8], li
     ensures { λ r. ⌜ served r (now (state .exit)) (lent (sys .exit) (io .exit)) ≡ stepServed (now (state .entry)) (lent (sys .entry) (io .entry)) lines ⌝ }
 {
     service::iop89_step(state, sys, io, lines)
-}
-
-// Moves all bytes that a channel's block transfer has left.
-#[no_mangle]
-pub extern "C" fn iop89_sweep(
-    state: &mut [u8],
-    sys: &mut [u8],
-    io: &mut [u8],
-    channel: u32,
-    lines: u32,
-) -> u64
-    ensures { λ r. ⌜ served r (now (state .exit)) (lent (sys .exit) (io .exit)) ≡ sweepServed (now (state .entry)) (lent (sys .entry) (io .entry)) channel lines ⌝ }
-{
-    service::iop89_sweep(state, sys, io, channel, lines)
 }
 
 // Runs the rows of a schedule.
