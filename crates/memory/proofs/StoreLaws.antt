@@ -34,10 +34,14 @@ store-length m true false a v = refl
 store-length m false true a v = refl
 store-length m false false a v = length-set (m .sys) (indexOf false a) v
 
+-- where lengths are the same, the same is lent
+pub same-lent : (m m′ : Buffers) → ((u : Bool) → length (spaceOf m′ u) ≡ length (spaceOf m u)) → (u : Bool) (a : ℕ) → lentAt m′ u a ≡ lentAt m u a
+unfolding lentAt
+same-lent m m′ e u a = ap (ltb (indexOf u a)) (e u)
+
 -- so what is lent stays lent
 pub store-lent : (m : Buffers) (t u : Bool) (a b v : ℕ) → lentAt (storeByte m t a v) u b ≡ lentAt m u b
-unfolding lentAt
-store-lent m t u a b v = ap (λ (n : ℕ). ltb (indexOf u b) n) (store-length m t u a v)
+store-lent m t u a b v = same-lent m (storeByte m t a v) (λ w. store-length m t w a v) u b
 
 -- and a call may touch what it might before
 pub store-touchable : (m : Buffers) (t u : Bool) (a b v : ℕ) → touchableAt (storeByte m t a v) u b ≡ touchableAt m u b

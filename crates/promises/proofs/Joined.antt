@@ -2,7 +2,6 @@
 -- Assumes nothing.
 use Prim.Native.Nat.{ℕ, suc, _+_}
 use borrow.Author.Tests.{eqb-false}
-use lib.Dec.{ltb}
 use lib.ListN.{length}
 use mathlib.Core.Bool.{Bool, true, false}
 use mathlib.Core.List.{[], _∷_}
@@ -12,8 +11,8 @@ use Rattle.machine.proofs.ChannelLaws.{put-same, last-channel}
 use Rattle.machine.specs.States.{channelOf, withChannel, withLast, isRunning, blockOf, channelNumber, busyIn}
 use Rattle.machine.specs.declared.Channel.{Channel}
 use Rattle.machine.specs.declared.State.{State}
-use Rattle.memory.proofs.StoreLaws.{store-length, read-same, read-other}
-use Rattle.memory.specs.Buffers.{Buffers, spaceOf, indexOf, lentAt, byteAt, storeByte}
+use Rattle.memory.proofs.StoreLaws.{store-length, read-same, read-other, same-lent}
+use Rattle.memory.specs.Buffers.{Buffers, lentAt, byteAt, storeByte}
 use Rattle.memory.specs.Places.{Apart}
 use Rattle.panel.specs.Run.{ran, runOf}
 use Rattle.step.specs.Step.{Step, doneStep, refusedStep, stepOf}
@@ -44,11 +43,6 @@ done-then {lines} {s₀} {m₀} {j} r (more {k = k} {s = s} {m = m} x z) =
 pub busy-same : (s s′ : State) (b : Bool) → s′ .cp ≡ s .cp → busyIn (blockOf s′ b) ≡ busyIn (blockOf s b)
 unfolding busyIn blockOf
 busy-same s s′ b e = ap (λ (cp : ℕ). sum20 (pick b (sum20 cp 8) cp) 1) e
-
--- where lengths are the same, the same is lent
-pub same-lent : (m m′ : Buffers) → ((u : Bool) → length (spaceOf m′ u) ≡ length (spaceOf m u)) → (u : Bool) (a : ℕ) → lentAt m′ u a ≡ lentAt m u a
-unfolding lentAt
-same-lent m m′ e u a = ap (ltb (indexOf u a)) (e u)
 
 module _ {m : Buffers} {cp : ℕ} {b : Bool} {lines limit n k : ℕ} {s₁ : State} {m₁ : Buffers} (h : Comes m cp b lines limit n k s₁ m₁) where
   -- the channel with its transfer

@@ -32,10 +32,9 @@ use Rattle.step.proofs.NumberLaws.{settled-number}
 use Rattle.step.specs.declared.Kind.the-variants.{Instruction}
 use Rattle.step.specs.Step.{Step, doneStep, instructionStep, settledStep, channelStep, chosenStep, entryNumber, stepOf}
 use Rattle.step.specs.Touched.{touchedIn, touchedByStep, stepCount}
-use Rattle.transfer.proofs.FetchLaws.{two-plain}
 use Rattle.transfer.proofs.MatchLaws.{low-compared}
 use Rattle.transfer.proofs.PartLaws.{fetch-due, store-due, fetches-two, fetches-word, stores-two, stores-singly, word-stored, singly-stored}
-use Rattle.transfer.proofs.StepLaws.{exactly-0}
+use Rattle.transfer.proofs.StepLaws.{exactly-0, two-plain}
 use Rattle.transfer.specs.Ends.{meetsTmc, codeIf, larger, endedTP, endedPSW, endedBy}
 use Rattle.transfer.specs.Halves.{wordWith, pairCount, secondCode, secondStored}
 use Rattle.transfer.specs.Parts.{Part, Whole, FirstFetch, SecondFetch, FirstStore, SecondStore, fetchesApart, storesApart, fetchPart, storePart, partOf}

@@ -30,7 +30,7 @@ use Rattle.machine.specs.States.{freshOf, channelOf, blockOf, busyIn, isSecond}
 use Rattle.machine.specs.declared.Channel.{Channel}
 use Rattle.machine.specs.declared.State.{State}
 use Rattle.memory.proofs.PlaceLaws.{byte-index, byte-reduced}
-use Rattle.memory.proofs.StoreLaws.{read-same, store-beyond, slot-reads, io-touchable, system-touchable}
+use Rattle.memory.proofs.StoreLaws.{read-same, store-beyond, slot-reads, io-touchable, system-touchable, same-lent}
 use Rattle.memory.specs.Buffers.{Buffers, spaceOf, limitOf, indexOf, lentAt, touchableAt, EmptySlot, byteAt}
 use Rattle.memory.specs.Places.{Place, span, allPass, allTouchable}
 use Rattle.memory.specs.Values.{pointer, onward, wordAt}
@@ -48,7 +48,6 @@ use Rattle.words.specs.Bytes.{wordOf}
 use Rattle.words.specs.Choice.{pick}
 use Rattle.promises.specs.Slots.{SlotIs, SlotsStay, SystemLent, RunsInIo, Slots}
 use Rattle.promises.proofs.InstructionLaws.{turn-executes}
-use Rattle.promises.proofs.Joined.{same-lent}
 
 -- ---- a byte
 

@@ -17,9 +17,8 @@ use Rattle.transfer.specs.Reads.{fetched, fetchedSecond, entryOf, delivered, da
 use Rattle.transfer.specs.Sides.{source, destination, secondAddress, twoMove}
 use Rattle.machine.specs.Updates.{holding}
 use Rattle.machine.specs.declared.Held.the-variants.{Byte}
-use Rattle.transfer.proofs.FetchLaws.{two-plain}
 use Rattle.transfer.proofs.PartLaws.{second-fetch-apart, first-store-apart, stores-two, word-stored}
-use Rattle.transfer.proofs.StepLaws.{chain-by, outcome-5}
+use Rattle.transfer.proofs.StepLaws.{chain-by, outcome-5, two-plain}
 use Rattle.transfer.specs.Halves.{firstPlace, secondPlace, wordWith}
 use Rattle.transfer.specs.Parts.{Part, Whole, FirstFetch, SecondFetch, FirstStore, SecondStore, partOf}
 use Rattle.transfer.specs.Steps.{Transfer, transferred, touchedBy, channelBy, memoryBy, badMode, stagesBy, numberBy, stepBy, touchedByTransfer, transferOf}

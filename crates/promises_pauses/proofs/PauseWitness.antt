@@ -12,7 +12,7 @@ use native.Mathlib.Omega.{arith}
 use Rattle.words.specs.{Bits.fieldOf, Bits.bitOf, Bits.withBit, Sums.sum20}
 use Rattle.memory.specs.Buffers.{Buffers, spaceOf, limitOf, indexOf, lentAt, byteAt, touchableAt, storeByte}
 use Rattle.memory.specs.{declared.Pointer.Pointer, Places.Place, Places.span, Places.allPass, Places.allTouchable, Places.ApartFrom, Values.pointer}
-use Rattle.memory.proofs.StoreLaws.{store-length, store-lent, read-other}
+use Rattle.memory.proofs.StoreLaws.{store-length, store-lent, read-other, same-lent}
 use Rattle.machine.specs.{declared.Channel.Channel, declared.State.State, Cc.split, Conditions.TooLong, Stages.stagesNumber}
 use Rattle.machine.specs.Outcomes.{Outcome, unless, first, givenNumber}
 use Rattle.machine.specs.Psw.{programRunning, withPsw}
@@ -33,7 +33,7 @@ use Rattle.block_rules.specs.Totals.{narrow, alone, total, movedAfter}
 use Rattle.promises.specs.{Cases.Stand, Joined.RunsAlone, Met.zeros, Met.copying, SheetAttention.pbAt, SheetAttention.Attends, Witness.channelWith}
 use Rattle.promises.specs.{SheetAttention.outcomeTo, SheetAttention.channelAfter, Image.put, Image.layoutOf, Image.copyOf, Image.imageIn}
 use Rattle.promises.specs.Program.{Job, programPlace, busyAt, haltAt, Ready}
-use Rattle.promises.proofs.{AloneLaws.program-turn, AloneLaws.alone-next, AloneLaws.instruction-done, CallLaws.attention-kept, Joined.same-lent}
+use Rattle.promises.proofs.{AloneLaws.program-turn, AloneLaws.alone-next, AloneLaws.instruction-done, CallLaws.attention-kept}
 use Rattle.promises.proofs.ImageLaws.{put-length, put-other, differ, whole-lent, whole-put, whole-stand, zeros-whole, ready-met}
 use Rattle.promises.proofs.{CopyWitness.zeros-within, ProgramLaws.source-is, ProgramLaws.destination-is, ProgramLaws.total-is, ProgramSteps.View}
 use Rattle.promises.proofs.{ProgramSteps.hlt-stops, SheetAttention.attention-sheet, StandLaws.stand-on, StandLaws.stand-kept}

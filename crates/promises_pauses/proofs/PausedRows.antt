@@ -11,6 +11,7 @@ use native.Mathlib.Omega.{arith}
 use Rattle.memory.proofs.SpanLaws.{apart-right}
 use Rattle.words.{specs.Choice.pick, specs.Bits.bitOf, specs.Bits.withBit, proofs.BitLaws.bit-other, proofs.BitLaws.with-bit-back, proofs.ChoiceLaws.apart}
 use Rattle.memory.specs.{declared.Pointer.Pointer, Buffers.Buffers, Buffers.limitOf, Places.Place, Places.ApartFrom}
+use Rattle.memory.proofs.StoreLaws.{same-lent}
 use Rattle.machine.specs.{declared.Channel.Channel, declared.Fields.Fields, declared.Mode.the-variants.Suspended, declared.State.State, Outcomes.Outcome}
 use Rattle.machine.specs.{Psw.transferring, Psw.programRunning, Psw.withPsw, Updates.withControl, Updates.withTransfer, Updates.stoppedPsw}
 use Rattle.machine.specs.States.{channelOf, channelNumber, blockOf, busyIn, isRunning}
@@ -27,7 +28,7 @@ use Rattle.sweep_rules.specs.{Plainly.plainly, Ranges.placeOf, Sweep.sweepOf}
 use Rattle.block_rules.proofs.{CopyLaws.reached, Demand3.going, Demand3.ended, StageLaws.mid-count}
 use Rattle.promises.specs.{Calls.Turn, Calls.Calls, Calls.EndsAtCall, Joined.RunsAlone, SheetAttention.outcomeTo, SheetAttention.channelAfter}
 use Rattle.promises.proofs.CallLaws.{turn-is, transfer-channel, transfer-memory, step-kept, attention-kept}
-use Rattle.promises.proofs.{AloneLaws.transfer-turn, AloneLaws.alone-next, Joined.busy-same, Joined.same-lent, MachineLaws.row-kept, MachineLaws.moves}
+use Rattle.promises.proofs.{AloneLaws.transfer-turn, AloneLaws.alone-next, Joined.busy-same, MachineLaws.row-kept, MachineLaws.moves}
 use Rattle.promises_blocks.proofs.{PlainLaws.plainly-stops, PlainLaws.plainly-goes, Sweeps.rest-accepted, Sweeps.sweeps}
 use Rattle.promises_pauses.specs.Pausing.{Quietly, blockBytes, busyByte, Clear, BlockKept, PauseStores, PauseApart, Spared, PausedCalls, EndsPaused}
 use Rattle.promises_pauses.specs.Pausing.{SameEnd, SweptRest, begin, transfer, step, attention, host, suspend, resume}

@@ -8,6 +8,7 @@ use native.Mathlib.Omega.{arith}
 use Rattle.words.proofs.ChoiceLaws.{apart}
 use Rattle.memory.specs.Buffers.{Buffers, spaceOf, byteAt}
 use Rattle.memory.specs.declared.Pointer.{Pointer}
+use Rattle.memory.proofs.StoreLaws.{same-lent}
 use Rattle.machine.specs.declared.Channel.{Channel}
 use Rattle.machine.specs.declared.Fields.{Fields}
 use Rattle.machine.specs.declared.State.{State}
@@ -20,7 +21,6 @@ use Rattle.block_rules.specs.Rows.{Left}
 use Rattle.block_rules.specs.Stages.{Going, Within}
 use Rattle.block_rules.specs.Totals.{movedAfter}
 use Rattle.promises.proofs.AloneLaws.{transfer-turn, alone-next}
-use Rattle.promises.proofs.Joined.{same-lent}
 use Rattle.promises.specs.Calls.{Turn, Moves}
 use Rattle.promises.specs.Joined.{RunsAlone}
 use Rattle.processors.specs.Calls.{StepAnswer, stepAnswer, stepGives, stepOn}

@@ -1,37 +1,21 @@
 -- The laws of what a transfer step reads, one for each way that its reading ends.
 -- Assumes nothing.
 use Prim.Native.Nat.{ℕ}
-use lib.Dec.{eqb}
-use mathlib.Core.Bool.{Bool, true, false, not, _&&_, _||_}
+use mathlib.Core.Bool.{Bool, true, false, not}
 use mathlib.Core.Path.{_≡_, refl, sym}
-use Rattle.machine.specs.Psw.{destinationWide, sourceWide}
 use Rattle.machine.specs.declared.Channel.{Channel}
 use Rattle.memory.specs.Buffers.{Buffers, touchableAt, byteAt}
 use Rattle.memory.specs.Places.{allTouchable}
 use Rattle.words.proofs.ChoiceLaws.{apart}
 use Rattle.words.specs.Choice.{pick}
-use Rattle.words.specs.Bits.{bitOf}
 use Rattle.words.specs.Sums.{sum20}
 use Rattle.transfer.specs.Fetches.{beyond, here, fetchOf}
 use Rattle.transfer.specs.Reads.{fetched, fetchedSecond, entryOf, delivered, dataOf, readPlaces}
-use Rattle.transfer.specs.Sides.{source, destination, wordSide, secondAddress, countOn, twoMove, setupOf}
+use Rattle.transfer.specs.Sides.{source, secondAddress, setupOf}
 use Rattle.transfer.specs.Steps.{badMode}
 use Rattle.transfer.specs.declared.Setup.{Setup}
 use Rattle.transfer.proofs.TouchLaws.{reads-touchable}
-
--- where no mode is bad, a step of two bytes does not translate
-pub two-plain : (c : Channel) → badMode c ≡ false → twoMove c ≡ true → c .fields .translates ≡ false
-unfolding badMode twoMove wordSide source destination
-two-plain c e f =
-    go (eqb (c .fields .synchronised) 3) (c .fields .translates) (sourceWide (c .psw)) (destinationWide (c .psw)) (not (bitOf ((source c) .pointer .address) 0))
-    (not (bitOf ((destination c) .pointer .address) 0)) (not (countOn (c .fields) && eqb (c .bc) 1)) e f
-  where
-    go : (s t a b x y k : Bool) → (s || (t && (a || b))) ≡ false → (((a && x) || (b && y)) && k) ≡ true → t ≡ false
-    go s false a b x y k e f = refl
-    go true true a b x y k e f = apart e
-    go false true true b x y k e f = apart e
-    go false true false true x y k e f = apart e
-    go false true false false x y k e f = apart (sym f)
+use Rattle.transfer.proofs.StepLaws.{two-plain}
 
 -- whether what is read may be touched, and what it is where it may
 pub fetch-touchable : (c : Channel) (m : Buffers) → (fetchOf c m) .touchable ≡ allTouchable m (readPlaces c m)

@@ -20,9 +20,8 @@ use Rattle.transfer.specs.Sides.{source, destination, secondAddress, two
 use Rattle.transfer.specs.Steps.{transferred, touchedBy, channelBy, memoryBy, badMode, stepBy, countBy}
 use Rattle.transfer.specs.Stores.{firstMeets, storesTwo, bytesStored, bytesMoved, bytesCounted, countAfter, endCode, landedBy, movedChannel, putOn, movedMemory, placesOn}
 use Rattle.transfer.specs.declared.Data.{Data}
-use Rattle.transfer.proofs.FetchLaws.{two-plain}
 use Rattle.transfer.proofs.PartLaws.{fetches-two, word-stored, stores-two, singly-stored}
-use Rattle.transfer.proofs.StepLaws.{outcome-2, outcome-0, counts-2, counts-0}
+use Rattle.transfer.proofs.StepLaws.{outcome-2, outcome-0, counts-2, counts-0, two-plain}
 use Rattle.transfer.proofs.TouchLaws.{reads-touchable, places-touchable}
 
 -- ---- a half of any kind

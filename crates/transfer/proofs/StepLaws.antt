@@ -4,7 +4,7 @@ use borrow.Author.Tests.{eqb-false}
 use Prim.Native.Nat.{ℕ, zero, suc}
 use lib.Dec.{eqb, eqb·suc-zero}
 use lib.ListN.{length}
-use mathlib.Core.Bool.{Bool, true, false, not}
+use mathlib.Core.Bool.{Bool, true, false, not, _&&_, _||_}
 use mathlib.Core.Logic.{_↔_}
 use mathlib.Core.Path.{_≡_, refl, sym, ap, _∙_}
 use Rattle.machine.proofs.OutcomeLaws.{first-right}
@@ -12,12 +12,16 @@ use Rattle.machine.proofs.StageLaws.{two-exactly}
 use Rattle.machine.specs.Outcomes.{unless, first, counted}
 use Rattle.machine.specs.Stages.{stagesNumber, stagesTouched}
 use Rattle.machine.specs.declared.Channel.{Channel}
+use Rattle.machine.specs.Psw.{sourceWide, destinationWide}
 use Rattle.memory.specs.Buffers.{Buffers}
 use Rattle.memory.specs.Places.{allPass, allTouchable}
 use Rattle.words.specs.Choice.{pick}
+use Rattle.words.specs.Bits.{bitOf}
+use Rattle.words.proofs.ChoiceLaws.{apart}
 use Rattle.transfer.specs.Ends.{externallyEnded}
 use Rattle.transfer.specs.Parts.{Part, partOf}
 use Rattle.transfer.specs.Steps.{Transfer, transferred, touchedBy, touchedByTransfer, channelBy, memoryBy, badMode, stagesBy, numberBy, stepBy, countBy, transferStages, TransferGiven5, TransferGiven2, TransferGiven0, transferNumber, transferOf}
+use Rattle.transfer.specs.Sides.{source, destination, wordSide, countOn, twoMove}
 
 -- no two outcomes meet the contract of a transfer step
 pub unique : (c : Channel) (m : Buffers) (o o′ : Transfer) → o ≡ transferOf c m → o′ ≡ transferOf c m → o ≡ o′
@@ -26,6 +30,20 @@ unique c m o o′ e e′ = e ∙ sym e′
 -- nor that of an external end
 pub unique-end : (c r r′ : Channel) → r ≡ externallyEnded c → r′ ≡ externallyEnded c → r ≡ r′
 unique-end c r r′ e e′ = e ∙ sym e′
+
+-- where no mode is bad, a step of two bytes does not translate
+pub two-plain : (c : Channel) → badMode c ≡ false → twoMove c ≡ true → c .fields .translates ≡ false
+unfolding badMode twoMove wordSide source destination
+two-plain c e f =
+    go (eqb (c .fields .synchronised) 3) (c .fields .translates) (sourceWide (c .psw)) (destinationWide (c .psw)) (not (bitOf ((source c) .pointer .address) 0))
+    (not (bitOf ((destination c) .pointer .address) 0)) (not (countOn (c .fields) && eqb (c .bc) 1)) e f
+  where
+    go : (s t a b x y k : Bool) → (s || (t && (a || b))) ≡ false → (((a && x) || (b && y)) && k) ≡ true → t ≡ false
+    go s false a b x y k e f = refl
+    go true true a b x y k e f = apart e
+    go false true true b x y k e f = apart e
+    go false true false true x y k e f = apart e
+    go false true false false x y k e f = apart (sym f)
 
 -- ---- a step of any part
 
