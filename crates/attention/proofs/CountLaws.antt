@@ -1,27 +1,25 @@
 -- How long the list of an attention is: what its command counts.
 -- Assumes nothing.
 use Prim.Native.Nat.{ℕ}
-use borrow.Author.Tests.{eqb-false, eq-eqb, ne-eqb}
+use borrow.Author.Tests.{eqb-false, eq-eqb}
 use lib.ListN.{length}
 use mathlib.Core.List.{[], _++_}
 use mathlib.Core.Bool.{false}
-use mathlib.Core.Path.{_≡_, refl, sym, ap, _∙_}
-use native.Mathlib.Decide.{ℕ-discrete}
-use Rattle.machine.proofs.OutcomeLaws.{settled-number, refused-counts, done-counts}
+use mathlib.Core.Path.{_≡_, refl, _∙_}
+use Rattle.machine.proofs.OutcomeLaws.{settled-number}
 use Rattle.machine.specs.Outcomes.{unless, first}
 use Rattle.machine.specs.Stages.{stagesTouched}
-use Rattle.machine.specs.States.{channelOf, isSecond, blockOf}
+use Rattle.machine.specs.States.{channelOf, isSecond}
 use Rattle.machine.specs.declared.Mode.{Mode}
 use Rattle.machine.specs.declared.State.{State}
 use Rattle.memory.specs.Buffers.{Buffers}
 use Rattle.memory.specs.Places.{span}
-use Rattle.attention.specs.Attention.{orderTo, plannedOf, givenTo, attentionNumber, attentionOf, touchedByAttention, attentionCount}
+use Rattle.attention.specs.Attention.{orderTo, attentionNumber, attentionOf, touchedByAttention}
 use Rattle.attention.specs.Commands.{commandNumber, isKnown}
 use Rattle.attention.specs.Touched.{readBy, storedBy, others, orderStages, touchedByOrder, commandCount}
 use Rattle.attention.specs.declared.Command.{Command}
 use Rattle.attention.specs.declared.Command.the-variants.{Update, StartLocal, StartSystem, Suspend, Resume, Halt, Unknown}
 use Rattle.attention.specs.declared.Order.{Order}
-use Rattle.attention.specs.declared.Upshot.{Upshot}
 use Rattle.attention.proofs.Outcomes.{passed-command}
 
 command-length : (k : Command) (mode : Mode) (block pb : ℕ) → commandNumber k mode ≡ 0 → length (span false block 1 ++ ((readBy k block pb ++ storedBy k block pb) ++ [])) ≡ commandCount k
@@ -48,12 +46,3 @@ module _ (s : State) (m : Buffers) (channel : ℕ) where
   pub touched-length : attentionNumber s m channel ≡ 0 → length (touchedByAttention s m channel) ≡ commandCount (orderTo s m (isSecond channel) .command)
   unfolding touchedByAttention
   touched-length z = order-length (orderTo s m (isSecond channel)) (channelOf s (isSecond channel) .mode) (passed-command s m channel (number-left ∙ z))
-
-  -- and what is planned counts them
-  pub planned-counts : (e : Upshot) → e ≡ plannedOf m (givenTo s m channel) (blockOf s (isSecond channel)) (channelOf s (isSecond channel)) → e .count ≡ attentionCount s m channel
-  unfolding plannedOf attentionNumber attentionCount orderTo
-  planned-counts e is = ap (λ (u : Upshot). u .count) is ∙ go (ℕ-discrete (attentionNumber s m channel) 0)
-    where
-      go : Dec (attentionNumber s m channel ≡ 0) → (plannedOf m (givenTo s m channel) (blockOf s (isSecond channel)) (channelOf s (isSecond channel))) .count ≡ attentionCount s m channel
-      go (yes z) = rw (eq-eqb (attentionNumber s m channel) 0 z) (sym (done-counts (attentionNumber s m channel) (touchedByAttention s m channel) z ∙ touched-length z))
-      go (no ne) = rw (ne-eqb (attentionNumber s m channel) 0 ne) (sym (refused-counts (attentionNumber s m channel) (touchedByAttention s m channel) ne))

@@ -2,20 +2,26 @@
 -- Assumes nothing.
 use Prim.Native.Nat.{ℕ}
 use lib.Dec.{eqb}
+use lib.ListN.{length}
 use mathlib.Core.Bool.{Bool, true, false}
-use mathlib.Core.Path.{_≡_, refl, ap}
+use mathlib.Core.Path.{_≡_, refl, ap, sym, _∙_}
 use Rattle.machine.proofs.ChannelLaws.{put-back}
 use Rattle.machine.specs.Outcomes.{outcome, settled}
 use Rattle.machine.specs.States.{channelOf, withChannel, isSecond, blockOf}
 use Rattle.machine.specs.declared.Channel.{Channel}
 use Rattle.machine.specs.declared.State.{State}
+use Rattle.machine.proofs.OutcomeLaws.{refused-counts, done-counts}
 use Rattle.memory.specs.Buffers.{Buffers}
 use Rattle.words.specs.Choice.{pick}
-use Rattle.attention.specs.Attention.{orderTo, plannedOf, orderedChannel, orderedMemory, givenTo, attentionNumber, attentionOf}
+use Rattle.attention.specs.Attention.{orderTo, orderedChannel, orderedMemory, givenTo, attentionNumber, attentionOf, touchedByAttention, attentionCount}
+use Rattle.attention.specs.Plans.{plannedOf}
 use Rattle.attention.specs.Touched.{commandCount}
 use Rattle.attention.specs.Effects.{channelOrdered, writes, writesOf, writesMade}
 use Rattle.attention.specs.declared.Upshot.{Upshot}
 use Rattle.attention.specs.declared.Order.{Order}
+use borrow.Author.Tests.{eq-eqb, ne-eqb}
+use native.Mathlib.Decide.{ℕ-discrete}
+use Rattle.attention.proofs.CountLaws.{touched-length}
 
 -- the plan, put back into the state and written into memory, is the whole outcome
 pub planned-settled : (s : State) (m : Buffers) (channel : ℕ) (e : Upshot)
@@ -43,3 +49,12 @@ planned-settled s m channel e is = rw is (go (eqb (attentionNumber s m channel) 
         ≡ pick x (outcome 0 (withChannel s b (orderedChannel s m b)) (orderedMemory s m b)) (outcome (attentionNumber s m channel) s m)
     go true = refl
     go false = ap (λ (t : State). outcome (attentionNumber s m channel) t m) (put-back s b)
+
+-- what is planned counts the bytes that an attention touches
+pub planned-counts : (s : State) (m : Buffers) (channel : ℕ) (e : Upshot) → e ≡ plannedOf m (givenTo s m channel) (blockOf s (isSecond channel)) (channelOf s (isSecond channel)) → e .count ≡ attentionCount s m channel
+unfolding plannedOf attentionNumber attentionCount orderTo
+planned-counts s m channel e is = ap (λ (u : Upshot). u .count) is ∙ go (ℕ-discrete (attentionNumber s m channel) 0)
+  where
+    go : Dec (attentionNumber s m channel ≡ 0) → (plannedOf m (givenTo s m channel) (blockOf s (isSecond channel)) (channelOf s (isSecond channel))) .count ≡ attentionCount s m channel
+    go (yes z) = rw (eq-eqb (attentionNumber s m channel) 0 z) (sym (done-counts (attentionNumber s m channel) (touchedByAttention s m channel) z ∙ touched-length s m channel z))
+    go (no ne) = rw (ne-eqb (attentionNumber s m channel) 0 ne) (sym (refused-counts (attentionNumber s m channel) (touchedByAttention s m channel) ne))

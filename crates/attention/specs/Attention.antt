@@ -1,9 +1,7 @@
 -- The attention call (§4): its number, by the first test that applies (§3.5), and its whole outcome.
-use mathlib.Core.Bool.{Bool, false}
+use mathlib.Core.Bool.{Bool}
 use mathlib.Core.List.{List}
 use Prim.Native.Nat.{ℕ}
-use lib.Dec.{eqb}
-use Rattle.words.specs.Choice.{pick}
 use Rattle.memory.specs.Buffers.{Buffers}
 use Rattle.memory.specs.Places.{Place}
 use Rattle.machine.specs.Outcomes.{Outcome, unless, first, settled, counted, givenNumber}
@@ -12,10 +10,9 @@ use Rattle.machine.specs.States.{channelOf, withChannel, isChannel, isSecond, b
 use Rattle.machine.specs.declared.Channel.{Channel}
 use Rattle.machine.specs.declared.Mode.{Mode}
 use Rattle.machine.specs.declared.State.{State}
-use Rattle.attention.specs.declared.Upshot.{Upshot}
 use Rattle.attention.specs.declared.Order.{Order}
 use Rattle.attention.specs.Blocks.{orderOf}
-use Rattle.attention.specs.Touched.{orderStages, touchedByOrder, commandCount}
+use Rattle.attention.specs.Touched.{orderStages, touchedByOrder}
 use Rattle.attention.specs.Effects.{channelOrdered, writes, writesOf, writesMade}
 
 -- the order that a channel's block holds
@@ -25,15 +22,6 @@ orderTo s m second = orderOf m (blockOf s second) (channelOf s second .pp)
 -- the number of an order, by its stages: 2 for CCW, 6, then 7, 8 or 9, and 2 for the other bytes
 unfoldable pub orderNumber : Buffers → Order → Mode → ℕ
 orderNumber m o mode = stagesNumber m (orderStages o mode)
-
--- what the order in a block comes to before anything is stored: refused, also for what was given, it leaves the channel as it is and stores nothing
-unfoldable pub plannedOf : Buffers → ℕ → ℕ → Channel → Upshot
-plannedOf m given block c =
-    let o = orderOf m block (c .pp) in
-    let number = first given (orderNumber m o (c .mode)) in
-    pick (eqb number 0)
-    (record { number = 0; count = commandCount (o .command); channel = channelOrdered m o c; writes = writesOf (o .command) (o .block) (o .pb) c })
-    (record { number = number; count = 0; channel = c; writes = writes false false 0 (o .block) (o .pb) c })
 
 -- the channel after the order that its block holds, where that is accepted
 unfoldable pub orderedChannel : State → Buffers → Bool → Channel

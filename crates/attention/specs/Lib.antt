@@ -3,5 +3,6 @@ pub mod Blocks
 pub mod Touched
 pub mod Effects
 pub mod Attention
+pub mod Plans
 pub mod Conditions
 pub mod Pauses

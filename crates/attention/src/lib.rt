@@ -8,7 +8,8 @@ use memory::Pointer;
 ghost use mathlib.Core.Path.{_≡_};
 ghost use Rattle.memory.specs.Buffers.{lent};
 ghost use Rattle.machine.specs.Outcomes.{outcome, first};
-ghost use Rattle.attention.specs.Attention.{orderNumber, plannedOf, givenTo, attentionOf, attentionCount};
+ghost use Rattle.attention.specs.Attention.{orderNumber, givenTo, attentionOf, attentionCount};
+ghost use Rattle.attention.specs.Plans.{plannedOf};
 
 // The command of a CCW, what it asks of the mode, and what it does to PSW.
 pub mod commands;

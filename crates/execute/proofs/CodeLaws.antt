@@ -4,8 +4,8 @@ use Prim.Native.Nat.{ℕ, _+_, _≤_}
 use borrow.Author.Tests.{eqb-false}
 use lib.ListN.{length}
 use denote.Enum.Declared.{tagOf as variant}
-use mathlib.Core.Bool.{Bool, true, false, _&&_}
-use mathlib.Core.List.{[], _∷_, _++_}
+use mathlib.Core.Bool.{Bool, true, false}
+use mathlib.Core.List.{[], _∷_}
 use mathlib.Core.Logic.{⊎-elim}
 use mathlib.Core.Path.{_≡_, refl, sym, ap, ap₂, subst, _∙_}
 use types.Run.{OneOf}
@@ -16,7 +16,7 @@ use Rattle.decode_shapes.specs.declared.Decoded.{Decoded}
 use Rattle.decode_shapes.specs.declared.Decoded.the-variants.{Instruction, NoInstruction, ControlUsed}
 use Rattle.decode_shapes.specs.declared.Shape.{Shape}
 use Rattle.machine.proofs.ConditionLaws.{first-assoc}
-use Rattle.machine.proofs.OutcomeLaws.{refused-counts, done-counts, first-some, first-none}
+use Rattle.machine.proofs.OutcomeLaws.{refused-counts, done-counts, first-some, first-none, both-tested}
 use Rattle.machine.specs.Outcomes.{unless, first}
 use Rattle.machine.specs.Stages.{stagesNumber}
 use Rattle.machine.specs.declared.Channel.{Channel}
@@ -26,7 +26,8 @@ use Rattle.memory.specs.Places.{allTouchable}
 use Rattle.execute_operands.specs.Changes.{placesOf, changed, nothing}
 use Rattle.execute_operands.specs.Marks.{pastInstruction}
 use Rattle.execute_operands.specs.Operands.{bytesAt}
-use Rattle.execute_deeds.specs.Deeds.{Deed, effectOf, afterWrite}
+use Rattle.execute_deeds.specs.Deeds.{Deed}
+use Rattle.execute_deeds.specs.Effects.{effectOf, afterWrite}
 use Rattle.execute_deeds.specs.Writes.{noWrite}
 use Rattle.execute_deeds.specs.declared.Effect.{Effect}
 use Rattle.execute.specs.Execute.{decodedAt, performed, deedOf, laterBytes, laterFrom, lengthFrom, deedFrom, stagesFrom, instructionStages, executeNumber, touchedByInstruction, Executed, executed, executeOf, executeCount}
@@ -93,13 +94,6 @@ module _ (m : Buffers) (c : Channel) (busy : ℕ) where
   plan-shaped s i there p = shaped-from (decodedAt m (c .tp)) s i there p
 
   -- ---- the stores
-
-  -- bytes read and bytes stored to, tested at once or one after the other
-  pub both-tested : (a b : Bool) → first (unless (a && b) 2) (first 0 0) ≡ first (unless a 2) (unless b 2)
-  unfolding first unless
-  both-tested true true = refl
-  both-tested true false = refl
-  both-tested false b = refl
 
   split-from : (d : Decoded) → stagesNumber m (stagesFrom d m c busy) ≡ first (planFrom d m c busy) (unless (allTouchable m (placesOf ((deedFrom d m c busy) .change))) 2)
   unfolding stagesNumber stagesFrom planFrom laterNumber effectOf

@@ -18,7 +18,7 @@ use Rattle.decode_shapes.specs.declared.Memory.{Memory}
 use Rattle.decode_shapes.specs.declared.Second.{Second}
 use Rattle.decode_shapes.specs.declared.Second.the-variants.{Operand, NoSecond}
 use Rattle.decode_shapes.specs.declared.Shape.the-variants.{Nop, Sintr, Xfer, Wid, Hlt, Lpdi, RegisterImmediate, Register, JumpRegister, RegisterMemory, MemoryRegister, MemoryImmediate, MemoryAlone, JumpMemory, Lpd, MovpLoad, MovpStore, MovMemory, Tsl, Call, JumpMasked, JumpBit, Bit}
-use Rattle.machine.proofs.OutcomeLaws.{unless-true}
+use Rattle.machine.proofs.OutcomeLaws.{unless-true, both-tested}
 use Rattle.machine.proofs.StageLaws.{two-exactly, none-refused}
 use Rattle.machine.specs.Outcomes.{unless, first}
 use Rattle.machine.specs.Stages.{stagesNumber, JudgedElse}
@@ -39,7 +39,6 @@ use Rattle.machine.specs.Conditions.{check, Given}
 use Rattle.execute.specs.Conditions.{NoCode, ControlTouched, LaterBeyond, NoSecondPair, ReadsBeyond, StoresBeyond, checksFrom, instructionChecks, InstructionGiven4, InstructionGiven3, InstructionGiven2, InstructionGiven0}
 use Rattle.execute.specs.Execute.{decodedAt, performed, deedOf, laterFrom, deedFrom, stagesFrom, instructionStages, executeNumber, touchedByInstruction, executeOf}
 use Rattle.execute.proofs.OutcomeLaws.{number-is}
-use Rattle.execute.proofs.CodeLaws.{both-tested}
 
 -- ---- what each test tells
 
@@ -148,7 +147,7 @@ module _ (m : Buffers) (c : Channel) (busy : ℕ) where
   unfolding stagesNumber stagesFrom
   chain-of d =
       let done = deedFrom d m c busy in
-      rw (coded d, paired-of d .chain, all-append (touchableAt m) (done .reads) (placesOf (done .change)), both-tested m c busy (allTouchable m (done .reads)) (allTouchable m (placesOf (done .change))))
+      rw (coded d, paired-of d .chain, all-append (touchableAt m) (done .reads) (placesOf (done .change)), both-tested (allTouchable m (done .reads)) (allTouchable m (placesOf (done .change))))
 
   given-from : (d : Decoded) (n : ℕ) → (stagesNumber m (stagesFrom d m c busy) ≡ n) ↔ Given (checksFrom d m c busy) n
   given-from d n =

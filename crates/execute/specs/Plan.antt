@@ -9,7 +9,8 @@ use Rattle.machine.specs.declared.Channel.{Channel}
 use Rattle.decode_shapes.specs.declared.Decoded.{Decoded}
 use Rattle.decode.specs.Reading.{numberOf}
 use Rattle.execute_operands.specs.Operands.{bytesAt}
-use Rattle.execute_deeds.specs.Deeds.{Deed, effectOf, afterWrite}
+use Rattle.execute_deeds.specs.Deeds.{Deed}
+use Rattle.execute_deeds.specs.Effects.{effectOf, afterWrite}
 use Rattle.execute_deeds.specs.Writes.{noWrite}
 use Rattle.execute_deeds.specs.declared.Effect.{Effect}
 use Rattle.execute.specs.Execute.{decodedAt, deedFrom, laterFrom}

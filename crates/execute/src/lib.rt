@@ -10,7 +10,7 @@ use machine::Channel;
 use memory::Pointer;
 ghost use mathlib.Core.Path.{_≡_};
 ghost use Rattle.memory.specs.Buffers.{lent};
-ghost use Rattle.execute_deeds.specs.Deeds.{effectOf, afterWrite};
+ghost use Rattle.execute_deeds.specs.Effects.{effectOf, afterWrite};
 ghost use Rattle.execute_deeds.specs.Writes.{noWrite};
 ghost use Rattle.decode_shapes.specs.declared.Decoded.the-variants.{Instruction};
 ghost use Rattle.decode.specs.Lengths.{lengthOf};

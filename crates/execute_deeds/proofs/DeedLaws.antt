@@ -13,8 +13,8 @@ use Rattle.memory.specs.Buffers.{Buffers}
 use Rattle.memory.specs.declared.Pointer.{Pointer}
 use Rattle.execute_operands.specs.Operands.{afterPair, grown, landing, jumpedIf, isMove}
 use Rattle.execute_deeds.specs.JumpForms.{callDeed}
-use Rattle.execute_deeds.specs.RegisterForms.{registerWritten, workWrite}
-use Rattle.execute_deeds.specs.Writes.{writeMade}
+use Rattle.execute_deeds.specs.RegisterForms.{registerWritten}
+use Rattle.execute_deeds.specs.Writes.{workWrite, writeMade}
 use Rattle.execute_deeds.specs.declared.Write.{Write}
 
 -- work that is no move leaves the tag of GA, GB, GC and TP (§6.10)

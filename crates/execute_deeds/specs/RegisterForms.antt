@@ -1,5 +1,5 @@
 -- Instructions whose result goes into a register.
-use mathlib.Core.Bool.{Bool, _||_}
+use mathlib.Core.Bool.{Bool}
 use mathlib.Core.List.{[]}
 use Prim.Native.Nat.{ℕ}
 use Rattle.words.specs.Choice.{pick}
@@ -7,23 +7,17 @@ use Rattle.memory.specs.Buffers.{Buffers}
 use Rattle.memory.specs.Values.{onward, doublewordAt, pointerAt}
 use Rattle.memory.specs.declared.Pointer.{Pointer}
 use Rattle.machine.specs.declared.Channel.{Channel}
-use Rattle.machine.specs.Registers.{registerOf, tagOf, withRegister, moved, worked, loaded}
+use Rattle.machine.specs.Registers.{registerOf, withRegister, moved, worked, loaded}
 use Rattle.decode_shapes.specs.declared.Memory.{Memory}
 use Rattle.decode_shapes.specs.declared.Work.{Work}
 use Rattle.decode_shapes.specs.declared.Single.{Single}
 use Rattle.execute_operands.specs.Operands.{bytesAt, sizeOf, effective, grown, operandAt, workOf, singleOf, isMove}
 use Rattle.execute_operands.specs.Changes.{nothing}
 use Rattle.execute_deeds.specs.Deeds.{Deed, deed}
-use Rattle.execute_deeds.specs.Writes.{writeTo}
-use Rattle.execute_deeds.specs.declared.Write.{Write}
 
 -- a register written: MOV and MOVI set the tag of a pointer, other work keeps it (§6.10)
 unfoldable pub registerWritten : Work → Channel → ℕ → ℕ → Channel
 registerWritten work c r v = pick (isMove work) (moved c r v) (worked c r v)
-
--- the same as a write that is still to be made
-abbrev pub workWrite : Work → Channel → ℕ → ℕ → Write
-workWrite work c r v = writeTo r v (isMove work || tagOf c r)
 
 -- ADDI, ORI, ANDI, MOVI R,I: the data stands after the pair
 unfoldable pub registerImmediateDeed : Buffers → Channel → Pointer → Work → ℕ → Bool → Deed

@@ -1,10 +1,12 @@
 -- The register that an instruction writes by RRR, and the channel once it is written.
-use mathlib.Core.Bool.{Bool, true, false}
+use mathlib.Core.Bool.{Bool, true, false, _||_}
 use Prim.Native.Nat.{ℕ}
 use Rattle.words.specs.Choice.{pick}
-use Rattle.machine.specs.Registers.{withRegister}
+use Rattle.machine.specs.Registers.{withRegister, tagOf}
 use Rattle.machine.specs.declared.Channel.{Channel}
 use Rattle.execute_deeds.specs.declared.Write.{Write}
+use Rattle.decode_shapes.specs.declared.Work.{Work}
+use Rattle.execute_operands.specs.Operands.{isMove}
 
 -- none
 abbrev pub noWrite : Write
@@ -17,3 +19,7 @@ writeTo r v tag = record { any = true; rrr = r; value = v; tag = tag }
 -- the channel with the register written, CC with its fields
 unfoldable pub writeMade : Channel → Write → Channel
 writeMade c w = pick (w .any) (withRegister c (w .rrr) (w .value) (w .tag)) c
+
+-- the same as a write that is still to be made
+abbrev pub workWrite : Work → Channel → ℕ → ℕ → Write
+workWrite work c r v = writeTo r v (isMove work || tagOf c r)

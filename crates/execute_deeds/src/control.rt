@@ -6,7 +6,7 @@ use machine::Channel;
 use machine::psw;
 use memory::Pointer;
 ghost use mathlib.Core.Path.{_≡_};
-ghost use Rattle.execute_deeds.specs.Deeds.{unread};
+ghost use Rattle.execute_deeds.specs.Effects.{unread};
 ghost use Rattle.execute_deeds.specs.Control.{nopDeed, sintrDeed, xferDeed, widDeed, hltDeed, withStatus};
 
 // A channel after an instruction that reads and stores nothing.

@@ -9,11 +9,11 @@ use machine::Channel;
 use memory::Pointer;
 ghost use mathlib.Core.Path.{_≡_};
 ghost use Rattle.memory.specs.Buffers.{lent};
-ghost use Rattle.execute_deeds.specs.Deeds.{effectOf, unread, afterWrite};
+ghost use Rattle.execute_deeds.specs.Effects.{effectOf, unread, afterWrite};
 ghost use Rattle.execute_operands.specs.Operands.{readNumber};
 ghost use Rattle.execute_operands.specs.Changes.{nothing};
-ghost use Rattle.execute_deeds.specs.Writes.{writeTo};
-ghost use Rattle.execute_deeds.specs.RegisterForms.{workWrite, registerImmediateDeed, registerDeed, registerMemoryDeed, lpdiDeed, lpdDeed, movpLoadDeed};
+ghost use Rattle.execute_deeds.specs.Writes.{writeTo, workWrite};
+ghost use Rattle.execute_deeds.specs.RegisterForms.{registerImmediateDeed, registerDeed, registerMemoryDeed, lpdiDeed, lpdDeed, movpLoadDeed};
 
 // A register with its value, and with its tag where it is a pointer.
 fn to(rrr: u32, value: u32, tag: bool) -> Write

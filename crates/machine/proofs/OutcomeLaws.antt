@@ -4,7 +4,7 @@ use Prim.Native.Nat.{ℕ, zero, suc}
 use borrow.Author.Tests.{eq-eqb, ne-eqb}
 use lib.Dec.{eqb, eqb·suc-zero}
 use lib.ListN.{length}
-use mathlib.Core.Bool.{Bool, true, false}
+use mathlib.Core.Bool.{Bool, true, false, _&&_}
 use mathlib.Core.List.{List}
 use mathlib.Core.Path.{_≡_, refl}
 use Rattle.memory.specs.Buffers.{Buffers}
@@ -73,3 +73,10 @@ settled-state P number s m s′ m′ p q = go (eqb number 0)
     go : (b : Bool) → P ((pick b (outcome 0 s′ m′) (outcome number s m)) .state)
     go true = q
     go false = p
+
+-- bytes read and bytes stored to, tested at once or one after the other
+pub both-tested : (a b : Bool) → first (unless (a && b) 2) (first 0 0) ≡ first (unless a 2) (unless b 2)
+unfolding first unless
+both-tested true true = refl
+both-tested true false = refl
+both-tested false b = refl

@@ -25,12 +25,11 @@ use Rattle.machine.specs.declared.State.{State}
 use Rattle.memory.proofs.PlaceLaws.{byte-reduced, word-reduced}
 use Rattle.memory.specs.Buffers.{Buffers, byteAt}
 use Rattle.memory.specs.Places.{span, allPass, allTouchable}
-use Rattle.memory.specs.Values.{wordAt}
+use Rattle.memory.specs.Values.{wordAt, onward}
 use Rattle.memory.specs.declared.Pointer.{Pointer}
 use Rattle.execute_operands.specs.Changes.{placesOf, changed}
 use Rattle.execute_operands.specs.Marks.{pastInstruction}
 use Rattle.execute_operands.specs.Operands.{bytesAt, sizeOf, operandAt, workOf}
-use Rattle.memory.specs.Values.{onward}
 use Rattle.step.specs.Step.{Step, doneStep, settledStep, instructionStep, channelStep, chosenStep, entryNumber, stepOf}
 use Rattle.step.specs.declared.Kind.the-variants.{Instruction as AnInstruction}
 use Rattle.words.specs.Bytes.{wordOf}

@@ -36,14 +36,13 @@ use Rattle.machine.specs.declared.Channel.{Channel}
 use Rattle.machine.specs.declared.State.{State}
 use Rattle.memory.proofs.StoreLaws.{pointer-back}
 use Rattle.memory.specs.Buffers.{Buffers}
-use Rattle.memory.specs.Values.{pointer, pointerAt}
+use Rattle.memory.specs.Values.{pointer, pointerAt, onward}
 use Rattle.memory.specs.declared.Pointer.{Pointer}
 use Rattle.execute_operands.specs.Changes.{changed, pointerTo}
 use Rattle.execute_operands.proofs.ChangeLaws.{pointer-changed}
 use Rattle.execute_operands.specs.Marks.{pastInstruction}
 use Rattle.execute_operands.specs.Operands.{byteHere, grown}
 use Rattle.machine.specs.Updates.{renewed}
-use Rattle.memory.specs.Values.{onward}
 use Rattle.step.proofs.SoundLaws.{entry-sound}
 use Rattle.step.specs.Step.{Step, doneStep, settledStep, instructionStep, channelStep, chosenStep, entryNumber, stepOf}
 use Rattle.step.specs.declared.Kind.{Kind}

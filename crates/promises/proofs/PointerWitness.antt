@@ -27,12 +27,11 @@ use Rattle.machine.specs.declared.Mode.the-variants.{Running}
 use Rattle.memory.proofs.SpanLaws.{span-at}
 use Rattle.memory.specs.Buffers.{buffers, spaceOf, limitOf, indexOf, lentAt, touchableAt, beyondIn, byteAt, storeByte, withinLimits}
 use Rattle.memory.specs.Places.{span, allPass}
-use Rattle.memory.specs.Values.{pointer, pointerAt}
+use Rattle.memory.specs.Values.{pointer, pointerAt, onward}
 use Rattle.execute_operands.specs.Changes.{placesOf, changed, storedValue}
 use Rattle.execute_operands.specs.Marks.{usedUp, pastInstruction}
 use Rattle.execute_operands.specs.Operands.{indexed, effective, grown, displacementAt, landing, jumpedIf}
 use Rattle.machine.specs.Updates.{renewed}
-use Rattle.memory.specs.Values.{onward}
 use Rattle.step.specs.Choosing.{requested, external, endsNow, transferRank, rankOf, secondWins, ranked, choiceOf}
 use Rattle.step.specs.Step.{settledStep, instructionStep, channelStep, chosenStep, entryNumber, stepOf}
 use Rattle.words.specs.Bits.{fieldOf, bitOf}

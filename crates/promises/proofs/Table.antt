@@ -17,11 +17,10 @@ use Rattle.machine.specs.States.{channelNumber}
 use Rattle.machine.specs.declared.Channel.{Channel}
 use Rattle.machine.specs.declared.State.{State}
 use Rattle.memory.specs.Buffers.{Buffers}
-use Rattle.memory.specs.Values.{pointer}
+use Rattle.memory.specs.Values.{pointer, onward}
 use Rattle.execute_operands.specs.Marks.{pastInstruction}
 use Rattle.execute_operands.specs.Operands.{workOf, isMove}
 use Rattle.machine.specs.Updates.{renewed}
-use Rattle.memory.specs.Values.{onward}
 use Rattle.words.specs.Bits.{fieldOf}
 use Rattle.words.specs.Compare.{matchOf}
 use Rattle.words.specs.Signs.{extended}

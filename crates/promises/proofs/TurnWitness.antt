@@ -9,7 +9,7 @@ use Rattle.attention.specs.Blocks.{ccwOf, parameterBlock, orderOf}
 use Rattle.attention.specs.Commands.{commandCoded, isKnown, modeNumber, commandNumber, copied, obeyed, ordered}
 use Rattle.attention.specs.Effects.{started as startedBy, commanded, channelOrdered, writesOf, marked, writesMade}
 use Rattle.machine.specs.Cc.{split, sameFlag, sameFields}
-use Rattle.machine.specs.Updates.{withControl}
+use Rattle.machine.specs.Updates.{withControl, renewed}
 use Rattle.attention.specs.Touched.{readBy, storedBy, others, orderStages}
 use Rattle.decode.specs.Lengths.{lengthOf, dataLength, displacementLength}
 use Rattle.decode_shapes.specs.Pairs.{pairOf}
@@ -26,11 +26,9 @@ use Rattle.machine.specs.declared.Mode.the-variants.{Running}
 use Rattle.machine.specs.declared.State.{State}
 use Rattle.memory.specs.Buffers.{Buffers, buffers, spaceOf, limitOf, indexOf, lentAt, touchableAt, beyondIn, byteAt, storeByte, withinLimits}
 use Rattle.memory.specs.Places.{span, allPass}
-use Rattle.memory.specs.Values.{wordAt, doublewordAt, pointer}
+use Rattle.memory.specs.Values.{wordAt, doublewordAt, pointer, onward}
 use Rattle.execute_operands.specs.Changes.{placesOf, changed}
 use Rattle.execute_operands.specs.Marks.{usedUp, pastInstruction}
-use Rattle.machine.specs.Updates.{renewed}
-use Rattle.memory.specs.Values.{onward}
 use Rattle.step.specs.Choosing.{requested, external, endsNow, transferRank, rankOf, secondWins, ranked, choiceOf}
 use Rattle.step.specs.Ranks.{RankThree}
 use Rattle.step.specs.Step.{settledStep, instructionStep, channelStep, chosenStep, entryNumber, stepOf}

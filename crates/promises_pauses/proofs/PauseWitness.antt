@@ -13,16 +13,14 @@ use Rattle.words.specs.{Bits.fieldOf, Bits.bitOf, Bits.withBit, Sums.sum20}
 use Rattle.memory.specs.Buffers.{Buffers, spaceOf, limitOf, indexOf, lentAt, byteAt, touchableAt, storeByte}
 use Rattle.memory.specs.{declared.Pointer.Pointer, Places.Place, Places.span, Places.allPass, Places.allTouchable, Places.ApartFrom, Values.pointer}
 use Rattle.memory.proofs.StoreLaws.{store-length, store-lent, read-other, same-lent}
-use Rattle.machine.specs.{declared.Channel.Channel, declared.State.State, Cc.split, Conditions.TooLong, Stages.stagesNumber}
+use Rattle.machine.specs.{declared.Channel.Channel, declared.State.State, Cc.split, Conditions.TooLong, Stages.stagesNumber, States.blockOf, States.busyIn, Updates.withControl, Updates.withTransfer, Updates.stoppedPsw}
 use Rattle.machine.specs.Outcomes.{Outcome, unless, first, givenNumber}
 use Rattle.machine.specs.Psw.{programRunning, withPsw}
 use Rattle.machine.specs.States.{freshState, channelOf, channelNumber, withChannel, isRunning, isSuspended, isChannel, isSecond, sound, soundChannel}
-use Rattle.machine.specs.{States.blockOf, States.busyIn, Updates.withControl, Updates.withTransfer, Updates.stoppedPsw}
 use Rattle.machine.proofs.ChannelLaws.{put-same, put-cp, put-sound, named, last-channel, sound-channel-of, controlled-sound}
 use Rattle.machine.proofs.{ConditionLaws.first-none-right, ConditionLaws.told-limits, OutcomeLaws.settled-number}
-use Rattle.attention.specs.{declared.Command.Command, declared.Command.the-variants.StartSystem}
+use Rattle.attention.specs.{declared.Command.Command, declared.Command.the-variants.StartSystem, Blocks.ccwOf, Blocks.orderOf, Effects.suspended, Touched.others, Touched.orderStages}
 use Rattle.attention.specs.Attention.{orderTo, orderNumber, orderedChannel, givenTo, attentionNumber, attentionOf}
-use Rattle.attention.specs.{Blocks.ccwOf, Blocks.orderOf, Effects.suspended, Touched.others, Touched.orderStages}
 use Rattle.attention.specs.Commands.{commandCoded, isKnown, modeNumber, commandNumber}
 use Rattle.attention.proofs.{Outcomes.accepted-order, Outcomes.registers-kept, Outcomes.shared-kept, SoundLaws.attention-agree, Stores.lengths-kept}
 use Rattle.step.specs.{declared.Kind.the-variants.Instruction, Step.Step, Step.doneStep, Step.entryNumber, Step.stepOf}
@@ -30,16 +28,12 @@ use Rattle.step.proofs.SoundLaws.{entry-sound, entry-agree, entry-again, limits
 use Rattle.transfer.specs.Sides.{source, destination, wordSide}
 use Rattle.block_rules.specs.{Premises.from, Premises.into, Rows.Left, Stages.onBy, Stages.midway}
 use Rattle.block_rules.specs.Totals.{narrow, alone, total, movedAfter}
-use Rattle.promises.specs.{Cases.Stand, Joined.RunsAlone, Met.zeros, Met.copying, SheetAttention.pbAt, SheetAttention.Attends, Witness.channelWith}
-use Rattle.promises.specs.{SheetAttention.outcomeTo, SheetAttention.channelAfter, Image.put, Image.layoutOf, Image.copyOf, Image.imageIn}
+use Rattle.promises.specs.{Cases.Stand, Joined.RunsAlone, Met.zeros, Met.copying, SheetAttention.pbAt, SheetAttention.Attends, Witness.channelWith, SheetAttention.outcomeTo, SheetAttention.channelAfter, Image.put, Image.layoutOf, Image.copyOf, Image.imageIn}
 use Rattle.promises.specs.Program.{Job, programPlace, busyAt, haltAt, Ready}
-use Rattle.promises.proofs.{AloneLaws.program-turn, AloneLaws.alone-next, AloneLaws.instruction-done, CallLaws.attention-kept}
+use Rattle.promises.proofs.{AloneLaws.program-turn, AloneLaws.alone-next, AloneLaws.instruction-done, CallLaws.attention-kept, CopyWitness.zeros-within, ProgramLaws.source-is, ProgramLaws.destination-is, ProgramLaws.total-is, ProgramSteps.View, ProgramSteps.hlt-stops, SheetAttention.attention-sheet, StandLaws.stand-on, StandLaws.stand-kept}
 use Rattle.promises.proofs.ImageLaws.{put-length, put-other, differ, whole-lent, whole-put, whole-stand, zeros-whole, ready-met}
-use Rattle.promises.proofs.{CopyWitness.zeros-within, ProgramLaws.source-is, ProgramLaws.destination-is, ProgramLaws.total-is, ProgramSteps.View}
-use Rattle.promises.proofs.{ProgramSteps.hlt-stops, SheetAttention.attention-sheet, StandLaws.stand-on, StandLaws.stand-kept}
 use Rattle.promises.proofs.Showpiece.{starts, start, come, copy, comes, source-at, destination-at}
-use Rattle.promises_pauses.specs.Pausing.{Quietly, PauseApart, Spared, PausedCalls, EndsPaused, PausedMet, pausesOf}
-use Rattle.promises_pauses.specs.Pausing.{begin, transfer, step, attention, host, suspend, resume}
+use Rattle.promises_pauses.specs.Pausing.{Quietly, PauseApart, Spared, PausedCalls, EndsPaused, PausedMet, pausesOf, begin, transfer, step, attention, host, suspend, resume}
 use Rattle.promises_pauses.proofs.PausedRows.{ordered-channel, suspend-only, demand13, lone-turn, places-stay, off-registers}
 
 -- all of system memory is lent

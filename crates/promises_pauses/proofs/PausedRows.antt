@@ -12,26 +12,21 @@ use Rattle.memory.proofs.SpanLaws.{apart-right}
 use Rattle.words.{specs.Choice.pick, specs.Bits.bitOf, specs.Bits.withBit, proofs.BitLaws.bit-other, proofs.BitLaws.with-bit-back, proofs.ChoiceLaws.apart}
 use Rattle.memory.specs.{declared.Pointer.Pointer, Buffers.Buffers, Buffers.limitOf, Places.Place, Places.ApartFrom}
 use Rattle.memory.proofs.StoreLaws.{same-lent}
-use Rattle.machine.specs.{declared.Channel.Channel, declared.Fields.Fields, declared.Mode.the-variants.Suspended, declared.State.State, Outcomes.Outcome}
-use Rattle.machine.specs.{Psw.transferring, Psw.programRunning, Psw.withPsw, Updates.withControl, Updates.withTransfer, Updates.stoppedPsw}
+use Rattle.machine.specs.{declared.Channel.Channel, declared.Fields.Fields, declared.Mode.the-variants.Suspended, declared.State.State, Outcomes.Outcome, Psw.transferring, Psw.programRunning, Psw.withPsw, Updates.withControl, Updates.withTransfer, Updates.stoppedPsw}
 use Rattle.machine.specs.States.{channelOf, channelNumber, blockOf, busyIn, isRunning}
 use Rattle.machine.proofs.ChannelLaws.{put-same, named}
-use Rattle.attention.specs.{declared.Command.Command, declared.Command.the-variants.Suspend, declared.Command.the-variants.Resume}
-use Rattle.attention.specs.{Attention.orderTo, Attention.orderedChannel, Blocks.orderOf, Blocks.parameterBlock, Touched.storedBy}
-use Rattle.attention.specs.{Commands.copied, Commands.obeyed, Commands.ordered, Effects.onlyPsw, Effects.suspended, Effects.commanded, Effects.channelOrdered}
+use Rattle.attention.specs.{declared.Command.Command, declared.Command.the-variants.Suspend, declared.Command.the-variants.Resume, Attention.orderTo, Attention.orderedChannel, Blocks.orderOf, Blocks.parameterBlock, Touched.storedBy, Commands.copied, Commands.obeyed, Commands.ordered, Effects.onlyPsw, Effects.suspended, Effects.commanded, Effects.channelOrdered}
 use Rattle.attention.proofs.Outcomes.{accepted-order, refused-nothing, shared-kept}
 use Rattle.attention.proofs.{Pauses.suspend-resume, Stores.bytes-kept, Stores.lengths-kept}
 use Rattle.step.{specs.Choosing.external, specs.Step.stepOf, proofs.ChoosingLaws.chosen-running, proofs.OutcomeLaws.cp-kept}
-use Rattle.block_rules.specs.{Premises.from, Premises.into, Premises.Lent, Premises.Copy, Totals.movedAfter, Totals.total}
-use Rattle.block_rules.specs.{Rows.Left, Rows.Untouched, Rows.Row, Rows.start, Rows.steps, Rows.other, Stages.midway, Stages.Held, Stages.Ended}
+use Rattle.block_rules.specs.{Premises.from, Premises.into, Premises.Lent, Premises.Copy, Totals.movedAfter, Totals.total, Rows.Left, Rows.Untouched, Rows.Row, Rows.start, Rows.steps, Rows.other, Stages.midway, Stages.Held, Stages.Ended}
 use Rattle.sweep_rules.specs.{Plainly.plainly, Ranges.placeOf, Sweep.sweepOf}
 use Rattle.block_rules.proofs.{CopyLaws.reached, Demand3.going, Demand3.ended, StageLaws.mid-count}
 use Rattle.promises.specs.{Calls.Turn, Calls.Calls, Calls.EndsAtCall, Joined.RunsAlone, SheetAttention.outcomeTo, SheetAttention.channelAfter}
 use Rattle.promises.proofs.CallLaws.{turn-is, transfer-channel, transfer-memory, step-kept, attention-kept}
 use Rattle.promises.proofs.{AloneLaws.transfer-turn, AloneLaws.alone-next, Joined.busy-same, MachineLaws.row-kept, MachineLaws.moves}
 use Rattle.promises_blocks.proofs.{PlainLaws.plainly-stops, PlainLaws.plainly-goes, Sweeps.rest-accepted, Sweeps.sweeps}
-use Rattle.promises_pauses.specs.Pausing.{Quietly, blockBytes, busyByte, Clear, BlockKept, PauseStores, PauseApart, Spared, PausedCalls, EndsPaused}
-use Rattle.promises_pauses.specs.Pausing.{SameEnd, SweptRest, begin, transfer, step, attention, host, suspend, resume}
+use Rattle.promises_pauses.specs.Pausing.{Quietly, blockBytes, busyByte, Clear, BlockKept, PauseStores, PauseApart, Spared, PausedCalls, EndsPaused, SameEnd, SweptRest, begin, transfer, step, attention, host, suspend, resume}
 
 -- ---- a pause by itself
 

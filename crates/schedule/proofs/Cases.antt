@@ -9,8 +9,7 @@ use Rattle.memory.specs.Buffers.{buffers, spaceOf, limitOf, indexOf, lentAt, to
 use Rattle.memory.specs.{Places.allPass, Values.pointer, Values.onward}
 use Rattle.machine.specs.States.{boardWith, channelOf, withChannel, withLast, soundChannel, sound, isRunning, channelNumber, fieldsAgree, agree}
 use Rattle.machine.specs.{Cc.split, Cc.sameFlag, Cc.sameFields, Outcomes.unless, Outcomes.first, Outcomes.givenNumber, Psw.withPsw, Stages.stagesNumber, Updates.withTransfer, declared.Channel.Channel, declared.Held.the-variants.NoByte, declared.Mode.the-variants.Running, declared.State.State}
-use Rattle.transfer.specs.{Ends.meetsTmc, Ends.codeIf, Ends.larger, Ends.offsetOf, Ends.endedTP, Ends.endedPSW, Ends.endedBy}
-use Rattle.transfer.specs.{Halves.wordWith, Halves.secondStored, Parts.fetchesApart, Parts.storesApart, Parts.fetchPart, Parts.storePart, Parts.partOf}
+use Rattle.transfer.specs.{Ends.meetsTmc, Ends.codeIf, Ends.larger, Ends.offsetOf, Ends.endedTP, Ends.endedPSW, Ends.endedBy, Halves.wordWith, Halves.secondStored, Parts.fetchesApart, Parts.storesApart, Parts.fetchPart, Parts.storePart, Parts.partOf}
 use Rattle.transfer.specs.Reads.{fetched, fetchedSecond, entryOf, delivered, dataOf, also, readPlaces}
 use Rattle.transfer.specs.Sides.{source, destination, wordSide, secondAddress, gained, twoMove, storedSingly}
 use Rattle.transfer.specs.Steps.{badMode, transferOf, stepBy, numberBy, stagesBy, channelBy, memoryBy, touchedBy}

@@ -7,8 +7,7 @@ use Rattle.memory.specs.{Buffers.Buffers, Places.Place}
 use Rattle.machine.specs.{Psw.transferring, States.channelOf, States.channelNumber, States.isRunning, declared.Channel.Channel}
 use Rattle.attention.specs.Attention.{attentionOf}
 use Rattle.transfer.specs.Halves.{firstPlace, secondPlace}
-use Rattle.transfer.specs.{Parts.Part, Parts.Whole, Parts.FirstFetch, Parts.SecondFetch, Parts.FirstStore, Parts.SecondStore, Parts.partOf, Reads.dataOf}
-use Rattle.transfer.specs.{Sides.destination, Stores.placesOn, Stores.storedPlaces}
+use Rattle.transfer.specs.{Parts.Part, Parts.Whole, Parts.FirstFetch, Parts.SecondFetch, Parts.FirstStore, Parts.SecondStore, Parts.partOf, Reads.dataOf, Sides.destination, Stores.placesOn, Stores.storedPlaces}
 use Rattle.step.specs.{Choosing.requested, Step.Step, Step.stepOf, declared.Kind.Kind}
 use Rattle.step.specs.declared.Kind.the-variants.{Nothing, Instruction, Transfer, External}
 use Rattle.schedule.specs.{Rows.Bench, Rows.isAttention, Rows.isStep, Rows.rowNumber, Rows.rowLeft, declared.ScheduleRow.ScheduleRow}

@@ -12,9 +12,8 @@ use prog.Wp.{Heap}
 use ghost.Atoms.{Atoms, sem}
 use types.Kit.{Given, ‵, _⊛_, some, later, _$_, _∵_, !, qed, move, use1, use3, drop, split, pick, fsplit, fjoin, frame, await, updating, now as at-once, show, done}
 use types.SemTy.{cells, Arr}
-use denote.{RattleType.RattleType, Shadow.pureL, Shadow.pureI, Memory.mem, Ref.RefT}
+use denote.{RattleType.RattleType, Shadow.pureL, Shadow.pureI, Memory.mem, Ref.RefT, Lend.Held, Lend.lends-slice, Lend.slice-back, Index.row, Index.whole-out, Index.whole-in, Index.opens-slice, Index.closes-slice}
 use denote.Slice.{sliceVal, MutSlice, heres, Room, finally, at-slice, codedHoleys}
-use denote.{Lend.Held, Lend.lends-slice, Lend.slice-back, Index.row, Index.whole-out, Index.whole-in, Index.opens-slice, Index.closes-slice}
 
 module _ (R : RattleType) (κ κ′ : Lft) (q : Share) (γ : GName) (b o : ℕ) where
   abbrev at-list : GName → List (R .Denot) → RefT (List (R .Denot))

@@ -6,6 +6,7 @@ pub mod HeldLaws
 pub mod BackLaws
 pub mod CallLaws
 pub mod ForthLaws
+pub mod BlockLaws
 pub mod TurnLaws
 pub mod NumberLaws
 pub mod SweepLaws

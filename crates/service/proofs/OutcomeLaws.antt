@@ -42,7 +42,7 @@ use Rattle.service.proofs.BackLaws.{bytes-are}
 use Rattle.service.proofs.ForthLaws.{bytes-back}
 use Rattle.service.proofs.HeldLaws.{HeldFit, done-held, found-held, attention-held, step-held}
 use Rattle.service.proofs.NumberLaws.{number-part, sweep-number-part, sweep-steps-part, sweep-count-part}
-use Rattle.service.proofs.TurnLaws.{state-held, state-count}
+use Rattle.service.proofs.BlockLaws.{state-held, state-count}
 use Rattle.service.proofs.iop89_fresh.Kinds as fresh-kinds
 use Rattle.service.proofs.iop89_fresh.Reads as fresh-reads
 use Rattle.service.proofs.iop89_reset.Kinds as reset-kinds

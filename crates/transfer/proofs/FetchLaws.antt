@@ -11,7 +11,8 @@ use Rattle.words.specs.Choice.{pick}
 use Rattle.words.specs.Sums.{sum20}
 use Rattle.transfer.specs.Fetches.{beyond, here, fetchOf}
 use Rattle.transfer.specs.Reads.{fetched, fetchedSecond, entryOf, delivered, dataOf, readPlaces}
-use Rattle.transfer.specs.Sides.{source, secondAddress, setupOf}
+use Rattle.transfer.specs.Sides.{source, secondAddress}
+use Rattle.transfer.specs.Setups.{setupOf}
 use Rattle.transfer.specs.Steps.{badMode}
 use Rattle.transfer.specs.declared.Setup.{Setup}
 use Rattle.transfer.proofs.TouchLaws.{reads-touchable}

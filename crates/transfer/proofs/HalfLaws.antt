@@ -13,14 +13,14 @@ use Rattle.memory.specs.Places.{allPass, allTouchable}
 use Rattle.words.proofs.ChoiceLaws.{apart, and-true}
 use Rattle.words.specs.Choice.{pick}
 use Rattle.transfer.specs.Halves.{wordWith, secondCode, secondStored}
-use Rattle.transfer.specs.Moves.{movedBeyond, movedHolding, movedOn, landed, leftByMove}
-use Rattle.transfer.specs.Parts.{Part, Whole, FirstFetch, SecondFetch, FirstStore, SecondStore, fetchesApart, storesApart}
+use Rattle.transfer.specs.Moves.{movedBeyond, movedHolding, movedOn, landed, leftByMove, wholeStep, halfStep, landedBy}
+use Rattle.transfer.specs.Parts.{Part, Whole, FirstFetch, SecondFetch, FirstStore, SecondStore, fetchesApart, storesApart, isHalf}
 use Rattle.transfer.specs.Reads.{fetched, fetchedSecond, dataOf, readPlaces}
 use Rattle.transfer.specs.Sides.{source, destination, secondAddress, twoMove}
-use Rattle.transfer.specs.Steps.{transferred, touchedBy, channelBy, memoryBy, badMode, stepBy, countBy}
-use Rattle.transfer.specs.Stores.{firstMeets, storesTwo, bytesStored, bytesMoved, bytesCounted, countAfter, endCode, landedBy, movedChannel, putOn, movedMemory, placesOn}
+use Rattle.transfer.specs.Steps.{transferred, touchedBy, channelBy, memoryBy, badMode, stepBy, countBy, transferOf}
+use Rattle.transfer.specs.Stores.{firstMeets, storesTwo, bytesStored, bytesMoved, bytesCounted, countAfter, endCode, movedChannel, putOn, movedMemory, placesOn}
 use Rattle.transfer.specs.declared.Data.{Data}
-use Rattle.transfer.proofs.PartLaws.{fetches-two, word-stored, stores-two, singly-stored}
+use Rattle.transfer.proofs.PartLaws.{fetches-two, word-stored, stores-two, singly-stored, not-half}
 use Rattle.transfer.proofs.StepLaws.{outcome-2, outcome-0, counts-2, counts-0, two-plain}
 use Rattle.transfer.proofs.TouchLaws.{reads-touchable, places-touchable}
 
@@ -135,3 +135,13 @@ module _ (c : Channel) (m : Buffers) (byte : ℕ) where
   pub second-store-goes : storesApart c ≡ true → channelBy (SecondStore byte) c m ≡ landedBy c 2 (secondCode c byte)
   unfolding channelBy secondStored landedBy
   second-store-goes h = rw (stores-two c h)
+
+-- the half that is due is the step
+pub half-is : (c : Channel) (m : Buffers) → isHalf c ≡ true → halfStep c m ≡ transferOf c m
+unfolding halfStep
+half-is c m h = rw h
+
+-- a step that is no half is the whole move
+pub whole-is : (c : Channel) (m : Buffers) → isHalf c ≡ false → wholeStep c m ≡ transferOf c m
+unfolding wholeStep transferOf
+whole-is c m h = rw (not-half c h)

@@ -6,13 +6,11 @@ use lib.Dec.{eqb}
 use mathlib.Core.Bool.{Bool, true, false, not, _&&_, _||_}
 use mathlib.Core.Path.{_≡_, refl, sym, ap, _∙_}
 use Rattle.machine.specs.declared.Channel.{Channel}
-use Rattle.memory.specs.Buffers.{Buffers}
 use Rattle.machine.specs.declared.Held.{Held}
 use Rattle.machine.specs.declared.Held.the-variants.{NoByte, Byte}
 use Rattle.words.proofs.ChoiceLaws.{apart, both-left, both-right, or-false}
 use Rattle.words.specs.Choice.{pick}
 use Rattle.transfer.specs.Parts.{Part, Whole, FirstFetch, SecondFetch, FirstStore, SecondStore, fetchesApart, storesApart, isHalf, fetchPart, storePart, partOf}
-use Rattle.transfer.specs.Steps.{transferOf, wholeStep, halfStep}
 use Rattle.transfer.specs.Stores.{firstMeets, cutShort, storesTwo}
 use Rattle.transfer.specs.declared.Data.{Data}
 use Rattle.transfer.specs.Sides.{source, destination, wordSide, countOn, twoMove, storedSingly}
@@ -157,11 +155,6 @@ pub store-due : (c : Channel) (held : Held) → fetchesApart c ≡ false → sto
 unfolding partOf
 store-due c held f h e = rw (f, h, e)
 
--- the half that is due is the step
-pub half-is : (c : Channel) (m : Buffers) → isHalf c ≡ true → halfStep c m ≡ transferOf c m
-unfolding halfStep
-half-is c m h = rw h
-
 -- a step that is no half is whole
 pub not-half : (c : Channel) → isHalf c ≡ false → partOf c ≡ Whole
 unfolding isHalf partOf
@@ -171,7 +164,3 @@ not-half c = go (fetchesApart c) (storesApart c)
     go true b h = apart h
     go false true h = apart h
     go false false h = refl
-
-pub whole-is : (c : Channel) (m : Buffers) → isHalf c ≡ false → wholeStep c m ≡ transferOf c m
-unfolding wholeStep transferOf
-whole-is c m h = rw (not-half c h)

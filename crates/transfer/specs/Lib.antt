@@ -1,4 +1,5 @@
 pub mod Sides
+pub mod Setups
 pub mod Parts
 pub mod Reads
 pub mod Fetches

@@ -1,14 +1,18 @@
--- What a half of a pair comes to before its channel is written, and the channel that is then written.
+-- What the parts of the code promise one another: what a half of a pair comes to before its channel is written, the channel that is then written, whole steps and halves by themselves.
 use Prim.Native.Nat.{ℕ}
 use lib.Dec.{eqb}
 use Rattle.words.specs.Choice.{pick}
+use Rattle.words.specs.Sums.{countDown}
 use Rattle.memory.specs.Buffers.{Buffers}
 use Rattle.machine.specs.declared.Channel.{Channel}
 use Rattle.machine.specs.declared.Held.the-variants.{Byte}
 use Rattle.machine.specs.Updates.{holding}
 use Rattle.transfer.specs.declared.Moved.{Moved}
-use Rattle.transfer.specs.Stores.{landedBy}
-use Rattle.transfer.specs.Steps.{Transfer, transferred}
+use Rattle.transfer.specs.Stores.{movedBy}
+use Rattle.transfer.specs.Steps.{Transfer, transferred, stepBy, countBy, transferOf, transferCount}
+use Rattle.transfer.specs.Ends.{endedBy}
+use Rattle.transfer.specs.Reads.{bytesFetched}
+use Rattle.transfer.specs.Parts.{Whole, isHalf}
 
 -- a byte may not be touched
 abbrev pub movedBeyond : Moved
@@ -22,6 +26,10 @@ movedHolding count byte = record { number = 0; count = count; by = 0; code = 0; 
 abbrev pub movedOn : ℕ → ℕ → ℕ → Moved
 movedOn count by code = record { number = 0; count = count; by = by; code = code; byte = 0 }
 
+-- the channel with its sides on by some bytes, BC fallen by the bytes fetched, ended by a code
+unfoldable pub landedBy : Channel → ℕ → ℕ → Channel
+landedBy c by code = endedBy (movedBy c by (countDown (c .bc) (bytesFetched c))) code
+
 -- the channel that is written: it holds the byte, or its sides go on with BC and the end
 unfoldable pub landed : Channel → Moved → Channel
 landed c r = pick (eqb (r .by) 0) (holding c (Byte (r .byte))) (landedBy c (r .by) (r .code))
@@ -29,3 +37,17 @@ landed c r = pick (eqb (r .by) 0) (holding c (Byte (r .byte))) (landedBy c (r .b
 -- what is left by it: a refused step leaves the channel as it was
 unfoldable pub leftByMove : Channel → Moved → Buffers → Transfer
 leftByMove c r m = transferred (r .number) (pick (eqb (r .number) 0) (landed c r) c) m
+
+-- the whole move in one step, whether that is what is due or not
+unfoldable pub wholeStep : Channel → Buffers → Transfer
+wholeStep c m = stepBy Whole c m
+
+unfoldable pub wholeCount : Channel → Buffers → ℕ
+wholeCount c m = countBy Whole c m
+
+-- the half that is due; where none is, nothing
+unfoldable pub halfStep : Channel → Buffers → Transfer
+halfStep c m = pick (isHalf c) (transferOf c m) (transferred 0 c m)
+
+unfoldable pub halfCount : Channel → Buffers → ℕ
+halfCount c m = pick (isHalf c) (transferCount c m) 0

@@ -11,7 +11,6 @@ use Rattle.machine.specs.declared.Channel.{Channel}
 use Rattle.machine.specs.declared.Fields.{Fields}
 use Rattle.machine.specs.Psw.{destinationWide, sourceWide}
 use Rattle.transfer.specs.declared.Side.{Side}
-use Rattle.transfer.specs.declared.Setup.{Setup}
 
 -- a side: its pointer, whether it moves on, whether it is 16 bits wide
 abbrev pub side : Pointer → Bool → Bool → Side
@@ -52,13 +51,3 @@ twoMove c = (wordSide (source c) || wordSide (destination c)) && not (countOn (c
 -- two bytes go to a side that is no word side, so each is stored singly (§7.5)
 unfoldable pub storedSingly : Channel → Bool
 storedSingly c = twoMove c && not (wordSide (destination c))
-
--- what a channel says of its transfer before a byte is read
-unfoldable pub setupOf : Channel → Setup
-setupOf c =
-    record {
-      source = source c;
-      destination = destination c;
-      two = twoMove c;
-      singly = storedSingly c;
-    }

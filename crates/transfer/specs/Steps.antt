@@ -13,7 +13,7 @@ use Rattle.machine.specs.Stages.{Stage, stage, stagesNumber}
 use Rattle.machine.specs.Updates.{holding}
 use Rattle.machine.specs.declared.Held.the-variants.{Byte}
 use Rattle.transfer.specs.Sides.{source, destination, secondAddress}
-use Rattle.transfer.specs.Parts.{Part, Whole, FirstFetch, SecondFetch, FirstStore, SecondStore, isHalf, partOf}
+use Rattle.transfer.specs.Parts.{Part, Whole, FirstFetch, SecondFetch, FirstStore, SecondStore, partOf}
 use Rattle.transfer.specs.Reads.{fetched, fetchedSecond, dataOf, readPlaces}
 use Rattle.transfer.specs.Stores.{firstMeets, movedChannel, movedMemory, placesOn, storedPlaces}
 use Rattle.transfer.specs.Halves.{firstPlace, secondPlace, wordWith, secondStored}
@@ -102,20 +102,6 @@ transferOf c m = stepBy (partOf c) c m
 
 unfoldable pub transferCount : Channel → Buffers → ℕ
 transferCount c m = counted (transferOf c m .number) (touchedByTransfer c m)
-
--- the whole move in one step, whether that is what is due or not
-unfoldable pub wholeStep : Channel → Buffers → Transfer
-wholeStep c m = stepBy Whole c m
-
-unfoldable pub wholeCount : Channel → Buffers → ℕ
-wholeCount c m = countBy Whole c m
-
--- the half that is due; where none is, nothing
-unfoldable pub halfStep : Channel → Buffers → Transfer
-halfStep c m = pick (isHalf c) (transferOf c m) (transferred 0 c m)
-
-unfoldable pub halfCount : Channel → Buffers → ℕ
-halfCount c m = pick (isHalf c) (transferCount c m) 0
 
 -- when 5 is given: a bad mode
 abbrev pub TransferGiven5 : Channel → Type 0

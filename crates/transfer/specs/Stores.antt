@@ -66,10 +66,6 @@ movedBy c by bc =
     (pick (c .fields .sourceIsGB) (sideAfter (source c) by) (sideAfter (destination c) by))
     (c .tp) bc (c .psw))
 
--- that channel, BC fallen by the bytes fetched, ended by a code
-unfoldable pub landedBy : Channel → ℕ → ℕ → Channel
-landedBy c by code = endedBy (movedBy c by (countDown (c .bc) (bytesFetched c))) code
-
 -- the channel after the step
 unfoldable pub movedChannel : Channel → Data → Channel
 movedChannel c d = endedBy (movedBy c (bytesMoved c d) (countAfter c d)) (endCode c d)

@@ -11,7 +11,7 @@ use machine::Held;
 ghost use mathlib.Core.Bool.{true, false};
 ghost use mathlib.Core.Path.{_≡_};
 ghost use Rattle.memory.specs.Buffers.{lent};
-ghost use Rattle.transfer.specs.Sides.{setupOf};
+ghost use Rattle.transfer.specs.Setups.{setupOf};
 ghost use Rattle.transfer.specs.Parts.{fetchesApart, storesApart, isHalf, FirstFetch, SecondFetch, FirstStore, SecondStore};
 ghost use Rattle.transfer.specs.Moves as Moves;
 ghost use Rattle.transfer.specs.Moves.{leftByMove};

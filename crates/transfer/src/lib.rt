@@ -5,10 +5,11 @@ use memory::Pointer;
 ghost use mathlib.Core.Path.{_≡_};
 ghost use lib.ListN.{length};
 ghost use Rattle.memory.specs.Buffers.{Buffers, lent};
-ghost use Rattle.transfer.specs.Sides.{setupOf};
+ghost use Rattle.transfer.specs.Setups.{setupOf};
 ghost use Rattle.transfer.specs.Ends.{externallyEnded};
 ghost use Rattle.transfer.specs.Parts.{isHalf, partOf};
-ghost use Rattle.transfer.specs.Steps.{readsBy, accesses, badMode, transferred, transferOf, transferCount, wholeStep, wholeCount, halfStep, halfCount};
+ghost use Rattle.transfer.specs.Steps.{readsBy, accesses, badMode, transferred, transferOf, transferCount};
+ghost use Rattle.transfer.specs.Moves.{wholeStep, wholeCount, halfStep, halfCount};
 
 // The two sides, and what the channel says of a step.
 mod sides;

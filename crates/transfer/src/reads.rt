@@ -5,7 +5,7 @@ use machine::Channel;
 ghost use mathlib.Core.Path.{_≡_};
 ghost use mathlib.Core.Bool.{false};
 ghost use Rattle.memory.specs.Buffers.{lent};
-ghost use Rattle.transfer.specs.Sides.{setupOf};
+ghost use Rattle.transfer.specs.Setups.{setupOf};
 ghost use Rattle.transfer.specs.Steps.{badMode};
 ghost use Rattle.transfer.specs.Fetches.{seen, beyond, here, fetchOf};
 

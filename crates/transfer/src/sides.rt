@@ -6,7 +6,8 @@ use memory::Pointer;
 ghost use mathlib.Core.Path.{_≡_};
 ghost use Rattle.words.specs.Choice.{pick};
 ghost use Rattle.transfer.specs.Sides as Sides;
-ghost use Rattle.transfer.specs.Sides.{wordSide, secondAddress, setupOf};
+ghost use Rattle.transfer.specs.Sides.{wordSide, secondAddress};
+ghost use Rattle.transfer.specs.Setups.{setupOf};
 
 // One of two pointers, by its parts, as the channel has them.
 pub(crate) fn chosen(test: bool, a: Pointer, b: Pointer) -> Pointer

@@ -5,9 +5,9 @@ use denote.Ref.{now}
 use mathlib.Core.Path.{_≡_}
 use Rattle.machine.specs.States.{channelOf, isSecond, blockOf}
 use Rattle.memory.specs.Buffers.{buffers}
-use Rattle.attention.specs.Attention.{plannedOf, givenTo}
-use Rattle.attention.proofs.CountLaws.{planned-counts}
-use Rattle.attention.proofs.PlanLaws.{planned-settled}
+use Rattle.attention.specs.Attention.{givenTo}
+use Rattle.attention.specs.Plans.{plannedOf}
+use Rattle.attention.proofs.PlanLaws.{planned-counts, planned-settled}
 use Rattle.attention.proofs.attention.Statement.{statement}
 use Rattle.attention.proofs.attention.Tie as tie
 

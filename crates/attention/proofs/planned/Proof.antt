@@ -2,7 +2,7 @@
 -- Assumes nothing.
 use borrow.Author.Needs.{needs}
 use borrow.Author.Tests.{eq-eqb, ne-eqb}
-use Rattle.attention.specs.Attention.{plannedOf}
+use Rattle.attention.specs.Plans.{plannedOf}
 use Rattle.attention.proofs.planned.Statement.{statement}
 use Rattle.attention.proofs.planned.Tie as tie
 

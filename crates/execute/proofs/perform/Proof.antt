@@ -4,7 +4,7 @@ use borrow.Author.Needs.{needs}
 use Rattle.machine.specs.Outcomes.{unless, first}
 use Rattle.memory.specs.Places.{allPass}
 use Rattle.execute_deeds.specs.Control.{nopDeed, sintrDeed, xferDeed, widDeed, hltDeed}
-use Rattle.execute_deeds.specs.Deeds.{effectOf}
+use Rattle.execute_deeds.specs.Effects.{effectOf}
 use Rattle.execute_deeds.specs.JumpForms.{jumpRegisterDeed, callDeed}
 use Rattle.execute_deeds.specs.MemoryForms.{movpStoreDeed}
 use Rattle.execute_deeds.specs.RegisterForms.{registerImmediateDeed, registerDeed, lpdiDeed}

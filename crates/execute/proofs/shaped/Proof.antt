@@ -8,7 +8,7 @@ use native.Mathlib.Omega.{arith}
 use Rattle.decode.proofs.LengthLaws.{bounded}
 use Rattle.memory.specs.Buffers.{buffers}
 use Rattle.memory.specs.Values.{onward}
-use Rattle.execute_deeds.specs.Deeds.{effectOf}
+use Rattle.execute_deeds.specs.Effects.{effectOf}
 use Rattle.execute_deeds.specs.declared.Effect.{Effect}
 use Rattle.execute.specs.Execute.{laterBytes}
 use Rattle.execute.proofs.CodeLaws.{refusal-planned, deed-planned, performed-deed, later-beyond, later-touchable}

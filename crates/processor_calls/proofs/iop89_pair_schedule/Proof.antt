@@ -30,7 +30,7 @@ use denote.RattleType.{owns}
 use denote.Laws.{Is, shows}
 use denote.Memory.{pointee}
 use denote.Plain.{uint-makes, uint-tells, uint-lawful, uint-vals, nothing-lawful}
-use denote.Builtin.{u8, u32, u64, unit}
+use denote.Builtin.{u8, u32, u64, unit, SliceRefOf}
 use denote.Ref.{RefT}
 use denote.Slice.{sliceTy, ShrSlice, MutSlice, Room, slice-vals, shr-slice-tells, mut-slice-tells}
 use denote.Signature.{plain}
@@ -42,7 +42,6 @@ use denote.Triple.Entry.{onEntry}
 use denote.Triple.Spec.{Meets, tripleOf}
 use denote.Triple.Table.{entered, cited}
 use denote.Triple.Walked.{says, Stays, stay-dropped, gave-slice, walkOf, goes-dropped, goes-gave-slice, Walks, ends-at, walked, walk-meets}
-use denote.Builtin.{SliceRefOf}
 use denote.Exit.{yes}
 use Rattle.schedule.specs.declared.ScheduleRow.{ScheduleRow}
 use Rattle.schedule.proofs.ScheduleRow as R

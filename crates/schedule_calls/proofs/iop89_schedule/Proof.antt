@@ -2,8 +2,7 @@
 -- `known` is passed a copy of the rows' slice; `begin` is lent the state and the report, and `turn` all four memories, each for a lifetime made for the call, and all come back. All that the proof knows of the three is that each meets its contract.
 -- The loop's index holds the turn, the four lists and `Along`: what stands after the rows run so far.
 -- Assumes nothing.
-use mathlib.Core.{Bool.Bool, Bool.true, Logic.⊎-elim, Path._≡_, Path.refl, Path.sym, Path.ap, Path._∙_, Path.subst}
-use mathlib.Core.{WellFounded.WellFounded, WellFounded.InvImage·wf, List.List, List.[], List._∷_}
+use mathlib.Core.{Bool.Bool, Bool.true, Logic.⊎-elim, Path._≡_, Path.refl, Path.sym, Path.ap, Path._∙_, Path.subst, WellFounded.WellFounded, WellFounded.InvImage·wf, List.List, List.[], List._∷_}
 use Prim.Native.Nat.{ℕ, _+_, _-_, _≤_, _<_, _^_, zero-le}
 use native.Mathlib.{Nat.le-antisymm, Numerals.add-one-le, Numerals.add-one-dec, Omega.arith}
 use borrow.Author.Tests.{lt-ltb, le-ltb}
@@ -22,13 +21,9 @@ use types.{Part.agg, Part.whole, Part.sub, Part.look-in, Share.arr-parts}
 use types.Run.{look, look-raw, store, init, forget, stop, hop, fld, from, load, addr, lit, of-opd, bin, and-then, no-more, assigns, assigns-last, first, blocks, stays, leaves-loop, land, returns, enter, alloc1, alloc0, params1, pass1, pass0, free1, free0, exec, Below, again, loops}
 use types.Tokens.{lft-new, lft-end, res-dup, shr-bor-dup}
 use sound.{Laws.∗emp, WpLaws.fmOf, WpLaws.WpFn-mono}
-use denote.{RattleType.RattleType, RattleType.owns, Laws.Is, Laws.shows, Shadow.pureI, Memory.pointee, Memory.shares}
+use denote.{RattleType.RattleType, RattleType.owns, Laws.Is, Laws.shows, Shadow.pureI, Memory.pointee, Memory.shares, Builtin.u8, Builtin.u32, Builtin.u64, Builtin.bool, Builtin.unit, Ref.RefT, Ref.now, Index.place-is, Index.elem-out, Index.elem-back, Index.looks-slice, Index.shuts-slice, Signature.plain, Steps.only, Steps.owned, Steps.peeks, Steps.heard, Steps.nothing, Triple.Statement.Contract, Triple.Statement.Triple, Triple.Call.calls-at, Triple.Clauses.ensured, Triple.Clauses.lasts, Triple.Entry.onEntry, Triple.Spec.Meets, Triple.Spec.tripleOf}
 use denote.Plain.{uint-makes, uint-tells, uint-lawful, bool-makes, bool-tells, bool-lawful, nothing-lawful}
-use denote.{Builtin.u8, Builtin.u32, Builtin.u64, Builtin.bool, Builtin.unit, Ref.RefT, Ref.now}
 use denote.Slice.{sliceTy, sliceVal, ShrSlice, MutSlice, Room, slice-vals, shr-slice-tells, mut-slice-tells, codedHoleys, heres, at-slice}
-use denote.{Index.place-is, Index.elem-out, Index.elem-back, Index.looks-slice, Index.shuts-slice, Signature.plain}
-use denote.{Steps.only, Steps.owned, Steps.peeks, Steps.heard, Steps.nothing, Triple.Statement.Contract, Triple.Statement.Triple, Triple.Call.calls-at}
-use denote.{Triple.Clauses.ensured, Triple.Clauses.lasts, Triple.Entry.onEntry, Triple.Spec.Meets, Triple.Spec.tripleOf}
 use denote.Triple.Table.{entered, cited}
 use denote.Triple.Walked.{says, Stays, stay-slice, stay-none-slice, walkOf, goes-slice, goes-none-slice, Walks, ends-at, walked, walk-meets}
 use denote.Exit.{yes}

@@ -1,8 +1,7 @@
 -- `schedule_calls::known` meets its contract: a walk of its MIR, by hand. At each turn the slice of rows is looked into, its row copied, and the slice shut; `is_row` is asked of the copy.
 -- All that the proof knows of `is_row` is that it meets its contract. The loop's index holds the turn, what is known of the rows before it, and how that goes on to the answer.
 -- Assumes nothing.
-use mathlib.Core.{Bool.Bool, Bool.true, Bool.false, Bool._&&_, Bool._||_, Bool.and-true, Bool.and-assoc, Logic._⊎_, Logic.inl, Logic.inr, Logic.⊎-elim}
-use mathlib.Core.{Path._≡_, Path.refl, Path.sym, Path.ap, Path._∙_, WellFounded.WellFounded, WellFounded.InvImage·wf, List.List, List.[], List._∷_}
+use mathlib.Core.{Bool.Bool, Bool.true, Bool.false, Bool._&&_, Bool._||_, Bool.and-true, Bool.and-assoc, Logic._⊎_, Logic.inl, Logic.inr, Logic.⊎-elim, Path._≡_, Path.refl, Path.sym, Path.ap, Path._∙_, WellFounded.WellFounded, WellFounded.InvImage·wf, List.List, List.[], List._∷_}
 use Prim.Native.Nat.{ℕ, _+_, _-_, _≤_, _<_, zero-le}
 use native.Mathlib.{Nat.le-antisymm, Numerals.add-one, Numerals.add-one-le, Numerals.add-one-dec, Omega.arith}
 use borrow.Author.Tests.{lt-ltb, le-ltb}
@@ -20,11 +19,8 @@ use types.Kit.{Given, Item, ‵, raw, _⊛_, some, later, runs, anyQ, atRet, Sq,
 use types.{Part.whole, Part.sub, Part.look-in, Share.arr-parts}
 use types.Run.{look, look-raw, store, init, forget, stop, hop, fld, from, load, lit, true-lit, of-opd, bin, and-then, no-more, assigns, assigns-last, first, blocks, stays, leaves-loop, land, returns, enter, alloc1, alloc0, params1, pass1, pass0, free1, free0, exec, Below, again, loops}
 use sound.WpLaws.{fmOf, WpFn-mono}
-use denote.{RattleType.owns, Laws.Is, Laws.shows, Memory.pointee, Memory.shares, Plain.bool-lawful, Plain.bool-makes, Builtin.bool, Ref.RefT}
+use denote.{RattleType.owns, Laws.Is, Laws.shows, Memory.pointee, Memory.shares, Plain.bool-lawful, Plain.bool-makes, Builtin.bool, Ref.RefT, Index.place-is, Index.elem-out, Index.elem-back, Index.looks-slice, Index.shuts-slice, Signature.plain, Steps.only, Steps.owned, Steps.peeks, Steps.heard, Steps.nothing, Triple.Statement.Contract, Triple.Statement.Triple, Triple.Call.calls-at, Triple.Clauses.ensured, Triple.Clauses.lasts, Triple.Entry.onEntry, Triple.Spec.Meets, Triple.Spec.tripleOf}
 use denote.Slice.{sliceTy, sliceVal, ShrSlice, Room, slice-vals, shr-slice-tells, codedHoleys, heres, at-slice}
-use denote.{Index.place-is, Index.elem-out, Index.elem-back, Index.looks-slice, Index.shuts-slice, Signature.plain}
-use denote.{Steps.only, Steps.owned, Steps.peeks, Steps.heard, Steps.nothing, Triple.Statement.Contract, Triple.Statement.Triple, Triple.Call.calls-at}
-use denote.{Triple.Clauses.ensured, Triple.Clauses.lasts, Triple.Entry.onEntry, Triple.Spec.Meets, Triple.Spec.tripleOf}
 use denote.Triple.Table.{entered, cited}
 use denote.Triple.Walked.{says, Stays, stay-none-slice, walkOf, goes-none-slice, Walks, ends-at, walked, walk-meets}
 use denote.Exit.{yes}

@@ -10,7 +10,7 @@ use native.Mathlib.Omega.{arith}
 use Rattle.machine.specs.declared.Held.the-variants.{NoByte, Byte}
 use Rattle.words.specs.Choice.{pick}
 use Rattle.transfer.specs.Parts.{storePart}
-use Rattle.transfer.specs.Sides.{setupOf}
+use Rattle.transfer.specs.Setups.{setupOf}
 use Rattle.transfer.specs.Steps.{readsBy}
 use Rattle.transfer.proofs.CountLaws.{whole-reads, fetch-reads, store-reads}
 use Rattle.transfer.proofs.bytes_read.Statement.{statement}

@@ -5,9 +5,9 @@ use Rattle.machine.specs.Outcomes.{counted}
 use Rattle.machine.specs.declared.Channel.{Channel}
 use Rattle.memory.specs.Buffers.{Buffers, buffers}
 use Rattle.transfer.proofs.StepLaws.{outcome-5, counts-5}
-use Rattle.transfer.specs.Moves.{landed, leftByMove}
+use Rattle.transfer.specs.Moves.{landed, leftByMove, halfStep, halfCount}
 use Rattle.transfer.specs.Parts.{isHalf, partOf}
-use Rattle.transfer.specs.Steps.{Transfer, transferred, touchedByTransfer, badMode, countBy, transferOf, transferCount, halfStep, halfCount}
+use Rattle.transfer.specs.Steps.{Transfer, transferred, touchedByTransfer, badMode, countBy, transferOf, transferCount}
 use Rattle.transfer.specs.declared.Moved.{Moved}
 use Rattle.transfer.specs.declared.Transferred.{Transferred}
 use Rattle.words.specs.Choice.{pick}

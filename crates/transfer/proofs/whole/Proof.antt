@@ -12,9 +12,11 @@ use Rattle.transfer.proofs.TouchLaws.{touched-all}
 use Rattle.transfer.specs.Fetches.{fetchOf}
 use Rattle.transfer.specs.Parts.{Whole}
 use Rattle.transfer.specs.Reads.{dataOf, readPlaces}
-use Rattle.transfer.specs.Sides.{destination, setupOf}
-use Rattle.transfer.specs.Steps.{transferred, touchedBy, channelBy, memoryBy, accesses, wholeStep, wholeCount}
-use Rattle.transfer.specs.Stores.{storesTwo, endCode, landedBy, movedChannel, putOn, movedMemory, placesOn, storedPlaces}
+use Rattle.transfer.specs.Sides.{destination}
+use Rattle.transfer.specs.Setups.{setupOf}
+use Rattle.transfer.specs.Steps.{transferred, touchedBy, channelBy, memoryBy, accesses}
+use Rattle.transfer.specs.Moves.{wholeStep, wholeCount, landedBy}
+use Rattle.transfer.specs.Stores.{storesTwo, endCode, movedChannel, putOn, movedMemory, placesOn, storedPlaces}
 use Rattle.transfer.specs.declared.Data.{Data}
 use Rattle.transfer.specs.declared.Setup.{Setup}
 use Rattle.transfer.specs.declared.Side.{Side}

@@ -7,7 +7,7 @@ use Rattle.memory.proofs.SpanLaws.{span-length}
 use Rattle.machine.specs.Outcomes.{first}
 use Rattle.machine.specs.Updates.{renewed}
 use Rattle.memory.specs.Values.{onward}
-use Rattle.execute_deeds.specs.Deeds.{effectOf}
+use Rattle.execute_deeds.specs.Effects.{effectOf}
 use Rattle.execute_operands.specs.Operands.{readNumber, effective, grown, jumpedIf}
 use Rattle.execute_deeds.specs.JumpForms.{tslDeed}
 use Rattle.execute_deeds.proofs.jumps.tsl.Statement.{statement}

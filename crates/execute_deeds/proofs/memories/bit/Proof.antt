@@ -4,7 +4,7 @@ use borrow.Author.Needs.{needs}
 use Rattle.memory.proofs.SpanLaws.{span-length}
 use Rattle.machine.specs.Outcomes.{first}
 use Rattle.execute_operands.specs.Operands.{readNumber, effective, grown}
-use Rattle.execute_deeds.specs.Deeds.{effectOf}
+use Rattle.execute_deeds.specs.Effects.{effectOf}
 use Rattle.execute_deeds.specs.MemoryForms.{bitDeed}
 use Rattle.execute_deeds.proofs.memories.bit.Statement.{statement}
 use Rattle.execute_deeds.proofs.memories.bit.Tie as tie

@@ -8,7 +8,7 @@ use Rattle.decode.specs.Lengths.{offsetLength}
 use Rattle.machine.specs.Outcomes.{first}
 use Rattle.memory.proofs.SpanLaws.{span-length, all-append}
 use Rattle.memory.specs.Values.{onward}
-use Rattle.execute_deeds.specs.Deeds.{effectOf}
+use Rattle.execute_deeds.specs.Effects.{effectOf}
 use Rattle.execute_operands.proofs.OperandLaws.{size-small}
 use Rattle.execute_operands.specs.Operands.{further, effective}
 use Rattle.execute_deeds.specs.MemoryForms.{movOperandDeed}

@@ -6,7 +6,7 @@ use Rattle.machine.specs.Outcomes.{first}
 use Rattle.memory.proofs.PlaceLaws.{after}
 use Rattle.execute_operands.specs.Operands.{readNumber, effective}
 use Rattle.execute_deeds.proofs.DeedLaws.{work-written}
-use Rattle.execute_deeds.specs.Deeds.{effectOf}
+use Rattle.execute_deeds.specs.Effects.{effectOf}
 use Rattle.execute_deeds.specs.RegisterForms.{registerMemoryDeed}
 use Rattle.execute_deeds.proofs.registers.register_memory.Statement.{statement}
 use Rattle.execute_deeds.proofs.registers.register_memory.Tie as tie

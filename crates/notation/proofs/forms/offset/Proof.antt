@@ -2,7 +2,6 @@
 -- Assumes nothing.
 use borrow.Author.Tests.{eq-eqb, ne-eqb}
 use Rattle.notation.specs.Forms.{offsetText}
-use borrow.Author.Tests.{eq-eqb, ne-eqb}
 use Rattle.notation.proofs.PieceLaws.{held-zero}
 use borrow.Author.Needs.{needs}
 use Rattle.notation.proofs.forms.offset.Statement.{statement}

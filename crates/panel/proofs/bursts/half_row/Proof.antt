@@ -6,7 +6,7 @@ use denote.Ref.{now}
 use mathlib.Core.Path.{refl, sym, ap, _∙_}
 use native.Mathlib.Omega.{arith}
 use Rattle.memory.specs.Buffers.{buffers}
-use Rattle.transfer.proofs.PartLaws.{half-is}
+use Rattle.transfer.proofs.HalfLaws.{half-is}
 use Rattle.transfer.specs.Steps.{Transfer}
 use Rattle.panel.specs.Bursts.{burst, moves, transfersOn}
 use Rattle.panel.proofs.BurstLaws.{burst-stops, burst-ends}

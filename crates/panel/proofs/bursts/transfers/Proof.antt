@@ -8,7 +8,7 @@ use mathlib.Core.Path.{_≡_, refl, sym, ap, _∙_}
 use native.Mathlib.Omega.{arith}
 use Rattle.machine.specs.Psw.{transferring}
 use Rattle.memory.specs.Buffers.{buffers}
-use Rattle.transfer.proofs.PartLaws.{whole-is}
+use Rattle.transfer.proofs.HalfLaws.{whole-is}
 use Rattle.transfer.specs.Parts.{isHalf}
 use Rattle.transfer.specs.Steps.{Transfer, transferOf}
 use Rattle.words.proofs.ChoiceLaws.{apart}

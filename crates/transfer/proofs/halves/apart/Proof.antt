@@ -1,7 +1,7 @@
 -- `transfer::halves::apart` meets its contract.
 -- Assumes nothing.
 use Rattle.transfer.specs.Parts.{fetchesApart, storesApart, isHalf}
-use Rattle.transfer.specs.Sides.{setupOf}
+use Rattle.transfer.specs.Setups.{setupOf}
 use borrow.Author.Needs.{needs}
 use borrow.Author.Tests.{eq-eqb}
 use mathlib.Core.Path.{refl}

@@ -8,7 +8,8 @@ use Rattle.memory.specs.Buffers.{Buffers, buffers, touchableAt, byteAt, storeBy
 use Rattle.transfer.proofs.PartLaws.{half-fetches, half-stores, fetch-due, store-due}
 use Rattle.transfer.specs.Moves.{leftByMove}
 use Rattle.transfer.specs.Parts.{Part, FirstFetch, SecondFetch, FirstStore, SecondStore, fetchPart, storePart, partOf}
-use Rattle.transfer.specs.Sides.{source, destination, secondAddress, setupOf}
+use Rattle.transfer.specs.Sides.{source, destination, secondAddress}
+use Rattle.transfer.specs.Setups.{setupOf}
 use Rattle.transfer.specs.Steps.{touchedByTransfer, stepBy, countBy, transferOf, transferCount}
 use Rattle.transfer.specs.declared.Moved.{Moved}
 use Rattle.transfer.specs.declared.Setup.{Setup}

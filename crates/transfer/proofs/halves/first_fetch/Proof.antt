@@ -10,7 +10,8 @@ use Rattle.transfer.proofs.HalfLaws.{beyond-left, holds-left, first-fet
 use Rattle.transfer.specs.Fetches.{seen}
 use Rattle.transfer.specs.Moves.{movedBeyond, movedHolding, leftByMove}
 use Rattle.transfer.specs.Parts.{FirstFetch}
-use Rattle.transfer.specs.Sides.{source, destination, secondAddress, setupOf}
+use Rattle.transfer.specs.Sides.{source, destination, secondAddress}
+use Rattle.transfer.specs.Setups.{setupOf}
 use Rattle.transfer.specs.Steps.{touchedBy, memoryBy, badMode, stepBy, countBy}
 use Rattle.transfer.specs.declared.Moved.{Moved}
 use Rattle.transfer.specs.declared.Setup.{Setup}

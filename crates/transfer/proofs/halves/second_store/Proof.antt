@@ -8,7 +8,8 @@ use Rattle.transfer.proofs.TouchLaws.{untouched}
 use Rattle.transfer.specs.Halves.{secondCode}
 use Rattle.transfer.specs.Moves.{movedBeyond, movedOn, leftByMove}
 use Rattle.transfer.specs.Parts.{SecondStore, storesApart}
-use Rattle.transfer.specs.Sides.{source, destination, secondAddress, setupOf}
+use Rattle.transfer.specs.Sides.{source, destination, secondAddress}
+use Rattle.transfer.specs.Setups.{setupOf}
 use Rattle.transfer.specs.Steps.{touchedBy, memoryBy, badMode, stepBy, countBy}
 use Rattle.transfer.specs.declared.Moved.{Moved}
 use Rattle.transfer.specs.declared.Setup.{Setup}

@@ -2,7 +2,7 @@
 -- Assumes nothing.
 use borrow.Author.Needs.{needs}
 use Rattle.transfer.specs.Ends.{codeIf}
-use Rattle.transfer.specs.Sides.{setupOf}
+use Rattle.transfer.specs.Setups.{setupOf}
 use Rattle.transfer.specs.Stores.{firstMeets, matchMet, cutShort, storesTwo}
 use Rattle.transfer.proofs.MatchLaws.{off-stores, off-unmet}
 use Rattle.transfer.proofs.stores.compare.Statement.{statement}

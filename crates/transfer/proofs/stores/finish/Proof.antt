@@ -1,7 +1,7 @@
 -- `transfer::stores::finish` meets its contract.
 -- Assumes nothing.
 use borrow.Author.Needs.{needs}
-use Rattle.transfer.specs.Sides.{setupOf}
+use Rattle.transfer.specs.Setups.{setupOf}
 use Rattle.transfer.specs.Stores.{bytesCounted, countAfter, endCode}
 use Rattle.transfer.proofs.stores.finish.Statement.{statement}
 use Rattle.transfer.proofs.stores.finish.Tie as tie

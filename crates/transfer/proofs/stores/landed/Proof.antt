@@ -1,7 +1,7 @@
 -- `transfer::stores::landed` meets its contract.
 -- Assumes nothing.
-use Rattle.transfer.specs.Sides.{setupOf}
-use Rattle.transfer.specs.Stores.{landedBy}
+use Rattle.transfer.specs.Setups.{setupOf}
+use Rattle.transfer.specs.Moves.{landedBy}
 use borrow.Author.Needs.{needs}
 use Rattle.transfer.proofs.stores.landed.Statement.{statement}
 use Rattle.transfer.proofs.stores.landed.Tie as tie

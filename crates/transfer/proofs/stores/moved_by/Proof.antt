@@ -2,7 +2,7 @@
 -- Assumes nothing.
 use borrow.Author.Needs.{needs}
 use Rattle.machine.specs.Updates.{withTransfer}
-use Rattle.transfer.specs.Sides.{setupOf}
+use Rattle.transfer.specs.Setups.{setupOf}
 use Rattle.transfer.specs.Stores.{movedBy}
 use Rattle.transfer.proofs.stores.moved_by.Statement.{statement}
 use Rattle.transfer.proofs.stores.moved_by.Tie as tie

@@ -1,0 +1,23 @@
+-- What is worked out of an attention before anything is stored.
+use mathlib.Core.Bool.{false}
+use Prim.Native.Nat.{ℕ}
+use lib.Dec.{eqb}
+use Rattle.words.specs.Choice.{pick}
+use Rattle.memory.specs.Buffers.{Buffers}
+use Rattle.machine.specs.Outcomes.{first}
+use Rattle.machine.specs.declared.Channel.{Channel}
+use Rattle.attention.specs.declared.Upshot.{Upshot}
+use Rattle.attention.specs.declared.Order.{Order}
+use Rattle.attention.specs.Blocks.{orderOf}
+use Rattle.attention.specs.Touched.{commandCount}
+use Rattle.attention.specs.Effects.{channelOrdered, writes, writesOf}
+use Rattle.attention.specs.Attention.{orderNumber}
+
+-- what the order in a block comes to before anything is stored: refused, also for what was given, it leaves the channel as it is and stores nothing
+unfoldable pub plannedOf : Buffers → ℕ → ℕ → Channel → Upshot
+plannedOf m given block c =
+    let o = orderOf m block (c .pp) in
+    let number = first given (orderNumber m o (c .mode)) in
+    pick (eqb number 0)
+    (record { number = 0; count = commandCount (o .command); channel = channelOrdered m o c; writes = writesOf (o .command) (o .block) (o .pb) c })
+    (record { number = number; count = 0; channel = c; writes = writes false false 0 (o .block) (o .pb) c })
