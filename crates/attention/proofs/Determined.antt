@@ -5,8 +5,8 @@ use contract.Lifetimes.{Lfts}
 use denote.Ref.{now}
 use denote.Triple.Clauses.{AtExit}
 use mathlib.Core.Path.{_≡_, sym, _∙_}
-use Rattle.memory.specs.Buffers.{buffers}
-use Rattle.machine.specs.Outcomes.{outcome}
+use Rattle.ground_rules.specs.Buffers.{buffers}
+use Rattle.ground_rules.specs.Outcomes.{outcome}
 use Rattle.attention.proofs.attention.Kinds as attention-kinds
 use Rattle.attention.proofs.attention.Reads as attention-reads
 

@@ -1,10 +1,2 @@
 pub mod PlanLaws
-pub mod CountLaws
-pub mod ConditionLaws
-pub mod Outcomes
-pub mod SoundLaws
-pub mod Numbers
-pub mod Stores
-pub mod Pauses
-pub mod Cases
 pub mod Determined

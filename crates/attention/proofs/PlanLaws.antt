@@ -5,23 +5,23 @@ use lib.Dec.{eqb}
 use lib.ListN.{length}
 use mathlib.Core.Bool.{Bool, true, false}
 use mathlib.Core.Path.{_≡_, refl, ap, sym, _∙_}
-use Rattle.machine.proofs.ChannelLaws.{put-back}
-use Rattle.machine.specs.Outcomes.{outcome, settled}
-use Rattle.machine.specs.States.{channelOf, withChannel, isSecond, blockOf}
-use Rattle.machine.specs.declared.Channel.{Channel}
-use Rattle.machine.specs.declared.State.{State}
-use Rattle.machine.proofs.OutcomeLaws.{refused-counts, done-counts}
-use Rattle.memory.specs.Buffers.{Buffers}
-use Rattle.words.specs.Choice.{pick}
-use Rattle.attention.specs.Attention.{orderTo, orderedChannel, orderedMemory, givenTo, attentionNumber, attentionOf, touchedByAttention, attentionCount}
+use Rattle.ground_rules.proofs.ChannelLaws.{put-back}
+use Rattle.ground_rules.specs.Outcomes.{outcome, settled}
+use Rattle.ground_rules.specs.States.{channelOf, withChannel, isSecond, blockOf}
+use Rattle.ground_rules.specs.declared.Channel.{Channel}
+use Rattle.ground_rules.specs.declared.State.{State}
+use Rattle.ground_rules.proofs.OutcomeLaws.{refused-counts, done-counts}
+use Rattle.ground_rules.specs.Buffers.{Buffers}
+use Rattle.ground_rules.specs.Choice.{pick}
+use Rattle.attention_rules.specs.Attention.{orderTo, orderedChannel, orderedMemory, givenTo, attentionNumber, attentionOf, touchedByAttention, attentionCount}
 use Rattle.attention.specs.Plans.{plannedOf}
-use Rattle.attention.specs.Touched.{commandCount}
-use Rattle.attention.specs.Effects.{channelOrdered, writes, writesOf, writesMade}
+use Rattle.attention_rules.specs.Touched.{commandCount}
+use Rattle.attention_rules.specs.Effects.{channelOrdered, writes, writesOf, writesMade}
 use Rattle.attention.specs.declared.Upshot.{Upshot}
-use Rattle.attention.specs.declared.Order.{Order}
+use Rattle.attention_rules.specs.declared.Order.{Order}
 use borrow.Author.Tests.{eq-eqb, ne-eqb}
 use native.Mathlib.Decide.{ℕ-discrete}
-use Rattle.attention.proofs.CountLaws.{touched-length}
+use Rattle.attention_rules.proofs.CountLaws.{touched-length}
 
 -- the plan, put back into the state and written into memory, is the whole outcome
 pub planned-settled : (s : State) (m : Buffers) (channel : ℕ) (e : Upshot)

@@ -2,16 +2,16 @@
 use mathlib.Core.Bool.{false}
 use Prim.Native.Nat.{ℕ}
 use lib.Dec.{eqb}
-use Rattle.words.specs.Choice.{pick}
-use Rattle.memory.specs.Buffers.{Buffers}
-use Rattle.machine.specs.Outcomes.{first}
-use Rattle.machine.specs.declared.Channel.{Channel}
+use Rattle.ground_rules.specs.Choice.{pick}
+use Rattle.ground_rules.specs.Buffers.{Buffers}
+use Rattle.ground_rules.specs.Outcomes.{first}
+use Rattle.ground_rules.specs.declared.Channel.{Channel}
 use Rattle.attention.specs.declared.Upshot.{Upshot}
-use Rattle.attention.specs.declared.Order.{Order}
-use Rattle.attention.specs.Blocks.{orderOf}
-use Rattle.attention.specs.Touched.{commandCount}
-use Rattle.attention.specs.Effects.{channelOrdered, writes, writesOf}
-use Rattle.attention.specs.Attention.{orderNumber}
+use Rattle.attention_rules.specs.declared.Order.{Order}
+use Rattle.attention_rules.specs.Blocks.{orderOf}
+use Rattle.attention_rules.specs.Touched.{commandCount}
+use Rattle.attention_rules.specs.Effects.{channelOrdered, writes, writesOf}
+use Rattle.attention_rules.specs.Attention.{orderNumber}
 
 -- what the order in a block comes to before anything is stored: refused, also for what was given, it leaves the channel as it is and stores nothing
 unfoldable pub plannedOf : Buffers → ℕ → ℕ → Channel → Upshot

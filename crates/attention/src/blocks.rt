@@ -1,10 +1,10 @@
 // A channel's block, and the order that it holds.
-use crate::Command;
-use crate::Order;
 use crate::commands;
+use attention_rules::Command;
+use attention_rules::Order;
 ghost use mathlib.Core.Path.{_≡_};
-ghost use Rattle.memory.specs.Buffers.{lent};
-ghost use Rattle.attention.specs.Blocks.{parameterBlock, orderOf};
+ghost use Rattle.ground_rules.specs.Buffers.{lent};
+ghost use Rattle.attention_rules.specs.Blocks.{parameterBlock, orderOf};
 
 // Where PB lies: a start reads it in the block, any other command takes it at PP.
 fn parameter_block(sys: &[u8], io: &[u8], command: Command, block: u32, pp: u32) -> u32

@@ -1,13 +1,13 @@
 // CCW: its command, what that asks of the channel's mode, and what every accepted command does to PSW.
-use crate::Command;
-use machine::Mode;
+use attention_rules::Command;
+use ground_rules::Mode;
 use machine::psw;
 use machine::states;
 ghost use mathlib.Core.Path.{_≡_};
-ghost use Rattle.machine.specs.Outcomes.{unless};
-ghost use Rattle.attention.specs.Commands as Commands;
-ghost use Rattle.attention.specs.Commands.{commandOf, commandNumber};
-ghost use Rattle.attention.specs.Touched.{commandCount};
+ghost use Rattle.ground_rules.specs.Outcomes.{unless};
+ghost use Rattle.attention_rules.specs.Commands as Commands;
+ghost use Rattle.attention_rules.specs.Commands.{commandOf, commandNumber};
+ghost use Rattle.attention_rules.specs.Touched.{commandCount};
 
 // The command of a CCW.
 pub fn command(ccw: u8) -> Command

@@ -1,19 +1,19 @@
 // What an accepted order makes of the channel and of memory.
-use crate::Command;
-use crate::Order;
-use crate::Writes;
 use crate::commands;
-use machine::Channel;
-use machine::Held;
-use machine::Mode;
+use attention_rules::Command;
+use attention_rules::Order;
+use attention_rules::Writes;
+use ground_rules::Channel;
+use ground_rules::Held;
+use ground_rules::Mode;
+use ground_rules::Pointer;
 use machine::psw;
 use machine::updates;
-use memory::Pointer;
 ghost use mathlib.Core.Path.{_≡_};
-ghost use Rattle.words.specs.Choice.{pick};
-ghost use Rattle.memory.specs.Buffers.{lent};
-ghost use Rattle.attention.specs.Effects as Effects;
-ghost use Rattle.attention.specs.Effects.{channelOrdered, writesOf, saved, marked, writesMade};
+ghost use Rattle.ground_rules.specs.Choice.{pick};
+ghost use Rattle.ground_rules.specs.Buffers.{lent};
+ghost use Rattle.attention_rules.specs.Effects as Effects;
+ghost use Rattle.attention_rules.specs.Effects.{channelOrdered, writesOf, saved, marked, writesMade};
 
 // The channel after a start with PB and TP.
 fn started(c: Channel, pp: u32, tp: Pointer) -> Channel

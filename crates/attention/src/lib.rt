@@ -1,14 +1,15 @@
 // The attention call: the order that a channel's block holds is read, tested, and carried out whole or not at all.
-use machine::Answer;
-use machine::Channel;
-use machine::Mode;
-use machine::State;
+use attention_rules::Order;
+use attention_rules::Writes;
+use ground_rules::Answer;
+use ground_rules::Channel;
+use ground_rules::Mode;
+use ground_rules::State;
 use machine::states;
-use memory::Pointer;
 ghost use mathlib.Core.Path.{_≡_};
-ghost use Rattle.memory.specs.Buffers.{lent};
-ghost use Rattle.machine.specs.Outcomes.{outcome, first};
-ghost use Rattle.attention.specs.Attention.{orderNumber, givenTo, attentionOf, attentionCount};
+ghost use Rattle.ground_rules.specs.Buffers.{lent};
+ghost use Rattle.ground_rules.specs.Outcomes.{outcome, first};
+ghost use Rattle.attention_rules.specs.Attention.{orderNumber, givenTo, attentionOf, attentionCount};
 ghost use Rattle.attention.specs.Plans.{plannedOf};
 
 // The command of a CCW, what it asks of the mode, and what it does to PSW.
@@ -19,36 +20,6 @@ pub mod blocks;
 pub mod touched;
 // What an accepted order makes of the channel and of memory.
 pub mod effects;
-
-// What a CCW commands.
-pub enum Command {
-    Update,
-    StartLocal,
-    StartSystem,
-    Suspend,
-    Resume,
-    Halt,
-    Unknown,
-}
-
-// What a block orders: the command, its CCW, the block itself and where PB lies.
-pub struct Order {
-    pub command: Command,
-    pub ccw: u8,
-    pub block: u32,
-    pub pb: u32,
-}
-
-// What an attention stores: TP and PSW at PB or not, then BUSY or not.
-pub struct Writes {
-    pub saves: bool,
-    pub pb: u32,
-    pub tp: Pointer,
-    pub psw: u8,
-    pub marks: bool,
-    pub block: u32,
-    pub busy: u8,
-}
 
 // What an order comes to: its number, how many bytes it reads and stores, the channel after it, and what it stores.
 pub struct Upshot {

@@ -1,14 +1,14 @@
 // Whether the bytes of an order may be touched: all are of system space, so whether they are lent.
-use crate::Command;
-use crate::Order;
+use attention_rules::Command;
+use attention_rules::Order;
 ghost use mathlib.Core.Bool.{false};
 ghost use mathlib.Core.Path.{_≡_};
 ghost use mathlib.Core.List.{_++_};
-ghost use Rattle.memory.specs.Buffers.{lent};
-ghost use Rattle.memory.specs.Places.{span, allTouchable};
-ghost use Rattle.machine.specs.States.{busyIn};
-ghost use Rattle.attention.specs.Blocks.{pointerOf};
-ghost use Rattle.attention.specs.Touched as Touched;
+ghost use Rattle.ground_rules.specs.Buffers.{lent};
+ghost use Rattle.ground_rules.specs.Places.{span, allTouchable};
+ghost use Rattle.ground_rules.specs.States.{busyIn};
+ghost use Rattle.attention_rules.specs.Blocks.{pointerOf};
+ghost use Rattle.attention_rules.specs.Touched as Touched;
 
 // Whether BUSY may be touched.
 fn busy(sys: &[u8], io: &[u8], block: u32) -> bool

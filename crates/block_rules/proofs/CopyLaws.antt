@@ -7,17 +7,17 @@ use mathlib.Core.Path.{_≡_, refl, sym, ap, _∙_}
 use native.Mathlib.Decide.{decLe, ℕ-discrete}
 use native.Mathlib.Nat.{add-assoc}
 use native.Mathlib.Omega.{arith}
-use Rattle.machine.specs.declared.Channel.{Channel}
-use Rattle.memory.proofs.PlaceLaws.{index-reduced, index-after, touchable-index, byte-index, store-index, byte-reduced, store-reduced}
-use Rattle.memory.proofs.StoreLaws.{lent-touchable, store-length, read-other}
-use Rattle.memory.specs.Buffers.{Buffers, indexOf, lentAt, touchableAt, byteAt, storeByte}
-use Rattle.memory.specs.declared.Pointer.{Pointer}
-use Rattle.transfer.proofs.BlockLaws.{Block, stride, block-step, block-step-two}
-use Rattle.transfer.specs.Reads.{dataOf}
-use Rattle.transfer.specs.Sides.{source, destination, wordSide, twoMove}
-use Rattle.transfer.specs.Steps.{transferred, transferOf}
-use Rattle.transfer.specs.Stores.{movedChannel}
-use Rattle.words.specs.Sums.{sum20}
+use Rattle.ground_rules.specs.declared.Channel.{Channel}
+use Rattle.ground_rules.proofs.PlaceLaws.{index-reduced, index-after, touchable-index, byte-index, store-index, byte-reduced, store-reduced}
+use Rattle.ground_rules.proofs.StoreLaws.{lent-touchable, store-length, read-other}
+use Rattle.ground_rules.specs.Buffers.{Buffers, indexOf, lentAt, touchableAt, byteAt, storeByte}
+use Rattle.ground_rules.specs.declared.Pointer.{Pointer}
+use Rattle.transfer_rules.proofs.BlockLaws.{Block, stride, block-step, block-step-two}
+use Rattle.transfer_rules.specs.Reads.{dataOf}
+use Rattle.transfer_rules.specs.Sides.{source, destination, wordSide, twoMove}
+use Rattle.transfer_rules.specs.Steps.{transferred, transferOf}
+use Rattle.transfer_rules.specs.Stores.{movedChannel}
+use Rattle.ground_rules.specs.Sums.{sum20}
 use Rattle.block_rules.specs.Premises.{from, into, Plain, Copy}
 use Rattle.block_rules.specs.Rows.{Untouched, Row, start, steps, other}
 use Rattle.block_rules.specs.Stages.{onBy, midway, finished, Held, Within}

@@ -4,9 +4,9 @@ use Prim.Native.Nat.{ℕ, _+_, _-_, _*_, _/_, _<_, _≤_, min}
 use mathlib.Core.Bool.{Bool, true, false, _||_}
 use mathlib.Core.Path.{_≡_, refl}
 use native.Mathlib.Omega.{arith}
-use Rattle.machine.specs.declared.Channel.{Channel}
-use Rattle.transfer.specs.Sides.{source, destination, wordSide}
-use Rattle.words.specs.Choice.{pick}
+use Rattle.ground_rules.specs.declared.Channel.{Channel}
+use Rattle.transfer_rules.specs.Sides.{source, destination, wordSide}
+use Rattle.ground_rules.specs.Choice.{pick}
 use Rattle.block_rules.specs.Totals.{movedAfter, narrow, alone, total}
 
 -- both sides are eight bits wide: a byte at each step

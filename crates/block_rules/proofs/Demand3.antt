@@ -5,16 +5,16 @@ use mathlib.Core.Bool.{true, false}
 use mathlib.Core.Path.{_≡_, refl, sym, subst, _∙_}
 use native.Mathlib.Decide.{decLt}
 use native.Mathlib.Omega.{arith}
-use Rattle.machine.specs.Psw.{transferring, withPsw}
-use Rattle.machine.specs.States.{isRunning}
-use Rattle.machine.specs.declared.Channel.{Channel}
-use Rattle.memory.specs.Buffers.{Buffers}
-use Rattle.transfer.proofs.BlockLaws.{stride}
-use Rattle.transfer.specs.Ends.{offsetOf}
-use Rattle.machine.specs.Updates.{withTransfer}
-use Rattle.transfer.specs.Steps.{transferOf}
-use Rattle.words.proofs.BitLaws.{bit-same}
-use Rattle.words.proofs.ChoiceLaws.{apart}
+use Rattle.ground_rules.specs.Psw.{transferring, withPsw}
+use Rattle.ground_rules.specs.States.{isRunning}
+use Rattle.ground_rules.specs.declared.Channel.{Channel}
+use Rattle.ground_rules.specs.Buffers.{Buffers}
+use Rattle.transfer_rules.proofs.BlockLaws.{stride}
+use Rattle.transfer_rules.specs.Ends.{offsetOf}
+use Rattle.ground_rules.specs.Updates.{withTransfer}
+use Rattle.transfer_rules.specs.Steps.{transferOf}
+use Rattle.ground_rules.proofs.BitLaws.{bit-same}
+use Rattle.ground_rules.proofs.ChoiceLaws.{apart}
 use Rattle.block_rules.specs.Premises.{into, Plain, Copy}
 use Rattle.block_rules.specs.Rows.{after, Row, EndsAt, start, steps}
 use Rattle.block_rules.specs.Stages.{onBy, midway, finished, Within, Going, Ended}

@@ -6,11 +6,11 @@ use mathlib.Core.Path.{_≡_, refl, _∙_}
 use native.Mathlib.Decide.{ℕ-discrete}
 use native.Mathlib.Nat.{not-suc-le-zero}
 use native.Mathlib.Omega.{arith}
-use Rattle.memory.proofs.PlaceLaws.{index-apart, later}
-use Rattle.memory.proofs.StoreLaws.{store-lent, read-same, read-other}
-use Rattle.memory.specs.Buffers.{Buffers, byteAt, storeByte}
-use Rattle.memory.specs.declared.Pointer.{Pointer}
-use Rattle.words.proofs.ChoiceLaws.{apart}
+use Rattle.ground_rules.proofs.PlaceLaws.{index-apart, later}
+use Rattle.ground_rules.proofs.StoreLaws.{store-lent, read-same, read-other}
+use Rattle.ground_rules.specs.Buffers.{Buffers, byteAt, storeByte}
+use Rattle.ground_rules.specs.declared.Pointer.{Pointer}
+use Rattle.ground_rules.proofs.ChoiceLaws.{apart}
 use Rattle.block_rules.specs.Premises.{Lent, ShareNone}
 use Rattle.block_rules.specs.Rows.{Left}
 use Rattle.block_rules.specs.Stages.{Held}

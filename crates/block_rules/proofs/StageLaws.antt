@@ -7,24 +7,24 @@ use mathlib.Core.Bool.{Bool, true, false, not, _&&_, _||_}
 use mathlib.Core.Path.{_≡_, refl, sym, ap, ap₂, _∙_}
 use native.Mathlib.Decide.{decLt, ℕ-discrete}
 use native.Mathlib.Omega.{arith}
-use Rattle.machine.specs.Psw.{destinationWide, sourceWide, withPsw}
-use Rattle.machine.specs.States.{soundChannel}
-use Rattle.machine.specs.declared.Channel.{Channel}
-use Rattle.machine.specs.declared.Fields.{Fields}
-use Rattle.memory.specs.Buffers.{Buffers}
-use Rattle.memory.specs.Values.{pointer, onward}
-use Rattle.memory.specs.declared.Pointer.{Pointer}
-use Rattle.transfer.proofs.BlockLaws.{Block, stride, remaining, carried, word-narrow, one-moves, last-moves, two-moves, block-going, block-last}
-use Rattle.words.proofs.ChoiceLaws.{pick-under, apart, both-left, both-right}
-use Rattle.transfer.specs.Ends.{offsetOf, endedTP, endedPSW, endedBy}
-use Rattle.machine.specs.Updates.{withTransfer, holding}
-use Rattle.machine.specs.declared.Held.the-variants.{NoByte}
-use Rattle.transfer.specs.Reads.{dataOf}
-use Rattle.transfer.specs.Sides.{side, source, destination, wordSide, gained, twoMove}
-use Rattle.transfer.specs.Stores.{movedChannel}
-use Rattle.words.specs.Bits.{bitOf}
-use Rattle.words.specs.Choice.{pick}
-use Rattle.words.specs.Sums.{countDown}
+use Rattle.ground_rules.specs.Psw.{destinationWide, sourceWide, withPsw}
+use Rattle.ground_rules.specs.States.{soundChannel}
+use Rattle.ground_rules.specs.declared.Channel.{Channel}
+use Rattle.ground_rules.specs.declared.Fields.{Fields}
+use Rattle.ground_rules.specs.Buffers.{Buffers}
+use Rattle.ground_rules.specs.Values.{pointer, onward}
+use Rattle.ground_rules.specs.declared.Pointer.{Pointer}
+use Rattle.transfer_rules.proofs.BlockLaws.{Block, stride, remaining, carried, word-narrow, one-moves, last-moves, two-moves, block-going, block-last}
+use Rattle.ground_rules.proofs.ChoiceLaws.{pick-under, apart, both-left, both-right}
+use Rattle.transfer_rules.specs.Ends.{offsetOf, endedTP, endedPSW, endedBy}
+use Rattle.ground_rules.specs.Updates.{withTransfer, holding}
+use Rattle.ground_rules.specs.declared.Held.the-variants.{NoByte}
+use Rattle.transfer_rules.specs.Reads.{dataOf}
+use Rattle.transfer_rules.specs.Sides.{side, source, destination, wordSide, gained, twoMove}
+use Rattle.transfer_rules.specs.Stores.{movedChannel}
+use Rattle.ground_rules.specs.Bits.{bitOf}
+use Rattle.ground_rules.specs.Choice.{pick}
+use Rattle.ground_rules.specs.Sums.{countDown}
 use Rattle.block_rules.specs.Premises.{from, into, Plain}
 use Rattle.block_rules.specs.Stages.{onBy, heldOn, midway, finished}
 use Rattle.block_rules.specs.Totals.{narrow}

@@ -2,13 +2,13 @@
 use mathlib.Core.Bool.{true, false}
 use mathlib.Core.Path.{_≡_}
 use Prim.Native.Nat.{ℕ, _+_, _%_, _<_, _≤_}
-use Rattle.memory.specs.declared.Pointer.{Pointer}
-use Rattle.memory.specs.Buffers.{Buffers, lentAt}
-use Rattle.memory.specs.Places.{Apart}
-use Rattle.machine.specs.declared.Channel.{Channel}
-use Rattle.machine.specs.Psw.{transferring}
-use Rattle.machine.specs.States.{isRunning, soundChannel, fieldsAgree}
-use Rattle.transfer.specs.Sides.{source, destination}
+use Rattle.ground_rules.specs.declared.Pointer.{Pointer}
+use Rattle.ground_rules.specs.Buffers.{Buffers, lentAt}
+use Rattle.ground_rules.specs.Places.{Apart}
+use Rattle.ground_rules.specs.declared.Channel.{Channel}
+use Rattle.ground_rules.specs.Psw.{transferring}
+use Rattle.ground_rules.specs.States.{isRunning, soundChannel, fieldsAgree}
+use Rattle.transfer_rules.specs.Sides.{source, destination}
 
 -- where the source's bytes begin
 abbrev pub from : Channel → Pointer

@@ -1,10 +1,10 @@
 -- Demand 3, a row of transfer steps of one channel, with whatever else may happen between them.
 use mathlib.Core.Path.{_≡_}
 use Prim.Native.Nat.{ℕ, zero, suc, _+_, _<_}
-use Rattle.memory.specs.declared.Pointer.{Pointer}
-use Rattle.memory.specs.Buffers.{Buffers, byteAt}
-use Rattle.machine.specs.declared.Channel.{Channel}
-use Rattle.transfer.specs.Steps.{Transfer, transferred, transferOf}
+use Rattle.ground_rules.specs.declared.Pointer.{Pointer}
+use Rattle.ground_rules.specs.Buffers.{Buffers, byteAt}
+use Rattle.ground_rules.specs.declared.Channel.{Channel}
+use Rattle.transfer_rules.specs.Steps.{Transfer, transferred, transferOf}
 use Rattle.block_rules.specs.Premises.{from, into, Lent}
 use Rattle.block_rules.specs.Stages.{Going, Ended}
 

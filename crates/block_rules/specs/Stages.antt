@@ -3,21 +3,21 @@ use mathlib.Core.Bool.{Bool, true, false}
 use mathlib.Core.Path.{_≡_}
 use Prim.Native.Nat.{ℕ, _+_, _-_, _%_, _<_, _≤_}
 use lib.ListN.{length}
-use Rattle.words.specs.Sums.{sum20}
-use Rattle.memory.specs.declared.Pointer.{Pointer}
-use Rattle.memory.specs.Values.{pointer}
-use Rattle.memory.specs.Buffers.{Buffers, spaceOf, byteAt}
-use Rattle.memory.specs.Places.{Apart}
-use Rattle.machine.specs.declared.Channel.{Channel}
-use Rattle.machine.specs.Psw.{transferring, withPsw}
-use Rattle.machine.specs.States.{isRunning}
-use Rattle.transfer.specs.Ends.{offsetOf}
-use Rattle.machine.specs.Updates.{withTransfer, holding, dropped}
-use Rattle.machine.specs.declared.Held.{Held as HeldByte}
-use Rattle.machine.specs.declared.Held.the-variants.{NoByte}
+use Rattle.ground_rules.specs.Sums.{sum20}
+use Rattle.ground_rules.specs.declared.Pointer.{Pointer}
+use Rattle.ground_rules.specs.Values.{pointer}
+use Rattle.ground_rules.specs.Buffers.{Buffers, spaceOf, byteAt}
+use Rattle.ground_rules.specs.Places.{Apart}
+use Rattle.ground_rules.specs.declared.Channel.{Channel}
+use Rattle.ground_rules.specs.Psw.{transferring, withPsw}
+use Rattle.ground_rules.specs.States.{isRunning}
+use Rattle.transfer_rules.specs.Ends.{offsetOf}
+use Rattle.ground_rules.specs.Updates.{withTransfer, holding, dropped}
+use Rattle.ground_rules.specs.declared.Held.{Held as HeldByte}
+use Rattle.ground_rules.specs.declared.Held.the-variants.{NoByte}
 use lib.Dec.{eqb}
-use Rattle.words.specs.Choice.{pick}
-use Rattle.transfer.specs.Steps.{transferOf}
+use Rattle.ground_rules.specs.Choice.{pick}
+use Rattle.transfer_rules.specs.Steps.{transferOf}
 use Rattle.block_rules.specs.Premises.{from, into, Lent}
 use Rattle.block_rules.specs.Totals.{movedAfter}
 

@@ -1,9 +1,9 @@
 -- Demand 3, the counts: at which of the channel's transfer steps the transfer ends, and how many bytes have moved before.
 use mathlib.Core.Bool.{Bool, not, _&&_, _||_}
 use Prim.Native.Nat.{ℕ, _+_, _-_, _*_, _/_, min}
-use Rattle.words.specs.Choice.{pick}
-use Rattle.machine.specs.declared.Channel.{Channel}
-use Rattle.transfer.specs.Sides.{source, destination, wordSide}
+use Rattle.ground_rules.specs.Choice.{pick}
+use Rattle.ground_rules.specs.declared.Channel.{Channel}
+use Rattle.transfer_rules.specs.Sides.{source, destination, wordSide}
 
 -- both sides are 8 bits wide
 unfoldable pub narrow : Channel → Bool

@@ -5,8 +5,8 @@ use contract.Lifetimes.{Lfts}
 use denote.Ref.{now}
 use denote.Triple.Clauses.{AtExit}
 use mathlib.Core.Path.{_≡_, sym, _∙_}
-use Rattle.memory.specs.Buffers.{buffers}
-use Rattle.panel.specs.Run.{ran, called}
+use Rattle.ground_rules.specs.Buffers.{buffers}
+use Rattle.run_rules.specs.Run.{ran, called}
 use Rattle.board.proofs.board_run.Kinds as run-kinds
 use Rattle.board.proofs.board_run.Reads as run-reads
 use Rattle.board.proofs.iop89_board.Kinds as call-kinds

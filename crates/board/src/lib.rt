@@ -1,10 +1,10 @@
 // The board's side: one call from C that powers the processor up and runs a channel's program in two lent buffers.
-use machine::Made;
-use panel::Ran;
+use ground_rules::Made;
+use run_rules::Ran;
 ghost use mathlib.Core.Path.{_≡_};
-ghost use Rattle.memory.specs.Buffers.{lent};
-ghost use Rattle.panel.specs.Run.{ran, answerOf, called};
-ghost use Rattle.board.specs.Board.{boardRunOf};
+ghost use Rattle.ground_rules.specs.Buffers.{lent};
+ghost use Rattle.run_rules.specs.Run.{ran, answerOf, called};
+ghost use Rattle.run_rules.specs.Board.{boardRunOf};
 
 // A run of a channel from reset and power-up on: `lines` held throughout, at most `limit` steps.
 pub fn board_run(sys: &mut [u8], io: &mut [u8], channel: u32, lines: u32, limit: u32) -> Ran

@@ -8,12 +8,12 @@
 //   1  by RRR, or HLT         5  memory, immediate        9  pointer, memory     D  a bit of memory
 //   2  register, immediate    6  register, memory         A  jump on memory      E  CALL, or TSL
 //   3  register alone         7  memory, register         B  jump on a match     F  LPDI, or MOV M,M: two bytes more
-use decode_shapes::Memory;
-use decode_shapes::Shape;
-use decode_shapes::Single;
-use decode_shapes::Work;
+use instruction_rules::Memory;
+use instruction_rules::Shape;
+use instruction_rules::Single;
+use instruction_rules::Work;
 ghost use mathlib.Core.Path.{_≡_};
-ghost use Rattle.decode.specs.Cells.{cellOf, workBy, singleBy, pointerBy};
+ghost use Rattle.instruction_rules.specs.Cells.{cellOf, workBy, singleBy, pointerBy};
 
 // The cells of the opcodes 00 to 3F.
 const CELLS: [u8; 64] = [

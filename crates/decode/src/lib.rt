@@ -1,26 +1,22 @@
 // The two bytes of an instruction's pair, read into one of the instruction's shapes or refused, and how many bytes the
 // instruction has.
+use instruction_rules::Looked;
+
 mod cells;
 mod reads;
 
-use decode_shapes::Decoded;
-use decode_shapes::Memory;
-use decode_shapes::Second;
 use decode_shapes::pairs;
-use decode_shapes::pairs::Pair;
+use instruction_rules::Decoded;
+use instruction_rules::Memory;
+use instruction_rules::Pair;
+use instruction_rules::Second;
 ghost use mathlib.Core.Path.{_≡_};
 ghost use Prim.Native.Nat.{_+_};
 ghost use lib.Dec.{eqb, leb};
-ghost use Rattle.decode_shapes.specs.Pairs.{pairOf};
-ghost use Rattle.decode.specs.Reading.{decodeOf, numberOf, secondOf, secondNumberOf};
-ghost use Rattle.decode.specs.Lengths.{moreBy, twoBy, offsetLength, pairLength};
-ghost use Rattle.decode.specs.Cells.{cellLength};
-
-// A pair looked up: what it is, and the bytes of the instruction that it begins.
-pub struct Looked {
-    pub decoded: Decoded,
-    pub length: u32,
-}
+ghost use Rattle.instruction_rules.specs.Pairs.{pairOf};
+ghost use Rattle.instruction_rules.specs.Reading.{decodeOf, numberOf, secondOf, secondNumberOf};
+ghost use Rattle.instruction_rules.specs.Lengths.{moreBy, twoBy, offsetLength, pairLength};
+ghost use Rattle.instruction_rules.specs.Cells.{cellLength};
 
 // What the first two bytes of an instruction are, and its length; the table is read once.
 pub fn look_up(first: u8, second: u8) -> Looked

@@ -1,13 +1,13 @@
 // The row that a cell of the table stands for, held against a pair.
 use crate::cells;
-use decode_shapes::Decoded;
-use decode_shapes::Shape;
 use decode_shapes::pairs;
-use decode_shapes::pairs::Pair;
 use decode_shapes::rows;
+use instruction_rules::Decoded;
+use instruction_rules::Pair;
+use instruction_rules::Shape;
 ghost use mathlib.Core.Path.{_≡_};
-ghost use Rattle.decode.specs.Reading.{lookup};
-ghost use Rattle.decode.specs.Cells.{controlRows, cellRows};
+ghost use Rattle.instruction_rules.specs.Reading.{lookup};
+ghost use Rattle.instruction_rules.specs.Cells.{controlRows, cellRows};
 
 // The control codes: which one RRR says.
 fn control(p: Pair) -> Decoded

@@ -1,8 +1,8 @@
 -- How many pairs of bytes give a number.
 use Prim.Native.Nat.{ℕ, zero, suc, _+_, _/_, _%_}
 use lib.Dec.{eqb}
-use Rattle.words.specs.Choice.{pick}
-use Rattle.decode.specs.Reading.{decodeOf, numberOf}
+use Rattle.ground_rules.specs.Choice.{pick}
+use Rattle.instruction_rules.specs.Reading.{decodeOf, numberOf}
 
 -- 1 where the pair at a place gives the number, else 0: the first byte is the place's high byte, the second its low byte
 unfoldable pub givesBy : ℕ → ℕ → ℕ

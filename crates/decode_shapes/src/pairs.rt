@@ -1,18 +1,9 @@
 // The six fields of a pair of bytes, and the tests of a field that the instruction summary has a mark for.
+use instruction_rules::Pair;
 ghost use mathlib.Core.Path.{_≡_};
-ghost use Rattle.decode_shapes.specs.Pairs.{pairOf, memoryOf, meets, columns};
-ghost use Rattle.decode_shapes.specs.Pairs.Column.{'0, '00, 'RRR, 'PPP, 'dd, 'wb};
-use crate::Memory;
-
-// The fields of a pair: RRR, dd, AA and W of its first byte, opcode and MM of its second.
-pub struct Pair {
-    pub rrr: u32,
-    pub dd: u32,
-    pub aa: u32,
-    pub w: u32,
-    pub opcode: u32,
-    pub mm: u32,
-}
+ghost use Rattle.instruction_rules.specs.Pairs.{pairOf, memoryOf, meets, columns};
+ghost use Rattle.instruction_rules.specs.Pairs.Column.{'0, '00, 'RRR, 'PPP, 'dd, 'wb};
+use instruction_rules::Memory;
 
 // The fields of two bytes.
 pub fn split(first: u8, second: u8) -> Pair

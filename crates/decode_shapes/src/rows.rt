@@ -1,17 +1,17 @@
 // The rows of the instruction summary, one function for those that differ only in their work.
 ghost use mathlib.Core.Path.{_≡_};
 ghost use mathlib.Core.Bool.{true, false, _&&_};
-ghost use Rattle.decode_shapes.specs.Pairs.{columns, wideOf, twoOf};
-ghost use Rattle.decode_shapes.specs.Pairs.Column.{'0, '1, '00, '10, '11, '000, '001, '100, 'RRR, 'PPP, 'BBB, 'dd, 'wb, 'AA, 'W, 'MM};
-ghost use Rattle.decode_shapes.specs.Rows.{reading, isControl};
-ghost use Rattle.decode_shapes.specs.declared.Shape.the-variants.{Hlt, Lpdi, RegisterImmediate, Register, JumpRegister, RegisterMemory, MemoryRegister, MemoryImmediate, MemoryAlone, JumpMemory, MovMemory, Tsl, Call, JumpMasked, JumpBit, Bit};
-use crate::Decoded;
-use crate::Memory;
-use crate::Shape;
-use crate::Single;
-use crate::Work;
+ghost use Rattle.instruction_rules.specs.Pairs.{columns, wideOf, twoOf};
+ghost use Rattle.instruction_rules.specs.Pairs.Column.{'0, '1, '00, '10, '11, '000, '001, '100, 'RRR, 'PPP, 'BBB, 'dd, 'wb, 'AA, 'W, 'MM};
+ghost use Rattle.instruction_rules.specs.Rows.{reading, isControl};
+ghost use Rattle.instruction_rules.specs.declared.Shape.the-variants.{Hlt, Lpdi, RegisterImmediate, Register, JumpRegister, RegisterMemory, MemoryRegister, MemoryImmediate, MemoryAlone, JumpMemory, MovMemory, Tsl, Call, JumpMasked, JumpBit, Bit};
 use crate::pairs;
-use crate::pairs::Pair;
+use instruction_rules::Decoded;
+use instruction_rules::Memory;
+use instruction_rules::Pair;
+use instruction_rules::Shape;
+use instruction_rules::Single;
+use instruction_rules::Work;
 
 // The answer of a row, by whether its columns are met and whether it uses CC.
 pub fn answer(met: bool, control: bool, shape: Shape) -> Decoded

@@ -9,32 +9,32 @@ use mathlib.Core.List.{[], _∷_}
 use mathlib.Core.Logic.{⊎-elim}
 use mathlib.Core.Path.{_≡_, refl, sym, ap, ap₂, subst, _∙_}
 use types.Run.{OneOf}
-use Rattle.decode_shapes.proofs.Decoded.{the-type}
-use Rattle.decode.specs.Lengths.{lengthOf}
-use Rattle.decode.specs.Reading.{numberOf}
-use Rattle.decode_shapes.specs.declared.Decoded.{Decoded}
-use Rattle.decode_shapes.specs.declared.Decoded.the-variants.{Instruction, NoInstruction, ControlUsed}
-use Rattle.decode_shapes.specs.declared.Shape.{Shape}
-use Rattle.machine.proofs.ConditionLaws.{first-assoc}
-use Rattle.machine.proofs.OutcomeLaws.{refused-counts, done-counts, first-some, first-none, both-tested}
-use Rattle.machine.specs.Outcomes.{unless, first}
-use Rattle.machine.specs.Stages.{stagesNumber}
-use Rattle.machine.specs.declared.Channel.{Channel}
-use Rattle.memory.proofs.SpanLaws.{all-append}
-use Rattle.memory.specs.Buffers.{Buffers}
-use Rattle.memory.specs.Places.{allTouchable}
-use Rattle.execute_operands.specs.Changes.{placesOf, changed, nothing}
-use Rattle.execute_operands.specs.Marks.{pastInstruction}
-use Rattle.execute_operands.specs.Operands.{bytesAt}
-use Rattle.execute_deeds.specs.Deeds.{Deed}
+use Rattle.instruction_rules.proofs.Decoded.{the-type}
+use Rattle.instruction_rules.specs.Lengths.{lengthOf}
+use Rattle.instruction_rules.specs.Reading.{numberOf}
+use Rattle.instruction_rules.specs.declared.Decoded.{Decoded}
+use Rattle.instruction_rules.specs.declared.Decoded.the-variants.{Instruction, NoInstruction, ControlUsed}
+use Rattle.instruction_rules.specs.declared.Shape.{Shape}
+use Rattle.ground_rules.proofs.ConditionLaws.{first-assoc}
+use Rattle.ground_rules.proofs.OutcomeLaws.{refused-counts, done-counts, first-some, first-none, both-tested}
+use Rattle.ground_rules.specs.Outcomes.{unless, first}
+use Rattle.ground_rules.specs.Stages.{stagesNumber}
+use Rattle.ground_rules.specs.declared.Channel.{Channel}
+use Rattle.ground_rules.proofs.SpanLaws.{all-append}
+use Rattle.ground_rules.specs.Buffers.{Buffers}
+use Rattle.ground_rules.specs.Places.{allTouchable}
+use Rattle.instruction_rules.specs.Changes.{placesOf, changed, nothing}
+use Rattle.instruction_rules.specs.Marks.{pastInstruction}
+use Rattle.instruction_rules.specs.Operands.{bytesAt}
+use Rattle.instruction_rules.specs.Deeds.{Deed}
 use Rattle.execute_deeds.specs.Effects.{effectOf, afterWrite}
 use Rattle.execute_deeds.specs.Writes.{noWrite}
 use Rattle.execute_deeds.specs.declared.Effect.{Effect}
-use Rattle.execute.specs.Execute.{decodedAt, performed, deedOf, laterBytes, laterFrom, lengthFrom, deedFrom, stagesFrom, instructionStages, executeNumber, touchedByInstruction, Executed, executed, executeOf, executeCount}
+use Rattle.instruction_rules.specs.Execute.{decodedAt, performed, deedOf, laterBytes, laterFrom, lengthFrom, deedFrom, stagesFrom, instructionStages, executeNumber, touchedByInstruction, Executed, executed, executeOf, executeCount}
 use Rattle.execute.specs.Plan.{laterNumber, planFrom, planNumber, readWith, Planned}
-use Rattle.execute.specs.Kept.{deedAt}
-use Rattle.execute.proofs.CountLaws.{deed-most, touched-length}
-use Rattle.execute.proofs.OutcomeLaws.{refused-by, done-by, number-is}
+use Rattle.instruction_rules.specs.Kept.{deedAt}
+use Rattle.instruction_rules.proofs.CountLaws.{deed-most, touched-length}
+use Rattle.instruction_rules.proofs.OutcomeLaws.{refused-by, done-by, number-is}
 
 -- a refusal by a number other than 0 is as planned
 pub refusal-planned : {number n own : ℕ} {d : Deed} {e : Effect} {c : Channel} → e ≡ record { number = n; reads = 0; channel = c; change = nothing; write = noWrite } → n ≡ number → (n ≡ 0 → ⊥) → Planned number own d e

@@ -5,8 +5,8 @@ use contract.Lifetimes.{Lfts}
 use denote.Ref.{now}
 use denote.Triple.Clauses.{AtExit}
 use mathlib.Core.Path.{_≡_, sym, _∙_}
-use Rattle.memory.specs.Buffers.{buffers}
-use Rattle.execute.specs.Execute.{executed}
+use Rattle.ground_rules.specs.Buffers.{buffers}
+use Rattle.instruction_rules.specs.Execute.{executed}
 use Rattle.execute.proofs.execute.Kinds as execute-kinds
 use Rattle.execute.proofs.execute.Reads as execute-reads
 

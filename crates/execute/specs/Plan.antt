@@ -2,18 +2,18 @@
 use mathlib.Core.Path.{_≡_}
 use Prim.Native.Nat.{ℕ, _+_}
 use lib.ListN.{length}
-use Rattle.memory.specs.Buffers.{Buffers}
-use Rattle.memory.specs.Places.{allTouchable}
-use Rattle.machine.specs.Outcomes.{first, unless}
-use Rattle.machine.specs.declared.Channel.{Channel}
-use Rattle.decode_shapes.specs.declared.Decoded.{Decoded}
-use Rattle.decode.specs.Reading.{numberOf}
-use Rattle.execute_operands.specs.Operands.{bytesAt}
-use Rattle.execute_deeds.specs.Deeds.{Deed}
+use Rattle.ground_rules.specs.Buffers.{Buffers}
+use Rattle.ground_rules.specs.Places.{allTouchable}
+use Rattle.ground_rules.specs.Outcomes.{first, unless}
+use Rattle.ground_rules.specs.declared.Channel.{Channel}
+use Rattle.instruction_rules.specs.declared.Decoded.{Decoded}
+use Rattle.instruction_rules.specs.Reading.{numberOf}
+use Rattle.instruction_rules.specs.Operands.{bytesAt}
+use Rattle.instruction_rules.specs.Deeds.{Deed}
 use Rattle.execute_deeds.specs.Effects.{effectOf, afterWrite}
 use Rattle.execute_deeds.specs.Writes.{noWrite}
 use Rattle.execute_deeds.specs.declared.Effect.{Effect}
-use Rattle.execute.specs.Execute.{decodedAt, deedFrom, laterFrom}
+use Rattle.instruction_rules.specs.Execute.{decodedAt, deedFrom, laterFrom}
 
 -- the number from the later bytes on, but for the stores
 unfoldable pub laterNumber : Decoded → Buffers → Channel → ℕ → ℕ

@@ -1,23 +1,23 @@
 // One instruction of a channel: fetched, decoded, worked out, and its one store and its one register write made last.
-use decode_shapes::Decoded;
-use decode_shapes::Shape;
 use execute_deeds::Effect;
 use execute_deeds::NO_WRITE;
 use execute_deeds::control;
 use execute_deeds::registers;
 use execute_operands::changes;
-use machine::Channel;
-use memory::Pointer;
+use ground_rules::Channel;
+use ground_rules::Pointer;
+use instruction_rules::Decoded;
+use instruction_rules::Shape;
 ghost use mathlib.Core.Path.{_≡_};
-ghost use Rattle.memory.specs.Buffers.{lent};
+ghost use Rattle.ground_rules.specs.Buffers.{lent};
 ghost use Rattle.execute_deeds.specs.Effects.{effectOf, afterWrite};
 ghost use Rattle.execute_deeds.specs.Writes.{noWrite};
-ghost use Rattle.decode_shapes.specs.declared.Decoded.the-variants.{Instruction};
-ghost use Rattle.decode.specs.Lengths.{lengthOf};
-ghost use Rattle.execute_operands.specs.Changes.{nothing};
-ghost use Rattle.execute.specs.Execute.{decodedAt, performed, deedOf, lengthFrom, executed, executeOf, executeCount};
+ghost use Rattle.instruction_rules.specs.declared.Decoded.the-variants.{Instruction};
+ghost use Rattle.instruction_rules.specs.Lengths.{lengthOf};
+ghost use Rattle.instruction_rules.specs.Changes.{nothing};
+ghost use Rattle.instruction_rules.specs.Execute.{decodedAt, performed, deedOf, lengthFrom, executed, executeOf, executeCount};
 ghost use Rattle.execute.specs.Plan.{laterNumber, planNumber, Planned};
-ghost use Rattle.execute.specs.Kept.{deedAt};
+ghost use Rattle.instruction_rules.specs.Kept.{deedAt};
 
 // What an instruction answers: its number, how many bytes it read and stored, and the channel after it.
 pub struct Done {

@@ -3,17 +3,17 @@
 use Prim.Native.Nat.{ℕ}
 use mathlib.Core.Bool.{Bool, true, false, _||_}
 use mathlib.Core.Path.{_≡_, refl}
-use Rattle.decode_shapes.specs.declared.Memory.{Memory}
-use Rattle.decode_shapes.specs.declared.Work.{Work}
-use Rattle.machine.specs.Registers.{byRRR, tagOf, withRegister, moved, worked}
-use Rattle.machine.specs.Updates.{renewed}
-use Rattle.machine.specs.declared.Channel.{Channel}
-use Rattle.words.specs.Choice.{pick}
-use Rattle.memory.specs.Buffers.{Buffers}
-use Rattle.memory.specs.declared.Pointer.{Pointer}
-use Rattle.execute_operands.specs.Operands.{afterPair, grown, landing, jumpedIf, isMove}
-use Rattle.execute_deeds.specs.JumpForms.{callDeed}
-use Rattle.execute_deeds.specs.RegisterForms.{registerWritten}
+use Rattle.instruction_rules.specs.declared.Memory.{Memory}
+use Rattle.instruction_rules.specs.declared.Work.{Work}
+use Rattle.ground_rules.specs.Registers.{byRRR, tagOf, withRegister, moved, worked}
+use Rattle.ground_rules.specs.Updates.{renewed}
+use Rattle.ground_rules.specs.declared.Channel.{Channel}
+use Rattle.ground_rules.specs.Choice.{pick}
+use Rattle.ground_rules.specs.Buffers.{Buffers}
+use Rattle.ground_rules.specs.declared.Pointer.{Pointer}
+use Rattle.instruction_rules.specs.Operands.{afterPair, grown, landing, jumpedIf, isMove}
+use Rattle.instruction_rules.specs.JumpForms.{callDeed}
+use Rattle.instruction_rules.specs.RegisterForms.{registerWritten}
 use Rattle.execute_deeds.specs.Writes.{workWrite, writeMade}
 use Rattle.execute_deeds.specs.declared.Write.{Write}
 

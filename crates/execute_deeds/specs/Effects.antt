@@ -1,10 +1,10 @@
 -- What the code makes of a deed: its number, how many bytes it reads, and a register that is written once the instruction is accepted.
 use Prim.Native.Nat.{ℕ}
 use lib.ListN.{length}
-use Rattle.memory.specs.Buffers.{Buffers}
-use Rattle.memory.specs.Places.{allTouchable}
-use Rattle.machine.specs.Outcomes.{first, unless}
-use Rattle.execute_deeds.specs.Deeds.{Deed}
+use Rattle.ground_rules.specs.Buffers.{Buffers}
+use Rattle.ground_rules.specs.Places.{allTouchable}
+use Rattle.ground_rules.specs.Outcomes.{first, unless}
+use Rattle.instruction_rules.specs.Deeds.{Deed}
 use Rattle.execute_deeds.specs.Writes.{noWrite, writeMade}
 use Rattle.execute_deeds.specs.declared.Effect.{Effect}
 

@@ -1,12 +1,12 @@
 -- The register that an instruction writes by RRR, and the channel once it is written.
 use mathlib.Core.Bool.{Bool, true, false, _||_}
 use Prim.Native.Nat.{ℕ}
-use Rattle.words.specs.Choice.{pick}
-use Rattle.machine.specs.Registers.{withRegister, tagOf}
-use Rattle.machine.specs.declared.Channel.{Channel}
+use Rattle.ground_rules.specs.Choice.{pick}
+use Rattle.ground_rules.specs.Registers.{withRegister, tagOf}
+use Rattle.ground_rules.specs.declared.Channel.{Channel}
 use Rattle.execute_deeds.specs.declared.Write.{Write}
-use Rattle.decode_shapes.specs.declared.Work.{Work}
-use Rattle.execute_operands.specs.Operands.{isMove}
+use Rattle.instruction_rules.specs.declared.Work.{Work}
+use Rattle.instruction_rules.specs.Operands.{isMove}
 
 -- none
 abbrev pub noWrite : Write

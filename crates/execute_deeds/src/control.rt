@@ -2,12 +2,12 @@
 use crate::Effect;
 use crate::NO_WRITE;
 use execute_operands::changes;
-use machine::Channel;
+use ground_rules::Channel;
+use ground_rules::Pointer;
 use machine::psw;
-use memory::Pointer;
 ghost use mathlib.Core.Path.{_≡_};
 ghost use Rattle.execute_deeds.specs.Effects.{unread};
-ghost use Rattle.execute_deeds.specs.Control.{nopDeed, sintrDeed, xferDeed, widDeed, hltDeed, withStatus};
+ghost use Rattle.instruction_rules.specs.Control.{nopDeed, sintrDeed, xferDeed, widDeed, hltDeed, withStatus};
 
 // A channel after an instruction that reads and stores nothing.
 pub fn only(c: Channel) -> Effect

@@ -3,15 +3,15 @@ use crate::Effect;
 use crate::NO_WRITE;
 use crate::control;
 use crate::registers;
-use decode_shapes::Memory;
 use execute_operands::changes;
-use machine::Channel;
-use memory::Pointer;
+use ground_rules::Channel;
+use ground_rules::Pointer;
+use instruction_rules::Memory;
 ghost use mathlib.Core.Path.{_≡_};
-ghost use Rattle.memory.specs.Buffers.{lent};
+ghost use Rattle.ground_rules.specs.Buffers.{lent};
 ghost use Rattle.execute_deeds.specs.Effects.{effectOf, unread};
-ghost use Rattle.execute_deeds.specs.JumpForms as Jumps;
-ghost use Rattle.execute_deeds.specs.JumpForms.{jumpRegisterDeed, jumpMemoryDeed, jumpMaskedDeed, jumpBitDeed, tslDeed, callDeed};
+ghost use Rattle.instruction_rules.specs.JumpForms as Jumps;
+ghost use Rattle.instruction_rules.specs.JumpForms.{jumpRegisterDeed, jumpMemoryDeed, jumpMaskedDeed, jumpBitDeed, tslDeed, callDeed};
 
 // A test, or its opposite.
 fn agrees(wanted: bool, found: bool) -> bool

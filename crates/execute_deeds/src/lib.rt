@@ -1,6 +1,6 @@
 // What an instruction of each shape does, worked out and neither written nor stored.
-use execute_operands::Change;
-use machine::Channel;
+use ground_rules::Channel;
+use instruction_rules::Change;
 
 // NOP, SINTR, XFER, WID and HLT.
 pub mod control;

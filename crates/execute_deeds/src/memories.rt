@@ -1,19 +1,19 @@
 // Instructions whose result goes into memory.
 use crate::Effect;
 use crate::NO_WRITE;
-use decode_shapes::Memory;
-use decode_shapes::Second;
-use decode_shapes::Single;
-use decode_shapes::Work;
-use execute_operands::Change;
 use execute_operands::changes;
-use machine::Channel;
-use memory::Pointer;
+use ground_rules::Channel;
+use ground_rules::Pointer;
+use instruction_rules::Change;
+use instruction_rules::Memory;
+use instruction_rules::Second;
+use instruction_rules::Single;
+use instruction_rules::Work;
 ghost use mathlib.Core.Path.{_≡_};
-ghost use Rattle.memory.specs.Buffers.{lent};
+ghost use Rattle.ground_rules.specs.Buffers.{lent};
 ghost use Rattle.execute_deeds.specs.Effects.{effectOf, unread};
-ghost use Rattle.execute_deeds.specs.MemoryForms as MemoryForms;
-ghost use Rattle.execute_deeds.specs.MemoryForms.{workedBack, memoryRegisterDeed, memoryImmediateDeed, memoryAloneDeed, movpStoreDeed, bitWritten, bitDeed, movMemoryDeed};
+ghost use Rattle.instruction_rules.specs.MemoryForms as MemoryForms;
+ghost use Rattle.instruction_rules.specs.MemoryForms.{workedBack, memoryRegisterDeed, memoryImmediateDeed, memoryAloneDeed, movpStoreDeed, bitWritten, bitDeed, movMemoryDeed};
 
 // The bytes that work reads of a memory operand.
 fn read_first(work: Work, wide: bool) -> u32

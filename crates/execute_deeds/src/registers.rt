@@ -1,19 +1,19 @@
 // Instructions whose result goes into a register.
 use crate::Effect;
 use crate::Write;
-use decode_shapes::Memory;
-use decode_shapes::Single;
-use decode_shapes::Work;
 use execute_operands::changes;
-use machine::Channel;
-use memory::Pointer;
+use ground_rules::Channel;
+use ground_rules::Pointer;
+use instruction_rules::Memory;
+use instruction_rules::Single;
+use instruction_rules::Work;
 ghost use mathlib.Core.Path.{_≡_};
-ghost use Rattle.memory.specs.Buffers.{lent};
+ghost use Rattle.ground_rules.specs.Buffers.{lent};
 ghost use Rattle.execute_deeds.specs.Effects.{effectOf, unread, afterWrite};
-ghost use Rattle.execute_operands.specs.Operands.{readNumber};
-ghost use Rattle.execute_operands.specs.Changes.{nothing};
+ghost use Rattle.instruction_rules.specs.Operands.{readNumber};
+ghost use Rattle.instruction_rules.specs.Changes.{nothing};
 ghost use Rattle.execute_deeds.specs.Writes.{writeTo, workWrite};
-ghost use Rattle.execute_deeds.specs.RegisterForms.{registerImmediateDeed, registerDeed, registerMemoryDeed, lpdiDeed, lpdDeed, movpLoadDeed};
+ghost use Rattle.instruction_rules.specs.RegisterForms.{registerImmediateDeed, registerDeed, registerMemoryDeed, lpdiDeed, lpdDeed, movpLoadDeed};
 
 // A register with its value, and with its tag where it is a pointer.
 fn to(rrr: u32, value: u32, tag: bool) -> Write

@@ -1,12 +1,12 @@
 // What an instruction stores: the changes that instructions make, and the one function that makes the stores.
-use crate::Change;
-use memory::Pointer;
+use ground_rules::Pointer;
+use instruction_rules::Change;
 ghost use mathlib.Core.Path.{_≡_};
-ghost use Rattle.words.specs.Choice.{pick};
-ghost use Rattle.memory.specs.Buffers.{lent};
-ghost use Rattle.memory.specs.Places.{allTouchable};
-ghost use Rattle.execute_operands.specs.Changes as Changes;
-ghost use Rattle.execute_operands.specs.Changes.{placesOf, changed, byteTo, resultTo, pointerTo};
+ghost use Rattle.ground_rules.specs.Choice.{pick};
+ghost use Rattle.ground_rules.specs.Buffers.{lent};
+ghost use Rattle.ground_rules.specs.Places.{allTouchable};
+ghost use Rattle.instruction_rules.specs.Changes as Changes;
+ghost use Rattle.instruction_rules.specs.Changes.{placesOf, changed, byteTo, resultTo, pointerTo};
 
 // No change.
 pub fn nothing() -> Change

@@ -1,28 +1,21 @@
 // Places, the operands that lie there, what the instructions work out of them, and what they store.
-use decode_shapes::Memory;
-use decode_shapes::Single;
-use decode_shapes::Work;
-use machine::Channel;
-use memory::Pointer;
+use ground_rules::Channel;
+use ground_rules::Pointer;
+use instruction_rules::Memory;
+use instruction_rules::Single;
+use instruction_rules::Work;
 
 // What an instruction stores.
 pub mod changes;
 
 ghost use mathlib.Core.Path.{_≡_};
-ghost use Rattle.memory.specs.Buffers.{lent};
-ghost use Rattle.memory.specs.Places.{allTouchable};
-ghost use Rattle.words.specs.Choice.{pick};
-ghost use Rattle.machine.specs.Outcomes.{unless};
-ghost use Rattle.execute_operands.specs.Marks.{usedUp, pastInstruction};
-ghost use Rattle.execute_operands.specs.Operands as Operands;
-ghost use Rattle.execute_operands.specs.Operands.{byteHere, wordHere, bytesAt, sizeOf, operandAt, workOf, singleOf, isMove, readNumber};
-
-// What an instruction stores: the lowest `count` bytes of a value at a place, at most three, the lowest first.
-pub struct Change {
-    pub count: u32,
-    pub at: Pointer,
-    pub value: u32,
-}
+ghost use Rattle.ground_rules.specs.Buffers.{lent};
+ghost use Rattle.ground_rules.specs.Places.{allTouchable};
+ghost use Rattle.ground_rules.specs.Choice.{pick};
+ghost use Rattle.ground_rules.specs.Outcomes.{unless};
+ghost use Rattle.instruction_rules.specs.Marks.{usedUp, pastInstruction};
+ghost use Rattle.instruction_rules.specs.Operands as Operands;
+ghost use Rattle.instruction_rules.specs.Operands.{byteHere, wordHere, bytesAt, sizeOf, operandAt, workOf, singleOf, isMove, readNumber};
 
 // The byte at a place.
 pub fn byte(p: Pointer, sys: &[u8], io: &[u8]) -> u8

@@ -1,28 +1,17 @@
 // What stands at a place of the program bytes, and a reader that keeps its place.
-use decode_shapes::Decoded;
-use decode_shapes::Memory;
-use decode_shapes::Second;
-use decode_shapes::Shape;
+use instruction_rules::Decoded;
+use instruction_rules::Memory;
+use instruction_rules::Second;
+use instruction_rules::Shape;
+use listing_rules::Item;
 ghost use mathlib.Core.Path.{_≡_};
 ghost use Prim.Native.Nat.{_+_, _≤_};
 ghost use lib.Dec.{ltb};
 ghost use lib.ListN.{length, drop};
-ghost use Rattle.decode.specs.Cells.{cellOf};
-ghost use Rattle.decode.specs.Lengths.{offsetLength};
-ghost use Rattle.decode_shapes.specs.declared.Shape.the-variants.{MovMemory};
-ghost use Rattle.lister.specs.Items.{toOf, wholeOf, itemOf, behindOf};
-
-// What bytes begin with: a whole instruction with the operand of MOV M,M's second pair and its length, a byte at which none
-// starts, or nothing.
-pub enum Item {
-    Whole {
-        shape: Shape,
-        to: Memory,
-        length: u32,
-    },
-    Byte,
-    End,
-}
+ghost use Rattle.instruction_rules.specs.Cells.{cellOf};
+ghost use Rattle.instruction_rules.specs.Lengths.{offsetLength};
+ghost use Rattle.instruction_rules.specs.declared.Shape.the-variants.{MovMemory};
+ghost use Rattle.listing_rules.specs.Items.{toOf, wholeOf, itemOf, behindOf};
 
 // The opcodes that no instruction has, a bit for each.
 const UNUSED: u64 = 0x90080000FFF020FA;

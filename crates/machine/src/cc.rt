@@ -1,9 +1,9 @@
 // CC taken apart into its fields and put together of them, and whether two sets of fields are the same.
-use crate::Fields;
+use ground_rules::Fields;
 ghost use mathlib.Core.Path.{_≡_};
 ghost use Prim.Native.Nat.{_≤_};
-ghost use Rattle.machine.specs.Cc as Cc;
-ghost use Rattle.machine.specs.Cc.{bitWorth, sameFlag, sameFields};
+ghost use Rattle.ground_rules.specs.Cc as Cc;
+ghost use Rattle.ground_rules.specs.Cc.{bitWorth, sameFlag, sameFields};
 
 // The fields of a CC.
 pub fn split(cc: u16) -> Fields

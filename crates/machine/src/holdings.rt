@@ -1,7 +1,7 @@
 // The held byte of a channel as one number: 0 for none, 256 + the byte.
-use crate::Held;
+use ground_rules::Held;
 ghost use mathlib.Core.Path.{_≡_};
-ghost use Rattle.machine.specs.Holdings.{heldNumber, heldFrom, isHeldNumber};
+ghost use Rattle.ground_rules.specs.Holdings.{heldNumber, heldFrom, isHeldNumber};
 
 // The number that stands for what is held.
 pub fn number(held: Held) -> u16

@@ -1,7 +1,7 @@
 // The fields of PSW under their names.
 ghost use mathlib.Core.Path.{_≡_};
-ghost use Rattle.machine.specs.Psw as Psw;
-ghost use Rattle.machine.specs.Psw.{withPsw};
+ghost use Rattle.ground_rules.specs.Psw as Psw;
+ghost use Rattle.ground_rules.specs.Psw.{withPsw};
 
 // The numbers of its bits.
 pub const DESTINATION_WIDE: u32 = 0;

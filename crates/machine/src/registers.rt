@@ -1,9 +1,9 @@
 // The registers of a channel by RRR, and the bases by MM.
-use crate::Channel;
 use crate::cc;
-use memory::Pointer;
+use ground_rules::Channel;
+use ground_rules::Pointer;
 ghost use mathlib.Core.Path.{_≡_};
-ghost use Rattle.machine.specs.Registers.{registerOf, tagOf, withRegister, baseOf};
+ghost use Rattle.ground_rules.specs.Registers.{registerOf, tagOf, withRegister, baseOf};
 
 // The value of a register: a pointer's address, or 16 bits.
 pub fn value(c: Channel, rrr: u32) -> u32

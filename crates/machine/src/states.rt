@@ -1,18 +1,18 @@
 // A fresh state, a state after reset, a sound state, and the channels of a state by their names and numbers.
-use crate::Board;
-use crate::Channel;
-use crate::Held;
-use crate::Made;
-use crate::Mode;
-use crate::State;
 use crate::cc;
-use memory::Pointer;
+use ground_rules::Board;
+use ground_rules::Channel;
+use ground_rules::Held;
+use ground_rules::Made;
+use ground_rules::Mode;
+use ground_rules::Pointer;
+use ground_rules::State;
 ghost use mathlib.Core.Bool.{false};
 ghost use mathlib.Core.Path.{_≡_};
-ghost use Rattle.memory.specs.Buffers.{lent};
-ghost use Rattle.machine.specs.Outcomes.{givenNumber};
-ghost use Rattle.machine.specs.States as States;
-ghost use Rattle.machine.specs.States.{boardWith, idleChannel, blankState, resetState, freshOf, channelOf, withChannel, withLast, soundChannel, fieldsAgree, isRunning, isSuspended, blockOf, isChannel, isSecond, channelNumber};
+ghost use Rattle.ground_rules.specs.Buffers.{lent};
+ghost use Rattle.ground_rules.specs.Outcomes.{givenNumber};
+ghost use Rattle.ground_rules.specs.States as States;
+ghost use Rattle.ground_rules.specs.States.{boardWith, idleChannel, blankState, resetState, freshOf, channelOf, withChannel, withLast, soundChannel, fieldsAgree, isRunning, isSuspended, blockOf, isChannel, isSecond, channelNumber};
 
 // A channel with all at 0 and idle.
 pub fn idle() -> Channel

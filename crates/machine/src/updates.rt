@@ -1,13 +1,13 @@
 // A channel with some of its registers changed and every other as it was.
-use crate::Channel;
-use crate::Held;
-use crate::Mode;
 use crate::psw;
-use memory::Pointer;
+use ground_rules::Channel;
+use ground_rules::Held;
+use ground_rules::Mode;
+use ground_rules::Pointer;
 ghost use mathlib.Core.Bool.{false};
 ghost use mathlib.Core.Path.{_≡_};
-ghost use Rattle.machine.specs.Updates as Updates;
-ghost use Rattle.machine.specs.Updates.{withControl, renewed, holding, dropped, stoppedPsw};
+ghost use Rattle.ground_rules.specs.Updates as Updates;
+ghost use Rattle.ground_rules.specs.Updates.{withControl, renewed, holding, dropped, stoppedPsw};
 
 // The channel with other TP, PP, PSW, mode and mark.
 pub fn with_control(c: Channel, tp: Pointer, pp: u32, psw: u8, mode: Mode, armed: bool) -> Channel

@@ -1,18 +1,13 @@
 // System and I/O memory as the caller lends them, two byte buffers of any length: every read and store has a meaning,
 // also beyond the lent end.
+use ground_rules::Pointer;
 ghost use mathlib.Core.Path.{_≡_};
 ghost use Prim.Native.Nat.{_+_};
 ghost use lib.ListN.{getD, set};
-ghost use Rattle.memory.specs.Buffers.{lent, indexOf, lentAt, touchableAt, byteAt, storeByte, withinLimits};
-ghost use Rattle.memory.specs.Values as Values;
-ghost use Rattle.memory.specs.Values.{wordAt, doublewordAt, pointerAt, storeWord, storeDoubleword, storePointer};
-ghost use Rattle.memory.specs.Places.{span, allLent, allTouchable};
-
-// A pointer: 20 bits of address, and the tag that names its space (false system, true I/O).
-pub struct Pointer {
-    pub address: u32,
-    pub tag: bool,
-}
+ghost use Rattle.ground_rules.specs.Buffers.{lent, indexOf, lentAt, touchableAt, byteAt, storeByte, withinLimits};
+ghost use Rattle.ground_rules.specs.Values as Values;
+ghost use Rattle.ground_rules.specs.Values.{wordAt, doublewordAt, pointerAt, storeWord, storeDoubleword, storePointer};
+ghost use Rattle.ground_rules.specs.Places.{span, allLent, allTouchable};
 
 // The place n bytes on.
 pub fn onward(p: Pointer, n: u32) -> Pointer

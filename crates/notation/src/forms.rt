@@ -1,37 +1,21 @@
 // The places of an instruction's operands, and the characters that its bytes put there.
 use crate::mnemonics;
 use crate::pieces;
-use crate::pieces::Pieces;
-use decode_shapes::Memory;
-use decode_shapes::Shape;
-use decode_shapes::Work;
+use instruction_rules::Memory;
+use instruction_rules::Shape;
+use instruction_rules::Work;
+use listing_rules::Pieces;
+use listing_rules::Slot;
+use listing_rules::Slots;
 ghost use mathlib.Core.Path.{_≡_};
 ghost use mathlib.Core.List.{[], _∷_};
 ghost use lib.Dec.{eqb};
 ghost use lib.ListN.{getD};
-ghost use Rattle.words.specs.Choice.{pick};
-ghost use Rattle.notation.specs.Characters.{numberText, heldIn, heldIn4};
-ghost use Rattle.notation.specs.Mnemonics.{isJump};
-ghost use Rattle.notation.specs.declared.forms.Slot.the-variants.{Empty, Name, Number, Target};
-ghost use Rattle.notation.specs.Forms.{widthOf, afterOffset, slots, slotsOf, dataFrom, reachFrom, targetOf, wordBytes, filled, registerName, baseName, modeText, offsetText, following};
-
-// A place for an operand: none, a register, memory and where its offset byte lies, a number or a jump's target and where its
-// bytes lie and whether there are two, a bit or a width.
-pub enum Slot {
-    Empty,
-    Name(u32),
-    Place(Memory, u32),
-    Number(u32, bool),
-    Target(u32, bool),
-    Digit(u32),
-}
-
-// The places of a line.
-pub struct Slots {
-    pub first: Slot,
-    pub second: Slot,
-    pub third: Slot,
-}
+ghost use Rattle.ground_rules.specs.Choice.{pick};
+ghost use Rattle.listing_rules.specs.Characters.{numberText, heldIn, heldIn4};
+ghost use Rattle.listing_rules.specs.Mnemonics.{isJump};
+ghost use Rattle.listing_rules.specs.declared.Slot.the-variants.{Empty, Name, Number, Target};
+ghost use Rattle.listing_rules.specs.Forms.{widthOf, afterOffset, slots, slotsOf, dataFrom, reachFrom, targetOf, wordBytes, filled, registerName, baseName, modeText, offsetText, following};
 
 // The width of a side.
 fn width(wide: bool) -> u32

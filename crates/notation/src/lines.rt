@@ -2,19 +2,14 @@
 use crate::forms;
 use crate::mnemonics;
 use crate::pieces;
-use decode_shapes::Memory;
-use decode_shapes::Shape;
+use instruction_rules::Memory;
+use instruction_rules::Shape;
+use listing_rules::Line;
 ghost use mathlib.Core.Path.{_≡_};
 ghost use Prim.Native.Nat.{_≤_};
 ghost use lib.ListN.{length, take};
-ghost use Rattle.notation.specs.Mnemonics.{isListed};
-ghost use Rattle.notation.specs.Lines.{instructionLine, dataLine, textIn};
-
-// A line: its characters, the line feed too, and how many there are.
-pub struct Line {
-    pub chars: [u8; 28],
-    pub len: usize,
-}
+ghost use Rattle.listing_rules.specs.Mnemonics.{isListed};
+ghost use Rattle.listing_rules.specs.Lines.{instructionLine, dataLine, textIn};
 
 // Whether an instruction has a line of its own: all but CALL with W 0.
 pub fn listed(s: Shape) -> bool

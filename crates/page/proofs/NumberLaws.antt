@@ -10,7 +10,7 @@ use borrow.Author.Tests.{eq-eqb, ne-eqb}
 use lib.Dec.{eqb}
 use lib.ListN.{length, drop, getD, length-drop}
 use lib.Seq.{drop-cons}
-use Rattle.words.specs.Choice.{pick}
+use Rattle.ground_rules.specs.Choice.{pick}
 use Rattle.page.specs.Numbers.{eightDigits, hex, tenDigits, unpadded, decimal}
 
 -- ---- lengths

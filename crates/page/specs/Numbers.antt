@@ -4,9 +4,9 @@ use mathlib.Core.List.{List, [], _∷_}
 use Prim.Native.Nat.{ℕ, _+_, _-_, _/_, _%_}
 use lib.Dec.{eqb, ltb}
 use lib.ListN.{drop}
-use Rattle.words.specs.Choice.{pick}
-use Rattle.step.specs.declared.Kind.{Kind}
-use Rattle.step.specs.declared.Kind.the-variants.{Nothing, Instruction, Transfer, External}
+use Rattle.ground_rules.specs.Choice.{pick}
+use Rattle.turn_rules.specs.declared.Kind.{Kind}
+use Rattle.turn_rules.specs.declared.Kind.the-variants.{Nothing, Instruction, Transfer, External}
 
 -- a hexadecimal digit; from ten on a letter, small or capital
 unfoldable pub glyph : Bool → ℕ → ℕ

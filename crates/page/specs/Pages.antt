@@ -4,7 +4,7 @@ use mathlib.Core.Path.{_≡_}
 use Prim.Native.Nat.{ℕ, _+_, _≤_}
 use lib.Dec.{ltb}
 use lib.ListN.{length, set, drop}
-use Rattle.words.specs.Choice.{pick}
+use Rattle.ground_rules.specs.Choice.{pick}
 
 -- the buffer's bytes, and how many of them are text
 pub record Page : Type 0 where

@@ -1,5 +1,5 @@
 // Text put into a lent buffer behind the text that it has: characters, numbers, and the letter of a kind of step. What has no room is left out.
-use step::Kind;
+use turn_rules::Kind;
 ghost use mathlib.Core.Path.{_≡_};
 ghost use Prim.Native.Nat.{_≤_, _<_};
 ghost use lib.ListN.{length, drop};

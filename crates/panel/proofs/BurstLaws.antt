@@ -8,18 +8,18 @@ use mathlib.Core.Path.{_≡_, refl, sym, ap, ap₂, _∙_}
 use native.Mathlib.Decide.{ℕ-discrete}
 use native.Mathlib.Nat.{not-suc-le-zero}
 use native.Mathlib.Omega.{arith}
-use Rattle.machine.proofs.ChannelLaws.{put-back}
-use Rattle.machine.specs.States.{channelOf, withChannel, withLast, soundChannel, fieldsAgree, isRunning}
-use Rattle.machine.specs.declared.Channel.{Channel}
-use Rattle.machine.specs.declared.State.{State}
-use Rattle.memory.specs.Buffers.{Buffers, withinLimits}
-use Rattle.step.proofs.StayLaws.{mine-after, idle-after}
-use Rattle.step.specs.Step.{Step, refusedStep, doneStep, settledStep, stepOf}
-use Rattle.step.specs.declared.Kind.{Kind}
-use Rattle.words.specs.Choice.{pick}
+use Rattle.ground_rules.proofs.ChannelLaws.{put-back}
+use Rattle.ground_rules.specs.States.{channelOf, withChannel, withLast, soundChannel, fieldsAgree, isRunning}
+use Rattle.ground_rules.specs.declared.Channel.{Channel}
+use Rattle.ground_rules.specs.declared.State.{State}
+use Rattle.ground_rules.specs.Buffers.{Buffers, withinLimits}
+use Rattle.turn_rules.proofs.StayLaws.{mine-after, idle-after}
+use Rattle.turn_rules.specs.Step.{Step, refusedStep, doneStep, settledStep, stepOf}
+use Rattle.turn_rules.specs.declared.Kind.{Kind}
+use Rattle.ground_rules.specs.Choice.{pick}
 use Rattle.panel.specs.Bursts.{Own, BurstLeft, burst, burstFrom}
-use Rattle.panel.specs.Run.{Run, ran, stepsFrom}
-use Rattle.panel.proofs.RunLaws.{stops, goes}
+use Rattle.run_rules.specs.Run.{Run, ran, stepsFrom}
+use Rattle.run_rules.proofs.RunLaws.{stops, goes}
 
 -- ---- step by step
 

@@ -6,39 +6,39 @@ use lib.Dec.{eqb}
 use mathlib.Core.Bool.{Bool, true, false, not, _&&_, _||_}
 use mathlib.Core.Path.{_≡_, refl, sym, ap, ap₂, subst, _∙_}
 use native.Mathlib.Omega.{arith}
-use Rattle.execute.proofs.ChannelLaws.{execute-sound, execute-agree}
-use Rattle.execute.proofs.MemoryLaws.{lengths-kept as executed-lengths}
-use Rattle.machine.proofs.ChannelLaws.{sound-channel-of}
-use Rattle.machine.proofs.ConditionLaws.{running-is}
-use Rattle.machine.proofs.FieldLaws.{agree-channel-of}
-use Rattle.machine.specs.Psw.{transferring}
-use Rattle.machine.specs.States.{channelOf, withChannel, withLast, soundChannel, sound, fieldsAgree, agree, isRunning, blockOf, busyIn}
-use Rattle.machine.specs.Updates.{withTransfer}
-use Rattle.machine.specs.declared.Channel.{Channel}
-use Rattle.machine.specs.declared.Mode.{Mode}
-use Rattle.machine.specs.declared.State.{State}
-use Rattle.memory.specs.Buffers.{Buffers, withinLimits}
-use Rattle.step.proofs.SoundLaws.{done-sound, done-agree, done-board, entry-sound, entry-agree, entry-again, limits-kept}
-use Rattle.step.proofs.StayLaws.{mine-after, transfer-stays, instruction-stays}
-use Rattle.step.proofs.StepLaws.{transfer-kept, execute-kept}
-use Rattle.step.specs.Choosing.{choiceOf}
-use Rattle.step.specs.Step.{Step, refusedStep, doneStep, settledStep, transferStep, instructionStep, externalStep, channelStep, chosenStep, entryNumber, stepOf}
-use Rattle.step.specs.declared.Kind.the-variants.{Transfer, Instruction, External}
-use Rattle.step.specs.declared.turns.Choice.{Choice}
-use Rattle.step.specs.declared.turns.Choice.the-variants.{Nobody, Ends, Steps}
-use Rattle.transfer.proofs.KeptLaws.{only-these, transfer-sound, external-sound, transfer-agree, external-agree, lengths-kept}
-use Rattle.transfer.specs.Ends.{externallyEnded}
-use Rattle.transfer.specs.Parts.{isHalf}
-use Rattle.transfer.specs.Steps.{transferOf}
-use Rattle.words.proofs.ChoiceLaws.{apart, both-left, both-right}
-use Rattle.words.specs.Choice.{pick}
+use Rattle.instruction_rules.proofs.ChannelLaws.{execute-sound, execute-agree}
+use Rattle.instruction_rules.proofs.MemoryLaws.{lengths-kept as executed-lengths}
+use Rattle.ground_rules.proofs.ChannelLaws.{sound-channel-of}
+use Rattle.ground_rules.proofs.ConditionLaws.{running-is}
+use Rattle.ground_rules.proofs.FieldLaws.{agree-channel-of}
+use Rattle.ground_rules.specs.Psw.{transferring}
+use Rattle.ground_rules.specs.States.{channelOf, withChannel, withLast, soundChannel, sound, fieldsAgree, agree, isRunning, blockOf, busyIn}
+use Rattle.ground_rules.specs.Updates.{withTransfer}
+use Rattle.ground_rules.specs.declared.Channel.{Channel}
+use Rattle.ground_rules.specs.declared.Mode.{Mode}
+use Rattle.ground_rules.specs.declared.State.{State}
+use Rattle.ground_rules.specs.Buffers.{Buffers, withinLimits}
+use Rattle.turn_rules.proofs.SoundLaws.{done-sound, done-agree, done-board, entry-sound, entry-agree, entry-again, limits-kept}
+use Rattle.turn_rules.proofs.StayLaws.{mine-after, transfer-stays, instruction-stays}
+use Rattle.turn_rules.proofs.StepLaws.{transfer-kept, execute-kept}
+use Rattle.turn_rules.specs.Choosing.{choiceOf}
+use Rattle.turn_rules.specs.Step.{Step, refusedStep, doneStep, settledStep, transferStep, instructionStep, externalStep, channelStep, chosenStep, entryNumber, stepOf}
+use Rattle.turn_rules.specs.declared.Kind.the-variants.{Transfer, Instruction, External}
+use Rattle.turn_rules.specs.declared.Choice.{Choice}
+use Rattle.turn_rules.specs.declared.Choice.the-variants.{Nobody, Ends, Steps}
+use Rattle.transfer_rules.proofs.KeptLaws.{only-these, transfer-sound, external-sound, transfer-agree, external-agree, lengths-kept}
+use Rattle.transfer_rules.specs.Ends.{externallyEnded}
+use Rattle.transfer_rules.specs.Parts.{isHalf}
+use Rattle.transfer_rules.specs.Steps.{transferOf}
+use Rattle.ground_rules.proofs.ChoiceLaws.{apart, both-left, both-right}
+use Rattle.ground_rules.specs.Choice.{pick}
 use Rattle.panel.specs.Bursts.{Own, BurstLeft, burst, burstFrom, moves, transfersOn, executes, executesOn, untilOf, sharedOf, nothingShared, stateOf, handsOf, pairAfter, roundAfter, restOf, Rounded}
-use Rattle.panel.specs.Run.{Run, ran, stepsFrom}
+use Rattle.run_rules.specs.Run.{Run, ran, stepsFrom}
 use Rattle.panel.specs.declared.bursts.Pair.{Pair}
 use Rattle.panel.specs.declared.bursts.Round.{Round}
 use Rattle.panel.specs.declared.bursts.Shared.{Shared}
 use Rattle.panel.proofs.BurstLaws.{Turns, afterBurst, Bounds, bounds, joins}
-use Rattle.panel.proofs.RunLaws.{stops, goes}
+use Rattle.run_rules.proofs.RunLaws.{stops, goes}
 
 -- ---- the two channels at hand
 

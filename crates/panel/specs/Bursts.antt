@@ -3,18 +3,18 @@ use mathlib.Core.Bool.{Bool, false, not, _&&_}
 use Prim.Native.Nat.{ℕ, zero, suc, _+_, _-_, _<_, _≤_}
 use mathlib.Core.Path.{_≡_}
 use lib.Dec.{eqb}
-use Rattle.words.specs.Choice.{pick}
-use Rattle.memory.specs.Buffers.{Buffers}
-use Rattle.machine.specs.declared.Channel.{Channel}
-use Rattle.machine.specs.declared.Mode.{Mode}
-use Rattle.machine.specs.declared.State.{State}
-use Rattle.machine.specs.Psw.{transferring}
-use Rattle.machine.specs.States.{boardWith, channelOf, isRunning}
-use Rattle.transfer.specs.Parts.{isHalf}
-use Rattle.transfer.specs.Steps.{transferOf}
-use Rattle.execute.specs.Execute.{executeOf}
-use Rattle.step.specs.Step.{entryNumber}
-use Rattle.panel.specs.Run.{Run, ran, stepsFrom}
+use Rattle.ground_rules.specs.Choice.{pick}
+use Rattle.ground_rules.specs.Buffers.{Buffers}
+use Rattle.ground_rules.specs.declared.Channel.{Channel}
+use Rattle.ground_rules.specs.declared.Mode.{Mode}
+use Rattle.ground_rules.specs.declared.State.{State}
+use Rattle.ground_rules.specs.Psw.{transferring}
+use Rattle.ground_rules.specs.States.{boardWith, channelOf, isRunning}
+use Rattle.transfer_rules.specs.Parts.{isHalf}
+use Rattle.transfer_rules.specs.Steps.{transferOf}
+use Rattle.instruction_rules.specs.Execute.{executeOf}
+use Rattle.turn_rules.specs.Step.{entryNumber}
+use Rattle.run_rules.specs.Run.{Run, ran, stepsFrom}
 use Rattle.panel.specs.declared.bursts.Pair.{Pair}
 use Rattle.panel.specs.declared.bursts.Round.{Round}
 use Rattle.panel.specs.declared.bursts.Shared.{Shared}

@@ -1,20 +1,20 @@
 // Steps of one channel in a row with no choice between them, and rounds of them until a run ends.
-use crate::Ran;
-use machine::Board;
-use machine::Channel;
-use machine::Mode;
-use machine::State;
-use step::turns::Choice;
+use ground_rules::Board;
+use ground_rules::Channel;
+use ground_rules::Mode;
+use ground_rules::State;
+use run_rules::Ran;
+use turn_rules::Choice;
 ghost use mathlib.Core.Path.{_≡_};
 ghost use mathlib.Core.Bool.{true, false};
 ghost use Prim.Native.Nat.{_-_, _<_, _≤_};
-ghost use Rattle.memory.specs.Buffers.{lent};
-ghost use Rattle.machine.specs.Psw.{transferring};
-ghost use Rattle.transfer.specs.Parts.{isHalf};
-ghost use Rattle.step.specs.Choosing.{choiceOf};
-ghost use Rattle.step.specs.Step.{entryNumber};
-ghost use Rattle.step.specs.declared.turns.Choice.the-variants.{Steps};
-ghost use Rattle.panel.specs.Run.{ran, stepsFrom};
+ghost use Rattle.ground_rules.specs.Buffers.{lent};
+ghost use Rattle.ground_rules.specs.Psw.{transferring};
+ghost use Rattle.transfer_rules.specs.Parts.{isHalf};
+ghost use Rattle.turn_rules.specs.Choosing.{choiceOf};
+ghost use Rattle.turn_rules.specs.Step.{entryNumber};
+ghost use Rattle.turn_rules.specs.declared.Choice.the-variants.{Steps};
+ghost use Rattle.run_rules.specs.Run.{ran, stepsFrom};
 ghost use Rattle.panel.specs.Bursts.{burst, burstFrom, moves, transfersOn, executes, executesOn, untilOf, nothingShared, stateOf, handsOf, pairAfter, Rounded};
 
 // The two channels of a run, the one at hand and the other: whether the one at hand is channel 2, and whether that was the last to step.

@@ -1,20 +1,15 @@
 // The panel's side: one call from C that runs a channel's program in two lent buffers.
-use machine::Made;
-use machine::State;
+use ground_rules::Made;
+use ground_rules::State;
+use run_rules::Ran;
 ghost use mathlib.Core.Path.{_≡_};
-ghost use Rattle.memory.specs.Buffers.{lent};
-ghost use Rattle.machine.specs.Outcomes.{outcome};
-ghost use Rattle.panel.specs.Run.{ran, stepsFrom, attendedRun, startedRun, callNumber, runOf, answerOf, called};
-ghost use Rattle.attention.specs.Attention.{attentionOf};
+ghost use Rattle.ground_rules.specs.Buffers.{lent};
+ghost use Rattle.ground_rules.specs.Outcomes.{outcome};
+ghost use Rattle.run_rules.specs.Run.{ran, stepsFrom, attendedRun, startedRun, callNumber, runOf, answerOf, called};
+ghost use Rattle.attention_rules.specs.Attention.{attentionOf};
 
 // Steps of one channel in a row.
 mod bursts;
-
-// How a run ended: the number that stopped it, 0 at the limit, and the steps done.
-pub struct Ran {
-    pub number: u32,
-    pub steps: u32,
-}
 
 // Steps until a number other than 0 or the limit, of at most 65,535; what they are given is tested once.
 fn steps(s: State, sys: &mut [u8], io: &mut [u8], lines: u32, limit: u16) -> Ran

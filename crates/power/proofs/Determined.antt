@@ -5,8 +5,8 @@ use contract.Lifetimes.{Lfts}
 use denote.Ref.{now}
 use denote.Triple.Clauses.{AtExit}
 use mathlib.Core.Path.{_≡_, sym, _∙_}
-use Rattle.machine.specs.Outcomes.{outcome}
-use Rattle.memory.specs.Buffers.{buffers}
+use Rattle.ground_rules.specs.Outcomes.{outcome}
+use Rattle.ground_rules.specs.Buffers.{buffers}
 use Rattle.power.proofs.power_up.Kinds as kinds
 use Rattle.power.proofs.power_up.Reads as reads
 

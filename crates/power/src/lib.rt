@@ -1,12 +1,12 @@
 // Power-up: the processor reads in system memory what its board set up, whole or not at all.
-use machine::Answer;
-use machine::Board;
-use machine::State;
+use ground_rules::Answer;
+use ground_rules::Board;
+use ground_rules::State;
 ghost use mathlib.Core.Path.{_≡_};
-ghost use Rattle.memory.specs.Buffers.{lent};
-ghost use Rattle.memory.specs.Places.{allTouchable};
-ghost use Rattle.machine.specs.Outcomes.{outcome};
-ghost use Rattle.power.specs.Power.{configurationOf, controlOf, boardOf, powerPlaces, powerNumber, powerUpOf, powerCount};
+ghost use Rattle.ground_rules.specs.Buffers.{lent};
+ghost use Rattle.ground_rules.specs.Places.{allTouchable};
+ghost use Rattle.ground_rules.specs.Outcomes.{outcome};
+ghost use Rattle.attention_rules.specs.Power.{configurationOf, controlOf, boardOf, powerPlaces, powerNumber, powerUpOf, powerCount};
 
 // Where SYSBUS stands.
 const SYSBUS_AT: u32 = 0xFFFF6;

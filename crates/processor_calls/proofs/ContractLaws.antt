@@ -4,8 +4,8 @@ use Prim.Native.Nat.{ℕ}
 use mathlib.Core.List.{List}
 use mathlib.Core.Logic.{_↔_}
 use mathlib.Core.Path.{_≡_, sym, ap, subst, _∙_}
-use Rattle.memory.specs.Buffers.{Buffers}
-use Rattle.machine.specs.Conditions.{Check, Given}
+use Rattle.ground_rules.specs.Buffers.{Buffers}
+use Rattle.ground_rules.specs.Conditions.{Check, Given}
 use Rattle.processors.proofs.LiftLaws.{Stays, lifts, lifted-none, lifted-exactly, lifted-refused}
 use Rattle.processors.specs.Lifting.{Called, Lifted, liftedTo, lifted}
 use Rattle.processors.specs.Lifts.{seenBy, LeftAlone, checksOn}

@@ -2,8 +2,8 @@
 -- Assumes nothing.
 use Prim.Native.Nat.{ℕ}
 use mathlib.Core.Path.{_≡_, sym, ap, _∙_}
-use Rattle.memory.specs.Buffers.{Buffers, buffers}
-use Rattle.machine.specs.States.{isChannel, isSecond}
+use Rattle.ground_rules.specs.Buffers.{Buffers, buffers}
+use Rattle.ground_rules.specs.States.{isChannel, isSecond}
 use Rattle.processors.proofs.LiftLaws.{lifted-none}
 use Rattle.processors.specs.Lifting.{Called, liftedTo, calledOn, lifted}
 use Rattle.processors.specs.Processors.{Processors, processors, Memories, memories, processorOf, withProcessor, ioOf, buffersOf, withBuffers}

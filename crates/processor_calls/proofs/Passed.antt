@@ -14,8 +14,8 @@ use mathlib.Core.Path.{_≡_, refl}
 use prog.Memory.{Memory}
 use prog.Routine.{Routine}
 use prog.Wp.{Heap}
-use Rattle.memory.specs.Buffers.{buffers}
-use Rattle.service.specs.Calls.{made, served, freshMade, resetMade, powerServed, attentionServed, stepServed}
+use Rattle.ground_rules.specs.Buffers.{buffers}
+use Rattle.state_rules.specs.Calls.{made, served, freshMade, resetMade, powerServed, attentionServed, stepServed}
 use Rattle.schedule_calls.specs.Calls.{scheduled, scheduleServed}
 use Rattle.schedule_calls.specs.Turns.{standing}
 use Rattle.processor_calls.proofs.single.iop89_fresh.Kinds as fresh-kinds

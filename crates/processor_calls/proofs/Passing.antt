@@ -28,7 +28,7 @@ use denote.Steps.{nothing, peeks, heard}
 use denote.Triple.Clauses.{ensured, lasts}
 use denote.Triple.Spec.{tripleOf}
 use denote.Triple.Statement.{Contract}
-use Rattle.memory.specs.Buffers.{buffers}
+use Rattle.ground_rules.specs.Buffers.{buffers}
 use Rattle.schedule.specs.declared.ScheduleRow.{ScheduleRow}
 use Rattle.schedule.proofs.ScheduleRow as R
 use Rattle.schedule_calls.specs.Calls.{scheduled, scheduleServed, ScheduleMet}

@@ -23,16 +23,16 @@ use mir.Syntax.{Width, w8, w32, w64}
 use prog.Memory.{Memory}
 use prog.Routine.{Routine}
 use prog.Wp.{Heap}
-use Rattle.words.specs.Choice.{pick}
-use Rattle.memory.specs.Buffers.{Buffers}
-use Rattle.machine.specs.Conditions.{Check, check, Given}
-use Rattle.machine.specs.States.{resetState}
-use Rattle.service.proofs.ForthLaws.{bytes-back}
-use Rattle.service.proofs.NumberLaws.{told-state, told-17, reset-given, power-given-on, attention-given, step-given, sweep-given-on}
+use Rattle.ground_rules.specs.Choice.{pick}
+use Rattle.ground_rules.specs.Buffers.{Buffers}
+use Rattle.ground_rules.specs.Conditions.{Check, check, Given}
+use Rattle.ground_rules.specs.States.{resetState}
+use Rattle.state_rules.proofs.ForthLaws.{bytes-back}
+use Rattle.state_rules.proofs.NumberLaws.{told-state, told-17, reset-given, power-given-on, attention-given, step-given, sweep-given-on}
 use Rattle.service.proofs.OutcomeLaws.{Kept, power-kept, attention-kept, step-kept, sweep-kept}
-use Rattle.service.specs.Calls.{made, answerFrom, resetMade}
-use Rattle.service.specs.Conditions.{NoState, Bytes, resetChecksOn, powerChecksOn, attentionChecksOn, stepChecksOn, sweepChecksOn}
-use Rattle.service.specs.Layout.{bytesOf, stateIn, isState, stateLength}
+use Rattle.state_rules.specs.Calls.{made, answerFrom, resetMade}
+use Rattle.state_rules.specs.Conditions.{NoState, Bytes, resetChecksOn, powerChecksOn, attentionChecksOn, stepChecksOn, sweepChecksOn}
+use Rattle.state_rules.specs.Layout.{bytesOf, stateIn, isState, stateLength}
 use Rattle.schedule.specs.Conditions.{UnknownIn}
 use Rattle.schedule.specs.Reports.{Scheduled, scheduleOf}
 use Rattle.schedule.specs.Rows.{Bench, bench}

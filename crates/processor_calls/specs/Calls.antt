@@ -1,8 +1,8 @@
 -- The calls on two processors for C, each state in bytes: the single call on bytes, lifted.
 use mathlib.Core.List.{List}
 use Prim.Native.Nat.{ℕ}
-use Rattle.memory.specs.Buffers.{Buffers}
-use Rattle.service.specs.Calls.{Made, Service, resetMade, powerServed, attentionServed, stepServed, sweepServed}
+use Rattle.ground_rules.specs.Buffers.{Buffers}
+use Rattle.state_rules.specs.Calls.{Made, Service, resetMade, powerServed, attentionServed, stepServed, sweepServed}
 use Rattle.schedule.specs.Reports.{noReport, putOver}
 use Rattle.schedule.specs.declared.ScheduleRow.{ScheduleRow}
 use Rattle.schedule_calls.specs.Calls.{ScheduleService, scheduleServed}

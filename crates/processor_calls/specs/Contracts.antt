@@ -4,8 +4,8 @@ use mathlib.Core.List.{List}
 use mathlib.Core.Logic.{_↔_}
 use mathlib.Core.Path.{_≡_}
 use Prim.Native.Nat.{ℕ}
-use Rattle.memory.specs.Buffers.{Buffers}
-use Rattle.machine.specs.Conditions.{Check, Given}
+use Rattle.ground_rules.specs.Buffers.{Buffers}
+use Rattle.ground_rules.specs.Conditions.{Check, Given}
 use Rattle.processors.specs.Lifting.{Called, Lifted, liftedTo, lifted}
 use Rattle.processors.specs.Lifts.{seenBy, SameFor, LeftAlone, NoProcessor, checksOn}
 use Rattle.processors.specs.Processors.{Processors, Memories, processorNamed, processorNumber, processorOf, buffersOf}

@@ -2,8 +2,8 @@
 // code once.
 use schedule::ScheduleRow;
 ghost use mathlib.Core.Path.{_≡_};
-ghost use Rattle.memory.specs.Buffers.{lent};
-ghost use Rattle.service.specs.Calls.{made, served, freshMade, resetMade, powerServed, attentionServed, stepServed};
+ghost use Rattle.ground_rules.specs.Buffers.{lent};
+ghost use Rattle.state_rules.specs.Calls.{made, served, freshMade, resetMade, powerServed, attentionServed, stepServed};
 ghost use Rattle.schedule_calls.specs.Calls.{scheduled, scheduleServed};
 ghost use Rattle.schedule_calls.specs.Turns.{standing};
 

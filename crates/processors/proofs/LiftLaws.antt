@@ -7,12 +7,12 @@ use mathlib.Core.Bool.{Bool, true, false, not}
 use mathlib.Core.List.{List}
 use mathlib.Core.Logic.{inl, inr, ⊎-elim, _↔_}
 use mathlib.Core.Path.{_≡_, refl, sym, ap, ap₂, subst, _∙_}
-use Rattle.words.specs.Choice.{pick}
-use Rattle.memory.specs.Buffers.{Buffers, buffers}
-use Rattle.machine.specs.Conditions.{Check, Given}
-use Rattle.machine.specs.States.{isChannel, isSecond, channelNumber}
-use Rattle.machine.proofs.ChannelLaws.{named}
-use Rattle.machine.proofs.ConditionLaws.{Told, told-eqb, told-or, told-exactly}
+use Rattle.ground_rules.specs.Choice.{pick}
+use Rattle.ground_rules.specs.Buffers.{Buffers, buffers}
+use Rattle.ground_rules.specs.Conditions.{Check, Given}
+use Rattle.ground_rules.specs.States.{isChannel, isSecond, channelNumber}
+use Rattle.ground_rules.proofs.ChannelLaws.{named}
+use Rattle.ground_rules.proofs.ConditionLaws.{Told, told-eqb, told-or, told-exactly}
 use Rattle.processors.specs.Lifting.{Called, calledWith, Lifted, liftedTo, calledOn, lifted}
 use Rattle.processors.specs.Lifts.{seenBy, SameFor, LeftAlone, NoProcessor, Lifts, checksOn, Numbers}
 use Rattle.processors.specs.Processors.{Processors, processors, Memories, memories, isProcessor, processorNamed, processorNumber, processorOf, withProcessor, ioOf, buffersOf, withBuffers}

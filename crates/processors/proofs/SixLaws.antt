@@ -5,21 +5,21 @@ use mathlib.Core.Bool.{Bool, true, false}
 use mathlib.Core.List.{List, [], _∷_}
 use mathlib.Core.Logic.{_↔_}
 use mathlib.Core.Path.{_≡_, refl, sym, ap, _∙_}
-use Rattle.words.specs.Choice.{pick}
-use Rattle.machine.proofs.ConditionLaws.{last, rewritten}
-use Rattle.machine.specs.Conditions.{check, Given}
-use Rattle.machine.specs.Outcomes.{Outcome, unless}
-use Rattle.attention.proofs.Numbers.{given-exactly}
-use Rattle.attention.proofs.Outcomes.{refused-nothing}
-use Rattle.attention.specs.Conditions.{attentionChecks}
-use Rattle.power.proofs.Numbers.{power-given}
-use Rattle.power.proofs.Outcomes.{power-refused}
-use Rattle.power.specs.Conditions.{powerChecks}
-use Rattle.step.proofs.NumberLaws.{number-given}
-use Rattle.step.proofs.OutcomeLaws.{refused}
-use Rattle.step.specs.Conditions.{stepChecks}
-use Rattle.step.specs.Step.{Step}
-use Rattle.step.specs.declared.Kind.the-variants.{Nothing}
+use Rattle.ground_rules.specs.Choice.{pick}
+use Rattle.ground_rules.proofs.ConditionLaws.{last, rewritten}
+use Rattle.ground_rules.specs.Conditions.{check, Given}
+use Rattle.ground_rules.specs.Outcomes.{Outcome, unless}
+use Rattle.attention_rules.proofs.Numbers.{given-exactly}
+use Rattle.attention_rules.proofs.Outcomes.{refused-nothing}
+use Rattle.attention_rules.specs.Conditions.{attentionChecks}
+use Rattle.attention_rules.proofs.PowerNumbers.{power-given}
+use Rattle.attention_rules.proofs.PowerOutcomes.{power-refused}
+use Rattle.attention_rules.specs.PowerConditions.{powerChecks}
+use Rattle.turn_rules.proofs.NumberLaws.{number-given}
+use Rattle.turn_rules.proofs.OutcomeLaws.{refused}
+use Rattle.turn_rules.specs.Conditions.{stepChecks}
+use Rattle.turn_rules.specs.Step.{Step}
+use Rattle.turn_rules.specs.declared.Kind.the-variants.{Nothing}
 use Rattle.sweep_rules.proofs.ConditionLaws.{sweep-given}
 use Rattle.sweep_rules.proofs.PassedLaws.{refused-sweep, number-is}
 use Rattle.sweep_rules.specs.Conditions.{sweepChecks}

@@ -1,15 +1,15 @@
 -- The calls of one processor as the lifting takes them, and the six calls on two. No rule of the machine stands here.
 use mathlib.Core.List.{List}
 use Prim.Native.Nat.{ℕ}
-use Rattle.memory.specs.Buffers.{Buffers}
-use Rattle.machine.specs.States.{resetState}
-use Rattle.machine.specs.declared.State.{State}
-use Rattle.attention.specs.Attention.{attentionOf, attentionCount}
-use Rattle.power.specs.Power.{powerUpOf, powerCount}
-use Rattle.step.specs.Step.{stepOf}
-use Rattle.step.specs.Touched.{stepCount}
-use Rattle.step.specs.declared.Kind.{Kind}
-use Rattle.step.specs.declared.Kind.the-variants.{Nothing}
+use Rattle.ground_rules.specs.Buffers.{Buffers}
+use Rattle.ground_rules.specs.States.{resetState}
+use Rattle.ground_rules.specs.declared.State.{State}
+use Rattle.attention_rules.specs.Attention.{attentionOf, attentionCount}
+use Rattle.attention_rules.specs.Power.{powerUpOf, powerCount}
+use Rattle.turn_rules.specs.Step.{stepOf}
+use Rattle.turn_rules.specs.Touched.{stepCount}
+use Rattle.turn_rules.specs.declared.Kind.{Kind}
+use Rattle.turn_rules.specs.declared.Kind.the-variants.{Nothing}
 use Rattle.sweep_rules.specs.Sweep.{sweepOf}
 use Rattle.schedule.specs.Reports.{noReport, scheduleOf}
 use Rattle.schedule.specs.Rows.{bench}

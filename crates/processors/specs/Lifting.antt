@@ -1,8 +1,8 @@
 -- A call of one processor lifted to both.
 use mathlib.Core.Bool.{Bool}
 use Prim.Native.Nat.{ℕ}
-use Rattle.words.specs.Choice.{pick}
-use Rattle.memory.specs.Buffers.{Buffers}
+use Rattle.ground_rules.specs.Choice.{pick}
+use Rattle.ground_rules.specs.Buffers.{Buffers}
 use Rattle.processors.specs.Processors.{Processors, Memories, isProcessor, processorNamed, processorOf, withProcessor, buffersOf, withBuffers}
 
 -- what a call of one processor gives: its answer, its state and both memories after it

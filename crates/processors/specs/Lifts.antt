@@ -4,12 +4,12 @@ use mathlib.Core.List.{List, [], _∷_}
 use mathlib.Core.Logic.{_↔_}
 use mathlib.Core.Path.{_≡_}
 use Prim.Native.Nat.{ℕ}
-use Rattle.memory.specs.Buffers.{Buffers, buffers}
-use Rattle.machine.specs.Conditions.{Check, check, Given}
-use Rattle.attention.specs.Conditions.{attentionChecks}
-use Rattle.power.specs.Conditions.{powerChecks}
-use Rattle.step.specs.Conditions.{stepChecks}
-use Rattle.step.specs.declared.Kind.the-variants.{Nothing}
+use Rattle.ground_rules.specs.Buffers.{Buffers, buffers}
+use Rattle.ground_rules.specs.Conditions.{Check, check, Given}
+use Rattle.attention_rules.specs.Conditions.{attentionChecks}
+use Rattle.attention_rules.specs.PowerConditions.{powerChecks}
+use Rattle.turn_rules.specs.Conditions.{stepChecks}
+use Rattle.turn_rules.specs.declared.Kind.the-variants.{Nothing}
 use Rattle.sweep_rules.specs.Conditions.{sweepChecks}
 use Rattle.schedule.specs.Conditions.{UnknownIn}
 use Rattle.schedule.specs.Reports.{noReport}

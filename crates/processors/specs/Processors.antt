@@ -3,9 +3,9 @@
 use mathlib.Core.Bool.{Bool}
 use mathlib.Core.List.{List}
 use Prim.Native.Nat.{ℕ}
-use Rattle.words.specs.Choice.{pick}
-use Rattle.memory.specs.Buffers.{Buffers, buffers}
-use Rattle.machine.specs.States.{isChannel, isSecond, channelNumber}
+use Rattle.ground_rules.specs.Choice.{pick}
+use Rattle.ground_rules.specs.Buffers.{Buffers, buffers}
+use Rattle.ground_rules.specs.States.{isChannel, isSecond, channelNumber}
 
 -- the states of both, each kept in the same way: as registers or as bytes
 pub record Processors (S : Type 0) : Type 0 where

@@ -3,17 +3,17 @@
 use Prim.Native.Nat.{ℕ}
 use mathlib.Core.Bool.{Bool, true, false}
 use mathlib.Core.Path.{_≡_, refl, sym, ap, subst}
-use Rattle.machine.proofs.ConditionLaws.{Told}
-use Rattle.machine.proofs.FieldLaws.{agreed}
-use Rattle.machine.specs.Cc.{split}
-use Rattle.machine.specs.States.{fieldsAgree, agree}
-use Rattle.machine.specs.declared.Channel.{Channel}
-use Rattle.machine.specs.declared.Fields.{Fields}
-use Rattle.machine.specs.declared.State.{State}
-use Rattle.memory.specs.Buffers.{Buffers}
-use Rattle.step.proofs.OutcomeLaws.{by-step}
-use Rattle.step.proofs.SoundLaws.{entry-agree}
-use Rattle.step.specs.Step.{stepOf}
+use Rattle.ground_rules.proofs.ConditionLaws.{Told}
+use Rattle.ground_rules.proofs.FieldLaws.{agreed}
+use Rattle.ground_rules.specs.Cc.{split}
+use Rattle.ground_rules.specs.States.{fieldsAgree, agree}
+use Rattle.ground_rules.specs.declared.Channel.{Channel}
+use Rattle.ground_rules.specs.declared.Fields.{Fields}
+use Rattle.ground_rules.specs.declared.State.{State}
+use Rattle.ground_rules.specs.Buffers.{Buffers}
+use Rattle.turn_rules.proofs.OutcomeLaws.{by-step}
+use Rattle.turn_rules.proofs.SoundLaws.{entry-agree}
+use Rattle.turn_rules.specs.Step.{stepOf}
 
 abbrev with : Channel → Fields → Channel
 with c fields =

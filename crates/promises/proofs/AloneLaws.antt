@@ -9,27 +9,27 @@ use mathlib.Core.Logic.{⊎-elim, inl, inr}
 use mathlib.Core.Path.{_≡_, refl, sym, ap, ap₂, subst, _∙_}
 use native.Mathlib.Decide.{decLt, decLe}
 use native.Mathlib.Omega.{arith}
-use Rattle.execute.specs.Execute.{Executed, executed, executeOf}
-use Rattle.machine.proofs.ConditionLaws.{running-is, says-running}
-use Rattle.machine.specs.Outcomes.{first, unless, givenNumber}
-use Rattle.machine.specs.Psw.{transferring}
-use Rattle.machine.proofs.FieldLaws.{put-agree, blank-agree}
-use Rattle.machine.specs.Conditions.{Ready}
-use Rattle.machine.specs.States.{boardWith, fieldsAgree, agree, freshState, channelOf, withChannel, channelNumber, isRunning, sound, blockOf, busyIn}
-use Rattle.machine.specs.declared.Channel.{Channel}
-use Rattle.machine.specs.declared.Fields.{Fields}
-use Rattle.machine.specs.declared.Mode.the-variants.{Running}
-use Rattle.machine.specs.declared.State.{State}
-use Rattle.memory.specs.Buffers.{Buffers, spaceOf, limitOf, withinLimits}
-use Rattle.step.proofs.OutcomeLaws.{other-kept, cp-kept, board-kept}
-use Rattle.step.proofs.SoundLaws.{sound-kept, entry-again, entry-agree, step-agree}
-use Rattle.step.proofs.TouchedLaws.{lengths-kept}
-use Rattle.step.specs.Step.{refusedStep, doneStep, settledStep, instructionStep, chosenStep, entryNumber, stepOf}
-use Rattle.step.specs.declared.Kind.the-variants.{Instruction}
-use Rattle.step.proofs.ChoosingLaws.{by-rank, rank-none, lower-rank-wins, nobody-runs}
-use Rattle.step.specs.Choosing.{requested, noRank, rankOf}
-use Rattle.step.specs.Ranks.{HasRank, ExternalAt, rankAt}
-use Rattle.words.proofs.ChoiceLaws.{apart}
+use Rattle.instruction_rules.specs.Execute.{Executed, executed, executeOf}
+use Rattle.ground_rules.proofs.ConditionLaws.{running-is, says-running}
+use Rattle.ground_rules.specs.Outcomes.{first, unless, givenNumber}
+use Rattle.ground_rules.specs.Psw.{transferring}
+use Rattle.ground_rules.proofs.FieldLaws.{put-agree, blank-agree}
+use Rattle.ground_rules.specs.Conditions.{Ready}
+use Rattle.ground_rules.specs.States.{boardWith, fieldsAgree, agree, freshState, channelOf, withChannel, channelNumber, isRunning, sound, blockOf, busyIn}
+use Rattle.ground_rules.specs.declared.Channel.{Channel}
+use Rattle.ground_rules.specs.declared.Fields.{Fields}
+use Rattle.ground_rules.specs.declared.Mode.the-variants.{Running}
+use Rattle.ground_rules.specs.declared.State.{State}
+use Rattle.ground_rules.specs.Buffers.{Buffers, spaceOf, limitOf, withinLimits}
+use Rattle.turn_rules.proofs.OutcomeLaws.{other-kept, cp-kept, board-kept}
+use Rattle.turn_rules.proofs.SoundLaws.{sound-kept, entry-again, entry-agree, step-agree}
+use Rattle.turn_rules.proofs.TouchedLaws.{lengths-kept}
+use Rattle.turn_rules.specs.Step.{refusedStep, doneStep, settledStep, instructionStep, chosenStep, entryNumber, stepOf}
+use Rattle.turn_rules.specs.declared.Kind.the-variants.{Instruction}
+use Rattle.turn_rules.proofs.ChoosingLaws.{by-rank, rank-none, lower-rank-wins, nobody-runs}
+use Rattle.turn_rules.specs.Choosing.{requested, noRank, rankOf}
+use Rattle.turn_rules.specs.Ranks.{HasRank, ExternalAt, rankAt}
+use Rattle.ground_rules.proofs.ChoiceLaws.{apart}
 use Rattle.promises.specs.Calls.{Turn, Calls, Moves, EndsAtCall, begin, transfer, step, attention, host}
 use Rattle.promises.specs.Joined.{RunsAlone, Through}
 use Rattle.block_rules.specs.Premises.{into, Copy}

@@ -10,19 +10,19 @@ use mathlib.Core.List.{List, [], _∷_}
 use mathlib.Core.Logic.{inl, inr, ⊎-elim}
 use mathlib.Core.Path.{_≡_, refl, sym, ap, ap₂, _∙_}
 use native.Mathlib.Omega.{arith}
-use Rattle.machine.proofs.ConditionLaws.{told-limits, told-touchable}
-use Rattle.machine.specs.Conditions.{TooLong}
-use Rattle.machine.specs.Outcomes.{outcome}
-use Rattle.machine.specs.States.{freshState, blockOf, busyIn}
-use Rattle.machine.specs.declared.State.{State}
-use Rattle.memory.proofs.SpanLaws.{span-system, span-whole}
-use Rattle.memory.specs.Buffers.{Buffers, buffers, spaceOf, limitOf, indexOf, beyondIn, byteAt, storeByte}
-use Rattle.memory.specs.Places.{span, allTouchable}
-use Rattle.memory.specs.Values.{pointer}
-use Rattle.power.proofs.Numbers.{places-lent, powers-0}
-use Rattle.power.proofs.Outcomes.{power-accepted}
-use Rattle.power.specs.Power.{sysbusPlace, configurationPlace, configurationOf, controlPlace, controlOf, boardOf, powerPlaces, foundState, foundMemory, powerUpOf}
-use Rattle.words.specs.Bits.{bitOf}
+use Rattle.ground_rules.proofs.ConditionLaws.{told-limits, told-touchable}
+use Rattle.ground_rules.specs.Conditions.{TooLong}
+use Rattle.ground_rules.specs.Outcomes.{outcome}
+use Rattle.ground_rules.specs.States.{freshState, blockOf, busyIn}
+use Rattle.ground_rules.specs.declared.State.{State}
+use Rattle.ground_rules.proofs.SpanLaws.{span-system, span-whole}
+use Rattle.ground_rules.specs.Buffers.{Buffers, buffers, spaceOf, limitOf, indexOf, beyondIn, byteAt, storeByte}
+use Rattle.ground_rules.specs.Places.{span, allTouchable}
+use Rattle.ground_rules.specs.Values.{pointer}
+use Rattle.attention_rules.proofs.PowerNumbers.{places-lent, powers-0}
+use Rattle.attention_rules.proofs.PowerOutcomes.{power-accepted}
+use Rattle.attention_rules.specs.Power.{sysbusPlace, configurationPlace, configurationOf, controlPlace, controlOf, boardOf, powerPlaces, foundState, foundMemory, powerUpOf}
+use Rattle.ground_rules.specs.Bits.{bitOf}
 use Rattle.promises.specs.Cases.{Stand}
 use Rattle.promises.specs.Image.{put, layoutOf, copyOf, imageIn}
 use Rattle.promises.specs.Met.{zerosOf, zeros}

@@ -6,27 +6,27 @@ use lib.Dec.{eqb}
 use mathlib.Core.Bool.{Bool, true, false, not, _&&_}
 use mathlib.Core.Path.{_≡_, refl, sym, ap, subst, _∙_}
 use native.Mathlib.Decide.{ℕ-discrete}
-use Rattle.attention.specs.Attention.{givenTo, attentionNumber, attentionOf, orderedChannel as attended, orderedMemory as attendedMemory}
-use Rattle.execute.specs.Execute.{executeOf}
-use Rattle.machine.proofs.ChannelLaws.{put-same, put-other, last-channel}
-use Rattle.machine.specs.Outcomes.{outcome, unless, first, settled}
-use Rattle.machine.specs.Psw.{transferring, priority}
-use Rattle.machine.specs.States.{channelOf, withChannel, withLast, blockOf, busyIn, isChannel, isSecond, channelNumber}
-use Rattle.machine.specs.declared.Channel.{Channel}
-use Rattle.machine.specs.declared.State.{State}
-use Rattle.memory.specs.Buffers.{Buffers}
-use Rattle.step.proofs.OutcomeLaws.{by-step}
-use Rattle.step.specs.Choosing.{requested, external, endsNow, noRank, rankOf, secondWins, ranked, choiceOf}
-use Rattle.step.specs.Step.{refusedStep, doneStep, settledStep, transferStep, instructionStep, externalStep, channelStep, chosenStep, entryNumber, stepOf}
-use Rattle.step.specs.declared.turns.Choice.{Choice}
-use Rattle.step.specs.declared.turns.Choice.the-variants.{Nobody, Ends, Steps}
-use Rattle.step.specs.declared.Kind.{Kind}
-use Rattle.step.specs.declared.Kind.the-variants.{Transfer, Instruction}
-use Rattle.transfer.proofs.StepLaws.{refused}
-use Rattle.words.proofs.ChoiceLaws.{and-false, apart}
-use Rattle.transfer.specs.Ends.{externallyEnded}
-use Rattle.transfer.specs.Steps.{transferOf, Transfer as Taken}
-use Rattle.words.specs.Choice.{pick}
+use Rattle.attention_rules.specs.Attention.{givenTo, attentionNumber, attentionOf, orderedChannel as attended, orderedMemory as attendedMemory}
+use Rattle.instruction_rules.specs.Execute.{executeOf}
+use Rattle.ground_rules.proofs.ChannelLaws.{put-same, put-other, last-channel}
+use Rattle.ground_rules.specs.Outcomes.{outcome, unless, first, settled}
+use Rattle.ground_rules.specs.Psw.{transferring, priority}
+use Rattle.ground_rules.specs.States.{channelOf, withChannel, withLast, blockOf, busyIn, isChannel, isSecond, channelNumber}
+use Rattle.ground_rules.specs.declared.Channel.{Channel}
+use Rattle.ground_rules.specs.declared.State.{State}
+use Rattle.ground_rules.specs.Buffers.{Buffers}
+use Rattle.turn_rules.proofs.OutcomeLaws.{by-step}
+use Rattle.turn_rules.specs.Choosing.{requested, external, endsNow, noRank, rankOf, secondWins, ranked, choiceOf}
+use Rattle.turn_rules.specs.Step.{refusedStep, doneStep, settledStep, transferStep, instructionStep, externalStep, channelStep, chosenStep, entryNumber, stepOf}
+use Rattle.turn_rules.specs.declared.Choice.{Choice}
+use Rattle.turn_rules.specs.declared.Choice.the-variants.{Nobody, Ends, Steps}
+use Rattle.turn_rules.specs.declared.Kind.{Kind}
+use Rattle.turn_rules.specs.declared.Kind.the-variants.{Transfer, Instruction}
+use Rattle.transfer_rules.proofs.StepLaws.{refused}
+use Rattle.ground_rules.proofs.ChoiceLaws.{and-false, apart}
+use Rattle.transfer_rules.specs.Ends.{externallyEnded}
+use Rattle.transfer_rules.specs.Steps.{transferOf, Transfer as Taken}
+use Rattle.ground_rules.specs.Choice.{pick}
 use Rattle.promises.specs.Calls.{Turn}
 
 -- ---- this channel's transfer step

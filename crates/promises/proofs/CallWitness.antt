@@ -5,23 +5,23 @@ use mathlib.Core.Bool.{Bool, true, false, not}
 use mathlib.Core.List.{List}
 use mathlib.Core.Path.{_≡_, refl, sym, ap, subst, _∙_}
 use native.Mathlib.Omega.{arith}
-use Rattle.machine.specs.Cc.{split, sameFlag, sameFields}
-use Rattle.machine.specs.Outcomes.{givenNumber}
-use Rattle.machine.specs.Psw.{transferring}
-use Rattle.machine.specs.States.{channelOf, withChannel, withLast, soundChannel, sound, isRunning, channelNumber, fieldsAgree, agree}
-use Rattle.machine.specs.declared.State.{State}
-use Rattle.memory.proofs.SpanLaws.{span-at}
-use Rattle.memory.specs.Buffers.{Buffers, spaceOf, limitOf, indexOf, lentAt, beyondIn, byteAt, withinLimits}
-use Rattle.memory.specs.Places.{span}
-use Rattle.memory.specs.Values.{pointer}
-use Rattle.step.specs.Choosing.{requested, external, endsNow, transferRank, rankOf, secondWins, ranked, choiceOf}
-use Rattle.step.specs.Step.{Step, stepped, settledStep, transferStep, channelStep, chosenStep, entryNumber, stepOf}
-use Rattle.step.specs.declared.turns.Choice.{Choice}
-use Rattle.step.specs.declared.turns.Choice.the-variants.{Nobody, Ends, Steps}
-use Rattle.step.specs.declared.Kind.the-variants.{Transfer}
-use Rattle.transfer.specs.Sides.{source, destination}
-use Rattle.words.proofs.ChoiceLaws.{apart}
-use Rattle.words.specs.Bits.{bitOf, fieldOf}
+use Rattle.ground_rules.specs.Cc.{split, sameFlag, sameFields}
+use Rattle.ground_rules.specs.Outcomes.{givenNumber}
+use Rattle.ground_rules.specs.Psw.{transferring}
+use Rattle.ground_rules.specs.States.{channelOf, withChannel, withLast, soundChannel, sound, isRunning, channelNumber, fieldsAgree, agree}
+use Rattle.ground_rules.specs.declared.State.{State}
+use Rattle.ground_rules.proofs.SpanLaws.{span-at}
+use Rattle.ground_rules.specs.Buffers.{Buffers, spaceOf, limitOf, indexOf, lentAt, beyondIn, byteAt, withinLimits}
+use Rattle.ground_rules.specs.Places.{span}
+use Rattle.ground_rules.specs.Values.{pointer}
+use Rattle.turn_rules.specs.Choosing.{requested, external, endsNow, transferRank, rankOf, secondWins, ranked, choiceOf}
+use Rattle.turn_rules.specs.Step.{Step, stepped, settledStep, transferStep, channelStep, chosenStep, entryNumber, stepOf}
+use Rattle.turn_rules.specs.declared.Choice.{Choice}
+use Rattle.turn_rules.specs.declared.Choice.the-variants.{Nobody, Ends, Steps}
+use Rattle.turn_rules.specs.declared.Kind.the-variants.{Transfer}
+use Rattle.transfer_rules.specs.Sides.{source, destination}
+use Rattle.ground_rules.proofs.ChoiceLaws.{apart}
+use Rattle.ground_rules.specs.Bits.{bitOf, fieldOf}
 use Rattle.promises.specs.Calls.{Calls, EndsAtCall, begin, transfer, step}
 use Rattle.block_rules.specs.Premises.{Lent}
 use Rattle.block_rules.specs.Rows.{Untouched}

@@ -8,16 +8,16 @@ use mathlib.Core.List.{List}
 use mathlib.Core.Path.{_≡_, sym, ap, ap₂, subst, _∙_}
 use native.Mathlib.Nat.{add-zero}
 use native.Mathlib.Omega.{arith}
-use Rattle.machine.specs.States.{channelOf}
-use Rattle.machine.specs.declared.Channel.{Channel}
-use Rattle.memory.proofs.StoreLaws.{store-lent, pointer-bytes}
-use Rattle.memory.specs.Buffers.{Buffers, lentAt, byteAt}
-use Rattle.memory.specs.Values.{wordAt, doublewordAt, storePointer}
-use Rattle.memory.specs.declared.Pointer.{Pointer}
-use Rattle.transfer.proofs.BlockLaws.{word-narrow, word-odd, word-even}
-use Rattle.transfer.specs.Sides.{source, destination}
-use Rattle.words.specs.Bytes.{wordOf}
-use Rattle.words.specs.Sums.{addressOf}
+use Rattle.ground_rules.specs.States.{channelOf}
+use Rattle.ground_rules.specs.declared.Channel.{Channel}
+use Rattle.ground_rules.proofs.StoreLaws.{store-lent, pointer-bytes}
+use Rattle.ground_rules.specs.Buffers.{Buffers, lentAt, byteAt}
+use Rattle.ground_rules.specs.Values.{wordAt, doublewordAt, storePointer}
+use Rattle.ground_rules.specs.declared.Pointer.{Pointer}
+use Rattle.transfer_rules.proofs.BlockLaws.{word-narrow, word-odd, word-even}
+use Rattle.transfer_rules.specs.Sides.{source, destination}
+use Rattle.ground_rules.specs.Bytes.{wordOf}
+use Rattle.ground_rules.specs.Sums.{addressOf}
 use Rattle.promises.specs.Calls.{EndsAtCall}
 use Rattle.promises.specs.Cases.{Stand, storedForm, Both8, Both16Even, Both16Odd, From16OddInto8, Takes}
 use Rattle.block_rules.specs.Premises.{Lent}

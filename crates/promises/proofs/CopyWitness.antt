@@ -7,16 +7,16 @@ use lib.ListN.{length-replicate}
 use mathlib.Core.Bool.{Bool, true, false, not}
 use mathlib.Core.Path.{_≡_, refl, sym, ap, subst, _∙_}
 use native.Mathlib.Omega.{arith}
-use Rattle.machine.proofs.ChannelLaws.{put-same, put-other}
-use Rattle.machine.specs.States.{freshState, idleChannel, channelOf, withLast, soundChannel, sound, fieldsAgree, isRunning}
-use Rattle.machine.proofs.FieldLaws.{agrees}
-use Rattle.machine.specs.Cc.{split}
-use Rattle.machine.specs.declared.Channel.{Channel}
-use Rattle.memory.proofs.PlaceLaws.{index-small}
-use Rattle.memory.specs.Buffers.{spaceOf, limitOf, indexOf, lentAt, withinLimits}
-use Rattle.step.proofs.SoundLaws.{done-sound}
-use Rattle.transfer.specs.Sides.{source, destination}
-use Rattle.words.specs.Bits.{fieldOf, bitOf}
+use Rattle.ground_rules.proofs.ChannelLaws.{put-same, put-other}
+use Rattle.ground_rules.specs.States.{freshState, idleChannel, channelOf, withLast, soundChannel, sound, fieldsAgree, isRunning}
+use Rattle.ground_rules.proofs.FieldLaws.{agrees}
+use Rattle.ground_rules.specs.Cc.{split}
+use Rattle.ground_rules.specs.declared.Channel.{Channel}
+use Rattle.ground_rules.proofs.PlaceLaws.{index-small}
+use Rattle.ground_rules.specs.Buffers.{spaceOf, limitOf, indexOf, lentAt, withinLimits}
+use Rattle.turn_rules.proofs.SoundLaws.{done-sound}
+use Rattle.transfer_rules.specs.Sides.{source, destination}
+use Rattle.ground_rules.specs.Bits.{fieldOf, bitOf}
 use Rattle.promises.specs.Cases.{Both8, Both16Even, Both16Odd, From16OddInto8}
 use Rattle.promises.specs.Joined.{RunsAlone}
 use Rattle.promises.specs.Met.{pswOf, copying, zerosOf, zeros, onlyIn, Met, CasesMet}

@@ -5,18 +5,18 @@ use mathlib.Core.Bool.{Bool, true, false}
 use mathlib.Core.Path.{_≡_, refl, subst, ap}
 use native.Mathlib.Decide.{decLt}
 use native.Mathlib.Omega.{arith}
-use Rattle.attention.proofs.Numbers.{given-exactly, attention-most}
-use Rattle.attention.proofs.Outcomes.{refused-nothing}
-use Rattle.machine.proofs.ConditionLaws.{last, rewritten, told-ltb}
-use Rattle.machine.specs.Outcomes.{Outcome}
-use Rattle.machine.specs.States.{boardWith, idleChannel, freshState, freshOf, channelOf}
-use Rattle.machine.specs.declared.Made.{Made}
-use Rattle.machine.specs.declared.State.{State}
-use Rattle.memory.specs.Buffers.{Buffers}
-use Rattle.panel.proofs.Bounds.{number-most, steps-most, steps-below, answer-is, number-back, steps-back}
-use Rattle.step.proofs.NumberLaws.{number-given, step-most}
-use Rattle.step.proofs.OutcomeLaws.{refused}
-use Rattle.step.specs.Step.{Step}
+use Rattle.attention_rules.proofs.Numbers.{given-exactly, attention-most}
+use Rattle.attention_rules.proofs.Outcomes.{refused-nothing}
+use Rattle.ground_rules.proofs.ConditionLaws.{last, rewritten, told-ltb}
+use Rattle.ground_rules.specs.Outcomes.{Outcome}
+use Rattle.ground_rules.specs.States.{boardWith, idleChannel, freshState, freshOf, channelOf}
+use Rattle.ground_rules.specs.declared.Made.{Made}
+use Rattle.ground_rules.specs.declared.State.{State}
+use Rattle.ground_rules.specs.Buffers.{Buffers}
+use Rattle.run_rules.proofs.Bounds.{number-most, steps-most, steps-below, answer-is, number-back, steps-back}
+use Rattle.turn_rules.proofs.NumberLaws.{number-given, step-most}
+use Rattle.turn_rules.proofs.OutcomeLaws.{refused}
+use Rattle.turn_rules.specs.Step.{Step}
 use Rattle.promises.specs.Demand1.{Blank, FreshAnswers, AttentionAnswers, StepAnswers, RunAnswers, Demand1}
 use Rattle.promises.specs.Runs.{RunEnds}
 use Rattle.promises.proofs.RunLaws.{fresh-good, fresh-bad, fresh-number, run-so, run-only}

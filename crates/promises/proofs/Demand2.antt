@@ -7,29 +7,29 @@ use mathlib.Core.Bool.{Bool, true, not}
 use mathlib.Core.Logic.{⊎-elim}
 use mathlib.Core.Path.{_≡_, refl, sym, subst, ap, _∙_}
 use native.Mathlib.Nat.{mod-eq-of-lt}
-use Rattle.attention.proofs.Outcomes.{accepted-order, other-channel, shared-kept, registers-kept}
-use Rattle.attention.proofs.Pauses.{suspend-resume, ordered-else}
-use Rattle.attention.proofs.Stores.{bytes-kept as attention-bytes, lengths-kept as attention-lengths}
-use Rattle.attention.specs.Attention.{orderTo, attentionOf}
-use Rattle.attention.specs.Commands.{ordered}
-use Rattle.machine.specs.Updates.{withControl, holding}
-use Rattle.machine.proofs.ChannelLaws.{named}
-use Rattle.machine.specs.Psw.{withPsw}
-use Rattle.machine.specs.States.{channelOf, isSecond}
-use Rattle.machine.specs.declared.Channel.{Channel}
-use Rattle.machine.specs.declared.State.{State}
-use Rattle.memory.proofs.SpanLaws.{span-at, span-first}
-use Rattle.memory.proofs.StoreLaws.{pointer-back}
-use Rattle.memory.specs.Buffers.{Buffers, lentAt}
-use Rattle.memory.specs.Places.{span, allLent}
-use Rattle.memory.specs.Values.{pointer, pointerAt, storePointer}
-use Rattle.memory.specs.declared.Pointer.{Pointer}
-use Rattle.step.proofs.OutcomeLaws.{done, other-kept, cp-kept, board-kept, last-set, last-kept, chosen-steps}
-use Rattle.step.proofs.TouchedLaws.{bytes-kept as step-bytes, lengths-kept as step-lengths}
-use Rattle.words.proofs.BitLaws.{bit-other}
-use Rattle.words.proofs.ChoiceLaws.{apart}
-use Rattle.words.proofs.StoredLaws.{address-kept, tag-kept, low-again, middle-again, high-again}
-use Rattle.words.specs.Bits.{bitOf}
+use Rattle.attention_rules.proofs.Outcomes.{accepted-order, other-channel, shared-kept, registers-kept}
+use Rattle.attention_rules.proofs.Pauses.{suspend-resume, ordered-else}
+use Rattle.attention_rules.proofs.Stores.{bytes-kept as attention-bytes, lengths-kept as attention-lengths}
+use Rattle.attention_rules.specs.Attention.{orderTo, attentionOf}
+use Rattle.attention_rules.specs.Commands.{ordered}
+use Rattle.ground_rules.specs.Updates.{withControl, holding}
+use Rattle.ground_rules.proofs.ChannelLaws.{named}
+use Rattle.ground_rules.specs.Psw.{withPsw}
+use Rattle.ground_rules.specs.States.{channelOf, isSecond}
+use Rattle.ground_rules.specs.declared.Channel.{Channel}
+use Rattle.ground_rules.specs.declared.State.{State}
+use Rattle.ground_rules.proofs.SpanLaws.{span-at, span-first}
+use Rattle.ground_rules.proofs.StoreLaws.{pointer-back}
+use Rattle.ground_rules.specs.Buffers.{Buffers, lentAt}
+use Rattle.ground_rules.specs.Places.{span, allLent}
+use Rattle.ground_rules.specs.Values.{pointer, pointerAt, storePointer}
+use Rattle.ground_rules.specs.declared.Pointer.{Pointer}
+use Rattle.turn_rules.proofs.OutcomeLaws.{done, other-kept, cp-kept, board-kept, last-set, last-kept, chosen-steps}
+use Rattle.turn_rules.proofs.TouchedLaws.{bytes-kept as step-bytes, lengths-kept as step-lengths}
+use Rattle.ground_rules.proofs.BitLaws.{bit-other}
+use Rattle.ground_rules.proofs.ChoiceLaws.{apart}
+use Rattle.ground_rules.proofs.StoredLaws.{address-kept, tag-kept, low-again, middle-again, high-again}
+use Rattle.ground_rules.specs.Bits.{bitOf}
 use Rattle.promises.specs.Demand2.{OnlyControl, AttentionDoes, StepDoes, Demand2}
 use Rattle.promises.specs.Pointers.{GoesOn, PointersKept}
 use Rattle.promises.proofs.PointerLaws.{movp-back, call-back}

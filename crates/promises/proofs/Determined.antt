@@ -5,11 +5,11 @@ use contract.Lifetimes.{Lfts}
 use denote.Ref.{now}
 use denote.Triple.Clauses.{AtExit}
 use mathlib.Core.Path.{_≡_}
-use Rattle.memory.specs.Buffers.{buffers}
+use Rattle.ground_rules.specs.Buffers.{buffers}
 use Rattle.panel.proofs.Determined.{call-determined}
 use Rattle.panel.proofs.iop89_run.Kinds as kinds
 use Rattle.panel.proofs.iop89_run.Reads as reads
-use Rattle.panel.specs.Run.{called}
+use Rattle.run_rules.specs.Run.{called}
 
 pub one-call : (κs : Lfts 2) (a : Dens κs kinds.ps) (r q : resT kinds.r κs .Denot) (e f : AtExit (endedOf 2 kinds.ps kinds.r) κs)
     → reads.Post κs a r e → reads.Post κs a q f

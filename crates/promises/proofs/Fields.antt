@@ -6,19 +6,19 @@ use mathlib.Core.Bool.{Bool, true, false}
 use mathlib.Core.List.{[], _∷_}
 use mathlib.Core.Path.{_≡_, refl, sym, ap, _∙_}
 use native.Mathlib.Omega.{arith}
-use Rattle.attention.proofs.Numbers.{gives-0}
-use Rattle.attention.proofs.SoundLaws.{attention-agree}
-use Rattle.machine.proofs.FieldLaws.{agreed, agree-channel-of, blank-agree, fresh-agree, told-agree}
-use Rattle.machine.specs.Cc.{split, sameFlag, sameFields}
-use Rattle.machine.specs.Outcomes.{Outcome}
-use Rattle.machine.specs.Registers.{withRegister}
-use Rattle.machine.specs.States.{boardWith, resetState, agree}
-use Rattle.machine.specs.declared.Channel.{Channel}
-use Rattle.machine.specs.declared.State.{State}
-use Rattle.memory.specs.Buffers.{Buffers}
-use Rattle.power.proofs.Outcomes.{power-accepted, found-agree}
-use Rattle.step.proofs.SoundLaws.{step-agree}
-use Rattle.words.specs.Bits.{fieldOf, bitOf}
+use Rattle.attention_rules.proofs.Numbers.{gives-0}
+use Rattle.attention_rules.proofs.SoundLaws.{attention-agree}
+use Rattle.ground_rules.proofs.FieldLaws.{agreed, agree-channel-of, blank-agree, fresh-agree, told-agree}
+use Rattle.ground_rules.specs.Cc.{split, sameFlag, sameFields}
+use Rattle.ground_rules.specs.Outcomes.{Outcome}
+use Rattle.ground_rules.specs.Registers.{withRegister}
+use Rattle.ground_rules.specs.States.{boardWith, resetState, agree}
+use Rattle.ground_rules.specs.declared.Channel.{Channel}
+use Rattle.ground_rules.specs.declared.State.{State}
+use Rattle.ground_rules.specs.Buffers.{Buffers}
+use Rattle.attention_rules.proofs.PowerOutcomes.{power-accepted, found-agree}
+use Rattle.turn_rules.proofs.SoundLaws.{step-agree}
+use Rattle.ground_rules.specs.Bits.{fieldOf, bitOf}
 use Rattle.promises.specs.Fields.{ByBits, told, Agree, FieldsKept}
 use Rattle.promises.specs.SheetWords.{bit}
 use Rattle.promises.proofs.AgreeLaws.{told-not, done-agrees}

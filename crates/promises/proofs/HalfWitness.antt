@@ -3,17 +3,17 @@
 use Prim.Native.Nat.{ℕ}
 use mathlib.Core.Bool.{Bool, true, false}
 use mathlib.Core.Path.{_≡_, refl, sym, ap, subst}
-use Rattle.machine.specs.States.{idleChannel, channelOf}
-use Rattle.machine.specs.Updates.{holding}
-use Rattle.machine.specs.declared.Channel.{Channel}
-use Rattle.machine.specs.declared.Held.the-variants.{NoByte, Byte}
-use Rattle.machine.specs.declared.State.{State}
-use Rattle.memory.specs.Buffers.{Buffers}
-use Rattle.memory.specs.Values.{pointer}
-use Rattle.step.specs.Choosing.{choiceOf}
-use Rattle.step.specs.Step.{Step, stepped, entryNumber, stepOf}
-use Rattle.step.specs.declared.turns.Choice.the-variants.{Steps}
-use Rattle.step.specs.declared.Kind.the-variants.{Transfer}
+use Rattle.ground_rules.specs.States.{idleChannel, channelOf}
+use Rattle.ground_rules.specs.Updates.{holding}
+use Rattle.ground_rules.specs.declared.Channel.{Channel}
+use Rattle.ground_rules.specs.declared.Held.the-variants.{NoByte, Byte}
+use Rattle.ground_rules.specs.declared.State.{State}
+use Rattle.ground_rules.specs.Buffers.{Buffers}
+use Rattle.ground_rules.specs.Values.{pointer}
+use Rattle.turn_rules.specs.Choosing.{choiceOf}
+use Rattle.turn_rules.specs.Step.{Step, stepped, entryNumber, stepOf}
+use Rattle.turn_rules.specs.declared.Choice.the-variants.{Steps}
+use Rattle.turn_rules.specs.declared.Kind.the-variants.{Transfer}
 use Rattle.promises.specs.SheetWords.{bit}
 use Rattle.promises.specs.SheetTransfer.{halfDue, Transfers}
 use Rattle.promises.specs.SheetHalves.{Halves}

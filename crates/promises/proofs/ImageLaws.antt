@@ -10,16 +10,16 @@ use mathlib.Core.Logic.{⊎-elim, inl, inr}
 use mathlib.Core.Path.{_≡_, refl, sym, ap, subst, _∙_}
 use native.Mathlib.Nat.{add-zero}
 use native.Mathlib.Omega.{arith}
-use Rattle.machine.proofs.ConditionLaws.{told-limits}
-use Rattle.machine.specs.Conditions.{TooLong}
-use Rattle.machine.specs.States.{freshState, blockOf}
-use Rattle.memory.proofs.PlaceLaws.{index-apart, index-small}
-use Rattle.memory.proofs.StoreLaws.{store-length, store-lent, read-same, read-other}
-use Rattle.memory.specs.Buffers.{Buffers, spaceOf, limitOf, indexOf, lentAt, byteAt, storeByte}
-use Rattle.memory.specs.Places.{Apart}
-use Rattle.memory.specs.Values.{pointer}
-use Rattle.memory.specs.declared.Pointer.{Pointer}
-use Rattle.words.specs.Choice.{pick}
+use Rattle.ground_rules.proofs.ConditionLaws.{told-limits}
+use Rattle.ground_rules.specs.Conditions.{TooLong}
+use Rattle.ground_rules.specs.States.{freshState, blockOf}
+use Rattle.ground_rules.proofs.PlaceLaws.{index-apart, index-small}
+use Rattle.ground_rules.proofs.StoreLaws.{store-length, store-lent, read-same, read-other}
+use Rattle.ground_rules.specs.Buffers.{Buffers, spaceOf, limitOf, indexOf, lentAt, byteAt, storeByte}
+use Rattle.ground_rules.specs.Places.{Apart}
+use Rattle.ground_rules.specs.Values.{pointer}
+use Rattle.ground_rules.specs.declared.Pointer.{Pointer}
+use Rattle.ground_rules.specs.Choice.{pick}
 use Rattle.promises.specs.Cases.{Stand}
 use Rattle.promises.specs.Image.{put, layoutOf, copyOf, imageIn, ReadyMet}
 use Rattle.promises.specs.Met.{zerosOf, zeros}

@@ -8,33 +8,33 @@ use mathlib.Core.List.{List}
 use mathlib.Core.Path.{_≡_, refl, sym, ap, ap₂, _∙_}
 use native.Mathlib.Nat.{add-zero, add-assoc}
 use native.Mathlib.Omega.{arith}
-use Rattle.decode.specs.Lengths.{dataLength, displacementLength, lengthOf}
-use Rattle.decode.specs.Reading.{decodeOf}
-use Rattle.decode_shapes.specs.declared.Decoded.the-variants.{Instruction}
-use Rattle.decode_shapes.specs.declared.Shape.the-variants.{RegisterImmediate}
-use Rattle.decode_shapes.specs.declared.Work.{Work}
-use Rattle.execute_deeds.specs.RegisterForms.{registerWritten, registerImmediateDeed}
-use Rattle.execute.proofs.OutcomeLaws.{done-where}
-use Rattle.execute.specs.Execute.{decodedAt, performed, deedOf, laterBytes, Executed, executed, executeOf}
-use Rattle.machine.proofs.ChannelLaws.{put-same, last-channel}
-use Rattle.machine.specs.Psw.{transferring}
-use Rattle.machine.specs.Registers.{registerOf}
-use Rattle.machine.specs.States.{channelOf, withChannel, blockOf, busyIn}
-use Rattle.machine.specs.declared.Channel.{Channel}
-use Rattle.machine.specs.declared.State.{State}
-use Rattle.memory.proofs.PlaceLaws.{byte-reduced, word-reduced}
-use Rattle.memory.specs.Buffers.{Buffers, byteAt}
-use Rattle.memory.specs.Places.{span, allPass, allTouchable}
-use Rattle.memory.specs.Values.{wordAt, onward}
-use Rattle.memory.specs.declared.Pointer.{Pointer}
-use Rattle.execute_operands.specs.Changes.{placesOf, changed}
-use Rattle.execute_operands.specs.Marks.{pastInstruction}
-use Rattle.execute_operands.specs.Operands.{bytesAt, sizeOf, operandAt, workOf}
-use Rattle.step.specs.Step.{Step, doneStep, settledStep, instructionStep, channelStep, chosenStep, entryNumber, stepOf}
-use Rattle.step.specs.declared.Kind.the-variants.{Instruction as AnInstruction}
-use Rattle.words.specs.Bytes.{wordOf}
-use Rattle.words.specs.Choice.{pick}
-use Rattle.words.specs.Signs.{extended}
+use Rattle.instruction_rules.specs.Lengths.{dataLength, displacementLength, lengthOf}
+use Rattle.instruction_rules.specs.Reading.{decodeOf}
+use Rattle.instruction_rules.specs.declared.Decoded.the-variants.{Instruction}
+use Rattle.instruction_rules.specs.declared.Shape.the-variants.{RegisterImmediate}
+use Rattle.instruction_rules.specs.declared.Work.{Work}
+use Rattle.instruction_rules.specs.RegisterForms.{registerWritten, registerImmediateDeed}
+use Rattle.instruction_rules.proofs.OutcomeLaws.{done-where}
+use Rattle.instruction_rules.specs.Execute.{decodedAt, performed, deedOf, laterBytes, Executed, executed, executeOf}
+use Rattle.ground_rules.proofs.ChannelLaws.{put-same, last-channel}
+use Rattle.ground_rules.specs.Psw.{transferring}
+use Rattle.ground_rules.specs.Registers.{registerOf}
+use Rattle.ground_rules.specs.States.{channelOf, withChannel, blockOf, busyIn}
+use Rattle.ground_rules.specs.declared.Channel.{Channel}
+use Rattle.ground_rules.specs.declared.State.{State}
+use Rattle.ground_rules.proofs.PlaceLaws.{byte-reduced, word-reduced}
+use Rattle.ground_rules.specs.Buffers.{Buffers, byteAt}
+use Rattle.ground_rules.specs.Places.{span, allPass, allTouchable}
+use Rattle.ground_rules.specs.Values.{wordAt, onward}
+use Rattle.ground_rules.specs.declared.Pointer.{Pointer}
+use Rattle.instruction_rules.specs.Changes.{placesOf, changed}
+use Rattle.instruction_rules.specs.Marks.{pastInstruction}
+use Rattle.instruction_rules.specs.Operands.{bytesAt, sizeOf, operandAt, workOf}
+use Rattle.turn_rules.specs.Step.{Step, doneStep, settledStep, instructionStep, channelStep, chosenStep, entryNumber, stepOf}
+use Rattle.turn_rules.specs.declared.Kind.the-variants.{Instruction as AnInstruction}
+use Rattle.ground_rules.specs.Bytes.{wordOf}
+use Rattle.ground_rules.specs.Choice.{pick}
+use Rattle.ground_rules.specs.Signs.{extended}
 use Rattle.promises.specs.Calls.{Turn}
 use Rattle.promises.specs.Cases.{Stand, Executes}
 use Rattle.promises.proofs.StandLaws.{span-touchable, rest-touchable}

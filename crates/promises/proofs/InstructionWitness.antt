@@ -8,14 +8,14 @@ use mathlib.Core.Bool.{true, false}
 use mathlib.Core.List.{List, _++_}
 use mathlib.Core.Path.{_≡_, refl}
 use native.Mathlib.Omega.{arith}
-use Rattle.machine.specs.Cc.{split, sameFlag, sameFields}
-use Rattle.machine.specs.Outcomes.{unless, first, givenNumber}
-use Rattle.machine.specs.States.{idleChannel, channelOf, soundChannel, sound, isRunning, fieldsAgree, agree}
-use Rattle.memory.specs.Buffers.{spaceOf, limitOf, indexOf, lentAt, beyondIn, byteAt, withinLimits}
-use Rattle.memory.specs.Values.{pointer}
-use Rattle.step.specs.Choosing.{requested, external, endsNow, transferRank, rankOf, secondWins, ranked, choiceOf}
-use Rattle.step.specs.Step.{entryNumber}
-use Rattle.words.specs.Bits.{bitOf, fieldOf}
+use Rattle.ground_rules.specs.Cc.{split, sameFlag, sameFields}
+use Rattle.ground_rules.specs.Outcomes.{unless, first, givenNumber}
+use Rattle.ground_rules.specs.States.{idleChannel, channelOf, soundChannel, sound, isRunning, fieldsAgree, agree}
+use Rattle.ground_rules.specs.Buffers.{spaceOf, limitOf, indexOf, lentAt, beyondIn, byteAt, withinLimits}
+use Rattle.ground_rules.specs.Values.{pointer}
+use Rattle.turn_rules.specs.Choosing.{requested, external, endsNow, transferRank, rankOf, secondWins, ranked, choiceOf}
+use Rattle.turn_rules.specs.Step.{entryNumber}
+use Rattle.ground_rules.specs.Bits.{bitOf, fieldOf}
 use Rattle.promises.specs.Cases.{Stand, Executes}
 use Rattle.promises.specs.Witness.{channelWith, bothWith, programAt, bytesFrom}
 

@@ -7,18 +7,18 @@ use mathlib.Core.Bool.{Bool, true, false}
 use mathlib.Core.List.{[], _∷_}
 use mathlib.Core.Path.{_≡_, refl, sym, ap, ap₂, subst, _∙_}
 use native.Mathlib.Omega.{arith}
-use Rattle.machine.proofs.ChannelLaws.{put-same, last-channel}
-use Rattle.machine.specs.States.{channelOf, withChannel, withLast, isRunning, blockOf, channelNumber, busyIn}
-use Rattle.machine.specs.declared.Channel.{Channel}
-use Rattle.machine.specs.declared.State.{State}
-use Rattle.memory.proofs.StoreLaws.{store-length, read-same, read-other, same-lent}
-use Rattle.memory.specs.Buffers.{Buffers, lentAt, byteAt, storeByte}
-use Rattle.memory.specs.Places.{Apart}
-use Rattle.panel.specs.Run.{ran, runOf}
-use Rattle.step.specs.Step.{Step, doneStep, refusedStep, stepOf}
-use Rattle.step.specs.declared.Kind.the-variants.{Instruction}
-use Rattle.words.specs.Choice.{pick}
-use Rattle.words.specs.Sums.{sum20}
+use Rattle.ground_rules.proofs.ChannelLaws.{put-same, last-channel}
+use Rattle.ground_rules.specs.States.{channelOf, withChannel, withLast, isRunning, blockOf, channelNumber, busyIn}
+use Rattle.ground_rules.specs.declared.Channel.{Channel}
+use Rattle.ground_rules.specs.declared.State.{State}
+use Rattle.ground_rules.proofs.StoreLaws.{store-length, read-same, read-other, same-lent}
+use Rattle.ground_rules.specs.Buffers.{Buffers, lentAt, byteAt, storeByte}
+use Rattle.ground_rules.specs.Places.{Apart}
+use Rattle.run_rules.specs.Run.{ran, runOf}
+use Rattle.turn_rules.specs.Step.{Step, doneStep, refusedStep, stepOf}
+use Rattle.turn_rules.specs.declared.Kind.the-variants.{Instruction}
+use Rattle.ground_rules.specs.Choice.{pick}
+use Rattle.ground_rules.specs.Sums.{sum20}
 use Rattle.promises.specs.Cases.{Stand}
 use Rattle.promises.specs.Joined.{RunsAlone, Through, endOf, Comes, Halted}
 use Rattle.block_rules.specs.Premises.{into}

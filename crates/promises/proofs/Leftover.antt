@@ -9,15 +9,15 @@ use mathlib.Core.Path.{_≡_, refl, sym, ap, ap₂, subst, _∙_}
 use native.Mathlib.Decide.{ℕ-discrete}
 use native.Mathlib.Nat.{mod-lt, add-assoc}
 use native.Mathlib.Omega.{arith}
-use Rattle.machine.specs.States.{channelOf}
-use Rattle.machine.specs.declared.Channel.{Channel}
-use Rattle.machine.specs.declared.Held.{Held as HeldByte}
-use Rattle.machine.specs.declared.Held.the-variants.{NoByte, Byte}
-use Rattle.machine.specs.declared.State.{State}
-use Rattle.memory.specs.Buffers.{Buffers, storeByte}
-use Rattle.step.specs.Step.{stepOf}
-use Rattle.words.proofs.ChoiceLaws.{apart, both-left, both-right, and-true, and-false, pick-under}
-use Rattle.words.specs.Choice.{pick}
+use Rattle.ground_rules.specs.States.{channelOf}
+use Rattle.ground_rules.specs.declared.Channel.{Channel}
+use Rattle.ground_rules.specs.declared.Held.{Held as HeldByte}
+use Rattle.ground_rules.specs.declared.Held.the-variants.{NoByte, Byte}
+use Rattle.ground_rules.specs.declared.State.{State}
+use Rattle.ground_rules.specs.Buffers.{Buffers, storeByte}
+use Rattle.turn_rules.specs.Step.{stepOf}
+use Rattle.ground_rules.proofs.ChoiceLaws.{apart, both-left, both-right, and-true, and-false, pick-under}
+use Rattle.ground_rules.specs.Choice.{pick}
 use Rattle.promises.specs.Leftover.{bcLess, opens, closes, fetchedNow, storedNow, firstEnds, FirstLeft, LeftoverSheet, Sector, SectorLeft, DriverSum, begin, transfer, step, attention}
 use Rattle.promises.specs.SheetOperands.{ranChannel}
 use Rattle.promises.specs.SheetTransfer.{intoPointer, intoWordSide, intoSecond, fromWordSide, twoGo, firstByte, secondByte, meetsIn, singly, twoStored, storedCount, fetchedCount, countLeft, maxOf, codeOfEnd, halfDue, storesTwice, fetchesTwice, Transfers, TransferLeft}

@@ -5,13 +5,13 @@ use lib.Dec.{lit≤}
 use mathlib.Core.Bool.{true, false}
 use mathlib.Core.Path.{_≡_, refl}
 use Prim.Native.Nat.{_-_}
-use Rattle.machine.specs.Cc.{split}
-use Rattle.machine.specs.Registers.{withRegister}
-use Rattle.machine.specs.States.{idleChannel, channelOf}
-use Rattle.machine.specs.declared.State.{State}
-use Rattle.memory.specs.Buffers.{Buffers}
-use Rattle.step.specs.Step.{stepped, stepOf}
-use Rattle.step.specs.declared.Kind.the-variants.{Transfer}
+use Rattle.ground_rules.specs.Cc.{split}
+use Rattle.ground_rules.specs.Registers.{withRegister}
+use Rattle.ground_rules.specs.States.{idleChannel, channelOf}
+use Rattle.ground_rules.specs.declared.State.{State}
+use Rattle.ground_rules.specs.Buffers.{Buffers}
+use Rattle.turn_rules.specs.Step.{stepped, stepOf}
+use Rattle.turn_rules.specs.declared.Kind.the-variants.{Transfer}
 use Rattle.promises.specs.Leftover.{firstEnds, Sector, scanAt, LeftoverCases, begin, transfer}
 use Rattle.promises.specs.Witness.{memoryWith, six, memoryStart, bothWith}
 use Rattle.promises.proofs.CallWitness.{stepOpen}

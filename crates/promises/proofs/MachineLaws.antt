@@ -3,19 +3,19 @@
 use Prim.Native.Nat.{ℕ, suc}
 use mathlib.Core.Bool.{Bool, true}
 use mathlib.Core.Path.{_≡_, refl, sym, ap, subst, _∙_}
-use Rattle.attention.specs.Attention.{attentionOf}
-use Rattle.machine.specs.Psw.{transferring}
-use Rattle.machine.specs.States.{channelOf, channelNumber}
-use Rattle.machine.specs.declared.Channel.{Channel}
-use Rattle.machine.specs.declared.Fields.{Fields}
-use Rattle.machine.specs.declared.State.{State}
-use Rattle.memory.specs.Buffers.{Buffers}
-use Rattle.step.specs.Step.{Step, doneStep, stepOf}
-use Rattle.step.specs.declared.Kind.{Kind}
-use Rattle.step.specs.declared.Kind.the-variants.{Transfer}
-use Rattle.transfer.proofs.KeptLaws.{only-these}
-use Rattle.machine.specs.Updates.{withTransfer}
-use Rattle.transfer.specs.Steps.{transferOf}
+use Rattle.attention_rules.specs.Attention.{attentionOf}
+use Rattle.ground_rules.specs.Psw.{transferring}
+use Rattle.ground_rules.specs.States.{channelOf, channelNumber}
+use Rattle.ground_rules.specs.declared.Channel.{Channel}
+use Rattle.ground_rules.specs.declared.Fields.{Fields}
+use Rattle.ground_rules.specs.declared.State.{State}
+use Rattle.ground_rules.specs.Buffers.{Buffers}
+use Rattle.turn_rules.specs.Step.{Step, doneStep, stepOf}
+use Rattle.turn_rules.specs.declared.Kind.{Kind}
+use Rattle.turn_rules.specs.declared.Kind.the-variants.{Transfer}
+use Rattle.transfer_rules.proofs.KeptLaws.{only-these}
+use Rattle.ground_rules.specs.Updates.{withTransfer}
+use Rattle.transfer_rules.specs.Steps.{transferOf}
 use Rattle.promises.specs.Calls.{Turn, Calls, Moves, EndsAtCall, begin, transfer, step, attention, host}
 use Rattle.block_rules.specs.Premises.{into, Copy}
 use Rattle.block_rules.specs.Rows.{Untouched, Row, start, steps, other}

@@ -7,32 +7,32 @@ use mathlib.Core.Logic.{_↔_, Iff·trans}
 use mathlib.Core.Path.{_≡_, refl, sym, ap, _∙_}
 use Prim.Native.Nat.{ℕ, _≤_}
 use native.Mathlib.Omega.{arith}
-use Rattle.attention.proofs.Numbers.{attention-ready}
-use Rattle.attention.proofs.Outcomes.{refused-nothing, shared-kept}
-use Rattle.attention.proofs.SoundLaws.{attention-sound, attention-agree}
-use Rattle.attention.specs.Attention.{attentionOf}
-use Rattle.decode.proofs.Outcomes.{three-exactly, four-exactly}
-use Rattle.decode.specs.Reading.{numberOf}
-use Rattle.decode_shapes.specs.declared.Decoded.{Decoded}
-use Rattle.decode_shapes.specs.declared.Decoded.the-variants.{Instruction, NoInstruction, ControlUsed}
-use Rattle.execute.specs.Conditions.{NoCode, ControlTouched}
-use Rattle.execute.specs.Execute.{decodedAt}
-use Rattle.execute_operands.specs.Operands.{byteHere}
-use Rattle.machine.proofs.ChannelLaws.{fresh-sound, fresh-powered}
-use Rattle.machine.proofs.FieldLaws.{fresh-agree}
-use Rattle.machine.specs.Outcomes.{Outcome}
-use Rattle.machine.specs.States.{sound, agree}
-use Rattle.machine.specs.declared.Board.{Board}
-use Rattle.machine.specs.declared.Channel.{Channel}
-use Rattle.machine.specs.declared.State.{State}
-use Rattle.memory.specs.Buffers.{Buffers, AllBytes}
-use Rattle.memory.specs.Values.{onward}
-use Rattle.power.proofs.Outcomes.{power-accepted, found-sound, found-powered, found-agree}
-use Rattle.power.specs.Power.{powerUpOf}
-use Rattle.step.proofs.NumberLaws.{step-ready}
-use Rattle.step.proofs.OutcomeLaws.{refused, board-kept}
-use Rattle.step.proofs.SoundLaws.{sound-kept, step-agree}
-use Rattle.step.specs.Step.{Step, stepOf}
+use Rattle.attention_rules.proofs.Numbers.{attention-ready}
+use Rattle.attention_rules.proofs.Outcomes.{refused-nothing, shared-kept}
+use Rattle.attention_rules.proofs.SoundLaws.{attention-sound, attention-agree}
+use Rattle.attention_rules.specs.Attention.{attentionOf}
+use Rattle.instruction_rules.proofs.Outcomes.{three-exactly, four-exactly}
+use Rattle.instruction_rules.specs.Reading.{numberOf}
+use Rattle.instruction_rules.specs.declared.Decoded.{Decoded}
+use Rattle.instruction_rules.specs.declared.Decoded.the-variants.{Instruction, NoInstruction, ControlUsed}
+use Rattle.instruction_rules.specs.Conditions.{NoCode, ControlTouched}
+use Rattle.instruction_rules.specs.Execute.{decodedAt}
+use Rattle.instruction_rules.specs.Operands.{byteHere}
+use Rattle.ground_rules.proofs.ChannelLaws.{fresh-sound, fresh-powered}
+use Rattle.ground_rules.proofs.FieldLaws.{fresh-agree}
+use Rattle.ground_rules.specs.Outcomes.{Outcome}
+use Rattle.ground_rules.specs.States.{sound, agree}
+use Rattle.ground_rules.specs.declared.Board.{Board}
+use Rattle.ground_rules.specs.declared.Channel.{Channel}
+use Rattle.ground_rules.specs.declared.State.{State}
+use Rattle.ground_rules.specs.Buffers.{Buffers, AllBytes}
+use Rattle.ground_rules.specs.Values.{onward}
+use Rattle.attention_rules.proofs.PowerOutcomes.{power-accepted, found-sound, found-powered, found-agree}
+use Rattle.attention_rules.specs.Power.{powerUpOf}
+use Rattle.turn_rules.proofs.NumberLaws.{step-ready}
+use Rattle.turn_rules.proofs.OutcomeLaws.{refused, board-kept}
+use Rattle.turn_rules.proofs.SoundLaws.{sound-kept, step-agree}
+use Rattle.turn_rules.specs.Step.{Step, stepOf}
 use Rattle.promises.specs.Made.{Made, NoRow, RowUsesControl}
 use Rattle.promises.specs.Made.Made.{fresh, power, attention, step}
 

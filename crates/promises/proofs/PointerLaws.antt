@@ -10,44 +10,44 @@ use mathlib.Core.Path.{_≡_, refl, sym, subst, ap, _∙_}
 use native.Mathlib.Decide.{ℕ-discrete}
 use native.Mathlib.Nat.{mod-lt, mod-eq-of-lt, add-zero}
 use native.Mathlib.Omega.{arith}
-use Rattle.decode.specs.Lengths.{lengthOf}
-use Rattle.decode_shapes.specs.Pairs.{pairOf}
-use Rattle.decode.specs.Reading.{fits, lookup, decodeOf}
-use Rattle.decode_shapes.specs.Rows.{isControl}
-use Rattle.decode.specs.Table.{SummaryRow, table}
-use Rattle.decode_shapes.specs.declared.Decoded.{Decoded}
-use Rattle.decode_shapes.specs.declared.Decoded.the-variants.{Instruction, NoInstruction, ControlUsed}
-use Rattle.decode_shapes.specs.declared.Memory.{Memory}
-use Rattle.decode_shapes.specs.declared.Shape.{Shape}
-use Rattle.decode_shapes.specs.declared.Shape.the-variants.{Nop, Sintr, Xfer, Wid, Hlt, Lpdi, RegisterImmediate, Register, JumpRegister, RegisterMemory, MemoryRegister, MemoryImmediate, MemoryAlone, JumpMemory, Lpd, MovpLoad, MovpStore, MovMemory, Tsl, Call, JumpMasked, JumpBit, Bit}
-use Rattle.decode_shapes.specs.declared.pairs.Pair.{Pair}
-use Rattle.execute_deeds.specs.Deeds.{Deed}
-use Rattle.execute_deeds.specs.JumpForms.{callDeed}
-use Rattle.execute_deeds.specs.MemoryForms.{movpStoreDeed}
-use Rattle.execute_deeds.specs.RegisterForms.{movpLoadDeed}
-use Rattle.execute.proofs.OutcomeLaws.{done}
-use Rattle.execute.proofs.PointerLaws.{register-written, tag-written}
-use Rattle.execute.specs.Execute.{Executed, decodedAt, performed, deedOf, executeOf}
-use Rattle.execute.specs.Kept.{IsPointer}
-use Rattle.machine.proofs.ChannelLaws.{put-same, last-channel, sound-channel-of}
-use Rattle.machine.specs.Registers.{byRRR, registerOf, tagOf, withRegister}
-use Rattle.machine.specs.States.{channelOf, withChannel, soundChannel, blockOf, busyIn}
-use Rattle.machine.specs.declared.Channel.{Channel}
-use Rattle.machine.specs.declared.State.{State}
-use Rattle.memory.proofs.StoreLaws.{pointer-back}
-use Rattle.memory.specs.Buffers.{Buffers}
-use Rattle.memory.specs.Values.{pointer, pointerAt, onward}
-use Rattle.memory.specs.declared.Pointer.{Pointer}
-use Rattle.execute_operands.specs.Changes.{changed, pointerTo}
-use Rattle.execute_operands.proofs.ChangeLaws.{pointer-changed}
-use Rattle.execute_operands.specs.Marks.{pastInstruction}
-use Rattle.execute_operands.specs.Operands.{byteHere, grown}
-use Rattle.machine.specs.Updates.{renewed}
-use Rattle.step.proofs.SoundLaws.{entry-sound}
-use Rattle.step.specs.Step.{Step, doneStep, settledStep, instructionStep, channelStep, chosenStep, entryNumber, stepOf}
-use Rattle.step.specs.declared.Kind.{Kind}
-use Rattle.words.proofs.ChoiceLaws.{apart, both-left, both-right, or-false}
-use Rattle.words.specs.Choice.{pick}
+use Rattle.instruction_rules.specs.Lengths.{lengthOf}
+use Rattle.instruction_rules.specs.Pairs.{pairOf}
+use Rattle.instruction_rules.specs.Reading.{fits, lookup, decodeOf}
+use Rattle.instruction_rules.specs.Rows.{isControl}
+use Rattle.instruction_rules.specs.Table.{SummaryRow, table}
+use Rattle.instruction_rules.specs.declared.Decoded.{Decoded}
+use Rattle.instruction_rules.specs.declared.Decoded.the-variants.{Instruction, NoInstruction, ControlUsed}
+use Rattle.instruction_rules.specs.declared.Memory.{Memory}
+use Rattle.instruction_rules.specs.declared.Shape.{Shape}
+use Rattle.instruction_rules.specs.declared.Shape.the-variants.{Nop, Sintr, Xfer, Wid, Hlt, Lpdi, RegisterImmediate, Register, JumpRegister, RegisterMemory, MemoryRegister, MemoryImmediate, MemoryAlone, JumpMemory, Lpd, MovpLoad, MovpStore, MovMemory, Tsl, Call, JumpMasked, JumpBit, Bit}
+use Rattle.instruction_rules.specs.declared.Pair.{Pair}
+use Rattle.instruction_rules.specs.Deeds.{Deed}
+use Rattle.instruction_rules.specs.JumpForms.{callDeed}
+use Rattle.instruction_rules.specs.MemoryForms.{movpStoreDeed}
+use Rattle.instruction_rules.specs.RegisterForms.{movpLoadDeed}
+use Rattle.instruction_rules.proofs.OutcomeLaws.{done}
+use Rattle.instruction_rules.proofs.PointerLaws.{register-written, tag-written}
+use Rattle.instruction_rules.specs.Execute.{Executed, decodedAt, performed, deedOf, executeOf}
+use Rattle.instruction_rules.specs.Kept.{IsPointer}
+use Rattle.ground_rules.proofs.ChannelLaws.{put-same, last-channel, sound-channel-of}
+use Rattle.ground_rules.specs.Registers.{byRRR, registerOf, tagOf, withRegister}
+use Rattle.ground_rules.specs.States.{channelOf, withChannel, soundChannel, blockOf, busyIn}
+use Rattle.ground_rules.specs.declared.Channel.{Channel}
+use Rattle.ground_rules.specs.declared.State.{State}
+use Rattle.ground_rules.proofs.StoreLaws.{pointer-back}
+use Rattle.ground_rules.specs.Buffers.{Buffers}
+use Rattle.ground_rules.specs.Values.{pointer, pointerAt, onward}
+use Rattle.ground_rules.specs.declared.Pointer.{Pointer}
+use Rattle.instruction_rules.specs.Changes.{changed, pointerTo}
+use Rattle.instruction_rules.proofs.ChangeLaws.{pointer-changed}
+use Rattle.instruction_rules.specs.Marks.{pastInstruction}
+use Rattle.instruction_rules.specs.Operands.{byteHere, grown}
+use Rattle.ground_rules.specs.Updates.{renewed}
+use Rattle.turn_rules.proofs.SoundLaws.{entry-sound}
+use Rattle.turn_rules.specs.Step.{Step, doneStep, settledStep, instructionStep, channelStep, chosenStep, entryNumber, stepOf}
+use Rattle.turn_rules.specs.declared.Kind.{Kind}
+use Rattle.ground_rules.proofs.ChoiceLaws.{apart, both-left, both-right, or-false}
+use Rattle.ground_rules.specs.Choice.{pick}
 use Rattle.block_rules.specs.Premises.{Lent}
 use Rattle.promises.specs.Pointers.{Holds, StepCall, leftBy, channelOn, Executes, found, operandOf, SameThree, LoadsFrom}
 

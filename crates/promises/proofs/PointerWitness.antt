@@ -5,37 +5,37 @@ use mathlib.Core.Bool.{Bool, true, false}
 use mathlib.Core.List.{List, [], _∷_, _++_}
 use mathlib.Core.Path.{refl}
 use lib.ListN.{replicate}
-use Rattle.decode.specs.Lengths.{lengthOf, dataLength, displacementLength, offsetLength}
-use Rattle.decode_shapes.specs.Pairs.{pairOf}
-use Rattle.decode.specs.Reading.{lookup, decodeOf}
-use Rattle.decode.specs.Table.{table}
-use Rattle.decode_shapes.specs.declared.Memory.{Memory}
-use Rattle.decode_shapes.specs.declared.Shape.{Shape}
-use Rattle.decode_shapes.specs.declared.Shape.the-variants.{MovpStore, Call}
-use Rattle.execute_deeds.specs.JumpForms.{callDeed}
-use Rattle.execute_deeds.specs.MemoryForms.{movpStoreDeed}
-use Rattle.execute_deeds.specs.RegisterForms.{movpLoadDeed}
-use Rattle.execute.specs.Execute.{decodedAt, performed, deedOf, laterBytes, laterFrom, deedFrom, stagesFrom, instructionStages, executeNumber, executeOf}
-use Rattle.machine.specs.Cc.{split, sameFlag, sameFields}
-use Rattle.machine.specs.Outcomes.{unless, first, givenNumber}
-use Rattle.machine.specs.Stages.{stagesNumber}
-use Rattle.machine.specs.Registers.{byRRR, registerOf, tagOf, withRegister, baseOf}
-use Rattle.machine.specs.States.{freshState, idleChannel, channelOf, withChannel, withLast, soundChannel, sound, isRunning, blockOf, busyIn, channelNumber, fieldsAgree, agree}
-use Rattle.machine.specs.declared.Channel.{Channel}
-use Rattle.machine.specs.declared.Held.the-variants.{NoByte}
-use Rattle.machine.specs.declared.Mode.the-variants.{Running}
-use Rattle.memory.proofs.SpanLaws.{span-at}
-use Rattle.memory.specs.Buffers.{buffers, spaceOf, limitOf, indexOf, lentAt, touchableAt, beyondIn, byteAt, storeByte, withinLimits}
-use Rattle.memory.specs.Places.{span, allPass}
-use Rattle.memory.specs.Values.{pointer, pointerAt, onward}
-use Rattle.execute_operands.specs.Changes.{placesOf, changed, storedValue}
-use Rattle.execute_operands.specs.Marks.{usedUp, pastInstruction}
-use Rattle.execute_operands.specs.Operands.{indexed, effective, grown, displacementAt, landing, jumpedIf}
-use Rattle.machine.specs.Updates.{renewed}
-use Rattle.step.specs.Choosing.{requested, external, endsNow, transferRank, rankOf, secondWins, ranked, choiceOf}
-use Rattle.step.specs.Step.{settledStep, instructionStep, channelStep, chosenStep, entryNumber, stepOf}
-use Rattle.words.specs.Bits.{fieldOf, bitOf}
-use Rattle.words.specs.Signs.{signedOf, displacedBy}
+use Rattle.instruction_rules.specs.Lengths.{lengthOf, dataLength, displacementLength, offsetLength}
+use Rattle.instruction_rules.specs.Pairs.{pairOf}
+use Rattle.instruction_rules.specs.Reading.{lookup, decodeOf}
+use Rattle.instruction_rules.specs.Table.{table}
+use Rattle.instruction_rules.specs.declared.Memory.{Memory}
+use Rattle.instruction_rules.specs.declared.Shape.{Shape}
+use Rattle.instruction_rules.specs.declared.Shape.the-variants.{MovpStore, Call}
+use Rattle.instruction_rules.specs.JumpForms.{callDeed}
+use Rattle.instruction_rules.specs.MemoryForms.{movpStoreDeed}
+use Rattle.instruction_rules.specs.RegisterForms.{movpLoadDeed}
+use Rattle.instruction_rules.specs.Execute.{decodedAt, performed, deedOf, laterBytes, laterFrom, deedFrom, stagesFrom, instructionStages, executeNumber, executeOf}
+use Rattle.ground_rules.specs.Cc.{split, sameFlag, sameFields}
+use Rattle.ground_rules.specs.Outcomes.{unless, first, givenNumber}
+use Rattle.ground_rules.specs.Stages.{stagesNumber}
+use Rattle.ground_rules.specs.Registers.{byRRR, registerOf, tagOf, withRegister, baseOf}
+use Rattle.ground_rules.specs.States.{freshState, idleChannel, channelOf, withChannel, withLast, soundChannel, sound, isRunning, blockOf, busyIn, channelNumber, fieldsAgree, agree}
+use Rattle.ground_rules.specs.declared.Channel.{Channel}
+use Rattle.ground_rules.specs.declared.Held.the-variants.{NoByte}
+use Rattle.ground_rules.specs.declared.Mode.the-variants.{Running}
+use Rattle.ground_rules.proofs.SpanLaws.{span-at}
+use Rattle.ground_rules.specs.Buffers.{buffers, spaceOf, limitOf, indexOf, lentAt, touchableAt, beyondIn, byteAt, storeByte, withinLimits}
+use Rattle.ground_rules.specs.Places.{span, allPass}
+use Rattle.ground_rules.specs.Values.{pointer, pointerAt, onward}
+use Rattle.instruction_rules.specs.Changes.{placesOf, changed, storedValue}
+use Rattle.instruction_rules.specs.Marks.{usedUp, pastInstruction}
+use Rattle.instruction_rules.specs.Operands.{indexed, effective, grown, displacementAt, landing, jumpedIf}
+use Rattle.ground_rules.specs.Updates.{renewed}
+use Rattle.turn_rules.specs.Choosing.{requested, external, endsNow, transferRank, rankOf, secondWins, ranked, choiceOf}
+use Rattle.turn_rules.specs.Step.{settledStep, instructionStep, channelStep, chosenStep, entryNumber, stepOf}
+use Rattle.ground_rules.specs.Bits.{fieldOf, bitOf}
+use Rattle.ground_rules.specs.Signs.{signedOf, displacedBy}
 use Rattle.promises.specs.Pointers.{Holds, StepCall, leftBy, Executes, operandOf, LoadsFrom}
 use Rattle.promises.proofs.PointerLaws.{movp-back, call-back}
 

@@ -8,29 +8,29 @@ use mathlib.Core.Logic.{inl, inr, ⊎-elim, _⊎_, _↔_, Iff·trans}
 use mathlib.Core.Path.{_≡_, refl, sym, ap, ap₂, _∙_}
 use native.Mathlib.Nat.{add-zero}
 use native.Mathlib.Omega.{arith}
-use Rattle.attention.proofs.Numbers.{given-exactly}
-use Rattle.attention.specs.Attention.{attentionOf}
-use Rattle.attention.specs.Conditions.{NoChannel}
-use Rattle.board.proofs.Outcomes.{refused-call, refused-power, accepted-power, number-most, steps-most, answer-is}
-use Rattle.machine.proofs.ConditionLaws.{step, last, told-exactly, told-limits, told-sound, told-touchable}
-use Rattle.machine.proofs.GivenLaws.{GivenOr}
-use Rattle.machine.specs.Conditions.{check, Given, TooLong, NotSound, Beyond}
-use Rattle.machine.specs.Outcomes.{Outcome}
-use Rattle.machine.specs.States.{idleChannel, resetState, channelOf, soundChannel, sound, isRunning, busyIn}
-use Rattle.machine.specs.declared.Channel.{Channel}
-use Rattle.machine.specs.declared.State.{State}
-use Rattle.memory.proofs.PlaceLaws.{index-reduced, index-after, lent-index, byte-index}
-use Rattle.memory.proofs.SpanLaws.{all-append}
-use Rattle.memory.specs.Buffers.{Buffers, indexOf, touchableAt}
-use Rattle.memory.specs.Places.{Place, span, allPass, allTouchable}
-use Rattle.power.proofs.Numbers.{places-lent, power-given, power-most}
-use Rattle.power.proofs.Outcomes.{power-refused, power-accepted, power-same, power-bytes, power-lengths, busy-cleared}
-use Rattle.power.specs.Power.{configurationOf, controlPlace, controlOf, boardOf, powerPlaces, foundState, powerUpOf}
-use Rattle.panel.specs.Run.{ran, attendedRun, callNumber}
-use Rattle.step.proofs.NumberLaws.{number-given}
-use Rattle.step.specs.Conditions.{LinesOver}
-use Rattle.words.proofs.ChoiceLaws.{apart}
-use Rattle.words.specs.Bits.{bitOf}
+use Rattle.attention_rules.proofs.Numbers.{given-exactly}
+use Rattle.attention_rules.specs.Attention.{attentionOf}
+use Rattle.attention_rules.specs.Conditions.{NoChannel}
+use Rattle.run_rules.proofs.BoardOutcomes.{refused-call, refused-power, accepted-power, number-most, steps-most, answer-is}
+use Rattle.ground_rules.proofs.ConditionLaws.{step, last, told-exactly, told-limits, told-sound, told-touchable}
+use Rattle.ground_rules.proofs.GivenLaws.{GivenOr}
+use Rattle.ground_rules.specs.Conditions.{check, Given, TooLong, NotSound, Beyond}
+use Rattle.ground_rules.specs.Outcomes.{Outcome}
+use Rattle.ground_rules.specs.States.{idleChannel, resetState, channelOf, soundChannel, sound, isRunning, busyIn}
+use Rattle.ground_rules.specs.declared.Channel.{Channel}
+use Rattle.ground_rules.specs.declared.State.{State}
+use Rattle.ground_rules.proofs.PlaceLaws.{index-reduced, index-after, lent-index, byte-index}
+use Rattle.ground_rules.proofs.SpanLaws.{all-append}
+use Rattle.ground_rules.specs.Buffers.{Buffers, indexOf, touchableAt}
+use Rattle.ground_rules.specs.Places.{Place, span, allPass, allTouchable}
+use Rattle.attention_rules.proofs.PowerNumbers.{places-lent, power-given, power-most}
+use Rattle.attention_rules.proofs.PowerOutcomes.{power-refused, power-accepted, power-same, power-bytes, power-lengths, busy-cleared}
+use Rattle.attention_rules.specs.Power.{configurationOf, controlPlace, controlOf, boardOf, powerPlaces, foundState, powerUpOf}
+use Rattle.run_rules.specs.Run.{ran, attendedRun, callNumber}
+use Rattle.turn_rules.proofs.NumberLaws.{number-given}
+use Rattle.turn_rules.specs.Conditions.{LinesOver}
+use Rattle.ground_rules.proofs.ChoiceLaws.{apart}
+use Rattle.ground_rules.specs.Bits.{bitOf}
 use Rattle.promises.specs.Demand1.{Blank}
 use Rattle.promises.specs.Powering.{Unused, setIn, configurationIn, controlIn, thirteenAfter, ResetLeaves, elevenIn, PowerLeaves, boardChecks, BoardRuns, Breaks, RowBroken}
 use Rattle.promises.specs.Runs.{LimitOver}

@@ -6,28 +6,28 @@ use mathlib.Core.Bool.{Bool, true, false}
 use mathlib.Core.Path.{_≡_, refl, sym, ap, ap₂, subst, _∙_}
 use native.Mathlib.Nat.{mod-mod}
 use native.Mathlib.Omega.{arith}
-use Rattle.execute.proofs.ChannelLaws.{pp-kept}
-use Rattle.execute.specs.Execute.{Executed}
-use Rattle.machine.proofs.ChannelLaws.{put-same, last-channel}
-use Rattle.machine.proofs.FieldLaws.{agrees, agreed}
-use Rattle.machine.specs.Cc.{split}
-use Rattle.machine.specs.declared.Fields.{Fields}
-use Rattle.machine.specs.Psw.{transferring, sourceWide, destinationWide}
-use Rattle.machine.specs.States.{channelOf, withChannel, withLast, soundChannel, isRunning, blockOf, busyIn, fieldsAgree}
-use Rattle.machine.specs.declared.Channel.{Channel}
-use Rattle.machine.specs.declared.Mode.the-variants.{Running}
-use Rattle.machine.specs.declared.State.{State}
-use Rattle.memory.specs.Buffers.{Buffers}
-use Rattle.memory.specs.Values.{pointer}
-use Rattle.memory.specs.declared.Pointer.{Pointer}
-use Rattle.step.proofs.OutcomeLaws.{cp-kept}
-use Rattle.step.specs.Step.{Step, doneStep, stepOf}
-use Rattle.step.specs.declared.Kind.the-variants.{Instruction}
-use Rattle.transfer.specs.Sides.{side, source, destination}
-use Rattle.words.specs.Bits.{fieldOf, bitOf}
-use Rattle.words.specs.Bytes.{lowByte, highByte, wordOf}
-use Rattle.words.specs.Choice.{pick}
-use Rattle.words.specs.Sums.{addressOf}
+use Rattle.instruction_rules.proofs.ChannelLaws.{pp-kept}
+use Rattle.instruction_rules.specs.Execute.{Executed}
+use Rattle.ground_rules.proofs.ChannelLaws.{put-same, last-channel}
+use Rattle.ground_rules.proofs.FieldLaws.{agrees, agreed}
+use Rattle.ground_rules.specs.Cc.{split}
+use Rattle.ground_rules.specs.declared.Fields.{Fields}
+use Rattle.ground_rules.specs.Psw.{transferring, sourceWide, destinationWide}
+use Rattle.ground_rules.specs.States.{channelOf, withChannel, withLast, soundChannel, isRunning, blockOf, busyIn, fieldsAgree}
+use Rattle.ground_rules.specs.declared.Channel.{Channel}
+use Rattle.ground_rules.specs.declared.Mode.the-variants.{Running}
+use Rattle.ground_rules.specs.declared.State.{State}
+use Rattle.ground_rules.specs.Buffers.{Buffers}
+use Rattle.ground_rules.specs.Values.{pointer}
+use Rattle.ground_rules.specs.declared.Pointer.{Pointer}
+use Rattle.turn_rules.proofs.OutcomeLaws.{cp-kept}
+use Rattle.turn_rules.specs.Step.{Step, doneStep, stepOf}
+use Rattle.turn_rules.specs.declared.Kind.the-variants.{Instruction}
+use Rattle.transfer_rules.specs.Sides.{side, source, destination}
+use Rattle.ground_rules.specs.Bits.{fieldOf, bitOf}
+use Rattle.ground_rules.specs.Bytes.{lowByte, highByte, wordOf}
+use Rattle.ground_rules.specs.Choice.{pick}
+use Rattle.ground_rules.specs.Sums.{addressOf}
 use Rattle.promises.specs.Cases.{Stand}
 use Rattle.promises.specs.Joined.{RunsAlone}
 use Rattle.promises.specs.Met.{pswOf, copying}

@@ -8,36 +8,36 @@ use mathlib.Core.List.{_++_}
 use mathlib.Core.Logic.{⊎-elim}
 use mathlib.Core.Path.{_≡_, refl, sym, ap, ap₂, subst, _∙_}
 use native.Mathlib.Nat.{mod-lt, mod-add-mod}
-use Rattle.machine.specs.Updates.{withControl}
-use Rattle.attention.proofs.Numbers.{gives-0}
-use Rattle.attention.proofs.Outcomes.{accepted-order}
-use Rattle.attention.specs.Attention.{orderTo, orderedChannel, orderedMemory, attentionOf}
-use Rattle.attention.specs.Conditions.{NoChannel}
-use Rattle.machine.proofs.ChannelLaws.{fresh-sound, named}
-use Rattle.machine.proofs.ConditionLaws.{told-sound, told-touchable, says-running}
-use Rattle.machine.proofs.FieldLaws.{agrees, told-agree, blank-agree}
-use Rattle.machine.proofs.GivenLaws.{told-powered}
-use Rattle.machine.specs.Cc.{split}
-use Rattle.machine.specs.Conditions.{TooLong}
-use Rattle.machine.specs.Outcomes.{outcome}
-use Rattle.machine.specs.Psw.{withPsw}
-use Rattle.machine.specs.States.{idleChannel, freshState, channelOf, withChannel, soundChannel, sound, isRunning, blockOf, busyIn, channelNumber, isSecond, boardWith, fieldsAgree, agree}
-use Rattle.machine.specs.declared.Made.{Made}
-use Rattle.machine.specs.declared.Channel.{Channel}
-use Rattle.machine.specs.declared.Mode.the-variants.{Running}
-use Rattle.memory.proofs.PlaceLaws.{index-reduced, index-after, lent-index, word-reduced, store-reduced}
-use Rattle.memory.proofs.SpanLaws.{all-append}
-use Rattle.memory.specs.Buffers.{Buffers, lentAt, touchableAt, byteAt, storeByte}
-use Rattle.memory.specs.Places.{span, allPass, allTouchable}
-use Rattle.memory.specs.Values.{wordAt, doublewordAt, pointer}
-use Rattle.attention.specs.Blocks.{ccwOf, parameterBlock, orderOf}
-use Rattle.attention.specs.Commands.{commandCoded, copied, obeyed, ordered}
-use Rattle.attention.specs.Effects.{started, commanded, channelOrdered, writesOf, marked, writesMade}
-use Rattle.attention.specs.Touched.{readBy, storedBy, others}
-use Rattle.attention.specs.declared.Command.the-variants.{StartSystem}
-use Rattle.attention.specs.declared.Order.{Order}
-use Rattle.words.specs.Bits.{fieldOf, bitOf, withBit}
-use Rattle.words.specs.Sums.{addressOf}
+use Rattle.ground_rules.specs.Updates.{withControl}
+use Rattle.attention_rules.proofs.Numbers.{gives-0}
+use Rattle.attention_rules.proofs.Outcomes.{accepted-order}
+use Rattle.attention_rules.specs.Attention.{orderTo, orderedChannel, orderedMemory, attentionOf}
+use Rattle.attention_rules.specs.Conditions.{NoChannel}
+use Rattle.ground_rules.proofs.ChannelLaws.{fresh-sound, named}
+use Rattle.ground_rules.proofs.ConditionLaws.{told-sound, told-touchable, says-running}
+use Rattle.ground_rules.proofs.FieldLaws.{agrees, told-agree, blank-agree}
+use Rattle.ground_rules.proofs.GivenLaws.{told-powered}
+use Rattle.ground_rules.specs.Cc.{split}
+use Rattle.ground_rules.specs.Conditions.{TooLong}
+use Rattle.ground_rules.specs.Outcomes.{outcome}
+use Rattle.ground_rules.specs.Psw.{withPsw}
+use Rattle.ground_rules.specs.States.{idleChannel, freshState, channelOf, withChannel, soundChannel, sound, isRunning, blockOf, busyIn, channelNumber, isSecond, boardWith, fieldsAgree, agree}
+use Rattle.ground_rules.specs.declared.Made.{Made}
+use Rattle.ground_rules.specs.declared.Channel.{Channel}
+use Rattle.ground_rules.specs.declared.Mode.the-variants.{Running}
+use Rattle.ground_rules.proofs.PlaceLaws.{index-reduced, index-after, lent-index, word-reduced, store-reduced}
+use Rattle.ground_rules.proofs.SpanLaws.{all-append}
+use Rattle.ground_rules.specs.Buffers.{Buffers, lentAt, touchableAt, byteAt, storeByte}
+use Rattle.ground_rules.specs.Places.{span, allPass, allTouchable}
+use Rattle.ground_rules.specs.Values.{wordAt, doublewordAt, pointer}
+use Rattle.attention_rules.specs.Blocks.{ccwOf, parameterBlock, orderOf}
+use Rattle.attention_rules.specs.Commands.{commandCoded, copied, obeyed, ordered}
+use Rattle.attention_rules.specs.Effects.{started, commanded, channelOrdered, writesOf, marked, writesMade}
+use Rattle.attention_rules.specs.Touched.{readBy, storedBy, others}
+use Rattle.attention_rules.specs.declared.Command.the-variants.{StartSystem}
+use Rattle.attention_rules.specs.declared.Order.{Order}
+use Rattle.ground_rules.specs.Bits.{fieldOf, bitOf, withBit}
+use Rattle.ground_rules.specs.Sums.{addressOf}
 use Rattle.block_rules.specs.Premises.{Lent}
 use Rattle.promises.proofs.ProgramSteps.{view, viewOf}
 use Rattle.promises.proofs.RunLaws.{fresh-good}

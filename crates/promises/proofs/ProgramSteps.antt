@@ -7,37 +7,37 @@ use mathlib.Core.List.{List, _∷_}
 use mathlib.Core.Path.{_≡_, refl, sym, ap, ap₂, subst, _∙_}
 use native.Mathlib.Nat.{mod-mod}
 use native.Mathlib.Omega.{arith}
-use Rattle.machine.specs.Updates.{renewed, withControl, stoppedPsw, halted}
-use Rattle.decode.specs.Lengths.{dataLength, displacementLength, lengthOf}
-use Rattle.decode.specs.Reading.{lookup, decodeOf}
-use Rattle.decode.specs.Table.{table}
-use Rattle.execute_deeds.specs.Control.{withStatus, xferDeed, widDeed, hltDeed}
-use Rattle.execute_deeds.specs.RegisterForms.{registerWritten, lpdiDeed}
-use Rattle.execute.proofs.OutcomeLaws.{done-where}
-use Rattle.execute.specs.Execute.{performed, deedOf, laterBytes, executed, executeOf}
-use Rattle.machine.specs.Psw.{withPsw}
-use Rattle.machine.specs.Registers.{withRegister, moved, loaded}
-use Rattle.machine.specs.States.{isRunning}
-use Rattle.machine.specs.declared.Channel.{Channel}
-use Rattle.machine.specs.declared.Mode.{Mode}
-use Rattle.machine.specs.declared.Mode.the-variants.{Running}
-use Rattle.memory.specs.Buffers.{Buffers, lentAt, touchableAt, storeByte}
-use Rattle.memory.specs.Places.{span, allPass, allTouchable}
-use Rattle.memory.specs.Values.{pointer, onward}
-use Rattle.memory.specs.declared.Pointer.{Pointer}
-use Rattle.execute_operands.specs.Changes.{placesOf, changed}
-use Rattle.execute_operands.specs.Marks.{usedUp, pastInstruction, markSet}
-use Rattle.execute_operands.specs.Operands.{workOf, isMove}
-use Rattle.decode_shapes.specs.Pairs.{pairOf}
-use Rattle.decode_shapes.specs.declared.Decoded.the-variants.{Instruction}
-use Rattle.decode_shapes.specs.declared.Shape.{Shape}
-use Rattle.decode_shapes.specs.declared.Shape.the-variants.{Lpdi, RegisterImmediate, Xfer, Wid, Hlt}
-use Rattle.decode_shapes.specs.declared.Work.the-variants.{Mov}
-use Rattle.words.specs.Bits.{fieldOf, bitOf, withBit}
-use Rattle.words.specs.Bytes.{wordOf}
-use Rattle.words.specs.Choice.{pick}
-use Rattle.words.specs.Signs.{extended}
-use Rattle.words.specs.Sums.{addressOf}
+use Rattle.ground_rules.specs.Updates.{renewed, withControl, stoppedPsw, halted}
+use Rattle.instruction_rules.specs.Lengths.{dataLength, displacementLength, lengthOf}
+use Rattle.instruction_rules.specs.Reading.{lookup, decodeOf}
+use Rattle.instruction_rules.specs.Table.{table}
+use Rattle.instruction_rules.specs.Control.{withStatus, xferDeed, widDeed, hltDeed}
+use Rattle.instruction_rules.specs.RegisterForms.{registerWritten, lpdiDeed}
+use Rattle.instruction_rules.proofs.OutcomeLaws.{done-where}
+use Rattle.instruction_rules.specs.Execute.{performed, deedOf, laterBytes, executed, executeOf}
+use Rattle.ground_rules.specs.Psw.{withPsw}
+use Rattle.ground_rules.specs.Registers.{withRegister, moved, loaded}
+use Rattle.ground_rules.specs.States.{isRunning}
+use Rattle.ground_rules.specs.declared.Channel.{Channel}
+use Rattle.ground_rules.specs.declared.Mode.{Mode}
+use Rattle.ground_rules.specs.declared.Mode.the-variants.{Running}
+use Rattle.ground_rules.specs.Buffers.{Buffers, lentAt, touchableAt, storeByte}
+use Rattle.ground_rules.specs.Places.{span, allPass, allTouchable}
+use Rattle.ground_rules.specs.Values.{pointer, onward}
+use Rattle.ground_rules.specs.declared.Pointer.{Pointer}
+use Rattle.instruction_rules.specs.Changes.{placesOf, changed}
+use Rattle.instruction_rules.specs.Marks.{usedUp, pastInstruction, markSet}
+use Rattle.instruction_rules.specs.Operands.{workOf, isMove}
+use Rattle.instruction_rules.specs.Pairs.{pairOf}
+use Rattle.instruction_rules.specs.declared.Decoded.the-variants.{Instruction}
+use Rattle.instruction_rules.specs.declared.Shape.{Shape}
+use Rattle.instruction_rules.specs.declared.Shape.the-variants.{Lpdi, RegisterImmediate, Xfer, Wid, Hlt}
+use Rattle.instruction_rules.specs.declared.Work.the-variants.{Mov}
+use Rattle.ground_rules.specs.Bits.{fieldOf, bitOf, withBit}
+use Rattle.ground_rules.specs.Bytes.{wordOf}
+use Rattle.ground_rules.specs.Choice.{pick}
+use Rattle.ground_rules.specs.Signs.{extended}
+use Rattle.ground_rules.specs.Sums.{addressOf}
 use Rattle.promises.specs.Cases.{Stand}
 use Rattle.promises.specs.Met.{pswOf}
 use Rattle.promises.specs.Program.{widOf}

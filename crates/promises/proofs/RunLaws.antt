@@ -9,22 +9,22 @@ use mathlib.Core.Path.{_≡_, refl, sym, subst, ap, _∙_}
 use native.Mathlib.Decide.{ℕ-discrete, decLt}
 use native.Mathlib.Numerals.{add-one}
 use native.Mathlib.Omega.{arith}
-use Rattle.attention.proofs.ConditionLaws.{told-channel}
-use Rattle.attention.specs.Conditions.{NoChannel}
-use Rattle.machine.proofs.ConditionLaws.{Told, step, last, first-assoc, first-none-left, first-none-right, told-ltb, told-and, told-limits}
-use Rattle.machine.proofs.OutcomeLaws.{first-none, first-some}
-use Rattle.machine.specs.Conditions.{Given}
-use Rattle.machine.specs.Outcomes.{unless, first}
-use Rattle.machine.specs.States.{freshState, freshOf, isChannel}
-use Rattle.machine.specs.declared.Made.{Made}
-use Rattle.machine.specs.declared.State.{State}
-use Rattle.memory.specs.Buffers.{Buffers}
-use Rattle.panel.proofs.Outcomes.{refused-call, refused-cp, refused-attention, accepted-attention}
-use Rattle.panel.proofs.RunLaws.{stops, goes, limits}
-use Rattle.panel.specs.Run.{Run, ran, stepsFrom, callNumber, runOf}
-use Rattle.step.proofs.OutcomeLaws.{refused}
-use Rattle.step.specs.Conditions.{LinesOver}
-use Rattle.step.specs.Step.{Step, stepOf}
+use Rattle.attention_rules.proofs.ConditionLaws.{told-channel}
+use Rattle.attention_rules.specs.Conditions.{NoChannel}
+use Rattle.ground_rules.proofs.ConditionLaws.{Told, step, last, first-assoc, first-none-left, first-none-right, told-ltb, told-and, told-limits}
+use Rattle.ground_rules.proofs.OutcomeLaws.{first-none, first-some}
+use Rattle.ground_rules.specs.Conditions.{Given}
+use Rattle.ground_rules.specs.Outcomes.{unless, first}
+use Rattle.ground_rules.specs.States.{freshState, freshOf, isChannel}
+use Rattle.ground_rules.specs.declared.Made.{Made}
+use Rattle.ground_rules.specs.declared.State.{State}
+use Rattle.ground_rules.specs.Buffers.{Buffers}
+use Rattle.run_rules.proofs.Outcomes.{refused-call, refused-cp, refused-attention, accepted-attention}
+use Rattle.run_rules.proofs.RunLaws.{stops, goes, limits}
+use Rattle.run_rules.specs.Run.{Run, ran, stepsFrom, callNumber, runOf}
+use Rattle.turn_rules.proofs.OutcomeLaws.{refused}
+use Rattle.turn_rules.specs.Conditions.{LinesOver}
+use Rattle.turn_rules.specs.Step.{Step, stepOf}
 use Rattle.promises.specs.Runs.{LimitOver, CpPast, startChecks, firstAttention, DoneSteps, StepsEnd, RunEnds, none, more, limited, notStarted, notAccepted, after}
 
 -- ---- the steps

@@ -9,34 +9,34 @@ use mathlib.Core.List.{[], _∷_, _++_}
 use mathlib.Core.Path.{_≡_, refl, sym, subst, ap, _∙_}
 use native.Mathlib.Nat.{add-zero}
 use native.Mathlib.Omega.{arith}
-use Rattle.attention.proofs.Outcomes.{accepted-order, passed-command, passed-others}
-use Rattle.attention.proofs.Pauses.{ordered-else}
-use Rattle.attention.specs.Attention.{orderTo, orderedChannel, orderedMemory}
-use Rattle.attention.specs.Blocks.{ccwOf, parameterBlock, orderOf}
-use Rattle.attention.specs.Commands.{commandCoded, isKnown, commandNumber, copied, obeyed, ordered}
-use Rattle.attention.specs.Effects.{onlyPsw, started, suspended, resumed, commanded, channelOrdered, writesOf, saved, marked, writesMade}
-use Rattle.attention.specs.Touched.{readBy, storedBy, others}
-use Rattle.attention.specs.declared.Command.{Command}
-use Rattle.attention.specs.declared.Command.the-variants.{Update, StartLocal, StartSystem, Suspend, Resume, Halt, Unknown}
-use Rattle.machine.proofs.ChannelLaws.{put-same, named}
-use Rattle.machine.specs.Outcomes.{Outcome, outcome, unless, first}
-use Rattle.machine.specs.Psw.{withPsw}
-use Rattle.machine.specs.States.{channelOf, withChannel, blockOf, busyIn, channelNumber}
-use Rattle.machine.specs.Updates.{withControl, stoppedPsw, halted}
-use Rattle.machine.specs.declared.Channel.{Channel}
-use Rattle.machine.specs.declared.Held.{Held as HeldByte}
-use Rattle.machine.specs.declared.Mode.{Mode}
-use Rattle.machine.specs.declared.State.{State}
-use Rattle.memory.proofs.PlaceLaws.{store-index, index-reduced, later, after}
-use Rattle.memory.proofs.SpanLaws.{span-at, span-first, all-append, span-system}
-use Rattle.memory.proofs.StoreLaws.{store-lent, read-same, read-other, pointer-bytes}
-use Rattle.memory.specs.Buffers.{Buffers, indexOf, lentAt, touchableAt, byteAt, storeByte}
-use Rattle.memory.specs.Places.{span, allLent, allTouchable, Apart}
-use Rattle.memory.specs.Values.{wordAt, doublewordAt, pointer, pointerAt, storePointer}
-use Rattle.memory.specs.declared.Pointer.{Pointer}
-use Rattle.words.proofs.ChoiceLaws.{both-left, both-right}
-use Rattle.words.specs.Bits.{fieldOf, bitOf, withBit}
-use Rattle.words.specs.Choice.{pick}
+use Rattle.attention_rules.proofs.Outcomes.{accepted-order, passed-command, passed-others}
+use Rattle.attention_rules.proofs.Pauses.{ordered-else}
+use Rattle.attention_rules.specs.Attention.{orderTo, orderedChannel, orderedMemory}
+use Rattle.attention_rules.specs.Blocks.{ccwOf, parameterBlock, orderOf}
+use Rattle.attention_rules.specs.Commands.{commandCoded, isKnown, commandNumber, copied, obeyed, ordered}
+use Rattle.attention_rules.specs.Effects.{onlyPsw, started, suspended, resumed, commanded, channelOrdered, writesOf, saved, marked, writesMade}
+use Rattle.attention_rules.specs.Touched.{readBy, storedBy, others}
+use Rattle.attention_rules.specs.declared.Command.{Command}
+use Rattle.attention_rules.specs.declared.Command.the-variants.{Update, StartLocal, StartSystem, Suspend, Resume, Halt, Unknown}
+use Rattle.ground_rules.proofs.ChannelLaws.{put-same, named}
+use Rattle.ground_rules.specs.Outcomes.{Outcome, outcome, unless, first}
+use Rattle.ground_rules.specs.Psw.{withPsw}
+use Rattle.ground_rules.specs.States.{channelOf, withChannel, blockOf, busyIn, channelNumber}
+use Rattle.ground_rules.specs.Updates.{withControl, stoppedPsw, halted}
+use Rattle.ground_rules.specs.declared.Channel.{Channel}
+use Rattle.ground_rules.specs.declared.Held.{Held as HeldByte}
+use Rattle.ground_rules.specs.declared.Mode.{Mode}
+use Rattle.ground_rules.specs.declared.State.{State}
+use Rattle.ground_rules.proofs.PlaceLaws.{store-index, index-reduced, later, after}
+use Rattle.ground_rules.proofs.SpanLaws.{span-at, span-first, all-append, span-system}
+use Rattle.ground_rules.proofs.StoreLaws.{store-lent, read-same, read-other, pointer-bytes}
+use Rattle.ground_rules.specs.Buffers.{Buffers, indexOf, lentAt, touchableAt, byteAt, storeByte}
+use Rattle.ground_rules.specs.Places.{span, allLent, allTouchable, Apart}
+use Rattle.ground_rules.specs.Values.{wordAt, doublewordAt, pointer, pointerAt, storePointer}
+use Rattle.ground_rules.specs.declared.Pointer.{Pointer}
+use Rattle.ground_rules.proofs.ChoiceLaws.{both-left, both-right}
+use Rattle.ground_rules.specs.Bits.{fieldOf, bitOf, withBit}
+use Rattle.ground_rules.specs.Choice.{pick}
 use Rattle.promises.specs.SheetWords.{bit, formOf}
 use Rattle.promises.specs.SheetAttention.{blockIn, ccwAt, busyPlace, pbAt, outcomeTo, channelAfter, Attends, byIcf, StatusLeft, ControlLeft, BusyLeft, SavedLeft, AttentionSheet}
 use Rattle.promises.proofs.SheetLaws.{digit-of, bit-alike, bit-made, bit-kept, byte-alike, lent-alike, word-alike, far-alike}

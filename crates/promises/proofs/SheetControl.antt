@@ -7,29 +7,29 @@ use mathlib.Core.Bool.{Bool, true, false, not, _&&_, _||_}
 use mathlib.Core.List.{[], _∷_}
 use mathlib.Core.Path.{_≡_, refl, sym, subst, ap, ap₂, _∙_}
 use native.Mathlib.Decide.{ℕ-discrete}
-use Rattle.decode.specs.Lengths.{dataLength, displacementLength, lengthOf}
-use Rattle.decode.specs.Reading.{lookup}
-use Rattle.decode.specs.Table.{table}
-use Rattle.decode_shapes.specs.declared.Decoded.the-variants.{Instruction}
-use Rattle.decode_shapes.specs.declared.Shape.{Shape}
-use Rattle.decode_shapes.specs.declared.Shape.the-variants.{Nop, Sintr, Xfer, Wid, Hlt}
-use Rattle.execute.specs.Execute.{performed, deedOf}
-use Rattle.execute_deeds.specs.Control.{withStatus, nopDeed, sintrDeed, xferDeed, widDeed, hltDeed}
-use Rattle.execute_operands.specs.Changes.{placesOf, changed}
-use Rattle.execute_operands.specs.Marks.{usedUp, pastInstruction, markSet}
-use Rattle.machine.specs.Psw.{withPsw}
-use Rattle.machine.specs.States.{channelOf, blockOf, busyIn}
-use Rattle.machine.specs.Updates.{renewed, withControl, stoppedPsw, halted}
-use Rattle.machine.specs.declared.Channel.{Channel}
-use Rattle.machine.specs.declared.Mode.{Mode}
-use Rattle.machine.specs.declared.Mode.the-variants.{Idle}
-use Rattle.machine.specs.declared.State.{State}
-use Rattle.memory.proofs.PlaceLaws.{store-index, index-reduced}
-use Rattle.memory.specs.Buffers.{Buffers, indexOf, touchableAt, storeByte}
-use Rattle.memory.specs.Places.{allPass, allTouchable, span}
-use Rattle.step.specs.Step.{stepOf}
-use Rattle.words.specs.Bits.{bitOf, withBit}
-use Rattle.words.specs.Choice.{pick}
+use Rattle.instruction_rules.specs.Lengths.{dataLength, displacementLength, lengthOf}
+use Rattle.instruction_rules.specs.Reading.{lookup}
+use Rattle.instruction_rules.specs.Table.{table}
+use Rattle.instruction_rules.specs.declared.Decoded.the-variants.{Instruction}
+use Rattle.instruction_rules.specs.declared.Shape.{Shape}
+use Rattle.instruction_rules.specs.declared.Shape.the-variants.{Nop, Sintr, Xfer, Wid, Hlt}
+use Rattle.instruction_rules.specs.Execute.{performed, deedOf}
+use Rattle.instruction_rules.specs.Control.{withStatus, nopDeed, sintrDeed, xferDeed, widDeed, hltDeed}
+use Rattle.instruction_rules.specs.Changes.{placesOf, changed}
+use Rattle.instruction_rules.specs.Marks.{usedUp, pastInstruction, markSet}
+use Rattle.ground_rules.specs.Psw.{withPsw}
+use Rattle.ground_rules.specs.States.{channelOf, blockOf, busyIn}
+use Rattle.ground_rules.specs.Updates.{renewed, withControl, stoppedPsw, halted}
+use Rattle.ground_rules.specs.declared.Channel.{Channel}
+use Rattle.ground_rules.specs.declared.Mode.{Mode}
+use Rattle.ground_rules.specs.declared.Mode.the-variants.{Idle}
+use Rattle.ground_rules.specs.declared.State.{State}
+use Rattle.ground_rules.proofs.PlaceLaws.{store-index, index-reduced}
+use Rattle.ground_rules.specs.Buffers.{Buffers, indexOf, touchableAt, storeByte}
+use Rattle.ground_rules.specs.Places.{allPass, allTouchable, span}
+use Rattle.turn_rules.specs.Step.{stepOf}
+use Rattle.ground_rules.specs.Bits.{bitOf, withBit}
+use Rattle.ground_rules.specs.Choice.{pick}
 use Rattle.promises.specs.SheetWords.{bit, registerValues, tagsOf}
 use Rattle.promises.specs.SheetAttention.{busyPlace}
 use Rattle.promises.specs.SheetOperands.{Ran, ranChannel, registersAt, pastBy, RegistersLeft, BytesLeft}

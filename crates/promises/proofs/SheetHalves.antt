@@ -9,43 +9,43 @@ use mathlib.Core.Logic.{_⊎_, inl, inr}
 use mathlib.Core.Path.{_≡_, refl, sym, subst, ap, ap₂, _∙_}
 use native.Mathlib.Nat.{mod-lt}
 use borrow.Author.Tests.{eqb-false, eqb-true, eq-eqb, ne-eqb}
-use Rattle.attention.proofs.Outcomes.{refused-nothing}
-use Rattle.attention.specs.Attention.{attentionOf}
-use Rattle.execute.proofs.ChannelLaws.{execute-drops}
-use Rattle.execute.specs.Execute.{Executed, executeOf}
-use Rattle.machine.proofs.ChannelLaws.{put-same, last-channel}
-use Rattle.machine.proofs.FieldLaws.{agree-channel-of}
-use Rattle.machine.specs.Cc.{split}
-use Rattle.machine.specs.Outcomes.{Outcome, counted}
-use Rattle.machine.specs.Psw.{transferring, withPsw}
-use Rattle.machine.specs.States.{channelOf, withChannel, channelNumber, fieldsAgree, agree, blockOf, busyIn}
-use Rattle.machine.specs.Updates.{withTransfer, holding}
-use Rattle.machine.specs.declared.Channel.{Channel}
-use Rattle.machine.specs.declared.Held.{Held as HeldByte}
-use Rattle.machine.specs.declared.Held.the-variants.{NoByte, Byte}
-use Rattle.machine.specs.declared.State.{State}
-use Rattle.memory.specs.Buffers.{Buffers, byteAt, storeByte}
-use Rattle.memory.specs.Places.{Place}
-use Rattle.memory.specs.Values.{onward}
-use Rattle.memory.specs.declared.Pointer.{Pointer}
-use Rattle.step.proofs.NumberLaws.{settled-number}
-use Rattle.step.specs.declared.Kind.the-variants.{Instruction}
-use Rattle.step.specs.Step.{Step, doneStep, instructionStep, settledStep, channelStep, chosenStep, entryNumber, stepOf}
-use Rattle.step.specs.Touched.{touchedIn, touchedByStep, stepCount}
-use Rattle.transfer.proofs.MatchLaws.{low-compared}
-use Rattle.transfer.proofs.PartLaws.{fetch-due, store-due, fetches-two, fetches-word, stores-two, stores-singly, word-stored, singly-stored}
-use Rattle.transfer.proofs.StepLaws.{exactly-0, two-plain}
-use Rattle.transfer.specs.Ends.{meetsTmc, codeIf, larger, endedTP, endedPSW, endedBy}
-use Rattle.transfer.specs.Halves.{wordWith, pairCount, secondCode, secondStored}
-use Rattle.transfer.specs.Parts.{Part, Whole, FirstFetch, SecondFetch, FirstStore, SecondStore, fetchesApart, storesApart, fetchPart, storePart, partOf}
-use Rattle.transfer.specs.Reads.{fetched, fetchedSecond, entryOf, delivered, dataOf, also}
-use Rattle.transfer.specs.Sides.{source, destination, wordSide, secondAddress, gained, twoMove, storedSingly}
-use Rattle.transfer.specs.Steps.{touchedBy, channelBy, memoryBy, badMode, touchedByTransfer, transferOf}
-use Rattle.transfer.specs.Stores.{firstMeets, matchMet, cutShort, storesTwo, bytesStored, bytesMoved, bytesCounted, countAfter, endFrom, endCode, movedBy, movedChannel, putOn, movedMemory, placesOn}
-use Rattle.words.proofs.ChoiceLaws.{apart, both-left}
-use Rattle.words.specs.Bits.{fieldOf, bitOf}
-use Rattle.words.specs.Choice.{pick}
-use Rattle.words.specs.Compare.{matchOf}
+use Rattle.attention_rules.proofs.Outcomes.{refused-nothing}
+use Rattle.attention_rules.specs.Attention.{attentionOf}
+use Rattle.instruction_rules.proofs.ChannelLaws.{execute-drops}
+use Rattle.instruction_rules.specs.Execute.{Executed, executeOf}
+use Rattle.ground_rules.proofs.ChannelLaws.{put-same, last-channel}
+use Rattle.ground_rules.proofs.FieldLaws.{agree-channel-of}
+use Rattle.ground_rules.specs.Cc.{split}
+use Rattle.ground_rules.specs.Outcomes.{Outcome, counted}
+use Rattle.ground_rules.specs.Psw.{transferring, withPsw}
+use Rattle.ground_rules.specs.States.{channelOf, withChannel, channelNumber, fieldsAgree, agree, blockOf, busyIn}
+use Rattle.ground_rules.specs.Updates.{withTransfer, holding}
+use Rattle.ground_rules.specs.declared.Channel.{Channel}
+use Rattle.ground_rules.specs.declared.Held.{Held as HeldByte}
+use Rattle.ground_rules.specs.declared.Held.the-variants.{NoByte, Byte}
+use Rattle.ground_rules.specs.declared.State.{State}
+use Rattle.ground_rules.specs.Buffers.{Buffers, byteAt, storeByte}
+use Rattle.ground_rules.specs.Places.{Place}
+use Rattle.ground_rules.specs.Values.{onward}
+use Rattle.ground_rules.specs.declared.Pointer.{Pointer}
+use Rattle.turn_rules.proofs.NumberLaws.{settled-number}
+use Rattle.turn_rules.specs.declared.Kind.the-variants.{Instruction}
+use Rattle.turn_rules.specs.Step.{Step, doneStep, instructionStep, settledStep, channelStep, chosenStep, entryNumber, stepOf}
+use Rattle.turn_rules.specs.Touched.{touchedIn, touchedByStep, stepCount}
+use Rattle.transfer_rules.proofs.MatchLaws.{low-compared}
+use Rattle.transfer_rules.proofs.PartLaws.{fetch-due, store-due, fetches-two, fetches-word, stores-two, stores-singly, word-stored, singly-stored}
+use Rattle.transfer_rules.proofs.StepLaws.{exactly-0, two-plain}
+use Rattle.transfer_rules.specs.Ends.{meetsTmc, codeIf, larger, endedTP, endedPSW, endedBy}
+use Rattle.transfer_rules.specs.Halves.{wordWith, pairCount, secondCode, secondStored}
+use Rattle.transfer_rules.specs.Parts.{Part, Whole, FirstFetch, SecondFetch, FirstStore, SecondStore, fetchesApart, storesApart, fetchPart, storePart, partOf}
+use Rattle.transfer_rules.specs.Reads.{fetched, fetchedSecond, entryOf, delivered, dataOf, also}
+use Rattle.transfer_rules.specs.Sides.{source, destination, wordSide, secondAddress, gained, twoMove, storedSingly}
+use Rattle.transfer_rules.specs.Steps.{touchedBy, channelBy, memoryBy, badMode, touchedByTransfer, transferOf}
+use Rattle.transfer_rules.specs.Stores.{firstMeets, matchMet, cutShort, storesTwo, bytesStored, bytesMoved, bytesCounted, countAfter, endFrom, endCode, movedBy, movedChannel, putOn, movedMemory, placesOn}
+use Rattle.ground_rules.proofs.ChoiceLaws.{apart, both-left}
+use Rattle.ground_rules.specs.Bits.{fieldOf, bitOf}
+use Rattle.ground_rules.specs.Choice.{pick}
+use Rattle.ground_rules.specs.Compare.{matchOf}
 use Rattle.promises.specs.Calls.{Turn}
 use Rattle.promises.specs.SheetWords.{bit, field}
 use Rattle.promises.specs.SheetOperands.{ranChannel}

@@ -6,15 +6,15 @@ use lib.Dec.{eqb}
 use mathlib.Core.Bool.{Bool, true, false}
 use mathlib.Core.Path.{_≡_, refl, sym, ap, ap₂, _∙_}
 use native.Mathlib.Omega.{arith}
-use Rattle.machine.specs.States.{channelOf, channelNumber}
-use Rattle.memory.proofs.PlaceLaws.{byte-reduced, lent-index, index-reduced}
-use Rattle.memory.specs.Buffers.{Buffers, spaceOf, limitOf, indexOf, lentAt, beyondIn, byteAt, storeByte}
-use Rattle.memory.specs.Values.{wordAt, doublewordAt}
-use Rattle.words.proofs.BitLaws.{bit-same, bit-other}
-use Rattle.words.specs.Bits.{bitOf, withBit}
-use Rattle.words.specs.Bytes.{wordOf}
-use Rattle.words.specs.Choice.{pick}
-use Rattle.words.specs.Sums.{addressOf}
+use Rattle.ground_rules.specs.States.{channelOf, channelNumber}
+use Rattle.ground_rules.proofs.PlaceLaws.{byte-reduced, lent-index, index-reduced}
+use Rattle.ground_rules.specs.Buffers.{Buffers, spaceOf, limitOf, indexOf, lentAt, beyondIn, byteAt, storeByte}
+use Rattle.ground_rules.specs.Values.{wordAt, doublewordAt}
+use Rattle.ground_rules.proofs.BitLaws.{bit-same, bit-other}
+use Rattle.ground_rules.specs.Bits.{bitOf, withBit}
+use Rattle.ground_rules.specs.Bytes.{wordOf}
+use Rattle.ground_rules.specs.Choice.{pick}
+use Rattle.ground_rules.specs.Sums.{addressOf}
 use Rattle.promises.specs.SheetWords.{Names, bit, wordIn, farIn}
 
 -- ---- the names

@@ -10,43 +10,43 @@ use mathlib.Core.List.{List, [], _∷_}
 use mathlib.Core.Path.{_≡_, refl, sym, subst, ap, ap₂, _∙_}
 use native.Mathlib.Nat.{add-zero, add-assoc, mod-mod, mod-add-mod}
 use native.Mathlib.Omega.{arith}
-use Rattle.decode.specs.Lengths.{dataLength, displacementLength, lengthOf, offsetLength}
-use Rattle.decode.specs.Reading.{lookup, secondOf}
-use Rattle.decode.specs.Table.{table}
-use Rattle.decode_shapes.specs.Pairs.{memoryOf, columns}
-use Rattle.decode_shapes.specs.Pairs.Column.{'0, '1, '00, '000, 'AA, 'MM}
-use Rattle.decode_shapes.specs.declared.Decoded.the-variants.{Instruction}
-use Rattle.decode_shapes.specs.declared.Second.the-variants.{Operand, NoSecond}
-use Rattle.decode_shapes.specs.declared.pairs.Pair.{Pair}
-use Rattle.decode_shapes.specs.declared.Shape.{Shape}
-use Rattle.decode_shapes.specs.declared.Shape.the-variants.{MemoryRegister, MemoryImmediate, MemoryAlone, JumpMemory, MovpStore, MovMemory, Tsl, Call, JumpMasked, JumpBit, Bit}
-use Rattle.decode_shapes.specs.declared.Single.{Single}
-use Rattle.decode_shapes.specs.declared.Work.{Work}
-use Rattle.decode_shapes.specs.declared.Work.the-variants.{Mov, Add, Or, And}
-use Rattle.execute.specs.Execute.{performed, deedOf}
-use Rattle.execute_deeds.specs.JumpForms.{jumpMemoryDeed, jumpByteDeed, jumpMaskedDeed, jumpBitDeed, tslDeed, callDeed}
-use Rattle.execute_deeds.specs.MemoryForms.{workedBack, memoryWorkDeed, memoryRegisterDeed, memoryImmediateDeed, memoryAloneDeed, movpStoreDeed, bitWritten, bitDeed, secondAt, movOperandDeed, movSecondDeed, movMemoryDeed}
-use Rattle.execute_operands.proofs.ChangeLaws.{pointer-changed}
-use Rattle.execute_operands.specs.Changes.{placesOf, changed, change, resultTo, pointerTo}
-use Rattle.execute_operands.specs.Marks.{pastInstruction}
-use Rattle.execute_operands.specs.declared.Change.{Change}
-use Rattle.execute_operands.specs.Operands.{bytesAt, indexed, further, effective, grown, operandAt, jumpedIf, workOf, singleOf, afterPair}
-use Rattle.machine.specs.Registers.{registerOf, tagOf}
-use Rattle.machine.specs.States.{channelOf}
-use Rattle.machine.specs.Updates.{renewed}
-use Rattle.machine.specs.declared.Channel.{Channel}
-use Rattle.machine.specs.declared.State.{State}
-use Rattle.memory.proofs.PlaceLaws.{byte-reduced, later, after}
-use Rattle.memory.proofs.SpanLaws.{span-at, span-first}
-use Rattle.memory.proofs.StoreLaws.{store-lent, store-touchable, read-same, read-other, slot-stays}
-use Rattle.memory.specs.Buffers.{Buffers, AllBytes, lentAt, touchableAt, byteAt, storeByte}
-use Rattle.memory.specs.Places.{allTouchable, Apart}
-use Rattle.memory.specs.Values.{pointer, onward, storePointer}
-use Rattle.memory.specs.declared.Pointer.{Pointer}
-use Rattle.step.specs.Step.{stepOf}
-use Rattle.words.specs.Bits.{bitOf, withBit}
-use Rattle.words.specs.Choice.{pick}
-use Rattle.words.specs.Compare.{matchOf}
+use Rattle.instruction_rules.specs.Lengths.{dataLength, displacementLength, lengthOf, offsetLength}
+use Rattle.instruction_rules.specs.Reading.{lookup, secondOf}
+use Rattle.instruction_rules.specs.Table.{table}
+use Rattle.instruction_rules.specs.Pairs.{memoryOf, columns}
+use Rattle.instruction_rules.specs.Pairs.Column.{'0, '1, '00, '000, 'AA, 'MM}
+use Rattle.instruction_rules.specs.declared.Decoded.the-variants.{Instruction}
+use Rattle.instruction_rules.specs.declared.Second.the-variants.{Operand, NoSecond}
+use Rattle.instruction_rules.specs.declared.Pair.{Pair}
+use Rattle.instruction_rules.specs.declared.Shape.{Shape}
+use Rattle.instruction_rules.specs.declared.Shape.the-variants.{MemoryRegister, MemoryImmediate, MemoryAlone, JumpMemory, MovpStore, MovMemory, Tsl, Call, JumpMasked, JumpBit, Bit}
+use Rattle.instruction_rules.specs.declared.Single.{Single}
+use Rattle.instruction_rules.specs.declared.Work.{Work}
+use Rattle.instruction_rules.specs.declared.Work.the-variants.{Mov, Add, Or, And}
+use Rattle.instruction_rules.specs.Execute.{performed, deedOf}
+use Rattle.instruction_rules.specs.JumpForms.{jumpMemoryDeed, jumpByteDeed, jumpMaskedDeed, jumpBitDeed, tslDeed, callDeed}
+use Rattle.instruction_rules.specs.MemoryForms.{workedBack, memoryWorkDeed, memoryRegisterDeed, memoryImmediateDeed, memoryAloneDeed, movpStoreDeed, bitWritten, bitDeed, secondAt, movOperandDeed, movSecondDeed, movMemoryDeed}
+use Rattle.instruction_rules.proofs.ChangeLaws.{pointer-changed}
+use Rattle.instruction_rules.specs.Changes.{placesOf, changed, change, resultTo, pointerTo}
+use Rattle.instruction_rules.specs.Marks.{pastInstruction}
+use Rattle.instruction_rules.specs.declared.Change.{Change}
+use Rattle.instruction_rules.specs.Operands.{bytesAt, indexed, further, effective, grown, operandAt, jumpedIf, workOf, singleOf, afterPair}
+use Rattle.ground_rules.specs.Registers.{registerOf, tagOf}
+use Rattle.ground_rules.specs.States.{channelOf}
+use Rattle.ground_rules.specs.Updates.{renewed}
+use Rattle.ground_rules.specs.declared.Channel.{Channel}
+use Rattle.ground_rules.specs.declared.State.{State}
+use Rattle.ground_rules.proofs.PlaceLaws.{byte-reduced, later, after}
+use Rattle.ground_rules.proofs.SpanLaws.{span-at, span-first}
+use Rattle.ground_rules.proofs.StoreLaws.{store-lent, store-touchable, read-same, read-other, slot-stays}
+use Rattle.ground_rules.specs.Buffers.{Buffers, AllBytes, lentAt, touchableAt, byteAt, storeByte}
+use Rattle.ground_rules.specs.Places.{allTouchable, Apart}
+use Rattle.ground_rules.specs.Values.{pointer, onward, storePointer}
+use Rattle.ground_rules.specs.declared.Pointer.{Pointer}
+use Rattle.turn_rules.specs.Step.{stepOf}
+use Rattle.ground_rules.specs.Bits.{bitOf, withBit}
+use Rattle.ground_rules.specs.Choice.{pick}
+use Rattle.ground_rules.specs.Compare.{matchOf}
 use Rattle.promises.specs.SheetWords.{bit, formOf, tagsOf, tagIn, pointing}
 use Rattle.promises.specs.SheetOperands.{Ran, ranChannel, codeByte, baseAddress, baseTag, addedBy, operandAddress, offsetBytes, grownBy, rawIn, operandIn, ddOf, displacementIn, whether, worksOf, singlesOf, resultBytes, registersAt, pastBy, jumpedBy, valuePast, RegistersLeft, storedThere, BytesLeft}
 use Rattle.promises.specs.SheetRegisters.{Goes}

@@ -10,37 +10,37 @@ use mathlib.Core.Path.{_≡_, refl, sym, ap, ap₂, subst, _∙_}
 use native.Mathlib.Decide.{ℕ-discrete}
 use native.Mathlib.Nat.{mod-add-mod}
 use native.Mathlib.Omega.{arith}
-use Rattle.decode.specs.Reading.{lookup, decodeOf}
-use Rattle.decode.specs.Table.{table}
-use Rattle.decode_shapes.specs.Pairs.{pairOf}
-use Rattle.decode_shapes.specs.declared.Decoded.the-variants.{Instruction}
-use Rattle.decode_shapes.specs.declared.Memory.{Memory}
-use Rattle.decode_shapes.specs.declared.Shape.{Shape}
-use Rattle.decode_shapes.specs.declared.pairs.Pair.{Pair}
-use Rattle.execute.proofs.OutcomeLaws.{done, number-is, stores-touchable}
-use Rattle.execute.specs.Execute.{decodedAt, deedOf, deedFrom, Executed, executeOf}
-use Rattle.execute_deeds.specs.Deeds.{Deed}
-use Rattle.execute_operands.specs.Changes.{placesOf, changed}
-use Rattle.execute_operands.specs.Marks.{usedUp, pastInstruction}
-use Rattle.execute_operands.specs.Operands.{indexed, effective, grown, operandAt, displacementAt, landing, jumpedIf}
-use Rattle.machine.proofs.ChannelLaws.{put-same, last-channel}
-use Rattle.machine.specs.Psw.{withPsw}
-use Rattle.machine.specs.Registers.{byRRR, registerOf, tagOf, withRegister, baseOf}
-use Rattle.machine.specs.States.{channelOf, withChannel, blockOf, busyIn}
-use Rattle.machine.specs.Updates.{renewed}
-use Rattle.machine.specs.declared.Channel.{Channel}
-use Rattle.machine.specs.declared.State.{State}
-use Rattle.memory.proofs.PlaceLaws.{byte-reduced}
-use Rattle.memory.specs.Buffers.{Buffers, byteAt, AllBytes}
-use Rattle.memory.specs.Places.{allTouchable}
-use Rattle.memory.specs.Values.{pointer, onward, wordAt}
-use Rattle.memory.specs.declared.Pointer.{Pointer}
-use Rattle.step.specs.Step.{Step, doneStep, settledStep, instructionStep, stepOf}
-use Rattle.step.specs.declared.Kind.{Kind}
-use Rattle.words.proofs.SignLaws.{displaced-extended}
-use Rattle.words.specs.Bits.{fieldOf, withBit}
-use Rattle.words.specs.Choice.{pick}
-use Rattle.words.specs.Signs.{signedOf, extended, displacedBy}
+use Rattle.instruction_rules.specs.Reading.{lookup, decodeOf}
+use Rattle.instruction_rules.specs.Table.{table}
+use Rattle.instruction_rules.specs.Pairs.{pairOf}
+use Rattle.instruction_rules.specs.declared.Decoded.the-variants.{Instruction}
+use Rattle.instruction_rules.specs.declared.Memory.{Memory}
+use Rattle.instruction_rules.specs.declared.Shape.{Shape}
+use Rattle.instruction_rules.specs.declared.Pair.{Pair}
+use Rattle.instruction_rules.proofs.OutcomeLaws.{done, number-is, stores-touchable}
+use Rattle.instruction_rules.specs.Execute.{decodedAt, deedOf, deedFrom, Executed, executeOf}
+use Rattle.instruction_rules.specs.Deeds.{Deed}
+use Rattle.instruction_rules.specs.Changes.{placesOf, changed}
+use Rattle.instruction_rules.specs.Marks.{usedUp, pastInstruction}
+use Rattle.instruction_rules.specs.Operands.{indexed, effective, grown, operandAt, displacementAt, landing, jumpedIf}
+use Rattle.ground_rules.proofs.ChannelLaws.{put-same, last-channel}
+use Rattle.ground_rules.specs.Psw.{withPsw}
+use Rattle.ground_rules.specs.Registers.{byRRR, registerOf, tagOf, withRegister, baseOf}
+use Rattle.ground_rules.specs.States.{channelOf, withChannel, blockOf, busyIn}
+use Rattle.ground_rules.specs.Updates.{renewed}
+use Rattle.ground_rules.specs.declared.Channel.{Channel}
+use Rattle.ground_rules.specs.declared.State.{State}
+use Rattle.ground_rules.proofs.PlaceLaws.{byte-reduced}
+use Rattle.ground_rules.specs.Buffers.{Buffers, byteAt, AllBytes}
+use Rattle.ground_rules.specs.Places.{allTouchable}
+use Rattle.ground_rules.specs.Values.{pointer, onward, wordAt}
+use Rattle.ground_rules.specs.declared.Pointer.{Pointer}
+use Rattle.turn_rules.specs.Step.{Step, doneStep, settledStep, instructionStep, stepOf}
+use Rattle.turn_rules.specs.declared.Kind.{Kind}
+use Rattle.ground_rules.proofs.SignLaws.{displaced-extended}
+use Rattle.ground_rules.specs.Bits.{fieldOf, withBit}
+use Rattle.ground_rules.specs.Choice.{pick}
+use Rattle.ground_rules.specs.Signs.{signedOf, extended, displacedBy}
 use Rattle.promises.specs.SheetWords.{bit, wordIn, registerValues, tagsOf, valueIn, tagIn, setValue, setTag}
 use Rattle.promises.specs.SheetOperands.{Ran, ranChannel, codeByte, baseAddress, baseTag, addedBy, operandAddress, grownBy, operandIn, displacementIn, registersAt, pastBy, jumpedBy, RegistersLeft}
 use Rattle.promises.proofs.InstructionLaws.{decoded, turn-executes}

@@ -7,32 +7,32 @@ use mathlib.Core.Bool.{Bool, true, false}
 use mathlib.Core.List.{[], _∷_}
 use mathlib.Core.Path.{_≡_, refl, sym, subst, ap, ap₂, _∙_}
 use native.Mathlib.Omega.{arith}
-use Rattle.decode.specs.Lengths.{dataLength, displacementLength, lengthOf}
-use Rattle.decode.specs.Reading.{lookup}
-use Rattle.decode.specs.Table.{table}
-use Rattle.decode_shapes.specs.declared.Decoded.the-variants.{Instruction}
-use Rattle.decode_shapes.specs.declared.Memory.{Memory}
-use Rattle.decode_shapes.specs.declared.Shape.{Shape}
-use Rattle.decode_shapes.specs.declared.Shape.the-variants.{Lpdi, RegisterImmediate, Register, JumpRegister, RegisterMemory, Lpd, MovpLoad}
-use Rattle.decode_shapes.specs.declared.Single.{Single}
-use Rattle.decode_shapes.specs.declared.Work.{Work}
-use Rattle.decode_shapes.specs.declared.Work.the-variants.{Mov, Add, Or, And}
-use Rattle.execute.specs.Execute.{performed, deedOf}
-use Rattle.execute_deeds.specs.JumpForms.{jumpRegisterDeed}
-use Rattle.execute_deeds.specs.RegisterForms.{registerWritten, registerImmediateDeed, registerDeed, registerMemoryDeed, lpdiDeed, lpdDeed, movpLoadDeed}
-use Rattle.execute_operands.specs.Changes.{changed}
-use Rattle.execute_operands.specs.Marks.{pastInstruction}
-use Rattle.execute_operands.specs.Operands.{sizeOf, grown, operandAt, jumpedIf, workOf, singleOf, isMove}
-use Rattle.machine.specs.Registers.{registerOf, tagOf, withRegister}
-use Rattle.machine.specs.States.{channelOf}
-use Rattle.machine.specs.Updates.{renewed}
-use Rattle.machine.specs.declared.Channel.{Channel}
-use Rattle.machine.specs.declared.State.{State}
-use Rattle.memory.specs.Buffers.{Buffers, AllBytes}
-use Rattle.memory.specs.Values.{onward, doublewordAt, pointerAt}
-use Rattle.memory.specs.declared.Pointer.{Pointer}
-use Rattle.words.specs.Bits.{bitOf}
-use Rattle.words.specs.Choice.{pick}
+use Rattle.instruction_rules.specs.Lengths.{dataLength, displacementLength, lengthOf}
+use Rattle.instruction_rules.specs.Reading.{lookup}
+use Rattle.instruction_rules.specs.Table.{table}
+use Rattle.instruction_rules.specs.declared.Decoded.the-variants.{Instruction}
+use Rattle.instruction_rules.specs.declared.Memory.{Memory}
+use Rattle.instruction_rules.specs.declared.Shape.{Shape}
+use Rattle.instruction_rules.specs.declared.Shape.the-variants.{Lpdi, RegisterImmediate, Register, JumpRegister, RegisterMemory, Lpd, MovpLoad}
+use Rattle.instruction_rules.specs.declared.Single.{Single}
+use Rattle.instruction_rules.specs.declared.Work.{Work}
+use Rattle.instruction_rules.specs.declared.Work.the-variants.{Mov, Add, Or, And}
+use Rattle.instruction_rules.specs.Execute.{performed, deedOf}
+use Rattle.instruction_rules.specs.JumpForms.{jumpRegisterDeed}
+use Rattle.instruction_rules.specs.RegisterForms.{registerWritten, registerImmediateDeed, registerDeed, registerMemoryDeed, lpdiDeed, lpdDeed, movpLoadDeed}
+use Rattle.instruction_rules.specs.Changes.{changed}
+use Rattle.instruction_rules.specs.Marks.{pastInstruction}
+use Rattle.instruction_rules.specs.Operands.{sizeOf, grown, operandAt, jumpedIf, workOf, singleOf, isMove}
+use Rattle.ground_rules.specs.Registers.{registerOf, tagOf, withRegister}
+use Rattle.ground_rules.specs.States.{channelOf}
+use Rattle.ground_rules.specs.Updates.{renewed}
+use Rattle.ground_rules.specs.declared.Channel.{Channel}
+use Rattle.ground_rules.specs.declared.State.{State}
+use Rattle.ground_rules.specs.Buffers.{Buffers, AllBytes}
+use Rattle.ground_rules.specs.Values.{onward, doublewordAt, pointerAt}
+use Rattle.ground_rules.specs.declared.Pointer.{Pointer}
+use Rattle.ground_rules.specs.Bits.{bitOf}
+use Rattle.ground_rules.specs.Choice.{pick}
 use Rattle.promises.specs.SheetWords.{farIn, storedIn, storedTagIn, tagsOf, tagIn, pointing, setValue, setTag}
 use Rattle.promises.specs.SheetOperands.{Ran, baseTag, operandAddress, offsetBytes, grownBy, operandIn, ddOf, displacementIn, whether, worksOf, singlesOf, registersAt, pastBy, jumpedBy, valuePast, RegistersLeft}
 use Rattle.promises.specs.SheetRegisters.{Loads, Goes, RegisterSheet}

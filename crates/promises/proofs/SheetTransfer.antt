@@ -6,29 +6,29 @@ use lib.Dec.{eqb, ltb, lit<, eqb·suc-zero}
 use mathlib.Core.Bool.{Bool, true, false, not, _&&_, _||_}
 use mathlib.Core.Path.{_≡_, refl, sym, subst, ap, _∙_}
 use native.Mathlib.Nat.{mod-lt}
-use Rattle.machine.proofs.FieldLaws.{agree-channel-of}
-use Rattle.machine.specs.Cc.{split}
-use Rattle.machine.specs.Psw.{transferring, withPsw}
-use Rattle.machine.specs.States.{channelOf, fieldsAgree}
-use Rattle.machine.specs.Updates.{withTransfer}
-use Rattle.machine.specs.declared.Channel.{Channel}
-use Rattle.machine.specs.declared.State.{State}
-use Rattle.memory.specs.Buffers.{Buffers}
-use Rattle.memory.specs.Values.{pointer, onward}
-use Rattle.memory.specs.declared.Pointer.{Pointer}
-use Rattle.step.specs.Step.{Step, settledStep, transferStep, stepOf}
-use Rattle.step.specs.declared.Kind.the-variants.{Transfer}
-use Rattle.transfer.specs.Ends.{meetsTmc, codeIf, larger, offsetOf, endedTP, endedPSW, endedBy}
-use Rattle.transfer.specs.Reads.{fetched, fetchedSecond, entryOf, delivered, dataOf}
-use Rattle.transfer.specs.Sides.{source, destination, wordSide, secondAddress, gained, twoMove, storedSingly}
-use Rattle.transfer.proofs.PartLaws.{not-half}
-use Rattle.transfer.proofs.StepLaws.{done}
-use Rattle.transfer.specs.Parts.{Part, Whole, fetchesApart, storesApart, isHalf, partOf}
-use Rattle.transfer.specs.Steps.{Transfer as Taken, channelBy, memoryBy, transferOf}
-use Rattle.transfer.specs.Stores.{firstMeets, matchMet, cutShort, storesTwo, bytesStored, bytesMoved, bytesCounted, countAfter, endCode, movedBy, movedChannel, putOn, movedMemory}
-use Rattle.words.specs.Bits.{fieldOf, bitOf}
-use Rattle.words.specs.Choice.{pick}
-use Rattle.words.specs.Compare.{matchOf}
+use Rattle.ground_rules.proofs.FieldLaws.{agree-channel-of}
+use Rattle.ground_rules.specs.Cc.{split}
+use Rattle.ground_rules.specs.Psw.{transferring, withPsw}
+use Rattle.ground_rules.specs.States.{channelOf, fieldsAgree}
+use Rattle.ground_rules.specs.Updates.{withTransfer}
+use Rattle.ground_rules.specs.declared.Channel.{Channel}
+use Rattle.ground_rules.specs.declared.State.{State}
+use Rattle.ground_rules.specs.Buffers.{Buffers}
+use Rattle.ground_rules.specs.Values.{pointer, onward}
+use Rattle.ground_rules.specs.declared.Pointer.{Pointer}
+use Rattle.turn_rules.specs.Step.{Step, settledStep, transferStep, stepOf}
+use Rattle.turn_rules.specs.declared.Kind.the-variants.{Transfer}
+use Rattle.transfer_rules.specs.Ends.{meetsTmc, codeIf, larger, offsetOf, endedTP, endedPSW, endedBy}
+use Rattle.transfer_rules.specs.Reads.{fetched, fetchedSecond, entryOf, delivered, dataOf}
+use Rattle.transfer_rules.specs.Sides.{source, destination, wordSide, secondAddress, gained, twoMove, storedSingly}
+use Rattle.transfer_rules.proofs.PartLaws.{not-half}
+use Rattle.transfer_rules.proofs.StepLaws.{done}
+use Rattle.transfer_rules.specs.Parts.{Part, Whole, fetchesApart, storesApart, isHalf, partOf}
+use Rattle.transfer_rules.specs.Steps.{Transfer as Taken, channelBy, memoryBy, transferOf}
+use Rattle.transfer_rules.specs.Stores.{firstMeets, matchMet, cutShort, storesTwo, bytesStored, bytesMoved, bytesCounted, countAfter, endCode, movedBy, movedChannel, putOn, movedMemory}
+use Rattle.ground_rules.specs.Bits.{fieldOf, bitOf}
+use Rattle.ground_rules.specs.Choice.{pick}
+use Rattle.ground_rules.specs.Compare.{matchOf}
 use Rattle.promises.specs.SheetWords.{bit, field}
 use Rattle.promises.specs.SheetOperands.{ranChannel}
 use Rattle.promises.specs.SheetTurns.{offsetIn}

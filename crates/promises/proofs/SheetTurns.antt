@@ -9,26 +9,26 @@ use mathlib.Core.List.{[], _∷_}
 use mathlib.Core.Path.{_≡_, refl, ap, ap₂, _∙_}
 use native.Mathlib.Nat.{mod-lt}
 use native.Mathlib.Omega.{arith}
-use Rattle.machine.proofs.ChannelLaws.{put-same, last-channel}
-use Rattle.machine.proofs.FieldLaws.{told-agree, agree-channel-of}
-use Rattle.machine.specs.Cc.{split}
-use Rattle.machine.specs.Psw.{withPsw}
-use Rattle.machine.specs.States.{channelOf, withChannel, fieldsAgree, isRunning}
-use Rattle.machine.specs.Updates.{withTransfer}
-use Rattle.machine.specs.declared.Channel.{Channel}
-use Rattle.machine.specs.declared.Mode.{Mode}
-use Rattle.machine.specs.declared.Mode.the-variants.{Idle, Running, Suspended}
-use Rattle.machine.specs.declared.State.{State}
-use Rattle.memory.specs.Buffers.{Buffers}
-use Rattle.memory.specs.Values.{pointer, onward}
-use Rattle.step.proofs.ChoosingLaws.{ends-chosen}
-use Rattle.step.specs.Choosing.{requested, external, endsNow, transferRank, rankOf, secondWins, ranked, choiceOf}
-use Rattle.step.specs.Step.{Step}
-use Rattle.step.specs.declared.turns.Choice.the-variants.{Ends}
-use Rattle.transfer.specs.Ends.{offsetOf, endedTP, endedPSW, endedBy, externallyEnded}
-use Rattle.transfer.specs.Sides.{gained}
-use Rattle.words.specs.Bits.{fieldOf, bitOf}
-use Rattle.words.specs.Choice.{pick}
+use Rattle.ground_rules.proofs.ChannelLaws.{put-same, last-channel}
+use Rattle.ground_rules.proofs.FieldLaws.{told-agree, agree-channel-of}
+use Rattle.ground_rules.specs.Cc.{split}
+use Rattle.ground_rules.specs.Psw.{withPsw}
+use Rattle.ground_rules.specs.States.{channelOf, withChannel, fieldsAgree, isRunning}
+use Rattle.ground_rules.specs.Updates.{withTransfer}
+use Rattle.ground_rules.specs.declared.Channel.{Channel}
+use Rattle.ground_rules.specs.declared.Mode.{Mode}
+use Rattle.ground_rules.specs.declared.Mode.the-variants.{Idle, Running, Suspended}
+use Rattle.ground_rules.specs.declared.State.{State}
+use Rattle.ground_rules.specs.Buffers.{Buffers}
+use Rattle.ground_rules.specs.Values.{pointer, onward}
+use Rattle.turn_rules.proofs.ChoosingLaws.{ends-chosen}
+use Rattle.turn_rules.specs.Choosing.{requested, external, endsNow, transferRank, rankOf, secondWins, ranked, choiceOf}
+use Rattle.turn_rules.specs.Step.{Step}
+use Rattle.turn_rules.specs.declared.Choice.the-variants.{Ends}
+use Rattle.transfer_rules.specs.Ends.{offsetOf, endedTP, endedPSW, endedBy, externallyEnded}
+use Rattle.transfer_rules.specs.Sides.{gained}
+use Rattle.ground_rules.specs.Bits.{fieldOf, bitOf}
+use Rattle.ground_rules.specs.Choice.{pick}
 use Rattle.promises.specs.SheetWords.{bit}
 use Rattle.promises.specs.SheetOperands.{ranChannel}
 use Rattle.promises.specs.SheetTurns.{runsIn, endsIn, rankIn, choiceIn, offsetIn, ExternalLeft, TurnSheet}

@@ -7,36 +7,36 @@ use mathlib.Core.Bool.{true, false}
 use mathlib.Core.List.{[], _∷_}
 use mathlib.Core.Path.{_≡_, refl}
 use native.Mathlib.Omega.{arith}
-use Rattle.attention.specs.Attention.{orderTo, orderNumber, givenTo, attentionNumber, attentionOf}
-use Rattle.attention.specs.Blocks.{ccwOf, parameterBlock, orderOf}
-use Rattle.attention.specs.Commands.{commandCoded, isKnown, modeNumber, commandNumber}
-use Rattle.attention.specs.Touched.{readBy, storedBy, others, orderStages}
-use Rattle.machine.specs.Cc.{split, sameFlag, sameFields}
-use Rattle.machine.specs.Outcomes.{unless, first, settled, givenNumber}
-use Rattle.machine.specs.Stages.{stagesNumber}
-use Rattle.machine.specs.States.{freshState, idleChannel, channelOf, sound, soundChannel, isRunning, blockOf, busyIn, isChannel, isSecond, channelNumber, withLast, fieldsAgree, agree}
-use Rattle.machine.specs.declared.State.{State}
-use Rattle.memory.specs.Buffers.{Buffers, buffers, spaceOf, limitOf, indexOf, lentAt, touchableAt, beyondIn, byteAt, withinLimits, AllBytes}
-use Rattle.memory.specs.Places.{span, allPass}
-use Rattle.memory.specs.Values.{pointer, wordAt, doublewordAt, onward}
-use Rattle.words.specs.Bits.{fieldOf, bitOf}
+use Rattle.attention_rules.specs.Attention.{orderTo, orderNumber, givenTo, attentionNumber, attentionOf}
+use Rattle.attention_rules.specs.Blocks.{ccwOf, parameterBlock, orderOf}
+use Rattle.attention_rules.specs.Commands.{commandCoded, isKnown, modeNumber, commandNumber}
+use Rattle.attention_rules.specs.Touched.{readBy, storedBy, others, orderStages}
+use Rattle.ground_rules.specs.Cc.{split, sameFlag, sameFields}
+use Rattle.ground_rules.specs.Outcomes.{unless, first, settled, givenNumber}
+use Rattle.ground_rules.specs.Stages.{stagesNumber}
+use Rattle.ground_rules.specs.States.{freshState, idleChannel, channelOf, sound, soundChannel, isRunning, blockOf, busyIn, isChannel, isSecond, channelNumber, withLast, fieldsAgree, agree}
+use Rattle.ground_rules.specs.declared.State.{State}
+use Rattle.ground_rules.specs.Buffers.{Buffers, buffers, spaceOf, limitOf, indexOf, lentAt, touchableAt, beyondIn, byteAt, withinLimits, AllBytes}
+use Rattle.ground_rules.specs.Places.{span, allPass}
+use Rattle.ground_rules.specs.Values.{pointer, wordAt, doublewordAt, onward}
+use Rattle.ground_rules.specs.Bits.{fieldOf, bitOf}
 use Rattle.promises.specs.SheetAttention.{channelAfter, Attends}
 use Rattle.promises.proofs.SheetAttention.{attention-sheet}
-use Rattle.decode.specs.Lengths.{lengthOf, dataLength, displacementLength, offsetLength}
-use Rattle.decode_shapes.specs.Pairs.{pairOf}
-use Rattle.decode.specs.Reading.{lookup, decodeOf}
-use Rattle.decode.specs.Table.{table}
-use Rattle.execute.specs.Execute.{decodedAt, performed, deedOf, laterBytes, laterFrom, deedFrom, stagesFrom, instructionStages, executeNumber, executeOf}
-use Rattle.machine.specs.Registers.{byRRR, registerOf, withRegister, baseOf}
-use Rattle.execute_operands.specs.Changes.{placesOf, changed}
-use Rattle.execute_operands.specs.Marks.{usedUp, pastInstruction}
-use Rattle.execute_operands.specs.Operands.{indexed, effective, grown, displacementAt, landing, jumpedIf}
-use Rattle.machine.specs.Updates.{renewed}
-use Rattle.step.specs.Choosing.{requested, external, endsNow, transferRank, rankOf, secondWins, ranked, choiceOf}
-use Rattle.step.specs.Step.{settledStep, instructionStep, channelStep, chosenStep, entryNumber, stepOf}
-use Rattle.words.specs.Signs.{signedOf, displacedBy}
-use Rattle.execute_deeds.specs.RegisterForms.{lpdDeed}
-use Rattle.execute_deeds.specs.JumpForms.{jumpRegisterDeed}
+use Rattle.instruction_rules.specs.Lengths.{lengthOf, dataLength, displacementLength, offsetLength}
+use Rattle.instruction_rules.specs.Pairs.{pairOf}
+use Rattle.instruction_rules.specs.Reading.{lookup, decodeOf}
+use Rattle.instruction_rules.specs.Table.{table}
+use Rattle.instruction_rules.specs.Execute.{decodedAt, performed, deedOf, laterBytes, laterFrom, deedFrom, stagesFrom, instructionStages, executeNumber, executeOf}
+use Rattle.ground_rules.specs.Registers.{byRRR, registerOf, withRegister, baseOf}
+use Rattle.instruction_rules.specs.Changes.{placesOf, changed}
+use Rattle.instruction_rules.specs.Marks.{usedUp, pastInstruction}
+use Rattle.instruction_rules.specs.Operands.{indexed, effective, grown, displacementAt, landing, jumpedIf}
+use Rattle.ground_rules.specs.Updates.{renewed}
+use Rattle.turn_rules.specs.Choosing.{requested, external, endsNow, transferRank, rankOf, secondWins, ranked, choiceOf}
+use Rattle.turn_rules.specs.Step.{settledStep, instructionStep, channelStep, chosenStep, entryNumber, stepOf}
+use Rattle.ground_rules.specs.Signs.{signedOf, displacedBy}
+use Rattle.instruction_rules.specs.RegisterForms.{lpdDeed}
+use Rattle.instruction_rules.specs.JumpForms.{jumpRegisterDeed}
 use Rattle.promises.specs.Witness.{channelWith, bothWith, programAt, bytesFrom}
 use Rattle.promises.specs.SheetOperands.{Ran, ranChannel}
 use Rattle.promises.specs.SheetWords.{registerValues}

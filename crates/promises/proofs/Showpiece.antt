@@ -8,28 +8,28 @@ use mathlib.Core.Logic.{⊎-elim, inr, _↔_}
 use mathlib.Core.Path.{_≡_, refl, sym, ap, subst, _∙_}
 use native.Mathlib.Nat.{add-zero}
 use native.Mathlib.Omega.{arith}
-use Rattle.attention.specs.Conditions.{NoChannel}
-use Rattle.machine.proofs.ChannelLaws.{put-same, put-other, put-cp, sound-channel-of}
-use Rattle.machine.proofs.ConditionLaws.{told-limits}
-use Rattle.machine.proofs.FieldLaws.{agreed, agree-channel-of}
-use Rattle.machine.specs.declared.Fields.{Fields}
-use Rattle.machine.specs.Cc.{split}
-use Rattle.machine.specs.Conditions.{Given}
-use Rattle.machine.specs.Outcomes.{Outcome, outcome}
-use Rattle.machine.specs.States.{freshState, channelOf, withChannel, withLast, sound, isRunning, channelNumber, blockOf, busyIn, fieldsAgree}
-use Rattle.machine.specs.declared.Channel.{Channel}
-use Rattle.machine.specs.declared.State.{State}
-use Rattle.memory.proofs.PlaceLaws.{index-reduced, lent-index, byte-index}
-use Rattle.memory.proofs.StoreLaws.{store-length, store-lent, read-other}
-use Rattle.memory.specs.Buffers.{Buffers, indexOf, lentAt, byteAt, storeByte, withinLimits}
-use Rattle.memory.specs.Places.{Apart}
-use Rattle.memory.specs.Values.{pointer}
-use Rattle.memory.specs.declared.Pointer.{Pointer}
-use Rattle.step.proofs.SoundLaws.{done-sound, entry-sound, entry-agree}
-use Rattle.transfer.specs.Ends.{offsetOf}
-use Rattle.transfer.specs.Sides.{source, destination, wordSide}
-use Rattle.words.specs.Bits.{fieldOf, bitOf}
-use Rattle.panel.specs.Run.{answerOf, Call}
+use Rattle.attention_rules.specs.Conditions.{NoChannel}
+use Rattle.ground_rules.proofs.ChannelLaws.{put-same, put-other, put-cp, sound-channel-of}
+use Rattle.ground_rules.proofs.ConditionLaws.{told-limits}
+use Rattle.ground_rules.proofs.FieldLaws.{agreed, agree-channel-of}
+use Rattle.ground_rules.specs.declared.Fields.{Fields}
+use Rattle.ground_rules.specs.Cc.{split}
+use Rattle.ground_rules.specs.Conditions.{Given}
+use Rattle.ground_rules.specs.Outcomes.{Outcome, outcome}
+use Rattle.ground_rules.specs.States.{freshState, channelOf, withChannel, withLast, sound, isRunning, channelNumber, blockOf, busyIn, fieldsAgree}
+use Rattle.ground_rules.specs.declared.Channel.{Channel}
+use Rattle.ground_rules.specs.declared.State.{State}
+use Rattle.ground_rules.proofs.PlaceLaws.{index-reduced, lent-index, byte-index}
+use Rattle.ground_rules.proofs.StoreLaws.{store-length, store-lent, read-other}
+use Rattle.ground_rules.specs.Buffers.{Buffers, indexOf, lentAt, byteAt, storeByte, withinLimits}
+use Rattle.ground_rules.specs.Places.{Apart}
+use Rattle.ground_rules.specs.Values.{pointer}
+use Rattle.ground_rules.specs.declared.Pointer.{Pointer}
+use Rattle.turn_rules.proofs.SoundLaws.{done-sound, entry-sound, entry-agree}
+use Rattle.transfer_rules.specs.Ends.{offsetOf}
+use Rattle.transfer_rules.specs.Sides.{source, destination, wordSide}
+use Rattle.ground_rules.specs.Bits.{fieldOf, bitOf}
+use Rattle.run_rules.specs.Run.{answerOf, Call}
 use Rattle.promises.specs.Cases.{Stand}
 use Rattle.promises.specs.Joined.{RunsAlone, endOf, Comes, Halted}
 use Rattle.promises.specs.Met.{copying}

@@ -3,31 +3,31 @@
 use mathlib.Core.Bool.{Bool, true, false}
 use mathlib.Core.List.{[], _∷_}
 use mathlib.Core.Path.{_≡_, refl}
-use Rattle.decode.specs.Lengths.{lengthOf, dataLength, displacementLength, offsetLength}
-use Rattle.decode.specs.Reading.{lookup, decodeOf}
-use Rattle.decode.specs.Table.{table}
-use Rattle.decode_shapes.specs.Pairs.{pairOf}
-use Rattle.execute.specs.Execute.{decodedAt, performed, deedOf, laterBytes, laterFrom, deedFrom, stagesFrom, instructionStages, executeNumber, executeOf}
-use Rattle.execute_deeds.specs.MemoryForms.{readFirst, workedBack, memoryWorkDeed, memoryRegisterDeed}
-use Rattle.execute_deeds.specs.RegisterForms.{registerWritten, registerImmediateDeed, registerMemoryDeed}
-use Rattle.execute_operands.specs.Changes.{placesOf, changed}
-use Rattle.execute_operands.specs.Marks.{usedUp, pastInstruction}
-use Rattle.execute_operands.specs.Operands.{indexed, effective, grown, operandAt, isMove, workOf}
-use Rattle.machine.specs.Cc.{split, sameFlag, sameFields}
-use Rattle.machine.specs.Outcomes.{unless, first, givenNumber}
-use Rattle.machine.specs.Registers.{byRRR, registerOf, withRegister, baseOf}
-use Rattle.machine.specs.Stages.{stagesNumber}
-use Rattle.machine.specs.States.{idleChannel, channelOf, withChannel, withLast, sound, soundChannel, isRunning, blockOf, busyIn, channelNumber, fieldsAgree, agree}
-use Rattle.machine.specs.Updates.{renewed, withControl}
-use Rattle.machine.specs.declared.Mode.the-variants.{Running}
-use Rattle.machine.specs.declared.State.{State}
-use Rattle.memory.specs.Buffers.{buffers, spaceOf, limitOf, indexOf, lentAt, touchableAt, beyondIn, byteAt, storeByte, withinLimits}
-use Rattle.memory.specs.Places.{span, allPass}
-use Rattle.memory.specs.Values.{pointer, onward, wordAt}
-use Rattle.step.specs.Choosing.{requested, external, endsNow, transferRank, rankOf, secondWins, ranked, choiceOf}
-use Rattle.step.specs.Step.{settledStep, instructionStep, channelStep, chosenStep, entryNumber, stepOf}
-use Rattle.words.specs.Bits.{fieldOf, bitOf}
-use Rattle.words.specs.Signs.{extended}
+use Rattle.instruction_rules.specs.Lengths.{lengthOf, dataLength, displacementLength, offsetLength}
+use Rattle.instruction_rules.specs.Reading.{lookup, decodeOf}
+use Rattle.instruction_rules.specs.Table.{table}
+use Rattle.instruction_rules.specs.Pairs.{pairOf}
+use Rattle.instruction_rules.specs.Execute.{decodedAt, performed, deedOf, laterBytes, laterFrom, deedFrom, stagesFrom, instructionStages, executeNumber, executeOf}
+use Rattle.instruction_rules.specs.MemoryForms.{readFirst, workedBack, memoryWorkDeed, memoryRegisterDeed}
+use Rattle.instruction_rules.specs.RegisterForms.{registerWritten, registerImmediateDeed, registerMemoryDeed}
+use Rattle.instruction_rules.specs.Changes.{placesOf, changed}
+use Rattle.instruction_rules.specs.Marks.{usedUp, pastInstruction}
+use Rattle.instruction_rules.specs.Operands.{indexed, effective, grown, operandAt, isMove, workOf}
+use Rattle.ground_rules.specs.Cc.{split, sameFlag, sameFields}
+use Rattle.ground_rules.specs.Outcomes.{unless, first, givenNumber}
+use Rattle.ground_rules.specs.Registers.{byRRR, registerOf, withRegister, baseOf}
+use Rattle.ground_rules.specs.Stages.{stagesNumber}
+use Rattle.ground_rules.specs.States.{idleChannel, channelOf, withChannel, withLast, sound, soundChannel, isRunning, blockOf, busyIn, channelNumber, fieldsAgree, agree}
+use Rattle.ground_rules.specs.Updates.{renewed, withControl}
+use Rattle.ground_rules.specs.declared.Mode.the-variants.{Running}
+use Rattle.ground_rules.specs.declared.State.{State}
+use Rattle.ground_rules.specs.Buffers.{buffers, spaceOf, limitOf, indexOf, lentAt, touchableAt, beyondIn, byteAt, storeByte, withinLimits}
+use Rattle.ground_rules.specs.Places.{span, allPass}
+use Rattle.ground_rules.specs.Values.{pointer, onward, wordAt}
+use Rattle.turn_rules.specs.Choosing.{requested, external, endsNow, transferRank, rankOf, secondWins, ranked, choiceOf}
+use Rattle.turn_rules.specs.Step.{settledStep, instructionStep, channelStep, chosenStep, entryNumber, stepOf}
+use Rattle.ground_rules.specs.Bits.{fieldOf, bitOf}
+use Rattle.ground_rules.specs.Signs.{extended}
 use Rattle.promises.specs.Witness.{channelWith, bothWith}
 
 -- channel 1 runs at 0 of a space, with GA at 5 of I/O space and BC 1234h

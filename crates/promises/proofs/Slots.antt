@@ -9,43 +9,43 @@ use mathlib.Core.List.{List, [], _∷_}
 use mathlib.Core.Logic.{_⊎_, ⊎-elim, inl, inr}
 use mathlib.Core.Path.{_≡_, refl, sym, ap, ap₂, _∙_}
 use native.Mathlib.Omega.{arith}
-use Rattle.attention.proofs.Numbers.{touched-2}
-use Rattle.attention.proofs.Stores.{lengths-kept as attended-lengths}
-use Rattle.attention.specs.Attention.{orderTo, attentionOf}
-use Rattle.attention.specs.Conditions.{modeTo}
-use Rattle.attention.specs.Touched.{touchedByOrder}
-use Rattle.decode.specs.Reading.{fits, lookup, decodeOf}
-use Rattle.decode.specs.Table.{SummaryRow, table}
-use Rattle.decode_shapes.specs.Pairs.{pairOf, meets}
-use Rattle.decode_shapes.specs.Rows.{isControl}
-use Rattle.decode_shapes.specs.declared.Decoded.the-variants.{Instruction, NoInstruction, ControlUsed}
-use Rattle.execute.proofs.NumberLaws.{exactly-3}
-use Rattle.execute.specs.Conditions.{PairBeyond}
-use Rattle.execute.specs.Execute.{Executed, decodedAt, executeOf}
-use Rattle.execute_operands.specs.Operands.{bytesAt}
-use Rattle.machine.proofs.ConditionLaws.{told-touchable}
-use Rattle.machine.specs.Psw.{transferring}
-use Rattle.machine.specs.Outcomes.{Outcome}
-use Rattle.machine.specs.States.{freshOf, channelOf, blockOf, busyIn, isSecond}
-use Rattle.machine.specs.declared.Channel.{Channel}
-use Rattle.machine.specs.declared.State.{State}
-use Rattle.memory.proofs.PlaceLaws.{byte-index, byte-reduced}
-use Rattle.memory.proofs.StoreLaws.{read-same, store-beyond, slot-reads, io-touchable, system-touchable, same-lent}
-use Rattle.memory.specs.Buffers.{Buffers, spaceOf, limitOf, indexOf, lentAt, touchableAt, EmptySlot, byteAt}
-use Rattle.memory.specs.Places.{Place, span, allPass, allTouchable}
-use Rattle.memory.specs.Values.{pointer, onward, wordAt}
-use Rattle.memory.specs.declared.Pointer.{Pointer}
-use Rattle.panel.specs.Run.{ran, stepsFrom, attendedRun, startedRun, callNumber, runOf}
-use Rattle.step.proofs.NumberLaws.{settled-number, two-exactly}
-use Rattle.step.proofs.TouchedLaws.{lengths-kept as stepped-lengths}
-use Rattle.step.specs.Choosing.{choiceOf}
-use Rattle.step.specs.Step.{Step, instructionStep, stepOf}
-use Rattle.step.specs.Touched.{reachedIn}
-use Rattle.step.specs.declared.Kind.{Kind}
-use Rattle.words.proofs.ChoiceLaws.{apart, both-left, both-right}
-use Rattle.words.specs.Bits.{fieldOf}
-use Rattle.words.specs.Bytes.{wordOf}
-use Rattle.words.specs.Choice.{pick}
+use Rattle.attention_rules.proofs.Numbers.{touched-2}
+use Rattle.attention_rules.proofs.Stores.{lengths-kept as attended-lengths}
+use Rattle.attention_rules.specs.Attention.{orderTo, attentionOf}
+use Rattle.attention_rules.specs.Conditions.{modeTo}
+use Rattle.attention_rules.specs.Touched.{touchedByOrder}
+use Rattle.instruction_rules.specs.Reading.{fits, lookup, decodeOf}
+use Rattle.instruction_rules.specs.Table.{SummaryRow, table}
+use Rattle.instruction_rules.specs.Pairs.{pairOf, meets}
+use Rattle.instruction_rules.specs.Rows.{isControl}
+use Rattle.instruction_rules.specs.declared.Decoded.the-variants.{Instruction, NoInstruction, ControlUsed}
+use Rattle.instruction_rules.proofs.NumberLaws.{exactly-3}
+use Rattle.instruction_rules.specs.Conditions.{PairBeyond}
+use Rattle.instruction_rules.specs.Execute.{Executed, decodedAt, executeOf}
+use Rattle.instruction_rules.specs.Operands.{bytesAt}
+use Rattle.ground_rules.proofs.ConditionLaws.{told-touchable}
+use Rattle.ground_rules.specs.Psw.{transferring}
+use Rattle.ground_rules.specs.Outcomes.{Outcome}
+use Rattle.ground_rules.specs.States.{freshOf, channelOf, blockOf, busyIn, isSecond}
+use Rattle.ground_rules.specs.declared.Channel.{Channel}
+use Rattle.ground_rules.specs.declared.State.{State}
+use Rattle.ground_rules.proofs.PlaceLaws.{byte-index, byte-reduced}
+use Rattle.ground_rules.proofs.StoreLaws.{read-same, store-beyond, slot-reads, io-touchable, system-touchable, same-lent}
+use Rattle.ground_rules.specs.Buffers.{Buffers, spaceOf, limitOf, indexOf, lentAt, touchableAt, EmptySlot, byteAt}
+use Rattle.ground_rules.specs.Places.{Place, span, allPass, allTouchable}
+use Rattle.ground_rules.specs.Values.{pointer, onward, wordAt}
+use Rattle.ground_rules.specs.declared.Pointer.{Pointer}
+use Rattle.run_rules.specs.Run.{ran, stepsFrom, attendedRun, startedRun, callNumber, runOf}
+use Rattle.turn_rules.proofs.NumberLaws.{settled-number, two-exactly}
+use Rattle.turn_rules.proofs.TouchedLaws.{lengths-kept as stepped-lengths}
+use Rattle.turn_rules.specs.Choosing.{choiceOf}
+use Rattle.turn_rules.specs.Step.{Step, instructionStep, stepOf}
+use Rattle.turn_rules.specs.Touched.{reachedIn}
+use Rattle.turn_rules.specs.declared.Kind.{Kind}
+use Rattle.ground_rules.proofs.ChoiceLaws.{apart, both-left, both-right}
+use Rattle.ground_rules.specs.Bits.{fieldOf}
+use Rattle.ground_rules.specs.Bytes.{wordOf}
+use Rattle.ground_rules.specs.Choice.{pick}
 use Rattle.promises.specs.Slots.{SlotIs, SlotsStay, SystemLent, RunsInIo, Slots}
 use Rattle.promises.proofs.InstructionLaws.{turn-executes}
 

@@ -8,11 +8,11 @@ use mathlib.Core.List.{List}
 use mathlib.Core.Path.{_≡_, refl, sym, ap, ap₂, _∙_}
 use native.Mathlib.Nat.{add-zero, add-assoc}
 use native.Mathlib.Omega.{arith}
-use Rattle.memory.proofs.PlaceLaws.{index-after, lent-index, byte-index}
-use Rattle.memory.proofs.StoreLaws.{lent-touchable}
-use Rattle.memory.specs.Buffers.{Buffers, indexOf, lentAt, byteAt}
-use Rattle.memory.specs.Places.{span, allPass, allTouchable}
-use Rattle.memory.specs.declared.Pointer.{Pointer}
+use Rattle.ground_rules.proofs.PlaceLaws.{index-after, lent-index, byte-index}
+use Rattle.ground_rules.proofs.StoreLaws.{lent-touchable}
+use Rattle.ground_rules.specs.Buffers.{Buffers, indexOf, lentAt, byteAt}
+use Rattle.ground_rules.specs.Places.{span, allPass, allTouchable}
+use Rattle.ground_rules.specs.declared.Pointer.{Pointer}
 use Rattle.promises.specs.Cases.{Stand}
 use Rattle.block_rules.specs.Premises.{Lent}
 use Rattle.block_rules.specs.Stages.{onBy}

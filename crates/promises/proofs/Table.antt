@@ -6,25 +6,25 @@ use mathlib.Core.Bool.{true, false}
 use mathlib.Core.List.{[], _∷_}
 use mathlib.Core.Path.{_≡_, refl, ap, _∙_}
 use native.Mathlib.Omega.{arith}
-use Rattle.decode.specs.Lengths.{dataLength, displacementLength, lengthOf}
-use Rattle.decode_shapes.specs.Pairs.{pairOf}
-use Rattle.decode.specs.Reading.{lookup, decodeOf}
-use Rattle.decode.specs.Table.{table}
-use Rattle.decode_shapes.specs.declared.Work.the-variants.{Mov, Add}
-use Rattle.execute_deeds.specs.RegisterForms.{registerWritten}
-use Rattle.machine.specs.Registers.{byRRR, registerOf, tagOf, withRegister}
-use Rattle.machine.specs.States.{channelNumber}
-use Rattle.machine.specs.declared.Channel.{Channel}
-use Rattle.machine.specs.declared.State.{State}
-use Rattle.memory.specs.Buffers.{Buffers}
-use Rattle.memory.specs.Values.{pointer, onward}
-use Rattle.execute_operands.specs.Marks.{pastInstruction}
-use Rattle.execute_operands.specs.Operands.{workOf, isMove}
-use Rattle.machine.specs.Updates.{renewed}
-use Rattle.words.specs.Bits.{fieldOf}
-use Rattle.words.specs.Compare.{matchOf}
-use Rattle.words.specs.Signs.{extended}
-use Rattle.words.specs.Sums.{addressOf}
+use Rattle.instruction_rules.specs.Lengths.{dataLength, displacementLength, lengthOf}
+use Rattle.instruction_rules.specs.Pairs.{pairOf}
+use Rattle.instruction_rules.specs.Reading.{lookup, decodeOf}
+use Rattle.instruction_rules.specs.Table.{table}
+use Rattle.instruction_rules.specs.declared.Work.the-variants.{Mov, Add}
+use Rattle.instruction_rules.specs.RegisterForms.{registerWritten}
+use Rattle.ground_rules.specs.Registers.{byRRR, registerOf, tagOf, withRegister}
+use Rattle.ground_rules.specs.States.{channelNumber}
+use Rattle.ground_rules.specs.declared.Channel.{Channel}
+use Rattle.ground_rules.specs.declared.State.{State}
+use Rattle.ground_rules.specs.Buffers.{Buffers}
+use Rattle.ground_rules.specs.Values.{pointer, onward}
+use Rattle.instruction_rules.specs.Marks.{pastInstruction}
+use Rattle.instruction_rules.specs.Operands.{workOf, isMove}
+use Rattle.ground_rules.specs.Updates.{renewed}
+use Rattle.ground_rules.specs.Bits.{fieldOf}
+use Rattle.ground_rules.specs.Compare.{matchOf}
+use Rattle.ground_rules.specs.Signs.{extended}
+use Rattle.ground_rules.specs.Sums.{addressOf}
 use Rattle.promises.specs.Cases.{Does, IsStored, Gives, Both8, Both16Even, Both16Odd, From16OddInto8, Takes, Fresh, Turns, startedBoth}
 use Rattle.promises.proofs.CaseLaws.{stored-stands, pointer-given, total-8, total-even, total-odd, total-mixed, takes}
 use Rattle.promises.proofs.InstructionLaws.{immediate-step}

@@ -5,17 +5,17 @@ use mathlib.Core.Bool.{Bool, true, false, not}
 use mathlib.Core.List.{List, [], _∷_}
 use mathlib.Core.Logic.{inr}
 use mathlib.Core.Path.{_≡_, refl, sym, ap, ap₂, _∙_}
-use Rattle.attention.proofs.Outcomes.{shared-kept}
-use Rattle.machine.specs.States.{freshState, channelOf, withLast, channelNumber}
-use Rattle.machine.specs.declared.State.{State}
-use Rattle.memory.specs.Buffers.{Buffers}
-use Rattle.step.proofs.ChoosingLaws.{rank-three, other-turn}
-use Rattle.step.proofs.OutcomeLaws.{by-step}
-use Rattle.step.specs.Choosing.{requested, choiceOf}
-use Rattle.step.specs.Step.{stepOf}
-use Rattle.step.specs.declared.turns.Choice.the-variants.{Ends, Steps}
-use Rattle.step.specs.declared.turns.Choice.{Choice}
-use Rattle.words.proofs.ChoiceLaws.{apart}
+use Rattle.attention_rules.proofs.Outcomes.{shared-kept}
+use Rattle.ground_rules.specs.States.{freshState, channelOf, withLast, channelNumber}
+use Rattle.ground_rules.specs.declared.State.{State}
+use Rattle.ground_rules.specs.Buffers.{Buffers}
+use Rattle.turn_rules.proofs.ChoosingLaws.{rank-three, other-turn}
+use Rattle.turn_rules.proofs.OutcomeLaws.{by-step}
+use Rattle.turn_rules.specs.Choosing.{requested, choiceOf}
+use Rattle.turn_rules.specs.Step.{stepOf}
+use Rattle.turn_rules.specs.declared.Choice.the-variants.{Ends, Steps}
+use Rattle.turn_rules.specs.declared.Choice.{Choice}
+use Rattle.ground_rules.proofs.ChoiceLaws.{apart}
 use Rattle.promises.specs.Cases.{Fresh, made, attended, Programs, Turns, none, turn}
 
 -- it is the turn of the channel that did not step last, whatever the lines

@@ -4,35 +4,35 @@ use Prim.Native.Nat.{ℕ}
 use mathlib.Core.Bool.{Bool, true, false}
 use mathlib.Core.List.{[], _∷_}
 use mathlib.Core.Path.{_≡_, refl}
-use Rattle.attention.specs.Attention.{orderTo, orderNumber, orderedChannel, orderedMemory, givenTo, attentionNumber, attentionOf}
-use Rattle.attention.specs.Blocks.{ccwOf, parameterBlock, orderOf}
-use Rattle.attention.specs.Commands.{commandCoded, isKnown, modeNumber, commandNumber, copied, obeyed, ordered}
-use Rattle.attention.specs.Effects.{started as startedBy, commanded, channelOrdered, writesOf, marked, writesMade}
-use Rattle.machine.specs.Cc.{split, sameFlag, sameFields}
-use Rattle.machine.specs.Updates.{withControl, renewed}
-use Rattle.attention.specs.Touched.{readBy, storedBy, others, orderStages}
-use Rattle.decode.specs.Lengths.{lengthOf, dataLength, displacementLength}
-use Rattle.decode_shapes.specs.Pairs.{pairOf}
-use Rattle.decode.specs.Reading.{lookup, decodeOf}
-use Rattle.decode.specs.Table.{table}
-use Rattle.execute_deeds.specs.Control.{nopDeed}
-use Rattle.execute.specs.Execute.{decodedAt, performed, deedOf, laterBytes, laterFrom, deedFrom, stagesFrom, instructionStages, executeNumber, executeOf}
-use Rattle.machine.specs.Outcomes.{outcome, unless, first, settled, givenNumber}
-use Rattle.machine.specs.Psw.{withPsw}
-use Rattle.machine.specs.Stages.{stagesNumber}
-use Rattle.machine.specs.States.{boardWith, freshState, idleChannel, channelOf, withChannel, withLast, soundChannel, sound, isRunning, blockOf, busyIn, channelNumber, isChannel, isSecond, fieldsAgree, agree}
-use Rattle.machine.specs.declared.Channel.{Channel}
-use Rattle.machine.specs.declared.Mode.the-variants.{Running}
-use Rattle.machine.specs.declared.State.{State}
-use Rattle.memory.specs.Buffers.{Buffers, buffers, spaceOf, limitOf, indexOf, lentAt, touchableAt, beyondIn, byteAt, storeByte, withinLimits}
-use Rattle.memory.specs.Places.{span, allPass}
-use Rattle.memory.specs.Values.{wordAt, doublewordAt, pointer, onward}
-use Rattle.execute_operands.specs.Changes.{placesOf, changed}
-use Rattle.execute_operands.specs.Marks.{usedUp, pastInstruction}
-use Rattle.step.specs.Choosing.{requested, external, endsNow, transferRank, rankOf, secondWins, ranked, choiceOf}
-use Rattle.step.specs.Ranks.{RankThree}
-use Rattle.step.specs.Step.{settledStep, instructionStep, channelStep, chosenStep, entryNumber, stepOf}
-use Rattle.words.specs.Bits.{fieldOf, bitOf, withBit}
+use Rattle.attention_rules.specs.Attention.{orderTo, orderNumber, orderedChannel, orderedMemory, givenTo, attentionNumber, attentionOf}
+use Rattle.attention_rules.specs.Blocks.{ccwOf, parameterBlock, orderOf}
+use Rattle.attention_rules.specs.Commands.{commandCoded, isKnown, modeNumber, commandNumber, copied, obeyed, ordered}
+use Rattle.attention_rules.specs.Effects.{started as startedBy, commanded, channelOrdered, writesOf, marked, writesMade}
+use Rattle.ground_rules.specs.Cc.{split, sameFlag, sameFields}
+use Rattle.ground_rules.specs.Updates.{withControl, renewed}
+use Rattle.attention_rules.specs.Touched.{readBy, storedBy, others, orderStages}
+use Rattle.instruction_rules.specs.Lengths.{lengthOf, dataLength, displacementLength}
+use Rattle.instruction_rules.specs.Pairs.{pairOf}
+use Rattle.instruction_rules.specs.Reading.{lookup, decodeOf}
+use Rattle.instruction_rules.specs.Table.{table}
+use Rattle.instruction_rules.specs.Control.{nopDeed}
+use Rattle.instruction_rules.specs.Execute.{decodedAt, performed, deedOf, laterBytes, laterFrom, deedFrom, stagesFrom, instructionStages, executeNumber, executeOf}
+use Rattle.ground_rules.specs.Outcomes.{outcome, unless, first, settled, givenNumber}
+use Rattle.ground_rules.specs.Psw.{withPsw}
+use Rattle.ground_rules.specs.Stages.{stagesNumber}
+use Rattle.ground_rules.specs.States.{boardWith, freshState, idleChannel, channelOf, withChannel, withLast, soundChannel, sound, isRunning, blockOf, busyIn, channelNumber, isChannel, isSecond, fieldsAgree, agree}
+use Rattle.ground_rules.specs.declared.Channel.{Channel}
+use Rattle.ground_rules.specs.declared.Mode.the-variants.{Running}
+use Rattle.ground_rules.specs.declared.State.{State}
+use Rattle.ground_rules.specs.Buffers.{Buffers, buffers, spaceOf, limitOf, indexOf, lentAt, touchableAt, beyondIn, byteAt, storeByte, withinLimits}
+use Rattle.ground_rules.specs.Places.{span, allPass}
+use Rattle.ground_rules.specs.Values.{wordAt, doublewordAt, pointer, onward}
+use Rattle.instruction_rules.specs.Changes.{placesOf, changed}
+use Rattle.instruction_rules.specs.Marks.{usedUp, pastInstruction}
+use Rattle.turn_rules.specs.Choosing.{requested, external, endsNow, transferRank, rankOf, secondWins, ranked, choiceOf}
+use Rattle.turn_rules.specs.Ranks.{RankThree}
+use Rattle.turn_rules.specs.Step.{settledStep, instructionStep, channelStep, chosenStep, entryNumber, stepOf}
+use Rattle.ground_rules.specs.Bits.{fieldOf, bitOf, withBit}
 use Rattle.promises.specs.Cases.{Programs, Turns, none, turn, startedBoth}
 
 -- a channel that runs the program at an address, with PB at another

@@ -2,12 +2,12 @@
 -- Assumes nothing.
 use Prim.Native.Nat.{ℕ}
 use mathlib.Core.Path.{sym, ap, ap₂, _∙_}
-use Rattle.machine.specs.Outcomes.{Outcome}
-use Rattle.machine.specs.declared.Answer.{Answer}
-use Rattle.panel.specs.Run.{Run, Call}
-use Rattle.panel.specs.declared.Ran.{Ran}
-use Rattle.step.specs.Step.{Step}
-use Rattle.step.specs.declared.Stepped.{Stepped}
+use Rattle.ground_rules.specs.Outcomes.{Outcome}
+use Rattle.ground_rules.specs.declared.Answer.{Answer}
+use Rattle.run_rules.specs.Run.{Run, Call}
+use Rattle.run_rules.specs.declared.Ran.{Ran}
+use Rattle.turn_rules.specs.Step.{Step}
+use Rattle.turn_rules.specs.declared.Stepped.{Stepped}
 use Rattle.promises.specs.Unique.{OneOutcome}
 
 -- an answer, without the memories

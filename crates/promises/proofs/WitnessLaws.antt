@@ -5,26 +5,26 @@ use lib.Dec.{lit≤}
 use mathlib.Core.Bool.{true, false}
 use mathlib.Core.Path.{_≡_, refl, subst}
 use native.Mathlib.Omega.{arith}
-use Rattle.machine.specs.Cc.{split, sameFlag, sameFields}
-use Rattle.machine.specs.Outcomes.{unless, first}
-use Rattle.machine.specs.Stages.{stagesNumber}
-use Rattle.machine.specs.Psw.{withPsw}
-use Rattle.machine.specs.States.{soundChannel, isRunning, fieldsAgree}
-use Rattle.machine.specs.declared.Channel.{Channel}
-use Rattle.memory.proofs.SpanLaws.{span-at}
-use Rattle.memory.specs.Buffers.{Buffers, spaceOf, limitOf, indexOf, lentAt, touchableAt, beyondIn, byteAt, storeByte}
-use Rattle.memory.specs.Places.{span, allPass}
-use Rattle.memory.specs.Values.{onward}
-use Rattle.transfer.specs.Ends.{meetsTmc, codeIf, larger, offsetOf, endedTP, endedPSW, endedBy}
-use Rattle.machine.specs.Updates.{withTransfer}
-use Rattle.transfer.specs.Reads.{fetched, fetchedSecond, entryOf, delivered, dataOf, also, readPlaces}
-use Rattle.transfer.specs.Sides.{source, destination, wordSide, secondAddress, gained, twoMove, storedSingly}
-use Rattle.transfer.specs.Parts.{fetchesApart, storesApart, fetchPart, storePart, partOf}
-use Rattle.transfer.specs.Steps.{Transfer, transferred, badMode, transferOf, stepBy, numberBy, stagesBy, channelBy, memoryBy, touchedBy}
-use Rattle.transfer.specs.Stores.{movedChannel, movedMemory, firstMeets, matchMet, cutShort, storesTwo, bytesStored, bytesMoved, bytesCounted, countAfter, endCode, movedBy, putOn, placesOn, storedPlaces}
-use Rattle.words.proofs.ChoiceLaws.{apart}
-use Rattle.words.specs.Bits.{fieldOf, bitOf, withBit}
-use Rattle.words.specs.Compare.{matchOf}
+use Rattle.ground_rules.specs.Cc.{split, sameFlag, sameFields}
+use Rattle.ground_rules.specs.Outcomes.{unless, first}
+use Rattle.ground_rules.specs.Stages.{stagesNumber}
+use Rattle.ground_rules.specs.Psw.{withPsw}
+use Rattle.ground_rules.specs.States.{soundChannel, isRunning, fieldsAgree}
+use Rattle.ground_rules.specs.declared.Channel.{Channel}
+use Rattle.ground_rules.proofs.SpanLaws.{span-at}
+use Rattle.ground_rules.specs.Buffers.{Buffers, spaceOf, limitOf, indexOf, lentAt, touchableAt, beyondIn, byteAt, storeByte}
+use Rattle.ground_rules.specs.Places.{span, allPass}
+use Rattle.ground_rules.specs.Values.{onward}
+use Rattle.transfer_rules.specs.Ends.{meetsTmc, codeIf, larger, offsetOf, endedTP, endedPSW, endedBy}
+use Rattle.ground_rules.specs.Updates.{withTransfer}
+use Rattle.transfer_rules.specs.Reads.{fetched, fetchedSecond, entryOf, delivered, dataOf, also, readPlaces}
+use Rattle.transfer_rules.specs.Sides.{source, destination, wordSide, secondAddress, gained, twoMove, storedSingly}
+use Rattle.transfer_rules.specs.Parts.{fetchesApart, storesApart, fetchPart, storePart, partOf}
+use Rattle.transfer_rules.specs.Steps.{Transfer, transferred, badMode, transferOf, stepBy, numberBy, stagesBy, channelBy, memoryBy, touchedBy}
+use Rattle.transfer_rules.specs.Stores.{movedChannel, movedMemory, firstMeets, matchMet, cutShort, storesTwo, bytesStored, bytesMoved, bytesCounted, countAfter, endCode, movedBy, putOn, placesOn, storedPlaces}
+use Rattle.ground_rules.proofs.ChoiceLaws.{apart}
+use Rattle.ground_rules.specs.Bits.{fieldOf, bitOf, withBit}
+use Rattle.ground_rules.specs.Compare.{matchOf}
 use Rattle.block_rules.specs.Premises.{Plain, Copy}
 use Rattle.block_rules.specs.Rows.{after, EndsAt}
 use Rattle.block_rules.specs.Totals.{narrow, alone, total}

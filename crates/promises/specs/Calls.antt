@@ -2,15 +2,15 @@
 use mathlib.Core.Bool.{Bool, true}
 use mathlib.Core.Path.{_≡_}
 use Prim.Native.Nat.{ℕ, suc, _<_}
-use Rattle.memory.specs.Buffers.{Buffers}
-use Rattle.machine.specs.declared.State.{State}
-use Rattle.machine.specs.Psw.{transferring}
-use Rattle.machine.specs.States.{channelOf, channelNumber}
-use Rattle.attention.specs.Attention.{attentionOf}
-use Rattle.step.specs.declared.turns.Choice.the-variants.{Steps}
-use Rattle.step.specs.declared.Kind.the-variants.{Transfer}
-use Rattle.step.specs.Choosing.{choiceOf}
-use Rattle.step.specs.Step.{entryNumber, stepOf}
+use Rattle.ground_rules.specs.Buffers.{Buffers}
+use Rattle.ground_rules.specs.declared.State.{State}
+use Rattle.ground_rules.specs.Psw.{transferring}
+use Rattle.ground_rules.specs.States.{channelOf, channelNumber}
+use Rattle.attention_rules.specs.Attention.{attentionOf}
+use Rattle.turn_rules.specs.declared.Choice.the-variants.{Steps}
+use Rattle.turn_rules.specs.declared.Kind.the-variants.{Transfer}
+use Rattle.turn_rules.specs.Choosing.{choiceOf}
+use Rattle.turn_rules.specs.Step.{entryNumber, stepOf}
 use Rattle.block_rules.specs.Premises.{into}
 use Rattle.block_rules.specs.Stages.{Within, Going, Ended}
 use Rattle.block_rules.specs.Rows.{Untouched}

@@ -4,19 +4,19 @@ use mathlib.Core.List.{List, [], _∷_}
 use mathlib.Core.Path.{_≡_}
 use Prim.Native.Nat.{ℕ, _+_, _%_, _<_}
 use lib.ListN.{length, getD}
-use Rattle.words.specs.Stored.{storedLow, storedMiddle, storedHigh}
-use Rattle.memory.specs.declared.Pointer.{Pointer}
-use Rattle.memory.specs.Buffers.{Buffers, buffers, byteAt}
-use Rattle.memory.specs.Values.{doublewordAt, storePointer}
-use Rattle.machine.specs.declared.Channel.{Channel}
-use Rattle.machine.specs.declared.State.{State}
-use Rattle.machine.specs.Outcomes.{Outcome}
-use Rattle.machine.specs.Psw.{transferring, priority}
-use Rattle.machine.specs.States.{freshState, channelOf}
-use Rattle.attention.specs.Attention.{attentionOf}
-use Rattle.transfer.specs.Sides.{source, destination}
-use Rattle.step.specs.Ranks.{RankThree}
-use Rattle.step.specs.Step.{stepOf}
+use Rattle.ground_rules.specs.Stored.{storedLow, storedMiddle, storedHigh}
+use Rattle.ground_rules.specs.declared.Pointer.{Pointer}
+use Rattle.ground_rules.specs.Buffers.{Buffers, buffers, byteAt}
+use Rattle.ground_rules.specs.Values.{doublewordAt, storePointer}
+use Rattle.ground_rules.specs.declared.Channel.{Channel}
+use Rattle.ground_rules.specs.declared.State.{State}
+use Rattle.ground_rules.specs.Outcomes.{Outcome}
+use Rattle.ground_rules.specs.Psw.{transferring, priority}
+use Rattle.ground_rules.specs.States.{freshState, channelOf}
+use Rattle.attention_rules.specs.Attention.{attentionOf}
+use Rattle.transfer_rules.specs.Sides.{source, destination}
+use Rattle.turn_rules.specs.Ranks.{RankThree}
+use Rattle.turn_rules.specs.Step.{stepOf}
 use Rattle.promises.specs.Calls.{Turn, EndsAtCall}
 use Rattle.block_rules.specs.Premises.{from, into, Lent, Copy}
 

@@ -6,20 +6,20 @@ use mathlib.Core.List.{[], _∷_}
 use mathlib.Core.Logic.{_↔_}
 use mathlib.Core.Path.{_≡_}
 use Prim.Native.Nat.{ℕ, _+_, _*_, _/_, _%_, _<_, _≤_}
-use Rattle.memory.specs.Buffers.{Buffers}
-use Rattle.memory.specs.Values.{pointer}
-use Rattle.machine.specs.Cc.{split}
-use Rattle.machine.specs.declared.Channel.{Channel}
-use Rattle.machine.specs.declared.Held.the-variants.{NoByte}
-use Rattle.machine.specs.declared.Mode.the-variants.{Idle}
-use Rattle.machine.specs.declared.State.{State}
-use Rattle.machine.specs.Conditions.{check, Given}
-use Rattle.machine.specs.States.{boardWith, freshOf, channelOf}
-use Rattle.attention.specs.Attention.{attentionOf}
-use Rattle.attention.specs.Conditions.{attentionChecks as attentionChecks}
-use Rattle.step.specs.Conditions.{stepChecks as stepChecks}
-use Rattle.step.specs.Step.{stepOf}
-use Rattle.panel.specs.Run.{Run, runOf, answerOf}
+use Rattle.ground_rules.specs.Buffers.{Buffers}
+use Rattle.ground_rules.specs.Values.{pointer}
+use Rattle.ground_rules.specs.Cc.{split}
+use Rattle.ground_rules.specs.declared.Channel.{Channel}
+use Rattle.ground_rules.specs.declared.Held.the-variants.{NoByte}
+use Rattle.ground_rules.specs.declared.Mode.the-variants.{Idle}
+use Rattle.ground_rules.specs.declared.State.{State}
+use Rattle.ground_rules.specs.Conditions.{check, Given}
+use Rattle.ground_rules.specs.States.{boardWith, freshOf, channelOf}
+use Rattle.attention_rules.specs.Attention.{attentionOf}
+use Rattle.attention_rules.specs.Conditions.{attentionChecks as attentionChecks}
+use Rattle.turn_rules.specs.Conditions.{stepChecks as stepChecks}
+use Rattle.turn_rules.specs.Step.{stepOf}
+use Rattle.run_rules.specs.Run.{Run, runOf, answerOf}
 use Rattle.promises.specs.Runs.{CpPast, RunEnds}
 
 -- a channel of a fresh state: every register 0, idle, unmarked (§2.8)

@@ -5,23 +5,23 @@ use mathlib.Core.Logic.{_⊎_}
 use mathlib.Core.Path.{_≡_}
 use Prim.Native.Nat.{ℕ}
 use lib.ListN.{length}
-use Rattle.memory.specs.Buffers.{Buffers, spaceOf, byteAt}
-use Rattle.memory.specs.Places.{Place, ApartFrom}
-use Rattle.machine.specs.declared.Channel.{Channel}
-use Rattle.machine.specs.declared.State.{State}
-use Rattle.machine.specs.Outcomes.{outcome}
-use Rattle.machine.specs.Psw.{transferring}
-use Rattle.machine.specs.States.{channelOf, withChannel, blockOf, busyIn, isSecond, channelNumber}
-use Rattle.attention.specs.Attention.{orderTo, orderedChannel, orderedMemory, attentionOf}
-use Rattle.attention.specs.Touched.{storedBy}
-use Rattle.transfer.specs.Ends.{externallyEnded}
-use Rattle.transfer.specs.Steps.{transferOf}
-use Rattle.execute.specs.Execute.{executeOf}
-use Rattle.step.specs.declared.turns.Choice.the-variants.{Ends, Steps}
-use Rattle.step.specs.declared.Kind.the-variants.{Instruction, Transfer, External}
-use Rattle.step.specs.Choosing.{choiceOf}
-use Rattle.step.specs.Step.{doneStep, stepOf}
-use Rattle.step.specs.Touched.{touchedByStep}
+use Rattle.ground_rules.specs.Buffers.{Buffers, spaceOf, byteAt}
+use Rattle.ground_rules.specs.Places.{Place, ApartFrom}
+use Rattle.ground_rules.specs.declared.Channel.{Channel}
+use Rattle.ground_rules.specs.declared.State.{State}
+use Rattle.ground_rules.specs.Outcomes.{outcome}
+use Rattle.ground_rules.specs.Psw.{transferring}
+use Rattle.ground_rules.specs.States.{channelOf, withChannel, blockOf, busyIn, isSecond, channelNumber}
+use Rattle.attention_rules.specs.Attention.{orderTo, orderedChannel, orderedMemory, attentionOf}
+use Rattle.attention_rules.specs.Touched.{storedBy}
+use Rattle.transfer_rules.specs.Ends.{externallyEnded}
+use Rattle.transfer_rules.specs.Steps.{transferOf}
+use Rattle.instruction_rules.specs.Execute.{executeOf}
+use Rattle.turn_rules.specs.declared.Choice.the-variants.{Ends, Steps}
+use Rattle.turn_rules.specs.declared.Kind.the-variants.{Instruction, Transfer, External}
+use Rattle.turn_rules.specs.Choosing.{choiceOf}
+use Rattle.turn_rules.specs.Step.{doneStep, stepOf}
+use Rattle.turn_rules.specs.Touched.{touchedByStep}
 use Rattle.promises.specs.Pointers.{PointersKept}
 
 -- the bytes that the order in a channel's block stores

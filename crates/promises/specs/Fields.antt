@@ -4,16 +4,16 @@ use mathlib.Core.List.{List, [], _∷_}
 use mathlib.Core.Path.{_≡_}
 use Prim.Native.Nat.{ℕ, _+_, _^_}
 use lib.Dec.{eqb}
-use Rattle.memory.specs.Buffers.{Buffers}
-use Rattle.machine.specs.Cc.{split, sameFields}
-use Rattle.machine.specs.Registers.{withRegister}
-use Rattle.machine.specs.States.{freshOf, resetState, channelOf, channelNumber}
-use Rattle.machine.specs.declared.Channel.{Channel}
-use Rattle.machine.specs.declared.Fields.{Fields}
-use Rattle.machine.specs.declared.State.{State}
-use Rattle.attention.specs.Attention.{attentionOf}
-use Rattle.power.specs.Power.{powerUpOf}
-use Rattle.step.specs.Step.{stepOf}
+use Rattle.ground_rules.specs.Buffers.{Buffers}
+use Rattle.ground_rules.specs.Cc.{split, sameFields}
+use Rattle.ground_rules.specs.Registers.{withRegister}
+use Rattle.ground_rules.specs.States.{freshOf, resetState, channelOf, channelNumber}
+use Rattle.ground_rules.specs.declared.Channel.{Channel}
+use Rattle.ground_rules.specs.declared.Fields.{Fields}
+use Rattle.ground_rules.specs.declared.State.{State}
+use Rattle.attention_rules.specs.Attention.{attentionOf}
+use Rattle.attention_rules.specs.Power.{powerUpOf}
+use Rattle.turn_rules.specs.Step.{stepOf}
 use Rattle.promises.specs.SheetWords.{bit, field}
 
 -- ---- which bits

@@ -3,9 +3,9 @@ use mathlib.Core.Bool.{Bool, false}
 use mathlib.Core.List.{List, [], _∷_}
 use Prim.Native.Nat.{ℕ, _+_, _<_, _≤_}
 use lib.ListN.{length}
-use Rattle.words.specs.Choice.{pick}
-use Rattle.memory.specs.Buffers.{Buffers, spaceOf, storeByte}
-use Rattle.machine.specs.Conditions.{TooLong}
+use Rattle.ground_rules.specs.Choice.{pick}
+use Rattle.ground_rules.specs.Buffers.{Buffers, spaceOf, storeByte}
+use Rattle.ground_rules.specs.Conditions.{TooLong}
 use Rattle.promises.specs.Program.{Job, Layout, pbPlace, programPlace, blockAt, doubleword, programOf, mostOf, Ready}
 
 -- bytes stored in system memory, one after the other

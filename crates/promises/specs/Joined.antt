@@ -5,16 +5,16 @@ use mathlib.Core.List.{[], _∷_}
 use mathlib.Core.Path.{_≡_}
 use Prim.Native.Nat.{ℕ, _+_, _<_}
 use lib.ListN.{length}
-use Rattle.memory.specs.Buffers.{Buffers, spaceOf, lentAt, byteAt}
-use Rattle.memory.specs.Places.{Apart}
-use Rattle.memory.specs.declared.Pointer.{Pointer}
-use Rattle.machine.specs.declared.Channel.{Channel}
-use Rattle.machine.specs.declared.State.{State}
-use Rattle.machine.specs.Conditions.{Given}
-use Rattle.machine.specs.States.{channelOf, isRunning, channelNumber, blockOf, busyIn}
-use Rattle.transfer.specs.Ends.{offsetOf}
-use Rattle.step.specs.Step.{entryNumber}
-use Rattle.panel.specs.Run.{Run}
+use Rattle.ground_rules.specs.Buffers.{Buffers, spaceOf, lentAt, byteAt}
+use Rattle.ground_rules.specs.Places.{Apart}
+use Rattle.ground_rules.specs.declared.Pointer.{Pointer}
+use Rattle.ground_rules.specs.declared.Channel.{Channel}
+use Rattle.ground_rules.specs.declared.State.{State}
+use Rattle.ground_rules.specs.Conditions.{Given}
+use Rattle.ground_rules.specs.States.{channelOf, isRunning, channelNumber, blockOf, busyIn}
+use Rattle.transfer_rules.specs.Ends.{offsetOf}
+use Rattle.turn_rules.specs.Step.{entryNumber}
+use Rattle.run_rules.specs.Run.{Run}
 use Rattle.promises.specs.Calls.{Calls}
 use Rattle.promises.specs.Cases.{Stand}
 use Rattle.block_rules.specs.Premises.{from, into, Copy}

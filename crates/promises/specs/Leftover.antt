@@ -6,16 +6,16 @@ use mathlib.Core.Logic.{_⊎_}
 use mathlib.Core.Path.{_≡_}
 use Prim.Native.Nat.{ℕ, _+_, _-_, _%_, _<_, _≤_}
 use lib.Dec.{eqb}
-use Rattle.words.specs.Choice.{pick}
-use Rattle.memory.specs.Buffers.{Buffers, storeByte}
-use Rattle.memory.specs.Values.{pointer}
-use Rattle.machine.specs.Registers.{withRegister}
-use Rattle.machine.specs.States.{channelOf, channelNumber}
-use Rattle.machine.specs.declared.Channel.{Channel}
-use Rattle.machine.specs.declared.State.{State}
-use Rattle.attention.specs.Attention.{attentionOf}
-use Rattle.transfer.specs.Steps.{transferred, transferOf}
-use Rattle.step.specs.Step.{stepOf}
+use Rattle.ground_rules.specs.Choice.{pick}
+use Rattle.ground_rules.specs.Buffers.{Buffers, storeByte}
+use Rattle.ground_rules.specs.Values.{pointer}
+use Rattle.ground_rules.specs.Registers.{withRegister}
+use Rattle.ground_rules.specs.States.{channelOf, channelNumber}
+use Rattle.ground_rules.specs.declared.Channel.{Channel}
+use Rattle.ground_rules.specs.declared.State.{State}
+use Rattle.attention_rules.specs.Attention.{attentionOf}
+use Rattle.transfer_rules.specs.Steps.{transferred, transferOf}
+use Rattle.turn_rules.specs.Step.{stepOf}
 use Rattle.block_rules.specs.Stages.{onBy}
 use Rattle.promises.specs.SheetWords.{bit, field}
 use Rattle.promises.specs.SheetOperands.{ranChannel}

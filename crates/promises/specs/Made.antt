@@ -2,19 +2,19 @@
 use mathlib.Core.Bool.{Bool, true, false}
 use mathlib.Core.Path.{_≡_}
 use Prim.Native.Nat.{ℕ}
-use Rattle.memory.specs.Buffers.{Buffers, AllBytes}
-use Rattle.memory.specs.Values.{onward}
-use Rattle.machine.specs.States.{freshOf}
-use Rattle.machine.specs.declared.Channel.{Channel}
-use Rattle.machine.specs.declared.State.{State}
-use Rattle.attention.specs.Attention.{attentionOf}
-use Rattle.power.specs.Power.{powerUpOf}
-use Rattle.step.specs.Step.{stepOf}
-use Rattle.decode.specs.Reading.{fitsSome, usesControl}
-use Rattle.decode.specs.Table.{table}
-use Rattle.decode_shapes.specs.Pairs.{pairOf}
-use Rattle.decode_shapes.specs.declared.pairs.Pair.{Pair}
-use Rattle.execute_operands.specs.Operands.{byteHere}
+use Rattle.ground_rules.specs.Buffers.{Buffers, AllBytes}
+use Rattle.ground_rules.specs.Values.{onward}
+use Rattle.ground_rules.specs.States.{freshOf}
+use Rattle.ground_rules.specs.declared.Channel.{Channel}
+use Rattle.ground_rules.specs.declared.State.{State}
+use Rattle.attention_rules.specs.Attention.{attentionOf}
+use Rattle.attention_rules.specs.Power.{powerUpOf}
+use Rattle.turn_rules.specs.Step.{stepOf}
+use Rattle.instruction_rules.specs.Reading.{fitsSome, usesControl}
+use Rattle.instruction_rules.specs.Table.{table}
+use Rattle.instruction_rules.specs.Pairs.{pairOf}
+use Rattle.instruction_rules.specs.declared.Pair.{Pair}
+use Rattle.instruction_rules.specs.Operands.{byteHere}
 
 -- a fresh state of any CP, what an accepted power-up leaves, and what any attention or step, refused or not, makes of such a state in memories of bytes
 pub data Made : State → Type 0 where

@@ -4,12 +4,12 @@ use mathlib.Core.List.{[]}
 use mathlib.Core.Path.{_≡_}
 use Prim.Native.Nat.{ℕ, _+_, _%_}
 use lib.ListN.{replicate}
-use Rattle.words.specs.Choice.{pick}
-use Rattle.memory.specs.Buffers.{Buffers, buffers}
-use Rattle.memory.specs.Values.{pointer}
-use Rattle.machine.specs.declared.Channel.{Channel}
-use Rattle.machine.specs.declared.State.{State}
-use Rattle.machine.specs.States.{freshState, channelOf, withChannel}
+use Rattle.ground_rules.specs.Choice.{pick}
+use Rattle.ground_rules.specs.Buffers.{Buffers, buffers}
+use Rattle.ground_rules.specs.Values.{pointer}
+use Rattle.ground_rules.specs.declared.Channel.{Channel}
+use Rattle.ground_rules.specs.declared.State.{State}
+use Rattle.ground_rules.specs.States.{freshState, channelOf, withChannel}
 use Rattle.promises.specs.Cases.{Both8, Both16Even, Both16Odd, From16OddInto8}
 use Rattle.promises.specs.Joined.{Through}
 use Rattle.block_rules.specs.Premises.{Copy}

@@ -2,31 +2,31 @@
 use mathlib.Core.Bool.{Bool, true, false}
 use mathlib.Core.Path.{_≡_}
 use Prim.Native.Nat.{ℕ, _+_, _*_, _/_, _<_}
-use Rattle.words.specs.Stored.{storedLow, storedMiddle, storedHigh, storedAddress, storedTag}
-use Rattle.memory.specs.declared.Pointer.{Pointer}
-use Rattle.memory.specs.Buffers.{Buffers, byteAt}
-use Rattle.memory.specs.Places.{span, allLent}
-use Rattle.memory.specs.Values.{pointerAt, storePointer}
-use Rattle.machine.specs.declared.Channel.{Channel}
-use Rattle.machine.specs.declared.State.{State}
-use Rattle.machine.specs.Psw.{destinationWide, sourceWide, transferring, withPsw}
-use Rattle.machine.specs.Registers.{registerOf, tagOf}
-use Rattle.machine.specs.States.{channelOf, isSecond}
-use Rattle.attention.specs.Attention.{orderTo, attentionOf}
-use Rattle.attention.specs.Commands.{ordered}
-use Rattle.machine.specs.Updates.{withControl}
-use Rattle.attention.specs.Pauses.{Pause}
-use Rattle.decode_shapes.specs.declared.Decoded.the-variants.{Instruction}
-use Rattle.decode_shapes.specs.declared.Memory.{Memory}
-use Rattle.decode_shapes.specs.declared.Shape.{Shape}
-use Rattle.decode_shapes.specs.declared.Shape.the-variants.{MovpLoad, MovpStore, Call}
-use Rattle.decode.specs.Lengths.{lengthOf}
-use Rattle.execute_operands.specs.Marks.{pastInstruction}
-use Rattle.execute_operands.specs.Operands.{effective}
-use Rattle.execute.specs.Execute.{decodedAt}
-use Rattle.step.specs.declared.turns.Choice.the-variants.{Steps}
-use Rattle.step.specs.Choosing.{choiceOf}
-use Rattle.step.specs.Step.{Step, stepOf}
+use Rattle.ground_rules.specs.Stored.{storedLow, storedMiddle, storedHigh, storedAddress, storedTag}
+use Rattle.ground_rules.specs.declared.Pointer.{Pointer}
+use Rattle.ground_rules.specs.Buffers.{Buffers, byteAt}
+use Rattle.ground_rules.specs.Places.{span, allLent}
+use Rattle.ground_rules.specs.Values.{pointerAt, storePointer}
+use Rattle.ground_rules.specs.declared.Channel.{Channel}
+use Rattle.ground_rules.specs.declared.State.{State}
+use Rattle.ground_rules.specs.Psw.{destinationWide, sourceWide, transferring, withPsw}
+use Rattle.ground_rules.specs.Registers.{registerOf, tagOf}
+use Rattle.ground_rules.specs.States.{channelOf, isSecond}
+use Rattle.attention_rules.specs.Attention.{orderTo, attentionOf}
+use Rattle.attention_rules.specs.Commands.{ordered}
+use Rattle.ground_rules.specs.Updates.{withControl}
+use Rattle.attention_rules.specs.Pauses.{Pause}
+use Rattle.instruction_rules.specs.declared.Decoded.the-variants.{Instruction}
+use Rattle.instruction_rules.specs.declared.Memory.{Memory}
+use Rattle.instruction_rules.specs.declared.Shape.{Shape}
+use Rattle.instruction_rules.specs.declared.Shape.the-variants.{MovpLoad, MovpStore, Call}
+use Rattle.instruction_rules.specs.Lengths.{lengthOf}
+use Rattle.instruction_rules.specs.Marks.{pastInstruction}
+use Rattle.instruction_rules.specs.Operands.{effective}
+use Rattle.instruction_rules.specs.Execute.{decodedAt}
+use Rattle.turn_rules.specs.declared.Choice.the-variants.{Steps}
+use Rattle.turn_rules.specs.Choosing.{choiceOf}
+use Rattle.turn_rules.specs.Step.{Step, stepOf}
 use Rattle.block_rules.specs.Premises.{Lent}
 
 -- the stored form of an address with its tag, read back, is that address and that tag

@@ -6,20 +6,20 @@ use mathlib.Core.Path.{_≡_}
 use Prim.Native.Nat.{ℕ, _+_, _*_, _≤_}
 use lib.Dec.{eqb}
 use lib.ListN.{length}
-use Rattle.memory.specs.Buffers.{Buffers, spaceOf, byteAt}
-use Rattle.memory.specs.Places.{Place, span, Apart}
-use Rattle.machine.specs.Conditions.{Check, check, Given, TooLong, Beyond}
-use Rattle.machine.specs.Outcomes.{outcome}
-use Rattle.machine.specs.States.{freshState, resetState, channelOf}
-use Rattle.machine.specs.declared.Channel.{Channel}
-use Rattle.machine.specs.declared.State.{State}
-use Rattle.attention.specs.Attention.{attentionOf}
-use Rattle.attention.specs.Conditions.{NoChannel}
-use Rattle.step.specs.Conditions.{LinesOver}
-use Rattle.step.specs.Step.{stepOf}
-use Rattle.panel.specs.Run.{ran, attendedRun, answerOf}
-use Rattle.power.specs.Power.{powerUpOf}
-use Rattle.board.specs.Board.{boardRunOf}
+use Rattle.ground_rules.specs.Buffers.{Buffers, spaceOf, byteAt}
+use Rattle.ground_rules.specs.Places.{Place, span, Apart}
+use Rattle.ground_rules.specs.Conditions.{Check, check, Given, TooLong, Beyond}
+use Rattle.ground_rules.specs.Outcomes.{outcome}
+use Rattle.ground_rules.specs.States.{freshState, resetState, channelOf}
+use Rattle.ground_rules.specs.declared.Channel.{Channel}
+use Rattle.ground_rules.specs.declared.State.{State}
+use Rattle.attention_rules.specs.Attention.{attentionOf}
+use Rattle.attention_rules.specs.Conditions.{NoChannel}
+use Rattle.turn_rules.specs.Conditions.{LinesOver}
+use Rattle.turn_rules.specs.Step.{stepOf}
+use Rattle.run_rules.specs.Run.{ran, attendedRun, answerOf}
+use Rattle.attention_rules.specs.Power.{powerUpOf}
+use Rattle.run_rules.specs.Board.{boardRunOf}
 use Rattle.promises.specs.Demand1.{Blank}
 use Rattle.promises.specs.Image.{put, layoutOf, copyOf, imageIn}
 use Rattle.promises.specs.Program.{Job, Layout, mostBy, RowMade}

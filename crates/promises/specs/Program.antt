@@ -5,17 +5,17 @@ use mathlib.Core.Logic.{_↔_}
 use mathlib.Core.Path.{_≡_}
 use Prim.Native.Nat.{ℕ, _+_, _%_, _<_, _≤_}
 use lib.ListN.{length}
-use Rattle.words.specs.Bytes.{lowByte, highByte}
-use Rattle.words.specs.Choice.{pick}
-use Rattle.words.specs.Sums.{addressOf}
-use Rattle.memory.specs.Buffers.{Buffers, buffers, spaceOf, lentAt, byteAt}
-use Rattle.memory.specs.Places.{Apart}
-use Rattle.memory.specs.Values.{pointer}
-use Rattle.memory.specs.declared.Pointer.{Pointer}
-use Rattle.machine.specs.Conditions.{TooLong}
-use Rattle.machine.specs.States.{freshState, channelOf, blockOf, channelNumber}
-use Rattle.machine.specs.declared.State.{State}
-use Rattle.panel.specs.Run.{Run, runOf}
+use Rattle.ground_rules.specs.Bytes.{lowByte, highByte}
+use Rattle.ground_rules.specs.Choice.{pick}
+use Rattle.ground_rules.specs.Sums.{addressOf}
+use Rattle.ground_rules.specs.Buffers.{Buffers, buffers, spaceOf, lentAt, byteAt}
+use Rattle.ground_rules.specs.Places.{Apart}
+use Rattle.ground_rules.specs.Values.{pointer}
+use Rattle.ground_rules.specs.declared.Pointer.{Pointer}
+use Rattle.ground_rules.specs.Conditions.{TooLong}
+use Rattle.ground_rules.specs.States.{freshState, channelOf, blockOf, channelNumber}
+use Rattle.ground_rules.specs.declared.State.{State}
+use Rattle.run_rules.specs.Run.{Run, runOf}
 use Rattle.promises.specs.Cases.{Stand}
 use Rattle.promises.specs.Joined.{Through}
 use Rattle.promises.specs.Met.{copying}

@@ -3,16 +3,16 @@ use mathlib.Core.List.{List, [], _∷_}
 use mathlib.Core.Logic.{_⊎_}
 use mathlib.Core.Path.{_≡_}
 use Prim.Native.Nat.{ℕ, suc, _<_, _≤_}
-use Rattle.memory.specs.Buffers.{Buffers}
-use Rattle.machine.specs.declared.State.{State}
-use Rattle.machine.specs.Conditions.{Check, check, Given, TooLong}
-use Rattle.machine.specs.Outcomes.{Outcome}
-use Rattle.machine.specs.States.{freshState}
-use Rattle.attention.specs.Attention.{attentionOf}
-use Rattle.attention.specs.Conditions.{NoChannel}
-use Rattle.step.specs.Conditions.{LinesOver}
-use Rattle.step.specs.Step.{stepOf}
-use Rattle.panel.specs.Run.{Run, ran}
+use Rattle.ground_rules.specs.Buffers.{Buffers}
+use Rattle.ground_rules.specs.declared.State.{State}
+use Rattle.ground_rules.specs.Conditions.{Check, check, Given, TooLong}
+use Rattle.ground_rules.specs.Outcomes.{Outcome}
+use Rattle.ground_rules.specs.States.{freshState}
+use Rattle.attention_rules.specs.Attention.{attentionOf}
+use Rattle.attention_rules.specs.Conditions.{NoChannel}
+use Rattle.turn_rules.specs.Conditions.{LinesOver}
+use Rattle.turn_rules.specs.Step.{stepOf}
+use Rattle.run_rules.specs.Run.{Run, ran}
 
 -- 12, of the limit
 abbrev pub LimitOver : ℕ → Type 0

@@ -2,8 +2,8 @@
 -- pair leave, by fields and numbers. It says again what the definitions of the crates below say, in other words, so that a wrong rule meets a theorem here.
 use mathlib.Core.Bool.{Bool}
 use Prim.Native.Nat.{ℕ}
-use Rattle.memory.specs.Buffers.{Buffers}
-use Rattle.machine.specs.declared.State.{State}
+use Rattle.ground_rules.specs.Buffers.{Buffers}
+use Rattle.ground_rules.specs.declared.State.{State}
 use Rattle.promises.specs.SheetWords.{Names}
 use Rattle.promises.specs.SheetAttention.{AttentionSheet}
 use Rattle.promises.specs.SheetRegisters.{RegisterSheet}

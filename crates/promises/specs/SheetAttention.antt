@@ -5,20 +5,20 @@ use mathlib.Core.Path.{_≡_}
 use Prim.Native.Nat.{ℕ, _+_, _/_, _%_, _<_}
 use lib.Dec.{eqb}
 use lib.ListN.{getD}
-use Rattle.words.specs.Choice.{pick}
-use Rattle.memory.specs.Buffers.{Buffers, byteAt}
-use Rattle.memory.specs.Places.{Apart}
-use Rattle.memory.specs.Values.{pointer}
-use Rattle.memory.specs.declared.Pointer.{Pointer}
-use Rattle.machine.specs.States.{channelOf, channelNumber}
-use Rattle.machine.specs.declared.Channel.{Channel}
-use Rattle.machine.specs.declared.Held.{Held as HeldByte}
-use Rattle.machine.specs.declared.Held.the-variants.{NoByte}
-use Rattle.machine.specs.declared.Mode.{Mode}
-use Rattle.machine.specs.declared.Mode.the-variants.{Idle, Running, Suspended}
-use Rattle.machine.specs.declared.State.{State}
-use Rattle.machine.specs.Outcomes.{Outcome}
-use Rattle.attention.specs.Attention.{attentionOf}
+use Rattle.ground_rules.specs.Choice.{pick}
+use Rattle.ground_rules.specs.Buffers.{Buffers, byteAt}
+use Rattle.ground_rules.specs.Places.{Apart}
+use Rattle.ground_rules.specs.Values.{pointer}
+use Rattle.ground_rules.specs.declared.Pointer.{Pointer}
+use Rattle.ground_rules.specs.States.{channelOf, channelNumber}
+use Rattle.ground_rules.specs.declared.Channel.{Channel}
+use Rattle.ground_rules.specs.declared.Held.{Held as HeldByte}
+use Rattle.ground_rules.specs.declared.Held.the-variants.{NoByte}
+use Rattle.ground_rules.specs.declared.Mode.{Mode}
+use Rattle.ground_rules.specs.declared.Mode.the-variants.{Idle, Running, Suspended}
+use Rattle.ground_rules.specs.declared.State.{State}
+use Rattle.ground_rules.specs.Outcomes.{Outcome}
+use Rattle.attention_rules.specs.Attention.{attentionOf}
 use Rattle.promises.specs.SheetWords.{bit, wordIn, farIn, storedIn, storedTagIn, formOf}
 
 -- a channel's block begins at CP, that of channel 2 at CP + 8 (§4.1)

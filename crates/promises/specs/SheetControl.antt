@@ -4,14 +4,14 @@ use mathlib.Core.List.{[], _∷_}
 use mathlib.Core.Path.{_≡_}
 use Prim.Native.Nat.{ℕ, _+_}
 use lib.Dec.{eqb}
-use Rattle.words.specs.Choice.{pick}
-use Rattle.memory.specs.Buffers.{Buffers}
-use Rattle.machine.specs.States.{channelOf}
-use Rattle.machine.specs.declared.Channel.{Channel}
-use Rattle.machine.specs.declared.Mode.{Mode}
-use Rattle.machine.specs.declared.Mode.the-variants.{Idle}
-use Rattle.machine.specs.declared.State.{State}
-use Rattle.step.specs.Step.{stepOf}
+use Rattle.ground_rules.specs.Choice.{pick}
+use Rattle.ground_rules.specs.Buffers.{Buffers}
+use Rattle.ground_rules.specs.States.{channelOf}
+use Rattle.ground_rules.specs.declared.Channel.{Channel}
+use Rattle.ground_rules.specs.declared.Mode.{Mode}
+use Rattle.ground_rules.specs.declared.Mode.the-variants.{Idle}
+use Rattle.ground_rules.specs.declared.State.{State}
+use Rattle.turn_rules.specs.Step.{stepOf}
 use Rattle.promises.specs.SheetWords.{bit, registerValues, tagsOf}
 use Rattle.promises.specs.SheetAttention.{busyPlace}
 use Rattle.promises.specs.SheetOperands.{Ran, ranChannel, registersAt, pastBy, BytesLeft}

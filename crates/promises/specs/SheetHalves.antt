@@ -5,18 +5,18 @@ use mathlib.Core.Logic.{_⊎_}
 use mathlib.Core.Path.{_≡_}
 use Prim.Native.Nat.{ℕ, _+_, _%_}
 use lib.Dec.{eqb}
-use Rattle.words.specs.Choice.{pick}
-use Rattle.memory.specs.Buffers.{Buffers, byteAt, storeByte}
-use Rattle.memory.specs.Places.{Place}
-use Rattle.machine.specs.States.{channelOf, channelNumber, agree}
-use Rattle.machine.specs.declared.Channel.{Channel}
-use Rattle.machine.specs.declared.Held.{Held as HeldByte}
-use Rattle.machine.specs.declared.Held.the-variants.{NoByte, Byte}
-use Rattle.machine.specs.declared.State.{State}
-use Rattle.attention.specs.Attention.{attentionOf}
-use Rattle.transfer.specs.Steps.{touchedByTransfer}
-use Rattle.step.specs.Step.{stepOf}
-use Rattle.step.specs.Touched.{stepCount}
+use Rattle.ground_rules.specs.Choice.{pick}
+use Rattle.ground_rules.specs.Buffers.{Buffers, byteAt, storeByte}
+use Rattle.ground_rules.specs.Places.{Place}
+use Rattle.ground_rules.specs.States.{channelOf, channelNumber, agree}
+use Rattle.ground_rules.specs.declared.Channel.{Channel}
+use Rattle.ground_rules.specs.declared.Held.{Held as HeldByte}
+use Rattle.ground_rules.specs.declared.Held.the-variants.{NoByte, Byte}
+use Rattle.ground_rules.specs.declared.State.{State}
+use Rattle.attention_rules.specs.Attention.{attentionOf}
+use Rattle.transfer_rules.specs.Steps.{touchedByTransfer}
+use Rattle.turn_rules.specs.Step.{stepOf}
+use Rattle.turn_rules.specs.Touched.{stepCount}
 use Rattle.promises.specs.Calls.{Turn}
 use Rattle.block_rules.specs.Stages.{onBy}
 use Rattle.promises.specs.SheetWords.{bit, field}

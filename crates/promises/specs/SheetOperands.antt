@@ -6,13 +6,13 @@ use Prim.Native.Nat.{ℕ, _+_, _-_, _*_, _/_, _%_, _<_}
 use lib.Bits.{bitAnd, bitOr}
 use lib.Dec.{eqb, ltb}
 use lib.ListN.{getD, length}
-use Rattle.words.specs.Choice.{pick}
-use Rattle.memory.specs.Buffers.{Buffers, lentAt, byteAt}
-use Rattle.memory.specs.Places.{Apart}
-use Rattle.machine.specs.States.{channelOf}
-use Rattle.machine.specs.declared.Channel.{Channel}
-use Rattle.machine.specs.declared.State.{State}
-use Rattle.step.specs.Step.{stepOf}
+use Rattle.ground_rules.specs.Choice.{pick}
+use Rattle.ground_rules.specs.Buffers.{Buffers, lentAt, byteAt}
+use Rattle.ground_rules.specs.Places.{Apart}
+use Rattle.ground_rules.specs.States.{channelOf}
+use Rattle.ground_rules.specs.declared.Channel.{Channel}
+use Rattle.ground_rules.specs.declared.State.{State}
+use Rattle.turn_rules.specs.Step.{stepOf}
 use Rattle.promises.specs.Cases.{Executes}
 use Rattle.promises.specs.SheetWords.{bit, wordIn, registerValues, tagsOf}
 

@@ -5,12 +5,12 @@ use mathlib.Core.Path.{_≡_}
 use Prim.Native.Nat.{ℕ, _+_, _%_, _<_}
 use lib.Dec.{eqb}
 use lib.ListN.{getD}
-use Rattle.words.specs.Choice.{pick}
-use Rattle.memory.specs.Buffers.{Buffers, AllBytes}
-use Rattle.machine.specs.States.{channelOf}
-use Rattle.machine.specs.declared.Channel.{Channel}
-use Rattle.machine.specs.declared.State.{State}
-use Rattle.step.specs.Step.{stepOf}
+use Rattle.ground_rules.specs.Choice.{pick}
+use Rattle.ground_rules.specs.Buffers.{Buffers, AllBytes}
+use Rattle.ground_rules.specs.States.{channelOf}
+use Rattle.ground_rules.specs.declared.Channel.{Channel}
+use Rattle.ground_rules.specs.declared.State.{State}
+use Rattle.turn_rules.specs.Step.{stepOf}
 use Rattle.promises.specs.SheetWords.{farIn, storedIn, storedTagIn, tagsOf, tagIn, pointing, setValue, setTag}
 use Rattle.promises.specs.SheetOperands.{Ran, ranChannel, baseTag, operandAddress, offsetBytes, grownBy, operandIn, ddOf, displacementIn, whether, worksOf, singlesOf, registersAt, pastBy, jumpedBy, valuePast, RegistersLeft}
 

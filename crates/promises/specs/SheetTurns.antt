@@ -5,20 +5,20 @@ use mathlib.Core.Path.{_≡_}
 use Prim.Native.Nat.{ℕ, _+_, _/_, _%_}
 use lib.Dec.{eqb, ltb}
 use lib.ListN.{getD}
-use Rattle.words.specs.Choice.{pick}
-use Rattle.memory.specs.Buffers.{Buffers}
-use Rattle.memory.specs.Values.{pointer}
-use Rattle.machine.specs.Conditions.{FieldsDisagree}
-use Rattle.machine.specs.States.{channelOf}
-use Rattle.machine.specs.declared.Channel.{Channel}
-use Rattle.machine.specs.declared.Held.the-variants.{NoByte}
-use Rattle.machine.specs.declared.Mode.{Mode}
-use Rattle.machine.specs.declared.Mode.the-variants.{Idle, Running, Suspended}
-use Rattle.machine.specs.declared.State.{State}
-use Rattle.step.specs.declared.turns.Choice.{Choice}
-use Rattle.step.specs.declared.turns.Choice.the-variants.{Nobody, Ends, Steps}
-use Rattle.step.specs.Choosing.{choiceOf}
-use Rattle.step.specs.Step.{stepOf}
+use Rattle.ground_rules.specs.Choice.{pick}
+use Rattle.ground_rules.specs.Buffers.{Buffers}
+use Rattle.ground_rules.specs.Values.{pointer}
+use Rattle.ground_rules.specs.Conditions.{FieldsDisagree}
+use Rattle.ground_rules.specs.States.{channelOf}
+use Rattle.ground_rules.specs.declared.Channel.{Channel}
+use Rattle.ground_rules.specs.declared.Held.the-variants.{NoByte}
+use Rattle.ground_rules.specs.declared.Mode.{Mode}
+use Rattle.ground_rules.specs.declared.Mode.the-variants.{Idle, Running, Suspended}
+use Rattle.ground_rules.specs.declared.State.{State}
+use Rattle.turn_rules.specs.declared.Choice.{Choice}
+use Rattle.turn_rules.specs.declared.Choice.the-variants.{Nobody, Ends, Steps}
+use Rattle.turn_rules.specs.Choosing.{choiceOf}
+use Rattle.turn_rules.specs.Step.{stepOf}
 use Rattle.promises.specs.SheetWords.{bit}
 use Rattle.promises.specs.SheetOperands.{ranChannel}
 

@@ -5,20 +5,20 @@ use mathlib.Core.Logic.{_⊎_, _↔_}
 use mathlib.Core.Path.{_≡_}
 use Prim.Native.Nat.{ℕ, _+_, _*_, _%_, _≤_}
 use lib.ListN.{length}
-use Rattle.memory.specs.Buffers.{Buffers, lentAt, EmptySlot, byteAt, storeByte}
-use Rattle.memory.specs.Places.{Place}
-use Rattle.memory.specs.Values.{wordAt}
-use Rattle.machine.specs.declared.Channel.{Channel}
-use Rattle.machine.specs.declared.State.{State}
-use Rattle.machine.specs.Psw.{transferring}
-use Rattle.machine.specs.States.{channelOf, isSecond}
-use Rattle.attention.specs.Attention.{orderTo, attentionOf}
-use Rattle.attention.specs.Conditions.{modeTo}
-use Rattle.attention.specs.Touched.{touchedByOrder}
-use Rattle.step.specs.Choosing.{choiceOf}
-use Rattle.step.specs.Step.{stepOf}
-use Rattle.step.specs.Touched.{reachedIn}
-use Rattle.panel.specs.Run.{runOf}
+use Rattle.ground_rules.specs.Buffers.{Buffers, lentAt, EmptySlot, byteAt, storeByte}
+use Rattle.ground_rules.specs.Places.{Place}
+use Rattle.ground_rules.specs.Values.{wordAt}
+use Rattle.ground_rules.specs.declared.Channel.{Channel}
+use Rattle.ground_rules.specs.declared.State.{State}
+use Rattle.ground_rules.specs.Psw.{transferring}
+use Rattle.ground_rules.specs.States.{channelOf, isSecond}
+use Rattle.attention_rules.specs.Attention.{orderTo, attentionOf}
+use Rattle.attention_rules.specs.Conditions.{modeTo}
+use Rattle.attention_rules.specs.Touched.{touchedByOrder}
+use Rattle.turn_rules.specs.Choosing.{choiceOf}
+use Rattle.turn_rules.specs.Step.{stepOf}
+use Rattle.turn_rules.specs.Touched.{reachedIn}
+use Rattle.run_rules.specs.Run.{runOf}
 use Rattle.promises.specs.Calls.{Turn}
 use Rattle.promises.specs.SheetOperands.{codeByte}
 

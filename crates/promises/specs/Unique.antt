@@ -2,22 +2,22 @@
 use mathlib.Core.List.{List}
 use mathlib.Core.Path.{_≡_}
 use Prim.Native.Nat.{ℕ}
-use Rattle.memory.specs.Buffers.{Buffers, buffers}
-use Rattle.machine.specs.Outcomes.{outcome}
-use Rattle.machine.specs.States.{resetState, freshOf}
-use Rattle.machine.specs.declared.Answer.{Answer}
-use Rattle.machine.specs.declared.Made.{Made}
-use Rattle.machine.specs.declared.State.{State}
-use Rattle.attention.specs.Attention.{attentionOf, attentionCount}
-use Rattle.power.specs.Power.{powerUpOf, powerCount}
-use Rattle.step.specs.Choosing.{choiceOf}
-use Rattle.step.specs.Step.{stepped, stepOf}
-use Rattle.step.specs.Touched.{stepCount}
-use Rattle.step.specs.declared.turns.Choice.{Choice}
-use Rattle.step.specs.declared.Stepped.{Stepped}
-use Rattle.panel.specs.Run.{ran, runOf, answerOf, called}
-use Rattle.panel.specs.declared.Ran.{Ran}
-use Rattle.board.specs.Board.{boardRunOf}
+use Rattle.ground_rules.specs.Buffers.{Buffers, buffers}
+use Rattle.ground_rules.specs.Outcomes.{outcome}
+use Rattle.ground_rules.specs.States.{resetState, freshOf}
+use Rattle.ground_rules.specs.declared.Answer.{Answer}
+use Rattle.ground_rules.specs.declared.Made.{Made}
+use Rattle.ground_rules.specs.declared.State.{State}
+use Rattle.attention_rules.specs.Attention.{attentionOf, attentionCount}
+use Rattle.attention_rules.specs.Power.{powerUpOf, powerCount}
+use Rattle.turn_rules.specs.Choosing.{choiceOf}
+use Rattle.turn_rules.specs.Step.{stepped, stepOf}
+use Rattle.turn_rules.specs.Touched.{stepCount}
+use Rattle.turn_rules.specs.declared.Choice.{Choice}
+use Rattle.turn_rules.specs.declared.Stepped.{Stepped}
+use Rattle.run_rules.specs.Run.{ran, runOf, answerOf, called}
+use Rattle.run_rules.specs.declared.Ran.{Ran}
+use Rattle.run_rules.specs.Board.{boardRunOf}
 
 -- `machine::states::fresh`: the answer r to a CP
 abbrev pub FreshMeets : ℕ → Made → Type 0

@@ -4,15 +4,15 @@ use mathlib.Core.Bool.{Bool, true, false}
 use mathlib.Core.List.{List, [], _∷_, _++_}
 use Prim.Native.Nat.{ℕ}
 use lib.ListN.{replicate}
-use Rattle.memory.specs.declared.Pointer.{Pointer}
-use Rattle.memory.specs.Values.{pointer}
-use Rattle.memory.specs.Buffers.{Buffers, buffers}
-use Rattle.machine.specs.declared.Channel.{Channel}
-use Rattle.machine.specs.declared.Held.the-variants.{NoByte}
-use Rattle.machine.specs.declared.Mode.the-variants.{Running}
-use Rattle.machine.specs.declared.State.{State}
-use Rattle.machine.specs.Cc.{split}
-use Rattle.machine.specs.States.{boardWith, idleChannel}
+use Rattle.ground_rules.specs.declared.Pointer.{Pointer}
+use Rattle.ground_rules.specs.Values.{pointer}
+use Rattle.ground_rules.specs.Buffers.{Buffers, buffers}
+use Rattle.ground_rules.specs.declared.Channel.{Channel}
+use Rattle.ground_rules.specs.declared.Held.the-variants.{NoByte}
+use Rattle.ground_rules.specs.declared.Mode.the-variants.{Running}
+use Rattle.ground_rules.specs.declared.State.{State}
+use Rattle.ground_rules.specs.Cc.{split}
+use Rattle.ground_rules.specs.States.{boardWith, idleChannel}
 
 -- a running channel with these registers and the fields of its CC; the others are 0
 unfoldable pub channelWith : Pointer → Pointer → ℕ → ℕ → ℕ → ℕ → Channel

@@ -8,13 +8,13 @@ use mathlib.Core.Path.{_≡_, sym, subst, _∙_}
 use native.Mathlib.Decide.{decLt, decLe}
 use native.Mathlib.Numerals.{add-one}
 use native.Mathlib.Omega.{arith}
-use Rattle.memory.specs.Buffers.{Buffers, buffers, spaceOf, limitOf, indexOf, beyondIn, byteAt, withinLimits}
-use Rattle.memory.specs.declared.Pointer.{Pointer}
+use Rattle.ground_rules.specs.Buffers.{Buffers, buffers, spaceOf, limitOf, indexOf, beyondIn, byteAt, withinLimits}
+use Rattle.ground_rules.specs.declared.Pointer.{Pointer}
 use Rattle.sweep_rules.specs.Copies.{copiedOn}
 use Rattle.sweep_rules.specs.Ranges.{placeOf}
 use Rattle.sweep_rules.specs.Conditions.{RangeLent}
 use Rattle.block_rules.proofs.HeldLaws.{held-start, copy-one}
-use Rattle.step.proofs.SoundLaws.{limits-kept}
+use Rattle.turn_rules.proofs.SoundLaws.{limits-kept}
 use Rattle.block_rules.specs.Premises.{Lent, ShareNone}
 use Rattle.block_rules.specs.Stages.{Held, Outside, Within}
 use Rattle.sweep_rules.proofs.PassedLaws.{length-most}

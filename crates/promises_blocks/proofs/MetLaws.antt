@@ -8,19 +8,19 @@ use mathlib.Core.Logic.{⊎-elim, inl, inr, _↔_}
 use mathlib.Core.Path.{_≡_, sym, ap, subst, _∙_}
 use native.Mathlib.Decide.{decLe}
 use native.Mathlib.Omega.{arith}
-use Rattle.memory.specs.Buffers.{Buffers, spaceOf, limitOf, indexOf, lentAt, withinLimits}
-use Rattle.memory.specs.declared.Pointer.{Pointer}
-use Rattle.memory.proofs.PlaceLaws.{index-reduced}
-use Rattle.machine.proofs.ChannelLaws.{sound-channel-of}
-use Rattle.machine.proofs.ConditionLaws.{says-yes, says-no, says-running, running-is}
-use Rattle.machine.proofs.FieldLaws.{agree-channel-of}
-use Rattle.machine.proofs.GivenLaws.{given-within, given-sound, given-agree}
-use Rattle.machine.specs.Outcomes.{first, unless, givenNumber}
-use Rattle.machine.specs.States.{channelOf}
-use Rattle.machine.specs.declared.Channel.{Channel}
-use Rattle.machine.specs.declared.State.{State}
-use Rattle.step.specs.Choosing.{external}
-use Rattle.step.specs.Step.{entryNumber}
+use Rattle.ground_rules.specs.Buffers.{Buffers, spaceOf, limitOf, indexOf, lentAt, withinLimits}
+use Rattle.ground_rules.specs.declared.Pointer.{Pointer}
+use Rattle.ground_rules.proofs.PlaceLaws.{index-reduced}
+use Rattle.ground_rules.proofs.ChannelLaws.{sound-channel-of}
+use Rattle.ground_rules.proofs.ConditionLaws.{says-yes, says-no, says-running, running-is}
+use Rattle.ground_rules.proofs.FieldLaws.{agree-channel-of}
+use Rattle.ground_rules.proofs.GivenLaws.{given-within, given-sound, given-agree}
+use Rattle.ground_rules.specs.Outcomes.{first, unless, givenNumber}
+use Rattle.ground_rules.specs.States.{channelOf}
+use Rattle.ground_rules.specs.declared.Channel.{Channel}
+use Rattle.ground_rules.specs.declared.State.{State}
+use Rattle.turn_rules.specs.Choosing.{external}
+use Rattle.turn_rules.specs.Step.{entryNumber}
 use Rattle.sweep_rules.proofs.LeftLaws.{to-go}
 use Rattle.sweep_rules.proofs.PassedLaws.{length-most}
 use Rattle.sweep_rules.proofs.RangeLaws.{index-on}

@@ -6,30 +6,30 @@ use borrow.Author.Tests.{eq-eqb}
 use mathlib.Core.Bool.{Bool, true, false, not}
 use mathlib.Core.Path.{_≡_, refl, sym, ap, ap₂, subst, _∙_}
 use native.Mathlib.Omega.{arith}
-use Rattle.words.specs.Choice.{pick}
-use Rattle.memory.specs.Buffers.{Buffers}
-use Rattle.machine.proofs.ChannelLaws.{named}
-use Rattle.machine.proofs.OutcomeLaws.{done-counts}
-use Rattle.machine.specs.Psw.{transferring}
-use Rattle.machine.specs.States.{channelOf, withChannel, withLast, isSecond}
-use Rattle.machine.specs.declared.Channel.{Channel}
-use Rattle.machine.specs.declared.Fields.{Fields}
-use Rattle.machine.specs.declared.State.{State}
-use Rattle.transfer.proofs.BlockLaws.{Block, stride, block-stores}
-use Rattle.transfer.proofs.CountLaws.{touched-length}
-use Rattle.transfer.proofs.PartLaws.{unsynchronised-whole}
-use Rattle.transfer.specs.Reads.{dataOf}
-use Rattle.transfer.specs.Sides.{twoMove}
-use Rattle.transfer.specs.Steps.{accesses, touchedByTransfer}
+use Rattle.ground_rules.specs.Choice.{pick}
+use Rattle.ground_rules.specs.Buffers.{Buffers}
+use Rattle.ground_rules.proofs.ChannelLaws.{named}
+use Rattle.ground_rules.proofs.OutcomeLaws.{done-counts}
+use Rattle.ground_rules.specs.Psw.{transferring}
+use Rattle.ground_rules.specs.States.{channelOf, withChannel, withLast, isSecond}
+use Rattle.ground_rules.specs.declared.Channel.{Channel}
+use Rattle.ground_rules.specs.declared.Fields.{Fields}
+use Rattle.ground_rules.specs.declared.State.{State}
+use Rattle.transfer_rules.proofs.BlockLaws.{Block, stride, block-stores}
+use Rattle.transfer_rules.proofs.CountLaws.{touched-length}
+use Rattle.transfer_rules.proofs.PartLaws.{unsynchronised-whole}
+use Rattle.transfer_rules.specs.Reads.{dataOf}
+use Rattle.transfer_rules.specs.Sides.{twoMove}
+use Rattle.transfer_rules.specs.Steps.{accesses, touchedByTransfer}
 use Rattle.block_rules.proofs.CopyLaws.{down, moved-next}
 use Rattle.block_rules.proofs.CountLaws.{moved-zero, moved-all}
 use Rattle.block_rules.proofs.StageLaws.{mid-block}
 use Rattle.block_rules.specs.Premises.{Copy}
 use Rattle.block_rules.specs.Stages.{midway, Ended}
 use Rattle.block_rules.specs.Totals.{total, movedAfter}
-use Rattle.step.proofs.OutcomeLaws.{other-kept, board-kept, last-set}
-use Rattle.step.specs.Step.{stepOf}
-use Rattle.step.specs.Touched.{touchedIn, touchedByStep, stepCount}
+use Rattle.turn_rules.proofs.OutcomeLaws.{other-kept, board-kept, last-set}
+use Rattle.turn_rules.specs.Step.{stepOf}
+use Rattle.turn_rules.specs.Touched.{touchedIn, touchedByStep, stepCount}
 use Rattle.sweep_rules.specs.Plainly.{plainly}
 use Rattle.sweep_rules.specs.Sweep.{Sweep, sweptTo}
 use Rattle.promises.proofs.AloneLaws.{going-on, fields-on, turn-on, moves-on, through-next, through}

@@ -3,16 +3,16 @@
 use Prim.Native.Nat.{ℕ}
 use mathlib.Core.Bool.{Bool}
 use mathlib.Core.Path.{refl}
-use Rattle.memory.specs.Buffers.{Buffers, withinLimits}
-use Rattle.memory.specs.Places.{span}
-use Rattle.machine.specs.Outcomes.{first, unless, counted, givenNumber}
-use Rattle.machine.specs.States.{idleChannel, channelOf, withChannel, withLast, soundChannel, sound, fieldsAgree, agree, isRunning, isChannel, isSecond}
-use Rattle.machine.specs.declared.State.{State}
+use Rattle.ground_rules.specs.Buffers.{Buffers, withinLimits}
+use Rattle.ground_rules.specs.Places.{span}
+use Rattle.ground_rules.specs.Outcomes.{first, unless, counted, givenNumber}
+use Rattle.ground_rules.specs.States.{idleChannel, channelOf, withChannel, withLast, soundChannel, sound, fieldsAgree, agree, isRunning, isChannel, isSecond}
+use Rattle.ground_rules.specs.declared.State.{State}
 use Rattle.block_rules.specs.Stages.{finished}
 use Rattle.block_rules.specs.Totals.{narrow, alone, total}
-use Rattle.transfer.specs.Steps.{touchedByTransfer}
-use Rattle.step.specs.Choosing.{external}
-use Rattle.step.specs.Touched.{touchedIn, touchedByStep, stepCount}
+use Rattle.transfer_rules.specs.Steps.{touchedByTransfer}
+use Rattle.turn_rules.specs.Choosing.{external}
+use Rattle.turn_rules.specs.Touched.{touchedIn, touchedByStep, stepCount}
 use Rattle.sweep_rules.specs.Copies.{copiedOn}
 use Rattle.sweep_rules.specs.Plainly.{plainly}
 use Rattle.sweep_rules.specs.Ranges.{rangeLent, rangesApart}

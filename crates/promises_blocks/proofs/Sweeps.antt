@@ -7,22 +7,22 @@ use mathlib.Core.Path.{_≡_, refl, sym, ap, subst, _∙_}
 use borrow.Author.Tests.{lt-ltb, ltb-true, eq-eqb}
 use lib.Dec.{ltb}
 use native.Mathlib.Omega.{arith}
-use Rattle.words.specs.Choice.{pick}
-use Rattle.memory.specs.Buffers.{Buffers, limitOf}
-use Rattle.machine.proofs.ChannelLaws.{named}
-use Rattle.machine.proofs.ConditionLaws.{says-yes, says-no, unless-none, first-none-left, first-none-right}
-use Rattle.machine.proofs.GivenLaws.{given-sound, given-powered, given-agree}
-use Rattle.machine.specs.Outcomes.{first, unless, givenNumber}
-use Rattle.machine.specs.States.{channelOf, withChannel, withLast, channelNumber, isChannel}
-use Rattle.machine.specs.declared.Board.{Board}
-use Rattle.machine.specs.declared.Channel.{Channel}
-use Rattle.machine.specs.declared.State.{State}
+use Rattle.ground_rules.specs.Choice.{pick}
+use Rattle.ground_rules.specs.Buffers.{Buffers, limitOf}
+use Rattle.ground_rules.proofs.ChannelLaws.{named}
+use Rattle.ground_rules.proofs.ConditionLaws.{says-yes, says-no, unless-none, first-none-left, first-none-right}
+use Rattle.ground_rules.proofs.GivenLaws.{given-sound, given-powered, given-agree}
+use Rattle.ground_rules.specs.Outcomes.{first, unless, givenNumber}
+use Rattle.ground_rules.specs.States.{channelOf, withChannel, withLast, channelNumber, isChannel}
+use Rattle.ground_rules.specs.declared.Board.{Board}
+use Rattle.ground_rules.specs.declared.Channel.{Channel}
+use Rattle.ground_rules.specs.declared.State.{State}
 use Rattle.block_rules.proofs.CountLaws.{total-most, total-narrow, total-wide}
 use Rattle.block_rules.specs.Premises.{from, into, Copy}
 use Rattle.block_rules.specs.Stages.{Going, Ended}
 use Rattle.block_rules.specs.Totals.{total}
-use Rattle.step.specs.Choosing.{external}
-use Rattle.step.specs.Step.{entryNumber}
+use Rattle.turn_rules.specs.Choosing.{external}
+use Rattle.turn_rules.specs.Step.{entryNumber}
 use Rattle.sweep_rules.proofs.ConditionLaws.{says-sweepable, sweep-given}
 use Rattle.sweep_rules.proofs.LeftLaws.{copied-spares, swept-sound, swept-agree, swept-board, swept-other, swept-cp, swept-last, swept-spares}
 use Rattle.sweep_rules.proofs.PassedLaws.{number-is, number-most, lines-few, passed-given, passed-limits, passed-conditions, accepted-sweep, refused-sweep}

@@ -3,17 +3,17 @@ use mathlib.Core.Bool.{Bool, true, false}
 use mathlib.Core.List.{[], _∷_}
 use mathlib.Core.Path.{_≡_}
 use Prim.Native.Nat.{ℕ}
-use Rattle.memory.specs.Buffers.{Buffers, buffers}
-use Rattle.memory.specs.Values.{pointer}
-use Rattle.memory.specs.declared.Pointer.{Pointer}
-use Rattle.machine.specs.Cc.{split}
-use Rattle.machine.specs.States.{boardWith, idleChannel}
-use Rattle.machine.specs.declared.Channel.{Channel}
-use Rattle.machine.specs.declared.Held.{Held}
-use Rattle.machine.specs.declared.Held.the-variants.{NoByte, Byte}
-use Rattle.machine.specs.declared.Mode.{Mode}
-use Rattle.machine.specs.declared.Mode.the-variants.{Running, Suspended}
-use Rattle.machine.specs.declared.State.{State}
+use Rattle.ground_rules.specs.Buffers.{Buffers, buffers}
+use Rattle.ground_rules.specs.Values.{pointer}
+use Rattle.ground_rules.specs.declared.Pointer.{Pointer}
+use Rattle.ground_rules.specs.Cc.{split}
+use Rattle.ground_rules.specs.States.{boardWith, idleChannel}
+use Rattle.ground_rules.specs.declared.Channel.{Channel}
+use Rattle.ground_rules.specs.declared.Held.{Held}
+use Rattle.ground_rules.specs.declared.Held.the-variants.{NoByte, Byte}
+use Rattle.ground_rules.specs.declared.Mode.{Mode}
+use Rattle.ground_rules.specs.declared.Mode.the-variants.{Running, Suspended}
+use Rattle.ground_rules.specs.declared.State.{State}
 use Rattle.sweep_rules.specs.Plainly.{plainly}
 use Rattle.sweep_rules.specs.Sweep.{sweptTo, sweepOf}
 

@@ -3,21 +3,21 @@ use mathlib.Core.Bool.{Bool, true, false, not}
 use mathlib.Core.Logic.{_↔_}
 use mathlib.Core.Path.{_≡_}
 use Prim.Native.Nat.{ℕ, _+_, _*_, _<_, _≤_}
-use Rattle.memory.specs.Buffers.{Buffers, limitOf}
-use Rattle.machine.specs.Conditions.{Given, Ready}
-use Rattle.machine.specs.Outcomes.{givenNumber}
-use Rattle.machine.specs.States.{channelOf, channelNumber, sound}
-use Rattle.machine.specs.declared.Mode.the-variants.{Running}
-use Rattle.machine.specs.declared.State.{State}
+use Rattle.ground_rules.specs.Buffers.{Buffers, limitOf}
+use Rattle.ground_rules.specs.Conditions.{Given, Ready}
+use Rattle.ground_rules.specs.Outcomes.{givenNumber}
+use Rattle.ground_rules.specs.States.{channelOf, channelNumber, sound}
+use Rattle.ground_rules.specs.declared.Mode.the-variants.{Running}
+use Rattle.ground_rules.specs.declared.State.{State}
 use Rattle.block_rules.specs.Premises.{from, into, Copy}
 use Rattle.block_rules.specs.Stages.{Within, Ended}
 use Rattle.block_rules.specs.Totals.{narrow, alone, total}
-use Rattle.step.specs.Choosing.{external}
+use Rattle.turn_rules.specs.Choosing.{external}
 use Rattle.sweep_rules.specs.Conditions.{sweepChecks}
 use Rattle.sweep_rules.specs.Plainly.{plainly}
 use Rattle.sweep_rules.specs.Ranges.{placeOf}
 use Rattle.sweep_rules.specs.Sweep.{Sweep, bytesToGo, sweepOf}
-use Rattle.panel.specs.Run.{stepsFrom}
+use Rattle.run_rules.specs.Run.{stepsFrom}
 
 -- what any sweep answers, whatever it is given; o is its outcome
 pub record SweepAnswers (s : State) (m : Buffers) (channel lines : ℕ) (o : Sweep) : Type 0 where

@@ -7,23 +7,23 @@ use mathlib.Core.List.{List, [], _∷_, _++_}
 use mathlib.Core.Path.{_≡_, refl, sym, ap, ap₂, subst, _∙_}
 use native.Mathlib.Nat.{add-zero, add-assoc, mod-add-mod, not-suc-le-zero, le-of-suc-le-suc}
 use native.Mathlib.Omega.{arith}
-use Rattle.words.specs.Bytes.{wordOf}
-use Rattle.words.specs.Choice.{pick}
-use Rattle.words.specs.Signs.{signedOf, extended}
-use Rattle.words.specs.Sums.{addressOf}
-use Rattle.memory.proofs.PlaceLaws.{index-after, byte-index}
-use Rattle.memory.specs.Buffers.{Buffers, spaceOf, limitOf, indexOf, lentAt, touchableAt, byteAt, withinLimits}
-use Rattle.memory.specs.Places.{Place, span, allPass, allTouchable}
-use Rattle.memory.specs.Values.{pointer, onward, wordAt, doublewordAt, pointerAt}
-use Rattle.memory.specs.declared.Pointer.{Pointer}
-use Rattle.machine.specs.Outcomes.{unless, first, givenNumber}
-use Rattle.machine.specs.Registers.{baseOf}
-use Rattle.machine.specs.Stages.{Stage, stagesNumber}
-use Rattle.machine.specs.declared.Channel.{Channel}
-use Rattle.machine.specs.declared.State.{State}
-use Rattle.decode.specs.Lengths.{moreBy, oneOrTwo, offsetLength}
-use Rattle.decode_shapes.specs.declared.Memory.{Memory}
-use Rattle.execute_operands.specs.Operands.{byteHere, bytesAt, sizeOf, indexed, effective, operandAt, displacementAt, landing, jumpedIf}
+use Rattle.ground_rules.specs.Bytes.{wordOf}
+use Rattle.ground_rules.specs.Choice.{pick}
+use Rattle.ground_rules.specs.Signs.{signedOf, extended}
+use Rattle.ground_rules.specs.Sums.{addressOf}
+use Rattle.ground_rules.proofs.PlaceLaws.{index-after, byte-index}
+use Rattle.ground_rules.specs.Buffers.{Buffers, spaceOf, limitOf, indexOf, lentAt, touchableAt, byteAt, withinLimits}
+use Rattle.ground_rules.specs.Places.{Place, span, allPass, allTouchable}
+use Rattle.ground_rules.specs.Values.{pointer, onward, wordAt, doublewordAt, pointerAt}
+use Rattle.ground_rules.specs.declared.Pointer.{Pointer}
+use Rattle.ground_rules.specs.Outcomes.{unless, first, givenNumber}
+use Rattle.ground_rules.specs.Registers.{baseOf}
+use Rattle.ground_rules.specs.Stages.{Stage, stagesNumber}
+use Rattle.ground_rules.specs.declared.Channel.{Channel}
+use Rattle.ground_rules.specs.declared.State.{State}
+use Rattle.instruction_rules.specs.Lengths.{moreBy, oneOrTwo, offsetLength}
+use Rattle.instruction_rules.specs.declared.Memory.{Memory}
+use Rattle.instruction_rules.specs.Operands.{byteHere, bytesAt, sizeOf, indexed, effective, operandAt, displacementAt, landing, jumpedIf}
 use Rattle.promises_counts.specs.Complete.{SameLengths, AgreeOn}
 
 -- every memory agrees with itself

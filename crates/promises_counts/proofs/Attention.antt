@@ -6,27 +6,27 @@ use lib.Dec.{eqb, lit<}
 use mathlib.Core.Bool.{Bool, true, false}
 use mathlib.Core.List.{List, [], _∷_, _++_, append-assoc, append-nil}
 use mathlib.Core.Path.{_≡_, refl, sym, ap, ap₂, _∙_}
-use Rattle.words.specs.Choice.{pick}
-use Rattle.words.specs.Stored.{storedLow, storedMiddle, storedHigh}
-use Rattle.memory.specs.Buffers.{Buffers}
-use Rattle.memory.specs.Places.{Place, span}
-use Rattle.memory.specs.Values.{pointer, storePointer}
-use Rattle.machine.proofs.ConditionLaws.{first-none-left, first-none-right}
-use Rattle.machine.proofs.OutcomeLaws.{first-some}
-use Rattle.machine.specs.Outcomes.{unless, first, settled}
-use Rattle.machine.specs.Stages.{Stage, stage, stagesNumber, stagesTouched}
-use Rattle.machine.specs.States.{channelOf, withChannel, isSecond, isChannel, blockOf, busyIn}
-use Rattle.machine.specs.declared.Channel.{Channel}
-use Rattle.machine.specs.declared.Mode.{Mode}
-use Rattle.machine.specs.declared.State.{State}
-use Rattle.attention.specs.Attention.{orderTo, orderNumber, orderedChannel, orderedMemory, givenTo, attentionNumber, attentionOf, touchedByAttention}
-use Rattle.attention.specs.Blocks.{ccwOf, pointerOf, parameterBlock, orderOf}
-use Rattle.attention.specs.Commands.{commandOf, commandNumber, ordered}
-use Rattle.attention.specs.Effects.{onlyPsw, started, resumed, commanded, channelOrdered, writesOf, saved, marked, writesMade}
-use Rattle.attention.specs.Touched.{readBy, storedBy, others, orderStages, touchedByOrder}
-use Rattle.attention.specs.declared.Command.{Command}
-use Rattle.attention.specs.declared.Command.the-variants.{Update, StartLocal, StartSystem, Suspend, Resume, Halt, Unknown}
-use Rattle.attention.specs.declared.Order.{Order}
+use Rattle.ground_rules.specs.Choice.{pick}
+use Rattle.ground_rules.specs.Stored.{storedLow, storedMiddle, storedHigh}
+use Rattle.ground_rules.specs.Buffers.{Buffers}
+use Rattle.ground_rules.specs.Places.{Place, span}
+use Rattle.ground_rules.specs.Values.{pointer, storePointer}
+use Rattle.ground_rules.proofs.ConditionLaws.{first-none-left, first-none-right}
+use Rattle.ground_rules.proofs.OutcomeLaws.{first-some}
+use Rattle.ground_rules.specs.Outcomes.{unless, first, settled}
+use Rattle.ground_rules.specs.Stages.{Stage, stage, stagesNumber, stagesTouched}
+use Rattle.ground_rules.specs.States.{channelOf, withChannel, isSecond, isChannel, blockOf, busyIn}
+use Rattle.ground_rules.specs.declared.Channel.{Channel}
+use Rattle.ground_rules.specs.declared.Mode.{Mode}
+use Rattle.ground_rules.specs.declared.State.{State}
+use Rattle.attention_rules.specs.Attention.{orderTo, orderNumber, orderedChannel, orderedMemory, givenTo, attentionNumber, attentionOf, touchedByAttention}
+use Rattle.attention_rules.specs.Blocks.{ccwOf, pointerOf, parameterBlock, orderOf}
+use Rattle.attention_rules.specs.Commands.{commandOf, commandNumber, ordered}
+use Rattle.attention_rules.specs.Effects.{onlyPsw, started, resumed, commanded, channelOrdered, writesOf, saved, marked, writesMade}
+use Rattle.attention_rules.specs.Touched.{readBy, storedBy, others, orderStages, touchedByOrder}
+use Rattle.attention_rules.specs.declared.Command.{Command}
+use Rattle.attention_rules.specs.declared.Command.the-variants.{Update, StartLocal, StartSystem, Suspend, Resume, Halt, Unknown}
+use Rattle.attention_rules.specs.declared.Order.{Order}
 use Rattle.promises_counts.specs.Complete.{SameLengths, AgreeOn}
 use Rattle.promises_counts.specs.Lists.{callAnswer, AttentionComplete}
 use Rattle.promises_counts.specs.Stores.{Store, storesMade, storePlaces}

@@ -9,49 +9,49 @@ use mathlib.Core.List.{List}
 use mathlib.Core.Path.{_≡_, refl, sym, ap, subst, _∙_}
 use native.Mathlib.Decide.{ℕ-discrete}
 use native.Mathlib.Omega.{arith}
-use Rattle.words.proofs.ChoiceLaws.{apart, both-left}
-use Rattle.words.specs.Choice.{pick}
-use Rattle.memory.specs.Buffers.{Buffers}
-use Rattle.memory.specs.Places.{Place}
-use Rattle.machine.proofs.OutcomeLaws.{refused-counts, done-counts}
-use Rattle.machine.specs.Outcomes.{counted}
-use Rattle.machine.specs.Psw.{transferring}
-use Rattle.machine.specs.States.{channelOf, isSecond, blockOf, busyIn}
-use Rattle.machine.specs.declared.Channel.{Channel}
-use Rattle.machine.specs.declared.State.{State}
-use Rattle.attention.proofs.CountLaws.{number-left, touched-length as order-length}
-use Rattle.attention.specs.Attention.{orderTo, attentionNumber, attentionOf, touchedByAttention, attentionCount}
-use Rattle.attention.specs.Touched.{commandCount}
-use Rattle.attention.specs.declared.Command.{Command}
-use Rattle.attention.specs.declared.Command.the-variants.{Update, StartLocal, StartSystem, Suspend, Resume, Halt, Unknown}
-use Rattle.power.proofs.Numbers.{power-number}
-use Rattle.power.proofs.Outcomes.{power-touches}
-use Rattle.power.specs.Power.{touchedByPower, powerNumber, powerUpOf, powerCount}
-use Rattle.decode.specs.Lengths.{dataLength, displacementLength, lengthOf}
-use Rattle.decode_shapes.specs.declared.Decoded.the-variants.{Instruction}
-use Rattle.decode_shapes.specs.declared.Shape.{Shape}
-use Rattle.decode_shapes.specs.declared.Shape.the-variants.{Hlt, Tsl}
-use Rattle.execute_operands.specs.Operands.{byteHere, effective}
-use Rattle.execute.proofs.CountLaws.{touched-exact, touched-most}
-use Rattle.execute.proofs.OutcomeLaws.{number-is}
-use Rattle.execute.specs.Counts.{accessCount, instructionCount}
-use Rattle.execute.specs.Execute.{decodedAt, touchedByInstruction, executeOf, executeCount}
-use Rattle.transfer.proofs.BlockLaws.{word-narrow, one-moves}
-use Rattle.transfer.proofs.CountLaws.{touched-length as moved-length}
-use Rattle.transfer.proofs.PartLaws.{one-whole}
-use Rattle.transfer.proofs.StepLaws.{exactly-0}
-use Rattle.transfer.specs.Parts.{Part, Whole, FirstFetch, SecondFetch, FirstStore, SecondStore, partOf}
-use Rattle.transfer.specs.Reads.{dataOf, also}
-use Rattle.transfer.specs.Sides.{source, destination, twoMove, storedSingly}
-use Rattle.transfer.specs.Steps.{touchedBy, touchedByTransfer, accesses, badMode, transferOf, transferCount}
-use Rattle.transfer.specs.Stores.{cutShort, storesTwo, placesOn}
-use Rattle.step.proofs.StepLaws.{counts-none}
-use Rattle.step.specs.Choosing.{choiceOf}
-use Rattle.step.specs.Step.{settledStep, transferStep, instructionStep, channelStep, chosenStep, entryNumber, stepOf}
-use Rattle.step.specs.Touched.{touchedIn, touchedByStep, stepCount}
-use Rattle.step.specs.declared.Kind.{Kind}
-use Rattle.step.specs.declared.turns.Choice.{Choice}
-use Rattle.step.specs.declared.turns.Choice.the-variants.{Nobody, Ends, Steps}
+use Rattle.ground_rules.proofs.ChoiceLaws.{apart, both-left}
+use Rattle.ground_rules.specs.Choice.{pick}
+use Rattle.ground_rules.specs.Buffers.{Buffers}
+use Rattle.ground_rules.specs.Places.{Place}
+use Rattle.ground_rules.proofs.OutcomeLaws.{refused-counts, done-counts}
+use Rattle.ground_rules.specs.Outcomes.{counted}
+use Rattle.ground_rules.specs.Psw.{transferring}
+use Rattle.ground_rules.specs.States.{channelOf, isSecond, blockOf, busyIn}
+use Rattle.ground_rules.specs.declared.Channel.{Channel}
+use Rattle.ground_rules.specs.declared.State.{State}
+use Rattle.attention_rules.proofs.CountLaws.{number-left, touched-length as order-length}
+use Rattle.attention_rules.specs.Attention.{orderTo, attentionNumber, attentionOf, touchedByAttention, attentionCount}
+use Rattle.attention_rules.specs.Touched.{commandCount}
+use Rattle.attention_rules.specs.declared.Command.{Command}
+use Rattle.attention_rules.specs.declared.Command.the-variants.{Update, StartLocal, StartSystem, Suspend, Resume, Halt, Unknown}
+use Rattle.attention_rules.proofs.PowerNumbers.{power-number}
+use Rattle.attention_rules.proofs.PowerOutcomes.{power-touches}
+use Rattle.attention_rules.specs.Power.{touchedByPower, powerNumber, powerUpOf, powerCount}
+use Rattle.instruction_rules.specs.Lengths.{dataLength, displacementLength, lengthOf}
+use Rattle.instruction_rules.specs.declared.Decoded.the-variants.{Instruction}
+use Rattle.instruction_rules.specs.declared.Shape.{Shape}
+use Rattle.instruction_rules.specs.declared.Shape.the-variants.{Hlt, Tsl}
+use Rattle.instruction_rules.specs.Operands.{byteHere, effective}
+use Rattle.instruction_rules.proofs.CountLaws.{touched-exact, touched-most}
+use Rattle.instruction_rules.proofs.OutcomeLaws.{number-is}
+use Rattle.instruction_rules.specs.Counts.{accessCount, instructionCount}
+use Rattle.instruction_rules.specs.Execute.{decodedAt, touchedByInstruction, executeOf, executeCount}
+use Rattle.transfer_rules.proofs.BlockLaws.{word-narrow, one-moves}
+use Rattle.transfer_rules.proofs.CountLaws.{touched-length as moved-length}
+use Rattle.transfer_rules.proofs.PartLaws.{one-whole}
+use Rattle.transfer_rules.proofs.StepLaws.{exactly-0}
+use Rattle.transfer_rules.specs.Parts.{Part, Whole, FirstFetch, SecondFetch, FirstStore, SecondStore, partOf}
+use Rattle.transfer_rules.specs.Reads.{dataOf, also}
+use Rattle.transfer_rules.specs.Sides.{source, destination, twoMove, storedSingly}
+use Rattle.transfer_rules.specs.Steps.{touchedBy, touchedByTransfer, accesses, badMode, transferOf, transferCount}
+use Rattle.transfer_rules.specs.Stores.{cutShort, storesTwo, placesOn}
+use Rattle.turn_rules.proofs.StepLaws.{counts-none}
+use Rattle.turn_rules.specs.Choosing.{choiceOf}
+use Rattle.turn_rules.specs.Step.{settledStep, transferStep, instructionStep, channelStep, chosenStep, entryNumber, stepOf}
+use Rattle.turn_rules.specs.Touched.{touchedIn, touchedByStep, stepCount}
+use Rattle.turn_rules.specs.declared.Kind.{Kind}
+use Rattle.turn_rules.specs.declared.Choice.{Choice}
+use Rattle.turn_rules.specs.declared.Choice.the-variants.{Nobody, Ends, Steps}
 use Rattle.promises_counts.specs.Counts.{CountedWithin, CommandCounts, AttentionCounts, PowerCounts, TransferCounts, InstructionCounts, StepCounts}
 
 -- a count that goes with a number, by its list

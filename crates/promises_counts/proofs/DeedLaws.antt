@@ -6,32 +6,32 @@ use mathlib.Core.Bool.{Bool, true, false}
 use mathlib.Core.List.{List, []}
 use mathlib.Core.Path.{_≡_, refl, ap₂, subst}
 use native.Mathlib.Omega.{arith}
-use Rattle.words.specs.Bits.{bitOf}
-use Rattle.words.specs.Choice.{pick}
-use Rattle.words.specs.Compare.{matchOf}
-use Rattle.memory.specs.Buffers.{Buffers}
-use Rattle.memory.specs.Places.{Place}
-use Rattle.memory.specs.Values.{onward}
-use Rattle.memory.specs.declared.Pointer.{Pointer}
-use Rattle.machine.specs.Registers.{registerOf}
-use Rattle.machine.specs.declared.Channel.{Channel}
-use Rattle.decode.specs.Lengths.{oneOrTwo, offsetLength, dataLength, displacementLength, lengthOf}
-use Rattle.decode.specs.Reading.{secondOf}
-use Rattle.decode_shapes.specs.declared.Memory.{Memory}
-use Rattle.decode_shapes.specs.declared.Second.{Second}
-use Rattle.decode_shapes.specs.declared.Second.the-variants.{Operand, NoSecond}
-use Rattle.decode_shapes.specs.declared.Shape.{Shape}
-use Rattle.decode_shapes.specs.declared.Shape.the-variants.{Nop, Sintr, Xfer, Wid, Hlt, Lpdi, RegisterImmediate, Register, JumpRegister, RegisterMemory, MemoryRegister, MemoryImmediate, MemoryAlone, JumpMemory, Lpd, MovpLoad, MovpStore, MovMemory, Tsl, Call, JumpMasked, JumpBit, Bit}
-use Rattle.decode_shapes.specs.declared.Single.{Single}
-use Rattle.decode_shapes.specs.declared.Work.{Work}
-use Rattle.decode_shapes.specs.declared.Work.the-variants.{Mov, Add, Or, And}
-use Rattle.execute_operands.specs.Operands.{byteHere, bytesAt, sizeOf, effective, grown, operandAt, workOf, isMove, afterPair}
-use Rattle.execute_operands.specs.declared.Change.{Change}
-use Rattle.execute_deeds.specs.Deeds.{Deed, deed}
-use Rattle.execute_deeds.specs.RegisterForms.{registerImmediateDeed, registerMemoryDeed, lpdiDeed, lpdDeed, movpLoadDeed}
-use Rattle.execute_deeds.specs.MemoryForms.{readFirst, workedBack, memoryWorkDeed, memoryRegisterDeed, memoryImmediateDeed, memoryAloneDeed, movpStoreDeed, bitDeed, movOperandDeed, movSecondDeed, secondAt, movMemoryDeed}
-use Rattle.execute_deeds.specs.JumpForms.{agrees, jumpRegisterDeed, jumpMemoryDeed, jumpByteDeed, jumpMaskedDeed, jumpBitDeed, tslDeed, callDeed}
-use Rattle.execute.specs.Execute.{performed}
+use Rattle.ground_rules.specs.Bits.{bitOf}
+use Rattle.ground_rules.specs.Choice.{pick}
+use Rattle.ground_rules.specs.Compare.{matchOf}
+use Rattle.ground_rules.specs.Buffers.{Buffers}
+use Rattle.ground_rules.specs.Places.{Place}
+use Rattle.ground_rules.specs.Values.{onward}
+use Rattle.ground_rules.specs.declared.Pointer.{Pointer}
+use Rattle.ground_rules.specs.Registers.{registerOf}
+use Rattle.ground_rules.specs.declared.Channel.{Channel}
+use Rattle.instruction_rules.specs.Lengths.{oneOrTwo, offsetLength, dataLength, displacementLength, lengthOf}
+use Rattle.instruction_rules.specs.Reading.{secondOf}
+use Rattle.instruction_rules.specs.declared.Memory.{Memory}
+use Rattle.instruction_rules.specs.declared.Second.{Second}
+use Rattle.instruction_rules.specs.declared.Second.the-variants.{Operand, NoSecond}
+use Rattle.instruction_rules.specs.declared.Shape.{Shape}
+use Rattle.instruction_rules.specs.declared.Shape.the-variants.{Nop, Sintr, Xfer, Wid, Hlt, Lpdi, RegisterImmediate, Register, JumpRegister, RegisterMemory, MemoryRegister, MemoryImmediate, MemoryAlone, JumpMemory, Lpd, MovpLoad, MovpStore, MovMemory, Tsl, Call, JumpMasked, JumpBit, Bit}
+use Rattle.instruction_rules.specs.declared.Single.{Single}
+use Rattle.instruction_rules.specs.declared.Work.{Work}
+use Rattle.instruction_rules.specs.declared.Work.the-variants.{Mov, Add, Or, And}
+use Rattle.instruction_rules.specs.Operands.{byteHere, bytesAt, sizeOf, effective, grown, operandAt, workOf, isMove, afterPair}
+use Rattle.instruction_rules.specs.declared.Change.{Change}
+use Rattle.instruction_rules.specs.Deeds.{Deed, deed}
+use Rattle.instruction_rules.specs.RegisterForms.{registerImmediateDeed, registerMemoryDeed, lpdiDeed, lpdDeed, movpLoadDeed}
+use Rattle.instruction_rules.specs.MemoryForms.{readFirst, workedBack, memoryWorkDeed, memoryRegisterDeed, memoryImmediateDeed, memoryAloneDeed, movpStoreDeed, bitDeed, movOperandDeed, movSecondDeed, secondAt, movMemoryDeed}
+use Rattle.instruction_rules.specs.JumpForms.{agrees, jumpRegisterDeed, jumpMemoryDeed, jumpByteDeed, jumpMaskedDeed, jumpBitDeed, tslDeed, callDeed}
+use Rattle.instruction_rules.specs.Execute.{performed}
 use Rattle.promises_counts.specs.Complete.{AgreeOn}
 use Rattle.promises_counts.proofs.AgreeLaws.{agree-left, agree-right, agree-part, agree-first, byte-same, byte-on, doubleword-same, pointer-same, operand-same, jumped-same, effective-same, onward-twice}
 

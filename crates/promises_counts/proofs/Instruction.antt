@@ -9,32 +9,32 @@ use mathlib.Core.List.{List, [], _∷_, _++_, append-assoc, append-nil}
 use mathlib.Core.Path.{_≡_, refl, sym, ap, ap₂, _∙_}
 use native.Mathlib.Decide.{ℕ-discrete}
 use native.Mathlib.Omega.{arith}
-use Rattle.words.specs.Choice.{pick}
-use Rattle.memory.specs.Buffers.{Buffers, storeByte}
-use Rattle.memory.specs.Places.{Place, span}
-use Rattle.memory.specs.declared.Pointer.{Pointer}
-use Rattle.machine.specs.Stages.{stage, stagesNumber, stagesTouched}
-use Rattle.machine.specs.declared.Channel.{Channel}
-use Rattle.decode.specs.Lengths.{lengthOf}
-use Rattle.decode.specs.Reading.{decodeOf, numberOf}
-use Rattle.decode_shapes.specs.declared.Decoded.{Decoded}
-use Rattle.decode_shapes.specs.declared.Decoded.the-variants.{Instruction, NoInstruction, ControlUsed}
-use Rattle.decode_shapes.specs.declared.Memory.{Memory}
-use Rattle.decode_shapes.specs.declared.Second.{Second}
-use Rattle.decode_shapes.specs.declared.Second.the-variants.{Operand, NoSecond}
-use Rattle.decode_shapes.specs.declared.Shape.{Shape}
-use Rattle.decode_shapes.specs.declared.Shape.the-variants.{Nop, Sintr, Xfer, Wid, Hlt, Lpdi, RegisterImmediate, Register, JumpRegister, RegisterMemory, MemoryRegister, MemoryImmediate, MemoryAlone, JumpMemory, Lpd, MovpLoad, MovpStore, MovMemory, Tsl, Call, JumpMasked, JumpBit, Bit}
-use Rattle.execute_operands.specs.Changes.{changed, placesOf}
-use Rattle.execute_operands.specs.Marks.{pastInstruction}
-use Rattle.execute_operands.specs.Operands.{byteHere, bytesAt, sizeOf, effective}
-use Rattle.execute_operands.specs.declared.Change.{Change}
-use Rattle.execute_deeds.specs.Deeds.{Deed, deed}
-use Rattle.execute_deeds.specs.Control.{nopDeed, sintrDeed, xferDeed, widDeed, hltDeed}
-use Rattle.execute_deeds.specs.RegisterForms.{registerImmediateDeed, registerDeed, registerMemoryDeed, lpdiDeed, lpdDeed, movpLoadDeed}
-use Rattle.execute_deeds.specs.MemoryForms.{workedBack, memoryWorkDeed, memoryRegisterDeed, memoryImmediateDeed, memoryAloneDeed, movpStoreDeed, bitDeed, movOperandDeed, movSecondDeed, secondAt, movMemoryDeed}
-use Rattle.execute_deeds.specs.JumpForms.{jumpRegisterDeed, jumpMemoryDeed, jumpByteDeed, jumpMaskedDeed, jumpBitDeed, tslDeed, callDeed}
-use Rattle.execute.proofs.OutcomeLaws.{pair-passed, second-passed}
-use Rattle.execute.specs.Execute.{decodedAt, performed, deedOf, laterBytes, deedFrom, laterFrom, stagesFrom, instructionStages, executeNumber, touchedByInstruction, Executed, executed, executeOf}
+use Rattle.ground_rules.specs.Choice.{pick}
+use Rattle.ground_rules.specs.Buffers.{Buffers, storeByte}
+use Rattle.ground_rules.specs.Places.{Place, span}
+use Rattle.ground_rules.specs.declared.Pointer.{Pointer}
+use Rattle.ground_rules.specs.Stages.{stage, stagesNumber, stagesTouched}
+use Rattle.ground_rules.specs.declared.Channel.{Channel}
+use Rattle.instruction_rules.specs.Lengths.{lengthOf}
+use Rattle.instruction_rules.specs.Reading.{decodeOf, numberOf}
+use Rattle.instruction_rules.specs.declared.Decoded.{Decoded}
+use Rattle.instruction_rules.specs.declared.Decoded.the-variants.{Instruction, NoInstruction, ControlUsed}
+use Rattle.instruction_rules.specs.declared.Memory.{Memory}
+use Rattle.instruction_rules.specs.declared.Second.{Second}
+use Rattle.instruction_rules.specs.declared.Second.the-variants.{Operand, NoSecond}
+use Rattle.instruction_rules.specs.declared.Shape.{Shape}
+use Rattle.instruction_rules.specs.declared.Shape.the-variants.{Nop, Sintr, Xfer, Wid, Hlt, Lpdi, RegisterImmediate, Register, JumpRegister, RegisterMemory, MemoryRegister, MemoryImmediate, MemoryAlone, JumpMemory, Lpd, MovpLoad, MovpStore, MovMemory, Tsl, Call, JumpMasked, JumpBit, Bit}
+use Rattle.instruction_rules.specs.Changes.{changed, placesOf}
+use Rattle.instruction_rules.specs.Marks.{pastInstruction}
+use Rattle.instruction_rules.specs.Operands.{byteHere, bytesAt, sizeOf, effective}
+use Rattle.instruction_rules.specs.declared.Change.{Change}
+use Rattle.instruction_rules.specs.Deeds.{Deed, deed}
+use Rattle.instruction_rules.specs.Control.{nopDeed, sintrDeed, xferDeed, widDeed, hltDeed}
+use Rattle.instruction_rules.specs.RegisterForms.{registerImmediateDeed, registerDeed, registerMemoryDeed, lpdiDeed, lpdDeed, movpLoadDeed}
+use Rattle.instruction_rules.specs.MemoryForms.{workedBack, memoryWorkDeed, memoryRegisterDeed, memoryImmediateDeed, memoryAloneDeed, movpStoreDeed, bitDeed, movOperandDeed, movSecondDeed, secondAt, movMemoryDeed}
+use Rattle.instruction_rules.specs.JumpForms.{jumpRegisterDeed, jumpMemoryDeed, jumpByteDeed, jumpMaskedDeed, jumpBitDeed, tslDeed, callDeed}
+use Rattle.instruction_rules.proofs.OutcomeLaws.{pair-passed, second-passed}
+use Rattle.instruction_rules.specs.Execute.{decodedAt, performed, deedOf, laterBytes, deedFrom, laterFrom, stagesFrom, instructionStages, executeNumber, touchedByInstruction, Executed, executed, executeOf}
 use Rattle.promises_counts.specs.Complete.{SameLengths, AgreeOn}
 use Rattle.promises_counts.specs.Lists.{instructionAnswer, InstructionComplete}
 use Rattle.promises_counts.specs.Stores.{Store, storesMade, storePlaces}

@@ -5,17 +5,17 @@ use lib.Dec.{eqb}
 use mathlib.Core.Bool.{Bool, true, false}
 use mathlib.Core.List.{List, [], _∷_, _++_}
 use mathlib.Core.Path.{_≡_, refl, sym, ap, ap₂, _∙_}
-use Rattle.words.specs.Bits.{bitOf}
-use Rattle.words.specs.Choice.{pick}
-use Rattle.words.specs.Sums.{sum20}
-use Rattle.memory.specs.Buffers.{Buffers, byteAt, storeByte}
-use Rattle.memory.specs.Places.{Place, span}
-use Rattle.memory.specs.Values.{doublewordAt}
-use Rattle.machine.specs.Outcomes.{unless, first}
-use Rattle.machine.specs.Stages.{stage, stagesNumber, stagesTouched}
-use Rattle.machine.specs.States.{boardWith, blankState, busyIn}
-use Rattle.machine.specs.declared.State.{State}
-use Rattle.power.specs.Power.{sysbusPlace, configurationPlace, configurationOf, controlPlace, controlOf, boardOf, powerPlaces, powerStages, touchedByPower, powerNumber, foundState, foundMemory, powerUpOf}
+use Rattle.ground_rules.specs.Bits.{bitOf}
+use Rattle.ground_rules.specs.Choice.{pick}
+use Rattle.ground_rules.specs.Sums.{sum20}
+use Rattle.ground_rules.specs.Buffers.{Buffers, byteAt, storeByte}
+use Rattle.ground_rules.specs.Places.{Place, span}
+use Rattle.ground_rules.specs.Values.{doublewordAt}
+use Rattle.ground_rules.specs.Outcomes.{unless, first}
+use Rattle.ground_rules.specs.Stages.{stage, stagesNumber, stagesTouched}
+use Rattle.ground_rules.specs.States.{boardWith, blankState, busyIn}
+use Rattle.ground_rules.specs.declared.State.{State}
+use Rattle.attention_rules.specs.Power.{sysbusPlace, configurationPlace, configurationOf, controlPlace, controlOf, boardOf, powerPlaces, powerStages, touchedByPower, powerNumber, foundState, foundMemory, powerUpOf}
 use Rattle.promises_counts.specs.Complete.{SameLengths, AgreeOn}
 use Rattle.promises_counts.specs.Lists.{callAnswer, PowerComplete}
 use Rattle.promises_counts.specs.Stores.{Store, storesMade, storePlaces}

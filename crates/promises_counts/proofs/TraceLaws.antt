@@ -7,13 +7,13 @@ use mathlib.Core.Bool.{Bool, true, false}
 use mathlib.Core.List.{List, [], _∷_, _++_, append-nil}
 use mathlib.Core.Path.{_≡_, refl, sym, ap, subst, _∙_}
 use native.Mathlib.Nat.{add-assoc}
-use Rattle.words.specs.Choice.{pick}
-use Rattle.memory.proofs.SpanLaws.{apart-right}
-use Rattle.memory.proofs.StoreLaws.{store-length, read-other}
-use Rattle.memory.specs.Buffers.{Buffers, spaceOf, byteAt, storeByte}
-use Rattle.memory.specs.Places.{Place, span, ApartFrom}
-use Rattle.machine.specs.Outcomes.{outcome, settled}
-use Rattle.machine.specs.declared.State.{State}
+use Rattle.ground_rules.specs.Choice.{pick}
+use Rattle.ground_rules.proofs.SpanLaws.{apart-right}
+use Rattle.ground_rules.proofs.StoreLaws.{store-length, read-other}
+use Rattle.ground_rules.specs.Buffers.{Buffers, spaceOf, byteAt, storeByte}
+use Rattle.ground_rules.specs.Places.{Place, span, ApartFrom}
+use Rattle.ground_rules.specs.Outcomes.{outcome, settled}
+use Rattle.ground_rules.specs.declared.State.{State}
 use Rattle.promises_counts.specs.Complete.{SameLengths, AgreeOn, Complete}
 use Rattle.promises_counts.specs.Lists.{callAnswer}
 use Rattle.promises_counts.specs.Stores.{Store, storesMade, storePlaces}

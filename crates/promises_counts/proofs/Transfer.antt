@@ -5,24 +5,24 @@ use lib.Dec.{eqb}
 use mathlib.Core.Bool.{Bool, true, false, not}
 use mathlib.Core.List.{List, [], _∷_, _++_}
 use mathlib.Core.Path.{_≡_, refl, sym, ap, ap₂, _∙_}
-use Rattle.words.proofs.ChoiceLaws.{apart}
-use Rattle.words.specs.Choice.{pick}
-use Rattle.words.specs.Sums.{sum20}
-use Rattle.memory.specs.Buffers.{Buffers, byteAt, storeByte}
-use Rattle.memory.specs.Places.{Place}
-use Rattle.machine.specs.Outcomes.{unless, first}
-use Rattle.machine.specs.Stages.{stage, stagesNumber}
-use Rattle.machine.specs.declared.Channel.{Channel}
-use Rattle.transfer.specs.Reads.{fetched, fetchedSecond, entryOf, delivered, dataOf, also, readPlaces}
-use Rattle.transfer.specs.Sides.{source, destination, secondAddress, twoMove}
-use Rattle.machine.specs.Updates.{holding}
-use Rattle.machine.specs.declared.Held.the-variants.{Byte}
-use Rattle.transfer.proofs.PartLaws.{second-fetch-apart, first-store-apart, stores-two, word-stored}
-use Rattle.transfer.proofs.StepLaws.{chain-by, outcome-5, two-plain}
-use Rattle.transfer.specs.Halves.{firstPlace, secondPlace, wordWith}
-use Rattle.transfer.specs.Parts.{Part, Whole, FirstFetch, SecondFetch, FirstStore, SecondStore, partOf}
-use Rattle.transfer.specs.Steps.{Transfer, transferred, touchedBy, channelBy, memoryBy, badMode, stagesBy, numberBy, stepBy, touchedByTransfer, transferOf}
-use Rattle.transfer.specs.Stores.{firstMeets, storesTwo, movedChannel, putOn, movedMemory, placesOn, storedPlaces}
+use Rattle.ground_rules.proofs.ChoiceLaws.{apart}
+use Rattle.ground_rules.specs.Choice.{pick}
+use Rattle.ground_rules.specs.Sums.{sum20}
+use Rattle.ground_rules.specs.Buffers.{Buffers, byteAt, storeByte}
+use Rattle.ground_rules.specs.Places.{Place}
+use Rattle.ground_rules.specs.Outcomes.{unless, first}
+use Rattle.ground_rules.specs.Stages.{stage, stagesNumber}
+use Rattle.ground_rules.specs.declared.Channel.{Channel}
+use Rattle.transfer_rules.specs.Reads.{fetched, fetchedSecond, entryOf, delivered, dataOf, also, readPlaces}
+use Rattle.transfer_rules.specs.Sides.{source, destination, secondAddress, twoMove}
+use Rattle.ground_rules.specs.Updates.{holding}
+use Rattle.ground_rules.specs.declared.Held.the-variants.{Byte}
+use Rattle.transfer_rules.proofs.PartLaws.{second-fetch-apart, first-store-apart, stores-two, word-stored}
+use Rattle.transfer_rules.proofs.StepLaws.{chain-by, outcome-5, two-plain}
+use Rattle.transfer_rules.specs.Halves.{firstPlace, secondPlace, wordWith}
+use Rattle.transfer_rules.specs.Parts.{Part, Whole, FirstFetch, SecondFetch, FirstStore, SecondStore, partOf}
+use Rattle.transfer_rules.specs.Steps.{Transfer, transferred, touchedBy, channelBy, memoryBy, badMode, stagesBy, numberBy, stepBy, touchedByTransfer, transferOf}
+use Rattle.transfer_rules.specs.Stores.{firstMeets, storesTwo, movedChannel, putOn, movedMemory, placesOn, storedPlaces}
 use Rattle.promises_counts.specs.Complete.{SameLengths, AgreeOn}
 use Rattle.promises_counts.specs.Lists.{transferAnswer, TransferComplete}
 use Rattle.promises_counts.specs.Stores.{Store, storesMade, storePlaces}

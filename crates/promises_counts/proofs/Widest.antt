@@ -1,29 +1,29 @@
 -- The instruction that touches ten bytes, computed.
 -- Assumes nothing.
 use mathlib.Core.Path.{refl}
-use Rattle.words.specs.Bits.{fieldOf, bitOf}
-use Rattle.words.specs.Signs.{extended}
-use Rattle.memory.specs.Buffers.{spaceOf, limitOf, indexOf, lentAt, touchableAt, beyondIn, byteAt, storeByte, withinLimits}
-use Rattle.memory.specs.Places.{span, allPass}
-use Rattle.memory.specs.Values.{onward, wordAt}
-use Rattle.machine.specs.Cc.{split, sameFlag, sameFields}
-use Rattle.machine.specs.Outcomes.{unless, first, counted, givenNumber}
-use Rattle.machine.specs.Registers.{baseOf}
-use Rattle.machine.specs.Stages.{stagesNumber, stagesTouched}
-use Rattle.machine.specs.States.{idleChannel, freshState, channelOf, withChannel, withLast, soundChannel, sound, isRunning, blockOf, busyIn, channelNumber, fieldsAgree, agree}
-use Rattle.machine.specs.Updates.{withControl, renewed}
-use Rattle.decode.specs.Lengths.{offsetLength, dataLength, displacementLength, lengthOf}
-use Rattle.decode.specs.Reading.{lookup, decodeOf, secondOf}
-use Rattle.decode.specs.Table.{table}
-use Rattle.decode_shapes.specs.Pairs.{pairOf}
-use Rattle.execute_operands.specs.Changes.{placesOf, changed}
-use Rattle.execute_operands.specs.Marks.{usedUp, pastInstruction}
-use Rattle.execute_operands.specs.Operands.{further, indexed, effective, grown, operandAt}
-use Rattle.execute_deeds.specs.MemoryForms.{movOperandDeed, movSecondDeed, secondAt, movMemoryDeed}
-use Rattle.execute.specs.Execute.{decodedAt, performed, deedOf, laterBytes, deedFrom, laterFrom, stagesFrom, instructionStages, executeNumber, touchedByInstruction, executeOf}
-use Rattle.step.specs.Choosing.{requested, external, endsNow, transferRank, rankOf, secondWins, ranked, choiceOf}
-use Rattle.step.specs.Step.{settledStep, instructionStep, channelStep, chosenStep, entryNumber, stepOf}
-use Rattle.step.specs.Touched.{touchedIn, touchedByStep, stepCount}
+use Rattle.ground_rules.specs.Bits.{fieldOf, bitOf}
+use Rattle.ground_rules.specs.Signs.{extended}
+use Rattle.ground_rules.specs.Buffers.{spaceOf, limitOf, indexOf, lentAt, touchableAt, beyondIn, byteAt, storeByte, withinLimits}
+use Rattle.ground_rules.specs.Places.{span, allPass}
+use Rattle.ground_rules.specs.Values.{onward, wordAt}
+use Rattle.ground_rules.specs.Cc.{split, sameFlag, sameFields}
+use Rattle.ground_rules.specs.Outcomes.{unless, first, counted, givenNumber}
+use Rattle.ground_rules.specs.Registers.{baseOf}
+use Rattle.ground_rules.specs.Stages.{stagesNumber, stagesTouched}
+use Rattle.ground_rules.specs.States.{idleChannel, freshState, channelOf, withChannel, withLast, soundChannel, sound, isRunning, blockOf, busyIn, channelNumber, fieldsAgree, agree}
+use Rattle.ground_rules.specs.Updates.{withControl, renewed}
+use Rattle.instruction_rules.specs.Lengths.{offsetLength, dataLength, displacementLength, lengthOf}
+use Rattle.instruction_rules.specs.Reading.{lookup, decodeOf, secondOf}
+use Rattle.instruction_rules.specs.Table.{table}
+use Rattle.instruction_rules.specs.Pairs.{pairOf}
+use Rattle.instruction_rules.specs.Changes.{placesOf, changed}
+use Rattle.instruction_rules.specs.Marks.{usedUp, pastInstruction}
+use Rattle.instruction_rules.specs.Operands.{further, indexed, effective, grown, operandAt}
+use Rattle.instruction_rules.specs.MemoryForms.{movOperandDeed, movSecondDeed, secondAt, movMemoryDeed}
+use Rattle.instruction_rules.specs.Execute.{decodedAt, performed, deedOf, laterBytes, deedFrom, laterFrom, stagesFrom, instructionStages, executeNumber, touchedByInstruction, executeOf}
+use Rattle.turn_rules.specs.Choosing.{requested, external, endsNow, transferRank, rankOf, secondWins, ranked, choiceOf}
+use Rattle.turn_rules.specs.Step.{settledStep, instructionStep, channelStep, chosenStep, entryNumber, stepOf}
+use Rattle.turn_rules.specs.Touched.{touchedIn, touchedByStep, stepCount}
 use Rattle.promises_counts.specs.Widest.{widestState, widestMemory, WidestCounts}
 
 pub widest-counts : WidestCounts

@@ -1,16 +1,16 @@
 -- The calls that have a list of touched places, and that the list of each is complete.
 use Prim.Native.Nat.{ℕ}
-use Rattle.memory.specs.Buffers.{Buffers}
-use Rattle.machine.specs.Outcomes.{Outcome}
-use Rattle.machine.specs.declared.Channel.{Channel}
-use Rattle.machine.specs.declared.State.{State}
-use Rattle.attention.specs.Attention.{attentionOf, touchedByAttention}
-use Rattle.power.specs.Power.{touchedByPower, powerUpOf}
-use Rattle.transfer.specs.Steps.{Transfer, touchedByTransfer, transferOf}
-use Rattle.execute.specs.Execute.{Executed, touchedByInstruction, executeOf}
-use Rattle.step.specs.Step.{Step, stepOf}
-use Rattle.step.specs.Touched.{touchedByStep}
-use Rattle.step.specs.declared.Kind.{Kind}
+use Rattle.ground_rules.specs.Buffers.{Buffers}
+use Rattle.ground_rules.specs.Outcomes.{Outcome}
+use Rattle.ground_rules.specs.declared.Channel.{Channel}
+use Rattle.ground_rules.specs.declared.State.{State}
+use Rattle.attention_rules.specs.Attention.{attentionOf, touchedByAttention}
+use Rattle.attention_rules.specs.Power.{touchedByPower, powerUpOf}
+use Rattle.transfer_rules.specs.Steps.{Transfer, touchedByTransfer, transferOf}
+use Rattle.instruction_rules.specs.Execute.{Executed, touchedByInstruction, executeOf}
+use Rattle.turn_rules.specs.Step.{Step, stepOf}
+use Rattle.turn_rules.specs.Touched.{touchedByStep}
+use Rattle.turn_rules.specs.declared.Kind.{Kind}
 use Rattle.promises_counts.specs.Complete.{Complete}
 
 -- what each call answers, beside the memories

@@ -5,16 +5,16 @@ use lib.ListN.{replicate}
 use mathlib.Core.Bool.{true, false}
 use mathlib.Core.List.{List, [], _∷_}
 use mathlib.Core.Path.{_≡_, refl}
-use Rattle.memory.specs.{declared.Pointer.Pointer, Buffers.Buffers, Buffers.buffers, Buffers.storeByte, Places.span}
-use Rattle.memory.specs.Values.{pointer, pointerAt, storePointer}
-use Rattle.machine.specs.{declared.Channel.Channel, declared.Mode.the-variants.Running, declared.State.State, Outcomes.Outcome, Outcomes.settled}
-use Rattle.machine.specs.States.{idleChannel, boardWith, blockOf, busyIn, isChannel, isSecond, isSuspended}
-use Rattle.machine.specs.Updates.{withControl, stoppedPsw}
-use Rattle.attention.specs.Attention.{orderTo, orderNumber, orderedChannel, orderedMemory, givenTo, attentionNumber, attentionOf}
-use Rattle.attention.specs.Commands.{commandCoded, isKnown, modeNumber, commandNumber, copied, obeyed, ordered}
-use Rattle.attention.specs.Effects.{suspended, resumed, commanded, channelOrdered, writesOf, saved, marked, writesMade}
-use Rattle.attention.specs.{Blocks.ccwOf, Blocks.parameterBlock, Blocks.orderOf, Touched.readBy, Touched.storedBy, Touched.others, Touched.orderStages}
-use Rattle.step.specs.Step.{Step, stepOf}
+use Rattle.ground_rules.specs.{declared.Pointer.Pointer, Buffers.Buffers, Buffers.buffers, Buffers.storeByte, Places.span}
+use Rattle.ground_rules.specs.Values.{pointer, pointerAt, storePointer}
+use Rattle.ground_rules.specs.{declared.Channel.Channel, declared.Mode.the-variants.Running, declared.State.State, Outcomes.Outcome, Outcomes.settled}
+use Rattle.ground_rules.specs.States.{idleChannel, boardWith, blockOf, busyIn, isChannel, isSecond, isSuspended}
+use Rattle.ground_rules.specs.Updates.{withControl, stoppedPsw}
+use Rattle.attention_rules.specs.Attention.{orderTo, orderNumber, orderedChannel, orderedMemory, givenTo, attentionNumber, attentionOf}
+use Rattle.attention_rules.specs.Commands.{commandCoded, isKnown, modeNumber, commandNumber, copied, obeyed, ordered}
+use Rattle.attention_rules.specs.Effects.{suspended, resumed, commanded, channelOrdered, writesOf, saved, marked, writesMade}
+use Rattle.attention_rules.specs.{Blocks.ccwOf, Blocks.parameterBlock, Blocks.orderOf, Touched.readBy, Touched.storedBy, Touched.others, Touched.orderStages}
+use Rattle.turn_rules.specs.Step.{Step, stepOf}
 use Rattle.promises.{specs.Witness.channelWith, proofs.CallWitness.stepOpen}
 
 -- channel 1 of a board with CP 8, CCW at 8 and BUSY at 9, that moves two bytes from I/O address 0 on, by bytes, TBC 01; TP is 101h

@@ -9,23 +9,23 @@ use mathlib.Core.Bool.{Bool, true, false, _&&_}
 use mathlib.Core.List.{List, [], _∷_, _++_}
 use mathlib.Core.Path.{_≡_, refl, sym, ap, ap₂, subst, _∙_}
 use native.Mathlib.Omega.{arith}
-use Rattle.words.specs.{Bits.fieldOf, Bits.bitOf, Bits.withBit, Sums.sum20}
-use Rattle.memory.specs.Buffers.{Buffers, spaceOf, limitOf, indexOf, lentAt, byteAt, touchableAt, storeByte}
-use Rattle.memory.specs.{declared.Pointer.Pointer, Places.Place, Places.span, Places.allPass, Places.allTouchable, Places.ApartFrom, Values.pointer}
-use Rattle.memory.proofs.StoreLaws.{store-length, store-lent, read-other, same-lent}
-use Rattle.machine.specs.{declared.Channel.Channel, declared.State.State, Cc.split, Conditions.TooLong, Stages.stagesNumber, States.blockOf, States.busyIn, Updates.withControl, Updates.withTransfer, Updates.stoppedPsw}
-use Rattle.machine.specs.Outcomes.{Outcome, unless, first, givenNumber}
-use Rattle.machine.specs.Psw.{programRunning, withPsw}
-use Rattle.machine.specs.States.{freshState, channelOf, channelNumber, withChannel, isRunning, isSuspended, isChannel, isSecond, sound, soundChannel}
-use Rattle.machine.proofs.ChannelLaws.{put-same, put-cp, put-sound, named, last-channel, sound-channel-of, controlled-sound}
-use Rattle.machine.proofs.{ConditionLaws.first-none-right, ConditionLaws.told-limits, OutcomeLaws.settled-number}
-use Rattle.attention.specs.{declared.Command.Command, declared.Command.the-variants.StartSystem, Blocks.ccwOf, Blocks.orderOf, Effects.suspended, Touched.others, Touched.orderStages}
-use Rattle.attention.specs.Attention.{orderTo, orderNumber, orderedChannel, givenTo, attentionNumber, attentionOf}
-use Rattle.attention.specs.Commands.{commandCoded, isKnown, modeNumber, commandNumber}
-use Rattle.attention.proofs.{Outcomes.accepted-order, Outcomes.registers-kept, Outcomes.shared-kept, SoundLaws.attention-agree, Stores.lengths-kept}
-use Rattle.step.specs.{declared.Kind.the-variants.Instruction, Step.Step, Step.doneStep, Step.entryNumber, Step.stepOf}
-use Rattle.step.proofs.SoundLaws.{entry-sound, entry-agree, entry-again, limits-kept}
-use Rattle.transfer.specs.Sides.{source, destination, wordSide}
+use Rattle.ground_rules.specs.{Bits.fieldOf, Bits.bitOf, Bits.withBit, Sums.sum20}
+use Rattle.ground_rules.specs.Buffers.{Buffers, spaceOf, limitOf, indexOf, lentAt, byteAt, touchableAt, storeByte}
+use Rattle.ground_rules.specs.{declared.Pointer.Pointer, Places.Place, Places.span, Places.allPass, Places.allTouchable, Places.ApartFrom, Values.pointer}
+use Rattle.ground_rules.proofs.StoreLaws.{store-length, store-lent, read-other, same-lent}
+use Rattle.ground_rules.specs.{declared.Channel.Channel, declared.State.State, Cc.split, Conditions.TooLong, Stages.stagesNumber, States.blockOf, States.busyIn, Updates.withControl, Updates.withTransfer, Updates.stoppedPsw}
+use Rattle.ground_rules.specs.Outcomes.{Outcome, unless, first, givenNumber}
+use Rattle.ground_rules.specs.Psw.{programRunning, withPsw}
+use Rattle.ground_rules.specs.States.{freshState, channelOf, channelNumber, withChannel, isRunning, isSuspended, isChannel, isSecond, sound, soundChannel}
+use Rattle.ground_rules.proofs.ChannelLaws.{put-same, put-cp, put-sound, named, last-channel, sound-channel-of, controlled-sound}
+use Rattle.ground_rules.proofs.{ConditionLaws.first-none-right, ConditionLaws.told-limits, OutcomeLaws.settled-number}
+use Rattle.attention_rules.specs.{declared.Command.Command, declared.Command.the-variants.StartSystem, Blocks.ccwOf, Blocks.orderOf, Effects.suspended, Touched.others, Touched.orderStages}
+use Rattle.attention_rules.specs.Attention.{orderTo, orderNumber, orderedChannel, givenTo, attentionNumber, attentionOf}
+use Rattle.attention_rules.specs.Commands.{commandCoded, isKnown, modeNumber, commandNumber}
+use Rattle.attention_rules.proofs.{Outcomes.accepted-order, Outcomes.registers-kept, Outcomes.shared-kept, SoundLaws.attention-agree, Stores.lengths-kept}
+use Rattle.turn_rules.specs.{declared.Kind.the-variants.Instruction, Step.Step, Step.doneStep, Step.entryNumber, Step.stepOf}
+use Rattle.turn_rules.proofs.SoundLaws.{entry-sound, entry-agree, entry-again, limits-kept}
+use Rattle.transfer_rules.specs.Sides.{source, destination, wordSide}
 use Rattle.block_rules.specs.{Premises.from, Premises.into, Rows.Left, Stages.onBy, Stages.midway}
 use Rattle.block_rules.specs.Totals.{narrow, alone, total, movedAfter}
 use Rattle.promises.specs.{Cases.Stand, Joined.RunsAlone, Met.zeros, Met.copying, SheetAttention.pbAt, SheetAttention.Attends, Witness.channelWith, SheetAttention.outcomeTo, SheetAttention.channelAfter, Image.put, Image.layoutOf, Image.copyOf, Image.imageIn}

@@ -8,17 +8,17 @@ use mathlib.Core.List.{List, [], _++_}
 use mathlib.Core.Logic.{inr}
 use mathlib.Core.Path.{_≡_, refl, sym, ap, subst, _∙_}
 use native.Mathlib.Omega.{arith}
-use Rattle.memory.proofs.SpanLaws.{apart-right}
-use Rattle.words.{specs.Choice.pick, specs.Bits.bitOf, specs.Bits.withBit, proofs.BitLaws.bit-other, proofs.BitLaws.with-bit-back, proofs.ChoiceLaws.apart}
-use Rattle.memory.specs.{declared.Pointer.Pointer, Buffers.Buffers, Buffers.limitOf, Places.Place, Places.ApartFrom}
-use Rattle.memory.proofs.StoreLaws.{same-lent}
-use Rattle.machine.specs.{declared.Channel.Channel, declared.Fields.Fields, declared.Mode.the-variants.Suspended, declared.State.State, Outcomes.Outcome, Psw.transferring, Psw.programRunning, Psw.withPsw, Updates.withControl, Updates.withTransfer, Updates.stoppedPsw}
-use Rattle.machine.specs.States.{channelOf, channelNumber, blockOf, busyIn, isRunning}
-use Rattle.machine.proofs.ChannelLaws.{put-same, named}
-use Rattle.attention.specs.{declared.Command.Command, declared.Command.the-variants.Suspend, declared.Command.the-variants.Resume, Attention.orderTo, Attention.orderedChannel, Blocks.orderOf, Blocks.parameterBlock, Touched.storedBy, Commands.copied, Commands.obeyed, Commands.ordered, Effects.onlyPsw, Effects.suspended, Effects.commanded, Effects.channelOrdered}
-use Rattle.attention.proofs.Outcomes.{accepted-order, refused-nothing, shared-kept}
-use Rattle.attention.proofs.{Pauses.suspend-resume, Stores.bytes-kept, Stores.lengths-kept}
-use Rattle.step.{specs.Choosing.external, specs.Step.stepOf, proofs.ChoosingLaws.chosen-running, proofs.OutcomeLaws.cp-kept}
+use Rattle.ground_rules.proofs.SpanLaws.{apart-right}
+use Rattle.ground_rules.{specs.Choice.pick, specs.Bits.bitOf, specs.Bits.withBit, proofs.BitLaws.bit-other, proofs.BitLaws.with-bit-back, proofs.ChoiceLaws.apart}
+use Rattle.ground_rules.specs.{declared.Pointer.Pointer, Buffers.Buffers, Buffers.limitOf, Places.Place, Places.ApartFrom}
+use Rattle.ground_rules.proofs.StoreLaws.{same-lent}
+use Rattle.ground_rules.specs.{declared.Channel.Channel, declared.Fields.Fields, declared.Mode.the-variants.Suspended, declared.State.State, Outcomes.Outcome, Psw.transferring, Psw.programRunning, Psw.withPsw, Updates.withControl, Updates.withTransfer, Updates.stoppedPsw}
+use Rattle.ground_rules.specs.States.{channelOf, channelNumber, blockOf, busyIn, isRunning}
+use Rattle.ground_rules.proofs.ChannelLaws.{put-same, named}
+use Rattle.attention_rules.specs.{declared.Command.Command, declared.Command.the-variants.Suspend, declared.Command.the-variants.Resume, Attention.orderTo, Attention.orderedChannel, Blocks.orderOf, Blocks.parameterBlock, Touched.storedBy, Commands.copied, Commands.obeyed, Commands.ordered, Effects.onlyPsw, Effects.suspended, Effects.commanded, Effects.channelOrdered}
+use Rattle.attention_rules.proofs.Outcomes.{accepted-order, refused-nothing, shared-kept}
+use Rattle.attention_rules.proofs.{Pauses.suspend-resume, Stores.bytes-kept, Stores.lengths-kept}
+use Rattle.turn_rules.{specs.Choosing.external, specs.Step.stepOf, proofs.ChoosingLaws.chosen-running, proofs.OutcomeLaws.cp-kept}
 use Rattle.block_rules.specs.{Premises.from, Premises.into, Premises.Lent, Premises.Copy, Totals.movedAfter, Totals.total, Rows.Left, Rows.Untouched, Rows.Row, Rows.start, Rows.steps, Rows.other, Stages.midway, Stages.Held, Stages.Ended}
 use Rattle.sweep_rules.specs.{Plainly.plainly, Ranges.placeOf, Sweep.sweepOf}
 use Rattle.block_rules.proofs.{CopyLaws.reached, Demand3.going, Demand3.ended, StageLaws.mid-count}

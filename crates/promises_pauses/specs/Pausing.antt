@@ -4,14 +4,14 @@ use mathlib.Core.List.{List, [], _∷_, _++_}
 use mathlib.Core.Path.{_≡_}
 use Prim.Native.Nat.{ℕ, suc, _+_, _<_}
 use lib.ListN.{length}
-use Rattle.words.specs.Bits.{fieldOf, bitOf}
-use Rattle.memory.specs.{declared.Pointer.Pointer, Buffers.Buffers, Buffers.spaceOf, Buffers.byteAt, Places.Place, Places.span, Places.ApartFrom}
-use Rattle.machine.specs.{declared.Channel.Channel, declared.Mode.the-variants.Suspended, declared.State.State}
-use Rattle.machine.specs.Psw.{transferring, programRunning, loadLimit, priority}
-use Rattle.machine.specs.States.{channelOf, channelNumber, blockOf, busyIn}
-use Rattle.attention.specs.{declared.Command.Command, declared.Command.the-variants.Suspend, declared.Command.the-variants.Resume}
-use Rattle.attention.specs.Attention.{orderTo, attentionOf}
-use Rattle.step.specs.Step.{stepOf}
+use Rattle.ground_rules.specs.Bits.{fieldOf, bitOf}
+use Rattle.ground_rules.specs.{declared.Pointer.Pointer, Buffers.Buffers, Buffers.spaceOf, Buffers.byteAt, Places.Place, Places.span, Places.ApartFrom}
+use Rattle.ground_rules.specs.{declared.Channel.Channel, declared.Mode.the-variants.Suspended, declared.State.State}
+use Rattle.ground_rules.specs.Psw.{transferring, programRunning, loadLimit, priority}
+use Rattle.ground_rules.specs.States.{channelOf, channelNumber, blockOf, busyIn}
+use Rattle.attention_rules.specs.{declared.Command.Command, declared.Command.the-variants.Suspend, declared.Command.the-variants.Resume}
+use Rattle.attention_rules.specs.Attention.{orderTo, attentionOf}
+use Rattle.turn_rules.specs.Step.{stepOf}
 use Rattle.block_rules.specs.{Premises.from, Premises.into, Rows.Untouched, Totals.movedAfter}
 use Rattle.block_rules.specs.Stages.{midway, Held, Going, Ended}
 use Rattle.sweep_rules.specs.Sweep.{Sweep}

@@ -5,16 +5,16 @@ use lib.ListN.{length}
 use mathlib.Core.Bool.{Bool, true, false, not}
 use mathlib.Core.Path.{_≡_, refl, sym, ap, subst, _∙_}
 use native.Mathlib.Omega.{arith}
-use Rattle.words.proofs.ChoiceLaws.{apart}
-use Rattle.memory.specs.Buffers.{Buffers, spaceOf, byteAt}
-use Rattle.memory.specs.declared.Pointer.{Pointer}
-use Rattle.memory.proofs.StoreLaws.{same-lent}
-use Rattle.machine.specs.declared.Channel.{Channel}
-use Rattle.machine.specs.declared.Fields.{Fields}
-use Rattle.machine.specs.declared.State.{State}
-use Rattle.step.proofs.SoundLaws.{entry-sound, entry-agree, entry-again, limits-kept}
-use Rattle.step.specs.Step.{entryNumber}
-use Rattle.step.specs.declared.Kind.the-variants.{Nothing}
+use Rattle.ground_rules.proofs.ChoiceLaws.{apart}
+use Rattle.ground_rules.specs.Buffers.{Buffers, spaceOf, byteAt}
+use Rattle.ground_rules.specs.declared.Pointer.{Pointer}
+use Rattle.ground_rules.proofs.StoreLaws.{same-lent}
+use Rattle.ground_rules.specs.declared.Channel.{Channel}
+use Rattle.ground_rules.specs.declared.Fields.{Fields}
+use Rattle.ground_rules.specs.declared.State.{State}
+use Rattle.turn_rules.proofs.SoundLaws.{entry-sound, entry-agree, entry-again, limits-kept}
+use Rattle.turn_rules.specs.Step.{entryNumber}
+use Rattle.turn_rules.specs.declared.Kind.the-variants.{Nothing}
 use Rattle.block_rules.proofs.StageLaws.{mid-fields}
 use Rattle.block_rules.specs.Premises.{from, into, Lent}
 use Rattle.block_rules.specs.Rows.{Left}

@@ -3,9 +3,9 @@
 use Prim.Native.Nat.{ℕ}
 use mathlib.Core.Bool.{Bool, true}
 use mathlib.Core.Path.{_≡_, ap, _∙_}
-use Rattle.machine.specs.Psw.{programRunning}
-use Rattle.machine.specs.States.{channelOf, channelNumber}
-use Rattle.machine.specs.declared.State.{State}
+use Rattle.ground_rules.specs.Psw.{programRunning}
+use Rattle.ground_rules.specs.States.{channelOf, channelNumber}
+use Rattle.ground_rules.specs.declared.State.{State}
 use Rattle.block_rules.specs.Premises.{Copy}
 use Rattle.block_rules.specs.Totals.{total}
 use Rattle.promises_pauses.proofs.PausedRows.{demand13}

@@ -4,14 +4,14 @@ use Prim.Native.Nat.{ℕ, zero, suc, _+_}
 use lib.Dec.{eqb}
 use mathlib.Core.Bool.{Bool, true, false}
 use mathlib.Core.Path.{_≡_, refl, sym, ap, ap₂, _∙_}
-use Rattle.words.specs.Choice.{pick}
-use Rattle.memory.specs.Buffers.{Buffers}
-use Rattle.machine.specs.Psw.{transferring}
-use Rattle.machine.specs.States.{channelOf, channelNumber}
-use Rattle.machine.specs.declared.State.{State}
-use Rattle.step.specs.Step.{Step, stepOf}
-use Rattle.step.specs.Touched.{stepCount}
-use Rattle.step.specs.declared.Kind.the-variants.{Nothing}
+use Rattle.ground_rules.specs.Choice.{pick}
+use Rattle.ground_rules.specs.Buffers.{Buffers}
+use Rattle.ground_rules.specs.Psw.{transferring}
+use Rattle.ground_rules.specs.States.{channelOf, channelNumber}
+use Rattle.ground_rules.specs.declared.State.{State}
+use Rattle.turn_rules.specs.Step.{Step, stepOf}
+use Rattle.turn_rules.specs.Touched.{stepCount}
+use Rattle.turn_rules.specs.declared.Kind.the-variants.{Nothing}
 use Rattle.sweep_rules.specs.Plainly.{plainly}
 use Rattle.sweep_rules.specs.Sweep.{Sweep, sweptTo}
 use Rattle.promises_blocks.proofs.Sweeps.{sweeps}

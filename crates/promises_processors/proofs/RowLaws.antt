@@ -2,7 +2,7 @@
 -- Assumes nothing.
 use Prim.Native.Nat.{ℕ}
 use mathlib.Core.Bool.{Bool}
-use Rattle.step.specs.declared.Kind.the-variants.{Nothing}
+use Rattle.turn_rules.specs.declared.Kind.the-variants.{Nothing}
 use Rattle.schedule.specs.Reports.{noReport}
 use Rattle.block_rules.specs.Premises.{Copy}
 use Rattle.block_rules.specs.Totals.{total}

@@ -3,13 +3,13 @@
 use mathlib.Core.Bool.{Bool, true, false, not}
 use mathlib.Core.Path.{_≡_, refl, ap}
 use Prim.Native.Nat.{ℕ}
-use Rattle.memory.specs.Buffers.{Buffers, spaceOf, lentAt, byteAt}
-use Rattle.memory.specs.declared.Pointer.{Pointer}
-use Rattle.machine.proofs.ChannelLaws.{named}
-use Rattle.machine.specs.declared.State.{State}
-use Rattle.attention.specs.Attention.{attentionOf}
-use Rattle.step.specs.Step.{stepOf}
-use Rattle.step.specs.declared.Kind.the-variants.{Nothing}
+use Rattle.ground_rules.specs.Buffers.{Buffers, spaceOf, lentAt, byteAt}
+use Rattle.ground_rules.specs.declared.Pointer.{Pointer}
+use Rattle.ground_rules.proofs.ChannelLaws.{named}
+use Rattle.ground_rules.specs.declared.State.{State}
+use Rattle.attention_rules.specs.Attention.{attentionOf}
+use Rattle.turn_rules.specs.Step.{stepOf}
+use Rattle.turn_rules.specs.declared.Kind.the-variants.{Nothing}
 use Rattle.block_rules.specs.Premises.{Lent}
 use Rattle.block_rules.specs.Rows.{Left}
 use Rattle.processors.proofs.LiftLaws.{lifts}

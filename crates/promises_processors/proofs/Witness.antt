@@ -6,23 +6,23 @@ use lib.Dec.{ltb, lit<, lit≤}
 use mathlib.Core.Bool.{Bool, true, false}
 use mathlib.Core.List.{[], _∷_}
 use mathlib.Core.Path.{_≡_, refl}
-use Rattle.words.proofs.ChoiceLaws.{apart}
-use Rattle.memory.specs.Buffers.{buffers, lentAt}
-use Rattle.memory.proofs.SpanLaws.{span-at}
-use Rattle.memory.specs.Places.{span}
-use Rattle.memory.specs.Values.{onward}
-use Rattle.machine.specs.States.{idleChannel, isChannel, isSecond, blockOf, busyIn}
-use Rattle.machine.specs.Updates.{renewed}
-use Rattle.decode_shapes.specs.Pairs.{pairOf}
-use Rattle.decode.specs.Lengths.{dataLength, displacementLength, lengthOf}
-use Rattle.decode.specs.Reading.{lookup, decodeOf}
-use Rattle.decode.specs.Table.{table}
-use Rattle.execute_operands.specs.Changes.{placesOf, changed}
-use Rattle.execute_operands.specs.Marks.{usedUp, pastInstruction, markSet}
-use Rattle.execute_deeds.specs.Control.{withStatus, xferDeed, widDeed}
-use Rattle.execute.specs.Execute.{decodedAt, performed, deedOf, laterBytes, deedFrom, laterFrom, stagesFrom, instructionStages, executeNumber, executeOf}
-use Rattle.step.specs.Step.{instructionStep}
-use Rattle.transfer.specs.Sides.{source, destination}
+use Rattle.ground_rules.proofs.ChoiceLaws.{apart}
+use Rattle.ground_rules.specs.Buffers.{buffers, lentAt}
+use Rattle.ground_rules.proofs.SpanLaws.{span-at}
+use Rattle.ground_rules.specs.Places.{span}
+use Rattle.ground_rules.specs.Values.{onward}
+use Rattle.ground_rules.specs.States.{idleChannel, isChannel, isSecond, blockOf, busyIn}
+use Rattle.ground_rules.specs.Updates.{renewed}
+use Rattle.instruction_rules.specs.Pairs.{pairOf}
+use Rattle.instruction_rules.specs.Lengths.{dataLength, displacementLength, lengthOf}
+use Rattle.instruction_rules.specs.Reading.{lookup, decodeOf}
+use Rattle.instruction_rules.specs.Table.{table}
+use Rattle.instruction_rules.specs.Changes.{placesOf, changed}
+use Rattle.instruction_rules.specs.Marks.{usedUp, pastInstruction, markSet}
+use Rattle.instruction_rules.specs.Control.{withStatus, xferDeed, widDeed}
+use Rattle.instruction_rules.specs.Execute.{decodedAt, performed, deedOf, laterBytes, deedFrom, laterFrom, stagesFrom, instructionStages, executeNumber, executeOf}
+use Rattle.turn_rules.specs.Step.{instructionStep}
+use Rattle.transfer_rules.specs.Sides.{source, destination}
 use Rattle.block_rules.specs.Premises.{into, Copy}
 use Rattle.block_rules.specs.Totals.{narrow, total}
 use Rattle.promises.proofs.CallWitness.{stepOpen}

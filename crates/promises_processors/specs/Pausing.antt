@@ -3,11 +3,11 @@ use mathlib.Core.Bool.{Bool, true, false, not}
 use mathlib.Core.List.{_++_}
 use mathlib.Core.Path.{_≡_}
 use Prim.Native.Nat.{ℕ, suc, _<_}
-use Rattle.memory.specs.Buffers.{Buffers}
-use Rattle.machine.specs.Psw.{transferring}
-use Rattle.machine.specs.States.{channelNumber}
-use Rattle.machine.specs.declared.State.{State}
-use Rattle.attention.specs.declared.Command.the-variants.{Suspend, Resume}
+use Rattle.ground_rules.specs.Buffers.{Buffers}
+use Rattle.ground_rules.specs.Psw.{transferring}
+use Rattle.ground_rules.specs.States.{channelNumber}
+use Rattle.ground_rules.specs.declared.State.{State}
+use Rattle.attention_rules.specs.declared.Command.the-variants.{Suspend, Resume}
 use Rattle.block_rules.specs.Premises.{from, into}
 use Rattle.block_rules.specs.Stages.{midway, Held, Going, Ended}
 use Rattle.block_rules.specs.Totals.{movedAfter}

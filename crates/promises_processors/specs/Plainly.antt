@@ -3,10 +3,10 @@ use mathlib.Core.Bool.{Bool}
 use mathlib.Core.Path.{_≡_}
 use Prim.Native.Nat.{ℕ, zero, suc, _+_, _<_, _≤_}
 use lib.Dec.{eqb}
-use Rattle.words.specs.Choice.{pick}
-use Rattle.machine.specs.Psw.{transferring}
-use Rattle.machine.specs.States.{channelOf, channelNumber}
-use Rattle.machine.specs.declared.State.{State}
+use Rattle.ground_rules.specs.Choice.{pick}
+use Rattle.ground_rules.specs.Psw.{transferring}
+use Rattle.ground_rules.specs.States.{channelOf, channelNumber}
+use Rattle.ground_rules.specs.declared.State.{State}
 use Rattle.processors.specs.Calls.{SweepAnswer, sweepAnswer, stepOn, sweepOn}
 use Rattle.processors.specs.Lifting.{Lifted, liftedTo}
 use Rattle.processors.specs.Processors.{Processors, Memories, processorNumber, processorOf}

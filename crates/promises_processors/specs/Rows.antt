@@ -3,11 +3,11 @@ use mathlib.Core.Bool.{Bool, true, not}
 use mathlib.Core.List.{List}
 use mathlib.Core.Path.{_≡_}
 use Prim.Native.Nat.{ℕ, suc, _<_}
-use Rattle.memory.specs.Buffers.{Buffers}
-use Rattle.memory.specs.declared.Pointer.{Pointer}
-use Rattle.machine.specs.Psw.{transferring}
-use Rattle.machine.specs.States.{channelNumber}
-use Rattle.machine.specs.declared.State.{State}
+use Rattle.ground_rules.specs.Buffers.{Buffers}
+use Rattle.ground_rules.specs.declared.Pointer.{Pointer}
+use Rattle.ground_rules.specs.Psw.{transferring}
+use Rattle.ground_rules.specs.States.{channelNumber}
+use Rattle.ground_rules.specs.declared.State.{State}
 use Rattle.block_rules.specs.Premises.{from, into, Lent}
 use Rattle.block_rules.specs.Rows.{Left, Untouched}
 use Rattle.block_rules.specs.Stages.{Going, Ended}

@@ -1,10 +1,10 @@
 -- Two processors with all three memories, what one of them sees of that, and what a call to one of them leaves.
 use mathlib.Core.Bool.{Bool}
 use Prim.Native.Nat.{ℕ}
-use Rattle.memory.specs.Buffers.{Buffers}
-use Rattle.machine.specs.States.{channelOf}
-use Rattle.machine.specs.declared.Channel.{Channel}
-use Rattle.machine.specs.declared.State.{State}
+use Rattle.ground_rules.specs.Buffers.{Buffers}
+use Rattle.ground_rules.specs.States.{channelOf}
+use Rattle.ground_rules.specs.declared.Channel.{Channel}
+use Rattle.ground_rules.specs.declared.State.{State}
 use Rattle.processors.specs.Calls.{attentionOn, stepOn}
 use Rattle.processors.specs.Lifting.{Called, Lifted, lifted}
 use Rattle.processors.specs.Processors.{Processors, Memories, processorNumber, processorOf, buffersOf}

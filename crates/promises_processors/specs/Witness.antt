@@ -3,10 +3,10 @@ use mathlib.Core.Bool.{true, false}
 use mathlib.Core.List.{List, [], _∷_}
 use mathlib.Core.Path.{_≡_}
 use Prim.Native.Nat.{ℕ}
-use Rattle.memory.specs.Values.{pointer}
-use Rattle.machine.specs.States.{idleChannel}
-use Rattle.machine.specs.declared.Channel.{Channel}
-use Rattle.machine.specs.declared.State.{State}
+use Rattle.ground_rules.specs.Values.{pointer}
+use Rattle.ground_rules.specs.States.{idleChannel}
+use Rattle.ground_rules.specs.declared.Channel.{Channel}
+use Rattle.ground_rules.specs.declared.State.{State}
 use Rattle.block_rules.specs.Stages.{Ended}
 use Rattle.promises.specs.Witness.{channelWith, bothWith}
 use Rattle.processors.specs.Processors.{processors, memories}

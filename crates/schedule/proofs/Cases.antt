@@ -4,19 +4,19 @@ use Prim.Native.Nat.{ℕ}
 use lib.ListN.{replicate}
 use mathlib.Core.{Bool.true, Bool.false, List.List, List.[], List._∷_, List._++_, Path._≡_, Path.refl}
 use native.Mathlib.Omega.{arith}
-use Rattle.words.specs.{Bits.fieldOf, Bits.bitOf, Bits.withBit, Compare.matchOf}
-use Rattle.memory.specs.Buffers.{buffers, spaceOf, limitOf, indexOf, lentAt, touchableAt, beyondIn, byteAt, storeByte, withinLimits}
-use Rattle.memory.specs.{Places.allPass, Values.pointer, Values.onward}
-use Rattle.machine.specs.States.{boardWith, channelOf, withChannel, withLast, soundChannel, sound, isRunning, channelNumber, fieldsAgree, agree}
-use Rattle.machine.specs.{Cc.split, Cc.sameFlag, Cc.sameFields, Outcomes.unless, Outcomes.first, Outcomes.givenNumber, Psw.withPsw, Stages.stagesNumber, Updates.withTransfer, declared.Channel.Channel, declared.Held.the-variants.NoByte, declared.Mode.the-variants.Running, declared.State.State}
-use Rattle.transfer.specs.{Ends.meetsTmc, Ends.codeIf, Ends.larger, Ends.offsetOf, Ends.endedTP, Ends.endedPSW, Ends.endedBy, Halves.wordWith, Halves.secondStored, Parts.fetchesApart, Parts.storesApart, Parts.fetchPart, Parts.storePart, Parts.partOf}
-use Rattle.transfer.specs.Reads.{fetched, fetchedSecond, entryOf, delivered, dataOf, also, readPlaces}
-use Rattle.transfer.specs.Sides.{source, destination, wordSide, secondAddress, gained, twoMove, storedSingly}
-use Rattle.transfer.specs.Steps.{badMode, transferOf, stepBy, numberBy, stagesBy, channelBy, memoryBy, touchedBy}
-use Rattle.transfer.specs.Stores.{movedChannel, movedMemory, firstMeets, matchMet, cutShort, storesTwo, bytesStored, bytesMoved, bytesCounted, countAfter, endCode, movedBy, putOn, placesOn, storedPlaces}
-use Rattle.attention.proofs.Numbers.{gives-12}
-use Rattle.step.specs.Choosing.{requested, external, endsNow, transferRank, rankOf, secondWins, ranked, choiceOf}
-use Rattle.step.specs.Step.{settledStep, transferStep, channelStep, chosenStep, entryNumber, stepOf}
+use Rattle.ground_rules.specs.{Bits.fieldOf, Bits.bitOf, Bits.withBit, Compare.matchOf}
+use Rattle.ground_rules.specs.Buffers.{buffers, spaceOf, limitOf, indexOf, lentAt, touchableAt, beyondIn, byteAt, storeByte, withinLimits}
+use Rattle.ground_rules.specs.{Places.allPass, Values.pointer, Values.onward}
+use Rattle.ground_rules.specs.States.{boardWith, channelOf, withChannel, withLast, soundChannel, sound, isRunning, channelNumber, fieldsAgree, agree}
+use Rattle.ground_rules.specs.{Cc.split, Cc.sameFlag, Cc.sameFields, Outcomes.unless, Outcomes.first, Outcomes.givenNumber, Psw.withPsw, Stages.stagesNumber, Updates.withTransfer, declared.Channel.Channel, declared.Held.the-variants.NoByte, declared.Mode.the-variants.Running, declared.State.State}
+use Rattle.transfer_rules.specs.{Ends.meetsTmc, Ends.codeIf, Ends.larger, Ends.offsetOf, Ends.endedTP, Ends.endedPSW, Ends.endedBy, Halves.wordWith, Halves.secondStored, Parts.fetchesApart, Parts.storesApart, Parts.fetchPart, Parts.storePart, Parts.partOf}
+use Rattle.transfer_rules.specs.Reads.{fetched, fetchedSecond, entryOf, delivered, dataOf, also, readPlaces}
+use Rattle.transfer_rules.specs.Sides.{source, destination, wordSide, secondAddress, gained, twoMove, storedSingly}
+use Rattle.transfer_rules.specs.Steps.{badMode, transferOf, stepBy, numberBy, stagesBy, channelBy, memoryBy, touchedBy}
+use Rattle.transfer_rules.specs.Stores.{movedChannel, movedMemory, firstMeets, matchMet, cutShort, storesTwo, bytesStored, bytesMoved, bytesCounted, countAfter, endCode, movedBy, putOn, placesOn, storedPlaces}
+use Rattle.attention_rules.proofs.Numbers.{gives-12}
+use Rattle.turn_rules.specs.Choosing.{requested, external, endsNow, transferRank, rankOf, secondWins, ranked, choiceOf}
+use Rattle.turn_rules.specs.Step.{settledStep, transferStep, channelStep, chosenStep, entryNumber, stepOf}
 use Rattle.schedule.specs.Counts.{overRows, acceptedAt, refusedAt, attendedAt, rejectedAt, doneAt, instructionAt, transferAt, storesBy, storedAt, endAt, waitsForDrq, waitAt}
 use Rattle.schedule.specs.{Reports.reportOf, Reports.scheduleOf, Rows.Bench, Rows.bench, Rows.allKnown, Rows.rowNumber, Rows.rowLeft}
 use Rattle.schedule.specs.declared.ScheduleRow.{ScheduleRow}

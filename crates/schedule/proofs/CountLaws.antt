@@ -5,15 +5,15 @@ use borrow.Author.Tests.{eqb-true, eqb-false, ne-eqb}
 use lib.Dec.{eqb}
 use mathlib.Core.{Bool.Bool, Bool.true, Bool.false, Bool.not, Bool._&&_, Bool._||_, Path._≡_, Path.refl, Path.sym, Path.ap, Path._∙_}
 use native.Mathlib.Omega.{arith}
-use Rattle.attention.proofs.{ConditionLaws.told-channel, Numbers.gives-12}
-use Rattle.attention.specs.Attention.{attentionOf}
-use Rattle.machine.specs.{States.isChannel, States.channelNumber, declared.State.State}
-use Rattle.memory.specs.Buffers.{Buffers}
-use Rattle.step.proofs.OutcomeLaws.{by-step}
-use Rattle.step.specs.{Step.Step, Step.stepOf, declared.Kind.Kind}
-use Rattle.step.specs.declared.Kind.the-variants.{Nothing, Instruction, Transfer, External}
-use Rattle.words.proofs.ChoiceLaws.{apart, and-false}
-use Rattle.words.specs.Choice.{pick}
+use Rattle.attention_rules.proofs.{ConditionLaws.told-channel, Numbers.gives-12}
+use Rattle.attention_rules.specs.Attention.{attentionOf}
+use Rattle.ground_rules.specs.{States.isChannel, States.channelNumber, declared.State.State}
+use Rattle.ground_rules.specs.Buffers.{Buffers}
+use Rattle.turn_rules.proofs.OutcomeLaws.{by-step}
+use Rattle.turn_rules.specs.{Step.Step, Step.stepOf, declared.Kind.Kind}
+use Rattle.turn_rules.specs.declared.Kind.the-variants.{Nothing, Instruction, Transfer, External}
+use Rattle.ground_rules.proofs.ChoiceLaws.{apart, and-false}
+use Rattle.ground_rules.specs.Choice.{pick}
 use Rattle.schedule.specs.Counts.{onceIf, acceptedAt, refusedAt, isAttentionTo, attendedAt, rejectedAt, isInstruction, isTransfer, isExternal, isDone, doneAt, instructionAt, transferAt, endAt}
 use Rattle.schedule.specs.{Rows.Bench, Rows.isAttention, Rows.isStep, Rows.rowNumber, declared.ScheduleRow.ScheduleRow}
 

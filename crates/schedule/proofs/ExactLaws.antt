@@ -5,18 +5,18 @@ use borrow.Author.Tests.{ltb-true, ltb-false}
 use lib.Dec.{ltb}
 use mathlib.Core.{Bool.Bool, Bool.true, Bool.false, Logic.⊎-elim, Logic._⊎_, Logic._↔_, Path._≡_, Path.refl, Path.sym, Path.ap, Path._∙_}
 use native.Mathlib.Omega.{arith}
-use Rattle.machine.proofs.ConditionLaws.{Says, says-true, says-false, says-eqb, says-running, says-and, says-or, says-not}
-use Rattle.machine.specs.{Psw.transferring, States.channelOf, States.isRunning, States.channelNumber, declared.Channel.Channel}
-use Rattle.machine.specs.declared.Mode.the-variants.{Running}
-use Rattle.step.proofs.ChoosingLaws.{rank-none, steps-chosen}
-use Rattle.step.specs.{Choosing.requested, Choosing.noRank, Choosing.transferRank, Choosing.rankOf, Step.stepOf, declared.Kind.Kind}
-use Rattle.step.specs.declared.Kind.the-variants.{Nothing, Instruction, Transfer, External}
-use Rattle.words.proofs.ChoiceLaws.{both-right, apart}
+use Rattle.ground_rules.proofs.ConditionLaws.{Says, says-true, says-false, says-eqb, says-running, says-and, says-or, says-not}
+use Rattle.ground_rules.specs.{Psw.transferring, States.channelOf, States.isRunning, States.channelNumber, declared.Channel.Channel}
+use Rattle.ground_rules.specs.declared.Mode.the-variants.{Running}
+use Rattle.turn_rules.proofs.ChoosingLaws.{rank-none, steps-chosen}
+use Rattle.turn_rules.specs.{Choosing.requested, Choosing.noRank, Choosing.transferRank, Choosing.rankOf, Step.stepOf, declared.Kind.Kind}
+use Rattle.turn_rules.specs.declared.Kind.the-variants.{Nothing, Instruction, Transfer, External}
+use Rattle.ground_rules.proofs.ChoiceLaws.{both-right, apart}
 use Rattle.schedule.specs.Conditions.{FoundWaiting, AttentionRow, StepRow}
 use Rattle.schedule.specs.Counts.{onceIf, isTransfer, isDone, doneAt, transferAt, waitsForDrq, waitAt, attendedAt, rejectedAt, isInstruction, isExternal, instructionAt, endAt}
 use Rattle.schedule.specs.{Rows.Bench, Rows.isStep, declared.ScheduleRow.ScheduleRow}
 use Rattle.schedule.proofs.StoreLaws.{transfer-chosen}
-use Rattle.attention.specs.Attention.{attentionOf}
+use Rattle.attention_rules.specs.Attention.{attentionOf}
 
 says-ltb : (a b : ℕ) → Says (ltb a b) (a < b)
 says-ltb a b = record { holds = λ e. ltb-true a b e; fails = λ e h. let l = ltb-false a b e in omega arith }

@@ -5,17 +5,17 @@ use lib.ListN.{length, getD}
 use mathlib.Core.{Bool.true, Bool._||_, Bool.Bool, Bool.false, Bool._&&_, Bool.and-assoc, List.List, List.[], List._∷_, List._++_}
 use mathlib.Core.Path.{_≡_, refl, ap₂, sym, ap, _∙_}
 use native.Mathlib.Omega.{arith}
-use Rattle.words.proofs.ChoiceLaws.{both-left, both-right}
+use Rattle.ground_rules.proofs.ChoiceLaws.{both-left, both-right}
 use Rattle.schedule.specs.Counts.{RowCount, overRows}
 use Rattle.schedule.specs.Rows.{Bench, isAttention, isStep, allKnown, rowLeft, rowsLeft, bench, rowNumber}
 use Rattle.schedule.specs.{declared.ScheduleRow.ScheduleRow, Conditions.UnknownIn}
-use Rattle.machine.proofs.ConditionLaws.{Told, told-true, told-eqb, told-and, told-or}
-use Rattle.machine.specs.Outcomes.{Outcome}
-use Rattle.attention.proofs.Outcomes.{refused-nothing}
-use Rattle.step.proofs.OutcomeLaws.{refused}
-use Rattle.step.specs.Step.{Step, stepOf}
-use Rattle.words.specs.Choice.{pick}
-use Rattle.attention.specs.Attention.{attentionOf}
+use Rattle.ground_rules.proofs.ConditionLaws.{Told, told-true, told-eqb, told-and, told-or}
+use Rattle.ground_rules.specs.Outcomes.{Outcome}
+use Rattle.attention_rules.proofs.Outcomes.{refused-nothing}
+use Rattle.turn_rules.proofs.OutcomeLaws.{refused}
+use Rattle.turn_rules.specs.Step.{Step, stepOf}
+use Rattle.ground_rules.specs.Choice.{pick}
+use Rattle.attention_rules.specs.Attention.{attentionOf}
 
 -- any count of rows cut into two is the sum of the two counts
 pub over-cut : (f : RowCount) (p : Bench) (a b : List ScheduleRow) → overRows f p (a ++ b) ≡ overRows f p a + overRows f (rowsLeft p a) b

@@ -6,11 +6,11 @@ use lib.{Dec.ltb, ListN.length, ListN.getD, ListN.replicate}
 use mathlib.Core.{Bool.Bool, Bool.true, Bool.false, Bool._&&_, List.List, List.[], List._∷_, List._++_, List.map, Logic._↔_}
 use mathlib.Core.Path.{_≡_, refl, sym, ap, ap₂, _∙_}
 use native.Mathlib.Omega.{arith}
-use Rattle.machine.proofs.ConditionLaws.{told-exactly}
-use Rattle.machine.specs.States.{channelOf}
-use Rattle.step.specs.Choosing.{requested}
-use Rattle.words.proofs.ChoiceLaws.{apart, both-left, both-right}
-use Rattle.words.specs.Choice.{pick}
+use Rattle.ground_rules.proofs.ConditionLaws.{told-exactly}
+use Rattle.ground_rules.specs.States.{channelOf}
+use Rattle.turn_rules.specs.Choosing.{requested}
+use Rattle.ground_rules.proofs.ChoiceLaws.{apart, both-left, both-right}
+use Rattle.ground_rules.specs.Choice.{pick}
 use Rattle.schedule.specs.Conditions.{UnknownIn}
 use Rattle.schedule.specs.Counts.{RowCount, onceIf, overRows, acceptedAt, refusedAt, isAttentionTo, attendedAt, rejectedAt, isInstruction, isTransfer, isExternal, doneAt, instructionAt, transferAt, storedAt, endAt, waitsForDrq, waitAt}
 use Rattle.schedule.specs.Reports.{channelCounts, allCounts, reportOf, bothReports, allRun, noneRun, scheduleOf}

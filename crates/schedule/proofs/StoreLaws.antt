@@ -4,16 +4,16 @@ use Prim.Native.Nat.{ℕ, _+_, _*_, _≤_}
 use lib.{Dec.eqb, ListN.length, ListN.length-append}
 use mathlib.Core.{Bool.Bool, Bool.true, Bool.false, Bool._&&_, List._++_, Path._≡_, Path.refl, Path.sym, Path.ap, Path._∙_}
 use native.Mathlib.Omega.{arith}
-use Rattle.machine.specs.{Outcomes.counted, Psw.transferring, States.channelOf, States.channelNumber, declared.Channel.Channel, declared.State.State}
-use Rattle.memory.specs.Buffers.{Buffers}
-use Rattle.step.proofs.OutcomeLaws.{by-step}
-use Rattle.step.specs.{Choosing.choiceOf, Step.Step, Step.entryNumber, Step.stepOf, Touched.touchedIn, Touched.touchedByStep, Touched.stepCount}
-use Rattle.step.specs.declared.turns.Choice.the-variants.{Steps}
-use Rattle.transfer.specs.Parts.{Part, Whole, FirstFetch, SecondFetch, FirstStore, SecondStore, partOf}
-use Rattle.transfer.specs.{Reads.dataOf, Reads.also, Sides.destination, Steps.touchedBy, Steps.readsBy, Steps.touchedByTransfer}
-use Rattle.transfer.specs.Stores.{storesTwo, placesOn, storedPlaces}
-use Rattle.words.proofs.ChoiceLaws.{apart, both-right, and-false}
-use Rattle.words.specs.Choice.{pick}
+use Rattle.ground_rules.specs.{Outcomes.counted, Psw.transferring, States.channelOf, States.channelNumber, declared.Channel.Channel, declared.State.State}
+use Rattle.ground_rules.specs.Buffers.{Buffers}
+use Rattle.turn_rules.proofs.OutcomeLaws.{by-step}
+use Rattle.turn_rules.specs.{Choosing.choiceOf, Step.Step, Step.entryNumber, Step.stepOf, Touched.touchedIn, Touched.touchedByStep, Touched.stepCount}
+use Rattle.turn_rules.specs.declared.Choice.the-variants.{Steps}
+use Rattle.transfer_rules.specs.Parts.{Part, Whole, FirstFetch, SecondFetch, FirstStore, SecondStore, partOf}
+use Rattle.transfer_rules.specs.{Reads.dataOf, Reads.also, Sides.destination, Steps.touchedBy, Steps.readsBy, Steps.touchedByTransfer}
+use Rattle.transfer_rules.specs.Stores.{storesTwo, placesOn, storedPlaces}
+use Rattle.ground_rules.proofs.ChoiceLaws.{apart, both-right, and-false}
+use Rattle.ground_rules.specs.Choice.{pick}
 use Rattle.schedule.proofs.CountLaws.{once-one}
 use Rattle.schedule.specs.Counts.{onceIf, isTransfer, isDone, doneAt, transferAt, storesBy, storedAt}
 use Rattle.schedule.specs.{Rows.Bench, Rows.isStep, declared.ScheduleRow.ScheduleRow}

@@ -2,14 +2,14 @@
 use mathlib.Core.{Bool.Bool, Bool.true, Bool.false, Bool.not, Bool._&&_, Bool._||_, List.List, List.[], List._∷_}
 use Prim.Native.Nat.{ℕ, _+_}
 use lib.{Dec.eqb, Dec.ltb, ListN.length}
-use Rattle.words.specs.Choice.{pick}
-use Rattle.memory.specs.{Buffers.Buffers, Places.Place}
-use Rattle.machine.specs.{Psw.transferring, States.channelOf, States.channelNumber, States.isRunning, declared.Channel.Channel}
-use Rattle.attention.specs.Attention.{attentionOf}
-use Rattle.transfer.specs.Halves.{firstPlace, secondPlace}
-use Rattle.transfer.specs.{Parts.Part, Parts.Whole, Parts.FirstFetch, Parts.SecondFetch, Parts.FirstStore, Parts.SecondStore, Parts.partOf, Reads.dataOf, Sides.destination, Stores.placesOn, Stores.storedPlaces}
-use Rattle.step.specs.{Choosing.requested, Step.Step, Step.stepOf, declared.Kind.Kind}
-use Rattle.step.specs.declared.Kind.the-variants.{Nothing, Instruction, Transfer, External}
+use Rattle.ground_rules.specs.Choice.{pick}
+use Rattle.ground_rules.specs.{Buffers.Buffers, Places.Place}
+use Rattle.ground_rules.specs.{Psw.transferring, States.channelOf, States.channelNumber, States.isRunning, declared.Channel.Channel}
+use Rattle.attention_rules.specs.Attention.{attentionOf}
+use Rattle.transfer_rules.specs.Halves.{firstPlace, secondPlace}
+use Rattle.transfer_rules.specs.{Parts.Part, Parts.Whole, Parts.FirstFetch, Parts.SecondFetch, Parts.FirstStore, Parts.SecondStore, Parts.partOf, Reads.dataOf, Sides.destination, Stores.placesOn, Stores.storedPlaces}
+use Rattle.turn_rules.specs.{Choosing.requested, Step.Step, Step.stepOf, declared.Kind.Kind}
+use Rattle.turn_rules.specs.declared.Kind.the-variants.{Nothing, Instruction, Transfer, External}
 use Rattle.schedule.specs.{Rows.Bench, Rows.isAttention, Rows.isStep, Rows.rowNumber, Rows.rowLeft, declared.ScheduleRow.ScheduleRow}
 
 -- what is counted of a row and the bench before it

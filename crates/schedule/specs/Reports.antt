@@ -2,7 +2,7 @@
 use mathlib.Core.{Bool.Bool, Bool.true, Bool.false, List.List, List.[], List._∷_, List._++_, List.map}
 use Prim.Native.Nat.{ℕ, _+_}
 use lib.ListN.{replicate}
-use Rattle.words.specs.Choice.{pick}
+use Rattle.ground_rules.specs.Choice.{pick}
 use Rattle.schedule.specs.Counts.{RowCount, overRows, acceptedAt, refusedAt, attendedAt, rejectedAt, instructionAt, transferAt, storedAt, endAt, waitAt}
 use Rattle.schedule.specs.{Rows.Bench, Rows.allKnown, Rows.rowsLeft, declared.ScheduleRow.ScheduleRow}
 

@@ -6,8 +6,8 @@ use lib.{Dec.ltb, ListN.length, ListN.getD, ListN.take, Seq.take-suc, Seq.take-l
 use mathlib.Core.{Bool.Bool, Bool.true, Bool.false, List.List, List.[], List._∷_, List._++_, List.map, Logic._⊎_, Logic.inl, Logic.inr}
 use mathlib.Core.Path.{_≡_, refl, sym, ap, ap₂, _∙_, subst}
 use native.Mathlib.{Decide.ℕ-discrete, Numerals.add-one, Omega.arith}
-use Rattle.words.{proofs.ChoiceLaws.apart, specs.Choice.pick}
-use Rattle.service.specs.Layout.{bytesOf, stateIn, isState}
+use Rattle.ground_rules.{proofs.ChoiceLaws.apart, specs.Choice.pick}
+use Rattle.state_rules.specs.Layout.{bytesOf, stateIn, isState}
 use Rattle.schedule.proofs.{RowLaws.known-at, RowLaws.left-cut, ScheduleLaws.MostTwo, ScheduleLaws.counts-two, ScheduleLaws.over-most, RowLaws.over-cut}
 use Rattle.schedule.specs.{Rows.Bench, Rows.allKnown, Rows.rowLeft, Rows.rowsLeft, declared.ScheduleRow.ScheduleRow}
 use Rattle.schedule.specs.Counts.{RowCount, overRows}

@@ -10,10 +10,10 @@ use contract.{Conj.conj, Conj.conjL, Conj.conjR, Lifetimes.Lfts, Monad.Fun, Mona
 use denote.{Ref.now, Triple.Clauses.AtExit, Triple.Entry.Args, Triple.Entry.Res}
 use ghost.Atoms.{Atoms}
 use prog.{Memory.Memory, Routine.Routine, Wp.Heap}
-use Rattle.memory.specs.Buffers.{Buffers, buffers}
-use Rattle.words.proofs.ChoiceLaws.{both-left, both-right}
-use Rattle.service.proofs.ForthLaws.{bytes-back}
-use Rattle.service.specs.{Conditions.Bytes, Layout.bytesOf, Layout.stateIn, Layout.isState}
+use Rattle.ground_rules.specs.Buffers.{Buffers, buffers}
+use Rattle.ground_rules.proofs.ChoiceLaws.{both-left, both-right}
+use Rattle.state_rules.proofs.ForthLaws.{bytes-back}
+use Rattle.state_rules.specs.{Conditions.Bytes, Layout.bytesOf, Layout.stateIn, Layout.isState}
 use Rattle.schedule.proofs.RowLaws.{known-cut, left-cut, refused-row}
 use Rattle.schedule.proofs.ScheduleLaws.{known-runs, rows-add-up, report-cut}
 use Rattle.schedule.specs.Reports.{Scheduled, reportOf, bothReports, putOver}

@@ -6,21 +6,21 @@ use lib.{Dec.eqb, Dec.ltb, Dec.lit<, ListN.length, ListN.getD, ListN.replicate}
 use mathlib.Core.{Bool.Bool, Bool.true, Bool.false, Bool.not, Bool._&&_, Bool._||_, List.List, List.[], List._∷_, List._++_}
 use mathlib.Core.Path.{_≡_, refl, sym, ap, ap₂, _∙_}
 use native.Mathlib.Omega.{arith}
-use Rattle.memory.specs.Buffers.{Buffers, buffers, spaceOf, indexOf, beyondIn, byteAt, AllBytes}
-use Rattle.machine.specs.{Outcomes.Outcome, Psw.transferring, States.channelOf, States.channelNumber, declared.Channel.Channel, declared.State.State}
-use Rattle.attention.proofs.Numbers.{attention-most}
-use Rattle.attention.specs.Attention.{attentionOf, attentionCount}
-use Rattle.transfer.proofs.CountLaws.{reads-most}
-use Rattle.transfer.specs.{Parts.partOf, Steps.readsBy}
-use Rattle.step.proofs.{NumberLaws.step-most, OutcomeLaws.by-step}
-use Rattle.step.specs.{Choosing.requested, Step.Step, Step.stepOf, Touched.stepCount, declared.Kind.Kind}
-use Rattle.step.specs.declared.Kind.the-variants.{Nothing, Instruction, Transfer, External}
-use Rattle.service.proofs.NumberLaws.{number-part, channel-part, kind-part, count-part}
+use Rattle.ground_rules.specs.Buffers.{Buffers, buffers, spaceOf, indexOf, beyondIn, byteAt, AllBytes}
+use Rattle.ground_rules.specs.{Outcomes.Outcome, Psw.transferring, States.channelOf, States.channelNumber, declared.Channel.Channel, declared.State.State}
+use Rattle.attention_rules.proofs.Numbers.{attention-most}
+use Rattle.attention_rules.specs.Attention.{attentionOf, attentionCount}
+use Rattle.transfer_rules.proofs.CountLaws.{reads-most}
+use Rattle.transfer_rules.specs.{Parts.partOf, Steps.readsBy}
+use Rattle.turn_rules.proofs.{NumberLaws.step-most, OutcomeLaws.by-step}
+use Rattle.turn_rules.specs.{Choosing.requested, Step.Step, Step.stepOf, Touched.stepCount, declared.Kind.Kind}
+use Rattle.turn_rules.specs.declared.Kind.the-variants.{Nothing, Instruction, Transfer, External}
+use Rattle.state_rules.proofs.NumberLaws.{number-part, channel-part, kind-part, count-part}
 use Rattle.service.proofs.OutcomeLaws.{attention-stays, step-stays}
-use Rattle.service.specs.Calls.{Service, served, kindNumber, answerFrom, attentionServed, stepLeft, stepServed}
-use Rattle.service.specs.{Conditions.Bytes, Layout.bytesOf, Layout.stateIn, Layout.isState}
-use Rattle.words.proofs.ChoiceLaws.{apart, both-left, both-right, and-true, and-false}
-use Rattle.words.specs.Choice.{pick}
+use Rattle.state_rules.specs.Calls.{Service, served, kindNumber, answerFrom, attentionServed, stepLeft, stepServed}
+use Rattle.state_rules.specs.{Conditions.Bytes, Layout.bytesOf, Layout.stateIn, Layout.isState}
+use Rattle.ground_rules.proofs.ChoiceLaws.{apart, both-left, both-right, and-true, and-false}
+use Rattle.ground_rules.specs.Choice.{pick}
 use Rattle.schedule.proofs.StoreLaws.{transfer-chosen, transfer-count, stores-most}
 use Rattle.schedule.specs.Counts.{onceIf, overRows, acceptedAt, refusedAt, attendedAt, rejectedAt, isInstruction, isTransfer, isExternal, isDone, doneAt, instructionAt, transferAt, storesBy, storedAt, endAt, waitsForDrq, waitAt}
 use Rattle.schedule.specs.{Reports.reportOf, Reports.noReport, Rows.Bench, Rows.bench, Rows.isAttention, Rows.isStep, Rows.rowNumber, Rows.rowLeft}

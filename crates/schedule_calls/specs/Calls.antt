@@ -1,8 +1,8 @@
 -- The call for C: a state's bytes, rows, both memories and the words of a report.
 use mathlib.Core.{Bool.true, List.List, Path._≡_}
 use Prim.Native.Nat.{ℕ}
-use Rattle.words.specs.Choice.{pick}
-use Rattle.service.specs.Layout.{bytesOf, stateIn, isState}
+use Rattle.ground_rules.specs.Choice.{pick}
+use Rattle.state_rules.specs.Layout.{bytesOf, stateIn, isState}
 use Rattle.schedule.specs.{Reports.noReport, Reports.Scheduled, Reports.scheduleOf, Reports.putOver, declared.ScheduleRow.ScheduleRow}
 use Rattle.schedule_calls.specs.Turns.{Standing, standing, benchIn}
 

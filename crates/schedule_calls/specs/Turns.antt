@@ -1,8 +1,8 @@
 -- What stands between two rows, and what one row makes of it.
 use mathlib.Core.{Bool.true, Bool._||_, List.List, List.[], List._∷_, Path._≡_}
 use Prim.Native.Nat.{ℕ}
-use Rattle.memory.specs.Buffers.{Buffers}
-use Rattle.service.specs.Layout.{bytesOf, stateIn, isState}
+use Rattle.ground_rules.specs.Buffers.{Buffers}
+use Rattle.state_rules.specs.Layout.{bytesOf, stateIn, isState}
 use Rattle.schedule.specs.{Reports.reportOf, Rows.Bench, Rows.bench, Rows.isAttention, Rows.isStep, Rows.rowLeft, declared.ScheduleRow.ScheduleRow}
 use Rattle.schedule_calls.specs.Words.{addedOn}
 

@@ -2,7 +2,7 @@
 use mathlib.Core.{Bool.Bool, List.List, List.[], List._∷_}
 use Prim.Native.Nat.{ℕ, _+_, _*_, _/_, _%_, _^_}
 use lib.{Dec.eqb, ListN.getD, ListN.set}
-use Rattle.words.specs.Choice.{pick}
+use Rattle.ground_rules.specs.Choice.{pick}
 use Rattle.schedule.specs.Counts.{onceIf}
 
 -- a number added to one word, where that is lent, as the code adds

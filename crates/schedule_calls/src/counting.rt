@@ -3,7 +3,7 @@ use crate::finding::Found;
 ghost use mathlib.Core.Path.{_≡_};
 ghost use Prim.Native.Nat.{_-_, _/_, _%_, _≤_};
 ghost use lib.{Dec.eqb, ListN.set};
-ghost use Rattle.words.specs.Choice.{pick};
+ghost use Rattle.ground_rules.specs.Choice.{pick};
 ghost use Rattle.schedule.specs.Reports.{noReport, putOver};
 ghost use Rattle.schedule_calls.specs.Words.{addedAt, addedAll, attentionAdds, stepAdds};
 

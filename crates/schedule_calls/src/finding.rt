@@ -1,12 +1,12 @@
 // What a row finds of a channel before its step: whether it waits, and what its next transfer step would read.
 use crate::counting;
-use machine::Channel;
+use ground_rules::Channel;
 ghost use mathlib.Core.{Bool.true, Bool._&&_, Path._≡_};
 ghost use lib.{Dec.ltb, ListN.length};
-ghost use Rattle.memory.specs.Buffers.{Buffers};
-ghost use Rattle.machine.specs.Psw.{transferring};
-ghost use Rattle.transfer.specs.{Parts.partOf, Steps.readsBy};
-ghost use Rattle.step.specs.Choosing.{requested};
+ghost use Rattle.ground_rules.specs.Buffers.{Buffers};
+ghost use Rattle.ground_rules.specs.Psw.{transferring};
+ghost use Rattle.transfer_rules.specs.{Parts.partOf, Steps.readsBy};
+ghost use Rattle.turn_rules.specs.Choosing.{requested};
 ghost use Rattle.schedule.specs.Counts.{waitsForDrq};
 
 // Whether a channel waits for its DRQ, and how many bytes its next transfer step reads.

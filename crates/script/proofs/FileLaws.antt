@@ -6,7 +6,7 @@ use mathlib.Core.Path.{_≡_, ap, _∙_}
 use Prim.Native.Nat.{ℕ, _+_, _≤_, _<_}
 use lib.Dec.{eqb}
 use lib.ListN.{length, drop, getD, drop-of-length-le}
-use Rattle.words.specs.Choice.{pick}
+use Rattle.ground_rules.specs.Choice.{pick}
 use Rattle.script_text.proofs.TextLaws.{from-here}
 use Rattle.script.specs.Lines.{closesFile, fileFrom}
 

@@ -8,7 +8,7 @@ ghost use mathlib.Core.Path.{_≡_};
 ghost use mathlib.Core.Bool.{false};
 ghost use Prim.Native.Nat.{_+_, _≤_, _<_, min};
 ghost use lib.ListN.{length, drop};
-ghost use Rattle.words.specs.Choice.{pick};
+ghost use Rattle.ground_rules.specs.Choice.{pick};
 ghost use Rattle.script_text.specs.Calls.{Limited};
 ghost use Rattle.script_text.specs.Text.{untilSame};
 ghost use Rattle.script.specs.Lent.{lentAfter};

@@ -7,7 +7,7 @@ use denote.Ref.{now}
 use denote.Triple.Clauses.{AtExit}
 use mathlib.Core.List.{List}
 use mathlib.Core.Path.{_≡_, sym, _∙_}
-use Rattle.memory.specs.Buffers.{Buffers, buffers}
+use Rattle.ground_rules.specs.Buffers.{Buffers, buffers}
 use Rattle.script_answers.specs.Machine.{machine}
 use Rattle.script_answers.specs.declared.Performed.{Performed}
 use Rattle.script_answers.proofs.perform.Kinds as perform-kinds

@@ -8,10 +8,10 @@ use native.Mathlib.Omega.{arith}
 use borrow.Author.Tests.{leb-true}
 use lib.Dec.{leb}
 use lib.ListN.{length, take, drop, length-append, length-take}
-use Rattle.words.specs.Choice.{pick}
-use Rattle.lister.specs.Items.{itemOf, countOf}
-use Rattle.lister.specs.Listings.{TextLine, linesBy, linesOf, allChars, listLimit, Listing, listing, listingOf}
-use Rattle.lister.proofs.Theorems.{Proper, Every, none, more, all-proper, all-fit}
+use Rattle.ground_rules.specs.Choice.{pick}
+use Rattle.listing_rules.specs.Items.{itemOf, countOf}
+use Rattle.listing_rules.specs.Listings.{TextLine, linesBy, linesOf, allChars, listLimit, Listing, listing, listingOf}
+use Rattle.listing_rules.proofs.Theorems.{Proper, Every, none, more, all-proper, all-fit}
 use Rattle.page.specs.Pages.{page, written, Behind}
 use Rattle.page.proofs.PageLaws.{printed}
 use Rattle.script_lines.specs.Lines.{refusedLine}

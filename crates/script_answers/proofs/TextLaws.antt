@@ -6,17 +6,17 @@ use mathlib.Core.Path.{_≡_, sym, subst}
 use Prim.Native.Nat.{ℕ, _≤_}
 use native.Mathlib.Omega.{arith}
 use lib.ListN.{length}
-use Rattle.words.specs.Choice.{pick}
-use Rattle.memory.specs.Buffers.{Buffers, buffers}
-use Rattle.machine.specs.declared.State.{State}
-use Rattle.machine.specs.States.{freshOf}
-use Rattle.attention.specs.Attention.{attentionOf, attentionCount}
-use Rattle.power.specs.Power.{powerUpOf, powerCount}
-use Rattle.step.specs.Step.{stepOf}
-use Rattle.step.specs.Touched.{stepCount}
+use Rattle.ground_rules.specs.Choice.{pick}
+use Rattle.ground_rules.specs.Buffers.{Buffers, buffers}
+use Rattle.ground_rules.specs.declared.State.{State}
+use Rattle.ground_rules.specs.States.{freshOf}
+use Rattle.attention_rules.specs.Attention.{attentionOf, attentionCount}
+use Rattle.attention_rules.specs.Power.{powerUpOf, powerCount}
+use Rattle.turn_rules.specs.Step.{stepOf}
+use Rattle.turn_rules.specs.Touched.{stepCount}
 use Rattle.sweep_rules.specs.Sweep.{sweepOf}
-use Rattle.notation.specs.Characters.{ascii}
-use Rattle.prom.specs.Load.{loadOf}
+use Rattle.listing_rules.specs.Characters.{ascii}
+use Rattle.prom_rules.specs.Load.{loadOf}
 use Rattle.page.specs.Pages.{page, Behind, Printed}
 use Rattle.page.proofs.PageLaws.{printed, nothing-behind}
 use Rattle.script_text.specs.declared.text.Call.{Call}

@@ -4,15 +4,15 @@ use mathlib.Core.List.{List, []}
 use Prim.Native.Nat.{ℕ, _+_}
 use lib.Dec.{leb}
 use lib.ListN.{length, replicate}
-use Rattle.words.specs.Choice.{pick}
-use Rattle.memory.specs.Buffers.{Buffers, buffers}
-use Rattle.machine.specs.declared.State.{State}
-use Rattle.machine.specs.States.{resetState, freshOf}
-use Rattle.attention.specs.Attention.{attentionOf}
-use Rattle.power.specs.Power.{powerUpOf}
-use Rattle.step.specs.Step.{stepOf}
+use Rattle.ground_rules.specs.Choice.{pick}
+use Rattle.ground_rules.specs.Buffers.{Buffers, buffers}
+use Rattle.ground_rules.specs.declared.State.{State}
+use Rattle.ground_rules.specs.States.{resetState, freshOf}
+use Rattle.attention_rules.specs.Attention.{attentionOf}
+use Rattle.attention_rules.specs.Power.{powerUpOf}
+use Rattle.turn_rules.specs.Step.{stepOf}
 use Rattle.sweep_rules.specs.Sweep.{sweepOf}
-use Rattle.prom.specs.Load.{loadOf}
+use Rattle.prom_rules.specs.Load.{loadOf}
 use Rattle.script_text.specs.declared.text.Call.{Call}
 use Rattle.script_text.specs.declared.text.Call.the-variants.{Nothing, Unknown, Make, Put, Set, Attention, Step, Dump, Show, Listing, Load, Reset, PowerUp, Sweep}
 use Rattle.script_text.specs.Text.{spanned, fourthSpan}

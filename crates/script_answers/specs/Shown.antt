@@ -3,18 +3,18 @@ use mathlib.Core.Bool.{Bool}
 use mathlib.Core.List.{List, []}
 use Prim.Native.Nat.{ℕ}
 use lib.ListN.{take, drop}
-use Rattle.words.specs.Choice.{pick}
-use Rattle.memory.specs.Buffers.{Buffers, buffers}
-use Rattle.machine.specs.declared.State.{State}
-use Rattle.machine.specs.States.{freshOf}
-use Rattle.attention.specs.Attention.{attentionOf, attentionCount}
-use Rattle.power.specs.Power.{powerUpOf, powerCount}
-use Rattle.step.specs.Step.{stepOf}
-use Rattle.step.specs.Touched.{stepCount}
+use Rattle.ground_rules.specs.Choice.{pick}
+use Rattle.ground_rules.specs.Buffers.{Buffers, buffers}
+use Rattle.ground_rules.specs.declared.State.{State}
+use Rattle.ground_rules.specs.States.{freshOf}
+use Rattle.attention_rules.specs.Attention.{attentionOf, attentionCount}
+use Rattle.attention_rules.specs.Power.{powerUpOf, powerCount}
+use Rattle.turn_rules.specs.Step.{stepOf}
+use Rattle.turn_rules.specs.Touched.{stepCount}
 use Rattle.sweep_rules.specs.Sweep.{sweepOf}
-use Rattle.lister.specs.Listings.{linesOf, allChars}
-use Rattle.notation.specs.Characters.{ascii}
-use Rattle.prom.specs.Load.{Loading, loadOf}
+use Rattle.listing_rules.specs.Listings.{linesOf, allChars}
+use Rattle.listing_rules.specs.Characters.{ascii}
+use Rattle.prom_rules.specs.Load.{Loading, loadOf}
 use Rattle.script_text.specs.declared.text.Call.{Call}
 use Rattle.script_text.specs.declared.text.Call.the-variants.{Nothing, Unknown, Make, Put, Set, Attention, Step, Dump, Show, Listing, Load, Reset, PowerUp, Sweep}
 use Rattle.script_lines.specs.Lines.{refusedLine, answerLine, countedLine, steppedLine, sweptLine, loadedLine, dumpText, shownLine}

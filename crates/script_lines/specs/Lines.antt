@@ -4,20 +4,20 @@ use mathlib.Core.List.{List, [], _∷_, _++_}
 use Prim.Native.Nat.{ℕ, zero, suc, _+_}
 use lib.Dec.{ltb}
 use lib.ListN.{length, getD}
-use Rattle.words.specs.Choice.{pick}
-use Rattle.memory.specs.Buffers.{Buffers}
-use Rattle.memory.specs.declared.Pointer.{Pointer}
-use Rattle.machine.specs.declared.Held.{Held}
-use Rattle.machine.specs.declared.Mode.{Mode}
-use Rattle.machine.specs.declared.Mode.the-variants.{Idle, Running, Suspended}
-use Rattle.machine.specs.declared.Board.{Board}
-use Rattle.machine.specs.declared.Channel.{Channel}
-use Rattle.machine.specs.declared.State.{State}
-use Rattle.machine.specs.Cc.{joined}
-use Rattle.machine.specs.Holdings.{heldNumber}
-use Rattle.machine.specs.States.{channelNumber}
-use Rattle.step.specs.declared.Kind.{Kind}
-use Rattle.notation.specs.Characters.{ascii}
+use Rattle.ground_rules.specs.Choice.{pick}
+use Rattle.ground_rules.specs.Buffers.{Buffers}
+use Rattle.ground_rules.specs.declared.Pointer.{Pointer}
+use Rattle.ground_rules.specs.declared.Held.{Held}
+use Rattle.ground_rules.specs.declared.Mode.{Mode}
+use Rattle.ground_rules.specs.declared.Mode.the-variants.{Idle, Running, Suspended}
+use Rattle.ground_rules.specs.declared.Board.{Board}
+use Rattle.ground_rules.specs.declared.Channel.{Channel}
+use Rattle.ground_rules.specs.declared.State.{State}
+use Rattle.ground_rules.specs.Cc.{joined}
+use Rattle.ground_rules.specs.Holdings.{heldNumber}
+use Rattle.ground_rules.specs.States.{channelNumber}
+use Rattle.turn_rules.specs.declared.Kind.{Kind}
+use Rattle.listing_rules.specs.Characters.{ascii}
 use Rattle.page.specs.Numbers.{hex, decimal, letter}
 use Rattle.script_text.specs.Buffers.{digestOf}
 

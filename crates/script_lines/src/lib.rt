@@ -1,14 +1,14 @@
 // The lines that the script program shows, put into a lent buffer behind the text that it has: answers of calls, bytes, and dumps.
-use machine::Board;
-use machine::Channel;
-use machine::Held;
-use machine::Mode;
-use machine::State;
-use memory::Pointer;
+use ground_rules::Board;
+use ground_rules::Channel;
+use ground_rules::Held;
+use ground_rules::Mode;
+use ground_rules::Pointer;
+use ground_rules::State;
 use script_text::buffers;
-use step::Kind;
+use turn_rules::Kind;
 ghost use mathlib.Core.Path.{_≡_};
-ghost use Rattle.memory.specs.Buffers.{buffers, lent};
+ghost use Rattle.ground_rules.specs.Buffers.{buffers, lent};
 ghost use Rattle.page.specs.Pages.{page, Behind};
 ghost use Rattle.script_lines.specs.Lines.{answerLine, countText, countedLine, steppedLine, sweptLine, loadedLine, registerText, markNumber, pointerText, pointersText, numbersText, numberOfMode, marksText, channelLine, bufferText, boardText, sharedLine, dumpText, byteText, bytesText, shownLine};
 

@@ -2,17 +2,17 @@
 use mathlib.Core.Bool.{Bool, true, false, _&&_, _||_}
 use Prim.Native.Nat.{ℕ, _%_}
 use lib.Dec.{ltb, eqb}
-use Rattle.words.specs.Choice.{pick}
-use Rattle.memory.specs.declared.Pointer.{Pointer}
-use Rattle.memory.specs.Values.{pointer}
-use Rattle.machine.specs.declared.Mode.{Mode}
-use Rattle.machine.specs.declared.Mode.the-variants.{Idle, Running, Suspended}
-use Rattle.machine.specs.declared.Board.{Board}
-use Rattle.machine.specs.declared.Channel.{Channel}
-use Rattle.machine.specs.declared.State.{State}
-use Rattle.machine.specs.Cc.{split}
-use Rattle.machine.specs.Holdings.{heldFrom, isHeldNumber}
-use Rattle.machine.specs.States.{boardWith, channelOf, withChannel, isSecond}
+use Rattle.ground_rules.specs.Choice.{pick}
+use Rattle.ground_rules.specs.declared.Pointer.{Pointer}
+use Rattle.ground_rules.specs.Values.{pointer}
+use Rattle.ground_rules.specs.declared.Mode.{Mode}
+use Rattle.ground_rules.specs.declared.Mode.the-variants.{Idle, Running, Suspended}
+use Rattle.ground_rules.specs.declared.Board.{Board}
+use Rattle.ground_rules.specs.declared.Channel.{Channel}
+use Rattle.ground_rules.specs.declared.State.{State}
+use Rattle.ground_rules.specs.Cc.{split}
+use Rattle.ground_rules.specs.Holdings.{heldFrom, isHeldNumber}
+use Rattle.ground_rules.specs.States.{boardWith, channelOf, withChannel, isSecond}
 use Rattle.script_text.specs.Names.{'ga, 'gb, 'gc, 'tp, 'pp, 'bc, 'ix, 'cc, 'fields, 'mc, 'psw, 'ga-t, 'gb-t, 'gc-t, 'tp-t, 'arm, 'mode, 'held, 'cp, 'last, 'up, 'sysbus, 'soc, 'grant}
 
 -- how many values, from 0 on, fit a channel's register other than `held`: 8 digits, 4, 2, a tag or mark, a mode; 0 where there is no such register

@@ -1,7 +1,7 @@
 // Buffers of bytes: cleared, written from hexadecimal digits, and digested.
 ghost use mathlib.Core.Path.{_≡_};
 ghost use lib.ListN.{length, replicate};
-ghost use Rattle.words.specs.Choice.{pick};
+ghost use Rattle.ground_rules.specs.Choice.{pick};
 ghost use Rattle.script_text.specs.Buffers.{byteOf, bytesWritten, hasRoom, digestByte, digestOf};
 
 // Makes every byte 0.

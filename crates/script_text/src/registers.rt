@@ -1,13 +1,13 @@
 // Registers by their names, set as they stand, also to what a sound state never has.
 use crate::names;
-use machine::Board;
-use machine::Channel;
-use machine::Mode;
-use machine::State;
-use memory::Pointer;
+use ground_rules::Board;
+use ground_rules::Channel;
+use ground_rules::Mode;
+use ground_rules::Pointer;
+use ground_rules::State;
 ghost use mathlib.Core.Path.{_≡_};
 ghost use mathlib.Core.Bool.{true, false};
-ghost use Rattle.memory.specs.Values.{pointer};
+ghost use Rattle.ground_rules.specs.Values.{pointer};
 ghost use Rattle.script_text.specs.Names.{'mode};
 ghost use Rattle.script_text.specs.Registers.{valuesOf, fitsOwn, isBoardMark, fitsShared, fitsRegister, modeNumbered, withRaw, boardMarked, withShared, withNamed};
 

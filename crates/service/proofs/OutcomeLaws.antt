@@ -10,39 +10,39 @@ use mathlib.Core.List.{List}
 use mathlib.Core.Path.{_≡_, refl, sym, ap, _∙_}
 use native.Mathlib.Decide.{ℕ-discrete}
 use native.Mathlib.Omega.{arith}
-use Rattle.words.specs.Choice.{pick}
-use Rattle.memory.specs.Buffers.{Buffers, buffers, AllBytes}
-use Rattle.machine.proofs.ConditionLaws.{first-none-left, first-none-right}
-use Rattle.machine.proofs.GivenLaws.{given-agree}
-use Rattle.machine.proofs.OutcomeLaws.{settled-number}
-use Rattle.machine.specs.Outcomes.{Outcome, settled}
-use Rattle.machine.specs.States.{agree, channelOf, withChannel, isSecond}
-use Rattle.machine.specs.Updates.{withTransfer}
-use Rattle.machine.specs.declared.State.{State}
-use Rattle.attention.proofs.Numbers.{attention-most}
-use Rattle.attention.proofs.Outcomes.{refused-nothing}
-use Rattle.attention.proofs.SoundLaws.{attention-agree}
-use Rattle.attention.specs.Attention.{givenTo, orderedChannel, orderedMemory, attentionNumber, attentionOf, attentionCount}
-use Rattle.power.proofs.Numbers.{power-most}
-use Rattle.power.proofs.Outcomes.{power-refused, power-accepted, found-agree}
-use Rattle.power.specs.Power.{powerUpOf, powerCount}
-use Rattle.step.proofs.NumberLaws.{step-most}
-use Rattle.step.proofs.OutcomeLaws.{by-step, refused}
-use Rattle.step.proofs.SoundLaws.{entry-agree, step-agree}
-use Rattle.step.specs.Step.{Step, stepOf}
-use Rattle.step.specs.Touched.{stepCount}
+use Rattle.ground_rules.specs.Choice.{pick}
+use Rattle.ground_rules.specs.Buffers.{Buffers, buffers, AllBytes}
+use Rattle.ground_rules.proofs.ConditionLaws.{first-none-left, first-none-right}
+use Rattle.ground_rules.proofs.GivenLaws.{given-agree}
+use Rattle.ground_rules.proofs.OutcomeLaws.{settled-number}
+use Rattle.ground_rules.specs.Outcomes.{Outcome, settled}
+use Rattle.ground_rules.specs.States.{agree, channelOf, withChannel, isSecond}
+use Rattle.ground_rules.specs.Updates.{withTransfer}
+use Rattle.ground_rules.specs.declared.State.{State}
+use Rattle.attention_rules.proofs.Numbers.{attention-most}
+use Rattle.attention_rules.proofs.Outcomes.{refused-nothing}
+use Rattle.attention_rules.proofs.SoundLaws.{attention-agree}
+use Rattle.attention_rules.specs.Attention.{givenTo, orderedChannel, orderedMemory, attentionNumber, attentionOf, attentionCount}
+use Rattle.attention_rules.proofs.PowerNumbers.{power-most}
+use Rattle.attention_rules.proofs.PowerOutcomes.{power-refused, power-accepted, found-agree}
+use Rattle.attention_rules.specs.Power.{powerUpOf, powerCount}
+use Rattle.turn_rules.proofs.NumberLaws.{step-most}
+use Rattle.turn_rules.proofs.OutcomeLaws.{by-step, refused}
+use Rattle.turn_rules.proofs.SoundLaws.{entry-agree, step-agree}
+use Rattle.turn_rules.specs.Step.{Step, stepOf}
+use Rattle.turn_rules.specs.Touched.{stepCount}
 use Rattle.block_rules.specs.Stages.{finished}
 use Rattle.sweep_rules.proofs.LeftLaws.{swept-agree, steps-most}
 use Rattle.sweep_rules.proofs.PassedLaws.{passed-given, accepted-sweep, refused-sweep, number-is, number-most}
 use Rattle.sweep_rules.specs.Sweep.{Sweep, doneSweep, sweepOf}
-use Rattle.service.specs.Calls.{Service, made, served, noState, answerFrom, kindNumber, powerServed, attentionServed, stepServed, sweepAnswerFrom, sweepLeft, sweepServed}
-use Rattle.service.specs.Conditions.{Bytes}
-use Rattle.service.specs.Layout.{bytesOf, stateIn, isState}
-use Rattle.service.proofs.BackLaws.{bytes-are}
-use Rattle.service.proofs.ForthLaws.{bytes-back}
-use Rattle.service.proofs.HeldLaws.{HeldFit, done-held, found-held, attention-held, step-held}
-use Rattle.service.proofs.NumberLaws.{number-part, sweep-number-part, sweep-steps-part, sweep-count-part}
-use Rattle.service.proofs.BlockLaws.{state-held, state-count}
+use Rattle.state_rules.specs.Calls.{Service, made, served, noState, answerFrom, kindNumber, powerServed, attentionServed, stepServed, sweepAnswerFrom, sweepLeft, sweepServed}
+use Rattle.state_rules.specs.Conditions.{Bytes}
+use Rattle.state_rules.specs.Layout.{bytesOf, stateIn, isState}
+use Rattle.state_rules.proofs.BackLaws.{bytes-are}
+use Rattle.state_rules.proofs.ForthLaws.{bytes-back}
+use Rattle.state_rules.proofs.HeldLaws.{HeldFit, done-held, found-held, attention-held, step-held}
+use Rattle.state_rules.proofs.NumberLaws.{number-part, sweep-number-part, sweep-steps-part, sweep-count-part}
+use Rattle.state_rules.proofs.BlockLaws.{state-held, state-count}
 use Rattle.service.proofs.iop89_fresh.Kinds as fresh-kinds
 use Rattle.service.proofs.iop89_fresh.Reads as fresh-reads
 use Rattle.service.proofs.iop89_reset.Kinds as reset-kinds

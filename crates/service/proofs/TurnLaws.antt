@@ -6,31 +6,31 @@ use mathlib.Core.Bool.{Bool, true}
 use mathlib.Core.List.{List}
 use mathlib.Core.Path.{_≡_, refl, sym, ap, _∙_}
 use native.Mathlib.Decide.{ℕ-discrete}
-use Rattle.memory.specs.Buffers.{Buffers}
-use Rattle.machine.proofs.OutcomeLaws.{refused-counts}
-use Rattle.machine.specs.Outcomes.{counted}
-use Rattle.machine.specs.States.{channelOf, blockOf, busyIn, channelNumber}
-use Rattle.machine.specs.declared.Channel.{Channel}
-use Rattle.machine.specs.declared.State.{State}
-use Rattle.transfer.specs.Ends.{externallyEnded}
-use Rattle.transfer.specs.Steps.{transferOf}
-use Rattle.transfer.specs.Steps as Steps
-use Rattle.execute.specs.Execute.{Executed, executeOf}
-use Rattle.step.proofs.StepLaws.{transfer-kept, execute-kept, counts-none}
-use Rattle.step.specs.Choosing.{choiceOf}
-use Rattle.step.specs.Step.{Step, refusedStep, settledStep, transferStep, instructionStep, externalStep, chosenStep, entryNumber, stepOf}
-use Rattle.step.specs.Touched.{touchedIn, touchedByStep, stepCount}
-use Rattle.step.specs.declared.Kind.{Kind}
-use Rattle.step.specs.declared.Kind.the-variants.{Instruction, Transfer, External}
-use Rattle.step.specs.declared.turns.Choice.{Choice}
-use Rattle.step.specs.declared.turns.Choice.the-variants.{Ends}
-use Rattle.service.specs.Calls.{served, answerFrom, kindNumber, stepLeft, stepServed}
-use Rattle.service.specs.Conditions.{Bytes}
-use Rattle.service.specs.Layout.{bytesOf, stateIn, isState}
+use Rattle.ground_rules.specs.Buffers.{Buffers}
+use Rattle.ground_rules.proofs.OutcomeLaws.{refused-counts}
+use Rattle.ground_rules.specs.Outcomes.{counted}
+use Rattle.ground_rules.specs.States.{channelOf, blockOf, busyIn, channelNumber}
+use Rattle.ground_rules.specs.declared.Channel.{Channel}
+use Rattle.ground_rules.specs.declared.State.{State}
+use Rattle.transfer_rules.specs.Ends.{externallyEnded}
+use Rattle.transfer_rules.specs.Steps.{transferOf}
+use Rattle.transfer_rules.specs.Steps as Steps
+use Rattle.instruction_rules.specs.Execute.{Executed, executeOf}
+use Rattle.turn_rules.proofs.StepLaws.{transfer-kept, execute-kept, counts-none}
+use Rattle.turn_rules.specs.Choosing.{choiceOf}
+use Rattle.turn_rules.specs.Step.{Step, refusedStep, settledStep, transferStep, instructionStep, externalStep, chosenStep, entryNumber, stepOf}
+use Rattle.turn_rules.specs.Touched.{touchedIn, touchedByStep, stepCount}
+use Rattle.turn_rules.specs.declared.Kind.{Kind}
+use Rattle.turn_rules.specs.declared.Kind.the-variants.{Instruction, Transfer, External}
+use Rattle.turn_rules.specs.declared.Choice.{Choice}
+use Rattle.turn_rules.specs.declared.Choice.the-variants.{Ends}
+use Rattle.state_rules.specs.Calls.{served, answerFrom, kindNumber, stepLeft, stepServed}
+use Rattle.state_rules.specs.Conditions.{Bytes}
+use Rattle.state_rules.specs.Layout.{bytesOf, stateIn, isState}
 use Rattle.service.specs.Turns.{turned}
 use Rattle.service.specs.declared.Turn.{Turn}
-use Rattle.service.proofs.ForthLaws.{bytes-back}
-use Rattle.service.proofs.BlockLaws.{done}
+use Rattle.state_rules.proofs.ForthLaws.{bytes-back}
+use Rattle.state_rules.proofs.BlockLaws.{done}
 
 -- ---- what a channel's step leaves
 

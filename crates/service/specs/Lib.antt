@@ -1,5 +1,1 @@
-pub mod Fields
-pub mod Layout
-pub mod Calls
-pub mod Conditions
 pub mod Turns

@@ -1,13 +1,13 @@
 // One part of a state: a byte, a word, a long number of four bytes, a truth value, a mode or a code of CC, read from bytes
 // that have it and put into them.
-use machine::Mode;
+use ground_rules::Mode;
 ghost use mathlib.Core.Path.{_≡_};
 ghost use mathlib.Core.List.{[], _∷_};
 ghost use Prim.Native.Nat.{_+_, _<_, _≤_};
 ghost use lib.ListN.{length, getD};
 ghost use lib.Seq.{sets};
-ghost use Rattle.service.specs.Fields as Fields;
-ghost use Rattle.service.specs.Fields.{littleEnd, littleIn, flagOf, flagIn, isFlag, modeIn, isMode, isCode};
+ghost use Rattle.state_rules.specs.Fields as Fields;
+ghost use Rattle.state_rules.specs.Fields.{littleEnd, littleIn, flagOf, flagIn, isFlag, modeIn, isMode, isCode};
 
 // The byte at an offset.
 pub(crate) fn byte(bytes: &[u8], at: usize) -> u8

@@ -1,21 +1,21 @@
 // A whole state in 104 bytes: pointers, fields of CC, channels, what the board set up and the state itself, read, tested
 // and put.
 use crate::fields;
-use machine::Board;
-use machine::Channel;
-use machine::Fields;
-use machine::State;
-use memory::Pointer;
+use ground_rules::Board;
+use ground_rules::Channel;
+use ground_rules::Fields;
+use ground_rules::Pointer;
+use ground_rules::State;
 ghost use mathlib.Core.Bool.{true};
 ghost use mathlib.Core.Path.{_≡_};
 ghost use Prim.Native.Nat.{_+_, _*_, _<_, _≤_};
 ghost use lib.ListN.{length, getD};
 ghost use lib.Seq.{sets};
-ghost use Rattle.machine.specs.Cc.{joined};
-ghost use Rattle.machine.specs.States as States;
-ghost use Rattle.machine.specs.States.{channelOf, withChannel, withLast, fieldsAgree};
-ghost use Rattle.service.specs.Conditions.{ChannelFits};
-ghost use Rattle.service.specs.Layout.{pointerBytes, pointersBytes, numbersBytes, marksBytes, sidesBytes, endsBytes, channelBytes, boardBytes, bytesOf, pointerIn, fieldsIn, channelIn, boardIn, stateIn, isFields, isBlock, isBoard, isState, stateLength, blockFrom};
+ghost use Rattle.ground_rules.specs.Cc.{joined};
+ghost use Rattle.ground_rules.specs.States as States;
+ghost use Rattle.ground_rules.specs.States.{channelOf, withChannel, withLast, fieldsAgree};
+ghost use Rattle.state_rules.specs.Conditions.{ChannelFits};
+ghost use Rattle.state_rules.specs.Layout.{pointerBytes, pointersBytes, numbersBytes, marksBytes, sidesBytes, endsBytes, channelBytes, boardBytes, bytesOf, pointerIn, fieldsIn, channelIn, boardIn, stateIn, isFields, isBlock, isBoard, isState, stateLength, blockFrom};
 
 // Where the block of channel 1 starts.
 const FIRST_AT: usize = 10;

@@ -1,27 +1,27 @@
 // The machine call by call for C: a state lives in the caller's bytes, and each call takes it from there and leaves it
 // there.
-use machine::Channel;
-use machine::State;
-use step::Kind;
-use step::turns::Choice;
+use ground_rules::Channel;
+use ground_rules::State;
+use turn_rules::Choice;
+use turn_rules::Kind;
 ghost use mathlib.Core.Bool.{true};
 ghost use mathlib.Core.Path.{_≡_};
 ghost use lib.ListN.{length};
-ghost use Rattle.memory.specs.Buffers.{Buffers, lent};
-ghost use Rattle.machine.specs.Outcomes.{counted};
-ghost use Rattle.machine.specs.States.{resetState, freshOf, channelOf};
-ghost use Rattle.attention.specs.Attention.{attentionOf};
-ghost use Rattle.power.specs.Power.{powerUpOf};
-ghost use Rattle.transfer.specs.Ends.{externallyEnded};
-ghost use Rattle.step.specs.Step.{channelStep, entryNumber, stepOf};
-ghost use Rattle.step.specs.Touched.{touchedIn};
-ghost use Rattle.step.specs.declared.Kind.the-variants.{External};
-ghost use Rattle.step.specs.declared.turns.Choice.the-variants.{Steps};
+ghost use Rattle.ground_rules.specs.Buffers.{Buffers, lent};
+ghost use Rattle.ground_rules.specs.Outcomes.{counted};
+ghost use Rattle.ground_rules.specs.States.{resetState, freshOf, channelOf};
+ghost use Rattle.attention_rules.specs.Attention.{attentionOf};
+ghost use Rattle.attention_rules.specs.Power.{powerUpOf};
+ghost use Rattle.transfer_rules.specs.Ends.{externallyEnded};
+ghost use Rattle.turn_rules.specs.Step.{channelStep, entryNumber, stepOf};
+ghost use Rattle.turn_rules.specs.Touched.{touchedIn};
+ghost use Rattle.turn_rules.specs.declared.Kind.the-variants.{External};
+ghost use Rattle.turn_rules.specs.declared.Choice.the-variants.{Steps};
 ghost use Rattle.sweep_rules.specs.Sweep.{sweepOf};
-ghost use Rattle.service.specs.Layout.{stateIn, isState, stateLength};
-ghost use Rattle.service.specs.Calls as Calls;
+ghost use Rattle.state_rules.specs.Layout.{stateIn, isState, stateLength};
+ghost use Rattle.state_rules.specs.Calls as Calls;
 ghost use Rattle.service.specs.Turns.{turned};
-ghost use Rattle.service.specs.Calls.{made, served, stepLeft, answerFrom, freshMade, resetMade, powerServed, attentionServed, stepServed, sweepAnswerFrom, sweepServed};
+ghost use Rattle.state_rules.specs.Calls.{made, served, stepLeft, answerFrom, freshMade, resetMade, powerServed, attentionServed, stepServed, sweepAnswerFrom, sweepServed};
 
 // One field of a state in bytes.
 mod fields;

@@ -5,8 +5,8 @@ use contract.Lifetimes.{Lfts}
 use denote.Ref.{now}
 use denote.Triple.Clauses.{AtExit}
 use mathlib.Core.Path.{_≡_, sym, _∙_}
-use Rattle.memory.specs.Buffers.{buffers}
-use Rattle.step.specs.Step.{left}
+use Rattle.ground_rules.specs.Buffers.{buffers}
+use Rattle.turn_rules.specs.Step.{left}
 use Rattle.step.proofs.turns.choose.Kinds as choose-kinds
 use Rattle.step.proofs.turns.choose.Reads as choose-reads
 use Rattle.step.proofs.step.Kinds as step-kinds

@@ -1,8 +1,1 @@
-pub mod ChoosingLaws
-pub mod StayLaws
-pub mod StepLaws
-pub mod OutcomeLaws
-pub mod NumberLaws
-pub mod TouchedLaws
-pub mod SoundLaws
 pub mod Determined

@@ -1,39 +1,23 @@
 // The step call: one instruction, one transfer step or one external end.
-use crate::turns::Choice;
-use machine::Channel;
-use machine::State;
+use ground_rules::Channel;
+use ground_rules::State;
+use turn_rules::Choice;
+use turn_rules::Kind;
+use turn_rules::Stepped;
 ghost use mathlib.Core.Path.{_≡_};
-ghost use Rattle.memory.specs.Buffers.{lent};
+ghost use Rattle.ground_rules.specs.Buffers.{lent};
 ghost use lib.Dec.{eqb};
-ghost use Rattle.words.specs.Choice.{pick};
-ghost use Rattle.machine.specs.Outcomes.{counted};
-ghost use Rattle.machine.specs.States.{channelOf, blockOf, busyIn};
-ghost use Rattle.execute.specs.Execute.{touchedByInstruction};
-ghost use Rattle.transfer.specs.Steps.{touchedByTransfer};
-ghost use Rattle.step.specs.declared.turns.Choice.the-variants.{Steps};
-ghost use Rattle.step.specs.Touched.{touchedIn, stepCount};
-ghost use Rattle.step.specs.Step.{left, refusedAs, doneAs, transferStep, instructionStep, channelStep, chosenStep, entryNumber, stepOf};
+ghost use Rattle.ground_rules.specs.Choice.{pick};
+ghost use Rattle.ground_rules.specs.Outcomes.{counted};
+ghost use Rattle.ground_rules.specs.States.{channelOf, blockOf, busyIn};
+ghost use Rattle.instruction_rules.specs.Execute.{touchedByInstruction};
+ghost use Rattle.transfer_rules.specs.Steps.{touchedByTransfer};
+ghost use Rattle.turn_rules.specs.declared.Choice.the-variants.{Steps};
+ghost use Rattle.turn_rules.specs.Touched.{touchedIn, stepCount};
+ghost use Rattle.turn_rules.specs.Step.{left, refusedAs, doneAs, transferStep, instructionStep, channelStep, chosenStep, entryNumber, stepOf};
 
 // Which channel steps.
 pub mod turns;
-
-// What a step was; nothing where it was refused.
-pub enum Kind {
-    Nothing,
-    Instruction,
-    Transfer,
-    External,
-}
-
-// What a step answers: its number, 0 for done, how many bytes it read and stored, the state, and the number of the
-// channel and the kind of its step.
-pub struct Stepped {
-    pub number: u32,
-    pub count: u32,
-    pub state: State,
-    pub channel: u32,
-    pub kind: Kind,
-}
 
 // A refused step: the state as it was.
 fn refused(s: State, number: u32) -> Stepped

@@ -1,16 +1,10 @@
 // Which channel steps: by its external end, by rank, by priority, or by turn.
-use machine::Channel;
-use machine::State;
+use ground_rules::Channel;
+use ground_rules::State;
+use turn_rules::Choice;
 ghost use mathlib.Core.Path.{_≡_};
-ghost use Rattle.step.specs.Choosing as Choosing;
-ghost use Rattle.step.specs.Choosing.{requested, endsNow, rankOf, secondWins, choiceOf};
-
-// Who steps: nobody, or the channel whose transfer an external line ends, or the one that has its turn; false is channel 1.
-pub enum Choice {
-    Nobody,
-    Ends(bool),
-    Steps(bool),
-}
+ghost use Rattle.turn_rules.specs.Choosing as Choosing;
+ghost use Rattle.turn_rules.specs.Choosing.{requested, endsNow, rankOf, secondWins, choiceOf};
 
 // Whether a channel's DRQ is up.
 fn request(lines: u32, second: bool) -> bool

@@ -5,7 +5,7 @@ use contract.Lifetimes.{Lfts}
 use denote.Ref.{now}
 use denote.Triple.Clauses.{AtExit}
 use mathlib.Core.Path.{_≡_, sym, _∙_}
-use Rattle.memory.specs.Buffers.{buffers}
+use Rattle.ground_rules.specs.Buffers.{buffers}
 use Rattle.sweep_rules.specs.Sweep.{sweptWith}
 use Rattle.sweep.proofs.sweep.Kinds as kinds
 use Rattle.sweep.proofs.sweep.Reads as reads

@@ -9,10 +9,10 @@ use mathlib.Core.List.{List, [], _∷_}
 use mathlib.Core.Path.{_≡_, refl, ap, subst, _∙_}
 use native.Mathlib.Nat.{not-suc-le-zero, le-of-suc-le-suc}
 use native.Mathlib.Omega.{arith}
-use Rattle.memory.specs.Buffers.{Buffers, buffers, spaceOf, limitOf, indexOf, beyondIn, byteAt, storeByte, withinLimits}
-use Rattle.memory.specs.Values.{pointer}
-use Rattle.memory.specs.declared.Pointer.{Pointer}
-use Rattle.machine.specs.Cc.{sameFlag}
+use Rattle.ground_rules.specs.Buffers.{Buffers, buffers, spaceOf, limitOf, indexOf, beyondIn, byteAt, storeByte, withinLimits}
+use Rattle.ground_rules.specs.Values.{pointer}
+use Rattle.ground_rules.specs.declared.Pointer.{Pointer}
+use Rattle.ground_rules.specs.Cc.{sameFlag}
 use Rattle.sweep_rules.proofs.PassedLaws.{length-most}
 use Rattle.sweep_rules.proofs.RangeLaws.{index-on}
 use Rattle.sweep_rules.specs.Copies.{copiedOn}

@@ -1,5 +1,5 @@
 -- What a channel's transfer has left, as the code carries it.
-use Rattle.machine.specs.declared.Channel.{Channel}
+use Rattle.ground_rules.specs.declared.Channel.{Channel}
 use Rattle.block_rules.specs.Premises.{from, into}
 use Rattle.sweep_rules.specs.Sweep.{bytesToGo}
 use Rattle.sweep.specs.declared.Remainder.{Remainder}

@@ -1,16 +1,16 @@
 // A sweep in one go: all bytes that a block transfer has left, moved by one call.
-use machine::Channel;
-use machine::Fields;
-use machine::Held;
-use machine::State;
-use memory::Pointer;
+use ground_rules::Channel;
+use ground_rules::Fields;
+use ground_rules::Held;
+use ground_rules::Pointer;
+use ground_rules::State;
 use sweep_rules::Swept;
 ghost use mathlib.Core.Bool.{true};
 ghost use mathlib.Core.Path.{_≡_};
 ghost use Prim.Native.Nat.{_+_, _≤_};
 ghost use lib.ListN.{length};
-ghost use Rattle.memory.specs.Buffers.{lent, withinLimits};
-ghost use Rattle.transfer.specs.Ends.{offsetOf};
+ghost use Rattle.ground_rules.specs.Buffers.{lent, withinLimits};
+ghost use Rattle.transfer_rules.specs.Ends.{offsetOf};
 ghost use Rattle.block_rules.specs.Stages as Stages;
 ghost use Rattle.block_rules.specs.Totals as Totals;
 ghost use Rattle.sweep_rules.specs.Copies.{copiedOn};

@@ -5,8 +5,8 @@ use contract.Lifetimes.{Lfts}
 use denote.Ref.{now}
 use denote.Triple.Clauses.{AtExit}
 use mathlib.Core.Path.{_≡_}
-use Rattle.memory.specs.Buffers.{lent}
-use Rattle.service.specs.Calls.{served, sweepServed}
+use Rattle.ground_rules.specs.Buffers.{lent}
+use Rattle.state_rules.specs.Calls.{served, sweepServed}
 use Rattle.sweep_call.proofs.iop89_sweep.Kinds as sweep-kinds
 use Rattle.sweep_call.proofs.iop89_sweep.Reads as sweep-reads
 

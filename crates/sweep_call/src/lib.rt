@@ -1,7 +1,7 @@
 // The sweep for C, in an object of its own: called in one place, its code is merged into the exported function.
 ghost use mathlib.Core.Path.{_≡_};
-ghost use Rattle.memory.specs.Buffers.{lent};
-ghost use Rattle.service.specs.Calls.{served, sweepServed};
+ghost use Rattle.ground_rules.specs.Buffers.{lent};
+ghost use Rattle.state_rules.specs.Calls.{served, sweepServed};
 
 // Moves all bytes that a channel's block transfer has left.
 #[no_mangle]

@@ -8,19 +8,19 @@ use mathlib.Core.Bool.{Bool, true, false, not, _&&_}
 use mathlib.Core.Logic.{_↔_}
 use mathlib.Core.Path.{_≡_, refl, sym}
 use native.Mathlib.Omega.{arith}
-use Rattle.words.proofs.ChoiceLaws.{apart}
-use Rattle.memory.specs.Buffers.{Buffers, spaceOf}
-use Rattle.memory.specs.declared.Pointer.{Pointer}
-use Rattle.machine.proofs.ConditionLaws.{Told, Says, step, last, told-and, told-or, told-ltb, told-eqb, says-true, says-false, says-eqb, says-running, says-not, says-and, says-or}
-use Rattle.machine.proofs.GivenLaws.{given-chain}
-use Rattle.machine.specs.Cc.{sameFlag}
-use Rattle.machine.specs.Conditions.{Given}
-use Rattle.machine.specs.Psw.{transferring}
-use Rattle.machine.specs.States.{channelOf, isChannel, isSecond}
-use Rattle.machine.specs.declared.Fields.{Fields}
-use Rattle.machine.specs.declared.State.{State}
+use Rattle.ground_rules.proofs.ChoiceLaws.{apart}
+use Rattle.ground_rules.specs.Buffers.{Buffers, spaceOf}
+use Rattle.ground_rules.specs.declared.Pointer.{Pointer}
+use Rattle.ground_rules.proofs.ConditionLaws.{Told, Says, step, last, told-and, told-or, told-ltb, told-eqb, says-true, says-false, says-eqb, says-running, says-not, says-and, says-or}
+use Rattle.ground_rules.proofs.GivenLaws.{given-chain}
+use Rattle.ground_rules.specs.Cc.{sameFlag}
+use Rattle.ground_rules.specs.Conditions.{Given}
+use Rattle.ground_rules.specs.Psw.{transferring}
+use Rattle.ground_rules.specs.States.{channelOf, isChannel, isSecond}
+use Rattle.ground_rules.specs.declared.Fields.{Fields}
+use Rattle.ground_rules.specs.declared.State.{State}
 use Rattle.block_rules.specs.Premises.{from, into}
-use Rattle.step.specs.Choosing.{external}
+use Rattle.turn_rules.specs.Choosing.{external}
 use Rattle.sweep_rules.specs.Conditions.{RangeLent, RangesApart, PlainFields, Sweepable, BadCall, sweepChecks}
 use Rattle.sweep_rules.specs.Ranges.{placeOf, rangeLent, rangesApart}
 use Rattle.sweep_rules.specs.Sweep.{bytesToGo, plainFields, plainTransfer, rangesFit, noneExternal, sweepable, sweepNumber}

@@ -9,23 +9,23 @@ use mathlib.Core.Path.{_≡_, refl, ap, _∙_}
 use native.Mathlib.Decide.{ℕ-discrete}
 use native.Mathlib.Nat.{mod-lt}
 use native.Mathlib.Omega.{arith}
-use Rattle.words.proofs.ChoiceLaws.{both-left, both-right}
-use Rattle.words.specs.Choice.{pick}
-use Rattle.memory.proofs.StoreLaws.{store-length, read-other}
-use Rattle.memory.specs.Buffers.{Buffers, byteAt}
-use Rattle.memory.specs.declared.Pointer.{Pointer}
-use Rattle.machine.proofs.ChannelLaws.{put-same, put-other, put-cp, last-channel, sound-channel-of}
-use Rattle.machine.proofs.FieldLaws.{agree-channel-of}
-use Rattle.machine.specs.States.{channelOf, withChannel, withLast, soundChannel, sound, fieldsAgree, agree, isSecond}
-use Rattle.machine.specs.Updates.{withTransfer}
-use Rattle.machine.specs.declared.Channel.{Channel}
-use Rattle.machine.specs.declared.State.{State}
+use Rattle.ground_rules.proofs.ChoiceLaws.{both-left, both-right}
+use Rattle.ground_rules.specs.Choice.{pick}
+use Rattle.ground_rules.proofs.StoreLaws.{store-length, read-other}
+use Rattle.ground_rules.specs.Buffers.{Buffers, byteAt}
+use Rattle.ground_rules.specs.declared.Pointer.{Pointer}
+use Rattle.ground_rules.proofs.ChannelLaws.{put-same, put-other, put-cp, last-channel, sound-channel-of}
+use Rattle.ground_rules.proofs.FieldLaws.{agree-channel-of}
+use Rattle.ground_rules.specs.States.{channelOf, withChannel, withLast, soundChannel, sound, fieldsAgree, agree, isSecond}
+use Rattle.ground_rules.specs.Updates.{withTransfer}
+use Rattle.ground_rules.specs.declared.Channel.{Channel}
+use Rattle.ground_rules.specs.declared.State.{State}
 use Rattle.block_rules.proofs.CountLaws.{total-most}
 use Rattle.block_rules.proofs.CopyLaws.{within-then}
 use Rattle.block_rules.specs.Premises.{into}
 use Rattle.block_rules.specs.Stages.{onBy, finished, Within}
-use Rattle.transfer.specs.Ends.{offsetOf}
-use Rattle.step.proofs.SoundLaws.{done-sound, done-agree, done-board}
+use Rattle.transfer_rules.specs.Ends.{offsetOf}
+use Rattle.turn_rules.proofs.SoundLaws.{done-sound, done-agree, done-board}
 use Rattle.sweep_rules.specs.Copies.{copiedOn}
 use Rattle.sweep_rules.specs.Sweep.{Sweep, bytesToGo, doneSweep, sweepNumber, sweepOf}
 use Rattle.sweep_rules.proofs.PassedLaws.{accepted-sweep, refused-sweep}

@@ -7,13 +7,13 @@ use lib.ListN.{length}
 use mathlib.Core.Bool.{Bool, true, false, _&&_}
 use mathlib.Core.Path.{_≡_, refl, sym, ap, _∙_}
 use native.Mathlib.Decide.{ℕ-discrete}
-use Rattle.words.proofs.ChoiceLaws.{both-left, both-right}
-use Rattle.memory.specs.Buffers.{Buffers, spaceOf, limitOf, withinLimits}
-use Rattle.machine.proofs.ConditionLaws.{says-yes, given-most, unless-none, first-none-left, first-none-right}
-use Rattle.machine.proofs.GivenLaws.{given-within}
-use Rattle.machine.specs.Outcomes.{first, unless, givenNumber}
-use Rattle.machine.specs.States.{channelOf, isChannel, isSecond}
-use Rattle.machine.specs.declared.State.{State}
+use Rattle.ground_rules.proofs.ChoiceLaws.{both-left, both-right}
+use Rattle.ground_rules.specs.Buffers.{Buffers, spaceOf, limitOf, withinLimits}
+use Rattle.ground_rules.proofs.ConditionLaws.{says-yes, given-most, unless-none, first-none-left, first-none-right}
+use Rattle.ground_rules.proofs.GivenLaws.{given-within}
+use Rattle.ground_rules.specs.Outcomes.{first, unless, givenNumber}
+use Rattle.ground_rules.specs.States.{channelOf, isChannel, isSecond}
+use Rattle.ground_rules.specs.declared.State.{State}
 use Rattle.block_rules.specs.Premises.{from, into}
 use Rattle.sweep_rules.specs.Conditions.{Sweepable, sweepChecks}
 use Rattle.sweep_rules.specs.Ranges.{rangeLent}

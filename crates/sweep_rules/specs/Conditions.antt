@@ -5,17 +5,17 @@ use mathlib.Core.Logic.{_⊎_}
 use mathlib.Core.Path.{_≡_}
 use Prim.Native.Nat.{ℕ, _+_, _%_, _≤_}
 use lib.ListN.{length}
-use Rattle.memory.specs.Buffers.{Buffers, spaceOf}
-use Rattle.memory.specs.declared.Pointer.{Pointer}
-use Rattle.machine.specs.Conditions.{Check, check, givenChecks}
-use Rattle.machine.specs.Psw.{transferring}
-use Rattle.machine.specs.States.{channelOf, isSecond}
-use Rattle.machine.specs.declared.Fields.{Fields}
-use Rattle.machine.specs.declared.Mode.the-variants.{Running}
-use Rattle.machine.specs.declared.State.{State}
+use Rattle.ground_rules.specs.Buffers.{Buffers, spaceOf}
+use Rattle.ground_rules.specs.declared.Pointer.{Pointer}
+use Rattle.ground_rules.specs.Conditions.{Check, check, givenChecks}
+use Rattle.ground_rules.specs.Psw.{transferring}
+use Rattle.ground_rules.specs.States.{channelOf, isSecond}
+use Rattle.ground_rules.specs.declared.Fields.{Fields}
+use Rattle.ground_rules.specs.declared.Mode.the-variants.{Running}
+use Rattle.ground_rules.specs.declared.State.{State}
 use Rattle.block_rules.specs.Premises.{from, into}
-use Rattle.step.specs.Choosing.{external}
-use Rattle.step.specs.Conditions.{LinesOver}
+use Rattle.turn_rules.specs.Choosing.{external}
+use Rattle.turn_rules.specs.Conditions.{LinesOver}
 use Rattle.sweep_rules.specs.Ranges.{placeOf}
 use Rattle.sweep_rules.specs.Sweep.{bytesToGo}
 

@@ -1,7 +1,7 @@
 -- A block of bytes put elsewhere, one byte after the other in ascending order.
 use Prim.Native.Nat.{ℕ, zero, suc, _+_}
-use Rattle.memory.specs.Buffers.{Buffers, byteAt, storeByte}
-use Rattle.memory.specs.declared.Pointer.{Pointer}
+use Rattle.ground_rules.specs.Buffers.{Buffers, byteAt, storeByte}
+use Rattle.ground_rules.specs.declared.Pointer.{Pointer}
 
 -- n bytes from one pointer on put where another points, each read when its turn comes
 unfoldable pub copiedOn : Buffers → Pointer → Pointer → ℕ → Buffers

@@ -2,13 +2,13 @@
 use mathlib.Core.Bool.{Bool}
 use Prim.Native.Nat.{ℕ, zero, suc, _+_}
 use lib.Dec.{eqb}
-use Rattle.words.specs.Choice.{pick}
-use Rattle.memory.specs.Buffers.{Buffers}
-use Rattle.machine.specs.Psw.{transferring}
-use Rattle.machine.specs.States.{channelOf}
-use Rattle.machine.specs.declared.State.{State}
-use Rattle.step.specs.Step.{stepOf}
-use Rattle.step.specs.Touched.{stepCount}
+use Rattle.ground_rules.specs.Choice.{pick}
+use Rattle.ground_rules.specs.Buffers.{Buffers}
+use Rattle.ground_rules.specs.Psw.{transferring}
+use Rattle.ground_rules.specs.States.{channelOf}
+use Rattle.ground_rules.specs.declared.State.{State}
+use Rattle.turn_rules.specs.Step.{stepOf}
+use Rattle.turn_rules.specs.Touched.{stepCount}
 use Rattle.sweep_rules.specs.Sweep.{Sweep, sweptTo}
 
 -- step calls with the same lines, one after the other, until the channel's XF is clear or one is refused, at most `left` of them: the number, what they

@@ -3,9 +3,9 @@ use mathlib.Core.Bool.{Bool, not, _||_}
 use Prim.Native.Nat.{ℕ, _+_}
 use lib.Dec.{leb}
 use lib.ListN.{length}
-use Rattle.memory.specs.Buffers.{Buffers, spaceOf, indexOf}
-use Rattle.memory.specs.declared.Pointer.{Pointer}
-use Rattle.machine.specs.Cc.{sameFlag}
+use Rattle.ground_rules.specs.Buffers.{Buffers, spaceOf, indexOf}
+use Rattle.ground_rules.specs.declared.Pointer.{Pointer}
+use Rattle.ground_rules.specs.Cc.{sameFlag}
 
 -- where the byte that a pointer points to lies in its space: in I/O space by the low 16 bits of the address
 abbrev pub placeOf : Pointer → ℕ

@@ -2,19 +2,19 @@
 use mathlib.Core.Bool.{Bool, true, false, not, _&&_}
 use Prim.Native.Nat.{ℕ, _*_, _%_}
 use lib.Dec.{eqb, ltb}
-use Rattle.words.specs.Choice.{pick}
-use Rattle.memory.specs.Buffers.{Buffers}
-use Rattle.machine.specs.Outcomes.{first, unless, givenNumber}
-use Rattle.machine.specs.Psw.{transferring}
-use Rattle.machine.specs.States.{channelOf, withChannel, withLast, isRunning, isChannel, isSecond}
-use Rattle.machine.specs.declared.Channel.{Channel}
-use Rattle.machine.specs.declared.Fields.{Fields}
-use Rattle.machine.specs.declared.State.{State}
-use Rattle.transfer.specs.Sides.{countOn}
+use Rattle.ground_rules.specs.Choice.{pick}
+use Rattle.ground_rules.specs.Buffers.{Buffers}
+use Rattle.ground_rules.specs.Outcomes.{first, unless, givenNumber}
+use Rattle.ground_rules.specs.Psw.{transferring}
+use Rattle.ground_rules.specs.States.{channelOf, withChannel, withLast, isRunning, isChannel, isSecond}
+use Rattle.ground_rules.specs.declared.Channel.{Channel}
+use Rattle.ground_rules.specs.declared.Fields.{Fields}
+use Rattle.ground_rules.specs.declared.State.{State}
+use Rattle.transfer_rules.specs.Sides.{countOn}
 use Rattle.block_rules.specs.Premises.{from, into}
 use Rattle.block_rules.specs.Stages.{finished}
 use Rattle.block_rules.specs.Totals.{total}
-use Rattle.step.specs.Choosing.{external}
+use Rattle.turn_rules.specs.Choosing.{external}
 use Rattle.sweep_rules.specs.Copies.{copiedOn}
 use Rattle.sweep_rules.specs.Ranges.{rangeLent, rangesApart}
 use Rattle.sweep_rules.specs.declared.Swept.{Swept}

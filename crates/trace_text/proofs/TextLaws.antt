@@ -9,16 +9,16 @@ use native.Mathlib.Omega.{arith}
 use borrow.Author.Tests.{eq-eqb, ne-eqb}
 use lib.Dec.{eqb, leb}
 use lib.ListN.{length, length-append}
-use Rattle.words.specs.Choice.{pick}
-use Rattle.memory.specs.Buffers.{Buffers}
-use Rattle.machine.specs.declared.State.{State}
-use Rattle.machine.specs.Outcomes.{Outcome}
-use Rattle.machine.specs.States.{freshOf}
-use Rattle.attention.specs.Attention.{attentionOf}
+use Rattle.ground_rules.specs.Choice.{pick}
+use Rattle.ground_rules.specs.Buffers.{Buffers}
+use Rattle.ground_rules.specs.declared.State.{State}
+use Rattle.ground_rules.specs.Outcomes.{Outcome}
+use Rattle.ground_rules.specs.States.{freshOf}
+use Rattle.attention_rules.specs.Attention.{attentionOf}
 use Rattle.page.specs.Numbers.{hex, decimal, letter}
 use Rattle.page.proofs.NumberLaws.{hex-short, decimal-short}
-use Rattle.step.specs.Step.{Step, stepOf}
-use Rattle.step.specs.declared.Kind.{Kind}
+use Rattle.turn_rules.specs.Step.{Step, stepOf}
+use Rattle.turn_rules.specs.declared.Kind.{Kind}
 use Rattle.trace_text.specs.Line.{lineOf, stepLine, endLine}
 use Rattle.trace_text.specs.Trace.{stepsText, attendedText, tracedMemory, traceOf}
 

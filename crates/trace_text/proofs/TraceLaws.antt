@@ -9,17 +9,17 @@ use native.Mathlib.Decide.{decLt}
 use borrow.Author.Tests.{ne-eqb, le-leb, lt-leb}
 use lib.Dec.{eqb, ltb, leb, lit≤}
 use lib.ListN.{length, drop}
-use Rattle.words.specs.Choice.{pick}
-use Rattle.memory.specs.Buffers.{Buffers, limitOf, withinLimits}
-use Rattle.machine.specs.declared.State.{State}
-use Rattle.machine.specs.Outcomes.{Outcome, first, unless}
-use Rattle.machine.specs.States.{isChannel, freshOf}
-use Rattle.attention.specs.Attention.{attentionOf}
-use Rattle.step.specs.Step.{Step, stepOf}
-use Rattle.step.specs.declared.Kind.{Kind}
-use Rattle.step.specs.declared.Kind.the-variants.{Nothing, Instruction, Transfer, External}
-use Rattle.panel.specs.Run.{Run, ran, stepsFrom, attendedRun, callNumber}
-use Rattle.panel.proofs.Outcomes.{attends}
+use Rattle.ground_rules.specs.Choice.{pick}
+use Rattle.ground_rules.specs.Buffers.{Buffers, limitOf, withinLimits}
+use Rattle.ground_rules.specs.declared.State.{State}
+use Rattle.ground_rules.specs.Outcomes.{Outcome, first, unless}
+use Rattle.ground_rules.specs.States.{isChannel, freshOf}
+use Rattle.attention_rules.specs.Attention.{attentionOf}
+use Rattle.turn_rules.specs.Step.{Step, stepOf}
+use Rattle.turn_rules.specs.declared.Kind.{Kind}
+use Rattle.turn_rules.specs.declared.Kind.the-variants.{Nothing, Instruction, Transfer, External}
+use Rattle.run_rules.specs.Run.{Run, ran, stepsFrom, attendedRun, callNumber}
+use Rattle.run_rules.proofs.Outcomes.{attends}
 use Rattle.page.specs.Numbers.{glyph, eightDigits, hex, tenDigits, unpadded, decimal, letter}
 use Rattle.trace_text.specs.Line.{lineOf, stepLine, endLine}
 use Rattle.trace_text.specs.Trace.{stepsText, attendedText, tracedMemory, traceOf, tracedRun, lineFeeds, Shows}

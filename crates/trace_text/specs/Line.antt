@@ -2,10 +2,10 @@
 use mathlib.Core.Bool.{false}
 use mathlib.Core.List.{List, [], _∷_, _++_}
 use Prim.Native.Nat.{ℕ}
-use Rattle.machine.specs.States.{channelOf, isSecond}
+use Rattle.ground_rules.specs.States.{channelOf, isSecond}
 use Rattle.page.specs.Numbers.{hex, decimal, letter}
-use Rattle.step.specs.Step.{Step}
-use Rattle.step.specs.declared.Kind.{Kind}
+use Rattle.turn_rules.specs.Step.{Step}
+use Rattle.turn_rules.specs.declared.Kind.{Kind}
 
 -- the line of a step: its number, the channel, the kind, TP as five hexadecimal digits in capitals, and a line feed
 unfoldable pub lineOf : ℕ → ℕ → Kind → ℕ → List ℕ

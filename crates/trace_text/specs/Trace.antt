@@ -4,14 +4,14 @@ use mathlib.Core.Path.{_≡_}
 use Prim.Native.Nat.{ℕ, zero, suc, _+_}
 use lib.Dec.{eqb, leb}
 use lib.ListN.{length, replicate}
-use Rattle.words.specs.Choice.{pick}
-use Rattle.memory.specs.Buffers.{Buffers, buffers}
-use Rattle.machine.specs.declared.State.{State}
-use Rattle.machine.specs.Outcomes.{Outcome}
-use Rattle.machine.specs.States.{freshOf}
-use Rattle.attention.specs.Attention.{attentionOf}
-use Rattle.step.specs.Step.{stepOf}
-use Rattle.panel.specs.Run.{Run, ran, runOf}
+use Rattle.ground_rules.specs.Choice.{pick}
+use Rattle.ground_rules.specs.Buffers.{Buffers, buffers}
+use Rattle.ground_rules.specs.declared.State.{State}
+use Rattle.ground_rules.specs.Outcomes.{Outcome}
+use Rattle.ground_rules.specs.States.{freshOf}
+use Rattle.attention_rules.specs.Attention.{attentionOf}
+use Rattle.turn_rules.specs.Step.{stepOf}
+use Rattle.run_rules.specs.Run.{Run, ran, runOf}
 use Rattle.trace_text.specs.Line.{stepLine, endLine}
 
 -- a line for each done step, until one is refused or none is left, and the last line; `left` steps may still be done, `done` were

@@ -1,12 +1,12 @@
 // The text of the trace program (§9): a line for each done step, and the last line.
-use machine::State;
-use step::Kind;
+use ground_rules::State;
+use turn_rules::Kind;
 ghost use mathlib.Core.Path.{_≡_};
-ghost use Rattle.memory.specs.Buffers.{lent};
-ghost use Rattle.machine.specs.States.{channelOf, isSecond};
-ghost use Rattle.attention.specs.Attention.{attentionOf};
+ghost use Rattle.ground_rules.specs.Buffers.{lent};
+ghost use Rattle.ground_rules.specs.States.{channelOf, isSecond};
+ghost use Rattle.attention_rules.specs.Attention.{attentionOf};
 ghost use Rattle.page.specs.Pages.{page, Behind, Printed};
-ghost use Rattle.panel.specs.Run.{ran, stepsFrom, attendedRun};
+ghost use Rattle.run_rules.specs.Run.{ran, stepsFrom, attendedRun};
 ghost use Rattle.trace_text.specs.Line.{lineOf, endLine};
 ghost use Rattle.trace_text.specs.Trace.{stepsText, attendedText, traceOf, tracedRun};
 

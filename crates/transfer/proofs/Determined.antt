@@ -6,8 +6,8 @@ use denote.Ref.{now}
 use denote.Triple.Clauses.{AtExit}
 use mathlib.Core.Path.{_≡_, sym, _∙_}
 use mathlib.Core.List.{[]}
-use Rattle.memory.specs.Buffers.{buffers}
-use Rattle.transfer.specs.Steps.{transferred}
+use Rattle.ground_rules.specs.Buffers.{buffers}
+use Rattle.transfer_rules.specs.Steps.{transferred}
 use Rattle.transfer.proofs.transfer.Kinds as transfer-kinds
 use Rattle.transfer.proofs.transfer.Reads as transfer-reads
 use Rattle.transfer.proofs.whole.Kinds as whole-kinds

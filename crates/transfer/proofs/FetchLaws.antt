@@ -3,20 +3,20 @@
 use Prim.Native.Nat.{ℕ}
 use mathlib.Core.Bool.{Bool, true, false, not}
 use mathlib.Core.Path.{_≡_, refl, sym}
-use Rattle.machine.specs.declared.Channel.{Channel}
-use Rattle.memory.specs.Buffers.{Buffers, touchableAt, byteAt}
-use Rattle.memory.specs.Places.{allTouchable}
-use Rattle.words.proofs.ChoiceLaws.{apart}
-use Rattle.words.specs.Choice.{pick}
-use Rattle.words.specs.Sums.{sum20}
+use Rattle.ground_rules.specs.declared.Channel.{Channel}
+use Rattle.ground_rules.specs.Buffers.{Buffers, touchableAt, byteAt}
+use Rattle.ground_rules.specs.Places.{allTouchable}
+use Rattle.ground_rules.proofs.ChoiceLaws.{apart}
+use Rattle.ground_rules.specs.Choice.{pick}
+use Rattle.ground_rules.specs.Sums.{sum20}
 use Rattle.transfer.specs.Fetches.{beyond, here, fetchOf}
-use Rattle.transfer.specs.Reads.{fetched, fetchedSecond, entryOf, delivered, dataOf, readPlaces}
-use Rattle.transfer.specs.Sides.{source, secondAddress}
+use Rattle.transfer_rules.specs.Reads.{fetched, fetchedSecond, entryOf, delivered, dataOf, readPlaces}
+use Rattle.transfer_rules.specs.Sides.{source, secondAddress}
 use Rattle.transfer.specs.Setups.{setupOf}
-use Rattle.transfer.specs.Steps.{badMode}
+use Rattle.transfer_rules.specs.Steps.{badMode}
 use Rattle.transfer.specs.declared.Setup.{Setup}
-use Rattle.transfer.proofs.TouchLaws.{reads-touchable}
-use Rattle.transfer.proofs.StepLaws.{two-plain}
+use Rattle.transfer_rules.proofs.TouchLaws.{reads-touchable}
+use Rattle.transfer_rules.proofs.StepLaws.{two-plain}
 
 -- whether what is read may be touched, and what it is where it may
 pub fetch-touchable : (c : Channel) (m : Buffers) → (fetchOf c m) .touchable ≡ allTouchable m (readPlaces c m)

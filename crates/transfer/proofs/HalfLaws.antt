@@ -5,24 +5,24 @@ use lib.Dec.{eqb, eqb·suc-zero}
 use lib.ListN.{length}
 use mathlib.Core.Bool.{Bool, true, false, not, _&&_}
 use mathlib.Core.Path.{_≡_, refl, sym, ap, ap₂, _∙_}
-use Rattle.machine.specs.Updates.{holding}
-use Rattle.machine.specs.declared.Channel.{Channel}
-use Rattle.machine.specs.declared.Held.the-variants.{Byte}
-use Rattle.memory.specs.Buffers.{Buffers, touchableAt, byteAt, storeByte}
-use Rattle.memory.specs.Places.{allPass, allTouchable}
-use Rattle.words.proofs.ChoiceLaws.{apart, and-true}
-use Rattle.words.specs.Choice.{pick}
-use Rattle.transfer.specs.Halves.{wordWith, secondCode, secondStored}
+use Rattle.ground_rules.specs.Updates.{holding}
+use Rattle.ground_rules.specs.declared.Channel.{Channel}
+use Rattle.ground_rules.specs.declared.Held.the-variants.{Byte}
+use Rattle.ground_rules.specs.Buffers.{Buffers, touchableAt, byteAt, storeByte}
+use Rattle.ground_rules.specs.Places.{allPass, allTouchable}
+use Rattle.ground_rules.proofs.ChoiceLaws.{apart, and-true}
+use Rattle.ground_rules.specs.Choice.{pick}
+use Rattle.transfer_rules.specs.Halves.{wordWith, secondCode, secondStored}
 use Rattle.transfer.specs.Moves.{movedBeyond, movedHolding, movedOn, landed, leftByMove, wholeStep, halfStep, landedBy}
-use Rattle.transfer.specs.Parts.{Part, Whole, FirstFetch, SecondFetch, FirstStore, SecondStore, fetchesApart, storesApart, isHalf}
-use Rattle.transfer.specs.Reads.{fetched, fetchedSecond, dataOf, readPlaces}
-use Rattle.transfer.specs.Sides.{source, destination, secondAddress, twoMove}
-use Rattle.transfer.specs.Steps.{transferred, touchedBy, channelBy, memoryBy, badMode, stepBy, countBy, transferOf}
-use Rattle.transfer.specs.Stores.{firstMeets, storesTwo, bytesStored, bytesMoved, bytesCounted, countAfter, endCode, movedChannel, putOn, movedMemory, placesOn}
-use Rattle.transfer.specs.declared.Data.{Data}
-use Rattle.transfer.proofs.PartLaws.{fetches-two, word-stored, stores-two, singly-stored, not-half}
-use Rattle.transfer.proofs.StepLaws.{outcome-2, outcome-0, counts-2, counts-0, two-plain}
-use Rattle.transfer.proofs.TouchLaws.{reads-touchable, places-touchable}
+use Rattle.transfer_rules.specs.Parts.{Part, Whole, FirstFetch, SecondFetch, FirstStore, SecondStore, fetchesApart, storesApart, isHalf}
+use Rattle.transfer_rules.specs.Reads.{fetched, fetchedSecond, dataOf, readPlaces}
+use Rattle.transfer_rules.specs.Sides.{source, destination, secondAddress, twoMove}
+use Rattle.transfer_rules.specs.Steps.{transferred, touchedBy, channelBy, memoryBy, badMode, stepBy, countBy, transferOf}
+use Rattle.transfer_rules.specs.Stores.{firstMeets, storesTwo, bytesStored, bytesMoved, bytesCounted, countAfter, endCode, movedChannel, putOn, movedMemory, placesOn}
+use Rattle.transfer_rules.specs.declared.Data.{Data}
+use Rattle.transfer_rules.proofs.PartLaws.{fetches-two, word-stored, stores-two, singly-stored, not-half}
+use Rattle.transfer_rules.proofs.StepLaws.{outcome-2, outcome-0, counts-2, counts-0, two-plain}
+use Rattle.transfer_rules.proofs.TouchLaws.{reads-touchable, places-touchable}
 
 -- ---- a half of any kind
 

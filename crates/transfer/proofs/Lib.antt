@@ -1,11 +1,3 @@
-pub mod TouchLaws
-pub mod PartLaws
 pub mod FetchLaws
-pub mod MatchLaws
-pub mod LeftoverLaws
-pub mod StepLaws
-pub mod CountLaws
-pub mod KeptLaws
 pub mod HalfLaws
-pub mod BlockLaws
 pub mod Determined

@@ -1,13 +1,13 @@
 -- What reading for a transfer step comes to: the bytes to be stored, or nothing where one that is read may not be touched.
 use mathlib.Core.Bool.{Bool, true, false}
 use Prim.Native.Nat.{ℕ}
-use Rattle.words.specs.Choice.{pick}
-use Rattle.memory.specs.Buffers.{Buffers, touchableAt, byteAt}
-use Rattle.memory.specs.Places.{allTouchable}
-use Rattle.machine.specs.declared.Channel.{Channel}
+use Rattle.ground_rules.specs.Choice.{pick}
+use Rattle.ground_rules.specs.Buffers.{Buffers, touchableAt, byteAt}
+use Rattle.ground_rules.specs.Places.{allTouchable}
+use Rattle.ground_rules.specs.declared.Channel.{Channel}
 use Rattle.transfer.specs.declared.reads.Fetched.{Fetched}
 use Rattle.transfer.specs.declared.reads.Seen.{Seen}
-use Rattle.transfer.specs.Reads.{delivered, fetchedSecond, readPlaces}
+use Rattle.transfer_rules.specs.Reads.{delivered, fetchedSecond, readPlaces}
 
 -- a byte, and whether a call may touch it
 abbrev pub seen : Buffers → Bool → ℕ → Seen

@@ -1,10 +1,3 @@
-pub mod Sides
 pub mod Setups
-pub mod Parts
-pub mod Reads
 pub mod Fetches
-pub mod Ends
-pub mod Stores
-pub mod Halves
-pub mod Steps
 pub mod Moves

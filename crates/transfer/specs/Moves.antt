@@ -1,18 +1,18 @@
 -- What the parts of the code promise one another: what a half of a pair comes to before its channel is written, the channel that is then written, whole steps and halves by themselves.
 use Prim.Native.Nat.{ℕ}
 use lib.Dec.{eqb}
-use Rattle.words.specs.Choice.{pick}
-use Rattle.words.specs.Sums.{countDown}
-use Rattle.memory.specs.Buffers.{Buffers}
-use Rattle.machine.specs.declared.Channel.{Channel}
-use Rattle.machine.specs.declared.Held.the-variants.{Byte}
-use Rattle.machine.specs.Updates.{holding}
+use Rattle.ground_rules.specs.Choice.{pick}
+use Rattle.ground_rules.specs.Sums.{countDown}
+use Rattle.ground_rules.specs.Buffers.{Buffers}
+use Rattle.ground_rules.specs.declared.Channel.{Channel}
+use Rattle.ground_rules.specs.declared.Held.the-variants.{Byte}
+use Rattle.ground_rules.specs.Updates.{holding}
 use Rattle.transfer.specs.declared.Moved.{Moved}
-use Rattle.transfer.specs.Stores.{movedBy}
-use Rattle.transfer.specs.Steps.{Transfer, transferred, stepBy, countBy, transferOf, transferCount}
-use Rattle.transfer.specs.Ends.{endedBy}
-use Rattle.transfer.specs.Reads.{bytesFetched}
-use Rattle.transfer.specs.Parts.{Whole, isHalf}
+use Rattle.transfer_rules.specs.Stores.{movedBy}
+use Rattle.transfer_rules.specs.Steps.{Transfer, transferred, stepBy, countBy, transferOf, transferCount}
+use Rattle.transfer_rules.specs.Ends.{endedBy}
+use Rattle.transfer_rules.specs.Reads.{bytesFetched}
+use Rattle.transfer_rules.specs.Parts.{Whole, isHalf}
 
 -- a byte may not be touched
 abbrev pub movedBeyond : Moved

@@ -1,7 +1,7 @@
 -- What a channel says of its transfer before a byte is read, as the code works it out once.
-use Rattle.machine.specs.declared.Channel.{Channel}
+use Rattle.ground_rules.specs.declared.Channel.{Channel}
 use Rattle.transfer.specs.declared.Setup.{Setup}
-use Rattle.transfer.specs.Sides.{source, destination, twoMove, storedSingly}
+use Rattle.transfer_rules.specs.Sides.{source, destination, twoMove, storedSingly}
 
 -- what a channel says of its transfer before a byte is read
 unfoldable pub setupOf : Channel → Setup

@@ -1,8 +1,8 @@
 // How a transfer ends: the masked compare, the codes of the ends, and what an end does to TP and XF.
-use machine::Channel;
+use ground_rules::Channel;
 ghost use mathlib.Core.Path.{_≡_};
-ghost use Rattle.transfer.specs.Ends as Ends;
-ghost use Rattle.transfer.specs.Ends.{codeIf, offsetOf, endedBy};
+ghost use Rattle.transfer_rules.specs.Ends as Ends;
+ghost use Rattle.transfer_rules.specs.Ends.{codeIf, offsetOf, endedBy};
 
 // Whether a byte meets TMC.
 pub(crate) fn meets(tmc: u32, mc: u16, byte: u8) -> bool

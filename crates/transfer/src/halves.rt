@@ -1,21 +1,21 @@
 // The halves of a pair of transfer steps: two fetches with one store of a word, or one fetch of a word with two stores.
-use crate::Data;
 use crate::Moved;
 use crate::Setup;
 use crate::moves;
 use crate::reads;
 use crate::sides;
 use crate::stores;
-use machine::Channel;
-use machine::Held;
+use ground_rules::Channel;
+use ground_rules::Held;
+use transfer_rules::Data;
 ghost use mathlib.Core.Bool.{true, false};
 ghost use mathlib.Core.Path.{_≡_};
-ghost use Rattle.memory.specs.Buffers.{lent};
+ghost use Rattle.ground_rules.specs.Buffers.{lent};
 ghost use Rattle.transfer.specs.Setups.{setupOf};
-ghost use Rattle.transfer.specs.Parts.{fetchesApart, storesApart, isHalf, FirstFetch, SecondFetch, FirstStore, SecondStore};
+ghost use Rattle.transfer_rules.specs.Parts.{fetchesApart, storesApart, isHalf, FirstFetch, SecondFetch, FirstStore, SecondStore};
 ghost use Rattle.transfer.specs.Moves as Moves;
 ghost use Rattle.transfer.specs.Moves.{leftByMove};
-ghost use Rattle.transfer.specs.Steps.{badMode, stepBy, countBy, transferOf, transferCount};
+ghost use Rattle.transfer_rules.specs.Steps.{badMode, stepBy, countBy, transferOf, transferCount};
 
 // Whether the next step is one half of a pair; without synchronisation none is.
 pub(crate) fn apart(c: Channel, p: Setup) -> bool

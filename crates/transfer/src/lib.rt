@@ -1,14 +1,14 @@
 // One transfer step of a channel, and the external end of a transfer.
-use machine::Channel;
-use machine::Held;
-use memory::Pointer;
+use ground_rules::Channel;
+use ground_rules::Held;
+use transfer_rules::Side;
 ghost use mathlib.Core.Path.{_≡_};
 ghost use lib.ListN.{length};
-ghost use Rattle.memory.specs.Buffers.{Buffers, lent};
+ghost use Rattle.ground_rules.specs.Buffers.{Buffers, lent};
 ghost use Rattle.transfer.specs.Setups.{setupOf};
-ghost use Rattle.transfer.specs.Ends.{externallyEnded};
-ghost use Rattle.transfer.specs.Parts.{isHalf, partOf};
-ghost use Rattle.transfer.specs.Steps.{readsBy, accesses, badMode, transferred, transferOf, transferCount};
+ghost use Rattle.transfer_rules.specs.Ends.{externallyEnded};
+ghost use Rattle.transfer_rules.specs.Parts.{isHalf, partOf};
+ghost use Rattle.transfer_rules.specs.Steps.{readsBy, accesses, badMode, transferred, transferOf, transferCount};
 ghost use Rattle.transfer.specs.Moves.{wholeStep, wholeCount, halfStep, halfCount};
 
 // The two sides, and what the channel says of a step.
@@ -24,25 +24,12 @@ mod halves;
 // What a half comes to.
 mod moves;
 
-// One side of a transfer: its pointer, whether it moves on, and whether it is 16 bits wide.
-struct Side {
-    pointer: Pointer,
-    moves: bool,
-    wide: bool,
-}
-
 // What a channel says of its transfer before a byte is read.
 struct Setup {
     source: Side,
     destination: Side,
     two: bool,
     singly: bool,
-}
-
-// The bytes to be stored.
-struct Data {
-    first: u8,
-    second: u8,
 }
 
 // What a half comes to before its channel is written: its number, how many bytes it read and stored, by how many bytes

@@ -1,12 +1,12 @@
 // The bytes that a transfer step reads, before it stores.
-use crate::Data;
 use crate::Setup;
-use machine::Channel;
+use ground_rules::Channel;
+use transfer_rules::Data;
 ghost use mathlib.Core.Path.{_≡_};
 ghost use mathlib.Core.Bool.{false};
-ghost use Rattle.memory.specs.Buffers.{lent};
+ghost use Rattle.ground_rules.specs.Buffers.{lent};
 ghost use Rattle.transfer.specs.Setups.{setupOf};
-ghost use Rattle.transfer.specs.Steps.{badMode};
+ghost use Rattle.transfer_rules.specs.Steps.{badMode};
 ghost use Rattle.transfer.specs.Fetches.{seen, beyond, here, fetchOf};
 
 // The bytes read, and whether each of them may be touched; where one may not, none counts.

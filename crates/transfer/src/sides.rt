@@ -1,12 +1,12 @@
 // The two sides of a transfer, and how many bytes move between them.
 use crate::Setup;
-use crate::Side;
-use machine::Channel;
-use memory::Pointer;
+use ground_rules::Channel;
+use ground_rules::Pointer;
+use transfer_rules::Side;
 ghost use mathlib.Core.Path.{_≡_};
-ghost use Rattle.words.specs.Choice.{pick};
-ghost use Rattle.transfer.specs.Sides as Sides;
-ghost use Rattle.transfer.specs.Sides.{wordSide, secondAddress};
+ghost use Rattle.ground_rules.specs.Choice.{pick};
+ghost use Rattle.transfer_rules.specs.Sides as Sides;
+ghost use Rattle.transfer_rules.specs.Sides.{wordSide, secondAddress};
 ghost use Rattle.transfer.specs.Setups.{setupOf};
 
 // One of two pointers, by its parts, as the channel has them.

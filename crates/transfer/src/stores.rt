@@ -1,18 +1,18 @@
 // What a transfer step stores of the bytes that it read, and what the channel becomes.
-use crate::Data;
 use crate::Setup;
-use crate::Side;
-use machine::Channel;
-use machine::Held;
+use ground_rules::Channel;
+use ground_rules::Held;
+use transfer_rules::Data;
+use transfer_rules::Side;
 ghost use mathlib.Core.Path.{_≡_};
-ghost use Rattle.words.specs.Choice.{pick};
-ghost use Rattle.memory.specs.Buffers.{lent, touchableAt, storeByte};
-ghost use Rattle.memory.specs.Places.{allTouchable};
+ghost use Rattle.ground_rules.specs.Choice.{pick};
+ghost use Rattle.ground_rules.specs.Buffers.{lent, touchableAt, storeByte};
+ghost use Rattle.ground_rules.specs.Places.{allTouchable};
 ghost use Rattle.transfer.specs.Setups.{setupOf};
-ghost use Rattle.transfer.specs.Ends.{codeIf, larger};
-ghost use Rattle.transfer.specs.Stores.{matchMet, storesTwo, endCode, movedBy, putOn, placesOn};
+ghost use Rattle.transfer_rules.specs.Ends.{codeIf, larger};
+ghost use Rattle.transfer_rules.specs.Stores.{matchMet, storesTwo, endCode, movedBy, putOn, placesOn};
 ghost use Rattle.transfer.specs.Moves.{landedBy};
-ghost use Rattle.transfer.specs.Halves.{secondCode};
+ghost use Rattle.transfer_rules.specs.Halves.{secondCode};
 ghost use lib.Dec.{eqb};
 ghost use Prim.Native.Nat.{_%_};
 

@@ -3,14 +3,14 @@
 ghost use mathlib.Core.Path.{_≡_};
 ghost use mathlib.Core.Bool.{true, false};
 ghost use lib.Dec.{ltb};
-ghost use Rattle.words.specs.Choice.{pick};
-ghost use Rattle.words.specs.Bits.{fieldOf, bitOf, withBit};
-ghost use Rattle.words.specs.Bytes.{lowByte, highByte, wordOf};
-ghost use Rattle.words.specs.Sums as Sums;
-ghost use Rattle.words.specs.Sums.{addressOf, countDown};
-ghost use Rattle.words.specs.Signs.{signedOf, extended, displacedBy};
-ghost use Rattle.words.specs.Stored.{storedLow, storedMiddle, storedHigh, storedAddress, storedTag};
-ghost use Rattle.words.specs.Compare.{matchOf};
+ghost use Rattle.ground_rules.specs.Choice.{pick};
+ghost use Rattle.ground_rules.specs.Bits.{fieldOf, bitOf, withBit};
+ghost use Rattle.ground_rules.specs.Bytes.{lowByte, highByte, wordOf};
+ghost use Rattle.ground_rules.specs.Sums as Sums;
+ghost use Rattle.ground_rules.specs.Sums.{addressOf, countDown};
+ghost use Rattle.ground_rules.specs.Signs.{signedOf, extended, displacedBy};
+ghost use Rattle.ground_rules.specs.Stored.{storedLow, storedMiddle, storedHigh, storedAddress, storedTag};
+ghost use Rattle.ground_rules.specs.Compare.{matchOf};
 
 // The `width` bits of x from bit `at` upwards.
 pub fn field(x: u32, at: u32, width: u32) -> u32

@@ -3,9 +3,9 @@
 use borrow.Author.Needs.{needs}
 use denote.Ref.{now}
 use mathlib.Core.Path.{_≡_}
-use Rattle.machine.specs.States.{channelOf, isSecond, blockOf}
-use Rattle.memory.specs.Buffers.{buffers}
-use Rattle.attention.specs.Attention.{givenTo}
+use Rattle.ground_rules.specs.States.{channelOf, isSecond, blockOf}
+use Rattle.ground_rules.specs.Buffers.{buffers}
+use Rattle.attention_rules.specs.Attention.{givenTo}
 use Rattle.attention.specs.Plans.{plannedOf}
 use Rattle.attention.proofs.PlanLaws.{planned-counts, planned-settled}
 use Rattle.attention.proofs.attention.Statement.{statement}

@@ -2,8 +2,8 @@
 -- Assumes nothing.
 use borrow.Author.Needs.{needs}
 use borrow.Author.Tests.{not-true, not-false}
-use Rattle.machine.specs.Outcomes.{unless, first}
-use Rattle.attention.specs.Attention.{givenTo}
+use Rattle.ground_rules.specs.Outcomes.{unless, first}
+use Rattle.attention_rules.specs.Attention.{givenTo}
 use Rattle.attention.proofs.given_number.Statement.{statement}
 use Rattle.attention.proofs.given_number.Tie as tie
 

@@ -2,10 +2,10 @@
 -- Assumes nothing.
 use borrow.Author.Needs.{needs}
 use borrow.Author.Tests.{eq-eqb, ne-eqb, not-true, not-false}
-use Rattle.machine.specs.Outcomes.{unless, first}
-use Rattle.machine.specs.Stages.{stagesNumber}
-use Rattle.attention.specs.Attention.{orderNumber}
-use Rattle.attention.specs.Touched.{orderStages}
+use Rattle.ground_rules.specs.Outcomes.{unless, first}
+use Rattle.ground_rules.specs.Stages.{stagesNumber}
+use Rattle.attention_rules.specs.Attention.{orderNumber}
+use Rattle.attention_rules.specs.Touched.{orderStages}
 use Rattle.attention.proofs.number.Statement.{statement}
 use Rattle.attention.proofs.number.Tie as tie
 

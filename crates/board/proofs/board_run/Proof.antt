@@ -6,13 +6,13 @@ use borrow.Author.Tests.{eq-eqb, ne-eqb}
 use denote.Ref.{now}
 use mathlib.Core.Path.{sym, ap, ap₂, _∙_}
 use native.Mathlib.Nat.{mod-eq-of-lt}
-use Rattle.machine.specs.Outcomes.{Outcome}
-use Rattle.machine.specs.declared.State.{State}
-use Rattle.memory.specs.Buffers.{buffers}
-use Rattle.panel.proofs.RunLaws.{call-limit}
-use Rattle.panel.specs.Run.{ran, callNumber}
-use Rattle.power.specs.Power.{powerUpOf}
-use Rattle.board.specs.Board.{poweredRun, boardRunOf}
+use Rattle.ground_rules.specs.Outcomes.{Outcome}
+use Rattle.ground_rules.specs.declared.State.{State}
+use Rattle.ground_rules.specs.Buffers.{buffers}
+use Rattle.run_rules.proofs.RunLaws.{call-limit}
+use Rattle.run_rules.specs.Run.{ran, callNumber}
+use Rattle.attention_rules.specs.Power.{powerUpOf}
+use Rattle.run_rules.specs.Board.{poweredRun, boardRunOf}
 use Rattle.board.proofs.board_run.Statement.{statement}
 use Rattle.board.proofs.board_run.Tie as tie
 

@@ -6,7 +6,7 @@ use mathlib.Core.Bool.{Bool, true, false}
 use Prim.Native.Nat.{ℕ, _+_, _<_, _≤_}
 use native.Mathlib.Omega.{arith}
 use lib.Dec.{eqb, leb}
-use Rattle.decode.specs.Lengths.{moreBy, twoBy}
+use Rattle.instruction_rules.specs.Lengths.{moreBy, twoBy}
 use Rattle.decode.proofs.announced.Statement.{statement}
 use Rattle.decode.proofs.announced.Tie as tie
 

@@ -6,10 +6,10 @@ use mathlib.Core.Bool.{Bool, true, false}
 use Prim.Native.Nat.{ℕ}
 use lib.Dec.{eqb}
 use mir.Val.{boolByte}
-use Rattle.words.specs.Choice.{pick}
-use Rattle.decode_shapes.specs.Pairs.{meets}
-use Rattle.decode_shapes.specs.Pairs.Column.{'0, '1}
-use Rattle.decode.specs.Reading.{secondOf}
+use Rattle.ground_rules.specs.Choice.{pick}
+use Rattle.instruction_rules.specs.Pairs.{meets}
+use Rattle.instruction_rules.specs.Pairs.Column.{'0, '1}
+use Rattle.instruction_rules.specs.Reading.{secondOf}
 use Rattle.decode.proofs.decode_second.Statement.{statement}
 use Rattle.decode.proofs.decode_second.Tie as tie
 

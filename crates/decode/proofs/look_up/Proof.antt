@@ -3,11 +3,11 @@
 use borrow.Author.Needs.{needs}
 use mathlib.Core.Path.{_≡_, refl, sym, _∙_}
 use Prim.Native.Nat.{ℕ}
-use Rattle.decode_shapes.specs.Pairs.{pairOf}
-use Rattle.decode_shapes.specs.declared.Decoded.{Decoded}
-use Rattle.decode.specs.Reading.{decodeOf}
-use Rattle.decode.specs.Lengths.{pairLength}
-use Rattle.decode.proofs.CellLaws.{by-cell, length-by-cell}
+use Rattle.instruction_rules.specs.Pairs.{pairOf}
+use Rattle.instruction_rules.specs.declared.Decoded.{Decoded}
+use Rattle.instruction_rules.specs.Reading.{decodeOf}
+use Rattle.instruction_rules.specs.Lengths.{pairLength}
+use Rattle.instruction_rules.proofs.CellLaws.{by-cell, length-by-cell}
 use Rattle.decode.proofs.look_up.Statement.{statement}
 use Rattle.decode.proofs.look_up.Tie as tie
 

@@ -1,7 +1,7 @@
 -- `decode::offset_length` meets its contract: its test is the definition's.
 -- Assumes nothing.
 use borrow.Author.Needs.{needs}
-use Rattle.decode.specs.Lengths.{offsetLength}
+use Rattle.instruction_rules.specs.Lengths.{offsetLength}
 use Rattle.decode.proofs.offset_length.Statement.{statement}
 use Rattle.decode.proofs.offset_length.Tie as tie
 

@@ -7,8 +7,8 @@ use Prim.Native.Nat.{ℕ, _+_, _-_, _/_, _%_, _≤_}
 use native.Mathlib.Numerals.{add-one}
 use native.Mathlib.Omega.{arith}
 use lib.Dec.{eqb, lit≤}
-use Rattle.words.specs.Choice.{pick}
-use Rattle.decode.specs.Reading.{decodeOf, numberOf}
+use Rattle.ground_rules.specs.Choice.{pick}
+use Rattle.instruction_rules.specs.Reading.{decodeOf, numberOf}
 use Rattle.decode_count.specs.Tally.{givesBy, tallyOf}
 use Rattle.decode_count.proofs.tally.Statement.{statement}
 use Rattle.decode_count.proofs.tally.Tie as tie

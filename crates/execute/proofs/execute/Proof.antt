@@ -7,13 +7,13 @@ use denote.Ref.{now}
 use mathlib.Core.Bool.{Bool}
 use mathlib.Core.Path.{_≡_, refl, sym, ap, ap₂, _∙_}
 use native.Mathlib.Omega.{arith}
-use Rattle.memory.specs.Buffers.{Buffers, buffers}
-use Rattle.memory.specs.Places.{allTouchable}
-use Rattle.words.specs.Choice.{pick}
-use Rattle.execute_operands.specs.Changes.{placesOf, changed}
+use Rattle.ground_rules.specs.Buffers.{Buffers, buffers}
+use Rattle.ground_rules.specs.Places.{allTouchable}
+use Rattle.ground_rules.specs.Choice.{pick}
+use Rattle.instruction_rules.specs.Changes.{placesOf, changed}
 use Rattle.execute_deeds.proofs.DeedLaws.{named-written, none-written}
 use Rattle.execute_deeds.specs.declared.Effect.{Effect}
-use Rattle.execute.specs.Execute.{executed}
+use Rattle.instruction_rules.specs.Execute.{executed}
 use Rattle.execute.specs.Plan.{planNumber}
 use Rattle.execute.proofs.CodeLaws.{plan-refused, plan-passed, plan-done, plan-unstored, none-counted, plan-most, plan-counted}
 use Rattle.execute.proofs.execute.Statement.{statement}

@@ -1,15 +1,15 @@
 -- `execute::perform` meets its contract.
 -- Assumes nothing.
 use borrow.Author.Needs.{needs}
-use Rattle.machine.specs.Outcomes.{unless, first}
-use Rattle.memory.specs.Places.{allPass}
-use Rattle.execute_deeds.specs.Control.{nopDeed, sintrDeed, xferDeed, widDeed, hltDeed}
+use Rattle.ground_rules.specs.Outcomes.{unless, first}
+use Rattle.ground_rules.specs.Places.{allPass}
+use Rattle.instruction_rules.specs.Control.{nopDeed, sintrDeed, xferDeed, widDeed, hltDeed}
 use Rattle.execute_deeds.specs.Effects.{effectOf}
-use Rattle.execute_deeds.specs.JumpForms.{jumpRegisterDeed, callDeed}
-use Rattle.execute_deeds.specs.MemoryForms.{movpStoreDeed}
-use Rattle.execute_deeds.specs.RegisterForms.{registerImmediateDeed, registerDeed, lpdiDeed}
+use Rattle.instruction_rules.specs.JumpForms.{jumpRegisterDeed, callDeed}
+use Rattle.instruction_rules.specs.MemoryForms.{movpStoreDeed}
+use Rattle.instruction_rules.specs.RegisterForms.{registerImmediateDeed, registerDeed, lpdiDeed}
 use Rattle.execute_deeds.specs.Writes.{writeMade}
-use Rattle.execute.specs.Execute.{performed}
+use Rattle.instruction_rules.specs.Execute.{performed}
 use Rattle.execute.proofs.perform.Statement.{statement}
 use Rattle.execute.proofs.perform.Tie as tie
 

@@ -5,14 +5,14 @@ use borrow.Author.Tests.{not-true, not-false, eqb-false}
 use denote.Ref.{now}
 use mathlib.Core.Path.{_≡_, refl, sym, ap, ap₂, _∙_}
 use Prim.Native.Nat.{ℕ}
-use Rattle.decode.proofs.LengthRule.{pair-rule}
-use Rattle.decode.specs.Reading.{decodeOf}
-use Rattle.decode.specs.declared.Looked.{Looked}
-use Rattle.decode_shapes.specs.declared.Decoded.{Decoded}
-use Rattle.memory.specs.Buffers.{buffers}
-use Rattle.memory.specs.Values.{onward}
-use Rattle.execute_operands.specs.Operands.{byteHere}
-use Rattle.execute.specs.Execute.{decodedAt}
+use Rattle.instruction_rules.proofs.LengthRule.{pair-rule}
+use Rattle.instruction_rules.specs.Reading.{decodeOf}
+use Rattle.instruction_rules.specs.declared.Looked.{Looked}
+use Rattle.instruction_rules.specs.declared.Decoded.{Decoded}
+use Rattle.ground_rules.specs.Buffers.{buffers}
+use Rattle.ground_rules.specs.Values.{onward}
+use Rattle.instruction_rules.specs.Operands.{byteHere}
+use Rattle.instruction_rules.specs.Execute.{decodedAt}
 use Rattle.execute.proofs.CodeLaws.{refusal-planned, plan-beyond, plan-none, plan-shaped}
 use Rattle.execute.proofs.plan.Statement.{statement}
 use Rattle.execute.proofs.plan.Tie as tie

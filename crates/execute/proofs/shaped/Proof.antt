@@ -5,14 +5,14 @@ use denote.Ref.{now}
 use mathlib.Core.Path.{refl, sym, ap, _∙_}
 use borrow.Author.Tests.{eqb-false, not-true, not-false}
 use native.Mathlib.Omega.{arith}
-use Rattle.decode.proofs.LengthLaws.{bounded}
-use Rattle.memory.specs.Buffers.{buffers}
-use Rattle.memory.specs.Values.{onward}
+use Rattle.instruction_rules.proofs.LengthLaws.{bounded}
+use Rattle.ground_rules.specs.Buffers.{buffers}
+use Rattle.ground_rules.specs.Values.{onward}
 use Rattle.execute_deeds.specs.Effects.{effectOf}
 use Rattle.execute_deeds.specs.declared.Effect.{Effect}
-use Rattle.execute.specs.Execute.{laterBytes}
+use Rattle.instruction_rules.specs.Execute.{laterBytes}
 use Rattle.execute.proofs.CodeLaws.{refusal-planned, deed-planned, performed-deed, later-beyond, later-touchable}
-use Rattle.execute.proofs.CountLaws.{reads-most}
+use Rattle.instruction_rules.proofs.CountLaws.{reads-most}
 use Rattle.execute.proofs.shaped.Statement.{statement}
 use Rattle.execute.proofs.shaped.Tie as tie
 

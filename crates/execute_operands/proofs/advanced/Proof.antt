@@ -1,9 +1,9 @@
 -- `execute_operands::advanced` meets its contract.
 -- Assumes nothing.
 use borrow.Author.Needs.{needs}
-use Rattle.execute_operands.specs.Marks.{pastInstruction}
-use Rattle.machine.specs.Updates.{renewed}
-use Rattle.memory.specs.Values.{onward}
+use Rattle.instruction_rules.specs.Marks.{pastInstruction}
+use Rattle.ground_rules.specs.Updates.{renewed}
+use Rattle.ground_rules.specs.Values.{onward}
 use Rattle.execute_operands.proofs.advanced.Statement.{statement}
 use Rattle.execute_operands.proofs.advanced.Tie as tie
 

@@ -2,9 +2,9 @@
 -- Assumes nothing.
 use borrow.Author.Needs.{needs}
 use native.Mathlib.Omega.{arith}
-use Rattle.decode.proofs.LengthLaws.{offset-small}
-use Rattle.decode.specs.Lengths.{offsetLength}
-use Rattle.memory.specs.Values.{onward}
+use Rattle.instruction_rules.proofs.LengthLaws.{offset-small}
+use Rattle.instruction_rules.specs.Lengths.{offsetLength}
+use Rattle.ground_rules.specs.Values.{onward}
 use Rattle.execute_operands.proofs.after_pair.Statement.{statement}
 use Rattle.execute_operands.proofs.after_pair.Tie as tie
 

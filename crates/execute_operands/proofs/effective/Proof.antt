@@ -1,8 +1,8 @@
 -- `execute_operands::effective` meets its contract.
 -- Assumes nothing.
 use borrow.Author.Needs.{needs}
-use Rattle.execute_operands.specs.Operands.{effective}
-use Rattle.memory.specs.Values.{onward}
+use Rattle.instruction_rules.specs.Operands.{effective}
+use Rattle.ground_rules.specs.Values.{onward}
 use Rattle.execute_operands.proofs.effective.Statement.{statement}
 use Rattle.execute_operands.proofs.effective.Tie as tie
 

@@ -1,9 +1,9 @@
 -- `execute_operands::further` meets its contract.
 -- Assumes nothing.
 use borrow.Author.Needs.{needs}
-use Rattle.execute_operands.specs.Operands.{further}
-use Rattle.machine.specs.Updates.{renewed}
-use Rattle.memory.specs.Values.{onward}
+use Rattle.instruction_rules.specs.Operands.{further}
+use Rattle.ground_rules.specs.Updates.{renewed}
+use Rattle.ground_rules.specs.Values.{onward}
 use Rattle.execute_operands.proofs.further.Statement.{statement}
 use Rattle.execute_operands.proofs.further.Tie as tie
 

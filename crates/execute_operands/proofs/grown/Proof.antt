@@ -2,8 +2,8 @@
 -- Assumes nothing.
 use borrow.Author.Needs.{needs}
 use borrow.Author.Tests.{eq-eqb, ne-eqb}
-use Rattle.execute_operands.specs.Operands.{grown}
-use Rattle.machine.specs.Updates.{renewed}
+use Rattle.instruction_rules.specs.Operands.{grown}
+use Rattle.ground_rules.specs.Updates.{renewed}
 use Rattle.execute_operands.proofs.grown.Statement.{statement}
 use Rattle.execute_operands.proofs.grown.Tie as tie
 

@@ -1,7 +1,7 @@
 -- `execute_operands::grown_by_size` meets its contract.
 -- Assumes nothing.
 use borrow.Author.Needs.{needs}
-use Rattle.execute_operands.specs.Operands.{grown}
+use Rattle.instruction_rules.specs.Operands.{grown}
 use Rattle.execute_operands.proofs.grown_by_size.Statement.{statement}
 use Rattle.execute_operands.proofs.grown_by_size.Tie as tie
 

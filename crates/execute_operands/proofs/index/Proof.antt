@@ -2,8 +2,8 @@
 -- Assumes nothing.
 use borrow.Author.Needs.{needs}
 use borrow.Author.Tests.{eq-eqb, ne-eqb}
-use Rattle.execute_operands.specs.Operands.{indexed}
-use Rattle.memory.specs.Values.{onward}
+use Rattle.instruction_rules.specs.Operands.{indexed}
+use Rattle.ground_rules.specs.Values.{onward}
 use Rattle.execute_operands.proofs.index.Statement.{statement}
 use Rattle.execute_operands.proofs.index.Tie as tie
 

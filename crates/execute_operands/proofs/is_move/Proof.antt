@@ -1,7 +1,7 @@
 -- `execute_operands::is_move` meets its contract.
 -- Assumes nothing.
 use borrow.Author.Needs.{needs}
-use Rattle.execute_operands.specs.Operands.{isMove}
+use Rattle.instruction_rules.specs.Operands.{isMove}
 use Rattle.execute_operands.proofs.is_move.Statement.{statement}
 use Rattle.execute_operands.proofs.is_move.Tie as tie
 

@@ -1,7 +1,7 @@
 -- `execute_operands::landing` meets its contract.
 -- Assumes nothing.
 use borrow.Author.Needs.{needs}
-use Rattle.execute_operands.specs.Operands.{displacementAt, landing}
+use Rattle.instruction_rules.specs.Operands.{displacementAt, landing}
 use Rattle.execute_operands.proofs.landing.Statement.{statement}
 use Rattle.execute_operands.proofs.landing.Tie as tie
 

@@ -1,7 +1,7 @@
 -- `execute_operands::operand` meets its contract.
 -- Assumes nothing.
 use borrow.Author.Needs.{needs}
-use Rattle.execute_operands.specs.Operands.{operandAt}
+use Rattle.instruction_rules.specs.Operands.{operandAt}
 use Rattle.execute_operands.proofs.operand.Statement.{statement}
 use Rattle.execute_operands.proofs.operand.Tie as tie
 

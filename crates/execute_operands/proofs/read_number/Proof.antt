@@ -1,7 +1,7 @@
 -- `execute_operands::read_number` meets its contract.
 -- Assumes nothing.
 use borrow.Author.Needs.{needs}
-use Rattle.execute_operands.specs.Operands.{readNumber}
+use Rattle.instruction_rules.specs.Operands.{readNumber}
 use Rattle.execute_operands.proofs.read_number.Statement.{statement}
 use Rattle.execute_operands.proofs.read_number.Tie as tie
 

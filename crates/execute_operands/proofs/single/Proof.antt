@@ -1,8 +1,8 @@
 -- `execute_operands::single` meets its contract.
 -- Assumes nothing.
 use borrow.Author.Needs.{needs}
-use Rattle.words.specs.Sums.{sum20}
-use Rattle.execute_operands.specs.Operands.{singleOf}
+use Rattle.ground_rules.specs.Sums.{sum20}
+use Rattle.instruction_rules.specs.Operands.{singleOf}
 use Rattle.execute_operands.proofs.single.Statement.{statement}
 use Rattle.execute_operands.proofs.single.Tie as tie
 

@@ -1,6 +1,6 @@
 -- `execute_operands::two_unless` meets its contract.
 -- Assumes nothing.
-use Rattle.machine.specs.Outcomes.{unless}
+use Rattle.ground_rules.specs.Outcomes.{unless}
 use Rattle.execute_operands.proofs.two_unless.Statement.{statement}
 use Rattle.execute_operands.proofs.two_unless.Tie as tie
 

@@ -1,7 +1,7 @@
 -- `execute_operands::used_up` meets its contract.
 -- Assumes nothing.
 use borrow.Author.Needs.{needs}
-use Rattle.execute_operands.specs.Marks.{usedUp}
+use Rattle.instruction_rules.specs.Marks.{usedUp}
 use Rattle.execute_operands.proofs.used_up.Statement.{statement}
 use Rattle.execute_operands.proofs.used_up.Tie as tie
 

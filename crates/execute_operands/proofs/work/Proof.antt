@@ -1,8 +1,8 @@
 -- `execute_operands::work` meets its contract.
 -- Assumes nothing.
 use borrow.Author.Needs.{needs}
-use Rattle.words.specs.Sums.{sum20}
-use Rattle.execute_operands.specs.Operands.{workOf}
+use Rattle.ground_rules.specs.Sums.{sum20}
+use Rattle.instruction_rules.specs.Operands.{workOf}
 use Rattle.execute_operands.proofs.work.Statement.{statement}
 use Rattle.execute_operands.proofs.work.Tie as tie
 

@@ -2,7 +2,7 @@
 -- Assumes nothing.
 use borrow.Author.Needs.{needs}
 use mathlib.Core.Path.{_∙_}
-use Rattle.memory.specs.Buffers.{spaceOf, beyondIn, byteAt}
+use Rattle.ground_rules.specs.Buffers.{spaceOf, beyondIn, byteAt}
 use Rattle.memory.proofs.byte.Statement.{statement}
 use Rattle.memory.proofs.byte.Tie as tie
 

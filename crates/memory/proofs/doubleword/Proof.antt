@@ -2,9 +2,9 @@
 -- Assumes nothing.
 use borrow.Author.Needs.{needs}
 use mathlib.Core.Path.{_∙_}
-use Rattle.words.specs.Sums.{sum20}
-use Rattle.memory.specs.Values.{doublewordAt}
-use Rattle.memory.proofs.PlaceLaws.{word-reduced}
+use Rattle.ground_rules.specs.Sums.{sum20}
+use Rattle.ground_rules.specs.Values.{doublewordAt}
+use Rattle.ground_rules.proofs.PlaceLaws.{word-reduced}
 use Rattle.memory.proofs.doubleword.Statement.{statement}
 use Rattle.memory.proofs.doubleword.Tie as tie
 

@@ -1,7 +1,7 @@
 -- `memory::index` meets its contract.
 -- Assumes nothing.
 use borrow.Author.Needs.{needs}
-use Rattle.memory.specs.Buffers.{limitOf, indexOf}
+use Rattle.ground_rules.specs.Buffers.{limitOf, indexOf}
 use Rattle.memory.proofs.index.Statement.{statement}
 use Rattle.memory.proofs.index.Tie as tie
 

@@ -1,7 +1,7 @@
 -- `memory::lent` meets its contract.
 -- Assumes nothing.
 use borrow.Author.Needs.{needs}
-use Rattle.memory.specs.Buffers.{spaceOf, lentAt}
+use Rattle.ground_rules.specs.Buffers.{spaceOf, lentAt}
 use Rattle.memory.proofs.lent.Statement.{statement}
 use Rattle.memory.proofs.lent.Tie as tie
 

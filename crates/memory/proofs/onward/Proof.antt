@@ -1,8 +1,8 @@
 -- `memory::onward` meets its contract.
 -- Assumes nothing.
 use borrow.Author.Needs.{needs}
-use Rattle.words.specs.Sums.{sum20}
-use Rattle.memory.specs.Values.{onward}
+use Rattle.ground_rules.specs.Sums.{sum20}
+use Rattle.ground_rules.specs.Values.{onward}
 use Rattle.memory.proofs.onward.Statement.{statement}
 use Rattle.memory.proofs.onward.Tie as tie
 

@@ -3,10 +3,10 @@
 use borrow.Author.Needs.{needs}
 use denote.Ref.{now}
 use native.Mathlib.Omega.{arith}
-use Rattle.memory.specs.Buffers.{buffers, spaceOf, limitOf}
-use Rattle.memory.specs.Places.{span, allPass}
-use Rattle.memory.proofs.PlaceLaws.{index-small}
-use Rattle.memory.proofs.SpanLaws.{span-tests}
+use Rattle.ground_rules.specs.Buffers.{buffers, spaceOf, limitOf}
+use Rattle.ground_rules.specs.Places.{span, allPass}
+use Rattle.ground_rules.proofs.PlaceLaws.{index-small}
+use Rattle.ground_rules.proofs.SpanLaws.{span-tests}
 use Rattle.memory.proofs.span_lent.Statement.{statement}
 use Rattle.memory.proofs.span_lent.Tie as tie
 

@@ -3,8 +3,8 @@
 use borrow.Author.Needs.{needs}
 use denote.Ref.{now}
 use mathlib.Core.Path.{sym, _∙_}
-use Rattle.memory.specs.Buffers.{buffers}
-use Rattle.memory.proofs.SpanLaws.{span-io, span-system}
+use Rattle.ground_rules.specs.Buffers.{buffers}
+use Rattle.ground_rules.proofs.SpanLaws.{span-io, span-system}
 use Rattle.memory.proofs.span_touchable.Statement.{statement}
 use Rattle.memory.proofs.span_touchable.Tie as tie
 

@@ -5,7 +5,7 @@ use borrow.Author.Needs.{needs}
 use denote.Ref.{now}
 use mathlib.Core.List.{List}
 use mathlib.Core.Path.{ap, _∙_}
-use Rattle.memory.specs.Buffers.{buffers, storeByte}
+use Rattle.ground_rules.specs.Buffers.{buffers, storeByte}
 use Rattle.memory.proofs.store_byte.Statement.{statement}
 use Rattle.memory.proofs.store_byte.Tie as tie
 

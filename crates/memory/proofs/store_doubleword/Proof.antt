@@ -2,9 +2,9 @@
 -- Assumes nothing.
 use borrow.Author.Needs.{needs}
 use mathlib.Core.Path.{_∙_}
-use Rattle.words.specs.Sums.{sum20}
-use Rattle.memory.specs.Values.{storeDoubleword}
-use Rattle.memory.proofs.PlaceLaws.{store-word-reduced}
+use Rattle.ground_rules.specs.Sums.{sum20}
+use Rattle.ground_rules.specs.Values.{storeDoubleword}
+use Rattle.ground_rules.proofs.PlaceLaws.{store-word-reduced}
 use Rattle.memory.proofs.store_doubleword.Statement.{statement}
 use Rattle.memory.proofs.store_doubleword.Tie as tie
 

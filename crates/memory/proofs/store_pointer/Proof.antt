@@ -2,9 +2,9 @@
 -- Assumes nothing.
 use borrow.Author.Needs.{needs}
 use mathlib.Core.Path.{_∙_}
-use Rattle.words.specs.Sums.{sum20}
-use Rattle.memory.specs.Values.{storePointer}
-use Rattle.memory.proofs.PlaceLaws.{store-reduced}
+use Rattle.ground_rules.specs.Sums.{sum20}
+use Rattle.ground_rules.specs.Values.{storePointer}
+use Rattle.ground_rules.proofs.PlaceLaws.{store-reduced}
 use Rattle.memory.proofs.store_pointer.Statement.{statement}
 use Rattle.memory.proofs.store_pointer.Tie as tie
 

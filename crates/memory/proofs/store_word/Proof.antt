@@ -2,9 +2,9 @@
 -- Assumes nothing.
 use borrow.Author.Needs.{needs}
 use mathlib.Core.Path.{_∙_}
-use Rattle.words.specs.Sums.{sum20}
-use Rattle.memory.specs.Values.{storeWord}
-use Rattle.memory.proofs.PlaceLaws.{store-reduced}
+use Rattle.ground_rules.specs.Sums.{sum20}
+use Rattle.ground_rules.specs.Values.{storeWord}
+use Rattle.ground_rules.proofs.PlaceLaws.{store-reduced}
 use Rattle.memory.proofs.store_word.Statement.{statement}
 use Rattle.memory.proofs.store_word.Tie as tie
 

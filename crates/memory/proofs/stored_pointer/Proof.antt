@@ -1,9 +1,9 @@
 -- `memory::stored_pointer` meets its contract.
 -- Assumes nothing.
 use borrow.Author.Needs.{needs}
-use Rattle.words.specs.Sums.{sum20}
-use Rattle.memory.specs.Values.{pointerAt}
-use Rattle.memory.proofs.PlaceLaws.{byte-reduced}
+use Rattle.ground_rules.specs.Sums.{sum20}
+use Rattle.ground_rules.specs.Values.{pointerAt}
+use Rattle.ground_rules.proofs.PlaceLaws.{byte-reduced}
 use Rattle.memory.proofs.stored_pointer.Statement.{statement}
 use Rattle.memory.proofs.stored_pointer.Tie as tie
 

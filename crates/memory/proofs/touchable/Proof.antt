@@ -2,7 +2,7 @@
 -- Assumes nothing.
 use borrow.Author.Needs.{needs}
 use mathlib.Core.Path.{_∙_}
-use Rattle.memory.specs.Buffers.{touchableAt}
+use Rattle.ground_rules.specs.Buffers.{touchableAt}
 use Rattle.memory.proofs.touchable.Statement.{statement}
 use Rattle.memory.proofs.touchable.Tie as tie
 

@@ -1,7 +1,7 @@
 -- `memory::within_limits` meets its contract.
 -- Assumes nothing.
 use mathlib.Core.Path.{refl}
-use Rattle.memory.specs.Buffers.{limitOf, withinLimits}
+use Rattle.ground_rules.specs.Buffers.{limitOf, withinLimits}
 use Rattle.memory.proofs.within_limits.Statement.{statement}
 use Rattle.memory.proofs.within_limits.Tie as tie
 

@@ -2,9 +2,9 @@
 -- Assumes nothing.
 use borrow.Author.Needs.{needs}
 use mathlib.Core.Path.{_∙_}
-use Rattle.words.specs.Sums.{sum20}
-use Rattle.memory.specs.Values.{wordAt}
-use Rattle.memory.proofs.PlaceLaws.{byte-reduced}
+use Rattle.ground_rules.specs.Sums.{sum20}
+use Rattle.ground_rules.specs.Values.{wordAt}
+use Rattle.ground_rules.proofs.PlaceLaws.{byte-reduced}
 use Rattle.memory.proofs.word.Statement.{statement}
 use Rattle.memory.proofs.word.Tie as tie
 

@@ -4,10 +4,10 @@ use borrow.Author.Needs.{needs}
 use borrow.Author.Tests.{eq-eqb, ne-eqb}
 use denote.Ref.{now}
 use mathlib.Core.Path.{sym, ap, _∙_}
-use Rattle.attention.specs.Attention.{attentionOf}
-use Rattle.machine.specs.Outcomes.{Outcome}
-use Rattle.memory.specs.Buffers.{buffers}
-use Rattle.panel.specs.Run.{ran, stepsFrom, attendedRun}
+use Rattle.attention_rules.specs.Attention.{attentionOf}
+use Rattle.ground_rules.specs.Outcomes.{Outcome}
+use Rattle.ground_rules.specs.Buffers.{buffers}
+use Rattle.run_rules.specs.Run.{ran, stepsFrom, attendedRun}
 use Rattle.panel.proofs.attend.Statement.{statement}
 use Rattle.panel.proofs.attend.Tie as tie
 

@@ -2,8 +2,8 @@
 -- Assumes nothing.
 use borrow.Author.Needs.{needs}
 use mathlib.Core.Path.{sym, _∙_}
-use Rattle.machine.specs.Outcomes.{unless, first}
-use Rattle.panel.specs.Run.{callNumber}
+use Rattle.ground_rules.specs.Outcomes.{unless, first}
+use Rattle.run_rules.specs.Run.{callNumber}
 use Rattle.panel.proofs.call_number.Statement.{statement}
 use Rattle.panel.proofs.call_number.Tie as tie
 

@@ -2,7 +2,7 @@
 -- Assumes nothing.
 use borrow.Author.Needs.{needs}
 use mathlib.Core.Path.{ap}
-use Rattle.panel.specs.Run.{Run, answerOf, called}
+use Rattle.run_rules.specs.Run.{Run, answerOf, called}
 use Rattle.panel.proofs.iop89_run.Statement.{statement}
 use Rattle.panel.proofs.iop89_run.Tie as tie
 

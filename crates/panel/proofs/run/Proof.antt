@@ -6,10 +6,10 @@ use borrow.Author.Tests.{eq-eqb, ne-eqb}
 use denote.Ref.{now}
 use mathlib.Core.Path.{sym, ap, ap₂, _∙_}
 use native.Mathlib.Nat.{mod-eq-of-lt}
-use Rattle.machine.specs.declared.Made.{Made}
-use Rattle.memory.specs.Buffers.{buffers}
-use Rattle.panel.specs.Run.{startedRun, ran, callNumber, runOf}
-use Rattle.panel.proofs.RunLaws.{call-limit}
+use Rattle.ground_rules.specs.declared.Made.{Made}
+use Rattle.ground_rules.specs.Buffers.{buffers}
+use Rattle.run_rules.specs.Run.{startedRun, ran, callNumber, runOf}
+use Rattle.run_rules.proofs.RunLaws.{call-limit}
 use Rattle.panel.proofs.run.Statement.{statement}
 use Rattle.panel.proofs.run.Tie as tie
 

@@ -3,7 +3,7 @@
 use borrow.Author.Needs.{needs}
 use borrow.Author.Tests.{eq-eqb, ne-eqb}
 use mathlib.Core.Path.{_∙_}
-use Rattle.panel.specs.Run.{startedRun}
+use Rattle.run_rules.specs.Run.{startedRun}
 use Rattle.panel.proofs.start.Statement.{statement}
 use Rattle.panel.proofs.start.Tie as tie
 

@@ -5,10 +5,10 @@ use borrow.Author.Needs.{needs}
 use denote.Ref.{now}
 use mathlib.Core.Path.{sym, ap, _∙_}
 use native.Mathlib.Omega.{arith}
-use Rattle.memory.specs.Buffers.{buffers}
+use Rattle.ground_rules.specs.Buffers.{buffers}
 use Rattle.panel.specs.Bursts.{stateOf}
-use Rattle.panel.specs.Run.{ran}
-use Rattle.panel.proofs.RunLaws.{entry-stops, limits}
+use Rattle.run_rules.specs.Run.{ran}
+use Rattle.run_rules.proofs.RunLaws.{entry-stops, limits}
 use Rattle.panel.proofs.steps.Statement.{statement}
 use Rattle.panel.proofs.steps.Tie as tie
 

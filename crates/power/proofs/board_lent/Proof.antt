@@ -1,8 +1,8 @@
 -- `power::board_lent` meets its contract.
 -- Assumes nothing.
 use borrow.Author.Needs.{needs}
-use Rattle.machine.specs.States.{busyIn}
-use Rattle.power.proofs.Numbers.{places-row}
+use Rattle.ground_rules.specs.States.{busyIn}
+use Rattle.attention_rules.proofs.PowerNumbers.{places-row}
 use Rattle.power.proofs.board_lent.Statement.{statement}
 use Rattle.power.proofs.board_lent.Tie as tie
 

@@ -1,7 +1,7 @@
 -- `power::configuration` meets its contract.
 -- Assumes nothing.
 use borrow.Author.Needs.{needs}
-use Rattle.power.specs.Power.{configurationOf}
+use Rattle.attention_rules.specs.Power.{configurationOf}
 use Rattle.power.proofs.configuration.Statement.{statement}
 use Rattle.power.proofs.configuration.Tie as tie
 

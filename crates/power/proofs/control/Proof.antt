@@ -2,7 +2,7 @@
 -- Assumes nothing.
 use borrow.Author.Needs.{needs}
 use mathlib.Core.Path.{_∙_}
-use Rattle.power.specs.Power.{controlOf}
+use Rattle.attention_rules.specs.Power.{controlOf}
 use Rattle.power.proofs.control.Statement.{statement}
 use Rattle.power.proofs.control.Tie as tie
 

@@ -3,8 +3,8 @@
 use borrow.Author.Needs.{needs}
 use borrow.Author.Tests.{not-true, not-false}
 use mathlib.Core.Path.{sym, _∙_}
-use Rattle.machine.specs.Outcomes.{unless, first}
-use Rattle.power.proofs.Numbers.{power-chain}
+use Rattle.ground_rules.specs.Outcomes.{unless, first}
+use Rattle.attention_rules.proofs.PowerNumbers.{power-chain}
 use Rattle.power.proofs.power_number.Statement.{statement}
 use Rattle.power.proofs.power_number.Tie as tie
 

@@ -3,11 +3,11 @@
 use borrow.Author.Needs.{needs}
 use denote.Ref.{now}
 use mathlib.Core.Path.{sym, _∙_}
-use Rattle.machine.proofs.OutcomeLaws.{refused, accepted, refused-counts, done-counts}
-use Rattle.machine.specs.States.{busyIn}
-use Rattle.memory.specs.Buffers.{buffers}
-use Rattle.power.specs.Power.{touchedByPower, powerNumber, foundState, foundMemory, powerUpOf, powerCount}
-use Rattle.power.proofs.Outcomes.{power-touches}
+use Rattle.ground_rules.proofs.OutcomeLaws.{refused, accepted, refused-counts, done-counts}
+use Rattle.ground_rules.specs.States.{busyIn}
+use Rattle.ground_rules.specs.Buffers.{buffers}
+use Rattle.attention_rules.specs.Power.{touchedByPower, powerNumber, foundState, foundMemory, powerUpOf, powerCount}
+use Rattle.attention_rules.proofs.PowerOutcomes.{power-touches}
 use Rattle.power.proofs.power_up.Statement.{statement}
 use Rattle.power.proofs.power_up.Tie as tie
 

@@ -1,7 +1,7 @@
 -- `power::read_board` meets its contract.
 -- Assumes nothing.
 use borrow.Author.Needs.{needs}
-use Rattle.power.specs.Power.{boardOf}
+use Rattle.attention_rules.specs.Power.{boardOf}
 use Rattle.power.proofs.read_board.Statement.{statement}
 use Rattle.power.proofs.read_board.Tie as tie
 

@@ -2,8 +2,8 @@
 -- Assumes nothing.
 use borrow.Author.Needs.{needs}
 use mathlib.Core.Path.{ap}
-use Rattle.memory.specs.Buffers.{buffers}
-use Rattle.service.specs.Calls.{Made}
+use Rattle.ground_rules.specs.Buffers.{buffers}
+use Rattle.state_rules.specs.Calls.{Made}
 use Rattle.processor_calls.specs.Calls.{madeAs, pairReset}
 use Rattle.processor_calls.proofs.NamedLaws.{leaves-one, leaves-two, leaves-none}
 use Rattle.processor_calls.proofs.iop89_pair_reset.Statement.{statement}

@@ -2,8 +2,8 @@
 -- Assumes nothing.
 use borrow.Author.Tests.{leb-true}
 use native.Mathlib.Omega.{arith}
-use Rattle.words.proofs.ChoiceLaws.{both-left}
-use Rattle.prom.specs.Records.{hexValue}
+use Rattle.ground_rules.proofs.ChoiceLaws.{both-left}
+use Rattle.prom_rules.specs.Records.{hexValue}
 use Rattle.prom.proofs.digit.Statement.{statement}
 use Rattle.prom.proofs.digit.Tie as tie
 

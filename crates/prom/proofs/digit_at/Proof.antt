@@ -4,7 +4,7 @@ use borrow.Author.Needs.{needs}
 use denote.Ref.{now}
 use lib.ListN.{List·getD-eq-default}
 use mathlib.Core.Path.{ap, sym}
-use Rattle.prom.specs.Records.{hexValue}
+use Rattle.prom_rules.specs.Records.{hexValue}
 use Rattle.prom.proofs.digit_at.Statement.{statement}
 use Rattle.prom.proofs.digit_at.Tie as tie
 

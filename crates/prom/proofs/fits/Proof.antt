@@ -1,7 +1,7 @@
 -- `prom::fits` meets its contract.
 -- Assumes nothing.
 use borrow.Author.Needs.{needs}
-use Rattle.prom.specs.Records.{fitsType}
+use Rattle.prom_rules.specs.Records.{fitsType}
 use Rattle.prom.proofs.fits.Statement.{statement}
 use Rattle.prom.proofs.fits.Tie as tie
 

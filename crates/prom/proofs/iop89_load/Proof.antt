@@ -5,9 +5,9 @@ use denote.Ref.{now}
 use mathlib.Core.List.{[]}
 use mathlib.Core.Path.{ap}
 use native.Mathlib.Omega.{arith}
-use Rattle.memory.specs.Buffers.{buffers}
-use Rattle.prom.specs.Load.{Loading, wordForC, packedWith}
-use Rattle.prom.proofs.Bounds.{number-most, start-below}
+use Rattle.ground_rules.specs.Buffers.{buffers}
+use Rattle.prom_rules.specs.Load.{Loading, wordForC, packedWith}
+use Rattle.prom_rules.proofs.Bounds.{number-most, start-below}
 use Rattle.prom.proofs.iop89_load.Statement.{statement}
 use Rattle.prom.proofs.iop89_load.Tie as tie
 

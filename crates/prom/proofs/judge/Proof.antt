@@ -8,12 +8,12 @@ use lib.ListN.{length, drop, drop-of-length-le}
 use mathlib.Core.List.{List, []}
 use mathlib.Core.Path.{_≡_, refl, sym, ap, _∙_}
 use native.Mathlib.Omega.{arith}
-use Rattle.memory.specs.Buffers.{buffers}
-use Rattle.prom.specs.File.{fileOf}
-use Rattle.prom.specs.Load.{textFile}
-use Rattle.prom.specs.Parts.{judgedOf}
-use Rattle.prom.specs.Text.{hexLines}
-use Rattle.prom.proofs.LoopLaws.{offset-below, size-below, segment-below, partAt, judged-last, here-bad, here-end, here-next, here-judged}
+use Rattle.ground_rules.specs.Buffers.{buffers}
+use Rattle.prom_rules.specs.File.{fileOf}
+use Rattle.prom_rules.specs.Load.{textFile}
+use Rattle.prom_rules.specs.Parts.{judgedOf}
+use Rattle.prom_rules.specs.Text.{hexLines}
+use Rattle.prom_rules.proofs.LoopLaws.{offset-below, size-below, segment-below, partAt, judged-last, here-bad, here-end, here-next, here-judged}
 use Rattle.prom.proofs.judge.Statement.{statement}
 use Rattle.prom.proofs.judge.Tie as tie
 

@@ -2,7 +2,7 @@
 -- Assumes nothing.
 use borrow.Author.Needs.{needs}
 use borrow.Author.Tests.{lt-ltb, le-ltb}
-use Rattle.prom.specs.File.{nextLine}
+use Rattle.prom_rules.specs.File.{nextLine}
 use Rattle.prom.proofs.next_line.Statement.{statement}
 use Rattle.prom.proofs.next_line.Tie as tie
 

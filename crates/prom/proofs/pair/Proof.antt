@@ -5,7 +5,7 @@ use borrow.Author.Needs.{needs}
 use denote.Ref.{now}
 use lib.ListN.{getD}
 use native.Mathlib.Omega.{arith}
-use Rattle.prom.proofs.DigitLaws.{digit-most}
+use Rattle.prom_rules.proofs.DigitLaws.{digit-most}
 use Rattle.prom.proofs.pair.Statement.{statement}
 use Rattle.prom.proofs.pair.Tie as tie
 

@@ -7,11 +7,11 @@ use lib.ListN.{length, drop}
 use mathlib.Core.List.{[]}
 use mathlib.Core.Path.{_≡_, refl, sym, ap, _∙_}
 use native.Mathlib.Omega.{arith}
-use Rattle.memory.specs.Buffers.{Buffers, buffers}
-use Rattle.prom.specs.File.{storesFrom}
-use Rattle.prom.specs.Load.{storeAll}
-use Rattle.prom.specs.Records.{hexBytes}
-use Rattle.prom.proofs.LoopLaws.{put-step, put-last}
+use Rattle.ground_rules.specs.Buffers.{Buffers, buffers}
+use Rattle.prom_rules.specs.File.{storesFrom}
+use Rattle.prom_rules.specs.Load.{storeAll}
+use Rattle.prom_rules.specs.Records.{hexBytes}
+use Rattle.prom_rules.proofs.LoopLaws.{put-step, put-last}
 use Rattle.prom.proofs.put.Statement.{statement}
 use Rattle.prom.proofs.put.Tie as tie
 

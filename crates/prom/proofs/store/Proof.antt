@@ -8,11 +8,11 @@ use lib.ListN.{length, drop, drop-of-length-le}
 use mathlib.Core.List.{List, []}
 use mathlib.Core.Path.{_≡_, refl, sym, ap, _∙_}
 use native.Mathlib.Omega.{arith}
-use Rattle.memory.specs.Buffers.{buffers}
-use Rattle.prom.specs.File.{File, fileOf}
-use Rattle.prom.specs.Load.{storeAll, textFile}
-use Rattle.prom.specs.Text.{hexLines}
-use Rattle.prom.proofs.LoopLaws.{segment-below, partAt, here-end, here-good, here-next, here-stored, here-number}
+use Rattle.ground_rules.specs.Buffers.{buffers}
+use Rattle.prom_rules.specs.File.{File, fileOf}
+use Rattle.prom_rules.specs.Load.{storeAll, textFile}
+use Rattle.prom_rules.specs.Text.{hexLines}
+use Rattle.prom_rules.proofs.LoopLaws.{segment-below, partAt, here-end, here-good, here-next, here-stored, here-number}
 use Rattle.prom.proofs.store.Statement.{statement}
 use Rattle.prom.proofs.store.Tie as tie
 

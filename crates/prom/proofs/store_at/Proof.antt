@@ -6,7 +6,7 @@ use denote.Ref.{now}
 use lib.Seq.{set-out}
 use mathlib.Core.List.{List, []}
 use mathlib.Core.Path.{sym, ap}
-use Rattle.memory.specs.Buffers.{buffers, storeByte, indexOf, limitOf}
+use Rattle.ground_rules.specs.Buffers.{buffers, storeByte, indexOf, limitOf}
 use Rattle.prom.proofs.store_at.Statement.{statement}
 use Rattle.prom.proofs.store_at.Tie as tie
 

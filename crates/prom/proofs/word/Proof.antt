@@ -6,7 +6,7 @@ use denote.Ref.{now}
 use lib.ListN.{getD}
 use mathlib.Core.Path.{_≡_}
 use native.Mathlib.Omega.{arith}
-use Rattle.prom.proofs.DigitLaws.{digit-most}
+use Rattle.prom_rules.proofs.DigitLaws.{digit-most}
 use Rattle.prom.proofs.word.Statement.{statement}
 use Rattle.prom.proofs.word.Tie as tie
 

@@ -3,7 +3,7 @@
 use borrow.Author.Needs.{needs}
 use mathlib.Core.Path.{refl}
 use native.Mathlib.Omega.{arith}
-use Rattle.service.proofs.ForthLaws.{bytes-back}
+use Rattle.state_rules.proofs.ForthLaws.{bytes-back}
 use Rattle.schedule_calls.proofs.begin.Statement.{statement}
 use Rattle.schedule_calls.proofs.begin.Tie as tie
 

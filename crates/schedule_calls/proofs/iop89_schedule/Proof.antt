@@ -28,9 +28,9 @@ use denote.Triple.Table.{entered, cited}
 use denote.Triple.Walked.{says, Stays, stay-slice, stay-none-slice, walkOf, goes-slice, goes-none-slice, Walks, ends-at, walked, walk-meets}
 use denote.Exit.{yes}
 use denote.Struct.Laws as LL
-use Rattle.words.specs.Choice.{pick}
-use Rattle.memory.specs.Buffers.{buffers}
-use Rattle.service.specs.Layout.{bytesOf, stateIn, isState}
+use Rattle.ground_rules.specs.Choice.{pick}
+use Rattle.ground_rules.specs.Buffers.{buffers}
+use Rattle.state_rules.specs.Layout.{bytesOf, stateIn, isState}
 use Rattle.schedule.specs.{Reports.noReport, Reports.putOver, Rows.allKnown, declared.ScheduleRow.ScheduleRow}
 use Rattle.schedule.proofs.ScheduleRow as R
 use Rattle.schedule.proofs.ScheduleRow.Laws as R′

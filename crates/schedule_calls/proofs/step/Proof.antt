@@ -4,8 +4,8 @@ use borrow.Author.Needs.{needs}
 use denote.Ref.{now}
 use mathlib.Core.Path.{_≡_}
 use native.Mathlib.Omega.{arith}
-use Rattle.memory.specs.Buffers.{buffers}
-use Rattle.service.proofs.CallLaws.{state-length}
+use Rattle.ground_rules.specs.Buffers.{buffers}
+use Rattle.state_rules.proofs.CallLaws.{state-length}
 use Rattle.schedule_calls.proofs.{TurnLaws.all-bytes, TurnLaws.step-row, TurnLaws.found-of, step.Statement.statement}
 use Rattle.schedule_calls.proofs.step.Tie as tie
 

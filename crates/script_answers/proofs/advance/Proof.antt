@@ -3,7 +3,7 @@
 use Prim.Native.Nat.{ℕ}
 use mathlib.Core.Path.{refl, ap, ap₂}
 use Rattle.page.proofs.PageLaws.{reads}
-use Rattle.step.specs.Step.{Step}
+use Rattle.turn_rules.specs.Step.{Step}
 use Rattle.script_lines.specs.Lines.{steppedLine}
 use Rattle.script_answers.specs.Machine.{machine, machineAdvanced}
 use Rattle.script_answers.specs.Shown.{advancedLine}

@@ -7,7 +7,7 @@ use lib.ListN.{take, drop, length-take}
 use mathlib.Core.Bool.{true, false}
 use mathlib.Core.Path.{_≡_, sym, ap, _∙_}
 use native.Mathlib.Omega.{arith}
-use Rattle.lister.specs.Listings.{linesOf, allChars}
+use Rattle.listing_rules.specs.Listings.{linesOf, allChars}
 use Rattle.page.proofs.PageLaws.{reads}
 use Rattle.script_lines.specs.Lines.{refusedLine}
 use Rattle.script_answers.specs.Machine.{isPart}

@@ -2,7 +2,7 @@
 -- Assumes nothing.
 use mathlib.Core.Path.{ap}
 use Rattle.page.proofs.PageLaws.{reads}
-use Rattle.prom.specs.Load.{Loading}
+use Rattle.prom_rules.specs.Load.{Loading}
 use Rattle.script_answers.specs.Shown.{loadText}
 use borrow.Author.Needs.{needs}
 use Rattle.script_answers.proofs.load.Statement.{statement}

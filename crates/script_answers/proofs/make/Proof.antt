@@ -5,9 +5,9 @@ use denote.Ref.{now}
 use lib.ListN.{length, replicate}
 use mathlib.Core.List.{List}
 use mathlib.Core.Path.{refl, ap, ap₂, _∙_}
-use Rattle.machine.specs.declared.Made.{Made}
-use Rattle.memory.specs.Buffers.{buffers}
-use Rattle.notation.specs.Characters.{ascii}
+use Rattle.ground_rules.specs.declared.Made.{Made}
+use Rattle.ground_rules.specs.Buffers.{buffers}
+use Rattle.listing_rules.specs.Characters.{ascii}
 use Rattle.page.proofs.PageLaws.{reads}
 use Rattle.script_lines.specs.Lines.{answerLine}
 use Rattle.script_answers.specs.Machine.{machine, remade}

@@ -5,7 +5,7 @@ use denote.Ref.{now}
 use mathlib.Core.List.{List}
 use mathlib.Core.Path.{sym, ap, _∙_}
 use native.Mathlib.Omega.{arith}
-use Rattle.memory.specs.Buffers.{buffers}
+use Rattle.ground_rules.specs.Buffers.{buffers}
 use Rattle.page.proofs.PageLaws.{reads}
 use Rattle.script_text.specs.declared.text.Call.{Call}
 use Rattle.script_answers.specs.Machine.{machine, machineLoaded, callPerformed, callMade}

@@ -5,8 +5,8 @@ use denote.Ref.{now}
 use mathlib.Core.Bool.{Bool}
 use mathlib.Core.List.{List}
 use mathlib.Core.Path.{ap, _∙_}
-use Rattle.words.specs.Choice.{pick}
-use Rattle.memory.specs.Buffers.{buffers}
+use Rattle.ground_rules.specs.Choice.{pick}
+use Rattle.ground_rules.specs.Buffers.{buffers}
 use Rattle.script_text.specs.Buffers.{bytesWritten}
 use Rattle.script_text.specs.Text.{spanned}
 use Rattle.script_answers.specs.Machine.{putOf, putInto}

@@ -2,7 +2,7 @@
 -- Assumes nothing.
 use borrow.Author.Needs.{needs}
 use mathlib.Core.Path.{refl}
-use Rattle.service.specs.Calls.{answerFrom}
+use Rattle.state_rules.specs.Calls.{answerFrom}
 use Rattle.service.proofs.answer.Statement.{statement}
 use Rattle.service.proofs.answer.Tie as tie
 

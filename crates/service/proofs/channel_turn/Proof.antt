@@ -4,17 +4,17 @@ use Prim.Native.Nat.{ℕ}
 use borrow.Author.Needs.{needs}
 use denote.Ref.{now}
 use mathlib.Core.Path.{sym, ap, ap₂, _∙_}
-use Rattle.execute.specs.Execute.{touchedByInstruction, Executed, executeOf, executeCount}
-use Rattle.machine.specs.Outcomes.{counted}
-use Rattle.machine.specs.Psw.{transferring}
-use Rattle.machine.specs.States.{channelOf, blockOf, busyIn}
-use Rattle.machine.specs.declared.Channel.{Channel}
-use Rattle.memory.specs.Buffers.{buffers}
-use Rattle.transfer.specs.Steps.{touchedByTransfer, transferOf, transferCount}
-use Rattle.transfer.specs.Steps as Steps
-use Rattle.words.specs.Sums.{sum20}
-use Rattle.step.specs.Step.{channelStep}
-use Rattle.step.specs.Touched.{touchedIn}
+use Rattle.instruction_rules.specs.Execute.{touchedByInstruction, Executed, executeOf, executeCount}
+use Rattle.ground_rules.specs.Outcomes.{counted}
+use Rattle.ground_rules.specs.Psw.{transferring}
+use Rattle.ground_rules.specs.States.{channelOf, blockOf, busyIn}
+use Rattle.ground_rules.specs.declared.Channel.{Channel}
+use Rattle.ground_rules.specs.Buffers.{buffers}
+use Rattle.transfer_rules.specs.Steps.{touchedByTransfer, transferOf, transferCount}
+use Rattle.transfer_rules.specs.Steps as Steps
+use Rattle.ground_rules.specs.Sums.{sum20}
+use Rattle.turn_rules.specs.Step.{channelStep}
+use Rattle.turn_rules.specs.Touched.{touchedIn}
 use Rattle.service.proofs.TurnLaws.{transfer-turned, instruction-turned}
 use Rattle.service.proofs.channel_turn.Statement.{statement}
 use Rattle.service.proofs.channel_turn.Tie as tie

@@ -3,9 +3,9 @@
 use borrow.Author.Needs.{needs}
 use borrow.Author.Tests.{lt-ltb, le-ltb, le-leb, lt-leb, not-true, not-false}
 use mathlib.Core.Path.{sym, ap, _∙_}
-use Rattle.machine.specs.Outcomes.{unless, first, givenNumber}
-use Rattle.machine.specs.States.{agree}
-use Rattle.step.specs.Step.{entryNumber}
+use Rattle.ground_rules.specs.Outcomes.{unless, first, givenNumber}
+use Rattle.ground_rules.specs.States.{agree}
+use Rattle.turn_rules.specs.Step.{entryNumber}
 use Rattle.service.proofs.entry_number.Statement.{statement}
 use Rattle.service.proofs.entry_number.Tie as tie
 

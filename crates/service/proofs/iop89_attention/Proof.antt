@@ -4,10 +4,10 @@ use borrow.Author.Needs.{needs}
 use borrow.Author.Tests.{not-true, not-false}
 use denote.Ref.{now}
 use mathlib.Core.Path.{sym, ap, _∙_}
-use Rattle.attention.specs.Attention.{attentionOf, attentionCount}
-use Rattle.machine.specs.declared.State.{State}
-use Rattle.memory.specs.Buffers.{buffers}
-use Rattle.service.proofs.CallLaws.{state-length, attention-none, attention-served}
+use Rattle.attention_rules.specs.Attention.{attentionOf, attentionCount}
+use Rattle.ground_rules.specs.declared.State.{State}
+use Rattle.ground_rules.specs.Buffers.{buffers}
+use Rattle.state_rules.proofs.CallLaws.{state-length, attention-none, attention-served}
 use Rattle.service.proofs.iop89_attention.Statement.{statement}
 use Rattle.service.proofs.iop89_attention.Tie as tie
 

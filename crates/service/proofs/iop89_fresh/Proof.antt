@@ -2,7 +2,7 @@
 -- Assumes nothing.
 use borrow.Author.Needs.{needs}
 use denote.Ref.{now}
-use Rattle.service.proofs.CallLaws.{fresh-short, fresh-made}
+use Rattle.state_rules.proofs.CallLaws.{fresh-short, fresh-made}
 use Rattle.service.proofs.iop89_fresh.Statement.{statement}
 use Rattle.service.proofs.iop89_fresh.Tie as tie
 

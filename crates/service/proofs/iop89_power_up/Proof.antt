@@ -4,10 +4,10 @@ use borrow.Author.Needs.{needs}
 use borrow.Author.Tests.{not-true, not-false}
 use denote.Ref.{now}
 use mathlib.Core.Path.{sym, ap, _∙_}
-use Rattle.machine.specs.declared.State.{State}
-use Rattle.memory.specs.Buffers.{buffers}
-use Rattle.power.specs.Power.{powerUpOf}
-use Rattle.service.proofs.CallLaws.{state-length, power-none, power-served}
+use Rattle.ground_rules.specs.declared.State.{State}
+use Rattle.ground_rules.specs.Buffers.{buffers}
+use Rattle.attention_rules.specs.Power.{powerUpOf}
+use Rattle.state_rules.proofs.CallLaws.{state-length, power-none, power-served}
 use Rattle.service.proofs.iop89_power_up.Statement.{statement}
 use Rattle.service.proofs.iop89_power_up.Tie as tie
 

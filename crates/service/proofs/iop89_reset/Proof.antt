@@ -2,7 +2,7 @@
 -- Assumes nothing.
 use borrow.Author.Needs.{needs}
 use denote.Ref.{now}
-use Rattle.service.proofs.CallLaws.{reset-short, reset-made}
+use Rattle.state_rules.proofs.CallLaws.{reset-short, reset-made}
 use Rattle.service.proofs.iop89_reset.Statement.{statement}
 use Rattle.service.proofs.iop89_reset.Tie as tie
 

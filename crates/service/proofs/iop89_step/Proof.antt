@@ -6,16 +6,16 @@ use borrow.Author.Tests.{not-true, not-false, eqb-false}
 use denote.Ref.{now}
 use mathlib.Core.Path.{refl, sym, ap, _∙_}
 use native.Mathlib.Omega.{arith}
-use Rattle.machine.proofs.OutcomeLaws.{refused-counts}
-use Rattle.machine.specs.declared.State.{State}
-use Rattle.memory.specs.Buffers.{buffers}
-use Rattle.step.specs.Choosing.{choiceOf}
-use Rattle.step.specs.Step.{chosenStep, entryNumber}
-use Rattle.step.specs.declared.turns.Choice.the-variants.{Nobody}
-use Rattle.service.specs.Calls.{answerFrom}
-use Rattle.service.specs.Layout.{stateIn}
+use Rattle.ground_rules.proofs.OutcomeLaws.{refused-counts}
+use Rattle.ground_rules.specs.declared.State.{State}
+use Rattle.ground_rules.specs.Buffers.{buffers}
+use Rattle.turn_rules.specs.Choosing.{choiceOf}
+use Rattle.turn_rules.specs.Step.{chosenStep, entryNumber}
+use Rattle.turn_rules.specs.declared.Choice.the-variants.{Nobody}
+use Rattle.state_rules.specs.Calls.{answerFrom}
+use Rattle.state_rules.specs.Layout.{stateIn}
 use Rattle.service.specs.declared.Turn.{Turn}
-use Rattle.service.proofs.CallLaws.{state-length, step-none}
+use Rattle.state_rules.proofs.CallLaws.{state-length, step-none}
 use Rattle.service.proofs.TurnLaws.{entry-refused, chosen-step, end-turned, refused-served, turn-served}
 use Rattle.service.proofs.iop89_step.Statement.{statement}
 use Rattle.service.proofs.iop89_step.Tie as tie

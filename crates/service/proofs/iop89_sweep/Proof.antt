@@ -5,11 +5,11 @@ use borrow.Author.Tests.{not-true, not-false}
 use denote.Ref.{now}
 use mathlib.Core.Path.{sym, ap, _∙_}
 use native.Mathlib.Omega.{arith}
-use Rattle.machine.specs.declared.State.{State}
-use Rattle.memory.specs.Buffers.{buffers}
+use Rattle.ground_rules.specs.declared.State.{State}
+use Rattle.ground_rules.specs.Buffers.{buffers}
 use Rattle.sweep_rules.specs.Sweep.{sweepOf}
-use Rattle.service.proofs.CallLaws.{state-length}
-use Rattle.service.proofs.SweepLaws.{sweep-none, sweep-refused, sweep-done}
+use Rattle.state_rules.proofs.CallLaws.{state-length}
+use Rattle.state_rules.proofs.SweepLaws.{sweep-none, sweep-refused, sweep-done}
 use Rattle.service.proofs.iop89_sweep.Statement.{statement}
 use Rattle.service.proofs.iop89_sweep.Tie as tie
 

@@ -1,7 +1,7 @@
 -- `service::kind_number` meets its contract.
 -- Assumes nothing.
 use borrow.Author.Needs.{needs}
-use Rattle.service.specs.Calls.{kindNumber}
+use Rattle.state_rules.specs.Calls.{kindNumber}
 use Rattle.service.proofs.kind_number.Statement.{statement}
 use Rattle.service.proofs.kind_number.Tie as tie
 

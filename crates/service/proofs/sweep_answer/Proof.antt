@@ -2,7 +2,7 @@
 -- Assumes nothing.
 use borrow.Author.Needs.{needs}
 use mathlib.Core.Path.{refl}
-use Rattle.service.specs.Calls.{sweepAnswerFrom}
+use Rattle.state_rules.specs.Calls.{sweepAnswerFrom}
 use Rattle.service.proofs.sweep_answer.Statement.{statement}
 use Rattle.service.proofs.sweep_answer.Tie as tie
 

@@ -2,10 +2,10 @@
 -- Assumes nothing.
 use borrow.Author.Needs.{needs}
 use mathlib.Core.Path.{sym, ap, _∙_}
-use Rattle.machine.specs.Psw.{transferring}
-use Rattle.machine.specs.declared.Channel.{Channel}
-use Rattle.step.specs.Step.{channelStep}
-use Rattle.step.specs.Touched.{touchedIn}
+use Rattle.ground_rules.specs.Psw.{transferring}
+use Rattle.ground_rules.specs.declared.Channel.{Channel}
+use Rattle.turn_rules.specs.Step.{channelStep}
+use Rattle.turn_rules.specs.Touched.{touchedIn}
 use Rattle.step.proofs.channel_step.Statement.{statement}
 use Rattle.step.proofs.channel_step.Tie as tie
 

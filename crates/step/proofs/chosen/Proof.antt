@@ -3,13 +3,13 @@
 use borrow.Author.Needs.{needs}
 use denote.Ref.{now}
 use mathlib.Core.Path.{sym, ap, _∙_}
-use Rattle.machine.specs.Outcomes.{counted}
-use Rattle.memory.specs.Buffers.{buffers}
-use Rattle.step.specs.declared.turns.Choice.{Choice}
-use Rattle.step.specs.Step.{left, externalStep, chosenStep}
-use Rattle.step.specs.Touched.{touchedIn}
-use Rattle.step.specs.declared.Stepped.{Stepped}
-use Rattle.step.proofs.StepLaws.{counts-none}
+use Rattle.ground_rules.specs.Outcomes.{counted}
+use Rattle.ground_rules.specs.Buffers.{buffers}
+use Rattle.turn_rules.specs.declared.Choice.{Choice}
+use Rattle.turn_rules.specs.Step.{left, externalStep, chosenStep}
+use Rattle.turn_rules.specs.Touched.{touchedIn}
+use Rattle.turn_rules.specs.declared.Stepped.{Stepped}
+use Rattle.turn_rules.proofs.StepLaws.{counts-none}
 use Rattle.step.proofs.chosen.Statement.{statement}
 use Rattle.step.proofs.chosen.Tie as tie
 

@@ -2,8 +2,8 @@
 -- Assumes nothing.
 use borrow.Author.Needs.{needs}
 use borrow.Author.Tests.{lt-ltb, le-ltb, le-leb, lt-leb}
-use Rattle.machine.specs.Outcomes.{unless, first}
-use Rattle.step.specs.Step.{entryNumber}
+use Rattle.ground_rules.specs.Outcomes.{unless, first}
+use Rattle.turn_rules.specs.Step.{entryNumber}
 use Rattle.step.proofs.entry_number.Statement.{statement}
 use Rattle.step.proofs.entry_number.Tie as tie
 

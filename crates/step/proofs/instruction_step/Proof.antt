@@ -4,16 +4,16 @@ use Prim.Native.Nat.{ℕ}
 use borrow.Author.Needs.{needs}
 use denote.Ref.{now}
 use mathlib.Core.Path.{sym, ap, ap₂, _∙_}
-use Rattle.execute.specs.Execute.{touchedByInstruction, Executed, executeOf, executeCount}
-use Rattle.machine.specs.Outcomes.{counted}
-use Rattle.machine.specs.States.{channelOf, blockOf, busyIn}
-use Rattle.machine.specs.declared.Channel.{Channel}
-use Rattle.memory.specs.Buffers.{buffers}
-use Rattle.words.specs.Sums.{sum20}
-use Rattle.step.specs.Step.{settledStep, instructionStep}
-use Rattle.step.specs.declared.Kind.{Kind}
-use Rattle.step.specs.declared.Kind.the-variants.{Instruction}
-use Rattle.step.proofs.StepLaws.{execute-kept, settles, settled-counts}
+use Rattle.instruction_rules.specs.Execute.{touchedByInstruction, Executed, executeOf, executeCount}
+use Rattle.ground_rules.specs.Outcomes.{counted}
+use Rattle.ground_rules.specs.States.{channelOf, blockOf, busyIn}
+use Rattle.ground_rules.specs.declared.Channel.{Channel}
+use Rattle.ground_rules.specs.Buffers.{buffers}
+use Rattle.ground_rules.specs.Sums.{sum20}
+use Rattle.turn_rules.specs.Step.{settledStep, instructionStep}
+use Rattle.turn_rules.specs.declared.Kind.{Kind}
+use Rattle.turn_rules.specs.declared.Kind.the-variants.{Instruction}
+use Rattle.turn_rules.proofs.StepLaws.{execute-kept, settles, settled-counts}
 use Rattle.step.proofs.instruction_step.Statement.{statement}
 use Rattle.step.proofs.instruction_step.Tie as tie
 

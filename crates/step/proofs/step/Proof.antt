@@ -5,13 +5,13 @@ use borrow.Author.Needs.{needs}
 use borrow.Author.Tests.{eq-eqb, ne-eqb}
 use denote.Ref.{now}
 use mathlib.Core.Path.{_≡_, sym, ap, _∙_}
-use Rattle.machine.proofs.OutcomeLaws.{refused-counts}
-use Rattle.machine.specs.Outcomes.{counted}
-use Rattle.memory.specs.Buffers.{buffers}
-use Rattle.step.specs.declared.turns.Choice.{Choice}
-use Rattle.step.specs.Step.{Step, left, refusedAs, chosenStep, entryNumber, stepOf}
-use Rattle.step.specs.Touched.{touchedIn, touchedByStep, stepCount}
-use Rattle.step.specs.declared.Stepped.{Stepped}
+use Rattle.ground_rules.proofs.OutcomeLaws.{refused-counts}
+use Rattle.ground_rules.specs.Outcomes.{counted}
+use Rattle.ground_rules.specs.Buffers.{buffers}
+use Rattle.turn_rules.specs.declared.Choice.{Choice}
+use Rattle.turn_rules.specs.Step.{Step, left, refusedAs, chosenStep, entryNumber, stepOf}
+use Rattle.turn_rules.specs.Touched.{touchedIn, touchedByStep, stepCount}
+use Rattle.turn_rules.specs.declared.Stepped.{Stepped}
 use Rattle.step.proofs.step.Statement.{statement}
 use Rattle.step.proofs.step.Tie as tie
 

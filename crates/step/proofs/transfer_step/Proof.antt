@@ -3,17 +3,17 @@
 use borrow.Author.Needs.{needs}
 use denote.Ref.{now}
 use mathlib.Core.Path.{sym, ap, _∙_}
-use Rattle.machine.specs.Outcomes.{counted}
-use Rattle.machine.specs.States.{channelOf}
-use Rattle.machine.specs.declared.Channel.{Channel}
-use Rattle.memory.specs.Buffers.{buffers}
-use Rattle.transfer.specs.Steps.{touchedByTransfer, transferOf, transferCount}
-use Rattle.step.specs.declared.turns.Choice.the-variants.{Steps}
-use Rattle.transfer.specs.Steps as Steps
-use Rattle.step.specs.Step.{settledStep, transferStep}
-use Rattle.step.specs.declared.Kind.{Kind}
-use Rattle.step.specs.declared.Kind.the-variants.{Transfer}
-use Rattle.step.proofs.StepLaws.{transfer-kept, settles, settled-counts}
+use Rattle.ground_rules.specs.Outcomes.{counted}
+use Rattle.ground_rules.specs.States.{channelOf}
+use Rattle.ground_rules.specs.declared.Channel.{Channel}
+use Rattle.ground_rules.specs.Buffers.{buffers}
+use Rattle.transfer_rules.specs.Steps.{touchedByTransfer, transferOf, transferCount}
+use Rattle.turn_rules.specs.declared.Choice.the-variants.{Steps}
+use Rattle.transfer_rules.specs.Steps as Steps
+use Rattle.turn_rules.specs.Step.{settledStep, transferStep}
+use Rattle.turn_rules.specs.declared.Kind.{Kind}
+use Rattle.turn_rules.specs.declared.Kind.the-variants.{Transfer}
+use Rattle.turn_rules.proofs.StepLaws.{transfer-kept, settles, settled-counts}
 use Rattle.step.proofs.transfer_step.Statement.{statement}
 use Rattle.step.proofs.transfer_step.Tie as tie
 

@@ -4,10 +4,10 @@ use borrow.Author.Needs.{needs}
 use mathlib.Core.Bool.{Bool, not, _&&_, _||_}
 use mathlib.Core.Path.{_≡_, sym, ap, ap₂, _∙_}
 use native.Mathlib.Omega.{arith}
-use Rattle.words.specs.Bits.{bitOf}
-use Rattle.machine.specs.Psw.{sourceWide, destinationWide}
-use Rattle.machine.specs.declared.Channel.{Channel}
-use Rattle.transfer.specs.Sides.{source, destination, wordSide}
+use Rattle.ground_rules.specs.Bits.{bitOf}
+use Rattle.ground_rules.specs.Psw.{sourceWide, destinationWide}
+use Rattle.ground_rules.specs.declared.Channel.{Channel}
+use Rattle.transfer_rules.specs.Sides.{source, destination, wordSide}
 use Rattle.block_rules.specs.Premises.{from, into}
 use Rattle.block_rules.specs.Totals.{alone}
 use Rattle.sweep.specs.declared.Remainder.{Remainder}

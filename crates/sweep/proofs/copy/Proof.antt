@@ -7,7 +7,7 @@ use mathlib.Core.Bool.{true, false}
 use mathlib.Core.List.{List}
 use mathlib.Core.Path.{sym, ap, _∙_}
 use native.Mathlib.Omega.{arith}
-use Rattle.memory.specs.Buffers.{buffers, spaceOf}
+use Rattle.ground_rules.specs.Buffers.{buffers, spaceOf}
 use Rattle.sweep.proofs.SpaceLaws.{replaced, range-in, copied-within, copied-across}
 use Rattle.sweep.proofs.copy.Statement.{statement}
 use Rattle.sweep.proofs.copy.Tie as tie

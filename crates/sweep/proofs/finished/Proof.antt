@@ -1,8 +1,8 @@
 -- `sweep::finished` meets its contract: register by register.
 -- Assumes nothing.
 use borrow.Author.Needs.{needs}
-use Rattle.memory.specs.Values.{onward}
-use Rattle.machine.specs.Updates.{withTransfer}
+use Rattle.ground_rules.specs.Values.{onward}
+use Rattle.ground_rules.specs.Updates.{withTransfer}
 use Rattle.block_rules.specs.Stages.{finished}
 use Rattle.sweep.proofs.finished.Statement.{statement}
 use Rattle.sweep.proofs.finished.Tie as tie

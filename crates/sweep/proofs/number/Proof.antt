@@ -7,9 +7,9 @@ use denote.Ref.{now}
 use lib.Dec.{ltb}
 use mathlib.Core.Bool.{Bool, true, false, not, _&&_}
 use mathlib.Core.Path.{_≡_, refl, sym, ap, _∙_}
-use Rattle.memory.specs.Buffers.{buffers}
-use Rattle.machine.specs.Outcomes.{first, unless, givenNumber}
-use Rattle.machine.specs.States.{isChannel}
+use Rattle.ground_rules.specs.Buffers.{buffers}
+use Rattle.ground_rules.specs.Outcomes.{first, unless, givenNumber}
+use Rattle.ground_rules.specs.States.{isChannel}
 use Rattle.sweep_rules.specs.Sweep.{sweepNumber}
 use Rattle.sweep.proofs.number.Statement.{statement}
 use Rattle.sweep.proofs.number.Tie as tie

@@ -1,7 +1,7 @@
 -- `sweep::offset` meets its contract: by the code.
 -- Assumes nothing.
 use borrow.Author.Tests.{ne-eqb}
-use Rattle.transfer.specs.Ends.{offsetOf}
+use Rattle.transfer_rules.specs.Ends.{offsetOf}
 use Rattle.sweep.proofs.offset.Statement.{statement}
 use Rattle.sweep.proofs.offset.Tie as tie
 

@@ -1,7 +1,7 @@
 -- `sweep::place` meets its contract: by the tag.
 -- Assumes nothing.
 use borrow.Author.Needs.{needs}
-use Rattle.memory.specs.Buffers.{indexOf, limitOf}
+use Rattle.ground_rules.specs.Buffers.{indexOf, limitOf}
 use Rattle.sweep.proofs.place.Statement.{statement}
 use Rattle.sweep.proofs.place.Tie as tie
 

@@ -2,8 +2,8 @@
 -- Assumes nothing.
 use borrow.Author.Needs.{needs}
 use native.Mathlib.Omega.{arith}
-use Rattle.memory.proofs.PlaceLaws.{index-small}
-use Rattle.memory.specs.Buffers.{spaceOf}
+use Rattle.ground_rules.proofs.PlaceLaws.{index-small}
+use Rattle.ground_rules.specs.Buffers.{spaceOf}
 use Rattle.sweep_rules.specs.Ranges.{rangeLent}
 use Rattle.sweep.proofs.range_lent.Statement.{statement}
 use Rattle.sweep.proofs.range_lent.Tie as tie

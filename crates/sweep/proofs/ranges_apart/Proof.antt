@@ -6,7 +6,7 @@ use lib.Dec.{leb}
 use mathlib.Core.Bool.{Bool, not, _||_}
 use mathlib.Core.Path.{ap}
 use native.Mathlib.Omega.{arith}
-use Rattle.memory.proofs.PlaceLaws.{index-small}
+use Rattle.ground_rules.proofs.PlaceLaws.{index-small}
 use Rattle.sweep_rules.specs.Ranges.{placeOf, rangesApart}
 use Rattle.sweep.proofs.SpaceLaws.{same-bits}
 use Rattle.sweep.proofs.ranges_apart.Statement.{statement}

@@ -1,7 +1,7 @@
 -- `sweep::remainder_of` meets its contract: the source is GA, or GB by its field.
 -- Assumes nothing.
 use borrow.Author.Needs.{needs}
-use Rattle.transfer.specs.Sides.{source, destination}
+use Rattle.transfer_rules.specs.Sides.{source, destination}
 use Rattle.sweep.proofs.remainder_of.Statement.{statement}
 use Rattle.sweep.proofs.remainder_of.Tie as tie
 

@@ -4,8 +4,8 @@ use Prim.Native.Nat.{ℕ}
 use borrow.Author.Needs.{needs}
 use denote.Ref.{now}
 use mathlib.Core.Path.{_≡_, sym, ap, _∙_}
-use Rattle.memory.specs.Buffers.{buffers}
-use Rattle.machine.specs.States.{channelOf, isSecond}
+use Rattle.ground_rules.specs.Buffers.{buffers}
+use Rattle.ground_rules.specs.States.{channelOf, isSecond}
 use Rattle.sweep_rules.proofs.PassedLaws.{passed-limits, passed-ranges, accepted-sweep, refused-sweep}
 use Rattle.sweep_rules.specs.Sweep.{refusedSweep, sweepNumber, doneSweep}
 use Rattle.sweep.specs.Remainders.{remainderOf}

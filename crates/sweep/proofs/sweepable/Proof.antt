@@ -1,7 +1,7 @@
 -- `sweep::sweepable` meets its contract: its tests are those of the definition.
 -- Assumes nothing.
 use borrow.Author.Needs.{needs}
-use Rattle.step.specs.Choosing.{external}
+use Rattle.turn_rules.specs.Choosing.{external}
 use Rattle.sweep_rules.specs.Sweep.{sweepable, plainTransfer, noneExternal}
 use Rattle.sweep.proofs.sweepable.Statement.{statement}
 use Rattle.sweep.proofs.sweepable.Tie as tie

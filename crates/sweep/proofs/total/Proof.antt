@@ -3,9 +3,9 @@
 use borrow.Author.Needs.{needs}
 use mathlib.Core.Bool.{Bool, not, _&&_}
 use mathlib.Core.Path.{_≡_, sym, ap₂}
-use Rattle.machine.specs.Psw.{sourceWide, destinationWide}
-use Rattle.machine.specs.declared.Channel.{Channel}
-use Rattle.transfer.specs.Sides.{source, destination}
+use Rattle.ground_rules.specs.Psw.{sourceWide, destinationWide}
+use Rattle.ground_rules.specs.declared.Channel.{Channel}
+use Rattle.transfer_rules.specs.Sides.{source, destination}
 use Rattle.block_rules.specs.Totals.{narrow, total}
 use Rattle.sweep.proofs.total.Statement.{statement}
 use Rattle.sweep.proofs.total.Tie as tie

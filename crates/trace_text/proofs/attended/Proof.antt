@@ -3,11 +3,11 @@
 use borrow.Author.Tests.{eq-eqb, ne-eqb}
 use denote.Ref.{now}
 use mathlib.Core.Path.{sym, ap, _∙_}
-use Rattle.memory.specs.Buffers.{buffers}
-use Rattle.machine.specs.Outcomes.{Outcome}
-use Rattle.attention.specs.Attention.{attentionOf}
+use Rattle.ground_rules.specs.Buffers.{buffers}
+use Rattle.ground_rules.specs.Outcomes.{Outcome}
+use Rattle.attention_rules.specs.Attention.{attentionOf}
 use Rattle.page.proofs.PageLaws.{reads}
-use Rattle.panel.specs.Run.{ran, stepsFrom, attendedRun}
+use Rattle.run_rules.specs.Run.{ran, stepsFrom, attendedRun}
 use Rattle.trace_text.specs.Line.{endLine}
 use Rattle.trace_text.specs.Trace.{stepsText, attendedText}
 use borrow.Author.Needs.{needs}

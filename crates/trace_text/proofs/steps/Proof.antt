@@ -6,12 +6,12 @@ use lib.ListN.{length}
 use mathlib.Core.List.{_++_}
 use mathlib.Core.Path.{_≡_, refl, sym, ap, _∙_}
 use native.Mathlib.Omega.{arith}
-use Rattle.memory.specs.Buffers.{buffers}
-use Rattle.step.specs.Step.{Step, stepOf}
+use Rattle.ground_rules.specs.Buffers.{buffers}
+use Rattle.turn_rules.specs.Step.{Step, stepOf}
 use Rattle.page.specs.Pages.{Page, page, written}
 use Rattle.page.proofs.PageLaws.{written-both}
-use Rattle.panel.specs.Run.{ran, stepsFrom}
-use Rattle.panel.proofs.RunLaws.{stops, goes, limits}
+use Rattle.run_rules.specs.Run.{ran, stepsFrom}
+use Rattle.run_rules.proofs.RunLaws.{stops, goes, limits}
 use Rattle.trace_text.specs.Line.{stepLine, endLine}
 use Rattle.trace_text.specs.Trace.{stepsText}
 use Rattle.trace_text.proofs.TextLaws.{refused-text, done-text, limit-text}

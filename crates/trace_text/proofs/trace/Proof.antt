@@ -6,11 +6,11 @@ use denote.Ref.{now}
 use lib.ListN.{length}
 use mathlib.Core.Path.{_≡_, sym, ap, _∙_}
 use native.Mathlib.Omega.{arith}
-use Rattle.machine.specs.declared.Made.{Made}
-use Rattle.machine.specs.States.{freshOf}
-use Rattle.attention.specs.Attention.{attentionOf}
+use Rattle.ground_rules.specs.declared.Made.{Made}
+use Rattle.ground_rules.specs.States.{freshOf}
+use Rattle.attention_rules.specs.Attention.{attentionOf}
 use Rattle.page.proofs.PageLaws.{printed, reads}
-use Rattle.panel.specs.Run.{Run, attendedRun}
+use Rattle.run_rules.specs.Run.{Run, attendedRun}
 use Rattle.trace_text.specs.Line.{endLine}
 use Rattle.trace_text.specs.Trace.{attendedText, tracedMemory, traceOf, tracedRun}
 use Rattle.trace_text.proofs.TextLaws.{trace-short}

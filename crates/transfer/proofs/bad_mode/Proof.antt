@@ -1,7 +1,7 @@
 -- `transfer::bad_mode` meets its contract.
 -- Assumes nothing.
 use Rattle.transfer.specs.Setups.{setupOf}
-use Rattle.transfer.specs.Steps.{badMode}
+use Rattle.transfer_rules.specs.Steps.{badMode}
 use Rattle.transfer.proofs.bad_mode.Statement.{statement}
 use Rattle.transfer.proofs.bad_mode.Tie as tie
 

@@ -7,12 +7,12 @@ use borrow.Author.Tests.{not-true, not-false}
 use mathlib.Core.Bool.{Bool, true, false}
 use mathlib.Core.Path.{_≡_, refl, sym, _∙_}
 use native.Mathlib.Omega.{arith}
-use Rattle.machine.specs.declared.Held.the-variants.{NoByte, Byte}
-use Rattle.words.specs.Choice.{pick}
-use Rattle.transfer.specs.Parts.{storePart}
+use Rattle.ground_rules.specs.declared.Held.the-variants.{NoByte, Byte}
+use Rattle.ground_rules.specs.Choice.{pick}
+use Rattle.transfer_rules.specs.Parts.{storePart}
 use Rattle.transfer.specs.Setups.{setupOf}
-use Rattle.transfer.specs.Steps.{readsBy}
-use Rattle.transfer.proofs.CountLaws.{whole-reads, fetch-reads, store-reads}
+use Rattle.transfer_rules.specs.Steps.{readsBy}
+use Rattle.transfer_rules.proofs.CountLaws.{whole-reads, fetch-reads, store-reads}
 use Rattle.transfer.proofs.bytes_read.Statement.{statement}
 use Rattle.transfer.proofs.bytes_read.Tie as tie
 

@@ -1,7 +1,7 @@
 -- `transfer::external_end` meets its contract.
 -- Assumes nothing.
 use borrow.Author.Needs.{needs}
-use Rattle.transfer.specs.Ends.{externallyEnded}
+use Rattle.transfer_rules.specs.Ends.{externallyEnded}
 use Rattle.transfer.proofs.external_end.Statement.{statement}
 use Rattle.transfer.proofs.external_end.Tie as tie
 

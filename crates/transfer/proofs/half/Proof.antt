@@ -1,16 +1,16 @@
 -- `transfer::half` meets its contract.
 -- Assumes nothing.
 use Prim.Native.Nat.{ℕ}
-use Rattle.machine.specs.Outcomes.{counted}
-use Rattle.machine.specs.declared.Channel.{Channel}
-use Rattle.memory.specs.Buffers.{Buffers, buffers}
-use Rattle.transfer.proofs.StepLaws.{outcome-5, counts-5}
+use Rattle.ground_rules.specs.Outcomes.{counted}
+use Rattle.ground_rules.specs.declared.Channel.{Channel}
+use Rattle.ground_rules.specs.Buffers.{Buffers, buffers}
+use Rattle.transfer_rules.proofs.StepLaws.{outcome-5, counts-5}
 use Rattle.transfer.specs.Moves.{landed, leftByMove, halfStep, halfCount}
-use Rattle.transfer.specs.Parts.{isHalf, partOf}
-use Rattle.transfer.specs.Steps.{Transfer, transferred, touchedByTransfer, badMode, countBy, transferOf, transferCount}
+use Rattle.transfer_rules.specs.Parts.{isHalf, partOf}
+use Rattle.transfer_rules.specs.Steps.{Transfer, transferred, touchedByTransfer, badMode, countBy, transferOf, transferCount}
 use Rattle.transfer.specs.declared.Moved.{Moved}
 use Rattle.transfer.specs.declared.Transferred.{Transferred}
-use Rattle.words.specs.Choice.{pick}
+use Rattle.ground_rules.specs.Choice.{pick}
 use borrow.Author.Needs.{needs}
 use borrow.Author.Tests.{not-true, not-false, eq-eqb, ne-eqb}
 use denote.Ref.{now}

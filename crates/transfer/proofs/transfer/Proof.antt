@@ -2,9 +2,9 @@
 -- Assumes nothing.
 use borrow.Author.Needs.{needs}
 use mathlib.Core.Path.{sym, _∙_}
-use Rattle.transfer.specs.Steps.{touchedByTransfer, countBy, transferOf, transferCount}
+use Rattle.transfer_rules.specs.Steps.{touchedByTransfer, countBy, transferOf, transferCount}
 use Rattle.transfer.specs.Moves.{wholeStep, wholeCount, halfStep, halfCount}
-use Rattle.transfer.proofs.PartLaws.{not-half}
+use Rattle.transfer_rules.proofs.PartLaws.{not-half}
 use Rattle.transfer.proofs.transfer.Statement.{statement}
 use Rattle.transfer.proofs.transfer.Tie as tie
 

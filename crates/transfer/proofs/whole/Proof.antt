@@ -1,29 +1,29 @@
 -- `transfer::whole` meets its contract.
 -- Assumes nothing.
 use Prim.Native.Nat.{ℕ}
-use Rattle.machine.specs.declared.Channel.{Channel}
-use Rattle.memory.specs.Buffers.{Buffers, buffers}
-use Rattle.memory.specs.Places.{allTouchable}
-use Rattle.transfer.proofs.CountLaws.{touched-length}
+use Rattle.ground_rules.specs.declared.Channel.{Channel}
+use Rattle.ground_rules.specs.Buffers.{Buffers, buffers}
+use Rattle.ground_rules.specs.Places.{allTouchable}
+use Rattle.transfer_rules.proofs.CountLaws.{touched-length}
 use Rattle.transfer.proofs.FetchLaws.{fetch-touchable, fetch-bytes}
 use Rattle.transfer.proofs.HalfLaws.{landed-whole}
-use Rattle.transfer.proofs.StepLaws.{outcome-5, outcome-2, outcome-0, counts-5, counts-2, counts-0}
-use Rattle.transfer.proofs.TouchLaws.{touched-all}
+use Rattle.transfer_rules.proofs.StepLaws.{outcome-5, outcome-2, outcome-0, counts-5, counts-2, counts-0}
+use Rattle.transfer_rules.proofs.TouchLaws.{touched-all}
 use Rattle.transfer.specs.Fetches.{fetchOf}
-use Rattle.transfer.specs.Parts.{Whole}
-use Rattle.transfer.specs.Reads.{dataOf, readPlaces}
-use Rattle.transfer.specs.Sides.{destination}
+use Rattle.transfer_rules.specs.Parts.{Whole}
+use Rattle.transfer_rules.specs.Reads.{dataOf, readPlaces}
+use Rattle.transfer_rules.specs.Sides.{destination}
 use Rattle.transfer.specs.Setups.{setupOf}
-use Rattle.transfer.specs.Steps.{transferred, touchedBy, channelBy, memoryBy, accesses}
+use Rattle.transfer_rules.specs.Steps.{transferred, touchedBy, channelBy, memoryBy, accesses}
 use Rattle.transfer.specs.Moves.{wholeStep, wholeCount, landedBy}
-use Rattle.transfer.specs.Stores.{storesTwo, endCode, movedChannel, putOn, movedMemory, placesOn, storedPlaces}
-use Rattle.transfer.specs.declared.Data.{Data}
+use Rattle.transfer_rules.specs.Stores.{storesTwo, endCode, movedChannel, putOn, movedMemory, placesOn, storedPlaces}
+use Rattle.transfer_rules.specs.declared.Data.{Data}
 use Rattle.transfer.specs.declared.Setup.{Setup}
-use Rattle.transfer.specs.declared.Side.{Side}
+use Rattle.transfer_rules.specs.declared.Side.{Side}
 use Rattle.transfer.specs.declared.Transferred.{Transferred}
 use Rattle.transfer.specs.declared.reads.Fetched.{Fetched}
 use Rattle.transfer.specs.declared.stores.Done.{Done}
-use Rattle.words.specs.Choice.{pick}
+use Rattle.ground_rules.specs.Choice.{pick}
 use borrow.Author.Needs.{needs}
 use borrow.Author.Tests.{not-true, not-false}
 use denote.Ref.{now}

@@ -1,7 +1,7 @@
 -- `words::bit` meets its contract: a bit is a field of one.
 -- Assumes nothing.
 use borrow.Author.Needs.{needs}
-use Rattle.words.specs.Bits.{fieldOf, bitOf}
+use Rattle.ground_rules.specs.Bits.{fieldOf, bitOf}
 use Rattle.words.proofs.bit.Statement.{statement}
 use Rattle.words.proofs.bit.Tie as tie
 

@@ -6,7 +6,7 @@ use mathlib.Core.Path.{ap, _∙_}
 use Prim.Native.Nat.{ℕ, _-_}
 use native.Mathlib.Omega.{arith}
 use lib.Bits.{bitAnd}
-use Rattle.words.proofs.BitLaws.{one-shifted, clear-masked}
+use Rattle.ground_rules.proofs.BitLaws.{one-shifted, clear-masked}
 use Rattle.words.proofs.clear_bit.Statement.{statement}
 use Rattle.words.proofs.clear_bit.Tie as tie
 

@@ -12,7 +12,7 @@ use lib.Signed.{mag, nonNeg}
 use mir.Syntax.{w32, w64}
 use mir.Val.{SFits, Fits, toZ, ofZ}
 use mir.Facts.{toZ-ofZ, toZ-pos, sfits-widen}
-use Rattle.words.specs.Signs.{displacedBy}
+use Rattle.ground_rules.specs.Signs.{displacedBy}
 use Rattle.words.proofs.displaced.Statement.{statement}
 use Rattle.words.proofs.displaced.Tie as tie
 

@@ -4,7 +4,7 @@ use borrow.Author.Needs.{needs}
 use mathlib.Core.Path.{refl}
 use native.Mathlib.Omega.{arith}
 use lib.Dec.{lit<, lit≤}
-use Rattle.words.proofs.SignLaws.{low-is, high-is, high-fits}
+use Rattle.ground_rules.proofs.SignLaws.{low-is, high-is, high-fits}
 use Rattle.words.proofs.displacement_byte.Statement.{statement}
 use Rattle.words.proofs.displacement_byte.Tie as tie
 

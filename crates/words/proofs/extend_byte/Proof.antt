@@ -2,7 +2,7 @@
 -- Assumes nothing.
 use borrow.Author.Needs.{needs}
 use borrow.Author.Tests.{lt-ltb, le-ltb}
-use Rattle.words.specs.Signs.{extended}
+use Rattle.ground_rules.specs.Signs.{extended}
 use Rattle.words.proofs.extend_byte.Statement.{statement}
 use Rattle.words.proofs.extend_byte.Tie as tie
 

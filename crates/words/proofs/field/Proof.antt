@@ -6,7 +6,7 @@ use Prim.Native.Nat.{ℕ, _-_, _/_, _^_}
 use native.Mathlib.Omega.{arith}
 use lib.Bits.{bitAnd}
 use lib.Pow.{pow-pos}
-use Rattle.words.proofs.BitLaws.{one-shifted, field-past, field-wide, field-masked}
+use Rattle.ground_rules.proofs.BitLaws.{one-shifted, field-past, field-wide, field-masked}
 use Rattle.words.proofs.field.Statement.{statement}
 use Rattle.words.proofs.field.Tie as tie
 

@@ -1,7 +1,7 @@
 -- `words::matches` meets its contract: the two bytes of MC are those of the definition.
 -- Assumes nothing.
 use borrow.Author.Needs.{needs}
-use Rattle.words.specs.Compare.{matchOf}
+use Rattle.ground_rules.specs.Compare.{matchOf}
 use Rattle.words.proofs.matches.Statement.{statement}
 use Rattle.words.proofs.matches.Tie as tie
 

@@ -4,7 +4,7 @@ use borrow.Author.Needs.{needs}
 use borrow.Author.Tests.{lt-ltb, le-ltb}
 use mathlib.Core.Path.{ap, _∙_}
 use lib.Bits.{bitOr}
-use Rattle.words.proofs.BitLaws.{one-shifted, set-masked}
+use Rattle.ground_rules.proofs.BitLaws.{one-shifted, set-masked}
 use Rattle.words.proofs.set_bit.Statement.{statement}
 use Rattle.words.proofs.set_bit.Tie as tie
 

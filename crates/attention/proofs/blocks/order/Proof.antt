@@ -1,7 +1,7 @@
 -- `attention::blocks::order` meets its contract.
 -- Assumes nothing.
 use borrow.Author.Needs.{needs}
-use Rattle.attention.specs.Blocks.{ccwOf, orderOf}
+use Rattle.attention_rules.specs.Blocks.{ccwOf, orderOf}
 use Rattle.attention.proofs.blocks.order.Statement.{statement}
 use Rattle.attention.proofs.blocks.order.Tie as tie
 

@@ -2,7 +2,7 @@
 -- Assumes nothing.
 use borrow.Author.Needs.{needs}
 use mathlib.Core.Path.{_∙_}
-use Rattle.attention.specs.Blocks.{parameterBlock}
+use Rattle.attention_rules.specs.Blocks.{parameterBlock}
 use Rattle.attention.proofs.blocks.parameter_block.Statement.{statement}
 use Rattle.attention.proofs.blocks.parameter_block.Tie as tie
 

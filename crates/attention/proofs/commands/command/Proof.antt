@@ -2,7 +2,7 @@
 -- Assumes nothing.
 use borrow.Author.Needs.{needs}
 use borrow.Author.Tests.{ne-eqb}
-use Rattle.attention.specs.Commands.{commandCoded}
+use Rattle.attention_rules.specs.Commands.{commandCoded}
 use Rattle.attention.proofs.commands.command.Statement.{statement}
 use Rattle.attention.proofs.commands.command.Tie as tie
 

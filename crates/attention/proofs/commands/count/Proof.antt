@@ -1,7 +1,7 @@
 -- `attention::commands::count` meets its contract.
 -- Assumes nothing.
 use borrow.Author.Needs.{needs}
-use Rattle.attention.specs.Touched.{commandCount}
+use Rattle.attention_rules.specs.Touched.{commandCount}
 use Rattle.attention.proofs.commands.count.Statement.{statement}
 use Rattle.attention.proofs.commands.count.Tie as tie
 

@@ -2,7 +2,7 @@
 -- Assumes nothing.
 use borrow.Author.Needs.{needs}
 use borrow.Author.Tests.{ne-eqb}
-use Rattle.attention.specs.Commands.{obeyed}
+use Rattle.attention_rules.specs.Commands.{obeyed}
 use Rattle.attention.proofs.commands.obeyed.Statement.{statement}
 use Rattle.attention.proofs.commands.obeyed.Tie as tie
 

@@ -1,7 +1,7 @@
 -- `attention::commands::ordered` meets its contract.
 -- Assumes nothing.
 use borrow.Author.Needs.{needs}
-use Rattle.attention.specs.Commands.{copied, ordered}
+use Rattle.attention_rules.specs.Commands.{copied, ordered}
 use Rattle.attention.proofs.commands.ordered.Statement.{statement}
 use Rattle.attention.proofs.commands.ordered.Tie as tie
 

@@ -1,8 +1,8 @@
 -- `attention::commands::refusal` meets its contract.
 -- Assumes nothing.
 use borrow.Author.Needs.{needs}
-use Rattle.machine.specs.Outcomes.{unless, first}
-use Rattle.attention.specs.Commands.{isKnown, modeNumber, commandNumber}
+use Rattle.ground_rules.specs.Outcomes.{unless, first}
+use Rattle.attention_rules.specs.Commands.{isKnown, modeNumber, commandNumber}
 use Rattle.attention.proofs.commands.refusal.Statement.{statement}
 use Rattle.attention.proofs.commands.refusal.Tie as tie
 

@@ -1,6 +1,6 @@
 -- `attention::commands::refuse_unless` meets its contract.
 -- Assumes nothing.
-use Rattle.machine.specs.Outcomes.{unless}
+use Rattle.ground_rules.specs.Outcomes.{unless}
 use Rattle.attention.proofs.commands.refuse_unless.Statement.{statement}
 use Rattle.attention.proofs.commands.refuse_unless.Tie as tie
 

@@ -1,8 +1,8 @@
 -- `attention::effects::channel_ordered` meets its contract.
 -- Assumes nothing.
 use borrow.Author.Needs.{needs}
-use Rattle.machine.specs.Updates.{withControl}
-use Rattle.attention.specs.Effects.{channelOrdered}
+use Rattle.ground_rules.specs.Updates.{withControl}
+use Rattle.attention_rules.specs.Effects.{channelOrdered}
 use Rattle.attention.proofs.effects.channel_ordered.Statement.{statement}
 use Rattle.attention.proofs.effects.channel_ordered.Tie as tie
 

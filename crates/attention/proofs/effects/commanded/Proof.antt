@@ -2,8 +2,8 @@
 -- Assumes nothing.
 use borrow.Author.Needs.{needs}
 use mathlib.Core.Path.{_∙_}
-use Rattle.memory.proofs.PlaceLaws.{byte-reduced}
-use Rattle.attention.specs.Effects.{commanded}
+use Rattle.ground_rules.proofs.PlaceLaws.{byte-reduced}
+use Rattle.attention_rules.specs.Effects.{commanded}
 use Rattle.attention.proofs.effects.commanded.Statement.{statement}
 use Rattle.attention.proofs.effects.commanded.Tie as tie
 

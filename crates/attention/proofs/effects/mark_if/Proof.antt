@@ -2,8 +2,8 @@
 -- Assumes nothing.
 use borrow.Author.Needs.{needs}
 use mathlib.Core.Path.{_∙_}
-use Rattle.machine.specs.States.{busyIn}
-use Rattle.attention.specs.Effects.{marked}
+use Rattle.ground_rules.specs.States.{busyIn}
+use Rattle.attention_rules.specs.Effects.{marked}
 use Rattle.attention.proofs.effects.mark_if.Statement.{statement}
 use Rattle.attention.proofs.effects.mark_if.Tie as tie
 

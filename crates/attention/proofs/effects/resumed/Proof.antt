@@ -1,7 +1,7 @@
 -- `attention::effects::resumed` meets its contract.
 -- Assumes nothing.
 use borrow.Author.Needs.{needs}
-use Rattle.attention.specs.Effects.{resumed}
+use Rattle.attention_rules.specs.Effects.{resumed}
 use Rattle.attention.proofs.effects.resumed.Statement.{statement}
 use Rattle.attention.proofs.effects.resumed.Tie as tie
 

@@ -2,8 +2,8 @@
 -- Assumes nothing.
 use borrow.Author.Needs.{needs}
 use mathlib.Core.Path.{_∙_}
-use Rattle.memory.proofs.PlaceLaws.{store-reduced}
-use Rattle.attention.specs.Effects.{saved}
+use Rattle.ground_rules.proofs.PlaceLaws.{store-reduced}
+use Rattle.attention_rules.specs.Effects.{saved}
 use Rattle.attention.proofs.effects.save_if.Statement.{statement}
 use Rattle.attention.proofs.effects.save_if.Tie as tie
 

@@ -1,7 +1,7 @@
 -- `attention::effects::started` meets its contract.
 -- Assumes nothing.
 use borrow.Author.Needs.{needs}
-use Rattle.attention.specs.Effects.{started}
+use Rattle.attention_rules.specs.Effects.{started}
 use Rattle.attention.proofs.effects.started.Statement.{statement}
 use Rattle.attention.proofs.effects.started.Tie as tie
 

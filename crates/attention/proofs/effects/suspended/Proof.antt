@@ -1,7 +1,7 @@
 -- `attention::effects::suspended` meets its contract.
 -- Assumes nothing.
 use borrow.Author.Needs.{needs}
-use Rattle.attention.specs.Effects.{suspended}
+use Rattle.attention_rules.specs.Effects.{suspended}
 use Rattle.attention.proofs.effects.suspended.Statement.{statement}
 use Rattle.attention.proofs.effects.suspended.Tie as tie
 

@@ -1,7 +1,7 @@
 -- `attention::touched::busy` meets its contract.
 -- Assumes nothing.
 use borrow.Author.Needs.{needs}
-use Rattle.machine.specs.States.{busyIn}
+use Rattle.ground_rules.specs.States.{busyIn}
 use Rattle.attention.proofs.touched.busy.Statement.{statement}
 use Rattle.attention.proofs.touched.busy.Tie as tie
 

@@ -1,8 +1,8 @@
 -- `attention::touched::others` meets its contract.
 -- Assumes nothing.
 use borrow.Author.Needs.{needs}
-use Rattle.memory.specs.Places.{allPass}
-use Rattle.attention.specs.Touched.{readBy, storedBy, others}
+use Rattle.ground_rules.specs.Places.{allPass}
+use Rattle.attention_rules.specs.Touched.{readBy, storedBy, others}
 use Rattle.attention.proofs.touched.others.Statement.{statement}
 use Rattle.attention.proofs.touched.others.Tie as tie
 

@@ -2,7 +2,7 @@
 -- Assumes nothing.
 use borrow.Author.Needs.{needs}
 use mathlib.Core.Bool.{and-assoc}
-use Rattle.memory.proofs.SpanLaws.{all-append}
+use Rattle.ground_rules.proofs.SpanLaws.{all-append}
 use Rattle.attention.proofs.touched.started.Statement.{statement}
 use Rattle.attention.proofs.touched.started.Tie as tie
 

@@ -1,7 +1,7 @@
 -- `attention::touched::stored` meets its contract.
 -- Assumes nothing.
 use borrow.Author.Needs.{needs}
-use Rattle.memory.proofs.SpanLaws.{all-append}
+use Rattle.ground_rules.proofs.SpanLaws.{all-append}
 use Rattle.attention.proofs.touched.stored.Statement.{statement}
 use Rattle.attention.proofs.touched.stored.Tie as tie
 

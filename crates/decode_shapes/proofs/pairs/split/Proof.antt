@@ -1,7 +1,7 @@
 -- `decode_shapes::pairs::split` meets its contract: each field is the definition's.
 -- Assumes nothing.
 use borrow.Author.Needs.{needs}
-use Rattle.decode_shapes.specs.Pairs.{pairOf}
+use Rattle.instruction_rules.specs.Pairs.{pairOf}
 use Rattle.decode_shapes.proofs.pairs.split.Statement.{statement}
 use Rattle.decode_shapes.proofs.pairs.split.Tie as tie
 

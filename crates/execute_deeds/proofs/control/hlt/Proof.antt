@@ -1,7 +1,7 @@
 -- `execute_deeds::control::hlt` meets its contract.
 -- Assumes nothing.
 use borrow.Author.Needs.{needs}
-use Rattle.execute_deeds.specs.Control.{hltDeed}
+use Rattle.instruction_rules.specs.Control.{hltDeed}
 use Rattle.execute_deeds.proofs.control.hlt.Statement.{statement}
 use Rattle.execute_deeds.proofs.control.hlt.Tie as tie
 

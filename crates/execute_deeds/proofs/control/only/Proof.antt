@@ -1,7 +1,7 @@
 -- `execute_deeds::control::only` meets its contract.
 -- Assumes nothing.
 use borrow.Author.Needs.{needs}
-use Rattle.execute_deeds.specs.Control.{nopDeed}
+use Rattle.instruction_rules.specs.Control.{nopDeed}
 use Rattle.execute_deeds.proofs.control.only.Statement.{statement}
 use Rattle.execute_deeds.proofs.control.only.Tie as tie
 

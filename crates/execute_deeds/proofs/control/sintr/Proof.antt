@@ -2,7 +2,7 @@
 -- Assumes nothing.
 use borrow.Author.Needs.{needs}
 use mathlib.Core.Path.{sym, _∙_}
-use Rattle.execute_deeds.specs.Control.{nopDeed, sintrDeed}
+use Rattle.instruction_rules.specs.Control.{nopDeed, sintrDeed}
 use Rattle.execute_deeds.proofs.control.sintr.Statement.{statement}
 use Rattle.execute_deeds.proofs.control.sintr.Tie as tie
 

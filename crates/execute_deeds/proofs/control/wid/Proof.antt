@@ -1,7 +1,7 @@
 -- `execute_deeds::control::wid` meets its contract.
 -- Assumes nothing.
 use borrow.Author.Needs.{needs}
-use Rattle.execute_deeds.specs.Control.{nopDeed, widDeed}
+use Rattle.instruction_rules.specs.Control.{nopDeed, widDeed}
 use Rattle.execute_deeds.proofs.control.wid.Statement.{statement}
 use Rattle.execute_deeds.proofs.control.wid.Tie as tie
 

@@ -1,8 +1,8 @@
 -- `execute_deeds::control::with_status` meets its contract.
 -- Assumes nothing.
 use mathlib.Core.Path.{refl}
-use Rattle.machine.specs.Updates.{renewed}
-use Rattle.execute_deeds.specs.Control.{withStatus}
+use Rattle.ground_rules.specs.Updates.{renewed}
+use Rattle.instruction_rules.specs.Control.{withStatus}
 use Rattle.execute_deeds.proofs.control.with_status.Statement.{statement}
 use Rattle.execute_deeds.proofs.control.with_status.Tie as tie
 

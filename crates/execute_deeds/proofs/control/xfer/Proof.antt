@@ -1,9 +1,9 @@
 -- `execute_deeds::control::xfer` meets its contract.
 -- Assumes nothing.
 use borrow.Author.Needs.{needs}
-use Rattle.machine.specs.Updates.{renewed}
-use Rattle.execute_operands.specs.Marks.{markSet}
-use Rattle.execute_deeds.specs.Control.{nopDeed, xferDeed}
+use Rattle.ground_rules.specs.Updates.{renewed}
+use Rattle.instruction_rules.specs.Marks.{markSet}
+use Rattle.instruction_rules.specs.Control.{nopDeed, xferDeed}
 use Rattle.execute_deeds.proofs.control.xfer.Statement.{statement}
 use Rattle.execute_deeds.proofs.control.xfer.Tie as tie
 

@@ -1,9 +1,9 @@
 -- `execute_deeds::jumps::call` meets its contract.
 -- Assumes nothing.
 use borrow.Author.Needs.{needs}
-use Rattle.machine.specs.Updates.{renewed}
-use Rattle.execute_operands.specs.Operands.{effective, grown, jumpedIf}
-use Rattle.execute_deeds.specs.JumpForms.{callDeed}
+use Rattle.ground_rules.specs.Updates.{renewed}
+use Rattle.instruction_rules.specs.Operands.{effective, grown, jumpedIf}
+use Rattle.instruction_rules.specs.JumpForms.{callDeed}
 use Rattle.execute_deeds.proofs.jumps.call.Statement.{statement}
 use Rattle.execute_deeds.proofs.jumps.call.Tie as tie
 

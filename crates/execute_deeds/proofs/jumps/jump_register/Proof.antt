@@ -1,11 +1,11 @@
 -- `execute_deeds::jumps::jump_register` meets its contract.
 -- Assumes nothing.
 use borrow.Author.Needs.{needs}
-use Rattle.memory.specs.Values.{onward}
-use Rattle.machine.specs.Updates.{renewed}
-use Rattle.execute_deeds.specs.Control.{nopDeed}
-use Rattle.execute_operands.specs.Operands.{jumpedIf}
-use Rattle.execute_deeds.specs.JumpForms.{jumpRegisterDeed}
+use Rattle.ground_rules.specs.Values.{onward}
+use Rattle.ground_rules.specs.Updates.{renewed}
+use Rattle.instruction_rules.specs.Control.{nopDeed}
+use Rattle.instruction_rules.specs.Operands.{jumpedIf}
+use Rattle.instruction_rules.specs.JumpForms.{jumpRegisterDeed}
 use Rattle.execute_deeds.proofs.jumps.jump_register.Statement.{statement}
 use Rattle.execute_deeds.proofs.jumps.jump_register.Tie as tie
 

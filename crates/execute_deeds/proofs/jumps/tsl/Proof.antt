@@ -3,13 +3,13 @@
 use borrow.Author.Needs.{needs}
 use borrow.Author.Tests.{eq-eqb, ne-eqb}
 use mathlib.Core.Path.{sym, _∙_}
-use Rattle.memory.proofs.SpanLaws.{span-length}
-use Rattle.machine.specs.Outcomes.{first}
-use Rattle.machine.specs.Updates.{renewed}
-use Rattle.memory.specs.Values.{onward}
+use Rattle.ground_rules.proofs.SpanLaws.{span-length}
+use Rattle.ground_rules.specs.Outcomes.{first}
+use Rattle.ground_rules.specs.Updates.{renewed}
+use Rattle.ground_rules.specs.Values.{onward}
 use Rattle.execute_deeds.specs.Effects.{effectOf}
-use Rattle.execute_operands.specs.Operands.{readNumber, effective, grown, jumpedIf}
-use Rattle.execute_deeds.specs.JumpForms.{tslDeed}
+use Rattle.instruction_rules.specs.Operands.{readNumber, effective, grown, jumpedIf}
+use Rattle.instruction_rules.specs.JumpForms.{tslDeed}
 use Rattle.execute_deeds.proofs.jumps.tsl.Statement.{statement}
 use Rattle.execute_deeds.proofs.jumps.tsl.Tie as tie
 

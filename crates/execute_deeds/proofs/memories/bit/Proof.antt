@@ -1,11 +1,11 @@
 -- `execute_deeds::memories::bit` meets its contract.
 -- Assumes nothing.
 use borrow.Author.Needs.{needs}
-use Rattle.memory.proofs.SpanLaws.{span-length}
-use Rattle.machine.specs.Outcomes.{first}
-use Rattle.execute_operands.specs.Operands.{readNumber, effective, grown}
+use Rattle.ground_rules.proofs.SpanLaws.{span-length}
+use Rattle.ground_rules.specs.Outcomes.{first}
+use Rattle.instruction_rules.specs.Operands.{readNumber, effective, grown}
 use Rattle.execute_deeds.specs.Effects.{effectOf}
-use Rattle.execute_deeds.specs.MemoryForms.{bitDeed}
+use Rattle.instruction_rules.specs.MemoryForms.{bitDeed}
 use Rattle.execute_deeds.proofs.memories.bit.Statement.{statement}
 use Rattle.execute_deeds.proofs.memories.bit.Tie as tie
 

@@ -1,7 +1,7 @@
 -- `execute_deeds::memories::bit_written` meets its contract.
 -- Assumes nothing.
 use borrow.Author.Needs.{needs}
-use Rattle.execute_deeds.specs.MemoryForms.{bitWritten}
+use Rattle.instruction_rules.specs.MemoryForms.{bitWritten}
 use Rattle.execute_deeds.proofs.memories.bit_written.Statement.{statement}
 use Rattle.execute_deeds.proofs.memories.bit_written.Tie as tie
 

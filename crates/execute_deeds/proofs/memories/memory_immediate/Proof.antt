@@ -1,11 +1,11 @@
 -- `execute_deeds::memories::memory_immediate` meets its contract.
 -- Assumes nothing.
 use borrow.Author.Needs.{needs}
-use Rattle.memory.proofs.SpanLaws.{span-length}
-use Rattle.machine.specs.Outcomes.{first}
+use Rattle.ground_rules.proofs.SpanLaws.{span-length}
+use Rattle.ground_rules.specs.Outcomes.{first}
 use Rattle.execute_deeds.specs.Effects.{effectOf}
-use Rattle.execute_operands.specs.Operands.{readNumber, effective}
-use Rattle.execute_deeds.specs.MemoryForms.{memoryWorkDeed, memoryImmediateDeed}
+use Rattle.instruction_rules.specs.Operands.{readNumber, effective}
+use Rattle.instruction_rules.specs.MemoryForms.{memoryWorkDeed, memoryImmediateDeed}
 use Rattle.execute_deeds.proofs.memories.memory_immediate.Statement.{statement}
 use Rattle.execute_deeds.proofs.memories.memory_immediate.Tie as tie
 

@@ -2,10 +2,10 @@
 -- Assumes nothing.
 use borrow.Author.Needs.{needs}
 use mathlib.Core.Path.{sym, _∙_}
-use Rattle.machine.specs.Outcomes.{first}
-use Rattle.memory.specs.Values.{onward}
+use Rattle.ground_rules.specs.Outcomes.{first}
+use Rattle.ground_rules.specs.Values.{onward}
 use Rattle.execute_deeds.specs.Effects.{effectOf}
-use Rattle.execute_deeds.specs.MemoryForms.{movSecondDeed, secondAt, movMemoryDeed}
+use Rattle.instruction_rules.specs.MemoryForms.{movSecondDeed, secondAt, movMemoryDeed}
 use Rattle.execute_deeds.proofs.memories.mov_memory.Statement.{statement}
 use Rattle.execute_deeds.proofs.memories.mov_memory.Tie as tie
 

@@ -3,15 +3,15 @@
 use borrow.Author.Needs.{needs}
 use lib.ListN.{length-append}
 use native.Mathlib.Omega.{arith}
-use Rattle.decode.proofs.LengthLaws.{offset-small}
-use Rattle.decode.specs.Lengths.{offsetLength}
-use Rattle.machine.specs.Outcomes.{first}
-use Rattle.memory.proofs.SpanLaws.{span-length, all-append}
-use Rattle.memory.specs.Values.{onward}
+use Rattle.instruction_rules.proofs.LengthLaws.{offset-small}
+use Rattle.instruction_rules.specs.Lengths.{offsetLength}
+use Rattle.ground_rules.specs.Outcomes.{first}
+use Rattle.ground_rules.proofs.SpanLaws.{span-length, all-append}
+use Rattle.ground_rules.specs.Values.{onward}
 use Rattle.execute_deeds.specs.Effects.{effectOf}
-use Rattle.execute_operands.proofs.OperandLaws.{size-small}
-use Rattle.execute_operands.specs.Operands.{further, effective}
-use Rattle.execute_deeds.specs.MemoryForms.{movOperandDeed}
+use Rattle.instruction_rules.proofs.OperandLaws.{size-small}
+use Rattle.instruction_rules.specs.Operands.{further, effective}
+use Rattle.instruction_rules.specs.MemoryForms.{movOperandDeed}
 use Rattle.execute_deeds.proofs.memories.mov_operand.Statement.{statement}
 use Rattle.execute_deeds.proofs.memories.mov_operand.Tie as tie
 

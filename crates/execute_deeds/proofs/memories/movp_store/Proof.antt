@@ -1,8 +1,8 @@
 -- `execute_deeds::memories::movp_store` meets its contract.
 -- Assumes nothing.
 use borrow.Author.Needs.{needs}
-use Rattle.execute_operands.specs.Operands.{effective, grown}
-use Rattle.execute_deeds.specs.MemoryForms.{movpStoreDeed}
+use Rattle.instruction_rules.specs.Operands.{effective, grown}
+use Rattle.instruction_rules.specs.MemoryForms.{movpStoreDeed}
 use Rattle.execute_deeds.proofs.memories.movp_store.Statement.{statement}
 use Rattle.execute_deeds.proofs.memories.movp_store.Tie as tie
 

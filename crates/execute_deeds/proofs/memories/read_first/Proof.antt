@@ -2,7 +2,7 @@
 -- Assumes nothing.
 use borrow.Author.Needs.{needs}
 use mathlib.Core.Path.{sym, _∙_}
-use Rattle.execute_deeds.specs.MemoryForms.{readFirst}
+use Rattle.instruction_rules.specs.MemoryForms.{readFirst}
 use Rattle.execute_deeds.proofs.memories.read_first.Statement.{statement}
 use Rattle.execute_deeds.proofs.memories.read_first.Tie as tie
 

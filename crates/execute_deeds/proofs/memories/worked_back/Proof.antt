@@ -1,7 +1,7 @@
 -- `execute_deeds::memories::worked_back` meets its contract.
 -- Assumes nothing.
 use borrow.Author.Needs.{needs}
-use Rattle.execute_deeds.specs.MemoryForms.{workedBack}
+use Rattle.instruction_rules.specs.MemoryForms.{workedBack}
 use Rattle.execute_deeds.proofs.memories.worked_back.Statement.{statement}
 use Rattle.execute_deeds.proofs.memories.worked_back.Tie as tie
 

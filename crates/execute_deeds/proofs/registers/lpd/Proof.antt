@@ -1,12 +1,12 @@
 -- `execute_deeds::registers::lpd` meets its contract.
 -- Assumes nothing.
 use borrow.Author.Needs.{needs}
-use Rattle.memory.proofs.SpanLaws.{span-length}
-use Rattle.machine.specs.Outcomes.{first}
-use Rattle.memory.proofs.PlaceLaws.{after}
-use Rattle.execute_operands.specs.Operands.{readNumber, effective, grown}
+use Rattle.ground_rules.proofs.SpanLaws.{span-length}
+use Rattle.ground_rules.specs.Outcomes.{first}
+use Rattle.ground_rules.proofs.PlaceLaws.{after}
+use Rattle.instruction_rules.specs.Operands.{readNumber, effective, grown}
 use Rattle.execute_deeds.specs.Effects.{effectOf}
-use Rattle.execute_deeds.specs.RegisterForms.{lpdDeed}
+use Rattle.instruction_rules.specs.RegisterForms.{lpdDeed}
 use Rattle.execute_deeds.specs.Writes.{writeMade}
 use Rattle.execute_deeds.proofs.registers.lpd.Statement.{statement}
 use Rattle.execute_deeds.proofs.registers.lpd.Tie as tie

@@ -1,8 +1,8 @@
 -- `execute_deeds::registers::lpdi` meets its contract.
 -- Assumes nothing.
 use borrow.Author.Needs.{needs}
-use Rattle.memory.specs.Values.{onward}
-use Rattle.execute_deeds.specs.RegisterForms.{lpdiDeed}
+use Rattle.ground_rules.specs.Values.{onward}
+use Rattle.instruction_rules.specs.RegisterForms.{lpdiDeed}
 use Rattle.execute_deeds.specs.Writes.{writeMade}
 use Rattle.execute_deeds.proofs.registers.lpdi.Statement.{statement}
 use Rattle.execute_deeds.proofs.registers.lpdi.Tie as tie

@@ -1,7 +1,7 @@
 -- `execute_deeds::registers::register` meets its contract.
 -- Assumes nothing.
 use borrow.Author.Needs.{needs}
-use Rattle.execute_deeds.specs.RegisterForms.{registerDeed}
+use Rattle.instruction_rules.specs.RegisterForms.{registerDeed}
 use Rattle.execute_deeds.specs.Writes.{writeMade}
 use Rattle.execute_deeds.proofs.registers.register.Statement.{statement}
 use Rattle.execute_deeds.proofs.registers.register.Tie as tie

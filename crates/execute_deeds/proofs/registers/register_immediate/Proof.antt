@@ -1,9 +1,9 @@
 -- `execute_deeds::registers::register_immediate` meets its contract.
 -- Assumes nothing.
 use borrow.Author.Needs.{needs}
-use Rattle.memory.specs.Values.{onward}
+use Rattle.ground_rules.specs.Values.{onward}
 use Rattle.execute_deeds.proofs.DeedLaws.{work-written}
-use Rattle.execute_deeds.specs.RegisterForms.{registerImmediateDeed}
+use Rattle.instruction_rules.specs.RegisterForms.{registerImmediateDeed}
 use Rattle.execute_deeds.proofs.registers.register_immediate.Statement.{statement}
 use Rattle.execute_deeds.proofs.registers.register_immediate.Tie as tie
 

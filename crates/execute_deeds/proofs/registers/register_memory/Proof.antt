@@ -1,13 +1,13 @@
 -- `execute_deeds::registers::register_memory` meets its contract.
 -- Assumes nothing.
 use borrow.Author.Needs.{needs}
-use Rattle.memory.proofs.SpanLaws.{span-length}
-use Rattle.machine.specs.Outcomes.{first}
-use Rattle.memory.proofs.PlaceLaws.{after}
-use Rattle.execute_operands.specs.Operands.{readNumber, effective}
+use Rattle.ground_rules.proofs.SpanLaws.{span-length}
+use Rattle.ground_rules.specs.Outcomes.{first}
+use Rattle.ground_rules.proofs.PlaceLaws.{after}
+use Rattle.instruction_rules.specs.Operands.{readNumber, effective}
 use Rattle.execute_deeds.proofs.DeedLaws.{work-written}
 use Rattle.execute_deeds.specs.Effects.{effectOf}
-use Rattle.execute_deeds.specs.RegisterForms.{registerMemoryDeed}
+use Rattle.instruction_rules.specs.RegisterForms.{registerMemoryDeed}
 use Rattle.execute_deeds.proofs.registers.register_memory.Statement.{statement}
 use Rattle.execute_deeds.proofs.registers.register_memory.Tie as tie
 

@@ -3,7 +3,7 @@
 use borrow.Author.Needs.{needs}
 use borrow.Author.Tests.{not-true, not-false}
 use mathlib.Core.Path.{refl, sym, _∙_}
-use Rattle.execute_operands.specs.Changes.{placesOf}
+use Rattle.instruction_rules.specs.Changes.{placesOf}
 use Rattle.execute_operands.proofs.changes.made.Statement.{statement}
 use Rattle.execute_operands.proofs.changes.made.Tie as tie
 

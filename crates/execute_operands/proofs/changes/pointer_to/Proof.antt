@@ -1,7 +1,7 @@
 -- `execute_operands::changes::pointer_to` meets its contract.
 -- Assumes nothing.
 use borrow.Author.Needs.{needs}
-use Rattle.execute_operands.specs.Changes.{storedValue}
+use Rattle.instruction_rules.specs.Changes.{storedValue}
 use Rattle.execute_operands.proofs.changes.pointer_to.Statement.{statement}
 use Rattle.execute_operands.proofs.changes.pointer_to.Tie as tie
 

@@ -3,11 +3,11 @@
 use borrow.Author.Needs.{needs}
 use denote.Ref.{now}
 use mathlib.Core.Path.{sym, _∙_}
-use Rattle.words.specs.Sums.{sum20}
-use Rattle.memory.proofs.PlaceLaws.{store-reduced}
-use Rattle.memory.specs.Buffers.{buffers}
-use Rattle.execute_operands.specs.Changes.{changed}
-use Rattle.execute_operands.proofs.ChangeLaws.{stored-none, stored-one, stored-two, stored-three}
+use Rattle.ground_rules.specs.Sums.{sum20}
+use Rattle.ground_rules.proofs.PlaceLaws.{store-reduced}
+use Rattle.ground_rules.specs.Buffers.{buffers}
+use Rattle.instruction_rules.specs.Changes.{changed}
+use Rattle.instruction_rules.proofs.ChangeLaws.{stored-none, stored-one, stored-two, stored-three}
 use Rattle.execute_operands.proofs.changes.store.Statement.{statement}
 use Rattle.execute_operands.proofs.changes.store.Tie as tie
 

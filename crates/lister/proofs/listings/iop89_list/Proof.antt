@@ -2,7 +2,7 @@
 -- Assumes nothing.
 use mathlib.Core.Path.{ap}
 use native.Mathlib.Omega.{arith}
-use Rattle.lister.specs.Listings.{Listing}
+use Rattle.listing_rules.specs.Listings.{Listing}
 use borrow.Author.Needs.{needs}
 use Rattle.lister.proofs.listings.iop89_list.Statement.{statement}
 use Rattle.lister.proofs.listings.iop89_list.Tie as tie

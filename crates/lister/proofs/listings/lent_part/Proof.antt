@@ -5,7 +5,7 @@ use native.Mathlib.Omega.{arith}
 use denote.Ref.{now}
 use lib.ListN.{length-take}
 use lib.Seq.{take-all}
-use Rattle.lister.specs.Listings.{listLimit}
+use Rattle.listing_rules.specs.Listings.{listLimit}
 use borrow.Author.Needs.{needs}
 use Rattle.lister.proofs.listings.lent_part.Statement.{statement}
 use Rattle.lister.proofs.listings.lent_part.Tie as tie

@@ -5,8 +5,8 @@ use Prim.Native.Nat.{_≤_}
 use native.Mathlib.Omega.{arith}
 use denote.Ref.{now}
 use lib.ListN.{length, drop-of-length-le}
-use Rattle.lister.specs.Items.{itemOf}
-use Rattle.lister.proofs.RowLaws.{rest-all}
+use Rattle.listing_rules.specs.Items.{itemOf}
+use Rattle.listing_rules.proofs.RowLaws.{rest-all}
 use borrow.Author.Needs.{needs}
 use Rattle.lister.proofs.reading.item_at.Statement.{statement}
 use Rattle.lister.proofs.reading.item_at.Tie as tie

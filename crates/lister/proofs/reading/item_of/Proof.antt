@@ -5,9 +5,9 @@ use denote.Ref.{now}
 use lib.ListN.{length, getD}
 use mathlib.Core.Path.{sym, ap, _∙_}
 use borrow.Author.Tests.{eq-eqb, ne-eqb}
-use Rattle.decode_shapes.specs.declared.Shape.{Shape}
-use Rattle.lister.specs.Items.{toOf, wholeOf, itemOf}
-use Rattle.lister.proofs.ItemLaws.{one-left, looked-what, looked-length, pairs-there, whole-single, item-unused, item-none, item-short, item-second}
+use Rattle.instruction_rules.specs.declared.Shape.{Shape}
+use Rattle.listing_rules.specs.Items.{toOf, wholeOf, itemOf}
+use Rattle.listing_rules.proofs.ItemLaws.{one-left, looked-what, looked-length, pairs-there, whole-single, item-unused, item-none, item-short, item-second}
 use borrow.Author.Needs.{needs}
 use Rattle.lister.proofs.reading.item_of.Statement.{statement}
 use Rattle.lister.proofs.reading.item_of.Tie as tie

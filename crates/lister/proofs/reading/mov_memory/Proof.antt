@@ -2,8 +2,8 @@
 -- Assumes nothing.
 use native.Mathlib.Omega.{arith}
 use denote.Ref.{now}
-use Rattle.decode_shapes.specs.declared.Shape.the-variants.{MovMemory}
-use Rattle.lister.proofs.ItemLaws.{mov-size, offset-small, second-read, whole-none, whole-cut, whole-there}
+use Rattle.instruction_rules.specs.declared.Shape.the-variants.{MovMemory}
+use Rattle.listing_rules.proofs.ItemLaws.{mov-size, offset-small, second-read, whole-none, whole-cut, whole-there}
 use borrow.Author.Needs.{needs}
 use Rattle.lister.proofs.reading.mov_memory.Statement.{statement}
 use Rattle.lister.proofs.reading.mov_memory.Tie as tie

@@ -43,7 +43,7 @@ use denote.Triple.Table.{entered, cited}
 use denote.Triple.Walked.{says, Stays, stay-none, walkOf, goes-none, Walks, ends-at, walked, walk-meets}
 use denote.Exit.{yes}
 use denote.Triple.Clauses.{ensured, lasts}
-use Rattle.lister.specs.Items.{behindOf}
+use Rattle.listing_rules.specs.Items.{behindOf}
 use Rattle.lister.specs.declared.reading.Reader.{Reader}
 use Rattle.lister.proofs.reading.Reader as T
 use Rattle.lister.proofs.reading.Reader.Laws as T′

@@ -4,8 +4,8 @@ use mathlib.Core.Path.{_≡_, ap, _∙_}
 use Prim.Native.Nat.{ℕ, _/_, _%_, _^_}
 use native.Mathlib.Omega.{arith}
 use lib.Dec.{eqb}
-use Rattle.words.specs.Bits.{fieldOf}
-use Rattle.lister.proofs.ItemLaws.{unused-bit}
+use Rattle.ground_rules.specs.Bits.{fieldOf}
+use Rattle.listing_rules.proofs.ItemLaws.{unused-bit}
 use borrow.Author.Needs.{needs}
 use Rattle.lister.proofs.reading.unused.Statement.{statement}
 use Rattle.lister.proofs.reading.unused.Tie as tie

@@ -2,7 +2,7 @@
 -- Assumes nothing.
 use mathlib.Core.Path.{refl}
 use native.Mathlib.Omega.{arith}
-use Rattle.machine.specs.Cc.{bitWorth}
+use Rattle.ground_rules.specs.Cc.{bitWorth}
 use Rattle.machine.proofs.cc.bit_worth.Statement.{statement}
 use Rattle.machine.proofs.cc.bit_worth.Tie as tie
 

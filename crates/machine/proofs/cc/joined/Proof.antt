@@ -1,7 +1,7 @@
 -- `machine::cc::joined` meets its contract.
 -- Assumes nothing.
 use borrow.Author.Needs.{needs}
-use Rattle.machine.specs.Cc.{joined}
+use Rattle.ground_rules.specs.Cc.{joined}
 use Rattle.machine.proofs.cc.joined.Statement.{statement}
 use Rattle.machine.proofs.cc.joined.Tie as tie
 

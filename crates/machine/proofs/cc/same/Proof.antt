@@ -1,7 +1,7 @@
 -- `machine::cc::same` meets its contract.
 -- Assumes nothing.
 use borrow.Author.Needs.{needs}
-use Rattle.machine.specs.Cc.{sameFields}
+use Rattle.ground_rules.specs.Cc.{sameFields}
 use Rattle.machine.proofs.cc.same.Statement.{statement}
 use Rattle.machine.proofs.cc.same.Tie as tie
 

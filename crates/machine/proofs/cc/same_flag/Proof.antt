@@ -1,6 +1,6 @@
 -- `machine::cc::same_flag` meets its contract.
 -- Assumes nothing.
-use Rattle.machine.specs.Cc.{sameFlag}
+use Rattle.ground_rules.specs.Cc.{sameFlag}
 use Rattle.machine.proofs.cc.same_flag.Statement.{statement}
 use Rattle.machine.proofs.cc.same_flag.Tie as tie
 

@@ -4,9 +4,9 @@ use Prim.Native.Nat.{ℕ, _<_, _^_}
 use borrow.Author.Needs.{needs}
 use native.Mathlib.Omega.{arith}
 use lib.Dec.{lit<}
-use Rattle.words.proofs.BitLaws.{field-lt}
-use Rattle.words.specs.Bits.{fieldOf}
-use Rattle.machine.specs.Cc.{split}
+use Rattle.ground_rules.proofs.BitLaws.{field-lt}
+use Rattle.ground_rules.specs.Bits.{fieldOf}
+use Rattle.ground_rules.specs.Cc.{split}
 use Rattle.machine.proofs.cc.split.Statement.{statement}
 use Rattle.machine.proofs.cc.split.Tie as tie
 

@@ -3,7 +3,7 @@
 use borrow.Author.Needs.{needs}
 use mathlib.Core.Path.{refl}
 use native.Mathlib.Omega.{arith}
-use Rattle.machine.specs.Cc.{withoutLock}
+use Rattle.ground_rules.specs.Cc.{withoutLock}
 use Rattle.machine.proofs.cc.without_lock.Statement.{statement}
 use Rattle.machine.proofs.cc.without_lock.Tie as tie
 

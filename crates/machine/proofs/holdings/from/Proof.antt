@@ -2,7 +2,7 @@
 -- Assumes nothing.
 use borrow.Author.Needs.{needs}
 use borrow.Author.Tests.{lt-ltb, le-ltb}
-use Rattle.machine.specs.Holdings.{heldFrom}
+use Rattle.ground_rules.specs.Holdings.{heldFrom}
 use Rattle.machine.proofs.holdings.from.Statement.{statement}
 use Rattle.machine.proofs.holdings.from.Tie as tie
 

@@ -1,7 +1,7 @@
 -- `machine::holdings::number` meets its contract.
 -- Assumes nothing.
 use borrow.Author.Needs.{needs}
-use Rattle.machine.specs.Holdings.{heldNumber}
+use Rattle.ground_rules.specs.Holdings.{heldNumber}
 use Rattle.machine.proofs.holdings.number.Statement.{statement}
 use Rattle.machine.proofs.holdings.number.Tie as tie
 

@@ -1,7 +1,7 @@
 -- `machine::holdings::stands` meets its contract.
 -- Assumes nothing.
 use mathlib.Core.Path.{refl}
-use Rattle.machine.specs.Holdings.{isHeldNumber}
+use Rattle.ground_rules.specs.Holdings.{isHeldNumber}
 use Rattle.machine.proofs.holdings.stands.Statement.{statement}
 use Rattle.machine.proofs.holdings.stands.Tie as tie
 

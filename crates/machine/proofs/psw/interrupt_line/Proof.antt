@@ -1,7 +1,7 @@
 -- `machine::psw::interrupt_line` meets its contract.
 -- Assumes nothing.
 use borrow.Author.Needs.{needs}
-use Rattle.machine.specs.Psw.{interruptLine}
+use Rattle.ground_rules.specs.Psw.{interruptLine}
 use Rattle.machine.proofs.psw.interrupt_line.Statement.{statement}
 use Rattle.machine.proofs.psw.interrupt_line.Tie as tie
 

@@ -5,8 +5,8 @@ use borrow.Author.Needs.{needs}
 use borrow.Author.Tests.{lt-ltb, le-ltb, le-leb}
 use native.Mathlib.Nat.{mod-eq-of-lt}
 use native.Mathlib.Omega.{arith}
-use Rattle.words.proofs.BitLaws.{with-bit-lt}
-use Rattle.machine.specs.Psw.{withPsw}
+use Rattle.ground_rules.proofs.BitLaws.{with-bit-lt}
+use Rattle.ground_rules.specs.Psw.{withPsw}
 use Rattle.machine.proofs.psw.with.Statement.{statement}
 use Rattle.machine.proofs.psw.with.Tie as tie
 

@@ -1,7 +1,7 @@
 -- `machine::registers::base` meets its contract.
 -- Assumes nothing.
 use borrow.Author.Tests.{ne-eqb}
-use Rattle.machine.specs.Registers.{baseOf}
+use Rattle.ground_rules.specs.Registers.{baseOf}
 use Rattle.machine.proofs.registers.base.Statement.{statement}
 use Rattle.machine.proofs.registers.base.Tie as tie
 

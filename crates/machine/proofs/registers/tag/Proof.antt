@@ -1,8 +1,8 @@
 -- `machine::registers::tag` meets its contract.
 -- Assumes nothing.
 use borrow.Author.Tests.{ne-eqb}
-use Rattle.words.proofs.ChoiceLaws.{pick-same}
-use Rattle.machine.specs.Registers.{byRRR, tagOf}
+use Rattle.ground_rules.proofs.ChoiceLaws.{pick-same}
+use Rattle.ground_rules.specs.Registers.{byRRR, tagOf}
 use Rattle.machine.proofs.registers.tag.Statement.{statement}
 use Rattle.machine.proofs.registers.tag.Tie as tie
 

@@ -2,7 +2,7 @@
 -- Assumes nothing.
 use borrow.Author.Needs.{needs}
 use borrow.Author.Tests.{ne-eqb}
-use Rattle.machine.specs.Registers.{byRRR, registerOf}
+use Rattle.ground_rules.specs.Registers.{byRRR, registerOf}
 use Rattle.machine.proofs.registers.value.Statement.{statement}
 use Rattle.machine.proofs.registers.value.Tie as tie
 

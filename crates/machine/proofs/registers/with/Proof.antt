@@ -5,7 +5,7 @@ use borrow.Author.Needs.{needs}
 use borrow.Author.Tests.{le-leb, ne-eqb}
 use lib.Arith.{lt-of-le-ne}
 use mathlib.Core.Path.{_≡_, sym}
-use Rattle.machine.specs.Registers.{withRegister}
+use Rattle.ground_rules.specs.Registers.{withRegister}
 use Rattle.machine.proofs.registers.with.Statement.{statement}
 use Rattle.machine.proofs.registers.with.Tie as tie
 

@@ -1,7 +1,7 @@
 -- `machine::states::agree` meets its contract.
 -- Assumes nothing.
 use borrow.Author.Needs.{needs}
-use Rattle.machine.specs.States.{agree}
+use Rattle.ground_rules.specs.States.{agree}
 use Rattle.machine.proofs.states.agree.Statement.{statement}
 use Rattle.machine.proofs.states.agree.Tie as tie
 

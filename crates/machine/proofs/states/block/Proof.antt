@@ -1,8 +1,8 @@
 -- `machine::states::block` meets its contract.
 -- Assumes nothing.
 use borrow.Author.Needs.{needs}
-use Rattle.words.specs.Sums.{sum20}
-use Rattle.machine.specs.States.{blockOf}
+use Rattle.ground_rules.specs.Sums.{sum20}
+use Rattle.ground_rules.specs.States.{blockOf}
 use Rattle.machine.proofs.states.block.Statement.{statement}
 use Rattle.machine.proofs.states.block.Tie as tie
 

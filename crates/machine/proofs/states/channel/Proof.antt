@@ -1,6 +1,6 @@
 -- `machine::states::channel` meets its contract.
 -- Assumes nothing.
-use Rattle.machine.specs.States.{channelOf}
+use Rattle.ground_rules.specs.States.{channelOf}
 use Rattle.machine.proofs.states.channel.Statement.{statement}
 use Rattle.machine.proofs.states.channel.Tie as tie
 

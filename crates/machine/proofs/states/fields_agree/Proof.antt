@@ -1,7 +1,7 @@
 -- `machine::states::fields_agree` meets its contract.
 -- Assumes nothing.
 use borrow.Author.Needs.{needs}
-use Rattle.machine.specs.States.{fieldsAgree}
+use Rattle.ground_rules.specs.States.{fieldsAgree}
 use Rattle.machine.proofs.states.fields_agree.Statement.{statement}
 use Rattle.machine.proofs.states.fields_agree.Tie as tie
 

@@ -2,7 +2,7 @@
 -- Assumes nothing.
 use borrow.Author.Needs.{needs}
 use borrow.Author.Tests.{lt-ltb, le-ltb}
-use Rattle.machine.specs.States.{freshState, freshOf}
+use Rattle.ground_rules.specs.States.{freshState, freshOf}
 use Rattle.machine.proofs.states.fresh.Statement.{statement}
 use Rattle.machine.proofs.states.fresh.Tie as tie
 

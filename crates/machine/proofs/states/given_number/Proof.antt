@@ -2,7 +2,7 @@
 -- Assumes nothing.
 use borrow.Author.Needs.{needs}
 use borrow.Author.Tests.{not-true, not-false}
-use Rattle.machine.specs.Outcomes.{unless, first, givenNumber}
+use Rattle.ground_rules.specs.Outcomes.{unless, first, givenNumber}
 use Rattle.machine.proofs.states.given_number.Statement.{statement}
 use Rattle.machine.proofs.states.given_number.Tie as tie
 

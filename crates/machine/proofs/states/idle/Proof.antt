@@ -1,7 +1,7 @@
 -- `machine::states::idle` meets its contract.
 -- Assumes nothing.
 use borrow.Author.Needs.{needs}
-use Rattle.machine.specs.States.{idleChannel}
+use Rattle.ground_rules.specs.States.{idleChannel}
 use Rattle.machine.proofs.states.idle.Statement.{statement}
 use Rattle.machine.proofs.states.idle.Tie as tie
 

@@ -1,7 +1,7 @@
 -- `machine::states::is_channel` meets its contract.
 -- Assumes nothing.
 use mathlib.Core.Path.{refl}
-use Rattle.machine.specs.States.{isChannel}
+use Rattle.ground_rules.specs.States.{isChannel}
 use Rattle.machine.proofs.states.is_channel.Statement.{statement}
 use Rattle.machine.proofs.states.is_channel.Tie as tie
 

@@ -1,7 +1,7 @@
 -- `machine::states::is_running` meets its contract.
 -- Assumes nothing.
 use borrow.Author.Needs.{needs}
-use Rattle.machine.specs.States.{isRunning}
+use Rattle.ground_rules.specs.States.{isRunning}
 use Rattle.machine.proofs.states.is_running.Statement.{statement}
 use Rattle.machine.proofs.states.is_running.Tie as tie
 

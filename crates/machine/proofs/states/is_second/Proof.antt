@@ -1,7 +1,7 @@
 -- `machine::states::is_second` meets its contract.
 -- Assumes nothing.
 use mathlib.Core.Path.{refl}
-use Rattle.machine.specs.States.{isSecond}
+use Rattle.ground_rules.specs.States.{isSecond}
 use Rattle.machine.proofs.states.is_second.Statement.{statement}
 use Rattle.machine.proofs.states.is_second.Tie as tie
 

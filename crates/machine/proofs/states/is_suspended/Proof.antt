@@ -1,7 +1,7 @@
 -- `machine::states::is_suspended` meets its contract.
 -- Assumes nothing.
 use borrow.Author.Needs.{needs}
-use Rattle.machine.specs.States.{isSuspended}
+use Rattle.ground_rules.specs.States.{isSuspended}
 use Rattle.machine.proofs.states.is_suspended.Statement.{statement}
 use Rattle.machine.proofs.states.is_suspended.Tie as tie
 

@@ -1,6 +1,6 @@
 -- `machine::states::number` meets its contract.
 -- Assumes nothing.
-use Rattle.machine.specs.States.{channelNumber}
+use Rattle.ground_rules.specs.States.{channelNumber}
 use Rattle.machine.proofs.states.number.Statement.{statement}
 use Rattle.machine.proofs.states.number.Tie as tie
 

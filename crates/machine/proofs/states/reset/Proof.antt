@@ -1,7 +1,7 @@
 -- `machine::states::reset` meets its contract.
 -- Assumes nothing.
 use borrow.Author.Needs.{needs}
-use Rattle.machine.specs.States.{resetState}
+use Rattle.ground_rules.specs.States.{resetState}
 use Rattle.machine.proofs.states.reset.Statement.{statement}
 use Rattle.machine.proofs.states.reset.Tie as tie
 

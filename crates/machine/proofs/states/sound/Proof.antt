@@ -1,7 +1,7 @@
 -- `machine::states::sound` meets its contract.
 -- Assumes nothing.
 use borrow.Author.Needs.{needs}
-use Rattle.machine.specs.States.{sound}
+use Rattle.ground_rules.specs.States.{sound}
 use Rattle.machine.proofs.states.sound.Statement.{statement}
 use Rattle.machine.proofs.states.sound.Tie as tie
 

@@ -1,7 +1,7 @@
 -- `machine::states::sound_channel` meets its contract.
 -- Assumes nothing.
 use mathlib.Core.Path.{refl}
-use Rattle.machine.specs.States.{soundChannel}
+use Rattle.ground_rules.specs.States.{soundChannel}
 use Rattle.machine.proofs.states.sound_channel.Statement.{statement}
 use Rattle.machine.proofs.states.sound_channel.Tie as tie
 

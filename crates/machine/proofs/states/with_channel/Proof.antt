@@ -1,6 +1,6 @@
 -- `machine::states::with_channel` meets its contract.
 -- Assumes nothing.
-use Rattle.machine.specs.States.{withChannel}
+use Rattle.ground_rules.specs.States.{withChannel}
 use Rattle.machine.proofs.states.with_channel.Statement.{statement}
 use Rattle.machine.proofs.states.with_channel.Tie as tie
 

@@ -1,7 +1,7 @@
 -- `machine::states::with_last` meets its contract.
 -- Assumes nothing.
 use mathlib.Core.Path.{refl}
-use Rattle.machine.specs.States.{withLast}
+use Rattle.ground_rules.specs.States.{withLast}
 use Rattle.machine.proofs.states.with_last.Statement.{statement}
 use Rattle.machine.proofs.states.with_last.Tie as tie
 

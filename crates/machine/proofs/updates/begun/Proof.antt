@@ -1,7 +1,7 @@
 -- `machine::updates::begun` meets its contract.
 -- Assumes nothing.
 use borrow.Author.Needs.{needs}
-use Rattle.machine.specs.Updates.{renewed}
+use Rattle.ground_rules.specs.Updates.{renewed}
 use Rattle.machine.proofs.updates.begun.Statement.{statement}
 use Rattle.machine.proofs.updates.begun.Tie as tie
 

@@ -1,7 +1,7 @@
 -- `machine::updates::halted` meets its contract.
 -- Assumes nothing.
 use borrow.Author.Needs.{needs}
-use Rattle.machine.specs.Updates.{halted}
+use Rattle.ground_rules.specs.Updates.{halted}
 use Rattle.machine.proofs.updates.halted.Statement.{statement}
 use Rattle.machine.proofs.updates.halted.Tie as tie
 

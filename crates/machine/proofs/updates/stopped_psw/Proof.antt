@@ -1,7 +1,7 @@
 -- `machine::updates::stopped_psw` meets its contract.
 -- Assumes nothing.
 use borrow.Author.Needs.{needs}
-use Rattle.machine.specs.Updates.{stoppedPsw}
+use Rattle.ground_rules.specs.Updates.{stoppedPsw}
 use Rattle.machine.proofs.updates.stopped_psw.Statement.{statement}
 use Rattle.machine.proofs.updates.stopped_psw.Tie as tie
 

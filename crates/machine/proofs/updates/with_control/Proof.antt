@@ -1,7 +1,7 @@
 -- `machine::updates::with_control` meets its contract.
 -- Assumes nothing.
 use mathlib.Core.Path.{refl}
-use Rattle.machine.specs.Updates.{withControl}
+use Rattle.ground_rules.specs.Updates.{withControl}
 use Rattle.machine.proofs.updates.with_control.Statement.{statement}
 use Rattle.machine.proofs.updates.with_control.Tie as tie
 

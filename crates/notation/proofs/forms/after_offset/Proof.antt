@@ -1,8 +1,8 @@
 -- `notation::forms::after_offset` meets its contract.
 -- Assumes nothing.
 use native.Mathlib.Omega.{arith}
-use Rattle.notation.specs.Forms.{afterOffset}
-use Rattle.notation.proofs.FormLaws.{offset-short}
+use Rattle.listing_rules.specs.Forms.{afterOffset}
+use Rattle.listing_rules.proofs.FormLaws.{offset-short}
 use borrow.Author.Needs.{needs}
 use Rattle.notation.proofs.forms.after_offset.Statement.{statement}
 use Rattle.notation.proofs.forms.after_offset.Tie as tie

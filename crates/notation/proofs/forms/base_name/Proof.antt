@@ -1,9 +1,9 @@
 -- `notation::forms::base_name` meets its contract.
 -- Assumes nothing.
 use mathlib.Core.Path.{sym}
-use Rattle.notation.specs.Characters.{ascii, heldBy, heldIn}
-use Rattle.notation.specs.Forms.{baseName}
-use Rattle.notation.proofs.FormLaws.{past-three}
+use Rattle.listing_rules.specs.Characters.{ascii, heldBy, heldIn}
+use Rattle.listing_rules.specs.Forms.{baseName}
+use Rattle.listing_rules.proofs.FormLaws.{past-three}
 use borrow.Author.Tests.{ne-eqb}
 use Rattle.notation.proofs.forms.base_name.Statement.{statement}
 use Rattle.notation.proofs.forms.base_name.Tie as tie

@@ -1,9 +1,9 @@
 -- `notation::forms::register_name` meets its contract.
 -- Assumes nothing.
 use mathlib.Core.Path.{sym}
-use Rattle.notation.specs.Characters.{heldBy, heldIn}
-use Rattle.notation.specs.Forms.{registerName}
-use Rattle.notation.proofs.FormLaws.{past-seven}
+use Rattle.listing_rules.specs.Characters.{heldBy, heldIn}
+use Rattle.listing_rules.specs.Forms.{registerName}
+use Rattle.listing_rules.proofs.FormLaws.{past-seven}
 use borrow.Author.Tests.{ne-eqb}
 use Rattle.notation.proofs.forms.register_name.Statement.{statement}
 use Rattle.notation.proofs.forms.register_name.Tie as tie

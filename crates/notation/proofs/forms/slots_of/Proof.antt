@@ -1,8 +1,8 @@
 -- `notation::forms::slots_of` meets its contract.
 -- Assumes nothing.
 use native.Mathlib.Omega.{arith}
-use Rattle.notation.specs.Forms.{slotsOf}
-use Rattle.notation.proofs.FormLaws.{after-fits}
+use Rattle.listing_rules.specs.Forms.{slotsOf}
+use Rattle.listing_rules.proofs.FormLaws.{after-fits}
 use borrow.Author.Needs.{needs}
 use Rattle.notation.proofs.forms.slots_of.Statement.{statement}
 use Rattle.notation.proofs.forms.slots_of.Tie as tie

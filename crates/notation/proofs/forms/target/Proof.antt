@@ -3,7 +3,7 @@
 use mathlib.Core.Path.{_≡_, _∙_}
 use Prim.Native.Nat.{_+_, _%_}
 use native.Mathlib.Omega.{arith}
-use Rattle.notation.specs.Forms.{targetOf}
+use Rattle.listing_rules.specs.Forms.{targetOf}
 use borrow.Author.Needs.{needs}
 use Rattle.notation.proofs.forms.target.Statement.{statement}
 use Rattle.notation.proofs.forms.target.Tie as tie

@@ -1,6 +1,6 @@
 -- `notation::lines::listed` meets its contract.
 -- Assumes nothing.
-use Rattle.notation.proofs.FormLaws.{other-listed}
+use Rattle.listing_rules.proofs.FormLaws.{other-listed}
 use borrow.Author.Needs.{needs}
 use Rattle.notation.proofs.lines.listed.Statement.{statement}
 use Rattle.notation.proofs.lines.listed.Tie as tie

@@ -1,6 +1,6 @@
 -- `notation::mnemonics::is_jump` meets its contract.
 -- Assumes nothing.
-use Rattle.notation.specs.Mnemonics.{isJump}
+use Rattle.listing_rules.specs.Mnemonics.{isJump}
 use borrow.Author.Needs.{needs}
 use Rattle.notation.proofs.mnemonics.is_jump.Statement.{statement}
 use Rattle.notation.proofs.mnemonics.is_jump.Tie as tie

@@ -2,7 +2,7 @@
 -- Assumes nothing.
 use native.Mathlib.Omega.{arith}
 use borrow.Author.Tests.{lt-ltb, le-ltb, lt-leb, le-leb}
-use Rattle.notation.specs.Characters.{hexGlyph}
+use Rattle.listing_rules.specs.Characters.{hexGlyph}
 use borrow.Author.Needs.{needs}
 use Rattle.notation.proofs.pieces.glyph.Statement.{statement}
 use Rattle.notation.proofs.pieces.glyph.Tie as tie

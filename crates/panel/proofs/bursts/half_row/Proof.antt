@@ -5,9 +5,9 @@ use borrow.Author.Needs.{needs}
 use denote.Ref.{now}
 use mathlib.Core.Path.{refl, sym, ap, _∙_}
 use native.Mathlib.Omega.{arith}
-use Rattle.memory.specs.Buffers.{buffers}
+use Rattle.ground_rules.specs.Buffers.{buffers}
 use Rattle.transfer.proofs.HalfLaws.{half-is}
-use Rattle.transfer.specs.Steps.{Transfer}
+use Rattle.transfer_rules.specs.Steps.{Transfer}
 use Rattle.panel.specs.Bursts.{burst, moves, transfersOn}
 use Rattle.panel.proofs.BurstLaws.{burst-stops, burst-ends}
 use Rattle.panel.proofs.bursts.half_row.Statement.{statement}

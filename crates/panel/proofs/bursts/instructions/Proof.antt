@@ -8,10 +8,10 @@ use lib.ListN.{length}
 use mathlib.Core.Bool.{Bool, not, _&&_}
 use mathlib.Core.Path.{_≡_, refl, sym, ap, ap₂, _∙_}
 use native.Mathlib.Omega.{arith}
-use Rattle.execute.specs.Execute.{Executed, executeOf}
-use Rattle.machine.specs.Updates.{holding}
-use Rattle.machine.specs.declared.Channel.{Channel}
-use Rattle.memory.specs.Buffers.{Buffers, buffers}
+use Rattle.instruction_rules.specs.Execute.{Executed, executeOf}
+use Rattle.ground_rules.specs.Updates.{holding}
+use Rattle.ground_rules.specs.declared.Channel.{Channel}
+use Rattle.ground_rules.specs.Buffers.{Buffers, buffers}
 use Rattle.panel.specs.Bursts.{burst, burstFrom, executes, executesOn}
 use Rattle.panel.proofs.BurstLaws.{burst-stops, burst-ends, burst-goes, burst-limit}
 use Rattle.panel.proofs.bursts.instructions.Statement.{statement}

@@ -4,9 +4,9 @@ use Prim.Native.Nat.{ℕ, _-_}
 use borrow.Author.Needs.{needs}
 use denote.Ref.{now}
 use mathlib.Core.Path.{sym, ap, _∙_}
-use Rattle.machine.specs.States.{blockOf, busyIn}
-use Rattle.machine.specs.declared.State.{State}
-use Rattle.memory.specs.Buffers.{buffers}
+use Rattle.ground_rules.specs.States.{blockOf, busyIn}
+use Rattle.ground_rules.specs.declared.State.{State}
+use Rattle.ground_rules.specs.Buffers.{buffers}
 use Rattle.panel.specs.Bursts.{burstFrom, moves, transfersOn, executes, executesOn}
 use Rattle.panel.proofs.RoundLaws.{until-after, until-later, transfers-round, instructions-round}
 use Rattle.panel.proofs.bursts.own_steps.Statement.{statement}

@@ -7,12 +7,12 @@ use lib.ListN.{length}
 use mathlib.Core.Path.{_≡_, refl, sym, ap, _∙_}
 use native.Mathlib.Nat.{sub-zero}
 use native.Mathlib.Omega.{arith}
-use Rattle.memory.specs.Buffers.{buffers}
-use Rattle.step.specs.Step.{entryNumber}
+use Rattle.ground_rules.specs.Buffers.{buffers}
+use Rattle.turn_rules.specs.Step.{entryNumber}
 use Rattle.panel.specs.Bursts.{stateOf}
-use Rattle.panel.specs.Run.{stepsFrom}
+use Rattle.run_rules.specs.Run.{stepsFrom}
 use Rattle.panel.proofs.RoundLaws.{rest-stopped, rest-going}
-use Rattle.panel.proofs.RunLaws.{limits}
+use Rattle.run_rules.proofs.RunLaws.{limits}
 use Rattle.panel.proofs.bursts.rounds.Statement.{statement}
 use Rattle.panel.proofs.bursts.rounds.Tie as tie
 

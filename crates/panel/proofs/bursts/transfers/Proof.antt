@@ -6,12 +6,12 @@ use lib.ListN.{length}
 use mathlib.Core.Bool.{Bool, true, false, not, _&&_, _||_}
 use mathlib.Core.Path.{_≡_, refl, sym, ap, _∙_}
 use native.Mathlib.Omega.{arith}
-use Rattle.machine.specs.Psw.{transferring}
-use Rattle.memory.specs.Buffers.{buffers}
+use Rattle.ground_rules.specs.Psw.{transferring}
+use Rattle.ground_rules.specs.Buffers.{buffers}
 use Rattle.transfer.proofs.HalfLaws.{whole-is}
-use Rattle.transfer.specs.Parts.{isHalf}
-use Rattle.transfer.specs.Steps.{Transfer, transferOf}
-use Rattle.words.proofs.ChoiceLaws.{apart}
+use Rattle.transfer_rules.specs.Parts.{isHalf}
+use Rattle.transfer_rules.specs.Steps.{Transfer, transferOf}
+use Rattle.ground_rules.proofs.ChoiceLaws.{apart}
 use Rattle.panel.specs.Bursts.{burst, burstFrom, moves, transfersOn}
 use Rattle.panel.proofs.BurstLaws.{burst-stops, burst-ends, burst-goes, burst-limit}
 use Rattle.panel.proofs.bursts.transfers.Statement.{statement}

@@ -4,11 +4,11 @@ use borrow.Author.Needs.{needs}
 use denote.Ref.{now}
 use mathlib.Core.Path.{sym, ap, _∙_}
 use native.Mathlib.Omega.{arith}
-use Rattle.machine.specs.declared.State.{State}
-use Rattle.memory.specs.Buffers.{buffers}
-use Rattle.step.specs.Choosing.{choiceOf}
-use Rattle.step.specs.Step.{entryNumber}
-use Rattle.step.specs.declared.turns.Choice.the-variants.{Steps}
+use Rattle.ground_rules.specs.declared.State.{State}
+use Rattle.ground_rules.specs.Buffers.{buffers}
+use Rattle.turn_rules.specs.Choosing.{choiceOf}
+use Rattle.turn_rules.specs.Step.{entryNumber}
+use Rattle.turn_rules.specs.declared.Choice.the-variants.{Steps}
 use Rattle.panel.proofs.RoundLaws.{turned-is, turned-named, turned-round, nobody-round, external-turn}
 use Rattle.panel.proofs.bursts.turn.Statement.{statement}
 use Rattle.panel.proofs.bursts.turn.Tie as tie

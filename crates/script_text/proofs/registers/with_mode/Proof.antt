@@ -1,6 +1,6 @@
 -- `script_text::registers::with_mode` meets its contract.
 -- Assumes nothing.
-use Rattle.machine.specs.Updates.{withControl}
+use Rattle.ground_rules.specs.Updates.{withControl}
 use Rattle.script_text.specs.Registers.{withRaw, pointerSet}
 use borrow.Author.Needs.{needs}
 use Rattle.script_text.proofs.registers.with_mode.Statement.{statement}

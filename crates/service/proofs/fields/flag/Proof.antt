@@ -1,7 +1,7 @@
 -- `service::fields::flag` meets its contract.
 -- Assumes nothing.
 use borrow.Author.Needs.{needs}
-use Rattle.service.specs.Fields.{flagIn}
+use Rattle.state_rules.specs.Fields.{flagIn}
 use Rattle.service.proofs.fields.flag.Statement.{statement}
 use Rattle.service.proofs.fields.flag.Tie as tie
 

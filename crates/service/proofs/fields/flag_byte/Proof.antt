@@ -1,6 +1,6 @@
 -- `service::fields::flag_byte` meets its contract.
 -- Assumes nothing.
-use Rattle.service.specs.Fields.{flagOf}
+use Rattle.state_rules.specs.Fields.{flagOf}
 use Rattle.service.proofs.fields.flag_byte.Statement.{statement}
 use Rattle.service.proofs.fields.flag_byte.Tie as tie
 

@@ -1,7 +1,7 @@
 -- `service::fields::is_code` meets its contract.
 -- Assumes nothing.
 use borrow.Author.Needs.{needs}
-use Rattle.service.specs.Fields.{isCode}
+use Rattle.state_rules.specs.Fields.{isCode}
 use Rattle.service.proofs.fields.is_code.Statement.{statement}
 use Rattle.service.proofs.fields.is_code.Tie as tie
 

@@ -1,7 +1,7 @@
 -- `service::fields::is_flag` meets its contract.
 -- Assumes nothing.
 use borrow.Author.Needs.{needs}
-use Rattle.service.specs.Fields.{isFlag}
+use Rattle.state_rules.specs.Fields.{isFlag}
 use Rattle.service.proofs.fields.is_flag.Statement.{statement}
 use Rattle.service.proofs.fields.is_flag.Tie as tie
 

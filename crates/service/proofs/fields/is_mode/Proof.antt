@@ -1,7 +1,7 @@
 -- `service::fields::is_mode` meets its contract.
 -- Assumes nothing.
 use borrow.Author.Needs.{needs}
-use Rattle.service.specs.Fields.{isMode}
+use Rattle.state_rules.specs.Fields.{isMode}
 use Rattle.service.proofs.fields.is_mode.Statement.{statement}
 use Rattle.service.proofs.fields.is_mode.Tie as tie
 

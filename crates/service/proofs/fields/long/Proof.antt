@@ -4,7 +4,7 @@ use Prim.Native.Nat.{_+_}
 use borrow.Author.Needs.{needs}
 use mathlib.Core.Path.{_≡_}
 use native.Mathlib.Omega.{arith}
-use Rattle.service.specs.Fields.{littleIn}
+use Rattle.state_rules.specs.Fields.{littleIn}
 use Rattle.service.proofs.fields.long.Statement.{statement}
 use Rattle.service.proofs.fields.long.Tie as tie
 

@@ -3,7 +3,7 @@
 use borrow.Author.Needs.{needs}
 use borrow.Author.Tests.{ne-eqb}
 use mathlib.Core.Path.{sym, _∙_}
-use Rattle.service.specs.Fields.{modeIn}
+use Rattle.state_rules.specs.Fields.{modeIn}
 use Rattle.service.proofs.fields.mode.Statement.{statement}
 use Rattle.service.proofs.fields.mode.Tie as tie
 

@@ -1,7 +1,7 @@
 -- `service::fields::mode_byte` meets its contract.
 -- Assumes nothing.
 use borrow.Author.Needs.{needs}
-use Rattle.service.specs.Fields.{modeByte}
+use Rattle.state_rules.specs.Fields.{modeByte}
 use Rattle.service.proofs.fields.mode_byte.Statement.{statement}
 use Rattle.service.proofs.fields.mode_byte.Tie as tie
 

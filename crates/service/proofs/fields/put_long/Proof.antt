@@ -5,9 +5,9 @@ use borrow.Author.Needs.{needs}
 use denote.Ref.{now}
 use lib.Seq.{sets}
 use mathlib.Core.Path.{refl, ap, _∙_}
-use Rattle.service.specs.Fields.{littleEnd}
-use Rattle.service.proofs.LittleLaws.{halves}
-use Rattle.service.proofs.SetsLaws.{sets-then}
+use Rattle.state_rules.specs.Fields.{littleEnd}
+use Rattle.state_rules.proofs.LittleLaws.{halves}
+use Rattle.state_rules.proofs.SetsLaws.{sets-then}
 use Rattle.service.proofs.fields.put_long.Statement.{statement}
 use Rattle.service.proofs.fields.put_long.Tie as tie
 

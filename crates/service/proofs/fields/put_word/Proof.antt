@@ -3,7 +3,7 @@
 use borrow.Author.Needs.{needs}
 use mathlib.Core.Path.{_∙_}
 use native.Mathlib.Numerals.{add-one}
-use Rattle.service.specs.Fields.{littleEnd}
+use Rattle.state_rules.specs.Fields.{littleEnd}
 use Rattle.service.proofs.fields.put_word.Statement.{statement}
 use Rattle.service.proofs.fields.put_word.Tie as tie
 

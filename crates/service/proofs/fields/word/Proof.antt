@@ -3,7 +3,7 @@
 use borrow.Author.Needs.{needs}
 use mathlib.Core.Path.{_∙_}
 use native.Mathlib.Omega.{arith}
-use Rattle.service.specs.Fields.{littleIn}
+use Rattle.state_rules.specs.Fields.{littleIn}
 use Rattle.service.proofs.fields.word.Statement.{statement}
 use Rattle.service.proofs.fields.word.Tie as tie
 

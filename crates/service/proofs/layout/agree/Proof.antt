@@ -1,10 +1,10 @@
 -- `service::layout::agree` meets its contract.
 -- Assumes nothing.
 use native.Mathlib.Omega.{arith}
-use Rattle.machine.specs.States.{agree}
-use Rattle.service.specs.Layout.{stateIn}
-use Rattle.service.proofs.AgreeLaws.{first-fields, second-fields}
-use Rattle.service.proofs.CallLaws.{state-length}
+use Rattle.ground_rules.specs.States.{agree}
+use Rattle.state_rules.specs.Layout.{stateIn}
+use Rattle.state_rules.proofs.AgreeLaws.{first-fields, second-fields}
+use Rattle.state_rules.proofs.CallLaws.{state-length}
 use Rattle.service.proofs.layout.agree.Statement.{statement}
 use Rattle.service.proofs.layout.agree.Tie as tie
 

@@ -3,7 +3,7 @@
 use borrow.Author.Needs.{needs}
 use denote.Ref.{now}
 use native.Mathlib.Omega.{arith}
-use Rattle.service.proofs.AgreeLaws.{agrees-by}
+use Rattle.state_rules.proofs.AgreeLaws.{agrees-by}
 use Rattle.service.proofs.layout.agrees.Statement.{statement}
 use Rattle.service.proofs.layout.agrees.Tie as tie
 

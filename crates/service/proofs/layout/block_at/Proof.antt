@@ -1,6 +1,6 @@
 -- `service::layout::block_at` meets its contract.
 -- Assumes nothing.
-use Rattle.service.specs.Layout.{blockFrom}
+use Rattle.state_rules.specs.Layout.{blockFrom}
 use Rattle.service.proofs.layout.block_at.Statement.{statement}
 use Rattle.service.proofs.layout.block_at.Tie as tie
 

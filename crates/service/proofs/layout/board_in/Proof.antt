@@ -1,7 +1,7 @@
 -- `service::layout::board_in` meets its contract.
 -- Assumes nothing.
 use borrow.Author.Needs.{needs}
-use Rattle.service.specs.Layout.{boardIn}
+use Rattle.state_rules.specs.Layout.{boardIn}
 use Rattle.service.proofs.layout.board_in.Statement.{statement}
 use Rattle.service.proofs.layout.board_in.Tie as tie
 

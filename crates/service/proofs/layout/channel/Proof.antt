@@ -3,7 +3,7 @@
 use borrow.Author.Needs.{needs}
 use denote.Ref.{now}
 use mathlib.Core.Path.{_∙_}
-use Rattle.service.proofs.BlockLaws.{block-inside, channel-at}
+use Rattle.state_rules.proofs.BlockLaws.{block-inside, channel-at}
 use Rattle.service.proofs.layout.channel.Statement.{statement}
 use Rattle.service.proofs.layout.channel.Tie as tie
 

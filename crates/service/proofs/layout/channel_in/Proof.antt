@@ -2,7 +2,7 @@
 -- Assumes nothing.
 use borrow.Author.Needs.{needs}
 use native.Mathlib.Omega.{arith}
-use Rattle.service.specs.Layout.{channelIn}
+use Rattle.state_rules.specs.Layout.{channelIn}
 use Rattle.service.proofs.layout.channel_in.Statement.{statement}
 use Rattle.service.proofs.layout.channel_in.Tie as tie
 

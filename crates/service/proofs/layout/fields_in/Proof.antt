@@ -1,7 +1,7 @@
 -- `service::layout::fields_in` meets its contract.
 -- Assumes nothing.
 use borrow.Author.Needs.{needs}
-use Rattle.service.specs.Layout.{fieldsIn}
+use Rattle.state_rules.specs.Layout.{fieldsIn}
 use Rattle.service.proofs.layout.fields_in.Statement.{statement}
 use Rattle.service.proofs.layout.fields_in.Tie as tie
 

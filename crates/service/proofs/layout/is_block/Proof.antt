@@ -1,7 +1,7 @@
 -- `service::layout::is_block` meets its contract.
 -- Assumes nothing.
 use borrow.Author.Needs.{needs}
-use Rattle.service.specs.Layout.{isBlock}
+use Rattle.state_rules.specs.Layout.{isBlock}
 use Rattle.service.proofs.layout.is_block.Statement.{statement}
 use Rattle.service.proofs.layout.is_block.Tie as tie
 

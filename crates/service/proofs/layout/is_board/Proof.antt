@@ -1,7 +1,7 @@
 -- `service::layout::is_board` meets its contract.
 -- Assumes nothing.
 use borrow.Author.Needs.{needs}
-use Rattle.service.specs.Layout.{isBoard}
+use Rattle.state_rules.specs.Layout.{isBoard}
 use Rattle.service.proofs.layout.is_board.Statement.{statement}
 use Rattle.service.proofs.layout.is_board.Tie as tie
 

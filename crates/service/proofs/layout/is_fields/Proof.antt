@@ -1,7 +1,7 @@
 -- `service::layout::is_fields` meets its contract.
 -- Assumes nothing.
 use borrow.Author.Needs.{needs}
-use Rattle.service.specs.Layout.{isFields}
+use Rattle.state_rules.specs.Layout.{isFields}
 use Rattle.service.proofs.layout.is_fields.Statement.{statement}
 use Rattle.service.proofs.layout.is_fields.Tie as tie
 

@@ -2,7 +2,7 @@
 -- Assumes nothing.
 use borrow.Author.Needs.{needs}
 use borrow.Author.Tests.{eq-eqb, ne-eqb}
-use Rattle.service.specs.Layout.{isState}
+use Rattle.state_rules.specs.Layout.{isState}
 use Rattle.service.proofs.layout.is_state.Statement.{statement}
 use Rattle.service.proofs.layout.is_state.Tie as tie
 

@@ -2,7 +2,7 @@
 -- Assumes nothing.
 use borrow.Author.Needs.{needs}
 use denote.Ref.{now}
-use Rattle.service.proofs.AgreeLaws.{made-up}
+use Rattle.state_rules.proofs.AgreeLaws.{made-up}
 use Rattle.service.proofs.layout.joined_in.Statement.{statement}
 use Rattle.service.proofs.layout.joined_in.Tie as tie
 

@@ -1,7 +1,7 @@
 -- `service::layout::looked_at` meets its contract.
 -- Assumes nothing.
 use borrow.Author.Needs.{needs}
-use Rattle.service.specs.Layout.{stateIn}
+use Rattle.state_rules.specs.Layout.{stateIn}
 use Rattle.service.proofs.layout.looked_at.Statement.{statement}
 use Rattle.service.proofs.layout.looked_at.Tie as tie
 

@@ -1,7 +1,7 @@
 -- `service::layout::pointer_in` meets its contract.
 -- Assumes nothing.
 use borrow.Author.Needs.{needs}
-use Rattle.service.specs.Layout.{pointerIn}
+use Rattle.state_rules.specs.Layout.{pointerIn}
 use Rattle.service.proofs.layout.pointer_in.Statement.{statement}
 use Rattle.service.proofs.layout.pointer_in.Tie as tie
 

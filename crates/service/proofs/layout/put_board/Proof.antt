@@ -2,7 +2,7 @@
 -- Assumes nothing.
 use borrow.Author.Needs.{needs}
 use mathlib.Core.Path.{_∙_}
-use Rattle.service.specs.Layout.{boardBytes}
+use Rattle.state_rules.specs.Layout.{boardBytes}
 use Rattle.service.proofs.layout.put_board.Statement.{statement}
 use Rattle.service.proofs.layout.put_board.Tie as tie
 

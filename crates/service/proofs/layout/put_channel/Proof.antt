@@ -4,10 +4,10 @@ use borrow.Author.Needs.{needs}
 use mathlib.Core.Path.{_∙_}
 use native.Mathlib.Nat.{add-assoc}
 use native.Mathlib.Omega.{arith}
-use Rattle.service.specs.Layout.{fieldsBytes, heldBytes, channelBytes}
-use Rattle.service.proofs.HeldLaws.{held-small, good-fits}
-use Rattle.service.proofs.LengthLaws.{length-pointers, length-numbers, length-marks, length-sides, length-fields}
-use Rattle.service.proofs.SetsLaws.{sets-append}
+use Rattle.state_rules.specs.Layout.{fieldsBytes, heldBytes, channelBytes}
+use Rattle.state_rules.proofs.HeldLaws.{held-small, good-fits}
+use Rattle.state_rules.proofs.LengthLaws.{length-pointers, length-numbers, length-marks, length-sides, length-fields}
+use Rattle.state_rules.proofs.SetsLaws.{sets-append}
 use Rattle.service.proofs.layout.put_channel.Statement.{statement}
 use Rattle.service.proofs.layout.put_channel.Tie as tie
 

@@ -5,7 +5,7 @@ use borrow.Author.Needs.{needs}
 use mathlib.Core.Path.{_≡_, _∙_}
 use native.Mathlib.Numerals.{add-one}
 use native.Mathlib.Omega.{arith}
-use Rattle.service.specs.Layout.{marksBytes}
+use Rattle.state_rules.specs.Layout.{marksBytes}
 use Rattle.service.proofs.layout.put_marks.Statement.{statement}
 use Rattle.service.proofs.layout.put_marks.Tie as tie
 

@@ -3,9 +3,9 @@
 use borrow.Author.Needs.{needs}
 use mathlib.Core.Path.{_∙_}
 use native.Mathlib.Nat.{add-assoc}
-use Rattle.service.specs.Layout.{numbersBytes}
-use Rattle.service.proofs.LengthLaws.{length-little}
-use Rattle.service.proofs.SetsLaws.{sets-append}
+use Rattle.state_rules.specs.Layout.{numbersBytes}
+use Rattle.state_rules.proofs.LengthLaws.{length-little}
+use Rattle.state_rules.proofs.SetsLaws.{sets-append}
 use Rattle.service.proofs.layout.put_numbers.Statement.{statement}
 use Rattle.service.proofs.layout.put_numbers.Tie as tie
 

@@ -2,9 +2,9 @@
 -- Assumes nothing.
 use borrow.Author.Needs.{needs}
 use mathlib.Core.Path.{_∙_}
-use Rattle.service.specs.Layout.{pointerBytes}
-use Rattle.service.proofs.LengthLaws.{length-little}
-use Rattle.service.proofs.SetsLaws.{sets-append}
+use Rattle.state_rules.specs.Layout.{pointerBytes}
+use Rattle.state_rules.proofs.LengthLaws.{length-little}
+use Rattle.state_rules.proofs.SetsLaws.{sets-append}
 use Rattle.service.proofs.layout.put_pointer.Statement.{statement}
 use Rattle.service.proofs.layout.put_pointer.Tie as tie
 

@@ -3,9 +3,9 @@
 use borrow.Author.Needs.{needs}
 use mathlib.Core.Path.{_∙_}
 use native.Mathlib.Nat.{add-assoc}
-use Rattle.service.specs.Layout.{pointersBytes}
-use Rattle.service.proofs.LengthLaws.{length-pointer}
-use Rattle.service.proofs.SetsLaws.{sets-append}
+use Rattle.state_rules.specs.Layout.{pointersBytes}
+use Rattle.state_rules.proofs.LengthLaws.{length-pointer}
+use Rattle.state_rules.proofs.SetsLaws.{sets-append}
 use Rattle.service.proofs.layout.put_pointers.Statement.{statement}
 use Rattle.service.proofs.layout.put_pointers.Tie as tie
 

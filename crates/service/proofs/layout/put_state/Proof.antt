@@ -3,10 +3,10 @@
 use borrow.Author.Needs.{needs}
 use mathlib.Core.Path.{_∙_}
 use native.Mathlib.Omega.{arith}
-use Rattle.service.specs.Layout.{bytesOf}
-use Rattle.service.proofs.BackLaws.{state-back}
-use Rattle.service.proofs.LengthLaws.{length-little, length-board, length-channel}
-use Rattle.service.proofs.SetsLaws.{sets-append}
+use Rattle.state_rules.specs.Layout.{bytesOf}
+use Rattle.state_rules.proofs.BackLaws.{state-back}
+use Rattle.state_rules.proofs.LengthLaws.{length-little, length-board, length-channel}
+use Rattle.state_rules.proofs.SetsLaws.{sets-append}
 use Rattle.service.proofs.layout.put_state.Statement.{statement}
 use Rattle.service.proofs.layout.put_state.Tie as tie
 

@@ -4,8 +4,8 @@ use borrow.Author.Needs.{needs}
 use denote.Ref.{now}
 use mathlib.Core.Path.{_≡_, _∙_}
 use native.Mathlib.Omega.{arith}
-use Rattle.service.proofs.CallLaws.{state-length}
-use Rattle.service.proofs.BlockLaws.{block-inside, put-done}
+use Rattle.state_rules.proofs.CallLaws.{state-length}
+use Rattle.state_rules.proofs.BlockLaws.{block-inside, put-done}
 use Rattle.service.proofs.layout.put_step.Statement.{statement}
 use Rattle.service.proofs.layout.put_step.Tie as tie
 

@@ -1,7 +1,7 @@
 -- `service::layout::state_in` meets its contract.
 -- Assumes nothing.
 use borrow.Author.Needs.{needs}
-use Rattle.service.specs.Layout.{stateIn}
+use Rattle.state_rules.specs.Layout.{stateIn}
 use Rattle.service.proofs.layout.state_in.Statement.{statement}
 use Rattle.service.proofs.layout.state_in.Tie as tie
 

@@ -2,8 +2,8 @@
 -- Assumes nothing.
 use borrow.Author.Needs.{needs}
 use mathlib.Core.Path.{sym, ap, _∙_}
-use Rattle.machine.specs.Outcomes.{first}
-use Rattle.step.specs.Choosing.{external, endsNow, ranked, choiceOf}
+use Rattle.ground_rules.specs.Outcomes.{first}
+use Rattle.turn_rules.specs.Choosing.{external, endsNow, ranked, choiceOf}
 use Rattle.step.proofs.turns.choose.Statement.{statement}
 use Rattle.step.proofs.turns.choose.Tie as tie
 

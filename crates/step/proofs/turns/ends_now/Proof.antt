@@ -1,8 +1,8 @@
 -- `step::turns/ends_now` meets its contract.
 -- Assumes nothing.
 use borrow.Author.Needs.{needs}
-use Rattle.machine.specs.Psw.{transferring}
-use Rattle.step.specs.Choosing.{endsNow}
+use Rattle.ground_rules.specs.Psw.{transferring}
+use Rattle.turn_rules.specs.Choosing.{endsNow}
 use Rattle.step.proofs.turns.ends_now.Statement.{statement}
 use Rattle.step.proofs.turns.ends_now.Tie as tie
 

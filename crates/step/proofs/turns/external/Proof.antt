@@ -1,7 +1,7 @@
 -- `step::turns/external` meets its contract.
 -- Assumes nothing.
 use borrow.Author.Needs.{needs}
-use Rattle.step.specs.Choosing.{external}
+use Rattle.turn_rules.specs.Choosing.{external}
 use Rattle.step.proofs.turns.external.Statement.{statement}
 use Rattle.step.proofs.turns.external.Tie as tie
 

@@ -3,8 +3,8 @@
 use borrow.Author.Needs.{needs}
 use borrow.Author.Tests.{not-true, not-false}
 use mathlib.Core.Path.{sym, _∙_}
-use Rattle.machine.specs.Psw.{transferring}
-use Rattle.step.specs.Choosing.{rankOf}
+use Rattle.ground_rules.specs.Psw.{transferring}
+use Rattle.turn_rules.specs.Choosing.{rankOf}
 use Rattle.step.proofs.turns.rank.Statement.{statement}
 use Rattle.step.proofs.turns.rank.Tie as tie
 

@@ -1,8 +1,8 @@
 -- `step::turns/ranked` meets its contract.
 -- Assumes nothing.
 use borrow.Author.Needs.{needs}
-use Rattle.machine.specs.Psw.{priority}
-use Rattle.step.specs.Choosing.{ranked}
+use Rattle.ground_rules.specs.Psw.{priority}
+use Rattle.turn_rules.specs.Choosing.{ranked}
 use Rattle.step.proofs.turns.ranked.Statement.{statement}
 use Rattle.step.proofs.turns.ranked.Tie as tie
 

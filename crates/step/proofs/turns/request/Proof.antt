@@ -1,7 +1,7 @@
 -- `step::turns/request` meets its contract.
 -- Assumes nothing.
 use borrow.Author.Needs.{needs}
-use Rattle.step.specs.Choosing.{requested}
+use Rattle.turn_rules.specs.Choosing.{requested}
 use Rattle.step.proofs.turns.request.Statement.{statement}
 use Rattle.step.proofs.turns.request.Tie as tie
 

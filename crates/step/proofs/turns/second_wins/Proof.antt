@@ -1,7 +1,7 @@
 -- `step::turns/second_wins` meets its contract.
 -- Assumes nothing.
 use borrow.Author.Tests.{lt-ltb, le-ltb, le-leb, lt-leb}
-use Rattle.step.specs.Choosing.{secondWins}
+use Rattle.turn_rules.specs.Choosing.{secondWins}
 use Rattle.step.proofs.turns.second_wins.Statement.{statement}
 use Rattle.step.proofs.turns.second_wins.Tie as tie
 

@@ -1,6 +1,6 @@
 -- `step::turns/transfer_rank` meets its contract.
 -- Assumes nothing.
-use Rattle.step.specs.Choosing.{transferRank}
+use Rattle.turn_rules.specs.Choosing.{transferRank}
 use Rattle.step.proofs.turns.transfer_rank.Statement.{statement}
 use Rattle.step.proofs.turns.transfer_rank.Tie as tie
 

@@ -1,6 +1,6 @@
 -- `transfer::ends/code_if` meets its contract.
 -- Assumes nothing.
-use Rattle.transfer.specs.Ends.{codeIf}
+use Rattle.transfer_rules.specs.Ends.{codeIf}
 use Rattle.transfer.proofs.ends.code_if.Statement.{statement}
 use Rattle.transfer.proofs.ends.code_if.Tie as tie
 

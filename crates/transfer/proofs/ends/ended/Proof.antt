@@ -2,9 +2,9 @@
 -- Assumes nothing.
 use borrow.Author.Needs.{needs}
 use borrow.Author.Tests.{ne-eqb}
-use Rattle.transfer.specs.Ends.{endedTP, endedPSW, endedBy}
-use Rattle.machine.specs.Updates.{withTransfer}
-use Rattle.transfer.specs.Sides.{gained}
+use Rattle.transfer_rules.specs.Ends.{endedTP, endedPSW, endedBy}
+use Rattle.ground_rules.specs.Updates.{withTransfer}
+use Rattle.transfer_rules.specs.Sides.{gained}
 use Rattle.transfer.proofs.ends.ended.Statement.{statement}
 use Rattle.transfer.proofs.ends.ended.Tie as tie
 

@@ -1,7 +1,7 @@
 -- `transfer::ends/larger` meets its contract.
 -- Assumes nothing.
 use borrow.Author.Tests.{lt-ltb, le-ltb}
-use Rattle.transfer.specs.Ends.{larger}
+use Rattle.transfer_rules.specs.Ends.{larger}
 use Rattle.transfer.proofs.ends.larger.Statement.{statement}
 use Rattle.transfer.proofs.ends.larger.Tie as tie
 

@@ -1,7 +1,7 @@
 -- `transfer::ends/meets` meets its contract.
 -- Assumes nothing.
 use borrow.Author.Needs.{needs}
-use Rattle.transfer.specs.Ends.{meetsTmc}
+use Rattle.transfer_rules.specs.Ends.{meetsTmc}
 use Rattle.transfer.proofs.ends.meets.Statement.{statement}
 use Rattle.transfer.proofs.ends.meets.Tie as tie
 

@@ -1,7 +1,7 @@
 -- `transfer::ends/offset` meets its contract.
 -- Assumes nothing.
 use borrow.Author.Tests.{ne-eqb}
-use Rattle.transfer.specs.Ends.{offsetOf}
+use Rattle.transfer_rules.specs.Ends.{offsetOf}
 use Rattle.transfer.proofs.ends.offset.Statement.{statement}
 use Rattle.transfer.proofs.ends.offset.Tie as tie
 

@@ -1,6 +1,6 @@
 -- `transfer::halves::apart` meets its contract.
 -- Assumes nothing.
-use Rattle.transfer.specs.Parts.{fetchesApart, storesApart, isHalf}
+use Rattle.transfer_rules.specs.Parts.{fetchesApart, storesApart, isHalf}
 use Rattle.transfer.specs.Setups.{setupOf}
 use borrow.Author.Needs.{needs}
 use borrow.Author.Tests.{eq-eqb}

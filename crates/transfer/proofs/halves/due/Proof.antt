@@ -1,16 +1,16 @@
 -- `transfer::halves::due` meets its contract.
 -- Assumes nothing.
 use Prim.Native.Nat.{ℕ}
-use Rattle.machine.specs.declared.Channel.{Channel}
-use Rattle.machine.specs.declared.Held.the-variants.{NoByte, Byte}
-use Rattle.machine.specs.declared.Held.{Held}
-use Rattle.memory.specs.Buffers.{Buffers, buffers, touchableAt, byteAt, storeByte}
-use Rattle.transfer.proofs.PartLaws.{half-fetches, half-stores, fetch-due, store-due}
+use Rattle.ground_rules.specs.declared.Channel.{Channel}
+use Rattle.ground_rules.specs.declared.Held.the-variants.{NoByte, Byte}
+use Rattle.ground_rules.specs.declared.Held.{Held}
+use Rattle.ground_rules.specs.Buffers.{Buffers, buffers, touchableAt, byteAt, storeByte}
+use Rattle.transfer_rules.proofs.PartLaws.{half-fetches, half-stores, fetch-due, store-due}
 use Rattle.transfer.specs.Moves.{leftByMove}
-use Rattle.transfer.specs.Parts.{Part, FirstFetch, SecondFetch, FirstStore, SecondStore, fetchPart, storePart, partOf}
-use Rattle.transfer.specs.Sides.{source, destination, secondAddress}
+use Rattle.transfer_rules.specs.Parts.{Part, FirstFetch, SecondFetch, FirstStore, SecondStore, fetchPart, storePart, partOf}
+use Rattle.transfer_rules.specs.Sides.{source, destination, secondAddress}
 use Rattle.transfer.specs.Setups.{setupOf}
-use Rattle.transfer.specs.Steps.{touchedByTransfer, stepBy, countBy, transferOf, transferCount}
+use Rattle.transfer_rules.specs.Steps.{touchedByTransfer, stepBy, countBy, transferOf, transferCount}
 use Rattle.transfer.specs.declared.Moved.{Moved}
 use Rattle.transfer.specs.declared.Setup.{Setup}
 use borrow.Author.Needs.{needs}

@@ -1,18 +1,18 @@
 -- `transfer::halves::first_fetch` meets its contract.
 -- Assumes nothing.
 use Prim.Native.Nat.{ℕ}
-use Rattle.machine.specs.Updates.{holding}
-use Rattle.machine.specs.declared.Channel.{Channel}
-use Rattle.machine.specs.declared.Held.the-variants.{Byte}
-use Rattle.memory.specs.Buffers.{Buffers, buffers, touchableAt, byteAt, storeByte}
-use Rattle.memory.specs.Places.{allTouchable}
+use Rattle.ground_rules.specs.Updates.{holding}
+use Rattle.ground_rules.specs.declared.Channel.{Channel}
+use Rattle.ground_rules.specs.declared.Held.the-variants.{Byte}
+use Rattle.ground_rules.specs.Buffers.{Buffers, buffers, touchableAt, byteAt, storeByte}
+use Rattle.ground_rules.specs.Places.{allTouchable}
 use Rattle.transfer.proofs.HalfLaws.{beyond-left, holds-left, first-fetch-touches, first-fetch-holds}
 use Rattle.transfer.specs.Fetches.{seen}
 use Rattle.transfer.specs.Moves.{movedBeyond, movedHolding, leftByMove}
-use Rattle.transfer.specs.Parts.{FirstFetch}
-use Rattle.transfer.specs.Sides.{source, destination, secondAddress}
+use Rattle.transfer_rules.specs.Parts.{FirstFetch}
+use Rattle.transfer_rules.specs.Sides.{source, destination, secondAddress}
 use Rattle.transfer.specs.Setups.{setupOf}
-use Rattle.transfer.specs.Steps.{touchedBy, memoryBy, badMode, stepBy, countBy}
+use Rattle.transfer_rules.specs.Steps.{touchedBy, memoryBy, badMode, stepBy, countBy}
 use Rattle.transfer.specs.declared.Moved.{Moved}
 use Rattle.transfer.specs.declared.Setup.{Setup}
 use Rattle.transfer.specs.declared.reads.Seen.{Seen}

@@ -1,26 +1,26 @@
 -- `transfer::halves::first_store` meets its contract.
 -- Assumes nothing.
 use Prim.Native.Nat.{ℕ}
-use Rattle.machine.specs.declared.Channel.{Channel}
-use Rattle.memory.specs.Buffers.{Buffers, buffers, touchableAt, byteAt, storeByte}
-use Rattle.memory.specs.Places.{allTouchable}
+use Rattle.ground_rules.specs.declared.Channel.{Channel}
+use Rattle.ground_rules.specs.Buffers.{Buffers, buffers, touchableAt, byteAt, storeByte}
+use Rattle.ground_rules.specs.Places.{allTouchable}
 use Rattle.transfer.proofs.FetchLaws.{fetch-touchable, fetch-bytes}
 use Rattle.transfer.proofs.HalfLaws.{beyond-left, holds-left, goes-left, first-store-touches, first-store-stores, first-store-holds, first-store-goes}
 use Rattle.transfer.specs.Fetches.{fetchOf}
 use Rattle.transfer.specs.Moves.{movedBeyond, movedHolding, movedOn, leftByMove}
-use Rattle.transfer.specs.Parts.{FirstStore, storesApart}
-use Rattle.transfer.specs.Reads.{dataOf, readPlaces}
-use Rattle.transfer.specs.Sides.{source, destination, secondAddress}
+use Rattle.transfer_rules.specs.Parts.{FirstStore, storesApart}
+use Rattle.transfer_rules.specs.Reads.{dataOf, readPlaces}
+use Rattle.transfer_rules.specs.Sides.{source, destination, secondAddress}
 use Rattle.transfer.specs.Setups.{setupOf}
-use Rattle.transfer.specs.Steps.{touchedBy, memoryBy, badMode, stepBy, countBy}
-use Rattle.transfer.specs.Stores.{storesTwo, endCode, putOn, placesOn}
-use Rattle.transfer.specs.declared.Data.{Data}
+use Rattle.transfer_rules.specs.Steps.{touchedBy, memoryBy, badMode, stepBy, countBy}
+use Rattle.transfer_rules.specs.Stores.{storesTwo, endCode, putOn, placesOn}
+use Rattle.transfer_rules.specs.declared.Data.{Data}
 use Rattle.transfer.specs.declared.Moved.{Moved}
 use Rattle.transfer.specs.declared.Setup.{Setup}
 use Rattle.transfer.specs.declared.reads.Fetched.{Fetched}
 use Rattle.transfer.specs.declared.stores.Done.{Done}
-use Rattle.words.proofs.ChoiceLaws.{and-true}
-use Rattle.words.specs.Choice.{pick}
+use Rattle.ground_rules.proofs.ChoiceLaws.{and-true}
+use Rattle.ground_rules.specs.Choice.{pick}
 use borrow.Author.Needs.{needs}
 use borrow.Author.Tests.{not-true, not-false}
 use denote.Ref.{now}

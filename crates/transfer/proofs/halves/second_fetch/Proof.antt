@@ -1,26 +1,26 @@
 -- `transfer::halves::second_fetch` meets its contract.
 -- Assumes nothing.
 use Prim.Native.Nat.{ℕ}
-use Rattle.machine.specs.declared.Channel.{Channel}
-use Rattle.memory.specs.Buffers.{Buffers, buffers, touchableAt, byteAt, storeByte}
-use Rattle.memory.specs.Places.{allTouchable}
+use Rattle.ground_rules.specs.declared.Channel.{Channel}
+use Rattle.ground_rules.specs.Buffers.{Buffers, buffers, touchableAt, byteAt, storeByte}
+use Rattle.ground_rules.specs.Places.{allTouchable}
 use Rattle.transfer.proofs.HalfLaws.{beyond-left, goes-left, second-fetch-touches, second-fetch-reads, second-fetch-stores, second-fetch-goes}
 use Rattle.transfer.specs.Fetches.{seen}
-use Rattle.transfer.specs.Halves.{wordWith}
+use Rattle.transfer_rules.specs.Halves.{wordWith}
 use Rattle.transfer.specs.Moves.{movedBeyond, movedOn, leftByMove}
-use Rattle.transfer.specs.Parts.{SecondFetch, fetchesApart}
-use Rattle.transfer.specs.Reads.{also}
-use Rattle.transfer.specs.Sides.{source, destination, secondAddress}
+use Rattle.transfer_rules.specs.Parts.{SecondFetch, fetchesApart}
+use Rattle.transfer_rules.specs.Reads.{also}
+use Rattle.transfer_rules.specs.Sides.{source, destination, secondAddress}
 use Rattle.transfer.specs.Setups.{setupOf}
-use Rattle.transfer.specs.Steps.{touchedBy, memoryBy, badMode, stepBy, countBy}
-use Rattle.transfer.specs.Stores.{storesTwo, endCode, putOn, placesOn}
-use Rattle.transfer.specs.declared.Data.{Data}
+use Rattle.transfer_rules.specs.Steps.{touchedBy, memoryBy, badMode, stepBy, countBy}
+use Rattle.transfer_rules.specs.Stores.{storesTwo, endCode, putOn, placesOn}
+use Rattle.transfer_rules.specs.declared.Data.{Data}
 use Rattle.transfer.specs.declared.Moved.{Moved}
 use Rattle.transfer.specs.declared.Setup.{Setup}
-use Rattle.transfer.specs.declared.Side.{Side}
+use Rattle.transfer_rules.specs.declared.Side.{Side}
 use Rattle.transfer.specs.declared.reads.Seen.{Seen}
 use Rattle.transfer.specs.declared.stores.Done.{Done}
-use Rattle.words.specs.Choice.{pick}
+use Rattle.ground_rules.specs.Choice.{pick}
 use borrow.Author.Needs.{needs}
 use borrow.Author.Tests.{not-true, not-false}
 use denote.Ref.{now}

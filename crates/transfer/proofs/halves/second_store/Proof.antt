@@ -1,16 +1,16 @@
 -- `transfer::halves::second_store` meets its contract.
 -- Assumes nothing.
 use Prim.Native.Nat.{ℕ}
-use Rattle.machine.specs.declared.Channel.{Channel}
-use Rattle.memory.specs.Buffers.{Buffers, buffers, touchableAt, byteAt, storeByte}
+use Rattle.ground_rules.specs.declared.Channel.{Channel}
+use Rattle.ground_rules.specs.Buffers.{Buffers, buffers, touchableAt, byteAt, storeByte}
 use Rattle.transfer.proofs.HalfLaws.{beyond-left, goes-left, second-store-touches, second-store-stores, second-store-goes}
-use Rattle.transfer.proofs.TouchLaws.{untouched}
-use Rattle.transfer.specs.Halves.{secondCode}
+use Rattle.transfer_rules.proofs.TouchLaws.{untouched}
+use Rattle.transfer_rules.specs.Halves.{secondCode}
 use Rattle.transfer.specs.Moves.{movedBeyond, movedOn, leftByMove}
-use Rattle.transfer.specs.Parts.{SecondStore, storesApart}
-use Rattle.transfer.specs.Sides.{source, destination, secondAddress}
+use Rattle.transfer_rules.specs.Parts.{SecondStore, storesApart}
+use Rattle.transfer_rules.specs.Sides.{source, destination, secondAddress}
 use Rattle.transfer.specs.Setups.{setupOf}
-use Rattle.transfer.specs.Steps.{touchedBy, memoryBy, badMode, stepBy, countBy}
+use Rattle.transfer_rules.specs.Steps.{touchedBy, memoryBy, badMode, stepBy, countBy}
 use Rattle.transfer.specs.declared.Moved.{Moved}
 use Rattle.transfer.specs.declared.Setup.{Setup}
 use borrow.Author.Needs.{needs}

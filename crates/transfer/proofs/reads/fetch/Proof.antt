@@ -6,7 +6,7 @@ use borrow.Author.Tests.{not-true, not-false}
 use denote.Ref.{now}
 use mathlib.Core.Bool.{Bool}
 use mathlib.Core.Path.{sym, ap, _∙_}
-use Rattle.memory.specs.Buffers.{buffers}
+use Rattle.ground_rules.specs.Buffers.{buffers}
 use Rattle.transfer.specs.Fetches.{here}
 use Rattle.transfer.specs.declared.reads.Seen.{Seen}
 use Rattle.transfer.proofs.FetchLaws.{source-beyond, second-beyond, both-read, entry-beyond, translated, one-read}

@@ -1,7 +1,7 @@
 -- `transfer::reads/see` meets its contract.
 -- Assumes nothing.
 use borrow.Author.Needs.{needs}
-use Rattle.memory.specs.Buffers.{touchableAt}
+use Rattle.ground_rules.specs.Buffers.{touchableAt}
 use Rattle.transfer.proofs.reads.see.Statement.{statement}
 use Rattle.transfer.proofs.reads.see.Tie as tie
 

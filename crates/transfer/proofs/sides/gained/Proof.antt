@@ -1,7 +1,7 @@
 -- `transfer::sides/gained` meets its contract.
 -- Assumes nothing.
 use borrow.Author.Needs.{needs}
-use Rattle.transfer.specs.Sides.{gained}
+use Rattle.transfer_rules.specs.Sides.{gained}
 use Rattle.transfer.proofs.sides.gained.Statement.{statement}
 use Rattle.transfer.proofs.sides.gained.Tie as tie
 

@@ -1,7 +1,7 @@
 -- `transfer::sides/plan` meets its contract.
 -- Assumes nothing.
 use borrow.Author.Needs.{needs}
-use Rattle.transfer.specs.Sides.{source, destination, twoMove, storedSingly}
+use Rattle.transfer_rules.specs.Sides.{source, destination, twoMove, storedSingly}
 use Rattle.transfer.specs.Setups.{setupOf}
 use Rattle.transfer.proofs.sides.plan.Statement.{statement}
 use Rattle.transfer.proofs.sides.plan.Tie as tie

@@ -1,7 +1,7 @@
 -- `transfer::sides/second` meets its contract.
 -- Assumes nothing.
 use borrow.Author.Needs.{needs}
-use Rattle.transfer.specs.Sides.{secondAddress}
+use Rattle.transfer_rules.specs.Sides.{secondAddress}
 use Rattle.transfer.proofs.sides.second.Statement.{statement}
 use Rattle.transfer.proofs.sides.second.Tie as tie
 

@@ -1,7 +1,7 @@
 -- `transfer::sides/word` meets its contract.
 -- Assumes nothing.
 use borrow.Author.Needs.{needs}
-use Rattle.transfer.specs.Sides.{wordSide}
+use Rattle.transfer_rules.specs.Sides.{wordSide}
 use Rattle.transfer.proofs.sides.word.Statement.{statement}
 use Rattle.transfer.proofs.sides.word.Tie as tie
 

@@ -1,10 +1,10 @@
 -- `transfer::stores/compare` meets its contract.
 -- Assumes nothing.
 use borrow.Author.Needs.{needs}
-use Rattle.transfer.specs.Ends.{codeIf}
+use Rattle.transfer_rules.specs.Ends.{codeIf}
 use Rattle.transfer.specs.Setups.{setupOf}
-use Rattle.transfer.specs.Stores.{firstMeets, matchMet, cutShort, storesTwo}
-use Rattle.transfer.proofs.MatchLaws.{off-stores, off-unmet}
+use Rattle.transfer_rules.specs.Stores.{firstMeets, matchMet, cutShort, storesTwo}
+use Rattle.transfer_rules.proofs.MatchLaws.{off-stores, off-unmet}
 use Rattle.transfer.proofs.stores.compare.Statement.{statement}
 use Rattle.transfer.proofs.stores.compare.Tie as tie
 

@@ -2,7 +2,7 @@
 -- Assumes nothing.
 use borrow.Author.Needs.{needs}
 use Rattle.transfer.specs.Setups.{setupOf}
-use Rattle.transfer.specs.Stores.{bytesCounted, countAfter, endCode}
+use Rattle.transfer_rules.specs.Stores.{bytesCounted, countAfter, endCode}
 use Rattle.transfer.proofs.stores.finish.Statement.{statement}
 use Rattle.transfer.proofs.stores.finish.Tie as tie
 

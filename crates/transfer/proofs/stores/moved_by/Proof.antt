@@ -1,9 +1,9 @@
 -- `transfer::stores/moved_by` meets its contract.
 -- Assumes nothing.
 use borrow.Author.Needs.{needs}
-use Rattle.machine.specs.Updates.{withTransfer}
+use Rattle.ground_rules.specs.Updates.{withTransfer}
 use Rattle.transfer.specs.Setups.{setupOf}
-use Rattle.transfer.specs.Stores.{movedBy}
+use Rattle.transfer_rules.specs.Stores.{movedBy}
 use Rattle.transfer.proofs.stores.moved_by.Statement.{statement}
 use Rattle.transfer.proofs.stores.moved_by.Tie as tie
 

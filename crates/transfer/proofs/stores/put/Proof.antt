@@ -4,10 +4,10 @@ use borrow.Author.Needs.{needs}
 use borrow.Author.Tests.{not-true, not-false}
 use denote.Ref.{now}
 use mathlib.Core.Path.{refl, sym, ap, _∙_}
-use Rattle.memory.specs.Buffers.{buffers, touchableAt}
-use Rattle.transfer.specs.Stores.{putOn}
-use Rattle.words.proofs.ChoiceLaws.{and-true}
-use Rattle.transfer.proofs.TouchLaws.{places-touchable, second-not, untouched, stored-if}
+use Rattle.ground_rules.specs.Buffers.{buffers, touchableAt}
+use Rattle.transfer_rules.specs.Stores.{putOn}
+use Rattle.ground_rules.proofs.ChoiceLaws.{and-true}
+use Rattle.transfer_rules.proofs.TouchLaws.{places-touchable, second-not, untouched, stored-if}
 use Rattle.transfer.proofs.stores.put.Statement.{statement}
 use Rattle.transfer.proofs.stores.put.Tie as tie
 

@@ -2,7 +2,7 @@
 -- Assumes nothing.
 use borrow.Author.Needs.{needs}
 use mathlib.Core.Path.{_∙_}
-use Rattle.memory.specs.Buffers.{touchableAt}
+use Rattle.ground_rules.specs.Buffers.{touchableAt}
 use Rattle.transfer.proofs.stores.put_one.Statement.{statement}
 use Rattle.transfer.proofs.stores.put_one.Tie as tie
 

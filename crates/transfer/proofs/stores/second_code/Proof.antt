@@ -1,6 +1,6 @@
 -- `transfer::stores::second_code` meets its contract.
 -- Assumes nothing.
-use Rattle.transfer.specs.Halves.{secondCode}
+use Rattle.transfer_rules.specs.Halves.{secondCode}
 use borrow.Author.Needs.{needs}
 use Rattle.transfer.proofs.stores.second_code.Statement.{statement}
 use Rattle.transfer.proofs.stores.second_code.Tie as tie

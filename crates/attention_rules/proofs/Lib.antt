@@ -1,0 +1,10 @@
+pub mod CountLaws
+pub mod ConditionLaws
+pub mod Outcomes
+pub mod SoundLaws
+pub mod Numbers
+pub mod Stores
+pub mod Pauses
+pub mod Cases
+pub mod PowerNumbers
+pub mod PowerOutcomes

@@ -1,0 +1,9 @@
+pub mod Commands
+pub mod Blocks
+pub mod Touched
+pub mod Effects
+pub mod Attention
+pub mod Conditions
+pub mod Pauses
+pub mod Power
+pub mod PowerConditions

@@ -1,4 +1,0 @@
-pub mod Table
-pub mod Lengths
-pub mod Cells
-pub mod Reading

@@ -1,2 +1,0 @@
-pub mod ChangeLaws
-pub mod OperandLaws

@@ -1,0 +1,14 @@
+pub mod ChoiceLaws
+pub mod BitLaws
+pub mod SignLaws
+pub mod StoredLaws
+pub mod PlaceLaws
+pub mod StoreLaws
+pub mod SpanLaws
+pub mod ChannelLaws
+pub mod OutcomeLaws
+pub mod ConditionLaws
+pub mod FieldLaws
+pub mod HoldingLaws
+pub mod GivenLaws
+pub mod StageLaws

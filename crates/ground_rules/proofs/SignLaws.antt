@@ -1,0 +1,98 @@
+-- The laws of signed numbers, each once over the width: what a width's bits stand for, that sign extension keeps it, and that a displacement is the
+-- sum with the extended number.
+-- Assumes nothing.
+use Prim.Native.Nat.{ℕ, suc, _+_, _-_, _*_, _%_, _^_, _<_, _≤_}
+use borrow.Author.Tests.{lt-ltb, le-ltb}
+use lib.Dec.{ltb}
+use lib.IntN.{pos, negsuc, _+ℤ_}
+use lib.Pow.{pow-mono, pow-add}
+use mathlib.Core.Bool.{Bool, true, false}
+use mathlib.Core.Path.{_≡_, refl, ap, _∙_}
+use mir.Facts.{toZ-ofZ, toZ-pos}
+use mir.Syntax.{w32}
+use mir.Val.{SFits, toZ, ofZ}
+use native.Mathlib.Decide.{decLt}
+use native.Mathlib.Nat.{mod-eq-of-lt, lt-of-lt-of-le}
+use native.Mathlib.Omega.{arith}
+use Rattle.ground_rules.specs.Choice.{pick}
+use Rattle.ground_rules.specs.Signs.{signedOf, extended, displacedBy}
+
+-- x less n + 1, where that is below zero
+negative : (x n : ℕ) → x ≤ n → pos x +ℤ negsuc n ≡ negsuc (n - x)
+negative x n h = simp (lt-ltb x (suc n) (omega arith)) (ap negsuc (omega arith))
+
+-- the lower half of the numbers of k bits stand for themselves
+pub low-is : (k x : ℕ) → x < 2 ^ (k - 1) → k ≤ 32 → toZ w32 x ≡ signedOf k x
+unfolding signedOf
+low-is k x h hk = simp (lt-ltb x (2 ^ (k - 1)) h) (toZ-pos w32 (lt-of-lt-of-le h (pow-mono {j = 31} (omega arith))))
+
+-- the upper half, less 2 ^ k, is in an i32's range
+pub high-fits : (x n : ℕ) → x ≤ n → n < 2 ^ 31 → SFits w32 (toZ w32 x +ℤ negsuc n)
+high-fits x n h hn =
+    let small : x < 2 ^ 31 = omega arith in
+    rw (toZ-pos w32 small, negative x n h) (record { sfits = omega arith })
+
+-- the upper half of the numbers of k bits stands for itself less 2 ^ k
+pub high-is : (k x n : ℕ) → suc n ≡ 2 ^ k → 2 ^ (k - 1) ≤ x → x ≤ n → n < 2 ^ 31 → toZ w32 (ofZ w32 (toZ w32 x +ℤ negsuc n)) ≡ signedOf k x
+unfolding signedOf
+high-is k x n top h hx hn =
+    let small : x < 2 ^ 31 = omega arith in
+    toZ-ofZ (high-fits x n hx hn)
+    ∙ rw (toZ-pos w32 small, negative x n hx, le-ltb x (2 ^ (k - 1)) h) (ap negsuc (omega (arith, top)))
+
+-- what k bits stand for fits an i32
+pub signed-fits : (k x : ℕ) → k ≤ 31 → x < 2 ^ k → SFits w32 (signedOf k x)
+unfolding signedOf
+signed-fits k x hk hx = go (ltb x (2 ^ (k - 1)))
+  where
+    most : 2 ^ k ≤ 2 ^ 31
+    most = pow-mono hk
+
+    go : (b : Bool) → SFits w32 (pick b (pos x) (negsuc (2 ^ k - 1 - x)))
+    go true = record { sfits = omega (arith, most, hx) }
+    go false = record { sfits = omega (arith, most, hx) }
+
+-- k bits are twice as many numbers as k - 1
+twice : (k : ℕ) → 1 ≤ k → 2 ^ k ≡ 2 ^ (k - 1) * 2
+twice k h = let e : k ≡ k - 1 + 1 = omega arith in ap (λ (n : ℕ). 2 ^ n) e ∙ pow-add 2 (k - 1) 1
+
+-- sign extension agrees with the two's complement reading
+pub extended-signed : (k x : ℕ) → 1 ≤ k → k ≤ 20 → x < 2 ^ k → signedOf 20 (extended k x) ≡ signedOf k x
+unfolding signedOf extended
+extended-signed k x h₁ h₂ hx = go (decLt x (2 ^ (k - 1)))
+  where
+    most : 2 ^ k ≤ 1048576
+    most = pow-mono h₂
+
+    go : Dec (x < 2 ^ (k - 1)) → signedOf 20 (extended k x) ≡ signedOf k x
+    go (yes h) =
+        let small : x < 524288 = omega (arith, twice k h₁, most, h) in
+        rw (lt-ltb x (2 ^ (k - 1)) h, lt-ltb x 524288 small)
+    go (no h) =
+        let big : 524288 ≤ x + (1048576 - 2 ^ k) = omega (arith, twice k h₁, most, h) in
+        let large : 2 ^ (k - 1) ≤ x = omega (arith, h) in
+        rw (le-ltb x (2 ^ (k - 1)) large, le-ltb (x + (1048576 - 2 ^ k)) 524288 big)
+        (ap negsuc (omega (arith, most, hx)))
+
+-- an extended number is one of 20 bits
+pub extended-lt : (k x : ℕ) → k ≤ 20 → x < 2 ^ k → extended k x < 1048576
+unfolding extended
+extended-lt k x h hx = go (ltb x (2 ^ (k - 1)))
+  where
+    go : (b : Bool) → pick b x (x + (1048576 - 2 ^ k)) < 1048576
+    go true = omega (arith, pow-mono h)
+    go false = omega (arith, pow-mono h)
+
+-- a displacement of k bits moves a pointer as the sum with the extended number does
+pub displaced-extended : (pointer k x : ℕ) → k ≤ 20 → x < 2 ^ k → displacedBy pointer (signedOf k x) ≡ (pointer + extended k x) % 1048576
+unfolding signedOf extended displacedBy
+displaced-extended pointer k x h hx = go (ltb x (2 ^ (k - 1)))
+  where
+    most : 2 ^ k ≤ 1048576
+    most = pow-mono h
+
+    go : (b : Bool) → displacedBy pointer (pick b (pos x) (negsuc (2 ^ k - 1 - x))) ≡ (pointer + pick b x (x + (1048576 - 2 ^ k))) % 1048576
+    go true = refl
+    go false =
+        let small : (2 ^ k - 1 - x) % 1048576 ≡ 2 ^ k - 1 - x = mod-eq-of-lt (omega (arith, most, hx)) in
+        ap (λ (n : ℕ). (pointer + n) % 1048576) (omega (arith, small, most, hx))

@@ -1,0 +1,14 @@
+pub mod ColumnLaws
+pub mod TableLaws
+pub mod CellLaws
+pub mod LengthLaws
+pub mod Outcomes
+pub mod LengthRule
+pub mod ChangeLaws
+pub mod OperandLaws
+pub mod OutcomeLaws
+pub mod CountLaws
+pub mod NumberLaws
+pub mod MemoryLaws
+pub mod PointerLaws
+pub mod ChannelLaws

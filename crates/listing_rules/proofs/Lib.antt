@@ -1,0 +1,15 @@
+pub mod PieceLaws
+pub mod FormLaws
+pub mod LineLaws
+pub mod DataLaws
+pub mod SpellingLaws
+pub mod EntryLaws
+pub mod Vectors
+pub mod ItemLaws
+pub mod RowLaws
+pub mod ListLaws
+pub mod Theorems
+pub mod BackLaws
+pub mod Unlisting
+pub mod Exactly
+pub mod ListingVectors

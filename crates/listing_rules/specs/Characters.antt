@@ -1,0 +1,47 @@
+-- The characters of a listing by their ASCII codes, and numbers that hold up to eight of them.
+use mathlib.Core.List.{List, [], _∷_, _++_}
+use Prim.Native.Nat.{ℕ, zero, suc, _+_, _/_, _%_}
+use Prim.Native.String.{String, len, charAt}
+use Prim.Native.Char.{code}
+use lib.Dec.{eqb, ltb}
+use Rattle.ground_rules.specs.Choice.{pick}
+use Rattle.listing_rules.specs.declared.Pieces.{Pieces}
+
+-- the codes of `count` characters of a quoted text from a place on
+abbrev pub asciiFrom : ℕ → ℕ → String → List ℕ
+asciiFrom zero place text = []
+asciiFrom (suc count) place text = code (charAt text place) ∷ asciiFrom count (suc place) text
+
+-- the codes of a quoted text
+abbrev pub ascii : String → List ℕ
+ascii text = asciiFrom (len text) 0 text
+
+-- the digit, a capital where it is over 9
+unfoldable pub hexGlyph : ℕ → ℕ
+hexGlyph d = pick (ltb d 10) (48 + d) (55 + d)
+
+-- the two hexadecimal digits of each byte, of the last byte first: a word is stored low byte first
+unfoldable pub hexDigits : List ℕ → List ℕ
+hexDigits [] = []
+hexDigits (b ∷ bytes) = hexDigits bytes ++ (hexGlyph (b / 16 % 16) ∷ hexGlyph (b % 16) ∷ [])
+
+-- a number of one byte or two: 0, its digits, H
+unfoldable pub numberText : List ℕ → List ℕ
+numberText bytes = ascii "0" ++ (hexDigits bytes ++ ascii "H")
+
+-- a bit's number or a width, in decimal
+unfoldable pub digitText : ℕ → List ℕ
+digitText n = pick (ltb n 10) ((48 + n) ∷ []) ((48 + n / 10 % 10) ∷ (48 + n % 10) ∷ [])
+
+-- the first `count` characters that a number holds, the first of them in its lowest eight bits; it holds none where it is 0
+unfoldable pub heldBy : ℕ → ℕ → List ℕ
+heldBy zero n = []
+heldBy (suc count) n = pick (eqb n 0) [] (n % 256 ∷ heldBy count (n / 256))
+
+-- the characters that a number of 64 bits holds
+unfoldable pub heldIn : ℕ → List ℕ
+heldIn n = heldBy 8 n
+
+-- the characters of four such numbers, one after the other
+unfoldable pub heldIn4 : Pieces → List ℕ
+heldIn4 p = heldIn (p .0) ++ (heldIn (p .1) ++ (heldIn (p .2) ++ heldIn (p .3)))

@@ -1,0 +1,8 @@
+pub mod Characters
+pub mod Writing
+pub mod Mnemonics
+pub mod Forms
+pub mod Lines
+pub mod Entries
+pub mod Items
+pub mod Listings

@@ -1,9 +1,0 @@
-pub mod Psw
-pub mod Updates
-pub mod Holdings
-pub mod Cc
-pub mod Registers
-pub mod States
-pub mod Outcomes
-pub mod Conditions
-pub mod Stages

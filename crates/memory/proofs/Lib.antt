@@ -1,3 +1,0 @@
-pub mod PlaceLaws
-pub mod StoreLaws
-pub mod SpanLaws

@@ -1,3 +1,0 @@
-pub mod Buffers
-pub mod Values
-pub mod Places

@@ -1,6 +1,0 @@
-pub mod Characters
-pub mod Writing
-pub mod Mnemonics
-pub mod Forms
-pub mod Lines
-pub mod Entries

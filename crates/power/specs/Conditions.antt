@@ -1,9 +1,0 @@
--- The numbers of a power-up: the condition of each check, and their order.
-use mathlib.Core.List.{List, [], _∷_}
-use Rattle.memory.specs.Buffers.{Buffers}
-use Rattle.machine.specs.Conditions.{Check, check, TooLong, Beyond}
-use Rattle.power.specs.Power.{powerPlaces}
-
--- 11, then 2; there is no 10, no 13 and no 14
-abbrev pub powerChecks : Buffers → List Check
-powerChecks m = check 11 (TooLong m) ∷ check 2 (Beyond m (powerPlaces m)) ∷ []

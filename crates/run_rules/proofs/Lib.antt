@@ -1,0 +1,4 @@
+pub mod RunLaws
+pub mod Outcomes
+pub mod Bounds
+pub mod BoardOutcomes

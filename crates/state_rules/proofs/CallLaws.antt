@@ -1,0 +1,106 @@
+-- What a call leaves, from what its parts leave.
+-- Assumes nothing.
+use Prim.Native.Nat.{ℕ}
+use borrow.Author.Tests.{eq-eqb, ne-eqb, eqb-true}
+use lib.Dec.{eqb}
+use lib.ListN.{length, getD}
+use lib.Seq.{sets}
+use mathlib.Core.Bool.{true, false, _&&_}
+use mathlib.Core.List.{List}
+use mathlib.Core.Path.{_≡_, sym, ap, _∙_}
+use Rattle.ground_rules.proofs.ChoiceLaws.{apart, both-left}
+use Rattle.ground_rules.specs.Buffers.{Buffers}
+use Rattle.ground_rules.specs.Outcomes.{Outcome}
+use Rattle.ground_rules.specs.States.{resetState, freshOf}
+use Rattle.ground_rules.specs.declared.Made.{Made}
+use Rattle.ground_rules.specs.declared.State.{State}
+use Rattle.attention_rules.specs.Attention.{attentionOf, attentionCount}
+use Rattle.attention_rules.specs.Power.{powerUpOf, powerCount}
+use Rattle.turn_rules.specs.Step.{stepOf}
+use Rattle.state_rules.specs.Fields.{isFlag}
+use Rattle.state_rules.specs.Layout.{bytesOf, stateIn, isBlock, isBoard, isState, stateLength, version, firstAt, secondFrom}
+use Rattle.state_rules.specs.Calls.{made, served, answerFrom, freshMade, resetMade, outcomeServed, powerServed, attentionServed, stepServed}
+use Rattle.state_rules.proofs.LengthLaws.{length-state}
+use Rattle.state_rules.proofs.SetsLaws.{sets-whole}
+
+-- bytes that are a state have its length
+pub state-length : (b : List ℕ) → isState b ≡ true → length b ≡ stateLength
+unfolding isState
+state-length b h =
+    eqb-true (length b) stateLength
+    (both-left (eqb (length b) stateLength) (eqb (getD b 0 0) version)
+    (both-left (eqb (length b) stateLength && eqb (getD b 0 0) version) (isFlag b 5)
+    (both-left (eqb (length b) stateLength && eqb (getD b 0 0) version && isFlag b 5) (isBoard b)
+    (both-left (eqb (length b) stateLength && eqb (getD b 0 0) version && isFlag b 5 && isBoard b) (isBlock b firstAt)
+    (both-left (eqb (length b) stateLength && eqb (getD b 0 0) version && isFlag b 5 && isBoard b && isBlock b firstAt) (isBlock b secondFrom) h)))))
+
+-- a state put into bytes of its length leaves its bytes
+pub put-whole : (b : List ℕ) (s : State) → length b ≡ stateLength → sets b 0 (bytesOf s) ≡ bytesOf s
+put-whole b s e = sets-whole (bytesOf s) b (e ∙ sym (length-state s))
+
+-- such bytes then stand for the state, where it comes back whole
+put-stands : (b : List ℕ) (s : State) → length b ≡ stateLength → stateIn (bytesOf s) ≡ s → stateIn (sets b 0 (bytesOf s)) ≡ s
+put-stands b s e w = ap stateIn (put-whole b s e) ∙ w
+
+-- bytes of another length are left by fresh, others become the fresh state's
+pub fresh-short : (b : List ℕ) (cp : ℕ) → ¬ (length b ≡ stateLength)
+    → (made 17 b ≡ freshMade b cp) × (length b ≡ stateLength → stateIn b ≡ freshOf cp .state)
+unfolding freshMade
+fresh-short b cp ne = (rw (ne-eqb (length b) stateLength ne), λ e. absurd (ne e))
+
+pub fresh-made : (b : List ℕ) (cp : ℕ) (a : Made) → length b ≡ stateLength → a ≡ freshOf cp → stateIn (bytesOf (a .state)) ≡ a .state
+    → (made (answerFrom (a .number) 0 0 0) (sets b 0 (bytesOf (a .state))) ≡ freshMade b cp)
+    × (length b ≡ stateLength → stateIn (sets b 0 (bytesOf (a .state))) ≡ freshOf cp .state)
+unfolding freshMade
+fresh-made b cp a e p w =
+    (rw (eq-eqb (length b) stateLength e, put-whole b (a .state) e, p), λ h. put-stands b (a .state) e w ∙ ap (λ (x : Made). x .state) p)
+
+-- so it is with reset
+pub reset-short : (b : List ℕ) → ¬ (length b ≡ stateLength) → (made 17 b ≡ resetMade b) × (length b ≡ stateLength → stateIn b ≡ resetState)
+unfolding resetMade
+reset-short b ne = (rw (ne-eqb (length b) stateLength ne), λ e. absurd (ne e))
+
+pub reset-made : (b : List ℕ) (s : State) → length b ≡ stateLength → s ≡ resetState → stateIn (bytesOf s) ≡ s
+    → (made (answerFrom 0 0 0 0) (sets b 0 (bytesOf s)) ≡ resetMade b) × (length b ≡ stateLength → stateIn (sets b 0 (bytesOf s)) ≡ resetState)
+unfolding resetMade
+reset-made b s e p w = (rw (eq-eqb (length b) stateLength e, put-whole b s e, p), λ h. put-stands b s e w ∙ p)
+
+module _ (b : List ℕ) (m : Buffers) where
+  -- bytes that are no state are left by a power-up, an attention and a step, with both memories
+  outcome-none : (o : Outcome) (count : ℕ) → isState b ≡ false → (served 17 b m ≡ outcomeServed o count b m) × (isState b ≡ true → stateIn b ≡ o .state)
+  outcome-none o count h = (rw h, λ e. apart (sym e ∙ h))
+
+  pub power-none : isState b ≡ false → (served 17 b m ≡ powerServed b m) × (isState b ≡ true → stateIn b ≡ powerUpOf (stateIn b) m .state)
+  unfolding powerServed
+  power-none = outcome-none (powerUpOf (stateIn b) m) (powerCount m)
+
+  pub attention-none : (channel : ℕ) → isState b ≡ false
+      → (served 17 b m ≡ attentionServed b m channel) × (isState b ≡ true → stateIn b ≡ attentionOf (stateIn b) m channel .state)
+  unfolding attentionServed
+  attention-none channel = outcome-none (attentionOf (stateIn b) m channel) (attentionCount (stateIn b) m channel)
+
+  pub step-none : (lines : ℕ) → isState b ≡ false
+      → (served 17 b m ≡ stepServed b m lines) × (isState b ≡ true → stateIn b ≡ stepOf (stateIn b) m lines .state)
+  unfolding stepServed
+  step-none lines h = (rw h, λ e. apart (sym e ∙ h))
+
+  module _ (h : isState b ≡ true) where
+    -- others become the bytes of what the call left
+    outcome-served : (o left : Outcome) (k count : ℕ) → o ≡ left → k ≡ count → stateIn (bytesOf (o .state)) ≡ o .state
+        → (served (answerFrom (o .number) 0 0 k) (sets b 0 (bytesOf (o .state))) (o .memory) ≡ outcomeServed left count b m)
+        × (isState b ≡ true → stateIn (sets b 0 (bytesOf (o .state))) ≡ left .state)
+    outcome-served o left k count p q w =
+        (rw (h, put-whole b (o .state) (state-length b h), p, q), λ e. put-stands b (o .state) (state-length b h) w ∙ ap (λ (x : Outcome). x .state) p)
+
+    pub power-served : (o : Outcome) (k : ℕ) → o ≡ powerUpOf (stateIn b) m → k ≡ powerCount m → stateIn (bytesOf (o .state)) ≡ o .state
+        → (served (answerFrom (o .number) 0 0 k) (sets b 0 (bytesOf (o .state))) (o .memory) ≡ powerServed b m)
+        × (isState b ≡ true → stateIn (sets b 0 (bytesOf (o .state))) ≡ powerUpOf (stateIn b) m .state)
+    unfolding powerServed
+    power-served o k = outcome-served o (powerUpOf (stateIn b) m) k (powerCount m)
+
+    pub attention-served : (channel : ℕ) (o : Outcome) (k : ℕ) → o ≡ attentionOf (stateIn b) m channel → k ≡ attentionCount (stateIn b) m channel
+        → stateIn (bytesOf (o .state)) ≡ o .state
+        → (served (answerFrom (o .number) 0 0 k) (sets b 0 (bytesOf (o .state))) (o .memory) ≡ attentionServed b m channel)
+        × (isState b ≡ true → stateIn (sets b 0 (bytesOf (o .state))) ≡ attentionOf (stateIn b) m channel .state)
+    unfolding attentionServed
+    attention-served channel o k = outcome-served o (attentionOf (stateIn b) m channel) k (attentionCount (stateIn b) m channel)

@@ -1,0 +1,126 @@
+-- When 17 is given, the checks of a call in their order, and which states and bytes the two functions between them are inverse on.
+use mathlib.Core.List.{List, [], _∷_}
+use mathlib.Core.Logic.{_⊎_}
+use mathlib.Core.Path.{_≡_}
+use Prim.Native.Nat.{ℕ, _+_, _<_, _≤_}
+use lib.ListN.{length, getD}
+use Rattle.ground_rules.specs.Buffers.{Buffers}
+use Rattle.ground_rules.specs.declared.Pointer.{Pointer}
+use Rattle.ground_rules.specs.Conditions.{Check, check}
+use Rattle.ground_rules.specs.Holdings.{heldNumber}
+use Rattle.ground_rules.specs.declared.Channel.{Channel}
+use Rattle.ground_rules.specs.declared.State.{State}
+use Rattle.attention_rules.specs.Conditions.{attentionChecks as attentionChecks}
+use Rattle.attention_rules.specs.PowerConditions.{powerChecks}
+use Rattle.turn_rules.specs.Conditions.{stepChecks as stepChecks}
+use Rattle.sweep_rules.specs.Conditions.{sweepChecks}
+use Rattle.state_rules.specs.Fields.{littleIn}
+use Rattle.state_rules.specs.Layout.{stateIn, stateLength, version, firstAt, secondFrom}
+
+-- a byte stands for no truth value
+abbrev pub NoFlag : List ℕ → ℕ → Type 0
+NoFlag b at = 2 ≤ getD b at 0
+
+-- a byte stands for no mode
+abbrev pub NoMode : List ℕ → ℕ → Type 0
+NoMode b at = 3 ≤ getD b at 0
+
+-- a byte stands for no field of CC that has so many values
+abbrev pub PastWidth : List ℕ → ℕ → ℕ → Type 0
+PastWidth b at values = values ≤ getD b at 0
+
+-- a field of CC is out of range
+abbrev pub NoFields : List ℕ → ℕ → Type 0
+NoFields b at =
+    NoFlag b at
+    ⊎ NoFlag b (at + 1)
+    ⊎ NoFlag b (at + 2)
+    ⊎ PastWidth b (at + 3) 4
+    ⊎ NoFlag b (at + 4)
+    ⊎ NoFlag b (at + 5)
+    ⊎ NoFlag b (at + 6)
+    ⊎ PastWidth b (at + 7) 4
+    ⊎ PastWidth b (at + 8) 4
+    ⊎ PastWidth b (at + 9) 8
+
+-- two bytes are no held number: neither 0 nor 256 to 511
+abbrev pub NoHeld : List ℕ → ℕ → Type 0
+NoHeld b at = ¬ (littleIn 2 b at ≡ 0) × (littleIn 2 b at < 256 ⊎ 512 ≤ littleIn 2 b at)
+
+-- a tag, the mode, the armed mark, a field of CC or the held number of a block is out of range
+abbrev pub NoBlock : List ℕ → ℕ → Type 0
+NoBlock b at =
+    NoFlag b (at + 4)
+    ⊎ NoFlag b (at + 9)
+    ⊎ NoFlag b (at + 14)
+    ⊎ NoFlag b (at + 19)
+    ⊎ NoMode b (at + 33)
+    ⊎ NoFlag b (at + 34)
+    ⊎ NoFields b (at + 35)
+    ⊎ NoHeld b (at + 45)
+
+-- a byte of what the board set up is out of range
+abbrev pub NoBoard : List ℕ → Type 0
+NoBoard b = NoFlag b 6 ⊎ NoFlag b 7 ⊎ NoFlag b 8 ⊎ NoFlag b 9
+
+-- 17: another length or version, or a mode, flag, field or held number out of range
+abbrev pub NoState : List ℕ → Type 0
+NoState b =
+    ¬ (length b ≡ stateLength)
+    ⊎ ¬ (getD b 0 0 ≡ version)
+    ⊎ NoFlag b 5
+    ⊎ NoBoard b
+    ⊎ NoBlock b firstAt
+    ⊎ NoBlock b secondFrom
+
+-- the checks of a fresh state, which asks only for the length
+abbrev pub freshChecksOn : List ℕ → ℕ → List Check
+freshChecksOn b cp = check 17 (¬ (length b ≡ stateLength)) ∷ check 10 (1048576 ≤ cp) ∷ []
+
+-- the check of a reset, which asks for nothing else
+abbrev pub resetChecksOn : List ℕ → List Check
+resetChecksOn b = check 17 (¬ (length b ≡ stateLength)) ∷ []
+
+-- the checks of a power-up: 17 comes before all others
+abbrev pub powerChecksOn : List ℕ → Buffers → List Check
+powerChecksOn b m = check 17 (NoState b) ∷ powerChecks m
+
+-- the checks of an attention likewise
+abbrev pub attentionChecksOn : List ℕ → Buffers → ℕ → List Check
+attentionChecksOn b m channel = check 17 (NoState b) ∷ attentionChecks (stateIn b) m channel
+
+-- the checks of a step likewise
+abbrev pub stepChecksOn : List ℕ → Buffers → ℕ → List Check
+stepChecksOn b m lines = check 17 (NoState b) ∷ stepChecks (stateIn b) m lines
+
+-- the checks of a sweep likewise
+abbrev pub sweepChecksOn : List ℕ → Buffers → ℕ → ℕ → List Check
+sweepChecksOn b m channel lines = check 17 (NoState b) ∷ sweepChecks (stateIn b) m channel lines
+
+-- every element is a byte
+abbrev pub Bytes : List ℕ → Type 0
+Bytes b = (i : ℕ) → getD b i 0 < 256
+
+-- an address has the width that its type gives it
+abbrev pub PointerFits : Pointer → Type 0
+PointerFits p = p .address < 4294967296
+
+-- every register of a channel does
+pub record ChannelFits (c : Channel) : Type 0 where
+  pub ga : PointerFits (c .ga)
+  pub gb : PointerFits (c .gb)
+  pub gc : PointerFits (c .gc)
+  pub tp : PointerFits (c .tp)
+  pub pp : c .pp < 4294967296
+  pub bc : c .bc < 65536
+  pub ix : c .ix < 65536
+  pub cc : c .cc < 65536
+  pub mc : c .mc < 65536
+  pub psw : c .psw < 256
+  pub held : heldNumber (c .held) < 512
+
+-- and every one of a state
+pub record StateFits (s : State) : Type 0 where
+  pub first : ChannelFits (s .first)
+  pub second : ChannelFits (s .second)
+  pub cp : s .cp < 4294967296

@@ -1,0 +1,4 @@
+pub mod Fields
+pub mod Layout
+pub mod Calls
+pub mod Conditions

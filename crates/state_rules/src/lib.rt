@@ -1,0 +1,1 @@
+// Types of the rules of a state in bytes.

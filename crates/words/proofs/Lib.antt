@@ -1,4 +1,0 @@
-pub mod ChoiceLaws
-pub mod BitLaws
-pub mod SignLaws
-pub mod StoredLaws
