@@ -1,3 +1,13 @@
+pub mod AloneLaws
+pub mod CopyWitness
+pub mod ProgramSteps
+pub mod ProgramStart
+pub mod Joined
+pub mod ProgramLaws
+pub mod Showpiece
+pub mod ImageLaws
+pub mod Powering
+pub mod BoardWitness
 pub mod MemoryLaws
 pub mod MetLaws
 pub mod PlainLaws

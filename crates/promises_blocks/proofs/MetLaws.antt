@@ -31,7 +31,7 @@ use Rattle.block_rules.specs.Premises.{from, into, Lent, ShareNone, Plain, Copy
 use Rattle.block_rules.specs.Stages.{onBy, Going}
 use Rattle.block_rules.specs.Totals.{movedAfter}
 use Rattle.block_rules.proofs.StageLaws.{mid-source, mid-destination, mid-count, mid-fields}
-use Rattle.promises.specs.Joined.{RunsAlone}
+use Rattle.promises_blocks.specs.Joined.{RunsAlone}
 use Rattle.promises_blocks.specs.Sweeps.{Demanded}
 
 -- ---- the ranges

@@ -32,10 +32,10 @@ use Rattle.turn_rules.specs.Step.{stepOf}
 use Rattle.turn_rules.specs.Touched.{touchedIn, touchedByStep, stepCount}
 use Rattle.sweep_rules.specs.Plainly.{plainly}
 use Rattle.sweep_rules.specs.Sweep.{Sweep, sweptTo}
-use Rattle.promises.proofs.AloneLaws.{going-on, fields-on, turn-on, moves-on, through-next, through}
+use Rattle.promises_blocks.proofs.AloneLaws.{going-on, fields-on, turn-on, moves-on, through-next, through}
 use Rattle.promises.proofs.MachineLaws.{demand3-calls}
 use Rattle.promises.specs.Calls.{Turn}
-use Rattle.promises.specs.Joined.{RunsAlone, Through}
+use Rattle.promises_blocks.specs.Joined.{RunsAlone, Through}
 
 -- ---- the bytes that one of them touches
 

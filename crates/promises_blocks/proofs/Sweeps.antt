@@ -32,7 +32,7 @@ use Rattle.sweep_rules.specs.Plainly.{plainly}
 use Rattle.sweep_rules.specs.Ranges.{placeOf}
 use Rattle.sweep_rules.specs.Sweep.{Sweep, sweptTo, bytesToGo, sweepable, doneSweep, sweepNumber, sweepOf}
 use Rattle.promises.proofs.RunLaws.{goes-on}
-use Rattle.promises.specs.Joined.{RunsAlone, Through}
+use Rattle.promises_blocks.specs.Joined.{RunsAlone, Through}
 use Rattle.promises_blocks.specs.Sweeps.{SweepAnswers, SweepDoes, SweepLeaves, Sweeps}
 use Rattle.promises_blocks.proofs.MemoryLaws.{same-in, copied-held}
 use Rattle.promises_blocks.proofs.MetLaws.{copy-met, alone-met, demanded, rest-sweepable}

@@ -28,11 +28,15 @@ use Rattle.turn_rules.proofs.SoundLaws.{entry-sound, entry-agree, entry-again, 
 use Rattle.transfer_rules.specs.Sides.{source, destination, wordSide}
 use Rattle.block_rules.specs.{Premises.from, Premises.into, Rows.Left, Stages.onBy, Stages.midway}
 use Rattle.block_rules.specs.Totals.{narrow, alone, total, movedAfter}
-use Rattle.promises.specs.{Cases.Stand, Joined.RunsAlone, Met.zeros, Met.copying, SheetAttention.pbAt, SheetAttention.Attends, Witness.channelWith, SheetAttention.outcomeTo, SheetAttention.channelAfter, Image.put, Image.layoutOf, Image.copyOf, Image.imageIn}
-use Rattle.promises.specs.Program.{Job, programPlace, busyAt, haltAt, Ready}
-use Rattle.promises.proofs.{AloneLaws.program-turn, AloneLaws.alone-next, AloneLaws.instruction-done, CallLaws.attention-kept, CopyWitness.zeros-within, ProgramLaws.source-is, ProgramLaws.destination-is, ProgramLaws.total-is, ProgramSteps.View, ProgramSteps.hlt-stops, SheetAttention.attention-sheet, StandLaws.stand-on, StandLaws.stand-kept}
-use Rattle.promises.proofs.ImageLaws.{put-length, put-other, differ, whole-lent, whole-put, whole-stand, zeros-whole, ready-met}
-use Rattle.promises.proofs.Showpiece.{starts, start, come, copy, comes, source-at, destination-at}
+use Rattle.promises.specs.{Cases.Stand, Witness.channelWith}
+use Rattle.promises_blocks.specs.{Joined.RunsAlone, Met.zeros, Met.copying, Image.put, Image.layoutOf, Image.copyOf, Image.imageIn}
+use Rattle.promises_sheet.specs.{SheetAttention.pbAt, SheetAttention.Attends, SheetAttention.outcomeTo, SheetAttention.channelAfter}
+use Rattle.promises_blocks.specs.Program.{Job, programPlace, busyAt, haltAt, Ready}
+use Rattle.promises_blocks.proofs.{AloneLaws.program-turn, AloneLaws.alone-next, AloneLaws.instruction-done, CopyWitness.zeros-within, ProgramLaws.source-is, ProgramLaws.destination-is, ProgramLaws.total-is, ProgramSteps.View, ProgramSteps.hlt-stops}
+use Rattle.promises.proofs.{CallLaws.attention-kept, StandLaws.stand-on, StandLaws.stand-kept}
+use Rattle.promises_sheet.proofs.{SheetAttention.attention-sheet}
+use Rattle.promises_blocks.proofs.ImageLaws.{put-length, put-other, differ, whole-lent, whole-put, whole-stand, zeros-whole, ready-met}
+use Rattle.promises_blocks.proofs.Showpiece.{starts, start, come, copy, comes, source-at, destination-at}
 use Rattle.promises_pauses.specs.Pausing.{Quietly, PauseApart, Spared, PausedCalls, EndsPaused, PausedMet, pausesOf, begin, transfer, step, attention, host, suspend, resume}
 use Rattle.promises_pauses.proofs.PausedRows.{ordered-channel, suspend-only, demand13, lone-turn, places-stay, off-registers}
 

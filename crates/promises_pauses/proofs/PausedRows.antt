@@ -22,9 +22,12 @@ use Rattle.turn_rules.{specs.Choosing.external, specs.Step.stepOf, proofs.Choos
 use Rattle.block_rules.specs.{Premises.from, Premises.into, Premises.Lent, Premises.Copy, Totals.movedAfter, Totals.total, Rows.Left, Rows.Untouched, Rows.Row, Rows.start, Rows.steps, Rows.other, Stages.midway, Stages.Held, Stages.Ended}
 use Rattle.sweep_rules.specs.{Plainly.plainly, Ranges.placeOf, Sweep.sweepOf}
 use Rattle.block_rules.proofs.{CopyLaws.reached, Demand3.going, Demand3.ended, StageLaws.mid-count}
-use Rattle.promises.specs.{Calls.Turn, Calls.Calls, Calls.EndsAtCall, Joined.RunsAlone, SheetAttention.outcomeTo, SheetAttention.channelAfter}
+use Rattle.promises.specs.{Calls.Turn, Calls.Calls, Calls.EndsAtCall}
+use Rattle.promises_blocks.specs.{Joined.RunsAlone}
+use Rattle.promises_sheet.specs.{SheetAttention.outcomeTo, SheetAttention.channelAfter}
 use Rattle.promises.proofs.CallLaws.{turn-is, transfer-channel, transfer-memory, step-kept, attention-kept}
-use Rattle.promises.proofs.{AloneLaws.transfer-turn, AloneLaws.alone-next, Joined.busy-same, MachineLaws.row-kept, MachineLaws.moves}
+use Rattle.promises_blocks.proofs.{AloneLaws.transfer-turn, AloneLaws.alone-next, Joined.busy-same}
+use Rattle.promises.proofs.{MachineLaws.row-kept, MachineLaws.moves}
 use Rattle.promises_blocks.proofs.{PlainLaws.plainly-stops, PlainLaws.plainly-goes, Sweeps.rest-accepted, Sweeps.sweeps}
 use Rattle.promises_pauses.specs.Pausing.{Quietly, blockBytes, busyByte, Clear, BlockKept, PauseStores, PauseApart, Spared, PausedCalls, EndsPaused, SameEnd, SweptRest, begin, transfer, step, attention, host, suspend, resume}
 

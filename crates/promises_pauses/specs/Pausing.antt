@@ -15,7 +15,9 @@ use Rattle.turn_rules.specs.Step.{stepOf}
 use Rattle.block_rules.specs.{Premises.from, Premises.into, Rows.Untouched, Totals.movedAfter}
 use Rattle.block_rules.specs.Stages.{midway, Held, Going, Ended}
 use Rattle.sweep_rules.specs.Sweep.{Sweep}
-use Rattle.promises.specs.{Calls.Turn, Calls.Moves, Joined.Comes, SheetAttention.outcomeTo, SheetAttention.channelAfter}
+use Rattle.promises.specs.{Calls.Turn, Calls.Moves}
+use Rattle.promises_blocks.specs.{Joined.Comes}
+use Rattle.promises_sheet.specs.{SheetAttention.outcomeTo, SheetAttention.channelAfter}
 
 -- an attention to this channel that is accepted: its CCW, as memory has it at this call, holds this command and ICF 00, and its bits 5 and 7 are
 -- PSW's, as PSW is at this call

@@ -20,9 +20,9 @@ use Rattle.block_rules.specs.Premises.{from, into, Lent}
 use Rattle.block_rules.specs.Rows.{Left}
 use Rattle.block_rules.specs.Stages.{Going, Within}
 use Rattle.block_rules.specs.Totals.{movedAfter}
-use Rattle.promises.proofs.AloneLaws.{transfer-turn, alone-next}
+use Rattle.promises_blocks.proofs.AloneLaws.{transfer-turn, alone-next}
 use Rattle.promises.specs.Calls.{Turn, Moves}
-use Rattle.promises.specs.Joined.{RunsAlone}
+use Rattle.promises_blocks.specs.Joined.{RunsAlone}
 use Rattle.processors.specs.Calls.{StepAnswer, stepAnswer, stepGives, stepOn}
 use Rattle.processors.specs.Processors.{Memories, buffersOf, ioOf}
 use Rattle.promises_processors.specs.InTurn.{inTurn, TwoTransfers, BothEnd}

@@ -26,7 +26,7 @@ use Rattle.transfer_rules.specs.Sides.{source, destination}
 use Rattle.block_rules.specs.Premises.{into, Copy}
 use Rattle.block_rules.specs.Totals.{narrow, total}
 use Rattle.promises.proofs.CallWitness.{stepOpen}
-use Rattle.promises.specs.Joined.{RunsAlone}
+use Rattle.promises_blocks.specs.Joined.{RunsAlone}
 use Rattle.processors.specs.Calls.{stepOn}
 use Rattle.processors.specs.Lifting.{calledOn, lifted}
 use Rattle.processors.specs.Processors.{processorOf, withProcessor, ioOf, buffersOf, withBuffers}

@@ -5,7 +5,7 @@ use Prim.Native.Nat.{ℕ, zero, suc}
 use Rattle.block_rules.specs.Premises.{into, Copy}
 use Rattle.block_rules.specs.Stages.{Ended}
 use Rattle.block_rules.specs.Totals.{total}
-use Rattle.promises.specs.Joined.{RunsAlone}
+use Rattle.promises_blocks.specs.Joined.{RunsAlone}
 use Rattle.promises_processors.specs.Rows.{ProcessorCalls}
 use Rattle.promises_processors.specs.Situations.{Situation, stateFor, channelFor, memoryFor, afterStep}
 

@@ -1,0 +1,291 @@
+-- The showpiece: an image with a copying program is run to number 1, in the known steps, with the block copied.
+-- Assumes nothing.
+use Prim.Native.Nat.{ℕ, _+_, _%_, _<_, _≤_}
+use lib.Dec.{lit<}
+use mathlib.Core.Bool.{Bool, true, false, not, _||_}
+use mathlib.Core.List.{[], _∷_}
+use mathlib.Core.Logic.{⊎-elim, inr, _↔_}
+use mathlib.Core.Path.{_≡_, refl, sym, ap, subst, _∙_}
+use native.Mathlib.Nat.{add-zero}
+use native.Mathlib.Omega.{arith}
+use Rattle.attention_rules.specs.Conditions.{NoChannel}
+use Rattle.ground_rules.proofs.ChannelLaws.{put-same, put-other, put-cp, sound-channel-of}
+use Rattle.ground_rules.proofs.ConditionLaws.{told-limits}
+use Rattle.ground_rules.proofs.FieldLaws.{agreed, agree-channel-of}
+use Rattle.ground_rules.specs.declared.Fields.{Fields}
+use Rattle.ground_rules.specs.Cc.{split}
+use Rattle.ground_rules.specs.Conditions.{Given}
+use Rattle.ground_rules.specs.Outcomes.{Outcome, outcome}
+use Rattle.ground_rules.specs.States.{freshState, channelOf, withChannel, withLast, sound, isRunning, channelNumber, blockOf, busyIn, fieldsAgree}
+use Rattle.ground_rules.specs.declared.Channel.{Channel}
+use Rattle.ground_rules.specs.declared.State.{State}
+use Rattle.ground_rules.proofs.PlaceLaws.{index-reduced, lent-index, byte-index}
+use Rattle.ground_rules.proofs.StoreLaws.{store-length, store-lent, read-other}
+use Rattle.ground_rules.specs.Buffers.{Buffers, indexOf, lentAt, byteAt, storeByte, withinLimits}
+use Rattle.ground_rules.specs.Places.{Apart}
+use Rattle.ground_rules.specs.Values.{pointer}
+use Rattle.ground_rules.specs.declared.Pointer.{Pointer}
+use Rattle.turn_rules.proofs.SoundLaws.{done-sound, entry-sound, entry-agree}
+use Rattle.transfer_rules.specs.Ends.{offsetOf}
+use Rattle.transfer_rules.specs.Sides.{source, destination, wordSide}
+use Rattle.ground_rules.specs.Bits.{fieldOf, bitOf}
+use Rattle.run_rules.specs.Run.{answerOf, Call}
+use Rattle.promises.specs.Cases.{Stand}
+use Rattle.promises_blocks.specs.Joined.{RunsAlone, endOf, Comes, Halted}
+use Rattle.promises_blocks.specs.Met.{copying}
+use Rattle.block_rules.specs.Premises.{from, into, Lent, ShareNone, Copy}
+use Rattle.promises_blocks.specs.Program.{Job, Layout, fromPlace, intoPlace, pbPlace, programPlace, blockAt, busyAt, programOf, haltAt, stepsOf, Ready, BlockMoved, RunCopies, runIn, Showpiece, ShowpieceCall, RowMade, mostBy, FitsExactly}
+use Rattle.promises.specs.Runs.{DoneSteps, firstAttention, startChecks, none}
+use Rattle.block_rules.specs.Stages.{onBy, Outside}
+use Rattle.block_rules.specs.Totals.{narrow, total}
+use Rattle.promises.specs.Witness.{channelWith}
+use Rattle.promises.proofs.AgreeLaws.{told-not}
+use Rattle.promises_blocks.proofs.AloneLaws.{entered, put-ready, limits-kept, through}
+use Rattle.promises.proofs.CaseLaws.{pointer-given}
+use Rattle.block_rules.proofs.CountLaws.{total-narrow, total-wide, alone-none, alone-one}
+use Rattle.promises_blocks.proofs.Joined.{busy-same, run-halts}
+use Rattle.promises_blocks.proofs.ProgramLaws.{Come, begins, six, from-is, into-is, plain-is, total-is, place-is, on-twice}
+use Rattle.promises_blocks.proofs.ProgramStart.{Starts, Begun, begun, fresh-still, sound-fresh}
+use Rattle.promises_blocks.proofs.ProgramSteps.{View, viewOf}
+use Rattle.promises.proofs.StandLaws.{on-index, stand-on, stand-kept}
+
+-- different bytes, the other way round
+apart-back : (t : Bool) (a : ℕ) (u : Bool) (b : ℕ) → Apart t a u b → Apart u b t a
+apart-back t a u b h e x = h (sym e) (sym x)
+
+module _ {j : Job} {l : Layout} {m : Buffers} {lines limit : ℕ} (r : Ready j l m lines limit) where
+  -- ---- the start
+
+  abbrev b : Bool
+  b = l .second
+
+  abbrev n : ℕ
+  n = j .count
+
+  pub starts : Starts m (blockAt l) (pbPlace l .address) (programPlace l .address)
+  starts =
+      record {
+        command = ap (byteAt m false) (sym (add-zero (blockAt l))) ∙ r .command .read 0 (lit< tt);
+        commandLent = ap (lentAt m false) (sym (add-zero (blockAt l))) ∙ r .command .lent 0 (lit< tt);
+        busyLent = r .busy;
+        parameters =
+            pointer-given m (pointer (blockAt l + 2) false) _ (r .parameters) (lit< tt)
+            ∙ ap (λ (p : Pointer). p .address) (place-is (l .pbOffset) (l .pbSegment));
+        parametersLent = r .parameters .lent;
+        task = pointer-given m (pbPlace l) _ (r .task) (lit< tt) ∙ ap (λ (p : Pointer). p .address) (place-is (l .programOffset) (l .programSegment));
+        taskLent = r .task .lent;
+      }
+
+  pub start : Begun (l .cp) b m (programPlace l .address)
+  start = begun (l .cp) b m (pbPlace l .address) (programPlace l .address) starts (r .cpFits) (r .buffersFit)
+
+  abbrev s₀ : State
+  s₀ = withChannel (freshState (l .cp)) b (start .channel)
+
+  abbrev m₀ : Buffers
+  m₀ = storeByte m false (busyAt l) 255
+
+  -- the attention leaves every byte but BUSY
+  other : (u : Bool) (a : ℕ) → Apart false (busyAt l) u a → byteAt m₀ u a ≡ byteAt m u a
+  other u a = read-other m false (busyAt l) 255 u a
+
+  within : withinLimits m₀ ≡ true
+  within = limits-kept m m₀ (λ u. store-length m false u (busyAt l) 255) ∙ told-not (told-limits m) (r .buffersFit)
+
+  sound-start : sound s₀ ≡ true
+  unfolding sound withLast
+  sound-start = done-sound (freshState (l .cp)) b (start .channel) (sound-fresh (l .cp) (r .cpFits)) (start .sound)
+
+  alone₀ : RunsAlone b s₀ m₀ lines
+  alone₀ =
+      record {
+        entered = entered s₀ m₀ lines (r .linesFit) within sound-start (put-ready (l .cp) b (start .channel) (start .agree));
+        idle = ap (λ (c : Channel). isRunning (c .mode)) (put-other (freshState (l .cp)) b (start .channel)) ∙ fresh-still (l .cp) (not b);
+      }
+
+  -- ---- the instructions
+
+  there : Stand m₀ (programPlace l) (programOf j)
+  there =
+      stand-kept (r .program) m₀ (λ u a. store-lent m false u (busyAt l) a 255)
+      (λ i h. other false (programPlace l .address + i) (apart-back false (programPlace l .address + i) false (busyAt l) (r .busyProgram i h)))
+
+  pub come : Come lines b s₀ m₀ 6 (begins j (onBy (programPlace l) haltAt))
+  come =
+      six j (programPlace l) there
+      (record { state = s₀; done = none; lonely = alone₀; control = refl; parameters = refl; seen = ap viewOf (put-same (freshState (l .cp)) b (start .channel)) ∙ start .seen })
+
+  abbrev s₁ : State
+  s₁ = come .state
+
+  abbrev c₁ : Channel
+  c₁ = channelOf s₁ b
+
+  -- its fields are those of its CC
+  agree₁ : fieldsAgree c₁ ≡ true
+  agree₁ = agree-channel-of s₁ b (entry-agree s₁ m₀ lines (come .lonely .entered))
+
+  -- ---- the transfer
+
+  pub source-at : from c₁ ≡ fromPlace j
+  source-at = from-is j (onBy (programPlace l) haltAt) c₁ (come .seen) agree₁
+
+  pub destination-at : into c₁ ≡ intoPlace j
+  destination-at = into-is j (onBy (programPlace l) haltAt) c₁ (come .seen) agree₁
+
+  -- what is lent is lent
+  kept : (u : Bool) (a : ℕ) → lentAt m₀ u a ≡ lentAt m u a
+  kept u a = store-lent m false u (busyAt l) a 255
+
+  pub copy : Copy n c₁ m₀
+  copy =
+      record {
+        plain = plain-is j (onBy (programPlace l) haltAt) c₁ (come .seen) agree₁ (sound-channel-of s₁ b (entry-sound s₁ m₀ lines (come .lonely .entered)));
+        some = r .some;
+        most = r .most;
+        count = ap (λ (v : View). v .bc) (come .seen);
+        fromLent = subst (λ (p : Pointer). Lent m₀ p n) (sym source-at) (λ i h. kept false (fromPlace j .address + i) ∙ r .fromLent i h);
+        intoLent = subst (λ (p : Pointer). Lent m₀ p n) (sym destination-at) (λ i h. kept false (intoPlace j .address + i) ∙ r .intoLent i h);
+        apart = subst (λ (p : Pointer). ShareNone p (into c₁) n) (sym source-at) (subst (λ (q : Pointer). ShareNone (fromPlace j) q n) (sym destination-at) (r .apart));
+      }
+
+  -- its end leads to HLT
+  end-is : endOf c₁ ≡ onBy (programPlace l) haltAt
+  unfolding split fieldOf offsetOf
+  end-is =
+      ap (λ (f : Fields). onBy (c₁ .tp) (offsetOf (f .countEnd))) (agreed c₁ agree₁)
+      ∙ ap (λ (v : View). onBy (v .tp) (offsetOf (fieldOf (v .cc) 3 2))) (come .seen) ∙ on-twice (programPlace l) haltAt 0
+
+  halt : Stand m₀ (endOf c₁) (0x20 ∷ 0x48 ∷ [])
+  unfolding programOf
+  halt = subst (λ (p : Pointer). Stand m₀ p (0x20 ∷ 0x48 ∷ [])) (sym end-is) (stand-on there 24)
+
+  halt-kept : (i : ℕ) → i < 2 → Outside (into c₁) n (endOf c₁ .tag) (endOf c₁ .address + i)
+  halt-kept i h =
+      subst (λ (p : Pointer). Outside (into c₁) n (p .tag) (p .address + i)) (sym end-is)
+      (subst (λ (q : Pointer). Outside q n false (onBy (programPlace l) haltAt .address + i)) (sym destination-at)
+      (λ k h′ e x. r .haltKept i h k h′ e (x ∙ on-index (programPlace l) haltAt i)))
+
+  -- BUSY
+  busy-is : busyIn (blockOf s₁ b) ≡ busyAt l % 1048576
+  unfolding busyIn
+  busy-is = busy-same (freshState (l .cp)) s₁ b (come .control ∙ put-cp (freshState (l .cp)) b (start .channel))
+
+  busy-index : indexOf false (busyIn (blockOf s₁ b)) ≡ indexOf false (busyAt l)
+  busy-index = ap (indexOf false) busy-is ∙ index-reduced false (busyAt l)
+
+  busy-lent : lentAt m₀ false (busyIn (blockOf s₁ b)) ≡ true
+  busy-lent = lent-index m₀ false (busyIn (blockOf s₁ b)) (busyAt l) busy-index ∙ kept false (busyAt l) ∙ r .busy
+
+  -- ---- the run
+
+  given : Given (startChecks m (l .cp) (channelNumber b) lines limit) 0
+  given =
+      inr (
+        ⊎-elim (is-channel b) (⊎-elim (λ x. omega (arith, r .linesFit)) (λ x. omega (arith, r .limitFits))),
+        inr (r .buffersFit, inr ((λ x. omega (arith, r .cpFits)), refl)),
+      )
+    where
+      is-channel : (b : Bool) → ¬ (NoChannel (channelNumber b))
+      is-channel true x = unfold channelNumber in x .1 refl
+      is-channel false x = unfold channelNumber in x .0 refl
+
+  first-is : firstAttention m (l .cp) (channelNumber b) ≡ outcome 0 s₀ m₀
+  first-is = start .given
+
+  pub comes : Comes m (l .cp) b lines limit n 6 s₁ m₀
+  comes =
+      record {
+        started = given;
+        accepted = ap (λ (o : Outcome). o .number) first-is;
+        steps = subst (λ (o : Outcome). DoneSteps lines (o .state) (o .memory) 6 s₁ m₀) (sym first-is) (come .done);
+        alone = come .lonely;
+        copy = copy;
+        halt = halt;
+        haltKept = halt-kept;
+        busy = busy-lent;
+        enough = omega (arith, r .enough, total-is j (onBy (programPlace l) haltAt) c₁ (come .seen) agree₁);
+      }
+
+  run : Halted b n 6 s₁ m₀ (runIn l m lines limit)
+  run = run-halts comes
+
+  -- BUSY is the same byte, however its address is written
+  busy-apart : (u : Bool) (a : ℕ) → Apart false (busyAt l) u a → Apart false (busyIn (blockOf s₁ b)) u a
+  busy-apart u a h e x = h e (sym busy-index ∙ x)
+
+  moved : BlockMoved j l m (runIn l m lines limit .memory)
+  moved = record { copied = copied; busy = byte-index _ false (busyAt l) (busyIn (blockOf s₁ b)) (sym busy-index) ∙ run .busy; others = others; lengths = λ u. run .lengths u ∙ store-length m false u (busyAt l) 255 }
+    where
+      copied : (i : ℕ) → i < n → byteAt (runIn l m lines limit .memory) false (intoPlace j .address + i) ≡ byteAt m false (fromPlace j .address + i)
+      copied i h =
+          subst (λ (p : Pointer). byteAt (runIn l m lines limit .memory) false (intoPlace j .address + i) ≡ byteAt m₀ (p .tag) (p .address + i)) source-at
+          (subst
+          (λ (q : Pointer). Apart false (busyIn (blockOf s₁ b)) (q .tag) (q .address + i)
+          → byteAt (runIn l m lines limit .memory) (q .tag) (q .address + i) ≡ byteAt m₀ (from c₁ .tag) (from c₁ .address + i))
+          destination-at (run .copied i h)
+          (busy-apart false (intoPlace j .address + i) (apart-back false (intoPlace j .address + i) false (busyAt l) (r .busyInto i h))))
+          ∙ other false (fromPlace j .address + i) (apart-back false (fromPlace j .address + i) false (busyAt l) (r .busyFrom i (omega arith)))
+
+      others : (u : Bool) (a : ℕ) → Outside (intoPlace j) n u a → Apart false (busyAt l) u a → byteAt (runIn l m lines limit .memory) u a ≡ byteAt m u a
+      others u a o o′ = run .others u a (subst (λ (q : Pointer). Outside q n u a) (sym destination-at) o) (busy-apart u a o′) ∙ other u a o′
+
+  -- demand 3's row in it
+  row : RowMade j l m lines
+  row =
+      record {
+        state = s₁;
+        memory = m₀;
+        accepted = comes .accepted;
+        instructions = comes .steps;
+        copy = copy;
+        row = through b n s₁ m₀ lines copy (come .lonely) (stepsOf j) (omega (arith, total-is j (onBy (programPlace l) haltAt) c₁ (come .seen) agree₁));
+      }
+
+  runs : RunCopies j l m (runIn l m lines limit)
+  runs =
+      record {
+        number = run .number;
+        steps = omega (arith, run .steps, total-is j (onBy (programPlace l) haltAt) c₁ (come .seen) agree₁);
+        memory = moved;
+      }
+
+-- every such image is run so
+pub showpiece : Showpiece
+showpiece j l m lines limit r = runs r
+
+-- by `iop89_run` itself
+pub showpiece-call : ShowpieceCall
+unfolding answerOf
+showpiece-call j l m lines limit answer sys io r e =
+    let x = showpiece j l m lines limit r in
+    record {
+      answered = ap (λ (c : Call). c .answer) e ∙ rw (x .number, x .steps) (omega (arith, r .enough, r .limitFits));
+      memory = subst (BlockMoved j l m) (sym (ap (λ (c : Call). c .memory) e)) (x .memory);
+    }
+
+-- with demand 3's row in it, made by fresh, attention and XFER
+pub row-made : (j : Job) (l : Layout) (m : Buffers) (lines limit : ℕ) → Ready j l m lines limit → RowMade j l m lines
+row-made j l m lines limit r = row r
+
+-- ---- what fits
+
+-- with a side of 16 bits a transfer takes at most 32,769 steps
+wide-fits : (c : Channel) (n : ℕ) → narrow c ≡ false → n ≤ 65536 → total c n ≤ 32769
+wide-fits c n e most = go (wordSide (source c) || wordSide (destination c)) refl
+  where
+    go : (w : Bool) → wordSide (source c) || wordSide (destination c) ≡ w → total c n ≤ 32769
+    go true w = omega (arith, total-wide c n e, alone-none c w)
+    go false w = omega (arith, total-wide c n e, alone-one c w)
+
+-- so the widths alone say what fits the largest limit
+sides-fit : (from into : ℕ) (s d : Bool) (n : ℕ) → 1 ≤ n → n ≤ 65536 → (total (copying from into s d n) n + 8 ≤ 65535) ↔ (n ≤ mostBy s d)
+unfolding narrow copying channelWith source destination bitOf
+sides-fit from into true true n some most = (λ h. most, λ h. omega (arith, wide-fits (copying from into true true n) n refl most))
+sides-fit from into true false n some most = (λ h. most, λ h. omega (arith, wide-fits (copying from into true false n) n refl most))
+sides-fit from into false true n some most = (λ h. most, λ h. omega (arith, wide-fits (copying from into false true n) n refl most))
+sides-fit from into false false n some most =
+    (λ h. omega (arith, total-narrow (copying from into false false n) n refl), λ h. omega (arith, total-narrow (copying from into false false n) n refl))
+
+pub fits-exactly : FitsExactly
+fits-exactly j some most = sides-fit (fromPlace j .address) (intoPlace j .address) (j .fromWide) (j .intoWide) (j .count) some most

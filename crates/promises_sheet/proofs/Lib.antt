@@ -1,0 +1,15 @@
+pub mod SheetAttention
+pub mod SheetOperands
+pub mod SheetRegisters
+pub mod SheetMemory
+pub mod SheetControl
+pub mod SheetTurns
+pub mod SheetTransfer
+pub mod SheetHalves
+pub mod HalfWitness
+pub mod Leftover
+pub mod LeftoverCases
+pub mod Sheet
+pub mod SheetWitness
+pub mod Slots
+pub mod SlotWitness

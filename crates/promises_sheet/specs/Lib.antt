@@ -1,0 +1,11 @@
+pub mod SheetAttention
+pub mod SheetOperands
+pub mod SheetRegisters
+pub mod SheetMemory
+pub mod SheetControl
+pub mod SheetTurns
+pub mod SheetTransfer
+pub mod SheetHalves
+pub mod Leftover
+pub mod Sheet
+pub mod Slots
