@@ -120,9 +120,9 @@ $(PROGRAMS): program-%:
 lib: $(ARCHIVES)
 
 # The archive is made again where a file of its crates is not what it was; their list is kept by content.
-$(IOP89_LIB): build/panel.sums
-	@tools/prove staticlib panel
-	cp target/staticlib/libpanel.a $@
+$(IOP89_LIB): build/run_call.sums
+	@tools/prove staticlib run_call
+	cp target/staticlib/librun_call.a $@
 	@touch $@
 
 build/%.sums: always
@@ -219,10 +219,10 @@ build/bench: host/bench.c host/emulator.h host/sweep_case.h include/iop89.h incl
 # The proved calls as a second archive; both link into one program.
 service-lib: $(SERVICE_LIB)
 
-# Each crate's archive has the functions that it exports, and all else in it is local, so they join into one. The calls of
-# service and schedule_calls are passed on by processor_calls, so that their code stands in it once; the sweep has an
-# object of its own, which costs some bytes and saves instructions.
-SERVICE_CRATES = processor_calls sweep_call board prom lister
+# Thin crates that hold exported functions alone: what they rest on is not proved again for an archive. All else in an
+# archive is local, so they join into one. The calls of service and schedule_calls are passed on by processor_calls, so that
+# their code stands in it once; sweep and board have objects of their own, which costs some bytes and saves instructions.
+SERVICE_CRATES = processor_calls sweep_call board_call text_calls
 
 $(SERVICE_LIB): $(SERVICE_CRATES:%=build/%.sums)
 	@for crate in $(SERVICE_CRATES); do tools/prove staticlib $$crate || exit $$?; done

@@ -27,9 +27,9 @@ use Rattle.instruction_rules.specs.Changes.{placesOf, changed, nothing}
 use Rattle.instruction_rules.specs.Marks.{pastInstruction}
 use Rattle.instruction_rules.specs.Operands.{bytesAt}
 use Rattle.instruction_rules.specs.Deeds.{Deed}
-use Rattle.execute_deeds.specs.Effects.{effectOf, afterWrite}
-use Rattle.execute_deeds.specs.Writes.{noWrite}
-use Rattle.execute_deeds.specs.declared.Effect.{Effect}
+use Rattle.execute.specs.Effects.{effectOf, afterWrite}
+use Rattle.execute.specs.Writes.{noWrite}
+use Rattle.execute.specs.declared.Effect.{Effect}
 use Rattle.instruction_rules.specs.Execute.{decodedAt, performed, deedOf, laterBytes, laterFrom, lengthFrom, deedFrom, stagesFrom, instructionStages, executeNumber, touchedByInstruction, Executed, executed, executeOf, executeCount}
 use Rattle.execute.specs.Plan.{laterNumber, planFrom, planNumber, readWith, Planned}
 use Rattle.instruction_rules.specs.Kept.{deedAt}

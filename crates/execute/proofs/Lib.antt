@@ -1,2 +1,3 @@
+pub mod DeedLaws
 pub mod CodeLaws
 pub mod Determined

@@ -1,1 +1,3 @@
+pub mod Writes
+pub mod Effects
 pub mod Plan

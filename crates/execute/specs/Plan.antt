@@ -10,9 +10,9 @@ use Rattle.instruction_rules.specs.declared.Decoded.{Decoded}
 use Rattle.instruction_rules.specs.Reading.{numberOf}
 use Rattle.instruction_rules.specs.Operands.{bytesAt}
 use Rattle.instruction_rules.specs.Deeds.{Deed}
-use Rattle.execute_deeds.specs.Effects.{effectOf, afterWrite}
-use Rattle.execute_deeds.specs.Writes.{noWrite}
-use Rattle.execute_deeds.specs.declared.Effect.{Effect}
+use Rattle.execute.specs.Effects.{effectOf, afterWrite}
+use Rattle.execute.specs.Writes.{noWrite}
+use Rattle.execute.specs.declared.Effect.{Effect}
 use Rattle.instruction_rules.specs.Execute.{decodedAt, deedFrom, laterFrom}
 
 -- the number from the later bytes on, but for the stores

@@ -1,23 +1,59 @@
 // One instruction of a channel: fetched, decoded, worked out, and its one store and its one register write made last.
-use execute_deeds::Effect;
-use execute_deeds::NO_WRITE;
-use execute_deeds::control;
-use execute_deeds::registers;
-use execute_operands::changes;
 use ground_rules::Channel;
 use ground_rules::Pointer;
+use instruction_rules::Change;
 use instruction_rules::Decoded;
 use instruction_rules::Shape;
 ghost use mathlib.Core.Path.{_≡_};
 ghost use Rattle.ground_rules.specs.Buffers.{lent};
-ghost use Rattle.execute_deeds.specs.Effects.{effectOf, afterWrite};
-ghost use Rattle.execute_deeds.specs.Writes.{noWrite};
+ghost use Rattle.execute.specs.Effects.{effectOf, afterWrite};
+ghost use Rattle.execute.specs.Writes.{noWrite};
 ghost use Rattle.instruction_rules.specs.declared.Decoded.the-variants.{Instruction};
 ghost use Rattle.instruction_rules.specs.Lengths.{lengthOf};
 ghost use Rattle.instruction_rules.specs.Changes.{nothing};
 ghost use Rattle.instruction_rules.specs.Execute.{decodedAt, performed, deedOf, lengthFrom, executed, executeOf, executeCount};
 ghost use Rattle.execute.specs.Plan.{laterNumber, planNumber, Planned};
 ghost use Rattle.instruction_rules.specs.Kept.{deedAt};
+
+// Places, the operands that lie there, and what the instructions work out of them.
+mod operands;
+// What an instruction stores.
+mod changes;
+// NOP, SINTR, XFER, WID and HLT.
+mod control;
+// Results that go into a register.
+mod registers;
+// Results that go into memory.
+mod memories;
+// Instructions that jump.
+mod jumps;
+
+// The register that an instruction writes by RRR: whether there is one, which, its value, and the tag where it is a pointer.
+pub struct Write {
+    pub any: bool,
+    pub rrr: u32,
+    pub value: u32,
+    pub tag: bool,
+}
+
+// No register.
+pub const NO_WRITE: Write = Write {
+    any: false,
+    rrr: 0,
+    value: 0,
+    tag: false,
+};
+
+// What an instruction would do: a number other than 0 where it is refused, how many operand bytes it reads, with the
+// offset byte of a second pair, the channel after it but for the register that it writes, what it stores, and that
+// register.
+pub struct Effect {
+    pub number: u32,
+    pub reads: u32,
+    pub channel: Channel,
+    pub write: Write,
+    pub change: Change,
+}
 
 // What an instruction answers: its number, how many bytes it read and stored, and the channel after it.
 pub struct Done {
@@ -59,7 +95,7 @@ fn perform(
             io,
         ),
         Shape::Register { single, rrr } => registers::register(c, single, rrr),
-        Shape::JumpRegister { zero, rrr, two } => execute_deeds::jumps::jump_register(
+        Shape::JumpRegister { zero, rrr, two } => jumps::jump_register(
             c,
             tp,
             zero,
@@ -77,7 +113,7 @@ fn perform(
             sys,
             io,
         ),
-        Shape::MemoryRegister { work, rrr, m } => execute_deeds::memories::memory_register(
+        Shape::MemoryRegister { work, rrr, m } => memories::memory_register(
             c,
             tp,
             work,
@@ -86,57 +122,18 @@ fn perform(
             sys,
             io,
         ),
-        Shape::MemoryImmediate { work, m } => execute_deeds::memories::memory_immediate(
-            c,
-            tp,
-            work,
-            m,
-            sys,
-            io,
-        ),
-        Shape::MemoryAlone { single, m } => execute_deeds::memories::memory_alone(
-            c,
-            tp,
-            single,
-            m,
-            sys,
-            io,
-        ),
-        Shape::JumpMemory { zero, m, two } => execute_deeds::jumps::jump_memory(
-            c,
-            tp,
-            zero,
-            m,
-            two,
-            sys,
-            io,
-        ),
+        Shape::MemoryImmediate { work, m } => memories::memory_immediate(c, tp, work, m, sys, io),
+        Shape::MemoryAlone { single, m } => memories::memory_alone(c, tp, single, m, sys, io),
+        Shape::JumpMemory { zero, m, two } => jumps::jump_memory(c, tp, zero, m, two, sys, io),
         Shape::Lpd { ppp, m } => registers::lpd(c, tp, ppp, m, sys, io),
         Shape::MovpLoad { ppp, m } => registers::movp_load(c, tp, ppp, m, sys, io),
-        Shape::MovpStore { ppp, m } => execute_deeds::memories::movp_store(c, tp, ppp, m, sys, io),
-        Shape::MovMemory { m } => execute_deeds::memories::mov_memory(c, tp, m, sys, io),
-        Shape::Tsl { m } => execute_deeds::jumps::tsl(c, tp, m, sys, io),
-        Shape::Call { m, two } => execute_deeds::jumps::call(c, tp, m, two, sys, io),
-        Shape::JumpMasked { equal, m, two } => execute_deeds::jumps::jump_masked(
-            c,
-            tp,
-            equal,
-            m,
-            two,
-            sys,
-            io,
-        ),
-        Shape::JumpBit { set, bit, m, two } => execute_deeds::jumps::jump_bit(
-            c,
-            tp,
-            set,
-            bit,
-            m,
-            two,
-            sys,
-            io,
-        ),
-        Shape::Bit { on, bit, m } => execute_deeds::memories::bit(c, tp, on, bit, m, sys, io),
+        Shape::MovpStore { ppp, m } => memories::movp_store(c, tp, ppp, m, sys, io),
+        Shape::MovMemory { m } => memories::mov_memory(c, tp, m, sys, io),
+        Shape::Tsl { m } => jumps::tsl(c, tp, m, sys, io),
+        Shape::Call { m, two } => jumps::call(c, tp, m, two, sys, io),
+        Shape::JumpMasked { equal, m, two } => jumps::jump_masked(c, tp, equal, m, two, sys, io),
+        Shape::JumpBit { set, bit, m, two } => jumps::jump_bit(c, tp, set, bit, m, two, sys, io),
+        Shape::Bit { on, bit, m } => memories::bit(c, tp, on, bit, m, sys, io),
     }
 }
 
@@ -160,12 +157,12 @@ fn shaped(shape: Shape, count: u32, c: Channel, busy: u32, sys: &[u8], io: &[u8]
     ensures { λ r. ⌜ Planned (laterNumber (Instruction shape) (lent (sys .entry) (io .entry)) c busy) (lengthOf shape) (deedOf shape (lent (sys .entry) (io .entry)) c busy) r ⌝ }
 {
     let tp = c.tp;
-    if !execute_operands::touchable(memory::onward(tp, 2), count - 2, sys, io) {
+    if !operands::touchable(memory::onward(tp, 2), count - 2, sys, io) {
         return refused(c, 2);
     }
     let mut e = perform(
         shape,
-        execute_operands::advanced(c, count),
+        operands::advanced(c, count),
         tp,
         c.armed,
         busy,
@@ -181,11 +178,11 @@ fn plan(c: Channel, busy: u32, sys: &[u8], io: &[u8]) -> Effect
     ensures { λ r. ⌜ Planned (planNumber (lent (sys .entry) (io .entry)) c busy) (lengthFrom (decodedAt (lent (sys .entry) (io .entry)) (c .tp))) (deedAt (lent (sys .entry) (io .entry)) c busy) r ⌝ }
 {
     let tp = c.tp;
-    if !execute_operands::touchable(tp, 2, sys, io) {
+    if !operands::touchable(tp, 2, sys, io) {
         return refused(c, 2);
     }
-    let first = execute_operands::byte(tp, sys, io);
-    let second = execute_operands::byte(memory::onward(tp, 1), sys, io);
+    let first = operands::byte(tp, sys, io);
+    let second = operands::byte(memory::onward(tp, 1), sys, io);
     let looked = decode::look_up(first, second);
     let decoded = looked.decoded;
     let Decoded::Instruction(shape) = decoded else {

@@ -5,7 +5,7 @@ use listing_rules::Line;
 use listing_rules::Row;
 use notation::lines;
 ghost use mathlib.Core.Path.{_≡_};
-ghost use Prim.Native.Nat.{_+_, _*_, _≤_};
+ghost use Prim.Native.Nat.{_+_, _≤_};
 ghost use lib.ListN.{length, take, drop};
 ghost use lib.Seq.{paste};
 ghost use Rattle.listing_rules.specs.Listings.{listLimit, listing, listingOf, Shown};
@@ -95,14 +95,4 @@ pub fn list(code: &[u8], first: u32, text: &mut [u8]) -> Listed
         characters: n as u32,
         stop: at as u32,
     }
-}
-
-// The listing for C: the byte at which it stopped × 4,294,967,296 + the characters written.
-#[no_mangle]
-pub extern "C" fn iop89_list(code: &[u8], first: u32, text: &mut [u8]) -> u64
-    ensures { λ r. ⌜ r ≡ listingOf (now (code .entry)) first (now (text .entry)) .stop * 4294967296 + listingOf (now (code .entry)) first (now (text .entry)) .characters ⌝ }
-    ensures { λ r. ⌜ now (text .exit) ≡ listingOf (now (code .entry)) first (now (text .entry)) .buffer ⌝ }
-{
-    let l = list(code, first, text);
-    l.stop as u64 * 4294967296 + l.characters as u64
 }

@@ -1,15 +1,16 @@
-// The panel's side: one call from C that runs a channel's program in two lent buffers.
+// The run of a channel's program in two lent buffers.
 use ground_rules::Made;
 use ground_rules::State;
 use run_rules::Ran;
 ghost use mathlib.Core.Path.{_≡_};
 ghost use Rattle.ground_rules.specs.Buffers.{lent};
-ghost use Rattle.ground_rules.specs.Outcomes.{outcome};
-ghost use Rattle.run_rules.specs.Run.{ran, stepsFrom, attendedRun, startedRun, callNumber, runOf, answerOf, called};
+ghost use Rattle.run_rules.specs.Run.{ran, stepsFrom, attendedRun, startedRun, callNumber, runOf};
 ghost use Rattle.attention_rules.specs.Attention.{attentionOf};
 
 // Steps of one channel in a row.
 mod bursts;
+// The run that reset and power-up begin.
+pub mod boards;
 
 // Steps until a number other than 0 or the limit, of at most 65,535; what they are given is tested once.
 fn steps(s: State, sys: &mut [u8], io: &mut [u8], lines: u32, limit: u16) -> Ran
@@ -105,20 +106,4 @@ pub fn run(sys: &mut [u8], io: &mut [u8], cp: u32, channel: u32, lines: u32, lim
         lines,
         (limit % 65536) as u16,
     )
-}
-
-// The one call for C: number × 65,536 + steps done.
-#[no_mangle]
-pub extern "C" fn iop89_run(
-    sys: &mut [u8],
-    io: &mut [u8],
-    cp: u32,
-    channel: u32,
-    lines: u32,
-    limit: u32,
-) -> u32
-    ensures { λ r. ⌜ called r (lent (sys .exit) (io .exit)) ≡ called (answerOf (runOf (lent (sys .entry) (io .entry)) cp channel lines limit)) (runOf (lent (sys .entry) (io .entry)) cp channel lines limit .memory) ⌝ }
-{
-    let r = run(sys, io, cp, channel, lines, limit);
-    r.number % 65536 * 65536 + r.steps % 65536
 }

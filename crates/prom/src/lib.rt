@@ -10,7 +10,7 @@ ghost use Rattle.ground_rules.specs.Buffers.{buffers, storeByte};
 ghost use Rattle.ground_rules.specs.Places.{allLent};
 ghost use Rattle.prom_rules.specs.Records.{hexValue, allHex, hexByte, fitsType, hexBytes, recordOf, sumOf, lineRefusal, typeOf};
 ghost use Rattle.prom_rules.specs.File.{nextLine, segmentAfter, startAfter, storesFrom, storesOf};
-ghost use Rattle.prom_rules.specs.Load.{loading, storeAll, textFile, loadOf, wordForC, packedWith};
+ghost use Rattle.prom_rules.specs.Load.{loading, storeAll, textFile, loadOf};
 ghost use Rattle.prom_rules.specs.Parts.{firstLine, digitRun, endsHere, endLength, Fielded, placesFrom, reachOf, foundFirst, judgedOf};
 
 // What a call answers: its number, the start address, and the line that decided.
@@ -354,13 +354,4 @@ pub fn load(text: &[u8], sys: &mut [u8]) -> Loaded
         start: j.start,
         line: 0,
     }
-}
-
-// The call for C: number, start address and line in one word.
-#[no_mangle]
-pub extern "C" fn iop89_load(text: &[u8], sys: &mut [u8]) -> u64
-    ensures { λ r. ⌜ packedWith r (buffers (now (sys .exit)) []) ≡ packedWith (wordForC (loadOf (now (text .entry)) (buffers (now (sys .entry)) []))) (loadOf (now (text .entry)) (buffers (now (sys .entry)) []) .memory) ⌝ }
-{
-    let r = load(text, sys);
-    r.number as u64 + r.start as u64 * 256 + r.line as u64 * 4294967296
 }

@@ -6,9 +6,9 @@ use denote.Ref.{now}
 use denote.Triple.Clauses.{AtExit}
 use mathlib.Core.Path.{_≡_}
 use Rattle.ground_rules.specs.Buffers.{buffers}
-use Rattle.panel.proofs.Determined.{call-determined}
-use Rattle.panel.proofs.iop89_run.Kinds as kinds
-use Rattle.panel.proofs.iop89_run.Reads as reads
+use Rattle.run_call.proofs.Determined.{call-determined}
+use Rattle.run_call.proofs.iop89_run.Kinds as kinds
+use Rattle.run_call.proofs.iop89_run.Reads as reads
 use Rattle.run_rules.specs.Run.{called}
 
 pub one-call : (κs : Lfts 2) (a : Dens κs kinds.ps) (r q : resT kinds.r κs .Denot) (e f : AtExit (endedOf 2 kinds.ps kinds.r) κs)

@@ -54,7 +54,7 @@ abbrev pub CallMeets : Buffers → ℕ → ℕ → ℕ → ℕ → ℕ → List 
 CallMeets m cp channel lines limit r sys io =
     called r (buffers sys io) ≡ called (answerOf (runOf m cp channel lines limit)) (runOf m cp channel lines limit .memory)
 
--- `board::board_run` and `iop89_board`: the same of a run that reset and power-up begin
+-- `panel::boards::board_run` and `iop89_board`: the same of a run that reset and power-up begin
 abbrev pub BoardMeets : Buffers → ℕ → ℕ → ℕ → Ran → List ℕ → List ℕ → Type 0
 BoardMeets m channel lines limit r sys io = ran (r .number) (r .steps) (buffers sys io) ≡ boardRunOf m channel lines limit
 

@@ -43,7 +43,7 @@ fn begin(state: &mut [u8], report: &mut [u64], known: bool) -> u32
 {
     counting::clear(report);
     let number = counting::chosen(known, 0, 16);
-    counting::chosen(service::layout::is_state(state), number, 17)
+    counting::chosen(state_bytes::layout::is_state(state), number, 17)
 }
 
 // A row that is an attention to a channel.
@@ -60,8 +60,8 @@ fn step(state: &mut [u8], lines: u32, sys: &mut [u8], io: &mut [u8], report: &mu
     requires { ⌜ StateBytes (now state) ⌝ }
     ensures { λ r. ⌜ RowRun (stepRow lines) (standing (now (state .entry)) (lent (sys .entry) (io .entry)) (now (report .entry))) (standing (now (state .exit)) (lent (sys .exit) (io .exit)) (now (report .exit))) ⌝ }
 {
-    let first = finding::find(service::layout::channel(state, false), lines, false);
-    let second = finding::find(service::layout::channel(state, true), lines, true);
+    let first = finding::find(state_bytes::layout::channel(state, false), lines, false);
+    let second = finding::find(state_bytes::layout::channel(state, true), lines, true);
     let answer = service::iop89_step(state, sys, io, lines);
     counting::step(report, first, second, answer);
 }

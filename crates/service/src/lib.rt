@@ -2,6 +2,7 @@
 // there.
 use ground_rules::Channel;
 use ground_rules::State;
+use state_bytes::layout;
 use turn_rules::Choice;
 use turn_rules::Kind;
 ghost use mathlib.Core.Bool.{true};
@@ -22,11 +23,6 @@ ghost use Rattle.state_rules.specs.Layout.{stateIn, isState, stateLength};
 ghost use Rattle.state_rules.specs.Calls as Calls;
 ghost use Rattle.service.specs.Turns.{turned};
 ghost use Rattle.state_rules.specs.Calls.{made, served, stepLeft, answerFrom, freshMade, resetMade, powerServed, attentionServed, stepServed, sweepAnswerFrom, sweepServed};
-
-// One field of a state in bytes.
-mod fields;
-// A whole state in bytes.
-pub mod layout;
 
 // The number of a step's kind.
 fn kind_number(kind: Kind) -> u32

@@ -11,8 +11,8 @@ use Rattle.ground_rules.specs.Buffers.{Buffers, buffers}
 use Rattle.ground_rules.specs.Places.{allTouchable}
 use Rattle.ground_rules.specs.Choice.{pick}
 use Rattle.instruction_rules.specs.Changes.{placesOf, changed}
-use Rattle.execute_deeds.proofs.DeedLaws.{named-written, none-written}
-use Rattle.execute_deeds.specs.declared.Effect.{Effect}
+use Rattle.execute.proofs.DeedLaws.{named-written, none-written}
+use Rattle.execute.specs.declared.Effect.{Effect}
 use Rattle.instruction_rules.specs.Execute.{executed}
 use Rattle.execute.specs.Plan.{planNumber}
 use Rattle.execute.proofs.CodeLaws.{plan-refused, plan-passed, plan-done, plan-unstored, none-counted, plan-most, plan-counted}

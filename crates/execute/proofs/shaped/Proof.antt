@@ -8,8 +8,8 @@ use native.Mathlib.Omega.{arith}
 use Rattle.instruction_rules.proofs.LengthLaws.{bounded}
 use Rattle.ground_rules.specs.Buffers.{buffers}
 use Rattle.ground_rules.specs.Values.{onward}
-use Rattle.execute_deeds.specs.Effects.{effectOf}
-use Rattle.execute_deeds.specs.declared.Effect.{Effect}
+use Rattle.execute.specs.Effects.{effectOf}
+use Rattle.execute.specs.declared.Effect.{Effect}
 use Rattle.instruction_rules.specs.Execute.{laterBytes}
 use Rattle.execute.proofs.CodeLaws.{refusal-planned, deed-planned, performed-deed, later-beyond, later-touchable}
 use Rattle.instruction_rules.proofs.CountLaws.{reads-most}

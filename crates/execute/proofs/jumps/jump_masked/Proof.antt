@@ -1,0 +1,21 @@
+-- `execute::jumps::jump_masked` meets its contract.
+-- Assumes nothing.
+use borrow.Author.Needs.{needs}
+use Rattle.ground_rules.proofs.SpanLaws.{span-length}
+use Rattle.ground_rules.specs.Outcomes.{first}
+use Rattle.ground_rules.specs.Updates.{renewed}
+use Rattle.execute.specs.Effects.{effectOf}
+use Rattle.instruction_rules.specs.Operands.{readNumber, effective, grown, jumpedIf}
+use Rattle.instruction_rules.specs.JumpForms.{jumpByteDeed, jumpMaskedDeed}
+use Rattle.execute.proofs.jumps.jump_masked.Statement.{statement}
+use Rattle.execute.proofs.jumps.jump_masked.Tie as tie
+
+returns : tie.Need-returns
+unfolding jumpMaskedDeed jumpByteDeed jumpedIf grown renewed effectOf first readNumber
+returns c = simp (span-length, c .after .ensures, c .before .led .ensures, c .before .before .grown .ensures, c .before .before .before .after-pair .ensures, c .before .before .before .before .agrees .ensures, c .before .before .before .before .before .matches .ensures, c .before .before .before .before .before .before .byte .ensures, c .before .before .before .before .before .before .before .effective .ensures)
+
+pub jump-masked-spec : {M : Type 1} → statement M
+jump-masked-spec =
+    tie.close
+    (tie.spec (λ c κs. search needs) (λ c κs. search needs) (λ c κs. search needs) (λ c κs. search needs) (λ c κs. search needs)
+    (λ c κs. search needs) (λ c κs. search needs) (λ c κs. search needs) returns)
