@@ -1,4 +1,4 @@
--- A step through one channel: what it leaves of a state, and of the state's bytes.
+-- A step through one channel: what is answered of it, and what it leaves of the state's bytes.
 -- Assumes nothing.
 use Prim.Native.Nat.{ℕ}
 use borrow.Author.Tests.{eq-eqb, ne-eqb}
@@ -9,56 +9,24 @@ use native.Mathlib.Decide.{ℕ-discrete}
 use Rattle.ground_rules.specs.Buffers.{Buffers}
 use Rattle.ground_rules.proofs.OutcomeLaws.{refused-counts}
 use Rattle.ground_rules.specs.Outcomes.{counted}
-use Rattle.ground_rules.specs.States.{channelOf, blockOf, busyIn, channelNumber}
+use Rattle.ground_rules.specs.States.{channelOf, channelNumber}
 use Rattle.ground_rules.specs.declared.Channel.{Channel}
 use Rattle.ground_rules.specs.declared.State.{State}
 use Rattle.transfer_rules.specs.Ends.{externallyEnded}
-use Rattle.transfer_rules.specs.Steps.{transferOf}
-use Rattle.transfer_rules.specs.Steps as Steps
-use Rattle.instruction_rules.specs.Execute.{Executed, executeOf}
-use Rattle.turn_rules.proofs.StepLaws.{transfer-kept, execute-kept, counts-none}
+use Rattle.turn_rules.proofs.StepLaws.{counts-none}
 use Rattle.turn_rules.specs.Choosing.{choiceOf}
-use Rattle.turn_rules.specs.Step.{Step, refusedStep, settledStep, transferStep, instructionStep, externalStep, chosenStep, entryNumber, stepOf}
+use Rattle.turn_rules.specs.Step.{Step, refusedStep, settledStep, externalStep, chosenStep, entryNumber, stepOf}
 use Rattle.turn_rules.specs.Touched.{touchedIn, touchedByStep, stepCount}
-use Rattle.turn_rules.specs.declared.Kind.{Kind}
-use Rattle.turn_rules.specs.declared.Kind.the-variants.{Instruction, Transfer, External}
+use Rattle.turn_rules.specs.declared.Kind.the-variants.{External}
 use Rattle.turn_rules.specs.declared.Choice.{Choice}
 use Rattle.turn_rules.specs.declared.Choice.the-variants.{Ends}
 use Rattle.state_rules.specs.Calls.{served, answerFrom, kindNumber, stepLeft, stepServed}
 use Rattle.state_rules.specs.Conditions.{Bytes}
 use Rattle.state_rules.specs.Layout.{bytesOf, stateIn, isState}
-use Rattle.service.specs.Turns.{turned}
-use Rattle.service.specs.declared.Turn.{Turn}
+use Rattle.step.specs.Turns.{turned}
+use Rattle.step.specs.declared.Turn.{Turn}
 use Rattle.state_rules.proofs.ForthLaws.{bytes-back}
 use Rattle.state_rules.proofs.BlockLaws.{done}
-
--- ---- what a channel's step leaves
-
--- a refused one leaves memory as it was
-kept-settled : (number : ℕ) (s : State) (m m′ : Buffers) (second : Bool) (c : Channel) (kind : Kind) → ((number ≡ 0 → ⊥) → m′ ≡ m)
-    → settledStep number s m′ second c m′ kind ≡ settledStep number s m second c m′ kind
-unfolding settledStep
-kept-settled number s m m′ second c kind kept = go (ℕ-discrete number 0)
-  where
-    go : Dec (number ≡ 0) → settledStep number s m′ second c m′ kind ≡ settledStep number s m second c m′ kind
-    go (yes z) = rw (eq-eqb number 0 z)
-    go (no ne) = rw (ne-eqb number 0 ne, kept ne)
-
-pub transfer-turned : (s : State) (m : Buffers) (second : Bool) (t : Steps.Transfer) → t ≡ transferOf (channelOf s second) m
-    → settledStep (t .number) s (t .memory) second (t .channel) (t .memory) Transfer ≡ transferStep s m second
-unfolding transferStep
-transfer-turned s m second t e =
-    let o = transferOf (channelOf s second) m in
-    ap (λ (x : Steps.Transfer). settledStep (x .number) s (x .memory) second (x .channel) (x .memory) Transfer) e
-    ∙ kept-settled (o .number) s m (o .memory) second (o .channel) Transfer (transfer-kept (channelOf s second) m)
-
-pub instruction-turned : (s : State) (m : Buffers) (second : Bool) (x : Executed) → x ≡ executeOf (channelOf s second) (busyIn (blockOf s second)) m
-    → settledStep (x .number) s (x .memory) second (x .channel) (x .memory) Instruction ≡ instructionStep s m second
-unfolding instructionStep
-instruction-turned s m second x e =
-    let o = executeOf (channelOf s second) (busyIn (blockOf s second)) m in
-    ap (λ (y : Executed). settledStep (y .number) s (y .memory) second (y .channel) (y .memory) Instruction) e
-    ∙ kept-settled (o .number) s m (o .memory) second (o .channel) Instruction (execute-kept (channelOf s second) (busyIn (blockOf s second)) m)
 
 -- ---- what is answered of it
 

@@ -3,25 +3,24 @@
 use ground_rules::Channel;
 use ground_rules::State;
 use state_bytes::layout;
+use step::Turn;
 use turn_rules::Choice;
 use turn_rules::Kind;
 ghost use mathlib.Core.Bool.{true};
 ghost use mathlib.Core.Path.{_≡_};
 ghost use lib.ListN.{length};
 ghost use Rattle.ground_rules.specs.Buffers.{Buffers, lent};
-ghost use Rattle.ground_rules.specs.Outcomes.{counted};
-ghost use Rattle.ground_rules.specs.States.{resetState, freshOf, channelOf};
+ghost use Rattle.ground_rules.specs.States.{resetState, freshOf};
 ghost use Rattle.attention_rules.specs.Attention.{attentionOf};
 ghost use Rattle.attention_rules.specs.Power.{powerUpOf};
 ghost use Rattle.transfer_rules.specs.Ends.{externallyEnded};
-ghost use Rattle.turn_rules.specs.Step.{channelStep, entryNumber, stepOf};
-ghost use Rattle.turn_rules.specs.Touched.{touchedIn};
+ghost use Rattle.turn_rules.specs.Step.{entryNumber, stepOf};
 ghost use Rattle.turn_rules.specs.declared.Kind.the-variants.{External};
 ghost use Rattle.turn_rules.specs.declared.Choice.the-variants.{Steps};
 ghost use Rattle.sweep_rules.specs.Sweep.{sweepOf};
 ghost use Rattle.state_rules.specs.Layout.{stateIn, isState, stateLength};
 ghost use Rattle.state_rules.specs.Calls as Calls;
-ghost use Rattle.service.specs.Turns.{turned};
+ghost use Rattle.step.specs.Turns.{turned};
 ghost use Rattle.state_rules.specs.Calls.{made, served, stepLeft, answerFrom, freshMade, resetMade, powerServed, attentionServed, stepServed, sweepAnswerFrom, sweepServed};
 
 // The number of a step's kind.
@@ -106,15 +105,6 @@ pub extern "C" fn iop89_attention(
     answer(a.number, 0, 0, a.count)
 }
 
-// What a channel's step comes to: its number, 0 for done, how many bytes it read and stored, the channel after it and its
-// kind. Only this channel is taken from the bytes and put back; the other's stay where they are.
-struct Turn {
-    number: u32,
-    count: u32,
-    channel: Channel,
-    kind: Kind,
-}
-
 // The refusal of what a step is given; 14 is asked of the bytes. `step::entry_number` says the same, but is not inlined,
 // since an attention asks it too, and would have the whole state go through memory.
 fn entry_number(state: &[u8], s: State, lines: u32, sys: &[u8], io: &[u8]) -> u32
@@ -149,33 +139,6 @@ fn end_turn(c: Channel) -> Turn
     }
 }
 
-// One step of a channel that has its turn.
-fn channel_turn(s: State, second: bool, c: Channel, sys: &mut [u8], io: &mut [u8]) -> Turn
-    requires { ⌜ c ≡ channelOf s second ⌝ }
-    ensures left { λ r. ⌜ turned s second r (lent (sys .exit) (io .exit)) ≡ channelStep s (lent (sys .entry) (io .entry)) second ⌝ }
-    ensures count { λ r. ⌜ r .count ≡ counted (r .number) (touchedIn (Steps second) s (lent (sys .entry) (io .entry))) ⌝ }
-{
-    if machine::psw::transferring(c.psw) {
-        let t = transfer::transfer(c, sys, io);
-        let channel = t.channel;
-        return Turn {
-            number: t.number,
-            count: t.count,
-            channel,
-            kind: Kind::Transfer,
-        };
-    }
-    let busy = words::sum20(machine::states::block(s, second), 1);
-    let e = execute::execute(c, busy, sys, io);
-    let channel = e.channel;
-    Turn {
-        number: e.number,
-        count: e.count,
-        channel,
-        kind: Kind::Instruction,
-    }
-}
-
 // The answer of a channel's step, which is put into the bytes where it is done.
 fn answered(state: &mut [u8], second: bool, t: Turn) -> u32
     requires { ⌜ (isState (now state) ≡ true) × (¬ (t .number ≡ 0) → t .count ≡ 0) ⌝ }
@@ -196,7 +159,8 @@ fn answered(state: &mut [u8], second: bool, t: Turn) -> u32
     )
 }
 
-// Does one step of the machine.
+// Does one step of the machine. Only the channel that steps is taken from the bytes and put back; the other's stay where
+// they are.
 #[no_mangle]
 pub extern "C" fn iop89_step(state: &mut [u8], sys: &mut [u8], io: &mut [u8], lines: u32) -> u32
     ensures left { λ r. ⌜ served r (now (state .exit)) (lent (sys .exit) (io .exit)) ≡ stepServed (now (state .entry)) (lent (sys .entry) (io .entry)) lines ⌝ }
@@ -214,7 +178,7 @@ pub extern "C" fn iop89_step(state: &mut [u8], sys: &mut [u8], io: &mut [u8], li
         Choice::Nobody => answer(1, 0, 0, 0),
         Choice::Ends(second) => answered(state, second, end_turn(layout::channel(state, second))),
         Choice::Steps(second) => {
-            let t = channel_turn(s, second, layout::channel(state, second), sys, io);
+            let t = step::channel_turn(s, second, layout::channel(state, second), sys, io);
             answered(state, second, t)
         }
     }

@@ -9,15 +9,22 @@ ghost use Rattle.ground_rules.specs.Buffers.{lent};
 ghost use lib.Dec.{eqb};
 ghost use Rattle.ground_rules.specs.Choice.{pick};
 ghost use Rattle.ground_rules.specs.Outcomes.{counted};
-ghost use Rattle.ground_rules.specs.States.{channelOf, blockOf, busyIn};
-ghost use Rattle.instruction_rules.specs.Execute.{touchedByInstruction};
-ghost use Rattle.transfer_rules.specs.Steps.{touchedByTransfer};
 ghost use Rattle.turn_rules.specs.declared.Choice.the-variants.{Steps};
 ghost use Rattle.turn_rules.specs.Touched.{touchedIn, stepCount};
-ghost use Rattle.turn_rules.specs.Step.{left, refusedAs, doneAs, transferStep, instructionStep, channelStep, chosenStep, entryNumber, stepOf};
+ghost use Rattle.step.specs.Turns.{taken, turnOf, turnTouched};
+ghost use Rattle.turn_rules.specs.Step.{left, refusedAs, doneAs, channelStep, chosenStep, entryNumber, stepOf};
 
 // Which channel steps.
 pub mod turns;
+
+// What a channel's step comes to: its number, 0 for done, how many bytes it read and stored, the channel after it and its
+// kind.
+pub struct Turn {
+    pub number: u32,
+    pub count: u32,
+    pub channel: Channel,
+    pub kind: Kind,
+}
 
 // A refused step: the state as it was.
 fn refused(s: State, number: u32) -> Stepped
@@ -56,38 +63,42 @@ fn settled(number: u32, s: State, second: bool, c: Channel, kind: Kind, count: u
     }
 }
 
-// One transfer step of a channel.
-fn transfer_step(s: State, second: bool, sys: &mut [u8], io: &mut [u8]) -> Stepped
-    ensures left { λ r. ⌜ left r (lent (sys .exit) (io .exit)) ≡ transferStep s (lent (sys .entry) (io .entry)) second ⌝ }
-    ensures count { λ r. ⌜ r .count ≡ counted (r .number) (touchedByTransfer (channelOf s second) (lent (sys .entry) (io .entry))) ⌝ }
+// One step of a channel that has its turn: a transfer step with XF, else an instruction. The channel comes beside the
+// state, since a caller that keeps a state in bytes takes it from there alone.
+pub fn channel_turn(s: State, second: bool, c: Channel, sys: &mut [u8], io: &mut [u8]) -> Turn
+    ensures left { λ r. ⌜ taken r (lent (sys .exit) (io .exit)) ≡ turnOf c s (lent (sys .entry) (io .entry)) second ⌝ }
+    ensures count { λ r. ⌜ r .count ≡ counted (r .number) (turnTouched c s (lent (sys .entry) (io .entry)) second) ⌝ }
 {
-    let t = transfer::transfer(machine::states::channel(s, second), sys, io);
-    let c = t.channel;
-    settled(t.number, s, second, c, Kind::Transfer, t.count)
-}
-
-// One instruction of a channel.
-fn instruction_step(s: State, second: bool, sys: &mut [u8], io: &mut [u8]) -> Stepped
-    ensures left { λ r. ⌜ left r (lent (sys .exit) (io .exit)) ≡ instructionStep s (lent (sys .entry) (io .entry)) second ⌝ }
-    ensures count { λ r. ⌜ r .count ≡ counted (r .number) (touchedByInstruction (lent (sys .entry) (io .entry)) (channelOf s second) (busyIn (blockOf s second))) ⌝ }
-{
+    if machine::psw::transferring(c.psw) {
+        let t = transfer::transfer(c, sys, io);
+        let channel = t.channel;
+        return Turn {
+            number: t.number,
+            count: t.count,
+            channel,
+            kind: Kind::Transfer,
+        };
+    }
     let busy = words::sum20(machine::states::block(s, second), 1);
-    let e = execute::execute(machine::states::channel(s, second), busy, sys, io);
-    let c = e.channel;
-    settled(e.number, s, second, c, Kind::Instruction, e.count)
+    let e = execute::execute(c, busy, sys, io);
+    let channel = e.channel;
+    Turn {
+        number: e.number,
+        count: e.count,
+        channel,
+        kind: Kind::Instruction,
+    }
 }
 
-// One step of a channel that has its turn.
+// The same with the state after it.
 fn channel_step(s: State, second: bool, sys: &mut [u8], io: &mut [u8]) -> Stepped
     ensures left { λ r. ⌜ left r (lent (sys .exit) (io .exit)) ≡ channelStep s (lent (sys .entry) (io .entry)) second ⌝ }
     ensures count { λ r. ⌜ r .count ≡ counted (r .number) (touchedIn (Steps second) s (lent (sys .entry) (io .entry))) ⌝ }
 {
-    let c = machine::states::channel(s, second);
-    if machine::psw::transferring(c.psw) {
-        transfer_step(s, second, sys, io)
-    } else {
-        instruction_step(s, second, sys, io)
-    }
+    let t = channel_turn(s, second, machine::states::channel(s, second), sys, io);
+    let c = t.channel;
+    let kind = t.kind;
+    settled(t.number, s, second, c, kind, t.count)
 }
 
 // The step of a choice.

@@ -14,8 +14,10 @@ use Rattle.turn_rules.specs.Step.{chosenStep, entryNumber}
 use Rattle.turn_rules.specs.declared.Choice.the-variants.{Nobody}
 use Rattle.state_rules.specs.Calls.{answerFrom}
 use Rattle.state_rules.specs.Layout.{stateIn}
-use Rattle.service.specs.declared.Turn.{Turn}
+use Rattle.step.specs.declared.Turn.{Turn}
 use Rattle.state_rules.proofs.CallLaws.{state-length, step-none}
+use Rattle.step.proofs.TurnLaws.{turn-steps}
+use Rattle.ground_rules.specs.Outcomes.{counted}
 use Rattle.service.proofs.TurnLaws.{entry-refused, chosen-step, end-turned, refused-served, turn-served}
 use Rattle.service.proofs.iop89_step.Statement.{statement}
 use Rattle.service.proofs.iop89_step.Tie as tie
@@ -49,9 +51,6 @@ answered-requires c κs = (sym (c .before .before .before .before .before .befor
 channel-requires-2 : tie.Need-channel-requires-2
 channel-requires-2 c κs = state-length _ (sym (c .before .before .before .before .before .before .before .before .before .before .before .before .before .is-state .ensures) ∙ not-false _ (c .before .before .before .before .before .before .before .before .before .before .before .before .if1 .left))
 
-channel-turn-requires : tie.Need-channel-turn-requires
-channel-turn-requires c κs = rw (c .before .before .channel2 .ensures, c .before .before .before .before .before .before .before .before .before .before .before .before .before .looked-at .ensures)
-
 answered-requires-2 : tie.Need-answered-requires-2
 answered-requires-2 c κs = (sym (c .before .before .before .before .before .before .before .before .before .before .before .before .before .before .before .before .before .before .before .before .before .before .is-state .ensures) ∙ not-false _ (c .before .before .before .before .before .before .before .before .before .before .before .before .before .before .before .before .before .before .before .before .before .if1 .left), λ ne. c .before .before .before .before .before .channel-turn .ensures .1 ∙ refused-counts _ _ ne)
 
@@ -84,15 +83,16 @@ returns-5 c =
     let m = buffers (now (a .sys)) (now (a .io)) in
     let s = c .before .before .before .before .before .before .before .before .before .before .before .before .before .before .before .before .before .before .before .before .before .before .looked-at in
     let t = c .before .before .before .before .before .before .before .before .channel-turn in
+    let w = turn-steps (s .result) _ (s .ensures) m _ _ (c .before .before .before .before .before .before .before .before .before .before .before .channel2 .ensures) (t .result) _ (t .ensures .0) in
     let left = c .before .before .answered2 .ensures in
     turn-served (now (a .state)) m (sym (c .before .before .before .before .before .before .before .before .before .before .before .before .before .before .before .before .before .before .before .before .before .before .before .before .before .is-state .ensures) ∙ not-false _ (c .before .before .before .before .before .before .before .before .before .before .before .before .before .before .before .before .before .before .before .before .before .before .before .before .if1 .left)) (a .lines) (s .result) (s .ensures) _ _ (t .result) _
-    (sym (c .before .before .before .before .before .before .before .before .before .before .before .before .before .before .before .before .before .before .entry-number .ensures) ∙ c .before .before .before .before .before .before .before .before .before .before .before .before .before .before .before .before .before .if2 .left) (sym (c .before .before .before .before .before .before .before .before .before .before .before .before .before .before .before .before .choose .ensures) ∙ c .before .before .before .before .before .before .before .before .before .before .before .before .before .before .second2 .given .1) (t .ensures .0) (t .ensures .1) _ _ (left .0 _) (left .1 _)
+    (sym (c .before .before .before .before .before .before .before .before .before .before .before .before .before .before .before .before .before .before .entry-number .ensures) ∙ c .before .before .before .before .before .before .before .before .before .before .before .before .before .before .before .before .before .if2 .left) (sym (c .before .before .before .before .before .before .before .before .before .before .before .before .before .before .before .before .choose .ensures) ∙ c .before .before .before .before .before .before .before .before .before .before .before .before .before .before .second2 .given .1) (w .0) (t .ensures .1 ∙ ap (counted (t .result .number)) (w .1)) _ _ (left .0 _) (left .1 _)
 
 pub iop89-step-spec : {M : Type 1} → statement M
 iop89-step-spec =
     tie.close
     (tie.spec (λ c κs. search needs) (λ c. search needs) returns looked-at-requires entry-number-requires (λ c κs. search needs) (λ c. search needs)
     (λ c. search needs) (λ c. search needs) returns-2 (λ c κs. search needs) (λ c. search needs) (λ c κs. search needs) (λ c. search needs)
-    channel-requires (λ c κs. search needs) answered-requires (λ c. search needs) channel-requires-2 channel-turn-requires answered-requires-2
+    channel-requires (λ c κs. search needs) answered-requires (λ c. search needs) channel-requires-2 (λ c κs. search needs) answered-requires-2
     (λ c. search needs) (λ c. search needs) (λ c. search needs) returns-3 (λ c. search needs) (λ c. search needs) (λ c. search needs) returns-4
     (λ c. search needs) (λ c. search needs) (λ c. search needs) returns-5)
