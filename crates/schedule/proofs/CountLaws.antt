@@ -2,99 +2,65 @@
 -- Assumes nothing.
 use Prim.Native.Nat.{ℕ, _+_, _≤_}
 use borrow.Author.Tests.{eqb-true, eqb-false, ne-eqb}
-use lib.Dec.{eqb}
-use mathlib.Core.{Bool.Bool, Bool.true, Bool.false, Bool.not, Bool._&&_, Bool._||_, Path._≡_, Path.refl, Path.sym, Path.ap, Path._∙_}
-use native.Mathlib.Omega.{arith}
-use Rattle.attention_rules.proofs.{ConditionLaws.told-channel, Numbers.gives-12}
-use Rattle.attention_rules.specs.Attention.{attentionOf}
-use Rattle.ground_rules.specs.{States.isChannel, States.channelNumber, declared.State.State}
-use Rattle.ground_rules.specs.Buffers.{Buffers}
-use Rattle.turn_rules.proofs.OutcomeLaws.{by-step}
-use Rattle.turn_rules.specs.{Step.Step, Step.stepOf, declared.Kind.Kind}
-use Rattle.turn_rules.specs.declared.Kind.the-variants.{Nothing, Instruction, Transfer, External}
-use Rattle.ground_rules.proofs.ChoiceLaws.{apart, and-false}
-use Rattle.ground_rules.specs.Choice.{pick}
+use lib.{Dec.eqb}
+use mathlib.Core.{Bool.Bool, Bool.true, Bool.false, Bool.not, Bool._&&_, Bool._||_, Logic.⊎-elim, Logic._↔_, Path._≡_, Path.refl}
+use native.{Mathlib.Omega.arith}
+use Rattle.attention_rules.{proofs.Numbers.gives-12, specs.Attention.attentionOf}
+use Rattle.ground_rules.proofs.{ConditionLaws.Says, ConditionLaws.says-eqb, ConditionLaws.says-or, ChoiceLaws.and-true, ChoiceLaws.and-false}
+use Rattle.ground_rules.specs.{States.channelNumber, declared.State.State, Buffers.Buffers}
+use Rattle.turn_rules.{proofs.OutcomeLaws.by-step, specs.Step.Step, specs.Step.stepOf}
 use Rattle.schedule.specs.Counts.{onceIf, acceptedAt, refusedAt, isAttentionTo, attendedAt, rejectedAt, isInstruction, isTransfer, isExternal, isDone, doneAt, instructionAt, transferAt, endAt}
 use Rattle.schedule.specs.{Rows.Bench, Rows.isAttention, Rows.isStep, Rows.rowNumber, declared.ScheduleRow.ScheduleRow}
 
--- a test holds or does not: once together
-once-or-not : (b : Bool) → onceIf b + onceIf (not b) ≡ 1
-once-or-not true = refl
-once-or-not false = refl
-
--- the same beside another test
+-- a test holds or does not, beside another: once together
 once-each : (a b : Bool) → onceIf (a && b) + onceIf (a && not b) ≡ onceIf a
-once-each true b = once-or-not b
-once-each false b = refl
+once-each a b = elim a [ true ↦ elim b [ true ↦ refl | false ↦ refl ] | false ↦ refl ]
 
 pub once-one : (b : Bool) → onceIf b ≤ 1
-once-one true = omega arith
-once-one false = omega arith
+once-one b = elim b [ true ↦ omega arith | false ↦ omega arith ]
+
+-- a test counts once exactly where it holds
+pub once-exactly : {a : Bool} {A : Type 0} → Says a A → (onceIf a ≡ 1) ↔ A
+once-exactly {a = true} says = (λ e. says .holds refl, λ h. refl)
+once-exactly {a = false} says = (λ e. absurd (omega arith), λ h. absurd (says .fails refl h))
 
 -- a row is accepted or refused
 pub accepted-or-refused : (p : Bench) (r : ScheduleRow) → acceptedAt p r + refusedAt p r ≡ 1
 unfolding acceptedAt refusedAt
-accepted-or-refused p r = once-or-not (eqb (rowNumber p r) 0)
+accepted-or-refused p r = once-each true (eqb (rowNumber p r) 0)
 
 -- an attention to a channel is accepted or refused, and no other row counts for its attentions
 pub attentions-of : (second : Bool) (p : Bench) (r : ScheduleRow) → attendedAt second p r + rejectedAt second p r ≡ onceIf (isAttentionTo second r)
 unfolding attendedAt rejectedAt
 attentions-of second p r = once-each (isAttentionTo second r) (eqb (attentionOf (p .state) (p .memory) (r .value) .number) 0)
 
--- an attention that is done is to channel 1 or 2
-attention-channel : (s : State) (m : Buffers) (channel : ℕ) → attentionOf s m channel .number ≡ 0 → isChannel channel ≡ true
-attention-channel s m channel e = go (isChannel channel) refl
-  where
-    go : (b : Bool) → isChannel channel ≡ b → b ≡ true
-    go true h = refl
-    go false h = absurd (eqb-false 12 0 refl (sym (gives-12 s m channel .1 (told-channel channel .fails h)) ∙ e))
-
--- so it counts for one of them
-attention-once : (channel : ℕ) (done : Bool) → (done ≡ true → isChannel channel ≡ true)
-    → onceIf done ≡ onceIf (eqb channel (channelNumber false) && done) + onceIf (eqb channel (channelNumber true) && done)
-unfolding isChannel channelNumber
-attention-once channel false named = rw (and-false (eqb channel 1), and-false (eqb channel 2))
-attention-once channel true named = go (eqb channel 1) refl (eqb channel 2) refl
-  where
-    go : (a : Bool) → eqb channel 1 ≡ a → (b : Bool) → eqb channel 2 ≡ b → 1 ≡ onceIf (a && true) + onceIf (b && true)
-    go true h true k = absurd (eqb-false 1 2 refl (sym (eqb-true channel 1 h) ∙ eqb-true channel 2 k))
-    go true h false k = refl
-    go false h true k = refl
-    go false h false k = absurd (eqb-false 1 0 refl (ap onceIf (sym (named refl) ∙ none)))
-      where
-        none : (eqb channel 1 || eqb channel 2) ≡ false
-        none = rw (h, k)
-
--- what a step of some number, channel and kind comes to for one channel: an instruction, a transfer step or an external end
-abbrev worked : Bool → ℕ → ℕ → Kind → ℕ
-worked second number channel kind =
-    let mine : Bool = eqb number 0 && eqb channel (channelNumber second) in
-    onceIf (mine && isInstruction kind) + onceIf (mine && isTransfer kind) + onceIf (mine && isExternal kind)
-
--- every kind but none is one of these
-abbrev isWork : Kind → Bool
-isWork Nothing = false
-isWork Instruction = true
-isWork Transfer = true
-isWork External = true
-
-work-once : (b : Bool) (k : Kind) → onceIf (isWork k) ≡ worked false 0 (channelNumber b) k + worked true 0 (channelNumber b) k
+-- an attention that is done counts for the one channel that it is to
+attention-once : (s : State) (m : Buffers) (channel : ℕ) → let done = eqb (attentionOf s m channel .number) 0 in
+    onceIf done ≡ onceIf (eqb channel (channelNumber false) && done) + onceIf (eqb channel (channelNumber true) && done)
 unfolding channelNumber
-work-once true Nothing = refl
-work-once true Instruction = refl
-work-once true Transfer = refl
-work-once true External = refl
-work-once false Nothing = refl
-work-once false Instruction = refl
-work-once false Transfer = refl
-work-once false External = refl
+attention-once s m channel = go (eqb channel 1) refl (eqb channel 2) refl
+  where
+    done : Bool
+    done = eqb (attentionOf s m channel .number) 0
 
--- a step that is done is one of these, of one channel
-step-once : (s : State) (m : Buffers) (lines : ℕ) → let t = stepOf s m lines in
-    onceIf (eqb (t .number) 0) ≡ worked false (t .number) (t .channel) (t .kind) + worked true (t .number) (t .channel) (t .kind)
+    go : (a : Bool) → eqb channel 1 ≡ a → (b : Bool) → eqb channel 2 ≡ b → onceIf done ≡ onceIf (a && done) + onceIf (b && done)
+    go true h true k = absurd (omega (arith, eqb-true channel 1 h, eqb-true channel 2 k))
+    go true h false k = omega arith
+    go false h true k = omega arith
+    go false h false k = rw (gives-12 s m channel .1 (eqb-false channel 1 h, eqb-false channel 2 k))
+
+-- a step is an instruction, a transfer step or an external end of a channel
+abbrev workOf : Bool → Step → ℕ
+workOf second t = onceIf (isDone isInstruction second t) + onceIf (isDone isTransfer second t) + onceIf (isDone isExternal second t)
+
+-- one that is done is, of one channel
+step-once : (s : State) (m : Buffers) (lines : ℕ) → onceIf (eqb (stepOf s m lines .number) 0) ≡ workOf false (stepOf s m lines) + workOf true (stepOf s m lines)
+unfolding channelNumber
 step-once s m lines =
-    by-step s m lines (λ (t : Step). onceIf (eqb (t .number) 0) ≡ worked false (t .number) (t .channel) (t .kind) + worked true (t .number) (t .channel) (t .kind))
-    (λ k ne. rw (ne-eqb k 0 ne)) (λ b z e. work-once b External) (λ b z e f. work-once b Transfer) (λ b z e f. work-once b Instruction)
+    let one : (b : Bool) → onceIf (eqb (channelNumber b) 1) + onceIf (eqb (channelNumber b) 2) ≡ 1 = λ b. elim b [ true ↦ refl | false ↦ refl ] in
+    by-step s m lines (λ (t : Step). onceIf (eqb (t .number) 0) ≡ workOf false t + workOf true t) (λ k ne. rw (ne-eqb k 0 ne))
+    (λ b z e. simp (and-true, and-false) (omega (arith, one b))) (λ b z e f. simp (and-true, and-false) (omega (arith, one b)))
+    (λ b z e f. simp (and-true, and-false) (omega (arith, one b)))
 
 -- an accepted row of a known kind is an attention, an instruction, a transfer step or an external end, of one channel
 pub accepted-is : (p : Bench) (r : ScheduleRow) → (isAttention r || isStep r) ≡ true
@@ -102,26 +68,7 @@ pub accepted-is : (p : Bench) (r : ScheduleRow) → (isAttention r || isStep r) 
     ≡ (attendedAt false p r + attendedAt true p r)
     + ((instructionAt false p r + transferAt false p r + endAt false p r) + (instructionAt true p r + transferAt true p r + endAt true p r))
 unfolding acceptedAt rowNumber attendedAt instructionAt transferAt endAt doneAt
-accepted-is p r h = go (isAttention r) refl (isStep r) refl h
-  where
-    t : Step
-    t = stepOf (p .state) (p .memory) (r .value)
-
-    number : ℕ
-    number = attentionOf (p .state) (p .memory) (r .value) .number
-
-    -- the same with both tests in the open
-    Is : Bool → Bool → Type 0
-    Is a b =
-        onceIf (eqb (pick a number (t .number)) 0)
-        ≡ (onceIf (a && eqb (r .value) (channelNumber false) && eqb number 0) + onceIf (a && eqb (r .value) (channelNumber true) && eqb number 0))
-        + ((onceIf (b && isDone isInstruction false t) + onceIf (b && isDone isTransfer false t) + onceIf (b && isDone isExternal false t))
-        + (onceIf (b && isDone isInstruction true t) + onceIf (b && isDone isTransfer true t) + onceIf (b && isDone isExternal true t)))
-
-    go : (a : Bool) → isAttention r ≡ a → (b : Bool) → isStep r ≡ b → (a || b) ≡ true → Is a b
-    go true d true e k = absurd (eqb-false 1 2 refl (sym (eqb-true (r .kind) 1 d) ∙ eqb-true (r .kind) 2 e))
-    go true d false e k =
-        let once = attention-once (r .value) (eqb number 0) (λ z. attention-channel (p .state) (p .memory) (r .value) (eqb-true number 0 z)) in
-        omega arith
-    go false d true e k = let once = step-once (p .state) (p .memory) (r .value) in omega arith
-    go false d false e k = apart (sym k)
+accepted-is p r h =
+    ⊎-elim (λ one. rw one (omega (arith, attention-once (p .state) (p .memory) (r .value))))
+    (λ two. rw two (omega (arith, step-once (p .state) (p .memory) (r .value))))
+    (says-or (says-eqb (r .kind) 1) (says-eqb (r .kind) 2) .holds h)

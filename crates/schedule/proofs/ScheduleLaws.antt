@@ -1,23 +1,20 @@
 -- The theorems of a schedule: accepted and refused rows add up to the rows given, one cut into two gives the same, 16 is given exactly for a row of no known kind and then nothing is run, what the accepted rows are, what is stored, and how large a count can be.
 -- Assumes nothing.
 use Prim.Native.Nat.{ℕ, _+_, _*_, _≤_}
-use borrow.Author.Tests.{eqb-false}
+use borrow.{Author.Tests.eqb-false}
 use lib.{Dec.ltb, ListN.length, ListN.getD, ListN.replicate}
-use mathlib.Core.{Bool.Bool, Bool.true, Bool.false, Bool._&&_, List.List, List.[], List._∷_, List._++_, List.map, Logic._↔_}
-use mathlib.Core.Path.{_≡_, refl, sym, ap, ap₂, _∙_}
-use native.Mathlib.Omega.{arith}
-use Rattle.ground_rules.proofs.ConditionLaws.{told-exactly}
-use Rattle.ground_rules.specs.States.{channelOf}
-use Rattle.turn_rules.specs.Choosing.{requested}
-use Rattle.ground_rules.proofs.ChoiceLaws.{apart, both-left, both-right}
-use Rattle.ground_rules.specs.Choice.{pick}
-use Rattle.schedule.specs.Conditions.{UnknownIn}
+use mathlib.Core.Bool.{Bool, true, false, _&&_, _||_}
+use mathlib.Core.{List.List, List.[], List._∷_, List._++_, List.map, Logic._↔_, Path._≡_, Path.refl, Path.sym, Path.ap₂, Path._∙_}
+use native.{Mathlib.Omega.arith}
+use Rattle.ground_rules.proofs.{ConditionLaws.told-exactly, ChoiceLaws.both-left, ChoiceLaws.both-right}
+use Rattle.ground_rules.specs.{States.channelOf, Choice.pick}
+use Rattle.turn_rules.specs.{Choosing.requested, declared.Kind.Kind}
 use Rattle.schedule.specs.Counts.{RowCount, onceIf, overRows, acceptedAt, refusedAt, isAttentionTo, attendedAt, rejectedAt, isInstruction, isTransfer, isExternal, doneAt, instructionAt, transferAt, storedAt, endAt, waitsForDrq, waitAt}
 use Rattle.schedule.specs.Reports.{channelCounts, allCounts, reportOf, bothReports, allRun, noneRun, scheduleOf}
-use Rattle.schedule.specs.{Rows.Bench, Rows.isStep, Rows.allKnown, Rows.rowsLeft, declared.ScheduleRow.ScheduleRow}
-use Rattle.schedule.proofs.RowLaws.{told-known, known-cut, left-cut, over-cut, over-known, over-sum, over-both, over-twice, over-length}
+use Rattle.schedule.specs.Rows.{Bench, isAttention, isStep, allKnown, rowLeft, rowsLeft}
+use Rattle.schedule.specs.{Conditions.UnknownIn, declared.ScheduleRow.ScheduleRow}
 use Rattle.schedule.proofs.CountLaws.{once-one, accepted-or-refused, attentions-of, accepted-is}
-use Rattle.schedule.proofs.StoreLaws.{stored-most, stored-two}
+use Rattle.schedule.proofs.{RowLaws.told-known, RowLaws.known-cut, RowLaws.left-cut, RowLaws.over-cut, StoreLaws.stored-most, StoreLaws.stored-two}
 
 -- ---- 16
 
@@ -34,11 +31,13 @@ unknown-stays p rows u = rw (told-exactly (told-known rows) .1 u)
 -- 16 is given exactly then
 pub gives-16 : (p : Bench) (rows : List ScheduleRow) → (scheduleOf p rows .number ≡ 16) ↔ UnknownIn rows
 unfolding scheduleOf
-gives-16 p rows = go (allKnown rows) refl
-  where
-    go : (b : Bool) → allKnown rows ≡ b → (pick b (allRun p rows) (noneRun p) .number ≡ 16) ↔ UnknownIn rows
-    go true h = (λ e. absurd (eqb-false 0 16 refl e), λ u. apart (sym h ∙ told-exactly (told-known rows) .1 u))
-    go false h = (λ e. told-exactly (told-known rows) .0 h, λ u. refl)
+gives-16 p rows = (
+  elim (allKnown rows) as (λ b. (b ≡ false → UnknownIn rows) → pick b (allRun p rows) (noneRun p) .number ≡ 16 → UnknownIn rows) [
+    | true ↦ λ h e. absurd (eqb-false 0 16 refl e)
+    | false ↦ λ h e. h refl
+  ] (told-exactly (told-known rows) .0),
+  λ u. rw (told-exactly (told-known rows) .1 u),
+)
 
 -- no row leaves everything and counts nothing
 pub none-given : (p : Bench) → scheduleOf p [] ≡ record { number = 0; bench = p; report = replicate 16 0 }
@@ -49,7 +48,9 @@ none-given p = refl
 
 -- accepted and refused rows add up to the rows given
 pub rows-add-up : (p : Bench) (rows : List ScheduleRow) → overRows acceptedAt p rows + overRows refusedAt p rows ≡ length rows
-rows-add-up p rows = over-sum acceptedAt refusedAt (λ q r. 1) accepted-or-refused p rows ∙ over-length p rows
+unfolding overRows
+rows-add-up p [] = refl
+rows-add-up p (r ∷ rows) = let k = rows-add-up (rowLeft p r) rows in omega (arith, accepted-or-refused p r)
 
 -- so do the first two words of the report of known kinds
 pub add-up : (p : Bench) (rows : List ScheduleRow) → allKnown rows ≡ true → getD (scheduleOf p rows .report) 0 0 + getD (scheduleOf p rows .report) 1 0 ≡ length rows
@@ -59,81 +60,55 @@ add-up p rows h = rw (known-runs p rows h) (rows-add-up p rows)
 -- a channel's attentions, accepted and refused, are the rows that are attentions to it
 pub attentions-add-up : (second : Bool) (p : Bench) (rows : List ScheduleRow)
     → overRows (attendedAt second) p rows + overRows (rejectedAt second) p rows ≡ overRows (λ q r. onceIf (isAttentionTo second r)) p rows
-attentions-add-up second p rows = over-sum (attendedAt second) (rejectedAt second) (λ q r. onceIf (isAttentionTo second r)) (attentions-of second) p rows
-
--- what a channel was accepted for but attentions
-abbrev pub workAt : Bool → RowCount
-workAt second q r = instructionAt second q r + transferAt second q r + endAt second q r
+unfolding overRows
+attentions-add-up second p [] = refl
+attentions-add-up second p (r ∷ rows) = let k = attentions-add-up second (rowLeft p r) rows in omega (arith, attentions-of second p r)
 
 -- of known kinds the accepted rows are the attentions accepted, instructions, transfer steps and external ends of both channels together
 pub accepted-are : (p : Bench) (rows : List ScheduleRow) → allKnown rows ≡ true
     → let total : (Bool → RowCount) → ℕ = λ f. overRows (f false) p rows + overRows (f true) p rows in
     overRows acceptedAt p rows ≡ total attendedAt + (total instructionAt + total transferAt + total endAt)
-accepted-are p rows h =
-    over-known acceptedAt (λ q r. both attendedAt q r + both workAt q r) accepted-is p rows h
-    ∙ over-both (both attendedAt) (both workAt) p rows
-    ∙ omega (arith, sums attendedAt, sums workAt, works false, works true)
-  where
-    both : (Bool → RowCount) → RowCount
-    both f q r = f false q r + f true q r
-
-    sums : (f : Bool → RowCount) → overRows (both f) p rows ≡ overRows (f false) p rows + overRows (f true) p rows
-    sums f = over-both (f false) (f true) p rows
-
-    works : (b : Bool) → overRows (workAt b) p rows ≡ (overRows (instructionAt b) p rows + overRows (transferAt b) p rows) + overRows (endAt b) p rows
-    works b =
-        over-both (λ q r. instructionAt b q r + transferAt b q r) (endAt b) p rows
-        ∙ ap (λ (n : ℕ). n + overRows (endAt b) p rows) (over-both (instructionAt b) (transferAt b) p rows)
+unfolding overRows allKnown
+accepted-are p [] h = refl
+accepted-are p (r ∷ rows) h =
+    let k = accepted-are (rowLeft p r) rows (both-right (isAttention r || isStep r) (allKnown rows) h) in
+    omega (arith, accepted-is p r (both-left (isAttention r || isStep r) (allKnown rows) h))
 
 -- ---- bounds
 
 -- a channel's stored bytes are at most twice its transfer steps
 pub stored-bytes : (second : Bool) (p : Bench) (rows : List ScheduleRow) → overRows (storedAt second) p rows ≤ 2 * overRows (transferAt second) p rows
-stored-bytes second p rows = over-twice (storedAt second) (transferAt second) (stored-most second) p rows
+unfolding overRows
+stored-bytes second p [] = omega arith
+stored-bytes second p (r ∷ rows) = let k = stored-bytes second (rowLeft p r) rows in omega (arith, stored-most second p r)
 
 -- a row adds at most 2 to each of some counts
 abbrev pub MostTwo : List RowCount → Type 0
 MostTwo [] = Unit {0}
 MostTwo (f ∷ fs) = ((q : Bench) (r : ScheduleRow) → f q r ≤ 2) × MostTwo fs
 
-two-append : (fs gs : List RowCount) → MostTwo fs → MostTwo gs → MostTwo (fs ++ gs)
-two-append [] gs h k = k
-two-append (f ∷ fs) gs h k = (h .0, two-append fs gs (h .1) k)
-
-channel-two : (second : Bool) → MostTwo (channelCounts second)
+-- so does it to those of a channel, and to more
+channel-two : (second : Bool) (fs : List RowCount) → MostTwo fs → MostTwo (channelCounts second ++ fs)
 unfolding instructionAt transferAt endAt waitAt
-channel-two second =
-    let most : (b : Bool) → onceIf b ≤ 2 = λ b. omega (arith, once-one b) in
-    let attentions : (q : Bench) (r : ScheduleRow) → attendedAt second q r + rejectedAt second q r ≤ 2 = λ q r. omega (arith, attentions-of second q r, once-one (isAttentionTo second r)) in (
-      λ q r. omega (arith, attentions q r),
-      (
-        λ q r. omega (arith, attentions q r),
-        (
-          λ q r. most (doneAt isInstruction second q r),
-          (
-            λ q r. most (doneAt isTransfer second q r),
-            (
-              stored-two second,
-              (
-                λ q r. most (doneAt isExternal second q r),
-                (λ q r. most (isStep r && ltb (r .value) 16 && waitsForDrq (channelOf (q .state) second) (requested (r .value) second)), tt),
-              ),
-            ),
-          ),
-        ),
-      ),
-    )
+channel-two second fs h =
+    let most : (f : Bench → ScheduleRow → Bool) (q : Bench) (r : ScheduleRow) → onceIf (f q r) ≤ 2 = λ f q r. omega (arith, once-one (f q r)) in
+    let two : (q : Bench) (r : ScheduleRow) → attendedAt second q r + rejectedAt second q r ≤ 2 =
+    λ q r. omega (arith, attentions-of second q r, once-one (isAttentionTo second r)) in
+    let wait = most (λ q r. isStep r && ltb (r .value) 16 && waitsForDrq (channelOf (q .state) second) (requested (r .value) second)) in
+    let done : (k : Kind → Bool) (q : Bench) (r : ScheduleRow) → onceIf (doneAt k second q r) ≤ 2 = λ k. most (doneAt k second) in
+    (λ q r. omega (arith, two q r), (λ q r. omega (arith, two q r), (done isInstruction, (done isTransfer, (stored-two second, (done isExternal, (wait, h)))))))
 
 -- so does it to every count
 pub counts-two : MostTwo allCounts
 counts-two =
-    (λ q r. omega (arith, accepted-or-refused q r), (λ q r. omega (arith, accepted-or-refused q r), two-append (channelCounts false) (channelCounts true) (channel-two false) (channel-two true)))
+    let both = channel-two false (channelCounts true) (channel-two true [] tt) in
+    (λ q r. omega (arith, accepted-or-refused q r), (λ q r. omega (arith, accepted-or-refused q r), both))
 
 -- so a count is at most twice the rows
 pub over-most : (f : RowCount) → ((q : Bench) (r : ScheduleRow) → f q r ≤ 2) → (p : Bench) (rows : List ScheduleRow) → overRows f p rows ≤ 2 * length rows
-over-most f h p rows =
-    let k = over-twice f (λ q r. 1) (λ q r. omega (arith, h q r)) p rows in
-    omega (arith, over-length p rows)
+unfolding overRows
+over-most f h p [] = omega arith
+over-most f h p (r ∷ rows) = let k = over-most f h (rowLeft p r) rows in omega (arith, h p r)
 
 -- ---- a schedule cut into two
 

@@ -1,20 +1,19 @@
 -- The laws of the bytes that transfer steps store: with those that they read they are the touched ones, and a step stores two at most.
 -- Assumes nothing.
 use Prim.Native.Nat.{ℕ, _+_, _*_, _≤_}
-use lib.{Dec.eqb, ListN.length, ListN.length-append}
+use borrow.{Author.Tests.eqb-true}
+use lib.ListN.{length, length-append}
 use mathlib.Core.{Bool.Bool, Bool.true, Bool.false, Bool._&&_, List._++_, Path._≡_, Path.refl, Path.sym, Path.ap, Path._∙_}
-use native.Mathlib.Omega.{arith}
-use Rattle.ground_rules.specs.{Outcomes.counted, Psw.transferring, States.channelOf, States.channelNumber, declared.Channel.Channel, declared.State.State}
-use Rattle.ground_rules.specs.Buffers.{Buffers}
-use Rattle.turn_rules.proofs.OutcomeLaws.{by-step}
-use Rattle.turn_rules.specs.{Choosing.choiceOf, Step.Step, Step.entryNumber, Step.stepOf, Touched.touchedIn, Touched.touchedByStep, Touched.stepCount}
-use Rattle.turn_rules.specs.declared.Choice.the-variants.{Steps}
+use native.{Mathlib.Omega.arith}
+use Rattle.ground_rules.specs.States.{channelOf, channelNumber, isSecond}
+use Rattle.ground_rules.specs.{Outcomes.counted, Psw.transferring, declared.Channel.Channel, declared.State.State, Buffers.Buffers, Choice.pick}
+use Rattle.ground_rules.proofs.{ChoiceLaws.apart, ChoiceLaws.both-right, ChoiceLaws.and-true, ChoiceLaws.and-false, ChannelLaws.named, ConditionLaws.says-true}
+use Rattle.turn_rules.{proofs.OutcomeLaws.by-step, specs.Choosing.choiceOf, specs.Step.Step, specs.Step.entryNumber, specs.Step.stepOf, specs.Touched.touchedIn}
+use Rattle.turn_rules.{specs.Touched.touchedByStep, specs.Touched.stepCount, specs.declared.Choice.the-variants.Steps}
 use Rattle.transfer_rules.specs.Parts.{Part, Whole, FirstFetch, SecondFetch, FirstStore, SecondStore, partOf}
-use Rattle.transfer_rules.specs.{Reads.dataOf, Reads.also, Sides.destination, Steps.touchedBy, Steps.readsBy, Steps.touchedByTransfer}
 use Rattle.transfer_rules.specs.Stores.{storesTwo, placesOn, storedPlaces}
-use Rattle.ground_rules.proofs.ChoiceLaws.{apart, both-right, and-false}
-use Rattle.ground_rules.specs.Choice.{pick}
-use Rattle.schedule.proofs.CountLaws.{once-one}
+use Rattle.transfer_rules.specs.{Reads.dataOf, Reads.also, Sides.destination, Steps.touchedBy, Steps.readsBy, Steps.touchedByTransfer}
+use Rattle.schedule.proofs.CountLaws.{once-one, once-exactly}
 use Rattle.schedule.specs.Counts.{onceIf, isTransfer, isDone, doneAt, transferAt, storesBy, storedAt}
 use Rattle.schedule.specs.{Rows.Bench, Rows.isStep, declared.ScheduleRow.ScheduleRow}
 
@@ -27,44 +26,27 @@ touched-apart (SecondFetch byte) c m = refl
 touched-apart FirstStore c m = refl
 touched-apart (SecondStore byte) c m = refl
 
--- one byte or two on a side
-places-most : (c : Channel) (two : Bool) → length (placesOn (destination c) two) ≤ 2
-unfolding placesOn also
-places-most c true = omega arith
-places-most c false = omega arith
-
 -- no part stores more than two bytes
 pub stores-most : (k : Part) (c : Channel) (m : Buffers) → length (storesBy k c m) ≤ 2
-unfolding storesBy storedPlaces
-stores-most Whole c m = places-most c (storesTwo c (dataOf c m))
-stores-most FirstFetch c m = omega arith
-stores-most (SecondFetch byte) c m = places-most c true
-stores-most FirstStore c m = omega arith
-stores-most (SecondStore byte) c m = omega arith
+unfolding storesBy storedPlaces placesOn also
+stores-most k c m =
+    let side : (two : Bool) → length (placesOn (destination c) two) ≤ 2 = λ two. elim two [ true ↦ omega arith | false ↦ omega arith ] in
+    let one : 1 ≤ 2 = omega arith in
+    elim k [ Whole ↦ side (storesTwo c (dataOf c m)) | FirstFetch ↦ omega arith | SecondFetch byte ↦ side true | FirstStore ↦ one | SecondStore byte ↦ one ]
 
 -- a row stores at most two bytes for a transfer step, and nothing else does
 pub stored-most : (second : Bool) (p : Bench) (r : ScheduleRow) → storedAt second p r ≤ 2 * transferAt second p r
 unfolding storedAt transferAt
-stored-most second p r = go (doneAt isTransfer second p r)
-  where
-    c : Channel
-    c = channelOf (p .state) second
-
-    go : (b : Bool) → pick b (length (storesBy (partOf c) c (p .memory))) 0 ≤ 2 * onceIf b
-    go true = stores-most (partOf c) c (p .memory)
-    go false = omega arith
+stored-most second p r =
+    let c = channelOf (p .state) second in
+    elim (doneAt isTransfer second p r) as (λ b. pick b (length (storesBy (partOf c) c (p .memory))) 0 ≤ 2 * onceIf b) [
+      | true ↦ stores-most (partOf c) c (p .memory)
+      | false ↦ omega arith
+    ]
 
 pub stored-two : (second : Bool) (p : Bench) (r : ScheduleRow) → storedAt second p r ≤ 2
 unfolding transferAt
-stored-two second p r = let h = stored-most second p r in omega (arith, once-one (doneAt isTransfer second p r))
-
--- two channels of one number are one
-same-channel : (a b : Bool) → eqb (channelNumber a) (channelNumber b) && true ≡ true → a ≡ b
-unfolding channelNumber
-same-channel true true h = refl
-same-channel true false h = apart (sym h)
-same-channel false true h = apart (sym h)
-same-channel false false h = refl
+stored-two second p r = omega (arith, stored-most second p r, once-one (doneAt isTransfer second p r))
 
 -- a transfer step that a channel did was its turn, and XF was set
 pub transfer-chosen : (s : State) (m : Buffers) (lines : ℕ) (second : Bool) → isDone isTransfer second (stepOf s m lines) ≡ true
@@ -72,12 +54,12 @@ pub transfer-chosen : (s : State) (m : Buffers) (lines : ℕ) (second : Bool) �
 transfer-chosen s m lines second =
     by-step s m lines
     (λ (t : Step). isDone isTransfer second t ≡ true → (t .number ≡ 0) × (choiceOf s lines ≡ Steps second) × (transferring (channelOf s second .psw) ≡ true) × (entryNumber s m lines ≡ 0))
-    (λ k ne h. none (eqb k 0 && eqb 0 (channelNumber second)) h) (λ b z e h. none (eqb (channelNumber b) (channelNumber second)) h)
-    (λ b z e f h. let q = same-channel b second h in (refl, e ∙ ap Steps q, ap (λ (x : Bool). transferring (channelOf s x .psw)) (sym q) ∙ f, z))
-    (λ b z e f h. none (eqb (channelNumber b) (channelNumber second)) h)
+    (λ k ne h. apart (sym (simp and-false at h))) (λ b z e h. apart (sym (simp and-false at h)))
+    (λ b z e f h. let q = same b (eqb-true _ _ (simp and-true at h)) in (refl, e ∙ ap Steps q, rw q at f, z))
+    (λ b z e f h. apart (sym (simp and-false at h)))
   where
-    none : {A : Type 0} (b : Bool) → b && false ≡ true → A
-    none b h = apart (sym (sym (and-false b) ∙ h))
+    same : (b : Bool) → channelNumber b ≡ channelNumber second → b ≡ second
+    same b e = sym (named b) ∙ ap isSecond e ∙ named second
 
 -- it touches what its part reads and what that stores
 pub transfer-count : (s : State) (m : Buffers) (lines : ℕ) (second : Bool) → isDone isTransfer second (stepOf s m lines) ≡ true
@@ -93,12 +75,7 @@ pub counts-agree : (second : Bool) (p : Bench) (r : ScheduleRow) → transferAt 
     → let c = channelOf (p .state) second in
     stepCount (p .state) (p .memory) (r .value) ≡ length (readsBy (partOf c) c (p .memory)) + storedAt second p r
 unfolding transferAt storedAt doneAt
-counts-agree second p r = go (doneAt isTransfer second p r) refl
-  where
-    c : Channel
-    c = channelOf (p .state) second
-
-    go : (b : Bool) → doneAt isTransfer second p r ≡ b → onceIf b ≡ 1
-        → stepCount (p .state) (p .memory) (r .value) ≡ length (readsBy (partOf c) c (p .memory)) + pick b (length (storesBy (partOf c) c (p .memory))) 0
-    go false h z = absurd (omega arith)
-    go true h z = transfer-count (p .state) (p .memory) (r .value) second (both-right (isStep r) (isDone isTransfer second (stepOf (p .state) (p .memory) (r .value))) h)
+counts-agree second p r z =
+    let t = stepOf (p .state) (p .memory) (r .value) in
+    let done = once-exactly (says-true (isStep r && isDone isTransfer second t)) .0 z in
+    rw done (transfer-count (p .state) (p .memory) (r .value) second (both-right (isStep r) (isDone isTransfer second t) done))

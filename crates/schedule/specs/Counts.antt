@@ -2,14 +2,13 @@
 use mathlib.Core.{Bool.Bool, Bool.true, Bool.false, Bool.not, Bool._&&_, Bool._||_, List.List, List.[], List._∷_}
 use Prim.Native.Nat.{ℕ, _+_}
 use lib.{Dec.eqb, Dec.ltb, ListN.length}
-use Rattle.ground_rules.specs.Choice.{pick}
-use Rattle.ground_rules.specs.{Buffers.Buffers, Places.Place}
-use Rattle.ground_rules.specs.{Psw.transferring, States.channelOf, States.channelNumber, States.isRunning, declared.Channel.Channel}
-use Rattle.attention_rules.specs.Attention.{attentionOf}
-use Rattle.transfer_rules.specs.Halves.{firstPlace, secondPlace}
+use Rattle.ground_rules.specs.States.{channelOf, channelNumber, isRunning}
+use Rattle.ground_rules.specs.{Choice.pick, Buffers.Buffers, Places.Place, Psw.transferring, declared.Channel.Channel}
+use Rattle.attention_rules.{specs.Attention.attentionOf}
 use Rattle.transfer_rules.specs.{Parts.Part, Parts.Whole, Parts.FirstFetch, Parts.SecondFetch, Parts.FirstStore, Parts.SecondStore, Parts.partOf, Reads.dataOf, Sides.destination, Stores.placesOn, Stores.storedPlaces}
-use Rattle.turn_rules.specs.{Choosing.requested, Step.Step, Step.stepOf, declared.Kind.Kind}
-use Rattle.turn_rules.specs.declared.Kind.the-variants.{Nothing, Instruction, Transfer, External}
+use Rattle.transfer_rules.specs.Halves.{firstPlace, secondPlace}
+use Rattle.turn_rules.specs.declared.Kind.{Kind, the-variants.Nothing, the-variants.Instruction, the-variants.Transfer, the-variants.External}
+use Rattle.turn_rules.specs.{Choosing.requested, Step.Step, Step.stepOf}
 use Rattle.schedule.specs.{Rows.Bench, Rows.isAttention, Rows.isStep, Rows.rowNumber, Rows.rowLeft, declared.ScheduleRow.ScheduleRow}
 
 -- what is counted of a row and the bench before it
@@ -53,22 +52,13 @@ rejectedAt second p r = onceIf (isAttentionTo second r && not (eqb (attentionOf 
 
 -- the kinds of a step, told apart
 abbrev pub isInstruction : Kind → Bool
-isInstruction Nothing = false
-isInstruction Instruction = true
-isInstruction Transfer = false
-isInstruction External = false
+isInstruction = elim [ Nothing ↦ false | Instruction ↦ true | Transfer ↦ false | External ↦ false ]
 
 abbrev pub isTransfer : Kind → Bool
-isTransfer Nothing = false
-isTransfer Instruction = false
-isTransfer Transfer = true
-isTransfer External = false
+isTransfer = elim [ Nothing ↦ false | Instruction ↦ false | Transfer ↦ true | External ↦ false ]
 
 abbrev pub isExternal : Kind → Bool
-isExternal Nothing = false
-isExternal Instruction = false
-isExternal Transfer = false
-isExternal External = true
+isExternal = elim [ Nothing ↦ false | Instruction ↦ false | Transfer ↦ false | External ↦ true ]
 
 -- a step was done, by this channel, and its kind passes
 abbrev pub isDone : (Kind → Bool) → Bool → Step → Bool
