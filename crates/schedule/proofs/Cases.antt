@@ -1,25 +1,24 @@
 -- Some schedules in numbers: who waits, what is refused and for whom, rows of an unknown kind, and what the halves of a pair store.
 -- Assumes nothing.
-use Prim.Native.Nat.{ℕ}
-use lib.ListN.{replicate}
+use Prim.{Native.Nat.ℕ}
+use lib.{ListN.replicate}
 use mathlib.Core.{Bool.true, Bool.false, List.List, List.[], List._∷_, List._++_, Path._≡_, Path.refl}
-use native.Mathlib.Omega.{arith}
-use Rattle.ground_rules.specs.{Bits.fieldOf, Bits.bitOf, Bits.withBit, Compare.matchOf}
+use native.{Mathlib.Omega.arith}
+use Rattle.ground_rules.specs.{Cc.split, Cc.sameFlag, Cc.sameFields, Outcomes.unless, Outcomes.first, Outcomes.givenNumber, Psw.withPsw, Stages.stagesNumber, Updates.withTransfer, declared.Channel.Channel, declared.Held.the-variants.NoByte, declared.Mode.the-variants.Running}
 use Rattle.ground_rules.specs.Buffers.{buffers, spaceOf, limitOf, indexOf, lentAt, touchableAt, beyondIn, byteAt, storeByte, withinLimits}
-use Rattle.ground_rules.specs.{Places.allPass, Values.pointer, Values.onward}
-use Rattle.ground_rules.specs.States.{boardWith, channelOf, withChannel, withLast, soundChannel, sound, isRunning, channelNumber, fieldsAgree, agree}
-use Rattle.ground_rules.specs.{Cc.split, Cc.sameFlag, Cc.sameFields, Outcomes.unless, Outcomes.first, Outcomes.givenNumber, Psw.withPsw, Stages.stagesNumber, Updates.withTransfer, declared.Channel.Channel, declared.Held.the-variants.NoByte, declared.Mode.the-variants.Running, declared.State.State}
+use Rattle.ground_rules.specs.States.{boardWith, channelOf, withChannel, withLast, soundChannel, sound, isRunning, fieldsAgree, agree}
+use Rattle.ground_rules.specs.{Bits.fieldOf, Bits.bitOf, Bits.withBit, Compare.matchOf, Places.allPass, Values.pointer, Values.onward}
 use Rattle.transfer_rules.specs.{Ends.meetsTmc, Ends.codeIf, Ends.larger, Ends.offsetOf, Ends.endedTP, Ends.endedPSW, Ends.endedBy, Halves.wordWith, Halves.secondStored, Parts.fetchesApart, Parts.storesApart, Parts.fetchPart, Parts.storePart, Parts.partOf}
+use Rattle.transfer_rules.specs.Stores.{movedChannel, movedMemory, firstMeets, matchMet, cutShort, storesTwo, bytesStored, bytesMoved, bytesCounted, countAfter, endCode, movedBy, putOn, placesOn, storedPlaces}
 use Rattle.transfer_rules.specs.Reads.{fetched, fetchedSecond, entryOf, delivered, dataOf, also, readPlaces}
 use Rattle.transfer_rules.specs.Sides.{source, destination, wordSide, secondAddress, gained, twoMove, storedSingly}
 use Rattle.transfer_rules.specs.Steps.{badMode, transferOf, stepBy, numberBy, stagesBy, channelBy, memoryBy, touchedBy}
-use Rattle.transfer_rules.specs.Stores.{movedChannel, movedMemory, firstMeets, matchMet, cutShort, storesTwo, bytesStored, bytesMoved, bytesCounted, countAfter, endCode, movedBy, putOn, placesOn, storedPlaces}
-use Rattle.attention_rules.proofs.Numbers.{gives-12}
+use Rattle.attention_rules.{proofs.Numbers.gives-12}
 use Rattle.turn_rules.specs.Choosing.{requested, external, endsNow, transferRank, rankOf, secondWins, ranked, choiceOf}
 use Rattle.turn_rules.specs.Step.{settledStep, transferStep, channelStep, chosenStep, entryNumber, stepOf}
-use Rattle.schedule.specs.Counts.{overRows, acceptedAt, refusedAt, attendedAt, rejectedAt, doneAt, instructionAt, transferAt, storesBy, storedAt, endAt, waitsForDrq, waitAt}
-use Rattle.schedule.specs.{Reports.reportOf, Reports.scheduleOf, Rows.Bench, Rows.bench, Rows.allKnown, Rows.rowNumber, Rows.rowLeft}
-use Rattle.schedule.specs.declared.ScheduleRow.{ScheduleRow}
+use Rattle.schedule.specs.Rows.{Bench, bench, allKnown, rowLeft}
+use Rattle.schedule.specs.{Counts.storesBy, Counts.waitsForDrq, Reports.reportOf, Reports.scheduleOf, declared.ScheduleRow.ScheduleRow}
+use Rattle.schedule.proofs.{CountLaws.countsOpen}
 
 -- a row, by its kind
 abbrev row : ℕ → ℕ → ScheduleRow
@@ -58,7 +57,7 @@ never = moving 0x9810 0x45
 
 -- a report with all that it is made of laid open, so that it computes
 unfoldable reportOpen : Bench → List ScheduleRow → List ℕ
-unfolding reportOf overRows acceptedAt refusedAt attendedAt rejectedAt doneAt instructionAt transferAt storesBy storedAt endAt waitsForDrq waitAt rowNumber rowLeft stepOf chosenStep channelStep transferStep settledStep choiceOf endsNow external requested rankOf transferRank secondWins ranked isRunning entryNumber givenNumber withinLimits sound soundChannel agree fieldsAgree sameFields sameFlag split channelOf withChannel withLast channelNumber transferOf stepBy numberBy stagesBy partOf fetchesApart storesApart fetchPart storePart channelBy memoryBy touchedBy stagesNumber first unless badMode source destination readPlaces also entryOf storedPlaces placesOn allPass touchableAt lentAt spaceOf indexOf limitOf dataOf delivered fetched fetchedSecond twoMove wordSide secondAddress bitOf fieldOf storesTwo cutShort storedSingly firstMeets meetsTmc matchMet movedMemory putOn storeByte byteAt beyondIn movedChannel endedBy endedTP endedPSW movedBy withTransfer gained onward bytesMoved bytesStored bytesCounted countAfter endCode codeIf larger offsetOf withPsw withBit matchOf wordWith secondStored
+unfolding countsOpen storesBy waitsForDrq rowLeft stepOf chosenStep channelStep transferStep settledStep choiceOf endsNow external requested rankOf transferRank secondWins ranked isRunning entryNumber givenNumber withinLimits sound soundChannel agree fieldsAgree sameFields sameFlag split channelOf withChannel withLast transferOf stepBy numberBy stagesBy partOf fetchesApart storesApart fetchPart storePart channelBy memoryBy touchedBy stagesNumber first unless badMode source destination readPlaces also entryOf storedPlaces placesOn allPass touchableAt lentAt spaceOf indexOf limitOf dataOf delivered fetched fetchedSecond twoMove wordSide secondAddress bitOf fieldOf storesTwo cutShort storedSingly firstMeets meetsTmc matchMet movedMemory putOn storeByte byteAt beyondIn movedChannel endedBy endedTP endedPSW movedBy withTransfer gained onward bytesMoved bytesStored bytesCounted countAfter endCode codeIf larger offsetOf withPsw withBit matchOf wordWith secondStored
 reportOpen p rows = reportOf p rows
 
 -- with no DRQ up nobody steps, and both channels wait
@@ -83,7 +82,7 @@ two-halves = refl
 
 -- an attention to channel 3 counts over all and for neither channel
 third-channel : (p : Bench) → reportOf p (row 1 3 ∷ []) ≡ 0 ∷ 1 ∷ replicate 14 0
-unfolding reportOf overRows acceptedAt refusedAt attendedAt rejectedAt doneAt instructionAt transferAt storedAt endAt waitAt rowNumber channelNumber
+unfolding countsOpen
 third-channel p = rw (gives-12 (p .state) (p .memory) 3 .1 (λ e. absurd (omega arith), λ e. absurd (omega arith)))
 
 -- a row of kind 3 behind one that could have run: nothing is run, and nothing counted

@@ -1,5 +1,8 @@
 -- What the loop over a schedule's rows holds after some of them: the number before the first row, and what those rows left and counted where it is 0; from the start, one row on, and at the end.
 -- Assumes nothing.
+use Prim.Native.Nat.{_-_}
+use lib.WfN.{Nat·lt-wfRel}
+use mathlib.Core.WellFounded.{WellFounded, InvImage·wf}
 use Prim.Native.Nat.{ℕ, zero, suc, _+_, _≤_, _<_}
 use borrow.Author.Tests.{ltb-true, ltb-false}
 use lib.{Dec.ltb, ListN.length, ListN.getD, ListN.take, Seq.take-suc, Seq.take-length, Seq.length-take-le}
@@ -38,10 +41,8 @@ pub record Ran (x : Standing) (rows : List ScheduleRow) (y : Standing) : Type 0 
   pub words : y .words ≡ putOver (reportOf (benchIn x) rows) (x .words)
   pub state : StateBytes (y .bytes)
 
--- what stands after i of the rows
+-- what stands after i of the rows, by the number before the first
 pub record Along (x : Standing) (rows : List ScheduleRow) (number i : ℕ) (y : Standing) : Type 0 where
-  pub first : number ≡ firstNumber x rows
-  pub back : Back x
   pub runs : number ≡ 0 → Ran x (take i rows) y
   pub stays : ¬ (number ≡ 0) → y ≡ clearedAt x
 
@@ -57,90 +58,67 @@ counted-on [] h p a b few xs = refl
 counted-on (f ∷ fs) h p a b few [] = refl
 counted-on (f ∷ fs) h p a b few (x ∷ xs) = ap₂ _∷_ (omega (arith, over-cut f p a b, over-most f (h .0) p (a ++ b))) (counted-on fs (h .1) p a b few xs)
 
-ran-next : (x : Standing) (a : List ScheduleRow) (r : ScheduleRow) (y z : Standing) → length (a ++ (r ∷ [])) ≤ mostRows → Ran x a y → RowRun r y z → Ran x (a ++ (r ∷ [])) z
-unfolding rowsLeft reportOf
-ran-next x a r y z few h t = record {
-  bench = t .bench ∙ ap (λ (p : Bench). rowLeft p r) (h .bench) ∙ sym (left-cut (benchIn x) a (r ∷ []));
-  words =
-      t .words
-      ∙ ap₂ (λ (p : Bench) (ws : List ℕ). addedOn (reportOf p (r ∷ [])) ws) (h .bench) (h .words)
-      ∙ counted-on allCounts counts-two (benchIn x) a (r ∷ []) few (x .words);
-  state = t .state;
-}
-
-taken : (rows : List ScheduleRow) (i : ℕ) → i < length rows → take i rows ++ (getD rows i noRow ∷ []) ≡ take (i + 1) rows
-taken rows i l = sym (take-suc rows i noRow l) ∙ ap (λ (k : ℕ). take k rows) (sym (add-one i))
-
-module _ (x : Standing) (rows : List ScheduleRow) (number : ℕ) where
+module _ (x : Standing) (rows : List ScheduleRow) (number : ℕ) (first : number ≡ firstNumber x rows) (back : Back x) where
   -- the number is 0 for a state and known rows alone
-  zero-is : number ≡ firstNumber x rows → number ≡ 0 → (isState (x .bytes) ≡ true) × (allKnown rows ≡ true)
-  zero-is e z = go (isState (x .bytes)) (allKnown rows) e
+  zero-is : number ≡ 0 → (isState (x .bytes) ≡ true) × (allKnown rows ≡ true)
+  zero-is z = go (isState (x .bytes)) (allKnown rows) first
     where
       go : (b k : Bool) → number ≡ pick b (pick k 0 16) 17 → (b ≡ true) × (k ≡ true)
-      go true true h = (refl, refl)
-      go true false h = absurd (omega arith)
-      go false k h = absurd (omega arith)
+      go true k = elim k [ true ↦ λ h. (refl, refl) | false ↦ λ h. absurd (omega arith) ]
+      go false k = λ h. absurd (omega arith)
 
-  pub along-start : number ≡ firstNumber x rows → Back x → Along x rows number 0 (clearedAt x)
+  pub along-start : Along x rows number 0 (clearedAt x)
   unfolding rowsLeft reportOf overRows
-  along-start e back = record {
-    first = e;
-    back = back;
-    runs = λ z. let is = zero-is e z .0 in record { bench = refl; words = refl; state = record { is = is; back = back is } };
-    stays = λ ne. refl;
-  }
+  along-start =
+      let state : number ≡ 0 → StateBytes (x .bytes) = λ z. record { is = zero-is z .0; back = back (zero-is z .0) } in
+      record { runs = λ z. record { bench = refl; words = refl; state = state z }; stays = λ ne. refl }
 
   -- one row on
+  ran-next : (i : ℕ) (y z : Standing) → i < length rows → length rows ≤ mostRows → Ran x (take i rows) y
+      → RowRun (getD rows i noRow) y z → Ran x (take (i + 1) rows) z
+  unfolding rowsLeft reportOf
+  ran-next i y z l few h t =
+      let a = take i rows in
+      let r = getD rows i noRow in
+      let on : take (i + 1) rows ≡ a ++ (r ∷ []) = ap (λ (k : ℕ). take k rows) (add-one i) ∙ take-suc rows i noRow l in
+      let short : length (a ++ (r ∷ [])) ≤ mostRows = omega (arith, ap length on, length-take-le (i + 1) rows (omega arith)) in
+      let counts = counted-on allCounts counts-two (benchIn x) a (r ∷ []) short (x .words) in
+      rw on (record {
+        bench = t .bench ∙ ap (λ (p : Bench). rowLeft p r) (h .bench) ∙ sym (left-cut (benchIn x) a (r ∷ []));
+        words = t .words ∙ ap₂ (λ (p : Bench) (ws : List ℕ). addedOn (reportOf p (r ∷ [])) ws) (h .bench) (h .words) ∙ counts;
+        state = t .state;
+      })
+
   pub along-next : (i : ℕ) (y z : Standing) → i < length rows → length rows ≤ mostRows → Along x rows number i y → Turned number (getD rows i noRow) y z → Along x rows number (i + 1) z
-  along-next i y z l few h t = record {
-    first = h .first;
-    back = h .back;
-    runs = λ e. subst (λ (a : List ScheduleRow). Ran x a z) (taken rows i l) (ran-next x (take i rows) (getD rows i noRow) y z short (h .runs e) (t .runs e));
-    stays = λ ne. t .stays ne ∙ h .stays ne;
-  }
-    where
-      short : length (take i rows ++ (getD rows i noRow ∷ [])) ≤ mostRows
-      short = rw (taken rows i l) (omega (arith, length-take-le (i + 1) rows (omega arith), few, l))
+  along-next i y z l few h t = record { runs = λ e. ran-next i y z l few (h .runs e) (t .runs e); stays = λ ne. t .stays ne ∙ h .stays ne }
 
   -- what the next row needs
   pub along-ready : (i : ℕ) (y : Standing) → i < length rows → Along x rows number i y → TurnReady number (getD rows i noRow) y
-  along-ready i y l h = record { state = λ e. h .runs e .state; known = λ e. known-at rows i noRow (zero-is (h .first) e .1) l }
+  along-ready i y l h = record { state = λ e. h .runs e .state; known = λ e. known-at rows i noRow (zero-is e .1) l }
 
-  -- ---- the end: all rows were run, or none was
-
-  run-end : (y : Standing) → Ran x rows y → isState (x .bytes) ≡ true → allKnown rows ≡ true → ScheduleMet 0 y x rows
-  unfolding scheduleServed scheduleOf
-  run-end y h is known = (
-    rw (is, known)
-        (ap (λ (b : List ℕ). scheduled 0 (standing b (y .memory) (y .words))) (sym (h .state .back))
-        ∙ ap₂ (λ (q : Bench) (ws : List ℕ). scheduled 0 (standing (bytesOf (q .state)) (q .memory) ws)) (h .bench) (h .words)),
-    λ st. (h .state .is, rw known (ap (λ (q : Bench). q .state) (h .bench))),
-  )
-
-  none-end : Back x → ¬ (firstNumber x rows ≡ 0) → ScheduleMet (firstNumber x rows) (clearedAt x) x rows
-  unfolding scheduleServed scheduleOf
-  none-end back ne = go (isState (x .bytes)) refl (allKnown rows) refl
-    where
-      go : (b : Bool) → isState (x .bytes) ≡ b → (k : Bool) → allKnown rows ≡ k → ScheduleMet (firstNumber x rows) (clearedAt x) x rows
-      go true e true k = absurd (ne (rw (e, k)))
-      go true e false k = rw (e, k) (ap (λ (b : List ℕ). scheduled 16 (standing b (x .memory) (putOver noReport (x .words)))) (sym (back e)), λ st. (st, refl))
-      go false e k′ k = rw e (refl, λ st. apart (sym st))
-
+  -- the end: all rows were run, or none was
   pub along-end : (i : ℕ) (y : Standing) → i ≡ length rows → Along x rows number i y → ScheduleMet number y x rows
-  along-end i y e h = go (ℕ-discrete number 0)
+  unfolding scheduleServed scheduleOf
+  along-end i y end h = go (isState (x .bytes)) refl (allKnown rows) refl
     where
-      go : Dec (number ≡ 0) → ScheduleMet number y x rows
-      go (yes z) =
-          let both = zero-is (h .first) z in
-          let ran = subst (λ (a : List ScheduleRow). Ran x a y) (ap (λ (k : ℕ). take k rows) e ∙ take-length rows) (h .runs z) in
-          subst (λ (n : ℕ). ScheduleMet n y x rows) (sym z) (run-end y ran (both .0) (both .1))
-      go (no ne) =
-          subst (λ (n : ℕ). ScheduleMet n y x rows) (sym (h .first))
-          (subst (λ (s : Standing). ScheduleMet (firstNumber x rows) s x rows) (sym (h .stays ne)) (none-end (h .back) (λ z. ne (h .first ∙ z))))
+      go : (b : Bool) → isState (x .bytes) ≡ b → (k : Bool) → allKnown rows ≡ k → ScheduleMet number y x rows
+      go true is true known =
+          let z : number ≡ 0 = first ∙ rw (is, known) in
+          let ran : Ran x rows y = rw (end, take-length) at (h .runs z) in
+          let bytes = ap (λ (b : List ℕ). scheduled 0 (standing b (y .memory) (y .words))) (sym (ran .state .back)) in
+          let left = ap₂ (λ (q : Bench) (ws : List ℕ). scheduled 0 (standing (bytesOf (q .state)) (q .memory) ws)) (ran .bench) (ran .words) in
+          (rw (z, is, known) (bytes ∙ left), λ st. (ran .state .is, rw known (ap (λ (q : Bench). q .state) (ran .bench))))
+      go true is false known =
+          let sixteen : number ≡ 16 = first ∙ rw (is, known) in
+          let bytes = ap (λ (b : List ℕ). scheduled 16 (standing b (x .memory) (putOver noReport (x .words)))) (sym (back is)) in
+          rw (h .stays (λ z. absurd (omega arith)), sixteen, is, known) (bytes, λ st. (st, refl))
+      go false is k known =
+          let seventeen : number ≡ 17 = first ∙ rw is in
+          rw (h .stays (λ z. absurd (omega arith)), seventeen, is) (refl, λ st. apart (sym st))
 
-lt-or-ge-at : (i n : ℕ) (b : Bool) → ltb i n ≡ b → (i < n) ⊎ (n ≤ i)
-lt-or-ge-at i n true e = inl (ltb-true i n e)
-lt-or-ge-at i n false e = inr (ltb-false i n e)
+-- turns whose number grows up to n come to an end
+pub ends-by : {A : Type 0} (n : ℕ) (i : A → ℕ) → WellFounded (λ (u v : A). n - i u < n - i v)
+ends-by n i = InvImage·wf (λ u. n - i u) (Nat·lt-wfRel .wf)
 
 pub lt-or-ge : (i n : ℕ) → (i < n) ⊎ (n ≤ i)
-lt-or-ge i n = lt-or-ge-at i n (ltb i n) refl
+lt-or-ge i n = elim (ltb i n) as (λ b. ltb i n ≡ b → (i < n) ⊎ (n ≤ i)) [ true ↦ λ e. inl (ltb-true i n e) | false ↦ λ e. inr (ltb-false i n e) ] refl

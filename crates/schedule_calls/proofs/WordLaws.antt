@@ -1,8 +1,10 @@
 -- The laws of a report's words: cleared one by one, and added to one after the other, which comes to one report added.
 -- Assumes nothing.
-use Prim.Native.Nat.{ℕ, zero, suc, _+_, _%_, _≤_, _<_, _^_}
-use lib.ListN.{length, getD, set, replicate, length-set}
-use mathlib.Core.{List.List, List.[], List._∷_, Path._≡_, Path.refl, Path.ap₂, Path.ap, Path.sym, Path._∙_, Path.subst}
+use Prim.Native.Nat.{ℕ, zero, suc, _+_, _%_, _<_, _^_}
+use borrow.{Author.Tests.ltb-true}
+use lib.{Dec.ltb, ListN.length, ListN.getD, ListN.set, ListN.replicate, ListN.length-set, Seq.set-getD}
+use Rattle.ground_rules.proofs.ChoiceLaws.{both-left, both-right}
+use mathlib.Core.{Bool.Bool, Bool.true, Bool._&&_, List.List, List.[], List._∷_, Path._≡_, Path.refl, Path.ap₂, Path.ap, Path._∙_}
 use native.Mathlib.{Numerals.add-one, Omega.arith}
 use Rattle.schedule.specs.Reports.{noReport, putOver}
 use Rattle.schedule_calls.specs.Words.{addedAt, addedAll, addedOn}
@@ -15,23 +17,14 @@ unfolding putOver
 clear-next n xs = rw (add-one n) (go n xs)
   where
     go : (k : ℕ) (ys : List ℕ) → set (putOver (replicate k 0) ys) k 0 ≡ putOver (replicate (suc k) 0) ys
-    go zero [] = refl
-    go zero (y ∷ ys) = refl
-    go (suc k) [] = refl
-    go (suc k) (y ∷ ys) = ap (λ (l : List ℕ). 0 ∷ l) (go k ys)
+    go zero ys = elim ys [ [] ↦ refl | y ∷ l ↦ refl ]
+    go (suc k) ys = elim ys [ [] ↦ refl | y ∷ l ↦ ap (λ (xs : List ℕ). 0 ∷ xs) (go k l) ]
 
 -- nothing changes how many there are
 pub over-length : (ws xs : List ℕ) → length (putOver ws xs) ≡ length xs
 unfolding putOver
 over-length [] xs = refl
-over-length (w ∷ ws) [] = refl
-over-length (w ∷ ws) (x ∷ xs) = ap suc (over-length ws xs)
-
--- no word changes past the last of them
-pub set-beyond : (xs : List ℕ) (at v : ℕ) → length xs ≤ at → set xs at v ≡ xs
-set-beyond [] at v h = refl
-set-beyond (x ∷ xs) zero v h = absurd (omega arith)
-set-beyond (x ∷ xs) (suc at) v h = ap (λ (l : List ℕ). x ∷ l) (set-beyond xs at v (omega arith))
+over-length (w ∷ ws) xs = elim xs [ [] ↦ refl | x ∷ l ↦ ap suc (over-length ws l) ]
 
 -- ---- added to
 
@@ -42,9 +35,7 @@ FitWords xs = (i : ℕ) → getD xs i 0 < 2 ^ 64
 -- nothing added at a place, or at each, leaves them
 pub none-at : (at : ℕ) (xs : List ℕ) → FitWords xs → addedAt at 0 xs ≡ xs
 unfolding addedAt
-none-at at [] h = refl
-none-at zero (x ∷ xs) h = let l = h 0 in ap (λ (n : ℕ). n ∷ xs) (omega arith)
-none-at (suc at) (x ∷ xs) h = ap (λ (l : List ℕ). x ∷ l) (none-at at xs (λ i. h (suc i)))
+none-at at xs h = ap (set xs at) (omega (arith, h at)) ∙ set-getD xs at 0
 
 none-on : (n : ℕ) (xs : List ℕ) → FitWords xs → xs ≡ addedOn (replicate n 0) xs
 unfolding addedOn
@@ -52,34 +43,35 @@ none-on zero xs h = refl
 none-on (suc n) [] h = refl
 none-on (suc n) (x ∷ xs) h = let l = h 0 in ap₂ _∷_ (omega arith) (none-on n xs (λ i. h (suc i)))
 
--- numbers added at places of a report, which have room in it
-abbrev plusAt : ℕ → ℕ → List ℕ → List ℕ
-plusAt at by ws = set ws at (getD ws at 0 + by)
-
-abbrev pub plusAll : List (ℕ × ℕ) → List ℕ → List ℕ
+-- numbers added at places of a report
+abbrev plusAll : List (ℕ × ℕ) → List ℕ → List ℕ
 plusAll [] ws = ws
-plusAll (p ∷ ps) ws = plusAll ps (plusAt (p .0) (p .1) ws)
+plusAll (p ∷ ps) ws = plusAll ps (set ws (p .0) (getD ws (p .0) 0 + p .1))
 
-abbrev pub PlacesBelow : ℕ → List (ℕ × ℕ) → Type 0
-PlacesBelow n [] = Unit {0}
-PlacesBelow n (p ∷ ps) = (p .0 < n) × PlacesBelow n ps
+-- which have room in it
+abbrev allBelow : ℕ → List (ℕ × ℕ) → Bool
+allBelow n [] = true
+allBelow n (p ∷ ps) = ltb (p .0) n && allBelow n ps
 
 -- added to words after a report they are added to the report
-one-on : (at by : ℕ) (ws xs : List ℕ) → at < length ws → addedAt at by (addedOn ws xs) ≡ addedOn (plusAt at by ws) xs
+one-on : (at by : ℕ) (ws xs : List ℕ) → at < length ws → addedAt at by (addedOn ws xs) ≡ addedOn (set ws at (getD ws at 0 + by)) xs
 unfolding addedAt addedOn
 one-on at by [] xs h = absurd (omega arith)
-one-on zero by (w ∷ ws) [] h = refl
-one-on zero by (w ∷ ws) (x ∷ xs) h = ap (λ (n : ℕ). n ∷ addedOn ws xs) (omega arith)
-one-on (suc at) by (w ∷ ws) [] h = refl
-one-on (suc at) by (w ∷ ws) (x ∷ xs) h = ap (λ (l : List ℕ). ((x + w) % 2 ^ 64) ∷ l) (one-on at by ws xs (omega arith))
+one-on zero by (w ∷ ws) xs h = elim xs [ [] ↦ refl | x ∷ l ↦ ap (λ (n : ℕ). n ∷ addedOn ws l) (omega arith) ]
+one-on (suc at) by (w ∷ ws) xs h = elim xs [ [] ↦ refl | x ∷ l ↦ ap (λ (k : List ℕ). ((x + w) % 2 ^ 64) ∷ k) (one-on at by ws l (omega arith)) ]
 
-all-on : (ps : List (ℕ × ℕ)) (ws xs : List ℕ) → PlacesBelow (length ws) ps → addedAll ps (addedOn ws xs) ≡ addedOn (plusAll ps ws) xs
+all-on : (ps : List (ℕ × ℕ)) (ws xs : List ℕ) → allBelow (length ws) ps ≡ true → addedAll ps (addedOn ws xs) ≡ addedOn (plusAll ps ws) xs
 unfolding addedAll
 all-on [] ws xs h = refl
 all-on (p ∷ ps) ws xs h =
-    ap (addedAll ps) (one-on (p .0) (p .1) ws xs (h .0))
-    ∙ all-on ps (plusAt (p .0) (p .1) ws) xs (subst (λ (n : ℕ). PlacesBelow n ps) (sym (length-set ws (p .0) (getD ws (p .0) 0 + p .1))) (h .1))
+    let first = ltb-true (p .0) (length ws) (both-left (ltb (p .0) (length ws)) (allBelow (length ws) ps) h) in
+    let rest = both-right (ltb (p .0) (length ws)) (allBelow (length ws) ps) h in
+    ap (addedAll ps) (one-on (p .0) (p .1) ws xs first) ∙ all-on ps (set ws (p .0) (getD ws (p .0) 0 + p .1)) xs (rw length-set rest)
 
--- so numbers added one after the other are one report added
-pub adds-are : (ps : List (ℕ × ℕ)) (ws xs : List ℕ) → FitWords xs → PlacesBelow 16 ps → plusAll ps noReport ≡ ws → addedAll ps xs ≡ addedOn ws xs
-adds-are ps ws xs small h e = ap (addedAll ps) (none-on 16 xs small) ∙ all-on ps noReport xs h ∙ ap (λ (l : List ℕ). addedOn l xs) e
+-- numbers that come to a report, at places of it
+abbrev pub CountedAs : List ℕ → List (ℕ × ℕ) → Type 0
+CountedAs ws ps = (allBelow 16 ps ≡ true) × (plusAll ps noReport ≡ ws)
+
+-- added one after the other they are that report added
+pub adds-are : (ps : List (ℕ × ℕ)) (ws xs : List ℕ) → FitWords xs → CountedAs ws ps → addedAll ps xs ≡ addedOn ws xs
+adds-are ps ws xs small h = ap (addedAll ps) (none-on 16 xs small) ∙ all-on ps noReport xs (h .0) ∙ ap (λ (l : List ℕ). addedOn l xs) (h .1)

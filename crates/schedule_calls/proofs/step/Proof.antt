@@ -1,12 +1,9 @@
 -- `schedule_calls::step` meets its contract.
 -- Assumes nothing.
-use borrow.Author.Needs.{needs}
-use denote.Ref.{now}
-use mathlib.Core.Path.{_≡_}
-use native.Mathlib.Omega.{arith}
-use Rattle.ground_rules.specs.Buffers.{buffers}
-use Rattle.state_rules.proofs.CallLaws.{state-length}
-use Rattle.schedule_calls.proofs.{TurnLaws.all-bytes, TurnLaws.step-row, TurnLaws.found-of, step.Statement.statement}
+use borrow.{Author.Needs.needs}
+use native.{Mathlib.Omega.arith}
+use Rattle.state_rules.{proofs.CallLaws.state-length}
+use Rattle.schedule_calls.proofs.{TurnLaws.all-bytes, TurnLaws.step-row, step.Statement.statement}
 use Rattle.schedule_calls.proofs.step.Tie as tie
 
 channel-requires : tie.Need-channel-requires
@@ -24,8 +21,8 @@ returns c =
     step-row _ _ _ _ _ _ _ _ _ _ is (λ i. omega (arith, f .before .before .before .slice-known .given i))
     (all-bytes _ _ (λ i. omega (arith, f .before .before .slice-known2 .given i)) (λ i. omega (arith, f .before .slice-known3 .given i))) (λ i. omega (arith, f .slice-known4 .given i))
     (d .iop89-step .ensures .0) (d .iop89-step .ensures .1 is)
-    (found-of _ _ (e .before .before .before .before .channel .ensures) (e .before .before .before .find .ensures .0) (e .before .before .before .find .ensures .1))
-    (found-of _ _ (e .before .channel2 .ensures) (e .find2 .ensures .0) (e .find2 .ensures .1)) (c .before .before .step .ensures)
+    (rw (e .before .before .before .before .channel .ensures) at (e .before .before .before .find .ensures))
+    (rw (e .before .channel2 .ensures) at (e .find2 .ensures)) (c .before .before .step .ensures)
 
 pub step-spec : {M : Type 1} → statement M
 step-spec =

@@ -1,9 +1,9 @@
 -- `schedule_calls::turn` meets its contract.
 -- Assumes nothing.
-use borrow.Author.Needs.{needs}
-use mathlib.Core.Path.{refl}
-use Rattle.schedule_calls.specs.Turns.{attentionRow, stepRow}
-use Rattle.schedule_calls.proofs.{TurnLaws.row-attends, TurnLaws.row-steps, TurnLaws.run-as, turn.Statement.statement}
+use borrow.{Author.Needs.needs}
+use mathlib.Core.{Logic.⊎-elim, Path.refl}
+use Rattle.ground_rules.proofs.ConditionLaws.{says-eqb, says-or}
+use Rattle.schedule_calls.proofs.{TurnLaws.run-as, turn.Statement.statement}
 use Rattle.schedule_calls.proofs.turn.Tie as tie
 
 returns : tie.Need-returns
@@ -23,23 +23,18 @@ returns-2 : tie.Need-returns-2
 returns-2 c =
     let d = c .before .before .before .before .before .before .before .before in
     let e = d .before .before .before .before .before in
-    let a = e .before .before .before .before .before .before .before .args in
-    record {
-      runs = λ z. run-as (attentionRow (a .row .value)) (a .row) (row-attends (a .row) (e .if2 .taken)) (d .attend .ensures);
-      stays = λ ne. absurd (ne (e .before .before .if1 .left));
-    }
+    let row = e .before .before .before .before .before .before .before .args .row in
+    record { runs = λ z. run-as row 1 (e .if2 .taken) (d .attend .ensures); stays = λ ne. absurd (ne (e .before .before .if1 .left)) }
 
 returns-3 : tie.Need-returns-3
 returns-3 c =
     let d = c .before .before .before .before .before .before .before .before in
     let e = d .before .before .before .before .before in
-    let a = e .before .before .before .before .before .before .before .args in
+    let f = e .before .before .before .before .before .before .before in
     let zero = e .before .before .if1 .left in
-    let known = e .before .before .before .before .before .before .before .pre .known zero in
-    record {
-      runs = λ z. run-as (stepRow (a .row .value)) (a .row) (row-steps (a .row) known (e .if2 .left)) (d .step .ensures);
-      stays = λ ne. absurd (ne zero);
-    }
+    let row = f .args .row in
+    let two = ⊎-elim (λ one. absurd (e .if2 .left one)) (λ two. two) (says-or (says-eqb (row .kind) 1) (says-eqb (row .kind) 2) .holds (f .pre .known zero)) in
+    record { runs = λ z. run-as row 2 two (d .step .ensures); stays = λ ne. absurd (ne zero) }
 
 pub turn-spec : {M : Type 1} → statement M
 turn-spec =

@@ -1,11 +1,11 @@
 -- `schedule_calls::counting::add` meets its contract.
 -- Assumes nothing.
 use borrow.Author.{Needs.needs, Tests.not-true, Tests.not-false}
-use denote.Ref.{now}
-use mathlib.Core.Path.{sym}
-use native.Mathlib.Omega.{arith}
-use Rattle.schedule_calls.specs.Words.{addedAt}
-use Rattle.schedule_calls.proofs.{WordLaws.none-at, WordLaws.set-beyond, counting.add.Statement.statement}
+use lib.{Seq.set-out}
+use mathlib.{Core.Path.sym}
+use native.{Mathlib.Omega.arith}
+use Rattle.schedule_calls.specs.{Words.addedAt}
+use Rattle.schedule_calls.proofs.{WordLaws.none-at, counting.add.Statement.statement}
 use Rattle.schedule_calls.proofs.counting.add.Tie as tie
 
 returns : tie.Need-returns
@@ -17,7 +17,7 @@ returns-2 c = rw (not-false (c .before .before .before .before .before .args .te
 
 returns-3 : tie.Need-returns-3
 unfolding addedAt
-returns-3 c = rw (not-false (c .before .before .before .args .test) (c .before .if1 .left)) (sym (set-beyond _ _ _ (c .if2 .left)))
+returns-3 c = rw (not-false (c .before .before .before .args .test) (c .before .if1 .left)) (sym (set-out _ _ _ (c .if2 .left)))
 
 pub add-spec : {M : Type 1} → statement M
 add-spec =

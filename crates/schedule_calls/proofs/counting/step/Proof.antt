@@ -1,8 +1,8 @@
 -- `schedule_calls::counting::step` meets its contract.
 -- Assumes nothing.
 use borrow.Author.{Needs.needs, Tests.eq-eqb, Tests.ne-eqb}
-use Rattle.schedule_calls.specs.Words.{addedAll}
-use Rattle.schedule_calls.proofs.counting.step.Statement.{statement}
+use Rattle.schedule_calls.specs.{Words.addedAll}
+use Rattle.schedule_calls.proofs.{counting.step.Statement.statement}
 use Rattle.schedule_calls.proofs.counting.step.Tie as tie
 
 returns : tie.Need-returns

@@ -1,12 +1,12 @@
 -- `schedule_calls::finding::find` meets its contract.
 -- Assumes nothing.
 use borrow.Author.{Needs.needs, Tests.not-true, Tests.not-false}
-use lib.Dec.{eqb}
+use lib.{Dec.eqb}
 use mathlib.Core.{Bool._||_, Bool.and-assoc, Path.sym, Path._∙_}
 use Rattle.ground_rules.proofs.ChoiceLaws.{apart, and-true, and-false}
-use Rattle.turn_rules.specs.Choosing.{requested}
-use Rattle.schedule.specs.Counts.{waitsForDrq}
-use Rattle.schedule_calls.proofs.finding.find.Statement.{statement}
+use Rattle.turn_rules.{specs.Choosing.requested}
+use Rattle.schedule.{specs.Counts.waitsForDrq}
+use Rattle.schedule_calls.proofs.{finding.find.Statement.statement}
 use Rattle.schedule_calls.proofs.finding.find.Tie as tie
 
 returns : tie.Need-returns
