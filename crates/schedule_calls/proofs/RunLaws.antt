@@ -1,23 +1,18 @@
 -- What the loop over a schedule's rows holds after some of them: the number before the first row, and what those rows left and counted where it is 0; from the start, one row on, and at the end.
 -- Assumes nothing.
-use Prim.Native.Nat.{_-_}
-use lib.WfN.{Nat·lt-wfRel}
-use mathlib.Core.WellFounded.{WellFounded, InvImage·wf}
-use Prim.Native.Nat.{ℕ, zero, suc, _+_, _≤_, _<_}
+use Prim.Native.Nat.{_-_, ℕ, _+_, _≤_, _<_}
+use lib.{WfN.Nat·lt-wfRel, Dec.ltb, ListN.length, ListN.getD, ListN.take, Seq.take-suc, Seq.take-length, Seq.length-take-le}
+use mathlib.Core.{WellFounded.WellFounded, WellFounded.InvImage·wf, Bool.Bool, Bool.true, Bool.false, List.List, List.[], List._∷_, List._++_, List.map}
+use mathlib.Core.{Logic._⊎_, Logic.inl, Logic.inr, Path._≡_, Path.refl, Path.sym, Path.ap, Path.ap₂, Path._∙_}
 use borrow.Author.Tests.{ltb-true, ltb-false}
-use lib.{Dec.ltb, ListN.length, ListN.getD, ListN.take, Seq.take-suc, Seq.take-length, Seq.length-take-le}
-use mathlib.Core.{Bool.Bool, Bool.true, Bool.false, List.List, List.[], List._∷_, List._++_, List.map, Logic._⊎_, Logic.inl, Logic.inr}
-use mathlib.Core.Path.{_≡_, refl, sym, ap, ap₂, _∙_, subst}
-use native.Mathlib.{Decide.ℕ-discrete, Numerals.add-one, Omega.arith}
+use native.Mathlib.{Numerals.add-one, Omega.arith}
 use Rattle.ground_rules.{proofs.ChoiceLaws.apart, specs.Choice.pick}
 use Rattle.state_rules.specs.Layout.{bytesOf, stateIn, isState}
 use Rattle.schedule.proofs.{RowLaws.known-at, RowLaws.left-cut, ScheduleLaws.MostTwo, ScheduleLaws.counts-two, ScheduleLaws.over-most, RowLaws.over-cut}
-use Rattle.schedule.specs.{Rows.Bench, Rows.allKnown, Rows.rowLeft, Rows.rowsLeft, declared.ScheduleRow.ScheduleRow}
-use Rattle.schedule.specs.Counts.{RowCount, overRows}
 use Rattle.schedule.specs.Reports.{allCounts, noReport, reportOf, scheduleOf, putOver}
-use Rattle.schedule_calls.specs.Calls.{scheduled, scheduleServed, ScheduleMet}
+use Rattle.schedule.specs.{Rows.Bench, Rows.allKnown, Rows.rowLeft, Rows.rowsLeft, declared.ScheduleRow.ScheduleRow, Counts.RowCount, Counts.overRows}
 use Rattle.schedule_calls.specs.Turns.{Standing, standing, benchIn, StateBytes, RowRun, Turned, TurnReady}
-use Rattle.schedule_calls.specs.Words.{addedOn}
+use Rattle.schedule_calls.specs.{Calls.scheduled, Calls.scheduleServed, Calls.ScheduleMet, Words.addedOn}
 
 -- in place of a row past the last
 abbrev pub noRow : ScheduleRow

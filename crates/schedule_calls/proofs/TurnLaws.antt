@@ -1,8 +1,8 @@
 -- The laws of a row: what a call of the service comes to as a row, and what is counted of it.
 -- Assumes nothing.
-use Rattle.schedule.specs.Counts.{onceIf, overRows, acceptedAt, refusedAt, attendedAt, rejectedAt, isInstruction, isTransfer, isExternal, isDone, doneAt, instructionAt, transferAt, storesBy, storedAt, endAt, waitsForDrq, waitAt}
+use Rattle.schedule.specs.Counts.{onceIf, isInstruction, isTransfer, isExternal, isDone, storesBy, waitsForDrq}
+use Rattle.schedule.specs.{Reports.reportOf, Rows.Bench, Rows.bench, Rows.rowLeft, declared.ScheduleRow.ScheduleRow}
 use Rattle.schedule.proofs.{CountLaws.countsOpen, StoreLaws.transfer-chosen, StoreLaws.transfer-count, StoreLaws.stores-most}
-use Rattle.schedule.specs.{Reports.reportOf, Rows.Bench, Rows.bench, Rows.rowNumber, Rows.rowLeft, declared.ScheduleRow.ScheduleRow}
 use Prim.Native.Nat.{ℕ, zero, suc, _+_, _-_, _/_, _%_, _<_}
 use borrow.{Author.Tests.ne-eqb}
 use lib.{Dec.eqb, Dec.ltb, Dec.lit<, ListN.length, ListN.getD, ListN.replicate}

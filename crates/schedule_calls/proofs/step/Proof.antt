@@ -6,15 +6,13 @@ use Rattle.state_rules.{proofs.CallLaws.state-length}
 use Rattle.schedule_calls.proofs.{TurnLaws.all-bytes, TurnLaws.step-row, step.Statement.statement}
 use Rattle.schedule_calls.proofs.step.Tie as tie
 
-channel-requires : tie.Need-channel-requires
-channel-requires c κs = state-length _ (c .before .before .before .before .before .pre .is)
-
-channel-requires-2 : tie.Need-channel-requires-2
-channel-requires-2 c κs = state-length _ (c .before .before .before .before .before .before .before .before .pre .is)
-
-returns : tie.Need-returns
-returns c =
-    let d = c .before .before .before .before .before .before .before .before .before .before in
+pub step-spec : {M : Type 1} → statement M
+step-spec =
+    tie.close
+    (tie.spec (λ c κs. state-length _ (c .before .before .before .before .before .pre .is)) (λ c κs. search needs)
+    (λ c κs. state-length _ (c .before .before .before .before .before .before .before .before .pre .is))
+    (λ c κs. search needs) (λ c κs. search needs) (λ c κs. search needs) (λ c. search needs) (λ c. search needs) (λ c. search needs) (λ c. search needs)
+    (λ c. let d = c .before .before .before .before .before .before .before .before .before .before in
     let e = d .before .before .before .before in
     let f = e .before .before .before .before .before .before in
     let is = f .before .before .before .before .pre .is in
@@ -22,10 +20,4 @@ returns c =
     (all-bytes _ _ (λ i. omega (arith, f .before .before .slice-known2 .given i)) (λ i. omega (arith, f .before .slice-known3 .given i))) (λ i. omega (arith, f .slice-known4 .given i))
     (d .iop89-step .ensures .0) (d .iop89-step .ensures .1 is)
     (rw (e .before .before .before .before .channel .ensures) at (e .before .before .before .find .ensures))
-    (rw (e .before .channel2 .ensures) at (e .find2 .ensures)) (c .before .before .step .ensures)
-
-pub step-spec : {M : Type 1} → statement M
-step-spec =
-    tie.close
-    (tie.spec channel-requires (λ c κs. search needs) channel-requires-2 (λ c κs. search needs) (λ c κs. search needs) (λ c κs. search needs)
-    (λ c. search needs) (λ c. search needs) (λ c. search needs) (λ c. search needs) returns)
+    (rw (e .before .channel2 .ensures) at (e .find2 .ensures)) (c .before .before .step .ensures)))

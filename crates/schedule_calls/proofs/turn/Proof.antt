@@ -6,19 +6,6 @@ use Rattle.ground_rules.proofs.ConditionLaws.{says-eqb, says-or}
 use Rattle.schedule_calls.proofs.{TurnLaws.run-as, turn.Statement.statement}
 use Rattle.schedule_calls.proofs.turn.Tie as tie
 
-returns : tie.Need-returns
-returns c = record { runs = λ z. absurd (c .if1 .taken z); stays = λ ne. refl }
-
-attend-requires : tie.Need-attend-requires
-attend-requires c κs =
-    let d = c .before .before .before .before .before .before in
-    d .before .before .before .before .before .pre .state (d .if1 .left)
-
-step-requires : tie.Need-step-requires
-step-requires c κs =
-    let d = c .before .before .before .before .before .before in
-    d .before .before .before .before .before .pre .state (d .if1 .left)
-
 returns-2 : tie.Need-returns-2
 returns-2 c =
     let d = c .before .before .before .before .before .before .before .before in
@@ -39,5 +26,8 @@ returns-3 c =
 pub turn-spec : {M : Type 1} → statement M
 turn-spec =
     tie.close
-    (tie.spec returns attend-requires step-requires (λ c. search needs) (λ c. search needs) (λ c. search needs) (λ c. search needs) returns-2
+    (tie.spec (λ c. record { runs = λ z. absurd (c .if1 .taken z); stays = λ ne. refl })
+    (λ c κs. let d = c .before .before .before .before .before .before in d .before .before .before .before .before .pre .state (d .if1 .left))
+    (λ c κs. let d = c .before .before .before .before .before .before in d .before .before .before .before .before .pre .state (d .if1 .left))
+    (λ c. search needs) (λ c. search needs) (λ c. search needs) (λ c. search needs) returns-2
     (λ c. search needs) (λ c. search needs) (λ c. search needs) (λ c. search needs) returns-3)

@@ -16,17 +16,10 @@ Inv-loop report₀ i₀ report i = (i ≤ 16) × (report ≡ putOver (replicate 
 abbrev μ-loop : tie.MeasureT-loop
 μ-loop report₀ i₀ report i = 16 - i
 
-loop-holds : tie.Need-loop-holds Inv-loop μ-loop
-unfolding putOver
-loop-holds c = (omega arith, refl)
-
 loop-again : tie.Need-loop-again Inv-loop μ-loop
 loop-again c =
     let l = c .before .before .before .before .before .loop in
     (omega arith, c .before .before .clear-word .ensures ∙ ap (λ (xs : List ℕ). set xs (l .i) 0) (l .inv .1) ∙ clear-next (l .i) _)
-
-same-length : tie.Need-same-length Inv-loop μ-loop
-same-length c = let l = c .before .loop in ap length (l .inv .1) ∙ over-length (replicate (l .i) 0) _
 
 returns : tie.Need-returns Inv-loop μ-loop
 returns c =
@@ -35,4 +28,8 @@ returns c =
     l .inv .1 ∙ ap (λ (n : ℕ). putOver (replicate n 0) (now (c .before .before .before .args .report))) end
 
 pub clear-spec : {M : Type 1} → statement M
-clear-spec = tie.close (tie.spec Inv-loop μ-loop loop-holds (λ c κs. search needs) (λ c. omega arith) (λ c. omega arith) loop-again same-length returns)
+unfolding putOver
+clear-spec =
+    tie.close
+    (tie.spec Inv-loop μ-loop (λ c. (omega arith, refl)) (λ c κs. search needs) (λ c. omega arith) (λ c. omega arith) loop-again
+    (λ c. let l = c .before .loop in ap length (l .inv .1) ∙ over-length (replicate (l .i) 0) _) returns)

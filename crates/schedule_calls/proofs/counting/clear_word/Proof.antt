@@ -6,8 +6,5 @@ use mathlib.{Core.Path.sym}
 use Rattle.schedule_calls.proofs.{counting.clear_word.Statement.statement}
 use Rattle.schedule_calls.proofs.counting.clear_word.Tie as tie
 
-returns-2 : tie.Need-returns-2
-returns-2 c = sym (set-out _ _ 0 (c .if1 .left))
-
 pub clear-word-spec : {M : Type 1} → statement M
-clear-word-spec = tie.close (tie.spec (λ c. search needs) (λ c. search needs) (λ c. search needs) (λ c. search needs) returns-2)
+clear-word-spec = tie.close (tie.spec (λ c. search needs) (λ c. search needs) (λ c. search needs) (λ c. search needs) (λ c. sym (set-out _ _ 0 (c .if1 .left))))

@@ -9,26 +9,21 @@ use Rattle.schedule.{specs.Counts.waitsForDrq}
 use Rattle.schedule_calls.proofs.{finding.find.Statement.statement}
 use Rattle.schedule_calls.proofs.finding.find.Tie as tie
 
-returns : tie.Need-returns
-unfolding waitsForDrq
-returns c =
-    let off = sym (c .before .transferring .ensures) ∙ not-true _ (c .if1 .taken) in
-    (rw off (simp and-false), λ on. apart (sym on ∙ off))
-
-returns-2 : tie.Need-returns-2
-unfolding waitsForDrq
-returns-2 c =
-    let x = c .before .before .before .before .before .before .before .args .c .fields .synchronised in
-    (rw (not-true (eqb x 1 || eqb x 2) (c .if2 .taken)) (simp and-false), λ on. c .before .before .before .before .bytes-read .ensures)
-
-returns-3 : tie.Need-returns-3
+pub find-spec : {M : Type 1} → statement M
 unfolding waitsForDrq requested
-returns-3 c =
-    let d = c .before .before .before .before .before .before .before in
+find-spec =
+    tie.close
+    (tie.spec (λ c κs. search needs)
+    (λ c. let off = sym (c .before .transferring .ensures) ∙ not-true _ (c .if1 .taken) in
+    (rw off (simp and-false), λ on. apart (sym on ∙ off)))
+    (λ c κs. search needs)
+    (λ c. let x = c .before .before .before .before .before .before .before .args .c .fields .synchronised in
+    (rw (not-true (eqb x 1 || eqb x 2) (c .if2 .taken)) (simp and-false), λ on. c .before .before .before .before .bytes-read .ensures))
+    (λ c κs. search needs) (λ c κs. search needs) (λ c κs. search needs)
+    (λ c. let d = c .before .before .before .before .before .before .before in
     let x = d .before .before .before .args .c .fields .synchronised in
     let on = sym (d .before .before .transferring .ensures) ∙ not-false _ (d .before .if1 .left) in
-    let sync = not-false (eqb x 1 || eqb x 2) (c .before .before .before .if2 .left) in
-    (rw (on, sync, c .is-running .ensures, c .before .bit .ensures, c .before .before .chosen .ensures) (simp (and-true, and-assoc)), λ x. d .bytes-read .ensures)
-
-pub find-spec : {M : Type 1} → statement M
-find-spec = tie.close (tie.spec (λ c κs. search needs) returns (λ c κs. search needs) returns-2 (λ c κs. search needs) (λ c κs. search needs) (λ c κs. search needs) returns-3)
+    let sync = not-false (eqb x 1 || eqb x 2) (c .before .before .before .if2 .left) in (
+      rw (on, sync, c .is-running .ensures, c .before .bit .ensures, c .before .before .chosen .ensures) (simp (and-true, and-assoc)),
+      λ x. d .bytes-read .ensures,
+    )))
