@@ -6,8 +6,8 @@ use Rattle.schedule.specs.Rows.{Bench, isAttention, isStep, rowNumber}
 use Rattle.schedule.specs.{Reports.reportOf, Counts.overRows, Counts.storedAt, Counts.waitAt, declared.ScheduleRow.ScheduleRow}
 use Prim.Native.Nat.{ℕ, _+_, _≤_}
 use borrow.Author.Tests.{eqb-true, eqb-false, ne-eqb}
-use lib.{Dec.eqb}
-use native.{Mathlib.Omega.arith}
+use lib.Dec.{eqb}
+use native.Mathlib.Omega.{arith}
 use Rattle.attention_rules.{proofs.Numbers.gives-12, specs.Attention.attentionOf}
 use Rattle.ground_rules.proofs.{ConditionLaws.Says, ConditionLaws.says-eqb, ConditionLaws.says-or, ChoiceLaws.and-true, ChoiceLaws.and-false}
 use Rattle.ground_rules.specs.{States.channelNumber, declared.State.State, Buffers.Buffers}
@@ -70,8 +70,7 @@ step-once s m lines =
 
 -- an accepted row of a known kind is an attention, an instruction, a transfer step or an external end, of one channel
 pub accepted-is : (p : Bench) (r : ScheduleRow) → (isAttention r || isStep r) ≡ true
-    → acceptedAt p r
-    ≡ (attendedAt false p r + attendedAt true p r)
+    → acceptedAt p r ≡ (attendedAt false p r + attendedAt true p r)
     + ((instructionAt false p r + transferAt false p r + endAt false p r) + (instructionAt true p r + transferAt true p r + endAt true p r))
 unfolding acceptedAt rowNumber attendedAt instructionAt transferAt endAt doneAt
 accepted-is p r h =

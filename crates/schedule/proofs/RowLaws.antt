@@ -4,9 +4,9 @@ use Prim.Native.Nat.{ℕ, _+_, zero, suc, _<_}
 use lib.ListN.{length, getD}
 use mathlib.Core.Bool.{true, _||_, Bool, false, _&&_, and-assoc}
 use mathlib.Core.{List.List, List.[], List._∷_, List._++_, Path._≡_, Path.refl, Path.sym, Path.ap, Path._∙_}
-use native.{Mathlib.Omega.arith}
-use Rattle.ground_rules.{proofs.ChoiceLaws.both-left, proofs.ChoiceLaws.both-right, proofs.ConditionLaws.Told, proofs.ConditionLaws.told-true}
-use Rattle.ground_rules.{proofs.ConditionLaws.told-eqb, proofs.ConditionLaws.told-and, proofs.ConditionLaws.told-or, specs.Outcomes.Outcome, specs.Choice.pick}
+use native.Mathlib.Omega.{arith}
+use Rattle.ground_rules.proofs.{ChoiceLaws.both-left, ChoiceLaws.both-right, ConditionLaws.Told, ConditionLaws.told-true, ConditionLaws.told-eqb}
+use Rattle.ground_rules.{proofs.ConditionLaws.told-and, proofs.ConditionLaws.told-or, specs.Outcomes.Outcome, specs.Choice.pick}
 use Rattle.schedule.specs.Rows.{Bench, isAttention, isStep, allKnown, rowLeft, rowsLeft, bench, rowNumber}
 use Rattle.schedule.specs.{Counts.RowCount, Counts.overRows, declared.ScheduleRow.ScheduleRow, Conditions.UnknownIn}
 use Rattle.attention_rules.{proofs.Outcomes.refused-nothing, specs.Attention.attentionOf}

@@ -1,17 +1,17 @@
 -- The theorems of a schedule: accepted and refused rows add up to the rows given, one cut into two gives the same, 16 is given exactly for a row of no known kind and then nothing is run, what the accepted rows are, what is stored, and how large a count can be.
 -- Assumes nothing.
 use Prim.Native.Nat.{ℕ, _+_, _*_, _≤_}
-use borrow.{Author.Tests.eqb-false}
+use borrow.Author.Tests.{eqb-false}
 use lib.{Dec.ltb, ListN.length, ListN.getD, ListN.replicate}
 use mathlib.Core.Bool.{Bool, true, false, _&&_, _||_}
 use mathlib.Core.{List.List, List.[], List._∷_, List._++_, List.map, Logic._↔_, Path._≡_, Path.refl, Path.sym, Path.ap₂, Path._∙_}
-use native.{Mathlib.Omega.arith}
+use native.Mathlib.Omega.{arith}
 use Rattle.ground_rules.proofs.{ConditionLaws.told-exactly, ChoiceLaws.both-left, ChoiceLaws.both-right}
 use Rattle.ground_rules.specs.{States.channelOf, Choice.pick}
 use Rattle.turn_rules.specs.{Choosing.requested, declared.Kind.Kind}
 use Rattle.schedule.specs.Counts.{RowCount, onceIf, overRows, acceptedAt, refusedAt, isAttentionTo, attendedAt, rejectedAt, isInstruction, isTransfer, isExternal, doneAt, instructionAt, transferAt, storedAt, endAt, waitsForDrq, waitAt}
-use Rattle.schedule.specs.Reports.{channelCounts, allCounts, reportOf, bothReports, allRun, noneRun, scheduleOf}
 use Rattle.schedule.specs.Rows.{Bench, isAttention, isStep, allKnown, rowLeft, rowsLeft}
+use Rattle.schedule.specs.Reports.{channelCounts, allCounts, reportOf, bothReports, allRun, noneRun, scheduleOf}
 use Rattle.schedule.specs.{Conditions.UnknownIn, declared.ScheduleRow.ScheduleRow}
 use Rattle.schedule.proofs.CountLaws.{once-one, accepted-or-refused, attentions-of, accepted-is}
 use Rattle.schedule.proofs.{RowLaws.told-known, RowLaws.known-cut, RowLaws.left-cut, RowLaws.over-cut, StoreLaws.stored-most, StoreLaws.stored-two}
@@ -119,16 +119,13 @@ unfolding bothReports
 sums-cut [] p a b = refl
 sums-cut (f ∷ fs) p a b = ap₂ _∷_ (over-cut f p a b) (sums-cut fs p a b)
 
-pub report-cut : (p : Bench) (a b : List ScheduleRow) → reportOf p (a ++ b) ≡ bothReports (reportOf p a) (reportOf (rowsLeft p a) b)
-unfolding reportOf
-report-cut p a b = sums-cut allCounts p a b
-
 -- of known kinds: the end is the second part's from the first's end, and the counts add
 pub schedule-cut : (p : Bench) (a b : List ScheduleRow) → allKnown (a ++ b) ≡ true
     → let x = scheduleOf p a in let y = scheduleOf (x .bench) b in
     scheduleOf p (a ++ b) ≡ record { number = 0; bench = y .bench; report = bothReports (x .report) (y .report) }
+unfolding reportOf
 schedule-cut p a b h =
     let parts = sym (known-cut a b) ∙ h in
     let one = known-runs p a (both-left (allKnown a) (allKnown b) parts) in
     let two = known-runs (rowsLeft p a) b (both-right (allKnown a) (allKnown b) parts) in
-    rw (known-runs p (a ++ b) h, one, two, left-cut p a b, report-cut p a b)
+    rw (known-runs p (a ++ b) h, one, two, left-cut p a b, sums-cut allCounts p a b)

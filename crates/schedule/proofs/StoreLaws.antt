@@ -1,15 +1,15 @@
 -- The laws of the bytes that transfer steps store: with those that they read they are the touched ones, and a step stores two at most.
 -- Assumes nothing.
 use Prim.Native.Nat.{ℕ, _+_, _*_, _≤_}
-use borrow.{Author.Tests.eqb-true}
+use borrow.Author.Tests.{eqb-true}
 use lib.ListN.{length, length-append}
 use mathlib.Core.{Bool.Bool, Bool.true, Bool.false, Bool._&&_, List._++_, Path._≡_, Path.refl, Path.sym, Path.ap, Path._∙_}
-use native.{Mathlib.Omega.arith}
+use native.Mathlib.Omega.{arith}
 use Rattle.ground_rules.specs.States.{channelOf, channelNumber, isSecond}
 use Rattle.ground_rules.specs.{Outcomes.counted, Psw.transferring, declared.Channel.Channel, declared.State.State, Buffers.Buffers, Choice.pick}
 use Rattle.ground_rules.proofs.{ChoiceLaws.apart, ChoiceLaws.both-right, ChoiceLaws.and-true, ChoiceLaws.and-false, ChannelLaws.named, ConditionLaws.says-true}
 use Rattle.turn_rules.{proofs.OutcomeLaws.by-step, specs.Choosing.choiceOf, specs.Step.Step, specs.Step.entryNumber, specs.Step.stepOf, specs.Touched.touchedIn}
-use Rattle.turn_rules.{specs.Touched.touchedByStep, specs.Touched.stepCount, specs.declared.Choice.the-variants.Steps}
+use Rattle.turn_rules.specs.{Touched.touchedByStep, Touched.stepCount, declared.Choice.the-variants.Steps}
 use Rattle.transfer_rules.specs.Parts.{Part, Whole, FirstFetch, SecondFetch, FirstStore, SecondStore, partOf}
 use Rattle.transfer_rules.specs.Stores.{storesTwo, placesOn, storedPlaces}
 use Rattle.transfer_rules.specs.{Reads.dataOf, Reads.also, Sides.destination, Steps.touchedBy, Steps.readsBy, Steps.touchedByTransfer}
@@ -20,11 +20,7 @@ use Rattle.schedule.specs.{Rows.Bench, Rows.isStep, declared.ScheduleRow
 -- what a transfer step touches is what it reads and then what it stores
 pub touched-apart : (k : Part) (c : Channel) (m : Buffers) → touchedBy k c m ≡ readsBy k c m ++ storesBy k c m
 unfolding touchedBy readsBy storesBy
-touched-apart Whole c m = refl
-touched-apart FirstFetch c m = refl
-touched-apart (SecondFetch byte) c m = refl
-touched-apart FirstStore c m = refl
-touched-apart (SecondStore byte) c m = refl
+touched-apart k c m = elim k [ Whole ↦ refl | FirstFetch ↦ refl | SecondFetch byte ↦ refl | FirstStore ↦ refl | SecondStore byte ↦ refl ]
 
 -- no part stores more than two bytes
 pub stores-most : (k : Part) (c : Channel) (m : Buffers) → length (storesBy k c m) ≤ 2
@@ -55,11 +51,8 @@ transfer-chosen s m lines second =
     by-step s m lines
     (λ (t : Step). isDone isTransfer second t ≡ true → (t .number ≡ 0) × (choiceOf s lines ≡ Steps second) × (transferring (channelOf s second .psw) ≡ true) × (entryNumber s m lines ≡ 0))
     (λ k ne h. apart (sym (simp and-false at h))) (λ b z e h. apart (sym (simp and-false at h)))
-    (λ b z e f h. let q = same b (eqb-true _ _ (simp and-true at h)) in (refl, e ∙ ap Steps q, rw q at f, z))
-    (λ b z e f h. apart (sym (simp and-false at h)))
-  where
-    same : (b : Bool) → channelNumber b ≡ channelNumber second → b ≡ second
-    same b e = sym (named b) ∙ ap isSecond e ∙ named second
+    (λ b z e f h. let q = sym (named b) ∙ ap isSecond (eqb-true (channelNumber b) (channelNumber second) (simp and-true at h)) ∙ named second in
+    (refl, e ∙ ap Steps q, rw q at f, z)) (λ b z e f h. apart (sym (simp and-false at h)))
 
 -- it touches what its part reads and what that stores
 pub transfer-count : (s : State) (m : Buffers) (lines : ℕ) (second : Bool) → isDone isTransfer second (stepOf s m lines) ≡ true

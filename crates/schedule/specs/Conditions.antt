@@ -1,6 +1,6 @@
 -- When 16 is given, and when a row counts for a channel: as an attention, as a done step, as one that found it waiting for its DRQ.
 use mathlib.Core.{Bool.Bool, Bool.true, Bool.false, List.List, List.[], List._∷_, Logic._⊎_, Path._≡_}
-use Prim.{Native.Nat._<_}
+use Prim.Native.Nat.{_<_}
 use Rattle.ground_rules.specs.{Psw.transferring, States.channelOf, States.channelNumber, declared.Mode.the-variants.Running}
 use Rattle.turn_rules.specs.{Choosing.requested, Step.stepOf, declared.Kind.Kind}
 use Rattle.schedule.specs.{Rows.Bench, declared.ScheduleRow.ScheduleRow}

@@ -4,7 +4,7 @@ use Prim.Native.Nat.{ℕ, _+_}
 use lib.{Dec.eqb, Dec.ltb, ListN.length}
 use Rattle.ground_rules.specs.States.{channelOf, channelNumber, isRunning}
 use Rattle.ground_rules.specs.{Choice.pick, Buffers.Buffers, Places.Place, Psw.transferring, declared.Channel.Channel}
-use Rattle.attention_rules.{specs.Attention.attentionOf}
+use Rattle.attention_rules.specs.Attention.{attentionOf}
 use Rattle.transfer_rules.specs.{Parts.Part, Parts.Whole, Parts.FirstFetch, Parts.SecondFetch, Parts.FirstStore, Parts.SecondStore, Parts.partOf, Reads.dataOf, Sides.destination, Stores.placesOn, Stores.storedPlaces}
 use Rattle.transfer_rules.specs.Halves.{firstPlace, secondPlace}
 use Rattle.turn_rules.specs.declared.Kind.{Kind, the-variants.Nothing, the-variants.Instruction, the-variants.Transfer, the-variants.External}

@@ -1,11 +1,11 @@
 -- The rows of a schedule: which are known, the number of each, and what they leave.
 use mathlib.Core.{Bool.Bool, Bool.true, Bool._&&_, Bool._||_, List.List, List.[], List._∷_}
-use Prim.{Native.Nat.ℕ}
-use lib.{Dec.eqb}
+use Prim.Native.Nat.{ℕ}
+use lib.Dec.{eqb}
 use Rattle.ground_rules.specs.{Choice.pick, Buffers.Buffers, declared.State.State}
-use Rattle.attention_rules.{specs.Attention.attentionOf}
-use Rattle.turn_rules.{specs.Step.stepOf}
-use Rattle.schedule.specs.{declared.ScheduleRow.ScheduleRow}
+use Rattle.attention_rules.specs.Attention.{attentionOf}
+use Rattle.turn_rules.specs.Step.{stepOf}
+use Rattle.schedule.specs.declared.ScheduleRow.{ScheduleRow}
 
 -- a row of kind 1 is an attention to the channel that its value names
 abbrev pub isAttention : ScheduleRow → Bool

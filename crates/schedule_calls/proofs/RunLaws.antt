@@ -8,9 +8,9 @@ use borrow.Author.Tests.{ltb-true, ltb-false}
 use native.Mathlib.{Numerals.add-one, Omega.arith}
 use Rattle.ground_rules.{proofs.ChoiceLaws.apart, specs.Choice.pick}
 use Rattle.state_rules.specs.Layout.{bytesOf, stateIn, isState}
-use Rattle.schedule.proofs.{RowLaws.known-at, RowLaws.left-cut, ScheduleLaws.MostTwo, ScheduleLaws.counts-two, ScheduleLaws.over-most, RowLaws.over-cut}
 use Rattle.schedule.specs.Reports.{allCounts, noReport, reportOf, scheduleOf, putOver}
 use Rattle.schedule.specs.{Rows.Bench, Rows.allKnown, Rows.rowLeft, Rows.rowsLeft, declared.ScheduleRow.ScheduleRow, Counts.RowCount, Counts.overRows}
+use Rattle.schedule.proofs.{RowLaws.known-at, RowLaws.left-cut, ScheduleLaws.MostTwo, ScheduleLaws.counts-two, ScheduleLaws.over-most, RowLaws.over-cut}
 use Rattle.schedule_calls.specs.Turns.{Standing, standing, benchIn, StateBytes, RowRun, Turned, TurnReady}
 use Rattle.schedule_calls.specs.{Calls.scheduled, Calls.scheduleServed, Calls.ScheduleMet, Words.addedOn}
 

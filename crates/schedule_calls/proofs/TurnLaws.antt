@@ -4,7 +4,7 @@ use Rattle.schedule.specs.Counts.{onceIf, isInstruction, isTransfer, isExternal
 use Rattle.schedule.specs.{Reports.reportOf, Rows.Bench, Rows.bench, Rows.rowLeft, declared.ScheduleRow.ScheduleRow}
 use Rattle.schedule.proofs.{CountLaws.countsOpen, StoreLaws.transfer-chosen, StoreLaws.transfer-count, StoreLaws.stores-most}
 use Prim.Native.Nat.{ℕ, zero, suc, _+_, _-_, _/_, _%_, _<_}
-use borrow.{Author.Tests.ne-eqb}
+use borrow.Author.Tests.{ne-eqb}
 use lib.{Dec.eqb, Dec.ltb, Dec.lit<, ListN.length, ListN.getD, ListN.replicate}
 use mathlib.Core.Path.{_≡_, refl, sym, ap, ap₂, _∙_, subst}
 use mathlib.Core.{Bool.Bool, Bool.true, Bool.false, Bool.not, Bool._&&_, List.List, List.[], List._∷_, List._++_}
@@ -114,11 +114,10 @@ module _ (s : State) (m : Buffers) (lines : ℕ) where
       let says = says-and (says-and (says-eqb (took .number) 0) (says-eqb (took .channel) (channelNumber second))) (says-true (isTransfer (took .kind))) in
       let n = transfer-count s m lines second h in
       let all = counts (omega (arith, reads-most c m (partOf c), stores-most (partOf c) c m)) in
+      let read : (b : Bool) → let c = channelOf s b in
+      transferring (c .psw) ≡ true → pick (eqb (channelNumber b) 2) (g .reads) (f .reads) ≡ length (readsBy (partOf c) c m) =
+      λ b. elim b [ true ↦ λ on. two .1 on m | false ↦ λ on. one .1 on m ] in
       rw (says .holds h .0 .1) (omega (arith, read second (transfer-chosen s m lines second h .2)))
-    where
-      read : (b : Bool) → let c = channelOf s b in
-          transferring (c .psw) ≡ true → pick (eqb (channelNumber b) 2) (g .reads) (f .reads) ≡ length (readsBy (partOf c) c m)
-      read b = elim b [ true ↦ λ on. two .1 on m | false ↦ λ on. one .1 on m ]
 
 -- every read gives a byte where both memories are of bytes
 pub all-bytes : (sys io : List ℕ) → Bytes sys → Bytes io → AllBytes (buffers sys io)

@@ -20,15 +20,15 @@ use types.Run.{look, look-raw, store, init, forget, stop, hop, fld, from, load, 
 use types.{Part.agg, Part.whole, Part.sub, Part.look-in, Share.arr-parts, Tokens.lft-new, Tokens.lft-end, Tokens.res-dup, Tokens.shr-bor-dup}
 use sound.{Laws.∗emp, WpLaws.fmOf, WpLaws.WpFn-mono}
 use denote.{RattleType.RattleType, RattleType.owns, Laws.Is, Laws.shows, Shadow.pureI, Memory.pointee, Memory.shares, Builtin.u8, Builtin.u32, Builtin.u64, Builtin.bool, Builtin.unit, Ref.RefT, Ref.now, Index.place-is, Index.elem-out, Index.elem-back, Index.looks-slice, Index.shuts-slice, Signature.plain, Steps.only, Steps.owned, Steps.peeks, Steps.heard, Steps.nothing, Triple.Statement.Contract, Triple.Statement.Triple, Triple.Call.calls-at, Triple.Clauses.ensured, Triple.Clauses.lasts, Triple.Entry.onEntry, Triple.Spec.Meets, Triple.Spec.tripleOf}
-use denote.Slice.{sliceTy, sliceVal, ShrSlice, MutSlice, Room, slice-vals, shr-slice-tells, mut-slice-tells, codedHoleys, heres, at-slice}
 use denote.Triple.Table.{entered, cited}
-use denote.Triple.Walked.{says, Stays, stay-slice, stay-none-slice, walkOf, goes-slice, goes-none-slice, Walks, ends-at, walked, walk-meets}
+use denote.Triple.Walked.{says, Stays, stay-slice, stay-none-slice, walkOf, goes-slice, goes-none-slice, ends-at, walked, walk-meets}
+use denote.Slice.{sliceTy, sliceVal, ShrSlice, MutSlice, Room, slice-vals, shr-slice-tells, mut-slice-tells, codedHoleys, heres, at-slice}
 use denote.{Plain.uint-makes, Plain.uint-tells, Plain.uint-lawful, Plain.bool-makes, Plain.bool-tells, Plain.bool-lawful, Plain.nothing-lawful, Exit.yes}
 use Rattle.ground_rules.specs.{Choice.pick, Buffers.buffers}
 use Rattle.state_rules.specs.Layout.{bytesOf, stateIn, isState}
 use Rattle.schedule.specs.{Reports.noReport, Reports.putOver, Rows.allKnown, declared.ScheduleRow.ScheduleRow}
 use Rattle.schedule_calls.specs.{Calls.ScheduleMet, Turns.Standing, Turns.standing, Turns.Turned}
-use Rattle.schedule_calls.proofs.RunLaws.{noRow, mostRows, firstNumber, Back, Along, along-start, along-ready, along-next, along-end, ends-by, lt-or-ge}
+use Rattle.schedule_calls.proofs.RunLaws.{noRow, firstNumber, Back, Along, along-start, along-ready, along-next, along-end, ends-by, lt-or-ge}
 use Rattle.schedule_calls.proofs.{Again.LentAgain, Again.lends-again, Again.comes-back, known.Symbol.name as #known, begin.Symbol.name as #begin}
 use Rattle.schedule_calls.proofs.{turn.Symbol.name as #turn, iop89_schedule.Key.name as #schedule}
 use denote.Struct.Laws as LL
@@ -44,13 +44,7 @@ use Rattle.schedule_calls.proofs.iop89_schedule.Code.Mir as mir
 abbrev stayed : Stays (schedule.ended .signature .params) (schedule.ended .kept)
 stayed = (stay-slice (0 ∷ []) tt (plain (λ _. u8)), (stay-none-slice (1 ∷ []) tt (plain (λ _. R.the-row)) yes, (stay-slice (2 ∷ []) tt (plain (λ _. u8)), (stay-slice (3 ∷ []) tt (plain (λ _. u8)), (stay-slice (4 ∷ []) tt (plain (λ _. u64)), tt)))))
 
--- the MIR types of the locals: numbers, the lent slices, and bytes and words that are lent again
-abbrev half : Ty
-half = tyInt w32
-
-abbrev word : Ty
-word = tyInt w64
-
+-- the MIR types of the locals: the lent slices, and bytes and words that are lent again
 abbrev slice₁ : Ty
 slice₁ = sliceTy (tyRef (named 1) imm (pointee (R.the-row .written)))
 
@@ -120,9 +114,6 @@ module _ {M : Type 1} (𝓤 : URA M) (H : Heap 𝓤) (A : Atoms 𝓤) (W : Given
   abbrev elem : ℕ → ScheduleRow
   elem i = getD ys i noRow
 
-  few : n ≤ mostRows
-  few = omega (arith, g₁ .1)
-
   -- lists of one length have the same room
   kept : (T : RattleType) {k m : ℕ} → k ≡ m → Room T m → Room T k
   kept T e g = subst (Room T) (sym e) g
@@ -149,7 +140,7 @@ module _ {M : Type 1} (𝓤 : URA M) (H : Heap 𝓤) (A : Atoms 𝓤) (W : Given
   module _ (𝓣 : Tables 𝓤 H) (met-known : Triple 𝓤 (𝓣 .C #known) (Known 𝓤 H A at-mem at-run)) (met-begin : Triple 𝓤 (𝓣 .C #begin) (Begin 𝓤 H A at-mem at-run)) (met-turn : Triple 𝓤 (𝓣 .C #turn) (Turns 𝓤 H A at-mem at-run))
       (l₀ l₁ l₂ l₃ l₄ l₅ l₆ l₇ l₈ l₉ l₁₀ l₁₁ l₁₂ l₁₃ l₁₄ l₁₅ l₁₆ l₁₇ l₁₈ l₁₉ l₂₀ l₂₁ l₂₂ l₂₃ l₂₄ l₂₅ : ℕ) where
     abbrev En : Env 𝓤 H
-    En = (half, l₀) ∷ (lentTy 0 w8, l₁) ∷ (slice₁, l₂) ∷ (lentTy 2 w8, l₃) ∷ (lentTy 3 w8, l₄) ∷ (lentTy 4 w64, l₅) ∷ (half, l₆) ∷ (word, l₇) ∷ (ref w8, l₈) ∷ (slice w8, l₉) ∷ (ref w64, l₁₀) ∷ (slice w64, l₁₁) ∷ (tyBool, l₁₂) ∷ (word, l₁₃) ∷ (tyBool, l₁₄) ∷ (tyUnit, l₁₅) ∷ (ref w8, l₁₆) ∷ (slice w8, l₁₇) ∷ (tyPtr, l₁₈) ∷ (R′.mir, l₁₉) ∷ (ref w8, l₂₀) ∷ (slice w8, l₂₁) ∷ (ref w8, l₂₂) ∷ (slice w8, l₂₃) ∷ (ref w64, l₂₄) ∷ (slice w64, l₂₅) ∷ []
+    En = (tyInt w32, l₀) ∷ (lentTy 0 w8, l₁) ∷ (slice₁, l₂) ∷ (lentTy 2 w8, l₃) ∷ (lentTy 3 w8, l₄) ∷ (lentTy 4 w64, l₅) ∷ (tyInt w32, l₆) ∷ (tyInt w64, l₇) ∷ (ref w8, l₈) ∷ (slice w8, l₉) ∷ (ref w64, l₁₀) ∷ (slice w64, l₁₁) ∷ (tyBool, l₁₂) ∷ (tyInt w64, l₁₃) ∷ (tyBool, l₁₄) ∷ (tyUnit, l₁₅) ∷ (ref w8, l₁₆) ∷ (slice w8, l₁₇) ∷ (tyPtr, l₁₈) ∷ (R′.mir, l₁₉) ∷ (ref w8, l₂₀) ∷ (slice w8, l₂₁) ∷ (ref w8, l₂₂) ∷ (slice w8, l₂₃) ∷ (ref w64, l₂₄) ∷ (slice w64, l₂₅) ∷ []
 
     -- 0 the borrow of the rows and 1 its token; 2 the state, 4 sys, 6 io, 8 the report, each with its token; then _25 at 10 down to _0 at 60, each with what frees it; 62 the rows' ghost; the loop's index and the number as they are
     abbrev Held : Item 𝓤 → Item 𝓤 → (st sys io rep : List ℕ) → List (Item 𝓤)
@@ -159,10 +150,10 @@ module _ {M : Type 1} (𝓤 : URA M) (H : Heap 𝓤) (A : Atoms 𝓤) (W : Given
         ∷ ‵ (froom (slice w64) l₂₅ 0) ∷ ‵ (fdies (slice w64) l₂₅) ∷ ‵ (froom (ref w64) l₂₄ 0) ∷ ‵ (fdies (ref w64) l₂₄) ∷ ‵ (froom (slice w8) l₂₃ 0) ∷ ‵ (fdies (slice w8) l₂₃) ∷ ‵ (froom (ref w8) l₂₂ 0) ∷ ‵ (fdies (ref w8) l₂₂)
         ∷ ‵ (froom (slice w8) l₂₁ 0) ∷ ‵ (fdies (slice w8) l₂₁) ∷ ‵ (froom (ref w8) l₂₀ 0) ∷ ‵ (fdies (ref w8) l₂₀) ∷ ‵ (froom R′.mir l₁₉ 0) ∷ ‵ (fdies R′.mir l₁₉) ∷ ‵ (froom tyPtr l₁₈ 0) ∷ ‵ (fdies tyPtr l₁₈)
         ∷ ‵ (froom (slice w8) l₁₇ 0) ∷ ‵ (fdies (slice w8) l₁₇) ∷ ‵ (froom (ref w8) l₁₆ 0) ∷ ‵ (fdies (ref w8) l₁₆) ∷ ‵ (froom tyUnit l₁₅ 0) ∷ ‵ (fdies tyUnit l₁₅) ∷ ‵ (froom tyBool l₁₄ 0) ∷ ‵ (fdies tyBool l₁₄)
-        ∷ ‵ (froom word l₁₃ 0) ∷ ‵ (fdies word l₁₃) ∷ ‵ (froom tyBool l₁₂ 0) ∷ ‵ (fdies tyBool l₁₂) ∷ ‵ (froom (slice w64) l₁₁ 0) ∷ ‵ (fdies (slice w64) l₁₁) ∷ ‵ (froom (ref w64) l₁₀ 0) ∷ ‵ (fdies (ref w64) l₁₀)
-        ∷ ‵ (froom (slice w8) l₉ 0) ∷ ‵ (fdies (slice w8) l₉) ∷ ‵ (froom (ref w8) l₈ 0) ∷ ‵ (fdies (ref w8) l₈) ∷ index ∷ ‵ (fdies word l₇) ∷ count
-        ∷ ‵ (fdies half l₆) ∷ ‵ (fat fullShare (lentTy 4 w64) l₅ 0 (span b₄ o₄ rep)) ∷ ‵ (fdies (lentTy 4 w64) l₅) ∷ ‵ (fat fullShare (lentTy 3 w8) l₄ 0 (span b₃ o₃ io)) ∷ ‵ (fdies (lentTy 3 w8) l₄) ∷ ‵ (fat fullShare (lentTy 2 w8) l₃ 0 (span b₂ o₂ sys)) ∷ ‵ (fdies (lentTy 2 w8) l₃) ∷ ‵ (fat fullShare slice₁ l₂ 0 vrows) ∷ ‵ (fdies slice₁ l₂)
-        ∷ ‵ (fat fullShare (lentTy 0 w8) l₁ 0 (span b₀ o₀ st)) ∷ ‵ (fdies (lentTy 0 w8) l₁) ∷ ‵ (froom half l₀ 0) ∷ ‵ (fdies half l₀)
+        ∷ ‵ (froom (tyInt w64) l₁₃ 0) ∷ ‵ (fdies (tyInt w64) l₁₃) ∷ ‵ (froom tyBool l₁₂ 0) ∷ ‵ (fdies tyBool l₁₂) ∷ ‵ (froom (slice w64) l₁₁ 0) ∷ ‵ (fdies (slice w64) l₁₁) ∷ ‵ (froom (ref w64) l₁₀ 0) ∷ ‵ (fdies (ref w64) l₁₀)
+        ∷ ‵ (froom (slice w8) l₉ 0) ∷ ‵ (fdies (slice w8) l₉) ∷ ‵ (froom (ref w8) l₈ 0) ∷ ‵ (fdies (ref w8) l₈) ∷ index ∷ ‵ (fdies (tyInt w64) l₇) ∷ count
+        ∷ ‵ (fdies (tyInt w32) l₆) ∷ ‵ (fat fullShare (lentTy 4 w64) l₅ 0 (span b₄ o₄ rep)) ∷ ‵ (fdies (lentTy 4 w64) l₅) ∷ ‵ (fat fullShare (lentTy 3 w8) l₄ 0 (span b₃ o₃ io)) ∷ ‵ (fdies (lentTy 3 w8) l₄) ∷ ‵ (fat fullShare (lentTy 2 w8) l₃ 0 (span b₂ o₂ sys)) ∷ ‵ (fdies (lentTy 2 w8) l₃) ∷ ‵ (fat fullShare slice₁ l₂ 0 vrows) ∷ ‵ (fdies slice₁ l₂)
+        ∷ ‵ (fat fullShare (lentTy 0 w8) l₁ 0 (span b₀ o₀ st)) ∷ ‵ (fdies (lentTy 0 w8) l₁) ∷ ‵ (froom (tyInt w32) l₀ 0) ∷ ‵ (fdies (tyInt w32) l₀)
         ∷ ‵ (fres γ₁ (codedHoleys R.the-row .code (heres R.the-row ys))) ∷ []
 
     -- ---- the loop, once the number is known
@@ -231,7 +222,7 @@ module _ {M : Type 1} (𝓤 : URA M) (H : Heap 𝓤) (A : Atoms 𝓤) (W : Given
           owned ! u32 (Is u32) (uint-makes 𝓤 H A W w32) number _ (refl, number-fits) $ done !
 
       abbrev At : Turn → List (Item 𝓤)
-      At u = Held (‵ (fat fullShare word l₇ 0 (vint w64 (u .i)))) (‵ (fat fullShare half l₆ 0 (vint w32 number))) (u .st) (u .sys) (u .io) (u .rep)
+      At u = Held (‵ (fat fullShare (tyInt w64) l₇ 0 (vint w64 (u .i)))) (‵ (fat fullShare (tyInt w32) l₆ 0 (vint w32 number))) (u .st) (u .sys) (u .io) (u .rep)
 
       abbrev AfterTurn : Turn → Out → SProp 𝓤
       AfterTurn u = afterTurn 𝓤 H (Below 𝓤 H A Nearer At u) (afterBlock 𝓤 H (afterSeq 𝓤 H (Wp 𝓤 H (𝓣 .C) (𝓣 .Λ) En mir.t-9 (atReturn 𝓤 H En Post)) (atReturn 𝓤 H En Post)))
@@ -296,16 +287,14 @@ module _ {M : Type 1} (𝓤 : URA M) (H : Heap 𝓤) (A : Atoms 𝓤) (W : Given
           rewrite ! 8 (λ (m : ℕ). ‵ (MutSlice (named 4) κ₄ u64 .own (lies b₄ o₄ γ₄ (zs .1 .1 .1 .1 .1 .0)) (sliceVal (b₄, o₄) m ∷ []))) (sym e₄) refl $ rewrite ! 50 (λ (m : ℕ). ‵ (fat fullShare (lentTy 4 w64) l₅ 0 (sliceVal (b₄, o₄) m))) (sym e₄) refl $
           assigns-last ! (bin ! (load ! (from ! (stop !)) (look ! 46 refl)) (lit ! tt) (record { fits = omega (arith, g₁ .0, l) })) (from ! (stop !)) (store ! 46 refl (tt, record { fits = omega (arith, g₁ .0, l) })) $
           forget ! 10 refl $ forget ! 12 refl $ forget ! 14 refl $ forget ! 16 refl $ forget ! 18 refl $ forget ! 20 refl $ forget ! 22 refl $ forget ! 24 refl $ forget ! 26 refl $ forget ! 28 refl $ forget ! 30 refl $ forget ! 32 refl $ forget ! 34 refl $
-          again ! Nearer At u (next (zs .1 .0) (zs .1 .1 .1 .0) (zs .1 .1 .1 .1 .0) (zs .1 .1 .1 .1 .1 .0) e e₀ e₂ e₃ e₄) (add-one-dec n (u .i) l))))))))))))))))))))
+          again ! Nearer At u
+          (turnAt (u .i + 1) (zs .1 .0) (zs .1 .1 .1 .0) (zs .1 .1 .1 .1 .0) (zs .1 .1 .1 .1 .1 .0) (add-one-le l)
+          (e₀ ∙ u .len₀) (e₂ ∙ u .len₂) (e₃ ∙ u .len₃) (e₄ ∙ u .len₄) (along-next before ys number is-first back (u .i) (stands u) _ l (omega (arith, g₁ .1)) (u .along) e))
+          (add-one-dec n (u .i) l))))))))))))))))))))
         where
           -- what `turn` ensures
           Became : List ℕ → List ℕ → List ℕ → List ℕ → Type 0
           Became st′ sys′ io′ rep′ = Turned number (elem (u .i)) (stands u) (standing st′ (buffers sys′ io′) rep′)
-
-          next : (st′ sys′ io′ rep′ : List ℕ) → Became st′ sys′ io′ rep′ → length st′ ≡ length (u .st) → length sys′ ≡ length (u .sys) → length io′ ≡ length (u .io) → length rep′ ≡ length (u .rep) → Turn
-          next st′ sys′ io′ rep′ e e₀ e₂ e₃ e₄ =
-              turnAt (u .i + 1) st′ sys′ io′ rep′ (add-one-le l) (e₀ ∙ u .len₀) (e₂ ∙ u .len₂) (e₃ ∙ u .len₃) (e₄ ∙ u .len₄)
-              (along-next before ys number is-first back (u .i) (stands u) (standing st′ (buffers sys′ io′) rep′) l few (u .along) e)
 
       -- the turn that leaves the loop, and the rest of the body
       leaves : (u : Turn) → n ≤ u .i → Sq W (At u) (runs (𝓣 .C) (𝓣 .Λ) En mir.turn-1 (anyQ (AfterTurn u)))
@@ -323,25 +312,12 @@ module _ {M : Type 1} (𝓤 : URA M) (H : Heap 𝓤) (A : Atoms 𝓤) (W : Given
           move ! (10 ∷ 0 ∷ []) $ fjoin ! $ pureI ! (at-slice R.the-row rows (vrows ∷ [])) (tt, (tt, tt)) (refl, g₁) $ fjoin ! $ move ! (3 ∷ 1 ∷ 5 ∷ 7 ∷ 9 ∷ 2 ∷ 0 ∷ 4 ∷ 6 ∷ 8 ∷ []) $
           by ! (exits u (along-end before ys number is-first back (u .i) (stands u) (le-antisymm (u .within) l) (u .along)))
 
-      turns : (u : Turn) → Sq W (At u) (runs (𝓣 .C) (𝓣 .Λ) En mir.turn-1 (anyQ (AfterTurn u)))
-      turns u = ⊎-elim (goes-on u) (leaves u) (lt-or-ge (u .i) n)
-
       -- the loop, from any turn, and what follows it
       looped : (u : Turn) → Sq W (At u) (runs (𝓣 .C) (𝓣 .Λ) En mir.t-8 (atRet En Post))
-      looped u = first ! $ blocks ! $ loops ! 𝓣 Nearer (ends-by n (λ (v : Turn). v .i)) At turns u
-
-    -- the first turn, after `begin`
-    abbrev start : (number : ℕ) (fits : number < 2 ^ 32) (first : number ≡ firstNumber before ys) (back : Back before) (st′ rep′ : List ℕ) → st′ ≡ st₀
-        → rep′ ≡ putOver noReport rep₀ → length st′ ≡ length st₀ → length rep′ ≡ length rep₀ → Turn number fits first back
-    start number fits first back st′ rep′ same cleared e₀ e₄ =
-        turnAt number fits first back 0 st′ sys₀ io₀ rep′ zero-le e₀ refl refl e₄ (rw (same, cleared) (along-start before ys number first back))
-
-    -- what stands on entry, in the order that the loop has it
-    abbrev Entered : List (Item 𝓤)
-    Entered = Held (‵ (froom word l₇ 0)) (‵ (froom half l₆ 0)) st₀ sys₀ io₀ rep₀
+      looped u = first ! $ blocks ! $ loops ! 𝓣 Nearer (ends-by n (λ (v : Turn). v .i)) At (λ v. ⊎-elim (goes-on v) (leaves v) (lt-or-ge (v .i) n)) u
 
     -- `known`, `begin`, and the loop
-    begins : Sq W Entered (runs (𝓣 .C) (𝓣 .Λ) En mir.t-1 (atRet En Post))
+    begins : Sq W (Held (‵ (froom (tyInt w64) l₇ 0)) (‵ (froom (tyInt w32) l₆ 0)) st₀ sys₀ io₀ rep₀) (runs (𝓣 .C) (𝓣 .Λ) En mir.t-1 (atRet En Post))
     begins =
         assigns ! (addr ! (from ! (fld ! refl (hop ! (look-in ! 58 (sub ! 0 refl (whole !))) (stop !))))) (from ! (stop !)) (init ! 44 refl (tt, tt)) $
         assigns ! (agg ! (and-then ! (load ! (from ! (stop !)) (look ! 44 refl)) (and-then ! (load ! (from ! (fld ! refl (stop !))) (look-in ! 58 (sub ! 1 refl (whole !)))) (no-more !)))) (from ! (stop !)) (init ! 42 refl (tt, (tt, (record { fits = g₀ .0 }, tt)))) $
@@ -373,7 +349,7 @@ module _ {M : Type 1} (𝓤 : URA M) (H : Heap 𝓤) (A : Atoms 𝓤) (W : Given
         fsplit ! $ fsplit ! $ move ! (1 ∷ []) $ feqL ! (λ e₀. move ! (1 ∷ []) $ fsplit ! $ fsplit ! $ move ! (1 ∷ []) $ feqL ! (λ e₄.
         move ! (3 ∷ []) $ split ! $ move ! (1 ∷ []) $ peeks ! u32 (Is u32) (shows 𝓤 H A u32) r (w ∷ []) (λ is.
         land ! (from ! (stop !)) (init ! 52 refl (uint-lawful 𝓤 H A W w32 .typed r _ is .0)) $
-        rewrite ! 52 (λ (v : Val). ‵ (fat fullShare half l₆ 0 v)) (ap only (uint-tells w32 r (w ∷ []) is)) refl $ away ! $
+        rewrite ! 52 (λ (v : Val). ‵ (fat fullShare (tyInt w32) l₆ 0 v)) (ap only (uint-tells w32 r (w ∷ []) is)) refl $ away ! $
         -- the lifetimes are ended, and both come back
         split ! $ lft-end ! tt $ move ! (0 ∷ 6 ∷ 4 ∷ []) $
         use3 W (later (‵ (MutSlice (named 0) κ₀ u8 .own (lies b₀ o₀ γ₀ (zs .0)) (span b₀ o₀ st₀ ∷ [])) ⊛ ‵ (flft κ₀ q₀))) (comes-back u8 κ₀ (ν₀ ∷ []) q₀ γ₀ b₀ o₀ 𝓤 H A W (named 0) (named 0) st₀ δ₀ (zs .0) g₀ e₀) $ await ! tt $ split ! $
@@ -386,7 +362,8 @@ module _ {M : Type 1} (𝓤 : URA M) (H : Heap 𝓤) (A : Atoms 𝓤) (W : Given
         keep ! (7 ∷ 8 ∷ 3 ∷ 4 ∷ 9 ∷ 10 ∷ 11 ∷ 12 ∷ 0 ∷ 1 ∷ 13 ∷ 14 ∷ 15 ∷ 16 ∷ 17 ∷ 18 ∷ 19 ∷ 20 ∷ 21 ∷ 22 ∷ 23 ∷ 24 ∷ 25 ∷ 26 ∷ 27 ∷ 28 ∷ 29 ∷ 30 ∷ 31 ∷ 32 ∷ 33 ∷ 34 ∷ 35 ∷ 36 ∷ 37 ∷ 38 ∷ 39 ∷ 40 ∷ 41 ∷ 42 ∷ 43 ∷ 44 ∷ 45 ∷ 46 ∷ 47 ∷ 48 ∷ 49 ∷ 50 ∷ 51 ∷ 52 ∷ 53 ∷ 54 ∷ 55 ∷ 56 ∷ 57 ∷ 58 ∷ 59 ∷ 60 ∷ 61 ∷ 62 ∷ 63 ∷ 64 ∷ 6 ∷ []) $
         forget ! 36 refl $ forget ! 38 refl $ forget ! 40 refl $ forget ! 42 refl $ forget ! 44 refl $
         let is-first = is-number ∙ ap (λ (k : Bool). pick (isState st₀) (pick k 0 16) 17) all in
-        looped r (is .1) is-first back (start r (is .1) is-first back (zs .0) (zs .1 .0) same cleared e₀ e₄)))))))))))))))))))
+        looped r (is .1) is-first back (turnAt r (is .1) is-first back 0 (zs .0) sys₀ io₀ (zs .1 .0) zero-le e₀ refl refl e₄
+        (rw (same, cleared) (along-start before ys r is-first back)))))))))))))))))))))
 
   walk : (𝓣 : Tables 𝓤 H) → Triple 𝓤 (𝓣 .C #known) (Known 𝓤 H A at-mem at-run) → Triple 𝓤 (𝓣 .C #begin) (Begin 𝓤 H A at-mem at-run) → Triple 𝓤 (𝓣 .C #turn) (Turns 𝓤 H A at-mem at-run)
       → ent 𝓤 (onEntry 𝓤 H A schedule.signature lfts parts args vals) (WpFn 𝓤 H (𝓣 .C) (𝓣 .Λ) code.function (span b₀ o₀ st₀ ∷ vrows ∷ span b₂ o₂ sys₀ ∷ span b₃ o₃ io₀ ∷ span b₄ o₄ rep₀ ∷ []) Post)
@@ -406,19 +383,17 @@ module _ {M : Type 1} (𝓤 : URA M) (H : Heap 𝓤) (A : Atoms 𝓤) (W : Given
 
 module _ {M : Type 1} (𝓤 : URA M) (H : Heap 𝓤) (A : Atoms 𝓤) (W : Given 𝓤 H A) (mem : Memory → SProp 𝓤) (at-run : Routine → Fun 𝓤) (𝓣 : Tables 𝓤 H)
     (met-known : Triple 𝓤 (𝓣 .C #known) (Known 𝓤 H A mem at-run)) (met-begin : Triple 𝓤 (𝓣 .C #begin) (Begin 𝓤 H A mem at-run)) (met-turn : Triple 𝓤 (𝓣 .C #turn) (Turns 𝓤 H A mem at-run)) where
-  schedule-walks : Walks 𝓤 H A schedule.ended stayed (WpFn 𝓤 H (𝓣 .C) (𝓣 .Λ) code.function) (schedule.clauses 𝓤 H A mem at-run)
-  schedule-walks = walked 𝓤 H A schedule.ended stayed (schedule.clauses 𝓤 H A mem at-run) (WpFn 𝓤 H (𝓣 .C) (𝓣 .Λ) code.function) (λ κs. (slice-vals, (slice-vals, (slice-vals, (slice-vals, (slice-vals, tt))))))
+  schedule-meets : Meets 𝓤 H A schedule.signature (WpFn 𝓤 H (𝓣 .C) (𝓣 .Λ) code.function) (schedule.spec 𝓤 H A mem at-run)
+  schedule-meets = walk-meets 𝓤 H A schedule.ended stayed W (goes-slice 𝓤 H A W 5 0 tt (plain (λ _. u8)), (goes-none-slice 𝓤 H A W 5 (1 ∷ []) tt (plain (λ _. R.the-row)) yes, (goes-slice 𝓤 H A W 5 2 tt (plain (λ _. u8)), (goes-slice 𝓤 H A W 5 3 tt (plain (λ _. u8)), (goes-slice 𝓤 H A W 5 4 tt (plain (λ _. u64)), tt)))))
+      (schedule.clauses 𝓤 H A mem at-run) (WpFn 𝓤 H (𝓣 .C) (𝓣 .Λ) code.function) (WpFn-mono 𝓤 H (W .laws) 𝓣 code.function)
+      (walked 𝓤 H A schedule.ended stayed (schedule.clauses 𝓤 H A mem at-run) (WpFn 𝓤 H (𝓣 .C) (𝓣 .Λ) code.function) (λ κs. (slice-vals, (slice-vals, (slice-vals, (slice-vals, (slice-vals, tt))))))
       (λ κs. (mut-slice-tells (named 0) (κs .0) u8, (shr-slice-tells (named 1) (κs .1 .0) R.the-row, (mut-slice-tells (named 2) (κs .1 .1 .0) u8, (mut-slice-tells (named 3) (κs .1 .1 .1 .0) u8, (mut-slice-tells (named 4) (κs .1 .1 .1 .1 .0) u64, tt))))))
       (λ κs qs bounds a g are. via 𝓤 _ (fst∗ 𝓤 _ (emp 𝓤)) (
       walk 𝓤 H A W mem at-run (κs .0) (κs .1 .0) (κs .1 .1 .0) (κs .1 .1 .1 .0) (κs .1 .1 .1 .1 .0) (qs .0) (qs .1 .0) (qs .1 .1 .0) (qs .1 .1 .1 .0) (qs .1 .1 .1 .1 .0)
       (a .0 .ptr .0) (a .0 .ptr .1) (a .1 .0 .ptr .0) (a .1 .0 .ptr .1) (a .1 .1 .0 .ptr .0) (a .1 .1 .0 .ptr .1) (a .1 .1 .1 .0 .ptr .0) (a .1 .1 .1 .0 .ptr .1) (a .1 .1 .1 .1 .0 .ptr .0) (a .1 .1 .1 .1 .0 .ptr .1)
       (a .0 .name) (a .1 .0 .name) (a .1 .1 .0 .name) (a .1 .1 .1 .0 .name) (a .1 .1 .1 .1 .0 .name)
       (a .0 .now) (a .1 .0 .now) (a .1 .1 .0 .now) (a .1 .1 .1 .0 .now) (a .1 .1 .1 .1 .0 .now)
-      (are .0 .0 .1) (are .1 .0 .0 .1) (are .1 .1 .0 .0 .1) (are .1 .1 .1 .0 .0 .1) (are .1 .1 .1 .1 .0 .0 .1) 𝓣 met-known met-begin met-turn))
-
-  schedule-meets : Meets 𝓤 H A schedule.signature (WpFn 𝓤 H (𝓣 .C) (𝓣 .Λ) code.function) (schedule.spec 𝓤 H A mem at-run)
-  schedule-meets = walk-meets 𝓤 H A schedule.ended stayed W (goes-slice 𝓤 H A W 5 0 tt (plain (λ _. u8)), (goes-none-slice 𝓤 H A W 5 (1 ∷ []) tt (plain (λ _. R.the-row)) yes, (goes-slice 𝓤 H A W 5 2 tt (plain (λ _. u8)), (goes-slice 𝓤 H A W 5 3 tt (plain (λ _. u8)), (goes-slice 𝓤 H A W 5 4 tt (plain (λ _. u64)), tt)))))
-      (schedule.clauses 𝓤 H A mem at-run) (WpFn 𝓤 H (𝓣 .C) (𝓣 .Λ) code.function) (WpFn-mono 𝓤 H (W .laws) 𝓣 code.function) schedule-walks
+      (are .0 .0 .1) (are .1 .0 .0 .1) (are .1 .1 .0 .0 .1) (are .1 .1 .1 .0 .0 .1) (are .1 .1 .1 .1 .0 .0 .1) 𝓣 met-known met-begin met-turn)))
 
 pub iop89-schedule-spec : {M : Type 1} → schedule.Statement.statement M
 unfolding code.routine tablesOf

@@ -21,8 +21,8 @@ use types.{Part.whole, Part.sub, Part.look-in, Share.arr-parts}
 use sound.WpLaws.{fmOf, WpFn-mono}
 use denote.{RattleType.owns, Laws.Is, Laws.shows, Memory.pointee, Memory.shares, Plain.bool-lawful, Plain.bool-makes, Builtin.bool, Ref.RefT, Index.place-is, Index.elem-out, Index.elem-back, Index.looks-slice, Index.shuts-slice, Signature.plain, Steps.only, Steps.owned, Steps.peeks, Steps.heard, Steps.nothing, Triple.Statement.Contract, Triple.Statement.Triple, Triple.Call.calls-at, Triple.Clauses.ensured, Triple.Clauses.lasts, Triple.Entry.onEntry, Triple.Spec.Meets, Triple.Spec.tripleOf}
 use denote.Slice.{sliceTy, sliceVal, ShrSlice, Room, slice-vals, shr-slice-tells, codedHoleys, heres, at-slice}
-use denote.{Triple.Table.entered, Triple.Table.cited, Triple.Walked.says, Triple.Walked.Stays, Triple.Walked.stay-none-slice, Triple.Walked.walkOf}
-use denote.{Triple.Walked.goes-none-slice, Triple.Walked.Walks, Triple.Walked.ends-at, Triple.Walked.walked, Triple.Walked.walk-meets, Exit.yes}
+use denote.Triple.{Table.entered, Table.cited, Walked.says, Walked.Stays, Walked.stay-none-slice, Walked.walkOf, Walked.goes-none-slice, Walked.ends-at}
+use denote.{Triple.Walked.walked, Triple.Walked.walk-meets, Exit.yes}
 use Rattle.schedule.specs.{declared.ScheduleRow.ScheduleRow, Rows.isAttention, Rows.isStep, Rows.allKnown}
 use Rattle.schedule_calls.proofs.{RunLaws.noRow, RunLaws.ends-by, RunLaws.lt-or-ge, is_row.Symbol.name as #is-row, known.Key.name as #known}
 use denote.Struct.Laws as LL
@@ -74,9 +74,6 @@ module _ {M : Type 1} (𝓤 : URA M) (H : Heap 𝓤) (A : Atoms 𝓤) (W : Given
     all : Bool
     within : i ≤ n
     rest : (all && allKnown (drop i ys)) ≡ allKnown ys
-
-  abbrev start : Turn
-  start = record { i = 0; all = true; within = zero-le; rest = refl }
 
   abbrev Nearer : Turn → Turn → Type 0
   Nearer u v = n - u .i < n - v .i
@@ -167,12 +164,9 @@ module _ {M : Type 1} (𝓤 : URA M) (H : Heap 𝓤) (A : Atoms 𝓤) (W : Given
         move ! (2 ∷ 0 ∷ []) $ fjoin ! $ move ! (2 ∷ 0 ∷ []) $ fjoin ! $ move ! (1 ∷ 0 ∷ []) $
         by ! (exits (u .all) (sym (known-end ys (u .i) (u .all) (le-antisymm (u .within) l)) ∙ u .rest))
 
-    turns : (u : Turn) → Sq W (At u) (runs (𝓣 .C) (𝓣 .Λ) En mir.turn-1 (anyQ (Turned u)))
-    turns u = ⊎-elim (goes-on u) (leaves u) (lt-or-ge (u .i) n)
-
     -- the loop, from any turn, and what follows it
     looped : (u : Turn) → Sq W (At u) (runs (𝓣 .C) (𝓣 .Λ) En mir.t-3 (atRet En Post))
-    looped u = first ! $ blocks ! $ loops ! 𝓣 Nearer (ends-by n (λ (v : Turn). v .i)) At turns u
+    looped u = first ! $ blocks ! $ loops ! 𝓣 Nearer (ends-by n (λ (v : Turn). v .i)) At (λ v. ⊎-elim (goes-on v) (leaves v) (lt-or-ge (v .i) n)) u
 
   walk : (𝓣 : Tables 𝓤 H) → Triple 𝓤 (𝓣 .C #is-row) (IsRow 𝓤 H A at-mem at-run) → ent 𝓤 (onEntry 𝓤 H A known.signature (κ, tt) (q, tt) (rows, tt) (sliceVal (b, o) n ∷ [], tt)) (WpFn 𝓤 H (𝓣 .C) (𝓣 .Λ) code.function (sliceVal (b, o) n ∷ []) Post)
   walk 𝓣 met =
@@ -184,15 +178,14 @@ module _ {M : Type 1} (𝓤 : URA M) (H : Heap 𝓤) (A : Atoms 𝓤) (W : Given
       -- [ghost; the borrow; fact; true; _7; …; the token]
       move ! (20 ∷ []) $ split ! $
       -- [the token; true; ghost; the borrow; fact; true; _7; …]
-      keep ! (3 ∷ 0 ∷ 6 ∷ 7 ∷ 8 ∷ 9 ∷ 10 ∷ 11 ∷ 12 ∷ 13 ∷ 14 ∷ 15 ∷ 16 ∷ 17 ∷ 18 ∷ 19 ∷ 20 ∷ 21 ∷ 2 ∷ 4 ∷ []) $ looped 𝓣 met l₀ l₁ l₂ l₃ l₄ l₅ l₆ l₇ start))))))))
+      keep ! (3 ∷ 0 ∷ 6 ∷ 7 ∷ 8 ∷ 9 ∷ 10 ∷ 11 ∷ 12 ∷ 13 ∷ 14 ∷ 15 ∷ 16 ∷ 17 ∷ 18 ∷ 19 ∷ 20 ∷ 21 ∷ 2 ∷ 4 ∷ []) $
+      looped 𝓣 met l₀ l₁ l₂ l₃ l₄ l₅ l₆ l₇ (record { i = 0; all = true; within = zero-le; rest = refl })))))))))
 
 module _ {M : Type 1} (𝓤 : URA M) (H : Heap 𝓤) (A : Atoms 𝓤) (W : Given 𝓤 H A) (mem : Memory → SProp 𝓤) (at-run : Routine → Fun 𝓤) (𝓣 : Tables 𝓤 H) (met : Triple 𝓤 (𝓣 .C #is-row) (IsRow 𝓤 H A mem at-run)) where
-  known-walks : Walks 𝓤 H A known.ended stayed (WpFn 𝓤 H (𝓣 .C) (𝓣 .Λ) code.function) (known.clauses 𝓤 H A mem at-run)
-  known-walks = walked 𝓤 H A known.ended stayed (known.clauses 𝓤 H A mem at-run) (WpFn 𝓤 H (𝓣 .C) (𝓣 .Λ) code.function) (λ κs. (slice-vals, tt)) (λ κs. (shr-slice-tells (named 0) (κs .0) R.the-row, tt))
-      (λ κs qs bounds a g are. via 𝓤 _ (fst∗ 𝓤 _ (emp 𝓤)) (walk 𝓤 H A W mem at-run (κs .0) (qs .0) (a .0 .ptr .0) (a .0 .ptr .1) (a .0 .name) (a .0 .now) (are .0 .0 .1) 𝓣 met))
-
   known-meets : Meets 𝓤 H A known.signature (WpFn 𝓤 H (𝓣 .C) (𝓣 .Λ) code.function) (known.spec 𝓤 H A mem at-run)
-  known-meets = walk-meets 𝓤 H A known.ended stayed W (goes-none-slice 𝓤 H A W 1 (0 ∷ []) tt (plain (λ _. R.the-row)) yes, tt) (known.clauses 𝓤 H A mem at-run) (WpFn 𝓤 H (𝓣 .C) (𝓣 .Λ) code.function) (WpFn-mono 𝓤 H (W .laws) 𝓣 code.function) known-walks
+  known-meets = walk-meets 𝓤 H A known.ended stayed W (goes-none-slice 𝓤 H A W 1 (0 ∷ []) tt (plain (λ _. R.the-row)) yes, tt) (known.clauses 𝓤 H A mem at-run) (WpFn 𝓤 H (𝓣 .C) (𝓣 .Λ) code.function) (WpFn-mono 𝓤 H (W .laws) 𝓣 code.function)
+      (walked 𝓤 H A known.ended stayed (known.clauses 𝓤 H A mem at-run) (WpFn 𝓤 H (𝓣 .C) (𝓣 .Λ) code.function) (λ κs. (slice-vals, tt)) (λ κs. (shr-slice-tells (named 0) (κs .0) R.the-row, tt))
+      (λ κs qs bounds a g are. via 𝓤 _ (fst∗ 𝓤 _ (emp 𝓤)) (walk 𝓤 H A W mem at-run (κs .0) (qs .0) (a .0 .ptr .0) (a .0 .ptr .1) (a .0 .name) (a .0 .now) (are .0 .0 .1) 𝓣 met)))
 
 pub known-spec : {M : Type 1} → known.Statement.statement M
 unfolding code.routine tablesOf

@@ -1,8 +1,8 @@
 -- `schedule_calls::counting::attention` meets its contract.
 -- Assumes nothing.
-use borrow.{Author.Needs.needs}
-use Rattle.schedule_calls.specs.{Words.addedAll}
-use Rattle.schedule_calls.proofs.{counting.attention.Statement.statement}
+use borrow.Author.Needs.{needs}
+use Rattle.schedule_calls.specs.Words.{addedAll}
+use Rattle.schedule_calls.proofs.counting.attention.Statement.{statement}
 use Rattle.schedule_calls.proofs.counting.attention.Tie as tie
 
 pub attention-spec : {M : Type 1} → statement M

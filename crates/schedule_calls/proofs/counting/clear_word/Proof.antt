@@ -1,9 +1,9 @@
 -- `schedule_calls::counting::clear_word` meets its contract.
 -- Assumes nothing.
-use borrow.{Author.Needs.needs}
-use lib.{Seq.set-out}
-use mathlib.{Core.Path.sym}
-use Rattle.schedule_calls.proofs.{counting.clear_word.Statement.statement}
+use borrow.Author.Needs.{needs}
+use lib.Seq.{set-out}
+use mathlib.Core.Path.{sym}
+use Rattle.schedule_calls.proofs.counting.clear_word.Statement.{statement}
 use Rattle.schedule_calls.proofs.counting.clear_word.Tie as tie
 
 pub clear-word-spec : {M : Type 1} → statement M
