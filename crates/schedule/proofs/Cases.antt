@@ -1,20 +1,20 @@
 -- Some schedules in numbers: who waits, what is refused and for whom, rows of an unknown kind, and what the halves of a pair store.
 -- Assumes nothing.
-use Prim.Native.Nat.{ℕ}
-use lib.ListN.{replicate}
 use mathlib.Core.{Bool.true, Bool.false, List.List, List.[], List._∷_, List._++_, Path._≡_, Path.refl}
+use Prim.Native.Nat.{ℕ}
 use native.Mathlib.Omega.{arith}
+use lib.ListN.{replicate}
+use Rattle.ground_rules.specs.declared.{Channel.Channel, Held.the-variants.NoByte, Mode.the-variants.Running}
 use Rattle.ground_rules.specs.Buffers.{buffers, spaceOf, limitOf, indexOf, lentAt, touchableAt, beyondIn, byteAt, storeByte, withinLimits}
 use Rattle.ground_rules.specs.States.{boardWith, channelOf, withChannel, withLast, soundChannel, sound, isRunning, fieldsAgree, agree}
-use Rattle.ground_rules.specs.declared.{Channel.Channel, Held.the-variants.NoByte, Mode.the-variants.Running}
 use Rattle.ground_rules.specs.{Cc.split, Cc.sameFlag, Cc.sameFields, Outcomes.unless, Outcomes.first, Outcomes.givenNumber, Psw.withPsw, Stages.stagesNumber}
 use Rattle.ground_rules.specs.{Updates.withTransfer, Bits.fieldOf, Bits.bitOf, Bits.withBit, Compare.matchOf, Places.allPass, Values.pointer, Values.onward}
+use Rattle.attention_rules.proofs.Numbers.{gives-12}
 use Rattle.transfer_rules.specs.{Ends.meetsTmc, Ends.codeIf, Ends.larger, Ends.offsetOf, Ends.endedTP, Ends.endedPSW, Ends.endedBy, Halves.wordWith, Halves.secondStored, Parts.fetchesApart, Parts.storesApart, Parts.fetchPart, Parts.storePart, Parts.partOf}
 use Rattle.transfer_rules.specs.Stores.{movedChannel, movedMemory, firstMeets, matchMet, cutShort, storesTwo, bytesStored, bytesMoved, bytesCounted, countAfter, endCode, movedBy, putOn, placesOn, storedPlaces}
 use Rattle.transfer_rules.specs.Reads.{fetched, fetchedSecond, entryOf, delivered, dataOf, also, readPlaces}
 use Rattle.transfer_rules.specs.Sides.{source, destination, wordSide, secondAddress, gained, twoMove, storedSingly}
 use Rattle.transfer_rules.specs.Steps.{badMode, transferOf, stepBy, numberBy, stagesBy, channelBy, memoryBy, touchedBy}
-use Rattle.attention_rules.proofs.Numbers.{gives-12}
 use Rattle.turn_rules.specs.Choosing.{requested, external, endsNow, transferRank, rankOf, secondWins, ranked, choiceOf}
 use Rattle.turn_rules.specs.Step.{settledStep, transferStep, channelStep, chosenStep, entryNumber, stepOf}
 use Rattle.schedule.specs.Rows.{Bench, bench, allKnown, rowLeft}

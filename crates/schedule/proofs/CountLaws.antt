@@ -1,17 +1,17 @@
 -- The laws of the counts of a row: accepted and refused, attentions, what the accepted rows are, and how much a row adds to a count.
 -- Assumes nothing.
 use mathlib.Core.{List.List, Bool.Bool, Bool.true, Bool.false, Bool.not, Bool._&&_, Bool._||_, Logic.⊎-elim, Logic._↔_, Path._≡_, Path.refl}
+use Prim.Native.Nat.{ℕ, _+_, _≤_}
+use native.Mathlib.Omega.{arith}
+use borrow.Author.Tests.{eqb-true, eqb-false, ne-eqb}
+use lib.Dec.{eqb}
+use Rattle.ground_rules.proofs.{ConditionLaws.Says, ConditionLaws.says-eqb, ConditionLaws.says-or, ChoiceLaws.and-true, ChoiceLaws.and-false}
+use Rattle.ground_rules.specs.{States.channelNumber, declared.State.State, Buffers.Buffers}
+use Rattle.attention_rules.{proofs.Numbers.gives-12, specs.Attention.attentionOf}
+use Rattle.turn_rules.{proofs.OutcomeLaws.by-step, specs.Step.Step, specs.Step.stepOf}
 use Rattle.schedule.specs.Counts.{onceIf, acceptedAt, refusedAt, isAttentionTo, attendedAt, rejectedAt, isInstruction, isTransfer, isExternal, isDone, doneAt, instructionAt, transferAt, endAt}
 use Rattle.schedule.specs.Rows.{Bench, isAttention, isStep, rowNumber}
 use Rattle.schedule.specs.{Reports.reportOf, Counts.overRows, Counts.storedAt, Counts.waitAt, declared.ScheduleRow.ScheduleRow}
-use Prim.Native.Nat.{ℕ, _+_, _≤_}
-use borrow.Author.Tests.{eqb-true, eqb-false, ne-eqb}
-use lib.Dec.{eqb}
-use native.Mathlib.Omega.{arith}
-use Rattle.attention_rules.{proofs.Numbers.gives-12, specs.Attention.attentionOf}
-use Rattle.ground_rules.proofs.{ConditionLaws.Says, ConditionLaws.says-eqb, ConditionLaws.says-or, ChoiceLaws.and-true, ChoiceLaws.and-false}
-use Rattle.ground_rules.specs.{States.channelNumber, declared.State.State, Buffers.Buffers}
-use Rattle.turn_rules.{proofs.OutcomeLaws.by-step, specs.Step.Step, specs.Step.stepOf}
 
 -- a report with its counts laid open
 unfoldable pub countsOpen : Bench → List ScheduleRow → List ℕ

@@ -1,21 +1,21 @@
 -- When a row counts for a channel, in its kind, its value, the channel before it and what its own call answers: waiting rows, attentions, and steps of each kind.
 -- Assumes nothing.
 use mathlib.Core.{Bool._&&_, Bool.Bool, Bool.true, Bool.false, Logic.⊎-elim, Logic._↔_, Path._≡_, Path.refl, Path.sym, Path.ap, Path._∙_}
-use Rattle.turn_rules.{specs.Choosing.choiceOf, specs.declared.Choice.the-variants.Steps, proofs.ChoosingLaws.rank-none, proofs.ChoosingLaws.steps-chosen}
-use Rattle.turn_rules.specs.declared.Kind.{Kind, the-variants.Nothing, the-variants.Instruction, the-variants.Transfer, the-variants.External}
-use Rattle.turn_rules.specs.{Choosing.requested, Choosing.noRank, Choosing.transferRank, Choosing.rankOf, Step.stepOf}
 use Prim.Native.Nat.{_<_}
+use native.Mathlib.Omega.{arith}
 use borrow.Author.Tests.{ltb-true, ltb-false}
 use lib.Dec.{ltb}
-use native.Mathlib.Omega.{arith}
 use Rattle.ground_rules.proofs.ConditionLaws.{Says, says-true, says-false, says-eqb, says-running, says-and, says-or, says-not}
 use Rattle.ground_rules.proofs.ChoiceLaws.{both-right, apart}
 use Rattle.ground_rules.specs.{Psw.transferring, States.channelOf, States.isRunning, States.channelNumber}
+use Rattle.attention_rules.specs.Attention.{attentionOf}
+use Rattle.turn_rules.{specs.Choosing.choiceOf, specs.declared.Choice.the-variants.Steps, proofs.ChoosingLaws.rank-none, proofs.ChoosingLaws.steps-chosen}
+use Rattle.turn_rules.specs.declared.Kind.{Kind, the-variants.Nothing, the-variants.Instruction, the-variants.Transfer, the-variants.External}
+use Rattle.turn_rules.specs.{Choosing.requested, Choosing.noRank, Choosing.transferRank, Choosing.rankOf, Step.stepOf}
 use Rattle.schedule.specs.Counts.{onceIf, isTransfer, isDone, doneAt, transferAt, waitsForDrq, waitAt, attendedAt, rejectedAt, isInstruction, isExternal, instructionAt, endAt}
 use Rattle.schedule.specs.Conditions.{FoundWaiting, AttentionRow, StepRow}
 use Rattle.schedule.specs.{Rows.Bench, Rows.isStep, declared.ScheduleRow.ScheduleRow}
 use Rattle.schedule.proofs.{CountLaws.once-exactly, StoreLaws.transfer-chosen}
-use Rattle.attention_rules.specs.Attention.{attentionOf}
 
 -- a row counts for a channel exactly where it found it waiting, whatever became of the row
 pub wait-exactly : (second : Bool) (p : Bench) (r : ScheduleRow) → waitAt second p r ≡ 1 ↔ FoundWaiting second p r
@@ -39,11 +39,10 @@ waiting-still second p r w =
     let unranked : rankOf (channelOf s second) (requested (r .value) second) ≡ noRank =
     rw (found .request, found .runs, found .transfers) (⊎-elim (λ e. rw e) (λ e. rw e) (found .synchronised)) in
     let moves = isDone isTransfer second (stepOf s (p .memory) (r .value)) in
-    let chosen : isStep r && moves ≡ true → choiceOf s (r .value) ≡ Steps second = λ h. transfer-chosen s (p .memory) (r .value) second (both-right (isStep r) moves h) .1 in
     elim (isStep r && moves) as (λ b. (b ≡ true → choiceOf s (r .value) ≡ Steps second) → onceIf b ≡ 0) [
       | true ↦ λ h. absurd (rank-none (channelOf s second) (requested (r .value) second) .0 unranked (steps-chosen s (r .value) second (h refl) .1))
       | false ↦ λ h. refl
-    ] chosen
+    ] (λ h. transfer-chosen s (p .memory) (r .value) second (both-right (isStep r) moves h) .1)
 
 -- ---- attentions
 

@@ -1,16 +1,16 @@
 -- The laws of rows: which are known, what rows cut into two leave and count, whatever is counted, and that a refused row leaves everything.
 -- Assumes nothing.
-use Prim.Native.Nat.{ℕ, _+_, zero, suc, _<_}
-use lib.ListN.{length, getD}
 use mathlib.Core.Bool.{true, _||_, Bool, false, _&&_, and-assoc}
 use mathlib.Core.{List.List, List.[], List._∷_, List._++_, Path._≡_, Path.refl, Path.sym, Path.ap, Path._∙_}
+use Prim.Native.Nat.{ℕ, _+_, zero, suc, _<_}
 use native.Mathlib.Omega.{arith}
+use lib.ListN.{length, getD}
 use Rattle.ground_rules.proofs.{ChoiceLaws.both-left, ChoiceLaws.both-right, ConditionLaws.Told, ConditionLaws.told-true, ConditionLaws.told-eqb}
 use Rattle.ground_rules.{proofs.ConditionLaws.told-and, proofs.ConditionLaws.told-or, specs.Outcomes.Outcome, specs.Choice.pick}
-use Rattle.schedule.specs.Rows.{Bench, isAttention, isStep, allKnown, rowLeft, rowsLeft, bench, rowNumber}
-use Rattle.schedule.specs.{Counts.RowCount, Counts.overRows, declared.ScheduleRow.ScheduleRow, Conditions.UnknownIn}
 use Rattle.attention_rules.{proofs.Outcomes.refused-nothing, specs.Attention.attentionOf}
 use Rattle.turn_rules.{proofs.OutcomeLaws.refused, specs.Step.Step, specs.Step.stepOf}
+use Rattle.schedule.specs.Rows.{Bench, isAttention, isStep, allKnown, rowLeft, rowsLeft, bench, rowNumber}
+use Rattle.schedule.specs.{Counts.RowCount, Counts.overRows, declared.ScheduleRow.ScheduleRow, Conditions.UnknownIn}
 
 -- any count of rows cut into two is the sum of the two counts
 pub over-cut : (f : RowCount) (p : Bench) (a b : List ScheduleRow) → overRows f p (a ++ b) ≡ overRows f p a + overRows f (rowsLeft p a) b

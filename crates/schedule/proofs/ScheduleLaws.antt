@@ -1,11 +1,11 @@
 -- The theorems of a schedule: accepted and refused rows add up to the rows given, one cut into two gives the same, 16 is given exactly for a row of no known kind and then nothing is run, what the accepted rows are, what is stored, and how large a count can be.
 -- Assumes nothing.
-use Prim.Native.Nat.{ℕ, _+_, _*_, _≤_}
-use borrow.Author.Tests.{eqb-false}
-use lib.{Dec.ltb, ListN.length, ListN.getD, ListN.replicate}
 use mathlib.Core.Bool.{Bool, true, false, _&&_, _||_}
 use mathlib.Core.{List.List, List.[], List._∷_, List._++_, List.map, Logic._↔_, Path._≡_, Path.refl, Path.sym, Path.ap₂, Path._∙_}
+use Prim.Native.Nat.{ℕ, _+_, _*_, _≤_}
 use native.Mathlib.Omega.{arith}
+use borrow.Author.Tests.{eqb-false}
+use lib.{Dec.ltb, ListN.length, ListN.getD, ListN.replicate}
 use Rattle.ground_rules.proofs.{ConditionLaws.told-exactly, ChoiceLaws.both-left, ChoiceLaws.both-right}
 use Rattle.ground_rules.specs.{States.channelOf, Choice.pick}
 use Rattle.turn_rules.specs.{Choosing.requested, declared.Kind.Kind}

@@ -1,21 +1,21 @@
 -- The laws of the bytes that transfer steps store: with those that they read they are the touched ones, and a step stores two at most.
 -- Assumes nothing.
+use mathlib.Core.{Bool.Bool, Bool.true, Bool.false, Bool._&&_, List._++_, Path._≡_, Path.refl, Path.sym, Path.ap, Path._∙_}
 use Prim.Native.Nat.{ℕ, _+_, _*_, _≤_}
+use native.Mathlib.Omega.{arith}
 use borrow.Author.Tests.{eqb-true}
 use lib.ListN.{length, length-append}
-use mathlib.Core.{Bool.Bool, Bool.true, Bool.false, Bool._&&_, List._++_, Path._≡_, Path.refl, Path.sym, Path.ap, Path._∙_}
-use native.Mathlib.Omega.{arith}
 use Rattle.ground_rules.specs.States.{channelOf, channelNumber, isSecond}
 use Rattle.ground_rules.specs.{Outcomes.counted, Psw.transferring, declared.Channel.Channel, declared.State.State, Buffers.Buffers, Choice.pick}
 use Rattle.ground_rules.proofs.{ChoiceLaws.apart, ChoiceLaws.both-right, ChoiceLaws.and-true, ChoiceLaws.and-false, ChannelLaws.named, ConditionLaws.says-true}
-use Rattle.turn_rules.{proofs.OutcomeLaws.by-step, specs.Choosing.choiceOf, specs.Step.Step, specs.Step.entryNumber, specs.Step.stepOf, specs.Touched.touchedIn}
-use Rattle.turn_rules.specs.{Touched.touchedByStep, Touched.stepCount, declared.Choice.the-variants.Steps}
 use Rattle.transfer_rules.specs.Parts.{Part, Whole, FirstFetch, SecondFetch, FirstStore, SecondStore, partOf}
 use Rattle.transfer_rules.specs.Stores.{storesTwo, placesOn, storedPlaces}
 use Rattle.transfer_rules.specs.{Reads.dataOf, Reads.also, Sides.destination, Steps.touchedBy, Steps.readsBy, Steps.touchedByTransfer}
-use Rattle.schedule.proofs.CountLaws.{once-one, once-exactly}
+use Rattle.turn_rules.{proofs.OutcomeLaws.by-step, specs.Choosing.choiceOf, specs.Step.Step, specs.Step.entryNumber, specs.Step.stepOf, specs.Touched.touchedIn}
+use Rattle.turn_rules.specs.{Touched.touchedByStep, Touched.stepCount, declared.Choice.the-variants.Steps}
 use Rattle.schedule.specs.Counts.{onceIf, isTransfer, isDone, doneAt, transferAt, storesBy, storedAt}
 use Rattle.schedule.specs.{Rows.Bench, Rows.isStep, declared.ScheduleRow.ScheduleRow}
+use Rattle.schedule.proofs.CountLaws.{once-one, once-exactly}
 
 -- what a transfer step touches is what it reads and then what it stores
 pub touched-apart : (k : Part) (c : Channel) (m : Buffers) → touchedBy k c m ≡ readsBy k c m ++ storesBy k c m

@@ -1,11 +1,11 @@
 -- What the loop over a schedule's rows holds after some of them: the number before the first row, and what those rows left and counted where it is 0; from the start, one row on, and at the end.
 -- Assumes nothing.
-use Prim.Native.Nat.{_-_, ℕ, _+_, _≤_, _<_}
-use lib.{WfN.Nat·lt-wfRel, Dec.ltb, ListN.length, ListN.getD, ListN.take, Seq.take-suc, Seq.take-length, Seq.length-take-le}
 use mathlib.Core.{WellFounded.WellFounded, WellFounded.InvImage·wf, Bool.Bool, Bool.true, Bool.false, List.List, List.[], List._∷_, List._++_, List.map}
 use mathlib.Core.{Logic._⊎_, Logic.inl, Logic.inr, Path._≡_, Path.refl, Path.sym, Path.ap, Path.ap₂, Path._∙_}
-use borrow.Author.Tests.{ltb-true, ltb-false}
+use Prim.Native.Nat.{_-_, ℕ, _+_, _≤_, _<_}
 use native.Mathlib.{Numerals.add-one, Omega.arith}
+use borrow.Author.Tests.{ltb-true, ltb-false}
+use lib.{WfN.Nat·lt-wfRel, Dec.ltb, ListN.length, ListN.getD, ListN.take, Seq.take-suc, Seq.take-length, Seq.length-take-le}
 use Rattle.ground_rules.{proofs.ChoiceLaws.apart, specs.Choice.pick}
 use Rattle.state_rules.specs.Layout.{bytesOf, stateIn, isState}
 use Rattle.schedule.specs.Reports.{allCounts, noReport, reportOf, scheduleOf, putOver}

@@ -1,14 +1,11 @@
 -- The laws of a row: what a call of the service comes to as a row, and what is counted of it.
 -- Assumes nothing.
-use Rattle.schedule.specs.Counts.{onceIf, isInstruction, isTransfer, isExternal, isDone, storesBy, waitsForDrq}
-use Rattle.schedule.specs.{Reports.reportOf, Rows.Bench, Rows.bench, Rows.rowLeft, declared.ScheduleRow.ScheduleRow}
-use Rattle.schedule.proofs.{CountLaws.countsOpen, StoreLaws.transfer-chosen, StoreLaws.transfer-count, StoreLaws.stores-most}
-use Prim.Native.Nat.{ℕ, zero, suc, _+_, _-_, _/_, _%_, _<_}
-use borrow.Author.Tests.{ne-eqb}
-use lib.{Dec.eqb, Dec.ltb, Dec.lit<, ListN.length, ListN.getD, ListN.replicate}
 use mathlib.Core.Path.{_≡_, refl, sym, ap, ap₂, _∙_, subst}
 use mathlib.Core.{Bool.Bool, Bool.true, Bool.false, Bool.not, Bool._&&_, List.List, List.[], List._∷_, List._++_}
+use Prim.Native.Nat.{ℕ, zero, suc, _+_, _-_, _/_, _%_, _<_}
 use native.Mathlib.{Nat.add-zero, Nat.zero-add, Omega.arith}
+use borrow.Author.Tests.{ne-eqb}
+use lib.{Dec.eqb, Dec.ltb, Dec.lit<, ListN.length, ListN.getD, ListN.replicate}
 use Rattle.ground_rules.specs.Buffers.{Buffers, buffers, spaceOf, indexOf, beyondIn, byteAt, AllBytes}
 use Rattle.ground_rules.specs.{Psw.transferring, States.channelOf, States.channelNumber, declared.State.State, Choice.pick}
 use Rattle.ground_rules.proofs.{ChoiceLaws.and-true, ChoiceLaws.and-false, ConditionLaws.says-true, ConditionLaws.says-eqb, ConditionLaws.says-and}
@@ -21,6 +18,9 @@ use Rattle.state_rules.proofs.NumberLaws.{number-part, channel-part, kind-part,
 use Rattle.state_rules.specs.Calls.{Service, served, kindNumber, answerFrom, attentionServed, stepLeft, stepServed}
 use Rattle.state_rules.specs.{Conditions.Bytes, Layout.bytesOf, Layout.stateIn, Layout.isState}
 use Rattle.service.proofs.OutcomeLaws.{attention-stays, step-stays}
+use Rattle.schedule.specs.Counts.{onceIf, isInstruction, isTransfer, isExternal, isDone, storesBy, waitsForDrq}
+use Rattle.schedule.specs.{Reports.reportOf, Rows.Bench, Rows.bench, Rows.rowLeft, declared.ScheduleRow.ScheduleRow}
+use Rattle.schedule.proofs.{CountLaws.countsOpen, StoreLaws.transfer-chosen, StoreLaws.transfer-count, StoreLaws.stores-most}
 use Rattle.schedule_calls.specs.Turns.{Standing, standing, RowRun, attentionRow, stepRow}
 use Rattle.schedule_calls.specs.{Words.addedAll, Words.attentionAdds, Words.stepAdds, declared.finding.Found.Found}
 use Rattle.schedule_calls.proofs.WordLaws.{FitWords, CountedAs, adds-are}
@@ -48,13 +48,11 @@ attention-row b m w channel answer b′ m′ w′ is byte small e whole counts =
     let o = attentionOf (stateIn b) m channel in
     let left : served answer b′ m′ ≡ served (answerFrom (o .number) 0 0 (attentionCount (stateIn b) m channel)) (bytesOf (o .state)) (o .memory) = rw is at e in
     let number = ap (λ (x : Service). x .answer % 256) left ∙ number-part (o .number) 0 0 (attentionCount (stateIn b) m channel) (omega (arith, attention-most (stateIn b) m channel)) in
+    let stays = ap (λ (x : Service). isState (x .bytes)) e ∙ attention-stays b byte m is channel in
     record {
       bench = ap₂ bench whole (ap (λ (x : Service). x .memory) left);
       words = counts ∙ rw number (adds-are _ _ w small (attention-adds (bench (stateIn b) m) channel));
-      state = record {
-        is = ap (λ (x : Service). isState (x .bytes)) e ∙ attention-stays b byte m is channel;
-        back = ap bytesOf whole ∙ sym (ap (λ (x : Service). x .bytes) left);
-      };
+      state = record { is = stays; back = ap bytesOf whole ∙ sym (ap (λ (x : Service). x .bytes) left) };
     }
 
 -- ---- a step
@@ -149,13 +147,11 @@ step-row b m w lines answer b′ m′ w′ f g is byte all small e whole one two
       count-part _ _ _ _,
     ) in
     let stored = stored-right s m lines f g (answer / 4096) one two (parts .3) in
+    let stays = ap (λ (x : Service). isState (x .bytes)) e ∙ step-stays b byte m is all lines in
     record {
       bench = ap₂ bench whole (ap (λ (x : Service). x .memory) left);
       words = counts ∙ rw (one .0, two .0, parts .0, parts .1, parts .2) (adds-are _ _ w small (step-adds s m lines _ stored));
-      state = record {
-        is = ap (λ (x : Service). isState (x .bytes)) e ∙ step-stays b byte m is all lines;
-        back = ap bytesOf whole ∙ sym (ap (λ (x : Service). x .bytes) left);
-      };
+      state = record { is = stays; back = ap bytesOf whole ∙ sym (ap (λ (x : Service). x .bytes) left) };
     }
 
 -- ---- the turn of a row

@@ -1,11 +1,11 @@
 -- The laws of a report's words: cleared one by one, and added to one after the other, which comes to one report added.
 -- Assumes nothing.
+use mathlib.Core.{Bool.Bool, Bool.true, Bool._&&_, List.List, List.[], List._∷_, Path._≡_, Path.refl, Path.ap₂, Path.ap, Path._∙_}
 use Prim.Native.Nat.{ℕ, zero, suc, _+_, _%_, _<_, _^_}
+use native.Mathlib.{Numerals.add-one, Omega.arith}
 use borrow.Author.Tests.{ltb-true}
 use lib.{Dec.ltb, ListN.length, ListN.getD, ListN.set, ListN.replicate, ListN.length-set, Seq.set-getD}
 use Rattle.ground_rules.proofs.ChoiceLaws.{both-left, both-right}
-use mathlib.Core.{Bool.Bool, Bool.true, Bool._&&_, List.List, List.[], List._∷_, Path._≡_, Path.refl, Path.ap₂, Path.ap, Path._∙_}
-use native.Mathlib.{Numerals.add-one, Omega.arith}
 use Rattle.schedule.specs.Reports.{noReport, putOver}
 use Rattle.schedule_calls.specs.Words.{addedAt, addedAll, addedOn}
 

@@ -1,7 +1,7 @@
 -- `schedule_calls::attend` meets its contract.
 -- Assumes nothing.
-use borrow.Author.Needs.{needs}
 use native.Mathlib.Omega.{arith}
+use borrow.Author.Needs.{needs}
 use Rattle.schedule_calls.proofs.{TurnLaws.attention-row, attend.Statement.statement}
 use Rattle.schedule_calls.proofs.attend.Tie as tie
 

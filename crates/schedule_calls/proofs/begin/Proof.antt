@@ -1,8 +1,8 @@
 -- `schedule_calls::begin` meets its contract.
 -- Assumes nothing.
-use borrow.Author.Needs.{needs}
 use mathlib.Core.Path.{refl}
 use native.Mathlib.Omega.{arith}
+use borrow.Author.Needs.{needs}
 use Rattle.state_rules.proofs.ForthLaws.{bytes-back}
 use Rattle.schedule_calls.proofs.begin.Statement.{statement}
 use Rattle.schedule_calls.proofs.begin.Tie as tie

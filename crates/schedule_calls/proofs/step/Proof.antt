@@ -1,7 +1,7 @@
 -- `schedule_calls::step` meets its contract.
 -- Assumes nothing.
-use borrow.Author.Needs.{needs}
 use native.Mathlib.Omega.{arith}
+use borrow.Author.Needs.{needs}
 use Rattle.state_rules.proofs.CallLaws.{state-length}
 use Rattle.schedule_calls.proofs.{TurnLaws.all-bytes, TurnLaws.step-row, step.Statement.statement}
 use Rattle.schedule_calls.proofs.step.Tie as tie

@@ -1,7 +1,7 @@
 -- `schedule_calls::turn` meets its contract.
 -- Assumes nothing.
-use borrow.Author.Needs.{needs}
 use mathlib.Core.{Logic.⊎-elim, Path.refl}
+use borrow.Author.Needs.{needs}
 use Rattle.ground_rules.proofs.ConditionLaws.{says-eqb, says-or}
 use Rattle.schedule_calls.proofs.{TurnLaws.run-as, turn.Statement.statement}
 use Rattle.schedule_calls.proofs.turn.Tie as tie

@@ -1,9 +1,9 @@
 -- `schedule_calls::counting::add` meets its contract.
 -- Assumes nothing.
-use borrow.Author.{Needs.needs, Tests.not-true, Tests.not-false}
-use lib.Seq.{set-out}
 use mathlib.Core.Path.{sym}
 use native.Mathlib.Omega.{arith}
+use borrow.Author.{Needs.needs, Tests.not-true, Tests.not-false}
+use lib.Seq.{set-out}
 use Rattle.schedule_calls.specs.Words.{addedAt}
 use Rattle.schedule_calls.proofs.{WordLaws.none-at, counting.add.Statement.statement}
 use Rattle.schedule_calls.proofs.counting.add.Tie as tie

@@ -1,11 +1,11 @@
 -- `schedule_calls::counting::clear` meets its contract. The loop's invariant: as many words as were passed are cleared.
 -- Assumes nothing.
-use Prim.Native.Nat.{ℕ, _-_, _≤_}
-use borrow.Author.Needs.{needs}
-use denote.Ref.{now}
-use lib.ListN.{length, set, replicate}
 use mathlib.Core.{List.List, Path._≡_, Path.refl, Path.ap, Path._∙_}
+use Prim.Native.Nat.{ℕ, _-_, _≤_}
 use native.Mathlib.Omega.{arith}
+use borrow.Author.Needs.{needs}
+use lib.ListN.{length, set, replicate}
+use denote.Ref.{now}
 use Rattle.schedule.specs.Reports.{putOver}
 use Rattle.schedule_calls.proofs.{WordLaws.clear-next, WordLaws.over-length, counting.clear.Statement.statement}
 use Rattle.schedule_calls.proofs.counting.clear.Tie as tie

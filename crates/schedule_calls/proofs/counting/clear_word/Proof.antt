@@ -1,8 +1,8 @@
 -- `schedule_calls::counting::clear_word` meets its contract.
 -- Assumes nothing.
+use mathlib.Core.Path.{sym}
 use borrow.Author.Needs.{needs}
 use lib.Seq.{set-out}
-use mathlib.Core.Path.{sym}
 use Rattle.schedule_calls.proofs.counting.clear_word.Statement.{statement}
 use Rattle.schedule_calls.proofs.counting.clear_word.Tie as tie
 

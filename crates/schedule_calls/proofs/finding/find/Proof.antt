@@ -1,8 +1,8 @@
 -- `schedule_calls::finding::find` meets its contract.
 -- Assumes nothing.
+use mathlib.Core.{Bool._||_, Bool.and-assoc, Path.sym, Path._∙_}
 use borrow.Author.{Needs.needs, Tests.not-true, Tests.not-false}
 use lib.Dec.{eqb}
-use mathlib.Core.{Bool._||_, Bool.and-assoc, Path.sym, Path._∙_}
 use Rattle.ground_rules.proofs.ChoiceLaws.{apart, and-true, and-false}
 use Rattle.turn_rules.specs.Choosing.{requested}
 use Rattle.schedule.specs.Counts.{waitsForDrq}
