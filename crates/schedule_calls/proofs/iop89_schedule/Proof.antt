@@ -102,14 +102,9 @@ module _ {M : Type 1} (𝓤 : URA M) (H : Heap 𝓤) (A : Atoms 𝓤) (W : Given
   abbrev vals : List Val × (List Val × (List Val × (List Val × (List Val × Unit {0}))))
   vals = (span b₀ o₀ st₀ ∷ [], (vrows ∷ [], (span b₂ o₂ sys₀ ∷ [], (span b₃ o₃ io₀ ∷ [], (span b₄ o₄ rep₀ ∷ [], tt)))))
 
-  abbrev lfts : Lft × (Lft × (Lft × (Lft × (Lft × Unit {0}))))
-  lfts = (κ₀, (κ₁, (κ₂, (κ₃, (κ₄, tt)))))
-
-  abbrev parts : Share × (Share × (Share × (Share × (Share × Unit {0}))))
-  parts = (q₀, (q₁, (q₂, (q₃, (q₄, tt)))))
-
   abbrev Post : Val → SProp 𝓤
-  Post = walkOf 𝓤 H A schedule.ended stayed (schedule.clauses 𝓤 H A at-mem at-run) .post ((lfts, parts, tt, args, vals), tt)
+  Post = walkOf 𝓤 H A schedule.ended stayed (schedule.clauses 𝓤 H A at-mem at-run) .post
+      (((κ₀, (κ₁, (κ₂, (κ₃, (κ₄, tt))))), (q₀, (q₁, (q₂, (q₃, (q₄, tt))))), tt, args, vals), tt)
 
   abbrev elem : ℕ → ScheduleRow
   elem i = getD ys i noRow
@@ -216,13 +211,14 @@ module _ {M : Type 1} (𝓤 : URA M) (H : Heap 𝓤) (A : Atoms 𝓤) (W : Given
       exits : (u : Turn) → ScheduleMet number (stands u) before ys → ent 𝓤 (⋆ 𝓤 H A (ends-with (u .st) (u .sys) (u .io) (u .rep))) (Post (vint w32 number))
       exits u e =
           qed W (ends-with (u .st) (u .sys) (u .io) (u .rep)) ∵
-          suffices ! _ (ends-at 𝓤 H A schedule.ended stayed (schedule.clauses 𝓤 H A at-mem at-run) W ((lfts, parts, tt, args, vals), tt) (vint w32 number) number (u .st, (tt, (u .sys, (u .io, (u .rep, tt))))) (u .len₀, (tt, (u .len₂, (u .len₃, (u .len₄, tt)))))) $ says ! e $
+          suffices ! _ (ends-at 𝓤 H A schedule.ended stayed (schedule.clauses 𝓤 H A at-mem at-run) W (((κ₀, (κ₁, (κ₂, (κ₃, (κ₄, tt))))), (q₀, (q₁, (q₂, (q₃, (q₄, tt))))), tt, args, vals), tt) (vint w32 number) number (u .st, (tt, (u .sys, (u .io, (u .rep, tt))))) (u .len₀, (tt, (u .len₂, (u .len₃, (u .len₄, tt)))))) $ says ! e $
           nothing ! $ move ! (5 ∷ 0 ∷ []) $ join ! $ move ! (4 ∷ 0 ∷ []) $ join ! $ move ! (3 ∷ 0 ∷ []) $ join ! $ move ! (2 ∷ 0 ∷ []) $ join ! $ move ! (1 ∷ 0 ∷ []) $ join ! $ frame ! $
           nothing ! $ move ! (5 ∷ 0 ∷ []) $ fjoin ! $ move ! (4 ∷ 0 ∷ []) $ fjoin ! $ move ! (3 ∷ 0 ∷ []) $ fjoin ! $ move ! (2 ∷ 0 ∷ []) $ fjoin ! $ move ! (1 ∷ 0 ∷ []) $ fjoin ! $ frame ! $
           owned ! u32 (Is u32) (uint-makes 𝓤 H A W w32) number _ (refl, number-fits) $ done !
 
       abbrev At : Turn → List (Item 𝓤)
-      At u = Held (‵ (fat fullShare (tyInt w64) l₇ 0 (vint w64 (u .i)))) (‵ (fat fullShare (tyInt w32) l₆ 0 (vint w32 number))) (u .st) (u .sys) (u .io) (u .rep)
+      At u =
+          Held (‵ (fat fullShare (tyInt w64) l₇ 0 (vint w64 (u .i)))) (‵ (fat fullShare (tyInt w32) l₆ 0 (vint w32 number))) (u .st) (u .sys) (u .io) (u .rep)
 
       abbrev AfterTurn : Turn → Out → SProp 𝓤
       AfterTurn u = afterTurn 𝓤 H (Below 𝓤 H A Nearer At u) (afterBlock 𝓤 H (afterSeq 𝓤 H (Wp 𝓤 H (𝓣 .C) (𝓣 .Λ) En mir.t-9 (atReturn 𝓤 H En Post)) (atReturn 𝓤 H En Post)))
@@ -289,8 +285,8 @@ module _ {M : Type 1} (𝓤 : URA M) (H : Heap 𝓤) (A : Atoms 𝓤) (W : Given
           forget ! 10 refl $ forget ! 12 refl $ forget ! 14 refl $ forget ! 16 refl $ forget ! 18 refl $ forget ! 20 refl $ forget ! 22 refl $ forget ! 24 refl $ forget ! 26 refl $ forget ! 28 refl $ forget ! 30 refl $ forget ! 32 refl $ forget ! 34 refl $
           again ! Nearer At u
           (turnAt (u .i + 1) (zs .1 .0) (zs .1 .1 .1 .0) (zs .1 .1 .1 .1 .0) (zs .1 .1 .1 .1 .1 .0) (add-one-le l)
-          (e₀ ∙ u .len₀) (e₂ ∙ u .len₂) (e₃ ∙ u .len₃) (e₄ ∙ u .len₄) (along-next before ys number is-first back (u .i) (stands u) _ l (omega (arith, g₁ .1)) (u .along) e))
-          (add-one-dec n (u .i) l))))))))))))))))))))
+          (e₀ ∙ u .len₀) (e₂ ∙ u .len₂) (e₃ ∙ u .len₃) (e₄ ∙ u .len₄)
+          (along-next before ys number is-first back (u .i) (stands u) _ l (omega (arith, g₁ .1)) (u .along) e)) (add-one-dec n (u .i) l))))))))))))))))))))
         where
           -- what `turn` ensures
           Became : List ℕ → List ℕ → List ℕ → List ℕ → Type 0
@@ -366,7 +362,7 @@ module _ {M : Type 1} (𝓤 : URA M) (H : Heap 𝓤) (A : Atoms 𝓤) (W : Given
         (rw (same, cleared) (along-start before ys r is-first back)))))))))))))))))))))
 
   walk : (𝓣 : Tables 𝓤 H) → Triple 𝓤 (𝓣 .C #known) (Known 𝓤 H A at-mem at-run) → Triple 𝓤 (𝓣 .C #begin) (Begin 𝓤 H A at-mem at-run) → Triple 𝓤 (𝓣 .C #turn) (Turns 𝓤 H A at-mem at-run)
-      → ent 𝓤 (onEntry 𝓤 H A schedule.signature lfts parts args vals) (WpFn 𝓤 H (𝓣 .C) (𝓣 .Λ) code.function (span b₀ o₀ st₀ ∷ vrows ∷ span b₂ o₂ sys₀ ∷ span b₃ o₃ io₀ ∷ span b₄ o₄ rep₀ ∷ []) Post)
+      → ent 𝓤 (onEntry 𝓤 H A schedule.signature (κ₀, (κ₁, (κ₂, (κ₃, (κ₄, tt))))) (q₀, (q₁, (q₂, (q₃, (q₄, tt))))) args vals) (WpFn 𝓤 H (𝓣 .C) (𝓣 .Λ) code.function (span b₀ o₀ st₀ ∷ vrows ∷ span b₂ o₂ sys₀ ∷ span b₃ o₃ io₀ ∷ span b₄ o₄ rep₀ ∷ []) Post)
   walk 𝓣 met-known met-begin met-turn =
       qed W ((‵ (flft κ₀ q₀) ⊛ ‵ (flft κ₁ q₁) ⊛ ‵ (flft κ₂ q₂) ⊛ ‵ (flft κ₃ q₃) ⊛ ‵ (flft κ₄ q₄) ⊛ ‵ ftrue) ∷ ‵ (owns (MutSlice (named 0) κ₀ u8 ∷ ShrSlice (named 1) κ₁ R.the-row ∷ MutSlice (named 2) κ₂ u8 ∷ MutSlice (named 3) κ₃ u8 ∷ MutSlice (named 4) κ₄ u64 ∷ []) args vals) ∷ []) ∵ enter ! (𝓣 .C) (𝓣 .Λ) code.function (span b₀ o₀ st₀ ∷ vrows ∷ span b₂ o₂ sys₀ ∷ span b₃ o₃ io₀ ∷ span b₄ o₄ rep₀ ∷ []) _ $
       alloc1 ! (λ l₀. alloc1 ! (λ l₁. alloc1 ! (λ l₂. alloc1 ! (λ l₃. alloc1 ! (λ l₄. alloc1 ! (λ l₅. alloc1 ! (λ l₆. alloc1 ! (λ l₇. alloc1 ! (λ l₈. alloc1 ! (λ l₉. alloc1 ! (λ l₁₀. alloc1 ! (λ l₁₁. alloc1 ! (λ l₁₂. alloc1 ! (λ l₁₃. alloc1 ! (λ l₁₄. alloc1 ! (λ l₁₅. alloc1 ! (λ l₁₆. alloc1 ! (λ l₁₇. alloc1 ! (λ l₁₈. alloc1 ! (λ l₁₉. alloc1 ! (λ l₂₀. alloc1 ! (λ l₂₁. alloc1 ! (λ l₂₂. alloc1 ! (λ l₂₃. alloc1 ! (λ l₂₄. alloc1 ! (λ l₂₅. alloc0 ! $ params1 ! $

@@ -95,20 +95,17 @@ module _ {M : Type 1} (𝓤 : URA M) (H : Heap 𝓤) (A : Atoms 𝓤) (W : Given
       nothing ! $ move ! (1 ∷ 0 ∷ []) $ join ! $ frame ! $ nothing ! $ move ! (1 ∷ 0 ∷ []) $ fjoin ! $ frame ! $ owned ! bool (Is bool) (bool-makes 𝓤 H A W) t _ refl $ done !
 
   module _ (𝓣 : Tables 𝓤 H) (met : Triple 𝓤 (𝓣 .C #is-row) (IsRow 𝓤 H A at-mem at-run)) (l₀ l₁ l₂ l₃ l₄ l₅ l₆ l₇ : ℕ) where
-    abbrev word : Ty
-    word = tyInt w64
-
     abbrev slice : Ty
     slice = sliceTy (tyRef (named 0) imm (pointee (R.the-row .written)))
 
     abbrev En : Env 𝓤 H
-    En = (tyBool, l₀) ∷ (slice, l₁) ∷ (tyBool, l₂) ∷ (word, l₃) ∷ (word, l₄) ∷ (tyBool, l₅) ∷ (tyPtr, l₆) ∷ (R′.mir, l₇) ∷ []
+    En = (tyBool, l₀) ∷ (slice, l₁) ∷ (tyBool, l₂) ∷ (tyInt w64, l₃) ∷ (tyInt w64, l₄) ∷ (tyBool, l₅) ∷ (tyPtr, l₆) ∷ (R′.mir, l₇) ∷ []
 
     -- 0 the borrow of the rows; 1 its token; then _7 at 2 down to _0 at 16, each with what frees it; 18 the rows' ghost; 19 that they are a slice
     abbrev At : Turn → List (Item 𝓤)
     At u = ‵ (fshr-bor κ (λ s. arr-parts (shares R.the-row) n .part s ys b o)) ∷ ‵ (flft κ q)
-        ∷ ‵ (froom R′.mir l₇ 0) ∷ ‵ (fdies R′.mir l₇) ∷ ‵ (froom tyPtr l₆ 0) ∷ ‵ (fdies tyPtr l₆) ∷ ‵ (froom tyBool l₅ 0) ∷ ‵ (fdies tyBool l₅) ∷ ‵ (froom word l₄ 0) ∷ ‵ (fdies word l₄)
-        ∷ ‵ (fat fullShare word l₃ 0 (vint w64 (u .i))) ∷ ‵ (fdies word l₃) ∷ ‵ (fat fullShare tyBool l₂ 0 (vbool (u .all))) ∷ ‵ (fdies tyBool l₂)
+        ∷ ‵ (froom R′.mir l₇ 0) ∷ ‵ (fdies R′.mir l₇) ∷ ‵ (froom tyPtr l₆ 0) ∷ ‵ (fdies tyPtr l₆) ∷ ‵ (froom tyBool l₅ 0) ∷ ‵ (fdies tyBool l₅) ∷ ‵ (froom (tyInt w64) l₄ 0) ∷ ‵ (fdies (tyInt w64) l₄)
+        ∷ ‵ (fat fullShare (tyInt w64) l₃ 0 (vint w64 (u .i))) ∷ ‵ (fdies (tyInt w64) l₃) ∷ ‵ (fat fullShare tyBool l₂ 0 (vbool (u .all))) ∷ ‵ (fdies tyBool l₂)
         ∷ ‵ (fat fullShare slice l₁ 0 (sliceVal (b, o) n)) ∷ ‵ (fdies slice l₁) ∷ ‵ (froom tyBool l₀ 0) ∷ ‵ (fdies tyBool l₀)
         ∷ ‵ (fres γ (codedHoleys R.the-row .code (heres R.the-row ys))) ∷ ‵ (at-slice R.the-row rows (sliceVal (b, o) n ∷ [])) ∷ []
 
