@@ -63,6 +63,7 @@ rejected-exactly second p r =
 
 -- ---- steps
 
+-- a test that fails does not hold
 none : {A : Type 0} → false ≡ true → A
 none e = apart (sym e)
 

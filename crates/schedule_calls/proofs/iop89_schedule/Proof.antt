@@ -167,6 +167,7 @@ module _ {M : Type 1} (𝓤 : URA M) (H : Heap 𝓤) (A : Atoms 𝓤) (W : Given
         len₄ : length rep ≡ length rep₀
         along : Along before ys number i (standing st (buffers sys io) rep)
 
+      -- a turn by all that it has
       abbrev turnAt : (i : ℕ) (st sys io rep : List ℕ) → i ≤ n → length st ≡ length st₀ → length sys ≡ length sys₀ → length io ≡ length io₀
           → length rep ≡ length rep₀ → Along before ys number i (standing st (buffers sys io) rep) → Turn
       turnAt i st sys io rep within len₀ len₂ len₃ len₄ along =
