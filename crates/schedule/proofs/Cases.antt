@@ -19,7 +19,7 @@ use Rattle.turn_rules.specs.Choosing.{requested, external, endsNow, transferRan
 use Rattle.turn_rules.specs.Step.{settledStep, transferStep, channelStep, chosenStep, entryNumber, stepOf}
 use Rattle.schedule.specs.Rows.{Bench, bench, allKnown, rowLeft}
 use Rattle.schedule.specs.{Counts.storesBy, Counts.waitsForDrq, Reports.reportOf, Reports.scheduleOf, declared.ScheduleRow.ScheduleRow}
-use Rattle.schedule.proofs.CountLaws.{countsOpen}
+use Rattle.schedule.proofs.RowLaws.{countsOpen}
 
 -- a row, by its kind
 abbrev row : ℕ → ℕ → ScheduleRow

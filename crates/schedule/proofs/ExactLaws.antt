@@ -15,7 +15,7 @@ use Rattle.turn_rules.specs.{Choosing.requested, Choosing.noRank, Choosing.tran
 use Rattle.schedule.specs.Counts.{onceIf, isTransfer, isDone, doneAt, transferAt, waitsForDrq, waitAt, attendedAt, rejectedAt, isInstruction, isExternal, instructionAt, endAt}
 use Rattle.schedule.specs.Conditions.{FoundWaiting, AttentionRow, StepRow}
 use Rattle.schedule.specs.{Rows.Bench, Rows.isStep, declared.ScheduleRow.ScheduleRow}
-use Rattle.schedule.proofs.{CountLaws.once-exactly, StoreLaws.transfer-chosen}
+use Rattle.schedule.proofs.{RowLaws.once-exactly, StoreLaws.transfer-chosen}
 
 -- a row counts for a channel exactly where it found it waiting, whatever became of the row
 pub wait-exactly : (second : Bool) (p : Bench) (r : ScheduleRow) → waitAt second p r ≡ 1 ↔ FoundWaiting second p r

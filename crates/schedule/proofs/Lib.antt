@@ -1,5 +1,4 @@
 pub mod RowLaws
-pub mod CountLaws
 pub mod StoreLaws
 pub mod ScheduleLaws
 pub mod ExactLaws

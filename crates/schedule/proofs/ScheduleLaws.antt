@@ -13,8 +13,8 @@ use Rattle.schedule.specs.Counts.{RowCount, onceIf, overRows, acceptedAt
 use Rattle.schedule.specs.Rows.{Bench, isAttention, isStep, allKnown, rowLeft, rowsLeft}
 use Rattle.schedule.specs.Reports.{channelCounts, allCounts, reportOf, bothReports, allRun, noneRun, scheduleOf}
 use Rattle.schedule.specs.{Conditions.UnknownIn, declared.ScheduleRow.ScheduleRow}
-use Rattle.schedule.proofs.CountLaws.{once-one, accepted-or-refused, attentions-of, accepted-is}
-use Rattle.schedule.proofs.{RowLaws.told-known, RowLaws.known-cut, RowLaws.left-cut, RowLaws.over-cut, StoreLaws.stored-most, StoreLaws.stored-two}
+use Rattle.schedule.proofs.RowLaws.{once-one, accepted-or-refused, attentions-of, accepted-is, told-known, known-cut, left-cut, over-cut}
+use Rattle.schedule.proofs.StoreLaws.{stored-most, stored-two}
 
 -- ---- 16
 
