@@ -135,21 +135,30 @@ module _ {M : Type 1} (𝓤 : URA M) (H : Heap 𝓤) (A : Atoms 𝓤) (W : Given
   module _ (𝓣 : Tables 𝓤 H) (met-known : Triple 𝓤 (𝓣 .C #known) (Known 𝓤 H A at-mem at-run)) (met-begin : Triple 𝓤 (𝓣 .C #begin) (Begin 𝓤 H A at-mem at-run)) (met-turn : Triple 𝓤 (𝓣 .C #turn) (Turns 𝓤 H A at-mem at-run))
       (l₀ l₁ l₂ l₃ l₄ l₅ l₆ l₇ l₈ l₉ l₁₀ l₁₁ l₁₂ l₁₃ l₁₄ l₁₅ l₁₆ l₁₇ l₁₈ l₁₉ l₂₀ l₂₁ l₂₂ l₂₃ l₂₄ l₂₅ : ℕ) where
     abbrev En : Env 𝓤 H
-    En = (tyInt w32, l₀) ∷ (lentTy 0 w8, l₁) ∷ (slice₁, l₂) ∷ (lentTy 2 w8, l₃) ∷ (lentTy 3 w8, l₄) ∷ (lentTy 4 w64, l₅) ∷ (tyInt w32, l₆) ∷ (tyInt w64, l₇) ∷ (ref w8, l₈) ∷ (slice w8, l₉) ∷ (ref w64, l₁₀) ∷ (slice w64, l₁₁) ∷ (tyBool, l₁₂) ∷ (tyInt w64, l₁₃) ∷ (tyBool, l₁₄) ∷ (tyUnit, l₁₅) ∷ (ref w8, l₁₆) ∷ (slice w8, l₁₇) ∷ (tyPtr, l₁₈) ∷ (R′.mir, l₁₉) ∷ (ref w8, l₂₀) ∷ (slice w8, l₂₁) ∷ (ref w8, l₂₂) ∷ (slice w8, l₂₃) ∷ (ref w64, l₂₄) ∷ (slice w64, l₂₅) ∷ []
+    En = (tyInt w32, l₀) ∷ (lentTy 0 w8, l₁) ∷ (slice₁, l₂) ∷ (lentTy 2 w8, l₃) ∷ (lentTy 3 w8, l₄) ∷ (lentTy 4 w64, l₅) ∷ (tyInt w32, l₆) ∷ (tyInt w64, l₇)
+        ∷ (ref w8, l₈) ∷ (slice w8, l₉) ∷ (ref w64, l₁₀) ∷ (slice w64, l₁₁) ∷ (tyBool, l₁₂) ∷ (tyInt w64, l₁₃) ∷ (tyBool, l₁₄) ∷ (tyUnit, l₁₅) ∷ (ref w8, l₁₆)
+        ∷ (slice w8, l₁₇) ∷ (tyPtr, l₁₈) ∷ (R′.mir, l₁₉) ∷ (ref w8, l₂₀) ∷ (slice w8, l₂₁) ∷ (ref w8, l₂₂) ∷ (slice w8, l₂₃) ∷ (ref w64, l₂₄) ∷ (slice w64, l₂₅)
+        ∷ []
 
     -- 0 the borrow of the rows and 1 its token; 2 the state, 4 sys, 6 io, 8 the report, each with its token; then _25 at 10 down to _0 at 60, each with what frees it; 62 the rows' ghost; the loop's index and the number as they are
     abbrev Held : Item 𝓤 → Item 𝓤 → (st sys io rep : List ℕ) → List (Item 𝓤)
-    Held index count st sys io rep = ‵ (fshr-bor κ₁ (λ s. arr-parts (shares R.the-row) n .part s ys b₁ o₁)) ∷ ‵ (flft κ₁ q₁)
-        ∷ ‵ (MutSlice (named 0) κ₀ u8 .own (lies b₀ o₀ γ₀ st) (span b₀ o₀ st ∷ [])) ∷ ‵ (flft κ₀ q₀) ∷ ‵ (MutSlice (named 2) κ₂ u8 .own (lies b₂ o₂ γ₂ sys) (span b₂ o₂ sys ∷ [])) ∷ ‵ (flft κ₂ q₂)
-        ∷ ‵ (MutSlice (named 3) κ₃ u8 .own (lies b₃ o₃ γ₃ io) (span b₃ o₃ io ∷ [])) ∷ ‵ (flft κ₃ q₃) ∷ ‵ (MutSlice (named 4) κ₄ u64 .own (lies b₄ o₄ γ₄ rep) (span b₄ o₄ rep ∷ [])) ∷ ‵ (flft κ₄ q₄)
-        ∷ ‵ (froom (slice w64) l₂₅ 0) ∷ ‵ (fdies (slice w64) l₂₅) ∷ ‵ (froom (ref w64) l₂₄ 0) ∷ ‵ (fdies (ref w64) l₂₄) ∷ ‵ (froom (slice w8) l₂₃ 0) ∷ ‵ (fdies (slice w8) l₂₃) ∷ ‵ (froom (ref w8) l₂₂ 0) ∷ ‵ (fdies (ref w8) l₂₂)
-        ∷ ‵ (froom (slice w8) l₂₁ 0) ∷ ‵ (fdies (slice w8) l₂₁) ∷ ‵ (froom (ref w8) l₂₀ 0) ∷ ‵ (fdies (ref w8) l₂₀) ∷ ‵ (froom R′.mir l₁₉ 0) ∷ ‵ (fdies R′.mir l₁₉) ∷ ‵ (froom tyPtr l₁₈ 0) ∷ ‵ (fdies tyPtr l₁₈)
-        ∷ ‵ (froom (slice w8) l₁₇ 0) ∷ ‵ (fdies (slice w8) l₁₇) ∷ ‵ (froom (ref w8) l₁₆ 0) ∷ ‵ (fdies (ref w8) l₁₆) ∷ ‵ (froom tyUnit l₁₅ 0) ∷ ‵ (fdies tyUnit l₁₅) ∷ ‵ (froom tyBool l₁₄ 0) ∷ ‵ (fdies tyBool l₁₄)
-        ∷ ‵ (froom (tyInt w64) l₁₃ 0) ∷ ‵ (fdies (tyInt w64) l₁₃) ∷ ‵ (froom tyBool l₁₂ 0) ∷ ‵ (fdies tyBool l₁₂) ∷ ‵ (froom (slice w64) l₁₁ 0) ∷ ‵ (fdies (slice w64) l₁₁) ∷ ‵ (froom (ref w64) l₁₀ 0) ∷ ‵ (fdies (ref w64) l₁₀)
-        ∷ ‵ (froom (slice w8) l₉ 0) ∷ ‵ (fdies (slice w8) l₉) ∷ ‵ (froom (ref w8) l₈ 0) ∷ ‵ (fdies (ref w8) l₈) ∷ index ∷ ‵ (fdies (tyInt w64) l₇) ∷ count
-        ∷ ‵ (fdies (tyInt w32) l₆) ∷ ‵ (fat fullShare (lentTy 4 w64) l₅ 0 (span b₄ o₄ rep)) ∷ ‵ (fdies (lentTy 4 w64) l₅) ∷ ‵ (fat fullShare (lentTy 3 w8) l₄ 0 (span b₃ o₃ io)) ∷ ‵ (fdies (lentTy 3 w8) l₄) ∷ ‵ (fat fullShare (lentTy 2 w8) l₃ 0 (span b₂ o₂ sys)) ∷ ‵ (fdies (lentTy 2 w8) l₃) ∷ ‵ (fat fullShare slice₁ l₂ 0 vrows) ∷ ‵ (fdies slice₁ l₂)
-        ∷ ‵ (fat fullShare (lentTy 0 w8) l₁ 0 (span b₀ o₀ st)) ∷ ‵ (fdies (lentTy 0 w8) l₁) ∷ ‵ (froom (tyInt w32) l₀ 0) ∷ ‵ (fdies (tyInt w32) l₀)
-        ∷ ‵ (fres γ₁ (codedHoleys R.the-row .code (heres R.the-row ys))) ∷ []
+    Held index count st sys io rep =
+        ‵ (fshr-bor κ₁ (λ s. arr-parts (shares R.the-row) n .part s ys b₁ o₁)) ∷ ‵ (flft κ₁ q₁)
+        ∷ ‵ (MutSlice (named 0) κ₀ u8 .own (lies b₀ o₀ γ₀ st) (span b₀ o₀ st ∷ [])) ∷ ‵ (flft κ₀ q₀)
+        ∷ ‵ (MutSlice (named 2) κ₂ u8 .own (lies b₂ o₂ γ₂ sys) (span b₂ o₂ sys ∷ [])) ∷ ‵ (flft κ₂ q₂)
+        ∷ ‵ (MutSlice (named 3) κ₃ u8 .own (lies b₃ o₃ γ₃ io) (span b₃ o₃ io ∷ [])) ∷ ‵ (flft κ₃ q₃)
+        ∷ ‵ (MutSlice (named 4) κ₄ u64 .own (lies b₄ o₄ γ₄ rep) (span b₄ o₄ rep ∷ [])) ∷ ‵ (flft κ₄ q₄) ∷ ‵ (froom (slice w64) l₂₅ 0)
+        ∷ ‵ (fdies (slice w64) l₂₅) ∷ ‵ (froom (ref w64) l₂₄ 0) ∷ ‵ (fdies (ref w64) l₂₄) ∷ ‵ (froom (slice w8) l₂₃ 0) ∷ ‵ (fdies (slice w8) l₂₃)
+        ∷ ‵ (froom (ref w8) l₂₂ 0) ∷ ‵ (fdies (ref w8) l₂₂) ∷ ‵ (froom (slice w8) l₂₁ 0) ∷ ‵ (fdies (slice w8) l₂₁) ∷ ‵ (froom (ref w8) l₂₀ 0)
+        ∷ ‵ (fdies (ref w8) l₂₀) ∷ ‵ (froom R′.mir l₁₉ 0) ∷ ‵ (fdies R′.mir l₁₉) ∷ ‵ (froom tyPtr l₁₈ 0) ∷ ‵ (fdies tyPtr l₁₈) ∷ ‵ (froom (slice w8) l₁₇ 0)
+        ∷ ‵ (fdies (slice w8) l₁₇) ∷ ‵ (froom (ref w8) l₁₆ 0) ∷ ‵ (fdies (ref w8) l₁₆) ∷ ‵ (froom tyUnit l₁₅ 0) ∷ ‵ (fdies tyUnit l₁₅) ∷ ‵ (froom tyBool l₁₄ 0)
+        ∷ ‵ (fdies tyBool l₁₄) ∷ ‵ (froom (tyInt w64) l₁₃ 0) ∷ ‵ (fdies (tyInt w64) l₁₃) ∷ ‵ (froom tyBool l₁₂ 0) ∷ ‵ (fdies tyBool l₁₂)
+        ∷ ‵ (froom (slice w64) l₁₁ 0) ∷ ‵ (fdies (slice w64) l₁₁) ∷ ‵ (froom (ref w64) l₁₀ 0) ∷ ‵ (fdies (ref w64) l₁₀) ∷ ‵ (froom (slice w8) l₉ 0)
+        ∷ ‵ (fdies (slice w8) l₉) ∷ ‵ (froom (ref w8) l₈ 0) ∷ ‵ (fdies (ref w8) l₈) ∷ index ∷ ‵ (fdies (tyInt w64) l₇) ∷ count ∷ ‵ (fdies (tyInt w32) l₆)
+        ∷ ‵ (fat fullShare (lentTy 4 w64) l₅ 0 (span b₄ o₄ rep)) ∷ ‵ (fdies (lentTy 4 w64) l₅) ∷ ‵ (fat fullShare (lentTy 3 w8) l₄ 0 (span b₃ o₃ io))
+        ∷ ‵ (fdies (lentTy 3 w8) l₄) ∷ ‵ (fat fullShare (lentTy 2 w8) l₃ 0 (span b₂ o₂ sys)) ∷ ‵ (fdies (lentTy 2 w8) l₃) ∷ ‵ (fat fullShare slice₁ l₂ 0 vrows)
+        ∷ ‵ (fdies slice₁ l₂) ∷ ‵ (fat fullShare (lentTy 0 w8) l₁ 0 (span b₀ o₀ st)) ∷ ‵ (fdies (lentTy 0 w8) l₁) ∷ ‵ (froom (tyInt w32) l₀ 0)
+        ∷ ‵ (fdies (tyInt w32) l₀) ∷ ‵ (fres γ₁ (codedHoleys R.the-row .code (heres R.the-row ys))) ∷ []
 
     -- ---- the loop, once the number is known
     module _ (number : ℕ) (number-fits : number < 2 ^ 32) (is-first : number ≡ firstNumber before ys) (back : Back before) where
