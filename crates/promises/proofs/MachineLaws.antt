@@ -33,7 +33,7 @@ row-kept (steps {c = c} {m = m} r) =
 row-kept (other r u) = row-kept r
 
 -- its transfer step, for the channel
-row-transfer : (b : Bool) (n : ℕ) (c₀ : Channel) (m₀ : Buffers) (k : ℕ) (s : State) (m : Buffers) (lines : ℕ) → Turn b s m lines
+pub row-transfer : (b : Bool) (n : ℕ) (c₀ : Channel) (m₀ : Buffers) (k : ℕ) (s : State) (m : Buffers) (lines : ℕ) → Turn b s m lines
     → transferring (channelOf s b .psw) ≡ true → Row n c₀ m₀ k (channelOf s b) m
     → Row n c₀ m₀ (suc k) (channelOf ((stepOf s m lines) .state) b) ((stepOf s m lines) .memory)
 row-transfer b n c₀ m₀ k s m lines t x r = rw (turn-is b s m lines t x, transfer-channel b s m, transfer-memory b s m) (steps r)

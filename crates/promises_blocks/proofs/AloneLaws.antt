@@ -2,7 +2,7 @@
 -- Assumes nothing.
 use Prim.Native.Nat.{ℕ, zero, suc, _<_, _≤_}
 use borrow.Author.Tests.{lt-ltb, eq-eqb}
-use lib.Dec.{ltb, leb, lit<}
+use lib.Dec.{ltb, lit<}
 use lib.ListN.{length}
 use mathlib.Core.Bool.{Bool, true, false, not, _&&_}
 use mathlib.Core.Logic.{⊎-elim, inl, inr}
@@ -11,18 +11,27 @@ use native.Mathlib.Decide.{decLt, decLe}
 use native.Mathlib.Omega.{arith}
 use Rattle.instruction_rules.specs.Execute.{Executed, executed, executeOf}
 use Rattle.ground_rules.proofs.ConditionLaws.{running-is, says-running}
-use Rattle.ground_rules.specs.Outcomes.{first, unless, givenNumber}
+use Rattle.ground_rules.specs.Outcomes.{Outcome, first, unless, givenNumber}
 use Rattle.ground_rules.specs.Psw.{transferring}
 use Rattle.ground_rules.proofs.FieldLaws.{put-agree, blank-agree}
 use Rattle.ground_rules.specs.Conditions.{Ready}
-use Rattle.ground_rules.specs.States.{boardWith, fieldsAgree, agree, freshState, channelOf, withChannel, channelNumber, isRunning, sound, blockOf, busyIn}
+use Rattle.ground_rules.specs.States.{boardWith, fieldsAgree, agree, freshState, channelOf, withChannel, channelNumber, isChannel, isRunning, soundChannel, sound, blockOf, busyIn}
 use Rattle.ground_rules.specs.declared.Channel.{Channel}
 use Rattle.ground_rules.specs.declared.Fields.{Fields}
 use Rattle.ground_rules.specs.declared.Mode.the-variants.{Running}
 use Rattle.ground_rules.specs.declared.State.{State}
-use Rattle.ground_rules.specs.Buffers.{Buffers, spaceOf, limitOf, withinLimits}
+use Rattle.ground_rules.specs.Buffers.{Buffers, spaceOf, withinLimits}
+use Rattle.ground_rules.specs.Places.{span, allTouchable}
+use Rattle.ground_rules.specs.Stages.{stagesNumber}
+use Rattle.ground_rules.proofs.ChannelLaws.{put-same, put-sound, named}
+use Rattle.ground_rules.proofs.ConditionLaws.{first-none-right}
+use Rattle.ground_rules.proofs.OutcomeLaws.{settled-number}
+use Rattle.attention_rules.proofs.{Outcomes.accepted-order, Outcomes.other-channel, Outcomes.shared-kept, SoundLaws.attention-agree}
+use Rattle.attention_rules.proofs.Stores as Attended
+use Rattle.attention_rules.specs.Attention.{orderTo, orderNumber, orderedChannel, givenTo, attentionNumber, attentionOf}
+use Rattle.attention_rules.specs.{Commands.commandNumber, Touched.others, Touched.orderStages}
 use Rattle.turn_rules.proofs.OutcomeLaws.{other-kept, cp-kept, board-kept}
-use Rattle.turn_rules.proofs.SoundLaws.{sound-kept, entry-again, entry-agree, step-agree}
+use Rattle.turn_rules.proofs.SoundLaws.{sound-kept, entry-sound, entry-again, entry-agree, limits-kept, step-agree}
 use Rattle.turn_rules.proofs.TouchedLaws.{lengths-kept}
 use Rattle.turn_rules.specs.Step.{refusedStep, doneStep, settledStep, instructionStep, chosenStep, entryNumber, stepOf}
 use Rattle.turn_rules.specs.declared.Kind.the-variants.{Instruction}
@@ -89,12 +98,15 @@ module _ (b : Bool) (s : State) (m : Buffers) (lines : ℕ) (a : RunsAlone b s m
     pub transfer-turn : transferring (channelOf s b .psw) ≡ true → channelOf s b .fields .synchronised ≡ 0 → channelOf s b .fields .externalEnd ≡ 0 → Turn b s m lines
     transfer-turn x y z = alone-turn (inl (running, inl (x, inl y))) (λ e. e .2 z)
 
--- ---- it stays alone
+-- so has one whose transfer is going on
+pub going-turn : {b : Bool} {n : ℕ} {c₀ : Channel} {m₀ : Buffers} {k : ℕ} {s : State} {m : Buffers} {lines : ℕ} → Copy n c₀ m₀ → Going n c₀ m₀ k (channelOf s b) m
+    → RunsAlone b s m lines → Turn b s m lines
+going-turn {b} {n} {c₀} {k = k} {s} {m} {lines} p g a =
+    let e = ap (λ (c : Channel). c .fields) (g .registers) ∙ mid-fields c₀ n (movedAfter c₀ n k) in
+    transfer-turn b s m lines a (g .runs) (g .transfers) (ap (λ (f : Fields). f .synchronised) e ∙ p .plain .unsynchronised)
+    (ap (λ (f : Fields). f .externalEnd) e ∙ p .plain .unended)
 
--- buffers of the same lengths are within the limits where the others are
-pub limits-kept : (m m′ : Buffers) → ((u : Bool) → length (spaceOf m′ u) ≡ length (spaceOf m u)) → withinLimits m′ ≡ withinLimits m
-unfolding withinLimits spaceOf
-limits-kept m m′ e = ap₂ (λ (x y : ℕ). leb x (limitOf false) && leb y (limitOf true)) (e false) (e true)
+-- ---- it stays alone
 
 -- none of 12, 11, 10, 13 and 14 refuses the next step either
 entry-next : (s : State) (m : Buffers) (lines : ℕ) (s′ : State) (m′ : Buffers) → entryNumber s m lines ≡ 0 → sound s′ ≡ true → agree s′ ≡ true → s′ .board ≡ s .board
@@ -119,6 +131,50 @@ entered s m lines h w q p = rw (lt-ltb lines 16 h, w, q, p .1, p .0)
 pub put-ready : (cp : ℕ) (b : Bool) (c : Channel) → fieldsAgree c ≡ true → Ready (withChannel (freshState cp) b c)
 unfolding freshState withChannel
 put-ready cp b c h = (refl, put-agree (freshState cp) b c (blank-agree cp (boardWith true false false false)) h)
+
+-- whatever else is written, where the lengths stay
+pub alone-written : {b : Bool} {s : State} {m : Buffers} {lines : ℕ} (m′ : Buffers) → RunsAlone b s m lines
+    → ((u : Bool) → length (spaceOf m′ u) ≡ length (spaceOf m u)) → RunsAlone b s m′ lines
+alone-written {s = s} {m} {lines} m′ a e =
+    let z = a .entered in
+    record { entered = entry-next s m lines s m′ z (entry-sound s m lines z) (entry-agree s m lines z) refl e; idle = a .idle }
+
+-- ---- an attention to it
+
+module _ (b : Bool) (s : State) (m : Buffers) where
+  -- where a step is not refused for what it is given, one is accepted whose command fits the mode, of bytes that may be touched
+  pub accepts : (lines : ℕ) → entryNumber s m lines ≡ 0 → commandNumber (orderTo s m b .command) (channelOf s b .mode) ≡ 0
+      → allTouchable m (span false (orderTo s m b .block) 1) ≡ true → allTouchable m (others (orderTo s m b)) ≡ true
+      → attentionOf s m (channelNumber b) .number ≡ 0
+  unfolding attentionOf attentionNumber givenTo orderNumber orderStages stagesNumber entryNumber first unless
+  accepts lines z e ccw rest =
+      settled-number (attentionNumber s m (channelNumber b)) s m _ _
+      ∙ rw (is b, first-none-right (unless (ltb lines 16) 12) (givenNumber s m) z, named b, ccw, e, rest) refl
+    where
+      is : (b : Bool) → isChannel (channelNumber b) ≡ true
+      is true = unfold isChannel channelNumber in refl
+      is false = unfold isChannel channelNumber in refl
+
+  module _ (e : attentionOf s m (channelNumber b) .number ≡ 0) where
+    -- it makes this of its channel
+    pub ordered-channel : channelOf (attentionOf s m (channelNumber b) .state) b ≡ orderedChannel s m b
+    ordered-channel =
+        ap (λ (o : Outcome). channelOf (o .state) b) (accepted-order s m (channelNumber b) e) ∙ rw named (put-same s b (orderedChannel s m b))
+
+    -- where that is sound, the channel is alone as before
+    pub alone-attended : {lines : ℕ} → RunsAlone b s m lines → soundChannel (channelOf (attentionOf s m (channelNumber b) .state) b) ≡ true
+        → RunsAlone b (attentionOf s m (channelNumber b) .state) (attentionOf s m (channelNumber b) .memory) lines
+    alone-attended {lines} a h =
+        let n = channelNumber b in
+        let z = a .entered in
+        let fit = ap soundChannel (sym ordered-channel) ∙ h in
+        record {
+          entered =
+              entry-next s m lines _ _ z
+              (ap (λ (r : Outcome). sound (r .state)) (accepted-order s m n e) ∙ rw (named b) (put-sound s b (orderedChannel s m b) (entry-sound s m lines z) fit))
+              (attention-agree s m n (entry-agree s m lines z)) (shared-kept s m n .2) (Attended.lengths-kept s m n);
+          idle = (rw (named b) at (ap (λ (c : Channel). isRunning (c .mode)) (other-channel s m n))) ∙ a .idle;
+        }
 
 -- ---- its instruction
 
@@ -154,9 +210,7 @@ module _ (b : Bool) (n : ℕ) (s₀ : State) (m₀ : Buffers) (lines : ℕ) (p :
     fields-on = ap (λ (c : Channel). c .fields) (going-on .registers) ∙ mid-fields (channelOf s₀ b) n (movedAfter (channelOf s₀ b) n k)
 
     pub turn-on : Turn b (t .state) (t .memory) lines
-    turn-on =
-        transfer-turn b (t .state) (t .memory) lines (t .alone) (going-on .runs) (going-on .transfers)
-        (ap (λ (f : Fields). f .synchronised) fields-on ∙ p .plain .unsynchronised) (ap (λ (f : Fields). f .externalEnd) fields-on ∙ p .plain .unended)
+    turn-on = going-turn p going-on (t .alone)
 
     pub moves-on : Moves b n s₀ (t .state) (t .memory) lines
     moves-on = demand3-calls p .turns (t .calls) h lines turn-on

@@ -4,19 +4,19 @@ use Prim.Native.Nat.{ℕ, zero, suc, _+_, _<_, _≤_}
 use borrow.Author.Tests.{lt-ltb}
 use lib.Dec.{lit<, lit≤}
 use lib.ListN.{length, getD, length-replicate}
-use mathlib.Core.Bool.{Bool, true, false}
+use mathlib.Core.Bool.{Bool, true, false, _&&_}
 use mathlib.Core.List.{List, [], _∷_}
 use mathlib.Core.Logic.{⊎-elim, inl, inr}
-use mathlib.Core.Path.{_≡_, refl, sym, ap, subst, _∙_}
+use mathlib.Core.Path.{_≡_, refl, sym, ap, ap₂, subst, _∙_}
 use native.Mathlib.Nat.{add-zero}
 use native.Mathlib.Omega.{arith}
 use Rattle.ground_rules.proofs.ConditionLaws.{told-limits}
 use Rattle.ground_rules.specs.Conditions.{TooLong}
 use Rattle.ground_rules.specs.States.{freshState, blockOf}
 use Rattle.ground_rules.proofs.PlaceLaws.{index-apart, index-small}
-use Rattle.ground_rules.proofs.StoreLaws.{store-length, store-lent, read-same, read-other}
-use Rattle.ground_rules.specs.Buffers.{Buffers, spaceOf, limitOf, indexOf, lentAt, byteAt, storeByte}
-use Rattle.ground_rules.specs.Places.{Apart}
+use Rattle.ground_rules.proofs.StoreLaws.{store-length, store-lent, read-same, read-other, io-touchable, lent-touchable}
+use Rattle.ground_rules.specs.Buffers.{Buffers, spaceOf, limitOf, indexOf, lentAt, byteAt, touchableAt, storeByte}
+use Rattle.ground_rules.specs.Places.{Place, Apart, allPass, allTouchable}
 use Rattle.ground_rules.specs.Values.{pointer}
 use Rattle.ground_rules.specs.declared.Pointer.{Pointer}
 use Rattle.ground_rules.specs.Choice.{pick}
@@ -88,6 +88,16 @@ differ x y h h′ ne e z = ne (omega arith)
 pub whole-lent : (m : Buffers) (a : ℕ) → 1048576 ≤ length (spaceOf m false) → lentAt m false a ≡ true
 unfolding lentAt
 whole-lent m a h = lt-ltb (indexOf false a) (length (spaceOf m false)) (omega (arith, index-small false a))
+
+-- and every byte may be touched
+pub whole-touchable : (m : Buffers) → 1048576 ≤ length (spaceOf m false) → (ps : List Place) → allTouchable m ps ≡ true
+unfolding allPass
+whole-touchable m h [] = refl
+whole-touchable m h (p ∷ ps) = ap₂ _&&_ (at (p .tag)) (whole-touchable m h ps)
+  where
+    at : (t : Bool) → touchableAt m t (p .address) ≡ true
+    at true = io-touchable m (p .address)
+    at false = lent-touchable m false (p .address) (whole-lent m (p .address) h)
 
 -- and so after bytes are put there, which stand there
 pub whole-put : (m : Buffers) (a : ℕ) (vs : List ℕ) → 1048576 ≤ length (spaceOf m false) → 1048576 ≤ length (spaceOf (put m a vs) false)

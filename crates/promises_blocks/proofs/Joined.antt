@@ -8,15 +8,15 @@ use mathlib.Core.List.{[], _∷_}
 use mathlib.Core.Path.{_≡_, refl, sym, ap, ap₂, subst, _∙_}
 use native.Mathlib.Omega.{arith}
 use Rattle.ground_rules.proofs.ChannelLaws.{put-same, last-channel}
-use Rattle.ground_rules.specs.States.{channelOf, withChannel, withLast, isRunning, blockOf, channelNumber, busyIn}
+use Rattle.ground_rules.specs.Psw.{transferring}
+use Rattle.ground_rules.specs.States.{channelOf, withChannel, isRunning, blockOf, channelNumber, busyIn}
 use Rattle.ground_rules.specs.declared.Channel.{Channel}
 use Rattle.ground_rules.specs.declared.State.{State}
 use Rattle.ground_rules.proofs.StoreLaws.{store-length, read-same, read-other, same-lent}
 use Rattle.ground_rules.specs.Buffers.{Buffers, lentAt, byteAt, storeByte}
 use Rattle.ground_rules.specs.Places.{Apart}
 use Rattle.run_rules.specs.Run.{ran, runOf}
-use Rattle.turn_rules.specs.Step.{Step, doneStep, refusedStep, stepOf}
-use Rattle.turn_rules.specs.declared.Kind.the-variants.{Instruction}
+use Rattle.turn_rules.specs.Step.{Step, refusedStep, entryNumber, stepOf}
 use Rattle.ground_rules.specs.Choice.{pick}
 use Rattle.ground_rules.specs.Sums.{sum20}
 use Rattle.promises.specs.Cases.{Stand}
@@ -27,7 +27,7 @@ use Rattle.block_rules.specs.Stages.{Ended}
 use Rattle.block_rules.specs.Totals.{total}
 use Rattle.promises_blocks.proofs.AloneLaws.{each, program-turn, alone-next, instruction-done, none-steps, through}
 use Rattle.promises.proofs.MachineLaws.{demand3-calls}
-use Rattle.promises_blocks.proofs.ProgramSteps.{Stopped, hlt-stops}
+use Rattle.promises_blocks.proofs.ProgramSteps.{hlt-stops}
 use Rattle.promises.proofs.RunLaws.{run-only}
 use Rattle.promises.proofs.StandLaws.{stand-kept}
 
@@ -39,10 +39,38 @@ done-then {lines} {s₀} {m₀} {j} r (more {k = k} {s = s} {m = m} x z) =
     let e : suc (j + k) ≡ j + suc k = omega arith in
     subst (λ (n : ℕ). DoneSteps lines s₀ m₀ n (stepOf s m lines .state) (stepOf s m lines .memory)) e (more (done-then r x) z)
 
--- BUSY depends on CP alone
+-- the block depends on CP alone
+pub block-same : (s s′ : State) (b : Bool) → s′ .cp ≡ s .cp → blockOf s′ b ≡ blockOf s b
+unfolding blockOf
+block-same s s′ b e = ap (λ (cp : ℕ). pick b (sum20 cp 8) cp) e
+
+-- and so does BUSY
 pub busy-same : (s s′ : State) (b : Bool) → s′ .cp ≡ s .cp → busyIn (blockOf s′ b) ≡ busyIn (blockOf s b)
-unfolding busyIn blockOf
-busy-same s s′ b e = ap (λ (cp : ℕ). sum20 (pick b (sum20 cp 8) cp) 1) e
+busy-same s s′ b e = ap (λ (block : ℕ). busyIn block) (block-same s s′ b e)
+
+-- the step of a HLT: it is done and stores BUSY alone, no step is refused for what it leaves, and no channel runs
+pub record Halts (second : Bool) (s : State) (m : Buffers) (lines : ℕ) : Type 0 where
+  pub done : stepOf s m lines .number ≡ 0
+  pub memory : stepOf s m lines .memory ≡ storeByte m false (busyIn (blockOf s second)) 0
+  pub entered : entryNumber (stepOf s m lines .state) (stepOf s m lines .memory) lines ≡ 0
+  pub still : (x : Bool) → isRunning (channelOf (stepOf s m lines .state) x .mode) ≡ false
+
+-- so a channel that is alone halts where HLT stands at TP
+pub halts : {b : Bool} {s : State} {m : Buffers} {lines : ℕ} → RunsAlone b s m lines → isRunning (channelOf s b .mode) ≡ true
+    → transferring (channelOf s b .psw) ≡ false → Stand m (channelOf s b .tp) (0x20 ∷ 0x48 ∷ []) → lentAt m false (busyIn (blockOf s b)) ≡ true → Halts b s m lines
+halts {b} {s} {m} {lines} a runs off there lent =
+    let h = hlt-stops m (channelOf s b) (busyIn (blockOf s b)) there lent in
+    let e = instruction-done b s m lines (program-turn b s m lines a runs off) off (h .step) in
+    let done = ap (λ (o : Step). o .number) e in
+    let next = alone-next b s m lines a done (ap (λ (o : Step). o .channel) e) in
+    let put = last-channel (withChannel s b (h .channel)) b b ∙ put-same s b (h .channel) in
+    let still = ap (λ (o : Step). isRunning (channelOf (o .state) b .mode)) e ∙ ap (λ (c : Channel). isRunning (c .mode)) put ∙ h .still in
+    record {
+      done = done;
+      memory = ap (λ (o : Step). o .memory) e;
+      entered = next .entered;
+      still = each b (λ x. isRunning (channelOf (stepOf s m lines .state) x .mode) ≡ false) still (next .idle);
+    }
 
 module _ {m : Buffers} {cp : ℕ} {b : Bool} {lines limit n k : ℕ} {s₁ : State} {m₁ : Buffers} (h : Comes m cp b lines limit n k s₁ m₁) where
   -- the channel with its transfer
@@ -79,41 +107,22 @@ module _ {m : Buffers} {cp : ℕ} {b : Bool} {lines limit n k : ℕ} {s₁ : Sta
       rw (ended .pointer)
       (stand-kept (h .halt) m₂ lent (λ i l. t .spares .others (endOf c₁ .tag) (endOf c₁ .address + i) (h .haltKept i l)))
 
-  stopped : Stopped m₂ (channelOf s₂ b) (busyIn (blockOf s₂ b))
-  stopped = hlt-stops m₂ (channelOf s₂ b) (busyIn (blockOf s₂ b)) stands (ap (lentAt m₂ false) busy-is ∙ busy-lent)
+  -- so its step is done
+  stopped : Halts b s₂ m₂ lines
+  stopped = halts (t .alone) (ended .runs) (ended .over) stands (ap (lentAt m₂ false) busy-is ∙ busy-lent)
 
   abbrev s₃ : State
-  s₃ = withLast (withChannel s₂ b (stopped .channel)) b
+  s₃ = stepOf s₂ m₂ lines .state
 
   abbrev m₃ : Buffers
-  m₃ = storeByte m₂ false (busyIn (blockOf s₂ b)) 0
-
-  -- its step is done
-  halts : stepOf s₂ m₂ lines ≡ doneStep s₂ b (stopped .channel) m₃ Instruction
-  halts = instruction-done b s₂ m₂ lines (program-turn b s₂ m₂ lines (t .alone) (ended .runs) (ended .over)) (ended .over) (stopped .step)
-
-  halt-done : stepOf s₂ m₂ lines .number ≡ 0
-  halt-done = ap (λ (o : Step). o .number) halts
+  m₃ = stepOf s₂ m₂ lines .memory
 
   row : DoneSteps lines (firstAttention m cp (channelNumber b) .state) (firstAttention m cp (channelNumber b) .memory) (suc (k + total c₁ n)) s₃ m₃
-  row =
-      subst (λ (o : Step). DoneSteps lines (firstAttention m cp (channelNumber b) .state) (firstAttention m cp (channelNumber b) .memory) (suc (k + total c₁ n)) (o .state) (o .memory))
-      halts (more (done-then (h .steps) (t .done)) halt-done)
+  row = more (done-then (h .steps) (t .done)) (stopped .done)
 
   -- then no channel runs
-  alone₃ : RunsAlone b s₃ m₃ lines
-  alone₃ =
-      subst (λ (o : Step). RunsAlone b (o .state) (o .memory) lines) halts
-      (alone-next b s₂ m₂ lines (t .alone) halt-done (ap (λ (o : Step). o .channel) halts))
-
-  still : (x : Bool) → isRunning (channelOf s₃ x .mode) ≡ false
-  still =
-      each b (λ x. isRunning (channelOf s₃ x .mode) ≡ false)
-      (ap (λ (c : Channel). isRunning (c .mode)) (last-channel (withChannel s₂ b (stopped .channel)) b b ∙ put-same s₂ b (stopped .channel)) ∙ stopped .still)
-      (alone₃ .idle)
-
   last : stepOf s₃ m₃ lines ≡ refusedStep 1 s₃ m₃
-  last = none-steps s₃ m₃ lines (alone₃ .entered) still
+  last = none-steps s₃ m₃ lines (stopped .entered) (stopped .still)
 
   -- so the run is this
   run-is : runOf m cp (channelNumber b) lines limit ≡ ran 1 (k + total c₁ n + 1) m₃
@@ -126,7 +135,7 @@ module _ {m : Buffers} {cp : ℕ} {b : Bool} {lines limit n k : ℕ} {s₁ : Sta
   -- and the bytes are copied
   pub run-halts : Halted b n k s₁ m₁ (runOf m cp (channelNumber b) lines limit)
   run-halts =
-      rw run-is
+      rw (run-is, stopped .memory)
       (record {
         number = refl;
         steps = refl;

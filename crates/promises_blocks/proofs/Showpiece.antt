@@ -2,36 +2,35 @@
 -- Assumes nothing.
 use Prim.Native.Nat.{ℕ, _+_, _%_, _<_, _≤_}
 use lib.Dec.{lit<}
-use mathlib.Core.Bool.{Bool, true, false, not, _||_}
+use mathlib.Core.Bool.{Bool, true, false, _||_}
 use mathlib.Core.List.{[], _∷_}
 use mathlib.Core.Logic.{⊎-elim, inr, _↔_}
 use mathlib.Core.Path.{_≡_, refl, sym, ap, subst, _∙_}
 use native.Mathlib.Nat.{add-zero}
 use native.Mathlib.Omega.{arith}
 use Rattle.attention_rules.specs.Conditions.{NoChannel}
-use Rattle.ground_rules.proofs.ChannelLaws.{put-same, put-other, put-cp, sound-channel-of}
-use Rattle.ground_rules.proofs.ConditionLaws.{told-limits}
+use Rattle.ground_rules.proofs.ChannelLaws.{put-same, put-cp, sound-channel-of}
 use Rattle.ground_rules.proofs.FieldLaws.{agreed, agree-channel-of}
 use Rattle.ground_rules.specs.declared.Fields.{Fields}
 use Rattle.ground_rules.specs.Cc.{split}
 use Rattle.ground_rules.specs.Conditions.{Given}
 use Rattle.ground_rules.specs.Outcomes.{Outcome, outcome}
-use Rattle.ground_rules.specs.States.{freshState, channelOf, withChannel, withLast, sound, isRunning, channelNumber, blockOf, busyIn, fieldsAgree}
+use Rattle.ground_rules.specs.States.{freshState, channelOf, withChannel, channelNumber, blockOf, busyIn, fieldsAgree}
 use Rattle.ground_rules.specs.declared.Channel.{Channel}
 use Rattle.ground_rules.specs.declared.State.{State}
 use Rattle.ground_rules.proofs.PlaceLaws.{index-reduced, lent-index, byte-index}
 use Rattle.ground_rules.proofs.StoreLaws.{store-length, store-lent, read-other}
-use Rattle.ground_rules.specs.Buffers.{Buffers, indexOf, lentAt, byteAt, storeByte, withinLimits}
+use Rattle.ground_rules.specs.Buffers.{Buffers, indexOf, lentAt, byteAt, storeByte}
 use Rattle.ground_rules.specs.Places.{Apart}
 use Rattle.ground_rules.specs.Values.{pointer}
 use Rattle.ground_rules.specs.declared.Pointer.{Pointer}
-use Rattle.turn_rules.proofs.SoundLaws.{done-sound, entry-sound, entry-agree}
+use Rattle.turn_rules.proofs.SoundLaws.{entry-sound, entry-agree}
 use Rattle.transfer_rules.specs.Ends.{offsetOf}
 use Rattle.transfer_rules.specs.Sides.{source, destination, wordSide}
 use Rattle.ground_rules.specs.Bits.{fieldOf, bitOf}
 use Rattle.run_rules.specs.Run.{answerOf, Call}
 use Rattle.promises.specs.Cases.{Stand}
-use Rattle.promises_blocks.specs.Joined.{RunsAlone, endOf, Comes, Halted}
+use Rattle.promises_blocks.specs.Joined.{endOf, Comes, Halted}
 use Rattle.promises_blocks.specs.Met.{copying}
 use Rattle.block_rules.specs.Premises.{from, into, Lent, ShareNone, Copy}
 use Rattle.promises_blocks.specs.Program.{Job, Layout, fromPlace, intoPlace, pbPlace, programPlace, blockAt, busyAt, programOf, haltAt, stepsOf, Ready, BlockMoved, RunCopies, runIn, Showpiece, ShowpieceCall, RowMade, mostBy, FitsExactly}
@@ -39,13 +38,12 @@ use Rattle.promises.specs.Runs.{DoneSteps, firstAttention, startChecks, none}
 use Rattle.block_rules.specs.Stages.{onBy, Outside}
 use Rattle.block_rules.specs.Totals.{narrow, total}
 use Rattle.promises.specs.Witness.{channelWith}
-use Rattle.promises.proofs.AgreeLaws.{told-not}
-use Rattle.promises_blocks.proofs.AloneLaws.{entered, put-ready, limits-kept, through}
+use Rattle.promises_blocks.proofs.AloneLaws.{through}
 use Rattle.promises.proofs.CaseLaws.{pointer-given}
 use Rattle.block_rules.proofs.CountLaws.{total-narrow, total-wide, alone-none, alone-one}
 use Rattle.promises_blocks.proofs.Joined.{busy-same, run-halts}
 use Rattle.promises_blocks.proofs.ProgramLaws.{Come, begins, six, from-is, into-is, plain-is, total-is, place-is, on-twice}
-use Rattle.promises_blocks.proofs.ProgramStart.{Starts, Begun, begun, fresh-still, sound-fresh}
+use Rattle.promises_blocks.proofs.ProgramStart.{Starts, Begun, begun, fresh-still, fresh-view, fresh-alone}
 use Rattle.promises_blocks.proofs.ProgramSteps.{View, viewOf}
 use Rattle.promises.proofs.StandLaws.{on-index, stand-on, stand-kept}
 
@@ -62,7 +60,7 @@ module _ {j : Job} {l : Layout} {m : Buffers} {lines limit : ℕ} (r : Ready j l
   abbrev n : ℕ
   n = j .count
 
-  pub starts : Starts m (blockAt l) (pbPlace l .address) (programPlace l .address)
+  starts : Starts m (blockAt l) (pbPlace l .address) (programPlace l .address)
   starts =
       record {
         command = ap (byteAt m false) (sym (add-zero (blockAt l))) ∙ r .command .read 0 (lit< tt);
@@ -76,8 +74,8 @@ module _ {j : Job} {l : Layout} {m : Buffers} {lines limit : ℕ} (r : Ready j l
         taskLent = r .task .lent;
       }
 
-  pub start : Begun (l .cp) b m (programPlace l .address)
-  start = begun (l .cp) b m (pbPlace l .address) (programPlace l .address) starts (r .cpFits) (r .buffersFit)
+  pub start : Begun (freshState (l .cp)) b m lines (programPlace l .address)
+  start = begun (fresh-alone (l .cp) b m lines (r .cpFits) (r .buffersFit) (r .linesFit)) (fresh-still (l .cp) b) starts
 
   abbrev s₀ : State
   s₀ = withChannel (freshState (l .cp)) b (start .channel)
@@ -85,23 +83,12 @@ module _ {j : Job} {l : Layout} {m : Buffers} {lines limit : ℕ} (r : Ready j l
   abbrev m₀ : Buffers
   m₀ = storeByte m false (busyAt l) 255
 
+  put : channelOf s₀ b ≡ start .channel
+  put = put-same (freshState (l .cp)) b (start .channel)
+
   -- the attention leaves every byte but BUSY
   other : (u : Bool) (a : ℕ) → Apart false (busyAt l) u a → byteAt m₀ u a ≡ byteAt m u a
   other u a = read-other m false (busyAt l) 255 u a
-
-  within : withinLimits m₀ ≡ true
-  within = limits-kept m m₀ (λ u. store-length m false u (busyAt l) 255) ∙ told-not (told-limits m) (r .buffersFit)
-
-  sound-start : sound s₀ ≡ true
-  unfolding sound withLast
-  sound-start = done-sound (freshState (l .cp)) b (start .channel) (sound-fresh (l .cp) (r .cpFits)) (start .sound)
-
-  alone₀ : RunsAlone b s₀ m₀ lines
-  alone₀ =
-      record {
-        entered = entered s₀ m₀ lines (r .linesFit) within sound-start (put-ready (l .cp) b (start .channel) (start .agree));
-        idle = ap (λ (c : Channel). isRunning (c .mode)) (put-other (freshState (l .cp)) b (start .channel)) ∙ fresh-still (l .cp) (not b);
-      }
 
   -- ---- the instructions
 
@@ -113,7 +100,7 @@ module _ {j : Job} {l : Layout} {m : Buffers} {lines limit : ℕ} (r : Ready j l
   pub come : Come lines b s₀ m₀ 6 (begins j (onBy (programPlace l) haltAt))
   come =
       six j (programPlace l) there
-      (record { state = s₀; done = none; lonely = alone₀; control = refl; parameters = refl; seen = ap viewOf (put-same (freshState (l .cp)) b (start .channel)) ∙ start .seen })
+      (record { state = s₀; done = none; lonely = start .alone; control = refl; parameters = refl; seen = ap viewOf put ∙ start .seen ∙ fresh-view (l .cp) b _ })
 
   abbrev s₁ : State
   s₁ = come .state
@@ -125,6 +112,14 @@ module _ {j : Job} {l : Layout} {m : Buffers} {lines limit : ℕ} (r : Ready j l
   agree₁ : fieldsAgree c₁ ≡ true
   agree₁ = agree-channel-of s₁ b (entry-agree s₁ m₀ lines (come .lonely .entered))
 
+  -- CP and PP
+  pub control-at : s₁ .cp ≡ l .cp
+  unfolding freshState
+  control-at = come .control ∙ put-cp (freshState (l .cp)) b (start .channel)
+
+  pub parameters-at : c₁ .pp ≡ pbPlace l .address
+  parameters-at = come .parameters ∙ ap (λ (c : Channel). c .pp) put ∙ start .parameters ∙ starts .parameters
+
   -- ---- the transfer
 
   pub source-at : from c₁ ≡ fromPlace j
@@ -132,6 +127,9 @@ module _ {j : Job} {l : Layout} {m : Buffers} {lines limit : ℕ} (r : Ready j l
 
   pub destination-at : into c₁ ≡ intoPlace j
   destination-at = into-is j (onBy (programPlace l) haltAt) c₁ (come .seen) agree₁
+
+  pub total-at : total c₁ n ≡ stepsOf j
+  total-at = total-is j (onBy (programPlace l) haltAt) c₁ (come .seen) agree₁
 
   -- what is lent is lent
   kept : (u : Bool) (a : ℕ) → lentAt m₀ u a ≡ lentAt m u a
@@ -204,7 +202,7 @@ module _ {j : Job} {l : Layout} {m : Buffers} {lines limit : ℕ} (r : Ready j l
         halt = halt;
         haltKept = halt-kept;
         busy = busy-lent;
-        enough = omega (arith, r .enough, total-is j (onBy (programPlace l) haltAt) c₁ (come .seen) agree₁);
+        enough = omega (arith, r .enough, total-at);
       }
 
   run : Halted b n 6 s₁ m₀ (runIn l m lines limit)
@@ -239,14 +237,14 @@ module _ {j : Job} {l : Layout} {m : Buffers} {lines limit : ℕ} (r : Ready j l
         accepted = comes .accepted;
         instructions = comes .steps;
         copy = copy;
-        row = through b n s₁ m₀ lines copy (come .lonely) (stepsOf j) (omega (arith, total-is j (onBy (programPlace l) haltAt) c₁ (come .seen) agree₁));
+        row = through b n s₁ m₀ lines copy (come .lonely) (stepsOf j) (omega (arith, total-at));
       }
 
   runs : RunCopies j l m (runIn l m lines limit)
   runs =
       record {
         number = run .number;
-        steps = omega (arith, run .steps, total-is j (onBy (programPlace l) haltAt) c₁ (come .seen) agree₁);
+        steps = omega (arith, run .steps, total-at);
         memory = moved;
       }
 

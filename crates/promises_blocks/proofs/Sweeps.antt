@@ -1,6 +1,6 @@
 -- What is promised of a sweep.
 -- Assumes nothing.
-use Prim.Native.Nat.{ℕ, _+_, _-_, _*_, _<_, _≤_}
+use Prim.Native.Nat.{ℕ, zero, suc, _+_, _-_, _*_, _<_, _≤_}
 use mathlib.Core.Bool.{Bool, true, false}
 use mathlib.Core.Logic.{_↔_}
 use mathlib.Core.Path.{_≡_, refl, sym, ap, subst, _∙_}
@@ -18,9 +18,12 @@ use Rattle.ground_rules.specs.declared.Board.{Board}
 use Rattle.ground_rules.specs.declared.Channel.{Channel}
 use Rattle.ground_rules.specs.declared.State.{State}
 use Rattle.block_rules.proofs.CountLaws.{total-most, total-narrow, total-wide}
+use Rattle.block_rules.proofs.Demand3.{going as on-way, ended as at-total}
+use Rattle.block_rules.proofs.StageLaws.{mid-count}
+use Rattle.block_rules.specs.Rows.{Row}
 use Rattle.block_rules.specs.Premises.{from, into, Copy}
 use Rattle.block_rules.specs.Stages.{Going, Ended}
-use Rattle.block_rules.specs.Totals.{total}
+use Rattle.block_rules.specs.Totals.{total, movedAfter}
 use Rattle.turn_rules.specs.Choosing.{external}
 use Rattle.turn_rules.specs.Step.{entryNumber}
 use Rattle.sweep_rules.proofs.ConditionLaws.{says-sweepable, sweep-given}
@@ -31,12 +34,14 @@ use Rattle.sweep_rules.specs.Copies.{copiedOn}
 use Rattle.sweep_rules.specs.Plainly.{plainly}
 use Rattle.sweep_rules.specs.Ranges.{placeOf}
 use Rattle.sweep_rules.specs.Sweep.{Sweep, sweptTo, bytesToGo, sweepable, doneSweep, sweepNumber, sweepOf}
+use Rattle.promises.proofs.MachineLaws.{row-transfer, moves}
 use Rattle.promises.proofs.RunLaws.{goes-on}
 use Rattle.promises_blocks.specs.Joined.{RunsAlone, Through}
-use Rattle.promises_blocks.specs.Sweeps.{SweepAnswers, SweepDoes, SweepLeaves, Sweeps}
+use Rattle.promises_blocks.specs.Sweeps.{SweepAnswers, SweepDoes, SweepLeaves, SweptRest, Sweeps}
+use Rattle.promises_blocks.proofs.AloneLaws.{going-turn, alone-next}
 use Rattle.promises_blocks.proofs.MemoryLaws.{same-in, copied-held}
 use Rattle.promises_blocks.proofs.MetLaws.{copy-met, alone-met, demanded, rest-sweepable}
-use Rattle.promises_blocks.proofs.PlainLaws.{end, ends, plainly-ends, ends-state}
+use Rattle.promises_blocks.proofs.PlainLaws.{end, ends, plainly-stops, plainly-goes, plainly-ends, ends-state}
 
 -- ---- demand 1
 
@@ -160,6 +165,34 @@ rest-accepted {b} lines p fromWhole intoWhole quiet k s m g a =
     let given : givenNumber s m ≡ 0 = first-none-right (unless (ltb lines 16) 12) (givenNumber s m) (a .entered) in
     let few : lines < 16 = ltb-true lines 16 (unless-none 12 refl (first-none-left (unless (ltb lines 16) 12) (givenNumber s m) (a .entered))) in
     then-conditions s m b lines given few ∙ rw (says-yes (says-sweepable s m b lines) (rest-sweepable lines p fromWhole intoWhole quiet k s m g a))
+
+module _ (b : Bool) (s₀ : State) {n : ℕ} {m₀ : Buffers} (lines : ℕ) (p : Copy n (channelOf s₀ b) m₀) where
+  abbrev c₀ : Channel
+  c₀ = channelOf s₀ b
+
+  -- the plain steps of what is left of a transfer lead to the total, and stop there
+  plain-rest : (left more k : ℕ) {s : State} {m : Buffers} → k + left ≡ total c₀ n → Row n c₀ m₀ k (channelOf s b) m → RunsAlone b s m lines
+      → SweptRest b n s₀ m₀ left (plainly (left + more) s m b lines)
+  plain-rest zero more k {s} {m} e r a =
+      let x = at-total p r (omega arith) in
+      rw (plainly-stops (0 + more) s m b lines (x .over)) (record { steps = refl; ended = x })
+  plain-rest (suc left) more k {s} {m} e r a =
+      let g = on-way p r (omega arith) in
+      let t = going-turn p g a in
+      let v = moves b n s₀ m₀ k s m lines g t in
+      let next = row-transfer b n c₀ m₀ k s m lines t (g .transfers) r in
+      let rest = plain-rest left more (suc k) (omega arith) next (alone-next b s m lines a (v .done) (v .channel)) in
+      let same : suc left + more ≡ suc (left + more) = omega arith in
+      rw (same, plainly-goes (left + more) s m b lines (g .transfers) (v .done)) (record { steps = omega (arith, rest .steps); ended = rest .ended })
+
+  -- so an accepted sweep takes exactly those steps, and leaves what the undisturbed run leaves
+  pub rest-swept : {k : ℕ} {s : State} {m : Buffers} → Row n c₀ m₀ k (channelOf s b) m → k < total c₀ n → RunsAlone b s m lines
+      → sweepOf s m (channelNumber b) lines .number ≡ 0 → SweptRest b n s₀ m₀ (total c₀ n - k) (sweepOf s m (channelNumber b) lines)
+  rest-swept {k} {s} {m} r h a z =
+      let small = ap (λ (c : Channel). c .bc) (on-way p r h .registers) ∙ mid-count c₀ n (movedAfter c₀ n k) in
+      let o = sweepOf s m (channelNumber b) lines in
+      let plain = does s m b lines z (omega (arith, small)) .plain (total c₀ n - k + o .steps) (omega arith) in
+      rw plain (plain-rest (total c₀ n - k) (o .steps) k (omega arith) r a)
 
 fifteen : (s : State) (m : Buffers) (b : Bool) (lines : ℕ) → givenNumber s m ≡ 0 → lines < 16
     → (sweepOf s m (channelNumber b) lines .number ≡ 15) ↔ ¬ (Sweepable s m b lines)

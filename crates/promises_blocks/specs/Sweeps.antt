@@ -76,6 +76,11 @@ pub record SweepLeaves (s : State) (m : Buffers) (second : Bool) (o : Sweep) : T
   -- every byte outside the destination is as it was, and so are the lengths
   pub spares : Within (into (channelOf s second)) (bytesToGo (channelOf s second)) m (o .memory)
 
+-- what a sweep, or plain steps, leave that make the rest of a transfer: so many steps, and the end is that of the undisturbed run
+pub record SweptRest (second : Bool) (n : ℕ) (s₀ : State) (m₀ : Buffers) (left : ℕ) (o : Sweep) : Type 0 where
+  pub steps : o .steps ≡ left
+  pub ended : Ended n (channelOf s₀ second) m₀ (channelOf (o .state) second) (o .memory)
+
 -- the promise
 pub record Sweeps : Type 0 where
   pub answers : (s : State) (m : Buffers) (channel lines : ℕ) → SweepAnswers s m channel lines (sweepOf s m channel lines)

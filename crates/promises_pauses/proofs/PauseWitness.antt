@@ -1,84 +1,38 @@
 -- A whole row with two pauses: fresh, a start attention and a program; a pause before the first transfer step and one at an odd byte between words, in each of
 -- which the other channel is started and steps; and the end.
 -- Assumes nothing.
-use Prim.Native.Nat.{ℕ, zero, suc, _+_, _<_, _≤_}
+use Prim.Native.Nat.{ℕ, suc, _+_, _<_, _≤_}
 use borrow.Author.Tests.{eqb-false}
-use lib.Dec.{ltb, eqb, lit<, lit≤}
-use lib.ListN.{length, getD}
-use mathlib.Core.Bool.{Bool, true, false, _&&_}
+use lib.{Dec.lit<, Dec.lit≤, ListN.length}
+use mathlib.Core.Bool.{Bool, true, false}
 use mathlib.Core.List.{List, [], _∷_, _++_}
-use mathlib.Core.Path.{_≡_, refl, sym, ap, ap₂, subst, _∙_}
+use mathlib.Core.Path.{_≡_, refl, sym, ap, subst, _∙_}
 use native.Mathlib.Omega.{arith}
-use Rattle.ground_rules.specs.{Bits.fieldOf, Bits.bitOf, Bits.withBit, Sums.sum20}
-use Rattle.ground_rules.specs.Buffers.{Buffers, spaceOf, limitOf, indexOf, lentAt, byteAt, touchableAt, storeByte}
-use Rattle.ground_rules.specs.{declared.Pointer.Pointer, Places.Place, Places.span, Places.allPass, Places.allTouchable, Places.ApartFrom, Values.pointer}
-use Rattle.ground_rules.proofs.StoreLaws.{store-length, store-lent, read-other, same-lent}
-use Rattle.ground_rules.specs.{declared.Channel.Channel, declared.State.State, Cc.split, Conditions.TooLong, Stages.stagesNumber, States.blockOf, States.busyIn, Updates.withControl, Updates.withTransfer, Updates.stoppedPsw}
-use Rattle.ground_rules.specs.Outcomes.{Outcome, unless, first, givenNumber}
-use Rattle.ground_rules.specs.Psw.{programRunning, withPsw}
-use Rattle.ground_rules.specs.States.{freshState, channelOf, channelNumber, withChannel, isRunning, isSuspended, isChannel, isSecond, sound, soundChannel}
-use Rattle.ground_rules.proofs.ChannelLaws.{put-same, put-cp, put-sound, named, last-channel, sound-channel-of, controlled-sound}
-use Rattle.ground_rules.proofs.{ConditionLaws.first-none-right, ConditionLaws.told-limits, OutcomeLaws.settled-number}
-use Rattle.attention_rules.specs.{declared.Command.Command, declared.Command.the-variants.StartSystem, Blocks.ccwOf, Blocks.orderOf, Effects.suspended, Touched.others, Touched.orderStages}
-use Rattle.attention_rules.specs.Attention.{orderTo, orderNumber, orderedChannel, givenTo, attentionNumber, attentionOf}
-use Rattle.attention_rules.specs.Commands.{commandCoded, isKnown, modeNumber, commandNumber}
-use Rattle.attention_rules.proofs.{Outcomes.accepted-order, Outcomes.registers-kept, Outcomes.shared-kept, SoundLaws.attention-agree, Stores.lengths-kept}
-use Rattle.turn_rules.specs.{declared.Kind.the-variants.Instruction, Step.Step, Step.doneStep, Step.entryNumber, Step.stepOf}
-use Rattle.turn_rules.proofs.SoundLaws.{entry-sound, entry-agree, entry-again, limits-kept}
+use Rattle.ground_rules.specs.{Bits.fieldOf, Bits.bitOf, Bits.withBit, Cc.split, Conditions.TooLong, Outcomes.unless, Outcomes.first, Values.pointer}
+use Rattle.ground_rules.specs.{Buffers.Buffers, Buffers.spaceOf, Buffers.limitOf, Buffers.indexOf, Buffers.lentAt, Buffers.byteAt, Buffers.storeByte, Places.span, Places.ApartFrom}
+use Rattle.ground_rules.specs.{declared.Channel.Channel, declared.State.State, Psw.programRunning, Psw.withPsw}
+use Rattle.ground_rules.specs.States.{channelOf, channelNumber, blockOf, busyIn, isRunning, isSuspended, soundChannel}
+use Rattle.ground_rules.specs.Updates.{withControl, withTransfer, stoppedPsw}
+use Rattle.ground_rules.proofs.{ChannelLaws.sound-channel-of, ConditionLaws.told-limits, StoreLaws.store-length}
+use Rattle.attention_rules.specs.{declared.Command.Command, Attention.orderTo, Attention.attentionOf, Blocks.ccwOf, Blocks.orderOf, Effects.suspended}
+use Rattle.attention_rules.{specs.Commands.commandCoded, specs.Commands.isKnown, specs.Commands.modeNumber, specs.Commands.commandNumber, proofs.Stores.lengths-kept}
+use Rattle.turn_rules.{specs.Step.stepOf, proofs.SoundLaws.entry-sound, proofs.TouchedLaws.lengths-kept as step-lengths}
 use Rattle.transfer_rules.specs.Sides.{source, destination, wordSide}
-use Rattle.block_rules.specs.{Premises.from, Premises.into, Rows.Left, Stages.onBy, Stages.midway}
-use Rattle.block_rules.specs.Totals.{narrow, alone, total, movedAfter}
-use Rattle.promises.specs.{Cases.Stand, Witness.channelWith}
+use Rattle.block_rules.specs.{Rows.Left, Stages.midway, Totals.narrow, Totals.alone, Totals.total, Totals.movedAfter}
+use Rattle.promises.{specs.Cases.Stand, specs.Witness.channelWith, proofs.CaseLaws.pointer-given, proofs.StandLaws.stand-on}
 use Rattle.promises_blocks.specs.{Joined.RunsAlone, Met.zeros, Met.copying, Image.put, Image.layoutOf, Image.copyOf, Image.imageIn}
-use Rattle.promises_sheet.specs.{SheetAttention.pbAt, SheetAttention.Attends, SheetAttention.outcomeTo, SheetAttention.channelAfter}
-use Rattle.promises_blocks.specs.Program.{Job, programPlace, busyAt, haltAt, Ready}
-use Rattle.promises_blocks.proofs.{AloneLaws.program-turn, AloneLaws.alone-next, AloneLaws.instruction-done, CopyWitness.zeros-within, ProgramLaws.source-is, ProgramLaws.destination-is, ProgramLaws.total-is, ProgramSteps.View, ProgramSteps.hlt-stops}
-use Rattle.promises.proofs.{CallLaws.attention-kept, StandLaws.stand-on, StandLaws.stand-kept}
-use Rattle.promises_sheet.proofs.{SheetAttention.attention-sheet}
-use Rattle.promises_blocks.proofs.ImageLaws.{put-length, put-other, differ, whole-lent, whole-put, whole-stand, zeros-whole, ready-met}
-use Rattle.promises_blocks.proofs.Showpiece.{starts, start, come, copy, comes, source-at, destination-at}
+use Rattle.promises_blocks.specs.Program.{Job, busyAt, Ready}
+use Rattle.promises_blocks.proofs.{AloneLaws.accepts, AloneLaws.alone-written, AloneLaws.alone-attended, AloneLaws.alone-next, CopyWitness.zeros-within}
+use Rattle.promises_blocks.proofs.{ProgramLaws.source-is, ProgramLaws.destination-is, ProgramStart.Starts, ProgramStart.halts-at-once, ProgramSteps.View}
+use Rattle.promises_blocks.proofs.ImageLaws.{put-length, put-other, differ, whole-lent, whole-touchable, whole-put, whole-stand, zeros-whole, ready-met}
+use Rattle.promises_blocks.proofs.Showpiece.{come, copy, comes, source-at, destination-at, control-at, parameters-at, total-at}
+use Rattle.promises_sheet.specs.SheetAttention.{outcomeTo, channelAfter}
 use Rattle.promises_pauses.specs.Pausing.{Quietly, PauseApart, Spared, PausedCalls, EndsPaused, PausedMet, pausesOf, begin, transfer, step, attention, host, suspend, resume}
-use Rattle.promises_pauses.proofs.PausedRows.{ordered-channel, suspend-only, demand13, lone-turn, places-stay, off-registers}
+use Rattle.promises_pauses.proofs.PausedRows.{suspend-only, demand13, lone-turn, places-stay, off-registers}
 
 -- all of system memory is lent
 abbrev WholeSystem : Buffers → Type 0
 WholeSystem m = 1048576 ≤ length (spaceOf m false)
-
--- so all may be touched
-touch : (m : Buffers) → WholeSystem m → (ps : List Place) → allTouchable m ps ≡ true
-unfolding allPass
-touch m whole [] = refl
-touch m whole (p ∷ ps) = ap₂ _&&_ (at (p .tag)) (touch m whole ps)
-  where
-    at : (t : Bool) → touchableAt m t (p .address) ≡ true
-    at true = unfold touchableAt in refl
-    at false = unfold touchableAt in (whole-lent m (p .address) whole)
-
-module _ (b : Bool) (s : State) (m : Buffers) (z : entryNumber s m 0 ≡ 0) where
-  -- there, where a step is not refused for what it is given, a command that fits the mode is accepted
-  accepts : WholeSystem m → {k : Command} → orderTo s m b .command ≡ k → commandNumber k (channelOf s b .mode) ≡ 0 → outcomeTo s m b .number ≡ 0
-  unfolding attentionOf attentionNumber givenTo orderNumber orderStages stagesNumber entryNumber others first unless
-  accepts whole c e =
-      settled-number (attentionNumber s m (channelNumber b)) s m _ _
-      ∙ rw (is b, first-none-right (unless (ltb 0 16) 12) (givenNumber s m) z, named b, touch m whole, c, e, touch m whole) refl
-    where
-      is : (b : Bool) → isChannel (channelNumber b) ≡ true
-      is true = unfold isChannel channelNumber in refl
-      is false = unfold isChannel channelNumber in refl
-
-  -- and leaves what no step is refused for, where the channel's pointers are of 20 bits
-  enters : outcomeTo s m b .number ≡ 0 → soundChannel (channelAfter s m b) ≡ true → entryNumber (outcomeTo s m b .state) (outcomeTo s m b .memory) 0 ≡ 0
-  enters e h =
-      let n = channelNumber b in
-      let fit : soundChannel (orderedChannel s m b) ≡ true = ap soundChannel (sym (ordered-channel b s m e)) ∙ h in
-      entry-again s (attentionOf s m n .state) m (attentionOf s m n .memory) 0 z
-      (ap (λ (r : Outcome). sound (r .state)) (accepted-order s m n e) ∙ rw (named b) (put-sound s b (orderedChannel s m b) (entry-sound s m 0 z) fit))
-      (attention-agree s m n (entry-agree s m 0 z)) (shared-kept s m n .2) (limits-kept m (attentionOf s m n .memory) (lengths-kept s m n))
-
--- nothing changes but system memory's bytes below 10h
-record OnlyLow (m m′ : Buffers) : Type 0 where
-  pub others : (a : ℕ) → 16 ≤ a → a < 1048576 → byteAt m′ false a ≡ byteAt m false a
-  pub lengths : (u : Bool) → length (spaceOf m′ u) ≡ length (spaceOf m u)
 
 -- both blocks, with this CCW in channel 1's. Channel 2's has CCW 03h and PB at 2, where its program's address is, 0Eh, where HLT stands
 abbrev blocks : ℕ → List ℕ
@@ -95,52 +49,38 @@ module _ (given : Buffers) (full : WholeSystem given) (fit : ¬ (TooLong given))
   ready : Ready job (layoutOf false) (imageIn given job (layoutOf false)) 0 65535
   ready = ready-met given full fit false true true true true 5 0 (lit≤ tt) (lit≤ tt) (lit< tt)
 
-  -- where it has come to: the state, the channel, memory
+  -- where it has come to: the state and memory
   abbrev s₁ : State
   s₁ = come ready .state
-
-  abbrev c₁ : Channel
-  c₁ = channelOf s₁ false
 
   abbrev m₁ : Buffers
   m₁ = storeByte (imageIn given job (layoutOf false)) false (busyAt (layoutOf false)) 255
 
-  -- PSW, PP and CP
-  psw₁ : c₁ .psw ≡ 0x47
+  -- PSW, with TB
+  psw₁ : channelOf s₁ false .psw ≡ 0x47
   psw₁ = ap (λ (v : View). v .psw) (come ready .seen)
 
-  pp₁ : c₁ .pp ≡ 0x10
-  pp₁ =
-      let e = put-same (freshState 0) false (start ready .channel) in
-      come ready .parameters ∙ ap (λ (c : Channel). c .pp) e ∙ start ready .parameters ∙ starts ready .parameters
-
-  cp₁ : s₁ .cp ≡ 0
-  unfolding freshState
-  cp₁ = come ready .control ∙ put-cp (freshState 0) false (start ready .channel)
-
-  -- the premises
-  tb₁ : programRunning (c₁ .psw) ≡ true
+  tb₁ : programRunning (channelOf s₁ false .psw) ≡ true
   unfolding bitOf
   tb₁ = ap (λ (x : ℕ). programRunning x) psw₁
 
-  -- neither PB nor BUSY has a byte from 14h on
-  clear : (a : ℕ) → 0x14 ≤ a → a < 1048576 → ApartFrom (span false 0x10 4 ++ span false 1 1) false a
-  unfolding span indexOf limitOf
-  clear a h l = (λ e z. omega arith, (λ e z. omega arith, (λ e z. omega arith, (λ e z. omega arith, (λ e z. omega arith, tt)))))
-
+  -- neither PB nor BUSY has a byte in a range
   far : PauseApart false 5 s₁
   unfolding channelOf busyIn blockOf span indexOf limitOf
   far =
       record {
-        busy = rw (pp₁, cp₁) (λ e z. omega arith, (λ e z. omega arith, (λ e z. omega arith, (λ e z. omega arith, tt))));
-        source = rw (pp₁, cp₁, source-at ready) (λ i h. clear (0x41 + i) (omega arith) (omega arith));
-        destination = rw (pp₁, cp₁, destination-at ready) (λ i h. clear (0x10051 + i) (omega arith) (omega arith));
+        busy = rw (parameters-at ready, control-at ready) (λ e z. omega arith, (λ e z. omega arith, (λ e z. omega arith, (λ e z. omega arith, tt))));
+        source = rw (parameters-at ready, control-at ready, source-at ready) (λ i h. clear (0x41 + i) (omega arith) (omega arith));
+        destination = rw (parameters-at ready, control-at ready, destination-at ready) (λ i h. clear (0x10051 + i) (omega arith) (omega arith));
       }
+    where
+      clear : (a : ℕ) → 0x14 ≤ a → a < 1048576 → ApartFrom (span false 0x10 4 ++ span false 1 1) false a
+      clear a h l = (λ e z. omega arith, (λ e z. omega arith, (λ e z. omega arith, (λ e z. omega arith, (λ e z. omega arith, tt)))))
 
   -- one byte, two and two
-  three : total c₁ 5 ≡ 3
+  three : total (channelOf s₁ false) 5 ≡ 3
   unfolding total narrow alone copying channelWith source destination bitOf wordSide split
-  three = total-is job (onBy (programPlace (layoutOf false)) haltAt) c₁ (come ready .seen) (copy ready .plain .agree)
+  three = total-at ready
 
   -- so the transfer ends at the third of its steps
   ends : EndsPaused false 5 s₁ m₁ 3
@@ -156,17 +96,19 @@ module _ (given : Buffers) (full : WholeSystem given) (fit : ¬ (TooLong given))
     pub lone : RunsAlone false state memory 0
     pub whole : WholeSystem memory
 
-  -- stores below 10h leave both ranges and PB alone
-  low-spared : {paused : Bool} {m m′ : Buffers} → WholeSystem m → OnlyLow m m′ → Spared false 5 s₁ paused m m′
-  low-spared {m = m} {m′ = m′} whole low =
+  -- bytes put below 10h leave both ranges and PB alone
+  low-spared : {paused : Bool} (m : Buffers) (a : ℕ) (vs : List ℕ) → a + length vs ≤ 16 → WholeSystem m → Spared false 5 s₁ paused m (put m a vs)
+  low-spared m a vs low whole =
       record {
         ranges = record { fromLeft = rw (source-at ready) (left 0x41 (lit≤ tt) (lit≤ tt)); intoLeft = rw (destination-at ready) (left 0x10051 (lit≤ tt) (lit≤ tt)) };
-        block = λ _ i h. rw pp₁ (low .others (0x10 + i) (omega arith) (omega arith));
+        block = λ _ i h. rw (parameters-at ready) (kept (0x10 + i) (omega arith) (omega arith));
       }
     where
-      left : (a : ℕ) → 16 ≤ a → a + 5 ≤ 1048576 → Left (pointer a false) 5 m m′
-      left a h g =
-          record { bytes = λ i l. low .others (a + i) (omega arith) (omega arith); lent = λ i l. whole-lent m′ (a + i) (omega (arith, low .lengths false)) }
+      kept : (x : ℕ) → 16 ≤ x → x < 1048576 → byteAt (put m a vs) false x ≡ byteAt m false x
+      kept x h g = put-other m a vs false x (λ i l. differ (a + i) x (omega arith) g (λ e. omega arith))
+
+      left : (x : ℕ) → 16 ≤ x → x + 5 ≤ 1048576 → Left (pointer x false) 5 m (put m a vs)
+      left x h g = record { bytes = λ i l. kept (x + i) (omega arith) (omega arith); lent = λ i l. whole-lent _ (x + i) (whole-put m a vs whole) }
 
   module _ {k : ℕ} {paused : Bool} (w : RowSoFar k paused) (ccw : ℕ) where
     -- the host writes both blocks anew
@@ -175,17 +117,11 @@ module _ (given : Buffers) (full : WholeSystem given) (fit : ¬ (TooLong given))
 
     hosted : RowSoFar k paused
     hosted =
-        let z = w .lone .entered in
-        let low : OnlyLow (w .memory) anew = record {
-          others = λ a h g. put-other (w .memory) 0 (blocks ccw) false a (λ i l. differ (0 + i) a (omega arith) g (λ e. omega arith));
-          lengths = put-length (w .memory) 0 (blocks ccw);
-        } in
-        let same = limits-kept (w .memory) anew (low .lengths) in
         record {
           state = w .state;
           memory = anew;
-          calls = host (w .calls) (low-spared (w .whole) low);
-          lone = record { entered = entry-again _ _ _ anew 0 z (entry-sound _ _ 0 z) (entry-agree _ _ 0 z) refl same; idle = w .lone .idle };
+          calls = host (w .calls) (low-spared (w .memory) 0 (blocks ccw) (lit≤ tt) (w .whole));
+          lone = alone-written anew (w .lone) (put-length (w .memory) 0 (blocks ccw));
           whole = whole-put (w .memory) 0 (blocks ccw) (w .whole);
         }
 
@@ -194,33 +130,38 @@ module _ (given : Buffers) (full : WholeSystem given) (fit : ¬ (TooLong given))
     stands = whole-stand (w .memory) 0 (blocks ccw) (lit≤ tt) (w .whole)
 
     cp-is : w .state .cp ≡ 0
-    cp-is = places-stay (copy ready) tb₁ far (w .calls) .1 ∙ cp₁
+    cp-is = places-stay (copy ready) tb₁ far (w .calls) .1 ∙ control-at ready
 
-    -- an attention with such a CCW is quiet, and leaves the other channel
-    attended : {next : Bool} {c : Command} → commandCoded (fieldOf ccw 0 3) ≡ c → fieldOf ccw 3 2 ≡ 0 → commandNumber c (channelOf (w .state) false .mode) ≡ 0
-        → {psw : ℕ} → channelOf (w .state) false .psw ≡ psw → (bitOf ccw 5 ≡ bitOf psw 5) × (bitOf ccw 7 ≡ bitOf psw 7)
-        → (Quietly false c (w .state) anew → PausedCalls false 5 s₁ m₁ k next (outcomeTo (w .state) anew false .state) (outcomeTo (w .state) anew false .memory))
-        → (Quietly false c (w .state) anew → soundChannel (channelAfter (w .state) anew false) ≡ soundChannel (channelOf (w .state) false)) → RowSoFar k next
-    unfolding orderTo orderOf ccwOf blockOf channelNumber hosted
-    attended {c = c} code icf fits e bits calls fit =
+    -- an attention with such a CCW is quiet
+    quiet : {c : Command} {psw : ℕ} → commandCoded (fieldOf ccw 0 3) ≡ c → commandNumber c (channelOf (w .state) false .mode) ≡ 0
+        → channelOf (w .state) false .psw ≡ psw → (fieldOf ccw 3 2 ≡ 0) × (bitOf ccw 5 ≡ bitOf psw 5) × (bitOf ccw 7 ≡ bitOf psw 7) → Quietly false c (w .state) anew
+    unfolding orderTo orderOf ccwOf blockOf hosted
+    quiet {c} code fits e bits =
         let s = w .state in
         let is : orderTo s anew false .ccw ≡ ccw = rw cp-is (stands .read 0 (lit< tt)) in
         let commands : orderTo s anew false .command ≡ c = ap (λ (x : ℕ). commandCoded (fieldOf x 0 3)) is ∙ code in
-        let q : Quietly false c s anew = record {
-          accepted = accepts false s anew (hosted .lone .entered) (hosted .whole) commands fits;
-          commands = commands;
-          interrupts = ap (λ (x : ℕ). fieldOf x 3 2) is ∙ icf;
-          limit = ap (λ (x : ℕ). bitOf x 5) is ∙ bits .0 ∙ sym (ap (λ (x : ℕ). bitOf x 5) e);
-          ranked = ap (λ (x : ℕ). bitOf x 7) is ∙ bits .1 ∙ sym (ap (λ (x : ℕ). bitOf x 7) e);
-        } in
-        let whole = sound-channel-of s false (entry-sound s (w .memory) 0 (w .lone .entered)) in
-        let idle = ap (λ (c : Channel). isRunning (c .mode)) (attention-kept true s anew 1 (eqb-false 1 2 refl)) ∙ w .lone .idle in
+        let touched = whole-touchable anew (hosted .whole) in
         record {
-          state = attentionOf s anew 1 .state;
-          memory = attentionOf s anew 1 .memory;
-          calls = calls q;
-          lone = record { entered = enters false s anew (hosted .lone .entered) (q .accepted) (fit q ∙ whole); idle = idle };
-          whole = omega (arith, hosted .whole, lengths-kept s anew 1 false);
+          accepted = accepts false s anew 0 (hosted .lone .entered) (rw commands fits) (touched _) (touched _);
+          commands = commands;
+          interrupts = ap (λ (x : ℕ). fieldOf x 3 2) is ∙ bits .0;
+          limit = ap (λ (x : ℕ). bitOf x 5) is ∙ bits .1 ∙ sym (ap (λ (x : ℕ). bitOf x 5) e);
+          ranked = ap (λ (x : ℕ). bitOf x 7) is ∙ bits .2 ∙ sym (ap (λ (x : ℕ). bitOf x 7) e);
+        }
+
+    -- and leaves the other channel
+    attended : {next : Bool} {c : Command} (q : Quietly false c (w .state) anew)
+        → PausedCalls false 5 s₁ m₁ k next (outcomeTo (w .state) anew false .state) (outcomeTo (w .state) anew false .memory)
+        → soundChannel (channelAfter (w .state) anew false) ≡ soundChannel (channelOf (w .state) false) → RowSoFar k next
+    unfolding hosted
+    attended q calls fit =
+        let sounds = sound-channel-of (w .state) false (entry-sound (w .state) anew 0 (hosted .lone .entered)) in
+        record {
+          state = outcomeTo (w .state) anew false .state;
+          memory = outcomeTo (w .state) anew false .memory;
+          calls = calls;
+          lone = alone-attended false (w .state) anew (q .accepted) (hosted .lone) (fit ∙ sounds);
+          whole = omega (arith, hosted .whole, lengths-kept (w .state) anew (channelNumber false) false);
         }
 
   -- suspend, and resume
@@ -228,17 +169,17 @@ module _ (given : Buffers) (full : WholeSystem given) (fit : ¬ (TooLong given))
   unfolding hosted commandCoded fieldOf bitOf commandNumber isKnown modeNumber first unless midway withTransfer suspended withControl soundChannel
   suspends w h =
       let g = ends .before (w .calls) h in
-      attended w 0x06 refl refl (rw (g .runs)) (ap (λ (c : Channel). c .psw) (g .registers) ∙ psw₁) (refl, refl) (suspend (hosted w 0x06 .calls) (g .transfers))
-      (λ q. ap soundChannel (suspend-only false (w .state) (anew w 0x06) q))
+      let q = quiet w 0x06 refl (rw (g .runs)) (ap (λ (c : Channel). c .psw) (g .registers) ∙ psw₁) (refl, refl, refl) in
+      attended w 0x06 q (suspend (hosted w 0x06 .calls) (g .transfers) q) (ap soundChannel (suspend-only false (w .state) (anew w 0x06) q))
 
   resumes : {k : ℕ} → RowSoFar k true → RowSoFar k false
   unfolding hosted commandCoded fieldOf bitOf withBit withPsw stoppedPsw commandNumber isKnown modeNumber isSuspended first unless midway withTransfer suspended withControl soundChannel
   resumes w =
       let o = off-registers (copy ready) tb₁ far (w .calls) in
       let e = ap (λ (c : Channel). c .psw) o ∙ ap (λ (x : ℕ). stoppedPsw x) psw₁ in
+      let q = quiet w 0x05 refl (rw (ap (λ (c : Channel). c .mode) o)) e (refl, refl, refl) in
       let v = hosted w 0x05 .calls in
-      attended w 0x05 refl refl (rw (ap (λ (c : Channel). c .mode) o)) e (refl, refl) (resume v)
-      (λ q. ap soundChannel (ends .back v q) ∙ ap soundChannel (sym o))
+      attended w 0x05 q (resume v q) (ap soundChannel (ends .back v q) ∙ ap soundChannel (sym o))
 
   -- one of the channel's transfer steps
   advances : {k : ℕ} → RowSoFar k false → k < 3 → RowSoFar (suc k) false
@@ -255,52 +196,35 @@ module _ (given : Buffers) (full : WholeSystem given) (fit : ¬ (TooLong given))
 
   -- meanwhile the other channel is started, and steps: its program halts
   other-steps : {k : ℕ} → RowSoFar k true → RowSoFar k true
-  unfolding hosted orderTo orderOf ccwOf blockOf busyIn commandCoded fieldOf bitOf commandNumber isKnown modeNumber first unless isSecond channelNumber isRunning soundChannel withControl
+  unfolding hosted put channelNumber isRunning
   other-steps {k} w =
       let s = w .state in
-      let v = hosted w 0x05 in
       let m = anew w 0x05 in
-      let byte : (i : ℕ) → i < 16 → byteAt m false (0 + i) ≡ getD (blocks 0x05) i 0 = λ i h. stands w 0x05 .read i h in
-      let cp = cp-is w 0x05 in
-      let done = accepts true s m (v .lone .entered) (v .whole) {k = StartSystem} (rw (cp, byte 8 (lit< tt))) (rw (w .lone .idle)) in
-      let x : Attends true s m 3 = record { done = done; code = rw (cp, byte 8 (lit< tt)) } in
-      let s₂ = attentionOf s m 2 .state in
-      let m₂ = attentionOf s m 2 .memory in
-      let c₂ = channelOf s₂ true in
-      let left = attention-sheet true s m .startSystem x in
-      let pb : pbAt s m true ≡ 2 = rw (cp, byte 10 (lit< tt), byte 11 (lit< tt), byte 12 (lit< tt), byte 13 (lit< tt)) in
-      let tp : c₂ .tp ≡ pointer 0x0E false = left .tp ∙ rw (pb, byte 2 (lit< tt), byte 3 (lit< tt), byte 4 (lit< tt), byte 5 (lit< tt)) in
-      let kept : (a : ℕ) → 10 ≤ a → a < 1048576 → byteAt m₂ false a ≡ byteAt m false a =
-      λ a h g. attention-sheet true s m .startSystemMemory x .others false a (rw cp (differ 9 a (lit< tt) g (λ e. omega arith))) in
-      let low₂ : OnlyLow m m₂ = record { others = λ a h g. kept a (omega arith) g; lengths = lengths-kept s m 2 } in
-      let whole₂ : WholeSystem m₂ = omega (arith, v .whole, low₂ .lengths false) in
-      let calls₂ : PausedCalls false 5 s₁ m₁ k true s₂ m₂ = attention (v .calls) 2 (eqb-false 2 1 refl) (low-spared (v .whole) low₂) in
-      let sound₂ =
-      ap soundChannel (registers-kept s m 2)
-      ∙ controlled-sound (channelOf s true) (c₂ .tp) (c₂ .pp) (c₂ .psw) (c₂ .mode) (c₂ .armed) (sound-channel-of s true (entry-sound s m 0 (v .lone .entered)))
-      (rw tp (lit< tt)) (rw (left .pp, pb) (lit< tt)) in
-      let still = ap isRunning (ends .waits calls₂ .0) in
-      let lone₂ : RunsAlone true s₂ m₂ 0 = record { entered = enters true s m (v .lone .entered) (x .done) sound₂; idle = still } in
-      let busy = busyIn (blockOf s₂ true) in
-      let there : Stand m₂ (c₂ .tp) (0x20 ∷ 0x48 ∷ []) =
-      rw tp (stand-kept (stand-on (stands w 0x05) 14) m₂ (same-lent m m₂ (low₂ .lengths)) (λ i h. kept (14 + i) (omega arith) (omega arith))) in
-      let h = hlt-stops m₂ c₂ busy there (whole-lent m₂ busy whole₂) in
-      let off = ap (λ (y : ℕ). eqb y 1) (left .status .transfer) in
-      let e = instruction-done true s₂ m₂ 0 (program-turn true s₂ m₂ 0 lone₂ (ap isRunning (left .mode)) off) off (h .step) in
-      let low₃ : OnlyLow m₂ (stepOf s₂ m₂ 0 .memory) = rw e (record {
-        others = λ a l g. read-other m₂ false busy 0 false a (rw (places-stay (copy ready) tb₁ far calls₂ .1, cp₁) (differ 9 a (lit< tt) g (λ z. omega arith)));
-        lengths = λ u. store-length m₂ false u busy 0;
+      let v = hosted w 0x05 in
+      let at = stands w 0x05 in
+      let lent : (a : ℕ) → lentAt m false a ≡ true = λ a. whole-lent m a (v .whole) in
+      let block : blockOf s true ≡ 8 = unfold blockOf in rw (cp-is w 0x05) in
+      let starts : Starts m (blockOf s true) 2 0x0E = rw block (record {
+        command = at .read 8 (lit< tt);
+        commandLent = lent 8;
+        busyLent = lent 9;
+        parameters = pointer-given m (pointer 10 false) _ (stand-on at 10) (lit< tt);
+        parametersLent = λ i h. lent (10 + i);
+        task = pointer-given m (pointer 2 false) _ (stand-on at 2) (lit< tt);
+        taskLent = λ i h. lent (2 + i);
       }) in
-      let ended₂ = last-channel (withChannel s₂ true (h .channel)) true true ∙ put-same s₂ true (h .channel) in
+      let suspended : RunsAlone true s m 0 = record { entered = v .lone .entered; idle = ap isRunning (ends .waits (w .calls) .0) } in
+      let halts = halts-at-once suspended (w .lone .idle) starts (stand-on at 14) in
+      let x = rw block at (halts (rw block (λ i h. differ 9 (0x0E + i) (lit< tt) (omega arith) (λ e. omega arith)))) in
+      let o = attentionOf s m 2 in
+      let whole : WholeSystem (o .memory) = omega (arith, v .whole, lengths-kept s m 2 false) in
+      let calls = attention (v .calls) 2 (eqb-false 2 1 refl) (rw (x .marked) (low-spared m 9 (255 ∷ []) (lit≤ tt) (v .whole))) in
       record {
-        state = stepOf s₂ m₂ 0 .state;
-        memory = stepOf s₂ m₂ 0 .memory;
-        calls = step calls₂ 0 (ends .waits calls₂ .1 0) (low-spared whole₂ low₃);
-        lone = record {
-          entered = alone-next true s₂ m₂ 0 lone₂ (ap (λ (o : Step). o .number) e) (ap (λ (o : Step). o .channel) e) .entered;
-          idle = ap (λ (o : Step). isRunning (channelOf (o .state) true .mode)) e ∙ ap (λ (c : Channel). isRunning (c .mode)) ended₂ ∙ h .still;
-        };
-        whole = omega (arith, whole₂, low₃ .lengths false);
+        state = stepOf (o .state) (o .memory) 0 .state;
+        memory = stepOf (o .state) (o .memory) 0 .memory;
+        calls = step calls 0 (ends .waits calls .1 0) (rw (x .cleared) (low-spared (o .memory) 9 (0 ∷ []) (lit≤ tt) whole));
+        lone = record { entered = x .entered; idle = x .still true };
+        whole = omega (arith, whole, step-lengths (o .state) (o .memory) 0 false);
       }
 
   -- ---- the whole row
@@ -333,7 +257,7 @@ module _ (given : Buffers) (full : WholeSystem given) (fit : ¬ (TooLong given))
         lastMemory = whole-row .memory;
         row = whole-row .calls;
         pauses = refl;
-        moved = rw (source-is job _ c₁ (come ready .seen) (copy ready .plain .agree), destination-is job _ c₁ (come ready .seen) (copy ready .plain .agree));
+        moved = rw (source-is job _ _ (come ready .seen) (copy ready .plain .agree), destination-is job _ _ (come ready .seen) (copy ready .plain .agree));
         ended = ends .then (whole-row .calls);
       }
 

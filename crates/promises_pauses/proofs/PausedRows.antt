@@ -1,35 +1,32 @@
 -- Demand 3 with pauses: a pause gives back the channel; calls in a row with pauses are, for the channel, a row of its transfer steps with other things
 -- between; and what is left can be swept.
 -- Assumes nothing.
-use Prim.Native.Nat.{ℕ, zero, suc, _+_, _-_, _<_, _≤_}
+use Prim.Native.Nat.{ℕ, suc, _+_, _-_, _<_, _≤_}
 use borrow.Author.Tests.{eqb-false}
-use mathlib.Core.Bool.{Bool, true, false}
-use mathlib.Core.List.{List, [], _++_}
-use mathlib.Core.Logic.{inr}
+use mathlib.Core.{Bool.Bool, Bool.true, Bool.false, List.List, List.[], List._++_, Logic.inr}
 use mathlib.Core.Path.{_≡_, refl, sym, ap, subst, _∙_}
 use native.Mathlib.Omega.{arith}
-use Rattle.ground_rules.proofs.SpanLaws.{apart-right}
-use Rattle.ground_rules.{specs.Choice.pick, specs.Bits.bitOf, specs.Bits.withBit, proofs.BitLaws.bit-other, proofs.BitLaws.with-bit-back, proofs.ChoiceLaws.apart}
-use Rattle.ground_rules.specs.{declared.Pointer.Pointer, Buffers.Buffers, Buffers.limitOf, Places.Place, Places.ApartFrom}
-use Rattle.ground_rules.proofs.StoreLaws.{same-lent}
-use Rattle.ground_rules.specs.{declared.Channel.Channel, declared.Fields.Fields, declared.Mode.the-variants.Suspended, declared.State.State, Outcomes.Outcome, Psw.transferring, Psw.programRunning, Psw.withPsw, Updates.withControl, Updates.withTransfer, Updates.stoppedPsw}
+use Rattle.ground_rules.specs.{Choice.pick, Bits.bitOf, Bits.withBit, Psw.transferring, Psw.programRunning, Psw.withPsw}
+use Rattle.ground_rules.specs.{Buffers.Buffers, Buffers.limitOf, Places.Place, Places.ApartFrom, Updates.withControl, Updates.withTransfer, Updates.stoppedPsw}
 use Rattle.ground_rules.specs.States.{channelOf, channelNumber, blockOf, busyIn, isRunning}
-use Rattle.ground_rules.proofs.ChannelLaws.{put-same, named}
-use Rattle.attention_rules.specs.{declared.Command.Command, declared.Command.the-variants.Suspend, declared.Command.the-variants.Resume, Attention.orderTo, Attention.orderedChannel, Blocks.orderOf, Blocks.parameterBlock, Touched.storedBy, Commands.copied, Commands.obeyed, Commands.ordered, Effects.onlyPsw, Effects.suspended, Effects.commanded, Effects.channelOrdered}
-use Rattle.attention_rules.proofs.Outcomes.{accepted-order, refused-nothing, shared-kept}
-use Rattle.attention_rules.proofs.{Pauses.suspend-resume, Stores.bytes-kept, Stores.lengths-kept}
+use Rattle.ground_rules.specs.declared.{Pointer.Pointer, Channel.Channel, Fields.Fields, Mode.the-variants.Suspended, State.State}
+use Rattle.ground_rules.proofs.{BitLaws.bit-other, BitLaws.with-bit-back, ChoiceLaws.apart, SpanLaws.apart-right, StoreLaws.same-lent, ChannelLaws.named}
+use Rattle.attention_rules.specs.declared.Command.{Command, the-variants.Suspend, the-variants.Resume}
+use Rattle.attention_rules.specs.{Attention.orderTo, Attention.orderedChannel, Blocks.orderOf, Blocks.parameterBlock, Touched.storedBy}
+use Rattle.attention_rules.specs.{Commands.copied, Commands.obeyed, Commands.ordered}
+use Rattle.attention_rules.specs.Effects.{onlyPsw, suspended, commanded, channelOrdered}
+use Rattle.attention_rules.proofs.{Outcomes.refused-nothing, Outcomes.shared-kept, Pauses.suspend-resume, Stores.bytes-kept, Stores.lengths-kept}
 use Rattle.turn_rules.{specs.Choosing.external, specs.Step.stepOf, proofs.ChoosingLaws.chosen-running, proofs.OutcomeLaws.cp-kept}
-use Rattle.block_rules.specs.{Premises.from, Premises.into, Premises.Lent, Premises.Copy, Totals.movedAfter, Totals.total, Rows.Left, Rows.Untouched, Rows.Row, Rows.start, Rows.steps, Rows.other, Stages.midway, Stages.Held, Stages.Ended}
-use Rattle.sweep_rules.specs.{Plainly.plainly, Ranges.placeOf, Sweep.sweepOf}
-use Rattle.block_rules.proofs.{CopyLaws.reached, Demand3.going, Demand3.ended, StageLaws.mid-count}
-use Rattle.promises.specs.{Calls.Turn, Calls.Calls, Calls.EndsAtCall}
-use Rattle.promises_blocks.specs.{Joined.RunsAlone}
-use Rattle.promises_sheet.specs.{SheetAttention.outcomeTo, SheetAttention.channelAfter}
-use Rattle.promises.proofs.CallLaws.{turn-is, transfer-channel, transfer-memory, step-kept, attention-kept}
-use Rattle.promises_blocks.proofs.{AloneLaws.transfer-turn, AloneLaws.alone-next, Joined.busy-same}
-use Rattle.promises.proofs.{MachineLaws.row-kept, MachineLaws.moves}
-use Rattle.promises_blocks.proofs.{PlainLaws.plainly-stops, PlainLaws.plainly-goes, Sweeps.rest-accepted, Sweeps.sweeps}
-use Rattle.promises_pauses.specs.Pausing.{Quietly, blockBytes, busyByte, Clear, BlockKept, PauseStores, PauseApart, Spared, PausedCalls, EndsPaused, SameEnd, SweptRest, begin, transfer, step, attention, host, suspend, resume}
+use Rattle.block_rules.specs.{Premises.from, Premises.into, Premises.Lent, Premises.Copy, Totals.movedAfter, Totals.total, Stages.midway, Stages.Held, Stages.Ended}
+use Rattle.block_rules.specs.Rows.{Left, Untouched, Row, start, other}
+use Rattle.block_rules.proofs.{CopyLaws.reached, Demand3.going, Demand3.ended}
+use Rattle.sweep_rules.specs.{Ranges.placeOf, Sweep.sweepOf}
+use Rattle.promises.{specs.Calls.Turn, specs.Calls.Calls, specs.Calls.EndsAtCall}
+use Rattle.promises.proofs.{CallLaws.step-kept, CallLaws.attention-kept, MachineLaws.row-kept, MachineLaws.row-transfer, MachineLaws.moves}
+use Rattle.promises_blocks.specs.{Joined.RunsAlone, Sweeps.SweptRest}
+use Rattle.promises_blocks.proofs.{AloneLaws.going-turn, AloneLaws.ordered-channel, Joined.block-same, Sweeps.rest-accepted, Sweeps.rest-swept}
+use Rattle.promises_sheet.specs.SheetAttention.{outcomeTo, channelAfter}
+use Rattle.promises_pauses.specs.Pausing.{Quietly, blockBytes, busyByte, Clear, BlockKept, PauseStores, PauseApart, Spared, PausedCalls, EndsPaused, SameEnd, begin, transfer, step, attention, host, suspend, resume}
 
 -- ---- a pause by itself
 
@@ -46,11 +43,6 @@ quiet-same q psw e =
     let five = q .limit ∙ e 5 (eqb-false 5 2 refl) (eqb-false 5 6 refl) in
     let seven = q .ranked ∙ e 7 (eqb-false 7 2 refl) (eqb-false 7 6 refl) in
     rw (q .interrupts, five, seven, with-bit-back psw 5, with-bit-back psw 7)
-
--- what an accepted attention makes of its channel
-pub ordered-channel : (b : Bool) (s : State) (m : Buffers) → outcomeTo s m b .number ≡ 0 → channelAfter s m b ≡ orderedChannel s m b
-ordered-channel b s m z =
-    ap (λ (o : Outcome). channelOf (o .state) b) (accepted-order s m (channelNumber b) z) ∙ rw named (put-same s b (orderedChannel s m b))
 
 -- a quiet suspend does what suspend does, and no more
 pub suspend-only : (b : Bool) (s : State) (m : Buffers) → Quietly b Suspend s m → channelAfter s m b ≡ suspended (channelOf s b)
@@ -78,13 +70,6 @@ pause-same b s s′ m m′ q q′ registers bytes busy tb =
     ∙ ap (onlyPsw (channelOf s b))
     (ap (ordered (orderTo s′ m′ b .ccw)) (ap (withBit psw 2) (sym tb) ∙ with-bit-back psw 2)
     ∙ quiet-same q′ psw (λ j h g. ap (λ (c : Channel). bitOf (c .psw) j) (registers ∙ suspend-only b s m q) ∙ stopped-bit psw j h g))
-
--- what an attention with such a command stores
-stores : (b : Bool) (command : Command) (s : State) (m : Buffers) → Quietly b command s m
-    → PauseStores (storedBy command (blockOf s b) (parameterBlock command m (blockOf s b) (channelOf s b .pp))) m (outcomeTo s m b .memory)
-unfolding orderTo orderOf
-stores b command s m q =
-    record { others = λ u a h. bytes-kept s m (channelNumber b) u a (rw (named b, q .commands) h); lengths = lengths-kept s m (channelNumber b) }
 
 -- suspend leaves PP and the fields of CC
 pick-kept : (paused : Bool) (c : Channel) → (pick paused (suspended c) c .pp ≡ c .pp) × (pick paused (suspended c) c .fields ≡ c .fields)
@@ -129,14 +114,13 @@ module _ {b : Bool} {n : ℕ} {s₀ : State} {m₀ : Buffers} (p : Copy n (chann
         left : (q : Pointer) → Clear places q n → Lent m q n → Left q n m m′
         left q clear lent = record { bytes = λ i h. w .others _ _ (clear i h); lent = λ i h. same-lent m m′ (w .lengths) (q .tag) (q .address + i) ∙ lent i h }
 
-    -- what suspend and resume store
-    suspend-stores : Quietly b Suspend s m → PauseStores (blockBytes b s₀ ++ busyByte b s₀) m (outcomeTo s m b .memory)
-    unfolding storedBy parameterBlock
-    suspend-stores q = rw (← (kept .0), ← (busy-same s₀ s b (o .control))) (stores b Suspend s m q)
-
-    resume-stores : Quietly b Resume s m → PauseStores (busyByte b s₀) m (outcomeTo s m b .memory)
-    unfolding storedBy parameterBlock
-    resume-stores q = rw (← (busy-same s₀ s b (o .control))) (stores b Resume s m q)
+    -- what an attention with such a command stores
+    stores : (command : Command) → Quietly b command s m
+        → PauseStores (storedBy command (blockOf s₀ b) (parameterBlock command m (blockOf s₀ b) (c₀ .pp))) m (outcomeTo s m b .memory)
+    unfolding orderTo orderOf
+    stores command q =
+        rw (← (kept .0), ← (block-same s₀ s b (o .control)))
+        (record { others = λ u a h. bytes-kept s m (channelNumber b) u a (rw (named b, q .commands) h); lengths = lengths-kept s m (channelNumber b) })
 
     -- after a call that leaves both ranges and CP alone
     seen-on : (next : Bool) {s′ : State} {m′ : Buffers} → Untouched c₀ n m m′ → s′ .cp ≡ s .cp → channelOf s′ b ≡ pick next (suspended (o .was)) (o .was)
@@ -159,7 +143,7 @@ module _ {b : Bool} {n : ℕ} {s₀ : State} {m₀ : Buffers} (p : Copy n (chann
     seen-transfer lines t =
         record {
           was = channelOf (stepOf s m lines .state) b;
-          row = rw (turn-is b s m lines t x, transfer-channel b s m, transfer-memory b s m, o .now) (steps (o .row));
+          row = row-transfer b n c₀ m₀ k s m lines t x (rw (o .now) (o .row));
           most = short-of;
           control = cp-kept s m lines ∙ o .control;
           now = refl;
@@ -168,11 +152,11 @@ module _ {b : Bool} {n : ℕ} {s₀ : State} {m₀ : Buffers} (p : Copy n (chann
 
     -- a suspend
     seen-suspend : Quietly b Suspend s m → Seen k true (outcomeTo s m b .state) (outcomeTo s m b .memory)
-    unfolding midway withTransfer
+    unfolding midway withTransfer storedBy parameterBlock
     seen-suspend q =
         let running = ap (λ (c : Channel). programRunning (c .psw)) (o .now ∙ going p (o .row) short-of .registers) ∙ tb in
-        let busy : ApartFrom (blockBytes b s) false (busyIn (blockOf s b)) = rw (kept o .0, busy-same s₀ s b (o .control)) (far .busy) in
-        seen-on o true (untouched o (far .source) (far .destination) (suspend-stores o q)) (shared-kept s m (channelNumber b) .0)
+        let busy : ApartFrom (blockBytes b s) false (busyIn (blockOf s b)) = rw (kept o .0, block-same s₀ s b (o .control)) (far .busy) in
+        seen-on o true (untouched o (far .source) (far .destination) (stores o Suspend q)) (shared-kept s m (channelNumber b) .0)
         (suspend-only b s m q ∙ ap suspended (o .now)) (λ _. (short-of, λ s′ m′ e y q′. pause-same b s s′ m m′ q q′ e (rw (kept o .0) y) busy running ∙ o .now))
 
   module _ {k : ℕ} {s : State} {m : Buffers} (o : Seen k true s m) where
@@ -185,9 +169,10 @@ module _ {b : Bool} {n : ℕ} {s₀ : State} {m₀ : Buffers} (p : Copy n (chann
 
     -- resumed so, it is what it was
     seen-resume : Quietly b Resume s m → Seen k false (outcomeTo s m b .state) (outcomeTo s m b .memory)
+    unfolding storedBy parameterBlock
     seen-resume q =
         let clear = apart-right (blockBytes b s₀) (busyByte b s₀) in
-        seen-on o false (untouched o (λ i h. clear _ _ (far .source i h)) (λ i h. clear _ _ (far .destination i h)) (resume-stores o q))
+        seen-on o false (untouched o (λ i h. clear _ _ (far .source i h)) (λ i h. clear _ _ (far .destination i h)) (stores o Resume q))
         (shared-kept s m (channelNumber b) .0) (o .off refl .1 s m refl (λ i h. refl) q) (λ e. apart (sym e))
 
   -- so it holds after each
@@ -204,6 +189,7 @@ module _ {b : Bool} {n : ℕ} {s₀ : State} {m₀ : Buffers} (p : Copy n (chann
 
   -- demand 3 with pauses: the transfer ends at demand 3's own total
   pub demand13 : EndsPaused b n s₀ m₀ (total c₀ n)
+  unfolding storedBy parameterBlock
   demand13 =
       record {
         before = λ r h. rw (seen r .now) (going p (seen r .row) h);
@@ -213,8 +199,8 @@ module _ {b : Bool} {n : ℕ} {s₀ : State} {m₀ : Buffers} (p : Copy n (chann
         waits = λ r. waits (seen r);
         bytes = λ r. held (seen r);
         back = λ {j} {s} {m} r q. seen r .off refl .1 s m refl (λ i h. refl) q ∙ going p (seen r .row) (seen r .off refl .0) .registers;
-        suspends = λ r q. suspend-stores (seen r) q;
-        resumes = λ r q. resume-stores (seen r) q;
+        suspends = λ r q. stores (seen r) Suspend q;
+        resumes = λ r q. stores (seen r) Resume q;
       }
 
   -- ---- what follows
@@ -234,48 +220,21 @@ module _ {b : Bool} {n : ℕ} {s₀ : State} {m₀ : Buffers} (p : Copy n (chann
       let same : PauseStores [] m m = record { others = λ u a h. refl; lengths = λ u. refl } in
       rw (refused-nothing s m (channelNumber b) ne) (host r (record { ranges = untouched (seen r) (λ i h. tt) (λ i h. tt) same; block = λ e i h. refl }))
 
-  -- short of the total, and while the other channel does not run, the next step call is the channel's turn
-  pub lone-turn : {k : ℕ} {s : State} {m : Buffers} {lines : ℕ} → PausedCalls b n s₀ m₀ k false s m → k < total c₀ n → RunsAlone b s m lines → Turn b s m lines
-  lone-turn {s = s} {m = m} {lines = lines} r h a =
-      let g = demand13 .before r h in
-      let e = kept (seen r) .1 in
-      transfer-turn b s m lines a (g .runs) (g .transfers) (ap (λ (f : Fields). f .synchronised) e ∙ p .plain .unsynchronised)
-      (ap (λ (f : Fields). f .externalEnd) e ∙ p .plain .unended)
+  -- ---- short of the total, not suspended, while the other channel does not run
 
-  -- ---- a sweep of the rest
+  module _ {lines k : ℕ} {s : State} {m : Buffers} (r : PausedCalls b n s₀ m₀ k false s m) (h : k < total c₀ n) (a : RunsAlone b s m lines) where
+    -- the next step call is the channel's turn
+    pub lone-turn : Turn b s m lines
+    lone-turn = going-turn p (demand13 .before r h) a
 
-  -- the plain steps of what is left lead to the total, and stop there
-  plain-rest : (lines left more k : ℕ) {s : State} {m : Buffers} → k + left ≡ total c₀ n → PausedCalls b n s₀ m₀ k false s m → RunsAlone b s m lines
-      → SweptRest b n s₀ m₀ left (plainly (left + more) s m b lines)
-  plain-rest lines zero more k {s} {m} e r a =
-      let at : k ≡ total c₀ n = omega arith in
-      let x = demand13 .then (subst (λ (j : ℕ). PausedCalls b n s₀ m₀ j false s m) at r) in
-      rw (plainly-stops (0 + more) s m b lines (x .over)) (record { steps = refl; ended = x })
-  plain-rest lines (suc left) more k {s} {m} e r a =
-      let h : k < total c₀ n = omega arith in
-      let x = demand13 .before r h .transfers in
-      let t = lone-turn r h a in
-      let v = demand13 .turns r h lines t in
-      let rest = plain-rest lines left more (suc k) (omega arith) (transfer r lines t x) (alone-next b s m lines a (v .done) (v .channel)) in
-      let same : suc left + more ≡ suc (left + more) = omega arith in
-      rw (same, plainly-goes (left + more) s m b lines x (v .done)) (record { steps = omega (arith, rest .steps); ended = rest .ended })
+    -- an accepted sweep takes exactly the steps that are left, and leaves what the undisturbed run leaves
+    pub takes-rest : sweepOf s m (channelNumber b) lines .number ≡ 0 → SweptRest b n s₀ m₀ (total c₀ n - k) (sweepOf s m (channelNumber b) lines)
+    takes-rest = rest-swept b s₀ lines p (rw (seen r .now) (seen r .row)) h a
 
-  -- so an accepted sweep that the channel is given while it is not suspended takes exactly those steps, and leaves what the undisturbed run leaves
-  pub takes-rest : (lines : ℕ) {k : ℕ} {s : State} {m : Buffers} → PausedCalls b n s₀ m₀ k false s m → k < total c₀ n → RunsAlone b s m lines
-      → sweepOf s m (channelNumber b) lines .number ≡ 0 → SweptRest b n s₀ m₀ (total c₀ n - k) (sweepOf s m (channelNumber b) lines)
-  takes-rest lines {k} {s} {m} r h a z =
-      let small = ap (λ (c : Channel). c .bc) (demand13 .before r h .registers) ∙ mid-count c₀ n (movedAfter c₀ n k) in
-      let o = sweepOf s m (channelNumber b) lines in
-      let plain = sweeps .does s m b lines z (omega (arith, small)) .plain (total c₀ n - k + o .steps) (omega arith) in
-      rw plain (plain-rest lines (total c₀ n - k) (o .steps) k (omega arith) r a)
-
-  -- and it is accepted, of ranges that do not wrap, while the other channel does not run and no EXT is up
-  pub swept-rest : (lines : ℕ) → placeOf (from c₀) + n ≤ limitOf (from c₀ .tag) → placeOf (into c₀) + n ≤ limitOf (into c₀ .tag)
-      → ((x : Bool) → external lines x ≡ false) → {k : ℕ} {s : State} {m : Buffers} → PausedCalls b n s₀ m₀ k false s m → k < total c₀ n → RunsAlone b s m lines
-      → (sweepOf s m (channelNumber b) lines .number ≡ 0) × SweptRest b n s₀ m₀ (total c₀ n - k) (sweepOf s m (channelNumber b) lines)
-  swept-rest lines fromWhole intoWhole quiet {k} {s} {m} r h a =
-      let z = rest-accepted lines p fromWhole intoWhole quiet k s m (demand13 .before r h) a in
-      (z, takes-rest lines r h a z)
+    -- and it is accepted, of ranges that do not wrap, while no EXT is up
+    pub swept-rest : placeOf (from c₀) + n ≤ limitOf (from c₀ .tag) → placeOf (into c₀) + n ≤ limitOf (into c₀ .tag) → ((x : Bool) → external lines x ≡ false)
+        → (sweepOf s m (channelNumber b) lines .number ≡ 0) × SweptRest b n s₀ m₀ (total c₀ n - k) (sweepOf s m (channelNumber b) lines)
+    swept-rest fromWhole intoWhole quiet = let z = rest-accepted lines p fromWhole intoWhole quiet k s m (demand13 .before r h) a in (z, takes-rest z)
 
 -- ---- without pauses, and the total
 

@@ -14,7 +14,6 @@ use Rattle.attention_rules.specs.Attention.{orderTo, attentionOf}
 use Rattle.turn_rules.specs.Step.{stepOf}
 use Rattle.block_rules.specs.{Premises.from, Premises.into, Rows.Untouched, Totals.movedAfter}
 use Rattle.block_rules.specs.Stages.{midway, Held, Going, Ended}
-use Rattle.sweep_rules.specs.Sweep.{Sweep}
 use Rattle.promises.specs.{Calls.Turn, Calls.Moves}
 use Rattle.promises_blocks.specs.{Joined.Comes}
 use Rattle.promises_sheet.specs.{SheetAttention.outcomeTo, SheetAttention.channelAfter}
@@ -110,11 +109,6 @@ module _ (second : Bool) (n : ℕ) (s₀ : State) where
     pausesOf (host r w) = pausesOf r
     pausesOf (suspend {k = k} r x q) = k ∷ pausesOf r
     pausesOf (resume r q) = pausesOf r
-
-    -- what a sweep, or plain steps, leave that make the rest of a transfer: so many steps, and the end is that of the undisturbed run
-    pub record SweptRest (left : ℕ) (o : Sweep) : Type 0 where
-      pub steps : o .steps ≡ left
-      pub ended : Ended n c₀ m₀ (channelOf (o .state) second) (o .memory)
 
   -- two rows from one start have come to their ends: they count the same transfer steps, and leave the same channel and the same destination
   pub record SameEnd (k j : ℕ) (s s′ : State) (m m′ : Buffers) : Type 0 where

@@ -3,24 +3,18 @@
 use Prim.Native.Nat.{ℕ, zero, suc, _+_, _<_, _≤_}
 use lib.ListN.{length}
 use mathlib.Core.Bool.{Bool, true, false, not}
-use mathlib.Core.Path.{_≡_, refl, sym, ap, subst, _∙_}
+use mathlib.Core.Path.{_≡_, refl, sym, subst, _∙_}
 use native.Mathlib.Omega.{arith}
 use Rattle.ground_rules.proofs.ChoiceLaws.{apart}
 use Rattle.ground_rules.specs.Buffers.{Buffers, spaceOf, byteAt}
 use Rattle.ground_rules.specs.declared.Pointer.{Pointer}
 use Rattle.ground_rules.proofs.StoreLaws.{same-lent}
 use Rattle.ground_rules.specs.declared.Channel.{Channel}
-use Rattle.ground_rules.specs.declared.Fields.{Fields}
-use Rattle.ground_rules.specs.declared.State.{State}
-use Rattle.turn_rules.proofs.SoundLaws.{entry-sound, entry-agree, entry-again, limits-kept}
-use Rattle.turn_rules.specs.Step.{entryNumber}
 use Rattle.turn_rules.specs.declared.Kind.the-variants.{Nothing}
-use Rattle.block_rules.proofs.StageLaws.{mid-fields}
 use Rattle.block_rules.specs.Premises.{from, into, Lent}
 use Rattle.block_rules.specs.Rows.{Left}
 use Rattle.block_rules.specs.Stages.{Going, Within}
-use Rattle.block_rules.specs.Totals.{movedAfter}
-use Rattle.promises_blocks.proofs.AloneLaws.{transfer-turn, alone-next}
+use Rattle.promises_blocks.proofs.AloneLaws.{going-turn, alone-next, alone-written}
 use Rattle.promises.specs.Calls.{Turn, Moves}
 use Rattle.promises_blocks.specs.Joined.{RunsAlone}
 use Rattle.processors.specs.Calls.{StepAnswer, stepAnswer, stepGives, stepOn}
@@ -69,10 +63,7 @@ module _ {second : Bool → Bool} {n k : ℕ} {x₀ : Situation} (h : TwoTransfe
 
     -- short of the end the next step of this processor is its transfer step
     turn : Turn (second b) (stateFor b x) (memoryFor b x) 0
-    turn =
-        let e = ap (λ (c : Channel). c .fields) (going .registers) ∙ mid-fields (c₀ b) n (movedAfter (c₀ b) n i) in
-        transfer-turn (second b) (stateFor b x) (memoryFor b x) 0 (w .alone) (going .runs) (going .transfers)
-        (ap (λ (f : Fields). f .synchronised) e ∙ h .copy b .plain .unsynchronised) (ap (λ (f : Fields). f .externalEnd) e ∙ h .copy b .plain .unended)
+    turn = going-turn (h .copy b) going (w .alone)
 
     moved : Moves (second b) n (stateFor b x₀) (stateFor b x) (memoryFor b x) 0
     moved = ends b .turns (w .row) l 0 turn
@@ -97,15 +88,12 @@ module _ {second : Bool → Bool} {n k : ℕ} {x₀ : Situation} (h : TwoTransfe
         row =
             other (w .row) twelve (stepGives 0)
             (record { fromLeft = left (from (c₀ b)) (h .copy b .fromLent); intoLeft = left (into (c₀ b)) (h .copy b .intoLent) });
-        alone = rw (other-state twelve (stepGives 0) b x) (record { entered = entered; idle = w .alone .idle });
+        alone = rw (other-state twelve (stepGives 0) b x) (alone-written m′ (w .alone) (same .lengths));
         lengths = λ u. same .lengths u ∙ w .lengths u;
       }
     where
       twelve : StepAnswer
       twelve = stepAnswer 12 0 0 Nothing
-
-      s : State
-      s = stateFor b x
 
       m : Buffers
       m = memoryFor b x
@@ -115,9 +103,6 @@ module _ {second : Bool → Bool} {n k : ℕ} {x₀ : Situation} (h : TwoTransfe
 
       same : Same m m′
       same = sees-same b (x .memory) (afterStep (not b) 0 x .memory) (other-io twelve (stepGives 0) b x) (h .ports (not b)) (spares v l)
-
-      entered : entryNumber s m′ 0 ≡ 0
-      entered = let z = w .alone .entered in entry-again s s m m′ 0 z (entry-sound s m 0 z) (entry-agree s m 0 z) refl (limits-kept m m′ (same .lengths))
 
       left : (q : Pointer) → Lent (memoryFor b x₀) q n → Left q n m m′
       left q given =
