@@ -22,13 +22,13 @@ use Rattle.block_rules.specs.{Rows.Left, Stages.midway, Totals.narrow, Totals.a
 use Rattle.promises.{specs.Cases.Stand, specs.Witness.channelWith, proofs.CaseLaws.pointer-given, proofs.StandLaws.stand-on}
 use Rattle.promises_blocks.specs.{Joined.RunsAlone, Met.zeros, Met.copying, Image.put, Image.layoutOf, Image.copyOf, Image.imageIn}
 use Rattle.promises_blocks.specs.Program.{Job, busyAt, Ready}
-use Rattle.promises_blocks.proofs.{AloneLaws.accepts, AloneLaws.alone-written, AloneLaws.alone-attended, AloneLaws.alone-next, CopyWitness.zeros-within}
+use Rattle.promises_blocks.proofs.{AloneLaws.accepts, AloneLaws.alone-written, AloneLaws.alone-attended, AloneLaws.alone-next, AloneLaws.going-turn, CopyWitness.zeros-within}
 use Rattle.promises_blocks.proofs.{ProgramLaws.source-is, ProgramLaws.destination-is, ProgramStart.Starts, ProgramStart.halts-at-once, ProgramSteps.View}
 use Rattle.promises_blocks.proofs.ImageLaws.{put-length, put-other, differ, whole-lent, whole-touchable, whole-put, whole-stand, zeros-whole, ready-met}
 use Rattle.promises_blocks.proofs.Showpiece.{come, copy, comes, source-at, destination-at, control-at, parameters-at, total-at}
 use Rattle.promises_sheet.specs.SheetAttention.{outcomeTo, channelAfter}
 use Rattle.promises_pauses.specs.Pausing.{Quietly, PauseApart, Spared, PausedCalls, EndsPaused, PausedMet, pausesOf, begin, transfer, step, attention, host, suspend, resume}
-use Rattle.promises_pauses.proofs.PausedRows.{suspend-only, demand13, lone-turn, places-stay, off-registers}
+use Rattle.promises_pauses.proofs.PausedRows.{suspend-only, demand13, places-stay, off-registers}
 
 -- all of system memory is lent
 abbrev WholeSystem : Buffers → Type 0
@@ -183,8 +183,8 @@ module _ (given : Buffers) (full : WholeSystem given) (fit : ¬ (TooLong given))
 
   -- one of the channel's transfer steps
   advances : {k : ℕ} → RowSoFar k false → k < 3 → RowSoFar (suc k) false
-  advances {k} w h =
-      let turn = lone-turn (copy ready) tb₁ far (w .calls) (subst (λ (x : ℕ). k < x) (sym three) h) (w .lone) in
+  advances w h =
+      let turn = going-turn (copy ready) (ends .before (w .calls) h) (w .lone) in
       let v = ends .turns (w .calls) h 0 turn in
       record {
         state = stepOf (w .state) (w .memory) 0 .state;
