@@ -21,7 +21,7 @@ use Rattle.ground_rules.specs.Values.{pointer}
 use Rattle.ground_rules.specs.declared.Pointer.{Pointer}
 use Rattle.ground_rules.specs.Choice.{pick}
 use Rattle.promises.specs.Cases.{Stand}
-use Rattle.promises_blocks.specs.Image.{put, layoutOf, copyOf, imageIn, ReadyMet}
+use Rattle.promises_blocks.specs.Image.{put, WholeSystem, layoutOf, copyOf, imageIn, ReadyMet}
 use Rattle.promises_blocks.specs.Met.{zerosOf, zeros}
 use Rattle.block_rules.specs.Premises.{Lent}
 use Rattle.promises_blocks.specs.Program.{Job, Layout, systemPlace, fromPlace, intoPlace, blockAt, busyAt, doubleword, programOf, mostBy, mostOf, Ready, RunCopies, runIn, RowMade}
@@ -85,12 +85,12 @@ unfolding indexOf limitOf
 differ x y h h′ ne e z = ne (omega arith)
 
 -- in a whole memory every address is lent
-pub whole-lent : (m : Buffers) (a : ℕ) → 1048576 ≤ length (spaceOf m false) → lentAt m false a ≡ true
+pub whole-lent : (m : Buffers) (a : ℕ) → WholeSystem m → lentAt m false a ≡ true
 unfolding lentAt
 whole-lent m a h = lt-ltb (indexOf false a) (length (spaceOf m false)) (omega (arith, index-small false a))
 
 -- and every byte may be touched
-pub whole-touchable : (m : Buffers) → 1048576 ≤ length (spaceOf m false) → (ps : List Place) → allTouchable m ps ≡ true
+pub whole-touchable : (m : Buffers) → WholeSystem m → (ps : List Place) → allTouchable m ps ≡ true
 unfolding allPass
 whole-touchable m h [] = refl
 whole-touchable m h (p ∷ ps) = ap₂ _&&_ (at (p .tag)) (whole-touchable m h ps)
@@ -100,10 +100,10 @@ whole-touchable m h (p ∷ ps) = ap₂ _&&_ (at (p .tag)) (whole-touchable m h p
     at false = lent-touchable m false (p .address) (whole-lent m (p .address) h)
 
 -- and so after bytes are put there, which stand there
-pub whole-put : (m : Buffers) (a : ℕ) (vs : List ℕ) → 1048576 ≤ length (spaceOf m false) → 1048576 ≤ length (spaceOf (put m a vs) false)
+pub whole-put : (m : Buffers) (a : ℕ) (vs : List ℕ) → WholeSystem m → WholeSystem (put m a vs)
 whole-put m a vs h = omega (arith, h, put-length m a vs false)
 
-pub whole-stand : (m : Buffers) (a : ℕ) (vs : List ℕ) → length vs ≤ 65536 → 1048576 ≤ length (spaceOf m false) → Stand (put m a vs) (pointer a false) vs
+pub whole-stand : (m : Buffers) (a : ℕ) (vs : List ℕ) → length vs ≤ 65536 → WholeSystem m → Stand (put m a vs) (pointer a false) vs
 whole-stand m a vs fit h = put-stand m a vs fit (λ i _. whole-lent m (a + i) h)
 
 -- the block is at 0 or 8
@@ -128,7 +128,7 @@ most-low true d = lit≤ tt
 most-low false true = lit≤ tt
 most-low false false = lit≤ tt
 
-module _ (m : Buffers) (whole : 1048576 ≤ length (spaceOf m false)) (fit : ¬ (TooLong m)) (b fromOdd intoOdd fromWide intoWide : Bool) (n lines : ℕ) where
+module _ (m : Buffers) (whole : WholeSystem m) (fit : ¬ (TooLong m)) (b fromOdd intoOdd fromWide intoWide : Bool) (n lines : ℕ) where
   abbrev j : Job
   j = copyOf fromOdd intoOdd fromWide intoWide n
 

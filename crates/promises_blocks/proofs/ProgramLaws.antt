@@ -12,7 +12,7 @@ use Rattle.ground_rules.proofs.ChannelLaws.{put-same, last-channel}
 use Rattle.ground_rules.proofs.FieldLaws.{agrees, agreed}
 use Rattle.ground_rules.specs.Cc.{split}
 use Rattle.ground_rules.specs.declared.Fields.{Fields}
-use Rattle.ground_rules.specs.Psw.{transferring, sourceWide, destinationWide}
+use Rattle.ground_rules.specs.Psw.{transferring, programRunning, sourceWide, destinationWide}
 use Rattle.ground_rules.specs.States.{channelOf, withChannel, withLast, soundChannel, isRunning, blockOf, busyIn, fieldsAgree}
 use Rattle.ground_rules.specs.declared.Channel.{Channel}
 use Rattle.ground_rules.specs.declared.Mode.the-variants.{Running}
@@ -148,13 +148,16 @@ module _ (j : Job) (tp : Pointer) (c : Channel) (seen : viewOf c ≡ begins j tp
   abbrev pub part : {A : Type 0} (f : View → A) → f (viewOf c) ≡ f (begins j tp)
   part f = ap f seen
 
-  -- its widths
-  widths : (s d : Bool) → (transferring (pswOf s d) ≡ true) × (sourceWide (pswOf s d) ≡ s) × (destinationWide (pswOf s d) ≡ d)
+  -- XF, its widths, and TB
+  widths : (s d : Bool) → (transferring (pswOf s d) ≡ true) × (sourceWide (pswOf s d) ≡ s) × (destinationWide (pswOf s d) ≡ d) × (programRunning (pswOf s d) ≡ true)
   unfolding bitOf
-  widths true true = (refl, refl, refl)
-  widths true false = (refl, refl, refl)
-  widths false true = (refl, refl, refl)
-  widths false false = (refl, refl, refl)
+  widths true true = (refl, refl, refl, refl)
+  widths true false = (refl, refl, refl, refl)
+  widths false true = (refl, refl, refl, refl)
+  widths false false = (refl, refl, refl, refl)
+
+  pub program-runs : programRunning (c .psw) ≡ true
+  program-runs = part (λ v. programRunning (v .psw)) ∙ widths (j .fromWide) (j .intoWide) .3
 
   -- its sides
   pub source-is : source c ≡ side (fromPlace j) true (j .fromWide)

@@ -4,9 +4,10 @@ use Prim.Native.Nat.{ℕ, _+_, _*_, _%_, _<_}
 use borrow.Author.Tests.{eqb-false}
 use lib.Dec.{lit<}
 use mathlib.Core.Bool.{Bool, true, false, not, _&&_}
-use mathlib.Core.List.{[], _∷_, _++_}
+use mathlib.Core.List.{List, [], _∷_, _++_}
 use mathlib.Core.Path.{_≡_, refl, sym, ap, ap₂, subst, _∙_}
-use native.Mathlib.Nat.{mod-lt, mod-add-mod}
+use native.Mathlib.Nat.{add-zero, mod-lt, mod-add-mod}
+use native.Mathlib.Omega.{arith}
 use Rattle.ground_rules.specs.Updates.{withControl}
 use Rattle.attention_rules.proofs.Outcomes.{accepted-order}
 use Rattle.attention_rules.specs.Attention.{orderTo, orderedChannel, orderedMemory, attentionOf}
@@ -34,16 +35,17 @@ use Rattle.attention_rules.specs.Touched.{readBy, storedBy, others}
 use Rattle.attention_rules.specs.declared.Command.the-variants.{StartSystem}
 use Rattle.attention_rules.specs.declared.Order.{Order}
 use Rattle.ground_rules.specs.Bits.{fieldOf, bitOf, withBit}
-use Rattle.ground_rules.specs.Sums.{addressOf}
+use Rattle.ground_rules.specs.{Bytes.wordOf, Sums.addressOf}
 use Rattle.turn_rules.proofs.SoundLaws.{entry-sound}
 use Rattle.turn_rules.specs.Step.{Step, entryNumber, stepOf}
-use Rattle.block_rules.specs.Premises.{Lent}
+use Rattle.block_rules.specs.{Premises.Lent, Stages.onBy}
 use Rattle.promises.specs.Cases.{Stand}
 use Rattle.promises_blocks.specs.Joined.{RunsAlone}
 use Rattle.promises_blocks.proofs.AloneLaws.{entered, accepts, ordered-channel, alone-attended}
 use Rattle.promises_blocks.proofs.Joined.{busy-same, halts}
 use Rattle.promises_blocks.proofs.ProgramSteps.{View, view, viewOf}
-use Rattle.promises.proofs.{AgreeLaws.told-not, RunLaws.fresh-good, StandLaws.span-touchable, StandLaws.stand-kept}
+use Rattle.promises.proofs.{AgreeLaws.told-not, CaseLaws.pointer-given, RunLaws.fresh-good}
+use Rattle.promises.proofs.StandLaws.{span-touchable, stand-on, stand-kept}
 
 -- the bytes that such an attention reads, and BUSY
 pub record Starts (m : Buffers) (block pb program : ℕ) : Type 0 where
@@ -135,6 +137,21 @@ unfolding doublewordAt
 doubleword-fits m a = mod-lt (wordAt m false (a + 2) * 16 + wordAt m false a) (lit< tt)
 
 -- ---- the attention
+
+-- bytes that stand in the block and at PB say where the program is
+pub starts-given : {m : Buffers} {block pb busy a b c d x y z w : ℕ} {more rest : List ℕ} → Stand m (pointer block false) (0x03 ∷ busy ∷ a ∷ b ∷ c ∷ d ∷ more)
+    → Stand m (pointer pb false) (x ∷ y ∷ z ∷ w ∷ rest) → addressOf (wordOf a b) (wordOf c d) ≡ pb → Starts m block pb (addressOf (wordOf x y) (wordOf z w))
+starts-given {m} {block} {pb} there task e =
+    let on : (i : ℕ) → block + 2 + i ≡ block + (2 + i) = λ i. omega arith in
+    record {
+      command = ap (byteAt m false) (sym (add-zero block)) ∙ there .read 0 (omega arith);
+      commandLent = ap (lentAt m false) (sym (add-zero block)) ∙ there .lent 0 (omega arith);
+      busyLent = there .lent 1 (omega arith);
+      parameters = sym (doubleword-reduced m false (block + 2)) ∙ pointer-given m (onBy (pointer block false) 2) _ (stand-on there 2) (omega arith) ∙ e;
+      parametersLent = λ i h. ap (lentAt m false) (on i) ∙ there .lent (2 + i) (omega arith);
+      task = pointer-given m (pointer pb false) _ task (omega arith);
+      taskLent = λ i h. task .lent i (omega arith);
+    }
 
 module _ {s : State} {b : Bool} {m : Buffers} {lines pb program : ℕ} (a : RunsAlone b s m lines) (idle : isRunning (channelOf s b .mode) ≡ false)
     (k : Starts m (blockOf s b) pb program) where

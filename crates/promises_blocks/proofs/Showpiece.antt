@@ -15,6 +15,7 @@ use Rattle.ground_rules.specs.declared.Fields.{Fields}
 use Rattle.ground_rules.specs.Cc.{split}
 use Rattle.ground_rules.specs.Conditions.{Given}
 use Rattle.ground_rules.specs.Outcomes.{Outcome, outcome}
+use Rattle.ground_rules.specs.Psw.{programRunning}
 use Rattle.ground_rules.specs.States.{freshState, channelOf, withChannel, channelNumber, blockOf, busyIn, fieldsAgree}
 use Rattle.ground_rules.specs.declared.Channel.{Channel}
 use Rattle.ground_rules.specs.declared.State.{State}
@@ -42,7 +43,7 @@ use Rattle.promises_blocks.proofs.AloneLaws.{through}
 use Rattle.promises.proofs.CaseLaws.{pointer-given}
 use Rattle.block_rules.proofs.CountLaws.{total-narrow, total-wide, alone-none, alone-one}
 use Rattle.promises_blocks.proofs.Joined.{busy-same, run-halts}
-use Rattle.promises_blocks.proofs.ProgramLaws.{Come, begins, six, from-is, into-is, plain-is, total-is, place-is, on-twice}
+use Rattle.promises_blocks.proofs.ProgramLaws.{Come, begins, six, program-runs, from-is, into-is, plain-is, total-is, place-is, on-twice}
 use Rattle.promises_blocks.proofs.ProgramStart.{Starts, Begun, begun, fresh-still, fresh-view, fresh-alone}
 use Rattle.promises_blocks.proofs.ProgramSteps.{View, viewOf}
 use Rattle.promises.proofs.StandLaws.{on-index, stand-on, stand-kept}
@@ -127,6 +128,9 @@ module _ {j : Job} {l : Layout} {m : Buffers} {lines limit : ℕ} (r : Ready j l
 
   pub destination-at : into c₁ ≡ intoPlace j
   destination-at = into-is j (onBy (programPlace l) haltAt) c₁ (come .seen) agree₁
+
+  pub program-at : programRunning (c₁ .psw) ≡ true
+  program-at = program-runs j (onBy (programPlace l) haltAt) c₁ (come .seen) agree₁
 
   pub total-at : total c₁ n ≡ stepsOf j
   total-at = total-is j (onBy (programPlace l) haltAt) c₁ (come .seen) agree₁

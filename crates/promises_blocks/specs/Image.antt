@@ -13,6 +13,10 @@ unfoldable pub put : Buffers → ℕ → List ℕ → Buffers
 put m address [] = m
 put m address (v ∷ vs) = put (storeByte m false address v) (address + 1) vs
 
+-- all of system memory is lent
+abbrev pub WholeSystem : Buffers → Type 0
+WholeSystem m = 1048576 ≤ length (spaceOf m false)
+
 -- CP 0, of either channel; the parameter block at 10h and the program at 20h
 abbrev pub layoutOf : Bool → Layout
 layoutOf second = record { cp = 0; second = second; pbOffset = 0x10; pbSegment = 0; programOffset = 0x20; programSegment = 0 }
@@ -41,6 +45,6 @@ imageIn m j l =
 -- widths, for every n that fits and with any lines
 abbrev pub ReadyMet : Type 0
 ReadyMet =
-    (m : Buffers) → 1048576 ≤ length (spaceOf m false) → ¬ (TooLong m) → (second fromOdd intoOdd fromWide intoWide : Bool) (n lines : ℕ)
+    (m : Buffers) → WholeSystem m → ¬ (TooLong m) → (second fromOdd intoOdd fromWide intoWide : Bool) (n lines : ℕ)
     → 1 ≤ n → n ≤ mostOf (copyOf fromOdd intoOdd fromWide intoWide n) → lines < 16
     → Ready (copyOf fromOdd intoOdd fromWide intoWide n) (layoutOf second) (imageIn m (copyOf fromOdd intoOdd fromWide intoWide n) (layoutOf second)) lines 65535

@@ -4,35 +4,32 @@
 use Prim.Native.Nat.{ℕ, suc, _+_, _<_, _≤_}
 use borrow.Author.Tests.{eqb-false}
 use lib.{Dec.lit<, Dec.lit≤, ListN.length}
-use mathlib.Core.Bool.{Bool, true, false}
-use mathlib.Core.List.{List, [], _∷_, _++_}
+use mathlib.Core.{Bool.Bool, Bool.true, Bool.false, List.List, List.[], List._∷_, List._++_}
 use mathlib.Core.Path.{_≡_, refl, sym, ap, subst, _∙_}
 use native.Mathlib.Omega.{arith}
 use Rattle.ground_rules.specs.{Bits.fieldOf, Bits.bitOf, Bits.withBit, Cc.split, Conditions.TooLong, Outcomes.unless, Outcomes.first, Values.pointer}
-use Rattle.ground_rules.specs.{Buffers.Buffers, Buffers.spaceOf, Buffers.limitOf, Buffers.indexOf, Buffers.lentAt, Buffers.byteAt, Buffers.storeByte, Places.span, Places.ApartFrom}
-use Rattle.ground_rules.specs.{declared.Channel.Channel, declared.State.State, Psw.programRunning, Psw.withPsw}
+use Rattle.ground_rules.specs.{declared.Channel.Channel, declared.State.State, Places.span, Places.ApartFrom, Psw.withPsw}
+use Rattle.ground_rules.specs.Buffers.{Buffers, spaceOf, limitOf, indexOf, byteAt, storeByte}
 use Rattle.ground_rules.specs.States.{channelOf, channelNumber, blockOf, busyIn, isRunning, isSuspended, soundChannel}
 use Rattle.ground_rules.specs.Updates.{withControl, withTransfer, stoppedPsw}
 use Rattle.ground_rules.proofs.{ChannelLaws.sound-channel-of, ConditionLaws.told-limits, StoreLaws.store-length}
 use Rattle.attention_rules.specs.{declared.Command.Command, Attention.orderTo, Attention.attentionOf, Blocks.ccwOf, Blocks.orderOf, Effects.suspended}
-use Rattle.attention_rules.{specs.Commands.commandCoded, specs.Commands.isKnown, specs.Commands.modeNumber, specs.Commands.commandNumber, proofs.Stores.lengths-kept}
+use Rattle.attention_rules.specs.Commands.{commandCoded, isKnown, modeNumber, commandNumber}
+use Rattle.attention_rules.proofs.Stores.{lengths-kept}
 use Rattle.turn_rules.{specs.Step.stepOf, proofs.SoundLaws.entry-sound, proofs.TouchedLaws.lengths-kept as step-lengths}
 use Rattle.transfer_rules.specs.Sides.{source, destination, wordSide}
 use Rattle.block_rules.specs.{Rows.Left, Stages.midway, Totals.narrow, Totals.alone, Totals.total, Totals.movedAfter}
-use Rattle.promises.{specs.Cases.Stand, specs.Witness.channelWith, proofs.CaseLaws.pointer-given, proofs.StandLaws.stand-on}
-use Rattle.promises_blocks.specs.{Joined.RunsAlone, Met.zeros, Met.copying, Image.put, Image.layoutOf, Image.copyOf, Image.imageIn}
-use Rattle.promises_blocks.specs.Program.{Job, busyAt, Ready}
-use Rattle.promises_blocks.proofs.{AloneLaws.accepts, AloneLaws.alone-written, AloneLaws.alone-attended, AloneLaws.alone-next, AloneLaws.going-turn, CopyWitness.zeros-within}
-use Rattle.promises_blocks.proofs.{ProgramLaws.source-is, ProgramLaws.destination-is, ProgramStart.Starts, ProgramStart.halts-at-once, ProgramSteps.View}
+use Rattle.promises.{specs.Cases.Stand, specs.Witness.channelWith, proofs.StandLaws.stand-on}
+use Rattle.promises_blocks.specs.{Joined.RunsAlone, Met.zeros, Met.copying, Program.Job, Program.busyAt, Program.Ready}
+use Rattle.promises_blocks.specs.Image.{put, WholeSystem, layoutOf, copyOf, imageIn}
+use Rattle.promises_blocks.proofs.AloneLaws.{going-turn, alone-next, alone-written, accepts, alone-attended}
+use Rattle.promises_blocks.proofs.{CopyWitness.zeros-within, ProgramLaws.source-is, ProgramLaws.destination-is, ProgramSteps.View}
+use Rattle.promises_blocks.proofs.ProgramStart.{Starts, starts-given, halts-at-once}
 use Rattle.promises_blocks.proofs.ImageLaws.{put-length, put-other, differ, whole-lent, whole-touchable, whole-put, whole-stand, zeros-whole, ready-met}
-use Rattle.promises_blocks.proofs.Showpiece.{come, copy, comes, source-at, destination-at, control-at, parameters-at, total-at}
+use Rattle.promises_blocks.proofs.Showpiece.{come, copy, comes, source-at, destination-at, control-at, parameters-at, program-at, total-at}
 use Rattle.promises_sheet.specs.SheetAttention.{outcomeTo, channelAfter}
 use Rattle.promises_pauses.specs.Pausing.{Quietly, PauseApart, Spared, PausedCalls, EndsPaused, PausedMet, pausesOf, begin, transfer, step, attention, host, suspend, resume}
 use Rattle.promises_pauses.proofs.PausedRows.{suspend-only, demand13, places-stay, off-registers}
-
--- all of system memory is lent
-abbrev WholeSystem : Buffers → Type 0
-WholeSystem m = 1048576 ≤ length (spaceOf m false)
 
 -- both blocks, with this CCW in channel 1's. Channel 2's has CCW 03h and PB at 2, where its program's address is, 0Eh, where HLT stands
 abbrev blocks : ℕ → List ℕ
@@ -49,20 +46,15 @@ module _ (given : Buffers) (full : WholeSystem given) (fit : ¬ (TooLong given))
   ready : Ready job (layoutOf false) (imageIn given job (layoutOf false)) 0 65535
   ready = ready-met given full fit false true true true true 5 0 (lit≤ tt) (lit≤ tt) (lit< tt)
 
-  -- where it has come to: the state and memory
+  -- where it has come to: the state, memory and PSW
   abbrev s₁ : State
   s₁ = come ready .state
 
   abbrev m₁ : Buffers
   m₁ = storeByte (imageIn given job (layoutOf false)) false (busyAt (layoutOf false)) 255
 
-  -- PSW, with TB
   psw₁ : channelOf s₁ false .psw ≡ 0x47
   psw₁ = ap (λ (v : View). v .psw) (come ready .seen)
-
-  tb₁ : programRunning (channelOf s₁ false .psw) ≡ true
-  unfolding bitOf
-  tb₁ = ap (λ (x : ℕ). programRunning x) psw₁
 
   -- neither PB nor BUSY has a byte in a range
   far : PauseApart false 5 s₁
@@ -77,14 +69,10 @@ module _ (given : Buffers) (full : WholeSystem given) (fit : ¬ (TooLong given))
       clear : (a : ℕ) → 0x14 ≤ a → a < 1048576 → ApartFrom (span false 0x10 4 ++ span false 1 1) false a
       clear a h l = (λ e z. omega arith, (λ e z. omega arith, (λ e z. omega arith, (λ e z. omega arith, (λ e z. omega arith, tt)))))
 
-  -- one byte, two and two
-  three : total (channelOf s₁ false) 5 ≡ 3
-  unfolding total narrow alone copying channelWith source destination bitOf wordSide split
-  three = total-at ready
-
-  -- so the transfer ends at the third of its steps
+  -- the transfer ends at the third of its steps: one byte, two and two
   ends : EndsPaused false 5 s₁ m₁ 3
-  ends = subst (EndsPaused false 5 s₁ m₁) three (demand13 (copy ready) tb₁ far)
+  unfolding total narrow alone copying channelWith source destination bitOf wordSide split
+  ends = subst (EndsPaused false 5 s₁ m₁) (total-at ready) (demand13 (copy ready) (program-at ready) far)
 
   -- ---- the calls, one by one
 
@@ -95,6 +83,9 @@ module _ (given : Buffers) (full : WholeSystem given) (fit : ¬ (TooLong given))
     pub calls : PausedCalls false 5 s₁ m₁ k paused state memory
     pub lone : RunsAlone false state memory 0
     pub whole : WholeSystem memory
+
+  abbrev so-far : {k : ℕ} {paused : Bool} {s : State} {m : Buffers} → PausedCalls false 5 s₁ m₁ k paused s m → RunsAlone false s m 0 → WholeSystem m → RowSoFar k paused
+  so-far calls lone whole = record { state = _; memory = _; calls = calls; lone = lone; whole = whole }
 
   -- bytes put below 10h leave both ranges and PB alone
   low-spared : {paused : Bool} (m : Buffers) (a : ℕ) (vs : List ℕ) → a + length vs ≤ 16 → WholeSystem m → Spared false 5 s₁ paused m (put m a vs)
@@ -117,115 +108,82 @@ module _ (given : Buffers) (full : WholeSystem given) (fit : ¬ (TooLong given))
 
     hosted : RowSoFar k paused
     hosted =
-        record {
-          state = w .state;
-          memory = anew;
-          calls = host (w .calls) (low-spared (w .memory) 0 (blocks ccw) (lit≤ tt) (w .whole));
-          lone = alone-written anew (w .lone) (put-length (w .memory) 0 (blocks ccw));
-          whole = whole-put (w .memory) 0 (blocks ccw) (w .whole);
-        }
+        so-far (host (w .calls) (low-spared (w .memory) 0 (blocks ccw) (lit≤ tt) (w .whole)))
+        (alone-written anew (w .lone) (put-length (w .memory) 0 (blocks ccw))) (whole-put (w .memory) 0 (blocks ccw) (w .whole))
 
     -- where they stand
     stands : Stand anew (pointer 0 false) (blocks ccw)
     stands = whole-stand (w .memory) 0 (blocks ccw) (lit≤ tt) (w .whole)
 
     cp-is : w .state .cp ≡ 0
-    cp-is = places-stay (copy ready) tb₁ far (w .calls) .1 ∙ control-at ready
+    cp-is = places-stay (copy ready) (program-at ready) far (w .calls) .1 ∙ control-at ready
 
-    -- an attention with such a CCW is quiet
-    quiet : {c : Command} {psw : ℕ} → commandCoded (fieldOf ccw 0 3) ≡ c → commandNumber c (channelOf (w .state) false .mode) ≡ 0
-        → channelOf (w .state) false .psw ≡ psw → (fieldOf ccw 3 2 ≡ 0) × (bitOf ccw 5 ≡ bitOf psw 5) × (bitOf ccw 7 ≡ bitOf psw 7) → Quietly false c (w .state) anew
-    unfolding orderTo orderOf ccwOf blockOf hosted
-    quiet {c} code fits e bits =
+    -- an attention with such a CCW is quiet, and leaves the other channel
+    attended : {next : Bool} {c : Command} {psw : ℕ} → commandCoded (fieldOf ccw 0 3) ≡ c → commandNumber c (channelOf (w .state) false .mode) ≡ 0
+        → channelOf (w .state) false .psw ≡ psw → (fieldOf ccw 3 2 ≡ 0) × (bitOf ccw 5 ≡ bitOf psw 5) × (bitOf ccw 7 ≡ bitOf psw 7)
+        → (Quietly false c (w .state) anew → PausedCalls false 5 s₁ m₁ k next (outcomeTo (w .state) anew false .state) (outcomeTo (w .state) anew false .memory))
+        → (Quietly false c (w .state) anew → soundChannel (channelAfter (w .state) anew false) ≡ soundChannel (channelOf (w .state) false)) → RowSoFar k next
+    unfolding orderTo orderOf ccwOf blockOf channelNumber hosted
+    attended {c = c} code fits e bits calls fit =
         let s = w .state in
+        let z = hosted .lone .entered in
         let is : orderTo s anew false .ccw ≡ ccw = rw cp-is (stands .read 0 (lit< tt)) in
         let commands : orderTo s anew false .command ≡ c = ap (λ (x : ℕ). commandCoded (fieldOf x 0 3)) is ∙ code in
         let touched = whole-touchable anew (hosted .whole) in
-        record {
-          accepted = accepts false s anew 0 (hosted .lone .entered) (rw commands fits) (touched _) (touched _);
+        let q : Quietly false c s anew = record {
+          accepted = accepts false s anew 0 z (rw commands fits) (touched _) (touched _);
           commands = commands;
           interrupts = ap (λ (x : ℕ). fieldOf x 3 2) is ∙ bits .0;
           limit = ap (λ (x : ℕ). bitOf x 5) is ∙ bits .1 ∙ sym (ap (λ (x : ℕ). bitOf x 5) e);
           ranked = ap (λ (x : ℕ). bitOf x 7) is ∙ bits .2 ∙ sym (ap (λ (x : ℕ). bitOf x 7) e);
-        }
-
-    -- and leaves the other channel
-    attended : {next : Bool} {c : Command} (q : Quietly false c (w .state) anew)
-        → PausedCalls false 5 s₁ m₁ k next (outcomeTo (w .state) anew false .state) (outcomeTo (w .state) anew false .memory)
-        → soundChannel (channelAfter (w .state) anew false) ≡ soundChannel (channelOf (w .state) false) → RowSoFar k next
-    unfolding hosted
-    attended q calls fit =
-        let sounds = sound-channel-of (w .state) false (entry-sound (w .state) anew 0 (hosted .lone .entered)) in
-        record {
-          state = outcomeTo (w .state) anew false .state;
-          memory = outcomeTo (w .state) anew false .memory;
-          calls = calls;
-          lone = alone-attended false (w .state) anew (q .accepted) (hosted .lone) (fit ∙ sounds);
-          whole = omega (arith, hosted .whole, lengths-kept (w .state) anew (channelNumber false) false);
-        }
+        } in
+        so-far (calls q) (alone-attended false s anew (q .accepted) (hosted .lone) (fit q ∙ sound-channel-of s false (entry-sound s anew 0 z)))
+        (omega (arith, hosted .whole, lengths-kept s anew 1 false))
 
   -- suspend, and resume
   suspends : {k : ℕ} → RowSoFar k false → k < 3 → RowSoFar k true
   unfolding hosted commandCoded fieldOf bitOf commandNumber isKnown modeNumber first unless midway withTransfer suspended withControl soundChannel
   suspends w h =
       let g = ends .before (w .calls) h in
-      let q = quiet w 0x06 refl (rw (g .runs)) (ap (λ (c : Channel). c .psw) (g .registers) ∙ psw₁) (refl, refl, refl) in
-      attended w 0x06 q (suspend (hosted w 0x06 .calls) (g .transfers) q) (ap soundChannel (suspend-only false (w .state) (anew w 0x06) q))
+      let e = ap (λ (c : Channel). c .psw) (g .registers) ∙ psw₁ in
+      attended w 0x06 refl (rw (g .runs)) e (refl, refl, refl) (suspend (hosted w 0x06 .calls) (g .transfers)) (λ q. ap soundChannel (suspend-only false _ _ q))
 
   resumes : {k : ℕ} → RowSoFar k true → RowSoFar k false
   unfolding hosted commandCoded fieldOf bitOf withBit withPsw stoppedPsw commandNumber isKnown modeNumber isSuspended first unless midway withTransfer suspended withControl soundChannel
   resumes w =
-      let o = off-registers (copy ready) tb₁ far (w .calls) in
+      let o = off-registers (copy ready) (program-at ready) far (w .calls) in
       let e = ap (λ (c : Channel). c .psw) o ∙ ap (λ (x : ℕ). stoppedPsw x) psw₁ in
-      let q = quiet w 0x05 refl (rw (ap (λ (c : Channel). c .mode) o)) e (refl, refl, refl) in
       let v = hosted w 0x05 .calls in
-      attended w 0x05 q (resume v q) (ap soundChannel (ends .back v q) ∙ ap soundChannel (sym o))
+      let m = ap (λ (c : Channel). c .mode) o in
+      attended w 0x05 refl (rw m) e (refl, refl, refl) (resume v) (λ q. ap soundChannel (ends .back v q) ∙ ap soundChannel (sym o))
 
   -- one of the channel's transfer steps
   advances : {k : ℕ} → RowSoFar k false → k < 3 → RowSoFar (suc k) false
   advances w h =
-      let turn = going-turn (copy ready) (ends .before (w .calls) h) (w .lone) in
+      let g = ends .before (w .calls) h in
+      let turn = going-turn (copy ready) g (w .lone) in
       let v = ends .turns (w .calls) h 0 turn in
-      record {
-        state = stepOf (w .state) (w .memory) 0 .state;
-        memory = stepOf (w .state) (w .memory) 0 .memory;
-        calls = transfer (w .calls) 0 turn (ends .before (w .calls) h .transfers);
-        lone = alone-next false (w .state) (w .memory) 0 (w .lone) (v .done) (v .channel);
-        whole = omega (arith, w .whole, v .spares .lengths false);
-      }
+      so-far (transfer (w .calls) 0 turn (g .transfers)) (alone-next false (w .state) (w .memory) 0 (w .lone) (v .done) (v .channel))
+      (omega (arith, w .whole, v .spares .lengths false))
 
   -- meanwhile the other channel is started, and steps: its program halts
   other-steps : {k : ℕ} → RowSoFar k true → RowSoFar k true
   unfolding hosted put channelNumber isRunning
-  other-steps {k} w =
+  other-steps w =
       let s = w .state in
       let m = anew w 0x05 in
       let v = hosted w 0x05 in
       let at = stands w 0x05 in
-      let lent : (a : ℕ) → lentAt m false a ≡ true = λ a. whole-lent m a (v .whole) in
       let block : blockOf s true ≡ 8 = unfold blockOf in rw (cp-is w 0x05) in
-      let starts : Starts m (blockOf s true) 2 0x0E = rw block (record {
-        command = at .read 8 (lit< tt);
-        commandLent = lent 8;
-        busyLent = lent 9;
-        parameters = pointer-given m (pointer 10 false) _ (stand-on at 10) (lit< tt);
-        parametersLent = λ i h. lent (10 + i);
-        task = pointer-given m (pointer 2 false) _ (stand-on at 2) (lit< tt);
-        taskLent = λ i h. lent (2 + i);
-      }) in
-      let suspended : RunsAlone true s m 0 = record { entered = v .lone .entered; idle = ap isRunning (ends .waits (w .calls) .0) } in
-      let halts = halts-at-once suspended (w .lone .idle) starts (stand-on at 14) in
+      let starts : Starts m (blockOf s true) 2 0x0E = rw block (starts-given (stand-on at 8) (stand-on at 2) refl) in
+      let waits : RunsAlone true s m 0 = record { entered = v .lone .entered; idle = ap isRunning (ends .waits (w .calls) .0) } in
+      let halts = halts-at-once waits (w .lone .idle) starts (stand-on at 14) in
       let x = rw block at (halts (rw block (λ i h. differ 9 (0x0E + i) (lit< tt) (omega arith) (λ e. omega arith)))) in
       let o = attentionOf s m 2 in
       let whole : WholeSystem (o .memory) = omega (arith, v .whole, lengths-kept s m 2 false) in
       let calls = attention (v .calls) 2 (eqb-false 2 1 refl) (rw (x .marked) (low-spared m 9 (255 ∷ []) (lit≤ tt) (v .whole))) in
-      record {
-        state = stepOf (o .state) (o .memory) 0 .state;
-        memory = stepOf (o .state) (o .memory) 0 .memory;
-        calls = step calls 0 (ends .waits calls .1 0) (rw (x .cleared) (low-spared (o .memory) 9 (0 ∷ []) (lit≤ tt) whole));
-        lone = record { entered = x .entered; idle = x .still true };
-        whole = omega (arith, whole, step-lengths (o .state) (o .memory) 0 false);
-      }
+      so-far (step calls 0 (ends .waits calls .1 0) (rw (x .cleared) (low-spared (o .memory) 9 (0 ∷ []) (lit≤ tt) whole)))
+      (record { entered = x .entered; idle = x .still true }) (omega (arith, whole, step-lengths (o .state) (o .memory) 0 false))
 
   -- ---- the whole row
 
@@ -234,7 +192,7 @@ module _ (given : Buffers) (full : WholeSystem given) (fit : ¬ (TooLong given))
   unfolding imageIn
   begins =
       let lengths : length (spaceOf m₁ false) ≡ length (spaceOf given false) = simp (store-length, put-length) in
-      record { state = s₁; memory = m₁; calls = begin; lone = come ready .lonely; whole = omega arith }
+      so-far begin (come ready .lonely) (omega arith)
 
   -- one pause, two transfer steps, another, and the last step
   whole-row : RowSoFar 3 false
@@ -247,19 +205,12 @@ module _ (given : Buffers) (full : WholeSystem given) (fit : ¬ (TooLong given))
   pub paused-row : PausedMet (imageIn given job (layoutOf false))
   unfolding movedAfter narrow alone wordSide bitOf channelNumber pausesOf whole-row begins hosted attended suspends resumes advances other-steps
   paused-row =
-      record {
-        state = s₁;
-        memory = m₁;
-        comes = comes ready;
-        program = tb₁;
-        apart = far;
-        last = whole-row .state;
-        lastMemory = whole-row .memory;
-        row = whole-row .calls;
-        pauses = refl;
-        moved = rw (source-is job _ _ (come ready .seen) (copy ready .plain .agree), destination-is job _ _ (come ready .seen) (copy ready .plain .agree));
-        ended = ends .then (whole-row .calls);
-      }
+      let row = whole-row .calls in
+      let agree = copy ready .plain .agree in
+      let moved : movedAfter (channelOf s₁ false) 5 2 ≡ 3 = rw (source-is job _ _ (come ready .seen) agree, destination-is job _ _ (come ready .seen) agree) in
+      let end = ends .then row in
+      let tb = program-at ready in
+      record { state = _; memory = _; comes = comes ready; program = tb; apart = far; last = _; lastMemory = _; row = row; pauses = refl; moved = moved; ended = end }
 
 -- there is such a memory: zeros
 pub paused-met : PausedMet (imageIn zeros job (layoutOf false))
