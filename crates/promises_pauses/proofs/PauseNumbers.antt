@@ -2,14 +2,11 @@
 -- Assumes nothing.
 use Prim.Native.Nat.{ℕ}
 use lib.ListN.{replicate}
-use mathlib.Core.Bool.{true, false}
-use mathlib.Core.List.{List, [], _∷_}
-use mathlib.Core.Path.{_≡_, refl}
-use Rattle.ground_rules.specs.{declared.Pointer.Pointer, Buffers.Buffers, Buffers.buffers, Buffers.storeByte, Places.span}
-use Rattle.ground_rules.specs.Values.{pointer, pointerAt, storePointer}
-use Rattle.ground_rules.specs.{declared.Channel.Channel, declared.Mode.the-variants.Running, declared.State.State, Outcomes.Outcome, Outcomes.settled}
+use mathlib.Core.{Bool.true, Bool.false, List.[], List._∷_, Path._≡_, Path.refl}
+use Rattle.ground_rules.specs.Buffers.{Buffers, buffers, storeByte}
 use Rattle.ground_rules.specs.States.{idleChannel, boardWith, blockOf, busyIn, isChannel, isSecond, isSuspended}
-use Rattle.ground_rules.specs.Updates.{withControl, stoppedPsw}
+use Rattle.ground_rules.specs.{declared.Pointer.Pointer, Places.span, Values.pointer, Values.pointerAt, Values.storePointer, declared.Mode.the-variants.Running}
+use Rattle.ground_rules.specs.{declared.State.State, Outcomes.Outcome, Outcomes.settled, Updates.withControl, Updates.stoppedPsw}
 use Rattle.attention_rules.specs.Attention.{orderTo, orderNumber, orderedChannel, orderedMemory, givenTo, attentionNumber, attentionOf}
 use Rattle.attention_rules.specs.Commands.{commandCoded, isKnown, modeNumber, commandNumber, copied, obeyed, ordered}
 use Rattle.attention_rules.specs.Effects.{suspended, resumed, commanded, channelOrdered, writesOf, saved, marked, writesMade}

@@ -16,10 +16,10 @@ use Rattle.ground_rules.proofs.{ChannelLaws.sound-channel-of, ConditionLaws.tol
 use Rattle.attention_rules.specs.{declared.Command.Command, Attention.orderTo, Attention.attentionOf, Blocks.ccwOf, Blocks.orderOf, Effects.suspended}
 use Rattle.attention_rules.specs.Commands.{commandCoded, isKnown, modeNumber, commandNumber}
 use Rattle.attention_rules.proofs.Stores.{lengths-kept}
-use Rattle.turn_rules.{specs.Step.stepOf, proofs.SoundLaws.entry-sound, proofs.TouchedLaws.lengths-kept as step-lengths}
+use Rattle.turn_rules.proofs.{SoundLaws.entry-sound, TouchedLaws.lengths-kept as step-lengths}
 use Rattle.transfer_rules.specs.Sides.{source, destination, wordSide}
 use Rattle.block_rules.specs.{Rows.Left, Stages.midway, Totals.narrow, Totals.alone, Totals.total, Totals.movedAfter}
-use Rattle.promises.{specs.Cases.Stand, specs.Witness.channelWith, proofs.StandLaws.stand-on}
+use Rattle.promises.{specs.Witness.channelWith, proofs.StandLaws.stand-on}
 use Rattle.promises_blocks.specs.{Joined.RunsAlone, Met.zeros, Met.copying, Program.Job, Program.busyAt, Program.Ready}
 use Rattle.promises_blocks.specs.Image.{put, WholeSystem, layoutOf, copyOf, imageIn}
 use Rattle.promises_blocks.proofs.AloneLaws.{going-turn, alone-next, alone-written, accepts, alone-attended}
@@ -40,21 +40,16 @@ abbrev job : Job
 job = copyOf true true true true 5
 
 module _ (given : Buffers) (full : WholeSystem given) (fit : ¬ (TooLong given)) where
-  -- ---- the row's start
-
   -- the image is ready for the program
   ready : Ready job (layoutOf false) (imageIn given job (layoutOf false)) 0 65535
   ready = ready-met given full fit false true true true true 5 0 (lit≤ tt) (lit≤ tt) (lit< tt)
 
-  -- where it has come to: the state, memory and PSW
+  -- where it has come to: the state and memory
   abbrev s₁ : State
   s₁ = come ready .state
 
   abbrev m₁ : Buffers
   m₁ = storeByte (imageIn given job (layoutOf false)) false (busyAt (layoutOf false)) 255
-
-  psw₁ : channelOf s₁ false .psw ≡ 0x47
-  psw₁ = ap (λ (v : View). v .psw) (come ready .seen)
 
   -- neither PB nor BUSY has a byte in a range
   far : PauseApart false 5 s₁
@@ -74,8 +69,6 @@ module _ (given : Buffers) (full : WholeSystem given) (fit : ¬ (TooLong given))
   unfolding total narrow alone copying channelWith source destination bitOf wordSide split
   ends = subst (EndsPaused false 5 s₁ m₁) (total-at ready) (demand13 (copy ready) (program-at ready) far)
 
-  -- ---- the calls, one by one
-
   -- a row so far from which a call more can be made: the other channel does not run, and all of system memory is lent
   record RowSoFar (k : ℕ) (paused : Bool) : Type 0 where
     pub state : State
@@ -84,7 +77,7 @@ module _ (given : Buffers) (full : WholeSystem given) (fit : ¬ (TooLong given))
     pub lone : RunsAlone false state memory 0
     pub whole : WholeSystem memory
 
-  abbrev so-far : {k : ℕ} {paused : Bool} {s : State} {m : Buffers} → PausedCalls false 5 s₁ m₁ k paused s m → RunsAlone false s m 0 → WholeSystem m → RowSoFar k paused
+  abbrev so-far : {k : ℕ} {p : Bool} {s : State} {m : Buffers} → PausedCalls false 5 s₁ m₁ k p s m → RunsAlone false s m 0 → WholeSystem m → RowSoFar k p
   so-far calls lone whole = record { state = _; memory = _; calls = calls; lone = lone; whole = whole }
 
   -- bytes put below 10h leave both ranges and PB alone
@@ -111,13 +104,6 @@ module _ (given : Buffers) (full : WholeSystem given) (fit : ¬ (TooLong given))
         so-far (host (w .calls) (low-spared (w .memory) 0 (blocks ccw) (lit≤ tt) (w .whole)))
         (alone-written anew (w .lone) (put-length (w .memory) 0 (blocks ccw))) (whole-put (w .memory) 0 (blocks ccw) (w .whole))
 
-    -- where they stand
-    stands : Stand anew (pointer 0 false) (blocks ccw)
-    stands = whole-stand (w .memory) 0 (blocks ccw) (lit≤ tt) (w .whole)
-
-    cp-is : w .state .cp ≡ 0
-    cp-is = places-stay (copy ready) (program-at ready) far (w .calls) .1 ∙ control-at ready
-
     -- an attention with such a CCW is quiet, and leaves the other channel
     attended : {next : Bool} {c : Command} {psw : ℕ} → commandCoded (fieldOf ccw 0 3) ≡ c → commandNumber c (channelOf (w .state) false .mode) ≡ 0
         → channelOf (w .state) false .psw ≡ psw → (fieldOf ccw 3 2 ≡ 0) × (bitOf ccw 5 ≡ bitOf psw 5) × (bitOf ccw 7 ≡ bitOf psw 7)
@@ -126,18 +112,19 @@ module _ (given : Buffers) (full : WholeSystem given) (fit : ¬ (TooLong given))
     unfolding orderTo orderOf ccwOf blockOf channelNumber hosted
     attended {c = c} code fits e bits calls fit =
         let s = w .state in
-        let z = hosted .lone .entered in
-        let is : orderTo s anew false .ccw ≡ ccw = rw cp-is (stands .read 0 (lit< tt)) in
+        let cp = places-stay (copy ready) (program-at ready) far (w .calls) .1 ∙ control-at ready in
+        let is : orderTo s anew false .ccw ≡ ccw = rw cp (whole-stand (w .memory) 0 (blocks ccw) (lit≤ tt) (w .whole) .read 0 (lit< tt)) in
         let commands : orderTo s anew false .command ≡ c = ap (λ (x : ℕ). commandCoded (fieldOf x 0 3)) is ∙ code in
+        let sounds = sound-channel-of s false (entry-sound s anew 0 (hosted .lone .entered)) in
         let touched = whole-touchable anew (hosted .whole) in
         let q : Quietly false c s anew = record {
-          accepted = accepts false s anew 0 z (rw commands fits) (touched _) (touched _);
+          accepted = accepts false s anew 0 (hosted .lone .entered) (rw commands fits) (touched _) (touched _);
           commands = commands;
           interrupts = ap (λ (x : ℕ). fieldOf x 3 2) is ∙ bits .0;
           limit = ap (λ (x : ℕ). bitOf x 5) is ∙ bits .1 ∙ sym (ap (λ (x : ℕ). bitOf x 5) e);
           ranked = ap (λ (x : ℕ). bitOf x 7) is ∙ bits .2 ∙ sym (ap (λ (x : ℕ). bitOf x 7) e);
         } in
-        so-far (calls q) (alone-attended false s anew (q .accepted) (hosted .lone) (fit q ∙ sound-channel-of s false (entry-sound s anew 0 z)))
+        so-far (calls q) (alone-attended false s anew (q .accepted) (hosted .lone) (fit q ∙ sounds))
         (omega (arith, hosted .whole, lengths-kept s anew 1 false))
 
   -- suspend, and resume
@@ -145,17 +132,16 @@ module _ (given : Buffers) (full : WholeSystem given) (fit : ¬ (TooLong given))
   unfolding hosted commandCoded fieldOf bitOf commandNumber isKnown modeNumber first unless midway withTransfer suspended withControl soundChannel
   suspends w h =
       let g = ends .before (w .calls) h in
-      let e = ap (λ (c : Channel). c .psw) (g .registers) ∙ psw₁ in
+      let e = ap (λ (c : Channel). c .psw) (g .registers) ∙ ap (λ (v : View). v .psw) (come ready .seen) in
       attended w 0x06 refl (rw (g .runs)) e (refl, refl, refl) (suspend (hosted w 0x06 .calls) (g .transfers)) (λ q. ap soundChannel (suspend-only false _ _ q))
 
   resumes : {k : ℕ} → RowSoFar k true → RowSoFar k false
   unfolding hosted commandCoded fieldOf bitOf withBit withPsw stoppedPsw commandNumber isKnown modeNumber isSuspended first unless midway withTransfer suspended withControl soundChannel
   resumes w =
       let o = off-registers (copy ready) (program-at ready) far (w .calls) in
-      let e = ap (λ (c : Channel). c .psw) o ∙ ap (λ (x : ℕ). stoppedPsw x) psw₁ in
+      let e = ap (λ (c : Channel). c .psw) o ∙ ap (λ (v : View). stoppedPsw (v .psw)) (come ready .seen) in
       let v = hosted w 0x05 .calls in
-      let m = ap (λ (c : Channel). c .mode) o in
-      attended w 0x05 refl (rw m) e (refl, refl, refl) (resume v) (λ q. ap soundChannel (ends .back v q) ∙ ap soundChannel (sym o))
+      attended w 0x05 refl (rw o) e (refl, refl, refl) (resume v) (λ q. ap soundChannel (ends .back v q) ∙ ap soundChannel (sym o))
 
   -- one of the channel's transfer steps
   advances : {k : ℕ} → RowSoFar k false → k < 3 → RowSoFar (suc k) false
@@ -173,8 +159,8 @@ module _ (given : Buffers) (full : WholeSystem given) (fit : ¬ (TooLong given))
       let s = w .state in
       let m = anew w 0x05 in
       let v = hosted w 0x05 in
-      let at = stands w 0x05 in
-      let block : blockOf s true ≡ 8 = unfold blockOf in rw (cp-is w 0x05) in
+      let at = whole-stand (w .memory) 0 (blocks 0x05) (lit≤ tt) (w .whole) in
+      let block : blockOf s true ≡ 8 = unfold blockOf in rw (places-stay (copy ready) (program-at ready) far (w .calls) .1 ∙ control-at ready) in
       let starts : Starts m (blockOf s true) 2 0x0E = rw block (starts-given (stand-on at 8) (stand-on at 2) refl) in
       let waits : RunsAlone true s m 0 = record { entered = v .lone .entered; idle = ap isRunning (ends .waits (w .calls) .0) } in
       let halts = halts-at-once waits (w .lone .idle) starts (stand-on at 14) in
@@ -185,32 +171,26 @@ module _ (given : Buffers) (full : WholeSystem given) (fit : ¬ (TooLong given))
       so-far (step calls 0 (ends .waits calls .1 0) (rw (x .cleared) (low-spared (o .memory) 9 (0 ∷ []) (lit≤ tt) whole)))
       (record { entered = x .entered; idle = x .still true }) (omega (arith, whole, step-lengths (o .state) (o .memory) 0 false))
 
-  -- ---- the whole row
-
-  -- it begins where the program has come to
-  begins : RowSoFar 0 false
-  unfolding imageIn
-  begins =
-      let lengths : length (spaceOf m₁ false) ≡ length (spaceOf given false) = simp (store-length, put-length) in
-      so-far begin (come ready .lonely) (omega arith)
-
-  -- one pause, two transfer steps, another, and the last step
+  -- from where the program has come to: one pause, two transfer steps, another, and the last step
   whole-row : RowSoFar 3 false
+  unfolding imageIn
   whole-row =
-      let first = resumes (other-steps (suspends begins (lit< tt))) in
+      let lengths : length (spaceOf m₁ false) ≡ length (spaceOf given false) = simp (store-length, put-length) in
+      let first = resumes (other-steps (suspends (so-far begin (come ready .lonely) (omega arith)) (lit< tt))) in
       let second = resumes (other-steps (suspends (advances (advances first (lit< tt)) (lit< tt)) (lit< tt))) in
       advances second (lit< tt)
 
   -- so in any such memory there is one
   pub paused-row : PausedMet (imageIn given job (layoutOf false))
-  unfolding movedAfter narrow alone wordSide bitOf channelNumber pausesOf whole-row begins hosted attended suspends resumes advances other-steps
+  unfolding movedAfter narrow alone wordSide bitOf channelNumber pausesOf whole-row hosted attended suspends resumes advances other-steps
   paused-row =
-      let row = whole-row .calls in
-      let agree = copy ready .plain .agree in
-      let moved : movedAfter (channelOf s₁ false) 5 2 ≡ 3 = rw (source-is job _ _ (come ready .seen) agree, destination-is job _ _ (come ready .seen) agree) in
-      let end = ends .then row in
+      let r = whole-row .calls in
       let tb = program-at ready in
-      record { state = _; memory = _; comes = comes ready; program = tb; apart = far; last = _; lastMemory = _; row = row; pauses = refl; moved = moved; ended = end }
+      let seen = come ready .seen in
+      let agree = copy ready .plain .agree in
+      let e : movedAfter (channelOf s₁ false) 5 2 ≡ 3 = rw (source-is job _ _ seen agree, destination-is job _ _ seen agree) in
+      let end = ends .then r in
+      record { state = _; memory = _; comes = comes ready; program = tb; apart = far; last = _; lastMemory = _; row = r; pauses = refl; moved = e; ended = end }
 
 -- there is such a memory: zeros
 pub paused-met : PausedMet (imageIn zeros job (layoutOf false))

@@ -6,29 +6,25 @@ use borrow.Author.Tests.{eqb-false}
 use mathlib.Core.{Bool.Bool, Bool.true, Bool.false, List.List, List.[], List._++_, Logic.inr}
 use mathlib.Core.Path.{_≡_, refl, sym, ap, subst, _∙_}
 use native.Mathlib.Omega.{arith}
-use Rattle.ground_rules.specs.{Choice.pick, Bits.bitOf, Bits.withBit, Psw.transferring, Psw.programRunning, Psw.withPsw}
-use Rattle.ground_rules.specs.{Buffers.Buffers, Buffers.limitOf, Places.Place, Places.ApartFrom, Updates.withControl, Updates.withTransfer, Updates.stoppedPsw}
+use Rattle.ground_rules.specs.{declared.Channel.Channel, declared.Fields.Fields, declared.Mode.the-variants.Suspended, declared.Pointer.Pointer}
+use Rattle.ground_rules.specs.{declared.State.State, Bits.bitOf, Bits.withBit, Buffers.Buffers, Buffers.limitOf, Choice.pick, Places.Place, Places.ApartFrom}
+use Rattle.ground_rules.specs.{Psw.transferring, Psw.programRunning, Psw.withPsw, Updates.withControl, Updates.withTransfer, Updates.stoppedPsw}
 use Rattle.ground_rules.specs.States.{channelOf, channelNumber, blockOf, busyIn, isRunning}
-use Rattle.ground_rules.specs.declared.{Pointer.Pointer, Channel.Channel, Fields.Fields, Mode.the-variants.Suspended, State.State}
 use Rattle.ground_rules.proofs.{BitLaws.bit-other, BitLaws.with-bit-back, ChoiceLaws.apart, SpanLaws.apart-right, StoreLaws.same-lent, ChannelLaws.named}
-use Rattle.attention_rules.specs.declared.Command.{Command, the-variants.Suspend, the-variants.Resume}
-use Rattle.attention_rules.specs.{Attention.orderTo, Attention.orderedChannel, Blocks.orderOf, Blocks.parameterBlock, Touched.storedBy}
-use Rattle.attention_rules.specs.{Commands.copied, Commands.obeyed, Commands.ordered}
-use Rattle.attention_rules.specs.Effects.{onlyPsw, suspended, commanded, channelOrdered}
+use Rattle.attention_rules.specs.{declared.Command.Command, declared.Command.the-variants.Suspend, declared.Command.the-variants.Resume, Attention.orderTo, Attention.orderedChannel, Blocks.orderOf, Blocks.parameterBlock, Touched.storedBy, Commands.copied, Commands.obeyed, Commands.ordered, Effects.onlyPsw, Effects.suspended, Effects.commanded, Effects.channelOrdered}
 use Rattle.attention_rules.proofs.{Outcomes.refused-nothing, Outcomes.shared-kept, Pauses.suspend-resume, Stores.bytes-kept, Stores.lengths-kept}
 use Rattle.turn_rules.{specs.Choosing.external, specs.Step.stepOf, proofs.ChoosingLaws.chosen-running, proofs.OutcomeLaws.cp-kept}
-use Rattle.block_rules.specs.{Premises.from, Premises.into, Premises.Lent, Premises.Copy, Totals.movedAfter, Totals.total, Stages.midway, Stages.Held, Stages.Ended}
-use Rattle.block_rules.specs.Rows.{Left, Untouched, Row, start, other}
-use Rattle.block_rules.proofs.{CopyLaws.reached, Demand3.going, Demand3.ended}
+use Rattle.block_rules.specs.{Premises.from, Premises.into, Premises.Lent, Premises.Copy, Totals.movedAfter, Totals.total, Stages.midway, Stages.Ended}
+use Rattle.block_rules.{specs.Rows.Left, specs.Rows.Untouched, specs.Rows.Row, specs.Rows.start, specs.Rows.other, proofs.CopyLaws.reached}
+use Rattle.block_rules.proofs.Demand3.{going, ended}
 use Rattle.sweep_rules.specs.{Ranges.placeOf, Sweep.sweepOf}
-use Rattle.promises.{specs.Calls.Turn, specs.Calls.Calls, specs.Calls.EndsAtCall}
+use Rattle.promises.specs.Calls.{Turn, Calls, EndsAtCall}
 use Rattle.promises.proofs.{CallLaws.step-kept, CallLaws.attention-kept, MachineLaws.row-kept, MachineLaws.row-transfer, MachineLaws.moves}
-use Rattle.promises_blocks.specs.{Joined.RunsAlone, Sweeps.SweptRest}
-use Rattle.promises_blocks.proofs.{AloneLaws.ordered-channel, Joined.block-same, Sweeps.rest-accepted, Sweeps.rest-swept}
+use Rattle.promises_blocks.{specs.Joined.RunsAlone, specs.Sweeps.SweptRest, proofs.AloneLaws.ordered-channel, proofs.Joined.block-same}
+use Rattle.promises_blocks.proofs.Sweeps.{rest-accepted, rest-swept}
 use Rattle.promises_sheet.specs.SheetAttention.{outcomeTo, channelAfter}
-use Rattle.promises_pauses.specs.Pausing.{Quietly, blockBytes, busyByte, Clear, BlockKept, PauseStores, PauseApart, Spared, PausedCalls, EndsPaused, SameEnd, begin, transfer, step, attention, host, suspend, resume}
-
--- ---- without pauses, and the total
+use Rattle.promises_pauses.specs.Pausing.{Quietly, blockBytes, busyByte, Clear, BlockKept, PauseStores, PauseApart, Spared, EndsPaused, SameEnd}
+use Rattle.promises_pauses.specs.Pausing.{PausedCalls, begin, transfer, step, attention, host, suspend, resume}
 
 module _ {b : Bool} {n : ℕ} {s₀ : State} {m₀ : Buffers} where
   -- demand 3's calls are such a row
@@ -67,8 +63,6 @@ module _ {b : Bool} {n : ℕ} {s₀ : State} {m₀ : Buffers} where
   -- where such a row comes to an end at all, it is at one transfer step
   pub ends-once-paused : {k k′ : ℕ} {s : State} {m : Buffers} → PausedCalls b n s₀ m₀ k false s m → EndsPaused b n s₀ m₀ k → EndsPaused b n s₀ m₀ k′ → k ≡ k′
   ends-once-paused r x y = at-end y r (x .then r .over) .0
-
--- ---- a pause by itself
 
 -- suspend leaves bits 5 and 7
 stopped-bits : (psw : ℕ) → (bitOf (stoppedPsw psw) 5 ≡ bitOf psw 5) × (bitOf (stoppedPsw psw) 7 ≡ bitOf psw 7)
@@ -130,13 +124,10 @@ module _ {b : Bool} {n : ℕ} {s₀ : State} {m₀ : Buffers} (p : Copy n (chann
     pub off : paused ≡ true → (k < total c₀ n) × GivesBack was s m
 
   module _ {k : ℕ} {paused : Bool} {s : State} {m : Buffers} (o : Seen k paused s m) where
-    -- the bytes that have moved have arrived
-    held : Held (from c₀) (into c₀) n m₀ (movedAfter c₀ n k) m
-    held = reached p (o .row) (o .most) .bytes
-
     -- stores that are clear of both ranges leave them alone
     untouched : {m′ : Buffers} {places : List Place} → Clear places (from c₀) n → Clear places (into c₀) n → PauseStores places m m′ → Untouched c₀ n m m′
     untouched {m′} {places} source destination w =
+        let held = reached p (o .row) (o .most) .bytes in
         record { fromLeft = left (from c₀) source (held .fromLent); intoLeft = left (into c₀) destination (held .intoLent) }
       where
         left : (q : Pointer) → Clear places q n → Lent m q n → Left q n m m′
@@ -181,18 +172,16 @@ module _ {b : Bool} {n : ℕ} {s₀ : State} {m₀ : Buffers} (p : Copy n (chann
     seen-suspend : Quietly b Suspend s m → Seen k true (outcomeTo s m b .state) (outcomeTo s m b .memory)
     unfolding midway withTransfer storedBy parameterBlock
     seen-suspend q =
-        let running = ap (λ (c : Channel). programRunning (c .psw)) (o .now ∙ going p (o .row) short-of .registers) ∙ tb in
+        let runs = ap (λ (c : Channel). programRunning (c .psw)) (o .now ∙ going p (o .row) short-of .registers) ∙ tb in
         let busy : ApartFrom (blockBytes b s) false (busyIn (blockOf s b)) = rw (o .kept .0, block-same s₀ s b (o .control)) (far .busy) in
         seen-on o true (untouched o (far .source) (far .destination) (stores o Suspend q)) (shared-kept s m (channelNumber b) .0)
-        (suspend-only b s m q ∙ ap suspended (o .now)) (λ _. (short-of, λ s′ m′ e y q′. pause-same b s s′ m m′ q q′ e (rw (o .kept .0) y) busy running ∙ o .now))
+        (suspend-only b s m q ∙ ap suspended (o .now)) (λ _. (short-of, λ s′ m′ e y q′. pause-same b s s′ m m′ q q′ e (rw (o .kept .0) y) busy runs ∙ o .now))
 
   module _ {k : ℕ} {s : State} {m : Buffers} (o : Seen k true s m) where
     -- suspended it does not run, so no step is its turn
     waits : (channelOf s b .mode ≡ Suspended) × ((lines : ℕ) → Turn b s m lines → ⊥)
     unfolding suspended withControl isRunning
-    waits =
-        let e = ap (λ (c : Channel). c .mode) (o .now) in
-        (e, λ lines t. apart (sym (ap isRunning (chosen-running s lines b (inr (t .chosen)))) ∙ ap isRunning e))
+    waits = let e = ap (λ (c : Channel). c .mode) (o .now) in (e, λ lines t. apart (ap isRunning (sym (chosen-running s lines b (inr (t .chosen))) ∙ e)))
 
     -- resumed so, it is what it was
     seen-resume : Quietly b Resume s m → Seen k false (outcomeTo s m b .state) (outcomeTo s m b .memory)
@@ -207,8 +196,7 @@ module _ {b : Bool} {n : ℕ} {s₀ : State} {m₀ : Buffers} (p : Copy n (chann
   seen begin = record { was = c₀; row = start; most = omega arith; control = refl; now = refl; kept = (refl, refl); off = λ e. apart (sym e) }
   seen (transfer r lines t x) = seen-transfer (seen r) x lines t
   seen (step {s = s} {m = m} r lines ne w) =
-      let unended = ap (λ (f : Fields). f .externalEnd) (seen r .kept .1) ∙ p .plain .unended in
-      seen-other (seen r) _ (step-kept b s m lines unended ne) (cp-kept s m lines) w
+      seen-other (seen r) _ (step-kept b s m lines (ap (λ (f : Fields). f .externalEnd) (seen r .kept .1) ∙ p .plain .unended) ne) (cp-kept s m lines) w
   seen (attention {s = s} {m = m} r channel ne w) = seen-other (seen r) _ (attention-kept b s m channel ne) (shared-kept s m channel .0) w
   seen (host {s = s} r w) = seen-other (seen r) s refl refl w
   seen (suspend r x q) = seen-suspend (seen r) x q
@@ -224,13 +212,11 @@ module _ {b : Bool} {n : ℕ} {s₀ : State} {m₀ : Buffers} (p : Copy n (chann
         then = λ r. rw (seen r .now) (ended p (seen r .row) refl);
         short = λ r. seen r .off refl .0;
         waits = λ r. waits (seen r);
-        bytes = λ r. held (seen r);
+        bytes = λ r. reached p (seen r .row) (seen r .most) .bytes;
         back = λ {j} {s} {m} r q. seen r .off refl .1 s m refl (λ i h. refl) q ∙ going p (seen r .row) (seen r .off refl .0) .registers;
         suspends = λ r q. stores (seen r) Suspend q;
         resumes = λ r q. stores (seen r) Resume q;
       }
-
-  -- ---- what follows
 
   -- PP and CP stay
   pub places-stay : {k : ℕ} {paused : Bool} {s : State} {m : Buffers} → PausedCalls b n s₀ m₀ k paused s m → (channelOf s b .pp ≡ c₀ .pp) × (s .cp ≡ s₀ .cp)

@@ -1,25 +1,19 @@
 -- Demand 3 with pauses: calls in a row, among which the channel may be suspended and resumed between its transfer steps.
-use mathlib.Core.Bool.{Bool, true, false}
-use mathlib.Core.List.{List, [], _∷_, _++_}
-use mathlib.Core.Path.{_≡_}
+use mathlib.Core.{Bool.Bool, Bool.true, Bool.false, List.List, List.[], List._∷_, List._++_, Path._≡_}
 use Prim.Native.Nat.{ℕ, suc, _+_, _<_}
 use lib.ListN.{length}
-use Rattle.ground_rules.specs.Bits.{fieldOf, bitOf}
-use Rattle.ground_rules.specs.{declared.Pointer.Pointer, Buffers.Buffers, Buffers.spaceOf, Buffers.byteAt, Places.Place, Places.span, Places.ApartFrom}
-use Rattle.ground_rules.specs.{declared.Channel.Channel, declared.Mode.the-variants.Suspended, declared.State.State}
-use Rattle.ground_rules.specs.Psw.{transferring, programRunning, loadLimit, priority}
-use Rattle.ground_rules.specs.States.{channelOf, channelNumber, blockOf, busyIn}
-use Rattle.attention_rules.specs.{declared.Command.Command, declared.Command.the-variants.Suspend, declared.Command.the-variants.Resume}
-use Rattle.attention_rules.specs.Attention.{orderTo, attentionOf}
+use Rattle.ground_rules.specs.{declared.Pointer.Pointer, declared.Channel.Channel, declared.Mode.the-variants.Suspended, declared.State.State, Psw.transferring}
+use Rattle.ground_rules.specs.{Bits.fieldOf, Bits.bitOf, Buffers.Buffers, Buffers.spaceOf, Buffers.byteAt, Places.Place, Places.span, Places.ApartFrom}
+use Rattle.ground_rules.specs.{Psw.programRunning, Psw.loadLimit, Psw.priority, States.channelOf, States.channelNumber, States.blockOf, States.busyIn}
+use Rattle.attention_rules.specs.declared.Command.the-variants.{Suspend, Resume}
+use Rattle.attention_rules.specs.{declared.Command.Command, Attention.orderTo, Attention.attentionOf}
 use Rattle.turn_rules.specs.Step.{stepOf}
-use Rattle.block_rules.specs.{Premises.from, Premises.into, Rows.Untouched, Totals.movedAfter}
-use Rattle.block_rules.specs.Stages.{midway, Held, Going, Ended}
-use Rattle.promises.specs.{Calls.Turn, Calls.Moves}
-use Rattle.promises_blocks.specs.{Joined.Comes}
-use Rattle.promises_sheet.specs.{SheetAttention.outcomeTo, SheetAttention.channelAfter}
+use Rattle.block_rules.specs.{Premises.from, Premises.into, Rows.Untouched, Totals.movedAfter, Stages.midway, Stages.Held, Stages.Going, Stages.Ended}
+use Rattle.promises.specs.Calls.{Turn, Moves}
+use Rattle.promises_blocks.specs.Joined.{Comes}
+use Rattle.promises_sheet.specs.SheetAttention.{outcomeTo, channelAfter}
 
--- an attention to this channel that is accepted: its CCW, as memory has it at this call, holds this command and ICF 00, and its bits 5 and 7 are
--- PSW's, as PSW is at this call
+-- an accepted attention to this channel: at this call its CCW in memory holds this command and ICF 00, and its bits 5 and 7 are what PSW's are at this call
 pub record Quietly (second : Bool) (command : Command) (s : State) (m : Buffers) : Type 0 where
   pub accepted : outcomeTo s m second .number ≡ 0
   pub commands : orderTo s m second .command ≡ command
@@ -64,9 +58,8 @@ module _ (second : Bool) (n : ℕ) (s₀ : State) where
     pub block : paused ≡ true → BlockKept (c₀ .pp) m m′
 
   module _ (m₀ : Buffers) where
-    -- what comes of a state and a memory by calls in a row, k of which are transfer steps of the channel, which now is suspended or not: as in demand 3,
-    -- and besides a suspend, where XF is set, and a resume, where it is suspended. Of these two nothing is asked about ranges. A refused attention to the
-    -- channel is nothing: the host's doing, with every byte as it was
+    -- what comes of a state and a memory by calls in a row, k of which are transfer steps of the channel, now suspended or not: as in demand 3, and besides
+    -- a suspend, where XF is set, and a resume, of which nothing is asked about ranges. A refused attention to the channel is the host's doing nothing
     pub data PausedCalls : ℕ → Bool → State → Buffers → Type 0 where
       begin : PausedCalls 0 false s₀ m₀
       transfer : {k : ℕ} {s : State} {m : Buffers} → PausedCalls k false s m → (lines : ℕ) → Turn second s m lines
@@ -118,8 +111,7 @@ module _ (second : Bool) (n : ℕ) (s₀ : State) where
 
 -- a row with two pauses that a fresh state, a start attention and a program begin, and that ends
 pub record PausedMet (image : Buffers) : Type 0 where
-  -- the attention is accepted, six instructions, XFER among them, are done, and every premise is met, of five bytes moved by words from one odd address
-  -- to another
+  -- the attention is accepted, six instructions are done, XFER among them, and every premise is met, of five bytes by words from one odd address to another
   pub state : State
   pub memory : Buffers
   pub comes : Comes image 0 false 0 65535 5 6 state memory
