@@ -6,7 +6,7 @@ use lib.Dec.{ltb, lit<}
 use lib.ListN.{length}
 use mathlib.Core.Bool.{Bool, true, false, not, _&&_}
 use mathlib.Core.Logic.{⊎-elim, inl, inr}
-use mathlib.Core.Path.{_≡_, refl, sym, ap, ap₂, subst, _∙_}
+use mathlib.Core.Path.{_≡_, refl, sym, ap, subst, _∙_}
 use native.Mathlib.Decide.{decLt, decLe}
 use native.Mathlib.Omega.{arith}
 use Rattle.instruction_rules.specs.Execute.{Executed, executed, executeOf}
@@ -15,14 +15,14 @@ use Rattle.ground_rules.specs.Outcomes.{Outcome, first, unless, givenNumber}
 use Rattle.ground_rules.specs.Psw.{transferring}
 use Rattle.ground_rules.proofs.FieldLaws.{put-agree, blank-agree}
 use Rattle.ground_rules.specs.Conditions.{Ready}
-use Rattle.ground_rules.specs.States.{boardWith, fieldsAgree, agree, freshState, channelOf, withChannel, channelNumber, isChannel, isRunning, soundChannel, sound, blockOf, busyIn}
+use Rattle.ground_rules.specs.States.{boardWith, fieldsAgree, agree, freshState, channelOf, withChannel, channelNumber, isRunning, sound, blockOf, busyIn}
 use Rattle.ground_rules.specs.declared.Channel.{Channel}
 use Rattle.ground_rules.specs.declared.Fields.{Fields}
 use Rattle.ground_rules.specs.declared.Mode.the-variants.{Running}
 use Rattle.ground_rules.specs.declared.State.{State}
 use Rattle.ground_rules.specs.Buffers.{Buffers, spaceOf, withinLimits}
 use Rattle.ground_rules.specs.Places.{span, allTouchable}
-use Rattle.ground_rules.specs.Stages.{stagesNumber}
+use Rattle.ground_rules.specs.{Stages.stagesNumber, States.isChannel, States.soundChannel}
 use Rattle.ground_rules.proofs.ChannelLaws.{put-same, put-sound, named}
 use Rattle.ground_rules.proofs.ConditionLaws.{first-none-right}
 use Rattle.ground_rules.proofs.OutcomeLaws.{settled-number}
@@ -99,8 +99,8 @@ module _ (b : Bool) (s : State) (m : Buffers) (lines : ℕ) (a : RunsAlone b s m
     transfer-turn x y z = alone-turn (inl (running, inl (x, inl y))) (λ e. e .2 z)
 
 -- so has one whose transfer is going on
-pub going-turn : {b : Bool} {n : ℕ} {c₀ : Channel} {m₀ : Buffers} {k : ℕ} {s : State} {m : Buffers} {lines : ℕ} → Copy n c₀ m₀ → Going n c₀ m₀ k (channelOf s b) m
-    → RunsAlone b s m lines → Turn b s m lines
+pub going-turn : {b : Bool} {n : ℕ} {c₀ : Channel} {m₀ : Buffers} {k : ℕ} {s : State} {m : Buffers} {lines : ℕ} → Copy n c₀ m₀
+    → Going n c₀ m₀ k (channelOf s b) m → RunsAlone b s m lines → Turn b s m lines
 going-turn {b} {n} {c₀} {k = k} {s} {m} {lines} p g a =
     let e = ap (λ (c : Channel). c .fields) (g .registers) ∙ mid-fields c₀ n (movedAfter c₀ n k) in
     transfer-turn b s m lines a (g .runs) (g .transfers) (ap (λ (f : Fields). f .synchronised) e ∙ p .plain .unsynchronised)
@@ -167,11 +167,11 @@ module _ (b : Bool) (s : State) (m : Buffers) where
     alone-attended {lines} a h =
         let n = channelNumber b in
         let z = a .entered in
-        let fit = ap soundChannel (sym ordered-channel) ∙ h in
+        let fit = put-sound s b (orderedChannel s m b) (entry-sound s m lines z) (ap soundChannel (sym ordered-channel) ∙ h) in
         record {
           entered =
               entry-next s m lines _ _ z
-              (ap (λ (r : Outcome). sound (r .state)) (accepted-order s m n e) ∙ rw (named b) (put-sound s b (orderedChannel s m b) (entry-sound s m lines z) fit))
+              (ap (λ (r : Outcome). sound (r .state)) (accepted-order s m n e) ∙ rw (named b) fit)
               (attention-agree s m n (entry-agree s m lines z)) (shared-kept s m n .2) (Attended.lengths-kept s m n);
           idle = (rw (named b) at (ap (λ (c : Channel). isRunning (c .mode)) (other-channel s m n))) ∙ a .idle;
         }

@@ -2,7 +2,6 @@
 -- Assumes nothing.
 use Prim.Native.Nat.{ℕ, suc, _+_}
 use borrow.Author.Tests.{eqb-false}
-use lib.ListN.{length}
 use mathlib.Core.Bool.{Bool, true, false}
 use mathlib.Core.List.{[], _∷_}
 use mathlib.Core.Path.{_≡_, refl, sym, ap, ap₂, subst, _∙_}
@@ -57,7 +56,8 @@ pub record Halts (second : Bool) (s : State) (m : Buffers) (lines : ℕ) : Type 
 
 -- so a channel that is alone halts where HLT stands at TP
 pub halts : {b : Bool} {s : State} {m : Buffers} {lines : ℕ} → RunsAlone b s m lines → isRunning (channelOf s b .mode) ≡ true
-    → transferring (channelOf s b .psw) ≡ false → Stand m (channelOf s b .tp) (0x20 ∷ 0x48 ∷ []) → lentAt m false (busyIn (blockOf s b)) ≡ true → Halts b s m lines
+    → transferring (channelOf s b .psw) ≡ false → Stand m (channelOf s b .tp) (0x20 ∷ 0x48 ∷ []) → lentAt m false (busyIn (blockOf s b)) ≡ true
+    → Halts b s m lines
 halts {b} {s} {m} {lines} a runs off there lent =
     let h = hlt-stops m (channelOf s b) (busyIn (blockOf s b)) there lent in
     let e = instruction-done b s m lines (program-turn b s m lines a runs off) off (h .step) in

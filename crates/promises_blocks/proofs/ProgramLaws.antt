@@ -149,7 +149,8 @@ module _ (j : Job) (tp : Pointer) (c : Channel) (seen : viewOf c ≡ begins j tp
   part f = ap f seen
 
   -- XF, its widths, and TB
-  widths : (s d : Bool) → (transferring (pswOf s d) ≡ true) × (sourceWide (pswOf s d) ≡ s) × (destinationWide (pswOf s d) ≡ d) × (programRunning (pswOf s d) ≡ true)
+  widths : (s d : Bool) → let psw = pswOf s d in
+      (transferring psw ≡ true) × (sourceWide psw ≡ s) × (destinationWide psw ≡ d) × (programRunning psw ≡ true)
   unfolding bitOf
   widths true true = (refl, refl, refl, refl)
   widths true false = (refl, refl, refl, refl)

@@ -16,7 +16,7 @@ use Rattle.ground_rules.proofs.{BitLaws.bit-same, BitLaws.bit-other, ConditionL
 use Rattle.ground_rules.specs.Conditions.{TooLong}
 use Rattle.ground_rules.specs.Outcomes.{Outcome, outcome, first, unless}
 use Rattle.ground_rules.specs.Psw.{transferring, withPsw}
-use Rattle.ground_rules.specs.States.{idleChannel, freshState, channelOf, withChannel, soundChannel, sound, isRunning, blockOf, busyIn, channelNumber, boardWith}
+use Rattle.ground_rules.specs.States.{boardWith, idleChannel, freshState, channelOf, withChannel, channelNumber, soundChannel, sound, isRunning, blockOf}
 use Rattle.ground_rules.specs.declared.Made.{Made}
 use Rattle.ground_rules.specs.declared.Pointer.{Pointer}
 use Rattle.ground_rules.specs.declared.Channel.{Channel}
@@ -35,7 +35,7 @@ use Rattle.attention_rules.specs.Touched.{readBy, storedBy, others}
 use Rattle.attention_rules.specs.declared.Command.the-variants.{StartSystem}
 use Rattle.attention_rules.specs.declared.Order.{Order}
 use Rattle.ground_rules.specs.Bits.{fieldOf, bitOf, withBit}
-use Rattle.ground_rules.specs.{Bytes.wordOf, Sums.addressOf}
+use Rattle.ground_rules.specs.{Bytes.wordOf, States.busyIn, Sums.addressOf}
 use Rattle.turn_rules.proofs.SoundLaws.{entry-sound}
 use Rattle.turn_rules.specs.Step.{Step, entryNumber, stepOf}
 use Rattle.block_rules.specs.{Premises.Lent, Stages.onBy}
@@ -195,7 +195,8 @@ module _ {s : State} {b : Bool} {m : Buffers} {lines pb program : ℕ} (a : Runs
   unfolding order channelOrdered commanded started withControl soundChannel
   sound-is =
       let pp : pb < 1048576 = subst (λ (x : ℕ). x < 1048576) (k .parameters) (doubleword-fits m (block + 2)) in
-      controlled-sound c (pointer (doublewordAt m false pb) false) pb 0 Running false (sound-channel-of s b (entry-sound s m lines (a .entered))) (doubleword-fits m pb) pp
+      let sounds = sound-channel-of s b (entry-sound s m lines (a .entered)) in
+      controlled-sound c (pointer (doublewordAt m false pb) false) pb 0 Running false sounds (doubleword-fits m pb) pp
 
   -- and memory is this
   memory-is : orderedMemory s m b ≡ storeByte m false (block + 1) 255
@@ -235,8 +236,9 @@ module _ {s : State} {b : Bool} {m : Buffers} {lines pb program : ℕ} (a : Runs
       let tp = ap (λ (d : Channel). d .tp) put ∙ ap (λ (v : View). v .tp) (g .seen) in
       let runs = ap (λ (d : Channel). isRunning (d .mode)) put ∙ ap (λ (v : View). isRunning (v .mode)) (g .seen) in
       let off = ap (λ (d : Channel). transferring (d .psw)) put ∙ ap (λ (v : View). transferring (v .psw)) (g .seen) ∙ started-off (c .psw) in
-      let stands = stand-kept there m₂ (λ u x. store-lent m false u (block + 1) x 255) (λ i h. read-other m false (block + 1) 255 false (program + i) (far i h)) in
+      let stands = stand-kept there m₂ (λ u x. store-lent m false u (block + 1) x 255) (λ i h. read-other m false (block + 1) 255 false _ (far i h)) in
       let lent = ap (lentAt m₂ false) busy ∙ lent-reduced m₂ false (block + 1) ∙ store-lent m false false (block + 1) (block + 1) 255 ∙ k .busyLent in
       let h = halts (g .alone) runs off (subst (λ (p : Pointer). Stand m₂ p (0x20 ∷ 0x48 ∷ [])) (sym tp) stands) lent in
       let cleared = h .memory ∙ ap (λ (x : ℕ). storeByte m₂ false x 0) busy ∙ store-reduced m₂ false (block + 1) 0 in
-      record { marked = ap (λ (o : Outcome). o .memory) (g .given); cleared = rw (g .given) cleared; entered = rw (g .given) (h .entered); still = rw (g .given) (h .still) }
+      let marked = ap (λ (o : Outcome). o .memory) (g .given) in
+      record { marked = marked; cleared = rw (g .given) cleared; entered = rw (g .given) (h .entered); still = rw (g .given) (h .still) }

@@ -101,7 +101,7 @@ module _ {j : Job} {l : Layout} {m : Buffers} {lines limit : ℕ} (r : Ready j l
   pub come : Come lines b s₀ m₀ 6 (begins j (onBy (programPlace l) haltAt))
   come =
       six j (programPlace l) there
-      (record { state = s₀; done = none; lonely = start .alone; control = refl; parameters = refl; seen = ap viewOf put ∙ start .seen ∙ fresh-view (l .cp) b _ })
+      (record { state = _; done = none; lonely = start .alone; control = refl; parameters = refl; seen = ap viewOf put ∙ start .seen ∙ fresh-view (l .cp) b _ })
 
   abbrev s₁ : State
   s₁ = come .state

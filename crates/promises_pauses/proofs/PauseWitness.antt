@@ -77,6 +77,7 @@ module _ (given : Buffers) (full : WholeSystem given) (fit : ¬ (TooLong given))
     pub lone : RunsAlone false state memory 0
     pub whole : WholeSystem memory
 
+  -- made of its calls, whose last state and memory they are
   abbrev so-far : {k : ℕ} {p : Bool} {s : State} {m : Buffers} → PausedCalls false 5 s₁ m₁ k p s m → RunsAlone false s m 0 → WholeSystem m → RowSoFar k p
   so-far calls lone whole = record { state = _; memory = _; calls = calls; lone = lone; whole = whole }
 

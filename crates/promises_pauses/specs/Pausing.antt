@@ -59,7 +59,7 @@ module _ (second : Bool) (n : ℕ) (s₀ : State) where
 
   module _ (m₀ : Buffers) where
     -- what comes of a state and a memory by calls in a row, k of which are transfer steps of the channel, now suspended or not: as in demand 3, and besides
-    -- a suspend, where XF is set, and a resume, of which nothing is asked about ranges. A refused attention to the channel is the host's doing nothing
+    -- a suspend, where XF is set, and a resume, where it is suspended; they ask nothing of ranges. A refused attention to it is the host's, no byte changed
     pub data PausedCalls : ℕ → Bool → State → Buffers → Type 0 where
       begin : PausedCalls 0 false s₀ m₀
       transfer : {k : ℕ} {s : State} {m : Buffers} → PausedCalls k false s m → (lines : ℕ) → Turn second s m lines
