@@ -6,10 +6,10 @@ use mathlib.Core.Logic.{_↔_}
 use mathlib.Core.Path.{_≡_, sym, ap, subst, _∙_}
 use Rattle.ground_rules.specs.Buffers.{Buffers}
 use Rattle.ground_rules.specs.Conditions.{Check, Given}
-use Rattle.processors.proofs.LiftLaws.{Stays, lifts, lifted-none, lifted-exactly, lifted-refused}
-use Rattle.processors.specs.Lifting.{Called, Lifted, liftedTo, lifted}
-use Rattle.processors.specs.Lifts.{seenBy, LeftAlone, checksOn}
-use Rattle.processors.specs.Processors.{processorOf, buffersOf}
+use Rattle.processor_rules.proofs.LiftLaws.{Stays, lifts, lifted-none, lifted-exactly, lifted-refused}
+use Rattle.processor_rules.specs.Lifting.{Called, Lifted, liftedTo, lifted}
+use Rattle.processor_rules.specs.Lifts.{seenBy, LeftAlone, checksOn}
+use Rattle.processor_rules.specs.Processors.{processorOf, buffersOf}
 use Rattle.processor_calls.specs.Contracts.{PairContract, nameIn, IsLifted, GoesToOne, NumbersOfOne}
 
 module _ {S A : Type 0} {c : PairContract S A} {twelve : c .Rest → A} {single : c .Rest → S → Buffers → Called S A} (e : IsLifted c twelve single) where

@@ -4,9 +4,9 @@ use Prim.Native.Nat.{ℕ}
 use mathlib.Core.Path.{_≡_, sym, ap, _∙_}
 use Rattle.ground_rules.specs.Buffers.{Buffers, buffers}
 use Rattle.ground_rules.specs.States.{isChannel, isSecond}
-use Rattle.processors.proofs.LiftLaws.{lifted-none}
-use Rattle.processors.specs.Lifting.{Called, liftedTo, calledOn, lifted}
-use Rattle.processors.specs.Processors.{Processors, processors, Memories, memories, processorOf, withProcessor, ioOf, buffersOf, withBuffers}
+use Rattle.processor_rules.proofs.LiftLaws.{lifted-none}
+use Rattle.processor_rules.specs.Lifting.{Called, liftedTo, calledOn, lifted}
+use Rattle.processor_rules.specs.Processors.{Processors, processors, Memories, memories, processorOf, withProcessor, ioOf, buffersOf, withBuffers}
 
 module _ {S A : Type 0} (twelve : A) (call : S → Buffers → Called S A) (p : Processors S) (m : Memories) (processor : ℕ) where
   -- processor 1: what its call leaves, and the second state and the second I/O memory as they were

@@ -29,8 +29,8 @@ use denote.Triple.Clauses.{ensured, lasts}
 use denote.Triple.Spec.{tripleOf}
 use denote.Triple.Statement.{Contract}
 use Rattle.ground_rules.specs.Buffers.{buffers}
-use Rattle.schedule.specs.declared.ScheduleRow.{ScheduleRow}
-use Rattle.schedule.proofs.ScheduleRow as R
+use Rattle.schedule_rules.specs.declared.ScheduleRow.{ScheduleRow}
+use Rattle.schedule_rules.proofs.ScheduleRow as R
 use Rattle.schedule_calls.specs.Calls.{scheduled, scheduleServed, ScheduleMet}
 use Rattle.schedule_calls.specs.Turns.{standing}
 use Rattle.schedule_calls.proofs.iop89_schedule as schedule

@@ -33,16 +33,16 @@ use Rattle.service.proofs.OutcomeLaws.{Kept, power-kept, attention-kept, step-k
 use Rattle.state_rules.specs.Calls.{made, answerFrom, resetMade}
 use Rattle.state_rules.specs.Conditions.{NoState, Bytes, resetChecksOn, powerChecksOn, attentionChecksOn, stepChecksOn, sweepChecksOn}
 use Rattle.state_rules.specs.Layout.{bytesOf, stateIn, isState, stateLength}
-use Rattle.schedule.specs.Conditions.{UnknownIn}
-use Rattle.schedule.specs.Reports.{Scheduled, scheduleOf}
-use Rattle.schedule.specs.Rows.{Bench, bench}
-use Rattle.schedule.specs.declared.ScheduleRow.{ScheduleRow}
+use Rattle.schedule_rules.specs.Conditions.{UnknownIn}
+use Rattle.schedule_rules.specs.Reports.{Scheduled, scheduleOf}
+use Rattle.schedule_rules.specs.Rows.{Bench, bench}
+use Rattle.schedule_rules.specs.declared.ScheduleRow.{ScheduleRow}
 use Rattle.schedule_calls.specs.Calls.{scheduleLeft, noSchedule, scheduleServed}
 use Rattle.schedule_calls.specs.Turns.{standing}
-use Rattle.processors.proofs.LiftLaws.{Stays}
-use Rattle.processors.proofs.SixLaws.{schedule-given, schedule-stays}
-use Rattle.processors.specs.Lifting.{Lifted, liftedTo}
-use Rattle.processors.specs.Processors.{Processors, processors, Memories, memories}
+use Rattle.processor_rules.proofs.LiftLaws.{Stays}
+use Rattle.processor_rules.proofs.SixLaws.{schedule-given, schedule-stays}
+use Rattle.processor_rules.specs.Lifting.{Lifted, liftedTo}
+use Rattle.processor_rules.specs.Processors.{Processors, processors, Memories, memories}
 use Rattle.processor_calls.specs.Calls.{Reported, reported, zerosOver, attentionOnBytes, stepOnBytes, powerUpOnBytes, sweepOnBytes, resetOnBytes, scheduleOnBytes, pairReset, pairPowerUp, pairAttention, pairStep, pairSweep, pairSchedule}
 use Rattle.processor_calls.specs.Contracts.{PairContract, IsLifted, GoesToOne, NumbersOfOne}
 use Rattle.processor_calls.proofs.ContractLaws.{goes-to-one, numbers-of-one}

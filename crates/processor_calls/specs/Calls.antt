@@ -3,12 +3,12 @@ use mathlib.Core.List.{List}
 use Prim.Native.Nat.{ℕ}
 use Rattle.ground_rules.specs.Buffers.{Buffers}
 use Rattle.state_rules.specs.Calls.{Made, Service, resetMade, powerServed, attentionServed, stepServed, sweepServed}
-use Rattle.schedule.specs.Reports.{noReport, putOver}
-use Rattle.schedule.specs.declared.ScheduleRow.{ScheduleRow}
+use Rattle.schedule_rules.specs.Reports.{noReport, putOver}
+use Rattle.schedule_rules.specs.declared.ScheduleRow.{ScheduleRow}
 use Rattle.schedule_calls.specs.Calls.{ScheduleService, scheduleServed}
 use Rattle.schedule_calls.specs.Turns.{standing}
-use Rattle.processors.specs.Lifting.{Called, calledWith, Lifted, lifted}
-use Rattle.processors.specs.Processors.{Processors, Memories}
+use Rattle.processor_rules.specs.Lifting.{Called, calledWith, Lifted, lifted}
+use Rattle.processor_rules.specs.Processors.{Processors, Memories}
 
 -- what a schedule answers: its number, and the words of its report
 pub record Reported : Type 0 where

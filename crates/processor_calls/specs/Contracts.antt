@@ -6,9 +6,9 @@ use mathlib.Core.Path.{_≡_}
 use Prim.Native.Nat.{ℕ}
 use Rattle.ground_rules.specs.Buffers.{Buffers}
 use Rattle.ground_rules.specs.Conditions.{Check, Given}
-use Rattle.processors.specs.Lifting.{Called, Lifted, liftedTo, lifted}
-use Rattle.processors.specs.Lifts.{seenBy, SameFor, LeftAlone, NoProcessor, checksOn}
-use Rattle.processors.specs.Processors.{Processors, Memories, processorNamed, processorNumber, processorOf, buffersOf}
+use Rattle.processor_rules.specs.Lifting.{Called, Lifted, liftedTo, lifted}
+use Rattle.processor_rules.specs.Lifts.{seenBy, SameFor, LeftAlone, NoProcessor, checksOn}
+use Rattle.processor_rules.specs.Processors.{Processors, Memories, processorNamed, processorNumber, processorOf, buffersOf}
 
 -- a contract: the calls that met it, and what is read of one of them: its number for the processor, both states, the memories, what else it was given, and
 -- what it left

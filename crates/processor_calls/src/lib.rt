@@ -1,9 +1,9 @@
 // Two processors on one board for C: each state lives in the caller's bytes, and each call goes to the processor that a
 // number names; of the other no byte is looked at.
-use schedule::ScheduleRow;
+use schedule_rules::ScheduleRow;
 ghost use mathlib.Core.Path.{_≡_};
-ghost use Rattle.processors.specs.Lifting.{liftedTo};
-ghost use Rattle.processors.specs.Processors.{Memories, processors, memories};
+ghost use Rattle.processor_rules.specs.Lifting.{liftedTo};
+ghost use Rattle.processor_rules.specs.Processors.{Memories, processors, memories};
 ghost use Rattle.processor_calls.specs.Calls.{reported, pairAttention, pairStep, pairReset, pairPowerUp, pairSweep, pairSchedule};
 
 // The calls on one processor.

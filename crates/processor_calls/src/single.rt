@@ -1,6 +1,6 @@
 // The calls on one processor but the sweep, passed on as they are, so that one object exports them and has the machine's
 // code once.
-use schedule::ScheduleRow;
+use schedule_rules::ScheduleRow;
 ghost use mathlib.Core.Path.{_≡_};
 ghost use Rattle.ground_rules.specs.Buffers.{lent};
 ghost use Rattle.state_rules.specs.Calls.{made, served, freshMade, resetMade, powerServed, attentionServed, stepServed};

@@ -17,8 +17,8 @@ use Rattle.block_rules.specs.Stages.{Going, Within}
 use Rattle.promises_blocks.proofs.AloneLaws.{going-turn, alone-next, alone-written}
 use Rattle.promises.specs.Calls.{Turn, Moves}
 use Rattle.promises_blocks.specs.Joined.{RunsAlone}
-use Rattle.processors.specs.Calls.{StepAnswer, stepAnswer, stepGives, stepOn}
-use Rattle.processors.specs.Processors.{Memories, buffersOf, ioOf}
+use Rattle.processor_rules.specs.Calls.{StepAnswer, stepAnswer, stepGives, stepOn}
+use Rattle.processor_rules.specs.Processors.{Memories, buffersOf, ioOf}
 use Rattle.promises_processors.specs.InTurn.{inTurn, TwoTransfers, BothEnd}
 use Rattle.promises_processors.specs.Rows.{ProcessorCalls, EndsOnTwo, begin, transfer, other}
 use Rattle.promises_processors.specs.Situations.{Situation, stateFor, channelFor, memoryFor, afterStep}

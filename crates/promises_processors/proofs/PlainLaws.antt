@@ -15,10 +15,10 @@ use Rattle.turn_rules.specs.declared.Kind.the-variants.{Nothing}
 use Rattle.sweep_rules.specs.Plainly.{plainly}
 use Rattle.sweep_rules.specs.Sweep.{Sweep, sweptTo}
 use Rattle.promises_blocks.proofs.Sweeps.{sweeps}
-use Rattle.processors.proofs.LiftLaws.{called-back, called-again, lifted-named}
-use Rattle.processors.specs.Calls.{StepAnswer, SweepAnswer, stepAnswer, sweepAnswer, stepGives, sweepGives, stepOn, sweepOn}
-use Rattle.processors.specs.Lifting.{Called, calledWith, Lifted, liftedTo, calledOn}
-use Rattle.processors.specs.Processors.{Processors, Memories, processorNumber, processorOf, buffersOf}
+use Rattle.processor_rules.proofs.LiftLaws.{called-back, called-again, lifted-named}
+use Rattle.processor_rules.specs.Calls.{StepAnswer, SweepAnswer, stepAnswer, sweepAnswer, stepGives, sweepGives, stepOn, sweepOn}
+use Rattle.processor_rules.specs.Lifting.{Called, calledWith, Lifted, liftedTo, calledOn}
+use Rattle.processor_rules.specs.Processors.{Processors, Memories, processorNumber, processorOf, buffersOf}
 use Rattle.promises_processors.specs.Plainly.{plainlyOn, SweepIsPlain}
 
 -- what a sweep's outcome gives

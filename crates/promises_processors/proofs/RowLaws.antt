@@ -3,13 +3,13 @@
 use Prim.Native.Nat.{ℕ}
 use mathlib.Core.Bool.{Bool}
 use Rattle.turn_rules.specs.declared.Kind.the-variants.{Nothing}
-use Rattle.schedule.specs.Reports.{noReport}
+use Rattle.schedule_rules.specs.Reports.{noReport}
 use Rattle.block_rules.specs.Premises.{Copy}
 use Rattle.block_rules.specs.Totals.{total}
 use Rattle.promises.proofs.MachineLaws.{demand3-calls}
 use Rattle.promises.specs.Calls.{Calls}
 use Rattle.promises.specs.Calls as Single
-use Rattle.processors.specs.Calls.{callAnswer, stepAnswer, sweepAnswer, scheduleAnswer, attentionGives, stepGives, resetGives, powerUpGives, sweepGives, scheduleGives, attentionOn, stepOn, resetOn, powerUpOn, sweepOn, scheduleOn}
+use Rattle.processor_rules.specs.Calls.{callAnswer, stepAnswer, sweepAnswer, scheduleAnswer, attentionGives, stepGives, resetGives, powerUpGives, sweepGives, scheduleGives, attentionOn, stepOn, resetOn, powerUpOn, sweepOn, scheduleOn}
 use Rattle.promises_processors.specs.Rows.{ProcessorCalls, AnyOfSix, EndsOnTwo, begin, transfer, step, attention, other, host}
 use Rattle.promises_processors.specs.Situations.{Situation, stateFor, channelFor, memoryFor}
 use Rattle.promises_processors.proofs.SeenLaws.{step-state, step-memory, attention-state, attention-memory, other-state}

@@ -12,10 +12,10 @@ use Rattle.turn_rules.specs.Step.{stepOf}
 use Rattle.turn_rules.specs.declared.Kind.the-variants.{Nothing}
 use Rattle.block_rules.specs.Premises.{Lent}
 use Rattle.block_rules.specs.Rows.{Left}
-use Rattle.processors.proofs.LiftLaws.{lifts}
-use Rattle.processors.specs.Calls.{callAnswer, stepAnswer, attentionGives, stepGives, attentionOn, stepOn}
-use Rattle.processors.specs.Lifting.{Called}
-use Rattle.processors.specs.Processors.{Memories, processorNumber, ioOf, buffersOf}
+use Rattle.processor_rules.proofs.LiftLaws.{lifts}
+use Rattle.processor_rules.specs.Calls.{callAnswer, stepAnswer, attentionGives, stepGives, attentionOn, stepOn}
+use Rattle.processor_rules.specs.Lifting.{Called}
+use Rattle.processor_rules.specs.Processors.{Memories, processorNumber, ioOf, buffersOf}
 use Rattle.promises_processors.specs.Rows.{PortsApart}
 use Rattle.promises_processors.specs.Situations.{Situation, stateFor, memoryFor, afterStep, afterAttention, afterCall}
 

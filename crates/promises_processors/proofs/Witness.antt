@@ -27,9 +27,9 @@ use Rattle.block_rules.specs.Premises.{into, Copy}
 use Rattle.block_rules.specs.Totals.{narrow, total}
 use Rattle.promises.proofs.CallWitness.{stepOpen}
 use Rattle.promises_blocks.specs.Joined.{RunsAlone}
-use Rattle.processors.specs.Calls.{stepOn}
-use Rattle.processors.specs.Lifting.{calledOn, lifted}
-use Rattle.processors.specs.Processors.{processorOf, withProcessor, ioOf, buffersOf, withBuffers}
+use Rattle.processor_rules.specs.Calls.{stepOn}
+use Rattle.processor_rules.specs.Lifting.{calledOn, lifted}
+use Rattle.processor_rules.specs.Processors.{processorOf, withProcessor, ioOf, buffersOf, withBuffers}
 use Rattle.promises_processors.specs.InTurn.{inTurn, TwoTransfers}
 use Rattle.promises_processors.specs.Situations.{Situation, stateFor, channelFor, memoryFor}
 use Rattle.promises_processors.specs.Witness.{fiveBytes, sharedBytes, twoPrograms, twoCopies, TwoAtOnce, harming, CopyHarmed}

@@ -13,7 +13,7 @@ use Rattle.block_rules.specs.Stages.{midway, Held, Going, Ended}
 use Rattle.block_rules.specs.Totals.{movedAfter}
 use Rattle.promises.specs.Calls.{Turn, Moves}
 use Rattle.promises_pauses.specs.Pausing.{Quietly, Spared, PauseStores, blockBytes, busyByte}
-use Rattle.processors.specs.Lifting.{Called}
+use Rattle.processor_rules.specs.Lifting.{Called}
 use Rattle.promises_processors.specs.Situations.{Situation, stateFor, channelFor, memoryFor, afterStep, afterAttention, afterCall}
 
 -- what all but the channel's own steps and pauses leave alone, in what its processor sees

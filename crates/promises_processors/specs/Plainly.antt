@@ -7,9 +7,9 @@ use Rattle.ground_rules.specs.Choice.{pick}
 use Rattle.ground_rules.specs.Psw.{transferring}
 use Rattle.ground_rules.specs.States.{channelOf, channelNumber}
 use Rattle.ground_rules.specs.declared.State.{State}
-use Rattle.processors.specs.Calls.{SweepAnswer, sweepAnswer, stepOn, sweepOn}
-use Rattle.processors.specs.Lifting.{Lifted, liftedTo}
-use Rattle.processors.specs.Processors.{Processors, Memories, processorNumber, processorOf}
+use Rattle.processor_rules.specs.Calls.{SweepAnswer, sweepAnswer, stepOn, sweepOn}
+use Rattle.processor_rules.specs.Lifting.{Lifted, liftedTo}
+use Rattle.processor_rules.specs.Processors.{Processors, Memories, processorNumber, processorOf}
 
 -- step calls on a processor with the same lines, one after the other, until its channel's XF is clear or one is refused, at most `left` of them
 unfoldable pub plainlyOn : ℕ → Processors State → Memories → Bool → Bool → ℕ → Lifted State SweepAnswer

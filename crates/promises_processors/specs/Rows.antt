@@ -11,11 +11,11 @@ use Rattle.ground_rules.specs.declared.State.{State}
 use Rattle.block_rules.specs.Premises.{from, into, Lent}
 use Rattle.block_rules.specs.Rows.{Left, Untouched}
 use Rattle.block_rules.specs.Stages.{Going, Ended}
-use Rattle.schedule.specs.declared.ScheduleRow.{ScheduleRow}
+use Rattle.schedule_rules.specs.declared.ScheduleRow.{ScheduleRow}
 use Rattle.promises.specs.Calls.{Turn, Moves}
-use Rattle.processors.specs.Calls.{attentionOn, stepOn, resetOn, powerUpOn, sweepOn, scheduleOn}
-use Rattle.processors.specs.Lifting.{Called}
-use Rattle.processors.specs.Processors.{processorNumber}
+use Rattle.processor_rules.specs.Calls.{attentionOn, stepOn, resetOn, powerUpOn, sweepOn, scheduleOn}
+use Rattle.processor_rules.specs.Lifting.{Called}
+use Rattle.processor_rules.specs.Processors.{processorNumber}
 use Rattle.promises_processors.specs.Situations.{Situation, leftIn, stateFor, channelFor, memoryFor, afterStep, afterAttention, afterCall}
 
 -- the ranges of a processor's channel are left alone in what that processor sees

@@ -5,9 +5,9 @@ use Rattle.ground_rules.specs.Buffers.{Buffers}
 use Rattle.ground_rules.specs.States.{channelOf}
 use Rattle.ground_rules.specs.declared.Channel.{Channel}
 use Rattle.ground_rules.specs.declared.State.{State}
-use Rattle.processors.specs.Calls.{attentionOn, stepOn}
-use Rattle.processors.specs.Lifting.{Called, Lifted, lifted}
-use Rattle.processors.specs.Processors.{Processors, Memories, processorNumber, processorOf, buffersOf}
+use Rattle.processor_rules.specs.Calls.{attentionOn, stepOn}
+use Rattle.processor_rules.specs.Lifting.{Called, Lifted, lifted}
+use Rattle.processor_rules.specs.Processors.{Processors, Memories, processorNumber, processorOf, buffersOf}
 
 -- both processors and all three memories
 pub record Situation : Type 0 where

@@ -9,7 +9,7 @@ use Rattle.ground_rules.specs.declared.Channel.{Channel}
 use Rattle.ground_rules.specs.declared.State.{State}
 use Rattle.block_rules.specs.Stages.{Ended}
 use Rattle.promises.specs.Witness.{channelWith, bothWith}
-use Rattle.processors.specs.Processors.{processors, memories}
+use Rattle.processor_rules.specs.Processors.{processors, memories}
 use Rattle.promises_processors.specs.InTurn.{inTurn, TwoTransfers, BothEnd}
 use Rattle.promises_processors.specs.Rows.{Unharmed}
 use Rattle.promises_processors.specs.Situations.{Situation, channelFor, memoryFor, afterStep}

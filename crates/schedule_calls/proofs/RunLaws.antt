@@ -8,9 +8,9 @@ use borrow.Author.Tests.{ltb-true, ltb-false}
 use lib.{WfN.Nat·lt-wfRel, Dec.ltb, ListN.length, ListN.getD, ListN.take, Seq.take-suc, Seq.take-length, Seq.length-take-le}
 use Rattle.ground_rules.{proofs.ChoiceLaws.apart, specs.Choice.pick}
 use Rattle.state_rules.specs.Layout.{bytesOf, stateIn, isState}
-use Rattle.schedule.specs.Reports.{allCounts, noReport, reportOf, scheduleOf, putOver}
-use Rattle.schedule.specs.{Rows.Bench, Rows.allKnown, Rows.rowLeft, Rows.rowsLeft, declared.ScheduleRow.ScheduleRow, Counts.RowCount, Counts.overRows}
-use Rattle.schedule.proofs.{RowLaws.known-at, RowLaws.left-cut, ScheduleLaws.MostTwo, ScheduleLaws.counts-two, ScheduleLaws.over-most, RowLaws.over-cut}
+use Rattle.schedule_rules.specs.Reports.{allCounts, noReport, reportOf, scheduleOf, putOver}
+use Rattle.schedule_rules.specs.{Rows.Bench, Rows.allKnown, Rows.rowLeft, Rows.rowsLeft, declared.ScheduleRow.ScheduleRow, Counts.RowCount, Counts.overRows}
+use Rattle.schedule_rules.proofs.{RowLaws.known-at, RowLaws.left-cut, ScheduleLaws.MostTwo, ScheduleLaws.counts-two, ScheduleLaws.over-most, RowLaws.over-cut}
 use Rattle.schedule_calls.specs.Turns.{Standing, standing, benchIn, StateBytes, RowRun, Turned, TurnReady}
 use Rattle.schedule_calls.specs.{Calls.scheduled, Calls.scheduleServed, Calls.ScheduleMet, Words.addedOn}
 

@@ -12,9 +12,9 @@ use contract.{Conj.conj, Conj.conjL, Conj.conjR, Lifetimes.Lfts, Monad.Fun, Mona
 use denote.{Ref.now, Triple.Clauses.AtExit, Triple.Entry.Args, Triple.Entry.Res}
 use Rattle.ground_rules.{specs.Buffers.Buffers, specs.Buffers.buffers, proofs.ChoiceLaws.both-left, proofs.ChoiceLaws.both-right}
 use Rattle.state_rules.{proofs.ForthLaws.bytes-back, specs.Conditions.Bytes, specs.Layout.bytesOf, specs.Layout.stateIn, specs.Layout.isState}
-use Rattle.schedule.specs.{Counts.RowCount, Counts.overRows, Reports.allCounts, Reports.Scheduled, Reports.reportOf, Reports.putOver, Rows.Bench, Rows.bench}
-use Rattle.schedule.specs.{Rows.allKnown, Rows.rowNumber, Rows.rowsLeft, declared.ScheduleRow.ScheduleRow}
-use Rattle.schedule.proofs.{RowLaws.over-cut, RowLaws.known-cut, RowLaws.left-cut, RowLaws.refused-row, ScheduleLaws.known-runs, ScheduleLaws.rows-add-up}
+use Rattle.schedule_rules.specs.{Counts.RowCount, Counts.overRows, Reports.allCounts, Reports.Scheduled, Reports.reportOf, Reports.putOver, Rows.Bench, Rows.bench}
+use Rattle.schedule_rules.specs.{Rows.allKnown, Rows.rowNumber, Rows.rowsLeft, declared.ScheduleRow.ScheduleRow}
+use Rattle.schedule_rules.proofs.{RowLaws.over-cut, RowLaws.known-cut, RowLaws.left-cut, RowLaws.refused-row, ScheduleLaws.known-runs, ScheduleLaws.rows-add-up}
 use Rattle.schedule_calls.specs.Calls.{ScheduleService, scheduled, scheduleServed, ScheduleMet}
 use Rattle.schedule_calls.specs.Turns.{Standing, standing, benchIn}
 use Rattle.schedule_calls.proofs.iop89_schedule as schedule

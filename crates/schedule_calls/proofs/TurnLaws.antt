@@ -18,9 +18,9 @@ use Rattle.state_rules.proofs.NumberLaws.{number-part, channel-part, kind-part,
 use Rattle.state_rules.specs.Calls.{Service, served, kindNumber, answerFrom, attentionServed, stepLeft, stepServed}
 use Rattle.state_rules.specs.{Conditions.Bytes, Layout.bytesOf, Layout.stateIn, Layout.isState}
 use Rattle.service.proofs.OutcomeLaws.{attention-stays, step-stays}
-use Rattle.schedule.specs.Counts.{onceIf, isInstruction, isTransfer, isExternal, isDone, storesBy, waitsForDrq}
-use Rattle.schedule.specs.{Reports.reportOf, Rows.Bench, Rows.bench, Rows.rowLeft, declared.ScheduleRow.ScheduleRow}
-use Rattle.schedule.proofs.{RowLaws.countsOpen, StoreLaws.transfer-chosen, StoreLaws.transfer-count, StoreLaws.stores-most}
+use Rattle.schedule_rules.specs.Counts.{onceIf, isInstruction, isTransfer, isExternal, isDone, storesBy, waitsForDrq}
+use Rattle.schedule_rules.specs.{Reports.reportOf, Rows.Bench, Rows.bench, Rows.rowLeft, declared.ScheduleRow.ScheduleRow}
+use Rattle.schedule_rules.proofs.{RowLaws.countsOpen, StoreLaws.transfer-chosen, StoreLaws.transfer-count, StoreLaws.stores-most}
 use Rattle.schedule_calls.specs.Turns.{Standing, standing, RowRun, attentionRow, stepRow}
 use Rattle.schedule_calls.specs.{Words.addedAll, Words.attentionAdds, Words.stepAdds, declared.finding.Found.Found}
 use Rattle.schedule_calls.proofs.WordLaws.{FitWords, CountedAs, adds-are}

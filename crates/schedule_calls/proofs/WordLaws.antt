@@ -6,7 +6,7 @@ use native.Mathlib.{Numerals.add-one, Omega.arith}
 use borrow.Author.Tests.{ltb-true}
 use lib.{Dec.ltb, ListN.length, ListN.getD, ListN.set, ListN.replicate, ListN.length-set, Seq.set-getD}
 use Rattle.ground_rules.proofs.ChoiceLaws.{both-left, both-right}
-use Rattle.schedule.specs.Reports.{noReport, putOver}
+use Rattle.schedule_rules.specs.Reports.{noReport, putOver}
 use Rattle.schedule_calls.specs.Words.{addedAt, addedAll, addedOn}
 
 -- ---- cleared

@@ -3,7 +3,7 @@ use mathlib.Core.{Bool.true, List.List, Path._≡_}
 use Prim.Native.Nat.{ℕ}
 use Rattle.ground_rules.specs.Choice.{pick}
 use Rattle.state_rules.specs.Layout.{bytesOf, stateIn, isState}
-use Rattle.schedule.specs.{Reports.noReport, Reports.Scheduled, Reports.scheduleOf, Reports.putOver, declared.ScheduleRow.ScheduleRow}
+use Rattle.schedule_rules.specs.{Reports.noReport, Reports.Scheduled, Reports.scheduleOf, Reports.putOver, declared.ScheduleRow.ScheduleRow}
 use Rattle.schedule_calls.specs.Turns.{Standing, standing, benchIn}
 
 -- what the call leaves: its answer, the state's bytes, both memories and the report's words

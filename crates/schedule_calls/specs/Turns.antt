@@ -3,7 +3,7 @@ use mathlib.Core.{Bool.true, Bool._||_, List.List, List.[], List._鈭穇, Path._鈮
 use Prim.Native.Nat.{鈩晑
 use Rattle路ground_rules.specs.Buffers.{Buffers}
 use Rattle路state_rules.specs.Layout.{bytesOf, stateIn, isState}
-use Rattle路schedule.specs.{Reports.reportOf, Rows.Bench, Rows.bench, Rows.isAttention, Rows.isStep, Rows.rowLeft, declared.ScheduleRow.ScheduleRow}
+use Rattle路schedule_rules.specs.{Reports.reportOf, Rows.Bench, Rows.bench, Rows.isAttention, Rows.isStep, Rows.rowLeft, declared.ScheduleRow.ScheduleRow}
 use Rattle路schedule_calls路specs.specs.Words.{addedOn}
 
 -- a state's bytes, both memories and the report's words

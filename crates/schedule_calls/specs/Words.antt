@@ -3,7 +3,7 @@ use mathlib.Core.{Bool.Bool, List.List, List.[], List._∷_}
 use Prim.Native.Nat.{ℕ, _+_, _*_, _/_, _%_, _^_}
 use lib.{Dec.eqb, ListN.getD, ListN.set}
 use Rattle.ground_rules.specs.Choice.{pick}
-use Rattle.schedule.specs.Counts.{onceIf}
+use Rattle.schedule_rules.specs.Counts.{onceIf}
 
 -- a number added to one word, where that is lent, as the code adds
 unfoldable pub addedAt : ℕ → ℕ → List ℕ → List ℕ

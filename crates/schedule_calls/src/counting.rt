@@ -4,7 +4,7 @@ ghost use mathlib.Core.Path.{_≡_};
 ghost use Prim.Native.Nat.{_-_, _/_, _%_, _≤_};
 ghost use lib.{Dec.eqb, ListN.set};
 ghost use Rattle.ground_rules.specs.Choice.{pick};
-ghost use Rattle.schedule.specs.Reports.{noReport, putOver};
+ghost use Rattle.schedule_rules.specs.Reports.{noReport, putOver};
 ghost use Rattle.schedule_calls.specs.Words.{addedAt, addedAll, attentionAdds, stepAdds};
 
 // Clears one word.

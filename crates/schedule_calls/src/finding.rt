@@ -6,7 +6,7 @@ ghost use lib.{Dec.ltb, ListN.length};
 ghost use Rattle.ground_rules.specs.{Buffers.Buffers, Psw.transferring};
 ghost use Rattle.transfer_rules.specs.{Parts.partOf, Steps.readsBy};
 ghost use Rattle.turn_rules.specs.Choosing.{requested};
-ghost use Rattle.schedule.specs.Counts.{waitsForDrq};
+ghost use Rattle.schedule_rules.specs.Counts.{waitsForDrq};
 
 // Whether a channel waits for its DRQ, and how many bytes its next transfer step reads.
 pub(crate) struct Found {

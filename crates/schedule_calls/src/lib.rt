@@ -1,9 +1,9 @@
 // A bench schedule for C: rows are run from a state's bytes, and their report is left in lent words.
-use schedule::ScheduleRow;
+use schedule_rules::ScheduleRow;
 ghost use mathlib.Core.{Bool.true, Bool._||_, Path._≡_};
 ghost use Rattle.ground_rules.specs.{Choice.pick, Buffers.lent};
 ghost use Rattle.state_rules.specs.Layout.{bytesOf, stateIn, isState};
-ghost use Rattle.schedule.specs.{Reports.noReport, Reports.putOver, Rows.isAttention, Rows.isStep, Rows.allKnown};
+ghost use Rattle.schedule_rules.specs.{Reports.noReport, Reports.putOver, Rows.isAttention, Rows.isStep, Rows.allKnown};
 ghost use Rattle.schedule_calls.specs.Calls.{ScheduleMet};
 ghost use Rattle.schedule_calls.specs.Turns.{standing, StateBytes, RowRun, TurnReady, Turned, attentionRow, stepRow};
 

@@ -43,8 +43,8 @@ use denote.Triple.Spec.{Meets, tripleOf}
 use denote.Triple.Table.{entered, cited}
 use denote.Triple.Walked.{says, Stays, stay-dropped, gave-slice, walkOf, goes-dropped, goes-gave-slice, Walks, ends-at, walked, walk-meets}
 use denote.Exit.{yes}
-use Rattle.schedule.specs.declared.ScheduleRow.{ScheduleRow}
-use Rattle.schedule.proofs.ScheduleRow as R
+use Rattle.schedule_rules.specs.declared.ScheduleRow.{ScheduleRow}
+use Rattle.schedule_rules.proofs.ScheduleRow as R
 use Rattle.schedule_calls.proofs.counting.clear as clear
 use Rattle.schedule_calls.proofs.counting.clear.Symbol as clear-def
 use Rattle.schedule_calls.proofs.counting.clear.Symbol.{name as #clear}
@@ -52,8 +52,8 @@ use Rattle.schedule_calls.proofs.counting.clear.Met as clear-thm
 use Rattle.schedule_calls.proofs.iop89_schedule.Symbol as schedule-def
 use Rattle.schedule_calls.proofs.iop89_schedule.Symbol.{name as #schedule}
 use Rattle.schedule_calls.proofs.iop89_schedule.Met as schedule-thm
-use Rattle.processors.specs.Lifting.{liftedTo}
-use Rattle.processors.specs.Processors.{Processors, processors, Memories, memories}
+use Rattle.processor_rules.specs.Lifting.{liftedTo}
+use Rattle.processor_rules.specs.Processors.{Processors, processors, Memories, memories}
 use Rattle.processor_calls.specs.Calls.{reported, zerosOver, scheduledAs, pairSchedule}
 use Rattle.processor_calls.proofs.NamedLaws.{leaves-one, leaves-two, leaves-none}
 use Rattle.processor_calls.proofs.Passing.{LentSlice, reference, machineValue, as-lent, number32, ref8, slice8, ref64, slice64, token, bytesAt, wordsAt, rowsAt, rooms, lastBytes, lastWords, freed, gives-up, Schedule, scheduleBound, Lists, Returned, given-back, asks, gives}

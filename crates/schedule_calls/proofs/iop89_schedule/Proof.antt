@@ -26,14 +26,14 @@ use denote.Slice.{sliceTy, sliceVal, ShrSlice, MutSlice, Room, slice-vals, shr-s
 use denote.{Plain.uint-makes, Plain.uint-tells, Plain.uint-lawful, Plain.bool-makes, Plain.bool-tells, Plain.bool-lawful, Plain.nothing-lawful, Exit.yes}
 use Rattle.ground_rules.specs.{Choice.pick, Buffers.buffers}
 use Rattle.state_rules.specs.Layout.{bytesOf, stateIn, isState}
-use Rattle.schedule.specs.{Reports.noReport, Reports.putOver, Rows.allKnown, declared.ScheduleRow.ScheduleRow}
+use Rattle.schedule_rules.specs.{Reports.noReport, Reports.putOver, Rows.allKnown, declared.ScheduleRow.ScheduleRow}
 use Rattle.schedule_calls.specs.{Calls.ScheduleMet, Turns.Standing, Turns.standing, Turns.Turned}
 use Rattle.schedule_calls.proofs.RunLaws.{noRow, firstNumber, Back, Along, along-start, along-ready, along-next, along-end, ends-by, lt-or-ge}
 use Rattle.schedule_calls.proofs.{Again.LentAgain, Again.lends-again, Again.comes-back, known.Symbol.name as #known, begin.Symbol.name as #begin}
 use Rattle.schedule_calls.proofs.{turn.Symbol.name as #turn, iop89_schedule.Key.name as #schedule}
 use denote.Struct.Laws as LL
-use Rattle.schedule.proofs.ScheduleRow as R
-use Rattle.schedule.proofs.ScheduleRow.Laws as R′
+use Rattle.schedule_rules.proofs.ScheduleRow as R
+use Rattle.schedule_rules.proofs.ScheduleRow.Laws as R′
 use Rattle.schedule_calls.proofs.known
 use Rattle.schedule_calls.proofs.begin
 use Rattle.schedule_calls.proofs.turn

@@ -23,11 +23,11 @@ use denote.{RattleType.owns, Laws.Is, Laws.shows, Memory.pointee, Memory.shares,
 use denote.Slice.{sliceTy, sliceVal, ShrSlice, Room, slice-vals, shr-slice-tells, codedHoleys, heres, at-slice}
 use denote.Triple.{Table.entered, Table.cited, Walked.says, Walked.Stays, Walked.stay-none-slice, Walked.walkOf, Walked.goes-none-slice, Walked.ends-at}
 use denote.{Triple.Walked.walked, Triple.Walked.walk-meets, Exit.yes}
-use Rattle.schedule.specs.{declared.ScheduleRow.ScheduleRow, Rows.isAttention, Rows.isStep, Rows.allKnown}
+use Rattle.schedule_rules.specs.{declared.ScheduleRow.ScheduleRow, Rows.isAttention, Rows.isStep, Rows.allKnown}
 use Rattle.schedule_calls.proofs.{RunLaws.noRow, RunLaws.ends-by, RunLaws.lt-or-ge, is_row.Symbol.name as #is-row, known.Key.name as #known}
 use denote.Struct.Laws as LL
-use Rattle.schedule.proofs.ScheduleRow as R
-use Rattle.schedule.proofs.ScheduleRow.Laws as R′
+use Rattle.schedule_rules.proofs.ScheduleRow as R
+use Rattle.schedule_rules.proofs.ScheduleRow.Laws as R′
 use Rattle.schedule_calls.proofs.is_row as is-row
 use Rattle.schedule_calls.proofs.known
 use Rattle.schedule_calls.proofs.known.Code as code

@@ -35,8 +35,8 @@ use denote.Triple.Spec.{Meets, tripleOf}
 use denote.Triple.Table.{entered, cited}
 use denote.Triple.Walked.{says, Stays, stay-dropped, gave-slice, walkOf, goes-dropped, goes-gave-slice, Walks, ends-at, walked, walk-meets}
 use denote.Exit.{yes}
-use Rattle.schedule.specs.declared.ScheduleRow.{ScheduleRow}
-use Rattle.schedule.proofs.ScheduleRow as R
+use Rattle.schedule_rules.specs.declared.ScheduleRow.{ScheduleRow}
+use Rattle.schedule_rules.proofs.ScheduleRow as R
 use Rattle.schedule_calls.proofs.iop89_schedule.Symbol as schedule-def
 use Rattle.schedule_calls.proofs.iop89_schedule.Symbol.{name as #schedule}
 use Rattle.schedule_calls.proofs.iop89_schedule.Met as schedule-thm

@@ -6,7 +6,7 @@ use native.Mathlib.Omega.{arith}
 use borrow.Author.Needs.{needs}
 use lib.ListN.{length, set, replicate}
 use denote.Ref.{now}
-use Rattle.schedule.specs.Reports.{putOver}
+use Rattle.schedule_rules.specs.Reports.{putOver}
 use Rattle.schedule_calls.proofs.{WordLaws.clear-next, WordLaws.over-length, counting.clear.Statement.statement}
 use Rattle.schedule_calls.proofs.counting.clear.Tie as tie
 

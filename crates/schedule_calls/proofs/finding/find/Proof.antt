@@ -5,7 +5,7 @@ use borrow.Author.{Needs.needs, Tests.not-true, Tests.not-false}
 use lib.Dec.{eqb}
 use Rattle.ground_rules.proofs.ChoiceLaws.{apart, and-true, and-false}
 use Rattle.turn_rules.specs.Choosing.{requested}
-use Rattle.schedule.specs.Counts.{waitsForDrq}
+use Rattle.schedule_rules.specs.Counts.{waitsForDrq}
 use Rattle.schedule_calls.proofs.finding.find.Statement.{statement}
 use Rattle.schedule_calls.proofs.finding.find.Tie as tie
 

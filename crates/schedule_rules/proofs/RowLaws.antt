@@ -11,10 +11,10 @@ use Rattle.ground_rules.proofs.ConditionLaws.{Told, told-true, told-eqb, told-a
 use Rattle.ground_rules.specs.{Outcomes.Outcome, Choice.pick, States.channelNumber, declared.State.State, Buffers.Buffers}
 use Rattle.attention_rules.{proofs.Outcomes.refused-nothing, specs.Attention.attentionOf, proofs.Numbers.gives-12}
 use Rattle.turn_rules.{proofs.OutcomeLaws.refused, specs.Step.Step, specs.Step.stepOf, proofs.OutcomeLaws.by-step}
-use Rattle.schedule.specs.Counts.{RowCount, overRows, onceIf, acceptedAt, refusedAt, isAttentionTo, attendedAt, rejectedAt, isInstruction, isTransfer}
-use Rattle.schedule.specs.Counts.{isExternal, isDone, doneAt, instructionAt, transferAt, endAt, storedAt, waitAt}
-use Rattle.schedule.specs.Rows.{Bench, isAttention, isStep, allKnown, rowLeft, rowsLeft, bench, rowNumber}
-use Rattle.schedule.specs.{declared.ScheduleRow.ScheduleRow, Conditions.UnknownIn, Reports.reportOf}
+use Rattle.schedule_rules.specs.Counts.{RowCount, overRows, onceIf, acceptedAt, refusedAt, isAttentionTo, attendedAt, rejectedAt, isInstruction, isTransfer}
+use Rattle.schedule_rules.specs.Counts.{isExternal, isDone, doneAt, instructionAt, transferAt, endAt, storedAt, waitAt}
+use Rattle.schedule_rules.specs.Rows.{Bench, isAttention, isStep, allKnown, rowLeft, rowsLeft, bench, rowNumber}
+use Rattle.schedule_rules.specs.{declared.ScheduleRow.ScheduleRow, Conditions.UnknownIn, Reports.reportOf}
 
 -- any count of rows cut into two is the sum of the two counts
 pub over-cut : (f : RowCount) (p : Bench) (a b : List ScheduleRow) → overRows f p (a ++ b) ≡ overRows f p a + overRows f (rowsLeft p a) b

@@ -3,8 +3,8 @@ use mathlib.Core.{Bool.Bool, Bool.true, Bool.false, List.List, List.[], List._�
 use Prim.Native.Nat.{ℕ, _+_}
 use lib.ListN.{replicate}
 use Rattle.ground_rules.specs.Choice.{pick}
-use Rattle.schedule.specs.Counts.{RowCount, overRows, acceptedAt, refusedAt, attendedAt, rejectedAt, instructionAt, transferAt, storedAt, endAt, waitAt}
-use Rattle.schedule.specs.{Rows.Bench, Rows.allKnown, Rows.rowsLeft, declared.ScheduleRow.ScheduleRow}
+use Rattle.schedule_rules.specs.Counts.{RowCount, overRows, acceptedAt, refusedAt, attendedAt, rejectedAt, instructionAt, transferAt, storedAt, endAt, waitAt}
+use Rattle.schedule_rules.specs.{Rows.Bench, Rows.allKnown, Rows.rowsLeft, declared.ScheduleRow.ScheduleRow}
 
 -- what is counted of a channel, in its order: attentions done and refused, instructions, transfer steps, bytes stored, external ends, waiting rows
 abbrev pub channelCounts : Bool → List RowCount

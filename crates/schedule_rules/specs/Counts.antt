@@ -9,7 +9,7 @@ use Rattle.transfer_rules.specs.{Parts.Part, Parts.Whole, Parts.FirstFetch, Par
 use Rattle.transfer_rules.specs.Halves.{firstPlace, secondPlace}
 use Rattle.turn_rules.specs.declared.Kind.{Kind, the-variants.Nothing, the-variants.Instruction, the-variants.Transfer, the-variants.External}
 use Rattle.turn_rules.specs.{Choosing.requested, Step.Step, Step.stepOf}
-use Rattle.schedule.specs.{Rows.Bench, Rows.isAttention, Rows.isStep, Rows.rowNumber, Rows.rowLeft, declared.ScheduleRow.ScheduleRow}
+use Rattle.schedule_rules.specs.{Rows.Bench, Rows.isAttention, Rows.isStep, Rows.rowNumber, Rows.rowLeft, declared.ScheduleRow.ScheduleRow}
 
 -- what is counted of a row and the bench before it
 abbrev pub RowCount : Type 0

@@ -12,10 +12,10 @@ use Rattle.attention_rules.specs.Attention.{attentionOf}
 use Rattle.turn_rules.{specs.Choosing.choiceOf, specs.declared.Choice.the-variants.Steps, proofs.ChoosingLaws.rank-none, proofs.ChoosingLaws.steps-chosen}
 use Rattle.turn_rules.specs.declared.Kind.{Kind, the-variants.Nothing, the-variants.Instruction, the-variants.Transfer, the-variants.External}
 use Rattle.turn_rules.specs.{Choosing.requested, Choosing.noRank, Choosing.transferRank, Choosing.rankOf, Step.stepOf}
-use Rattle.schedule.specs.Counts.{onceIf, isTransfer, isDone, doneAt, transferAt, waitsForDrq, waitAt, attendedAt, rejectedAt, isInstruction, isExternal, instructionAt, endAt}
-use Rattle.schedule.specs.Conditions.{FoundWaiting, AttentionRow, StepRow}
-use Rattle.schedule.specs.{Rows.Bench, Rows.isStep, declared.ScheduleRow.ScheduleRow}
-use Rattle.schedule.proofs.{RowLaws.once-exactly, StoreLaws.transfer-chosen}
+use Rattle.schedule_rules.specs.Counts.{onceIf, isTransfer, isDone, doneAt, transferAt, waitsForDrq, waitAt, attendedAt, rejectedAt, isInstruction, isExternal, instructionAt, endAt}
+use Rattle.schedule_rules.specs.Conditions.{FoundWaiting, AttentionRow, StepRow}
+use Rattle.schedule_rules.specs.{Rows.Bench, Rows.isStep, declared.ScheduleRow.ScheduleRow}
+use Rattle.schedule_rules.proofs.{RowLaws.once-exactly, StoreLaws.transfer-chosen}
 
 -- a row counts for a channel exactly where it found it waiting, whatever became of the row
 pub wait-exactly : (second : Bool) (p : Bench) (r : ScheduleRow) → waitAt second p r ≡ 1 ↔ FoundWaiting second p r

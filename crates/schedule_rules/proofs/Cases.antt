@@ -17,9 +17,9 @@ use Rattle.transfer_rules.specs.Sides.{source, destination, wordSide, secondAdd
 use Rattle.transfer_rules.specs.Steps.{badMode, transferOf, stepBy, numberBy, stagesBy, channelBy, memoryBy, touchedBy}
 use Rattle.turn_rules.specs.Choosing.{requested, external, endsNow, transferRank, rankOf, secondWins, ranked, choiceOf}
 use Rattle.turn_rules.specs.Step.{settledStep, transferStep, channelStep, chosenStep, entryNumber, stepOf}
-use Rattle.schedule.specs.Rows.{Bench, bench, allKnown, rowLeft}
-use Rattle.schedule.specs.{Counts.storesBy, Counts.waitsForDrq, Reports.reportOf, Reports.scheduleOf, declared.ScheduleRow.ScheduleRow}
-use Rattle.schedule.proofs.RowLaws.{countsOpen}
+use Rattle.schedule_rules.specs.Rows.{Bench, bench, allKnown, rowLeft}
+use Rattle.schedule_rules.specs.{Counts.storesBy, Counts.waitsForDrq, Reports.reportOf, Reports.scheduleOf, declared.ScheduleRow.ScheduleRow}
+use Rattle.schedule_rules.proofs.RowLaws.{countsOpen}
 
 -- a row, by its kind
 abbrev row : ℕ → ℕ → ScheduleRow

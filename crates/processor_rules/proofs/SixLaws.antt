@@ -24,14 +24,14 @@ use Rattle.sweep_rules.proofs.ConditionLaws.{sweep-given}
 use Rattle.sweep_rules.proofs.PassedLaws.{refused-sweep, number-is}
 use Rattle.sweep_rules.specs.Conditions.{sweepChecks}
 use Rattle.sweep_rules.specs.Sweep.{Sweep}
-use Rattle.schedule.proofs.RowLaws.{told-known}
-use Rattle.schedule.specs.Conditions.{UnknownIn}
-use Rattle.schedule.specs.Reports.{noReport, allRun, noneRun, scheduleOf}
-use Rattle.schedule.specs.Rows.{Bench, bench, allKnown}
-use Rattle.schedule.specs.declared.ScheduleRow.{ScheduleRow}
-use Rattle.processors.specs.Calls.{CallAnswer, StepAnswer, SweepAnswer, ScheduleAnswer, callAnswer, stepAnswer, sweepAnswer, scheduleAnswer, attentionGives, stepGives, resetGives, powerUpGives, sweepGives, scheduleGives, attentionOn, stepOn, resetOn, powerUpOn, sweepOn, scheduleOn}
-use Rattle.processors.specs.Lifts.{SixCalls}
-use Rattle.processors.proofs.LiftLaws.{lifts, lifted-numbers}
+use Rattle.schedule_rules.proofs.RowLaws.{told-known}
+use Rattle.schedule_rules.specs.Conditions.{UnknownIn}
+use Rattle.schedule_rules.specs.Reports.{noReport, allRun, noneRun, scheduleOf}
+use Rattle.schedule_rules.specs.Rows.{Bench, bench, allKnown}
+use Rattle.schedule_rules.specs.declared.ScheduleRow.{ScheduleRow}
+use Rattle.processor_rules.specs.Calls.{CallAnswer, StepAnswer, SweepAnswer, ScheduleAnswer, callAnswer, stepAnswer, sweepAnswer, scheduleAnswer, attentionGives, stepGives, resetGives, powerUpGives, sweepGives, scheduleGives, attentionOn, stepOn, resetOn, powerUpOn, sweepOn, scheduleOn}
+use Rattle.processor_rules.specs.Lifts.{SixCalls}
+use Rattle.processor_rules.proofs.LiftLaws.{lifts, lifted-numbers}
 
 -- a schedule's number: 16 for a row of no known kind
 pub schedule-given : (p : Bench) (rows : List ScheduleRow) (n : ℕ) → (scheduleOf p rows .number ≡ n) ↔ Given (check 16 (UnknownIn rows) ∷ []) n

@@ -3,7 +3,7 @@ use mathlib.Core.{Bool.Bool, Bool.true, Bool.false, List.List, List.[], List._�
 use Prim.Native.Nat.{_<_}
 use Rattle.ground_rules.specs.{Psw.transferring, States.channelOf, States.channelNumber, declared.Mode.the-variants.Running}
 use Rattle.turn_rules.specs.{Choosing.requested, Step.stepOf, declared.Kind.Kind}
-use Rattle.schedule.specs.{Rows.Bench, declared.ScheduleRow.ScheduleRow}
+use Rattle.schedule_rules.specs.{Rows.Bench, declared.ScheduleRow.ScheduleRow}
 
 -- 16: a row's kind is neither 1 nor 2
 abbrev pub UnknownIn : List ScheduleRow → Type 0

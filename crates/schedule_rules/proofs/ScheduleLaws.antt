@@ -9,12 +9,12 @@ use lib.{Dec.ltb, ListN.length, ListN.getD, ListN.replicate}
 use Rattle.ground_rules.proofs.{ConditionLaws.told-exactly, ChoiceLaws.both-left, ChoiceLaws.both-right}
 use Rattle.ground_rules.specs.{States.channelOf, Choice.pick}
 use Rattle.turn_rules.specs.{Choosing.requested, declared.Kind.Kind}
-use Rattle.schedule.specs.Counts.{RowCount, onceIf, overRows, acceptedAt, refusedAt, isAttentionTo, attendedAt, rejectedAt, isInstruction, isTransfer, isExternal, doneAt, instructionAt, transferAt, storedAt, endAt, waitsForDrq, waitAt}
-use Rattle.schedule.specs.Rows.{Bench, isAttention, isStep, allKnown, rowLeft, rowsLeft}
-use Rattle.schedule.specs.Reports.{channelCounts, allCounts, reportOf, bothReports, allRun, noneRun, scheduleOf}
-use Rattle.schedule.specs.{Conditions.UnknownIn, declared.ScheduleRow.ScheduleRow}
-use Rattle.schedule.proofs.RowLaws.{once-one, accepted-or-refused, attentions-of, accepted-is, told-known, known-cut, left-cut, over-cut}
-use Rattle.schedule.proofs.StoreLaws.{stored-most, stored-two}
+use Rattle.schedule_rules.specs.Counts.{RowCount, onceIf, overRows, acceptedAt, refusedAt, isAttentionTo, attendedAt, rejectedAt, isInstruction, isTransfer, isExternal, doneAt, instructionAt, transferAt, storedAt, endAt, waitsForDrq, waitAt}
+use Rattle.schedule_rules.specs.Rows.{Bench, isAttention, isStep, allKnown, rowLeft, rowsLeft}
+use Rattle.schedule_rules.specs.Reports.{channelCounts, allCounts, reportOf, bothReports, allRun, noneRun, scheduleOf}
+use Rattle.schedule_rules.specs.{Conditions.UnknownIn, declared.ScheduleRow.ScheduleRow}
+use Rattle.schedule_rules.proofs.RowLaws.{once-one, accepted-or-refused, attentions-of, accepted-is, told-known, known-cut, left-cut, over-cut}
+use Rattle.schedule_rules.proofs.StoreLaws.{stored-most, stored-two}
 
 -- ---- 16
 

@@ -5,7 +5,7 @@ use lib.Dec.{eqb}
 use Rattle.ground_rules.specs.{Choice.pick, Buffers.Buffers, declared.State.State}
 use Rattle.attention_rules.specs.Attention.{attentionOf}
 use Rattle.turn_rules.specs.Step.{stepOf}
-use Rattle.schedule.specs.declared.ScheduleRow.{ScheduleRow}
+use Rattle.schedule_rules.specs.declared.ScheduleRow.{ScheduleRow}
 
 -- a row of kind 1 is an attention to the channel that its value names
 abbrev pub isAttention : ScheduleRow → Bool

@@ -3,7 +3,7 @@ use mathlib.Core.Bool.{Bool}
 use Prim.Native.Nat.{ℕ}
 use Rattle.ground_rules.specs.Choice.{pick}
 use Rattle.ground_rules.specs.Buffers.{Buffers}
-use Rattle.processors.specs.Processors.{Processors, Memories, isProcessor, processorNamed, processorOf, withProcessor, buffersOf, withBuffers}
+use Rattle.processor_rules.specs.Processors.{Processors, Memories, isProcessor, processorNamed, processorOf, withProcessor, buffersOf, withBuffers}
 
 -- what a call of one processor gives: its answer, its state and both memories after it
 pub record Called (S A : Type 0) : Type 0 where

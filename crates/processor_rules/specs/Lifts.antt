@@ -11,12 +11,12 @@ use Rattle.attention_rules.specs.PowerConditions.{powerChecks}
 use Rattle.turn_rules.specs.Conditions.{stepChecks}
 use Rattle.turn_rules.specs.declared.Kind.the-variants.{Nothing}
 use Rattle.sweep_rules.specs.Conditions.{sweepChecks}
-use Rattle.schedule.specs.Conditions.{UnknownIn}
-use Rattle.schedule.specs.Reports.{noReport}
-use Rattle.schedule.specs.declared.ScheduleRow.{ScheduleRow}
-use Rattle.processors.specs.Calls.{CallAnswer, StepAnswer, SweepAnswer, ScheduleAnswer, callAnswer, stepAnswer, sweepAnswer, scheduleAnswer, attentionGives, stepGives, resetGives, powerUpGives, sweepGives, scheduleGives, attentionOn, stepOn, resetOn, powerUpOn, sweepOn, scheduleOn}
-use Rattle.processors.specs.Lifting.{Called, calledWith, Lifted, liftedTo}
-use Rattle.processors.specs.Processors.{Processors, processors, Memories, memories, processorNamed, processorNumber, processorOf, ioOf, buffersOf}
+use Rattle.schedule_rules.specs.Conditions.{UnknownIn}
+use Rattle.schedule_rules.specs.Reports.{noReport}
+use Rattle.schedule_rules.specs.declared.ScheduleRow.{ScheduleRow}
+use Rattle.processor_rules.specs.Calls.{CallAnswer, StepAnswer, SweepAnswer, ScheduleAnswer, callAnswer, stepAnswer, sweepAnswer, scheduleAnswer, attentionGives, stepGives, resetGives, powerUpGives, sweepGives, scheduleGives, attentionOn, stepOn, resetOn, powerUpOn, sweepOn, scheduleOn}
+use Rattle.processor_rules.specs.Lifting.{Called, calledWith, Lifted, liftedTo}
+use Rattle.processor_rules.specs.Processors.{Processors, processors, Memories, memories, processorNamed, processorNumber, processorOf, ioOf, buffersOf}
 
 -- what a processor gets of a call on two: the answer, its own state, system memory and its own I/O memory
 abbrev pub seenBy : {S A : Type 0} → Bool → Lifted S A → Called S A

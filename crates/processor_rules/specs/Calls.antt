@@ -11,11 +11,11 @@ use Rattle.turn_rules.specs.Touched.{stepCount}
 use Rattle.turn_rules.specs.declared.Kind.{Kind}
 use Rattle.turn_rules.specs.declared.Kind.the-variants.{Nothing}
 use Rattle.sweep_rules.specs.Sweep.{sweepOf}
-use Rattle.schedule.specs.Reports.{noReport, scheduleOf}
-use Rattle.schedule.specs.Rows.{bench}
-use Rattle.schedule.specs.declared.ScheduleRow.{ScheduleRow}
-use Rattle.processors.specs.Lifting.{Called, calledWith, Lifted, lifted}
-use Rattle.processors.specs.Processors.{Processors, Memories}
+use Rattle.schedule_rules.specs.Reports.{noReport, scheduleOf}
+use Rattle.schedule_rules.specs.Rows.{bench}
+use Rattle.schedule_rules.specs.declared.ScheduleRow.{ScheduleRow}
+use Rattle.processor_rules.specs.Lifting.{Called, calledWith, Lifted, lifted}
+use Rattle.processor_rules.specs.Processors.{Processors, Memories}
 
 -- ---- what each call answers
 

@@ -13,9 +13,9 @@ use Rattle.transfer_rules.specs.Stores.{storesTwo, placesOn, storedPlaces}
 use Rattle.transfer_rules.specs.{Reads.dataOf, Reads.also, Sides.destination, Steps.touchedBy, Steps.readsBy, Steps.touchedByTransfer}
 use Rattle.turn_rules.{proofs.OutcomeLaws.by-step, specs.Choosing.choiceOf, specs.Step.Step, specs.Step.entryNumber, specs.Step.stepOf, specs.Touched.touchedIn}
 use Rattle.turn_rules.specs.{Touched.touchedByStep, Touched.stepCount, declared.Choice.the-variants.Steps}
-use Rattle.schedule.specs.Counts.{onceIf, isTransfer, isDone, doneAt, transferAt, storesBy, storedAt}
-use Rattle.schedule.specs.{Rows.Bench, Rows.isStep, declared.ScheduleRow.ScheduleRow}
-use Rattle.schedule.proofs.RowLaws.{once-one, once-exactly}
+use Rattle.schedule_rules.specs.Counts.{onceIf, isTransfer, isDone, doneAt, transferAt, storesBy, storedAt}
+use Rattle.schedule_rules.specs.{Rows.Bench, Rows.isStep, declared.ScheduleRow.ScheduleRow}
+use Rattle.schedule_rules.proofs.RowLaws.{once-one, once-exactly}
 
 -- what a transfer step touches is what it reads and then what it stores
 pub touched-apart : (k : Part) (c : Channel) (m : Buffers) → touchedBy k c m ≡ readsBy k c m ++ storesBy k c m

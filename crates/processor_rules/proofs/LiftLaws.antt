@@ -13,9 +13,9 @@ use Rattle.ground_rules.specs.Conditions.{Check, Given}
 use Rattle.ground_rules.specs.States.{isChannel, isSecond, channelNumber}
 use Rattle.ground_rules.proofs.ChannelLaws.{named}
 use Rattle.ground_rules.proofs.ConditionLaws.{Told, told-eqb, told-or, told-exactly}
-use Rattle.processors.specs.Lifting.{Called, calledWith, Lifted, liftedTo, calledOn, lifted}
-use Rattle.processors.specs.Lifts.{seenBy, SameFor, LeftAlone, NoProcessor, Lifts, checksOn, Numbers}
-use Rattle.processors.specs.Processors.{Processors, processors, Memories, memories, isProcessor, processorNamed, processorNumber, processorOf, withProcessor, ioOf, buffersOf, withBuffers}
+use Rattle.processor_rules.specs.Lifting.{Called, calledWith, Lifted, liftedTo, calledOn, lifted}
+use Rattle.processor_rules.specs.Lifts.{seenBy, SameFor, LeftAlone, NoProcessor, Lifts, checksOn, Numbers}
+use Rattle.processor_rules.specs.Processors.{Processors, processors, Memories, memories, isProcessor, processorNamed, processorNumber, processorOf, withProcessor, ioOf, buffersOf, withBuffers}
 
 -- ---- what is put under a name
 
