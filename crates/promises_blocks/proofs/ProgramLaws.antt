@@ -35,7 +35,7 @@ use Rattle.block_rules.specs.Premises.{from, into, Plain}
 use Rattle.promises_blocks.specs.Program.{Job, systemPlace, fromPlace, intoPlace, programOf, haltAt, stepsOf}
 use Rattle.promises.specs.Runs.{DoneSteps, more}
 use Rattle.block_rules.specs.Stages.{onBy}
-use Rattle.block_rules.specs.Totals.{narrow, alone, total}
+use Rattle.block_rules.specs.Totals.{narrow, alone, total, movedAfter}
 use Rattle.promises.specs.Witness.{channelWith}
 use Rattle.promises_blocks.proofs.AloneLaws.{program-turn, alone-next, instruction-done}
 use Rattle.promises_blocks.proofs.Joined.{busy-same}
@@ -207,16 +207,22 @@ module _ (j : Job) (tp : Pointer) (c : Channel) (seen : viewOf c ≡ begins j tp
         agree = a;
       }
 
--- the total depends on the sides alone
-total-same : (c d : Channel) (n : ℕ) → source c ≡ source d → destination c ≡ destination d → total c n ≡ total d n
-unfolding total narrow alone
-total-same c d n e f = rw (e, f)
+-- the total depends on the sides alone, and so do the bytes that have moved
+total-same : (c d : Channel) (n : ℕ) → source c ≡ source d → destination c ≡ destination d
+    → (total c n ≡ total d n) × ((k : ℕ) → movedAfter c n k ≡ movedAfter d n k)
+unfolding total movedAfter narrow alone
+total-same c d n e f = (rw (e, f), λ k. rw (e, f))
 
--- so it is the job's
-pub total-is : (j : Job) (tp : Pointer) (c : Channel) → viewOf c ≡ begins j tp → fieldsAgree c ≡ true → total c (j .count) ≡ stepsOf j
+-- the channel of a job
+abbrev pub copier : Job → Channel
+copier j = copying (fromPlace j .address) (intoPlace j .address) (j .fromWide) (j .intoWide) (j .count)
+
+-- so they are the job's
+pub total-is : (j : Job) (tp : Pointer) (c : Channel) → viewOf c ≡ begins j tp → fieldsAgree c ≡ true
+    → (total c (j .count) ≡ stepsOf j) × ((k : ℕ) → movedAfter c (j .count) k ≡ movedAfter (copier j) (j .count) k)
 unfolding copying channelWith
 total-is j tp c seen a =
-    let d = copying (fromPlace j .address) (intoPlace j .address) (j .fromWide) (j .intoWide) (j .count) in
+    let d = copier j in
     let e = agrees d refl in
     total-same c d (j .count)
     (source-is j tp c seen a ∙ sym (source-is j (pointer 0 false) d refl e))

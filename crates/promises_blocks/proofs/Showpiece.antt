@@ -37,13 +37,13 @@ use Rattle.block_rules.specs.Premises.{from, into, Lent, ShareNone, Copy}
 use Rattle.promises_blocks.specs.Program.{Job, Layout, fromPlace, intoPlace, pbPlace, programPlace, blockAt, busyAt, programOf, haltAt, stepsOf, Ready, BlockMoved, RunCopies, runIn, Showpiece, ShowpieceCall, RowMade, mostBy, FitsExactly}
 use Rattle.promises.specs.Runs.{DoneSteps, firstAttention, startChecks, none}
 use Rattle.block_rules.specs.Stages.{onBy, Outside}
-use Rattle.block_rules.specs.Totals.{narrow, total}
+use Rattle.block_rules.specs.Totals.{narrow, total, movedAfter}
 use Rattle.promises.specs.Witness.{channelWith}
 use Rattle.promises_blocks.proofs.AloneLaws.{through}
 use Rattle.promises.proofs.CaseLaws.{pointer-given}
 use Rattle.block_rules.proofs.CountLaws.{total-narrow, total-wide, alone-none, alone-one}
 use Rattle.promises_blocks.proofs.Joined.{busy-same, run-halts}
-use Rattle.promises_blocks.proofs.ProgramLaws.{Come, begins, six, program-runs, from-is, into-is, plain-is, total-is, place-is, on-twice}
+use Rattle.promises_blocks.proofs.ProgramLaws.{Come, begins, copier, six, program-runs, from-is, into-is, plain-is, total-is, place-is, on-twice}
 use Rattle.promises_blocks.proofs.ProgramStart.{Starts, Begun, begun, fresh-still, fresh-view, fresh-alone}
 use Rattle.promises_blocks.proofs.ProgramSteps.{View, viewOf}
 use Rattle.promises.proofs.StandLaws.{on-index, stand-on, stand-kept}
@@ -133,7 +133,10 @@ module _ {j : Job} {l : Layout} {m : Buffers} {lines limit : ℕ} (r : Ready j l
   program-at = program-runs j (onBy (programPlace l) haltAt) c₁ (come .seen) agree₁
 
   pub total-at : total c₁ n ≡ stepsOf j
-  total-at = total-is j (onBy (programPlace l) haltAt) c₁ (come .seen) agree₁
+  total-at = total-is j (onBy (programPlace l) haltAt) c₁ (come .seen) agree₁ .0
+
+  pub moved-at : (k : ℕ) → movedAfter c₁ n k ≡ movedAfter (copier j) n k
+  moved-at = total-is j (onBy (programPlace l) haltAt) c₁ (come .seen) agree₁ .1
 
   -- what is lent is lent
   kept : (u : Bool) (a : ℕ) → lentAt m₀ u a ≡ lentAt m u a

@@ -23,10 +23,9 @@ use Rattle.promises.{specs.Witness.channelWith, proofs.StandLaws.stand-on}
 use Rattle.promises_blocks.specs.{Joined.RunsAlone, Met.zeros, Met.copying, Program.Job, Program.busyAt, Program.Ready}
 use Rattle.promises_blocks.specs.Image.{put, WholeSystem, layoutOf, copyOf, imageIn}
 use Rattle.promises_blocks.proofs.AloneLaws.{going-turn, alone-next, alone-written, accepts, alone-attended}
-use Rattle.promises_blocks.proofs.{CopyWitness.zeros-within, ProgramLaws.source-is, ProgramLaws.destination-is, ProgramSteps.View}
-use Rattle.promises_blocks.proofs.ProgramStart.{Starts, starts-given, halts-at-once}
+use Rattle.promises_blocks.proofs.{CopyWitness.zeros-within, ProgramStart.Starts, ProgramStart.starts-given, ProgramStart.halts-at-once, ProgramSteps.View}
 use Rattle.promises_blocks.proofs.ImageLaws.{put-length, put-other, differ, whole-lent, whole-touchable, whole-put, whole-stand, zeros-whole, ready-met}
-use Rattle.promises_blocks.proofs.Showpiece.{come, copy, comes, source-at, destination-at, control-at, parameters-at, program-at, total-at}
+use Rattle.promises_blocks.proofs.Showpiece.{come, copy, comes, source-at, destination-at, control-at, parameters-at, program-at, total-at, moved-at}
 use Rattle.promises_sheet.specs.SheetAttention.{outcomeTo, channelAfter}
 use Rattle.promises_pauses.specs.Pausing.{Quietly, PauseApart, Spared, PausedCalls, EndsPaused, PausedMet, pausesOf, begin, transfer, step, attention, host, suspend, resume}
 use Rattle.promises_pauses.proofs.PausedRows.{suspend-only, demand13, places-stay, off-registers}
@@ -157,17 +156,16 @@ module _ (given : Buffers) (full : WholeSystem given) (fit : ¬ (TooLong given))
   other-steps : {k : ℕ} → RowSoFar k true → RowSoFar k true
   unfolding hosted put channelNumber isRunning
   other-steps w =
-      let s = w .state in
       let m = anew w 0x05 in
       let v = hosted w 0x05 in
       let at = whole-stand (w .memory) 0 (blocks 0x05) (lit≤ tt) (w .whole) in
-      let block : blockOf s true ≡ 8 = unfold blockOf in rw (places-stay (copy ready) (program-at ready) far (w .calls) .1 ∙ control-at ready) in
-      let starts : Starts m (blockOf s true) 2 0x0E = rw block (starts-given (stand-on at 8) (stand-on at 2) refl) in
-      let waits : RunsAlone true s m 0 = record { entered = v .lone .entered; idle = ap isRunning (ends .waits (w .calls) .0) } in
+      let block : blockOf (w .state) true ≡ 8 = unfold blockOf in rw (places-stay (copy ready) (program-at ready) far (w .calls) .1 ∙ control-at ready) in
+      let starts : Starts m (blockOf (w .state) true) 2 0x0E = rw block (starts-given (stand-on at 8) (stand-on at 2) refl) in
+      let waits : RunsAlone true (w .state) m 0 = record { entered = v .lone .entered; idle = ap isRunning (ends .waits (w .calls) .0) } in
       let halts = halts-at-once waits (w .lone .idle) starts (stand-on at 14) in
       let x = rw block at (halts (rw block (λ i h. differ 9 (0x0E + i) (lit< tt) (omega arith) (λ e. omega arith)))) in
-      let o = attentionOf s m 2 in
-      let whole : WholeSystem (o .memory) = omega (arith, v .whole, lengths-kept s m 2 false) in
+      let o = attentionOf (w .state) m 2 in
+      let whole : WholeSystem (o .memory) = omega (arith, v .whole, lengths-kept (w .state) m 2 false) in
       let calls = attention (v .calls) 2 (eqb-false 2 1 refl) (rw (x .marked) (low-spared m 9 (255 ∷ []) (lit≤ tt) (v .whole))) in
       so-far (step calls 0 (ends .waits calls .1 0) (rw (x .cleared) (low-spared (o .memory) 9 (0 ∷ []) (lit≤ tt) whole)))
       (record { entered = x .entered; idle = x .still true }) (omega (arith, whole, step-lengths (o .state) (o .memory) 0 false))
@@ -183,13 +181,12 @@ module _ (given : Buffers) (full : WholeSystem given) (fit : ¬ (TooLong given))
 
   -- so in any such memory there is one
   pub paused-row : PausedMet (imageIn given job (layoutOf false))
-  unfolding movedAfter narrow alone wordSide bitOf channelNumber pausesOf whole-row hosted attended suspends resumes advances other-steps
+  unfolding channelNumber pausesOf whole-row hosted attended suspends resumes advances other-steps
   paused-row =
       let r = whole-row .calls in
       let tb = program-at ready in
-      let seen = come ready .seen in
-      let agree = copy ready .plain .agree in
-      let e : movedAfter (channelOf s₁ false) 5 2 ≡ 3 = rw (source-is job _ _ seen agree, destination-is job _ _ seen agree) in
+      let e : movedAfter (channelOf s₁ false) 5 2 ≡ 3 =
+      unfold movedAfter narrow alone copying channelWith source destination split wordSide bitOf in moved-at ready 2 in
       let end = ends .then r in
       record { state = _; memory = _; comes = comes ready; program = tb; apart = far; last = _; lastMemory = _; row = r; pauses = refl; moved = e; ended = end }
 

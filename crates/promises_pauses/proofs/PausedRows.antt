@@ -21,7 +21,7 @@ use Rattle.sweep_rules.specs.{Ranges.placeOf, Sweep.sweepOf}
 use Rattle.promises.specs.Calls.{Turn, Calls, EndsAtCall}
 use Rattle.promises.proofs.{CallLaws.step-kept, CallLaws.attention-kept, MachineLaws.row-kept, MachineLaws.row-transfer, MachineLaws.moves}
 use Rattle.promises_blocks.{specs.Joined.RunsAlone, specs.Sweeps.SweptRest, proofs.AloneLaws.ordered-channel, proofs.Joined.block-same}
-use Rattle.promises_blocks.proofs.Sweeps.{rest-accepted, rest-swept}
+use Rattle.promises_blocks.proofs.{AloneLaws.going-turn, Sweeps.rest-accepted, Sweeps.rest-swept}
 use Rattle.promises_sheet.specs.SheetAttention.{outcomeTo, channelAfter}
 use Rattle.promises_pauses.specs.Pausing.{Quietly, blockBytes, busyByte, Clear, BlockKept, PauseStores, PauseApart, Spared, EndsPaused, SameEnd}
 use Rattle.promises_pauses.specs.Pausing.{PausedCalls, begin, transfer, step, attention, host, suspend, resume}
@@ -73,16 +73,15 @@ stopped-bits psw =
 
 -- a quiet CCW leaves a PSW that has the channel's bits 5 and 7
 quiet-same : {b : Bool} {command : Command} {s : State} {m : Buffers} → Quietly b command s m → (psw : ℕ)
-    → (bitOf (channelOf s b .psw) 5 ≡ bitOf psw 5) × (bitOf (channelOf s b .psw) 7 ≡ bitOf psw 7) → ordered (orderTo s m b .ccw) psw ≡ psw
+    → (bitOf psw 5 ≡ bitOf (channelOf s b .psw) 5) × (bitOf psw 7 ≡ bitOf (channelOf s b .psw) 7) → ordered (orderTo s m b .ccw) psw ≡ psw
 unfolding ordered obeyed copied withPsw
-quiet-same q psw e = rw (q .interrupts, q .limit ∙ e .0, q .ranked ∙ e .1, with-bit-back psw 5, with-bit-back psw 7)
+quiet-same q psw e = rw (q .interrupts, q .limit ∙ sym (e .0), q .ranked ∙ sym (e .1), with-bit-back psw 5, with-bit-back psw 7)
 
 -- a quiet suspend does what suspend does, and no more
 pub suspend-only : (b : Bool) (s : State) (m : Buffers) → Quietly b Suspend s m → channelAfter s m b ≡ suspended (channelOf s b)
 unfolding orderedChannel channelOrdered orderTo orderOf commanded suspended withControl
 suspend-only b s m q =
-    let bits = stopped-bits (channelOf s b .psw) in
-    ordered-channel b s m (q .accepted) ∙ rw (q .commands, quiet-same q (stoppedPsw (channelOf s b .psw)) (sym (bits .0), sym (bits .1)))
+    ordered-channel b s m (q .accepted) ∙ rw (q .commands, quiet-same q (stoppedPsw (channelOf s b .psw)) (stopped-bits (channelOf s b .psw)))
 
 -- so a channel that is suspended and resumed so is the channel itself, its held byte, mark and fields too
 pub pause-same : (b : Bool) (s s′ : State) (m m′ : Buffers) → Quietly b Suspend s m → Quietly b Resume s′ m′ → channelOf s′ b ≡ channelAfter s m b
@@ -102,7 +101,7 @@ pause-same b s s′ m m′ q q′ registers bytes busy tb =
     })))
     ∙ ap (onlyPsw (channelOf s b))
     (ap (ordered (orderTo s′ m′ b .ccw)) (ap (withBit psw 2) (sym tb) ∙ with-bit-back psw 2)
-    ∙ quiet-same q′ psw (rw (registers ∙ suspend-only b s m q) (stopped-bits psw)))
+    ∙ quiet-same q′ psw (rw (registers ∙ suspend-only b s m q) (sym (stopped-bits psw .0), sym (stopped-bits psw .1))))
 
 module _ {b : Bool} {n : ℕ} {s₀ : State} {m₀ : Buffers} (p : Copy n (channelOf s₀ b) m₀) (tb : programRunning (channelOf s₀ b .psw) ≡ true)
     (far : PauseApart b n s₀) where
@@ -243,6 +242,10 @@ module _ {b : Bool} {n : ℕ} {s₀ : State} {m₀ : Buffers} (p : Copy n (chann
 
   -- short of the total, not suspended, and while the other channel does not run
   module _ {lines k : ℕ} {s : State} {m : Buffers} (r : PausedCalls b n s₀ m₀ k false s m) (h : k < total c₀ n) (a : RunsAlone b s m lines) where
+    -- the next step call is the channel's turn
+    pub lone-turn : Turn b s m lines
+    lone-turn = going-turn p (demand13 .before r h) a
+
     -- an accepted sweep takes exactly the steps that are left, and leaves what the undisturbed run leaves
     pub takes-rest : sweepOf s m (channelNumber b) lines .number ≡ 0 → SweptRest b n s₀ m₀ (total c₀ n - k) (sweepOf s m (channelNumber b) lines)
     takes-rest = rest-swept b s₀ lines p (rw (seen r .now) (seen r .row)) h a
