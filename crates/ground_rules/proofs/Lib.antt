@@ -9,6 +9,7 @@ pub mod ChannelLaws
 pub mod OutcomeLaws
 pub mod ConditionLaws
 pub mod FieldLaws
+pub mod PswLaws
 pub mod HoldingLaws
 pub mod GivenLaws
 pub mod StageLaws
