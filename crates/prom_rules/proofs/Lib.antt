@@ -9,5 +9,6 @@ pub mod LoadLaws
 pub mod Bounds
 pub mod TestLaws
 pub mod GivenLaws
+pub mod SegmentLaws
 pub mod WriterLaws
 pub mod Vectors

@@ -70,6 +70,29 @@ last-start : reading (lf (4 ∷ 0 ∷ 0 ∷ 3 ∷ 0 ∷ 1 ∷ 0 ∷ 2 ∷ 0xF6 �
 unfolding reading
 last-start = refl
 
+-- a record of type 02 with segment 1
+abbrev segment-1 : List ℕ
+segment-1 = lf (2 ∷ 0 ∷ 0 ∷ 2 ∷ 0x00 ∷ 0x01 ∷ 0xFB ∷ [])
+
+-- AAh at offset 0
+abbrev byte-0 : List ℕ
+byte-0 = lf (1 ∷ 0 ∷ 0 ∷ 0 ∷ 0xAA ∷ 0x55 ∷ [])
+
+-- BBh at offset 1
+abbrev byte-1 : List ℕ
+byte-1 = lf (1 ∷ 0 ∷ 1 ∷ 0 ∷ 0xBB ∷ 0x43 ∷ [])
+
+-- a segment lasts over a data record
+segment-lasts : reading (segment-1 ++ byte-0 ++ byte-1 ++ end) 18 ≡ loading 0 0 0 (buffers (replicate 16 0 ++ 0xAA ∷ 0xBB ∷ []) [])
+unfolding reading
+segment-lasts = refl
+
+-- and over a start address, which itself lasts over a data record
+both-last : reading (segment-1 ++ byte-0 ++ lf (4 ∷ 0 ∷ 0 ∷ 3 ∷ 0 ∷ 1 ∷ 0 ∷ 2 ∷ 0xF6 ∷ []) ++ byte-1 ++ end) 18
+    ≡ loading 0 0x12 0 (buffers (replicate 16 0 ++ 0xAA ∷ 0xBB ∷ []) [])
+unfolding reading
+both-last = refl
+
 -- text behind the end record is not looked at
 behind : reading (end ++ 120 ∷ 10 ∷ 10 ∷ []) 1 ≡ refused 0 0 1
 unfolding reading
