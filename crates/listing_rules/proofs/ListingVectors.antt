@@ -20,6 +20,13 @@ pub jumps : allChars (linesOf 0x1000 (0xA8 ∷ 0x40 ∷ 0xFD ∷ 0x88 ∷ 0x20 �
 unfolding fieldOf bitOf extended pairOf table lookup decodeOf secondOf offsetLength dataLength displacementLength lengthOf hexGlyph hexDigits numberText digitText isJump mnemonicOf afterOffset slotsOf targetOf filled registerName baseName modeText spelled following lineWith instructionLine dataItems dataLine toOf wholeOf readOf itemOf charsOf lineAt linesBy linesOf allChars
 jumps = refl
 
+-- MOV R,M with each register, base and mode, by RRR, MM and AA
+pub all-names : allChars (linesOf 0x1000
+    (0x01 ∷ 0x80 ∷ 0x21 ∷ 0x81 ∷ 0x41 ∷ 0x82 ∷ 0x61 ∷ 0x83 ∷ 0x81 ∷ 0x80 ∷ 0xA3 ∷ 0x80 ∷ 0xEF ∷ 0xC5 ∷ 0x80 ∷ 0xE7 ∷ 0x80 ∷ []))
+    ≡ ascii "MOV GA,[GA]\nMOV GB,[GB]\nMOV GC,[GC]\nMOV BC,[PP]\nMOV TP,[GA]\nMOV IX,[GA].0EFH\nMOV CC,[GA+IX]\nMOV MC,[GA+IX+]\n"
+unfolding jumps
+all-names = refl
+
 -- a second pair with its offset byte, and what follows it
 pub mov : allChars (linesOf 0x1000 (0x02 ∷ 0x93 ∷ 0x08 ∷ 0x02 ∷ 0xCE ∷ 0x01 ∷ 0x20 ∷ 0x48 ∷ [])) ≡ ascii "MOVB [GC].001H,[PP].008H\nHLT\n"
 unfolding fieldOf bitOf extended pairOf table lookup decodeOf secondOf offsetLength dataLength displacementLength lengthOf hexGlyph hexDigits numberText digitText isJump mnemonicOf afterOffset slotsOf targetOf filled registerName baseName modeText spelled following lineWith instructionLine dataItems dataLine toOf wholeOf readOf itemOf charsOf lineAt linesBy linesOf allChars

@@ -1,8 +1,9 @@
--- Lines of the notation, worked out: each at address 1000h.
+-- Operands and lines of the notation, worked out: each line at address 1000h.
 -- Assumes nothing.
 use mathlib.Core.Path.{_≡_, refl}
 use mathlib.Core.Bool.{true, false}
-use mathlib.Core.List.{List, [], _∷_}
+use mathlib.Core.List.{List, [], _∷_, map}
+use Prim.Native.Nat.{ℕ}
 use Rattle.ground_rules.specs.Signs.{extended}
 use Rattle.instruction_rules.specs.declared.Memory.{Memory}
 use Rattle.instruction_rules.specs.declared.Work.{Work}
@@ -11,10 +12,28 @@ use Rattle.instruction_rules.specs.Lengths.{offsetLength}
 use Rattle.listing_rules.specs.Characters.{ascii, hexGlyph, hexDigits, numberText, digitText}
 use Rattle.listing_rules.specs.Mnemonics.{isJump, mnemonicOf}
 use Rattle.listing_rules.specs.Forms.{afterOffset, slotsOf, targetOf, filled, registerName, baseName, modeText, spelled, following}
+use Rattle.listing_rules.specs.Forms.Operand.{register, memory}
 use Rattle.listing_rules.specs.Lines.{lineWith, instructionLine, dataItems, dataLine}
 
 abbrev pub none : Memory
 none = record { mm = 0; aa = 0; wide = false }
+
+-- the registers by RRR, 0 to 7
+pub register-names : map (λ (rrr : ℕ). spelled (register rrr)) (0 ∷ 1 ∷ 2 ∷ 3 ∷ 4 ∷ 5 ∷ 6 ∷ 7 ∷ [])
+    ≡ ascii "GA" ∷ ascii "GB" ∷ ascii "GC" ∷ ascii "BC" ∷ ascii "TP" ∷ ascii "IX" ∷ ascii "CC" ∷ ascii "MC" ∷ []
+unfolding registerName spelled
+register-names = refl
+
+-- memory by MM, 0 to 3
+pub base-names : map (λ (mm : ℕ). spelled (memory mm 0 [])) (0 ∷ 1 ∷ 2 ∷ 3 ∷ []) ≡ ascii "[GA]" ∷ ascii "[GB]" ∷ ascii "[GC]" ∷ ascii "[PP]" ∷ []
+unfolding baseName modeText spelled
+base-names = refl
+
+-- memory by AA, 0 to 3; AA 1 has an offset byte
+pub mode-texts : spelled (memory 0 0 []) ∷ spelled (memory 0 1 (0xEF ∷ [])) ∷ spelled (memory 0 2 []) ∷ spelled (memory 0 3 []) ∷ []
+    ≡ ascii "[GA]" ∷ ascii "[GA].0EFH" ∷ ascii "[GA+IX]" ∷ ascii "[GA+IX+]" ∷ []
+unfolding hexGlyph hexDigits numberText baseName modeText spelled
+mode-texts = refl
 
 -- destination first, though its pair is the second; offsets unsigned
 pub movb : instructionLine (0x02 ∷ 0x93 ∷ 0x08 ∷ 0x02 ∷ 0xCE ∷ 0x01 ∷ []) 0x1006 (MovMemory (record { mm = 3; aa = 1; wide = false })) (record { mm = 2; aa = 1; wide = false }) ≡ ascii "MOVB [GC].001H,[PP].008H\n"
