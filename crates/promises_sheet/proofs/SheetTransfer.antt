@@ -4,7 +4,8 @@ use Prim.Native.Nat.{ℕ, zero, suc, _+_, _/_, _%_, _^_, _<_}
 use borrow.Author.Tests.{eq-eqb}
 use lib.Dec.{eqb, ltb, lit<, eqb·suc-zero}
 use mathlib.Core.Bool.{Bool, true, false, not, _&&_, _||_}
-use mathlib.Core.Path.{_≡_, refl, sym, subst, ap, _∙_}
+use mathlib.Core.List.{_++_}
+use mathlib.Core.Path.{_≡_, refl, sym, subst, ap, ap₂, _∙_}
 use native.Mathlib.Nat.{mod-lt}
 use Rattle.ground_rules.proofs.FieldLaws.{agree-channel-of}
 use Rattle.ground_rules.specs.Cc.{split}
@@ -19,20 +20,20 @@ use Rattle.ground_rules.specs.declared.Pointer.{Pointer}
 use Rattle.turn_rules.specs.Step.{Step, settledStep, transferStep, stepOf}
 use Rattle.turn_rules.specs.declared.Kind.the-variants.{Transfer}
 use Rattle.transfer_rules.specs.Ends.{meetsTmc, codeIf, larger, offsetOf, endedTP, endedPSW, endedBy}
-use Rattle.transfer_rules.specs.Reads.{fetched, fetchedSecond, entryOf, delivered, dataOf}
+use Rattle.transfer_rules.specs.Reads.{fetched, fetchedSecond, entryOf, delivered, dataOf, readPlaces, also}
 use Rattle.transfer_rules.specs.Sides.{source, destination, wordSide, secondAddress, gained, twoMove, storedSingly}
 use Rattle.transfer_rules.proofs.PartLaws.{not-half}
 use Rattle.transfer_rules.proofs.StepLaws.{done}
 use Rattle.transfer_rules.specs.Parts.{Part, Whole, fetchesApart, storesApart, isHalf, partOf}
-use Rattle.transfer_rules.specs.Steps.{Transfer as Taken, channelBy, memoryBy, transferOf}
-use Rattle.transfer_rules.specs.Stores.{firstMeets, matchMet, cutShort, storesTwo, bytesStored, bytesMoved, bytesCounted, countAfter, endCode, movedBy, movedChannel, putOn, movedMemory}
+use Rattle.transfer_rules.specs.Steps.{Transfer as Taken, touchedBy, touchedByTransfer, channelBy, memoryBy, transferOf}
+use Rattle.transfer_rules.specs.Stores.{firstMeets, matchMet, cutShort, storesTwo, bytesStored, bytesMoved, bytesCounted, countAfter, endCode, movedBy, movedChannel, putOn, movedMemory, placesOn, storedPlaces}
 use Rattle.ground_rules.specs.Bits.{fieldOf, bitOf}
 use Rattle.ground_rules.specs.Choice.{pick}
 use Rattle.ground_rules.specs.Compare.{matchOf}
 use Rattle.promises.specs.SheetWords.{bit, field}
 use Rattle.promises_sheet.specs.SheetOperands.{ranChannel}
 use Rattle.promises_sheet.specs.SheetTurns.{offsetIn}
-use Rattle.promises_sheet.specs.SheetTransfer.{firstByte, secondByte, meetsIn, singly, gainsIn, storedCount, countLeft, codeOfEnd, halfDue, Transfers, TransferLeft, TransferSheet}
+use Rattle.promises_sheet.specs.SheetTransfer.{firstByte, secondByte, meetsIn, singly, twoStored, gainsIn, storedCount, countLeft, codeOfEnd, halfDue, wholeReads, wholeStores, Transfers, TransferLeft, TransferSheet}
 use Rattle.promises.proofs.AgreeLaws.{agreeing, by-bits, done-agrees}
 use Rattle.promises.proofs.CallLaws.{turn-is, transfer-channel, transfer-memory}
 use Rattle.promises_sheet.proofs.SheetControl.{bit-set}
@@ -129,6 +130,30 @@ pub half-is : (c : Channel) (m : Buffers) → fieldsAgree c ≡ true → isHalf 
 unfolding isHalf fetchesApart storesApart twoMove storedSingly wordSide source destination split fieldOf bitOf
 half-is c m h = by-bits (λ x. isHalf x ≡ halfDue x m) c h refl
 
+-- ---- which bytes a step that is no half touches
+
+module _ (c : Channel) (m : Buffers) (h : fieldsAgree c ≡ true) where
+  -- those that it reads, by bits
+  reads-bits : readPlaces c m ≡ wholeReads c m
+  unfolding readPlaces also twoMove wordSide secondAddress source destination fetched entryOf split fieldOf bitOf
+  reads-bits = by-bits (λ x. readPlaces x m ≡ wholeReads x m) c h refl
+
+  -- how many it stores, and those
+  two-bits : storesTwo c (dataOf c m) ≡ twoStored c m
+  unfolding storesTwo cutShort firstMeets storedSingly twoMove wordSide source destination dataOf delivered fetched entryOf meetsTmc matchOf split fieldOf bitOf
+  two-bits = by-bits (λ x. storesTwo x (dataOf x m) ≡ twoStored x m) c h refl
+
+  stores-bits : storedPlaces c (dataOf c m) ≡ wholeStores c m
+  unfolding storedPlaces placesOn also wordSide secondAddress destination split bitOf
+  stores-bits = ap (placesOn (destination c)) two-bits ∙ by-bits (λ x. placesOn (destination x) (twoStored x m) ≡ wholeStores x m) c h refl
+
+  -- and all of them
+  whole-touches : halfDue c m ≡ false → touchedByTransfer c m ≡ wholeReads c m ++ wholeStores c m
+  unfolding touchedByTransfer touchedBy
+  whole-touches undue = ap (λ (k : Part). touchedBy k c m) (not-half c (half-is c m h ∙ undue)) ∙ ap₂ _++_ reads-bits stores-bits
+
+-- ---- done
+
 -- a transfer step that is done has number 0 of its own
 pub settle : (n : ℕ) (s : State) (m : Buffers) (b : Bool) (o : Taken) → settledStep n s m b (o .channel) (o .memory) Transfer .number ≡ n
 unfolding settledStep
@@ -170,4 +195,5 @@ transfer-sheet b s m lines = record {
       let memory : (stepOf s m lines) .memory ≡ movedMemory c (dataOf c m) m = done-memory b s m lines t ∙ ap (λ (k : Part). memoryBy k c m) whole in
       subst (λ (k : Channel). TransferLeft c m k ((stepOf s m lines) .memory)) (sym channel)
       (subst (λ (n : Buffers). TransferLeft c m (movedChannel c (dataOf c m)) n) (sym memory) (transfer-left c m (done-fields b s m lines t)));
+  touches = λ a no. whole-touches (channelOf s b) m (agree-channel-of s b a) no;
 }

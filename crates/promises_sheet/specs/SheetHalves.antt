@@ -7,7 +7,6 @@ use Prim.Native.Nat.{ℕ, _+_, _%_}
 use lib.Dec.{eqb}
 use Rattle.ground_rules.specs.Choice.{pick}
 use Rattle.ground_rules.specs.Buffers.{Buffers, byteAt, storeByte}
-use Rattle.ground_rules.specs.Places.{Place}
 use Rattle.ground_rules.specs.States.{channelOf, channelNumber, agree}
 use Rattle.ground_rules.specs.declared.Channel.{Channel}
 use Rattle.ground_rules.specs.declared.Held.{Held as HeldByte}
@@ -22,7 +21,7 @@ use Rattle.block_rules.specs.Stages.{onBy}
 use Rattle.promises.specs.SheetWords.{bit, field}
 use Rattle.promises_sheet.specs.SheetOperands.{ranChannel}
 use Rattle.promises_sheet.specs.SheetTurns.{offsetIn}
-use Rattle.promises_sheet.specs.SheetTransfer.{fromPointer, intoPointer, fromSecond, intoSecond, firstByte, meetsIn, maxOf, fetchesTwice, storesTwice, halfDue, Transfers, TransferLeft}
+use Rattle.promises_sheet.specs.SheetTransfer.{placeAt, fromPointer, intoPointer, fromSecond, intoSecond, firstByte, meetsIn, maxOf, fetchesTwice, storesTwice, halfDue, Transfers, TransferLeft}
 use Rattle.promises_sheet.specs.SheetAttention.{Attends}
 
 -- nothing is held
@@ -99,10 +98,6 @@ pub record HalfLeft (c : Channel) (m : Buffers) (after : Channel) (m′ : Buffer
       → PairLeft c m 2 (meetsIn c m byte) after × (m′ ≡ storeByte m (intoPointer c m .tag) (intoSecond c m) byte)
 
 -- ---- which bytes a half touches
-
--- a byte of a space
-abbrev pub placeAt : Bool → ℕ → Place
-placeAt tag address = record { tag = tag; address = address }
 
 -- the bytes that a half reads or stores, at which 2 looks after 5 (§7.11), and at no others
 pub record HalfTouches (c : Channel) (m : Buffers) : Type 0 where

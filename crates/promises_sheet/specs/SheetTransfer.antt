@@ -1,22 +1,33 @@
--- The sheet of a transfer step (§7): sides, bytes, ends and counts by bits of CC and PSW.
-use mathlib.Core.Bool.{Bool, false, not, _&&_, _||_}
+-- The sheet of a transfer step (§7): sides, bytes, ends, counts and the places it touches by bits of CC and PSW.
+use mathlib.Core.Bool.{Bool, true, false, not, _&&_, _||_}
+use mathlib.Core.List.{List, [], _∷_, _++_}
 use mathlib.Core.Path.{_≡_}
 use Prim.Native.Nat.{ℕ, _+_, _-_, _/_, _%_}
 use lib.Bits.{bitAnd, bitXor}
 use lib.Dec.{eqb, ltb}
 use Rattle.ground_rules.specs.Choice.{pick}
 use Rattle.ground_rules.specs.Buffers.{Buffers, byteAt, storeByte}
+use Rattle.ground_rules.specs.Places.{Place}
 use Rattle.ground_rules.specs.Values.{pointer}
 use Rattle.ground_rules.specs.declared.Pointer.{Pointer}
-use Rattle.ground_rules.specs.States.{channelOf}
+use Rattle.ground_rules.specs.States.{channelOf, agree}
 use Rattle.ground_rules.specs.declared.Channel.{Channel}
 use Rattle.ground_rules.specs.declared.Held.the-variants.{NoByte}
 use Rattle.ground_rules.specs.declared.State.{State}
+use Rattle.transfer_rules.specs.Steps.{touchedByTransfer}
 use Rattle.turn_rules.specs.Step.{stepOf}
 use Rattle.promises.specs.Calls.{Turn}
 use Rattle.promises.specs.SheetWords.{bit, field}
 use Rattle.promises_sheet.specs.SheetOperands.{ranChannel}
 use Rattle.promises_sheet.specs.SheetTurns.{offsetIn}
+
+-- a byte of a space
+abbrev pub placeAt : Bool → ℕ → Place
+placeAt tag address = record { tag = tag; address = address }
+
+-- a place, where a test holds, before others
+abbrev pub placeIf : Bool → Place → List Place → List Place
+placeIf on p ps = pick on (p ∷ ps) ps
 
 module _ (c : Channel) (m : Buffers) where
   -- the sides by bit 10 of CC (§7.1)
@@ -44,12 +55,13 @@ module _ (c : Channel) (m : Buffers) where
   abbrev pub intoSecond : ℕ
   intoSecond = pick (intoWordSide || eqb (bit (c .cc) 15) 1) ((intoPointer .address + 1) % 1048576) (intoPointer .address)
 
+  -- where the byte that stands for the first one read lies: so far past GC as that one says (§7.6)
+  abbrev pub entryIn : ℕ
+  entryIn = (c .gc .address + byteAt m (fromPointer .tag) (fromPointer .address)) % 1048576
+
   -- the bytes to be stored; the first translated with bit 13 of CC (§7.6)
   abbrev pub firstByte : ℕ
-  firstByte =
-      pick (eqb (bit (c .cc) 13) 1)
-      (byteAt m (c .gc .tag) ((c .gc .address + byteAt m (fromPointer .tag) (fromPointer .address)) % 1048576))
-      (byteAt m (fromPointer .tag) (fromPointer .address))
+  firstByte = pick (eqb (bit (c .cc) 13) 1) (byteAt m (c .gc .tag) entryIn) (byteAt m (fromPointer .tag) (fromPointer .address))
 
   abbrev pub secondByte : ℕ
   secondByte = pick twoGo (byteAt m (fromPointer .tag) fromSecond) 0
@@ -101,6 +113,17 @@ module _ (c : Channel) (m : Buffers) where
   abbrev pub halfDue : Bool
   halfDue = fetchesTwice || storesTwice
 
+  -- the bytes that a step which is no half reads, each access once (§7.11): the source's first, its second where two move, the translated one
+  abbrev pub wholeReads : List Place
+  wholeReads =
+      placeAt (fromPointer .tag) (fromPointer .address)
+      ∷ placeIf twoGo (placeAt (fromPointer .tag) fromSecond)
+      (placeIf (eqb (bit (c .cc) 13) 1) (placeAt (c .gc .tag) entryIn) [])
+
+  -- and those that it stores: the destination's first, and its second where two are stored
+  abbrev pub wholeStores : List Place
+  wholeStores = placeAt (intoPointer .tag) (intoPointer .address) ∷ placeIf twoStored (placeAt (intoPointer .tag) intoSecond) []
+
   -- a pointer on by the bytes stored
   abbrev pub gainsIn : Bool → Pointer → Pointer
   gainsIn on p = pick on (pointer ((p .address + storedCount) % 1048576) (p .tag)) p
@@ -132,7 +155,11 @@ pub record Transfers (second : Bool) (s : State) (m : Buffers) (lines : ℕ) : T
   pub on : bit (channelOf s second .psw) 6 ≡ 1
   pub done : (stepOf s m lines) .number ≡ 0
 
--- a step call that is a channel's turn with XF, is done and is no half of a pair
+-- a transfer step that is no half of a pair
 pub record TransferSheet (second : Bool) (s : State) (m : Buffers) (lines : ℕ) : Type 0 where
+  -- what a step call that is a channel's turn with XF leaves where it is done
   pub transfer : Transfers second s m lines → halfDue (channelOf s second) m ≡ false
       → TransferLeft (channelOf s second) m (ranChannel second s m lines) ((stepOf s m lines) .memory)
+  -- which bytes it touches, at which 2 looks after 5 (§7.11), and at no others, whether it is done or refused
+  pub touches : agree s ≡ true → halfDue (channelOf s second) m ≡ false
+      → touchedByTransfer (channelOf s second) m ≡ wholeReads (channelOf s second) m ++ wholeStores (channelOf s second) m
