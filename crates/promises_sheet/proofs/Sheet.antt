@@ -6,7 +6,8 @@ use Rattle.promises_sheet.proofs.SheetControl.{control-sheet}
 use Rattle.promises.proofs.SheetLaws.{names}
 use Rattle.promises_sheet.proofs.SheetMemory.{memory-sheet}
 use Rattle.promises_sheet.proofs.SheetRegisters.{register-sheet}
-use Rattle.promises_sheet.proofs.SheetHalves.{half-sheet, held-through}
+use Rattle.promises_sheet.proofs.SheetHalves.{half-sheet}
+use Rattle.promises_sheet.proofs.SheetBetween.{between-sheet}
 use Rattle.promises_sheet.proofs.SheetTransfer.{transfer-sheet}
 use Rattle.promises_sheet.proofs.SheetTurns.{turn-sheet}
 
@@ -20,5 +21,5 @@ sheet = record {
   turns = turn-sheet;
   transfer = transfer-sheet;
   halves = half-sheet;
-  through = held-through;
+  between = between-sheet;
 }

@@ -5,20 +5,17 @@ use lib.Dec.{eqb, lit<}
 use lib.ListN.{length}
 use mathlib.Core.Bool.{Bool, true, false, not, _&&_, _||_}
 use mathlib.Core.List.{List, [], _∷_}
-use mathlib.Core.Logic.{_⊎_, inl, inr}
 use mathlib.Core.Path.{_≡_, refl, sym, subst, ap, ap₂, _∙_}
 use native.Mathlib.Nat.{mod-lt}
 use borrow.Author.Tests.{eqb-false, eqb-true, eq-eqb, ne-eqb}
-use Rattle.attention_rules.proofs.Outcomes.{refused-nothing}
-use Rattle.attention_rules.specs.Attention.{attentionOf}
 use Rattle.instruction_rules.proofs.ChannelLaws.{execute-drops}
 use Rattle.instruction_rules.specs.Execute.{Executed, executeOf}
 use Rattle.ground_rules.proofs.ChannelLaws.{put-same, last-channel}
 use Rattle.ground_rules.proofs.FieldLaws.{agree-channel-of}
 use Rattle.ground_rules.specs.Cc.{split}
-use Rattle.ground_rules.specs.Outcomes.{Outcome, counted}
+use Rattle.ground_rules.specs.Outcomes.{counted}
 use Rattle.ground_rules.specs.Psw.{transferring, withPsw}
-use Rattle.ground_rules.specs.States.{channelOf, withChannel, channelNumber, fieldsAgree, agree, blockOf, busyIn}
+use Rattle.ground_rules.specs.States.{channelOf, withChannel, fieldsAgree, agree, blockOf, busyIn}
 use Rattle.ground_rules.specs.Updates.{withTransfer, holding}
 use Rattle.ground_rules.specs.declared.Channel.{Channel}
 use Rattle.ground_rules.specs.declared.Held.{Held as HeldByte}
@@ -49,12 +46,9 @@ use Rattle.ground_rules.specs.Compare.{matchOf}
 use Rattle.promises.specs.Calls.{Turn}
 use Rattle.promises.specs.SheetWords.{bit, field}
 use Rattle.promises_sheet.specs.SheetOperands.{ranChannel}
-use Rattle.promises_sheet.specs.SheetAttention.{Attends}
 use Rattle.promises_sheet.specs.SheetTransfer.{fromPointer, intoPointer, fromSecond, intoSecond, firstByte, meetsIn, fetchesTwice, storesTwice, halfDue, Transfers, TransferLeft}
-use Rattle.promises_sheet.specs.SheetHalves.{isNone, OnlyHeld, pairLess, pairCode, PairLeft, HalfLeft, HalfTouches, Halves, HalfSheet, Pausing, HeldThrough, begin, attends, refused, other, step}
+use Rattle.promises_sheet.specs.SheetHalves.{isNone, OnlyHeld, pairLess, pairCode, PairLeft, HalfLeft, HalfTouches, Halves, HalfSheet}
 use Rattle.promises.proofs.AgreeLaws.{agreeing, by-bits, done-agrees}
-use Rattle.promises.proofs.CallLaws.{attention-kept, not-of}
-use Rattle.promises_sheet.proofs.SheetAttention.{attention-sheet}
 use Rattle.promises_sheet.proofs.SheetTransfer.{on, larger-small, pick-small, first-side, second-side, bit-picked, ended-task, ended-status, transfer-left, done-fields, done-number, done-channel, done-memory}
 
 -- ---- by bits
@@ -341,7 +335,8 @@ moved-drops : (c : Channel) (m : Buffers) → movedChannel c (dataOf c m) .held 
 unfolding movedChannel endedBy movedBy withTransfer
 moved-drops c m = refl
 
-over-holds : {byte : ℕ} → Byte byte ≡ NoByte → ⊥
+-- a held byte is not none
+pub over-holds : {byte : ℕ} → Byte byte ≡ NoByte → ⊥
 over-holds e = apart (sym (ap isNone e))
 
 no-transfer : (psw : ℕ) → bit psw 6 ≡ 0 → transferring psw ≡ false
@@ -460,23 +455,3 @@ half-sheet b s m lines = record {
   joined = λ lines′ v. joined b s m lines lines′ v;
   executes = λ t off z. let r = ran-channel b s m lines t off z in ap (λ (k : Channel). k .held) (r .1) ∙ execute-drops (channelOf s b) (busyIn (blockOf s b)) m (r .0);
 }
-
--- ---- suspended and resumed
-
-kept-0 : (b : Bool) (s : State) (m : Buffers) → Attends b s m 0 → channelOf ((attentionOf s m (channelNumber b)) .state) b .held ≡ channelOf s b .held
-kept-0 b s m x = attention-sheet b s m .update x .held
-
-kept-6 : (b : Bool) (s : State) (m : Buffers) → Attends b s m 6 → channelOf ((attentionOf s m (channelNumber b)) .state) b .held ≡ channelOf s b .held
-kept-6 b s m x = attention-sheet b s m .suspend x .held
-
-kept-5 : (b : Bool) (s : State) (m : Buffers) → Attends b s m 5 → channelOf ((attentionOf s m (channelNumber b)) .state) b .held ≡ channelOf s b .held
-kept-5 b s m x = attention-sheet b s m .resume x .held
-
-pub held-through : HeldThrough
-held-through b s₀ s begin = refl
-held-through b s₀ _ (attends {s = s} r m code (inl e) x) = kept-0 b s m (subst (Attends b s m) e x) ∙ held-through b s₀ s r
-held-through b s₀ _ (attends {s = s} r m code (inr (inl e)) x) = kept-6 b s m (subst (Attends b s m) e x) ∙ held-through b s₀ s r
-held-through b s₀ _ (attends {s = s} r m code (inr (inr e)) x) = kept-5 b s m (subst (Attends b s m) e x) ∙ held-through b s₀ s r
-held-through b s₀ _ (refused {s = s} r m ne) = ap (λ (o : Outcome). channelOf (o .state) b .held) (refused-nothing s m (channelNumber b) ne) ∙ held-through b s₀ s r
-held-through b s₀ _ (other {s = s} r m channel ne) = ap (λ (k : Channel). k .held) (attention-kept b s m channel ne) ∙ held-through b s₀ s r
-held-through b s₀ _ (step {s = s} r m lines ne) = ap (λ (k : Channel). k .held) (not-of b s m lines ne) ∙ held-through b s₀ s r

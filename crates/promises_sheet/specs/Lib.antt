@@ -6,6 +6,7 @@ pub mod SheetControl
 pub mod SheetTurns
 pub mod SheetTransfer
 pub mod SheetHalves
+pub mod SheetBetween
 pub mod Leftover
 pub mod Sheet
 pub mod Slots

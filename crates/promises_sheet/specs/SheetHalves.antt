@@ -1,18 +1,18 @@
--- The sheet of the halves of a pair of transfer steps (§7.14): which bytes each touches, what it leaves, both together, and a held byte through suspend and resume.
+-- The sheet of the halves of a pair of transfer steps (§7.14): which bytes each touches, what it leaves, and both together.
 use mathlib.Core.Bool.{Bool, true, false, not, _&&_}
 use mathlib.Core.List.{[], _∷_}
-use mathlib.Core.Logic.{_⊎_}
 use mathlib.Core.Path.{_≡_}
 use Prim.Native.Nat.{ℕ, _+_, _%_}
 use lib.Dec.{eqb}
 use Rattle.ground_rules.specs.Choice.{pick}
 use Rattle.ground_rules.specs.Buffers.{Buffers, byteAt, storeByte}
-use Rattle.ground_rules.specs.States.{channelOf, channelNumber, agree}
+use Rattle.ground_rules.specs.States.{channelOf, agree}
 use Rattle.ground_rules.specs.declared.Channel.{Channel}
 use Rattle.ground_rules.specs.declared.Held.{Held as HeldByte}
 use Rattle.ground_rules.specs.declared.Held.the-variants.{NoByte, Byte}
+use Rattle.ground_rules.specs.declared.Mode.{Mode}
+use Rattle.ground_rules.specs.declared.Pointer.{Pointer}
 use Rattle.ground_rules.specs.declared.State.{State}
-use Rattle.attention_rules.specs.Attention.{attentionOf}
 use Rattle.transfer_rules.specs.Steps.{touchedByTransfer}
 use Rattle.turn_rules.specs.Step.{stepOf}
 use Rattle.turn_rules.specs.Touched.{stepCount}
@@ -22,7 +22,6 @@ use Rattle.promises.specs.SheetWords.{bit, field}
 use Rattle.promises_sheet.specs.SheetOperands.{ranChannel}
 use Rattle.promises_sheet.specs.SheetTurns.{offsetIn}
 use Rattle.promises_sheet.specs.SheetTransfer.{placeAt, fromPointer, intoPointer, fromSecond, intoSecond, firstByte, meetsIn, maxOf, fetchesTwice, storesTwice, halfDue, Transfers, TransferLeft}
-use Rattle.promises_sheet.specs.SheetAttention.{Attends}
 
 -- nothing is held
 abbrev pub isNone : HeldByte → Bool
@@ -58,22 +57,27 @@ pairCode c m met =
     (maxOf c m (pick met (field (c .cc) 0 3 % 4) 0) (pick (eqb (pairLess c) 0) (field (c .cc) 3 2) 0))
     (pick (eqb (bit (c .cc) 7) 1) 1 0)
 
--- a pair is over, its sides on by so many bytes: BC is less by both, it ends as its code says, and nothing is held
-pub record PairLeft (c : Channel) (m : Buffers) (by : ℕ) (met : Bool) (after : Channel) : Type 0 where
+-- a pair is over, its sides on by so many bytes: BC is less by both, nothing is held, and it ends as its code says, from the TP, PSW and mode that its
+-- last half found
+pub record PairOver (c : Channel) (m : Buffers) (by : ℕ) (met : Bool) (task : Pointer) (psw : ℕ) (state : Mode) (after : Channel) : Type 0 where
   pub ga : after .ga ≡ pick (eqb (bit (c .cc) (pick (eqb (bit (c .cc) 10) 1) 15 14)) 1) (onBy (c .ga) by) (c .ga)
   pub gb : after .gb ≡ pick (eqb (bit (c .cc) (pick (eqb (bit (c .cc) 10) 1) 14 15)) 1) (onBy (c .gb) by) (c .gb)
   pub bc : after .bc ≡ pairLess c
-  pub tp : after .tp ≡ pick (eqb (pairCode c m met) 0) (c .tp) (onBy (c .tp) (offsetIn (pairCode c m met)))
-  pub status : (k : ℕ) → bit (after .psw) k ≡ pick (not (eqb (pairCode c m met) 0) && eqb k 6) 0 (bit (c .psw) k)
+  pub tp : after .tp ≡ pick (eqb (pairCode c m met) 0) task (onBy task (offsetIn (pairCode c m met)))
+  pub status : (k : ℕ) → bit (after .psw) k ≡ pick (not (eqb (pairCode c m met) 0) && eqb k 6) 0 (bit psw k)
   pub gc : after .gc ≡ c .gc
   pub pp : after .pp ≡ c .pp
   pub ix : after .ix ≡ c .ix
   pub cc : after .cc ≡ c .cc
   pub fields : after .fields ≡ c .fields
   pub mc : after .mc ≡ c .mc
-  pub mode : after .mode ≡ c .mode
+  pub mode : after .mode ≡ state
   pub mark : after .armed ≡ c .armed
   pub held : after .held ≡ NoByte
+
+-- these being the channel's own
+abbrev pub PairLeft : Channel → Buffers → ℕ → Bool → Channel → Type 0
+PairLeft c m by met after = PairOver c m by met (c .tp) (c .psw) (c .mode) after
 
 -- a half of a channel's pair that is done
 pub record HalfLeft (c : Channel) (m : Buffers) (after : Channel) (m′ : Buffers) : Type 0 where
@@ -120,8 +124,8 @@ pub record HalfTouches (c : Channel) (m : Buffers) : Type 0 where
 
 -- ---- the calls
 
--- two step calls in a row that are the halves of a pair, with nothing between
-pub record Halves (second : Bool) (s : State) (m : Buffers) (lines lines′ : ℕ) : Type 0 where
+-- two step calls that are the halves of a pair, the second in some state and memory
+pub record HalvesOf (second : Bool) (s : State) (m : Buffers) (lines : ℕ) (s′ : State) (m′ : Buffers) (lines′ : ℕ) : Type 0 where
   -- a pair is due and nothing is held
   pub due : halfDue (channelOf s second) m ≡ true
   pub free : channelOf s second .held ≡ NoByte
@@ -130,7 +134,11 @@ pub record Halves (second : Bool) (s : State) (m : Buffers) (lines lines′ : �
   pub byte : ℕ
   pub holds : ranChannel second s m lines .held ≡ Byte byte
   -- the second is done
-  pub next : Transfers second ((stepOf s m lines) .state) ((stepOf s m lines) .memory) lines′
+  pub next : Transfers second s′ m′ lines′
+
+-- with nothing between
+abbrev pub Halves : Bool → State → Buffers → ℕ → ℕ → Type 0
+Halves second s m lines lines′ = HalvesOf second s m lines ((stepOf s m lines) .state) ((stepOf s m lines) .memory) lines′
 
 pub record HalfSheet (second : Bool) (s : State) (m : Buffers) (lines : ℕ) : Type 0 where
   -- a half that is done, of a state whose fields are those of CC
@@ -144,20 +152,3 @@ pub record HalfSheet (second : Bool) (s : State) (m : Buffers) (lines : ℕ) : T
   -- a done instruction leaves nothing held
   pub executes : Turn second s m lines → bit (channelOf s second .psw) 6 ≡ 0 → (stepOf s m lines) .number ≡ 0
       → ranChannel second s m lines .held ≡ NoByte
-
--- ---- suspended and resumed
-
--- what comes of a state by calls that are 000, suspend or resume to a channel, attentions to the other, steps that are not its own, and refused ones,
--- any number of them, each with any memory: the commands by the low three bits of the CCW
-pub data Pausing (second : Bool) (s₀ : State) : State → Type 0 where
-  begin : Pausing second s₀ s₀
-  attends : {s : State} → Pausing second s₀ s → (m : Buffers) (code : ℕ) → (code ≡ 0) ⊎ ((code ≡ 6) ⊎ (code ≡ 5)) → Attends second s m code
-      → Pausing second s₀ ((attentionOf s m (channelNumber second)) .state)
-  refused : {s : State} → Pausing second s₀ s → (m : Buffers) → ((attentionOf s m (channelNumber second)) .number ≡ 0 → ⊥)
-      → Pausing second s₀ ((attentionOf s m (channelNumber second)) .state)
-  other : {s : State} → Pausing second s₀ s → (m : Buffers) (channel : ℕ) → (channel ≡ channelNumber second → ⊥) → Pausing second s₀ ((attentionOf s m channel) .state)
-  step : {s : State} → Pausing second s₀ s → (m : Buffers) (lines : ℕ) → ((stepOf s m lines) .channel ≡ channelNumber second → ⊥) → Pausing second s₀ ((stepOf s m lines) .state)
-
--- a held byte survives them whole
-abbrev pub HeldThrough : Type 0
-HeldThrough = (second : Bool) (s₀ s : State) → Pausing second s₀ s → channelOf s second .held ≡ channelOf s₀ second .held
