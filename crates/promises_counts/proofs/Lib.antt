@@ -7,4 +7,5 @@ pub mod Instruction
 pub mod Transfer
 pub mod Step
 pub mod Counts
+pub mod InstructionPlaces
 pub mod Widest
