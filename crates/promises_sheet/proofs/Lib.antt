@@ -7,6 +7,7 @@ pub mod SheetTurns
 pub mod SheetTransfer
 pub mod SheetHalves
 pub mod SheetBetween
+pub mod BetweenWitness
 pub mod HalfWitness
 pub mod Leftover
 pub mod LeftoverCases
