@@ -1,14 +1,20 @@
 // The listing of a part of memory.
 use crate::reading;
 use listing_rules::Item;
-use listing_rules::Line;
-use listing_rules::Row;
 use notation::lines;
+use notation::lines::Line;
 ghost use mathlib.Core.Path.{_≡_};
 ghost use Prim.Native.Nat.{_+_, _≤_};
 ghost use lib.ListN.{length, take, drop};
 ghost use lib.Seq.{paste};
-ghost use Rattle.listing_rules.specs.Listings.{listLimit, listing, listingOf, Shown};
+ghost use Rattle.listing_rules.specs.Listings.{listLimit, listing, listingOf};
+ghost use Rattle.lister.specs.Rows.{Shown};
+
+// A line, and how many bytes it lists.
+struct Row {
+    line: Line,
+    count: usize,
+}
 
 // The line of what stands at a place; `first` is the address of the part's first byte.
 fn row_at(part: &[u8], first: u32, at: usize) -> Row

@@ -1,13 +1,13 @@
 -- How long a line is: at most 28 characters.
 -- Assumes nothing.
-use mathlib.Core.Path.{_≡_, refl, sym, ap, _∙_}
+use mathlib.Core.Path.{_≡_, refl}
 use mathlib.Core.Bool.{Bool, true, false, _&&_}
 use mathlib.Core.List.{List, [], _∷_, _++_}
 use Prim.Native.Nat.{ℕ, zero, suc, _+_, _*_, _/_, _%_, _≤_}
 use native.Mathlib.Nat.{le-of-eq}
 use native.Mathlib.Omega.{arith}
 use lib.Dec.{T, eqb, ltb, leb, leb→le, lit≤}
-use lib.ListN.{length, getD, take, length-append, length-take}
+use lib.ListN.{length, getD, length-append}
 use borrow.Author.Tests.{eqb-true}
 use Rattle.ground_rules.specs.Choice.{pick}
 use Rattle.instruction_rules.specs.declared.Memory.{Memory}
@@ -17,10 +17,8 @@ use Rattle.instruction_rules.specs.declared.Shape.{Shape}
 use Rattle.instruction_rules.specs.declared.Shape.the-variants.{Nop, Sintr, Xfer, Wid, Hlt, Lpdi, RegisterImmediate, Register, JumpRegister, RegisterMemory, MemoryRegister, MemoryImmediate, MemoryAlone, JumpMemory, Lpd, MovpLoad, MovpStore, MovMemory, Tsl, Call, JumpMasked, JumpBit, Bit}
 use Rattle.listing_rules.specs.Characters.{ascii, hexDigits, numberText, digitText}
 use Rattle.listing_rules.specs.Mnemonics.{longMark, byteMark, workStem, singleStem, isJump, mnemonicOf}
-use Rattle.listing_rules.specs.Forms.{slots, slotsOf, afterOffset, dataFrom, filled, registerNames, registerName, baseNames, baseName, modeTexts, modeText, offsetText, spelled, following}
+use Rattle.listing_rules.specs.Forms.{slots, slotsOf, afterOffset, filled, registerNames, registerName, baseNames, baseName, modeTexts, modeText, offsetText, spelled, following}
 use Rattle.listing_rules.specs.Lines.{lineWith, instructionLine, dataItems, dataLine, 'blank, 'comma}
-use Rattle.listing_rules.specs.Writing.{Fits}
-use Rattle.listing_rules.specs.declared.Slots.{Slots}
 use Rattle.listing_rules.specs.declared.Slot.{Slot}
 use Rattle.listing_rules.specs.declared.Slot.the-variants.{Empty, Name, Place, Number, Target, Digit}
 
@@ -155,8 +153,3 @@ items-length separator (b ∷ bytes) = omega (arith, items-length 'comma bytes)
 pub data-short : (bytes : List ℕ) → length bytes ≤ 5 → length (dataLine bytes) ≤ 28
 unfolding dataLine
 data-short bytes h = omega (arith, joined-short (ascii "DB") (dataItems 'blank bytes ++ (10 ∷ [])) (lit≤ {m = 2} {n = 2} tt) (joined-short (dataItems 'blank bytes) (10 ∷ []) (le-of-eq (items-length 'blank bytes)) (lit≤ {m = 1} {n = 1} tt)))
-
--- so all of an instruction's line fits
-pub line-fits : (chars bytes : List ℕ) (end : ℕ) (s : Shape) (to : Memory) (places : Slots) → length chars ≡ 28 → places ≡ slotsOf s to → Fits chars 0 (lineWith (mnemonicOf s) places bytes end)
-unfolding instructionLine
-line-fits chars bytes end s to places size e = rw e (record { size = size; room = omega (arith, line-short bytes end s to) })

@@ -1,11 +1,10 @@
--- The characters of a listing by their ASCII codes, and numbers that hold up to eight of them.
+-- The characters of a listing by their ASCII codes.
 use mathlib.Core.List.{List, [], _∷_, _++_}
 use Prim.Native.Nat.{ℕ, zero, suc, _+_, _/_, _%_}
 use Prim.Native.String.{String, len, charAt}
 use Prim.Native.Char.{code}
-use lib.Dec.{eqb, ltb}
+use lib.Dec.{ltb}
 use Rattle.ground_rules.specs.Choice.{pick}
-use Rattle.listing_rules.specs.declared.Pieces.{Pieces}
 
 -- the codes of `count` characters of a quoted text from a place on
 abbrev pub asciiFrom : ℕ → ℕ → String → List ℕ
@@ -32,16 +31,3 @@ numberText bytes = ascii "0" ++ (hexDigits bytes ++ ascii "H")
 -- a bit's number or a width, in decimal
 unfoldable pub digitText : ℕ → List ℕ
 digitText n = pick (ltb n 10) ((48 + n) ∷ []) ((48 + n / 10 % 10) ∷ (48 + n % 10) ∷ [])
-
--- the first `count` characters that a number holds, the first of them in its lowest eight bits; it holds none where it is 0
-unfoldable pub heldBy : ℕ → ℕ → List ℕ
-heldBy zero n = []
-heldBy (suc count) n = pick (eqb n 0) [] (n % 256 ∷ heldBy count (n / 256))
-
--- the characters that a number of 64 bits holds
-unfoldable pub heldIn : ℕ → List ℕ
-heldIn n = heldBy 8 n
-
--- the characters of four such numbers, one after the other
-unfoldable pub heldIn4 : Pieces → List ℕ
-heldIn4 p = heldIn (p .0) ++ (heldIn (p .1) ++ (heldIn (p .2) ++ heldIn (p .3)))

@@ -1,5 +1,4 @@
 pub mod Characters
-pub mod Writing
 pub mod Mnemonics
 pub mod Forms
 pub mod Lines

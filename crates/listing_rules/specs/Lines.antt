@@ -1,14 +1,12 @@
 -- A line: a word, a blank, operands with commas between them, and a line feed.
 use mathlib.Core.List.{List, [], _∷_, _++_}
 use Prim.Native.Nat.{ℕ}
-use lib.ListN.{take}
 use Rattle.instruction_rules.specs.declared.Memory.{Memory}
 use Rattle.instruction_rules.specs.declared.Shape.{Shape}
 use Rattle.listing_rules.specs.Characters.{ascii, numberText}
 use Rattle.listing_rules.specs.Mnemonics.{mnemonicOf}
 use Rattle.listing_rules.specs.Forms.{slotsOf, filled, following}
 use Rattle.listing_rules.specs.declared.Slots.{Slots}
-use Rattle.listing_rules.specs.declared.Line.{Line}
 
 abbrev pub 'blank : ℕ
 'blank = 32
@@ -37,7 +35,3 @@ dataItems separator (b ∷ bytes) = separator ∷ numberText (b ∷ []) ++ dataI
 -- a DB line: bytes as they are
 unfoldable pub dataLine : List ℕ → List ℕ
 dataLine bytes = ascii "DB" ++ (dataItems 'blank bytes ++ 'end ∷ [])
-
--- the characters of a line as the code holds it
-abbrev pub textIn : Line → List ℕ
-textIn l = take (l .len) (l .chars)

@@ -1,15 +1,13 @@
 -- The listing of a part of memory: its lines, and as many of them as a buffer has room for.
-use mathlib.Core.Path.{_≡_}
 use mathlib.Core.List.{List, [], _∷_, _++_}
-use Prim.Native.Nat.{ℕ, zero, suc, _+_, _-_, _≤_}
+use Prim.Native.Nat.{ℕ, zero, suc, _+_, _-_}
 use lib.Dec.{leb}
 use lib.ListN.{length, take, drop}
 use Rattle.ground_rules.specs.Choice.{pick}
 use Rattle.listing_rules.specs.Mnemonics.{isListed}
-use Rattle.listing_rules.specs.Lines.{instructionLine, dataLine, textIn}
+use Rattle.listing_rules.specs.Lines.{instructionLine, dataLine}
 use Rattle.listing_rules.specs.declared.Item.{Item}
 use Rattle.listing_rules.specs.declared.Item.the-variants.{Whole, Byte, End}
-use Rattle.listing_rules.specs.declared.Row.{Row}
 use Rattle.listing_rules.specs.Items.{itemOf, countOf}
 
 -- a line: the bytes that it lists, and its characters
@@ -72,10 +70,3 @@ placed lines buffer = listing (length (allChars lines)) (length (allBytes lines)
 -- the listing of a part whose first byte has the address `first`
 unfoldable pub listingOf : List ℕ → ℕ → List ℕ → Listing
 listingOf code first buffer = placed (keptIn (length buffer) (linesOf first (take listLimit code))) buffer
-
--- a row as the code holds it: the line that some bytes begin with
-pub record Shown (row : Row) (address : ℕ) (bytes : List ℕ) : Type 0 where
-  pub chars : textIn (row .line) ≡ lineAt address bytes .chars
-  pub size : row .line .len ≡ length (textIn (row .line))
-  pub short : row .line .len ≤ 28
-  pub count : row .count ≡ countOf (itemOf bytes)

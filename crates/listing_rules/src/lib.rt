@@ -20,21 +20,6 @@ pub struct Slots {
     pub third: Slot,
 }
 
-// A line: its characters, the line feed too, and how many there are.
-pub struct Line {
-    pub chars: [u8; 28],
-    pub len: usize,
-}
-
-// Four times up to eight characters, to be written one after the other.
-pub struct Pieces(pub u64, pub u64, pub u64, pub u64);
-
-// A line, and how many bytes it lists.
-pub struct Row {
-    pub line: Line,
-    pub count: usize,
-}
-
 // What bytes begin with: a whole instruction with the operand of MOV M,M's second pair and its length, a byte at which none
 // starts, or nothing.
 pub enum Item {

@@ -1,10 +1,10 @@
 // The places of an instruction's operands, and the characters that its bytes put there.
 use crate::mnemonics;
 use crate::pieces;
+use crate::pieces::Pieces;
 use instruction_rules::Memory;
 use instruction_rules::Shape;
 use instruction_rules::Work;
-use listing_rules::Pieces;
 use listing_rules::Slot;
 use listing_rules::Slots;
 ghost use mathlib.Core.Path.{_≡_};
@@ -12,10 +12,11 @@ ghost use mathlib.Core.List.{[], _∷_};
 ghost use lib.Dec.{eqb};
 ghost use lib.ListN.{getD};
 ghost use Rattle.ground_rules.specs.Choice.{pick};
-ghost use Rattle.listing_rules.specs.Characters.{numberText, heldIn, heldIn4};
+ghost use Rattle.listing_rules.specs.Characters.{numberText};
 ghost use Rattle.listing_rules.specs.Mnemonics.{isJump};
 ghost use Rattle.listing_rules.specs.declared.Slot.the-variants.{Empty, Name, Number, Target};
 ghost use Rattle.listing_rules.specs.Forms.{widthOf, afterOffset, slots, slotsOf, dataFrom, reachFrom, targetOf, wordBytes, filled, registerName, baseName, modeText, offsetText, following};
+ghost use Rattle.notation.specs.Writing.{heldIn, heldIn4};
 
 // The width of a side.
 fn width(wide: bool) -> u32

@@ -4,12 +4,18 @@ use crate::mnemonics;
 use crate::pieces;
 use instruction_rules::Memory;
 use instruction_rules::Shape;
-use listing_rules::Line;
 ghost use mathlib.Core.Path.{_≡_};
 ghost use Prim.Native.Nat.{_≤_};
 ghost use lib.ListN.{length, take};
 ghost use Rattle.listing_rules.specs.Mnemonics.{isListed};
-ghost use Rattle.listing_rules.specs.Lines.{instructionLine, dataLine, textIn};
+ghost use Rattle.listing_rules.specs.Lines.{instructionLine, dataLine};
+ghost use Rattle.notation.specs.Writing.{textIn};
+
+// A line: its characters, the line feed too, and how many there are.
+pub struct Line {
+    pub chars: [u8; 28],
+    pub len: usize,
+}
 
 // Whether an instruction has a line of its own: all but CALL with W 0.
 pub fn listed(s: Shape) -> bool

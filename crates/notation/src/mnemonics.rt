@@ -1,12 +1,12 @@
 // The words of the instructions.
+use crate::pieces::Pieces;
 use instruction_rules::Shape;
 use instruction_rules::Single;
 use instruction_rules::Work;
-use listing_rules::Pieces;
 ghost use mathlib.Core.Path.{_≡_};
 ghost use Rattle.ground_rules.specs.Choice.{pick};
-ghost use Rattle.listing_rules.specs.Characters.{heldIn, heldIn4};
 ghost use Rattle.listing_rules.specs.Mnemonics.{longMark, byteMark, workStem, singleStem, isJump, mnemonicOf};
+ghost use Rattle.notation.specs.Writing.{heldIn, heldIn4};
 
 // L, where the displacement has two bytes.
 fn long_mark(two: bool) -> u64

@@ -1,10 +1,12 @@
 // Characters held in numbers, the first in the lowest eight bits, and numbers written in hexadecimal or decimal.
-use listing_rules::Pieces;
 ghost use mathlib.Core.Path.{_≡_};
 ghost use mathlib.Core.List.{[], _∷_};
 ghost use Prim.Native.Nat.{_<_, _≤_};
-ghost use Rattle.listing_rules.specs.Characters.{hexGlyph, numberText, digitText, heldIn, heldIn4};
-ghost use Rattle.listing_rules.specs.Writing.{Fits, Wrote};
+ghost use Rattle.listing_rules.specs.Characters.{hexGlyph, numberText, digitText};
+ghost use Rattle.notation.specs.Writing.{heldIn, heldIn4, Fits, Wrote};
+
+// Four times up to eight characters, to be written one after the other.
+pub struct Pieces(pub u64, pub u64, pub u64, pub u64);
 
 // The digit, a capital where it is over 9.
 fn glyph(d: u64) -> u64

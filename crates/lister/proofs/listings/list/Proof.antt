@@ -8,7 +8,7 @@ use denote.Ref.{now}
 use lib.ListN.{length, length-take}
 use borrow.Author.Needs.{needs}
 use Rattle.listing_rules.specs.Listings.{listLimit, linesOf, keptIn, placed, listingOf}
-use Rattle.listing_rules.proofs.ListLaws.{Going, going-start, going-some, going-next, going-stop, going-end}
+use Rattle.lister.proofs.ListLaws.{Going, going-start, going-some, going-next, going-stop, going-end}
 use Rattle.lister.proofs.listings.list.Statement.{statement}
 use Rattle.lister.proofs.listings.list.Tie as tie
 

@@ -8,7 +8,7 @@ use denote.Ref.{now}
 use lib.ListN.{take, drop, length-drop}
 use borrow.Author.Needs.{needs}
 use Rattle.listing_rules.specs.Lines.{instructionLine, dataLine}
-use Rattle.listing_rules.proofs.RowLaws.{rest-all, cut-there, cut-whole, cut-byte, shown-line, shown-call, shown-byte, shown-end}
+use Rattle.lister.proofs.RowLaws.{rest-all, cut-there, cut-whole, cut-byte, shown-line, shown-call, shown-byte, shown-end}
 use Rattle.lister.proofs.listings.row_at.Statement.{statement}
 use Rattle.lister.proofs.listings.row_at.Tie as tie
 

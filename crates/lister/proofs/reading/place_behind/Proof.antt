@@ -5,7 +5,7 @@ use native.Mathlib.Omega.{arith}
 use denote.Ref.{now}
 use lib.ListN.{length-drop}
 use Rattle.listing_rules.specs.Items.{countOf, behindOf}
-use Rattle.listing_rules.proofs.RowLaws.{cut-there, cut-one}
+use Rattle.lister.proofs.RowLaws.{cut-there, cut-one}
 use borrow.Author.Needs.{needs}
 use Rattle.lister.proofs.reading.place_behind.Statement.{statement}
 use Rattle.lister.proofs.reading.place_behind.Tie as tie

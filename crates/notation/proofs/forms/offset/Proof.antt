@@ -2,7 +2,7 @@
 -- Assumes nothing.
 use borrow.Author.Tests.{eq-eqb, ne-eqb}
 use Rattle.listing_rules.specs.Forms.{offsetText}
-use Rattle.listing_rules.proofs.PieceLaws.{held-zero}
+use Rattle.notation.proofs.PieceLaws.{held-zero}
 use borrow.Author.Needs.{needs}
 use Rattle.notation.proofs.forms.offset.Statement.{statement}
 use Rattle.notation.proofs.forms.offset.Tie as tie

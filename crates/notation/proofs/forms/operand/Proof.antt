@@ -1,9 +1,9 @@
 -- `notation::forms::operand` meets its contract.
 -- Assumes nothing.
 use mathlib.Core.Path.{_∙_}
-use Rattle.listing_rules.specs.Characters.{heldBy, heldIn, heldIn4}
+use Rattle.notation.specs.Writing.{heldBy, heldIn, heldIn4}
 use Rattle.listing_rules.specs.Forms.{filled, spelled, following}
-use Rattle.listing_rules.proofs.PieceLaws.{four, led, held-zero}
+use Rattle.notation.proofs.PieceLaws.{four, led, held-zero}
 use borrow.Author.Needs.{needs}
 use Rattle.notation.proofs.forms.operand.Statement.{statement}
 use Rattle.notation.proofs.forms.operand.Tie as tie

@@ -1,7 +1,7 @@
 -- `notation::forms::register_name` meets its contract.
 -- Assumes nothing.
 use mathlib.Core.Path.{sym}
-use Rattle.listing_rules.specs.Characters.{heldBy, heldIn}
+use Rattle.notation.specs.Writing.{heldBy, heldIn}
 use Rattle.listing_rules.specs.Forms.{registerName}
 use Rattle.listing_rules.proofs.FormLaws.{past-seven}
 use borrow.Author.Tests.{ne-eqb}

@@ -6,10 +6,10 @@ use native.Mathlib.Omega.{arith}
 use denote.Ref.{now}
 use lib.ListN.{length, length-take}
 use borrow.Author.Needs.{needs}
-use Rattle.listing_rules.specs.Characters.{heldBy, heldIn}
+use Rattle.notation.specs.Writing.{heldBy, heldIn}
 use Rattle.listing_rules.specs.Lines.{dataLine}
-use Rattle.listing_rules.proofs.PieceLaws.{same-fits, same-wrote}
-use Rattle.listing_rules.proofs.DataLaws.{Listing, listing-start, listing-first, listing-second, listing-next, listing-last, listing-end}
+use Rattle.notation.proofs.PieceLaws.{same-fits, same-wrote}
+use Rattle.notation.proofs.DataLaws.{Listing, listing-start, listing-first, listing-second, listing-next, listing-last, listing-end}
 use Rattle.notation.proofs.lines.data_line.Statement.{statement}
 use Rattle.notation.proofs.lines.data_line.Tie as tie
 

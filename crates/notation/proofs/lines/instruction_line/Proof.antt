@@ -3,12 +3,11 @@
 use mathlib.Core.Path.{refl, ap, _∙_}
 use denote.Ref.{now}
 use borrow.Author.Needs.{needs}
-use Rattle.listing_rules.specs.Characters.{heldBy, heldIn}
+use Rattle.notation.specs.Writing.{heldBy, heldIn}
 use Rattle.listing_rules.specs.Mnemonics.{mnemonicOf}
 use Rattle.listing_rules.specs.Lines.{lineWith, instructionLine}
 use Rattle.listing_rules.specs.declared.Slots.{Slots}
-use Rattle.listing_rules.proofs.PieceLaws.{fits-head, fits-next, wrote-both, wrote-line, same-fits, same-wrote}
-use Rattle.listing_rules.proofs.LineLaws.{line-fits}
+use Rattle.notation.proofs.PieceLaws.{fits-head, fits-next, wrote-both, wrote-line, same-fits, same-wrote, line-fits}
 use Rattle.notation.proofs.lines.instruction_line.Statement.{statement}
 use Rattle.notation.proofs.lines.instruction_line.Tie as tie
 

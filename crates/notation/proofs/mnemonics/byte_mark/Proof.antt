@@ -1,6 +1,6 @@
 -- `notation::mnemonics::byte_mark` meets its contract.
 -- Assumes nothing.
-use Rattle.listing_rules.specs.Characters.{heldBy, heldIn}
+use Rattle.notation.specs.Writing.{heldBy, heldIn}
 use Rattle.notation.proofs.mnemonics.byte_mark.Statement.{statement}
 use Rattle.notation.proofs.mnemonics.byte_mark.Tie as tie
 

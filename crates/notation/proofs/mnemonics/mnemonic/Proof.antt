@@ -2,9 +2,9 @@
 -- Assumes nothing.
 use mathlib.Core.Path.{refl, sym, _∙_}
 use mathlib.Core.List.{append-nil}
-use Rattle.listing_rules.specs.Characters.{heldBy, heldIn, heldIn4}
+use Rattle.notation.specs.Writing.{heldBy, heldIn, heldIn4}
 use Rattle.listing_rules.specs.Mnemonics.{mnemonicOf}
-use Rattle.listing_rules.proofs.PieceLaws.{four, lone, led, held-zero, held-I}
+use Rattle.notation.proofs.PieceLaws.{four, lone, led, held-zero, held-I}
 use borrow.Author.Needs.{needs}
 use Rattle.notation.proofs.mnemonics.mnemonic.Statement.{statement}
 use Rattle.notation.proofs.mnemonics.mnemonic.Tie as tie

@@ -5,8 +5,9 @@ use Prim.Native.Nat.{_+_, _/_, _%_}
 use native.Mathlib.Omega.{arith}
 use lib.Dec.{lit≤}
 use borrow.Author.Tests.{lt-ltb, le-ltb}
-use Rattle.listing_rules.specs.Characters.{heldIn, digitText}
-use Rattle.listing_rules.proofs.PieceLaws.{held-packed}
+use Rattle.listing_rules.specs.Characters.{digitText}
+use Rattle.notation.specs.Writing.{heldIn}
+use Rattle.notation.proofs.PieceLaws.{held-packed}
 use borrow.Author.Needs.{needs}
 use Rattle.notation.proofs.pieces.digit.Statement.{statement}
 use Rattle.notation.proofs.pieces.digit.Tie as tie

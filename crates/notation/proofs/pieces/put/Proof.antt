@@ -5,8 +5,8 @@ use mathlib.Core.List.{_++_}
 use Prim.Native.Nat.{_+_, _≤_}
 use native.Mathlib.Omega.{arith}
 use lib.ListN.{length, take}
-use Rattle.listing_rules.specs.Characters.{heldIn}
-use Rattle.listing_rules.proofs.PieceLaws.{Left, left-next, left-end}
+use Rattle.notation.specs.Writing.{heldIn}
+use Rattle.notation.proofs.PieceLaws.{Left, left-next, left-end}
 use Rattle.notation.proofs.pieces.put.Statement.{statement}
 use Rattle.notation.proofs.pieces.put.Tie as tie
 

@@ -1,7 +1,7 @@
 -- `notation::pieces::put_all` meets its contract.
 -- Assumes nothing.
-use Rattle.listing_rules.specs.Characters.{heldIn, heldIn4}
-use Rattle.listing_rules.proofs.PieceLaws.{fits-head, fits-next, wrote-both}
+use Rattle.notation.specs.Writing.{heldIn, heldIn4}
+use Rattle.notation.proofs.PieceLaws.{fits-head, fits-next, wrote-both}
 use Rattle.notation.proofs.pieces.put_all.Statement.{statement}
 use Rattle.notation.proofs.pieces.put_all.Tie as tie
 

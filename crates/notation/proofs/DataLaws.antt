@@ -7,11 +7,11 @@ use native.Mathlib.Numerals.{add-one}
 use native.Mathlib.Omega.{arith}
 use lib.ListN.{length, getD, take, drop, drop-of-length-le, length-take}
 use lib.Seq.{drop-cons}
-use Rattle.listing_rules.specs.Characters.{ascii, heldBy, heldIn, numberText}
-use Rattle.listing_rules.specs.Writing.{Fits, Wrote}
+use Rattle.listing_rules.specs.Characters.{ascii, numberText}
 use Rattle.listing_rules.specs.Lines.{dataItems, dataLine, 'blank, 'comma, 'end}
-use Rattle.listing_rules.proofs.PieceLaws.{fits-head, fits-next, wrote-both, wrote-line, same-fits, same-wrote}
 use Rattle.listing_rules.proofs.LineLaws.{data-short}
+use Rattle.notation.specs.Writing.{heldBy, heldIn, Fits, Wrote}
+use Rattle.notation.proofs.PieceLaws.{fits-head, fits-next, wrote-both, same-fits, same-wrote}
 
 -- the items from index i on, and the line feed
 abbrev pub coming : List ℕ → ℕ → ℕ → List ℕ

@@ -1,4 +1,4 @@
--- Characters held in a number: what is put in comes out, one after the other.
+-- Characters held in a number: what is put in comes out, one after the other. What is written into a line, and that it fits.
 -- Assumes nothing.
 use mathlib.Core.Path.{_≡_, refl, sym, ap, _∙_}
 use mathlib.Core.List.{List, [], _∷_, _++_, append-nil, append-assoc}
@@ -9,9 +9,16 @@ use native.Mathlib.Nat.{pow-suc}
 use lib.ListN.{length, take, set, length-set, length-append}
 use lib.Seq.{take-suc-set, append-snoc}
 use borrow.Author.Tests.{ne-eqb}
-use Rattle.listing_rules.specs.Characters.{ascii, heldBy, heldIn, heldIn4}
-use Rattle.listing_rules.specs.Writing.{Fits, Wrote}
-use Rattle.listing_rules.specs.declared.Pieces.{Pieces}
+use Rattle.instruction_rules.specs.declared.Memory.{Memory}
+use Rattle.instruction_rules.specs.declared.Shape.{Shape}
+use Rattle.listing_rules.specs.Characters.{ascii}
+use Rattle.listing_rules.specs.Mnemonics.{mnemonicOf}
+use Rattle.listing_rules.specs.Forms.{slotsOf}
+use Rattle.listing_rules.specs.Lines.{lineWith, instructionLine}
+use Rattle.listing_rules.specs.declared.Slots.{Slots}
+use Rattle.listing_rules.proofs.LineLaws.{line-short}
+use Rattle.notation.specs.Writing.{heldBy, heldIn, heldIn4, Fits, Wrote}
+use Rattle.notation.specs.declared.pieces.Pieces.{Pieces}
 
 -- the number that holds some characters
 abbrev pub packed : List ℕ → ℕ
@@ -136,3 +143,8 @@ pub wrote-line : {a b text : List ℕ} {n : ℕ} → Wrote a b 0 n text → (tak
 wrote-line {a} {b} {text} {n} w =
     let e : length (take n b) ≡ length text = ap length (w .chars) in
     (w .chars, omega (arith, w .index, e))
+
+-- all of an instruction's line fits
+pub line-fits : (chars bytes : List ℕ) (end : ℕ) (s : Shape) (to : Memory) (places : Slots) → length chars ≡ 28 → places ≡ slotsOf s to → Fits chars 0 (lineWith (mnemonicOf s) places bytes end)
+unfolding instructionLine
+line-fits chars bytes end s to places size e = rw e (record { size = size; room = omega (arith, line-short bytes end s to) })

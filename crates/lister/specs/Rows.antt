@@ -1,0 +1,16 @@
+-- A row as the code holds it: a line, and how many bytes it lists.
+use mathlib.Core.Path.{_≡_}
+use mathlib.Core.List.{List}
+use Prim.Native.Nat.{ℕ, _≤_}
+use lib.ListN.{length}
+use Rattle.listing_rules.specs.Items.{itemOf, countOf}
+use Rattle.listing_rules.specs.Listings.{lineAt}
+use Rattle.notation.specs.Writing.{textIn}
+use Rattle.lister.specs.declared.listings.Row.{Row}
+
+-- a row is the line that some bytes begin with
+pub record Shown (row : Row) (address : ℕ) (bytes : List ℕ) : Type 0 where
+  pub chars : textIn (row .line) ≡ lineAt address bytes .chars
+  pub size : row .line .len ≡ length (textIn (row .line))
+  pub short : row .line .len ≤ 28
+  pub count : row .count ≡ countOf (itemOf bytes)
