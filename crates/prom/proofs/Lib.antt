@@ -1,1 +1,6 @@
+pub mod LineLaws
+pub mod RunLaws
+pub mod RecordLaws
+pub mod PlaceLaws
+pub mod LoopLaws
 pub mod Outcomes

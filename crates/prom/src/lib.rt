@@ -1,6 +1,4 @@
 // Firmware from Intel hexadecimal object files: a text is read into lent system memory, whole or not at all.
-use prom_rules::Fields;
-use prom_rules::Judged;
 ghost use mathlib.Core.Bool.{true, false};
 ghost use mathlib.Core.List.{[]};
 ghost use mathlib.Core.Path.{_≡_};
@@ -11,7 +9,7 @@ ghost use Rattle.ground_rules.specs.Places.{allLent};
 ghost use Rattle.prom_rules.specs.Records.{hexValue, allHex, hexByte, fitsType, hexBytes, recordOf, sumOf, lineRefusal, typeOf};
 ghost use Rattle.prom_rules.specs.File.{nextLine, segmentAfter, startAfter, storesFrom, storesOf};
 ghost use Rattle.prom_rules.specs.Load.{loading, storeAll, textFile, loadOf};
-ghost use Rattle.prom_rules.specs.Parts.{firstLine, digitRun, endsHere, endLength, Fielded, placesFrom, reachOf, foundFirst, judgedOf};
+ghost use Rattle.prom.specs.Parts.{firstLine, digitRun, endsHere, endLength, Fielded, placesFrom, reachOf, foundFirst, judgedOf};
 
 // What a call answers: its number, the start address, and the line that decided.
 pub struct Loaded {
@@ -24,6 +22,22 @@ pub struct Loaded {
 struct Digits {
     count: usize,
     sum: u32,
+}
+
+// The fields of a good record, and how far the next line is.
+struct Fields {
+    size: u32,
+    offset: u32,
+    kind: u32,
+    next: usize,
+}
+
+// A file judged: its number, line and start address, and the first line that reaches beyond memory.
+struct Judged {
+    number: u32,
+    line: u32,
+    start: u32,
+    beyond: u32,
 }
 
 // The value of a hexadecimal digit, 16 for any other byte.

@@ -1,6 +1,6 @@
 -- The laws of a file, one line at a time, and what of it does not depend on the lines and the start address before.
 -- Assumes nothing.
-use Prim.Native.Nat.{ℕ, _+_, _≤_}
+use Prim.Native.Nat.{ℕ, _+_, _%_, _≤_}
 use borrow.Author.Tests.{eq-eqb, ne-eqb, ltb-false}
 use lib.Dec.{eqb, ltb}
 use lib.ListN.{length, drop, length-take, length-drop}
@@ -12,12 +12,9 @@ use Rattle.ground_rules.specs.Buffers.{Buffers, storeByte}
 use Rattle.ground_rules.specs.Choice.{pick}
 use Rattle.prom_rules.specs.File.{Store, File, file, nextLine, storesFrom, storesOf, segmentAfter, startAfter, storing, fileOf}
 use Rattle.prom_rules.specs.Load.{storeAll}
-use Rattle.prom_rules.specs.Parts.{judgedOf, foundFirst, reachOf}
 use Rattle.prom_rules.specs.Records.{recordOf, hexSize, addressField, typeOf, dataBytes, digitsOf, lineRefusal}
-use Rattle.prom_rules.specs.declared.Fields.{Fields}
 use Rattle.prom_rules.proofs.DigitLaws.{byte-count}
-use Rattle.prom_rules.proofs.PlaceLaws.{reach-first}
-use Rattle.prom_rules.proofs.RecordLaws.{Good, good}
+use Rattle.prom_rules.proofs.RecordLaws.{Good}
 
 -- a line's number is never 0
 pub next-some : (line : ℕ) → nextLine line ≡ 0 → ⊥
@@ -57,24 +54,11 @@ data-length line g =
     length-take (hexSize (recordOf line)) (drop 4 (recordOf line))
     ∙ omega (arith, length-drop 4 (recordOf line), byte-count (digitsOf line) (hexSize (recordOf line) + 5) (g .count))
 
--- a judged file, one good record on
-pub judged-more : (m : Buffers) (before : ℕ) (this : List ℕ) (lines : List (List ℕ)) (segment start line : ℕ) (f : Fields) → lineRefusal this ≡ 0
-    → (typeOf (recordOf this) ≡ 1 → ⊥) → f .kind ≡ typeOf (recordOf this) → f .offset ≡ addressField (recordOf this) → f .size ≡ hexSize (recordOf this)
-    → judgedOf m before (fileOf (this ∷ lines) segment start line)
-    ≡ judgedOf m (foundFirst before (reachOf m (nextLine line) segment f))
-    (fileOf lines (segmentAfter (recordOf this) segment) (startAfter (recordOf this) start) (nextLine line))
-unfolding judgedOf
-judged-more m before this lines segment start line f e k kind offset size =
-    rw (file-more this lines segment start line e k)
-    (λ i. record {
-      number = rest .number;
-      line = rest .line;
-      start = rest .start;
-      beyond = reach-first m before (nextLine line) segment (recordOf this) f (rest .stores) (next-some line) kind offset (size ∙ sym (data-length this (good this e))) i;
-    })
-  where
-    rest : File
-    rest = fileOf lines (segmentAfter (recordOf this) segment) (startAfter (recordOf this) start) (nextLine line)
+-- an offset counts mod 65,536
+pub stores-wrap : (line segment o p : ℕ) (vs : List ℕ) → o % 65536 ≡ p % 65536 → storesFrom line segment o vs ≡ storesFrom line segment p vs
+unfolding storesFrom
+stores-wrap line segment o p [] e = refl
+stores-wrap line segment o p (v ∷ vs) e = rw (e, stores-wrap line segment (o + 1) (p + 1) vs (omega arith))
 
 -- ---- what is stored does not depend on lines and start address
 

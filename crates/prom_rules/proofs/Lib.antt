@@ -1,10 +1,6 @@
 pub mod DigitLaws
-pub mod LineLaws
-pub mod RunLaws
 pub mod RecordLaws
-pub mod PlaceLaws
 pub mod FileLaws
-pub mod LoopLaws
 pub mod LoadLaws
 pub mod Bounds
 pub mod TestLaws

@@ -2,7 +2,7 @@
 -- Assumes nothing.
 use Prim.Native.Nat.{ℕ, zero, suc, _+_, _-_, _*_, _/_, _%_, _<_, _≤_, min}
 use borrow.Author.Tests.{lt-ltb, le-ltb, le-leb, lt-leb, eq-eqb}
-use lib.Dec.{ltb, lit<}
+use lib.Dec.{ltb, eqb, lit<}
 use lib.ListN.{length, getD, take, drop, length-append, length-take, length-drop, take-append-drop}
 use lib.Seq.{take-append-seam}
 use mathlib.Core.Bool.{true, false}
@@ -13,20 +13,17 @@ use native.Mathlib.Decide.{decLt}
 use native.Mathlib.Omega.{arith}
 use Rattle.ground_rules.proofs.StoreLaws.{store-length, read-same, read-other}
 use Rattle.ground_rules.specs.Buffers.{Buffers, buffers, spaceOf, limitOf, indexOf, lentAt, byteAt, storeByte, withinLimits}
-use Rattle.ground_rules.specs.Places.{allPass, allLent}
 use Rattle.ground_rules.proofs.ChoiceLaws.{both-left, both-right}
 use Rattle.ground_rules.specs.Bytes.{lowByte, highByte}
 use Rattle.ground_rules.specs.Choice.{pick}
-use Rattle.prom_rules.specs.File.{File, file, nextLine, storesFrom, storesOf, segmentAfter, startAfter, storing, fileOf}
+use Rattle.prom_rules.specs.File.{Store, File, file, nextLine, storesFrom, storesOf, segmentAfter, startAfter, storing, fileOf}
 use Rattle.prom_rules.specs.Load.{loading, beyondLine, storeAll, textFile, loadOf}
-use Rattle.prom_rules.specs.Parts.{placesFrom}
 use Rattle.prom_rules.specs.Records.{hexValue, allHex, hexBytes, recordOf, hexSize, addressField, typeOf, dataBytes, segmentOf, sumOf, isRecord, sumsToZero, fitsType, lineRefusal}
-use Rattle.prom_rules.specs.Text.{hexLines}
+use Rattle.prom_rules.specs.Text.{inFront, hexLines}
 use Rattle.prom_rules.specs.Writer.{digitFor, digitsFor, checkFor, uncheckedFor, lineFor, recordsFor, fileFor, storeRow}
+use Rattle.prom_rules.proofs.DigitLaws.{no-digit}
 use Rattle.prom_rules.proofs.FileLaws.{store-append, file-end, file-more}
-use Rattle.prom_rules.proofs.LineLaws.{goes-on, digit-plain, plain}
 use Rattle.prom_rules.proofs.LoadLaws.{load-done}
-use Rattle.prom_rules.proofs.PlaceLaws.{beyond-stores}
 
 -- every one of some numbers is a byte
 abbrev pub Bytes : List ℕ → Type 0
@@ -78,13 +75,23 @@ bytes-append : (a b : List ℕ) → Bytes a → Bytes b → Bytes (a ++ b)
 bytes-append [] b p q = q
 bytes-append (x ∷ a) b p q = (p .0, bytes-append a b (p .1) q)
 
+-- a byte that is neither LF nor CR is its line's
+plain : (b : ℕ) (bs : List ℕ) → eqb b 10 ≡ false → eqb b 13 ≡ false → hexLines (b ∷ bs) ≡ inFront b (hexLines bs)
+unfolding hexLines
+plain b bs p q = rw (p, q)
+
+-- so is a digit
+digit-plain : (b : ℕ) (bs : List ℕ) → ltb (hexValue b) 16 ≡ true → hexLines (b ∷ bs) ≡ inFront b (hexLines bs)
+unfolding hexValue
+digit-plain b bs h = plain b bs (no-digit b 10 refl h) (no-digit b 13 refl h)
+
 -- digits up to an LF are one line
 line-of : (ds rest : List ℕ) → allHex ds ≡ true → hexLines (ds ++ 10 ∷ rest) ≡ ds ∷ hexLines rest
-unfolding hexLines
+unfolding hexLines inFront
 line-of [] rest h = refl
 line-of (d ∷ ds) rest h =
-    goes-on d (ds ++ 10 ∷ rest) (digit-plain d (ds ++ 10 ∷ rest) (both-left (ltb (hexValue d) 16) (allHex ds) (unfold allHex in h)))
-    ∙ rw (line-of ds rest (both-right (ltb (hexValue d) 16) (allHex ds) (unfold allHex in h)))
+    digit-plain d (ds ++ 10 ∷ rest) (both-left (ltb (hexValue d) 16) (allHex ds) (unfold allHex in h))
+    ∙ ap (inFront d) (line-of ds rest (both-right (ltb (hexValue d) 16) (allHex ds) (unfold allHex in h)))
 
 module _ (offset kind : ℕ) (vs : List ℕ) (o : offset < 65536) (f : fitsType kind (length vs) ≡ true) (n : length vs < 256) (k : kind < 256) (b : Bytes vs) where
   abbrev whole : List ℕ
@@ -96,10 +103,8 @@ module _ (offset kind : ℕ) (vs : List ℕ) (o : offset < 65536) (f : fitsType 
 
   -- it is one line of the text
   pub line-lines : (rest : List ℕ) → hexLines (lineFor offset kind vs ++ 10 ∷ rest) ≡ lineFor offset kind vs ∷ hexLines rest
-  unfolding lineFor
-  line-lines rest =
-      goes-on 58 (digitsFor whole ++ 10 ∷ rest) (plain 58 (digitsFor whole ++ 10 ∷ rest) refl refl)
-      ∙ rw (line-of (digitsFor whole) rest (digits-all whole whole-bytes))
+  unfolding lineFor inFront
+  line-lines rest = plain 58 (digitsFor whole ++ 10 ∷ rest) refl refl ∙ ap (inFront 58) (line-of (digitsFor whole) rest (digits-all whole whole-bytes))
 
   -- whose bytes come back
   pub line-record : recordOf (lineFor offset kind vs) ≡ whole
@@ -144,13 +149,14 @@ row-stores m line segment offset (v ∷ vs) h k =
     let next : segment * 16 + (offset + 1) ≡ segment * 16 + offset + 1 = omega arith in
     rw (here, ← next) (row-stores (storeByte m false (segment * 16 + offset) v) line segment (offset + 1) vs (omega arith) (omega arith))
 
--- and lent where the row is
-row-lent : (m : Buffers) (segment offset n : ℕ) → length (m .sys) ≤ 1048576 → offset + n ≤ 65536 → segment * 16 + offset + n ≤ length (m .sys)
-    → allLent m (placesFrom segment offset n) ≡ true
-unfolding allPass placesFrom lentAt spaceOf indexOf limitOf
-row-lent m segment offset zero l h k = refl
-row-lent m segment offset (suc n) l h k =
-    rw (lt-ltb ((segment * 16 + offset % 65536) % 1048576 % 1048576) (length (m .sys)) (omega arith)) (row-lent m segment (offset + 1) n l (omega arith) (omega arith))
+-- and none of them lies beyond where the row is lent
+row-lent : (m : Buffers) (line segment offset : ℕ) (vs : List ℕ) (ss : List Store) → length (m .sys) ≤ 1048576 → offset + length vs ≤ 65536
+    → segment * 16 + offset + length vs ≤ length (m .sys) → beyondLine m (storesFrom line segment offset vs ++ ss) ≡ beyondLine m ss
+unfolding beyondLine storesFrom lentAt spaceOf indexOf limitOf
+row-lent m line segment offset [] ss l h k = refl
+row-lent m line segment offset (v ∷ vs) ss l h k =
+    rw (lt-ltb ((segment * 16 + offset % 65536) % 1048576 % 1048576) (length (m .sys)) (omega arith))
+    (row-lent m line segment (offset + 1) vs ss l (omega arith) (omega arith))
 
 -- ---- the file
 
@@ -240,8 +246,8 @@ rows m l (suc n) a bs segment start line e b h =
       number = ih .number;
       begins = ih .begins;
       lent =
-          beyond-stores m k (a / 16) (a % 16) vs (fileOf (hexLines (recordsFor n (a + 16) ys)) (a / 16) start k .stores)
-          ∙ rw (row-lent m (a / 16) (a % 16) (length vs) l (omega arith) (omega arith)) (ih .lent);
+          row-lent m k (a / 16) (a % 16) vs (fileOf (hexLines (recordsFor n (a + 16) ys)) (a / 16) start k .stores) l (omega arith) (omega arith)
+          ∙ ih .lent;
       stored =
           λ m′. store-append m′ (storesFrom k (a / 16) (a % 16) vs) (fileOf (hexLines (recordsFor n (a + 16) ys)) (a / 16) start k .stores)
           ∙ ih .stored (storeAll m′ (storesFrom k (a / 16) (a % 16) vs))

@@ -6,7 +6,7 @@ use denote.Ref.{now}
 use lib.ListN.{drop-of-length-le}
 use lib.Seq.{drop-cons}
 use native.Mathlib.Omega.{arith}
-use Rattle.prom_rules.specs.Parts.{endLength}
+use Rattle.prom.specs.Parts.{endLength}
 use Rattle.prom.proofs.after_end.Statement.{statement}
 use Rattle.prom.proofs.after_end.Tie as tie
 

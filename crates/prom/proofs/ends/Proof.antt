@@ -8,7 +8,7 @@ use lib.ListN.{length, drop-of-length-le}
 use lib.Seq.{drop-cons}
 use native.Mathlib.Numerals.{add-one}
 use native.Mathlib.Omega.{arith}
-use Rattle.prom_rules.specs.Parts.{endsHere}
+use Rattle.prom.specs.Parts.{endsHere}
 use Rattle.prom_rules.specs.Text.{beginsLf}
 use Rattle.prom.proofs.ends.Statement.{statement}
 use Rattle.prom.proofs.ends.Tie as tie

@@ -3,7 +3,7 @@
 use borrow.Author.Needs.{needs}
 use borrow.Author.Tests.{eq-eqb, ne-eqb}
 use mathlib.Core.Path.{sym, _∙_}
-use Rattle.prom_rules.specs.Parts.{reachOf, foundFirst}
+use Rattle.prom.specs.Parts.{reachOf, foundFirst}
 use Rattle.prom.proofs.first_beyond.Statement.{statement}
 use Rattle.prom.proofs.first_beyond.Tie as tie
 

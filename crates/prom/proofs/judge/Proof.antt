@@ -11,9 +11,9 @@ use native.Mathlib.Omega.{arith}
 use Rattle.ground_rules.specs.Buffers.{buffers}
 use Rattle.prom_rules.specs.File.{fileOf}
 use Rattle.prom_rules.specs.Load.{textFile}
-use Rattle.prom_rules.specs.Parts.{judgedOf}
+use Rattle.prom.specs.Parts.{judgedOf}
 use Rattle.prom_rules.specs.Text.{hexLines}
-use Rattle.prom_rules.proofs.LoopLaws.{offset-below, size-below, segment-below, partAt, judged-last, here-bad, here-end, here-next, here-judged}
+use Rattle.prom.proofs.LoopLaws.{offset-below, size-below, segment-below, partAt, judged-last, here-bad, here-end, here-next, here-judged}
 use Rattle.prom.proofs.judge.Statement.{statement}
 use Rattle.prom.proofs.judge.Tie as tie
 

@@ -8,7 +8,7 @@ use mathlib.Core.List.{List, [], _∷_}
 use mathlib.Core.Path.{_≡_, sym}
 use native.Mathlib.Omega.{arith}
 use Rattle.prom_rules.proofs.DigitLaws.{digit-most}
-use Rattle.prom_rules.proofs.RecordLaws.{no-colon, run-end, line-not-ended, line-wrong-count, line-check, line-kind}
+use Rattle.prom.proofs.RecordLaws.{no-colon, run-end, line-not-ended, line-wrong-count, line-check, line-kind}
 use Rattle.prom.proofs.line_number.Statement.{statement}
 use Rattle.prom.proofs.line_number.Tie as tie
 

@@ -7,8 +7,8 @@ use mathlib.Core.List.{[]}
 use mathlib.Core.Path.{sym, ap, _∙_}
 use Rattle.ground_rules.specs.Buffers.{Buffers, buffers}
 use Rattle.prom_rules.specs.Load.{loading, storeAll, textFile}
-use Rattle.prom_rules.specs.Parts.{judgedOf, foundFirst}
-use Rattle.prom_rules.specs.declared.Judged.{Judged}
+use Rattle.prom.specs.Parts.{judgedOf, foundFirst}
+use Rattle.prom.specs.declared.Judged.{Judged}
 use Rattle.prom_rules.proofs.LoadLaws.{load-long, load-bad, load-beyond, load-done}
 use Rattle.prom.proofs.load.Statement.{statement}
 use Rattle.prom.proofs.load.Tie as tie

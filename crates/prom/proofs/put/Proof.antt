@@ -11,7 +11,7 @@ use Rattle.ground_rules.specs.Buffers.{Buffers, buffers}
 use Rattle.prom_rules.specs.File.{storesFrom}
 use Rattle.prom_rules.specs.Load.{storeAll}
 use Rattle.prom_rules.specs.Records.{hexBytes}
-use Rattle.prom_rules.proofs.LoopLaws.{put-step, put-last}
+use Rattle.prom.proofs.LoopLaws.{put-step, put-last}
 use Rattle.prom.proofs.put.Statement.{statement}
 use Rattle.prom.proofs.put.Tie as tie
 

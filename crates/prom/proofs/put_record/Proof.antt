@@ -8,10 +8,10 @@ use mathlib.Core.Path.{_≡_, sym, _∙_}
 use native.Mathlib.Omega.{arith}
 use Rattle.prom_rules.specs.File.{storesOf}
 use Rattle.prom_rules.specs.Load.{storeAll}
-use Rattle.prom_rules.specs.Parts.{firstLine}
+use Rattle.prom.specs.Parts.{firstLine}
 use Rattle.prom_rules.specs.Records.{recordOf, hexSize, typeOf}
-use Rattle.prom_rules.proofs.LoopLaws.{offset-below, size-below, data-digits, data-all}
-use Rattle.prom_rules.proofs.RecordLaws.{good-length, good-inside}
+use Rattle.prom.proofs.LoopLaws.{offset-below, size-below, data-digits, data-all}
+use Rattle.prom.proofs.RecordLaws.{good-length, good-inside}
 use Rattle.prom.proofs.put_record.Statement.{statement}
 use Rattle.prom.proofs.put_record.Tie as tie
 

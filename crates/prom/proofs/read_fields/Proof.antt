@@ -6,10 +6,10 @@ use denote.Ref.{now}
 use lib.ListN.{length, getD}
 use mathlib.Core.Path.{_≡_, sym, _∙_}
 use native.Mathlib.Omega.{arith}
-use Rattle.prom_rules.specs.Parts.{firstLine}
+use Rattle.prom.specs.Parts.{firstLine}
 use Rattle.prom_rules.specs.Records.{hexSize, addressField, typeOf}
 use Rattle.prom_rules.proofs.DigitLaws.{digit-most}
-use Rattle.prom_rules.proofs.RecordLaws.{good-length, good-inside, good-next, record-byte, record-word}
+use Rattle.prom.proofs.RecordLaws.{good-length, good-inside, good-next, record-byte, record-word}
 use Rattle.prom.proofs.read_fields.Statement.{statement}
 use Rattle.prom.proofs.read_fields.Tie as tie
 

@@ -8,7 +8,7 @@ use mathlib.Core.List.{[]}
 use mathlib.Core.Path.{_≡_, sym, ap₂, _∙_}
 use native.Mathlib.Omega.{arith}
 use Rattle.ground_rules.specs.Buffers.{buffers}
-use Rattle.prom_rules.proofs.PlaceLaws.{places-span, places-spans}
+use Rattle.prom.proofs.PlaceLaws.{places-span, places-spans}
 use Rattle.prom.proofs.row_lent.Statement.{statement}
 use Rattle.prom.proofs.row_lent.Tie as tie
 

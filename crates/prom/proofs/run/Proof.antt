@@ -7,9 +7,9 @@ use lib.Dec.{lit<}
 use lib.ListN.{length, getD, drop-of-length-le}
 use mathlib.Core.Path.{_≡_, ap, _∙_}
 use native.Mathlib.Omega.{arith}
-use Rattle.prom_rules.specs.Parts.{digitRun}
-use Rattle.prom_rules.proofs.LineLaws.{run-none, run-more, digit-inside}
-use Rattle.prom_rules.proofs.RunLaws.{Passed, passed-all, passed-one, passed-pair}
+use Rattle.prom.specs.Parts.{digitRun}
+use Rattle.prom.proofs.LineLaws.{run-none, run-more, digit-inside}
+use Rattle.prom.proofs.RunLaws.{Passed, passed-all, passed-one, passed-pair}
 use Rattle.prom.proofs.run.Statement.{statement}
 use Rattle.prom.proofs.run.Tie as tie
 

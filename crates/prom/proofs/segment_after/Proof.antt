@@ -5,9 +5,10 @@ use denote.Ref.{now}
 use mathlib.Core.Path.{sym, _∙_}
 use native.Mathlib.Omega.{arith}
 use Rattle.prom_rules.specs.File.{segmentAfter}
-use Rattle.prom_rules.specs.Parts.{firstLine}
+use Rattle.prom.specs.Parts.{firstLine}
 use Rattle.prom_rules.specs.Records.{recordOf, typeOf, hexSize, segmentOf}
-use Rattle.prom_rules.proofs.RecordLaws.{good, good-length, good-inside, record-word, fits-two}
+use Rattle.prom_rules.proofs.RecordLaws.{good, fits-two}
+use Rattle.prom.proofs.RecordLaws.{good-length, good-inside, record-word}
 use Rattle.prom.proofs.segment_after.Statement.{statement}
 use Rattle.prom.proofs.segment_after.Tie as tie
 

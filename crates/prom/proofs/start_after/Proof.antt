@@ -6,10 +6,11 @@ use lib.ListN.{getD}
 use mathlib.Core.Path.{sym, _∙_}
 use native.Mathlib.Omega.{arith}
 use Rattle.prom_rules.specs.File.{startAfter}
-use Rattle.prom_rules.specs.Parts.{firstLine}
+use Rattle.prom.specs.Parts.{firstLine}
 use Rattle.prom_rules.specs.Records.{recordOf, typeOf, hexSize, startOf}
 use Rattle.prom_rules.proofs.DigitLaws.{digit-most}
-use Rattle.prom_rules.proofs.RecordLaws.{good, good-length, good-inside, record-word, fits-four}
+use Rattle.prom_rules.proofs.RecordLaws.{good, fits-four}
+use Rattle.prom.proofs.RecordLaws.{good-length, good-inside, record-word}
 use Rattle.prom.proofs.start_after.Statement.{statement}
 use Rattle.prom.proofs.start_after.Tie as tie
 

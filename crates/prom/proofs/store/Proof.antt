@@ -12,7 +12,7 @@ use Rattle.ground_rules.specs.Buffers.{buffers}
 use Rattle.prom_rules.specs.File.{File, fileOf}
 use Rattle.prom_rules.specs.Load.{storeAll, textFile}
 use Rattle.prom_rules.specs.Text.{hexLines}
-use Rattle.prom_rules.proofs.LoopLaws.{segment-below, partAt, here-end, here-good, here-next, here-stored, here-number}
+use Rattle.prom.proofs.LoopLaws.{segment-below, partAt, here-end, here-good, here-next, here-stored, here-number}
 use Rattle.prom.proofs.store.Statement.{statement}
 use Rattle.prom.proofs.store.Tie as tie
 

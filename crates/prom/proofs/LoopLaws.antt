@@ -13,18 +13,19 @@ use native.Mathlib.Nat.{mod-eq-of-lt}
 use native.Mathlib.Omega.{arith}
 use Rattle.ground_rules.specs.Buffers.{Buffers, storeByte}
 use Rattle.ground_rules.specs.Choice.{pick}
 use Rattle.prom_rules.specs.File.{File, file, nextLine, storesFrom, storesOf, segmentAfter, startAfter, fileOf}
 use Rattle.prom_rules.specs.Load.{beyondLine, storeAll}
-use Rattle.prom_rules.specs.Parts.{firstLine, Fielded, judgedOf, foundFirst, reachOf}
 use Rattle.prom_rules.specs.Records.{allHex, hexByte, hexBytes, digitsOf, recordOf, hexSize, addressField, typeOf, dataBytes, segmentOf, lineRefusal}
 use Rattle.prom_rules.specs.Text.{hexLines}
-use Rattle.prom_rules.specs.declared.Fields.{Fields}
-use Rattle.prom_rules.specs.declared.Judged.{Judged}
 use Rattle.prom_rules.proofs.DigitLaws.{digit-below, byte-below, bytes-drop, bytes-take, all-drop, all-take}
-use Rattle.prom_rules.proofs.FileLaws.{file-bad, file-end, judged-more, stored-more, number-more}
-use Rattle.prom_rules.proofs.LineLaws.{othersOf, restOf, first-line, lines-some}
-use Rattle.prom_rules.proofs.PlaceLaws.{stores-wrap}
-use Rattle.prom_rules.proofs.RecordLaws.{good, good-length, word-below}
+use Rattle.prom_rules.proofs.FileLaws.{stores-wrap, file-bad, file-end, stored-more, number-more}
+use Rattle.prom_rules.proofs.RecordLaws.{good}
+use Rattle.prom.specs.Parts.{firstLine, Fielded, judgedOf, foundFirst, reachOf}
+use Rattle.prom.specs.declared.Fields.{Fields}
+use Rattle.prom.specs.declared.Judged.{Judged}
+use Rattle.prom.proofs.LineLaws.{othersOf, restOf, first-line, lines-some}
+use Rattle.prom.proofs.PlaceLaws.{judged-more}
+use Rattle.prom.proofs.RecordLaws.{good-length, word-below}
 
 -- ---- what a good record bounds
 

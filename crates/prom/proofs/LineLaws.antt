@@ -13,10 +13,10 @@ use native.Mathlib.Numerals.{add-one}
 use native.Mathlib.Omega.{arith}
 use Rattle.ground_rules.proofs.ChoiceLaws.{apart}
 use Rattle.ground_rules.specs.Choice.{pick}
-use Rattle.prom_rules.specs.Parts.{firstOf, firstLine, digitRun, endsHere, endLength}
 use Rattle.prom_rules.specs.Records.{hexValue, allHex}
 use Rattle.prom_rules.specs.Text.{beginsLf, inFront, hexLines}
 use Rattle.prom_rules.proofs.DigitLaws.{no-digit}
+use Rattle.prom.specs.Parts.{firstOf, firstLine, digitRun, endsHere, endLength}
 
 -- the lines behind the first
 abbrev pub othersOf : List (List ℕ) → List (List ℕ)

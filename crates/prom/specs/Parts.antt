@@ -9,12 +9,12 @@ use Rattle.ground_rules.specs.Buffers.{Buffers}
 use Rattle.ground_rules.specs.Places.{Place, allLent}
 use Rattle.ground_rules.specs.Choice.{pick}
 use Rattle.ground_rules.specs.Sums.{addressOf}
 use Rattle.prom_rules.specs.File.{File}
 use Rattle.prom_rules.specs.Load.{beyondLine}
 use Rattle.prom_rules.specs.Records.{hexValue, recordOf, hexSize, addressField, typeOf}
 use Rattle.prom_rules.specs.Text.{beginsLf, hexLines}
-use Rattle.prom_rules.specs.declared.Fields.{Fields}
-use Rattle.prom_rules.specs.declared.Judged.{Judged}
+use Rattle.prom.specs.declared.Fields.{Fields}
+use Rattle.prom.specs.declared.Judged.{Judged}
 
 -- the first of some lines, blank where there is none
 abbrev pub firstOf : List (List ℕ) → List ℕ

@@ -5,8 +5,8 @@ use lib.ListN.{length, drop}
 use mathlib.Core.List.{List, [], _∷_}
 use mathlib.Core.Path.{_≡_, _∙_}
 use native.Mathlib.Omega.{arith}
-use Rattle.prom_rules.specs.Parts.{digitRun}
 use Rattle.prom_rules.specs.Records.{hexValue, hexBytes, sumOf}
+use Rattle.prom.specs.Parts.{digitRun}
 
 -- the count and the sum of a run, as they stand at a place with so many digits passed
 pub record Passed (t : List ℕ) (i sum : ℕ) : Type 0 where

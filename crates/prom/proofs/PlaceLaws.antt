@@ -1,4 +1,4 @@
--- The laws of a record's places: how their offset wraps, when they are all lent, and which line reaches beyond memory first.
+-- The laws of a record's places: how their offset wraps, when they are all lent, and which line reaches beyond memory first, record by record.
 -- Assumes nothing.
 use Prim.Native.Nat.{ℕ, zero, suc, _+_, _*_, _%_, _≤_}
 use borrow.Author.Tests.{eq-eqb, ne-eqb}
@@ -6,7 +6,7 @@ use lib.Dec.{eqb}
 use lib.ListN.{length}
 use mathlib.Core.Bool.{Bool, true, false, _&&_}
 use mathlib.Core.List.{List, [], _∷_, _++_}
-use mathlib.Core.Path.{_≡_, refl, ap, ap₂, _∙_}
+use mathlib.Core.Path.{_≡_, refl, sym, ap, ap₂, _∙_}
 use native.Mathlib.Decide.{ℕ-discrete}
 use native.Mathlib.Nat.{zero-add, suc-add, add-zero, mod-eq-of-lt}
 use native.Mathlib.Omega.{arith}
@@ -16,23 +16,19 @@ use Rattle.ground_rules.specs.Buffers.{Buffers, lentAt}
 use Rattle.ground_rules.specs.Places.{span, allPass, allLent}
 use Rattle.ground_rules.specs.Choice.{pick}
 use Rattle.ground_rules.specs.Sums.{addressOf}
-use Rattle.prom_rules.specs.File.{Store, storesFrom, storesOf}
+use Rattle.prom_rules.specs.File.{Store, File, nextLine, storesFrom, storesOf, segmentAfter, startAfter, fileOf}
 use Rattle.prom_rules.specs.Load.{beyondLine}
-use Rattle.prom_rules.specs.Parts.{placesFrom, reachOf, foundFirst}
-use Rattle.prom_rules.specs.Records.{addressField, typeOf, dataBytes}
-use Rattle.prom_rules.specs.declared.Fields.{Fields}
+use Rattle.prom_rules.specs.Records.{recordOf, hexSize, addressField, typeOf, dataBytes, lineRefusal}
+use Rattle.prom_rules.proofs.FileLaws.{next-some, file-more, data-length}
+use Rattle.prom_rules.proofs.RecordLaws.{good}
+use Rattle.prom.specs.Parts.{placesFrom, reachOf, foundFirst, judgedOf}
+use Rattle.prom.specs.declared.Fields.{Fields}
 
--- an offset counts mod 65,536, for places
+-- an offset counts mod 65,536
 pub places-wrap : (segment o p n : ℕ) → o % 65536 ≡ p % 65536 → placesFrom segment o n ≡ placesFrom segment p n
 unfolding placesFrom
 places-wrap segment o p zero e = refl
 places-wrap segment o p (suc n) e = rw (e, places-wrap segment (o + 1) (p + 1) n (omega arith))
-
--- and for stores
-pub stores-wrap : (line segment o p : ℕ) (vs : List ℕ) → o % 65536 ≡ p % 65536 → storesFrom line segment o vs ≡ storesFrom line segment p vs
-unfolding storesFrom
-stores-wrap line segment o p [] e = refl
-stores-wrap line segment o p (v ∷ vs) e = rw (e, stores-wrap line segment (o + 1) (p + 1) vs (omega arith))
 
 -- places in a row are some and then the others
 places-append : (segment offset k n : ℕ) → placesFrom segment offset (k + n) ≡ placesFrom segment offset k ++ placesFrom segment (offset + k) n
@@ -100,3 +96,22 @@ reach-first m before line segment bytes f ss ne kind offset size =
     go false (yes e) = rw (eq-eqb before 0 e)
     go true (no e) = simp (ne-eqb before 0 e)
     go false (no e) = simp (ne-eqb before 0 e)
+
+-- a judged file, one good record on
+pub judged-more : (m : Buffers) (before : ℕ) (this : List ℕ) (lines : List (List ℕ)) (segment start line : ℕ) (f : Fields) → lineRefusal this ≡ 0
+    → (typeOf (recordOf this) ≡ 1 → ⊥) → f .kind ≡ typeOf (recordOf this) → f .offset ≡ addressField (recordOf this) → f .size ≡ hexSize (recordOf this)
+    → judgedOf m before (fileOf (this ∷ lines) segment start line)
+    ≡ judgedOf m (foundFirst before (reachOf m (nextLine line) segment f))
+    (fileOf lines (segmentAfter (recordOf this) segment) (startAfter (recordOf this) start) (nextLine line))
+unfolding judgedOf
+judged-more m before this lines segment start line f e k kind offset size =
+    rw (file-more this lines segment start line e k)
+    (λ i. record {
+      number = rest .number;
+      line = rest .line;
+      start = rest .start;
+      beyond = reach-first m before (nextLine line) segment (recordOf this) f (rest .stores) (next-some line) kind offset (size ∙ sym (data-length this (good this e))) i;
+    })
+  where
+    rest : File
+    rest = fileOf lines (segmentAfter (recordOf this) segment) (startAfter (recordOf this) start) (nextLine line)
