@@ -13,7 +13,7 @@ use instruction_rules::Shape;
 use instruction_rules::Single;
 use instruction_rules::Work;
 ghost use mathlib.Core.Path.{_≡_};
-ghost use Rattle.instruction_rules.specs.Cells.{cellOf, workBy, singleBy, pointerBy};
+ghost use Rattle.decode.specs.Cells.{cellOf, workBy, singleBy, pointerBy};
 
 // The cells of the opcodes 00 to 3F.
 const CELLS: [u8; 64] = [

@@ -16,7 +16,7 @@ ghost use lib.Dec.{eqb, leb};
 ghost use Rattle.instruction_rules.specs.Pairs.{pairOf};
 ghost use Rattle.instruction_rules.specs.Reading.{decodeOf, numberOf, secondOf, secondNumberOf};
 ghost use Rattle.instruction_rules.specs.Lengths.{moreBy, twoBy, offsetLength, pairLength};
-ghost use Rattle.instruction_rules.specs.Cells.{cellLength};
+ghost use Rattle.decode.specs.Cells.{cellLength};
 
 // What the first two bytes of an instruction are, and its length; the table is read once.
 pub fn look_up(first: u8, second: u8) -> Looked

@@ -7,7 +7,7 @@ use instruction_rules::Pair;
 use instruction_rules::Shape;
 ghost use mathlib.Core.Path.{_≡_};
 ghost use Rattle.instruction_rules.specs.Reading.{lookup};
-ghost use Rattle.instruction_rules.specs.Cells.{controlRows, cellRows};
+ghost use Rattle.decode.specs.Cells.{controlRows, cellRows};
 
 // The control codes: which one RRR says.
 fn control(p: Pair) -> Decoded

@@ -1,6 +1,5 @@
 pub mod ColumnLaws
 pub mod TableLaws
-pub mod CellLaws
 pub mod LengthLaws
 pub mod Outcomes
 pub mod LengthRule

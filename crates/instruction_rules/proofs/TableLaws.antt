@@ -1,25 +1,19 @@
 -- The summary by its opcodes: a pair is what the rows with its own opcode say.
 -- Assumes nothing.
-use mathlib.Core.Path.{_≡_, refl, sym, ap}
+use mathlib.Core.Path.{_≡_, refl, ap}
 use mathlib.Core.Bool.{Bool, true, false, _&&_}
 use mathlib.Core.List.{List, [], _∷_}
-use Prim.Native.Nat.{ℕ, zero, suc, _≤_}
-use native.Mathlib.Omega.{arith}
-use lib.Arith.{lt-of-le-ne}
+use Prim.Native.Nat.{ℕ}
 use lib.Dec.{T, eqb}
 use borrow.Author.Tests.{eq-eqb}
-use Rattle.ground_rules.specs.Bits.{bitOf}
 use Rattle.ground_rules.specs.Choice.{pick}
 use Rattle.instruction_rules.specs.Pairs.{columns}
-use Rattle.instruction_rules.specs.Pairs.Column.{'0, '00, '000, '010, '011, '1SD}
 use Rattle.instruction_rules.specs.Rows.{reading, isControl}
 use Rattle.instruction_rules.specs.declared.Pair.{Pair}
-use Rattle.instruction_rules.specs.declared.Shape.the-variants.{Nop, Sintr, Xfer, Wid}
 use Rattle.instruction_rules.specs.declared.Decoded.{Decoded}
-use Rattle.instruction_rules.specs.declared.Decoded.the-variants.{Instruction, NoInstruction, ControlUsed}
+use Rattle.instruction_rules.specs.declared.Decoded.the-variants.{Instruction, ControlUsed}
 use Rattle.instruction_rules.specs.Table.{SummaryRow}
 use Rattle.instruction_rules.specs.Reading.{fits, lookup}
-use Rattle.instruction_rules.specs.Cells.{controlRows}
 
 pub left : (a b : Bool) → T (a && b) → T a
 left true b t = tt
@@ -33,16 +27,6 @@ right false b t = absurd t
 abbrev pub Avoids : ℕ → List ℕ → Type 0
 Avoids x [] = Unit
 Avoids x (k ∷ ks) = Avoids x ks × (x ≡ k → ⊥)
-
--- the numbers below another, the highest first
-abbrev pub downFrom : ℕ → List ℕ
-downFrom zero = []
-downFrom (suc n) = n ∷ downFrom n
-
--- a number that is none of those below another is not below it
-pub avoided : (n x : ℕ) → Avoids x (downFrom n) → n ≤ x
-avoided zero x a = omega arith
-avoided (suc n) x a = lt-of-le-ne (avoided n x (a .0)) (λ e. a .1 (sym e))
 
 -- a row before others where a test holds; each is named once, since the checker works out all that it is given
 abbrev keepIf : Bool → SummaryRow → List SummaryRow → List SummaryRow
@@ -72,8 +56,3 @@ says r p = reading (columns (r .rrr) (r .dd) (r .aa) (r .w) (r .mm) p) (r .contr
 pub alone : (r : SummaryRow) (p : Pair) → p .opcode ≡ r .opcode → lookup (r ∷ []) p ≡ says r p
 unfolding lookup
 alone r p e = rw (eq-eqb (p .opcode) (r .opcode) e)
-
--- a pair with the opcode of the control codes is what one of the four says
-pub control-codes : (p : Pair) → lookup (controlRows (p .opcode)) p ≡ pick (columns '010 '00 '00 '0 '00 p) (Instruction Sintr) (pick (columns '000 '00 '00 '0 '00 p) (Instruction Nop) (pick (columns '011 '00 '00 '0 '00 p) (Instruction Xfer) (pick (columns '1SD '00 '00 '0 '00 p) (Instruction (Wid (bitOf (p .rrr) 1) (bitOf (p .rrr) 0))) NoInstruction)))
-unfolding lookup controlRows
-control-codes p = rw (eq-eqb (p .opcode) (p .opcode) refl)

@@ -2,7 +2,6 @@ pub mod Pairs
 pub mod Rows
 pub mod Table
 pub mod Lengths
-pub mod Cells
 pub mod Reading
 pub mod Marks
 pub mod Operands

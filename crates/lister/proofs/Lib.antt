@@ -1,2 +1,3 @@
+pub mod UnusedLaws
 pub mod RowLaws
 pub mod ListLaws

@@ -8,7 +8,7 @@ ghost use mathlib.Core.Path.{_≡_};
 ghost use Prim.Native.Nat.{_+_, _≤_};
 ghost use lib.Dec.{ltb};
 ghost use lib.ListN.{length, drop};
-ghost use Rattle.instruction_rules.specs.Cells.{cellOf};
+ghost use Rattle.decode.specs.Cells.{cellOf};
 ghost use Rattle.instruction_rules.specs.Lengths.{offsetLength};
 ghost use Rattle.instruction_rules.specs.declared.Shape.the-variants.{MovMemory};
 ghost use Rattle.listing_rules.specs.Items.{toOf, wholeOf, itemOf, behindOf};

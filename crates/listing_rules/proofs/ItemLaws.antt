@@ -1,14 +1,11 @@
 -- What some bytes begin with, test by test.
 -- Assumes nothing.
 use mathlib.Core.Path.{_≡_, refl, sym, ap, _∙_}
-use mathlib.Core.Bool.{true}
 use mathlib.Core.List.{List, [], _∷_}
-use Prim.Native.Nat.{ℕ, zero, suc, _+_, _/_, _%_, _^_, _≤_, _<_}
+use Prim.Native.Nat.{ℕ, zero, suc, _+_, _≤_, _<_}
 use native.Mathlib.Omega.{arith}
-use lib.Dec.{eqb, ltb}
 use lib.ListN.{length, getD}
-use borrow.Author.Tests.{ne-eqb, lt-ltb, le-ltb, ltb-true}
-use Rattle.ground_rules.specs.Bits.{fieldOf}
+use borrow.Author.Tests.{ne-eqb, lt-ltb, le-ltb}
 use Rattle.instruction_rules.specs.Pairs.{pairOf}
 use denote.Enum.Declared.{tagOf as variant}
 use types.Run.{OneOf, miss}
@@ -21,15 +18,12 @@ use Rattle.instruction_rules.specs.declared.Second.{Second}
 use Rattle.instruction_rules.specs.declared.Second.the-variants.{Operand, NoSecond}
 use Rattle.instruction_rules.proofs.Shape as Shapes
 use Rattle.instruction_rules.proofs.Decoded as Decodeds
-use Rattle.instruction_rules.specs.Reading.{lookup, decodeOf, secondOf}
-use Rattle.instruction_rules.specs.Cells.{cells, cellOf, formRows}
+use Rattle.instruction_rules.specs.Reading.{decodeOf, secondOf}
 use Rattle.instruction_rules.specs.declared.Looked.{Looked}
 use Rattle.instruction_rules.specs.Lengths.{offsetLength, dataLength, displacementLength, lengthOf, pairLength}
 use Rattle.instruction_rules.proofs.LengthRule.{pair-rule}
-use Rattle.instruction_rules.proofs.CellLaws.{atPlaces, at-each, by-cell, by-form}
 use Rattle.listing_rules.proofs.FormLaws.{offset-short}
-use Rattle.listing_rules.specs.declared.Item.{Item}
-use Rattle.listing_rules.specs.declared.Item.the-variants.{Whole, Byte, End}
+use Rattle.listing_rules.specs.declared.Item.the-variants.{Whole, Byte}
 use Rattle.listing_rules.specs.Items.{nowhere, toOf, wholeOf, readOf, itemOf}
 
 -- what is less than two and not none is one
@@ -99,24 +93,6 @@ no-second bytes (JumpMasked a b c) h = refl
 no-second bytes (JumpBit a b c d) h = refl
 no-second bytes (Bit a b c) h = refl
 
--- the opcodes that no instruction has, a bit for each, held against the decoder's table, all 64 at once
-whole-unused : atPlaces (λ (k cell : ℕ). eqb (0x90080000FFF020FA / 2 ^ k % 2) 1) 0 cells ≡ atPlaces (λ (k cell : ℕ). ltb cell 16) 0 cells
-unfolding cells
-whole-unused = refl
-
-pub unused-bit : (second : ℕ) → eqb (0x90080000FFF020FA / 2 ^ fieldOf second 2 6 % 2) 1 ≡ ltb (cellOf second) 16
-unfolding cellOf cells fieldOf
-unused-bit second =
-    at-each (λ (k cell : ℕ). eqb (0x90080000FFF020FA / 2 ^ k % 2) 1) (λ (k cell : ℕ). ltb cell 16) cells whole-unused (fieldOf second 2 6) (omega arith)
-
--- a pair with such an opcode is none
-no-instruction : (first second : ℕ) → ltb (cellOf second) 16 ≡ true → decodeOf first second ≡ NoInstruction
-unfolding decodeOf lookup formRows
-no-instruction first second h =
-    let low : cellOf second < 16 = ltb-true (cellOf second) 16 h in
-    let form : cellOf second / 16 ≡ 0 = omega (arith, low) in
-    by-cell first second ∙ by-form (pairOf first second) (cellOf second) 0 form
-
 read-none : (bytes : List ℕ) (d : Decoded) → OneOf (1 ∷ 2 ∷ []) (variant Decodeds.the-type d) → readOf bytes d ≡ Byte
 unfolding readOf
 read-none bytes (Instruction s) h = absurd (miss (1 ∷ 2 ∷ []) 0 tt h)
@@ -158,14 +134,6 @@ module _ (bytes : List ℕ) (some : length bytes ≡ 0 → ⊥) (more : length b
   pub item-read : (d : Decoded) → d ≡ decodeOf (getD bytes 0 0) (getD bytes 1 0) → readOf bytes d ≡ itemOf bytes
   unfolding itemOf
   item-read d read = rw (ne-eqb (length bytes) 0 some, ne-eqb (length bytes) 1 more, read)
-
-  -- no instruction has the opcode
-  pub item-unused : ltb (cellOf (getD bytes 1 0)) 16 ≡ true → Byte ≡ itemOf bytes
-  unfolding readOf
-  item-unused h =
-      let d = decodeOf (getD bytes 0 0) (getD bytes 1 0) in
-      let e : readOf bytes d ≡ Byte = ap (readOf bytes) (no-instruction (getD bytes 0 0) (getD bytes 1 0) h) in
-      sym e ∙ item-read d refl
 
   module _ (d : Decoded) (read : d ≡ decodeOf (getD bytes 0 0) (getD bytes 1 0)) where
     -- the pair is no instruction

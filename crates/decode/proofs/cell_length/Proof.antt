@@ -3,7 +3,7 @@
 use borrow.Author.Needs.{needs}
 use native.Mathlib.Omega.{arith}
 use lib.Dec.{eqb, leb}
-use Rattle.instruction_rules.specs.Cells.{cellLength}
+use Rattle.decode.specs.Cells.{cellLength}
 use Rattle.instruction_rules.proofs.LengthLaws.{more-small, two-small}
 use Rattle.decode.proofs.cell_length.Statement.{statement}
 use Rattle.decode.proofs.cell_length.Tie as tie

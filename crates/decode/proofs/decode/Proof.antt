@@ -3,7 +3,7 @@
 use borrow.Author.Needs.{needs}
 use mathlib.Core.Path.{sym, _∙_}
 use Rattle.instruction_rules.specs.Reading.{decodeOf}
-use Rattle.instruction_rules.proofs.CellLaws.{by-cell}
+use Rattle.decode.proofs.CellLaws.{by-cell}
 use Rattle.decode.proofs.decode.Statement.{statement}
 use Rattle.decode.proofs.decode.Tie as tie
 

@@ -7,7 +7,7 @@ use Rattle.instruction_rules.specs.Pairs.{pairOf}
 use Rattle.instruction_rules.specs.declared.Decoded.{Decoded}
 use Rattle.instruction_rules.specs.Reading.{decodeOf}
 use Rattle.instruction_rules.specs.Lengths.{pairLength}
-use Rattle.instruction_rules.proofs.CellLaws.{by-cell, length-by-cell}
+use Rattle.decode.proofs.CellLaws.{by-cell, length-by-cell}
 use Rattle.decode.proofs.look_up.Statement.{statement}
 use Rattle.decode.proofs.look_up.Tie as tie
 

@@ -2,7 +2,7 @@
 -- Assumes nothing.
 use borrow.Author.Needs.{needs}
 use mathlib.Core.Path.{sym, _∙_}
-use Rattle.instruction_rules.proofs.CellLaws.{length-by-cell}
+use Rattle.decode.proofs.CellLaws.{length-by-cell}
 use Rattle.decode.proofs.pair_length.Statement.{statement}
 use Rattle.decode.proofs.pair_length.Tie as tie
 

@@ -6,8 +6,8 @@ use Prim.Native.Nat.{ℕ, _/_}
 use native.Mathlib.Omega.{arith}
 use lib.ListN.{getD}
 use Rattle.ground_rules.specs.Bits.{fieldOf}
-use Rattle.instruction_rules.specs.Cells.{cells, cellOf}
-use Rattle.instruction_rules.proofs.CellLaws.{cell-small}
+use Rattle.decode.specs.Cells.{cells, cellOf}
+use Rattle.decode.proofs.CellLaws.{cell-small}
 use Rattle.decode.proofs.cells.cell.Statement.{statement}
 use Rattle.decode.proofs.cells.cell.Tie as tie
 

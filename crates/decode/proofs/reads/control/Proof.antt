@@ -5,7 +5,7 @@ use borrow.Author.Tests.{lt-leb, le-leb, ne-eqb}
 use mathlib.Core.Bool.{and-false}
 use Prim.Native.Nat.{_≤_, _<_}
 use native.Mathlib.Omega.{arith}
-use Rattle.instruction_rules.proofs.TableLaws.{control-codes}
+use Rattle.decode.proofs.CellLaws.{control-codes}
 use Rattle.decode.proofs.reads.control.Statement.{statement}
 use Rattle.decode.proofs.reads.control.Tie as tie
 

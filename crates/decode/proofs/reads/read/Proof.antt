@@ -5,9 +5,9 @@ use borrow.Author.Tests.{ne-eqb}
 use mathlib.Core.Path.{refl, sym, _∙_}
 use Prim.Native.Nat.{_%_}
 use Rattle.instruction_rules.specs.Reading.{lookup}
-use Rattle.instruction_rules.specs.Cells.{formRows}
+use Rattle.decode.specs.Cells.{formRows}
 use Rattle.instruction_rules.proofs.TableLaws.{alone}
-use Rattle.instruction_rules.proofs.CellLaws.{by-form, no-form}
+use Rattle.decode.proofs.CellLaws.{by-form, no-form}
 use Rattle.decode.proofs.reads.read.Statement.{statement}
 use Rattle.decode.proofs.reads.read.Tie as tie
 

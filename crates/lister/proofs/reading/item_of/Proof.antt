@@ -7,7 +7,8 @@ use mathlib.Core.Path.{sym, ap, _∙_}
 use borrow.Author.Tests.{eq-eqb, ne-eqb}
 use Rattle.instruction_rules.specs.declared.Shape.{Shape}
 use Rattle.listing_rules.specs.Items.{toOf, wholeOf, itemOf}
-use Rattle.listing_rules.proofs.ItemLaws.{one-left, looked-what, looked-length, pairs-there, whole-single, item-unused, item-none, item-short, item-second}
+use Rattle.listing_rules.proofs.ItemLaws.{one-left, looked-what, looked-length, pairs-there, whole-single, item-none, item-short, item-second}
+use Rattle.lister.proofs.UnusedLaws.{item-unused}
 use borrow.Author.Needs.{needs}
 use Rattle.lister.proofs.reading.item_of.Statement.{statement}
 use Rattle.lister.proofs.reading.item_of.Tie as tie

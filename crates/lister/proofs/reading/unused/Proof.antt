@@ -5,7 +5,7 @@ use Prim.Native.Nat.{ℕ, _/_, _%_, _^_}
 use native.Mathlib.Omega.{arith}
 use lib.Dec.{eqb}
 use Rattle.ground_rules.specs.Bits.{fieldOf}
-use Rattle.listing_rules.proofs.ItemLaws.{unused-bit}
+use Rattle.lister.proofs.UnusedLaws.{unused-bit}
 use borrow.Author.Needs.{needs}
 use Rattle.lister.proofs.reading.unused.Statement.{statement}
 use Rattle.lister.proofs.reading.unused.Tie as tie

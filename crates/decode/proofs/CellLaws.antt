@@ -1,23 +1,27 @@
 -- The rule of the decoder's table, proved once: the cell of each opcode stands for the rows that the summary has at it, and says whether two bytes more follow.
 -- Assumes nothing.
 use mathlib.Core.Path.{_≡_, refl, sym, ap, subst, _∙_}
-use mathlib.Core.Bool.{Bool, true}
+use mathlib.Core.Bool.{true}
 use mathlib.Core.List.{List, [], _∷_}
 use Prim.Native.Nat.{ℕ, zero, suc, _+_, _/_, _%_, _≤_, _<_}
 use native.Mathlib.Nat.{add-zero, zero-add, add-suc, suc-add, le-of-suc-le-suc, not-suc-le-zero}
 use native.Mathlib.Omega.{arith}
-use borrow.Author.Tests.{ltb-true}
+use borrow.Author.Tests.{ltb-true, eq-eqb}
+use lib.Arith.{lt-of-le-ne}
 use lib.Dec.{ltb}
 use lib.ListN.{length, getD}
-use Rattle.ground_rules.specs.Bits.{fieldOf}
-use Rattle.instruction_rules.specs.Pairs.{pairOf}
+use Rattle.ground_rules.specs.Bits.{fieldOf, bitOf}
+use Rattle.ground_rules.specs.Choice.{pick}
+use Rattle.instruction_rules.specs.Pairs.{pairOf, columns}
+use Rattle.instruction_rules.specs.Pairs.Column.{'0, '00, '000, '010, '011, '1SD}
 use Rattle.instruction_rules.specs.declared.Pair.{Pair}
-use Rattle.instruction_rules.specs.declared.Decoded.the-variants.{NoInstruction}
+use Rattle.instruction_rules.specs.declared.Shape.the-variants.{Nop, Sintr, Xfer, Wid}
+use Rattle.instruction_rules.specs.declared.Decoded.the-variants.{Instruction, NoInstruction}
 use Rattle.instruction_rules.specs.Table.{SummaryRow, table}
 use Rattle.instruction_rules.specs.Reading.{lookup}
 use Rattle.instruction_rules.specs.Lengths.{longCode, pairLength}
-use Rattle.instruction_rules.specs.Cells.{cells, cellOf, controlRows, formRows, cellRows, longCell, cellLength}
-use Rattle.instruction_rules.proofs.TableLaws.{Avoids, downFrom, avoided, rowsAt, own-rows}
+use Rattle.instruction_rules.proofs.TableLaws.{Avoids, rowsAt, own-rows}
+use Rattle.decode.specs.Cells.{cells, cellOf, controlRows, formRows, cellRows, longCell, cellLength}
 
 -- what a rule makes of each place of a list and the number there, counted from i
 abbrev pub atPlaces : {A : Type 0} → (ℕ → ℕ → A) → ℕ → List ℕ → List A
@@ -86,8 +90,23 @@ past [] n d h = refl
 past (x ∷ xs) zero d h = absurd (not-suc-le-zero h)
 past (x ∷ xs) (suc n) d h = past xs n d (le-of-suc-le-suc h)
 
+-- the numbers below another, the highest first
+abbrev pub downFrom : ℕ → List ℕ
+downFrom zero = []
+downFrom (suc n) = n ∷ downFrom n
+
+-- a number that is none of those below another is not below it
+pub avoided : (n x : ℕ) → Avoids x (downFrom n) → n ≤ x
+avoided zero x a = omega arith
+avoided (suc n) x a = lt-of-le-ne (avoided n x (a .0)) (λ e. a .1 (sym e))
+
 -- a cell whose first digit is none of the sixteen stands for nothing
 pub no-form : (p : Pair) (cell : ℕ) → Avoids (cell / 16) (downFrom 16) → lookup (cellRows (p .opcode) cell) p ≡ NoInstruction
 unfolding lookup cellRows formRows
 no-form p cell a =
     ap (λ (rs : List SummaryRow). lookup rs p) (past (formRows (p .opcode) (cell % 16)) (cell / 16) [] (avoided 16 (cell / 16) a))
+
+-- a pair with the opcode of the control codes is what one of the four says
+pub control-codes : (p : Pair) → lookup (controlRows (p .opcode)) p ≡ pick (columns '010 '00 '00 '0 '00 p) (Instruction Sintr) (pick (columns '000 '00 '00 '0 '00 p) (Instruction Nop) (pick (columns '011 '00 '00 '0 '00 p) (Instruction Xfer) (pick (columns '1SD '00 '00 '0 '00 p) (Instruction (Wid (bitOf (p .rrr) 1) (bitOf (p .rrr) 0))) NoInstruction)))
+unfolding lookup controlRows
+control-codes p = rw (eq-eqb (p .opcode) (p .opcode) refl)
