@@ -21,13 +21,13 @@ use Rattle.instruction_rules.specs.declared.Shape.the-variants.{RegisterImmedia
 use Rattle.instruction_rules.specs.declared.Decoded.the-variants.{Instruction, NoInstruction, ControlUsed}
 use Rattle.instruction_rules.specs.Table.{SummaryRow, row, table}
 use Rattle.instruction_rules.specs.Reading.{fits, lookup, decodeOf}
-use Rattle.listing_rules.specs.Characters.{ascii}
+use Rattle.listing_rules.specs.Characters.{ascii, sameText}
 use Rattle.listing_rules.specs.Mnemonics.{isJump, mnemonicOf, isListed}
 use Rattle.listing_rules.specs.Forms.{Operand, slotsOf, filled}
 use Rattle.listing_rules.specs.Forms.Operand.{none, register, memory, number, digit}
 use Rattle.listing_rules.specs.Entries.{Kind, Entry, entry, entries}
 use Rattle.listing_rules.specs.Entries.Kind.{'R, 'G, 'P, 'M, 'byte, 'word, 'bit, 'width, 'short, 'long}
-use Rattle.listing_rules.proofs.SpellingLaws.{sameText, isMark, clean, present, Fair, each}
+use Rattle.listing_rules.proofs.SpellingLaws.{isMark, clean, present, Fair, each}
 
 -- what kind of operand fits a place, and what an operand is: 1 register, 2 memory, 3 number, 4 digit
 asked : Kind → ℕ

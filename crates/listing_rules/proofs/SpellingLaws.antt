@@ -10,19 +10,12 @@ use lib.Dec.{T, eqb, ltb}
 use lib.ListN.{length, getD, drop}
 use borrow.Author.Tests.{eqb-true, eqb-false}
 use Rattle.ground_rules.specs.Choice.{pick}
-use Rattle.listing_rules.specs.Characters.{ascii, hexGlyph, hexDigits, numberText, digitText}
+use Rattle.listing_rules.specs.Characters.{ascii, sameText, hexGlyph, hexDigits, numberText, digitText}
 use Rattle.listing_rules.specs.Forms.{Operand, dataFrom, reachFrom, targetOf, wordBytes, filled, registerName, baseName, modeText, spelled, following}
 use Rattle.listing_rules.specs.Forms.Operand.{none, register, memory, number, digit}
 use Rattle.listing_rules.specs.declared.Slot.{Slot}
 use Rattle.listing_rules.specs.declared.Slot.the-variants.{Empty, Name, Place, Number, Target, Digit}
 use Rattle.listing_rules.proofs.LineLaws.{and-left, and-right}
-
--- whether two texts are the same
-unfoldable pub sameText : List ℕ → List ℕ → Bool
-sameText [] [] = true
-sameText [] (d ∷ ds) = false
-sameText (c ∷ cs) [] = false
-sameText (c ∷ cs) (d ∷ ds) = eqb c d && sameText cs ds
 
 -- what parts the texts of a line: a blank, a comma, a line feed
 unfoldable pub isMark : ℕ → Bool

@@ -21,7 +21,7 @@ use Rattle.instruction_rules.specs.declared.Second.the-variants.{Operand}
 use Rattle.instruction_rules.specs.Reading.{decodeOf, secondOf}
 use Rattle.instruction_rules.specs.Lengths.{offsetLength, lengthOf}
 use Rattle.instruction_rules.proofs.LengthLaws.{bounded}
-use Rattle.listing_rules.specs.Characters.{ascii, numberText}
+use Rattle.listing_rules.specs.Characters.{ascii, sameText, numberText}
 use Rattle.listing_rules.specs.Mnemonics.{isListed, mnemonicOf}
 use Rattle.listing_rules.specs.Forms.{slotsOf, afterOffset, filled, spelled, following}
 use Rattle.listing_rules.specs.Forms.Operand.{none, register, memory, number, digit}
@@ -30,7 +30,7 @@ use Rattle.listing_rules.specs.Lines.{lineWith, instructionLine, dataIte
 use Rattle.listing_rules.specs.declared.Slot.{Slot}
 use Rattle.listing_rules.specs.declared.Slot.the-variants.{Empty, Place}
 use Rattle.listing_rules.proofs.LineLaws.{and-left, and-right}
-use Rattle.listing_rules.proofs.SpellingLaws.{sameText, isMark, clean, cut, present, marks, spellings, readAll, Bytes, Legible, legible-byte, Readable, legible, readable, AllReadable, also, cut-marks, read-back, clean-of}
+use Rattle.listing_rules.proofs.SpellingLaws.{isMark, clean, cut, present, marks, spellings, readAll, Bytes, Legible, legible-byte, Readable, legible, readable, AllReadable, also, cut-marks, read-back, clean-of}
 use Rattle.listing_rules.proofs.EntryLaws.{pairBack, operandsOf, Known, Placed, known}
 use Rattle.listing_rules.specs.declared.Item.{Item}
 use Rattle.listing_rules.specs.declared.Item.the-variants.{Whole, Byte, End}

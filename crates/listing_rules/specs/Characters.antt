@@ -3,7 +3,8 @@ use mathlib.Core.List.{List, [], _∷_, _++_}
 use Prim.Native.Nat.{ℕ, zero, suc, _+_, _/_, _%_}
 use Prim.Native.String.{String, len, charAt}
 use Prim.Native.Char.{code}
-use lib.Dec.{ltb}
+use mathlib.Core.Bool.{Bool, true, false, _&&_}
+use lib.Dec.{eqb, ltb}
 use Rattle.ground_rules.specs.Choice.{pick}
 
 -- the codes of `count` characters of a quoted text from a place on
@@ -14,6 +15,13 @@ asciiFrom (suc count) place text = code (charAt text place) ∷ asciiFrom count 
 -- the codes of a quoted text
 abbrev pub ascii : String → List ℕ
 ascii text = asciiFrom (len text) 0 text
+
+-- whether two texts are the same
+unfoldable pub sameText : List ℕ → List ℕ → Bool
+sameText [] [] = true
+sameText [] (d ∷ ds) = false
+sameText (c ∷ cs) [] = false
+sameText (c ∷ cs) (d ∷ ds) = eqb c d && sameText cs ds
 
 -- the digit, a capital where it is over 9
 unfoldable pub hexGlyph : ℕ → ℕ

@@ -1,0 +1,4 @@
+pub mod Text
+pub mod Numbers
+pub mod Sums
+pub mod Trees
