@@ -1,0 +1,23 @@
+-- `assembler_text::sums::mark_part` meets its contract.
+-- Assumes nothing.
+use borrow.Author.Tests.{ne-eqb}
+use Rattle.assembler_text.proofs.sums.mark_part.Statement.{statement}
+use Rattle.assembler_text.proofs.sums.mark_part.Tie as tie
+
+returns : tie.Need-returns
+returns c = rw (c .match .keys1)
+
+returns-2 : tie.Need-returns-2
+returns-2 c = rw (c .match .keys2)
+
+returns-3 : tie.Need-returns-3
+returns-3 c = rw (c .match .keys3)
+
+returns-4 : tie.Need-returns-4
+returns-4 c = rw (c .match .keys4)
+
+returns-5 : tie.Need-returns-5
+returns-5 c = let r = c .match .rest in simp (ne-eqb _ _ (r .1), ne-eqb _ _ (r .0 .1), ne-eqb _ _ (r .0 .0 .1), ne-eqb _ _ (r .0 .0 .0 .1))
+
+pub mark-part-spec : {M : Type 1} → statement M
+mark-part-spec = tie.close (tie.spec returns returns-2 returns-3 returns-4 returns-5)
