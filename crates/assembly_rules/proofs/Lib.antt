@@ -5,3 +5,4 @@ pub mod SumLaws
 pub mod TreeLaws
 pub mod ScanLaws
 pub mod AssemblyVectors
+pub mod WholeVectors

@@ -31,7 +31,8 @@ use Rattle.listing_rules.specs.declared.Slot.{Slot}
 use Rattle.listing_rules.specs.declared.Slot.the-variants.{Empty, Place}
 use Rattle.listing_rules.proofs.LineLaws.{and-left, and-right}
 use Rattle.listing_rules.proofs.SpellingLaws.{isMark, clean, cut, present, marks, spellings, readAll, Bytes, Legible, legible-byte, Readable, legible, readable, AllReadable, also, cut-marks, read-back, clean-of}
-use Rattle.listing_rules.proofs.EntryLaws.{pairBack, operandsOf, Known, Placed, known}
+use Rattle.listing_rules.proofs.EntryLaws.{Known, Placed, known}
+use Rattle.listing_rules.specs.Back.{pairBack, operandsOf}
 use Rattle.listing_rules.specs.declared.Item.{Item}
 use Rattle.listing_rules.specs.declared.Item.the-variants.{Whole, Byte, End}
 use Rattle.listing_rules.specs.Items.{nowhere, toOf, itemOf, countOf}

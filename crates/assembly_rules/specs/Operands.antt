@@ -1,0 +1,143 @@
+-- Operands as they are written: registers, memory and sums; which of them a place takes, and the entry of a word with its operands.
+use mathlib.Core.Bool.{Bool, true, false, not, _&&_, _||_}
+use mathlib.Core.List.{List, [], _∷_}
+use Prim.Native.Nat.{ℕ}
+use lib.Dec.{eqb, ltb, leb}
+use lib.ListN.{take, drop}
+use Rattle.ground_rules.specs.Choice.{pick}
+use Rattle.listing_rules.specs.Characters.{ascii, sameText}
+use Rattle.listing_rules.specs.Entries.{Kind, Entry}
+use Rattle.listing_rules.specs.Entries.Kind.{'R, 'G, 'P, 'M, 'byte, 'word, 'bit, 'width, 'short, 'long}
+use Rattle.assembly_rules.specs.Text.{Token}
+use Rattle.assembly_rules.specs.Text.Token.{run, mark}
+use Rattle.assembly_rules.specs.Sums.{registerNumber, isSum, depthOf, mostOpen}
+
+-- whether two texts of tokens are the same
+unfoldable pub sameToken : Token → Token → Bool
+sameToken (run r) (run s) = sameText r s
+sameToken (run r) (mark d) = false
+sameToken (mark c) (run s) = false
+sameToken (mark c) (mark d) = eqb c d
+
+unfoldable pub sameTokens : List Token → List Token → Bool
+sameTokens [] [] = true
+sameTokens [] (u ∷ us) = false
+sameTokens (t ∷ ts) [] = false
+sameTokens (t ∷ ts) (u ∷ us) = sameToken t u && sameTokens ts us
+
+-- an operand: a register by RRR; memory by MM, AA and the tokens of its offset; a sum by its tokens; or none of these
+pub data Written : Type 0 where
+  register : ℕ → Written
+  memory : ℕ → ℕ → List Token → Written
+  value : List Token → Written
+  nothing : Written
+
+-- + IX, + IX + and the point in front of an offset
+abbrev pub 'indexed : List Token
+'indexed = mark 43 ∷ run (ascii "IX") ∷ mark 93 ∷ []
+
+abbrev pub 'grown : List Token
+'grown = mark 43 ∷ run (ascii "IX") ∷ mark 43 ∷ mark 93 ∷ []
+
+abbrev pub 'offset : List Token
+'offset = mark 93 ∷ mark 46 ∷ []
+
+-- memory from behind its base on
+unfoldable pub memoryWith : ℕ → List Token → Written
+memoryWith mm ts =
+    pick (sameTokens ts (mark 93 ∷ [])) (memory mm 0 [])
+    (pick (sameTokens ts 'indexed) (memory mm 2 [])
+    (pick (sameTokens ts 'grown) (memory mm 3 [])
+    (pick (sameTokens (take 2 ts) 'offset && isSum (drop 2 ts)) (memory mm 1 (drop 2 ts)) nothing)))
+
+-- MM of a base by its register's number: GA, GB, GC, PP; 4 where it is none
+abbrev pub baseNumber : ℕ → ℕ
+baseNumber n = pick (ltb n 3) n (pick (eqb n 8) 3 4)
+
+-- memory from behind its bracket on
+abbrev pub memoryFrom : List Token → Written
+memoryFrom [] = nothing
+memoryFrom (mark c ∷ ts) = nothing
+memoryFrom (run r ∷ ts) = pick (ltb (baseNumber (registerNumber r)) 4) (memoryWith (baseNumber (registerNumber r)) ts) nothing
+
+-- the number of a register that stands alone, 9 where none does
+abbrev pub aloneNumber : List Token → ℕ
+aloneNumber (run r ∷ []) = registerNumber r
+aloneNumber (run r ∷ t ∷ ts) = 9
+aloneNumber (mark c ∷ ts) = 9
+aloneNumber [] = 9
+
+abbrev pub sumFrom : List Token → Written
+sumFrom ts = pick (ltb (aloneNumber ts) 8) (register (aloneNumber ts)) (pick (isSum ts) (value ts) nothing)
+
+-- what some tokens are as an operand
+unfoldable pub operandFrom : List Token → Written
+operandFrom [] = nothing
+operandFrom (run r ∷ ts) = sumFrom (run r ∷ ts)
+operandFrom (mark c ∷ ts) = pick (eqb c 91) (memoryFrom ts) (sumFrom (mark c ∷ ts))
+
+unfoldable pub operandsFrom : List (List Token) → List Written
+operandsFrom [] = []
+operandsFrom (part ∷ parts) = operandFrom part ∷ operandsFrom parts
+
+-- whether a place takes an operand: G is a register but CC, P one that holds a pointer
+abbrev pub takesRegister : Kind → ℕ → Bool
+takesRegister 'R r = true
+takesRegister 'G r = not (eqb r 6)
+takesRegister 'P r = ltb r 3 || eqb r 4
+takesRegister 'M r = false
+takesRegister 'byte r = false
+takesRegister 'word r = false
+takesRegister 'bit r = false
+takesRegister 'width r = false
+takesRegister 'short r = false
+takesRegister 'long r = false
+
+-- a place for memory, and one for a number
+abbrev pub isMemoryKind : Kind → Bool
+isMemoryKind 'R = false
+isMemoryKind 'G = false
+isMemoryKind 'P = false
+isMemoryKind 'M = true
+isMemoryKind 'byte = false
+isMemoryKind 'word = false
+isMemoryKind 'bit = false
+isMemoryKind 'width = false
+isMemoryKind 'short = false
+isMemoryKind 'long = false
+
+unfoldable pub takes : Kind → Written → Bool
+takes k (register r) = takesRegister k r
+takes k (memory mm aa ts) = isMemoryKind k
+takes k (value ts) = not (isMemoryKind k || takesRegister k 0)
+takes k nothing = false
+
+unfoldable pub takesAll : List Kind → List Written → Bool
+takesAll [] [] = true
+takesAll [] (w ∷ ws) = false
+takesAll (k ∷ ks) [] = false
+takesAll (k ∷ ks) (w ∷ ws) = takes k w && takesAll ks ws
+
+-- whether a word has an entry, and its entry with some operands
+unfoldable pub hasWord : List Entry → List ℕ → Bool
+hasWord [] word = false
+hasWord (e ∷ es) word = sameText (e .word) word || hasWord es word
+
+pub data Chosen : Type 0 where
+  taken : Entry → Chosen
+  untaken : Chosen
+
+unfoldable pub entryIn : List Entry → List ℕ → List Written → Chosen
+entryIn [] word ws = untaken
+entryIn (e ∷ es) word ws = pick (sameText (e .word) word && takesAll (e .kinds) ws) (taken e) (entryIn es word ws)
+
+-- whether no more than eight parentheses are open at once
+unfoldable pub isShallow : Written → Bool
+isShallow (register r) = true
+isShallow (memory mm aa ts) = leb (depthOf ts) mostOpen
+isShallow (value ts) = leb (depthOf ts) mostOpen
+isShallow nothing = true
+
+unfoldable pub allShallow : List Written → Bool
+allShallow [] = true
+allShallow (w ∷ ws) = isShallow w && allShallow ws
