@@ -5,4 +5,6 @@ pub mod SumLaws
 pub mod TreeLaws
 pub mod ScanLaws
 pub mod AssemblyVectors
+pub mod SizeLaws
+pub mod WholeLaws
 pub mod WholeVectors

@@ -1,9 +1,7 @@
 -- Whole texts assembled: lines of the listing at 1000h, labels, each number with its line.
 -- Assumes nothing.
 use mathlib.Core.Path.{_≡_, refl}
-use mathlib.Core.Bool.{true, false}
-use mathlib.Core.List.{List, [], _∷_, _++_}
-use Prim.Native.Nat.{ℕ}
+use mathlib.Core.List.{List, [], _∷_}
 use Prim.Native.String.{String}
 use Rattle.listing_rules.specs.Characters.{ascii, sameText}
 use Rattle.listing_rules.specs.Entries.{entries}

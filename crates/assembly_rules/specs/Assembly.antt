@@ -1,5 +1,5 @@
 -- A whole text assembled: its labels, the first line that a number refuses, and the bytes.
-use mathlib.Core.Bool.{Bool, true, false, not, _&&_, _||_}
+use mathlib.Core.Bool.{Bool, true, not, _&&_, _||_}
 use mathlib.Core.List.{List, [], _∷_, _++_}
 use Prim.Native.Nat.{ℕ, suc, _+_, _%_}
 use lib.Dec.{eqb, ltb, leb}
@@ -10,7 +10,7 @@ use Rattle.listing_rules.specs.Entries.{entries}
 use Rattle.assembly_rules.specs.Text.{tokensOf, linesIn}
 use Rattle.assembly_rules.specs.Sums.{isRegister, Label, label, labelWorth}
 use Rattle.assembly_rules.specs.Operands.{hasWord}
-use Rattle.assembly_rules.specs.Statements.{Headed, headedBy, Statement, statementOf, sizeOf, statementNumber, bytesOf}
+use Rattle.assembly_rules.specs.Statements.{headedBy, Statement, statementOf, sizeOf, statementNumber, bytesOf}
 
 -- a line by what it says
 pub record Said : Type 0 where

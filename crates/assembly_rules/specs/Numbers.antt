@@ -1,5 +1,5 @@
 -- Constants: runs that begin with a digit, read in the radix that the last letter tells.
-use mathlib.Core.Bool.{Bool, true, false, _&&_, _||_}
+use mathlib.Core.Bool.{Bool, _&&_, _||_}
 use mathlib.Core.List.{List, [], _∷_}
 use Prim.Native.Nat.{ℕ, _+_, _*_, _-_, _%_}
 use lib.Dec.{eqb, ltb, leb}

@@ -1,10 +1,10 @@
 -- What a line says: its label, and a word with its operands, DB, DW or nothing; how many bytes it has, and which.
 use mathlib.Core.Bool.{Bool, true, false, not, _&&_, _||_}
 use mathlib.Core.List.{List, [], _∷_, _++_}
-use Prim.Native.Nat.{ℕ, suc, _+_, _*_, _-_, _/_, _%_}
+use Prim.Native.Nat.{ℕ, _+_, _*_, _-_, _%_}
 use lib.Dec.{eqb, ltb, leb}
 use lib.ListN.{length}
-use Rattle.ground_rules.specs.Bytes.{lowByte, highByte}
+use Rattle.ground_rules.specs.Bytes.{lowByte}
 use Rattle.ground_rules.specs.Choice.{pick}
 use Rattle.instruction_rules.specs.declared.Pair.{Pair}
 use Rattle.listing_rules.specs.Characters.{ascii, sameText}
