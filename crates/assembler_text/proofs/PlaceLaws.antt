@@ -261,15 +261,15 @@ pub data PartStands (text : List ℕ) (at : ℕ) : Ahead → Type 0 where
   stops : beforeComma (tokensOf (drop at text)) ≡ [] → PartStands text at Stop
   goes : (t : Token) (next : ℕ) → beforeComma (tokensOf (drop at text)) ≡ t ∷ beforeComma (tokensOf (drop next text)) → at < next → next ≤ length text → PartStands text at (Next (partOf t) next)
 
-before-none : beforeComma [] ≡ []
+pub before-none : beforeComma [] ≡ []
 unfolding beforeComma
 before-none = refl
 
-before-run : (r : List ℕ) (ts : List Token) → beforeComma (run r ∷ ts) ≡ run r ∷ beforeComma ts
+pub before-run : (r : List ℕ) (ts : List Token) → beforeComma (run r ∷ ts) ≡ run r ∷ beforeComma ts
 unfolding beforeComma
 before-run r ts = refl
 
-before-mark : (c : ℕ) (ts : List Token) (b : Bool) → eqb c 44 ≡ b → beforeComma (mark c ∷ ts) ≡ pick b [] (mark c ∷ beforeComma ts)
+pub before-mark : (c : ℕ) (ts : List Token) (b : Bool) → eqb c 44 ≡ b → beforeComma (mark c ∷ ts) ≡ pick b [] (mark c ∷ beforeComma ts)
 unfolding beforeComma
 before-mark c ts b e = rw e
 

@@ -9,7 +9,7 @@ use native.Mathlib.Omega.{arith}
 use native.Mathlib.Nat.{zero-add, add-zero}
 use lib.Dec.{eqb, leb}
 use lib.ListN.{length}
-use borrow.Author.Tests.{eqb-true, ne-eqb, leb-true, leb-false, le-leb}
+use borrow.Author.Tests.{eqb-true, ne-eqb, lt-ltb, leb-true, leb-false, le-leb}
 use Rattle.ground_rules.specs.Choice.{pick}
 use Rattle.assembly_rules.specs.declared.Constant.{Constant}
 use Rattle.assembly_rules.specs.declared.Constant.the-variants.{Value, NoConstant}
@@ -17,10 +17,11 @@ use Rattle.assembly_rules.specs.declared.Part.{Part}
 use Rattle.assembly_rules.specs.declared.Part.the-variants.{Term, Plus, Minus, Opens, Closes, Other}
 use Rattle.assembly_rules.specs.declared.Scan.{Scan}
 use Rattle.assembly_rules.specs.declared.Worth.{Worth}
-use Rattle.assembly_rules.specs.Text.{Token}
+use Rattle.listing_rules.specs.Characters.{sameText}
+use Rattle.assembly_rules.specs.Text.{Token, isDigit}
 use Rattle.assembly_rules.specs.Text.Token.{run, mark}
 use Rattle.assembly_rules.specs.Numbers.{constantOf}
-use Rattle.assembly_rules.specs.Sums.{Label, beginsDigit, isRegister, isValue, isTerm, markPart, partOf, larger, scan, scanStart, noSum, scanned, scanFrom, isWhole, isSum, depthOf, termOf, sumOf, worth, mostOpen}
+use Rattle.assembly_rules.specs.Sums.{Label, indexIn, registersNamed, registerNumber, beginsDigit, isRegister, isValue, isTerm, markPart, partOf, larger, scan, scanStart, noSum, scanned, scanFrom, isWhole, isSum, depthOf, termOf, sumOf, worth, mostOpen}
 use Rattle.assembly_rules.specs.Sums.Read.{read, deep}
 use Rattle.assembly_rules.specs.Trees as Trees
 use Rattle.assembly_rules.specs.Trees.{Sum, sumTokens, termTokens, sumDepth, termDepth, sumAdded, sumTaken, sumKnown}
@@ -386,3 +387,53 @@ understood labels ts h =
       deeper = λ k. sym (ap (sumOf mostOpen labels) text) ∙ r .too-deep (rw d at k);
       read-so = λ k. let a = r .worth-read (rw d at k) in (a .0, (sym (ap (sumOf mostOpen labels) text) ∙ a .1 .0 ∙ rest-stop (termOf mostOpen labels) 0 (a .0) [] refl, a .1 .1));
     }
+
+-- a register is no term: its name begins with no digit
+same-is : (a b : List ℕ) → sameText a b ≡ true → a ≡ b
+unfolding sameText
+same-is [] [] h = refl
+same-is [] (d ∷ b) h = absurd (false≢true h)
+same-is (c ∷ a) [] h = absurd (false≢true h)
+same-is (c ∷ a) (d ∷ b) h = go (eqb c d) refl h (same-is a b)
+  where
+    go : (t : Bool) → eqb c d ≡ t → t && sameText a b ≡ true → (sameText a b ≡ true → a ≡ b) → c ∷ a ≡ d ∷ b
+    go true e k later = rw (eqb-true c d e, later k)
+    go false e k later = absurd (false≢true k)
+
+-- whether a test fails for each of some names
+allFail : (List ℕ → Bool) → List (List ℕ) → Bool
+allFail test [] = true
+allFail test (this ∷ names) = not (test this) && allFail test names
+
+index-fails : (test : List ℕ → Bool) (names : List (List ℕ)) (text : List ℕ) → allFail test names ≡ true → indexIn names text < length names → test text ≡ false
+unfolding allFail indexIn
+index-fails test [] text h l = absurd (omega arith)
+index-fails test (this ∷ names) text h l = go (sameText this text) refl l (not-both (test this) (allFail test names) h) (index-fails test names text)
+  where
+    not-both : (a b : Bool) → not a && b ≡ true → (a ≡ false) × (b ≡ true)
+    not-both true b k = absurd (false≢true k)
+    not-both false b k = (refl, k)
+
+    go : (t : Bool) → sameText this text ≡ t → pick t 0 (suc (indexIn names text)) < length (this ∷ names) → (test this ≡ false) × (allFail test names ≡ true) → (allFail test names ≡ true → indexIn names text < length names → test text ≡ false) → test text ≡ false
+    go true e k p later = ap test (sym (same-is this text e)) ∙ p .0
+    go false e k p later = later (p .1) (omega arith)
+
+no-digit : (r : List ℕ) → registerNumber r < 9 → beginsDigit r ≡ false
+unfolding registerNumber allFail isDigit
+no-digit r h = index-fails beginsDigit registersNamed r refl h
+
+no-term : (r : List ℕ) → registerNumber r < 9 → isTerm r ≡ false
+unfolding isTerm
+no-term r h = rw (no-digit r h, lt-ltb (registerNumber r) 9 h)
+
+other-part : (r : List ℕ) → isTerm r ≡ false → partOf (run r) ≡ Other
+unfolding partOf
+other-part r h = rw h
+
+bad-first : (t : Token) (ts : List Token) → partOf t ≡ Other → isWhole (scanFrom scanStart (t ∷ ts)) ≡ false
+unfolding scanFrom scanned
+bad-first t ts h = ap (λ (p : Part). isWhole (scanFrom (scanned scanStart p) ts)) h ∙ bad-stays ts (noSum scanStart) refl
+
+pub no-register-sum : (r : List ℕ) (ts : List Token) → registerNumber r < 9 → isSum (run r ∷ ts) ≡ false
+unfolding isSum
+no-register-sum r ts h = bad-first (run r) ts (other-part r (no-term r h))

@@ -12,19 +12,6 @@ use Rattle.assembly_rules.specs.Text.{Token}
 use Rattle.assembly_rules.specs.Text.Token.{run, mark}
 use Rattle.assembly_rules.specs.Sums.{registerNumber, isSum, depthOf, mostOpen}
 
--- whether two texts of tokens are the same
-unfoldable pub sameToken : Token → Token → Bool
-sameToken (run r) (run s) = sameText r s
-sameToken (run r) (mark d) = false
-sameToken (mark c) (run s) = false
-sameToken (mark c) (mark d) = eqb c d
-
-unfoldable pub sameTokens : List Token → List Token → Bool
-sameTokens [] [] = true
-sameTokens [] (u ∷ us) = false
-sameTokens (t ∷ ts) [] = false
-sameTokens (t ∷ ts) (u ∷ us) = sameToken t u && sameTokens ts us
-
 -- an operand: a register by RRR; memory by MM, AA and the tokens of its offset; a sum by its tokens; or none of these
 pub data Written : Type 0 where
   register : ℕ → Written
@@ -32,30 +19,39 @@ pub data Written : Type 0 where
   value : List Token → Written
   nothing : Written
 
--- + IX, + IX + and the point in front of an offset
-abbrev pub 'indexed : List Token
-'indexed = mark 43 ∷ run (ascii "IX") ∷ mark 93 ∷ []
+-- memory from behind its base and ] on: nothing more, or a point and an offset
+unfoldable pub closedMemory : ℕ → List Token → Written
+closedMemory mm [] = memory mm 0 []
+closedMemory mm (run r ∷ ts) = nothing
+closedMemory mm (mark c ∷ ts) = pick (eqb c 46 && isSum ts) (memory mm 1 ts) nothing
 
-abbrev pub 'grown : List Token
-'grown = mark 43 ∷ run (ascii "IX") ∷ mark 43 ∷ mark 93 ∷ []
+-- from behind its base and + IX on: ] or +]
+unfoldable pub endedMemory : ℕ → List Token → Written
+endedMemory mm [] = nothing
+endedMemory mm (run r ∷ ts) = nothing
+endedMemory mm (mark c ∷ []) = pick (eqb c 93) (memory mm 2 []) nothing
+endedMemory mm (mark c ∷ run r ∷ ts) = nothing
+endedMemory mm (mark c ∷ mark d ∷ []) = pick (eqb c 43 && eqb d 93) (memory mm 3 []) nothing
+endedMemory mm (mark c ∷ mark d ∷ t ∷ ts) = nothing
 
-abbrev pub 'offset : List Token
-'offset = mark 93 ∷ mark 46 ∷ []
+-- from behind its base and + on: IX
+unfoldable pub indexedMemory : ℕ → List Token → Written
+indexedMemory mm [] = nothing
+indexedMemory mm (mark c ∷ ts) = nothing
+indexedMemory mm (run r ∷ ts) = pick (eqb (registerNumber r) 5) (endedMemory mm ts) nothing
 
--- memory from behind its base on
+-- from behind its base on
 unfoldable pub memoryWith : ℕ → List Token → Written
-memoryWith mm ts =
-    pick (sameTokens ts (mark 93 ∷ [])) (memory mm 0 [])
-    (pick (sameTokens ts 'indexed) (memory mm 2 [])
-    (pick (sameTokens ts 'grown) (memory mm 3 [])
-    (pick (sameTokens (take 2 ts) 'offset && isSum (drop 2 ts)) (memory mm 1 (drop 2 ts)) nothing)))
+memoryWith mm [] = nothing
+memoryWith mm (run r ∷ ts) = nothing
+memoryWith mm (mark c ∷ ts) = pick (eqb c 93) (closedMemory mm ts) (pick (eqb c 43) (indexedMemory mm ts) nothing)
 
 -- MM of a base by its register's number: GA, GB, GC, PP; 4 where it is none
 abbrev pub baseNumber : ℕ → ℕ
 baseNumber n = pick (ltb n 3) n (pick (eqb n 8) 3 4)
 
 -- memory from behind its bracket on
-abbrev pub memoryFrom : List Token → Written
+unfoldable pub memoryFrom : List Token → Written
 memoryFrom [] = nothing
 memoryFrom (mark c ∷ ts) = nothing
 memoryFrom (run r ∷ ts) = pick (ltb (baseNumber (registerNumber r)) 4) (memoryWith (baseNumber (registerNumber r)) ts) nothing
