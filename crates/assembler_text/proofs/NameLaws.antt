@@ -23,7 +23,7 @@ use Rattle.assembler_text.specs.Places.{nameAt, labelsAt}
 use Rattle.assembler_text.proofs.PlaceLaws.{from-here}
 
 -- capitals of what is left
-capitals-here : (cs : List ℕ) (i : ℕ) → i < length cs → capitals (drop i cs) ≡ capitalOf (getD cs i 0) ∷ capitals (drop (i + 1) cs)
+pub capitals-here : (cs : List ℕ) (i : ℕ) → i < length cs → capitals (drop i cs) ≡ capitalOf (getD cs i 0) ∷ capitals (drop (i + 1) cs)
 unfolding capitals
 capitals-here cs i h = ap capitals (from-here cs i h)
 
@@ -182,7 +182,7 @@ no-two (a ∷ b ∷ d ∷ t) h x y = go (eqb x a) (eqb y b)
     go true false = refl
     go false q = refl
 
-capitals-length : (cs : List ℕ) → length (capitals cs) ≡ length cs
+pub capitals-length : (cs : List ℕ) → length (capitals cs) ≡ length cs
 unfolding capitals
 capitals-length [] = refl
 capitals-length (c ∷ cs) = ap suc (capitals-length cs)

@@ -3,7 +3,7 @@ ghost use mathlib.Core.Path.{_≡_};
 ghost use Rattle.assembly_rules.specs.Text.{capitalOf, isDigit, isCapital, isRun, isBlank, endsLine};
 
 // A small letter as a capital.
-pub(crate) fn capital(c: u8) -> u8
+pub fn capital(c: u8) -> u8
     ensures { λ r. ⌜ r ≡ capitalOf c ⌝ }
 {
     if c < 97 {

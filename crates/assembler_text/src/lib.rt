@@ -1,7 +1,7 @@
 // The text of an assembly: tokens, constants, and sums with what they are worth.
 
 // What characters are.
-mod characters;
+pub mod characters;
 // The tokens of a line, by their places in the text.
 pub mod tokens;
 // Constants.
