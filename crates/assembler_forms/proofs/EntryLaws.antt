@@ -1,6 +1,6 @@
 -- The entry that the code chooses by numbers is the one of the rules.
 -- Assumes nothing.
-use mathlib.Core.Path.{_≡_, refl, sym, ap, subst, _∙_}
+use mathlib.Core.Path.{_≡_, refl, sym, ap, _∙_}
 use mathlib.Core.Bool.{Bool, true, false, not, _&&_, _||_, false≢true}
 use mathlib.Core.List.{List, [], _∷_}
 use Prim.Native.Nat.{ℕ, zero, suc, _+_, _*_, _/_, _%_, _≤_, _<_}
@@ -42,12 +42,16 @@ packed-same (c ∷ a) (d ∷ b) h k = go (eqb c d) refl (packed-same a b (plain-
   where
     ec : c % 256 ≡ c
     ec = mod-eq-of-lt (plain-first c a h .1)
+
     ed : d % 256 ≡ d
     ed = mod-eq-of-lt (plain-first d b k .1)
+
     lc : c < 256
     lc = plain-first c a h .1
+
     ld : d < 256
     ld = plain-first d b k .1
+
     go : (t : Bool) → eqb c d ≡ t → eqb (packed b) (packed a) ≡ sameText a b → eqb (d % 256 + 256 * packed b) (c % 256 + 256 * packed a) ≡ t && sameText a b
     go true e later = same (eqb-true c d e) (eqb (packed b) (packed a)) refl ∙ later
       where
@@ -241,10 +245,13 @@ chosen-from (e ∷ es) r ws h k l m =
   where
     a : ℕ
     a = classAt 0 ws
+
     b : ℕ
     b = classAt 1 ws
+
     c : ℕ
     c = classAt 2 ws
+
     go : (x y z : Bool) → x ≡ y → takesCode (codeOf e) a b c ≡ z → chosenBy (codesBy es (wordNumber r)) a b c ≡ chosenNumber (entryIn es r ws)
         → chosenBy (pick x (codeOf e ∷ codesBy es (wordNumber r)) (codesBy es (wordNumber r))) a b c ≡ chosenNumber (pick (y && z) (taken e) (entryIn es r ws))
     go true true true p q later = rw q

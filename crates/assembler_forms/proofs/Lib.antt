@@ -1,3 +1,4 @@
 pub mod FormLaws
 pub mod TableLaws
 pub mod EntryLaws
+pub mod RowLaws

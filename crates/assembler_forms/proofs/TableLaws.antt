@@ -2,13 +2,12 @@
 -- Assumes nothing.
 use mathlib.Core.Path.{_≡_, refl, sym, ap, _∙_}
 use mathlib.Core.List.{List, [], _∷_}
-use Prim.Native.Nat.{ℕ, suc, _+_, _*_, _-_, _%_, _≤_, _<_}
+use Prim.Native.Nat.{ℕ, _+_, _*_, _-_, _%_, _≤_, _<_}
 use native.Mathlib.Nat.{mod-eq-of-lt, mod-lt}
 use native.Mathlib.Omega.{arith}
-use lib.Dec.{ltb, lit<}
+use lib.Dec.{lit<}
 use lib.ListN.{length, getD, drop, length-drop, drop-of-length-le}
 use borrow.Author.Tests.{lt-ltb, le-ltb}
-use Rattle.ground_rules.specs.Choice.{pick}
 use Rattle.assembly_rules.specs.Text.{capitalOf, capitals}
 use Rattle.assembler_text.proofs.NameLaws.{capitals-here, capitals-length}
 use Rattle.assembler_forms.specs.Table.{packed, wordNumber}

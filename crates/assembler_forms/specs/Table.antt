@@ -1,5 +1,5 @@
 -- The entries of the words as numbers, as the code has them.
-use mathlib.Core.Bool.{Bool, true, false, _&&_, _||_}
+use mathlib.Core.Bool.{Bool, _&&_, _||_}
 use mathlib.Core.List.{List, [], _∷_}
 use Prim.Native.Nat.{ℕ, zero, suc, _+_, _*_, _/_, _-_, _%_, _^_}
 use lib.Dec.{eqb, ltb, leb}

@@ -3,10 +3,14 @@ use assembler_text::sums;
 use assembler_text::tokens;
 use assembler_text::tokens::Found;
 use assembly_rules::Scan;
+ghost use lib.ListN.{drop};
 ghost use mathlib.Core.Path.{_≡_};
+ghost use Rattle.assembly_rules.specs.Text.{tokensOf};
 ghost use Rattle.assembly_rules.specs.Sums.{isWhole};
-ghost use Rattle.assembly_rules.specs.Operands.{baseNumber, closedMemory, indexedMemory, memoryFrom, operandFrom};
+ghost use Rattle.assembly_rules.specs.Statements.{partsOf};
+ghost use Rattle.assembly_rules.specs.Operands.{baseNumber, closedMemory, indexedMemory, memoryFrom, operandFrom, operandsFrom};
 ghost use Rattle.assembler_forms.specs.Forms.{pastMark, stopsAt, registerAt, operandTokens, Formed};
+ghost use Rattle.assembler_forms.specs.Rows.{commaAt, endsAt, Held};
 
 // A register's number and the place behind it; 9 where none stands there.
 pub(crate) struct Named {
@@ -176,4 +180,83 @@ pub fn operand(text: &[u8], at: usize) -> Form
         return Form::Value(at, s.most <= 8);
     }
     Form::NoOperand
+}
+
+// Up to three operands, and how many there are; 4 where they are more.
+pub struct Operands {
+    pub count: u32,
+    pub first: Form,
+    pub second: Form,
+    pub third: Form,
+}
+
+// Whether a comma stands at a place.
+fn comma_at(text: &[u8], at: usize) -> bool
+    ensures { λ r. ⌜ r ≡ commaAt (now (text .entry)) at ⌝ }
+{
+    if at < text.len() {
+        return text[at] == 44;
+    }
+    false
+}
+
+// Whether the line ends at a place.
+fn ends(text: &[u8], at: usize) -> bool
+    ensures { λ r. ⌜ r ≡ endsAt (now (text .entry)) at ⌝ }
+{
+    match tokens::token_at(text, at) {
+        Found::Nothing => true,
+        Found::Run(..) => false,
+        Found::Mark(..) => false,
+    }
+}
+
+// The operands from a place up to the line's end.
+pub fn operands_at(text: &[u8], at: usize) -> Operands
+    ensures { λ r. ⌜ Held (now (text .entry)) r (operandsFrom (partsOf (tokensOf (drop at (now (text .entry)))))) ⌝ }
+{
+    let none = Form::NoOperand;
+    if ends(text, at) {
+        return Operands {
+            count: 0,
+            first: none,
+            second: none,
+            third: none,
+        };
+    }
+    let first = operand(text, at);
+    let p = tokens::stop_at(text, at);
+    if !comma_at(text, p) {
+        return Operands {
+            count: 1,
+            first,
+            second: none,
+            third: none,
+        };
+    }
+    let second = operand(text, p + 1);
+    let q = tokens::stop_at(text, p + 1);
+    if !comma_at(text, q) {
+        return Operands {
+            count: 2,
+            first,
+            second,
+            third: none,
+        };
+    }
+    let third = operand(text, q + 1);
+    if comma_at(text, tokens::stop_at(text, q + 1)) {
+        return Operands {
+            count: 4,
+            first,
+            second,
+            third,
+        };
+    }
+    Operands {
+        count: 3,
+        first,
+        second,
+        third,
+    }
 }

@@ -55,7 +55,7 @@ lead-most test (c ∷ cs) = go (test c) (lead-most test cs)
     go true h = omega arith
     go false h = omega arith
 
-lead-fails : (test : ℕ → Bool) (cs : List ℕ) → leading test cs < length cs → test (getD cs (leading test cs) 0) ≡ false
+pub lead-fails : (test : ℕ → Bool) (cs : List ℕ) → leading test cs < length cs → test (getD cs (leading test cs) 0) ≡ false
 unfolding leading
 lead-fails test [] h = absurd (omega arith)
 lead-fails test (c ∷ cs) h = go (test c) refl h (lead-fails test cs)
