@@ -393,6 +393,21 @@ compare-list: given-parts build/compare-list
 bench-list: count-needs build/bench-list
 	@tools/bench-list build/bench-list
 
+# ---- Assembling: an assembler in C that was written from the papers alone
+
+ASSEMBLY = $(addprefix host/,assembly.c listing.c dice.c)
+ASSEMBLY_H = $(addprefix host/,assembly.h listing.h dice.h)
+
+.PHONY: asmtest
+
+build/asmtest: host/asmtest.c $(ASSEMBLY) $(ASSEMBLY_H) | compiler
+	@mkdir -p build
+	$(CC) $(STRICT) $(CFLAGS) host/asmtest.c $(ASSEMBLY) -o $@
+
+# Its own checks: the rows of host/notation.txt both ways, the maker's sample, every number and its borders.
+asmtest: build/asmtest
+	build/asmtest host/notation.txt examples/f59.asm
+
 # ---- A sweep's time beside memcpy's
 
 .PHONY: bench-sweep x86-machine
