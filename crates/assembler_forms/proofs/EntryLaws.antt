@@ -17,7 +17,7 @@ use Rattle.assembly_rules.specs.Operands.{Written, takes, takesAll, Chosen, ent
 use Rattle.assembly_rules.specs.Operands.Written.{register, memory, value, nothing}
 use Rattle.assembly_rules.specs.Operands.Chosen.{taken, untaken}
 use Rattle.assembly_rules.proofs.WritingLaws.{both-left, both-right}
-use Rattle.assembler_forms.specs.Table.{packed, wordNumber, kindCode, kindsCode, codeOf, noCode, codesBy, classOf, takesClass, takesCode, chosenBy}
+use Rattle.assembler_forms.specs.Table.{packedWord, wordNumber, kindCode, kindsCode, entryCode, noCode, codesBy, classOf, takesClass, takesCode, chosenBy}
 
 -- characters that are none of a number's empty places
 pub allPlain : List ℕ → Bool
@@ -33,11 +33,11 @@ unfolding allPlain
 plain-rest c cs h = both-right (ltb 0 c && ltb c 256) (allPlain cs) h
 
 -- such characters are told by their number
-packed-same : (a b : List ℕ) → allPlain a ≡ true → allPlain b ≡ true → eqb (packed b) (packed a) ≡ sameText a b
-unfolding packed sameText
+packed-same : (a b : List ℕ) → allPlain a ≡ true → allPlain b ≡ true → eqb (packedWord b) (packedWord a) ≡ sameText a b
+unfolding packedWord sameText
 packed-same [] [] h k = refl
-packed-same [] (d ∷ b) h k = let p = plain-first d b k in let e = mod-eq-of-lt (p .1) in ne-eqb (d % 256 + 256 * packed b) 0 (λ z. omega (arith, p .0, e, z))
-packed-same (c ∷ a) [] h k = let p = plain-first c a h in let e = mod-eq-of-lt (p .1) in ne-eqb 0 (c % 256 + 256 * packed a) (λ z. omega (arith, p .0, e, z))
+packed-same [] (d ∷ b) h k = let p = plain-first d b k in let e = mod-eq-of-lt (p .1) in ne-eqb (d % 256 + 256 * packedWord b) 0 (λ z. omega (arith, p .0, e, z))
+packed-same (c ∷ a) [] h k = let p = plain-first c a h in let e = mod-eq-of-lt (p .1) in ne-eqb 0 (c % 256 + 256 * packedWord a) (λ z. omega (arith, p .0, e, z))
 packed-same (c ∷ a) (d ∷ b) h k = go (eqb c d) refl (packed-same a b (plain-rest c a h) (plain-rest d b k))
   where
     ec : c % 256 ≡ c
@@ -52,13 +52,13 @@ packed-same (c ∷ a) (d ∷ b) h k = go (eqb c d) refl (packed-same a b (plain-
     ld : d < 256
     ld = plain-first d b k .1
 
-    go : (t : Bool) → eqb c d ≡ t → eqb (packed b) (packed a) ≡ sameText a b → eqb (d % 256 + 256 * packed b) (c % 256 + 256 * packed a) ≡ t && sameText a b
-    go true e later = same (eqb-true c d e) (eqb (packed b) (packed a)) refl ∙ later
+    go : (t : Bool) → eqb c d ≡ t → eqb (packedWord b) (packedWord a) ≡ sameText a b → eqb (d % 256 + 256 * packedWord b) (c % 256 + 256 * packedWord a) ≡ t && sameText a b
+    go true e later = same (eqb-true c d e) (eqb (packedWord b) (packedWord a)) refl ∙ later
       where
-        same : c ≡ d → (u : Bool) → eqb (packed b) (packed a) ≡ u → eqb (d % 256 + 256 * packed b) (c % 256 + 256 * packed a) ≡ eqb (packed b) (packed a)
-        same z true f = let q = eqb-true (packed b) (packed a) f in let all : d % 256 + 256 * packed b ≡ c % 256 + 256 * packed a = omega (arith, ec, ed, z, q) in eq-eqb (d % 256 + 256 * packed b) (c % 256 + 256 * packed a) all ∙ sym f
-        same z false f = ne-eqb (d % 256 + 256 * packed b) (c % 256 + 256 * packed a) (λ y. eqb-false (packed b) (packed a) f (omega (arith, ec, ed, lc, ld, z, y))) ∙ sym f
-    go false e later = ne-eqb (d % 256 + 256 * packed b) (c % 256 + 256 * packed a) (λ y. eqb-false c d e (omega (arith, ec, ed, lc, ld, y)))
+        same : c ≡ d → (u : Bool) → eqb (packedWord b) (packedWord a) ≡ u → eqb (d % 256 + 256 * packedWord b) (c % 256 + 256 * packedWord a) ≡ eqb (packedWord b) (packedWord a)
+        same z true f = let q = eqb-true (packedWord b) (packedWord a) f in let all : d % 256 + 256 * packedWord b ≡ c % 256 + 256 * packedWord a = omega (arith, ec, ed, z, q) in eq-eqb (d % 256 + 256 * packedWord b) (c % 256 + 256 * packedWord a) all ∙ sym f
+        same z false f = ne-eqb (d % 256 + 256 * packedWord b) (c % 256 + 256 * packedWord a) (λ y. eqb-false (packedWord b) (packedWord a) f (omega (arith, ec, ed, lc, ld, z, y))) ∙ sym f
+    go false e later = ne-eqb (d % 256 + 256 * packedWord b) (c % 256 + 256 * packedWord a) (λ y. eqb-false c d e (omega (arith, ec, ed, lc, ld, y)))
 
 no-class : (a b : Bool) (n : ℕ) → leb 4 n ≡ true → eqb (pick a 1 (pick b 3 2)) n ≡ false
 no-class true b n h = let l = leb-true 4 n h in ne-eqb 1 n (λ z. omega arith)
@@ -141,7 +141,7 @@ kindAt (suc n) (k ∷ ks) = kindAt n ks
 -- an entry of which the number's digits are right, whose word is plain, and that has at most three places
 rightEntry : Entry → Bool
 rightEntry e =
-    (eqb (codeOf e / 0x10000000 % 16) (kindAt 0 (e .kinds)) && (eqb (codeOf e / 0x1000000 % 16) (kindAt 1 (e .kinds)) && eqb (codeOf e / 0x100000 % 16) (kindAt 2 (e .kinds))))
+    (eqb (entryCode e / 0x10000000 % 16) (kindAt 0 (e .kinds)) && (eqb (entryCode e / 0x1000000 % 16) (kindAt 1 (e .kinds)) && eqb (entryCode e / 0x100000 % 16) (kindAt 2 (e .kinds))))
     && (leb (length (e .kinds)) 3 && (allPlain (e .word) && leb (length (e .word)) 6))
 
 allRight : List Entry → Bool
@@ -149,7 +149,7 @@ allRight [] = true
 allRight (e ∷ es) = rightEntry e && allRight es
 
 entries-right : allRight entries ≡ true
-unfolding allRight rightEntry entries codeOf kindsCode kindAt allPlain
+unfolding allRight rightEntry entries entryCode kindsCode kindAt allPlain
 entries-right = refl
 
 no-operand : (k : Kind) → takesClass (kindCode k) 0 ≡ false
@@ -212,27 +212,27 @@ all-take [] ws h l = none-take ws l
 all-take (k ∷ ks) [] h l = rw (no-operand k)
 all-take (k ∷ ks) (w ∷ ws) h l = ap (λ (b : Bool). takesClass (kindCode k) (classOf w) && b) (two-take ks ws (omega arith) (omega arith)) ∙ ap (λ (b : Bool). b && takesAll ks ws) (class-takes k w)
 
-code-takes : (e : Entry) (ws : List Written) → rightEntry e ≡ true → length ws ≤ 3 → takesCode (codeOf e) (classAt 0 ws) (classAt 1 ws) (classAt 2 ws) ≡ takesAll (e .kinds) ws
+code-takes : (e : Entry) (ws : List Written) → rightEntry e ≡ true → length ws ≤ 3 → takesCode (entryCode e) (classAt 0 ws) (classAt 1 ws) (classAt 2 ws) ≡ takesAll (e .kinds) ws
 unfolding takesCode rightEntry
 code-takes e ws h l =
-    let digits = both-left (eqb (codeOf e / 0x10000000 % 16) (kindAt 0 (e .kinds)) && (eqb (codeOf e / 0x1000000 % 16) (kindAt 1 (e .kinds)) && eqb (codeOf e / 0x100000 % 16) (kindAt 2 (e .kinds)))) _ h in
-    let rest = both-right (eqb (codeOf e / 0x10000000 % 16) (kindAt 0 (e .kinds)) && (eqb (codeOf e / 0x1000000 % 16) (kindAt 1 (e .kinds)) && eqb (codeOf e / 0x100000 % 16) (kindAt 2 (e .kinds)))) _ h in
-    let d0 = eqb-true (codeOf e / 0x10000000 % 16) (kindAt 0 (e .kinds)) (both-left _ _ digits) in
-    let d12 = both-right (eqb (codeOf e / 0x10000000 % 16) (kindAt 0 (e .kinds))) _ digits in
-    let d1 = eqb-true (codeOf e / 0x1000000 % 16) (kindAt 1 (e .kinds)) (both-left _ _ d12) in
-    let d2 = eqb-true (codeOf e / 0x100000 % 16) (kindAt 2 (e .kinds)) (both-right (eqb (codeOf e / 0x1000000 % 16) (kindAt 1 (e .kinds))) _ d12) in
+    let digits = both-left (eqb (entryCode e / 0x10000000 % 16) (kindAt 0 (e .kinds)) && (eqb (entryCode e / 0x1000000 % 16) (kindAt 1 (e .kinds)) && eqb (entryCode e / 0x100000 % 16) (kindAt 2 (e .kinds)))) _ h in
+    let rest = both-right (eqb (entryCode e / 0x10000000 % 16) (kindAt 0 (e .kinds)) && (eqb (entryCode e / 0x1000000 % 16) (kindAt 1 (e .kinds)) && eqb (entryCode e / 0x100000 % 16) (kindAt 2 (e .kinds)))) _ h in
+    let d0 = eqb-true (entryCode e / 0x10000000 % 16) (kindAt 0 (e .kinds)) (both-left _ _ digits) in
+    let d12 = both-right (eqb (entryCode e / 0x10000000 % 16) (kindAt 0 (e .kinds))) _ digits in
+    let d1 = eqb-true (entryCode e / 0x1000000 % 16) (kindAt 1 (e .kinds)) (both-left _ _ d12) in
+    let d2 = eqb-true (entryCode e / 0x100000 % 16) (kindAt 2 (e .kinds)) (both-right (eqb (entryCode e / 0x1000000 % 16) (kindAt 1 (e .kinds))) _ d12) in
     rw (d0, d1, d2) (all-take (e .kinds) ws (leb-true (length (e .kinds)) 3 (both-left _ _ rest)) l)
 
-word-same : (e : Entry) (r : List ℕ) → rightEntry e ≡ true → allPlain r ≡ true → length r ≤ 6 → eqb (wordNumber r) (packed (e .word)) ≡ sameText (e .word) r
+word-same : (e : Entry) (r : List ℕ) → rightEntry e ≡ true → allPlain r ≡ true → length r ≤ 6 → eqb (wordNumber r) (packedWord (e .word)) ≡ sameText (e .word) r
 unfolding wordNumber rightEntry
 word-same e r h k l =
-    let rest = both-right (eqb (codeOf e / 0x10000000 % 16) (kindAt 0 (e .kinds)) && (eqb (codeOf e / 0x1000000 % 16) (kindAt 1 (e .kinds)) && eqb (codeOf e / 0x100000 % 16) (kindAt 2 (e .kinds)))) _ h in
+    let rest = both-right (eqb (entryCode e / 0x10000000 % 16) (kindAt 0 (e .kinds)) && (eqb (entryCode e / 0x1000000 % 16) (kindAt 1 (e .kinds)) && eqb (entryCode e / 0x100000 % 16) (kindAt 2 (e .kinds)))) _ h in
     let plain = both-left (allPlain (e .word)) _ (both-right (leb (length (e .kinds)) 3) _ rest) in
     rw (le-ltb 6 (length r) l) (packed-same (e .word) r plain k)
 
 -- what the code chooses: the entry's number, or none
 abbrev pub chosenNumber : Chosen → ℕ
-chosenNumber (taken e) = codeOf e
+chosenNumber (taken e) = entryCode e
 chosenNumber untaken = noCode
 
 chosen-from : (es : List Entry) (r : List ℕ) (ws : List Written) → allRight es ≡ true → allPlain r ≡ true → length r ≤ 6 → length ws ≤ 3
@@ -241,7 +241,7 @@ unfolding allRight codesBy entryIn chosenBy
 chosen-from [] r ws h k l m = refl
 chosen-from (e ∷ es) r ws h k l m =
     let right = both-left (rightEntry e) (allRight es) h in
-    go (eqb (wordNumber r) (packed (e .word))) (sameText (e .word) r) (takesAll (e .kinds) ws) (word-same e r right k l) (code-takes e ws right m) (chosen-from es r ws (both-right (rightEntry e) (allRight es) h) k l m)
+    go (eqb (wordNumber r) (packedWord (e .word))) (sameText (e .word) r) (takesAll (e .kinds) ws) (word-same e r right k l) (code-takes e ws right m) (chosen-from es r ws (both-right (rightEntry e) (allRight es) h) k l m)
   where
     a : ℕ
     a = classAt 0 ws
@@ -252,8 +252,8 @@ chosen-from (e ∷ es) r ws h k l m =
     c : ℕ
     c = classAt 2 ws
 
-    go : (x y z : Bool) → x ≡ y → takesCode (codeOf e) a b c ≡ z → chosenBy (codesBy es (wordNumber r)) a b c ≡ chosenNumber (entryIn es r ws)
-        → chosenBy (pick x (codeOf e ∷ codesBy es (wordNumber r)) (codesBy es (wordNumber r))) a b c ≡ chosenNumber (pick (y && z) (taken e) (entryIn es r ws))
+    go : (x y z : Bool) → x ≡ y → takesCode (entryCode e) a b c ≡ z → chosenBy (codesBy es (wordNumber r)) a b c ≡ chosenNumber (entryIn es r ws)
+        → chosenBy (pick x (entryCode e ∷ codesBy es (wordNumber r)) (codesBy es (wordNumber r))) a b c ≡ chosenNumber (pick (y && z) (taken e) (entryIn es r ws))
     go true true true p q later = rw q
     go true true false p q later = rw q later
     go true false z p q later = absurd (false≢true (sym p))

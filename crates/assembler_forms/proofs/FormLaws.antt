@@ -13,26 +13,26 @@ use Rattle.assembly_rules.specs.declared.Scan.{Scan}
 use Rattle.assembly_rules.specs.Text.{Token, capitals, tokensOf, beforeComma}
 use Rattle.assembly_rules.specs.Text.Token.{run, mark}
 use Rattle.assembly_rules.specs.Sums.{registerNumber, isSum, depthOf, isWhole, scanFrom, scanStart}
-use Rattle.assembly_rules.specs.Operands.{Written, closedMemory, endedMemory, indexedMemory, baseNumber, memoryWith, memoryFrom, operandFrom, isShallow}
+use Rattle.assembly_rules.specs.Operands.{Written, closedMemory, endedMemory, indexedMemory, baseNumber, memoryBehind, memoryFrom, operandFrom, isShallow}
 use Rattle.assembly_rules.specs.Operands.Written.{register, memory, value, nothing}
 use Rattle.assembly_rules.proofs.WritingLaws.{both-left, both-right}
 use Rattle.assembly_rules.proofs.ScanLaws.{no-register-sum}
-use Rattle.assembler_text.specs.declared.tokens.Found.{Found}
-use Rattle.assembler_text.specs.declared.tokens.Found.the-variants.{Nothing, Run, Mark}
+use Rattle.assembler_text.specs.declared.tokens.TokenFound.{TokenFound}
+use Rattle.assembler_text.specs.declared.tokens.TokenFound.the-variants.{Nothing, Run, Mark}
 use Rattle.assembler_text.specs.Places.{between, tokenAt}
 use Rattle.assembler_text.proofs.PlaceLaws.{no-tokens-there, run-tokens, mark-tokens, mark-lies, before-none, before-run, before-mark}
 use Rattle.assembler_forms.specs.declared.operands.Form.{Form}
 use Rattle.assembler_forms.specs.declared.operands.Form.the-variants.{Register, Memory, Value, NoOperand}
-use Rattle.assembler_forms.specs.Forms.{pastBy, pastMark, stopsBy, stopsAt, registerBy, registerAt, operandTokens, Formed}
+use Rattle.assembler_forms.specs.Forms.{markBy, pastMark, stopsBy, stopsAt, registerBy, registerAt, operandTokens, Formed}
 
 -- the tokens of an operand by the token found at its place: none, a run, or a character that is no comma
-pub data Begins (text : List ℕ) (at : ℕ) : Found → Type 0 where
+pub data Begins (text : List ℕ) (at : ℕ) : TokenFound → Type 0 where
   ended : operandTokens text at ≡ [] → Begins text at Nothing
   comma : {next : ℕ} {c : ℕ} → c ≡ 44 → operandTokens text at ≡ [] → Begins text at (Mark c next)
   word : {from to : ℕ} → operandTokens text at ≡ run (capitals (between text from to)) ∷ operandTokens text to → Begins text at (Run from to)
   single : {c next : ℕ} → (c ≡ 44 → ⊥) → 0 < next → operandTokens text at ≡ mark c ∷ operandTokens text next → Begins text at (Mark c next)
 
-begins-by : (text : List ℕ) (at : ℕ) (f : Found) → tokenAt text at ≡ f → Begins text at f
+begins-by : (text : List ℕ) (at : ℕ) (f : TokenFound) → tokenAt text at ≡ f → Begins text at f
 begins-by text at Nothing e = ended (ap beforeComma (no-tokens-there text at e) ∙ before-none)
 begins-by text at (Run from to) e = word (ap beforeComma (run-tokens text at from to e) ∙ before-run (capitals (between text from to)) (tokensOf (drop to text)))
 begins-by text at (Mark c next) e = go (eqb c 44) refl
@@ -53,7 +53,7 @@ headIs c (mark d ∷ ts) = eqb d c
 pub record PastSome (text : List ℕ) (at c next : ℕ) : Type 0 where
   pub tokens : operandTokens text at ≡ mark c ∷ operandTokens text next
 
-past-by : (text : List ℕ) (at c : ℕ) (f : Found) → Begins text at f → (c ≡ 44 → ⊥) → (pastBy c f ≡ 0 → ⊥) → PastSome text at c (pastBy c f)
+past-by : (text : List ℕ) (at c : ℕ) (f : TokenFound) → Begins text at f → (c ≡ 44 → ⊥) → (markBy c f ≡ 0 → ⊥) → PastSome text at c (markBy c f)
 past-by text at c Nothing b k h = absurd (h refl)
 past-by text at c (Run from to) b k h = absurd (h refl)
 past-by text at c (Mark d next) b k h = go (eqb d c) refl h b
@@ -67,7 +67,7 @@ pub past-some : (text : List ℕ) (at c : ℕ) → (c ≡ 44 → ⊥) → (pastM
 unfolding pastMark
 past-some text at c k h = past-by text at c (tokenAt text at) (begins text at) k h
 
-past-no : (text : List ℕ) (at c : ℕ) {f : Found} → Begins text at f → pastBy c f ≡ 0 → headIs c (operandTokens text at) ≡ false
+past-no : (text : List ℕ) (at c : ℕ) {f : TokenFound} → Begins text at f → markBy c f ≡ 0 → headIs c (operandTokens text at) ≡ false
 past-no text at c (ended n) h = ap (headIs c) n
 past-no text at c (comma z n) h = ap (headIs c) n
 past-no text at c (word n) h = ap (headIs c) n
@@ -86,7 +86,7 @@ abbrev pub isNone : List Token → Bool
 isNone [] = true
 isNone (t ∷ ts) = false
 
-stops-is : (text : List ℕ) (at : ℕ) {f : Found} → Begins text at f → isNone (operandTokens text at) ≡ stopsBy f
+stops-is : (text : List ℕ) (at : ℕ) {f : TokenFound} → Begins text at f → isNone (operandTokens text at) ≡ stopsBy f
 stops-is text at (ended n) = ap isNone n
 stops-is text at (comma z n) = ap isNone n ∙ sym (eq-eqb _ 44 z)
 stops-is text at (word n) = ap isNone n
@@ -102,7 +102,7 @@ headNumber [] = 9
 headNumber (run r ∷ ts) = registerNumber r
 headNumber (mark c ∷ ts) = 9
 
-register-number : (text : List ℕ) (at : ℕ) {f : Found} → Begins text at f → headNumber (operandTokens text at) ≡ registerBy text at f .number
+register-number : (text : List ℕ) (at : ℕ) {f : TokenFound} → Begins text at f → headNumber (operandTokens text at) ≡ registerBy text at f .number
 register-number text at (ended n) = ap headNumber n
 register-number text at (comma z n) = ap headNumber n
 register-number text at (word n) = ap headNumber n
@@ -116,7 +116,7 @@ pub record RunThere (text : List ℕ) (at next : ℕ) : Type 0 where
   pub name : List ℕ
   pub tokens : operandTokens text at ≡ run name ∷ operandTokens text next
 
-register-there : (text : List ℕ) (at : ℕ) {f : Found} → Begins text at f → (registerBy text at f .number ≡ 9 → ⊥) → RunThere text at (registerBy text at f .next)
+register-there : (text : List ℕ) (at : ℕ) {f : TokenFound} → Begins text at f → (registerBy text at f .number ≡ 9 → ⊥) → RunThere text at (registerBy text at f .next)
 register-there text at (ended n) h = absurd (h refl)
 register-there text at (comma z n) h = absurd (h refl)
 register-there text at (word {from = from} {to = to} n) h = record { name = capitals (between text from to); tokens = n }
@@ -182,18 +182,18 @@ module _ (mm : ℕ) where
   unfolding indexedMemory
   indexed-some r ts h = rw (eq-eqb (registerNumber r) 5 h)
 
-  with-other : (ts : List Token) → headIs 93 ts ≡ false → headIs 43 ts ≡ false → memoryWith mm ts ≡ nothing
-  unfolding memoryWith
+  with-other : (ts : List Token) → headIs 93 ts ≡ false → headIs 43 ts ≡ false → memoryBehind mm ts ≡ nothing
+  unfolding memoryBehind
   with-other [] h k = refl
   with-other (run r ∷ ts) h k = refl
   with-other (mark c ∷ ts) h k = rw (h, k)
 
-  with-closed : (ts : List Token) → memoryWith mm (mark 93 ∷ ts) ≡ closedMemory mm ts
-  unfolding memoryWith
+  with-closed : (ts : List Token) → memoryBehind mm (mark 93 ∷ ts) ≡ closedMemory mm ts
+  unfolding memoryBehind
   with-closed ts = refl
 
-  with-plus : (ts : List Token) → memoryWith mm (mark 43 ∷ ts) ≡ indexedMemory mm ts
-  unfolding memoryWith
+  with-plus : (ts : List Token) → memoryBehind mm (mark 43 ∷ ts) ≡ indexedMemory mm ts
+  unfolding memoryBehind
   with-plus ts = refl
 
 -- forms that are no memory, and memory without an offset
@@ -261,7 +261,7 @@ from-not [] h = refl
 from-not (mark c ∷ ts) h = refl
 from-not (run r ∷ ts) h = rw (le-ltb (baseNumber (registerNumber r)) 4 h)
 
-from-is : (r : List ℕ) (ts : List Token) (n : ℕ) → registerNumber r ≡ n → baseNumber n ≤ 3 → memoryFrom (run r ∷ ts) ≡ memoryWith (baseNumber n) ts
+from-is : (r : List ℕ) (ts : List Token) (n : ℕ) → registerNumber r ≡ n → baseNumber n ≤ 3 → memoryFrom (run r ∷ ts) ≡ memoryBehind (baseNumber n) ts
 unfolding memoryFrom
 from-is r ts n e h = let l : baseNumber n < 4 = omega arith in rw (e, lt-ltb (baseNumber n) 4 l)
 
@@ -272,7 +272,7 @@ module _ (text : List ℕ) (at : ℕ) where
   pub memory-not : 3 < baseNumber (registerAt text at .number) → memoryFrom (operandTokens text at) ≡ nothing
   memory-not h = from-not (operandTokens text at) (subst (λ (n : ℕ). 3 < baseNumber n) (sym (register-told text at)) h)
 
-  memory-is : baseNumber (registerAt text at .number) ≤ 3 → memoryFrom (operandTokens text at) ≡ memoryWith (baseNumber (registerAt text at .number)) (operandTokens text (registerAt text at .next))
+  memory-is : baseNumber (registerAt text at .number) ≤ 3 → memoryFrom (operandTokens text at) ≡ memoryBehind (baseNumber (registerAt text at .number)) (operandTokens text (registerAt text at .next))
   memory-is h =
       let r = register-some text at (λ z. no-base (registerAt text at .number) z h) in
       ap memoryFrom (r .tokens) ∙ from-is (r .name) (operandTokens text (registerAt text at .next)) (registerAt text at .number) (sym (ap headNumber (r .tokens)) ∙ register-told text at) h
@@ -281,13 +281,13 @@ module _ (text : List ℕ) (at : ℕ) where
   memory-closed mm next e f h k =
       memory-is (subst (λ (n : ℕ). n ≤ 3) e h)
       ∙ rw (← e, ← f)
-      (ap (memoryWith mm) (past-some text next 93 (λ z. omega arith) k .tokens) ∙ with-closed mm (operandTokens text (pastMark text next 93)))
+      (ap (memoryBehind mm) (past-some text next 93 (λ z. omega arith) k .tokens) ∙ with-closed mm (operandTokens text (pastMark text next 93)))
 
   pub memory-plus : (mm next : ℕ) → mm ≡ baseNumber (registerAt text at .number) → next ≡ registerAt text at .next → mm ≤ 3 → (pastMark text next 43 ≡ 0 → ⊥) → memoryFrom (operandTokens text at) ≡ indexedMemory mm (operandTokens text (pastMark text next 43))
   memory-plus mm next e f h k =
       memory-is (subst (λ (n : ℕ). n ≤ 3) e h)
       ∙ rw (← e, ← f)
-      (ap (memoryWith mm) (past-some text next 43 (λ z. omega arith) k .tokens) ∙ with-plus mm (operandTokens text (pastMark text next 43)))
+      (ap (memoryBehind mm) (past-some text next 43 (λ z. omega arith) k .tokens) ∙ with-plus mm (operandTokens text (pastMark text next 43)))
 
   pub memory-other : (mm next : ℕ) → mm ≡ baseNumber (registerAt text at .number) → next ≡ registerAt text at .next → mm ≤ 3 → pastMark text next 93 ≡ 0 → pastMark text next 43 ≡ 0 → memoryFrom (operandTokens text at) ≡ nothing
   memory-other mm next e f h k l =

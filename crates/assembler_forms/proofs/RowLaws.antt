@@ -13,11 +13,11 @@ use Rattle.ground_rules.specs.Choice.{pick}
 use Rattle.assembly_rules.specs.Text.{capitalOf, isDigit, isCapital, isRun, isBlank, endsLine, Token, runBefore, begunBy, tokensOf, ahead, cutAt, isComma, beforeComma, fromComma}
 use Rattle.assembly_rules.specs.Text.Token.{run, mark}
 use Rattle.assembly_rules.specs.Operands.{Written, operandFrom, operandsFrom}
-use Rattle.assembly_rules.specs.Statements.{partsOf}
+use Rattle.assembly_rules.specs.Statements.{operandParts}
 use Rattle.assembly_rules.proofs.TextLaws.{tokens-blank, tokens-end, tokens-mark, rest-more}
 use Rattle.assembly_rules.proofs.WritingLaws.{both-left, both-right}
-use Rattle.assembler_text.specs.declared.tokens.Found.{Found}
-use Rattle.assembler_text.specs.declared.tokens.Found.the-variants.{Nothing, Run, Mark}
+use Rattle.assembler_text.specs.declared.tokens.TokenFound.{TokenFound}
+use Rattle.assembler_text.specs.declared.tokens.TokenFound.the-variants.{Nothing, Run, Mark}
 use Rattle.assembler_text.specs.Places.{leading, goesOn, stopAt, tokenAt}
 use Rattle.assembler_text.proofs.PlaceLaws.{from-here, lead-fails, no-tokens-there, run-tokens, mark-tokens}
 use Rattle.assembler_forms.specs.Forms.{operandTokens}
@@ -221,25 +221,25 @@ row-first text at = go (commaAt text (stopAt text at)) refl
     go false e = (operandFrom (operandTokens text at), ([], row-one text at e))
 
 -- no operands where the line ends
-ends-tokens : (text : List ℕ) (at : ℕ) (f : Found) → tokenAt text at ≡ f → endsBy f ≡ true → tokensOf (drop at text) ≡ []
+ends-tokens : (text : List ℕ) (at : ℕ) (f : TokenFound) → tokenAt text at ≡ f → endsBy f ≡ true → tokensOf (drop at text) ≡ []
 ends-tokens text at Nothing e h = no-tokens-there text at e
 ends-tokens text at (Run from to) e h = absurd (false≢true h)
 ends-tokens text at (Mark c next) e h = absurd (false≢true h)
 
-nothing-there : operandsFrom (partsOf []) ≡ []
+nothing-there : operandsFrom (operandParts []) ≡ []
 unfolding operandsFrom
 nothing-there = refl
 
-pub row-empty : (text : List ℕ) (at : ℕ) → endsAt text at ≡ true → operandsFrom (partsOf (tokensOf (drop at text))) ≡ []
+pub row-empty : (text : List ℕ) (at : ℕ) → endsAt text at ≡ true → operandsFrom (operandParts (tokensOf (drop at text))) ≡ []
 unfolding endsAt
-row-empty text at h = ap (λ (ts : List Token). operandsFrom (partsOf ts)) (ends-tokens text at (tokenAt text at) refl h) ∙ nothing-there
+row-empty text at h = ap (λ (ts : List Token). operandsFrom (operandParts ts)) (ends-tokens text at (tokenAt text at) refl h) ∙ nothing-there
 
-some-row : (text : List ℕ) (at : ℕ) (f : Found) → tokenAt text at ≡ f → endsBy f ≡ false → partsOf (tokensOf (drop at text)) ≡ cutAt isComma (tokensOf (drop at text))
+some-row : (text : List ℕ) (at : ℕ) (f : TokenFound) → tokenAt text at ≡ f → endsBy f ≡ false → operandParts (tokensOf (drop at text)) ≡ cutAt isComma (tokensOf (drop at text))
 some-row text at Nothing e h = absurd (false≢true (sym h))
 some-row text at (Run from to) e h = rw (run-tokens text at from to e)
 some-row text at (Mark c next) e h = rw (mark-tokens text at c next e)
 
-pub row-some : (text : List ℕ) (at : ℕ) → endsAt text at ≡ false → operandsFrom (partsOf (tokensOf (drop at text))) ≡ rowFrom text at
+pub row-some : (text : List ℕ) (at : ℕ) → endsAt text at ≡ false → operandsFrom (operandParts (tokensOf (drop at text))) ≡ rowFrom text at
 unfolding endsAt
 row-some text at h = ap operandsFrom (some-row text at (tokenAt text at) refl h)
 

@@ -6,8 +6,8 @@ use Prim.Native.Nat.{ℕ}
 use lib.Dec.{eqb, ltb}
 use lib.ListN.{length, getD}
 use Rattle.assembly_rules.specs.Operands.{Written}
-use Rattle.assembler_text.specs.declared.tokens.Found.{Found}
-use Rattle.assembler_text.specs.declared.tokens.Found.the-variants.{Nothing, Run, Mark}
+use Rattle.assembler_text.specs.declared.tokens.TokenFound.{TokenFound}
+use Rattle.assembler_text.specs.declared.tokens.TokenFound.the-variants.{Nothing, Run, Mark}
 use Rattle.assembler_text.specs.Places.{tokenAt}
 use Rattle.assembler_forms.specs.declared.operands.Operands.{Operands}
 use Rattle.assembler_forms.specs.Forms.{Formed}
@@ -16,7 +16,7 @@ use Rattle.assembler_forms.specs.Forms.{Formed}
 unfoldable pub commaAt : List ℕ → ℕ → Bool
 commaAt text at = ltb at (length text) && eqb (getD text at 0) 44
 
-abbrev pub endsBy : Found → Bool
+abbrev pub endsBy : TokenFound → Bool
 endsBy Nothing = true
 endsBy (Run from to) = false
 endsBy (Mark c next) = false
@@ -25,9 +25,9 @@ unfoldable pub endsAt : List ℕ → ℕ → Bool
 endsAt text at = endsBy (tokenAt text at)
 
 -- operands by how many there are
-abbrev pub Held : List ℕ → Operands → List Written → Type 0
-Held text o [] = o .count ≡ 0
-Held text o (u ∷ []) = (o .count ≡ 1) × Formed text (o .first) u
-Held text o (u ∷ v ∷ []) = (o .count ≡ 2) × (Formed text (o .first) u × Formed text (o .second) v)
-Held text o (u ∷ v ∷ w ∷ []) = (o .count ≡ 3) × (Formed text (o .first) u × (Formed text (o .second) v × Formed text (o .third) w))
-Held text o (u ∷ v ∷ w ∷ x ∷ ws) = o .count ≡ 4
+abbrev pub RowIs : List ℕ → Operands → List Written → Type 0
+RowIs text o [] = o .count ≡ 0
+RowIs text o (u ∷ []) = (o .count ≡ 1) × Formed text (o .first) u
+RowIs text o (u ∷ v ∷ []) = (o .count ≡ 2) × (Formed text (o .first) u × Formed text (o .second) v)
+RowIs text o (u ∷ v ∷ w ∷ []) = (o .count ≡ 3) × (Formed text (o .first) u × (Formed text (o .second) v × Formed text (o .third) w))
+RowIs text o (u ∷ v ∷ w ∷ x ∷ ws) = o .count ≡ 4

@@ -12,13 +12,13 @@ use Rattle.assembly_rules.specs.Operands.Written.{register, memory, value, noth
 use Rattle.assembler_forms.specs.declared.table.Codes.{Codes}
 
 -- characters in one number, the first in its lowest eight bits
-unfoldable pub packed : List ℕ → ℕ
-packed [] = 0
-packed (c ∷ cs) = c % 256 + 256 * packed cs
+unfoldable pub packedWord : List ℕ → ℕ
+packedWord [] = 0
+packedWord (c ∷ cs) = c % 256 + 256 * packedWord cs
 
 -- no word has more than six characters
 unfoldable pub wordNumber : List ℕ → ℕ
-wordNumber cs = pick (ltb 6 (length cs)) 0 (packed cs)
+wordNumber cs = pick (ltb 6 (length cs)) 0 (packedWord cs)
 
 -- a kind of place by a digit, 0 for none
 abbrev pub kindCode : Kind → ℕ
@@ -40,8 +40,8 @@ kindsCode (suc n) [] = 0
 kindsCode (suc n) (k ∷ ks) = kindCode k * 16 ^ n + kindsCode n ks
 
 -- an entry: three digits for its kinds, then RRR, dd, W and the opcode
-unfoldable pub codeOf : Entry → ℕ
-codeOf e = kindsCode 3 (e .kinds) * 0x100000 + (e .rrr * 0x10000 + (e .dd * 0x1000 + (e .w * 0x100 + e .opcode)))
+unfoldable pub entryCode : Entry → ℕ
+entryCode e = kindsCode 3 (e .kinds) * 0x100000 + (e .rrr * 0x10000 + (e .dd * 0x1000 + (e .w * 0x100 + e .opcode)))
 
 -- no entry
 abbrev pub noCode : ℕ
@@ -50,7 +50,7 @@ noCode = 0xF0000000
 -- the numbers of the entries of a word, by the word's number
 unfoldable pub codesBy : List Entry → ℕ → List ℕ
 codesBy [] n = []
-codesBy (e ∷ es) n = pick (eqb n (packed (e .word))) (codeOf e ∷ codesBy es n) (codesBy es n)
+codesBy (e ∷ es) n = pick (eqb n (packedWord (e .word))) (entryCode e ∷ codesBy es n) (codesBy es n)
 
 -- up to three of them, as the code has them
 unfoldable pub codesIn : Codes → List ℕ

@@ -1,16 +1,16 @@
 // Operands: registers, memory and sums.
 use assembler_text::sums;
 use assembler_text::tokens;
-use assembler_text::tokens::Found;
+use assembler_text::tokens::TokenFound;
 use assembly_rules::Scan;
 ghost use lib.ListN.{drop};
 ghost use mathlib.Core.Path.{_≡_};
 ghost use Rattle.assembly_rules.specs.Text.{tokensOf};
 ghost use Rattle.assembly_rules.specs.Sums.{isWhole};
-ghost use Rattle.assembly_rules.specs.Statements.{partsOf};
+ghost use Rattle.assembly_rules.specs.Statements.{operandParts};
 ghost use Rattle.assembly_rules.specs.Operands.{baseNumber, closedMemory, indexedMemory, memoryFrom, operandFrom, operandsFrom};
 ghost use Rattle.assembler_forms.specs.Forms.{pastMark, stopsAt, registerAt, operandTokens, Formed};
-ghost use Rattle.assembler_forms.specs.Rows.{commaAt, endsAt, Held};
+ghost use Rattle.assembler_forms.specs.Rows.{commaAt, endsAt, RowIs};
 
 // A register's number and the place behind it; 9 where none stands there.
 pub(crate) struct Named {
@@ -32,9 +32,9 @@ fn past(text: &[u8], at: usize, c: u8) -> usize
     ensures { λ r. ⌜ r ≡ pastMark (now (text .entry)) at c ⌝ }
 {
     match tokens::token_at(text, at) {
-        Found::Nothing => 0,
-        Found::Run(..) => 0,
-        Found::Mark(d, next) => {
+        TokenFound::Nothing => 0,
+        TokenFound::Run(..) => 0,
+        TokenFound::Mark(d, next) => {
             if d == c {
                 return next;
             }
@@ -48,9 +48,9 @@ fn stops(text: &[u8], at: usize) -> bool
     ensures { λ r. ⌜ r ≡ stopsAt (now (text .entry)) at ⌝ }
 {
     match tokens::token_at(text, at) {
-        Found::Nothing => true,
-        Found::Run(..) => false,
-        Found::Mark(c, ..) => c == 44,
+        TokenFound::Nothing => true,
+        TokenFound::Run(..) => false,
+        TokenFound::Mark(c, ..) => c == 44,
     }
 }
 
@@ -59,15 +59,15 @@ fn register_at(text: &[u8], at: usize) -> Named
     ensures { λ r. ⌜ r ≡ registerAt (now (text .entry)) at ⌝ }
 {
     match tokens::token_at(text, at) {
-        Found::Nothing => Named {
+        TokenFound::Nothing => Named {
             number: 9,
             next: at,
         },
-        Found::Run(from, to) => {
+        TokenFound::Run(from, to) => {
             let number = sums::register_number(&text[from..to]);
             Named { number, next: to }
         }
-        Found::Mark(..) => Named {
+        TokenFound::Mark(..) => Named {
             number: 9,
             next: at,
         },
@@ -205,15 +205,15 @@ fn ends(text: &[u8], at: usize) -> bool
     ensures { λ r. ⌜ r ≡ endsAt (now (text .entry)) at ⌝ }
 {
     match tokens::token_at(text, at) {
-        Found::Nothing => true,
-        Found::Run(..) => false,
-        Found::Mark(..) => false,
+        TokenFound::Nothing => true,
+        TokenFound::Run(..) => false,
+        TokenFound::Mark(..) => false,
     }
 }
 
 // The operands from a place up to the line's end.
 pub fn operands_at(text: &[u8], at: usize) -> Operands
-    ensures { λ r. ⌜ Held (now (text .entry)) r (operandsFrom (partsOf (tokensOf (drop at (now (text .entry)))))) ⌝ }
+    ensures { λ r. ⌜ RowIs (now (text .entry)) r (operandsFrom (operandParts (tokensOf (drop at (now (text .entry)))))) ⌝ }
 {
     let none = Form::NoOperand;
     if ends(text, at) {

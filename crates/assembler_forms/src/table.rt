@@ -5,7 +5,7 @@ ghost use mathlib.Core.List.{[]};
 ghost use mathlib.Core.Path.{_≡_};
 ghost use Rattle.listing_rules.specs.Entries.{entries};
 ghost use Rattle.assembly_rules.specs.Text.{capitals};
-ghost use Rattle.assembler_forms.specs.Forms.{formOf};
+ghost use Rattle.assembler_forms.specs.Forms.{writtenForm};
 ghost use Rattle.assembler_forms.specs.Table.{wordNumber, codesBy, codesIn, classOf, takesClass, takesCode, chosenBy};
 
 // No entry.
@@ -94,7 +94,7 @@ fn codes_of(word: u64) -> Codes
 
 // What an operand is to a place.
 pub fn class(f: Form) -> u32
-    ensures { λ r. ⌜ r ≡ classOf (formOf [] f) ⌝ }
+    ensures { λ r. ⌜ r ≡ classOf (writtenForm [] f) ⌝ }
 {
     match f {
         Form::Register(r) => {

@@ -12,19 +12,19 @@ use lib.ListN.{length, getD, take, drop, drop-of-length-le, length-drop}
 use lib.Seq.{length-take-le, drop-cons, drop-drop, getD-drop}
 use borrow.Author.Tests.{eqb-true, eqb-false, leb-true, leb-false, le-leb, lt-leb}
 use Rattle.ground_rules.specs.Choice.{pick}
-use Rattle.assembly_rules.specs.declared.Part.{Part}
-use Rattle.assembly_rules.specs.declared.Part.the-variants.{Term, Plus, Minus, Opens, Closes, Other}
+use Rattle.assembly_rules.specs.declared.Role.{Role}
+use Rattle.assembly_rules.specs.declared.Role.the-variants.{Term, Plus, Minus, Opens, Closes, Other}
 use Rattle.assembly_rules.specs.declared.Scan.{Scan}
-use Rattle.assembly_rules.specs.Text.{capitalOf, capitals, isRun, isBlank, endsLine, Token, begunBy, tokensOf, runOf, beforeComma}
+use Rattle.assembly_rules.specs.Text.{capitalOf, capitals, isRun, isBlank, endsLine, Token, begunBy, tokensOf, runIn, beforeComma}
 use Rattle.assembly_rules.specs.Text.Token.{run, mark}
-use Rattle.assembly_rules.specs.Sums.{isTerm, markPart, partOf, larger, scan, noSum, minus?, opens?, scanned, scanFrom, isSign, beginsSign, beginsMinus, firstSign, pastMinus}
+use Rattle.assembly_rules.specs.Sums.{isTerm, markRole, roleOf, greater, scan, noSum, minus?, opens?, scanned, scanFrom, isSign, beginsSign, beginsMinus, firstSign, pastMinus}
 use Rattle.assembly_rules.proofs.TextLaws.{tokens-blank, tokens-end, tokens-mark, run-none, run-more, rest-more, no-run}
-use Rattle.assembler_text.specs.declared.tokens.Found.{Found}
-use Rattle.assembler_text.specs.declared.tokens.Found.the-variants.{Nothing, Run, Mark}
+use Rattle.assembler_text.specs.declared.tokens.TokenFound.{TokenFound}
+use Rattle.assembler_text.specs.declared.tokens.TokenFound.the-variants.{Nothing, Run, Mark}
 use Rattle.assembler_text.specs.declared.sums.Ahead.{Ahead}
 use Rattle.assembler_text.specs.declared.sums.Ahead.the-variants.{Stop, Next}
 use Rattle.assembler_text.specs.declared.values.Sign.{Sign}
-use Rattle.assembler_text.specs.Places.{leading, pastBlanks, runEnd, between, tokenFrom, tokenAt, aheadBy, partAt, sign, signBy, signAt, leadAt}
+use Rattle.assembler_text.specs.Places.{leading, pastBlanks, runEnd, between, tokenFrom, tokenAt, aheadBy, roleAt, sign, signBy, signAt, leadAt}
 
 -- the characters from a place on: the one there, and those behind it
 pub from-here : (s : List ℕ) (i : ℕ) → i < length s → drop i s ≡ getD s i 0 ∷ drop (i + 1) s
@@ -78,29 +78,29 @@ tokens-empty : tokensOf [] ≡ []
 unfolding tokensOf begunBy
 tokens-empty = refl
 
-run-empty : runOf [] ≡ []
-unfolding runOf begunBy
+run-empty : runIn [] ≡ []
+unfolding runIn begunBy
 run-empty = refl
 
 -- the run that characters begin with, and the tokens behind it
-run-lead : (cs : List ℕ) → (runOf cs ≡ capitals (take (leading isRun cs) cs)) × (begunBy cs .rest ≡ tokensOf (drop (leading isRun cs) cs))
+run-lead : (cs : List ℕ) → (runIn cs ≡ capitals (take (leading isRun cs) cs)) × (begunBy cs .rest ≡ tokensOf (drop (leading isRun cs) cs))
 unfolding leading capitals
 run-lead [] = (run-empty, no-run [] run-empty)
 run-lead (c ∷ cs) = go (isRun c) refl (run-lead cs)
   where
-    go : (b : Bool) → isRun c ≡ b → (runOf cs ≡ capitals (take (leading isRun cs) cs)) × (begunBy cs .rest ≡ tokensOf (drop (leading isRun cs) cs))
-        → (runOf (c ∷ cs) ≡ capitals (take (pick b (suc (leading isRun cs)) 0) (c ∷ cs))) × (begunBy (c ∷ cs) .rest ≡ tokensOf (drop (pick b (suc (leading isRun cs)) 0) (c ∷ cs)))
+    go : (b : Bool) → isRun c ≡ b → (runIn cs ≡ capitals (take (leading isRun cs) cs)) × (begunBy cs .rest ≡ tokensOf (drop (leading isRun cs) cs))
+        → (runIn (c ∷ cs) ≡ capitals (take (pick b (suc (leading isRun cs)) 0) (c ∷ cs))) × (begunBy (c ∷ cs) .rest ≡ tokensOf (drop (pick b (suc (leading isRun cs)) 0) (c ∷ cs)))
     go true e later = (run-more c cs e ∙ ap (λ (x : List ℕ). capitalOf c ∷ x) (later .0), rest-more c cs e ∙ later .1)
     go false e later = let n = run-none c cs e in (n, no-run (c ∷ cs) n)
 
 -- a token that was found, with those behind it
-unfoldable pub told : List ℕ → Found → List Token
+unfoldable pub told : List ℕ → TokenFound → List Token
 told text Nothing = []
 told text (Run from to) = run (capitals (between text from to)) ∷ tokensOf (drop to text)
 told text (Mark c next) = mark c ∷ tokensOf (drop next text)
 
 -- it lies in the text, from a place on
-unfoldable pub Lies : List ℕ → ℕ → Found → Type 0
+unfoldable pub Lies : List ℕ → ℕ → TokenFound → Type 0
 Lies text at Nothing = Unit
 Lies text at (Run from to) = (at ≤ from) × (from < to) × (to ≤ length text)
 Lies text at (Mark c next) = (at < next) × (next ≤ length text)
@@ -109,14 +109,14 @@ Lies text at (Mark c next) = (at < next) × (next ≤ length text)
 part-take : (from n : ℕ) (text : List ℕ) → between text from (from + n) ≡ take n (drop from text)
 part-take from n text = let e : from + n - from ≡ n = omega arith in ap (λ (k : ℕ). take k (drop from text)) e
 
-first-run : (cs : List ℕ) (c : ℕ) (more : List ℕ) → runOf cs ≡ c ∷ more → (front : List ℕ) (rest : List Token) → runOf cs ≡ front → begunBy cs .rest ≡ rest → tokensOf cs ≡ run front ∷ rest
-unfolding tokensOf runOf
+first-run : (cs : List ℕ) (c : ℕ) (more : List ℕ) → runIn cs ≡ c ∷ more → (front : List ℕ) (rest : List Token) → runIn cs ≡ front → begunBy cs .rest ≡ rest → tokensOf cs ≡ run front ∷ rest
+unfolding tokensOf runIn
 first-run cs c more e front rest f g = rw (e, g) (ap (λ (x : List ℕ). run x ∷ rest) (sym e ∙ f))
 
 -- the token that a run of characters begins
 tokens-run : (cs : List ℕ) → isRun (getD cs 0 0) ≡ true → 0 < length cs → tokensOf cs ≡ run (capitals (take (leading isRun cs) cs)) ∷ tokensOf (drop (leading isRun cs) cs)
 tokens-run [] h l = absurd (omega arith)
-tokens-run (c ∷ cs) h l = let r = run-lead (c ∷ cs) in first-run (c ∷ cs) (capitalOf c) (runOf cs) (run-more c cs h) (capitals (take (leading isRun (c ∷ cs)) (c ∷ cs))) (tokensOf (drop (leading isRun (c ∷ cs)) (c ∷ cs))) (r .0) (r .1)
+tokens-run (c ∷ cs) h l = let r = run-lead (c ∷ cs) in first-run (c ∷ cs) (capitalOf c) (runIn cs) (run-more c cs h) (capitals (take (leading isRun (c ∷ cs)) (c ∷ cs))) (tokensOf (drop (leading isRun (c ∷ cs)) (c ∷ cs))) (r .0) (r .1)
 
 run-some : (cs : List ℕ) → isRun (getD cs 0 0) ≡ true → 0 < length cs → 0 < leading isRun cs
 unfolding leading
@@ -148,7 +148,7 @@ module _ (text : List ℕ) (from : ℕ) (inside : from < length text) where
   end-there h k = ap tokensOf here ∙ tokens-end (getD text from 0) (drop (from + 1) text) h k
 
 -- a token at a place: with those behind it they are the tokens from the place on, and it lies in the text
-pub record Stands (text : List ℕ) (at : ℕ) (f : Found) : Type 0 where
+pub record Stands (text : List ℕ) (at : ℕ) (f : TokenFound) : Type 0 where
   pub tokens : tokensOf (drop at text) ≡ told text f
   pub lies : Lies text at f
 
@@ -169,7 +169,7 @@ stands-from text from plain = go (leb (length text) from) refl (isRun (getD text
         record { tokens = mark-there text from l q r (plain l); lies = (omega arith, omega arith) }
 
 -- a token found from a later place lies behind an earlier one too
-lies-before : (text : List ℕ) (at from : ℕ) (f : Found) → at ≤ from → Lies text from f → Lies text at f
+lies-before : (text : List ℕ) (at from : ℕ) (f : TokenFound) → at ≤ from → Lies text from f → Lies text at f
 unfolding Lies
 lies-before text at from Nothing l h = tt
 lies-before text at from (Run a b) l h = (omega (arith, h .0), h .1, h .2)
@@ -212,16 +212,16 @@ module _ (text : List ℕ) (at from : ℕ) (e : from ≡ pastBlanks text at) whe
 
 -- what a token that was found is in a sum, and where it lies
 module _ (text : List ℕ) (at : ℕ) where
-  pub part-none : tokenAt text at ≡ Nothing → partAt text at ≡ Stop
-  unfolding partAt
+  pub part-none : tokenAt text at ≡ Nothing → roleAt text at ≡ Stop
+  unfolding roleAt
   part-none e = ap (aheadBy text) e
 
-  pub part-run : (from to : ℕ) → tokenAt text at ≡ Run from to → (b : Bool) → isTerm (capitals (between text from to)) ≡ b → partAt text at ≡ pick b (Next Term to) (Next Other to)
-  unfolding partAt
+  pub part-run : (from to : ℕ) → tokenAt text at ≡ Run from to → (b : Bool) → isTerm (capitals (between text from to)) ≡ b → roleAt text at ≡ pick b (Next Term to) (Next Other to)
+  unfolding roleAt
   part-run from to e b h = ap (aheadBy text) e ∙ rw h
 
-  pub part-mark : (c next : ℕ) → tokenAt text at ≡ Mark c next → (b : Bool) → eqb c 44 ≡ b → partAt text at ≡ pick b Stop (Next (markPart c) next)
-  unfolding partAt
+  pub part-mark : (c next : ℕ) → tokenAt text at ≡ Mark c next → (b : Bool) → eqb c 44 ≡ b → roleAt text at ≡ pick b Stop (Next (markRole c) next)
+  unfolding roleAt
   part-mark c next e b h = ap (aheadBy text) e ∙ rw h
 
   pub run-lies : (from to : ℕ) → tokenAt text at ≡ Run from to → (at ≤ from) × (from < to) × (to ≤ length text)
@@ -259,7 +259,7 @@ module _ (text : List ℕ) (at : ℕ) where
 -- what stands at a place in a sum
 pub data PartStands (text : List ℕ) (at : ℕ) : Ahead → Type 0 where
   stops : beforeComma (tokensOf (drop at text)) ≡ [] → PartStands text at Stop
-  goes : (t : Token) (next : ℕ) → beforeComma (tokensOf (drop at text)) ≡ t ∷ beforeComma (tokensOf (drop next text)) → at < next → next ≤ length text → PartStands text at (Next (partOf t) next)
+  goes : (t : Token) (next : ℕ) → beforeComma (tokensOf (drop at text)) ≡ t ∷ beforeComma (tokensOf (drop next text)) → at < next → next ≤ length text → PartStands text at (Next (roleOf t) next)
 
 pub before-none : beforeComma [] ≡ []
 unfolding beforeComma
@@ -273,15 +273,15 @@ pub before-mark : (c : ℕ) (ts : List Token) (b : Bool) → eqb c 44 ≡ b → 
 unfolding beforeComma
 before-mark c ts b e = rw e
 
-run-part : (r : List ℕ) (b : Bool) → isTerm r ≡ b → partOf (run r) ≡ pick b Term Other
-unfolding partOf
+run-part : (r : List ℕ) (b : Bool) → isTerm r ≡ b → roleOf (run r) ≡ pick b Term Other
+unfolding roleOf
 run-part r b e = rw e
 
-mark-part : (c : ℕ) → partOf (mark c) ≡ markPart c
-unfolding partOf
-mark-part c = refl
+mark-role : (c : ℕ) → roleOf (mark c) ≡ markRole c
+unfolding roleOf
+mark-role c = refl
 
-part-by : (text : List ℕ) (at : ℕ) (f : Found) → Stands text at f → PartStands text at (aheadBy text f)
+part-by : (text : List ℕ) (at : ℕ) (f : TokenFound) → Stands text at f → PartStands text at (aheadBy text f)
 unfolding told Lies
 part-by text at Nothing s = stops (ap beforeComma (s .tokens) ∙ before-none)
 part-by text at (Run from to) s = go (isTerm (capitals (between text from to))) refl
@@ -293,16 +293,16 @@ part-by text at (Run from to) s = go (isTerm (capitals (between text from to))) 
     text-so = ap beforeComma (s .tokens) ∙ before-run r (tokensOf (drop to text))
 
     go : (b : Bool) → isTerm r ≡ b → PartStands text at (pick b (Next Term to) (Next Other to))
-    go true e = subst (λ (p : Part). PartStands text at (Next p to)) (run-part r true e) (goes (run r) to text-so (omega (arith, s .lies .0, s .lies .1)) (s .lies .2))
-    go false e = subst (λ (p : Part). PartStands text at (Next p to)) (run-part r false e) (goes (run r) to text-so (omega (arith, s .lies .0, s .lies .1)) (s .lies .2))
+    go true e = subst (λ (p : Role). PartStands text at (Next p to)) (run-part r true e) (goes (run r) to text-so (omega (arith, s .lies .0, s .lies .1)) (s .lies .2))
+    go false e = subst (λ (p : Role). PartStands text at (Next p to)) (run-part r false e) (goes (run r) to text-so (omega (arith, s .lies .0, s .lies .1)) (s .lies .2))
 part-by text at (Mark c next) s = go (eqb c 44) refl
   where
-    go : (b : Bool) → eqb c 44 ≡ b → PartStands text at (pick b Stop (Next (markPart c) next))
+    go : (b : Bool) → eqb c 44 ≡ b → PartStands text at (pick b Stop (Next (markRole c) next))
     go true e = stops (ap beforeComma (s .tokens) ∙ before-mark c (tokensOf (drop next text)) true e)
-    go false e = subst (λ (p : Part). PartStands text at (Next p next)) (mark-part c) (goes (mark c) next (ap beforeComma (s .tokens) ∙ before-mark c (tokensOf (drop next text)) false e) (s .lies .0) (s .lies .1))
+    go false e = subst (λ (p : Role). PartStands text at (Next p next)) (mark-role c) (goes (mark c) next (ap beforeComma (s .tokens) ∙ before-mark c (tokensOf (drop next text)) false e) (s .lies .0) (s .lies .1))
 
-pub part-stands : (text : List ℕ) (at : ℕ) → PartStands text at (partAt text at)
-unfolding partAt
+pub part-stands : (text : List ℕ) (at : ℕ) → PartStands text at (roleAt text at)
+unfolding roleAt
 part-stands text at = part-by text at (tokenAt text at) (stands text at)
 
 -- a scan stops, or goes on behind one more token
@@ -313,7 +313,7 @@ scan-none : (s : Scan) → scanFrom s [] ≡ s
 unfolding scanFrom
 scan-none s = refl
 
-scan-one : (s : Scan) (t : Token) (ts : List Token) → scanFrom s (t ∷ ts) ≡ scanFrom (scanned s (partOf t)) ts
+scan-one : (s : Scan) (t : Token) (ts : List Token) → scanFrom s (t ∷ ts) ≡ scanFrom (scanned s (roleOf t)) ts
 unfolding scanFrom
 scan-one s t ts = refl
 
@@ -321,33 +321,33 @@ pub scan-stops : (s : Scan) (text : List ℕ) (at : ℕ) {a : Ahead} → PartSta
 scan-stops s text at (stops e) h = ap (scanFrom s) e ∙ scan-none s
 scan-stops s text at (goes t next e l m) h = next-stop h
   where
-    next-stop : {A : Type 0} → Next (partOf t) next ≡ Stop → A
+    next-stop : {A : Type 0} → Next (roleOf t) next ≡ Stop → A
     next-stop z = let q : _≡_ {A = ℕ} 0 1 = cc in absurd (eqb-false 0 1 refl q)
 
 pub scan-over : (s : Scan) (text : List ℕ) (at : ℕ) → length text ≤ at → scanAt s text at ≡ s
 scan-over s text at h = ap (λ (x : List Token). scanFrom s (beforeComma x)) (no-tokens text at h) ∙ ap (scanFrom s) before-none ∙ scan-none s
 
-pub record GoesOn (s : Scan) (text : List ℕ) (at : ℕ) (p : Part) (next : ℕ) : Type 0 where
+pub record GoesOn (s : Scan) (text : List ℕ) (at : ℕ) (p : Role) (next : ℕ) : Type 0 where
   pub same : scanAt s text at ≡ scanAt (scanned s p) text next
   pub more : at < next
   pub inside : next ≤ length text
 
-pub scan-goes : (s : Scan) (text : List ℕ) (at : ℕ) {a : Ahead} → PartStands text at a → (p : Part) (next : ℕ) → a ≡ Next p next → GoesOn s text at p next
+pub scan-goes : (s : Scan) (text : List ℕ) (at : ℕ) {a : Ahead} → PartStands text at a → (p : Role) (next : ℕ) → a ≡ Next p next → GoesOn s text at p next
 scan-goes s text at (stops e) p next h = stop-next h
   where
     stop-next : {A : Type 0} → Stop ≡ Next p next → A
     stop-next z = let q : _≡_ {A = ℕ} 0 1 = cc in absurd (eqb-false 0 1 refl q)
 scan-goes s text at (goes t n1 e l m) p next h =
-    let f : partOf t ≡ p = cc in
+    let f : roleOf t ≡ p = cc in
     let g : n1 ≡ next = cc in
-    rw (← g) (record { same = ap (scanFrom s) e ∙ scan-one s t (beforeComma (tokensOf (drop n1 text))) ∙ ap (λ (x : Part). scanAt (scanned s x) text n1) f; more = l; inside = m })
+    rw (← g) (record { same = ap (scanFrom s) e ∙ scan-one s t (beforeComma (tokensOf (drop n1 text))) ∙ ap (λ (x : Role). scanAt (scanned s x) text n1) f; more = l; inside = m })
 
 either-most : (b : Bool) (x y : Scan) {n : ℕ} → x .opened ≤ n → y .opened ≤ n → pick b x y .opened ≤ n
 either-most true x y h k = h
 either-most false x y h k = k
 
 -- one token opens at most one parenthesis more
-pub opened-most : (s : Scan) (p : Part) → scanned s p .opened ≤ s .opened + 1
+pub opened-most : (s : Scan) (p : Role) → scanned s p .opened ≤ s .opened + 1
 unfolding scanned
 opened-most s Term = either-most (s .due) _ _ (omega arith) (omega arith)
 opened-most s Plus = either-most (s .due) _ _ (omega arith) (omega arith)
@@ -361,7 +361,7 @@ pub record SignStands (text : List ℕ) (at : ℕ) (g : Sign) : Type 0 where
   pub none : g .sign ≡ 0 → beginsSign (tokensOf (drop at text)) ≡ false
   pub some : (g .sign ≡ 0 → ⊥) → (isSign (g .sign) ≡ true) × (tokensOf (drop at text) ≡ mark (g .sign) ∷ tokensOf (drop (g .next) text))
 
-sign-by : (text : List ℕ) (at : ℕ) (f : Found) → Stands text at f → SignStands text at (signBy at f)
+sign-by : (text : List ℕ) (at : ℕ) (f : TokenFound) → Stands text at f → SignStands text at (signBy at f)
 unfolding told
 sign-by text at Nothing s = record { none = λ h. rw (s .tokens); some = λ h. absurd (h refl) }
 sign-by text at (Run from to) s = record { none = λ h. rw (s .tokens); some = λ h. absurd (h refl) }
@@ -414,7 +414,7 @@ lead-stands text at = lead-by text at (signAt text at) (sign-stands text at)
 pub opens-not : (s : Scan) → s .due ≡ false → opens? s ≡ noSum s
 opens-not s h = passed (s .due) _ _ h
 
-pub opens-more : (s : Scan) (most : ℕ) → s .due ≡ true → larger (s .most) (s .opened + 1) ≡ most → opens? s ≡ scan (s .good) (s .opened + 1) most true true
+pub opens-more : (s : Scan) (most : ℕ) → s .due ≡ true → greater (s .most) (s .opened + 1) ≡ most → opens? s ≡ scan (s .good) (s .opened + 1) most true true
 opens-more s most h e = chosen (s .due) _ _ h ∙ ap (λ (m : ℕ). scan (s .good) (s .opened + 1) m true true) e
 
 pub minus-not : (s : Scan) → s .due && not (s .begins) ≡ true → minus? s ≡ noSum s

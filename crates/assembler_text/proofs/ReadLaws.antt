@@ -13,7 +13,7 @@ use Rattle.assembly_rules.specs.declared.Worth.{Worth}
 use Rattle.assembly_rules.specs.Text.{Token, begunBy, tokensOf}
 use Rattle.assembly_rules.specs.Text.Token.{run, mark}
 use Rattle.assembly_rules.specs.Numbers.{constantOf}
-use Rattle.assembly_rules.specs.Sums.{Label, worth, beginsDigit, isRegister, labelWorth, combinedWorth, beginsSign, Read, andThen, closeAt, restWith, sumWith, runRead, termBy, termOf, sumOf, worthIn, mostOpen, sumWorth}
+use Rattle.assembly_rules.specs.Sums.{Label, worth, beginsDigit, isRegister, labelWorth, combinedWorth, beginsSign, Read, andThen, closeAt, restWith, sumWith, runRead, termBy, termOf, sumWithin, worthIn, mostOpen, sumWorth}
 use Rattle.assembly_rules.specs.Sums.Read.{read, deep, wrong}
 use Rattle.assembly_rules.proofs.SumLaws.{Short, term-short, rest-stop, rest-term, rest-enough}
 use Rattle.assembler_text.specs.Places.{signAt, leadAt}
@@ -41,8 +41,8 @@ module _ (labels : List Label) where
   term-deep zero c ts h d = rw (eq-eqb c 40 h)
   term-deep (suc depth) c ts h d = absurd (omega arith)
 
-  pub term-open : (depth c : ℕ) (ts : List Token) → c ≡ 40 → (depth ≡ 0 → ⊥) → termOf depth labels (mark c ∷ ts) ≡ andThen (sumOf (depth - 1) labels ts) closeAt
-  unfolding termOf termBy sumOf
+  pub term-open : (depth c : ℕ) (ts : List Token) → c ≡ 40 → (depth ≡ 0 → ⊥) → termOf depth labels (mark c ∷ ts) ≡ andThen (sumWithin (depth - 1) labels ts) closeAt
+  unfolding termOf termBy sumWithin
   term-open zero c ts h d = absurd (d refl)
   term-open (suc depth) c ts h d = let e : suc depth - 1 ≡ depth = omega arith in rw (eq-eqb c 40 h, e)
 
@@ -90,16 +90,16 @@ abbrev pub goesFrom : ℕ → List Label → List ℕ → Worth → ℕ → Read
 goesFrom depth labels text total i = restWith (termOf depth labels) (length (tokensOf (drop i text))) total (tokensOf (drop i text))
 
 module _ (depth : ℕ) (labels : List Label) (text : List ℕ) where
-  first-of : (at : ℕ) → sumOf depth labels (tokensOf (drop at text)) ≡ andThen (termOf depth labels (tokensOf (drop (leadAt text at .next) text))) (λ x rest. restWith (termOf depth labels) (length rest) (combinedWorth (leadAt text at .sign) (worth 0 true) x) rest)
-  unfolding sumOf sumWith
+  first-of : (at : ℕ) → sumWithin depth labels (tokensOf (drop at text)) ≡ andThen (termOf depth labels (tokensOf (drop (leadAt text at .next) text))) (λ x rest. restWith (termOf depth labels) (length rest) (combinedWorth (leadAt text at .sign) (worth 0 true) x) rest)
+  unfolding sumWithin sumWith
   first-of at = let l = lead-stands text at in rw (l .past, l .sign-is)
 
   -- the first term was not read
-  pub sum-fails : (at : ℕ) (tooDeep : Bool) → termOf depth labels (tokensOf (drop (leadAt text at .next) text)) ≡ pick tooDeep deep wrong → sumOf depth labels (tokensOf (drop at text)) ≡ pick tooDeep deep wrong
+  pub sum-fails : (at : ℕ) (tooDeep : Bool) → termOf depth labels (tokensOf (drop (leadAt text at .next) text)) ≡ pick tooDeep deep wrong → sumWithin depth labels (tokensOf (drop at text)) ≡ pick tooDeep deep wrong
   sum-fails at tooDeep e = first-of at ∙ ap (λ (x : Read). andThen x (λ x rest. restWith (termOf depth labels) (length rest) (combinedWorth (leadAt text at .sign) (worth 0 true) x) rest)) e ∙ fails-then tooDeep _
 
   -- or it was
-  pub sum-starts : (at : ℕ) (w : Worth) (next : ℕ) → termOf depth labels (tokensOf (drop (leadAt text at .next) text)) ≡ read w (tokensOf (drop next text)) → goesFrom depth labels text (combinedWorth (leadAt text at .sign) (worth 0 true) w) next ≡ sumOf depth labels (tokensOf (drop at text))
+  pub sum-starts : (at : ℕ) (w : Worth) (next : ℕ) → termOf depth labels (tokensOf (drop (leadAt text at .next) text)) ≡ read w (tokensOf (drop next text)) → goesFrom depth labels text (combinedWorth (leadAt text at .sign) (worth 0 true) w) next ≡ sumWithin depth labels (tokensOf (drop at text))
   sum-starts at w next e = sym (first-of at ∙ ap (λ (x : Read). andThen x (λ x rest. restWith (termOf depth labels) (length rest) (combinedWorth (leadAt text at .sign) (worth 0 true) x) rest)) e)
 
   module _ (total : Worth) (i : ℕ) where
@@ -141,11 +141,11 @@ module _ (depth : ℕ) (labels : List Label) (text : List ℕ) where
         omega (arith, shorter (signAt text i .next) behind x e, ap length (s .1))
 
 -- what a sum is worth, or nothing
-pub worth-read : (labels : List Label) (ts : List Token) (w : Worth) (rest : List Token) → sumOf mostOpen labels ts ≡ read w rest → sumWorth labels ts ≡ w
+pub worth-read : (labels : List Label) (ts : List Token) (w : Worth) (rest : List Token) → sumWithin mostOpen labels ts ≡ read w rest → sumWorth labels ts ≡ w
 unfolding sumWorth
 worth-read labels ts w rest e = ap worthIn e
 
-pub worth-failed : (labels : List Label) (ts : List Token) (tooDeep : Bool) → sumOf mostOpen labels ts ≡ pick tooDeep deep wrong → sumWorth labels ts ≡ worth 0 false
+pub worth-failed : (labels : List Label) (ts : List Token) (tooDeep : Bool) → sumWithin mostOpen labels ts ≡ pick tooDeep deep wrong → sumWorth labels ts ≡ worth 0 false
 unfolding sumWorth
 worth-failed labels ts true e = ap worthIn e
 worth-failed labels ts false e = ap worthIn e

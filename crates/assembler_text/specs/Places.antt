@@ -5,12 +5,12 @@ use Prim.Native.Nat.{ℕ, suc, _+_, _-_}
 use lib.Dec.{eqb, leb}
 use lib.ListN.{length, getD, take, drop}
 use Rattle.ground_rules.specs.Choice.{pick}
-use Rattle.assembly_rules.specs.declared.Part.{Part}
-use Rattle.assembly_rules.specs.declared.Part.the-variants.{Term, Other}
-use Rattle.assembly_rules.specs.Text.{capitals, isRun, isBlank, endsLine, runOf}
-use Rattle.assembly_rules.specs.Sums.{Label, label, isTerm, markPart}
-use Rattle.assembler_text.specs.declared.tokens.Found.{Found}
-use Rattle.assembler_text.specs.declared.tokens.Found.the-variants.{Nothing, Run, Mark}
+use Rattle.assembly_rules.specs.declared.Role.{Role}
+use Rattle.assembly_rules.specs.declared.Role.the-variants.{Term, Other}
+use Rattle.assembly_rules.specs.Text.{capitals, isRun, isBlank, endsLine, runIn}
+use Rattle.assembly_rules.specs.Sums.{Label, label, isTerm, markRole}
+use Rattle.assembler_text.specs.declared.tokens.TokenFound.{TokenFound}
+use Rattle.assembler_text.specs.declared.tokens.TokenFound.the-variants.{Nothing, Run, Mark}
 use Rattle.assembler_text.specs.declared.sums.Ahead.{Ahead}
 use Rattle.assembler_text.specs.declared.sums.Ahead.the-variants.{Stop, Next}
 use Rattle.assembler_text.specs.declared.values.Sign.{Sign}
@@ -33,13 +33,13 @@ abbrev pub between : List ℕ → ℕ → ℕ → List ℕ
 between text from to = take (to - from) (drop from text)
 
 -- the token at a place that is no blank
-unfoldable pub tokenFrom : List ℕ → ℕ → Found
+unfoldable pub tokenFrom : List ℕ → ℕ → TokenFound
 tokenFrom text from =
     pick (leb (length text) from) Nothing
     (pick (isRun (getD text from 0)) (Run from (runEnd text from))
     (pick (endsLine (getD text from 0)) Nothing (Mark (getD text from 0) (from + 1))))
 
-unfoldable pub tokenAt : List ℕ → ℕ → Found
+unfoldable pub tokenAt : List ℕ → ℕ → TokenFound
 tokenAt text at = tokenFrom text (pastBlanks text at)
 
 -- neither a comma nor a line's end
@@ -51,19 +51,19 @@ unfoldable pub stopAt : List ℕ → ℕ → ℕ
 stopAt text at = at + leading goesOn (drop at text)
 
 -- what a token is in a sum, and the place behind it
-abbrev pub aheadBy : List ℕ → Found → Ahead
+abbrev pub aheadBy : List ℕ → TokenFound → Ahead
 aheadBy text Nothing = Stop
 aheadBy text (Run from to) = pick (isTerm (capitals (between text from to))) (Next Term to) (Next Other to)
-aheadBy text (Mark c next) = pick (eqb c 44) Stop (Next (markPart c) next)
+aheadBy text (Mark c next) = pick (eqb c 44) Stop (Next (markRole c) next)
 
-unfoldable pub partAt : List ℕ → ℕ → Ahead
-partAt text at = aheadBy text (tokenAt text at)
+unfoldable pub roleAt : List ℕ → ℕ → Ahead
+roleAt text at = aheadBy text (tokenAt text at)
 
 abbrev pub sign : ℕ → ℕ → Sign
 sign s next = record { sign = s; next = next }
 
 -- the sign at a place, 0 where there is none
-abbrev pub signBy : ℕ → Found → Sign
+abbrev pub signBy : ℕ → TokenFound → Sign
 signBy at Nothing = sign 0 at
 signBy at (Run from to) = sign 0 at
 signBy at (Mark c next) = pick (eqb c 43 || eqb c 45) (sign c next) (sign 0 at)
@@ -77,7 +77,7 @@ leadAt text at = pick (eqb (signAt text at .sign) 45) (signAt text at) (sign 43 
 
 -- a label's name by its place
 unfoldable pub nameAt : List ℕ → ℕ → List ℕ
-nameAt text place = runOf (drop place text)
+nameAt text place = runIn (drop place text)
 
 -- the labels by their places and addresses
 unfoldable pub labelsAt : List ℕ → List ℕ → List ℕ → List Label

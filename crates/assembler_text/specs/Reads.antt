@@ -10,6 +10,6 @@ use Rattle.assembly_rules.specs.Sums.Read.{read, deep, wrong}
 use Rattle.assembler_text.specs.declared.values.Parsed.{Parsed}
 use Rattle.assembler_text.specs.declared.values.Parsed.the-variants.{Value, Failed}
 
-unfoldable pub seen : List ℕ → Parsed → Read
-seen text (Value w next) = read w (tokensOf (drop next text))
-seen text (Failed tooDeep) = pick tooDeep deep wrong
+unfoldable pub readAs : List ℕ → Parsed → Read
+readAs text (Value w next) = read w (tokensOf (drop next text))
+readAs text (Failed tooDeep) = pick tooDeep deep wrong

@@ -2,17 +2,17 @@
 use crate::characters;
 use crate::constants;
 use crate::tokens;
-use crate::tokens::Found;
+use crate::tokens::TokenFound;
 use assembly_rules::Constant;
-use assembly_rules::Part;
+use assembly_rules::Role;
 use assembly_rules::Scan;
 ghost use mathlib.Core.Path.{_≡_};
 ghost use mathlib.Core.Bool.{false};
 ghost use Prim.Native.Nat.{_<_};
 ghost use lib.ListN.{drop};
 ghost use Rattle.assembly_rules.specs.Text.{capitals, tokensOf, beforeComma};
-ghost use Rattle.assembly_rules.specs.Sums.{registerNumber, isTerm, markPart, scan, noSum, opens?, closes?, scanned, scanStart, scanFrom};
-ghost use Rattle.assembler_text.specs.Places.{partAt};
+ghost use Rattle.assembly_rules.specs.Sums.{registerNumber, isTerm, markRole, scan, noSum, opens?, closes?, scanned, scanStart, scanFrom};
+ghost use Rattle.assembler_text.specs.Places.{roleAt};
 
 // RRR of a register by its name, 8 for PP, 9 for none.
 pub fn register_number(run: &[u8]) -> u32
@@ -55,41 +55,41 @@ fn is_term(run: &[u8]) -> bool
 }
 
 // What a character by itself is in a sum.
-fn mark_part(c: u8) -> Part
-    ensures { λ r. ⌜ r ≡ markPart c ⌝ }
+fn mark_role(c: u8) -> Role
+    ensures { λ r. ⌜ r ≡ markRole c ⌝ }
 {
     match c {
-        43 => Part::Plus,
-        45 => Part::Minus,
-        40 => Part::Opens,
-        41 => Part::Closes,
-        _ => Part::Other,
+        43 => Role::Plus,
+        45 => Role::Minus,
+        40 => Role::Opens,
+        41 => Role::Closes,
+        _ => Role::Other,
     }
 }
 
 // What stands at a place in a sum: a comma or the line's end, or a token of it with the place behind.
 pub(crate) enum Ahead {
     Stop,
-    Next(Part, usize),
+    Next(Role, usize),
 }
 
 // What stands at a place in a sum.
-fn part_at(text: &[u8], at: usize) -> Ahead
-    ensures { λ r. ⌜ r ≡ partAt (now (text .entry)) at ⌝ }
+fn role_at(text: &[u8], at: usize) -> Ahead
+    ensures { λ r. ⌜ r ≡ roleAt (now (text .entry)) at ⌝ }
 {
     match tokens::token_at(text, at) {
-        Found::Nothing => Ahead::Stop,
-        Found::Run(from, to) => {
+        TokenFound::Nothing => Ahead::Stop,
+        TokenFound::Run(from, to) => {
             if is_term(&text[from..to]) {
-                return Ahead::Next(Part::Term, to);
+                return Ahead::Next(Role::Term, to);
             }
-            Ahead::Next(Part::Other, to)
+            Ahead::Next(Role::Other, to)
         }
-        Found::Mark(c, next) => {
+        TokenFound::Mark(c, next) => {
             if c == 44 {
                 return Ahead::Stop;
             }
-            Ahead::Next(mark_part(c), next)
+            Ahead::Next(mark_role(c), next)
         }
     }
 }
@@ -156,32 +156,32 @@ fn closes(s: Scan) -> Scan
 }
 
 // The scan after one more token.
-fn scanned(s: Scan, part: Part) -> Scan
+fn scanned(s: Scan, part: Role) -> Scan
     requires { ⌜ s .opened < 18446744073709551615 ⌝ }
     ensures { λ r. ⌜ r ≡ scanned s part ⌝ }
 {
     match part {
-        Part::Term => {
+        Role::Term => {
             if s.due {
                 return going(s, false);
             }
             no_sum(s)
         }
-        Part::Plus => {
+        Role::Plus => {
             if s.due {
                 return no_sum(s);
             }
             going(s, true)
         }
-        Part::Minus => {
+        Role::Minus => {
             if s.due & !s.begins {
                 return no_sum(s);
             }
             going(s, true)
         }
-        Part::Opens => opens(s),
-        Part::Closes => closes(s),
-        Part::Other => no_sum(s),
+        Role::Opens => opens(s),
+        Role::Closes => closes(s),
+        Role::Other => no_sum(s),
     }
 }
 
@@ -198,7 +198,7 @@ pub fn scan(text: &[u8], at: usize) -> Scan
     };
     let mut i = at;
     while i < text.len() {
-        let Ahead::Next(part, next) = part_at(text, i) else {
+        let Ahead::Next(part, next) = role_at(text, i) else {
             return s;
         };
         s = scanned(s, part);

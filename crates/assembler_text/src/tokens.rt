@@ -5,7 +5,7 @@ ghost use Rattle.assembler_text.specs.Places.{pastBlanks, runEnd, tokenA
 
 // What stands at a place of a line: nothing more, a run with its first place and the one behind it, or another character with
 // the place behind it.
-pub enum Found {
+pub enum TokenFound {
     Nothing,
     Run(usize, usize),
     Mark(u8, usize),
@@ -40,21 +40,21 @@ fn run_end(text: &[u8], at: usize) -> usize
 }
 
 // The token at a place, blanks before it left out.
-pub fn token_at(text: &[u8], at: usize) -> Found
+pub fn token_at(text: &[u8], at: usize) -> TokenFound
     ensures { λ r. ⌜ r ≡ tokenAt (now (text .entry)) at ⌝ }
 {
     let from = past_blanks(text, at);
     if text.len() <= from {
-        return Found::Nothing;
+        return TokenFound::Nothing;
     }
     let c = text[from];
     if characters::is_run(c) {
-        return Found::Run(from, run_end(text, from));
+        return TokenFound::Run(from, run_end(text, from));
     }
     if characters::ends_line(c) {
-        return Found::Nothing;
+        return TokenFound::Nothing;
     }
-    Found::Mark(c, from + 1)
+    TokenFound::Mark(c, from + 1)
 }
 
 // The place of the comma that stands next in the line, or of the line's end.

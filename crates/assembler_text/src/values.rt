@@ -4,16 +4,16 @@ use crate::constants;
 use crate::labels;
 use crate::sums;
 use crate::tokens;
-use crate::tokens::Found;
+use crate::tokens::TokenFound;
 use assembly_rules::Constant;
 use assembly_rules::Worth;
 ghost use mathlib.Core.Path.{_≡_};
 ghost use Prim.Native.Nat.{_<_, _≤_};
 ghost use lib.ListN.{length, drop};
 ghost use Rattle.assembly_rules.specs.Text.{capitals, tokensOf};
-ghost use Rattle.assembly_rules.specs.Sums.{combinedWorth, closeAt, andThen, runRead, termOf, sumOf, sumWorth};
+ghost use Rattle.assembly_rules.specs.Sums.{combinedWorth, closeAt, andThen, runRead, termOf, sumWithin, sumWorth};
 ghost use Rattle.assembler_text.specs.Places.{between, labelsAt, signAt, leadAt};
-ghost use Rattle.assembler_text.specs.Reads.{seen};
+ghost use Rattle.assembler_text.specs.Reads.{readAs};
 
 // What was read: a worth and the place behind it, or nothing: more parentheses than allowed, or no sum.
 pub(crate) enum Parsed {
@@ -32,9 +32,9 @@ fn sign_at(text: &[u8], at: usize) -> Sign
     ensures { λ r. ⌜ r ≡ signAt (now (text .entry)) at ⌝ }
 {
     match tokens::token_at(text, at) {
-        Found::Nothing => Sign { sign: 0, next: at },
-        Found::Run(..) => Sign { sign: 0, next: at },
-        Found::Mark(c, next) => {
+        TokenFound::Nothing => Sign { sign: 0, next: at },
+        TokenFound::Run(..) => Sign { sign: 0, next: at },
+        TokenFound::Mark(c, next) => {
             if (c == 43) | (c == 45) {
                 return Sign { sign: c, next };
             }
@@ -69,15 +69,15 @@ fn combined(sign: u8, a: Worth, b: Worth) -> Worth
 
 // Behind a sum in parentheses, the one that closes it.
 fn close(text: &[u8], inner: Parsed) -> Parsed
-    ensures { λ r. ⌜ seen (now (text .entry)) r ≡ andThen (seen (now (text .entry)) inner) closeAt ⌝ }
+    ensures { λ r. ⌜ readAs (now (text .entry)) r ≡ andThen (readAs (now (text .entry)) inner) closeAt ⌝ }
 {
     let Parsed::Value(w, next) = inner else {
         return inner;
     };
     match tokens::token_at(text, next) {
-        Found::Nothing => Parsed::Failed(false),
-        Found::Run(..) => Parsed::Failed(false),
-        Found::Mark(c, behind) => {
+        TokenFound::Nothing => Parsed::Failed(false),
+        TokenFound::Run(..) => Parsed::Failed(false),
+        TokenFound::Mark(c, behind) => {
             if c == 41 {
                 return Parsed::Value(w, behind);
             }
@@ -89,7 +89,7 @@ fn close(text: &[u8], inner: Parsed) -> Parsed
 // What a run is worth: a constant, or a name that is no register.
 fn run_worth(text: &[u8], from: usize, to: usize, places: &[usize], addresses: &[u32]) -> Parsed
     requires { ⌜ (from < to) × (to ≤ length (now text)) ⌝ }
-    ensures { λ r. ⌜ seen (now (text .entry)) r ≡ runRead (labelsAt (now (text .entry)) (now (places .entry)) (now (addresses .entry))) (capitals (between (now (text .entry)) from to)) (tokensOf (drop to (now (text .entry)))) ⌝ }
+    ensures { λ r. ⌜ readAs (now (text .entry)) r ≡ runRead (labelsAt (now (text .entry)) (now (places .entry)) (now (addresses .entry))) (capitals (between (now (text .entry)) from to)) (tokensOf (drop to (now (text .entry)))) ⌝ }
 {
     let run = &text[from..to];
     if characters::is_digit(characters::capital(run[0])) {
@@ -106,12 +106,12 @@ fn run_worth(text: &[u8], from: usize, to: usize, places: &[usize], addresses: &
 
 // One term: a constant, a name, or a sum in parentheses, of which `depth` may be open.
 fn term(text: &[u8], at: usize, depth: u32, places: &[usize], addresses: &[u32]) -> Parsed
-    ensures { λ r. ⌜ seen (now (text .entry)) r ≡ termOf depth (labelsAt (now (text .entry)) (now (places .entry)) (now (addresses .entry))) (tokensOf (drop at (now (text .entry)))) ⌝ }
+    ensures { λ r. ⌜ readAs (now (text .entry)) r ≡ termOf depth (labelsAt (now (text .entry)) (now (places .entry)) (now (addresses .entry))) (tokensOf (drop at (now (text .entry)))) ⌝ }
 {
     match tokens::token_at(text, at) {
-        Found::Nothing => Parsed::Failed(false),
-        Found::Run(from, to) => run_worth(text, from, to, places, addresses),
-        Found::Mark(c, next) => {
+        TokenFound::Nothing => Parsed::Failed(false),
+        TokenFound::Run(from, to) => run_worth(text, from, to, places, addresses),
+        TokenFound::Mark(c, next) => {
             if c != 40 {
                 return Parsed::Failed(false);
             }
@@ -125,7 +125,7 @@ fn term(text: &[u8], at: usize, depth: u32, places: &[usize], addresses: &[u32])
 
 // Terms with signs between them.
 fn sum(text: &[u8], at: usize, depth: u32, places: &[usize], addresses: &[u32]) -> Parsed
-    ensures { λ r. ⌜ seen (now (text .entry)) r ≡ sumOf depth (labelsAt (now (text .entry)) (now (places .entry)) (now (addresses .entry))) (tokensOf (drop at (now (text .entry)))) ⌝ }
+    ensures { λ r. ⌜ readAs (now (text .entry)) r ≡ sumWithin depth (labelsAt (now (text .entry)) (now (places .entry)) (now (addresses .entry))) (tokensOf (drop at (now (text .entry)))) ⌝ }
 {
     let lead = lead_at(text, at);
     let first = term(text, lead.next, depth, places, addresses);

@@ -8,8 +8,8 @@ use Rattle.listing_rules.specs.Characters.{ascii, sameText}
 use Rattle.assembly_rules.specs.declared.Worth.{Worth}
 use Rattle.assembly_rules.specs.Text.{capitalOf, isDigit, isCapital, isRun, isBlank, endsLine, inFrontOf, begunBy, tokensOf, cutAt, linesIn}
 use Rattle.assembly_rules.specs.Text.Token.{run, mark}
-use Rattle.assembly_rules.specs.Numbers.{digitValue, isRadix, radixOf, lastOf, butLast, digitsFrom, digitsOf, constantOf}
-use Rattle.assembly_rules.specs.Sums.{indexIn, registerNumber, isTerm, partOf, scanned, scanFrom, isSum, depthOf, label, labelWorth, worth, combinedWorth, restWith, sumWith, runRead, termBy, termOf, sumOf, sumWorth}
+use Rattle.assembly_rules.specs.Numbers.{digitValue, isRadix, radixOf, lastOf, butLast, digitsFrom, constantDigits, constantOf}
+use Rattle.assembly_rules.specs.Sums.{indexIn, registerNumber, isTerm, roleOf, scanned, scanFrom, isSum, depthOf, label, labelWorth, worth, combinedWorth, restWith, sumWith, runRead, termBy, termOf, sumWithin, sumWorth}
 
 -- a line with a label, blanks, small letters and a comment
 line-tokens : tokensOf (ascii "here: mov [Ga + ix+],b_1 ; on") ≡ run (ascii "HERE") ∷ mark 58 ∷ run (ascii "MOV") ∷ mark 91 ∷ run (ascii "GA") ∷ mark 43 ∷ run (ascii "IX") ∷ mark 43 ∷ mark 93 ∷ mark 44 ∷ run (ascii "B_1") ∷ []
@@ -30,7 +30,7 @@ sums-computed :
     × (valued "1bh" ≡ worth 27 true)
     × (valued "65536" ≡ worth 0 true)
     × (valued "((((((((9))))))))" ≡ worth 9 true)
-unfolding tokensOf begunBy inFrontOf isRun isBlank endsLine isDigit isCapital capitalOf digitValue isRadix radixOf lastOf butLast digitsFrom digitsOf constantOf indexIn registerNumber labelWorth combinedWorth restWith sumWith runRead termBy termOf sumOf sumWorth sameText
+unfolding tokensOf begunBy inFrontOf isRun isBlank endsLine isDigit isCapital capitalOf digitValue isRadix radixOf lastOf butLast digitsFrom constantDigits constantOf indexIn registerNumber labelWorth combinedWorth restWith sumWith runRead termBy termOf sumWithin sumWorth sameText
 sums-computed = (refl, refl, refl, refl, refl, refl, refl, refl, refl)
 
 -- what is a sum, and how deep
@@ -45,7 +45,7 @@ forms-told :
     × (isSum (tokensOf (ascii "(((((((((1)))))))))")) ≡ true)
     × (depthOf (tokensOf (ascii "(((((((((1)))))))))")) ≡ 9)
     × (depthOf (tokensOf (ascii "(1)+((2)-3)")) ≡ 2)
-unfolding tokensOf begunBy inFrontOf isRun isBlank endsLine isDigit isCapital capitalOf digitValue isRadix radixOf lastOf butLast digitsFrom digitsOf constantOf indexIn registerNumber isTerm partOf scanned scanFrom isSum depthOf sameText
+unfolding tokensOf begunBy inFrontOf isRun isBlank endsLine isDigit isCapital capitalOf digitValue isRadix radixOf lastOf butLast digitsFrom constantDigits constantOf indexIn registerNumber isTerm roleOf scanned scanFrom isSum depthOf sameText
 forms-told = (refl, refl, refl, refl, refl, refl, refl, refl, refl, refl)
 
 -- the lines of a text

@@ -10,7 +10,7 @@ use lib.Dec.{eqb, ltb, lit<}
 use lib.ListN.{length}
 use Rattle.ground_rules.specs.Choice.{pick}
 use Rattle.assembly_rules.specs.declared.Constant.the-variants.{Value, NoConstant}
-use Rattle.assembly_rules.specs.Numbers.{digitValue, isRadix, radixOf, lastOf, butLast, digitsFrom, digitsOf, constantOf}
+use Rattle.assembly_rules.specs.Numbers.{digitValue, isRadix, radixOf, lastOf, butLast, digitsFrom, constantDigits, constantOf}
 use Rattle.assembly_rules.proofs.WritingLaws.{both-left, both-right}
 
 -- whether all digits are below a radix
@@ -60,13 +60,13 @@ digits-none radix v (c ∷ cs) k = go (ltb (digitValue c) radix) (digits-none ra
     go false later t = refl
 
 -- a run is a constant exactly where its digits are below the radix that its last character tells, and then worth their value mod 65,536
-pub constant-worth : (r : List ℕ) → allBelow (radixOf (lastOf r)) (digitsOf r) ≡ true → constantOf r ≡ Value (placeValue (radixOf (lastOf r)) (digitsOf r) % 65536)
+pub constant-worth : (r : List ℕ) → allBelow (radixOf (lastOf r)) (constantDigits r) ≡ true → constantOf r ≡ Value (placeValue (radixOf (lastOf r)) (constantDigits r) % 65536)
 unfolding constantOf
-constant-worth r h = digits-worth (radixOf (lastOf r)) 0 (digitsOf r) (lit< tt) h ∙ ap (λ (y : ℕ). Value ((y + placeValue (radixOf (lastOf r)) (digitsOf r)) % 65536)) (zero-mul (radixOf (lastOf r) ^ length (digitsOf r))) ∙ ap (λ (y : ℕ). Value (y % 65536)) (zero-add (placeValue (radixOf (lastOf r)) (digitsOf r)))
+constant-worth r h = digits-worth (radixOf (lastOf r)) 0 (constantDigits r) (lit< tt) h ∙ ap (λ (y : ℕ). Value ((y + placeValue (radixOf (lastOf r)) (constantDigits r)) % 65536)) (zero-mul (radixOf (lastOf r) ^ length (constantDigits r))) ∙ ap (λ (y : ℕ). Value (y % 65536)) (zero-add (placeValue (radixOf (lastOf r)) (constantDigits r)))
 
-pub constant-none : (r : List ℕ) → allBelow (radixOf (lastOf r)) (digitsOf r) ≡ false → constantOf r ≡ NoConstant
+pub constant-none : (r : List ℕ) → allBelow (radixOf (lastOf r)) (constantDigits r) ≡ false → constantOf r ≡ NoConstant
 unfolding constantOf
-constant-none r h = digits-none (radixOf (lastOf r)) 0 (digitsOf r) h
+constant-none r h = digits-none (radixOf (lastOf r)) 0 (constantDigits r) h
 
 -- digits and a letter behind them
 last-behind : (ds : List ℕ) (c : ℕ) → (lastOf (ds ++ (c ∷ [])) ≡ c) × (butLast (ds ++ (c ∷ [])) ≡ ds)
@@ -75,12 +75,12 @@ last-behind [] c = (refl, refl)
 last-behind (d ∷ []) c = (refl, refl)
 last-behind (d ∷ e ∷ ds) c = let later = last-behind (e ∷ ds) c in (later .0, ap (λ (x : List ℕ). d ∷ x) (later .1))
 
-digits-lettered : (r : List ℕ) → isRadix (lastOf r) ≡ true → digitsOf r ≡ butLast r
-unfolding digitsOf
+digits-lettered : (r : List ℕ) → isRadix (lastOf r) ≡ true → constantDigits r ≡ butLast r
+unfolding constantDigits
 digits-lettered r e = rw e
 
-digits-plain : (r : List ℕ) → isRadix (lastOf r) ≡ false → digitsOf r ≡ r
-unfolding digitsOf
+digits-plain : (r : List ℕ) → isRadix (lastOf r) ≡ false → constantDigits r ≡ r
+unfolding constantDigits
 digits-plain r e = rw e
 
 pub radix-plain : (c : ℕ) → isRadix c ≡ false → radixOf c ≡ 10
@@ -99,7 +99,7 @@ radix-plain c h = go (eqb c 66) (eqb c 79) (eqb c 81) (eqb c 68) (eqb c 72) h
 pub lettered : (ds : List ℕ) (c : ℕ) → isRadix c ≡ true → allBelow (radixOf c) ds ≡ true → constantOf (ds ++ (c ∷ [])) ≡ Value (placeValue (radixOf c) ds % 65536)
 lettered ds c h k =
     let l = last-behind ds c in
-    let d : digitsOf (ds ++ (c ∷ [])) ≡ ds = digits-lettered (ds ++ (c ∷ [])) (ap isRadix (l .0) ∙ h) ∙ l .1 in
+    let d : constantDigits (ds ++ (c ∷ [])) ≡ ds = digits-lettered (ds ++ (c ∷ [])) (ap isRadix (l .0) ∙ h) ∙ l .1 in
     constant-worth (ds ++ (c ∷ [])) (rw (l .0, d) k) ∙ rw (l .0, d)
 
 pub radixes : (radixOf 66 ≡ 2) × (radixOf 79 ≡ 8) × (radixOf 81 ≡ 8) × (radixOf 68 ≡ 10) × (radixOf 72 ≡ 16)
@@ -131,4 +131,4 @@ small-from radix u (c ∷ cs) h v e = go (ltb (digitValue c) radix) (small-from 
 -- a constant is below 65,536
 pub constant-small : (r : List ℕ) (v : ℕ) → constantOf r ≡ Value v → v < 65536
 unfolding constantOf
-constant-small r v e = small-from (radixOf (lastOf r)) 0 (digitsOf r) (lit< tt) v e
+constant-small r v e = small-from (radixOf (lastOf r)) 0 (constantDigits r) (lit< tt) v e

@@ -13,15 +13,15 @@ use borrow.Author.Tests.{eqb-true, ne-eqb, lt-ltb, leb-true, leb-false, le-leb}
 use Rattle.ground_rules.specs.Choice.{pick}
 use Rattle.assembly_rules.specs.declared.Constant.{Constant}
 use Rattle.assembly_rules.specs.declared.Constant.the-variants.{Value, NoConstant}
-use Rattle.assembly_rules.specs.declared.Part.{Part}
-use Rattle.assembly_rules.specs.declared.Part.the-variants.{Term, Plus, Minus, Opens, Closes, Other}
+use Rattle.assembly_rules.specs.declared.Role.{Role}
+use Rattle.assembly_rules.specs.declared.Role.the-variants.{Term, Plus, Minus, Opens, Closes, Other}
 use Rattle.assembly_rules.specs.declared.Scan.{Scan}
 use Rattle.assembly_rules.specs.declared.Worth.{Worth}
 use Rattle.listing_rules.specs.Characters.{sameText}
 use Rattle.assembly_rules.specs.Text.{Token, isDigit}
 use Rattle.assembly_rules.specs.Text.Token.{run, mark}
 use Rattle.assembly_rules.specs.Numbers.{constantOf}
-use Rattle.assembly_rules.specs.Sums.{Label, indexIn, registersNamed, registerNumber, beginsDigit, isRegister, isValue, isTerm, markPart, partOf, larger, scan, scanStart, noSum, scanned, scanFrom, isWhole, isSum, depthOf, termOf, sumOf, worth, mostOpen}
+use Rattle.assembly_rules.specs.Sums.{Label, indexIn, registersNamed, registerNumber, beginsDigit, isRegister, isValue, isTerm, markRole, roleOf, greater, scan, scanStart, noSum, scanned, scanFrom, isWhole, isSum, depthOf, termOf, sumWithin, worth, mostOpen}
 use Rattle.assembly_rules.specs.Sums.Read.{read, deep}
 use Rattle.assembly_rules.specs.Trees as Trees
 use Rattle.assembly_rules.specs.Trees.{Sum, sumTokens, termTokens, sumDepth, termDepth, sumAdded, sumTaken, sumKnown}
@@ -31,24 +31,24 @@ use Rattle.assembly_rules.proofs.SumLaws.{rest-stop}
 use Rattle.assembly_rules.proofs.TreeLaws.{Equals, sum-read}
 
 -- the larger of two numbers
-larger-left : (a b : ℕ) → b ≤ a → larger a b ≡ a
+larger-left : (a b : ℕ) → b ≤ a → greater a b ≡ a
 larger-left a b h = go (leb a b) refl
   where
     go : (t : Bool) → leb a b ≡ t → pick t b a ≡ a
     go true e = let l = leb-true a b e in omega arith
     go false e = refl
 
-larger-right : (a b : ℕ) → a ≤ b → larger a b ≡ b
+larger-right : (a b : ℕ) → a ≤ b → greater a b ≡ b
 larger-right a b h = rw (le-leb a b h)
 
-larger-over : (a b : ℕ) → b ≤ larger a b
+larger-over : (a b : ℕ) → b ≤ greater a b
 larger-over a b = go (leb a b) refl
   where
     go : (t : Bool) → leb a b ≡ t → b ≤ pick t b a
     go true e = omega arith
     go false e = let l = leb-false a b e in omega arith
 
-larger-under : (a b : ℕ) → a ≤ larger a b
+larger-under : (a b : ℕ) → a ≤ greater a b
 larger-under a b = go (leb a b) refl
   where
     go : (t : Bool) → leb a b ≡ t → a ≤ pick t b a
@@ -56,19 +56,19 @@ larger-under a b = go (leb a b) refl
     go false e = omega arith
 
 -- a number over the smaller of two that were joined leaves the larger out
-larger-absorb : (m a b : ℕ) → a ≤ b → larger (larger m a) b ≡ larger m b
+larger-absorb : (m a b : ℕ) → a ≤ b → greater (greater m a) b ≡ greater m b
 larger-absorb m a b h = go (leb m a) refl
   where
-    go : (t : Bool) → leb m a ≡ t → larger (pick t a m) b ≡ larger m b
+    go : (t : Bool) → leb m a ≡ t → greater (pick t a m) b ≡ greater m b
     go true e = let l = leb-true m a e in larger-right a b h ∙ sym (larger-right m b (omega arith))
     go false e = refl
 
-larger-sum : (m o a b : ℕ) → larger (larger m (o + a)) (o + b) ≡ larger m (o + larger a b)
+larger-sum : (m o a b : ℕ) → greater (greater m (o + a)) (o + b) ≡ greater m (o + greater a b)
 larger-sum m o a b = go (leb a b) refl
   where
-    go : (t : Bool) → leb a b ≡ t → larger (larger m (o + a)) (o + b) ≡ larger m (o + pick t b a)
+    go : (t : Bool) → leb a b ≡ t → greater (greater m (o + a)) (o + b) ≡ greater m (o + pick t b a)
     go true e = let l = leb-true a b e in larger-absorb m (o + a) (o + b) (omega arith)
-    go false e = let l = leb-false a b e in let k = larger-over m (o + a) in larger-left (larger m (o + a)) (o + b) (omega arith)
+    go false e = let l = leb-false a b e in let k = larger-over m (o + a) in larger-left (greater m (o + a)) (o + b) (omega arith)
 
 -- a run that is a term of a tree is one in the scan
 constant-term : (r : List ℕ) (v : ℕ) → beginsDigit r ≡ true → constantOf r ≡ Value v → isTerm r ≡ true
@@ -79,29 +79,29 @@ name-term : (r : List ℕ) → beginsDigit r ≡ false → isRegister r ≡ fals
 unfolding isTerm
 name-term r d e = rw (d, e)
 
-leaf-scan : (r : List ℕ) (ts : List Token) (o m : ℕ) (b : Bool) → isTerm r ≡ true → o ≤ m → scanFrom (scan true o m true b) (run r ∷ ts) ≡ scanFrom (scan true o (larger m (o + 0)) false false) ts
-unfolding scanFrom partOf scanned
+leaf-scan : (r : List ℕ) (ts : List Token) (o m : ℕ) (b : Bool) → isTerm r ≡ true → o ≤ m → scanFrom (scan true o m true b) (run r ∷ ts) ≡ scanFrom (scan true o (greater m (o + 0)) false false) ts
+unfolding scanFrom roleOf scanned
 leaf-scan r ts o m b h l = rw (h, add-zero o, larger-left m o l)
 
-open-scan : (ts : List Token) (o m : ℕ) (b : Bool) → scanFrom (scan true o m true b) (mark 40 ∷ ts) ≡ scanFrom (scan true (o + 1) (larger m (o + 1)) true true) ts
-unfolding scanFrom partOf scanned
+open-scan : (ts : List Token) (o m : ℕ) (b : Bool) → scanFrom (scan true o m true b) (mark 40 ∷ ts) ≡ scanFrom (scan true (o + 1) (greater m (o + 1)) true true) ts
+unfolding scanFrom roleOf scanned
 open-scan ts o m b = refl
 
 close-scan : (ts : List Token) (o m : ℕ) → scanFrom (scan true (o + 1) m false false) (mark 41 ∷ ts) ≡ scanFrom (scan true o m false false) ts
-unfolding scanFrom partOf scanned
+unfolding scanFrom roleOf scanned
 close-scan ts o m = let e : eqb (o + 1) 0 ≡ false = ne-eqb (o + 1) 0 (λ z. omega arith) in let f : o + 1 - 1 ≡ o = omega arith in rw (e, f)
 
 sign-scan : (minus : Bool) (ts : List Token) (o m : ℕ) → scanFrom (scan true o m false false) (mark (pick minus 45 43) ∷ ts) ≡ scanFrom (scan true o m true false) ts
-unfolding scanFrom partOf scanned
+unfolding scanFrom roleOf scanned
 sign-scan true ts o m = refl
 sign-scan false ts o m = refl
 
 -- a term or a sum scanned from where it is due
 TermScanned : Trees.Term → Type 0
-TermScanned t = (ts : List Token) (o m : ℕ) (b : Bool) → o ≤ m → scanFrom (scan true o m true b) (termTokens t ++ ts) ≡ scanFrom (scan true o (larger m (o + termDepth t)) false false) ts
+TermScanned t = (ts : List Token) (o m : ℕ) (b : Bool) → o ≤ m → scanFrom (scan true o m true b) (termTokens t ++ ts) ≡ scanFrom (scan true o (greater m (o + termDepth t)) false false) ts
 
 SumScanned : Sum → Type 0
-SumScanned s = (ts : List Token) (o m : ℕ) → o ≤ m → scanFrom (scan true o m true true) (sumTokens s ++ ts) ≡ scanFrom (scan true o (larger m (o + sumDepth s)) false false) ts
+SumScanned s = (ts : List Token) (o m : ℕ) → o ≤ m → scanFrom (scan true o m true true) (sumTokens s ++ ts) ≡ scanFrom (scan true o (greater m (o + sumDepth s)) false false) ts
 
 inside-scan : (s : Sum) → SumScanned s → TermScanned (inside s)
 unfolding TermScanned SumScanned termTokens termDepth
@@ -110,13 +110,13 @@ inside-scan s h ts o m b l =
     let d = sumDepth s in
     let sum : o + 1 + d ≡ o + suc d = omega arith in
     open-scan ((sumTokens s ++ (mark 41 ∷ [])) ++ ts) o m b
-    ∙ ap (scanFrom (scan true (o + 1) (larger m (o + 1)) true true)) text
-    ∙ h (mark 41 ∷ ts) (o + 1) (larger m (o + 1)) (larger-over m (o + 1))
-    ∙ close-scan ts o (larger (larger m (o + 1)) (o + 1 + d))
-    ∙ ap (λ (x : ℕ). scanFrom (scan true o x false false) ts) (larger-absorb m (o + 1) (o + 1 + d) (omega arith) ∙ ap (larger m) sum)
+    ∙ ap (scanFrom (scan true (o + 1) (greater m (o + 1)) true true)) text
+    ∙ h (mark 41 ∷ ts) (o + 1) (greater m (o + 1)) (larger-over m (o + 1))
+    ∙ close-scan ts o (greater (greater m (o + 1)) (o + 1 + d))
+    ∙ ap (λ (x : ℕ). scanFrom (scan true o x false false) ts) (larger-absorb m (o + 1) (o + 1 + d) (omega arith) ∙ ap (greater m) sum)
 
 minus-scan : (ts : List Token) (o m : ℕ) → scanFrom (scan true o m true true) (mark 45 ∷ ts) ≡ scanFrom (scan true o m true false) ts
-unfolding scanFrom partOf scanned
+unfolding scanFrom roleOf scanned
 minus-scan ts o m = refl
 
 only-scan : (minus : Bool) (t : Trees.Term) → TermScanned t → SumScanned (only minus t)
@@ -128,7 +128,7 @@ more-scan : (s : Sum) (minus : Bool) (t : Trees.Term) → SumScanned s → TermS
 unfolding TermScanned SumScanned sumTokens sumDepth
 more-scan s minus t h k ts o m l =
     let sign : ℕ = pick minus 45 43 in
-    let m1 = larger m (o + sumDepth s) in
+    let m1 = greater m (o + sumDepth s) in
     let text : (sumTokens s ++ (mark sign ∷ termTokens t)) ++ ts ≡ sumTokens s ++ (mark sign ∷ (termTokens t ++ ts)) = append-assoc (sumTokens s) (mark sign ∷ termTokens t) ts in
     ap (scanFrom (scan true o m true true)) text
     ∙ h (mark sign ∷ (termTokens t ++ ts)) o m l
@@ -148,7 +148,7 @@ mutual
   term-scan (name r d e) = λ ts o m b l. leaf-scan r ts o m b (name-term r d e) l
   term-scan (inside s) = inside-scan s (sum-scan s)
 
-nothing-more : (d : ℕ) → scanFrom (scan true 0 (larger 0 (0 + d)) false false) [] ≡ scan true 0 d false false
+nothing-more : (d : ℕ) → scanFrom (scan true 0 (greater 0 (0 + d)) false false) [] ≡ scan true 0 d false false
 unfolding scanFrom
 nothing-more d = ap (λ (x : ℕ). scan true 0 x false false) (larger-right 0 (0 + d) (omega arith) ∙ zero-add d)
 
@@ -197,7 +197,7 @@ either-bad : (b : Bool) (x y : Scan) → x .good ≡ false → y .good ≡ false
 either-bad true x y h k = h
 either-bad false x y h k = k
 
-bad-scanned : (s : Scan) (p : Part) → s .good ≡ false → scanned s p .good ≡ false
+bad-scanned : (s : Scan) (p : Role) → s .good ≡ false → scanned s p .good ≡ false
 unfolding scanned
 bad-scanned s Term h = either-bad (s .due) _ _ h refl
 bad-scanned s Plus h = either-bad (s .due) _ _ refl h
@@ -210,7 +210,7 @@ bad-scanned s Other h = refl
 bad-stays : (ts : List Token) (s : Scan) → s .good ≡ false → isWhole (scanFrom s ts) ≡ false
 unfolding scanFrom
 bad-stays [] s h = rw h
-bad-stays (t ∷ ts) s h = bad-stays ts (scanned s (partOf t)) (bad-scanned s (partOf t) h)
+bad-stays (t ∷ ts) s h = bad-stays ts (scanned s (roleOf t)) (bad-scanned s (roleOf t) h)
 
 no-whole : {A : Type 0} (ts : List Token) (s : Scan) → s .good ≡ false → isWhole (scanFrom s ts) ≡ true → A
 no-whole ts s h k = absurd (false≢true (sym (bad-stays ts s h) ∙ k))
@@ -235,9 +235,9 @@ DueTree ts =
 DoneTree : List Token → Type 0
 DoneTree ts = (fs : List Frame) (s : Sum) (m : ℕ) → isWhole (scanFrom (scan true (length fs) m false false) ts) ≡ true → Found (framesTokens fs ++ (sumTokens s ++ ts))
 
-next-part : (s : Scan) (t : Token) (p : Part) (ts : List Token) → partOf t ≡ p → isWhole (scanFrom s (t ∷ ts)) ≡ true → isWhole (scanFrom (scanned s p) ts) ≡ true
+next-part : (s : Scan) (t : Token) (p : Role) (ts : List Token) → roleOf t ≡ p → isWhole (scanFrom s (t ∷ ts)) ≡ true → isWhole (scanFrom (scanned s p) ts) ≡ true
 unfolding scanFrom
-next-part s t p ts e h = subst (λ (x : Part). isWhole (scanFrom (scanned s x) ts) ≡ true) e h
+next-part s t p ts e h = subst (λ (x : Role). isWhole (scanFrom (scanned s x) ts) ≡ true) e h
 
 found-same : (a b : List Token) → a ≡ b → Found a → Found b
 found-same a b e x = subst Found e x
@@ -261,14 +261,14 @@ unfolding frameTokens
 sign-text fs s minus ts = ap (λ (x : List Token). framesTokens fs ++ x) (append-assoc (sumTokens s) (mark (pick minus 45 43) ∷ []) ts)
 
 -- a mark by what it is in a sum
-data MarkIs (c : ℕ) : Part → Type 0 where
+data MarkIs (c : ℕ) : Role → Type 0 where
   plus : c ≡ 43 → MarkIs c Plus
   minus : c ≡ 45 → MarkIs c Minus
   opens : c ≡ 40 → MarkIs c Opens
   closes : c ≡ 41 → MarkIs c Closes
   other : MarkIs c Other
 
-mark-is : (c : ℕ) → MarkIs c (markPart c)
+mark-is : (c : ℕ) → MarkIs c (markRole c)
 mark-is c = go (eqb c 43) refl (eqb c 45) refl (eqb c 40) refl (eqb c 41) refl
   where
     go : (x : Bool) → eqb c 43 ≡ x → (y : Bool) → eqb c 45 ≡ y → (z : Bool) → eqb c 40 ≡ z → (w : Bool) → eqb c 41 ≡ w → MarkIs c (pick x Plus (pick y Minus (pick z Opens (pick w Closes Other))))
@@ -278,7 +278,7 @@ mark-is c = go (eqb c 43) refl (eqb c 45) refl (eqb c 40) refl (eqb c 41) refl
     go false p false q false r true s = closes (eqb-true c 41 s)
     go false p false q false r false s = other
 
-due-mark : (c : ℕ) (p : Part) → MarkIs c p → (ts : List Token) → DueTree ts → (fs : List Frame) (f : Frame) (m : ℕ) (b : Bool) → (b ≡ true → f ≡ lead false)
+due-mark : (c : ℕ) (p : Role) → MarkIs c p → (ts : List Token) → DueTree ts → (fs : List Frame) (f : Frame) (m : ℕ) (b : Bool) → (b ≡ true → f ≡ lead false)
     → isWhole (scanFrom (scanned (scan true (length fs) m true b) p) ts) ≡ true → Found (framesTokens fs ++ (frameTokens f ++ (mark c ∷ ts)))
 unfolding scanned DueTree frameTokens
 due-mark c Plus (plus e) ts due fs f m b k h = no-whole ts (noSum (scan true (length fs) m true b)) refl h
@@ -290,15 +290,15 @@ due-mark c Minus (minus e) ts due fs f m true k h =
 due-mark c Minus (minus e) ts due fs f m false k h = no-whole ts (noSum (scan true (length fs) m true false)) refl h
 due-mark c Opens (opens e) ts due fs f m b k h =
     let up : length fs + 1 ≡ length (f ∷ fs) = omega arith in
-    rw e (found-same _ _ (push-text fs f ts) (due (f ∷ fs) (lead false) (larger m (length fs + 1)) true (λ z. refl) (subst (λ (n : ℕ). isWhole (scanFrom (scan true n (larger m (length fs + 1)) true true) ts) ≡ true) up h)))
+    rw e (found-same _ _ (push-text fs f ts) (due (f ∷ fs) (lead false) (greater m (length fs + 1)) true (λ z. refl) (subst (λ (n : ℕ). isWhole (scanFrom (scan true n (greater m (length fs + 1)) true true) ts) ≡ true) up h)))
 due-mark c Closes (closes e) ts due fs f m b k h = no-whole ts (noSum (scan true (length fs) m true b)) refl h
 due-mark c Other other ts due fs f m b k h = no-whole ts (noSum (scan true (length fs) m true b)) refl h
 
 due-run : (r : List ℕ) (ts : List Token) → DoneTree ts → (fs : List Frame) (f : Frame) (m : ℕ) (b : Bool) → isWhole (scanFrom (scan true (length fs) m true b) (run r ∷ ts)) ≡ true → Found (framesTokens fs ++ (frameTokens f ++ (run r ∷ ts)))
-unfolding DoneTree partOf scanned
+unfolding DoneTree roleOf scanned
 due-run r ts done fs f m b h = go (isTerm r) refl
   where
-    part : (x : Bool) → isTerm r ≡ x → partOf (run r) ≡ pick x Term Other
+    part : (x : Bool) → isTerm r ≡ x → roleOf (run r) ≡ pick x Term Other
     part x e = rw e
 
     go : (x : Bool) → isTerm r ≡ x → Found (framesTokens fs ++ (frameTokens f ++ (run r ∷ ts)))
@@ -307,7 +307,7 @@ due-run r ts done fs f m b h = go (isTerm r) refl
         found-same _ _ (leaf-text fs f (t .0) (run r ∷ []) ts (t .1)) (done fs (filledFrame f (t .0)) m (next-part (scan true (length fs) m true b) (run r) Term ts (part true e) h))
     go false e = no-whole ts (noSum (scan true (length fs) m true b)) refl (next-part (scan true (length fs) m true b) (run r) Other ts (part false e) h)
 
-done-mark : (c : ℕ) (p : Part) → MarkIs c p → (ts : List Token) → DueTree ts → DoneTree ts → (fs : List Frame) (s : Sum) (m : ℕ)
+done-mark : (c : ℕ) (p : Role) → MarkIs c p → (ts : List Token) → DueTree ts → DoneTree ts → (fs : List Frame) (s : Sum) (m : ℕ)
     → isWhole (scanFrom (scanned (scan true (length fs) m false false) p) ts) ≡ true → Found (framesTokens fs ++ (sumTokens s ++ (mark c ∷ ts)))
 unfolding scanned DueTree DoneTree
 done-mark c Plus (plus e) ts due done fs s m h = rw e (found-same _ _ (sign-text fs s false ts) (due fs (behind s false) m false (λ z. absurd (false≢true z)) h))
@@ -322,10 +322,10 @@ done-mark c Closes (closes e) ts due done (f ∷ fs) s m h =
 done-mark c Other other ts due done fs s m h = no-whole ts (noSum (scan true (length fs) m false false)) refl h
 
 done-run : (r : List ℕ) (ts : List Token) (fs : List Frame) (s : Sum) (m : ℕ) → isWhole (scanFrom (scan true (length fs) m false false) (run r ∷ ts)) ≡ true → Found (framesTokens fs ++ (sumTokens s ++ (run r ∷ ts)))
-unfolding partOf scanned
+unfolding roleOf scanned
 done-run r ts fs s m h = go (isTerm r) refl
   where
-    part : (x : Bool) → isTerm r ≡ x → partOf (run r) ≡ pick x Term Other
+    part : (x : Bool) → isTerm r ≡ x → roleOf (run r) ≡ pick x Term Other
     part x e = rw e
 
     go : (x : Bool) → isTerm r ≡ x → Found (framesTokens fs ++ (sumTokens s ++ (run r ∷ ts)))
@@ -341,8 +341,8 @@ unfolding DoneTree scanFrom framesTokens
 all-closed [] s m h = (s, sym (append-nil (sumTokens s)))
 all-closed (f ∷ fs) s m h = let z : length (f ∷ fs) ≡ 0 = eqb-true (length (f ∷ fs)) 0 h in absurd (omega arith)
 
-mark-part : (c : ℕ) → partOf (mark c) ≡ markPart c
-unfolding partOf
+mark-part : (c : ℕ) → roleOf (mark c) ≡ markRole c
+unfolding roleOf
 mark-part c = refl
 
 trees : (ts : List Token) → DueTree ts × DoneTree ts
@@ -351,8 +351,8 @@ trees [] = (none-left, all-closed)
 trees (run r ∷ ts) = let later = trees ts in (λ fs f m b k h. due-run r ts (later .1) fs f m b h, λ fs s m h. done-run r ts fs s m h)
 trees (mark c ∷ ts) =
     let later = trees ts in (
-      λ fs f m b k h. due-mark c (markPart c) (mark-is c) ts (later .0) fs f m b k (next-part (scan true (length fs) m true b) (mark c) (markPart c) ts (mark-part c) h),
-      λ fs s m h. done-mark c (markPart c) (mark-is c) ts (later .0) (later .1) fs s m (next-part (scan true (length fs) m false false) (mark c) (markPart c) ts (mark-part c) h),
+      λ fs f m b k h. due-mark c (markRole c) (mark-is c) ts (later .0) fs f m b k (next-part (scan true (length fs) m true b) (mark c) (markRole c) ts (mark-part c) h),
+      λ fs s m h. done-mark c (markRole c) (mark-is c) ts (later .0) (later .1) fs s m (next-part (scan true (length fs) m false false) (mark c) (markRole c) ts (mark-part c) h),
     )
 
 tree-of : (ts : List Token) → isSum ts ≡ true → (s : Sum) × (sumTokens s ≡ ts)
@@ -368,8 +368,8 @@ pub record Understood (labels : List Label) (ts : List Token) : Type 0 where
   pub tree : Sum
   pub tokens : sumTokens tree ≡ ts
   pub depth : depthOf ts ≡ sumDepth tree
-  pub deeper : mostOpen < depthOf ts → sumOf mostOpen labels ts ≡ deep
-  pub read-so : depthOf ts ≤ mostOpen → (w : Worth) × ((sumOf mostOpen labels ts ≡ read w []) × (Equals w (sumAdded labels tree) (sumTaken labels tree) (sumKnown labels tree) × (w .value < 65536)))
+  pub deeper : mostOpen < depthOf ts → sumWithin mostOpen labels ts ≡ deep
+  pub read-so : depthOf ts ≤ mostOpen → (w : Worth) × ((sumWithin mostOpen labels ts ≡ read w []) × (Equals w (sumAdded labels tree) (sumTaken labels tree) (sumKnown labels tree) × (w .value < 65536)))
 
 -- so a sum of the right form is read as its tree says, too deep exactly where more than eight parentheses are open at once
 pub understood : (labels : List Label) (ts : List Token) → isSum ts ≡ true → Understood labels ts
@@ -384,8 +384,8 @@ understood labels ts h =
       tree = s;
       tokens = e;
       depth = d;
-      deeper = λ k. sym (ap (sumOf mostOpen labels) text) ∙ r .too-deep (rw d at k);
-      read-so = λ k. let a = r .worth-read (rw d at k) in (a .0, (sym (ap (sumOf mostOpen labels) text) ∙ a .1 .0 ∙ rest-stop (termOf mostOpen labels) 0 (a .0) [] refl, a .1 .1));
+      deeper = λ k. sym (ap (sumWithin mostOpen labels) text) ∙ r .too-deep (rw d at k);
+      read-so = λ k. let a = r .worth-read (rw d at k) in (a .0, (sym (ap (sumWithin mostOpen labels) text) ∙ a .1 .0 ∙ rest-stop (termOf mostOpen labels) 0 (a .0) [] refl, a .1 .1));
     }
 
 -- a register is no term: its name begins with no digit
@@ -426,13 +426,13 @@ no-term : (r : List ℕ) → registerNumber r < 9 → isTerm r ≡ false
 unfolding isTerm
 no-term r h = rw (no-digit r h, lt-ltb (registerNumber r) 9 h)
 
-other-part : (r : List ℕ) → isTerm r ≡ false → partOf (run r) ≡ Other
-unfolding partOf
+other-part : (r : List ℕ) → isTerm r ≡ false → roleOf (run r) ≡ Other
+unfolding roleOf
 other-part r h = rw h
 
-bad-first : (t : Token) (ts : List Token) → partOf t ≡ Other → isWhole (scanFrom scanStart (t ∷ ts)) ≡ false
+bad-first : (t : Token) (ts : List Token) → roleOf t ≡ Other → isWhole (scanFrom scanStart (t ∷ ts)) ≡ false
 unfolding scanFrom scanned
-bad-first t ts h = ap (λ (p : Part). isWhole (scanFrom (scanned scanStart p) ts)) h ∙ bad-stays ts (noSum scanStart) refl
+bad-first t ts h = ap (λ (p : Role). isWhole (scanFrom (scanned scanStart p) ts)) h ∙ bad-stays ts (noSum scanStart) refl
 
 pub no-register-sum : (r : List ℕ) (ts : List Token) → registerNumber r < 9 → isSum (run r ∷ ts) ≡ false
 unfolding isSum

@@ -19,7 +19,7 @@ use Rattle.assembly_rules.specs.Text.Token.{run, mark}
 use Rattle.assembly_rules.specs.Operands.{Written, takes, takesAll, isMemoryKind, takesRegister, Chosen, entryIn, hasWord, allShallow, operandsFrom}
 use Rattle.assembly_rules.specs.Operands.Written.{register, memory, value, nothing}
 use Rattle.assembly_rules.specs.Operands.Chosen.{taken, untaken}
-use Rattle.assembly_rules.specs.Statements.{Statement, allSums, allLow, itemsFrom, partsOf, formedBy, wordStatement, statementOf, kindSize, kindsSize, offsetsSize, memoriesIn, sizeOf, operandWorth, pairBytes, listedAll, offsetBytes, allOffsets, numberBytes, allNumbers, secondBytes, moveBytes, instructionBytes, itemsBytes, bytesOf}
+use Rattle.assembly_rules.specs.Statements.{Statement, allSums, allLow, itemsFrom, operandParts, formedBy, wordStatement, statementOf, kindSize, kindsSize, offsetsSize, memoriesIn, statementSize, operandWorth, pairBytes, listedAll, writtenOffset, allOffsets, numberBytes, allNumbers, secondBytes, moveBytes, instructionBytes, itemsBytes, statementBytes}
 use Rattle.assembly_rules.specs.Statements.Statement.{blank, items, instruction, refused}
 use Rattle.assembly_rules.proofs.WritingLaws.{both-left, both-right}
 
@@ -131,15 +131,15 @@ memory-size 'width h = refl
 memory-size 'short h = absurd (false≢true h)
 memory-size 'long h = absurd (false≢true h)
 
-offsets-one : (labels : List Label) (to : Written) (ws : List Written) → length (allOffsets labels (to ∷ ws)) ≡ length (offsetBytes labels to ++ allOffsets labels ws)
+offsets-one : (labels : List Label) (to : Written) (ws : List Written) → length (allOffsets labels (to ∷ ws)) ≡ length (writtenOffset labels to ++ allOffsets labels ws)
 unfolding allOffsets
 offsets-one labels to ws = refl
 
-both-sizes : (labels : List Label) (to : Written) (ws : List Written) → offsetsSize (to ∷ ws) ≡ length (offsetBytes labels to) + length (allOffsets labels ws)
+both-sizes : (labels : List Label) (to : Written) (ws : List Written) → offsetsSize (to ∷ ws) ≡ length (writtenOffset labels to) + length (allOffsets labels ws)
 both-sizes labels to ws = sym (offsets-size labels (to ∷ ws)) ∙ first-offset labels to ws
   where
-    first-offset : (labels : List Label) (to : Written) (ws : List Written) → length (allOffsets labels (to ∷ ws)) ≡ length (offsetBytes labels to) + length (allOffsets labels ws)
-    first-offset labels to ws = offsets-one labels to ws ∙ length-append (offsetBytes labels to) (allOffsets labels ws)
+    first-offset : (labels : List Label) (to : Written) (ws : List Written) → length (allOffsets labels (to ∷ ws)) ≡ length (writtenOffset labels to) + length (allOffsets labels ws)
+    first-offset labels to ws = offsets-one labels to ws ∙ length-append (writtenOffset labels to) (allOffsets labels ws)
 
 move-size : (labels : List Label) (e : Entry) (ks : List Kind) (ws : List Written) → isMove ks ≡ true → takesAll ks ws ≡ true → length (moveBytes labels e ws) ≡ 4 + (offsetsSize ws + kindsSize ks)
 unfolding isMove takesAll moveBytes pairBytes kindsSize
@@ -152,19 +152,19 @@ move-size labels e (k ∷ l ∷ []) (to ∷ ws) h t =
     let hl = both-right (isMemoryKind k) (isMemoryKind l) h in
     let p = pair-size labels (e .w) k to hk (both-left (takes k to) _ t) in
     let o = both-sizes labels to ws in
-    let a = length-append (allOffsets labels ws) (secondBytes (e .w) to ++ offsetBytes labels to) in
-    let b = length-append (secondBytes (e .w) to) (offsetBytes labels to) in
+    let a = length-append (allOffsets labels ws) (secondBytes (e .w) to ++ writtenOffset labels to) in
+    let b = length-append (secondBytes (e .w) to) (writtenOffset labels to) in
     let c = memory-size k hk in
     let d = memory-size l hl in
     omega (arith, p, o, a, b, c, d)
 
 -- the bytes of a statement: of one that statementOf gives, as many as its size
 pub record Sized (s : Statement) : Type 0 where
-  pub sized : (labels : List Label) (address : ℕ) → length (bytesOf labels address s) ≡ sizeOf s
+  pub sized : (labels : List Label) (address : ℕ) → length (statementBytes labels address s) ≡ statementSize s
 
 instruction-sized : (e : Entry) (ws : List Written) → plainEntry e ≡ true → takesAll (e .kinds) ws ≡ true → Sized (instruction e ws)
-unfolding bytesOf instructionBytes sizeOf plainEntry pairBytes
-instruction-sized e ws h t = record { sized = λ labels address. go labels (address + sizeOf (instruction e ws)) (ltb 1 (memoriesIn (e .kinds))) h }
+unfolding statementBytes instructionBytes statementSize plainEntry pairBytes
+instruction-sized e ws h t = record { sized = λ labels address. go labels (address + statementSize (instruction e ws)) (ltb 1 (memoriesIn (e .kinds))) h }
   where
     go : (labels : List Label) (end : ℕ) (b : Bool) → not b || isMove (e .kinds) ≡ true
         → length (pick b (moveBytes labels e ws) (pairBytes (pairFrom e (listedAll labels (e .kinds) ws)) ++ (allOffsets labels ws ++ allNumbers labels end (e .kinds) ws))) ≡ pick b 4 2 + (offsetsSize ws + kindsSize (e .kinds))
@@ -172,7 +172,7 @@ instruction-sized e ws h t = record { sized = λ labels address. go labels (addr
     go labels end false k = omega (arith, length-append (allOffsets labels ws) (allNumbers labels end (e .kinds) ws), offsets-size labels ws, numbers-size labels end (e .kinds) ws t)
 
 refused-sized : (n : ℕ) → Sized (refused n)
-unfolding bytesOf sizeOf
+unfolding statementBytes statementSize
 refused-sized n = record { sized = λ labels address. refl }
 
 either-sized : (b : Bool) (s t : Statement) → Sized s → Sized t → Sized (pick b s t)
@@ -180,15 +180,15 @@ either-sized true s t h k = h
 either-sized false s t h k = k
 
 blank-sized : Sized blank
-unfolding bytesOf sizeOf
+unfolding statementBytes statementSize
 blank-sized = record { sized = λ labels address. refl }
 
-items-bytes : (labels : List Label) (address : ℕ) (two : Bool) (parts : List (List Token)) → length (bytesOf labels address (items two parts)) ≡ length (itemsBytes labels two parts)
-unfolding bytesOf
+items-bytes : (labels : List Label) (address : ℕ) (two : Bool) (parts : List (List Token)) → length (statementBytes labels address (items two parts)) ≡ length (itemsBytes labels two parts)
+unfolding statementBytes
 items-bytes labels address two parts = refl
 
-items-sizes : (two : Bool) (parts : List (List Token)) → pick two 2 1 * length parts ≡ sizeOf (items two parts)
-unfolding sizeOf
+items-sizes : (two : Bool) (parts : List (List Token)) → pick two 2 1 * length parts ≡ statementSize (items two parts)
+unfolding statementSize
 items-sizes two parts = refl
 
 items-sized : (two : Bool) (parts : List (List Token)) → Sized (itemsFrom two parts)
@@ -214,5 +214,5 @@ unfolding statementOf
 statement-sized [] = blank-sized
 statement-sized (mark c ∷ ts) = refused-sized 30
 statement-sized (run r ∷ ts) =
-    either-sized (sameText r (ascii "DB")) _ _ (items-sized false (partsOf ts))
-    (either-sized (sameText r (ascii "DW")) _ _ (items-sized true (partsOf ts)) (word-sized r (operandsFrom (partsOf ts))))
+    either-sized (sameText r (ascii "DB")) _ _ (items-sized false (operandParts ts))
+    (either-sized (sameText r (ascii "DW")) _ _ (items-sized true (operandParts ts)) (word-sized r (operandsFrom (operandParts ts))))

@@ -15,7 +15,7 @@ use Rattle.assembly_rules.specs.declared.Worth.{Worth}
 use Rattle.assembly_rules.specs.Text.{Token}
 use Rattle.assembly_rules.specs.Text.Token.{run, mark}
 use Rattle.assembly_rules.specs.Numbers.{constantOf}
-use Rattle.assembly_rules.specs.Sums.{Label, worth, beginsDigit, isRegister, larger, combinedWorth, labelWorth, isSign, Read, andThen, closeAt, restWith, beginsMinus, firstSign, pastMinus, sumWith, runRead, termBy, termOf, sumOf}
+use Rattle.assembly_rules.specs.Sums.{Label, worth, beginsDigit, isRegister, greater, combinedWorth, labelWorth, isSign, Read, andThen, closeAt, restWith, beginsMinus, firstSign, pastMinus, sumWith, runRead, termBy, termOf, sumWithin}
 use Rattle.assembly_rules.specs.Sums.Read.{read, deep}
 use Rattle.assembly_rules.specs.Trees.{Sum, Term, sumTokens, termTokens, sumDepth, termDepth, sumAdded, termAdded, sumTaken, termTaken, sumKnown, termKnown}
 use Rattle.assembly_rules.specs.Trees.Sum.{only, more}
@@ -68,17 +68,17 @@ pub record TermRead (depth : ℕ) (labels : List Label) (t : Term) (ts : List To
 
 -- a sum read up to some tokens, with which it goes on
 pub record SumRead (depth : ℕ) (labels : List Label) (s : Sum) (ts : List Token) : Type 0 where
-  pub worth-read : sumDepth s ≤ depth → (w : Worth) × ((sumOf depth labels (sumTokens s ++ ts) ≡ restWith (termOf depth labels) (length ts) w ts) × (Equals w (sumAdded labels s) (sumTaken labels s) (sumKnown labels s) × (w .value < 65536)))
-  pub too-deep : depth < sumDepth s → sumOf depth labels (sumTokens s ++ ts) ≡ deep
+  pub worth-read : sumDepth s ≤ depth → (w : Worth) × ((sumWithin depth labels (sumTokens s ++ ts) ≡ restWith (termOf depth labels) (length ts) w ts) × (Equals w (sumAdded labels s) (sumTaken labels s) (sumKnown labels s) × (w .value < 65536)))
+  pub too-deep : depth < sumDepth s → sumWithin depth labels (sumTokens s ++ ts) ≡ deep
 
-larger-both : (a b d : ℕ) → larger a b ≤ d → (a ≤ d) × (b ≤ d)
+larger-both : (a b d : ℕ) → greater a b ≤ d → (a ≤ d) × (b ≤ d)
 larger-both a b d h = go (leb a b) refl h
   where
     go : (t : Bool) → leb a b ≡ t → pick t b a ≤ d → (a ≤ d) × (b ≤ d)
     go true e k = let l = leb-true a b e in (omega arith, k)
     go false e k = let l = leb-false a b e in (k, omega arith)
 
-larger-second : (a b d : ℕ) → a ≤ d → d < larger a b → d < b
+larger-second : (a b d : ℕ) → a ≤ d → d < greater a b → d < b
 larger-second a b d l h = go (leb a b) h
   where
     go : (t : Bool) → d < pick t b a → d < b
@@ -86,8 +86,8 @@ larger-second a b d l h = go (leb a b) h
     go false k = absurd (omega arith)
 
 -- a sum by its first term
-sum-first : (depth : ℕ) (labels : List Label) (ts : List Token) → sumOf depth labels ts ≡ andThen (termOf depth labels (pastMinus ts)) (λ x rest. restWith (termOf depth labels) (length rest) (combinedWorth (firstSign ts) (worth 0 true) x) rest)
-unfolding sumOf sumWith
+sum-first : (depth : ℕ) (labels : List Label) (ts : List Token) → sumWithin depth labels ts ≡ andThen (termOf depth labels (pastMinus ts)) (λ x rest. restWith (termOf depth labels) (length rest) (combinedWorth (firstSign ts) (worth 0 true) x) rest)
+unfolding sumWithin sumWith
 sum-first depth labels ts = refl
 
 -- no term begins with a minus
@@ -115,7 +115,7 @@ only-read minus t depth labels ts r =
     let p = past-lead minus t ts in
     let us = sumTokens (only minus t) ++ ts in
     let term = termOf depth labels in
-    let whole : sumOf depth labels us ≡ andThen (term (termTokens t ++ ts)) (λ x rest. restWith term (length rest) (combinedWorth (pick minus 45 43) (worth 0 true) x) rest) =
+    let whole : sumWithin depth labels us ≡ andThen (term (termTokens t ++ ts)) (λ x rest. restWith term (length rest) (combinedWorth (pick minus 45 43) (worth 0 true) x) rest) =
     sum-first depth labels us ∙ rw (p .0, p .1) in
     record {
       worth-read = λ h.
@@ -150,16 +150,16 @@ more-read s minus t depth labels ts all r =
           let x = b .0 in (
             combinedWorth sign w x,
             (
-              ap (sumOf depth labels) text ∙ a .1 .0 ∙ on w ∙ ap (λ (y : Read). andThen y (λ x rest. restWith term (length vs) (combinedWorth sign w x) rest)) (b .1 .0) ∙ rest-enough term (term-short depth labels) (length vs) (length ts) (combinedWorth sign w x) ts shorter (omega arith),
+              ap (sumWithin depth labels) text ∙ a .1 .0 ∙ on w ∙ ap (λ (y : Read). andThen y (λ x rest. restWith term (length vs) (combinedWorth sign w x) rest)) (b .1 .0) ∙ rest-enough term (term-short depth labels) (length vs) (length ts) (combinedWorth sign w x) ts shorter (omega arith),
               (combined-equals minus w x (sumAdded labels s) (sumTaken labels s) (termAdded labels t) (termTaken labels t) (sumKnown labels s) (termKnown labels t) (a .1 .1 .0) (b .1 .1), below sign w x),
             ),
           );
-      too-deep = λ h. ap (sumOf depth labels) text ∙ deep-by (leb (sumDepth s) depth) refl h on;
+      too-deep = λ h. ap (sumWithin depth labels) text ∙ deep-by (leb (sumDepth s) depth) refl h on;
     }
   where
-    deep-by : (b : Bool) → leb (sumDepth s) depth ≡ b → depth < larger (sumDepth s) (termDepth t)
+    deep-by : (b : Bool) → leb (sumDepth s) depth ≡ b → depth < greater (sumDepth s) (termDepth t)
         → ((w : Worth) → restWith (termOf depth labels) (length (mark (pick minus 45 43) ∷ (termTokens t ++ ts))) w (mark (pick minus 45 43) ∷ (termTokens t ++ ts)) ≡ andThen (termOf depth labels (termTokens t ++ ts)) (λ x rest. restWith (termOf depth labels) (length (termTokens t ++ ts)) (combinedWorth (pick minus 45 43) w x) rest))
-        → sumOf depth labels (sumTokens s ++ (mark (pick minus 45 43) ∷ (termTokens t ++ ts))) ≡ deep
+        → sumWithin depth labels (sumTokens s ++ (mark (pick minus 45 43) ∷ (termTokens t ++ ts))) ≡ deep
     deep-by false e h on = all (mark (pick minus 45 43) ∷ (termTokens t ++ ts)) .too-deep (leb-false (sumDepth s) depth e)
     deep-by true e h on =
         let l = leb-true (sumDepth s) depth e in
@@ -176,8 +176,8 @@ unfolding termOf termBy runRead
 name-read r d e zero labels ts = rw (d, e)
 name-read r d e (suc depth) labels ts = rw (d, e)
 
-sum-closed : (depth : ℕ) (labels : List Label) (us : List Token) → termOf (suc depth) labels (mark 40 ∷ us) ≡ andThen (sumOf depth labels us) closeAt
-unfolding sumOf termOf termBy
+sum-closed : (depth : ℕ) (labels : List Label) (us : List Token) → termOf (suc depth) labels (mark 40 ∷ us) ≡ andThen (sumWithin depth labels us) closeAt
+unfolding sumWithin termOf termBy
 sum-closed depth labels us = refl
 
 inside-read : (s : Sum) (depth : ℕ) (labels : List Label) (ts : List Token) → ((d : ℕ) → SumRead d labels s (mark 41 ∷ ts)) → TermRead depth labels (inside s) ts
@@ -190,8 +190,8 @@ inside-read s (suc depth) labels ts all =
     record {
       worth-read = λ h.
           let a = r .worth-read (omega arith) in
-          (a .0, (whole ∙ ap (λ (us : List Token). andThen (sumOf depth labels us) closeAt) text ∙ ap (λ (y : Read). andThen y closeAt) (a .1 .0 ∙ rest-stop (termOf depth labels) (length (mark 41 ∷ ts)) (a .0) (mark 41 ∷ ts) refl), a .1 .1 .0));
-      too-deep = λ h. whole ∙ ap (λ (us : List Token). andThen (sumOf depth labels us) closeAt) text ∙ ap (λ (y : Read). andThen y closeAt) (r .too-deep (omega arith));
+          (a .0, (whole ∙ ap (λ (us : List Token). andThen (sumWithin depth labels us) closeAt) text ∙ ap (λ (y : Read). andThen y closeAt) (a .1 .0 ∙ rest-stop (termOf depth labels) (length (mark 41 ∷ ts)) (a .0) (mark 41 ∷ ts) refl), a .1 .1 .0));
+      too-deep = λ h. whole ∙ ap (λ (us : List Token). andThen (sumWithin depth labels us) closeAt) text ∙ ap (λ (y : Read). andThen y closeAt) (r .too-deep (omega arith));
     }
 
 mutual

@@ -14,7 +14,7 @@ use Rattle.listing_rules.specs.Characters.{sameText}
 use Rattle.assembly_rules.specs.declared.Worth.{Worth}
 use Rattle.assembly_rules.specs.Text.{tokensOf}
 use Rattle.assembly_rules.specs.Sums.{Label, label, labelWorth, worth}
-use Rattle.assembly_rules.specs.Statements.{sizeOf, bytesOf}
+use Rattle.assembly_rules.specs.Statements.{statementSize, statementBytes}
 use Rattle.assembly_rules.specs.Statements.Statement.{refused}
 use Rattle.assembly_rules.specs.Assembly.{Said, saidBy, saidIn, isReserved, mayKeep, keptWith, labelsFrom, lineNumber, Assembled, assembled, assembledFrom}
 use Rattle.assembly_rules.proofs.WritingLaws.{both-right}
@@ -59,7 +59,7 @@ kept-few kept address (c ∷ cs) h = go (mayKeep kept (c ∷ cs)) refl
 pub labels-few : (said : List Said) (kept : List Label) (address : ℕ) → length kept ≤ 64 → length (labelsFrom kept address said) ≤ 64
 unfolding labelsFrom
 labels-few [] kept address h = h
-labels-few (s ∷ more) kept address h = labels-few more (keptWith kept (address % 65536) (s .name)) (address + sizeOf (s .statement)) (kept-few kept (address % 65536) (s .name) h)
+labels-few (s ∷ more) kept address h = labels-few more (keptWith kept (address % 65536) (s .name)) (address + statementSize (s .statement)) (kept-few kept (address % 65536) (s .name) h)
 
 -- what a name is worth stays when labels are kept behind it
 worth-stays : (kept more : List Label) (name : List ℕ) → labelWorth kept name .known ≡ true → labelWorth (kept ++ more) name ≡ labelWorth kept name
@@ -86,14 +86,14 @@ unfolding labelsFrom
 first-stands [] kept address name h = refl
 first-stands (s ∷ more) kept address name h =
     let k = kept-stays kept (address % 65536) (s .name) name h in
-    first-stands more (keptWith kept (address % 65536) (s .name)) (address + sizeOf (s .statement)) name (ap (λ (w : Worth). w .known) k ∙ h) ∙ k
+    first-stands more (keptWith kept (address % 65536) (s .name)) (address + statementSize (s .statement)) name (ap (λ (w : Worth). w .known) k ∙ h) ∙ k
 
 -- a text that is done has line 0, one that is refused stores nothing
 pub done-or-refused : (labels kept : List Label) (first room line : ℕ) (done : List ℕ) (said : List Said) → let a = assembledFrom labels kept first room line done said in ((a .number ≡ 0) × (a .line ≡ 0)) ⊎ ((a .number ≡ 0 → ⊥) × (a .bytes ≡ []))
 unfolding assembledFrom
 done-or-refused labels kept first room line done [] = inl (refl, refl)
 done-or-refused labels kept first room line done (s ∷ more) =
-    go (eqb n 0) refl (done-or-refused labels (keptWith kept address (s .name)) first room (suc line) (done ++ bytesOf labels address (s .statement)) more)
+    go (eqb n 0) refl (done-or-refused labels (keptWith kept address (s .name)) first room (suc line) (done ++ statementBytes labels address (s .statement)) more)
   where
     address : ℕ
     address = (first + length done) % 65536
@@ -102,7 +102,7 @@ done-or-refused labels kept first room line done (s ∷ more) =
     n = lineNumber labels kept address (length done) room s
 
     rest : Assembled
-    rest = assembledFrom labels (keptWith kept address (s .name)) first room (suc line) (done ++ bytesOf labels address (s .statement)) more
+    rest = assembledFrom labels (keptWith kept address (s .name)) first room (suc line) (done ++ statementBytes labels address (s .statement)) more
 
     go : (b : Bool) → eqb n 0 ≡ b → ((rest .number ≡ 0) × (rest .line ≡ 0)) ⊎ ((rest .number ≡ 0 → ⊥) × (rest .bytes ≡ []))
         → ((pick b rest (assembled n line []) .number ≡ 0) × (pick b rest (assembled n line []) .line ≡ 0)) ⊎ ((pick b rest (assembled n line []) .number ≡ 0 → ⊥) × (pick b rest (assembled n line []) .bytes ≡ []))

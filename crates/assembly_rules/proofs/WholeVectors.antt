@@ -7,10 +7,10 @@ use Rattle.listing_rules.specs.Characters.{ascii, sameText}
 use Rattle.listing_rules.specs.Entries.{entries}
 use Rattle.listing_rules.specs.Back.{digitsIn, rrrIn, mmIn, aaIn, pairFrom}
 use Rattle.assembly_rules.specs.Text.{capitalOf, isDigit, isCapital, isRun, isBlank, endsLine, inFrontOf, begunBy, tokensOf, cutAt, linesIn}
-use Rattle.assembly_rules.specs.Numbers.{digitValue, isRadix, radixOf, lastOf, butLast, digitsFrom, digitsOf, constantOf}
-use Rattle.assembly_rules.specs.Sums.{Label, label, indexIn, registerNumber, isTerm, partOf, scanned, scanFrom, isSum, depthOf, labelWorth, combinedWorth, restWith, sumWith, runRead, termBy, termOf, sumOf, sumWorth}
-use Rattle.assembly_rules.specs.Operands.{closedMemory, endedMemory, indexedMemory, memoryWith, memoryFrom, operandFrom, operandsFrom, takes, takesAll, hasWord, entryIn, isShallow, allShallow}
-use Rattle.assembly_rules.specs.Statements.{headedBy, allSums, allLow, itemsFrom, wordStatement, statementOf, kindsSize, offsetsSize, memoriesIn, sizeOf, isByte, reachTo, mayStand, operandWorth, allKnown, allStand, itemsKnown, itemsStand, statementNumber, pairBytes, listedAs, listedAll, allOffsets, allNumbers, moveBytes, instructionBytes, itemsBytes, bytesOf}
+use Rattle.assembly_rules.specs.Numbers.{digitValue, isRadix, radixOf, lastOf, butLast, digitsFrom, constantDigits, constantOf}
+use Rattle.assembly_rules.specs.Sums.{Label, label, indexIn, registerNumber, isTerm, roleOf, scanned, scanFrom, isSum, depthOf, labelWorth, combinedWorth, restWith, sumWith, runRead, termBy, termOf, sumWithin, sumWorth}
+use Rattle.assembly_rules.specs.Operands.{closedMemory, endedMemory, indexedMemory, memoryBehind, memoryFrom, operandFrom, operandsFrom, takes, takesAll, hasWord, entryIn, isShallow, allShallow}
+use Rattle.assembly_rules.specs.Statements.{headedBy, allSums, allLow, itemsFrom, wordStatement, statementOf, kindsSize, offsetsSize, memoriesIn, statementSize, isByte, reachTo, mayStand, operandWorth, namesKnown, allStand, itemsKnown, itemsStand, statementNumber, pairBytes, listedAs, listedAll, allOffsets, allNumbers, moveBytes, instructionBytes, itemsBytes, statementBytes}
 use Rattle.assembly_rules.specs.Assembly.{saidBy, saidIn, isReserved, mayKeep, keptWith, labelsFrom, labelStands, lineNumber, Assembled, assembled, assembledFrom, assembleOf}
 
 abbrev from1000 : String → Assembled
@@ -24,7 +24,7 @@ lines-told :
     × (from1000 "X: JNZ IX,X" ≡ assembled 0 0 (0xA8 ∷ 0x40 ∷ 0xFD ∷ []))
     × (from1000 "LCALL [GC].4,01105H" ≡ assembled 0 0 (0x93 ∷ 0x9E ∷ 0x04 ∷ 0x00 ∷ 0x01 ∷ []))
     × (from1000 "DB 1,-1\nA:DW A" ≡ assembled 0 0 (0x01 ∷ 0xFF ∷ 0x02 ∷ 0x10 ∷ []))
-unfolding assembleOf assembledFrom lineNumber labelStands labelsFrom keptWith mayKeep isReserved saidIn saidBy bytesOf itemsBytes instructionBytes moveBytes allNumbers allOffsets listedAll listedAs pairBytes statementNumber itemsStand itemsKnown allStand allKnown operandWorth mayStand reachTo isByte sizeOf memoriesIn offsetsSize kindsSize statementOf wordStatement itemsFrom allLow allSums headedBy allShallow isShallow entryIn hasWord takesAll takes operandsFrom operandFrom memoryFrom memoryWith indexedMemory endedMemory closedMemory sumWorth sumOf termOf termBy runRead sumWith restWith combinedWorth labelWorth depthOf isSum scanFrom scanned partOf isTerm registerNumber indexIn constantOf digitsOf digitsFrom butLast lastOf radixOf isRadix digitValue linesIn cutAt tokensOf begunBy inFrontOf endsLine isBlank isRun isCapital isDigit capitalOf pairFrom aaIn mmIn rrrIn digitsIn entries sameText
+unfolding assembleOf assembledFrom lineNumber labelStands labelsFrom keptWith mayKeep isReserved saidIn saidBy statementBytes itemsBytes instructionBytes moveBytes allNumbers allOffsets listedAll listedAs pairBytes statementNumber itemsStand itemsKnown allStand namesKnown operandWorth mayStand reachTo isByte statementSize memoriesIn offsetsSize kindsSize statementOf wordStatement itemsFrom allLow allSums headedBy allShallow isShallow entryIn hasWord takesAll takes operandsFrom operandFrom memoryFrom memoryBehind indexedMemory endedMemory closedMemory sumWorth sumWithin termOf termBy runRead sumWith restWith combinedWorth labelWorth depthOf isSum scanFrom scanned roleOf isTerm registerNumber indexIn constantOf constantDigits digitsFrom butLast lastOf radixOf isRadix digitValue linesIn cutAt tokensOf begunBy inFrontOf endsLine isBlank isRun isCapital isDigit capitalOf pairFrom aaIn mmIn rrrIn digitsIn entries sameText
 lines-told = (refl, refl, refl, refl, refl, refl, refl)
 
 -- each number at its line; nothing is stored before it
@@ -51,7 +51,7 @@ numbers-told :
     × (from1000 "JMP 01083H" ≡ assembled 34 1 [])
     × (from1000 "JMP 00F82H" ≡ assembled 34 1 [])
     × (assembleOf (ascii "NOP\nNOP") 0 3 ≡ assembled 35 2 [])
-unfolding assembleOf assembledFrom lineNumber labelStands labelsFrom keptWith mayKeep isReserved saidIn saidBy bytesOf itemsBytes instructionBytes moveBytes allNumbers allOffsets listedAll listedAs pairBytes statementNumber itemsStand itemsKnown allStand allKnown operandWorth mayStand reachTo isByte sizeOf memoriesIn offsetsSize kindsSize statementOf wordStatement itemsFrom allLow allSums headedBy allShallow isShallow entryIn hasWord takesAll takes operandsFrom operandFrom memoryFrom memoryWith indexedMemory endedMemory closedMemory sumWorth sumOf termOf termBy runRead sumWith restWith combinedWorth labelWorth depthOf isSum scanFrom scanned partOf isTerm registerNumber indexIn constantOf digitsOf digitsFrom butLast lastOf radixOf isRadix digitValue linesIn cutAt tokensOf begunBy inFrontOf endsLine isBlank isRun isCapital isDigit capitalOf pairFrom aaIn mmIn rrrIn digitsIn entries sameText
+unfolding assembleOf assembledFrom lineNumber labelStands labelsFrom keptWith mayKeep isReserved saidIn saidBy statementBytes itemsBytes instructionBytes moveBytes allNumbers allOffsets listedAll listedAs pairBytes statementNumber itemsStand itemsKnown allStand namesKnown operandWorth mayStand reachTo isByte statementSize memoriesIn offsetsSize kindsSize statementOf wordStatement itemsFrom allLow allSums headedBy allShallow isShallow entryIn hasWord takesAll takes operandsFrom operandFrom memoryFrom memoryBehind indexedMemory endedMemory closedMemory sumWorth sumWithin termOf termBy runRead sumWith restWith combinedWorth labelWorth depthOf isSum scanFrom scanned roleOf isTerm registerNumber indexIn constantOf constantDigits digitsFrom butLast lastOf radixOf isRadix digitValue linesIn cutAt tokensOf begunBy inFrontOf endsLine isBlank isRun isCapital isDigit capitalOf pairFrom aaIn mmIn rrrIn digitsIn entries sameText
 numbers-told = (refl, refl, refl, refl, refl, refl, refl, refl, refl, refl, refl, refl, refl, refl, refl, refl, refl, refl, refl, refl, refl, refl)
 
 -- and what is just allowed
@@ -63,7 +63,7 @@ borders-told :
     × (from1000 "A123456789AB: DW A123456789AB" ≡ assembled 0 0 (0x00 ∷ 0x10 ∷ []))
     × (from1000 "; nothing\r\n\n X :" ≡ assembled 0 0 [])
     × (from1000 "ADDBI tp,5" ≡ from1000 "JMP 01008H")
-unfolding assembleOf assembledFrom lineNumber labelStands labelsFrom keptWith mayKeep isReserved saidIn saidBy bytesOf itemsBytes instructionBytes moveBytes allNumbers allOffsets listedAll listedAs pairBytes statementNumber itemsStand itemsKnown allStand allKnown operandWorth mayStand reachTo isByte sizeOf memoriesIn offsetsSize kindsSize statementOf wordStatement itemsFrom allLow allSums headedBy allShallow isShallow entryIn hasWord takesAll takes operandsFrom operandFrom memoryFrom memoryWith indexedMemory endedMemory closedMemory sumWorth sumOf termOf termBy runRead sumWith restWith combinedWorth labelWorth depthOf isSum scanFrom scanned partOf isTerm registerNumber indexIn constantOf digitsOf digitsFrom butLast lastOf radixOf isRadix digitValue linesIn cutAt tokensOf begunBy inFrontOf endsLine isBlank isRun isCapital isDigit capitalOf pairFrom aaIn mmIn rrrIn digitsIn entries sameText
+unfolding assembleOf assembledFrom lineNumber labelStands labelsFrom keptWith mayKeep isReserved saidIn saidBy statementBytes itemsBytes instructionBytes moveBytes allNumbers allOffsets listedAll listedAs pairBytes statementNumber itemsStand itemsKnown allStand namesKnown operandWorth mayStand reachTo isByte statementSize memoriesIn offsetsSize kindsSize statementOf wordStatement itemsFrom allLow allSums headedBy allShallow isShallow entryIn hasWord takesAll takes operandsFrom operandFrom memoryFrom memoryBehind indexedMemory endedMemory closedMemory sumWorth sumWithin termOf termBy runRead sumWith restWith combinedWorth labelWorth depthOf isSum scanFrom scanned roleOf isTerm registerNumber indexIn constantOf constantDigits digitsFrom butLast lastOf radixOf isRadix digitValue linesIn cutAt tokensOf begunBy inFrontOf endsLine isBlank isRun isCapital isDigit capitalOf pairFrom aaIn mmIn rrrIn digitsIn entries sameText
 borders-told = (refl, refl, refl, refl, refl, refl, refl)
 
 -- the labels of a text: a line that 30 to 32 refuse has no bytes, one that 33 or 34 refuse has them all
@@ -75,5 +75,5 @@ addresses-told :
     × (labelsAtZero "DB (((((((((1)))))))))\nX:" ≡ label (ascii "X") 0 ∷ [])
     × (labelsAtZero "JMP Q\nX: WID 9,9\nY:" ≡ label (ascii "X") 3 ∷ label (ascii "Y") 5 ∷ [])
     × (labelsAtZero "X: FOO\nX: NOP\nY:" ≡ label (ascii "X") 0 ∷ label (ascii "Y") 2 ∷ [])
-unfolding assembleOf assembledFrom lineNumber labelStands labelsFrom keptWith mayKeep isReserved saidIn saidBy bytesOf itemsBytes instructionBytes moveBytes allNumbers allOffsets listedAll listedAs pairBytes statementNumber itemsStand itemsKnown allStand allKnown operandWorth mayStand reachTo isByte sizeOf memoriesIn offsetsSize kindsSize statementOf wordStatement itemsFrom allLow allSums headedBy allShallow isShallow entryIn hasWord takesAll takes operandsFrom operandFrom memoryFrom memoryWith indexedMemory endedMemory closedMemory sumWorth sumOf termOf termBy runRead sumWith restWith combinedWorth labelWorth depthOf isSum scanFrom scanned partOf isTerm registerNumber indexIn constantOf digitsOf digitsFrom butLast lastOf radixOf isRadix digitValue linesIn cutAt tokensOf begunBy inFrontOf endsLine isBlank isRun isCapital isDigit capitalOf pairFrom aaIn mmIn rrrIn digitsIn entries sameText
+unfolding assembleOf assembledFrom lineNumber labelStands labelsFrom keptWith mayKeep isReserved saidIn saidBy statementBytes itemsBytes instructionBytes moveBytes allNumbers allOffsets listedAll listedAs pairBytes statementNumber itemsStand itemsKnown allStand namesKnown operandWorth mayStand reachTo isByte statementSize memoriesIn offsetsSize kindsSize statementOf wordStatement itemsFrom allLow allSums headedBy allShallow isShallow entryIn hasWord takesAll takes operandsFrom operandFrom memoryFrom memoryBehind indexedMemory endedMemory closedMemory sumWorth sumWithin termOf termBy runRead sumWith restWith combinedWorth labelWorth depthOf isSum scanFrom scanned roleOf isTerm registerNumber indexIn constantOf constantDigits digitsFrom butLast lastOf radixOf isRadix digitValue linesIn cutAt tokensOf begunBy inFrontOf endsLine isBlank isRun isCapital isDigit capitalOf pairFrom aaIn mmIn rrrIn digitsIn entries sameText
 addresses-told = (refl, refl, refl, refl)

@@ -10,7 +10,7 @@ use Rattle.listing_rules.specs.Entries.{entries}
 use Rattle.assembly_rules.specs.Text.{tokensOf, linesIn}
 use Rattle.assembly_rules.specs.Sums.{isRegister, Label, label, labelWorth}
 use Rattle.assembly_rules.specs.Operands.{hasWord}
-use Rattle.assembly_rules.specs.Statements.{headedBy, Statement, statementOf, sizeOf, statementNumber, bytesOf}
+use Rattle.assembly_rules.specs.Statements.{headedBy, Statement, statementOf, statementSize, statementNumber, statementBytes}
 
 -- a line by what it says
 pub record Said : Type 0 where
@@ -43,7 +43,7 @@ keptWith kept address (c ∷ cs) = pick (mayKeep kept (c ∷ cs)) (kept ++ (labe
 -- all labels that are kept; an address counts mod 65,536
 unfoldable pub labelsFrom : List Label → ℕ → List Said → List Label
 labelsFrom kept address [] = kept
-labelsFrom kept address (s ∷ more) = labelsFrom (keptWith kept (address % 65536) (s .name)) (address + sizeOf (s .statement)) more
+labelsFrom kept address (s ∷ more) = labelsFrom (keptWith kept (address % 65536) (s .name)) (address + statementSize (s .statement)) more
 
 -- whether a line's own label is kept, being the first of its name
 unfoldable pub labelStands : List Label → ℕ → List ℕ → Bool
@@ -51,15 +51,15 @@ labelStands kept address [] = true
 labelStands kept address (c ∷ cs) = mayKeep kept (c ∷ cs)
 
 -- a line with bytes whose last lies beyond the room
-abbrev pub beyond : ℕ → ℕ → ℕ → Bool
-beyond size before room = ltb 0 size && ltb room (before + size)
+abbrev pub pastRoom : ℕ → ℕ → ℕ → Bool
+pastRoom size before room = ltb 0 size && ltb room (before + size)
 
 -- a line's number under all the labels: 30 to 32, 33 for its label or a name, 34, 35 where its last byte lies beyond the room
 unfoldable pub lineNumber : List Label → List Label → ℕ → ℕ → ℕ → Said → ℕ
 lineNumber labels kept address before room s =
     let n = statementNumber labels address (s .statement) in
     pick (leb 30 n && leb n 32) n
-    (pick (labelStands kept address (s .name)) (pick (eqb n 0) (pick (beyond (sizeOf (s .statement)) before room) 35 0) n) 33)
+    (pick (labelStands kept address (s .name)) (pick (eqb n 0) (pick (pastRoom (statementSize (s .statement)) before room) 35 0) n) 33)
 
 -- what assembling comes to: 0 and the bytes, or the number and line of the first line that has one
 pub record Assembled : Type 0 where
@@ -77,7 +77,7 @@ assembledFrom labels kept first room line done (s ∷ more) =
     let address = (first + length done) % 65536 in
     let n = lineNumber labels kept address (length done) room s in
     pick (eqb n 0)
-    (assembledFrom labels (keptWith kept address (s .name)) first room (suc line) (done ++ bytesOf labels address (s .statement)) more)
+    (assembledFrom labels (keptWith kept address (s .name)) first room (suc line) (done ++ statementBytes labels address (s .statement)) more)
     (assembled n line [])
 
 -- a text assembled from an address into a room
@@ -87,5 +87,5 @@ assembleOf text first room =
     assembledFrom (labelsFrom [] first lines) [] first room 1 [] lines
 
 -- the buffer afterwards: the bytes in front, or as it was
-unfoldable pub storedIn : List ℕ → Assembled → List ℕ
-storedIn buffer a = a .bytes ++ drop (length (a .bytes)) buffer
+unfoldable pub assembledInto : List ℕ → Assembled → List ℕ
+assembledInto buffer a = a .bytes ++ drop (length (a .bytes)) buffer

@@ -38,9 +38,9 @@ digitsFrom radix value (c ∷ cs) =
     pick (ltb (digitValue c) radix) (digitsFrom radix ((value * radix + digitValue c) % 65536) cs) NoConstant
 
 -- the digits of a run: all of it but a letter for the radix
-unfoldable pub digitsOf : List ℕ → List ℕ
-digitsOf r = pick (isRadix (lastOf r)) (butLast r) r
+unfoldable pub constantDigits : List ℕ → List ℕ
+constantDigits r = pick (isRadix (lastOf r)) (butLast r) r
 
 -- the constant that a run is
 unfoldable pub constantOf : List ℕ → Constant
-constantOf r = digitsFrom (radixOf (lastOf r)) 0 (digitsOf r)
+constantOf r = digitsFrom (radixOf (lastOf r)) 0 (constantDigits r)

@@ -41,10 +41,10 @@ indexedMemory mm (mark c ∷ ts) = nothing
 indexedMemory mm (run r ∷ ts) = pick (eqb (registerNumber r) 5) (endedMemory mm ts) nothing
 
 -- from behind its base on
-unfoldable pub memoryWith : ℕ → List Token → Written
-memoryWith mm [] = nothing
-memoryWith mm (run r ∷ ts) = nothing
-memoryWith mm (mark c ∷ ts) = pick (eqb c 93) (closedMemory mm ts) (pick (eqb c 43) (indexedMemory mm ts) nothing)
+unfoldable pub memoryBehind : ℕ → List Token → Written
+memoryBehind mm [] = nothing
+memoryBehind mm (run r ∷ ts) = nothing
+memoryBehind mm (mark c ∷ ts) = pick (eqb c 93) (closedMemory mm ts) (pick (eqb c 43) (indexedMemory mm ts) nothing)
 
 -- MM of a base by its register's number: GA, GB, GC, PP; 4 where it is none
 abbrev pub baseNumber : ℕ → ℕ
@@ -54,7 +54,7 @@ baseNumber n = pick (ltb n 3) n (pick (eqb n 8) 3 4)
 unfoldable pub memoryFrom : List Token → Written
 memoryFrom [] = nothing
 memoryFrom (mark c ∷ ts) = nothing
-memoryFrom (run r ∷ ts) = pick (ltb (baseNumber (registerNumber r)) 4) (memoryWith (baseNumber (registerNumber r)) ts) nothing
+memoryFrom (run r ∷ ts) = pick (ltb (baseNumber (registerNumber r)) 4) (memoryBehind (baseNumber (registerNumber r)) ts) nothing
 
 -- the number of a register that stands alone, 9 where none does
 abbrev pub aloneNumber : List Token → ℕ

@@ -44,9 +44,9 @@ pub data Statement : Type 0 where
   refused : ℕ → Statement
 
 -- operands stand between commas
-abbrev pub partsOf : List Token → List (List Token)
-partsOf [] = []
-partsOf (t ∷ ts) = cutAt isComma (t ∷ ts)
+abbrev pub operandParts : List Token → List (List Token)
+operandParts [] = []
+operandParts (t ∷ ts) = cutAt isComma (t ∷ ts)
 
 unfoldable pub allSums : List (List Token) → Bool
 allSums [] = true
@@ -72,8 +72,8 @@ unfoldable pub statementOf : List Token → Statement
 statementOf [] = blank
 statementOf (mark c ∷ ts) = refused 30
 statementOf (run r ∷ ts) =
-    pick (sameText r (ascii "DB")) (itemsFrom false (partsOf ts))
-    (pick (sameText r (ascii "DW")) (itemsFrom true (partsOf ts)) (wordStatement r (operandsFrom (partsOf ts))))
+    pick (sameText r (ascii "DB")) (itemsFrom false (operandParts ts))
+    (pick (sameText r (ascii "DW")) (itemsFrom true (operandParts ts)) (wordStatement r (operandsFrom (operandParts ts))))
 
 -- the bytes of a number in a place
 abbrev pub kindSize : Kind → ℕ
@@ -108,11 +108,11 @@ abbrev pub pairsSize : List Kind → ℕ
 pairsSize ks = pick (ltb 1 (memoriesIn ks)) 4 2
 
 -- how many bytes a line has, whatever its names are worth
-unfoldable pub sizeOf : Statement → ℕ
-sizeOf blank = 0
-sizeOf (items two parts) = pick two 2 1 * length parts
-sizeOf (instruction e ws) = pairsSize (e .kinds) + (offsetsSize ws + kindsSize (e .kinds))
-sizeOf (refused n) = 0
+unfoldable pub statementSize : Statement → ℕ
+statementSize blank = 0
+statementSize (items two parts) = pick two 2 1 * length parts
+statementSize (instruction e ws) = pairsSize (e .kinds) + (offsetsSize ws + kindsSize (e .kinds))
+statementSize (refused n) = 0
 
 -- a number that one byte holds, signed or not
 unfoldable pub isByte : ℕ → Bool
@@ -145,9 +145,9 @@ operandWorth labels (memory mm aa ts) = pick (eqb aa 1) (sumWorth labels ts) (wo
 operandWorth labels (value ts) = sumWorth labels ts
 operandWorth labels nothing = worth 0 true
 
-unfoldable pub allKnown : List Label → List Written → Bool
-allKnown labels [] = true
-allKnown labels (w ∷ ws) = operandWorth labels w .known && allKnown labels ws
+unfoldable pub namesKnown : List Label → List Written → Bool
+namesKnown labels [] = true
+namesKnown labels (w ∷ ws) = operandWorth labels w .known && namesKnown labels ws
 
 unfoldable pub allStand : List Label → ℕ → List Kind → List Written → Bool
 allStand labels end [] ws = true
@@ -167,7 +167,7 @@ unfoldable pub statementNumber : List Label → ℕ → Statement → ℕ
 statementNumber labels address blank = 0
 statementNumber labels address (items two parts) = pick (itemsKnown labels parts) (pick (two || itemsStand labels parts) 0 34) 33
 statementNumber labels address (instruction e ws) =
-    pick (allKnown labels ws) (pick (allStand labels (address + sizeOf (instruction e ws)) (e .kinds) ws) 0 34) 33
+    pick (namesKnown labels ws) (pick (allStand labels (address + statementSize (instruction e ws)) (e .kinds) ws) 0 34) 33
 statementNumber labels address (refused n) = n
 
 -- the bytes of a pair: RRR dd AA W, opcode MM
@@ -200,15 +200,15 @@ listedAll labels (k ∷ ks) [] = []
 listedAll labels (k ∷ ks) (w ∷ ws) = listedAs labels k w ∷ listedAll labels ks ws
 
 -- the offset byte of a memory operand
-abbrev pub offsetBytes : List Label → Written → List ℕ
-offsetBytes labels (register r) = []
-offsetBytes labels (memory mm aa ts) = pick (eqb aa 1) (lowByte (sumWorth labels ts .value) ∷ []) []
-offsetBytes labels (value ts) = []
-offsetBytes labels nothing = []
+abbrev pub writtenOffset : List Label → Written → List ℕ
+writtenOffset labels (register r) = []
+writtenOffset labels (memory mm aa ts) = pick (eqb aa 1) (lowByte (sumWorth labels ts .value) ∷ []) []
+writtenOffset labels (value ts) = []
+writtenOffset labels nothing = []
 
 unfoldable pub allOffsets : List Label → List Written → List ℕ
 allOffsets labels [] = []
-allOffsets labels (w ∷ ws) = offsetBytes labels w ++ allOffsets labels ws
+allOffsets labels (w ∷ ws) = writtenOffset labels w ++ allOffsets labels ws
 
 -- the bytes of a number in its place: data as it is, a target as its distance
 abbrev pub numberBytes : Kind → ℕ → ℕ → List ℕ
@@ -239,7 +239,7 @@ secondBytes w nothing = []
 unfoldable pub moveBytes : List Label → Entry → List Written → List ℕ
 moveBytes labels e [] = []
 moveBytes labels e (to ∷ ws) =
-    pairBytes (pairFrom e (listedAll labels (e .kinds) (to ∷ ws))) ++ (allOffsets labels ws ++ (secondBytes (e .w) to ++ offsetBytes labels to))
+    pairBytes (pairFrom e (listedAll labels (e .kinds) (to ∷ ws))) ++ (allOffsets labels ws ++ (secondBytes (e .w) to ++ writtenOffset labels to))
 
 -- the bytes of an instruction
 unfoldable pub instructionBytes : List Label → ℕ → Entry → List Written → List ℕ
@@ -252,8 +252,8 @@ itemsBytes labels two [] = []
 itemsBytes labels two (part ∷ parts) = pick two (wordBytes (sumWorth labels part .value)) (lowByte (sumWorth labels part .value) ∷ []) ++ itemsBytes labels two parts
 
 -- the bytes of a line that no number refuses
-unfoldable pub bytesOf : List Label → ℕ → Statement → List ℕ
-bytesOf labels address blank = []
-bytesOf labels address (items two parts) = itemsBytes labels two parts
-bytesOf labels address (instruction e ws) = instructionBytes labels (address + sizeOf (instruction e ws)) e ws
-bytesOf labels address (refused n) = []
+unfoldable pub statementBytes : List Label → ℕ → Statement → List ℕ
+statementBytes labels address blank = []
+statementBytes labels address (items two parts) = itemsBytes labels two parts
+statementBytes labels address (instruction e ws) = instructionBytes labels (address + statementSize (instruction e ws)) e ws
+statementBytes labels address (refused n) = []

@@ -9,8 +9,8 @@ use Rattle.listing_rules.specs.Characters.{ascii, sameText}
 use Rattle.listing_rules.specs.Forms.{registerNames}
 use Rattle.assembly_rules.specs.declared.Constant.{Constant}
 use Rattle.assembly_rules.specs.declared.Constant.the-variants.{Value, NoConstant}
-use Rattle.assembly_rules.specs.declared.Part.{Part}
-use Rattle.assembly_rules.specs.declared.Part.the-variants.{Term, Plus, Minus, Opens, Closes, Other}
+use Rattle.assembly_rules.specs.declared.Role.{Role}
+use Rattle.assembly_rules.specs.declared.Role.the-variants.{Term, Plus, Minus, Opens, Closes, Other}
 use Rattle.assembly_rules.specs.declared.Scan.{Scan}
 use Rattle.assembly_rules.specs.declared.Worth.{Worth}
 use Rattle.assembly_rules.specs.Text.{Token, isDigit}
@@ -46,12 +46,12 @@ unfoldable pub isTerm : List ℕ → Bool
 isTerm r = pick (beginsDigit r) (isValue (constantOf r)) (not (isRegister r))
 
 -- + is 43, - 45, the parentheses are 40 and 41
-abbrev pub markPart : ℕ → Part
-markPart c = pick (eqb c 43) Plus (pick (eqb c 45) Minus (pick (eqb c 40) Opens (pick (eqb c 41) Closes Other)))
+abbrev pub markRole : ℕ → Role
+markRole c = pick (eqb c 43) Plus (pick (eqb c 45) Minus (pick (eqb c 40) Opens (pick (eqb c 41) Closes Other)))
 
-unfoldable pub partOf : Token → Part
-partOf (run r) = pick (isTerm r) Term Other
-partOf (mark c) = markPart c
+unfoldable pub roleOf : Token → Role
+roleOf (run r) = pick (isTerm r) Term Other
+roleOf (mark c) = markRole c
 
 abbrev pub scan : Bool → ℕ → ℕ → Bool → Bool → Scan
 scan good opened most due begins = record { good = good; opened = opened; most = most; due = due; begins = begins }
@@ -64,8 +64,8 @@ scanStart = scan true 0 0 true true
 abbrev pub noSum : Scan → Scan
 noSum s = scan false (s .opened) (s .most) (s .due) (s .begins)
 
-abbrev pub larger : ℕ → ℕ → ℕ
-larger a b = pick (leb a b) b a
+abbrev pub greater : ℕ → ℕ → ℕ
+greater a b = pick (leb a b) b a
 
 -- a term, a sign, a parenthesis: each where it may stand
 abbrev pub term? : Scan → Scan
@@ -79,13 +79,13 @@ abbrev pub minus? : Scan → Scan
 minus? s = pick (s .due && s .begins) (scan (s .good) (s .opened) (s .most) true false) (sign? s)
 
 abbrev pub opens? : Scan → Scan
-opens? s = pick (s .due) (scan (s .good) (s .opened + 1) (larger (s .most) (s .opened + 1)) true true) (noSum s)
+opens? s = pick (s .due) (scan (s .good) (s .opened + 1) (greater (s .most) (s .opened + 1)) true true) (noSum s)
 
 abbrev pub closes? : Scan → Scan
 closes? s = pick (s .due || eqb (s .opened) 0) (noSum s) (scan (s .good) (s .opened - 1) (s .most) false false)
 
 -- the scan after one more token
-unfoldable pub scanned : Scan → Part → Scan
+unfoldable pub scanned : Scan → Role → Scan
 scanned s Term = term? s
 scanned s Plus = sign? s
 scanned s Minus = minus? s
@@ -95,7 +95,7 @@ scanned s Other = noSum s
 
 unfoldable pub scanFrom : Scan → List Token → Scan
 scanFrom s [] = s
-scanFrom s (t ∷ ts) = scanFrom (scanned s (partOf t)) ts
+scanFrom s (t ∷ ts) = scanFrom (scanned s (roleOf t)) ts
 
 -- at a sum's end no term is due and nothing is open
 abbrev pub isWhole : Scan → Bool
@@ -199,8 +199,8 @@ unfoldable pub termOf : ℕ → List Label → List Token → Read
 termOf zero labels = termBy (λ ts. deep) labels
 termOf (suc depth) labels = termBy (λ ts. andThen (sumWith (termOf depth labels) ts) closeAt) labels
 
-unfoldable pub sumOf : ℕ → List Label → List Token → Read
-sumOf depth labels ts = sumWith (termOf depth labels) ts
+unfoldable pub sumWithin : ℕ → List Label → List Token → Read
+sumWithin depth labels ts = sumWith (termOf depth labels) ts
 
 -- eight parentheses may be open at once
 abbrev pub mostOpen : ℕ
@@ -213,4 +213,4 @@ worthIn wrong = worth 0 false
 
 -- what the sum that some tokens begin with is worth
 unfoldable pub sumWorth : List Label → List Token → Worth
-sumWorth labels ts = worthIn (sumOf mostOpen labels ts)
+sumWorth labels ts = worthIn (sumWithin mostOpen labels ts)

@@ -8,7 +8,7 @@ use Rattle.assembly_rules.specs.declared.Constant.the-variants.{Value}
 use Rattle.assembly_rules.specs.Text.{Token}
 use Rattle.assembly_rules.specs.Text.Token.{run, mark}
 use Rattle.assembly_rules.specs.Numbers.{constantOf}
-use Rattle.assembly_rules.specs.Sums.{beginsDigit, isRegister, larger, Label, labelWorth}
+use Rattle.assembly_rules.specs.Sums.{beginsDigit, isRegister, greater, Label, labelWorth}
 
 mutual
   -- a first term, behind a minus or not; or a sum and a term behind it, taken away or added
@@ -37,7 +37,7 @@ unfoldable mutual
 unfoldable mutual
   pub sumDepth : Sum → ℕ
   sumDepth (only minus t) = termDepth t
-  sumDepth (more s minus t) = larger (sumDepth s) (termDepth t)
+  sumDepth (more s minus t) = greater (sumDepth s) (termDepth t)
 
   pub termDepth : Term → ℕ
   termDepth (constant r v d e) = 0

@@ -7,7 +7,7 @@ pub enum Constant {
 }
 
 // What a token is in a sum.
-pub enum Part {
+pub enum Role {
     Term,
     Plus,
     Minus,

@@ -6,13 +6,13 @@ use borrow.Author.Needs.{needs}
 use mathlib.Core.Path.{_≡_, sym, ap, _∙_}
 use lib.ListN.{length, drop}
 use Rattle.assembly_rules.specs.Text.{capitals}
-use Rattle.assembler_forms.specs.Table.{packed}
+use Rattle.assembler_forms.specs.Table.{packedWord}
 use Rattle.assembler_forms.proofs.TableLaws.{packed-end, left-small, packed-next, number-long, number-short}
 use Rattle.assembler_forms.proofs.table.word_number.Statement.{statement}
 use Rattle.assembler_forms.proofs.table.word_number.Tie as tie
 
 abbrev Inv-loop : tie.InvT-loop
-Inv-loop run n₀ i₀ n i = (n ≡ packed (capitals (drop i run))) × (i ≤ length run)
+Inv-loop run n₀ i₀ n i = (n ≡ packedWord (capitals (drop i run))) × (i ≤ length run)
 
 abbrev μ-loop : tie.MeasureT-loop
 μ-loop run n₀ i₀ n i = i
@@ -33,7 +33,7 @@ loop-again : tie.Need-loop-again Inv-loop μ-loop
 loop-again c = let l = c .before .before .before .loop in (packed-next (c .before .before .before .before .before .before .args .run .now) (l .i) _ (l .n) (c .before .before .loop-test .taken) (l .inv .1) (c .capital .ensures) (omega (arith, c .capital .ok)) (l .inv .0), omega (arith, l .inv .1))
 
 returns-2 : tie.Need-returns-2 Inv-loop μ-loop
-returns-2 c = let l = c .before .loop in let z : l .i ≡ 0 = omega (arith, c .loop-test .left) in l .inv .0 ∙ ap (λ (i : ℕ). packed (capitals (drop i (c .before .before .before .before .args .run .now)))) z ∙ sym (number-short (c .before .before .before .before .args .run .now) (c .before .before .if1 .left))
+returns-2 c = let l = c .before .loop in let z : l .i ≡ 0 = omega (arith, c .loop-test .left) in l .inv .0 ∙ ap (λ (i : ℕ). packedWord (capitals (drop i (c .before .before .before .before .args .run .now)))) z ∙ sym (number-short (c .before .before .before .before .args .run .now) (c .before .before .if1 .left))
 
 pub word-number-spec : {M : Type 1} → statement M
 word-number-spec = tie.close (tie.spec Inv-loop μ-loop returns loop-holds (λ c. search needs) mul-n (λ c. search needs) (λ c κs. search needs) (λ c. search needs) add-n (λ c. search needs) loop-again returns-2)

@@ -24,7 +24,7 @@ returns : tie.Need-returns Inv-loop μ-loop
 returns c =
     let l = c .before .before .before .before .loop in
     let text = c .before .before .before .before .before .before .args .text .now in
-    sym (scan-stops (l .s) text (l .i) (part-stands text (l .i)) (sym (c .before .before .part-at .ensures) ∙ c .enum-told .given .1)) ∙ l .inv .0
+    sym (scan-stops (l .s) text (l .i) (part-stands text (l .i)) (sym (c .before .before .role-at .ensures) ∙ c .enum-told .given .1)) ∙ l .inv .0
 
 scanned-requires : tie.Need-scanned-requires Inv-loop μ-loop
 scanned-requires c κs = let l = c .before .before .before .before .before .loop in omega (arith, l .inv .1, c .before .before .before .before .loop-test .taken)
@@ -33,14 +33,14 @@ loop-less : tie.Need-loop-less Inv-loop μ-loop
 loop-less c =
     let l = c .before .before .before .before .before .before .loop in
     let text = c .before .before .before .before .before .before .before .before .args .text .now in
-    let g = scan-goes (l .s) text (l .i) (part-stands text (l .i)) _ _ (sym (c .before .before .before .before .part-at .ensures) ∙ c .before .before .part .given .1) in
+    let g = scan-goes (l .s) text (l .i) (part-stands text (l .i)) _ _ (sym (c .before .before .before .before .role-at .ensures) ∙ c .before .before .part .given .1) in
     omega (arith, g .more, c .before .before .before .before .before .loop-test .taken)
 
 loop-again : tie.Need-loop-again Inv-loop μ-loop
 loop-again c =
     let l = c .before .before .before .before .before .before .loop in
     let text = c .before .before .before .before .before .before .before .before .args .text .now in
-    let g = scan-goes (l .s) text (l .i) (part-stands text (l .i)) _ _ (sym (c .before .before .before .before .part-at .ensures) ∙ c .before .before .part .given .1) in
+    let g = scan-goes (l .s) text (l .i) (part-stands text (l .i)) _ _ (sym (c .before .before .before .before .role-at .ensures) ∙ c .before .before .part .given .1) in
     let e = c .scanned .ensures in
     (ap (λ (x : Scan). scanAt x text (c .before .before .part .given .0 .1 .0)) e ∙ sym (g .same) ∙ l .inv .0, omega (arith, ap (λ (x : Scan). x .opened) e, opened-most (l .s) (c .before .before .part .given .0 .0), l .inv .1, g .more))
 

@@ -10,10 +10,10 @@ use mathlib.Core.Path.{_≡_, sym, ap, _∙_}
 use lib.ListN.{length, drop}
 use Rattle.assembly_rules.specs.declared.Worth.{Worth}
 use Rattle.assembly_rules.specs.Text.{capitals, tokensOf}
-use Rattle.assembly_rules.specs.Sums.{Read, worth, combinedWorth, andThen, closeAt, termOf, sumOf}
+use Rattle.assembly_rules.specs.Sums.{Read, worth, combinedWorth, andThen, closeAt, termOf, sumWithin}
 use Rattle.assembler_text.specs.declared.values.Sign.{Sign}
 use Rattle.assembler_text.specs.Places.{between, labelsAt}
-use Rattle.assembler_text.specs.Reads.{seen}
+use Rattle.assembler_text.specs.Reads.{readAs}
 use Rattle.assembler_text.proofs.PlaceLaws.{run-lies, mark-tokens, run-tokens, no-tokens-there}
 use Rattle.assembler_text.proofs.ReadLaws.{goesFrom, term-none, term-run, term-other, term-deep, term-open, sum-fails, sum-starts, sum-stops, sum-over, sum-breaks, sum-goes, sum-less}
 use Rattle.assembler_text.proofs.values.sum.Reads as sum
@@ -50,7 +50,7 @@ abbrev term-below : ℕ → In 3 term-kinds.ps
 term-below t = and 3 term-kinds.ps (falls 3 term-kinds.ps _<_ μ-term t) term.Pre
 
 abbrev sum-Inv-loop : sum-lts.InvT-loop
-sum-Inv-loop text at depth places addresses next total₀ i₀ total i = goesFrom depth (labelsAt text places addresses) text total i ≡ sumOf depth (labelsAt text places addresses) (tokensOf (drop at text))
+sum-Inv-loop text at depth places addresses next total₀ i₀ total i = goesFrom depth (labelsAt text places addresses) text total i ≡ sumWithin depth (labelsAt text places addresses) (tokensOf (drop at text))
 
 abbrev sum-μ-loop : sum-lts.MeasureT-loop
 sum-μ-loop text at depth places addresses next total₀ i₀ total i = length (tokensOf (drop i text))
@@ -65,14 +65,14 @@ sum-returns : (t : ℕ) → sum-lts.Need-returns (
   sign-at-reads.Asked,
   sign-at-reads.Learnt,
 ) (sum-at t) sum.Post sum-Inv-loop sum-μ-loop
-unfolding seen
+unfolding readAs
 sum-returns t c =
     let a = c .before .before .before .before .before .before .before .args in
     let text = a .text .now in
     let labels = labelsAt text (a .places .now) (a .addresses .now) in
     let b = c .enum-told .given .0 .0 in
-    let e = ap (λ (g : Sign). termOf (a .depth) labels (tokensOf (drop (g .next) text))) (sym (c .before .before .before .lead-at .ensures)) ∙ sym (c .before .before .term .ensures) ∙ ap (seen text) (c .enum-told .given .1) in
-    ap (seen text) (c .enum-told .given .1) ∙ sym (sum-fails (a .depth) labels text (a .at) b e)
+    let e = ap (λ (g : Sign). termOf (a .depth) labels (tokensOf (drop (g .next) text))) (sym (c .before .before .before .lead-at .ensures)) ∙ sym (c .before .before .term .ensures) ∙ ap (readAs text) (c .enum-told .given .1) in
+    ap (readAs text) (c .enum-told .given .1) ∙ sym (sum-fails (a .depth) labels text (a .at) b e)
 
 sum-loop-holds : (t : ℕ) → sum-lts.Need-loop-holds (
   lead-at-reads.Asked,
@@ -84,14 +84,14 @@ sum-loop-holds : (t : ℕ) → sum-lts.Need-loop-holds (
   sign-at-reads.Asked,
   sign-at-reads.Learnt,
 ) (sum-at t) sum.Post sum-Inv-loop sum-μ-loop
-unfolding seen
+unfolding readAs
 sum-loop-holds t c =
     let a = c .before .before .before .before .before .before .before .before .before .args in
     let text = a .text .now in
     let labels = labelsAt text (a .places .now) (a .addresses .now) in
     let w = c .before .before .first .given .0 .0 in
     let next = c .before .before .first .given .0 .1 .0 in
-    let e = ap (λ (g : Sign). termOf (a .depth) labels (tokensOf (drop (g .next) text))) (sym (c .before .before .before .before .before .lead-at .ensures)) ∙ sym (c .before .before .before .before .term .ensures) ∙ ap (seen text) (c .before .before .first .given .1) in
+    let e = ap (λ (g : Sign). termOf (a .depth) labels (tokensOf (drop (g .next) text))) (sym (c .before .before .before .before .before .lead-at .ensures)) ∙ sym (c .before .before .before .before .term .ensures) ∙ ap (readAs text) (c .before .before .first .given .1) in
     ap (λ (x : Worth). goesFrom (a .depth) labels text x next) (c .combined .ensures ∙ ap (λ (g : Sign). combinedWorth (g .sign) (worth 0 true) w) (c .before .before .before .before .before .lead-at .ensures)) ∙ sum-starts (a .depth) labels text (a .at) w next e
 
 sum-returns-2 : (t : ℕ) → sum-lts.Need-returns-2 (
@@ -104,7 +104,7 @@ sum-returns-2 : (t : ℕ) → sum-lts.Need-returns-2 (
   sign-at-reads.Asked,
   sign-at-reads.Learnt,
 ) (sum-at t) sum.Post sum-Inv-loop sum-μ-loop
-unfolding seen
+unfolding readAs
 sum-returns-2 t c =
     let a = c .before .before .before .before .before .before .before .before .before .before .before .before .before .before .args in
     let text = a .text .now in
@@ -122,15 +122,15 @@ sum-returns-3 : (t : ℕ) → sum-lts.Need-returns-3 (
   sign-at-reads.Asked,
   sign-at-reads.Learnt,
 ) (sum-at t) sum.Post sum-Inv-loop sum-μ-loop
-unfolding seen
+unfolding readAs
 sum-returns-3 t c =
     let a = c .before .before .before .before .before .before .before .before .before .before .before .before .before .before .before .before .before .args in
     let text = a .text .now in
     let labels = labelsAt text (a .places .now) (a .addresses .now) in
     let l = c .before .before .before .before .before .before .before .loop in
     let b = c .enum-told2 .given .0 .0 in
-    let e = ap (λ (g : Sign). termOf (a .depth) labels (tokensOf (drop (g .next) text))) (sym (c .before .before .before .before .before .sign-at .ensures)) ∙ sym (c .before .before .term2 .ensures) ∙ ap (seen text) (c .enum-told2 .given .1) in
-    ap (seen text) (c .enum-told2 .given .1) ∙ sym (sum-breaks (a .depth) labels text (l .total) (l .i) (λ z. c .before .before .before .if1 .left (ap (λ (g : Sign). g .sign) (c .before .before .before .before .before .sign-at .ensures) ∙ z)) b e) ∙ l .inv
+    let e = ap (λ (g : Sign). termOf (a .depth) labels (tokensOf (drop (g .next) text))) (sym (c .before .before .before .before .before .sign-at .ensures)) ∙ sym (c .before .before .term2 .ensures) ∙ ap (readAs text) (c .enum-told2 .given .1) in
+    ap (readAs text) (c .enum-told2 .given .1) ∙ sym (sum-breaks (a .depth) labels text (l .total) (l .i) (λ z. c .before .before .before .if1 .left (ap (λ (g : Sign). g .sign) (c .before .before .before .before .before .sign-at .ensures) ∙ z)) b e) ∙ l .inv
 
 sum-loop-less : (t : ℕ) → sum-lts.Need-loop-less (
   lead-at-reads.Asked,
@@ -142,7 +142,7 @@ sum-loop-less : (t : ℕ) → sum-lts.Need-loop-less (
   sign-at-reads.Asked,
   sign-at-reads.Learnt,
 ) (sum-at t) sum.Post sum-Inv-loop sum-μ-loop
-unfolding seen
+unfolding readAs
 sum-loop-less t c =
     let a = c .before .before .before .before .before .before .before .before .before .before .before .before .before .before .before .before .before .before .before .args in
     let text = a .text .now in
@@ -150,7 +150,7 @@ sum-loop-less t c =
     let l = c .before .before .before .before .before .before .before .before .before .loop in
     let x = c .before .before .t .given .0 .0 in
     let behind = c .before .before .t .given .0 .1 .0 in
-    let e = ap (λ (g : Sign). termOf (a .depth) labels (tokensOf (drop (g .next) text))) (sym (c .before .before .before .before .before .before .before .sign-at .ensures)) ∙ sym (c .before .before .before .before .term2 .ensures) ∙ ap (seen text) (c .before .before .t .given .1) in
+    let e = ap (λ (g : Sign). termOf (a .depth) labels (tokensOf (drop (g .next) text))) (sym (c .before .before .before .before .before .before .before .sign-at .ensures)) ∙ sym (c .before .before .before .before .term2 .ensures) ∙ ap (readAs text) (c .before .before .t .given .1) in
     sum-less (a .depth) labels text (l .total) (l .i) (λ z. c .before .before .before .before .before .if1 .left (ap (λ (g : Sign). g .sign) (c .before .before .before .before .before .before .before .sign-at .ensures) ∙ z)) x behind e
 
 sum-loop-again : (t : ℕ) → sum-lts.Need-loop-again (
@@ -163,7 +163,7 @@ sum-loop-again : (t : ℕ) → sum-lts.Need-loop-again (
   sign-at-reads.Asked,
   sign-at-reads.Learnt,
 ) (sum-at t) sum.Post sum-Inv-loop sum-μ-loop
-unfolding seen
+unfolding readAs
 sum-loop-again t c =
     let a = c .before .before .before .before .before .before .before .before .before .before .before .before .before .before .before .before .before .before .before .args in
     let text = a .text .now in
@@ -171,7 +171,7 @@ sum-loop-again t c =
     let l = c .before .before .before .before .before .before .before .before .before .loop in
     let x = c .before .before .t .given .0 .0 in
     let behind = c .before .before .t .given .0 .1 .0 in
-    let e = ap (λ (g : Sign). termOf (a .depth) labels (tokensOf (drop (g .next) text))) (sym (c .before .before .before .before .before .before .before .sign-at .ensures)) ∙ sym (c .before .before .before .before .term2 .ensures) ∙ ap (seen text) (c .before .before .t .given .1) in
+    let e = ap (λ (g : Sign). termOf (a .depth) labels (tokensOf (drop (g .next) text))) (sym (c .before .before .before .before .before .before .before .sign-at .ensures)) ∙ sym (c .before .before .before .before .term2 .ensures) ∙ ap (readAs text) (c .before .before .t .given .1) in
     ap (λ (y : Worth). goesFrom (a .depth) labels text y behind) (c .combined2 .ensures ∙ ap (λ (g : Sign). combinedWorth (g .sign) (l .total) x) (c .before .before .before .before .before .before .before .sign-at .ensures)) ∙ sum-goes (a .depth) labels text (l .total) (l .i) (λ z. c .before .before .before .before .before .if1 .left (ap (λ (g : Sign). g .sign) (c .before .before .before .before .before .before .before .sign-at .ensures) ∙ z)) x behind e ∙ l .inv
 
 sum-returns-4 : (t : ℕ) → sum-lts.Need-returns-4 (
@@ -184,7 +184,7 @@ sum-returns-4 : (t : ℕ) → sum-lts.Need-returns-4 (
   sign-at-reads.Asked,
   sign-at-reads.Learnt,
 ) (sum-at t) sum.Post sum-Inv-loop sum-μ-loop
-unfolding seen
+unfolding readAs
 sum-returns-4 t c =
     let a = c .before .before .before .before .before .before .before .before .before .before .before .args in
     let text = a .text .now in
@@ -202,7 +202,7 @@ term-run-worth-requires : (t : ℕ) → term-lts.Need-run-worth-requires (
   close-reads.Asked,
   close-reads.Learnt,
 ) (term-at t) term.Post
-unfolding seen
+unfolding readAs
 term-run-worth-requires t c κs =
     let l = run-lies (c .before .before .before .before .before .before .before .args .text .now) (c .before .before .before .before .before .before .before .args .at) _ _ (sym (c .before .before .before .token-at .ensures) ∙ c .before .from .given .1) in
     (l .1, l .2)
@@ -217,7 +217,7 @@ term-returns : (t : ℕ) → term-lts.Need-returns (
   close-reads.Asked,
   close-reads.Learnt,
 ) (term-at t) term.Post
-unfolding seen
+unfolding readAs
 term-returns t c =
     let a = c .before .before .before .before .before .before .before .before .args in
     let text = a .text .now in
@@ -236,7 +236,7 @@ term-returns-2 : (t : ℕ) → term-lts.Need-returns-2 (
   close-reads.Asked,
   close-reads.Learnt,
 ) (term-at t) term.Post
-unfolding seen
+unfolding readAs
 term-returns-2 t c =
     let a = c .before .before .before .before .before .before .before .before .before .args in
     let text = a .text .now in
@@ -255,7 +255,7 @@ term-returns-3 : (t : ℕ) → term-lts.Need-returns-3 (
   close-reads.Asked,
   close-reads.Learnt,
 ) (term-at t) term.Post
-unfolding seen
+unfolding readAs
 term-returns-3 t c =
     let a = c .before .before .before .before .before .before .args in
     let text = a .text .now in
@@ -272,7 +272,7 @@ term-returns-4 : (t : ℕ) → term-lts.Need-returns-4 (
   close-reads.Asked,
   close-reads.Learnt,
 ) (term-at t) term.Post
-unfolding seen
+unfolding readAs
 term-returns-4 t c =
     let a = c .before .before .before .before .before .before .before .before .args in
     let text = a .text .now in
@@ -291,7 +291,7 @@ term-returns-5 : (t : ℕ) → term-lts.Need-returns-5 (
   close-reads.Asked,
   close-reads.Learnt,
 ) (term-at t) term.Post
-unfolding seen
+unfolding readAs
 term-returns-5 t c =
     let a = c .before .before .before .before .before .before .before .before .before .before .before .args in
     let text = a .text .now in

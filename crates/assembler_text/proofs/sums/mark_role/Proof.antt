@@ -1,8 +1,8 @@
--- `assembler_text::sums::mark_part` meets its contract.
+-- `assembler_text::sums::mark_role` meets its contract.
 -- Assumes nothing.
 use borrow.Author.Tests.{ne-eqb}
-use Rattle.assembler_text.proofs.sums.mark_part.Statement.{statement}
-use Rattle.assembler_text.proofs.sums.mark_part.Tie as tie
+use Rattle.assembler_text.proofs.sums.mark_role.Statement.{statement}
+use Rattle.assembler_text.proofs.sums.mark_role.Tie as tie
 
 returns : tie.Need-returns
 returns c = rw (c .match .keys1)
@@ -19,5 +19,5 @@ returns-4 c = rw (c .match .keys4)
 returns-5 : tie.Need-returns-5
 returns-5 c = let r = c .match .rest in simp (ne-eqb _ _ (r .1), ne-eqb _ _ (r .0 .1), ne-eqb _ _ (r .0 .0 .1), ne-eqb _ _ (r .0 .0 .0 .1))
 
-pub mark-part-spec : {M : Type 1} → statement M
-mark-part-spec = tie.close (tie.spec returns returns-2 returns-3 returns-4 returns-5)
+pub mark-role-spec : {M : Type 1} → statement M
+mark-role-spec = tie.close (tie.spec returns returns-2 returns-3 returns-4 returns-5)
