@@ -11,8 +11,8 @@ use Rattle.assembly_rules.specs.Text.Token.{run, mark}
 use Rattle.assembly_rules.specs.Numbers.{digitValue, isRadix, radixOf, lastOf, butLast, digitsFrom, constantDigits, constantOf}
 use Rattle.assembly_rules.specs.Sums.{indexIn, registerNumber, isTerm, roleOf, scanned, scanFrom, isSum, depthOf, label, labelWorth, worth, combinedWorth, restWith, sumWith, runRead, termBy, termOf, sumWithin, sumWorth}
 
--- a line with a label, blanks, small letters and a comment
-line-tokens : tokensOf (ascii "here: mov [Ga + ix+],b_1 ; on") ≡ run (ascii "HERE") ∷ mark 58 ∷ run (ascii "MOV") ∷ mark 91 ∷ run (ascii "GA") ∷ mark 43 ∷ run (ascii "IX") ∷ mark 43 ∷ mark 93 ∷ mark 44 ∷ run (ascii "B_1") ∷ []
+-- a line with a label, blanks of each kind, small letters and a comment
+line-tokens : tokensOf (ascii "here:\tmov [Ga + ix+],b_1\r ; on") ≡ run (ascii "HERE") ∷ mark 58 ∷ run (ascii "MOV") ∷ mark 91 ∷ run (ascii "GA") ∷ mark 43 ∷ run (ascii "IX") ∷ mark 43 ∷ mark 93 ∷ mark 44 ∷ run (ascii "B_1") ∷ []
 unfolding tokensOf begunBy inFrontOf isRun isBlank endsLine isDigit isCapital capitalOf
 line-tokens = refl
 

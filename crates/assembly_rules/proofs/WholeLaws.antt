@@ -1,7 +1,7 @@
 -- A whole text: what is said depends on the tokens alone; labels are few and no two alike; a refusal stores nothing and names the first line that has a number.
 -- Assumes nothing.
 use mathlib.Core.Path.{_≡_, refl, ap, _∙_}
-use mathlib.Core.Bool.{Bool, true, false, not, false≢true}
+use mathlib.Core.Bool.{Bool, true, false, not, _&&_, false≢true}
 use mathlib.Core.List.{List, [], _∷_, _++_}
 use mathlib.Core.Logic.{_⊎_, inl, inr}
 use Prim.Native.Nat.{ℕ, suc, _+_, _%_, _≤_, _<_}
@@ -33,6 +33,15 @@ pub same-said : {xs ys : List (List ℕ)} → SameTokens xs ys → saidIn xs ≡
 unfolding saidIn
 same-said noLine = refl
 same-said (oneMore {a = a} {b = b} {xs = xs} {ys = ys} e later) = ap (λ (s : Said). s ∷ saidIn xs) (said-same a b e) ∙ ap (λ (l : List Said). saidBy b ∷ l) (same-said later)
+
+-- no two labels have one name
+pub kept-once : (kept : List Label) (name : List ℕ) → labelWorth kept name .known ≡ true → mayKeep kept name ≡ false
+unfolding mayKeep
+kept-once kept name h = rw h (go (leb (length name) 12))
+  where
+    go : (b : Bool) → b && false ≡ false
+    go true = refl
+    go false = refl
 
 may-few : (kept : List Label) (name : List ℕ) → mayKeep kept name ≡ true → length kept < 64
 unfolding mayKeep

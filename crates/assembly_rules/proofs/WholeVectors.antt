@@ -1,15 +1,18 @@
 -- Whole texts assembled: lines of the listing at 1000h, labels, each number with its line.
 -- Assumes nothing.
+use mathlib.Core.Bool.{Bool, true, false}
 use mathlib.Core.Path.{_≡_, refl}
 use mathlib.Core.List.{List, [], _∷_}
 use Prim.Native.String.{String}
 use Rattle.listing_rules.specs.Characters.{ascii, sameText}
-use Rattle.listing_rules.specs.Entries.{entries}
+use Rattle.listing_rules.specs.Entries.{Kind, entries}
+use Rattle.listing_rules.specs.Entries.Kind.{'R, 'G, 'P}
 use Rattle.listing_rules.specs.Back.{digitsIn, rrrIn, mmIn, aaIn, pairFrom}
 use Rattle.assembly_rules.specs.Text.{capitalOf, isDigit, isCapital, isRun, isBlank, endsLine, inFrontOf, begunBy, tokensOf, cutAt, linesIn}
 use Rattle.assembly_rules.specs.Numbers.{digitValue, isRadix, radixOf, lastOf, butLast, digitsFrom, constantDigits, constantOf}
 use Rattle.assembly_rules.specs.Sums.{Label, label, indexIn, registerNumber, isTerm, roleOf, scanned, scanFrom, isSum, depthOf, labelWorth, combinedWorth, restWith, sumWith, runRead, termBy, termOf, sumWithin, sumWorth}
 use Rattle.assembly_rules.specs.Operands.{closedMemory, endedMemory, indexedMemory, memoryBehind, memoryFrom, operandFrom, operandsFrom, takes, takesAll, hasWord, entryIn, isShallow, allShallow}
+use Rattle.assembly_rules.specs.Operands.Written.{register}
 use Rattle.assembly_rules.specs.Statements.{headedBy, allSums, allLow, itemsFrom, wordStatement, statementOf, kindsSize, offsetsSize, memoriesIn, statementSize, isByte, reachTo, mayStand, operandWorth, namesKnown, allStand, itemsKnown, itemsStand, statementNumber, pairBytes, listedAs, listedAll, allOffsets, allNumbers, moveBytes, instructionBytes, itemsBytes, statementBytes}
 use Rattle.assembly_rules.specs.Assembly.{saidBy, saidIn, isReserved, mayKeep, keptWith, labelsFrom, labelStands, lineNumber, Assembled, assembled, assembledFrom, assembleOf}
 
@@ -77,3 +80,14 @@ addresses-told :
     × (labelsAtZero "X: FOO\nX: NOP\nY:" ≡ label (ascii "X") 0 ∷ label (ascii "Y") 2 ∷ [])
 unfolding assembleOf assembledFrom lineNumber labelStands labelsFrom keptWith mayKeep isReserved saidIn saidBy statementBytes itemsBytes instructionBytes moveBytes allNumbers allOffsets listedAll listedAs pairBytes statementNumber itemsStand itemsKnown allStand namesKnown operandWorth mayStand reachTo isByte statementSize memoriesIn offsetsSize kindsSize statementOf wordStatement itemsFrom allLow allSums headedBy allShallow isShallow entryIn hasWord takesAll takes operandsFrom operandFrom memoryFrom memoryBehind indexedMemory endedMemory closedMemory sumWorth sumWithin termOf termBy runRead sumWith restWith combinedWorth labelWorth depthOf isSum scanFrom scanned roleOf isTerm registerNumber indexIn constantOf constantDigits digitsFrom butLast lastOf radixOf isRadix digitValue linesIn cutAt tokensOf begunBy inFrontOf endsLine isBlank isRun isCapital isDigit capitalOf pairFrom aaIn mmIn rrrIn digitsIn entries sameText
 addresses-told = (refl, refl, refl, refl)
+
+-- the registers GA GB GC BC TP IX CC MC that R, G and P take
+abbrev takenBy : Kind → List Bool
+takenBy k = takes k (register 0) ∷ takes k (register 1) ∷ takes k (register 2) ∷ takes k (register 3) ∷ takes k (register 4) ∷ takes k (register 5) ∷ takes k (register 6) ∷ takes k (register 7) ∷ []
+
+registers-taken :
+    (takenBy 'R ≡ true ∷ true ∷ true ∷ true ∷ true ∷ true ∷ true ∷ true ∷ [])
+    × (takenBy 'G ≡ true ∷ true ∷ true ∷ true ∷ true ∷ true ∷ false ∷ true ∷ [])
+    × (takenBy 'P ≡ true ∷ true ∷ true ∷ false ∷ true ∷ false ∷ false ∷ false ∷ [])
+unfolding takes
+registers-taken = (refl, refl, refl)
