@@ -14,7 +14,7 @@ use Rattle.listing_rules.specs.Characters.{sameText}
 use Rattle.assembly_rules.specs.declared.Constant.{Constant}
 use Rattle.assembly_rules.specs.declared.Constant.the-variants.{Value, NoConstant}
 use Rattle.assembly_rules.specs.declared.Worth.{Worth}
-use Rattle.assembly_rules.specs.Text.{capitalOf, capitals, isDigit, isRun, begunBy, runIn}
+use Rattle.assembly_rules.specs.Text.{capitalOf, capitals, isDigit, isRun, begunBy, leadingRun}
 use Rattle.assembly_rules.specs.Numbers.{digitValue, isRadix, radixOf, lastOf, butLast, digitsFrom, constantDigits, constantOf}
 use Rattle.assembly_rules.specs.Sums.{indexIn, registerNumber, beginsDigit, isValue, isTerm, label, Label, worth, labelWorth}
 use Rattle.assembly_rules.proofs.TextLaws.{run-none, run-more}
@@ -47,20 +47,20 @@ module _ (radix value : ℕ) (cs : List ℕ) (i : ℕ) where
 
 -- a name against the run that characters begin with
 abbrev pub sameFrom : List ℕ → List ℕ → ℕ → Bool
-sameFrom chars name i = sameText (runIn (drop i chars)) (capitals (drop i name))
+sameFrom chars name i = sameText (leadingRun (drop i chars)) (capitals (drop i name))
 
 module _ (chars name : List ℕ) (i : ℕ) where
-  run-here : i < length chars → isRun (getD chars i 0) ≡ true → runIn (drop i chars) ≡ capitalOf (getD chars i 0) ∷ runIn (drop (i + 1) chars)
-  run-here h k = ap runIn (from-here chars i h) ∙ run-more (getD chars i 0) (drop (i + 1) chars) k
+  run-here : i < length chars → isRun (getD chars i 0) ≡ true → leadingRun (drop i chars) ≡ capitalOf (getD chars i 0) ∷ leadingRun (drop (i + 1) chars)
+  run-here h k = ap leadingRun (from-here chars i h) ∙ run-more (getD chars i 0) (drop (i + 1) chars) k
 
-  no-run-here : i < length chars → isRun (getD chars i 0) ≡ false → runIn (drop i chars) ≡ []
-  no-run-here h k = ap runIn (from-here chars i h) ∙ run-none (getD chars i 0) (drop (i + 1) chars) k
+  no-run-here : i < length chars → isRun (getD chars i 0) ≡ false → leadingRun (drop i chars) ≡ []
+  no-run-here h k = ap leadingRun (from-here chars i h) ∙ run-none (getD chars i 0) (drop (i + 1) chars) k
 
-  run-over : length chars ≤ i → runIn (drop i chars) ≡ []
-  unfolding runIn begunBy
-  run-over h = ap runIn (drop-of-length-le chars h)
+  run-over : length chars ≤ i → leadingRun (drop i chars) ≡ []
+  unfolding leadingRun begunBy
+  run-over h = ap leadingRun (drop-of-length-le chars h)
 
-  pub name-longer : i < length name → runIn (drop i chars) ≡ [] → sameFrom chars name i ≡ false
+  pub name-longer : i < length name → leadingRun (drop i chars) ≡ [] → sameFrom chars name i ≡ false
   unfolding sameText
   name-longer h k = ap (λ (x : List ℕ). sameText x (capitals (drop i name))) k ∙ ap (sameText []) (capitals-here name i h)
 
@@ -72,7 +72,7 @@ module _ (chars name : List ℕ) (i : ℕ) where
 
   both-here : i < length name → i < length chars → isRun (getD chars i 0) ≡ true → sameFrom chars name i ≡ eqb (capitalOf (getD chars i 0)) (capitalOf (getD name i 0)) && sameFrom chars name (i + 1)
   unfolding sameText
-  both-here h k l = ap (λ (x : List ℕ). sameText x (capitals (drop i name))) (run-here k l) ∙ ap (sameText (capitalOf (getD chars i 0) ∷ runIn (drop (i + 1) chars))) (capitals-here name i h)
+  both-here h k l = ap (λ (x : List ℕ). sameText x (capitals (drop i name))) (run-here k l) ∙ ap (sameText (capitalOf (getD chars i 0) ∷ leadingRun (drop (i + 1) chars))) (capitals-here name i h)
 
   pub name-differs : i < length name → i < length chars → isRun (getD chars i 0) ≡ true → (capitalOf (getD chars i 0) ≡ capitalOf (getD name i 0) → ⊥) → sameFrom chars name i ≡ false
   name-differs h k l d = both-here h k l ∙ rw (ne-eqb (capitalOf (getD chars i 0)) (capitalOf (getD name i 0)) d)
@@ -82,15 +82,15 @@ module _ (chars name : List ℕ) (i : ℕ) where
 
   pub name-ended : length name ≤ i → i < length chars → sameFrom chars name i ≡ not (isRun (getD chars i 0))
   unfolding sameText
-  name-ended h k = ap (sameText (runIn (drop i chars))) (capitals-none name i h) ∙ go (isRun (getD chars i 0)) refl
+  name-ended h k = ap (sameText (leadingRun (drop i chars))) (capitals-none name i h) ∙ go (isRun (getD chars i 0)) refl
     where
-      go : (b : Bool) → isRun (getD chars i 0) ≡ b → sameText (runIn (drop i chars)) [] ≡ not b
+      go : (b : Bool) → isRun (getD chars i 0) ≡ b → sameText (leadingRun (drop i chars)) [] ≡ not b
       go true l = ap (λ (x : List ℕ). sameText x []) (run-here k l)
       go false l = ap (λ (x : List ℕ). sameText x []) (no-run-here k l)
 
   pub both-ended : length name ≤ i → length chars ≤ i → sameFrom chars name i ≡ true
   unfolding sameText
-  both-ended h k = ap (sameText (runIn (drop i chars))) (capitals-none name i h) ∙ ap (λ (x : List ℕ). sameText x []) (run-over k)
+  both-ended h k = ap (sameText (leadingRun (drop i chars))) (capitals-none name i h) ∙ ap (λ (x : List ℕ). sameText x []) (run-over k)
 
 -- labels one after the other
 abbrev pub worthFrom : List ℕ → List ℕ → List ℕ → List ℕ → ℕ → Worth

@@ -15,7 +15,7 @@ use Rattle.ground_rules.specs.Choice.{pick}
 use Rattle.assembly_rules.specs.declared.Role.{Role}
 use Rattle.assembly_rules.specs.declared.Role.the-variants.{Term, Plus, Minus, Opens, Closes, Other}
 use Rattle.assembly_rules.specs.declared.Scan.{Scan}
-use Rattle.assembly_rules.specs.Text.{capitalOf, capitals, isRun, isBlank, endsLine, Token, begunBy, tokensOf, runIn, beforeComma}
+use Rattle.assembly_rules.specs.Text.{capitalOf, capitals, isRun, isBlank, endsLine, Token, begunBy, tokensOf, leadingRun, beforeComma}
 use Rattle.assembly_rules.specs.Text.Token.{run, mark}
 use Rattle.assembly_rules.specs.Sums.{isTerm, markRole, roleOf, greater, scan, noSum, minus?, opens?, scanned, scanFrom, isSign, beginsSign, beginsMinus, firstSign, pastMinus}
 use Rattle.assembly_rules.proofs.TextLaws.{tokens-blank, tokens-end, tokens-mark, run-none, run-more, rest-more, no-run}
@@ -78,18 +78,18 @@ tokens-empty : tokensOf [] ≡ []
 unfolding tokensOf begunBy
 tokens-empty = refl
 
-run-empty : runIn [] ≡ []
-unfolding runIn begunBy
+run-empty : leadingRun [] ≡ []
+unfolding leadingRun begunBy
 run-empty = refl
 
 -- the run that characters begin with, and the tokens behind it
-run-lead : (cs : List ℕ) → (runIn cs ≡ capitals (take (leading isRun cs) cs)) × (begunBy cs .rest ≡ tokensOf (drop (leading isRun cs) cs))
+run-lead : (cs : List ℕ) → (leadingRun cs ≡ capitals (take (leading isRun cs) cs)) × (begunBy cs .rest ≡ tokensOf (drop (leading isRun cs) cs))
 unfolding leading capitals
 run-lead [] = (run-empty, no-run [] run-empty)
 run-lead (c ∷ cs) = go (isRun c) refl (run-lead cs)
   where
-    go : (b : Bool) → isRun c ≡ b → (runIn cs ≡ capitals (take (leading isRun cs) cs)) × (begunBy cs .rest ≡ tokensOf (drop (leading isRun cs) cs))
-        → (runIn (c ∷ cs) ≡ capitals (take (pick b (suc (leading isRun cs)) 0) (c ∷ cs))) × (begunBy (c ∷ cs) .rest ≡ tokensOf (drop (pick b (suc (leading isRun cs)) 0) (c ∷ cs)))
+    go : (b : Bool) → isRun c ≡ b → (leadingRun cs ≡ capitals (take (leading isRun cs) cs)) × (begunBy cs .rest ≡ tokensOf (drop (leading isRun cs) cs))
+        → (leadingRun (c ∷ cs) ≡ capitals (take (pick b (suc (leading isRun cs)) 0) (c ∷ cs))) × (begunBy (c ∷ cs) .rest ≡ tokensOf (drop (pick b (suc (leading isRun cs)) 0) (c ∷ cs)))
     go true e later = (run-more c cs e ∙ ap (λ (x : List ℕ). capitalOf c ∷ x) (later .0), rest-more c cs e ∙ later .1)
     go false e later = let n = run-none c cs e in (n, no-run (c ∷ cs) n)
 
@@ -109,14 +109,14 @@ Lies text at (Mark c next) = (at < next) × (next ≤ length text)
 part-take : (from n : ℕ) (text : List ℕ) → between text from (from + n) ≡ take n (drop from text)
 part-take from n text = let e : from + n - from ≡ n = omega arith in ap (λ (k : ℕ). take k (drop from text)) e
 
-first-run : (cs : List ℕ) (c : ℕ) (more : List ℕ) → runIn cs ≡ c ∷ more → (front : List ℕ) (rest : List Token) → runIn cs ≡ front → begunBy cs .rest ≡ rest → tokensOf cs ≡ run front ∷ rest
-unfolding tokensOf runIn
+first-run : (cs : List ℕ) (c : ℕ) (more : List ℕ) → leadingRun cs ≡ c ∷ more → (front : List ℕ) (rest : List Token) → leadingRun cs ≡ front → begunBy cs .rest ≡ rest → tokensOf cs ≡ run front ∷ rest
+unfolding tokensOf leadingRun
 first-run cs c more e front rest f g = rw (e, g) (ap (λ (x : List ℕ). run x ∷ rest) (sym e ∙ f))
 
 -- the token that a run of characters begins
 tokens-run : (cs : List ℕ) → isRun (getD cs 0 0) ≡ true → 0 < length cs → tokensOf cs ≡ run (capitals (take (leading isRun cs) cs)) ∷ tokensOf (drop (leading isRun cs) cs)
 tokens-run [] h l = absurd (omega arith)
-tokens-run (c ∷ cs) h l = let r = run-lead (c ∷ cs) in first-run (c ∷ cs) (capitalOf c) (runIn cs) (run-more c cs h) (capitals (take (leading isRun (c ∷ cs)) (c ∷ cs))) (tokensOf (drop (leading isRun (c ∷ cs)) (c ∷ cs))) (r .0) (r .1)
+tokens-run (c ∷ cs) h l = let r = run-lead (c ∷ cs) in first-run (c ∷ cs) (capitalOf c) (leadingRun cs) (run-more c cs h) (capitals (take (leading isRun (c ∷ cs)) (c ∷ cs))) (tokensOf (drop (leading isRun (c ∷ cs)) (c ∷ cs))) (r .0) (r .1)
 
 run-some : (cs : List ℕ) → isRun (getD cs 0 0) ≡ true → 0 < length cs → 0 < leading isRun cs
 unfolding leading

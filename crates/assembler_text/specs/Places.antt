@@ -7,7 +7,7 @@ use lib.ListN.{length, getD, take, drop}
 use Rattle.ground_rules.specs.Choice.{pick}
 use Rattle.assembly_rules.specs.declared.Role.{Role}
 use Rattle.assembly_rules.specs.declared.Role.the-variants.{Term, Other}
-use Rattle.assembly_rules.specs.Text.{capitals, isRun, isBlank, endsLine, runIn}
+use Rattle.assembly_rules.specs.Text.{capitals, isRun, isBlank, endsLine, leadingRun}
 use Rattle.assembly_rules.specs.Sums.{Label, label, isTerm, markRole}
 use Rattle.assembler_text.specs.declared.tokens.TokenFound.{TokenFound}
 use Rattle.assembler_text.specs.declared.tokens.TokenFound.the-variants.{Nothing, Run, Mark}
@@ -77,7 +77,7 @@ leadAt text at = pick (eqb (signAt text at .sign) 45) (signAt text at) (sign 43 
 
 -- a label's name by its place
 unfoldable pub nameAt : List ℕ → ℕ → List ℕ
-nameAt text place = runIn (drop place text)
+nameAt text place = leadingRun (drop place text)
 
 -- the labels by their places and addresses
 unfoldable pub labelsAt : List ℕ → List ℕ → List ℕ → List Label

@@ -3,13 +3,13 @@ use crate::characters;
 use assembly_rules::Worth;
 ghost use mathlib.Core.Path.{_≡_};
 ghost use Rattle.listing_rules.specs.Characters.{sameText};
-ghost use Rattle.assembly_rules.specs.Text.{capitals, runIn};
+ghost use Rattle.assembly_rules.specs.Text.{capitals, leadingRun};
 ghost use Rattle.assembly_rules.specs.Sums.{labelWorth};
 ghost use Rattle.assembler_text.specs.Places.{nameAt, labelsAt};
 
 // Whether the run that some characters begin with is a name, in whatever letters.
 fn is_name(chars: &[u8], name: &[u8]) -> bool
-    ensures { λ r. ⌜ r ≡ sameText (runIn (now (chars .entry))) (capitals (now (name .entry))) ⌝ }
+    ensures { λ r. ⌜ r ≡ sameText (leadingRun (now (chars .entry))) (capitals (now (name .entry))) ⌝ }
 {
     let mut i: usize = 0;
     while i < name.len() {

@@ -8,7 +8,7 @@ use native.Mathlib.Omega.{arith}
 use lib.Dec.{eqb, leb}
 use borrow.Author.Tests.{eqb-true, leb-true, le-leb, lt-leb}
 use Rattle.ground_rules.specs.Choice.{pick}
-use Rattle.assembly_rules.specs.Text.{capitalOf, capitals, isDigit, isCapital, isRun, isBlank, endsLine, Begun, begun, allOf, inFrontOf, begunBy, tokensOf, runIn}
+use Rattle.assembly_rules.specs.Text.{capitalOf, capitals, isDigit, isCapital, isRun, isBlank, endsLine, Begun, begun, allOf, inFrontOf, begunBy, tokensOf, leadingRun}
 use Rattle.assembly_rules.specs.Text.Token.{run, mark}
 
 -- a blank belongs to no run and ends no line
@@ -48,12 +48,12 @@ unfolding inFrontOf
 front-more c b h = rw h
 
 -- a character that belongs to no run begins none
-pub run-none : (c : ℕ) (cs : List ℕ) → isRun c ≡ false → runIn (c ∷ cs) ≡ []
-unfolding runIn begunBy
+pub run-none : (c : ℕ) (cs : List ℕ) → isRun c ≡ false → leadingRun (c ∷ cs) ≡ []
+unfolding leadingRun begunBy
 run-none c cs h = front-none c (begunBy cs) h
 
-pub run-more : (c : ℕ) (cs : List ℕ) → isRun c ≡ true → runIn (c ∷ cs) ≡ capitalOf c ∷ runIn cs
-unfolding runIn begunBy
+pub run-more : (c : ℕ) (cs : List ℕ) → isRun c ≡ true → leadingRun (c ∷ cs) ≡ capitalOf c ∷ leadingRun cs
+unfolding leadingRun begunBy
 run-more c cs h = front-more c (begunBy cs) h
 
 pub rest-more : (c : ℕ) (cs : List ℕ) → isRun c ≡ true → begunBy (c ∷ cs) .rest ≡ begunBy cs .rest
@@ -61,8 +61,8 @@ unfolding begunBy inFrontOf
 rest-more c cs h = rw h
 
 -- where no run begins, the tokens are those behind it
-pub no-run : (cs : List ℕ) → runIn cs ≡ [] → begunBy cs .rest ≡ tokensOf cs
-unfolding runIn tokensOf
+pub no-run : (cs : List ℕ) → leadingRun cs ≡ [] → begunBy cs .rest ≡ tokensOf cs
+unfolding leadingRun tokensOf
 no-run cs h = rw h
 
 -- a small letter belongs to runs, and so does its capital, which has no other capital

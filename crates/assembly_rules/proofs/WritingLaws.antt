@@ -4,7 +4,7 @@ use mathlib.Core.Path.{_≡_, refl, sym, ap, subst, _∙_}
 use mathlib.Core.Bool.{Bool, true, false, _&&_, false≢true}
 use mathlib.Core.List.{List, [], _∷_, _++_}
 use Prim.Native.Nat.{ℕ}
-use Rattle.assembly_rules.specs.Text.{capitalOf, capitals, isRun, isBlank, endsLine, Token, begunBy, tokensOf, runIn}
+use Rattle.assembly_rules.specs.Text.{capitalOf, capitals, isRun, isBlank, endsLine, Token, begunBy, tokensOf, leadingRun}
 use Rattle.assembly_rules.specs.Text.Token.{run, mark}
 use Rattle.assembly_rules.proofs.TextLaws.{tokens-blank, tokens-end, tokens-mark, run-none, run-more, rest-more, no-run}
 
@@ -33,21 +33,21 @@ pub both-right : (a b : Bool) → a && b ≡ true → b ≡ true
 both-right true b h = h
 both-right false b h = absurd (false≢true h)
 
-run-empty : runIn [] ≡ []
-unfolding runIn begunBy
+run-empty : leadingRun [] ≡ []
+unfolding leadingRun begunBy
 run-empty = refl
 
 tokens-empty : tokensOf [] ≡ []
 unfolding tokensOf begunBy
 tokens-empty = refl
 
-none-begins : (cs : List ℕ) → beginsRun cs ≡ false → runIn cs ≡ []
+none-begins : (cs : List ℕ) → beginsRun cs ≡ false → leadingRun cs ≡ []
 unfolding beginsRun
 none-begins [] h = run-empty
 none-begins (c ∷ cs) h = run-none c cs h
 
 -- a run in front of what begins none
-front-run : (r cs : List ℕ) → allRun r ≡ true → beginsRun cs ≡ false → (runIn (r ++ cs) ≡ capitals r) × (begunBy (r ++ cs) .rest ≡ tokensOf cs)
+front-run : (r cs : List ℕ) → allRun r ≡ true → beginsRun cs ≡ false → (leadingRun (r ++ cs) ≡ capitals r) × (begunBy (r ++ cs) .rest ≡ tokensOf cs)
 unfolding allRun capitals
 front-run [] cs h k = let n = none-begins cs k in (n, no-run cs n)
 front-run (c ∷ r) cs h k =
@@ -56,7 +56,7 @@ front-run (c ∷ r) cs h k =
     (run-more c (r ++ cs) a ∙ ap (λ (x : List ℕ). capitalOf c ∷ x) (later .0), rest-more c (r ++ cs) a ∙ later .1)
 
 tokens-several : (c : ℕ) (r cs : List ℕ) → allRun (c ∷ r) ≡ true → beginsRun cs ≡ false → tokensOf ((c ∷ r) ++ cs) ≡ run (capitals (c ∷ r)) ∷ tokensOf cs
-unfolding tokensOf runIn capitals
+unfolding tokensOf leadingRun capitals
 tokens-several c r cs h k = let f = front-run (c ∷ r) cs h k in rw (f .0, f .1)
 
 -- the tokens of what writes some are these
@@ -71,8 +71,8 @@ empty-writes : Writes (begunBy [] .rest) []
 unfolding begunBy
 empty-writes = nothing
 
-run-first : (cs : List ℕ) (c : ℕ) (r : List ℕ) → runIn cs ≡ capitals (c ∷ r) → run (capitals (c ∷ r)) ∷ begunBy cs .rest ≡ tokensOf cs
-unfolding tokensOf runIn capitals
+run-first : (cs : List ℕ) (c : ℕ) (r : List ℕ) → leadingRun cs ≡ capitals (c ∷ r) → run (capitals (c ∷ r)) ∷ begunBy cs .rest ≡ tokensOf cs
+unfolding tokensOf leadingRun capitals
 run-first cs c r e = rw e
 
 -- characters as a run and what writes the tokens behind it
@@ -102,12 +102,12 @@ split-writes cs s = go (s .front) (s .text) (s .runs)
   where
     go : (f : List ℕ) → cs ≡ f ++ s .later → allRun f ≡ true → Writes (tokensOf cs) cs
     go [] e r =
-        let n : runIn cs ≡ [] = ap runIn e ∙ none-begins (s .later) (s .ends) in
+        let n : leadingRun cs ≡ [] = ap leadingRun e ∙ none-begins (s .later) (s .ends) in
         let w : Writes (tokensOf cs) (s .later) = subst (λ (x : List Token). Writes x (s .later)) (no-run cs n) (s .writes) in
         subst (λ (x : List ℕ). Writes (tokensOf cs) x) (sym e) w
     go (c ∷ r) e h =
         let f = front-run (c ∷ r) (s .later) h (s .ends) in
-        let t : run (capitals (c ∷ r)) ∷ begunBy cs .rest ≡ tokensOf cs = run-first cs c r (ap runIn e ∙ f .0) in
+        let t : run (capitals (c ∷ r)) ∷ begunBy cs .rest ≡ tokensOf cs = run-first cs c r (ap leadingRun e ∙ f .0) in
         subst (λ (x : List Token). Writes x cs) t (subst (λ (x : List ℕ). Writes (run (capitals (c ∷ r)) ∷ begunBy cs .rest) x) (sym e) (several c r h (s .ends) (s .writes)))
 
 split-one : (c : ℕ) (cs : List ℕ) → isRun c ≡ false → Writes (tokensOf cs) cs → Split (c ∷ cs)

@@ -69,8 +69,8 @@ unfoldable pub tokensOf : List ℕ → List Token
 tokensOf cs = allOf (begunBy cs)
 
 -- the run that some characters begin with, none where they begin with another character
-unfoldable pub runIn : List ℕ → List ℕ
-runIn cs = begunBy cs .front
+unfoldable pub leadingRun : List ℕ → List ℕ
+leadingRun cs = begunBy cs .front
 
 -- a list cut wherever a test holds; what follows the last cut is a part too
 abbrev pub ahead : {A : Type 0} → A → List (List A) → List (List A)
