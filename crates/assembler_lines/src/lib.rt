@@ -1,0 +1,4 @@
+// What a line of an assembly says: its label, and what stands behind it.
+
+// Lines by the places of their parts.
+pub mod bodies;
