@@ -8,3 +8,4 @@ pub mod AssemblyVectors
 pub mod SizeLaws
 pub mod WholeLaws
 pub mod WholeVectors
+pub mod LabelLaws
