@@ -11,20 +11,20 @@ use Rattle.assembly_rules.specs.Statements.{statementSize}
 use Rattle.assembly_rules.specs.Assembly.{Said, mayKeep, keptWith, labelsFrom}
 
 -- a list that goes on behind another
-abbrev pub GoesOn : List Label → List Label → Type 0
-GoesOn kept labels = (more : List Label) × (labels ≡ kept ++ more)
+abbrev pub KeptFirst : List Label → List Label → Type 0
+KeptFirst kept labels = (more : List Label) × (labels ≡ kept ++ more)
 
-kept-grows : (kept : List Label) (address : ℕ) (name : List ℕ) → GoesOn kept (keptWith kept address name)
+kept-grows : (kept : List Label) (address : ℕ) (name : List ℕ) → KeptFirst kept (keptWith kept address name)
 unfolding keptWith
 kept-grows kept address [] = ([], sym (append-nil kept))
 kept-grows kept address (c ∷ cs) = go (mayKeep kept (c ∷ cs))
   where
-    go : (b : Bool) → GoesOn kept (pick b (kept ++ (label (c ∷ cs) address ∷ [])) kept)
+    go : (b : Bool) → KeptFirst kept (pick b (kept ++ (label (c ∷ cs) address ∷ [])) kept)
     go true = (label (c ∷ cs) address ∷ [], refl)
     go false = ([], sym (append-nil kept))
 
 -- the labels of some lines begin with those that were kept before
-pub labels-grow : (said : List Said) (kept : List Label) (address : ℕ) → GoesOn kept (labelsFrom kept address said)
+pub labels-grow : (said : List Said) (kept : List Label) (address : ℕ) → KeptFirst kept (labelsFrom kept address said)
 unfolding labelsFrom
 labels-grow [] kept address = ([], sym (append-nil kept))
 labels-grow (s ∷ more) kept address =

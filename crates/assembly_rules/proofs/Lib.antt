@@ -9,3 +9,4 @@ pub mod SizeLaws
 pub mod WholeLaws
 pub mod WholeVectors
 pub mod LabelLaws
+pub mod PassLaws

@@ -1,0 +1,144 @@
+-- Assembling in passes: the first line that has a number, found from the count of bytes before alone; then the bytes.
+-- Assumes nothing.
+use mathlib.Core.Path.{_≡_, refl, sym, ap, _∙_}
+use mathlib.Core.Bool.{Bool, true, false, _&&_, false≢true}
+use mathlib.Core.List.{List, [], _∷_, _++_, append-assoc, append-nil}
+use mathlib.Core.Logic.{_⊎_, inl, inr}
+use Prim.Native.Nat.{ℕ, suc, _+_, _%_, _≤_}
+use native.Mathlib.Omega.{arith}
+use lib.Dec.{eqb, ltb, leb}
+use lib.ListN.{length, length-append}
+use borrow.Author.Tests.{eqb-true, eqb-false, ltb-false, leb-true}
+use Rattle.ground_rules.specs.Choice.{pick}
+use Rattle.assembly_rules.specs.Text.{tokensOf}
+use Rattle.assembly_rules.specs.Sums.{Label}
+use Rattle.assembly_rules.specs.Statements.{headedBy, statementSize, statementNumber, statementBytes}
+use Rattle.assembly_rules.specs.Assembly.{Said, saidBy, saidIn, keptWith, labelStands, pastRoom, lineNumber, Assembled, assembled, assembledFrom}
+use Rattle.assembly_rules.proofs.SizeLaws.{Sized, statement-sized}
+
+-- the number of the first line that has one, and that line; 0 and 0 where none has
+pub record Failed : Type 0 where
+  pub number : ℕ
+  pub line : ℕ
+
+abbrev pub failed : ℕ → ℕ → Failed
+failed number line = record { number = number; line = line }
+
+unfoldable pub failedFrom : List Label → List Label → ℕ → ℕ → ℕ → ℕ → List Said → Failed
+failedFrom labels kept first room line before [] = failed 0 0
+failedFrom labels kept first room line before (s ∷ more) =
+    let address = (first + before) % 65536 in
+    let n = lineNumber labels kept address before room s in
+    pick (eqb n 0) (failedFrom labels (keptWith kept address (s .name)) first room (suc line) (before + statementSize (s .statement)) more) (failed n line)
+
+-- the bytes of the lines from one on, one line after the other
+unfoldable pub bytesFrom : List Label → ℕ → ℕ → List Said → List ℕ
+bytesFrom labels first before [] = []
+bytesFrom labels first before (s ∷ more) = statementBytes labels ((first + before) % 65536) (s .statement) ++ bytesFrom labels first (before + statementSize (s .statement)) more
+
+-- lines that each have as many bytes as their size
+pub data AllSized : List Said → Type 0 where
+  noneSized : AllSized []
+  moreSized : {s : Said} {more : List Said} → Sized (s .statement) → AllSized more → AllSized (s ∷ more)
+
+-- as all lines of a text have
+pub said-sized : (lines : List (List ℕ)) → AllSized (saidIn lines)
+unfolding saidIn saidBy
+said-sized [] = noneSized
+said-sized (line ∷ lines) = moreSized (statement-sized (headedBy (tokensOf line) .body)) (said-sized lines)
+
+-- what assembling comes to by the passes
+abbrev pub passed : Failed → List ℕ → Assembled
+passed f bytes = pick (eqb (f .number) 0) (assembled 0 0 bytes) (assembled (f .number) (f .line) [])
+
+pub passes : {said : List Said} → AllSized said → (labels kept : List Label) (first room line : ℕ) (done : List ℕ)
+    → assembledFrom labels kept first room line done said ≡ passed (failedFrom labels kept first room line (length done) said) (done ++ bytesFrom labels first (length done) said)
+unfolding assembledFrom failedFrom bytesFrom
+passes noneSized labels kept first room line done = ap (assembled 0 0) (sym (append-nil done))
+passes (moreSized {s = s} {more = more} size sizes) labels kept first room line done =
+    go (eqb n 0) refl (passes sizes labels (keptWith kept address (s .name)) first room (suc line) (done ++ bytes))
+  where
+    address : ℕ
+    address = (first + length done) % 65536
+
+    n : ℕ
+    n = lineNumber labels kept address (length done) room s
+
+    bytes : List ℕ
+    bytes = statementBytes labels address (s .statement)
+
+    before : ℕ
+    before = length done + statementSize (s .statement)
+
+    -- the lines behind this one
+    after : ℕ → Failed
+    after count = failedFrom labels (keptWith kept address (s .name)) first room (suc line) count more
+
+    rest : Assembled
+    rest = assembledFrom labels (keptWith kept address (s .name)) first room (suc line) (done ++ bytes) more
+
+    grown : length (done ++ bytes) ≡ before
+    grown = length-append done bytes ∙ ap (λ (x : ℕ). length done + x) (size .sized labels address)
+
+    go : (b : Bool) → eqb n 0 ≡ b → rest ≡ passed (after (length (done ++ bytes))) ((done ++ bytes) ++ bytesFrom labels first (length (done ++ bytes)) more)
+        → pick b rest (assembled n line []) ≡ passed (pick b (after before) (failed n line)) (done ++ (bytes ++ bytesFrom labels first before more))
+    go true e later =
+        later ∙ ap (λ (x : ℕ). passed (after x) ((done ++ bytes) ++ bytesFrom labels first x more)) grown
+        ∙ ap (passed (after before)) (append-assoc done bytes (bytesFrom labels first before more))
+    go false e later = rw e
+
+-- a line without a number does not end past the room
+line-inside : (labels kept : List Label) (address before room : ℕ) (s : Said) → lineNumber labels kept address before room s ≡ 0 → pastRoom (statementSize (s .statement)) before room ≡ false
+unfolding lineNumber
+line-inside labels kept address before room s h = go (statementNumber labels address (s .statement)) (leb 30 (statementNumber labels address (s .statement))) refl _ (labelStands kept address (s .name)) _ refl (pastRoom (statementSize (s .statement)) before room) h
+  where
+    go : (n : ℕ) (a : Bool) → leb 30 n ≡ a → (c b d : Bool) → eqb n 0 ≡ d → (p : Bool) → pick (a && c) n (pick b (pick d (pick p 35 0) n) 33) ≡ 0 → p ≡ false
+    go n a q c b d e false h = refl
+    go n true q true b d e true h = let l = leb-true 30 n q in absurd (omega arith)
+    go n true q false false d e true h = absurd (omega arith)
+    go n true q false true true e true h = absurd (omega arith)
+    go n true q false true false e true h = absurd (eqb-false n 0 e h)
+    go n false q c false d e true h = absurd (omega arith)
+    go n false q c true true e true h = absurd (omega arith)
+    go n false q c true false e true h = absurd (eqb-false n 0 e h)
+
+-- where no line has a number the bytes lie inside the room, or there are none
+pub bytes-inside : {said : List Said} → AllSized said → (labels kept : List Label) (first room line before : ℕ) → failedFrom labels kept first room line before said .number ≡ 0
+    → (length (bytesFrom labels first before said) ≡ 0) ⊎ (before + length (bytesFrom labels first before said) ≤ room)
+unfolding failedFrom bytesFrom
+bytes-inside noneSized labels kept first room line before h = inl refl
+bytes-inside (moreSized {s = s} {more = more} size sizes) labels kept first room line before h =
+    go (eqb n 0) refl h (bytes-inside sizes labels (keptWith kept address (s .name)) first room (suc line) (before + statementSize (s .statement)))
+  where
+    address : ℕ
+    address = (first + before) % 65536
+
+    n : ℕ
+    n = lineNumber labels kept address before room s
+
+    bytes : List ℕ
+    bytes = statementBytes labels address (s .statement)
+
+    after : Failed
+    after = failedFrom labels (keptWith kept address (s .name)) first room (suc line) (before + statementSize (s .statement)) more
+
+    rest : List ℕ
+    rest = bytesFrom labels first (before + statementSize (s .statement)) more
+
+    whole : length (bytes ++ rest) ≡ statementSize (s .statement) + length rest
+    whole = length-append bytes rest ∙ ap (λ (x : ℕ). x + length rest) (size .sized labels address)
+
+    -- a line with bytes that ends inside
+    this : length rest ≡ 0 → (t u : Bool) → ltb 0 (statementSize (s .statement)) ≡ t → ltb room (before + statementSize (s .statement)) ≡ u → t && u ≡ false → (length (bytes ++ rest) ≡ 0) ⊎ (before + length (bytes ++ rest) ≤ room)
+    this none true true p q k = absurd (false≢true (sym k))
+    this none false u p q k = let l = ltb-false 0 (statementSize (s .statement)) p in inl (omega (arith, whole))
+    this none true false p q k = let l = ltb-false room (before + statementSize (s .statement)) q in inr (omega (arith, whole))
+
+    go : (b : Bool) → eqb n 0 ≡ b → pick b after (failed n line) .number ≡ 0 → (after .number ≡ 0 → (length rest ≡ 0) ⊎ (before + statementSize (s .statement) + length rest ≤ room))
+        → (length (bytes ++ rest) ≡ 0) ⊎ (before + length (bytes ++ rest) ≤ room)
+    go false e k later = absurd (eqb-false n 0 e k)
+    go true e k later = which (later k)
+      where
+        which : (length rest ≡ 0) ⊎ (before + statementSize (s .statement) + length rest ≤ room) → (length (bytes ++ rest) ≡ 0) ⊎ (before + length (bytes ++ rest) ≤ room)
+        which (inl none) = this none (ltb 0 (statementSize (s .statement))) (ltb room (before + statementSize (s .statement))) refl refl (line-inside labels kept address before room s (eqb-true n 0 e))
+        which (inr l) = inr (omega (arith, whole))
