@@ -10,3 +10,4 @@ pub mod WholeLaws
 pub mod WholeVectors
 pub mod LabelLaws
 pub mod PassLaws
+pub mod FirstLaws
