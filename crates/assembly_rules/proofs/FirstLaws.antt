@@ -15,12 +15,8 @@ use Rattle.assembly_rules.specs.Text.{linesIn}
 use Rattle.assembly_rules.specs.Sums.{Label}
 use Rattle.assembly_rules.specs.Statements.{statementSize}
 use Rattle.assembly_rules.specs.Assembly.{Said, saidIn, keptWith, labelsFrom, lineNumber, Assembled, assembled, assembledFrom, assembleOf}
+use Rattle.assembly_rules.proofs.LabelLaws.{sizesOf}
 use Rattle.assembly_rules.proofs.PassLaws.{Failed, failed, failedFrom, bytesFrom, said-sized, passed, passes}
-
--- how many bytes some lines have
-unfoldable pub sizesOf : List Said → ℕ
-sizesOf [] = 0
-sizesOf (s ∷ more) = statementSize (s .statement) + sizesOf more
 
 -- lines that stand one behind the other, from some kept labels and a count of bytes on
 module _ (labels : List Label) (first room : ℕ) where

@@ -1,14 +1,22 @@
--- The labels of a text: lines add labels behind those that are kept, and an address counts mod 65,536.
+-- The labels of a text: lines add labels behind those that are kept; each is kept by a line at its address, mod 65,536; no two have one name.
 -- Assumes nothing.
 use mathlib.Core.Path.{_≡_, refl, sym, ap, _∙_}
-use mathlib.Core.Bool.{Bool, true, false}
-use mathlib.Core.List.{List, [], _∷_, _++_, append-assoc, append-nil}
-use Prim.Native.Nat.{ℕ, _+_, _%_}
-use native.Mathlib.Nat.{mod-mod, mod-add-mod}
+use mathlib.Core.Bool.{Bool, true, false, not, _&&_, false≢true}
+use mathlib.Core.List.{List, [], _∷_, _++_, append-assoc, append-nil, List·Memᴰ as In, List·Memᴰ·head as here, List·Memᴰ·tail as later}
+use mathlib.Core.Logic.{_⊎_, inl, inr, _↔_}
+use Prim.Native.Nat.{ℕ, zero, suc, _+_, _%_, _<_}
+use native.Mathlib.Omega.{arith}
+use native.Mathlib.Nat.{mod-mod, mod-add-mod, add-zero, add-assoc}
+use lib.Dec.{ltb, leb}
+use lib.ListN.{length, length-append, getD, List·getD-append}
+use borrow.Author.Tests.{ltb-true, ltb-false, not-true}
 use Rattle.ground_rules.specs.Choice.{pick}
-use Rattle.assembly_rules.specs.Sums.{Label, label}
+use Rattle.listing_rules.specs.Characters.{sameText}
+use Rattle.assembly_rules.specs.Sums.{Label, label, labelWorth, worth}
 use Rattle.assembly_rules.specs.Statements.{statementSize}
-use Rattle.assembly_rules.specs.Assembly.{Said, mayKeep, keptWith, labelsFrom}
+use Rattle.assembly_rules.specs.Assembly.{Said, isReserved, mayKeep, keptWith, labelsFrom}
+use Rattle.assembly_rules.proofs.WritingLaws.{both-left, both-right}
+use Rattle.assembly_rules.proofs.ScanLaws.{same-is, is-same}
 
 -- a list that goes on behind another
 abbrev pub KeptFirst : List Label → List Label → Type 0
@@ -43,3 +51,162 @@ labels-mod (s ∷ more) kept a b e =
 
 pub labels-reduced : (said : List Said) (kept : List Label) (address : ℕ) → labelsFrom kept (address % 65536) said ≡ labelsFrom kept address said
 labels-reduced said kept address = labels-mod said kept (address % 65536) address (mod-mod address 65536)
+
+-- how many bytes some lines have
+unfoldable pub sizesOf : List Said → ℕ
+sizesOf [] = 0
+sizesOf (s ∷ more) = statementSize (s .statement) + sizesOf more
+
+-- a label that a line keeps, at the address behind the lines ahead of it
+pub record KeptAt (kept : List Label) (first : ℕ) (said : List Said) (l : Label) : Type 0 where
+  pub ahead : List Said
+  pub line : Said
+  pub after : List Said
+  pub lines : said ≡ ahead ++ (line ∷ after)
+  pub named : line .name ≡ [] → ⊥
+  pub may : mayKeep (labelsFrom kept first ahead) (line .name) ≡ true
+  pub same : l ≡ label (line .name) ((first + sizesOf ahead) % 65536)
+
+-- one of some and one more
+in-last : {A : Type 0} {a b : A} (l : List A) → In a (l ++ (b ∷ [])) → In a l ⊎ (a ≡ b)
+in-last [] (here e) = inr e
+in-last [] (later m) = elim m [ ]
+in-last (x ∷ l) (here e) = inl (here e)
+in-last (x ∷ l) (later m) = elim (in-last l m) [ inl k ↦ inl (later k) | inr e ↦ inr e ]
+
+in-front : {A : Type 0} {a : A} {l : List A} (more : List A) → In a l → In a (l ++ more)
+in-front more (here e) = here e
+in-front more (later m) = later (in-front more m)
+
+in-end : {A : Type 0} (a : A) (l : List A) → In a (l ++ (a ∷ []))
+in-end a [] = here refl
+in-end a (x ∷ l) = later (in-end a l)
+
+-- a label that is one of those kept and a line's own: kept before, or the line's
+kept-or-new : (kept : List Label) (address : ℕ) (name : List ℕ) (l : Label) → In l (keptWith kept address name) → In l kept ⊎ ((name ≡ [] → ⊥) × ((mayKeep kept name ≡ true) × (l ≡ label name address)))
+unfolding keptWith
+kept-or-new kept address [] l m = inl m
+kept-or-new kept address (c ∷ cs) l m = go (mayKeep kept (c ∷ cs)) refl m
+  where
+    go : (b : Bool) → mayKeep kept (c ∷ cs) ≡ b → In l (pick b (kept ++ (label (c ∷ cs) address ∷ [])) kept) → In l kept ⊎ ((c ∷ cs ≡ [] → ⊥) × ((mayKeep kept (c ∷ cs) ≡ true) × (l ≡ label (c ∷ cs) address)))
+    go true e k = elim (in-last kept k) [ inl i ↦ inl i | inr s ↦ inr (λ z. absurd (omega (arith, ap length z)), (e, s)) ]
+    go false e k = inl k
+
+labels-told : (said : List Said) (kept : List Label) (first : ℕ) (l : Label) → In l (labelsFrom kept first said) → In l kept ⊎ KeptAt kept first said l
+unfolding labelsFrom sizesOf
+labels-told [] kept first l m = inl m
+labels-told (s ∷ more) kept first l m = go (labels-told more (keptWith kept (first % 65536) (s .name)) (first + statementSize (s .statement)) l m)
+  where
+    further : KeptAt (keptWith kept (first % 65536) (s .name)) (first + statementSize (s .statement)) more l → KeptAt kept first (s ∷ more) l
+    further k =
+        record {
+          ahead = s ∷ k .ahead;
+          line = k .line;
+          after = k .after;
+          lines = ap (λ (x : List Said). s ∷ x) (k .lines);
+          named = k .named;
+          may = k .may;
+          same = k .same ∙ ap (λ (x : ℕ). label (k .line .name) (x % 65536)) (add-assoc first (statementSize (s .statement)) (sizesOf (k .ahead)));
+        }
+
+    go : In l (keptWith kept (first % 65536) (s .name)) ⊎ KeptAt (keptWith kept (first % 65536) (s .name)) (first + statementSize (s .statement)) more l → In l kept ⊎ KeptAt kept first (s ∷ more) l
+    go (inr k) = inr (further k)
+    go (inl i) =
+        elim (kept-or-new kept (first % 65536) (s .name) l i) [
+          | inl m ↦ inl m
+          | inr n ↦ inr (record { ahead = []; line = s; after = more; lines = refl; named = n .0; may = n .1 .0; same = n .1 .1 ∙ ap (λ (x : ℕ). label (s .name) (x % 65536)) (sym (add-zero first)) })
+        ]
+
+new-kept : (kept : List Label) (address : ℕ) (name : List ℕ) → (name ≡ [] → ⊥) → mayKeep kept name ≡ true → In (label name address) (keptWith kept address name)
+unfolding keptWith
+new-kept kept address [] n h = absurd (n refl)
+new-kept kept address (c ∷ cs) n h = rw h (in-end (label (c ∷ cs) address) kept)
+
+line-keeps : (ahead : List Said) (kept : List Label) (first : ℕ) (s : Said) (after : List Said) → (s .name ≡ [] → ⊥) → mayKeep (labelsFrom kept first ahead) (s .name) ≡ true
+    → In (label (s .name) ((first + sizesOf ahead) % 65536)) (labelsFrom kept first (ahead ++ (s ∷ after)))
+unfolding labelsFrom sizesOf
+line-keeps [] kept first s after n h =
+    let g = labels-grow after (keptWith kept (first % 65536) (s .name)) (first + statementSize (s .statement)) in
+    rw (add-zero first, g .1) (in-front (g .0) (new-kept kept (first % 65536) (s .name) n h))
+line-keeps (t ∷ ahead) kept first s after n h =
+    rw (← (add-assoc first (statementSize (t .statement)) (sizesOf ahead))) (line-keeps ahead (keptWith kept (first % 65536) (t .name)) (first + statementSize (t .statement)) s after n h)
+
+-- the labels of a text are those that a line keeps, each at first and the bytes of the lines ahead of it
+pub labels-exactly : (said : List Said) (first : ℕ) (l : Label) → In l (labelsFrom [] first said) ↔ KeptAt [] first said l
+labels-exactly said first l = (
+  λ m. elim (labels-told said [] first l m) [ inl i ↦ elim i [ ] | inr k ↦ k ],
+  λ k. rw (k .lines, k .same) (line-keeps (k .ahead) [] first (k .line) (k .after) (k .named) (k .may)),
+)
+
+-- a name is known exactly where it is that of a label
+pub known-exactly : (labels : List Label) (name : List ℕ) → (labelWorth labels name .known ≡ true) ↔ ((l : Label) × (In l labels × (l .name ≡ name)))
+unfolding labelWorth
+known-exactly labels name = (from-known labels, λ x. to-known labels (x .0) (x .1 .0) (x .1 .1))
+  where
+    from-known : (ls : List Label) → labelWorth ls name .known ≡ true → (l : Label) × (In l ls × (l .name ≡ name))
+    from-known [] h = absurd (false≢true h)
+    from-known (l ∷ ls) h = go (sameText (l .name) name) refl h (from-known ls)
+      where
+        go : (b : Bool) → sameText (l .name) name ≡ b → pick b (worth (l .address) true) (labelWorth ls name) .known ≡ true → (labelWorth ls name .known ≡ true → (m : Label) × (In m ls × (m .name ≡ name))) → (m : Label) × (In m (l ∷ ls) × (m .name ≡ name))
+        go true e k more = (l, (here refl, same-is (l .name) name e))
+        go false e k more = let x = more k in (x .0, (later (x .1 .0), x .1 .1))
+
+    to-known : (ls : List Label) (l : Label) → In l ls → l .name ≡ name → labelWorth ls name .known ≡ true
+    to-known (m ∷ ls) l (here e) s = rw (← e, s, is-same name)
+    to-known (m ∷ ls) l (later i) s = go (sameText (m .name) name) (to-known ls l i s)
+      where
+        go : (b : Bool) → labelWorth ls name .known ≡ true → pick b (worth (m .address) true) (labelWorth ls name) .known ≡ true
+        go true k = refl
+        go false k = k
+
+-- the name at a place of a list of labels; two places never have one name
+abbrev pub labelNamed : List Label → ℕ → List ℕ
+labelNamed labels i = getD labels i (label [] 0) .name
+
+abbrev pub Apart : List Label → Type 0
+Apart labels = (i j : ℕ) → i < j → j < length labels → labelNamed labels i ≡ labelNamed labels j → ⊥
+
+in-at : (labels : List Label) (i : ℕ) (d : Label) → i < length labels → In (getD labels i d) labels
+in-at [] i d h = absurd (omega arith)
+in-at (l ∷ ls) zero d h = here refl
+in-at (l ∷ ls) (suc i) d h = later (in-at ls i d (omega arith))
+
+at-end : (labels : List Label) (l d : Label) → getD (labels ++ (l ∷ [])) (length labels) d ≡ l
+at-end [] l d = refl
+at-end (m ∷ ls) l d = at-end ls l d
+
+new-apart : (kept : List Label) (name : List ℕ) (address : ℕ) → labelWorth kept name .known ≡ false → Apart kept → Apart (kept ++ (label name address ∷ []))
+new-apart kept name address h k i j l m e = go (ltb j (length kept)) refl
+  where
+    new : List Label
+    new = label name address ∷ []
+
+    before : (n : ℕ) → n < length kept → labelNamed (kept ++ new) n ≡ labelNamed kept n
+    before n b = ap (λ (x : Label). x .name) (List·getD-append kept new (label [] 0) n b)
+
+    go : (b : Bool) → ltb j (length kept) ≡ b → ⊥
+    go true t = let b = ltb-true j (length kept) t in k i j l b (sym (before i (omega arith)) ∙ e ∙ before j b)
+    go false t =
+        let b = ltb-false j (length kept) t in
+        let z : j ≡ length kept = omega (arith, length-append kept new) in
+        let n : labelNamed kept i ≡ name = sym (before i (omega arith)) ∙ e ∙ ap (labelNamed (kept ++ new)) z ∙ ap (λ (x : Label). x .name) (at-end kept (label name address) (label [] 0)) in
+        false≢true (sym h ∙ known-exactly kept name .1 (getD kept i (label [] 0), (in-at kept i (label [] 0) (omega arith), n)))
+
+may-new : (kept : List Label) (name : List ℕ) → mayKeep kept name ≡ true → labelWorth kept name .known ≡ false
+unfolding mayKeep
+may-new kept name h = not-true (labelWorth kept name .known) (both-left (not (labelWorth kept name .known)) _ (both-right (leb (length name) 12) _ h))
+
+kept-apart : (kept : List Label) (address : ℕ) (name : List ℕ) → Apart kept → Apart (keptWith kept address name)
+unfolding keptWith
+kept-apart kept address [] h = h
+kept-apart kept address (c ∷ cs) h = go (mayKeep kept (c ∷ cs)) refl
+  where
+    go : (b : Bool) → mayKeep kept (c ∷ cs) ≡ b → Apart (pick b (kept ++ (label (c ∷ cs) address ∷ [])) kept)
+    go true e = new-apart kept (c ∷ cs) address (may-new kept (c ∷ cs) e) h
+    go false e = h
+
+-- no two labels of a text have one name
+pub labels-apart : (said : List Said) (kept : List Label) (first : ℕ) → Apart kept → Apart (labelsFrom kept first said)
+unfolding labelsFrom
+labels-apart [] kept first h = h
+labels-apart (s ∷ more) kept first h = labels-apart more (keptWith kept (first % 65536) (s .name)) (first + statementSize (s .statement)) (kept-apart kept (first % 65536) (s .name) h)

@@ -9,7 +9,7 @@ use native.Mathlib.Omega.{arith}
 use native.Mathlib.Nat.{zero-add, add-zero}
 use lib.Dec.{eqb, leb}
 use lib.ListN.{length}
-use borrow.Author.Tests.{eqb-true, ne-eqb, lt-ltb, leb-true, leb-false, le-leb}
+use borrow.Author.Tests.{eqb-true, eq-eqb, ne-eqb, lt-ltb, leb-true, leb-false, le-leb}
 use Rattle.ground_rules.specs.Choice.{pick}
 use Rattle.assembly_rules.specs.declared.Constant.{Constant}
 use Rattle.assembly_rules.specs.declared.Constant.the-variants.{Value, NoConstant}
@@ -388,8 +388,8 @@ understood labels ts h =
       read-so = λ k. let a = r .worth-read (rw d at k) in (a .0, (sym (ap (sumWithin mostOpen labels) text) ∙ a .1 .0 ∙ rest-stop (termOf mostOpen labels) 0 (a .0) [] refl, a .1 .1));
     }
 
--- a register is no term: its name begins with no digit
-same-is : (a b : List ℕ) → sameText a b ≡ true → a ≡ b
+-- texts that are the same, in both directions
+pub same-is : (a b : List ℕ) → sameText a b ≡ true → a ≡ b
 unfolding sameText
 same-is [] [] h = refl
 same-is [] (d ∷ b) h = absurd (false≢true h)
@@ -400,7 +400,12 @@ same-is (c ∷ a) (d ∷ b) h = go (eqb c d) refl h (same-is a b)
     go true e k later = rw (eqb-true c d e, later k)
     go false e k later = absurd (false≢true k)
 
--- whether a test fails for each of some names
+pub is-same : (a : List ℕ) → sameText a a ≡ true
+unfolding sameText
+is-same [] = refl
+is-same (c ∷ a) = rw (eq-eqb c c refl, is-same a)
+
+-- a register is no term: its name begins with no digit; whether a test fails for each of some names
 allFail : (List ℕ → Bool) → List (List ℕ) → Bool
 allFail test [] = true
 allFail test (this ∷ names) = not (test this) && allFail test names
