@@ -2,3 +2,5 @@
 
 // Lines by the places of their parts.
 pub mod bodies;
+// What a line says.
+pub mod lines;

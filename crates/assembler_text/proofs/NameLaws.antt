@@ -3,7 +3,7 @@
 use mathlib.Core.Path.{_≡_, refl, sym, ap, _∙_}
 use mathlib.Core.Bool.{Bool, true, false, not, _&&_, _||_}
 use mathlib.Core.List.{List, [], _∷_}
-use Prim.Native.Nat.{ℕ, zero, suc, _+_, _*_, _%_, _≤_, _<_}
+use Prim.Native.Nat.{ℕ, zero, suc, _+_, _*_, _-_, _%_, _≤_, _<_}
 use native.Mathlib.Nat.{mul-le-mul}
 use native.Mathlib.Omega.{arith}
 use lib.Dec.{eqb, ltb, leb}
@@ -19,8 +19,8 @@ use Rattle.assembly_rules.specs.Numbers.{digitValue, isRadix, radixOf, lastOf, 
 use Rattle.assembly_rules.specs.Sums.{indexIn, registerNumber, beginsDigit, isValue, isTerm, label, Label, worth, labelWorth}
 use Rattle.assembly_rules.proofs.TextLaws.{run-none, run-more}
 use Rattle.assembly_rules.proofs.NumberLaws.{radix-plain}
-use Rattle.assembler_text.specs.Places.{nameAt, labelsAt}
-use Rattle.assembler_text.proofs.PlaceLaws.{from-here}
+use Rattle.assembler_text.specs.Places.{between, nameAt, labelsAt}
+use Rattle.assembler_text.proofs.PlaceLaws.{from-here, part-some}
 
 -- capitals of what is left
 pub capitals-here : (cs : List ℕ) (i : ℕ) → i < length cs → capitals (drop i cs) ≡ capitalOf (getD cs i 0) ∷ capitals (drop (i + 1) cs)
@@ -237,6 +237,14 @@ first-capital (c ∷ cs) h = refl
 
 pub begins-digit : (cs : List ℕ) (b : Bool) → 0 < length cs → isDigit (capitalOf (getD cs 0 0)) ≡ b → beginsDigit (capitals cs) ≡ b
 begins-digit cs b h e = ap isDigit (first-capital cs h) ∙ e
+
+-- the same of a part of a text
+part-first : (n : ℕ) (text : List ℕ) (from : ℕ) → 0 < n → from < length text → getD (take n (drop from text)) 0 0 ≡ getD text from 0
+part-first zero text from h l = absurd (omega arith)
+part-first (suc n) text from h l = ap (λ (x : List ℕ). getD (take (suc n) x) 0 0) (from-here text from l)
+
+pub part-digit : (text : List ℕ) (from to : ℕ) (b : Bool) → from < to → to ≤ length text → isDigit (capitalOf (getD text from 0)) ≡ b → beginsDigit (capitals (between text from to)) ≡ b
+part-digit text from to b h k e = begins-digit (between text from to) b (part-some text from to h k) (ap (λ (c : ℕ). isDigit (capitalOf c)) (part-first (to - from) text from (omega arith) (omega arith)) ∙ e)
 
 pub term-empty : (cs : List ℕ) → length cs ≡ 0 → isTerm (capitals cs) ≡ true
 unfolding isTerm capitals isDigit registerNumber indexIn sameText

@@ -24,7 +24,7 @@ use Rattle.assembler_text.specs.declared.tokens.TokenFound.the-variants.
 use Rattle.assembler_text.specs.declared.sums.Ahead.{Ahead}
 use Rattle.assembler_text.specs.declared.sums.Ahead.the-variants.{Stop, Next}
 use Rattle.assembler_text.specs.declared.values.Sign.{Sign}
-use Rattle.assembler_text.specs.Places.{leading, pastBlanks, runEnd, between, tokenFrom, tokenAt, aheadBy, roleAt, sign, signBy, signAt, leadAt}
+use Rattle.assembler_text.specs.Places.{leading, pastBlanks, runEnd, between, tokenFrom, tokenAt, aheadBy, roleAt, sign, signBy, signAt, leadAt, nameAt}
 
 -- the characters from a place on: the one there, and those behind it
 pub from-here : (s : List ℕ) (i : ℕ) → i < length s → drop i s ≡ getD s i 0 ∷ drop (i + 1) s
@@ -102,7 +102,7 @@ told text (Mark c next) = mark c ∷ tokensOf (drop next text)
 -- it lies in the text, from a place on
 unfoldable pub Lies : List ℕ → ℕ → TokenFound → Type 0
 Lies text at Nothing = Unit
-Lies text at (Run from to) = (at ≤ from) × (from < to) × (to ≤ length text)
+Lies text at (Run from to) = (at ≤ from) × (from < to) × (to ≤ length text) × (to ≡ runEnd text from)
 Lies text at (Mark c next) = (at < next) × (next ≤ length text)
 
 -- some characters behind others are those of a part
@@ -137,7 +137,7 @@ module _ (text : List ℕ) (from : ℕ) (inside : from < length text) where
       let l : 0 < length cs = omega (arith, length-drop from text) in
       let t = tokens-run cs g l in (
         t ∙ ap (λ (x : List ℕ). run (capitals x) ∷ tokensOf (drop n cs)) (sym (part-take from n text)) ∙ ap (λ (x : List ℕ). run (capitals (between text from (from + n))) ∷ tokensOf x) (drop-drop n from text),
-        (omega arith, omega (arith, run-some cs g l), omega (arith, lead-most isRun cs, length-drop from text)),
+        (omega arith, omega (arith, run-some cs g l), omega (arith, lead-most isRun cs, length-drop from text), refl),
       )
 
   mark-there : isRun (getD text from 0) ≡ false → endsLine (getD text from 0) ≡ false → isBlank (getD text from 0) ≡ false → tokensOf (drop from text) ≡ told text (Mark (getD text from 0) (from + 1))
@@ -146,6 +146,11 @@ module _ (text : List ℕ) (from : ℕ) (inside : from < length text) where
 
   end-there : isRun (getD text from 0) ≡ false → endsLine (getD text from 0) ≡ true → tokensOf (drop from text) ≡ []
   end-there h k = ap tokensOf here ∙ tokens-end (getD text from 0) (drop (from + 1) text) h k
+
+-- the run at a place by its end
+pub run-name : (text : List ℕ) (from to : ℕ) → to ≡ runEnd text from → nameAt text from ≡ capitals (between text from to)
+unfolding nameAt runEnd
+run-name text from to e = run-lead (drop from text) .0 ∙ ap capitals (sym (part-take from (leading isRun (drop from text)) text)) ∙ ap (λ (n : ℕ). capitals (between text from n)) (sym e)
 
 -- a token at a place: with those behind it they are the tokens from the place on, and it lies in the text
 pub record Stands (text : List ℕ) (at : ℕ) (f : TokenFound) : Type 0 where
@@ -172,7 +177,7 @@ stands-from text from plain = go (leb (length text) from) refl (isRun (getD text
 lies-before : (text : List ℕ) (at from : ℕ) (f : TokenFound) → at ≤ from → Lies text from f → Lies text at f
 unfolding Lies
 lies-before text at from Nothing l h = tt
-lies-before text at from (Run a b) l h = (omega (arith, h .0), h .1, h .2)
+lies-before text at from (Run a b) l h = (omega (arith, h .0), h .1, h .2, h .3)
 lies-before text at from (Mark c next) l h = (omega (arith, h .0), h .1)
 
 -- the token at a place
@@ -224,7 +229,7 @@ module _ (text : List ℕ) (at : ℕ) where
   unfolding roleAt
   part-mark c next e b h = ap (aheadBy text) e ∙ rw h
 
-  pub run-lies : (from to : ℕ) → tokenAt text at ≡ Run from to → (at ≤ from) × (from < to) × (to ≤ length text)
+  pub run-lies : (from to : ℕ) → tokenAt text at ≡ Run from to → (at ≤ from) × (from < to) × (to ≤ length text) × (to ≡ runEnd text from)
   unfolding Lies
   run-lies from to e = subst (Lies text at) e (stands text at .lies)
 

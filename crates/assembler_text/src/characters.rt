@@ -16,7 +16,7 @@ pub fn capital(c: u8) -> u8
 }
 
 // Whether it is a digit.
-pub(crate) fn is_digit(c: u8) -> bool
+pub fn is_digit(c: u8) -> bool
     ensures { λ r. ⌜ r ≡ isDigit c ⌝ }
 {
     (48 <= c) & (c <= 57)
