@@ -13,44 +13,51 @@ use Rattle.ground_rules.specs.Choice.{pick}
 use Rattle.listing_rules.specs.Characters.{sameText}
 use Rattle.listing_rules.specs.Entries.{Kind, Entry, entries}
 use Rattle.listing_rules.specs.Entries.Kind.{'R, 'G, 'P, 'M, 'byte, 'word, 'bit, 'width, 'short, 'long}
-use Rattle.assembly_rules.specs.Operands.{Written, takes, takesAll, Chosen, entryIn}
+use Rattle.assembly_rules.specs.Operands.{Written, takes, takesAll, hasWord, Chosen, entryIn}
 use Rattle.assembly_rules.specs.Operands.Written.{register, memory, value, nothing}
 use Rattle.assembly_rules.specs.Operands.Chosen.{taken, untaken}
 use Rattle.assembly_rules.proofs.WritingLaws.{both-left, both-right}
-use Rattle.assembler_forms.specs.Table.{packedWord, wordNumber, kindCode, kindsCode, entryCode, noCode, codesBy, classOf, takesClass, takesCode, chosenBy}
+use Rattle.assembly_rules.proofs.ScanLaws.{same-is}
+use Rattle.assembler_forms.specs.declared.operands.Form.{Form}
+use Rattle.assembler_forms.specs.declared.operands.Form.the-variants.{Register, Memory, Value, NoOperand}
+use Rattle.assembler_forms.specs.declared.operands.Operands.{Operands}
+use Rattle.assembler_forms.specs.declared.table.Codes.{Codes}
+use Rattle.assembler_forms.specs.Forms.{Formed, writtenForm}
+use Rattle.assembler_forms.specs.Rows.{RowIs}
+use Rattle.assembler_forms.specs.Table.{packedWord, wordNumber, inBytes, NumberIs, kindCode, kindsCode, entryCode, noCode, codesBy, codesIn, classOf, takesClass, takesCode, chosenBy, fittingBy}
 
--- characters that are none of a number's empty places
-pub allPlain : List ℕ → Bool
-allPlain [] = true
-allPlain (c ∷ cs) = (ltb 0 c && ltb c 256) && allPlain cs
+byte-first : (c : ℕ) (cs : List ℕ) → inBytes (c ∷ cs) ≡ true → c < 256
+unfolding inBytes
+byte-first c cs h = ltb-true c 256 (both-left (ltb c 256) (inBytes cs) h)
 
-plain-first : (c : ℕ) (cs : List ℕ) → allPlain (c ∷ cs) ≡ true → (0 < c) × (c < 256)
-unfolding allPlain
-plain-first c cs h = let k = both-left (ltb 0 c && ltb c 256) (allPlain cs) h in (ltb-true 0 c (both-left (ltb 0 c) (ltb c 256) k), ltb-true c 256 (both-right (ltb 0 c) (ltb c 256) k))
+byte-rest : (c : ℕ) (cs : List ℕ) → inBytes (c ∷ cs) ≡ true → inBytes cs ≡ true
+unfolding inBytes
+byte-rest c cs h = both-right (ltb c 256) (inBytes cs) h
 
-plain-rest : (c : ℕ) (cs : List ℕ) → allPlain (c ∷ cs) ≡ true → allPlain cs ≡ true
-unfolding allPlain
-plain-rest c cs h = both-right (ltb 0 c && ltb c 256) (allPlain cs) h
+packed-some : (cs : List ℕ) → 1 ≤ packedWord cs
+unfolding packedWord
+packed-some [] = omega arith
+packed-some (c ∷ cs) = omega (arith, packed-some cs)
 
--- such characters are told by their number
-packed-same : (a b : List ℕ) → allPlain a ≡ true → allPlain b ≡ true → eqb (packedWord b) (packedWord a) ≡ sameText a b
+-- bytes are told by their number
+packed-same : (a b : List ℕ) → inBytes a ≡ true → inBytes b ≡ true → eqb (packedWord b) (packedWord a) ≡ sameText a b
 unfolding packedWord sameText
 packed-same [] [] h k = refl
-packed-same [] (d ∷ b) h k = let p = plain-first d b k in let e = mod-eq-of-lt (p .1) in ne-eqb (d % 256 + 256 * packedWord b) 0 (λ z. omega (arith, p .0, e, z))
-packed-same (c ∷ a) [] h k = let p = plain-first c a h in let e = mod-eq-of-lt (p .1) in ne-eqb 0 (c % 256 + 256 * packedWord a) (λ z. omega (arith, p .0, e, z))
-packed-same (c ∷ a) (d ∷ b) h k = go (eqb c d) refl (packed-same a b (plain-rest c a h) (plain-rest d b k))
+packed-same [] (d ∷ b) h k = ne-eqb (d % 256 + 256 * packedWord b) 1 (λ z. omega (arith, packed-some b, z))
+packed-same (c ∷ a) [] h k = ne-eqb 1 (c % 256 + 256 * packedWord a) (λ z. omega (arith, packed-some a, z))
+packed-same (c ∷ a) (d ∷ b) h k = go (eqb c d) refl (packed-same a b (byte-rest c a h) (byte-rest d b k))
   where
-    ec : c % 256 ≡ c
-    ec = mod-eq-of-lt (plain-first c a h .1)
-
-    ed : d % 256 ≡ d
-    ed = mod-eq-of-lt (plain-first d b k .1)
-
     lc : c < 256
-    lc = plain-first c a h .1
+    lc = byte-first c a h
 
     ld : d < 256
-    ld = plain-first d b k .1
+    ld = byte-first d b k
+
+    ec : c % 256 ≡ c
+    ec = mod-eq-of-lt lc
+
+    ed : d % 256 ≡ d
+    ed = mod-eq-of-lt ld
 
     go : (t : Bool) → eqb c d ≡ t → eqb (packedWord b) (packedWord a) ≡ sameText a b → eqb (d % 256 + 256 * packedWord b) (c % 256 + 256 * packedWord a) ≡ t && sameText a b
     go true e later = same (eqb-true c d e) (eqb (packedWord b) (packedWord a)) refl ∙ later
@@ -133,24 +140,60 @@ classAt n [] = 0
 classAt zero (w ∷ ws) = classOf w
 classAt (suc n) (w ∷ ws) = classAt n ws
 
-kindAt : ℕ → List Kind → ℕ
+pub kindAt : ℕ → List Kind → ℕ
 kindAt n [] = 0
 kindAt zero (k ∷ ks) = kindCode k
 kindAt (suc n) (k ∷ ks) = kindAt n ks
 
--- an entry of which the number's digits are right, whose word is plain, and that has at most three places
+-- an entry of which the number's digits are right, that has at most three places, and whose word is told by its number
 rightEntry : Entry → Bool
 rightEntry e =
-    (eqb (entryCode e / 0x10000000 % 16) (kindAt 0 (e .kinds)) && (eqb (entryCode e / 0x1000000 % 16) (kindAt 1 (e .kinds)) && eqb (entryCode e / 0x100000 % 16) (kindAt 2 (e .kinds))))
-    && (leb (length (e .kinds)) 3 && (allPlain (e .word) && leb (length (e .word)) 6))
+    eqb (entryCode e / 0x10000000 % 16) (kindAt 0 (e .kinds))
+    && (eqb (entryCode e / 0x1000000 % 16) (kindAt 1 (e .kinds))
+    && (eqb (entryCode e / 0x100000 % 16) (kindAt 2 (e .kinds))
+    && (leb (length (e .kinds)) 3 && (inBytes (e .word) && (leb (length (e .word)) 6 && ltb (entryCode e) noCode)))))
 
-allRight : List Entry → Bool
+pub allRight : List Entry → Bool
 allRight [] = true
 allRight (e ∷ es) = rightEntry e && allRight es
 
-entries-right : allRight entries ≡ true
-unfolding allRight rightEntry entries entryCode kindsCode kindAt allPlain
+pub entries-right : allRight entries ≡ true
+unfolding allRight rightEntry entries entryCode kindsCode kindAt inBytes
 entries-right = refl
+
+pub record Right (e : Entry) : Type 0 where
+  pub first : entryCode e / 0x10000000 % 16 ≡ kindAt 0 (e .kinds)
+  pub second : entryCode e / 0x1000000 % 16 ≡ kindAt 1 (e .kinds)
+  pub third : entryCode e / 0x100000 % 16 ≡ kindAt 2 (e .kinds)
+  pub few : length (e .kinds) ≤ 3
+  pub bytes : inBytes (e .word) ≡ true
+  pub short : length (e .word) ≤ 6
+  pub some : entryCode e < noCode
+
+pub right-first : (e : Entry) (es : List Entry) → allRight (e ∷ es) ≡ true → Right e
+unfolding allRight rightEntry
+right-first e es h =
+    let n = entryCode e in
+    let ks = e .kinds in
+    let a = both-left (rightEntry e) (allRight es) h in
+    let b = both-right (eqb (n / 0x10000000 % 16) (kindAt 0 ks)) _ a in
+    let c = both-right (eqb (n / 0x1000000 % 16) (kindAt 1 ks)) _ b in
+    let d = both-right (eqb (n / 0x100000 % 16) (kindAt 2 ks)) _ c in
+    let f = both-right (leb (length ks) 3) _ d in
+    let g = both-right (inBytes (e .word)) _ f in
+    record {
+      first = eqb-true (n / 0x10000000 % 16) (kindAt 0 ks) (both-left _ _ a);
+      second = eqb-true (n / 0x1000000 % 16) (kindAt 1 ks) (both-left _ _ b);
+      third = eqb-true (n / 0x100000 % 16) (kindAt 2 ks) (both-left _ _ c);
+      few = leb-true (length ks) 3 (both-left _ _ d);
+      bytes = both-left _ _ f;
+      short = leb-true (length (e .word)) 6 (both-left _ _ g);
+      some = ltb-true n noCode (both-right (leb (length (e .word)) 6) _ g);
+    }
+
+pub right-rest : (e : Entry) (es : List Entry) → allRight (e ∷ es) ≡ true → allRight es ≡ true
+unfolding allRight
+right-rest e es h = both-right (rightEntry e) (allRight es) h
 
 no-operand : (k : Kind) → takesClass (kindCode k) 0 ≡ false
 unfolding takesClass
@@ -212,55 +255,112 @@ all-take [] ws h l = none-take ws l
 all-take (k ∷ ks) [] h l = rw (no-operand k)
 all-take (k ∷ ks) (w ∷ ws) h l = ap (λ (b : Bool). takesClass (kindCode k) (classOf w) && b) (two-take ks ws (omega arith) (omega arith)) ∙ ap (λ (b : Bool). b && takesAll ks ws) (class-takes k w)
 
-code-takes : (e : Entry) (ws : List Written) → rightEntry e ≡ true → length ws ≤ 3 → takesCode (entryCode e) (classAt 0 ws) (classAt 1 ws) (classAt 2 ws) ≡ takesAll (e .kinds) ws
-unfolding takesCode rightEntry
-code-takes e ws h l =
-    let digits = both-left (eqb (entryCode e / 0x10000000 % 16) (kindAt 0 (e .kinds)) && (eqb (entryCode e / 0x1000000 % 16) (kindAt 1 (e .kinds)) && eqb (entryCode e / 0x100000 % 16) (kindAt 2 (e .kinds)))) _ h in
-    let rest = both-right (eqb (entryCode e / 0x10000000 % 16) (kindAt 0 (e .kinds)) && (eqb (entryCode e / 0x1000000 % 16) (kindAt 1 (e .kinds)) && eqb (entryCode e / 0x100000 % 16) (kindAt 2 (e .kinds)))) _ h in
-    let d0 = eqb-true (entryCode e / 0x10000000 % 16) (kindAt 0 (e .kinds)) (both-left _ _ digits) in
-    let d12 = both-right (eqb (entryCode e / 0x10000000 % 16) (kindAt 0 (e .kinds))) _ digits in
-    let d1 = eqb-true (entryCode e / 0x1000000 % 16) (kindAt 1 (e .kinds)) (both-left _ _ d12) in
-    let d2 = eqb-true (entryCode e / 0x100000 % 16) (kindAt 2 (e .kinds)) (both-right (eqb (entryCode e / 0x1000000 % 16) (kindAt 1 (e .kinds))) _ d12) in
-    rw (d0, d1, d2) (all-take (e .kinds) ws (leb-true (length (e .kinds)) 3 (both-left _ _ rest)) l)
+code-takes : (e : Entry) (ws : List Written) → Right e → length ws ≤ 3 → takesCode (entryCode e) (classAt 0 ws) (classAt 1 ws) (classAt 2 ws) ≡ takesAll (e .kinds) ws
+unfolding takesCode
+code-takes e ws h l = rw (h .first, h .second, h .third) (all-take (e .kinds) ws (h .few) l)
 
-word-same : (e : Entry) (r : List ℕ) → rightEntry e ≡ true → allPlain r ≡ true → length r ≤ 6 → eqb (wordNumber r) (packedWord (e .word)) ≡ sameText (e .word) r
-unfolding wordNumber rightEntry
-word-same e r h k l =
-    let rest = both-right (eqb (entryCode e / 0x10000000 % 16) (kindAt 0 (e .kinds)) && (eqb (entryCode e / 0x1000000 % 16) (kindAt 1 (e .kinds)) && eqb (entryCode e / 0x100000 % 16) (kindAt 2 (e .kinds)))) _ h in
-    let plain = both-left (allPlain (e .word)) _ (both-right (leb (length (e .kinds)) 3) _ rest) in
-    rw (le-ltb 6 (length r) l) (packed-same (e .word) r plain k)
+-- a word by its number
+pub word-same : (w r : List ℕ) → inBytes w ≡ true → length w ≤ 6 → {n : ℕ} → NumberIs n r → eqb n (packedWord w) ≡ sameText w r
+unfolding wordNumber
+word-same w r h l k = ap (λ (m : ℕ). eqb m (packedWord w)) (k .number) ∙ go (ltb 6 (length r)) refl
+  where
+    other : (b : Bool) → sameText w r ≡ b → 6 < length r → false ≡ b
+    other true e m = absurd (omega (arith, l, m, ap length (same-is w r e)))
+    other false e m = refl
+
+    go : (b : Bool) → ltb 6 (length r) ≡ b → eqb (pick b 0 (packedWord r)) (packedWord w) ≡ sameText w r
+    go true e = ne-eqb 0 (packedWord w) (λ z. omega (arith, packed-some w, z)) ∙ other (sameText w r) refl (ltb-true 6 (length r) e)
+    go false e = packed-same w r h (k .bytes)
 
 -- what the code chooses: the entry's number, or none
 abbrev pub chosenNumber : Chosen → ℕ
 chosenNumber (taken e) = entryCode e
 chosenNumber untaken = noCode
 
-chosen-from : (es : List Entry) (r : List ℕ) (ws : List Written) → allRight es ≡ true → allPlain r ≡ true → length r ≤ 6 → length ws ≤ 3
-    → chosenBy (codesBy es (wordNumber r)) (classAt 0 ws) (classAt 1 ws) (classAt 2 ws) ≡ chosenNumber (entryIn es r ws)
-unfolding allRight codesBy entryIn chosenBy
-chosen-from [] r ws h k l m = refl
-chosen-from (e ∷ es) r ws h k l m =
-    let right = both-left (rightEntry e) (allRight es) h in
-    go (eqb (wordNumber r) (packedWord (e .word))) (sameText (e .word) r) (takesAll (e .kinds) ws) (word-same e r right k l) (code-takes e ws right m) (chosen-from es r ws (both-right (rightEntry e) (allRight es) h) k l m)
+takes-length : (ks : List Kind) (ws : List Written) → takesAll ks ws ≡ true → length ks ≡ length ws
+unfolding takesAll
+takes-length [] [] h = refl
+takes-length [] (w ∷ ws) h = absurd (false≢true h)
+takes-length (k ∷ ks) [] h = absurd (false≢true h)
+takes-length (k ∷ ks) (w ∷ ws) h = ap suc (takes-length ks ws (both-right (takes k w) (takesAll ks ws) h))
+
+-- a class does not depend on the text
+class-form : (text : List ℕ) (f : Form) (w : Written) → Formed text f w → classOf (writtenForm [] f) ≡ classOf w
+unfolding classOf
+class-form text f w h = go f ∙ ap classOf (h .same)
   where
-    a : ℕ
-    a = classAt 0 ws
+    go : (f : Form) → classOf (writtenForm [] f) ≡ classOf (writtenForm text f)
+    go (Register r) = refl
+    go (Memory mm aa place low) = refl
+    go (Value place low) = refl
+    go NoOperand = refl
 
-    b : ℕ
-    b = classAt 1 ws
+abbrev isSome : List ℕ → Bool
+isSome [] = false
+isSome (c ∷ cs) = true
 
-    c : ℕ
-    c = classAt 2 ws
+module _ (r : List ℕ) (n : ℕ) (k : NumberIs n r) where
+  chosen-from : (es : List Entry) (ws : List Written) → allRight es ≡ true → length ws ≤ 3 → chosenBy (codesBy es n) (classAt 0 ws) (classAt 1 ws) (classAt 2 ws) ≡ chosenNumber (entryIn es r ws)
+  unfolding codesBy entryIn chosenBy
+  chosen-from [] ws h m = refl
+  chosen-from (e ∷ es) ws h m =
+      let right = right-first e es h in
+      go (eqb n (packedWord (e .word))) (sameText (e .word) r) (takesAll (e .kinds) ws) (word-same (e .word) r (right .bytes) (right .short) k) (code-takes e ws right m) (chosen-from es ws (right-rest e es h) m)
+    where
+      a : ℕ
+      a = classAt 0 ws
 
-    go : (x y z : Bool) → x ≡ y → takesCode (entryCode e) a b c ≡ z → chosenBy (codesBy es (wordNumber r)) a b c ≡ chosenNumber (entryIn es r ws)
-        → chosenBy (pick x (entryCode e ∷ codesBy es (wordNumber r)) (codesBy es (wordNumber r))) a b c ≡ chosenNumber (pick (y && z) (taken e) (entryIn es r ws))
-    go true true true p q later = rw q
-    go true true false p q later = rw q later
-    go true false z p q later = absurd (false≢true (sym p))
-    go false true z p q later = absurd (false≢true p)
-    go false false z p q later = later
+      b : ℕ
+      b = classAt 1 ws
 
--- of a word of at most six plain characters, with at most three operands
-pub chosen-told : (r : List ℕ) (ws : List Written) → allPlain r ≡ true → length r ≤ 6 → length ws ≤ 3
-    → chosenBy (codesBy entries (wordNumber r)) (classAt 0 ws) (classAt 1 ws) (classAt 2 ws) ≡ chosenNumber (entryIn entries r ws)
-chosen-told r ws k l m = chosen-from entries r ws entries-right k l m
+      c : ℕ
+      c = classAt 2 ws
+
+      go : (x y z : Bool) → x ≡ y → takesCode (entryCode e) a b c ≡ z → chosenBy (codesBy es n) a b c ≡ chosenNumber (entryIn es r ws)
+          → chosenBy (pick x (entryCode e ∷ codesBy es n) (codesBy es n)) a b c ≡ chosenNumber (pick (y && z) (taken e) (entryIn es r ws))
+      go true true true p q later = rw q
+      go true true false p q later = rw q later
+      go true false z p q later = absurd (false≢true (sym p))
+      go false true z p q later = absurd (false≢true p)
+      go false false z p q later = later
+
+  -- no entry takes more than three operands
+  too-many : (es : List Entry) (ws : List Written) → allRight es ≡ true → 3 < length ws → entryIn es r ws ≡ untaken
+  unfolding entryIn
+  too-many [] ws h m = refl
+  too-many (e ∷ es) ws h m = go (sameText (e .word) r) (takesAll (e .kinds) ws) refl (too-many es ws (right-rest e es h) m)
+    where
+      go : (x y : Bool) → takesAll (e .kinds) ws ≡ y → entryIn es r ws ≡ untaken → pick (x && y) (taken e) (entryIn es r ws) ≡ untaken
+      go true true p later = absurd (omega (arith, takes-length (e .kinds) ws p, right-first e es h .few, m))
+      go true false p later = later
+      go false y p later = later
+
+  -- the entry of a word with its operands, as the code has them
+  pub fitting-told : (text : List ℕ) (o : Operands) (ws : List Written) → RowIs text o ws → fittingBy (codesBy entries n) o ≡ chosenNumber (entryIn entries r ws)
+  unfolding fittingBy classAt
+  fitting-told text o [] h = rw h (chosen-from entries [] entries-right (omega arith))
+  fitting-told text o (u ∷ []) h = rw (h .0, class-form text (o .first) u (h .1)) (chosen-from entries (u ∷ []) entries-right (omega arith))
+  fitting-told text o (u ∷ v ∷ []) h = rw (h .0, class-form text (o .first) u (h .1 .0), class-form text (o .second) v (h .1 .1)) (chosen-from entries (u ∷ v ∷ []) entries-right (omega arith))
+  fitting-told text o (u ∷ v ∷ w ∷ []) h =
+      rw (h .0, class-form text (o .first) u (h .1 .0), class-form text (o .second) v (h .1 .1 .0), class-form text (o .third) w (h .1 .1 .1)) (chosen-from entries (u ∷ v ∷ w ∷ []) entries-right (omega arith))
+  fitting-told text o (u ∷ v ∷ w ∷ x ∷ ws) h = rw (h, too-many entries (u ∷ v ∷ w ∷ x ∷ ws) entries-right (omega arith))
+
+  -- and whether a word has entries
+  has-from : (es : List Entry) → allRight es ≡ true → hasWord es r ≡ isSome (codesBy es n)
+  unfolding codesBy hasWord
+  has-from [] h = refl
+  has-from (e ∷ es) h = let right = right-first e es h in go (eqb n (packedWord (e .word))) (sameText (e .word) r) (word-same (e .word) r (right .bytes) (right .short) k) (has-from es (right-rest e es h))
+    where
+      go : (x y : Bool) → x ≡ y → hasWord es r ≡ isSome (codesBy es n) → y || hasWord es r ≡ isSome (pick x (entryCode e ∷ codesBy es n) (codesBy es n))
+      go true true p later = refl
+      go true false p later = absurd (false≢true (sym p))
+      go false true p later = absurd (false≢true p)
+      go false false p later = later
+
+  pub word-told : (c : Codes) → codesIn c ≡ codesBy entries n → hasWord entries r ≡ not (eqb (c .0) noCode)
+  unfolding codesIn
+  word-told c e = has-from entries entries-right ∙ ap isSome (sym e) ∙ go _ (eqb (c .0) noCode)
+    where
+      go : (more : List ℕ) (b : Bool) → isSome (pick b [] (c .0 ∷ more)) ≡ not b
+      go more true = refl
+      go more false = refl

@@ -1,5 +1,6 @@
 -- The entries of the words as numbers, as the code has them.
-use mathlib.Core.Bool.{Bool, _&&_, _||_}
+use mathlib.Core.Path.{_≡_}
+use mathlib.Core.Bool.{Bool, true, _&&_, _||_}
 use mathlib.Core.List.{List, [], _∷_}
 use Prim.Native.Nat.{ℕ, zero, suc, _+_, _*_, _/_, _-_, _%_, _^_}
 use lib.Dec.{eqb, ltb, leb}
@@ -9,16 +10,29 @@ use Rattle.listing_rules.specs.Entries.{Kind, Entry, entries}
 use Rattle.listing_rules.specs.Entries.Kind.{'R, 'G, 'P, 'M, 'byte, 'word, 'bit, 'width, 'short, 'long}
 use Rattle.assembly_rules.specs.Operands.{Written}
 use Rattle.assembly_rules.specs.Operands.Written.{register, memory, value, nothing}
+use Rattle.assembler_forms.specs.declared.operands.Form.{Form}
+use Rattle.assembler_forms.specs.declared.operands.Operands.{Operands}
 use Rattle.assembler_forms.specs.declared.table.Codes.{Codes}
+use Rattle.assembler_forms.specs.Forms.{writtenForm}
 
--- characters in one number, the first in its lowest eight bits
+-- characters in one number, the first in its lowest eight bits, and 1 above the last
 unfoldable pub packedWord : List ℕ → ℕ
-packedWord [] = 0
+packedWord [] = 1
 packedWord (c ∷ cs) = c % 256 + 256 * packedWord cs
 
 -- no word has more than six characters
 unfoldable pub wordNumber : List ℕ → ℕ
 wordNumber cs = pick (ltb 6 (length cs)) 0 (packedWord cs)
+
+-- characters that are bytes
+unfoldable pub inBytes : List ℕ → Bool
+inBytes [] = true
+inBytes (c ∷ cs) = ltb c 256 && inBytes cs
+
+-- a number that is that of a word
+pub record NumberIs (n : ℕ) (word : List ℕ) : Type 0 where
+  pub number : n ≡ wordNumber word
+  pub bytes : inBytes word ≡ true
 
 -- a kind of place by a digit, 0 for none
 abbrev pub kindCode : Kind → ℕ
@@ -75,3 +89,12 @@ takesCode code a b c = takesClass (code / 0x10000000 % 16) a && (takesClass (cod
 unfoldable pub chosenBy : List ℕ → ℕ → ℕ → ℕ → ℕ
 chosenBy [] a b c = noCode
 chosenBy (code ∷ codes) a b c = pick (takesCode code a b c) code (chosenBy codes a b c)
+
+-- the class of an operand that may be there, and the first of some entries that takes operands as the code has them
+abbrev pub classThere : Bool → Form → ℕ
+classThere there f = pick there (classOf (writtenForm [] f)) 0
+
+unfoldable pub fittingBy : List ℕ → Operands → ℕ
+fittingBy codes o =
+    pick (ltb 3 (o .count)) noCode
+    (chosenBy codes (classThere (ltb 0 (o .count)) (o .first)) (classThere (ltb 1 (o .count)) (o .second)) (classThere (ltb 2 (o .count)) (o .third)))

@@ -85,7 +85,7 @@ fn base(number: u32) -> u32
 }
 
 // Whether a scan is of a whole sum.
-fn is_whole(s: Scan) -> bool
+pub fn is_whole(s: Scan) -> bool
     ensures { λ r. ⌜ r ≡ isWhole s ⌝ }
 {
     s.good & (!s.due & (s.opened == 0))
@@ -191,7 +191,7 @@ pub struct Operands {
 }
 
 // Whether a comma stands at a place.
-fn comma_at(text: &[u8], at: usize) -> bool
+pub fn comma_at(text: &[u8], at: usize) -> bool
     ensures { λ r. ⌜ r ≡ commaAt (now (text .entry)) at ⌝ }
 {
     if at < text.len() {

@@ -3,7 +3,7 @@
 use Prim.Native.Nat.{ℕ, _≤_}
 use native.Mathlib.Omega.{arith}
 use borrow.Author.Needs.{needs}
-use mathlib.Core.Path.{_≡_, sym, ap, _∙_}
+use mathlib.Core.Path.{_≡_, refl, ap, _∙_}
 use lib.ListN.{length, drop}
 use Rattle.assembly_rules.specs.Text.{capitals}
 use Rattle.assembler_forms.specs.Table.{packedWord}
@@ -18,7 +18,7 @@ abbrev μ-loop : tie.MeasureT-loop
 μ-loop run n₀ i₀ n i = i
 
 returns : tie.Need-returns Inv-loop μ-loop
-returns c = sym (number-long (c .before .before .args .run .now) (c .if1 .taken))
+returns c = number-long (c .before .before .args .run .now) _ (λ i. omega (arith, c .before .shared-slice-known .given i)) (c .if1 .taken) refl
 
 loop-holds : tie.Need-loop-holds Inv-loop μ-loop
 loop-holds c = (packed-end (c .before .before .args .run .now), omega arith)
@@ -33,7 +33,7 @@ loop-again : tie.Need-loop-again Inv-loop μ-loop
 loop-again c = let l = c .before .before .before .loop in (packed-next (c .before .before .before .before .before .before .args .run .now) (l .i) _ (l .n) (c .before .before .loop-test .taken) (l .inv .1) (c .capital .ensures) (omega (arith, c .capital .ok)) (l .inv .0), omega (arith, l .inv .1))
 
 returns-2 : tie.Need-returns-2 Inv-loop μ-loop
-returns-2 c = let l = c .before .loop in let z : l .i ≡ 0 = omega (arith, c .loop-test .left) in l .inv .0 ∙ ap (λ (i : ℕ). packedWord (capitals (drop i (c .before .before .before .before .args .run .now)))) z ∙ sym (number-short (c .before .before .before .before .args .run .now) (c .before .before .if1 .left))
+returns-2 c = let l = c .before .loop in let z : l .i ≡ 0 = omega (arith, c .loop-test .left) in number-short (c .before .before .before .before .args .run .now) _ (λ i. omega (arith, c .before .before .before .shared-slice-known .given i)) (c .before .before .if1 .left) (l .inv .0 ∙ ap (λ (i : ℕ). packedWord (capitals (drop i (c .before .before .before .before .args .run .now)))) z)
 
 pub word-number-spec : {M : Type 1} → statement M
 word-number-spec = tie.close (tie.spec Inv-loop μ-loop returns loop-holds (λ c. search needs) mul-n (λ c. search needs) (λ c κs. search needs) (λ c. search needs) add-n (λ c. search needs) loop-again returns-2)
