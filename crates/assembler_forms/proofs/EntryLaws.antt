@@ -8,7 +8,7 @@ use native.Mathlib.Omega.{arith}
 use native.Mathlib.Nat.{mod-eq-of-lt}
 use lib.Dec.{eqb, ltb, leb}
 use lib.ListN.{length}
-use borrow.Author.Tests.{eqb-true, eqb-false, eq-eqb, ne-eqb, ltb-true, leb-true, le-ltb}
+use borrow.Author.Tests.{eqb-true, eqb-false, eq-eqb, ne-eqb, ltb-true, leb-true}
 use Rattle.ground_rules.specs.Choice.{pick}
 use Rattle.listing_rules.specs.Characters.{sameText}
 use Rattle.listing_rules.specs.Entries.{Kind, Entry, entries}
@@ -277,7 +277,7 @@ abbrev pub chosenNumber : Chosen → ℕ
 chosenNumber (taken e) = entryCode e
 chosenNumber untaken = noCode
 
-takes-length : (ks : List Kind) (ws : List Written) → takesAll ks ws ≡ true → length ks ≡ length ws
+pub takes-length : (ks : List Kind) (ws : List Written) → takesAll ks ws ≡ true → length ks ≡ length ws
 unfolding takesAll
 takes-length [] [] h = refl
 takes-length [] (w ∷ ws) h = absurd (false≢true h)

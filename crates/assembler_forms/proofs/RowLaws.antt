@@ -193,32 +193,46 @@ cut-more (t ∷ ts) us h = go (isComma t) refl h (cut-more ts us)
     go true e k later = let z : ts ≡ us = cc in rw z
     go false e k later = ap (ahead t) (later k)
 
+-- the parts from a place on; `p` is the place of the next comma
+abbrev pub partsFrom : List ℕ → ℕ → List (List Token)
+partsFrom text at = cutAt isComma (tokensOf (drop at text))
+
+pub parts-end : (text : List ℕ) (at p : ℕ) → p ≡ stopAt text at → commaAt text p ≡ false → partsFrom text at ≡ operandTokens text at ∷ []
+parts-end text at p e h = cut-one (tokensOf (drop at text)) (comma-none text at (ap (commaAt text) (sym e) ∙ h))
+
+pub parts-more : (text : List ℕ) (at p : ℕ) → p ≡ stopAt text at → commaAt text p ≡ true → partsFrom text at ≡ operandTokens text at ∷ partsFrom text (p + 1)
+parts-more text at p e h = cut-more (tokensOf (drop at text)) (tokensOf (drop (p + 1) text)) (comma-next text at (ap (commaAt text) (sym e) ∙ h) ∙ ap (λ (n : ℕ). mark 44 ∷ tokensOf (drop (n + 1) text)) (sym e))
+
+-- a part that has tokens ends behind its first place
+pub part-ahead : (text : List ℕ) (at p : ℕ) (t : Token) (ts : List Token) → p ≡ stopAt text at → commaAt text p ≡ true → operandTokens text at ≡ t ∷ ts → at < p
+unfolding stopAt beforeComma
+part-ahead text at p t ts e h k = go (ltb at p) refl
+  where
+    go : (b : Bool) → ltb at p ≡ b → at < p
+    go true l = ltb-true at p l
+    go false l =
+        let same : p ≡ at = omega (arith, ltb-false at p l, e) in
+        no-list (sym k ∙ ap beforeComma (comma-tokens text at (ap (commaAt text) (sym same) ∙ h)))
+
 -- the operands from a place on
 abbrev pub rowFrom : List ℕ → ℕ → List Written
-rowFrom text at = operandsFrom (cutAt isComma (tokensOf (drop at text)))
+rowFrom text at = operandsFrom (partsFrom text at)
 
-pub row-one : (text : List ℕ) (at : ℕ) → commaAt text (stopAt text at) ≡ false → rowFrom text at ≡ operandFrom (operandTokens text at) ∷ []
-unfolding operandsFrom
-row-one text at h = ap operandsFrom (cut-one (tokensOf (drop at text)) (comma-none text at h))
-
-pub row-more : (text : List ℕ) (at : ℕ) → commaAt text (stopAt text at) ≡ true → rowFrom text at ≡ operandFrom (operandTokens text at) ∷ rowFrom text (stopAt text at + 1)
-unfolding operandsFrom
-row-more text at h = ap operandsFrom (cut-more (tokensOf (drop at text)) (tokensOf (drop (stopAt text at + 1) text)) (comma-next text at h))
-
--- the same with the place of the comma at hand
 pub row-ends : (text : List ℕ) (at p : ℕ) → p ≡ stopAt text at → commaAt text p ≡ false → rowFrom text at ≡ operandFrom (operandTokens text at) ∷ []
-row-ends text at p e h = row-one text at (ap (commaAt text) (sym e) ∙ h)
+unfolding operandsFrom
+row-ends text at p e h = ap operandsFrom (parts-end text at p e h)
 
 pub row-goes : (text : List ℕ) (at p : ℕ) → p ≡ stopAt text at → commaAt text p ≡ true → rowFrom text at ≡ operandFrom (operandTokens text at) ∷ rowFrom text (p + 1)
-row-goes text at p e h = row-more text at (ap (commaAt text) (sym e) ∙ h) ∙ ap (λ (n : ℕ). operandFrom (operandTokens text at) ∷ rowFrom text (n + 1)) (sym e)
+unfolding operandsFrom
+row-goes text at p e h = ap operandsFrom (parts-more text at p e h)
 
 -- there is always one
 pub row-first : (text : List ℕ) (at : ℕ) → (w : Written) × ((ws : List Written) × (rowFrom text at ≡ w ∷ ws))
 row-first text at = go (commaAt text (stopAt text at)) refl
   where
     go : (b : Bool) → commaAt text (stopAt text at) ≡ b → (w : Written) × ((ws : List Written) × (rowFrom text at ≡ w ∷ ws))
-    go true e = (operandFrom (operandTokens text at), (rowFrom text (stopAt text at + 1), row-more text at e))
-    go false e = (operandFrom (operandTokens text at), ([], row-one text at e))
+    go true e = (operandFrom (operandTokens text at), (rowFrom text (stopAt text at + 1), row-goes text at _ refl e))
+    go false e = (operandFrom (operandTokens text at), ([], row-ends text at _ refl e))
 
 -- no operands where the line ends
 ends-tokens : (text : List ℕ) (at : ℕ) (f : TokenFound) → tokenAt text at ≡ f → endsBy f ≡ true → tokensOf (drop at text) ≡ []

@@ -6,7 +6,7 @@ use Prim.Native.Nat.{ℕ, zero, suc, _+_, _*_, _/_, _-_, _%_, _^_}
 use lib.Dec.{eqb, ltb, leb}
 use lib.ListN.{length}
 use Rattle.ground_rules.specs.Choice.{pick}
-use Rattle.listing_rules.specs.Entries.{Kind, Entry, entries}
+use Rattle.listing_rules.specs.Entries.{Kind, Entry}
 use Rattle.listing_rules.specs.Entries.Kind.{'R, 'G, 'P, 'M, 'byte, 'word, 'bit, 'width, 'short, 'long}
 use Rattle.assembly_rules.specs.Operands.{Written}
 use Rattle.assembly_rules.specs.Operands.Written.{register, memory, value, nothing}

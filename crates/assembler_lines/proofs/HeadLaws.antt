@@ -11,7 +11,7 @@ use Rattle.ground_rules.specs.Choice.{pick}
 use Rattle.assembly_rules.specs.Text.{capitalOf, capitals, isDigit, Token, tokensOf}
 use Rattle.assembly_rules.specs.Text.Token.{run, mark}
 use Rattle.assembly_rules.specs.Sums.{beginsDigit}
-use Rattle.assembly_rules.specs.Statements.{Headed, headed, headedBy}
+use Rattle.assembly_rules.specs.Statements.{headed, headedBy}
 use Rattle.assembler_text.specs.declared.tokens.TokenFound.the-variants.{Nothing, Run, Mark}
 use Rattle.assembler_text.specs.Places.{between, tokenAt}
 use Rattle.assembler_text.proofs.PlaceLaws.{no-tokens-there, run-tokens, mark-tokens, run-lies, run-name}

@@ -1,1 +1,4 @@
 pub mod HeadLaws
+pub mod ItemLaws
+pub mod WrittenLaws
+pub mod BodyLaws
