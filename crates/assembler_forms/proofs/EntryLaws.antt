@@ -145,20 +145,21 @@ kindAt n [] = 0
 kindAt zero (k ∷ ks) = kindCode k
 kindAt (suc n) (k ∷ ks) = kindAt n ks
 
+-- a test that each of some entries passes
+unfoldable pub eachEntry : (Entry → Bool) → List Entry → Bool
+eachEntry test [] = true
+eachEntry test (e ∷ es) = test e && eachEntry test es
+
 -- an entry of which the number's digits are right, that has at most three places, and whose word is told by its number
-rightEntry : Entry → Bool
+pub rightEntry : Entry → Bool
 rightEntry e =
     eqb (entryCode e / 0x10000000 % 16) (kindAt 0 (e .kinds))
     && (eqb (entryCode e / 0x1000000 % 16) (kindAt 1 (e .kinds))
     && (eqb (entryCode e / 0x100000 % 16) (kindAt 2 (e .kinds))
     && (leb (length (e .kinds)) 3 && (inBytes (e .word) && (leb (length (e .word)) 6 && ltb (entryCode e) noCode)))))
 
-pub allRight : List Entry → Bool
-allRight [] = true
-allRight (e ∷ es) = rightEntry e && allRight es
-
-pub entries-right : allRight entries ≡ true
-unfolding allRight rightEntry entries entryCode kindsCode kindAt inBytes
+pub entries-right : eachEntry rightEntry entries ≡ true
+unfolding eachEntry rightEntry entries entryCode kindsCode kindAt inBytes
 entries-right = refl
 
 pub record Right (e : Entry) : Type 0 where
@@ -170,12 +171,11 @@ pub record Right (e : Entry) : Type 0 where
   pub short : length (e .word) ≤ 6
   pub some : entryCode e < noCode
 
-pub right-first : (e : Entry) (es : List Entry) → allRight (e ∷ es) ≡ true → Right e
-unfolding allRight rightEntry
-right-first e es h =
+pub right-so : (e : Entry) → rightEntry e ≡ true → Right e
+unfolding rightEntry
+right-so e a =
     let n = entryCode e in
     let ks = e .kinds in
-    let a = both-left (rightEntry e) (allRight es) h in
     let b = both-right (eqb (n / 0x10000000 % 16) (kindAt 0 ks)) _ a in
     let c = both-right (eqb (n / 0x1000000 % 16) (kindAt 1 ks)) _ b in
     let d = both-right (eqb (n / 0x100000 % 16) (kindAt 2 ks)) _ c in
@@ -191,9 +191,13 @@ right-first e es h =
       some = ltb-true n noCode (both-right (leb (length (e .word)) 6) _ g);
     }
 
-pub right-rest : (e : Entry) (es : List Entry) → allRight (e ∷ es) ≡ true → allRight es ≡ true
-unfolding allRight
-right-rest e es h = both-right (rightEntry e) (allRight es) h
+right-first : (e : Entry) (es : List Entry) → eachEntry rightEntry (e ∷ es) ≡ true → Right e
+unfolding eachEntry
+right-first e es h = right-so e (both-left (rightEntry e) (eachEntry rightEntry es) h)
+
+right-rest : (e : Entry) (es : List Entry) → eachEntry rightEntry (e ∷ es) ≡ true → eachEntry rightEntry es ≡ true
+unfolding eachEntry
+right-rest e es h = both-right (rightEntry e) (eachEntry rightEntry es) h
 
 no-operand : (k : Kind) → takesClass (kindCode k) 0 ≡ false
 unfolding takesClass
@@ -300,7 +304,7 @@ isSome [] = false
 isSome (c ∷ cs) = true
 
 module _ (r : List ℕ) (n : ℕ) (k : NumberIs n r) where
-  chosen-from : (es : List Entry) (ws : List Written) → allRight es ≡ true → length ws ≤ 3 → chosenBy (codesBy es n) (classAt 0 ws) (classAt 1 ws) (classAt 2 ws) ≡ chosenNumber (entryIn es r ws)
+  chosen-from : (es : List Entry) (ws : List Written) → eachEntry rightEntry es ≡ true → length ws ≤ 3 → chosenBy (codesBy es n) (classAt 0 ws) (classAt 1 ws) (classAt 2 ws) ≡ chosenNumber (entryIn es r ws)
   unfolding codesBy entryIn chosenBy
   chosen-from [] ws h m = refl
   chosen-from (e ∷ es) ws h m =
@@ -325,7 +329,7 @@ module _ (r : List ℕ) (n : ℕ) (k : NumberIs n r) where
       go false false z p q later = later
 
   -- no entry takes more than three operands
-  too-many : (es : List Entry) (ws : List Written) → allRight es ≡ true → 3 < length ws → entryIn es r ws ≡ untaken
+  too-many : (es : List Entry) (ws : List Written) → eachEntry rightEntry es ≡ true → 3 < length ws → entryIn es r ws ≡ untaken
   unfolding entryIn
   too-many [] ws h m = refl
   too-many (e ∷ es) ws h m = go (sameText (e .word) r) (takesAll (e .kinds) ws) refl (too-many es ws (right-rest e es h) m)
@@ -346,7 +350,7 @@ module _ (r : List ℕ) (n : ℕ) (k : NumberIs n r) where
   fitting-told text o (u ∷ v ∷ w ∷ x ∷ ws) h = rw (h, too-many entries (u ∷ v ∷ w ∷ x ∷ ws) entries-right (omega arith))
 
   -- and whether a word has entries
-  has-from : (es : List Entry) → allRight es ≡ true → hasWord es r ≡ isSome (codesBy es n)
+  has-from : (es : List Entry) → eachEntry rightEntry es ≡ true → hasWord es r ≡ isSome (codesBy es n)
   unfolding codesBy hasWord
   has-from [] h = refl
   has-from (e ∷ es) h = let right = right-first e es h in go (eqb n (packedWord (e .word))) (sameText (e .word) r) (word-same (e .word) r (right .bytes) (right .short) k) (has-from es (right-rest e es h))

@@ -15,6 +15,7 @@ use Rattle.assembly_rules.specs.Text.{Token, tokensOf}
 use Rattle.assembly_rules.specs.Text.Token.{run}
 use Rattle.assembly_rules.specs.Operands.{Written, takesAll, hasWord, Chosen, entryIn, isShallow, allShallow, operandsFrom}
 use Rattle.assembly_rules.specs.Operands.Chosen.{taken, untaken}
+use Rattle.assembly_rules.proofs.WritingLaws.{both-left, both-right}
 use Rattle.assembly_rules.specs.Statements.{operandParts, itemsFrom, formedBy, wordStatement, statementOf}
 use Rattle.assembly_rules.specs.Statements.Statement.{refused}
 use Rattle.assembler_text.specs.declared.tokens.TokenFound.the-variants.{Nothing, Mark}
@@ -24,7 +25,7 @@ use Rattle.assembler_forms.specs.declared.operands.Operands.{Operands}
 use Rattle.assembler_forms.specs.declared.table.Codes.{Codes}
 use Rattle.assembler_forms.specs.Rows.{RowIs}
 use Rattle.assembler_forms.specs.Table.{packedWord, inBytes, NumberIs, entryCode, noCode, codesBy, codesIn, fittingBy}
-use Rattle.assembler_forms.proofs.EntryLaws.{allRight, entries-right, Right, right-first, right-rest, takes-length, word-same, chosenNumber, fitting-told, word-told}
+use Rattle.assembler_forms.proofs.EntryLaws.{eachEntry, rightEntry, entries-right, Right, right-so, takes-length, word-same, chosenNumber, fitting-told, word-told}
 use Rattle.assembler_lines.specs.declared.bodies.Body.the-variants.{Blank, Instruction, Refused}
 use Rattle.assembler_lines.specs.Bodies.{Among, BodyIs}
 use Rattle.assembler_lines.specs.Bodies.Among.{here, later}
@@ -52,24 +53,36 @@ same-swap (c ∷ a) (d ∷ b) = rw (same-swap a b) (ap (λ (x : Bool). x && same
     go true e = sym (eq-eqb d c (sym (eqb-true c d e)))
     go false e = sym (ne-eqb d c (λ z. eqb-false c d e (sym z)))
 
--- an entry that was found
-pub record Found (e : Entry) (ws : List Written) (es : List Entry) : Type 0 where
-  pub listed : Among e es
-  pub fits : takesAll (e .kinds) ws ≡ true
-  pub right : Right e
+-- each entry passes a test that all pass
+pub among-passes : (test : Entry → Bool) (e : Entry) {es : List Entry} → eachEntry test es ≡ true → Among e es → test e ≡ true
+unfolding eachEntry
+among-passes test e h (here {es = es}) = both-left (test e) (eachEntry test es) h
+among-passes test e h (later {f = f} {es = es} a) = among-passes test e (both-right (test f) (eachEntry test es) h) a
 
-entry-found : (es : List Entry) (word : List ℕ) (ws : List Written) (e : Entry) → allRight es ≡ true → entryIn es word ws ≡ taken e → Found e ws es
+pub among-right : (e : Entry) → Among e entries → Right e
+among-right e a = right-so e (among-passes rightEntry e entries-right a)
+
+-- an entry that was found
+record Found (e : Entry) (ws : List Written) (es : List Entry) : Type 0 where
+  listed : Among e es
+  fits : takesAll (e .kinds) ws ≡ true
+
+entry-found : (es : List Entry) (word : List ℕ) (ws : List Written) (e : Entry) → entryIn es word ws ≡ taken e → Found e ws es
 unfolding entryIn
-entry-found [] word ws e h k = no-entry k
+entry-found [] word ws e k = no-entry k
   where
     no-entry : {A : Type 0} → untaken ≡ taken e → A
     no-entry z = let q : _≡_ {A = ℕ} 0 1 = cc in absurd (eqb-false 0 1 refl q)
-entry-found (f ∷ es) word ws e h k = go (sameText (f .word) word) (takesAll (f .kinds) ws) refl k (entry-found es word ws e (right-rest f es h))
+entry-found (f ∷ es) word ws e k = go (sameText (f .word) word) (takesAll (f .kinds) ws) refl k (entry-found es word ws e)
   where
     go : (a b : Bool) → takesAll (f .kinds) ws ≡ b → pick (a && b) (taken f) (entryIn es word ws) ≡ taken e → (entryIn es word ws ≡ taken e → Found e ws es) → Found e ws (f ∷ es)
-    go true true p q more = let z : f ≡ e = cc in subst (λ (x : Entry). Found x ws (f ∷ es)) z (record { listed = here; fits = p; right = right-first f es h })
-    go true false p q more = let m = more q in record { listed = later (m .listed); fits = m .fits; right = m .right }
-    go false b p q more = let m = more q in record { listed = later (m .listed); fits = m .fits; right = m .right }
+    go true true p q more = let z : f ≡ e = cc in subst (λ (x : Entry). Found x ws (f ∷ es)) z (record { listed = here; fits = p })
+    go true false p q more = let m = more q in record { listed = later (m .listed); fits = m .fits }
+    go false b p q more = let m = more q in record { listed = later (m .listed); fits = m .fits }
+
+-- and has no more than three places
+pub few-operands : (e : Entry) (ws : List Written) → Among e entries → takesAll (e .kinds) ws ≡ true → length ws ≤ 3
+few-operands e ws a h = omega (arith, among-right e a .few, takes-length (e .kinds) ws h)
 
 -- at most three operands are shallow as the code has it
 row-low : (text : List ℕ) (o : Operands) (ws : List Written) → length ws ≤ 3 → RowIs text o ws → rowLow o ≡ allShallow ws
@@ -118,7 +131,7 @@ module _ (name : List ℕ) (n : ℕ) (k : NumberIs n name) where
         says-no-form z = (formed ∙ go (entryIn entries name (operandsFrom (operandParts ts))) refl (sym told ∙ z), (omega arith, omega arith))
           where
             go : (x : Chosen) → entryIn entries name (operandsFrom (operandParts ts)) ≡ x → chosenNumber x ≡ noCode → formedBy x (operandsFrom (operandParts ts)) ≡ refused 31
-            go (taken e) f q = absurd (omega (arith, entry-found entries name (operandsFrom (operandParts ts)) e entries-right f .right .some, q))
+            go (taken e) f q = absurd (omega (arith, among-right e (entry-found entries name (operandsFrom (operandParts ts)) e f .listed) .some, q))
             go untaken f q = refl
 
         module _ (code : ℕ) (is : code ≡ fittingBy (codesIn codes) o) (z : code ≡ noCode → ⊥) where
@@ -132,11 +145,11 @@ module _ (name : List ℕ) (n : ℕ) (k : NumberIs n name) where
           it = go (entryIn entries name (operandsFrom (operandParts ts))) refl (is ∙ told)
             where
               go : (x : Chosen) → entryIn entries name (operandsFrom (operandParts ts)) ≡ x → code ≡ chosenNumber x → Taken
-              go (taken e) f q = record { entry = e; so = f; number = q; found = entry-found entries name (operandsFrom (operandParts ts)) e entries-right f }
+              go (taken e) f q = record { entry = e; so = f; number = q; found = entry-found entries name (operandsFrom (operandParts ts)) e f }
               go untaken f q = absurd (z q)
 
           shallow : rowLow o ≡ allShallow (operandsFrom (operandParts ts))
-          shallow = row-low text o (operandsFrom (operandParts ts)) (omega (arith, it .found .right .few, takes-length (it .entry .kinds) (operandsFrom (operandParts ts)) (it .found .fits))) row
+          shallow = row-low text o (operandsFrom (operandParts ts)) (few-operands (it .entry) (operandsFrom (operandParts ts)) (it .found .listed) (it .found .fits)) row
 
           pub says-deep : rowLow o ≡ false → BodyIs text (Refused 32) (statementOf (run name ∷ ts))
           says-deep l = (formed ∙ ap (λ (x : Chosen). formedBy x (operandsFrom (operandParts ts))) (it .so) ∙ rw (sym shallow ∙ l), (omega arith, omega arith))

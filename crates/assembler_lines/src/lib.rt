@@ -4,3 +4,5 @@
 pub mod bodies;
 // What a line says.
 pub mod lines;
+// How many bytes a line has.
+pub mod sizes;
