@@ -11,7 +11,7 @@ use lib.Seq.{drop-drop, getD-drop}
 use borrow.Author.Tests.{eqb-true, ltb-true, ltb-false, lt-ltb, le-ltb}
 use Rattle.ground_rules.specs.Choice.{pick}
 use Rattle.assembly_rules.specs.Text.{capitalOf, isDigit, isCapital, isRun, isBlank, endsLine, Token, runBefore, begunBy, tokensOf, ahead, cutAt, isComma, beforeComma, fromComma}
-use Rattle.assembly_rules.specs.Text.Token.{run, mark}
+use Rattle.assembly_rules.specs.Text.Token.{mark}
 use Rattle.assembly_rules.specs.Operands.{Written, operandFrom, operandsFrom}
 use Rattle.assembly_rules.specs.Statements.{operandParts}
 use Rattle.assembly_rules.proofs.TextLaws.{tokens-blank, tokens-end, tokens-mark, rest-more}

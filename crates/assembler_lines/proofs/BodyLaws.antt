@@ -1,11 +1,11 @@
 -- What a word says with what stands behind it, by its number.
 -- Assumes nothing.
 use mathlib.Core.Path.{_≡_, refl, sym, ap, subst, _∙_}
-use mathlib.Core.Bool.{Bool, true, false, _&&_}
+use mathlib.Core.Bool.{Bool, true, false, not, _&&_, _||_}
 use mathlib.Core.List.{List, [], _∷_}
 use Prim.Native.Nat.{ℕ, _≤_}
 use native.Mathlib.Omega.{arith}
-use lib.Dec.{eqb}
+use lib.Dec.{eqb, ltb}
 use lib.ListN.{length, drop}
 use borrow.Author.Tests.{eqb-true, eqb-false, eq-eqb, ne-eqb}
 use Rattle.ground_rules.specs.Choice.{pick}
@@ -13,6 +13,8 @@ use Rattle.listing_rules.specs.Characters.{ascii, sameText}
 use Rattle.listing_rules.specs.Entries.{Entry, entries}
 use Rattle.assembly_rules.specs.Text.{Token, tokensOf}
 use Rattle.assembly_rules.specs.Text.Token.{run}
+use Rattle.assembly_rules.specs.Sums.{registerNumber}
+use Rattle.assembly_rules.specs.Assembly.{isReserved}
 use Rattle.assembly_rules.specs.Operands.{Written, takesAll, hasWord, Chosen, entryIn, isShallow, allShallow, operandsFrom}
 use Rattle.assembly_rules.specs.Operands.Chosen.{taken, untaken}
 use Rattle.assembly_rules.proofs.WritingLaws.{both-left, both-right}
@@ -102,6 +104,10 @@ module _ (name : List ℕ) (n : ℕ) (k : NumberIs n name) where
   pub words-told : eqb n 0x15744 ≡ sameText name (ascii "DW")
   unfolding packedWord inBytes
   words-told = word-same (ascii "DW") name refl (omega arith) k ∙ same-swap (ascii "DW") name
+
+  pub reserved-told : (codes : Codes) → codesIn codes ≡ codesBy entries n → not (eqb (codes .0) noCode) || (eqb n 0x14244 || (eqb n 0x15744 || ltb (registerNumber name) 9)) ≡ isReserved name
+  unfolding isReserved
+  reserved-told codes c = rw (word-told name n k codes c, bytes-told, words-told)
 
   module _ (ts : List Token) where
     pub says-bytes : n ≡ 0x14244 → statementOf (run name ∷ ts) ≡ itemsFrom false (operandParts ts)

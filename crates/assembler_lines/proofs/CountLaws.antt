@@ -6,14 +6,14 @@ use mathlib.Core.List.{List, [], _∷_}
 use Prim.Native.Nat.{ℕ, _+_, _/_, _%_, _≤_}
 use native.Mathlib.Nat.{mod-lt}
 use native.Mathlib.Omega.{arith}
-use lib.Dec.{eqb, ltb, lit<}
+use lib.Dec.{eqb, lit<}
 use lib.ListN.{length}
 use borrow.Author.Tests.{eqb-true}
 use Rattle.ground_rules.specs.Choice.{pick}
 use Rattle.listing_rules.specs.Entries.{Entry, entries}
 use Rattle.assembly_rules.specs.Operands.{Written}
 use Rattle.assembly_rules.specs.Statements.{Statement, offsetsSize, kindsSize, memoriesIn, pairsSize, statementSize}
-use Rattle.assembly_rules.specs.Statements.Statement.{blank, instruction, refused}
+use Rattle.assembly_rules.specs.Statements.Statement.{blank, refused}
 use Rattle.assembler_forms.specs.declared.operands.Form.{Form}
 use Rattle.assembler_forms.specs.declared.operands.Form.the-variants.{Register, Memory, Value, NoOperand}
 use Rattle.assembler_forms.specs.declared.operands.Operands.{Operands}

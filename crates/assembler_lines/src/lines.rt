@@ -13,9 +13,10 @@ ghost use mathlib.Core.Path.{_≡_};
 ghost use mathlib.Core.List.{List, _∷_};
 ghost use Prim.Native.Nat.{ℕ, _≤_};
 ghost use lib.ListN.{drop};
-ghost use Rattle.assembly_rules.specs.Text.{tokensOf};
+ghost use Rattle.assembly_rules.specs.Text.{capitals, tokensOf};
 ghost use Rattle.assembly_rules.specs.Text.Token.{run};
 ghost use Rattle.assembly_rules.specs.Statements.{operandParts, itemsFrom, statementOf};
+ghost use Rattle.assembly_rules.specs.Assembly.{isReserved};
 ghost use Rattle.assembler_forms.specs.Table.{NumberIs};
 ghost use Rattle.assembler_lines.specs.Bodies.{HeadIs, BodyIs};
 ghost use Rattle.assembler_lines.specs.Counts.{lowThere, rowLow};
@@ -157,4 +158,14 @@ pub fn body(text: &[u8], at: usize) -> Body
             worded(text, to, word)
         }
     }
+}
+
+// Whether a run is no name for a label: a word, DB, DW or a register.
+pub fn is_reserved(run: &[u8]) -> bool
+    ensures { λ r. ⌜ r ≡ isReserved (capitals (now (run .entry))) ⌝ }
+{
+    let word = table::word_number(run);
+    let codes = table::codes_of(word);
+    let register = sums::register_number(run);
+    (codes.0 != table::NONE) | ((word == DB) | ((word == DW) | (register < 9)))
 }

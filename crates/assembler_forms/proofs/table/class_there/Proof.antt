@@ -2,7 +2,7 @@
 -- Assumes nothing.
 use borrow.Author.Needs.{needs}
 use mathlib.Core.Path.{sym, _∙_}
-use Rattle.assembler_text.proofs.PlaceLaws.{chosen, passed}
+use Rattle.assembler_text.proofs.PlaceLaws.{chosen}
 use Rattle.assembler_forms.proofs.table.class_there.Statement.{statement}
 use Rattle.assembler_forms.proofs.table.class_there.Tie as tie
 
