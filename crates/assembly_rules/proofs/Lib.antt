@@ -11,3 +11,4 @@ pub mod WholeVectors
 pub mod LabelLaws
 pub mod PassLaws
 pub mod FirstLaws
+pub mod OperandLaws

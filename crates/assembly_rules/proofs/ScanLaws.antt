@@ -435,7 +435,7 @@ other-part : (r : List ℕ) → isTerm r ≡ false → roleOf (run r) ≡ Other
 unfolding roleOf
 other-part r h = rw h
 
-bad-first : (t : Token) (ts : List Token) → roleOf t ≡ Other → isWhole (scanFrom scanStart (t ∷ ts)) ≡ false
+pub bad-first : (t : Token) (ts : List Token) → roleOf t ≡ Other → isWhole (scanFrom scanStart (t ∷ ts)) ≡ false
 unfolding scanFrom scanned
 bad-first t ts h = ap (λ (p : Role). isWhole (scanFrom (scanned scanStart p) ts)) h ∙ bad-stays ts (noSum scanStart) refl
 
