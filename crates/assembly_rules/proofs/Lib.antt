@@ -12,3 +12,4 @@ pub mod LabelLaws
 pub mod PassLaws
 pub mod FirstLaws
 pub mod OperandLaws
+pub mod FormLaws
