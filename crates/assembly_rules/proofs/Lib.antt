@@ -13,3 +13,4 @@ pub mod PassLaws
 pub mod FirstLaws
 pub mod OperandLaws
 pub mod FormLaws
+pub mod ValueLaws
