@@ -160,16 +160,16 @@ take-all noPlace = refl
 take-all (onePlace h hs) = rw (h, take-all hs)
 
 -- what a place takes: memory, a register or a number; so no two entries of one word take the same operands
-abbrev sortOf : Kind → ℕ
+abbrev pub sortOf : Kind → ℕ
 sortOf k = pick (isMemoryKind k) 1 (pick (takesRegister k 0) 0 2)
 
-abbrev sortWritten : Written → ℕ
+abbrev pub sortWritten : Written → ℕ
 sortWritten (register r) = 0
 sortWritten (memory mm aa ts) = 1
 sortWritten (value ts) = 2
 sortWritten nothing = 3
 
-takes-sort : (k : Kind) (w : Written) → takes k w ≡ true → sortOf k ≡ sortWritten w
+pub takes-sort : (k : Kind) (w : Written) → takes k w ≡ true → sortOf k ≡ sortWritten w
 unfolding takes
 takes-sort k (register r) h = go k h
   where
@@ -278,14 +278,14 @@ cut-some {A} test (a ∷ l) e = go (test a) (cutAt test l) e
     go false [] e = absurd (omega (arith, ap length e))
     go false (part ∷ parts) e = absurd (omega (arith, ap length e))
 
--- an operand has a tree, or is worth 0
-pub operand-tree : {part : List Token} {w : Written} → OperandOf part w → ((isShallow w ≡ true) × ((labels : List Label) → operandWorth labels w ≡ worth 0 true)) ⊎ ((s : Sum) × TreeOf w s)
+-- an operand has a tree, or is worth 0 and no number
+pub operand-tree : {part : List Token} {w : Written} → OperandOf part w → ((isShallow w ≡ true) × (((labels : List Label) → operandWorth labels w ≡ worth 0 true) × (sortWritten w ≡ 2 → ⊥))) ⊎ ((s : Sum) × TreeOf w s)
 unfolding isShallow depthOf scanFrom operandWorth
-operand-tree (alone n h) = inl (refl, λ labels. refl)
-operand-tree (based mm h) = inl (refl, λ labels. refl)
+operand-tree (alone n h) = inl (refl, (λ labels. refl, λ z. absurd (omega arith)))
+operand-tree (based mm h) = inl (refl, (λ labels. refl, λ z. absurd (omega arith)))
 operand-tree (offset mm h s) = inr (s, ofOffset mm s)
-operand-tree (indexed mm h) = inl (refl, λ labels. refl)
-operand-tree (stepped mm h) = inl (refl, λ labels. refl)
+operand-tree (indexed mm h) = inl (refl, (λ labels. refl, λ z. absurd (omega arith)))
+operand-tree (stepped mm h) = inl (refl, (λ labels. refl, λ z. absurd (omega arith)))
 operand-tree (summed s) = inr (s, ofValue s)
 
 pub operand-in : {parts : List (List Token)} {ws : List Written} {w : Written} → AllOperands parts ws → In w ws → (part : List Token) × OperandOf part w

@@ -14,3 +14,4 @@ pub mod FirstLaws
 pub mod OperandLaws
 pub mod FormLaws
 pub mod ValueLaws
+pub mod LineLaws
