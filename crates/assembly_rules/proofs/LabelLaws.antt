@@ -4,12 +4,12 @@ use mathlib.Core.Path.{_≡_, refl, sym, ap, _∙_}
 use mathlib.Core.Bool.{Bool, true, false, not, _&&_, false≢true}
 use mathlib.Core.List.{List, [], _∷_, _++_, append-assoc, append-nil, List·Memᴰ as In, List·Memᴰ·head as here, List·Memᴰ·tail as later}
 use mathlib.Core.Logic.{_⊎_, inl, inr, _↔_}
-use Prim.Native.Nat.{ℕ, zero, suc, _+_, _%_, _<_}
+use Prim.Native.Nat.{ℕ, zero, suc, _+_, _%_, _≤_, _<_}
 use native.Mathlib.Omega.{arith}
 use native.Mathlib.Nat.{mod-mod, mod-add-mod, add-zero, add-assoc}
 use lib.Dec.{ltb, leb}
 use lib.ListN.{length, length-append, getD, List·getD-append}
-use borrow.Author.Tests.{ltb-true, ltb-false, not-true}
+use borrow.Author.Tests.{leb-true, ltb-true, ltb-false, not-true}
 use Rattle.ground_rules.specs.Choice.{pick}
 use Rattle.listing_rules.specs.Characters.{sameText}
 use Rattle.assembly_rules.specs.Sums.{Label, label, labelWorth, worth}
@@ -192,9 +192,15 @@ new-apart kept name address h k i j l m e = go (ltb j (length kept)) refl
         let n : labelNamed kept i ≡ name = sym (before i (omega arith)) ∙ e ∙ ap (labelNamed (kept ++ new)) z ∙ ap (λ (x : Label). x .name) (at-end kept (label name address) (label [] 0)) in
         false≢true (sym h ∙ known-exactly kept name .1 (getD kept i (label [] 0), (in-at kept i (label [] 0) (omega arith), n)))
 
-may-new : (kept : List Label) (name : List ℕ) → mayKeep kept name ≡ true → labelWorth kept name .known ≡ false
+-- a label that may be kept
+pub may-parts : (kept : List Label) (name : List ℕ) → mayKeep kept name ≡ true → (length name ≤ 12) × ((labelWorth kept name .known ≡ false) × ((isReserved name ≡ false) × (length kept < 64)))
 unfolding mayKeep
-may-new kept name h = not-true (labelWorth kept name .known) (both-left (not (labelWorth kept name .known)) _ (both-right (leb (length name) 12) _ h))
+may-parts kept name h =
+    let a = both-right (leb (length name) 12) _ h in
+    let b = both-right (not (labelWorth kept name .known)) _ a in (
+      leb-true (length name) 12 (both-left (leb (length name) 12) _ h),
+      (not-true (labelWorth kept name .known) (both-left (not (labelWorth kept name .known)) _ a), (not-true (isReserved name) (both-left (not (isReserved name)) _ b), ltb-true (length kept) 64 (both-right (not (isReserved name)) _ b))),
+    )
 
 kept-apart : (kept : List Label) (address : ℕ) (name : List ℕ) → Apart kept → Apart (keptWith kept address name)
 unfolding keptWith
@@ -202,7 +208,7 @@ kept-apart kept address [] h = h
 kept-apart kept address (c ∷ cs) h = go (mayKeep kept (c ∷ cs)) refl
   where
     go : (b : Bool) → mayKeep kept (c ∷ cs) ≡ b → Apart (pick b (kept ++ (label (c ∷ cs) address ∷ [])) kept)
-    go true e = new-apart kept (c ∷ cs) address (may-new kept (c ∷ cs) e) h
+    go true e = new-apart kept (c ∷ cs) address (may-parts kept (c ∷ cs) e .1 .0) h
     go false e = h
 
 -- no two labels of a text have one name

@@ -16,19 +16,21 @@ use Rattle.listing_rules.specs.Entries.{Kind, Entry, entries}
 use Rattle.listing_rules.specs.Entries.Kind.{'R, 'G, 'P, 'M, 'byte, 'word, 'bit, 'width, 'short, 'long}
 use Rattle.assembly_rules.specs.declared.Worth.{Worth}
 use Rattle.assembly_rules.specs.Text.{Token, tokensOf}
-use Rattle.assembly_rules.specs.Sums.{Label, labelWorth, worth, sumWorth}
+use Rattle.assembly_rules.specs.Sums.{indexIn, registerNumber, isRegister, Label, labelWorth, worth, sumWorth}
 use Rattle.assembly_rules.specs.Trees.{Sum, sumTokens, sumDepth, sumAdded, sumTaken, sumKnown}
-use Rattle.assembly_rules.specs.Operands.{Written, takes}
+use Rattle.assembly_rules.specs.Operands.{Written, takes, hasWord}
 use Rattle.assembly_rules.specs.Statements.{headedBy, operandParts, Statement, statementOf, statementSize, isByte, mayStand, operandWorth, namesKnown, allStand, itemsKnown, itemsStand, statementNumber}
 use Rattle.assembly_rules.specs.Statements.Statement.{blank, items, instruction, refused}
 use Rattle.assembly_rules.specs.Assembly.{Said, saidBy, isReserved, mayKeep, labelStands, pastRoom, lineNumber}
-use Rattle.assembly_rules.proofs.LabelLaws.{known-exactly}
-use Rattle.assembly_rules.proofs.FormLaws.{sortOf, takes-sort, every, every-fails, holds, fails, not-both, AllOperands, AllTake, NoWord, FormOf, TreeOf, HasTree, Deep, operand-tree, operand-in, no-word-is, form-goes, line-formed}
+use Rattle.assembly_rules.proofs.LabelLaws.{known-exactly, may-parts}
+use Rattle.assembly_rules.proofs.FormLaws.{dataWord, word-exactly, sortOf, takes-sort, every, every-fails, holds, fails, not-both, AllOperands, AllTake, NoWord, FormOf, TreeOf, HasTree, Deep, operand-tree, operand-in, no-word-is, form-goes, line-formed}
 use Rattle.assembly_rules.proofs.FormLaws.AllTake.{noPlace, onePlace}
 use Rattle.assembly_rules.proofs.FormLaws.FormOf.{empty, listed, coded}
 use Rattle.assembly_rules.proofs.FormLaws.TreeOf.{ofOffset, ofValue}
 use Rattle.assembly_rules.proofs.FormLaws.HasTree.{inItems, inOperands}
-use Rattle.assembly_rules.proofs.ValueLaws.{treeValue, tree-worth, sumNames, names-known, AsByte, Fits, byte-exactly, fits-exactly}
+use Rattle.assembly_rules.proofs.ScanLaws.{same-is, is-same}
+use Rattle.assembly_rules.proofs.OperandLaws.{registerText, number-named, text-named, register-named}
+use Rattle.assembly_rules.proofs.ValueLaws.{either-true, treeValue, tree-worth, sumNames, names-known, AsByte, Fits, byte-exactly, fits-exactly}
 
 -- a name in one of a form's trees that is the name of no label
 abbrev pub Unknown : List Label → Statement → Type 0
@@ -203,3 +205,82 @@ stand-fails labels address (coded e ts ws i os take) n =
       λ h. let x = f .0 (sym (operands-stand labels end (e .kinds) ws) ∙ h) in unfitPlace (x .0) (x .1 .0) (x .1 .1 .0) (x .1 .1 .1 .0) (x .1 .1 .1 .1 .0) (λ b. not-both (fits-tree labels (x .1 .1 .0) (x .0) end .1 b) (x .1 .1 .1 .1 .1)),
       λ x. operands-stand labels end (e .kinds) ws ∙ f .1 (elim x [ unfitPlace k w s m t b ↦ (k, (w, (s, (m, (t, fails (mayStand k end (treeValue labels s)) (λ y. b (fits-tree labels s k end .0 y))))))) ]),
     )
+
+-- the names that are no labels
+pub data Reserved : List ℕ → Type 0 where
+  wordReserved : (e : Entry) → In e entries → Reserved (e .word)
+  dataReserved : (two : Bool) → Reserved (dataWord two)
+  registerReserved : (n : ℕ) → n < 8 → Reserved (registerText n)
+  pointerReserved : Reserved (ascii "PP")
+
+-- a label that is not kept: over 12 characters, reserved, the name of one that is kept, or one too many
+pub data Unkept (kept : List Label) : List ℕ → Type 0 where
+  tooLong : (c : ℕ) (cs : List ℕ) → 12 < length (c ∷ cs) → Unkept kept (c ∷ cs)
+  noName : (c : ℕ) (cs : List ℕ) → Reserved (c ∷ cs) → Unkept kept (c ∷ cs)
+  again : (c : ℕ) (cs : List ℕ) (l : Label) → In l kept → l .name ≡ c ∷ cs → Unkept kept (c ∷ cs)
+  tooMany : (c : ℕ) (cs : List ℕ) → 64 ≤ length kept → Unkept kept (c ∷ cs)
+
+pointer-number : registerNumber (ascii "PP") ≡ 8
+unfolding registerNumber indexIn sameText
+pointer-number = refl
+
+register-reserved : (name : List ℕ) → registerNumber name < 9 → Reserved name
+register-reserved name h = go (ltb (registerNumber name) 8) refl
+  where
+    go : (b : Bool) → ltb (registerNumber name) 8 ≡ b → Reserved name
+    go true e = let l = ltb-true (registerNumber name) 8 e in subst Reserved (sym (text-named name l)) (registerReserved (registerNumber name) l)
+    go false e = let l = ltb-false (registerNumber name) 8 e in subst Reserved (sym (register-named name 8 (omega arith) (omega arith))) pointerReserved
+
+reserved-exactly : (name : List ℕ) → (isReserved name ≡ true) ↔ Reserved name
+unfolding isReserved
+reserved-exactly name = (λ h. finds (hasWord entries name) refl (sameText name (dataWord false)) refl (sameText name (dataWord true)) refl h, λ x. has x)
+  where
+    finds : (a : Bool) → hasWord entries name ≡ a → (b : Bool) → sameText name (dataWord false) ≡ b → (c : Bool) → sameText name (dataWord true) ≡ c → a || (b || (c || isRegister name)) ≡ true → Reserved name
+    finds true p b q c r h = let x = word-exactly entries name .0 p in subst Reserved (x .1 .1) (wordReserved (x .0) (x .1 .0))
+    finds false p true q c r h = subst Reserved (sym (same-is name (dataWord false) q)) (dataReserved false)
+    finds false p false q true r h = subst Reserved (sym (same-is name (dataWord true) r)) (dataReserved true)
+    finds false p false q false r h = register-reserved name (ltb-true (registerNumber name) 9 h)
+
+    some : (name : List ℕ) → (hasWord entries name ≡ true) ⊎ ((sameText name (ascii "DB") ≡ true) ⊎ ((sameText name (ascii "DW") ≡ true) ⊎ (isRegister name ≡ true))) → isReserved name ≡ true
+    some name x =
+        either-true (hasWord entries name) (sameText name (ascii "DB") || (sameText name (ascii "DW") || isRegister name)) .1
+        (elim x [ inl e ↦ inl e | inr y ↦ inr (either-true (sameText name (ascii "DB")) (sameText name (ascii "DW") || isRegister name) .1 (elim y [ inl e ↦ inl e | inr z ↦ inr (either-true (sameText name (ascii "DW")) (isRegister name) .1 z) ])) ])
+
+    has : {name : List ℕ} → Reserved name → isReserved name ≡ true
+    has (wordReserved e i) = some (e .word) (inl (word-exactly entries (e .word) .1 (e, (i, refl))))
+    has (dataReserved false) = some (ascii "DB") (inr (inl (is-same (ascii "DB"))))
+    has (dataReserved true) = some (ascii "DW") (inr (inr (inl (is-same (ascii "DW")))))
+    has (registerReserved n h) = some (registerText n) (inr (inr (inr (lt-ltb (registerNumber (registerText n)) 9 (rw (number-named n h) (omega arith))))))
+    has pointerReserved = some (ascii "PP") (inr (inr (inr (lt-ltb (registerNumber (ascii "PP")) 9 (rw pointer-number (omega arith))))))
+
+-- whether a line's own label is kept
+stands-exactly : (kept : List Label) (address : ℕ) (name : List ℕ) → (labelStands kept address name ≡ false) ↔ Unkept kept name
+unfolding labelStands mayKeep
+stands-exactly kept address [] = (λ h. not-both refl h, λ x. elim x [ ])
+stands-exactly kept address (c ∷ cs) =
+    (finds (leb (length (c ∷ cs)) 12) refl (labelWorth kept (c ∷ cs) .known) refl (isReserved (c ∷ cs)) refl (ltb (length kept) 64) refl, λ x. fails (mayKeep kept (c ∷ cs)) (λ h. none x (may-parts kept (c ∷ cs) h)))
+  where
+    finds : (a : Bool) → leb (length (c ∷ cs)) 12 ≡ a → (b : Bool) → labelWorth kept (c ∷ cs) .known ≡ b → (d : Bool) → isReserved (c ∷ cs) ≡ d → (e : Bool) → ltb (length kept) 64 ≡ e → a && (not b && (not d && e)) ≡ false → Unkept kept (c ∷ cs)
+    finds false p b q d r e s h = tooLong c cs (leb-false (length (c ∷ cs)) 12 p)
+    finds true p true q d r e s h = let x = known-exactly kept (c ∷ cs) .0 q in again c cs (x .0) (x .1 .0) (x .1 .1)
+    finds true p false q true r e s h = noName c cs (reserved-exactly (c ∷ cs) .0 r)
+    finds true p false q false r false s h = tooMany c cs (ltb-false (length kept) 64 s)
+    finds true p false q false r true s h = not-both refl h
+
+    none : {name : List ℕ} → Unkept kept name → (length name ≤ 12) × ((labelWorth kept name .known ≡ false) × ((isReserved name ≡ false) × (length kept < 64))) → ⊥
+    none (tooLong c cs l) m = absurd (omega (arith, m .0))
+    none (noName c cs r) m = not-both (reserved-exactly (c ∷ cs) .1 r) (m .1 .1 .0)
+    none (again c cs l i e) m = not-both (known-exactly kept (c ∷ cs) .1 (l, (i, e))) (m .1 .0)
+    none (tooMany c cs l) m = absurd (omega (arith, m .1 .1 .1))
+
+-- what a line has: the lowest number that applies
+pub data Verdict (labels kept : List Label) (address before room : ℕ) (name : List ℕ) (body : List Token) : ℕ → Type 0 where
+  no-word : NoWord body → Verdict labels kept address before room name body 30
+  no-form : (NoWord body → ⊥) → ((st : Statement) → FormOf body st → ⊥) → Verdict labels kept address before room name body 31
+  too-deep : (st : Statement) → FormOf body st → Deep st → Verdict labels kept address before room name body 32
+  no-label : (st : Statement) → FormOf body st → (Deep st → ⊥) → Unkept kept name ⊎ Unknown labels st → Verdict labels kept address before room name body 33
+  no-fit : (st : Statement) → FormOf body st → (Deep st → ⊥) → (Unkept kept name ⊎ Unknown labels st → ⊥) → Unfit labels address st → Verdict labels kept address before room name body 34
+  no-room : (st : Statement) → FormOf body st → (Deep st → ⊥) → (Unkept kept name ⊎ Unknown labels st → ⊥) → (Unfit labels address st → ⊥) → 0 < statementSize st → room < before + statementSize st
+      → Verdict labels kept address before room name body 35
+  is-done : (st : Statement) → FormOf body st → (Deep st → ⊥) → (Unkept kept name ⊎ Unknown labels st → ⊥) → (Unfit labels address st → ⊥) → (0 < statementSize st → before + statementSize st ≤ room)
+      → Verdict labels kept address before room name body 0

@@ -38,7 +38,7 @@ pub data OperandOf : List Token → Written → Type 0 where
   summed : (s : Sum) → OperandOf (sumTokens s) (value (sumTokens s))
 
 -- names and numbers
-number-named : (n : ℕ) → n < 8 → registerNumber (registerText n) ≡ n
+pub number-named : (n : ℕ) → n < 8 → registerNumber (registerText n) ≡ n
 unfolding registerNumber indexIn sameText
 number-named = each 8 (λ n. registerNumber (registerText n) ≡ n) (((((((((tt, refl), refl), refl), refl), refl), refl), refl), refl))
 
@@ -55,11 +55,11 @@ index-named (name ∷ names) text h = go (sameText name text) refl h (index-name
     go true e k later = sym (same-is name text e)
     go false e k later = later (omega arith)
 
-register-named : (r : List ℕ) (n : ℕ) → registerNumber r ≡ n → n < 9 → r ≡ getD registersNamed n []
+pub register-named : (r : List ℕ) (n : ℕ) → registerNumber r ≡ n → n < 9 → r ≡ getD registersNamed n []
 unfolding registerNumber
 register-named r n e h = index-named registersNamed r (rw e h) ∙ ap (λ (x : ℕ). getD registersNamed x []) e
 
-text-named : (r : List ℕ) → registerNumber r < 8 → r ≡ registerText (registerNumber r)
+pub text-named : (r : List ℕ) → registerNumber r < 8 → r ≡ registerText (registerNumber r)
 text-named r h = register-named r (registerNumber r) refl (omega arith) ∙ List·getD-append (ascii "GA" ∷ ascii "GB" ∷ ascii "GC" ∷ ascii "BC" ∷ ascii "TP" ∷ ascii "IX" ∷ ascii "CC" ∷ ascii "MC" ∷ []) (ascii "PP" ∷ []) [] (registerNumber r) h
 
 base-text : (r : List ℕ) → baseNumber (registerNumber r) < 4 → r ≡ baseText (baseNumber (registerNumber r))

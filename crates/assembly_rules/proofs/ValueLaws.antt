@@ -88,7 +88,7 @@ Fits 'width end v = (v ≡ 8) ⊎ (v ≡ 16)
 Fits 'short end v = (d : ℕ) × (((end + d) % 65536 ≡ v) × ((d < 0x80) ⊎ ((0xFF80 ≤ d) × (d < 65536))))
 Fits 'long end v = Unit {0}
 
-either-true : (a b : Bool) → (a || b ≡ true) ↔ ((a ≡ true) ⊎ (b ≡ true))
+pub either-true : (a b : Bool) → (a || b ≡ true) ↔ ((a ≡ true) ⊎ (b ≡ true))
 either-true true b = (λ h. inl refl, λ x. refl)
 either-true false b = (λ h. inr h, λ x. elim x [ inl h ↦ absurd (false≢true h) | inr h ↦ h ])
 
