@@ -22,6 +22,7 @@ use Rattle.assembly_rules.specs.Operands.{Written, takes, hasWord}
 use Rattle.assembly_rules.specs.Statements.{headedBy, operandParts, Statement, statementOf, statementSize, isByte, mayStand, operandWorth, namesKnown, allStand, itemsKnown, itemsStand, statementNumber}
 use Rattle.assembly_rules.specs.Statements.Statement.{blank, items, instruction, refused}
 use Rattle.assembly_rules.specs.Assembly.{Said, saidBy, isReserved, mayKeep, labelStands, pastRoom, lineNumber}
+use Rattle.assembly_rules.proofs.WritingLaws.{both-left, both-right}
 use Rattle.assembly_rules.proofs.LabelLaws.{known-exactly, may-parts}
 use Rattle.assembly_rules.proofs.FormLaws.{dataWord, word-exactly, sortOf, takes-sort, every, every-fails, holds, fails, not-both, AllOperands, AllTake, NoWord, FormOf, TreeOf, HasTree, Deep, operand-tree, operand-in, no-word-is, form-goes, line-formed}
 use Rattle.assembly_rules.proofs.FormLaws.AllTake.{noPlace, onePlace}
@@ -273,6 +274,10 @@ stands-exactly kept address (c ∷ cs) =
     none (again c cs l i e) m = not-both (known-exactly kept (c ∷ cs) .1 (l, (i, e))) (m .1 .0)
     none (tooMany c cs l) m = absurd (omega (arith, m .1 .1 .1))
 
+-- a line with bytes that end past the room
+abbrev pub Past : ℕ → ℕ → Statement → Type 0
+Past before room st = (0 < statementSize st) × (room < before + statementSize st)
+
 -- what a line has: the lowest number that applies
 pub data Verdict (labels kept : List Label) (address before room : ℕ) (name : List ℕ) (body : List Token) : ℕ → Type 0 where
   no-word : NoWord body → Verdict labels kept address before room name body 30
@@ -280,7 +285,114 @@ pub data Verdict (labels kept : List Label) (address before room : ℕ) (name : 
   too-deep : (st : Statement) → FormOf body st → Deep st → Verdict labels kept address before room name body 32
   no-label : (st : Statement) → FormOf body st → (Deep st → ⊥) → Unkept kept name ⊎ Unknown labels st → Verdict labels kept address before room name body 33
   no-fit : (st : Statement) → FormOf body st → (Deep st → ⊥) → (Unkept kept name ⊎ Unknown labels st → ⊥) → Unfit labels address st → Verdict labels kept address before room name body 34
-  no-room : (st : Statement) → FormOf body st → (Deep st → ⊥) → (Unkept kept name ⊎ Unknown labels st → ⊥) → (Unfit labels address st → ⊥) → 0 < statementSize st → room < before + statementSize st
-      → Verdict labels kept address before room name body 35
-  is-done : (st : Statement) → FormOf body st → (Deep st → ⊥) → (Unkept kept name ⊎ Unknown labels st → ⊥) → (Unfit labels address st → ⊥) → (0 < statementSize st → before + statementSize st ≤ room)
-      → Verdict labels kept address before room name body 0
+  no-room : (st : Statement) → FormOf body st → (Deep st → ⊥) → (Unkept kept name ⊎ Unknown labels st → ⊥) → (Unfit labels address st → ⊥) → Past before room st → Verdict labels kept address before room name body 35
+  is-done : (st : Statement) → FormOf body st → (Deep st → ⊥) → (Unkept kept name ⊎ Unknown labels st → ⊥) → (Unfit labels address st → ⊥) → (Past before room st → ⊥) → Verdict labels kept address before room name body 0
+
+-- a line by its label's name and its statement
+abbrev saying : List ℕ → Statement → Said
+saying name st = record { name = name; statement = st }
+
+-- a line's number by its tests
+module _ (labels kept : List Label) (address before room : ℕ) (name : List ℕ) where
+  abbrev numberOf : Statement → ℕ
+  numberOf st = lineNumber labels kept address before room (saying name st)
+
+  abbrev byTests : Bool → Bool → Bool → Bool → ℕ
+  byTests label known stand past = pick (label && known) (pick stand (pick past 35 0) 34) 33
+
+  refused-number : (numberOf (refused 30) ≡ 30) × ((numberOf (refused 31) ≡ 31) × (numberOf (refused 32) ≡ 32))
+  unfolding lineNumber statementNumber
+  refused-number = (refl, (refl, refl))
+
+  form-number : {body : List Token} {st : Statement} → FormOf body st → statementNumber labels address st ≡ pick (knownIn labels st) (pick (standIn labels address st) 0 34) 33
+  unfolding statementNumber
+  form-number empty = refl
+  form-number (listed two t ts trees) = refl
+  form-number (coded e ts ws i os take) = refl
+
+  formed-number : {body : List Token} {st : Statement} → FormOf body st → numberOf st ≡ byTests (labelStands kept address name) (knownIn labels st) (standIn labels address st) (pastRoom (statementSize st) before room)
+  unfolding lineNumber
+  formed-number {st = st} f = rw (form-number f) (go (labelStands kept address name) (knownIn labels st) (standIn labels address st) (pastRoom (statementSize st) before room))
+    where
+      go : (b k f p : Bool) → let n : ℕ = pick k (pick f 0 34) 33 in pick (leb 30 n && leb n 32) n (pick b (pick (eqb n 0) (pick p 35 0) n) 33) ≡ byTests b k f p
+      go true true true p = refl
+      go true true false p = refl
+      go true false f p = refl
+      go false true true p = refl
+      go false true false p = refl
+      go false false f p = refl
+
+  label-fails : {body : List Token} {st : Statement} → FormOf body st → (Deep st → ⊥) → (labelStands kept address name && knownIn labels st ≡ false) ↔ (Unkept kept name ⊎ Unknown labels st)
+  label-fails {st = st} f n = (λ h. finds (labelStands kept address name) refl h, λ x. elim x [ inl u ↦ rw (stands-exactly kept address name .1 u) | inr u ↦ both (labelStands kept address name) (known-fails labels f n .1 u) ])
+    where
+      finds : (b : Bool) → labelStands kept address name ≡ b → b && knownIn labels st ≡ false → Unkept kept name ⊎ Unknown labels st
+      finds true e h = inr (known-fails labels f n .0 h)
+      finds false e h = inl (stands-exactly kept address name .0 e)
+
+      both : (b : Bool) → knownIn labels st ≡ false → b && knownIn labels st ≡ false
+      both true h = h
+      both false h = refl
+
+  past-exactly : (size : ℕ) → (pastRoom size before room ≡ true) ↔ ((0 < size) × (room < before + size))
+  past-exactly size = (
+    λ h. (ltb-true 0 size (both-left (ltb 0 size) (ltb room (before + size)) h), ltb-true room (before + size) (both-right (ltb 0 size) (ltb room (before + size)) h)),
+    λ x. rw (lt-ltb 0 size (x .0), lt-ltb room (before + size) (x .1)),
+  )
+
+  -- a form's number
+  form-verdict : {body : List Token} (st : Statement) → FormOf body st → (Deep st → ⊥) → Verdict labels kept address before room name body (numberOf st)
+  form-verdict {body} st f n = rw (formed-number f) (go (labelStands kept address name && knownIn labels st) refl (standIn labels address st) refl (pastRoom (statementSize st) before room) refl)
+    where
+      go : (b : Bool) → labelStands kept address name && knownIn labels st ≡ b → (c : Bool) → standIn labels address st ≡ c → (d : Bool) → pastRoom (statementSize st) before room ≡ d → Verdict labels kept address before room name body (pick b (pick c (pick d 35 0) 34) 33)
+      go false p c q d r = no-label st f n (label-fails f n .0 p)
+      go true p false q d r = no-fit st f n (λ x. not-both p (label-fails f n .1 x)) (stand-fails labels address f n .0 q)
+      go true p true q true r = no-room st f n (λ x. not-both p (label-fails f n .1 x)) (λ x. not-both q (stand-fails labels address f n .1 x)) (past-exactly (statementSize st) .0 r)
+      go true p true q false r = is-done st f n (λ x. not-both p (label-fails f n .1 x)) (λ x. not-both q (stand-fails labels address f n .1 x)) (λ x. not-both (past-exactly (statementSize st) .1 x) r)
+
+  -- the number that a line has by its verdict
+  as-formed : {body : List Token} {st : Statement} → FormOf body st → (Deep st → ⊥) → (b c d : Bool) → labelStands kept address name && knownIn labels st ≡ b → standIn labels address st ≡ c → pastRoom (statementSize st) before room ≡ d
+      → numberOf (statementOf body) ≡ pick b (pick c (pick d 35 0) 34) 33
+  as-formed {body} {st} f n b c d p q r =
+      ap numberOf (elim (form-goes f) [ inl x ↦ absurd (n (x .0)) | inr x ↦ x .1 ]) ∙ formed-number f ∙ rw (p, q, r)
+
+  verdict-number : {body : List Token} {n : ℕ} → Verdict labels kept address before room name body n → numberOf (statementOf body) ≡ n
+  verdict-number (no-word h) = ap numberOf (no-word-is h) ∙ refused-number .0
+  verdict-number {body} (no-form h k) = ap numberOf (elim (line-formed body) [ inl x ↦ absurd (h x) | inr (inl e) ↦ e | inr (inr x) ↦ absurd (k (x .0) (x .1)) ]) ∙ refused-number .1 .0
+  verdict-number (too-deep st f d) = ap numberOf (elim (form-goes f) [ inl x ↦ x .1 | inr x ↦ absurd (x .0 d) ]) ∙ refused-number .1 .1
+  verdict-number (no-label st f n u) = as-formed f n false (standIn labels address st) (pastRoom (statementSize st) before room) (label-fails f n .1 u) refl refl
+  verdict-number (no-fit st f n u v) = as-formed f n true false (pastRoom (statementSize st) before room) (holds _ (λ h. u (label-fails f n .0 h))) (stand-fails labels address f n .1 v) refl
+  verdict-number (no-room st f n u v p) = as-formed f n true true true (holds _ (λ h. u (label-fails f n .0 h))) (holds _ (λ h. v (stand-fails labels address f n .0 h))) (past-exactly (statementSize st) .1 p)
+  verdict-number (is-done st f n u v p) = as-formed f n true true false (holds _ (λ h. u (label-fails f n .0 h))) (holds _ (λ h. v (stand-fails labels address f n .0 h))) (fails _ (λ h. p (past-exactly (statementSize st) .0 h)))
+
+  formed-unlike : {body : List Token} {st : Statement} (n : ℕ) → FormOf body st → st ≡ refused n → false ≡ true
+  formed-unlike n empty e = cc
+  formed-unlike n (listed two t ts trees) e = cc
+  formed-unlike n (coded f ts ws i os take) e = cc
+
+  verdict-of : (body : List Token) → Verdict labels kept address before room name body (numberOf (statementOf body))
+  verdict-of body = go (line-formed body)
+    where
+      by : {n : ℕ} → Verdict labels kept address before room name body n → Verdict labels kept address before room name body (numberOf (statementOf body))
+      by v = subst (Verdict labels kept address before room name body) (sym (verdict-number v)) v
+
+      formless : statementOf body ≡ refused 31 → (st : Statement) → FormOf body st → ⊥
+      formless e st f = elim (form-goes f) [
+        | inl x ↦ absurd (omega (arith, sym (refused-number .1 .1) ∙ ap numberOf (sym (x .1) ∙ e) ∙ refused-number .1 .0))
+        | inr x ↦ false≢true (formed-unlike 31 f (sym (x .1) ∙ e))
+      ]
+
+      go : NoWord body ⊎ ((statementOf body ≡ refused 31) ⊎ ((st : Statement) × FormOf body st)) → Verdict labels kept address before room name body (numberOf (statementOf body))
+      go (inl x) = by (no-word x)
+      go (inr (inl e)) = by (no-form (λ x. absurd (omega (arith, sym (refused-number .0) ∙ ap numberOf (sym (no-word-is x) ∙ e) ∙ refused-number .1 .0))) (formless e))
+      go (inr (inr (st, f))) = elim (form-goes f) [
+        | inl x ↦ by (too-deep st f (x .0))
+        | inr x ↦ subst (λ (y : Statement). Verdict labels kept address before room name body (numberOf y)) (sym (x .1)) (form-verdict st f (x .0))
+      ]
+
+-- a line has a number exactly by what it says
+pub line-exactly : (labels kept : List Label) (address before room : ℕ) (line : List ℕ) (n : ℕ)
+    → (lineNumber labels kept address before room (saidBy line) ≡ n) ↔ Verdict labels kept address before room (headedBy (tokensOf line) .name) (headedBy (tokensOf line) .body) n
+unfolding saidBy
+line-exactly labels kept address before room line n =
+    let h = headedBy (tokensOf line) in
+    (λ e. subst (Verdict labels kept address before room (h .name) (h .body)) e (verdict-of labels kept address before room (h .name) (h .body)), λ v. verdict-number labels kept address before room (h .name) v)
