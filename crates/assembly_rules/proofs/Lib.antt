@@ -15,3 +15,4 @@ pub mod OperandLaws
 pub mod FormLaws
 pub mod ValueLaws
 pub mod LineLaws
+pub mod SameLaws
