@@ -8,13 +8,13 @@ use Prim.Native.Nat.{ℕ, suc, _+_, _%_}
 use native.Mathlib.Omega.{arith}
 use native.Mathlib.Nat.{add-zero, add-assoc, zero-add}
 use lib.Dec.{eqb}
-use lib.ListN.{length, length-append}
+use lib.ListN.{length, length-append, getD}
 use borrow.Author.Tests.{eqb-true, eqb-false, eq-eqb, ne-eqb}
 use Rattle.ground_rules.specs.Choice.{pick}
 use Rattle.assembly_rules.specs.Text.{linesIn}
 use Rattle.assembly_rules.specs.Sums.{Label}
 use Rattle.assembly_rules.specs.Statements.{statementSize}
-use Rattle.assembly_rules.specs.Assembly.{Said, saidIn, keptWith, labelsFrom, lineNumber, Assembled, assembled, assembledFrom, assembleOf}
+use Rattle.assembly_rules.specs.Assembly.{Said, saidBy, saidIn, keptWith, labelsFrom, lineNumber, Assembled, assembled, assembledFrom, assembleOf}
 use Rattle.assembly_rules.proofs.LabelLaws.{sizesOf}
 use Rattle.assembly_rules.proofs.PassLaws.{Failed, failed, failedFrom, bytesFrom, said-sized, passed, passes}
 
@@ -127,6 +127,14 @@ module _ (labels : List Label) (first room : ℕ) where
 pub number-behind : (labels : List Label) (first room : ℕ) (ahead : List Said) (s : Said) → numberBehind labels first room [] 0 ahead s ≡ lineNumber labels (labelsFrom [] first ahead) ((first + sizesOf ahead) % 65536) (sizesOf ahead) room s
 unfolding numberBehind
 number-behind labels first room ahead s = rw (add-zero first, zero-add (sizesOf ahead))
+
+-- what stands behind some of what lines say is what the next line says
+pub said-at : (ahead : List Said) (lines : List (List ℕ)) (here : Said) (after : List Said) → saidIn lines ≡ ahead ++ (here ∷ after) → here ≡ saidBy (getD lines (length ahead) [])
+unfolding saidIn
+said-at [] [] here after e = cc
+said-at [] (line ∷ lines) here after e = cc
+said-at (s ∷ ahead) [] here after e = cc
+said-at (s ∷ ahead) (line ∷ lines) here after e = let z : saidIn lines ≡ ahead ++ (here ∷ after) = cc in said-at ahead lines here after z
 
 -- what a text says, and its labels
 abbrev pub saidOf : List ℕ → List Said

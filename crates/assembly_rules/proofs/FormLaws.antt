@@ -2,25 +2,25 @@
 -- Assumes nothing.
 use mathlib.Core.Path.{_≡_, refl, sym, ap, subst, _∙_}
 use mathlib.Core.Bool.{Bool, true, false, not, _&&_, _||_, false≢true}
-use mathlib.Core.List.{List, [], _∷_, List·Memᴰ as In, List·Memᴰ·head as here, List·Memᴰ·tail as later}
+use mathlib.Core.List.{List, [], _∷_, _++_, List·Memᴰ as In, List·Memᴰ·head as here, List·Memᴰ·tail as later}
 use mathlib.Core.Logic.{_⊎_, inl, inr, _↔_}
 use Prim.Native.Nat.{ℕ, _<_}
 use native.Mathlib.Omega.{arith}
 use lib.Dec.{eqb, ltb, leb}
 use lib.ListN.{length}
-use borrow.Author.Tests.{leb-false, lt-leb, eq-eqb}
+use borrow.Author.Tests.{leb-false, lt-leb, eq-eqb, eqb-true, eqb-false}
 use Rattle.ground_rules.specs.Choice.{pick}
 use Rattle.listing_rules.specs.Characters.{ascii, sameText}
 use Rattle.listing_rules.specs.Entries.{Kind, Entry, entries}
 use Rattle.listing_rules.specs.Entries.Kind.{'R, 'G, 'P, 'M, 'byte, 'word, 'bit, 'width, 'short, 'long}
 use Rattle.assembly_rules.specs.Text.{Token, isComma, cutAt, ahead}
 use Rattle.assembly_rules.specs.Text.Token.{run, mark}
-use Rattle.assembly_rules.specs.Sums.{isSum, scanFrom, depthOf, mostOpen, Label, worth}
+use Rattle.assembly_rules.specs.Sums.{beginsDigit, isSum, scanFrom, depthOf, mostOpen, Label, worth}
 use Rattle.assembly_rules.specs.Trees.{Sum, sumTokens, sumDepth}
 use Rattle.assembly_rules.specs.Operands.{Written, operandFrom, operandsFrom, isMemoryKind, takesRegister, takes, takesAll, hasWord, Chosen, entryIn, isShallow, allShallow}
 use Rattle.assembly_rules.specs.Operands.Written.{register, memory, value, nothing}
 use Rattle.assembly_rules.specs.Operands.Chosen.{taken, untaken}
-use Rattle.assembly_rules.specs.Statements.{Statement, operandParts, allSums, allLow, itemsFrom, formedBy, wordStatement, statementOf, operandWorth}
+use Rattle.assembly_rules.specs.Statements.{headed, headedBy, Statement, operandParts, allSums, allLow, itemsFrom, formedBy, wordStatement, statementOf, operandWorth}
 use Rattle.assembly_rules.specs.Statements.Statement.{blank, items, instruction, refused}
 use Rattle.assembly_rules.proofs.WritingLaws.{both-left, both-right}
 use Rattle.assembly_rules.proofs.ScanLaws.{sum-exactly, tree-sum, tree-depth, same-is, is-same}
@@ -77,6 +77,46 @@ shallow-every : (ws : List Written) → allShallow ws ≡ every isShallow ws
 unfolding allShallow
 shallow-every [] = refl
 shallow-every (w ∷ ws) = ap (λ (b : Bool). isShallow w && b) (shallow-every ws)
+
+-- a label in front: a name that begins with no digit, and a colon
+pub data HeadedAs : List Token → List ℕ → List Token → Type 0 where
+  labelled : (r : List ℕ) (ts : List Token) → beginsDigit r ≡ false → HeadedAs (run r ∷ mark 58 ∷ ts) r ts
+  unlabelled : (ts : List Token) → ((r : List ℕ) (us : List Token) → ts ≡ run r ∷ mark 58 ∷ us → beginsDigit r ≡ true) → HeadedAs ts [] ts
+
+pub head-told : (ts : List Token) → HeadedAs ts (headedBy ts .name) (headedBy ts .body)
+unfolding headedBy
+head-told [] = unlabelled [] (λ r us e. cc)
+head-told (mark c ∷ ts) = unlabelled (mark c ∷ ts) (λ r us e. cc)
+head-told (run q ∷ []) = unlabelled (run q ∷ []) (λ r us e. cc)
+head-told (run q ∷ run s ∷ ts) = unlabelled (run q ∷ run s ∷ ts) (λ r us e. cc)
+head-told (run q ∷ mark c ∷ ts) = go (eqb c 58) refl (beginsDigit q) refl
+  where
+    go : (a : Bool) → eqb c 58 ≡ a → (b : Bool) → beginsDigit q ≡ b → let h = pick (a && not b) (headed q ts) (headed [] (run q ∷ mark c ∷ ts)) in HeadedAs (run q ∷ mark c ∷ ts) (h .name) (h .body)
+    go true p false d = rw (eqb-true c 58 p) (labelled q ts d)
+    go true p true d = unlabelled (run q ∷ mark c ∷ ts) (λ r us e. let z : q ≡ r = cc in ap beginsDigit (sym z) ∙ d)
+    go false p b d = unlabelled (run q ∷ mark c ∷ ts) (λ r us e. let z : c ≡ 58 = cc in absurd (eqb-false c 58 p z))
+
+-- parts with a cut behind each but the last; no part has a place to cut at
+pub data CutInto {A : Type 0} (test : A → Bool) : List A → List (List A) → Type 0 where
+  lastPart : (part : List A) → ((a : A) → In a part → test a ≡ false) → CutInto test part (part ∷ [])
+  nextPart : (part : List A) (c : A) {l : List A} {parts : List (List A)} → ((a : A) → In a part → test a ≡ false) → test c ≡ true → CutInto test l parts → CutInto test (part ++ (c ∷ l)) (part ∷ parts)
+
+pub cut-told : {A : Type 0} (test : A → Bool) (l : List A) → CutInto test l (cutAt test l)
+unfolding cutAt
+cut-told test [] = lastPart [] (λ a m. elim m [ ])
+cut-told {A} test (a ∷ l) = go (test a) refl (cut-told test l)
+  where
+    one : test a ≡ false → (part : List A) → ((c : A) → In c part → test c ≡ false) → (c : A) → In c (a ∷ part) → test c ≡ false
+    one e part h c (here p) = ap test p ∙ e
+    one e part h c (later m) = h c m
+
+    longer : test a ≡ false → {l : List A} {parts : List (List A)} → CutInto test l parts → CutInto test (a ∷ l) (ahead a parts)
+    longer e (lastPart part h) = lastPart (a ∷ part) (one e part h)
+    longer e (nextPart part c h k more) = nextPart (a ∷ part) c (one e part h) k more
+
+    go : (b : Bool) → test a ≡ b → CutInto test l (cutAt test l) → CutInto test (a ∷ l) (pick b ([] ∷ cutAt test l) (ahead a (cutAt test l)))
+    go true e more = nextPart [] a (λ c m. elim m [ ]) e more
+    go false e more = longer e more
 
 -- which operands the places take: R G P, M, byte word bit width short long
 abbrev takenIn : Written → List Bool

@@ -4,7 +4,7 @@ use mathlib.Core.Path.{_≡_, refl, sym, ap, _∙_}
 use mathlib.Core.Bool.{Bool, true, false, _&&_, _||_}
 use mathlib.Core.List.{List, [], _∷_, _++_, append-nil}
 use mathlib.Core.Logic.{_⊎_, inl, inr}
-use Prim.Native.Nat.{ℕ, suc, _+_, _*_, _%_}
+use Prim.Native.Nat.{ℕ, suc, _+_, _*_, _%_, _≤_}
 use native.Mathlib.Nat.{add-zero}
 use lib.Dec.{eqb}
 use lib.ListN.{length}
@@ -15,6 +15,7 @@ use Rattle.listing_rules.specs.Entries.{Kind, Entry}
 use Rattle.assembly_rules.specs.declared.Worth.{Worth}
 use Rattle.assembly_rules.specs.Text.{Token, isRun, endsLine, isBlank, begun, allOf, inFrontOf, begunBy, tokensOf, linesIn}
 use Rattle.assembly_rules.specs.Sums.{Label, worth, sumWorth}
+use Rattle.assembly_rules.specs.Trees.{Sum, sumTokens, sumDepth, sumKnown}
 use Rattle.assembly_rules.specs.Operands.{Written}
 use Rattle.assembly_rules.specs.Operands.Written.{register, memory, value}
 use Rattle.assembly_rules.specs.Statements.{headedBy, Statement, statementOf, statementSize, offsetsSize, isByte, mayStand, operandWorth, namesKnown, allStand, itemsKnown, itemsStand, statementNumber, listedAs, listedAll, writtenOffset, allOffsets, numberBytes, allNumbers, secondBytes, moveBytes, instructionBytes, itemsBytes, statementBytes}
@@ -23,7 +24,12 @@ use Rattle.assembly_rules.specs.Assembly.{Said, saidBy, saidIn, keptWith
 use Rattle.assembly_rules.proofs.TextLaws.{blank-plain}
 use Rattle.assembly_rules.proofs.WritingLaws.{Writes}
 use Rattle.assembly_rules.proofs.WritingLaws.Writes.{nothing, comment, blank as blankFirst}
+use Rattle.assembly_rules.proofs.ValueLaws.{treeValue, tree-worth}
 use Rattle.assembly_rules.proofs.WholeLaws.{SameTokens, same-said}
+
+-- trees of the same value, with all names known, are worth the same: a constant for a sum, or a sum for it
+pub trees-same : (labels : List Label) (s t : Sum) → sumDepth s ≤ 8 → sumDepth t ≤ 8 → sumKnown labels s ≡ true → sumKnown labels t ≡ true → treeValue labels s ≡ treeValue labels t → sumWorth labels (sumTokens s) ≡ sumWorth labels (sumTokens t)
+trees-same labels s t k l g h e = tree-worth labels s k ∙ rw (g, e) (rw (← h) (sym (tree-worth labels t l)))
 
 -- sums of the same worth under some labels, in the same places
 module _ (labels : List Label) where
