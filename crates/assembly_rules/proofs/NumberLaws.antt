@@ -14,12 +14,12 @@ use Rattle.assembly_rules.specs.Numbers.{digitValue, isRadix, radixOf, l
 use Rattle.assembly_rules.proofs.WritingLaws.{both-left, both-right}
 
 -- whether all digits are below a radix
-pub allBelow : ℕ → List ℕ → Bool
+unfoldable pub allBelow : ℕ → List ℕ → Bool
 allBelow radix [] = true
 allBelow radix (c ∷ cs) = ltb (digitValue c) radix && allBelow radix cs
 
 -- the value of digits in a radix, in whole numbers: each digit times the power of its place
-pub placeValue : ℕ → List ℕ → ℕ
+unfoldable pub placeValue : ℕ → List ℕ → ℕ
 placeValue radix [] = 0
 placeValue radix (c ∷ cs) = digitValue c * radix ^ length cs + placeValue radix cs
 

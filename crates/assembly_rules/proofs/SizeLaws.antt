@@ -72,18 +72,18 @@ isMove (k ∷ []) = false
 isMove (k ∷ l ∷ []) = isMemoryKind k && isMemoryKind l
 isMove (k ∷ l ∷ m ∷ ks) = false
 
-plainEntry : Entry → Bool
+pub plainEntry : Entry → Bool
 plainEntry e = not (ltb 1 (memoriesIn (e .kinds))) || isMove (e .kinds)
 
-allPlain : List Entry → Bool
+pub allPlain : List Entry → Bool
 allPlain [] = true
 allPlain (e ∷ es) = plainEntry e && allPlain es
 
-entries-plain : allPlain entries ≡ true
+pub entries-plain : allPlain entries ≡ true
 unfolding allPlain plainEntry isMove entries memoriesIn
 entries-plain = refl
 
-entry-plain : (es : List Entry) (word : List ℕ) (ws : List Written) (e : Entry) → allPlain es ≡ true → entryIn es word ws ≡ taken e → (plainEntry e ≡ true) × (takesAll (e .kinds) ws ≡ true)
+pub entry-plain : (es : List Entry) (word : List ℕ) (ws : List Written) (e : Entry) → allPlain es ≡ true → entryIn es word ws ≡ taken e → (plainEntry e ≡ true) × (takesAll (e .kinds) ws ≡ true)
 unfolding allPlain entryIn
 entry-plain [] word ws e h k = no-entry k
   where
@@ -162,14 +162,19 @@ move-size labels e (k ∷ l ∷ []) (to ∷ ws) h t =
 pub record Sized (s : Statement) : Type 0 where
   pub sized : (labels : List Label) (address : ℕ) → length (statementBytes labels address s) ≡ statementSize s
 
-instruction-sized : (e : Entry) (ws : List Written) → plainEntry e ≡ true → takesAll (e .kinds) ws ≡ true → Sized (instruction e ws)
-unfolding statementBytes instructionBytes statementSize plainEntry pairBytes
-instruction-sized e ws h t = record { sized = λ labels address. go labels (address + statementSize (instruction e ws)) (ltb 1 (memoriesIn (e .kinds))) h }
+-- the bytes of an instruction are as many wherever it ends
+pub instruction-size : (labels : List Label) (end : ℕ) (e : Entry) (ws : List Written) → plainEntry e ≡ true → takesAll (e .kinds) ws ≡ true → length (instructionBytes labels end e ws) ≡ statementSize (instruction e ws)
+unfolding instructionBytes statementSize plainEntry pairBytes
+instruction-size labels end e ws h t = go (ltb 1 (memoriesIn (e .kinds))) h
   where
-    go : (labels : List Label) (end : ℕ) (b : Bool) → not b || isMove (e .kinds) ≡ true
+    go : (b : Bool) → not b || isMove (e .kinds) ≡ true
         → length (pick b (moveBytes labels e ws) (pairBytes (pairFrom e (listedAll labels (e .kinds) ws)) ++ (allOffsets labels ws ++ allNumbers labels end (e .kinds) ws))) ≡ pick b 4 2 + (offsetsSize ws + kindsSize (e .kinds))
-    go labels end true k = move-size labels e (e .kinds) ws k t
-    go labels end false k = omega (arith, length-append (allOffsets labels ws) (allNumbers labels end (e .kinds) ws), offsets-size labels ws, numbers-size labels end (e .kinds) ws t)
+    go true k = move-size labels e (e .kinds) ws k t
+    go false k = omega (arith, length-append (allOffsets labels ws) (allNumbers labels end (e .kinds) ws), offsets-size labels ws, numbers-size labels end (e .kinds) ws t)
+
+instruction-sized : (e : Entry) (ws : List Written) → plainEntry e ≡ true → takesAll (e .kinds) ws ≡ true → Sized (instruction e ws)
+unfolding statementBytes
+instruction-sized e ws h t = record { sized = λ labels address. instruction-size labels (address + statementSize (instruction e ws)) e ws h t }
 
 refused-sized : (n : ℕ) → Sized (refused n)
 unfolding statementBytes statementSize

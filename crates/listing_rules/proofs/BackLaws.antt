@@ -305,7 +305,7 @@ second-placed x y wide m h =
     (omega arith, omega arith)
 
 -- MOV M,M has a second pair, and no other instruction has one
-isMove : Shape → Bool
+unfoldable pub isMove : Shape → Bool
 isMove Nop = false
 isMove Sintr = false
 isMove Xfer = false
@@ -330,11 +330,11 @@ isMove (JumpMasked a b c) = false
 isMove (JumpBit a b c d) = false
 isMove (Bit a b c) = false
 
-other-shape : (s : Shape) → isMove s ≡ false → (m : Memory) → s ≡ MovMemory m → ⊥
+pub other-shape : (s : Shape) → isMove s ≡ false → (m : Memory) → s ≡ MovMemory m → ⊥
 unfolding isMove
 other-shape s h m e = false≢true (sym h ∙ ap isMove e)
 
-to-none : (s : Shape) → isMove s ≡ false → (bytes : List ℕ) (to : Memory) → toOf bytes s ≡ Operand to → to ≡ nowhere
+pub to-none : (s : Shape) → isMove s ≡ false → (bytes : List ℕ) (to : Memory) → toOf bytes s ≡ Operand to → to ≡ nowhere
 unfolding isMove toOf
 to-none Nop h bytes to e = cc
 to-none Sintr h bytes to e = cc
@@ -363,30 +363,30 @@ to-none (Bit a b c) h bytes to e = cc
 -- an instruction is MOV M,M, or it has no second pair
 pub data Pairs : Shape → Type 0 where
   two : (m : Memory) → Pairs (MovMemory m)
-  one : {s : Shape} → ((m : Memory) → s ≡ MovMemory m → ⊥) → ((bytes : List ℕ) (to : Memory) → toOf bytes s ≡ Operand to → to ≡ nowhere) → Pairs s
+  one : {s : Shape} → isMove s ≡ false → Pairs s
 
 pub pairs : (s : Shape) → Pairs s
 unfolding isMove
-pairs Nop = one (other-shape Nop refl) (to-none Nop refl)
-pairs Sintr = one (other-shape Sintr refl) (to-none Sintr refl)
-pairs Xfer = one (other-shape Xfer refl) (to-none Xfer refl)
-pairs (Wid a b) = one (other-shape (Wid a b) refl) (to-none (Wid a b) refl)
-pairs Hlt = one (other-shape Hlt refl) (to-none Hlt refl)
-pairs (Lpdi a) = one (other-shape (Lpdi a) refl) (to-none (Lpdi a) refl)
-pairs (RegisterImmediate a b c) = one (other-shape (RegisterImmediate a b c) refl) (to-none (RegisterImmediate a b c) refl)
-pairs (Register a b) = one (other-shape (Register a b) refl) (to-none (Register a b) refl)
-pairs (JumpRegister a b c) = one (other-shape (JumpRegister a b c) refl) (to-none (JumpRegister a b c) refl)
-pairs (RegisterMemory a b c) = one (other-shape (RegisterMemory a b c) refl) (to-none (RegisterMemory a b c) refl)
-pairs (MemoryRegister a b c) = one (other-shape (MemoryRegister a b c) refl) (to-none (MemoryRegister a b c) refl)
-pairs (MemoryImmediate a b) = one (other-shape (MemoryImmediate a b) refl) (to-none (MemoryImmediate a b) refl)
-pairs (MemoryAlone a b) = one (other-shape (MemoryAlone a b) refl) (to-none (MemoryAlone a b) refl)
-pairs (JumpMemory a b c) = one (other-shape (JumpMemory a b c) refl) (to-none (JumpMemory a b c) refl)
-pairs (Lpd a b) = one (other-shape (Lpd a b) refl) (to-none (Lpd a b) refl)
-pairs (MovpLoad a b) = one (other-shape (MovpLoad a b) refl) (to-none (MovpLoad a b) refl)
-pairs (MovpStore a b) = one (other-shape (MovpStore a b) refl) (to-none (MovpStore a b) refl)
+pairs Nop = one refl
+pairs Sintr = one refl
+pairs Xfer = one refl
+pairs (Wid a b) = one refl
+pairs Hlt = one refl
+pairs (Lpdi a) = one refl
+pairs (RegisterImmediate a b c) = one refl
+pairs (Register a b) = one refl
+pairs (JumpRegister a b c) = one refl
+pairs (RegisterMemory a b c) = one refl
+pairs (MemoryRegister a b c) = one refl
+pairs (MemoryImmediate a b) = one refl
+pairs (MemoryAlone a b) = one refl
+pairs (JumpMemory a b c) = one refl
+pairs (Lpd a b) = one refl
+pairs (MovpLoad a b) = one refl
+pairs (MovpStore a b) = one refl
 pairs (MovMemory a) = two a
-pairs (Tsl a) = one (other-shape (Tsl a) refl) (to-none (Tsl a) refl)
-pairs (Call a b) = one (other-shape (Call a b) refl) (to-none (Call a b) refl)
-pairs (JumpMasked a b c) = one (other-shape (JumpMasked a b c) refl) (to-none (JumpMasked a b c) refl)
-pairs (JumpBit a b c d) = one (other-shape (JumpBit a b c d) refl) (to-none (JumpBit a b c d) refl)
-pairs (Bit a b c) = one (other-shape (Bit a b c) refl) (to-none (Bit a b c) refl)
+pairs (Tsl a) = one refl
+pairs (Call a b) = one refl
+pairs (JumpMasked a b c) = one refl
+pairs (JumpBit a b c d) = one refl
+pairs (Bit a b c) = one refl

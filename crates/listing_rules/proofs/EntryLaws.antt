@@ -278,7 +278,7 @@ pub record Fitting (r : SummaryRow) (p : Pair) : Type 0 where
   pub w : meets (r .w) (p .w) (p .w) ≡ true
   pub dd : meets (r .dd) (p .w) (p .dd) ≡ true
 
-fitting : (r : SummaryRow) (p : Pair) → fits r p ≡ true → Fitting r p
+pub fitting : (r : SummaryRow) (p : Pair) → fits r p ≡ true → Fitting r p
 fitting r p h = go (eqb (p .opcode) (r .opcode)) refl (meets (r .rrr) (p .w) (p .rrr)) refl (meets (r .mm) (p .w) (p .mm)) refl (meets (r .aa) (p .w) (p .aa)) refl (meets (r .w) (p .w) (p .w)) refl h
   where
     go : (o : Bool) → eqb (p .opcode) (r .opcode) ≡ o → (b : Bool) → meets (r .rrr) (p .w) (p .rrr) ≡ b → (m : Bool) → meets (r .mm) (p .w) (p .mm) ≡ m → (a : Bool) → meets (r .aa) (p .w) (p .aa) ≡ a → (w : Bool) → meets (r .w) (p .w) (p .w) ≡ w → (o && (b && (m && (a && (w && meets (r .dd) (p .w) (p .dd)))))) ≡ true → Fitting r p

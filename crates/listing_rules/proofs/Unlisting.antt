@@ -41,7 +41,7 @@ use Rattle.listing_rules.proofs.ItemLaws.{mov-length}
 use Rattle.listing_rules.proofs.RowLaws.{WholeAt, whole-at, count-some, count-there}
 use Rattle.listing_rules.proofs.ListLaws.{lines-next, lines-none}
 use Rattle.listing_rules.proofs.Theorems.{Proper, proper-item}
-use Rattle.listing_rules.proofs.BackLaws.{slotBytes, spread, fill, same-slots, Follows, covered, two-more, Chain, all-covered, listed, chained, pair-bytes, secondPair, second-fields, second-memory, second-placed, Pairs, one, two, pairs}
+use Rattle.listing_rules.proofs.BackLaws.{slotBytes, spread, fill, same-slots, Follows, covered, two-more, Chain, all-covered, listed, chained, pair-bytes, secondPair, second-fields, second-memory, second-placed, isMove, other-shape, to-none, Pairs, one, two, pairs}
 
 -- a line as a word and operands that can be read
 pub record Spoken (chars word : List ℕ) (os : List Forms.Operand) : Type 0 where
@@ -94,7 +94,7 @@ numbers-present [] = refl
 numbers-present (b ∷ x) = rw (numbers-present x)
 
 -- a text without a line feed
-free : List ℕ → Bool
+unfoldable pub free : List ℕ → Bool
 free [] = true
 free (c ∷ cs) = not (eqb c 10) && free cs
 
@@ -135,6 +135,9 @@ unfolding marks free
 marks-free m [] h AllReadable.end = tt
 marks-free m (o ∷ os) h (also r rs) = append-free (following m o) (marks 44 os) (following-free m o h r) (marks-free 44 os tt rs)
 
+pub spoken-free : {chars word : List ℕ} {os : List Forms.Operand} → Spoken chars word os → T (free (word ++ marks 32 os))
+spoken-free {chars} {word} {os} x = append-free word (marks 32 os) (clean-free word (x .plain)) (marks-free 32 os tt (x .fine))
+
 not-feed : (c : ℕ) → T (not (eqb c 10)) → c ≡ 10 → ⊥
 not-feed c t e = go (eqb c 10) (eq-eqb c 10 e) t
   where
@@ -165,7 +168,7 @@ spoken-same a b {w} {v} {os} {ps} r s x y e =
     let g = v ++ marks 32 ps in
     let ef : f ++ (10 ∷ r) ≡ g ++ (10 ∷ s) =
     sym (append-assoc f (10 ∷ []) r) ∙ ap (λ (l : List ℕ). l ++ r) (sym (x .text)) ∙ e ∙ ap (λ (l : List ℕ). l ++ s) (y .text) ∙ append-assoc g (10 ∷ []) s in
-    let two = split-line f g r s (append-free w (marks 32 os) (clean-free w (x .plain)) (marks-free 32 os tt (x .fine))) (append-free v (marks 32 ps) (clean-free v (y .plain)) (marks-free 32 ps tt (y .fine))) ef in
+    let two = split-line f g r s (spoken-free x) (spoken-free y) ef in
     let c : w ∷ spellings (present os) ≡ v ∷ spellings (present ps) =
     sym (cut-marks w 32 os (x .plain) mark-blank (x .fine)) ∙ ap cut (two .0) ∙ cut-marks v 32 ps (y .plain) mark-blank (y .fine) in
     let word : w ≡ v = cc in
@@ -173,11 +176,11 @@ spoken-same a b {w} {v} {os} {ps} r s x y e =
     (word, sym (read-back os (x .fine)) ∙ ap readAll texts ∙ read-back ps (y .fine), two .1)
 
 -- the two bytes of the first pair
-first-pair : (bytes : List ℕ) → 2 ≤ length bytes → take 2 bytes ≡ getD bytes 0 0 ∷ getD bytes 1 0 ∷ []
+pub first-pair : (bytes : List ℕ) → 2 ≤ length bytes → take 2 bytes ≡ getD bytes 0 0 ∷ getD bytes 1 0 ∷ []
 first-pair bytes h = sym (two-more bytes 0 (omega arith))
 
 -- MOV M,M in its four parts
-mov-covered : (bytes : List ℕ) (m to : Memory) (n : ℕ) → n ≡ lengthOf (MovMemory m) + offsetLength to → n ≤ length bytes
+pub mov-covered : (bytes : List ℕ) (m to : Memory) (n : ℕ) → n ≡ lengthOf (MovMemory m) + offsetLength to → n ≤ length bytes
     → ((take 2 bytes ++ slotBytes bytes (Place m 2)) ++ (getD bytes (2 + offsetLength m) 0 ∷ getD bytes (3 + offsetLength m) 0 ∷ [])) ++ slotBytes bytes (Place to (afterOffset m + 2)) ≡ take n bytes
 unfolding Follows afterOffset
 mov-covered bytes m to n e h =
@@ -189,7 +192,7 @@ mov-covered bytes m to n e h =
 
 placed-by : (bytes : List ℕ) (s : Shape) (to : Memory) → Pairs s → toOf bytes s ≡ Operand to → Placed to
 unfolding toOf
-placed-by bytes s to (one other none-to) e = rw (none-to bytes to e) (omega arith, omega arith)
+placed-by bytes s to (one other) e = rw (to-none s other bytes to e) (omega arith, omega arith)
 placed-by bytes s to (two m) e = second-placed (getD bytes (2 + offsetLength m) 0) (getD bytes (3 + offsetLength m) 0) (m .wide) to e
 
 pub placed-to : (bytes : List ℕ) (s : Shape) (to : Memory) → toOf bytes s ≡ Operand to → Placed to
@@ -218,17 +221,17 @@ module _ (address : ℕ) (x y : List ℕ) (hx : Bytes x) (hy : Bytes y) where
   same-shape : (s : Shape) (to to2 : Memory) (n n2 : ℕ) → Pairs s → WholeAt x s to n → WholeAt y s to2 n2 → 2 ≤ length x → 2 ≤ length y → getD x 0 0 ≡ getD y 0 0 → getD x 1 0 ≡ getD y 1 0
       → present (operandsOf s to x (address + n)) ≡ present (operandsOf s to2 y (address + n2)) → take n x ≡ take n2 y
   unfolding operandsOf listed fill
-  same-shape s to to2 n n2 (one other none-to) wx wy lx ly e0 e1 ops =
-      let ex = none-to x to (wx .second) in
-      let ey = none-to y to2 (wy .second) in
+  same-shape s to to2 n n2 (one other) wx wy lx ly e0 e1 ops =
+      let ex = to-none s other x to (wx .second) in
+      let ey = to-none s other y to2 (wy .second) in
       let same-to : to ≡ to2 = ex ∙ sym ey in
       let same-n : n ≡ n2 = wx .size ∙ ap (λ (m : Memory). lengthOf s + offsetLength m) same-to ∙ sym (wy .size) in
       let places = listed (slotsOf s to) in
       let equal : present (fill x (address + n) places) ≡ present (fill y (address + n) places) = rw (sym same-to, sym same-n) at ops in
       let middle = same-slots x y (address + n) places hx hy equal in
-      let cx = all-covered x 2 n places (rw (sym (wx .size)) at (chained x s to (wx .second) other)) (wx .there) in
+      let cx = all-covered x 2 n places (rw (sym (wx .size)) at (chained x s to (wx .second) (other-shape s other))) (wx .there) in
       let to-y : toOf y s ≡ Operand to = wy .second ∙ ap Operand (sym same-to) in
-      let cy = all-covered y 2 n places (rw (sym (wx .size)) at (chained y s to to-y other)) (omega (arith, wy .there, same-n)) in
+      let cy = all-covered y 2 n places (rw (sym (wx .size)) at (chained y s to to-y (other-shape s other))) (omega (arith, wy .there, same-n)) in
       let f : take 2 x ≡ take 2 y = first-pair x lx ∙ rw (e0, e1) (sym (first-pair y ly)) in
       sym cx ∙ ap (λ (l : List ℕ). l ++ spread x places) f ∙ ap (λ (l : List ℕ). take 2 y ++ l) middle ∙ cy ∙ ap (λ (k : ℕ). take k y) same-n
   same-shape s to to2 n n2 (two m) wx wy lx ly e0 e1 ops = same-move m to to2 n n2 wx wy lx ly e0 e1 ops
@@ -253,7 +256,7 @@ module _ (address : ℕ) (x y : List ℕ) (hx : Bytes x) (hy : Bytes y) where
       (same-shape s to to2 n n2 (pairs s) wx wy2 (omega (arith, bx, wx .size, wx .there)) (omega (arith, bx, wy2 .size, wy2 .there)) (q .0) (q .1) ops, same .2)
 
 -- a line of a word with operands, or of bytes
-data Line (address : ℕ) (x : List ℕ) : Type 0 where
+pub data Line (address : ℕ) (x : List ℕ) : Type 0 where
   words : (s : Shape) (to : Memory) (n : ℕ) → itemOf x ≡ Whole s to n → isListed s ≡ true → charsOf address x (itemOf x) ≡ instructionLine x (address + n) s to → Line address x
   raw : charsOf address x (itemOf x) ≡ dataLine (take (countOf (itemOf x)) x) → Line address x
 
@@ -267,7 +270,7 @@ line-by address x (Whole s to n) e = go (isListed s) refl
     go true l = words s to n e l (rw (e, l))
     go false l = raw (rw (e, l))
 
-line-of : (address : ℕ) (x : List ℕ) → Line address x
+pub line-of : (address : ℕ) (x : List ℕ) → Line address x
 line-of address x = line-by address x (itemOf x) refl
 
 within : (k : ℕ) (x : List ℕ) (i : ℕ) → k ≤ i → length (take k x) ≤ i
@@ -281,7 +284,7 @@ bytes-take k x h i = go (ltb i k) refl
     go true e = rw (getD-take k x i 0 (ltb-true i k e)) (h i)
     go false e = let m = ltb-false i k e in rw (List·getD-eq-default (take k x) 0 (within k x i m)) (omega arith)
 
-bytes-drop : (k : ℕ) (x : List ℕ) → Bytes x → Bytes (drop k x)
+pub bytes-drop : (k : ℕ) (x : List ℕ) → Bytes x → Bytes (drop k x)
 unfolding Bytes
 bytes-drop k x h i = rw (getD-drop k x i 0) (h (k + i))
 

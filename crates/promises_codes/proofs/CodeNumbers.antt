@@ -21,12 +21,12 @@ use Rattle.instruction_rules.proofs.TableLaws.{rowsAt, own-rows}
 use Rattle.promises_codes.specs.Codes.{Code, none, codes, codeNumber, numberByCodes, secondByCodes, sumBelow, pairsGiven, DecoderCodes}
 
 -- whether a test holds of every number below n
-allBelow : ℕ → (ℕ → Bool) → Bool
+unfoldable pub allBelow : ℕ → (ℕ → Bool) → Bool
 allBelow zero f = true
 allBelow (suc n) f = f n && allBelow n f
 
 -- where it holds of all, it holds of each
-of-all : (n : ℕ) (f : ℕ → Bool) → allBelow n f ≡ true → (i : ℕ) → i < n → f i ≡ true
+pub of-all : (n : ℕ) (f : ℕ → Bool) → allBelow n f ≡ true → (i : ℕ) → i < n → f i ≡ true
 unfolding allBelow
 of-all zero f e i h = absurd (omega (arith, h))
 of-all (suc n) f e i h = go (f n) refl (ℕ-discrete i n) (of-all n f)

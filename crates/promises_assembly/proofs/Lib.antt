@@ -1,0 +1,4 @@
+pub mod Apart
+pub mod Constants
+pub mod Sketches
+pub mod Rows
