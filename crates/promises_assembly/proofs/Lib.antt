@@ -2,3 +2,4 @@ pub mod Apart
 pub mod Constants
 pub mod Sketches
 pub mod Rows
+pub mod Places
