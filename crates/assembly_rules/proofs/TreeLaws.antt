@@ -28,7 +28,7 @@ pub record Equals (w : Worth) (added taken : ℕ) (known : Bool) : Type 0 where
   pub told : w .known ≡ known
 
 -- equal mod 65,536 stays so
-add-equal : (a b c : ℕ) → a % 65536 ≡ b % 65536 → (a + c) % 65536 ≡ (b + c) % 65536
+pub add-equal : (a b c : ℕ) → a % 65536 ≡ b % 65536 → (a + c) % 65536 ≡ (b + c) % 65536
 add-equal a b c h = sym (mod-add-mod a 65536 c) ∙ ap (λ (y : ℕ). (y + c) % 65536) h ∙ mod-add-mod b 65536 c
 
 back-again : (x y : ℕ) → ((x % 65536 + 65536 - y % 65536) % 65536 + y) % 65536 ≡ x % 65536

@@ -9,7 +9,7 @@ use Rattle.assembly_rules.specs.Text.Token.{run, mark}
 use Rattle.assembly_rules.proofs.TextLaws.{tokens-blank, tokens-end, tokens-mark, run-none, run-more, rest-more, no-run}
 
 -- whether characters begin with one of a run, and whether all are
-pub beginsRun : List ℕ → Bool
+unfoldable pub beginsRun : List ℕ → Bool
 beginsRun [] = false
 beginsRun (c ∷ cs) = isRun c
 

@@ -3,3 +3,5 @@ pub mod Constants
 pub mod Sketches
 pub mod Rows
 pub mod Places
+pub mod Parts
+pub mod Instructions

@@ -47,16 +47,20 @@ opens [] = false
 opens (run r ∷ ts) = true
 opens (mark c ∷ ts) = not (eqb c 58)
 
--- an operand that is heard as it is meant: its text ends no line, its tokens have no comma and stand for what is written
-pub record Heard (o : Operand) (w : Written) : Type 0 where
+-- an operand whose tokens stay together: its text ends no line, its tokens have no comma
+pub record Voiced (o : Operand) : Type 0 where
   pub some : isSome o ≡ true
   pub free : noneOf endsLine (spelled o) ≡ true
   pub uncut : noneOf isComma (tokensOf (spelled o)) ≡ true
   pub begins : opens (tokensOf (spelled o)) ≡ true
+
+-- and stand for what is written
+pub record Heard (o : Operand) (w : Written) : Type 0 where
+  pub voice : Voiced o
   pub operand : operandFrom (tokensOf (spelled o)) ≡ w
 
 hear : {o : Operand} {w : Written} → isSome o ≡ true → noneOf endsLine (spelled o) ≡ true → noneOf isComma (tokensOf (spelled o)) ≡ true → opens (tokensOf (spelled o)) ≡ true → operandFrom (tokensOf (spelled o)) ≡ w → Heard o w
-hear a b c d e = record { some = a; free = b; uncut = c; begins = d; operand = e }
+hear a b c d e = record { voice = record { some = a; free = b; uncut = c; begins = d }; operand = e }
 
 heard-register : (r : ℕ) → r < 8 → Heard (register r) (Written.register r)
 unfolding isSome noneOf spelled registerName tokensOf begunBy inFrontOf isRun isDigit isCapital capitalOf isBlank endsLine opens operandFrom registerNumber indexIn sameText
