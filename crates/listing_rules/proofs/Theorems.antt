@@ -109,7 +109,7 @@ unfolding allChars
 chars-append [] b = refl
 chars-append (l ∷ a) b = ap (λ (t : List ℕ). l .chars ++ t) (chars-append a b) ∙ sym (append-assoc (l .chars) (allChars a) (allChars b))
 
-bytes-append : (a b : List TextLine) → allBytes (a ++ b) ≡ allBytes a ++ allBytes b
+pub bytes-append : (a b : List TextLine) → allBytes (a ++ b) ≡ allBytes a ++ allBytes b
 unfolding allBytes
 bytes-append [] b = refl
 bytes-append (l ∷ a) b = ap (λ (t : List ℕ). l .bytes ++ t) (bytes-append a b) ∙ sym (append-assoc (l .bytes) (allBytes a) (allBytes b))
@@ -201,7 +201,7 @@ pub record Continued (whole part rest : Listing) : Type 0 where
   pub stop : whole .stop ≡ part .stop + rest .stop
   pub text : take (whole .characters) (whole .buffer) ≡ take (part .characters) (part .buffer) ++ take (rest .characters) (rest .buffer)
 
-placed-text : (lines : List TextLine) (buffer : List ℕ) → take (placed lines buffer .characters) (placed lines buffer .buffer) ≡ allChars lines
+pub placed-text : (lines : List TextLine) (buffer : List ℕ) → take (placed lines buffer .characters) (placed lines buffer .buffer) ≡ allChars lines
 unfolding placed
 placed-text lines buffer = take-at (allChars lines) (drop (length (allChars lines)) buffer) (length (allChars lines)) refl
 

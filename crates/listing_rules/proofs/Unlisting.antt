@@ -60,7 +60,7 @@ spoken-line bytes end p s to k h =
     }
 
 -- the operands of a DB line
-pub numbers : List ℕ → List Forms.Operand
+unfoldable pub numbers : List ℕ → List Forms.Operand
 numbers [] = []
 numbers (b ∷ bytes) = number (b ∷ []) ∷ numbers bytes
 
@@ -88,7 +88,7 @@ numbers-same (b ∷ x) (c ∷ y) e =
     let g : numbers x ≡ numbers y = cc in
     rw (f, numbers-same x y g)
 
-numbers-present : (x : List ℕ) → present (numbers x) ≡ numbers x
+pub numbers-present : (x : List ℕ) → present (numbers x) ≡ numbers x
 unfolding numbers present
 numbers-present [] = refl
 numbers-present (b ∷ x) = rw (numbers-present x)

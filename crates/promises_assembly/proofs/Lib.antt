@@ -5,3 +5,4 @@ pub mod Rows
 pub mod Places
 pub mod Parts
 pub mod Instructions
+pub mod RoundTrip

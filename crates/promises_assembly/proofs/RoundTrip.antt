@@ -1,0 +1,190 @@
+-- Assembling a listing gives back the listed bytes.
+-- Assumes nothing.
+use mathlib.Core.Path.{_≡_, refl, sym, ap, subst, _∙_}
+use mathlib.Core.Bool.{Bool, true, false, not, _&&_, _||_}
+use mathlib.Core.List.{List, [], _∷_, _++_, append-assoc, append-nil}
+use Prim.Native.Nat.{ℕ, zero, suc, _+_, _*_, _-_, _%_, _≤_}
+use native.Mathlib.Nat.{mod-mod, add-zero}
+use native.Mathlib.Omega.{arith}
+use lib.Dec.{T, eqb, ltb, leb}
+use lib.ListN.{length, getD, take, drop, length-take, length-append, take-append-drop}
+use borrow.Author.Tests.{le-ltb, lt-ltb}
+use Rattle.ground_rules.specs.Choice.{pick}
+use Rattle.listing_rules.specs.Characters.{ascii, sameText, numberText}
+use Rattle.listing_rules.specs.Forms.{Operand, spelled}
+use Rattle.listing_rules.specs.Forms.Operand.{number}
+use Rattle.listing_rules.specs.Lines.{dataLine}
+use Rattle.listing_rules.specs.Items.{itemOf, countOf}
+use Rattle.listing_rules.specs.Listings.{TextLine, charsOf, lineAt, linesBy, linesOf, allChars, allBytes, keptIn, listLimit, placed, listingOf}
+use Rattle.listing_rules.proofs.SpellingLaws.{marks, present, Bytes}
+use Rattle.listing_rules.proofs.RowLaws.{whole-at, count-some, count-there}
+use Rattle.listing_rules.proofs.Theorems.{all-listed, bytes-append, placed-text}
+use Rattle.listing_rules.proofs.Unlisting.{Spoken, numbers, spoken-data, spoken-free, free, numbers-present, Line, line-of, bytes-take, bytes-drop}
+use Rattle.listing_rules.proofs.Unlisting.Line.{words, raw}
+use Rattle.assembly_rules.specs.Text.{isRun, isDigit, isCapital, capitalOf, isBlank, endsLine, Token, isComma, begunBy, tokensOf, cutAt, linesIn}
+use Rattle.assembly_rules.specs.Text.Token.{run}
+use Rattle.assembly_rules.specs.Sums.{Label, depthOf, mostOpen, sumWorth}
+use Rattle.assembly_rules.specs.Statements.{headedBy, operandParts, allSums, allLow, itemsFrom, statementOf, statementSize, isByte, itemsKnown, itemsStand, statementNumber, itemsBytes, statementBytes}
+use Rattle.assembly_rules.specs.Statements.Statement.{items}
+use Rattle.assembly_rules.specs.Assembly.{Said, saidBy, saidIn, keptWith, labelsFrom, labelStands, lineNumber, assembled, assembledFrom, assembleOf}
+use Rattle.assembly_rules.proofs.WritingLaws.{Writes, written}
+use Rattle.assembly_rules.proofs.WholeLaws.{SameTokens, noLine, oneMore, same-said}
+use Rattle.promises_assembly.proofs.Apart.{noneOf, cut-first}
+use Rattle.promises_assembly.proofs.Constants.{wordChar, isWord, isName, byte-constant}
+use Rattle.promises_assembly.proofs.Places.{isSome, opens, Voiced}
+use Rattle.promises_assembly.proofs.Parts.{spokenParts, Parted, parted-none, parted-next, line-said}
+use Rattle.promises_assembly.proofs.Instructions.{Assembles, instruction-assembles}
+
+-- the items of a DB line: numbers of one byte
+record Items (bytes : List ℕ) : Type 0 where
+  parted : Parted (numbers bytes)
+  sums : allSums (spokenParts (numbers bytes)) ≡ true
+  low : allLow (spokenParts (numbers bytes)) ≡ true
+  size : length (spokenParts (numbers bytes)) ≡ length bytes
+  known : (labels : List Label) → itemsKnown labels (spokenParts (numbers bytes)) ≡ true
+  stand : (labels : List Label) → itemsStand labels (spokenParts (numbers bytes)) ≡ true
+  same : (labels : List Label) → itemsBytes labels false (spokenParts (numbers bytes)) ≡ bytes
+
+items-of : (bytes : List ℕ) → Bytes bytes → Items bytes
+unfolding numbers spokenParts allSums allLow itemsKnown itemsStand itemsBytes marks present Bytes spelled noneOf isSome opens isByte
+items-of [] h = record { parted = parted-none [] (λ m. refl) refl; sums = refl; low = refl; size = refl; known = λ labels. refl; stand = λ labels. refl; same = λ labels. refl }
+items-of (b ∷ bytes) h =
+    let c = byte-constant b (h 0) in
+    let t = c .tokens in
+    let later = items-of bytes (λ i. h (suc i)) in
+    let low : b % 256 ≡ b = omega (arith, h 0) in
+    record {
+      parted = parted-next (number (b ∷ [])) (numbers bytes) (record { some = refl; free = c .free; uncut = rw t; begins = rw t }) (later .parted);
+      sums = rw (t, c .sum, later .sums);
+      low = rw (t, c .shallow, later .low);
+      size = ap suc (later .size);
+      known = λ labels. rw (t, c .worths labels, later .known labels);
+      stand = λ labels. rw (t, c .worths labels, lt-ltb b 256 (h 0), later .stand labels);
+      same = λ labels. rw (t, c .worths labels, low, later .same labels);
+    }
+
+data-said : (b : ℕ) (bytes : List ℕ) → Bytes (b ∷ bytes) → saidBy (ascii "DB" ++ marks 32 (numbers (b ∷ bytes))) ≡ record { name = []; statement = items false (spokenParts (numbers (b ∷ bytes))) }
+unfolding statementOf itemsFrom sameText isName isWord wordChar isRun isDigit isCapital capitalOf endsLine numbers spokenParts
+data-said b bytes h =
+    let i = items-of (b ∷ bytes) h in
+    line-said (ascii "DB") (numbers (b ∷ bytes)) refl (i .parted) ∙ rw (i .parted .lead, numbers-present (b ∷ bytes), i .sums, i .low)
+
+-- a DB line assembles to its bytes
+data-assembles : (b : ℕ) (bytes : List ℕ) → Bytes (b ∷ bytes) → (address : ℕ) → Assembles (dataLine (b ∷ bytes)) address (b ∷ bytes)
+unfolding statementSize statementNumber statementBytes
+data-assembles b bytes h address =
+    let i = items-of (b ∷ bytes) h in
+    let sp = spoken-data (b ∷ bytes) h in
+    let said = data-said b bytes h in
+    record {
+      front = ascii "DB" ++ marks 32 (numbers (b ∷ bytes));
+      ends = sp .text;
+      whole = spoken-free sp;
+      unnamed = rw said;
+      size = rw said (omega (arith, i .size));
+      accepted = λ labels at k. rw said (rw (i .known labels, i .stand labels));
+      stored = λ labels at k. rw said (i .same labels);
+    }
+
+some-data : (bytes : List ℕ) → (length bytes ≡ 0 → ⊥) → Bytes bytes → (address : ℕ) → Assembles (dataLine bytes) address bytes
+some-data [] some h address = absurd (some refl)
+some-data (b ∷ bytes) some h address = data-assembles b bytes h address
+
+-- every line of a listing assembles to the bytes that it lists
+line-assembles : (address : ℕ) (x : List ℕ) → (length x ≡ 0 → ⊥) → Bytes x → Assembles (lineAt address x .chars) address (lineAt address x .bytes)
+unfolding lineAt
+line-assembles address x some h = go (line-of address x)
+  where
+    go : Line address x → Assembles (charsOf address x (itemOf x)) address (take (countOf (itemOf x)) x)
+    go (words s to n i l e) = rw (e, i) (instruction-assembles x h address s to n (whole-at x s to n i) l)
+    go (raw e) =
+        let n = countOf (itemOf x) in
+        rw e (some-data (take n x) (λ z. omega (arith, z, length-take n x, count-some x some, count-there x some)) (bytes-take n x h) address)
+
+-- lines one behind the other, each of which assembles to its bytes
+pub data AllAssemble : ℕ → List TextLine → Type 0 where
+  none : {address : ℕ} → AllAssemble address []
+  more : {address : ℕ} {line : TextLine} {lines : List TextLine} → Assembles (line .chars) address (line .bytes) → AllAssemble (address + length (line .bytes)) lines → AllAssemble address (line ∷ lines)
+
+lines-assemble : (most address : ℕ) (x : List ℕ) → Bytes x → AllAssemble address (linesBy most address x)
+unfolding linesBy lineAt
+lines-assemble zero address x h = none
+lines-assemble (suc most) address [] h = none
+lines-assemble (suc most) address (b ∷ x) h =
+    let all = b ∷ x in
+    let n = countOf (itemOf all) in
+    let some : length all ≡ 0 → ⊥ = λ z. omega arith in
+    let size : n ≡ length (take n all) = omega (arith, length-take n all, count-there all some) in
+    more (line-assembles address all some h) (subst (λ (k : ℕ). AllAssemble (address + k) (linesBy most (address + n) (drop n all))) size (lines-assemble most (address + n) (drop n all) (bytes-drop n all h)))
+
+-- the lines before the first that does not fit a room
+kept-assemble : (room address : ℕ) (lines : List TextLine) → AllAssemble address lines → AllAssemble address (keptIn room lines)
+unfolding keptIn
+kept-assemble room address lines none = none
+kept-assemble room address lines (more {line = line} {lines = rest} a later) = go (leb (length (line .chars)) room) (kept-assemble (room - length (line .chars)) (address + length (line .bytes)) rest later)
+  where
+    go : (b : Bool) → AllAssemble (address + length (line .bytes)) (keptIn (room - length (line .chars)) rest) → AllAssemble address (pick b (line ∷ keptIn (room - length (line .chars)) rest) [])
+    go true all = more a all
+    go false all = none
+
+-- the lines of a text: up to its first line feed, and from there on
+feed-free : (text : List ℕ) → T (free text) → noneOf (λ c. eqb c 10) text ≡ true
+unfolding free noneOf
+feed-free [] t = refl
+feed-free (c ∷ text) t = go (not (eqb c 10)) t (feed-free text)
+  where
+    go : (b : Bool) → T (b && free text) → (T (free text) → noneOf (λ c. eqb c 10) text ≡ true) → b && noneOf (λ c. eqb c 10) text ≡ true
+    go true u later = later u
+    go false u later = absurd u
+
+first-line : (front rest : List ℕ) → T (free front) → linesIn ((front ++ (10 ∷ [])) ++ rest) ≡ front ∷ linesIn rest
+unfolding linesIn
+first-line front rest t = ap (cutAt (λ c. eqb c 10)) (append-assoc front (10 ∷ []) rest) ∙ cut-first (λ c. eqb c 10) front rest 10 (feed-free front t) refl
+
+-- what follows the last line feed says nothing
+last-line : (labels kept : List Label) (first room line : ℕ) (done : List ℕ) → assembledFrom labels kept first room line done (saidIn (linesIn [])) ≡ assembled 0 0 done
+unfolding assembledFrom saidIn linesIn cutAt saidBy tokensOf begunBy headedBy statementOf lineNumber statementNumber labelStands statementSize statementBytes
+last-line labels kept first room line done = ap (assembled 0 0) (append-nil done)
+
+line-number : (labels kept : List Label) (at before room size : ℕ) (s : Said) → s .name ≡ [] → statementNumber labels at (s .statement) ≡ 0 → statementSize (s .statement) ≡ size → before + size ≤ room → lineNumber labels kept at before room s ≡ 0
+unfolding lineNumber labelStands
+line-number labels kept at before room size s n e z h = rw (e, n, z, le-ltb room (before + size) h) (go (ltb 0 size))
+  where
+    go : (b : Bool) → _≡_ {A = ℕ} (pick (b && false) 35 0) 0
+    go true = refl
+    go false = refl
+
+-- a line that assembles to its bytes stores them, and the next line follows
+line-done : (labels kept : List Label) (first room line : ℕ) (done : List ℕ) (s : Said) (later : List Said) (bytes : List ℕ) → s .name ≡ [] → statementSize (s .statement) ≡ length bytes
+    → statementNumber labels ((first + length done) % 65536) (s .statement) ≡ 0 → statementBytes labels ((first + length done) % 65536) (s .statement) ≡ bytes → length done + length bytes ≤ room
+    → assembledFrom labels kept first room line done (s ∷ later) ≡ assembledFrom labels kept first room (suc line) (done ++ bytes) later
+unfolding assembledFrom keptWith
+line-done labels kept first room line done s later bytes n z e b h = rw (line-number labels kept ((first + length done) % 65536) (length done) room (length bytes) s n e z h, b, n)
+
+-- lines that assemble to their bytes one by one do so together
+lines-done : (labels kept : List Label) (first room line address : ℕ) (done : List ℕ) (lines : List TextLine) → AllAssemble address lines → address ≡ first + length done → length done + length (allBytes lines) ≤ room
+    → assembledFrom labels kept first room line done (saidIn (linesIn (allChars lines))) ≡ assembled 0 0 (done ++ allBytes lines)
+unfolding allChars allBytes saidIn
+lines-done labels kept first room line address done lines none e h = last-line labels kept first room line done ∙ ap (assembled 0 0) (sym (append-nil done))
+lines-done labels kept first room line address done lines (more {line = this} {lines = rest} a later) e h =
+    let at = (first + length done) % 65536 in
+    let own : at % 65536 ≡ address % 65536 = mod-mod (first + length done) 65536 ∙ ap (λ (x : ℕ). x % 65536) (sym e) in
+    let more-bytes = length-append (this .bytes) (allBytes rest) in
+    let more-done = length-append done (this .bytes) in
+    let text : linesIn (this .chars ++ allChars rest) ≡ a .front ∷ linesIn (allChars rest) = ap (λ (c : List ℕ). linesIn (c ++ allChars rest)) (a .ends) ∙ first-line (a .front) (allChars rest) (a .whole) in
+    ap (λ (l : List (List ℕ)). assembledFrom labels kept first room line done (saidIn l)) text
+    ∙ line-done labels kept first room line done (saidBy (a .front)) (saidIn (linesIn (allChars rest))) (this .bytes) (a .unnamed) (a .size) (a .accepted labels at own) (a .stored labels at own) (omega arith)
+    ∙ lines-done labels kept first room (suc line) (address + length (this .bytes)) (done ++ this .bytes) rest later (omega arith) (omega arith)
+    ∙ ap (assembled 0 0) (append-assoc done (this .bytes) (allBytes rest))
+
+-- a text of such lines, from the address of the first
+pub text-done : (first room : ℕ) (lines : List TextLine) → AllAssemble first lines → length (allBytes lines) ≤ room → assembleOf (allChars lines) first room ≡ assembled 0 0 (allBytes lines)
+unfolding assembleOf
+text-done first room lines a h = lines-done (labelsFrom [] first (saidIn (linesIn (allChars lines)))) [] first room 1 first [] lines a (sym (add-zero first)) (omega arith)
+
+-- assembling a listing, from the same first address and into any room that is large enough, gives back the listed bytes
+pub round-trip : (x : List ℕ) (first room : ℕ) → Bytes x → length x ≤ room → assembleOf (allChars (linesOf first x)) first room ≡ assembled 0 0 x
+unfolding linesOf
+round-trip x first room h k =
+    let e = all-listed first x in
+    text-done first room (linesOf first x) (lines-assemble (length x) first x h) (rw e k) ∙ ap (assembled 0 0) e
