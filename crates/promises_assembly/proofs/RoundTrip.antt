@@ -8,6 +8,7 @@ use native.Mathlib.Nat.{mod-mod, add-zero}
 use native.Mathlib.Omega.{arith}
 use lib.Dec.{T, eqb, ltb, leb}
 use lib.ListN.{length, getD, take, drop, length-take, length-append, take-append-drop}
+use lib.Seq.{take-at}
 use borrow.Author.Tests.{le-ltb, lt-ltb}
 use Rattle.ground_rules.specs.Choice.{pick}
 use Rattle.listing_rules.specs.Characters.{ascii, sameText, numberText}
@@ -28,7 +29,8 @@ use Rattle.assembly_rules.specs.Statements.{headedBy, operandParts, allSums, al
 use Rattle.assembly_rules.specs.Statements.Statement.{items}
 use Rattle.assembly_rules.specs.Assembly.{Said, saidBy, saidIn, keptWith, labelsFrom, labelStands, lineNumber, assembled, assembledFrom, assembleOf}
 use Rattle.assembly_rules.proofs.WritingLaws.{Writes, written}
-use Rattle.assembly_rules.proofs.WholeLaws.{SameTokens, noLine, oneMore, same-said}
+use Rattle.assembly_rules.proofs.WholeLaws.{SameTokens, same-said}
+use Rattle.assembly_rules.proofs.WholeLaws.SameTokens.{noLine, oneMore}
 use Rattle.promises_assembly.proofs.Apart.{noneOf, cut-first}
 use Rattle.promises_assembly.proofs.Constants.{wordChar, isWord, isName, byte-constant}
 use Rattle.promises_assembly.proofs.Places.{isSome, opens, Voiced}
@@ -188,3 +190,42 @@ unfolding linesOf
 round-trip x first room h k =
     let e = all-listed first x in
     text-done first room (linesOf first x) (lines-assemble (length x) first x h) (rw e k) ∙ ap (assembled 0 0) e
+
+-- lines whose tokens are written anew: in small letters or capitals, with blanks between tokens, with a comment behind them
+pub data Respelled : List (List ℕ) → List (List ℕ) → Type 0 where
+  finished : Respelled [] []
+  another : {line other : List ℕ} {lines others : List (List ℕ)} → Writes (tokensOf line) other → Respelled lines others → Respelled (line ∷ lines) (other ∷ others)
+
+same-tokens : {lines others : List (List ℕ)} → Respelled lines others → SameTokens others lines
+same-tokens finished = noLine
+same-tokens (another w later) = oneMore (written w) (same-tokens later)
+
+-- a listing gives its bytes back however it is spelled
+pub however-spelled : (x text : List ℕ) (first room : ℕ) → Bytes x → length x ≤ room → Respelled (linesIn (allChars (linesOf first x))) (linesIn text) → assembleOf text first room ≡ assembled 0 0 x
+unfolding assembleOf
+however-spelled x text first room h k r = ap (λ (said : List Said). assembledFrom (labelsFrom [] first said) [] first room 1 [] said) (same-said (same-tokens r)) ∙ round-trip x first room h k
+
+kept-rest : (room : ℕ) (lines : List TextLine) → (rest : List TextLine) × (lines ≡ keptIn room lines ++ rest)
+unfolding keptIn
+kept-rest room [] = ([], refl)
+kept-rest room (line ∷ lines) = go (leb (length (line .chars)) room) (kept-rest (room - length (line .chars)) lines)
+  where
+    go : (b : Bool) → (rest : List TextLine) × (lines ≡ keptIn (room - length (line .chars)) lines ++ rest) → (rest : List TextLine) × (line ∷ lines ≡ pick b (line ∷ keptIn (room - length (line .chars)) lines) [] ++ rest)
+    go true (rest, e) = (rest, ap (λ (l : List TextLine). line ∷ l) e)
+    go false later = (line ∷ lines, refl)
+
+-- so does a listing as it is made, in a buffer of any length: the characters written give back the bytes before its stop
+pub listing-back : (code buffer : List ℕ) (first room : ℕ) → Bytes code → listingOf code first buffer .stop ≤ room
+    → assembleOf (take (listingOf code first buffer .characters) (listingOf code first buffer .buffer)) first room ≡ assembled 0 0 (take (listingOf code first buffer .stop) code)
+unfolding listingOf linesOf placed
+listing-back code buffer first room h k =
+    let part = take listLimit code in
+    let lines = keptIn (length buffer) (linesOf first part) in
+    let cut = kept-rest (length buffer) (linesOf first part) in
+    let more-bytes = allBytes (cut .0) ++ drop listLimit code in
+    let whole : code ≡ allBytes lines ++ more-bytes =
+    sym (take-append-drop listLimit code) ∙ ap (λ (l : List ℕ). l ++ drop listLimit code) (sym (all-listed first part) ∙ ap allBytes (cut .1) ∙ bytes-append lines (cut .0)) ∙ append-assoc (allBytes lines) (allBytes (cut .0)) (drop listLimit code) in
+    let before : take (length (allBytes lines)) code ≡ allBytes lines = ap (take (length (allBytes lines))) whole ∙ take-at (allBytes lines) more-bytes (length (allBytes lines)) refl in
+    ap (λ (text : List ℕ). assembleOf text first room) (placed-text lines buffer)
+    ∙ text-done first room lines (kept-assemble (length buffer) first (linesOf first part) (lines-assemble (length part) first part (bytes-take listLimit code h))) k
+    ∙ ap (assembled 0 0) (sym before)
