@@ -17,7 +17,7 @@ pub struct Codes(pub u32, pub u32, pub u32);
 
 // The characters of a run as one number, the first in its lowest eight bits, and 1 above the last; 0 where they are more than
 // six.
-pub fn word_number(run: &[u8]) -> u64
+pub fn run_number(run: &[u8]) -> u64
     ensures { λ r. ⌜ NumberIs r (capitals (now (run .entry))) ⌝ }
 {
     if 6 < run.len() {

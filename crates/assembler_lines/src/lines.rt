@@ -92,7 +92,7 @@ fn items(text: &[u8], at: usize, two: bool) -> Body
     Body::Refused(31)
 }
 
-// Whether an operand that may be there has no more than eight parentheses open at once.
+// Whether an operand, if it is there, is low: no more than eight parentheses are open at once.
 fn low_there(there: bool, f: Form) -> bool
     ensures { λ r. ⌜ r ≡ lowThere there f ⌝ }
 {
@@ -107,7 +107,7 @@ fn low_there(there: bool, f: Form) -> bool
     true
 }
 
-// Whether all operands have.
+// Whether all operands are low.
 fn all_low(o: Operands) -> bool
     ensures { λ r. ⌜ r ≡ rowLow o ⌝ }
 {
@@ -154,7 +154,7 @@ pub fn body(text: &[u8], at: usize) -> Body
         TokenFound::Nothing => Body::Blank,
         TokenFound::Mark(..) => Body::Refused(30),
         TokenFound::Run(from, to) => {
-            let word = table::word_number(&text[from..to]);
+            let word = table::run_number(&text[from..to]);
             worded(text, to, word)
         }
     }
@@ -164,7 +164,7 @@ pub fn body(text: &[u8], at: usize) -> Body
 pub fn is_reserved(run: &[u8]) -> bool
     ensures { λ r. ⌜ r ≡ isReserved (capitals (now (run .entry))) ⌝ }
 {
-    let word = table::word_number(run);
+    let word = table::run_number(run);
     let codes = table::codes_of(word);
     let register = sums::register_number(run);
     (codes.0 != table::NONE) | ((word == DB) | ((word == DW) | (register < 9)))

@@ -10,14 +10,14 @@ use Rattle.assembler_lines.proofs.BodyLaws.{body-none, body-mark}
 use Rattle.assembler_lines.proofs.lines.body.Statement.{statement}
 use Rattle.assembler_lines.proofs.lines.body.Tie as tie
 
-sub-word-number : tie.Need-sub-word-number
-sub-word-number c = omega (arith, run-lies (c .before .before .before .before .before .args .text .now) (c .before .before .before .before .before .args .at) _ _ (sym (c .before .before .before .token-at .ensures) ∙ c .before .from .given .1) .1)
+sub-run-number : tie.Need-sub-run-number
+sub-run-number c = omega (arith, run-lies (c .before .before .before .before .before .args .text .now) (c .before .before .before .before .before .args .at) _ _ (sym (c .before .before .before .token-at .ensures) ∙ c .before .from .given .1) .1)
 
-part-word-number-start : tie.Need-part-word-number-start
-part-word-number-start c = omega (arith, run-lies (c .before .before .before .before .before .args .text .now) (c .before .before .before .before .before .args .at) _ _ (sym (c .before .before .before .token-at .ensures) ∙ c .before .from .given .1) .1)
+part-run-number-start : tie.Need-part-run-number-start
+part-run-number-start c = omega (arith, run-lies (c .before .before .before .before .before .args .text .now) (c .before .before .before .before .before .args .at) _ _ (sym (c .before .before .before .token-at .ensures) ∙ c .before .from .given .1) .1)
 
-part-word-number-end : tie.Need-part-word-number-end
-part-word-number-end c = run-lies (c .before .before .before .before .before .args .text .now) (c .before .before .before .before .before .args .at) _ _ (sym (c .before .before .before .token-at .ensures) ∙ c .before .from .given .1) .2
+part-run-number-end : tie.Need-part-run-number-end
+part-run-number-end c = run-lies (c .before .before .before .before .before .args .text .now) (c .before .before .before .before .before .args .at) _ _ (sym (c .before .before .before .token-at .ensures) ∙ c .before .from .given .1) .2
 
 worded-requires : tie.Need-worded-requires
 worded-requires c κs = omega (arith, run-lies (c .before .before .before .before .before .before .before .args .text .now) (c .before .before .before .before .before .before .before .args .at) _ _ (sym (c .before .before .before .before .before .token-at .ensures) ∙ c .before .before .before .from .given .1) .1)
@@ -29,7 +29,7 @@ returns-2 : tie.Need-returns-2
 returns-2 c = body-mark (c .before .before .before .before .args .text .now) (c .before .before .before .before .args .at) _ _ (sym (c .before .before .token-at .ensures) ∙ c .enum-told2 .given .1)
 
 returns-3 : tie.Need-returns-3
-returns-3 c = subst (BodyIs (c .before .before .before .before .before .before .before .before .args .text .now) (c .worded .result)) (sym (ap statementOf (run-tokens (c .before .before .before .before .before .before .before .before .args .text .now) (c .before .before .before .before .before .before .before .before .args .at) _ _ (sym (c .before .before .before .before .before .before .token-at .ensures) ∙ c .before .before .before .before .from .given .1)))) (c .worded .ensures _ (c .before .word-number .ensures))
+returns-3 c = subst (BodyIs (c .before .before .before .before .before .before .before .before .args .text .now) (c .worded .result)) (sym (ap statementOf (run-tokens (c .before .before .before .before .before .before .before .before .args .text .now) (c .before .before .before .before .before .before .before .before .args .at) _ _ (sym (c .before .before .before .before .before .before .token-at .ensures) ∙ c .before .before .before .before .from .given .1)))) (c .worded .ensures _ (c .before .run-number .ensures))
 
 pub body-spec : {M : Type 1} → statement M
-body-spec = tie.close (tie.spec (λ c κs. search needs) (λ c. search needs) (λ c. search needs) (λ c. search needs) sub-word-number part-word-number-start part-word-number-end (λ c κs. search needs) worded-requires returns returns-2 returns-3)
+body-spec = tie.close (tie.spec (λ c κs. search needs) (λ c. search needs) (λ c. search needs) (λ c. search needs) sub-run-number part-run-number-start part-run-number-end (λ c κs. search needs) worded-requires returns returns-2 returns-3)

@@ -7,7 +7,7 @@ use Rattle.assembler_lines.proofs.lines.is_reserved.Statement.{statemen
 use Rattle.assembler_lines.proofs.lines.is_reserved.Tie as tie
 
 returns : tie.Need-returns
-returns c = rw (c .before .register-number .ensures) (reserved-told (capitals (c .before .before .before .before .before .args .run .now)) _ (c .before .before .before .word-number .ensures) _ (c .before .before .codes-of .ensures))
+returns c = rw (c .before .register-number .ensures) (reserved-told (capitals (c .before .before .before .before .before .args .run .now)) _ (c .before .before .before .run-number .ensures) _ (c .before .before .codes-of .ensures))
 
 pub is-reserved-spec : {M : Type 1} → statement M
 is-reserved-spec = tie.close (tie.spec (λ c κs. search needs) (λ c κs. search needs) (λ c κs. search needs) returns)

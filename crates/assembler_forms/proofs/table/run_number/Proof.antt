@@ -1,4 +1,4 @@
--- `assembler_forms::table::word_number` meets its contract. The loop's invariant: the number is that of the characters passed.
+-- `assembler_forms::table::run_number` meets its contract. The loop's invariant: the number is that of the characters passed.
 -- Assumes nothing.
 use Prim.Native.Nat.{ℕ, _≤_}
 use native.Mathlib.Omega.{arith}
@@ -8,8 +8,8 @@ use lib.ListN.{length, drop}
 use Rattle.assembly_rules.specs.Text.{capitals}
 use Rattle.assembler_forms.specs.Table.{packedWord}
 use Rattle.assembler_forms.proofs.TableLaws.{packed-end, left-small, packed-next, number-long, number-short}
-use Rattle.assembler_forms.proofs.table.word_number.Statement.{statement}
-use Rattle.assembler_forms.proofs.table.word_number.Tie as tie
+use Rattle.assembler_forms.proofs.table.run_number.Statement.{statement}
+use Rattle.assembler_forms.proofs.table.run_number.Tie as tie
 
 abbrev Inv-loop : tie.InvT-loop
 Inv-loop run n₀ i₀ n i = (n ≡ packedWord (capitals (drop i run))) × (i ≤ length run)
@@ -35,5 +35,5 @@ loop-again c = let l = c .before .before .before .loop in (packed-next (c .befor
 returns-2 : tie.Need-returns-2 Inv-loop μ-loop
 returns-2 c = let l = c .before .loop in let z : l .i ≡ 0 = omega (arith, c .loop-test .left) in number-short (c .before .before .before .before .args .run .now) _ (λ i. omega (arith, c .before .before .before .shared-slice-known .given i)) (c .before .before .if1 .left) (l .inv .0 ∙ ap (λ (i : ℕ). packedWord (capitals (drop i (c .before .before .before .before .args .run .now)))) z)
 
-pub word-number-spec : {M : Type 1} → statement M
-word-number-spec = tie.close (tie.spec Inv-loop μ-loop returns loop-holds (λ c. search needs) mul-n (λ c. search needs) (λ c κs. search needs) (λ c. search needs) add-n (λ c. search needs) loop-again returns-2)
+pub run-number-spec : {M : Type 1} → statement M
+run-number-spec = tie.close (tie.spec Inv-loop μ-loop returns loop-holds (λ c. search needs) mul-n (λ c. search needs) (λ c κs. search needs) (λ c. search needs) add-n (λ c. search needs) loop-again returns-2)
