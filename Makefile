@@ -11,6 +11,7 @@ SCHEDULES ?= 200000
 PAIRS ?= 100000
 TEXTS ?= 20000
 PARTS ?= 2000
+ASM_TEXTS ?= 50000
 CALLS ?= 40000
 IMAGES ?= 300
 PREFIX ?= /usr/local
@@ -29,11 +30,13 @@ override SCHEDULES := $(value SCHEDULES)
 override PAIRS := $(value PAIRS)
 override TEXTS := $(value TEXTS)
 override PARTS := $(value PARTS)
+override ASM_TEXTS := $(value ASM_TEXTS)
 override CALLS := $(value CALLS)
 override IMAGES := $(value IMAGES)
 override PREFIX := $(value PREFIX)
 override DESTDIR := $(value DESTDIR)
-export IMAGE FILE DEMO SEED CASES SERVICE_CASES SWEEPS PAUSES SCHEDULES PAIRS TEXTS PARTS CALLS IMAGES PREFIX DESTDIR
+export IMAGE FILE DEMO SEED CASES SERVICE_CASES SWEEPS PAUSES SCHEDULES PAIRS TEXTS PARTS ASM_TEXTS CALLS IMAGES PREFIX \
+	DESTDIR
 
 CFLAGS ?= -O2
 STRICT = -std=c11 -Wall -Wextra -Wpedantic -Wconversion
@@ -306,14 +309,17 @@ compare-pair: given-pairs build/compare_pair
 
 # ---- The bench tool, over both archives
 
-TOOL = $(addprefix host/,tool.c tool_order.c tool_calls.c tool_pair.c tool_schedule.c tool_hex.c tool_list.c)
+TOOL = $(addprefix host/,tool.c tool_order.c tool_calls.c tool_pair.c tool_schedule.c tool_hex.c tool_list.c tool_asm.c)
+# The assembler in C tells which label a refused line means; the bytes are the archive's.
+TOOL_LABELS = host/assembly.c
 
 .PHONY: tool check-tool
 
 tool: build/iop89
 
-build/iop89: $(TOOL) host/tool.h include/iop89.h include/iop89_service.h $(IOP89_LIB) $(SERVICE_LIB) | x86-compiler
-	$(X86_CC) $(STRICT) $(CFLAGS) -Iinclude $(TOOL) $(IOP89_LIB) $(SERVICE_LIB) $(X86_LDFLAGS) -o $@
+build/iop89: $(TOOL) $(TOOL_LABELS) host/tool.h host/assembly.h include/iop89.h include/iop89_service.h $(IOP89_LIB) \
+		$(SERVICE_LIB) | x86-compiler
+	$(X86_CC) $(STRICT) $(CFLAGS) -Iinclude $(TOOL) $(TOOL_LABELS) $(IOP89_LIB) $(SERVICE_LIB) $(X86_LDFLAGS) -o $@
 
 # Every command, every exit status, and misuse.
 check-tool: build/iop89
@@ -393,12 +399,14 @@ compare-list: given-parts build/compare-list
 bench-list: count-needs build/bench-list
 	@tools/bench-list build/bench-list
 
-# ---- Assembling: an assembler in C that was written from the papers alone
+# ---- Assembling: the proved assembler beside one in C that was written from the papers alone
 
 ASSEMBLY = $(addprefix host/,assembly.c listing.c dice.c)
 ASSEMBLY_H = $(addprefix host/,assembly.h listing.h dice.h)
+COMPARE_ASM = $(addprefix host/,compare_asm.c asm_texts.c fences.c) $(ASSEMBLY)
+COMPARE_ASM_H = $(addprefix host/,asm_texts.h fences.h) $(ASSEMBLY_H) include/iop89.h include/iop89_service.h
 
-.PHONY: asmtest
+.PHONY: asmtest compare-asm bench-asm given-asm-texts
 
 build/asmtest: host/asmtest.c $(ASSEMBLY) $(ASSEMBLY_H) | compiler
 	@mkdir -p build
@@ -407,6 +415,25 @@ build/asmtest: host/asmtest.c $(ASSEMBLY) $(ASSEMBLY_H) | compiler
 # Its own checks: the rows of host/notation.txt both ways, the maker's sample, every number and its borders.
 asmtest: build/asmtest
 	build/asmtest host/notation.txt examples/f59.asm
+
+given-asm-texts:
+	@tools/given number SEED && tools/given number ASM_TEXTS
+
+build/compare-asm: $(COMPARE_ASM) $(COMPARE_ASM_H) $(SERVICE_LIB) | x86-compiler
+	$(X86_CC) $(STRICT) $(CFLAGS) -Iinclude $(COMPARE_ASM) $(SERVICE_LIB) $(X86_LDFLAGS) -o $@
+
+# What is counted is always compiled at -O2.
+build/bench-asm: host/bench_asm.c $(ASSEMBLY) $(ASSEMBLY_H) include/iop89.h include/iop89_service.h $(SERVICE_LIB) | \
+		x86-compiler
+	$(X86_CC) $(STRICT) -O2 -Iinclude host/bench_asm.c $(ASSEMBLY) $(SERVICE_LIB) $(X86_LDFLAGS) -o $@
+
+# Assembles random texts, texts by hand and the listing of every first pair by both assemblers.
+compare-asm: given-asm-texts build/compare-asm
+	tools/x86 build/compare-asm "$$SEED" "$$ASM_TEXTS" host/notation.txt examples/f59.asm
+
+# Counts the instructions of both assemblers for each character of text.
+bench-asm: count-needs build/bench-asm
+	@tools/bench-asm build/bench-asm
 
 # ---- A sweep's time beside memcpy's
 

@@ -23,12 +23,16 @@ enum { TEXTS_TO_MEET_ALL = 50000, SHOWN_DIFFERENCES = 3, TEXTS_IN_EVERY_ROOM = 5
 /* Places of a failed line. */
 enum { FIRST_LINE, MIDDLE_LINE, LAST_LINE, PLACES };
 
+/* Places of a character that the notation does not know. */
+enum { ODD_WORD, ODD_OPERAND, ODD_COMMENT, ODD_PLACES };
+
 /* The text that is lent, its copy, and what both assemblers store. */
 static uint8_t *text, *copy, *plain, *proved;
 static size_t text_len;
 
 static unsigned long numbers[ASSEMBLY_NUMBERS], where[ASSEMBLY_NUMBERS][PLACES], faults[LABEL_FAULTS];
 static unsigned long features[ASM_FEATURES], forms[ASSEMBLY_FORMS], modes[4], bases[4], registers[8];
+static unsigned long odd_characters[ODD_PLACES];
 static unsigned long long calls, round_trips, differences;
 static unsigned missing;
 
@@ -209,10 +213,10 @@ static void both_rooms(const char *what)
 /* One thing again and again, by itself and behind an item. */
 static void repeated_texts(void)
 {
-    static const char *const things[] = {" ",  "\n", "(", ")", "1",  "A",      ",",    "-",
-                                         "\r", ":",  ";", "[", "X:", "DB 1\n", "NOP\n"};
+    static const char *const things[] = {" ",  "\n", "A", ";", "1", "\xFF", ",",      "-",
+                                         "\r", ":",  "(", ")", "[", "X:",   "DB 1\n", "NOP\n"};
     for (size_t i = 0; i < sizeof things / sizeof things[0]; i++) {
-        add(i < 2 ? 1000000 : 30000, things[i]);
+        add(i < 6 ? 1000000 : 30000, things[i]);
         both_rooms("one thing again and again");
         add(1, "DB 5");
         add(30000, things[i]);
@@ -244,17 +248,35 @@ static void long_texts(void)
     both_rooms("a million lines");
 }
 
-/* Every character by itself and in some places. */
+/* Whether a character is a control character but no blank and no line end, or past ASCII. */
+static bool is_odd(unsigned c)
+{
+    return (c < 32 && c != '\t' && c != '\n' && c != '\r') || c >= 127;
+}
+
+/* Every character by itself and in some places. An odd one is 30 where a word must stand, 31 behind a word, and nothing
+ * in a comment. */
 static void every_character(void)
 {
-    static const char *const around[][2] = {{"", ""},      {"NOP", ""},  {"DB 1", ";"},
-                                            {"DB 1", "1"}, {";", "NOP"}, {"X", ":"}};
+    static const struct {
+        const char *before, *behind;
+        unsigned place, number;
+    } around[] = {
+        {"", "", ODD_WORD, 30},           {"X", ":", ODD_WORD, 30},         {"X:", "NOP", ODD_WORD, 30},
+        {"NOP", "", ODD_OPERAND, 31},     {"DB 1", ";", ODD_OPERAND, 31},   {"DB 1", "1", ODD_OPERAND, 31},
+        {"DB ", "", ODD_OPERAND, 31},     {"INC [GA", "]", ODD_OPERAND, 31}, {";", "NOP", ODD_COMMENT, 0},
+        {"X:;", "", ODD_COMMENT, 0},
+    };
     for (unsigned i = 0; i < 256; i++) {
         for (size_t k = 0; k < sizeof around / sizeof around[0]; k++) {
-            add(1, around[k][0]);
+            add(1, around[k].before);
             text[text_len++] = (uint8_t)i;
-            add(1, around[k][1]);
-            both_rooms("a character");
+            add(1, around[k].behind);
+            struct assembled a = both("a character", 0, CODE_ROOM);
+            if (is_odd(i) && a.number != around[k].number) show("a character", 0, CODE_ROOM, a, 0);
+            odd_characters[around[k].place] += is_odd(i);
+            both("a character", 0, 0);
+            text_len = 0;
         }
     }
 }
@@ -551,6 +573,15 @@ static void report_numbers(void)
     for (unsigned i = LABEL_TOO_LONG; i < LABEL_FAULTS; i++) count(reasons[i], faults[i]);
 }
 
+/* Prints where characters stood that the notation does not know. */
+static void report_odd(void)
+{
+    puts("NUL, control characters and characters past ASCII:");
+    count("30 where a word must stand", odd_characters[ODD_WORD]);
+    count("31 behind a word", odd_characters[ODD_OPERAND]);
+    count("nothing in a comment", odd_characters[ODD_COMMENT]);
+}
+
 /* Prints what texts held. */
 static void report_features(void)
 {
@@ -582,6 +613,7 @@ int main(int argc, char **argv)
     report_forms();
     report_operands();
     report_numbers();
+    report_odd();
     report_features();
     printf("seed %" PRIu64 ", %" PRIu64 " random texts, %u rows of notation, a source of %u bytes\n", seed, texts, rows,
            bytes);

@@ -24,6 +24,8 @@ static const struct command commands[] = {
      "iop89 load examples/prom/srecord-segments.hex", tool_show_files},
     {"list", "a channel program in the maker's notation, with address and bytes before each line",
      "iop89 list examples/copy-odd.bin -from 0x40 -count 40", tool_list},
+    {"asm", "a text in that notation, with labels, data and comments, to an image: written, or listed without -out",
+     "iop89 asm examples/f59.asm -at 0x40", tool_asm},
 };
 
 enum { COMMANDS = sizeof commands / sizeof commands[0] };
@@ -49,13 +51,20 @@ static const char options[] =
     "  -show FROM N    shows N bytes of system memory from FROM on, as they are at the end; -show-io, of I/O memory\n"
     "  -from N, -count N   for list: the bytes to be listed (all)\n"
     "  -first N        for list: the address of the first of them, from which jump targets count (the same as -from)\n"
-    "  -source         for list: the lines alone\n"
+    "  -source         for list: the lines alone, which asm takes back\n"
+    "  -at N           for asm, before or behind FILE: where the image lies (0)\n"
+    "  -first N        for asm: the address from which labels and targets count (the same as -at)\n"
+    "  -room N         for asm: most bytes of the image (65536)\n"
+    "  -out FILE       for asm: the image's file, a PROM file where the name ends in .hex, else the bytes alone\n"
     "schedule's first FILE has the rows, one a line: attention CHANNEL, step LINES, or kind K N for any row; a blank line\n"
     "and what follows # are left out.\n"
+    "asm's FILE has the lines of list, blank ones, and comments behind ;. A line may have a label in front, NAME:, and data in\n"
+    "the place of an instruction: DB for bytes, DW for words. Where a number stands a sum may, as TABLE-(5+101B). The text is\n"
+    "assembled whole, or refused at its first bad line: 30 word, 31 operands, 32 parentheses, 33 label, 34 reach, 35 room.\n"
     "A FILE whose name ends in .hex is a PROM file (Intel hexadecimal): its records say where its bytes go.\n"
     "Numbers are decimal, or hexadecimal behind 0x; 010 is ten. A file has at most 1,048,576 bytes.\n"
     "Ends with 0 at the limit or where the channel halted, 1 where it was refused or waits, 2 for anything else.\n"
-    "schedule ends with 0 whatever rows were refused, and with 1 for a row of unknown kind.\n";
+    "schedule ends with 0 whatever rows were refused, and with 1 for a row of unknown kind; asm with 1 for a refused text.\n";
 
 /* Prints the commands and the options. */
 static void print_help(FILE *out)
@@ -94,7 +103,7 @@ int main(int count, char **words)
 {
     const struct tool_processor usual = {.line_numbers = 1, .io_length = UINT32_MAX};
     struct tool_order order = {.of = {usual, usual}, .system_length = UINT32_MAX, .limit = 1000, .count = UINT32_MAX,
-                               .first = UINT32_MAX};
+                               .room = 65536};
     if (count < 2) tool_usage("no command", NULL);
     if (strcmp(words[1], "help") == 0) {
         if (count > 2) tool_usage("help takes no words", words[2]);
@@ -103,6 +112,7 @@ int main(int count, char **words)
     }
     for (size_t i = 0; i < COMMANDS; i++) {
         if (strcmp(words[1], commands[i].name) != 0) continue;
+        order.assembles = commands[i].run == tool_asm;
         tool_read_order(&order, count - 2, words + 2);
         return ended(commands[i].run(&order));
     }

@@ -36,24 +36,30 @@ struct tool_processor {
     uint32_t io_length, cp;
 };
 
-/* What a command line asks for; of system memory's length UINT32_MAX stands for "as long as the files need", of a
- * listing's first address for that of its first byte. The second processor is there where there is a pair; its word is
- * the first one that asks for something of it. */
+/* What a command line asks for; of system memory's length UINT32_MAX stands for "as long as the files need". A first
+ * address that was not given is that of the first byte. The second processor is there where there is a pair; its word is
+ * the first one that asks for something of it. An order that assembles has a text for its one file. */
 struct tool_order {
     struct tool_file file[TOOL_FILES];
     struct tool_range shown[TOOL_SHOWN];
     struct tool_processor of[2];
     unsigned files, ranges;
     uint32_t system_length, limit;
-    uint32_t from, count, first;
-    const char *second_word;
-    bool source, board, has_cp, has_lines, has_limit, has_channel, sweep, trace, pair;
+    uint32_t from, count, first, room;
+    const char *second_word, *out;
+    bool source, board, has_cp, has_lines, has_limit, has_channel, has_first, has_room, sweep, trace, pair, assembles;
 };
 
 /* Lent memory. */
 struct tool_memory {
     uint8_t *sys, *io;
     size_t sys_len, io_len;
+};
+
+/* A text as it was read, with a zero behind it. */
+struct tool_text {
+    uint8_t *bytes;
+    size_t length;
 };
 
 /* Says what is wrong with the command line, or what the system could not do, and ends the program with TOOL_FAILED. */
@@ -65,6 +71,9 @@ void tool_read_order(struct tool_order *order, int count, char **words);
 
 /* Reads a number of some characters; answers what is wrong with it, or NULL. */
 const char *tool_read_number(const char *from, size_t length, uint32_t *number);
+
+/* Reads a text whole; what it stands in is the caller's. */
+struct tool_text tool_read_text(const char *name);
 
 /* The memory that an order asks for, the files loaded; what the second processor sees of it, with an I/O memory of its
  * own; a copy; and what was taken given back. */
@@ -85,6 +94,7 @@ enum tool_status tool_step(const struct tool_order *order);
 enum tool_status tool_step_pair(const struct tool_order *order);
 enum tool_status tool_show_files(const struct tool_order *order);
 enum tool_status tool_list(const struct tool_order *order);
+enum tool_status tool_asm(const struct tool_order *order);
 enum tool_status tool_schedule(const struct tool_order *order);
 
 /* Makes the state that calls begin with, of CP or by reset and power-up, which it prints; hands back its number. */
@@ -113,6 +123,9 @@ void tool_print_count(uint32_t answer);
 
 /* Prints the ranges that an order asks for, in the memory of each of its processors. */
 void tool_print_shown(const struct tool_order *order, const struct tool_memory *memory);
+
+/* Prints the listing of some bytes from a first address on, each line behind its address and bytes or, as source, alone. */
+void tool_print_listing(const uint8_t *code, size_t length, uint32_t first, bool source);
 
 /* Prints the instruction that some bytes begin with, its address and bytes before it; nothing where there are none. */
 void tool_print_instruction(const uint8_t *code, size_t length, uint32_t address);

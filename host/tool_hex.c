@@ -6,33 +6,10 @@
 #include <stdlib.h>
 #include <string.h>
 
-/* The most bytes of a text: a megabyte of data in records of one byte each, with room to spare. */
-enum { MOST_TEXT = 32 << 20 };
-
-/* A text as it was read. */
-struct text {
-    uint8_t *bytes;
-    size_t length;
-};
-
 bool tool_is_hex(const char *name)
 {
     size_t length = strlen(name);
     return length > 4 && strcmp(name + length - 4, ".hex") == 0;
-}
-
-static struct text read_text(const char *name)
-{
-    struct text text = {malloc(MOST_TEXT), 0};
-    if (text.bytes == NULL) tool_give_up("memory");
-    FILE *file = fopen(name, "rb");
-    if (file == NULL) tool_give_up(name);
-    text.length = fread(text.bytes, 1, MOST_TEXT, file);
-    bool more = text.length == MOST_TEXT && fgetc(file) != EOF;
-    if (ferror(file)) tool_give_up(name);
-    fclose(file);
-    if (more) tool_usage("a PROM file of more than 32 megabytes", name);
-    return text;
 }
 
 /* Says which number refused a file, in words, and at which line; nothing is run after it. */
@@ -45,7 +22,7 @@ static _Noreturn void refuse(const char *name, uint64_t answer)
 }
 
 /* A megabyte filled with one byte and a text read into it: where two fillings agree, a record has stored. */
-static uint64_t fill_and_load(struct text text, uint8_t *bytes, int filling)
+static uint64_t fill_and_load(struct tool_text text, uint8_t *bytes, int filling)
 {
     memset(bytes, filling, TOOL_MOST);
     return iop89_load(text.bytes, text.length, bytes, TOOL_MOST);
@@ -59,7 +36,7 @@ struct held {
 
 static struct held hold(const char *name)
 {
-    struct text text = read_text(name);
+    struct tool_text text = tool_read_text(name);
     struct held held = {malloc(TOOL_MOST), malloc(TOOL_MOST), 0};
     if (held.low == NULL || held.high == NULL) tool_give_up("memory");
     uint64_t answer = fill_and_load(text, held.low, 0x00);

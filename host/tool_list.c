@@ -35,20 +35,23 @@ static void print_line(const uint8_t *code, uint32_t address, const struct line 
     printf("%*s  %s\n", line->bytes < 6 ? (int)(12 - 2 * line->bytes) : 0, "", line->text);
 }
 
+void tool_print_listing(const uint8_t *code, size_t length, uint32_t first, bool source)
+{
+    for (size_t at = 0; at < length;) {
+        struct line line = first_line(code + at, length - at, first + (uint32_t)at);
+        if (source) puts(line.text);
+        else print_line(code + at, first + (uint32_t)at, &line);
+        at += line.bytes;
+    }
+}
+
 enum tool_status tool_list(const struct tool_order *order)
 {
     struct tool_memory memory = tool_load(order);
     size_t from = order->from < memory.sys_len ? order->from : memory.sys_len;
     size_t length = memory.sys_len - from;
-    uint32_t first = order->first == UINT32_MAX ? order->from : order->first;
     if (order->count < length) length = order->count;
-    for (size_t at = 0; at < length;) {
-        const uint8_t *code = memory.sys + from + at;
-        struct line line = first_line(code, length - at, first + (uint32_t)at);
-        if (order->source) puts(line.text);
-        else print_line(code, first + (uint32_t)at, &line);
-        at += line.bytes;
-    }
+    tool_print_listing(memory.sys + from, length, order->has_first ? order->first : order->from, order->source);
     tool_free(memory);
     return TOOL_DONE;
 }

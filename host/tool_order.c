@@ -58,6 +58,13 @@ static uint32_t length_of(const char *option, const char *word)
     return value;
 }
 
+/* The file behind an option. */
+static const char *file_of(const char *option, const char *word)
+{
+    if (word == NULL) tool_usage("a file is missing behind", option);
+    return word;
+}
+
 /* ---- Options ---- */
 
 /* The processor that an option of this name is for, the second one where it ends in 2, or NULL for any other word. */
@@ -99,6 +106,8 @@ static bool *given_mark(struct tool_order *order, const char *option)
     if (strcmp(option, "-lines") == 0) return &order->has_lines;
     if (strcmp(option, "-limit") == 0) return &order->has_limit;
     if (strcmp(option, "-channel") == 0) return &order->has_channel;
+    if (strcmp(option, "-first") == 0) return &order->has_first;
+    if (strcmp(option, "-room") == 0) return &order->has_room;
     return NULL;
 }
 
@@ -143,8 +152,7 @@ static bool take_of_processor(struct tool_order *order, char **words)
     if (lines != NULL) take_lines(lines, words[0], words[1]);
     if (channel != NULL) add_channel(channel, words[0], words[1]);
     if (io != NULL) io->io_length = length_of(words[0], words[1]);
-    if (image != NULL) image->io_image = words[1];
-    if (image != NULL && words[1] == NULL) tool_usage("a file is missing behind", words[0]);
+    if (image != NULL) image->io_image = file_of(words[0], words[1]);
     return lines != NULL || channel != NULL || io != NULL || image != NULL;
 }
 
@@ -164,6 +172,8 @@ static int take_option(struct tool_order *order, char **words, uint32_t *at)
     else if (strcmp(words[0], "-from") == 0) order->from = length_of(words[0], words[1]);
     else if (strcmp(words[0], "-count") == 0) order->count = length_of(words[0], words[1]);
     else if (strcmp(words[0], "-system") == 0) order->system_length = length_of(words[0], words[1]);
+    else if (strcmp(words[0], "-room") == 0) order->room = length_of(words[0], words[1]);
+    else if (strcmp(words[0], "-out") == 0) order->out = file_of(words[0], words[1]);
     else if (shown != NULL || strcmp(words[0], "-show") == 0) {
         add_range(order, words, shown != NULL, shown == &order->of[1]);
         return 3;
@@ -186,8 +196,12 @@ void tool_read_order(struct tool_order *order, int count, char **words)
         order->file[order->files++].at = at == UINT32_MAX ? 0 : at;
         at = UINT32_MAX;
     }
-    if (at != UINT32_MAX) tool_usage("no file behind -at", NULL);
+    /* One text has one place, so there -at may stand behind it too. */
+    if (at != UINT32_MAX && order->assembles && order->files > 0) order->file[0].at = at;
+    else if (at != UINT32_MAX) tool_usage("no file behind -at", NULL);
     if (order->files == 0) tool_usage("no file", NULL);
+    if (!order->assembles && order->out != NULL) tool_usage("only asm writes to a file", "-out");
+    if (!order->assembles && order->has_room) tool_usage("only asm has a room", "-room");
     if (order->board && order->has_cp) tool_usage("-board and -cp", NULL);
     if (order->second_word != NULL && !order->pair)
         tool_usage("no -pair, and so no second processor for", order->second_word);
@@ -207,6 +221,22 @@ static uint8_t *room(size_t length)
     uint8_t *bytes = calloc(length + 1, 1);
     if (bytes == NULL) tool_give_up("memory");
     return bytes;
+}
+
+/* The most bytes of a text: a megabyte of data in records of one byte each, with room to spare. */
+enum { MOST_TEXT = 32 << 20 };
+
+struct tool_text tool_read_text(const char *name)
+{
+    struct tool_text text = {room(MOST_TEXT), 0};
+    FILE *file = fopen(name, "rb");
+    if (file == NULL) tool_give_up(name);
+    text.length = fread(text.bytes, 1, MOST_TEXT, file);
+    bool more = text.length == MOST_TEXT && fgetc(file) != EOF;
+    if (ferror(file)) tool_give_up(name);
+    fclose(file);
+    if (more) tool_usage("a text of more than 32 megabytes", name);
+    return text;
 }
 
 /* Reads a file into room for a megabyte from an offset on, and answers where it ends. */

@@ -6,9 +6,6 @@
 #include <stdlib.h>
 #include <string.h>
 
-/* The most bytes of a text. */
-enum { MOST_TEXT = 32 << 20 };
-
 /* The most words of a row, and how much of a line a complaint shows. */
 enum { MOST_WORDS = 3, MOST_SHOWN = 60 };
 
@@ -41,22 +38,6 @@ static _Noreturn void complain(const struct place *at, const char *complaint, co
     fflush(stdout);
     fprintf(stderr, "iop89: %s: line %" PRIu32 ": %s: %.*s\n", at->name, at->line, complaint, shown, from);
     exit(TOOL_FAILED);
-}
-
-/* Reads a text whole, with a zero behind it, and answers its length. */
-static size_t read_text(const char *name, char **text)
-{
-    *text = malloc(MOST_TEXT + 1);
-    if (*text == NULL) tool_give_up("memory");
-    FILE *file = fopen(name, "rb");
-    if (file == NULL) tool_give_up(name);
-    size_t length = fread(*text, 1, MOST_TEXT, file);
-    bool more = length == MOST_TEXT && fgetc(file) != EOF;
-    if (ferror(file)) tool_give_up(name);
-    fclose(file);
-    if (more) tool_usage("rows of more than 32 megabytes", name);
-    (*text)[length] = '\0';
-    return length;
 }
 
 /* Whether a character stands between words. */
@@ -139,9 +120,9 @@ static struct rows read_rows(const char *name)
     struct rows rows = {NULL, NULL, 0, 0};
     struct iop89_row none = {0, 0};
     struct word words[MOST_WORDS + 1];
-    char *text = NULL;
-    size_t length = read_text(name, &text);
-    struct place at = {name, 0, text, text + length};
+    struct tool_text text = tool_read_text(name);
+    const char *start = (const char *)text.bytes;
+    struct place at = {name, 0, start, start + text.length};
     while (at.from < at.end) {
         const char *from = at.from, *end = take_line(&at);
         unsigned count = split(from, end, words);
@@ -149,7 +130,7 @@ static struct rows read_rows(const char *name)
     }
     add_row(&rows, none, 0);
     rows.count--;
-    free(text);
+    free(text.bytes);
     return rows;
 }
 

@@ -275,12 +275,12 @@ static inline void iop89_set_bytes(uint8_t *state, size_t at, size_t width, uint
  * iop89_set with IOP89_CC writes CC alone, and the fields stay: see iop89_set_cc. */
 static inline uint32_t iop89_get(const uint8_t *state, unsigned channel, enum iop89_register which)
 {
-    return iop89_bytes(state, IOP89_AT_CHANNEL(channel) + which, iop89_width(which));
+    return iop89_bytes(state, IOP89_AT_CHANNEL(channel) + IOP89_LOW_32(which), iop89_width(which));
 }
 
 static inline void iop89_set(uint8_t *state, unsigned channel, enum iop89_register which, uint32_t value)
 {
-    iop89_set_bytes(state, IOP89_AT_CHANNEL(channel) + which, iop89_width(which), value);
+    iop89_set_bytes(state, IOP89_AT_CHANNEL(channel) + IOP89_LOW_32(which), iop89_width(which), value);
 }
 
 /* CC of a channel set with its fields, as MOVI to CC does it. */
@@ -404,6 +404,66 @@ uint64_t iop89_list(const uint8_t *code, size_t code_len, uint32_t first, uint8_
 
 #define IOP89_LIST_CHARACTERS(answer) IOP89_LOW_32(answer)
 #define IOP89_LIST_STOP(answer) IOP89_LOW_32((answer) >> 32)
+
+/* ---- Assembling: the lines of a listing, with labels, data and comments, back to bytes ---- */
+
+/* The numbers of iop89_assemble besides 0; a line has the lowest that applies. */
+enum iop89_asm_refusal {
+    IOP89_UNKNOWN_WORD = 30, /* where a word must stand is none */
+    IOP89_BAD_OPERANDS = 31, /* the operands have no form of the word */
+    IOP89_TOO_DEEP = 32,     /* they have, with more than 8 parentheses open at once */
+    IOP89_BAD_LABEL = 33,    /* a label unknown, twice, a word or a register, over 12 characters, or the 65th */
+    IOP89_OUT_OF_REACH = 34, /* a target too far, or a number that its place cannot hold */
+    IOP89_NO_ROOM = 35       /* a byte of the line lies beyond the room */
+};
+
+/*
+ * Assembles a text into bytes, whole or not at all; docs/MACHINE.md has its notation. Its parts by the macros below: the
+ * number, 0 or that of the first line that has one; that line, counted from 1, or 0 where it is done; and how many bytes
+ * were stored, or 0 where it is refused.
+ *   text, text_len   the text: any bytes, any number of them; they are only read
+ *   first            the address of the first byte, from which labels and targets count, mod 65,536
+ *   code, code_len   gets the bytes, of which code_len have room. Where the text is refused nothing is stored; else what
+ *                    is behind the last byte stored stays
+ * A listing by iop89_list, whole and with the same first address, gives back the bytes that were listed. A line or a count
+ * over 4,294,967,295 is reported as that. The two buffers must not overlap, and neither pointer may be null, also where
+ * its length is 0.
+ */
+uint64_t iop89_assemble(const uint8_t *text, size_t text_len, uint32_t first, uint8_t *code, size_t code_len);
+
+#define IOP89_ASM_NUMBER(answer) iop89_asm_number(answer)
+#define IOP89_ASM_LINE(answer) iop89_asm_line(answer)
+#define IOP89_ASM_STORED(answer) iop89_asm_stored(answer)
+
+static inline unsigned iop89_asm_number(uint64_t answer)
+{
+    return answer & 0xFFu;
+}
+
+static inline uint32_t iop89_asm_line(uint64_t answer)
+{
+    return iop89_asm_number(answer) == IOP89_DONE ? 0u : IOP89_LOW_32(answer >> 32);
+}
+
+static inline uint32_t iop89_asm_stored(uint64_t answer)
+{
+    return iop89_asm_number(answer) == IOP89_DONE ? IOP89_LOW_32(answer >> 32) : 0u;
+}
+
+/* A number of iop89_assemble in words. */
+static inline const char *iop89_asm_words(unsigned number)
+{
+    switch (number) {
+    case IOP89_DONE: return "assembled";
+    case IOP89_UNKNOWN_WORD: return "unknown word";
+    case IOP89_BAD_OPERANDS: return "operands that the word does not take";
+    case IOP89_TOO_DEEP: return "more than 8 parentheses open at once";
+    case IOP89_BAD_LABEL: return "a label unknown, twice, reserved, too long or too many";
+    case IOP89_OUT_OF_REACH: return "a target out of reach, or a number that its place cannot hold";
+    case IOP89_NO_ROOM: return "no room";
+    default: return iop89_words(number);
+    }
+}
 
 #ifdef __cplusplus
 }
