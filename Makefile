@@ -154,12 +154,12 @@ build/example: host/example.c include/iop89.h $(IOP89_LIB) | x86-compiler
 build/borders: host/borders.c include/iop89.h $(IOP89_LIB) | x86-compiler
 	$(X86_CC) $(subst c11,c99,$(STRICT)) $(CFLAGS) -Iinclude host/borders.c $(IOP89_LIB) $(X86_LDFLAGS) -o $@
 
-build/stack: host/stack.c include/iop89.h $(IOP89_LIB) | x86-compiler
-	$(X86_CC) $(STRICT) -D_POSIX_C_SOURCE=200809L $(CFLAGS) -Iinclude host/stack.c $(IOP89_LIB) $(X86_LDFLAGS) -pthread -o $@
+build/stack: host/stack.c $(HEADERS) $(ARCHIVES) | x86-compiler
+	$(X86_CC) $(STRICT) -D_POSIX_C_SOURCE=200809L $(CFLAGS) -Iinclude host/stack.c $(ARCHIVES) $(X86_LDFLAGS) -pthread -o $@
 
-# How much stack a call needs, over the images of examples/.
+# How much stack a run and an assembly need, over the files of examples/.
 stack: build/stack
-	@tools/x86 build/stack examples/*.bin
+	@tools/x86 build/stack examples/*.bin examples/*.asm
 
 build/compare: host/compare.c host/fences.c host/fences.h $(COMMON) $(COMMON_H) $(IOP89_LIB) | x86-compiler
 	$(X86_CC) $(STRICT) $(CFLAGS) -Iinclude host/compare.c host/fences.c $(COMMON) $(IOP89_LIB) $(X86_LDFLAGS) -o $@
