@@ -22,7 +22,7 @@ static const char *label_words(enum label_fault fault)
     case LABEL_TOO_LONG: return "a label of more than 12 characters";
     case LABEL_TWICE: return "a label twice";
     case LABEL_RESERVED: return "a label that is a word or a register";
-    case LABEL_ONE_TOO_MANY: return "a label more than 64";
+    case LABEL_ONE_TOO_MANY: return "one label more than 64";
     case LABEL_UNKNOWN: return "an unknown label";
     default: return iop89_asm_words(IOP89_BAD_LABEL);
     }
