@@ -1,0 +1,2 @@
+pub mod WorthLaws
+pub mod DataLaws

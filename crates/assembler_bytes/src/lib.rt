@@ -1,0 +1,4 @@
+// What a line of an assembly is worth: the number that refuses it, and its bytes.
+
+// Data: DB and DW.
+pub mod data;
