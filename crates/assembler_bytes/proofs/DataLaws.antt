@@ -2,18 +2,20 @@
 -- Assumes nothing.
 use mathlib.Core.Path.{_≡_, refl, sym, ap, _∙_}
 use mathlib.Core.Bool.{Bool, true, false, _&&_, _||_, false≢true}
-use mathlib.Core.List.{List, [], _∷_}
+use mathlib.Core.List.{List, [], _∷_, _++_}
 use Prim.Native.Nat.{ℕ, _+_, _≤_}
 use native.Mathlib.Omega.{arith}
 use native.Mathlib.Nat.{add-zero}
 use lib.Dec.{ltb, leb}
 use lib.ListN.{length, drop, drop-of-length-le}
 use borrow.Author.Tests.{ltb-true, ltb-false, le-leb}
+use Rattle.ground_rules.specs.Bytes.{lowByte}
 use Rattle.ground_rules.specs.Choice.{pick}
+use Rattle.listing_rules.specs.Forms.{wordBytes}
 use Rattle.assembly_rules.specs.declared.Worth.{Worth}
 use Rattle.assembly_rules.specs.Text.{Token, tokensOf, cutAt, isComma}
 use Rattle.assembly_rules.specs.Sums.{Label, isSum, depthOf, sumWorth}
-use Rattle.assembly_rules.specs.Statements.{isByte, allSums, allLow, itemsKnown, itemsStand, statementNumber}
+use Rattle.assembly_rules.specs.Statements.{isByte, allSums, allLow, itemsKnown, itemsStand, itemsBytes, statementNumber}
 use Rattle.assembly_rules.specs.Statements.Statement.{items}
 use Rattle.assembly_rules.proofs.WritingLaws.{both-left, both-right}
 use Rattle.assembler_text.specs.Places.{leading, pastBlanks, stopAt, tokenFrom, tokenAt}
@@ -123,9 +125,25 @@ module _ (labels : List Label) (text : List ℕ) (at : ℕ) (w : Worth) (g : Sum
       ap (λ (x : Bool). numberFrom labels two (stands && (two || x)) parts) (b ∙ ap (λ (x : Worth). isByte (x .value)) item-is)
       ∙ number-next labels two stands (operandTokens text at) parts (ap (λ (x : Worth). x .known) (sym item-is) ∙ h) ∙ ap (numberFrom labels two stands) (sym f)
 
+  bytes-here : (two : Bool) (parts : List (List Token)) → itemsAt text at ≡ operandTokens text at ∷ parts → pick two (wordBytes (w .value)) (lowByte (w .value) ∷ []) ++ itemsBytes labels two parts ≡ itemsBytes labels two (itemsAt text at)
+  unfolding itemsBytes
+  bytes-here two parts f = ap (λ (x : Worth). pick two (wordBytes (x .value)) (lowByte (x .value) ∷ []) ++ itemsBytes labels two parts) item-is ∙ ap (itemsBytes labels two) (sym f)
+
+  pub bytes-last : (two : Bool) (p : ℕ) → p ≡ stopAt text at → commaAt text p ≡ false → pick two (wordBytes (w .value)) (lowByte (w .value) ∷ []) ++ [] ≡ itemsBytes labels two (itemsAt text at)
+  unfolding itemsBytes
+  bytes-last two p q k = bytes-here two [] (item-last text at p q k)
+
+  pub bytes-next : (two : Bool) (p : ℕ) → p ≡ stopAt text at → commaAt text p ≡ true
+      → SumsAll (itemsAt text (p + 1)) × (pick two (wordBytes (w .value)) (lowByte (w .value) ∷ []) ++ itemsBytes labels two (itemsAt text (p + 1)) ≡ itemsBytes labels two (itemsAt text at))
+  bytes-next two p q k = let n = item-next text at p q k in (sums-next (operandTokens text at) (itemsAt text (p + 1)) (rw n at g), bytes-here two (itemsAt text (p + 1)) n)
+
   pub turn-last : (two stands byte : Bool) (p : ℕ) → w .known ≡ true → byte ≡ isByte (w .value) → p ≡ stopAt text at → commaAt text p ≡ false → pick (stands && (two || byte)) 0 34 ≡ numberFrom labels two stands (itemsAt text at)
   turn-last two stands byte p h b q k = sym (number-none labels two (stands && (two || byte))) ∙ turn two stands byte [] h b (item-last text at p q k)
 
   pub turn-next : (two stands byte : Bool) (p : ℕ) → w .known ≡ true → byte ≡ isByte (w .value) → p ≡ stopAt text at → commaAt text p ≡ true
       → SumsAll (itemsAt text (p + 1)) × (numberFrom labels two (stands && (two || byte)) (itemsAt text (p + 1)) ≡ numberFrom labels two stands (itemsAt text at))
   turn-next two stands byte p h b q k = let n = item-next text at p q k in (sums-next (operandTokens text at) (itemsAt text (p + 1)) (rw n at g), turn two stands byte (itemsAt text (p + 1)) h b n)
+
+pub bytes-none : (labels : List Label) (two : Bool) → itemsBytes labels two [] ≡ []
+unfolding itemsBytes
+bytes-none labels two = refl

@@ -1,2 +1,3 @@
 pub mod WorthLaws
 pub mod DataLaws
+pub mod LaidLaws

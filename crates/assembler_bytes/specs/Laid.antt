@@ -2,8 +2,8 @@
 use mathlib.Core.Path.{_≡_}
 use mathlib.Core.Bool.{true}
 use mathlib.Core.List.{List, [], _∷_}
-use Prim.Native.Nat.{ℕ, _%_}
-use lib.ListN.{drop}
+use Prim.Native.Nat.{ℕ, _+_, _%_}
+use lib.ListN.{set, drop}
 use Rattle.assembly_rules.specs.Text.{Token, tokensOf}
 use Rattle.assembly_rules.specs.Statements.{operandParts, allSums, allLow}
 
@@ -12,6 +12,11 @@ unfoldable pub laid : List ℕ → List ℕ → List ℕ
 laid [] code = code
 laid (b ∷ bs) [] = []
 laid (b ∷ bs) (c ∷ code) = b % 256 ∷ laid bs code
+
+-- the same from a place on
+unfoldable pub laidAt : List ℕ → ℕ → List ℕ → List ℕ
+laidAt code at [] = code
+laidAt code at (b ∷ bs) = laidAt (set code at (b % 256)) (at + 1) bs
 
 -- the items of a line of data
 abbrev pub dataAt : List ℕ → ℕ → List (List Token)

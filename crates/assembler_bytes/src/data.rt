@@ -1,13 +1,14 @@
 // Data: DB and DW.
+use crate::stores;
 use assembler_forms::operands;
 use assembler_text::tokens;
 use assembler_text::values;
 ghost use mathlib.Core.Path.{_≡_};
 ghost use Prim.Native.Nat.{ℕ};
-ghost use Rattle.assembly_rules.specs.Statements.{isByte, statementNumber};
+ghost use Rattle.assembly_rules.specs.Statements.{isByte, statementNumber, itemsBytes};
 ghost use Rattle.assembly_rules.specs.Statements.Statement.{items};
 ghost use Rattle.assembler_text.specs.Places.{labelsAt};
-ghost use Rattle.assembler_bytes.specs.Laid.{dataAt, SumsAll};
+ghost use Rattle.assembler_bytes.specs.Laid.{dataAt, SumsAll, laidAt};
 
 // Whether one byte holds a number, signed or not.
 pub fn is_byte(n: u32) -> bool
@@ -38,4 +39,31 @@ pub fn data_number(text: &[u8], two: bool, place: usize, places: &[usize], addre
         at = p + 1;
     }
     34
+}
+
+// Lays the bytes of a line of data whose items are sums at the start of a room.
+pub fn put_data(
+    text: &[u8],
+    two: bool,
+    place: usize,
+    places: &[usize],
+    addresses: &[u32],
+    code: &mut [u8],
+)
+    ensures { λ r. ⌜ (SumsAll (dataAt (now (text .entry)) place) → now (code .exit) ≡ laidAt (now (code .entry)) 0 (itemsBytes (labelsAt (now (text .entry)) (now (places .entry)) (now (addresses .entry))) two (dataAt (now (text .entry)) place))) ⌝ }
+{
+    if operands::ends(text, place) {
+        return;
+    }
+    let mut i: usize = 0;
+    let mut at = place;
+    while at <= text.len() {
+        let w = values::value(text, at, places, addresses);
+        i = stores::put_value(code, i, two, w.value);
+        let p = tokens::stop_at(text, at);
+        if !operands::comma_at(text, p) {
+            return;
+        }
+        at = p + 1;
+    }
 }

@@ -2,3 +2,5 @@
 
 // Data: DB and DW.
 pub mod data;
+// Bytes stored one behind another.
+pub mod stores;
