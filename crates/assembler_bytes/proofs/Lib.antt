@@ -1,3 +1,4 @@
 pub mod WorthLaws
 pub mod DataLaws
 pub mod LaidLaws
+pub mod PlacedLaws

@@ -4,3 +4,5 @@
 pub mod data;
 // Bytes stored one behind another.
 pub mod stores;
+// Instructions: their operands' worth, and the number that refuses them.
+pub mod instructions;
