@@ -2,3 +2,4 @@ pub mod WorthLaws
 pub mod DataLaws
 pub mod LaidLaws
 pub mod PlacedLaws
+pub mod PadLaws

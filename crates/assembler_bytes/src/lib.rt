@@ -6,3 +6,29 @@ pub mod data;
 pub mod stores;
 // Instructions: their operands' worth, and the number that refuses them.
 pub mod instructions;
+
+use assembler_lines::bodies::Body;
+ghost use mathlib.Core.Path.{_≡_};
+ghost use Rattle.assembly_rules.specs.Statements.{Statement, statementNumber};
+ghost use Rattle.assembler_text.specs.Places.{labelsAt};
+ghost use Rattle.assembler_lines.specs.Bodies.{BodyIs};
+
+// The number that refuses a line at an address, or 0: 30 to 32 as the line shows, 33 where a name is unknown, 34 where a number
+// may not stand.
+pub fn number(text: &[u8], b: Body, places: &[usize], addresses: &[u32], address: u32) -> u32
+    ensures { λ r. ⌜ ((s : Statement) → BodyIs (now (text .entry)) b s → r ≡ statementNumber (labelsAt (now (text .entry)) (now (places .entry)) (now (addresses .entry))) address s) ⌝ }
+{
+    match b {
+        Body::Blank => 0,
+        Body::Items(two, place, _) => data::data_number(text, two, place, places, addresses),
+        Body::Instruction(code, o) => instructions::instruction_number(
+            text,
+            code,
+            o,
+            places,
+            addresses,
+            address,
+        ),
+        Body::Refused(n) => n,
+    }
+}
