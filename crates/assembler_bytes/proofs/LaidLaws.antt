@@ -44,3 +44,25 @@ laid-behind front (c ∷ code) (b ∷ bs) =
 -- laid from the first place on
 pub laid-all : (code bs : List ℕ) → laidAt code 0 bs ≡ laid bs code
 laid-all code bs = laid-behind [] code bs
+
+-- only the lowest byte of each number counts
+unfoldable pub lows : List ℕ → List ℕ
+lows [] = []
+lows (b ∷ bs) = b % 256 ∷ lows bs
+
+laid-lows : (code : List ℕ) (at : ℕ) (bs : List ℕ) → laidAt code at bs ≡ laidAt code at (lows bs)
+unfolding laidAt lows
+laid-lows code at [] = refl
+laid-lows code at (b ∷ bs) = laid-lows (set code at (b % 256)) (at + 1) bs ∙ ap (λ (n : ℕ). laidAt (set code at n) (at + 1) (lows bs)) (sym (mod-mod b 256))
+
+pub laid-same : (code : List ℕ) (at : ℕ) (bs cs : List ℕ) → lows bs ≡ lows cs → laidAt code at bs ≡ laidAt code at cs
+laid-same code at bs cs e = laid-lows code at bs ∙ ap (laidAt code at) e ∙ sym (laid-lows code at cs)
+
+pub lows-behind : (xs ys zs : List ℕ) → lows ys ≡ lows zs → lows (xs ++ ys) ≡ lows (xs ++ zs)
+unfolding lows
+lows-behind [] ys zs e = e
+lows-behind (x ∷ xs) ys zs e = ap (λ (l : List ℕ). x % 256 ∷ l) (lows-behind xs ys zs e)
+
+pub lows-two : (a b c d : ℕ) (ys zs : List ℕ) → a % 256 ≡ c % 256 → b % 256 ≡ d % 256 → lows ys ≡ lows zs → lows (a ∷ b ∷ ys) ≡ lows (c ∷ d ∷ zs)
+unfolding lows
+lows-two a b c d ys zs p q e = rw (p, q, e)

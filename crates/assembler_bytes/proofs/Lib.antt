@@ -3,3 +3,4 @@ pub mod DataLaws
 pub mod LaidLaws
 pub mod PlacedLaws
 pub mod PadLaws
+pub mod PairLaws

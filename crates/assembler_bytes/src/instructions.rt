@@ -17,7 +17,7 @@ ghost use Rattle.assembler_lines.specs.Bodies.{areSums};
 ghost use Rattle.assembler_bytes.specs.Placed.{firstKind, secondKind, thirdKind, usedForm, entryFrom, threeFrom, rowOf, kindSizeBy, mayStandBy, formOffset, movesBy};
 
 // An operand, or none where there is no place.
-fn used(kind: u32, f: Form) -> Form
+pub fn used(kind: u32, f: Form) -> Form
     ensures { λ r. ⌜ r ≡ usedForm kind f ⌝ }
 {
     if kind == 0 {

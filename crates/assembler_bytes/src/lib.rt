@@ -7,6 +7,9 @@ pub mod stores;
 // Instructions: their operands' worth, and the number that refuses them.
 pub mod instructions;
 
+// The bytes of instructions.
+pub mod pairs;
+
 use assembler_lines::bodies::Body;
 ghost use mathlib.Core.Path.{_≡_};
 ghost use Rattle.assembly_rules.specs.Statements.{Statement, statementNumber};
