@@ -4,3 +4,4 @@ pub mod LaidLaws
 pub mod PlacedLaws
 pub mod PadLaws
 pub mod PairLaws
+pub mod LikeLaws
