@@ -9,6 +9,7 @@ pub mod SizeLaws
 pub mod WholeLaws
 pub mod WholeVectors
 pub mod LabelLaws
+pub mod ByteLaws
 pub mod PassLaws
 pub mod FirstLaws
 pub mod OperandLaws

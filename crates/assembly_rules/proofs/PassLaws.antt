@@ -88,7 +88,7 @@ passes (moreSized {s = s} {more = more} size sizes) labels kept first room line 
     go false e later = rw e
 
 -- a line without a number does not end past the room
-line-inside : (labels kept : List Label) (address before room : ℕ) (s : Said) → lineNumber labels kept address before room s ≡ 0 → pastRoom (statementSize (s .statement)) before room ≡ false
+pub line-inside : (labels kept : List Label) (address before room : ℕ) (s : Said) → lineNumber labels kept address before room s ≡ 0 → pastRoom (statementSize (s .statement)) before room ≡ false
 unfolding lineNumber
 line-inside labels kept address before room s h = go (statementNumber labels address (s .statement)) (leb 30 (statementNumber labels address (s .statement))) refl _ (labelStands kept address (s .name)) _ refl (pastRoom (statementSize (s .statement)) before room) h
   where

@@ -43,7 +43,7 @@ kept-once kept name h = rw h (go (leb (length name) 12))
     go true = refl
     go false = refl
 
-may-few : (kept : List Label) (name : List ℕ) → mayKeep kept name ≡ true → length kept < 64
+pub may-few : (kept : List Label) (name : List ℕ) → mayKeep kept name ≡ true → length kept < 64
 unfolding mayKeep
 may-few kept name h = ltb-true (length kept) 64 (both-right (not (isReserved name)) _ (both-right (not (labelWorth kept name .known)) _ (both-right (leb (length name) 12) _ h)))
 
