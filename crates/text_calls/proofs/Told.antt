@@ -6,7 +6,8 @@ use denote.Ref.{now}
 use denote.Triple.Clauses.{AtExit}
 use mathlib.Core.List.{[]}
 use mathlib.Core.Path.{_≡_, sym, _∙_}
-use Prim.Native.Nat.{_+_, _*_}
+use Prim.Native.Nat.{ℕ, _+_, _*_, _<_}
+use lib.ListN.{getD}
 use Rattle.ground_rules.specs.Buffers.{buffers}
 use Rattle.prom_rules.specs.Load.{wordForC, packedWith, loadOf}
 use Rattle.listing_rules.specs.Listings.{listingOf}
@@ -27,7 +28,12 @@ pub list-told : (κs : Lfts 2) (a : Dens κs list-kinds.ps) (r : resT list-kinds
     → list-reads.Post κs a r e
     → let listed = listingOf (now (a .0)) (a .1 .0) (now (a .1 .1 .0)) in
     (r ≡ listed .stop * 4294967296 + listed .characters) × (now (e .1 .1 .0) ≡ listed .buffer)
-list-told κs a r e p = p
+list-told κs a r e p = (p .0, p .1 .0)
+
+-- what is lent to be listed are bytes
+pub list-bytes : (κs : Lfts 2) (a : Dens κs list-kinds.ps) (r : resT list-kinds.r κs .Denot) (e : AtExit (endedOf 2 list-kinds.ps list-kinds.r) κs)
+    → list-reads.Post κs a r e → (i : ℕ) → getD (now (a .0)) i 0 < 256
+list-bytes κs a r e p = p .1 .1
 
 -- so of a listing too two answers that meet the contract are the same
 pub list-one : (κs : Lfts 2) (a : Dens κs list-kinds.ps) (r s : resT list-kinds.r κs .Denot) (x y : AtExit (endedOf 2 list-kinds.ps list-kinds.r) κs)
