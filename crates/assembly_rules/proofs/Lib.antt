@@ -1,3 +1,4 @@
+pub mod TestLaws
 pub mod TextLaws
 pub mod WritingLaws
 pub mod NumberLaws

@@ -21,7 +21,7 @@ use Rattle.assembly_rules.specs.Trees.Term.{constant, name, inside}
 use Rattle.assembly_rules.specs.Statements.{isByte, reachTo, isNear, mayStand}
 use Rattle.assembly_rules.proofs.SumLaws.{rest-stop}
 use Rattle.assembly_rules.proofs.TreeLaws.{sum-read}
-use Rattle.assembly_rules.proofs.FormLaws.{every}
+use Rattle.assembly_rules.proofs.TestLaws.{either-true, every, every-both}
 
 -- what is added less what is taken away, mod 65,536
 abbrev pub treeValue : List Label → Sum → ℕ
@@ -47,14 +47,6 @@ unfoldable mutual
   termNames (constant r v d e) = []
   termNames (name r d e) = r ∷ []
   termNames (inside s) = sumNames s
-
-every-both : {A : Type 0} (test : A → Bool) (k l : List A) → every test (k ++ l) ≡ every test k && every test l
-every-both test [] l = refl
-every-both test (a ∷ k) l = go (test a) (every-both test k l)
-  where
-    go : (b : Bool) → every test (k ++ l) ≡ every test k && every test l → b && every test (k ++ l) ≡ (b && every test k) && every test l
-    go true e = e
-    go false e = refl
 
 mutual
   unfolding sumKnown sumNames
@@ -87,10 +79,6 @@ Fits 'bit end v = v < 8
 Fits 'width end v = (v ≡ 8) ⊎ (v ≡ 16)
 Fits 'short end v = (d : ℕ) × (((end + d) % 65536 ≡ v) × ((d < 0x80) ⊎ ((0xFF80 ≤ d) × (d < 65536))))
 Fits 'long end v = Unit {0}
-
-pub either-true : (a b : Bool) → (a || b ≡ true) ↔ ((a ≡ true) ⊎ (b ≡ true))
-either-true true b = (λ h. inl refl, λ x. refl)
-either-true false b = (λ h. inr h, λ x. elim x [ inl h ↦ absurd (false≢true h) | inr h ↦ h ])
 
 pub byte-exactly : (v : ℕ) → (isByte v ≡ true) ↔ AsByte v
 unfolding isByte
