@@ -208,19 +208,19 @@ sortWritten nothing = 3
 
 pub takes-sort : (k : Kind) (w : Written) → takes k w ≡ true → sortOf k ≡ sortWritten w
 unfolding takes
-takes-sort k (register r) h = go k h
-  where
-    go : (k : Kind) → takesRegister k r ≡ true → sortOf k ≡ 0
-    go 'R h = refl
-    go 'G h = refl
-    go 'P h = refl
-    go 'M h = absurd (false≢true h)
-    go 'byte h = absurd (false≢true h)
-    go 'word h = absurd (false≢true h)
-    go 'bit h = absurd (false≢true h)
-    go 'width h = absurd (false≢true h)
-    go 'short h = absurd (false≢true h)
-    go 'long h = absurd (false≢true h)
+takes-sort k (register r) h =
+    (elim k as (λ j. takesRegister j r ≡ true → sortOf j ≡ 0) [
+      | 'R ↦ λ h. refl
+      | 'G ↦ λ h. refl
+      | 'P ↦ λ h. refl
+      | 'M ↦ λ h. not-both h refl
+      | 'byte ↦ λ h. not-both h refl
+      | 'word ↦ λ h. not-both h refl
+      | 'bit ↦ λ h. not-both h refl
+      | 'width ↦ λ h. not-both h refl
+      | 'short ↦ λ h. not-both h refl
+      | 'long ↦ λ h. not-both h refl
+    ]) h
 takes-sort k (memory mm aa ts) h = rw h
 takes-sort k (value ts) h = go (isMemoryKind k) (takesRegister k 0) h
   where

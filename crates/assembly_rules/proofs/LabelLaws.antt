@@ -1,7 +1,7 @@
 -- The labels of a text: lines add labels behind those that are kept; each is kept by a line at its address, mod 65,536; no two have one name.
 -- Assumes nothing.
 use mathlib.Core.Path.{_≡_, refl, sym, ap, _∙_}
-use mathlib.Core.Bool.{Bool, true, false, not, _&&_, false≢true}
+use mathlib.Core.Bool.{Bool, true, false, not, _&&_, _||_, false≢true}
 use mathlib.Core.List.{List, [], _∷_, _++_, append-assoc, append-nil, List·Memᴰ as In, List·Memᴰ·head as here, List·Memᴰ·tail as later}
 use mathlib.Core.Logic.{_⊎_, inl, inr, _↔_}
 use Prim.Native.Nat.{ℕ, zero, suc, _+_, _%_, _≤_, _<_}
@@ -12,9 +12,11 @@ use lib.ListN.{length, length-append, getD, List·getD-append}
 use borrow.Author.Tests.{leb-true, ltb-true, ltb-false, not-true}
 use Rattle.ground_rules.specs.Choice.{pick}
 use Rattle.listing_rules.specs.Characters.{sameText}
+use Rattle.assembly_rules.specs.declared.Worth.{Worth}
 use Rattle.assembly_rules.specs.Sums.{Label, label, labelWorth, worth}
 use Rattle.assembly_rules.specs.Statements.{statementSize}
 use Rattle.assembly_rules.specs.Assembly.{Said, isReserved, mayKeep, keptWith, labelsFrom}
+use Rattle.assembly_rules.proofs.TestLaws.{as-some}
 use Rattle.assembly_rules.proofs.WritingLaws.{both-left, both-right}
 use Rattle.assembly_rules.proofs.ScanLaws.{same-is, is-same}
 
@@ -141,23 +143,13 @@ labels-exactly said first l = (
 -- a name is known exactly where it is that of a label
 pub known-exactly : (labels : List Label) (name : List ℕ) → (labelWorth labels name .known ≡ true) ↔ ((l : Label) × (In l labels × (l .name ≡ name)))
 unfolding labelWorth
-known-exactly labels name = (from-known labels, λ x. to-known labels (x .0) (x .1 .0) (x .1 .1))
+known-exactly labels name =
+    let s = as-some (λ l. sameText (l .name) name) (λ ls. labelWorth ls name .known) refl (λ l ls. next (sameText (l .name) name) (l .address) (labelWorth ls name)) labels in
+    (λ h. let x = s .0 h in (x .0, (x .1 .0, same-is (x .0 .name) name (x .1 .1))), λ x. s .1 (x .0, (x .1 .0, rw (x .1 .1) (is-same name))))
   where
-    from-known : (ls : List Label) → labelWorth ls name .known ≡ true → (l : Label) × (In l ls × (l .name ≡ name))
-    from-known [] h = absurd (false≢true h)
-    from-known (l ∷ ls) h = go (sameText (l .name) name) refl h (from-known ls)
-      where
-        go : (b : Bool) → sameText (l .name) name ≡ b → pick b (worth (l .address) true) (labelWorth ls name) .known ≡ true → (labelWorth ls name .known ≡ true → (m : Label) × (In m ls × (m .name ≡ name))) → (m : Label) × (In m (l ∷ ls) × (m .name ≡ name))
-        go true e k more = (l, (here refl, same-is (l .name) name e))
-        go false e k more = let x = more k in (x .0, (later (x .1 .0), x .1 .1))
-
-    to-known : (ls : List Label) (l : Label) → In l ls → l .name ≡ name → labelWorth ls name .known ≡ true
-    to-known (m ∷ ls) l (here e) s = rw (← e, s, is-same name)
-    to-known (m ∷ ls) l (later i) s = go (sameText (m .name) name) (to-known ls l i s)
-      where
-        go : (b : Bool) → labelWorth ls name .known ≡ true → pick b (worth (m .address) true) (labelWorth ls name) .known ≡ true
-        go true k = refl
-        go false k = k
+    next : (b : Bool) (a : ℕ) (w : Worth) → pick b (worth a true) w .known ≡ b || w .known
+    next true a w = refl
+    next false a w = refl
 
 -- the name at a place of a list of labels; two places never have one name
 abbrev pub labelNamed : List Label → ℕ → List ℕ

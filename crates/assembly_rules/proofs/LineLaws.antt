@@ -74,16 +74,19 @@ form-known labels (coded e ts ws i os take) =
 -- a place that takes no number has none that does not fit
 zero-stands : (end : ℕ) (k : Kind) → (sortOf k ≡ 2 → ⊥) → mayStand k end 0 ≡ true
 unfolding mayStand isByte
-zero-stands end 'R n = refl
-zero-stands end 'G n = refl
-zero-stands end 'P n = refl
-zero-stands end 'M n = refl
-zero-stands end 'byte n = absurd (n refl)
-zero-stands end 'word n = absurd (n refl)
-zero-stands end 'bit n = absurd (n refl)
-zero-stands end 'width n = absurd (n refl)
-zero-stands end 'short n = absurd (n refl)
-zero-stands end 'long n = absurd (n refl)
+zero-stands end k =
+    elim k as (λ j. (sortOf j ≡ 2 → ⊥) → mayStand j end 0 ≡ true) [
+      | 'R ↦ λ n. refl
+      | 'G ↦ λ n. refl
+      | 'P ↦ λ n. refl
+      | 'M ↦ λ n. refl
+      | 'byte ↦ λ n. absurd (n refl)
+      | 'word ↦ λ n. absurd (n refl)
+      | 'bit ↦ λ n. absurd (n refl)
+      | 'width ↦ λ n. absurd (n refl)
+      | 'short ↦ λ n. absurd (n refl)
+      | 'long ↦ λ n. absurd (n refl)
+    ]
 
 form-stands : (labels : List Label) (address : ℕ) {body : List Token} {st : Statement} → FormOf body st → standIn labels address st ≡ every (standTree labels (address + statementSize st)) (sumsIn st)
 unfolding itemsStand allStand operandWorth mayStand takes
@@ -241,15 +244,11 @@ module _ (labels kept : List Label) (address before room : ℕ) (name : List ℕ
       go false false f p = refl
 
   label-fails : {body : List Token} {st : Statement} → FormOf body st → (Deep st → ⊥) → (labelStands kept address name && knownIn labels st ≡ false) ↔ (Unkept kept name ⊎ Unknown labels st)
-  label-fails {st = st} f n = (λ h. finds (labelStands kept address name) refl h, λ x. elim x [ inl u ↦ rw (stands-exactly kept address name .1 u) | inr u ↦ both (labelStands kept address name) (known-fails labels f n .1 u) ])
-    where
-      finds : (b : Bool) → labelStands kept address name ≡ b → b && knownIn labels st ≡ false → Unkept kept name ⊎ Unknown labels st
-      finds true e h = inr (known-fails labels f n .0 h)
-      finds false e h = inl (stands-exactly kept address name .0 e)
-
-      both : (b : Bool) → knownIn labels st ≡ false → b && knownIn labels st ≡ false
-      both true h = h
-      both false h = refl
+  label-fails {st = st} f n =
+      let b = both-false (labelStands kept address name) (knownIn labels st) in
+      let l = stands-exactly kept address name in
+      let k = known-fails labels f n in
+      (λ h. elim (b .0 h) [ inl e ↦ inl (l .0 e) | inr e ↦ inr (k .0 e) ], λ x. b .1 (elim x [ inl u ↦ inl (l .1 u) | inr u ↦ inr (k .1 u) ]))
 
   past-exactly : (size : ℕ) → (pastRoom size before room ≡ true) ↔ ((0 < size) × (room < before + size))
   past-exactly size = (
