@@ -82,40 +82,41 @@ module _ (labels : List Label) (first room : ℕ) where
       ∙ first-found ahead (keptWith kept ((first + before) % 65536) (t .name)) (suc line) (before + statementSize (t .statement)) here after n z (number-next kept before t ahead here ∙ e) (clear-later kept before t ahead h)
       ∙ ap (failed n) up
 
+  none : (kept : List Label) (before : ℕ) → Clear kept before []
+  none kept before ahead s after e = absurd (omega (arith, ap length e, length-append ahead (s ∷ after)))
+
+  -- behind a line that has no number
+  one-more : (kept : List Label) (line before : ℕ) (t : Said) (more : List Said) → lineNumber labels kept ((first + before) % 65536) before room t ≡ 0 → {n k : ℕ}
+      → FirstAt (keptWith kept ((first + before) % 65536) (t .name)) (suc line) (before + statementSize (t .statement)) more n k → FirstAt kept line before (t ∷ more) n k
+  one-more kept line before t more z f =
+      record {
+        ahead = t ∷ f .ahead;
+        here = f .here;
+        after = f .after;
+        lines = ap (λ (x : List Said). t ∷ x) (f .lines);
+        place = omega (arith, f .place);
+        number = sym (number-next kept before t (f .ahead) (f .here)) ∙ f .number;
+        clear = clear-next kept before t (f .ahead) z (f .clear);
+      }
+
   -- what the walk comes to: the first line with a number, or none
   abbrev Told : List Label → ℕ → ℕ → List Said → Failed → Type 0
   Told kept line before said f = (f .number ≡ 0 → Clear kept before said) × ((f .number ≡ 0 → ⊥) → FirstAt kept line before said (f .number) (f .line))
 
   told : (said : List Said) (kept : List Label) (line before : ℕ) → Told kept line before said (failedFrom labels kept first room line before said)
   unfolding failedFrom
-  told [] kept line before = (λ z ahead s after e. absurd (omega (arith, ap length e, length-append ahead (s ∷ after))), λ h. absurd (h refl))
-  told (t ∷ more) kept line before = go (eqb n 0) refl (told more (keptWith kept ((first + before) % 65536) (t .name)) (suc line) (before + statementSize (t .statement)))
-    where
-      n : ℕ
-      n = lineNumber labels kept ((first + before) % 65536) before room t
-
-      rest : Failed
-      rest = failedFrom labels (keptWith kept ((first + before) % 65536) (t .name)) first room (suc line) (before + statementSize (t .statement)) more
-
-      none : Clear kept before []
-      none ahead s after e = absurd (omega (arith, ap length e, length-append ahead (s ∷ after)))
-
-      one-more : n ≡ 0 → {m k : ℕ} → FirstAt (keptWith kept ((first + before) % 65536) (t .name)) (suc line) (before + statementSize (t .statement)) more m k → FirstAt kept line before (t ∷ more) m k
-      one-more z f =
-          record {
-            ahead = t ∷ f .ahead;
-            here = f .here;
-            after = f .after;
-            lines = ap (λ (x : List Said). t ∷ x) (f .lines);
-            place = omega (arith, f .place);
-            number = sym (number-next kept before t (f .ahead) (f .here)) ∙ f .number;
-            clear = clear-next kept before t (f .ahead) z (f .clear);
-          }
-
-      go : (b : Bool) → eqb n 0 ≡ b → Told (keptWith kept ((first + before) % 65536) (t .name)) (suc line) (before + statementSize (t .statement)) more rest → Told kept line before (t ∷ more) (pick b rest (failed n line))
-      go true e later = let z = eqb-true n 0 e in (λ h. clear-next kept before t more z (later .0 h), λ h. one-more z (later .1 h))
-      go false e later =
-          (λ h. absurd (eqb-false n 0 e h), λ h. record { ahead = []; here = t; after = more; lines = refl; place = sym (add-zero line); number = number-here kept before t; clear = none })
+  told [] kept line before = (λ z. none kept before, λ h. absurd (h refl))
+  told (t ∷ more) kept line before =
+      let address = (first + before) % 65536 in
+      let n = lineNumber labels kept address before room t in
+      let kept1 = keptWith kept address (t .name) in
+      let count = before + statementSize (t .statement) in
+      let rest = failedFrom labels kept1 first room (suc line) count more in
+      let later = told more kept1 (suc line) count in
+      (elim (eqb n 0) as (λ b. eqb n 0 ≡ b → Told kept line before (t ∷ more) (pick b rest (failed n line))) [
+        | true ↦ λ e. (λ h. clear-next kept before t more (eqb-true n 0 e) (later .0 h), λ h. one-more kept line before t more (eqb-true n 0 e) (later .1 h))
+        | false ↦ λ e. (λ h. absurd (eqb-false n 0 e h), λ h. record { ahead = []; here = t; after = more; lines = refl; place = sym (add-zero line); number = number-here kept before t; clear = none kept before })
+      ]) refl
 
   clear-failed : (said : List Said) (kept : List Label) (line before : ℕ) → Clear kept before said → failedFrom labels kept first room line before said ≡ failed 0 0
   unfolding failedFrom
@@ -148,43 +149,30 @@ unfolding assembleOf
 text-passes text first room = passes (said-sized (linesIn text)) (labelsOf text first) [] first room 1 []
 
 passed-number : (f : Failed) (bytes : List ℕ) → passed f bytes .number ≡ f .number
-passed-number f bytes = go (eqb (f .number) 0) refl
-  where
-    go : (b : Bool) → eqb (f .number) 0 ≡ b → pick b (assembled 0 0 bytes) (assembled (f .number) (f .line) []) .number ≡ f .number
-    go true e = sym (eqb-true (f .number) 0 e)
-    go false e = refl
+passed-number f bytes =
+    (elim (eqb (f .number) 0) as (λ b. eqb (f .number) 0 ≡ b → pick b (assembled 0 0 bytes) (assembled (f .number) (f .line) []) .number ≡ f .number) [ true ↦ λ e. sym (eqb-true (f .number) 0 e) | false ↦ λ e. refl ]) refl
 
 passed-line : (f : Failed) (bytes : List ℕ) → (f .number ≡ 0 → ⊥) → passed f bytes .line ≡ f .line
 passed-line f bytes h = rw (ne-eqb (f .number) 0 h)
 
 -- a text has a number and a line exactly where that line is the first with a number, and has this one; lines count from 1
 pub text-refused : (text : List ℕ) (first room n k : ℕ) → (n ≡ 0 → ⊥) → ((assembleOf text first room .number ≡ n) × (assembleOf text first room .line ≡ k)) ↔ FirstAt (labelsOf text first) first room [] 1 0 (saidOf text) n k
-text-refused text first room n k z = (from-text, to-text)
-  where
-    f : Failed
-    f = failedFrom (labelsOf text first) [] first room 1 0 (saidOf text)
-
-    bytes : List ℕ
-    bytes = bytesFrom (labelsOf text first) first 0 (saidOf text)
-
-    number : assembleOf text first room .number ≡ f .number
-    number = ap (λ (a : Assembled). a .number) (text-passes text first room) ∙ passed-number f bytes
-
-    line : (f .number ≡ 0 → ⊥) → assembleOf text first room .line ≡ f .line
-    line h = ap (λ (a : Assembled). a .line) (text-passes text first room) ∙ passed-line f bytes h
-
-    from-text : (assembleOf text first room .number ≡ n) × (assembleOf text first room .line ≡ k) → FirstAt (labelsOf text first) first room [] 1 0 (saidOf text) n k
-    from-text h =
-        let e : f .number ≡ n = sym number ∙ h .0 in
-        let some : f .number ≡ 0 → ⊥ = λ q. z (sym e ∙ q) in
-        rw (← e, ← (sym (line some) ∙ h .1)) (told (labelsOf text first) first room (saidOf text) [] 1 0 .1 some)
-
-    to-text : FirstAt (labelsOf text first) first room [] 1 0 (saidOf text) n k → (assembleOf text first room .number ≡ n) × (assembleOf text first room .line ≡ k)
-    to-text x =
-        let e : f ≡ failed n k =
-        ap (failedFrom (labelsOf text first) [] first room 1 0) (x .lines) ∙ first-found (labelsOf text first) first room (x .ahead) [] 1 0 (x .here) (x .after) n z (x .number) (x .clear) ∙ ap (failed n) (sym (x .place)) in
-        let same = ap (λ (y : Failed). y .number) e in
-        (number ∙ same, line (λ q. z (sym same ∙ q)) ∙ ap (λ (y : Failed). y .line) e)
+text-refused text first room n k z =
+    let labels = labelsOf text first in
+    let f = failedFrom labels [] first room 1 0 (saidOf text) in
+    let bytes = bytesFrom labels first 0 (saidOf text) in
+    let number : assembleOf text first room .number ≡ f .number = ap (λ (a : Assembled). a .number) (text-passes text first room) ∙ passed-number f bytes in
+    let line : (f .number ≡ 0 → ⊥) → assembleOf text first room .line ≡ f .line = λ h. ap (λ (a : Assembled). a .line) (text-passes text first room) ∙ passed-line f bytes h in (
+      λ h.
+          let e : f .number ≡ n = sym number ∙ h .0 in
+          let some : f .number ≡ 0 → ⊥ = λ q. z (sym e ∙ q) in
+          rw (← e, ← (sym (line some) ∙ h .1)) (told labels first room (saidOf text) [] 1 0 .1 some),
+      λ x.
+          let e : f ≡ failed n k =
+          ap (failedFrom labels [] first room 1 0) (x .lines) ∙ first-found labels first room (x .ahead) [] 1 0 (x .here) (x .after) n z (x .number) (x .clear) ∙ ap (failed n) (sym (x .place)) in
+          let same = ap (λ (y : Failed). y .number) e in
+          (number ∙ same, line (λ q. z (sym same ∙ q)) ∙ ap (λ (y : Failed). y .line) e),
+    )
 
 -- it has 0 exactly where no line has a number
 pub text-done : (text : List ℕ) (first room : ℕ) → (assembleOf text first room .number ≡ 0) ↔ Clear (labelsOf text first) first room [] 0 (saidOf text)

@@ -172,17 +172,12 @@ lineLater a = assembled (a .number) (pick (eqb (a .number) 0) 0 (suc (a .line)))
 line-later : (said : List Said) (labels kept : List Label) (first room line : ℕ) (done : List ℕ) → assembledFrom labels kept first room (suc line) done said ≡ lineLater (assembledFrom labels kept first room line done said)
 unfolding assembledFrom
 line-later [] labels kept first room line done = refl
-line-later (s ∷ more) labels kept first room line done = go (eqb n 0) refl _ _ (line-later more labels (keptWith kept address (s .name)) first room (suc line) (done ++ statementBytes labels address (s .statement)))
-  where
-    address : ℕ
-    address = (first + length done) % 65536
-
-    n : ℕ
-    n = lineNumber labels kept address (length done) room s
-
-    go : (b : Bool) → eqb n 0 ≡ b → (x y : Assembled) → x ≡ lineLater y → pick b x (assembled n (suc line) []) ≡ lineLater (pick b y (assembled n line []))
-    go true e x y later = later
-    go false e x y later = rw e
+line-later (s ∷ more) labels kept first room line done =
+    let address = (first + length done) % 65536 in
+    let n = lineNumber labels kept address (length done) room s in
+    let rest : ℕ → Assembled = λ line. assembledFrom labels (keptWith kept address (s .name)) first room line (done ++ statementBytes labels address (s .statement)) more in
+    let later = line-later more labels (keptWith kept address (s .name)) first room (suc line) (done ++ statementBytes labels address (s .statement)) in
+    (elim (eqb n 0) as (λ b. eqb n 0 ≡ b → pick b (rest (suc (suc line))) (assembled n (suc line) []) ≡ lineLater (pick b (rest (suc line)) (assembled n line []))) [ true ↦ λ e. later | false ↦ λ e. rw e ]) refl
 
 quiet-past : (labels kept : List Label) (first room line : ℕ) (done : List ℕ) (more : List Said) → assembledFrom labels kept first room line done (quiet ∷ more) ≡ assembledFrom labels kept first room (suc line) done more
 unfolding assembledFrom lineNumber statementNumber statementSize statementBytes labelStands keptWith
@@ -199,17 +194,13 @@ quiet-line : (ahead after : List Said) (labels kept : List Label) (first room li
     (b ≡ a) ⊎ (b ≡ lineLater a)
 unfolding assembledFrom
 quiet-line [] after labels kept first room line done = inr (quiet-past labels kept first room line done after ∙ line-later after labels kept first room line done)
-quiet-line (s ∷ ahead) after labels kept first room line done = go (eqb n 0) _ _ (quiet-line ahead after labels (keptWith kept address (s .name)) first room (suc line) (done ++ statementBytes labels address (s .statement)))
-  where
-    address : ℕ
-    address = (first + length done) % 65536
-
-    n : ℕ
-    n = lineNumber labels kept address (length done) room s
-
-    go : (b : Bool) (x y : Assembled) → (y ≡ x) ⊎ (y ≡ lineLater x) → (pick b y (assembled n line []) ≡ pick b x (assembled n line [])) ⊎ (pick b y (assembled n line []) ≡ lineLater (pick b x (assembled n line [])))
-    go true x y later = later
-    go false x y later = inl refl
+quiet-line (s ∷ ahead) after labels kept first room line done =
+    let address = (first + length done) % 65536 in
+    let n = lineNumber labels kept address (length done) room s in
+    let rest : List Said → Assembled = assembledFrom labels (keptWith kept address (s .name)) first room (suc line) (done ++ statementBytes labels address (s .statement)) in
+    let later = quiet-line ahead after labels (keptWith kept address (s .name)) first room (suc line) (done ++ statementBytes labels address (s .statement)) in
+    let one : Bool → List Said → Assembled = λ b said. pick b (rest said) (assembled n line []) in
+    elim (eqb n 0) as (λ b. (one b (ahead ++ (quiet ∷ after)) ≡ one b (ahead ++ after)) ⊎ (one b (ahead ++ (quiet ∷ after)) ≡ lineLater (one b (ahead ++ after)))) [ true ↦ later | false ↦ inl refl ]
 
 said-both : (k l : List (List ℕ)) → saidIn (k ++ l) ≡ saidIn k ++ saidIn l
 unfolding saidIn
