@@ -8,7 +8,7 @@ use Prim.Native.Nat.{ℕ, _<_}
 use native.Mathlib.Omega.{arith}
 use lib.Dec.{eqb, ltb, leb}
 use lib.ListN.{length}
-use borrow.Author.Tests.{leb-false, lt-leb, eq-eqb, eqb-true, eqb-false}
+use borrow.Author.Tests.{leb-false, lt-leb, eq-eqb, eqb-true, eqb-false, not-true, not-false}
 use Rattle.ground_rules.specs.Choice.{pick}
 use Rattle.listing_rules.specs.Characters.{ascii, sameText}
 use Rattle.listing_rules.specs.Entries.{Kind, Entry, entries}
@@ -17,7 +17,7 @@ use Rattle.assembly_rules.specs.Text.{Token, isComma, cutAt, ahead}
 use Rattle.assembly_rules.specs.Text.Token.{run, mark}
 use Rattle.assembly_rules.specs.Sums.{beginsDigit, isSum, scanFrom, depthOf, mostOpen}
 use Rattle.assembly_rules.specs.Trees.{Sum, sumTokens, sumDepth}
-use Rattle.assembly_rules.specs.Operands.{Written, operandFrom, operandsFrom, isMemoryKind, takesRegister, takes, takesAll, hasWord, Chosen, entryIn, isShallow, allShallow}
+use Rattle.assembly_rules.specs.Operands.{Written, operandFrom, operandsFrom, isMemoryKind, takesRegister, takes, takesAll, hasWord, entryIn, isShallow, allShallow}
 use Rattle.assembly_rules.specs.Operands.Written.{register, memory, value, nothing}
 use Rattle.assembly_rules.specs.Operands.Chosen.{taken, untaken}
 use Rattle.assembly_rules.specs.Statements.{headed, headedBy, Statement, operandParts, allSums, allLow, itemsFrom, formedBy, wordStatement, statementOf}
@@ -262,16 +262,15 @@ entry-only (f ∷ es) h e (later m) ws t = go (sameText (f .word) (e .word)) ref
     go true p false q k = k
     go false p b q k = k
 
-entry-told : (es : List Entry) (word : List ℕ) (ws : List Written) (e : Entry) → entryIn es word ws ≡ taken e → In e es × ((e .word ≡ word) × (takesAll (e .kinds) ws ≡ true))
+-- whether an entry has a word and takes some operands
+abbrev fitting : List ℕ → List Written → Entry → Bool
+fitting word ws e = sameText (e .word) word && takesAll (e .kinds) ws
+
+entry-none : (es : List Entry) (word : List ℕ) (ws : List Written) → every (λ e. not (fitting word ws e)) es ≡ true → entryIn es word ws ≡ untaken
 unfolding entryIn
-entry-told [] word ws e h = let z : false ≡ true = cc in absurd (false≢true z)
-entry-told (f ∷ es) word ws e h = go (sameText (f .word) word) refl (takesAll (f .kinds) ws) refl h (entry-told es word ws e)
-  where
-    go : (a : Bool) → sameText (f .word) word ≡ a → (b : Bool) → takesAll (f .kinds) ws ≡ b → pick (a && b) (taken f) (entryIn es word ws) ≡ taken e
-        → (entryIn es word ws ≡ taken e → In e es × ((e .word ≡ word) × (takesAll (e .kinds) ws ≡ true))) → In e (f ∷ es) × ((e .word ≡ word) × (takesAll (e .kinds) ws ≡ true))
-    go true p true q k more = let z : e ≡ f = cc in (here z, (rw z (same-is (f .word) word p), rw z q))
-    go true p false q k more = let x = more k in (later (x .0), x .1)
-    go false p b q k more = let x = more k in (later (x .0), x .1)
+entry-none [] word ws h = refl
+entry-none (e ∷ es) word ws h =
+    rw (not-true (fitting word ws e) (both-left (not (fitting word ws e)) (every (λ e. not (fitting word ws e)) es) h)) (entry-none es word ws (both-right (not (fitting word ws e)) (every (λ e. not (fitting word ws e)) es) h))
 
 -- operands that places take are of some form each, and no other
 operands-all : (ks : List Kind) (parts : List (List Token)) → takesAll ks (operandsFrom parts) ≡ true → AllOperands parts (operandsFrom parts)
@@ -288,18 +287,6 @@ operands-are : {parts : List (List Token)} {ws : List Written} → AllOperands p
 unfolding operandsFrom
 operands-are noOperand = refl
 operands-are (oneOperand {parts = parts} {ws = ws} o os) = rw (operand-is o, operands-are os)
-
--- a line that begins with no word
-pub no-word-is : {body : List Token} → NoWord body → statementOf body ≡ refused 30
-unfolding statementOf wordStatement
-no-word-is (noRun c ts) = refl
-no-word-is (noSuch r ts d n) = rw (differs false, differs true, none)
-  where
-    differs : (two : Bool) → sameText r (dataWord two) ≡ false
-    differs two = fails (sameText r (dataWord two)) (λ e. d two (same-is r (dataWord two) e))
-
-    none : hasWord entries r ≡ false
-    none = fails (hasWord entries r) (λ e. let x = word-exactly entries r .0 e in n (x .0) (x .1 .0) (x .1 .1))
 
 -- how deep the trees are
 lowTree : Kind × List Token → Bool
@@ -336,24 +323,12 @@ Goes st result = (Deep st × (result ≡ refused 32)) ⊎ ((Deep st → ⊥) × 
 
 goes-by : (st : Statement) (b : Bool) → AllTrees st → b ≡ every lowTree (sumsIn st) → Goes st (pick b st (refused 32))
 unfolding lowTree
-goes-by st b trees e = go b e
-  where
-    low : (s : Sum) → (leb (depthOf (sumTokens s)) mostOpen ≡ false) ↔ (8 < sumDepth s)
-    low s = (λ h. rw (tree-depth s) at (leb-false (depthOf (sumTokens s)) 8 h), λ l. lt-leb (depthOf (sumTokens s)) 8 (rw (tree-depth s) l))
+goes-by st true trees e = inr (λ d. not-both (sym e) (trees-fail st trees lowTree .1 (d .0, (d .1 .0, (d .1 .1 .0, lt-leb (depthOf (sumTokens (d .1 .0))) 8 (rw (tree-depth (d .1 .0)) (d .1 .1 .1)))))), refl)
+goes-by st false trees e = let x = trees-fail st trees lowTree .0 (sym e) in inl ((x .0, (x .1 .0, (x .1 .1 .0, rw (tree-depth (x .1 .0)) at (leb-false (depthOf (sumTokens (x .1 .0))) 8 (x .1 .1 .1))))), refl)
 
-    go : (b : Bool) → b ≡ every lowTree (sumsIn st) → Goes st (pick b st (refused 32))
-    go true e = inr (λ d. not-both (sym e) (trees-fail st trees lowTree .1 (d .0, (d .1 .0, (d .1 .1 .0, low (d .1 .0) .1 (d .1 .1 .1))))), refl)
-    go false e = let x = trees-fail st trees lowTree .0 (sym e) in inl ((x .0, (x .1 .0, (x .1 .1 .0, low (x .1 .0) .0 (x .1 .1 .1)))), refl)
-
-cut-some : {A : Type 0} (test : A → Bool) (l : List A) → cutAt test l ≡ [] → ⊥
-unfolding cutAt
-cut-some test [] e = absurd (omega (arith, ap length e))
-cut-some {A} test (a ∷ l) e = go (test a) (cutAt test l) e
-  where
-    go : (b : Bool) (parts : List (List A)) → pick b ([] ∷ parts) (ahead a parts) ≡ [] → ⊥
-    go true parts e = absurd (omega (arith, ap length e))
-    go false [] e = absurd (omega (arith, ap length e))
-    go false (part ∷ parts) e = absurd (omega (arith, ap length e))
+cut-some : {A : Type 0} {test : A → Bool} {l : List A} {parts : List (List A)} → CutInto test l parts → parts ≡ [] → ⊥
+cut-some (lastPart part h) e = absurd (omega (arith, ap length e))
+cut-some (nextPart part c h k more) e = absurd (omega (arith, ap length e))
 
 no-data-word : (two : Bool) → hasWord entries (dataWord two) ≡ false
 unfolding hasWord entries sameText
@@ -374,6 +349,12 @@ word-says : (r : List ℕ) (ts : List Token) → ((two : Bool) → r ≡ dataWor
 unfolding statementOf
 word-says r ts d = rw (fails (sameText r (dataWord false)) (λ e. d false (same-is r (dataWord false) e)), fails (sameText r (dataWord true)) (λ e. d true (same-is r (dataWord true) e)))
 
+-- a line that begins with no word
+pub no-word-is : {body : List Token} → NoWord body → statementOf body ≡ refused 30
+unfolding statementOf wordStatement
+no-word-is (noRun c ts) = refl
+no-word-is (noSuch r ts d n) = word-says r ts d ∙ rw (fails (hasWord entries r) (λ e. let x = word-exactly entries r .0 e in n (x .0) (x .1 .0) (x .1 .1)))
+
 coded-says : (e : Entry) (ws : List Written) → In e entries → AllTake (e .kinds) ws → wordStatement (e .word) ws ≡ pick (allShallow ws) (instruction e ws) (refused 32)
 unfolding wordStatement
 coded-says e ws i t = rw (word-exactly entries (e .word) .1 (e, (i, refl)), entry-only entries entries-sole e i ws t)
@@ -392,7 +373,7 @@ form-goes empty = inr (λ d. elim (d .1 .1 .0) [ ], blank-says)
 form-goes (listed two t ts trees) =
     let parts = operandParts (t ∷ ts) in
     let sums : allSums parts ≡ true = holds (allSums parts) (λ h. let x = trees-fail (items two parts) trees (λ p. isSum (p .1)) .0 (sym (sums-items two parts) ∙ h) in not-both (tree-sum (x .1 .0)) (x .1 .1 .1)) in
-    rw (data-says two (t ∷ ts) ∙ items-says two parts (cut-some isComma (t ∷ ts)), sums) (goes-by (items two parts) (allLow parts) trees (low-items two parts))
+    rw (data-says two (t ∷ ts) ∙ items-says two parts (cut-some (cut-told isComma (t ∷ ts))), sums) (goes-by (items two parts) (allLow parts) trees (low-items two parts))
 form-goes (coded e ts ws i os take) =
     let e1 = word-says (e .word) ts (λ two q. not-both (word-exactly entries (dataWord two) .1 (e, (i, q))) (no-data-word two)) in
     rw (e1 ∙ ap (wordStatement (e .word)) (operands-are os) ∙ coded-says e ws i take) (goes-by (instruction e ws) (allShallow ws) (coded-trees os take) (low-operands os take))
@@ -407,40 +388,39 @@ no-items two = refl
 
 data-formed : (two : Bool) (ts : List Token) → Formed (run (dataWord two) ∷ ts)
 data-formed two [] = inl (data-says two [] ∙ no-items two)
-data-formed two (t ∷ ts) = go (allSums (operandParts (t ∷ ts))) refl
-  where
-    go : (b : Bool) → allSums (operandParts (t ∷ ts)) ≡ b → Formed (run (dataWord two) ∷ t ∷ ts)
-    go true e = inr (items two (operandParts (t ∷ ts)), listed two t ts (λ p m. sum-exactly (p .1) .0 (holds (isSum (p .1)) (λ f. not-both e (sums-items two (operandParts (t ∷ ts)) ∙ every-fails (λ p. isSum (p .1)) (itemsIn two (operandParts (t ∷ ts))) .1 (p, (m, f)))))))
-    go false e = inl (data-says two (t ∷ ts) ∙ items-says two (operandParts (t ∷ ts)) (cut-some isComma (t ∷ ts)) ∙ rw e)
+data-formed two (t ∷ ts) =
+    let parts = operandParts (t ∷ ts) in
+    (elim (allSums parts) as (λ b. allSums parts ≡ b → Formed (run (dataWord two) ∷ t ∷ ts)) [
+      | true ↦ λ e. inr (items two parts, listed two t ts (λ p m. sum-exactly (p .1) .0 (holds (isSum (p .1)) (λ f. not-both e (sums-items two parts ∙ every-fails (λ p. isSum (p .1)) (itemsIn two parts) .1 (p, (m, f)))))))
+      | false ↦ λ e. inl (data-says two (t ∷ ts) ∙ items-says two parts (cut-some (cut-told isComma (t ∷ ts))) ∙ rw e)
+    ]) refl
 
 word-formed : (r : List ℕ) (ts : List Token) → ((two : Bool) → r ≡ dataWord two → ⊥) → NoWord (run r ∷ ts) ⊎ Formed (run r ∷ ts)
 unfolding wordStatement
-word-formed r ts d = go (hasWord entries r) refl (entryIn entries r ws) refl (word-says r ts d)
+word-formed r ts d = go (hasWord entries r) refl (every (λ e. not (fitting r ws e)) entries) refl (word-says r ts d)
   where
     ws : List Written
     ws = operandsFrom (operandParts ts)
 
-    go : (b : Bool) → hasWord entries r ≡ b → (c : Chosen) → entryIn entries r ws ≡ c → statementOf (run r ∷ ts) ≡ pick (hasWord entries r) (formedBy (entryIn entries r ws) ws) (refused 30) → NoWord (run r ∷ ts) ⊎ Formed (run r ∷ ts)
+    go : (b : Bool) → hasWord entries r ≡ b → (c : Bool) → every (λ e. not (fitting r ws e)) entries ≡ c → statementOf (run r ∷ ts) ≡ pick (hasWord entries r) (formedBy (entryIn entries r ws) ws) (refused 30) → NoWord (run r ∷ ts) ⊎ Formed (run r ∷ ts)
     go false p c q k = inl (noSuch r ts d (λ e i s. not-both (word-exactly entries r .1 (e, (i, s))) p))
-    go true p untaken q k = inr (inl (k ∙ rw (p, q)))
-    go true p (taken e) q k =
-        let x = entry-told entries r ws e q in
-        let f = coded e ts ws (x .0) (operands-all (e .kinds) (operandParts ts) (x .1 .1)) (all-take (e .kinds) ws (x .1 .1)) in
-        inr (inr (instruction e ws, subst (λ (y : List ℕ). FormOf (run y ∷ ts) (instruction e ws)) (x .1 .0) f))
+    go true p true q k = inr (inl (k ∙ rw (p, entry-none entries r ws q)))
+    go true p false q k =
+        let x = every-fails (λ e. not (fitting r ws e)) entries .0 q in
+        let e = x .0 in
+        let f = not-false (fitting r ws e) (x .1 .1) in
+        let t = both-right (sameText (e .word) r) (takesAll (e .kinds) ws) f in
+        inr (inr (instruction e ws, subst (λ (y : List ℕ). FormOf (run y ∷ ts) (instruction e ws)) (same-is (e .word) r (both-left (sameText (e .word) r) (takesAll (e .kinds) ws) f)) (coded e ts ws (x .1 .0) (operands-all (e .kinds) (operandParts ts) t) (all-take (e .kinds) ws t))))
+
+data-or-not : (r : List ℕ) → ((two : Bool) × (r ≡ dataWord two)) ⊎ ((two : Bool) → r ≡ dataWord two → ⊥)
+data-or-not r = go (sameText r (dataWord false)) refl (sameText r (dataWord true)) refl
+  where
+    go : (a : Bool) → sameText r (dataWord false) ≡ a → (b : Bool) → sameText r (dataWord true) ≡ b → ((two : Bool) × (r ≡ dataWord two)) ⊎ ((two : Bool) → r ≡ dataWord two → ⊥)
+    go true p b q = inl (false, same-is r (dataWord false) p)
+    go false p true q = inl (true, same-is r (dataWord true) q)
+    go false p false q = inr (λ two e. not-both (is-same r) (ap (sameText r) e ∙ elim two as (λ x. sameText r (dataWord x) ≡ false) [ true ↦ q | false ↦ p ]))
 
 pub line-formed : (body : List Token) → NoWord body ⊎ Formed body
 line-formed [] = inr (inr (blank, empty))
 line-formed (mark c ∷ ts) = inl (noRun c ts)
-line-formed (run r ∷ ts) = go (sameText r (dataWord false)) refl (sameText r (dataWord true)) refl
-  where
-    of : (two : Bool) → sameText r (dataWord two) ≡ true → NoWord (run r ∷ ts) ⊎ Formed (run r ∷ ts)
-    of two e = inr (subst (λ (y : List ℕ). Formed (run y ∷ ts)) (sym (same-is r (dataWord two) e)) (data-formed two ts))
-
-    neither : sameText r (dataWord false) ≡ false → sameText r (dataWord true) ≡ false → (two : Bool) → r ≡ dataWord two → ⊥
-    neither p q true e = not-both (is-same r) (ap (sameText r) e ∙ q)
-    neither p q false e = not-both (is-same r) (ap (sameText r) e ∙ p)
-
-    go : (a : Bool) → sameText r (dataWord false) ≡ a → (b : Bool) → sameText r (dataWord true) ≡ b → NoWord (run r ∷ ts) ⊎ Formed (run r ∷ ts)
-    go true p b q = of false p
-    go false p true q = of true q
-    go false p false q = word-formed r ts (neither p q)
+line-formed (run r ∷ ts) = elim (data-or-not r) [ inl x ↦ inr (subst (λ (y : List ℕ). Formed (run y ∷ ts)) (sym (x .1)) (data-formed (x .0) ts)) | inr d ↦ word-formed r ts d ]
