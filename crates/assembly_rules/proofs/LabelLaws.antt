@@ -8,13 +8,13 @@ use Prim.Native.Nat.{ℕ, zero, suc, _+_, _%_, _≤_, _<_}
 use native.Mathlib.Omega.{arith}
 use native.Mathlib.Nat.{mod-mod, mod-add-mod, add-zero, add-assoc}
 use lib.Dec.{ltb, leb}
-use lib.ListN.{length, length-append, getD, List·getD-append}
+use lib.ListN.{length, length-append, getD, take, List·getD-append}
 use borrow.Author.Tests.{leb-true, ltb-true, ltb-false, not-true}
 use Rattle.ground_rules.specs.Choice.{pick}
 use Rattle.listing_rules.specs.Characters.{sameText}
 use Rattle.assembly_rules.specs.declared.Worth.{Worth}
 use Rattle.assembly_rules.specs.Sums.{Label, label, labelWorth, worth}
-use Rattle.assembly_rules.specs.Statements.{statementSize}
+use Rattle.assembly_rules.specs.Statements.{Statement, statementSize}
 use Rattle.assembly_rules.specs.Assembly.{Said, isReserved, mayKeep, keptWith, labelsFrom}
 use Rattle.assembly_rules.proofs.TestLaws.{as-some}
 use Rattle.assembly_rules.proofs.WritingLaws.{both-left, both-right}
@@ -59,15 +59,15 @@ unfoldable pub sizesOf : List Said → ℕ
 sizesOf [] = 0
 sizesOf (s ∷ more) = statementSize (s .statement) + sizesOf more
 
--- a label that a line keeps, at the address behind the lines ahead of it
-pub record KeptAt (kept : List Label) (first : ℕ) (said : List Said) (l : Label) : Type 0 where
-  pub ahead : List Said
-  pub line : Said
-  pub after : List Said
-  pub lines : said ≡ ahead ++ (line ∷ after)
-  pub named : line .name ≡ [] → ⊥
-  pub may : mayKeep (labelsFrom kept first ahead) (line .name) ≡ true
-  pub same : l ≡ label (line .name) ((first + sizesOf ahead) % 65536)
+-- a line that says nothing
+abbrev pub quiet : Said
+quiet = record { name = []; statement = Statement.blank }
+
+-- the label of a line, by its place: one that may be kept behind those of the lines before it, at first and their bytes
+abbrev pub KeptAt : List Label → ℕ → List Said → Label → ℕ → Type 0
+KeptAt kept first said l i =
+    let name = getD said i quiet .name in
+    (name ≡ [] → ⊥) × ((mayKeep (labelsFrom kept first (take i said)) name ≡ true) × (l ≡ label name ((first + sizesOf (take i said)) % 65536)))
 
 -- one of some and one more
 in-last : {A : Type 0} {a b : A} (l : List A) → In a (l ++ (b ∷ [])) → In a l ⊎ (a ≡ b)
@@ -94,51 +94,33 @@ kept-or-new kept address (c ∷ cs) l m = go (mayKeep kept (c ∷ cs)) refl m
     go true e k = elim (in-last kept k) [ inl i ↦ inl i | inr s ↦ inr (λ z. absurd (omega (arith, ap length z)), (e, s)) ]
     go false e k = inl k
 
-labels-told : (said : List Said) (kept : List Label) (first : ℕ) (l : Label) → In l (labelsFrom kept first said) → In l kept ⊎ KeptAt kept first said l
+labels-told : (said : List Said) (kept : List Label) (first : ℕ) (l : Label) → In l (labelsFrom kept first said) → In l kept ⊎ ((i : ℕ) × KeptAt kept first said l i)
 unfolding labelsFrom sizesOf
 labels-told [] kept first l m = inl m
-labels-told (s ∷ more) kept first l m = go (labels-told more (keptWith kept (first % 65536) (s .name)) (first + statementSize (s .statement)) l m)
-  where
-    further : KeptAt (keptWith kept (first % 65536) (s .name)) (first + statementSize (s .statement)) more l → KeptAt kept first (s ∷ more) l
-    further k =
-        record {
-          ahead = s ∷ k .ahead;
-          line = k .line;
-          after = k .after;
-          lines = ap (λ (x : List Said). s ∷ x) (k .lines);
-          named = k .named;
-          may = k .may;
-          same = k .same ∙ ap (λ (x : ℕ). label (k .line .name) (x % 65536)) (add-assoc first (statementSize (s .statement)) (sizesOf (k .ahead)));
-        }
-
-    go : In l (keptWith kept (first % 65536) (s .name)) ⊎ KeptAt (keptWith kept (first % 65536) (s .name)) (first + statementSize (s .statement)) more l → In l kept ⊎ KeptAt kept first (s ∷ more) l
-    go (inr k) = inr (further k)
-    go (inl i) =
-        elim (kept-or-new kept (first % 65536) (s .name) l i) [
-          | inl m ↦ inl m
-          | inr n ↦ inr (record { ahead = []; line = s; after = more; lines = refl; named = n .0; may = n .1 .0; same = n .1 .1 ∙ ap (λ (x : ℕ). label (s .name) (x % 65536)) (sym (add-zero first)) })
-        ]
+labels-told (s ∷ more) kept first l m =
+    let size = statementSize (s .statement) in
+    elim (labels-told more (keptWith kept (first % 65536) (s .name)) (first + size) l m) [
+      | inl i ↦ elim (kept-or-new kept (first % 65536) (s .name) l i) [ inl m ↦ inl m | inr n ↦ inr (0, (n .0, (n .1 .0, n .1 .1 ∙ ap (λ (x : ℕ). label (s .name) (x % 65536)) (sym (add-zero first))))) ]
+      | inr k ↦ inr (suc (k .0), (k .1 .0, (k .1 .1 .0, k .1 .1 .1 ∙ ap (λ (x : ℕ). label (getD more (k .0) quiet .name) (x % 65536)) (add-assoc first size (sizesOf (take (k .0) more))))))
+    ]
 
 new-kept : (kept : List Label) (address : ℕ) (name : List ℕ) → (name ≡ [] → ⊥) → mayKeep kept name ≡ true → In (label name address) (keptWith kept address name)
 unfolding keptWith
 new-kept kept address [] n h = absurd (n refl)
 new-kept kept address (c ∷ cs) n h = rw h (in-end (label (c ∷ cs) address) kept)
 
-line-keeps : (ahead : List Said) (kept : List Label) (first : ℕ) (s : Said) (after : List Said) → (s .name ≡ [] → ⊥) → mayKeep (labelsFrom kept first ahead) (s .name) ≡ true
-    → In (label (s .name) ((first + sizesOf ahead) % 65536)) (labelsFrom kept first (ahead ++ (s ∷ after)))
+line-keeps : (said : List Said) (kept : List Label) (first : ℕ) (l : Label) (i : ℕ) → KeptAt kept first said l i → In l (labelsFrom kept first said)
 unfolding labelsFrom sizesOf
-line-keeps [] kept first s after n h =
-    let g = labels-grow after (keptWith kept (first % 65536) (s .name)) (first + statementSize (s .statement)) in
-    rw (add-zero first, g .1) (in-front (g .0) (new-kept kept (first % 65536) (s .name) n h))
-line-keeps (t ∷ ahead) kept first s after n h =
-    rw (← (add-assoc first (statementSize (t .statement)) (sizesOf ahead))) (line-keeps ahead (keptWith kept (first % 65536) (t .name)) (first + statementSize (t .statement)) s after n h)
+line-keeps [] kept first l i k = absurd (k .0 refl)
+line-keeps (s ∷ more) kept first l zero k =
+    let g = labels-grow more (keptWith kept (first % 65536) (s .name)) (first + statementSize (s .statement)) in
+    rw (k .1 .1, add-zero first, g .1) (in-front (g .0) (new-kept kept (first % 65536) (s .name) (k .0) (k .1 .0)))
+line-keeps (s ∷ more) kept first l (suc i) k =
+    line-keeps more (keptWith kept (first % 65536) (s .name)) (first + statementSize (s .statement)) l i (k .0, (k .1 .0, k .1 .1 ∙ ap (λ (x : ℕ). label (getD more i quiet .name) (x % 65536)) (sym (add-assoc first (statementSize (s .statement)) (sizesOf (take i more))))))
 
--- the labels of a text are those that a line keeps, each at first and the bytes of the lines ahead of it
-pub labels-exactly : (said : List Said) (first : ℕ) (l : Label) → In l (labelsFrom [] first said) ↔ KeptAt [] first said l
-labels-exactly said first l = (
-  λ m. elim (labels-told said [] first l m) [ inl i ↦ elim i [ ] | inr k ↦ k ],
-  λ k. rw (k .lines, k .same) (line-keeps (k .ahead) [] first (k .line) (k .after) (k .named) (k .may)),
-)
+-- the labels of a text are those that a line keeps, each at first and the bytes of the lines before it
+pub labels-exactly : (said : List Said) (first : ℕ) (l : Label) → In l (labelsFrom [] first said) ↔ ((i : ℕ) × KeptAt [] first said l i)
+labels-exactly said first l = (λ m. elim (labels-told said [] first l m) [ inl i ↦ elim i [ ] | inr k ↦ k ], λ k. line-keeps said [] first l (k .0) (k .1))
 
 -- a name is known exactly where it is that of a label
 pub known-exactly : (labels : List Label) (name : List ℕ) → (labelWorth labels name .known ≡ true) ↔ ((l : Label) × (In l labels × (l .name ≡ name)))
