@@ -18,3 +18,4 @@ pub mod FormLaws
 pub mod ValueLaws
 pub mod LineLaws
 pub mod SameLaws
+pub mod ExactLaws
