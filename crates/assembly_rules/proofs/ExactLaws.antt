@@ -1,13 +1,13 @@
 -- A whole text: it has a number and a line exactly where that line has the number and no line before it has one, each told by the line's tokens.
 -- Assumes nothing.
-use mathlib.Core.Path.{_≡_, refl, sym, ap, _∙_}
+use mathlib.Core.Path.{_≡_, refl, ap}
 use mathlib.Core.List.{List, [], _∷_}
 use mathlib.Core.Logic.{_↔_}
 use Prim.Native.Nat.{ℕ, zero, suc, _+_, _%_, _<_}
 use lib.ListN.{length, getD, take}
 use Rattle.assembly_rules.specs.Text.{begunBy, tokensOf, linesIn}
 use Rattle.assembly_rules.specs.Statements.{headedBy, statementOf}
-use Rattle.assembly_rules.specs.Assembly.{saidBy, saidIn, labelsFrom, lineNumber, assembleOf}
+use Rattle.assembly_rules.specs.Assembly.{saidBy, saidIn, labelsFrom, assembleOf}
 use Rattle.assembly_rules.proofs.LabelLaws.{sizesOf, quiet}
 use Rattle.assembly_rules.proofs.FirstLaws.{saidOf, labelsOf, textNumber, text-number, text-refused, text-done}
 use Rattle.assembly_rules.proofs.LineLaws.{Verdict, line-exactly}

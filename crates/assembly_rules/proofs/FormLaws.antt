@@ -22,7 +22,7 @@ use Rattle.assembly_rules.specs.Operands.Written.{register, memory, valu
 use Rattle.assembly_rules.specs.Operands.Chosen.{taken, untaken}
 use Rattle.assembly_rules.specs.Statements.{headed, headedBy, Statement, operandParts, allSums, allLow, itemsFrom, formedBy, wordStatement, statementOf}
 use Rattle.assembly_rules.specs.Statements.Statement.{blank, items, instruction, refused}
-use Rattle.assembly_rules.proofs.TestLaws.{holds, fails, not-both, every, every-fails, every-both, as-every, as-some}
+use Rattle.assembly_rules.proofs.TestLaws.{holds, fails, not-both, every, every-fails, every-both, as-some}
 use Rattle.assembly_rules.proofs.WritingLaws.{both-left, both-right}
 use Rattle.assembly_rules.proofs.ScanLaws.{sum-exactly, tree-sum, tree-depth, same-is, is-same}
 use Rattle.assembly_rules.proofs.OperandLaws.{OperandOf, operand-exactly, operand-is}

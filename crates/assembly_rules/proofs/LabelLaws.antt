@@ -1,7 +1,7 @@
 -- The labels of a text: lines add labels behind those that are kept; each is kept by a line at its address, mod 65,536; no two have one name.
 -- Assumes nothing.
 use mathlib.Core.Path.{_≡_, refl, sym, ap, _∙_}
-use mathlib.Core.Bool.{Bool, true, false, not, _&&_, _||_, false≢true}
+use mathlib.Core.Bool.{Bool, true, false, not, _||_, false≢true}
 use mathlib.Core.List.{List, [], _∷_, _++_, append-assoc, append-nil, List·Memᴰ as In, List·Memᴰ·head as here, List·Memᴰ·tail as later}
 use mathlib.Core.Logic.{_⊎_, inl, inr, _↔_}
 use Prim.Native.Nat.{ℕ, zero, suc, _+_, _%_, _≤_, _<_}
@@ -27,11 +27,8 @@ KeptFirst kept labels = (more : List Label) × (labels ≡ kept ++ more)
 kept-grows : (kept : List Label) (address : ℕ) (name : List ℕ) → KeptFirst kept (keptWith kept address name)
 unfolding keptWith
 kept-grows kept address [] = ([], sym (append-nil kept))
-kept-grows kept address (c ∷ cs) = go (mayKeep kept (c ∷ cs))
-  where
-    go : (b : Bool) → KeptFirst kept (pick b (kept ++ (label (c ∷ cs) address ∷ [])) kept)
-    go true = (label (c ∷ cs) address ∷ [], refl)
-    go false = ([], sym (append-nil kept))
+kept-grows kept address (c ∷ cs) =
+    elim (mayKeep kept (c ∷ cs)) as (λ b. KeptFirst kept (pick b (kept ++ (label (c ∷ cs) address ∷ [])) kept)) [ true ↦ (label (c ∷ cs) address ∷ [], refl) | false ↦ ([], sym (append-nil kept)) ]
 
 -- the labels of some lines begin with those that were kept before
 pub labels-grow : (said : List Said) (kept : List Label) (address : ℕ) → KeptFirst kept (labelsFrom kept address said)
@@ -88,11 +85,11 @@ in-end a (x ∷ l) = later (in-end a l)
 kept-or-new : (kept : List Label) (address : ℕ) (name : List ℕ) (l : Label) → In l (keptWith kept address name) → In l kept ⊎ ((name ≡ [] → ⊥) × ((mayKeep kept name ≡ true) × (l ≡ label name address)))
 unfolding keptWith
 kept-or-new kept address [] l m = inl m
-kept-or-new kept address (c ∷ cs) l m = go (mayKeep kept (c ∷ cs)) refl m
-  where
-    go : (b : Bool) → mayKeep kept (c ∷ cs) ≡ b → In l (pick b (kept ++ (label (c ∷ cs) address ∷ [])) kept) → In l kept ⊎ ((c ∷ cs ≡ [] → ⊥) × ((mayKeep kept (c ∷ cs) ≡ true) × (l ≡ label (c ∷ cs) address)))
-    go true e k = elim (in-last kept k) [ inl i ↦ inl i | inr s ↦ inr (λ z. absurd (omega (arith, ap length z)), (e, s)) ]
-    go false e k = inl k
+kept-or-new kept address (c ∷ cs) l m =
+    (elim (mayKeep kept (c ∷ cs)) as (λ b. mayKeep kept (c ∷ cs) ≡ b → In l (pick b (kept ++ (label (c ∷ cs) address ∷ [])) kept) → In l kept ⊎ ((c ∷ cs ≡ [] → ⊥) × ((mayKeep kept (c ∷ cs) ≡ true) × (l ≡ label (c ∷ cs) address)))) [
+      | true ↦ λ e k. elim (in-last kept k) [ inl i ↦ inl i | inr s ↦ inr (λ z. absurd (omega (arith, ap length z)), (e, s)) ]
+      | false ↦ λ e k. inl k
+    ]) refl m
 
 labels-told : (said : List Said) (kept : List Label) (first : ℕ) (l : Label) → In l (labelsFrom kept first said) → In l kept ⊎ ((i : ℕ) × KeptAt kept first said l i)
 unfolding labelsFrom sizesOf
@@ -179,11 +176,8 @@ may-parts kept name h =
 kept-apart : (kept : List Label) (address : ℕ) (name : List ℕ) → Apart kept → Apart (keptWith kept address name)
 unfolding keptWith
 kept-apart kept address [] h = h
-kept-apart kept address (c ∷ cs) h = go (mayKeep kept (c ∷ cs)) refl
-  where
-    go : (b : Bool) → mayKeep kept (c ∷ cs) ≡ b → Apart (pick b (kept ++ (label (c ∷ cs) address ∷ [])) kept)
-    go true e = new-apart kept (c ∷ cs) address (may-parts kept (c ∷ cs) e .1 .0) h
-    go false e = h
+kept-apart kept address (c ∷ cs) h =
+    (elim (mayKeep kept (c ∷ cs)) as (λ b. mayKeep kept (c ∷ cs) ≡ b → Apart (pick b (kept ++ (label (c ∷ cs) address ∷ [])) kept)) [ true ↦ λ e. new-apart kept (c ∷ cs) address (may-parts kept (c ∷ cs) e .1 .0) h | false ↦ λ e. h ]) refl
 
 -- no two labels of a text have one name
 pub labels-apart : (said : List Said) (kept : List Label) (first : ℕ) → Apart kept → Apart (labelsFrom kept first said)

@@ -9,7 +9,7 @@ use native.Mathlib.Omega.{arith}
 use native.Mathlib.Nat.{mod-lt}
 use lib.Dec.{eqb, ltb, leb, lit<}
 use lib.ListN.{length}
-use borrow.Author.Tests.{ltb-true, ltb-false, leb-true, leb-false, lt-ltb, le-ltb, le-leb, lt-leb}
+use borrow.Author.Tests.{ltb-true, ltb-false, leb-true, leb-false, lt-ltb}
 use Rattle.ground_rules.specs.Choice.{pick}
 use Rattle.listing_rules.specs.Characters.{ascii, sameText}
 use Rattle.listing_rules.specs.Entries.{Kind, Entry, entries}
@@ -147,11 +147,11 @@ unfolding registerNumber indexIn sameText
 pointer-number = refl
 
 register-reserved : (name : List ℕ) → registerNumber name < 9 → Reserved name
-register-reserved name h = go (ltb (registerNumber name) 8) refl
-  where
-    go : (b : Bool) → ltb (registerNumber name) 8 ≡ b → Reserved name
-    go true e = let l = ltb-true (registerNumber name) 8 e in subst Reserved (sym (text-named name l)) (registerReserved (registerNumber name) l)
-    go false e = let l = ltb-false (registerNumber name) 8 e in subst Reserved (sym (register-named name 8 (omega arith) (omega arith))) pointerReserved
+register-reserved name h =
+    (elim (ltb (registerNumber name) 8) as (λ b. ltb (registerNumber name) 8 ≡ b → Reserved name) [
+      | true ↦ λ e. let l = ltb-true (registerNumber name) 8 e in subst Reserved (sym (text-named name l)) (registerReserved (registerNumber name) l)
+      | false ↦ λ e. let l = ltb-false (registerNumber name) 8 e in subst Reserved (sym (register-named name 8 (omega arith) (omega arith))) pointerReserved
+    ]) refl
 
 reserved-exactly : (name : List ℕ) → (isReserved name ≡ true) ↔ Reserved name
 unfolding isReserved
@@ -256,16 +256,6 @@ module _ (labels kept : List Label) (address before room : ℕ) (name : List ℕ
     λ x. rw (lt-ltb 0 size (x .0), lt-ltb room (before + size) (x .1)),
   )
 
-  -- a form's number
-  form-verdict : {body : List Token} (st : Statement) → FormOf body st → (Deep st → ⊥) → Verdict labels kept address before room name body (numberOf st)
-  form-verdict {body} st f n = rw (formed-number f) (go (labelStands kept address name && knownIn labels st) refl (standIn labels address st) refl (pastRoom (statementSize st) before room) refl)
-    where
-      go : (b : Bool) → labelStands kept address name && knownIn labels st ≡ b → (c : Bool) → standIn labels address st ≡ c → (d : Bool) → pastRoom (statementSize st) before room ≡ d → Verdict labels kept address before room name body (pick b (pick c (pick d 35 0) 34) 33)
-      go false p c q d r = no-label st f n (label-fails f n .0 p)
-      go true p false q d r = no-fit st f n (λ x. not-both p (label-fails f n .1 x)) (stand-fails labels address f n .0 q)
-      go true p true q true r = no-room st f n (λ x. not-both p (label-fails f n .1 x)) (λ x. not-both q (stand-fails labels address f n .1 x)) (past-exactly (statementSize st) .0 r)
-      go true p true q false r = is-done st f n (λ x. not-both p (label-fails f n .1 x)) (λ x. not-both q (stand-fails labels address f n .1 x)) (λ x. not-both (past-exactly (statementSize st) .1 x) r)
-
   -- the number that a line has by its verdict
   as-formed : {body : List Token} {st : Statement} → FormOf body st → (Deep st → ⊥) → (b c d : Bool) → labelStands kept address name && knownIn labels st ≡ b → standIn labels address st ≡ c → pastRoom (statementSize st) before room ≡ d
       → numberOf (statementOf body) ≡ pick b (pick c (pick d 35 0) 34) 33
@@ -298,13 +288,17 @@ module _ (labels kept : List Label) (address before room : ℕ) (name : List ℕ
         | inr x ↦ false≢true (formed-unlike 31 f (sym (x .1) ∙ e))
       ]
 
+      form : (st : Statement) → FormOf body st → (Deep st → ⊥) → (b : Bool) → labelStands kept address name && knownIn labels st ≡ b → (c : Bool) → standIn labels address st ≡ c → (d : Bool) → pastRoom (statementSize st) before room ≡ d
+          → Verdict labels kept address before room name body (numberOf (statementOf body))
+      form st f n false p c q d r = by (no-label st f n (label-fails f n .0 p))
+      form st f n true p false q d r = by (no-fit st f n (λ x. not-both p (label-fails f n .1 x)) (stand-fails labels address f n .0 q))
+      form st f n true p true q true r = by (no-room st f n (λ x. not-both p (label-fails f n .1 x)) (λ x. not-both q (stand-fails labels address f n .1 x)) (past-exactly (statementSize st) .0 r))
+      form st f n true p true q false r = by (is-done st f n (λ x. not-both p (label-fails f n .1 x)) (λ x. not-both q (stand-fails labels address f n .1 x)) (λ x. not-both (past-exactly (statementSize st) .1 x) r))
+
       go : NoWord body ⊎ ((statementOf body ≡ refused 31) ⊎ ((st : Statement) × FormOf body st)) → Verdict labels kept address before room name body (numberOf (statementOf body))
       go (inl x) = by (no-word x)
       go (inr (inl e)) = by (no-form (λ x. absurd (omega (arith, sym (refused-number .0) ∙ ap numberOf (sym (no-word-is x) ∙ e) ∙ refused-number .1 .0))) (formless e))
-      go (inr (inr (st, f))) = elim (form-goes f) [
-        | inl x ↦ by (too-deep st f (x .0))
-        | inr x ↦ subst (λ (y : Statement). Verdict labels kept address before room name body (numberOf y)) (sym (x .1)) (form-verdict st f (x .0))
-      ]
+      go (inr (inr (st, f))) = elim (form-goes f) [ inl x ↦ by (too-deep st f (x .0)) | inr x ↦ form st f (x .0) _ refl _ refl _ refl ]
 
 -- a line has a number exactly by what it says
 pub line-exactly : (labels kept : List Label) (address before room : ℕ) (line : List ℕ) (n : ℕ)

@@ -1,29 +1,27 @@
 -- What changes no byte: a sum of the same worth in another's place, blanks and comments behind a line, a line without tokens.
 -- Assumes nothing.
 use mathlib.Core.Path.{_≡_, refl, sym, ap, _∙_}
-use mathlib.Core.Bool.{Bool, true, false, _&&_, _||_}
+use mathlib.Core.Bool.{Bool, true, false}
 use mathlib.Core.List.{List, [], _∷_, _++_, append-nil}
 use mathlib.Core.Logic.{_⊎_, inl, inr}
-use Prim.Native.Nat.{ℕ, suc, _+_, _*_, _%_, _≤_}
+use Prim.Native.Nat.{ℕ, suc, _+_, _%_, _≤_}
 use native.Mathlib.Nat.{add-zero}
 use lib.Dec.{eqb}
 use lib.ListN.{length}
-use borrow.Author.Tests.{eqb-false, ne-eqb}
-use Rattle.ground_rules.specs.Bytes.{lowByte}
 use Rattle.ground_rules.specs.Choice.{pick}
 use Rattle.listing_rules.specs.Entries.{Kind, Entry}
-use Rattle.assembly_rules.specs.declared.Worth.{Worth}
-use Rattle.assembly_rules.specs.Text.{Token, isRun, endsLine, isBlank, begun, allOf, inFrontOf, begunBy, tokensOf, linesIn}
-use Rattle.assembly_rules.specs.Sums.{Label, worth, sumWorth}
+use Rattle.assembly_rules.specs.Text.{Token, begun, allOf, inFrontOf, begunBy, tokensOf, linesIn}
+use Rattle.assembly_rules.specs.Sums.{Label, sumWorth}
 use Rattle.assembly_rules.specs.Trees.{Sum, sumTokens, sumDepth, sumKnown}
 use Rattle.assembly_rules.specs.Operands.{Written}
 use Rattle.assembly_rules.specs.Operands.Written.{register, memory, value}
-use Rattle.assembly_rules.specs.Statements.{headedBy, Statement, statementOf, statementSize, offsetsSize, isByte, mayStand, operandWorth, namesKnown, allStand, itemsKnown, itemsStand, statementNumber, listedAs, listedAll, writtenOffset, allOffsets, numberBytes, allNumbers, secondBytes, moveBytes, instructionBytes, itemsBytes, statementBytes}
-use Rattle.assembly_rules.specs.Statements.Statement.{blank, items, instruction, refused}
+use Rattle.assembly_rules.specs.Statements.{headedBy, Statement, statementOf, statementSize, offsetsSize, operandWorth, namesKnown, allStand, itemsKnown, itemsStand, statementNumber, listedAs, listedAll, writtenOffset, allOffsets, allNumbers, secondBytes, moveBytes, instructionBytes, itemsBytes, statementBytes}
+use Rattle.assembly_rules.specs.Statements.Statement.{items, instruction}
 use Rattle.assembly_rules.specs.Assembly.{Said, saidBy, saidIn, keptWith, labelsFrom, labelStands, lineNumber, Assembled, assembled, assembledFrom, assembleOf}
 use Rattle.assembly_rules.proofs.TextLaws.{blank-plain}
 use Rattle.assembly_rules.proofs.WritingLaws.{Writes}
 use Rattle.assembly_rules.proofs.WritingLaws.Writes.{nothing, comment, blank as blankFirst}
+use Rattle.assembly_rules.proofs.LabelLaws.{quiet}
 use Rattle.assembly_rules.proofs.ValueLaws.{treeValue, tree-worth}
 use Rattle.assembly_rules.proofs.WholeLaws.{SameTokens, same-said}
 
@@ -158,9 +156,6 @@ behind-same cs ds w = ap allOf (longer cs)
     longer (c ∷ cs) = ap (inFrontOf c) (longer cs)
 
 -- a line without tokens says nothing, and has no number
-abbrev quiet : Said
-quiet = record { name = []; statement = Statement.blank }
-
 said-quiet : (line : List ℕ) (after : List (List ℕ)) → tokensOf line ≡ [] → saidIn (line ∷ after) ≡ quiet ∷ saidIn after
 unfolding saidIn saidBy headedBy statementOf
 said-quiet line after e = rw e

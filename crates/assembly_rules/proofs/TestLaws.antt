@@ -1,7 +1,7 @@
 -- Tests of lists: one of all of them fails exactly where it fails for one.
 -- Assumes nothing.
 use mathlib.Core.Path.{_≡_, refl, sym, ap, _∙_}
-use mathlib.Core.Bool.{Bool, true, false, not, _&&_, _||_, false≢true}
+use mathlib.Core.Bool.{Bool, true, false, _&&_, _||_, false≢true}
 use mathlib.Core.List.{List, [], _∷_, _++_, List·Memᴰ as In, List·Memᴰ·head as here, List·Memᴰ·tail as later}
 use mathlib.Core.Logic.{_⊎_, inl, inr, _↔_}
 
@@ -48,12 +48,7 @@ every-both test (a ∷ k) l = ap (λ (b : Bool). test a && b) (every-both test k
     regroup true b c = refl
     regroup false b c = refl
 
--- a test of a list that goes from one to the next is one of each
-pub as-every : {A : Type 0} (test : A → Bool) (f : List A → Bool) → f [] ≡ true → ((a : A) (l : List A) → f (a ∷ l) ≡ test a && f l) → (l : List A) → f l ≡ every test l
-as-every test f h k [] = h
-as-every test f h k (a ∷ l) = k a l ∙ ap (λ (b : Bool). test a && b) (as-every test f h k l)
-
--- so is one that asks for one of them, turned round
+-- a test that asks for one of a list holds exactly where it holds of one
 pub as-some : {A : Type 0} (test : A → Bool) (f : List A → Bool) → f [] ≡ false → ((a : A) (l : List A) → f (a ∷ l) ≡ test a || f l) → (l : List A) → (f l ≡ true) ↔ ((a : A) × (In a l × (test a ≡ true)))
 as-some {A} test f h k l = (finds l, λ x. one (x .0) (x .1 .0) (x .1 .1))
   where

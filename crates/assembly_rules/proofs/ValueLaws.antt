@@ -1,20 +1,17 @@
 -- What a tree is worth under some labels, which of its names are unknown, and which values stand in which place.
 -- Assumes nothing.
 use mathlib.Core.Path.{_≡_, refl, sym, ap, _∙_}
-use mathlib.Core.Bool.{Bool, true, false, _&&_, _||_, false≢true}
+use mathlib.Core.Bool.{Bool, true, false, _&&_}
 use mathlib.Core.List.{List, [], _∷_, _++_, append-nil}
 use mathlib.Core.Logic.{_⊎_, inl, inr, _↔_}
 use Prim.Native.Nat.{ℕ, _+_, _-_, _%_, _≤_, _<_}
 use native.Mathlib.Omega.{arith}
 use native.Mathlib.Nat.{mod-lt}
 use lib.Dec.{eqb, ltb, leb, lit<}
-use lib.ListN.{length}
 use borrow.Author.Tests.{ltb-true, leb-true, eqb-true, lt-ltb, le-leb, eq-eqb}
 use Rattle.listing_rules.specs.Entries.{Kind}
 use Rattle.listing_rules.specs.Entries.Kind.{'R, 'G, 'P, 'M, 'byte, 'word, 'bit, 'width, 'short, 'long}
-use Rattle.assembly_rules.specs.declared.Worth.{Worth}
-use Rattle.assembly_rules.specs.Text.{Token}
-use Rattle.assembly_rules.specs.Sums.{Label, labelWorth, worth, Read, worthIn, termOf, sumWithin, mostOpen, sumWorth}
+use Rattle.assembly_rules.specs.Sums.{Label, labelWorth, worth, worthIn, termOf, sumWithin, mostOpen, sumWorth}
 use Rattle.assembly_rules.specs.Trees.{Sum, Term, sumTokens, sumDepth, sumAdded, sumTaken, sumKnown, termKnown}
 use Rattle.assembly_rules.specs.Trees.Sum.{only, more}
 use Rattle.assembly_rules.specs.Trees.Term.{constant, name, inside}
