@@ -6,6 +6,7 @@ use mathlib.Core.List.{List, [], _∷_, _++_, append-assoc, append-nil}
 use mathlib.Core.Logic.{_⊎_, inl, inr}
 use Prim.Native.Nat.{ℕ, suc, _+_, _%_, _≤_}
 use native.Mathlib.Omega.{arith}
+use native.Mathlib.Nat.{add-zero, add-assoc}
 use lib.Dec.{eqb, ltb, leb}
 use lib.ListN.{length, length-append}
 use borrow.Author.Tests.{eqb-true, eqb-false, ltb-false, leb-true}
@@ -15,6 +16,7 @@ use Rattle.assembly_rules.specs.Sums.{Label}
 use Rattle.assembly_rules.specs.Statements.{headedBy, statementSize, statementNumber, statementBytes}
 use Rattle.assembly_rules.specs.Assembly.{Said, saidBy, saidIn, keptWith, labelStands, pastRoom, lineNumber, Assembled, assembled, assembledFrom}
 use Rattle.assembly_rules.proofs.TestLaws.{both-false}
+use Rattle.assembly_rules.proofs.LabelLaws.{sizesOf}
 use Rattle.assembly_rules.proofs.SizeLaws.{Sized, statement-sized}
 
 -- the number of the first line that has one, and that line; 0 and 0 where none has
@@ -109,3 +111,20 @@ bytes-inside (moreSized {s = s} {more = more} size sizes) labels kept first room
       ]
       | false ↦ λ e k. absurd (eqb-false n 0 e k)
     ]) refl h
+
+-- lines have as many bytes as their sizes, and those behind some others stand behind their bytes
+pub bytes-length : {said : List Said} → AllSized said → (labels : List Label) (first before : ℕ) → length (bytesFrom labels first before said) ≡ sizesOf said
+unfolding bytesFrom sizesOf
+bytes-length noneSized labels first before = refl
+bytes-length (moreSized {s = s} {more = more} size sizes) labels first before =
+    let count = before + statementSize (s .statement) in
+    length-append (statementBytes labels ((first + before) % 65536) (s .statement)) (bytesFrom labels first count more) ∙ rw (size .sized labels ((first + before) % 65536), bytes-length sizes labels first count)
+
+pub bytes-split : (ahead after : List Said) (labels : List Label) (first before : ℕ) → bytesFrom labels first before (ahead ++ after) ≡ bytesFrom labels first before ahead ++ bytesFrom labels first (before + sizesOf ahead) after
+unfolding bytesFrom sizesOf
+bytes-split [] after labels first before = ap (λ (x : ℕ). bytesFrom labels first x after) (sym (add-zero before))
+bytes-split (s ∷ ahead) after labels first before =
+    let count = before + statementSize (s .statement) in
+    let bytes = statementBytes labels ((first + before) % 65536) (s .statement) in
+    ap (λ (x : List ℕ). bytes ++ x) (bytes-split ahead after labels first count ∙ ap (λ (x : ℕ). bytesFrom labels first count ahead ++ bytesFrom labels first x after) (add-assoc before (statementSize (s .statement)) (sizesOf ahead)))
+    ∙ sym (append-assoc bytes (bytesFrom labels first count ahead) (bytesFrom labels first (before + (statementSize (s .statement) + sizesOf ahead)) after))
