@@ -4,10 +4,10 @@ use mathlib.Core.Path.{_≡_, refl, sym, ap, subst, _∙_}
 use mathlib.Core.Bool.{Bool, true, false, _&&_, false≢true}
 use mathlib.Core.List.{List, [], _∷_}
 use mathlib.Core.Logic.{_⊎_, inl, inr, _↔_}
-use Prim.Native.Nat.{ℕ, suc, _<_}
+use Prim.Native.Nat.{ℕ, _<_}
 use native.Mathlib.Omega.{arith}
 use lib.Dec.{eqb, ltb}
-use lib.ListN.{length, getD, List·getD-append}
+use lib.ListN.{getD, List·getD-append}
 use borrow.Author.Tests.{eqb-true, ltb-true, lt-ltb}
 use Rattle.ground_rules.specs.Choice.{pick}
 use Rattle.listing_rules.specs.Characters.{ascii, sameText}
@@ -20,7 +20,7 @@ use Rattle.assembly_rules.specs.Operands.{Written, closedMemory, endedMe
 use Rattle.assembly_rules.specs.Operands.Written.{register, memory, value, nothing}
 use Rattle.assembly_rules.proofs.TestLaws.{fails, not-both}
 use Rattle.assembly_rules.proofs.WritingLaws.{both-left, both-right}
-use Rattle.assembly_rules.proofs.ScanLaws.{sum-exactly, tree-sum, same-is, bad-first, no-register-sum}
+use Rattle.assembly_rules.proofs.ScanLaws.{sum-exactly, tree-sum, index-named, bad-first, no-register-sum}
 
 -- the registers by RRR, and the bases by MM
 abbrev pub registerText : ℕ → List ℕ
@@ -46,15 +46,6 @@ number-named = each 8 (λ n. registerNumber (registerText n) ≡ n) (((((((((tt,
 base-named : (mm : ℕ) → mm < 4 → baseNumber (registerNumber (baseText mm)) ≡ mm
 unfolding registerNumber indexIn sameText
 base-named = each 4 (λ mm. baseNumber (registerNumber (baseText mm)) ≡ mm) ((((tt, refl), refl), refl), refl)
-
-index-named : (names : List (List ℕ)) (text : List ℕ) → indexIn names text < length names → text ≡ getD names (indexIn names text) []
-unfolding indexIn
-index-named [] text h = absurd (omega arith)
-index-named (name ∷ names) text h = go (sameText name text) refl h (index-named names text)
-  where
-    go : (b : Bool) → sameText name text ≡ b → pick b 0 (suc (indexIn names text)) < length (name ∷ names) → (indexIn names text < length names → text ≡ getD names (indexIn names text) []) → text ≡ getD (name ∷ names) (pick b 0 (suc (indexIn names text))) []
-    go true e k later = sym (same-is name text e)
-    go false e k later = later (omega arith)
 
 pub register-named : (r : List ℕ) (n : ℕ) → registerNumber r ≡ n → n < 9 → r ≡ getD registersNamed n []
 unfolding registerNumber
