@@ -378,6 +378,10 @@ form-goes (coded e ts ws i os take) =
     let e1 = word-says (e .word) ts (λ two q. not-both (word-exactly entries (dataWord two) .1 (e, (i, q))) (no-data-word two)) in
     rw (e1 ∙ ap (wordStatement (e .word)) (operands-are os) ∙ coded-says e ws i take) (goes-by (instruction e ws) (allShallow ws) (coded-trees os take) (low-operands os take))
 
+-- a form that is not too deep is what its line says
+pub form-is : {body : List Token} {st : Statement} → FormOf body st → (Deep st → ⊥) → statementOf body ≡ st
+form-is f n = elim (form-goes f) [ inl x ↦ absurd (n (x .0)) | inr x ↦ x .1 ]
+
 -- a line has no word, or no form, or a form
 abbrev Formed : List Token → Type 0
 Formed body = (statementOf body ≡ refused 31) ⊎ ((st : Statement) × FormOf body st)

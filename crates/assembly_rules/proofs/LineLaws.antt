@@ -26,7 +26,7 @@ use Rattle.assembly_rules.specs.Assembly.{Said, saidBy, isReserved, mayK
 use Rattle.assembly_rules.proofs.WritingLaws.{both-left, both-right}
 use Rattle.assembly_rules.proofs.LabelLaws.{known-exactly, may-parts}
 use Rattle.assembly_rules.proofs.TestLaws.{holds, fails, not-both, either-true, both-false, every, every-fails}
-use Rattle.assembly_rules.proofs.FormLaws.{dataWord, word-exactly, sortOf, takes-sort, NoWord, sumsIn, FormOf, SomeTree, Deep, trees-fail, operands-every, items-every, form-trees, no-word-is, form-goes, line-formed}
+use Rattle.assembly_rules.proofs.FormLaws.{dataWord, word-exactly, sortOf, takes-sort, NoWord, sumsIn, FormOf, SomeTree, Deep, trees-fail, operands-every, items-every, form-trees, no-word-is, form-goes, form-is, line-formed}
 use Rattle.assembly_rules.proofs.FormLaws.FormOf.{empty, listed, coded}
 use Rattle.assembly_rules.proofs.ScanLaws.{same-is, is-same}
 use Rattle.assembly_rules.proofs.OperandLaws.{registerText, number-named, text-named, register-named}
@@ -259,8 +259,7 @@ module _ (labels kept : List Label) (address before room : ℕ) (name : List ℕ
   -- the number that a line has by its verdict
   as-formed : {body : List Token} {st : Statement} → FormOf body st → (Deep st → ⊥) → (b c d : Bool) → labelStands kept address name && knownIn labels st ≡ b → standIn labels address st ≡ c → pastRoom (statementSize st) before room ≡ d
       → numberOf (statementOf body) ≡ pick b (pick c (pick d 35 0) 34) 33
-  as-formed {body} {st} f n b c d p q r =
-      ap numberOf (elim (form-goes f) [ inl x ↦ absurd (n (x .0)) | inr x ↦ x .1 ]) ∙ formed-number f ∙ rw (p, q, r)
+  as-formed f n b c d p q r = ap numberOf (form-is f n) ∙ formed-number f ∙ rw (p, q, r)
 
   verdict-number : {body : List Token} {n : ℕ} → Verdict labels kept address before room name body n → numberOf (statementOf body) ≡ n
   verdict-number (no-word h) = ap numberOf (no-word-is h) ∙ refused-number .0

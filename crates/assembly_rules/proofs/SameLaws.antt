@@ -5,29 +5,44 @@ use mathlib.Core.Bool.{Bool, true, false}
 use mathlib.Core.List.{List, [], _∷_, _++_, append-nil}
 use mathlib.Core.Logic.{_⊎_, inl, inr}
 use Prim.Native.Nat.{ℕ, suc, _+_, _%_, _≤_}
+use native.Mathlib.Omega.{arith}
 use native.Mathlib.Nat.{add-zero}
 use lib.Dec.{eqb}
 use lib.ListN.{length}
 use Rattle.ground_rules.specs.Choice.{pick}
 use Rattle.listing_rules.specs.Entries.{Kind, Entry}
 use Rattle.assembly_rules.specs.Text.{Token, begun, allOf, inFrontOf, begunBy, tokensOf, linesIn}
-use Rattle.assembly_rules.specs.Sums.{Label, sumWorth}
-use Rattle.assembly_rules.specs.Trees.{Sum, sumTokens, sumDepth, sumKnown}
+use Rattle.assembly_rules.specs.Text.Token.{run}
+use Rattle.assembly_rules.specs.Numbers.{constantOf}
+use Rattle.assembly_rules.specs.declared.Constant.the-variants.{Value}
+use Rattle.assembly_rules.specs.Sums.{beginsDigit, Label, sumWorth}
+use Rattle.assembly_rules.specs.Trees.{Sum, sumTokens, sumDepth, sumAdded, sumTaken, sumKnown}
+use Rattle.assembly_rules.specs.Trees.Sum.{only}
+use Rattle.assembly_rules.specs.Trees.Term.{constant}
 use Rattle.assembly_rules.specs.Operands.{Written}
 use Rattle.assembly_rules.specs.Operands.Written.{register, memory, value}
 use Rattle.assembly_rules.specs.Statements.{headedBy, Statement, statementOf, statementSize, offsetsSize, operandWorth, namesKnown, allStand, itemsKnown, itemsStand, statementNumber, listedAs, listedAll, writtenOffset, allOffsets, allNumbers, secondBytes, moveBytes, instructionBytes, itemsBytes, statementBytes}
 use Rattle.assembly_rules.specs.Statements.Statement.{items, instruction}
 use Rattle.assembly_rules.specs.Assembly.{Said, saidBy, saidIn, keptWith, labelsFrom, labelStands, lineNumber, Assembled, assembled, assembledFrom, assembleOf}
+use Rattle.assembly_rules.proofs.NumberLaws.{constant-small}
 use Rattle.assembly_rules.proofs.TextLaws.{blank-plain}
 use Rattle.assembly_rules.proofs.WritingLaws.{Writes}
 use Rattle.assembly_rules.proofs.WritingLaws.Writes.{nothing, comment, blank as blankFirst}
 use Rattle.assembly_rules.proofs.LabelLaws.{quiet}
+use Rattle.assembly_rules.proofs.FormLaws.{FormOf, Deep, form-is}
 use Rattle.assembly_rules.proofs.ValueLaws.{treeValue, tree-worth}
 use Rattle.assembly_rules.proofs.WholeLaws.{SameTokens, same-said}
 
--- trees of the same value, with all names known, are worth the same: a constant for a sum, or a sum for it
+-- trees of the same value, with all names known, are worth the same
 pub trees-same : (labels : List Label) (s t : Sum) → sumDepth s ≤ 8 → sumDepth t ≤ 8 → sumKnown labels s ≡ true → sumKnown labels t ≡ true → treeValue labels s ≡ treeValue labels t → sumWorth labels (sumTokens s) ≡ sumWorth labels (sumTokens t)
 trees-same labels s t k l g h e = tree-worth labels s k ∙ rw (g, e) (rw (← h) (sym (tree-worth labels t l)))
+
+-- so a constant that is a sum's value may stand for it, or the sum for the constant
+pub constant-same : (labels : List Label) (s : Sum) (r : List ℕ) (v : ℕ) → beginsDigit r ≡ true → constantOf r ≡ Value v → sumDepth s ≤ 8 → sumKnown labels s ≡ true → treeValue labels s ≡ v → sumWorth labels (sumTokens s) ≡ sumWorth labels (run r ∷ [])
+unfolding sumTokens sumDepth sumAdded sumTaken sumKnown
+constant-same labels s r v d e l k h =
+    let small = constant-small r v e in
+    trees-same labels s (only false (constant r v d e)) l (omega arith) k refl (h ∙ omega (arith, small))
 
 -- sums of the same worth under some labels, in the same places
 module _ (labels : List Label) where
@@ -108,6 +123,10 @@ module _ (labels : List Label) where
             let p = places-same o (address + statementSize (instruction e us)) (e .kinds) in
             (rw (z .0, known-same o, p .0), rw (z .0, move-same e o, p .1 .1, z .1, p .1 .0)),
       )
+
+  -- tokens of such forms say such statements
+  pub form-same : {a b : List Token} {s t : Statement} → FormOf a s → FormOf b t → (Deep s → ⊥) → (Deep t → ⊥) → SameStatement s t → SameStatement (statementOf a) (statementOf b)
+  form-same f g m n h = rw (form-is f m, form-is g n) h
 
   said-labels : {ss ts : List Said} → SameSaid ss ts → (kept : List Label) (first : ℕ) → labelsFrom kept first ss ≡ labelsFrom kept first ts
   unfolding labelsFrom
