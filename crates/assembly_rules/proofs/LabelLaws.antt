@@ -134,8 +134,8 @@ known-exactly labels name =
 abbrev pub labelNamed : List Label → ℕ → List ℕ
 labelNamed labels i = getD labels i (label [] 0) .name
 
-abbrev pub Apart : List Label → Type 0
-Apart labels = (i j : ℕ) → i < j → j < length labels → labelNamed labels i ≡ labelNamed labels j → ⊥
+abbrev pub NamesApart : List Label → Type 0
+NamesApart labels = (i j : ℕ) → i < j → j < length labels → labelNamed labels i ≡ labelNamed labels j → ⊥
 
 in-at : (labels : List Label) (i : ℕ) (d : Label) → i < length labels → In (getD labels i d) labels
 in-at [] i d h = absurd (omega arith)
@@ -146,7 +146,7 @@ at-end : (labels : List Label) (l d : Label) → getD (labels ++ (l ∷ [])) (le
 at-end [] l d = refl
 at-end (m ∷ ls) l d = at-end ls l d
 
-new-apart : (kept : List Label) (name : List ℕ) (address : ℕ) → labelWorth kept name .known ≡ false → Apart kept → Apart (kept ++ (label name address ∷ []))
+new-apart : (kept : List Label) (name : List ℕ) (address : ℕ) → labelWorth kept name .known ≡ false → NamesApart kept → NamesApart (kept ++ (label name address ∷ []))
 new-apart kept name address h k i j l m e = go (ltb j (length kept)) refl
   where
     new : List Label
@@ -173,14 +173,14 @@ may-parts kept name h =
       (not-true (labelWorth kept name .known) (both-left (not (labelWorth kept name .known)) _ a), (not-true (isReserved name) (both-left (not (isReserved name)) _ b), ltb-true (length kept) 64 (both-right (not (isReserved name)) _ b))),
     )
 
-kept-apart : (kept : List Label) (address : ℕ) (name : List ℕ) → Apart kept → Apart (keptWith kept address name)
+kept-apart : (kept : List Label) (address : ℕ) (name : List ℕ) → NamesApart kept → NamesApart (keptWith kept address name)
 unfolding keptWith
 kept-apart kept address [] h = h
 kept-apart kept address (c ∷ cs) h =
-    (elim (mayKeep kept (c ∷ cs)) as (λ b. mayKeep kept (c ∷ cs) ≡ b → Apart (pick b (kept ++ (label (c ∷ cs) address ∷ [])) kept)) [ true ↦ λ e. new-apart kept (c ∷ cs) address (may-parts kept (c ∷ cs) e .1 .0) h | false ↦ λ e. h ]) refl
+    (elim (mayKeep kept (c ∷ cs)) as (λ b. mayKeep kept (c ∷ cs) ≡ b → NamesApart (pick b (kept ++ (label (c ∷ cs) address ∷ [])) kept)) [ true ↦ λ e. new-apart kept (c ∷ cs) address (may-parts kept (c ∷ cs) e .1 .0) h | false ↦ λ e. h ]) refl
 
 -- no two labels of a text have one name
-pub labels-apart : (said : List Said) (kept : List Label) (first : ℕ) → Apart kept → Apart (labelsFrom kept first said)
+pub labels-apart : (said : List Said) (kept : List Label) (first : ℕ) → NamesApart kept → NamesApart (labelsFrom kept first said)
 unfolding labelsFrom
 labels-apart [] kept first h = h
 labels-apart (s ∷ more) kept first h = labels-apart more (keptWith kept (first % 65536) (s .name)) (first + statementSize (s .statement)) (kept-apart kept (first % 65536) (s .name) h)

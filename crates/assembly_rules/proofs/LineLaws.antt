@@ -30,7 +30,7 @@ use Rattle.assembly_rules.proofs.FormLaws.{dataWord, word-exactly, sort
 use Rattle.assembly_rules.proofs.FormLaws.FormOf.{empty, listed, coded}
 use Rattle.assembly_rules.proofs.ScanLaws.{same-is, is-same}
 use Rattle.assembly_rules.proofs.OperandLaws.{registerText, number-named, text-named, register-named}
-use Rattle.assembly_rules.proofs.ValueLaws.{treeValue, tree-worth, sumNames, names-known, Fits, fits-exactly}
+use Rattle.assembly_rules.proofs.ValueLaws.{treeValue, tree-worth, sumNames, names-known, FitsPlace, fits-exactly}
 
 -- a name in one of a form's trees that is the name of no label
 abbrev pub Unknown : List Label → Statement → Type 0
@@ -38,7 +38,7 @@ Unknown labels st = SomeTree st (λ k s. (r : List ℕ) × (In r (sumNames s) ×
 
 -- a value that does not fit its place
 abbrev pub Unfit : List Label → ℕ → Statement → Type 0
-Unfit labels address st = SomeTree st (λ k s. Fits k (address + statementSize st) (treeValue labels s) → ⊥)
+Unfit labels address st = SomeTree st (λ k s. FitsPlace k (address + statementSize st) (treeValue labels s) → ⊥)
 
 -- the two tests of a form
 abbrev knownIn : List Label → Statement → Bool
@@ -123,7 +123,7 @@ stand-fails labels address {st = st} f n =
     let end = address + statementSize st in
     let t = trees-fail st (form-trees f) (standTree labels end) in
     let same : (k : Kind) (s : Sum) → In (k, sumTokens s) (sumsIn st) → standTree labels end (k, sumTokens s) ≡ mayStand k end (treeValue labels s) = λ k s m. ap (λ (w : Worth). mayStand k end (w .value)) (tree-worth labels s (shallow st n k s m)) in
-    let fit : (k : Kind) (s : Sum) → (mayStand k end (treeValue labels s) ≡ true) ↔ Fits k end (treeValue labels s) = λ k s. fits-exactly k end (treeValue labels s) (mod-lt (sumAdded labels s + (65536 - sumTaken labels s % 65536)) (lit< tt)) in (
+    let fit : (k : Kind) (s : Sum) → (mayStand k end (treeValue labels s) ≡ true) ↔ FitsPlace k end (treeValue labels s) = λ k s. fits-exactly k end (treeValue labels s) (mod-lt (sumAdded labels s + (65536 - sumTaken labels s % 65536)) (lit< tt)) in (
       λ h. let x = t .0 (sym (form-stands labels address f) ∙ h) in (x .0, (x .1 .0, (x .1 .1 .0, λ b. not-both (fit (x .0) (x .1 .0) .1 b) (sym (same (x .0) (x .1 .0) (x .1 .1 .0)) ∙ x .1 .1 .1)))),
       λ x. form-stands labels address f ∙ t .1 (x .0, (x .1 .0, (x .1 .1 .0, same (x .0) (x .1 .0) (x .1 .1 .0) ∙ fails (mayStand (x .0) end (treeValue labels (x .1 .0))) (λ y. x .1 .1 .1 (fit (x .0) (x .1 .0) .0 y))))),
     )

@@ -65,17 +65,17 @@ mutual
 abbrev pub AsByte : ℕ → Type 0
 AsByte v = (v < 256) ⊎ (0xFF80 ≤ v)
 
-abbrev pub Fits : Kind → ℕ → ℕ → Type 0
-Fits 'R end v = Unit {0}
-Fits 'G end v = Unit {0}
-Fits 'P end v = Unit {0}
-Fits 'M end v = AsByte v
-Fits 'byte end v = AsByte v
-Fits 'word end v = Unit {0}
-Fits 'bit end v = v < 8
-Fits 'width end v = (v ≡ 8) ⊎ (v ≡ 16)
-Fits 'short end v = (d : ℕ) × (((end + d) % 65536 ≡ v) × ((d < 0x80) ⊎ ((0xFF80 ≤ d) × (d < 65536))))
-Fits 'long end v = Unit {0}
+abbrev pub FitsPlace : Kind → ℕ → ℕ → Type 0
+FitsPlace 'R end v = Unit {0}
+FitsPlace 'G end v = Unit {0}
+FitsPlace 'P end v = Unit {0}
+FitsPlace 'M end v = AsByte v
+FitsPlace 'byte end v = AsByte v
+FitsPlace 'word end v = Unit {0}
+FitsPlace 'bit end v = v < 8
+FitsPlace 'width end v = (v ≡ 8) ⊎ (v ≡ 16)
+FitsPlace 'short end v = (d : ℕ) × (((end + d) % 65536 ≡ v) × ((d < 0x80) ⊎ ((0xFF80 ≤ d) × (d < 65536))))
+FitsPlace 'long end v = Unit {0}
 
 pub byte-exactly : (v : ℕ) → (isByte v ≡ true) ↔ AsByte v
 unfolding isByte
@@ -84,7 +84,7 @@ byte-exactly v = (
   λ x. either-true (ltb v 256) (leb 0xFF80 v) .1 (elim x [ inl l ↦ inl (lt-ltb v 256 l) | inr l ↦ inr (le-leb 0xFF80 v l) ]),
 )
 
-near-exactly : (end v : ℕ) → v < 65536 → (isNear (reachTo end v) ≡ true) ↔ Fits 'short end v
+near-exactly : (end v : ℕ) → v < 65536 → (isNear (reachTo end v) ≡ true) ↔ FitsPlace 'short end v
 unfolding reachTo
 near-exactly end v l = (
   λ h. (reach, (there, elim (either-true (ltb reach 0x80) (leb 0xFF80 reach) .0 h) [ inl n ↦ inl (ltb-true reach 0x80 n) | inr n ↦ inr (leb-true 0xFF80 reach n, mod-lt (v + 65536 - end % 65536) (lit< tt)) ])),
@@ -103,7 +103,7 @@ near-exactly end v l = (
     back : (d : ℕ) → (end + d) % 65536 ≡ v → d < 65536 → reach ≡ d
     back d e k = omega arith
 
-pub fits-exactly : (k : Kind) (end v : ℕ) → v < 65536 → (mayStand k end v ≡ true) ↔ Fits k end v
+pub fits-exactly : (k : Kind) (end v : ℕ) → v < 65536 → (mayStand k end v ≡ true) ↔ FitsPlace k end v
 unfolding mayStand
 fits-exactly 'R end v l = (λ h. tt, λ x. refl)
 fits-exactly 'G end v l = (λ h. tt, λ x. refl)
