@@ -130,6 +130,25 @@ known-exactly labels name =
     next true a w = refl
     next false a w = refl
 
+-- and then it is worth that label's address
+worth-told : (labels : List Label) (name : List ℕ) → labelWorth labels name .known ≡ true → (l : Label) × (In l labels × ((l .name ≡ name) × (labelWorth labels name .value ≡ l .address)))
+unfolding labelWorth
+worth-told [] name h = absurd (false≢true h)
+worth-told (l ∷ ls) name h =
+    let one : Bool → Worth = λ b. pick b (worth (l .address) true) (labelWorth ls name) in
+    (elim (sameText (l .name) name) as (λ b. sameText (l .name) name ≡ b → one b .known ≡ true → (m : Label) × (In m (l ∷ ls) × ((m .name ≡ name) × (one b .value ≡ m .address)))) [
+      | true ↦ λ e k. (l, (here refl, (same-is (l .name) name e, refl)))
+      | false ↦ λ e k. let x = worth-told ls name k in (x .0, (later (x .1 .0), x .1 .1))
+    ]) refl h
+
+-- so a name that is known is that of a line, and worth first and the bytes of the lines before it
+pub name-worth : (said : List Said) (first : ℕ) (name : List ℕ) → let w = labelWorth (labelsFrom [] first said) name in w .known ≡ true → (i : ℕ) × ((getD said i quiet .name ≡ name) × (w .value ≡ (first + sizesOf (take i said)) % 65536))
+name-worth said first name h =
+    let x = worth-told (labelsFrom [] first said) name h in
+    let k = labels-exactly said first (x .0) .0 (x .1 .0) in
+    let e = k .1 .1 .1 in
+    (k .0, (sym (ap (λ (l : Label). l .name) e) ∙ x .1 .1 .0, x .1 .1 .1 ∙ ap (λ (l : Label). l .address) e))
+
 -- the name at a place of a list of labels; two places never have one name
 abbrev pub labelNamed : List Label → ℕ → List ℕ
 labelNamed labels i = getD labels i (label [] 0) .name
