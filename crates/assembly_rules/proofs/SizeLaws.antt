@@ -45,7 +45,7 @@ offsets-size labels (memory mm aa ts ∷ ws) = go (eqb aa 1) (offsets-size label
     go true l = omega arith
     go false l = omega arith
 
-number-size : (k : Kind) (end n : ℕ) → length (numberBytes k end n) ≡ kindSize k
+pub number-size : (k : Kind) (end n : ℕ) → length (numberBytes k end n) ≡ kindSize k
 number-size 'R end n = refl
 number-size 'G end n = refl
 number-size 'P end n = refl

@@ -13,7 +13,7 @@ unfoldable pub beginsRun : List ℕ → Bool
 beginsRun [] = false
 beginsRun (c ∷ cs) = isRun c
 
-pub allRun : List ℕ → Bool
+unfoldable pub allRun : List ℕ → Bool
 allRun [] = true
 allRun (c ∷ cs) = isRun c && allRun cs
 

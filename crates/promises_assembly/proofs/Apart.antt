@@ -1,14 +1,13 @@
 -- Lines, tokens and operands one by one: a list is cut behind what no cut is in, and texts with no run across their border have their tokens one behind the other.
 -- Assumes nothing.
-use mathlib.Core.Path.{_≡_, refl, sym, ap, _∙_}
-use mathlib.Core.Bool.{Bool, true, false, not, _&&_, false≢true}
-use mathlib.Core.List.{List, [], _∷_, _++_}
+use mathlib.Core.{Path._≡_, Path.refl, Path.sym, Path.ap, Path.subst, Path._∙_, Bool.Bool, Bool.true, Bool.false, Bool.not, Bool._&&_, Bool.false≢true, List.List, List.[], List._∷_, List._++_, List.append-assoc, List.append-nil}
 use Prim.Native.Nat.{ℕ}
+use lib.{Dec.ltb, ListN.length}
 use Rattle.ground_rules.specs.Choice.{pick}
-use Rattle.assembly_rules.specs.Text.{capitalOf, isRun, isBlank, endsLine, Token, Begun, begun, runBefore, allOf, inFrontOf, begunBy, tokensOf, leadingRun, ahead, cutAt}
-use Rattle.assembly_rules.specs.Text.Token.{run, mark}
-use Rattle.assembly_rules.proofs.TextLaws.{no-run}
-use Rattle.assembly_rules.proofs.WritingLaws.{beginsRun, both-left, both-right, none-begins}
+use Rattle.listing_rules.specs.Characters.{sameText}
+use Rattle.assembly_rules.specs.Text.{capitals, endsLine, Token, Token.run, tokensOf, cutAt}
+use Rattle.assembly_rules.proofs.{ScanLaws.same-is, WritingLaws.beginsRun, WritingLaws.allRun, WritingLaws.Writes, WritingLaws.both-left, WritingLaws.both-right, WritingLaws.written, WritingLaws.all-written}
+use Rattle.assembly_rules.proofs.WritingLaws.Writes.{nothing, comment, blank, single, several}
 
 -- whether a test fails for each of a list
 unfoldable pub noneOf : {A : Type 0} → (A → Bool) → List A → Bool
@@ -30,33 +29,40 @@ unfolding cutAt noneOf
 cut-last test [] h = refl
 cut-last test (b ∷ part) h = rw (fails (test b) (both-left (not (test b)) (noneOf test part) h), cut-last test part (both-right (not (test b)) (noneOf test part) h))
 
--- tokens behind what some characters begin with
-abbrev behind : Begun → List Token → Begun
-behind b ts = begun (b .front) (b .rest ++ ts)
+none-behind : {A : Type 0} (test : A → Bool) (a b : List A) → noneOf test (a ++ b) ≡ true → noneOf test b ≡ true
+unfolding noneOf
+none-behind test [] b h = h
+none-behind test (c ∷ a) b h = none-behind test a b (both-right (not (test c)) _ h)
 
-all-behind : (front : List ℕ) (rest ts : List Token) → runBefore front (rest ++ ts) ≡ runBefore front rest ++ ts
-all-behind [] rest ts = refl
-all-behind (c ∷ cs) rest ts = refl
+begins-behind : (a b : List ℕ) → beginsRun a ≡ false → beginsRun b ≡ false → beginsRun (a ++ b) ≡ false
+unfolding beginsRun
+begins-behind [] b h k = k
+begins-behind (c ∷ a) b h k = h
 
-front-behind : (c : ℕ) (b : Begun) (ts : List Token) → endsLine c ≡ false → inFrontOf c (behind b ts) ≡ behind (inFrontOf c b) ts
-unfolding inFrontOf
-front-behind c b ts h = rw (h, all-behind (b .front) (b .rest) ts) (go (isRun c) (isBlank c))
-  where
-    go : (r k : Bool) → pick r (begun (capitalOf c ∷ b .front) (b .rest ++ ts)) (pick k (begun [] (allOf b ++ ts)) (begun [] (mark c ∷ (allOf b ++ ts)))) ≡ behind (pick r (begun (capitalOf c ∷ b .front) (b .rest)) (pick k (begun [] (allOf b)) (begun [] (mark c ∷ allOf b)))) ts
-    go true k = refl
-    go false true = refl
-    go false false = refl
-
-begun-none : (cs : List ℕ) → beginsRun cs ≡ false → begunBy cs ≡ begun [] (tokensOf cs)
-unfolding leadingRun
-begun-none cs h = let n = none-begins cs h in rw (← (no-run cs n), ← n)
-
-begun-apart : (text cs : List ℕ) → noneOf endsLine text ≡ true → beginsRun cs ≡ false → begunBy (text ++ cs) ≡ behind (begunBy text) (tokensOf cs)
-unfolding noneOf begunBy
-begun-apart [] cs h k = begun-none cs k
-begun-apart (c ∷ text) cs h k = ap (inFrontOf c) (begun-apart text cs (both-right (not (endsLine c)) (noneOf endsLine text) h) k) ∙ front-behind c (begunBy text) (tokensOf cs) (fails (endsLine c) (both-left (not (endsLine c)) (noneOf endsLine text) h))
+writes-behind : {ts us : List Token} {a b : List ℕ} → Writes ts a → noneOf endsLine a ≡ true → beginsRun b ≡ false → Writes us b → Writes (ts ++ us) (a ++ b)
+unfolding noneOf
+writes-behind nothing h k v = v
+writes-behind (comment c cs p q) h k v = absurd (false≢true (rw q at (both-left (not (endsLine c)) _ h)))
+writes-behind (blank c p w) h k v = blank c p (writes-behind w (both-right (not (endsLine c)) _ h) k v)
+writes-behind (single c p q r w) h k v = single c p q r (writes-behind w (both-right (not (endsLine c)) _ h) k v)
+writes-behind {us = us} {b = b} (several {cs = cs} c r p q w) h k v =
+    subst (Writes _) (sym (append-assoc (c ∷ r) cs b)) (several c r p (begins-behind cs b q k) (writes-behind w (none-behind endsLine (c ∷ r) cs h) k v))
 
 -- a text that ends no line, and behind it characters that begin no run: the tokens of both
 pub tokens-apart : (text cs : List ℕ) → noneOf endsLine text ≡ true → beginsRun cs ≡ false → tokensOf (text ++ cs) ≡ tokensOf text ++ tokensOf cs
-unfolding tokensOf
-tokens-apart text cs h k = ap allOf (begun-apart text cs h k) ∙ all-behind (begunBy text .front) (begunBy text .rest) (tokensOf cs)
+tokens-apart text cs h k = written (writes-behind (all-written text) h k (all-written cs))
+
+-- whether a text is a run in capitals
+unfoldable pub isName : List ℕ → Bool
+isName w = ltb 0 (length w) && (allRun w && (sameText (capitals w) w && noneOf endsLine w))
+
+-- it is one token, and ends no line
+pub name-tokens : (w : List ℕ) → isName w ≡ true → (tokensOf w ≡ run w ∷ []) × (noneOf endsLine w ≡ true)
+unfolding isName beginsRun
+name-tokens [] h = absurd (false≢true h)
+name-tokens (c ∷ r) h =
+    let all = both-right (ltb 0 (length (c ∷ r))) _ h in
+    let runs = both-left (allRun (c ∷ r)) _ all in
+    let rest = both-right (allRun (c ∷ r)) _ all in
+    let own = same-is (capitals (c ∷ r)) (c ∷ r) (both-left (sameText (capitals (c ∷ r)) (c ∷ r)) _ rest) in
+    (sym (ap tokensOf (append-nil (c ∷ r))) ∙ written (several c r runs refl nothing) ∙ ap (λ (w : List ℕ). run w ∷ []) own, both-right (sameText (capitals (c ∷ r)) (c ∷ r)) _ rest)

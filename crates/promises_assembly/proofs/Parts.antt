@@ -1,24 +1,15 @@
 -- The text of a line: a word, and behind it operands, which the assembler finds between commas as they were listed, and no label.
 -- Assumes nothing.
-use mathlib.Core.Path.{_≡_, refl, sym, ap, _∙_}
-use mathlib.Core.Bool.{Bool, true, false, not, _&&_, false≢true}
-use mathlib.Core.List.{List, [], _∷_, _++_, append-nil}
+use mathlib.Core.{Path._≡_, Path.refl, Path.ap, Path._∙_, Bool.true, Bool.false, Bool.false≢true, List.List, List.[], List._∷_, List._++_, List.append-nil}
 use Prim.Native.Nat.{ℕ}
 use lib.Dec.{eqb}
 use Rattle.ground_rules.specs.Choice.{pick}
-use Rattle.listing_rules.specs.Forms.{Operand, spelled, following}
-use Rattle.listing_rules.specs.Forms.Operand.{none, register, memory, number, digit}
+use Rattle.listing_rules.specs.Forms.{Operand, Operand.none, Operand.register, Operand.memory, Operand.number, Operand.digit, spelled, following}
 use Rattle.listing_rules.proofs.SpellingLaws.{present, marks}
-use Rattle.assembly_rules.specs.Text.{isRun, isDigit, isCapital, capitalOf, isBlank, endsLine, Token, isComma, begunBy, tokensOf, cutAt}
-use Rattle.assembly_rules.specs.Text.Token.{run, mark}
-use Rattle.assembly_rules.specs.Sums.{beginsDigit}
-use Rattle.assembly_rules.specs.Statements.{headed, headedBy, operandParts, statementOf}
-use Rattle.assembly_rules.specs.Assembly.{Said, saidBy}
-use Rattle.assembly_rules.proofs.TextLaws.{tokens-blank, tokens-mark}
-use Rattle.assembly_rules.proofs.WritingLaws.{beginsRun}
-use Rattle.promises_assembly.proofs.Apart.{noneOf, fails, cut-first, cut-last, tokens-apart}
-use Rattle.promises_assembly.proofs.Constants.{isWord, isName, word-tokens, word-free}
-use Rattle.promises_assembly.proofs.Places.{isSome, opens, Voiced}
+use Rattle.assembly_rules.specs.Text.{isRun, isDigit, isCapital, capitalOf, isBlank, endsLine, Token, Token.run, Token.mark, isComma, begunBy, tokensOf, cutAt}
+use Rattle.assembly_rules.specs.{Statements.headed, Statements.headedBy, Statements.operandParts, Statements.statementOf, Assembly.saidBy}
+use Rattle.assembly_rules.proofs.{TextLaws.tokens-blank, TextLaws.tokens-mark, WritingLaws.beginsRun}
+use Rattle.promises_assembly.proofs.{Apart.noneOf, Apart.fails, Apart.cut-first, Apart.cut-last, Apart.tokens-apart, Apart.isName, Apart.name-tokens, Places.isSome, Places.opens, Places.Voiced}
 
 -- an operand that is there stands behind its separator
 pub some-present : (o : Operand) (os : List Operand) → isSome o ≡ true → present (o ∷ os) ≡ o ∷ present os
@@ -88,11 +79,6 @@ parted-next o os v p =
       lead = rw (first, all) (parts-lead ts us (v .begins) ∙ p .cuts ts (v .uncut));
       heads = λ r. rw first (no-label ts us r (v .begins));
     }
-
-name-tokens : (w : List ℕ) → isName w ≡ true → (tokensOf w ≡ run w ∷ []) × (noneOf endsLine w ≡ true)
-unfolding isName
-name-tokens [] h = absurd (false≢true h)
-name-tokens (c ∷ cs) h = (word-tokens c cs h, word-free (c ∷ cs) h)
 
 -- so a line of a word and such operands says what the word and its tokens say, and has no label
 pub line-said : (word : List ℕ) (os : List Operand) → isName word ≡ true → Parted os → saidBy (word ++ marks 32 os) ≡ record { name = []; statement = statementOf (run word ∷ tokensOf (marks 32 os)) }

@@ -1,41 +1,22 @@
 -- Assembling a listing gives back the listed bytes.
 -- Assumes nothing.
-use mathlib.Core.Path.{_≡_, refl, sym, ap, subst, _∙_}
-use mathlib.Core.Bool.{Bool, true, false, not, _&&_, _||_}
-use mathlib.Core.List.{List, [], _∷_, _++_, append-assoc, append-nil}
-use Prim.Native.Nat.{ℕ, zero, suc, _+_, _*_, _-_, _%_, _≤_}
+use mathlib.Core.{Path._≡_, Path.refl, Path.sym, Path.ap, Path.subst, Path._∙_, Bool.Bool, Bool.true, Bool.false, Bool.not, Bool._&&_, List.List, List.[], List._∷_, List._++_, List.append-assoc, List.append-nil}
+use Prim.Native.Nat.{ℕ, zero, suc, _+_, _-_, _%_, _≤_}
 use native.Mathlib.Nat.{mod-mod, add-zero}
 use native.Mathlib.Omega.{arith}
-use lib.Dec.{T, eqb, ltb, leb}
-use lib.ListN.{length, getD, take, drop, length-take, length-append, take-append-drop}
-use lib.Seq.{take-at}
+use lib.{Dec.T, Dec.eqb, Dec.ltb, Dec.leb, ListN.length, ListN.take, ListN.drop, ListN.length-take, ListN.length-append, ListN.take-append-drop, Seq.take-at}
 use borrow.Author.Tests.{le-ltb, lt-ltb}
 use Rattle.ground_rules.specs.Choice.{pick}
-use Rattle.listing_rules.specs.Characters.{ascii, sameText, numberText}
-use Rattle.listing_rules.specs.Forms.{Operand, spelled}
-use Rattle.listing_rules.specs.Forms.Operand.{number}
-use Rattle.listing_rules.specs.Lines.{dataLine}
-use Rattle.listing_rules.specs.Items.{itemOf, countOf}
+use Rattle.listing_rules.specs.{Characters.ascii, Characters.sameText, Forms.spelled, Forms.Operand.number, Lines.dataLine, Items.itemOf, Items.countOf}
 use Rattle.listing_rules.specs.Listings.{TextLine, charsOf, lineAt, linesBy, linesOf, allChars, allBytes, keptIn, listLimit, placed, listingOf}
-use Rattle.listing_rules.proofs.SpellingLaws.{marks, present, Bytes}
-use Rattle.listing_rules.proofs.RowLaws.{whole-at, count-some, count-there}
-use Rattle.listing_rules.proofs.Theorems.{all-listed, bytes-append, placed-text}
-use Rattle.listing_rules.proofs.Unlisting.{Spoken, numbers, spoken-data, spoken-free, free, numbers-present, Line, line-of, bytes-take, bytes-drop}
-use Rattle.listing_rules.proofs.Unlisting.Line.{words, raw}
-use Rattle.assembly_rules.specs.Text.{isRun, isDigit, isCapital, capitalOf, isBlank, endsLine, Token, isComma, begunBy, tokensOf, cutAt, linesIn}
-use Rattle.assembly_rules.specs.Text.Token.{run}
-use Rattle.assembly_rules.specs.Sums.{Label, depthOf, mostOpen, sumWorth}
-use Rattle.assembly_rules.specs.Statements.{headedBy, operandParts, allSums, allLow, itemsFrom, statementOf, statementSize, isByte, itemsKnown, itemsStand, statementNumber, itemsBytes, statementBytes}
-use Rattle.assembly_rules.specs.Statements.Statement.{items}
-use Rattle.assembly_rules.specs.Assembly.{Said, saidBy, saidIn, keptWith, labelsFrom, labelStands, lineNumber, assembled, assembledFrom, assembleOf}
-use Rattle.assembly_rules.proofs.WritingLaws.{Writes, written}
-use Rattle.assembly_rules.proofs.WholeLaws.{SameTokens, same-said}
-use Rattle.assembly_rules.proofs.WholeLaws.SameTokens.{noLine, oneMore}
-use Rattle.promises_assembly.proofs.Apart.{noneOf, cut-first}
-use Rattle.promises_assembly.proofs.Constants.{wordChar, isWord, isName, byte-constant}
-use Rattle.promises_assembly.proofs.Places.{isSome, opens, Voiced}
+use Rattle.listing_rules.proofs.{SpellingLaws.marks, SpellingLaws.present, SpellingLaws.Bytes, RowLaws.whole-at, RowLaws.count-some, RowLaws.count-there, Theorems.all-listed, Theorems.bytes-append, Theorems.placed-text}
+use Rattle.listing_rules.proofs.Unlisting.{numbers, spoken-data, spoken-free, free, numbers-present, Line, Line.words, Line.raw, line-of, bytes-take, bytes-drop}
+use Rattle.assembly_rules.specs.Text.{capitals, isRun, isDigit, isCapital, capitalOf, endsLine, begunBy, tokensOf, cutAt, linesIn}
+use Rattle.assembly_rules.specs.Statements.{Statement.items, headedBy, allSums, allLow, itemsFrom, statementOf, statementSize, isByte, itemsKnown, itemsStand, statementNumber, itemsBytes, statementBytes}
+use Rattle.assembly_rules.specs.{Sums.Label, Assembly.Said, Assembly.saidBy, Assembly.saidIn, Assembly.keptWith, Assembly.labelsFrom, Assembly.labelStands, Assembly.lineNumber, Assembly.assembled, Assembly.assembledFrom, Assembly.assembleOf}
+use Rattle.assembly_rules.proofs.{WritingLaws.allRun, WritingLaws.Writes, WritingLaws.written, WholeLaws.SameTokens, WholeLaws.SameTokens.noLine, WholeLaws.SameTokens.oneMore, WholeLaws.same-said}
+use Rattle.promises_assembly.proofs.{Apart.noneOf, Apart.cut-first, Apart.isName, Constants.byte-constant, Places.isSome, Places.opens, Instructions.Assembles, Instructions.instruction-assembles}
 use Rattle.promises_assembly.proofs.Parts.{spokenParts, Parted, parted-none, parted-next, line-said}
-use Rattle.promises_assembly.proofs.Instructions.{Assembles, instruction-assembles}
 
 -- the items of a DB line: numbers of one byte
 record Items (bytes : List ℕ) : Type 0 where
@@ -66,7 +47,7 @@ items-of (b ∷ bytes) h =
     }
 
 data-said : (b : ℕ) (bytes : List ℕ) → Bytes (b ∷ bytes) → saidBy (ascii "DB" ++ marks 32 (numbers (b ∷ bytes))) ≡ record { name = []; statement = items false (spokenParts (numbers (b ∷ bytes))) }
-unfolding statementOf itemsFrom sameText isName isWord wordChar isRun isDigit isCapital capitalOf endsLine numbers spokenParts
+unfolding statementOf itemsFrom sameText isName allRun capitals noneOf isRun isDigit isCapital capitalOf endsLine numbers spokenParts
 data-said b bytes h =
     let i = items-of (b ∷ bytes) h in
     line-said (ascii "DB") (numbers (b ∷ bytes)) refl (i .parted) ∙ rw (i .parted .lead, numbers-present (b ∷ bytes), i .sums, i .low)

@@ -1,43 +1,22 @@
--- Every instruction that the decoder knows has an entry with its word and its places: the one that the assembler takes, and the one that its pair is told by.
+-- Every instruction that has a line has an entry that the assembler takes for its word and places, with the fields of its pair.
 -- Assumes nothing.
-use mathlib.Core.Path.{_≡_, refl, sym, ap, subst, _∙_}
-use mathlib.Core.Bool.{Bool, true, false, not, _&&_, _||_, false≢true}
-use mathlib.Core.List.{List, [], _∷_, _++_}
+use mathlib.Core.{Path._≡_, Path.refl, Path.sym, Path.ap, Path.subst, Path._∙_, Bool.Bool, Bool.true, Bool.false, Bool.not, Bool._&&_, Bool._||_, Bool.false≢true, List.List, List.[], List._∷_}
 use Prim.Native.Nat.{ℕ, zero, suc, _<_}
 use native.Mathlib.Omega.{arith}
-use lib.Dec.{eqb, ltb}
-use lib.ListN.{getD}
+use lib.{Dec.eqb, Dec.ltb, ListN.getD}
 use borrow.Author.Tests.{eqb-true, eqb-false}
-use Rattle.ground_rules.specs.Bits.{bitOf, fieldOf}
-use Rattle.ground_rules.specs.Choice.{pick}
-use Rattle.instruction_rules.specs.declared.Memory.{Memory}
-use Rattle.instruction_rules.specs.declared.Pair.{Pair}
-use Rattle.instruction_rules.specs.declared.Shape.{Shape}
-use Rattle.instruction_rules.specs.declared.Decoded.the-variants.{Instruction, ControlUsed}
-use Rattle.instruction_rules.specs.Pairs.{meets, pairOf}
-use Rattle.instruction_rules.specs.Rows.{isControl}
-use Rattle.instruction_rules.specs.Table.{SummaryRow, table}
-use Rattle.instruction_rules.specs.Reading.{fits, lookup, decodeOf}
-use Rattle.listing_rules.specs.declared.Slot.{Slot}
-use Rattle.listing_rules.specs.declared.Slot.the-variants.{Empty, Name, Place, Number, Target, Digit}
-use Rattle.listing_rules.specs.Characters.{ascii, sameText}
-use Rattle.listing_rules.specs.Mnemonics.{isJump, mnemonicOf}
-use Rattle.listing_rules.specs.Forms.{Operand, afterOffset, filled, slotsOf}
-use Rattle.listing_rules.specs.Entries.{Kind, Entry, entries}
-use Rattle.listing_rules.specs.Entries.Kind.{'R, 'G, 'P, 'M, 'byte, 'word, 'bit, 'width, 'short, 'long}
-use Rattle.listing_rules.specs.Back.{asked, offered, fitsForm, entryFor, pairFrom}
-use Rattle.listing_rules.proofs.SpellingLaws.{present}
-use Rattle.listing_rules.proofs.BackLaws.{fill, listed, isMove}
-use Rattle.listing_rules.proofs.EntryLaws.{fitting}
-use Rattle.assembly_rules.specs.Text.{capitalOf, isDigit, isCapital, isRun, endsLine}
-use Rattle.assembly_rules.specs.Operands.{Written, takesRegister, takes, takesAll, Chosen, entryIn, hasWord}
-use Rattle.assembly_rules.specs.Operands.Chosen.{taken, untaken}
-use Rattle.assembly_rules.specs.Statements.{memoriesIn}
-use Rattle.assembly_rules.proofs.WritingLaws.{both-left, both-right}
+use Rattle.ground_rules.specs.{Bits.bitOf, Bits.fieldOf, Choice.pick}
+use Rattle.instruction_rules.specs.{declared.Memory.Memory, declared.Pair.Pair, declared.Shape.Shape, declared.Decoded.the-variants.Instruction, declared.Decoded.the-variants.ControlUsed}
+use Rattle.instruction_rules.specs.{Pairs.meets, Pairs.pairOf, Rows.isControl, Table.SummaryRow, Table.table, Reading.fits, Reading.lookup, Reading.decodeOf}
+use Rattle.listing_rules.specs.declared.Slot.{Slot, the-variants.Empty, the-variants.Name, the-variants.Place, the-variants.Number, the-variants.Target, the-variants.Digit}
+use Rattle.listing_rules.specs.{Characters.ascii, Characters.sameText, Mnemonics.isJump, Mnemonics.isListed, Mnemonics.mnemonicOf, Forms.afterOffset, Forms.filled, Forms.slotsOf, Back.digitsIn, Back.rrrIn}
+use Rattle.listing_rules.specs.Entries.{Kind, Entry, entries, Kind.'R, Kind.'G, Kind.'P, Kind.'M, Kind.'byte, Kind.'word, Kind.'bit, Kind.'width, Kind.'short, Kind.'long}
+use Rattle.listing_rules.proofs.{SpellingLaws.present, BackLaws.fill, BackLaws.listed, BackLaws.isMove, EntryLaws.fitting}
+use Rattle.assembly_rules.specs.Text.{capitalOf, capitals, isDigit, isCapital, isRun, endsLine}
+use Rattle.assembly_rules.specs.{Operands.isMemoryKind, Operands.takesRegister, Operands.takes, Operands.takesAll, Operands.Chosen, Operands.Chosen.taken, Operands.Chosen.untaken, Operands.entryIn, Operands.hasWord, Statements.kindSize, Statements.memoriesIn}
+use Rattle.assembly_rules.proofs.WritingLaws.{allRun, both-left, both-right}
 use Rattle.promises_codes.proofs.CodeNumbers.{allBelow, of-all}
-use Rattle.promises_assembly.proofs.Apart.{noneOf, fails}
-use Rattle.promises_assembly.proofs.Constants.{wordChar, isWord, isName}
-use Rattle.promises_assembly.proofs.Sketches.{blunt, blunts, draw, draws, sketch}
+use Rattle.promises_assembly.proofs.{Apart.noneOf, Apart.fails, Apart.isName, Sketches.blunt, Sketches.blunts, Sketches.draw, Sketches.draws, Sketches.sketch}
 
 -- the kinds by number
 unfoldable pub kindNumber : Kind → ℕ
@@ -84,7 +63,6 @@ agrees k (Number at two) = sameKind k (pick two 'word 'byte)
 agrees k (Target at two) = sameKind k (pick two 'long 'short)
 agrees k (Digit n) = pick (ltb n 8) (sameKind k 'bit) (sameKind k 'width && (eqb n 8 || eqb n 16))
 
--- an empty place; one that has an offset byte, and one that has other bytes
 unfoldable pub isEmpty : Slot → Bool
 isEmpty Empty = true
 isEmpty (Name r) = false
@@ -92,14 +70,6 @@ isEmpty (Place m at) = false
 isEmpty (Number at two) = false
 isEmpty (Target at two) = false
 isEmpty (Digit n) = false
-
-unfoldable pub isPlace : Slot → Bool
-isPlace Empty = false
-isPlace (Name r) = false
-isPlace (Place m at) = true
-isPlace (Number at two) = false
-isPlace (Target at two) = false
-isPlace (Digit n) = false
 
 -- places of these kinds, and empty ones behind them
 unfoldable pub agreesAll : List Kind → List Slot → Bool
@@ -109,23 +79,9 @@ agreesAll (k ∷ ks) [] = false
 agreesAll (k ∷ ks) (a ∷ places) = agrees k a && agreesAll ks places
 
 -- no memory behind a number
-unfoldable pub orderly : List Slot → Bool
+unfoldable pub orderly : List Kind → Bool
 orderly [] = true
-orderly (Empty ∷ places) = orderly places
-orderly (Name r ∷ places) = orderly places
-orderly (Place m at ∷ places) = orderly places
-orderly (Number at two ∷ places) = noneOf isPlace places
-orderly (Target at two ∷ places) = noneOf isPlace places
-orderly (Digit n ∷ places) = orderly places
-
-unfoldable pub same : Bool → Bool → Bool
-same true b = b
-same false b = not b
-
-pub same-as : (a b : Bool) → same a b ≡ true → a ≡ b
-unfolding same
-same-as true b h = sym h
-same-as false b h = sym (fails b h)
+orderly (k ∷ ks) = (eqb (kindSize k) 0 || noneOf isMemoryKind ks) && orderly ks
 
 allTrue : List Bool → Bool
 allTrue [] = true
@@ -137,28 +93,28 @@ each-true [] i h = refl
 each-true (b ∷ bs) zero h = both-left b (allTrue bs) h
 each-true (b ∷ bs) (suc i) h = each-true bs i (both-right b (allTrue bs) h)
 
--- what is asked of the entry that is taken, beside the one that the pair is told by
-asks : Shape → List Slot → Entry → Entry → List Bool
-asks s places e f =
+-- what is asked of the entry that is taken for an instruction with some pair and opcode
+asks : Pair → ℕ → Shape → List Slot → Entry → List Bool
+asks p code s places e =
     isName (mnemonicOf s)
     ∷ not (sameText (mnemonicOf s) (ascii "DB"))
     ∷ not (sameText (mnemonicOf s) (ascii "DW"))
     ∷ hasWord entries (mnemonicOf s)
     ∷ agreesAll (e .kinds) places
-    ∷ orderly places
-    ∷ same (ltb 1 (memoriesIn (e .kinds))) (isMove s)
-    ∷ eqb (f .rrr) (e .rrr)
-    ∷ eqb (f .dd) (e .dd)
-    ∷ eqb (f .w) (e .w)
-    ∷ eqb (f .opcode) (e .opcode)
+    ∷ orderly (e .kinds)
+    ∷ pick (isMove s) (ltb 1 (memoriesIn (e .kinds))) (not (ltb 1 (memoriesIn (e .kinds))))
+    ∷ eqb (rrrIn (e .rrr) (sketch places)) (p .rrr)
+    ∷ eqb (e .dd) (p .dd)
+    ∷ eqb (e .w) (p .w)
+    ∷ eqb (e .opcode) code
     ∷ []
 
-regularBy : Shape → List Slot → Entry → Chosen → Bool
-regularBy s places f (taken e) = allTrue (asks s places e f)
-regularBy s places f untaken = false
+regularBy : Pair → ℕ → Shape → List Slot → Chosen → Bool
+regularBy p code s places (taken e) = allTrue (asks p code s places e)
+regularBy p code s places untaken = false
 
-regular : Shape → Memory → Bool
-regular s to = let places = listed (slotsOf s to) in regularBy s places (entryFor entries (mnemonicOf s) (sketch places)) (entryIn entries (mnemonicOf s) (draws (sketch places)))
+regular : Pair → ℕ → Shape → Memory → Bool
+regular p code s to = let places = listed (slotsOf s to) in regularBy p code s places (entryIn entries (mnemonicOf s) (draws (sketch places)))
 
 pairAt : ℕ → ℕ → ℕ → ℕ → ℕ → ℕ → Pair
 pairAt x d a w o m = record { rrr = x; dd = d; aa = a; w = w; opcode = o; mm = m }
@@ -166,18 +122,18 @@ pairAt x d a w o m = record { rrr = x; dd = d; aa = a; w = w; opcode = o; mm = m
 -- a row: for each W, dd and RRR that it may have
 rowRegular : ℕ → ℕ → ℕ → Memory → SummaryRow → Bool
 rowRegular a o m to r =
-    allBelow 2 (λ (w : ℕ). allBelow 4 (λ (d : ℕ). allBelow 8 (λ (x : ℕ). not (meets (r .rrr) w x && (meets (r .w) w w && (meets (r .dd) w d && not (r .control && eqb x 6)))) || regular (r .shape (pairAt x d a w o m)) to)))
+    allBelow 2 (λ (w : ℕ). allBelow 4 (λ (d : ℕ). allBelow 8 (λ (x : ℕ). not (meets (r .rrr) w x && (meets (r .w) w w && (meets (r .dd) w d && (not (r .control && eqb x 6) && isListed (r .shape (pairAt x d a w o m)))))) || regular (pairAt x d a w o m) (r .opcode) (r .shape (pairAt x d a w o m)) to)))
 
 rowsRegular : ℕ → ℕ → ℕ → Memory → List SummaryRow → Bool
 rowsRegular a o m to [] = true
 rowsRegular a o m to (r ∷ rs) = rowRegular a o m to r && rowsRegular a o m to rs
 
 table-regular : (a o m : ℕ) (to : Memory) → rowsRegular a o m to table ≡ true
-unfolding rowsRegular rowRegular allBelow table pairAt regular regularBy asks allTrue entries entryFor entryIn hasWord fitsForm takes takesAll asked offered agrees agreesAll isEmpty isPlace orderly same sameKind kindNumber noneOf memoriesIn isMove mnemonicOf slotsOf isJump listed sketch blunts blunt draws draw present fill filled sameText isName isWord wordChar isRun isDigit isCapital capitalOf endsLine bitOf afterOffset
+unfolding rowsRegular rowRegular allBelow table pairAt regular regularBy asks allTrue entries entryIn hasWord takes takesAll agrees agreesAll isEmpty orderly sameKind kindNumber noneOf memoriesIn isMove mnemonicOf slotsOf isJump listed sketch blunts blunt draws draw present fill filled rrrIn digitsIn sameText isName allRun capitals isRun isDigit isCapital capitalOf endsLine bitOf afterOffset
 table-regular a o m to = refl
 
--- the entry of an instruction: the assembler takes it, it has the fields of the one that the pair is told by, and its kinds are the places'
-pub record Regular (s : Shape) (to : Memory) : Type 0 where
+-- the entry of an instruction with some pair: the assembler takes it, its kinds are the places', and its fields the pair's
+pub record Regular (p : Pair) (s : Shape) (to : Memory) : Type 0 where
   pub entry : Entry
   pub chosen : entryIn entries (mnemonicOf s) (draws (sketch (listed (slotsOf s to)))) ≡ taken entry
   pub letters : isName (mnemonicOf s) ≡ true
@@ -185,24 +141,24 @@ pub record Regular (s : Shape) (to : Memory) : Type 0 where
   pub no-words : sameText (mnemonicOf s) (ascii "DW") ≡ false
   pub has : hasWord entries (mnemonicOf s) ≡ true
   pub kinds : agreesAll (entry .kinds) (listed (slotsOf s to)) ≡ true
-  pub order : orderly (listed (slotsOf s to)) ≡ true
-  pub move : ltb 1 (memoriesIn (entry .kinds)) ≡ isMove s
-  pub told : (os : List Operand) → pairFrom (entryFor entries (mnemonicOf s) (sketch (listed (slotsOf s to)))) os ≡ pairFrom entry os
+  pub order : orderly (entry .kinds) ≡ true
+  pub move : pick (isMove s) (ltb 1 (memoriesIn (entry .kinds))) (not (ltb 1 (memoriesIn (entry .kinds)))) ≡ true
+  pub rrr : rrrIn (entry .rrr) (sketch (listed (slotsOf s to))) ≡ p .rrr
+  pub dd : entry .dd ≡ p .dd
+  pub w : entry .w ≡ p .w
+  pub opcode : entry .opcode ≡ p .opcode
 
-regularly : (s : Shape) (to : Memory) → regular s to ≡ true → Regular s to
-unfolding regular regularBy asks pairFrom
-regularly s to h = go (entryIn entries (mnemonicOf s) (draws (sketch places))) refl h
+regularly : (p : Pair) (code : ℕ) (s : Shape) (to : Memory) → p .opcode ≡ code → regular p code s to ≡ true → Regular p s to
+unfolding regular regularBy asks
+regularly p code s to o h = go (entryIn entries (mnemonicOf s) (draws (sketch places))) refl h
   where
     places : List Slot
     places = listed (slotsOf s to)
 
-    f : Entry
-    f = entryFor entries (mnemonicOf s) (sketch places)
-
-    go : (c : Chosen) → entryIn entries (mnemonicOf s) (draws (sketch places)) ≡ c → regularBy s places f c ≡ true → Regular s to
+    go : (c : Chosen) → entryIn entries (mnemonicOf s) (draws (sketch places)) ≡ c → regularBy p code s places c ≡ true → Regular p s to
     go untaken e t = absurd (false≢true t)
     go (taken e) c t =
-        let yes : (i : ℕ) → getD (asks s places e f) i true ≡ true = λ i. each-true (asks s places e f) i t in
+        let yes : (i : ℕ) → getD (asks p code s places e) i true ≡ true = λ i. each-true (asks p code s places e) i t in
         record {
           entry = e;
           chosen = c;
@@ -212,30 +168,33 @@ regularly s to h = go (entryIn entries (mnemonicOf s) (draws (sketch places))) r
           has = yes 3;
           kinds = yes 4;
           order = yes 5;
-          move = same-as _ _ (yes 6);
-          told = λ os. rw (eqb-true (f .rrr) (e .rrr) (yes 7), eqb-true (f .dd) (e .dd) (yes 8), eqb-true (f .w) (e .w) (yes 9), eqb-true (f .opcode) (e .opcode) (yes 10));
+          move = yes 6;
+          rrr = eqb-true _ _ (yes 7);
+          dd = eqb-true _ _ (yes 8);
+          w = eqb-true _ _ (yes 9);
+          opcode = eqb-true _ _ (yes 10) ∙ sym o;
         }
 
-row-regular : (r : SummaryRow) (p : Pair) (to : Memory) → fits r p ≡ true → r .control && isControl p ≡ false → p .w < 2 → p .dd < 4 → p .rrr < 8 → rowRegular (p .aa) (p .opcode) (p .mm) to r ≡ true → regular (r .shape p) to ≡ true
+row-regular : (r : SummaryRow) (p : Pair) (to : Memory) → isListed (r .shape p) ≡ true → fits r p ≡ true → r .control && isControl p ≡ false → p .w < 2 → p .dd < 4 → p .rrr < 8 → rowRegular (p .aa) (p .opcode) (p .mm) to r ≡ true → Regular p (r .shape p) to
 unfolding rowRegular pairAt
-row-regular r p to f c hw hd hr h =
+row-regular r p to l f c hw hd hr h =
     let k = fitting r p f in
     let here = of-all 8 _ (of-all 4 _ (of-all 2 _ h (p .w) hw) (p .dd) hd) (p .rrr) hr in
-    rw (k .rrr, k .w, k .dd, c) at here
+    regularly p (r .opcode) (r .shape p) to (k .opcode) (rw (k .rrr, k .w, k .dd, c, l) at here)
 
-rows-regular : (rs : List SummaryRow) (p : Pair) (s : Shape) (to : Memory) → p .w < 2 → p .dd < 4 → p .rrr < 8 → rowsRegular (p .aa) (p .opcode) (p .mm) to rs ≡ true → lookup rs p ≡ Instruction s → regular s to ≡ true
+rows-regular : (rs : List SummaryRow) (p : Pair) (s : Shape) (to : Memory) → isListed s ≡ true → p .w < 2 → p .dd < 4 → p .rrr < 8 → rowsRegular (p .aa) (p .opcode) (p .mm) to rs ≡ true → lookup rs p ≡ Instruction s → Regular p s to
 unfolding lookup rowsRegular
-rows-regular [] p s to hw hd hr h e = let z : _≡_ {A = ℕ} 0 1 = cc in absurd (eqb-false 0 1 refl z)
-rows-regular (r ∷ rs) p s to hw hd hr h e = go (fits r p) refl (r .control && isControl p) refl e (rows-regular rs p s to hw hd hr (both-right (rowRegular (p .aa) (p .opcode) (p .mm) to r) _ h))
+rows-regular [] p s to l hw hd hr h e = let z : _≡_ {A = ℕ} 0 1 = cc in absurd (eqb-false 0 1 refl z)
+rows-regular (r ∷ rs) p s to l hw hd hr h e = go (fits r p) refl (r .control && isControl p) refl e (rows-regular rs p s to l hw hd hr (both-right (rowRegular (p .aa) (p .opcode) (p .mm) to r) _ h))
   where
-    go : (f : Bool) → fits r p ≡ f → (c : Bool) → r .control && isControl p ≡ c → pick f (pick c ControlUsed (Instruction (r .shape p))) (lookup rs p) ≡ Instruction s → (lookup rs p ≡ Instruction s → regular s to ≡ true) → regular s to ≡ true
+    go : (f : Bool) → fits r p ≡ f → (c : Bool) → r .control && isControl p ≡ c → pick f (pick c ControlUsed (Instruction (r .shape p))) (lookup rs p) ≡ Instruction s → (lookup rs p ≡ Instruction s → Regular p s to) → Regular p s to
     go true f true c t later = let z : _≡_ {A = ℕ} 0 1 = cc in absurd (eqb-false 0 1 refl z)
     go true f false c t later =
-        let same-shape : r .shape p ≡ s = cc in
-        ap (λ (x : Shape). regular x to) (sym same-shape) ∙ row-regular r p to f c hw hd hr (both-left (rowRegular (p .aa) (p .opcode) (p .mm) to r) _ h)
+        let shape : r .shape p ≡ s = cc in
+        subst (λ (x : Shape). Regular p x to) shape (row-regular r p to (ap isListed shape ∙ l) f c hw hd hr (both-left (rowRegular (p .aa) (p .opcode) (p .mm) to r) _ h))
     go false f c d t later = later t
 
--- an instruction that the decoder knows is regular
-pub decoded-regular : (first second : ℕ) (s : Shape) (to : Memory) → decodeOf first second ≡ Instruction s → Regular s to
+-- an instruction that has a line is regular
+pub decoded-regular : (first second : ℕ) (s : Shape) (to : Memory) → decodeOf first second ≡ Instruction s → isListed s ≡ true → Regular (pairOf first second) s to
 unfolding decodeOf pairOf fieldOf
-decoded-regular first second s to e = let p = pairOf first second in regularly s to (rows-regular table p s to (omega arith) (omega arith) (omega arith) (table-regular (p .aa) (p .opcode) (p .mm) to) e)
+decoded-regular first second s to e l = let p = pairOf first second in rows-regular table p s to l (omega arith) (omega arith) (omega arith) (table-regular (p .aa) (p .opcode) (p .mm) to) e

@@ -1,24 +1,15 @@
 -- What of a line's operands chooses its entry and makes its pair: all but the numbers themselves.
 -- Assumes nothing.
-use mathlib.Core.Path.{_≡_, refl, sym, ap, _∙_}
-use mathlib.Core.Bool.{Bool, true, false, _&&_}
-use mathlib.Core.List.{List, [], _∷_}
+use mathlib.Core.{Path._≡_, Path.refl, Path.ap, List.List, List.[], List._∷_}
 use Prim.Native.Nat.{ℕ}
-use lib.Dec.{eqb}
 use Rattle.ground_rules.specs.Choice.{pick}
-use Rattle.instruction_rules.specs.declared.Pair.{Pair}
-use Rattle.listing_rules.specs.declared.Slot.{Slot}
-use Rattle.listing_rules.specs.declared.Slot.the-variants.{Empty, Name, Place, Number, Target, Digit}
-use Rattle.listing_rules.specs.Characters.{sameText}
-use Rattle.listing_rules.specs.Forms.{Operand, filled}
+use Rattle.listing_rules.specs.declared.Slot.{Slot, the-variants.Empty, the-variants.Name, the-variants.Place, the-variants.Number, the-variants.Target, the-variants.Digit}
+use Rattle.listing_rules.specs.{Forms.Operand, Forms.filled, Entries.Kind, Entries.Entry, Back.digitsIn, Back.rrrIn, Back.mmIn, Back.aaIn}
 use Rattle.listing_rules.specs.Forms.Operand.{none, register, memory, number, digit}
-use Rattle.listing_rules.specs.Entries.{Kind, Entry}
-use Rattle.listing_rules.specs.Back.{asked, offered, fitsForm, entryFor, digitsIn, rrrIn, mmIn, aaIn, pairFrom}
-use Rattle.listing_rules.proofs.SpellingLaws.{present}
-use Rattle.listing_rules.proofs.BackLaws.{fill}
-use Rattle.assembly_rules.specs.Operands.{Written, takes, takesAll, Chosen, entryIn}
+use Rattle.listing_rules.proofs.{SpellingLaws.present, BackLaws.fill}
+use Rattle.assembly_rules.specs.Operands.{Written, takesAll, entryIn}
 
--- an operand without its numbers, and as an operand that is written
+-- an operand without its numbers, and as one that is written
 unfoldable pub blunt : Operand → Operand
 blunt none = none
 blunt (register r) = register r
@@ -55,45 +46,13 @@ sketched bytes end (Number at two ∷ places) = ap (λ (l : List Operand). numbe
 sketched bytes end (Target at two ∷ places) = ap (λ (l : List Operand). number [] ∷ l) (sketched bytes end places)
 sketched bytes end (Digit n ∷ places) = ap (λ (l : List Operand). digit n ∷ l) (sketched bytes end places)
 
-draw-blunt : (o : Operand) → draw (blunt o) ≡ draw o
-unfolding draw blunt
-draw-blunt none = refl
-draw-blunt (register r) = refl
-draw-blunt (memory m a o) = refl
-draw-blunt (number b) = refl
-draw-blunt (digit n) = refl
-
-pub draws-blunt : (os : List Operand) → draws (blunts os) ≡ draws os
-unfolding draws blunts
-draws-blunt [] = refl
-draws-blunt (o ∷ os) = rw (draw-blunt o, draws-blunt os)
-
-offered-blunt : (o : Operand) → offered (blunt o) ≡ offered o
-unfolding offered blunt
-offered-blunt none = refl
-offered-blunt (register r) = refl
-offered-blunt (memory m a o) = refl
-offered-blunt (number b) = refl
-offered-blunt (digit n) = refl
-
-fits-blunt : (ks : List Kind) (os : List Operand) → fitsForm ks (blunts os) ≡ fitsForm ks os
-unfolding fitsForm blunts
-fits-blunt [] [] = refl
-fits-blunt [] (o ∷ os) = refl
-fits-blunt (k ∷ ks) [] = refl
-fits-blunt (k ∷ ks) (o ∷ os) = rw (offered-blunt o, fits-blunt ks os)
-
--- the entry of a word
-pub entry-blunt : (es : List Entry) (word : List ℕ) (os : List Operand) → entryFor es word (blunts os) ≡ entryFor es word os
-unfolding entryFor
-entry-blunt [] word os = refl
-entry-blunt (e ∷ es) word os = rw (fits-blunt (e .kinds) os, entry-blunt es word os)
-
+-- the entry that is taken
 pub entry-taken : (es : List Entry) (word : List ℕ) (ws vs : List Written) → ((ks : List Kind) → takesAll ks ws ≡ takesAll ks vs) → entryIn es word ws ≡ entryIn es word vs
 unfolding entryIn
 entry-taken [] word ws vs h = refl
 entry-taken (e ∷ es) word ws vs h = rw (h (e .kinds), entry-taken es word ws vs h)
 
+-- RRR, MM and AA
 digits-blunt : (n : ℕ) (os : List Operand) → digitsIn n (blunts os) ≡ digitsIn n os
 unfolding digitsIn blunts blunt
 digits-blunt n [] = refl
@@ -103,7 +62,7 @@ digits-blunt n (memory m a o ∷ os) = refl
 digits-blunt n (number b ∷ os) = refl
 digits-blunt n (digit k ∷ os) = refl
 
-rrr-blunt : (d : ℕ) (os : List Operand) → rrrIn d (blunts os) ≡ rrrIn d os
+pub rrr-blunt : (d : ℕ) (os : List Operand) → rrrIn d (blunts os) ≡ rrrIn d os
 unfolding rrrIn blunts blunt
 rrr-blunt d [] = refl
 rrr-blunt d (none ∷ os) = rrr-blunt d os
@@ -112,7 +71,7 @@ rrr-blunt d (memory m a o ∷ os) = rrr-blunt d os
 rrr-blunt d (number b ∷ os) = rrr-blunt d os
 rrr-blunt d (digit n ∷ os) = digits-blunt n os
 
-base-blunt : (m a : ℕ) (os : List Operand) → (mmIn m (blunts os) ≡ mmIn m os) × (aaIn a (blunts os) ≡ aaIn a os)
+pub base-blunt : (m a : ℕ) (os : List Operand) → (mmIn m (blunts os) ≡ mmIn m os) × (aaIn a (blunts os) ≡ aaIn a os)
 unfolding mmIn aaIn blunts blunt
 base-blunt m a [] = (refl, refl)
 base-blunt m a (none ∷ os) = base-blunt m a os
@@ -120,8 +79,3 @@ base-blunt m a (register r ∷ os) = base-blunt m a os
 base-blunt m a (memory n b o ∷ os) = base-blunt n b os
 base-blunt m a (number b ∷ os) = base-blunt m a os
 base-blunt m a (digit n ∷ os) = base-blunt m a os
-
--- the pair
-pub pair-blunt : (e : Entry) (os : List Operand) → pairFrom e (blunts os) ≡ pairFrom e os
-unfolding pairFrom
-pair-blunt e os = let b = base-blunt 0 0 os in rw (rrr-blunt (e .rrr) os, b .0, b .1)
