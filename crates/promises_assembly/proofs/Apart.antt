@@ -3,7 +3,6 @@
 use mathlib.Core.{Path._≡_, Path.refl, Path.sym, Path.ap, Path.subst, Path._∙_, Bool.Bool, Bool.true, Bool.false, Bool.not, Bool._&&_, Bool.false≢true, List.List, List.[], List._∷_, List._++_, List.append-assoc, List.append-nil}
 use Prim.Native.Nat.{ℕ}
 use lib.{Dec.ltb, ListN.length}
-use Rattle.ground_rules.specs.Choice.{pick}
 use Rattle.listing_rules.specs.Characters.{sameText}
 use Rattle.assembly_rules.specs.Text.{capitals, endsLine, Token, Token.run, tokensOf, cutAt}
 use Rattle.assembly_rules.proofs.{ScanLaws.same-is, WritingLaws.beginsRun, WritingLaws.allRun, WritingLaws.Writes, WritingLaws.both-left, WritingLaws.both-right, WritingLaws.written, WritingLaws.all-written}

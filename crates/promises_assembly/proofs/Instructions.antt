@@ -7,21 +7,21 @@ use native.Mathlib.Omega.{arith}
 use lib.{Dec.T, Dec.eqb, Dec.ltb, ListN.length, ListN.getD, ListN.take, ListN.length-take}
 use borrow.Author.Tests.{eqb-true}
 use Rattle.ground_rules.specs.{Bits.fieldOf, Choice.pick}
-use Rattle.instruction_rules.specs.{declared.Memory.Memory, declared.Pair.Pair, declared.Shape.Shape, declared.Shape.the-variants.MovMemory, declared.Second.the-variants.Operand, Pairs.pairOf, Lengths.offsetLength, Lengths.lengthOf, Reading.secondOf}
+use Rattle.instruction_rules.specs.{declared.Memory.Memory, declared.Pair.Pair, declared.Shape.Shape, declared.Shape.the-variants.MovMemory, declared.Second.the-variants.Operand, Pairs.pairOf, Lengths.offsetLength, Lengths.lengthOf}
 use Rattle.instruction_rules.proofs.LengthLaws.{bounded}
 use Rattle.listing_rules.specs.declared.Slot.{Slot, the-variants.Empty, the-variants.Name, the-variants.Place, the-variants.Number, the-variants.Target, the-variants.Digit}
-use Rattle.listing_rules.specs.{Characters.sameText, Mnemonics.isListed, Mnemonics.mnemonicOf, Forms.afterOffset, Forms.slotsOf, Forms.filled, Forms.following, Lines.instructionLine, Entries.Kind, Entries.Kind.'M, Entries.Entry, Entries.entries, Items.toOf}
+use Rattle.listing_rules.specs.{Characters.sameText, Mnemonics.isListed, Mnemonics.mnemonicOf, Forms.afterOffset, Forms.slotsOf, Forms.filled, Forms.following, Lines.instructionLine, Entries.Kind, Entries.Entry, Entries.entries, Items.toOf}
 use Rattle.listing_rules.specs.{Back.rrrIn, Back.mmIn, Back.aaIn, Back.pairFrom, Back.pairBack, Back.operandsOf}
 use Rattle.listing_rules.specs.Forms as Forms
 use Rattle.listing_rules.proofs.{SpellingLaws.present, SpellingLaws.marks, SpellingLaws.Fair, SpellingLaws.Bytes, EntryLaws.Known, EntryLaws.known, RowLaws.WholeAt}
 use Rattle.listing_rules.proofs.BackLaws.{slotBytes, spread, fill, all-covered, listed, chained, two-and-four, secondPair, second-fields, isMove, other-shape, Pairs, pairs}
 use Rattle.listing_rules.proofs.Unlisting.{spoken-line, spoken-free, free, first-pair, mov-covered, placed-to}
 use Rattle.assembly_rules.specs.{Sums.Label, Operands.Written, Operands.Chosen, Operands.Chosen.taken, Operands.Chosen.untaken, Operands.isMemoryKind, Operands.operandsFrom, Operands.takes, Operands.takesAll, Operands.entryIn, Operands.allShallow, Assembly.Said, Assembly.saidBy}
-use Rattle.assembly_rules.specs.Statements.{Statement.instruction, wordStatement, statementOf, kindSize, memoriesIn, statementSize, operandWorth, namesKnown, allStand, statementNumber, pairBytes, listedAll, writtenOffset, allOffsets, numberBytes, allNumbers, secondBytes, moveBytes, instructionBytes, statementBytes}
+use Rattle.assembly_rules.specs.Statements.{Statement.instruction, wordStatement, statementOf, kindSize, memoriesIn, statementSize, operandWorth, namesKnown, allStand, statementNumber, pairBytes, listedAll, writtenOffset, allOffsets, numberBytes, allNumbers, moveBytes, instructionBytes, statementBytes}
 use Rattle.assembly_rules.proofs.{SizeLaws.number-size, SizeLaws.entries-plain, SizeLaws.entry-plain, SizeLaws.instruction-size, TreeLaws.add-equal, WritingLaws.both-left, WritingLaws.both-right}
-use Rattle.promises_assembly.proofs.{Apart.noneOf, Apart.fails, Rows.agrees, Rows.isEmpty, Rows.agreesAll, Rows.orderly, Rows.Regular, Rows.decoded-regular, Places.offsetTokens, Places.Meant, Places.placed, Places.meant}
+use Rattle.promises_assembly.proofs.{Apart.noneOf, Apart.fails, Rows.agrees, Rows.isNone, Rows.agreesAll, Rows.orderly, Rows.Regular, Rows.decoded-regular, Places.offsetTokens, Places.Meant, Places.placed, Places.meant}
 use Rattle.promises_assembly.proofs.Sketches.{blunt, blunts, draw, draws, sketch, sketched, entry-taken, rrr-blunt, base-blunt}
-use Rattle.promises_assembly.proofs.Parts.{some-present, spokenParts, Parted, parted-none, parted-next, line-said}
+use Rattle.promises_assembly.proofs.Parts.{spokenParts, Parted, parted-none, parted-next, line-said}
 
 -- empty places have no text and no bytes
 record Blank (bytes : List ℕ) (end : ℕ) (places : List Slot) : Type 0 where
@@ -30,7 +30,7 @@ record Blank (bytes : List ℕ) (end : ℕ) (places : List Slot) : Type 0 where
   none : [] ≡ spread bytes places
 
 blank-places : (bytes : List ℕ) (end : ℕ) (places : List Slot) → agreesAll [] places ≡ true → Blank bytes end places
-unfolding agreesAll isEmpty fill filled marks following present spread slotBytes
+unfolding agreesAll isNone sketch blunts blunt fill filled marks following present spread slotBytes
 blank-places bytes end [] h = record { text = λ m. refl; there = refl; none = refl }
 blank-places bytes end (Empty ∷ places) h = let later = blank-places bytes end places h in record { text = λ m. later .text 44; there = later .there; none = later .none }
 blank-places bytes end (Name r ∷ places) h = absurd (false≢true h)
@@ -89,7 +89,7 @@ module _ (labels : List Label) (bytes : List ℕ) (end E : ℕ) where
   unfolding fill spread operandsFrom spokenParts blunts draws takesAll allShallow namesKnown allStand allOffsets allNumbers listedAll orderly noneOf
   told-next k ks a places w ws m t =
       let o = filled bytes end a in
-      let there = some-present o (fill bytes end places) (m .heard .voice .some) in
+      let there = m .heard .voice .there (fill bytes end places) in
       record {
         parted = parted-next o (fill bytes end places) (m .heard .voice) (t .parted);
         written = rw (there, m .heard .operand, t .written);

@@ -3,30 +3,12 @@
 use mathlib.Core.{Path._≡_, Path.refl, Path.ap, Path._∙_, Bool.true, Bool.false, Bool.false≢true, List.List, List.[], List._∷_, List._++_, List.append-nil}
 use Prim.Native.Nat.{ℕ}
 use lib.Dec.{eqb}
-use Rattle.ground_rules.specs.Choice.{pick}
-use Rattle.listing_rules.specs.Forms.{Operand, Operand.none, Operand.register, Operand.memory, Operand.number, Operand.digit, spelled, following}
+use Rattle.listing_rules.specs.Forms.{Operand, spelled, following}
 use Rattle.listing_rules.proofs.SpellingLaws.{present, marks}
 use Rattle.assembly_rules.specs.Text.{isRun, isDigit, isCapital, capitalOf, isBlank, endsLine, Token, Token.run, Token.mark, isComma, begunBy, tokensOf, cutAt}
 use Rattle.assembly_rules.specs.{Statements.headed, Statements.headedBy, Statements.operandParts, Statements.statementOf, Assembly.saidBy}
 use Rattle.assembly_rules.proofs.{TextLaws.tokens-blank, TextLaws.tokens-mark, WritingLaws.beginsRun}
-use Rattle.promises_assembly.proofs.{Apart.noneOf, Apart.fails, Apart.cut-first, Apart.cut-last, Apart.tokens-apart, Apart.isName, Apart.name-tokens, Places.isSome, Places.opens, Places.Voiced}
-
--- an operand that is there stands behind its separator
-pub some-present : (o : Operand) (os : List Operand) → isSome o ≡ true → present (o ∷ os) ≡ o ∷ present os
-unfolding isSome present
-some-present none os h = absurd (false≢true h)
-some-present (register r) os h = refl
-some-present (memory m a o) os h = refl
-some-present (number b) os h = refl
-some-present (digit n) os h = refl
-
-some-follows : (m : ℕ) (o : Operand) → isSome o ≡ true → following m o ≡ m ∷ spelled o
-unfolding isSome following
-some-follows m none h = absurd (false≢true h)
-some-follows m (register r) h = refl
-some-follows m (memory a b o) h = refl
-some-follows m (number b) h = refl
-some-follows m (digit n) h = refl
+use Rattle.promises_assembly.proofs.{Apart.noneOf, Apart.fails, Apart.cut-first, Apart.cut-last, Apart.tokens-apart, Apart.isName, Apart.name-tokens, Places.opens, Places.Voiced}
 
 -- the tokens of each operand that is there
 unfoldable pub spokenParts : List Operand → List (List Token)
@@ -69,10 +51,10 @@ parted-next o os v p =
     let us = tokensOf (marks 44 os) in
     let text = spelled o ++ marks 44 os in
     let tokens : tokensOf text ≡ ts ++ us = tokens-apart (spelled o) (marks 44 os) (v .free) (p .begins 44 refl) in
-    let behind : (m : ℕ) → following m o ++ marks 44 os ≡ m ∷ text = λ m. rw (some-follows m o (v .some)) in
+    let behind : (m : ℕ) → following m o ++ marks 44 os ≡ m ∷ text = λ m. rw (v .behind m) in
     let first : tokensOf (following 32 o ++ marks 44 os) ≡ ts ++ us = ap tokensOf (behind 32) ∙ tokens-blank 32 text refl ∙ tokens in
     let later : tokensOf (following 44 o ++ marks 44 os) ≡ mark 44 ∷ (ts ++ us) = ap tokensOf (behind 44) ∙ tokens-mark 44 text refl refl refl ∙ ap (λ (l : List Token). mark 44 ∷ l) tokens in
-    let all = some-present o os (v .some) in
+    let all = v .there os in
     record {
       begins = λ m k. rw (behind m) k;
       cuts = λ part k. rw (later, all) (cut-first isComma part (ts ++ us) (mark 44) k refl ∙ ap (λ (l : List (List Token)). part ∷ l) (p .cuts ts (v .uncut)));

@@ -9,10 +9,10 @@ use borrow.Author.Tests.{ltb-true, ltb-false, lt-ltb, le-leb}
 use Rattle.ground_rules.specs.{Bytes.lowByte, Choice.pick, Signs.extended}
 use Rattle.instruction_rules.specs.declared.Memory.{Memory}
 use Rattle.listing_rules.specs.declared.Slot.{Slot, the-variants.Empty, the-variants.Name, the-variants.Place, the-variants.Number, the-variants.Target, the-variants.Digit}
-use Rattle.listing_rules.specs.{Characters.sameText, Characters.numberText, Forms.Operand, Forms.targetOf, Forms.wordBytes, Forms.filled, Forms.registerName, Forms.baseName, Forms.modeText, Forms.spelled}
-use Rattle.listing_rules.specs.Forms.Operand.{none, register, memory, number, digit}
+use Rattle.listing_rules.specs.{Characters.sameText, Characters.numberText, Forms.Operand, Forms.targetOf, Forms.wordBytes, Forms.filled, Forms.registerName, Forms.baseName, Forms.modeText, Forms.spelled, Forms.following}
+use Rattle.listing_rules.specs.Forms.Operand.{register, memory, number, digit}
 use Rattle.listing_rules.specs.Entries.{Kind, Kind.'R, Kind.'G, Kind.'P, Kind.'M, Kind.'byte, Kind.'word, Kind.'bit, Kind.'width, Kind.'short, Kind.'long}
-use Rattle.listing_rules.proofs.{SpellingLaws.each, SpellingLaws.Fair, SpellingLaws.Bytes, BackLaws.slotBytes}
+use Rattle.listing_rules.proofs.{SpellingLaws.each, SpellingLaws.present, SpellingLaws.Fair, SpellingLaws.Bytes, BackLaws.slotBytes}
 use Rattle.assembly_rules.specs.Text.{capitalOf, isDigit, isCapital, isRun, isBlank, endsLine, Token, Token.run, Token.mark, isComma, inFrontOf, begunBy, tokensOf}
 use Rattle.assembly_rules.specs.Sums.{Label, indexIn, registerNumber, scanFrom, depthOf, worth, sumWorth}
 use Rattle.assembly_rules.specs.Operands.{Written, closedMemory, endedMemory, indexedMemory, memoryBehind, memoryFrom, operandFrom, isMemoryKind, takesRegister, takes, isShallow}
@@ -21,22 +21,16 @@ use Rattle.assembly_rules.proofs.WritingLaws.{both-left, both-right}
 use Rattle.promises_assembly.proofs.Constants.{Constantly, byte-constant, word-constant, digit-constant}
 use Rattle.promises_assembly.proofs.{Apart.noneOf, Sketches.blunt, Sketches.draw, Rows.sameKind, Rows.same-kind, Rows.agrees}
 
--- whether there is an operand, and whether tokens begin as one: they make no label of the word before them
-unfoldable pub isSome : Operand → Bool
-isSome none = false
-isSome (register r) = true
-isSome (memory m a o) = true
-isSome (number b) = true
-isSome (digit n) = true
-
+-- whether tokens begin as an operand: they make no label of the word before them
 unfoldable pub opens : List Token → Bool
 opens [] = false
 opens (run r ∷ ts) = true
 opens (mark c ∷ ts) = not (eqb c 58)
 
--- an operand whose tokens stay together: its text ends no line, its tokens have no comma
+-- an operand that is there and whose tokens stay together: its text ends no line, its tokens have no comma
 pub record Voiced (o : Operand) : Type 0 where
-  pub some : isSome o ≡ true
+  pub there : (os : List Operand) → present (o ∷ os) ≡ o ∷ present os
+  pub behind : (m : ℕ) → following m o ≡ m ∷ spelled o
   pub free : noneOf endsLine (spelled o) ≡ true
   pub uncut : noneOf isComma (tokensOf (spelled o)) ≡ true
   pub begins : opens (tokensOf (spelled o)) ≡ true
@@ -46,14 +40,14 @@ pub record Heard (o : Operand) (w : Written) : Type 0 where
   pub voice : Voiced o
   pub operand : operandFrom (tokensOf (spelled o)) ≡ w
 
-hear : {o : Operand} {w : Written} → isSome o ≡ true → noneOf endsLine (spelled o) ≡ true → noneOf isComma (tokensOf (spelled o)) ≡ true → opens (tokensOf (spelled o)) ≡ true → operandFrom (tokensOf (spelled o)) ≡ w → Heard o w
-hear a b c d e = record { voice = record { some = a; free = b; uncut = c; begins = d }; operand = e }
+hear : {o : Operand} {w : Written} → ((os : List Operand) → present (o ∷ os) ≡ o ∷ present os) → ((m : ℕ) → following m o ≡ m ∷ spelled o) → noneOf endsLine (spelled o) ≡ true → noneOf isComma (tokensOf (spelled o)) ≡ true → opens (tokensOf (spelled o)) ≡ true → operandFrom (tokensOf (spelled o)) ≡ w → Heard o w
+hear a b c d e f = record { voice = record { there = a; behind = b; free = c; uncut = d; begins = e }; operand = f }
 
 heard-register : (r : ℕ) → r < 8 → Heard (register r) (Written.register r)
-unfolding isSome noneOf spelled registerName tokensOf begunBy inFrontOf isRun isDigit isCapital capitalOf isBlank endsLine opens operandFrom registerNumber indexIn sameText
+unfolding present following noneOf spelled registerName tokensOf begunBy inFrontOf isRun isDigit isCapital capitalOf isBlank endsLine opens operandFrom registerNumber indexIn sameText
 heard-register r h =
     each 8 (λ (k : ℕ). Heard (register k) (Written.register k))
-    ((((((((tt, hear refl refl refl refl refl), hear refl refl refl refl refl), hear refl refl refl refl refl), hear refl refl refl refl refl), hear refl refl refl refl refl), hear refl refl refl refl refl), hear refl refl refl refl refl), hear refl refl refl refl refl)
+    ((((((((tt, hear (λ os. refl) (λ m. refl) refl refl refl refl), hear (λ os. refl) (λ m. refl) refl refl refl refl), hear (λ os. refl) (λ m. refl) refl refl refl refl), hear (λ os. refl) (λ m. refl) refl refl refl refl), hear (λ os. refl) (λ m. refl) refl refl refl refl), hear (λ os. refl) (λ m. refl) refl refl refl refl), hear (λ os. refl) (λ m. refl) refl refl refl refl), hear (λ os. refl) (λ m. refl) refl refl refl refl)
     r h
 
 -- the tokens of an offset byte, if there is one
@@ -61,7 +55,7 @@ abbrev pub offsetTokens : ℕ → ℕ → List Token
 offsetTokens aa b = pick (eqb aa 1) (run (numberText (b ∷ [])) ∷ []) []
 
 heard-memory : (mm aa b : ℕ) → mm < 4 → aa < 4 → b < 256 → Heard (memory mm aa (pick (eqb aa 1) (b ∷ []) [])) (Written.memory mm aa (offsetTokens aa b))
-unfolding isSome noneOf spelled baseName modeText tokensOf begunBy inFrontOf isRun isDigit isCapital capitalOf isBlank endsLine opens operandFrom memoryFrom memoryBehind closedMemory indexedMemory endedMemory registerNumber indexIn sameText
+unfolding present following noneOf spelled baseName modeText tokensOf begunBy inFrontOf isRun isDigit isCapital capitalOf isBlank endsLine opens operandFrom memoryFrom memoryBehind closedMemory indexedMemory endedMemory registerNumber indexIn sameText
 heard-memory mm aa b h k l =
     let c = byte-constant b l in
     let f = c .free in
@@ -70,12 +64,12 @@ heard-memory mm aa b h k l =
     each 4 (λ (i : ℕ). (j : ℕ) → j < 4 → Heard (memory i j (pick (eqb j 1) (b ∷ []) [])) (Written.memory i j (offsetTokens j b))) (
       (
         (
-          (tt, each 4 _ ((((tt, hear refl refl refl refl refl), hear refl f (rw t) refl (rw (t, s))), hear refl refl refl refl refl), hear refl refl refl refl refl)),
-          each 4 _ ((((tt, hear refl refl refl refl refl), hear refl f (rw t) refl (rw (t, s))), hear refl refl refl refl refl), hear refl refl refl refl refl),
+          (tt, each 4 _ ((((tt, hear (λ os. refl) (λ m. refl) refl refl refl refl), hear (λ os. refl) (λ m. refl) f (rw t) refl (rw (t, s))), hear (λ os. refl) (λ m. refl) refl refl refl refl), hear (λ os. refl) (λ m. refl) refl refl refl refl)),
+          each 4 _ ((((tt, hear (λ os. refl) (λ m. refl) refl refl refl refl), hear (λ os. refl) (λ m. refl) f (rw t) refl (rw (t, s))), hear (λ os. refl) (λ m. refl) refl refl refl refl), hear (λ os. refl) (λ m. refl) refl refl refl refl),
         ),
-        each 4 _ ((((tt, hear refl refl refl refl refl), hear refl f (rw t) refl (rw (t, s))), hear refl refl refl refl refl), hear refl refl refl refl refl),
+        each 4 _ ((((tt, hear (λ os. refl) (λ m. refl) refl refl refl refl), hear (λ os. refl) (λ m. refl) f (rw t) refl (rw (t, s))), hear (λ os. refl) (λ m. refl) refl refl refl refl), hear (λ os. refl) (λ m. refl) refl refl refl refl),
       ),
-      each 4 _ ((((tt, hear refl refl refl refl refl), hear refl f (rw t) refl (rw (t, s))), hear refl refl refl refl refl), hear refl refl refl refl refl),
+      each 4 _ ((((tt, hear (λ os. refl) (λ m. refl) refl refl refl refl), hear (λ os. refl) (λ m. refl) f (rw t) refl (rw (t, s))), hear (λ os. refl) (λ m. refl) refl refl refl refl), hear (λ os. refl) (λ m. refl) refl refl refl refl),
     )
     mm h aa k
 
@@ -153,14 +147,14 @@ module _ (labels : List Label) (bytes : List ℕ) (end E : ℕ) where
     pub same : blunt (listedAs labels k w) ≡ blunt (filled bytes end a)
 
   -- a number
-  valued : (k : Kind) (a : Slot) (v : ℕ) → isSome (filled bytes end a) ≡ true → draw (blunt (filled bytes end a)) ≡ Written.value [] → Constantly (spelled (filled bytes end a)) v → mayStand k E v ≡ true → numberBytes k E v ≡ slotBytes bytes a
+  valued : (k : Kind) (a : Slot) (v : ℕ) → ((os : List Operand) → present (filled bytes end a ∷ os) ≡ filled bytes end a ∷ present os) → ((m : ℕ) → following m (filled bytes end a) ≡ m ∷ spelled (filled bytes end a)) → draw (blunt (filled bytes end a)) ≡ Written.value [] → Constantly (spelled (filled bytes end a)) v → mayStand k E v ≡ true → numberBytes k E v ≡ slotBytes bytes a
       → blunt (pick (isDigitKind k) (digit v) (number (wordBytes v))) ≡ blunt (filled bytes end a) → (w : Written) × Meant k a w
   unfolding noneOf opens takes isShallow operandWorth listedAs
-  valued k a v some drawn c stands nums same =
+  valued k a v there behind drawn c stands nums same =
       let w = c .worths labels in (
         Written.value (run (spelled (filled bytes end a)) ∷ []),
         record {
-          heard = hear some (c .free) (rw (c .tokens)) (rw (c .tokens)) (rw (c .tokens) (c .operand));
+          heard = hear there behind (c .free) (rw (c .tokens)) (rw (c .tokens)) (rw (c .tokens) (c .operand));
           taking = λ l. rw drawn;
           shallow = rw (c .shallow);
           known = rw w;
@@ -199,34 +193,34 @@ module _ (labels : List Label) (bytes : List ℕ) (end E : ℕ) where
 
   -- a place of a kind, as it is meant
   pub meant : Bytes bytes → E % 65536 ≡ end % 65536 → (k : Kind) (a : Slot) → Fair a → agrees k a ≡ true → (w : Written) × Meant k a w
-  unfolding Bytes Fair agrees filled blunt draw isSome spelled slotBytes mayStand isByte targetOf
+  unfolding Bytes Fair agrees filled blunt draw present following spelled slotBytes mayStand isByte targetOf
   meant hb ends k Empty f h = absurd (false≢true h)
   meant hb ends k (Name r) f h = (Written.register r, named k r f h)
   meant hb ends k (Place m at) f h = rw (same-kind k 'M h) (Written.memory (m .mm) (m .aa) (offsetTokens (m .aa) (getD bytes at 0)), placed m at hb (f .0) (f .1))
   meant hb ends k (Number at true) f h =
       let l = getD bytes at 0 in
       let u = getD bytes (at + 1) 0 in
-      rw (same-kind k 'word h) (valued 'word (Number at true) (l + u * 256) refl refl (word-constant l u (hb at) (hb (at + 1))) refl (halves l u (hb at) (hb (at + 1))) refl)
+      rw (same-kind k 'word h) (valued 'word (Number at true) (l + u * 256) (λ os. refl) (λ m. refl) refl (word-constant l u (hb at) (hb (at + 1))) refl (halves l u (hb at) (hb (at + 1))) refl)
   meant hb ends k (Number at false) f h =
       let b = getD bytes at 0 in
       let low : b % 256 ≡ b = omega (arith, hb at) in
-      rw (same-kind k 'byte h) (valued 'byte (Number at false) b refl refl (byte-constant b (hb at)) (rw (lt-ltb b 256 (hb at))) (rw low) refl)
+      rw (same-kind k 'byte h) (valued 'byte (Number at false) b (λ os. refl) (λ m. refl) refl (byte-constant b (hb at)) (rw (lt-ltb b 256 (hb at))) (rw low) refl)
   meant hb ends k (Target at true) f h =
       let l = getD bytes at 0 in
       let u = getD bytes (at + 1) 0 in
       let x = extended 16 (l + u * 256) in
       let reach = reach-back E end x ends ∙ long-reach (l + u * 256) (omega (arith, hb at, hb (at + 1))) in
-      rw (same-kind k 'long h) (valued 'long (Target at true) (targetOf end x) refl refl (target-constant end x) refl (rw reach (halves l u (hb at) (hb (at + 1)))) refl)
+      rw (same-kind k 'long h) (valued 'long (Target at true) (targetOf end x) (λ os. refl) (λ m. refl) refl (target-constant end x) refl (rw reach (halves l u (hb at) (hb (at + 1)))) refl)
   meant hb ends k (Target at false) f h =
       let b = getD bytes at 0 in
       let x = extended 8 b in
       let reach = reach-back E end x ends in
       let s = short-reach b (hb at) in
-      rw (same-kind k 'short h) (valued 'short (Target at false) (targetOf end x) refl refl (target-constant end x) (rw reach (s .0)) (rw (reach, s .1)) refl)
+      rw (same-kind k 'short h) (valued 'short (Target at false) (targetOf end x) (λ os. refl) (λ m. refl) refl (target-constant end x) (rw reach (s .0)) (rw (reach, s .1)) refl)
   meant hb ends k (Digit n) f h = go (ltb n 8) refl h
     where
       go : (b : Bool) → ltb n 8 ≡ b → pick b (sameKind k 'bit) (sameKind k 'width && (eqb n 8 || eqb n 16)) ≡ true → (w : Written) × Meant k (Digit n) w
-      go true e t = rw (same-kind k 'bit t) (valued 'bit (Digit n) n refl refl (digit-constant n (rw e)) e refl refl)
+      go true e t = rw (same-kind k 'bit t) (valued 'bit (Digit n) n (λ os. refl) (λ m. refl) refl (digit-constant n (rw e)) e refl refl)
       go false e t =
           let wide = both-right (sameKind k 'width) _ t in
-          rw (same-kind k 'width (both-left (sameKind k 'width) _ t)) (valued 'width (Digit n) n refl refl (digit-constant n (rw (e, wide))) wide refl refl)
+          rw (same-kind k 'width (both-left (sameKind k 'width) _ t)) (valued 'width (Digit n) n (λ os. refl) (λ m. refl) refl (digit-constant n (rw (e, wide))) wide refl refl)

@@ -7,7 +7,7 @@ use native.Mathlib.Omega.{arith}
 use lib.{Dec.T, Dec.eqb, Dec.ltb, Dec.leb, ListN.length, ListN.take, ListN.drop, ListN.length-take, ListN.length-append, ListN.take-append-drop, Seq.take-at}
 use borrow.Author.Tests.{le-ltb, lt-ltb}
 use Rattle.ground_rules.specs.Choice.{pick}
-use Rattle.listing_rules.specs.{Characters.ascii, Characters.sameText, Forms.spelled, Forms.Operand.number, Lines.dataLine, Items.itemOf, Items.countOf}
+use Rattle.listing_rules.specs.{Characters.ascii, Characters.sameText, Forms.spelled, Forms.following, Forms.Operand.number, Lines.dataLine, Items.itemOf, Items.countOf}
 use Rattle.listing_rules.specs.Listings.{TextLine, charsOf, lineAt, linesBy, linesOf, allChars, allBytes, keptIn, listLimit, placed, listingOf}
 use Rattle.listing_rules.proofs.{SpellingLaws.marks, SpellingLaws.present, SpellingLaws.Bytes, RowLaws.whole-at, RowLaws.count-some, RowLaws.count-there, Theorems.all-listed, Theorems.bytes-append, Theorems.placed-text}
 use Rattle.listing_rules.proofs.Unlisting.{numbers, spoken-data, spoken-free, free, numbers-present, Line, Line.words, Line.raw, line-of, bytes-take, bytes-drop}
@@ -15,7 +15,7 @@ use Rattle.assembly_rules.specs.Text.{capitals, isRun, isDigit, isCapital, capi
 use Rattle.assembly_rules.specs.Statements.{Statement.items, headedBy, allSums, allLow, itemsFrom, statementOf, statementSize, isByte, itemsKnown, itemsStand, statementNumber, itemsBytes, statementBytes}
 use Rattle.assembly_rules.specs.{Sums.Label, Assembly.Said, Assembly.saidBy, Assembly.saidIn, Assembly.keptWith, Assembly.labelsFrom, Assembly.labelStands, Assembly.lineNumber, Assembly.assembled, Assembly.assembledFrom, Assembly.assembleOf}
 use Rattle.assembly_rules.proofs.{WritingLaws.allRun, WritingLaws.Writes, WritingLaws.written, WholeLaws.SameTokens, WholeLaws.SameTokens.noLine, WholeLaws.SameTokens.oneMore, WholeLaws.same-said}
-use Rattle.promises_assembly.proofs.{Apart.noneOf, Apart.cut-first, Apart.isName, Constants.byte-constant, Places.isSome, Places.opens, Instructions.Assembles, Instructions.instruction-assembles}
+use Rattle.promises_assembly.proofs.{Apart.noneOf, Apart.cut-first, Apart.isName, Constants.byte-constant, Places.opens, Instructions.Assembles, Instructions.instruction-assembles}
 use Rattle.promises_assembly.proofs.Parts.{spokenParts, Parted, parted-none, parted-next, line-said}
 
 -- the items of a DB line: numbers of one byte
@@ -29,7 +29,7 @@ record Items (bytes : List ℕ) : Type 0 where
   same : (labels : List Label) → itemsBytes labels false (spokenParts (numbers bytes)) ≡ bytes
 
 items-of : (bytes : List ℕ) → Bytes bytes → Items bytes
-unfolding numbers spokenParts allSums allLow itemsKnown itemsStand itemsBytes marks present Bytes spelled noneOf isSome opens isByte
+unfolding numbers spokenParts allSums allLow itemsKnown itemsStand itemsBytes marks present Bytes following spelled noneOf opens isByte
 items-of [] h = record { parted = parted-none [] (λ m. refl) refl; sums = refl; low = refl; size = refl; known = λ labels. refl; stand = λ labels. refl; same = λ labels. refl }
 items-of (b ∷ bytes) h =
     let c = byte-constant b (h 0) in
@@ -37,7 +37,7 @@ items-of (b ∷ bytes) h =
     let later = items-of bytes (λ i. h (suc i)) in
     let low : b % 256 ≡ b = omega (arith, h 0) in
     record {
-      parted = parted-next (number (b ∷ [])) (numbers bytes) (record { some = refl; free = c .free; uncut = rw t; begins = rw t }) (later .parted);
+      parted = parted-next (number (b ∷ [])) (numbers bytes) (record { there = λ os. refl; behind = λ m. refl; free = c .free; uncut = rw t; begins = rw t }) (later .parted);
       sums = rw (t, c .sum, later .sums);
       low = rw (t, c .shallow, later .low);
       size = ap suc (later .size);

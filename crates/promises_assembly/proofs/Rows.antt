@@ -9,7 +9,7 @@ use Rattle.ground_rules.specs.{Bits.bitOf, Bits.fieldOf, Choice.pick}
 use Rattle.instruction_rules.specs.{declared.Memory.Memory, declared.Pair.Pair, declared.Shape.Shape, declared.Decoded.the-variants.Instruction, declared.Decoded.the-variants.ControlUsed}
 use Rattle.instruction_rules.specs.{Pairs.meets, Pairs.pairOf, Rows.isControl, Table.SummaryRow, Table.table, Reading.fits, Reading.lookup, Reading.decodeOf}
 use Rattle.listing_rules.specs.declared.Slot.{Slot, the-variants.Empty, the-variants.Name, the-variants.Place, the-variants.Number, the-variants.Target, the-variants.Digit}
-use Rattle.listing_rules.specs.{Characters.ascii, Characters.sameText, Mnemonics.isJump, Mnemonics.isListed, Mnemonics.mnemonicOf, Forms.afterOffset, Forms.filled, Forms.slotsOf, Back.digitsIn, Back.rrrIn}
+use Rattle.listing_rules.specs.{Characters.ascii, Characters.sameText, Mnemonics.isJump, Mnemonics.isListed, Mnemonics.mnemonicOf, Forms.Operand, Forms.afterOffset, Forms.filled, Forms.slotsOf, Back.digitsIn, Back.rrrIn}
 use Rattle.listing_rules.specs.Entries.{Kind, Entry, entries, Kind.'R, Kind.'G, Kind.'P, Kind.'M, Kind.'byte, Kind.'word, Kind.'bit, Kind.'width, Kind.'short, Kind.'long}
 use Rattle.listing_rules.proofs.{SpellingLaws.present, BackLaws.fill, BackLaws.listed, BackLaws.isMove, EntryLaws.fitting}
 use Rattle.assembly_rules.specs.Text.{capitalOf, capitals, isDigit, isCapital, isRun, endsLine}
@@ -63,18 +63,13 @@ agrees k (Number at two) = sameKind k (pick two 'word 'byte)
 agrees k (Target at two) = sameKind k (pick two 'long 'short)
 agrees k (Digit n) = pick (ltb n 8) (sameKind k 'bit) (sameKind k 'width && (eqb n 8 || eqb n 16))
 
-unfoldable pub isEmpty : Slot → Bool
-isEmpty Empty = true
-isEmpty (Name r) = false
-isEmpty (Place m at) = false
-isEmpty (Number at two) = false
-isEmpty (Target at two) = false
-isEmpty (Digit n) = false
+unfoldable pub isNone : List Operand → Bool
+isNone [] = true
+isNone (o ∷ os) = false
 
 -- places of these kinds, and empty ones behind them
 unfoldable pub agreesAll : List Kind → List Slot → Bool
-agreesAll [] [] = true
-agreesAll [] (a ∷ places) = isEmpty a && agreesAll [] places
+agreesAll [] places = isNone (sketch places)
 agreesAll (k ∷ ks) [] = false
 agreesAll (k ∷ ks) (a ∷ places) = agrees k a && agreesAll ks places
 
@@ -129,7 +124,7 @@ rowsRegular a o m to [] = true
 rowsRegular a o m to (r ∷ rs) = rowRegular a o m to r && rowsRegular a o m to rs
 
 table-regular : (a o m : ℕ) (to : Memory) → rowsRegular a o m to table ≡ true
-unfolding rowsRegular rowRegular allBelow table pairAt regular regularBy asks allTrue entries entryIn hasWord takes takesAll agrees agreesAll isEmpty orderly sameKind kindNumber noneOf memoriesIn isMove mnemonicOf slotsOf isJump listed sketch blunts blunt draws draw present fill filled rrrIn digitsIn sameText isName allRun capitals isRun isDigit isCapital capitalOf endsLine bitOf afterOffset
+unfolding rowsRegular rowRegular allBelow table pairAt regular regularBy asks allTrue entries entryIn hasWord takes takesAll agrees agreesAll isNone orderly sameKind kindNumber noneOf memoriesIn isMove mnemonicOf slotsOf isJump listed sketch blunts blunt draws draw present fill filled rrrIn digitsIn sameText isName allRun capitals isRun isDigit isCapital capitalOf endsLine bitOf afterOffset
 table-regular a o m to = refl
 
 -- the entry of an instruction with some pair: the assembler takes it, its kinds are the places', and its fields the pair's

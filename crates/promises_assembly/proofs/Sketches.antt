@@ -2,7 +2,6 @@
 -- Assumes nothing.
 use mathlib.Core.{Path._≡_, Path.refl, Path.ap, List.List, List.[], List._∷_}
 use Prim.Native.Nat.{ℕ}
-use Rattle.ground_rules.specs.Choice.{pick}
 use Rattle.listing_rules.specs.declared.Slot.{Slot, the-variants.Empty, the-variants.Name, the-variants.Place, the-variants.Number, the-variants.Target, the-variants.Digit}
 use Rattle.listing_rules.specs.{Forms.Operand, Forms.filled, Entries.Kind, Entries.Entry, Back.digitsIn, Back.rrrIn, Back.mmIn, Back.aaIn}
 use Rattle.listing_rules.specs.Forms.Operand.{none, register, memory, number, digit}
