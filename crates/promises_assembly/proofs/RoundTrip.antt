@@ -14,7 +14,8 @@ use Rattle.listing_rules.proofs.Unlisting.{numbers, spoken-data, spoken-free, f
 use Rattle.assembly_rules.specs.Text.{capitals, isRun, isDigit, isCapital, capitalOf, endsLine, begunBy, tokensOf, cutAt, linesIn}
 use Rattle.assembly_rules.specs.Statements.{Statement.items, headedBy, allSums, allLow, itemsFrom, statementOf, statementSize, isByte, itemsKnown, itemsStand, statementNumber, itemsBytes, statementBytes}
 use Rattle.assembly_rules.specs.{Sums.Label, Assembly.Said, Assembly.saidBy, Assembly.saidIn, Assembly.keptWith, Assembly.labelsFrom, Assembly.labelStands, Assembly.lineNumber, Assembly.assembled, Assembly.assembledFrom, Assembly.assembleOf}
-use Rattle.assembly_rules.proofs.{WritingLaws.allRun, WritingLaws.Writes, WritingLaws.written, WholeLaws.SameTokens, WholeLaws.SameTokens.noLine, WholeLaws.SameTokens.oneMore, WholeLaws.same-said}
+use Rattle.assembly_rules.proofs.{WritingLaws.allRun, WritingLaws.written, WholeLaws.SameTokens, WholeLaws.SameTokens.noLine, WholeLaws.SameTokens.oneMore, WholeLaws.same-said}
+use Rattle.promises_assembly.specs.Returning.{Respelled, Returns}
 use Rattle.promises_assembly.proofs.{Apart.noneOf, Apart.cut-first, Apart.isName, Constants.byte-constant, Places.opens, Instructions.Assembles, Instructions.instruction-assembles}
 use Rattle.promises_assembly.proofs.Parts.{spokenParts, Parted, parted-none, parted-next, line-said}
 
@@ -172,14 +173,9 @@ round-trip x first room h k =
     let e = all-listed first x in
     text-done first room (linesOf first x) (lines-assemble (length x) first x h) (rw e k) ∙ ap (assembled 0 0) e
 
--- lines whose tokens are written anew: in small letters or capitals, with blanks between tokens, with a comment behind them
-pub data Respelled : List (List ℕ) → List (List ℕ) → Type 0 where
-  finished : Respelled [] []
-  another : {line other : List ℕ} {lines others : List (List ℕ)} → Writes (tokensOf line) other → Respelled lines others → Respelled (line ∷ lines) (other ∷ others)
-
 same-tokens : {lines others : List (List ℕ)} → Respelled lines others → SameTokens others lines
-same-tokens finished = noLine
-same-tokens (another w later) = oneMore (written w) (same-tokens later)
+same-tokens Respelled.finished = noLine
+same-tokens (Respelled.another w later) = oneMore (written w) (same-tokens later)
 
 -- a listing gives its bytes back however it is spelled
 pub however-spelled : (x text : List ℕ) (first room : ℕ) → Bytes x → length x ≤ room → Respelled (linesIn (allChars (linesOf first x))) (linesIn text) → assembleOf text first room ≡ assembled 0 0 x
@@ -210,3 +206,6 @@ listing-back code buffer first room h k =
     ap (λ (text : List ℕ). assembleOf text first room) (placed-text lines buffer)
     ∙ text-done first room lines (kept-assemble (length buffer) first (linesOf first part) (lines-assemble (length part) first part (bytes-take listLimit code h))) k
     ∙ ap (assembled 0 0) (sym before)
+
+pub returns : Returns
+returns = record { whole = round-trip; spelled = however-spelled; made = listing-back }
