@@ -1,7 +1,6 @@
 -- The line of an instruction assembles to its bytes, from any address that is its own mod 65,536.
 -- Assumes nothing.
-use mathlib.Core.{Path._≡_, Path.refl, Path.sym, Path.ap, Path.subst, Path._∙_, Bool.Bool, Bool.true, Bool.false, Bool.not, Bool._||_, Bool.false≢true, List.List, List.[], List._∷_, List._++_, List.append-assoc, List.append-nil}
-use mathlib.Core.Logic.{_⊎_, inl, inr}
+use mathlib.Core.{Path._≡_, Path.refl, Path.sym, Path.ap, Path.subst, Path._∙_, Bool.Bool, Bool.true, Bool.false, Bool.not, Bool._||_, Bool.false≢true, List.List, List.[], List._∷_, List._++_, List.append-assoc, List.append-nil, Logic._⊎_, Logic.inl, Logic.inr}
 use Prim.Native.Nat.{ℕ, _+_, _*_, _/_, _%_, _<_}
 use native.Mathlib.Omega.{arith}
 use lib.{Dec.T, Dec.eqb, Dec.ltb, ListN.length, ListN.getD, ListN.take, ListN.length-take}
@@ -9,19 +8,17 @@ use borrow.Author.Tests.{eqb-true}
 use Rattle.ground_rules.specs.{Bits.fieldOf, Choice.pick}
 use Rattle.instruction_rules.specs.{declared.Memory.Memory, declared.Pair.Pair, declared.Shape.Shape, declared.Shape.the-variants.MovMemory, declared.Second.the-variants.Operand, Pairs.pairOf, Lengths.offsetLength, Lengths.lengthOf}
 use Rattle.instruction_rules.proofs.LengthLaws.{bounded}
-use Rattle.listing_rules.specs.declared.Slot.{Slot, the-variants.Empty, the-variants.Name, the-variants.Place, the-variants.Number, the-variants.Target, the-variants.Digit}
-use Rattle.listing_rules.specs.{Characters.sameText, Mnemonics.isListed, Mnemonics.mnemonicOf, Forms.afterOffset, Forms.slotsOf, Forms.filled, Forms.following, Lines.instructionLine, Entries.Kind, Entries.Entry, Entries.entries, Items.toOf}
-use Rattle.listing_rules.specs.{Back.rrrIn, Back.mmIn, Back.aaIn, Back.pairFrom, Back.pairBack, Back.operandsOf}
+use Rattle.listing_rules.specs.{declared.Slot.Slot, declared.Slot.the-variants.Empty, declared.Slot.the-variants.Name, declared.Slot.the-variants.Place, declared.Slot.the-variants.Number, declared.Slot.the-variants.Target, declared.Slot.the-variants.Digit, Characters.sameText, Mnemonics.isListed, Mnemonics.mnemonicOf, Forms.afterOffset, Forms.slotsOf}
+use Rattle.listing_rules.specs.{Forms.filled, Forms.following, Lines.instructionLine, Entries.Kind, Entries.Entry, Entries.entries, Items.toOf, Back.rrrIn, Back.mmIn, Back.aaIn, Back.pairFrom, Back.pairBack, Back.operandsOf}
 use Rattle.listing_rules.specs.Forms as Forms
-use Rattle.listing_rules.proofs.{SpellingLaws.present, SpellingLaws.marks, SpellingLaws.Fair, SpellingLaws.Bytes, EntryLaws.Known, EntryLaws.known, RowLaws.WholeAt}
-use Rattle.listing_rules.proofs.BackLaws.{slotBytes, spread, fill, all-covered, listed, chained, two-and-four, secondPair, second-fields, isMove, other-shape, Pairs, pairs}
-use Rattle.listing_rules.proofs.Unlisting.{spoken-line, spoken-free, free, first-pair, mov-covered, placed-to}
-use Rattle.assembly_rules.specs.{Sums.Label, Operands.Written, Operands.Chosen, Operands.Chosen.taken, Operands.Chosen.untaken, Operands.isMemoryKind, Operands.operandsFrom, Operands.takes, Operands.takesAll, Operands.entryIn, Operands.allShallow, Assembly.Said, Assembly.saidBy}
-use Rattle.assembly_rules.specs.Statements.{Statement.instruction, wordStatement, statementOf, kindSize, memoriesIn, statementSize, operandWorth, namesKnown, allStand, statementNumber, pairBytes, listedAll, writtenOffset, allOffsets, numberBytes, allNumbers, moveBytes, instructionBytes, statementBytes}
+use Rattle.listing_rules.proofs.{SpellingLaws.present, SpellingLaws.marks, SpellingLaws.Fair, SpellingLaws.Bytes, EntryLaws.Known, EntryLaws.known, RowLaws.WholeAt, BackLaws.slotBytes, BackLaws.spread, BackLaws.fill, BackLaws.all-covered, BackLaws.listed, BackLaws.chained, BackLaws.two-and-four, BackLaws.secondPair, BackLaws.second-fields, BackLaws.isMove}
+use Rattle.listing_rules.proofs.{BackLaws.other-shape, BackLaws.Pairs, BackLaws.pairs, Unlisting.spoken-line, Unlisting.spoken-free, Unlisting.free, Unlisting.first-pair, Unlisting.mov-covered, Unlisting.placed-to}
+use Rattle.assembly_rules.specs.{Sums.Label, Operands.Written, Operands.Chosen, Operands.Chosen.taken, Operands.Chosen.untaken, Operands.isMemoryKind, Operands.operandsFrom, Operands.takes, Operands.takesAll, Operands.entryIn, Operands.allShallow, Assembly.Said, Assembly.saidBy, Statements.Statement.instruction, Statements.wordStatement, Statements.statementOf}
+use Rattle.assembly_rules.specs.{Statements.kindSize, Statements.memoriesIn, Statements.statementSize, Statements.operandWorth, Statements.namesKnown, Statements.allStand, Statements.statementNumber, Statements.pairBytes, Statements.listedAll, Statements.writtenOffset, Statements.allOffsets, Statements.numberBytes, Statements.allNumbers, Statements.moveBytes}
+use Rattle.assembly_rules.specs.{Statements.instructionBytes, Statements.statementBytes}
 use Rattle.assembly_rules.proofs.{SizeLaws.number-size, SizeLaws.entries-plain, SizeLaws.entry-plain, SizeLaws.instruction-size, TreeLaws.add-equal, WritingLaws.both-left, WritingLaws.both-right}
-use Rattle.promises_assembly.proofs.{Apart.noneOf, Apart.fails, Rows.agrees, Rows.isNone, Rows.agreesAll, Rows.orderly, Rows.Regular, Rows.decoded-regular, Places.offsetTokens, Places.Meant, Places.placed, Places.meant}
-use Rattle.promises_assembly.proofs.Sketches.{blunt, blunts, draw, draws, sketch, sketched, entry-taken, rrr-blunt, base-blunt}
-use Rattle.promises_assembly.proofs.Parts.{spokenParts, Parted, parted-none, parted-next, line-said}
+use Rattle.promises_assembly.proofs.{Texts.noneOf, Texts.fails, Rows.agrees, Rows.isNone, Rows.agreesAll, Rows.orderly, Rows.Regular, Rows.decoded-regular, Places.offsetTokens, Places.Meant, Places.placed, Places.meant, Sketches.blunt, Sketches.blunts, Sketches.draw, Sketches.draws, Sketches.sketch, Sketches.sketched, Sketches.entry-taken, Sketches.rrr-blunt}
+use Rattle.promises_assembly.proofs.{Sketches.base-blunt, Texts.spokenParts, Texts.Parted, Texts.parted-none, Texts.parted-next, Texts.line-said}
 
 -- empty places have no text and no bytes
 record Blank (bytes : List ℕ) (end : ℕ) (places : List Slot) : Type 0 where

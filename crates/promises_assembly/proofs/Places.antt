@@ -1,6 +1,6 @@
 -- One place of a line: the assembler reads its operand, and makes of it the bytes that were listed there.
 -- Assumes nothing.
-use mathlib.Core.{Path._≡_, Path.refl, Path.sym, Path.ap, Path.subst, Path._∙_, Bool.Bool, Bool.true, Bool.false, Bool.not, Bool._&&_, Bool._||_, Bool.false≢true, List.List, List.[], List._∷_, List._++_}
+use mathlib.Core.{Path._≡_, Path.refl, Path.sym, Path.ap, Path.subst, Path._∙_, Bool.Bool, Bool.true, Bool.false, Bool._&&_, Bool._||_, Bool.false≢true, List.List, List.[], List._∷_, List._++_}
 use Prim.Native.Nat.{ℕ, _+_, _*_, _/_, _%_, _<_}
 use native.Mathlib.Nat.{add-comm, mul-add-mod-self-right, mod-eq-of-lt}
 use native.Mathlib.Omega.{arith}
@@ -8,32 +8,15 @@ use lib.{Dec.eqb, Dec.ltb, Dec.leb, ListN.getD}
 use borrow.Author.Tests.{ltb-true, ltb-false, lt-ltb, le-leb}
 use Rattle.ground_rules.specs.{Bytes.lowByte, Choice.pick, Signs.extended}
 use Rattle.instruction_rules.specs.declared.Memory.{Memory}
-use Rattle.listing_rules.specs.declared.Slot.{Slot, the-variants.Empty, the-variants.Name, the-variants.Place, the-variants.Number, the-variants.Target, the-variants.Digit}
-use Rattle.listing_rules.specs.{Characters.sameText, Characters.numberText, Forms.Operand, Forms.targetOf, Forms.wordBytes, Forms.filled, Forms.registerName, Forms.baseName, Forms.modeText, Forms.spelled, Forms.following}
-use Rattle.listing_rules.specs.Forms.Operand.{register, memory, number, digit}
-use Rattle.listing_rules.specs.Entries.{Kind, Kind.'R, Kind.'G, Kind.'P, Kind.'M, Kind.'byte, Kind.'word, Kind.'bit, Kind.'width, Kind.'short, Kind.'long}
+use Rattle.listing_rules.specs.{declared.Slot.Slot, declared.Slot.the-variants.Empty, declared.Slot.the-variants.Name, declared.Slot.the-variants.Place, declared.Slot.the-variants.Number, declared.Slot.the-variants.Target, declared.Slot.the-variants.Digit, Characters.sameText, Characters.numberText, Forms.Operand, Forms.targetOf, Forms.wordBytes, Forms.filled}
+use Rattle.listing_rules.specs.{Forms.registerName, Forms.baseName, Forms.modeText, Forms.spelled, Forms.following, Forms.Operand.register, Forms.Operand.memory, Forms.Operand.number, Forms.Operand.digit, Entries.Kind, Entries.Kind.'R, Entries.Kind.'G, Entries.Kind.'P, Entries.Kind.'M, Entries.Kind.'byte, Entries.Kind.'word, Entries.Kind.'bit}
+use Rattle.listing_rules.specs.{Entries.Kind.'width, Entries.Kind.'short, Entries.Kind.'long}
 use Rattle.listing_rules.proofs.{SpellingLaws.each, SpellingLaws.present, SpellingLaws.Fair, SpellingLaws.Bytes, BackLaws.slotBytes}
-use Rattle.assembly_rules.specs.Text.{capitalOf, isDigit, isCapital, isRun, isBlank, endsLine, Token, Token.run, Token.mark, isComma, inFrontOf, begunBy, tokensOf}
-use Rattle.assembly_rules.specs.Sums.{Label, indexIn, registerNumber, scanFrom, depthOf, worth, sumWorth}
-use Rattle.assembly_rules.specs.Operands.{Written, closedMemory, endedMemory, indexedMemory, memoryBehind, memoryFrom, operandFrom, isMemoryKind, takesRegister, takes, isShallow}
-use Rattle.assembly_rules.specs.Statements.{isByte, reachTo, isNear, mayStand, operandWorth, isDigitKind, listedAs, writtenOffset, numberBytes}
+use Rattle.assembly_rules.specs.{Text.capitalOf, Text.isDigit, Text.isCapital, Text.isRun, Text.isBlank, Text.endsLine, Text.Token, Text.Token.run, Text.isComma, Text.inFrontOf, Text.begunBy, Text.tokensOf, Sums.Label, Sums.indexIn, Sums.registerNumber, Sums.scanFrom, Sums.depthOf, Sums.worth, Sums.sumWorth, Operands.Written, Operands.closedMemory}
+use Rattle.assembly_rules.specs.{Operands.endedMemory, Operands.indexedMemory, Operands.memoryBehind, Operands.memoryFrom, Operands.operandFrom, Operands.isMemoryKind, Operands.takesRegister, Operands.takes, Operands.isShallow, Statements.isByte, Statements.reachTo, Statements.isNear, Statements.mayStand, Statements.operandWorth, Statements.isDigitKind}
+use Rattle.assembly_rules.specs.{Statements.listedAs, Statements.writtenOffset, Statements.numberBytes}
 use Rattle.assembly_rules.proofs.WritingLaws.{both-left, both-right}
-use Rattle.promises_assembly.proofs.Constants.{Constantly, byte-constant, word-constant, digit-constant}
-use Rattle.promises_assembly.proofs.{Apart.noneOf, Sketches.blunt, Sketches.draw, Rows.sameKind, Rows.same-kind, Rows.agrees}
-
--- whether tokens begin as an operand: they make no label of the word before them
-unfoldable pub opens : List Token → Bool
-opens [] = false
-opens (run r ∷ ts) = true
-opens (mark c ∷ ts) = not (eqb c 58)
-
--- an operand that is there and whose tokens stay together: its text ends no line, its tokens have no comma
-pub record Voiced (o : Operand) : Type 0 where
-  pub there : (os : List Operand) → present (o ∷ os) ≡ o ∷ present os
-  pub behind : (m : ℕ) → following m o ≡ m ∷ spelled o
-  pub free : noneOf endsLine (spelled o) ≡ true
-  pub uncut : noneOf isComma (tokensOf (spelled o)) ≡ true
-  pub begins : opens (tokensOf (spelled o)) ≡ true
+use Rattle.promises_assembly.proofs.{Texts.Constantly, Texts.byte-constant, Texts.word-constant, Texts.digit-constant, Texts.noneOf, Texts.opens, Texts.Voiced, Sketches.blunt, Sketches.draw, Rows.sameKind, Rows.same-kind, Rows.agrees}
 
 -- and stand for what is written
 pub record Heard (o : Operand) (w : Written) : Type 0 where

@@ -7,17 +7,16 @@ use native.Mathlib.Omega.{arith}
 use lib.{Dec.T, Dec.eqb, Dec.ltb, Dec.leb, ListN.length, ListN.take, ListN.drop, ListN.length-take, ListN.length-append, ListN.take-append-drop, Seq.take-at}
 use borrow.Author.Tests.{le-ltb, lt-ltb}
 use Rattle.ground_rules.specs.Choice.{pick}
-use Rattle.listing_rules.specs.{Characters.ascii, Characters.sameText, Forms.spelled, Forms.following, Forms.Operand.number, Lines.dataLine, Items.itemOf, Items.countOf}
-use Rattle.listing_rules.specs.Listings.{TextLine, charsOf, lineAt, linesBy, linesOf, allChars, allBytes, keptIn, listLimit, placed, listingOf}
-use Rattle.listing_rules.proofs.{SpellingLaws.marks, SpellingLaws.present, SpellingLaws.Bytes, RowLaws.whole-at, RowLaws.count-some, RowLaws.count-there, Theorems.all-listed, Theorems.bytes-append, Theorems.placed-text}
-use Rattle.listing_rules.proofs.Unlisting.{numbers, spoken-data, spoken-free, free, numbers-present, Line, Line.words, Line.raw, line-of, bytes-take, bytes-drop}
-use Rattle.assembly_rules.specs.Text.{capitals, isRun, isDigit, isCapital, capitalOf, endsLine, begunBy, tokensOf, cutAt, linesIn}
-use Rattle.assembly_rules.specs.Statements.{Statement.items, headedBy, allSums, allLow, itemsFrom, statementOf, statementSize, isByte, itemsKnown, itemsStand, statementNumber, itemsBytes, statementBytes}
-use Rattle.assembly_rules.specs.{Sums.Label, Assembly.Said, Assembly.saidBy, Assembly.saidIn, Assembly.keptWith, Assembly.labelsFrom, Assembly.labelStands, Assembly.lineNumber, Assembly.assembled, Assembly.assembledFrom, Assembly.assembleOf}
+use Rattle.listing_rules.specs.{Characters.ascii, Characters.sameText, Forms.spelled, Forms.following, Forms.Operand.number, Lines.dataLine, Items.itemOf, Items.countOf, Listings.TextLine, Listings.charsOf, Listings.lineAt, Listings.linesBy, Listings.linesOf, Listings.allChars, Listings.allBytes, Listings.keptIn, Listings.listLimit, Listings.placed}
+use Rattle.listing_rules.specs.{Listings.listingOf}
+use Rattle.listing_rules.proofs.{SpellingLaws.marks, SpellingLaws.present, SpellingLaws.Bytes, RowLaws.whole-at, RowLaws.count-some, RowLaws.count-there, Theorems.all-listed, Theorems.bytes-append, Theorems.placed-text, Unlisting.numbers, Unlisting.spoken-data, Unlisting.spoken-free, Unlisting.free, Unlisting.numbers-present, Unlisting.Line}
+use Rattle.listing_rules.proofs.{Unlisting.Line.words, Unlisting.Line.raw, Unlisting.line-of, Unlisting.bytes-take, Unlisting.bytes-drop}
+use Rattle.assembly_rules.specs.{Text.capitals, Text.isRun, Text.isDigit, Text.isCapital, Text.capitalOf, Text.endsLine, Text.begunBy, Text.tokensOf, Text.cutAt, Text.linesIn, Statements.Statement.items, Statements.headedBy, Statements.allSums, Statements.allLow, Statements.itemsFrom, Statements.statementOf, Statements.statementSize, Statements.isByte}
+use Rattle.assembly_rules.specs.{Statements.itemsKnown, Statements.itemsStand, Statements.statementNumber, Statements.itemsBytes, Statements.statementBytes, Sums.Label, Assembly.Said, Assembly.saidBy, Assembly.saidIn, Assembly.keptWith, Assembly.labelsFrom, Assembly.labelStands, Assembly.lineNumber, Assembly.assembled, Assembly.assembledFrom}
+use Rattle.assembly_rules.specs.{Assembly.assembleOf}
 use Rattle.assembly_rules.proofs.{WritingLaws.allRun, WritingLaws.written, WholeLaws.SameTokens, WholeLaws.SameTokens.noLine, WholeLaws.SameTokens.oneMore, WholeLaws.same-said}
 use Rattle.promises_assembly.specs.Returning.{Respelled, Returns}
-use Rattle.promises_assembly.proofs.{Apart.noneOf, Apart.cut-first, Apart.isName, Constants.byte-constant, Places.opens, Instructions.Assembles, Instructions.instruction-assembles}
-use Rattle.promises_assembly.proofs.Parts.{spokenParts, Parted, parted-none, parted-next, line-said}
+use Rattle.promises_assembly.proofs.{Texts.noneOf, Texts.cut-first, Texts.isName, Texts.byte-constant, Texts.opens, Instructions.Assembles, Instructions.instruction-assembles, Texts.spokenParts, Texts.Parted, Texts.parted-none, Texts.parted-next, Texts.line-said}
 
 -- the items of a DB line: numbers of one byte
 record Items (bytes : List ℕ) : Type 0 where

@@ -6,17 +6,14 @@ use native.Mathlib.Omega.{arith}
 use lib.{Dec.eqb, Dec.ltb, ListN.getD}
 use borrow.Author.Tests.{eqb-true, eqb-false}
 use Rattle.ground_rules.specs.{Bits.bitOf, Bits.fieldOf, Choice.pick}
-use Rattle.instruction_rules.specs.{declared.Memory.Memory, declared.Pair.Pair, declared.Shape.Shape, declared.Decoded.the-variants.Instruction, declared.Decoded.the-variants.ControlUsed}
-use Rattle.instruction_rules.specs.{Pairs.meets, Pairs.pairOf, Rows.isControl, Table.SummaryRow, Table.table, Reading.fits, Reading.lookup, Reading.decodeOf}
-use Rattle.listing_rules.specs.declared.Slot.{Slot, the-variants.Empty, the-variants.Name, the-variants.Place, the-variants.Number, the-variants.Target, the-variants.Digit}
-use Rattle.listing_rules.specs.{Characters.ascii, Characters.sameText, Mnemonics.isJump, Mnemonics.isListed, Mnemonics.mnemonicOf, Forms.Operand, Forms.afterOffset, Forms.filled, Forms.slotsOf, Back.digitsIn, Back.rrrIn}
-use Rattle.listing_rules.specs.Entries.{Kind, Entry, entries, Kind.'R, Kind.'G, Kind.'P, Kind.'M, Kind.'byte, Kind.'word, Kind.'bit, Kind.'width, Kind.'short, Kind.'long}
+use Rattle.instruction_rules.specs.{declared.Memory.Memory, declared.Pair.Pair, declared.Shape.Shape, declared.Decoded.the-variants.Instruction, declared.Decoded.the-variants.ControlUsed, Pairs.meets, Pairs.pairOf, Rows.isControl, Table.SummaryRow, Table.table, Reading.fits, Reading.lookup, Reading.decodeOf}
+use Rattle.listing_rules.specs.{declared.Slot.Slot, declared.Slot.the-variants.Empty, declared.Slot.the-variants.Name, declared.Slot.the-variants.Place, declared.Slot.the-variants.Number, declared.Slot.the-variants.Target, declared.Slot.the-variants.Digit, Characters.ascii, Characters.sameText, Mnemonics.isJump, Mnemonics.isListed, Mnemonics.mnemonicOf}
+use Rattle.listing_rules.specs.{Forms.Operand, Forms.afterOffset, Forms.filled, Forms.slotsOf, Back.digitsIn, Back.rrrIn, Entries.Kind, Entries.Entry, Entries.entries, Entries.Kind.'R, Entries.Kind.'G, Entries.Kind.'P, Entries.Kind.'M, Entries.Kind.'byte, Entries.Kind.'word, Entries.Kind.'bit, Entries.Kind.'width, Entries.Kind.'short, Entries.Kind.'long}
 use Rattle.listing_rules.proofs.{SpellingLaws.present, BackLaws.fill, BackLaws.listed, BackLaws.isMove, EntryLaws.fitting}
-use Rattle.assembly_rules.specs.Text.{capitalOf, capitals, isDigit, isCapital, isRun, endsLine}
-use Rattle.assembly_rules.specs.{Operands.isMemoryKind, Operands.takesRegister, Operands.takes, Operands.takesAll, Operands.Chosen, Operands.Chosen.taken, Operands.Chosen.untaken, Operands.entryIn, Operands.hasWord, Statements.kindSize, Statements.memoriesIn}
+use Rattle.assembly_rules.specs.{Text.capitalOf, Text.capitals, Text.isDigit, Text.isCapital, Text.isRun, Text.endsLine, Operands.isMemoryKind, Operands.takesRegister, Operands.takes, Operands.takesAll, Operands.Chosen, Operands.Chosen.taken, Operands.Chosen.untaken, Operands.entryIn, Operands.hasWord, Statements.kindSize, Statements.memoriesIn}
 use Rattle.assembly_rules.proofs.WritingLaws.{allRun, both-left, both-right}
 use Rattle.promises_codes.proofs.CodeNumbers.{allBelow, of-all}
-use Rattle.promises_assembly.proofs.{Apart.noneOf, Apart.fails, Apart.isName, Sketches.blunt, Sketches.blunts, Sketches.draw, Sketches.draws, Sketches.sketch}
+use Rattle.promises_assembly.proofs.{Texts.noneOf, Texts.fails, Texts.isName, Sketches.blunt, Sketches.blunts, Sketches.draw, Sketches.draws, Sketches.sketch}
 
 -- the kinds by number
 unfoldable pub kindNumber : Kind → ℕ
