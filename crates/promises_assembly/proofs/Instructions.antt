@@ -9,7 +9,7 @@ use Rattle.ground_rules.specs.{Bits.fieldOf, Choice.pick}
 use Rattle.instruction_rules.specs.{declared.Memory.Memory, declared.Pair.Pair, declared.Shape.Shape, declared.Shape.the-variants.MovMemory, declared.Second.the-variants.Operand, Pairs.pairOf, Lengths.offsetLength, Lengths.lengthOf}
 use Rattle.instruction_rules.proofs.LengthLaws.{bounded}
 use Rattle.listing_rules.specs.{declared.Slot.Slot, declared.Slot.the-variants.Empty, declared.Slot.the-variants.Name, declared.Slot.the-variants.Place, declared.Slot.the-variants.Number, declared.Slot.the-variants.Target, declared.Slot.the-variants.Digit, Characters.sameText, Mnemonics.isListed, Mnemonics.mnemonicOf, Forms.afterOffset, Forms.slotsOf}
-use Rattle.listing_rules.specs.{Forms.filled, Forms.following, Lines.instructionLine, Entries.Kind, Entries.Entry, Entries.entries, Items.toOf, Back.rrrIn, Back.mmIn, Back.aaIn, Back.pairFrom, Back.pairBack, Back.operandsOf}
+use Rattle.listing_rules.specs.{Forms.filled, Forms.following, Lines.instructionLine, Entries.Kind, Entries.Entry, Entries.entries, Items.toOf, Back.pairFrom, Back.pairBack, Back.operandsOf}
 use Rattle.listing_rules.specs.Forms as Forms
 use Rattle.listing_rules.proofs.{SpellingLaws.present, SpellingLaws.marks, SpellingLaws.Fair, SpellingLaws.Bytes, EntryLaws.Known, EntryLaws.known, RowLaws.WholeAt, BackLaws.slotBytes, BackLaws.spread, BackLaws.fill, BackLaws.all-covered, BackLaws.listed, BackLaws.chained, BackLaws.two-and-four, BackLaws.secondPair, BackLaws.second-fields, BackLaws.isMove}
 use Rattle.listing_rules.proofs.{BackLaws.other-shape, BackLaws.Pairs, BackLaws.pairs, Unlisting.spoken-line, Unlisting.spoken-free, Unlisting.free, Unlisting.first-pair, Unlisting.mov-covered, Unlisting.placed-to}
@@ -17,8 +17,8 @@ use Rattle.assembly_rules.specs.{Sums.Label, Operands.Written, Operands.Chosen,
 use Rattle.assembly_rules.specs.{Statements.kindSize, Statements.memoriesIn, Statements.statementSize, Statements.operandWorth, Statements.namesKnown, Statements.allStand, Statements.statementNumber, Statements.pairBytes, Statements.listedAll, Statements.writtenOffset, Statements.allOffsets, Statements.numberBytes, Statements.allNumbers, Statements.moveBytes}
 use Rattle.assembly_rules.specs.{Statements.instructionBytes, Statements.statementBytes}
 use Rattle.assembly_rules.proofs.{SizeLaws.number-size, SizeLaws.entries-plain, SizeLaws.entry-plain, SizeLaws.instruction-size, TreeLaws.add-equal, WritingLaws.both-left, WritingLaws.both-right}
-use Rattle.promises_assembly.proofs.{Texts.noneOf, Texts.fails, Rows.agrees, Rows.isNone, Rows.agreesAll, Rows.orderly, Rows.Regular, Rows.decoded-regular, Places.offsetTokens, Places.Meant, Places.placed, Places.meant, Sketches.blunt, Sketches.blunts, Sketches.draw, Sketches.draws, Sketches.sketch, Sketches.sketched, Sketches.entry-taken, Sketches.rrr-blunt}
-use Rattle.promises_assembly.proofs.{Sketches.base-blunt, Texts.spokenParts, Texts.Parted, Texts.parted-none, Texts.parted-next, Texts.line-said}
+use Rattle.promises_assembly.proofs.{Texts.noneOf, Texts.fails, Rows.agrees, Rows.isNone, Rows.agreesAll, Rows.orderly, Rows.Regular, Rows.decoded-regular, Places.offsetTokens, Places.Meant, Places.placed, Places.meant, Rows.Alike, Rows.draw, Rows.draws, Rows.sketch, Rows.sketched, Rows.entry-taken, Texts.spokenParts, Texts.Parted, Texts.parted-none}
+use Rattle.promises_assembly.proofs.{Texts.parted-next, Texts.line-said, Rows.alike-fields}
 
 -- empty places have no text and no bytes
 record Blank (bytes : List ℕ) (end : ℕ) (places : List Slot) : Type 0 where
@@ -27,7 +27,7 @@ record Blank (bytes : List ℕ) (end : ℕ) (places : List Slot) : Type 0 where
   none : [] ≡ spread bytes places
 
 blank-places : (bytes : List ℕ) (end : ℕ) (places : List Slot) → agreesAll [] places ≡ true → Blank bytes end places
-unfolding agreesAll isNone sketch blunts blunt fill filled marks following present spread slotBytes
+unfolding agreesAll isNone sketch fill filled marks following present spread slotBytes
 blank-places bytes end [] h = record { text = λ m. refl; there = refl; none = refl }
 blank-places bytes end (Empty ∷ places) h = let later = blank-places bytes end places h in record { text = λ m. later .text 44; there = later .there; none = later .none }
 blank-places bytes end (Name r ∷ places) h = absurd (false≢true h)
@@ -50,16 +50,16 @@ module _ (labels : List Label) (bytes : List ℕ) (end E : ℕ) where
   record Told (ks : List Kind) (places : List Slot) (ws : List Written) : Type 0 where
     parted : Parted (fill bytes end places)
     written : operandsFrom (spokenParts (present (fill bytes end places))) ≡ ws
-    taking : (ls : List Kind) → takesAll ls ws ≡ takesAll ls (draws (blunts (present (fill bytes end places))))
+    taking : (ls : List Kind) → takesAll ls ws ≡ takesAll ls (draws (present (fill bytes end places)))
     shallow : allShallow ws ≡ true
     known : namesKnown labels ws ≡ true
     stands : allStand labels E ks ws ≡ true
     bare : noneOf isMemoryKind ks ≡ true → allOffsets labels ws ≡ []
     joined : orderly ks ≡ true → allOffsets labels ws ++ allNumbers labels E ks ws ≡ spread bytes places
-    same : blunts (listedAll labels ks ws) ≡ blunts (present (fill bytes end places))
+    same : Alike (listedAll labels ks ws) (present (fill bytes end places))
 
   told-none : (places : List Slot) → agreesAll [] places ≡ true → Told [] places []
-  unfolding operandsFrom spokenParts blunts draws allShallow namesKnown allStand allOffsets allNumbers listedAll
+  unfolding operandsFrom spokenParts draws allShallow namesKnown allStand allOffsets allNumbers listedAll
   told-none places h =
       let b = blank-places bytes end places h in
       record {
@@ -71,7 +71,7 @@ module _ (labels : List Label) (bytes : List ℕ) (end E : ℕ) where
         stands = refl;
         bare = λ n. refl;
         joined = λ o. b .none;
-        same = rw (b .there);
+        same = rw (b .there) Alike.nothing;
       }
 
   -- offsets and numbers in one more place: where it has a number, none of the later ones is memory
@@ -83,7 +83,7 @@ module _ (labels : List Label) (bytes : List ℕ) (end E : ℕ) where
       go false e t = rw (none t) (simp (append-assoc, append-nil))
 
   told-next : (k : Kind) (ks : List Kind) (a : Slot) (places : List Slot) (w : Written) (ws : List Written) → Meant labels bytes end E k a w → Told ks places ws → Told (k ∷ ks) (a ∷ places) (w ∷ ws)
-  unfolding fill spread operandsFrom spokenParts blunts draws takesAll allShallow namesKnown allStand allOffsets allNumbers listedAll orderly noneOf
+  unfolding fill spread operandsFrom spokenParts draws takesAll allShallow namesKnown allStand allOffsets allNumbers listedAll orderly noneOf
   told-next k ks a places w ws m t =
       let o = filled bytes end a in
       let there = m .heard .voice .there (fill bytes end places) in
@@ -96,10 +96,10 @@ module _ (labels : List Label) (bytes : List ℕ) (end E : ℕ) where
         stands = rw (m .stands, t .stands);
         bare = λ n. rw (m .bare (fails (isMemoryKind k) (both-left (not (isMemoryKind k)) _ n)), t .bare (both-right (not (isMemoryKind k)) _ n));
         joined = λ h. join-next k ks (operandWorth labels w .value) (writtenOffset labels w) (allOffsets labels ws) (allNumbers labels E ks ws) (slotBytes bytes a) (spread bytes places) (m .own) (t .joined (both-right (eqb (kindSize k) 0 || noneOf isMemoryKind ks) _ h)) (t .bare) (both-left (eqb (kindSize k) 0 || noneOf isMemoryKind ks) _ h);
-        same = rw (there, m .same, t .same);
+        same = rw there (m .same (t .same));
       }
     where
-      both-take : (ls : List Kind) → takesAll ls (w ∷ ws) ≡ takesAll ls (draw (blunt (filled bytes end a)) ∷ draws (blunts (present (fill bytes end places))))
+      both-take : (ls : List Kind) → takesAll ls (w ∷ ws) ≡ takesAll ls (draw (filled bytes end a) ∷ draws (present (fill bytes end places)))
       both-take [] = refl
       both-take (l ∷ ls) = rw (m .taking l, t .taking ls)
 
@@ -135,7 +135,7 @@ chosenW (taken e) = e .w
 chosenW untaken = 2
 
 move-wide : (mm aa : ℕ) (wide : Bool) (to : Memory) (e : Entry) → let s = MovMemory (record { mm = mm; aa = aa; wide = wide }) in entryIn entries (mnemonicOf s) (draws (sketch (listed (slotsOf s to)))) ≡ taken e → e .w ≡ pick wide 1 0
-unfolding chosenW entries entryIn takes takesAll mnemonicOf slotsOf listed sketch blunts blunt draws draw present fill filled sameText
+unfolding chosenW entries entryIn takes takesAll mnemonicOf slotsOf listed sketch draws draw present fill filled sameText
 move-wide mm aa true to e h = sym (ap chosenW h)
 move-wide mm aa false to e h = sym (ap chosenW h)
 
@@ -190,17 +190,16 @@ module _ (x : List ℕ) (hb : Bytes x) (address : ℕ) (s : Shape) (to : Memory)
     ws = told .0
 
     chosen-entry : entryIn entries (mnemonicOf s) ws ≡ taken (r .entry)
-    chosen-entry = entry-taken entries (mnemonicOf s) ws (draws (sketch places)) (λ ls. told .1 .taking ls ∙ ap (λ (os : List Forms.Operand). takesAll ls (draws os)) (sketched x (address + n) places)) ∙ r .chosen
+    chosen-entry = entry-taken entries (mnemonicOf s) ws (draws (sketch places)) (λ ls. told .1 .taking ls ∙ ap (takesAll ls) (alike-fields 0 0 0 (sketched x (address + n) places) .3)) ∙ r .chosen
 
     pair-told : pairFrom (r .entry) (listedAll labels (r .entry .kinds) ws) ≡ pair
     unfolding pairFrom pairBack operandsOf fill listed
     pair-told =
-        let os = listedAll labels (r .entry .kinds) ws in
-        let all = told .1 .same in
+        let all = alike-fields (r .entry .rrr) 0 0 (told .1 .same) in
         let back = k .pair x (address + n) in
-        let e : rrrIn (r .entry .rrr) os ≡ pair .rrr = sym (rrr-blunt (r .entry .rrr) os) ∙ ap (rrrIn (r .entry .rrr)) (all ∙ sketched x (address + n) places) ∙ r .rrr in
-        let f : mmIn 0 os ≡ pair .mm = sym (base-blunt 0 0 os .0) ∙ ap (mmIn 0) all ∙ base-blunt 0 0 there .0 ∙ ap (λ (p : Pair). p .mm) back in
-        let g : aaIn 0 os ≡ pair .aa = sym (base-blunt 0 0 os .1) ∙ ap (aaIn 0) all ∙ base-blunt 0 0 there .1 ∙ ap (λ (p : Pair). p .aa) back in
+        let e = all .0 ∙ alike-fields (r .entry .rrr) 0 0 (sketched x (address + n) places) .0 ∙ r .rrr in
+        let f = all .1 ∙ ap (λ (p : Pair). p .mm) back in
+        let g = all .2 ∙ ap (λ (p : Pair). p .aa) back in
         rw (e, f, g, r .dd, r .w, r .opcode)
 
     one-bytes : isMove s ≡ false → instructionBytes labels E (r .entry) ws ≡ take n x

@@ -1,5 +1,4 @@
 pub mod Texts
-pub mod Sketches
 pub mod Rows
 pub mod Places
 pub mod Instructions

@@ -16,7 +16,7 @@ use Rattle.assembly_rules.specs.{Text.capitalOf, Text.isDigit, Text.isCapital, 
 use Rattle.assembly_rules.specs.{Operands.endedMemory, Operands.indexedMemory, Operands.memoryBehind, Operands.memoryFrom, Operands.operandFrom, Operands.isMemoryKind, Operands.takesRegister, Operands.takes, Operands.isShallow, Statements.isByte, Statements.reachTo, Statements.isNear, Statements.mayStand, Statements.operandWorth, Statements.isDigitKind}
 use Rattle.assembly_rules.specs.{Statements.listedAs, Statements.writtenOffset, Statements.numberBytes}
 use Rattle.assembly_rules.proofs.WritingLaws.{both-left, both-right}
-use Rattle.promises_assembly.proofs.{Texts.Constantly, Texts.byte-constant, Texts.word-constant, Texts.digit-constant, Texts.noneOf, Texts.opens, Texts.Voiced, Sketches.blunt, Sketches.draw, Rows.sameKind, Rows.same-kind, Rows.agrees}
+use Rattle.promises_assembly.proofs.{Texts.Constantly, Texts.byte-constant, Texts.word-constant, Texts.digit-constant, Texts.noneOf, Texts.opens, Texts.Voiced, Rows.draw, Rows.Alike, Rows.Alike.registers, Rows.Alike.memories, Rows.Alike.numbers, Rows.Alike.digits, Rows.sameKind, Rows.same-kind, Rows.agrees}
 
 -- and stand for what is written
 pub record Heard (o : Operand) (w : Written) : Type 0 where
@@ -121,17 +121,17 @@ module _ (labels : List Label) (bytes : List ℕ) (end E : ℕ) where
   -- an operand as it is meant in its place, under any labels and where the instruction ends at E: it is taken as in the listing, may stand there, and has the bytes of the place
   pub record Meant (k : Kind) (a : Slot) (w : Written) : Type 0 where
     pub heard : Heard (filled bytes end a) w
-    pub taking : (l : Kind) → takes l w ≡ takes l (draw (blunt (filled bytes end a)))
+    pub taking : (l : Kind) → takes l w ≡ takes l (draw (filled bytes end a))
     pub shallow : isShallow w ≡ true
     pub known : operandWorth labels w .known ≡ true
     pub stands : mayStand k E (operandWorth labels w .value) ≡ true
     pub own : writtenOffset labels w ++ numberBytes k E (operandWorth labels w .value) ≡ slotBytes bytes a
     pub bare : isMemoryKind k ≡ false → writtenOffset labels w ≡ []
-    pub same : blunt (listedAs labels k w) ≡ blunt (filled bytes end a)
+    pub same : {os ps : List Operand} → Alike os ps → Alike (listedAs labels k w ∷ os) (filled bytes end a ∷ ps)
 
   -- a number
-  valued : (k : Kind) (a : Slot) (v : ℕ) → ((os : List Operand) → present (filled bytes end a ∷ os) ≡ filled bytes end a ∷ present os) → ((m : ℕ) → following m (filled bytes end a) ≡ m ∷ spelled (filled bytes end a)) → draw (blunt (filled bytes end a)) ≡ Written.value [] → Constantly (spelled (filled bytes end a)) v → mayStand k E v ≡ true → numberBytes k E v ≡ slotBytes bytes a
-      → blunt (pick (isDigitKind k) (digit v) (number (wordBytes v))) ≡ blunt (filled bytes end a) → (w : Written) × Meant k a w
+  valued : (k : Kind) (a : Slot) (v : ℕ) → ((os : List Operand) → present (filled bytes end a ∷ os) ≡ filled bytes end a ∷ present os) → ((m : ℕ) → following m (filled bytes end a) ≡ m ∷ spelled (filled bytes end a)) → draw (filled bytes end a) ≡ Written.value [] → Constantly (spelled (filled bytes end a)) v → mayStand k E v ≡ true → numberBytes k E v ≡ slotBytes bytes a
+      → ((os ps : List Operand) → Alike os ps → Alike (pick (isDigitKind k) (digit v) (number (wordBytes v)) ∷ os) (filled bytes end a ∷ ps)) → (w : Written) × Meant k a w
   unfolding noneOf opens takes isShallow operandWorth listedAs
   valued k a v there behind drawn c stands nums same =
       let w = c .worths labels in (
@@ -144,18 +144,18 @@ module _ (labels : List Label) (bytes : List ℕ) (end E : ℕ) where
           stands = rw w stands;
           own = rw w nums;
           bare = λ h. refl;
-          same = rw w same;
+          same = λ l. rw w (same _ _ l);
         },
       )
 
   named : (k : Kind) (r : ℕ) → r < 8 → takesRegister k r ≡ true → Meant k (Name r) (Written.register r)
-  unfolding filled blunt draw takes isShallow operandWorth slotBytes listedAs
+  unfolding filled draw takes isShallow operandWorth slotBytes listedAs
   named k r f h =
       let t = register-kind k r E h in
-      record { heard = heard-register r f; taking = λ l. refl; shallow = refl; known = refl; stands = t .0; own = t .1; bare = λ b. refl; same = refl }
+      record { heard = heard-register r f; taking = λ l. refl; shallow = refl; known = refl; stands = t .0; own = t .1; bare = λ b. refl; same = λ l. registers r l }
 
   pub placed : (m : Memory) (at : ℕ) → Bytes bytes → m .mm < 4 → m .aa < 4 → Meant 'M (Place m at) (Written.memory (m .mm) (m .aa) (offsetTokens (m .aa) (getD bytes at 0)))
-  unfolding filled blunt draw takes isShallow operandWorth slotBytes listedAs mayStand isByte depthOf scanFrom Bytes
+  unfolding filled draw takes isShallow operandWorth slotBytes listedAs mayStand isByte depthOf scanFrom Bytes
   placed m at hb hm ha =
       let b = getD bytes at 0 in
       let c = byte-constant b (hb at) in
@@ -171,39 +171,39 @@ module _ (labels : List Label) (bytes : List ℕ) (end E : ℕ) where
         stands = either-way (λ (t : Bool). isByte (pick t (sumWorth labels (one t)) (worth 0 true) .value) ≡ true) has (rw (w, lt-ltb b 256 (hb at))) refl;
         own = either-way (λ (t : Bool). pick t (lowByte (sumWorth labels (one t) .value) ∷ []) [] ++ [] ≡ pick t (b ∷ []) []) has (rw (w, low)) refl;
         bare = λ h. absurd (false≢true (sym h));
-        same = refl;
+        same = λ l. memories (m .mm) (m .aa) _ _ l;
       }
 
   -- a place of a kind, as it is meant
   pub meant : Bytes bytes → E % 65536 ≡ end % 65536 → (k : Kind) (a : Slot) → Fair a → agrees k a ≡ true → (w : Written) × Meant k a w
-  unfolding Bytes Fair agrees filled blunt draw present following spelled slotBytes mayStand isByte targetOf
+  unfolding Bytes Fair agrees filled draw present following spelled slotBytes mayStand isByte targetOf
   meant hb ends k Empty f h = absurd (false≢true h)
   meant hb ends k (Name r) f h = (Written.register r, named k r f h)
   meant hb ends k (Place m at) f h = rw (same-kind k 'M h) (Written.memory (m .mm) (m .aa) (offsetTokens (m .aa) (getD bytes at 0)), placed m at hb (f .0) (f .1))
   meant hb ends k (Number at true) f h =
       let l = getD bytes at 0 in
       let u = getD bytes (at + 1) 0 in
-      rw (same-kind k 'word h) (valued 'word (Number at true) (l + u * 256) (λ os. refl) (λ m. refl) refl (word-constant l u (hb at) (hb (at + 1))) refl (halves l u (hb at) (hb (at + 1))) refl)
+      rw (same-kind k 'word h) (valued 'word (Number at true) (l + u * 256) (λ os. refl) (λ m. refl) refl (word-constant l u (hb at) (hb (at + 1))) refl (halves l u (hb at) (hb (at + 1))) (λ os ps l. numbers _ _ l))
   meant hb ends k (Number at false) f h =
       let b = getD bytes at 0 in
       let low : b % 256 ≡ b = omega (arith, hb at) in
-      rw (same-kind k 'byte h) (valued 'byte (Number at false) b (λ os. refl) (λ m. refl) refl (byte-constant b (hb at)) (rw (lt-ltb b 256 (hb at))) (rw low) refl)
+      rw (same-kind k 'byte h) (valued 'byte (Number at false) b (λ os. refl) (λ m. refl) refl (byte-constant b (hb at)) (rw (lt-ltb b 256 (hb at))) (rw low) (λ os ps l. numbers _ _ l))
   meant hb ends k (Target at true) f h =
       let l = getD bytes at 0 in
       let u = getD bytes (at + 1) 0 in
       let x = extended 16 (l + u * 256) in
       let reach = reach-back E end x ends ∙ long-reach (l + u * 256) (omega (arith, hb at, hb (at + 1))) in
-      rw (same-kind k 'long h) (valued 'long (Target at true) (targetOf end x) (λ os. refl) (λ m. refl) refl (target-constant end x) refl (rw reach (halves l u (hb at) (hb (at + 1)))) refl)
+      rw (same-kind k 'long h) (valued 'long (Target at true) (targetOf end x) (λ os. refl) (λ m. refl) refl (target-constant end x) refl (rw reach (halves l u (hb at) (hb (at + 1)))) (λ os ps l. numbers _ _ l))
   meant hb ends k (Target at false) f h =
       let b = getD bytes at 0 in
       let x = extended 8 b in
       let reach = reach-back E end x ends in
       let s = short-reach b (hb at) in
-      rw (same-kind k 'short h) (valued 'short (Target at false) (targetOf end x) (λ os. refl) (λ m. refl) refl (target-constant end x) (rw reach (s .0)) (rw (reach, s .1)) refl)
+      rw (same-kind k 'short h) (valued 'short (Target at false) (targetOf end x) (λ os. refl) (λ m. refl) refl (target-constant end x) (rw reach (s .0)) (rw (reach, s .1)) (λ os ps l. numbers _ _ l))
   meant hb ends k (Digit n) f h = go (ltb n 8) refl h
     where
       go : (b : Bool) → ltb n 8 ≡ b → pick b (sameKind k 'bit) (sameKind k 'width && (eqb n 8 || eqb n 16)) ≡ true → (w : Written) × Meant k (Digit n) w
-      go true e t = rw (same-kind k 'bit t) (valued 'bit (Digit n) n (λ os. refl) (λ m. refl) refl (digit-constant n (rw e)) e refl refl)
+      go true e t = rw (same-kind k 'bit t) (valued 'bit (Digit n) n (λ os. refl) (λ m. refl) refl (digit-constant n (rw e)) e refl (λ os ps l. digits n l))
       go false e t =
           let wide = both-right (sameKind k 'width) _ t in
-          rw (same-kind k 'width (both-left (sameKind k 'width) _ t)) (valued 'width (Digit n) n (λ os. refl) (λ m. refl) refl (digit-constant n (rw (e, wide))) wide refl refl)
+          rw (same-kind k 'width (both-left (sameKind k 'width) _ t)) (valued 'width (Digit n) n (λ os. refl) (λ m. refl) refl (digit-constant n (rw (e, wide))) wide refl (λ os ps l. digits n l))
