@@ -11,13 +11,15 @@ use Rattle.instruction_rules.proofs.LengthLaws.{bounded}
 use Rattle.listing_rules.specs.{declared.Slot.Slot, declared.Slot.the-variants.Empty, declared.Slot.the-variants.Name, declared.Slot.the-variants.Place, declared.Slot.the-variants.Number, declared.Slot.the-variants.Target, declared.Slot.the-variants.Digit, Characters.sameText, Mnemonics.isListed, Mnemonics.mnemonicOf, Forms.afterOffset, Forms.slotsOf}
 use Rattle.listing_rules.specs.{Forms.filled, Forms.following, Lines.instructionLine, Entries.Kind, Entries.Entry, Entries.entries, Items.toOf, Back.pairFrom, Back.pairBack, Back.operandsOf}
 use Rattle.listing_rules.specs.Forms as Forms
-use Rattle.listing_rules.proofs.{SpellingLaws.present, SpellingLaws.marks, SpellingLaws.Fair, SpellingLaws.Bytes, EntryLaws.Known, EntryLaws.known, RowLaws.WholeAt, BackLaws.slotBytes, BackLaws.spread, BackLaws.fill, BackLaws.all-covered, BackLaws.listed, BackLaws.chained, BackLaws.two-and-four, BackLaws.secondPair, BackLaws.second-fields, BackLaws.isMove}
+use Rattle.listing_rules.proofs.{SpellingLaws.present, SpellingLaws.marks, SpellingLaws.Fair, SpellingLaws.Bytes, EntryLaws.Known, EntryLaws.known, RowLaws.WholeAt, BackLaws.slotBytes, BackLaws.spread, BackLaws.fill, BackLaws.all-covered, BackLaws.listed, BackLaws.chained, BackLaws.secondPair, BackLaws.second-fields, BackLaws.isMove}
 use Rattle.listing_rules.proofs.{BackLaws.other-shape, BackLaws.Pairs, BackLaws.pairs, Unlisting.spoken-line, Unlisting.spoken-free, Unlisting.free, Unlisting.first-pair, Unlisting.mov-covered, Unlisting.placed-to}
 use Rattle.assembly_rules.specs.{Sums.Label, Operands.Written, Operands.Chosen, Operands.Chosen.taken, Operands.Chosen.untaken, Operands.isMemoryKind, Operands.operandsFrom, Operands.takes, Operands.takesAll, Operands.entryIn, Operands.allShallow, Assembly.Said, Assembly.saidBy, Statements.Statement.instruction, Statements.wordStatement, Statements.statementOf}
 use Rattle.assembly_rules.specs.{Statements.kindSize, Statements.memoriesIn, Statements.statementSize, Statements.operandWorth, Statements.namesKnown, Statements.allStand, Statements.statementNumber, Statements.pairBytes, Statements.listedAll, Statements.writtenOffset, Statements.allOffsets, Statements.numberBytes, Statements.allNumbers, Statements.moveBytes}
 use Rattle.assembly_rules.specs.{Statements.instructionBytes, Statements.statementBytes}
 use Rattle.assembly_rules.proofs.{SizeLaws.number-size, SizeLaws.entries-plain, SizeLaws.entry-plain, SizeLaws.instruction-size, TreeLaws.add-equal, WritingLaws.both-left, WritingLaws.both-right}
+use Rattle.promises_codes.proofs.CodeNumbers.{allBelow, of-all}
 use Rattle.promises_assembly.proofs.{Texts.noneOf, Texts.fails, Rows.agrees, Rows.isNone, Rows.agreesAll, Rows.orderly, Rows.Regular, Rows.decoded-regular, Places.offsetTokens, Places.Meant, Places.placed, Places.meant, Rows.Alike, Rows.draw, Rows.draws, Rows.sketch, Rows.sketched, Rows.entry-taken, Texts.spokenParts, Texts.Parted, Texts.parted-none}
+use Rattle.promises_codes.proofs.CodeNumbers.{allBelow, of-all}
 use Rattle.promises_assembly.proofs.{Texts.parted-next, Texts.line-said, Rows.alike-fields}
 
 -- empty places have no text and no bytes
@@ -62,17 +64,7 @@ module _ (labels : List Label) (bytes : List ℕ) (end E : ℕ) where
   unfolding operandsFrom spokenParts draws allShallow namesKnown allStand allOffsets allNumbers listedAll
   told-none places h =
       let b = blank-places bytes end places h in
-      record {
-        parted = parted-none (fill bytes end places) (b .text) (b .there);
-        written = rw (b .there);
-        taking = λ ls. rw (b .there);
-        shallow = refl;
-        known = refl;
-        stands = refl;
-        bare = λ n. refl;
-        joined = λ o. b .none;
-        same = rw (b .there) Alike.nothing;
-      }
+      record { parted = parted-none (fill bytes end places) (b .text) (b .there); written = rw (b .there); taking = λ ls. rw (b .there); shallow = refl; known = refl; stands = refl; bare = λ n. refl; joined = λ o. b .none; same = rw (b .there) Alike.nothing }
 
   -- offsets and numbers in one more place: where it has a number, none of the later ones is memory
   join-next : (k : Kind) (ks : List Kind) (v : ℕ) (o os ns here later : List ℕ) → o ++ numberBytes k E v ≡ here → os ++ ns ≡ later → (noneOf isMemoryKind ks ≡ true → os ≡ []) → eqb (kindSize k) 0 || noneOf isMemoryKind ks ≡ true → (o ++ os) ++ (numberBytes k E v ++ ns) ≡ here ++ later
@@ -112,22 +104,17 @@ module _ (labels : List Label) (bytes : List ℕ) (end E : ℕ) where
       let t = told-all hb ends ks places (f .1) (both-right (agrees k a) _ h) in
       (m .0 ∷ t .0, told-next k ks a places (m .0) (t .0) (m .1) (t .1))
 
--- the two bytes of a pair, from its fields
-middle-field : (b : ℕ) → b % 32 ≡ b / 8 % 4 * 8 + b % 8
-middle-field b = omega arith
-
-upper-field : (b : ℕ) → b < 256 → b ≡ b / 32 % 8 * 32 + b % 32
-upper-field b h = omega arith
-
-code-fields : (c : ℕ) → c < 256 → c / 4 % 64 * 4 + c / 1 % 4 ≡ c
-code-fields c h = omega arith
-
-fields-sum : (b m l r d a w : ℕ) → b ≡ r + m → m ≡ d + l → l ≡ a + w → r + d + a + w ≡ b
-fields-sum b m l r d a w e f g = omega arith
+-- the two bytes of a pair, from its fields: worked out for every byte
+fields-back : (allBelow 256 (λ (b : ℕ). eqb (b / 32 % 8 * 32 + b / 8 % 4 * 8 + b / 2 % 4 * 2 + b / 1 % 2) b) ≡ true) × (allBelow 256 (λ (c : ℕ). eqb (c / 4 % 64 * 4 + c / 1 % 4) c) ≡ true)
+unfolding allBelow
+fields-back = (refl, refl)
 
 pair-back : (b c : ℕ) → b < 256 → c < 256 → pairBytes (pairOf b c) ≡ b ∷ c ∷ []
 unfolding pairBytes pairOf fieldOf
-pair-back b c h k = rw (fields-sum b (b % 32) (b % 8) (b / 32 % 8 * 32) (b / 8 % 4 * 8) (b / 2 % 4 * 2) (b / 1 % 2) (upper-field b h) (middle-field b) (two-and-four b), code-fields c k)
+pair-back b c h k =
+    let e : b / 32 % 8 * 32 + b / 8 % 4 * 8 + b / 2 % 4 * 2 + b / 1 % 2 ≡ b = eqb-true _ _ (of-all 256 _ (fields-back .0) b h) in
+    let f : c / 4 % 64 * 4 + c / 1 % 4 ≡ c = eqb-true _ _ (of-all 256 _ (fields-back .1) c k) in
+    rw (e, f)
 
 -- W of MOV M,M is that of its operands
 chosenW : Chosen → ℕ

@@ -5,7 +5,7 @@ use Prim.Native.Nat.{ℕ, _+_, _*_, _/_, _%_, _<_}
 use native.Mathlib.Nat.{add-comm, mul-add-mod-self-right, mod-eq-of-lt}
 use native.Mathlib.Omega.{arith}
 use lib.{Dec.eqb, Dec.ltb, Dec.leb, ListN.getD}
-use borrow.Author.Tests.{ltb-true, ltb-false, lt-ltb, le-leb}
+use borrow.Author.Tests.{eqb-true, lt-ltb}
 use Rattle.ground_rules.specs.{Bytes.lowByte, Choice.pick, Signs.extended}
 use Rattle.instruction_rules.specs.declared.Memory.{Memory}
 use Rattle.listing_rules.specs.{declared.Slot.Slot, declared.Slot.the-variants.Empty, declared.Slot.the-variants.Name, declared.Slot.the-variants.Place, declared.Slot.the-variants.Number, declared.Slot.the-variants.Target, declared.Slot.the-variants.Digit, Characters.sameText, Characters.numberText, Forms.Operand, Forms.targetOf, Forms.wordBytes, Forms.filled}
@@ -16,6 +16,7 @@ use Rattle.assembly_rules.specs.{Text.capitalOf, Text.isDigit, Text.isCapital, 
 use Rattle.assembly_rules.specs.{Operands.endedMemory, Operands.indexedMemory, Operands.memoryBehind, Operands.memoryFrom, Operands.operandFrom, Operands.isMemoryKind, Operands.takesRegister, Operands.takes, Operands.isShallow, Statements.isByte, Statements.reachTo, Statements.isNear, Statements.mayStand, Statements.operandWorth, Statements.isDigitKind}
 use Rattle.assembly_rules.specs.{Statements.listedAs, Statements.writtenOffset, Statements.numberBytes}
 use Rattle.assembly_rules.proofs.WritingLaws.{both-left, both-right}
+use Rattle.promises_codes.proofs.CodeNumbers.{allBelow, of-all}
 use Rattle.promises_assembly.proofs.{Texts.Constantly, Texts.byte-constant, Texts.word-constant, Texts.digit-constant, Texts.noneOf, Texts.opens, Texts.Voiced, Rows.draw, Rows.Alike, Rows.Alike.registers, Rows.Alike.memories, Rows.Alike.numbers, Rows.Alike.digits, Rows.sameKind, Rows.same-kind, Rows.agrees}
 
 -- and stand for what is written
@@ -61,20 +62,12 @@ reach-back : (E end x : ℕ) → E % 65536 ≡ end % 65536 → reachTo E ((end +
 unfolding reachTo
 reach-back E end x h = omega arith
 
-or-right : (a b : Bool) → b ≡ true → a || b ≡ true
-or-right true b k = refl
-or-right false b k = k
+near-bytes : allBelow 256 (λ (x : ℕ). isNear (extended 8 x % 65536) && eqb (extended 8 x % 65536 % 256) x) ≡ true
+unfolding allBelow extended
+near-bytes = refl
 
 short-reach : (x : ℕ) → x < 256 → (isNear (extended 8 x % 65536) ≡ true) × (extended 8 x % 65536 % 256 ≡ x)
-unfolding extended
-short-reach x h = go (ltb x 128) refl
-  where
-    go : (b : Bool) → ltb x 128 ≡ b → (isNear (pick b x (x + 1048320) % 65536) ≡ true) × (pick b x (x + 1048320) % 65536 % 256 ≡ x)
-    go true e = let l = ltb-true x 128 e in let f : x % 65536 ≡ x = omega arith in rw (f, e) (refl, omega arith)
-    go false e =
-        let l = ltb-false x 128 e in
-        let f : (x + 1048320) % 65536 ≡ x + 65280 = omega arith in
-        rw f (or-right (ltb (x + 65280) 0x80) (leb 0xFF80 (x + 65280)) (le-leb 0xFF80 (x + 65280) (omega arith)), omega arith)
+short-reach x h = let t = of-all 256 _ near-bytes x h in let near = isNear (extended 8 x % 65536) in (both-left near _ t, eqb-true _ _ (both-right near _ t))
 
 long-reach : (x : ℕ) → x < 65536 → extended 16 x % 65536 ≡ x
 unfolding extended

@@ -4,7 +4,7 @@ use mathlib.Core.{Path._≡_, Path.refl, Path.sym, Path.ap, Path.subst, Path._�
 use Prim.Native.Nat.{ℕ, zero, suc, _+_, _-_, _%_, _≤_}
 use native.Mathlib.Nat.{mod-mod, add-zero}
 use native.Mathlib.Omega.{arith}
-use lib.{Dec.T, Dec.eqb, Dec.ltb, Dec.leb, ListN.length, ListN.take, ListN.drop, ListN.length-take, ListN.length-append, ListN.take-append-drop, Seq.take-at}
+use lib.{Dec.T, Dec.eqb, Dec.ltb, Dec.leb, ListN.length, ListN.take, ListN.drop, ListN.length-take, ListN.length-append, ListN.take-append-drop, Seq.take-at, Ieee.Bits.is-true}
 use borrow.Author.Tests.{le-ltb, lt-ltb}
 use Rattle.ground_rules.specs.Choice.{pick}
 use Rattle.listing_rules.specs.{Characters.ascii, Characters.sameText, Forms.spelled, Forms.following, Forms.Operand.number, Lines.dataLine, Items.itemOf, Items.countOf, Listings.TextLine, Listings.charsOf, Listings.lineAt, Listings.linesBy, Listings.linesOf, Listings.allChars, Listings.allBytes, Listings.keptIn, Listings.listLimit, Listings.placed}
@@ -100,29 +100,20 @@ lines-assemble (suc most) address (b ∷ x) h =
     let size : n ≡ length (take n all) = omega (arith, length-take n all, count-there all some) in
     more (line-assembles address all some h) (subst (λ (k : ℕ). AllAssemble (address + k) (linesBy most (address + n) (drop n all))) size (lines-assemble most (address + n) (drop n all) (bytes-drop n all h)))
 
--- the lines before the first that does not fit a room
-kept-assemble : (room address : ℕ) (lines : List TextLine) → AllAssemble address lines → AllAssemble address (keptIn room lines)
-unfolding keptIn
-kept-assemble room address lines none = none
-kept-assemble room address lines (more {line = line} {lines = rest} a later) = go (leb (length (line .chars)) room) (kept-assemble (room - length (line .chars)) (address + length (line .bytes)) rest later)
-  where
-    go : (b : Bool) → AllAssemble (address + length (line .bytes)) (keptIn (room - length (line .chars)) rest) → AllAssemble address (pick b (line ∷ keptIn (room - length (line .chars)) rest) [])
-    go true all = more a all
-    go false all = none
+-- so do the first of such lines
+first-assemble : (address : ℕ) (lines rest : List TextLine) → AllAssemble address (lines ++ rest) → AllAssemble address lines
+first-assemble address [] rest all = none
+first-assemble address (line ∷ lines) rest (more a later) = more a (first-assemble (address + length (line .bytes)) lines rest later)
 
 -- the lines of a text: up to its first line feed, and from there on
-feed-free : (text : List ℕ) → T (free text) → noneOf (λ c. eqb c 10) text ≡ true
+feeds : (text : List ℕ) → noneOf (λ c. eqb c 10) text ≡ free text
 unfolding free noneOf
-feed-free [] t = refl
-feed-free (c ∷ text) t = go (not (eqb c 10)) t (feed-free text)
-  where
-    go : (b : Bool) → T (b && free text) → (T (free text) → noneOf (λ c. eqb c 10) text ≡ true) → b && noneOf (λ c. eqb c 10) text ≡ true
-    go true u later = later u
-    go false u later = absurd u
+feeds [] = refl
+feeds (c ∷ text) = rw (feeds text)
 
 first-line : (front rest : List ℕ) → T (free front) → linesIn ((front ++ (10 ∷ [])) ++ rest) ≡ front ∷ linesIn rest
 unfolding linesIn
-first-line front rest t = ap (cutAt (λ c. eqb c 10)) (append-assoc front (10 ∷ []) rest) ∙ cut-first (λ c. eqb c 10) front rest 10 (feed-free front t) refl
+first-line front rest t = ap (cutAt (λ c. eqb c 10)) (append-assoc front (10 ∷ []) rest) ∙ cut-first (λ c. eqb c 10) front rest 10 (feeds front ∙ is-true (free front) t) refl
 
 -- what follows the last line feed says nothing
 last-line : (labels kept : List Label) (first room line : ℕ) (done : List ℕ) → assembledFrom labels kept first room line done (saidIn (linesIn [])) ≡ assembled 0 0 done
@@ -203,7 +194,7 @@ listing-back code buffer first room h k =
     sym (take-append-drop listLimit code) ∙ ap (λ (l : List ℕ). l ++ drop listLimit code) (sym (all-listed first part) ∙ ap allBytes (cut .1) ∙ bytes-append lines (cut .0)) ∙ append-assoc (allBytes lines) (allBytes (cut .0)) (drop listLimit code) in
     let before : take (length (allBytes lines)) code ≡ allBytes lines = ap (take (length (allBytes lines))) whole ∙ take-at (allBytes lines) more-bytes (length (allBytes lines)) refl in
     ap (λ (text : List ℕ). assembleOf text first room) (placed-text lines buffer)
-    ∙ text-done first room lines (kept-assemble (length buffer) first (linesOf first part) (lines-assemble (length part) first part (bytes-take listLimit code h))) k
+    ∙ text-done first room lines (first-assemble first lines (cut .0) (subst (AllAssemble first) (cut .1) (lines-assemble (length part) first part (bytes-take listLimit code h)))) k
     ∙ ap (assembled 0 0) (sym before)
 
 pub returns : Returns
