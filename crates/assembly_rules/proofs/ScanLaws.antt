@@ -406,6 +406,11 @@ unfolding sameText
 is-same [] = refl
 is-same (c ∷ a) = rw (eq-eqb c c refl, is-same a)
 
+-- whether a test fails for each of a list
+unfoldable pub allFail : {A : Type 0} → (A → Bool) → List A → Bool
+allFail test [] = true
+allFail test (this ∷ rest) = not (test this) && allFail test rest
+
 -- a text that stands in a list is the one at its place
 pub index-named : (names : List (List ℕ)) (text : List ℕ) → indexIn names text < length names → text ≡ getD names (indexIn names text) []
 unfolding indexIn

@@ -4,7 +4,7 @@ use mathlib.Core.{Path._≡_, Path.refl, Path.sym, Path.ap, Path.subst, Path._�
 use Prim.Native.Nat.{ℕ, _+_, _*_, _/_, _%_, _<_}
 use native.Mathlib.Omega.{arith}
 use lib.{Dec.T, Dec.eqb, Dec.ltb, ListN.length, ListN.getD, ListN.take, ListN.length-take}
-use borrow.Author.Tests.{eqb-true}
+use borrow.Author.Tests.{not-true, eqb-true}
 use Rattle.ground_rules.specs.{Bits.fieldOf, Choice.pick}
 use Rattle.instruction_rules.specs.{declared.Memory.Memory, declared.Pair.Pair, declared.Shape.Shape, declared.Shape.the-variants.MovMemory, declared.Second.the-variants.Operand, Pairs.pairOf, Lengths.offsetLength, Lengths.lengthOf}
 use Rattle.instruction_rules.proofs.LengthLaws.{bounded}
@@ -16,9 +16,9 @@ use Rattle.listing_rules.proofs.{BackLaws.other-shape, BackLaws.Pairs, BackLaws
 use Rattle.assembly_rules.specs.{Sums.Label, Operands.Written, Operands.Chosen, Operands.Chosen.taken, Operands.Chosen.untaken, Operands.isMemoryKind, Operands.operandsFrom, Operands.takes, Operands.takesAll, Operands.entryIn, Operands.allShallow, Assembly.Said, Assembly.saidBy, Statements.Statement.instruction, Statements.wordStatement, Statements.statementOf}
 use Rattle.assembly_rules.specs.{Statements.kindSize, Statements.memoriesIn, Statements.statementSize, Statements.operandWorth, Statements.namesKnown, Statements.allStand, Statements.statementNumber, Statements.pairBytes, Statements.listedAll, Statements.writtenOffset, Statements.allOffsets, Statements.numberBytes, Statements.allNumbers, Statements.moveBytes}
 use Rattle.assembly_rules.specs.{Statements.instructionBytes, Statements.statementBytes}
-use Rattle.assembly_rules.proofs.{SizeLaws.number-size, SizeLaws.entries-plain, SizeLaws.entry-plain, SizeLaws.instruction-size, TreeLaws.add-equal, WritingLaws.both-left, WritingLaws.both-right}
+use Rattle.assembly_rules.proofs.{ScanLaws.allFail, SizeLaws.number-size, SizeLaws.entries-plain, SizeLaws.entry-plain, SizeLaws.instruction-size, TreeLaws.add-equal, WritingLaws.both-left, WritingLaws.both-right}
 use Rattle.promises_codes.proofs.CodeNumbers.{allBelow, of-all}
-use Rattle.promises_assembly.proofs.{Texts.noneOf, Texts.fails, Rows.agrees, Rows.isNone, Rows.agreesAll, Rows.orderly, Rows.Regular, Rows.decoded-regular, Places.offsetTokens, Places.Meant, Places.placed, Places.meant, Rows.Alike, Rows.draw, Rows.draws, Rows.sketch, Rows.sketched, Rows.entry-taken, Texts.spokenParts, Texts.Parted, Texts.parted-none}
+use Rattle.promises_assembly.proofs.{Rows.agrees, Rows.isNone, Rows.agreesAll, Rows.orderly, Rows.Regular, Rows.decoded-regular, Places.offsetTokens, Places.Meant, Places.placed, Places.meant, Rows.Alike, Rows.draw, Rows.draws, Rows.sketch, Rows.sketched, Rows.entry-taken, Texts.spokenParts, Texts.Parted, Texts.parted-none}
 use Rattle.promises_codes.proofs.CodeNumbers.{allBelow, of-all}
 use Rattle.promises_assembly.proofs.{Texts.parted-next, Texts.line-said, Rows.alike-fields}
 
@@ -56,7 +56,7 @@ module _ (labels : List Label) (bytes : List ℕ) (end E : ℕ) where
     shallow : allShallow ws ≡ true
     known : namesKnown labels ws ≡ true
     stands : allStand labels E ks ws ≡ true
-    bare : noneOf isMemoryKind ks ≡ true → allOffsets labels ws ≡ []
+    bare : allFail isMemoryKind ks ≡ true → allOffsets labels ws ≡ []
     joined : orderly ks ≡ true → allOffsets labels ws ++ allNumbers labels E ks ws ≡ spread bytes places
     same : Alike (listedAll labels ks ws) (present (fill bytes end places))
 
@@ -67,15 +67,15 @@ module _ (labels : List Label) (bytes : List ℕ) (end E : ℕ) where
       record { parted = parted-none (fill bytes end places) (b .text) (b .there); written = rw (b .there); taking = λ ls. rw (b .there); shallow = refl; known = refl; stands = refl; bare = λ n. refl; joined = λ o. b .none; same = rw (b .there) Alike.nothing }
 
   -- offsets and numbers in one more place: where it has a number, none of the later ones is memory
-  join-next : (k : Kind) (ks : List Kind) (v : ℕ) (o os ns here later : List ℕ) → o ++ numberBytes k E v ≡ here → os ++ ns ≡ later → (noneOf isMemoryKind ks ≡ true → os ≡ []) → eqb (kindSize k) 0 || noneOf isMemoryKind ks ≡ true → (o ++ os) ++ (numberBytes k E v ++ ns) ≡ here ++ later
+  join-next : (k : Kind) (ks : List Kind) (v : ℕ) (o os ns here later : List ℕ) → o ++ numberBytes k E v ≡ here → os ++ ns ≡ later → (allFail isMemoryKind ks ≡ true → os ≡ []) → eqb (kindSize k) 0 || allFail isMemoryKind ks ≡ true → (o ++ os) ++ (numberBytes k E v ++ ns) ≡ here ++ later
   join-next k ks v o os ns here later p q none h = rw (← p, ← q) (go (eqb (kindSize k) 0) refl h)
     where
-      go : (b : Bool) → eqb (kindSize k) 0 ≡ b → b || noneOf isMemoryKind ks ≡ true → (o ++ os) ++ (numberBytes k E v ++ ns) ≡ (o ++ numberBytes k E v) ++ (os ++ ns)
+      go : (b : Bool) → eqb (kindSize k) 0 ≡ b → b || allFail isMemoryKind ks ≡ true → (o ++ os) ++ (numberBytes k E v ++ ns) ≡ (o ++ numberBytes k E v) ++ (os ++ ns)
       go true e t = rw (no-length (numberBytes k E v) (number-size k E v ∙ eqb-true (kindSize k) 0 e)) (simp (append-assoc, append-nil))
       go false e t = rw (none t) (simp (append-assoc, append-nil))
 
   told-next : (k : Kind) (ks : List Kind) (a : Slot) (places : List Slot) (w : Written) (ws : List Written) → Meant labels bytes end E k a w → Told ks places ws → Told (k ∷ ks) (a ∷ places) (w ∷ ws)
-  unfolding fill spread operandsFrom spokenParts draws takesAll allShallow namesKnown allStand allOffsets allNumbers listedAll orderly noneOf
+  unfolding fill spread operandsFrom spokenParts draws takesAll allShallow namesKnown allStand allOffsets allNumbers listedAll orderly allFail
   told-next k ks a places w ws m t =
       let o = filled bytes end a in
       let there = m .heard .voice .there (fill bytes end places) in
@@ -86,8 +86,8 @@ module _ (labels : List Label) (bytes : List ℕ) (end E : ℕ) where
         shallow = rw (m .shallow, t .shallow);
         known = rw (m .known, t .known);
         stands = rw (m .stands, t .stands);
-        bare = λ n. rw (m .bare (fails (isMemoryKind k) (both-left (not (isMemoryKind k)) _ n)), t .bare (both-right (not (isMemoryKind k)) _ n));
-        joined = λ h. join-next k ks (operandWorth labels w .value) (writtenOffset labels w) (allOffsets labels ws) (allNumbers labels E ks ws) (slotBytes bytes a) (spread bytes places) (m .own) (t .joined (both-right (eqb (kindSize k) 0 || noneOf isMemoryKind ks) _ h)) (t .bare) (both-left (eqb (kindSize k) 0 || noneOf isMemoryKind ks) _ h);
+        bare = λ n. rw (m .bare (not-true (isMemoryKind k) (both-left (not (isMemoryKind k)) _ n)), t .bare (both-right (not (isMemoryKind k)) _ n));
+        joined = λ h. join-next k ks (operandWorth labels w .value) (writtenOffset labels w) (allOffsets labels ws) (allNumbers labels E ks ws) (slotBytes bytes a) (spread bytes places) (m .own) (t .joined (both-right (eqb (kindSize k) 0 || allFail isMemoryKind ks) _ h)) (t .bare) (both-left (eqb (kindSize k) 0 || allFail isMemoryKind ks) _ h);
         same = rw there (m .same (t .same));
       }
     where
@@ -148,9 +148,6 @@ module _ (x : List ℕ) (hb : Bytes x) (address : ℕ) (s : Shape) (to : Memory)
   abbrev places : List Slot
   places = listed (slotsOf s to)
 
-  abbrev there : List Forms.Operand
-  there = present (fill x (address + n) places)
-
   abbrev pair : Pair
   pair = pairOf (getD x 0 0) (getD x 1 0)
 
@@ -192,7 +189,7 @@ module _ (x : List ℕ) (hb : Bytes x) (address : ℕ) (s : Shape) (to : Memory)
     one-bytes : isMove s ≡ false → instructionBytes labels E (r .entry) ws ≡ take n x
     unfolding instructionBytes
     one-bytes h =
-        let single = fails (ltb 1 (memoriesIn (r .entry .kinds))) (rw h at (r .move)) in
+        let single = not-true (ltb 1 (memoriesIn (r .entry .kinds))) (rw h at (r .move)) in
         let chain = rw (sym (w .size)) at (chained x s to (w .second) (other-shape s h)) in
         rw (single, pair-told, told .1 .joined (r .order), first-two) (all-covered x 2 n places chain (w .there))
 

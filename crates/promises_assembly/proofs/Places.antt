@@ -15,20 +15,20 @@ use Rattle.listing_rules.proofs.{SpellingLaws.each, SpellingLaws.present, Spell
 use Rattle.assembly_rules.specs.{Text.capitalOf, Text.isDigit, Text.isCapital, Text.isRun, Text.isBlank, Text.endsLine, Text.Token, Text.Token.run, Text.isComma, Text.inFrontOf, Text.begunBy, Text.tokensOf, Sums.Label, Sums.indexIn, Sums.registerNumber, Sums.scanFrom, Sums.depthOf, Sums.worth, Sums.sumWorth, Operands.Written, Operands.closedMemory}
 use Rattle.assembly_rules.specs.{Operands.endedMemory, Operands.indexedMemory, Operands.memoryBehind, Operands.memoryFrom, Operands.operandFrom, Operands.isMemoryKind, Operands.takesRegister, Operands.takes, Operands.isShallow, Statements.isByte, Statements.reachTo, Statements.isNear, Statements.mayStand, Statements.operandWorth, Statements.isDigitKind}
 use Rattle.assembly_rules.specs.{Statements.listedAs, Statements.writtenOffset, Statements.numberBytes}
-use Rattle.assembly_rules.proofs.WritingLaws.{both-left, both-right}
+use Rattle.assembly_rules.proofs.{ScanLaws.allFail, WritingLaws.both-left, WritingLaws.both-right}
 use Rattle.promises_codes.proofs.CodeNumbers.{allBelow, of-all}
-use Rattle.promises_assembly.proofs.{Texts.Constantly, Texts.byte-constant, Texts.word-constant, Texts.digit-constant, Texts.noneOf, Texts.opens, Texts.Voiced, Rows.draw, Rows.Alike, Rows.Alike.registers, Rows.Alike.memories, Rows.Alike.numbers, Rows.Alike.digits, Rows.sameKind, Rows.same-kind, Rows.agrees}
+use Rattle.promises_assembly.proofs.{Texts.Constantly, Texts.byte-constant, Texts.word-constant, Texts.digit-constant, Texts.opens, Texts.Voiced, Rows.draw, Rows.Alike, Rows.Alike.registers, Rows.Alike.memories, Rows.Alike.numbers, Rows.Alike.digits, Rows.sameKind, Rows.same-kind, Rows.agrees}
 
 -- and stand for what is written
 pub record Heard (o : Operand) (w : Written) : Type 0 where
   pub voice : Voiced o
   pub operand : operandFrom (tokensOf (spelled o)) ≡ w
 
-hear : {o : Operand} {w : Written} → ((os : List Operand) → present (o ∷ os) ≡ o ∷ present os) → ((m : ℕ) → following m o ≡ m ∷ spelled o) → noneOf endsLine (spelled o) ≡ true → noneOf isComma (tokensOf (spelled o)) ≡ true → opens (tokensOf (spelled o)) ≡ true → operandFrom (tokensOf (spelled o)) ≡ w → Heard o w
+hear : {o : Operand} {w : Written} → ((os : List Operand) → present (o ∷ os) ≡ o ∷ present os) → ((m : ℕ) → following m o ≡ m ∷ spelled o) → allFail endsLine (spelled o) ≡ true → allFail isComma (tokensOf (spelled o)) ≡ true → opens (tokensOf (spelled o)) ≡ true → operandFrom (tokensOf (spelled o)) ≡ w → Heard o w
 hear a b c d e f = record { voice = record { there = a; behind = b; free = c; uncut = d; begins = e }; operand = f }
 
 heard-register : (r : ℕ) → r < 8 → Heard (register r) (Written.register r)
-unfolding present following noneOf spelled registerName tokensOf begunBy inFrontOf isRun isDigit isCapital capitalOf isBlank endsLine opens operandFrom registerNumber indexIn sameText
+unfolding present following allFail spelled registerName tokensOf begunBy inFrontOf isRun isDigit isCapital capitalOf isBlank endsLine opens operandFrom registerNumber indexIn sameText
 heard-register r h =
     each 8 (λ (k : ℕ). Heard (register k) (Written.register k))
     ((((((((tt, hear (λ os. refl) (λ m. refl) refl refl refl refl), hear (λ os. refl) (λ m. refl) refl refl refl refl), hear (λ os. refl) (λ m. refl) refl refl refl refl), hear (λ os. refl) (λ m. refl) refl refl refl refl), hear (λ os. refl) (λ m. refl) refl refl refl refl), hear (λ os. refl) (λ m. refl) refl refl refl refl), hear (λ os. refl) (λ m. refl) refl refl refl refl), hear (λ os. refl) (λ m. refl) refl refl refl refl)
@@ -39,7 +39,7 @@ abbrev pub offsetTokens : ℕ → ℕ → List Token
 offsetTokens aa b = pick (eqb aa 1) (run (numberText (b ∷ [])) ∷ []) []
 
 heard-memory : (mm aa b : ℕ) → mm < 4 → aa < 4 → b < 256 → Heard (memory mm aa (pick (eqb aa 1) (b ∷ []) [])) (Written.memory mm aa (offsetTokens aa b))
-unfolding present following noneOf spelled baseName modeText tokensOf begunBy inFrontOf isRun isDigit isCapital capitalOf isBlank endsLine opens operandFrom memoryFrom memoryBehind closedMemory indexedMemory endedMemory registerNumber indexIn sameText
+unfolding present following allFail spelled baseName modeText tokensOf begunBy inFrontOf isRun isDigit isCapital capitalOf isBlank endsLine opens operandFrom memoryFrom memoryBehind closedMemory indexedMemory endedMemory registerNumber indexIn sameText
 heard-memory mm aa b h k l =
     let c = byte-constant b l in
     let f = c .free in
@@ -125,7 +125,7 @@ module _ (labels : List Label) (bytes : List ℕ) (end E : ℕ) where
   -- a number
   valued : (k : Kind) (a : Slot) (v : ℕ) → ((os : List Operand) → present (filled bytes end a ∷ os) ≡ filled bytes end a ∷ present os) → ((m : ℕ) → following m (filled bytes end a) ≡ m ∷ spelled (filled bytes end a)) → draw (filled bytes end a) ≡ Written.value [] → Constantly (spelled (filled bytes end a)) v → mayStand k E v ≡ true → numberBytes k E v ≡ slotBytes bytes a
       → ((os ps : List Operand) → Alike os ps → Alike (pick (isDigitKind k) (digit v) (number (wordBytes v)) ∷ os) (filled bytes end a ∷ ps)) → (w : Written) × Meant k a w
-  unfolding noneOf opens takes isShallow operandWorth listedAs
+  unfolding allFail opens takes isShallow operandWorth listedAs
   valued k a v there behind drawn c stands nums same =
       let w = c .worths labels in (
         Written.value (run (spelled (filled bytes end a)) ∷ []),

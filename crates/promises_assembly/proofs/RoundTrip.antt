@@ -14,9 +14,9 @@ use Rattle.listing_rules.proofs.{Unlisting.Line.words, Unlisting.Line.raw, Unli
 use Rattle.assembly_rules.specs.{Text.capitals, Text.isRun, Text.isDigit, Text.isCapital, Text.capitalOf, Text.endsLine, Text.begunBy, Text.tokensOf, Text.cutAt, Text.linesIn, Statements.Statement.items, Statements.headedBy, Statements.allSums, Statements.allLow, Statements.itemsFrom, Statements.statementOf, Statements.statementSize, Statements.isByte}
 use Rattle.assembly_rules.specs.{Statements.itemsKnown, Statements.itemsStand, Statements.statementNumber, Statements.itemsBytes, Statements.statementBytes, Sums.Label, Assembly.Said, Assembly.saidBy, Assembly.saidIn, Assembly.keptWith, Assembly.labelsFrom, Assembly.labelStands, Assembly.lineNumber, Assembly.assembled, Assembly.assembledFrom}
 use Rattle.assembly_rules.specs.{Assembly.assembleOf}
-use Rattle.assembly_rules.proofs.{WritingLaws.allRun, WritingLaws.written, WholeLaws.SameTokens, WholeLaws.SameTokens.noLine, WholeLaws.SameTokens.oneMore, WholeLaws.same-said}
+use Rattle.assembly_rules.proofs.{ScanLaws.allFail, WritingLaws.allRun, WritingLaws.written, WholeLaws.SameTokens, WholeLaws.SameTokens.noLine, WholeLaws.SameTokens.oneMore, WholeLaws.same-said}
 use Rattle.promises_assembly.specs.Returning.{Respelled, Returns}
-use Rattle.promises_assembly.proofs.{Texts.noneOf, Texts.cut-first, Texts.isName, Texts.byte-constant, Texts.opens, Instructions.Assembles, Instructions.instruction-assembles, Texts.spokenParts, Texts.Parted, Texts.parted-none, Texts.parted-next, Texts.line-said}
+use Rattle.promises_assembly.proofs.{Texts.cut-first, Texts.isName, Texts.byte-constant, Texts.opens, Instructions.Assembles, Instructions.instruction-assembles, Texts.spokenParts, Texts.Parted, Texts.parted-none, Texts.parted-next, Texts.line-said}
 
 -- the items of a DB line: numbers of one byte
 record Items (bytes : List ℕ) : Type 0 where
@@ -29,7 +29,7 @@ record Items (bytes : List ℕ) : Type 0 where
   same : (labels : List Label) → itemsBytes labels false (spokenParts (numbers bytes)) ≡ bytes
 
 items-of : (bytes : List ℕ) → Bytes bytes → Items bytes
-unfolding numbers spokenParts allSums allLow itemsKnown itemsStand itemsBytes marks present Bytes following spelled noneOf opens isByte
+unfolding numbers spokenParts allSums allLow itemsKnown itemsStand itemsBytes marks present Bytes following spelled allFail opens isByte
 items-of [] h = record { parted = parted-none [] (λ m. refl) refl; sums = refl; low = refl; size = refl; known = λ labels. refl; stand = λ labels. refl; same = λ labels. refl }
 items-of (b ∷ bytes) h =
     let c = byte-constant b (h 0) in
@@ -47,7 +47,7 @@ items-of (b ∷ bytes) h =
     }
 
 data-said : (b : ℕ) (bytes : List ℕ) → Bytes (b ∷ bytes) → saidBy (ascii "DB" ++ marks 32 (numbers (b ∷ bytes))) ≡ record { name = []; statement = items false (spokenParts (numbers (b ∷ bytes))) }
-unfolding statementOf itemsFrom sameText isName allRun capitals noneOf isRun isDigit isCapital capitalOf endsLine numbers spokenParts
+unfolding statementOf itemsFrom sameText isName allRun capitals allFail isRun isDigit isCapital capitalOf endsLine numbers spokenParts
 data-said b bytes h =
     let i = items-of (b ∷ bytes) h in
     line-said (ascii "DB") (numbers (b ∷ bytes)) refl (i .parted) ∙ rw (i .parted .lead, numbers-present (b ∷ bytes), i .sums, i .low)
@@ -106,8 +106,8 @@ first-assemble address [] rest all = none
 first-assemble address (line ∷ lines) rest (more a later) = more a (first-assemble (address + length (line .bytes)) lines rest later)
 
 -- the lines of a text: up to its first line feed, and from there on
-feeds : (text : List ℕ) → noneOf (λ c. eqb c 10) text ≡ free text
-unfolding free noneOf
+feeds : (text : List ℕ) → allFail (λ c. eqb c 10) text ≡ free text
+unfolding free allFail
 feeds [] = refl
 feeds (c ∷ text) = rw (feeds text)
 

@@ -4,7 +4,7 @@ use mathlib.Core.{Path._≡_, Path.refl, Path.sym, Path.ap, Path.subst, Path._�
 use Prim.Native.Nat.{ℕ, zero, suc, _<_}
 use native.Mathlib.Omega.{arith}
 use lib.{Dec.eqb, Dec.ltb, ListN.getD}
-use borrow.Author.Tests.{eqb-true, eqb-false}
+use borrow.Author.Tests.{not-true, eqb-true, eqb-false}
 use Rattle.ground_rules.specs.{Bits.bitOf, Bits.fieldOf, Choice.pick}
 use Rattle.instruction_rules.specs.{declared.Memory.Memory, declared.Pair.Pair, declared.Shape.Shape, declared.Decoded.the-variants.Instruction, declared.Decoded.the-variants.ControlUsed, Pairs.meets, Pairs.pairOf, Rows.isControl, Table.SummaryRow, Table.table, Reading.fits, Reading.lookup, Reading.decodeOf}
 use Rattle.listing_rules.specs.{declared.Slot.Slot, declared.Slot.the-variants.Empty, declared.Slot.the-variants.Name, declared.Slot.the-variants.Place, declared.Slot.the-variants.Number, declared.Slot.the-variants.Target, declared.Slot.the-variants.Digit, Characters.ascii, Characters.sameText, Mnemonics.isJump, Mnemonics.isListed, Mnemonics.mnemonicOf}
@@ -13,9 +13,9 @@ use Rattle.listing_rules.specs.{Back.mmIn, Back.aaIn, Forms.Operand.none, Forms
 use Rattle.listing_rules.proofs.{SpellingLaws.present, BackLaws.fill, BackLaws.listed, BackLaws.isMove, EntryLaws.fitting}
 use Rattle.assembly_rules.specs.{Text.capitalOf, Text.capitals, Text.isDigit, Text.isCapital, Text.isRun, Text.endsLine, Operands.isMemoryKind, Operands.takesRegister, Operands.takes, Operands.takesAll, Operands.Chosen, Operands.Chosen.taken, Operands.Chosen.untaken, Operands.entryIn, Operands.hasWord, Statements.kindSize, Statements.memoriesIn}
 use Rattle.assembly_rules.specs.{Operands.Written}
-use Rattle.assembly_rules.proofs.WritingLaws.{allRun, both-left, both-right}
+use Rattle.assembly_rules.proofs.{ScanLaws.allFail, WritingLaws.allRun, WritingLaws.both-left, WritingLaws.both-right}
 use Rattle.promises_codes.proofs.CodeNumbers.{allBelow, of-all}
-use Rattle.promises_assembly.proofs.Texts.{noneOf, fails, isName}
+use Rattle.promises_assembly.proofs.Texts.{isName}
 
 -- an operand as one that is written, without its numbers
 unfoldable pub draw : Operand → Written
@@ -124,7 +124,7 @@ agreesAll (k ∷ ks) (a ∷ places) = agrees k a && agreesAll ks places
 -- no memory behind a number
 unfoldable pub orderly : List Kind → Bool
 orderly [] = true
-orderly (k ∷ ks) = (eqb (kindSize k) 0 || noneOf isMemoryKind ks) && orderly ks
+orderly (k ∷ ks) = (eqb (kindSize k) 0 || allFail isMemoryKind ks) && orderly ks
 
 allTrue : List Bool → Bool
 allTrue [] = true
@@ -172,7 +172,7 @@ rowsRegular a m to [] = true
 rowsRegular a m to (r ∷ rs) = rowRegular a m to r && rowsRegular a m to rs
 
 table-regular : (a m : ℕ) (to : Memory) → rowsRegular a m to table ≡ true
-unfolding rowsRegular rowRegular allBelow table pairAt regular regularBy asks allTrue entries entryIn hasWord takes takesAll agrees agreesAll isNone orderly sameKind kindNumber noneOf memoriesIn isMove mnemonicOf slotsOf isJump listed sketch draws draw present fill filled rrrIn digitsIn sameText isName allRun capitals isRun isDigit isCapital capitalOf endsLine bitOf afterOffset
+unfolding rowsRegular rowRegular allBelow table pairAt regular regularBy asks allTrue entries entryIn hasWord takes takesAll agrees agreesAll isNone orderly sameKind kindNumber allFail memoriesIn isMove mnemonicOf slotsOf isJump listed sketch draws draw present fill filled rrrIn digitsIn sameText isName allRun capitals isRun isDigit isCapital capitalOf endsLine bitOf afterOffset
 table-regular a m to = refl
 
 -- the entry of an instruction with some pair: the assembler takes it, its kinds are the places', and its fields the pair's
@@ -199,7 +199,7 @@ regularly p s to h = go (entryIn entries (mnemonicOf s) (draws (sketch (listed (
     go untaken e t = absurd (false≢true t)
     go (taken e) c t =
         let yes : (i : ℕ) → getD (asks p s (listed (slotsOf s to)) e) i true ≡ true = λ i. each-true _ i t in
-        record { entry = e; chosen = c; letters = yes 0; no-bytes = fails _ (yes 1); no-words = fails _ (yes 2); has = yes 3; kinds = yes 4; order = yes 5; move = yes 6; rrr = eqb-true _ _ (yes 7); dd = eqb-true _ _ (yes 8); w = eqb-true _ _ (yes 9); opcode = eqb-true _ _ (yes 10) }
+        record { entry = e; chosen = c; letters = yes 0; no-bytes = not-true _ (yes 1); no-words = not-true _ (yes 2); has = yes 3; kinds = yes 4; order = yes 5; move = yes 6; rrr = eqb-true _ _ (yes 7); dd = eqb-true _ _ (yes 8); w = eqb-true _ _ (yes 9); opcode = eqb-true _ _ (yes 10) }
 
 row-regular : (r : SummaryRow) (p : Pair) (to : Memory) → isListed (r .shape p) ≡ true → fits r p ≡ true → r .control && isControl p ≡ false → p .w < 2 → p .dd < 4 → p .rrr < 8 → rowRegular (p .aa) (p .mm) to r ≡ true → Regular p (r .shape p) to
 unfolding rowRegular pairAt

@@ -7,34 +7,25 @@ use Rattle.listing_rules.specs.{Characters.sameText, Characters.hexGlyph, Chara
 use Rattle.assembly_rules.specs.{Text.capitals, Text.endsLine, Text.Token, Text.Token.run, Text.tokensOf, Text.cutAt, Text.capitalOf, Text.isDigit, Text.isCapital, Text.isRun, Numbers.digitValue, Numbers.isRadix, Numbers.radixOf, Numbers.lastOf, Numbers.butLast, Numbers.digitsFrom, Numbers.constantDigits, Numbers.constantOf, Sums.Label, Sums.indexIn}
 use Rattle.assembly_rules.specs.{Sums.registerNumber, Sums.isSum, Sums.depthOf, Sums.worth, Sums.combinedWorth, Sums.restWith, Sums.sumWith, Sums.runRead, Sums.termBy, Sums.termOf, Sums.sumWithin, Sums.sumWorth, declared.Constant.the-variants.Value, Trees.sumTokens, Trees.termTokens, Trees.sumDepth, Trees.termDepth, Trees.Sum.only, Trees.Term.constant}
 use Rattle.assembly_rules.specs.{Operands.operandFrom, Operands.Written.value, Text.isBlank, Text.Token.mark, Text.isComma, Text.begunBy, Statements.headed, Statements.headedBy, Statements.operandParts, Statements.statementOf, Assembly.saidBy}
-use Rattle.assembly_rules.proofs.{ScanLaws.same-is, WritingLaws.beginsRun, WritingLaws.allRun, WritingLaws.Writes, WritingLaws.both-left, WritingLaws.both-right, WritingLaws.written, WritingLaws.all-written, WritingLaws.Writes.nothing, WritingLaws.Writes.comment, WritingLaws.Writes.blank, WritingLaws.Writes.single, WritingLaws.Writes.several, NumberLaws.allBelow}
+use Rattle.assembly_rules.proofs.{ScanLaws.same-is, ScanLaws.allFail, WritingLaws.beginsRun, WritingLaws.allRun, WritingLaws.Writes, WritingLaws.both-left, WritingLaws.both-right, WritingLaws.written, WritingLaws.all-written, WritingLaws.Writes.nothing, WritingLaws.Writes.comment, WritingLaws.Writes.blank, WritingLaws.Writes.single, WritingLaws.Writes.several, NumberLaws.allBelow}
 use Rattle.assembly_rules.proofs.{NumberLaws.placeValue, NumberLaws.lettered, NumberLaws.constant-small, ScanLaws.tree-sum, ScanLaws.tree-depth, TextLaws.tokens-blank, TextLaws.tokens-mark}
 use native.Mathlib.Omega.{arith}
-use borrow.Author.Tests.{eqb-true, ltb-true, lt-ltb}
+use borrow.Author.Tests.{not-true, eqb-true, ltb-true, lt-ltb}
 use Rattle.listing_rules.proofs.SpellingLaws.{each, present, marks}
 
--- whether a test fails for each of a list
-unfoldable pub noneOf : {A : Type 0} → (A → Bool) → List A → Bool
-noneOf test [] = true
-noneOf test (a ∷ rest) = not (test a) && noneOf test rest
-
-pub fails : (b : Bool) → not b ≡ true → b ≡ false
-fails true h = absurd (false≢true h)
-fails false h = refl
-
 -- the first part of a list, up to a cut, and its last part
-pub cut-first : {A : Type 0} (test : A → Bool) (part rest : List A) (a : A) → noneOf test part ≡ true → test a ≡ true → cutAt test (part ++ (a ∷ rest)) ≡ part ∷ cutAt test rest
-unfolding cutAt noneOf
+pub cut-first : {A : Type 0} (test : A → Bool) (part rest : List A) (a : A) → allFail test part ≡ true → test a ≡ true → cutAt test (part ++ (a ∷ rest)) ≡ part ∷ cutAt test rest
+unfolding cutAt allFail
 cut-first test [] rest a h k = rw k
-cut-first test (b ∷ part) rest a h k = rw (fails (test b) (both-left (not (test b)) (noneOf test part) h), cut-first test part rest a (both-right (not (test b)) (noneOf test part) h) k)
+cut-first test (b ∷ part) rest a h k = rw (not-true (test b) (both-left (not (test b)) (allFail test part) h), cut-first test part rest a (both-right (not (test b)) (allFail test part) h) k)
 
-pub cut-last : {A : Type 0} (test : A → Bool) (part : List A) → noneOf test part ≡ true → cutAt test part ≡ part ∷ []
-unfolding cutAt noneOf
+pub cut-last : {A : Type 0} (test : A → Bool) (part : List A) → allFail test part ≡ true → cutAt test part ≡ part ∷ []
+unfolding cutAt allFail
 cut-last test [] h = refl
-cut-last test (b ∷ part) h = rw (fails (test b) (both-left (not (test b)) (noneOf test part) h), cut-last test part (both-right (not (test b)) (noneOf test part) h))
+cut-last test (b ∷ part) h = rw (not-true (test b) (both-left (not (test b)) (allFail test part) h), cut-last test part (both-right (not (test b)) (allFail test part) h))
 
-none-behind : {A : Type 0} (test : A → Bool) (a b : List A) → noneOf test (a ++ b) ≡ true → noneOf test b ≡ true
-unfolding noneOf
+none-behind : {A : Type 0} (test : A → Bool) (a b : List A) → allFail test (a ++ b) ≡ true → allFail test b ≡ true
+unfolding allFail
 none-behind test [] b h = h
 none-behind test (c ∷ a) b h = none-behind test a b (both-right (not (test c)) _ h)
 
@@ -43,8 +34,8 @@ unfolding beginsRun
 begins-behind [] b h k = k
 begins-behind (c ∷ a) b h k = h
 
-writes-behind : {ts us : List Token} {a b : List ℕ} → Writes ts a → noneOf endsLine a ≡ true → beginsRun b ≡ false → Writes us b → Writes (ts ++ us) (a ++ b)
-unfolding noneOf
+writes-behind : {ts us : List Token} {a b : List ℕ} → Writes ts a → allFail endsLine a ≡ true → beginsRun b ≡ false → Writes us b → Writes (ts ++ us) (a ++ b)
+unfolding allFail
 writes-behind nothing h k v = v
 writes-behind (comment c cs p q) h k v = absurd (false≢true (rw q at (both-left (not (endsLine c)) _ h)))
 writes-behind (blank c p w) h k v = blank c p (writes-behind w (both-right (not (endsLine c)) _ h) k v)
@@ -53,15 +44,15 @@ writes-behind {us = us} {b = b} (several {cs = cs} c r p q w) h k v =
     subst (Writes _) (sym (append-assoc (c ∷ r) cs b)) (several c r p (begins-behind cs b q k) (writes-behind w (none-behind endsLine (c ∷ r) cs h) k v))
 
 -- a text that ends no line, and behind it characters that begin no run: the tokens of both
-pub tokens-apart : (text cs : List ℕ) → noneOf endsLine text ≡ true → beginsRun cs ≡ false → tokensOf (text ++ cs) ≡ tokensOf text ++ tokensOf cs
+pub tokens-apart : (text cs : List ℕ) → allFail endsLine text ≡ true → beginsRun cs ≡ false → tokensOf (text ++ cs) ≡ tokensOf text ++ tokensOf cs
 tokens-apart text cs h k = written (writes-behind (all-written text) h k (all-written cs))
 
 -- whether a text is a run in capitals
 unfoldable pub isName : List ℕ → Bool
-isName w = ltb 0 (length w) && (allRun w && (sameText (capitals w) w && noneOf endsLine w))
+isName w = ltb 0 (length w) && (allRun w && (sameText (capitals w) w && allFail endsLine w))
 
 -- it is one token, and ends no line
-pub name-tokens : (w : List ℕ) → isName w ≡ true → (tokensOf w ≡ run w ∷ []) × (noneOf endsLine w ≡ true)
+pub name-tokens : (w : List ℕ) → isName w ≡ true → (tokensOf w ≡ run w ∷ []) × (allFail endsLine w ≡ true)
 unfolding isName beginsRun
 name-tokens [] h = absurd (false≢true h)
 name-tokens (c ∷ r) h =
@@ -74,7 +65,7 @@ name-tokens (c ∷ r) h =
 -- a text that is a constant by itself, with its value
 pub record Constantly (text : List ℕ) (v : ℕ) : Type 0 where
   pub tokens : tokensOf text ≡ run text ∷ []
-  pub free : noneOf endsLine text ≡ true
+  pub free : allFail endsLine text ≡ true
   pub operand : operandFrom (run text ∷ []) ≡ value (run text ∷ [])
   pub sum : isSum (run text ∷ []) ≡ true
   pub shallow : depthOf (run text ∷ []) ≡ 0
@@ -108,7 +99,7 @@ two-digits b h = omega arith
 
 -- a byte and a word as they are listed
 pub byte-constant : (b : ℕ) → b < 256 → Constantly (numberText (b ∷ [])) b
-unfolding numberText hexDigits isName allRun capitals noneOf isRun isDigit isCapital capitalOf endsLine registerNumber indexIn sameText isRadix radixOf allBelow placeValue digitValue
+unfolding numberText hexDigits isName allRun capitals allFail isRun isDigit isCapital capitalOf endsLine registerNumber indexIn sameText isRadix radixOf allBelow placeValue digitValue
 byte-constant b h =
     let u = b / 16 % 16 in
     let l = b % 16 in
@@ -119,7 +110,7 @@ byte-constant b h =
     constantly 48 (hexGlyph u ∷ hexGlyph l ∷ 72 ∷ []) b refl told (rw (x .0, y .0, x .1, y .1, x .2, y .2)) refl
 
 pub word-constant : (l h : ℕ) → l < 256 → h < 256 → Constantly (numberText (l ∷ h ∷ [])) (l + h * 256)
-unfolding numberText hexDigits isName allRun capitals noneOf isRun isDigit isCapital capitalOf endsLine registerNumber indexIn sameText isRadix radixOf allBelow placeValue digitValue
+unfolding numberText hexDigits isName allRun capitals allFail isRun isDigit isCapital capitalOf endsLine registerNumber indexIn sameText isRadix radixOf allBelow placeValue digitValue
 word-constant l h k m =
     let a = h / 16 % 16 in
     let b = h % 16 in
@@ -138,7 +129,7 @@ word-constant l h k m =
 
 -- a bit's number, a width
 pub digit-constant : (n : ℕ) → ltb n 8 || (eqb n 8 || eqb n 16) ≡ true → Constantly (digitText n) n
-unfolding digitText isName allRun capitals noneOf isRun isDigit isCapital capitalOf endsLine registerNumber indexIn sameText isRadix radixOf digitValue constantOf constantDigits digitsFrom lastOf butLast
+unfolding digitText isName allRun capitals allFail isRun isDigit isCapital capitalOf endsLine registerNumber indexIn sameText isRadix radixOf digitValue constantOf constantDigits digitsFrom lastOf butLast
 digit-constant n h = go (ltb n 8) refl (eqb n 8) refl h
   where
     go : (a : Bool) → ltb n 8 ≡ a → (b : Bool) → eqb n 8 ≡ b → a || (b || eqb n 16) ≡ true → Constantly (digitText n) n
@@ -159,8 +150,8 @@ opens (mark c ∷ ts) = not (eqb c 58)
 pub record Voiced (o : Operand) : Type 0 where
   pub there : (os : List Operand) → present (o ∷ os) ≡ o ∷ present os
   pub behind : (m : ℕ) → following m o ≡ m ∷ spelled o
-  pub free : noneOf endsLine (spelled o) ≡ true
-  pub uncut : noneOf isComma (tokensOf (spelled o)) ≡ true
+  pub free : allFail endsLine (spelled o) ≡ true
+  pub uncut : allFail isComma (tokensOf (spelled o)) ≡ true
   pub begins : opens (tokensOf (spelled o)) ≡ true
 
 -- the tokens of each operand that is there
@@ -171,7 +162,7 @@ spokenParts (o ∷ os) = tokensOf (spelled o) ∷ spokenParts os
 -- operands behind a word: they are found between commas, and make no label of the word
 pub record Parted (os : List Operand) : Type 0 where
   pub begins : (m : ℕ) → isRun m ≡ false → beginsRun (marks m os) ≡ false
-  pub cuts : (part : List Token) → noneOf isComma part ≡ true → cutAt isComma (part ++ tokensOf (marks 44 os)) ≡ part ∷ spokenParts (present os)
+  pub cuts : (part : List Token) → allFail isComma part ≡ true → cutAt isComma (part ++ tokensOf (marks 44 os)) ≡ part ∷ spokenParts (present os)
   pub lead : operandParts (tokensOf (marks 32 os)) ≡ spokenParts (present os)
   pub heads : (r : List ℕ) → headedBy (run r ∷ tokensOf (marks 32 os)) ≡ headed [] (run r ∷ tokensOf (marks 32 os))
 
@@ -189,7 +180,7 @@ opened : (ts us : List Token) (r : List ℕ) → opens ts ≡ true → (operandP
 unfolding opens headedBy
 opened [] us r h = absurd (false≢true h)
 opened (run s ∷ ts) us r h = (refl, refl)
-opened (mark c ∷ ts) us r h = (refl, rw (fails (eqb c 58) h))
+opened (mark c ∷ ts) us r h = (refl, rw (not-true (eqb c 58) h))
 
 pub parted-next : (o : Operand) (os : List Operand) → Voiced o → Parted os → Parted (o ∷ os)
 unfolding marks beginsRun spokenParts isRun isDigit isCapital capitalOf isBlank endsLine

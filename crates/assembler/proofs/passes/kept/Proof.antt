@@ -6,7 +6,7 @@ use borrow.Author.Tests.{not-true, not-false}
 use mathlib.Core.Path.{sym, ap, _∙_}
 use lib.ListN.{length-take, length-set}
 use Rattle.assembly_rules.specs.Assembly.{keptWith}
-use Rattle.assembly_rules.proofs.WholeLaws.{may-few}
+use Rattle.assembly_rules.proofs.LabelLaws.{may-parts}
 use Rattle.assembler.proofs.WalkLaws.{labels-kept, labels-count, no-name, kept-same, kept-more}
 use Rattle.assembler.proofs.passes.kept.Statement.{statement}
 use Rattle.assembler.proofs.passes.kept.Tie as tie
@@ -28,7 +28,7 @@ returns-2 : tie.Need-returns-2
 returns-2 c = let s = c .before .before .before .before .before .before .before .before .before in (s .pre .1 .1 .0, ((s .pre .0, s .pre .1 .0), kept-same (s .args .text .now) (s .args .h) (s .pre .1 .1 .1) (not-false _ (c .before .before .before .before .if1 .left)) _ (s .args .address) (sym (c .before .may-keep .ensures) ∙ not-true _ (c .if2 .taken))))
 
 slice-write-places : tie.Need-slice-write-places
-slice-write-places c = let s = c .before .before .before .before .before .before .before .before .before in omega (arith, may-few _ _ (sym (c .before .may-keep .ensures) ∙ not-false _ (c .if2 .left)), labels-count (s .args .text .now) (s .args .places .now) (s .args .addresses .now) (s .args .count) (s .pre .0 ∙ sym (s .pre .1 .0)) (omega arith), s .pre .0)
+slice-write-places c = let s = c .before .before .before .before .before .before .before .before .before in omega (arith, may-parts _ _ (sym (c .before .may-keep .ensures) ∙ not-false _ (c .if2 .left)) .1 .1 .1, labels-count (s .args .text .now) (s .args .places .now) (s .args .addresses .now) (s .args .count) (s .pre .0 ∙ sym (s .pre .1 .0)) (omega arith), s .pre .0)
 
 slice-write-addresses : tie.Need-slice-write-addresses
 slice-write-addresses c = omega (arith, slice-write-places c, c .before .before .before .before .before .before .before .before .before .pre)
