@@ -6,21 +6,18 @@ use native.Mathlib.Omega.{arith}
 use lib.{Dec.T, Dec.eqb, Dec.ltb, ListN.length, ListN.getD, ListN.take, ListN.length-take}
 use borrow.Author.Tests.{not-true, eqb-true}
 use Rattle.ground_rules.specs.{Bits.fieldOf, Choice.pick}
-use Rattle.instruction_rules.specs.{declared.Memory.Memory, declared.Pair.Pair, declared.Shape.Shape, declared.Shape.the-variants.MovMemory, declared.Second.the-variants.Operand, Pairs.pairOf, Lengths.offsetLength, Lengths.lengthOf}
+use Rattle.instruction_rules.specs.{declared.Memory.Memory, declared.Pair.Pair, declared.Shape.Shape, declared.Shape.the-variants.MovMemory, Pairs.pairOf, Lengths.offsetLength, Lengths.lengthOf}
 use Rattle.instruction_rules.proofs.LengthLaws.{bounded}
-use Rattle.listing_rules.specs.{declared.Slot.Slot, declared.Slot.the-variants.Empty, declared.Slot.the-variants.Name, declared.Slot.the-variants.Place, declared.Slot.the-variants.Number, declared.Slot.the-variants.Target, declared.Slot.the-variants.Digit, Characters.sameText, Mnemonics.isListed, Mnemonics.mnemonicOf, Forms.afterOffset, Forms.slotsOf}
-use Rattle.listing_rules.specs.{Forms.filled, Forms.following, Lines.instructionLine, Entries.Kind, Entries.Entry, Entries.entries, Items.toOf, Back.pairFrom, Back.pairBack, Back.operandsOf}
+use Rattle.listing_rules.specs.{declared.Slot.Slot, declared.Slot.the-variants.Empty, declared.Slot.the-variants.Name, declared.Slot.the-variants.Place, declared.Slot.the-variants.Number, declared.Slot.the-variants.Target, declared.Slot.the-variants.Digit, Characters.sameText, Mnemonics.isListed, Mnemonics.mnemonicOf, Forms.afterOffset, Forms.slotsOf, Forms.filled, Forms.following, Lines.instructionLine, Entries.Kind, Entries.Entry, Entries.entries}
+use Rattle.listing_rules.specs.{Items.toOf, Back.pairFrom, Back.pairBack, Back.operandsOf}
 use Rattle.listing_rules.specs.Forms as Forms
-use Rattle.listing_rules.proofs.{SpellingLaws.present, SpellingLaws.marks, SpellingLaws.Fair, SpellingLaws.Bytes, EntryLaws.Known, EntryLaws.known, RowLaws.WholeAt, BackLaws.slotBytes, BackLaws.spread, BackLaws.fill, BackLaws.all-covered, BackLaws.listed, BackLaws.chained, BackLaws.secondPair, BackLaws.second-fields, BackLaws.isMove}
-use Rattle.listing_rules.proofs.{BackLaws.other-shape, BackLaws.Pairs, BackLaws.pairs, Unlisting.spoken-line, Unlisting.spoken-free, Unlisting.free, Unlisting.first-pair, Unlisting.mov-covered, Unlisting.placed-to}
-use Rattle.assembly_rules.specs.{Sums.Label, Operands.Written, Operands.Chosen, Operands.Chosen.taken, Operands.Chosen.untaken, Operands.isMemoryKind, Operands.operandsFrom, Operands.takes, Operands.takesAll, Operands.entryIn, Operands.allShallow, Assembly.Said, Assembly.saidBy, Statements.Statement.instruction, Statements.wordStatement, Statements.statementOf}
-use Rattle.assembly_rules.specs.{Statements.kindSize, Statements.memoriesIn, Statements.statementSize, Statements.operandWorth, Statements.namesKnown, Statements.allStand, Statements.statementNumber, Statements.pairBytes, Statements.listedAll, Statements.writtenOffset, Statements.allOffsets, Statements.numberBytes, Statements.allNumbers, Statements.moveBytes}
-use Rattle.assembly_rules.specs.{Statements.instructionBytes, Statements.statementBytes}
+use Rattle.listing_rules.proofs.{SpellingLaws.present, SpellingLaws.marks, SpellingLaws.Fair, SpellingLaws.Bytes, EntryLaws.Known, EntryLaws.known, RowLaws.WholeAt, BackLaws.slotBytes, BackLaws.spread, BackLaws.fill, BackLaws.all-covered, BackLaws.listed, BackLaws.chained, BackLaws.secondPair, BackLaws.second-fields, BackLaws.isMove, BackLaws.other-shape, BackLaws.Pairs, BackLaws.pairs, Unlisting.spoken-line, Unlisting.spoken-free, Unlisting.free}
+use Rattle.listing_rules.proofs.{Unlisting.first-pair, Unlisting.mov-covered, Unlisting.placed-to}
+use Rattle.assembly_rules.specs.{Sums.Label, Operands.Written, Operands.Chosen, Operands.Chosen.taken, Operands.Chosen.untaken, Operands.isMemoryKind, Operands.operandsFrom, Operands.takes, Operands.takesAll, Operands.entryIn, Operands.allShallow, Assembly.Said, Assembly.saidBy, Statements.Statement.instruction, Statements.wordStatement, Statements.statementOf, Statements.kindSize, Statements.memoriesIn, Statements.statementSize, Statements.operandWorth}
+use Rattle.assembly_rules.specs.{Statements.namesKnown, Statements.allStand, Statements.statementNumber, Statements.pairBytes, Statements.listedAll, Statements.writtenOffset, Statements.allOffsets, Statements.numberBytes, Statements.allNumbers, Statements.moveBytes, Statements.instructionBytes, Statements.statementBytes}
 use Rattle.assembly_rules.proofs.{ScanLaws.allFail, SizeLaws.number-size, SizeLaws.entries-plain, SizeLaws.entry-plain, SizeLaws.instruction-size, TreeLaws.add-equal, WritingLaws.both-left, WritingLaws.both-right}
 use Rattle.promises_codes.proofs.CodeNumbers.{allBelow, of-all}
-use Rattle.promises_assembly.proofs.{Rows.agrees, Rows.isNone, Rows.agreesAll, Rows.orderly, Rows.Regular, Rows.decoded-regular, Places.offsetTokens, Places.Meant, Places.placed, Places.meant, Rows.Alike, Rows.draw, Rows.draws, Rows.sketch, Rows.sketched, Rows.entry-taken, Texts.spokenParts, Texts.Parted, Texts.parted-none}
-use Rattle.promises_codes.proofs.CodeNumbers.{allBelow, of-all}
-use Rattle.promises_assembly.proofs.{Texts.parted-next, Texts.line-said, Rows.alike-fields}
+use Rattle.promises_assembly.proofs.{Rows.agrees, Rows.isNone, Rows.agreesAll, Rows.orderly, Rows.Regular, Rows.decoded-regular, Places.offsetTokens, Places.Meant, Places.placed, Places.meant, Rows.Alike, Rows.draw, Rows.draws, Rows.sketch, Rows.sketched, Rows.entry-taken, Texts.spokenParts, Texts.Parted, Texts.parted-none, Texts.parted-next, Texts.line-said, Rows.alike-fields}
 
 -- empty places have no text and no bytes
 record Blank (bytes : List ℕ) (end : ℕ) (places : List Slot) : Type 0 where

@@ -8,13 +8,11 @@ use lib.{Dec.eqb, Dec.ltb, Dec.leb, ListN.getD}
 use borrow.Author.Tests.{eqb-true, lt-ltb}
 use Rattle.ground_rules.specs.{Bytes.lowByte, Choice.pick, Signs.extended}
 use Rattle.instruction_rules.specs.declared.Memory.{Memory}
-use Rattle.listing_rules.specs.{declared.Slot.Slot, declared.Slot.the-variants.Empty, declared.Slot.the-variants.Name, declared.Slot.the-variants.Place, declared.Slot.the-variants.Number, declared.Slot.the-variants.Target, declared.Slot.the-variants.Digit, Characters.sameText, Characters.numberText, Forms.Operand, Forms.targetOf, Forms.wordBytes, Forms.filled}
-use Rattle.listing_rules.specs.{Forms.registerName, Forms.baseName, Forms.modeText, Forms.spelled, Forms.following, Forms.Operand.register, Forms.Operand.memory, Forms.Operand.number, Forms.Operand.digit, Entries.Kind, Entries.Kind.'R, Entries.Kind.'G, Entries.Kind.'P, Entries.Kind.'M, Entries.Kind.'byte, Entries.Kind.'word, Entries.Kind.'bit}
-use Rattle.listing_rules.specs.{Entries.Kind.'width, Entries.Kind.'short, Entries.Kind.'long}
+use Rattle.listing_rules.specs.{declared.Slot.Slot, declared.Slot.the-variants.Empty, declared.Slot.the-variants.Name, declared.Slot.the-variants.Place, declared.Slot.the-variants.Number, declared.Slot.the-variants.Target, declared.Slot.the-variants.Digit, Characters.sameText, Characters.numberText, Forms.Operand, Forms.targetOf, Forms.wordBytes, Forms.filled, Forms.registerName, Forms.baseName, Forms.modeText, Forms.spelled, Forms.following}
+use Rattle.listing_rules.specs.{Forms.Operand.register, Forms.Operand.memory, Forms.Operand.number, Forms.Operand.digit, Entries.Kind, Entries.Kind.'R, Entries.Kind.'G, Entries.Kind.'P, Entries.Kind.'M, Entries.Kind.'byte, Entries.Kind.'word, Entries.Kind.'bit, Entries.Kind.'width, Entries.Kind.'short, Entries.Kind.'long}
 use Rattle.listing_rules.proofs.{SpellingLaws.each, SpellingLaws.present, SpellingLaws.Fair, SpellingLaws.Bytes, BackLaws.slotBytes}
-use Rattle.assembly_rules.specs.{Text.capitalOf, Text.isDigit, Text.isCapital, Text.isRun, Text.isBlank, Text.endsLine, Text.Token, Text.Token.run, Text.isComma, Text.inFrontOf, Text.begunBy, Text.tokensOf, Sums.Label, Sums.indexIn, Sums.registerNumber, Sums.scanFrom, Sums.depthOf, Sums.worth, Sums.sumWorth, Operands.Written, Operands.closedMemory}
-use Rattle.assembly_rules.specs.{Operands.endedMemory, Operands.indexedMemory, Operands.memoryBehind, Operands.memoryFrom, Operands.operandFrom, Operands.isMemoryKind, Operands.takesRegister, Operands.takes, Operands.isShallow, Statements.isByte, Statements.reachTo, Statements.isNear, Statements.mayStand, Statements.operandWorth, Statements.isDigitKind}
-use Rattle.assembly_rules.specs.{Statements.listedAs, Statements.writtenOffset, Statements.numberBytes}
+use Rattle.assembly_rules.specs.{Text.capitalOf, Text.isDigit, Text.isCapital, Text.isRun, Text.isBlank, Text.endsLine, Text.Token, Text.Token.run, Text.isComma, Text.inFrontOf, Text.begunBy, Text.tokensOf, Sums.Label, Sums.indexIn, Sums.registerNumber, Sums.scanFrom, Sums.depthOf, Sums.worth, Sums.sumWorth, Operands.Written, Operands.closedMemory, Operands.endedMemory, Operands.indexedMemory, Operands.memoryBehind, Operands.memoryFrom, Operands.operandFrom}
+use Rattle.assembly_rules.specs.{Operands.isMemoryKind, Operands.takesRegister, Operands.takes, Operands.isShallow, Statements.isByte, Statements.reachTo, Statements.isNear, Statements.mayStand, Statements.operandWorth, Statements.isDigitKind, Statements.listedAs, Statements.writtenOffset, Statements.numberBytes}
 use Rattle.assembly_rules.proofs.{ScanLaws.allFail, WritingLaws.both-left, WritingLaws.both-right}
 use Rattle.promises_codes.proofs.CodeNumbers.{allBelow, of-all}
 use Rattle.promises_assembly.proofs.{Texts.Constantly, Texts.byte-constant, Texts.word-constant, Texts.digit-constant, Texts.opens, Texts.Voiced, Rows.draw, Rows.Alike, Rows.Alike.registers, Rows.Alike.memories, Rows.Alike.numbers, Rows.Alike.digits, Rows.sameKind, Rows.same-kind, Rows.agrees}

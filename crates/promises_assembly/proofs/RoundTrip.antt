@@ -1,19 +1,16 @@
 -- Assembling a listing gives back the listed bytes.
 -- Assumes nothing.
-use mathlib.Core.{Path._≡_, Path.refl, Path.sym, Path.ap, Path.subst, Path._∙_, Bool.Bool, Bool.true, Bool.false, Bool.not, Bool._&&_, List.List, List.[], List._∷_, List._++_, List.append-assoc, List.append-nil}
+use mathlib.Core.{Path._≡_, Path.refl, Path.sym, Path.ap, Path.subst, Path._∙_, Bool.Bool, Bool.true, Bool.false, Bool._&&_, List.List, List.[], List._∷_, List._++_, List.append-assoc, List.append-nil}
 use Prim.Native.Nat.{ℕ, zero, suc, _+_, _-_, _%_, _≤_}
 use native.Mathlib.Nat.{mod-mod, add-zero}
 use native.Mathlib.Omega.{arith}
 use lib.{Dec.T, Dec.eqb, Dec.ltb, Dec.leb, ListN.length, ListN.take, ListN.drop, ListN.length-take, ListN.length-append, ListN.take-append-drop, Seq.take-at, Ieee.Bits.is-true}
 use borrow.Author.Tests.{le-ltb, lt-ltb}
 use Rattle.ground_rules.specs.Choice.{pick}
-use Rattle.listing_rules.specs.{Characters.ascii, Characters.sameText, Forms.spelled, Forms.following, Forms.Operand.number, Lines.dataLine, Items.itemOf, Items.countOf, Listings.TextLine, Listings.charsOf, Listings.lineAt, Listings.linesBy, Listings.linesOf, Listings.allChars, Listings.allBytes, Listings.keptIn, Listings.listLimit, Listings.placed}
-use Rattle.listing_rules.specs.{Listings.listingOf}
-use Rattle.listing_rules.proofs.{SpellingLaws.marks, SpellingLaws.present, SpellingLaws.Bytes, RowLaws.whole-at, RowLaws.count-some, RowLaws.count-there, Theorems.all-listed, Theorems.bytes-append, Theorems.placed-text, Unlisting.numbers, Unlisting.spoken-data, Unlisting.spoken-free, Unlisting.free, Unlisting.numbers-present, Unlisting.Line}
-use Rattle.listing_rules.proofs.{Unlisting.Line.words, Unlisting.Line.raw, Unlisting.line-of, Unlisting.bytes-take, Unlisting.bytes-drop}
-use Rattle.assembly_rules.specs.{Text.capitals, Text.isRun, Text.isDigit, Text.isCapital, Text.capitalOf, Text.endsLine, Text.begunBy, Text.tokensOf, Text.cutAt, Text.linesIn, Statements.Statement.items, Statements.headedBy, Statements.allSums, Statements.allLow, Statements.itemsFrom, Statements.statementOf, Statements.statementSize, Statements.isByte}
-use Rattle.assembly_rules.specs.{Statements.itemsKnown, Statements.itemsStand, Statements.statementNumber, Statements.itemsBytes, Statements.statementBytes, Sums.Label, Assembly.Said, Assembly.saidBy, Assembly.saidIn, Assembly.keptWith, Assembly.labelsFrom, Assembly.labelStands, Assembly.lineNumber, Assembly.assembled, Assembly.assembledFrom}
-use Rattle.assembly_rules.specs.{Assembly.assembleOf}
+use Rattle.listing_rules.specs.{Characters.ascii, Characters.sameText, Forms.spelled, Forms.following, Forms.Operand.number, Lines.dataLine, Items.itemOf, Items.countOf, Listings.TextLine, Listings.charsOf, Listings.lineAt, Listings.linesBy, Listings.linesOf, Listings.allChars, Listings.allBytes, Listings.keptIn, Listings.listLimit, Listings.placed, Listings.listingOf}
+use Rattle.listing_rules.proofs.{SpellingLaws.marks, SpellingLaws.present, SpellingLaws.Bytes, RowLaws.whole-at, RowLaws.count-some, RowLaws.count-there, Theorems.all-listed, Theorems.bytes-append, Theorems.placed-text, Unlisting.numbers, Unlisting.spoken-data, Unlisting.spoken-free, Unlisting.free, Unlisting.numbers-present, Unlisting.Line, Unlisting.Line.words, Unlisting.Line.raw, Unlisting.line-of, Unlisting.bytes-take, Unlisting.bytes-drop}
+use Rattle.assembly_rules.specs.{Text.capitals, Text.isRun, Text.isDigit, Text.isCapital, Text.capitalOf, Text.endsLine, Text.begunBy, Text.tokensOf, Text.cutAt, Text.linesIn, Statements.Statement.items, Statements.headedBy, Statements.allSums, Statements.allLow, Statements.itemsFrom, Statements.statementOf, Statements.statementSize, Statements.isByte, Statements.itemsKnown, Statements.itemsStand, Statements.statementNumber, Statements.itemsBytes}
+use Rattle.assembly_rules.specs.{Statements.statementBytes, Sums.Label, Assembly.Said, Assembly.saidBy, Assembly.saidIn, Assembly.keptWith, Assembly.labelsFrom, Assembly.labelStands, Assembly.lineNumber, Assembly.assembled, Assembly.assembledFrom, Assembly.assembleOf}
 use Rattle.assembly_rules.proofs.{ScanLaws.allFail, WritingLaws.allRun, WritingLaws.written, WholeLaws.SameTokens, WholeLaws.SameTokens.noLine, WholeLaws.SameTokens.oneMore, WholeLaws.same-said}
 use Rattle.promises_assembly.specs.Returning.{Respelled, Returns}
 use Rattle.promises_assembly.proofs.{Texts.cut-first, Texts.isName, Texts.byte-constant, Texts.opens, Instructions.Assembles, Instructions.instruction-assembles, Texts.spokenParts, Texts.Parted, Texts.parted-none, Texts.parted-next, Texts.line-said}

@@ -7,12 +7,10 @@ use lib.{Dec.eqb, Dec.ltb, ListN.getD}
 use borrow.Author.Tests.{not-true, eqb-true, eqb-false}
 use Rattle.ground_rules.specs.{Bits.bitOf, Bits.fieldOf, Choice.pick}
 use Rattle.instruction_rules.specs.{declared.Memory.Memory, declared.Pair.Pair, declared.Shape.Shape, declared.Decoded.the-variants.Instruction, declared.Decoded.the-variants.ControlUsed, Pairs.meets, Pairs.pairOf, Rows.isControl, Table.SummaryRow, Table.table, Reading.fits, Reading.lookup, Reading.decodeOf}
-use Rattle.listing_rules.specs.{declared.Slot.Slot, declared.Slot.the-variants.Empty, declared.Slot.the-variants.Name, declared.Slot.the-variants.Place, declared.Slot.the-variants.Number, declared.Slot.the-variants.Target, declared.Slot.the-variants.Digit, Characters.ascii, Characters.sameText, Mnemonics.isJump, Mnemonics.isListed, Mnemonics.mnemonicOf}
-use Rattle.listing_rules.specs.{Forms.Operand, Forms.afterOffset, Forms.filled, Forms.slotsOf, Back.digitsIn, Back.rrrIn, Entries.Kind, Entries.Entry, Entries.entries, Entries.Kind.'R, Entries.Kind.'G, Entries.Kind.'P, Entries.Kind.'M, Entries.Kind.'byte, Entries.Kind.'word, Entries.Kind.'bit, Entries.Kind.'width, Entries.Kind.'short, Entries.Kind.'long}
-use Rattle.listing_rules.specs.{Back.mmIn, Back.aaIn, Forms.Operand.none, Forms.Operand.register, Forms.Operand.memory, Forms.Operand.number, Forms.Operand.digit}
+use Rattle.listing_rules.specs.{declared.Slot.Slot, declared.Slot.the-variants.Empty, declared.Slot.the-variants.Name, declared.Slot.the-variants.Place, declared.Slot.the-variants.Number, declared.Slot.the-variants.Target, declared.Slot.the-variants.Digit, Characters.ascii, Characters.sameText, Mnemonics.isJump, Mnemonics.isListed, Mnemonics.mnemonicOf, Forms.Operand, Forms.afterOffset, Forms.filled, Forms.slotsOf, Back.digitsIn, Back.rrrIn, Entries.Kind}
+use Rattle.listing_rules.specs.{Entries.Entry, Entries.entries, Entries.Kind.'R, Entries.Kind.'G, Entries.Kind.'P, Entries.Kind.'M, Entries.Kind.'byte, Entries.Kind.'word, Entries.Kind.'bit, Entries.Kind.'width, Entries.Kind.'short, Entries.Kind.'long, Back.mmIn, Back.aaIn, Forms.Operand.none, Forms.Operand.register, Forms.Operand.memory, Forms.Operand.number, Forms.Operand.digit}
 use Rattle.listing_rules.proofs.{SpellingLaws.present, BackLaws.fill, BackLaws.listed, BackLaws.isMove, EntryLaws.fitting}
-use Rattle.assembly_rules.specs.{Text.capitalOf, Text.capitals, Text.isDigit, Text.isCapital, Text.isRun, Text.endsLine, Operands.isMemoryKind, Operands.takesRegister, Operands.takes, Operands.takesAll, Operands.Chosen, Operands.Chosen.taken, Operands.Chosen.untaken, Operands.entryIn, Operands.hasWord, Statements.kindSize, Statements.memoriesIn}
-use Rattle.assembly_rules.specs.{Operands.Written}
+use Rattle.assembly_rules.specs.{Text.capitalOf, Text.capitals, Text.isDigit, Text.isCapital, Text.isRun, Text.endsLine, Operands.isMemoryKind, Operands.takesRegister, Operands.takes, Operands.takesAll, Operands.Chosen, Operands.Chosen.taken, Operands.Chosen.untaken, Operands.entryIn, Operands.hasWord, Statements.kindSize, Statements.memoriesIn, Operands.Written}
 use Rattle.assembly_rules.proofs.{ScanLaws.allFail, WritingLaws.allRun, WritingLaws.both-left, WritingLaws.both-right}
 use Rattle.promises_codes.proofs.CodeNumbers.{allBelow, of-all}
 use Rattle.promises_assembly.proofs.Texts.{isName}

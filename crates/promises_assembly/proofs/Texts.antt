@@ -2,16 +2,15 @@
 -- Assumes nothing.
 use mathlib.Core.{Path._≡_, Path.refl, Path.sym, Path.ap, Path.subst, Path._∙_, Bool.Bool, Bool.true, Bool.false, Bool.not, Bool._&&_, Bool.false≢true, List.List, List.[], List._∷_, List._++_, List.append-assoc, List.append-nil, Bool._||_}
 use Prim.Native.Nat.{ℕ, _+_, _*_, _/_, _%_, _<_}
-use lib.{Dec.ltb, ListN.length, Dec.eqb}
-use Rattle.listing_rules.specs.{Characters.sameText, Characters.hexGlyph, Characters.hexDigits, Characters.numberText, Characters.digitText, Forms.Operand, Forms.spelled, Forms.following}
-use Rattle.assembly_rules.specs.{Text.capitals, Text.endsLine, Text.Token, Text.Token.run, Text.tokensOf, Text.cutAt, Text.capitalOf, Text.isDigit, Text.isCapital, Text.isRun, Numbers.digitValue, Numbers.isRadix, Numbers.radixOf, Numbers.lastOf, Numbers.butLast, Numbers.digitsFrom, Numbers.constantDigits, Numbers.constantOf, Sums.Label, Sums.indexIn}
-use Rattle.assembly_rules.specs.{Sums.registerNumber, Sums.isSum, Sums.depthOf, Sums.worth, Sums.combinedWorth, Sums.restWith, Sums.sumWith, Sums.runRead, Sums.termBy, Sums.termOf, Sums.sumWithin, Sums.sumWorth, declared.Constant.the-variants.Value, Trees.sumTokens, Trees.termTokens, Trees.sumDepth, Trees.termDepth, Trees.Sum.only, Trees.Term.constant}
-use Rattle.assembly_rules.specs.{Operands.operandFrom, Operands.Written.value, Text.isBlank, Text.Token.mark, Text.isComma, Text.begunBy, Statements.headed, Statements.headedBy, Statements.operandParts, Statements.statementOf, Assembly.saidBy}
-use Rattle.assembly_rules.proofs.{ScanLaws.same-is, ScanLaws.allFail, WritingLaws.beginsRun, WritingLaws.allRun, WritingLaws.Writes, WritingLaws.both-left, WritingLaws.both-right, WritingLaws.written, WritingLaws.all-written, WritingLaws.Writes.nothing, WritingLaws.Writes.comment, WritingLaws.Writes.blank, WritingLaws.Writes.single, WritingLaws.Writes.several, NumberLaws.allBelow}
-use Rattle.assembly_rules.proofs.{NumberLaws.placeValue, NumberLaws.lettered, NumberLaws.constant-small, ScanLaws.tree-sum, ScanLaws.tree-depth, TextLaws.tokens-blank, TextLaws.tokens-mark}
 use native.Mathlib.Omega.{arith}
+use lib.{Dec.ltb, ListN.length, Dec.eqb}
 use borrow.Author.Tests.{not-true, eqb-true, ltb-true, lt-ltb}
+use Rattle.listing_rules.specs.{Characters.sameText, Characters.hexGlyph, Characters.hexDigits, Characters.numberText, Characters.digitText, Forms.Operand, Forms.spelled, Forms.following}
 use Rattle.listing_rules.proofs.SpellingLaws.{each, present, marks}
+use Rattle.assembly_rules.specs.{Text.capitals, Text.endsLine, Text.Token, Text.Token.run, Text.tokensOf, Text.cutAt, Text.capitalOf, Text.isDigit, Text.isCapital, Text.isRun, Numbers.digitValue, Numbers.isRadix, Numbers.radixOf, Numbers.lastOf, Numbers.butLast, Numbers.digitsFrom, Numbers.constantDigits, Numbers.constantOf, Sums.Label, Sums.indexIn, Sums.registerNumber, Sums.isSum, Sums.depthOf, Sums.worth, Sums.combinedWorth, Sums.restWith, Sums.sumWith}
+use Rattle.assembly_rules.specs.{Sums.runRead, Sums.termBy, Sums.termOf, Sums.sumWithin, Sums.sumWorth, declared.Constant.the-variants.Value, Trees.sumTokens, Trees.termTokens, Trees.sumDepth, Trees.termDepth, Trees.Sum.only, Trees.Term.constant, Operands.operandFrom, Operands.Written.value, Text.isBlank, Text.Token.mark, Text.isComma, Text.begunBy, Statements.headed, Statements.headedBy, Statements.operandParts, Statements.statementOf, Assembly.saidBy}
+use Rattle.assembly_rules.proofs.{ScanLaws.same-is, ScanLaws.allFail, WritingLaws.beginsRun, WritingLaws.allRun, WritingLaws.Writes, WritingLaws.both-left, WritingLaws.both-right, WritingLaws.written, WritingLaws.all-written, WritingLaws.Writes.nothing, WritingLaws.Writes.comment, WritingLaws.Writes.blank, WritingLaws.Writes.single, WritingLaws.Writes.several, NumberLaws.allBelow, NumberLaws.placeValue, NumberLaws.lettered, NumberLaws.constant-small}
+use Rattle.assembly_rules.proofs.{ScanLaws.tree-sum, ScanLaws.tree-depth, TextLaws.tokens-blank, TextLaws.tokens-mark}
 
 -- the first part of a list, up to a cut, and its last part
 pub cut-first : {A : Type 0} (test : A → Bool) (part rest : List A) (a : A) → allFail test part ≡ true → test a ≡ true → cutAt test (part ++ (a ∷ rest)) ≡ part ∷ cutAt test rest
