@@ -154,8 +154,10 @@ build/example: host/example.c include/iop89.h $(IOP89_LIB) | x86-compiler
 build/borders: host/borders.c include/iop89.h $(IOP89_LIB) | x86-compiler
 	$(X86_CC) $(subst c11,c99,$(STRICT)) $(CFLAGS) -Iinclude host/borders.c $(IOP89_LIB) $(X86_LDFLAGS) -o $@
 
+# Names are bound before main: a first call that is bound on its way takes 3 KiB of stack for the loader.
 build/stack: host/stack.c $(HEADERS) $(ARCHIVES) | x86-compiler
-	$(X86_CC) $(STRICT) -D_POSIX_C_SOURCE=200809L $(CFLAGS) -Iinclude host/stack.c $(ARCHIVES) $(X86_LDFLAGS) -pthread -o $@
+	$(X86_CC) $(STRICT) -D_POSIX_C_SOURCE=200809L $(CFLAGS) -Iinclude host/stack.c $(ARCHIVES) $(X86_LDFLAGS) -Wl,-z,now \
+		-pthread -o $@
 
 # How much stack a run and an assembly need, over the files of examples/.
 stack: build/stack
