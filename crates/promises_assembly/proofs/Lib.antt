@@ -3,3 +3,4 @@ pub mod Rows
 pub mod Places
 pub mod Instructions
 pub mod RoundTrip
+pub mod Calls
