@@ -5,3 +5,4 @@ pub mod PlacedLaws
 pub mod PadLaws
 pub mod PairLaws
 pub mod LikeLaws
+pub mod BoundLaws
