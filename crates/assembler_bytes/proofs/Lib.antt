@@ -6,3 +6,4 @@ pub mod PadLaws
 pub mod PairLaws
 pub mod LikeLaws
 pub mod BoundLaws
+pub mod SmallLaws

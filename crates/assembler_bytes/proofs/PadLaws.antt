@@ -168,11 +168,11 @@ rightFields e =
     && ((eqb (firstKind c) (kindAt 0 (e .kinds)) && (eqb (secondKind c) (kindAt 1 (e .kinds)) && eqb (thirdKind c) (kindAt 2 (e .kinds))))
     && ((eqb (c / 0x10000 % 16) (e .rrr) && eqb (c / 0x1000 % 16) (e .dd)) && (eqb (c / 0x100 % 16) (e .w) && eqb (c % 256) (e .opcode))))
 
-allEntries : (Entry → Bool) → List Entry → Bool
+unfoldable pub allEntries : (Entry → Bool) → List Entry → Bool
 allEntries test [] = true
 allEntries test (e ∷ es) = test e && allEntries test es
 
-among-holds : (test : Entry → Bool) {e : Entry} {es : List Entry} → Among e es → allEntries test es ≡ true → test e ≡ true
+pub among-holds : (test : Entry → Bool) {e : Entry} {es : List Entry} → Among e es → allEntries test es ≡ true → test e ≡ true
 unfolding allEntries
 among-holds test {e = e} (here {es = es}) h = both-left (test e) (allEntries test es) h
 among-holds test (later {f = f} {es = es} a) h = among-holds test a (both-right (test f) (allEntries test es) h)
