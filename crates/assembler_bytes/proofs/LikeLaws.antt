@@ -6,7 +6,6 @@ use mathlib.Core.List.{List, [], _∷_, _++_}
 use Prim.Native.Nat.{ℕ, _+_}
 use lib.Dec.{ltb}
 use Rattle.ground_rules.specs.Choice.{pick}
-use Rattle.instruction_rules.specs.declared.Pair.{Pair}
 use Rattle.listing_rules.specs.Forms.{Operand}
 use Rattle.listing_rules.specs.Forms.Operand.{none, register, memory, number, digit}
 use Rattle.listing_rules.specs.Entries.{Kind, Entry}
@@ -14,7 +13,7 @@ use Rattle.listing_rules.specs.Back.{digitsIn, rrrIn, mmIn, aaIn, pairFrom}
 use Rattle.assembly_rules.specs.Text.{Token}
 use Rattle.assembly_rules.specs.Sums.{Label}
 use Rattle.assembly_rules.specs.Operands.{Written}
-use Rattle.assembly_rules.specs.Statements.{Statement, statementSize, operandWorth, memoriesIn, pairBytes, listedAs, listedAll, writtenOffset, allOffsets, numberBytes, allNumbers, secondBytes, moveBytes, instructionBytes, itemsBytes, statementBytes}
+use Rattle.assembly_rules.specs.Statements.{Statement, statementSize, operandWorth, memoriesIn, pairBytes, listedAs, listedAll, writtenOffset, allOffsets, numberBytes, allNumbers, moveBytes, instructionBytes, itemsBytes, statementBytes}
 use Rattle.assembly_rules.specs.Statements.Statement.{blank, items, instruction, refused}
 use Rattle.assembler_forms.specs.declared.operands.Operands.{Operands}
 use Rattle.assembler_lines.specs.Bodies.{InstructionIs}
@@ -39,21 +38,13 @@ rrr-more (memory m a x) d os ps h k = h
 rrr-more (number b) d os ps h k = h
 rrr-more (digit n) d os ps h k = k n
 
-mm-more : (o : Operand) (d : ℕ) (os ps : List Operand) → ((d : ℕ) → mmIn d os ≡ mmIn d ps) → mmIn d (o ∷ os) ≡ mmIn d (o ∷ ps)
-unfolding mmIn
-mm-more none d os ps h = h d
-mm-more (register r) d os ps h = h d
-mm-more (memory m a x) d os ps h = h m
-mm-more (number b) d os ps h = h d
-mm-more (digit n) d os ps h = h d
-
-aa-more : (o : Operand) (d : ℕ) (os ps : List Operand) → ((d : ℕ) → aaIn d os ≡ aaIn d ps) → aaIn d (o ∷ os) ≡ aaIn d (o ∷ ps)
-unfolding aaIn
-aa-more none d os ps h = h d
-aa-more (register r) d os ps h = h d
-aa-more (memory m a x) d os ps h = h a
-aa-more (number b) d os ps h = h d
-aa-more (digit n) d os ps h = h d
+mode-more : (o : Operand) (os ps : List Operand) → ((d : ℕ) → (mmIn d os ≡ mmIn d ps) × (aaIn d os ≡ aaIn d ps)) → (d : ℕ) → (mmIn d (o ∷ os) ≡ mmIn d (o ∷ ps)) × (aaIn d (o ∷ os) ≡ aaIn d (o ∷ ps))
+unfolding mmIn aaIn
+mode-more none os ps h d = h d
+mode-more (register r) os ps h d = h d
+mode-more (memory m a x) os ps h d = (h m .0, h a .1)
+mode-more (number b) os ps h d = h d
+mode-more (digit n) os ps h d = h d
 
 module _ (labels : List Label) where
   pads-digits : (n : ℕ) {ks js : List Kind} {ws vs : List Written} → Pads ks ws js vs → digitsIn n (listedAll labels js vs) ≡ digitsIn n (listedAll labels ks ws)
@@ -68,21 +59,15 @@ module _ (labels : List Label) where
   pads-rrr d (pad p) = pads-rrr d p
   pads-rrr d (next {ks = ks} {js = js} {ws = ws} {vs = vs} k w p) = rrr-more (listedAs labels k w) d (listedAll labels js vs) (listedAll labels ks ws) (pads-rrr d p) (λ n. pads-digits n p)
 
-  pads-mm : (d : ℕ) {ks js : List Kind} {ws vs : List Written} → Pads ks ws js vs → mmIn d (listedAll labels js vs) ≡ mmIn d (listedAll labels ks ws)
-  unfolding listedAll listedAs mmIn
-  pads-mm d end = refl
-  pads-mm d (pad p) = pads-mm d p
-  pads-mm d (next {ks = ks} {js = js} {ws = ws} {vs = vs} k w p) = mm-more (listedAs labels k w) d (listedAll labels js vs) (listedAll labels ks ws) (λ n. pads-mm n p)
-
-  pads-aa : (d : ℕ) {ks js : List Kind} {ws vs : List Written} → Pads ks ws js vs → aaIn d (listedAll labels js vs) ≡ aaIn d (listedAll labels ks ws)
-  unfolding listedAll listedAs aaIn
-  pads-aa d end = refl
-  pads-aa d (pad p) = pads-aa d p
-  pads-aa d (next {ks = ks} {js = js} {ws = ws} {vs = vs} k w p) = aa-more (listedAs labels k w) d (listedAll labels js vs) (listedAll labels ks ws) (λ n. pads-aa n p)
+  pads-mode : {ks js : List Kind} {ws vs : List Written} → Pads ks ws js vs → (d : ℕ) → (mmIn d (listedAll labels js vs) ≡ mmIn d (listedAll labels ks ws)) × (aaIn d (listedAll labels js vs) ≡ aaIn d (listedAll labels ks ws))
+  unfolding listedAll listedAs mmIn aaIn
+  pads-mode end d = (refl, refl)
+  pads-mode (pad p) d = pads-mode p d
+  pads-mode (next {ks = ks} {js = js} {ws = ws} {vs = vs} k w p) d = mode-more (listedAs labels k w) (listedAll labels js vs) (listedAll labels ks ws) (pads-mode p) d
 
   like-pair : (e f : Entry) (ws vs : List Written) → Like e f ws vs → pairFrom f (listedAll labels (f .kinds) vs) ≡ pairFrom e (listedAll labels (e .kinds) ws)
   unfolding pairFrom
-  like-pair e f ws vs l = rw (pads-rrr (f .rrr) (l .pads), pads-mm 0 (l .pads), pads-aa 0 (l .pads), l .rrr, l .dd, l .w, l .opcode)
+  like-pair e f ws vs l = rw (pads-rrr (f .rrr) (l .pads), pads-mode (l .pads) 0 .0, pads-mode (l .pads) 0 .1, l .rrr, l .dd, l .w, l .opcode)
 
   pads-offsets : {ks js : List Kind} {ws vs : List Written} → Pads ks ws js vs → allOffsets labels vs ≡ allOffsets labels ws
   unfolding allOffsets

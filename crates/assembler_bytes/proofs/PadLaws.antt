@@ -8,16 +8,16 @@ use native.Mathlib.Omega.{arith}
 use lib.Dec.{eqb, leb}
 use lib.ListN.{length}
 use borrow.Author.Tests.{eqb-true, leb-true}
-use Rattle.ground_rules.specs.Choice.{pick}
 use Rattle.listing_rules.specs.Entries.{Kind, Entry, entries}
 use Rattle.listing_rules.specs.Entries.Kind.{'R, 'G, 'P, 'M, 'byte, 'word, 'bit, 'width, 'short, 'long}
-use Rattle.assembly_rules.specs.Sums.{Label, isSum}
+use Rattle.assembly_rules.specs.Sums.{Label}
 use Rattle.assembly_rules.specs.Operands.{Written, takes, takesAll, isShallow, allShallow}
 use Rattle.assembly_rules.specs.Operands.Written.{register, memory, value, nothing}
-use Rattle.assembly_rules.specs.Statements.{Statement, kindSize, kindsSize, offsetsSize, memoriesIn, pairsSize, statementSize, mayStand, operandWorth, namesKnown, allStand, statementNumber}
+use Rattle.assembly_rules.specs.Statements.{Statement, kindSize, kindsSize, offsetsSize, memoriesIn, statementSize, mayStand, operandWorth, namesKnown, allStand, statementNumber}
 use Rattle.assembly_rules.specs.Statements.Statement.{blank, instruction, refused}
 use Rattle.assembly_rules.proofs.WritingLaws.{both-left, both-right}
 use Rattle.assembler_forms.specs.declared.operands.Form.{Form}
+use Rattle.assembler_forms.specs.declared.operands.Form.the-variants.{NoOperand}
 use Rattle.assembler_forms.specs.declared.operands.Operands.{Operands}
 use Rattle.assembler_forms.specs.Forms.{Formed, writtenForm}
 use Rattle.assembler_forms.specs.Rows.{RowIs}
@@ -106,31 +106,21 @@ unfolding statementNumber
 like-number labels address e f ws vs l = rw (pads-known labels (l .pads), like-size e f ws vs l, pads-stand labels (address + statementSize (instruction e ws)) (l .pads))
 
 -- a kind's digit gives it back, and is not 0
-kind-back : (k : Kind) → kindFrom (kindCode k) ≡ k
-unfolding kindFrom
-kind-back 'R = refl
-kind-back 'G = refl
-kind-back 'P = refl
-kind-back 'M = refl
-kind-back 'byte = refl
-kind-back 'word = refl
-kind-back 'bit = refl
-kind-back 'width = refl
-kind-back 'short = refl
-kind-back 'long = refl
+digit-back : (k : Kind) (f : Form) → (kindFrom (kindCode k) ≡ k) × (usedForm (kindCode k) f ≡ f)
+unfolding kindFrom usedForm
+digit-back 'R f = (refl, refl)
+digit-back 'G f = (refl, refl)
+digit-back 'P f = (refl, refl)
+digit-back 'M f = (refl, refl)
+digit-back 'byte f = (refl, refl)
+digit-back 'word f = (refl, refl)
+digit-back 'bit f = (refl, refl)
+digit-back 'width f = (refl, refl)
+digit-back 'short f = (refl, refl)
+digit-back 'long f = (refl, refl)
 
-used-back : (k : Kind) (f : Form) → usedForm (kindCode k) f ≡ f
-unfolding usedForm
-used-back 'R f = refl
-used-back 'G f = refl
-used-back 'P f = refl
-used-back 'M f = refl
-used-back 'byte f = refl
-used-back 'word f = refl
-used-back 'bit f = refl
-used-back 'width f = refl
-used-back 'short f = refl
-used-back 'long f = refl
+kind-back : (k : Kind) → kindFrom (kindCode k) ≡ k
+kind-back k = digit-back k NoOperand .0
 
 -- the kinds and operands by the digits
 abbrev KindsAt : List Kind → List Kind
@@ -140,7 +130,7 @@ abbrev FormsAt : List ℕ → List Kind → Operands → List Written
 FormsAt text ks o = writtenForm text (usedForm (kindAt 0 ks) (o .first)) ∷ writtenForm text (usedForm (kindAt 1 ks) (o .second)) ∷ writtenForm text (usedForm (kindAt 2 ks) (o .third)) ∷ []
 
 form-back : (text : List ℕ) (k : Kind) (f : Form) (w : Written) → Formed text f w → writtenForm text (usedForm (kindCode k) f) ≡ w
-form-back text k f w h = ap (writtenForm text) (used-back k f) ∙ h .same
+form-back text k f w h = ap (writtenForm text) (digit-back k f .1) ∙ h .same
 
 pads-from : (text : List ℕ) (ks : List Kind) (ws : List Written) (o : Operands) → length ks ≤ 3 → takesAll ks ws ≡ true → RowIs text o ws → Pads ks ws (KindsAt ks) (FormsAt text ks o)
 unfolding takesAll kindAt kindFrom usedForm

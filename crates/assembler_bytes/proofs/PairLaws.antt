@@ -1,22 +1,19 @@
 -- The bytes of an instruction by its entry's number and three operands are those of the rules.
 -- Assumes nothing.
 use mathlib.Core.Path.{_≡_, refl, sym, ap, _∙_}
-use mathlib.Core.Bool.{Bool, true, false, _||_}
+use mathlib.Core.Bool.{Bool, true, false}
 use mathlib.Core.List.{List, [], _∷_, _++_, append-assoc, append-nil}
 use Prim.Native.Nat.{ℕ, _+_, _*_, _/_, _%_}
 use native.Mathlib.Omega.{arith}
 use lib.Dec.{eqb, ltb}
-use borrow.Author.Tests.{eq-eqb, ne-eqb}
+use borrow.Author.Tests.{ne-eqb}
 use Rattle.ground_rules.specs.Bytes.{lowByte}
 use Rattle.ground_rules.specs.Choice.{pick}
 use Rattle.listing_rules.specs.Forms.{wordBytes}
 use Rattle.listing_rules.specs.Forms.{Operand}
-use Rattle.listing_rules.specs.Entries.{Kind, Entry}
 use Rattle.listing_rules.specs.Back.{digitsIn, rrrIn, mmIn, aaIn, pairFrom}
 use Rattle.assembly_rules.specs.Sums.{Label, worth, sumWorth}
-use Rattle.assembly_rules.specs.Operands.{Written}
-use Rattle.assembly_rules.specs.Operands.Written.{register, memory, value, nothing}
-use Rattle.assembly_rules.specs.Statements.{reachTo, statementSize, operandWorth, pairBytes, isDigitKind, listedAs, listedAll, writtenOffset, allOffsets, numberBytes, allNumbers, secondBytes, moveBytes, instructionBytes, statementBytes, memoriesIn}
+use Rattle.assembly_rules.specs.Statements.{statementSize, operandWorth, pairBytes, isDigitKind, listedAs, listedAll, writtenOffset, allOffsets, numberBytes, allNumbers, secondBytes, moveBytes, instructionBytes, statementBytes, memoriesIn}
 use Rattle.assembly_rules.specs.Statements.Statement.{instruction}
 use Rattle.assembler_forms.specs.Forms.{operandTokens, writtenForm}
 use Rattle.assembler_forms.specs.declared.operands.Form.{Form}

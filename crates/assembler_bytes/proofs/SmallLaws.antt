@@ -11,8 +11,6 @@ use lib.ListN.{length, drop}
 use borrow.Author.Tests.{ltb-true}
 use Rattle.ground_rules.specs.Bytes.{lowByte}
 use Rattle.ground_rules.specs.Choice.{pick}
-use Rattle.instruction_rules.specs.declared.Pair.{Pair}
-use Rattle.listing_rules.specs.Forms as Forms
 use Rattle.listing_rules.specs.Forms.{Operand, wordBytes}
 use Rattle.listing_rules.specs.Entries.{Kind, Entry, entries}
 use Rattle.listing_rules.specs.Entries.Kind.{'R, 'G, 'P, 'M, 'byte, 'word, 'bit, 'width, 'short, 'long}
@@ -21,17 +19,17 @@ use Rattle.assembly_rules.specs.Text.{Token}
 use Rattle.assembly_rules.specs.Sums.{Label, sumWorth}
 use Rattle.assembly_rules.specs.Operands.{Written, takes, takesAll}
 use Rattle.assembly_rules.specs.Operands.Written.{register, memory, value, nothing}
-use Rattle.assembly_rules.specs.Statements.{Statement, statementSize, statementNumber, namesKnown, mayStand, allStand, reachTo, operandWorth, memoriesIn, isDigitKind, pairBytes, listedAs, listedAll, writtenOffset, allOffsets, numberBytes, allNumbers, secondBytes, moveBytes, instructionBytes, itemsBytes, statementBytes}
-use Rattle.assembly_rules.specs.Statements.Statement.{blank, items, instruction, refused}
+use Rattle.assembly_rules.specs.Statements.{Statement, statementOf, statementSize, statementNumber, namesKnown, mayStand, allStand, reachTo, operandWorth, memoriesIn, isDigitKind, pairBytes, listedAs, listedAll, writtenOffset, allOffsets, numberBytes, allNumbers, secondBytes, moveBytes, instructionBytes, itemsBytes, statementBytes}
+use Rattle.assembly_rules.specs.Statements.Statement.{instruction}
 use Rattle.assembly_rules.proofs.WritingLaws.{both-left, both-right}
 use Rattle.assembler_forms.specs.Table.{kindCode}
 use Rattle.assembler_lines.specs.declared.bodies.Body.{Body}
 use Rattle.assembler_lines.specs.declared.bodies.Body.the-variants.{Blank, Items, Instruction, Refused}
-use Rattle.assembler_lines.specs.Bodies.{Among, BodyIs}
+use Rattle.assembler_lines.specs.Bodies.{BodyIs}
 use Rattle.assembler_bytes.specs.Laid.{laid}
 use Rattle.assembler_bytes.proofs.LaidLaws.{lows}
 use Rattle.assembler_bytes.proofs.PadLaws.{allEntries, among-holds}
-use Rattle.assembler_bytes.proofs.BoundLaws.{isBounded, allBounded, boundedLine}
+use Rattle.assembler_bytes.proofs.BoundLaws.{isBounded, allBounded, boundedLine, line-bounded}
 
 -- bytes: numbers of which only the lowest byte is there
 abbrev pub AreBytes : List ℕ → Type 0
@@ -96,7 +94,7 @@ digits-small n (Operand.memory m a x ∷ os) h = h
 digits-small n (Operand.number b ∷ os) h = h
 digits-small n (Operand.digit k ∷ os) h = widths-small n k os
 
--- a place for a bit's number takes no other
+-- a kind of digits that is no width is a bit's number
 bit-small : (k : Kind) (to n : ℕ) → isDigitKind k ≡ true → not (eqb (kindCode k) 8) ≡ true → mayStand k to n ≡ true → n < 8
 unfolding mayStand
 bit-small 'bit to n h w m = ltb-true n 8 m
@@ -185,29 +183,21 @@ module _ (labels : List Label) where
   rrr-widths d (value ts ∷ nothing ∷ ws) h = absurd (false≢true h)
   rrr-widths d (value ts ∷ value us ∷ ws) h = widths-small (sumWorth labels ts .value) (sumWorth labels us .value) (listedAll labels [] ws)
 
-  mm-small : (d : ℕ) (ks : List Kind) (ws : List Written) → d < 4 → allBounded ws ≡ true → mmIn d (listedAll labels ks ws) < 4
-  unfolding allBounded listedAll mmIn listedAs isBounded
-  mm-small d [] ws l b = l
-  mm-small d (k ∷ ks) [] l b = l
-  mm-small d (k ∷ ks) (register r ∷ ws) l b = mm-small d ks ws l (both-right (ltb r 8) (allBounded ws) b)
-  mm-small d (k ∷ ks) (memory mm aa ts ∷ ws) l b = mm-small mm ks ws (ltb-true mm 4 (both-left (ltb mm 4) (ltb aa 4) (both-left (ltb mm 4 && ltb aa 4) (allBounded ws) b))) (both-right (ltb mm 4 && ltb aa 4) (allBounded ws) b)
-  mm-small d (k ∷ ks) (nothing ∷ ws) l b = mm-small d ks ws l b
-  mm-small d (k ∷ ks) (value ts ∷ ws) l b = go (isDigitKind k) (mm-small d ks ws l b)
+  mode-small : (d a : ℕ) (ks : List Kind) (ws : List Written) → d < 4 → a < 4 → allBounded ws ≡ true → (mmIn d (listedAll labels ks ws) < 4) × (aaIn a (listedAll labels ks ws) < 4)
+  unfolding allBounded listedAll mmIn aaIn listedAs isBounded
+  mode-small d a [] ws l m b = (l, m)
+  mode-small d a (k ∷ ks) [] l m b = (l, m)
+  mode-small d a (k ∷ ks) (register r ∷ ws) l m b = mode-small d a ks ws l m (both-right (ltb r 8) (allBounded ws) b)
+  mode-small d a (k ∷ ks) (memory mm aa ts ∷ ws) l m b =
+      let h = both-left (ltb mm 4 && ltb aa 4) (allBounded ws) b in
+      mode-small mm aa ks ws (ltb-true mm 4 (both-left (ltb mm 4) (ltb aa 4) h)) (ltb-true aa 4 (both-right (ltb mm 4) (ltb aa 4) h)) (both-right (ltb mm 4 && ltb aa 4) (allBounded ws) b)
+  mode-small d a (k ∷ ks) (nothing ∷ ws) l m b = mode-small d a ks ws l m b
+  mode-small d a (k ∷ ks) (value ts ∷ ws) l m b = go (isDigitKind k) (mode-small d a ks ws l m b)
     where
-      go : (x : Bool) → mmIn d (listedAll labels ks ws) < 4 → mmIn d (pick x (Operand.digit (sumWorth labels ts .value)) (Operand.number (wordBytes (sumWorth labels ts .value))) ∷ listedAll labels ks ws) < 4
-      go true later = later
-      go false later = later
+      os : List Operand
+      os = listedAll labels ks ws
 
-  aa-small : (d : ℕ) (ks : List Kind) (ws : List Written) → d < 4 → allBounded ws ≡ true → aaIn d (listedAll labels ks ws) < 4
-  unfolding allBounded listedAll aaIn listedAs isBounded
-  aa-small d [] ws l b = l
-  aa-small d (k ∷ ks) [] l b = l
-  aa-small d (k ∷ ks) (register r ∷ ws) l b = aa-small d ks ws l (both-right (ltb r 8) (allBounded ws) b)
-  aa-small d (k ∷ ks) (memory mm aa ts ∷ ws) l b = aa-small aa ks ws (ltb-true aa 4 (both-right (ltb mm 4) (ltb aa 4) (both-left (ltb mm 4 && ltb aa 4) (allBounded ws) b))) (both-right (ltb mm 4 && ltb aa 4) (allBounded ws) b)
-  aa-small d (k ∷ ks) (nothing ∷ ws) l b = aa-small d ks ws l b
-  aa-small d (k ∷ ks) (value ts ∷ ws) l b = go (isDigitKind k) (aa-small d ks ws l b)
-    where
-      go : (x : Bool) → aaIn d (listedAll labels ks ws) < 4 → aaIn d (pick x (Operand.digit (sumWorth labels ts .value)) (Operand.number (wordBytes (sumWorth labels ts .value))) ∷ listedAll labels ks ws) < 4
+      go : (x : Bool) → (mmIn d os < 4) × (aaIn a os < 4) → let o = pick x (Operand.digit (sumWorth labels ts .value)) (Operand.number (wordBytes (sumWorth labels ts .value))) in (mmIn d (o ∷ os) < 4) × (aaIn a (o ∷ os) < 4)
       go true later = later
       go false later = later
 
@@ -263,7 +253,8 @@ instruction-small labels to e ws h t s b =
     let g = both-right (ltb (e .rrr) 8 && ltb (e .dd) 4) (ltb (e .w) 2 && ltb (e .opcode) 64) fields in
     let w = ltb-true (e .w) 2 (both-left (ltb (e .w) 2) (ltb (e .opcode) 64) g) in
     let os = listedAll labels (e .kinds) ws in
-    let p = pair-small e os (rrr-small labels to (e .rrr) (e .kinds) ws (ltb-true (e .rrr) 8 (both-left (ltb (e .rrr) 8) (ltb (e .dd) 4) f)) (both-left (noWidth (e .kinds) || twoWidths (e .kinds)) _ h) t s b) (ltb-true (e .dd) 4 (both-right (ltb (e .rrr) 8) (ltb (e .dd) 4) f)) (aa-small labels 0 (e .kinds) ws (omega arith) b) w (ltb-true (e .opcode) 64 (both-right (ltb (e .w) 2) (ltb (e .opcode) 64) g)) (mm-small labels 0 (e .kinds) ws (omega arith) b) in
+    let mode = mode-small labels 0 0 (e .kinds) ws (omega arith) (omega arith) b in
+    let p = pair-small e os (rrr-small labels to (e .rrr) (e .kinds) ws (ltb-true (e .rrr) 8 (both-left (ltb (e .rrr) 8) (ltb (e .dd) 4) f)) (both-left (noWidth (e .kinds) || twoWidths (e .kinds)) _ h) t s b) (ltb-true (e .dd) 4 (both-right (ltb (e .rrr) 8) (ltb (e .dd) 4) f)) (mode .1) w (ltb-true (e .opcode) 64 (both-right (ltb (e .w) 2) (ltb (e .opcode) 64) g)) (mode .0) in
     small-pick (ltb 1 (memoriesIn (e .kinds))) (moveBytes labels e ws) _ (move-small labels e ws w b p) (small-join (pairBytes (pairFrom e os)) _ p (small-join (allOffsets labels ws) (allNumbers labels to (e .kinds) ws) (offsets-small labels ws) (numbers-small labels to (e .kinds) ws)))
 
 -- where no number refuses an instruction, its numbers may stand
@@ -298,3 +289,7 @@ unfolding laid lows
 laid-exact [] code h l = refl
 laid-exact (b ∷ bs) [] h l = absurd (omega arith)
 laid-exact (b ∷ bs) (c ∷ code) h l = let x : b % 256 ≡ b = cc in let y : lows bs ≡ bs = cc in rw (x, laid-exact bs code y (omega arith))
+
+-- so is a line that the code read, and of which its number is 0
+pub put-exact : (labels : List Label) (address : ℕ) (text : List ℕ) (b : Body) (ts : List Token) (code : List ℕ) → BodyIs text b (statementOf ts) → statementNumber labels address (statementOf ts) ≡ 0 → let bs = statementBytes labels address (statementOf ts) in length bs ≤ length code → laid bs code ≡ bs ++ drop (length bs) code
+put-exact labels address text b ts code h n l = laid-exact (statementBytes labels address (statementOf ts)) code (line-small labels address text b (statementOf ts) h (line-bounded ts) n) l

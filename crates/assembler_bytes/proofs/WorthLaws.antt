@@ -3,7 +3,7 @@
 use mathlib.Core.Path.{_≡_, refl, sym, ap, _∙_}
 use mathlib.Core.Bool.{Bool, true, false}
 use mathlib.Core.List.{List, [], _∷_, _++_}
-use Prim.Native.Nat.{ℕ, _+_, _%_, _≤_, _<_}
+use Prim.Native.Nat.{ℕ, _+_, _%_, _<_}
 use native.Mathlib.Omega.{arith}
 use lib.Dec.{eqb, leb}
 use lib.ListN.{length}
@@ -13,7 +13,6 @@ use Rattle.assembly_rules.specs.declared.Worth.{Worth}
 use Rattle.assembly_rules.specs.Text.{Token, isComma, beforeComma, fromComma}
 use Rattle.assembly_rules.specs.Text.Token.{run, mark}
 use Rattle.assembly_rules.specs.Sums.{Label, worth, beginsSign, isSum, depthOf, mostOpen, termOf, sumWithin, sumWorth}
-use Rattle.assembly_rules.specs.Sums.Read.{read}
 use Rattle.assembly_rules.proofs.SumLaws.{rest-stop}
 use Rattle.assembly_rules.proofs.TreeLaws.{Equals, sum-read}
 use Rattle.assembly_rules.proofs.ScanLaws.{understood}

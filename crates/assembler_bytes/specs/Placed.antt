@@ -1,7 +1,7 @@
 -- Instructions by their entry's number and up to three operands, as the code has them.
 use mathlib.Core.Bool.{Bool, true, _&&_, _||_}
 use mathlib.Core.List.{List, [], _∷_}
-use Prim.Native.Nat.{ℕ, _+_, _/_, _%_}
+use Prim.Native.Nat.{ℕ, _/_, _%_}
 use lib.Dec.{eqb, ltb}
 use Rattle.ground_rules.specs.Choice.{pick}
 use Rattle.listing_rules.specs.Entries.{Kind, Entry, entry}

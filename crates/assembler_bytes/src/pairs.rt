@@ -16,7 +16,7 @@ ghost use Rattle.assembler_text.specs.Places.{labelsAt};
 ghost use Rattle.assembler_lines.specs.Bodies.{areSums};
 ghost use Rattle.assembler_bytes.specs.Laid.{laidAt};
 ghost use Rattle.assembler_bytes.specs.Placed.{entryFrom, rowOf};
-ghost use Rattle.assembler_bytes.specs.Bytes.{formMm, formAa, formDigits, formRrr, rrrBy, aaBy, mmBy, firstByteBy, secondByteBy, secondPairBy, offsetLaid, placeData, placeBytes, plainTail, moveTail};
+ghost use Rattle.assembler_bytes.specs.Bytes.{formMm, formAa, formDigits, formRrr, rrrBy, firstByteBy, secondByteBy, secondPairBy, offsetLaid, placeData, placeBytes, plainTail, moveTail};
 
 // MM of an operand, or the one before it.
 fn mm_in(d: u32, f: Form) -> u32

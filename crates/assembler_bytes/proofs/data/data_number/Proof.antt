@@ -4,16 +4,11 @@ use Prim.Native.Nat.{_+_, _-_, _≤_}
 use native.Mathlib.Omega.{arith}
 use borrow.Author.Needs.{needs}
 use borrow.Author.Tests.{not-true, not-false}
-use mathlib.Core.Bool.{Bool, true, _&&_, _||_}
-use mathlib.Core.List.{List, [], _∷_}
-use mathlib.Core.Path.{_≡_, refl, sym, ap, subst, _∙_}
+use mathlib.Core.Bool.{Bool, true}
+use mathlib.Core.Path.{_≡_, sym, ap, subst, _∙_}
 use lib.ListN.{length}
 use Rattle.ground_rules.specs.Choice.{pick}
-use Rattle.assembly_rules.specs.declared.Worth.{Worth}
-use Rattle.assembly_rules.specs.Text.{Token}
-use Rattle.assembly_rules.specs.Statements.{isByte}
 use Rattle.assembler_text.specs.Places.{stopAt, labelsAt}
-use Rattle.assembler_forms.specs.Forms.{operandTokens}
 use Rattle.assembler_forms.proofs.RowLaws.{comma-inside}
 use Rattle.assembler_bytes.specs.Laid.{dataAt, SumsAll}
 use Rattle.assembler_bytes.proofs.DataLaws.{itemsAt, data-none, data-some, ends-inside, numberFrom, number-all, number-none, turn-unknown, turn-last, turn-next}

@@ -3,7 +3,7 @@
 use borrow.Author.Needs.{needs}
 use borrow.Author.Tests.{not-true, not-false}
 use mathlib.Core.List.{List}
-use mathlib.Core.Path.{refl, ap, _∙_}
+use mathlib.Core.Path.{ap, _∙_}
 use Rattle.assembly_rules.specs.Operands.{Written, allShallow}
 use Rattle.assembly_rules.specs.Statements.{statementNumber}
 use Rattle.assembly_rules.specs.Statements.Statement.{instruction}
