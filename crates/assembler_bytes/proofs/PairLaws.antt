@@ -71,27 +71,16 @@ module _ (labels : List Label) (text : List ℕ) (kind : ℕ) (os : List Operand
       go true = refl
       go false = refl
 
-  mm-form : (f : Form) (d : ℕ) → mmIn (formMm d f) os ≡ mmIn d (listedAs labels (kindFrom kind) (writtenForm text f) ∷ os)
-  unfolding mmIn listedAs
-  mm-form (Register r) d = refl
-  mm-form (Memory mm aa place low) d = refl
-  mm-form NoOperand d = refl
-  mm-form (Value place low) d = go (isDigitKind (kindFrom kind))
+  mode-form : (f : Form) (d : ℕ) → let o = listedAs labels (kindFrom kind) (writtenForm text f) in (mmIn (formMm d f) os ≡ mmIn d (o ∷ os)) × (aaIn (formAa d f) os ≡ aaIn d (o ∷ os))
+  unfolding mmIn aaIn listedAs
+  mode-form (Register r) d = (refl, refl)
+  mode-form (Memory mm aa place low) d = (refl, refl)
+  mode-form NoOperand d = (refl, refl)
+  mode-form (Value place low) d = go (isDigitKind (kindFrom kind))
     where
-      go : (b : Bool) → mmIn d os ≡ mmIn d (pick b (Operand.digit (sumWorth labels (operandTokens text place) .value)) (Operand.number (wordBytes (sumWorth labels (operandTokens text place) .value))) ∷ os)
-      go true = refl
-      go false = refl
-
-  aa-form : (f : Form) (d : ℕ) → aaIn (formAa d f) os ≡ aaIn d (listedAs labels (kindFrom kind) (writtenForm text f) ∷ os)
-  unfolding aaIn listedAs
-  aa-form (Register r) d = refl
-  aa-form (Memory mm aa place low) d = refl
-  aa-form NoOperand d = refl
-  aa-form (Value place low) d = go (isDigitKind (kindFrom kind))
-    where
-      go : (b : Bool) → aaIn d os ≡ aaIn d (pick b (Operand.digit (sumWorth labels (operandTokens text place) .value)) (Operand.number (wordBytes (sumWorth labels (operandTokens text place) .value))) ∷ os)
-      go true = refl
-      go false = refl
+      go : (b : Bool) → let o = pick b (Operand.digit (sumWorth labels (operandTokens text place) .value)) (Operand.number (wordBytes (sumWorth labels (operandTokens text place) .value))) in (mmIn d os ≡ mmIn d (o ∷ os)) × (aaIn d os ≡ aaIn d (o ∷ os))
+      go true = (refl, refl)
+      go false = (refl, refl)
 
 -- an operand's offset, and a second pair
 offset-form : (labels : List Label) (text : List ℕ) (f : Form) → offsetLaid f (operandWorth labels (writtenForm text f) .value) ≡ writtenOffset labels (writtenForm text f)
@@ -163,11 +152,11 @@ module _ (labels : List Label) (text : List ℕ) (number : ℕ) (f g h : Form) (
 
   mm-told : mmBy f g h ≡ mmIn 0 listed
   unfolding mmBy listedAll entryFrom mmIn last later listed
-  mm-told = mm-form labels text (thirdKind number) [] h (formMm (formMm 0 f) g) ∙ mm-form labels text (secondKind number) last g (formMm 0 f) ∙ mm-form labels text (firstKind number) later f 0
+  mm-told = mode-form labels text (thirdKind number) [] h (formMm (formMm 0 f) g) .0 ∙ mode-form labels text (secondKind number) last g (formMm 0 f) .0 ∙ mode-form labels text (firstKind number) later f 0 .0
 
   aa-told : aaBy f g h ≡ aaIn 0 listed
   unfolding aaBy listedAll entryFrom aaIn last later listed
-  aa-told = aa-form labels text (thirdKind number) [] h (formAa (formAa 0 f) g) ∙ aa-form labels text (secondKind number) last g (formAa 0 f) ∙ aa-form labels text (firstKind number) later f 0
+  aa-told = mode-form labels text (thirdKind number) [] h (formAa (formAa 0 f) g) .1 ∙ mode-form labels text (secondKind number) last g (formAa 0 f) .1 ∙ mode-form labels text (firstKind number) later f 0 .1
 
   pair-told : (ys zs : List ℕ) → lows ys ≡ lows zs → lows (firstByteBy number (rrrBy number f g h a b c) (aaBy f g h) ∷ secondByteBy number (mmBy f g h) ∷ ys) ≡ lows (pairBytes (pairFrom (entryFrom number) (listedAll labels (entryFrom number .kinds) (threeFrom text f g h))) ++ zs)
   unfolding pairBytes pairFrom entryFrom listed

@@ -1,14 +1,14 @@
 // What a line of an assembly is worth: the number that refuses it, and its bytes.
 
 // Data: DB and DW.
-pub mod data;
+mod data;
 // Bytes stored one behind another.
-pub mod stores;
+mod stores;
 // Instructions: their operands' worth, and the number that refuses them.
-pub mod instructions;
+mod instructions;
 
 // The bytes of instructions.
-pub mod pairs;
+mod pairs;
 
 use assembler_lines::bodies::Body;
 ghost use mathlib.Core.Path.{_≡_};
