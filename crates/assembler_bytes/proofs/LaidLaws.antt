@@ -11,7 +11,7 @@ use lib.Seq.{set-out, set-append-seam}
 use Rattle.ground_rules.specs.Bytes.{lowByte}
 use Rattle.ground_rules.specs.Choice.{pick}
 use Rattle.listing_rules.specs.Forms.{wordBytes}
-use Rattle.assembler_bytes.specs.Laid.{laid, laidAt}
+use Rattle.assembler_bytes.specs.Laid.{bytesLaid, laidAt}
 
 pub laid-none : (code : List ℕ) (at : ℕ) → laidAt code at [] ≡ code
 unfolding laidAt
@@ -33,16 +33,16 @@ unfolding laidAt
 laid-past code at [] l = refl
 laid-past code at (b ∷ bs) l = ap (λ (xs : List ℕ). laidAt xs (at + 1) bs) (set-out code at (b % 256) l) ∙ laid-past code (at + 1) bs (omega arith)
 
-laid-behind : (front code bs : List ℕ) → laidAt (front ++ code) (length front) bs ≡ front ++ laid bs code
-unfolding laidAt laid
+laid-behind : (front code bs : List ℕ) → laidAt (front ++ code) (length front) bs ≡ front ++ bytesLaid bs code
+unfolding laidAt bytesLaid
 laid-behind front code [] = refl
 laid-behind front [] (b ∷ bs) = laid-past _ _ (b ∷ bs) (omega (arith, length-append front []))
 laid-behind front (c ∷ code) (b ∷ bs) =
     let x = b % 256 in
-    ap (λ (xs : List ℕ). laidAt xs (length front + 1) bs) (set-append-seam front c code x ∙ sym (append-assoc front (x ∷ []) code)) ∙ ap (λ (n : ℕ). laidAt ((front ++ (x ∷ [])) ++ code) n bs) (sym (length-append front (x ∷ []))) ∙ laid-behind (front ++ (x ∷ [])) code bs ∙ append-assoc front (x ∷ []) (laid bs code)
+    ap (λ (xs : List ℕ). laidAt xs (length front + 1) bs) (set-append-seam front c code x ∙ sym (append-assoc front (x ∷ []) code)) ∙ ap (λ (n : ℕ). laidAt ((front ++ (x ∷ [])) ++ code) n bs) (sym (length-append front (x ∷ []))) ∙ laid-behind (front ++ (x ∷ [])) code bs ∙ append-assoc front (x ∷ []) (bytesLaid bs code)
 
 -- laid from the first place on
-pub laid-all : (code bs : List ℕ) → laidAt code 0 bs ≡ laid bs code
+pub laid-all : (code bs : List ℕ) → laidAt code 0 bs ≡ bytesLaid bs code
 laid-all code bs = laid-behind [] code bs
 
 -- only the lowest byte of each number counts

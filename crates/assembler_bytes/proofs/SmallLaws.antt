@@ -26,7 +26,7 @@ use Rattle.assembler_forms.specs.Table.{kindCode}
 use Rattle.assembler_lines.specs.declared.bodies.Body.{Body}
 use Rattle.assembler_lines.specs.declared.bodies.Body.the-variants.{Blank, Items, Instruction, Refused}
 use Rattle.assembler_lines.specs.Bodies.{BodyIs}
-use Rattle.assembler_bytes.specs.Laid.{laid}
+use Rattle.assembler_bytes.specs.Laid.{bytesLaid}
 use Rattle.assembler_bytes.proofs.LaidLaws.{lows}
 use Rattle.assembler_bytes.proofs.PadLaws.{allEntries, among-holds}
 use Rattle.assembler_bytes.proofs.BoundLaws.{isBounded, allBounded, boundedLine, line-bounded}
@@ -284,12 +284,12 @@ line-small labels address text (Instruction code o) s i k n =
 line-small labels address text (Refused m) s h k n = subst (λ (x : Statement). AreBytes (statementBytes labels address x)) (sym (h .0)) small-none
 
 -- bytes are laid as they are, where there is room for all
-pub laid-exact : (bs code : List ℕ) → AreBytes bs → length bs ≤ length code → laid bs code ≡ bs ++ drop (length bs) code
-unfolding laid lows
+pub laid-exact : (bs code : List ℕ) → AreBytes bs → length bs ≤ length code → bytesLaid bs code ≡ bs ++ drop (length bs) code
+unfolding bytesLaid lows
 laid-exact [] code h l = refl
 laid-exact (b ∷ bs) [] h l = absurd (omega arith)
 laid-exact (b ∷ bs) (c ∷ code) h l = let x : b % 256 ≡ b = cc in let y : lows bs ≡ bs = cc in rw (x, laid-exact bs code y (omega arith))
 
 -- so is a line that the code read, and of which its number is 0
-pub put-exact : (labels : List Label) (address : ℕ) (text : List ℕ) (b : Body) (ts : List Token) (code : List ℕ) → BodyIs text b (statementOf ts) → statementNumber labels address (statementOf ts) ≡ 0 → let bs = statementBytes labels address (statementOf ts) in length bs ≤ length code → laid bs code ≡ bs ++ drop (length bs) code
+pub put-exact : (labels : List Label) (address : ℕ) (text : List ℕ) (b : Body) (ts : List Token) (code : List ℕ) → BodyIs text b (statementOf ts) → statementNumber labels address (statementOf ts) ≡ 0 → let bs = statementBytes labels address (statementOf ts) in length bs ≤ length code → bytesLaid bs code ≡ bs ++ drop (length bs) code
 put-exact labels address text b ts code h n l = laid-exact (statementBytes labels address (statementOf ts)) code (line-small labels address text b (statementOf ts) h (line-bounded ts) n) l

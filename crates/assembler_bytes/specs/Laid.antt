@@ -8,10 +8,10 @@ use Rattle.assembly_rules.specs.Text.{Token, tokensOf}
 use Rattle.assembly_rules.specs.Statements.{operandParts, allSums, allLow}
 
 -- as many bytes as there is room for, each mod 256
-unfoldable pub laid : List ℕ → List ℕ → List ℕ
-laid [] code = code
-laid (b ∷ bs) [] = []
-laid (b ∷ bs) (c ∷ code) = b % 256 ∷ laid bs code
+unfoldable pub bytesLaid : List ℕ → List ℕ → List ℕ
+bytesLaid [] code = code
+bytesLaid (b ∷ bs) [] = []
+bytesLaid (b ∷ bs) (c ∷ code) = b % 256 ∷ bytesLaid bs code
 
 -- the same from a place on
 unfoldable pub laidAt : List ℕ → ℕ → List ℕ → List ℕ

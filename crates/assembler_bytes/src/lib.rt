@@ -15,7 +15,7 @@ ghost use mathlib.Core.Path.{_≡_};
 ghost use Rattle.assembly_rules.specs.Statements.{Statement, statementNumber, statementBytes};
 ghost use Rattle.assembler_text.specs.Places.{labelsAt};
 ghost use Rattle.assembler_lines.specs.Bodies.{BodyIs};
-ghost use Rattle.assembler_bytes.specs.Laid.{laid};
+ghost use Rattle.assembler_bytes.specs.Laid.{bytesLaid};
 
 // The number that refuses a line at an address, or 0: 30 to 32 as the line shows, 33 where a name is unknown, 34 where a number
 // may not stand.
@@ -39,7 +39,7 @@ pub fn number(text: &[u8], b: Body, places: &[usize], addresses: &[u32], address
 
 // Lays the bytes of a line at an address at the start of a room, as many as there is room for.
 pub fn put(text: &[u8], b: Body, places: &[usize], addresses: &[u32], address: u32, code: &mut [u8])
-    ensures { λ r. ⌜ ((s : Statement) → BodyIs (now (text .entry)) b s → now (code .exit) ≡ laid (statementBytes (labelsAt (now (text .entry)) (now (places .entry)) (now (addresses .entry))) address s) (now (code .entry))) ⌝ }
+    ensures { λ r. ⌜ ((s : Statement) → BodyIs (now (text .entry)) b s → now (code .exit) ≡ bytesLaid (statementBytes (labelsAt (now (text .entry)) (now (places .entry)) (now (addresses .entry))) address s) (now (code .entry))) ⌝ }
 {
     match b {
         Body::Blank => {}
