@@ -30,7 +30,7 @@ use Rattle.assembler_text.proofs.PlaceLaws.{from-here}
 use Rattle.assembler_text.proofs.NameLaws.{capitals-length}
 use Rattle.assembler_lines.specs.declared.bodies.Head.{Head}
 use Rattle.assembler_lines.specs.Bodies.{HeadIs}
-use Rattle.assembler_bytes.specs.Laid.{laid}
+use Rattle.assembler_bytes.specs.Laid.{bytesLaid}
 use Rattle.assembler.specs.declared.passes.Failure.{Failure}
 use Rattle.assembler.specs.Passes.{nameOf, Fitting, inLine, lineEnd, saidAt, saidFrom, labelsIn, behind, FailureIs, counted, assemblyWord}
 
@@ -334,12 +334,12 @@ module _ (text places addresses : List ℕ) (first room at line count bytes : �
       goes = ap (failedFrom (labelsAt text places addresses) (labelsIn text places addresses count) first room line bytes) (first-said (saidFrom text next) e) ∙ failed-next (labelsAt text places addresses) (labelsIn text places addresses count) first room line bytes (saidBehind text h) (saidFrom text next) (sym number ∙ z) ∙ ap (λ (k : ℕ). failedFrom (labelsAt text places addresses) grows first room (line + 1) (bytes + k) (saidFrom text next)) (sym sized)
 
 -- bytes laid where there is room for them
-laid-fits : (bs code : List ℕ) → areBytes bs ≡ true → length bs ≤ length code → laid bs code ≡ bs ++ drop (length bs) code
-unfolding laid areBytes
+laid-fits : (bs code : List ℕ) → areBytes bs ≡ true → length bs ≤ length code → bytesLaid bs code ≡ bs ++ drop (length bs) code
+unfolding bytesLaid areBytes
 laid-fits [] code b h = refl
 laid-fits (x ∷ bs) [] b h = absurd (omega arith)
 laid-fits (x ∷ bs) (c ∷ code) b h =
-    ap (λ (n : ℕ). n ∷ laid bs code) (mod-eq-of-lt (ltb-true x 256 (both-left (ltb x 256) (areBytes bs) b)))
+    ap (λ (n : ℕ). n ∷ bytesLaid bs code) (mod-eq-of-lt (ltb-true x 256 (both-left (ltb x 256) (areBytes bs) b)))
     ∙ ap (λ (l : List ℕ). x ∷ l) (laid-fits bs code (both-right (ltb x 256) (areBytes bs) b) (omega arith))
 
 -- a line's bytes laid behind those before it
@@ -376,20 +376,20 @@ module _ (whole code here line rest : List ℕ) (bytes : ℕ) (room : length who
   taken-more : take (bytes + length line) whole ≡ front ++ line
   taken-more = ap (take (bytes + length line)) (sym split-more) ∙ take-at (front ++ line) rest (bytes + length line) both-long
 
-  pub laid-more : (size : ℕ) → size ≡ length line → LaidOn whole code (take bytes here ++ laid line (drop bytes here)) rest (bytes + size)
+  pub laid-more : (size : ℕ) → size ≡ length line → LaidOn whole code (take bytes here ++ bytesLaid line (drop bytes here)) rest (bytes + size)
   unfolding front
   laid-more size e =
       let long : bytes + length line ≤ length whole = omega (arith, ap length split-more, length-append (front ++ line) rest, both-long) in
       let old = ap (take bytes) (is .now) ∙ take-at front (drop bytes code) bytes front-long in
       let new = ap (drop bytes) (is .now) ∙ drop-at front (drop bytes code) bytes front-long in
-      let laid-new = ap (laid line) new ∙ laid-fits line (drop bytes code) line-are (simp length-drop (omega arith)) ∙ ap (λ (l : List ℕ). line ++ l) (drop-drop (length line) bytes code) in
-      rw e (record { split = ap (λ (l : List ℕ). l ++ rest) taken-more ∙ split-more; inside = long; now = ap (λ (l : List ℕ). l ++ laid line (drop bytes here)) old ∙ ap (λ (l : List ℕ). front ++ l) laid-new ∙ sym (append-assoc front line (drop (bytes + length line) code)) ∙ ap (λ (l : List ℕ). l ++ drop (bytes + length line) code) (sym taken-more) })
+      let laid-new = ap (bytesLaid line) new ∙ laid-fits line (drop bytes code) line-are (simp length-drop (omega arith)) ∙ ap (λ (l : List ℕ). line ++ l) (drop-drop (length line) bytes code) in
+      rw e (record { split = ap (λ (l : List ℕ). l ++ rest) taken-more ∙ split-more; inside = long; now = ap (λ (l : List ℕ). l ++ bytesLaid line (drop bytes here)) old ∙ ap (λ (l : List ℕ). front ++ l) laid-new ∙ sym (append-assoc front line (drop (bytes + length line) code)) ∙ ap (λ (l : List ℕ). l ++ drop (bytes + length line) code) (sym taken-more) })
 
 -- the buffer when the part from a place on is back
-pub part-back : (here line part : List ℕ) (bytes : ℕ) → bytes ≤ length here → part ≡ laid line (take (length here - bytes) (drop bytes here)) → putMid bytes (length here - bytes) here part ≡ take bytes here ++ laid line (drop bytes here)
+pub part-back : (here line part : List ℕ) (bytes : ℕ) → bytes ≤ length here → part ≡ bytesLaid line (take (length here - bytes) (drop bytes here)) → putMid bytes (length here - bytes) here part ≡ take bytes here ++ bytesLaid line (drop bytes here)
 part-back here line part bytes h e =
     let behind-part = post-is bytes (length here) here h ∙ drop-of-length-le here (le-refl (length here)) in
-    let now = e ∙ ap (laid line) (part-to-end here bytes) in
+    let now = e ∙ ap (bytesLaid line) (part-to-end here bytes) in
     ap (λ (l : List ℕ). take bytes here ++ (part ++ l)) behind-part ∙ ap (λ (l : List ℕ). take bytes here ++ l) (append-nil part) ∙ ap (λ (l : List ℕ). take bytes here ++ l) now
 
 -- one line of the third pass, when its part of the buffer is back
@@ -402,11 +402,11 @@ module _ (text : List ℕ) (at : ℕ) (h : Head) (is : HeadIs text at h) (labels
       subst (λ (l : List ℕ). LaidOn whole code here l bytes) next on
 
   pub line-stored : (more : List Said) (address : ℕ) (part : List ℕ) → saidFrom text at ≡ saidAt text at ∷ more → address ≡ behind first bytes
-      → part ≡ laid (statementBytes labels address (saidBehind text h .statement)) (take (length here - bytes) (drop bytes here)) → LaidOn whole code (putMid bytes (length here - bytes) here part) (bytesFrom labels first (bytes + size) more) (bytes + size)
+      → part ≡ bytesLaid (statementBytes labels address (saidBehind text h .statement)) (take (length here - bytes) (drop bytes here)) → LaidOn whole code (putMid bytes (length here - bytes) here part) (bytesFrom labels first (bytes + size) more) (bytes + size)
   line-stored more address part e a p =
       let line = statementBytes labels (behind first bytes) (saidBehind text h .statement) in
       let long = sized ∙ sym (statement-sized (tokensOf (drop (h .body) text)) .sized labels (behind first bytes)) in
-      let back = part-back here line part bytes (here-inside whole code here _ bytes room on .0) (p ∙ ap (λ (n : ℕ). laid (statementBytes labels n (saidBehind text h .statement)) (take (length here - bytes) (drop bytes here))) a) in
+      let back = part-back here line part bytes (here-inside whole code here _ bytes room on .0) (p ∙ ap (λ (n : ℕ). bytesLaid (statementBytes labels n (saidBehind text h .statement)) (take (length here - bytes) (drop bytes here))) a) in
       subst (λ (l : List ℕ). LaidOn whole code l (bytesFrom labels first (bytes + size) more) (bytes + size)) (sym back) (laid-more whole code here line _ bytes room all (line-bytes more e) size long)
 
   pub line-room : bytes + size ≤ length whole

@@ -5,5 +5,3 @@ pub mod PlacedLaws
 pub mod PadLaws
 pub mod PairLaws
 pub mod LikeLaws
-pub mod BoundLaws
-pub mod SmallLaws
