@@ -17,7 +17,7 @@ use Rattle.assembly_rules.proofs.{ScanLaws.allFail, WritingLaws.both-left, Writ
 use Rattle.promises_codes.proofs.CodeNumbers.{allBelow, of-all}
 use Rattle.promises_assembly.proofs.{Texts.Constantly, Texts.byte-constant, Texts.word-constant, Texts.digit-constant, Texts.opens, Texts.Voiced, Rows.draw, Rows.Alike, Rows.Alike.registers, Rows.Alike.memories, Rows.Alike.numbers, Rows.Alike.digits, Rows.sameKind, Rows.same-kind, Rows.agrees}
 
--- and stand for what is written
+-- an operand that is heard as it is meant: its tokens stay together and stand for what is written
 pub record Heard (o : Operand) (w : Written) : Type 0 where
   pub voice : Voiced o
   pub operand : operandFrom (tokensOf (spelled o)) ≡ w
