@@ -50,9 +50,10 @@ data-said b bytes h =
     line-said (ascii "DB") (numbers (b ∷ bytes)) refl (i .parted) ∙ rw (i .parted .lead, numbers-present (b ∷ bytes), i .sums, i .low)
 
 -- a DB line assembles to its bytes
-data-assembles : (b : ℕ) (bytes : List ℕ) → Bytes (b ∷ bytes) → (address : ℕ) → Assembles (dataLine (b ∷ bytes)) address (b ∷ bytes)
+data-assembles : (bytes : List ℕ) → (length bytes ≡ 0 → ⊥) → Bytes bytes → (address : ℕ) → Assembles (dataLine bytes) address bytes
 unfolding statementSize statementNumber statementBytes
-data-assembles b bytes h address =
+data-assembles [] some h address = absurd (some refl)
+data-assembles (b ∷ bytes) some h address =
     let i = items-of (b ∷ bytes) h in
     let sp = spoken-data (b ∷ bytes) h in
     let said = data-said b bytes h in
@@ -66,10 +67,6 @@ data-assembles b bytes h address =
       stored = λ labels at k. rw said (i .same labels);
     }
 
-some-data : (bytes : List ℕ) → (length bytes ≡ 0 → ⊥) → Bytes bytes → (address : ℕ) → Assembles (dataLine bytes) address bytes
-some-data [] some h address = absurd (some refl)
-some-data (b ∷ bytes) some h address = data-assembles b bytes h address
-
 -- every line of a listing assembles to the bytes that it lists
 line-assembles : (address : ℕ) (x : List ℕ) → (length x ≡ 0 → ⊥) → Bytes x → Assembles (lineAt address x .chars) address (lineAt address x .bytes)
 unfolding lineAt
@@ -79,7 +76,7 @@ line-assembles address x some h = go (line-of address x)
     go (words s to n i l e) = rw (e, i) (instruction-assembles x h address s to n (whole-at x s to n i) l)
     go (raw e) =
         let n = countOf (itemOf x) in
-        rw e (some-data (take n x) (λ z. omega (arith, z, length-take n x, count-some x some, count-there x some)) (bytes-take n x h) address)
+        rw e (data-assembles (take n x) (λ z. omega (arith, z, length-take n x, count-some x some, count-there x some)) (bytes-take n x h) address)
 
 -- lines one behind the other, each of which assembles to its bytes
 pub data AllAssemble : ℕ → List TextLine → Type 0 where
