@@ -58,7 +58,8 @@ pub fn assemble(text: &[u8], first: u32, code: &mut [u8]) -> u64
     ensures { λ r. ⌜ r ≡ assemblyWord (assembleOf (now (text .entry)) first (length (now (code .entry)))) ⌝ }
     ensures { λ r. ⌜ now (code .exit) ≡ assembledInto (now (code .entry)) (assembleOf (now (text .entry)) first (length (now (code .entry)))) ⌝ }
 {
-    let mut places: [usize; 64] = [0; 64];
-    let mut addresses: [u32; 64] = [0; 64];
+    // No zeros: they would be a call of memset, which no archive brings.
+    let mut places: [usize; 64] = [1; 64];
+    let mut addresses: [u32; 64] = [1; 64];
     assemble_with(text, first, &mut places, &mut addresses, code)
 }
