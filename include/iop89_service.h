@@ -42,12 +42,13 @@ extern "C" {
 /* What a done step was. */
 enum iop89_kind { IOP89_NONE = 0, IOP89_INSTRUCTION = 1, IOP89_TRANSFER = 2, IOP89_EXTERNAL_END = 3 };
 
-/* Makes the state of a machine whose control block is at cp. Answers 10, with the state for 0, where cp has more than
- * 20 bits. Looks at the length alone, and at none of the bytes that stood there. */
+/* Makes the state of a machine whose control block is at cp. Answers 17 for another length than IOP89_STATE_LENGTH, and 10,
+ * with the state for 0, where cp has more than 20 bits. Looks at the length alone, and at none of the bytes that stood
+ * there. */
 uint32_t iop89_fresh(uint8_t *state, size_t state_len, uint32_t cp);
 
-/* Makes the state after reset, in which only power-up is allowed: every attention and step is 13. Answers 0. Looks at
- * the length alone, as iop89_fresh does. */
+/* Makes the state after reset, in which only power-up is allowed: every attention, step and sweep is 13. Answers 0, or 17
+ * for another length. Looks at the length alone, as iop89_fresh does. */
 uint32_t iop89_reset(uint8_t *state, size_t state_len);
 
 /* Powers the machine up: SYSBUS is read at FFFF6h of system memory, the configuration block's pointer at FFFF8h, SOC and
@@ -143,7 +144,8 @@ uint32_t iop89_schedule(uint8_t *state, size_t state_len, const struct iop89_row
                         size_t sys_len, uint8_t *io, size_t io_len, uint64_t *report, size_t report_len);
 
 /* The run of iop89.h with reset and power-up in the place of a CP: 12, 11, power-up's 2, then one attention and steps.
- * The answer is iop89_run's. */
+ * The answer is iop89_run's. With 12, 11 and power-up's 2 no byte has changed; where the attention is refused, BUSY of
+ * channel 1 is cleared, as power-up left it. */
 uint32_t iop89_board(uint8_t *sys, size_t sys_len, uint8_t *io, size_t io_len, uint32_t channel, uint32_t lines,
                      uint32_t limit);
 
@@ -271,7 +273,7 @@ static inline void iop89_set_bytes(uint8_t *state, size_t at, size_t width, uint
 }
 
 /* A register of a channel, 1 or 2, read and set. A tag, mode, mark, field or held byte out of range makes the next call
- * answer 17.
+ * answer 17, unless that call is iop89_fresh or iop89_reset, which look at none of them.
  * iop89_set with IOP89_CC writes CC alone, and the fields stay: see iop89_set_cc. */
 static inline uint32_t iop89_get(const uint8_t *state, unsigned channel, enum iop89_register which)
 {
