@@ -129,7 +129,7 @@ build/%.sums: always
 	@mkdir -p build
 	@tools/closure sums $* >$@.$$$$ && if cmp -s $@.$$$$ $@; then rm -f $@.$$$$; else mv $@.$$$$ $@; fi
 
-# Headers, archives and the file by which pkg-config finds them.
+# Headers, archives, and the one file by which pkg-config finds libiop89.a; -liop89_service is the caller's to add.
 install: given-prefix $(ARCHIVES)
 	@tools/install $(HEADERS) $(ARCHIVES) include/iop89.pc.in
 
@@ -195,7 +195,8 @@ examples:
 	@tools/need python3 python3
 	python3 examples/make.py examples
 
-# Counts instructions, which are the same on a busy machine, and prints the tables of docs/BENCHMARKS.md.
+# Counts instructions, which are the same on a busy machine, and prints the tables of docs/BENCHMARKS.md but for those of
+# PROM files and listings (bench-hex, bench-list).
 bench: count-needs x86-compiler build/bench
 	@X86_SIZE="$(X86_SIZE)" tools/bench build/bench $(IOP89_LIB) build/emulator.o
 
