@@ -182,7 +182,7 @@ compare-traces: given-images compiler program-trace build/scripts
 selftest: build/selftest
 	build/selftest
 
-# Runs every row of the table in examples/README.md, and the script with a pause.
+# Runs every row of the table in examples/README.md, and the scripts that have a trace.
 check-examples: x86-compiler build/example build/scripts
 	tools/check-examples
 
