@@ -151,6 +151,9 @@ build/example: host/example.c include/iop89.h $(IOP89_LIB) | x86-compiler
 build/borders: host/borders.c include/iop89.h $(IOP89_LIB) | x86-compiler
 	$(X86_CC) $(subst c11,c99,$(STRICT)) $(CFLAGS) -Iinclude host/borders.c $(IOP89_LIB) $(X86_LDFLAGS) -o $@
 
+build/empty: host/empty.c $(HEADERS) $(SERVICE_LIB) | x86-compiler
+	$(X86_CC) $(subst c11,c99,$(STRICT)) $(CFLAGS) -Iinclude host/empty.c $(SERVICE_LIB) $(X86_LDFLAGS) -o $@
+
 build/stack: host/stack.c include/iop89.h $(IOP89_LIB) | x86-compiler
 	$(X86_CC) $(STRICT) -D_POSIX_C_SOURCE=200809L $(CFLAGS) -Iinclude host/stack.c $(IOP89_LIB) $(X86_LDFLAGS) -pthread -o $@
 

@@ -9,6 +9,9 @@
 extern "C" {
 #endif
 
+/* The version of the archive libiop89_service.a; it is IOP89_VERSION where header and archive belong together. */
+uint32_t iop89_service_version(void);
+
 /* How many bytes a state has, and the version that its first byte holds: a layout with more fields has a higher one. */
 #define IOP89_STATE_LENGTH 104u
 #define IOP89_STATE_VERSION 4u
@@ -190,8 +193,8 @@ uint32_t iop89_pair_schedule(uint32_t processor, uint8_t *state_1, size_t state_
 
 /* Of the calls on a state: 17 comes before every other number, but for 12 of a processor that is neither 1 nor 2, and a
  * refused call changes no byte, but for iop89_fresh with 10 and a schedule's report.
- * The buffers of a call, all five of a pair's too, must not overlap each other, and no pointer may be null, also where its
- * length is 0. */
+ * Of every call in this header: its buffers, all five of a pair's too, must not overlap each other. Where a length is 0
+ * the pointer may be NULL, as iop89.h says of iop89_run. */
 
 /* ---- Where the bytes of a state are; numbers stand little end first ---- */
 
@@ -357,7 +360,7 @@ enum iop89_load_refusal {
  * Reads a text into system memory from address 0 on, whole or not at all. Its parts by the macros below: the number;
  * the line, that of the first bad record, for 23 how many lines there are, for 2 that of the first record with a byte
  * beyond memory, else 0; and the last start address that the file gives, 0 where there is none or it is refused.
- * The two buffers must not overlap, and neither pointer may be null, also where its length is 0.
+ * The two buffers must not overlap; where a length is 0 the pointer may be NULL.
  */
 uint64_t iop89_load(const uint8_t *text, size_t text_len, uint8_t *sys, size_t sys_len);
 
@@ -400,7 +403,7 @@ static inline const char *iop89_load_words(unsigned number)
  * count from `first`, the address of the first byte, mod 65,536. A line is written whole or not at all: before the first
  * that has no room it stops, and the rest of the buffer stays. Its parts by the macros below: how many characters were
  * written, and at which byte it stopped; that is code_len, or 1,048,576 where more were lent, if every line had room.
- * Nothing is refused. The two buffers must not overlap, and neither pointer may be null, also where its length is 0.
+ * Nothing is refused. The two buffers must not overlap; where a length is 0 the pointer may be NULL.
  */
 uint64_t iop89_list(const uint8_t *code, size_t code_len, uint32_t first, uint8_t *text, size_t text_len);
 
