@@ -72,7 +72,7 @@ SCRIPTS_H = $(addprefix host/,writer.h lines.h session.h listing.h hex.h hex_tex
 PROGRAMS = program-trace program-script
 
 .PHONY: help run script demo test lib host install clean compare compare-scripts compare-traces selftest \
-	check-examples front-door examples bench $(PROGRAMS) compiler x86-compiler count-needs always \
+	check-examples check-papers front-door examples bench $(PROGRAMS) compiler x86-compiler count-needs always \
 	given-image given-file given-demo given-cases given-calls given-images given-prefix
 
 # What is given is tested before anything is proved, and one folder has one proof at a time.
@@ -188,6 +188,11 @@ selftest: build/selftest
 # Runs every row of the table in examples/README.md, and the scripts that have a trace.
 check-examples: x86-compiler build/example build/scripts
 	tools/check-examples
+
+# Holds the papers to the tree: names, files, commands, numbers.
+check-papers:
+	@tools/need python3 python3
+	tools/check-papers
 
 # Goes through README's commands and through misuse of them.
 front-door:
