@@ -155,9 +155,10 @@ build/empty: host/empty.c $(HEADERS) $(SERVICE_LIB) | x86-compiler
 	$(X86_CC) $(subst c11,c99,$(STRICT)) $(CFLAGS) -Iinclude host/empty.c $(SERVICE_LIB) $(X86_LDFLAGS) -o $@
 
 build/stack: host/stack.c include/iop89.h $(IOP89_LIB) | x86-compiler
-	$(X86_CC) $(STRICT) -D_POSIX_C_SOURCE=200809L $(CFLAGS) -Iinclude host/stack.c $(IOP89_LIB) $(X86_LDFLAGS) -pthread -o $@
+	$(X86_CC) $(STRICT) -D_POSIX_C_SOURCE=200809L $(CFLAGS) -Iinclude host/stack.c $(IOP89_LIB) $(X86_LDFLAGS) \
+		-Wl,-z,now -pthread -o $@
 
-# How much stack a call needs, over the images of examples/.
+# How much stack a run needs, over the images of examples/; names are bound before, so that no linker's stack counts.
 stack: build/stack
 	@tools/x86 build/stack examples/*.bin
 
