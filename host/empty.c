@@ -130,7 +130,8 @@ static void test_pairs(void)
     expect("pair schedule, no rows",
            iop89_pair_schedule(1, state, length, NONE, NONE, NONE, NONE, NONE, NONE), IOP89_DONE);
     prepare_transfer();
-    expect("pair sweep, no memory", iop89_pair_sweep(1, state, length, NONE, NONE, NONE, NONE, 1, 0), IOP89_NOT_SWEEPABLE);
+    expect("pair sweep, no memory", iop89_pair_sweep(1, state, length, NONE, NONE, NONE, NONE, 1, 0),
+           IOP89_NOT_SWEEPABLE);
     expect("pair sweep, the other", iop89_pair_sweep(1, state, length, NONE, sys, room, NONE, NONE, 1, 0), swept);
     expect("pair sweep, nothing", iop89_pair_sweep(2, NONE, NONE, NONE, NONE, NONE, 1, 0), IOP89_NO_STATE);
 }
