@@ -75,7 +75,7 @@ SCRIPTS_H = $(addprefix host/,writer.h lines.h session.h listing.h hex.h hex_tex
 PROGRAMS = program-trace program-script
 
 .PHONY: help run script demo test lib host install clean compare compare-scripts compare-traces selftest \
-	check-examples front-door examples bench $(PROGRAMS) compiler x86-compiler count-needs always \
+	check-examples check-papers front-door examples bench $(PROGRAMS) compiler x86-compiler count-needs always \
 	given-image given-file given-demo given-cases given-calls given-images given-prefix
 
 # What is given is tested before anything is proved, and one folder has one proof at a time.
@@ -132,7 +132,7 @@ build/%.sums: always
 	@mkdir -p build
 	@tools/closure sums $* >$@.$$$$ && if cmp -s $@.$$$$ $@; then rm -f $@.$$$$; else mv $@.$$$$ $@; fi
 
-# Headers, archives and the file by which pkg-config finds them.
+# Headers, archives, and the one file by which pkg-config finds libiop89.a; -liop89_service is the caller's to add.
 install: given-prefix $(ARCHIVES)
 	@tools/install $(HEADERS) $(ARCHIVES) include/iop89.pc.in
 
@@ -154,10 +154,14 @@ build/example: host/example.c include/iop89.h $(IOP89_LIB) | x86-compiler
 build/borders: host/borders.c include/iop89.h $(IOP89_LIB) | x86-compiler
 	$(X86_CC) $(subst c11,c99,$(STRICT)) $(CFLAGS) -Iinclude host/borders.c $(IOP89_LIB) $(X86_LDFLAGS) -o $@
 
-build/stack: host/stack.c $(HEADERS) $(ARCHIVES) | x86-compiler
-	$(X86_CC) $(STRICT) -D_POSIX_C_SOURCE=200809L $(CFLAGS) -Iinclude host/stack.c $(ARCHIVES) $(X86_LDFLAGS) -pthread -o $@
+build/empty: host/empty.c $(HEADERS) $(SERVICE_LIB) | x86-compiler
+	$(X86_CC) $(subst c11,c99,$(STRICT)) $(CFLAGS) -Iinclude host/empty.c $(SERVICE_LIB) $(X86_LDFLAGS) -o $@
 
-# How much stack a run and an assembly need, over the files of examples/.
+build/stack: host/stack.c $(HEADERS) $(ARCHIVES) | x86-compiler
+	$(X86_CC) $(STRICT) -D_POSIX_C_SOURCE=200809L $(CFLAGS) -Iinclude host/stack.c $(ARCHIVES) $(X86_LDFLAGS) \
+		-Wl,-z,now -pthread -o $@
+
+# How much stack a run and an assembly need, over the files of examples/; names are bound before, so that no linker's stack counts.
 stack: build/stack
 	@tools/x86 build/stack examples/*.bin examples/*.asm
 
@@ -185,9 +189,14 @@ compare-traces: given-images compiler program-trace build/scripts
 selftest: build/selftest
 	build/selftest
 
-# Runs every row of the table in examples/README.md, and the script with a pause.
+# Runs every row of the table in examples/README.md, and the scripts that have a trace.
 check-examples: x86-compiler build/example build/scripts
 	tools/check-examples
+
+# Holds the papers to the tree: names, files, commands, numbers.
+check-papers:
+	@tools/need python3 python3
+	tools/check-papers
 
 # Goes through README's commands and through misuse of them.
 front-door:
@@ -198,7 +207,8 @@ examples:
 	@tools/need python3 python3
 	python3 examples/make.py examples
 
-# Counts instructions, which are the same on a busy machine, and prints the tables of docs/BENCHMARKS.md.
+# Counts instructions, which are the same on a busy machine, and prints the tables of docs/BENCHMARKS.md but for those of
+# PROM files and listings (bench-hex, bench-list).
 bench: count-needs x86-compiler build/bench
 	@X86_SIZE="$(X86_SIZE)" tools/bench build/bench $(IOP89_LIB) build/emulator.o
 

@@ -63,8 +63,13 @@ static const char options[] =
     "assembled whole, or refused at its first bad line: 30 word, 31 operands, 32 parentheses, 33 label, 34 reach, 35 room.\n"
     "A FILE whose name ends in .hex is a PROM file (Intel hexadecimal): its records say where its bytes go.\n"
     "Numbers are decimal, or hexadecimal behind 0x; 010 is ten. A file has at most 1,048,576 bytes.\n"
-    "Ends with 0 at the limit or where the channel halted, 1 where it was refused or waits, 2 for anything else.\n"
-    "schedule ends with 0 whatever rows were refused, and with 1 for a row of unknown kind; asm with 1 for a refused text.\n";
+    "A line of step ends with what changed of its channel: registers, the byte held, armed or unarmed, and its mode: idle,\n"
+    "running or suspended. Under several line numbers a line with - for its kind and waits is a step that was tried while\n"
+    "the channel waited for a request.\n"
+    "run and step end with 0 at the limit or where no channel runs any more, with 1 where a call was refused or a channel\n"
+    "waits. schedule ends with 0 whatever rows were refused, and with 1 for a row of unknown kind. asm ends with 1 for a\n"
+    "refused text. load, list and help end with 0. Each command ends with 1, and names the line, for a PROM file that is refused, and with 2 for words that it\n"
+    "does not know, a file that cannot be read and output that cannot be written.\n";
 
 /* Prints the commands and the options. */
 static void print_help(FILE *out)

@@ -2,8 +2,8 @@
  * The call by which a host program runs the proved stand-in for the 8089 I/O processor, and what it answers.
  *
  * For C99 and later and C++. The archive, libiop89.a, is for x86-64 Linux (System V calling convention); it can be
- * linked into position-independent programs, needs no other library and no start-up, and keeps nothing between calls,
- * so that threads may call it at the same time, each with buffers of its own.
+ * linked into position-independent programs, needs memcpy and nothing else of any library and no start-up, and keeps
+ * nothing between calls, so that threads may call it at the same time, each with buffers of its own.
  */
 #ifndef IOP89_H
 #define IOP89_H
@@ -15,8 +15,11 @@
 extern "C" {
 #endif
 
-/* The version of header and archive: major number x 100 + minor number. The same major number only adds. */
-#define IOP89_VERSION 100
+/* The version of headers and archives: major number x 100 + minor number. The same major number only adds: what a program
+ * was answered it is answered still. 2.0 answers otherwise than 1.0 where a match ends a transfer at the first of two
+ * single stores (BC falls by two), in I/O space beyond lent memory (empty slots, not 2), and where two bytes of a
+ * synchronised transfer have a request each (a step each). */
+#define IOP89_VERSION 200
 
 /* The most bytes of system memory and of I/O memory that may be lent, and the largest arguments. */
 #define IOP89_SYSTEM_LIMIT 1048576u
@@ -76,6 +79,9 @@ enum iop89_number {
  */
 uint32_t iop89_run(uint8_t *sys, size_t sys_len, uint8_t *io, size_t io_len, uint32_t cp, uint32_t channel,
                    uint32_t lines, uint32_t limit);
+
+/* The version of the archive libiop89.a; it is IOP89_VERSION where header and archive belong together. */
+uint32_t iop89_version(void);
 
 /* A number in words. */
 static inline const char *iop89_words(unsigned number)

@@ -9,6 +9,9 @@
 extern "C" {
 #endif
 
+/* The version of the archive libiop89_service.a; it is IOP89_VERSION where header and archive belong together. */
+uint32_t iop89_service_version(void);
+
 /* How many bytes a state has, and the version that its first byte holds: a layout with more fields has a higher one. */
 #define IOP89_STATE_LENGTH 104u
 #define IOP89_STATE_VERSION 4u
@@ -42,12 +45,13 @@ extern "C" {
 /* What a done step was. */
 enum iop89_kind { IOP89_NONE = 0, IOP89_INSTRUCTION = 1, IOP89_TRANSFER = 2, IOP89_EXTERNAL_END = 3 };
 
-/* Makes the state of a machine whose control block is at cp. Answers 10, with the state for 0, where cp has more than
- * 20 bits. Looks at the length alone, and at none of the bytes that stood there. */
+/* Makes the state of a machine whose control block is at cp. Answers 17 for another length than IOP89_STATE_LENGTH, and 10,
+ * with the state for 0, where cp has more than 20 bits. Looks at the length alone, and at none of the bytes that stood
+ * there. */
 uint32_t iop89_fresh(uint8_t *state, size_t state_len, uint32_t cp);
 
-/* Makes the state after reset, in which only power-up is allowed: every attention and step is 13. Answers 0. Looks at
- * the length alone, as iop89_fresh does. */
+/* Makes the state after reset, in which only power-up is allowed: every attention, step and sweep is 13. Answers 0, or 17
+ * for another length. Looks at the length alone, as iop89_fresh does. */
 uint32_t iop89_reset(uint8_t *state, size_t state_len);
 
 /* Powers the machine up: SYSBUS is read at FFFF6h of system memory, the configuration block's pointer at FFFF8h, SOC and
@@ -143,7 +147,8 @@ uint32_t iop89_schedule(uint8_t *state, size_t state_len, const struct iop89_row
                         size_t sys_len, uint8_t *io, size_t io_len, uint64_t *report, size_t report_len);
 
 /* The run of iop89.h with reset and power-up in the place of a CP: 12, 11, power-up's 2, then one attention and steps.
- * The answer is iop89_run's. */
+ * The answer is iop89_run's. With 12, 11 and power-up's 2 no byte has changed; where the attention is refused, BUSY of
+ * channel 1 is cleared, as power-up left it. */
 uint32_t iop89_board(uint8_t *sys, size_t sys_len, uint8_t *io, size_t io_len, uint32_t channel, uint32_t lines,
                      uint32_t limit);
 
@@ -188,8 +193,8 @@ uint32_t iop89_pair_schedule(uint32_t processor, uint8_t *state_1, size_t state_
 
 /* Of the calls on a state: 17 comes before every other number, but for 12 of a processor that is neither 1 nor 2, and a
  * refused call changes no byte, but for iop89_fresh with 10 and a schedule's report.
- * The buffers of a call, all five of a pair's too, must not overlap each other, and no pointer may be null, also where its
- * length is 0. */
+ * Of every call in this header: its buffers, all five of a pair's too, must not overlap each other. Where a length is 0
+ * the pointer may be NULL, as iop89.h says of iop89_run. */
 
 /* ---- Where the bytes of a state are; numbers stand little end first ---- */
 
@@ -271,7 +276,7 @@ static inline void iop89_set_bytes(uint8_t *state, size_t at, size_t width, uint
 }
 
 /* A register of a channel, 1 or 2, read and set. A tag, mode, mark, field or held byte out of range makes the next call
- * answer 17.
+ * answer 17, unless that call is iop89_fresh or iop89_reset, which look at none of them.
  * iop89_set with IOP89_CC writes CC alone, and the fields stay: see iop89_set_cc. */
 static inline uint32_t iop89_get(const uint8_t *state, unsigned channel, enum iop89_register which)
 {
@@ -355,7 +360,7 @@ enum iop89_load_refusal {
  * Reads a text into system memory from address 0 on, whole or not at all. Its parts by the macros below: the number;
  * the line, that of the first bad record, for 23 how many lines there are, for 2 that of the first record with a byte
  * beyond memory, else 0; and the last start address that the file gives, 0 where there is none or it is refused.
- * The two buffers must not overlap, and neither pointer may be null, also where its length is 0.
+ * The two buffers must not overlap; where a length is 0 the pointer may be NULL.
  */
 uint64_t iop89_load(const uint8_t *text, size_t text_len, uint8_t *sys, size_t sys_len);
 
@@ -398,7 +403,7 @@ static inline const char *iop89_load_words(unsigned number)
  * count from `first`, the address of the first byte, mod 65,536. A line is written whole or not at all: before the first
  * that has no room it stops, and the rest of the buffer stays. Its parts by the macros below: how many characters were
  * written, and at which byte it stopped; that is code_len, or 1,048,576 where more were lent, if every line had room.
- * Nothing is refused. The two buffers must not overlap, and neither pointer may be null, also where its length is 0.
+ * Nothing is refused. The two buffers must not overlap; where a length is 0 the pointer may be NULL.
  */
 uint64_t iop89_list(const uint8_t *code, size_t code_len, uint32_t first, uint8_t *text, size_t text_len);
 
