@@ -68,8 +68,8 @@ static const char options[] =
     "the channel waited for a request.\n"
     "run and step end with 0 at the limit or where no channel runs any more, with 1 where a call was refused or a channel\n"
     "waits. schedule ends with 0 whatever rows were refused, and with 1 for a row of unknown kind. asm ends with 1 for a\n"
-    "refused text. load, list and help end with 0. Each command ends with 1, and names the line, for a PROM file that is refused, and with 2 for words that it\n"
-    "does not know, a file that cannot be read and output that cannot be written.\n";
+    "refused text. load, list and help end with 0. Each command ends with 1, and names the line, for a PROM file that is\n"
+    "refused, and with 2 for words that it does not know, a file that cannot be read and output that cannot be written.\n";
 
 /* Prints the commands and the options. */
 static void print_help(FILE *out)
