@@ -218,11 +218,12 @@ $(BUILD)/borders: host/borders.c include/iop89.h $(IOP89_LIB) | x86-compiler
 $(BUILD)/empty: host/empty.c $(HEADERS) $(SERVICE_LIB) | x86-compiler
 	$(X86_CC) $(PLAIN) $(subst c11,c99,$(STRICT)) $(CFLAGS) -Iinclude host/empty.c $(SERVICE_LIB) $(X86_LDFLAGS) -o $@
 
+# Names are bound before main: a first call that is bound on its way takes 3 KiB of stack for the loader.
 $(BUILD)/stack: host/stack.c $(HEADERS) $(ARCHIVES) | x86-compiler
 	$(X86_CC) $(PLAIN) $(STRICT) -D_POSIX_C_SOURCE=200809L $(CFLAGS) -Iinclude host/stack.c $(ARCHIVES) $(X86_LDFLAGS) \
 		-Wl,-z,now -pthread -o $@
 
-# How much stack a run and an assembly need, over the files of examples/; names are bound before, so that no linker's stack counts.
+# How much stack a run and an assembly need, over the files of examples/.
 stack: $(BUILD)/stack
 	@tools/x86 $(BUILD)/stack examples/*.bin examples/*.asm
 

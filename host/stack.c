@@ -20,11 +20,10 @@ struct job {
 static uint8_t sys[4096], io[256], code[MOST];
 static unsigned char *stack;
 
-/* Runs an image. */
+/* Runs the image that system memory holds. */
 static void run(const struct job *job)
 {
-    memset(sys, 0, sizeof sys);
-    memcpy(sys, job->bytes, job->length < sizeof sys ? job->length : sizeof sys);
+    (void)job;
     (void)iop89_run(sys, sizeof sys, io, sizeof io, 0, 1, 0, 1000);
 }
 
@@ -43,10 +42,13 @@ static size_t paint(void)
     return end;
 }
 
-/* Makes the call, and notes how much stack it took below the caller's frame. */
+/* Makes the call, and notes how much stack it took below the caller's frame. Memory is filled before: other functions'
+ * stack is not to be counted. */
 static void *made(void *job)
 {
     struct job *j = job;
+    memset(sys, 0, sizeof sys);
+    memcpy(sys, j->bytes, j->length < sizeof sys ? j->length : sizeof sys);
     size_t low = 0, end = paint();
     j->call(j);
     while (low < end && stack[low] == PAINT) low++;

@@ -140,7 +140,7 @@ classAt n [] = 0
 classAt zero (w ∷ ws) = classOf w
 classAt (suc n) (w ∷ ws) = classAt n ws
 
-pub kindAt : ℕ → List Kind → ℕ
+unfoldable pub kindAt : ℕ → List Kind → ℕ
 kindAt n [] = 0
 kindAt zero (k ∷ ks) = kindCode k
 kindAt (suc n) (k ∷ ks) = kindAt n ks

@@ -175,7 +175,7 @@ comma-none text at h = sym (stop-tokens text at) ∙ go (ltb p (length text)) re
     go true e k = let l = ltb-true p (length text) e in ap tokensOf (from-here text p l) ∙ last-char (getD text p 0) (drop (p + 1) text) (stop-fails text at l) (no-comma text p e k)
 
 -- operands between commas
-cut-one : (ts : List Token) → fromComma ts ≡ [] → cutAt isComma ts ≡ beforeComma ts ∷ []
+pub cut-one : (ts : List Token) → fromComma ts ≡ [] → cutAt isComma ts ≡ beforeComma ts ∷ []
 unfolding cutAt fromComma beforeComma
 cut-one [] h = refl
 cut-one (t ∷ ts) h = go (isComma t) refl h (cut-one ts)
@@ -184,7 +184,7 @@ cut-one (t ∷ ts) h = go (isComma t) refl h (cut-one ts)
     go true e k later = no-list k
     go false e k later = ap (ahead t) (later k)
 
-cut-more : (ts us : List Token) → fromComma ts ≡ mark 44 ∷ us → cutAt isComma ts ≡ beforeComma ts ∷ cutAt isComma us
+pub cut-more : (ts us : List Token) → fromComma ts ≡ mark 44 ∷ us → cutAt isComma ts ≡ beforeComma ts ∷ cutAt isComma us
 unfolding cutAt fromComma beforeComma
 cut-more [] us h = no-list (sym h)
 cut-more (t ∷ ts) us h = go (isComma t) refl h (cut-more ts us)
@@ -235,7 +235,7 @@ row-first text at = go (commaAt text (stopAt text at)) refl
     go false e = (operandFrom (operandTokens text at), ([], row-ends text at _ refl e))
 
 -- no operands where the line ends
-ends-tokens : (text : List ℕ) (at : ℕ) (f : TokenFound) → tokenAt text at ≡ f → endsBy f ≡ true → tokensOf (drop at text) ≡ []
+pub ends-tokens : (text : List ℕ) (at : ℕ) (f : TokenFound) → tokenAt text at ≡ f → endsBy f ≡ true → tokensOf (drop at text) ≡ []
 ends-tokens text at Nothing e h = no-tokens-there text at e
 ends-tokens text at (Run from to) e h = absurd (false≢true h)
 ends-tokens text at (Mark c next) e h = absurd (false≢true h)
@@ -248,7 +248,7 @@ pub row-empty : (text : List ℕ) (at : ℕ) → endsAt text at ≡ true → ope
 unfolding endsAt
 row-empty text at h = ap (λ (ts : List Token). operandsFrom (operandParts ts)) (ends-tokens text at (tokenAt text at) refl h) ∙ nothing-there
 
-some-row : (text : List ℕ) (at : ℕ) (f : TokenFound) → tokenAt text at ≡ f → endsBy f ≡ false → operandParts (tokensOf (drop at text)) ≡ cutAt isComma (tokensOf (drop at text))
+pub some-row : (text : List ℕ) (at : ℕ) (f : TokenFound) → tokenAt text at ≡ f → endsBy f ≡ false → operandParts (tokensOf (drop at text)) ≡ cutAt isComma (tokensOf (drop at text))
 some-row text at Nothing e h = absurd (false≢true (sym h))
 some-row text at (Run from to) e h = rw (run-tokens text at from to e)
 some-row text at (Mark c next) e h = rw (mark-tokens text at c next e)

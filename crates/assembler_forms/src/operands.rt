@@ -201,7 +201,7 @@ pub fn comma_at(text: &[u8], at: usize) -> bool
 }
 
 // Whether the line ends at a place.
-fn ends(text: &[u8], at: usize) -> bool
+pub fn ends(text: &[u8], at: usize) -> bool
     ensures { λ r. ⌜ r ≡ endsAt (now (text .entry)) at ⌝ }
 {
     match tokens::token_at(text, at) {

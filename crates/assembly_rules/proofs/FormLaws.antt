@@ -8,75 +8,25 @@ use Prim.Native.Nat.{ℕ, _<_}
 use native.Mathlib.Omega.{arith}
 use lib.Dec.{eqb, ltb, leb}
 use lib.ListN.{length}
-use borrow.Author.Tests.{leb-false, lt-leb, eq-eqb, eqb-true, eqb-false}
+use borrow.Author.Tests.{leb-false, lt-leb, eq-eqb, eqb-true, eqb-false, not-true, not-false}
 use Rattle.ground_rules.specs.Choice.{pick}
 use Rattle.listing_rules.specs.Characters.{ascii, sameText}
 use Rattle.listing_rules.specs.Entries.{Kind, Entry, entries}
 use Rattle.listing_rules.specs.Entries.Kind.{'R, 'G, 'P, 'M, 'byte, 'word, 'bit, 'width, 'short, 'long}
 use Rattle.assembly_rules.specs.Text.{Token, isComma, cutAt, ahead}
 use Rattle.assembly_rules.specs.Text.Token.{run, mark}
-use Rattle.assembly_rules.specs.Sums.{beginsDigit, isSum, scanFrom, depthOf, mostOpen, Label, worth}
+use Rattle.assembly_rules.specs.Sums.{beginsDigit, isSum, scanFrom, depthOf, mostOpen}
 use Rattle.assembly_rules.specs.Trees.{Sum, sumTokens, sumDepth}
-use Rattle.assembly_rules.specs.Operands.{Written, operandFrom, operandsFrom, isMemoryKind, takesRegister, takes, takesAll, hasWord, Chosen, entryIn, isShallow, allShallow}
+use Rattle.assembly_rules.specs.Operands.{Written, operandFrom, operandsFrom, isMemoryKind, takesRegister, takes, takesAll, hasWord, entryIn, isShallow, allShallow}
 use Rattle.assembly_rules.specs.Operands.Written.{register, memory, value, nothing}
 use Rattle.assembly_rules.specs.Operands.Chosen.{taken, untaken}
-use Rattle.assembly_rules.specs.Statements.{headed, headedBy, Statement, operandParts, allSums, allLow, itemsFrom, formedBy, wordStatement, statementOf, operandWorth}
+use Rattle.assembly_rules.specs.Statements.{headed, headedBy, Statement, operandParts, allSums, allLow, itemsFrom, formedBy, wordStatement, statementOf}
 use Rattle.assembly_rules.specs.Statements.Statement.{blank, items, instruction, refused}
+use Rattle.assembly_rules.proofs.TestLaws.{holds, fails, not-both, every, every-fails, every-both, as-some}
 use Rattle.assembly_rules.proofs.WritingLaws.{both-left, both-right}
 use Rattle.assembly_rules.proofs.ScanLaws.{sum-exactly, tree-sum, tree-depth, same-is, is-same}
 use Rattle.assembly_rules.proofs.OperandLaws.{OperandOf, operand-exactly, operand-is}
 use Rattle.assembly_rules.proofs.OperandLaws.OperandOf.{alone, based, offset, indexed, stepped, summed}
-
--- a test of each of a list; it fails exactly where it fails for one of them
-abbrev pub every : {A : Type 0} → (A → Bool) → List A → Bool
-every test [] = true
-every test (a ∷ l) = test a && every test l
-
-pub every-fails : {A : Type 0} (test : A → Bool) (l : List A) → (every test l ≡ false) ↔ ((a : A) × (In a l × (test a ≡ false)))
-every-fails {A} test l = (finds l, λ x. one (x .0) (x .1 .0) (x .1 .1))
-  where
-    finds : (l : List A) → every test l ≡ false → (a : A) × (In a l × (test a ≡ false))
-    finds [] h = absurd (false≢true (sym h))
-    finds (a ∷ l) h = go (test a) refl h (finds l)
-      where
-        go : (b : Bool) → test a ≡ b → b && every test l ≡ false → (every test l ≡ false → (c : A) × (In c l × (test c ≡ false))) → (c : A) × (In c (a ∷ l) × (test c ≡ false))
-        go true e k more = let x = more k in (x .0, (later (x .1 .0), x .1 .1))
-        go false e k more = (a, (here refl, e))
-
-    one : {l : List A} (a : A) → In a l → test a ≡ false → every test l ≡ false
-    one a (here {x = x} {xs = xs} e) h = rw (← e, h)
-    one a (later {x = x} {xs = xs} m) h = go (test x) (one a m h)
-      where
-        go : (b : Bool) → every test xs ≡ false → b && every test xs ≡ false
-        go true k = k
-        go false k = refl
-
--- where a test does not fail it holds
-pub holds : (b : Bool) → (b ≡ false → ⊥) → b ≡ true
-holds true h = refl
-holds false h = absurd (h refl)
-
-pub fails : (b : Bool) → (b ≡ true → ⊥) → b ≡ false
-fails true h = absurd (h refl)
-fails false h = refl
-
-pub not-both : {A : Type 0} {b : Bool} → b ≡ true → b ≡ false → A
-not-both h k = absurd (false≢true (sym k ∙ h))
-
-sums-every : (parts : List (List Token)) → allSums parts ≡ every isSum parts
-unfolding allSums
-sums-every [] = refl
-sums-every (part ∷ parts) = ap (λ (b : Bool). isSum part && b) (sums-every parts)
-
-low-every : (parts : List (List Token)) → allLow parts ≡ every (λ part. leb (depthOf part) mostOpen) parts
-unfolding allLow
-low-every [] = refl
-low-every (part ∷ parts) = ap (λ (b : Bool). leb (depthOf part) mostOpen && b) (low-every parts)
-
-shallow-every : (ws : List Written) → allShallow ws ≡ every isShallow ws
-unfolding allShallow
-shallow-every [] = refl
-shallow-every (w ∷ ws) = ap (λ (b : Bool). isShallow w && b) (shallow-every ws)
 
 -- a label in front: a name that begins with no digit, and a colon
 pub data HeadedAs : List Token → List ℕ → List Token → Type 0 where
@@ -147,45 +97,92 @@ pub data NoWord : List Token → Type 0 where
   noRun : (c : ℕ) (ts : List Token) → NoWord (mark c ∷ ts)
   noSuch : (r : List ℕ) (ts : List Token) → ((two : Bool) → r ≡ dataWord two → ⊥) → ((e : Entry) → In e entries → e .word ≡ r → ⊥) → NoWord (run r ∷ ts)
 
+-- the numbers that stand in a line, each with its place: sums, and the offsets of memory
+abbrev pub numberIn : Kind → Written → List (Kind × List Token)
+numberIn k (register r) = []
+numberIn k (memory mm aa ts) = pick (eqb aa 1) ((k, ts) ∷ []) []
+numberIn k (value ts) = (k, ts) ∷ []
+numberIn k nothing = []
+
+abbrev pub numbersIn : List Kind → List Written → List (Kind × List Token)
+numbersIn [] ws = []
+numbersIn (k ∷ ks) [] = []
+numbersIn (k ∷ ks) (w ∷ ws) = numberIn k w ++ numbersIn ks ws
+
+-- items stand like data of a byte or a word
+abbrev pub itemsIn : Bool → List (List Token) → List (Kind × List Token)
+itemsIn two [] = []
+itemsIn two (part ∷ parts) = (pick two 'word 'byte, part) ∷ itemsIn two parts
+
+abbrev pub sumsIn : Statement → List (Kind × List Token)
+sumsIn blank = []
+sumsIn (items two parts) = itemsIn two parts
+sumsIn (instruction e ws) = numbersIn (e .kinds) ws
+sumsIn (refused n) = []
+
+-- each of them is a tree's
+abbrev pub AllTrees : Statement → Type 0
+AllTrees st = (p : Kind × List Token) → In p (sumsIn st) → (s : Sum) × (sumTokens s ≡ p .1)
+
 -- a form: nothing at all; DB or DW with one tree or more; an entry's word with operands that its places take
 pub data FormOf : List Token → Statement → Type 0 where
   empty : FormOf [] blank
-  listed : (two : Bool) (t : Token) (ts : List Token) → ((part : List Token) → In part (operandParts (t ∷ ts)) → (s : Sum) × (sumTokens s ≡ part)) → FormOf (run (dataWord two) ∷ t ∷ ts) (items two (operandParts (t ∷ ts)))
+  listed : (two : Bool) (t : Token) (ts : List Token) → AllTrees (items two (operandParts (t ∷ ts))) → FormOf (run (dataWord two) ∷ t ∷ ts) (items two (operandParts (t ∷ ts)))
   coded : (e : Entry) (ts : List Token) (ws : List Written) → In e entries → AllOperands (operandParts ts) ws → AllTake (e .kinds) ws → FormOf (run (e .word) ∷ ts) (instruction e ws)
 
--- the trees of a form
-pub data TreeOf : Written → Sum → Type 0 where
-  ofOffset : (mm : ℕ) (s : Sum) → TreeOf (memory mm 1 (sumTokens s)) s
-  ofValue : (s : Sum) → TreeOf (value (sumTokens s)) s
+-- a tree in a form, in its place, of which something holds
+abbrev pub SomeTree : Statement → (Kind → Sum → Type 0) → Type 0
+SomeTree st P = (k : Kind) × ((s : Sum) × (In (k, sumTokens s) (sumsIn st) × P k s))
 
-pub data HasTree : Statement → Sum → Type 0 where
-  inItems : {two : Bool} {parts : List (List Token)} {s : Sum} → In (sumTokens s) parts → HasTree (items two parts) s
-  inOperands : {e : Entry} {ws : List Written} {w : Written} {s : Sum} → In w ws → TreeOf w s → HasTree (instruction e ws) s
-
--- one of them has more than eight parentheses open at once
+-- one has more than eight parentheses open at once
 abbrev pub Deep : Statement → Type 0
-Deep st = (s : Sum) × (HasTree st s × (8 < sumDepth s))
+Deep st = SomeTree st (λ k s. 8 < sumDepth s)
+
+-- a test of all numbers fails exactly where it fails of a tree
+pub trees-fail : (st : Statement) → AllTrees st → (test : Kind × List Token → Bool) → (every test (sumsIn st) ≡ false) ↔ SomeTree st (λ k s. test (k, sumTokens s) ≡ false)
+trees-fail st trees test = (finds, λ x. every-fails test (sumsIn st) .1 ((x .0, sumTokens (x .1 .0)), x .1 .1))
+  where
+    finds : every test (sumsIn st) ≡ false → SomeTree st (λ k s. test (k, sumTokens s) ≡ false)
+    finds h =
+        let x = every-fails test (sumsIn st) .0 h in
+        let s = trees (x .0) (x .1 .0) in
+        let e : (x .0 .0, sumTokens (s .0)) ≡ x .0 = ap (λ (ts : List Token). (x .0 .0, ts)) (s .1) in
+        (x .0 .0, (s .0, (subst (λ (p : Kind × List Token). In p (sumsIn st)) (sym e) (x .1 .0), ap test e ∙ x .1 .1)))
+
+-- a test of operands one by one is one of the numbers in them, where it holds of a register and of memory without an offset
+module _ (own : Kind → Written → Bool) (test : Kind × List Token → Bool) (f : List Kind → List Written → Bool) (none : f [] [] ≡ true) (one : (k : Kind) (w : Written) (ks : List Kind) (ws : List Written) → f (k ∷ ks) (w ∷ ws) ≡ own k w && f ks ws)
+    (plain : (k : Kind) (r : ℕ) → takes k (register r) ≡ true → own k (register r) ≡ true) (near : (k : Kind) (mm aa : ℕ) → eqb aa 1 ≡ false → isMemoryKind k ≡ true → own k (memory mm aa []) ≡ true)
+    (far : (k : Kind) (mm : ℕ) (ts : List Token) → own k (memory mm 1 ts) ≡ test (k, ts)) (sum : (k : Kind) (ts : List Token) → own k (value ts) ≡ test (k, ts)) where
+  and-true : (b : Bool) → b && true ≡ b
+  and-true true = refl
+  and-true false = refl
+
+  own-every : {part : List Token} {w : Written} → OperandOf part w → (k : Kind) → takes k w ≡ true → own k w ≡ every test (numberIn k w)
+  unfolding takes
+  own-every (alone n h) k t = plain k n t
+  own-every (based mm h) k t = near k mm 0 refl t
+  own-every (offset mm h s) k t = far k mm (sumTokens s) ∙ sym (and-true (test (k, sumTokens s)))
+  own-every (indexed mm h) k t = near k mm 2 refl t
+  own-every (stepped mm h) k t = near k mm 3 refl t
+  own-every (summed s) k t = sum k (sumTokens s) ∙ sym (and-true (test (k, sumTokens s)))
+
+  pub operands-every : {parts : List (List Token)} {ks : List Kind} {ws : List Written} → AllOperands parts ws → AllTake ks ws → f ks ws ≡ every test (numbersIn ks ws)
+  operands-every noOperand noPlace = none
+  operands-every (oneOperand {w = w} {ws = ws} o os) (onePlace {k = k} {ks = ks} t ts) =
+      one k w ks ws ∙ ap (λ (b : Bool). b && f ks ws) (own-every o k t) ∙ ap (λ (b : Bool). every test (numberIn k w) && b) (operands-every os ts) ∙ sym (every-both test (numberIn k w) (numbersIn ks ws))
+
+-- a test of items likewise
+pub items-every : (two : Bool) (test : Kind × List Token → Bool) (f : List (List Token) → Bool) → f [] ≡ true → ((part : List Token) (parts : List (List Token)) → f (part ∷ parts) ≡ test (pick two 'word 'byte, part) && f parts)
+    → (parts : List (List Token)) → f parts ≡ every test (itemsIn two parts)
+items-every two test f h k [] = h
+items-every two test f h k (part ∷ parts) = k part parts ∙ ap (λ (b : Bool). test (pick two 'word 'byte, part) && b) (items-every two test f h k parts)
 
 -- a word is an entry's exactly where the test says so
 pub word-exactly : (es : List Entry) (word : List ℕ) → (hasWord es word ≡ true) ↔ ((e : Entry) × (In e es × (e .word ≡ word)))
 unfolding hasWord
-word-exactly es word = (finds es, λ x. has (x .0) (x .1 .0) (x .1 .1))
-  where
-    finds : (es : List Entry) → hasWord es word ≡ true → (e : Entry) × (In e es × (e .word ≡ word))
-    finds [] h = absurd (false≢true h)
-    finds (f ∷ es) h = go (sameText (f .word) word) refl h (finds es)
-      where
-        go : (b : Bool) → sameText (f .word) word ≡ b → b || hasWord es word ≡ true → (hasWord es word ≡ true → (e : Entry) × (In e es × (e .word ≡ word))) → (e : Entry) × (In e (f ∷ es) × (e .word ≡ word))
-        go true e k more = (f, (here refl, same-is (f .word) word e))
-        go false e k more = let x = more k in (x .0, (later (x .1 .0), x .1 .1))
-
-    has : {es : List Entry} (e : Entry) → In e es → e .word ≡ word → hasWord es word ≡ true
-    has e (here {x = f} {xs = es} p) q = rw (sym (ap (λ (x : Entry). x .word) p) ∙ q, is-same word)
-    has e (later {x = f} {xs = es} m) q = go (sameText (f .word) word) (has e m q)
-      where
-        go : (b : Bool) → hasWord es word ≡ true → b || hasWord es word ≡ true
-        go true k = refl
-        go false k = k
+word-exactly es word =
+    let s = as-some (λ e. sameText (e .word) word) (λ es. hasWord es word) refl (λ e es. refl) es in
+    (λ h. let x = s .0 h in (x .0, (x .1 .0, same-is (x .0 .word) word (x .1 .1))), λ x. s .1 (x .0, (x .1 .0, rw (x .1 .1) (is-same word))))
 
 pub all-take : (ks : List Kind) (ws : List Written) → takesAll ks ws ≡ true → AllTake ks ws
 unfolding takesAll
@@ -211,19 +208,19 @@ sortWritten nothing = 3
 
 pub takes-sort : (k : Kind) (w : Written) → takes k w ≡ true → sortOf k ≡ sortWritten w
 unfolding takes
-takes-sort k (register r) h = go k h
-  where
-    go : (k : Kind) → takesRegister k r ≡ true → sortOf k ≡ 0
-    go 'R h = refl
-    go 'G h = refl
-    go 'P h = refl
-    go 'M h = absurd (false≢true h)
-    go 'byte h = absurd (false≢true h)
-    go 'word h = absurd (false≢true h)
-    go 'bit h = absurd (false≢true h)
-    go 'width h = absurd (false≢true h)
-    go 'short h = absurd (false≢true h)
-    go 'long h = absurd (false≢true h)
+takes-sort k (register r) h =
+    (elim k as (λ j. takesRegister j r ≡ true → sortOf j ≡ 0) [
+      | 'R ↦ λ h. refl
+      | 'G ↦ λ h. refl
+      | 'P ↦ λ h. refl
+      | 'M ↦ λ h. not-both h refl
+      | 'byte ↦ λ h. not-both h refl
+      | 'word ↦ λ h. not-both h refl
+      | 'bit ↦ λ h. not-both h refl
+      | 'width ↦ λ h. not-both h refl
+      | 'short ↦ λ h. not-both h refl
+      | 'long ↦ λ h. not-both h refl
+    ]) h
 takes-sort k (memory mm aa ts) h = rw h
 takes-sort k (value ts) h = go (isMemoryKind k) (takesRegister k 0) h
   where
@@ -265,16 +262,15 @@ entry-only (f ∷ es) h e (later m) ws t = go (sameText (f .word) (e .word)) ref
     go true p false q k = k
     go false p b q k = k
 
-entry-told : (es : List Entry) (word : List ℕ) (ws : List Written) (e : Entry) → entryIn es word ws ≡ taken e → In e es × ((e .word ≡ word) × (takesAll (e .kinds) ws ≡ true))
+-- whether an entry has a word and takes some operands
+abbrev fitting : List ℕ → List Written → Entry → Bool
+fitting word ws e = sameText (e .word) word && takesAll (e .kinds) ws
+
+entry-none : (es : List Entry) (word : List ℕ) (ws : List Written) → every (λ e. not (fitting word ws e)) es ≡ true → entryIn es word ws ≡ untaken
 unfolding entryIn
-entry-told [] word ws e h = let z : false ≡ true = cc in absurd (false≢true z)
-entry-told (f ∷ es) word ws e h = go (sameText (f .word) word) refl (takesAll (f .kinds) ws) refl h (entry-told es word ws e)
-  where
-    go : (a : Bool) → sameText (f .word) word ≡ a → (b : Bool) → takesAll (f .kinds) ws ≡ b → pick (a && b) (taken f) (entryIn es word ws) ≡ taken e
-        → (entryIn es word ws ≡ taken e → In e es × ((e .word ≡ word) × (takesAll (e .kinds) ws ≡ true))) → In e (f ∷ es) × ((e .word ≡ word) × (takesAll (e .kinds) ws ≡ true))
-    go true p true q k more = let z : e ≡ f = cc in (here z, (rw z (same-is (f .word) word p), rw z q))
-    go true p false q k more = let x = more k in (later (x .0), x .1)
-    go false p b q k more = let x = more k in (later (x .0), x .1)
+entry-none [] word ws h = refl
+entry-none (e ∷ es) word ws h =
+    rw (not-true (fitting word ws e) (both-left (not (fitting word ws e)) (every (λ e. not (fitting word ws e)) es) h)) (entry-none es word ws (both-right (not (fitting word ws e)) (every (λ e. not (fitting word ws e)) es) h))
 
 -- operands that places take are of some form each, and no other
 operands-all : (ks : List Kind) (parts : List (List Token)) → takesAll ks (operandsFrom parts) ≡ true → AllOperands parts (operandsFrom parts)
@@ -292,83 +288,47 @@ unfolding operandsFrom
 operands-are noOperand = refl
 operands-are (oneOperand {parts = parts} {ws = ws} o os) = rw (operand-is o, operands-are os)
 
--- a line that begins with no word
-pub no-word-is : {body : List Token} → NoWord body → statementOf body ≡ refused 30
-unfolding statementOf wordStatement
-no-word-is (noRun c ts) = refl
-no-word-is (noSuch r ts d n) = rw (differs false, differs true, none)
-  where
-    differs : (two : Bool) → sameText r (dataWord two) ≡ false
-    differs two = fails (sameText r (dataWord two)) (λ e. d two (same-is r (dataWord two) e))
-
-    none : hasWord entries r ≡ false
-    none = fails (hasWord entries r) (λ e. let x = word-exactly entries r .0 e in n (x .0) (x .1 .0) (x .1 .1))
-
 -- how deep the trees are
-depth-fails : (s : Sum) → (leb (depthOf (sumTokens s)) mostOpen ≡ false) ↔ (8 < sumDepth s)
-depth-fails s = (λ h. rw (tree-depth s) at (leb-false (depthOf (sumTokens s)) 8 h), λ l. lt-leb (depthOf (sumTokens s)) 8 (rw (tree-depth s) l))
+lowTree : Kind × List Token → Bool
+lowTree p = leb (depthOf (p .1)) mostOpen
 
-cut-some : {A : Type 0} (test : A → Bool) (l : List A) → cutAt test l ≡ [] → ⊥
-unfolding cutAt
-cut-some test [] e = absurd (omega (arith, ap length e))
-cut-some {A} test (a ∷ l) e = go (test a) (cutAt test l) e
+low-items : (two : Bool) (parts : List (List Token)) → allLow parts ≡ every lowTree (itemsIn two parts)
+unfolding allLow lowTree
+low-items two = items-every two lowTree allLow refl (λ part parts. refl)
+
+low-operands : {parts : List (List Token)} {ks : List Kind} {ws : List Written} → AllOperands parts ws → AllTake ks ws → allShallow ws ≡ every lowTree (numbersIn ks ws)
+unfolding allShallow isShallow lowTree depthOf scanFrom
+low-operands = operands-every (λ k w. isShallow w) lowTree (λ ks ws. allShallow ws) refl (λ k w ks ws. refl) (λ k r t. refl) (λ k mm aa z t. refl) (λ k mm ts. refl) (λ k ts. refl)
+
+coded-trees : {parts : List (List Token)} {ks : List Kind} {ws : List Written} → AllOperands parts ws → AllTake ks ws → (p : Kind × List Token) → In p (numbersIn ks ws) → (s : Sum) × (sumTokens s ≡ p .1)
+coded-trees noOperand noPlace p m = elim m [ ]
+coded-trees (oneOperand {ws = ws} o os) (onePlace {k = k} {ks = ks} t ts) p m = first o k (numbersIn ks ws) (coded-trees os ts p) m
   where
-    go : (b : Bool) (parts : List (List A)) → pick b ([] ∷ parts) (ahead a parts) ≡ [] → ⊥
-    go true parts e = absurd (omega (arith, ap length e))
-    go false [] e = absurd (omega (arith, ap length e))
-    go false (part ∷ parts) e = absurd (omega (arith, ap length e))
+    first : {part : List Token} {w : Written} → OperandOf part w → (k : Kind) (rest : List (Kind × List Token)) → (In p rest → (s : Sum) × (sumTokens s ≡ p .1)) → In p (numberIn k w ++ rest) → (s : Sum) × (sumTokens s ≡ p .1)
+    first (alone n h) k rest g m = g m
+    first (based mm h) k rest g m = g m
+    first (indexed mm h) k rest g m = g m
+    first (stepped mm h) k rest g m = g m
+    first (offset mm h s) k rest g m = elim m [ here e ↦ (s, sym (ap (λ (q : Kind × List Token). q .1) e)) | later i ↦ g i ]
+    first (summed s) k rest g m = elim m [ here e ↦ (s, sym (ap (λ (q : Kind × List Token). q .1) e)) | later i ↦ g i ]
 
--- an operand has a tree, or is worth 0 and no number
-pub operand-tree : {part : List Token} {w : Written} → OperandOf part w → ((isShallow w ≡ true) × (((labels : List Label) → operandWorth labels w ≡ worth 0 true) × (sortWritten w ≡ 2 → ⊥))) ⊎ ((s : Sum) × TreeOf w s)
-unfolding isShallow depthOf scanFrom operandWorth
-operand-tree (alone n h) = inl (refl, (λ labels. refl, λ z. absurd (omega arith)))
-operand-tree (based mm h) = inl (refl, (λ labels. refl, λ z. absurd (omega arith)))
-operand-tree (offset mm h s) = inr (s, ofOffset mm s)
-operand-tree (indexed mm h) = inl (refl, (λ labels. refl, λ z. absurd (omega arith)))
-operand-tree (stepped mm h) = inl (refl, (λ labels. refl, λ z. absurd (omega arith)))
-operand-tree (summed s) = inr (s, ofValue s)
-
-pub operand-in : {parts : List (List Token)} {ws : List Written} {w : Written} → AllOperands parts ws → In w ws → (part : List Token) × OperandOf part w
-operand-in noOperand m = elim m [ ]
-operand-in {w = w} (oneOperand {part = part} o os) (here e) = (part, subst (OperandOf part) (sym e) o)
-operand-in (oneOperand o os) (later m) = operand-in os m
-
-tree-shallow : {w : Written} {s : Sum} → TreeOf w s → (isShallow w ≡ false) ↔ (8 < sumDepth s)
-unfolding isShallow
-tree-shallow (ofOffset mm s) = depth-fails s
-tree-shallow (ofValue s) = depth-fails s
+pub form-trees : {body : List Token} {st : Statement} → FormOf body st → AllTrees st
+form-trees empty p m = elim m [ ]
+form-trees (listed two t ts trees) p m = trees p m
+form-trees (coded e ts ws i os take) p m = coded-trees os take p m
 
 -- what a form comes to: 32 where it is too deep, and else what it says
 abbrev Goes : Statement → Statement → Type 0
 Goes st result = (Deep st × (result ≡ refused 32)) ⊎ ((Deep st → ⊥) × (result ≡ st))
 
-goes-by : (st : Statement) (b : Bool) → ((b ≡ false) ↔ Deep st) → Goes st (pick b st (refused 32))
-goes-by st true h = inr (λ d. not-both refl (h .1 d), refl)
-goes-by st false h = inl (h .0 refl, refl)
+goes-by : (st : Statement) (b : Bool) → AllTrees st → b ≡ every lowTree (sumsIn st) → Goes st (pick b st (refused 32))
+unfolding lowTree
+goes-by st true trees e = inr (λ d. not-both (sym e) (trees-fail st trees lowTree .1 (d .0, (d .1 .0, (d .1 .1 .0, lt-leb (depthOf (sumTokens (d .1 .0))) 8 (rw (tree-depth (d .1 .0)) (d .1 .1 .1)))))), refl)
+goes-by st false trees e = let x = trees-fail st trees lowTree .0 (sym e) in inl ((x .0, (x .1 .0, (x .1 .1 .0, rw (tree-depth (x .1 .0)) at (leb-false (depthOf (sumTokens (x .1 .0))) 8 (x .1 .1 .1))))), refl)
 
-items-deep : (two : Bool) (parts : List (List Token)) → ((part : List Token) → In part parts → (s : Sum) × (sumTokens s ≡ part)) → (allLow parts ≡ false) ↔ Deep (items two parts)
-items-deep two parts trees = (finds, has)
-  where
-    finds : allLow parts ≡ false → Deep (items two parts)
-    finds h =
-        let x = every-fails (λ part. leb (depthOf part) mostOpen) parts .0 (sym (low-every parts) ∙ h) in
-        let s = trees (x .0) (x .1 .0) in
-        (s .0, (inItems (subst (λ (y : List Token). In y parts) (sym (s .1)) (x .1 .0)), depth-fails (s .0) .0 (ap (λ (y : List Token). leb (depthOf y) mostOpen) (s .1) ∙ x .1 .1)))
-
-    has : Deep (items two parts) → allLow parts ≡ false
-    has (s, (inItems m, l)) = low-every parts ∙ every-fails (λ part. leb (depthOf part) mostOpen) parts .1 (sumTokens s, (m, depth-fails s .1 l))
-
-operands-deep : (e : Entry) {parts : List (List Token)} (ws : List Written) → AllOperands parts ws → (allShallow ws ≡ false) ↔ Deep (instruction e ws)
-operands-deep e ws os = (finds, has)
-  where
-    finds : allShallow ws ≡ false → Deep (instruction e ws)
-    finds h =
-        let x = every-fails isShallow ws .0 (sym (shallow-every ws) ∙ h) in
-        let o = operand-in os (x .1 .0) in
-        elim (operand-tree (o .1)) [ inl z ↦ not-both (z .0) (x .1 .1) | inr y ↦ (y .0, (inOperands (x .1 .0) (y .1), tree-shallow (y .1) .0 (x .1 .1))) ]
-
-    has : Deep (instruction e ws) → allShallow ws ≡ false
-    has (s, (inOperands {w = w} m t, l)) = shallow-every ws ∙ every-fails isShallow ws .1 (w, (m, tree-shallow t .1 l))
+cut-some : {A : Type 0} {test : A → Bool} {l : List A} {parts : List (List A)} → CutInto test l parts → parts ≡ [] → ⊥
+cut-some (lastPart part h) e = absurd (omega (arith, ap length e))
+cut-some (nextPart part c h k more) e = absurd (omega (arith, ap length e))
 
 no-data-word : (two : Bool) → hasWord entries (dataWord two) ≡ false
 unfolding hasWord entries sameText
@@ -389,27 +349,38 @@ word-says : (r : List ℕ) (ts : List Token) → ((two : Bool) → r ≡ dataWor
 unfolding statementOf
 word-says r ts d = rw (fails (sameText r (dataWord false)) (λ e. d false (same-is r (dataWord false) e)), fails (sameText r (dataWord true)) (λ e. d true (same-is r (dataWord true) e)))
 
+-- a line that begins with no word
+pub no-word-is : {body : List Token} → NoWord body → statementOf body ≡ refused 30
+unfolding statementOf wordStatement
+no-word-is (noRun c ts) = refl
+no-word-is (noSuch r ts d n) = word-says r ts d ∙ rw (fails (hasWord entries r) (λ e. let x = word-exactly entries r .0 e in n (x .0) (x .1 .0) (x .1 .1)))
+
 coded-says : (e : Entry) (ws : List Written) → In e entries → AllTake (e .kinds) ws → wordStatement (e .word) ws ≡ pick (allShallow ws) (instruction e ws) (refused 32)
 unfolding wordStatement
 coded-says e ws i t = rw (word-exactly entries (e .word) .1 (e, (i, refl)), entry-only entries entries-sole e i ws t)
 
--- parts that are all sums are those of trees
-sums-fail : (parts : List (List Token)) → (allSums parts ≡ false) ↔ ((part : List Token) × (In part parts × (isSum part ≡ false)))
-sums-fail parts = (λ h. every-fails isSum parts .0 (sym (sums-every parts) ∙ h), λ x. sums-every parts ∙ every-fails isSum parts .1 x)
+-- items that are all sums are those of trees
+sums-items : (two : Bool) (parts : List (List Token)) → allSums parts ≡ every (λ p. isSum (p .1)) (itemsIn two parts)
+unfolding allSums
+sums-items two = items-every two (λ p. isSum (p .1)) allSums refl (λ part parts. refl)
 
 blank-says : statementOf [] ≡ blank
 unfolding statementOf
 blank-says = refl
 
 pub form-goes : {body : List Token} {st : Statement} → FormOf body st → Goes st (statementOf body)
-form-goes empty = inr (λ d. elim (d .1 .0) [ ], blank-says)
+form-goes empty = inr (λ d. elim (d .1 .1 .0) [ ], blank-says)
 form-goes (listed two t ts trees) =
     let parts = operandParts (t ∷ ts) in
-    let sums : allSums parts ≡ true = holds (allSums parts) (λ h. let x = sums-fail parts .0 h in let s = trees (x .0) (x .1 .0) in not-both (tree-sum (s .0)) (ap isSum (s .1) ∙ x .1 .1)) in
-    rw (data-says two (t ∷ ts) ∙ items-says two parts (cut-some isComma (t ∷ ts)), sums) (goes-by (items two parts) (allLow parts) (items-deep two parts trees))
+    let sums : allSums parts ≡ true = holds (allSums parts) (λ h. let x = trees-fail (items two parts) trees (λ p. isSum (p .1)) .0 (sym (sums-items two parts) ∙ h) in not-both (tree-sum (x .1 .0)) (x .1 .1 .1)) in
+    rw (data-says two (t ∷ ts) ∙ items-says two parts (cut-some (cut-told isComma (t ∷ ts))), sums) (goes-by (items two parts) (allLow parts) trees (low-items two parts))
 form-goes (coded e ts ws i os take) =
     let e1 = word-says (e .word) ts (λ two q. not-both (word-exactly entries (dataWord two) .1 (e, (i, q))) (no-data-word two)) in
-    rw (e1 ∙ ap (wordStatement (e .word)) (operands-are os) ∙ coded-says e ws i take) (goes-by (instruction e ws) (allShallow ws) (operands-deep e ws os))
+    rw (e1 ∙ ap (wordStatement (e .word)) (operands-are os) ∙ coded-says e ws i take) (goes-by (instruction e ws) (allShallow ws) (coded-trees os take) (low-operands os take))
+
+-- a form that is not too deep is what its line says
+pub form-is : {body : List Token} {st : Statement} → FormOf body st → (Deep st → ⊥) → statementOf body ≡ st
+form-is f n = elim (form-goes f) [ inl x ↦ absurd (n (x .0)) | inr x ↦ x .1 ]
 
 -- a line has no word, or no form, or a form
 abbrev Formed : List Token → Type 0
@@ -421,40 +392,39 @@ no-items two = refl
 
 data-formed : (two : Bool) (ts : List Token) → Formed (run (dataWord two) ∷ ts)
 data-formed two [] = inl (data-says two [] ∙ no-items two)
-data-formed two (t ∷ ts) = go (allSums (operandParts (t ∷ ts))) refl
-  where
-    go : (b : Bool) → allSums (operandParts (t ∷ ts)) ≡ b → Formed (run (dataWord two) ∷ t ∷ ts)
-    go true e = inr (items two (operandParts (t ∷ ts)), listed two t ts (λ part m. sum-exactly part .0 (holds (isSum part) (λ f. not-both e (sums-fail (operandParts (t ∷ ts)) .1 (part, (m, f)))))))
-    go false e = inl (data-says two (t ∷ ts) ∙ items-says two (operandParts (t ∷ ts)) (cut-some isComma (t ∷ ts)) ∙ rw e)
+data-formed two (t ∷ ts) =
+    let parts = operandParts (t ∷ ts) in
+    (elim (allSums parts) as (λ b. allSums parts ≡ b → Formed (run (dataWord two) ∷ t ∷ ts)) [
+      | true ↦ λ e. inr (items two parts, listed two t ts (λ p m. sum-exactly (p .1) .0 (holds (isSum (p .1)) (λ f. not-both e (sums-items two parts ∙ every-fails (λ p. isSum (p .1)) (itemsIn two parts) .1 (p, (m, f)))))))
+      | false ↦ λ e. inl (data-says two (t ∷ ts) ∙ items-says two parts (cut-some (cut-told isComma (t ∷ ts))) ∙ rw e)
+    ]) refl
 
 word-formed : (r : List ℕ) (ts : List Token) → ((two : Bool) → r ≡ dataWord two → ⊥) → NoWord (run r ∷ ts) ⊎ Formed (run r ∷ ts)
 unfolding wordStatement
-word-formed r ts d = go (hasWord entries r) refl (entryIn entries r ws) refl (word-says r ts d)
+word-formed r ts d = go (hasWord entries r) refl (every (λ e. not (fitting r ws e)) entries) refl (word-says r ts d)
   where
     ws : List Written
     ws = operandsFrom (operandParts ts)
 
-    go : (b : Bool) → hasWord entries r ≡ b → (c : Chosen) → entryIn entries r ws ≡ c → statementOf (run r ∷ ts) ≡ pick (hasWord entries r) (formedBy (entryIn entries r ws) ws) (refused 30) → NoWord (run r ∷ ts) ⊎ Formed (run r ∷ ts)
+    go : (b : Bool) → hasWord entries r ≡ b → (c : Bool) → every (λ e. not (fitting r ws e)) entries ≡ c → statementOf (run r ∷ ts) ≡ pick (hasWord entries r) (formedBy (entryIn entries r ws) ws) (refused 30) → NoWord (run r ∷ ts) ⊎ Formed (run r ∷ ts)
     go false p c q k = inl (noSuch r ts d (λ e i s. not-both (word-exactly entries r .1 (e, (i, s))) p))
-    go true p untaken q k = inr (inl (k ∙ rw (p, q)))
-    go true p (taken e) q k =
-        let x = entry-told entries r ws e q in
-        let f = coded e ts ws (x .0) (operands-all (e .kinds) (operandParts ts) (x .1 .1)) (all-take (e .kinds) ws (x .1 .1)) in
-        inr (inr (instruction e ws, subst (λ (y : List ℕ). FormOf (run y ∷ ts) (instruction e ws)) (x .1 .0) f))
+    go true p true q k = inr (inl (k ∙ rw (p, entry-none entries r ws q)))
+    go true p false q k =
+        let x = every-fails (λ e. not (fitting r ws e)) entries .0 q in
+        let e = x .0 in
+        let f = not-false (fitting r ws e) (x .1 .1) in
+        let t = both-right (sameText (e .word) r) (takesAll (e .kinds) ws) f in
+        inr (inr (instruction e ws, subst (λ (y : List ℕ). FormOf (run y ∷ ts) (instruction e ws)) (same-is (e .word) r (both-left (sameText (e .word) r) (takesAll (e .kinds) ws) f)) (coded e ts ws (x .1 .0) (operands-all (e .kinds) (operandParts ts) t) (all-take (e .kinds) ws t))))
+
+data-or-not : (r : List ℕ) → ((two : Bool) × (r ≡ dataWord two)) ⊎ ((two : Bool) → r ≡ dataWord two → ⊥)
+data-or-not r = go (sameText r (dataWord false)) refl (sameText r (dataWord true)) refl
+  where
+    go : (a : Bool) → sameText r (dataWord false) ≡ a → (b : Bool) → sameText r (dataWord true) ≡ b → ((two : Bool) × (r ≡ dataWord two)) ⊎ ((two : Bool) → r ≡ dataWord two → ⊥)
+    go true p b q = inl (false, same-is r (dataWord false) p)
+    go false p true q = inl (true, same-is r (dataWord true) q)
+    go false p false q = inr (λ two e. not-both (is-same r) (ap (sameText r) e ∙ elim two as (λ x. sameText r (dataWord x) ≡ false) [ true ↦ q | false ↦ p ]))
 
 pub line-formed : (body : List Token) → NoWord body ⊎ Formed body
 line-formed [] = inr (inr (blank, empty))
 line-formed (mark c ∷ ts) = inl (noRun c ts)
-line-formed (run r ∷ ts) = go (sameText r (dataWord false)) refl (sameText r (dataWord true)) refl
-  where
-    of : (two : Bool) → sameText r (dataWord two) ≡ true → NoWord (run r ∷ ts) ⊎ Formed (run r ∷ ts)
-    of two e = inr (subst (λ (y : List ℕ). Formed (run y ∷ ts)) (sym (same-is r (dataWord two) e)) (data-formed two ts))
-
-    neither : sameText r (dataWord false) ≡ false → sameText r (dataWord true) ≡ false → (two : Bool) → r ≡ dataWord two → ⊥
-    neither p q true e = not-both (is-same r) (ap (sameText r) e ∙ q)
-    neither p q false e = not-both (is-same r) (ap (sameText r) e ∙ p)
-
-    go : (a : Bool) → sameText r (dataWord false) ≡ a → (b : Bool) → sameText r (dataWord true) ≡ b → NoWord (run r ∷ ts) ⊎ Formed (run r ∷ ts)
-    go true p b q = of false p
-    go false p true q = of true q
-    go false p false q = word-formed r ts (neither p q)
+line-formed (run r ∷ ts) = elim (data-or-not r) [ inl x ↦ inr (subst (λ (y : List ℕ). Formed (run y ∷ ts)) (sym (x .1)) (data-formed (x .0) ts)) | inr d ↦ word-formed r ts d ]

@@ -1,3 +1,4 @@
+pub mod TestLaws
 pub mod TextLaws
 pub mod WritingLaws
 pub mod NumberLaws
@@ -9,6 +10,7 @@ pub mod SizeLaws
 pub mod WholeLaws
 pub mod WholeVectors
 pub mod LabelLaws
+pub mod ByteLaws
 pub mod PassLaws
 pub mod FirstLaws
 pub mod OperandLaws
@@ -16,3 +18,4 @@ pub mod FormLaws
 pub mod ValueLaws
 pub mod LineLaws
 pub mod SameLaws
+pub mod ExactLaws

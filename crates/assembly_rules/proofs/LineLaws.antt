@@ -2,14 +2,14 @@
 -- Assumes nothing.
 use mathlib.Core.Path.{_≡_, refl, sym, ap, subst, _∙_}
 use mathlib.Core.Bool.{Bool, true, false, not, _&&_, _||_, false≢true}
-use mathlib.Core.List.{List, [], _∷_, List·Memᴰ as In, List·Memᴰ·head as here, List·Memᴰ·tail as later}
+use mathlib.Core.List.{List, [], _∷_, List·Memᴰ as In}
 use mathlib.Core.Logic.{_⊎_, inl, inr, _↔_}
 use Prim.Native.Nat.{ℕ, _+_, _-_, _%_, _≤_, _<_}
 use native.Mathlib.Omega.{arith}
 use native.Mathlib.Nat.{mod-lt}
 use lib.Dec.{eqb, ltb, leb, lit<}
 use lib.ListN.{length}
-use borrow.Author.Tests.{ltb-true, ltb-false, leb-true, leb-false, lt-ltb, le-ltb, le-leb, lt-leb}
+use borrow.Author.Tests.{ltb-true, ltb-false, leb-true, leb-false, lt-ltb}
 use Rattle.ground_rules.specs.Choice.{pick}
 use Rattle.listing_rules.specs.Characters.{ascii, sameText}
 use Rattle.listing_rules.specs.Entries.{Kind, Entry, entries}
@@ -18,36 +18,27 @@ use Rattle.assembly_rules.specs.declared.Worth.{Worth}
 use Rattle.assembly_rules.specs.Text.{Token, tokensOf}
 use Rattle.assembly_rules.specs.Sums.{indexIn, registerNumber, isRegister, Label, labelWorth, worth, sumWorth}
 use Rattle.assembly_rules.specs.Trees.{Sum, sumTokens, sumDepth, sumAdded, sumTaken, sumKnown}
-use Rattle.assembly_rules.specs.Operands.{Written, takes, hasWord}
+use Rattle.assembly_rules.specs.Operands.{takes, hasWord}
+use Rattle.assembly_rules.specs.Operands.Written.{register, memory}
 use Rattle.assembly_rules.specs.Statements.{headedBy, operandParts, Statement, statementOf, statementSize, isByte, mayStand, operandWorth, namesKnown, allStand, itemsKnown, itemsStand, statementNumber}
 use Rattle.assembly_rules.specs.Statements.Statement.{blank, items, instruction, refused}
 use Rattle.assembly_rules.specs.Assembly.{Said, saidBy, isReserved, mayKeep, labelStands, pastRoom, lineNumber}
 use Rattle.assembly_rules.proofs.WritingLaws.{both-left, both-right}
 use Rattle.assembly_rules.proofs.LabelLaws.{known-exactly, may-parts}
-use Rattle.assembly_rules.proofs.FormLaws.{dataWord, word-exactly, sortOf, takes-sort, every, every-fails, holds, fails, not-both, AllOperands, AllTake, NoWord, FormOf, TreeOf, HasTree, Deep, operand-tree, operand-in, no-word-is, form-goes, line-formed}
-use Rattle.assembly_rules.proofs.FormLaws.AllTake.{noPlace, onePlace}
+use Rattle.assembly_rules.proofs.TestLaws.{holds, fails, not-both, either-true, both-false, every, every-fails}
+use Rattle.assembly_rules.proofs.FormLaws.{dataWord, word-exactly, sortOf, takes-sort, NoWord, sumsIn, FormOf, SomeTree, Deep, trees-fail, operands-every, items-every, form-trees, no-word-is, form-goes, form-is, line-formed}
 use Rattle.assembly_rules.proofs.FormLaws.FormOf.{empty, listed, coded}
-use Rattle.assembly_rules.proofs.FormLaws.TreeOf.{ofOffset, ofValue}
-use Rattle.assembly_rules.proofs.FormLaws.HasTree.{inItems, inOperands}
 use Rattle.assembly_rules.proofs.ScanLaws.{same-is, is-same}
 use Rattle.assembly_rules.proofs.OperandLaws.{registerText, number-named, text-named, register-named}
-use Rattle.assembly_rules.proofs.ValueLaws.{either-true, treeValue, tree-worth, sumNames, names-known, AsByte, Fits, byte-exactly, fits-exactly}
+use Rattle.assembly_rules.proofs.ValueLaws.{treeValue, tree-worth, sumNames, names-known, FitsPlace, fits-exactly}
 
 -- a name in one of a form's trees that is the name of no label
 abbrev pub Unknown : List Label → Statement → Type 0
-Unknown labels st = (s : Sum) × (HasTree st s × ((r : List ℕ) × (In r (sumNames s) × ((l : Label) → In l labels → l .name ≡ r → ⊥))))
-
--- places and operands side by side
-abbrev pub paired : List Kind → List Written → List (Kind × Written)
-paired [] ws = []
-paired (k ∷ ks) [] = []
-paired (k ∷ ks) (w ∷ ws) = (k, w) ∷ paired ks ws
+Unknown labels st = SomeTree st (λ k s. (r : List ℕ) × (In r (sumNames s) × ((l : Label) → In l labels → l .name ≡ r → ⊥)))
 
 -- a value that does not fit its place
-pub data Unfit (labels : List Label) (address : ℕ) : Statement → Type 0 where
-  unfitItem : {parts : List (List Token)} (s : Sum) → In (sumTokens s) parts → (AsByte (treeValue labels s) → ⊥) → Unfit labels address (items false parts)
-  unfitPlace : {e : Entry} {ws : List Written} (k : Kind) (w : Written) (s : Sum) → In (k, w) (paired (e .kinds) ws) → TreeOf w s → (Fits k (address + statementSize (instruction e ws)) (treeValue labels s) → ⊥)
-      → Unfit labels address (instruction e ws)
+abbrev pub Unfit : List Label → ℕ → Statement → Type 0
+Unfit labels address st = SomeTree st (λ k s. FitsPlace k (address + statementSize st) (treeValue labels s) → ⊥)
 
 -- the two tests of a form
 abbrev knownIn : List Label → Statement → Bool
@@ -62,87 +53,54 @@ standIn labels address (items two parts) = two || itemsStand labels parts
 standIn labels address (instruction e ws) = allStand labels (address + statementSize (instruction e ws)) (e .kinds) ws
 standIn labels address (refused n) = true
 
-items-known : (labels : List Label) (parts : List (List Token)) → itemsKnown labels parts ≡ every (λ part. sumWorth labels part .known) parts
-unfolding itemsKnown
-items-known labels [] = refl
-items-known labels (part ∷ parts) = ap (λ (b : Bool). sumWorth labels part .known && b) (items-known labels parts)
+-- and of the numbers in it
+abbrev knownTree : List Label → Kind × List Token → Bool
+knownTree labels p = sumWorth labels (p .1) .known
 
-items-stand : (labels : List Label) (parts : List (List Token)) → itemsStand labels parts ≡ every (λ part. isByte (sumWorth labels part .value)) parts
-unfolding itemsStand
-items-stand labels [] = refl
-items-stand labels (part ∷ parts) = ap (λ (b : Bool). isByte (sumWorth labels part .value) && b) (items-stand labels parts)
+abbrev standTree : List Label → ℕ → Kind × List Token → Bool
+standTree labels end p = mayStand (p .0) end (sumWorth labels (p .1) .value)
 
-operands-known : (labels : List Label) {ks : List Kind} {ws : List Written} → AllTake ks ws → namesKnown labels ws ≡ every (λ p. operandWorth labels (p .1) .known) (paired ks ws)
-unfolding namesKnown
-operands-known labels noPlace = refl
-operands-known labels (onePlace {w = w} h hs) = ap (λ (b : Bool). operandWorth labels w .known && b) (operands-known labels hs)
-
-operands-stand : (labels : List Label) (end : ℕ) (ks : List Kind) (ws : List Written) → allStand labels end ks ws ≡ every (λ p. mayStand (p .0) end (operandWorth labels (p .1) .value)) (paired ks ws)
-unfolding allStand
-operands-stand labels end [] ws = refl
-operands-stand labels end (k ∷ ks) [] = refl
-operands-stand labels end (k ∷ ks) (w ∷ ws) = ap (λ (b : Bool). mayStand k end (operandWorth labels w .value) && b) (operands-stand labels end ks ws)
-
-pair-takes : {ks : List Kind} {ws : List Written} → AllTake ks ws → (k : Kind) (w : Written) → In (k, w) (paired ks ws) → In w ws × (takes k w ≡ true)
-pair-takes noPlace k w m = elim m [ ]
-pair-takes (onePlace h hs) k w (here e) = (here (ap (λ (p : Kind × Written). p .1) e), ap (λ (p : Kind × Written). takes (p .0) (p .1)) e ∙ h)
-pair-takes (onePlace h hs) k w (later m) = let x = pair-takes hs k w m in (later (x .0), x .1)
-
-in-pair : {ks : List Kind} {ws : List Written} → AllTake ks ws → {w : Written} → In w ws → (k : Kind) × In (k, w) (paired ks ws)
-in-pair noPlace m = elim m [ ]
-in-pair (onePlace {k = k} h hs) (here e) = (k, here (ap (λ (w : Written). (k, w)) e))
-in-pair (onePlace h hs) (later m) = let x = in-pair hs m in (x .0, later (x .1))
-
--- what a tree comes to in a test of worths
-abbrev TreeFails : List Label → Sum → (Worth → Bool) → Type 0
-TreeFails labels s test = test (worth (treeValue labels s) (sumKnown labels s)) ≡ false
-
-tree-operand : {w : Written} {s : Sum} (labels : List Label) → TreeOf w s → sumDepth s ≤ 8 → operandWorth labels w ≡ worth (treeValue labels s) (sumKnown labels s)
+memory-known : (labels : List Label) (mm aa : ℕ) → eqb aa 1 ≡ false → operandWorth labels (memory mm aa []) ≡ worth 0 true
 unfolding operandWorth
-tree-operand labels (ofOffset mm s) l = tree-worth labels s l
-tree-operand labels (ofValue s) l = tree-worth labels s l
+memory-known labels mm aa z = rw z
+
+form-known : (labels : List Label) {body : List Token} {st : Statement} → FormOf body st → knownIn labels st ≡ every (knownTree labels) (sumsIn st)
+unfolding itemsKnown namesKnown operandWorth
+form-known labels empty = refl
+form-known labels (listed two t ts trees) = items-every two (knownTree labels) (itemsKnown labels) refl (λ part parts. refl) (operandParts (t ∷ ts))
+form-known labels (coded e ts ws i os take) =
+    operands-every (λ k w. operandWorth labels w .known) (knownTree labels) (λ ks ws. namesKnown labels ws) refl (λ k w ks ws. refl) (λ k r t. refl) (λ k mm aa z t. ap (λ (x : Worth). x .known) (memory-known labels mm aa z)) (λ k mm ts. refl) (λ k ts. refl) os take
+
+-- a place that takes no number has none that does not fit
+zero-stands : (end : ℕ) (k : Kind) → (sortOf k ≡ 2 → ⊥) → mayStand k end 0 ≡ true
+unfolding mayStand isByte
+zero-stands end k =
+    elim k as (λ j. (sortOf j ≡ 2 → ⊥) → mayStand j end 0 ≡ true) [
+      | 'R ↦ λ n. refl
+      | 'G ↦ λ n. refl
+      | 'P ↦ λ n. refl
+      | 'M ↦ λ n. refl
+      | 'byte ↦ λ n. absurd (n refl)
+      | 'word ↦ λ n. absurd (n refl)
+      | 'bit ↦ λ n. absurd (n refl)
+      | 'width ↦ λ n. absurd (n refl)
+      | 'short ↦ λ n. absurd (n refl)
+      | 'long ↦ λ n. absurd (n refl)
+    ]
+
+form-stands : (labels : List Label) (address : ℕ) {body : List Token} {st : Statement} → FormOf body st → standIn labels address st ≡ every (standTree labels (address + statementSize st)) (sumsIn st)
+unfolding itemsStand allStand operandWorth mayStand takes
+form-stands labels address empty = refl
+form-stands labels address (listed true t ts trees) = items-every true (standTree labels (address + statementSize (items true (operandParts (t ∷ ts))))) (λ parts. true) refl (λ part parts. refl) (operandParts (t ∷ ts))
+form-stands labels address (listed false t ts trees) = items-every false (standTree labels (address + statementSize (items false (operandParts (t ∷ ts))))) (itemsStand labels) refl (λ part parts. refl) (operandParts (t ∷ ts))
+form-stands labels address (coded e ts ws i os take) =
+    let end = address + statementSize (instruction e ws) in
+    operands-every (λ k w. mayStand k end (operandWorth labels w .value)) (standTree labels end) (allStand labels end) refl (λ k w ks ws. refl)
+    (λ k r t. zero-stands end k (λ z. absurd (omega (arith, takes-sort k (register r) t)))) (λ k mm aa z t. ap (λ (w : Worth). mayStand k end (w .value)) (memory-known labels mm aa z) ∙ zero-stands end k (λ q. absurd (omega (arith, takes-sort k (memory mm aa []) t)))) (λ k mm ts. refl) (λ k ts. refl) os take
 
 -- trees that are not too deep
-shallow : {st : Statement} → (Deep st → ⊥) → (s : Sum) → HasTree st s → sumDepth s ≤ 8
-shallow n s h = leb-true (sumDepth s) 8 (holds (leb (sumDepth s) 8) (λ e. n (s, (h, leb-false (sumDepth s) 8 e))))
-
--- a test of all items fails exactly where it fails of a tree, and so for all operands
-items-fail : (labels : List Label) (two : Bool) (parts : List (List Token)) → ((part : List Token) → In part parts → (s : Sum) × (sumTokens s ≡ part)) → (Deep (items two parts) → ⊥)
-    → (test : Worth → Bool) → (every (λ part. test (sumWorth labels part)) parts ≡ false) ↔ ((s : Sum) × (In (sumTokens s) parts × TreeFails labels s test))
-items-fail labels two parts trees n test = (finds, has)
-  where
-    finds : every (λ part. test (sumWorth labels part)) parts ≡ false → (s : Sum) × (In (sumTokens s) parts × TreeFails labels s test)
-    finds h =
-        let x = every-fails (λ part. test (sumWorth labels part)) parts .0 h in
-        let t = trees (x .0) (x .1 .0) in
-        let s = t .0 in
-        let m : In (sumTokens s) parts = subst (λ (y : List Token). In y parts) (sym (t .1)) (x .1 .0) in
-        (s, (m, sym (ap test (tree-worth labels s (shallow n s (inItems m)))) ∙ ap (λ (y : List Token). test (sumWorth labels y)) (t .1) ∙ x .1 .1))
-
-    has : (s : Sum) × (In (sumTokens s) parts × TreeFails labels s test) → every (λ part. test (sumWorth labels part)) parts ≡ false
-    has (s, (m, h)) = every-fails (λ part. test (sumWorth labels part)) parts .1 (sumTokens s, (m, ap test (tree-worth labels s (shallow n s (inItems m))) ∙ h))
-
-operands-fail : (labels : List Label) (e : Entry) {parts : List (List Token)} (ws : List Written) → AllOperands parts ws → AllTake (e .kinds) ws → (Deep (instruction e ws) → ⊥)
-    → (test : Kind → Worth → Bool) → ((k : Kind) → (sortOf k ≡ 2 → ⊥) → test k (worth 0 true) ≡ true)
-    → (every (λ p. test (p .0) (operandWorth labels (p .1))) (paired (e .kinds) ws) ≡ false) ↔ ((k : Kind) × ((w : Written) × ((s : Sum) × (In (k, w) (paired (e .kinds) ws) × (TreeOf w s × TreeFails labels s (test k))))))
-operands-fail labels e ws os take n test zero = (finds, has)
-  where
-    each : Kind × Written → Bool
-    each p = test (p .0) (operandWorth labels (p .1))
-
-    finds : every each (paired (e .kinds) ws) ≡ false → (k : Kind) × ((w : Written) × ((s : Sum) × (In (k, w) (paired (e .kinds) ws) × (TreeOf w s × TreeFails labels s (test k)))))
-    finds h =
-        let x = every-fails each (paired (e .kinds) ws) .0 h in
-        let k = x .0 .0 in
-        let w = x .0 .1 in
-        let m = pair-takes take k w (x .1 .0) in
-        elim (operand-tree (operand-in os (m .0) .1)) [
-          | inl z ↦ not-both (ap (test k) (z .1 .0 labels) ∙ zero k (λ q. z .1 .1 (sym (takes-sort k w (m .1)) ∙ q))) (x .1 .1)
-          | inr y ↦ (k, (w, (y .0, (x .1 .0, (y .1, sym (ap (test k) (tree-operand labels (y .1) (shallow n (y .0) (inOperands (m .0) (y .1))))) ∙ x .1 .1)))))
-        ]
-
-    has : (k : Kind) × ((w : Written) × ((s : Sum) × (In (k, w) (paired (e .kinds) ws) × (TreeOf w s × TreeFails labels s (test k))))) → every each (paired (e .kinds) ws) ≡ false
-    has (k, (w, (s, (i, (t, h))))) = every-fails each (paired (e .kinds) ws) .1 ((k, w), (i, ap (test k) (tree-operand labels t (shallow n s (inOperands (pair-takes take k w i .0) t))) ∙ h))
+shallow : (st : Statement) → (Deep st → ⊥) → (k : Kind) (s : Sum) → In (k, sumTokens s) (sumsIn st) → sumDepth s ≤ 8
+shallow st n k s m = leb-true (sumDepth s) 8 (holds (leb (sumDepth s) 8) (λ e. n (k, (s, (m, leb-false (sumDepth s) 8 e)))))
 
 -- a tree with an unknown name
 tree-unknown : (labels : List Label) (s : Sum) → (sumKnown labels s ≡ false) ↔ ((r : List ℕ) × (In r (sumNames s) × ((l : Label) → In l labels → l .name ≡ r → ⊥)))
@@ -151,60 +109,23 @@ tree-unknown labels s = (
   λ x. names-known labels s ∙ every-fails (λ r. labelWorth labels r .known) (sumNames s) .1 (x .0, (x .1 .0, fails (labelWorth labels (x .0) .known) (λ h. let l = known-exactly labels (x .0) .0 h in x .1 .1 (l .0) (l .1 .0) (l .1 .1)))),
 )
 
-item-in : {two : Bool} {parts : List (List Token)} {s : Sum} → HasTree (items two parts) s → In (sumTokens s) parts
-item-in (inItems m) = m
-
-operand-of : {e : Entry} {ws : List Written} {s : Sum} → HasTree (instruction e ws) s → (w : Written) × (In w ws × TreeOf w s)
-operand-of (inOperands {w = w} m t) = (w, (m, t))
-
--- a form has an unknown name exactly where the test fails
+-- a form has an unknown name, and an unfit value, exactly where the tests fail
 known-fails : (labels : List Label) {body : List Token} {st : Statement} → FormOf body st → (Deep st → ⊥) → (knownIn labels st ≡ false) ↔ Unknown labels st
-known-fails labels empty n = (λ h. not-both refl h, λ x. elim (x .1 .0) [ ])
-known-fails labels (listed two t ts trees) n =
-    let f = items-fail labels two (operandParts (t ∷ ts)) trees n (λ w. w .known) in (
-      λ h. let x = f .0 (sym (items-known labels (operandParts (t ∷ ts))) ∙ h) in (x .0, (inItems (x .1 .0), tree-unknown labels (x .0) .0 (x .1 .1))),
-      λ x. items-known labels (operandParts (t ∷ ts)) ∙ f .1 (x .0, (item-in (x .1 .0), tree-unknown labels (x .0) .1 (x .1 .1))),
+known-fails labels {st = st} f n =
+    let t = trees-fail st (form-trees f) (knownTree labels) in
+    let same : (k : Kind) (s : Sum) → In (k, sumTokens s) (sumsIn st) → knownTree labels (k, sumTokens s) ≡ sumKnown labels s = λ k s m. ap (λ (w : Worth). w .known) (tree-worth labels s (shallow st n k s m)) in (
+      λ h. let x = t .0 (sym (form-known labels f) ∙ h) in (x .0, (x .1 .0, (x .1 .1 .0, tree-unknown labels (x .1 .0) .0 (sym (same (x .0) (x .1 .0) (x .1 .1 .0)) ∙ x .1 .1 .1)))),
+      λ x. form-known labels f ∙ t .1 (x .0, (x .1 .0, (x .1 .1 .0, same (x .0) (x .1 .0) (x .1 .1 .0) ∙ tree-unknown labels (x .1 .0) .1 (x .1 .1 .1)))),
     )
-known-fails labels (coded e ts ws i os take) n =
-    let f = operands-fail labels e ws os take n (λ k w. w .known) (λ k q. refl) in (
-      λ h. let x = f .0 (sym (operands-known labels take) ∙ h) in (x .1 .1 .0, (inOperands (pair-takes take (x .0) (x .1 .0) (x .1 .1 .1 .0) .0) (x .1 .1 .1 .1 .0), tree-unknown labels (x .1 .1 .0) .0 (x .1 .1 .1 .1 .1))),
-      λ x.
-          let o = operand-of (x .1 .0) in
-          let p = in-pair take (o .1 .0) in
-          operands-known labels take ∙ f .1 (p .0, (o .0, (x .0, (p .1, (o .1 .1, tree-unknown labels (x .0) .1 (x .1 .1)))))),
-    )
-
--- and an unfit value
-zero-stands : (end : ℕ) (k : Kind) → (sortOf k ≡ 2 → ⊥) → mayStand k end 0 ≡ true
-unfolding mayStand isByte
-zero-stands end 'R n = refl
-zero-stands end 'G n = refl
-zero-stands end 'P n = refl
-zero-stands end 'M n = refl
-zero-stands end 'byte n = absurd (n refl)
-zero-stands end 'word n = absurd (n refl)
-zero-stands end 'bit n = absurd (n refl)
-zero-stands end 'width n = absurd (n refl)
-zero-stands end 'short n = absurd (n refl)
-zero-stands end 'long n = absurd (n refl)
-
-fits-tree : (labels : List Label) (s : Sum) (k : Kind) (end : ℕ) → (mayStand k end (treeValue labels s) ≡ true) ↔ Fits k end (treeValue labels s)
-fits-tree labels s k end = fits-exactly k end (treeValue labels s) (mod-lt (sumAdded labels s + (65536 - sumTaken labels s % 65536)) (lit< tt))
 
 stand-fails : (labels : List Label) (address : ℕ) {body : List Token} {st : Statement} → FormOf body st → (Deep st → ⊥) → (standIn labels address st ≡ false) ↔ Unfit labels address st
-stand-fails labels address empty n = (λ h. not-both refl h, λ x. elim x [ ])
-stand-fails labels address (listed true t ts trees) n = (λ h. not-both refl h, λ x. elim x [ ])
-stand-fails labels address (listed false t ts trees) n =
-    let parts = operandParts (t ∷ ts) in
-    let f = items-fail labels false parts trees n (λ w. isByte (w .value)) in (
-      λ h. let x = f .0 (sym (items-stand labels parts) ∙ h) in unfitItem (x .0) (x .1 .0) (λ b. not-both (byte-exactly (treeValue labels (x .0)) .1 b) (x .1 .1)),
-      λ x. items-stand labels parts ∙ f .1 (elim x [ unfitItem s m b ↦ (s, (m, fails (isByte (treeValue labels s)) (λ y. b (byte-exactly (treeValue labels s) .0 y)))) ]),
-    )
-stand-fails labels address (coded e ts ws i os take) n =
-    let end = address + statementSize (instruction e ws) in
-    let f = operands-fail labels e ws os take n (λ k w. mayStand k end (w .value)) (zero-stands end) in (
-      λ h. let x = f .0 (sym (operands-stand labels end (e .kinds) ws) ∙ h) in unfitPlace (x .0) (x .1 .0) (x .1 .1 .0) (x .1 .1 .1 .0) (x .1 .1 .1 .1 .0) (λ b. not-both (fits-tree labels (x .1 .1 .0) (x .0) end .1 b) (x .1 .1 .1 .1 .1)),
-      λ x. operands-stand labels end (e .kinds) ws ∙ f .1 (elim x [ unfitPlace k w s m t b ↦ (k, (w, (s, (m, (t, fails (mayStand k end (treeValue labels s)) (λ y. b (fits-tree labels s k end .0 y))))))) ]),
+stand-fails labels address {st = st} f n =
+    let end = address + statementSize st in
+    let t = trees-fail st (form-trees f) (standTree labels end) in
+    let same : (k : Kind) (s : Sum) → In (k, sumTokens s) (sumsIn st) → standTree labels end (k, sumTokens s) ≡ mayStand k end (treeValue labels s) = λ k s m. ap (λ (w : Worth). mayStand k end (w .value)) (tree-worth labels s (shallow st n k s m)) in
+    let fit : (k : Kind) (s : Sum) → (mayStand k end (treeValue labels s) ≡ true) ↔ FitsPlace k end (treeValue labels s) = λ k s. fits-exactly k end (treeValue labels s) (mod-lt (sumAdded labels s + (65536 - sumTaken labels s % 65536)) (lit< tt)) in (
+      λ h. let x = t .0 (sym (form-stands labels address f) ∙ h) in (x .0, (x .1 .0, (x .1 .1 .0, λ b. not-both (fit (x .0) (x .1 .0) .1 b) (sym (same (x .0) (x .1 .0) (x .1 .1 .0)) ∙ x .1 .1 .1)))),
+      λ x. form-stands labels address f ∙ t .1 (x .0, (x .1 .0, (x .1 .1 .0, same (x .0) (x .1 .0) (x .1 .1 .0) ∙ fails (mayStand (x .0) end (treeValue labels (x .1 .0))) (λ y. x .1 .1 .1 (fit (x .0) (x .1 .0) .0 y))))),
     )
 
 -- the names that are no labels
@@ -226,11 +147,11 @@ unfolding registerNumber indexIn sameText
 pointer-number = refl
 
 register-reserved : (name : List ℕ) → registerNumber name < 9 → Reserved name
-register-reserved name h = go (ltb (registerNumber name) 8) refl
-  where
-    go : (b : Bool) → ltb (registerNumber name) 8 ≡ b → Reserved name
-    go true e = let l = ltb-true (registerNumber name) 8 e in subst Reserved (sym (text-named name l)) (registerReserved (registerNumber name) l)
-    go false e = let l = ltb-false (registerNumber name) 8 e in subst Reserved (sym (register-named name 8 (omega arith) (omega arith))) pointerReserved
+register-reserved name h =
+    (elim (ltb (registerNumber name) 8) as (λ b. ltb (registerNumber name) 8 ≡ b → Reserved name) [
+      | true ↦ λ e. let l = ltb-true (registerNumber name) 8 e in subst Reserved (sym (text-named name l)) (registerReserved (registerNumber name) l)
+      | false ↦ λ e. let l = ltb-false (registerNumber name) 8 e in subst Reserved (sym (register-named name 8 (omega arith) (omega arith))) pointerReserved
+    ]) refl
 
 reserved-exactly : (name : List ℕ) → (isReserved name ≡ true) ↔ Reserved name
 unfolding isReserved
@@ -323,15 +244,11 @@ module _ (labels kept : List Label) (address before room : ℕ) (name : List ℕ
       go false false f p = refl
 
   label-fails : {body : List Token} {st : Statement} → FormOf body st → (Deep st → ⊥) → (labelStands kept address name && knownIn labels st ≡ false) ↔ (Unkept kept name ⊎ Unknown labels st)
-  label-fails {st = st} f n = (λ h. finds (labelStands kept address name) refl h, λ x. elim x [ inl u ↦ rw (stands-exactly kept address name .1 u) | inr u ↦ both (labelStands kept address name) (known-fails labels f n .1 u) ])
-    where
-      finds : (b : Bool) → labelStands kept address name ≡ b → b && knownIn labels st ≡ false → Unkept kept name ⊎ Unknown labels st
-      finds true e h = inr (known-fails labels f n .0 h)
-      finds false e h = inl (stands-exactly kept address name .0 e)
-
-      both : (b : Bool) → knownIn labels st ≡ false → b && knownIn labels st ≡ false
-      both true h = h
-      both false h = refl
+  label-fails {st = st} f n =
+      let b = both-false (labelStands kept address name) (knownIn labels st) in
+      let l = stands-exactly kept address name in
+      let k = known-fails labels f n in
+      (λ h. elim (b .0 h) [ inl e ↦ inl (l .0 e) | inr e ↦ inr (k .0 e) ], λ x. b .1 (elim x [ inl u ↦ inl (l .1 u) | inr u ↦ inr (k .1 u) ]))
 
   past-exactly : (size : ℕ) → (pastRoom size before room ≡ true) ↔ ((0 < size) × (room < before + size))
   past-exactly size = (
@@ -339,21 +256,10 @@ module _ (labels kept : List Label) (address before room : ℕ) (name : List ℕ
     λ x. rw (lt-ltb 0 size (x .0), lt-ltb room (before + size) (x .1)),
   )
 
-  -- a form's number
-  form-verdict : {body : List Token} (st : Statement) → FormOf body st → (Deep st → ⊥) → Verdict labels kept address before room name body (numberOf st)
-  form-verdict {body} st f n = rw (formed-number f) (go (labelStands kept address name && knownIn labels st) refl (standIn labels address st) refl (pastRoom (statementSize st) before room) refl)
-    where
-      go : (b : Bool) → labelStands kept address name && knownIn labels st ≡ b → (c : Bool) → standIn labels address st ≡ c → (d : Bool) → pastRoom (statementSize st) before room ≡ d → Verdict labels kept address before room name body (pick b (pick c (pick d 35 0) 34) 33)
-      go false p c q d r = no-label st f n (label-fails f n .0 p)
-      go true p false q d r = no-fit st f n (λ x. not-both p (label-fails f n .1 x)) (stand-fails labels address f n .0 q)
-      go true p true q true r = no-room st f n (λ x. not-both p (label-fails f n .1 x)) (λ x. not-both q (stand-fails labels address f n .1 x)) (past-exactly (statementSize st) .0 r)
-      go true p true q false r = is-done st f n (λ x. not-both p (label-fails f n .1 x)) (λ x. not-both q (stand-fails labels address f n .1 x)) (λ x. not-both (past-exactly (statementSize st) .1 x) r)
-
   -- the number that a line has by its verdict
   as-formed : {body : List Token} {st : Statement} → FormOf body st → (Deep st → ⊥) → (b c d : Bool) → labelStands kept address name && knownIn labels st ≡ b → standIn labels address st ≡ c → pastRoom (statementSize st) before room ≡ d
       → numberOf (statementOf body) ≡ pick b (pick c (pick d 35 0) 34) 33
-  as-formed {body} {st} f n b c d p q r =
-      ap numberOf (elim (form-goes f) [ inl x ↦ absurd (n (x .0)) | inr x ↦ x .1 ]) ∙ formed-number f ∙ rw (p, q, r)
+  as-formed f n b c d p q r = ap numberOf (form-is f n) ∙ formed-number f ∙ rw (p, q, r)
 
   verdict-number : {body : List Token} {n : ℕ} → Verdict labels kept address before room name body n → numberOf (statementOf body) ≡ n
   verdict-number (no-word h) = ap numberOf (no-word-is h) ∙ refused-number .0
@@ -381,13 +287,17 @@ module _ (labels kept : List Label) (address before room : ℕ) (name : List ℕ
         | inr x ↦ false≢true (formed-unlike 31 f (sym (x .1) ∙ e))
       ]
 
+      form : (st : Statement) → FormOf body st → (Deep st → ⊥) → (b : Bool) → labelStands kept address name && knownIn labels st ≡ b → (c : Bool) → standIn labels address st ≡ c → (d : Bool) → pastRoom (statementSize st) before room ≡ d
+          → Verdict labels kept address before room name body (numberOf (statementOf body))
+      form st f n false p c q d r = by (no-label st f n (label-fails f n .0 p))
+      form st f n true p false q d r = by (no-fit st f n (λ x. not-both p (label-fails f n .1 x)) (stand-fails labels address f n .0 q))
+      form st f n true p true q true r = by (no-room st f n (λ x. not-both p (label-fails f n .1 x)) (λ x. not-both q (stand-fails labels address f n .1 x)) (past-exactly (statementSize st) .0 r))
+      form st f n true p true q false r = by (is-done st f n (λ x. not-both p (label-fails f n .1 x)) (λ x. not-both q (stand-fails labels address f n .1 x)) (λ x. not-both (past-exactly (statementSize st) .1 x) r))
+
       go : NoWord body ⊎ ((statementOf body ≡ refused 31) ⊎ ((st : Statement) × FormOf body st)) → Verdict labels kept address before room name body (numberOf (statementOf body))
       go (inl x) = by (no-word x)
       go (inr (inl e)) = by (no-form (λ x. absurd (omega (arith, sym (refused-number .0) ∙ ap numberOf (sym (no-word-is x) ∙ e) ∙ refused-number .1 .0))) (formless e))
-      go (inr (inr (st, f))) = elim (form-goes f) [
-        | inl x ↦ by (too-deep st f (x .0))
-        | inr x ↦ subst (λ (y : Statement). Verdict labels kept address before room name body (numberOf y)) (sym (x .1)) (form-verdict st f (x .0))
-      ]
+      go (inr (inr (st, f))) = elim (form-goes f) [ inl x ↦ by (too-deep st f (x .0)) | inr x ↦ form st f (x .0) _ refl _ refl _ refl ]
 
 -- a line has a number exactly by what it says
 pub line-exactly : (labels kept : List Label) (address before room : ℕ) (line : List ℕ) (n : ℕ)

@@ -4,10 +4,10 @@ use mathlib.Core.Path.{_≡_, refl, sym, ap, subst, _∙_}
 use mathlib.Core.Bool.{Bool, true, false, _&&_, false≢true}
 use mathlib.Core.List.{List, [], _∷_}
 use mathlib.Core.Logic.{_⊎_, inl, inr, _↔_}
-use Prim.Native.Nat.{ℕ, suc, _<_}
+use Prim.Native.Nat.{ℕ, _<_}
 use native.Mathlib.Omega.{arith}
 use lib.Dec.{eqb, ltb}
-use lib.ListN.{length, getD, List·getD-append}
+use lib.ListN.{getD, List·getD-append}
 use borrow.Author.Tests.{eqb-true, ltb-true, lt-ltb}
 use Rattle.ground_rules.specs.Choice.{pick}
 use Rattle.listing_rules.specs.Characters.{ascii, sameText}
@@ -18,8 +18,9 @@ use Rattle.assembly_rules.specs.Sums.{indexIn, registersNamed, registerN
 use Rattle.assembly_rules.specs.Trees.{Sum, sumTokens}
 use Rattle.assembly_rules.specs.Operands.{Written, closedMemory, endedMemory, indexedMemory, memoryBehind, baseNumber, memoryFrom, aloneNumber, sumFrom, operandFrom}
 use Rattle.assembly_rules.specs.Operands.Written.{register, memory, value, nothing}
+use Rattle.assembly_rules.proofs.TestLaws.{fails, not-both}
 use Rattle.assembly_rules.proofs.WritingLaws.{both-left, both-right}
-use Rattle.assembly_rules.proofs.ScanLaws.{sum-exactly, tree-sum, same-is, bad-first, no-register-sum}
+use Rattle.assembly_rules.proofs.ScanLaws.{sum-exactly, tree-sum, index-named, bad-first, no-register-sum}
 
 -- the registers by RRR, and the bases by MM
 abbrev pub registerText : ℕ → List ℕ
@@ -45,15 +46,6 @@ number-named = each 8 (λ n. registerNumber (registerText n) ≡ n) (((((((((tt,
 base-named : (mm : ℕ) → mm < 4 → baseNumber (registerNumber (baseText mm)) ≡ mm
 unfolding registerNumber indexIn sameText
 base-named = each 4 (λ mm. baseNumber (registerNumber (baseText mm)) ≡ mm) ((((tt, refl), refl), refl), refl)
-
-index-named : (names : List (List ℕ)) (text : List ℕ) → indexIn names text < length names → text ≡ getD names (indexIn names text) []
-unfolding indexIn
-index-named [] text h = absurd (omega arith)
-index-named (name ∷ names) text h = go (sameText name text) refl h (index-named names text)
-  where
-    go : (b : Bool) → sameText name text ≡ b → pick b 0 (suc (indexIn names text)) < length (name ∷ names) → (indexIn names text < length names → text ≡ getD names (indexIn names text) []) → text ≡ getD (name ∷ names) (pick b 0 (suc (indexIn names text))) []
-    go true e k later = sym (same-is name text e)
-    go false e k later = later (omega arith)
 
 pub register-named : (r : List ℕ) (n : ℕ) → registerNumber r ≡ n → n < 9 → r ≡ getD registersNamed n []
 unfolding registerNumber
@@ -106,11 +98,11 @@ behind-told : (mm : ℕ) (h : mm < 4) (ts : List Token) → Told (mark 91 ∷ ru
 unfolding memoryBehind
 behind-told mm h [] = inl refl
 behind-told mm h (run r ∷ ts) = inl refl
-behind-told mm h (mark c ∷ ts) = go (eqb c 93) refl
-  where
-    go : (b : Bool) → eqb c 93 ≡ b → Told (mark 91 ∷ run (baseText mm) ∷ mark c ∷ ts) (pick b (closedMemory mm ts) (pick (eqb c 43) (indexedMemory mm ts) nothing))
-    go true e = rw (eqb-true c 93 e) (closed-told mm h ts)
-    go false e = told-where (eqb c 43) (λ f. rw (eqb-true c 43 f) (indexed-told mm h ts))
+behind-told mm h (mark c ∷ ts) =
+    (elim (eqb c 93) as (λ b. eqb c 93 ≡ b → Told (mark 91 ∷ run (baseText mm) ∷ mark c ∷ ts) (pick b (closedMemory mm ts) (pick (eqb c 43) (indexedMemory mm ts) nothing))) [
+      | true ↦ λ e. rw (eqb-true c 93 e) (closed-told mm h ts)
+      | false ↦ λ e. told-where (eqb c 43) (λ f. rw (eqb-true c 43 f) (indexed-told mm h ts))
+    ]) refl
 
 memory-told : (ts : List Token) → Told (mark 91 ∷ ts) (memoryFrom ts)
 unfolding memoryFrom
@@ -128,40 +120,29 @@ alone-told (run r ∷ t ∷ ts) h = absurd (omega arith)
 alone-told (run r ∷ []) h = subst (λ (x : List ℕ). OperandOf (run x ∷ []) (register (registerNumber r))) (sym (text-named r h)) (alone (registerNumber r) h)
 
 sum-told : (ts : List Token) → Told ts (sumFrom ts)
-sum-told ts = go (ltb (aloneNumber ts) 8) refl
-  where
-    go : (b : Bool) → ltb (aloneNumber ts) 8 ≡ b → Told ts (pick b (register (aloneNumber ts)) (pick (isSum ts) (value ts) nothing))
-    go true e = inr (alone-told ts (ltb-true (aloneNumber ts) 8 e))
-    go false e = told-where (isSum ts) (λ k. let s = sum-exactly ts .0 k in rw (← (s .1)) (inr (summed (s .0))))
+sum-told ts =
+    (elim (ltb (aloneNumber ts) 8) as (λ b. ltb (aloneNumber ts) 8 ≡ b → Told ts (pick b (register (aloneNumber ts)) (pick (isSum ts) (value ts) nothing))) [
+      | true ↦ λ e. inr (alone-told ts (ltb-true (aloneNumber ts) 8 e))
+      | false ↦ λ e. told-where (isSum ts) (λ k. let s = sum-exactly ts .0 k in rw (← (s .1)) (inr (summed (s .0))))
+    ]) refl
 
 operand-told : (ts : List Token) → Told ts (operandFrom ts)
 unfolding operandFrom
 operand-told [] = inl refl
 operand-told (run r ∷ ts) = sum-told (run r ∷ ts)
-operand-told (mark c ∷ ts) = go (eqb c 91) refl
-  where
-    go : (b : Bool) → eqb c 91 ≡ b → Told (mark c ∷ ts) (pick b (memoryFrom ts) (sumFrom (mark c ∷ ts)))
-    go true e = rw (eqb-true c 91 e) (memory-told ts)
-    go false e = sum-told (mark c ∷ ts)
+operand-told (mark c ∷ ts) =
+    (elim (eqb c 91) as (λ b. eqb c 91 ≡ b → Told (mark c ∷ ts) (pick b (memoryFrom ts) (sumFrom (mark c ∷ ts)))) [ true ↦ λ e. rw (eqb-true c 91 e) (memory-told ts) | false ↦ λ e. sum-told (mark c ∷ ts) ]) refl
 
 -- a sum is neither a register nor memory
 sum-operand : (ts : List Token) → isSum ts ≡ true → operandFrom ts ≡ value ts
 unfolding operandFrom isSum scanFrom roleOf
 sum-operand [] h = absurd (false≢true h)
-sum-operand (run r ∷ ts) h = go (ltb (aloneNumber (run r ∷ ts)) 8) refl
+sum-operand (run r ∷ ts) h = rw (fails (ltb (aloneNumber (run r ∷ ts)) 8) (λ e. not-both h (no-register-sum r ts (small ts (ltb-true (aloneNumber (run r ∷ ts)) 8 e)))), h)
   where
-    small : (ts : List Token) → aloneNumber (run r ∷ ts) < 8 → registerNumber r < 8
-    small [] l = l
+    small : (ts : List Token) → aloneNumber (run r ∷ ts) < 8 → registerNumber r < 9
+    small [] l = omega (arith, l)
     small (t ∷ ts) l = absurd (omega arith)
-
-    go : (b : Bool) → ltb (aloneNumber (run r ∷ ts)) 8 ≡ b → pick b (register (aloneNumber (run r ∷ ts))) (pick (isSum (run r ∷ ts)) (value (run r ∷ ts)) nothing) ≡ value (run r ∷ ts)
-    go true e = let l = small ts (ltb-true (aloneNumber (run r ∷ ts)) 8 e) in absurd (false≢true (sym (no-register-sum r ts (omega arith)) ∙ h))
-    go false e = rw h
-sum-operand (mark c ∷ ts) h = go (eqb c 91) refl
-  where
-    go : (b : Bool) → eqb c 91 ≡ b → pick b (memoryFrom ts) (sumFrom (mark c ∷ ts)) ≡ value (mark c ∷ ts)
-    go true e = absurd (false≢true (sym (bad-first (mark c) ts (rw (eqb-true c 91 e))) ∙ h))
-    go false e = rw h
+sum-operand (mark c ∷ ts) h = rw (fails (eqb c 91) (λ e. not-both h (bad-first (mark c) ts (rw (eqb-true c 91 e)))), h)
 
 -- tokens of a form are that operand
 pub operand-is : {ts : List Token} {w : Written} → OperandOf ts w → operandFrom ts ≡ w

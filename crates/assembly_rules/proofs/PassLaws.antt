@@ -1,11 +1,12 @@
 -- Assembling in passes: the first line that has a number, found from the count of bytes before alone; then the bytes.
 -- Assumes nothing.
 use mathlib.Core.Path.{_≡_, refl, sym, ap, _∙_}
-use mathlib.Core.Bool.{Bool, true, false, _&&_, false≢true}
+use mathlib.Core.Bool.{Bool, true, false, _&&_}
 use mathlib.Core.List.{List, [], _∷_, _++_, append-assoc, append-nil}
 use mathlib.Core.Logic.{_⊎_, inl, inr}
 use Prim.Native.Nat.{ℕ, suc, _+_, _%_, _≤_}
 use native.Mathlib.Omega.{arith}
+use native.Mathlib.Nat.{add-zero, add-assoc}
 use lib.Dec.{eqb, ltb, leb}
 use lib.ListN.{length, length-append}
 use borrow.Author.Tests.{eqb-true, eqb-false, ltb-false, leb-true}
@@ -14,6 +15,8 @@ use Rattle.assembly_rules.specs.Text.{tokensOf}
 use Rattle.assembly_rules.specs.Sums.{Label}
 use Rattle.assembly_rules.specs.Statements.{headedBy, statementSize, statementNumber, statementBytes}
 use Rattle.assembly_rules.specs.Assembly.{Said, saidBy, saidIn, keptWith, labelStands, pastRoom, lineNumber, Assembled, assembled, assembledFrom}
+use Rattle.assembly_rules.proofs.TestLaws.{both-false}
+use Rattle.assembly_rules.proofs.LabelLaws.{sizesOf}
 use Rattle.assembly_rules.proofs.SizeLaws.{Sized, statement-sized}
 
 -- the number of the first line that has one, and that line; 0 and 0 where none has
@@ -56,39 +59,21 @@ pub passes : {said : List Said} → AllSized said → (labels kept : List Label)
 unfolding assembledFrom failedFrom bytesFrom
 passes noneSized labels kept first room line done = ap (assembled 0 0) (sym (append-nil done))
 passes (moreSized {s = s} {more = more} size sizes) labels kept first room line done =
-    go (eqb n 0) refl (passes sizes labels (keptWith kept address (s .name)) first room (suc line) (done ++ bytes))
-  where
-    address : ℕ
-    address = (first + length done) % 65536
-
-    n : ℕ
-    n = lineNumber labels kept address (length done) room s
-
-    bytes : List ℕ
-    bytes = statementBytes labels address (s .statement)
-
-    before : ℕ
-    before = length done + statementSize (s .statement)
-
-    -- the lines behind this one
-    after : ℕ → Failed
-    after count = failedFrom labels (keptWith kept address (s .name)) first room (suc line) count more
-
-    rest : Assembled
-    rest = assembledFrom labels (keptWith kept address (s .name)) first room (suc line) (done ++ bytes) more
-
-    grown : length (done ++ bytes) ≡ before
-    grown = length-append done bytes ∙ ap (λ (x : ℕ). length done + x) (size .sized labels address)
-
-    go : (b : Bool) → eqb n 0 ≡ b → rest ≡ passed (after (length (done ++ bytes))) ((done ++ bytes) ++ bytesFrom labels first (length (done ++ bytes)) more)
-        → pick b rest (assembled n line []) ≡ passed (pick b (after before) (failed n line)) (done ++ (bytes ++ bytesFrom labels first before more))
-    go true e later =
-        later ∙ ap (λ (x : ℕ). passed (after x) ((done ++ bytes) ++ bytesFrom labels first x more)) grown
-        ∙ ap (passed (after before)) (append-assoc done bytes (bytesFrom labels first before more))
-    go false e later = rw e
+    let address = (first + length done) % 65536 in
+    let n = lineNumber labels kept address (length done) room s in
+    let bytes = statementBytes labels address (s .statement) in
+    let before = length done + statementSize (s .statement) in
+    let after : ℕ → Failed = λ count. failedFrom labels (keptWith kept address (s .name)) first room (suc line) count more in
+    let rest = bytesFrom labels first before more in
+    let grown : length (done ++ bytes) ≡ before = length-append done bytes ∙ ap (λ (x : ℕ). length done + x) (size .sized labels address) in
+    let later = passes sizes labels (keptWith kept address (s .name)) first room (suc line) (done ++ bytes) in
+    (elim (eqb n 0) as (λ b. eqb n 0 ≡ b → pick b (assembledFrom labels (keptWith kept address (s .name)) first room (suc line) (done ++ bytes) more) (assembled n line []) ≡ passed (pick b (after before) (failed n line)) (done ++ (bytes ++ rest))) [
+      | true ↦ λ e. later ∙ ap (λ (x : ℕ). passed (after x) ((done ++ bytes) ++ bytesFrom labels first x more)) grown ∙ ap (passed (after before)) (append-assoc done bytes rest)
+      | false ↦ λ e. rw e
+    ]) refl
 
 -- a line without a number does not end past the room
-line-inside : (labels kept : List Label) (address before room : ℕ) (s : Said) → lineNumber labels kept address before room s ≡ 0 → pastRoom (statementSize (s .statement)) before room ≡ false
+pub line-inside : (labels kept : List Label) (address before room : ℕ) (s : Said) → lineNumber labels kept address before room s ≡ 0 → pastRoom (statementSize (s .statement)) before room ≡ false
 unfolding lineNumber
 line-inside labels kept address before room s h = go (statementNumber labels address (s .statement)) (leb 30 (statementNumber labels address (s .statement))) refl _ (labelStands kept address (s .name)) _ refl (pastRoom (statementSize (s .statement)) before room) h
   where
@@ -108,37 +93,38 @@ pub bytes-inside : {said : List Said} → AllSized said → (labels kept : List 
 unfolding failedFrom bytesFrom
 bytes-inside noneSized labels kept first room line before h = inl refl
 bytes-inside (moreSized {s = s} {more = more} size sizes) labels kept first room line before h =
-    go (eqb n 0) refl h (bytes-inside sizes labels (keptWith kept address (s .name)) first room (suc line) (before + statementSize (s .statement)))
-  where
-    address : ℕ
-    address = (first + before) % 65536
+    let address = (first + before) % 65536 in
+    let n = lineNumber labels kept address before room s in
+    let bytes = statementBytes labels address (s .statement) in
+    let count = statementSize (s .statement) in
+    let after = failedFrom labels (keptWith kept address (s .name)) first room (suc line) (before + count) more in
+    let rest = bytesFrom labels first (before + count) more in
+    let whole : length (bytes ++ rest) ≡ count + length rest = length-append bytes rest ∙ ap (λ (x : ℕ). x + length rest) (size .sized labels address) in
+    let later = bytes-inside sizes labels (keptWith kept address (s .name)) first room (suc line) (before + count) in
+    (elim (eqb n 0) as (λ b. eqb n 0 ≡ b → pick b after (failed n line) .number ≡ 0 → (length (bytes ++ rest) ≡ 0) ⊎ (before + length (bytes ++ rest) ≤ room)) [
+      | true ↦ λ e k. elim (later k) [
+        | inl none ↦ elim (both-false (ltb 0 count) (ltb room (before + count)) .0 (line-inside labels kept address before room s (eqb-true n 0 e))) [
+          | inl z ↦ inl (omega (arith, whole, none, ltb-false 0 count z))
+          | inr z ↦ inr (omega (arith, whole, none, ltb-false room (before + count) z))
+        ]
+        | inr l ↦ inr (omega (arith, whole, l))
+      ]
+      | false ↦ λ e k. absurd (eqb-false n 0 e k)
+    ]) refl h
 
-    n : ℕ
-    n = lineNumber labels kept address before room s
+-- lines have as many bytes as their sizes, and those behind some others stand behind their bytes
+pub bytes-length : {said : List Said} → AllSized said → (labels : List Label) (first before : ℕ) → length (bytesFrom labels first before said) ≡ sizesOf said
+unfolding bytesFrom sizesOf
+bytes-length noneSized labels first before = refl
+bytes-length (moreSized {s = s} {more = more} size sizes) labels first before =
+    let count = before + statementSize (s .statement) in
+    length-append (statementBytes labels ((first + before) % 65536) (s .statement)) (bytesFrom labels first count more) ∙ rw (size .sized labels ((first + before) % 65536), bytes-length sizes labels first count)
 
-    bytes : List ℕ
-    bytes = statementBytes labels address (s .statement)
-
-    after : Failed
-    after = failedFrom labels (keptWith kept address (s .name)) first room (suc line) (before + statementSize (s .statement)) more
-
-    rest : List ℕ
-    rest = bytesFrom labels first (before + statementSize (s .statement)) more
-
-    whole : length (bytes ++ rest) ≡ statementSize (s .statement) + length rest
-    whole = length-append bytes rest ∙ ap (λ (x : ℕ). x + length rest) (size .sized labels address)
-
-    -- a line with bytes that ends inside
-    this : length rest ≡ 0 → (t u : Bool) → ltb 0 (statementSize (s .statement)) ≡ t → ltb room (before + statementSize (s .statement)) ≡ u → t && u ≡ false → (length (bytes ++ rest) ≡ 0) ⊎ (before + length (bytes ++ rest) ≤ room)
-    this none true true p q k = absurd (false≢true (sym k))
-    this none false u p q k = let l = ltb-false 0 (statementSize (s .statement)) p in inl (omega (arith, whole))
-    this none true false p q k = let l = ltb-false room (before + statementSize (s .statement)) q in inr (omega (arith, whole))
-
-    go : (b : Bool) → eqb n 0 ≡ b → pick b after (failed n line) .number ≡ 0 → (after .number ≡ 0 → (length rest ≡ 0) ⊎ (before + statementSize (s .statement) + length rest ≤ room))
-        → (length (bytes ++ rest) ≡ 0) ⊎ (before + length (bytes ++ rest) ≤ room)
-    go false e k later = absurd (eqb-false n 0 e k)
-    go true e k later = which (later k)
-      where
-        which : (length rest ≡ 0) ⊎ (before + statementSize (s .statement) + length rest ≤ room) → (length (bytes ++ rest) ≡ 0) ⊎ (before + length (bytes ++ rest) ≤ room)
-        which (inl none) = this none (ltb 0 (statementSize (s .statement))) (ltb room (before + statementSize (s .statement))) refl refl (line-inside labels kept address before room s (eqb-true n 0 e))
-        which (inr l) = inr (omega (arith, whole))
+pub bytes-split : (ahead after : List Said) (labels : List Label) (first before : ℕ) → bytesFrom labels first before (ahead ++ after) ≡ bytesFrom labels first before ahead ++ bytesFrom labels first (before + sizesOf ahead) after
+unfolding bytesFrom sizesOf
+bytes-split [] after labels first before = ap (λ (x : ℕ). bytesFrom labels first x after) (sym (add-zero before))
+bytes-split (s ∷ ahead) after labels first before =
+    let count = before + statementSize (s .statement) in
+    let bytes = statementBytes labels ((first + before) % 65536) (s .statement) in
+    ap (λ (x : List ℕ). bytes ++ x) (bytes-split ahead after labels first count ∙ ap (λ (x : ℕ). bytesFrom labels first count ahead ++ bytesFrom labels first x after) (add-assoc before (statementSize (s .statement)) (sizesOf ahead)))
+    ∙ sym (append-assoc bytes (bytesFrom labels first count ahead) (bytesFrom labels first (before + (statementSize (s .statement) + sizesOf ahead)) after))

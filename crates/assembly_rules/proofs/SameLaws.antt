@@ -1,35 +1,48 @@
 -- What changes no byte: a sum of the same worth in another's place, blanks and comments behind a line, a line without tokens.
 -- Assumes nothing.
 use mathlib.Core.Path.{_≡_, refl, sym, ap, _∙_}
-use mathlib.Core.Bool.{Bool, true, false, _&&_, _||_}
+use mathlib.Core.Bool.{Bool, true, false}
 use mathlib.Core.List.{List, [], _∷_, _++_, append-nil}
 use mathlib.Core.Logic.{_⊎_, inl, inr}
-use Prim.Native.Nat.{ℕ, suc, _+_, _*_, _%_, _≤_}
+use Prim.Native.Nat.{ℕ, suc, _+_, _%_, _≤_}
+use native.Mathlib.Omega.{arith}
 use native.Mathlib.Nat.{add-zero}
 use lib.Dec.{eqb}
 use lib.ListN.{length}
-use borrow.Author.Tests.{eqb-false, ne-eqb}
-use Rattle.ground_rules.specs.Bytes.{lowByte}
 use Rattle.ground_rules.specs.Choice.{pick}
 use Rattle.listing_rules.specs.Entries.{Kind, Entry}
-use Rattle.assembly_rules.specs.declared.Worth.{Worth}
-use Rattle.assembly_rules.specs.Text.{Token, isRun, endsLine, isBlank, begun, allOf, inFrontOf, begunBy, tokensOf, linesIn}
-use Rattle.assembly_rules.specs.Sums.{Label, worth, sumWorth}
-use Rattle.assembly_rules.specs.Trees.{Sum, sumTokens, sumDepth, sumKnown}
+use Rattle.assembly_rules.specs.Text.{Token, begun, allOf, inFrontOf, begunBy, tokensOf, linesIn}
+use Rattle.assembly_rules.specs.Text.Token.{run}
+use Rattle.assembly_rules.specs.Numbers.{constantOf}
+use Rattle.assembly_rules.specs.declared.Constant.the-variants.{Value}
+use Rattle.assembly_rules.specs.Sums.{beginsDigit, Label, sumWorth}
+use Rattle.assembly_rules.specs.Trees.{Sum, sumTokens, sumDepth, sumAdded, sumTaken, sumKnown}
+use Rattle.assembly_rules.specs.Trees.Sum.{only}
+use Rattle.assembly_rules.specs.Trees.Term.{constant}
 use Rattle.assembly_rules.specs.Operands.{Written}
 use Rattle.assembly_rules.specs.Operands.Written.{register, memory, value}
-use Rattle.assembly_rules.specs.Statements.{headedBy, Statement, statementOf, statementSize, offsetsSize, isByte, mayStand, operandWorth, namesKnown, allStand, itemsKnown, itemsStand, statementNumber, listedAs, listedAll, writtenOffset, allOffsets, numberBytes, allNumbers, secondBytes, moveBytes, instructionBytes, itemsBytes, statementBytes}
-use Rattle.assembly_rules.specs.Statements.Statement.{blank, items, instruction, refused}
+use Rattle.assembly_rules.specs.Statements.{headedBy, Statement, statementOf, statementSize, offsetsSize, operandWorth, namesKnown, allStand, itemsKnown, itemsStand, statementNumber, listedAs, listedAll, writtenOffset, allOffsets, allNumbers, secondBytes, moveBytes, instructionBytes, itemsBytes, statementBytes}
+use Rattle.assembly_rules.specs.Statements.Statement.{items, instruction}
 use Rattle.assembly_rules.specs.Assembly.{Said, saidBy, saidIn, keptWith, labelsFrom, labelStands, lineNumber, Assembled, assembled, assembledFrom, assembleOf}
+use Rattle.assembly_rules.proofs.NumberLaws.{constant-small}
 use Rattle.assembly_rules.proofs.TextLaws.{blank-plain}
 use Rattle.assembly_rules.proofs.WritingLaws.{Writes}
 use Rattle.assembly_rules.proofs.WritingLaws.Writes.{nothing, comment, blank as blankFirst}
+use Rattle.assembly_rules.proofs.LabelLaws.{quiet}
+use Rattle.assembly_rules.proofs.FormLaws.{FormOf, Deep, form-is}
 use Rattle.assembly_rules.proofs.ValueLaws.{treeValue, tree-worth}
 use Rattle.assembly_rules.proofs.WholeLaws.{SameTokens, same-said}
 
--- trees of the same value, with all names known, are worth the same: a constant for a sum, or a sum for it
+-- trees of the same value, with all names known, are worth the same
 pub trees-same : (labels : List Label) (s t : Sum) → sumDepth s ≤ 8 → sumDepth t ≤ 8 → sumKnown labels s ≡ true → sumKnown labels t ≡ true → treeValue labels s ≡ treeValue labels t → sumWorth labels (sumTokens s) ≡ sumWorth labels (sumTokens t)
 trees-same labels s t k l g h e = tree-worth labels s k ∙ rw (g, e) (rw (← h) (sym (tree-worth labels t l)))
+
+-- so a constant that is a sum's value may stand for it, or the sum for the constant
+pub constant-same : (labels : List Label) (s : Sum) (r : List ℕ) (v : ℕ) → beginsDigit r ≡ true → constantOf r ≡ Value v → sumDepth s ≤ 8 → sumKnown labels s ≡ true → treeValue labels s ≡ v → sumWorth labels (sumTokens s) ≡ sumWorth labels (run r ∷ [])
+unfolding sumTokens sumDepth sumAdded sumTaken sumKnown
+constant-same labels s r v d e l k h =
+    let small = constant-small r v e in
+    trees-same labels s (only false (constant r v d e)) l (omega arith) k refl (h ∙ omega (arith, small))
 
 -- sums of the same worth under some labels, in the same places
 module _ (labels : List Label) where
@@ -111,6 +124,10 @@ module _ (labels : List Label) where
             (rw (z .0, known-same o, p .0), rw (z .0, move-same e o, p .1 .1, z .1, p .1 .0)),
       )
 
+  -- tokens of such forms say such statements
+  pub form-same : {a b : List Token} {s t : Statement} → FormOf a s → FormOf b t → (Deep s → ⊥) → (Deep t → ⊥) → SameStatement s t → SameStatement (statementOf a) (statementOf b)
+  form-same f g m n h = rw (form-is f m, form-is g n) h
+
   said-labels : {ss ts : List Said} → SameSaid ss ts → (kept : List Label) (first : ℕ) → labelsFrom kept first ss ≡ labelsFrom kept first ts
   unfolding labelsFrom
   said-labels noneSaid kept first = refl
@@ -158,9 +175,6 @@ behind-same cs ds w = ap allOf (longer cs)
     longer (c ∷ cs) = ap (inFrontOf c) (longer cs)
 
 -- a line without tokens says nothing, and has no number
-abbrev quiet : Said
-quiet = record { name = []; statement = Statement.blank }
-
 said-quiet : (line : List ℕ) (after : List (List ℕ)) → tokensOf line ≡ [] → saidIn (line ∷ after) ≡ quiet ∷ saidIn after
 unfolding saidIn saidBy headedBy statementOf
 said-quiet line after e = rw e
@@ -172,17 +186,12 @@ lineLater a = assembled (a .number) (pick (eqb (a .number) 0) 0 (suc (a .line)))
 line-later : (said : List Said) (labels kept : List Label) (first room line : ℕ) (done : List ℕ) → assembledFrom labels kept first room (suc line) done said ≡ lineLater (assembledFrom labels kept first room line done said)
 unfolding assembledFrom
 line-later [] labels kept first room line done = refl
-line-later (s ∷ more) labels kept first room line done = go (eqb n 0) refl _ _ (line-later more labels (keptWith kept address (s .name)) first room (suc line) (done ++ statementBytes labels address (s .statement)))
-  where
-    address : ℕ
-    address = (first + length done) % 65536
-
-    n : ℕ
-    n = lineNumber labels kept address (length done) room s
-
-    go : (b : Bool) → eqb n 0 ≡ b → (x y : Assembled) → x ≡ lineLater y → pick b x (assembled n (suc line) []) ≡ lineLater (pick b y (assembled n line []))
-    go true e x y later = later
-    go false e x y later = rw e
+line-later (s ∷ more) labels kept first room line done =
+    let address = (first + length done) % 65536 in
+    let n = lineNumber labels kept address (length done) room s in
+    let rest : ℕ → Assembled = λ line. assembledFrom labels (keptWith kept address (s .name)) first room line (done ++ statementBytes labels address (s .statement)) more in
+    let later = line-later more labels (keptWith kept address (s .name)) first room (suc line) (done ++ statementBytes labels address (s .statement)) in
+    (elim (eqb n 0) as (λ b. eqb n 0 ≡ b → pick b (rest (suc (suc line))) (assembled n (suc line) []) ≡ lineLater (pick b (rest (suc line)) (assembled n line []))) [ true ↦ λ e. later | false ↦ λ e. rw e ]) refl
 
 quiet-past : (labels kept : List Label) (first room line : ℕ) (done : List ℕ) (more : List Said) → assembledFrom labels kept first room line done (quiet ∷ more) ≡ assembledFrom labels kept first room (suc line) done more
 unfolding assembledFrom lineNumber statementNumber statementSize statementBytes labelStands keptWith
@@ -199,17 +208,13 @@ quiet-line : (ahead after : List Said) (labels kept : List Label) (first room li
     (b ≡ a) ⊎ (b ≡ lineLater a)
 unfolding assembledFrom
 quiet-line [] after labels kept first room line done = inr (quiet-past labels kept first room line done after ∙ line-later after labels kept first room line done)
-quiet-line (s ∷ ahead) after labels kept first room line done = go (eqb n 0) _ _ (quiet-line ahead after labels (keptWith kept address (s .name)) first room (suc line) (done ++ statementBytes labels address (s .statement)))
-  where
-    address : ℕ
-    address = (first + length done) % 65536
-
-    n : ℕ
-    n = lineNumber labels kept address (length done) room s
-
-    go : (b : Bool) (x y : Assembled) → (y ≡ x) ⊎ (y ≡ lineLater x) → (pick b y (assembled n line []) ≡ pick b x (assembled n line [])) ⊎ (pick b y (assembled n line []) ≡ lineLater (pick b x (assembled n line [])))
-    go true x y later = later
-    go false x y later = inl refl
+quiet-line (s ∷ ahead) after labels kept first room line done =
+    let address = (first + length done) % 65536 in
+    let n = lineNumber labels kept address (length done) room s in
+    let rest : List Said → Assembled = assembledFrom labels (keptWith kept address (s .name)) first room (suc line) (done ++ statementBytes labels address (s .statement)) in
+    let later = quiet-line ahead after labels (keptWith kept address (s .name)) first room (suc line) (done ++ statementBytes labels address (s .statement)) in
+    let one : Bool → List Said → Assembled = λ b said. pick b (rest said) (assembled n line []) in
+    elim (eqb n 0) as (λ b. (one b (ahead ++ (quiet ∷ after)) ≡ one b (ahead ++ after)) ⊎ (one b (ahead ++ (quiet ∷ after)) ≡ lineLater (one b (ahead ++ after)))) [ true ↦ later | false ↦ inl refl ]
 
 said-both : (k l : List (List ℕ)) → saidIn (k ++ l) ≡ saidIn k ++ saidIn l
 unfolding saidIn

@@ -8,7 +8,7 @@ use Prim.Native.Nat.{ℕ, suc, _+_, _-_, _≤_, _<_}
 use native.Mathlib.Omega.{arith}
 use native.Mathlib.Nat.{zero-add, add-zero}
 use lib.Dec.{eqb, leb}
-use lib.ListN.{length}
+use lib.ListN.{length, getD}
 use borrow.Author.Tests.{eqb-true, eq-eqb, ne-eqb, lt-ltb, leb-true, leb-false, le-leb}
 use Rattle.ground_rules.specs.Choice.{pick}
 use Rattle.assembly_rules.specs.declared.Constant.{Constant}
@@ -18,10 +18,11 @@ use Rattle.assembly_rules.specs.declared.Role.the-variants.{Term, Plus, 
 use Rattle.assembly_rules.specs.declared.Scan.{Scan}
 use Rattle.assembly_rules.specs.declared.Worth.{Worth}
 use Rattle.listing_rules.specs.Characters.{sameText}
+use Rattle.listing_rules.proofs.SpellingLaws.{each}
 use Rattle.assembly_rules.specs.Text.{Token, isDigit}
 use Rattle.assembly_rules.specs.Text.Token.{run, mark}
 use Rattle.assembly_rules.specs.Numbers.{constantOf}
-use Rattle.assembly_rules.specs.Sums.{Label, indexIn, registersNamed, registerNumber, beginsDigit, isRegister, isValue, isTerm, markRole, roleOf, greater, scan, scanStart, noSum, scanned, scanFrom, isWhole, isSum, depthOf, termOf, sumWithin, worth, mostOpen}
+use Rattle.assembly_rules.specs.Sums.{Label, indexIn, registersNamed, registerNumber, beginsDigit, isRegister, isValue, isTerm, markRole, roleOf, greater, scan, scanStart, noSum, scanned, scanFrom, isWhole, isSum, depthOf, termOf, sumWithin, mostOpen}
 use Rattle.assembly_rules.specs.Sums.Read.{read, deep}
 use Rattle.assembly_rules.specs.Trees as Trees
 use Rattle.assembly_rules.specs.Trees.{Sum, sumTokens, termTokens, sumDepth, termDepth, sumAdded, sumTaken, sumKnown}
@@ -405,27 +406,25 @@ unfolding sameText
 is-same [] = refl
 is-same (c ∷ a) = rw (eq-eqb c c refl, is-same a)
 
--- a register is no term: its name begins with no digit; whether a test fails for each of some names
-allFail : (List ℕ → Bool) → List (List ℕ) → Bool
+-- whether a test fails for each of a list
+unfoldable pub allFail : {A : Type 0} → (A → Bool) → List A → Bool
 allFail test [] = true
-allFail test (this ∷ names) = not (test this) && allFail test names
+allFail test (this ∷ rest) = not (test this) && allFail test rest
 
-index-fails : (test : List ℕ → Bool) (names : List (List ℕ)) (text : List ℕ) → allFail test names ≡ true → indexIn names text < length names → test text ≡ false
-unfolding allFail indexIn
-index-fails test [] text h l = absurd (omega arith)
-index-fails test (this ∷ names) text h l = go (sameText this text) refl l (not-both (test this) (allFail test names) h) (index-fails test names text)
+-- a text that stands in a list is the one at its place
+pub index-named : (names : List (List ℕ)) (text : List ℕ) → indexIn names text < length names → text ≡ getD names (indexIn names text) []
+unfolding indexIn
+index-named [] text h = absurd (omega arith)
+index-named (this ∷ names) text h = go (sameText this text) refl h (index-named names text)
   where
-    not-both : (a b : Bool) → not a && b ≡ true → (a ≡ false) × (b ≡ true)
-    not-both true b k = absurd (false≢true k)
-    not-both false b k = (refl, k)
+    go : (b : Bool) → sameText this text ≡ b → pick b 0 (suc (indexIn names text)) < length (this ∷ names) → (indexIn names text < length names → text ≡ getD names (indexIn names text) []) → text ≡ getD (this ∷ names) (pick b 0 (suc (indexIn names text))) []
+    go true e k later = sym (same-is this text e)
+    go false e k later = later (omega arith)
 
-    go : (t : Bool) → sameText this text ≡ t → pick t 0 (suc (indexIn names text)) < length (this ∷ names) → (test this ≡ false) × (allFail test names ≡ true) → (allFail test names ≡ true → indexIn names text < length names → test text ≡ false) → test text ≡ false
-    go true e k p later = ap test (sym (same-is this text e)) ∙ p .0
-    go false e k p later = later (p .1) (omega arith)
-
+-- a register is no term: its name begins with no digit
 no-digit : (r : List ℕ) → registerNumber r < 9 → beginsDigit r ≡ false
-unfolding registerNumber allFail isDigit
-no-digit r h = index-fails beginsDigit registersNamed r refl h
+unfolding registerNumber isDigit
+no-digit r h = ap beginsDigit (index-named registersNamed r h) ∙ each 9 (λ n. beginsDigit (getD registersNamed n []) ≡ false) ((((((((((tt, refl), refl), refl), refl), refl), refl), refl), refl), refl)) (registerNumber r) h
 
 no-term : (r : List ℕ) → registerNumber r < 9 → isTerm r ≡ false
 unfolding isTerm

@@ -45,7 +45,7 @@ offsets-size labels (memory mm aa ts ∷ ws) = go (eqb aa 1) (offsets-size label
     go true l = omega arith
     go false l = omega arith
 
-number-size : (k : Kind) (end n : ℕ) → length (numberBytes k end n) ≡ kindSize k
+pub number-size : (k : Kind) (end n : ℕ) → length (numberBytes k end n) ≡ kindSize k
 number-size 'R end n = refl
 number-size 'G end n = refl
 number-size 'P end n = refl
@@ -75,26 +75,30 @@ isMove (k ∷ l ∷ m ∷ ks) = false
 pub plainEntry : Entry → Bool
 plainEntry e = not (ltb 1 (memoriesIn (e .kinds))) || isMove (e .kinds)
 
-pub allPlain : List Entry → Bool
-allPlain [] = true
-allPlain (e ∷ es) = plainEntry e && allPlain es
+-- entries that all pass a test: so does the one of a word with its operands
+unfoldable pub passEach : (Entry → Bool) → List Entry → Bool
+passEach test [] = true
+passEach test (e ∷ es) = test e && passEach test es
 
-pub entries-plain : allPlain entries ≡ true
-unfolding allPlain plainEntry isMove entries memoriesIn
-entries-plain = refl
-
-pub entry-plain : (es : List Entry) (word : List ℕ) (ws : List Written) (e : Entry) → allPlain es ≡ true → entryIn es word ws ≡ taken e → (plainEntry e ≡ true) × (takesAll (e .kinds) ws ≡ true)
-unfolding allPlain entryIn
-entry-plain [] word ws e h k = no-entry k
+pub entry-tested : (test : Entry → Bool) (es : List Entry) (word : List ℕ) (ws : List Written) (e : Entry) → passEach test es ≡ true → entryIn es word ws ≡ taken e → (test e ≡ true) × (takesAll (e .kinds) ws ≡ true)
+unfolding passEach entryIn
+entry-tested test [] word ws e h k = no-entry k
   where
     no-entry : {A : Type 0} → untaken ≡ taken e → A
     no-entry z = let q : _≡_ {A = ℕ} 0 1 = cc in absurd (eqb-false 0 1 refl q)
-entry-plain (f ∷ es) word ws e h k = go (sameText (f .word) word) (takesAll (f .kinds) ws) refl k (entry-plain es word ws e (both-right (plainEntry f) (allPlain es) h))
+entry-tested test (f ∷ es) word ws e h k = go (sameText (f .word) word) (takesAll (f .kinds) ws) refl k (entry-tested test es word ws e (both-right (test f) (passEach test es) h))
   where
-    go : (a b : Bool) → takesAll (f .kinds) ws ≡ b → pick (a && b) (taken f) (entryIn es word ws) ≡ taken e → (entryIn es word ws ≡ taken e → (plainEntry e ≡ true) × (takesAll (e .kinds) ws ≡ true)) → (plainEntry e ≡ true) × (takesAll (e .kinds) ws ≡ true)
-    go true true p q later = let z : f ≡ e = cc in (ap plainEntry (sym z) ∙ both-left (plainEntry f) (allPlain es) h, ap (λ (x : Entry). takesAll (x .kinds) ws) (sym z) ∙ p)
+    go : (a b : Bool) → takesAll (f .kinds) ws ≡ b → pick (a && b) (taken f) (entryIn es word ws) ≡ taken e → (entryIn es word ws ≡ taken e → (test e ≡ true) × (takesAll (e .kinds) ws ≡ true)) → (test e ≡ true) × (takesAll (e .kinds) ws ≡ true)
+    go true true p q later = let z : f ≡ e = cc in (ap test (sym z) ∙ both-left (test f) (passEach test es) h, ap (λ (x : Entry). takesAll (x .kinds) ws) (sym z) ∙ p)
     go true false p q later = later q
     go false b p q later = later q
+
+pub entries-plain : passEach plainEntry entries ≡ true
+unfolding passEach plainEntry isMove entries memoriesIn
+entries-plain = refl
+
+pub entry-plain : (es : List Entry) (word : List ℕ) (ws : List Written) (e : Entry) → passEach plainEntry es ≡ true → entryIn es word ws ≡ taken e → (plainEntry e ≡ true) × (takesAll (e .kinds) ws ≡ true)
+entry-plain = entry-tested plainEntry
 
 pair-size : (labels : List Label) (w : ℕ) (k : Kind) (to : Written) → isMemoryKind k ≡ true → takes k to ≡ true → length (secondBytes w to) ≡ 2
 unfolding takes

@@ -1,27 +1,24 @@
 -- What a tree is worth under some labels, which of its names are unknown, and which values stand in which place.
 -- Assumes nothing.
 use mathlib.Core.Path.{_≡_, refl, sym, ap, _∙_}
-use mathlib.Core.Bool.{Bool, true, false, _&&_, _||_, false≢true}
+use mathlib.Core.Bool.{Bool, true, false, _&&_}
 use mathlib.Core.List.{List, [], _∷_, _++_, append-nil}
 use mathlib.Core.Logic.{_⊎_, inl, inr, _↔_}
 use Prim.Native.Nat.{ℕ, _+_, _-_, _%_, _≤_, _<_}
 use native.Mathlib.Omega.{arith}
 use native.Mathlib.Nat.{mod-lt}
 use lib.Dec.{eqb, ltb, leb, lit<}
-use lib.ListN.{length}
 use borrow.Author.Tests.{ltb-true, leb-true, eqb-true, lt-ltb, le-leb, eq-eqb}
 use Rattle.listing_rules.specs.Entries.{Kind}
 use Rattle.listing_rules.specs.Entries.Kind.{'R, 'G, 'P, 'M, 'byte, 'word, 'bit, 'width, 'short, 'long}
-use Rattle.assembly_rules.specs.declared.Worth.{Worth}
-use Rattle.assembly_rules.specs.Text.{Token}
-use Rattle.assembly_rules.specs.Sums.{Label, labelWorth, worth, Read, worthIn, termOf, sumWithin, mostOpen, sumWorth}
+use Rattle.assembly_rules.specs.Sums.{Label, labelWorth, worth, worthIn, termOf, sumWithin, mostOpen, sumWorth}
 use Rattle.assembly_rules.specs.Trees.{Sum, Term, sumTokens, sumDepth, sumAdded, sumTaken, sumKnown, termKnown}
 use Rattle.assembly_rules.specs.Trees.Sum.{only, more}
 use Rattle.assembly_rules.specs.Trees.Term.{constant, name, inside}
 use Rattle.assembly_rules.specs.Statements.{isByte, reachTo, isNear, mayStand}
 use Rattle.assembly_rules.proofs.SumLaws.{rest-stop}
 use Rattle.assembly_rules.proofs.TreeLaws.{sum-read}
-use Rattle.assembly_rules.proofs.FormLaws.{every}
+use Rattle.assembly_rules.proofs.TestLaws.{either-true, every, every-both}
 
 -- what is added less what is taken away, mod 65,536
 abbrev pub treeValue : List Label → Sum → ℕ
@@ -48,14 +45,6 @@ unfoldable mutual
   termNames (name r d e) = r ∷ []
   termNames (inside s) = sumNames s
 
-every-both : {A : Type 0} (test : A → Bool) (k l : List A) → every test (k ++ l) ≡ every test k && every test l
-every-both test [] l = refl
-every-both test (a ∷ k) l = go (test a) (every-both test k l)
-  where
-    go : (b : Bool) → every test (k ++ l) ≡ every test k && every test l → b && every test (k ++ l) ≡ (b && every test k) && every test l
-    go true e = e
-    go false e = refl
-
 mutual
   unfolding sumKnown sumNames
 
@@ -76,21 +65,17 @@ mutual
 abbrev pub AsByte : ℕ → Type 0
 AsByte v = (v < 256) ⊎ (0xFF80 ≤ v)
 
-abbrev pub Fits : Kind → ℕ → ℕ → Type 0
-Fits 'R end v = Unit {0}
-Fits 'G end v = Unit {0}
-Fits 'P end v = Unit {0}
-Fits 'M end v = AsByte v
-Fits 'byte end v = AsByte v
-Fits 'word end v = Unit {0}
-Fits 'bit end v = v < 8
-Fits 'width end v = (v ≡ 8) ⊎ (v ≡ 16)
-Fits 'short end v = (d : ℕ) × (((end + d) % 65536 ≡ v) × ((d < 0x80) ⊎ ((0xFF80 ≤ d) × (d < 65536))))
-Fits 'long end v = Unit {0}
-
-pub either-true : (a b : Bool) → (a || b ≡ true) ↔ ((a ≡ true) ⊎ (b ≡ true))
-either-true true b = (λ h. inl refl, λ x. refl)
-either-true false b = (λ h. inr h, λ x. elim x [ inl h ↦ absurd (false≢true h) | inr h ↦ h ])
+abbrev pub FitsPlace : Kind → ℕ → ℕ → Type 0
+FitsPlace 'R end v = Unit {0}
+FitsPlace 'G end v = Unit {0}
+FitsPlace 'P end v = Unit {0}
+FitsPlace 'M end v = AsByte v
+FitsPlace 'byte end v = AsByte v
+FitsPlace 'word end v = Unit {0}
+FitsPlace 'bit end v = v < 8
+FitsPlace 'width end v = (v ≡ 8) ⊎ (v ≡ 16)
+FitsPlace 'short end v = (d : ℕ) × (((end + d) % 65536 ≡ v) × ((d < 0x80) ⊎ ((0xFF80 ≤ d) × (d < 65536))))
+FitsPlace 'long end v = Unit {0}
 
 pub byte-exactly : (v : ℕ) → (isByte v ≡ true) ↔ AsByte v
 unfolding isByte
@@ -99,7 +84,7 @@ byte-exactly v = (
   λ x. either-true (ltb v 256) (leb 0xFF80 v) .1 (elim x [ inl l ↦ inl (lt-ltb v 256 l) | inr l ↦ inr (le-leb 0xFF80 v l) ]),
 )
 
-near-exactly : (end v : ℕ) → v < 65536 → (isNear (reachTo end v) ≡ true) ↔ Fits 'short end v
+near-exactly : (end v : ℕ) → v < 65536 → (isNear (reachTo end v) ≡ true) ↔ FitsPlace 'short end v
 unfolding reachTo
 near-exactly end v l = (
   λ h. (reach, (there, elim (either-true (ltb reach 0x80) (leb 0xFF80 reach) .0 h) [ inl n ↦ inl (ltb-true reach 0x80 n) | inr n ↦ inr (leb-true 0xFF80 reach n, mod-lt (v + 65536 - end % 65536) (lit< tt)) ])),
@@ -118,7 +103,7 @@ near-exactly end v l = (
     back : (d : ℕ) → (end + d) % 65536 ≡ v → d < 65536 → reach ≡ d
     back d e k = omega arith
 
-pub fits-exactly : (k : Kind) (end v : ℕ) → v < 65536 → (mayStand k end v ≡ true) ↔ Fits k end v
+pub fits-exactly : (k : Kind) (end v : ℕ) → v < 65536 → (mayStand k end v ≡ true) ↔ FitsPlace k end v
 unfolding mayStand
 fits-exactly 'R end v l = (λ h. tt, λ x. refl)
 fits-exactly 'G end v l = (λ h. tt, λ x. refl)

@@ -1,23 +1,23 @@
 -- A whole text: what is said depends on the tokens alone; labels are few and no two alike; a refusal stores nothing and names the first line that has a number.
 -- Assumes nothing.
 use mathlib.Core.Path.{_≡_, refl, ap, _∙_}
-use mathlib.Core.Bool.{Bool, true, false, not, _&&_, false≢true}
+use mathlib.Core.Bool.{Bool, true, false, false≢true}
 use mathlib.Core.List.{List, [], _∷_, _++_}
 use mathlib.Core.Logic.{_⊎_, inl, inr}
-use Prim.Native.Nat.{ℕ, suc, _+_, _%_, _≤_, _<_}
+use Prim.Native.Nat.{ℕ, suc, _+_, _%_, _≤_}
 use native.Mathlib.Omega.{arith}
-use lib.Dec.{eqb, leb}
+use lib.Dec.{eqb}
 use lib.ListN.{length, length-append}
-use borrow.Author.Tests.{eqb-false, ltb-true}
+use borrow.Author.Tests.{eqb-false}
 use Rattle.ground_rules.specs.Choice.{pick}
 use Rattle.listing_rules.specs.Characters.{sameText}
 use Rattle.assembly_rules.specs.declared.Worth.{Worth}
 use Rattle.assembly_rules.specs.Text.{tokensOf}
 use Rattle.assembly_rules.specs.Sums.{Label, label, labelWorth, worth}
 use Rattle.assembly_rules.specs.Statements.{statementSize, statementBytes}
-use Rattle.assembly_rules.specs.Statements.Statement.{refused}
-use Rattle.assembly_rules.specs.Assembly.{Said, saidBy, saidIn, isReserved, mayKeep, keptWith, labelsFrom, lineNumber, Assembled, assembled, assembledFrom}
-use Rattle.assembly_rules.proofs.WritingLaws.{both-right}
+use Rattle.assembly_rules.specs.Assembly.{Said, saidBy, saidIn, mayKeep, keptWith, labelsFrom, lineNumber, Assembled, assembled, assembledFrom}
+use Rattle.assembly_rules.proofs.TestLaws.{fails, not-both}
+use Rattle.assembly_rules.proofs.LabelLaws.{may-parts}
 
 -- lines with the same tokens, one by one
 pub data SameTokens : List (List ℕ) → List (List ℕ) → Type 0 where
@@ -36,24 +36,11 @@ same-said (oneMore {a = a} {b = b} {xs = xs} {ys = ys} e later) = ap (λ (s : Sa
 
 -- no two labels have one name
 pub kept-once : (kept : List Label) (name : List ℕ) → labelWorth kept name .known ≡ true → mayKeep kept name ≡ false
-unfolding mayKeep
-kept-once kept name h = rw h (go (leb (length name) 12))
-  where
-    go : (b : Bool) → b && false ≡ false
-    go true = refl
-    go false = refl
-
-may-few : (kept : List Label) (name : List ℕ) → mayKeep kept name ≡ true → length kept < 64
-unfolding mayKeep
-may-few kept name h = ltb-true (length kept) 64 (both-right (not (isReserved name)) _ (both-right (not (labelWorth kept name .known)) _ (both-right (leb (length name) 12) _ h)))
+kept-once kept name h = fails (mayKeep kept name) (λ m. not-both h (may-parts kept name m .1 .0))
 
 -- the 65th label is not kept
 pub no-more : (kept : List Label) (name : List ℕ) → length kept ≡ 64 → mayKeep kept name ≡ false
-no-more kept name e = go (mayKeep kept name) refl
-  where
-    go : (b : Bool) → mayKeep kept name ≡ b → b ≡ false
-    go true h = let l = may-few kept name h in absurd (omega arith)
-    go false h = refl
+no-more kept name e = fails (mayKeep kept name) (λ m. absurd (omega (arith, may-parts kept name m .1 .1 .1)))
 
 kept-few : (kept : List Label) (address : ℕ) (name : List ℕ) → length kept ≤ 64 → length (keptWith kept address name) ≤ 64
 unfolding keptWith
@@ -61,7 +48,7 @@ kept-few kept address [] h = h
 kept-few kept address (c ∷ cs) h = go (mayKeep kept (c ∷ cs)) refl
   where
     go : (b : Bool) → mayKeep kept (c ∷ cs) ≡ b → length (pick b (kept ++ (label (c ∷ cs) address ∷ [])) kept) ≤ 64
-    go true e = omega (arith, may-few kept (c ∷ cs) e, length-append kept (label (c ∷ cs) address ∷ []))
+    go true e = omega (arith, may-parts kept (c ∷ cs) e .1 .1 .1, length-append kept (label (c ∷ cs) address ∷ []))
     go false e = h
 
 -- at most 64 labels are kept of any text

@@ -13,7 +13,7 @@ unfoldable pub beginsRun : List ℕ → Bool
 beginsRun [] = false
 beginsRun (c ∷ cs) = isRun c
 
-pub allRun : List ℕ → Bool
+unfoldable pub allRun : List ℕ → Bool
 allRun [] = true
 allRun (c ∷ cs) = isRun c && allRun cs
 
@@ -41,7 +41,7 @@ tokens-empty : tokensOf [] ≡ []
 unfolding tokensOf begunBy
 tokens-empty = refl
 
-pub none-begins : (cs : List ℕ) → beginsRun cs ≡ false → leadingRun cs ≡ []
+none-begins : (cs : List ℕ) → beginsRun cs ≡ false → leadingRun cs ≡ []
 unfolding beginsRun
 none-begins [] h = run-empty
 none-begins (c ∷ cs) h = run-none c cs h

@@ -233,7 +233,7 @@ chained bytes (JumpMasked a b c) to q h = let z : nowhere ≡ to = cc in let e :
 chained bytes (JumpBit a b c d) to q h = let z : nowhere ≡ to = cc in let e : lengthOf (JumpBit a b c d) + offsetLength to ≡ ((2 + offsetBy (c .aa)) + (1 + moreBy d)) = omega (arith, ap (λ (o : Memory). offsetBy (o .aa)) z) in ((2 + offsetBy (c .aa)), (refl, refl), ((2 + offsetBy (c .aa)), refl, (((2 + offsetBy (c .aa)) + (1 + moreBy d)), (refl, refl), e)))
 chained bytes (Bit a b c) to q h = let z : nowhere ≡ to = cc in let e : lengthOf (Bit a b c) + offsetLength to ≡ (2 + offsetBy (c .aa)) = omega (arith, ap (λ (o : Memory). offsetBy (o .aa)) z) in ((2 + offsetBy (c .aa)), (refl, refl), ((2 + offsetBy (c .aa)), refl, ((2 + offsetBy (c .aa)), refl, e)))
 
-pub two-and-four : (x : ℕ) → x % 8 ≡ x / 2 % 4 * 2 + x / 1 % 2
+two-and-four : (x : ℕ) → x % 8 ≡ x / 2 % 4 * 2 + x / 1 % 2
 two-and-four x = let e : x / 1 ≡ x = omega arith in rw e (omega arith)
 
 low-bits : (x y : ℕ) → x / 1 % 2 ≡ y / 1 % 2 → x / 2 % 4 ≡ y / 2 % 4 → x % 8 ≡ y % 8

@@ -1,8 +1,6 @@
-pub mod Apart
-pub mod Constants
-pub mod Sketches
+pub mod Texts
 pub mod Rows
 pub mod Places
-pub mod Parts
 pub mod Instructions
 pub mod RoundTrip
+pub mod Calls

@@ -1,133 +1,71 @@
 -- One place of a line: the assembler reads its operand, and makes of it the bytes that were listed there.
 -- Assumes nothing.
-use mathlib.Core.Path.{_≡_, refl, sym, ap, subst, _∙_}
-use mathlib.Core.Bool.{Bool, true, false, not, _&&_, _||_, false≢true}
-use mathlib.Core.List.{List, [], _∷_, _++_}
-use mathlib.Core.Logic.{_⊎_, inl, inr}
-use Prim.Native.Nat.{ℕ, _+_, _*_, _-_, _/_, _%_, _<_}
+use mathlib.Core.{Path._≡_, Path.refl, Path.sym, Path.ap, Path.subst, Path._∙_, Bool.Bool, Bool.true, Bool.false, Bool._&&_, Bool._||_, Bool.false≢true, List.List, List.[], List._∷_, List._++_}
+use Prim.Native.Nat.{ℕ, _+_, _*_, _/_, _%_, _<_}
 use native.Mathlib.Nat.{add-comm, mul-add-mod-self-right, mod-eq-of-lt}
 use native.Mathlib.Omega.{arith}
-use lib.Dec.{eqb, ltb, leb}
-use lib.ListN.{getD}
-use borrow.Author.Tests.{eqb-true, ltb-true, ltb-false, lt-ltb, le-leb}
-use Rattle.ground_rules.specs.Bytes.{lowByte}
-use Rattle.ground_rules.specs.Choice.{pick}
-use Rattle.ground_rules.specs.Signs.{extended}
+use lib.{Dec.eqb, Dec.ltb, Dec.leb, ListN.getD}
+use borrow.Author.Tests.{eqb-true, lt-ltb}
+use Rattle.ground_rules.specs.{Bytes.lowByte, Choice.pick, Signs.extended}
 use Rattle.instruction_rules.specs.declared.Memory.{Memory}
-use Rattle.listing_rules.specs.declared.Slot.{Slot}
-use Rattle.listing_rules.specs.declared.Slot.the-variants.{Empty, Name, Place, Number, Target, Digit}
-use Rattle.listing_rules.specs.Characters.{sameText, numberText, digitText}
-use Rattle.listing_rules.specs.Forms.{Operand, dataFrom, reachFrom, targetOf, wordBytes, filled, registerName, baseName, modeText, spelled}
-use Rattle.listing_rules.specs.Forms.Operand.{none, register, memory, number, digit}
-use Rattle.listing_rules.specs.Entries.{Kind}
-use Rattle.listing_rules.specs.Entries.Kind.{'R, 'G, 'P, 'M, 'byte, 'word, 'bit, 'width, 'short, 'long}
-use Rattle.listing_rules.proofs.SpellingLaws.{each, Fair, Bytes}
-use Rattle.listing_rules.proofs.BackLaws.{slotBytes}
-use Rattle.assembly_rules.specs.Text.{capitalOf, isDigit, isCapital, isRun, isBlank, endsLine, Token, isComma, inFrontOf, begunBy, tokensOf}
-use Rattle.assembly_rules.specs.Text.Token.{run, mark}
-use Rattle.assembly_rules.specs.Sums.{Label, indexIn, registerNumber, scanFrom, isSum, depthOf, worth, sumWorth}
-use Rattle.assembly_rules.specs.Operands.{Written, closedMemory, endedMemory, indexedMemory, memoryBehind, memoryFrom, operandFrom, takesRegister, takes, isShallow}
-use Rattle.assembly_rules.specs.Statements.{isByte, reachTo, isNear, mayStand, operandWorth, isDigitKind, listedAs, writtenOffset, numberBytes, secondBytes}
-use Rattle.assembly_rules.proofs.WritingLaws.{both-left, both-right}
-use Rattle.promises_assembly.proofs.Apart.{noneOf}
-use Rattle.promises_assembly.proofs.Constants.{Constantly, byte-constant, word-constant, bit-constant, width-constant}
-use Rattle.promises_assembly.proofs.Sketches.{blunt, draw}
-use Rattle.promises_assembly.proofs.Rows.{sameKind, same-kind, agrees, isPlace}
+use Rattle.listing_rules.specs.{declared.Slot.Slot, declared.Slot.the-variants.Empty, declared.Slot.the-variants.Name, declared.Slot.the-variants.Place, declared.Slot.the-variants.Number, declared.Slot.the-variants.Target, declared.Slot.the-variants.Digit, Characters.sameText, Characters.numberText, Forms.Operand, Forms.targetOf, Forms.wordBytes, Forms.filled, Forms.registerName, Forms.baseName, Forms.modeText, Forms.spelled, Forms.following}
+use Rattle.listing_rules.specs.{Forms.Operand.register, Forms.Operand.memory, Forms.Operand.number, Forms.Operand.digit, Entries.Kind, Entries.Kind.'R, Entries.Kind.'G, Entries.Kind.'P, Entries.Kind.'M, Entries.Kind.'byte, Entries.Kind.'word, Entries.Kind.'bit, Entries.Kind.'width, Entries.Kind.'short, Entries.Kind.'long}
+use Rattle.listing_rules.proofs.{SpellingLaws.each, SpellingLaws.present, SpellingLaws.Fair, SpellingLaws.Bytes, BackLaws.slotBytes}
+use Rattle.assembly_rules.specs.{Text.capitalOf, Text.isDigit, Text.isCapital, Text.isRun, Text.isBlank, Text.endsLine, Text.Token, Text.Token.run, Text.isComma, Text.inFrontOf, Text.begunBy, Text.tokensOf, Sums.Label, Sums.indexIn, Sums.registerNumber, Sums.scanFrom, Sums.depthOf, Sums.worth, Sums.sumWorth, Operands.Written, Operands.closedMemory, Operands.endedMemory, Operands.indexedMemory, Operands.memoryBehind, Operands.memoryFrom, Operands.operandFrom}
+use Rattle.assembly_rules.specs.{Operands.isMemoryKind, Operands.takesRegister, Operands.takes, Operands.isShallow, Statements.isByte, Statements.reachTo, Statements.isNear, Statements.mayStand, Statements.operandWorth, Statements.isDigitKind, Statements.listedAs, Statements.writtenOffset, Statements.numberBytes}
+use Rattle.assembly_rules.proofs.{ScanLaws.allFail, WritingLaws.both-left, WritingLaws.both-right}
+use Rattle.promises_codes.proofs.CodeNumbers.{allBelow, of-all}
+use Rattle.promises_assembly.proofs.{Texts.Constantly, Texts.byte-constant, Texts.word-constant, Texts.digit-constant, Texts.opens, Texts.Voiced, Rows.draw, Rows.Alike, Rows.Alike.registers, Rows.Alike.memories, Rows.Alike.numbers, Rows.Alike.digits, Rows.sameKind, Rows.same-kind, Rows.agrees}
 
--- whether there is an operand, and whether tokens begin as one: they do not make a label of the word before them
-unfoldable pub isSome : Operand → Bool
-isSome none = false
-isSome (register r) = true
-isSome (memory m a o) = true
-isSome (number b) = true
-isSome (digit n) = true
-
-unfoldable pub opens : List Token → Bool
-opens [] = false
-opens (run r ∷ ts) = true
-opens (mark c ∷ ts) = not (eqb c 58)
-
--- an operand whose tokens stay together: its text ends no line, its tokens have no comma
-pub record Voiced (o : Operand) : Type 0 where
-  pub some : isSome o ≡ true
-  pub free : noneOf endsLine (spelled o) ≡ true
-  pub uncut : noneOf isComma (tokensOf (spelled o)) ≡ true
-  pub begins : opens (tokensOf (spelled o)) ≡ true
-
--- and stand for what is written
+-- an operand that is heard as it is meant: its tokens stay together and stand for what is written
 pub record Heard (o : Operand) (w : Written) : Type 0 where
   pub voice : Voiced o
   pub operand : operandFrom (tokensOf (spelled o)) ≡ w
 
-hear : {o : Operand} {w : Written} → isSome o ≡ true → noneOf endsLine (spelled o) ≡ true → noneOf isComma (tokensOf (spelled o)) ≡ true → opens (tokensOf (spelled o)) ≡ true → operandFrom (tokensOf (spelled o)) ≡ w → Heard o w
-hear a b c d e = record { voice = record { some = a; free = b; uncut = c; begins = d }; operand = e }
+hear : {o : Operand} {w : Written} → ((os : List Operand) → present (o ∷ os) ≡ o ∷ present os) → ((m : ℕ) → following m o ≡ m ∷ spelled o) → allFail endsLine (spelled o) ≡ true → allFail isComma (tokensOf (spelled o)) ≡ true → opens (tokensOf (spelled o)) ≡ true → operandFrom (tokensOf (spelled o)) ≡ w → Heard o w
+hear a b c d e f = record { voice = record { there = a; behind = b; free = c; uncut = d; begins = e }; operand = f }
 
 heard-register : (r : ℕ) → r < 8 → Heard (register r) (Written.register r)
-unfolding isSome noneOf spelled registerName tokensOf begunBy inFrontOf isRun isDigit isCapital capitalOf isBlank endsLine opens operandFrom registerNumber indexIn sameText
+unfolding present following allFail spelled registerName tokensOf begunBy inFrontOf isRun isDigit isCapital capitalOf isBlank endsLine opens operandFrom registerNumber indexIn sameText
 heard-register r h =
     each 8 (λ (k : ℕ). Heard (register k) (Written.register k))
-    ((((((((tt, hear refl refl refl refl refl), hear refl refl refl refl refl), hear refl refl refl refl refl), hear refl refl refl refl refl), hear refl refl refl refl refl), hear refl refl refl refl refl), hear refl refl refl refl refl), hear refl refl refl refl refl)
+    ((((((((tt, hear (λ os. refl) (λ m. refl) refl refl refl refl), hear (λ os. refl) (λ m. refl) refl refl refl refl), hear (λ os. refl) (λ m. refl) refl refl refl refl), hear (λ os. refl) (λ m. refl) refl refl refl refl), hear (λ os. refl) (λ m. refl) refl refl refl refl), hear (λ os. refl) (λ m. refl) refl refl refl refl), hear (λ os. refl) (λ m. refl) refl refl refl refl), hear (λ os. refl) (λ m. refl) refl refl refl refl)
     r h
 
-heard-bare : (mm aa : ℕ) → Heard (memory 0 aa []) (Written.memory 0 aa []) → Heard (memory 1 aa []) (Written.memory 1 aa []) → Heard (memory 2 aa []) (Written.memory 2 aa []) → Heard (memory 3 aa []) (Written.memory 3 aa []) → mm < 4 → Heard (memory mm aa []) (Written.memory mm aa [])
-heard-bare mm aa a b c d h = each 4 (λ (k : ℕ). Heard (memory k aa []) (Written.memory k aa [])) ((((tt, a), b), c), d) mm h
+-- the tokens of an offset byte, if there is one
+abbrev pub offsetTokens : ℕ → ℕ → List Token
+offsetTokens aa b = pick (eqb aa 1) (run (numberText (b ∷ [])) ∷ []) []
 
-heard-offset : (mm b : ℕ) → mm < 4 → b < 256 → Heard (memory mm 1 (b ∷ [])) (Written.memory mm 1 (run (numberText (b ∷ [])) ∷ []))
-unfolding isSome noneOf spelled baseName modeText tokensOf begunBy inFrontOf isRun isDigit isCapital capitalOf isBlank endsLine opens operandFrom memoryFrom memoryBehind closedMemory registerNumber indexIn sameText
-heard-offset mm b h l =
+heard-memory : (mm aa b : ℕ) → mm < 4 → aa < 4 → b < 256 → Heard (memory mm aa (pick (eqb aa 1) (b ∷ []) [])) (Written.memory mm aa (offsetTokens aa b))
+unfolding present following allFail spelled baseName modeText tokensOf begunBy inFrontOf isRun isDigit isCapital capitalOf isBlank endsLine opens operandFrom memoryFrom memoryBehind closedMemory indexedMemory endedMemory registerNumber indexIn sameText
+heard-memory mm aa b h k l =
     let c = byte-constant b l in
     let f = c .free in
     let t = c .tokens in
     let s = c .sum in
-    each 4 (λ (k : ℕ). Heard (memory k 1 (b ∷ [])) (Written.memory k 1 (run (numberText (b ∷ [])) ∷ [])))
-    ((((tt, hear refl f (rw t) refl (rw (t, s))), hear refl f (rw t) refl (rw (t, s))), hear refl f (rw t) refl (rw (t, s))), hear refl f (rw t) refl (rw (t, s)))
-    mm h
-
--- the tokens of an offset byte, if there is one
-abbrev offsetTokens : ℕ → ℕ → List Token
-offsetTokens aa b = pick (eqb aa 1) (run (numberText (b ∷ [])) ∷ []) []
-
-heard-memory : (mm aa b : ℕ) → mm < 4 → aa < 4 → b < 256 → Heard (memory mm aa (pick (eqb aa 1) (b ∷ []) [])) (Written.memory mm aa (offsetTokens aa b))
-unfolding isSome noneOf spelled baseName modeText tokensOf begunBy inFrontOf isRun isDigit isCapital capitalOf isBlank endsLine opens operandFrom memoryFrom memoryBehind closedMemory indexedMemory endedMemory registerNumber indexIn sameText
-heard-memory mm aa b h k l =
-    each 4 (λ (j : ℕ). Heard (memory mm j (pick (eqb j 1) (b ∷ []) [])) (Written.memory mm j (offsetTokens j b))) (
+    each 4 (λ (i : ℕ). (j : ℕ) → j < 4 → Heard (memory i j (pick (eqb j 1) (b ∷ []) [])) (Written.memory i j (offsetTokens j b))) (
       (
         (
-          (tt, heard-bare mm 0 (hear refl refl refl refl refl) (hear refl refl refl refl refl) (hear refl refl refl refl refl) (hear refl refl refl refl refl) h),
-          heard-offset mm b h l,
+          (tt, each 4 _ ((((tt, hear (λ os. refl) (λ m. refl) refl refl refl refl), hear (λ os. refl) (λ m. refl) f (rw t) refl (rw (t, s))), hear (λ os. refl) (λ m. refl) refl refl refl refl), hear (λ os. refl) (λ m. refl) refl refl refl refl)),
+          each 4 _ ((((tt, hear (λ os. refl) (λ m. refl) refl refl refl refl), hear (λ os. refl) (λ m. refl) f (rw t) refl (rw (t, s))), hear (λ os. refl) (λ m. refl) refl refl refl refl), hear (λ os. refl) (λ m. refl) refl refl refl refl),
         ),
-        heard-bare mm 2 (hear refl refl refl refl refl) (hear refl refl refl refl refl) (hear refl refl refl refl refl) (hear refl refl refl refl refl) h,
+        each 4 _ ((((tt, hear (λ os. refl) (λ m. refl) refl refl refl refl), hear (λ os. refl) (λ m. refl) f (rw t) refl (rw (t, s))), hear (λ os. refl) (λ m. refl) refl refl refl refl), hear (λ os. refl) (λ m. refl) refl refl refl refl),
       ),
-      heard-bare mm 3 (hear refl refl refl refl refl) (hear refl refl refl refl refl) (hear refl refl refl refl refl) (hear refl refl refl refl refl) h,
+      each 4 _ ((((tt, hear (λ os. refl) (λ m. refl) refl refl refl refl), hear (λ os. refl) (λ m. refl) f (rw t) refl (rw (t, s))), hear (λ os. refl) (λ m. refl) refl refl refl refl), hear (λ os. refl) (λ m. refl) refl refl refl refl),
     )
-    aa k
-
--- the offset byte of a place, and its other bytes
-abbrev pub offsetAt : List ℕ → Slot → List ℕ
-offsetAt bytes a = pick (isPlace a) (slotBytes bytes a) []
-
-abbrev pub numberAt : List ℕ → Slot → List ℕ
-numberAt bytes a = pick (isPlace a) [] (slotBytes bytes a)
+    mm h aa k
 
 -- how far a target is from any address that is the end of the instruction mod 65,536
 reach-back : (E end x : ℕ) → E % 65536 ≡ end % 65536 → reachTo E ((end + x) % 65536) ≡ x % 65536
 unfolding reachTo
 reach-back E end x h = omega arith
 
-or-right : (a b : Bool) → b ≡ true → a || b ≡ true
-or-right true b k = refl
-or-right false b k = k
+near-bytes : allBelow 256 (λ (x : ℕ). isNear (extended 8 x % 65536) && eqb (extended 8 x % 65536 % 256) x) ≡ true
+unfolding allBelow extended
+near-bytes = refl
 
 short-reach : (x : ℕ) → x < 256 → (isNear (extended 8 x % 65536) ≡ true) × (extended 8 x % 65536 % 256 ≡ x)
-unfolding extended
-short-reach x h = go (ltb x 128) refl
-  where
-    go : (b : Bool) → ltb x 128 ≡ b → (isNear (pick b x (x + 1048320) % 65536) ≡ true) × (pick b x (x + 1048320) % 65536 % 256 ≡ x)
-    go true e = let l = ltb-true x 128 e in let f : x % 65536 ≡ x = omega arith in rw (f, e) (refl, omega arith)
-    go false e =
-        let l = ltb-false x 128 e in
-        let f : (x + 1048320) % 65536 ≡ x + 65280 = omega arith in
-        rw f (or-right (ltb (x + 65280) 0x80) (leb 0xFF80 (x + 65280)) (le-leb 0xFF80 (x + 65280) (omega arith)), omega arith)
+short-reach x h = let t = of-all 256 _ near-bytes x h in let near = isNear (extended 8 x % 65536) in (both-left near _ t, eqb-true _ _ (both-right near _ t))
 
 long-reach : (x : ℕ) → x < 65536 → extended 16 x % 65536 ≡ x
 unfolding extended
@@ -145,6 +83,13 @@ halves l h k m =
     let high : (l + h * 256) / 256 % 256 ≡ h = rw all (mod-eq-of-lt m) in
     rw (low, high)
 
+target-constant : (end x : ℕ) → Constantly (numberText (wordBytes (targetOf end x))) (targetOf end x)
+unfolding targetOf
+target-constant end x =
+    let t = (end + x) % 65536 in
+    let e : t % 256 + t / 256 % 256 * 256 ≡ t = omega arith in
+    subst (Constantly (numberText (wordBytes t))) e (word-constant (t % 256) (t / 256 % 256) (omega arith) (omega arith))
+
 -- a place for a register has no bytes of its own
 register-kind : (k : Kind) (r E : ℕ) → takesRegister k r ≡ true → (mayStand k E 0 ≡ true) × (numberBytes k E 0 ≡ [])
 unfolding mayStand
@@ -159,124 +104,97 @@ register-kind 'width r E h = absurd (false≢true h)
 register-kind 'short r E h = absurd (false≢true h)
 register-kind 'long r E h = absurd (false≢true h)
 
+either-way : (P : Bool → Type 0) (t : Bool) → P true → P false → P t
+either-way P true x y = x
+either-way P false x y = y
+
 module _ (labels : List Label) (bytes : List ℕ) (end E : ℕ) where
   -- an operand as it is meant in its place, under any labels and where the instruction ends at E: it is taken as in the listing, may stand there, and has the bytes of the place
   pub record Meant (k : Kind) (a : Slot) (w : Written) : Type 0 where
     pub heard : Heard (filled bytes end a) w
     pub taking : (l : Kind) → takes l w ≡ takes l (draw (filled bytes end a))
-    pub second : (x : ℕ) → secondBytes x w ≡ secondBytes x (draw (filled bytes end a))
     pub shallow : isShallow w ≡ true
     pub known : operandWorth labels w .known ≡ true
     pub stands : mayStand k E (operandWorth labels w .value) ≡ true
-    pub offset : writtenOffset labels w ≡ offsetAt bytes a
-    pub numbers : numberBytes k E (operandWorth labels w .value) ≡ numberAt bytes a
-    pub same : blunt (listedAs labels k w) ≡ blunt (filled bytes end a)
+    pub own : writtenOffset labels w ++ numberBytes k E (operandWorth labels w .value) ≡ slotBytes bytes a
+    pub bare : isMemoryKind k ≡ false → writtenOffset labels w ≡ []
+    pub same : {os ps : List Operand} → Alike os ps → Alike (listedAs labels k w ∷ os) (filled bytes end a ∷ ps)
 
   -- a number
-  valued : (k : Kind) (a : Slot) (v : ℕ) → isSome (filled bytes end a) ≡ true → draw (filled bytes end a) ≡ Written.value [] → Constantly (spelled (filled bytes end a)) v → mayStand k E v ≡ true → [] ≡ offsetAt bytes a → numberBytes k E v ≡ numberAt bytes a
-      → blunt (pick (isDigitKind k) (digit v) (number (wordBytes v))) ≡ blunt (filled bytes end a) → Meant k a (Written.value (run (spelled (filled bytes end a)) ∷ []))
-  unfolding noneOf opens takes isShallow operandWorth listedAs
-  valued k a v some drawn c stands none-at nums same =
-      let text = spelled (filled bytes end a) in
-      let w = c .worths labels in
-      record {
-        heard = hear some (c .free) (rw (c .tokens)) (rw (c .tokens)) (rw (c .tokens) (c .operand));
-        taking = λ l. rw drawn;
-        second = λ x. rw drawn;
-        shallow = rw (c .shallow);
-        known = rw w;
-        stands = rw w stands;
-        offset = none-at;
-        numbers = rw w nums;
-        same = rw w same;
-      }
+  valued : (k : Kind) (a : Slot) (v : ℕ) → ((os : List Operand) → present (filled bytes end a ∷ os) ≡ filled bytes end a ∷ present os) → ((m : ℕ) → following m (filled bytes end a) ≡ m ∷ spelled (filled bytes end a)) → draw (filled bytes end a) ≡ Written.value [] → Constantly (spelled (filled bytes end a)) v → mayStand k E v ≡ true → numberBytes k E v ≡ slotBytes bytes a
+      → ((os ps : List Operand) → Alike os ps → Alike (pick (isDigitKind k) (digit v) (number (wordBytes v)) ∷ os) (filled bytes end a ∷ ps)) → (w : Written) × Meant k a w
+  unfolding allFail opens takes isShallow operandWorth listedAs
+  valued k a v there behind drawn c stands nums same =
+      let w = c .worths labels in (
+        Written.value (run (spelled (filled bytes end a)) ∷ []),
+        record {
+          heard = hear there behind (c .free) (rw (c .tokens)) (rw (c .tokens)) (rw (c .tokens) (c .operand));
+          taking = λ l. rw drawn;
+          shallow = rw (c .shallow);
+          known = rw w;
+          stands = rw w stands;
+          own = rw w nums;
+          bare = λ h. refl;
+          same = λ l. rw w (same _ _ l);
+        },
+      )
 
   named : (k : Kind) (r : ℕ) → r < 8 → takesRegister k r ≡ true → Meant k (Name r) (Written.register r)
-  unfolding filled draw takes isShallow operandWorth isPlace slotBytes listedAs
+  unfolding filled draw takes isShallow operandWorth slotBytes listedAs
   named k r f h =
       let t = register-kind k r E h in
-      record { heard = heard-register r f; taking = λ l. refl; second = λ x. refl; shallow = refl; known = refl; stands = t .0; offset = refl; numbers = t .1; same = refl }
+      record { heard = heard-register r f; taking = λ l. refl; shallow = refl; known = refl; stands = t .0; own = t .1; bare = λ b. refl; same = λ l. registers r l }
 
-  placed : (m : Memory) (at : ℕ) → Bytes bytes → m .mm < 4 → m .aa < 4 → Meant 'M (Place m at) (Written.memory (m .mm) (m .aa) (offsetTokens (m .aa) (getD bytes at 0)))
-  unfolding filled draw takes isShallow operandWorth isPlace slotBytes listedAs mayStand isByte depthOf scanFrom Bytes blunt
+  pub placed : (m : Memory) (at : ℕ) → Bytes bytes → m .mm < 4 → m .aa < 4 → Meant 'M (Place m at) (Written.memory (m .mm) (m .aa) (offsetTokens (m .aa) (getD bytes at 0)))
+  unfolding filled draw takes isShallow operandWorth slotBytes listedAs mayStand isByte depthOf scanFrom Bytes
   placed m at hb hm ha =
       let b = getD bytes at 0 in
       let c = byte-constant b (hb at) in
       let w = c .worths labels in
       let low : b % 256 ≡ b = omega (arith, hb at) in
+      let one : Bool → List Token = λ t. pick t (run (numberText (b ∷ [])) ∷ []) [] in
+      let has = eqb (m .aa) 1 in
       record {
         heard = heard-memory (m .mm) (m .aa) b hm ha (hb at);
         taking = λ l. refl;
-        second = λ x. refl;
-        shallow = both (λ (t : Bool). leb (depthOf (pick t (run (numberText (b ∷ [])) ∷ []) [])) 8 ≡ true) (eqb (m .aa) 1) (rw (c .shallow)) refl;
-        known = both (λ (t : Bool). pick t (sumWorth labels (pick t (run (numberText (b ∷ [])) ∷ []) [])) (worth 0 true) .known ≡ true) (eqb (m .aa) 1) (rw w) refl;
-        stands = both (λ (t : Bool). isByte (pick t (sumWorth labels (pick t (run (numberText (b ∷ [])) ∷ []) [])) (worth 0 true) .value) ≡ true) (eqb (m .aa) 1) (rw (w, lt-ltb b 256 (hb at))) refl;
-        offset = both (λ (t : Bool). pick t (lowByte (sumWorth labels (pick t (run (numberText (b ∷ [])) ∷ []) []) .value) ∷ []) [] ≡ pick t (b ∷ []) []) (eqb (m .aa) 1) (rw (w, low)) refl;
-        numbers = refl;
-        same = refl;
+        shallow = either-way (λ (t : Bool). leb (depthOf (one t)) 8 ≡ true) has (rw (c .shallow)) refl;
+        known = either-way (λ (t : Bool). pick t (sumWorth labels (one t)) (worth 0 true) .known ≡ true) has (rw w) refl;
+        stands = either-way (λ (t : Bool). isByte (pick t (sumWorth labels (one t)) (worth 0 true) .value) ≡ true) has (rw (w, lt-ltb b 256 (hb at))) refl;
+        own = either-way (λ (t : Bool). pick t (lowByte (sumWorth labels (one t) .value) ∷ []) [] ++ [] ≡ pick t (b ∷ []) []) has (rw (w, low)) refl;
+        bare = λ h. absurd (false≢true (sym h));
+        same = λ l. memories (m .mm) (m .aa) _ _ l;
       }
-    where
-      both : (P : Bool → Type 0) (t : Bool) → P true → P false → P t
-      both P true x y = x
-      both P false x y = y
 
-  byte-meant : (at : ℕ) → Bytes bytes → Meant 'byte (Number at false) (Written.value (run (spelled (filled bytes end (Number at false))) ∷ []))
-  unfolding filled draw isSome spelled isPlace slotBytes mayStand isByte Bytes blunt
-  byte-meant at hb =
+  -- a place of a kind, as it is meant
+  pub meant : Bytes bytes → E % 65536 ≡ end % 65536 → (k : Kind) (a : Slot) → Fair a → agrees k a ≡ true → (w : Written) × Meant k a w
+  unfolding Bytes Fair agrees filled draw present following spelled slotBytes mayStand isByte targetOf
+  meant hb ends k Empty f h = absurd (false≢true h)
+  meant hb ends k (Name r) f h = (Written.register r, named k r f h)
+  meant hb ends k (Place m at) f h = rw (same-kind k 'M h) (Written.memory (m .mm) (m .aa) (offsetTokens (m .aa) (getD bytes at 0)), placed m at hb (f .0) (f .1))
+  meant hb ends k (Number at true) f h =
+      let l = getD bytes at 0 in
+      let u = getD bytes (at + 1) 0 in
+      rw (same-kind k 'word h) (valued 'word (Number at true) (l + u * 256) (λ os. refl) (λ m. refl) refl (word-constant l u (hb at) (hb (at + 1))) refl (halves l u (hb at) (hb (at + 1))) (λ os ps l. numbers _ _ l))
+  meant hb ends k (Number at false) f h =
       let b = getD bytes at 0 in
       let low : b % 256 ≡ b = omega (arith, hb at) in
-      valued 'byte (Number at false) b refl refl (byte-constant b (hb at)) (rw (lt-ltb b 256 (hb at))) refl (rw low) refl
-
-  word-meant : (at : ℕ) → Bytes bytes → Meant 'word (Number at true) (Written.value (run (spelled (filled bytes end (Number at true))) ∷ []))
-  unfolding filled draw isSome spelled isPlace slotBytes mayStand Bytes blunt
-  word-meant at hb =
+      rw (same-kind k 'byte h) (valued 'byte (Number at false) b (λ os. refl) (λ m. refl) refl (byte-constant b (hb at)) (rw (lt-ltb b 256 (hb at))) (rw low) (λ os ps l. numbers _ _ l))
+  meant hb ends k (Target at true) f h =
       let l = getD bytes at 0 in
-      let h = getD bytes (at + 1) 0 in
-      valued 'word (Number at true) (l + h * 256) refl refl (word-constant l h (hb at) (hb (at + 1))) refl refl (halves l h (hb at) (hb (at + 1))) refl
-
-  digit-meant : (k : Kind) (n : ℕ) → isDigitKind k ≡ true → mayStand k E n ≡ true → numberBytes k E n ≡ [] → Constantly (digitText n) n → Meant k (Digit n) (Written.value (run (spelled (filled bytes end (Digit n))) ∷ []))
-  unfolding filled draw isSome spelled isPlace slotBytes blunt
-  digit-meant k n d h e c = valued k (Digit n) n refl refl c h refl e (rw d)
-
-  module _ (hb : Bytes bytes) (ends : E % 65536 ≡ end % 65536) where
-    target-constant : (x : ℕ) → Constantly (numberText (wordBytes (targetOf end x))) (targetOf end x)
-    unfolding targetOf
-    target-constant x =
-        let t = (end + x) % 65536 in
-        let e : t % 256 + t / 256 % 256 * 256 ≡ t = omega arith in
-        subst (Constantly (numberText (wordBytes t))) e (word-constant (t % 256) (t / 256 % 256) (omega arith) (omega arith))
-
-    short-meant : (at : ℕ) → Meant 'short (Target at false) (Written.value (run (spelled (filled bytes end (Target at false))) ∷ []))
-    unfolding filled draw isSome spelled isPlace slotBytes mayStand Bytes blunt targetOf
-    short-meant at =
-        let b = getD bytes at 0 in
-        let x = extended 8 b in
-        let r = reach-back E end x ends in
-        let s = short-reach b (hb at) in
-        valued 'short (Target at false) (targetOf end x) refl refl (target-constant x) (rw r (s .0)) refl (rw (r, s .1)) refl
-
-    long-meant : (at : ℕ) → Meant 'long (Target at true) (Written.value (run (spelled (filled bytes end (Target at true))) ∷ []))
-    unfolding filled draw isSome spelled isPlace slotBytes mayStand Bytes blunt targetOf
-    long-meant at =
-        let l = getD bytes at 0 in
-        let h = getD bytes (at + 1) 0 in
-        let r = reach-back E end (extended 16 (l + h * 256)) ends ∙ long-reach (l + h * 256) (omega (arith, hb at, hb (at + 1))) in
-        valued 'long (Target at true) (targetOf end (extended 16 (l + h * 256))) refl refl (target-constant (extended 16 (l + h * 256))) refl refl (rw r (halves l h (hb at) (hb (at + 1)))) refl
-
-    -- a place of a kind, as it is meant
-    pub meant : (k : Kind) (a : Slot) → Fair a → agrees k a ≡ true → (w : Written) × Meant k a w
-    unfolding Fair agrees mayStand
-    meant k Empty f h = absurd (false≢true h)
-    meant k (Name r) f h = (Written.register r, named k r f h)
-    meant k (Place m at) f h = rw (same-kind k 'M h) (Written.memory (m .mm) (m .aa) (offsetTokens (m .aa) (getD bytes at 0)), placed m at hb (f .0) (f .1))
-    meant k (Number at true) f h = rw (same-kind k 'word h) (Written.value _, word-meant at hb)
-    meant k (Number at false) f h = rw (same-kind k 'byte h) (Written.value _, byte-meant at hb)
-    meant k (Target at true) f h = rw (same-kind k 'long h) (Written.value _, long-meant at)
-    meant k (Target at false) f h = rw (same-kind k 'short h) (Written.value _, short-meant at)
-    meant k (Digit n) f h = go (ltb n 8) refl f h
-      where
-        go : (b : Bool) → ltb n 8 ≡ b → (n < 8) ⊎ ((t : Bool) × (n ≡ pick t 16 8)) → pick b (sameKind k 'bit) (sameKind k 'width && (eqb n 8 || eqb n 16)) ≡ true → (w : Written) × Meant k (Digit n) w
-        go true e g t = rw (same-kind k 'bit t) (Written.value _, digit-meant 'bit n refl e refl (bit-constant n (ltb-true n 8 e)))
-        go false e (inl l) t = absurd (false≢true (sym e ∙ lt-ltb n 8 l))
-        go false e (inr (b, q)) t =
-            rw (same-kind k 'width (both-left (sameKind k 'width) _ t)) (Written.value _, digit-meant 'width n refl (both-right (sameKind k 'width) _ t) refl (rw q (width-constant b)))
+      let u = getD bytes (at + 1) 0 in
+      let x = extended 16 (l + u * 256) in
+      let reach = reach-back E end x ends ∙ long-reach (l + u * 256) (omega (arith, hb at, hb (at + 1))) in
+      rw (same-kind k 'long h) (valued 'long (Target at true) (targetOf end x) (λ os. refl) (λ m. refl) refl (target-constant end x) refl (rw reach (halves l u (hb at) (hb (at + 1)))) (λ os ps l. numbers _ _ l))
+  meant hb ends k (Target at false) f h =
+      let b = getD bytes at 0 in
+      let x = extended 8 b in
+      let reach = reach-back E end x ends in
+      let s = short-reach b (hb at) in
+      rw (same-kind k 'short h) (valued 'short (Target at false) (targetOf end x) (λ os. refl) (λ m. refl) refl (target-constant end x) (rw reach (s .0)) (rw (reach, s .1)) (λ os ps l. numbers _ _ l))
+  meant hb ends k (Digit n) f h = go (ltb n 8) refl h
+    where
+      go : (b : Bool) → ltb n 8 ≡ b → pick b (sameKind k 'bit) (sameKind k 'width && (eqb n 8 || eqb n 16)) ≡ true → (w : Written) × Meant k (Digit n) w
+      go true e t = rw (same-kind k 'bit t) (valued 'bit (Digit n) n (λ os. refl) (λ m. refl) refl (digit-constant n (rw e)) e refl (λ os ps l. digits n l))
+      go false e t =
+          let wide = both-right (sameKind k 'width) _ t in
+          rw (same-kind k 'width (both-left (sameKind k 'width) _ t)) (valued 'width (Digit n) n (λ os. refl) (λ m. refl) refl (digit-constant n (rw (e, wide))) wide refl (λ os ps l. digits n l))

@@ -1,41 +1,19 @@
 -- Assembling a listing gives back the listed bytes.
 -- Assumes nothing.
-use mathlib.Core.Path.{_≡_, refl, sym, ap, subst, _∙_}
-use mathlib.Core.Bool.{Bool, true, false, not, _&&_, _||_}
-use mathlib.Core.List.{List, [], _∷_, _++_, append-assoc, append-nil}
-use Prim.Native.Nat.{ℕ, zero, suc, _+_, _*_, _-_, _%_, _≤_}
+use mathlib.Core.{Path._≡_, Path.refl, Path.sym, Path.ap, Path.subst, Path._∙_, Bool.Bool, Bool.true, Bool.false, Bool._&&_, List.List, List.[], List._∷_, List._++_, List.append-assoc, List.append-nil}
+use Prim.Native.Nat.{ℕ, zero, suc, _+_, _-_, _%_, _≤_}
 use native.Mathlib.Nat.{mod-mod, add-zero}
 use native.Mathlib.Omega.{arith}
-use lib.Dec.{T, eqb, ltb, leb}
-use lib.ListN.{length, getD, take, drop, length-take, length-append, take-append-drop}
-use lib.Seq.{take-at}
+use lib.{Dec.T, Dec.eqb, Dec.ltb, Dec.leb, ListN.length, ListN.take, ListN.drop, ListN.length-take, ListN.length-append, ListN.take-append-drop, Seq.take-at, Ieee.Bits.is-true}
 use borrow.Author.Tests.{le-ltb, lt-ltb}
 use Rattle.ground_rules.specs.Choice.{pick}
-use Rattle.listing_rules.specs.Characters.{ascii, sameText, numberText}
-use Rattle.listing_rules.specs.Forms.{Operand, spelled}
-use Rattle.listing_rules.specs.Forms.Operand.{number}
-use Rattle.listing_rules.specs.Lines.{dataLine}
-use Rattle.listing_rules.specs.Items.{itemOf, countOf}
-use Rattle.listing_rules.specs.Listings.{TextLine, charsOf, lineAt, linesBy, linesOf, allChars, allBytes, keptIn, listLimit, placed, listingOf}
-use Rattle.listing_rules.proofs.SpellingLaws.{marks, present, Bytes}
-use Rattle.listing_rules.proofs.RowLaws.{whole-at, count-some, count-there}
-use Rattle.listing_rules.proofs.Theorems.{all-listed, bytes-append, placed-text}
-use Rattle.listing_rules.proofs.Unlisting.{Spoken, numbers, spoken-data, spoken-free, free, numbers-present, Line, line-of, bytes-take, bytes-drop}
-use Rattle.listing_rules.proofs.Unlisting.Line.{words, raw}
-use Rattle.assembly_rules.specs.Text.{isRun, isDigit, isCapital, capitalOf, isBlank, endsLine, Token, isComma, begunBy, tokensOf, cutAt, linesIn}
-use Rattle.assembly_rules.specs.Text.Token.{run}
-use Rattle.assembly_rules.specs.Sums.{Label, depthOf, mostOpen, sumWorth}
-use Rattle.assembly_rules.specs.Statements.{headedBy, operandParts, allSums, allLow, itemsFrom, statementOf, statementSize, isByte, itemsKnown, itemsStand, statementNumber, itemsBytes, statementBytes}
-use Rattle.assembly_rules.specs.Statements.Statement.{items}
-use Rattle.assembly_rules.specs.Assembly.{Said, saidBy, saidIn, keptWith, labelsFrom, labelStands, lineNumber, assembled, assembledFrom, assembleOf}
-use Rattle.assembly_rules.proofs.WritingLaws.{Writes, written}
-use Rattle.assembly_rules.proofs.WholeLaws.{SameTokens, same-said}
-use Rattle.assembly_rules.proofs.WholeLaws.SameTokens.{noLine, oneMore}
-use Rattle.promises_assembly.proofs.Apart.{noneOf, cut-first}
-use Rattle.promises_assembly.proofs.Constants.{wordChar, isWord, isName, byte-constant}
-use Rattle.promises_assembly.proofs.Places.{isSome, opens, Voiced}
-use Rattle.promises_assembly.proofs.Parts.{spokenParts, Parted, parted-none, parted-next, line-said}
-use Rattle.promises_assembly.proofs.Instructions.{Assembles, instruction-assembles}
+use Rattle.listing_rules.specs.{Characters.ascii, Characters.sameText, Forms.spelled, Forms.following, Forms.Operand.number, Lines.dataLine, Items.itemOf, Items.countOf, Listings.TextLine, Listings.charsOf, Listings.lineAt, Listings.linesBy, Listings.linesOf, Listings.allChars, Listings.allBytes, Listings.keptIn, Listings.listLimit, Listings.placed, Listings.listingOf}
+use Rattle.listing_rules.proofs.{SpellingLaws.marks, SpellingLaws.present, SpellingLaws.Bytes, RowLaws.whole-at, RowLaws.count-some, RowLaws.count-there, Theorems.all-listed, Theorems.bytes-append, Theorems.placed-text, Unlisting.numbers, Unlisting.spoken-data, Unlisting.spoken-free, Unlisting.free, Unlisting.numbers-present, Unlisting.Line, Unlisting.Line.words, Unlisting.Line.raw, Unlisting.line-of, Unlisting.bytes-take, Unlisting.bytes-drop}
+use Rattle.assembly_rules.specs.{Text.capitals, Text.isRun, Text.isDigit, Text.isCapital, Text.capitalOf, Text.endsLine, Text.begunBy, Text.tokensOf, Text.cutAt, Text.linesIn, Statements.Statement.items, Statements.headedBy, Statements.allSums, Statements.allLow, Statements.itemsFrom, Statements.statementOf, Statements.statementSize, Statements.isByte, Statements.itemsKnown, Statements.itemsStand, Statements.statementNumber, Statements.itemsBytes}
+use Rattle.assembly_rules.specs.{Statements.statementBytes, Sums.Label, Assembly.Said, Assembly.saidBy, Assembly.saidIn, Assembly.keptWith, Assembly.labelsFrom, Assembly.labelStands, Assembly.lineNumber, Assembly.assembled, Assembly.assembledFrom, Assembly.assembleOf}
+use Rattle.assembly_rules.proofs.{ScanLaws.allFail, WritingLaws.allRun, WritingLaws.written, WholeLaws.SameTokens, WholeLaws.SameTokens.noLine, WholeLaws.SameTokens.oneMore, WholeLaws.same-said}
+use Rattle.promises_assembly.specs.Returning.{Respelled, Returns}
+use Rattle.promises_assembly.proofs.{Texts.cut-first, Texts.isName, Texts.byte-constant, Texts.opens, Instructions.Assembles, Instructions.instruction-assembles, Texts.spokenParts, Texts.Parted, Texts.parted-none, Texts.parted-next, Texts.line-said}
 
 -- the items of a DB line: numbers of one byte
 record Items (bytes : List ℕ) : Type 0 where
@@ -48,7 +26,7 @@ record Items (bytes : List ℕ) : Type 0 where
   same : (labels : List Label) → itemsBytes labels false (spokenParts (numbers bytes)) ≡ bytes
 
 items-of : (bytes : List ℕ) → Bytes bytes → Items bytes
-unfolding numbers spokenParts allSums allLow itemsKnown itemsStand itemsBytes marks present Bytes spelled noneOf isSome opens isByte
+unfolding numbers spokenParts allSums allLow itemsKnown itemsStand itemsBytes marks present Bytes following spelled allFail opens isByte
 items-of [] h = record { parted = parted-none [] (λ m. refl) refl; sums = refl; low = refl; size = refl; known = λ labels. refl; stand = λ labels. refl; same = λ labels. refl }
 items-of (b ∷ bytes) h =
     let c = byte-constant b (h 0) in
@@ -56,7 +34,7 @@ items-of (b ∷ bytes) h =
     let later = items-of bytes (λ i. h (suc i)) in
     let low : b % 256 ≡ b = omega (arith, h 0) in
     record {
-      parted = parted-next (number (b ∷ [])) (numbers bytes) (record { some = refl; free = c .free; uncut = rw t; begins = rw t }) (later .parted);
+      parted = parted-next (number (b ∷ [])) (numbers bytes) (record { there = λ os. refl; behind = λ m. refl; free = c .free; uncut = rw t; begins = rw t }) (later .parted);
       sums = rw (t, c .sum, later .sums);
       low = rw (t, c .shallow, later .low);
       size = ap suc (later .size);
@@ -66,15 +44,16 @@ items-of (b ∷ bytes) h =
     }
 
 data-said : (b : ℕ) (bytes : List ℕ) → Bytes (b ∷ bytes) → saidBy (ascii "DB" ++ marks 32 (numbers (b ∷ bytes))) ≡ record { name = []; statement = items false (spokenParts (numbers (b ∷ bytes))) }
-unfolding statementOf itemsFrom sameText isName isWord wordChar isRun isDigit isCapital capitalOf endsLine numbers spokenParts
+unfolding statementOf itemsFrom sameText isName allRun capitals allFail isRun isDigit isCapital capitalOf endsLine numbers spokenParts
 data-said b bytes h =
     let i = items-of (b ∷ bytes) h in
     line-said (ascii "DB") (numbers (b ∷ bytes)) refl (i .parted) ∙ rw (i .parted .lead, numbers-present (b ∷ bytes), i .sums, i .low)
 
 -- a DB line assembles to its bytes
-data-assembles : (b : ℕ) (bytes : List ℕ) → Bytes (b ∷ bytes) → (address : ℕ) → Assembles (dataLine (b ∷ bytes)) address (b ∷ bytes)
+data-assembles : (bytes : List ℕ) → (length bytes ≡ 0 → ⊥) → Bytes bytes → (address : ℕ) → Assembles (dataLine bytes) address bytes
 unfolding statementSize statementNumber statementBytes
-data-assembles b bytes h address =
+data-assembles [] some h address = absurd (some refl)
+data-assembles (b ∷ bytes) some h address =
     let i = items-of (b ∷ bytes) h in
     let sp = spoken-data (b ∷ bytes) h in
     let said = data-said b bytes h in
@@ -88,10 +67,6 @@ data-assembles b bytes h address =
       stored = λ labels at k. rw said (i .same labels);
     }
 
-some-data : (bytes : List ℕ) → (length bytes ≡ 0 → ⊥) → Bytes bytes → (address : ℕ) → Assembles (dataLine bytes) address bytes
-some-data [] some h address = absurd (some refl)
-some-data (b ∷ bytes) some h address = data-assembles b bytes h address
-
 -- every line of a listing assembles to the bytes that it lists
 line-assembles : (address : ℕ) (x : List ℕ) → (length x ≡ 0 → ⊥) → Bytes x → Assembles (lineAt address x .chars) address (lineAt address x .bytes)
 unfolding lineAt
@@ -101,7 +76,7 @@ line-assembles address x some h = go (line-of address x)
     go (words s to n i l e) = rw (e, i) (instruction-assembles x h address s to n (whole-at x s to n i) l)
     go (raw e) =
         let n = countOf (itemOf x) in
-        rw e (some-data (take n x) (λ z. omega (arith, z, length-take n x, count-some x some, count-there x some)) (bytes-take n x h) address)
+        rw e (data-assembles (take n x) (λ z. omega (arith, z, length-take n x, count-some x some, count-there x some)) (bytes-take n x h) address)
 
 -- lines one behind the other, each of which assembles to its bytes
 pub data AllAssemble : ℕ → List TextLine → Type 0 where
@@ -119,29 +94,20 @@ lines-assemble (suc most) address (b ∷ x) h =
     let size : n ≡ length (take n all) = omega (arith, length-take n all, count-there all some) in
     more (line-assembles address all some h) (subst (λ (k : ℕ). AllAssemble (address + k) (linesBy most (address + n) (drop n all))) size (lines-assemble most (address + n) (drop n all) (bytes-drop n all h)))
 
--- the lines before the first that does not fit a room
-kept-assemble : (room address : ℕ) (lines : List TextLine) → AllAssemble address lines → AllAssemble address (keptIn room lines)
-unfolding keptIn
-kept-assemble room address lines none = none
-kept-assemble room address lines (more {line = line} {lines = rest} a later) = go (leb (length (line .chars)) room) (kept-assemble (room - length (line .chars)) (address + length (line .bytes)) rest later)
-  where
-    go : (b : Bool) → AllAssemble (address + length (line .bytes)) (keptIn (room - length (line .chars)) rest) → AllAssemble address (pick b (line ∷ keptIn (room - length (line .chars)) rest) [])
-    go true all = more a all
-    go false all = none
+-- so do the first of such lines
+first-assemble : (address : ℕ) (lines rest : List TextLine) → AllAssemble address (lines ++ rest) → AllAssemble address lines
+first-assemble address [] rest all = none
+first-assemble address (line ∷ lines) rest (more a later) = more a (first-assemble (address + length (line .bytes)) lines rest later)
 
 -- the lines of a text: up to its first line feed, and from there on
-feed-free : (text : List ℕ) → T (free text) → noneOf (λ c. eqb c 10) text ≡ true
-unfolding free noneOf
-feed-free [] t = refl
-feed-free (c ∷ text) t = go (not (eqb c 10)) t (feed-free text)
-  where
-    go : (b : Bool) → T (b && free text) → (T (free text) → noneOf (λ c. eqb c 10) text ≡ true) → b && noneOf (λ c. eqb c 10) text ≡ true
-    go true u later = later u
-    go false u later = absurd u
+feeds : (text : List ℕ) → allFail (λ c. eqb c 10) text ≡ free text
+unfolding free allFail
+feeds [] = refl
+feeds (c ∷ text) = rw (feeds text)
 
 first-line : (front rest : List ℕ) → T (free front) → linesIn ((front ++ (10 ∷ [])) ++ rest) ≡ front ∷ linesIn rest
 unfolding linesIn
-first-line front rest t = ap (cutAt (λ c. eqb c 10)) (append-assoc front (10 ∷ []) rest) ∙ cut-first (λ c. eqb c 10) front rest 10 (feed-free front t) refl
+first-line front rest t = ap (cutAt (λ c. eqb c 10)) (append-assoc front (10 ∷ []) rest) ∙ cut-first (λ c. eqb c 10) front rest 10 (feeds front ∙ is-true (free front) t) refl
 
 -- what follows the last line feed says nothing
 last-line : (labels kept : List Label) (first room line : ℕ) (done : List ℕ) → assembledFrom labels kept first room line done (saidIn (linesIn [])) ≡ assembled 0 0 done
@@ -191,14 +157,9 @@ round-trip x first room h k =
     let e = all-listed first x in
     text-done first room (linesOf first x) (lines-assemble (length x) first x h) (rw e k) ∙ ap (assembled 0 0) e
 
--- lines whose tokens are written anew: in small letters or capitals, with blanks between tokens, with a comment behind them
-pub data Respelled : List (List ℕ) → List (List ℕ) → Type 0 where
-  finished : Respelled [] []
-  another : {line other : List ℕ} {lines others : List (List ℕ)} → Writes (tokensOf line) other → Respelled lines others → Respelled (line ∷ lines) (other ∷ others)
-
 same-tokens : {lines others : List (List ℕ)} → Respelled lines others → SameTokens others lines
-same-tokens finished = noLine
-same-tokens (another w later) = oneMore (written w) (same-tokens later)
+same-tokens Respelled.finished = noLine
+same-tokens (Respelled.another w later) = oneMore (written w) (same-tokens later)
 
 -- a listing gives its bytes back however it is spelled
 pub however-spelled : (x text : List ℕ) (first room : ℕ) → Bytes x → length x ≤ room → Respelled (linesIn (allChars (linesOf first x))) (linesIn text) → assembleOf text first room ≡ assembled 0 0 x
@@ -227,5 +188,8 @@ listing-back code buffer first room h k =
     sym (take-append-drop listLimit code) ∙ ap (λ (l : List ℕ). l ++ drop listLimit code) (sym (all-listed first part) ∙ ap allBytes (cut .1) ∙ bytes-append lines (cut .0)) ∙ append-assoc (allBytes lines) (allBytes (cut .0)) (drop listLimit code) in
     let before : take (length (allBytes lines)) code ≡ allBytes lines = ap (take (length (allBytes lines))) whole ∙ take-at (allBytes lines) more-bytes (length (allBytes lines)) refl in
     ap (λ (text : List ℕ). assembleOf text first room) (placed-text lines buffer)
-    ∙ text-done first room lines (kept-assemble (length buffer) first (linesOf first part) (lines-assemble (length part) first part (bytes-take listLimit code h))) k
+    ∙ text-done first room lines (first-assemble first lines (cut .0) (subst (AllAssemble first) (cut .1) (lines-assemble (length part) first part (bytes-take listLimit code h)))) k
     ∙ ap (assembled 0 0) (sym before)
+
+pub returns : Returns
+returns = record { whole = round-trip; spelled = however-spelled; made = listing-back }
