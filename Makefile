@@ -73,6 +73,8 @@ HEADERS = include/iop89.h include/iop89_service.h
 IOP89_LIB = $(BUILD)/libiop89.a
 SERVICE_LIB = $(BUILD)/libiop89_service.a
 ARCHIVES = $(IOP89_LIB) $(SERVICE_LIB)
+SHARED = $(BUILD)/libiop89.so
+SHARED_SERVICE = $(BUILD)/libiop89_service.so
 
 # The library is for x86-64. Elsewhere what links it is cross-compiled (Debian: gcc-x86-64-linux-gnu,
 # libc6-dev-amd64-cross) and linked -static, so that tools/x86 can run it with no x86-64 libraries at hand.
@@ -160,8 +162,6 @@ $(IOP89_LIB): $(BUILD)/run_call.sums
 	@touch $@
 
 # The same as shared objects, whose names have the header's version; each exports its calls alone.
-SHARED = $(BUILD)/libiop89.so
-SHARED_SERVICE = $(BUILD)/libiop89_service.so
 VERSION := $(shell awk '$$2 == "IOP89_VERSION" { print int($$3 / 100) "." $$3 % 100; exit }' include/iop89.h)
 
 $(SHARED): $(IOP89_LIB) | x86-compiler
@@ -196,7 +196,7 @@ $(BUILD)/flags: always
 	@echo '$(CC) $(X86_CC) $(STRICT) $(CFLAGS) $(X86_LDFLAGS)' >$@.$$$$; \
 		if cmp -s $@.$$$$ $@; then rm -f $@.$$$$; else mv $@.$$$$ $@; fi
 
-PROGRAMS_OF_C = example borders empty stack compare scripts selftest emulator.o bench compare_service compare_sweep \
+PROGRAMS_OF_C = causes example borders empty stack compare scripts selftest emulator.o bench compare_service compare_sweep \
 	compare_pauses compare_schedule compare_pair iop89 both_channels compare-hex bench-hex compare-list bench-list asmtest \
 	compare-asm bench-asm bench-sweep
 $(PROGRAMS_OF_C:%=$(BUILD)/%): $(BUILD)/flags
@@ -302,6 +302,11 @@ SERVICE_CRATES = processor_calls sweep_call board_call text_calls
 $(SERVICE_LIB): $(SERVICE_CRATES:%=$(BUILD)/%.sums)
 	@tools/prove staticlib $(SERVICE_CRATES)
 	@AR="$(X86_AR)" tools/join-archives $@ $(SERVICE_CRATES:%=$(TARGET)/staticlib/lib%.a)
+
+# What the header says of a refusal beside what the archive answers and what the emulator's reader of states finds.
+$(BUILD)/causes: host/causes.c host/state_bytes.c host/state_bytes.h host/emulator.c host/emulator.h $(HEADERS) $(SERVICE_LIB) | \
+		x86-compiler
+	$(X86_CC) $(STRICT) $(CFLAGS) -Iinclude host/causes.c host/state_bytes.c host/emulator.c $(SERVICE_LIB) $(X86_LDFLAGS) -o $@
 
 # Random states in bytes, on which calls, sweeps and schedules are compared.
 STATES = $(addprefix host/,states.c state_bytes.c)

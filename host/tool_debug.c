@@ -24,7 +24,7 @@ struct kept {
         bool in_io;
         uint32_t at;
         uint8_t old;
-    } store[EMU_TOUCHES];
+    } store[EMU_TOUCHES + 1];
 };
 
 /* A session: its order, which breaks and settings are added to, its machine, what can be taken back, and the input. */
@@ -40,6 +40,20 @@ struct session {
 
 /* ---- Taking back ---- */
 
+/* What was kept last. */
+static struct kept *last_kept(const struct session *s)
+{
+    return &s->kept[(s->first + s->count - 1) % KEPT];
+}
+
+/* Keeps a byte that is stored over. */
+static void keep_byte(struct kept *k, bool in_io, uint32_t at, uint8_t old)
+{
+    k->store[k->stores].in_io = in_io;
+    k->store[k->stores].at = at;
+    k->store[k->stores++].old = old;
+}
+
 /* Keeps what the next call would change. */
 static void keep(struct session *s, struct tool_call call)
 {
@@ -54,21 +68,19 @@ static void keep(struct session *s, struct tool_call call)
     for (unsigned i = 0; i < touched.count; i++) {
         const struct emu_touch *t = &touched.touch[i];
         if (!t->stored || !t->lent) continue;
-        k->store[k->stores].in_io = t->at.tag;
-        k->store[k->stores].at = t->at.address;
-        k->store[k->stores++].old = (t->at.tag ? m->memory.io : m->memory.sys)[t->at.address];
+        keep_byte(k, t->at.tag, t->at.address, (t->at.tag ? m->memory.io : m->memory.sys)[t->at.address]);
     }
     if (s->count < KEPT) s->count++;
     else s->first = (s->first + 1) % KEPT;
 }
 
-/* Takes the last call back. */
-static void undo(struct session *s)
+/* Takes the last call back; answers whether there was one. */
+static bool undo(struct session *s)
 {
     struct tool_machine *m = &s->machine;
     if (s->count == 0) {
         puts("nothing to take back");
-        return;
+        return false;
     }
     struct kept *k = &s->kept[(s->first + --s->count) % KEPT];
     memcpy(m->state, k->state, sizeof m->state);
@@ -78,6 +90,7 @@ static void undo(struct session *s)
     while (k->stores-- > 0)
         (k->store[k->stores].in_io ? m->memory.io : m->memory.sys)[k->store[k->stores].at] = k->store[k->stores].old;
     printf("back before step %" PRIu32 "\n", m->tried + 1);
+    return true;
 }
 
 /* ---- Steps ---- */
@@ -88,13 +101,11 @@ static bool step(struct session *s)
     struct tool_machine *m = &s->machine;
     uint8_t before[IOP89_STATE_LENGTH];
     char tail[64];
-    unsigned due = tool_give_due(m, false);
     struct tool_call call = {TOOL_STEPPED, tool_lines_at(&m->order->of[0], m->tried)};
-    if (due == IOP89_DONE) keep(s, call);
+    keep(s, call);
     memcpy(before, m->state, sizeof before);
-    iop89_answer answer = {0};
-    if (due == IOP89_DONE) answer = tool_try_step(m, tail);
-    s->number = due != IOP89_DONE ? due : IOP89_ANSWER_NUMBER(answer);
+    iop89_answer answer = tool_try_step(m, tail);
+    s->number = IOP89_ANSWER_NUMBER(answer);
     if (s->number == IOP89_DONE) {
         printf("%" PRIu32, m->tried);
         tool_print_done(answer, before, m->state, tail);
@@ -104,7 +115,8 @@ static bool step(struct session *s)
         tool_print_waiting("", m->tried, m->state);
         return true;
     }
-    if (due == IOP89_DONE) m->tried--, s->count--;
+    m->tried--;
+    s->count--;
     tool_print_number("", s->number, iop89_service_words(s->number), m->state, &m->memory, m->done);
     if (m->done > 0 || tool_runs(m->state) || s->number != IOP89_NO_CHANNEL)
         tool_print_cause("", s->number, m->state, &m->memory, m->last);
@@ -209,8 +221,11 @@ static void attend(struct session *s, unsigned count, char **words)
     if (count > 1 && !read_number(words[1], &call.value)) return;
     if (count > 2 && !read_number(words[2], &ccw)) return;
     uint32_t block = (iop89_cp(m->state) + (call.value == 2 ? 8u : 0u)) & 0xFFFFFu;
-    if (count > 2 && block < m->memory.sys_len) m->memory.sys[block] = (uint8_t)ccw;
+    bool stores = count > 2 && block < m->memory.sys_len;
+    uint8_t old = stores ? m->memory.sys[block] : 0;
+    if (stores) m->memory.sys[block] = (uint8_t)ccw;
     keep(s, call);
+    if (stores) keep_byte(last_kept(s), false, block, old);
     m->last = call;
     s->number = tool_print_attention("", call.value, tool_attend(m->state, &m->memory, call.value));
     if (s->number == IOP89_DONE) return;
@@ -293,7 +308,7 @@ static bool do_counted(struct session *s, const char *verb, unsigned count, char
     else if (strcmp(verb, "step") != 0 && strcmp(verb, "undo") != 0) return false;
     if (count > 1 && !read_number(words[1], &number)) return true;
     if (strcmp(verb, "undo") != 0) steps(s, number);
-    else for (; number > 0; number--) undo(s);
+    else while (number-- > 0 && undo(s)) continue;
     return true;
 }
 

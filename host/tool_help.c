@@ -11,6 +11,7 @@ enum {
     STEP_DEBUG = TOOL_STEP | TOOL_DEBUG,
     RUN_STEP = TOOL_RUN | TOOL_STEP,
     IMAGES = MACHINE | TOOL_LIST,
+    HALVES = IMAGES & ~TOOL_COMPARE,
     ENDS = RUN_STEP | TOOL_DEBUG
 };
 
@@ -47,8 +48,8 @@ const struct tool_command tool_commands[] = {
 
 const struct tool_option tool_options[] = {
     {"-at", "N", "system address of the next FILE (0); for asm, before or behind FILE: where the image lies", IMAGES | TOOL_ASM},
-    {"-even", "FILE", "a PROM with the even bytes, from the address that -at gives or 0", IMAGES},
-    {"-odd", "FILE", "the PROM with the odd bytes; both may be PROM files or bytes", IMAGES},
+    {"-even", "FILE", "a PROM with the even bytes, from the address that -at gives or 0", HALVES},
+    {"-odd", "FILE", "the PROM with the odd bytes; both may be PROM files or bytes", HALVES},
     {"-over", "", "files may store over each other, the later over the earlier", IMAGES},
     {"-raw", "", "the next FILE is bytes, whatever it begins with", IMAGES},
     {"-hex", "", "the next FILE is a PROM file (Intel hexadecimal), whatever it begins with", IMAGES | TOOL_LOAD},
@@ -59,7 +60,7 @@ const struct tool_option tool_options[] = {
     {"-board", "", "reset and power-up in its place: the board's bytes at FFFF6h name the control block", IMAGES},
     {"-state", "FILE", "a saved state in its place; attentions only where -channel or -attention asks for them", STEPS},
     {"-channel", "N", "channel that gets attention, 1 or 2 (1); but for run twice: both, in this order", CHANNELS},
-    {"-attention", "N:C[:CCW]", "an attention to channel C before step N, with this CCW stored first", STEPS},
+    {"-attention", "N:C[:CCW]", "an attention to channel C before step N, with this CCW stored first", TOOL_STEP | TOOL_COMPARE},
     {"-lines", "N", "sum of DRQ1 = 1, DRQ2 = 2, EXT1 = 4, EXT2 = 8, held throughout (0)", CHANNELS},
     {"-lines", "N,N..", "in turn, one for each step that is tried; where a channel waits, the next one is tried", STEPS},
     {"-lines", "FILE", "the same from a text; a name that begins with a digit is written ./1", STEPS},
@@ -171,15 +172,23 @@ static void print_takers(FILE *out, unsigned commands)
     fputs(":\n", out);
 }
 
+/* Whether an option is the first of the table with its set of commands. */
+static bool is_first(const struct tool_option *option)
+{
+    const struct tool_option *o = tool_options;
+    while (o->commands != option->commands) o++;
+    return o == option;
+}
+
 /* Prints the options of one set of commands after another, or those of one command. */
 static void print_options(FILE *out, const struct tool_command *command)
 {
-    unsigned last = 0;
-    for (const struct tool_option *o = tool_options; o->name != NULL; o++) {
-        if (command != NULL && (o->commands & command->bit) == 0) continue;
-        if (command == NULL && o->commands != last) print_takers(out, o->commands);
-        last = o->commands;
-        print_option(out, o);
+    for (const struct tool_option *set = tool_options; set->name != NULL; set++) {
+        if (command != NULL && (set->commands & command->bit) != 0) print_option(out, set);
+        if (command != NULL || !is_first(set)) continue;
+        print_takers(out, set->commands);
+        for (const struct tool_option *o = set; o->name != NULL; o++)
+            if (o->commands == set->commands) print_option(out, o);
     }
 }
 

@@ -24,7 +24,8 @@ static unsigned read_state(const char *name, uint8_t *state)
     if (text.length != IOP89_STATE_LENGTH) tool_usage("a state has 104 bytes, and this file other ones", name);
     memcpy(state, text.bytes, IOP89_STATE_LENGTH);
     free(text.bytes);
-    return iop89_cause(IOP89_NO_STATE, state, IOP89_STATE_LENGTH).most != 0 ? IOP89_NO_STATE : IOP89_DONE;
+    struct iop89_cause cause = iop89_cause(IOP89_NO_STATE, state, IOP89_STATE_LENGTH);
+    return cause.value != cause.most ? IOP89_NO_STATE : IOP89_DONE;
 }
 
 /* Prints what a power-up found. */
