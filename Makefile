@@ -16,6 +16,8 @@ CALLS ?= 40000
 IMAGES ?= 300
 PREFIX ?= /usr/local
 DESTDIR ?=
+BUILD ?= build
+INSTALL ?=
 
 # What was given is text: make expands none of it, and recipes find it in their environment, quoted.
 override IMAGE := $(value IMAGE)
@@ -35,17 +37,44 @@ override CALLS := $(value CALLS)
 override IMAGES := $(value IMAGES)
 override PREFIX := $(value PREFIX)
 override DESTDIR := $(value DESTDIR)
+override INSTALL := $(value INSTALL)
+
+# Where make was started: what is given may be named from there, also by make -C.
+CALLER := $(value PWD)
+ifneq ($(words $(value BUILD)),1)
+$(error make: BUILD is "$(value BUILD)": the name of a folder without blanks is asked for)
+endif
+ifneq ($(origin BUILD),file)
+ifeq ($(filter /%,$(value BUILD)),)
+override BUILD := $(CALLER)/$(value BUILD)
+endif
+endif
+override BUILD := $(value BUILD)
+
+# Proofs stand in target/; where nothing may be written here, in BUILD, over a folder of links.
+ifeq ($(shell test -w . && echo yes),yes)
+TARGET = target
+else
+TARGET = $(BUILD)/tree/target
+endif
+
+export CALLER BUILD TARGET INSTALL
 export IMAGE FILE DEMO SEED CASES SERVICE_CASES SWEEPS PAUSES SCHEDULES PAIRS TEXTS PARTS ASM_TEXTS CALLS IMAGES PREFIX \
 	DESTDIR
 
 CFLAGS ?= -O2
-STRICT = -std=c11 -Wall -Wextra -Wpedantic -Wconversion
+STRICT = -std=c11 -Wall -Wextra -Wpedantic -Wconversion -Wsign-conversion
+
+# Comparisons and measurements take answers as the bare numbers that they are.
+PLAIN = -DIOP89_PLAIN_ANSWERS
 
 # What C gets: headers, and archives with the crate that each is made of.
 HEADERS = include/iop89.h include/iop89_service.h
-IOP89_LIB = build/libiop89.a
-SERVICE_LIB = build/libiop89_service.a
+IOP89_LIB = $(BUILD)/libiop89.a
+SERVICE_LIB = $(BUILD)/libiop89_service.a
 ARCHIVES = $(IOP89_LIB) $(SERVICE_LIB)
+SHARED = $(BUILD)/libiop89.so
+SHARED_SERVICE = $(BUILD)/libiop89_service.so
 
 # The library is for x86-64. Elsewhere what links it is cross-compiled (Debian: gcc-x86-64-linux-gnu,
 # libc6-dev-amd64-cross) and linked -static, so that tools/x86 can run it with no x86-64 libraries at hand.
@@ -74,8 +103,8 @@ SCRIPTS_H = $(addprefix host/,writer.h lines.h session.h listing.h hex.h hex_tex
 
 PROGRAMS = program-trace program-script
 
-.PHONY: help run script demo test lib host install clean compare compare-scripts compare-traces selftest \
-	check-examples front-door examples bench $(PROGRAMS) compiler x86-compiler count-needs always \
+.PHONY: help run try script demo test lib host install uninstall clean compare compare-scripts compare-traces selftest \
+	check-examples check-papers front-door examples bench $(PROGRAMS) compiler x86-compiler count-needs always \
 	given-image given-file given-demo given-cases given-calls given-images given-prefix
 
 # What is given is tested before anything is proved, and one folder has one proof at a time.
@@ -86,15 +115,19 @@ help:
 
 # Runs an image as channel 1 of a fresh machine and prints a line for each done step.
 run: given-image program-trace
-	@tools/run-program target/bin/trace IMAGE
+	@tools/run-program $(TARGET)/bin/trace IMAGE
+
+# Runs the same sources in seconds, without proving them, and says so.
+try: given-image x86-compiler
+	@CC="$(X86_CC)" tools/try IMAGE
 
 # Makes the calls of a script and prints their answers; docs/SCRIPT.md has the words.
 script: given-file program-script
-	@tools/run-program target/bin/script FILE
+	@tools/run-program $(TARGET)/bin/script FILE
 
 # Runs the host program on an image, and shows the answer and every byte that changed.
-demo: given-demo x86-compiler build/example
-	@case "$$DEMO" in -*) DEMO=./$$DEMO ;; esac; tools/x86 build/example "$$DEMO"
+demo: given-demo x86-compiler $(BUILD)/example
+	@DEMO=$$(tools/given path DEMO); case "$$DEMO" in -*) DEMO=./$$DEMO ;; esac; tools/x86 $(BUILD)/example "$$DEMO"
 
 test:
 	@.ci/run
@@ -120,76 +153,112 @@ $(PROGRAMS): program-%:
 	@tools/prove check $*
 
 # The proved library, as an archive for C.
-lib: $(ARCHIVES)
+lib: $(ARCHIVES) $(SHARED) $(SHARED_SERVICE)
 
 # The archive is made again where a file of its crates is not what it was; their list is kept by content.
-$(IOP89_LIB): build/run_call.sums
+$(IOP89_LIB): $(BUILD)/run_call.sums
 	@tools/prove staticlib run_call
-	cp target/staticlib/librun_call.a $@
+	cp $(TARGET)/staticlib/librun_call.a $@
 	@touch $@
 
-build/%.sums: always
-	@mkdir -p build
+# The same as shared objects, whose names have the header's version; each exports its calls alone.
+VERSION := $(shell awk '$$2 == "IOP89_VERSION" { print int($$3 / 100) "." $$3 % 100; exit }' include/iop89.h)
+
+$(SHARED): $(IOP89_LIB) | x86-compiler
+	$(X86_CC) -shared -Wl,--whole-archive $(IOP89_LIB) -Wl,--no-whole-archive -Wl,-soname,libiop89.so.$(basename $(VERSION)) -o $@
+
+$(SHARED_SERVICE): $(SERVICE_LIB) | x86-compiler
+	$(X86_CC) -shared -Wl,--whole-archive $(SERVICE_LIB) -Wl,--no-whole-archive \
+		-Wl,-soname,libiop89_service.so.$(basename $(VERSION)) -o $@
+
+$(BUILD)/%.sums: always
+	@mkdir -p $(BUILD)
 	@tools/closure sums $* >$@.$$$$ && if cmp -s $@.$$$$ $@; then rm -f $@.$$$$; else mv $@.$$$$ $@; fi
 
-# Headers, archives and the file by which pkg-config finds them.
-install: given-prefix $(ARCHIVES)
-	@tools/install $(HEADERS) $(ARCHIVES) include/iop89.pc.in
+# The tool with its page, headers, archives, shared objects, and a file for pkg-config for each archive.
+INSTALLED = $(HEADERS) $(ARCHIVES) $(SHARED) $(SHARED_SERVICE) include/iop89.pc.in include/iop89_service.pc.in \
+	$(BUILD)/iop89 $(BUILD)/iop89.1 $(BUILD)/iop89.bash
+
+install: given-prefix $(INSTALLED)
+	@tools/install put $(INSTALLED)
+
+# Takes away what install put there, and nothing else.
+uninstall: given-prefix
+	@tools/install remove $(INSTALLED)
 
 # What was built; the proofs in target/ stay, since they take minutes.
 clean:
-	rm -rf build
+	rm -rf $(BUILD)
 
-# What compiles for the machine at hand and for x86-64, installed where it is missing.
+# Other compilers or options compile anew: what they are is kept, and what is compiled depends on it.
+$(BUILD)/flags: always
+	@mkdir -p $(BUILD)
+	@echo '$(CC) $(X86_CC) $(STRICT) $(CFLAGS) $(X86_LDFLAGS)' >$@.$$$$; \
+		if cmp -s $@.$$$$ $@; then rm -f $@.$$$$; else mv $@.$$$$ $@; fi
+
+PROGRAMS_OF_C = causes example borders empty stack compare scripts selftest emulator.o bench compare_service compare_sweep \
+	compare_pauses compare_schedule compare_pair iop89 both_channels compare-hex bench-hex compare-list bench-list asmtest \
+	compare-asm bench-asm bench-sweep
+$(PROGRAMS_OF_C:%=$(BUILD)/%): $(BUILD)/flags
+
+# What compiles for the machine at hand and for x86-64; INSTALL=1 installs it where it is missing.
 compiler:
 	@tools/need $(firstword $(CC)) gcc
 x86-compiler:
 	@$(X86_NEEDS)
 
-host: x86-compiler build/example build/compare
+host: x86-compiler $(BUILD)/example $(BUILD)/compare
 
-build/example: host/example.c include/iop89.h $(IOP89_LIB) | x86-compiler
-	$(X86_CC) $(STRICT) $(CFLAGS) -Iinclude host/example.c $(IOP89_LIB) $(X86_LDFLAGS) -o $@
+$(BUILD)/example: host/example.c host/changes.c host/changes.h include/iop89.h $(IOP89_LIB) | x86-compiler
+	$(X86_CC) $(STRICT) $(CFLAGS) -Iinclude host/example.c host/changes.c $(IOP89_LIB) $(X86_LDFLAGS) -o $@
 
-build/borders: host/borders.c include/iop89.h $(IOP89_LIB) | x86-compiler
-	$(X86_CC) $(subst c11,c99,$(STRICT)) $(CFLAGS) -Iinclude host/borders.c $(IOP89_LIB) $(X86_LDFLAGS) -o $@
+$(BUILD)/borders: host/borders.c include/iop89.h $(IOP89_LIB) | x86-compiler
+	$(X86_CC) $(PLAIN) $(subst c11,c99,$(STRICT)) $(CFLAGS) -Iinclude host/borders.c $(IOP89_LIB) $(X86_LDFLAGS) -o $@
+
+$(BUILD)/empty: host/empty.c $(HEADERS) $(SERVICE_LIB) | x86-compiler
+	$(X86_CC) $(PLAIN) $(subst c11,c99,$(STRICT)) $(CFLAGS) -Iinclude host/empty.c $(SERVICE_LIB) $(X86_LDFLAGS) -o $@
 
 # Names are bound before main: a first call that is bound on its way takes 3 KiB of stack for the loader.
-build/stack: host/stack.c $(HEADERS) $(ARCHIVES) | x86-compiler
-	$(X86_CC) $(STRICT) -D_POSIX_C_SOURCE=200809L $(CFLAGS) -Iinclude host/stack.c $(ARCHIVES) $(X86_LDFLAGS) -Wl,-z,now \
-		-pthread -o $@
+$(BUILD)/stack: host/stack.c $(HEADERS) $(ARCHIVES) | x86-compiler
+	$(X86_CC) $(PLAIN) $(STRICT) -D_POSIX_C_SOURCE=200809L $(CFLAGS) -Iinclude host/stack.c $(ARCHIVES) $(X86_LDFLAGS) \
+		-Wl,-z,now -pthread -o $@
 
 # How much stack a run and an assembly need, over the files of examples/.
-stack: build/stack
-	@tools/x86 build/stack examples/*.bin examples/*.asm
+stack: $(BUILD)/stack
+	@tools/x86 $(BUILD)/stack examples/*.bin examples/*.asm
 
-build/compare: host/compare.c host/fences.c host/fences.h $(COMMON) $(COMMON_H) $(IOP89_LIB) | x86-compiler
-	$(X86_CC) $(STRICT) $(CFLAGS) -Iinclude host/compare.c host/fences.c $(COMMON) $(IOP89_LIB) $(X86_LDFLAGS) -o $@
+$(BUILD)/compare: host/compare.c host/fences.c host/fences.h $(COMMON) $(COMMON_H) $(IOP89_LIB) | x86-compiler
+	$(X86_CC) $(PLAIN) $(STRICT) $(CFLAGS) -Iinclude host/compare.c host/fences.c $(COMMON) $(IOP89_LIB) $(X86_LDFLAGS) -o $@
 
 # The emulator's own checks, and its side of what the programs print, need no library: they run on the machine at hand.
-build/scripts: $(SCRIPTS) $(SCRIPTS_H) $(COMMON) $(COMMON_H) | compiler
-	@mkdir -p build
+$(BUILD)/scripts: $(SCRIPTS) $(SCRIPTS_H) $(COMMON) $(COMMON_H) | compiler
+	@mkdir -p $(BUILD)
 	$(CC) $(STRICT) $(CFLAGS) -Iinclude $(SCRIPTS) $(COMMON) -o $@
 
-build/selftest: host/selftest.c host/emulator.c host/emulator.h | compiler
-	@mkdir -p build
+$(BUILD)/selftest: host/selftest.c host/emulator.c host/emulator.h | compiler
+	@mkdir -p $(BUILD)
 	$(CC) $(STRICT) $(CFLAGS) host/selftest.c host/emulator.c -o $@
 
-compare: given-cases x86-compiler build/compare
-	tools/x86 build/compare "$$SEED" "$$CASES"
+compare: given-cases x86-compiler $(BUILD)/compare
+	tools/x86 $(BUILD)/compare "$$SEED" "$$CASES"
 
-compare-scripts: given-calls compiler program-script build/scripts
-	tools/compare-scripts "$$SEED" "$$CALLS" target/bin/script
+compare-scripts: given-calls compiler program-script $(BUILD)/scripts
+	tools/compare-scripts "$$SEED" "$$CALLS" $(TARGET)/bin/script
 
-compare-traces: given-images compiler program-trace build/scripts
-	tools/compare-traces "$$SEED" "$$IMAGES" target/bin/trace
+compare-traces: given-images compiler program-trace $(BUILD)/scripts
+	tools/compare-traces "$$SEED" "$$IMAGES" $(TARGET)/bin/trace
 
-selftest: build/selftest
-	build/selftest
+selftest: $(BUILD)/selftest
+	$(BUILD)/selftest
 
-# Runs every row of the table in examples/README.md, and the script with a pause.
-check-examples: x86-compiler build/example build/scripts
+# Runs every row of the table in examples/README.md, and the scripts that have a trace.
+check-examples: x86-compiler $(BUILD)/example $(BUILD)/scripts
 	tools/check-examples
+
+# Holds the papers to the tree: names, files, commands, numbers.
+check-papers:
+	@tools/need python3 python3
+	tools/check-papers
 
 # Goes through README's commands and through misuse of them.
 front-door:
@@ -200,22 +269,23 @@ examples:
 	@tools/need python3 python3
 	python3 examples/make.py examples
 
-# Counts instructions, which are the same on a busy machine, and prints the tables of docs/BENCHMARKS.md.
-bench: count-needs x86-compiler build/bench
-	@X86_SIZE="$(X86_SIZE)" tools/bench build/bench $(IOP89_LIB) build/emulator.o
+# Counts instructions, which are the same on a busy machine, and prints the tables of docs/BENCHMARKS.md but for those of
+# PROM files and listings (bench-hex, bench-list).
+bench: count-needs x86-compiler $(BUILD)/bench
+	@X86_SIZE="$(X86_SIZE)" tools/bench $(BUILD)/bench $(IOP89_LIB) $(BUILD)/emulator.o
 
 # What counts, installed where it is missing.
 count-needs:
 	@$(COUNT_NEEDS)
 
 # What is counted is always compiled at -O2.
-build/emulator.o: host/emulator.c host/emulator.h | x86-compiler
-	@mkdir -p build
+$(BUILD)/emulator.o: host/emulator.c host/emulator.h | x86-compiler
+	@mkdir -p $(BUILD)
 	$(X86_CC) $(STRICT) -O2 -c host/emulator.c -o $@
 
-build/bench: host/bench.c host/emulator.h host/sweep_case.h include/iop89.h include/iop89_service.h build/emulator.o \
+$(BUILD)/bench: host/bench.c host/emulator.h host/sweep_case.h include/iop89.h include/iop89_service.h $(BUILD)/emulator.o \
 		$(IOP89_LIB) $(SERVICE_LIB)
-	$(X86_CC) $(STRICT) -O2 -Iinclude host/bench.c build/emulator.o $(IOP89_LIB) $(SERVICE_LIB) $(X86_LDFLAGS) -o $@
+	$(X86_CC) $(PLAIN) $(STRICT) -O2 -Iinclude host/bench.c $(BUILD)/emulator.o $(IOP89_LIB) $(SERVICE_LIB) $(X86_LDFLAGS) -o $@
 
 # ---- The service archive: the machine call by call, and what stands on both archives
 
@@ -229,9 +299,14 @@ service-lib: $(SERVICE_LIB)
 # their code stands in it once; sweep and board have objects of their own, which costs some bytes and saves instructions.
 SERVICE_CRATES = processor_calls sweep_call board_call text_calls
 
-$(SERVICE_LIB): $(SERVICE_CRATES:%=build/%.sums)
-	@for crate in $(SERVICE_CRATES); do tools/prove staticlib $$crate || exit $$?; done
-	@AR="$(X86_AR)" tools/join-archives $@ $(SERVICE_CRATES:%=target/staticlib/lib%.a)
+$(SERVICE_LIB): $(SERVICE_CRATES:%=$(BUILD)/%.sums)
+	@tools/prove staticlib $(SERVICE_CRATES)
+	@AR="$(X86_AR)" tools/join-archives $@ $(SERVICE_CRATES:%=$(TARGET)/staticlib/lib%.a)
+
+# What the header says of a refusal beside what the archive answers and what the emulator's reader of states finds.
+$(BUILD)/causes: host/causes.c host/state_bytes.c host/state_bytes.h host/emulator.c host/emulator.h $(HEADERS) $(SERVICE_LIB) | \
+		x86-compiler
+	$(X86_CC) $(STRICT) $(CFLAGS) -Iinclude host/causes.c host/state_bytes.c host/emulator.c $(SERVICE_LIB) $(X86_LDFLAGS) -o $@
 
 # Random states in bytes, on which calls, sweeps and schedules are compared.
 STATES = $(addprefix host/,states.c state_bytes.c)
@@ -240,14 +315,14 @@ STATES_H = $(addprefix host/,states.h state_bytes.h) include/iop89_service.h
 COMPARE_SERVICE = $(addprefix host/,compare_service.c fences.c) $(STATES)
 COMPARE_SERVICE_H = host/fences.h $(STATES_H)
 
-build/compare_service: $(COMPARE_SERVICE) $(COMPARE_SERVICE_H) $(COMMON) $(COMMON_H) $(SERVICE_LIB) | x86-compiler
-	$(X86_CC) $(STRICT) $(CFLAGS) -Iinclude $(COMPARE_SERVICE) $(COMMON) $(SERVICE_LIB) $(X86_LDFLAGS) -o $@
+$(BUILD)/compare_service: $(COMPARE_SERVICE) $(COMPARE_SERVICE_H) $(COMMON) $(COMMON_H) $(SERVICE_LIB) | x86-compiler
+	$(X86_CC) $(PLAIN) $(STRICT) $(CFLAGS) -Iinclude $(COMPARE_SERVICE) $(COMMON) $(SERVICE_LIB) $(X86_LDFLAGS) -o $@
 
 given-service:
 	@tools/given number SEED && tools/given number SERVICE_CASES
 
-compare-service: given-service build/compare_service
-	tools/x86 build/compare_service "$$SEED" "$$SERVICE_CASES"
+compare-service: given-service $(BUILD)/compare_service
+	tools/x86 $(BUILD)/compare_service "$$SEED" "$$SERVICE_CASES"
 
 # Sweeps three ways: the archive's call, the emulator's own, and plain steps of the archive.
 .PHONY: compare-sweep given-sweeps
@@ -258,11 +333,11 @@ given-sweeps:
 COMPARE_SWEEP = $(addprefix host/,compare_sweep.c sweeps.c fences.c) $(STATES)
 COMPARE_SWEEP_H = $(addprefix host/,sweeps.h fences.h) $(STATES_H)
 
-build/compare_sweep: $(COMPARE_SWEEP) $(COMPARE_SWEEP_H) $(COMMON) $(COMMON_H) $(SERVICE_LIB) | x86-compiler
-	$(X86_CC) $(STRICT) $(CFLAGS) -Iinclude $(COMPARE_SWEEP) $(COMMON) $(SERVICE_LIB) $(X86_LDFLAGS) -o $@
+$(BUILD)/compare_sweep: $(COMPARE_SWEEP) $(COMPARE_SWEEP_H) $(COMMON) $(COMMON_H) $(SERVICE_LIB) | x86-compiler
+	$(X86_CC) $(PLAIN) $(STRICT) $(CFLAGS) -Iinclude $(COMPARE_SWEEP) $(COMMON) $(SERVICE_LIB) $(X86_LDFLAGS) -o $@
 
-compare-sweep: given-sweeps build/compare_sweep
-	tools/x86 build/compare_sweep "$$SEED" "$$SWEEPS"
+compare-sweep: given-sweeps $(BUILD)/compare_sweep
+	tools/x86 $(BUILD)/compare_sweep "$$SEED" "$$SWEEPS"
 
 # Block transfers with their channel suspended and resumed in the middle: archive and emulator, with pauses and without.
 .PHONY: compare-pauses given-pauses
@@ -273,11 +348,11 @@ given-pauses:
 COMPARE_PAUSES = $(addprefix host/,compare_pauses.c pauses.c twin.c sweeps.c fences.c) $(STATES)
 COMPARE_PAUSES_H = $(addprefix host/,pauses.h twin.h sweeps.h fences.h) $(STATES_H)
 
-build/compare_pauses: $(COMPARE_PAUSES) $(COMPARE_PAUSES_H) $(COMMON) $(COMMON_H) $(SERVICE_LIB) | x86-compiler
-	$(X86_CC) $(STRICT) $(CFLAGS) -Iinclude $(COMPARE_PAUSES) $(COMMON) $(SERVICE_LIB) $(X86_LDFLAGS) -o $@
+$(BUILD)/compare_pauses: $(COMPARE_PAUSES) $(COMPARE_PAUSES_H) $(COMMON) $(COMMON_H) $(SERVICE_LIB) | x86-compiler
+	$(X86_CC) $(PLAIN) $(STRICT) $(CFLAGS) -Iinclude $(COMPARE_PAUSES) $(COMMON) $(SERVICE_LIB) $(X86_LDFLAGS) -o $@
 
-compare-pauses: given-pauses build/compare_pauses
-	tools/x86 build/compare_pauses "$$SEED" "$$PAUSES"
+compare-pauses: given-pauses $(BUILD)/compare_pauses
+	tools/x86 $(BUILD)/compare_pauses "$$SEED" "$$PAUSES"
 
 # Schedules, whole and cut in two: the archive's call, the emulator's own, and single calls of the archive.
 .PHONY: compare-schedule given-schedules
@@ -287,12 +362,12 @@ given-schedules:
 
 COMPARE_SCHEDULE = $(addprefix host/,compare_schedule.c schedules.c)
 
-build/compare_schedule: $(COMPARE_SCHEDULE) host/schedules.h $(STATES) $(STATES_H) $(COMMON) $(COMMON_H) $(SERVICE_LIB) | \
+$(BUILD)/compare_schedule: $(COMPARE_SCHEDULE) host/schedules.h $(STATES) $(STATES_H) $(COMMON) $(COMMON_H) $(SERVICE_LIB) | \
 		x86-compiler
-	$(X86_CC) $(STRICT) $(CFLAGS) -Iinclude $(COMPARE_SCHEDULE) $(STATES) $(COMMON) $(SERVICE_LIB) $(X86_LDFLAGS) -o $@
+	$(X86_CC) $(PLAIN) $(STRICT) $(CFLAGS) -Iinclude $(COMPARE_SCHEDULE) $(STATES) $(COMMON) $(SERVICE_LIB) $(X86_LDFLAGS) -o $@
 
-compare-schedule: given-schedules build/compare_schedule
-	tools/x86 build/compare_schedule "$$SEED" "$$SCHEDULES"
+compare-schedule: given-schedules $(BUILD)/compare_schedule
+	tools/x86 $(BUILD)/compare_schedule "$$SEED" "$$SCHEDULES"
 
 # Calls on two processors: the archive's, the emulator's, single calls, and the same beside noise in the other's place.
 .PHONY: compare-pair given-pairs
@@ -303,53 +378,67 @@ given-pairs:
 COMPARE_PAIR = $(addprefix host/,compare_pair.c processors.c schedules.c fences.c) $(STATES)
 COMPARE_PAIR_H = $(addprefix host/,processors.h schedules.h fences.h) $(STATES_H)
 
-build/compare_pair: $(COMPARE_PAIR) $(COMPARE_PAIR_H) $(COMMON) $(COMMON_H) $(SERVICE_LIB) | x86-compiler
-	$(X86_CC) $(STRICT) $(CFLAGS) -Iinclude $(COMPARE_PAIR) $(COMMON) $(SERVICE_LIB) $(X86_LDFLAGS) -o $@
+$(BUILD)/compare_pair: $(COMPARE_PAIR) $(COMPARE_PAIR_H) $(COMMON) $(COMMON_H) $(SERVICE_LIB) | x86-compiler
+	$(X86_CC) $(PLAIN) $(STRICT) $(CFLAGS) -Iinclude $(COMPARE_PAIR) $(COMMON) $(SERVICE_LIB) $(X86_LDFLAGS) -o $@
 
-compare-pair: given-pairs build/compare_pair
-	tools/x86 build/compare_pair "$$SEED" "$$PAIRS"
+compare-pair: given-pairs $(BUILD)/compare_pair
+	tools/x86 $(BUILD)/compare_pair "$$SEED" "$$PAIRS"
 
 # ---- The bench tool, over both archives
 
-TOOL = $(addprefix host/,tool.c tool_order.c tool_calls.c tool_pair.c tool_schedule.c tool_hex.c tool_list.c tool_asm.c)
-# The assembler in C tells which label a refused line means; the bytes are the archive's.
-TOOL_LABELS = host/assembly.c
+TOOL = $(addprefix host/,tool.c tool_order.c tool_words.c tool_help.c tool_explain.c tool_memory.c tool_prom.c tool_save.c \
+	tool_show.c tool_cause.c tool_machine.c tool_run.c tool_pair.c tool_schedule.c tool_list.c tool_follow.c tool_asm.c \
+	tool_compare.c tool_debug.c changes.c)
+# The assembler in C tells which label a refused line means, and the emulator which bytes a step touches; the answers are
+# the archives'.
+TOOL_ASKS = host/assembly.c host/emulator.c host/state_bytes.c
+TOOL_H = $(addprefix host/,tool.h changes.h assembly.h emulator.h state_bytes.h) $(HEADERS)
+
+# readline, where the x86-64 compiler finds it.
+X86_READLINE ?= $(shell echo 'int main(void) { return 0; }' | \
+	$(X86_CC) -x c - -include stdio.h -include readline/readline.h $(X86_LDFLAGS) -lreadline -o /dev/null 2>/dev/null && echo yes)
 
 .PHONY: tool check-tool
 
-tool: build/iop89
+tool: $(BUILD)/iop89
 
-build/iop89: $(TOOL) $(TOOL_LABELS) host/tool.h host/assembly.h include/iop89.h include/iop89_service.h $(IOP89_LIB) \
-		$(SERVICE_LIB) | x86-compiler
-	$(X86_CC) $(STRICT) $(CFLAGS) -Iinclude $(TOOL) $(TOOL_LABELS) $(IOP89_LIB) $(SERVICE_LIB) $(X86_LDFLAGS) -o $@
+$(BUILD)/iop89: $(TOOL) $(TOOL_ASKS) $(TOOL_H) $(ARCHIVES) | x86-compiler
+	$(X86_CC) $(STRICT) $(CFLAGS) -D_POSIX_C_SOURCE=200809L -DEMULATOR_NOTES $(if $(X86_READLINE),-DTOOL_READLINE) -Iinclude \
+		$(TOOL) $(TOOL_ASKS) $(ARCHIVES) $(X86_LDFLAGS) $(if $(X86_READLINE),-lreadline) -o $@
+
+# The page for man and the shell's completion, from the text of its help.
+$(BUILD)/iop89.1: $(BUILD)/iop89
+	@tools/x86 $(BUILD)/iop89 help man-page >$@
+$(BUILD)/iop89.bash: $(BUILD)/iop89
+	@tools/x86 $(BUILD)/iop89 help bash-completion >$@
 
 # Every command, every exit status, and misuse.
-check-tool: build/iop89
+check-tool: $(BUILD)/iop89
 	tools/check-tool
 
 # A host that drives both channels, saves the machine and restores it.
 .PHONY: demo-service
 
-build/both_channels: host/both_channels.c include/iop89.h include/iop89_service.h $(SERVICE_LIB) | x86-compiler
+$(BUILD)/both_channels: host/both_channels.c include/iop89.h include/iop89_service.h $(SERVICE_LIB) | x86-compiler
 	$(X86_CC) $(STRICT) $(CFLAGS) -Iinclude host/both_channels.c $(SERVICE_LIB) $(X86_LDFLAGS) -o $@
 
-demo-service: build/both_channels
-	tools/x86 build/both_channels
+demo-service: $(BUILD)/both_channels
+	tools/x86 $(BUILD)/both_channels
 
 # ---- The worked example: a sweep next to a marker table, drawn from what the tool shows
 
 .PHONY: sweep check-sweep
 
-sweep: build/iop89
+sweep: $(BUILD)/iop89
 	@tools/need python3 python3
 	tools/draw-sweep docs/sweep.svg docs/SWEEP.md
 
 # What is committed must be what is drawn.
-check-sweep: build/iop89
+check-sweep: $(BUILD)/iop89
 	@tools/need python3 python3
-	@cp docs/SWEEP.md build/SWEEP.md
-	tools/draw-sweep build/sweep.svg build/SWEEP.md
-	cmp build/sweep.svg docs/sweep.svg && cmp build/SWEEP.md docs/SWEEP.md
+	@cp docs/SWEEP.md $(BUILD)/SWEEP.md
+	tools/draw-sweep $(BUILD)/sweep.svg $(BUILD)/SWEEP.md
+	cmp $(BUILD)/sweep.svg docs/sweep.svg && cmp $(BUILD)/SWEEP.md docs/SWEEP.md
 
 # ---- PROM files: the proved reader beside one that shares nothing with it
 
@@ -361,20 +450,20 @@ HEX_H = $(addprefix host/,hex.h hex_texts.h dice.h) include/iop89.h include/iop8
 given-texts:
 	@tools/given number SEED && tools/given number TEXTS
 
-build/compare-hex: host/compare_hex.c $(HEX) $(HEX_H) $(SERVICE_LIB) | x86-compiler
-	$(X86_CC) $(STRICT) $(CFLAGS) -Iinclude host/compare_hex.c $(HEX) $(SERVICE_LIB) $(X86_LDFLAGS) -o $@
+$(BUILD)/compare-hex: host/compare_hex.c $(HEX) $(HEX_H) $(SERVICE_LIB) | x86-compiler
+	$(X86_CC) $(PLAIN) $(STRICT) $(CFLAGS) -Iinclude host/compare_hex.c $(HEX) $(SERVICE_LIB) $(X86_LDFLAGS) -o $@
 
 # What is counted is always compiled at -O2.
-build/bench-hex: host/bench_hex.c $(HEX) $(HEX_H) $(SERVICE_LIB) | x86-compiler
-	$(X86_CC) $(STRICT) -O2 -Iinclude host/bench_hex.c $(HEX) $(SERVICE_LIB) $(X86_LDFLAGS) -o $@
+$(BUILD)/bench-hex: host/bench_hex.c $(HEX) $(HEX_H) $(SERVICE_LIB) | x86-compiler
+	$(X86_CC) $(PLAIN) $(STRICT) -O2 -Iinclude host/bench_hex.c $(HEX) $(SERVICE_LIB) $(X86_LDFLAGS) -o $@
 
 # Compares both readers on the files of examples/prom and on random texts.
-compare-hex: given-texts build/compare-hex
-	tools/x86 build/compare-hex "$$SEED" "$$TEXTS"
+compare-hex: given-texts $(BUILD)/compare-hex
+	tools/x86 $(BUILD)/compare-hex "$$SEED" "$$TEXTS"
 
 # Counts the instructions of both for each byte of text.
-bench-hex: count-needs build/bench-hex
-	@tools/bench-hex build/bench-hex
+bench-hex: count-needs $(BUILD)/bench-hex
+	@tools/bench-hex $(BUILD)/bench-hex
 
 # ---- Listings: the proved lister beside one that shares nothing with it
 
@@ -386,20 +475,20 @@ LISTING_H = $(addprefix host/,listing.h dice.h) include/iop89.h include/iop89_se
 given-parts:
 	@tools/given number SEED && tools/given number PARTS
 
-build/compare-list: host/compare_list.c $(LISTING) $(LISTING_H) $(SERVICE_LIB) | x86-compiler
-	$(X86_CC) $(STRICT) $(CFLAGS) -Iinclude host/compare_list.c $(LISTING) $(SERVICE_LIB) $(X86_LDFLAGS) -o $@
+$(BUILD)/compare-list: host/compare_list.c $(LISTING) $(LISTING_H) $(SERVICE_LIB) | x86-compiler
+	$(X86_CC) $(PLAIN) $(STRICT) $(CFLAGS) -Iinclude host/compare_list.c $(LISTING) $(SERVICE_LIB) $(X86_LDFLAGS) -o $@
 
 # What is counted is always compiled at -O2.
-build/bench-list: host/bench_list.c $(LISTING) $(LISTING_H) $(SERVICE_LIB) | x86-compiler
-	$(X86_CC) $(STRICT) -O2 -Iinclude host/bench_list.c $(LISTING) $(SERVICE_LIB) $(X86_LDFLAGS) -o $@
+$(BUILD)/bench-list: host/bench_list.c $(LISTING) $(LISTING_H) $(SERVICE_LIB) | x86-compiler
+	$(X86_CC) $(PLAIN) $(STRICT) -O2 -Iinclude host/bench_list.c $(LISTING) $(SERVICE_LIB) $(X86_LDFLAGS) -o $@
 
 # Lists every first pair with rests of every length, random code and the rows of host/notation.txt by both listers.
-compare-list: given-parts build/compare-list
-	tools/x86 build/compare-list "$$SEED" "$$PARTS" host/notation.txt
+compare-list: given-parts $(BUILD)/compare-list
+	tools/x86 $(BUILD)/compare-list "$$SEED" "$$PARTS" host/notation.txt
 
 # Counts the instructions of both listers for each byte that they list.
-bench-list: count-needs build/bench-list
-	@tools/bench-list build/bench-list
+bench-list: count-needs $(BUILD)/bench-list
+	@tools/bench-list $(BUILD)/bench-list
 
 # ---- Assembling: the proved assembler beside one in C that was written from the papers alone
 
@@ -410,32 +499,32 @@ COMPARE_ASM_H = $(addprefix host/,asm_texts.h fences.h) $(ASSEMBLY_H) include/io
 
 .PHONY: asmtest compare-asm bench-asm given-asm-texts
 
-build/asmtest: host/asmtest.c $(ASSEMBLY) $(ASSEMBLY_H) | compiler
-	@mkdir -p build
+$(BUILD)/asmtest: host/asmtest.c $(ASSEMBLY) $(ASSEMBLY_H) | compiler
+	@mkdir -p $(BUILD)
 	$(CC) $(STRICT) $(CFLAGS) host/asmtest.c $(ASSEMBLY) -o $@
 
 # Its own checks: the rows of host/notation.txt both ways, the maker's sample, every number and its borders.
-asmtest: build/asmtest
-	build/asmtest host/notation.txt examples/f59.asm
+asmtest: $(BUILD)/asmtest
+	$(BUILD)/asmtest host/notation.txt examples/f59.asm
 
 given-asm-texts:
 	@tools/given number SEED && tools/given number ASM_TEXTS
 
-build/compare-asm: $(COMPARE_ASM) $(COMPARE_ASM_H) $(SERVICE_LIB) | x86-compiler
-	$(X86_CC) $(STRICT) $(CFLAGS) -Iinclude $(COMPARE_ASM) $(SERVICE_LIB) $(X86_LDFLAGS) -o $@
+$(BUILD)/compare-asm: $(COMPARE_ASM) $(COMPARE_ASM_H) $(SERVICE_LIB) | x86-compiler
+	$(X86_CC) $(PLAIN) $(STRICT) $(CFLAGS) -Iinclude $(COMPARE_ASM) $(SERVICE_LIB) $(X86_LDFLAGS) -o $@
 
 # What is counted is always compiled at -O2.
-build/bench-asm: host/bench_asm.c $(ASSEMBLY) $(ASSEMBLY_H) include/iop89.h include/iop89_service.h $(SERVICE_LIB) | \
+$(BUILD)/bench-asm: host/bench_asm.c $(ASSEMBLY) $(ASSEMBLY_H) include/iop89.h include/iop89_service.h $(SERVICE_LIB) | \
 		x86-compiler
-	$(X86_CC) $(STRICT) -O2 -Iinclude host/bench_asm.c $(ASSEMBLY) $(SERVICE_LIB) $(X86_LDFLAGS) -o $@
+	$(X86_CC) $(PLAIN) $(STRICT) -O2 -Iinclude host/bench_asm.c $(ASSEMBLY) $(SERVICE_LIB) $(X86_LDFLAGS) -o $@
 
 # Assembles random texts, texts by hand and the listing of every first pair by both assemblers.
-compare-asm: given-asm-texts build/compare-asm
-	tools/x86 build/compare-asm "$$SEED" "$$ASM_TEXTS" host/notation.txt examples/f59.asm
+compare-asm: given-asm-texts $(BUILD)/compare-asm
+	tools/x86 $(BUILD)/compare-asm "$$SEED" "$$ASM_TEXTS" host/notation.txt examples/f59.asm
 
 # Counts the instructions of both assemblers for each character of text.
-bench-asm: count-needs build/bench-asm
-	@tools/bench-asm build/bench-asm
+bench-asm: count-needs $(BUILD)/bench-asm
+	@tools/bench-asm $(BUILD)/bench-asm
 
 # ---- A sweep's time beside memcpy's
 
@@ -447,10 +536,10 @@ x86-machine:
 		{ echo "bench-sweep: times say nothing here: this is no x86-64, and an emulator runs the library" >&2; exit 2; }
 
 # What is timed is always compiled at -O2.
-build/bench-sweep: host/bench_sweep.c host/sweep_case.h include/iop89.h include/iop89_service.h $(SERVICE_LIB) | \
+$(BUILD)/bench-sweep: host/bench_sweep.c host/sweep_case.h include/iop89.h include/iop89_service.h $(SERVICE_LIB) | \
 		x86-compiler
-	$(X86_CC) $(STRICT) -D_POSIX_C_SOURCE=200809L -O2 -Iinclude host/bench_sweep.c $(SERVICE_LIB) $(X86_LDFLAGS) -o $@
+	$(X86_CC) $(PLAIN) $(STRICT) -D_POSIX_C_SOURCE=200809L -O2 -Iinclude host/bench_sweep.c $(SERVICE_LIB) $(X86_LDFLAGS) -o $@
 
 # Times a sweep of 65,535 and of 65,536 bytes against memcpy, in nine alternating rounds.
-bench-sweep: x86-machine build/bench-sweep
-	@build/bench-sweep
+bench-sweep: x86-machine $(BUILD)/bench-sweep
+	@$(BUILD)/bench-sweep

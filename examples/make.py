@@ -339,6 +339,11 @@ BOARD = prom(
 )
 
 
+# The copy from odd to odd as two PROMs, one with its even bytes and one with its odd ones, as a board with two sockets has it.
+PAIR = {half: prom(*((at, IMAGES["copy-odd"][first::2][at:at + 16]) for at in range(0, len(IMAGES["copy-odd"]) // 2, 16)))
+        for first, half in enumerate(("even", "odd"))}
+
+
 def main():
     """Writes every image."""
     folder = Path(sys.argv[1] if len(sys.argv) > 1 else Path(__file__).parent)
@@ -347,6 +352,8 @@ def main():
     for name, data in PORTS.items():
         (folder / (name + ".ports")).write_bytes(data)
     (folder / "board.hex").write_text(BOARD)
+    for half, text in PAIR.items():
+        (folder / f"{half}.prom").write_text(text)
 
 
 if __name__ == "__main__":

@@ -79,10 +79,19 @@ static void test_empty(void)
     expect("io NULL, program in io", iop89_run(sys, 64, NO_BUFFER, 0, 0, 1, 0, 100), IOP89_NO_INSTRUCTION, 0);
 }
 
+/* Header and archive belong together. */
+static void test_version(void)
+{
+    if (iop89_version() == IOP89_VERSION) return;
+    printf("the archive's version is %u, the header's %d\n", iop89_version(), IOP89_VERSION);
+    wrong++;
+}
+
 int main(void)
 {
     test_ranges();
     test_empty();
+    test_version();
     printf("iop89 %d.%d: %u answers not as the header has them\n", IOP89_VERSION / 100, IOP89_VERSION % 100, wrong);
     return wrong == 0 ? 0 : 1;
 }

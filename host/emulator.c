@@ -14,6 +14,14 @@
 enum { RRR_TP = 4, RRR_CC = 6 };
 
 struct emu_coverage *emu_coverage = NULL;
+struct emu_touches *emu_touches = NULL;
+
+/* Only who asks for notes pays for them. */
+#ifdef EMULATOR_NOTES
+#define ASKED (emu_touches != NULL)
+#else
+#define ASKED false
+#endif
 
 /* ---- Work: a call on trial, whose state and stores count only if nothing refuses it ---- */
 
@@ -70,6 +78,7 @@ static struct emu_answer finish(const struct work *w, struct emu_state *state)
 {
     struct emu_answer done = {EMU_DONE, w->touched};
     if (w->number != EMU_DONE) return refused_by(w->number);
+    if (ASKED) return done;
     for (unsigned i = 0; i < w->stores; i++) *w->store[i].cell = w->store[i].byte;
     *state = w->state;
     return done;
@@ -114,13 +123,23 @@ static inline uint8_t *accessed(struct work *w, struct emu_pointer p, enum emu_a
     return c;
 }
 
+/* Notes a byte that is read or stored where a list of them is lent. */
+static inline void note(struct emu_pointer p, enum emu_access access, bool lent, bool stored, uint32_t byte)
+{
+    if (!ASKED || emu_touches->count == EMU_TOUCHES) return;
+    struct emu_touch touch = {{p.address & (p.tag ? MASK16 : MASK20), p.tag}, access, lent, stored, (uint8_t)byte};
+    emu_touches->touch[emu_touches->count++] = touch;
+}
+
 /* Reads n bytes, low byte first, each at its own reduced address. */
 static inline uint32_t read_bytes(struct work *w, struct emu_pointer p, unsigned n, enum emu_access access)
 {
     uint32_t value = 0;
     for (unsigned i = 0; i < n; i++) {
         const uint8_t *c = accessed(w, plus(p, i), access);
-        value |= (uint32_t)(c == NULL ? EMPTY_SLOT : *c) << (8 * i);
+        uint32_t byte = c == NULL ? EMPTY_SLOT : *c;
+        note(plus(p, i), access, c != NULL, false, byte);
+        value |= byte << (8 * i);
     }
     return value;
 }
@@ -130,6 +149,7 @@ static inline void write_bytes(struct work *w, struct emu_pointer p, uint32_t va
 {
     for (unsigned i = 0; i < n; i++) {
         uint8_t *c = accessed(w, plus(p, i), access);
+        note(plus(p, i), access, c != NULL, true, value >> (8 * i));
         if (c == NULL) continue;
         w->store[w->stores].cell = c;
         w->store[w->stores].byte = (uint8_t)(value >> (8 * i));

@@ -250,6 +250,22 @@ enum emu_access {
 /* How many of the bytes of one such access lie in empty slots: its only one, all of several, or some of them. */
 enum emu_slots { EMU_ALONE, EMU_ALL, EMU_SOME, EMU_SLOT_SETS };
 
+/* One byte that a call reads or stores: where, what for, whether it is lent, and which byte. */
+struct emu_touch {
+    struct emu_pointer at;
+    enum emu_access access;
+    bool lent, stored;
+    uint8_t byte;
+};
+
+/* The bytes that a call touches, in its order; no call touches as many as have room here. */
+enum { EMU_TOUCHES = 24 };
+
+struct emu_touches {
+    unsigned count;
+    struct emu_touch touch[EMU_TOUCHES];
+};
+
 /* Counters that a comparison program may lend, to see what its calls reached. */
 struct emu_coverage {
     unsigned long attention[8];             /* accepted, by command */
@@ -292,6 +308,10 @@ struct emu_coverage {
 
 /* The lent counters, or NULL for none. */
 extern struct emu_coverage *emu_coverage;
+
+/* A lent list of what the next call touches, or NULL. While one is lent no call changes state or memory: it is only asked.
+ * Only where EMULATOR_NOTES is defined is there such a list. */
+extern struct emu_touches *emu_touches;
 
 /* The fields of a CC value. */
 struct emu_fields emu_fields_of(uint16_t cc);

@@ -1,19 +1,11 @@
 /* A host program: lends an image as system memory to one run, and shows the answer and every byte that changed. */
+#include "changes.h"
 #include "iop89.h"
 
 #include <errno.h>
 #include <stdio.h>
 #include <stdlib.h>
 #include <string.h>
-
-/* Bytes in one row of the view of changes. */
-#define ROW 8u
-
-/* One lent buffer, as it was before the run and as it is. */
-struct lent {
-    uint8_t *before, *now;
-    size_t length;
-};
 
 /* What the command line asks for. */
 struct order {
@@ -125,49 +117,14 @@ static struct lent lend(uint8_t *bytes, size_t length)
     return lent;
 }
 
-/* How many bytes of a row changed. */
-static size_t changes(const struct lent *lent, size_t from, size_t to)
-{
-    size_t count = 0;
-    for (size_t i = from; i < to; i++) count += lent->before[i] != lent->now[i];
-    return count;
-}
-
-/* Prints one side of a row, with dots for the bytes that did not change. */
-static void print_side(const struct lent *lent, const uint8_t *side, size_t from, size_t to)
-{
-    for (size_t i = from; i < from + ROW; i++) {
-        if (i >= to) fputs("   ", stdout);
-        else if (lent->before[i] == lent->now[i]) fputs(" ..", stdout);
-        else printf(" %02X", side[i]);
-    }
-}
-
-/* Prints the changed bytes of a buffer: address, old, new. */
-static void print_changes(const char *name, const struct lent *lent)
-{
-    size_t count = changes(lent, 0, lent->length);
-    printf("%s: %zu of %zu bytes changed\n", name, count, lent->length);
-    if (count > 0) printf("  address  %-*s   new\n", (int)ROW * 3 - 1, "old");
-    for (size_t from = 0; from < lent->length; from += ROW) {
-        size_t to = lent->length - from < ROW ? lent->length : from + ROW;
-        if (changes(lent, from, to) == 0) continue;
-        printf("  %05zX   ", from);
-        print_side(lent, lent->before, from, to);
-        fputs("  ", stdout);
-        print_side(lent, lent->now, from, to);
-        putchar('\n');
-    }
-}
-
 int main(int count, char **words)
 {
     struct order order = read_order(count, words);
     size_t length = 0;
     uint8_t *image = load(order.image, &length);
     struct lent sys = lend(image, length), io = lend(room(order.io_length), order.io_length);
-    uint32_t answer = iop89_run(sys.now, sys.length, io.now, io.length, order.cp, order.channel, order.lines,
-                                order.limit);
+    iop89_run_answer answer = iop89_run(sys.now, sys.length, io.now, io.length, order.cp, order.channel, order.lines,
+                                        order.limit);
     printf("number %u: %s\n", IOP89_NUMBER(answer), iop89_words(IOP89_NUMBER(answer)));
     printf("steps done: %u\n", IOP89_STEPS(answer));
     print_changes("system memory", &sys);

@@ -3,15 +3,11 @@
 #include "tool.h"
 
 #include <inttypes.h>
-#include <stdio.h>
 #include <stdlib.h>
 #include <string.h>
 
-/* The data bytes of a record, the addresses of a segment, and how much of a line a complaint shows. */
-enum { RECORD = 16, SEGMENT = 65536, MOST_SHOWN = 200 };
-
-/* The types of records. */
-enum { DATA_RECORD = 0, END_RECORD = 1, SEGMENT_RECORD = 2 };
+/* How much of a line a complaint shows. */
+enum { MOST_SHOWN = 200 };
 
 /* ---- Refusals ---- */
 
@@ -49,7 +45,7 @@ static void say_line(struct tool_text text, uint32_t line)
 }
 
 /* Says which number refused a text, in words, and at which line, with the line; for 33 which label and why. */
-static _Noreturn void refuse(const struct tool_order *order, struct tool_text text, uint64_t answer)
+static _Noreturn void refuse(const struct tool_order *order, struct tool_text text, iop89_asm_answer answer)
 {
     unsigned number = IOP89_ASM_NUMBER(answer);
     struct faulty_label label = {LABEL_GOOD, 0, 0};
@@ -66,61 +62,12 @@ static _Noreturn void refuse(const struct tool_order *order, struct tool_text te
     exit(TOOL_REFUSED);
 }
 
-/* ---- Images ---- */
-
-/* Writes a record with its check byte. */
-static void write_record(FILE *file, uint32_t offset, unsigned type, const uint8_t *bytes, size_t count)
-{
-    size_t sum = count + (offset >> 8) + offset + type;
-    fprintf(file, ":%02zX%04" PRIX32 "%02X", count, offset, type);
-    for (size_t i = 0; i < count; i++) {
-        fprintf(file, "%02X", bytes[i]);
-        sum += bytes[i];
-    }
-    fprintf(file, "%02zX\n", (0 - sum) & 0xFFu);
-}
-
-/* Writes an image from an address on as a PROM file: no record goes over the end of a segment. */
-static void write_hex(FILE *file, const uint8_t *image, size_t length, uint32_t at)
-{
-    uint32_t segment = 0;
-    for (size_t done = 0, count; done < length; done += count) {
-        uint32_t address = at + (uint32_t)done;
-        count = SEGMENT - address % SEGMENT;
-        if (count > RECORD) count = RECORD;
-        if (count > length - done) count = length - done;
-        if (address / SEGMENT != segment) {
-            uint8_t base[2] = {(uint8_t)((segment = address / SEGMENT) << 4), 0};
-            write_record(file, 0, SEGMENT_RECORD, base, sizeof base);
-        }
-        write_record(file, address % SEGMENT, DATA_RECORD, image + done, count);
-    }
-    write_record(file, 0, END_RECORD, NULL, 0);
-}
-
-/* Writes an image to the file that the order names. */
-static void write_image(const struct tool_order *order, const uint8_t *image, size_t length)
-{
-    uint32_t at = order->file[0].at;
-    bool hex = tool_is_hex(order->out);
-    if (hex && at + length > TOOL_MOST) tool_usage("a PROM file that reaches past a megabyte", order->out);
-    FILE *file = fopen(order->out, "wb");
-    if (file == NULL) tool_give_up(order->out);
-    if (hex) write_hex(file, image, length, at);
-    else fwrite(image, 1, length, file);
-    bool failed = fflush(file) != 0 || ferror(file);
-    if (failed || fclose(file) != 0) tool_give_up(order->out);
-    printf("%s: %zu byte%s from %05" PRIX32 "\n", order->out, length, length == 1 ? "" : "s", at);
-}
-
 /* ---- The command ---- */
 
 /* Says which of the words are not for texts, and which do not go together. */
 static void refuse_words(const struct tool_order *order)
 {
     if (order->files > 1) tool_usage("asm takes one text", order->file[1].name);
-    if (order->from != 0 || order->count != UINT32_MAX)
-        tool_usage("asm has -at and -room, and neither -from nor -count", NULL);
     if (order->out == NULL) return;
     if (order->source) tool_usage("-source and -out", NULL);
     if (strcmp(order->out, order->file[0].name) == 0) tool_usage("-out would overwrite the text", order->out);
@@ -133,10 +80,10 @@ enum tool_status tool_asm(const struct tool_order *order)
     uint8_t *image = malloc(order->room + 1u);
     if (image == NULL) tool_give_up("memory");
     uint32_t first = order->has_first ? order->first : order->file[0].at;
-    uint64_t answer = iop89_assemble(text.bytes, text.length, first, image, order->room);
+    iop89_asm_answer answer = iop89_assemble(text.bytes, text.length, first, image, order->room);
     if (IOP89_ASM_NUMBER(answer) != IOP89_DONE) refuse(order, text, answer);
-    if (order->out != NULL) write_image(order, image, IOP89_ASM_STORED(answer));
-    else tool_print_listing(image, IOP89_ASM_STORED(answer), first, order->source);
+    if (order->out != NULL) tool_save(order->out, image, IOP89_ASM_STORED(answer), order->file[0].at);
+    else tool_print_listing(image, IOP89_ASM_STORED(answer), first, order->source, false);
     free(image);
     free(text.bytes);
     return TOOL_DONE;

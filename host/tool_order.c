@@ -1,38 +1,19 @@
-/* Reads the bench tool's command line, and loads the memory that it asks for. */
+/* Reads the bench tool's command line into what it asks for. */
 #include "tool.h"
 
-#include <errno.h>
-#include <stdio.h>
 #include <stdlib.h>
 #include <string.h>
 
-/* ---- Words ---- */
+/* What is read: the order, the words that are left, the option that is read, and what is known of the next file. */
+struct reader {
+    struct tool_order *order;
+    char **words;
+    int left;
+    const char *option;
+    struct tool_file next;
+};
 
-/* A digit's value, or 16 for any other character. */
-static unsigned digit(char c)
-{
-    if (c >= '0' && c <= '9') return (unsigned)(c - '0');
-    if (c >= 'a' && c <= 'f') return (unsigned)(c - 'a') + 10;
-    if (c >= 'A' && c <= 'F') return (unsigned)(c - 'A') + 10;
-    return 16;
-}
-
-/* Decimal, or hexadecimal behind 0x; a leading 0 alone means nothing. */
-const char *tool_read_number(const char *from, size_t length, uint32_t *number)
-{
-    bool hex = length >= 2 && from[0] == '0' && (from[1] == 'x' || from[1] == 'X');
-    unsigned base = hex ? 16 : 10;
-    uint64_t value = 0;
-    size_t at = hex ? 2 : 0;
-    if (at == length) return "not a number";
-    for (; at < length; at++) {
-        if (digit(from[at]) >= base) return "not a number";
-        value = value * base + digit(from[at]);
-        if (value > UINT32_MAX) return "a number over 4,294,967,295";
-    }
-    *number = (uint32_t)value;
-    return NULL;
-}
+/* ---- Values ---- */
 
 /* The number that some characters of a word write. */
 static uint32_t number_in(const char *word, const char *from, size_t length)
@@ -43,260 +24,309 @@ static uint32_t number_in(const char *word, const char *from, size_t length)
     return number;
 }
 
-/* The number that a whole word writes. */
-static uint32_t number_of(const char *option, const char *word)
+/* The next word, which an option asks for as this. */
+static const char *value(struct reader *r, const char *what)
 {
-    if (word == NULL) tool_usage("a number is missing behind", option);
+    if (r->left < 2) tool_usage(what, r->option);
+    r->left--;
+    return *++r->words;
+}
+
+/* The number behind an option; and one that is held to the most that a length may be. */
+static uint32_t number_of(struct reader *r)
+{
+    const char *word = value(r, "a number is missing behind");
     return number_in(word, word, strlen(word));
 }
 
-/* The number behind an option, held to the most that it may be. */
-static uint32_t length_of(const char *option, const char *word)
+static uint32_t length_of(struct reader *r)
 {
-    uint32_t value = number_of(option, word);
-    if (value > TOOL_MOST) tool_usage("over 1,048,576", word);
-    return value;
+    const char *word = value(r, "a number is missing behind");
+    uint32_t number = number_in(word, word, strlen(word));
+    if (number > TOOL_MOST) tool_usage("over 1,048,576", word);
+    return number;
 }
 
 /* The file behind an option. */
-static const char *file_of(const char *option, const char *word)
+static const char *file_of(struct reader *r)
 {
-    if (word == NULL) tool_usage("a file is missing behind", option);
-    return word;
+    return value(r, "a file is missing behind");
 }
 
-/* ---- Options ---- */
-
-/* The processor that an option of this name is for, the second one where it ends in 2, or NULL for any other word. */
-static struct tool_processor *processor_of(struct tool_order *order, const char *option, const char *name)
+/* The space behind an option. */
+static bool space_of(struct reader *r)
 {
-    size_t length = strlen(name);
-    if (strncmp(option, name, length) != 0) return NULL;
-    if (option[length] == '\0') return &order->of[0];
-    if (strcmp(option + length, "2") != 0) return NULL;
-    if (order->second_word == NULL) order->second_word = option;
-    return &order->of[1];
+    bool in_io = false;
+    const char *word = value(r, "a space is missing behind"), *complaint = tool_read_space(word, &in_io);
+    if (complaint != NULL) tool_usage(complaint, word);
+    return in_io;
 }
 
-/* The place that an option with one number fills, or NULL for any other word. */
-static uint32_t *place_of(struct tool_order *order, const char *option)
+/* ---- Options that are more than a number ---- */
+
+/* Room for one more of something. */
+static unsigned one_more(unsigned *count, unsigned most, const char *complaint)
 {
-    if (strcmp(option, "-cp") == 0) return &order->of[0].cp;
-    if (strcmp(option, "-pair") == 0) return &order->of[1].cp;
-    if (strcmp(option, "-limit") == 0) return &order->limit;
-    if (strcmp(option, "-first") == 0) return &order->first;
-    return NULL;
+    if (*count == most) tool_usage(complaint, NULL);
+    return (*count)++;
 }
 
-/* The mark that an option without a value sets, or NULL for any other word. */
-static bool *mark_of(struct tool_order *order, const char *option)
+/* Takes line numbers: a word of digits and commas, or the name of a text. */
+static void take_lines(struct tool_processor *processor, struct reader *r)
 {
-    if (strcmp(option, "-source") == 0) return &order->source;
-    if (strcmp(option, "-board") == 0) return &order->board;
-    if (strcmp(option, "-sweep") == 0) return &order->sweep;
-    if (strcmp(option, "-trace") == 0) return &order->trace;
-    return NULL;
-}
-
-/* The mark that says that an option was given at all, or NULL where nobody asks. */
-static bool *given_mark(struct tool_order *order, const char *option)
-{
-    if (strcmp(option, "-cp") == 0) return &order->has_cp;
-    if (strcmp(option, "-pair") == 0) return &order->pair;
-    if (strcmp(option, "-lines") == 0) return &order->has_lines;
-    if (strcmp(option, "-limit") == 0) return &order->has_limit;
-    if (strcmp(option, "-channel") == 0) return &order->has_channel;
-    if (strcmp(option, "-first") == 0) return &order->has_first;
-    if (strcmp(option, "-room") == 0) return &order->has_room;
-    return NULL;
-}
-
-/* Takes the line numbers of a word, with commas between them. */
-static void take_lines(struct tool_processor *processor, const char *option, const char *word)
-{
-    if (word == NULL) tool_usage("a number is missing behind", option);
-    processor->line_numbers = 0;
-    for (const char *from = word;; from++) {
-        size_t length = strcspn(from, ",");
-        if (processor->line_numbers == TOOL_LINES) tool_usage("more than 16 line numbers", word);
-        processor->lines[processor->line_numbers++] = number_in(word, from, length);
-        from += length;
-        if (*from == '\0') return;
+    const char *word = value(r, "a number is missing behind"), *complaint;
+    processor->lines.count = 0;
+    if (word[0] == '\0' || word[0] == ',' || (word[0] >= '0' && word[0] <= '9')) {
+        for (const char *from = word;; from++) {
+            size_t length = strcspn(from, ",");
+            tool_add_line(&processor->lines, number_in(word, from, length));
+            from += length;
+            if (*from == '\0') return;
+        }
     }
+    struct tool_text text = tool_read_text(word);
+    complaint = tool_read_lines((const char *)text.bytes, text.length, &processor->lines);
+    if (complaint != NULL) tool_usage(complaint, word);
+    free(text.bytes);
 }
 
 /* Adds a channel. */
-static void add_channel(struct tool_processor *processor, const char *option, const char *word)
+static void add_channel(struct tool_processor *processor, struct reader *r)
 {
+    const char *word = value(r, "a number is missing behind");
     if (processor->channels == TOOL_CHANNELS) tool_usage("more than two channels", word);
-    processor->channel[processor->channels++] = number_of(option, word);
+    processor->channel[processor->channels++] = number_in(word, word, strlen(word));
 }
 
-/* Adds a range to be shown: the two words behind its option. */
-static void add_range(struct tool_order *order, char **words, bool in_io, bool second)
+/* Adds a range to be shown. */
+static void add_range(struct reader *r, bool in_io, bool second)
 {
-    if (order->ranges == TOOL_SHOWN) tool_usage("more than 16 ranges to show", NULL);
-    struct tool_range *range = &order->shown[order->ranges++];
-    range->from = length_of(words[0], words[1]);
-    range->count = length_of(words[0], words[2]);
+    struct tool_range *range =
+        &r->order->shown[one_more(&r->order->ranges, TOOL_SHOWN, "more than 16 ranges to show")];
+    range->from = length_of(r);
+    range->count = length_of(r);
     range->in_io = in_io;
     range->second = second;
 }
 
-/* Takes an option of one processor with its value; answers whether it is one. */
-static bool take_of_processor(struct tool_order *order, char **words)
+/* Adds a range to be watched, of one byte where the next word is no length. */
+static void add_watch(struct reader *r)
 {
-    struct tool_processor *lines = processor_of(order, words[0], "-lines"), *io = processor_of(order, words[0], "-io");
-    struct tool_processor *channel = processor_of(order, words[0], "-channel");
-    struct tool_processor *image = processor_of(order, words[0], "-io-image");
-    if (lines != NULL) take_lines(lines, words[0], words[1]);
-    if (channel != NULL) add_channel(channel, words[0], words[1]);
-    if (io != NULL) io->io_length = length_of(words[0], words[1]);
-    if (image != NULL) image->io_image = file_of(words[0], words[1]);
-    return lines != NULL || channel != NULL || io != NULL || image != NULL;
+    struct tool_range *range = &r->order->watch[one_more(&r->order->watches, TOOL_STOPS, "more than 16 to watch")];
+    range->in_io = space_of(r);
+    range->from = length_of(r);
+    range->count = 1;
+    if (r->left > 1 && r->words[1][0] >= '0' && r->words[1][0] <= '9') range->count = length_of(r);
 }
 
-/* Takes one option with its values; answers how many words it was, 0 for a word that is no option. */
-static int take_option(struct tool_order *order, char **words, uint32_t *at)
+/* Adds a port. */
+static void add_port(struct reader *r)
 {
-    uint32_t *place = place_of(order, words[0]);
-    bool *mark = mark_of(order, words[0]), *given = given_mark(order, words[0]);
-    const struct tool_processor *shown = processor_of(order, words[0], "-show-io");
-    if (mark != NULL) {
-        *mark = true;
-        return 1;
+    struct tool_port *port = &r->order->port[one_more(&r->order->ports, TOOL_PORTS, "more than 8 ports")];
+    port->in_io = space_of(r);
+    port->at = length_of(r);
+    port->name = file_of(r);
+}
+
+/* Adds an attention, STEP:CHANNEL[:CCW]. */
+static void add_event(struct reader *r)
+{
+    const char *word = value(r, "an attention is missing behind"), *from = word;
+    struct tool_event *event = &r->order->event[one_more(&r->order->events, TOOL_EVENTS, "more than 64 attentions")];
+    size_t length = strcspn(from, ":");
+    event->step = number_in(word, from, length);
+    if (from[length] != ':') tool_usage("no STEP:CHANNEL", word);
+    if (event->step == 0) tool_usage("steps count from 1", word);
+    from += length + 1;
+    length = strcspn(from, ":");
+    event->channel = number_in(word, from, length);
+    event->has_ccw = from[length] == ':';
+    if (event->has_ccw) event->ccw = number_in(word, from + length + 1, strlen(from + length + 1));
+    if (event->ccw > 255) tool_usage("a CCW over 255", word);
+}
+
+/* Adds a setting. */
+static void add_setting(struct reader *r)
+{
+    const char *word = value(r, "a setting is missing behind");
+    const char *complaint = tool_read_setting(
+        word, &r->order->setting[one_more(&r->order->settings, TOOL_SETTINGS, "more than 32 settings")]);
+    if (complaint != NULL) tool_usage(complaint, word);
+}
+
+/* Adds a file, with what was said of it. */
+static void add_file(struct reader *r, const char *name, enum tool_half half)
+{
+    if (r->order->files == TOOL_FILES) tool_usage("more than 16 files", name);
+    r->next.name = name;
+    r->next.half = half;
+    r->order->file[r->order->files++] = r->next;
+    uint32_t at = r->next.at;
+    unsigned halves = 0;
+    for (unsigned i = 0; i < r->order->files; i++) halves += r->order->file[i].half != TOOL_WHOLE;
+    memset(&r->next, 0, sizeof r->next);
+    /* The second PROM of a pair lies where the first one does, unless it is said otherwise. */
+    if (half != TOOL_WHOLE && halves % 2 == 1) r->next.at = at;
+}
+
+/* ---- Which option ---- */
+
+/* Takes an option that fills a number; answers whether it is one. */
+static bool take_number(struct reader *r, const char *option)
+{
+    struct tool_order *o = r->order;
+    if (strcmp(option, "-cp") == 0) o->has_cp = true, o->of[0].cp = number_of(r);
+    else if (strcmp(option, "-pair") == 0) o->pair = true, o->of[1].cp = number_of(r);
+    else if (strcmp(option, "-limit") == 0) o->limit = number_of(r);
+    else if (strcmp(option, "-first") == 0) o->has_first = true, o->first = number_of(r);
+    else if (strcmp(option, "-until") == 0) o->has_until = true, o->until = number_of(r);
+    else if (strcmp(option, "-at") == 0) r->next.has_at = true, r->next.at = length_of(r);
+    else if (strcmp(option, "-from") == 0) o->has_from = true, o->from = length_of(r);
+    else if (strcmp(option, "-count") == 0) o->count = length_of(r);
+    else if (strcmp(option, "-system") == 0) o->system_length = length_of(r);
+    else if (strcmp(option, "-room") == 0) o->room = length_of(r);
+    else if (strcmp(option, "-break") == 0) o->stop[one_more(&o->stops, TOOL_STOPS, "more than 16 breaks")] = number_of(r);
+    else return false;
+    return true;
+}
+
+/* The mark that an option without a value sets, or NULL for any other word. */
+static bool *mark_of(struct tool_order *o, const char *option)
+{
+    const struct {
+        const char *name;
+        bool *mark;
+    } marks[] = {{"-source", &o->source}, {"-board", &o->board},         {"-sweep", &o->sweep},   {"-over", &o->over},
+                 {"-diff", &o->diff},     {"-regs", &o->regs},           {"-follow", &o->follow}, {"-labels", &o->labels},
+                 {"-no-labels", &o->no_labels}, {"-no-header", &o->no_header}};
+    for (size_t i = 0; i < sizeof marks / sizeof marks[0]; i++)
+        if (strcmp(option, marks[i].name) == 0) return marks[i].mark;
+    return NULL;
+}
+
+/* The place for the name of a file that an option gives, or NULL for any other word. */
+static const char **name_of(struct tool_order *o, const char *option)
+{
+    const struct {
+        const char *name;
+        const char **place;
+    } names[] = {{"-out", &o->out},           {"-save", &o->save},   {"-save-io", &o->save_io},
+                 {"-save-state", &o->save_state}, {"-state", &o->state}, {"-trace", &o->trace_file},
+                 {"-script", &o->script},     {"-io-image", &o->of[0].io_image}, {"-io-image2", &o->of[1].io_image}};
+    for (size_t i = 0; i < sizeof names / sizeof names[0]; i++)
+        if (strcmp(option, names[i].name) == 0) return names[i].place;
+    return NULL;
+}
+
+/* Takes an option that adds something; answers whether it is one. */
+static bool take_more(struct reader *r, const char *option)
+{
+    struct tool_order *o = r->order;
+    if (strcmp(option, "-lines") == 0) take_lines(&o->of[0], r);
+    else if (strcmp(option, "-lines2") == 0) take_lines(&o->of[1], r);
+    else if (strcmp(option, "-channel") == 0) o->has_channel = true, add_channel(&o->of[0], r);
+    else if (strcmp(option, "-channel2") == 0) add_channel(&o->of[1], r);
+    else if (strcmp(option, "-io") == 0) o->of[0].io_length = length_of(r);
+    else if (strcmp(option, "-io2") == 0) o->of[1].io_length = length_of(r);
+    else if (strcmp(option, "-show") == 0) add_range(r, false, false);
+    else if (strcmp(option, "-show-io") == 0) add_range(r, true, false);
+    else if (strcmp(option, "-show-io2") == 0) add_range(r, true, true);
+    else if (strcmp(option, "-watch") == 0) add_watch(r);
+    else if (strcmp(option, "-port") == 0) add_port(r);
+    else if (strcmp(option, "-attention") == 0) add_event(r);
+    else if (strcmp(option, "-set") == 0) add_setting(r);
+    else if (strcmp(option, "-even") == 0) add_file(r, file_of(r), TOOL_EVEN);
+    else if (strcmp(option, "-odd") == 0) add_file(r, file_of(r), TOOL_ODD);
+    else if (strcmp(option, "-raw") == 0) r->next.form = TOOL_RAW;
+    else if (strcmp(option, "-hex") == 0) r->next.form = TOOL_HEX;
+    else return false;
+    return true;
+}
+
+/* Whether the command takes an option: one that no command has ends the program, and so does one of another command. */
+static void know(const struct tool_order *order, const char *option)
+{
+    bool known = false;
+    for (const struct tool_option *o = tool_options; o->name != NULL; o++) {
+        if (strcmp(o->name, option) != 0) continue;
+        if ((o->commands & order->command->bit) != 0) return;
+        known = true;
     }
-    if (given != NULL) *given = true;
-    if (place != NULL) *place = number_of(words[0], words[1]);
-    else if (strcmp(words[0], "-at") == 0) *at = length_of(words[0], words[1]);
-    else if (strcmp(words[0], "-from") == 0) order->from = length_of(words[0], words[1]);
-    else if (strcmp(words[0], "-count") == 0) order->count = length_of(words[0], words[1]);
-    else if (strcmp(words[0], "-system") == 0) order->system_length = length_of(words[0], words[1]);
-    else if (strcmp(words[0], "-room") == 0) order->room = length_of(words[0], words[1]);
-    else if (strcmp(words[0], "-out") == 0) order->out = file_of(words[0], words[1]);
-    else if (shown != NULL || strcmp(words[0], "-show") == 0) {
-        add_range(order, words, shown != NULL, shown == &order->of[1]);
-        return 3;
-    } else if (take_of_processor(order, words)) return 2;
-    else if (words[0][0] == '-' && words[0][1] != '\0') tool_usage("unknown option", words[0]);
-    else return 0;
-    return 2;
+    if (!known) tool_usage("unknown option", option);
+    fflush(stdout);
+    fprintf(stderr, "iop89: %s does not take %s\niop89: \"iop89 help %s\" says what it takes\n", order->command->name,
+            option, order->command->name);
+    exit(TOOL_FAILED);
+}
+
+/* Takes one option with its values. */
+static void take_option(struct reader *r)
+{
+    const char *option = r->option = r->words[0];
+    size_t length = strlen(option);
+    know(r->order, option);
+    if (option[length - 1] == '2' && r->order->second_word == NULL) r->order->second_word = option;
+    if (strcmp(option, "-trace") == 0 && r->order->command->bit == TOOL_SCHEDULE) {
+        r->order->trace = true;
+        return;
+    }
+    bool *mark = mark_of(r->order, option);
+    const char **name = name_of(r->order, option);
+    if (mark != NULL) *mark = true;
+    else if (name != NULL) *name = file_of(r);
+    else if (!take_number(r, option)) take_more(r, option);
+}
+
+/* ---- The whole line ---- */
+
+/* Whether the files of an order come in pairs where they are halves. */
+static void check_halves(const struct tool_order *order)
+{
+    unsigned even = 0, odd = 0;
+    for (unsigned i = 0; i < order->files; i++) {
+        even += order->file[i].half == TOOL_EVEN;
+        odd += order->file[i].half == TOOL_ODD;
+    }
+    if (even > odd) tool_usage("-even without -odd", NULL);
+    if (odd > even) tool_usage("-odd without -even", NULL);
+}
+
+/* Fills in what one processor was not given. */
+static void fill(struct tool_processor *p, bool first, bool attended)
+{
+    if (p->io_image != NULL && p->io_length != UINT32_MAX)
+        tool_usage(first ? "-io and -io-image" : "-io2 and -io-image2", NULL);
+    if (p->channels == 0 && attended) p->channel[p->channels++] = 1;
+    if (p->lines.count == 0) tool_add_line(&p->lines, 0);
+}
+
+/* Says what does not go together. */
+static void check_order(struct reader *r)
+{
+    struct tool_order *order = r->order;
+    bool assembles = order->command->bit == TOOL_ASM;
+    /* One text has one place, so there -at may stand behind it too. */
+    if (r->next.has_at && assembles && order->files > 0) order->file[0].at = r->next.at;
+    else if (r->next.has_at) tool_usage("no file behind -at", NULL);
+    if (r->next.form != TOOL_BY_CONTENT) tool_usage(r->next.form == TOOL_RAW ? "no file behind -raw" : "no file behind -hex", NULL);
+    if (order->files == 0) tool_usage("no file", NULL);
+    check_halves(order);
+    if (order->board && order->has_cp) tool_usage("-board and -cp", NULL);
+    if (order->state != NULL && (order->board || order->has_cp)) tool_usage("-state, which has its own CP, and -board or -cp", NULL);
+    if (order->second_word != NULL && !order->pair)
+        tool_usage("no -pair, and so no second processor for", order->second_word);
+    if (order->sweep && (order->ports > 0 || order->stops > 0 || order->watches > 0 || order->events > 0 || order->has_until))
+        tool_usage("-sweep goes with none of -port, -watch, -break, -until and -attention", NULL);
 }
 
 void tool_read_order(struct tool_order *order, int count, char **words)
 {
-    uint32_t at = UINT32_MAX;
-    for (int i = 0; i < count;) {
-        int taken = take_option(order, words + i, &at);
-        i += taken;
-        if (taken > 0) continue;
-        if (order->files == TOOL_FILES) tool_usage("more than 16 files", words[i]);
-        if (at != UINT32_MAX && tool_is_hex(words[i])) tool_usage("-at before a PROM file, which has its own addresses", words[i]);
-        order->file[order->files].name = words[i++];
-        order->file[order->files++].at = at == UINT32_MAX ? 0 : at;
-        at = UINT32_MAX;
+    struct reader r = {order, words, count, NULL, {NULL, 0, false, TOOL_BY_CONTENT, TOOL_WHOLE}};
+    for (; r.left > 0; r.words++, r.left--) {
+        if (r.words[0][0] == '-' && r.words[0][1] != '\0') take_option(&r);
+        else add_file(&r, r.words[0], TOOL_WHOLE);
     }
-    /* One text has one place, so there -at may stand behind it too. */
-    if (at != UINT32_MAX && order->assembles && order->files > 0) order->file[0].at = at;
-    else if (at != UINT32_MAX) tool_usage("no file behind -at", NULL);
-    if (order->files == 0) tool_usage("no file", NULL);
-    if (!order->assembles && order->out != NULL) tool_usage("only asm writes to a file", "-out");
-    if (!order->assembles && order->has_room) tool_usage("only asm has a room", "-room");
-    if (order->board && order->has_cp) tool_usage("-board and -cp", NULL);
-    if (order->second_word != NULL && !order->pair)
-        tool_usage("no -pair, and so no second processor for", order->second_word);
-    for (unsigned i = 0; i < 2; i++) {
-        struct tool_processor *p = &order->of[i];
-        if (p->io_image != NULL && p->io_length != UINT32_MAX)
-            tool_usage(i == 0 ? "-io and -io-image" : "-io2 and -io-image2", NULL);
-        if (p->channels == 0) p->channel[p->channels++] = 1;
-    }
-}
-
-/* ---- Memory ---- */
-
-/* Room for so many bytes, all zeros; never null, also for none. */
-static uint8_t *room(size_t length)
-{
-    uint8_t *bytes = calloc(length + 1, 1);
-    if (bytes == NULL) tool_give_up("memory");
-    return bytes;
-}
-
-/* The most bytes of a text: a megabyte of data in records of one byte each, with room to spare. */
-enum { MOST_TEXT = 32 << 20 };
-
-struct tool_text tool_read_text(const char *name)
-{
-    struct tool_text text = {room(MOST_TEXT), 0};
-    FILE *file = fopen(name, "rb");
-    if (file == NULL) tool_give_up(name);
-    text.length = fread(text.bytes, 1, MOST_TEXT, file);
-    bool more = text.length == MOST_TEXT && fgetc(file) != EOF;
-    if (ferror(file)) tool_give_up(name);
-    fclose(file);
-    if (more) tool_usage("a text of more than 32 megabytes", name);
-    return text;
-}
-
-/* Reads a file into room for a megabyte from an offset on, and answers where it ends. */
-static size_t read_file(const char *name, uint8_t *bytes, uint32_t at)
-{
-    FILE *file = fopen(name, "rb");
-    if (file == NULL) tool_give_up(name);
-    size_t end = at + fread(bytes + at, 1, TOOL_MOST - at, file);
-    bool more = end == TOOL_MOST && fgetc(file) != EOF;
-    if (ferror(file)) tool_give_up(name);
-    fclose(file);
-    if (more) tool_usage("a file that reaches past a megabyte", name);
-    return end;
-}
-
-/* The I/O memory that a processor asks for: a file, or zeros; answers its length. */
-static size_t load_io(const struct tool_processor *processor, uint8_t *io)
-{
-    if (processor->io_image != NULL) return read_file(processor->io_image, io, 0);
-    return processor->io_length != UINT32_MAX ? processor->io_length : 256;
-}
-
-struct tool_memory tool_load(const struct tool_order *order)
-{
-    struct tool_memory memory = {room(TOOL_MOST), room(TOOL_MOST), 0, 0};
-    for (unsigned i = 0; i < order->files; i++) {
-        const struct tool_file *file = &order->file[i];
-        size_t end = tool_is_hex(file->name) ? tool_load_hex(file->name, memory.sys) : read_file(file->name, memory.sys, file->at);
-        if (end > memory.sys_len) memory.sys_len = end;
-    }
-    if (order->system_length != UINT32_MAX) {
-        if (order->system_length < memory.sys_len) tool_usage("the files need more than -system lends", NULL);
-        memory.sys_len = order->system_length;
-    }
-    memory.io_len = load_io(&order->of[0], memory.io);
-    return memory;
-}
-
-struct tool_memory tool_load_second(const struct tool_order *order, struct tool_memory first)
-{
-    struct tool_memory memory = {first.sys, room(TOOL_MOST), first.sys_len, 0};
-    memory.io_len = load_io(&order->of[1], memory.io);
-    return memory;
-}
-
-struct tool_memory tool_copy(struct tool_memory memory)
-{
-    struct tool_memory copy = {room(TOOL_MOST), room(TOOL_MOST), memory.sys_len, memory.io_len};
-    memcpy(copy.sys, memory.sys, memory.sys_len);
-    memcpy(copy.io, memory.io, memory.io_len);
-    return copy;
-}
-
-void tool_free(struct tool_memory memory)
-{
-    free(memory.sys);
-    free(memory.io);
-}
-
-void tool_free_second(struct tool_memory memory)
-{
-    free(memory.io);
+    check_order(&r);
+    fill(&order->of[0], true, order->state == NULL || order->has_channel);
+    fill(&order->of[1], false, true);
 }

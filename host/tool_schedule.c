@@ -2,7 +2,6 @@
 #include "tool.h"
 
 #include <inttypes.h>
-#include <stdio.h>
 #include <stdlib.h>
 #include <string.h>
 
@@ -196,25 +195,19 @@ static void trace_row(size_t place, struct iop89_row row, uint8_t *state, struct
     uint8_t before[IOP89_STATE_LENGTH];
     bool attention = row.kind == IOP89_ROW_ATTENTION;
     memcpy(before, state, sizeof before);
-    uint32_t answer = (attention ? iop89_attention : iop89_step)(state, IOP89_STATE_LENGTH, m->sys, m->sys_len, m->io,
-                                                                 m->io_len, row.value);
+    iop89_answer answer = attention ? tool_attend(state, m, row.value) : tool_do_step(state, m, row.value);
     unsigned number = IOP89_ANSWER_NUMBER(answer);
     printf("%zu ", place);
     print_row(row);
     printf(": %u", number);
     if (number != IOP89_DONE) printf(" %s\n", iop89_service_words(number));
     else if (attention) tool_print_count(answer);
-    else tool_print_done(answer, before, state);
+    else tool_print_done(answer, before, state, "");
 }
 
-/* Says which of the words are not for schedules, whose rows have the channels and the lines, and are made to the last. */
+/* Says which of the words do not go together: the rows have no place in memory, and files follow them. */
 static void refuse_words(const struct tool_order *order)
 {
-    if (order->has_channel) tool_usage("schedule has its attentions in its rows", "-channel");
-    if (order->has_lines) tool_usage("schedule has its line numbers in its rows", "-lines");
-    if (order->has_limit) tool_usage("schedule makes all its rows", "-limit");
-    if (order->sweep) tool_usage("schedule makes no sweeps", NULL);
-    if (order->pair) tool_usage("schedule has one processor", NULL);
     if (order->file[0].at != 0) tool_usage("-at before the rows", order->file[0].name);
     if (order->files < 2) tool_usage("no file behind the rows", order->file[0].name);
 }
@@ -236,8 +229,8 @@ static unsigned run_rows(const struct tool_order *order, const struct rows *rows
     uint8_t given[IOP89_STATE_LENGTH];
     struct tool_memory again = tool_copy(*m);
     memcpy(given, state, sizeof given);
-    unsigned number = iop89_schedule(state, IOP89_STATE_LENGTH, rows->row, rows->count, m->sys, m->sys_len, m->io,
-                                     m->io_len, report, IOP89_REPORT_LENGTH);
+    unsigned number = IOP89_ANSWER_NUMBER(iop89_schedule(state, IOP89_STATE_LENGTH, rows->row, rows->count, m->sys, m->sys_len,
+                                                         m->io, m->io_len, report, IOP89_REPORT_LENGTH));
     for (size_t i = 0; order->trace && number == IOP89_DONE && i < rows->count; i++)
         trace_row(i + 1, rows->row[i], given, &again);
     tool_free(again);

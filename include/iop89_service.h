@@ -9,6 +9,9 @@
 extern "C" {
 #endif
 
+/* The version of the archive libiop89_service.a; it is IOP89_VERSION where header and archive belong together. */
+uint32_t iop89_service_version(void);
+
 /* How many bytes a state has, and the version that its first byte holds: a layout with more fields has a higher one. */
 #define IOP89_STATE_LENGTH 104u
 #define IOP89_STATE_VERSION 4u
@@ -34,48 +37,43 @@ extern "C" {
 /* The parts of an answer: the number; of a done step the channel (1 or 2) and what it did, else both 0; and of a done
  * power-up, attention or step how many bytes of both memories it read and stored, each access of each byte counted once,
  * else 0. A power-up counts 11, an attention 1 to 10, an instruction 2 to 10, a transfer step 1 to 4, an external end 0. */
-#define IOP89_ANSWER_NUMBER(answer) ((answer) & 0xFFu)
-#define IOP89_ANSWER_CHANNEL(answer) ((answer) >> 8 & 3u)
-#define IOP89_ANSWER_KIND(answer) ((answer) >> 10 & 3u)
-#define IOP89_ANSWER_COUNT(answer) ((answer) >> 12 & 15u)
+IOP89_ANSWER_TYPE(iop89_answer, uint32_t)
+#define IOP89_ANSWER_NUMBER(answer) iop89_answer_part(answer, 0, 0xFFu)
+#define IOP89_ANSWER_CHANNEL(answer) iop89_answer_part(answer, 8, 3u)
+#define IOP89_ANSWER_KIND(answer) iop89_answer_part(answer, 10, 3u)
+#define IOP89_ANSWER_COUNT(answer) iop89_answer_part(answer, 12, 15u)
+
+static inline uint32_t iop89_answer_part(iop89_answer answer, unsigned from, uint32_t mask)
+{
+    return IOP89_BITS(answer) >> from & mask;
+}
 
 /* What a done step was. */
 enum iop89_kind { IOP89_NONE = 0, IOP89_INSTRUCTION = 1, IOP89_TRANSFER = 2, IOP89_EXTERNAL_END = 3 };
 
-/* Makes the state of a machine whose control block is at cp. Answers 10, with the state for 0, where cp has more than
- * 20 bits. Looks at the length alone, and at none of the bytes that stood there. */
-uint32_t iop89_fresh(uint8_t *state, size_t state_len, uint32_t cp);
+/* Makes the state of a machine whose control block is at cp. Answers 17 for another length than IOP89_STATE_LENGTH, and 10,
+ * with the state for 0, where cp has more than 20 bits. Looks at the length alone, and at none of the bytes that stood
+ * there. */
+iop89_answer iop89_fresh(uint8_t *state, size_t state_len, uint32_t cp);
 
-/* Makes the state after reset, in which only power-up is allowed: every attention and step is 13. Answers 0. Looks at
- * the length alone, as iop89_fresh does. */
-uint32_t iop89_reset(uint8_t *state, size_t state_len);
+/* Makes the state after reset, in which only power-up is allowed: every attention, step and sweep is 13. Answers 0, or 17
+ * for another length. Looks at the length alone, as iop89_fresh does. */
+iop89_answer iop89_reset(uint8_t *state, size_t state_len);
 
 /* Powers the machine up: SYSBUS is read at FFFF6h of system memory, the configuration block's pointer at FFFF8h, SOC and
  * CP in that block, and BUSY of channel 1 is cleared. Answers 11, or 2 where one of these eleven bytes is not lent;
  * otherwise the state is the fresh one of the CP found, whatever it was before, with SYSBUS bit 0 and SOC bits 0 and 1. */
-uint32_t iop89_power_up(uint8_t *state, size_t state_len, uint8_t *sys, size_t sys_len, uint8_t *io, size_t io_len);
+iop89_answer iop89_power_up(uint8_t *state, size_t state_len, uint8_t *sys, size_t sys_len, uint8_t *io, size_t io_len);
 
 /* Gives a channel one attention. */
-uint32_t iop89_attention(uint8_t *state, size_t state_len, uint8_t *sys, size_t sys_len, uint8_t *io, size_t io_len,
-                         uint32_t channel);
+iop89_answer iop89_attention(uint8_t *state, size_t state_len, uint8_t *sys, size_t sys_len, uint8_t *io, size_t io_len,
+                             uint32_t channel);
 
 /* Does one step under these lines: an instruction, a transfer step or an external end of one channel. Of two bytes that
  * a transfer under requests takes singly on the side that asks for them, each has a step and a request of its own, and
  * between them the channel holds a byte: IOP89_HELD. */
-uint32_t iop89_step(uint8_t *state, size_t state_len, uint8_t *sys, size_t sys_len, uint8_t *io, size_t io_len,
-                    uint32_t lines);
-
-/*
- * Moves in one call every byte that a block transfer of the channel has left, and leaves what the plain steps under
- * these lines would have left: state, both memories, steps and count. Answers 15, and changes nothing, unless
- *   no EXT line is up, neither channel's (DRQ lines are free), and the other channel is idle or suspended;
- *   the channel runs with XF set, both sides move on, SYN 00, no translation, TBC on, TMC's low two bits 00, TX 00, TS 0;
- *   both ranges, of BC bytes or of 65,536 where BC is 0, are lent without wrapping, and share no byte.
- * Its parts by the macros below: the number; of a done sweep the steps that it stands for, 1 to 65,536, and how many
- * bytes it read and stored, two for each byte moved; else both 0.
- */
-uint64_t iop89_sweep(uint8_t *state, size_t state_len, uint8_t *sys, size_t sys_len, uint8_t *io, size_t io_len,
-                     uint32_t channel, uint32_t lines);
+iop89_answer iop89_step(uint8_t *state, size_t state_len, uint8_t *sys, size_t sys_len, uint8_t *io, size_t io_len,
+                        uint32_t lines);
 
 /* The low half of a 64-bit number, by the cast that each language likes. */
 #ifdef __cplusplus
@@ -84,9 +82,38 @@ uint64_t iop89_sweep(uint8_t *state, size_t state_len, uint8_t *sys, size_t sys_
 #define IOP89_LOW_32(number) ((uint32_t)(number))
 #endif
 
-#define IOP89_SWEEP_NUMBER(answer) (IOP89_LOW_32(answer) & 0xFFu)
-#define IOP89_SWEEP_STEPS(answer) (IOP89_LOW_32(answer) >> 8)
-#define IOP89_SWEEP_COUNT(answer) IOP89_LOW_32((answer) >> 32)
+/* The parts of a sweep's answer. */
+IOP89_ANSWER_TYPE(iop89_sweep_answer, uint64_t)
+#define IOP89_SWEEP_NUMBER(answer) iop89_sweep_number(answer)
+#define IOP89_SWEEP_STEPS(answer) iop89_sweep_steps(answer)
+#define IOP89_SWEEP_COUNT(answer) iop89_sweep_count(answer)
+
+static inline uint32_t iop89_sweep_number(iop89_sweep_answer answer)
+{
+    return IOP89_LOW_32(IOP89_BITS(answer)) & 0xFFu;
+}
+
+static inline uint32_t iop89_sweep_steps(iop89_sweep_answer answer)
+{
+    return IOP89_LOW_32(IOP89_BITS(answer)) >> 8;
+}
+
+static inline uint32_t iop89_sweep_count(iop89_sweep_answer answer)
+{
+    return IOP89_LOW_32(IOP89_BITS(answer) >> 32);
+}
+
+/*
+ * Moves in one call every byte that a block transfer of the channel has left, and leaves what the plain steps under
+ * these lines would have left: state, both memories, steps and count. Answers 15, and changes nothing, unless
+ *   no EXT line is up, neither channel's (DRQ lines are free), and the other channel is idle or suspended;
+ *   the channel runs with XF set, both sides move on, SYN 00, no translation, TBC on, TMC's low two bits 00, TX 00, TS 0;
+ *   both ranges, of BC bytes or of 65,536 where BC is 0, are lent without wrapping, and share no byte.
+ * Its parts by the macros above: the number; of a done sweep the steps that it stands for, 1 to 65,536, and how many
+ * bytes it read and stored, two for each byte moved; else both 0.
+ */
+iop89_sweep_answer iop89_sweep(uint8_t *state, size_t state_len, uint8_t *sys, size_t sys_len, uint8_t *io, size_t io_len,
+                               uint32_t channel, uint32_t lines);
 
 /* A row of a schedule: its kind, and the channel that an attention goes to or the line number of a step. */
 struct iop89_row {
@@ -139,13 +166,14 @@ enum iop89_report {
  * reports add up to that of the whole.
  * Rows and report are aligned as C aligns them and overlap no other buffer.
  */
-uint32_t iop89_schedule(uint8_t *state, size_t state_len, const struct iop89_row *rows, size_t row_count, uint8_t *sys,
-                        size_t sys_len, uint8_t *io, size_t io_len, uint64_t *report, size_t report_len);
+iop89_answer iop89_schedule(uint8_t *state, size_t state_len, const struct iop89_row *rows, size_t row_count, uint8_t *sys,
+                            size_t sys_len, uint8_t *io, size_t io_len, uint64_t *report, size_t report_len);
 
 /* The run of iop89.h with reset and power-up in the place of a CP: 12, 11, power-up's 2, then one attention and steps.
- * The answer is iop89_run's. */
-uint32_t iop89_board(uint8_t *sys, size_t sys_len, uint8_t *io, size_t io_len, uint32_t channel, uint32_t lines,
-                     uint32_t limit);
+ * The answer is iop89_run's. With 12, 11 and power-up's 2 no byte has changed; where the attention is refused, BUSY of
+ * channel 1 is cleared, as power-up left it. */
+iop89_run_answer iop89_board(uint8_t *sys, size_t sys_len, uint8_t *io, size_t io_len, uint32_t channel, uint32_t lines,
+                             uint32_t limit);
 
 /* ---- Two processors on one board: one system memory, and each its own state, I/O memory and control block ---- */
 
@@ -162,34 +190,34 @@ uint32_t iop89_board(uint8_t *sys, size_t sys_len, uint8_t *io, size_t io_len, u
  * blocks that overlap. Both power up from the same FFFF6h: a host that wants two control blocks changes the pointer
  * between the two power-ups.
  */
-uint32_t iop89_pair_attention(uint32_t processor, uint8_t *state_1, size_t state_1_len, uint8_t *state_2,
-                              size_t state_2_len, uint8_t *sys, size_t sys_len, uint8_t *io_1, size_t io_1_len,
-                              uint8_t *io_2, size_t io_2_len, uint32_t channel);
+iop89_answer iop89_pair_attention(uint32_t processor, uint8_t *state_1, size_t state_1_len, uint8_t *state_2,
+                                  size_t state_2_len, uint8_t *sys, size_t sys_len, uint8_t *io_1, size_t io_1_len,
+                                  uint8_t *io_2, size_t io_2_len, uint32_t channel);
 
-uint32_t iop89_pair_step(uint32_t processor, uint8_t *state_1, size_t state_1_len, uint8_t *state_2, size_t state_2_len,
-                         uint8_t *sys, size_t sys_len, uint8_t *io_1, size_t io_1_len, uint8_t *io_2, size_t io_2_len,
-                         uint32_t lines);
+iop89_answer iop89_pair_step(uint32_t processor, uint8_t *state_1, size_t state_1_len, uint8_t *state_2, size_t state_2_len,
+                             uint8_t *sys, size_t sys_len, uint8_t *io_1, size_t io_1_len, uint8_t *io_2, size_t io_2_len,
+                             uint32_t lines);
 
-uint32_t iop89_pair_power_up(uint32_t processor, uint8_t *state_1, size_t state_1_len, uint8_t *state_2,
-                             size_t state_2_len, uint8_t *sys, size_t sys_len, uint8_t *io_1, size_t io_1_len,
-                             uint8_t *io_2, size_t io_2_len);
+iop89_answer iop89_pair_power_up(uint32_t processor, uint8_t *state_1, size_t state_1_len, uint8_t *state_2,
+                                 size_t state_2_len, uint8_t *sys, size_t sys_len, uint8_t *io_1, size_t io_1_len,
+                                 uint8_t *io_2, size_t io_2_len);
 
-uint32_t iop89_pair_reset(uint32_t processor, uint8_t *state_1, size_t state_1_len, uint8_t *state_2,
-                          size_t state_2_len);
+iop89_answer iop89_pair_reset(uint32_t processor, uint8_t *state_1, size_t state_1_len, uint8_t *state_2,
+                              size_t state_2_len);
 
-uint64_t iop89_pair_sweep(uint32_t processor, uint8_t *state_1, size_t state_1_len, uint8_t *state_2, size_t state_2_len,
-                          uint8_t *sys, size_t sys_len, uint8_t *io_1, size_t io_1_len, uint8_t *io_2, size_t io_2_len,
-                          uint32_t channel, uint32_t lines);
+iop89_sweep_answer iop89_pair_sweep(uint32_t processor, uint8_t *state_1, size_t state_1_len, uint8_t *state_2,
+                                    size_t state_2_len, uint8_t *sys, size_t sys_len, uint8_t *io_1, size_t io_1_len,
+                                    uint8_t *io_2, size_t io_2_len, uint32_t channel, uint32_t lines);
 
-uint32_t iop89_pair_schedule(uint32_t processor, uint8_t *state_1, size_t state_1_len, uint8_t *state_2,
-                             size_t state_2_len, uint8_t *sys, size_t sys_len, uint8_t *io_1, size_t io_1_len,
-                             uint8_t *io_2, size_t io_2_len, const struct iop89_row *rows, size_t row_count,
-                             uint64_t *report, size_t report_len);
+iop89_answer iop89_pair_schedule(uint32_t processor, uint8_t *state_1, size_t state_1_len, uint8_t *state_2,
+                                 size_t state_2_len, uint8_t *sys, size_t sys_len, uint8_t *io_1, size_t io_1_len,
+                                 uint8_t *io_2, size_t io_2_len, const struct iop89_row *rows, size_t row_count,
+                                 uint64_t *report, size_t report_len);
 
 /* Of the calls on a state: 17 comes before every other number, but for 12 of a processor that is neither 1 nor 2, and a
  * refused call changes no byte, but for iop89_fresh with 10 and a schedule's report.
- * The buffers of a call, all five of a pair's too, must not overlap each other, and no pointer may be null, also where its
- * length is 0. */
+ * Of every call in this header: its buffers, all five of a pair's too, must not overlap each other. Where a length is 0
+ * the pointer may be NULL, as iop89.h says of iop89_run. */
 
 /* ---- Where the bytes of a state are; numbers stand little end first ---- */
 
@@ -270,16 +298,19 @@ static inline void iop89_set_bytes(uint8_t *state, size_t at, size_t width, uint
     for (size_t i = 0; i < width; i++, value >>= 8) state[at + i] = value & 0xFFu;
 }
 
-/* A register of a channel, 1 or 2, read and set. A tag, mode, mark, field or held byte out of range makes the next call
- * answer 17.
+/* A register of a channel, 1 or 2, read and set; of any other channel 0 is read and nothing is set. A tag, mode, mark,
+ * field or held byte out of range makes the next call answer 17, unless that call is iop89_fresh or iop89_reset, which
+ * look at none of them.
  * iop89_set with IOP89_CC writes CC alone, and the fields stay: see iop89_set_cc. */
 static inline uint32_t iop89_get(const uint8_t *state, unsigned channel, enum iop89_register which)
 {
+    if (channel != 1u && channel != 2u) return 0;
     return iop89_bytes(state, IOP89_AT_CHANNEL(channel) + IOP89_LOW_32(which), iop89_width(which));
 }
 
 static inline void iop89_set(uint8_t *state, unsigned channel, enum iop89_register which, uint32_t value)
 {
+    if (channel != 1u && channel != 2u) return;
     iop89_set_bytes(state, IOP89_AT_CHANNEL(channel) + IOP89_LOW_32(which), iop89_width(which), value);
 }
 
@@ -332,13 +363,106 @@ static inline const char *iop89_service_words(unsigned number)
     case IOP89_NOT_RUNNING: return "suspend, and the channel does not run";
     case IOP89_BAD_POINTER: return "a pointer, PP or CP of the state is over 1,048,575";
     case IOP89_BAD_ARGUMENT: return "the processor or the channel is neither 1 nor 2, or the line number over 15";
-    case IOP89_NOT_POWERED_UP: return "not powered up";
-    case IOP89_FIELDS_DISAGREE: return "CC of a channel and its fields disagree";
-    case IOP89_NOT_SWEEPABLE: return "the transfer cannot be swept";
-    case IOP89_UNKNOWN_ROW: return "a row of unknown kind";
-    case IOP89_NO_STATE: return "the bytes are no state";
     default: return iop89_words(number);
     }
+}
+
+/* ---- Why a call was refused, in parts ---- */
+
+/* What refused a call on a state: of 17 the byte of the state, its value, and the most that it may be; of 10 the same of
+ * an address of four bytes; of 14 the bits of CC whose fields differ. The channel is 0 where it is about neither, and all
+ * is 0 for any other number and for bytes that are a state. A length that is none has `at` IOP89_STATE_LENGTH. What refused a call by 12 are its own
+ * arguments, and by 2 an address that the tool iop89 names. */
+struct iop89_cause {
+    unsigned channel;
+    size_t at;
+    uint32_t value, most, fields;
+};
+
+/* The most that a byte of a block may be, for 17; the version, and what is held, are tested apart. */
+static inline uint32_t iop89_most_in_block(size_t offset)
+{
+    if (offset == IOP89_GA_TAG || offset == IOP89_GB_TAG || offset == IOP89_GC_TAG || offset == IOP89_TP_TAG) return 1;
+    if (offset == IOP89_MODE) return 2;
+    if (offset == IOP89_SYN || offset == IOP89_TX || offset == IOP89_TBC) return 3;
+    if (offset == IOP89_TMC) return 7;
+    if (offset >= IOP89_ARMED && offset <= IOP89_TS) return 1;
+    return offset == IOP89_HELD + 1u ? 1 : 255;
+}
+
+/* The most that a byte of a state may be, seen with those behind it. */
+static inline uint32_t iop89_most_at(const uint8_t *state, size_t at)
+{
+    size_t offset = at < IOP89_AT_CHANNEL(1u) ? 0 : (at - IOP89_AT_CHANNEL(1u)) % IOP89_BLOCK_LENGTH;
+    if (at == IOP89_AT_VERSION) return IOP89_STATE_VERSION;
+    if (at < IOP89_AT_CHANNEL(1u)) return at >= IOP89_AT_LAST ? 1 : 255;
+    if (offset == IOP89_HELD && state[at + 1] == 0) return 0;
+    return iop89_most_in_block(offset);
+}
+
+/* Which channel a byte of a state belongs to, or 0. */
+static inline unsigned iop89_channel_at(size_t at)
+{
+    return at < IOP89_AT_CHANNEL(1u) ? 0 : at < IOP89_AT_CHANNEL(2u) ? 1 : 2;
+}
+
+/* The first byte that makes some bytes no state. */
+static inline struct iop89_cause iop89_no_state(const uint8_t *state, size_t state_len)
+{
+    struct iop89_cause cause = {0, IOP89_STATE_LENGTH, IOP89_LOW_32(state_len), IOP89_STATE_LENGTH, 0};
+    if (state_len != IOP89_STATE_LENGTH) return cause;
+    for (size_t at = 0; at < IOP89_STATE_LENGTH; at++) {
+        uint32_t most = iop89_most_at(state, at);
+        if (state[at] <= most && (at != IOP89_AT_VERSION || state[at] == most)) continue;
+        struct iop89_cause found = {iop89_channel_at(at), at, state[at], most, 0};
+        return found;
+    }
+    struct iop89_cause none = {0, 0, 0, 0, 0};
+    return none;
+}
+
+/* The first address of a state that has more than 20 bits: CP, then GA, GB, GC, TP and PP of each channel. */
+static inline struct iop89_cause iop89_bad_pointer(const uint8_t *state)
+{
+    for (size_t i = 0; i < 11; i++) {
+        size_t at = i == 0 ? IOP89_AT_CP : IOP89_AT_CHANNEL(1u) + (i - 1) / 5 * IOP89_BLOCK_LENGTH + (i - 1) % 5 * 5;
+        uint32_t value = iop89_bytes(state, at, 4);
+        if (value <= IOP89_CP_LIMIT) continue;
+        struct iop89_cause found = {iop89_channel_at(at), at, value, IOP89_CP_LIMIT, 0};
+        return found;
+    }
+    struct iop89_cause none = {0, 0, 0, 0, 0};
+    return none;
+}
+
+/* The bits of CC whose fields, kept beside it, are others. */
+static inline uint32_t iop89_fields_apart(const uint8_t *state, unsigned channel)
+{
+    uint32_t fields = iop89_get(state, channel, IOP89_DESTINATION_MOVES) << 15;
+    fields |= iop89_get(state, channel, IOP89_SOURCE_MOVES) << 14;
+    fields |= iop89_get(state, channel, IOP89_TRANSLATE) << 13;
+    fields |= iop89_get(state, channel, IOP89_SYN) << 11;
+    fields |= iop89_get(state, channel, IOP89_SOURCE_IS_GB) << 10;
+    fields |= iop89_get(state, channel, IOP89_CHAINED) << 8;
+    fields |= iop89_get(state, channel, IOP89_TS) << 7;
+    fields |= iop89_get(state, channel, IOP89_TX) << 5;
+    fields |= iop89_get(state, channel, IOP89_TBC) << 3;
+    fields |= iop89_get(state, channel, IOP89_TMC);
+    return (fields ^ iop89_get(state, channel, IOP89_CC)) & 0xFDFFu;
+}
+
+/* Why an attention, a step or a sweep of this state was refused by 10, 14 or 17. */
+static inline struct iop89_cause iop89_cause(unsigned number, const uint8_t *state, size_t state_len)
+{
+    struct iop89_cause cause = {0, 0, 0, 0, 0};
+    if (number == IOP89_NO_STATE) return iop89_no_state(state, state_len);
+    if (number == IOP89_BAD_POINTER) return iop89_bad_pointer(state);
+    if (number != IOP89_FIELDS_DISAGREE) return cause;
+    cause.channel = iop89_fields_apart(state, 1) != 0 ? 1 : 2;
+    cause.at = IOP89_AT_CHANNEL(cause.channel) + IOP89_CC;
+    cause.value = iop89_get(state, cause.channel, IOP89_CC);
+    cause.fields = iop89_fields_apart(state, cause.channel);
+    return cause;
 }
 
 /* ---- PROM files: Intel hexadecimal object files with segmented addresses ---- */
@@ -351,32 +475,35 @@ enum iop89_load_refusal {
     IOP89_NO_END = 23     /* there is no end record */
 };
 
-/*
- * Reads a text into system memory from address 0 on, whole or not at all. Its parts by the macros below: the number;
- * the line, that of the first bad record, for 23 how many lines there are, for 2 that of the first record with a byte
- * beyond memory, else 0; and the last start address that the file gives, 0 where there is none or it is refused.
- * The two buffers must not overlap, and neither pointer may be null, also where its length is 0.
- */
-uint64_t iop89_load(const uint8_t *text, size_t text_len, uint8_t *sys, size_t sys_len);
-
+/* The parts of its answer. */
+IOP89_ANSWER_TYPE(iop89_load_answer, uint64_t)
 #define IOP89_LOAD_NUMBER(answer) iop89_load_number(answer)
 #define IOP89_LOAD_START(answer) iop89_load_start(answer)
 #define IOP89_LOAD_LINE(answer) iop89_load_line(answer)
 
-static inline unsigned iop89_load_number(uint64_t answer)
+static inline unsigned iop89_load_number(iop89_load_answer answer)
 {
-    return answer & 0xFFu;
+    return IOP89_BITS(answer) & 0xFFu;
 }
 
-static inline uint32_t iop89_load_start(uint64_t answer)
+static inline uint32_t iop89_load_start(iop89_load_answer answer)
 {
-    return answer >> 8 & 0xFFFFFu;
+    return IOP89_BITS(answer) >> 8 & 0xFFFFFu;
 }
 
-static inline uint32_t iop89_load_line(uint64_t answer)
+static inline uint32_t iop89_load_line(iop89_load_answer answer)
 {
-    return IOP89_LOW_32(answer >> 32);
+    return IOP89_LOW_32(IOP89_BITS(answer) >> 32);
 }
+
+/*
+ * Reads a text into system memory from address 0 on, whole or not at all. Its parts by the macros above: the number;
+ * the line, that of the first bad record, for 23 how many lines there are, for 2 that of the first record with a byte
+ * beyond memory, else 0; and the last start address that the file gives, 0 where there is none or it is refused.
+ * The two buffers must not overlap; where a length is 0 the pointer may be NULL.
+ */
+iop89_load_answer iop89_load(const uint8_t *text, size_t text_len, uint8_t *sys, size_t sys_len);
+
 
 /* A number of iop89_load in words. */
 static inline const char *iop89_load_words(unsigned number)
@@ -393,17 +520,29 @@ static inline const char *iop89_load_words(unsigned number)
 
 /* ---- Listings: channel programs in the maker's notation ---- */
 
+/* The parts of its answer. */
+IOP89_ANSWER_TYPE(iop89_list_answer, uint64_t)
+#define IOP89_LIST_CHARACTERS(answer) iop89_list_characters(answer)
+#define IOP89_LIST_STOP(answer) iop89_list_stop(answer)
+
+static inline uint32_t iop89_list_characters(iop89_list_answer answer)
+{
+    return IOP89_LOW_32(IOP89_BITS(answer));
+}
+
+static inline uint32_t iop89_list_stop(iop89_list_answer answer)
+{
+    return IOP89_LOW_32(IOP89_BITS(answer) >> 32);
+}
+
 /*
  * Lists the instructions of some bytes, one a line, into a text buffer; docs/MACHINE.md has the notation. Jump targets
  * count from `first`, the address of the first byte, mod 65,536. A line is written whole or not at all: before the first
- * that has no room it stops, and the rest of the buffer stays. Its parts by the macros below: how many characters were
+ * that has no room it stops, and the rest of the buffer stays. Its parts by the macros above: how many characters were
  * written, and at which byte it stopped; that is code_len, or 1,048,576 where more were lent, if every line had room.
- * Nothing is refused. The two buffers must not overlap, and neither pointer may be null, also where its length is 0.
+ * Nothing is refused. The two buffers must not overlap; where a length is 0 the pointer may be NULL.
  */
-uint64_t iop89_list(const uint8_t *code, size_t code_len, uint32_t first, uint8_t *text, size_t text_len);
-
-#define IOP89_LIST_CHARACTERS(answer) IOP89_LOW_32(answer)
-#define IOP89_LIST_STOP(answer) IOP89_LOW_32((answer) >> 32)
+iop89_list_answer iop89_list(const uint8_t *code, size_t code_len, uint32_t first, uint8_t *text, size_t text_len);
 
 /* ---- Assembling: the lines of a listing, with labels, data and comments, back to bytes ---- */
 
@@ -417,8 +556,29 @@ enum iop89_asm_refusal {
     IOP89_NO_ROOM = 35       /* a byte of the line lies beyond the room */
 };
 
+/* The parts of its answer. */
+IOP89_ANSWER_TYPE(iop89_asm_answer, uint64_t)
+#define IOP89_ASM_NUMBER(answer) iop89_asm_number(answer)
+#define IOP89_ASM_LINE(answer) iop89_asm_line(answer)
+#define IOP89_ASM_STORED(answer) iop89_asm_stored(answer)
+
+static inline unsigned iop89_asm_number(iop89_asm_answer answer)
+{
+    return IOP89_BITS(answer) & 0xFFu;
+}
+
+static inline uint32_t iop89_asm_line(iop89_asm_answer answer)
+{
+    return iop89_asm_number(answer) == IOP89_DONE ? 0u : IOP89_LOW_32(IOP89_BITS(answer) >> 32);
+}
+
+static inline uint32_t iop89_asm_stored(iop89_asm_answer answer)
+{
+    return iop89_asm_number(answer) == IOP89_DONE ? IOP89_LOW_32(IOP89_BITS(answer) >> 32) : 0u;
+}
+
 /*
- * Assembles a text into bytes, whole or not at all; docs/MACHINE.md has its notation. Its parts by the macros below: the
+ * Assembles a text into bytes, whole or not at all; docs/MACHINE.md has its notation. Its parts by the macros above: the
  * number, 0 or that of the first line that has one; that line, counted from 1, or 0 where it is done; and how many bytes
  * were stored, or 0 where it is refused.
  *   text, text_len   the text: any bytes, any number of them; they are only read
@@ -429,26 +589,7 @@ enum iop89_asm_refusal {
  * over 4,294,967,295 is reported as that. The two buffers must not overlap, and neither pointer may be null, also where
  * its length is 0.
  */
-uint64_t iop89_assemble(const uint8_t *text, size_t text_len, uint32_t first, uint8_t *code, size_t code_len);
-
-#define IOP89_ASM_NUMBER(answer) iop89_asm_number(answer)
-#define IOP89_ASM_LINE(answer) iop89_asm_line(answer)
-#define IOP89_ASM_STORED(answer) iop89_asm_stored(answer)
-
-static inline unsigned iop89_asm_number(uint64_t answer)
-{
-    return answer & 0xFFu;
-}
-
-static inline uint32_t iop89_asm_line(uint64_t answer)
-{
-    return iop89_asm_number(answer) == IOP89_DONE ? 0u : IOP89_LOW_32(answer >> 32);
-}
-
-static inline uint32_t iop89_asm_stored(uint64_t answer)
-{
-    return iop89_asm_number(answer) == IOP89_DONE ? IOP89_LOW_32(answer >> 32) : 0u;
-}
+iop89_asm_answer iop89_assemble(const uint8_t *text, size_t text_len, uint32_t first, uint8_t *code, size_t code_len);
 
 /* A number of iop89_assemble in words. */
 static inline const char *iop89_asm_words(unsigned number)

@@ -1,4 +1,5 @@
-// The board's run for C, in an object of its own: called in one place, its code is merged into the exported function.
+// The board's run for C, in an object of its own: called in one place, its code is merged into the exported function. And
+// the version of the service archive.
 ghost use mathlib.Core.Path.{_≡_};
 ghost use Rattle.ground_rules.specs.Buffers.{lent};
 ghost use Rattle.run_rules.specs.Run.{answerOf, called};
@@ -17,4 +18,12 @@ pub extern "C" fn iop89_board(
 {
     let r = panel::boards::board_run(sys, io, channel, lines, limit);
     r.number % 65536 * 65536 + r.steps % 65536
+}
+
+// The version of the service archive: IOP89_VERSION of the header that it was made with.
+#[no_mangle]
+pub extern "C" fn iop89_service_version() -> u32
+    ensures { λ r. ⌜ r ≡ 200 ⌝ }
+{
+    200
 }

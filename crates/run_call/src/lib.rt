@@ -1,4 +1,4 @@
-// The run for C: the one call of its archive.
+// The run for C and the version of its archive: the calls of that archive.
 ghost use mathlib.Core.Path.{_≡_};
 ghost use Rattle.ground_rules.specs.Buffers.{lent};
 ghost use Rattle.run_rules.specs.Run.{runOf, answerOf, called};
@@ -17,4 +17,12 @@ pub extern "C" fn iop89_run(
 {
     let r = panel::run(sys, io, cp, channel, lines, limit);
     r.number % 65536 * 65536 + r.steps % 65536
+}
+
+// The version of the archive: IOP89_VERSION of the header that it was made with.
+#[no_mangle]
+pub extern "C" fn iop89_version() -> u32
+    ensures { λ r. ⌜ r ≡ 200 ⌝ }
+{
+    200
 }

@@ -1,0 +1,99 @@
+/* The bench tool's comparison of two images: the first step at which two machines under the same calls differ. */
+#include "tool.h"
+
+#include <inttypes.h>
+#include <string.h>
+
+/* One of the two: its machine, the state before its last step, that step's answer and what stands behind its line. */
+struct side {
+    struct tool_machine machine;
+    struct tool_order order;
+    uint8_t before[IOP89_STATE_LENGTH];
+    iop89_answer answer;
+    unsigned number;
+    char tail[64];
+};
+
+/* Prints what one did. */
+static void print_side(const struct side *s)
+{
+    printf("%s: ", s->order.file[0].name);
+    if (s->number == IOP89_DONE) {
+        printf("%" PRIu32, s->machine.tried);
+        tool_print_done(s->answer, s->before, s->machine.state, s->tail);
+    } else {
+        printf("number %u: %s\n", s->number, iop89_service_words(s->number));
+    }
+}
+
+/* Makes the machine of one of the files. */
+static void start(struct side *s, const struct tool_order *order, unsigned file)
+{
+    s->order = *order;
+    s->order.files = 1;
+    s->order.file[0] = order->file[file];
+    s->number = tool_start(&s->machine, &s->order, true);
+}
+
+/* Tries one step of one of them. */
+static void step(struct side *s)
+{
+    memcpy(s->before, s->machine.state, sizeof s->before);
+    s->number = tool_give_due(&s->machine, true);
+    if (s->number != IOP89_DONE) return;
+    s->answer = tool_try_step(&s->machine, s->tail);
+    s->number = IOP89_ANSWER_NUMBER(s->answer);
+}
+
+/* Whether both did the same. */
+static bool same(const struct side *a, const struct side *b)
+{
+    return a->number == b->number && memcmp(a->machine.state, b->machine.state, IOP89_STATE_LENGTH) == 0
+           && (a->number != IOP89_DONE || IOP89_BITS(a->answer) == IOP89_BITS(b->answer));
+}
+
+/* Prints how many bytes of a space differ and the first of them; answers whether some do. */
+static bool print_bytes(const char *space, const uint8_t *a, size_t a_len, const uint8_t *b, size_t b_len)
+{
+    size_t length = a_len < b_len ? a_len : b_len, count = 0, first = 0;
+    for (size_t i = length; i-- > 0;) {
+        if (a[i] == b[i]) continue;
+        count++;
+        first = i;
+    }
+    if (a_len != b_len) printf("%s: %zu and %zu bytes\n", space, a_len, b_len);
+    if (count > 0) printf("%s: %zu bytes differ, first %05zX: %02X and %02X\n", space, count, first, a[first], b[first]);
+    return count > 0 || a_len != b_len;
+}
+
+/* Goes through both up to a step that differs, a number or the limit; answers whether one differs. */
+static bool differ(struct side *a, struct side *b)
+{
+    bool equal = same(a, b);
+    if (!equal) puts("different before the first step");
+    while (equal && a->number == IOP89_DONE && a->machine.tried < a->order.limit) {
+        step(a);
+        step(b);
+        equal = same(a, b);
+        if (!equal) printf("different at step %" PRIu32 "\n", a->machine.tried);
+        if (tool_goes_on(&a->order.of[0], a->number, a->machine.state)) a->number = b->number = equal ? IOP89_DONE : a->number;
+    }
+    return !equal;
+}
+
+enum tool_status tool_compare(const struct tool_order *order)
+{
+    static struct side a, b;
+    if (order->files != 2) tool_usage("compare takes two files", NULL);
+    start(&a, order, 0);
+    start(&b, order, 1);
+    bool different = differ(&a, &b);
+    if (different) print_side(&a), print_side(&b);
+    else printf("the same %" PRIu32 " steps, then number %u: %s\n", a.machine.done, a.number, iop89_service_words(a.number));
+    const struct tool_memory *m = &a.machine.memory, *n = &b.machine.memory;
+    bool bytes = print_bytes("system memory", m->sys, m->sys_len, n->sys, n->sys_len);
+    bytes = print_bytes("I/O memory", m->io, m->io_len, n->io, n->io_len) || bytes;
+    tool_end(&a.machine);
+    tool_end(&b.machine);
+    return different || bytes ? TOOL_REFUSED : TOOL_DONE;
+}
