@@ -482,6 +482,23 @@ static void print_met(void)
     print_anew(anew);
 }
 
+/* ---- Memory that is nowhere ---- */
+
+/* A length over the limit is 11 before any byte is looked at: these bytes are nowhere, so a call that read one would end
+ * the program. How many calls answer otherwise. */
+static unsigned long long too_long(void)
+{
+    uint8_t *nowhere = (uint8_t *)(uintptr_t)4096;
+    size_t over = 0x100001;
+    unsigned long long otherwise = 0;
+    iop89_fresh(proved.state, STATE_BYTES, 0x12345);
+    otherwise += iop89_attention(proved.state, STATE_BYTES, nowhere, over, proved.io, 0, 1) != IOP89_BAD_BUFFER;
+    otherwise += iop89_step(proved.state, STATE_BYTES, nowhere, over, proved.io, 0, 0) != IOP89_BAD_BUFFER;
+    otherwise += iop89_power_up(proved.state, STATE_BYTES, nowhere, over, proved.io, 0) != IOP89_BAD_BUFFER;
+    otherwise += IOP89_NUMBER(iop89_board(nowhere, over, proved.io, 0, 1, 0, 1)) != IOP89_BAD_BUFFER;
+    return otherwise;
+}
+
 /* ---- The command line ---- */
 
 /* The number in one word of the command line, or the usual one where it is left out. */
@@ -502,7 +519,7 @@ int main(int count, char **words)
     uint64_t first = argument(count, words, 3, 0);
     emulated = new_side();
     proved = new_side();
-    differences += every_pair(seed) + every_cc() + every_held();
+    differences += too_long() + every_pair(seed) + every_cc() + every_held();
     memset(&coverage, 0, sizeof coverage); /* what was met is asked of the rows of calls */
     memset(bytes, 0, sizeof bytes);
     memset(anew, 0, sizeof anew);
