@@ -168,11 +168,17 @@ static uint64_t emulate(const struct named_call *k, struct emu_processors *two, 
     return answer.number | answer.count << 12;
 }
 
-/* Why the bytes of a place are no state for a call; reset looks at the length alone. */
+/* Whether a call looks at the length of the named state alone. */
+static bool asks_length(const struct named_call *k)
+{
+    return k->kind == NAMED_RESET || k->kind == NAMED_POWER_UP;
+}
+
+/* Why the bytes of a place are no state for a call. */
 static enum state_fault fault_at(const struct named_call *k, const struct board *b, unsigned i, struct emu_state *state)
 {
     enum state_fault fault = state_from_bytes(b->state[i], b->state_len[i], state);
-    return k->kind == NAMED_RESET && fault != FAULT_LENGTH ? FAULT_NONE : fault;
+    return asks_length(k) && fault != FAULT_LENGTH ? FAULT_NONE : fault;
 }
 
 /* The same by the emulator: 17 for the named one's bytes alone, and each place's bytes written back where they were a
@@ -190,7 +196,7 @@ static uint64_t call_emulator(const struct named_call *k, const struct board *b,
     unsigned named = k->processor == 2;
     if (!is_processor(k->processor) || fault_at(k, b, named, &two.state[named]) == FAULT_NONE) {
         answer = emulate(k, &two, &r);
-        if (k->kind == NAMED_RESET && is_processor(k->processor)) is_state[named] = true;
+        if (asks_length(k) && is_processor(k->processor) && (answer & 255) == EMU_DONE) is_state[named] = true;
         for (unsigned i = 0; i < 2; i++)
             if (is_state[i]) state_to_bytes(&two.state[i], b->state[i]);
     }

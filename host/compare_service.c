@@ -35,6 +35,8 @@ struct side {
 static struct side emulated, proved;
 static struct emu_coverage coverage;
 static unsigned long numbers[CALLS][IOP89_NO_STATE + 1], faults[STATE_FAULTS], bytes[BYTES_KINDS][BYTES_COUNTS];
+/* Power-ups of bytes that are no state: refused, done. */
+static unsigned long powered_none[2];
 static unsigned long anew[ANEWS];
 static const char *const call_names[CALLS] = {"fresh", "reset", "power-up", "attention", "step", "board"};
 
@@ -68,6 +70,12 @@ static bool makes_anew(enum call_kind kind)
     return kind == CALL_FRESH || kind == CALL_RESET || kind == CALL_BOARD;
 }
 
+/* Whether a call looks at the state's length alone. */
+static bool asks_length(enum call_kind kind)
+{
+    return makes_anew(kind) || kind == CALL_POWER;
+}
+
 /* Whether the bytes of the archive's state hold a byte in some channel. */
 static bool bytes_hold(void)
 {
@@ -83,6 +91,13 @@ static void count_anew(enum call_kind kind, uint32_t answer, bool held)
     if (kind == CALL_POWER) anew[ANEW_POWER_UP]++;
 }
 
+/* Counts a power-up of bytes that are no state, by whether it was done. */
+static void count_powered(uint32_t number)
+{
+    struct emu_state state;
+    if (state_from_bytes(emulated.state, STATE_BYTES, &state) != FAULT_NONE) powered_none[number == EMU_DONE]++;
+}
+
 /* The emulator's answer; counts what it met. */
 static uint32_t by_emulator(const struct run_case *c, struct call call)
 {
@@ -93,13 +108,16 @@ static uint32_t by_emulator(const struct run_case *c, struct call call)
     memset(&state, 0, sizeof state);
     if (call.kind == CALL_BOARD) return emu_board(&memory, call.argument, call.lines, call.limit);
     enum state_fault fault = call.state_len != STATE_BYTES ? FAULT_LENGTH : FAULT_NONE;
-    if (!makes_anew(call.kind)) fault = state_from_bytes(emulated.state, call.state_len, &state);
+    if (!asks_length(call.kind)) fault = state_from_bytes(emulated.state, call.state_len, &state);
     faults[fault]++;
     if (fault != FAULT_NONE) return IOP89_NO_STATE;
     if (call.kind == CALL_FRESH) answer.number = emu_fresh(call.argument, &state);
     else if (call.kind == CALL_RESET) emu_reset(&state);
-    else if (call.kind == CALL_POWER) answer = emu_power_up(&state, &memory);
-    else if (call.kind == CALL_ATTENTION) answer = emu_attention(&state, &memory, call.argument);
+    else if (call.kind == CALL_POWER) {
+        answer = emu_power_up(&state, &memory);
+        count_powered(answer.number);
+        if (answer.number != EMU_DONE) return answer.number;
+    } else if (call.kind == CALL_ATTENTION) answer = emu_attention(&state, &memory, call.argument);
     else stepped = emu_step(&state, &memory, call.argument);
     state_to_bytes(&state, emulated.state);
     uint32_t kind = stepped.kind == 'I' ? 1 : stepped.kind == 'T' ? 2 : stepped.kind == 'X' ? 3 : 0;
@@ -448,6 +466,8 @@ static void print_met(void)
         snprintf(name, sizeof name, "%u %u %u", i & 1u, i >> 1 & 1u, i >> 2);
         print_count(name, coverage.powered[i]);
     }
+    print_count("power-ups of bytes that are no state, done", powered_none[1]);
+    print_count("power-ups of bytes that are no state, refused", powered_none[0]);
     puts("17, by its cause:");
     for (enum state_fault fault = FAULT_LENGTH; fault < STATE_FAULTS; fault++) {
         if (fault == FAULT_CHANNEL_1 || fault == FAULT_CHANNEL_2)
@@ -460,6 +480,23 @@ static void print_met(void)
     print_pairs(&coverage, PAIRS_OF_ANY_KIND);
     print_held(&coverage);
     print_anew(anew);
+}
+
+/* ---- Memory that is nowhere ---- */
+
+/* A length over the limit is 11 before any byte is looked at: these bytes are nowhere, so a call that read one would end
+ * the program. How many calls answer otherwise. */
+static unsigned long long too_long(void)
+{
+    uint8_t *nowhere = (uint8_t *)(uintptr_t)4096;
+    size_t over = 0x100001;
+    unsigned long long otherwise = 0;
+    iop89_fresh(proved.state, STATE_BYTES, 0x12345);
+    otherwise += iop89_attention(proved.state, STATE_BYTES, nowhere, over, proved.io, 0, 1) != IOP89_BAD_BUFFER;
+    otherwise += iop89_step(proved.state, STATE_BYTES, nowhere, over, proved.io, 0, 0) != IOP89_BAD_BUFFER;
+    otherwise += iop89_power_up(proved.state, STATE_BYTES, nowhere, over, proved.io, 0) != IOP89_BAD_BUFFER;
+    otherwise += IOP89_NUMBER(iop89_board(nowhere, over, proved.io, 0, 1, 0, 1)) != IOP89_BAD_BUFFER;
+    return otherwise;
 }
 
 /* ---- The command line ---- */
@@ -482,7 +519,7 @@ int main(int count, char **words)
     uint64_t first = argument(count, words, 3, 0);
     emulated = new_side();
     proved = new_side();
-    differences += every_pair(seed) + every_cc() + every_held();
+    differences += too_long() + every_pair(seed) + every_cc() + every_held();
     memset(&coverage, 0, sizeof coverage); /* what was met is asked of the rows of calls */
     memset(bytes, 0, sizeof bytes);
     memset(anew, 0, sizeof anew);

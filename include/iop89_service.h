@@ -62,7 +62,8 @@ iop89_answer iop89_reset(uint8_t *state, size_t state_len);
 
 /* Powers the machine up: SYSBUS is read at FFFF6h of system memory, the configuration block's pointer at FFFF8h, SOC and
  * CP in that block, and BUSY of channel 1 is cleared. Answers 11, or 2 where one of these eleven bytes is not lent;
- * otherwise the state is the fresh one of the CP found, whatever it was before, with SYSBUS bit 0 and SOC bits 0 and 1. */
+ * otherwise the state is the fresh one of the CP found, with SYSBUS bit 0 and SOC bits 0 and 1. Looks at the length
+ * alone, as iop89_fresh does; refused, it leaves the bytes as they were. */
 iop89_answer iop89_power_up(uint8_t *state, size_t state_len, uint8_t *sys, size_t sys_len, uint8_t *io, size_t io_len);
 
 /* Gives a channel one attention. */

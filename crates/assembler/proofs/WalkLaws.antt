@@ -32,7 +32,7 @@ use Rattle.assembler_lines.specs.declared.bodies.Head.{Head}
 use Rattle.assembler_lines.specs.Bodies.{HeadIs}
 use Rattle.assembler_bytes.specs.Laid.{bytesLaid}
 use Rattle.assembler.specs.declared.passes.Failure.{Failure}
-use Rattle.assembler.specs.Passes.{nameOf, Fitting, inLine, lineEnd, saidAt, saidFrom, labelsIn, behind, FailureIs, counted, assemblyWord}
+use Rattle.assembler.specs.Passes.{labelName, Fitting, inLine, lineEnd, saidAt, saidFrom, labelsIn, behind, FailureIs, cappedCount, assemblyWord}
 
 -- a line feed ends a line
 front-feed : (c : ℕ) (b : Begun) → c ≡ 10 → inFrontOf c b ≡ begun [] []
@@ -154,24 +154,24 @@ unfolding keptWith
 keep-one kept address [] h k = absurd (omega arith)
 keep-one kept address (c ∷ cs) h k = rw k
 
-pub no-name : (text : List ℕ) (h : Head) → h .labelled ≡ false → nameOf text h ≡ []
+pub no-name : (text : List ℕ) (h : Head) → h .labelled ≡ false → labelName text h ≡ []
 no-name text h e = rw e
 
-pub a-name : (text : List ℕ) (h : Head) → h .labelled ≡ true → nameOf text h ≡ capitals (between text (h .from) (h .to))
+pub a-name : (text : List ℕ) (h : Head) → h .labelled ≡ true → labelName text h ≡ capitals (between text (h .from) (h .to))
 a-name text h e = rw e
 
 -- a label that a line has, in the arrays
 module _ (text : List ℕ) (h : Head) (fits : Fitting text h) (labelled : h .labelled ≡ true) (kept : List Label) (address : ℕ) where
-  pub kept-same : mayKeep kept (capitals (between text (h .from) (h .to))) ≡ false → kept ≡ keptWith kept address (nameOf text h)
+  pub kept-same : mayKeep kept (capitals (between text (h .from) (h .to))) ≡ false → kept ≡ keptWith kept address (labelName text h)
   kept-same e = sym (ap (keptWith kept address) (a-name text h labelled) ∙ keep-not kept address (capitals (between text (h .from) (h .to))) e)
 
-  pub kept-more : mayKeep kept (capitals (between text (h .from) (h .to))) ≡ true → kept ++ (label (nameAt text (h .from)) address ∷ []) ≡ keptWith kept address (nameOf text h)
+  pub kept-more : mayKeep kept (capitals (between text (h .from) (h .to))) ≡ true → kept ++ (label (nameAt text (h .from)) address ∷ []) ≡ keptWith kept address (labelName text h)
   kept-more e =
       let some = fits .some labelled in
       rw (fits .name labelled) (sym (ap (keptWith kept address) (a-name text h labelled) ∙ keep-one kept address (capitals (between text (h .from) (h .to))) (omega (arith, name-length text (h .from) (h .to) some (fits .inside labelled))) e))
 
 -- what is read of a line's front is what it says
-pub said-head : (text : List ℕ) (at : ℕ) (h : Head) → HeadIs text at h → saidAt text at ≡ record { name = nameOf text h; statement = statementOf (tokensOf (drop (h .body) text)) }
+pub said-head : (text : List ℕ) (at : ℕ) (h : Head) → HeadIs text at h → saidAt text at ≡ record { name = labelName text h; statement = statementOf (tokensOf (drop (h .body) text)) }
 unfolding saidAt
 said-head text at h is = ap (λ (x : Headed). record { name = x .name; statement = statementOf (x .body) }) (is .line)
 
@@ -180,20 +180,20 @@ fitting text at h is = record { some = is .some; inside = is .inside; name = is 
 
 -- one line of the first pass: the last, and one that others follow
 module _ (text : List ℕ) (at : ℕ) (h : Head) (is : HeadIs text at h) (kept : List Label) (address : ℕ) (small : address < 65536) where
-  pub labels-last : saidFrom text at ≡ saidAt text at ∷ [] → labelsFrom kept address (saidFrom text at) ≡ keptWith kept address (nameOf text h)
+  pub labels-last : saidFrom text at ≡ saidAt text at ∷ [] → labelsFrom kept address (saidFrom text at) ≡ keptWith kept address (labelName text h)
   unfolding labelsFrom
-  labels-last e = ap (labelsFrom kept address) (e ∙ ap (λ (s : Said). s ∷ []) (said-head text at h is)) ∙ ap (λ (a : ℕ). keptWith kept a (nameOf text h)) (mod-eq-of-lt small)
+  labels-last e = ap (labelsFrom kept address) (e ∙ ap (λ (s : Said). s ∷ []) (said-head text at h is)) ∙ ap (λ (a : ℕ). keptWith kept a (labelName text h)) (mod-eq-of-lt small)
 
   pub labels-next : (more : List Said) (size : ℕ) (grown : List Label) (next : ℕ) → saidFrom text at ≡ saidAt text at ∷ more → size ≡ statementSize (statementOf (tokensOf (drop (h .body) text)))
-      → grown ≡ keptWith kept address (nameOf text h) → next ≡ behind address size → labelsFrom grown next more ≡ labelsFrom kept address (saidFrom text at)
+      → grown ≡ keptWith kept address (labelName text h) → next ≡ behind address size → labelsFrom grown next more ≡ labelsFrom kept address (saidFrom text at)
   unfolding labelsFrom
   labels-next more size grown next e n g a =
-      rw (g, a, n) (labels-reduced more (keptWith kept address (nameOf text h)) (address + statementSize (statementOf (tokensOf (drop (h .body) text))))
-      ∙ ap (λ (x : ℕ). labelsFrom (keptWith kept x (nameOf text h)) (address + statementSize (statementOf (tokensOf (drop (h .body) text)))) more) (sym (mod-eq-of-lt small))
+      rw (g, a, n) (labels-reduced more (keptWith kept address (labelName text h)) (address + statementSize (statementOf (tokensOf (drop (h .body) text))))
+      ∙ ap (λ (x : ℕ). labelsFrom (keptWith kept x (labelName text h)) (address + statementSize (statementOf (tokensOf (drop (h .body) text)))) more) (sym (mod-eq-of-lt small))
       ∙ sym (ap (labelsFrom kept address) (e ∙ ap (λ (s : Said). s ∷ more) (said-head text at h is))))
 
 -- a label that stands
-pub stands-none : (text : List ℕ) (h : Head) (kept : List Label) (address : ℕ) → h .labelled ≡ false → true ≡ labelStands kept address (nameOf text h)
+pub stands-none : (text : List ℕ) (h : Head) (kept : List Label) (address : ℕ) → h .labelled ≡ false → true ≡ labelStands kept address (labelName text h)
 unfolding labelStands
 stands-none text h kept address e = rw e
 
@@ -203,15 +203,15 @@ stands-name kept address [] h = absurd (omega arith)
 stands-name kept address (c ∷ cs) h = refl
 
 module _ (text : List ℕ) (h : Head) (fits : Fitting text h) (kept : List Label) (address : ℕ) where
-  pub stands-may : h .labelled ≡ true → mayKeep kept (capitals (between text (h .from) (h .to))) ≡ labelStands kept address (nameOf text h)
+  pub stands-may : h .labelled ≡ true → mayKeep kept (capitals (between text (h .from) (h .to))) ≡ labelStands kept address (labelName text h)
   stands-may e = let some = fits .some e in rw e (sym (stands-name kept address (capitals (between text (h .from) (h .to))) (omega (arith, name-length text (h .from) (h .to) some (fits .inside e)))))
 
   -- how many labels are kept behind a line whose label stands
-  pub stands-count : labelStands kept address (nameOf text h) ≡ true → length (keptWith kept address (nameOf text h)) ≡ pick (h .labelled) (length kept + 1) (length kept)
+  pub stands-count : labelStands kept address (labelName text h) ≡ true → length (keptWith kept address (labelName text h)) ≡ pick (h .labelled) (length kept + 1) (length kept)
   unfolding keptWith
   stands-count e = go (h .labelled) refl
     where
-      go : (b : Bool) → h .labelled ≡ b → length (keptWith kept address (nameOf text h)) ≡ pick b (length kept + 1) (length kept)
+      go : (b : Bool) → h .labelled ≡ b → length (keptWith kept address (labelName text h)) ≡ pick b (length kept + 1) (length kept)
       go true l = ap length (sym (kept-more text h fits l kept address (stands-may l ∙ e))) ∙ length-append kept (label (nameAt text (h .from)) address ∷ [])
       go false l = rw l
 
@@ -283,7 +283,7 @@ behind-more : (first bytes size : ℕ) → behind (behind first bytes) size ≡ 
 behind-more first bytes size = mod-add-mod (first + bytes) 65536 size ∙ ap (λ (n : ℕ). n % 65536) (add-assoc first bytes size)
 
 abbrev pub saidBehind : List ℕ → Head → Said
-saidBehind text h = record { name = nameOf text h; statement = statementOf (tokensOf (drop (h .body) text)) }
+saidBehind text h = record { name = labelName text h; statement = statementOf (tokensOf (drop (h .body) text)) }
 
 pub record Goes (text places addresses : List ℕ) (first room line count bytes next : ℕ) (before : Failed) : Type 0 where
   pub inside : count ≤ length places
@@ -319,7 +319,7 @@ module _ (text places addresses : List ℕ) (first room at line count bytes : �
       a = behind first bytes
 
       grows : List Label
-      grows = keptWith (labelsIn text places addresses count) a (nameOf text h)
+      grows = keptWith (labelsIn text places addresses count) a (labelName text h)
 
       alls : labelsFrom grows (behind a size) (saidFrom text next) ≡ (labelsAt text places addresses)
       alls = labels-next text at h is (labelsIn text places addresses count) a (mod-lt (first + bytes) (omega arith)) (saidFrom text next) size grows (behind a size) e sized refl refl ∙ all
@@ -432,11 +432,11 @@ module _ (text code : List ℕ) (first : ℕ) (labels : List Label) (all : label
 
   -- a text that is refused
   module _ (f : Failure) (is : FailureIs f (failedFrom labels [] first (length code) 1 0 (saidFrom text 0))) where
-    pub text-refused : (f .number ≡ 0 → ⊥) → (line : ℕ) → counted line ≡ counted (f .line + 1) → (f .number + counted line * 4294967296 ≡ assemblyWord (assembleOf text first (length code))) × (code ≡ assembledInto code (assembleOf text first (length code)))
+    pub text-refused : (f .number ≡ 0 → ⊥) → (line : ℕ) → cappedCount line ≡ cappedCount (f .line + 1) → (f .number + cappedCount line * 4294967296 ≡ assemblyWord (assembleOf text first (length code))) × (code ≡ assembledInto code (assembleOf text first (length code)))
     unfolding assemblyWord assembledInto
     text-refused k line e =
         let n : eqb (failedFrom labels [] first (length code) 1 0 (saidFrom text 0) .number) 0 ≡ false = ne-eqb (failedFrom labels [] first (length code) 1 0 (saidFrom text 0) .number) 0 (λ z. k (is .number ∙ z)) in
-        rw (by-passes, n) (rw n (ap (λ (x : ℕ). x + counted line * 4294967296) (is .number) ∙ ap (λ (x : ℕ). failedFrom labels [] first (length code) 1 0 (saidFrom text 0) .number + x * 4294967296) (e ∙ ap counted (is .line k))), refl)
+        rw (by-passes, n) (rw n (ap (λ (x : ℕ). x + cappedCount line * 4294967296) (is .number) ∙ ap (λ (x : ℕ). failedFrom labels [] first (length code) 1 0 (saidFrom text 0) .number + x * 4294967296) (e ∙ ap cappedCount (is .line k))), refl)
 
     pub text-room : f .number ≡ 0 → length (bytesFrom labels first 0 (saidFrom text 0)) ≤ length code
     unfolding saidFrom
@@ -447,8 +447,8 @@ module _ (text code : List ℕ) (first : ℕ) (labels : List Label) (all : label
     text-bytes z = said-stores (linesIn text) labels [] first (length code) 1 0 (sym (is .number) ∙ z)
 
     pub text-done : f .number ≡ 0 → (stored : ℕ) (now : List ℕ) → stored ≡ length (bytesFrom labels first 0 (saidFrom text 0)) → now ≡ bytesFrom labels first 0 (saidFrom text 0) ++ drop stored code
-        → (0 + counted stored * 4294967296 ≡ assemblyWord (assembleOf text first (length code))) × (now ≡ assembledInto code (assembleOf text first (length code)))
+        → (0 + cappedCount stored * 4294967296 ≡ assemblyWord (assembleOf text first (length code))) × (now ≡ assembledInto code (assembleOf text first (length code)))
     unfolding assemblyWord assembledInto
     text-done z stored now e g =
         let n : eqb (failedFrom labels [] first (length code) 1 0 (saidFrom text 0) .number) 0 ≡ true = eq-eqb (failedFrom labels [] first (length code) 1 0 (saidFrom text 0) .number) 0 (sym (is .number) ∙ z) in
-        rw (by-passes, n) (ap (λ (x : ℕ). 0 + counted x * 4294967296) e, g ∙ ap (λ (x : ℕ). bytesFrom labels first 0 (saidFrom text 0) ++ drop x code) e)
+        rw (by-passes, n) (ap (λ (x : ℕ). 0 + cappedCount x * 4294967296) e, g ∙ ap (λ (x : ℕ). bytesFrom labels first 0 (saidFrom text 0) ++ drop x code) e)

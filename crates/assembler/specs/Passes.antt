@@ -16,8 +16,8 @@ use Rattle.assembler_lines.specs.declared.bodies.Head.{Head}
 use Rattle.assembler.specs.declared.passes.Failure.{Failure}
 
 -- the name of a line's label, none where it has none
-abbrev pub nameOf : List ℕ → Head → List ℕ
-nameOf text h = pick (h .labelled) (capitals (between text (h .from) (h .to))) []
+abbrev pub labelName : List ℕ → Head → List ℕ
+labelName text h = pick (h .labelled) (capitals (between text (h .from) (h .to))) []
 
 -- a label that stands in the text as a run of it
 pub record Fitting (text : List ℕ) (h : Head) : Type 0 where
@@ -54,9 +54,9 @@ pub record FailureIs (f : Failure) (is : Failed) : Type 0 where
   pub line : (f .number ≡ 0 → ⊥) → f .line + 1 ≡ is .line
 
 -- a count that four bytes hold
-abbrev pub counted : ℕ → ℕ
-counted n = pick (leb n 0xFFFFFFFF) n 0xFFFFFFFF
+abbrev pub cappedCount : ℕ → ℕ
+cappedCount n = pick (leb n 0xFFFFFFFF) n 0xFFFFFFFF
 
 -- number, and line or bytes stored, in one word
 unfoldable pub assemblyWord : Assembled → ℕ
-assemblyWord a = a .number + counted (pick (eqb (a .number) 0) (length (a .bytes)) (a .line)) * 4294967296
+assemblyWord a = a .number + cappedCount (pick (eqb (a .number) 0) (length (a .bytes)) (a .line)) * 4294967296

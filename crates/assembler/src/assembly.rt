@@ -4,11 +4,11 @@ ghost use mathlib.Core.Path.{_≡_};
 ghost use Prim.Native.Nat.{_+_, _*_};
 ghost use lib.ListN.{length};
 ghost use Rattle.assembly_rules.specs.Assembly.{assembleOf, assembledInto};
-ghost use Rattle.assembler.specs.Passes.{counted, assemblyWord};
+ghost use Rattle.assembler.specs.Passes.{cappedCount, assemblyWord};
 
 // A number and a count in one word, the count no more than four bytes hold.
 fn word(number: u32, count: usize) -> u64
-    ensures { λ r. ⌜ r ≡ number + counted count * 4294967296 ⌝ }
+    ensures { λ r. ⌜ r ≡ number + cappedCount count * 4294967296 ⌝ }
 {
     if count <= 4294967295 {
         return number as u64 + count as u64 * 4294967296;
@@ -18,7 +18,7 @@ fn word(number: u32, count: usize) -> u64
 
 // One more, or no more than four bytes hold.
 fn one_more(lines: usize) -> usize
-    ensures { λ r. ⌜ counted r ≡ counted (lines + 1) ⌝ }
+    ensures { λ r. ⌜ cappedCount r ≡ cappedCount (lines + 1) ⌝ }
 {
     if lines < 4294967295 {
         return lines + 1;
@@ -58,7 +58,8 @@ pub fn assemble(text: &[u8], first: u32, code: &mut [u8]) -> u64
     ensures { λ r. ⌜ r ≡ assemblyWord (assembleOf (now (text .entry)) first (length (now (code .entry)))) ⌝ }
     ensures { λ r. ⌜ now (code .exit) ≡ assembledInto (now (code .entry)) (assembleOf (now (text .entry)) first (length (now (code .entry)))) ⌝ }
 {
-    let mut places: [usize; 64] = [0; 64];
-    let mut addresses: [u32; 64] = [0; 64];
+    // No zeros: they would be a call of memset, which no archive brings.
+    let mut places: [usize; 64] = [1; 64];
+    let mut addresses: [u32; 64] = [1; 64];
     assemble_with(text, first, &mut places, &mut addresses, code)
 }

@@ -8,7 +8,7 @@ ghost use lib.ListN.{length};
 ghost use Rattle.assembly_rules.specs.Text.{capitals};
 ghost use Rattle.assembly_rules.specs.Assembly.{mayKeep, labelStands};
 ghost use Rattle.assembler_text.specs.Places.{between, labelsAt};
-ghost use Rattle.assembler.specs.Passes.{lineEnd, nameOf, Fitting};
+ghost use Rattle.assembler.specs.Passes.{lineEnd, labelName, Fitting};
 
 // The place of the line feed that ends the line at a place, or the text's end.
 pub(crate) fn line_end(text: &[u8], at: usize) -> usize
@@ -51,7 +51,7 @@ pub(crate) fn may_keep(
 // Whether a line has no label, or one that may be kept beside those that are.
 pub(crate) fn label_stands(text: &[u8], h: Head, places: &[usize], addresses: &[u32]) -> bool
     requires { ⌜ Fitting (now text) h × (length (now places) ≡ length (now addresses)) ⌝ }
-    ensures { λ r. ⌜ ((address : ℕ) → r ≡ labelStands (labelsAt (now (text .entry)) (now (places .entry)) (now (addresses .entry))) address (nameOf (now (text .entry)) h)) ⌝ }
+    ensures { λ r. ⌜ ((address : ℕ) → r ≡ labelStands (labelsAt (now (text .entry)) (now (places .entry)) (now (addresses .entry))) address (labelName (now (text .entry)) h)) ⌝ }
 {
     if h.labelled {
         return may_keep(text, h.from, h.to, places, addresses);

@@ -16,7 +16,7 @@ ghost use Rattle.assembly_rules.proofs.ByteLaws.{areBytes};
 ghost use Rattle.assembly_rules.specs.Assembly.{keptWith, labelsFrom, lineNumber};
 ghost use Rattle.assembler_text.specs.Places.{labelsAt};
 ghost use Rattle.assembler_lines.specs.Bodies.{HeadIs, BodyIs};
-ghost use Rattle.assembler.specs.Passes.{saidFrom, labelsIn, behind, nameOf, Fitting, FailureIs};
+ghost use Rattle.assembler.specs.Passes.{saidFrom, labelsIn, behind, labelName, Fitting, FailureIs};
 
 // The number of the first line that has one, and its line; 0 and 0 where none has.
 pub(crate) struct Failure {
@@ -43,7 +43,7 @@ fn kept(
     requires { ⌜ (length (now places) ≡ 64) × ((length (now addresses) ≡ 64) × ((count ≤ 64) × Fitting (now text) h)) ⌝ }
     ensures { λ r. ⌜ r ≤ 64 ⌝ }
     ensures { λ r. ⌜ (length (now (places .exit)) ≡ 64) × (length (now (addresses .exit)) ≡ 64) ⌝ }
-    ensures { λ r. ⌜ labelsIn (now (text .entry)) (now (places .exit)) (now (addresses .exit)) r ≡ keptWith (labelsIn (now (text .entry)) (now (places .entry)) (now (addresses .entry)) count) address (nameOf (now (text .entry)) h) ⌝ }
+    ensures { λ r. ⌜ labelsIn (now (text .entry)) (now (places .exit)) (now (addresses .exit)) r ≡ keptWith (labelsIn (now (text .entry)) (now (places .entry)) (now (addresses .entry)) count) address (labelName (now (text .entry)) h) ⌝ }
 {
     if !h.labelled {
         return count;
@@ -91,7 +91,7 @@ fn line_number(
     left: usize,
 ) -> u32
     requires { ⌜ Fitting (now text) h × ((length (now places) ≡ length (now addresses)) × (count ≤ length (now places))) ⌝ }
-    ensures { λ r. ⌜ ((s : Statement) → BodyIs (now (text .entry)) b s → (before : ℕ) → r ≡ lineNumber (labelsAt (now (text .entry)) (now (places .entry)) (now (addresses .entry))) (labelsIn (now (text .entry)) (now (places .entry)) (now (addresses .entry)) count) address before (before + left) (record { name = nameOf (now (text .entry)) h; statement = s })) ⌝ }
+    ensures { λ r. ⌜ ((s : Statement) → BodyIs (now (text .entry)) b s → (before : ℕ) → r ≡ lineNumber (labelsAt (now (text .entry)) (now (places .entry)) (now (addresses .entry))) (labelsIn (now (text .entry)) (now (places .entry)) (now (addresses .entry)) count) address before (before + left) (record { name = labelName (now (text .entry)) h; statement = s })) ⌝ }
 {
     let n = assembler_bytes::number(text, b, places, addresses, address);
     if (30 <= n) & (n <= 32) {

@@ -18,7 +18,8 @@ use Rattle.assembly_rules.specs.Statements.Statement.{instruction}
 use Rattle.assembler_forms.specs.Forms.{operandTokens, writtenForm}
 use Rattle.assembler_forms.specs.declared.operands.Form.{Form}
 use Rattle.assembler_forms.specs.declared.operands.Form.the-variants.{Register, Memory, Value, NoOperand}
-use Rattle.assembler_bytes.specs.Placed.{kindFrom, firstKind, secondKind, thirdKind, entryFrom, threeFrom, kindSizeBy, formOffset, movesBy}
+use Rattle.assembler_bytes.specs.Placed.{kindFrom, firstKind, secondKind, thirdKind, entryFrom, threeFrom, kindSizeBy, movesBy}
+use Rattle.assembler_lines.specs.Counts.{formOffset}
 use Rattle.assembler_bytes.specs.Bytes.{isDigitBy, formMm, formAa, formDigits, formRrr, rrrBy, aaBy, mmBy, firstByteBy, secondByteBy, secondPairBy, offsetLaid, placeData, placeBytes, plainTail, moveTail}
 use Rattle.assembler_bytes.proofs.LaidLaws.{lows, lows-behind, lows-two}
 use Rattle.assembler_bytes.proofs.PlacedLaws.{kind-law, moves-told}

@@ -24,7 +24,8 @@ use Rattle.assembler_forms.specs.declared.operands.Form.the-variants.{Register,
 use Rattle.assembler_forms.specs.Forms.{operandTokens, writtenForm}
 use Rattle.assembler_lines.specs.Bodies.{areSums}
 use Rattle.assembler_bytes.proofs.WorthLaws.{worth-before}
-use Rattle.assembler_bytes.specs.Placed.{kindFrom, firstKind, secondKind, thirdKind, entryFrom, threeFrom, kindSizeBy, mayStandBy, formOffset, movesBy}
+use Rattle.assembler_bytes.specs.Placed.{kindFrom, firstKind, secondKind, thirdKind, entryFrom, threeFrom, kindSizeBy, mayStandBy, movesBy}
+use Rattle.assembler_lines.specs.Counts.{formOffset}
 
 -- what a digit gives is what its kind gives, where it does so of each of the nine and of every other
 pub kind-law : {A : Type 0} (g : ℕ → A) (f : Kind → A) → g 2 ≡ f 'G → g 3 ≡ f 'P → g 4 ≡ f 'M → g 5 ≡ f 'byte → g 6 ≡ f 'word → g 7 ≡ f 'bit → g 8 ≡ f 'width → g 9 ≡ f 'short → g 10 ≡ f 'long

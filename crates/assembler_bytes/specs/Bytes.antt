@@ -9,7 +9,8 @@ use Rattle.listing_rules.specs.Forms.{wordBytes}
 use Rattle.assembly_rules.specs.Statements.{reachTo}
 use Rattle.assembler_forms.specs.declared.operands.Form.{Form}
 use Rattle.assembler_forms.specs.declared.operands.Form.the-variants.{Register, Memory, Value, NoOperand}
-use Rattle.assembler_bytes.specs.Placed.{firstKind, secondKind, thirdKind, kindSizeBy, formOffset}
+use Rattle.assembler_bytes.specs.Placed.{firstKind, secondKind, thirdKind, kindSizeBy}
+use Rattle.assembler_lines.specs.Counts.{formOffset}
 
 -- MM and AA of an operand, or those before it
 abbrev pub formMm : ℕ → Form → ℕ

@@ -63,13 +63,6 @@ unfoldable pub mayStandBy : ℕ → ℕ → ℕ → Bool
 mayStandBy kind end n =
     pick (eqb kind 4 || eqb kind 5) (isByte n) (pick (eqb kind 7) (ltb n 8) (pick (eqb kind 8) (eqb n 8 || eqb n 16) (pick (eqb kind 9) (isNear (reachTo end n)) true)))
 
--- the offset byte of memory
-abbrev pub formOffset : Form → ℕ
-formOffset (Register r) = 0
-formOffset (Memory mm aa place low) = pick (eqb aa 1) 1 0
-formOffset (Value place low) = 0
-formOffset NoOperand = 0
-
 -- more than one memory operand
 unfoldable pub movesBy : ℕ → ℕ → ℕ → Bool
 movesBy a b c = (eqb a 4 && eqb b 4) || ((eqb a 4 && eqb c 4) || (eqb b 4 && eqb c 4))

@@ -14,7 +14,8 @@ ghost use Rattle.assembly_rules.specs.Statements.Statement.{instruction};
 ghost use Rattle.assembler_text.specs.Places.{labelsAt};
 ghost use Rattle.assembler_forms.specs.Forms.{writtenForm};
 ghost use Rattle.assembler_lines.specs.Bodies.{areSums};
-ghost use Rattle.assembler_bytes.specs.Placed.{firstKind, secondKind, thirdKind, usedForm, entryFrom, threeFrom, rowOf, kindSizeBy, mayStandBy, formOffset, movesBy};
+ghost use Rattle.assembler_bytes.specs.Placed.{firstKind, secondKind, thirdKind, usedForm, entryFrom, threeFrom, rowOf, kindSizeBy, mayStandBy, movesBy};
+ghost use Rattle.assembler_lines.specs.Counts.{formOffset};
 
 // An operand, or none where there is no place.
 pub fn used(kind: u32, f: Form) -> Form

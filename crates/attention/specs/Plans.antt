@@ -4,7 +4,6 @@ use Prim.Native.Nat.{ℕ}
 use lib.Dec.{eqb}
 use Rattle.ground_rules.specs.Choice.{pick}
 use Rattle.ground_rules.specs.Buffers.{Buffers}
-use Rattle.ground_rules.specs.Outcomes.{first}
 use Rattle.ground_rules.specs.declared.Channel.{Channel}
 use Rattle.attention.specs.declared.Upshot.{Upshot}
 use Rattle.attention_rules.specs.declared.Order.{Order}
@@ -13,11 +12,11 @@ use Rattle.attention_rules.specs.Touched.{commandCount}
 use Rattle.attention_rules.specs.Effects.{channelOrdered, writes, writesOf}
 use Rattle.attention_rules.specs.Attention.{orderNumber}
 
--- what the order in a block comes to before anything is stored: refused, also for what was given, it leaves the channel as it is and stores nothing
-unfoldable pub plannedOf : Buffers → ℕ → ℕ → Channel → Upshot
-plannedOf m given block c =
+-- what the order in a block comes to before anything is stored: refused, it leaves the channel as it is and stores nothing
+unfoldable pub plannedOf : Buffers → ℕ → Channel → Upshot
+plannedOf m block c =
     let o = orderOf m block (c .pp) in
-    let number = first given (orderNumber m o (c .mode)) in
+    let number = orderNumber m o (c .mode) in
     pick (eqb number 0)
     (record { number = 0; count = commandCount (o .command); channel = channelOrdered m o c; writes = writesOf (o .command) (o .block) (o .pb) c })
     (record { number = number; count = 0; channel = c; writes = writes false false 0 (o .block) (o .pb) c })

@@ -8,7 +8,7 @@ use ground_rules::State;
 use machine::states;
 ghost use mathlib.Core.Path.{_≡_};
 ghost use Rattle.ground_rules.specs.Buffers.{lent};
-ghost use Rattle.ground_rules.specs.Outcomes.{outcome, first};
+ghost use Rattle.ground_rules.specs.Outcomes.{outcome};
 ghost use Rattle.attention_rules.specs.Attention.{orderNumber, givenTo, attentionOf, attentionCount};
 ghost use Rattle.attention.specs.Plans.{plannedOf};
 
@@ -39,13 +39,10 @@ fn given_number(s: State, sys: &[u8], io: &[u8], channel: u32) -> u32
     states::given_number(s, sys, io)
 }
 
-// The number of an order to a channel in some mode, after the refusal of what was given.
-fn number(sys: &[u8], io: &[u8], given: u32, o: Order, mode: Mode) -> u32
-    ensures { λ r. ⌜ r ≡ first given (orderNumber (lent (sys .entry) (io .entry)) o mode) ⌝ }
+// The number of an order to a channel in some mode.
+fn number(sys: &[u8], io: &[u8], o: Order, mode: Mode) -> u32
+    ensures { λ r. ⌜ r ≡ orderNumber (lent (sys .entry) (io .entry)) o mode ⌝ }
 {
-    if given != 0 {
-        return given;
-    }
     if !memory::span_touchable(sys, io, false, o.block, 1) {
         return 2;
     }
@@ -58,12 +55,12 @@ fn number(sys: &[u8], io: &[u8], given: u32, o: Order, mode: Mode) -> u32
 }
 
 // What the order in a block comes to for its channel.
-fn planned(sys: &[u8], io: &[u8], given: u32, block: u32, c: Channel) -> Upshot
-    ensures { λ r. ⌜ r ≡ plannedOf (lent (sys .entry) (io .entry)) given block c ⌝ }
+fn planned(sys: &[u8], io: &[u8], block: u32, c: Channel) -> Upshot
+    ensures { λ r. ⌜ r ≡ plannedOf (lent (sys .entry) (io .entry)) block c ⌝ }
 {
     let o = blocks::order(sys, io, block, c.pp);
     let mode = c.mode;
-    let number = number(sys, io, given, o, mode);
+    let number = number(sys, io, o, mode);
     if number != 0 {
         let writes = effects::writes(o, c, false, false, 0);
         return Upshot {
@@ -84,15 +81,22 @@ fn planned(sys: &[u8], io: &[u8], given: u32, block: u32, c: Channel) -> Upshot
     }
 }
 
-// Gives a channel attention.
+// Gives a channel attention. What was given is refused before any byte is looked at.
 pub fn attention(s: State, sys: &mut [u8], io: &mut [u8], channel: u32) -> Answer
     ensures left { λ r. ⌜ outcome (r .number) (r .state) (lent (sys .exit) (io .exit)) ≡ attentionOf s (lent (sys .entry) (io .entry)) channel ⌝ }
     ensures count { λ r. ⌜ r .count ≡ attentionCount s (lent (sys .entry) (io .entry)) channel ⌝ }
 {
     let given = given_number(s, sys, io, channel);
+    if given != 0 {
+        return Answer {
+            number: given,
+            count: 0,
+            state: s,
+        };
+    }
     let second = states::is_second(channel);
     let c = states::channel(s, second);
-    let e = planned(sys, io, given, states::block(s, second), c);
+    let e = planned(sys, io, states::block(s, second), c);
     let writes = e.writes;
     effects::write(sys, io, writes);
     let after = e.channel;

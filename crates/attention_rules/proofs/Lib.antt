@@ -6,5 +6,6 @@ pub mod Numbers
 pub mod Stores
 pub mod Pauses
 pub mod Cases
+pub mod HeldLaws
 pub mod PowerNumbers
 pub mod PowerOutcomes

@@ -1,13 +1,13 @@
 -- What holds of every power-up: its outcome is one, a refused one changes nothing, an accepted one leaves what it found whatever the given state was, and no byte but BUSY changes.
 -- Assumes nothing.
-use Prim.Native.Nat.{ℕ, _+_, _*_, _<_}
+use Prim.Native.Nat.{ℕ, _+_, _*_, _/_, _%_, _<_}
 use borrow.Author.Tests.{lt-ltb}
-use lib.Dec.{lit<}
+use lib.Dec.{eqb, lit<}
 use lib.ListN.{length}
 use mathlib.Core.Bool.{Bool, true, false, _&&_}
 use mathlib.Core.Path.{_≡_, refl, sym, ap, _∙_}
 use native.Mathlib.Decide.{ℕ-discrete}
-use native.Mathlib.Nat.{mod-lt}
+use native.Mathlib.Nat.{mod-lt, div-one}
 use Rattle.ground_rules.proofs.ConditionLaws.{first-none-right, unless-none}
 use Rattle.ground_rules.proofs.FieldLaws.{blank-agree}
 use Rattle.ground_rules.proofs.OutcomeLaws.{refused, accepted}
@@ -21,6 +21,7 @@ use Rattle.ground_rules.specs.Buffers.{Buffers, spaceOf, lentAt, touchableAt, b
 use Rattle.ground_rules.specs.Places.{span, allTouchable, Apart}
 use Rattle.ground_rules.specs.Values.{wordAt, doublewordAt}
 use Rattle.ground_rules.proofs.ChoiceLaws.{both-right}
+use Rattle.ground_rules.specs.Bits.{bitOf}
 use Rattle.attention_rules.specs.Power.{sysbusPlace, configurationPlace, configurationOf, controlPlace, controlOf, boardOf, powerPlaces, powerStages, touchedByPower, powerNumber, foundState, foundMemory, powerUpOf}
 use Rattle.attention_rules.proofs.PowerNumbers.{places-row, power-chain, power-number}
 
@@ -101,6 +102,12 @@ found-powered m = refl
 pub found-agree : (m : Buffers) → agree (foundState m) ≡ true
 unfolding foundState
 found-agree m = blank-agree (controlOf m) (boardOf m)
+
+-- whose bit each mark of the board is, in numbers: the lowest of the byte at FFFF6h, the lowest of SOC, and SOC's next
+pub found-marks : (m : Buffers) → let soc = byteAt m false (configurationOf m) in
+    (foundState m .board .sysbus ≡ eqb (byteAt m false 0xFFFF6 % 2) 1) × (foundState m .board .soc ≡ eqb (soc % 2) 1) × (foundState m .board .grant ≡ eqb (soc / 2 % 2) 1)
+unfolding foundState boardOf bitOf
+found-marks m = (ap (λ (n : ℕ). eqb (n % 2) 1) (div-one (byteAt m false 0xFFFF6)), ap (λ (n : ℕ). eqb (n % 2) 1) (div-one (byteAt m false (configurationOf m))), refl)
 
 -- eleven bytes are touched
 pub power-touches : (m : Buffers) → length (touchedByPower m) ≡ 11

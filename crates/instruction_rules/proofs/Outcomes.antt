@@ -1,4 +1,4 @@
--- What the answers to a pair are: one for each pair, 0, 3 or 4, and each exactly when the table says so.
+-- What the answers to a pair are: 0, 3 or 4, and each exactly when the table says so.
 -- Assumes nothing.
 use mathlib.Core.Path.{_≡_, refl, sym, ap, subst, _∙_}
 use mathlib.Core.Bool.{Bool, true, false, not, _&&_, _||_, and-false, false≢true}
@@ -17,24 +17,9 @@ use Rattle.instruction_rules.specs.declared.Shape.{Shape}
 use Rattle.instruction_rules.specs.declared.Shape.the-variants.{Wid, RegisterImmediate, Hlt, Call}
 use Rattle.instruction_rules.specs.declared.Decoded.{Decoded}
 use Rattle.instruction_rules.specs.declared.Decoded.the-variants.{Instruction, NoInstruction, ControlUsed}
-use Rattle.instruction_rules.specs.declared.Second.{Second}
-use Rattle.instruction_rules.specs.declared.Looked.{Looked}
 use Rattle.instruction_rules.specs.Table.{SummaryRow, table}
-use Rattle.instruction_rules.specs.Lengths.{pairLength}
-use Rattle.instruction_rules.specs.Reading.{fits, lookup, decodeOf, numberOf, secondOf, fitsSome, usesControl}
+use Rattle.instruction_rules.specs.Reading.{fits, lookup, decodeOf, numberOf, fitsSome, usesControl}
 use Rattle.instruction_rules.proofs.TableLaws.{left, right}
-
--- two answers to a first pair that meet the contract are equal
-pub one-answer : (first second : ℕ) (r s : Decoded) → r ≡ decodeOf first second → s ≡ decodeOf first second → r ≡ s
-one-answer first second r s a b = a ∙ sym b
-
--- and so are two answers to a second pair
-pub one-second : (first second : ℕ) (wide : Bool) (r s : Second) → r ≡ secondOf first second wide → s ≡ secondOf first second wide → r ≡ s
-one-second first second wide r s a b = a ∙ sym b
-
--- and two pairs looked up
-pub one-looked : (first second : ℕ) (r s : Looked) → r ≡ record { decoded = decodeOf first second; length = pairLength (pairOf first second) } → s ≡ record { decoded = decodeOf first second; length = pairLength (pairOf first second) } → r ≡ s
-one-looked first second r s a b = a ∙ sym b
 
 -- an answer's number is 0, 3 or 4
 pub numbers : (d : Decoded) → (numberOf d ≡ 0) ⊎ ((numberOf d ≡ 3) ⊎ (numberOf d ≡ 4))

@@ -1,3 +1,5 @@
 pub mod UnusedLaws
 pub mod RowLaws
 pub mod ListLaws
+pub mod Determined
+pub mod Readers

@@ -30,10 +30,6 @@ use Rattle.listing_rules.proofs.ListLaws.{lines-next, lines-none, kept-
 some : (b : ℕ) (bytes : List ℕ) → length (b ∷ bytes) ≡ 0 → ⊥
 some b bytes e = omega arith
 
--- two answers to one listing that meet the contract are equal
-pub one-listing : (code buffer : List ℕ) (first : ℕ) (r s : Listing) → r ≡ listingOf code first buffer → s ≡ listingOf code first buffer → r ≡ s
-one-listing code buffer first r s a b = a ∙ sym b
-
 listed-by : (f first : ℕ) (bytes : List ℕ) → length bytes ≤ f → allBytes (linesBy f first bytes) ≡ bytes
 unfolding linesBy allBytes lineAt
 listed-by zero first [] h = refl

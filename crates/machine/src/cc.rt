@@ -52,7 +52,7 @@ pub fn joined(f: Fields) -> u16
 pub fn without_lock(cc: u16) -> u16
     ensures { λ r. ⌜ r ≡ Cc.withoutLock cc ⌝ }
 {
-    cc / 1024 * 1024 + cc % 512
+    cc & 0xFDFF
 }
 
 // Whether two flags are the same.

@@ -1,2 +1,3 @@
 pub mod PieceLaws
 pub mod DataLaws
+pub mod Determined

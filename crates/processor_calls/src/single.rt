@@ -1,9 +1,10 @@
 // The calls on one processor but the sweep, passed on as they are, so that one object exports them and has the machine's
-// code once.
+// code once. An attention and a step say besides that what was lent to them is of bytes.
 use schedule_rules::ScheduleRow;
 ghost use mathlib.Core.Path.{_≡_};
-ghost use Rattle.ground_rules.specs.Buffers.{lent};
+ghost use Rattle.ground_rules.specs.Buffers.{AllBytes, lent};
 ghost use Rattle.state_rules.specs.Calls.{made, served, freshMade, resetMade, powerServed, attentionServed, stepServed};
+ghost use Rattle.state_rules.specs.Conditions.{Bytes};
 ghost use Rattle.schedule_calls.specs.Calls.{scheduled, scheduleServed};
 ghost use Rattle.schedule_calls.specs.Turns.{standing};
 
@@ -39,7 +40,8 @@ pub extern "C" fn iop89_attention(
     io: &mut [u8],
     channel: u32,
 ) -> u32
-    ensures { λ r. ⌜ served r (now (state .exit)) (lent (sys .exit) (io .exit)) ≡ attentionServed (now (state .entry)) (lent (sys .entry) (io .entry)) channel ⌝ }
+    ensures left { λ r. ⌜ served r (now (state .exit)) (lent (sys .exit) (io .exit)) ≡ attentionServed (now (state .entry)) (lent (sys .entry) (io .entry)) channel ⌝ }
+    ensures bytes { λ r. ⌜ Bytes (now (state .entry)) × AllBytes (lent (sys .entry) (io .entry)) ⌝ }
 {
     service::iop89_attention(state, sys, io, channel)
 }
@@ -47,7 +49,8 @@ pub extern "C" fn iop89_attention(
 // Does one step of the machine.
 #[no_mangle]
 pub extern "C" fn iop89_step(state: &mut [u8], sys: &mut [u8], io: &mut [u8], lines: u32) -> u32
-    ensures { λ r. ⌜ served r (now (state .exit)) (lent (sys .exit) (io .exit)) ≡ stepServed (now (state .entry)) (lent (sys .entry) (io .entry)) lines ⌝ }
+    ensures left { λ r. ⌜ served r (now (state .exit)) (lent (sys .exit) (io .exit)) ≡ stepServed (now (state .entry)) (lent (sys .entry) (io .entry)) lines ⌝ }
+    ensures bytes { λ r. ⌜ Bytes (now (state .entry)) × AllBytes (lent (sys .entry) (io .entry)) ⌝ }
 {
     service::iop89_step(state, sys, io, lines)
 }

@@ -60,6 +60,7 @@ step-answers s m lines = record {
   sameState = λ ne. ap (λ (o : Step). o .state) (refused s m lines ne);
   sameMemory = λ ne. ap (λ (o : Step). o .memory) (refused s m lines ne);
   noChannel = λ ne. ap (λ (o : Step). o .channel) (refused s m lines ne);
+  noKind = λ ne. ap (λ (o : Step). o .kind) (refused s m lines ne);
   bound = step-most s m lines;
 }
 

@@ -33,8 +33,8 @@ use Rattle.turn_rules.proofs.NumberLaws.{step-ready}
 use Rattle.turn_rules.proofs.OutcomeLaws.{refused, board-kept}
 use Rattle.turn_rules.proofs.SoundLaws.{sound-kept, step-agree}
 use Rattle.turn_rules.specs.Step.{Step, stepOf}
-use Rattle.promises.specs.Made.{Made, NoRow, RowUsesControl}
-use Rattle.promises.specs.Made.Made.{fresh, power, attention, step}
+use Rattle.promises.specs.Made.{Made, MadeOfBytes, NoRow, RowUsesControl}
+use Rattle.promises.specs.Made.MadeIn.{fresh, power, attention, step}
 
 -- ---- sound states
 
@@ -54,8 +54,8 @@ step-either s m lines h = go (eqb (stepOf s m lines .number) 0) refl
     go true e = sound-kept s m lines (eqb-true (stepOf s m lines .number) 0 e)
     go false e = ap (λ (o : Step). sound (o .state)) (refused s m lines (eqb-false (stepOf s m lines .number) 0 e)) ∙ h
 
--- every such state is sound
-pub made-sound : {s : State} → Made s → sound s ≡ true
+-- in memories of bytes every such state is sound
+pub made-sound : {s : State} → MadeOfBytes s → sound s ≡ true
 made-sound (fresh cp) = fresh-sound cp
 made-sound (power s m e) = ap (λ (o : Outcome). sound (o .state)) (power-accepted s m e) ∙ found-sound m
 made-sound (attention {s} made m bytes channel) = attention-either s m bytes channel (made-sound made)
@@ -63,7 +63,7 @@ made-sound (step {s} made m lines) = step-either s m lines (made-sound made)
 
 -- ---- powered up
 
--- every such state is powered up
+-- in any memories every such state is powered up
 pub made-powered : {s : State} → Made s → s .board .powered ≡ true
 made-powered (fresh cp) = fresh-powered cp
 made-powered (power s m e) = ap (λ (o : Outcome). o .state .board .powered) (power-accepted s m e) ∙ found-powered m

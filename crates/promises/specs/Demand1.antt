@@ -19,6 +19,7 @@ use Rattle.attention_rules.specs.Attention.{attentionOf}
 use Rattle.attention_rules.specs.Conditions.{attentionChecks as attentionChecks}
 use Rattle.turn_rules.specs.Conditions.{stepChecks as stepChecks}
 use Rattle.turn_rules.specs.Step.{stepOf}
+use Rattle.turn_rules.specs.declared.Kind.the-variants.{Nothing}
 use Rattle.run_rules.specs.Run.{Run, runOf, answerOf}
 use Rattle.promises.specs.Runs.{CpPast, RunEnds}
 
@@ -73,8 +74,9 @@ pub record StepAnswers (s : State) (m : Buffers) (lines : ℕ) : Type 0 where
   pub sameState : ¬ (stepOf s m lines .number ≡ 0) → stepOf s m lines .state ≡ s
   -- and every byte of both memories
   pub sameMemory : ¬ (stepOf s m lines .number ≡ 0) → stepOf s m lines .memory ≡ m
-  -- it is of no channel
+  -- it is of no channel and of no kind
   pub noChannel : ¬ (stepOf s m lines .number ≡ 0) → stepOf s m lines .channel ≡ 0
+  pub noKind : ¬ (stepOf s m lines .number ≡ 0) → stepOf s m lines .kind ≡ Nothing
   -- no number is over 14
   pub bound : stepOf s m lines .number ≤ 14
 

@@ -16,12 +16,20 @@ use Rattle.instruction_rules.specs.Pairs.{pairOf}
 use Rattle.instruction_rules.specs.declared.Pair.{Pair}
 use Rattle.instruction_rules.specs.Operands.{byteHere}
 
--- a fresh state of any CP, what an accepted power-up leaves, and what any attention or step, refused or not, makes of such a state in memories of bytes
-pub data Made : State → Type 0 where
-  fresh : (cp : ℕ) → Made ((freshOf cp) .state)
-  power : (s : State) (m : Buffers) → powerUpOf s m .number ≡ 0 → Made (powerUpOf s m .state)
-  attention : {s : State} → Made s → (m : Buffers) → AllBytes m → (channel : ℕ) → Made (attentionOf s m channel .state)
-  step : {s : State} → Made s → (m : Buffers) (lines : ℕ) → Made (stepOf s m lines .state)
+-- a fresh state of any CP, what an accepted power-up leaves, and what any attention or step, refused or not, makes of such a state, where the memory of each attention is as asked
+pub data MadeIn (asked : Buffers → Type 0) : State → Type 0 where
+  fresh : (cp : ℕ) → MadeIn asked ((freshOf cp) .state)
+  power : (s : State) (m : Buffers) → powerUpOf s m .number ≡ 0 → MadeIn asked (powerUpOf s m .state)
+  attention : {s : State} → MadeIn asked s → (m : Buffers) → asked m → (channel : ℕ) → MadeIn asked (attentionOf s m channel .state)
+  step : {s : State} → MadeIn asked s → (m : Buffers) (lines : ℕ) → MadeIn asked (stepOf s m lines .state)
+
+-- in any memories
+abbrev pub Made : State → Type 0
+Made s = MadeIn (λ m. Unit {0}) s
+
+-- in memories of bytes
+abbrev pub MadeOfBytes : State → Type 0
+MadeOfBytes s = MadeIn AllBytes s
 
 -- the fields of the two bytes at a channel's TP
 abbrev pub pairAt : Buffers → Channel → Pair

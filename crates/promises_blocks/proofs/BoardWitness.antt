@@ -2,18 +2,19 @@
 -- Assumes nothing.
 use Prim.Native.Nat.{ℕ, zero, suc, _+_, _<_, _≤_}
 use borrow.Author.Tests.{eqb-false}
-use lib.Dec.{lit<, lit≤}
+use lib.Dec.{eqb, lit<, lit≤}
 use lib.ListN.{length, getD, set, replicate}
 use lib.Seq.{set-getD}
 use mathlib.Core.Bool.{Bool, true, false}
 use mathlib.Core.List.{List, [], _∷_}
 use mathlib.Core.Logic.{inl, inr, ⊎-elim}
-use mathlib.Core.Path.{_≡_, refl, sym, ap, ap₂, _∙_}
+use mathlib.Core.Path.{_≡_, refl, sym, ap, ap₂, subst, _∙_}
 use native.Mathlib.Omega.{arith}
 use Rattle.ground_rules.proofs.ConditionLaws.{told-limits, told-touchable}
 use Rattle.ground_rules.specs.Conditions.{TooLong}
-use Rattle.ground_rules.specs.Outcomes.{outcome}
-use Rattle.ground_rules.specs.States.{freshState, blockOf, busyIn}
+use Rattle.ground_rules.specs.Choice.{pick}
+use Rattle.ground_rules.specs.Outcomes.{Outcome, outcome}
+use Rattle.ground_rules.specs.States.{freshState, freshOf, resetState, blockOf, busyIn, channelNumber}
 use Rattle.ground_rules.specs.declared.State.{State}
 use Rattle.ground_rules.proofs.SpanLaws.{span-system, span-whole}
 use Rattle.ground_rules.specs.Buffers.{Buffers, buffers, spaceOf, limitOf, indexOf, beyondIn, byteAt, storeByte}
@@ -23,16 +24,18 @@ use Rattle.attention_rules.proofs.PowerNumbers.{places-lent, powers-0}
 use Rattle.attention_rules.proofs.PowerOutcomes.{power-accepted}
 use Rattle.attention_rules.specs.Power.{sysbusPlace, configurationPlace, configurationOf, controlPlace, controlOf, boardOf, powerPlaces, foundState, foundMemory, powerUpOf}
 use Rattle.ground_rules.specs.Bits.{bitOf}
+use Rattle.run_rules.specs.Board.{poweredAs, poweredRun, boardRunOf}
+use Rattle.run_rules.specs.Run.{ran, startedRun, callNumber, runOf}
 use Rattle.promises.specs.Cases.{Stand}
 use Rattle.promises_blocks.specs.Image.{put, layoutOf, copyOf, imageIn}
 use Rattle.promises_blocks.specs.Met.{zerosOf, zeros}
 use Rattle.promises_blocks.specs.Powering.{RowPowered, topBytes, boardedImage, RowPoweredMet}
-use Rattle.promises_blocks.specs.Program.{Job, Layout, blockAt, doubleword, programOf, mostBy, Ready}
+use Rattle.promises_blocks.specs.Program.{Job, Layout, blockAt, doubleword, programOf, mostBy, Ready, RunCopies}
 use Rattle.block_rules.specs.Stages.{Outside}
 use Rattle.promises.proofs.CaseLaws.{pointer-given}
 use Rattle.promises_blocks.proofs.CopyWitness.{zeros-within}
 use Rattle.promises_blocks.proofs.ImageLaws.{put-length, put-other, stand-put, differ, whole-put, whole-stand, block-low, ready-met, zeros-whole}
-use Rattle.promises_blocks.proofs.Showpiece.{row-made}
+use Rattle.promises_blocks.proofs.Showpiece.{row-made, showpiece}
 use Rattle.promises.proofs.StandLaws.{stand-on}
 
 -- ---- laws of memory
@@ -154,11 +157,29 @@ module _ (b fromOdd intoOdd fromWide intoWide : Bool) (n : ℕ) where
   accepted : (s : State) → powerUpOf s m .number ≡ 0
   accepted s = powers-0 s m .1 (short, told-touchable m (powerPlaces m) .holds (eleven-whole m (omega (arith, whole-base, lengths false))))
 
+  powered : (s : State) → powerUpOf s m ≡ outcome 0 (freshState 0) m
+  powered s = power-accepted s m (accepted s) ∙ ap₂ (outcome 0) found kept
+
+  -- the board's run is that of CP 0
+  board-run : (channel lines limit : ℕ) → boardRunOf m channel lines limit ≡ runOf m 0 channel lines limit
+  unfolding boardRunOf poweredRun runOf freshOf
+  board-run channel lines limit =
+      ap (λ (o : Outcome). pick (eqb (callNumber m channel lines limit) 0) (startedRun (poweredAs o) (o .memory) channel lines limit) (ran (callNumber m channel lines limit) 0 m)) (powered resetState)
+
   row : 1 ≤ n → n ≤ mostBy fromWide intoWide → RowPowered j l m 0
-  row some most = record {
-    powered = λ s. power-accepted s m (accepted s) ∙ ap₂ (outcome 0) found kept;
-    row = row-made j l m 0 65535 (ready-met base whole-base short-base b fromOdd intoOdd fromWide intoWide n 0 some most (lit< tt));
-  }
+  unfolding spaceOf zerosOf
+  row some most =
+      let ready = ready-met base whole-base short-base b fromOdd intoOdd fromWide intoWide n 0 some most (lit< tt) in
+      record {
+        powered = powered;
+        row = row-made j l m 0 65535 ready;
+        run = subst (RunCopies j l m) (sym (board-run (channelNumber b) 0 65535)) (showpiece j l m 0 65535 ready);
+        slots = none-left (m .io) (lengths true ∙ put-length zeros 0xFFFF0 topBytes true);
+      }
+    where
+      none-left : (l : List ℕ) → length l ≡ 0 → l ≡ []
+      none-left [] e = refl
+      none-left (x ∷ l) e = absurd (omega (arith, e))
 
 -- there is such a row
 pub row-powered : RowPoweredMet zeros

@@ -1,6 +1,10 @@
 -- The showpiece: an image with a copying program is run to number 1, in the known steps, with the block copied.
 -- Assumes nothing.
 use Prim.Native.Nat.{ℕ, _+_, _%_, _<_, _≤_}
+use borrow.Fn.Kinds.{Dens, resT, endedOf}
+use contract.Lifetimes.{Lfts}
+use denote.Ref.{now}
+use denote.Triple.Clauses.{AtExit}
 use lib.Dec.{lit<}
 use mathlib.Core.Bool.{Bool, true, false, _||_}
 use mathlib.Core.List.{[], _∷_}
@@ -21,7 +25,7 @@ use Rattle.ground_rules.specs.declared.Channel.{Channel}
 use Rattle.ground_rules.specs.declared.State.{State}
 use Rattle.ground_rules.proofs.PlaceLaws.{index-reduced, lent-index, byte-index}
 use Rattle.ground_rules.proofs.StoreLaws.{store-length, store-lent, read-other}
-use Rattle.ground_rules.specs.Buffers.{Buffers, indexOf, lentAt, byteAt, storeByte}
+use Rattle.ground_rules.specs.Buffers.{Buffers, buffers, indexOf, lentAt, byteAt, storeByte}
 use Rattle.ground_rules.specs.Places.{Apart}
 use Rattle.ground_rules.specs.Values.{pointer}
 use Rattle.ground_rules.specs.declared.Pointer.{Pointer}
@@ -34,11 +38,15 @@ use Rattle.promises.specs.Cases.{Stand}
 use Rattle.promises_blocks.specs.Joined.{endOf, Comes, Halted}
 use Rattle.promises_blocks.specs.Met.{copying}
 use Rattle.block_rules.specs.Premises.{from, into, Lent, ShareNone, Copy}
-use Rattle.promises_blocks.specs.Program.{Job, Layout, fromPlace, intoPlace, pbPlace, programPlace, blockAt, busyAt, programOf, haltAt, stepsOf, Ready, BlockMoved, RunCopies, runIn, Showpiece, ShowpieceCall, RowMade, mostBy, FitsExactly}
+use Rattle.promises_blocks.specs.Program.{Job, Layout, fromPlace, intoPlace, pbPlace, programPlace, blockAt, busyAt, programOf, haltAt, stepsOf, Ready, BlockMoved, RunCopies, CallCopies, runIn, Showpiece, ShowpieceCall, RowMade, mostBy, FitsExactly}
 use Rattle.promises.specs.Runs.{DoneSteps, firstAttention, startChecks, none}
 use Rattle.block_rules.specs.Stages.{onBy, Outside}
 use Rattle.block_rules.specs.Totals.{narrow, total, movedAfter}
 use Rattle.promises.specs.Witness.{channelWith}
+use Rattle.promises.specs.Unique.{CallMeets}
+use Rattle.promises.proofs.Determined.{call-meets}
+use Rattle.run_call.proofs.iop89_run.Kinds as call-kinds
+use Rattle.run_call.proofs.iop89_run.Reads as call-reads
 use Rattle.promises_blocks.proofs.AloneLaws.{through}
 use Rattle.promises.proofs.CaseLaws.{pointer-given}
 use Rattle.block_rules.proofs.CountLaws.{total-narrow, total-wide, alone-none, alone-one}
@@ -268,6 +276,19 @@ showpiece-call j l m lines limit answer sys io r e =
       answered = ap (λ (c : Call). c .answer) e ∙ rw (x .number, x .steps) (omega (arith, r .enough, r .limitFits));
       memory = subst (BlockMoved j l m) (sym (ap (λ (c : Call). c .memory) e)) (x .memory);
     }
+
+-- and so of the contract that the prover made of it: what C gets where it passes such an image, its CP and its channel
+pub showpiece-called : (κs : Lfts 2) (a : Dens κs call-kinds.ps) (r : resT call-kinds.r κs .Denot) (e : AtExit (endedOf 2 call-kinds.ps call-kinds.r) κs) → call-reads.Post κs a r e
+    → (j : Job) (l : Layout) → a .1 .1 .0 ≡ l .cp → a .1 .1 .1 .0 ≡ channelNumber (l .second)
+    → Ready j l (buffers (now (a .0)) (now (a .1 .0))) (a .1 .1 .1 .1 .0) (a .1 .1 .1 .1 .1 .0)
+    → CallCopies j l (buffers (now (a .0)) (now (a .1 .0))) r (now (e .0)) (now (e .1 .0))
+showpiece-called κs a r e p j l cp channel ready =
+    let m = buffers (now (a .0)) (now (a .1 .0)) in
+    let lines = a .1 .1 .1 .1 .0 in
+    let limit = a .1 .1 .1 .1 .1 .0 in
+    showpiece-call j l m lines limit r (now (e .0)) (now (e .1 .0)) ready
+    (subst (λ (k : ℕ). CallMeets m k (channelNumber (l .second)) lines limit r (now (e .0)) (now (e .1 .0))) cp
+    (subst (λ (k : ℕ). CallMeets m (a .1 .1 .0) k lines limit r (now (e .0)) (now (e .1 .0))) channel (call-meets κs a r e p)))
 
 -- with demand 3's row in it, made by fresh, attention and XFER
 pub row-made : (j : Job) (l : Layout) (m : Buffers) (lines limit : ℕ) → Ready j l m lines limit → RowMade j l m lines

@@ -10,7 +10,7 @@ use Rattle.ground_rules.specs.Buffers.{Buffers, spaceOf, byteAt}
 use Rattle.ground_rules.specs.Places.{Place, span, Apart}
 use Rattle.ground_rules.specs.Conditions.{Check, check, Given, TooLong, Beyond}
 use Rattle.ground_rules.specs.Outcomes.{outcome}
-use Rattle.ground_rules.specs.States.{freshState, resetState, channelOf}
+use Rattle.ground_rules.specs.States.{freshState, resetState, channelOf, channelNumber}
 use Rattle.ground_rules.specs.declared.Channel.{Channel}
 use Rattle.ground_rules.specs.declared.State.{State}
 use Rattle.attention_rules.specs.Attention.{attentionOf}
@@ -22,7 +22,7 @@ use Rattle.attention_rules.specs.Power.{powerUpOf}
 use Rattle.run_rules.specs.Board.{boardRunOf}
 use Rattle.promises.specs.Demand1.{Blank}
 use Rattle.promises_blocks.specs.Image.{put, layoutOf, copyOf, imageIn}
-use Rattle.promises_blocks.specs.Program.{Job, Layout, mostBy, RowMade}
+use Rattle.promises_blocks.specs.Program.{Job, Layout, mostBy, RunCopies, RowMade}
 use Rattle.promises.specs.Runs.{LimitOver}
 use Rattle.promises.specs.SheetWords.{bit, farIn}
 use Rattle.block_rules.specs.Stages.{Going, Ended}
@@ -132,6 +132,10 @@ pub record RowBroken : Type 0 where
 pub record RowPowered (j : Job) (l : Layout) (m : Buffers) (lines : ℕ) : Type 0 where
   pub powered : (s : State) → powerUpOf s m ≡ outcome 0 (freshState (l .cp)) m
   pub row : RowMade j l m lines
+  -- the run as the board starts it copies the block
+  pub run : RunCopies j l m (boardRunOf m (channelNumber (l .second)) lines 65535)
+  -- no I/O memory is lent: all of I/O space is empty slots
+  pub slots : spaceOf m true ≡ []
 
 -- a board's twelve bytes at the top of system memory: SOC 0 at FFFF0h, CP 0 at FFFF2h, SYSBUS 0, and the pointer to FFFF0h at FFFF8h
 abbrev pub topBytes : List ℕ

@@ -1,8 +1,9 @@
--- The premises of the halves' theorems can be met, in numbers: two fetches from a device at I/O address 16, and two stores to it.
+-- The premises of the halves' theorems can be met, in numbers: two fetches from a device at I/O address 16, two stores to it, and a first store that meets TMC.
 -- Assumes nothing.
 use Prim.Native.Nat.{ℕ}
 use mathlib.Core.Bool.{Bool, true, false}
 use mathlib.Core.Path.{_≡_, refl, sym, ap, subst}
+use Rattle.ground_rules.specs.Registers.{withRegister}
 use Rattle.ground_rules.specs.States.{idleChannel, channelOf}
 use Rattle.ground_rules.specs.Updates.{holding}
 use Rattle.ground_rules.specs.declared.Channel.{Channel}
@@ -75,3 +76,12 @@ taken = memoryWith (six 0 0 0 0 0) (six 1 0 0 0 0)
 pub stores-met : Halves false (lone storing true) memoryStart 1 1
 unfolding stepOpen idleChannel
 stores-met = pair storing memoryStart taken 2 refl refl refl refl refl refl refl refl refl
+
+-- the same with TMC 001 and MC FF01h: the first byte matches
+abbrev matching : ℕ → ℕ → ℕ → Channel
+matching from bc psw = withRegister (channelWith (pointer from false) (pointer 16 true) 256 bc 0x5011 psw) 7 0xFF01 false
+
+-- so the first store ends the transfer, at offset 0: the source is on by 1, BC is less by 2, and nothing is held
+pub first-meets : stepOf (lone (matching 0 4 0x46) true) memoryStart 1 ≡ stepped 0 (lone (matching 1 2 0x06) false) taken 1 Transfer
+unfolding stepOpen idleChannel withRegister
+first-meets = refl

@@ -3,6 +3,7 @@ pub mod SheetOperands
 pub mod SheetRegisters
 pub mod SheetMemory
 pub mod SheetControl
+pub mod SheetDone
 pub mod SheetTurns
 pub mod SheetTransfer
 pub mod SheetHalves

@@ -3,6 +3,7 @@
 use Rattle.promises_sheet.specs.Sheet.{Sheet}
 use Rattle.promises_sheet.proofs.SheetAttention.{attention-sheet}
 use Rattle.promises_sheet.proofs.SheetControl.{control-sheet}
+use Rattle.promises_sheet.proofs.SheetDone.{done-sheet}
 use Rattle.promises.proofs.SheetLaws.{names}
 use Rattle.promises_sheet.proofs.SheetMemory.{memory-sheet}
 use Rattle.promises_sheet.proofs.SheetRegisters.{register-sheet}
@@ -18,6 +19,7 @@ sheet = record {
   registers = register-sheet;
   memory = memory-sheet;
   control = control-sheet;
+  done = done-sheet;
   turns = turn-sheet;
   transfer = transfer-sheet;
   halves = half-sheet;

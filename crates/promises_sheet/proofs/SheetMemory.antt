@@ -481,7 +481,7 @@ module _ {b : Bool} {s : State} {m : Buffers} {lines : ℕ} where
 -- ---- MOV M,M
 
 -- the second pair
-second-is : (m : Buffers) (c : Channel) (mm aa w aa₂ mm₂ : ℕ) → aa < 4 → w < 2 → aa₂ < 4 → mm₂ < 4
+pub second-is : (m : Buffers) (c : Channel) (mm aa w aa₂ mm₂ : ℕ) → aa < 4 → w < 2 → aa₂ < 4 → mm₂ < 4
     → codeByte m c (2 + offsetBytes aa) ≡ aa₂ * 2 + w → codeByte m c (2 + offsetBytes aa + 1) ≡ 0x33 * 4 + mm₂
     → secondAt m (c .tp) (memoryWith mm aa w) ≡ Operand (memoryWith mm₂ aa₂ w)
 unfolding secondAt secondOf onward

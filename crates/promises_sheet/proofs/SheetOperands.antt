@@ -66,7 +66,7 @@ pair-is r dd aa w op mm h₁ h₂ h₃ h₄ h₅ h₆ =
 -- ---- the step
 
 -- what a channel's instruction comes to, and what one of a shape does
-abbrev executedIn : State → Buffers → Bool → Executed
+abbrev pub executedIn : State → Buffers → Bool → Executed
 executedIn s m b = executeOf (channelOf s b) (busyIn (blockOf s b)) m
 
 abbrev pub deedIn : State → Buffers → Bool → Shape → Deed

@@ -10,6 +10,7 @@ use Rattle.promises_sheet.specs.SheetAttention.{AttentionSheet}
 use Rattle.promises_sheet.specs.SheetRegisters.{RegisterSheet}
 use Rattle.promises_sheet.specs.SheetMemory.{MemorySheet}
 use Rattle.promises_sheet.specs.SheetControl.{ControlSheet}
+use Rattle.promises_sheet.specs.SheetDone.{DoneSheet}
 use Rattle.promises_sheet.specs.SheetTurns.{TurnSheet}
 use Rattle.promises_sheet.specs.SheetTransfer.{TransferSheet}
 use Rattle.promises_sheet.specs.SheetHalves.{HalfSheet}
@@ -21,6 +22,7 @@ pub record Sheet : Type 0 where
   pub registers : (second : Bool) (s : State) (m : Buffers) (lines : ℕ) → RegisterSheet second s m lines
   pub memory : (second : Bool) (s : State) (m : Buffers) (lines : ℕ) → MemorySheet second s m lines
   pub control : (second : Bool) (s : State) (m : Buffers) (lines : ℕ) → ControlSheet second s m lines
+  pub done : (second : Bool) (s : State) (m : Buffers) (lines : ℕ) → DoneSheet second s m lines
   pub turns : (s : State) (m : Buffers) (lines : ℕ) → TurnSheet s m lines
   pub transfer : (second : Bool) (s : State) (m : Buffers) (lines : ℕ) → TransferSheet second s m lines
   pub halves : (second : Bool) (s : State) (m : Buffers) (lines : ℕ) → HalfSheet second s m lines

@@ -1,7 +1,10 @@
 -- What a call leaves: a refused one leaves the bytes and both memories as they were, every one leaves a state where it was given one, and no two outcomes meet a call's contract.
 -- Assumes nothing.
 use Prim.Native.Nat.{ℕ, _/_, _%_, _<_, _≤_}
+use borrow.Author.Tests.{eqb-false, ne-eqb}
 use contract.Lifetimes.{Lfts}
+use lib.Dec.{eqb}
+use lib.ListN.{length}
 use borrow.Fn.Kinds.{Dens, resT, endedOf}
 use denote.Ref.{now}
 use denote.Triple.Clauses.{AtExit}
@@ -16,7 +19,7 @@ use Rattle.ground_rules.proofs.ConditionLaws.{first-none-left, first-none-right
 use Rattle.ground_rules.proofs.GivenLaws.{given-agree}
 use Rattle.ground_rules.proofs.OutcomeLaws.{settled-number}
 use Rattle.ground_rules.specs.Outcomes.{Outcome, settled}
-use Rattle.ground_rules.specs.States.{agree, channelOf, withChannel, isSecond}
+use Rattle.ground_rules.specs.States.{resetState, agree, channelOf, withChannel, isSecond}
 use Rattle.ground_rules.specs.Updates.{withTransfer}
 use Rattle.ground_rules.specs.declared.State.{State}
 use Rattle.attention_rules.proofs.Numbers.{attention-most}
@@ -25,7 +28,7 @@ use Rattle.attention_rules.proofs.SoundLaws.{attention-agree}
 use Rattle.attention_rules.specs.Attention.{givenTo, orderedChannel, orderedMemory, attentionNumber, attentionOf, attentionCount}
 use Rattle.attention_rules.proofs.PowerNumbers.{power-most}
 use Rattle.attention_rules.proofs.PowerOutcomes.{power-refused, power-accepted, found-agree}
-use Rattle.attention_rules.specs.Power.{powerUpOf, powerCount}
+use Rattle.attention_rules.specs.Power.{foundState, powerUpOf, powerCount}
 use Rattle.turn_rules.proofs.NumberLaws.{step-most}
 use Rattle.turn_rules.proofs.OutcomeLaws.{by-step, refused}
 use Rattle.turn_rules.proofs.SoundLaws.{entry-agree, step-agree}
@@ -37,7 +40,7 @@ use Rattle.sweep_rules.proofs.PassedLaws.{passed-given, accepted-sweep, refused
 use Rattle.sweep_rules.specs.Sweep.{Sweep, doneSweep, sweepOf}
 use Rattle.state_rules.specs.Calls.{Service, made, served, noState, answerFrom, kindNumber, powerServed, attentionServed, stepServed, sweepAnswerFrom, sweepLeft, sweepServed}
 use Rattle.state_rules.specs.Conditions.{Bytes}
-use Rattle.state_rules.specs.Layout.{bytesOf, stateIn, isState}
+use Rattle.state_rules.specs.Layout.{bytesOf, stateIn, isState, stateLength}
 use Rattle.state_rules.proofs.BackLaws.{bytes-are}
 use Rattle.state_rules.proofs.ForthLaws.{bytes-back}
 use Rattle.state_rules.proofs.HeldLaws.{HeldFit, done-held, found-held, attention-held, step-held}
@@ -77,10 +80,9 @@ module _ (b : List ℕ) (byte : Bytes b) (m : Buffers) where
   pub power-kept : Kept (powerServed b m)
   unfolding powerServed
   power-kept =
-      let o = powerUpOf (stateIn b) m in
-      kept (isState b) (o .number) 0 0 (powerCount m) (bytesOf (o .state)) (o .memory) (omega (arith, power-most (stateIn b) m))
-      (λ h ne. let same = power-refused (stateIn b) m ne in
-      (ap (λ (x : Outcome). bytesOf (x .state)) same ∙ bytes-back b byte h, ap (λ (x : Outcome). x .memory) same))
+      let o = powerUpOf resetState m in
+      kept (eqb (length b) stateLength) (o .number) 0 0 (powerCount m) _ (o .memory) (omega (arith, power-most resetState m))
+      (λ h ne. (rw (ne-eqb (o .number) 0 ne), ap (λ (x : Outcome). x .memory) (power-refused resetState m ne)))
 
   pub attention-kept : (channel : ℕ) → Kept (attentionServed b m channel)
   unfolding attentionServed
@@ -125,6 +127,22 @@ step-agreed s m lines =
     by-step s m lines (λ o. o .number ≡ 0 → agree s ≡ true) (λ k ne e. absurd (ne e))
     (λ b z e h. entry-agree s m lines z) (λ b z e f h. entry-agree s m lines z) (λ b z e f h. entry-agree s m lines z)
 
+-- a power-up leaves a state where it is done, whatever it was given, and where it was given one
+pub power-stays : (b : List ℕ) (m : Buffers) → (¬ (powerServed b m .answer % 256 ≡ 0) → isState b ≡ true) → isState (powerServed b m .bytes) ≡ true
+unfolding powerServed
+power-stays b m = go (eqb (length b) stateLength) (ℕ-discrete (o .number) 0)
+  where
+    o : Outcome
+    o = powerUpOf resetState m
+
+    left : Service
+    left = served (answerFrom (o .number) 0 0 (powerCount m)) (pick (eqb (o .number) 0) (bytesOf (o .state)) b) (o .memory)
+
+    go : (ok : Bool) → Dec (o .number ≡ 0) → (¬ (pick ok left (noState b m) .answer % 256 ≡ 0) → isState b ≡ true) → isState (pick ok left (noState b m) .bytes) ≡ true
+    go false d h = h (eqb-false 17 0 refl)
+    go true (yes e) h = rw e (rw (power-accepted resetState m e) (bytes-are (foundState m) (found-agree m) (found-held m)))
+    go true (no ne) h = rw (ne-eqb (o .number) 0 ne) (h (λ z. ne (sym (number-part (o .number) 0 0 (powerCount m) (omega (arith, power-most resetState m))) ∙ z)))
+
 -- a done sweep holds nothing
 swept-held : (s : State) (m : Buffers) (second : Bool) → HeldFit s → HeldFit (doneSweep s m second .state)
 unfolding doneSweep finished withTransfer
@@ -142,16 +160,6 @@ module _ (b : List ℕ) (byte : Bytes b) (m : Buffers) (h : isState b ≡ true) 
       go : Dec (number ≡ 0) → isState (bytesOf s) ≡ true
       go (yes z) = bytes-are s (done z) (held z)
       go (no ne) = ap (λ (x : State). isState (bytesOf x)) (same ne) ∙ ap isState (bytes-back b byte h) ∙ h
-
-  pub power-stays : isState (powerServed b m .bytes) ≡ true
-  unfolding powerServed
-  power-stays =
-      let o = powerUpOf (stateIn b) m in
-      rw h
-      (stays (o .number) (o .state)
-      (λ z. ap (λ (x : Outcome). agree (x .state)) (power-accepted (stateIn b) m z) ∙ found-agree m)
-      (λ z. rw (power-accepted (stateIn b) m z) (found-held m))
-      (λ ne. ap (λ (x : Outcome). x .state) (power-refused (stateIn b) m ne)))
 
   pub attention-stays : (channel : ℕ) → isState (attentionServed b m channel .bytes) ≡ true
   unfolding attentionServed

@@ -70,19 +70,22 @@ pub extern "C" fn iop89_reset(state: &mut [u8]) -> u32
     answer(0, 0, 0, 0)
 }
 
-// Powers the machine up.
+// Powers the machine up, whatever state the bytes held.
 #[no_mangle]
 pub extern "C" fn iop89_power_up(state: &mut [u8], sys: &mut [u8], io: &mut [u8]) -> u32
     ensures left { λ r. ⌜ served r (now (state .exit)) (lent (sys .exit) (io .exit)) ≡ powerServed (now (state .entry)) (lent (sys .entry) (io .entry)) ⌝ }
-    ensures whole { λ r. ⌜ (isState (now (state .entry)) ≡ true → stateIn (now (state .exit)) ≡ powerUpOf (stateIn (now (state .entry))) (lent (sys .entry) (io .entry)) .state) ⌝ }
+    ensures whole { λ r. ⌜ (length (now (state .entry)) ≡ stateLength → stateIn (now (state .exit)) ≡ powerUpOf (stateIn (now (state .entry))) (lent (sys .entry) (io .entry)) .state) ⌝ }
 {
-    if !layout::is_state(state) {
+    if state.len() != 104 {
         return 17;
     }
-    let a = power::power_up(layout::state_in(state), sys, io);
+    let a = power::power_up(machine::states::reset(), sys, io);
+    if a.number != 0 {
+        return answer(a.number, 0, 0, 0);
+    }
     let after = a.state;
     layout::put_state(state, after);
-    answer(a.number, 0, 0, a.count)
+    answer(0, 0, 0, a.count)
 }
 
 // Gives a channel attention.

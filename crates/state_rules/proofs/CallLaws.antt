@@ -9,13 +9,16 @@ use mathlib.Core.Bool.{true, false, _&&_}
 use mathlib.Core.List.{List}
 use mathlib.Core.Path.{_≡_, sym, ap, _∙_}
 use Rattle.ground_rules.proofs.ChoiceLaws.{apart, both-left}
+use Rattle.ground_rules.proofs.OutcomeLaws.{refused-counts}
 use Rattle.ground_rules.specs.Buffers.{Buffers}
 use Rattle.ground_rules.specs.Outcomes.{Outcome}
 use Rattle.ground_rules.specs.States.{resetState, freshOf}
 use Rattle.ground_rules.specs.declared.Made.{Made}
 use Rattle.ground_rules.specs.declared.State.{State}
 use Rattle.attention_rules.specs.Attention.{attentionOf, attentionCount}
-use Rattle.attention_rules.specs.Power.{powerUpOf, powerCount}
+use Rattle.attention_rules.proofs.PowerNumbers.{power-number}
+use Rattle.attention_rules.proofs.PowerOutcomes.{power-any, power-same, power-refused}
+use Rattle.attention_rules.specs.Power.{touchedByPower, powerNumber, powerUpOf, powerCount}
 use Rattle.turn_rules.specs.Step.{stepOf}
 use Rattle.state_rules.specs.Fields.{isFlag}
 use Rattle.state_rules.specs.Layout.{bytesOf, stateIn, isBlock, isBoard, isState, stateLength, version, firstAt, secondFrom}
@@ -65,14 +68,39 @@ pub reset-made : (b : List ℕ) (s : State) → length b ≡ stateLength → s �
 unfolding resetMade
 reset-made b s e p w = (rw (eq-eqb (length b) stateLength e, put-whole b s e, p), λ h. put-stands b s e w ∙ p)
 
+-- and with power-up, which leaves bytes that it refuses to look at or that memory is refused for
 module _ (b : List ℕ) (m : Buffers) where
-  -- bytes that are no state are left by a power-up, an attention and a step, with both memories
+  pub power-short : ¬ (length b ≡ stateLength) → (served 17 b m ≡ powerServed b m) × (length b ≡ stateLength → stateIn b ≡ powerUpOf (stateIn b) m .state)
+  unfolding powerServed
+  power-short ne = (rw (ne-eqb (length b) stateLength ne), λ e. absurd (ne e))
+
+  module _ (long : length b ≡ stateLength) (o : Outcome) (is : o ≡ powerUpOf resetState m) where
+    number-same : o .number ≡ powerUpOf (stateIn b) m .number
+    number-same = ap (λ (x : Outcome). x .number) is ∙ power-any resetState (stateIn b) m
+
+    pub power-refused-on : ¬ (o .number ≡ 0)
+        → (served (answerFrom (o .number) 0 0 0) b (o .memory) ≡ powerServed b m) × (length b ≡ stateLength → stateIn b ≡ powerUpOf (stateIn b) m .state)
+    unfolding powerServed powerCount
+    power-refused-on ne =
+        let same : powerNumber m ≡ o .number = sym (power-number resetState m) ∙ sym (ap (λ (x : Outcome). x .number) is) in
+        let none : powerCount m ≡ 0 = refused-counts (powerNumber m) (touchedByPower m) (λ z. ne (sym same ∙ z)) in (
+          rw (eq-eqb (length b) stateLength long, none, ← is, ne-eqb (o .number) 0 ne),
+          λ e. sym (ap (λ (x : Outcome). x .state) (power-refused (stateIn b) m (λ z. ne (number-same ∙ z)))),
+        )
+
+    pub power-done-on : (k : ℕ) → k ≡ powerCount m → o .number ≡ 0 → stateIn (bytesOf (o .state)) ≡ o .state
+        → (served (answerFrom 0 0 0 k) (sets b 0 (bytesOf (o .state))) (o .memory) ≡ powerServed b m)
+        × (length b ≡ stateLength → stateIn (sets b 0 (bytesOf (o .state))) ≡ powerUpOf (stateIn b) m .state)
+    unfolding powerServed
+    power-done-on k q z w = (
+      rw (eq-eqb (length b) stateLength long, put-whole b (o .state) long, q, ← is, z),
+      λ e. put-stands b (o .state) long w ∙ ap (λ (x : Outcome). x .state) (is ∙ power-same resetState (stateIn b) m (sym (ap (λ (x : Outcome). x .number) is) ∙ z)),
+    )
+
+module _ (b : List ℕ) (m : Buffers) where
+  -- bytes that are no state are left by an attention and a step, with both memories
   outcome-none : (o : Outcome) (count : ℕ) → isState b ≡ false → (served 17 b m ≡ outcomeServed o count b m) × (isState b ≡ true → stateIn b ≡ o .state)
   outcome-none o count h = (rw h, λ e. apart (sym e ∙ h))
-
-  pub power-none : isState b ≡ false → (served 17 b m ≡ powerServed b m) × (isState b ≡ true → stateIn b ≡ powerUpOf (stateIn b) m .state)
-  unfolding powerServed
-  power-none = outcome-none (powerUpOf (stateIn b) m) (powerCount m)
 
   pub attention-none : (channel : ℕ) → isState b ≡ false
       → (served 17 b m ≡ attentionServed b m channel) × (isState b ≡ true → stateIn b ≡ attentionOf (stateIn b) m channel .state)
@@ -91,12 +119,6 @@ module _ (b : List ℕ) (m : Buffers) where
         × (isState b ≡ true → stateIn (sets b 0 (bytesOf (o .state))) ≡ left .state)
     outcome-served o left k count p q w =
         (rw (h, put-whole b (o .state) (state-length b h), p, q), λ e. put-stands b (o .state) (state-length b h) w ∙ ap (λ (x : Outcome). x .state) p)
-
-    pub power-served : (o : Outcome) (k : ℕ) → o ≡ powerUpOf (stateIn b) m → k ≡ powerCount m → stateIn (bytesOf (o .state)) ≡ o .state
-        → (served (answerFrom (o .number) 0 0 k) (sets b 0 (bytesOf (o .state))) (o .memory) ≡ powerServed b m)
-        × (isState b ≡ true → stateIn (sets b 0 (bytesOf (o .state))) ≡ powerUpOf (stateIn b) m .state)
-    unfolding powerServed
-    power-served o k = outcome-served o (powerUpOf (stateIn b) m) k (powerCount m)
 
     pub attention-served : (channel : ℕ) (o : Outcome) (k : ℕ) → o ≡ attentionOf (stateIn b) m channel → k ≡ attentionCount (stateIn b) m channel
         → stateIn (bytesOf (o .state)) ≡ o .state

@@ -166,17 +166,17 @@ reset-given b n = told-17 (eqb (length b) stateLength) n 0 (resetMade b .answer 
     part false = refl
 
 module _ (b : List ℕ) (m : Buffers) where
-  power-number : powerServed b m .answer % 256 ≡ pick (isState b) (powerUpOf (stateIn b) m .number) 17
+  power-number : powerServed b m .answer % 256 ≡ pick (eqb (length b) stateLength) (powerUpOf resetState m .number) 17
   unfolding powerServed
   power-number =
-      let o = powerUpOf (stateIn b) m in
-      answer-number (isState b) (o .number) 0 0 (powerCount m) (bytesOf (o .state)) b (o .memory) m (omega (arith, power-most (stateIn b) m))
+      let o = powerUpOf resetState m in
+      answer-number (eqb (length b) stateLength) (o .number) 0 0 (powerCount m) _ b (o .memory) m (omega (arith, power-most resetState m))
 
-  -- the number of a power-up: 17, then 11 and 2
+  -- the number of a power-up: 17 for the length, then 11 and 2, whatever the bytes were
   pub power-given-on : (n : ℕ) → (powerServed b m .answer % 256 ≡ n) ↔ Given (powerChecksOn b m) n
   power-given-on n =
-      told-17 (isState b) n (powerUpOf (stateIn b) m .number) (powerServed b m .answer % 256) (told-state b)
-      power-number (power-given (stateIn b) m n)
+      told-17 (eqb (length b) stateLength) n (powerUpOf resetState m .number) (powerServed b m .answer % 256) (told-eqb (length b) stateLength)
+      power-number (power-given resetState m n)
 
   attention-number : (channel : ℕ) → attentionServed b m channel .answer % 256 ≡ pick (isState b) (attentionOf (stateIn b) m channel .number) 17
   unfolding attentionServed

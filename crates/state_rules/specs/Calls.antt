@@ -64,9 +64,12 @@ abbrev pub outcomeServed : Outcome → ℕ → List ℕ → Buffers → Service
 outcomeServed o count b m =
     pick (isState b) (served (answerFrom (o .number) 0 0 count) (bytesOf (o .state)) (o .memory)) (noState b m)
 
--- a power-up of it
+-- a power-up looks at the length alone too: whatever the bytes were, done it leaves the state found, and refused it leaves them
 unfoldable pub powerServed : List ℕ → Buffers → Service
-powerServed b m = outcomeServed (powerUpOf (stateIn b) m) (powerCount m) b m
+powerServed b m =
+    let o = powerUpOf resetState m in
+    pick (eqb (length b) stateLength)
+    (served (answerFrom (o .number) 0 0 (powerCount m)) (pick (eqb (o .number) 0) (bytesOf (o .state)) b) (o .memory)) (noState b m)
 
 -- an attention on it
 unfoldable pub attentionServed : List ℕ → Buffers → ℕ → Service

@@ -81,11 +81,11 @@ freshChecksOn b cp = check 17 (¬ (length b ≡ stateLength)) ∷ check 10 (1048
 abbrev pub resetChecksOn : List ℕ → List Check
 resetChecksOn b = check 17 (¬ (length b ≡ stateLength)) ∷ []
 
--- the checks of a power-up: 17 comes before all others
+-- the checks of a power-up, which asks for the length alone too: 17 comes before all others
 abbrev pub powerChecksOn : List ℕ → Buffers → List Check
-powerChecksOn b m = check 17 (NoState b) ∷ powerChecks m
+powerChecksOn b m = check 17 (¬ (length b ≡ stateLength)) ∷ powerChecks m
 
--- the checks of an attention likewise
+-- the checks of an attention, which asks for a state
 abbrev pub attentionChecksOn : List ℕ → Buffers → ℕ → List Check
 attentionChecksOn b m channel = check 17 (NoState b) ∷ attentionChecks (stateIn b) m channel
 

@@ -1,6 +1,6 @@
 -- The laws of the parts of a move: which channel makes which, and what is known of the sides where a step is a half.
 -- Assumes nothing.
-use Prim.Native.Nat.{ℕ}
+use Prim.Native.Nat.{ℕ, _+_, _%_}
 use borrow.Author.Tests.{ne-eqb}
 use lib.Dec.{eqb}
 use mathlib.Core.Bool.{Bool, true, false, not, _&&_, _||_}
@@ -9,11 +9,17 @@ use Rattle.ground_rules.specs.declared.Channel.{Channel}
 use Rattle.ground_rules.specs.declared.Held.{Held}
 use Rattle.ground_rules.specs.declared.Held.the-variants.{NoByte, Byte}
 use Rattle.ground_rules.proofs.ChoiceLaws.{apart, both-left, both-right, or-false}
+use Rattle.ground_rules.specs.Buffers.{Buffers}
 use Rattle.ground_rules.specs.Choice.{pick}
+use Rattle.ground_rules.specs.Updates.{withTransfer}
 use Rattle.transfer_rules.specs.Parts.{Part, Whole, FirstFetch, SecondFetch, FirstStore, SecondStore, fetchesApart, storesApart, isHalf, fetchPart, storePart, partOf}
-use Rattle.transfer_rules.specs.Stores.{firstMeets, cutShort, storesTwo}
+use Rattle.transfer_rules.specs.Ends.{endedBy}
+use Rattle.transfer_rules.specs.Reads.{dataOf}
+use Rattle.transfer_rules.specs.Steps.{channelBy}
+use Rattle.transfer_rules.specs.Stores.{firstMeets, cutShort, storesTwo, movedBy, movedChannel}
 use Rattle.transfer_rules.specs.declared.Data.{Data}
 use Rattle.transfer_rules.specs.Sides.{source, destination, wordSide, countOn, twoMove, storedSingly}
+use Rattle.transfer_rules.proofs.LeftoverLaws.{cut-bc}
 
 -- ---- whole steps
 
@@ -164,3 +170,13 @@ not-half c = go (fetchesApart c) (storesApart c)
     go true b h = apart h
     go false true h = apart h
     go false false h = refl
+
+-- ---- a first store that meets TMC
+
+-- BC falls by 2 there, as if both bytes had gone, and nothing is held
+pub first-store-met : (c : Channel) (m : Buffers) → partOf c ≡ FirstStore → firstMeets c (dataOf c m) ≡ true
+    → (channelBy FirstStore c m .bc ≡ (c .bc + 65534) % 65536) × (channelBy FirstStore c m .held ≡ NoByte)
+unfolding channelBy cutShort movedChannel endedBy movedBy withTransfer
+first-store-met c m e h =
+    let cut : cutShort c (dataOf c m) ≡ true = rw (stores-singly c (first-store-apart c e), h) in
+    rw h (cut-bc c (dataOf c m) cut, refl)

@@ -5,7 +5,8 @@ use borrow.Author.Needs.{needs}
 use borrow.Author.Tests.{ne-eqb}
 use mathlib.Core.Path.{sym, ap, _∙_}
 use Rattle.assembler_text.proofs.PlaceLaws.{passed}
-use Rattle.assembler_bytes.specs.Placed.{formOffset}
+use Rattle.assembler_bytes.specs.Placed.{}
+use Rattle.assembler_lines.specs.Counts.{formOffset}
 use Rattle.assembler_bytes.proofs.instructions.offset_size.Statement.{statement}
 use Rattle.assembler_bytes.proofs.instructions.offset_size.Tie as tie
 
