@@ -18,7 +18,7 @@ static uint8_t io[16], state[IOP89_STATE_LENGTH];
 static void command(unsigned channel, uint8_t code)
 {
     sys[8 * (channel - 1)] = code;
-    uint32_t answer = iop89_attention(state, sizeof state, sys, sizeof sys, io, sizeof io, channel);
+    iop89_answer answer = iop89_attention(state, sizeof state, sys, sizeof sys, io, sizeof io, channel);
     printf("command %u to channel %u: %s\n", code, channel, iop89_service_words(IOP89_ANSWER_NUMBER(answer)));
 }
 

@@ -139,7 +139,7 @@ static void test_pairs(void)
 /* Texts: no text, no memory, no code, no room for lines. */
 static void test_texts(void)
 {
-    static const uint8_t end[] = ":00000001FF\n", data[] = ":01000000AA55\n:00000001FF\n", code[] = {0x20, 0x48};
+    static const uint8_t end[] = ":00000001FF\n", data[] = ":01000000AA55\n:00000001FF\n", code[] = {0x20, 0x48}, line[] = "HLT\n";
     uint8_t text[32];
     expect("load, nothing", IOP89_LOAD_NUMBER(iop89_load(NONE, NONE)), IOP89_NO_END);
     expect("load, no text", IOP89_LOAD_NUMBER(iop89_load(NONE, sys, sizeof sys)), IOP89_NO_END);
@@ -149,6 +149,11 @@ static void test_texts(void)
     expect("list, no code", iop89_list(NONE, 0, text, sizeof text), 0);
     expect("list, no room", iop89_list(code, sizeof code, 0, NONE), 0);
     expect("list", iop89_list(code, sizeof code, 0, text, sizeof text), UINT64_C(2) << 32 | 4);
+    expect("assemble, nothing", iop89_assemble(NONE, 0, NONE), 0);
+    expect("assemble, no text", iop89_assemble(NONE, 0, text, sizeof text), 0);
+    expect("assemble, no room", iop89_assemble(line, sizeof line - 1, 0, NONE), UINT64_C(1) << 32 | IOP89_NO_ROOM);
+    expect("assemble, no byte", iop89_assemble(line, 0, 0, NONE), 0);
+    expect("assemble", iop89_assemble(line, sizeof line - 1, 0, text, sizeof text), UINT64_C(2) << 32);
 }
 
 int main(void)

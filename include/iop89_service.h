@@ -587,8 +587,7 @@ static inline uint32_t iop89_asm_stored(iop89_asm_answer answer)
  *   code, code_len   gets the bytes, of which code_len have room. Where the text is refused nothing is stored; else what
  *                    is behind the last byte stored stays
  * A listing by iop89_list, whole and with the same first address, gives back the bytes that were listed. A line or a count
- * over 4,294,967,295 is reported as that. The two buffers must not overlap, and neither pointer may be null, also where
- * its length is 0.
+ * over 4,294,967,295 is reported as that. The two buffers must not overlap; where a length is 0 the pointer may be NULL.
  */
 iop89_asm_answer iop89_assemble(const uint8_t *text, size_t text_len, uint32_t first, uint8_t *code, size_t code_len);
 
