@@ -58,7 +58,7 @@ fn number(sys: &[u8], io: &[u8], given: u32, o: Order, mode: Mode) -> u32
 }
 
 // What the order in a block comes to for its channel.
-fn planned(sys: &[u8], io: &[u8], given: u32, block: u32, c: Channel) -> Upshot
+pub fn planned(sys: &[u8], io: &[u8], given: u32, block: u32, c: Channel) -> Upshot
     ensures { λ r. ⌜ r ≡ plannedOf (lent (sys .entry) (io .entry)) given block c ⌝ }
 {
     let o = blocks::order(sys, io, block, c.pp);

@@ -1,3 +1,4 @@
 pub mod BurstLaws
-pub mod RoundLaws
+pub mod AloneLaws
+pub mod StartLaws
 pub mod Determined
