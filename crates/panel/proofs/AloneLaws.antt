@@ -15,7 +15,7 @@ use Rattle.ground_rules.specs.Choice.{pick}
 use Rattle.ground_rules.specs.Buffers.{Buffers, spaceOf}
 use Rattle.ground_rules.specs.Psw.{transferring}
 use Rattle.ground_rules.specs.States.{channelOf, withChannel, withLast, sound, agree, isRunning, blockOf, busyIn}
-use Rattle.ground_rules.specs.Updates.{withTransfer}
+use Rattle.ground_rules.specs.Updates.{withTransfer, dropped}
 use Rattle.ground_rules.specs.declared.Channel.{Channel}
 use Rattle.ground_rules.specs.declared.State.{State}
 use Rattle.transfer_rules.proofs.KeptLaws.{only-these}
@@ -36,8 +36,9 @@ use Rattle.turn_rules.specs.declared.Kind.{Kind}
 use Rattle.turn_rules.specs.declared.Kind.the-variants.{Transfer, Instruction, External}
 use Rattle.run_rules.specs.Run.{Run, ran, stepsFrom}
 use Rattle.run_rules.proofs.RunLaws.{stops, goes, limits}
-use Rattle.panel.specs.Bursts.{Own, own, BurstLeft, burst, burstFrom, moves, transfersOn, executes, executesOn, aloneStep, always, aloneFrom, ranBy, restOf, Rounded}
+use Rattle.panel.specs.Bursts.{Own, own, BurstLeft, burst, burstFrom, moves, transfersOn, rowOf, executes, executesOn, aloneStep, always, aloneFrom, ranBy, restOf, Rounded}
 use Rattle.panel.specs.declared.bursts.Burst.{Burst}
+use Rattle.panel.proofs.RowLaws.{whole-drops}
 use Rattle.panel.proofs.BurstLaws.{burst-stops, burst-goes, burst-limit, Phase, Bounds, bounds, joins}
 
 -- ---- whose turn it is
@@ -65,6 +66,11 @@ module _ (s : State) (lines : ℕ) where
       go true h k false = off-none false h
       go false h k true = off-none true h
       go false h k false = k
+
+-- what is left of a run, of either of two
+ran-pick : (b : Bool) (x y : BurstLeft) → pick b (ranBy x) (ranBy y) ≡ ranBy (pick b x y)
+ran-pick true x y = refl
+ran-pick false x y = refl
 
 -- ---- the machine's steps are its own
 
@@ -232,21 +238,57 @@ module _ (busy lines : ℕ) (second : Bool) where
         let steps = ap (λ (x : BurstLeft). x .steps) e in
         record {
           rest =
-              ap₂ (λ (l : BurstLeft) (k : ℕ). pick (eqb (l .number) 0) (aloneFrom busy lines second (k - l .steps) (l .channel) (l .memory) (l .steps)) l) e total
-              ∙ joins (aloneStep busy lines second) one on t (limit - done) (limit - done) c m done (omega arith) (λ k. ready);
+              ran-pick (eqb (r .number) 0) (aloneFrom busy lines second (limit - r .steps) (r .channel) m′ (r .steps)) (burst (r .number) (r .steps) (r .channel) m′)
+              ∙ ap ranBy
+              (ap₂ (λ (l : BurstLeft) (k : ℕ). pick (eqb (l .number) 0) (aloneFrom busy lines second (k - l .steps) (l .channel) (l .memory) (l .steps)) l) e total
+              ∙ joins (aloneStep busy lines second) one on t (limit - done) (limit - done) c m done (omega arith) (λ k. ready));
           further = λ k. rw steps (own .further (omega arith) (sym (ap (λ (x : BurstLeft). x .number) e) ∙ k));
           most = rw steps (omega (arith, own .most));
         }
 
-    pub transfers-round : Due true c → (r : Burst) (m′ : Buffers) → burst (r .number) (r .steps) (r .channel) m′ ≡ burstFrom moves transfersOn (limit - done) c m done
+  module _ (c : Channel) (m : Buffers) (limit done : ℕ) (h : done < limit) where
+    -- a byte that it holds makes no difference to a channel whose next step is whole
+    alone-drops : isHalf c ≡ false → transferring (c .psw) ≡ true → ranBy (aloneFrom busy lines second (limit - done) (dropped c) m done) ≡ ranBy (aloneFrom busy lines second (limit - done) c m done)
+    unfolding aloneStep endsNow rankOf externallyEnded
+    alone-drops f xf = go (limit - done) (omega arith) (endsNow c (external lines second)) refl (eqb (rankOf c (requested lines second)) noRank) refl
+      where
+        -- two steps that differ in the channel of a refused one alone
+        same : (n : ℕ) → 0 < n → (aloneStep busy lines second (dropped c) m .number ≡ aloneStep busy lines second c m .number) → (aloneStep busy lines second (dropped c) m .memory ≡ aloneStep busy lines second c m .memory)
+            → (aloneStep busy lines second c m .number ≡ 0 → aloneStep busy lines second (dropped c) m .channel ≡ aloneStep busy lines second c m .channel)
+            → Dec (aloneStep busy lines second c m .number ≡ 0) → ranBy (aloneFrom busy lines second n (dropped c) m done) ≡ ranBy (aloneFrom busy lines second n c m done)
+        same n h k l j (yes z) =
+            ap ranBy
+            (burst-goes (aloneStep busy lines second) always (dropped c) m done n h (k ∙ z) refl
+            ∙ ap₂ (λ (x : Channel) (y : Buffers). aloneFrom busy lines second (n - 1) x y (done + 1)) (j z) l
+            ∙ sym (burst-goes (aloneStep busy lines second) always c m done n h z refl))
+        same n h k l j (no ne) =
+            ap ranBy (burst-stops (aloneStep busy lines second) always (dropped c) m done n h (λ z. ne (sym k ∙ z)))
+            ∙ ap₂ (λ (x : ℕ) (y : Buffers). ran x done y) k l
+            ∙ sym (ap ranBy (burst-stops (aloneStep busy lines second) always c m done n h ne))
+
+        go : (n : ℕ) → 0 < n → (x : Bool) → endsNow c (external lines second) ≡ x → (y : Bool) → eqb (rankOf c (requested lines second)) noRank ≡ y
+            → ranBy (aloneFrom busy lines second n (dropped c) m done) ≡ ranBy (aloneFrom busy lines second n c m done)
+        go n h true e y g = same n h (rw e) (rw e) (λ z. rw e) (ℕ-discrete (aloneStep busy lines second c m .number) 0)
+        go n h false e true g = same n h (rw (e, g)) (rw (e, g)) (rw (e, g) (λ z. absurd (omega (arith, z)))) (ℕ-discrete (aloneStep busy lines second c m .number) 0)
+        go n h false e false g =
+            let w = whole-drops c m f in
+            same n h (rw (e, g, xf) (w .0)) (rw (e, g, xf) (w .1)) (rw (e, g, xf) (w .2)) (ℕ-discrete (aloneStep busy lines second c m .number) 0)
+
+    pub transfers-round : Due true c → (r : Burst) (m′ : Buffers) → burst (r .number) (r .steps) (r .channel) m′ ≡ burstFrom moves transfersOn (limit - done) (rowOf c) m done
         → Rounded r busy lines second c m m′ limit done
-    unfolding transfer-phase
-    transfers-round d = burst-round moves transfersOn transfer-phase d
+    unfolding transfer-phase rowOf endsNow rankOf
+    transfers-round d r m′ = go (isHalf c) refl
+      where
+        go : (x : Bool) → isHalf c ≡ x → burst (r .number) (r .steps) (r .channel) m′ ≡ burstFrom moves transfersOn (limit - done) (pick x c (dropped c)) m done → Rounded r busy lines second c m m′ limit done
+        go true f e = burst-round c m limit done h moves transfersOn transfer-phase d r m′ e
+        go false f e =
+            let q = burst-round (dropped c) m limit done h moves transfersOn transfer-phase d r m′ e in
+            record { rest = q .rest ∙ alone-drops f (d .2); further = q .further; most = q .most }
 
     pub instructions-round : Due false c → (r : Burst) (m′ : Buffers) → burst (r .number) (r .steps) (r .channel) m′ ≡ burstFrom (executes busy) executesOn (limit - done) c m done
         → Rounded r busy lines second c m m′ limit done
     unfolding instruction-phase
-    instructions-round d = burst-round (executes busy) executesOn instruction-phase d
+    instructions-round d = burst-round c m limit done h (executes busy) executesOn instruction-phase d
 
     -- an external end is one step
     ends-own : endsNow c (external lines second) ≡ true → aloneStep busy lines second c m ≡ own 0 (externallyEnded c) m
@@ -260,8 +302,9 @@ module _ (busy lines : ℕ) (second : Bool) where
         let k : limit - (done + 1) ≡ limit - done - 1 = omega arith in
         record {
           rest =
-              ap₂ (λ (j : ℕ) (x : Own). aloneFrom busy lines second j (x .channel) (x .memory) (done + 1)) k (sym is)
-              ∙ sym (burst-goes (aloneStep busy lines second) always c m done (limit - done) (omega arith) (ap (λ (x : Own). x .number) is) refl);
+              ap ranBy
+              (ap₂ (λ (j : ℕ) (x : Own). aloneFrom busy lines second j (x .channel) (x .memory) (done + 1)) k (sym is)
+              ∙ sym (burst-goes (aloneStep busy lines second) always c m done (limit - done) (omega arith) (ap (λ (x : Own). x .number) is) refl));
           further = λ z. omega arith;
           most = omega arith;
         }
@@ -277,17 +320,18 @@ module _ (busy lines : ℕ) (second : Bool) where
         let is : aloneStep busy lines second c m ≡ own 1 c m = waits-own e f in
         record {
           rest =
-              sym (burst-stops (aloneStep busy lines second) always c m done (limit - done) (omega arith) (λ z. omega (arith, sym (ap (λ (x : Own). x .number) is) ∙ z))
-              ∙ ap (λ (x : Own). burst (x .number) done c (x .memory)) is);
+              ap ranBy
+              (sym (burst-stops (aloneStep busy lines second) always c m done (limit - done) (omega arith) (λ z. omega (arith, sym (ap (λ (x : Own). x .number) is) ∙ z))
+              ∙ ap (λ (x : Own). burst (x .number) done c (x .memory)) is));
           further = λ z. absurd (omega (arith, z));
           most = omega arith;
         }
 
 -- the rest of a run after a round that stopped it, and after one that did not
-pub rest-stopped : (l : BurstLeft) (busy lines : ℕ) (second : Bool) (limit : ℕ) → (l .number ≡ 0 → ⊥) → restOf l busy lines second limit ≡ l
+pub rest-stopped : (l : BurstLeft) (busy lines : ℕ) (second : Bool) (limit : ℕ) → (l .number ≡ 0 → ⊥) → restOf l busy lines second limit ≡ ranBy l
 unfolding restOf
 rest-stopped l busy lines second limit ne = rw (ne-eqb (l .number) 0 ne)
 
-pub rest-going : (l : BurstLeft) (busy lines : ℕ) (second : Bool) (limit : ℕ) → l .number ≡ 0 → restOf l busy lines second limit ≡ aloneFrom busy lines second (limit - l .steps) (l .channel) (l .memory) (l .steps)
+pub rest-going : (l : BurstLeft) (busy lines : ℕ) (second : Bool) (limit : ℕ) → l .number ≡ 0 → restOf l busy lines second limit ≡ ranBy (aloneFrom busy lines second (limit - l .steps) (l .channel) (l .memory) (l .steps))
 unfolding restOf
 rest-going l busy lines second limit e = rw (eq-eqb (l .number) 0 e)

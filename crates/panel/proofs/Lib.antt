@@ -1,4 +1,5 @@
 pub mod BurstLaws
+pub mod RowLaws
 pub mod AloneLaws
 pub mod StartLaws
 pub mod Determined

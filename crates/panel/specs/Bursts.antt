@@ -8,6 +8,8 @@ use Rattle.ground_rules.specs.Buffers.{Buffers}
 use Rattle.ground_rules.specs.declared.Channel.{Channel}
 use Rattle.ground_rules.specs.Psw.{transferring}
 use Rattle.ground_rules.specs.States.{isRunning}
+use Rattle.ground_rules.specs.Updates.{withTransfer, dropped}
+use Rattle.ground_rules.specs.Values.{pointer}
 use Rattle.transfer_rules.specs.Ends.{externallyEnded}
 use Rattle.transfer_rules.specs.Parts.{isHalf}
 use Rattle.transfer_rules.specs.Steps.{transferOf}
@@ -52,6 +54,23 @@ moves c m = let t = transferOf c m in own (t .number) (t .channel) (t .memory)
 abbrev pub transfersOn : Channel → Channel → Bool
 transfersOn c after = not (isHalf c) && (transferring (after .psw) && not (isHalf after))
 
+-- the channel that a row begins with: a byte that it holds is dropped by its first step, unless a half is due
+unfoldable pub rowOf : Channel → Channel
+rowOf c = pick (isHalf c) c (dropped c)
+
+-- where GB stands, or GA
+abbrev pub standsAt : Channel → Bool → ℕ
+standsAt c gb = pick gb (c .gb .address) (c .ga .address)
+
+-- a channel with its source and its destination at other places and another BC, that holds nothing
+unfoldable pub placedAt : Channel → ℕ → ℕ → ℕ → Channel
+placedAt c source destination bc =
+    dropped
+    (withTransfer c
+    (pointer (pick (c .fields .sourceIsGB) destination source) (c .ga .tag))
+    (pointer (pick (c .fields .sourceIsGB) source destination) (c .gb .tag))
+    (c .tp) bc (c .psw))
+
 -- an instruction, and whether another follows
 abbrev pub executes : ℕ → Channel → Buffers → Own
 executes busy c m = let e = executeOf c busy m in own (e .number) (e .channel) (e .memory)
@@ -83,11 +102,11 @@ unfoldable pub aloneRun : ℕ → ℕ → Bool → ℕ → Channel → Buffers �
 aloneRun busy lines second limit c m = ranBy (aloneFrom busy lines second limit c m 0)
 
 -- the rest of such a run after a round: what stopped it, or the steps that are left
-unfoldable pub restOf : BurstLeft → ℕ → ℕ → Bool → ℕ → BurstLeft
-restOf l busy lines second limit = pick (eqb (l .number) 0) (aloneFrom busy lines second (limit - l .steps) (l .channel) (l .memory) (l .steps)) l
+unfoldable pub restOf : BurstLeft → ℕ → ℕ → Bool → ℕ → Run
+restOf l busy lines second limit = pick (eqb (l .number) 0) (ranBy (aloneFrom busy lines second (limit - l .steps) (l .channel) (l .memory) (l .steps))) (ranBy l)
 
 -- what a round is to a run of `limit` steps of which `done` are done: what is left after it is what was left before it, and it is a step on
 pub record Rounded (r : Burst) (busy lines : ℕ) (second : Bool) (c : Channel) (m m′ : Buffers) (limit done : ℕ) : Type 0 where
-  pub rest : restOf (burst (r .number) (r .steps) (r .channel) m′) busy lines second limit ≡ aloneFrom busy lines second (limit - done) c m done
+  pub rest : restOf (burst (r .number) (r .steps) (r .channel) m′) busy lines second limit ≡ ranBy (aloneFrom busy lines second (limit - done) c m done)
   pub further : r .number ≡ 0 → done < r .steps
   pub most : r .steps ≤ limit

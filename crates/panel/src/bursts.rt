@@ -1,4 +1,5 @@
 // Steps of one channel in a row with no choice between them, and rounds of them until a run ends.
+use crate::rows;
 use ground_rules::Channel;
 use run_rules::Ran;
 ghost use mathlib.Core.Path.{_≡_};
@@ -7,13 +8,13 @@ ghost use Prim.Native.Nat.{_-_, _<_, _≤_};
 ghost use Rattle.ground_rules.specs.Buffers.{lent};
 ghost use Rattle.transfer_rules.specs.Parts.{isHalf};
 ghost use Rattle.run_rules.specs.Run.{ran};
-ghost use Rattle.panel.specs.Bursts.{burst, burstFrom, moves, transfersOn, executes, executesOn, aloneRun, Rounded};
+ghost use Rattle.panel.specs.Bursts.{burst, burstFrom, moves, transfersOn, rowOf, executes, executesOn, aloneRun, Rounded};
 
 // How steps of one channel in a row ended: the number that stopped them, the steps of the run done by then, and the channel.
-struct Burst {
-    number: u32,
-    steps: u16,
-    channel: Channel,
+pub(crate) struct Burst {
+    pub(crate) number: u32,
+    pub(crate) steps: u16,
+    pub(crate) channel: Channel,
 }
 
 // A half of a pair of transfer steps, which is a row of its own.
@@ -40,38 +41,12 @@ fn half_row(c: Channel, sys: &mut [u8], io: &mut [u8], from: u16, stop: u16) -> 
 // Transfer steps of a channel until its transfer ends, a half of a pair is due, one is refused, or none is left.
 fn transfers(c: Channel, sys: &mut [u8], io: &mut [u8], from: u16, stop: u16) -> Burst
     requires { ⌜ from < stop ⌝ }
-    ensures { λ r. ⌜ burst (r .number) (r .steps) (r .channel) (lent (sys .exit) (io .exit)) ≡ burstFrom moves transfersOn (stop - from) c (lent (sys .entry) (io .entry)) from ⌝ }
+    ensures { λ r. ⌜ burst (r .number) (r .steps) (r .channel) (lent (sys .exit) (io .exit)) ≡ burstFrom moves transfersOn (stop - from) (rowOf c) (lent (sys .entry) (io .entry)) from ⌝ }
 {
     if transfer::is_half(c) {
         return half_row(c, sys, io, from, stop);
     }
-    let mut mine = c;
-    let mut done = from;
-    while done < stop {
-        let t = transfer::whole(mine, sys, io);
-        if t.number != 0 {
-            return Burst {
-                number: t.number,
-                steps: done,
-                channel: mine,
-            };
-        }
-        let next = t.channel;
-        mine = next;
-        done += 1;
-        if !machine::psw::transferring(next.psw) | transfer::is_half(next) {
-            return Burst {
-                number: 0,
-                steps: done,
-                channel: mine,
-            };
-        }
-    }
-    Burst {
-        number: 0,
-        steps: done,
-        channel: mine,
-    }
+    rows::wholes(c, sys, io, from, stop)
 }
 
 // Instructions of a channel until it stops or starts a transfer, one is refused, or none is left; BUSY is at `busy` of system memory.

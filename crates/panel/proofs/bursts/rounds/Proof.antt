@@ -19,13 +19,13 @@ Inv-loop second busy sys₀ io₀ lines limit mine₀ done₀ sys io mine done =
     (done ≤ limit)
     × (length sys ≡ length sys₀)
     × (length io ≡ length io₀)
-    × (aloneFrom busy lines second (limit - done) mine (buffers sys io) done ≡ aloneFrom busy lines second limit mine₀ (buffers sys₀ io₀) 0)
+    × (ranBy (aloneFrom busy lines second (limit - done) mine (buffers sys io) done) ≡ ranBy (aloneFrom busy lines second limit mine₀ (buffers sys₀ io₀) 0))
 
 abbrev μ-loop : tie.MeasureT-loop
 μ-loop second busy sys₀ io₀ lines limit mine₀ done₀ sys io mine done = limit - done
 
 loop-holds : tie.Need-loop-holds Inv-loop μ-loop
-loop-holds c = let a = c .before .before .args in (omega arith, refl, refl, ap (λ n. aloneFrom (a .busy) (a .lines) (a .second) n (a .c) (buffers (now (a .sys)) (now (a .io))) 0) (sub-zero (a .limit)))
+loop-holds c = let a = c .before .before .args in (omega arith, refl, refl, ap (λ n. ranBy (aloneFrom (a .busy) (a .lines) (a .second) n (a .c) (buffers (now (a .sys)) (now (a .io))) 0)) (sub-zero (a .limit)))
 
 turn-requires : tie.Need-turn-requires Inv-loop μ-loop
 turn-requires c κs = c .before .before .loop-test .taken
@@ -44,7 +44,7 @@ unfolding aloneRun
 returns c =
     let a = c .before .before .before .before .before .before .before .before .before .before .before .before .before .before .args in
     let r = c .before .before .before .before .before .before .before .turn .result in
-    ap ranBy (sym (rest-stopped (burst (r .number) (r .steps) (r .channel) _) (a .busy) (a .lines) (a .second) (a .limit) (c .before .if1 .taken)) ∙ c .before .before .before .before .before .before .before .turn .ensures .rest ∙ c .before .before .before .before .before .before .before .before .before .before .before .loop .inv .3)
+    sym (rest-stopped (burst (r .number) (r .steps) (r .channel) _) (a .busy) (a .lines) (a .second) (a .limit) (c .before .if1 .taken)) ∙ c .before .before .before .before .before .before .before .turn .ensures .rest ∙ c .before .before .before .before .before .before .before .before .before .before .before .loop .inv .3
 
 loop-less : tie.Need-loop-less Inv-loop μ-loop
 loop-less c = omega (arith, c .before .before .before .before .before .before .before .turn .ensures .further (c .before .if1 .left), c .before .before .before .before .before .before .before .turn .ensures .most)
@@ -75,7 +75,7 @@ unfolding aloneRun
 returns-2 c =
     let l = c .before .loop in
     let a = c .before .before .before .before .args in
-    ap ranBy (sym (burst-limit (aloneStep (a .busy) (a .lines) (a .second)) always (l .mine) (buffers (l .sys) (l .io)) (l .done) (a .limit - l .done) (omega (arith, c .loop-test .left))) ∙ l .inv .3)
+    sym (ap ranBy (burst-limit (aloneStep (a .busy) (a .lines) (a .second)) always (l .mine) (buffers (l .sys) (l .io)) (l .done) (a .limit - l .done) (omega (arith, c .loop-test .left)))) ∙ l .inv .3
 
 pub rounds-spec : {M : Type 1} → statement M
 rounds-spec =
