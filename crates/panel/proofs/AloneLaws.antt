@@ -36,9 +36,9 @@ use Rattle.turn_rules.specs.declared.Kind.{Kind}
 use Rattle.turn_rules.specs.declared.Kind.the-variants.{Transfer, Instruction, External}
 use Rattle.run_rules.specs.Run.{Run, ran, stepsFrom}
 use Rattle.run_rules.proofs.RunLaws.{stops, goes, limits}
-use Rattle.panel.specs.Bursts.{Own, own, BurstLeft, burst, burstFrom, moves, transfersOn, rowOf, executes, executesOn, aloneStep, always, aloneFrom, ranBy, restOf, Rounded}
+use Rattle.panel.specs.Bursts.{Own, own, BurstLeft, burst, burstFrom, moves, transfersOn, rowOf, countsOut, movesBytes, isPlain, plainOn, executes, executesOn, aloneStep, always, aloneFrom, ranBy, restOf, Rounded}
 use Rattle.panel.specs.declared.bursts.Burst.{Burst}
-use Rattle.panel.proofs.RowLaws.{whole-drops}
+use Rattle.panel.proofs.RowLaws.{whole-drops, plain-is, plain-whole, plain-psw, plain-left}
 use Rattle.panel.proofs.BurstLaws.{burst-stops, burst-goes, burst-limit, Phase, Bounds, bounds, joins}
 
 -- ---- whose turn it is
@@ -210,6 +210,21 @@ module _ (busy lines : ℕ) (second : Bool) where
         (kept-ends c (t .channel) mode fields (xf ∙ sym (r .2)) ∙ r .0, ap (λ (n : ℕ). eqb n noRank) (kept-rank c (t .channel) mode fields (xf ∙ sym (r .2))) ∙ r .1, xf);
   }
 
+  -- steps that move bytes within system memory
+  plain-phase : Phase (aloneStep busy lines second) moves plainOn
+  unfolding aloneStep withTransfer
+  plain-phase = record {
+    Ready = λ c. Due true c × (isPlain c ≡ true);
+    same = λ c m r. rw (r .0 .0, r .0 .1, r .0 .2);
+    again = λ c m r on.
+        let t = transferOf c m in
+        let l = plain-left c (r .1) in
+        let xf = ap transferring (plain-psw c m (plain-is c (l .0)) (l .1)) in
+        let mode = ap (λ (x : Channel). x .mode) (only-these c m) in
+        let fields = ap (λ (x : Channel). x .fields) (only-these c m) in
+        ((kept-ends c (t .channel) mode fields xf ∙ r .0 .0, ap (λ (n : ℕ). eqb n noRank) (kept-rank c (t .channel) mode fields xf) ∙ r .0 .1, xf ∙ r .0 .2), on);
+  }
+
   -- instructions
   instruction-phase : Phase (aloneStep busy lines second) (executes busy) executesOn
   unfolding aloneStep endsNow rankOf
@@ -284,6 +299,14 @@ module _ (busy lines : ℕ) (second : Bool) where
         go false f e =
             let q = burst-round (dropped c) m limit done h moves transfersOn transfer-phase d r m′ e in
             record { rest = q .rest ∙ alone-drops f (d .2); further = q .further; most = q .most }
+
+    -- so are steps that move bytes within system memory
+    pub plain-round : Due true c → isPlain c ≡ true → (r : Burst) (m′ : Buffers) → burst (r .number) (r .steps) (r .channel) m′ ≡ burstFrom moves plainOn (limit - done) (dropped c) m done
+        → Rounded r busy lines second c m m′ limit done
+    unfolding plain-phase isPlain movesBytes countsOut endsNow rankOf
+    plain-round d e r m′ b =
+        let q = burst-round (dropped c) m limit done h moves plainOn plain-phase (d, e) r m′ b in
+        record { rest = q .rest ∙ alone-drops (plain-whole c m (plain-is c (plain-left c e .0))) (d .2); further = q .further; most = q .most }
 
     pub instructions-round : Due false c → (r : Burst) (m′ : Buffers) → burst (r .number) (r .steps) (r .channel) m′ ≡ burstFrom (executes busy) executesOn (limit - done) c m done
         → Rounded r busy lines second c m m′ limit done

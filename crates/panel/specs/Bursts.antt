@@ -1,12 +1,13 @@
 -- Steps of one channel in a row with no choice between them, and the steps of a channel that alone may run.
 use mathlib.Core.Bool.{Bool, true, not, _&&_}
-use Prim.Native.Nat.{ℕ, zero, suc, _+_, _-_, _<_, _≤_}
+use Prim.Native.Nat.{ℕ, zero, suc, _+_, _-_, _%_, _<_, _≤_}
 use mathlib.Core.Path.{_≡_}
 use lib.Dec.{eqb}
 use Rattle.ground_rules.specs.Choice.{pick}
 use Rattle.ground_rules.specs.Buffers.{Buffers}
 use Rattle.ground_rules.specs.declared.Channel.{Channel}
-use Rattle.ground_rules.specs.Psw.{transferring}
+use Rattle.ground_rules.specs.Psw.{transferring, destinationWide, sourceWide}
+use Rattle.ground_rules.specs.Sums.{countDown}
 use Rattle.ground_rules.specs.States.{isRunning}
 use Rattle.ground_rules.specs.Updates.{withTransfer, dropped}
 use Rattle.ground_rules.specs.Values.{pointer}
@@ -70,6 +71,25 @@ placedAt c source destination bc =
     (pointer (pick (c .fields .sourceIsGB) destination source) (c .ga .tag))
     (pointer (pick (c .fields .sourceIsGB) source destination) (c .gb .tag))
     (c .tp) bc (c .psw))
+
+-- a step of a channel with that BC ends its transfer by count
+unfoldable pub countsOut : Channel → ℕ → Bool
+countsOut c bc = not (eqb (c .fields .countEnd) 0) && eqb (countDown bc 1) 0
+
+-- each step moves a byte within system memory that is neither translated nor compared, and ends the transfer by count alone
+unfoldable pub movesBytes : Channel → Bool
+movesBytes c =
+    not (sourceWide (c .psw)) && not (destinationWide (c .psw))
+    && (not (eqb (c .fields .synchronised) 3) && not (c .fields .translates))
+    && (eqb (c .fields .matchEnd % 4) 0 && not (c .fields .singleTransfer))
+    && (not (c .ga .tag) && not (c .gb .tag))
+
+-- such a channel, of which the next step does not end the transfer; and whether another such step follows in the row
+unfoldable pub isPlain : Channel → Bool
+isPlain c = movesBytes c && not (countsOut c (c .bc))
+
+abbrev pub plainOn : Channel → Channel → Bool
+plainOn c after = isPlain after
 
 -- an instruction, and whether another follows
 abbrev pub executes : ℕ → Channel → Buffers → Own

@@ -116,6 +116,9 @@ fn turn(
         };
     }
     if machine::psw::transferring(c.psw) {
+        if rows::is_plain(c) {
+            return rows::plain(c, sys, io, done, limit);
+        }
         return transfers(c, sys, io, done, limit);
     }
     instructions(c, busy, sys, io, done, limit)
