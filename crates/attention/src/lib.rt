@@ -55,7 +55,7 @@ fn number(sys: &[u8], io: &[u8], o: Order, mode: Mode) -> u32
 }
 
 // What the order in a block comes to for its channel.
-fn planned(sys: &[u8], io: &[u8], block: u32, c: Channel) -> Upshot
+pub fn planned(sys: &[u8], io: &[u8], block: u32, c: Channel) -> Upshot
     ensures { λ r. ⌜ r ≡ plannedOf (lent (sys .entry) (io .entry)) block c ⌝ }
 {
     let o = blocks::order(sys, io, block, c.pp);

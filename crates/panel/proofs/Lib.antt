@@ -1,3 +1,5 @@
 pub mod BurstLaws
-pub mod RoundLaws
+pub mod RowLaws
+pub mod AloneLaws
+pub mod StartLaws
 pub mod Determined

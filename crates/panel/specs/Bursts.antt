@@ -1,23 +1,23 @@
--- Steps of one channel in a row with no choice between them, and the two channels of a run with one of them at hand.
-use mathlib.Core.Bool.{Bool, false, not, _&&_}
-use Prim.Native.Nat.{ℕ, zero, suc, _+_, _-_, _<_, _≤_}
+-- Steps of one channel in a row with no choice between them, and the steps of a channel that alone may run.
+use mathlib.Core.Bool.{Bool, true, not, _&&_}
+use Prim.Native.Nat.{ℕ, zero, suc, _+_, _-_, _%_, _<_, _≤_}
 use mathlib.Core.Path.{_≡_}
 use lib.Dec.{eqb}
 use Rattle.ground_rules.specs.Choice.{pick}
 use Rattle.ground_rules.specs.Buffers.{Buffers}
 use Rattle.ground_rules.specs.declared.Channel.{Channel}
-use Rattle.ground_rules.specs.declared.Mode.{Mode}
-use Rattle.ground_rules.specs.declared.State.{State}
-use Rattle.ground_rules.specs.Psw.{transferring}
-use Rattle.ground_rules.specs.States.{boardWith, channelOf, isRunning}
+use Rattle.ground_rules.specs.Psw.{transferring, destinationWide, sourceWide}
+use Rattle.ground_rules.specs.Sums.{countDown}
+use Rattle.ground_rules.specs.States.{isRunning}
+use Rattle.ground_rules.specs.Updates.{withTransfer, dropped}
+use Rattle.ground_rules.specs.Values.{pointer}
+use Rattle.transfer_rules.specs.Ends.{externallyEnded}
 use Rattle.transfer_rules.specs.Parts.{isHalf}
 use Rattle.transfer_rules.specs.Steps.{transferOf}
 use Rattle.instruction_rules.specs.Execute.{executeOf}
-use Rattle.turn_rules.specs.Step.{entryNumber}
-use Rattle.run_rules.specs.Run.{Run, ran, stepsFrom}
-use Rattle.panel.specs.declared.bursts.Pair.{Pair}
-use Rattle.panel.specs.declared.bursts.Round.{Round}
-use Rattle.panel.specs.declared.bursts.Shared.{Shared}
+use Rattle.turn_rules.specs.Choosing.{requested, external, endsNow, noRank, rankOf}
+use Rattle.run_rules.specs.Run.{Run, ran}
+use Rattle.panel.specs.declared.bursts.Burst.{Burst}
 
 -- what a channel's own step comes to
 pub record Own : Type 0 where
@@ -55,6 +55,42 @@ moves c m = let t = transferOf c m in own (t .number) (t .channel) (t .memory)
 abbrev pub transfersOn : Channel → Channel → Bool
 transfersOn c after = not (isHalf c) && (transferring (after .psw) && not (isHalf after))
 
+-- the channel that a row begins with: a byte that it holds is dropped by its first step, unless a half is due
+unfoldable pub rowOf : Channel → Channel
+rowOf c = pick (isHalf c) c (dropped c)
+
+-- where GB stands, or GA
+abbrev pub standsAt : Channel → Bool → ℕ
+standsAt c gb = pick gb (c .gb .address) (c .ga .address)
+
+-- a channel with its source and its destination at other places and another BC, that holds nothing
+unfoldable pub placedAt : Channel → ℕ → ℕ → ℕ → Channel
+placedAt c source destination bc =
+    dropped
+    (withTransfer c
+    (pointer (pick (c .fields .sourceIsGB) destination source) (c .ga .tag))
+    (pointer (pick (c .fields .sourceIsGB) source destination) (c .gb .tag))
+    (c .tp) bc (c .psw))
+
+-- a step of a channel with that BC ends its transfer by count
+unfoldable pub countsOut : Channel → ℕ → Bool
+countsOut c bc = not (eqb (c .fields .countEnd) 0) && eqb (countDown bc 1) 0
+
+-- each step moves a byte within system memory that is neither translated nor compared, and ends the transfer by count alone
+unfoldable pub movesBytes : Channel → Bool
+movesBytes c =
+    not (sourceWide (c .psw)) && not (destinationWide (c .psw))
+    && (not (eqb (c .fields .synchronised) 3) && not (c .fields .translates))
+    && (eqb (c .fields .matchEnd % 4) 0 && not (c .fields .singleTransfer))
+    && (not (c .ga .tag) && not (c .gb .tag))
+
+-- such a channel, of which the next step does not end the transfer; and whether another such step follows in the row
+unfoldable pub isPlain : Channel → Bool
+isPlain c = movesBytes c && not (countsOut c (c .bc))
+
+abbrev pub plainOn : Channel → Channel → Bool
+plainOn c after = isPlain after
+
 -- an instruction, and whether another follows
 abbrev pub executes : ℕ → Channel → Buffers → Own
 executes busy c m = let e = executeOf c busy m in own (e .number) (e .channel) (e .memory)
@@ -62,48 +98,35 @@ executes busy c m = let e = executeOf c busy m in own (e .number) (e .channel) (
 abbrev pub executesOn : Channel → Channel → Bool
 executesOn c after = isRunning (after .mode) && not (transferring (after .psw))
 
--- where a burst stops at the latest: after one step where the other channel runs too, else at the limit
-unfoldable pub untilOf : Mode → ℕ → ℕ → ℕ
-untilOf other done limit = pick (isRunning other) (done + 1) limit
+-- the step of a channel that alone may run, with BUSY at its place: its external end; 1 where it has no rank; a transfer step with XF, else an instruction
+unfoldable pub aloneStep : ℕ → ℕ → Bool → Channel → Buffers → Own
+aloneStep busy lines second c m =
+    pick (endsNow c (external lines second)) (own 0 (externallyEnded c) m)
+    (pick (eqb (rankOf c (requested lines second)) noRank) (own 1 c m)
+    (pick (transferring (c .psw)) (moves c m) (executes busy c m)))
 
--- what the channels of a state share and no step changes
-abbrev pub sharedOf : State → Shared
-sharedOf s = record { cp = s .cp; board = s .board }
+-- any done step is followed by another
+abbrev pub always : Channel → Channel → Bool
+always c after = true
 
--- the same where it does not matter
-abbrev pub nothingShared : Shared
-nothingShared = record { cp = 0; board = boardWith false false false false }
+-- such steps, one after another, until one is refused or none is left
+abbrev pub aloneFrom : ℕ → ℕ → Bool → ℕ → Channel → Buffers → ℕ → BurstLeft
+aloneFrom busy lines second = burstFrom (aloneStep busy lines second) always
 
--- the state of the two channels at hand
-unfoldable pub stateOf : Pair → Shared → State
-stateOf p shared =
-    record {
-      first = pick (p .second) (p .other) (p .mine);
-      second = pick (p .second) (p .mine) (p .other);
-      cp = shared .cp;
-      last = p .last;
-      board = shared .board;
-    }
+-- what they leave of a run: the channel is of no more use
+abbrev pub ranBy : BurstLeft → Run
+ranBy l = ran (l .number) (l .steps) (l .memory)
 
--- the two channels of a state, with that of a name at hand
-unfoldable pub handsOf : State → Bool → Pair
-handsOf s second = record { mine = channelOf s second; other = channelOf s (not second); second = second; last = s .last }
+-- a run of a channel that alone may run
+unfoldable pub aloneRun : ℕ → ℕ → Bool → ℕ → Channel → Buffers → Run
+aloneRun busy lines second limit c m = ranBy (aloneFrom busy lines second limit c m 0)
 
--- the two after a done step of the one at hand
-abbrev pub pairAfter : Pair → Channel → Pair
-pairAfter p c = record { mine = c; other = p .other; second = p .second; last = p .second }
-
-abbrev pub roundAfter : ℕ → ℕ → Pair → Round
-roundAfter number steps p = record { number = number; steps = steps; pair = p }
-
--- the rest of a run after a round: what stopped it, or the steps that are left
-unfoldable pub restOf : Round → Shared → Buffers → ℕ → ℕ → Run
-restOf r shared m lines limit =
-    pick (eqb (r .number) 0) (stepsFrom (limit - r .steps) (stateOf (r .pair) shared) m lines (r .steps)) (ran (r .number) (r .steps) m)
+-- the rest of such a run after a round: what stopped it, or the steps that are left
+unfoldable pub restOf : BurstLeft → ℕ → ℕ → Bool → ℕ → Run
+restOf l busy lines second limit = pick (eqb (l .number) 0) (ranBy (aloneFrom busy lines second (limit - l .steps) (l .channel) (l .memory) (l .steps))) (ranBy l)
 
 -- what a round is to a run of `limit` steps of which `done` are done: what is left after it is what was left before it, and it is a step on
-pub record Rounded (r : Round) (s : State) (m m′ : Buffers) (lines limit done : ℕ) : Type 0 where
-  pub rest : restOf r (sharedOf s) m′ lines limit ≡ stepsFrom (limit - done) s m lines done
+pub record Rounded (r : Burst) (busy lines : ℕ) (second : Bool) (c : Channel) (m m′ : Buffers) (limit done : ℕ) : Type 0 where
+  pub rest : restOf (burst (r .number) (r .steps) (r .channel) m′) busy lines second limit ≡ ranBy (aloneFrom busy lines second (limit - done) c m done)
   pub further : r .number ≡ 0 → done < r .steps
   pub most : r .steps ≤ limit
-  pub ready : r .number ≡ 0 → entryNumber (stateOf (r .pair) (sharedOf s)) m′ lines ≡ 0

@@ -1,78 +1,55 @@
 // The run of a channel's program in two lent buffers.
-use ground_rules::Made;
-use ground_rules::State;
 use run_rules::Ran;
+ghost use mathlib.Core.Bool.{true};
 ghost use mathlib.Core.Path.{_≡_};
+ghost use Prim.Native.Nat.{_<_};
 ghost use Rattle.ground_rules.specs.Buffers.{lent};
-ghost use Rattle.run_rules.specs.Run.{ran, stepsFrom, attendedRun, startedRun, callNumber, runOf};
+ghost use Rattle.ground_rules.specs.Choice.{pick};
+ghost use Rattle.ground_rules.specs.Sums.{sum20};
+ghost use Rattle.ground_rules.specs.States.{blankState};
+ghost use Rattle.ground_rules.specs.declared.Board.{Board};
+ghost use Rattle.run_rules.specs.Run.{ran, attendedRun, callNumber, runOf};
 ghost use Rattle.attention_rules.specs.Attention.{attentionOf};
 
 // Steps of one channel in a row.
 mod bursts;
+// Whole transfer steps in a row.
+mod rows;
 // The run that reset and power-up begin.
 pub mod boards;
 
-// Steps until a number other than 0 or the limit, of at most 65,535; what they are given is tested once.
-fn steps(s: State, sys: &mut [u8], io: &mut [u8], lines: u32, limit: u16) -> Ran
-    ensures { λ r. ⌜ ran (r .number) (r .steps) (lent (sys .exit) (io .exit)) ≡ stepsFrom limit s (lent (sys .entry) (io .entry)) lines 0 ⌝ }
+// Where the control block of a channel begins.
+fn block(cp: u32, second: bool) -> u32
+    ensures { λ r. ⌜ r ≡ pick second (sum20 cp 8) cp ⌝ }
 {
-    if limit == 0 {
-        return Ran {
-            number: 0,
-            steps: 0,
-        };
-    }
-    let number = step::entry_number(s, lines, sys, io);
-    if number != 0 {
-        return Ran { number, steps: 0 };
-    }
-    let mine = s.first;
-    let other = s.second;
-    let pair = bursts::Pair {
-        mine,
-        other,
-        second: false,
-        last: s.last,
-    };
-    let board = s.board;
-    let shared = bursts::Shared { cp: s.cp, board };
-    bursts::rounds(pair, shared, sys, io, lines, limit)
+    if second { words::sum20(cp, 8) } else { cp }
 }
 
-// One attention, and the steps after it where it is accepted.
-fn attend(s: State, sys: &mut [u8], io: &mut [u8], channel: u32, lines: u32, limit: u16) -> Ran
-    ensures { λ r. ⌜ ran (r .number) (r .steps) (lent (sys .exit) (io .exit)) ≡ attendedRun (attentionOf s (lent (sys .entry) (io .entry)) channel) lines limit ⌝ }
-{
-    let a = attention::attention(s, sys, io, channel);
-    if a.number != 0 {
-        return Ran {
-            number: a.number,
-            steps: 0,
-        };
-    }
-    let state = a.state;
-    steps(state, sys, io, lines, limit)
-}
-
-// A run from a state that was made, or the number by which none was.
-pub fn start(
-    fresh: Made,
+// One attention to a channel of a blank state with that CP, and its steps where it is accepted; the other stays idle.
+pub(crate) fn start(
     sys: &mut [u8],
     io: &mut [u8],
+    cp: u32,
     channel: u32,
     lines: u32,
     limit: u16,
 ) -> Ran
-    ensures { λ r. ⌜ ran (r .number) (r .steps) (lent (sys .exit) (io .exit)) ≡ startedRun fresh (lent (sys .entry) (io .entry)) channel lines limit ⌝ }
+    requires { ⌜ (cp < 1048576) × (callNumber (lent sys io) channel lines limit ≡ 0) ⌝ }
+    ensures { λ r. ⌜ ((set : Board) → set .powered ≡ true → ran (r .number) (r .steps) (lent (sys .exit) (io .exit)) ≡ attendedRun (attentionOf (blankState cp set) (lent (sys .entry) (io .entry)) channel) lines limit) ⌝ }
 {
-    if fresh.number != 0 {
+    let second = machine::states::is_second(channel);
+    let block = block(cp, second);
+    let e = attention::planned(sys, io, block, machine::states::idle());
+    let writes = e.writes;
+    attention::effects::write(sys, io, writes);
+    if e.number != 0 {
         return Ran {
-            number: fresh.number,
+            number: e.number,
             steps: 0,
         };
     }
-    let state = fresh.state;
-    attend(state, sys, io, channel, lines, limit)
+    let c = e.channel;
+    bursts::rounds(c, second, words::sum20(block, 1), sys, io, lines, limit)
 }
 
 // The refusal of what a run is given: 12 for a channel, line number or limit that is none, then 11, else 0.
@@ -98,12 +75,11 @@ pub fn run(sys: &mut [u8], io: &mut [u8], cp: u32, channel: u32, lines: u32, lim
     if number != 0 {
         return Ran { number, steps: 0 };
     }
-    start(
-        machine::states::fresh(cp),
-        sys,
-        io,
-        channel,
-        lines,
-        (limit % 65536) as u16,
-    )
+    if 1048576 <= cp {
+        return Ran {
+            number: 10,
+            steps: 0,
+        };
+    }
+    start(sys, io, cp, channel, lines, (limit % 65536) as u16)
 }

@@ -7,7 +7,7 @@ ghost use Rattle.turn_rules.specs.Choosing as Choosing;
 ghost use Rattle.turn_rules.specs.Choosing.{requested, endsNow, rankOf, secondWins, choiceOf};
 
 // Whether a channel's DRQ is up.
-fn request(lines: u32, second: bool) -> bool
+pub fn request(lines: u32, second: bool) -> bool
     ensures { λ r. ⌜ r ≡ requested lines second ⌝ }
 {
     if second {
@@ -18,7 +18,7 @@ fn request(lines: u32, second: bool) -> bool
 }
 
 // Whether a channel's EXT is up.
-fn external(lines: u32, second: bool) -> bool
+pub fn external(lines: u32, second: bool) -> bool
     ensures { λ r. ⌜ r ≡ Choosing.external lines second ⌝ }
 {
     if second {
@@ -29,7 +29,7 @@ fn external(lines: u32, second: bool) -> bool
 }
 
 // Whether a channel's transfer ends by its EXT.
-fn ends_now(c: Channel, ext: bool) -> bool
+pub fn ends_now(c: Channel, ext: bool) -> bool
     ensures { λ r. ⌜ r ≡ endsNow c ext ⌝ }
 {
     let mode = c.mode;
@@ -48,7 +48,7 @@ fn transfer_rank(syn: u8, drq: bool) -> u32
 }
 
 // The rank of a channel; 4 where it cannot step.
-fn rank(c: Channel, drq: bool) -> u32
+pub fn rank(c: Channel, drq: bool) -> u32
     ensures { λ r. ⌜ r ≡ rankOf c drq ⌝ }
 {
     let mode = c.mode;

@@ -1,57 +1,72 @@
--- `panel::bursts/turn` meets its contract.
+-- `panel::bursts::turn` meets its contract.
 -- Assumes nothing.
 use borrow.Author.Needs.{needs}
+use borrow.Author.Tests.{ne-eqb}
 use denote.Ref.{now}
 use mathlib.Core.Path.{sym, ap, _∙_}
 use native.Mathlib.Omega.{arith}
-use Rattle.ground_rules.specs.declared.State.{State}
 use Rattle.ground_rules.specs.Buffers.{buffers}
-use Rattle.turn_rules.specs.Choosing.{choiceOf}
-use Rattle.turn_rules.specs.Step.{entryNumber}
-use Rattle.turn_rules.specs.declared.Choice.the-variants.{Steps}
-use Rattle.panel.proofs.RoundLaws.{turned-is, turned-named, turned-round, nobody-round, external-turn}
+use Rattle.turn_rules.specs.Choosing.{requested, endsNow, rankOf}
+use Rattle.panel.proofs.AloneLaws.{plain-round, transfers-round, instructions-round, external-round, nobody-round}
 use Rattle.panel.proofs.bursts.turn.Statement.{statement}
 use Rattle.panel.proofs.bursts.turn.Tie as tie
 
-add-t15 : tie.Need-add-t15
-add-t15 c = omega (arith, c .before .before .before .before .before .before .before .before .before .pre .0, c .before .before .before .before .before .before .before .before .before .fits .limit .fits)
-
-own-steps-requires : tie.Need-own-steps-requires
-own-steps-requires c κs =
-    let a = c .before .before .before .before .before .before .before .before .before .before .args in
-    let m = buffers (now (a .sys)) (now (a .io)) in
-    let s = turned-is (a .p) (c .before .before .turned2 .result) (a .shared) (c .before .before .before .before .choice2 .given .0 .0) (c .before .before .turned2 .ensures) in (
-      c .before .before .before .before .before .before .before .before .before .before .pre .0,
-      ap (λ (x : State). entryNumber x m (a .lines)) s ∙ c .before .before .before .before .before .before .before .before .before .before .pre .1,
-      ap (λ (x : State). choiceOf x (a .lines)) s
-          ∙ sym (c .before .before .before .before .before .before .choose .ensures ∙ ap (λ (x : State). choiceOf x (a .lines)) (c .before .before .before .before .before .before .before .state .ensures))
-          ∙ c .before .before .before .before .choice2 .given .1
-          ∙ ap Steps (sym (turned-named (a .p) (c .before .before .turned2 .result) (a .shared) (c .before .before .before .before .choice2 .given .0 .0) (c .before .before .turned2 .ensures))),
-    )
+add-t11 : tie.Need-add-t11
+add-t11 c = omega (arith, c .before .before .before .before .before .pre, c .before .before .before .before .before .fits .limit .fits)
 
 returns : tie.Need-returns
 returns c =
     let a = c .before .before .before .before .before .before .args in
-    let m = buffers (now (a .sys)) (now (a .io)) in
-    nobody-round (a .p) (a .shared) (a .lines) (a .limit) (a .done) m (c .before .before .before .before .before .before .pre .0) (c .before .before .before .before .before .before .pre .1)
-    (sym (c .before .before .choose .ensures ∙ ap (λ (x : State). choiceOf x (a .lines)) (c .before .before .before .state .ensures)) ∙ c .enum-told .given .1)
+    rw (c .external-end .ensures)
+    (external-round (a .busy) (a .lines) (a .second) (a .c) (buffers (now (a .sys)) (now (a .io))) (a .limit) (a .done) (c .before .before .before .before .before .before .pre)
+    (sym (ap (endsNow (a .c)) (c .before .before .before .external .ensures)) ∙ sym (c .before .before .ends-now .ensures) ∙ c .before .if1 .taken))
 
 returns-2 : tie.Need-returns-2
 returns-2 c =
-    let a = c .before .before .before .before .before .before .before .before .before .before .args in
-    let m = buffers (now (a .sys)) (now (a .io)) in
-    external-turn (a .p) (c .before .before .turned .result) (a .shared) (a .lines) (a .limit) (a .done) m (c .before .before .before .before .choice .given .0 .0) (c .before .before .before .before .before .before .before .before .before .before .pre .0) (c .before .before .before .before .before .before .before .before .before .before .pre .1)
-    (sym (c .before .before .before .before .before .before .choose .ensures ∙ ap (λ (x : State). choiceOf x (a .lines)) (c .before .before .before .before .before .before .before .state .ensures)) ∙ c .before .before .before .before .choice .given .1)
-    (c .before .before .turned .ensures) (c .before .external-end .result) (c .before .external-end .ensures) (c .after .result) (c .after .ensures)
+    let a = c .before .before .before .before .before .before .before .before .args in
+    nobody-round (a .busy) (a .lines) (a .second) (a .c) (buffers (now (a .sys)) (now (a .io))) (a .limit) (a .done) (c .before .before .before .before .before .before .before .before .pre)
+    (sym (ap (endsNow (a .c)) (c .before .before .before .before .before .external .ensures)) ∙ sym (c .before .before .before .before .ends-now .ensures) ∙ c .before .before .before .if1 .left)
+    (sym (ap (rankOf (a .c)) (c .before .before .request .ensures)) ∙ sym (c .before .rank .ensures) ∙ c .if2 .taken)
+
+plain-requires : tie.Need-plain-requires
+plain-requires c κs = (omega (arith, c .before .before .before .before .before .before .before .before .before .before .before .before .before .before .pre), sym (c .before .before .before .is-plain .ensures) ∙ c .before .before .if4 .taken)
 
 returns-3 : tie.Need-returns-3
 returns-3 c =
-    let a = c .before .before .before .before .before .before .before .before .before .before .before .before .before .before .before .args in
-    turned-round (a .p) (c .before .before .before .before .before .before .before .turned2 .result) (a .shared) (c .before .before .before .before .before .before .before .before .before .choice2 .given .0 .0) (c .before .before .before .before .before .before .before .turned2 .ensures) (c .before .before .before .before .own-steps .ensures)
+    let a = c .before .before .before .before .before .before .before .before .before .before .before .before .before .before .before .before .before .before .before .args in
+    plain-round (a .busy) (a .lines) (a .second) (a .c) (buffers (now (a .sys)) (now (a .io))) (a .limit) (a .done) (c .before .before .before .before .before .before .before .before .before .before .before .before .before .before .before .before .before .before .before .pre) (
+      sym (ap (endsNow (a .c)) (c .before .before .before .before .before .before .before .before .before .before .before .before .before .before .before .before .external .ensures)) ∙ sym (c .before .before .before .before .before .before .before .before .before .before .before .before .before .before .before .ends-now .ensures) ∙ c .before .before .before .before .before .before .before .before .before .before .before .before .before .before .if1 .left,
+      ne-eqb (rankOf (a .c) (requested (a .lines) (a .second))) 4 (λ z. c .before .before .before .before .before .before .before .before .before .before .before .if2 .left (c .before .before .before .before .before .before .before .before .before .before .before .before .rank .ensures ∙ ap (rankOf (a .c)) (c .before .before .before .before .before .before .before .before .before .before .before .before .before .request .ensures) ∙ z)),
+      sym (c .before .before .before .before .before .before .before .before .before .before .transferring .ensures) ∙ c .before .before .before .before .before .before .before .before .before .if3 .taken,
+    ) (sym (c .before .before .before .before .before .before .before .before .is-plain .ensures) ∙ c .before .before .before .before .before .before .before .if4 .taken) (c .before .before .before .before .plain .result) _ (c .before .before .before .before .plain .ensures)
+
+transfers-requires : tie.Need-transfers-requires
+transfers-requires c κs = c .before .before .before .before .before .before .before .before .before .before .before .before .before .before .pre
+
+returns-4 : tie.Need-returns-4
+returns-4 c =
+    let a = c .before .before .before .before .before .before .before .before .before .before .before .before .before .before .before .before .before .before .before .args in
+    transfers-round (a .busy) (a .lines) (a .second) (a .c) (buffers (now (a .sys)) (now (a .io))) (a .limit) (a .done) (c .before .before .before .before .before .before .before .before .before .before .before .before .before .before .before .before .before .before .before .pre) (
+      sym (ap (endsNow (a .c)) (c .before .before .before .before .before .before .before .before .before .before .before .before .before .before .before .before .external .ensures)) ∙ sym (c .before .before .before .before .before .before .before .before .before .before .before .before .before .before .before .ends-now .ensures) ∙ c .before .before .before .before .before .before .before .before .before .before .before .before .before .before .if1 .left,
+      ne-eqb (rankOf (a .c) (requested (a .lines) (a .second))) 4 (λ z. c .before .before .before .before .before .before .before .before .before .before .before .if2 .left (c .before .before .before .before .before .before .before .before .before .before .before .before .rank .ensures ∙ ap (rankOf (a .c)) (c .before .before .before .before .before .before .before .before .before .before .before .before .before .request .ensures) ∙ z)),
+      sym (c .before .before .before .before .before .before .before .before .before .before .transferring .ensures) ∙ c .before .before .before .before .before .before .before .before .before .if3 .taken,
+    ) (c .before .before .before .before .transfers .result) _ (c .before .before .before .before .transfers .ensures)
+
+instructions-requires : tie.Need-instructions-requires
+instructions-requires c κs = omega (arith, c .before .before .before .before .before .before .before .before .before .before .before .before .pre)
+
+returns-5 : tie.Need-returns-5
+returns-5 c =
+    let a = c .before .before .before .before .before .before .before .before .before .before .before .before .before .before .before .before .before .args in
+    instructions-round (a .busy) (a .lines) (a .second) (a .c) (buffers (now (a .sys)) (now (a .io))) (a .limit) (a .done) (c .before .before .before .before .before .before .before .before .before .before .before .before .before .before .before .before .before .pre) (
+      sym (ap (endsNow (a .c)) (c .before .before .before .before .before .before .before .before .before .before .before .before .before .before .external .ensures)) ∙ sym (c .before .before .before .before .before .before .before .before .before .before .before .before .before .ends-now .ensures) ∙ c .before .before .before .before .before .before .before .before .before .before .before .before .if1 .left,
+      ne-eqb (rankOf (a .c) (requested (a .lines) (a .second))) 4 (λ z. c .before .before .before .before .before .before .before .before .before .if2 .left (c .before .before .before .before .before .before .before .before .before .before .rank .ensures ∙ ap (rankOf (a .c)) (c .before .before .before .before .before .before .before .before .before .before .before .request .ensures) ∙ z)),
+      sym (c .before .before .before .before .before .before .before .before .transferring .ensures) ∙ c .before .before .before .before .before .before .before .if3 .left,
+    ) (c .before .before .before .before .instructions .result) _ (c .before .before .before .before .instructions .ensures)
 
 pub turn-spec : {M : Type 1} → statement M
 turn-spec =
     tie.close
-    (tie.spec (λ c κs. search needs) (λ c κs. search needs) (λ c. search needs) (λ c. search needs) (λ c κs. search needs) (λ c κs. search needs)
-    add-t15 (λ c κs. search needs) (λ c. search needs) (λ c κs. search needs) own-steps-requires returns returns-2 (λ c. search needs)
-    (λ c. search needs) returns-3)
+    (tie.spec (λ c κs. search needs) (λ c κs. search needs) add-t11 (λ c κs. search needs) returns (λ c κs. search needs) (λ c κs. search needs) returns-2
+    (λ c κs. search needs) (λ c κs. search needs) plain-requires (λ c. search needs) (λ c. search needs) returns-3 transfers-requires (λ c. search needs)
+    (λ c. search needs) returns-4 instructions-requires (λ c. search needs) (λ c. search needs) returns-5)
