@@ -13,7 +13,7 @@ Declared = collections.namedtuple("Declared", "crate folder module name public k
 
 SIGNATURE = re.compile(r"((?:(?:unfoldable|abbrev|partial) )*)(pub )?([^\s(){}:]+)(?: \{[^}]*\})? :\s")
 TYPE = re.compile(r"(pub )?(record|data) (\S+)")
-IMPORT = re.compile(r"use Rattle·(\w+)(?:·\w+)?\.(specs|proofs)\.(\w+)(?:\.\{([^}]*)\}| as (\S+))")
+IMPORT = re.compile(r"use Rattle·(\w+)(?:·\w+)?\.(specs|proofs)\.(?:(\w+)(?:\.\{([^}]*)\}| as (\S+))|\{([^}]*)\})")
 WORD = re.compile(r"[^\s(){};,λ⌜⌝]+")
 
 
@@ -50,10 +50,11 @@ def declared(crate, folder, path):
         head = piece.lstrip()
         taken, kind, sign = IMPORT.match(head), TYPE.match(head), SIGNATURE.match(head)
         if taken:
-            other, part, file, listed, alias = taken.groups()
-            for name in (listed or "").split(","):
+            other, part, file, listed, alias, together = taken.groups()
+            for name in (listed or together or "").split(","):
                 old, _, new = name.strip().partition(" as ")
-                names[new or old] = (other, part, file, old)
+                place = old.rsplit(".", 1) if together else [file, old]
+                names[new or place[-1]] = (other, part, place[0], place[-1])
             if alias:
                 names[alias + "."] = (other, part, file, "")
         elif head.startswith("module "):
