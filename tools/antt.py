@@ -62,7 +62,8 @@ def declared(crate, folder, path):
             for place, inner in pieces(piece[inside:], 2, at + inside):
                 read(place, inner, around + piece[:inside])
         elif kind or sign:
-            public, what, name = kind.groups() if kind else (sign.group(2), "definition" if sign.group(1) else "theorem", sign.group(3))
+            public, what, name = kind.groups() if kind else sign.group(2, 1, 3)
+            what = what if kind else "definition" if what else "theorem"
             found.append(Declared(crate, folder, path.stem, name, bool(public), what, around + piece, [(at, piece)],
                                   text.count("\n", 0, at) + 1))
         elif found and head.split(None, 1)[0] == found[-1].name:

@@ -1,9 +1,10 @@
 """Makes wrong definitions out of right ones: every small change of a definition's right-hand sides, by kind.
 
 Kinds: a number by one; a character of a text dropped; a comparison turned, or its equals given or taken; && for || and
-true for false; a test dropped; branches exchanged or one left out; clauses exchanged; two arguments exchanged; a variable, field,
-constructor or definition for another of its type; what a definition is put on in its place; a list's element dropped or
-exchanged with the next; an operator for another. Types are known by their words alone: some changes do not typecheck."""
+true for false; a test dropped; branches exchanged or one left out; clauses exchanged; two arguments exchanged; a
+variable, field, constructor or definition for another of its type; what a definition is put on in its place; a list's
+element dropped or exchanged with the next; an operator for another. Types are known by their words alone: some changes
+do not typecheck."""
 import collections
 import re
 
@@ -37,7 +38,7 @@ class Types:
     """What the crates declare: the types of definitions, fields by record, constructors by enumeration."""
 
     def __init__(self, crates):
-        self.of = {"eqb": ["ℕ", "ℕ", "Bool"], "ltb": ["ℕ", "ℕ", "Bool"], "leb": ["ℕ", "ℕ", "Bool"], "not": ["Bool", "Bool"]}
+        self.of = {**dict.fromkeys(["eqb", "ltb", "leb"], ["ℕ", "ℕ", "Bool"]), "not": ["Bool", "Bool"]}
         self.fields, self.made = collections.defaultdict(set), collections.defaultdict(set)
         for crate in crates:
             for path in (antt.CRATES / crate / "specs").glob("*.antt"):
@@ -138,7 +139,8 @@ def by_token(clause, i, scope, types, alike):
     if word in OPERATORS and (OPERATORS[word] in scope or "_" + OPERATORS[word] + "_" in scope):
         yield one("operator", OPERATORS[word])
     if word == "%" and i and clause.after(i + 1):
-        yield Change("operator", clause.at + clause.tokens[i - 1][2], clause.at + clause.tokens[clause.after(i + 1) - 1][2], "")
+        last = clause.tokens[clause.after(i + 1) - 1]
+        yield Change("operator", clause.at + clause.tokens[i - 1][2], clause.at + last[2], "")
     if word.startswith("."):
         yield from (one("field", "." + other) for other in sorted(types.fields.get(word[1:], ())))
         return
@@ -220,7 +222,8 @@ def changes(definition, text, scope, types):
         alike = variables(clause, types.of.get(definition.name, [])[:-1])
         for i in range(len(clause.tokens)):
             found += by_token(clause, i, scope, types, alike)
-        for low, high in [(-1, len(clause.tokens))] + [p for p in clause.pair.items() if p[0] < p[1] and clause.tokens[p[0]][0] == "("]:
+        inner = [(i, j) for i, j in clause.pair.items() if i < j and clause.tokens[i][0] == "("]
+        for low, high in [(-1, len(clause.tokens))] + inner:
             found += by_chain(clause, low + 1, high)
     for one, other in zip(clauses, clauses[1:]):
         right, wrong = one.text[one.begin:], other.text[other.begin:]
