@@ -1,14 +1,17 @@
 -- What `make` lends, and where the file behind `prom` ends, in the text of docs/SCRIPT.md.
 -- Assumes nothing.
+use mathlib.Core.Bool.{Bool, true, false}
 use mathlib.Core.List.{List, [], _∷_, _++_, map}
 use mathlib.Core.Path.{_≡_, refl}
-use Prim.Native.Nat.{ℕ}
-use Prim.Native.String.{String}
-use lib.ListN.{replicate}
+use Prim.Native.Nat.{ℕ, _-_, _≤_}
+use native.Mathlib.Omega.{arith}
+use borrow.Author.Tests.{ltb-true}
+use lib.Dec.{eqb, ltb}
+use lib.ListN.{length, getD, replicate}
+use Rattle.ground_rules.specs.Choice.{pick}
 use Rattle.script_text.specs.Text.{untilSame}
 use Rattle.script_text.specs.declared.text.Call.{Call}
 use Rattle.script_text.specs.declared.text.Call.the-variants.{Nothing, Unknown, Make, Put, Set, Attention, Step, Dump, Show, Listing, Load, Reset, PowerUp, Sweep}
-use mathlib.Core.Bool.{true, false}
 use Rattle.script.specs.Lent.{lentAfter}
 use Rattle.script.specs.Lines.{contentEnd, closesFile, fileFrom, fileEnd}
 use Rattle.script.specs.declared.Lent.{Lent}
@@ -33,3 +36,14 @@ pub file-ends :
     ≡ 3 ∷ 3 ∷ 3 ∷ 1 ∷ 8 ∷ 6 ∷ 5 ∷ 4 ∷ 4 ∷ 4 ∷ 3 ∷ 1 ∷ []
 unfolding fileEnd fileFrom closesFile contentEnd untilSame
 file-ends = refl
+
+-- the characters of a line end not before it begins, and not past its line feed
+pub content-inside : (text : List ℕ) (at end : ℕ) → at ≤ end → (at ≤ contentEnd text at end) × (contentEnd text at end ≤ end)
+unfolding contentEnd
+content-inside text at end h = go (ltb at end) (ltb end (length text)) (eqb (getD text (end - 1) 0) 13) refl
+  where
+    go : (a b c : Bool) → ltb at end ≡ a → (at ≤ pick a (pick b (pick c (end - 1) end) end) end) × (pick a (pick b (pick c (end - 1) end) end) end ≤ end)
+    go true true true e = (omega (arith, ltb-true at end e), omega arith)
+    go true true false e = (h, omega arith)
+    go true false c e = (h, omega arith)
+    go false b c e = (h, omega arith)
