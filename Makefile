@@ -14,6 +14,8 @@ PARTS ?= 2000
 ASM_TEXTS ?= 50000
 CALLS ?= 40000
 IMAGES ?= 300
+N ?= 30
+FROM ?= 1
 PREFIX ?= /usr/local
 DESTDIR ?=
 BUILD ?= build
@@ -35,6 +37,8 @@ override PARTS := $(value PARTS)
 override ASM_TEXTS := $(value ASM_TEXTS)
 override CALLS := $(value CALLS)
 override IMAGES := $(value IMAGES)
+override N := $(value N)
+override FROM := $(value FROM)
 override PREFIX := $(value PREFIX)
 override DESTDIR := $(value DESTDIR)
 override INSTALL := $(value INSTALL)
@@ -59,8 +63,8 @@ TARGET = $(BUILD)/tree/target
 endif
 
 export CALLER BUILD TARGET INSTALL
-export IMAGE FILE DEMO SEED CASES SERVICE_CASES SWEEPS PAUSES SCHEDULES PAIRS TEXTS PARTS ASM_TEXTS CALLS IMAGES PREFIX \
-	DESTDIR
+export IMAGE FILE DEMO SEED CASES SERVICE_CASES SWEEPS PAUSES SCHEDULES PAIRS TEXTS PARTS ASM_TEXTS CALLS IMAGES N FROM \
+	PREFIX DESTDIR
 
 CFLAGS ?= -O2
 STRICT = -std=c11 -Wall -Wextra -Wpedantic -Wconversion -Wsign-conversion
@@ -543,3 +547,22 @@ $(BUILD)/bench-sweep: host/bench_sweep.c host/sweep_case.h include/iop89.h inclu
 # Times a sweep of 65,535 and of 65,536 bytes against memcpy, in nine alternating rounds.
 bench-sweep: x86-machine $(BUILD)/bench-sweep
 	@$(BUILD)/bench-sweep
+
+# ---- Definitions: those that no law reaches, and wrong ones that the laws must refuse
+
+.PHONY: unlawed mutants given-mutants
+
+# Definitions that no law reaches, but for those that tools/unlawed.txt excuses; sources alone are read.
+unlawed:
+	@tools/need python3 python3
+	@tools/unlawed
+
+given-mutants:
+	@tools/given number SEED && tools/given number N && tools/given number FROM
+
+# Makes N wrong definitions by small changes, from the FROM-th of the seed on, and prints what refuses each; those that
+# survive are printed too, but for those of tools/mutants.txt. Polite: one process, of the lowest priority.
+mutants: given-mutants
+	@tools/need rt
+	@tools/need python3 python3
+	@tools/mutants "$$SEED" "$$N" "$$FROM"

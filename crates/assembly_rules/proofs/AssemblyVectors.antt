@@ -2,8 +2,11 @@
 -- Assumes nothing.
 use mathlib.Core.Path.{_≡_, refl}
 use mathlib.Core.Bool.{true, false}
-use mathlib.Core.List.{[], _∷_}
+use mathlib.Core.List.{[], _∷_, map}
+use Prim.Native.Nat.{ℕ, zero, suc}
 use Prim.Native.String.{String}
+use lib.Dec.{ltb}
+use Rattle.ground_rules.specs.Choice.{pick}
 use Rattle.listing_rules.specs.Characters.{ascii, sameText}
 use Rattle.assembly_rules.specs.declared.Worth.{Worth}
 use Rattle.assembly_rules.specs.Text.{capitalOf, isDigit, isCapital, isRun, isBlank, endsLine, inFrontOf, begunBy, tokensOf, cutAt, linesIn}
@@ -52,3 +55,18 @@ forms-told = (refl, refl, refl, refl, refl, refl, refl, refl, refl, refl)
 lines-cut : linesIn (ascii "A\n\nB\n") ≡ ascii "A" ∷ [] ∷ ascii "B" ∷ [] ∷ []
 unfolding linesIn cutAt
 lines-cut = refl
+
+-- the digits by their values
+pub digits-valued : map digitValue (ascii "0123456789ABCDEF") ≡ 0 ∷ 1 ∷ 2 ∷ 3 ∷ 4 ∷ 5 ∷ 6 ∷ 7 ∷ 8 ∷ 9 ∷ 10 ∷ 11 ∷ 12 ∷ 13 ∷ 14 ∷ 15 ∷ []
+unfolding digitValue isDigit
+digits-valued = refl
+
+-- how many bytes below a number have a value
+abbrev valued-below : ℕ → ℕ
+valued-below zero = 0
+valued-below (suc c) = pick (ltb (digitValue c) 16) (suc (valued-below c)) (valued-below c)
+
+-- no other byte has one
+pub no-other-digit : valued-below 256 ≡ 16
+unfolding digitValue isDigit
+no-other-digit = refl

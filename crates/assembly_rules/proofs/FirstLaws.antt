@@ -8,13 +8,14 @@ use Prim.Native.Nat.{ℕ, zero, suc, _+_, _%_, _<_}
 use native.Mathlib.Omega.{arith}
 use native.Mathlib.Nat.{add-zero, add-assoc, zero-add}
 use lib.Dec.{eqb}
-use lib.ListN.{length, getD, take}
+use lib.ListN.{length, getD, take, drop}
+use lib.Seq.{take-append-seam, drop-append-seam}
 use borrow.Author.Tests.{eqb-true, eqb-false, ne-eqb}
 use Rattle.ground_rules.specs.Choice.{pick}
 use Rattle.assembly_rules.specs.Text.{linesIn}
 use Rattle.assembly_rules.specs.Sums.{Label}
 use Rattle.assembly_rules.specs.Statements.{statementSize}
-use Rattle.assembly_rules.specs.Assembly.{Said, saidIn, keptWith, labelsFrom, lineNumber, Assembled, assembled, assembleOf}
+use Rattle.assembly_rules.specs.Assembly.{Said, saidIn, keptWith, labelsFrom, lineNumber, Assembled, assembled, assembleOf, assembledInto}
 use Rattle.assembly_rules.proofs.LabelLaws.{sizesOf, quiet}
 use Rattle.assembly_rules.proofs.PassLaws.{Failed, failed, failedFrom, bytesFrom, said-sized, passed, passes}
 
@@ -156,3 +157,19 @@ text-done text first room =
 pub text-bytes : (text : List ℕ) (first room : ℕ) → assembleOf text first room .number ≡ 0 → assembleOf text first room ≡ assembled 0 0 (bytesFrom (labelsOf text first) first 0 (saidOf text))
 text-bytes text first room h =
     text-passes text first room ∙ ap (λ (y : Failed). passed y (bytesFrom (labelsOf text first) first 0 (saidOf text))) (none-failed (labelsOf text first) first room (saidOf text) [] 1 0 (text-done text first room .0 h))
+
+-- ---- the buffer afterwards
+
+-- the bytes stand in front, and behind them what stood there
+pub into-front : (buffer : List ℕ) (a : Assembled) → (take (length (a .bytes)) (assembledInto buffer a) ≡ a .bytes) × (drop (length (a .bytes)) (assembledInto buffer a) ≡ drop (length (a .bytes)) buffer)
+unfolding assembledInto
+into-front buffer a = (take-append-seam (a .bytes) (drop (length (a .bytes)) buffer), drop-append-seam (a .bytes) (drop (length (a .bytes)) buffer))
+
+-- a text with a number leaves the buffer as it was
+pub into-refused : (buffer text : List ℕ) (first room : ℕ) → (assembleOf text first room .number ≡ 0 → ⊥) → assembledInto buffer (assembleOf text first room) ≡ buffer
+unfolding assembledInto
+into-refused buffer text first room h =
+    let f = failedFrom (labelsOf text first) [] first room 1 0 (saidOf text) in
+    let bytes = bytesFrom (labelsOf text first) first 0 (saidOf text) in
+    let some : f .number ≡ 0 → ⊥ = λ e. h (ap (λ (a : Assembled). a .number) (text-passes text first room) ∙ passed-number f bytes ∙ e) in
+    rw (text-passes text first room, ne-eqb (f .number) 0 some)

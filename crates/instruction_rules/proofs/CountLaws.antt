@@ -197,3 +197,8 @@ module _ (m : Buffers) (c : Channel) (busy : ℕ) where
 
   pub touched-most : executeNumber m c busy ≡ 0 → length (touchedByInstruction m c busy) ≤ 10
   touched-most z = subst (λ (k : ℕ). k ≤ 10) (sym (touched-length z)) (deed-most (decodedAt m (c .tp)))
+
+-- an instruction has its pair and the bytes after it, and what is none has no bytes
+pub length-from : (s : Shape) (c : Channel) → (lengthFrom (Instruction s) ≡ 2 + length (laterFrom (Instruction s) c)) × ((lengthFrom NoInstruction ≡ 0) × (lengthFrom ControlUsed ≡ 0))
+unfolding lengthFrom laterFrom laterBytes
+length-from s c = (omega (arith, span-length ((onward (c .tp) 2) .tag) ((onward (c .tp) 2) .address) (lengthOf s - 2), bounded s .0), (refl, refl))

@@ -23,6 +23,7 @@ use Rattle.ground_rules.proofs.StageLaws.{two-exactly, none-refused}
 use Rattle.ground_rules.specs.Outcomes.{unless, first}
 use Rattle.ground_rules.specs.Stages.{stagesNumber, JudgedElse}
 use Rattle.ground_rules.specs.declared.Channel.{Channel}
+use Rattle.ground_rules.specs.declared.Pointer.{Pointer}
 use Rattle.ground_rules.specs.Buffers.{Buffers, touchableAt}
 use Rattle.ground_rules.proofs.SpanLaws.{all-append}
 use Rattle.ground_rules.specs.Places.{allTouchable}
@@ -31,11 +32,11 @@ use Rattle.instruction_rules.specs.Changes.{placesOf}
 use Rattle.instruction_rules.specs.Control.{nopDeed, sintrDeed, xferDeed, widDeed, hltDeed}
 use Rattle.instruction_rules.specs.JumpForms.{jumpRegisterDeed, jumpMemoryDeed, jumpByteDeed, jumpMaskedDeed, jumpBitDeed, tslDeed, callDeed}
 use Rattle.instruction_rules.specs.MemoryForms.{memoryWorkDeed, memoryRegisterDeed, memoryImmediateDeed, memoryAloneDeed, movpStoreDeed, bitDeed, movOperandDeed, movSecondDeed, secondAt, movMemoryDeed}
-use Rattle.instruction_rules.specs.Operands.{byteHere, bytesAt, effective}
+use Rattle.instruction_rules.specs.Operands.{byteHere, bytesAt, effective, readNumber}
 use Rattle.instruction_rules.specs.Marks.{pastInstruction}
 use Rattle.instruction_rules.specs.RegisterForms.{registerImmediateDeed, registerDeed, registerMemoryDeed, lpdiDeed, lpdDeed, movpLoadDeed}
 use Rattle.ground_rules.proofs.ConditionLaws.{Told, step, last, rewritten, skip, hit, either, end, never, told-true, told-false, told-touchable}
-use Rattle.ground_rules.specs.Conditions.{check, Given}
+use Rattle.ground_rules.specs.Conditions.{Beyond, check, Given}
 use Rattle.instruction_rules.specs.Conditions.{NoCode, ControlTouched, LaterBeyond, NoSecondPair, ReadsBeyond, StoresBeyond, checksFrom, instructionChecks, InstructionGiven4, InstructionGiven3, InstructionGiven2, InstructionGiven0}
 use Rattle.instruction_rules.specs.Execute.{decodedAt, performed, deedOf, laterFrom, deedFrom, stagesFrom, instructionStages, executeNumber, touchedByInstruction, executeOf}
 use Rattle.instruction_rules.proofs.OutcomeLaws.{number-is}
@@ -234,3 +235,8 @@ module _ (m : Buffers) (c : Channel) (busy : ℕ) where
   pub done-touchable : (executeOf c busy m) .number ≡ 0 → allTouchable m (touchedByInstruction m c busy) ≡ true
   unfolding executeNumber touchedByInstruction
   done-touchable z = none-refused m (instructionStages m c busy) (sym (number-is c busy m) ∙ z)
+
+-- bytes that are read have 2 exactly where one of them lies beyond what is lent of system space
+pub read-given : (m : Buffers) (p : Pointer) (n k : ℕ) → (readNumber m p n ≡ k) ↔ Given (check 2 (Beyond m (bytesAt p n)) ∷ []) k
+unfolding readNumber
+read-given m p n k = last k 2 refl (told-touchable m (bytesAt p n))

@@ -1,12 +1,14 @@
 -- The lines of a part one by one.
 -- Assumes nothing.
-use mathlib.Core.Path.{_≡_, refl, ap}
+use mathlib.Core.Path.{_≡_, refl, ap, ap₂, _∙_}
 use mathlib.Core.List.{List, [], _∷_}
 use Prim.Native.Nat.{ℕ, zero, suc, _+_, _-_, _≤_, _<_}
+use native.Mathlib.Nat.{add-assoc}
 use native.Mathlib.Omega.{arith}
 use lib.ListN.{length, drop, length-drop}
+use lib.Seq.{drop-drop}
 use borrow.Author.Tests.{le-leb, lt-leb}
-use Rattle.listing_rules.specs.Items.{itemOf, countOf}
+use Rattle.listing_rules.specs.Items.{itemOf, countOf, behindOf}
 use Rattle.listing_rules.specs.Listings.{TextLine, lineAt, linesBy, linesOf, keptIn}
 use Rattle.listing_rules.proofs.RowLaws.{count-some}
 
@@ -49,3 +51,12 @@ kept-next room line lines h = rw (le-leb (length (line .chars)) room h)
 pub kept-none : (room : ℕ) (line : TextLine) (lines : List TextLine) → room < length (line .chars) → keptIn room (line ∷ lines) ≡ []
 unfolding keptIn
 kept-none room line lines h = rw (lt-leb (length (line .chars)) room h)
+
+-- from a place of the code on: the line of what stands there, and the lines from the place behind it on
+pub lines-behind : (first : ℕ) (code : List ℕ) (at : ℕ) → at < length code
+    → linesOf (first + at) (drop at code) ≡ lineAt (first + at) (drop at code) ∷ linesOf (first + behindOf code at) (drop (behindOf code at) code)
+unfolding behindOf
+lines-behind first code at h =
+    let n = countOf (itemOf (drop at code)) in
+    lines-next (first + at) (drop at code) (λ e. omega (arith, length-drop at code))
+    ∙ ap₂ (λ (a : ℕ) (l : List ℕ). lineAt (first + at) (drop at code) ∷ linesOf a l) (add-assoc first at n) (drop-drop n at code)

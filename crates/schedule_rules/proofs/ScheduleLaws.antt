@@ -1,17 +1,17 @@
 -- The theorems of a schedule: accepted and refused rows add up to the rows given, one cut into two gives the same, 16 is given exactly for a row of no known kind and then nothing is run, what the accepted rows are, what is stored, and how large a count can be.
 -- Assumes nothing.
 use mathlib.Core.Bool.{Bool, true, false, _&&_, _||_}
-use mathlib.Core.{List.List, List.[], List._∷_, List._++_, List.map, Logic._↔_, Path._≡_, Path.refl, Path.sym, Path.ap₂, Path._∙_}
+use mathlib.Core.{List.List, List.[], List._∷_, List._++_, List.map, Logic._↔_, Path._≡_, Path.refl, Path.sym, Path.ap, Path.ap₂, Path._∙_}
 use Prim.Native.Nat.{ℕ, _+_, _*_, _≤_}
 use native.Mathlib.Omega.{arith}
 use borrow.Author.Tests.{eqb-false}
-use lib.{Dec.ltb, ListN.length, ListN.getD, ListN.replicate}
+use lib.{Dec.ltb, ListN.length, ListN.getD, ListN.replicate, ListN.take, ListN.drop}
 use Rattle.ground_rules.proofs.{ConditionLaws.told-exactly, ChoiceLaws.both-left, ChoiceLaws.both-right}
 use Rattle.ground_rules.specs.{States.channelOf, Choice.pick}
 use Rattle.turn_rules.specs.{Choosing.requested, declared.Kind.Kind}
 use Rattle.schedule_rules.specs.Counts.{RowCount, onceIf, overRows, acceptedAt, refusedAt, isAttentionTo, attendedAt, rejectedAt, isInstruction, isTransfer, isExternal, doneAt, instructionAt, transferAt, storedAt, endAt, waitsForDrq, waitAt}
 use Rattle.schedule_rules.specs.Rows.{Bench, isAttention, isStep, allKnown, rowLeft, rowsLeft}
-use Rattle.schedule_rules.specs.Reports.{channelCounts, allCounts, reportOf, bothReports, allRun, noneRun, scheduleOf}
+use Rattle.schedule_rules.specs.Reports.{channelCounts, allCounts, reportOf, bothReports, allRun, noneRun, scheduleOf, putOver}
 use Rattle.schedule_rules.specs.{Conditions.UnknownIn, declared.ScheduleRow.ScheduleRow}
 use Rattle.schedule_rules.proofs.RowLaws.{once-one, accepted-or-refused, attentions-of, accepted-is, told-known, known-cut, left-cut, over-cut}
 use Rattle.schedule_rules.proofs.StoreLaws.{stored-most, stored-two}
@@ -129,3 +129,13 @@ schedule-cut p a b h =
     let one = known-runs p a (both-left (allKnown a) (allKnown b) parts) in
     let two = known-runs (rowsLeft p a) b (both-right (allKnown a) (allKnown b) parts) in
     rw (known-runs p (a ++ b) h, one, two, left-cut p a b, sums-cut allCounts p a b)
+
+-- ---- lent words
+
+-- as many words of a report as have room, and behind them the words that stood there
+pub put-over : (report words : List ℕ) → putOver report words ≡ take (length words) report ++ drop (length report) words
+unfolding putOver
+put-over [] [] = refl
+put-over [] (y ∷ words) = refl
+put-over (x ∷ report) [] = refl
+put-over (x ∷ report) (y ∷ words) = ap (λ (l : List ℕ). x ∷ l) (put-over report words)

@@ -1,1 +1,2 @@
 pub mod FileLaws
+pub mod ScriptLaws

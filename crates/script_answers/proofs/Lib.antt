@@ -1,3 +1,4 @@
 pub mod ListingLaws
 pub mod TextLaws
 pub mod Determined
+pub mod LineLaws

@@ -1,3 +1,4 @@
 pub mod TextLaws
 pub mod TraceLaws
 pub mod Determined
+pub mod Shown
