@@ -414,6 +414,7 @@ $(BUILD)/iop89.bash: $(BUILD)/iop89
 
 # Every command, every exit status, and misuse.
 check-tool: $(BUILD)/iop89
+	@tools/need python3 python3
 	tools/check-tool
 
 # A host that drives both channels, saves the machine and restores it.
