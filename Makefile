@@ -190,8 +190,10 @@ install: given-prefix $(INSTALLED)
 uninstall: given-prefix
 	@tools/install remove $(INSTALLED)
 
-# What was built; the proofs in target/ stay, since they take minutes.
+# What was built; the proofs in target/ stay, since they take minutes. A folder that nothing was built in is left alone.
 clean:
+	@[ "$(BUILD)" = build ] || [ ! -e "$(BUILD)" ] || [ -e "$(BUILD)/flags" ] || [ -e "$(BUILD)/prove.lock" ] || \
+		{ echo "make: BUILD is \"$(BUILD)\": nothing was built there, and it stays" >&2; exit 2; }
 	rm -rf $(BUILD)
 
 # Other compilers or options compile anew: what they are is kept, and what is compiled depends on it.
@@ -418,6 +420,7 @@ $(BUILD)/iop89.bash: $(BUILD)/iop89
 
 # Every command, every exit status, and misuse.
 check-tool: $(BUILD)/iop89
+	@tools/need python3 python3
 	tools/check-tool
 
 # A host that drives both channels, saves the machine and restores it.

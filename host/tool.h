@@ -138,8 +138,8 @@ struct tool_call {
     uint32_t value;
 };
 
-/* A machine that is stepped: its state and memory, that memory as it was given, how many steps were tried and how many were done, the text of each
- * port and how far it was read, and the last call. */
+/* A machine that is stepped: its state and memory, that memory as it was given, how many steps were tried and how many were
+ * done, the text of each port and how far it was read, the last call, what it touched, and where a trace goes. */
 struct tool_machine {
     const struct tool_order *order;
     uint8_t state[IOP89_STATE_LENGTH];

@@ -93,13 +93,14 @@ static void print_fields(const char *whose, struct iop89_cause cause)
 /* Prints the byte that makes a state none. */
 static void print_no_state(const char *whose, struct iop89_cause cause, const uint8_t *state)
 {
+    static const char *const of_channel[] = {"", " of channel 1", " of channel 2"};
     struct emu_state unused;
     enum state_fault fault = state_from_bytes(state, IOP89_STATE_LENGTH, &unused);
     if (cause.at == IOP89_AT_VERSION)
         printf("%sversion %" PRIu32 ", this library has %" PRIu32 "\n", whose, cause.value, cause.most);
     else
-        printf("%sbyte %zu, %s%s%.*u, is %" PRIu32 ", and the most is %" PRIu32 "\n", whose, cause.at, state_fault_name(fault),
-               cause.channel != 0 ? " of channel " : "", cause.channel != 0 ? 1 : 0, cause.channel, cause.value, cause.most);
+        printf("%sbyte %zu, %s%s, is %" PRIu32 ", and the most is %" PRIu32 "\n", whose, cause.at, state_fault_name(fault),
+               of_channel[cause.channel], cause.value, cause.most);
 }
 
 /* Prints the mode in which a channel was for a command that asks for another one. */
@@ -120,8 +121,8 @@ void tool_print_cause(const char *whose, unsigned number, const uint8_t *state, 
     else if (number == IOP89_FIELDS_DISAGREE) print_fields(whose, cause);
     else if (number == IOP89_NO_STATE) print_no_state(whose, cause, state);
     else if (number == IOP89_BAD_ARGUMENT)
-        printf("%s%s is %" PRIu32 "\n", whose, call.kind == TOOL_ATTENTION ? "the channel, 1 or 2," : "the line number, at most 15,",
-               call.value);
+        printf("%s%s, is %" PRIu32 "\n", whose,
+               call.kind == TOOL_ATTENTION ? "the channel, 1 or 2" : "the line number, at most 15", call.value);
     else if (number == IOP89_BAD_BUFFER)
         printf("%ssystem memory has %zu bytes of at most 1048576, I/O memory %zu of at most 65536\n", whose, memory->sys_len,
                memory->io_len);

@@ -76,7 +76,8 @@ static bool differ(struct side *a, struct side *b)
         step(b);
         equal = same(a, b);
         if (!equal) printf("different at step %" PRIu32 "\n", a->machine.tried);
-        if (tool_goes_on(&a->order.of[0], a->number, a->machine.state)) a->number = b->number = equal ? IOP89_DONE : a->number;
+        bool waits = tool_goes_on(&a->order.of[0], a->number, a->machine.state);
+        if (equal && waits) a->number = b->number = IOP89_DONE;
     }
     return !equal;
 }

@@ -1,4 +1,4 @@
-/* The bench tool's listing of what is reached: from the control block through the blocks to the programs of both channels. */
+/* The bench tool's listing of what is reached from the control block: the blocks and programs of both channels. */
 #include "tool.h"
 
 #include <inttypes.h>
@@ -48,7 +48,8 @@ static bool is(const char *line, const char *word)
 /* Whether nothing follows a line: the end, a jump, another value for TP, and what is no instruction. */
 static bool ends(const char *line)
 {
-    static const char *const words[] = {"HLT", "JMP ", "LJMP ", "DB ", "MOVP TP,", "MOV TP,", "MOVI TP,", "LPD TP,", "LPDI TP,"};
+    static const char *const words[] = {"HLT",     "JMP ",     "LJMP ",   "DB ",     "MOVP TP,",
+                                        "MOV TP,", "MOVI TP,", "LPD TP,", "LPDI TP,"};
     for (size_t i = 0; i < sizeof words / sizeof words[0]; i++)
         if (is(line, words[i])) return true;
     return false;
@@ -131,7 +132,8 @@ static bool follow_channel(const struct tool_memory *m, uint32_t cp, unsigned ch
                                            "no command",   "resume", "suspend",    "halt"};
     uint32_t block = (cp + 8 * (channel - 1)) & 0xFFFFFu, command = word_at(m, block) & 7u;
     bool starts = command == 1 || command == 3, in_io = command == 1;
-    printf("channel %u: CCW %02" PRIX32 " at %05" PRIX32 ", %s", channel, word_at(m, block) & 0xFFu, block, commands[command]);
+    printf("channel %u: CCW %02" PRIX32 " at %05" PRIX32 ", %s", channel, word_at(m, block) & 0xFFu, block,
+           commands[command]);
     if (!starts) {
         putchar('\n');
         return false;

@@ -40,14 +40,16 @@ const struct tool_command tool_commands[] = {
     {"asm", TOOL_ASM, "[OPTIONS] FILE",
      "a text in that notation, with labels, data and comments, to an image: written, or listed without -out",
      "iop89 asm examples/f59.asm -at 0x40", tool_asm},
-    {"explain", TOOL_EXPLAIN, "NUMBER", "what a number means, when it is given, and what to look at", "iop89 explain 14", NULL},
+    {"explain", TOOL_EXPLAIN, "NUMBER",
+     "what a number means, when it is given, and what to look at", "iop89 explain 14", NULL},
     {"help", TOOL_HELP, "[COMMAND]", "this text, or that of one command; --help and -h do the same, --version the version",
      "iop89 help step", NULL},
     {NULL, 0, NULL, NULL, NULL, NULL},
 };
 
 const struct tool_option tool_options[] = {
-    {"-at", "N", "system address of the next FILE (0); for asm, before or behind FILE: where the image lies", IMAGES | TOOL_ASM},
+    {"-at", "N", "system address of the next FILE (0); for asm, before or behind FILE: where the image lies",
+     IMAGES | TOOL_ASM},
     {"-even", "FILE", "a PROM with the even bytes, from the address that -at gives or 0", HALVES},
     {"-odd", "FILE", "the PROM with the odd bytes; both may be PROM files or bytes", HALVES},
     {"-over", "", "files may store over each other, the later over the earlier", IMAGES},
@@ -60,7 +62,8 @@ const struct tool_option tool_options[] = {
     {"-board", "", "reset and power-up in its place: the board's bytes at FFFF6h name the control block", IMAGES},
     {"-state", "FILE", "a saved state in its place; attentions only where -channel or -attention asks for them", STEPS},
     {"-channel", "N", "channel that gets attention, 1 or 2 (1); but for run twice: both, in this order", CHANNELS},
-    {"-attention", "N:C[:CCW]", "an attention to channel C before step N, with this CCW stored first", TOOL_STEP | TOOL_COMPARE},
+    {"-attention", "N:C[:CCW]", "an attention to channel C before step N, with this CCW stored first",
+     TOOL_STEP | TOOL_COMPARE},
     {"-lines", "N", "sum of DRQ1 = 1, DRQ2 = 2, EXT1 = 4, EXT2 = 8, held throughout (0)", CHANNELS},
     {"-lines", "N,N..", "in turn, one for each step that is tried; where a channel waits, the next one is tried", STEPS},
     {"-lines", "FILE", "the same from a text; a name that begins with a digit is written ./1", STEPS},
@@ -72,8 +75,9 @@ const struct tool_option tool_options[] = {
     {"-watch", "SPACE ADDR [LENGTH]", "stops behind a step that stored into one of these bytes of sys or io", STEP_DEBUG},
     {"-sweep", "", "a block transfer that can be swept is one call and one line, and counts as its steps", TOOL_STEP},
     {"-no-header", "", "no line with the names of the columns", TOOL_STEP},
-    {"-pair", "N", "a second processor on the same system memory, its control block at N; they step in turn, each line has "
-     "its processor, P1 or P2, and the limit counts both", TOOL_STEP},
+    {"-pair", "N",
+     "a second processor on the same system memory, its control block at N; they step in turn, each line has its "
+     "processor, P1 or P2, and the limit counts both", TOOL_STEP},
     {"-io2", "N", "what -io is, of the second processor", TOOL_STEP},
     {"-io-image2", "FILE", "what -io-image is", TOOL_STEP},
     {"-channel2", "N", "what -channel is", TOOL_STEP},
@@ -123,16 +127,19 @@ static const char *const notes[] = {
     "A line of step: its number, the channel, the kind (I instruction, T transfer step, X external end), bytes read and "
     "stored, TP, and what changed: registers, the byte held, armed or unarmed, and the mode: idle, running or suspended. A "
     "line with - for its kind and waits is a step that was tried while the channel waited for a request.",
-    "schedule's ROWS, one a line: attention CHANNEL, step LINES, or kind K N for any row; a blank line and what follows # are "
-    "left out. It ends with 0 whatever rows were refused, and with 1 for a row of unknown kind.",
-    "asm's FILE has the lines of list, blank ones, and comments behind ;. A line may have a label in front, NAME:, and data in "
-    "the place of an instruction: DB bytes, DW words. Where a number stands a sum may, as TABLE-(5+101B). It is assembled "
-    "whole, or refused at its first bad line: 30 word, 31 operands, 32 parentheses, 33 label, 34 reach, 35 room.",
+    "schedule's ROWS, one a line: attention CHANNEL, step LINES, or kind K N for any row; a blank line and what follows # "
+    "are left out. It ends with 0 whatever rows were refused, and with 1 for a row of unknown kind.",
+    "asm's FILE has the lines of list, blank ones, and comments behind ;. A line may have a label in front, NAME:, and data "
+    "in the place of an instruction: DB bytes, DW words. Where a number stands a sum may, as TABLE-(5+101B). It is "
+    "assembled whole, or refused at its first bad line: 30 word, 31 operands, 32 parentheses, 33 label, 34 reach, 35 room.",
     "Which bytes a step touches, for its line, for ports and for the words of 2, is told by the emulator of host/ that the "
     "library is compared with; every answer is the library's.",
 };
 
-enum { NOTES = sizeof notes / sizeof notes[0], STATUSES = sizeof statuses / sizeof statuses[0], WIDTH = 118, INDENT = 26 };
+enum { NOTES = sizeof notes / sizeof notes[0], STATUSES = sizeof statuses / sizeof statuses[0] };
+
+/* The most characters of a line, and where what an option does begins. */
+enum { WIDTH = 118, INDENT = 26 };
 
 /* Prints words behind an indent, broken between them. */
 static void print_words(FILE *out, const char *words, int indent, int column)

@@ -185,7 +185,8 @@ static bool take_number(struct reader *r, const char *option)
     else if (strcmp(option, "-count") == 0) o->count = length_of(r);
     else if (strcmp(option, "-system") == 0) o->system_length = length_of(r);
     else if (strcmp(option, "-room") == 0) o->room = length_of(r);
-    else if (strcmp(option, "-break") == 0) o->stop[one_more(&o->stops, TOOL_STOPS, "more than 16 breaks")] = number_of(r);
+    else if (strcmp(option, "-break") == 0)
+        o->stop[one_more(&o->stops, TOOL_STOPS, "more than 16 breaks")] = number_of(r);
     else return false;
     return true;
 }
@@ -308,14 +309,16 @@ static void check_order(struct reader *r)
     /* One text has one place, so there -at may stand behind it too. */
     if (r->next.has_at && assembles && order->files > 0) order->file[0].at = r->next.at;
     else if (r->next.has_at) tool_usage("no file behind -at", NULL);
-    if (r->next.form != TOOL_BY_CONTENT) tool_usage(r->next.form == TOOL_RAW ? "no file behind -raw" : "no file behind -hex", NULL);
+    if (r->next.form == TOOL_RAW) tool_usage("no file behind -raw", NULL);
+    if (r->next.form == TOOL_HEX) tool_usage("no file behind -hex", NULL);
     if (order->files == 0) tool_usage("no file", NULL);
     check_halves(order);
     if (order->board && order->has_cp) tool_usage("-board and -cp", NULL);
-    if (order->state != NULL && (order->board || order->has_cp)) tool_usage("-state, which has its own CP, and -board or -cp", NULL);
+    if (order->state != NULL && (order->board || order->has_cp))
+        tool_usage("-state, which has its own CP, and -board or -cp", NULL);
     if (order->second_word != NULL && !order->pair)
         tool_usage("no -pair, and so no second processor for", order->second_word);
-    if (order->sweep && (order->ports > 0 || order->stops > 0 || order->watches > 0 || order->events > 0 || order->has_until))
+    if (order->sweep && (order->ports + order->stops + order->watches + order->events > 0 || order->has_until))
         tool_usage("-sweep goes with none of -port, -watch, -break, -until and -attention", NULL);
 }
 

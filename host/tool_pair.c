@@ -129,7 +129,7 @@ static enum tool_status status_of(const struct pair *p, unsigned number)
 static void refuse_words(const struct tool_order *order)
 {
     if (order->sweep) tool_usage("-pair makes no sweeps", NULL);
-    if (order->ports > 0 || order->stops > 0 || order->watches > 0 || order->events > 0 || order->settings > 0 || order->has_until)
+    if (order->ports + order->stops + order->watches + order->events + order->settings > 0 || order->has_until)
         tool_usage("-pair goes with none of -port, -watch, -break, -until, -set and -attention", NULL);
     if (order->state != NULL || order->save_state != NULL || order->trace_file != NULL || order->diff)
         tool_usage("-pair goes with none of -state, -save-state, -trace and -diff", NULL);

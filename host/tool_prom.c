@@ -68,9 +68,10 @@ static void say_no_record(struct tool_text line, uint32_t number)
 {
     uint8_t last = line.length > 0 ? line.bytes[line.length - 1] : 0;
     if (line.length == 0) fputs(": an empty line; take it away", stderr);
-    else if (line.bytes[0] != ':' && number == 1) fputs(": a title? records begin with a colon; take the line away", stderr);
-    else if (line.bytes[0] != ':') fputs(": records begin with a colon; take the line away", stderr);
-    else if (last == ' ' || last == '\t') fputs(": blanks behind the record; take them away: sed 's/[[:blank:]]*$//'", stderr);
+    else if (line.bytes[0] != ':')
+        fprintf(stderr, ":%s records begin with a colon; take the line away", number == 1 ? " a title?" : "");
+    else if (last == ' ' || last == '\t')
+        fputs(": blanks behind the record; take them away: sed 's/[[:blank:]]*$//'", stderr);
     else fputs(": not as many digits as its length says, or other characters", stderr);
 }
 
@@ -82,8 +83,8 @@ static void say_bad_type(const char *name, struct tool_text line)
     else if (memcmp(type, "05", 2) == 0) what = ", a linear start address";
     fprintf(stderr, ": type %.2s%s", type, what);
     if (what[0] == '\0') return;
-    fprintf(stderr, "; write the file with segmented addresses:\n    srec_cat %s -intel -o %s.seg.hex -intel -address-length=3",
-            name, name);
+    fputs("; write the file with segmented addresses:\n", stderr);
+    fprintf(stderr, "    srec_cat %s -intel -o %s.seg.hex -intel -address-length=3", name, name);
 }
 
 /* Says which number refused a file, in words, at which line, and what to do; nothing is run after it. */

@@ -229,8 +229,9 @@ static unsigned run_rows(const struct tool_order *order, const struct rows *rows
     uint8_t given[IOP89_STATE_LENGTH];
     struct tool_memory again = tool_copy(*m);
     memcpy(given, state, sizeof given);
-    unsigned number = IOP89_ANSWER_NUMBER(iop89_schedule(state, IOP89_STATE_LENGTH, rows->row, rows->count, m->sys, m->sys_len,
-                                                         m->io, m->io_len, report, IOP89_REPORT_LENGTH));
+    iop89_answer answer = iop89_schedule(state, IOP89_STATE_LENGTH, rows->row, rows->count, m->sys, m->sys_len, m->io,
+                                         m->io_len, report, IOP89_REPORT_LENGTH);
+    unsigned number = IOP89_ANSWER_NUMBER(answer);
     for (size_t i = 0; order->trace && number == IOP89_DONE && i < rows->count; i++)
         trace_row(i + 1, rows->row[i], given, &again);
     tool_free(again);

@@ -143,9 +143,9 @@ void tool_print_never(const char *whose, const uint8_t *state, const struct tool
 {
     uint32_t block = (iop89_cp(state) + (channel == 2 ? 8u : 0u)) & 0xFFFFFu;
     unsigned command = block < memory->sys_len ? memory->sys[block] & 7u : 0;
-    if (command == 7) printf("%shalt command: nothing ran (channel %" PRIu32 ", CCW at %05" PRIX32 ")\n", whose, channel, block);
-    else if (command == 0)
-        printf("%snever started: command 000 (nothing more; channel %" PRIu32 ", CCW at %05" PRIX32 ")\n", whose, channel, block);
+    const char *words = command == 7 ? "halt command: nothing ran (" : "never started: command 000 (nothing more; ";
+    if (command == 0 || command == 7)
+        printf("%s%schannel %" PRIu32 ", CCW at %05" PRIX32 ")\n", whose, words, channel, block);
     else printf("%snever started: no channel runs\n", whose);
 }
 

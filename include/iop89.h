@@ -97,9 +97,9 @@ static inline uint32_t iop89_run_steps(iop89_run_answer answer)
  * Beyond io_len I/O space has empty card slots: a byte read there is FFh, and one stored there vanishes.
  * What a run leaves in registers is gone when it ends: the next starts from a fresh state.
  *
- * Behind number 1 a host tells three ends apart. No step was done: nothing was started, since the command of the CCW, the low
- * three bits of the byte at cp (channel 2: cp + 8), was 000, nothing more, or 111, halt. Otherwise the byte behind the CCW
- * is BUSY: 00h says that the channel halted, and FFh that it waits for a request (DRQ), unless the program wrote there
+ * Behind number 1 a host tells three ends apart. No step was done: nothing was started, since the command of the CCW, the
+ * low three bits of the byte at cp (channel 2: cp + 8), was 000, nothing more, or 111, halt. Otherwise the byte behind the
+ * CCW is BUSY: 00h says that the channel halted, and FFh that it waits for a request (DRQ), unless the program wrote there
  * itself. The calls of iop89_service.h leave a state, in which IOP89_MODE says the same.
  *
  * What no proof can see, and the caller must keep: behind sys are sys_len bytes and behind io io_len bytes that may be
