@@ -36,7 +36,7 @@ use Rattle.turn_rules.specs.declared.Kind.{Kind}
 use Rattle.turn_rules.specs.declared.Kind.the-variants.{Transfer, Instruction, External}
 use Rattle.run_rules.specs.Run.{Run, ran, stepsFrom}
 use Rattle.run_rules.proofs.RunLaws.{stops, goes, limits}
-use Rattle.panel.specs.Bursts.{Own, own, BurstLeft, burst, burstFrom, moves, transfersOn, rowOf, countsOut, movesBytes, isPlain, plainOn, executes, executesOn, aloneStep, always, aloneFrom, ranBy, restOf, Rounded}
+use Rattle.panel.specs.Bursts.{Own, own, BurstLeft, burst, burstFrom, moves, transfersOn, rowChannel, countsOut, movesBytes, isPlain, plainOn, executes, executesOn, aloneStep, always, aloneFrom, ranBy, restOf, Rounded}
 use Rattle.panel.specs.declared.bursts.Burst.{Burst}
 use Rattle.panel.proofs.RowLaws.{whole-drops, plain-is, plain-whole, plain-psw, plain-left}
 use Rattle.panel.proofs.BurstLaws.{burst-stops, burst-goes, burst-limit, Phase, Bounds, bounds, joins}
@@ -289,9 +289,9 @@ module _ (busy lines : ℕ) (second : Bool) where
             let w = whole-drops c m f in
             same n h (rw (e, g, xf) (w .0)) (rw (e, g, xf) (w .1)) (rw (e, g, xf) (w .2)) (ℕ-discrete (aloneStep busy lines second c m .number) 0)
 
-    pub transfers-round : Due true c → (r : Burst) (m′ : Buffers) → burst (r .number) (r .steps) (r .channel) m′ ≡ burstFrom moves transfersOn (limit - done) (rowOf c) m done
+    pub transfers-round : Due true c → (r : Burst) (m′ : Buffers) → burst (r .number) (r .steps) (r .channel) m′ ≡ burstFrom moves transfersOn (limit - done) (rowChannel c) m done
         → Rounded r busy lines second c m m′ limit done
-    unfolding transfer-phase rowOf endsNow rankOf
+    unfolding transfer-phase rowChannel endsNow rankOf
     transfers-round d r m′ = go (isHalf c) refl
       where
         go : (x : Bool) → isHalf c ≡ x → burst (r .number) (r .steps) (r .channel) m′ ≡ burstFrom moves transfersOn (limit - done) (pick x c (dropped c)) m done → Rounded r busy lines second c m m′ limit done

@@ -56,8 +56,8 @@ abbrev pub transfersOn : Channel → Channel → Bool
 transfersOn c after = not (isHalf c) && (transferring (after .psw) && not (isHalf after))
 
 -- the channel that a row begins with: a byte that it holds is dropped by its first step, unless a half is due
-unfoldable pub rowOf : Channel → Channel
-rowOf c = pick (isHalf c) c (dropped c)
+unfoldable pub rowChannel : Channel → Channel
+rowChannel c = pick (isHalf c) c (dropped c)
 
 -- where GB stands, or GA
 abbrev pub standsAt : Channel → Bool → ℕ

@@ -8,7 +8,7 @@ ghost use Prim.Native.Nat.{_-_, _<_, _≤_};
 ghost use Rattle.ground_rules.specs.Buffers.{lent};
 ghost use Rattle.transfer_rules.specs.Parts.{isHalf};
 ghost use Rattle.run_rules.specs.Run.{ran};
-ghost use Rattle.panel.specs.Bursts.{burst, burstFrom, moves, transfersOn, rowOf, executes, executesOn, aloneRun, Rounded};
+ghost use Rattle.panel.specs.Bursts.{burst, burstFrom, moves, transfersOn, rowChannel, executes, executesOn, aloneRun, Rounded};
 
 // How steps of one channel in a row ended: the number that stopped them, the steps of the run done by then, and the channel.
 pub(crate) struct Burst {
@@ -41,7 +41,7 @@ fn half_row(c: Channel, sys: &mut [u8], io: &mut [u8], from: u16, stop: u16) -> 
 // Transfer steps of a channel until its transfer ends, a half of a pair is due, one is refused, or none is left.
 fn transfers(c: Channel, sys: &mut [u8], io: &mut [u8], from: u16, stop: u16) -> Burst
     requires { ⌜ from < stop ⌝ }
-    ensures { λ r. ⌜ burst (r .number) (r .steps) (r .channel) (lent (sys .exit) (io .exit)) ≡ burstFrom moves transfersOn (stop - from) (rowOf c) (lent (sys .entry) (io .entry)) from ⌝ }
+    ensures { λ r. ⌜ burst (r .number) (r .steps) (r .channel) (lent (sys .exit) (io .exit)) ≡ burstFrom moves transfersOn (stop - from) (rowChannel c) (lent (sys .entry) (io .entry)) from ⌝ }
 {
     if transfer::is_half(c) {
         return half_row(c, sys, io, from, stop);
