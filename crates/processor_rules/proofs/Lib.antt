@@ -1,2 +1,3 @@
 pub mod LiftLaws
 pub mod SixLaws
+pub mod AnswerLaws
