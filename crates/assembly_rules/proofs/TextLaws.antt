@@ -2,13 +2,13 @@
 -- Assumes nothing.
 use mathlib.Core.Path.{_≡_, refl, sym, ap, _∙_}
 use mathlib.Core.Bool.{Bool, true, false, _&&_, _||_, false≢true}
-use mathlib.Core.List.{List, [], _∷_}
+use mathlib.Core.List.{List, [], _∷_, _++_}
 use Prim.Native.Nat.{ℕ, _-_, _≤_}
 use native.Mathlib.Omega.{arith}
 use lib.Dec.{eqb, leb}
 use borrow.Author.Tests.{eqb-true, leb-true, le-leb, lt-leb}
 use Rattle.ground_rules.specs.Choice.{pick}
-use Rattle.assembly_rules.specs.Text.{capitalOf, capitals, isDigit, isCapital, isRun, isBlank, endsLine, Begun, begun, allOf, inFrontOf, begunBy, tokensOf, leadingRun}
+use Rattle.assembly_rules.specs.Text.{capitalOf, capitals, isDigit, isCapital, isRun, isBlank, endsLine, Begun, begun, allOf, inFrontOf, begunBy, tokensOf, leadingRun, Token, isComma, beforeComma, fromComma}
 use Rattle.assembly_rules.specs.Text.Token.{run, mark}
 
 -- a blank belongs to no run and ends no line
@@ -116,3 +116,22 @@ begun-capitals (c ∷ cs) = front-capital c (begunBy cs) ∙ ap (inFrontOf (capi
 pub same-letters : (a b : List ℕ) → capitals a ≡ capitals b → tokensOf a ≡ tokensOf b
 unfolding tokensOf
 same-letters a b h = ap allOf (begun-capitals a ∙ ap begunBy h ∙ sym (begun-capitals b))
+
+-- a line feed and a semicolon end the tokens, whatever follows
+pub tokens-ended : (cs : List ℕ) → (tokensOf (10 ∷ cs) ≡ []) × (tokensOf (59 ∷ cs) ≡ [])
+unfolding isRun isDigit isCapital capitalOf endsLine
+tokens-ended cs = (tokens-end 10 cs refl refl, tokens-end 59 cs refl refl)
+
+-- tokens are those before their first comma and those from it on; none stand before one that is a comma
+pub comma-split : (ts : List Token) → beforeComma ts ++ fromComma ts ≡ ts
+unfolding beforeComma fromComma
+comma-split [] = refl
+comma-split (t ∷ ts) = go (isComma t) (comma-split ts)
+  where
+    go : (b : Bool) → beforeComma ts ++ fromComma ts ≡ ts → pick b [] (t ∷ beforeComma ts) ++ pick b (t ∷ ts) (fromComma ts) ≡ t ∷ ts
+    go true e = refl
+    go false e = ap (λ (l : List Token). t ∷ l) e
+
+pub comma-first : (ts : List Token) → beforeComma (mark 44 ∷ ts) ≡ []
+unfolding beforeComma
+comma-first ts = refl

@@ -243,3 +243,8 @@ pub all-fit : (code buffer : List ℕ) (first : ℕ) → length code ≤ listLim
     → listingOf code first buffer ≡ listing (length (allChars (linesOf first code))) (length code) (allChars (linesOf first code) ++ drop (length (allChars (linesOf first code))) buffer)
 unfolding placed
 all-fit code buffer first limit room = same-part code buffer first limit ∙ rw (kept-all (linesOf first code) (length buffer) room, all-listed first code)
+
+-- of a longer part the first 1,048,576 bytes are listed
+pub first-listed : (code buffer : List ℕ) (first : ℕ) → listingOf code first buffer ≡ placed (keptIn (length buffer) (linesOf first (take 1048576 code))) buffer
+unfolding listingOf
+first-listed code buffer first = refl
