@@ -2,7 +2,7 @@
 #ifndef TOOL_H
 #define TOOL_H
 
-#include "emulator.h"
+#include "emulator/emulator.h"
 #include "iop89_service.h"
 
 #include <stdbool.h>
@@ -289,7 +289,7 @@ void tool_print_count(iop89_answer answer);
 void tool_print_shown(const struct tool_order *order, const struct tool_memory *memory);
 void tool_print_range(struct tool_range range, const struct tool_memory *memory);
 
-/* Prints what changed of memory, as host/changes.h shows it. */
+/* Prints what changed of memory, as host/examples/changes.h shows it. */
 void tool_print_diff(const struct tool_memory *before, const struct tool_memory *now);
 
 /* ---- Listings ---- */

@@ -1,7 +1,7 @@
 /* Holds what the header says of a refused call, iop89_cause, to the number that the archive answers and to what another
    reader of states finds: for each byte of a state every value, for each address one over its limit, for each bit of CC. */
 #include "iop89_service.h"
-#include "state_bytes.h"
+#include "emulator/state_bytes.h"
 
 #include <stdio.h>
 #include <string.h>
