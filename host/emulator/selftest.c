@@ -616,6 +616,20 @@ static bool named(unsigned first, unsigned second, const char *name)
     return strcmp(emu_format_name((uint8_t)first, (uint8_t)second), name) == 0;
 }
 
+/* First pairs with the names that they have, of which NULL is behind the last. */
+static void names(const char *const *rows)
+{
+    for (; *rows != NULL; rows++) {
+        char *name;
+        unsigned pair = (unsigned)strtoul(*rows, &name, 16);
+        row = *rows;
+        check(named(pair >> 8, pair & 0xFF, name + 1), "the pair's name", 0);
+    }
+    row = NULL;
+}
+
+#define NAMES(...) names((const char *const[]){__VA_ARGS__, NULL})
+
 /* All 65,536 first pairs. */
 static void test_decoder_counts(void)
 {
@@ -667,51 +681,40 @@ static void test_decoder_by_steps(void)
 /* Pairs that the maker's listings print. */
 static void test_decoder_listings(void)
 {
-    CHECK(named(0x0A, 0x4F, "MOVI M"));
-    CHECK(named(0xB1, 0x30, "MOVI R"));
-    CHECK(named(0x51, 0x30, "MOVI R"));
-    CHECK(named(0xEA, 0xBA, "JNBT"));
-    CHECK(named(0x0A, 0x4E, "MOVI M"));
-    CHECK(named(0x02, 0x93, "MOV M,M"));
-    CHECK(named(0xD1, 0x30, "MOVI R"));
-    CHECK(named(0xA0, 0x00, "WID"));
-    CHECK(named(0x23, 0x8B, "LPD P,M"));
-    CHECK(named(0x60, 0x00, "XFER"));
-    CHECK(named(0x6A, 0xBE, "JBT"));
-    CHECK(named(0xA0, 0x3C, "DEC R"));
-    CHECK(named(0xA8, 0x40, "JNZ R"));
-    CHECK(named(0x40, 0x00, "SINTR"));
-    CHECK(named(0x20, 0x48, "HLT"));
+    NAMES("0A4F MOVI M", "B130 MOVI R", "5130 MOVI R", "EABA JNBT", "0A4E MOVI M", "0293 MOV M,M", "D130 MOVI R",
+          "A000 WID", "238B LPD P,M", "6000 XFER", "6ABE JBT", "A03C DEC R", "A840 JNZ R", "4000 SINTR",
+          "2048 HLT");
 }
 
 /* The readings on instruction codes, name by name. */
 static void test_decoder_readings(void)
 {
-    /* CALL with AA 11 is an instruction, its W is free */
-    CHECK(named(0x8E, 0x9C, "CALL") && named(0x8F, 0x9C, "CALL") && named(0x97, 0x9F, "CALL"));
-    CHECK(named(0x80, 0x9C, "3") && named(0x98, 0x9C, "3") && named(0x08, 0x9C, "3") && named(0xC8, 0x9C, "3"));
-    /* ORI to a register has AA 00 */
-    CHECK(named(0x08, 0x24, "ORI R,I") && named(0x11, 0x24, "ORI R,I"));
-    CHECK(named(0x0A, 0x24, "3") && named(0x0C, 0x24, "3") && named(0x0E, 0x24, "3") && named(0x13, 0x24, "3"));
-    /* JMP's dd agrees with W */
-    CHECK(named(0x88, 0x20, "JMP") && named(0x91, 0x20, "JMP"));
-    CHECK(named(0x90, 0x20, "3") && named(0x89, 0x20, "3") && named(0x98, 0x20, "3") && named(0x80, 0x20, "3"));
-    /* fixed digits count where there is no operand */
-    CHECK(named(0x00, 0x00, "NOP") && named(0x00, 0x01, "3") && named(0x01, 0x00, "3") && named(0x08, 0x00, "3"));
-    CHECK(named(0x20, 0x00, "3") && named(0x02, 0x00, "3") && named(0x41, 0x00, "3") && named(0x60, 0x02, "3"));
-    CHECK(named(0x80, 0x00, "WID") && named(0xC0, 0x00, "WID") && named(0xE0, 0x00, "WID") && named(0xE0, 0x03, "3"));
-    CHECK(named(0x20, 0x49, "3") && named(0x21, 0x48, "3") && named(0x40, 0x48, "3") && named(0x00, 0x48, "3"));
-    CHECK(named(0x11, 0x08, "LPDI P,I") && named(0x11, 0x09, "3") && named(0x10, 0x08, "3") && named(0x09, 0x08, "3"));
-    CHECK(named(0x11, 0x30, "MOVI R") && named(0x11, 0x31, "3") && named(0x08, 0x22, "3") && named(0x08, 0x2B, "3"));
-    /* W is 0 in register forms without it, bit instructions, JMCE, JMCNE, TSL */
-    CHECK(named(0x01, 0x2C, "3") && named(0x01, 0x38, "3") && named(0x01, 0x3C, "3") && named(0x00, 0x2C, "NOT R"));
-    CHECK(named(0x09, 0x40, "3") && named(0x09, 0x44, "3") && named(0x08, 0x40, "JNZ R") && named(0x10, 0x44, "JZ R"));
-    CHECK(named(0x01, 0xF4, "3") && named(0x01, 0xF8, "3") && named(0x00, 0xF4, "SETB") && named(0xE0, 0xF8, "CLR"));
-    CHECK(named(0x09, 0xBC, "3") && named(0x09, 0xB8, "3") && named(0x09, 0xB0, "3") && named(0x09, 0xB4, "3"));
-    CHECK(named(0x19, 0x94, "3") && named(0x18, 0x94, "TSL") && named(0x08, 0x94, "3") && named(0x38, 0x94, "3"));
-    /* W is 1 in LPD, LPDI and MOVP */
-    CHECK(named(0x00, 0x88, "3") && named(0x00, 0x8C, "3") && named(0x00, 0x98, "3"));
-    CHECK(named(0x01, 0x88, "LPD P,M") && named(0x01, 0x8C, "MOVP P,M") && named(0x01, 0x98, "MOVP M,P"));
+    NAMES(
+          /* CALL with AA 11 is an instruction, its W is free */
+          "8E9C CALL", "8F9C CALL", "979F CALL",
+          "809C 3", "989C 3", "089C 3", "C89C 3",
+          /* ORI to a register has AA 00 */
+          "0824 ORI R,I", "1124 ORI R,I",
+          "0A24 3", "0C24 3", "0E24 3", "1324 3",
+          /* JMP's dd agrees with W */
+          "8820 JMP", "9120 JMP",
+          "9020 3", "8920 3", "9820 3", "8020 3",
+          /* fixed digits count where there is no operand */
+          "0000 NOP", "0001 3", "0100 3", "0800 3",
+          "2000 3", "0200 3", "4100 3", "6002 3",
+          "8000 WID", "C000 WID", "E000 WID", "E003 3",
+          "2049 3", "2148 3", "4048 3", "0048 3",
+          "1108 LPDI P,I", "1109 3", "1008 3", "0908 3",
+          "1130 MOVI R", "1131 3", "0822 3", "082B 3",
+          /* W is 0 in register forms without it, bit instructions, JMCE, JMCNE, TSL */
+          "012C 3", "0138 3", "013C 3", "002C NOT R",
+          "0940 3", "0944 3", "0840 JNZ R", "1044 JZ R",
+          "01F4 3", "01F8 3", "00F4 SETB", "E0F8 CLR",
+          "09BC 3", "09B8 3", "09B0 3", "09B4 3",
+          "1994 3", "1894 TSL", "0894 3", "3894 3",
+          /* W is 1 in LPD, LPDI and MOVP */
+          "0088 3", "008C 3", "0098 3",
+          "0188 LPD P,M", "018C MOVP P,M", "0198 MOVP M,P");
     /* PPP 3, 5, 6, 7 is 3, also 6 */
     for (unsigned ppp = 0; ppp < 8; ppp++) {
         bool pointer = ppp == 0 || ppp == 1 || ppp == 2 || ppp == 4;
@@ -720,24 +723,25 @@ static void test_decoder_readings(void)
         CHECK(named(ppp << 5 | 0x01, 0x8C, pointer ? "MOVP P,M" : "3"));
         CHECK(named(ppp << 5 | 0x01, 0x98, pointer ? "MOVP M,P" : "3"));
     }
-    /* opcode 33h as a first pair */
-    CHECK(named(0x00, 0xCC, "3") && named(0x01, 0xCF, "3"));
-    /* uses of CC */
-    CHECK(named(0xC0, 0xA0, "4") && named(0xC1, 0xA4, "4") && named(0xC0, 0xA8, "4") && named(0xC0, 0xAC, "4"));
-    CHECK(named(0xC0, 0xD0, "4") && named(0xC6, 0xD4, "4") && named(0xC0, 0xDB, "4"));
-    CHECK(named(0xC8, 0x20, "4") && named(0xD1, 0x24, "4") && named(0xC8, 0x28, "4"));
-    CHECK(named(0xC0, 0x2C, "4") && named(0xC0, 0x38, "4") && named(0xC0, 0x3C, "4"));
-    CHECK(named(0xC8, 0x40, "4") && named(0xD0, 0x44, "4"));
-    /* no uses of CC */
-    CHECK(named(0xC0, 0x80, "MOV R,M") && named(0xC1, 0x84, "MOV M,R") && named(0xC8, 0x30, "MOVI R"));
-    CHECK(named(0xC0, 0xF4, "SETB") && named(0xC0, 0xF8, "CLR") && named(0xC8, 0xBC, "JBT") && named(0xC8, 0xB8, "JNBT"));
-    /* 3 comes before 4 */
-    CHECK(named(0xC8, 0x3C, "3") && named(0xC1, 0x2C, "3") && named(0xC0, 0x20, "3") && named(0xD0, 0x20, "3"));
-    /* dd where it stands; the fixed 00 of memory forms */
-    CHECK(named(0x00, 0xE4, "3") && named(0x18, 0xE4, "3") && named(0x10, 0xE4, "JZ M") && named(0x09, 0xE0, "JNZ M"));
-    CHECK(named(0x08, 0x80, "3") && named(0x08, 0xE8, "3") && named(0x10, 0xD0, "3") && named(0x20, 0xEC, "3"));
-    CHECK(named(0x20, 0x90, "3") && named(0x08, 0x90, "3") && named(0x20, 0xDC, "3") && named(0x28, 0x4C, "3"));
-    CHECK(named(0x08, 0x4C, "MOVI M") && named(0x10, 0x4C, "3") && named(0x09, 0xC0, "3") && named(0x11, 0xC4, "ORI M,I"));
+    NAMES(
+          /* opcode 33h as a first pair */
+          "00CC 3", "01CF 3",
+          /* uses of CC */
+          "C0A0 4", "C1A4 4", "C0A8 4", "C0AC 4",
+          "C0D0 4", "C6D4 4", "C0DB 4",
+          "C820 4", "D124 4", "C828 4",
+          "C02C 4", "C038 4", "C03C 4",
+          "C840 4", "D044 4",
+          /* no uses of CC */
+          "C080 MOV R,M", "C184 MOV M,R", "C830 MOVI R",
+          "C0F4 SETB", "C0F8 CLR", "C8BC JBT", "C8B8 JNBT",
+          /* 3 comes before 4 */
+          "C83C 3", "C12C 3", "C020 3", "D020 3",
+          /* dd where it stands; the fixed 00 of memory forms */
+          "00E4 3", "18E4 3", "10E4 JZ M", "09E0 JNZ M",
+          "0880 3", "08E8 3", "10D0 3", "20EC 3",
+          "2090 3", "0890 3", "20DC 3", "284C 3",
+          "084C MOVI M", "104C 3", "09C0 3", "11C4 ORI M,I");
 }
 
 /* ---- The paper's twelve cases ---- */
