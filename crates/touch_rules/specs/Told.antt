@@ -28,6 +28,15 @@ toldStore p = record { place = p; store = true; beyond = false }
 abbrev pub toldBeyond : Told → Told
 toldBeyond t = record { place = t .place; store = t .store; beyond = true }
 
+-- places that are all read, and places that are all stored to
+unfoldable pub toldReads : List Place → List Told
+toldReads [] = []
+toldReads (p ∷ ps) = toldRead p ∷ toldReads ps
+
+unfoldable pub toldStores : List Place → List Told
+toldStores [] = []
+toldStores (p ∷ ps) = toldStore p ∷ toldStores ps
+
 -- of some places so many are read, and those after them stored to
 unfoldable pub toldApart : ℕ → List Place → List Told
 toldApart reads [] = []
