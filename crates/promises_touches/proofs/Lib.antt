@@ -1,0 +1,4 @@
+pub mod Staged
+pub mod Calls
+pub mod Counts
+pub mod Stops
