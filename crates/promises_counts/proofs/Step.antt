@@ -38,7 +38,7 @@ use Rattle.promises_counts.proofs.Transfer.{transfer-traced}
 
 module _ (s : State) (b : Bool) (kind : Kind) where
   -- a channel's own step answers by its number and its channel, whatever the memories are
-  told-by : (k : ℕ) (c : Channel) (m m′ n n′ : Buffers) → stepAnswer (settledStep k s m b c m′ kind) ≡ stepAnswer (settledStep k s n b c n′ kind)
+  pub told-by : (k : ℕ) (c : Channel) (m m′ n n′ : Buffers) → stepAnswer (settledStep k s m b c m′ kind) ≡ stepAnswer (settledStep k s n b c n′ kind)
   unfolding settledStep
   told-by k c m m′ n n′ = go (eqb k 0)
     where
@@ -47,7 +47,7 @@ module _ (s : State) (b : Bool) (kind : Kind) where
       go false = refl
 
   -- and what it leaves
-  left-by : (k : ℕ) (c : Channel) (o o′ : Buffers) → ((k ≡ 0 → ⊥) → o′ ≡ o) → (settledStep k s o b c o′ kind) .memory ≡ o′
+  pub left-by : (k : ℕ) (c : Channel) (o o′ : Buffers) → ((k ≡ 0 → ⊥) → o′ ≡ o) → (settledStep k s o b c o′ kind) .memory ≡ o′
   unfolding settledStep
   left-by k c o o′ kept = go (ℕ-discrete k 0)
     where
@@ -84,10 +84,10 @@ none-traced a m =
     }
 
 module _ (s : State) (m : Buffers) where
-  transfer-kept : (b : Bool) (n : Buffers) → ((transferOf (channelOf s b) n) .number ≡ 0 → ⊥) → (transferOf (channelOf s b) n) .memory ≡ n
+  pub transfer-kept : (b : Bool) (n : Buffers) → ((transferOf (channelOf s b) n) .number ≡ 0 → ⊥) → (transferOf (channelOf s b) n) .memory ≡ n
   transfer-kept b n ne = ap (λ (o : Transfer). o .memory) (transfer-refused (channelOf s b) n ne)
 
-  instruction-kept : (b : Bool) (n : Buffers) → ((executeOf (channelOf s b) (busyIn (blockOf s b)) n) .number ≡ 0 → ⊥) → (executeOf (channelOf s b) (busyIn (blockOf s b)) n) .memory ≡ n
+  pub instruction-kept : (b : Bool) (n : Buffers) → ((executeOf (channelOf s b) (busyIn (blockOf s b)) n) .number ≡ 0 → ⊥) → (executeOf (channelOf s b) (busyIn (blockOf s b)) n) .memory ≡ n
   instruction-kept b n ne = ap (λ (o : Executed). o .memory) (instruction-refused (channelOf s b) (busyIn (blockOf s b)) n ne)
 
   -- the turn of a channel, by whether it transfers
@@ -137,7 +137,7 @@ module _ (s : State) (m : Buffers) where
   chosen-traced (Steps b) = turn-traced b (transferring (channelOf s b .psw))
 
   -- what is given is refused alike
-  entry-same : (lines : ℕ) (n : Buffers) → SameLengths m n → entryNumber s n lines ≡ entryNumber s m lines
+  pub entry-same : (lines : ℕ) (n : Buffers) → SameLengths m n → entryNumber s n lines ≡ entryNumber s m lines
   unfolding entryNumber
   entry-same lines n l = ap (first (unless (ltb lines 16) 12)) (given-same m n l s)
 

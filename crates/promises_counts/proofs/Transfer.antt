@@ -65,7 +65,7 @@ module _ (c : Channel) (m n : Buffers) where
     unfolding fetched readPlaces
     fetched-same = h .0
 
-    entry-same : entryOf c n ≡ entryOf c m
+    pub entry-same : entryOf c n ≡ entryOf c m
     unfolding entryOf
     entry-same = ap (sum20 (c .gc .address)) fetched-same
 
@@ -92,7 +92,7 @@ module _ (c : Channel) (m n : Buffers) where
         go true k = k .0
         go false k = refl
 
-    data-same : dataOf c n ≡ dataOf c m
+    pub data-same : dataOf c n ≡ dataOf c m
     unfolding dataOf
     data-same = ap₂ (λ (a b : ℕ). record { first = a; second = b }) delivered-same second-same
 
@@ -106,7 +106,7 @@ module _ (c : Channel) (m n : Buffers) where
         ++ storedPlaces c d) entry-same data-same
 
   -- the two bytes that a step without translation reads
-  two-read : twoMove c ≡ true → c .fields .translates ≡ false → AgreeOn (firstPlace (source c) ∷ secondPlace (source c) ∷ []) m n → AgreeOn (readPlaces c m) m n
+  pub two-read : twoMove c ≡ true → c .fields .translates ≡ false → AgreeOn (firstPlace (source c) ∷ secondPlace (source c) ∷ []) m n → AgreeOn (readPlaces c m) m n
   unfolding readPlaces also
   two-read two plain h = go (twoMove c) (c .fields .translates) two plain
     where

@@ -1,2 +1,3 @@
 pub mod Stops
 pub mod Lengths
+pub mod Words

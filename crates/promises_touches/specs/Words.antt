@@ -1,0 +1,37 @@
+-- What was told is what is done: in every memory with the same bytes at the places told as read, the call answers the same, stores where it was told and nowhere
+-- else, and the same places are told.
+use mathlib.Core.Bool.{Bool}
+use mathlib.Core.List.{List, [], _∷_}
+use mathlib.Core.Path.{_≡_}
+use Prim.Native.Nat.{ℕ}
+use Rattle.ground_rules.specs.Buffers.{Buffers}
+use Rattle.ground_rules.specs.Choice.{pick}
+use Rattle.ground_rules.specs.Places.{Place}
+use Rattle.promises_counts.specs.Complete.{SameLengths, AgreeOn}
+use Rattle.promises_counts.specs.Stores.{Store, storesMade, storePlaces}
+use Rattle.touch_rules.specs.Told.{Told}
+
+-- the places told as read
+unfoldable pub placesRead : List Told → List Place
+placesRead [] = []
+placesRead (t ∷ ts) = pick (t .store) (placesRead ts) (t .place ∷ placesRead ts)
+
+-- those told as stored to
+unfoldable pub placesStored : List Told → List Place
+placesStored [] = []
+placesStored (t ∷ ts) = pick (t .store) (t .place ∷ placesStored ts) (placesStored ts)
+
+-- in memories n a call tells, answers and stores what it does in m
+pub record SameDone {A : Type 0} (told : Buffers → List Told) (answer : Buffers → A) (after : Buffers → Buffers) (m : Buffers) (stores : List Store) (n : Buffers) : Type 0 where
+  pub list : told n ≡ told m
+  pub answered : answer n ≡ answer m
+  pub left : after n ≡ storesMade n stores
+
+-- of a call in memories m: `told` is what is told of it, `number` and `answer` what it answers, `after` the memories that it leaves
+pub record KeepsWord {A : Type 0} (told : Buffers → List Told) (number : Buffers → ℕ) (answer : Buffers → A) (after : Buffers → Buffers) (m : Buffers) : Type 0 where
+  -- its stores in order; those of a done call are at the places told, and a refused one has none
+  pub stores : List Store
+  pub placed : number m ≡ 0 → storePlaces stores ≡ placesStored (told m)
+  pub refused : ¬ (number m ≡ 0) → stores ≡ []
+  -- in all memories of the same lengths, with the same bytes at the places told as read, all is the same
+  pub same : (n : Buffers) → SameLengths m n → AgreeOn (placesRead (told m)) m n → SameDone told answer after m stores n
