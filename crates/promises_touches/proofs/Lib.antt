@@ -6,3 +6,4 @@ pub mod WordLaws
 pub mod Instructions
 pub mod Transfers
 pub mod Steps
+pub mod Attentions
