@@ -7,3 +7,4 @@ pub mod Instructions
 pub mod Transfers
 pub mod Steps
 pub mod Attentions
+pub mod Rounds

@@ -1,3 +1,4 @@
 pub mod Stops
 pub mod Lengths
 pub mod Words
+pub mod Protocol
