@@ -103,7 +103,7 @@ module _ (c : Channel) (busy : ℕ) where
     abbrev Lead : List Stage
     Lead = stage (bytesAt (c .tp) 2) (numberOf d) ∷ stage (laterFrom d c) (done .second) ∷ []
 
-    read-is : placesRead (toldByInstruction m c busy) ≡ readUpTo m Lead (done .reads)
+    pub read-is : placesRead (toldByInstruction m c busy) ≡ readUpTo m Lead (done .reads)
     read-is = read-stages m (done .reads) (placesOf (done .change)) Lead (toldByInstruction m c busy) (instruction-told m c busy)
 
     stored-is : placesStored (toldByInstruction m c busy) ≡ storedUpTo m Lead (placesOf (done .change))

@@ -8,3 +8,5 @@ pub mod Transfers
 pub mod Steps
 pub mod Attentions
 pub mod Rounds
+pub mod DeedReads
+pub mod Protocol

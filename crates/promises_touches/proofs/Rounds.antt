@@ -4,7 +4,7 @@
 use Prim.Native.Nat.{ℕ}
 use lib.ListN.{length, getD}
 use mathlib.Core.Bool.{Bool, true, false}
-use mathlib.Core.List.{List, [], _∷_, _++_}
+use mathlib.Core.List.{List, [], _∷_, _++_, append-nil}
 use mathlib.Core.Path.{_≡_, refl, sym, ap, subst, _∙_}
 use native.Mathlib.Decide.{ℕ-discrete}
 use Rattle.ground_rules.proofs.ChoiceLaws.{apart}
@@ -120,14 +120,41 @@ pub record Begins (ps qs : List Place) : Type 0 where
   pub joined : qs ≡ ps ++ rest
 
 -- the reads of a call on the device in three parts, of which each is told where those before it are the device's
-pub record InThree (told : Buffers → List Told) (device : Buffers) : Type 0 where
+pub record InThree (reads : Buffers → List Place) (device : Buffers) : Type 0 where
   pub first : List Place
   pub second : List Place
   pub third : List Place
-  pub all : placesRead (told device) ≡ (first ++ second) ++ third
-  pub one : (n : Buffers) → SameLengths device n → Begins first (placesRead (told n))
-  pub two : (n : Buffers) → SameLengths device n → AgreeOn first device n → Begins (first ++ second) (placesRead (told n))
-  pub three : (n : Buffers) → SameLengths device n → AgreeOn (first ++ second) device n → placesRead (told n) ≡ (first ++ second) ++ third
+  pub all : reads device ≡ (first ++ second) ++ third
+  pub one : (n : Buffers) → SameLengths device n → Begins first (reads n)
+  pub two : (n : Buffers) → SameLengths device n → AgreeOn first device n → Begins (first ++ second) (reads n)
+  pub three : (n : Buffers) → SameLengths device n → AgreeOn (first ++ second) device n → reads n ≡ (first ++ second) ++ third
+
+-- the same reads
+pub in-three-by : (reads others : Buffers → List Place) (device : Buffers) → ((n : Buffers) → SameLengths device n → reads n ≡ others n) → InThree others device → InThree reads device
+in-three-by reads others device e p =
+    record {
+      first = p .first;
+      second = p .second;
+      third = p .third;
+      all = e device (λ t. refl) ∙ p .all;
+      one = λ n l. record { rest = p .one n l .rest; joined = e n l ∙ p .one n l .joined };
+      two = λ n l h. record { rest = p .two n l h .rest; joined = e n l ∙ p .two n l h .joined };
+      three = λ n l h. e n l ∙ p .three n l h;
+    }
+
+-- reads that hang on no byte
+pub in-three-fixed : (ps : List Place) (device : Buffers) → InThree (λ n. ps) device
+in-three-fixed ps device =
+    let e : ps ≡ (ps ++ []) ++ [] = sym (ap (λ (qs : List Place). qs ++ []) (append-nil ps) ∙ append-nil ps) in
+    record {
+      first = ps;
+      second = [];
+      third = [];
+      all = e;
+      one = λ n l. record { rest = []; joined = sym (append-nil ps) };
+      two = λ n l h. record { rest = []; joined = e };
+      three = λ n l h. e;
+    }
 
 module _ {A : Type 0} (told : Buffers → List Told) (number : Buffers → ℕ) (answer : Buffers → A) (after : Buffers → Buffers) (word : (m : Buffers) → KeepsWord told number answer after m) (device : Buffers) where
   round-alongside : (have : Buffers) → Alongside device have → Alongside device (roundOf told device have)
@@ -166,7 +193,7 @@ module _ {A : Type 0} (told : Buffers → List Told) (number : Buffers → ℕ) 
   begun ps have w b = agree-left device (roundOf told device have) ps (b .rest) (subst (λ (qs : List Place). AgreeOn qs device (roundOf told device have)) (b .joined) (round-got have w))
 
   -- three rounds
-  pub asked-first : InThree told device → (have : Buffers) → Alongside device have → AskedFirst told number answer after device have
+  pub asked-first : InThree (λ n. placesRead (told n)) device → (have : Buffers) → Alongside device have → AskedFirst told number answer after device have
   asked-first p have w =
       let r₁ = roundOf told device have in
       let w₁ = round-alongside have w in
