@@ -41,7 +41,7 @@ module _ (c : Channel) (busy : ℕ) where
   pair-stops n e = (rw e, instruction-told n c busy ∙ rw e)
 
   -- where one of the later ones may not be, d being what the first two are
-  later-stops : (n : Buffers) (d : Decoded) → allTouchable n (bytesAt (c .tp) 2) ≡ true → decodedAt n (c .tp) ≡ d → numberOf d ≡ 0 → allTouchable n (laterFrom d c) ≡ false
+  pub later-stops : (n : Buffers) (d : Decoded) → allTouchable n (bytesAt (c .tp) 2) ≡ true → decodedAt n (c .tp) ≡ d → numberOf d ≡ 0 → allTouchable n (laterFrom d c) ≡ false
       → (executeNumber n c busy ≡ 2) × (toldByInstruction n c busy ≡ firstBeyond n (toldReads (bytesAt (c .tp) 2) ++ (toldReads (laterFrom d c) ++ [])))
   unfolding executeNumber instructionStages stagesFrom stagesNumber first unless toldUpTo
   later-stops n d e is z f = (rw (e, is, z, f), instruction-told n c busy ∙ rw (e, is, z, f))

@@ -56,7 +56,7 @@ module _ (m : Buffers) (reads stores : List Place) where
 
   last-reached : stagesReached m Last ≡ reads ++ stores
   unfolding stagesReached
-  last-reached = ap (λ (ps : List Place). (reads ++ stores) ++ ps) (pick-same (allTouchable m (reads ++ stores) && eqb 0 0) []) ∙ append-nil (reads ++ stores)
+  last-reached = simp (pick-same, append-nil)
 
   told-from : (ss : List Stage) (n : ℕ) → n ≡ length (stagesPlaces ss) + length reads → toldApart n (stagesReached m (ss ++ Last)) ≡ toldUpTo m ss reads stores
   unfolding stagesPlaces stagesReached toldUpTo
@@ -82,13 +82,18 @@ module _ (m : Buffers) (reads stores : List Place) where
 
 -- ---- how many
 
+pub reads-length : (ps : List Place) → length (toldReads ps) ≡ length ps
+unfolding toldReads
+reads-length [] = refl
+reads-length (p ∷ ps) = ap suc (reads-length ps)
+
 apart-length : (n : ℕ) (ps : List Place) → length (toldApart n ps) ≡ length ps
 unfolding toldApart
 apart-length n [] = refl
 apart-length zero (p ∷ ps) = ap suc (apart-length zero ps)
 apart-length (suc n) (p ∷ ps) = ap suc (apart-length n ps)
 
-beyond-length : (m : Buffers) (ts : List Told) → length (firstBeyond m ts) ≡ length ts
+pub beyond-length : (m : Buffers) (ts : List Told) → length (firstBeyond m ts) ≡ length ts
 unfolding firstBeyond
 beyond-length m [] = refl
 beyond-length m (t ∷ ts) = go (touchableAt m (t .place .tag) (t .place .address)) (beyond-length m ts)
