@@ -10,3 +10,4 @@ pub mod Stops
 pub mod Rounds
 pub mod DeedReads
 pub mod Protocol
+pub mod Once

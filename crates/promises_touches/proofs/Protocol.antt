@@ -71,31 +71,30 @@ module _ (c : Channel) (busy : ℕ) where
   reads-are n = read-is c busy n
 
   module _ (m : Buffers) where
-    d : Decoded
+    abbrev pub d : Decoded
     d = decodedAt m (c .tp)
 
-    passes : Bool
+    abbrev pub passes : Bool
     passes = allTouchable m (bytesAt (c .tp) 2) && eqb (numberOf d) 0
 
     beyondLater : List Place
     beyondLater = pick (allTouchable m (laterFrom d c) && eqb (deedFrom d m c busy .second) 0) (deedFrom d m c busy .reads) []
 
     whole : placesRead (toldByInstruction m c busy) ≡ (bytesAt (c .tp) 2 ++ pick passes (laterFrom d c) []) ++ pick passes beyondLater []
-    unfolding readsWith d passes beyondLater
+    unfolding readsWith beyondLater
     whole = reads-are m ∙ part-split passes (bytesAt (c .tp) 2) (laterFrom d c) beyondLater
 
     module _ (n : Buffers) (l : SameLengths m n) (h : AgreeOn (bytesAt (c .tp) 2) m n) where
       -- the pair is the same, and whether it passes
       pair-then : placesRead (toldByInstruction n c busy)
           ≡ readsWith (allTouchable m (bytesAt (c .tp) 2)) d (allTouchable m (laterFrom d c)) (deedFrom d n c busy .second) (deedFrom d n c busy .reads)
-      unfolding d
       pair-then =
           reads-are n
           ∙ ap (λ (x : Decoded). readsWith (allTouchable n (bytesAt (c .tp) 2)) x (allTouchable n (laterFrom x c)) (deedFrom x n c busy .second) (deedFrom x n c busy .reads)) (decoded-same c busy m n h)
           ∙ ap₂ (λ (t u : Bool). readsWith t d u (deedFrom d n c busy .second) (deedFrom d n c busy .reads)) (touchable-same m n l (bytesAt (c .tp) 2)) (touchable-same m n l (laterFrom d c))
 
       later-then : Begins (bytesAt (c .tp) 2 ++ pick passes (laterFrom d c) []) (placesRead (toldByInstruction n c busy))
-      unfolding readsWith passes
+      unfolding readsWith
       later-then =
           record {
             rest = pick passes (pick (allTouchable m (laterFrom d c) && eqb (deedFrom d n c busy .second) 0) (deedFrom d n c busy .reads) []) [];
@@ -103,8 +102,8 @@ module _ (c : Channel) (busy : ℕ) where
           }
 
       -- and what the deed reads, where the pair passes
-      deed-then : (x : Bool) → passes ≡ x → AgreeOn (pick x (laterFrom d c) []) m n → placesRead (toldByInstruction n c busy) ≡ placesRead (toldByInstruction m c busy)
-      unfolding readsWith passes d
+      pub deed-then : (x : Bool) → passes ≡ x → AgreeOn (pick x (laterFrom d c) []) m n → placesRead (toldByInstruction n c busy) ≡ placesRead (toldByInstruction m c busy)
+      unfolding readsWith
       deed-then true e k =
           let a = deed-alike d m n k in
           pair-then
@@ -138,18 +137,18 @@ also-last false p ps = refl
 
 module _ (c : Channel) (m : Buffers) where
   -- the source's one byte or two
-  sourceReads : List Place
+  unfoldable pub sourceReads : List Place
   sourceReads = firstPlace (source c) ∷ also (twoMove c) (secondPlace (source c)) []
 
   -- the place in the table
-  tableRead : Buffers → List Place
+  unfoldable pub tableRead : Buffers → List Place
   tableRead n = also (c .fields .translates) (record { tag = c .gc .tag; address = entryOf c n }) []
 
-  whole-reads : (n : Buffers) → readsBy Whole c n ≡ sourceReads ++ tableRead n
+  pub whole-reads : (n : Buffers) → readsBy Whole c n ≡ sourceReads ++ tableRead n
   unfolding readsBy readPlaces sourceReads tableRead
   whole-reads n = ap (λ (ps : List Place). firstPlace (source c) ∷ ps) (also-last (twoMove c) (secondPlace (source c)) (tableRead n))
 
-  table-same : (n : Buffers) → AgreeOn sourceReads m n → tableRead n ≡ tableRead m
+  pub table-same : (n : Buffers) → AgreeOn sourceReads m n → tableRead n ≡ tableRead m
   unfolding tableRead sourceReads entryOf fetched
   table-same n h = ap (λ (b : ℕ). also (c .fields .translates) (record { tag = c .gc .tag; address = sum20 (c .gc .address) b }) []) (h .0)
 

@@ -20,7 +20,7 @@ use Rattle.promises_touches.specs.Protocol.{fetchedAt, fetchedAll, round
 use Rattle.promises_touches.specs.Words.{placesRead, placesStored, KeepsWord}
 
 -- a byte of system space is the same where that is
-system-byte : (device have : Buffers) → have .sys ≡ device .sys → (a : ℕ) → byteAt have false a ≡ byteAt device false a
+pub system-byte : (device have : Buffers) → have .sys ≡ device .sys → (a : ℕ) → byteAt have false a ≡ byteAt device false a
 unfolding byteAt spaceOf
 system-byte device have e a = ap (λ (b : List ℕ). getD b (indexOf false a) (beyondIn false)) e
 
@@ -156,17 +156,18 @@ in-three-fixed ps device =
       three = λ n l h. e;
     }
 
-module _ {A : Type 0} (told : Buffers → List Told) (number : Buffers → ℕ) (answer : Buffers → A) (after : Buffers → Buffers) (word : (m : Buffers) → KeepsWord told number answer after m) (device : Buffers) where
-  round-alongside : (have : Buffers) → Alongside device have → Alongside device (roundOf told device have)
+module _ (told : Buffers → List Told) (device : Buffers) where
+  pub round-alongside : (have : Buffers) → Alongside device have → Alongside device (roundOf told device have)
   unfolding roundOf
   round-alongside have w = all-alongside device (placesRead (told have)) have w
 
-  round-got : (have : Buffers) → Alongside device have → AgreeOn (placesRead (told have)) device (roundOf told device have)
+  pub round-got : (have : Buffers) → Alongside device have → AgreeOn (placesRead (told have)) device (roundOf told device have)
   unfolding roundOf
   round-got have w = all-got device (placesRead (told have)) have w
 
+module _ {A : Type 0} (told : Buffers → List Told) (number : Buffers → ℕ) (answer : Buffers → A) (after : Buffers → Buffers) (word : (m : Buffers) → KeepsWord told number answer after m) (device : Buffers) where
   -- memories that have the device's bytes at its reads
-  call-same : (have : Buffers) → Alongside device have → AgreeOn (placesRead (told device)) device have → SameCall told number answer after device have
+  pub call-same : (have : Buffers) → Alongside device have → AgreeOn (placesRead (told device)) device have → SameCall told number answer after device have
   call-same have w h =
       let k = word device in
       let q = k .same have (w .lengths) h in
@@ -184,26 +185,26 @@ module _ {A : Type 0} (told : Buffers → List Told) (number : Buffers → ℕ) 
   list-stays : (have : Buffers) → Alongside device have → placesRead (told (roundOf told device have)) ≡ placesRead (told have) → SameCall told number answer after device (roundOf told device have)
   list-stays have w e =
       let r = roundOf told device have in
-      let got : AgreeOn (placesRead (told r)) device r = subst (λ (ps : List Place). AgreeOn ps device r) (sym e) (round-got have w) in
-      let back = word r .same device (λ t. sym (round-alongside have w .lengths t)) (agree-back (placesRead (told r)) device r got) .list in
-      call-same r (round-alongside have w) (subst (λ (ts : List Told). AgreeOn (placesRead ts) device r) (sym back) got)
+      let got : AgreeOn (placesRead (told r)) device r = subst (λ (ps : List Place). AgreeOn ps device r) (sym e) (round-got told device have w) in
+      let back = word r .same device (λ t. sym (round-alongside told device have w .lengths t)) (agree-back (placesRead (told r)) device r got) .list in
+      call-same r (round-alongside told device have w) (subst (λ (ts : List Told). AgreeOn (placesRead ts) device r) (sym back) got)
 
   -- what is begun with is fetched
   begun : (ps : List Place) (have : Buffers) → Alongside device have → Begins ps (placesRead (told have)) → AgreeOn ps device (roundOf told device have)
-  begun ps have w b = agree-left device (roundOf told device have) ps (b .rest) (subst (λ (qs : List Place). AgreeOn qs device (roundOf told device have)) (b .joined) (round-got have w))
+  begun ps have w b = agree-left device (roundOf told device have) ps (b .rest) (subst (λ (qs : List Place). AgreeOn qs device (roundOf told device have)) (b .joined) (round-got told device have w))
 
   -- three rounds
   pub asked-first : InThree (λ n. placesRead (told n)) device → (have : Buffers) → Alongside device have → AskedFirst told number answer after device have
   asked-first p have w =
       let r₁ = roundOf told device have in
-      let w₁ = round-alongside have w in
+      let w₁ = round-alongside told device have w in
       let h₁ : AgreeOn (p .first) device r₁ = begun (p .first) have w (p .one have (w .lengths)) in
       let r₂ = roundOf told device r₁ in
-      let w₂ = round-alongside r₁ w₁ in
+      let w₂ = round-alongside told device r₁ w₁ in
       let h₂ : AgreeOn (p .first ++ p .second) device r₂ = begun (p .first ++ p .second) r₁ w₁ (p .two r₁ (w₁ .lengths) h₁) in
       let e : placesRead (told r₂) ≡ placesRead (told device) = p .three r₂ (w₂ .lengths) h₂ ∙ sym (p .all) in
       record {
         stays = list-stays have w;
         third = e;
-        made = call-same (roundOf told device r₂) (round-alongside r₂ w₂) (subst (λ (ps : List Place). AgreeOn ps device (roundOf told device r₂)) e (round-got r₂ w₂));
+        made = call-same (roundOf told device r₂) (round-alongside told device r₂ w₂) (subst (λ (ps : List Place). AgreeOn ps device (roundOf told device r₂)) e (round-got told device r₂ w₂));
       }

@@ -1,12 +1,20 @@
 -- The row of a host whose cards are no lent bytes: it asks what a call reads, fetches what is told of I/O space from the device, and asks again; then the call on
 -- what it has is the call on what the device has.
-use mathlib.Core.Bool.{true}
+use mathlib.Core.Bool.{true, false}
 use mathlib.Core.List.{List, [], _∷_}
+use mathlib.Core.Logic.{_⊎_}
 use mathlib.Core.Path.{_≡_}
 use Prim.Native.Nat.{ℕ}
 use Rattle.ground_rules.specs.Buffers.{Buffers, byteAt, storeByte}
 use Rattle.ground_rules.specs.Choice.{pick}
 use Rattle.ground_rules.specs.Places.{Place}
+use Rattle.ground_rules.specs.Psw.{transferring}
+use Rattle.ground_rules.specs.States.{channelOf}
+use Rattle.ground_rules.specs.declared.Channel.{Channel}
+use Rattle.ground_rules.specs.declared.State.{State}
+use Rattle.transfer_rules.specs.Sides.{source}
+use Rattle.turn_rules.specs.declared.Choice.{Choice}
+use Rattle.turn_rules.specs.declared.Choice.the-variants.{Nobody, Ends, Steps}
 use Rattle.promises_counts.specs.Complete.{SameLengths}
 use Rattle.promises_counts.specs.Stores.{Store, storesMade, storePlaces}
 use Rattle.touch_rules.specs.Told.{Told}
@@ -48,3 +56,20 @@ pub record AskedFirst {A : Type 0} (told : Buffers → List Told) (number : Buff
   pub third : placesRead (told (roundOf told device (roundOf told device have))) ≡ placesRead (told device)
   -- and after that round the call may be made
   pub made : SameCall told number answer after device (roundOf told device (roundOf told device (roundOf told device have)))
+
+-- asked once: the reads told for what the host has are those of the device, so no other byte is fetched, and after one round the call may be made
+pub record AskedOnce {A : Type 0} (told : Buffers → List Told) (number : Buffers → ℕ) (answer : Buffers → A) (after : Buffers → Buffers) (device have : Buffers) : Type 0 where
+  pub reads : placesRead (told have) ≡ placesRead (told device)
+  pub made : SameCall told number answer after device (roundOf told device have)
+
+-- a transfer step whose reads hang on no byte of I/O space: it does not translate, or its source lies in system space
+abbrev pub TableKnown : Channel → Type 0
+TableKnown c = (c .fields .translates ≡ false) ⊎ ((source c) .pointer .tag ≡ false)
+
+-- a step that is asked for once: the program lies in system space, or the transfer step is such a one
+abbrev pub OnceEnough : Choice → State → Type 0
+OnceEnough Nobody s = Unit {0}
+OnceEnough (Ends second) s = Unit {0}
+OnceEnough (Steps second) s =
+    ((transferring (channelOf s second .psw) ≡ true) × TableKnown (channelOf s second))
+    ⊎ ((transferring (channelOf s second .psw) ≡ false) × (channelOf s second .tp .tag ≡ false))
