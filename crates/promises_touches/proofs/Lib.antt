@@ -11,3 +11,4 @@ pub mod Rounds
 pub mod DeedReads
 pub mod Protocol
 pub mod Once
+pub mod Cases
