@@ -38,11 +38,11 @@ use Rattle.promises_counts.specs.Complete.{SameLengths, AgreeOn}
 use Rattle.promises_counts.specs.Lists.{stepAnswer}
 use Rattle.touch_rules.specs.Told.{Told}
 use Rattle.touch_rules.specs.Touches.{toldByTransfer, toldByInstruction, toldByChoice, toldByStep}
-use Rattle.promises_touches.specs.Protocol.{Alongside, AskedFirst}
+use Rattle.promises_touches.specs.Protocol.{Alongside, AskedFirst, Begins, NextIsRead}
 use Rattle.promises_touches.specs.Words.{placesRead}
 use Rattle.promises_touches.proofs.DeedReads.{ReadsAlike, reads-alike}
 use Rattle.promises_touches.proofs.Instructions.{read-is}
-use Rattle.promises_touches.proofs.Rounds.{Begins, InThree, in-three-by, in-three-fixed, asked-first}
+use Rattle.promises_touches.proofs.Rounds.{InThree, in-three-by, in-three-fixed, asked-first, next-read}
 use Rattle.promises_touches.proofs.Steps.{step-word}
 use Rattle.promises_touches.proofs.Transfers.{bad-told, read-is as moved-read}
 use Rattle.promises_touches.proofs.WordLaws.{readUpTo}
@@ -212,3 +212,7 @@ pub step-asked : (s : State) (lines : ℕ) (device have : Buffers) → Alongside
 step-asked s lines device have w =
     asked-first (λ n. toldByStep s n lines) (λ n. stepOf s n lines .number) (λ n. stepAnswer (stepOf s n lines)) (λ n. stepOf s n lines .memory)
     (step-word s lines) device (step-parts s device lines) have w
+
+-- one that asks for each byte fetches nothing that the step on the device does not read
+pub step-next : (s : State) (lines : ℕ) (device have : Buffers) → Alongside device have → NextIsRead (λ n. toldByStep s n lines) device have
+step-next s lines device have w = next-read (λ n. toldByStep s n lines) device have (step-parts s have lines) w

@@ -2,10 +2,11 @@
 -- of the reads hangs on nothing but the parts before it.
 -- Assumes nothing.
 use Prim.Native.Nat.{ℕ}
-use lib.ListN.{length, getD}
+use lib.ListN.{length, getD, drop}
 use mathlib.Core.Bool.{Bool, true, false}
-use mathlib.Core.List.{List, [], _∷_, _++_, append-nil}
-use mathlib.Core.Path.{_≡_, refl, sym, ap, subst, _∙_}
+use mathlib.Core.List.{List, [], _∷_, _++_, append-nil, append-assoc}
+use mathlib.Core.Logic.{_⊎_, inl, inr, ⊎-elim}
+use mathlib.Core.Path.{_≡_, refl, sym, ap, ap₂, subst, _∙_}
 use native.Mathlib.Decide.{ℕ-discrete}
 use Rattle.ground_rules.proofs.ChoiceLaws.{apart}
 use Rattle.ground_rules.proofs.PlaceLaws.{byte-index}
@@ -16,7 +17,7 @@ use Rattle.ground_rules.specs.Places.{Place}
 use Rattle.promises_counts.proofs.AgreeLaws.{agree-self, agree-left}
 use Rattle.promises_counts.specs.Complete.{SameLengths, AgreeOn}
 use Rattle.touch_rules.specs.Told.{Told}
-use Rattle.promises_touches.specs.Protocol.{fetchedAt, fetchedAll, roundOf, Alongside, SameCall, AskedFirst}
+use Rattle.promises_touches.specs.Protocol.{fetchedAt, fetchedAll, roundOf, Alongside, SameCall, AskedFirst, Begins, NextIsRead}
 use Rattle.promises_touches.specs.Words.{placesRead, placesStored, KeepsWord}
 
 -- a byte of system space is the same where that is
@@ -110,14 +111,9 @@ module _ (device : Buffers) where
 
 -- ---- rounds
 
-agree-back : (ps : List Place) (m n : Buffers) → AgreeOn ps m n → AgreeOn ps n m
+pub agree-back : (ps : List Place) (m n : Buffers) → AgreeOn ps m n → AgreeOn ps n m
 agree-back [] m n h = tt
 agree-back (p ∷ ps) m n h = (sym (h .0), agree-back ps m n (h .1))
-
--- some places are the first of others
-pub record Begins (ps qs : List Place) : Type 0 where
-  pub rest : List Place
-  pub joined : qs ≡ ps ++ rest
 
 -- the reads of a call on the device in three parts, of which each is told where those before it are the device's
 pub record InThree (reads : Buffers → List Place) (device : Buffers) : Type 0 where
@@ -208,3 +204,43 @@ module _ {A : Type 0} (told : Buffers → List Told) (number : Buffers → ℕ) 
         third = e;
         made = call-same (roundOf told device r₂) (round-alongside told device r₂ w₂) (subst (λ (ps : List Place). AgreeOn ps device (roundOf told device r₂)) e (round-got told device r₂ w₂));
       }
+
+-- ---- one byte after the other
+
+begins-on : (ps qs rs : List Place) → Begins ps qs → Begins qs rs → Begins ps rs
+begins-on ps qs rs a b =
+    record {
+      rest = a .rest ++ b .rest;
+      joined = b .joined ∙ ap (λ (l : List Place). l ++ b .rest) (a .joined) ∙ append-assoc ps (a .rest) (b .rest);
+    }
+
+-- of two ways to cut a list one part begins with the other
+cut-apart : (ks xs bs ys : List Place) (p : Place) → ks ++ xs ≡ bs ++ (p ∷ ys) → Begins (bs ++ (p ∷ [])) ks ⊎ Begins ks bs
+cut-apart [] xs bs ys p e = inr (record { rest = bs; joined = refl })
+cut-apart (a ∷ ks) xs [] ys p e = inl (record { rest = ks; joined = ap (λ (q : Place). q ∷ ks) (ap (λ (l : List Place). getD l 0 a) e) })
+cut-apart (a ∷ ks) xs (b ∷ bs) ys p e =
+    let same : a ≡ b = ap (λ (l : List Place). getD l 0 a) e in
+    ⊎-elim
+    (λ k. inl (record { rest = k .rest; joined = ap₂ (λ (q : Place) (l : List Place). q ∷ l) same (k .joined) }))
+    (λ k. inr (record { rest = k .rest; joined = ap₂ (λ (q : Place) (l : List Place). q ∷ l) (sym same) (k .joined) }))
+    (cut-apart ks xs bs ys p (ap (drop 1) e))
+
+-- the next told read is the device's, where those before it are
+pub next-read : (told : Buffers → List Told) (device have : Buffers) → InThree (λ n. placesRead (told n)) have → Alongside device have → NextIsRead told device have
+next-read told device have q w before behind p e h =
+    ⊎-elim
+    (λ k. begins-on (before ++ (p ∷ [])) (q .first) (placesRead (told device)) k (q .one device lengths))
+    (λ k. ⊎-elim
+    (λ i. begins-on (before ++ (p ∷ [])) (q .first ++ q .second) (placesRead (told device)) i (q .two device lengths (within (q .first) k)))
+    (λ i. record {
+      rest = behind;
+      joined = q .three device lengths (within (q .first ++ q .second) i) ∙ sym (q .all) ∙ e ∙ sym (append-assoc before (p ∷ []) behind);
+    })
+    (cut-apart (q .first ++ q .second) (q .third) before behind p (sym (q .all) ∙ e)))
+    (cut-apart (q .first) (q .second ++ q .third) before behind p (sym (append-assoc (q .first) (q .second) (q .third)) ∙ sym (q .all) ∙ e))
+  where
+    lengths : SameLengths have device
+    lengths t = sym (w .lengths t)
+
+    within : (ps : List Place) → Begins ps before → AgreeOn ps have device
+    within ps k = agree-left have device ps (k .rest) (subst (λ (l : List Place). AgreeOn l have device) (k .joined) (agree-back before device have h))

@@ -1,7 +1,7 @@
 -- The row of a host whose cards are no lent bytes: it asks what a call reads, fetches what is told of I/O space from the device, and asks again; then the call on
 -- what it has is the call on what the device has.
 use mathlib.Core.Bool.{true, false}
-use mathlib.Core.List.{List, [], _∷_}
+use mathlib.Core.List.{List, [], _∷_, _++_}
 use mathlib.Core.Logic.{_⊎_}
 use mathlib.Core.Path.{_≡_}
 use Prim.Native.Nat.{ℕ}
@@ -15,7 +15,7 @@ use Rattle.ground_rules.specs.declared.State.{State}
 use Rattle.transfer_rules.specs.Sides.{source}
 use Rattle.turn_rules.specs.declared.Choice.{Choice}
 use Rattle.turn_rules.specs.declared.Choice.the-variants.{Nobody, Ends, Steps}
-use Rattle.promises_counts.specs.Complete.{SameLengths}
+use Rattle.promises_counts.specs.Complete.{SameLengths, AgreeOn}
 use Rattle.promises_counts.specs.Stores.{Store, storesMade, storePlaces}
 use Rattle.touch_rules.specs.Told.{Told}
 use Rattle.promises_touches.specs.Words.{placesRead, placesStored}
@@ -73,3 +73,13 @@ OnceEnough (Ends second) s = Unit {0}
 OnceEnough (Steps second) s =
     ((transferring (channelOf s second .psw) ≡ true) × TableKnown (channelOf s second))
     ⊎ ((transferring (channelOf s second .psw) ≡ false) × (channelOf s second .tp .tag ≡ false))
+
+-- some places are the first of others
+pub record Begins (ps qs : List Place) : Type 0 where
+  pub rest : List Place
+  pub joined : qs ≡ ps ++ rest
+
+-- asked for each byte: where the told reads before one are the device's, that one is read by the call on the device, next behind them
+abbrev pub NextIsRead : (Buffers → List Told) → Buffers → Buffers → Type 0
+NextIsRead told device have =
+    (before behind : List Place) (p : Place) → placesRead (told have) ≡ before ++ (p ∷ behind) → AgreeOn before device have → Begins (before ++ (p ∷ [])) (placesRead (told device))
