@@ -1,13 +1,11 @@
 -- A done call was told to touch as many places as it answers to have touched, and of no call more than eleven are told.
 -- Assumes nothing.
 use Prim.Native.Nat.{ℕ, _+_, _≤_}
-use borrow.Author.Tests.{eq-eqb, ne-eqb}
-use lib.Dec.{eqb, lit≤}
+use lib.Dec.{lit≤}
 use lib.ListN.{length, length-append}
 use mathlib.Core.Bool.{Bool, true, false}
 use mathlib.Core.List.{List, [], _∷_, _++_, append-nil}
 use mathlib.Core.Path.{_≡_, refl, sym, ap, _∙_}
-use native.Mathlib.Decide.{ℕ-discrete}
 use native.Mathlib.Omega.{arith}
 use Rattle.ground_rules.proofs.SpanLaws.{span-length}
 use Rattle.ground_rules.specs.Buffers.{Buffers}
@@ -25,7 +23,6 @@ use Rattle.attention_rules.specs.Power.{powerStages, powerPlaces, touchedByPowe
 use Rattle.attention_rules.specs.Touched.{readBy, storedBy, others, orderStages, touchedByOrder}
 use Rattle.attention_rules.specs.declared.Command.{Command}
 use Rattle.attention_rules.specs.declared.Command.the-variants.{Update, StartLocal, StartSystem, Suspend, Resume, Halt, Unknown}
-use Rattle.block_rules.specs.Premises.{from, into}
 use Rattle.instruction_rules.proofs.CountLaws.{deed-most, length-from}
 use Rattle.instruction_rules.specs.Changes.{placesOf}
 use Rattle.instruction_rules.specs.Execute.{decodedAt, deedFrom, laterFrom, lengthFrom, stagesFrom, instructionStages, touchedByInstruction}
@@ -34,7 +31,6 @@ use Rattle.instruction_rules.specs.declared.Decoded.{Decoded}
 use Rattle.instruction_rules.specs.declared.Decoded.the-variants.{Instruction, NoInstruction, ControlUsed}
 use Rattle.schedule_rules.proofs.StoreLaws.{touched-apart, stores-most}
 use Rattle.schedule_rules.specs.Counts.{storesBy}
-use Rattle.sweep_rules.specs.Sweep.{sweepNumber, doneSweep, sweepOf}
 use Rattle.transfer_rules.specs.Parts.{Part, Whole, FirstFetch, SecondFetch, FirstStore, SecondStore, partOf}
 use Rattle.transfer_rules.specs.Reads.{also, entryOf, readPlaces}
 use Rattle.transfer_rules.specs.Sides.{source, secondAddress, twoMove}
@@ -45,8 +41,8 @@ use Rattle.turn_rules.specs.Touched.{touchedIn, touchedByStep, stepCount}
 use Rattle.turn_rules.specs.declared.Choice.{Choice}
 use Rattle.turn_rules.specs.declared.Choice.the-variants.{Nobody, Ends, Steps}
 use Rattle.promises_counts.proofs.Counts.{attention-counts, power-counts, step-counts}
-use Rattle.touch_rules.specs.Told.{Told, toldRead, toldStore, stagesPlaces}
-use Rattle.touch_rules.specs.Touches.{toldByAttention, toldByPower, toldByStep, pointedPlace, toldBySweep}
+use Rattle.touch_rules.specs.Told.{Told, stagesPlaces}
+use Rattle.touch_rules.specs.Touches.{toldByAttention, toldByPower, toldByStep}
 use Rattle.promises_touches.specs.Lengths.{ToldCounts}
 use Rattle.promises_touches.proofs.Calls.{attention-staged, power-staged, chosenStages, step-staged}
 use Rattle.promises_touches.proofs.Staged.{staged-length, staged-most}
@@ -176,19 +172,3 @@ step-told-counts s m lines =
           told .0 ∙ ap length (chosen-touched s m x (told .1)) ∙ sym (step-counts s lines m .within .list e);
       most = staged-most (step-staged s m lines) 11 (chosen-most s m x);
     }
-
--- ---- a sweep: its two ranges
-
-pub sweep-told : (s : State) (m : Buffers) (channel lines : ℕ)
-    → let c = channelOf s (isSecond channel) in
-    (sweepOf s m channel lines .number ≡ 0 → toldBySweep s m channel lines ≡ toldRead (pointedPlace (from c)) ∷ toldStore (pointedPlace (into c)) ∷ [])
-    × (¬ (sweepOf s m channel lines .number ≡ 0) → toldBySweep s m channel lines ≡ [])
-unfolding toldBySweep sweepOf doneSweep
-sweep-told s m channel lines = go (ℕ-discrete (sweepNumber s m channel lines) 0)
-  where
-    go : Dec (sweepNumber s m channel lines ≡ 0)
-        → let c = channelOf s (isSecond channel) in
-        (sweepOf s m channel lines .number ≡ 0 → toldBySweep s m channel lines ≡ toldRead (pointedPlace (from c)) ∷ toldStore (pointedPlace (into c)) ∷ [])
-        × (¬ (sweepOf s m channel lines .number ≡ 0) → toldBySweep s m channel lines ≡ [])
-    go (yes z) = rw (eq-eqb (sweepNumber s m channel lines) 0 z) (λ e. refl, λ ne. absurd (ne refl))
-    go (no ne) = rw (ne-eqb (sweepNumber s m channel lines) 0 ne) (λ e. absurd (ne e), λ h. refl)

@@ -11,4 +11,5 @@ pub mod Rounds
 pub mod DeedReads
 pub mod Protocol
 pub mod Once
+pub mod Sweeps
 pub mod Cases

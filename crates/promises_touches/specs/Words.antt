@@ -9,7 +9,10 @@ use Rattle.ground_rules.specs.Choice.{pick}
 use Rattle.ground_rules.specs.Places.{Place}
 use Rattle.promises_counts.specs.Complete.{SameLengths, AgreeOn}
 use Rattle.promises_counts.specs.Stores.{Store, storesMade, storePlaces}
+use Rattle.ground_rules.specs.declared.State.{State}
+use Rattle.sweep_rules.specs.Sweep.{Sweep, sweepOf}
 use Rattle.touch_rules.specs.Told.{Told}
+use Rattle.touch_rules.specs.Touches.{toldBySweep}
 
 -- the places told as read
 unfoldable pub placesRead : List Told → List Place
@@ -35,3 +38,11 @@ pub record KeepsWord {A : Type 0} (told : Buffers → List Told) (number : Buffe
   pub refused : ¬ (number m ≡ 0) → stores ≡ []
   -- in all memories of the same lengths, with the same bytes at the places told as read, all is the same
   pub same : (n : Buffers) → SameLengths m n → AgreeOn (placesRead (told m)) m n → SameDone told answer after m stores n
+
+-- of a sweep, which reads no byte before it is accepted: in memories of the same lengths it tells and answers the same
+abbrev pub sweepAnswered : Sweep → ℕ × State × ℕ × ℕ
+sweepAnswered o = (o .number, o .state, o .steps, o .count)
+
+pub record SweepSame (s : State) (channel lines : ℕ) (m n : Buffers) : Type 0 where
+  pub list : toldBySweep s n channel lines ≡ toldBySweep s m channel lines
+  pub answered : sweepAnswered (sweepOf s n channel lines) ≡ sweepAnswered (sweepOf s m channel lines)
