@@ -1,7 +1,7 @@
 -- What was told of an attention and of a power-up is what they do.
 -- Assumes nothing.
 use Prim.Native.Nat.{ℕ}
-use borrow.Author.Tests.{eqb-true, eqb-false, eq-eqb, ne-eqb}
+use borrow.Author.Tests.{eqb-false, eq-eqb, ne-eqb}
 use lib.Dec.{eqb}
 use mathlib.Core.Bool.{Bool, true, false, _&&_}
 use mathlib.Core.List.{List, [], _∷_, _++_}
@@ -11,7 +11,7 @@ use native.Mathlib.Omega.{arith}
 use Rattle.ground_rules.proofs.OutcomeLaws.{refused as settled-refused}
 use Rattle.ground_rules.specs.Buffers.{Buffers, withinLimits}
 use Rattle.ground_rules.specs.Choice.{pick}
-use Rattle.ground_rules.specs.Outcomes.{Outcome, outcome, settled, unless, first}
+use Rattle.ground_rules.specs.Outcomes.{Outcome, outcome, unless, first}
 use Rattle.ground_rules.specs.Places.{Place, span, allTouchable}
 use Rattle.ground_rules.specs.Stages.{Stage, stage, stagesNumber}
 use Rattle.ground_rules.specs.States.{channelOf, isChannel, isSecond, blockOf, busyIn}
@@ -22,7 +22,7 @@ use Rattle.attention_rules.proofs.PowerNumbers.{power-number}
 use Rattle.attention_rules.specs.Attention.{orderTo, orderNumber, givenTo, attentionNumber, attentionOf}
 use Rattle.attention_rules.specs.Blocks.{orderOf}
 use Rattle.attention_rules.specs.Commands.{commandNumber}
-use Rattle.attention_rules.specs.Power.{controlOf, powerPlaces, powerStages, powerNumber, powerUpOf}
+use Rattle.attention_rules.specs.Power.{controlOf, powerStages, powerNumber, powerUpOf}
 use Rattle.attention_rules.specs.Touched.{readBy, storedBy, orderStages}
 use Rattle.attention_rules.specs.declared.Order.{Order}
 use Rattle.promises_counts.proofs.AgreeLaws.{agree-self, touchable-same, given-same, limits-same}

@@ -4,7 +4,7 @@ use Prim.Native.Nat.{ℕ, _+_, _≤_}
 use lib.Dec.{lit≤}
 use lib.ListN.{length, length-append}
 use mathlib.Core.Bool.{Bool, true, false}
-use mathlib.Core.List.{List, [], _∷_, _++_, append-nil}
+use mathlib.Core.List.{List, [], _++_, append-nil}
 use mathlib.Core.Path.{_≡_, refl, sym, ap, _∙_}
 use native.Mathlib.Omega.{arith}
 use Rattle.ground_rules.proofs.SpanLaws.{span-length}
@@ -12,20 +12,19 @@ use Rattle.ground_rules.specs.Buffers.{Buffers}
 use Rattle.ground_rules.specs.Choice.{pick}
 use Rattle.ground_rules.specs.Places.{Place, span}
 use Rattle.ground_rules.specs.Psw.{transferring}
-use Rattle.ground_rules.specs.Stages.{Stage, stage, stagesTouched}
+use Rattle.ground_rules.specs.Stages.{stagesTouched}
 use Rattle.ground_rules.specs.States.{channelOf, isSecond, blockOf, busyIn}
 use Rattle.ground_rules.specs.declared.Channel.{Channel}
-use Rattle.ground_rules.specs.declared.Mode.{Mode}
 use Rattle.ground_rules.specs.declared.State.{State}
 use Rattle.attention_rules.proofs.PowerOutcomes.{power-touches}
 use Rattle.attention_rules.specs.Attention.{orderTo, attentionOf, touchedByAttention, attentionCount}
-use Rattle.attention_rules.specs.Power.{powerStages, powerPlaces, touchedByPower, powerUpOf, powerCount}
+use Rattle.attention_rules.specs.Power.{powerStages, touchedByPower, powerUpOf, powerCount}
 use Rattle.attention_rules.specs.Touched.{readBy, storedBy, others, orderStages, touchedByOrder}
 use Rattle.attention_rules.specs.declared.Command.{Command}
 use Rattle.attention_rules.specs.declared.Command.the-variants.{Update, StartLocal, StartSystem, Suspend, Resume, Halt, Unknown}
 use Rattle.instruction_rules.proofs.CountLaws.{deed-most, length-from}
 use Rattle.instruction_rules.specs.Changes.{placesOf}
-use Rattle.instruction_rules.specs.Execute.{decodedAt, deedFrom, laterFrom, lengthFrom, stagesFrom, instructionStages, touchedByInstruction}
+use Rattle.instruction_rules.specs.Execute.{decodedAt, deedFrom, laterFrom, stagesFrom, instructionStages, touchedByInstruction}
 use Rattle.instruction_rules.specs.Operands.{bytesAt}
 use Rattle.instruction_rules.specs.declared.Decoded.{Decoded}
 use Rattle.instruction_rules.specs.declared.Decoded.the-variants.{Instruction, NoInstruction, ControlUsed}
@@ -41,7 +40,7 @@ use Rattle.turn_rules.specs.Touched.{touchedIn, touchedByStep, stepCount}
 use Rattle.turn_rules.specs.declared.Choice.{Choice}
 use Rattle.turn_rules.specs.declared.Choice.the-variants.{Nobody, Ends, Steps}
 use Rattle.promises_counts.proofs.Counts.{attention-counts, power-counts, step-counts}
-use Rattle.touch_rules.specs.Told.{Told, stagesPlaces}
+use Rattle.touch_rules.specs.Told.{stagesPlaces}
 use Rattle.touch_rules.specs.Touches.{toldByAttention, toldByPower, toldByStep}
 use Rattle.promises_touches.specs.Lengths.{ToldCounts}
 use Rattle.promises_touches.proofs.Calls.{attention-staged, power-staged, chosenStages, step-staged}

@@ -1,17 +1,16 @@
 -- What was told of an instruction is what it does: where it stops at its first bytes or at the later ones, and where it does not.
 -- Assumes nothing.
 use Prim.Native.Nat.{ℕ}
-use borrow.Author.Tests.{eqb-true, eqb-false, eq-eqb, ne-eqb}
+use borrow.Author.Tests.{eqb-true, eq-eqb, ne-eqb}
 use lib.Dec.{eqb}
-use mathlib.Core.Bool.{Bool, true, false, _&&_}
+use mathlib.Core.Bool.{Bool, true, false}
 use mathlib.Core.List.{List, [], _∷_, _++_}
 use mathlib.Core.Path.{_≡_, refl, sym, ap, ap₂, subst, _∙_}
 use native.Mathlib.Omega.{arith}
-use Rattle.ground_rules.proofs.ChoiceLaws.{apart}
 use Rattle.ground_rules.specs.Buffers.{Buffers}
 use Rattle.ground_rules.specs.Choice.{pick}
 use Rattle.ground_rules.specs.Outcomes.{unless, first}
-use Rattle.ground_rules.specs.Places.{Place, allPass, allTouchable}
+use Rattle.ground_rules.specs.Places.{Place, allTouchable}
 use Rattle.ground_rules.specs.Stages.{Stage, stage, stagesNumber}
 use Rattle.ground_rules.specs.declared.Channel.{Channel}
 use Rattle.instruction_rules.proofs.OutcomeLaws.{number-is, refused as instruction-refused}
@@ -28,7 +27,7 @@ use Rattle.promises_counts.specs.Lists.{instructionAnswer}
 use Rattle.promises_counts.specs.Stores.{storesMade}
 use Rattle.touch_rules.proofs.ToldLaws.{toldUpTo}
 use Rattle.touch_rules.proofs.TouchesLaws.{instruction-told}
-use Rattle.touch_rules.specs.Told.{Told, toldReads, firstBeyond, toldInStages}
+use Rattle.touch_rules.specs.Told.{toldReads, firstBeyond, toldInStages}
 use Rattle.touch_rules.specs.Touches.{toldByInstruction}
 use Rattle.promises_touches.specs.Words.{placesRead, placesStored, KeepsWord}
 use Rattle.promises_touches.proofs.WordLaws.{readUpTo, storedUpTo, read-stages, stored-stages, beyond-same, stages-told}

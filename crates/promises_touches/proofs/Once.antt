@@ -1,17 +1,15 @@
 -- Where one round is enough and fetches nothing but what the call reads: a program in system space, a transfer step whose table is known; an attention and a power-up
 -- read system space alone and need none.
 -- Assumes nothing.
-use Prim.Native.Nat.{ℕ, zero, suc, _+_, _-_}
+use Prim.Native.Nat.{ℕ, zero, suc, _+_}
 use lib.Dec.{eqb}
 use mathlib.Core.Bool.{Bool, true, false, _&&_}
 use mathlib.Core.List.{List, [], _∷_, _++_}
-use mathlib.Core.Logic.{_⊎_, ⊎-elim}
+use mathlib.Core.Logic.{⊎-elim}
 use mathlib.Core.Path.{_≡_, refl, sym, ap, subst, _∙_}
-use Rattle.ground_rules.proofs.ChoiceLaws.{apart}
 use Rattle.ground_rules.specs.Buffers.{Buffers, byteAt, withinLimits}
 use Rattle.ground_rules.specs.Choice.{pick}
 use Rattle.ground_rules.specs.Places.{Place, span, allTouchable}
-use Rattle.ground_rules.specs.Psw.{transferring}
 use Rattle.ground_rules.specs.Stages.{stage}
 use Rattle.ground_rules.specs.States.{channelOf, isSecond, blockOf, busyIn}
 use Rattle.ground_rules.specs.Values.{onward}
@@ -30,7 +28,7 @@ use Rattle.instruction_rules.specs.Execute.{decodedAt, laterBytes, laterFrom}
 use Rattle.instruction_rules.specs.Operands.{bytesAt}
 use Rattle.instruction_rules.specs.declared.Decoded.{Decoded}
 use Rattle.instruction_rules.specs.declared.Decoded.the-variants.{Instruction, NoInstruction, ControlUsed}
-use Rattle.transfer_rules.specs.Halves.{firstPlace, secondPlace}
+use Rattle.transfer_rules.specs.Halves.{secondPlace}
 use Rattle.transfer_rules.specs.Parts.{Part, Whole, FirstFetch, SecondFetch, FirstStore, SecondStore, partOf}
 use Rattle.transfer_rules.specs.Reads.{also}
 use Rattle.transfer_rules.specs.Sides.{source, twoMove}
@@ -40,7 +38,7 @@ use Rattle.turn_rules.specs.Step.{entryNumber, stepOf}
 use Rattle.turn_rules.specs.declared.Choice.{Choice}
 use Rattle.turn_rules.specs.declared.Choice.the-variants.{Nobody, Ends, Steps}
 use Rattle.promises_counts.proofs.Step.{entry-same}
-use Rattle.promises_counts.specs.Complete.{SameLengths, AgreeOn}
+use Rattle.promises_counts.specs.Complete.{AgreeOn}
 use Rattle.promises_counts.specs.Lists.{callAnswer, stepAnswer}
 use Rattle.touch_rules.proofs.TouchesLaws.{order-told, powerReads, power-told}
 use Rattle.touch_rules.specs.Told.{Told, toldInStages}

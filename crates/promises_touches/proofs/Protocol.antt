@@ -1,6 +1,6 @@
 -- The reads of a step in three parts, each hanging on those before it, so that a host asks three times and no more.
 -- Assumes nothing.
-use Prim.Native.Nat.{ℕ, _-_}
+use Prim.Native.Nat.{ℕ}
 use lib.Dec.{eqb}
 use mathlib.Core.Bool.{Bool, true, false, _&&_}
 use mathlib.Core.List.{List, [], _∷_, _++_, append-nil, append-assoc}
@@ -11,10 +11,8 @@ use Rattle.ground_rules.specs.Places.{Place, allTouchable}
 use Rattle.ground_rules.specs.Psw.{transferring}
 use Rattle.ground_rules.specs.States.{channelOf, blockOf, busyIn}
 use Rattle.ground_rules.specs.Sums.{sum20}
-use Rattle.ground_rules.specs.Values.{onward}
 use Rattle.ground_rules.specs.declared.Channel.{Channel}
 use Rattle.ground_rules.specs.declared.State.{State}
-use Rattle.instruction_rules.specs.Deeds.{Deed}
 use Rattle.instruction_rules.specs.Execute.{decodedAt, deedOf, deedFrom, laterBytes, laterFrom}
 use Rattle.instruction_rules.specs.Lengths.{lengthOf}
 use Rattle.instruction_rules.specs.Marks.{pastInstruction}
@@ -25,7 +23,7 @@ use Rattle.instruction_rules.specs.declared.Decoded.the-variants.{Instruction, 
 use Rattle.transfer_rules.specs.Halves.{firstPlace, secondPlace}
 use Rattle.transfer_rules.specs.Parts.{Part, Whole, FirstFetch, SecondFetch, FirstStore, SecondStore, partOf}
 use Rattle.transfer_rules.specs.Reads.{fetched, entryOf, also, readPlaces}
-use Rattle.transfer_rules.specs.Sides.{source, secondAddress, twoMove}
+use Rattle.transfer_rules.specs.Sides.{source, twoMove}
 use Rattle.transfer_rules.specs.Steps.{readsBy, badMode}
 use Rattle.turn_rules.specs.Choosing.{choiceOf}
 use Rattle.turn_rules.specs.Step.{entryNumber, stepOf}
@@ -36,7 +34,6 @@ use Rattle.promises_counts.proofs.Instruction.{decoded-same}
 use Rattle.promises_counts.proofs.Step.{entry-same}
 use Rattle.promises_counts.specs.Complete.{SameLengths, AgreeOn}
 use Rattle.promises_counts.specs.Lists.{stepAnswer}
-use Rattle.touch_rules.specs.Told.{Told}
 use Rattle.touch_rules.specs.Touches.{toldByTransfer, toldByInstruction, toldByChoice, toldByStep}
 use Rattle.promises_touches.specs.Protocol.{Alongside, AskedFirst, Begins, NextIsRead}
 use Rattle.promises_touches.specs.Words.{placesRead}

@@ -1,24 +1,24 @@
 -- Every call that is told beforehand has a number by what it is given and then stages; what follows from that alone.
 -- Assumes nothing.
-use Prim.Native.Nat.{ℕ, zero, suc, _+_, _-_, _%_, _≤_}
-use borrow.Author.Tests.{eq-eqb, ne-eqb, eqb-true, ltb-false}
-use lib.Dec.{eqb, eqb·suc-zero, ltb}
+use Prim.Native.Nat.{ℕ, zero, suc, _-_, _%_, _≤_}
+use borrow.Author.Tests.{eq-eqb, ne-eqb, ltb-false}
+use lib.Dec.{eqb, eqb·suc-zero}
 use lib.ListN.{length, length-append}
-use mathlib.Core.Bool.{Bool, true, false, not, _&&_, _||_}
-use mathlib.Core.List.{List, [], _∷_, _++_, append-nil}
+use mathlib.Core.Bool.{Bool, true, false, not, _&&_}
+use mathlib.Core.List.{List, [], _∷_, _++_}
 use mathlib.Core.Logic.{_↔_}
-use mathlib.Core.Path.{_≡_, refl, sym, ap, ap₂, subst, _∙_}
+use mathlib.Core.Path.{_≡_, refl, sym, ap, subst, _∙_}
 use native.Mathlib.Decide.{ℕ-discrete}
 use native.Mathlib.Omega.{arith}
-use Rattle.ground_rules.proofs.ChoiceLaws.{apart, both-left}
+use Rattle.ground_rules.proofs.ChoiceLaws.{apart}
 use Rattle.ground_rules.specs.Buffers.{Buffers, spaceOf, limitOf, indexOf, lentAt, touchableAt}
 use Rattle.ground_rules.specs.Choice.{pick}
 use Rattle.ground_rules.specs.Outcomes.{unless, first}
 use Rattle.ground_rules.specs.Places.{Place, allPass, allTouchable}
-use Rattle.ground_rules.specs.Stages.{Stage, stage, stagesNumber, stagesTouched}
+use Rattle.ground_rules.specs.Stages.{Stage, stagesNumber, stagesTouched}
 use Rattle.touch_rules.proofs.ToldLaws.{told-length, reached-touched, reached-touchable}
-use Rattle.touch_rules.specs.Told.{Told, toldRead, toldStore, toldBeyond, toldApart, firstBeyond, stagesPlaces, stagesReached, toldInStages}
-use Rattle.promises_touches.specs.Stops.{NoneMarked, EachTouchable, StopsAt, StopTold}
+use Rattle.touch_rules.specs.Told.{Told, toldBeyond, toldApart, firstBeyond, stagesPlaces, stagesReached, toldInStages}
+use Rattle.promises_touches.specs.Stops.{NoneMarked, StopsAt, StopTold}
 
 -- a call by what it is given and by its stages
 pub record Staged (number : ℕ) (m : Buffers) (stages : List Stage) (stores : List Place) (told : List Told) : Type 0 where

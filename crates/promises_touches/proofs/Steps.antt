@@ -1,13 +1,10 @@
 -- What was told of a step is what it does: that of the channel that has its turn, and nothing of an external end and of one that what it is given refuses.
 -- Assumes nothing.
 use Prim.Native.Nat.{ℕ}
-use borrow.Author.Tests.{eq-eqb, ne-eqb}
 use lib.Dec.{eqb}
 use mathlib.Core.Bool.{Bool, true, false}
 use mathlib.Core.List.{List, []}
-use mathlib.Core.Path.{_≡_, refl, sym, ap, ap₂, _∙_}
-use native.Mathlib.Decide.{ℕ-discrete}
-use native.Mathlib.Omega.{arith}
+use mathlib.Core.Path.{_≡_, refl, sym, ap, _∙_}
 use Rattle.ground_rules.specs.Buffers.{Buffers}
 use Rattle.ground_rules.specs.Choice.{pick}
 use Rattle.ground_rules.specs.Psw.{transferring}
@@ -28,7 +25,7 @@ use Rattle.promises_counts.specs.Lists.{stepAnswer}
 use Rattle.promises_counts.specs.Stores.{storesMade, storePlaces}
 use Rattle.touch_rules.specs.Told.{Told}
 use Rattle.touch_rules.specs.Touches.{toldByTransfer, toldByInstruction, toldByChoice, toldByStep}
-use Rattle.promises_touches.specs.Words.{placesRead, placesStored, SameDone, KeepsWord}
+use Rattle.promises_touches.specs.Words.{placesStored, KeepsWord}
 use Rattle.promises_touches.proofs.Instructions.{instruction-word}
 use Rattle.promises_touches.proofs.Transfers.{transfer-word}
 

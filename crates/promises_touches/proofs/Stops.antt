@@ -1,18 +1,17 @@
 -- Where the number is 2 the place at which the call stops is told and marked; where it is another, none is.
 -- Assumes nothing.
-use Prim.Native.Nat.{ℕ, _+_}
+use Prim.Native.Nat.{ℕ}
 use borrow.Author.Tests.{ne-eqb}
 use lib.Dec.{eqb}
 use lib.ListN.{length, length-append}
 use mathlib.Core.Bool.{Bool, true, false, _&&_}
 use mathlib.Core.List.{List, [], _++_}
-use mathlib.Core.Path.{_≡_, refl, sym, ap, _∙_}
+use mathlib.Core.Path.{_≡_, refl, ap, _∙_}
 use native.Mathlib.Omega.{arith}
 use Rattle.ground_rules.proofs.ChoiceLaws.{and-false}
 use Rattle.ground_rules.proofs.ConditionLaws.{told-exactly, told-touchable}
 use Rattle.ground_rules.proofs.SpanLaws.{span-length}
 use Rattle.ground_rules.specs.Buffers.{Buffers}
-use Rattle.ground_rules.specs.Choice.{pick}
 use Rattle.ground_rules.specs.Places.{Place, span, allTouchable}
 use Rattle.ground_rules.specs.Stages.{stage}
 use Rattle.ground_rules.specs.declared.Channel.{Channel}
@@ -26,7 +25,7 @@ use Rattle.ground_rules.specs.declared.State.{State}
 use Rattle.attention_rules.specs.Attention.{attentionOf}
 use Rattle.attention_rules.specs.Power.{powerUpOf}
 use Rattle.turn_rules.specs.Step.{stepOf}
-use Rattle.touch_rules.specs.Touches.{toldByOrder, toldByAttention, toldByPower, toldByTransfer, toldByInstruction, toldByStep}
+use Rattle.touch_rules.specs.Touches.{toldByOrder, toldByAttention, toldByPower, toldByInstruction, toldByStep}
 use Rattle.touch_rules.proofs.ToldLaws.{toldUpTo, beyond-length, reads-length}
 use Rattle.touch_rules.proofs.TouchesLaws.{order-told, instruction-told}
 use Rattle.touch_rules.specs.Told.{Told, toldReads, firstBeyond}

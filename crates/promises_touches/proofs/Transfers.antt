@@ -1,12 +1,10 @@
 -- What was told of a transfer step is what it does; one with a bad mode looks at no byte.
 -- Assumes nothing.
-use Prim.Native.Nat.{ℕ}
 use borrow.Author.Tests.{eqb-false, eq-eqb, ne-eqb}
 use lib.Dec.{eqb}
 use mathlib.Core.Bool.{Bool, true, false, not}
-use mathlib.Core.List.{List, [], _∷_, _++_}
+use mathlib.Core.List.{List, [], _∷_}
 use mathlib.Core.Path.{_≡_, refl, sym, ap, ap₂, subst, _∙_}
-use native.Mathlib.Omega.{arith}
 use Rattle.ground_rules.specs.Buffers.{Buffers}
 use Rattle.ground_rules.specs.Choice.{pick}
 use Rattle.ground_rules.specs.Outcomes.{unless}
@@ -17,14 +15,14 @@ use Rattle.schedule_rules.specs.Counts.{storesBy}
 use Rattle.transfer_rules.proofs.StepLaws.{number-is, outcome-5}
 use Rattle.transfer_rules.specs.Parts.{Part, Whole, FirstFetch, SecondFetch, FirstStore, SecondStore, partOf}
 use Rattle.transfer_rules.specs.Stores.{storedPlaces}
-use Rattle.transfer_rules.specs.Steps.{Transfer, transferred, touchedBy, readsBy, badMode, stagesBy, touchedByTransfer, transferStages, transferNumber, transferOf}
+use Rattle.transfer_rules.specs.Steps.{Transfer, readsBy, badMode, stagesBy, touchedByTransfer, transferStages, transferNumber, transferOf}
 use Rattle.promises_counts.proofs.Transfer.{data-same, transfer-traced}
 use Rattle.promises_counts.specs.Complete.{SameLengths, AgreeOn}
 use Rattle.promises_counts.specs.Lists.{transferAnswer}
 use Rattle.promises_counts.specs.Stores.{storesMade}
 use Rattle.touch_rules.proofs.ToldLaws.{toldUpTo}
 use Rattle.touch_rules.proofs.TouchesLaws.{transfer-told}
-use Rattle.touch_rules.specs.Told.{Told, toldReads, firstBeyond, toldInStages}
+use Rattle.touch_rules.specs.Told.{toldReads, firstBeyond, toldInStages}
 use Rattle.touch_rules.specs.Touches.{toldByTransfer}
 use Rattle.promises_touches.specs.Words.{placesRead, placesStored, KeepsWord}
 use Rattle.promises_touches.proofs.WordLaws.{readUpTo, storedUpTo, read-stages, stored-stages, stages-told}

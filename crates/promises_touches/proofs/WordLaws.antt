@@ -5,15 +5,15 @@ use lib.Dec.{eqb, ltb}
 use lib.ListN.{length}
 use mathlib.Core.Bool.{Bool, true, false, _&&_, _||_}
 use mathlib.Core.List.{List, [], _∷_, _++_, append-nil}
-use mathlib.Core.Path.{_≡_, refl, sym, ap, ap₂, _∙_}
+use mathlib.Core.Path.{_≡_, refl, ap, ap₂, _∙_}
 use Rattle.ground_rules.specs.Buffers.{Buffers, indexOf, lentAt, touchableAt}
 use Rattle.ground_rules.specs.Choice.{pick}
-use Rattle.ground_rules.specs.Places.{Place, allPass, allTouchable}
+use Rattle.ground_rules.specs.Places.{Place, allTouchable}
 use Rattle.ground_rules.specs.Stages.{Stage}
 use Rattle.promises_counts.proofs.AgreeLaws.{touchable-same}
 use Rattle.promises_counts.specs.Complete.{SameLengths}
 use Rattle.touch_rules.proofs.ToldLaws.{toldUpTo}
-use Rattle.touch_rules.specs.Told.{Told, toldRead, toldStore, toldBeyond, toldReads, toldStores, toldApart, firstBeyond, stagesPlaces, stagesReached, toldInStages}
+use Rattle.touch_rules.specs.Told.{Told, toldBeyond, toldReads, toldStores, toldApart, firstBeyond, stagesPlaces, stagesReached, toldInStages}
 use Rattle.promises_touches.specs.Words.{placesRead, placesStored}
 
 -- ---- a mark changes neither

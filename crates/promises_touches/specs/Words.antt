@@ -1,6 +1,5 @@
 -- What was told is what is done: in every memory with the same bytes at the places told as read, the call answers the same, stores where it was told and nowhere
 -- else, and the same places are told.
-use mathlib.Core.Bool.{Bool}
 use mathlib.Core.List.{List, [], _∷_}
 use mathlib.Core.Path.{_≡_}
 use Prim.Native.Nat.{ℕ}

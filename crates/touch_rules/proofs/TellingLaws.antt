@@ -1,12 +1,12 @@
 -- What the calls that tell answer: the number, channel and kind of the call itself, and how many places.
 -- Assumes nothing.
-use Prim.Native.Nat.{ℕ, _+_, _*_, _/_, _%_}
+use Prim.Native.Nat.{ℕ, _/_, _%_}
 use borrow.Author.Tests.{eq-eqb, ne-eqb}
 use lib.Dec.{eqb}
 use lib.ListN.{length}
 use mathlib.Core.Bool.{Bool, true, false}
 use mathlib.Core.List.{List}
-use mathlib.Core.Path.{_≡_, refl, ap}
+use mathlib.Core.Path.{_≡_, refl}
 use native.Mathlib.Omega.{arith}
 use Rattle.ground_rules.specs.Buffers.{Buffers}
 use Rattle.ground_rules.specs.Choice.{pick}
@@ -14,13 +14,13 @@ use Rattle.ground_rules.specs.Outcomes.{Outcome}
 use Rattle.ground_rules.specs.States.{resetState}
 use Rattle.attention_rules.specs.Attention.{attentionOf, attentionCount}
 use Rattle.attention_rules.specs.Power.{powerUpOf, powerCount}
-use Rattle.state_rules.specs.Calls.{Service, served, kindNumber, answerFrom, noState, powerServed, attentionServed, stepServed, sweepAnswerFrom, sweepServed}
+use Rattle.state_rules.specs.Calls.{served, kindNumber, answerFrom, noState, powerServed, attentionServed, stepServed, sweepAnswerFrom, sweepServed}
 use Rattle.state_rules.specs.Layout.{bytesOf, stateIn, isState, stateLength}
 use Rattle.sweep_rules.specs.Sweep.{Sweep, sweepOf}
 use Rattle.turn_rules.specs.Step.{Step, stepOf}
 use Rattle.turn_rules.specs.Touched.{stepCount}
 use Rattle.touch_rules.specs.Told.{Told, placesTold}
-use Rattle.touch_rules.specs.TouchCalls.{Telling, telling, toldAs, noneTold, touchesAttention, touchesPowerUp, touchesStep, touchesSweep}
+use Rattle.touch_rules.specs.TouchCalls.{telling, toldAs, noneTold, touchesAttention, touchesPowerUp, touchesStep, touchesSweep}
 use Rattle.touch_rules.specs.Touches.{toldByAttention, toldByPower, toldByStep, toldBySweep}
 
 -- ---- the number, the channel and the kind are the call's own, 17 included

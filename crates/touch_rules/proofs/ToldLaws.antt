@@ -4,15 +4,15 @@ use Prim.Native.Nat.{ℕ, zero, suc, _+_, _-_}
 use lib.Dec.{eqb, eqb·suc-zero}
 use lib.ListN.{length, length-append}
 use mathlib.Core.Bool.{Bool, true, false, _&&_}
-use mathlib.Core.List.{List, [], _∷_, _++_, append-nil, append-assoc}
-use mathlib.Core.Path.{_≡_, refl, sym, ap, ap₂, _∙_}
+use mathlib.Core.List.{List, [], _∷_, _++_, append-nil}
+use mathlib.Core.Path.{_≡_, refl, sym, ap, _∙_}
 use native.Mathlib.Omega.{arith}
 use Rattle.ground_rules.proofs.ChoiceLaws.{pick-same, apart}
 use Rattle.ground_rules.proofs.SpanLaws.{all-append}
 use Rattle.ground_rules.specs.Buffers.{Buffers, touchableAt}
 use Rattle.ground_rules.specs.Choice.{pick}
 use Rattle.ground_rules.specs.Outcomes.{unless, first}
-use Rattle.ground_rules.specs.Places.{Place, allPass, allTouchable}
+use Rattle.ground_rules.specs.Places.{Place, allTouchable}
 use Rattle.ground_rules.specs.Stages.{Stage, stage, stagesNumber, stagesTouched}
 use Rattle.touch_rules.specs.Told.{Told, toldRead, toldStore, toldBeyond, toldReads, toldStores, toldApart, firstBeyond, stagesPlaces, stagesReached, toldInStages}
 

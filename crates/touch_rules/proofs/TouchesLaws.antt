@@ -1,14 +1,13 @@
 -- What each call tells, stage by stage: what it reads and then what it stores, up to where it stops.
 -- Assumes nothing.
 use Prim.Native.Nat.{ℕ}
-use lib.Dec.{eqb}
-use mathlib.Core.Bool.{Bool, true, false, not}
-use mathlib.Core.List.{List, [], _∷_, _++_, append-assoc}
-use mathlib.Core.Path.{_≡_, refl, sym, ap, _∙_}
+use mathlib.Core.Bool.{false, not}
+use mathlib.Core.List.{List, [], _∷_, _++_}
+use mathlib.Core.Path.{_≡_, ap, _∙_}
 use Rattle.ground_rules.specs.Buffers.{Buffers}
 use Rattle.ground_rules.specs.Outcomes.{unless}
 use Rattle.ground_rules.specs.Places.{Place, span}
-use Rattle.ground_rules.specs.Stages.{Stage, stage}
+use Rattle.ground_rules.specs.Stages.{stage}
 use Rattle.ground_rules.specs.States.{busyIn}
 use Rattle.ground_rules.specs.declared.Channel.{Channel}
 use Rattle.ground_rules.specs.declared.Mode.{Mode}
@@ -23,8 +22,8 @@ use Rattle.instruction_rules.specs.Reading.{numberOf}
 use Rattle.schedule_rules.proofs.StoreLaws.{touched-apart}
 use Rattle.schedule_rules.specs.Counts.{storesBy}
 use Rattle.transfer_rules.specs.Parts.{partOf}
-use Rattle.transfer_rules.specs.Steps.{touchedBy, readsBy, badMode, stagesBy, transferStages}
-use Rattle.touch_rules.specs.Told.{Told, firstBeyond, toldInStages}
+use Rattle.transfer_rules.specs.Steps.{readsBy, badMode, stagesBy, transferStages}
+use Rattle.touch_rules.specs.Told.{firstBeyond, toldInStages}
 use Rattle.touch_rules.specs.Touches.{toldByOrder, toldByTransfer, toldByInstruction}
 use Rattle.touch_rules.proofs.ToldLaws.{toldUpTo, told-up-to}
 

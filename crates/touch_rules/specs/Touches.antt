@@ -1,5 +1,5 @@
 -- What each call touches, told beforehand: the list of its stages with reads and stores told apart, up to where it stops; nothing where what it is given refuses it.
-use mathlib.Core.Bool.{Bool, true, false}
+use mathlib.Core.Bool.{false}
 use mathlib.Core.List.{List, [], _∷_}
 use Prim.Native.Nat.{ℕ}
 use lib.Dec.{eqb}
