@@ -4,6 +4,7 @@ pub mod SignLaws
 pub mod StoredLaws
 pub mod PlaceLaws
 pub mod StoreLaws
+pub mod ByteLaws
 pub mod SpanLaws
 pub mod ChannelLaws
 pub mod OutcomeLaws

@@ -83,16 +83,23 @@ extended-lt k x h hx = go (ltb x (2 ^ (k - 1)))
     go true = omega (arith, pow-mono h)
     go false = omega (arith, pow-mono h)
 
--- a displacement of k bits moves a pointer as the sum with the extended number does
+-- a displacement of k bits moves a pointer by what it stands for: one of the upper half by 20 ones less the bits that it has not set, and so back
+pub displaced-by : (pointer k x : ℕ) → k ≤ 20 → displacedBy pointer (signedOf k x) ≡ (pointer + pick (ltb x (2 ^ (k - 1))) x (1048575 - (2 ^ k - 1 - x))) % 1048576
+unfolding signedOf displacedBy
+displaced-by pointer k x h = go (ltb x (2 ^ (k - 1)))
+  where
+    go : (b : Bool) → displacedBy pointer (pick b (pos x) (negsuc (2 ^ k - 1 - x))) ≡ (pointer + pick b x (1048575 - (2 ^ k - 1 - x))) % 1048576
+    go true = refl
+    go false = ap (λ (n : ℕ). (pointer + (1048575 - n)) % 1048576) (mod-eq-of-lt (omega (arith, pow-mono {j = 20} h)))
+
+-- which is the sum with the extended number
 pub displaced-extended : (pointer k x : ℕ) → k ≤ 20 → x < 2 ^ k → displacedBy pointer (signedOf k x) ≡ (pointer + extended k x) % 1048576
-unfolding signedOf extended displacedBy
-displaced-extended pointer k x h hx = go (ltb x (2 ^ (k - 1)))
+unfolding extended
+displaced-extended pointer k x h hx = displaced-by pointer k x h ∙ ap (λ (n : ℕ). (pointer + n) % 1048576) (go (ltb x (2 ^ (k - 1))))
   where
     most : 2 ^ k ≤ 1048576
     most = pow-mono h
 
-    go : (b : Bool) → displacedBy pointer (pick b (pos x) (negsuc (2 ^ k - 1 - x))) ≡ (pointer + pick b x (x + (1048576 - 2 ^ k))) % 1048576
+    go : (b : Bool) → pick b x (1048575 - (2 ^ k - 1 - x)) ≡ pick b x (x + (1048576 - 2 ^ k))
     go true = refl
-    go false =
-        let small : (2 ^ k - 1 - x) % 1048576 ≡ 2 ^ k - 1 - x = mod-eq-of-lt (omega (arith, most, hx)) in
-        ap (λ (n : ℕ). (pointer + n) % 1048576) (omega (arith, small, most, hx))
+    go false = omega (arith, most, hx)

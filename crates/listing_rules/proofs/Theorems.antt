@@ -244,7 +244,11 @@ pub all-fit : (code buffer : List ℕ) (first : ℕ) → length code ≤ listLim
 unfolding placed
 all-fit code buffer first limit room = same-part code buffer first limit ∙ rw (kept-all (linesOf first code) (length buffer) room, all-listed first code)
 
+-- the limit, by itself, so that another is refused by its number: of two long parts of a list the prover does not tell which is longer
+pub list-limit : listLimit ≡ 1048576
+list-limit = refl
+
 -- of a longer part the first 1,048,576 bytes are listed
 pub first-listed : (code buffer : List ℕ) (first : ℕ) → listingOf code first buffer ≡ placed (keptIn (length buffer) (linesOf first (take 1048576 code))) buffer
 unfolding listingOf
-first-listed code buffer first = refl
+first-listed code buffer first = ap (λ (n : ℕ). placed (keptIn (length buffer) (linesOf first (take n code))) buffer) list-limit

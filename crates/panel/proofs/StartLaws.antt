@@ -1,18 +1,15 @@
 -- The laws of a run's start: an attention to an idle channel of a blank state, after which that channel alone may run.
 -- Assumes nothing.
-use Prim.Native.Nat.{ℕ, zero, suc, _<_}
+use Prim.Native.Nat.{ℕ, _<_}
 use borrow.Author.Tests.{lt-ltb, eq-eqb, ne-eqb}
 use lib.Dec.{ltb}
-use lib.ListN.{getD}
 use mathlib.Core.Bool.{Bool, true, false, not, _&&_}
-use mathlib.Core.List.{List, [], _∷_}
 use mathlib.Core.Path.{_≡_, refl, sym, ap, ap₂, _∙_}
-use native.Mathlib.Omega.{arith}
 use Rattle.ground_rules.proofs.ChannelLaws.{put-same}
 use Rattle.ground_rules.proofs.ChoiceLaws.{both-left, both-right}
 use Rattle.ground_rules.proofs.ConditionLaws.{first-none-left, first-none-right, unless-none}
 use Rattle.ground_rules.proofs.FieldLaws.{blank-agree}
-use Rattle.ground_rules.specs.Buffers.{Buffers, buffers, AllBytes, spaceOf, indexOf, beyondIn, byteAt, withinLimits}
+use Rattle.ground_rules.specs.Buffers.{Buffers, AllBytes, withinLimits}
 use Rattle.ground_rules.specs.Choice.{pick}
 use Rattle.ground_rules.specs.Outcomes.{Outcome, outcome, first, unless, givenNumber}
 use Rattle.ground_rules.specs.States.{blankState, idleChannel, channelOf, withChannel, soundChannel, sound, isRunning, blockOf, busyIn, isChannel, isSecond}
@@ -33,16 +30,6 @@ use Rattle.turn_rules.specs.Step.{entryNumber}
 use Rattle.run_rules.specs.Run.{ran, stepsFrom, attendedRun, callNumber}
 use Rattle.panel.specs.Bursts.{aloneFrom, ranBy, aloneRun}
 use Rattle.panel.proofs.AloneLaws.{Alone, alone-runs}
-
--- every read of two lent buffers gives a byte
-pub all-bytes : (sys io : List ℕ) → ((i : ℕ) → getD sys i 0 < 256) → ((i : ℕ) → getD io i 0 < 256) → AllBytes (buffers sys io)
-unfolding byteAt spaceOf beyondIn
-all-bytes sys io h k true a = read io k (indexOf true a)
-  where
-    read : (l : List ℕ) → ((i : ℕ) → getD l i 0 < 256) → (i : ℕ) → getD l i 255 < 256
-    read [] f i = omega arith
-    read (x ∷ l) f i = elim i [ zero ↦ f 0 | suc j ↦ read l (λ k. f (suc k)) j ]
-all-bytes sys io h k false a = h (indexOf false a)
 
 -- what a call that 12 and 11 do not refuse was given
 call-given : (m : Buffers) (channel lines limit : ℕ) → callNumber m channel lines limit ≡ 0 → (isChannel channel ≡ true) × (ltb lines 16 ≡ true) × (withinLimits m ≡ true)

@@ -36,7 +36,7 @@ use Rattle.processor_calls.proofs.single.iop89_schedule as schedule
 pub fresh-passed : (κs : Lfts 1) (a : Dens κs fresh-kinds.ps) (r : resT fresh-kinds.r κs .Denot) (e : AtExit (endedOf 1 fresh-kinds.ps fresh-kinds.r) κs) → fresh-reads.Post κs a r e
     → made r (now (e .0))
     ≡ freshMade (now (a .0)) (a .1 .0)
-fresh-passed κs a r e p = p
+fresh-passed κs a r e p = p .0
 
 pub reset-passed : (κs : Lfts 1) (a : Dens κs reset-kinds.ps) (r : resT reset-kinds.r κs .Denot) (e : AtExit (endedOf 1 reset-kinds.ps reset-kinds.r) κs) → reset-reads.Post κs a r e
     → made r (now (e .0))
@@ -46,7 +46,7 @@ reset-passed κs a r e p = p
 pub power-passed : (κs : Lfts 3) (a : Dens κs power-kinds.ps) (r : resT power-kinds.r κs .Denot) (e : AtExit (endedOf 3 power-kinds.ps power-kinds.r) κs) → power-reads.Post κs a r e
     → served r (now (e .0)) (buffers (now (e .1 .0)) (now (e .1 .1 .0)))
     ≡ powerServed (now (a .0)) (buffers (now (a .1 .0)) (now (a .1 .1 .0)))
-power-passed κs a r e p = p
+power-passed κs a r e p = p .0
 
 pub attention-passed : (κs : Lfts 3) (a : Dens κs attention-kinds.ps) (r : resT attention-kinds.r κs .Denot) (e : AtExit (endedOf 3 attention-kinds.ps attention-kinds.r) κs) → attention-reads.Post κs a r e
     → served r (now (e .0)) (buffers (now (e .1 .0)) (now (e .1 .1 .0)))
@@ -61,18 +61,18 @@ step-passed κs a r e p = p .0
 -- what C lends to an attention or a step is of bytes
 pub attention-lent : (κs : Lfts 3) (a : Dens κs attention-kinds.ps) (r : resT attention-kinds.r κs .Denot) (e : AtExit (endedOf 3 attention-kinds.ps attention-kinds.r) κs) → attention-reads.Post κs a r e
     → AllBytes (buffers (now (a .1 .0)) (now (a .1 .1 .0)))
-attention-lent κs a r e p = p .1 .1
+attention-lent κs a r e p = p .1 .1 .1
 
 pub step-lent : (κs : Lfts 3) (a : Dens κs step-kinds.ps) (r : resT step-kinds.r κs .Denot) (e : AtExit (endedOf 3 step-kinds.ps step-kinds.r) κs) → step-reads.Post κs a r e
     → AllBytes (buffers (now (a .1 .0)) (now (a .1 .1 .0)))
-step-lent κs a r e p = p .1 .1
+step-lent κs a r e p = p .1 .1 .1
 
 -- so a step that C gives a state leaves one
 pub step-leaves : (κs : Lfts 3) (a : Dens κs step-kinds.ps) (r : resT step-kinds.r κs .Denot) (e : AtExit (endedOf 3 step-kinds.ps step-kinds.r) κs) → step-reads.Post κs a r e
     → isState (now (a .0)) ≡ true → isState (now (e .0)) ≡ true
 step-leaves κs a r e p h =
     ap (λ (o : Service). isState (o .bytes)) (p .0)
-    ∙ step-stays (now (a .0)) (p .1 .0) (buffers (now (a .1 .0)) (now (a .1 .1 .0))) h (p .1 .1) (a .1 .1 .1 .0)
+    ∙ step-stays (now (a .0)) (p .1 .1 .0) (buffers (now (a .1 .0)) (now (a .1 .1 .0))) h (p .1 .1 .1) (a .1 .1 .1 .0)
 
 -- a schedule's contract is no plain claim to the prover's own walk: what it says of a call is the equation
 pub schedule-passed : {M : Type 1} (𝓤 : URA M) (H : Heap 𝓤) (A : Atoms 𝓤) (mem : Memory → SProp 𝓤) (run : Routine → Fun 𝓤) (κs : Lfts 5) (a : Args schedule.signature κs)

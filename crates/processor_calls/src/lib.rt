@@ -7,7 +7,7 @@ ghost use Rattle.processor_rules.specs.Processors.{Memories, processors, memori
 ghost use Rattle.processor_calls.specs.Calls.{reported, pairAttention, pairStep, pairReset, pairPowerUp, pairSweep, pairSchedule};
 
 // The calls on one processor.
-mod single;
+pub mod single;
 
 // Makes the state after reset of a processor.
 #[no_mangle]

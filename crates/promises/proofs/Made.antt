@@ -33,7 +33,7 @@ use Rattle.turn_rules.proofs.NumberLaws.{step-ready}
 use Rattle.turn_rules.proofs.OutcomeLaws.{refused, board-kept}
 use Rattle.turn_rules.proofs.SoundLaws.{sound-kept, step-agree}
 use Rattle.turn_rules.specs.Step.{Step, stepOf}
-use Rattle.promises.specs.Made.{Made, MadeOfBytes, NoRow, RowUsesControl}
+use Rattle.promises.specs.Made.{MadeIn, Made, MadeOfBytes, NoRow, RowUsesControl}
 use Rattle.promises.specs.Made.MadeIn.{fresh, power, attention, step}
 
 -- ---- sound states
@@ -62,6 +62,13 @@ made-sound (attention {s} made m bytes channel) = attention-either s m bytes cha
 made-sound (step {s} made m lines) = step-either s m lines (made-sound made)
 
 -- ---- powered up
+
+-- what is asked of memories may be left out
+pub made-any : {asked : Buffers → Type 0} {s : State} → MadeIn asked s → Made s
+made-any (fresh cp) = fresh cp
+made-any (power s m e) = power s m e
+made-any (attention made m bytes channel) = attention (made-any made) m tt channel
+made-any (step made m lines) = step (made-any made) m lines
 
 -- in any memories every such state is powered up
 pub made-powered : {s : State} → Made s → s .board .powered ≡ true

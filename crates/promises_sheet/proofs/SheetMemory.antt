@@ -39,7 +39,7 @@ use Rattle.ground_rules.specs.declared.State.{State}
 use Rattle.ground_rules.proofs.PlaceLaws.{byte-reduced, later, after}
 use Rattle.ground_rules.proofs.SpanLaws.{span-at, span-first}
 use Rattle.ground_rules.proofs.StoreLaws.{store-lent, store-touchable, read-same, read-other, slot-stays}
-use Rattle.ground_rules.specs.Buffers.{Buffers, AllBytes, lentAt, touchableAt, byteAt, storeByte}
+use Rattle.ground_rules.specs.Buffers.{Buffers, lentAt, touchableAt, byteAt, storeByte}
 use Rattle.ground_rules.specs.Places.{allTouchable, Apart}
 use Rattle.ground_rules.specs.Values.{pointer, onward, storePointer}
 use Rattle.ground_rules.specs.declared.Pointer.{Pointer}
@@ -340,7 +340,7 @@ module _ {b : Bool} {s : State} {m : Buffers} {lines : ℕ} where
       (result-left m (baseTag c mm) (operandAddress m c mm aa) (withBit y r on) 0 (lit< tt))
 
   -- jumps on memory
-  module _ (shape : Shape) (dd r aa w op mm by : ℕ) (two taken taken′ : Bool) (small : op < 64) (all : AllBytes m)
+  module _ (shape : Shape) (dd r aa w op mm by : ℕ) (two taken taken′ : Bool) (small : op < 64)
       (reads : lookup table (pairWith r dd aa w op mm) ≡ Instruction shape) (x : Ran b s m lines r dd aa w op mm) where
     jumps : taken ≡ taken′
         → deedIn s m b shape .channel ≡ jumpedIf taken m (grown (pastInstruction (channelOf s b) (2 + offsetBytes aa + ddOf two)) (memoryWith mm aa w) by) (onward (channelOf s b .tp) (2 + offsetBytes aa)) two
@@ -351,23 +351,23 @@ module _ {b : Bool} {s : State} {m : Buffers} {lines : ℕ} where
         let c = channelOf s b in
         let n = 2 + offsetBytes aa + ddOf two in
         goes x shape small reads
-        (jumped-left m c (grown (pastInstruction c n) (memoryWith mm aa w) by) n (grownBy (c .ix) aa by) (2 + offsetBytes aa) two taken taken′ all e refl
+        (jumped-left m c (grown (pastInstruction c n) (memoryWith mm aa w) by) n (grownBy (c .ix) aa by) (2 + offsetBytes aa) two taken taken′ e refl
         (grown-left c n mm aa w by (x .mode)))
         f g
 
   -- JZ M, JNZ M
-  jump : (z two : Bool) (aa w op mm : ℕ) → op < 64 → AllBytes m → lookup table (pairWith 0 (ddOf two) aa w op mm) ≡ Instruction (JumpMemory z (memoryWith mm aa w) two)
+  jump : (z two : Bool) (aa w op mm : ℕ) → op < 64 → lookup table (pairWith 0 (ddOf two) aa w op mm) ≡ Instruction (JumpMemory z (memoryWith mm aa w) two)
       → Ran b s m lines 0 (ddOf two) aa w op mm
       → Goes b s m lines
       (landed b s m lines (whether z (eqb (rawIn m (baseTag (channelOf s b) mm) (operandAddress m (channelOf s b) mm aa) w) 0)) aa two)
       (grownBy (channelOf s b .ix) aa (w + 1))
   unfolding deedOf performed jumpMemoryDeed changed lengthOf dataLength displacementLength
-  jump z two aa w op mm small all reads x =
+  jump z two aa w op mm small reads x =
       let c = channelOf s b in
       let o = memoryWith mm aa w in
       let at = pointer (operandAddress m c mm aa) (baseTag c mm) in
       let n = 2 + offsetBytes aa + ddOf two in
-      jumps (JumpMemory z o two) (ddOf two) 0 aa w op mm (w + 1) two (whether z (eqb (operandAt m at (eqb w 1)) 0)) _ small all reads x
+      jumps (JumpMemory z o two) (ddOf two) 0 aa w op mm (w + 1) two (whether z (eqb (operandAt m at (eqb w 1)) 0)) _ small reads x
       (ap (λ (t : Bool). whether z t)
       (ap (λ (v : ℕ). eqb v 0) (operand-is m (baseTag c mm) (operandAddress m c mm aa) (operandAddress m c mm aa) w (x .wide) refl)
       ∙ raw-zero m (baseTag c mm) (operandAddress m c mm aa) w (x .wide)))
@@ -378,7 +378,7 @@ module _ {b : Bool} {s : State} {m : Buffers} {lines : ℕ} where
       refl
 
   -- a byte that is tested
-  module _ (shape : Shape) (test : ℕ → Bool) (r aa op mm : ℕ) (two : Bool) (small : op < 64) (all : AllBytes m)
+  module _ (shape : Shape) (test : ℕ → Bool) (r aa op mm : ℕ) (two : Bool) (small : op < 64)
       (reads : lookup table (pairWith r (ddOf two) aa 0 op mm) ≡ Instruction shape) (x : Ran b s m lines r (ddOf two) aa 0 op mm) where
     jump-byte : deedIn s m b shape .channel
         ≡ jumpedIf (test (byteAt m (effective m (pastInstruction (channelOf s b) (2 + pick (eqb aa 1) 1 0 + 0 + (1 + pick two 1 0))) (memoryWith mm aa 0) (channelOf s b .tp) .tag)
@@ -390,7 +390,7 @@ module _ {b : Bool} {s : State} {m : Buffers} {lines : ℕ} where
         let c = channelOf s b in
         let o = memoryWith mm aa 0 in
         let n = 2 + offsetBytes aa + ddOf two in
-        jumps shape (ddOf two) r aa 0 op mm 1 two (test (byteOperand b s m lines mm aa)) (test (byteOperand b s m lines mm aa)) small all reads x refl
+        jumps shape (ddOf two) r aa 0 op mm 1 two (test (byteOperand b s m lines mm aa)) (test (byteOperand b s m lines mm aa)) small reads x refl
         (f
         ∙ ap₂ (λ (k : ℕ) (q : Pointer). jumpedIf (test (byteAt m (effective m (pastInstruction c k) o (c .tp) .tag) (effective m (pastInstruction c k) o (c .tp) .address))) m (grown (pastInstruction c k) o 1) q two)
         (jump-long aa two (x .mode)) (behind-is c mm aa 0 (x .mode))
@@ -399,23 +399,23 @@ module _ {b : Bool} {s : State} {m : Buffers} {lines : ℕ} where
         g
 
   -- JMCE, JMCNE
-  jump-masked : (equal two : Bool) (aa op mm : ℕ) → op < 64 → AllBytes m → lookup table (pairWith 0 (ddOf two) aa 0 op mm) ≡ Instruction (JumpMasked equal (memoryWith mm aa 0) two)
+  jump-masked : (equal two : Bool) (aa op mm : ℕ) → op < 64 → lookup table (pairWith 0 (ddOf two) aa 0 op mm) ≡ Instruction (JumpMasked equal (memoryWith mm aa 0) two)
       → Ran b s m lines 0 (ddOf two) aa 0 op mm
       → Goes b s m lines
       (landed b s m lines (whether equal (eqb (bitAnd (bitXor (byteOperand b s m lines mm aa) (channelOf s b .mc % 256)) (channelOf s b .mc / 256 % 256)) 0)) aa two)
       (grownBy (channelOf s b .ix) aa 1)
   unfolding deedOf performed jumpMaskedDeed jumpByteDeed matchOf changed lengthOf dataLength displacementLength pastInstruction renewed
-  jump-masked equal two aa op mm small all reads x =
+  jump-masked equal two aa op mm small reads x =
       jump-byte (JumpMasked equal (memoryWith mm aa 0) two)
-      (λ y. whether equal (eqb (bitAnd (bitXor y (channelOf s b .mc % 256)) (channelOf s b .mc / 256 % 256)) 0)) 0 aa op mm two small all reads x refl refl
+      (λ y. whether equal (eqb (bitAnd (bitXor y (channelOf s b .mc % 256)) (channelOf s b .mc / 256 % 256)) 0)) 0 aa op mm two small reads x refl refl
 
   -- JBT, JNBT
-  jump-bit : (set two : Bool) (r aa op mm : ℕ) → op < 64 → AllBytes m → lookup table (pairWith r (ddOf two) aa 0 op mm) ≡ Instruction (JumpBit set r (memoryWith mm aa 0) two)
+  jump-bit : (set two : Bool) (r aa op mm : ℕ) → op < 64 → lookup table (pairWith r (ddOf two) aa 0 op mm) ≡ Instruction (JumpBit set r (memoryWith mm aa 0) two)
       → Ran b s m lines r (ddOf two) aa 0 op mm
       → Goes b s m lines (landed b s m lines (whether set (eqb (bit (byteOperand b s m lines mm aa) r) 1)) aa two) (grownBy (channelOf s b .ix) aa 1)
   unfolding deedOf performed jumpBitDeed jumpByteDeed bitOf changed lengthOf dataLength displacementLength
-  jump-bit set two r aa op mm small all reads x =
-      jump-byte (JumpBit set r (memoryWith mm aa 0) two) (λ y. whether set (eqb (bit y r) 1)) r aa op mm two small all reads x refl refl
+  jump-bit set two r aa op mm small reads x =
+      jump-byte (JumpBit set r (memoryWith mm aa 0) two) (λ y. whether set (eqb (bit y r) 1)) r aa op mm two small reads x refl refl
 
   -- TSL
   tsl-place : (aa mm : ℕ) → Ran b s m lines 0 3 aa 0 0x25 mm → (k : ℕ)
@@ -442,12 +442,12 @@ module _ {b : Bool} {s : State} {m : Buffers} {lines : ℕ} where
       ∙ ap (resultTo at false) (byte-reduced m (c .tp .tag) (c .tp .address + (2 + offsetBytes aa)))))
       (result-left m (baseTag c mm) (operandAddress m c mm aa) y 0 (lit< tt))
 
-  tsl-taken : (aa mm : ℕ) → AllBytes m → ¬ (byteOperand b s m lines mm aa ≡ 0) → Ran b s m lines 0 3 aa 0 0x25 mm
+  tsl-taken : (aa mm : ℕ) → ¬ (byteOperand b s m lines mm aa ≡ 0) → Ran b s m lines 0 3 aa 0 0x25 mm
       → Goes b s m lines
       (jumpedBy (channelOf s b) (2 + offsetBytes aa + 2) (displacementIn m (channelOf s b) (2 + offsetBytes aa + 1) false))
       (grownBy (channelOf s b .ix) aa 1)
   unfolding lookup table deedOf performed tslDeed lengthOf dataLength displacementLength changed grown pastInstruction renewed
-  tsl-taken aa mm all ne x =
+  tsl-taken aa mm ne x =
       let c = channelOf s b in
       let o = memoryWith mm aa 0 in
       let n = 2 + offsetBytes aa + 2 in
@@ -455,25 +455,25 @@ module _ {b : Bool} {s : State} {m : Buffers} {lines : ℕ} where
       let taken : eqb (byteAt m (effective m (pastInstruction c k) o (c .tp) .tag) (effective m (pastInstruction c k) o (c .tp) .address)) 0 ≡ false =
       ap (λ (q : Pointer). eqb (byteAt m (q .tag) (q .address)) 0) (tsl-place aa mm x k) ∙ ne-eqb (byteOperand b s m lines mm aa) 0 ne in
       goes x (Tsl o) (lit< tt) refl
-      (jumped-left m c (grown (pastInstruction c n) o 1) n (grownBy (c .ix) aa 1) (2 + offsetBytes aa + 1) false true true all refl refl (grown-left c n mm aa 0 1 (x .mode)))
+      (jumped-left m c (grown (pastInstruction c n) o 1) n (grownBy (c .ix) aa 1) (2 + offsetBytes aa + 1) false true true refl refl (grown-left c n mm aa 0 1 (x .mode)))
       (rw taken
       (ap₂ (λ (i : ℕ) (q : Pointer). jumpedIf true m (grown (pastInstruction c i) o 1) q false) (more-length aa 1 1 (x .mode))
       (ap (λ (q : Pointer). onward q 1) (behind-is c mm aa 0 (x .mode)) ∙ onward-more (c .tp) (2 + offsetBytes aa) 1)))
       (rw taken)
 
   -- CALL
-  call : (two : Bool) (aa w mm : ℕ) → AllBytes m → lookup table (pairWith 4 (ddOf two) aa w 0x27 mm) ≡ Instruction (Call (memoryWith mm aa w) two)
+  call : (two : Bool) (aa w mm : ℕ) → lookup table (pairWith 4 (ddOf two) aa w 0x27 mm) ≡ Instruction (Call (memoryWith mm aa w) two)
       → Ran b s m lines 4 (ddOf two) aa w 0x27 mm
       → Stores b s m lines mm aa (formOf (pastPair b s m lines aa (ddOf two)) (channelOf s b .tp .tag))
       (landed b s m lines true aa two) (grownBy (channelOf s b .ix) aa 3)
   unfolding deedOf performed callDeed lengthOf dataLength displacementLength grown pastInstruction renewed onward
-  call two aa w mm all reads x =
+  call two aa w mm reads x =
       let c = channelOf s b in
       let o = memoryWith mm aa w in
       let n = 2 + offsetBytes aa + ddOf two in
       let at = pointer (operandAddress m c mm aa) (baseTag c mm) in
       stores x (Call o two) (lit< tt) reads (pointerTo at (pointer (pastBy c n) (c .tp .tag)))
-      (jumped-left m c (grown (pastInstruction c n) o 3) n (grownBy (c .ix) aa 3) (2 + offsetBytes aa) two true true all refl refl (grown-left c n mm aa w 3 (x .mode)))
+      (jumped-left m c (grown (pastInstruction c n) o 3) n (grownBy (c .ix) aa 3) (2 + offsetBytes aa) two true true refl refl (grown-left c n mm aa w 3 (x .mode)))
       (ap₂ (λ (i : ℕ) (q : Pointer). jumpedIf true m (grown (pastInstruction c i) o 3) q two) (jump-long aa two (x .mode)) (behind-is c mm aa w (x .mode)))
       (ap₂ (λ (i : ℕ) (q : Pointer). pointerTo q (onward (c .tp) i)) (jump-long aa two (x .mode)) (place-is m c (lengthOf (Call o two)) mm aa w (x .mode) (x .base)))
       (pointer-left m (baseTag c mm) (operandAddress m c mm aa) (pointer (pastBy c n) (c .tp .tag)))
@@ -626,7 +626,7 @@ memory-sheet b s m lines = record {
   tslFree = tsl-free;
   tslTaken = tsl-taken;
   moveBetween = move-between;
-  call = λ two aa w mm all x. call two aa w mm all (calls two aa w mm) x;
+  call = λ two aa w mm x. call two aa w mm (calls two aa w mm) x;
 }
   where
     c₀ : Channel
@@ -681,30 +681,30 @@ memory-sheet b s m lines = record {
     bits true r aa mm x = set-bit true r aa 0x3D mm (lit< tt) refl x
     bits false r aa mm x = set-bit false r aa 0x3E mm (lit< tt) refl x
 
-    jumps′ : (z two : Bool) (aa w mm : ℕ) → AllBytes m → Ran b s m lines 0 (ddOf two) aa w (pick z 0x39 0x38) mm
+    jumps′ : (z two : Bool) (aa w mm : ℕ) → Ran b s m lines 0 (ddOf two) aa w (pick z 0x39 0x38) mm
         → Goes b s m lines
         (landed b s m lines (whether z (eqb (rawIn m (baseTag (channelOf s b) mm) (operandAddress m (channelOf s b) mm aa) w) 0)) aa two)
         (grownBy (channelOf s b .ix) aa (w + 1))
-    jumps′ true true aa w mm all x = jump true true aa w 0x39 mm (lit< tt) all refl x
-    jumps′ true false aa w mm all x = jump true false aa w 0x39 mm (lit< tt) all refl x
-    jumps′ false true aa w mm all x = jump false true aa w 0x38 mm (lit< tt) all refl x
-    jumps′ false false aa w mm all x = jump false false aa w 0x38 mm (lit< tt) all refl x
+    jumps′ true true aa w mm x = jump true true aa w 0x39 mm (lit< tt) refl x
+    jumps′ true false aa w mm x = jump true false aa w 0x39 mm (lit< tt) refl x
+    jumps′ false true aa w mm x = jump false true aa w 0x38 mm (lit< tt) refl x
+    jumps′ false false aa w mm x = jump false false aa w 0x38 mm (lit< tt) refl x
 
-    masked : (equal two : Bool) (aa mm : ℕ) → AllBytes m → Ran b s m lines 0 (ddOf two) aa 0 (pick equal 0x2C 0x2D) mm
+    masked : (equal two : Bool) (aa mm : ℕ) → Ran b s m lines 0 (ddOf two) aa 0 (pick equal 0x2C 0x2D) mm
         → Goes b s m lines
         (landed b s m lines (whether equal (eqb (bitAnd (bitXor (byteOperand b s m lines mm aa) (channelOf s b .mc % 256)) (channelOf s b .mc / 256 % 256)) 0)) aa two)
         (grownBy (channelOf s b .ix) aa 1)
-    masked true true aa mm all x = jump-masked true true aa 0x2C mm (lit< tt) all refl x
-    masked true false aa mm all x = jump-masked true false aa 0x2C mm (lit< tt) all refl x
-    masked false true aa mm all x = jump-masked false true aa 0x2D mm (lit< tt) all refl x
-    masked false false aa mm all x = jump-masked false false aa 0x2D mm (lit< tt) all refl x
+    masked true true aa mm x = jump-masked true true aa 0x2C mm (lit< tt) refl x
+    masked true false aa mm x = jump-masked true false aa 0x2C mm (lit< tt) refl x
+    masked false true aa mm x = jump-masked false true aa 0x2D mm (lit< tt) refl x
+    masked false false aa mm x = jump-masked false false aa 0x2D mm (lit< tt) refl x
 
-    tested : (set two : Bool) (r aa mm : ℕ) → AllBytes m → Ran b s m lines r (ddOf two) aa 0 (pick set 0x2F 0x2E) mm
+    tested : (set two : Bool) (r aa mm : ℕ) → Ran b s m lines r (ddOf two) aa 0 (pick set 0x2F 0x2E) mm
         → Goes b s m lines (landed b s m lines (whether set (eqb (bit (byteOperand b s m lines mm aa) r) 1)) aa two) (grownBy (channelOf s b .ix) aa 1)
-    tested true true r aa mm all x = jump-bit true true r aa 0x2F mm (lit< tt) all refl x
-    tested true false r aa mm all x = jump-bit true false r aa 0x2F mm (lit< tt) all refl x
-    tested false true r aa mm all x = jump-bit false true r aa 0x2E mm (lit< tt) all refl x
-    tested false false r aa mm all x = jump-bit false false r aa 0x2E mm (lit< tt) all refl x
+    tested true true r aa mm x = jump-bit true true r aa 0x2F mm (lit< tt) refl x
+    tested true false r aa mm x = jump-bit true false r aa 0x2F mm (lit< tt) refl x
+    tested false true r aa mm x = jump-bit false true r aa 0x2E mm (lit< tt) refl x
+    tested false false r aa mm x = jump-bit false false r aa 0x2E mm (lit< tt) refl x
 
     calls : (two : Bool) (aa w mm : ℕ) → lookup table (pairWith 4 (ddOf two) aa w 0x27 mm) ≡ Instruction (Call (memoryWith mm aa w) two)
     calls true aa w mm = refl

@@ -1,8 +1,8 @@
 -- What the rows of the sheet of instructions share: from the pair at TP to the deed that the step leaves, operands and registers by fields and numbers.
 -- Assumes nothing.
-use Prim.Native.Nat.{ℕ, zero, suc, _+_, _*_, _/_, _%_, _^_, _<_}
+use Prim.Native.Nat.{ℕ, zero, suc, _+_, _-_, _*_, _/_, _%_, _^_, _<_}
 use borrow.Author.Tests.{eq-eqb, ne-eqb}
-use lib.Dec.{eqb, lit<, lit≤, eqb·suc-zero}
+use lib.Dec.{eqb, ltb, lit<, lit≤, eqb·suc-zero}
 use lib.ListN.{set}
 use mathlib.Core.Bool.{Bool, true, false, _&&_}
 use mathlib.Core.List.{List}
@@ -37,12 +37,12 @@ use Rattle.ground_rules.specs.Values.{pointer, onward, wordAt}
 use Rattle.ground_rules.specs.declared.Pointer.{Pointer}
 use Rattle.turn_rules.specs.Step.{Step, doneStep, settledStep, instructionStep, stepOf}
 use Rattle.turn_rules.specs.declared.Kind.{Kind}
-use Rattle.ground_rules.proofs.SignLaws.{displaced-extended}
+use Rattle.ground_rules.proofs.SignLaws.{displaced-by}
 use Rattle.ground_rules.specs.Bits.{fieldOf, withBit}
 use Rattle.ground_rules.specs.Choice.{pick}
 use Rattle.ground_rules.specs.Signs.{signedOf, extended, displacedBy}
 use Rattle.promises.specs.SheetWords.{bit, wordIn, registerValues, tagsOf, valueIn, tagIn, setValue, setTag}
-use Rattle.promises_sheet.specs.SheetOperands.{Ran, ranChannel, codeByte, baseAddress, baseTag, addedBy, operandAddress, grownBy, operandIn, displacementIn, registersAt, pastBy, jumpedBy, RegistersLeft}
+use Rattle.promises_sheet.specs.SheetOperands.{Ran, ranChannel, codeByte, baseAddress, baseTag, addedBy, operandAddress, grownBy, operandIn, byByte, byWord, displacementIn, registersAt, pastBy, jumpedBy, RegistersLeft}
 use Rattle.promises.proofs.InstructionLaws.{decoded, turn-executes}
 use Rattle.promises.proofs.SheetLaws.{bit-made, bit-kept, byte-alike, word-alike}
 
@@ -257,41 +257,57 @@ module _ (c : Channel) where
   }
 
 -- a displacement in bytes, added in 20 bits
-module _ (m : Buffers) (all : AllBytes m) (t : Bool) (p a a′ : ℕ) (e : a % 1048576 ≡ a′ % 1048576) where
-  byte-displaced : displacedBy p (signedOf 8 (byteAt m t a)) ≡ (p + operandIn m t a′ 0) % 1048576
-  unfolding extended
-  byte-displaced = displaced-extended p 8 (byteAt m t a) (lit≤ tt) (all t a) ∙ ap (λ (x : ℕ). (p + extended 8 x) % 1048576) (byte-alike m t a a′ e)
+module _ (m : Buffers) (t : Bool) (p a a′ : ℕ) (e : a % 1048576 ≡ a′ % 1048576) where
+  byte-displaced : displacedBy p (signedOf 8 (byteAt m t a)) ≡ (p + byByte (byteAt m t a′)) % 1048576
+  byte-displaced = displaced-by p 8 (byteAt m t a) (lit≤ tt) ∙ ap (λ (x : ℕ). (p + byByte x) % 1048576) (byte-alike m t a a′ e)
 
-  word-displaced : displacedBy p (signedOf 16 (wordAt m t a)) ≡ (p + operandIn m t a′ 1) % 1048576
-  unfolding extended
-  word-displaced =
-      let small : wordIn m t a′ < 65536 = omega (arith, all t a′, all t (a′ + 1)) in
-      ap (λ (x : ℕ). displacedBy p (signedOf 16 x)) (word-alike m t a a′ e) ∙ displaced-extended p 16 (wordIn m t a′) (lit≤ tt) small
+  word-displaced : displacedBy p (signedOf 16 (wordAt m t a)) ≡ (p + byWord (wordIn m t a′)) % 1048576
+  word-displaced = ap (λ (x : ℕ). displacedBy p (signedOf 16 x)) (word-alike m t a a′ e) ∙ displaced-by p 16 (wordIn m t a′) (lit≤ tt)
+
+-- where memory is of bytes, a displacement is the byte or word extended as an operand is
+pub displacement-extended : (m : Buffers) (c : Channel) (k : ℕ) (two : Bool) → AllBytes m → displacementIn m c k two ≡ operandIn m (c .tp .tag) (c .tp .address + k) (pick two 1 0)
+displacement-extended m c k false all = go (ltb (codeByte m c k) 128)
+  where
+    go : (b : Bool) → pick b (codeByte m c k) (1048575 - (255 - codeByte m c k)) ≡ pick b (codeByte m c k) (codeByte m c k + 1048320)
+    go true = refl
+    go false = omega (arith, all (c .tp .tag) (c .tp .address + k))
+displacement-extended m c k true all = go (ltb x 32768)
+  where
+    x : ℕ
+    x = wordIn m (c .tp .tag) (c .tp .address + k)
+
+    go : (b : Bool) → pick b x (1048575 - (65535 - x)) ≡ pick b x (x + 983040)
+    go true = refl
+    go false = omega (arith, all (c .tp .tag) (c .tp .address + k), all (c .tp .tag) (c .tp .address + k + 1))
 
 -- where a jump leads
-pub jump-is : (m : Buffers) (c : Channel) (n k : ℕ) (two : Bool) → AllBytes m
+pub jump-is : (m : Buffers) (c : Channel) (n k : ℕ) (two : Bool)
     → displacedBy (pastBy c n) (displacementAt m (onward (c .tp) k) two) ≡ jumpedBy c n (displacementIn m c k two)
 unfolding displacementAt onward
-jump-is m c n k false all =
-    let same : (c .tp .address + k) % 1048576 % 1048576 ≡ (c .tp .address + k) % 1048576 = omega arith in
-    byte-displaced m all (c .tp .tag) (pastBy c n) ((c .tp .address + k) % 1048576) (c .tp .address + k) same
-    ∙ mod-add-mod (c .tp .address + n) 1048576 (operandIn m (c .tp .tag) (c .tp .address + k) 0)
-jump-is m c n k true all =
-    let same : (c .tp .address + k) % 1048576 % 1048576 ≡ (c .tp .address + k) % 1048576 = omega arith in
-    word-displaced m all (c .tp .tag) (pastBy c n) ((c .tp .address + k) % 1048576) (c .tp .address + k) same
-    ∙ mod-add-mod (c .tp .address + n) 1048576 (operandIn m (c .tp .tag) (c .tp .address + k) 1)
+jump-is m c n k two = go two
+  where
+    same : (c .tp .address + k) % 1048576 % 1048576 ≡ (c .tp .address + k) % 1048576
+    same = omega arith
+
+    go : (two : Bool) → displacedBy (pastBy c n) (displacementAt m (onward (c .tp) k) two) ≡ jumpedBy c n (displacementIn m c k two)
+    go false =
+        byte-displaced m (c .tp .tag) (pastBy c n) ((c .tp .address + k) % 1048576) (c .tp .address + k) same
+        ∙ mod-add-mod (c .tp .address + n) 1048576 (displacementIn m c k false)
+    go true =
+        word-displaced m (c .tp .tag) (pastBy c n) ((c .tp .address + k) % 1048576) (c .tp .address + k) same
+        ∙ mod-add-mod (c .tp .address + n) 1048576 (displacementIn m c k true)
 
 -- the channel after a jump that is taken or not
-pub jumped-left : (m : Buffers) (c k : Channel) (n ix at : ℕ) (two taken taken′ : Bool) → AllBytes m → taken ≡ taken′ → k .tp ≡ onward (c .tp) n
+pub jumped-left : (m : Buffers) (c k : Channel) (n ix at : ℕ) (two taken taken′ : Bool) → taken ≡ taken′ → k .tp ≡ onward (c .tp) n
     → RegistersLeft c k (registersAt c (pastBy c n) ix) (tagsOf c)
     → RegistersLeft c (jumpedIf taken m k (onward (c .tp) at) two) (registersAt c (pick taken′ (jumpedBy c n (displacementIn m c at two)) (pastBy c n)) ix) (tagsOf c)
 unfolding jumpedIf landing onward
-jumped-left m c k n ix at two taken taken′ all e f l =
+jumped-left m c k n ix at two taken taken′ e f l =
     task-left c (pick taken (landing m (k .tp) (onward (c .tp) at) two) (k .tp)) (pick taken′ (jumpedBy c n (displacementIn m c at two)) (pastBy c n))
     (rw f (lands taken ∙ ap (λ (b : Bool). pick b (jumpedBy c n (displacementIn m c at two)) (pastBy c n)) e)) (rw f (keeps taken)) l
   where
     lands : (b : Bool) → (pick b (landing m (onward (c .tp) n) (onward (c .tp) at) two) (onward (c .tp) n)) .address ≡ pick b (jumpedBy c n (displacementIn m c at two)) (pastBy c n)
-    lands true = jump-is m c n at two all
+    lands true = jump-is m c n at two
     lands false = refl
 
     keeps : (b : Bool) → (pick b (landing m (onward (c .tp) n) (onward (c .tp) at) two) (onward (c .tp) n)) .tag ≡ c .tp .tag

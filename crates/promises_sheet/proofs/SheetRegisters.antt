@@ -28,7 +28,7 @@ use Rattle.ground_rules.specs.States.{channelOf}
 use Rattle.ground_rules.specs.Updates.{renewed}
 use Rattle.ground_rules.specs.declared.Channel.{Channel}
 use Rattle.ground_rules.specs.declared.State.{State}
-use Rattle.ground_rules.specs.Buffers.{Buffers, AllBytes}
+use Rattle.ground_rules.specs.Buffers.{Buffers}
 use Rattle.ground_rules.specs.Values.{onward, doublewordAt, pointerAt}
 use Rattle.ground_rules.specs.declared.Pointer.{Pointer}
 use Rattle.ground_rules.specs.Bits.{bitOf}
@@ -212,7 +212,7 @@ module _ {b : Bool} {s : State} {m : Buffers} {lines : ℕ} where
       refl
 
   -- JZ R, JNZ R
-  jump : (z two : Bool) (r op : ℕ) → op < 64 → AllBytes m → lookup table (pairWith r (ddOf two) 0 0 op 0) ≡ Instruction (JumpRegister z r two)
+  jump : (z two : Bool) (r op : ℕ) → op < 64 → lookup table (pairWith r (ddOf two) 0 0 op 0) ≡ Instruction (JumpRegister z r two)
       → lengthOf (JumpRegister z r two) ≡ 2 + ddOf two → Ran b s m lines r (ddOf two) 0 0 op 0
       → Goes b s m lines
       (pick (whether z (eqb (valuePast (channelOf s b) (2 + ddOf two) r % 65536) 0))
@@ -220,13 +220,13 @@ module _ {b : Bool} {s : State} {m : Buffers} {lines : ℕ} where
       (pastBy (channelOf s b) (2 + ddOf two)))
       (channelOf s b .ix)
   unfolding deedOf performed jumpRegisterDeed changed pastInstruction renewed
-  jump z two r op small all reads long x =
+  jump z two r op small reads long x =
       let c = channelOf s b in
       let n = 2 + ddOf two in
       goes x (JumpRegister z r two) small reads
       (jumped-left m c (pastInstruction c n) n (c .ix) 2 two
       (whether z (eqb (registerOf (pastInstruction c n) r % 65536) 0)) (whether z (eqb (valuePast c n r % 65536) 0))
-      all (ap (λ (v : ℕ). whether z (eqb (v % 65536) 0)) (found c n r (x .rrr))) refl (past-left c n))
+      (ap (λ (v : ℕ). whether z (eqb (v % 65536) 0)) (found c n r (x .rrr))) refl (past-left c n))
       (ap (λ (k : ℕ). jumpedIf (whether z (eqb (registerOf (pastInstruction c k) r % 65536) 0)) m (pastInstruction c k) (onward (c .tp) 2) two) long)
       refl
 
@@ -284,13 +284,13 @@ register-sheet b s m lines = record {
     alones (suc (suc zero)) r h ne x = alone Single.Dec 2 r 0x0F (lit< tt) (λ a. refl) (rw ne) x
     alones (suc (suc (suc k))) r h ne x = absurd (omega arith)
 
-    jumps : (z two : Bool) (r : ℕ) → AllBytes m → eqb r 6 ≡ false → Ran b s m lines r (ddOf two) 0 0 (pick z 0x11 0x10) 0
+    jumps : (z two : Bool) (r : ℕ) → eqb r 6 ≡ false → Ran b s m lines r (ddOf two) 0 0 (pick z 0x11 0x10) 0
         → Goes b s m lines
         (pick (whether z (eqb (valuePast (channelOf s b) (2 + ddOf two) r % 65536) 0))
         (jumpedBy (channelOf s b) (2 + ddOf two) (displacementIn m (channelOf s b) 2 two))
         (pastBy (channelOf s b) (2 + ddOf two)))
         (channelOf s b .ix)
-    jumps true true r all ne x = jump true true r 0x11 (lit< tt) all (rw ne) refl x
-    jumps true false r all ne x = jump true false r 0x11 (lit< tt) all (rw ne) refl x
-    jumps false true r all ne x = jump false true r 0x10 (lit< tt) all (rw ne) refl x
-    jumps false false r all ne x = jump false false r 0x10 (lit< tt) all (rw ne) refl x
+    jumps true true r ne x = jump true true r 0x11 (lit< tt) (rw ne) refl x
+    jumps true false r ne x = jump true false r 0x11 (lit< tt) (rw ne) refl x
+    jumps false true r ne x = jump false true r 0x10 (lit< tt) (rw ne) refl x
+    jumps false false r ne x = jump false false r 0x10 (lit< tt) (rw ne) refl x

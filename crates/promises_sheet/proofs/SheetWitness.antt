@@ -16,7 +16,7 @@ use Rattle.ground_rules.specs.Outcomes.{unless, first, settled, givenNumber}
 use Rattle.ground_rules.specs.Stages.{stagesNumber}
 use Rattle.ground_rules.specs.States.{freshState, idleChannel, channelOf, sound, soundChannel, isRunning, blockOf, busyIn, isChannel, isSecond, channelNumber, withLast, fieldsAgree, agree}
 use Rattle.ground_rules.specs.declared.State.{State}
-use Rattle.ground_rules.specs.Buffers.{Buffers, buffers, spaceOf, limitOf, indexOf, lentAt, touchableAt, beyondIn, byteAt, withinLimits, AllBytes}
+use Rattle.ground_rules.specs.Buffers.{Buffers, buffers, spaceOf, limitOf, indexOf, lentAt, touchableAt, beyondIn, byteAt, withinLimits}
 use Rattle.ground_rules.specs.Places.{span, allPass}
 use Rattle.ground_rules.specs.Values.{pointer, wordAt, doublewordAt, onward}
 use Rattle.ground_rules.specs.Bits.{fieldOf, bitOf}
@@ -97,18 +97,7 @@ jz-met = record {
     read (suc zero) h = refl
     read (suc (suc i)) h = absurd (omega arith)
 
-jz-bytes : AllBytes jzCode
-unfolding byteAt beyondIn spaceOf
-jz-bytes true a = lit< tt
-jz-bytes false a = go (indexOf false a)
-  where
-    go : (i : ℕ) → getD (0x08 ∷ 0x44 ∷ 5 ∷ []) i 0 < 256
-    go zero = lit< tt
-    go (suc zero) = lit< tt
-    go (suc (suc zero)) = lit< tt
-    go (suc (suc (suc i))) = lit< tt
-
 -- it jumps: TP is 3 + 5
 pub jz-leaves : registerValues (ranChannel false sixteen jzCode 0) ≡ 0x10000 ∷ 0 ∷ 0 ∷ 0 ∷ 8 ∷ 0 ∷ 0 ∷ 0 ∷ []
 unfolding byteAt beyondIn spaceOf indexOf limitOf bothWith channelWith channelOf split
-jz-leaves = register-sheet false sixteen jzCode 0 .jump true false 0 jz-bytes refl jz-met .0 .values
+jz-leaves = register-sheet false sixteen jzCode 0 .jump true false 0 refl jz-met .0 .values

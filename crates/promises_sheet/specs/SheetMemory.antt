@@ -7,7 +7,7 @@ use lib.Bits.{bitAnd, bitXor}
 use lib.Dec.{eqb}
 use lib.ListN.{getD}
 use Rattle.ground_rules.specs.Choice.{pick}
-use Rattle.ground_rules.specs.Buffers.{Buffers, AllBytes, byteAt}
+use Rattle.ground_rules.specs.Buffers.{Buffers, byteAt}
 use Rattle.ground_rules.specs.States.{channelOf}
 use Rattle.ground_rules.specs.declared.Channel.{Channel}
 use Rattle.ground_rules.specs.declared.State.{State}
@@ -82,17 +82,17 @@ module _ (second : Bool) (s : State) (m : Buffers) (lines : ℕ) where
         ((byteOperand mm aa / 2 ^ (r + 1) * 2 ^ (r + 1) + pick on (2 ^ r) 0 + byteOperand mm aa % 2 ^ r) % 256 ∷ [])
         (pastBy was (2 + offsetBytes aa)) (grownBy (was .ix) aa 1)
     -- JZ M, JNZ M: the byte or word decides
-    pub jump : (zero two : Bool) (aa w mm : ℕ) → AllBytes m → Ran second s m lines 0 (ddOf two) aa w (pick zero 0x39 0x38) mm
+    pub jump : (zero two : Bool) (aa w mm : ℕ) → Ran second s m lines 0 (ddOf two) aa w (pick zero 0x39 0x38) mm
         → Goes second s m lines
         (landed (whether zero (eqb (rawIn m (operandTag mm) (operandPlace mm aa) w) 0)) aa two)
         (grownBy (was .ix) aa (w + 1))
     -- JMCE, JMCNE: ((byte xor low byte of MC) and high byte of MC) is 0, or not
-    pub jumpMasked : (equal two : Bool) (aa mm : ℕ) → AllBytes m → Ran second s m lines 0 (ddOf two) aa 0 (pick equal 0x2C 0x2D) mm
+    pub jumpMasked : (equal two : Bool) (aa mm : ℕ) → Ran second s m lines 0 (ddOf two) aa 0 (pick equal 0x2C 0x2D) mm
         → Goes second s m lines
         (landed (whether equal (eqb (bitAnd (bitXor (byteOperand mm aa) (was .mc % 256)) (was .mc / 256 % 256)) 0)) aa two)
         (grownBy (was .ix) aa 1)
     -- JBT, JNBT: bit BBB is 1, or 0
-    pub jumpBit : (set two : Bool) (r aa mm : ℕ) → AllBytes m → Ran second s m lines r (ddOf two) aa 0 (pick set 0x2F 0x2E) mm
+    pub jumpBit : (set two : Bool) (r aa mm : ℕ) → Ran second s m lines r (ddOf two) aa 0 (pick set 0x2F 0x2E) mm
         → Goes second s m lines
         (landed (whether set (eqb (bit (byteOperand mm aa) r) 1)) aa two)
         (grownBy (was .ix) aa 1)
@@ -101,12 +101,12 @@ module _ (second : Bool) (s : State) (m : Buffers) (lines : ℕ) where
         → Stores mm aa (codeByte m was (2 + offsetBytes aa) % 256 ∷ [])
         (pastPair aa 2) (grownBy (was .ix) aa 1)
     -- any other jumps, and nothing is stored
-    pub tslTaken : (aa mm : ℕ) → AllBytes m → ¬ (byteOperand mm aa ≡ 0) → Ran second s m lines 0 3 aa 0 0x25 mm
+    pub tslTaken : (aa mm : ℕ) → ¬ (byteOperand mm aa ≡ 0) → Ran second s m lines 0 3 aa 0 0x25 mm
         → Goes second s m lines
         (jumpedBy was (2 + offsetBytes aa + 2) (displacementIn m was (2 + offsetBytes aa + 1) false))
         (grownBy (was .ix) aa 1)
     -- CALL: TP past the instruction, with its tag, in three bytes; then the jump; IX by 3
-    pub call : (two : Bool) (aa w mm : ℕ) → AllBytes m → Ran second s m lines 4 (ddOf two) aa w 0x27 mm
+    pub call : (two : Bool) (aa w mm : ℕ) → Ran second s m lines 4 (ddOf two) aa w 0x27 mm
         → Stores mm aa (formOf (pastPair aa (ddOf two)) (was .tp .tag))
         (landed true aa two) (grownBy (was .ix) aa 3)
     -- MOV M,M: its second pair has opcode 33h and the same W; the second address is formed with the IX that the first has grown, and may grow it again

@@ -79,9 +79,16 @@ operandIn m tag a w = getD (fromByte (byteAt m tag a) ∷ fromWord (wordIn m tag
 abbrev pub ddOf : Bool → ℕ
 ddOf two = pick two 2 1
 
--- the displacement some places after TP (§6.11)
+-- a displacement of a byte or a word in 20 bits, by its sign: one of the upper half leads back, by 20 ones less the bits that it has not set (§6.11)
+abbrev pub byByte : ℕ → ℕ
+byByte x = pick (ltb x 128) x (1048575 - (255 - x))
+
+abbrev pub byWord : ℕ → ℕ
+byWord x = pick (ltb x 32768) x (1048575 - (65535 - x))
+
+-- the displacement some places after TP
 abbrev pub displacementIn : Buffers → Channel → ℕ → Bool → ℕ
-displacementIn m c k two = operandIn m (c .tp .tag) (c .tp .address + k) (pick two 1 0)
+displacementIn m c k two = pick two (byWord (wordIn m (c .tp .tag) (c .tp .address + k))) (byByte (codeByte m c k))
 
 -- a test, or its opposite
 abbrev pub whether : Bool → Bool → Bool

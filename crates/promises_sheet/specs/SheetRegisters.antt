@@ -6,7 +6,7 @@ use Prim.Native.Nat.{ℕ, _+_, _%_, _<_}
 use lib.Dec.{eqb}
 use lib.ListN.{getD}
 use Rattle.ground_rules.specs.Choice.{pick}
-use Rattle.ground_rules.specs.Buffers.{Buffers, AllBytes}
+use Rattle.ground_rules.specs.Buffers.{Buffers}
 use Rattle.ground_rules.specs.States.{channelOf}
 use Rattle.ground_rules.specs.declared.Channel.{Channel}
 use Rattle.ground_rules.specs.declared.State.{State}
@@ -67,7 +67,7 @@ module _ (second : Bool) (s : State) (m : Buffers) (lines : ℕ) where
     pub alone : (k r : ℕ) → k < 3 → eqb r 6 ≡ false → Ran second s m lines r 0 0 0 (getD (0x0B ∷ 0x0E ∷ 0x0F ∷ []) k 0) 0
         → Loads r (getD (singlesOf (valuePast was 2 r)) k 0) (tagIn was r) 2 (was .ix)
     -- JZ R and JNZ R: the low 16 bits of the register decide
-    pub jump : (zero two : Bool) (r : ℕ) → AllBytes m → eqb r 6 ≡ false → Ran second s m lines r (ddOf two) 0 0 (pick zero 0x11 0x10) 0
+    pub jump : (zero two : Bool) (r : ℕ) → eqb r 6 ≡ false → Ran second s m lines r (ddOf two) 0 0 (pick zero 0x11 0x10) 0
         → Goes
         (pick (whether zero (eqb (valuePast was (2 + ddOf two) r % 65536) 0))
         (jumpedBy was (2 + ddOf two) (displacementIn m was 2 two))

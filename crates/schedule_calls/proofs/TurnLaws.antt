@@ -2,11 +2,11 @@
 -- Assumes nothing.
 use mathlib.Core.Path.{_≡_, refl, sym, ap, ap₂, _∙_, subst}
 use mathlib.Core.{Bool.Bool, Bool.true, Bool.false, Bool.not, Bool._&&_, List.List, List.[], List._∷_, List._++_}
-use Prim.Native.Nat.{ℕ, zero, suc, _+_, _-_, _/_, _%_, _<_}
+use Prim.Native.Nat.{ℕ, _+_, _-_, _/_, _%_, _<_}
 use native.Mathlib.{Nat.add-zero, Nat.zero-add, Omega.arith}
 use borrow.Author.Tests.{ne-eqb}
-use lib.{Dec.eqb, Dec.ltb, Dec.lit<, ListN.length, ListN.getD, ListN.replicate}
-use Rattle.ground_rules.specs.Buffers.{Buffers, buffers, spaceOf, indexOf, beyondIn, byteAt, AllBytes}
+use lib.{Dec.eqb, Dec.ltb, Dec.lit<, ListN.length, ListN.replicate}
+use Rattle.ground_rules.specs.Buffers.{Buffers, AllBytes}
 use Rattle.ground_rules.specs.{Psw.transferring, States.channelOf, States.channelNumber, declared.State.State, Choice.pick}
 use Rattle.ground_rules.proofs.{ChoiceLaws.and-true, ChoiceLaws.and-false, ConditionLaws.says-true, ConditionLaws.says-eqb, ConditionLaws.says-and}
 use Rattle.attention_rules.{proofs.Numbers.attention-most, specs.Attention.attentionOf, specs.Attention.attentionCount}
@@ -116,16 +116,6 @@ module _ (s : State) (m : Buffers) (lines : ℕ) where
       transferring (c .psw) ≡ true → pick (eqb (channelNumber b) 2) (g .reads) (f .reads) ≡ length (readsBy (partOf c) c m) =
       λ b. elim b [ true ↦ λ on. two .1 on m | false ↦ λ on. one .1 on m ] in
       rw (says .holds h .0 .1) (omega (arith, read second (transfer-chosen s m lines second h .2)))
-
--- every read gives a byte where both memories are of bytes
-pub all-bytes : (sys io : List ℕ) → Bytes sys → Bytes io → AllBytes (buffers sys io)
-unfolding byteAt spaceOf beyondIn
-all-bytes sys io h k true a = read io k (indexOf true a)
-  where
-    read : (l : List ℕ) → Bytes l → (i : ℕ) → getD l i 255 < 256
-    read [] f i = omega arith
-    read (x ∷ l) f i = elim i [ zero ↦ f 0 | suc j ↦ read l (λ k. f (suc k)) j ]
-all-bytes sys io h k false a = h (indexOf false a)
 
 -- what the step call leaves of a state's bytes is what the row leaves
 pub step-row : (b : List ℕ) (m : Buffers) (w : List ℕ) (lines answer : ℕ) (b′ : List ℕ) (m′ : Buffers) (w′ : List ℕ) (f g : Found) → isState b ≡ true → Bytes b → AllBytes m → FitWords w

@@ -64,7 +64,7 @@ good-fits (Byte byte) vs g = omega (arith, g .1 .1 .1 .1 .0)
 
 -- ---- a channel of a state
 
-channel-held : (s : State) (b : Bool) → HeldFit s → HeldFits (channelOf s b .held)
+pub channel-held : (s : State) (b : Bool) → HeldFit s → HeldFits (channelOf s b .held)
 unfolding channelOf
 channel-held s true h = h .1
 channel-held s false h = h .0
@@ -110,7 +110,7 @@ attention-held s m channel h =
 -- ---- a step
 
 -- what is fetched is a byte
-second-small : (c : Channel) (m : Buffers) → AllBytes m → fetchedSecond c m < 256
+pub second-small : (c : Channel) (m : Buffers) → AllBytes m → fetchedSecond c m < 256
 unfolding fetchedSecond
 second-small c m all = go (twoMove c)
   where

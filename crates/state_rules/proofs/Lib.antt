@@ -3,6 +3,7 @@ pub mod LengthLaws
 pub mod LittleLaws
 pub mod AgreeLaws
 pub mod HeldLaws
+pub mod MemoryLaws
 pub mod BackLaws
 pub mod CallLaws
 pub mod ForthLaws

@@ -5,12 +5,13 @@ use denote.Ref.{now}
 use mathlib.Core.Bool.{Bool}
 use mathlib.Core.Path.{_≡_, ap, _∙_}
 use native.Mathlib.Omega.{arith}
+use Rattle.ground_rules.proofs.ByteLaws.{all-bytes}
 use Rattle.ground_rules.specs.Buffers.{buffers}
 use Rattle.ground_rules.specs.Choice.{pick}
 use Rattle.ground_rules.specs.States.{idleChannel, busyIn, isSecond}
 use Rattle.ground_rules.specs.Sums.{sum20}
 use Rattle.attention.specs.Plans.{plannedOf}
-use Rattle.panel.proofs.StartLaws.{all-bytes, start-refused, start-accepted}
+use Rattle.panel.proofs.StartLaws.{start-refused, start-accepted}
 use Rattle.panel.proofs.start.Statement.{statement}
 use Rattle.panel.proofs.start.Tie as tie
 

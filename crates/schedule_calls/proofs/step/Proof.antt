@@ -2,8 +2,9 @@
 -- Assumes nothing.
 use native.Mathlib.Omega.{arith}
 use borrow.Author.Needs.{needs}
+use Rattle.ground_rules.proofs.ByteLaws.{all-bytes}
 use Rattle.state_rules.proofs.CallLaws.{state-length}
-use Rattle.schedule_calls.proofs.{TurnLaws.all-bytes, TurnLaws.step-row, step.Statement.statement}
+use Rattle.schedule_calls.proofs.{TurnLaws.step-row, step.Statement.statement}
 use Rattle.schedule_calls.proofs.step.Tie as tie
 
 pub step-spec : {M : Type 1} → statement M
