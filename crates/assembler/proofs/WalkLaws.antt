@@ -32,7 +32,7 @@ use Rattle.assembler_lines.specs.declared.bodies.Head.{Head}
 use Rattle.assembler_lines.specs.Bodies.{HeadIs}
 use Rattle.assembler_bytes.specs.Laid.{bytesLaid}
 use Rattle.assembler.specs.declared.passes.Failure.{Failure}
-use Rattle.assembler.specs.Passes.{labelName, Fitting, inLine, lineEnd, saidAt, saidFrom, labelsIn, behind, FailureIs, cappedCount, assemblyWord}
+use Rattle.assembler.specs.Passes.{labelName, Fitting, inLine, lineStop, saidAt, saidFrom, labelsIn, behind, FailureIs, cappedCount, assemblyWord}
 
 -- a line feed ends a line
 front-feed : (c : ℕ) (b : Begun) → c ≡ 10 → inFrontOf c b ≡ begun [] []
@@ -73,14 +73,14 @@ said-line : (cs : List ℕ) → saidBy (take (leading inLine cs) cs) ≡ saidBy 
 unfolding saidBy
 said-line cs = rw (tokens-line cs)
 
-pub said-cut : (text : List ℕ) (at : ℕ) → saidFrom text at ≡ saidAt text at ∷ saidIn (linesPast (drop (lineEnd text at) text))
-unfolding saidFrom saidAt saidIn saidBy lineEnd
+pub said-cut : (text : List ℕ) (at : ℕ) → saidFrom text at ≡ saidAt text at ∷ saidIn (linesPast (drop (lineStop text at) text))
+unfolding saidFrom saidAt saidIn saidBy lineStop
 said-cut text at =
     ap saidIn (lines-cut (drop at text))
     ∙ ap (λ (s : Said). s ∷ saidIn (linesPast (drop (leading inLine (drop at text)) (drop at text)))) (said-line (drop at text))
     ∙ ap (λ (x : List ℕ). saidBy (drop at text) ∷ saidIn (linesPast x)) (drop-drop (leading inLine (drop at text)) at text)
 
-module _ (text : List ℕ) (at end : ℕ) (e : end ≡ lineEnd text at) where
+module _ (text : List ℕ) (at end : ℕ) (e : end ≡ lineStop text at) where
   pub said-last : length text ≤ end → saidFrom text at ≡ saidAt text at ∷ []
   unfolding saidIn
   said-last h = said-cut text at ∙ rw (← e, drop-of-length-le text h)
@@ -89,8 +89,8 @@ module _ (text : List ℕ) (at end : ℕ) (e : end ≡ lineEnd text at) where
   unfolding saidFrom
   said-next h = said-cut text at ∙ rw (← e, from-here text end h)
 
-pub end-behind : (text : List ℕ) (at : ℕ) → at ≤ lineEnd text at
-unfolding lineEnd
+pub end-behind : (text : List ℕ) (at : ℕ) → at ≤ lineStop text at
+unfolding lineStop
 end-behind text at = omega arith
 
 -- one more label behind others, in both arrays

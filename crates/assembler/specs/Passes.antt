@@ -29,8 +29,8 @@ pub record Fitting (text : List ℕ) (h : Head) : Type 0 where
 abbrev pub inLine : ℕ → Bool
 inLine c = not (eqb c 10)
 
-unfoldable pub lineEnd : List ℕ → ℕ → ℕ
-lineEnd text at = at + leading inLine (drop at text)
+unfoldable pub lineStop : List ℕ → ℕ → ℕ
+lineStop text at = at + leading inLine (drop at text)
 
 -- what the line at a place says
 unfoldable pub saidAt : List ℕ → ℕ → Said

@@ -8,11 +8,11 @@ ghost use lib.ListN.{length};
 ghost use Rattle.assembly_rules.specs.Text.{capitals};
 ghost use Rattle.assembly_rules.specs.Assembly.{mayKeep, labelStands};
 ghost use Rattle.assembler_text.specs.Places.{between, labelsAt};
-ghost use Rattle.assembler.specs.Passes.{lineEnd, labelName, Fitting};
+ghost use Rattle.assembler.specs.Passes.{lineStop, labelName, Fitting};
 
 // The place of the line feed that ends the line at a place, or the text's end.
-pub(crate) fn line_end(text: &[u8], at: usize) -> usize
-    ensures { λ r. ⌜ r ≡ lineEnd (now (text .entry)) at ⌝ }
+pub(crate) fn line_stop(text: &[u8], at: usize) -> usize
+    ensures { λ r. ⌜ r ≡ lineStop (now (text .entry)) at ⌝ }
 {
     let mut i = at;
     while i < text.len() {

@@ -71,7 +71,7 @@ pub(crate) fn labels(text: &[u8], first: u32, places: &mut [usize], addresses: &
         count = kept(text, h, address, places, addresses, count);
         let b = saying::body(text, h.body);
         address = behind(address, sizes::size(b));
-        let end = lines::line_end(text, at);
+        let end = lines::line_stop(text, at);
         if text.len() <= end {
             return count;
         }
@@ -153,7 +153,7 @@ pub(crate) fn failed(
         }
         count = and_its(h, count);
         bytes += sizes::size(b);
-        let end = lines::line_end(text, at);
+        let end = lines::line_stop(text, at);
         if text.len() <= end {
             return Failure { number: 0, line: 0 };
         }
@@ -188,7 +188,7 @@ pub(crate) fn store(
             &mut code[bytes..],
         );
         bytes += sizes::size(b);
-        let end = lines::line_end(text, at);
+        let end = lines::line_stop(text, at);
         if text.len() <= end {
             return bytes;
         }

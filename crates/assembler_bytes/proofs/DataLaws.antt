@@ -22,7 +22,7 @@ use Rattle.assembler_text.specs.Places.{leading, pastBlanks, stopAt, tokenFrom,
 use Rattle.assembler_forms.specs.Forms.{operandTokens}
 use Rattle.assembler_forms.specs.Rows.{commaAt, endsAt}
 use Rattle.assembler_forms.proofs.RowLaws.{comma-next, comma-none, cut-one, cut-more, some-row, ends-tokens}
-use Rattle.assembler_bytes.specs.Laid.{dataAt, SumsAll}
+use Rattle.assembler_bytes.specs.Laid.{dataAt, PartsAreSums}
 use Rattle.assembler_bytes.proofs.WorthLaws.{worth-before}
 
 -- what stands between commas from a place on
@@ -62,19 +62,19 @@ item-first text at = go (commaAt text (stopAt text at)) refl
     go true e = (itemsAt text (stopAt text at + 1), item-next text at _ refl e)
     go false e = ([], item-last text at _ refl e)
 
-sums-first : (part : List Token) (parts : List (List Token)) → SumsAll (part ∷ parts) → (isSum part ≡ true) × SumsAll parts
+sums-first : (part : List Token) (parts : List (List Token)) → PartsAreSums (part ∷ parts) → (isSum part ≡ true) × PartsAreSums parts
 unfolding allSums allLow
 sums-first part parts g = (both-left (isSum part) _ (g .sums), record { sums = both-right (isSum part) _ (g .sums); low = both-right (leb (depthOf part) 8) (allLow parts) (g .low) })
 
-pub sums-next : (part : List Token) (parts : List (List Token)) → SumsAll (part ∷ parts) → SumsAll parts
+pub sums-next : (part : List Token) (parts : List (List Token)) → PartsAreSums (part ∷ parts) → PartsAreSums parts
 sums-next part parts g = sums-first part parts g .1
 
 -- an item's worth by its place
-pub item-worth : (labels : List Label) (text : List ℕ) (at : ℕ) → SumsAll (itemsAt text at) → sumWorth labels (tokensOf (drop at text)) ≡ sumWorth labels (operandTokens text at)
+pub item-worth : (labels : List Label) (text : List ℕ) (at : ℕ) → PartsAreSums (itemsAt text at) → sumWorth labels (tokensOf (drop at text)) ≡ sumWorth labels (operandTokens text at)
 unfolding allLow
 item-worth labels text at g =
     let f = item-first text at in
-    let h : SumsAll (operandTokens text at ∷ f .0) = rw (f .1) at g in
+    let h : PartsAreSums (operandTokens text at ∷ f .0) = rw (f .1) at g in
     worth-before labels (tokensOf (drop at text)) (sums-first _ (f .0) h .0) (both-left (leb (depthOf (operandTokens text at)) 8) (allLow (f .0)) (h .low))
 
 -- the number of items behind others that may stand or not
@@ -111,7 +111,7 @@ number-next labels two stands part parts h = rw (h, go stands two (isByte (sumWo
     go true false false y = refl
 
 -- one item more, by what it is worth
-module _ (labels : List Label) (text : List ℕ) (at : ℕ) (w : Worth) (g : SumsAll (itemsAt text at)) (e : w ≡ sumWorth labels (tokensOf (drop at text))) where
+module _ (labels : List Label) (text : List ℕ) (at : ℕ) (w : Worth) (g : PartsAreSums (itemsAt text at)) (e : w ≡ sumWorth labels (tokensOf (drop at text))) where
   item-is : w ≡ sumWorth labels (operandTokens text at)
   item-is = e ∙ item-worth labels text at g
 
@@ -134,14 +134,14 @@ module _ (labels : List Label) (text : List ℕ) (at : ℕ) (w : Worth) (g : Sum
   bytes-last two p q k = bytes-here two [] (item-last text at p q k)
 
   pub bytes-next : (two : Bool) (p : ℕ) → p ≡ stopAt text at → commaAt text p ≡ true
-      → SumsAll (itemsAt text (p + 1)) × (pick two (wordBytes (w .value)) (lowByte (w .value) ∷ []) ++ itemsBytes labels two (itemsAt text (p + 1)) ≡ itemsBytes labels two (itemsAt text at))
+      → PartsAreSums (itemsAt text (p + 1)) × (pick two (wordBytes (w .value)) (lowByte (w .value) ∷ []) ++ itemsBytes labels two (itemsAt text (p + 1)) ≡ itemsBytes labels two (itemsAt text at))
   bytes-next two p q k = let n = item-next text at p q k in (sums-next (operandTokens text at) (itemsAt text (p + 1)) (rw n at g), bytes-here two (itemsAt text (p + 1)) n)
 
   pub turn-last : (two stands byte : Bool) (p : ℕ) → w .known ≡ true → byte ≡ isByte (w .value) → p ≡ stopAt text at → commaAt text p ≡ false → pick (stands && (two || byte)) 0 34 ≡ numberFrom labels two stands (itemsAt text at)
   turn-last two stands byte p h b q k = sym (number-none labels two (stands && (two || byte))) ∙ turn two stands byte [] h b (item-last text at p q k)
 
   pub turn-next : (two stands byte : Bool) (p : ℕ) → w .known ≡ true → byte ≡ isByte (w .value) → p ≡ stopAt text at → commaAt text p ≡ true
-      → SumsAll (itemsAt text (p + 1)) × (numberFrom labels two (stands && (two || byte)) (itemsAt text (p + 1)) ≡ numberFrom labels two stands (itemsAt text at))
+      → PartsAreSums (itemsAt text (p + 1)) × (numberFrom labels two (stands && (two || byte)) (itemsAt text (p + 1)) ≡ numberFrom labels two stands (itemsAt text at))
   turn-next two stands byte p h b q k = let n = item-next text at p q k in (sums-next (operandTokens text at) (itemsAt text (p + 1)) (rw n at g), turn two stands byte (itemsAt text (p + 1)) h b n)
 
 pub bytes-none : (labels : List Label) (two : Bool) → itemsBytes labels two [] ≡ []

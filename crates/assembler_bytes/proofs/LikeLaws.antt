@@ -8,7 +8,7 @@ use lib.Dec.{ltb}
 use Rattle.ground_rules.specs.Choice.{pick}
 use Rattle.listing_rules.specs.Forms.{Operand}
 use Rattle.listing_rules.specs.Forms.Operand.{none, register, memory, number, digit}
-use Rattle.listing_rules.specs.Entries.{Kind, Entry}
+use Rattle.listing_rules.specs.Entries.{OperandKind, Entry}
 use Rattle.listing_rules.specs.Back.{digitsIn, rrrIn, mmIn, aaIn, pairFrom}
 use Rattle.assembly_rules.specs.Text.{Token}
 use Rattle.assembly_rules.specs.Sums.{Label}
@@ -16,7 +16,7 @@ use Rattle.assembly_rules.specs.Operands.{Written}
 use Rattle.assembly_rules.specs.Statements.{Statement, statementSize, operandWorth, memoriesIn, pairBytes, listedAs, listedAll, writtenOffset, allOffsets, numberBytes, allNumbers, moveBytes, instructionBytes, itemsBytes, statementBytes}
 use Rattle.assembly_rules.specs.Statements.Statement.{blank, items, instruction, refused}
 use Rattle.assembler_forms.specs.declared.operands.Operands.{Operands}
-use Rattle.assembler_lines.specs.Bodies.{InstructionIs}
+use Rattle.assembler_lines.specs.Bodies.{SaysInstruction}
 use Rattle.assembler_bytes.specs.Placed.{entryFrom, rowOf}
 use Rattle.assembler_bytes.proofs.PadLaws.{Pads, pads-memories, Like, like-size, like-line}
 use Rattle.assembler_bytes.proofs.PadLaws.Pads.{end, pad, next}
@@ -47,19 +47,19 @@ mode-more (number b) os ps h d = h d
 mode-more (digit n) os ps h d = h d
 
 module _ (labels : List Label) where
-  pads-digits : (n : ℕ) {ks js : List Kind} {ws vs : List Written} → Pads ks ws js vs → digitsIn n (listedAll labels js vs) ≡ digitsIn n (listedAll labels ks ws)
+  pads-digits : (n : ℕ) {ks js : List OperandKind} {ws vs : List Written} → Pads ks ws js vs → digitsIn n (listedAll labels js vs) ≡ digitsIn n (listedAll labels ks ws)
   unfolding listedAll listedAs digitsIn
   pads-digits n end = refl
   pads-digits n (pad p) = refl
   pads-digits n (next {ks = ks} {js = js} {ws = ws} {vs = vs} k w p) = digits-more (listedAs labels k w) n (listedAll labels js vs) (listedAll labels ks ws)
 
-  pads-rrr : (d : ℕ) {ks js : List Kind} {ws vs : List Written} → Pads ks ws js vs → rrrIn d (listedAll labels js vs) ≡ rrrIn d (listedAll labels ks ws)
+  pads-rrr : (d : ℕ) {ks js : List OperandKind} {ws vs : List Written} → Pads ks ws js vs → rrrIn d (listedAll labels js vs) ≡ rrrIn d (listedAll labels ks ws)
   unfolding listedAll listedAs rrrIn
   pads-rrr d end = refl
   pads-rrr d (pad p) = pads-rrr d p
   pads-rrr d (next {ks = ks} {js = js} {ws = ws} {vs = vs} k w p) = rrr-more (listedAs labels k w) d (listedAll labels js vs) (listedAll labels ks ws) (pads-rrr d p) (λ n. pads-digits n p)
 
-  pads-mode : {ks js : List Kind} {ws vs : List Written} → Pads ks ws js vs → (d : ℕ) → (mmIn d (listedAll labels js vs) ≡ mmIn d (listedAll labels ks ws)) × (aaIn d (listedAll labels js vs) ≡ aaIn d (listedAll labels ks ws))
+  pads-mode : {ks js : List OperandKind} {ws vs : List Written} → Pads ks ws js vs → (d : ℕ) → (mmIn d (listedAll labels js vs) ≡ mmIn d (listedAll labels ks ws)) × (aaIn d (listedAll labels js vs) ≡ aaIn d (listedAll labels ks ws))
   unfolding listedAll listedAs mmIn aaIn
   pads-mode end d = (refl, refl)
   pads-mode (pad p) d = pads-mode p d
@@ -69,20 +69,20 @@ module _ (labels : List Label) where
   unfolding pairFrom
   like-pair e f ws vs l = rw (pads-rrr (f .rrr) (l .pads), pads-mode (l .pads) 0 .0, pads-mode (l .pads) 0 .1, l .rrr, l .dd, l .w, l .opcode)
 
-  pads-offsets : {ks js : List Kind} {ws vs : List Written} → Pads ks ws js vs → allOffsets labels vs ≡ allOffsets labels ws
+  pads-offsets : {ks js : List OperandKind} {ws vs : List Written} → Pads ks ws js vs → allOffsets labels vs ≡ allOffsets labels ws
   unfolding allOffsets
   pads-offsets end = refl
   pads-offsets (pad p) = pads-offsets p
   pads-offsets (next k w p) = ap (λ (bs : List ℕ). writtenOffset labels w ++ bs) (pads-offsets p)
 
-  pads-numbers : (to : ℕ) {ks js : List Kind} {ws vs : List Written} → Pads ks ws js vs → allNumbers labels to js vs ≡ allNumbers labels to ks ws
+  pads-numbers : (to : ℕ) {ks js : List OperandKind} {ws vs : List Written} → Pads ks ws js vs → allNumbers labels to js vs ≡ allNumbers labels to ks ws
   unfolding allNumbers
   pads-numbers to end = refl
   pads-numbers to (pad p) = pads-numbers to p
   pads-numbers to (next k w p) = ap (λ (bs : List ℕ). numberBytes k to (operandWorth labels w .value) ++ bs) (pads-numbers to p)
 
   -- two memory operands are behind no empty row
-  pads-move : (e f : Entry) {ks js : List Kind} {ws vs : List Written} → Pads ks ws js vs → f .w ≡ e .w → pairFrom f (listedAll labels (f .kinds) vs) ≡ pairFrom e (listedAll labels (e .kinds) ws)
+  pads-move : (e f : Entry) {ks js : List OperandKind} {ws vs : List Written} → Pads ks ws js vs → f .w ≡ e .w → pairFrom f (listedAll labels (f .kinds) vs) ≡ pairFrom e (listedAll labels (e .kinds) ws)
       → ltb 1 (memoriesIn ks) ≡ true → moveBytes labels f vs ≡ moveBytes labels e ws
   unfolding moveBytes memoriesIn
   pads-move e f end w q m = absurd (false≢true m)
@@ -103,7 +103,7 @@ module _ (labels : List Label) where
       go false m = rw (like-pair e f ws vs l, pads-offsets (l .pads), pads-numbers to (l .pads))
 
   -- the bytes of an instruction that the code read
-  pub same-bytes : (address : ℕ) (text : List ℕ) (code : ℕ) (o : Operands) (s : Statement) → InstructionIs text code o s → statementBytes labels address (instruction (entryFrom code) (rowOf text code o)) ≡ statementBytes labels address s
+  pub same-bytes : (address : ℕ) (text : List ℕ) (code : ℕ) (o : Operands) (s : Statement) → SaysInstruction text code o s → statementBytes labels address (instruction (entryFrom code) (rowOf text code o)) ≡ statementBytes labels address s
   same-bytes address text code o s i = like-bytes address (i .entry) (entryFrom code) (i .written) (rowOf text code o) (like-line text code o s i) ∙ ap (statementBytes labels address) (sym (i .same))
 
   -- lines without bytes

@@ -8,8 +8,8 @@ use native.Mathlib.Omega.{arith}
 use lib.Dec.{eqb, leb}
 use lib.ListN.{length}
 use borrow.Author.Tests.{eqb-true, leb-true}
-use Rattle.listing_rules.specs.Entries.{Kind, Entry, entries}
-use Rattle.listing_rules.specs.Entries.Kind.{'R, 'G, 'P, 'M, 'byte, 'word, 'bit, 'width, 'short, 'long}
+use Rattle.listing_rules.specs.Entries.{OperandKind, Entry, entries}
+use Rattle.listing_rules.specs.Entries.OperandKind.{'R, 'G, 'P, 'M, 'byte, 'word, 'bit, 'width, 'short, 'long}
 use Rattle.assembly_rules.specs.Sums.{Label}
 use Rattle.assembly_rules.specs.Operands.{Written, takes, takesAll, isShallow, allShallow}
 use Rattle.assembly_rules.specs.Operands.Written.{register, memory, value, nothing}
@@ -20,18 +20,18 @@ use Rattle.assembler_forms.specs.declared.operands.Form.{Form}
 use Rattle.assembler_forms.specs.declared.operands.Form.the-variants.{NoOperand}
 use Rattle.assembler_forms.specs.declared.operands.Operands.{Operands}
 use Rattle.assembler_forms.specs.Forms.{Formed, writtenForm}
-use Rattle.assembler_forms.specs.Rows.{RowIs}
+use Rattle.assembler_forms.specs.Rows.{OperandRow}
 use Rattle.assembler_forms.specs.Table.{kindCode, kindsCode, entryCode}
 use Rattle.assembler_forms.proofs.EntryLaws.{kindAt}
-use Rattle.assembler_lines.specs.Bodies.{Among, areSums, InstructionIs}
+use Rattle.assembler_lines.specs.Bodies.{Among, areSums, SaysInstruction}
 use Rattle.assembler_lines.specs.Bodies.Among.{here, later}
 use Rattle.assembler_bytes.specs.Placed.{kindFrom, firstKind, secondKind, thirdKind, entryFrom, usedForm, rowOf}
 
 -- kinds and operands with places behind them that ask for nothing
-pub data Pads : List Kind → List Written → List Kind → List Written → Type 0 where
+pub data Pads : List OperandKind → List Written → List OperandKind → List Written → Type 0 where
   end : Pads [] [] [] []
-  pad : {ks : List Kind} {ws : List Written} → Pads [] [] ks ws → Pads [] [] ('R ∷ ks) (nothing ∷ ws)
-  next : {ks js : List Kind} {ws vs : List Written} (k : Kind) (w : Written) → Pads ks ws js vs → Pads (k ∷ ks) (w ∷ ws) (k ∷ js) (w ∷ vs)
+  pad : {ks : List OperandKind} {ws : List Written} → Pads [] [] ks ws → Pads [] [] ('R ∷ ks) (nothing ∷ ws)
+  next : {ks js : List OperandKind} {ws vs : List Written} (k : OperandKind) (w : Written) → Pads ks ws js vs → Pads (k ∷ ks) (w ∷ ws) (k ∷ js) (w ∷ vs)
 
 offset-more : (w : Written) (us vs : List Written) → offsetsSize us ≡ offsetsSize vs → offsetsSize (w ∷ us) ≡ offsetsSize (w ∷ vs)
 unfolding offsetsSize
@@ -47,43 +47,43 @@ sums-more (memory mm aa ts) us vs h = rw h
 sums-more (value ts) us vs h = rw h
 sums-more nothing us vs h = h
 
-pub pads-sums : {ks js : List Kind} {ws vs : List Written} → Pads ks ws js vs → areSums vs ≡ areSums ws
+pub pads-sums : {ks js : List OperandKind} {ws vs : List Written} → Pads ks ws js vs → areSums vs ≡ areSums ws
 unfolding areSums
 pads-sums end = refl
 pads-sums (pad p) = pads-sums p
 pads-sums (next {ws = ws} {vs = vs} k w p) = sums-more w vs ws (pads-sums p)
 
-pub pads-low : {ks js : List Kind} {ws vs : List Written} → Pads ks ws js vs → allShallow vs ≡ allShallow ws
+pub pads-low : {ks js : List OperandKind} {ws vs : List Written} → Pads ks ws js vs → allShallow vs ≡ allShallow ws
 unfolding allShallow isShallow
 pads-low end = refl
 pads-low (pad p) = pads-low p
 pads-low (next k w p) = ap (λ (b : Bool). isShallow w && b) (pads-low p)
 
-pads-offsets : {ks js : List Kind} {ws vs : List Written} → Pads ks ws js vs → offsetsSize vs ≡ offsetsSize ws
+pads-offsets : {ks js : List OperandKind} {ws vs : List Written} → Pads ks ws js vs → offsetsSize vs ≡ offsetsSize ws
 unfolding offsetsSize
 pads-offsets end = refl
 pads-offsets (pad p) = pads-offsets p
 pads-offsets (next {ws = ws} {vs = vs} k w p) = offset-more w vs ws (pads-offsets p)
 
-pads-kinds : {ks js : List Kind} {ws vs : List Written} → Pads ks ws js vs → kindsSize js ≡ kindsSize ks
+pads-kinds : {ks js : List OperandKind} {ws vs : List Written} → Pads ks ws js vs → kindsSize js ≡ kindsSize ks
 unfolding kindsSize
 pads-kinds end = refl
 pads-kinds (pad p) = let h = pads-kinds p in omega arith
 pads-kinds (next k w p) = ap (λ (n : ℕ). kindSize k + n) (pads-kinds p)
 
-pub pads-memories : {ks js : List Kind} {ws vs : List Written} → Pads ks ws js vs → memoriesIn js ≡ memoriesIn ks
+pub pads-memories : {ks js : List OperandKind} {ws vs : List Written} → Pads ks ws js vs → memoriesIn js ≡ memoriesIn ks
 unfolding memoriesIn
 pads-memories end = refl
 pads-memories (pad p) = let h = pads-memories p in omega arith
 pads-memories (next k w p) = rw (pads-memories p)
 
-pads-known : (labels : List Label) {ks js : List Kind} {ws vs : List Written} → Pads ks ws js vs → namesKnown labels vs ≡ namesKnown labels ws
+pads-known : (labels : List Label) {ks js : List OperandKind} {ws vs : List Written} → Pads ks ws js vs → namesKnown labels vs ≡ namesKnown labels ws
 unfolding namesKnown operandWorth
 pads-known labels end = refl
 pads-known labels (pad p) = pads-known labels p
 pads-known labels (next k w p) = rw (pads-known labels p)
 
-pads-stand : (labels : List Label) (end : ℕ) {ks js : List Kind} {ws vs : List Written} → Pads ks ws js vs → allStand labels end js vs ≡ allStand labels end ks ws
+pads-stand : (labels : List Label) (end : ℕ) {ks js : List OperandKind} {ws vs : List Written} → Pads ks ws js vs → allStand labels end js vs ≡ allStand labels end ks ws
 unfolding allStand mayStand
 pads-stand labels e end = refl
 pads-stand labels e (pad p) = pads-stand labels e p
@@ -106,7 +106,7 @@ unfolding statementNumber
 like-number labels address e f ws vs l = rw (pads-known labels (l .pads), like-size e f ws vs l, pads-stand labels (address + statementSize (instruction e ws)) (l .pads))
 
 -- a kind's digit gives it back, and is not 0
-digit-back : (k : Kind) (f : Form) → (kindFrom (kindCode k) ≡ k) × (usedForm (kindCode k) f ≡ f)
+digit-back : (k : OperandKind) (f : Form) → (kindFrom (kindCode k) ≡ k) × (usedForm (kindCode k) f ≡ f)
 unfolding kindFrom usedForm
 digit-back 'R f = (refl, refl)
 digit-back 'G f = (refl, refl)
@@ -119,20 +119,20 @@ digit-back 'width f = (refl, refl)
 digit-back 'short f = (refl, refl)
 digit-back 'long f = (refl, refl)
 
-kind-back : (k : Kind) → kindFrom (kindCode k) ≡ k
+kind-back : (k : OperandKind) → kindFrom (kindCode k) ≡ k
 kind-back k = digit-back k NoOperand .0
 
 -- the kinds and operands by the digits
-abbrev KindsAt : List Kind → List Kind
+abbrev KindsAt : List OperandKind → List OperandKind
 KindsAt ks = kindFrom (kindAt 0 ks) ∷ kindFrom (kindAt 1 ks) ∷ kindFrom (kindAt 2 ks) ∷ []
 
-abbrev FormsAt : List ℕ → List Kind → Operands → List Written
+abbrev FormsAt : List ℕ → List OperandKind → Operands → List Written
 FormsAt text ks o = writtenForm text (usedForm (kindAt 0 ks) (o .first)) ∷ writtenForm text (usedForm (kindAt 1 ks) (o .second)) ∷ writtenForm text (usedForm (kindAt 2 ks) (o .third)) ∷ []
 
-form-back : (text : List ℕ) (k : Kind) (f : Form) (w : Written) → Formed text f w → writtenForm text (usedForm (kindCode k) f) ≡ w
+form-back : (text : List ℕ) (k : OperandKind) (f : Form) (w : Written) → Formed text f w → writtenForm text (usedForm (kindCode k) f) ≡ w
 form-back text k f w h = ap (writtenForm text) (digit-back k f .1) ∙ h .same
 
-pads-from : (text : List ℕ) (ks : List Kind) (ws : List Written) (o : Operands) → length ks ≤ 3 → takesAll ks ws ≡ true → RowIs text o ws → Pads ks ws (KindsAt ks) (FormsAt text ks o)
+pads-from : (text : List ℕ) (ks : List OperandKind) (ws : List Written) (o : Operands) → length ks ≤ 3 → takesAll ks ws ≡ true → OperandRow text o ws → Pads ks ws (KindsAt ks) (FormsAt text ks o)
 unfolding takesAll kindAt kindFrom usedForm
 pads-from text [] [] o l h r = pad (pad (pad end))
 pads-from text [] (u ∷ ws) o l h r = absurd (false≢true h)
@@ -184,7 +184,7 @@ all-hold a b c d e f g h t =
     (both-left a _ t, (both-left b (c && d) v, (both-left c d w, (both-right c d w, (both-left e f y, (both-right e f y, (both-left g h z, both-right g h z)))))))
 
 -- an instruction is like the one that its entry's number gives
-pub like-line : (text : List ℕ) (number : ℕ) (o : Operands) (s : Statement) (i : InstructionIs text number o s) → Like (i .entry) (entryFrom number) (i .written) (rowOf text number o)
+pub like-line : (text : List ℕ) (number : ℕ) (o : Operands) (s : Statement) (i : SaysInstruction text number o s) → Like (i .entry) (entryFrom number) (i .written) (rowOf text number o)
 unfolding rightFields entryFrom
 like-line text number o s i =
     let e = i .entry in
@@ -201,11 +201,11 @@ like-line text number o s i =
     })
 
 -- so it has the same number
-pub same-number : (labels : List Label) (address : ℕ) (text : List ℕ) (number : ℕ) (o : Operands) (s : Statement) → InstructionIs text number o s → statementNumber labels address (instruction (entryFrom number) (rowOf text number o)) ≡ statementNumber labels address s
+pub same-number : (labels : List Label) (address : ℕ) (text : List ℕ) (number : ℕ) (o : Operands) (s : Statement) → SaysInstruction text number o s → statementNumber labels address (instruction (entryFrom number) (rowOf text number o)) ≡ statementNumber labels address s
 same-number labels address text number o s i = like-number labels address (i .entry) (entryFrom number) (i .written) (rowOf text number o) (like-line text number o s i) ∙ ap (statementNumber labels address) (sym (i .same))
 
 -- and its operands are sums
-pub same-sums : (text : List ℕ) (number : ℕ) (o : Operands) (s : Statement) → InstructionIs text number o s → (areSums (rowOf text number o) ≡ true) × (allShallow (rowOf text number o) ≡ true)
+pub same-sums : (text : List ℕ) (number : ℕ) (o : Operands) (s : Statement) → SaysInstruction text number o s → (areSums (rowOf text number o) ≡ true) × (allShallow (rowOf text number o) ≡ true)
 same-sums text number o s i = let p = like-line text number o s i .pads in (pads-sums p ∙ i .sums, pads-low p ∙ i .shallow)
 
 -- lines without bytes

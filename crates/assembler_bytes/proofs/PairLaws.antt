@@ -20,7 +20,7 @@ use Rattle.assembler_forms.specs.declared.operands.Form.{Form}
 use Rattle.assembler_forms.specs.declared.operands.Form.the-variants.{Register, Memory, Value, NoOperand}
 use Rattle.assembler_bytes.specs.Placed.{kindFrom, firstKind, secondKind, thirdKind, entryFrom, threeFrom, kindSizeBy, movesBy}
 use Rattle.assembler_lines.specs.Counts.{formOffset}
-use Rattle.assembler_bytes.specs.Bytes.{isDigitBy, formMm, formAa, formDigits, formRrr, rrrBy, aaBy, mmBy, firstByteBy, secondByteBy, secondPairBy, offsetLaid, placeData, placeBytes, plainTail, moveTail}
+use Rattle.assembler_bytes.specs.Bytes.{isDigitBy, formMm, formAa, formDigits, formRrr, rrrPlaced, aaBy, mmBy, firstByteBy, secondByteBy, secondPairBy, offsetLaid, placeData, placeBytes, plainTail, moveTail}
 use Rattle.assembler_bytes.proofs.LaidLaws.{lows, lows-behind, lows-two}
 use Rattle.assembler_bytes.proofs.PlacedLaws.{kind-law, moves-told}
 
@@ -144,8 +144,8 @@ module _ (labels : List Label) (text : List ℕ) (number : ℕ) (f g h : Form) (
   listed : List Operand
   listed = listedAll labels (entryFrom number .kinds) (threeFrom text f g h)
 
-  rrr-told : rrrBy number f g h a b c ≡ rrrIn (number / 0x10000 % 16) listed
-  unfolding rrrBy listedAll entryFrom digitsIn rrrIn last later listed
+  rrr-told : rrrPlaced number f g h a b c ≡ rrrIn (number / 0x10000 % 16) listed
+  unfolding rrrPlaced listedAll entryFrom digitsIn rrrIn last later listed
   rrr-told =
       rrr-form labels text (firstKind number) later f (number / 0x10000 % 16) a _ _ p
       (rrr-form labels text (secondKind number) last g (number / 0x10000 % 16) b _ _ q (rrr-form labels text (thirdKind number) [] h (number / 0x10000 % 16) c (number / 0x10000 % 16) c r refl refl) (digits-form labels text (thirdKind number) [] h b c r))
@@ -159,11 +159,11 @@ module _ (labels : List Label) (text : List ℕ) (number : ℕ) (f g h : Form) (
   unfolding aaBy listedAll entryFrom aaIn last later listed
   aa-told = mode-form labels text (thirdKind number) [] h (formAa (formAa 0 f) g) .1 ∙ mode-form labels text (secondKind number) last g (formAa 0 f) .1 ∙ mode-form labels text (firstKind number) later f 0 .1
 
-  pair-told : (ys zs : List ℕ) → lows ys ≡ lows zs → lows (firstByteBy number (rrrBy number f g h a b c) (aaBy f g h) ∷ secondByteBy number (mmBy f g h) ∷ ys) ≡ lows (pairBytes (pairFrom (entryFrom number) (listedAll labels (entryFrom number .kinds) (threeFrom text f g h))) ++ zs)
+  pair-told : (ys zs : List ℕ) → lows ys ≡ lows zs → lows (firstByteBy number (rrrPlaced number f g h a b c) (aaBy f g h) ∷ secondByteBy number (mmBy f g h) ∷ ys) ≡ lows (pairBytes (pairFrom (entryFrom number) (listedAll labels (entryFrom number .kinds) (threeFrom text f g h))) ++ zs)
   unfolding pairBytes pairFrom entryFrom listed
   pair-told ys zs e =
       lows-two _ _ _ _ ys zs
-      (first-mod (rrrBy number f g h a b c) (number / 0x1000 % 16) (aaBy f g h) (number / 0x100 % 16) ∙ ap (λ (x : ℕ). (x * 32 + number / 0x1000 % 16 * 8 + aaBy f g h * 2 + number / 0x100 % 16) % 256) rrr-told ∙ ap (λ (x : ℕ). (rrrIn (number / 0x10000 % 16) listed * 32 + number / 0x1000 % 16 * 8 + x * 2 + number / 0x100 % 16) % 256) aa-told)
+      (first-mod (rrrPlaced number f g h a b c) (number / 0x1000 % 16) (aaBy f g h) (number / 0x100 % 16) ∙ ap (λ (x : ℕ). (x * 32 + number / 0x1000 % 16 * 8 + aaBy f g h * 2 + number / 0x100 % 16) % 256) rrr-told ∙ ap (λ (x : ℕ). (rrrIn (number / 0x10000 % 16) listed * 32 + number / 0x1000 % 16 * 8 + x * 2 + number / 0x100 % 16) % 256) aa-told)
       (low-mod (number % 256 * 4) (mmBy f g h) ∙ ap (λ (x : ℕ). (number % 256 * 4 + x) % 256) mm-told)
       e
 
@@ -180,7 +180,7 @@ module _ (labels : List Label) (text : List ℕ) (number : ℕ) (f g h : Form) (
       (three-join (writtenOffset labels (writtenForm text f)) (writtenOffset labels (writtenForm text g)) (writtenOffset labels (writtenForm text h)) _)
 
   pub plain-told : (address end : ℕ) → end ≡ address + statementSize (instruction (entryFrom number) (threeFrom text f g h)) → movesBy (firstKind number) (secondKind number) (thirdKind number) ≡ false
-      → lows (firstByteBy number (rrrBy number f g h a b c) (aaBy f g h) ∷ secondByteBy number (mmBy f g h) ∷ plainTail number f g h a b c end []) ≡ lows (statementBytes labels address (instruction (entryFrom number) (threeFrom text f g h)))
+      → lows (firstByteBy number (rrrPlaced number f g h a b c) (aaBy f g h) ∷ secondByteBy number (mmBy f g h) ∷ plainTail number f g h a b c end []) ≡ lows (statementBytes labels address (instruction (entryFrom number) (threeFrom text f g h)))
   unfolding statementBytes instructionBytes
   plain-told address end e m =
       pair-told _ _ (ap lows (plain-tail end)) ∙ rw (e, sym (moves-entry number) ∙ m)
@@ -195,7 +195,7 @@ module _ (labels : List Label) (text : List ℕ) (number : ℕ) (f g h : Form) (
       (lows-behind y _ _ (lows-behind z _ _ (second-form text number f (x ++ []) x (ap lows (append-nil x)))) ∙ ap lows (two-join y z (secondBytes (number / 0x100 % 16) (writtenForm text f) ++ x)))
 
   pub move-told : (address : ℕ) → movesBy (firstKind number) (secondKind number) (thirdKind number) ≡ true
-      → lows (firstByteBy number (rrrBy number f g h a b c) (aaBy f g h) ∷ secondByteBy number (mmBy f g h) ∷ moveTail number f g h a b c []) ≡ lows (statementBytes labels address (instruction (entryFrom number) (threeFrom text f g h)))
+      → lows (firstByteBy number (rrrPlaced number f g h a b c) (aaBy f g h) ∷ secondByteBy number (mmBy f g h) ∷ moveTail number f g h a b c []) ≡ lows (statementBytes labels address (instruction (entryFrom number) (threeFrom text f g h)))
   unfolding statementBytes instructionBytes moveBytes
   move-told address m =
       pair-told _ _ move-tail ∙ rw (sym (moves-entry number) ∙ m)

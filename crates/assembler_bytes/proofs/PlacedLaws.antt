@@ -9,8 +9,8 @@ use lib.Dec.{eqb, ltb, leb}
 use lib.ListN.{drop}
 use borrow.Author.Tests.{eqb-true}
 use Rattle.ground_rules.specs.Choice.{pick}
-use Rattle.listing_rules.specs.Entries.{Kind}
-use Rattle.listing_rules.specs.Entries.Kind.{'R, 'G, 'P, 'M, 'byte, 'word, 'bit, 'width, 'short, 'long}
+use Rattle.listing_rules.specs.Entries.{OperandKind}
+use Rattle.listing_rules.specs.Entries.OperandKind.{'R, 'G, 'P, 'M, 'byte, 'word, 'bit, 'width, 'short, 'long}
 use Rattle.assembly_rules.specs.declared.Worth.{Worth}
 use Rattle.assembly_rules.specs.Text.{tokensOf}
 use Rattle.assembly_rules.specs.Sums.{Label, isSum, depthOf, worth, sumWorth}
@@ -28,7 +28,7 @@ use Rattle.assembler_bytes.specs.Placed.{kindFrom, firstKind, secondKind
 use Rattle.assembler_lines.specs.Counts.{formOffset}
 
 -- what a digit gives is what its kind gives, where it does so of each of the nine and of every other
-pub kind-law : {A : Type 0} (g : ℕ → A) (f : Kind → A) → g 2 ≡ f 'G → g 3 ≡ f 'P → g 4 ≡ f 'M → g 5 ≡ f 'byte → g 6 ≡ f 'word → g 7 ≡ f 'bit → g 8 ≡ f 'width → g 9 ≡ f 'short → g 10 ≡ f 'long
+pub kind-law : {A : Type 0} (g : ℕ → A) (f : OperandKind → A) → g 2 ≡ f 'G → g 3 ≡ f 'P → g 4 ≡ f 'M → g 5 ≡ f 'byte → g 6 ≡ f 'word → g 7 ≡ f 'bit → g 8 ≡ f 'width → g 9 ≡ f 'short → g 10 ≡ f 'long
     → (n : ℕ) → (eqb n 4 ≡ false → eqb n 5 ≡ false → eqb n 6 ≡ false → eqb n 7 ≡ false → eqb n 8 ≡ false → eqb n 9 ≡ false → eqb n 10 ≡ false → g n ≡ f 'R) → g n ≡ f (kindFrom n)
 unfolding kindFrom
 kind-law g f g2 g3 g4 g5 g6 g7 g8 g9 g10 n other = go (eqb n 2) refl (eqb n 3) refl (eqb n 4) refl (eqb n 5) refl (eqb n 6) refl (eqb n 7) refl (eqb n 8) refl (eqb n 9) refl (eqb n 10) refl

@@ -44,8 +44,8 @@ formRrr kind (Value place low) rest digits = pick (isDigitBy kind) digits rest
 formRrr kind NoOperand rest digits = rest
 
 -- the fields of the pair
-unfoldable pub rrrBy : ℕ → Form → Form → Form → ℕ → ℕ → ℕ → ℕ
-rrrBy number f g h a b c =
+unfoldable pub rrrPlaced : ℕ → Form → Form → Form → ℕ → ℕ → ℕ → ℕ
+rrrPlaced number f g h a b c =
     formRrr (firstKind number) f (formRrr (secondKind number) g (formRrr (thirdKind number) h (number / 0x10000 % 16) c) (formDigits b (thirdKind number) h c)) (formDigits a (secondKind number) g b)
 
 unfoldable pub aaBy : Form → Form → Form → ℕ

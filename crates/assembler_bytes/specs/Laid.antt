@@ -23,6 +23,6 @@ abbrev pub dataAt : List ℕ → ℕ → List (List Token)
 dataAt text place = operandParts (tokensOf (drop place text))
 
 -- items that are sums, no more than eight parentheses open at once
-pub record SumsAll (parts : List (List Token)) : Type 0 where
+pub record PartsAreSums (parts : List (List Token)) : Type 0 where
   pub sums : allSums parts ≡ true
   pub low : allLow parts ≡ true

@@ -4,8 +4,8 @@ use mathlib.Core.List.{List, [], _∷_}
 use Prim.Native.Nat.{ℕ, _/_, _%_}
 use lib.Dec.{eqb, ltb}
 use Rattle.ground_rules.specs.Choice.{pick}
-use Rattle.listing_rules.specs.Entries.{Kind, Entry, entry}
-use Rattle.listing_rules.specs.Entries.Kind.{'R, 'G, 'P, 'M, 'byte, 'word, 'bit, 'width, 'short, 'long}
+use Rattle.listing_rules.specs.Entries.{OperandKind, Entry, entry}
+use Rattle.listing_rules.specs.Entries.OperandKind.{'R, 'G, 'P, 'M, 'byte, 'word, 'bit, 'width, 'short, 'long}
 use Rattle.assembly_rules.specs.Operands.{Written}
 use Rattle.assembly_rules.specs.Statements.{isByte, reachTo, isNear}
 use Rattle.assembler_forms.specs.declared.operands.Form.{Form}
@@ -14,7 +14,7 @@ use Rattle.assembler_forms.specs.declared.operands.Operands.{Operands}
 use Rattle.assembler_forms.specs.Forms.{writtenForm}
 
 -- a kind of place by its digit; where there is no place, one that asks for nothing
-unfoldable pub kindFrom : ℕ → Kind
+unfoldable pub kindFrom : ℕ → OperandKind
 kindFrom n =
     pick (eqb n 2) 'G
     (pick (eqb n 3) 'P

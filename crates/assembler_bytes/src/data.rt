@@ -8,7 +8,7 @@ ghost use Prim.Native.Nat.{ℕ};
 ghost use Rattle.assembly_rules.specs.Statements.{isByte, statementNumber, itemsBytes};
 ghost use Rattle.assembly_rules.specs.Statements.Statement.{items};
 ghost use Rattle.assembler_text.specs.Places.{labelsAt};
-ghost use Rattle.assembler_bytes.specs.Laid.{dataAt, SumsAll, laidAt};
+ghost use Rattle.assembler_bytes.specs.Laid.{dataAt, PartsAreSums, laidAt};
 
 // Whether one byte holds a number, signed or not.
 pub fn is_byte(n: u32) -> bool
@@ -19,7 +19,7 @@ pub fn is_byte(n: u32) -> bool
 
 // The number of a line of data whose items are sums: 33 where a name is unknown, 34 where an item is no byte, or 0.
 pub fn data_number(text: &[u8], two: bool, place: usize, places: &[usize], addresses: &[u32]) -> u32
-    ensures { λ r. ⌜ (SumsAll (dataAt (now (text .entry)) place) → (address : ℕ) → r ≡ statementNumber (labelsAt (now (text .entry)) (now (places .entry)) (now (addresses .entry))) address (items two (dataAt (now (text .entry)) place))) ⌝ }
+    ensures { λ r. ⌜ (PartsAreSums (dataAt (now (text .entry)) place) → (address : ℕ) → r ≡ statementNumber (labelsAt (now (text .entry)) (now (places .entry)) (now (addresses .entry))) address (items two (dataAt (now (text .entry)) place))) ⌝ }
 {
     if operands::ends(text, place) {
         return 0;
@@ -50,7 +50,7 @@ pub fn put_data(
     addresses: &[u32],
     code: &mut [u8],
 )
-    ensures { λ r. ⌜ (SumsAll (dataAt (now (text .entry)) place) → now (code .exit) ≡ laidAt (now (code .entry)) 0 (itemsBytes (labelsAt (now (text .entry)) (now (places .entry)) (now (addresses .entry))) two (dataAt (now (text .entry)) place))) ⌝ }
+    ensures { λ r. ⌜ (PartsAreSums (dataAt (now (text .entry)) place) → now (code .exit) ≡ laidAt (now (code .entry)) 0 (itemsBytes (labelsAt (now (text .entry)) (now (places .entry)) (now (addresses .entry))) two (dataAt (now (text .entry)) place))) ⌝ }
 {
     if operands::ends(text, place) {
         return;

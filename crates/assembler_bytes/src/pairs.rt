@@ -16,7 +16,7 @@ ghost use Rattle.assembler_text.specs.Places.{labelsAt};
 ghost use Rattle.assembler_lines.specs.Bodies.{areSums};
 ghost use Rattle.assembler_bytes.specs.Laid.{laidAt};
 ghost use Rattle.assembler_bytes.specs.Placed.{entryFrom, rowOf};
-ghost use Rattle.assembler_bytes.specs.Bytes.{formMm, formAa, formDigits, formRrr, rrrBy, firstByteBy, secondByteBy, secondPairBy, offsetLaid, placeData, placeBytes, plainTail, moveTail};
+ghost use Rattle.assembler_bytes.specs.Bytes.{formMm, formAa, formDigits, formRrr, rrrPlaced, firstByteBy, secondByteBy, secondPairBy, offsetLaid, placeData, placeBytes, plainTail, moveTail};
 
 // MM of an operand, or the one before it.
 fn mm_in(d: u32, f: Form) -> u32
@@ -88,7 +88,7 @@ fn rrr_in(kind: u32, f: Form, rest: u32, digits: u32) -> u32
 
 // RRR of three operands.
 fn rrr_of(number: u32, f: Form, g: Form, h: Form, a: u32, b: u32, c: u32) -> u32
-    ensures { λ r. ⌜ r ≡ rrrBy number f g h a b c ⌝ }
+    ensures { λ r. ⌜ r ≡ rrrPlaced number f g h a b c ⌝ }
 {
     let kind = number / 0x1000000 % 16;
     let last = number / 0x100000 % 16;

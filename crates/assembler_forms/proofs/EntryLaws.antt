@@ -11,8 +11,8 @@ use lib.ListN.{length}
 use borrow.Author.Tests.{eqb-true, eqb-false, eq-eqb, ne-eqb, ltb-true, leb-true}
 use Rattle.ground_rules.specs.Choice.{pick}
 use Rattle.listing_rules.specs.Characters.{sameText}
-use Rattle.listing_rules.specs.Entries.{Kind, Entry, entries}
-use Rattle.listing_rules.specs.Entries.Kind.{'R, 'G, 'P, 'M, 'byte, 'word, 'bit, 'width, 'short, 'long}
+use Rattle.listing_rules.specs.Entries.{OperandKind, Entry, entries}
+use Rattle.listing_rules.specs.Entries.OperandKind.{'R, 'G, 'P, 'M, 'byte, 'word, 'bit, 'width, 'short, 'long}
 use Rattle.assembly_rules.specs.Operands.{Written, takes, takesAll, hasWord, Chosen, entryIn}
 use Rattle.assembly_rules.specs.Operands.Written.{register, memory, value, nothing}
 use Rattle.assembly_rules.specs.Operands.Chosen.{taken, untaken}
@@ -23,7 +23,7 @@ use Rattle.assembler_forms.specs.declared.operands.Form.the-variants.{Re
 use Rattle.assembler_forms.specs.declared.operands.Operands.{Operands}
 use Rattle.assembler_forms.specs.declared.table.Codes.{Codes}
 use Rattle.assembler_forms.specs.Forms.{Formed, writtenForm}
-use Rattle.assembler_forms.specs.Rows.{RowIs}
+use Rattle.assembler_forms.specs.Rows.{OperandRow}
 use Rattle.assembler_forms.specs.Table.{packedWord, wordNumber, inBytes, NumberIs, kindCode, kindsCode, entryCode, noCode, codesBy, codesIn, classOf, takesClass, takesCode, chosenBy, fittingBy}
 
 byte-first : (c : ℕ) (cs : List ℕ) → inBytes (c ∷ cs) ≡ true → c < 256
@@ -73,7 +73,7 @@ no-class false true n h = let l = leb-true 4 n h in ne-eqb 3 n (λ z. omega arit
 no-class false false n h = let l = leb-true 4 n h in ne-eqb 2 n (λ z. omega arith)
 
 -- an operand's class is what a place asks for
-class-takes : (k : Kind) (w : Written) → takesClass (kindCode k) (classOf w) ≡ takes k w
+class-takes : (k : OperandKind) (w : Written) → takesClass (kindCode k) (classOf w) ≡ takes k w
 unfolding takesClass classOf takes
 class-takes 'R (register r) = go (ltb r 3 || eqb r 4) (eqb r 6)
   where
@@ -140,7 +140,7 @@ classAt n [] = 0
 classAt zero (w ∷ ws) = classOf w
 classAt (suc n) (w ∷ ws) = classAt n ws
 
-unfoldable pub kindAt : ℕ → List Kind → ℕ
+unfoldable pub kindAt : ℕ → List OperandKind → ℕ
 kindAt n [] = 0
 kindAt zero (k ∷ ks) = kindCode k
 kindAt (suc n) (k ∷ ks) = kindAt n ks
@@ -199,7 +199,7 @@ right-rest : (e : Entry) (es : List Entry) → eachEntry rightEntry (e ∷ es) �
 unfolding eachEntry
 right-rest e es h = both-right (rightEntry e) (eachEntry rightEntry es) h
 
-no-operand : (k : Kind) → takesClass (kindCode k) 0 ≡ false
+no-operand : (k : OperandKind) → takesClass (kindCode k) 0 ≡ false
 unfolding takesClass
 no-operand 'R = refl
 no-operand 'G = refl
@@ -233,7 +233,7 @@ unfolding takesAll classAt
 none-take [] l = rw nothing-asked
 none-take (w ∷ ws) l = rw (no-place w)
 
-one-take : (ks : List Kind) (ws : List Written) → length ks ≤ 1 → length ws ≤ 1 → takesClass (kindAt 0 ks) (classAt 0 ws) ≡ takesAll ks ws
+one-take : (ks : List OperandKind) (ws : List Written) → length ks ≤ 1 → length ws ≤ 1 → takesClass (kindAt 0 ks) (classAt 0 ws) ≡ takesAll ks ws
 unfolding takesAll kindAt classAt
 one-take [] [] h l = nothing-asked
 one-take [] (w ∷ ws) h l = no-place w
@@ -246,14 +246,14 @@ one-take (k ∷ []) (w ∷ []) h l = class-takes k w ∙ and-true (takes k w)
 one-take (k ∷ j ∷ ks) (w ∷ ws) h l = absurd (omega arith)
 one-take (k ∷ []) (w ∷ v ∷ ws) h l = absurd (omega arith)
 
-two-take : (ks : List Kind) (ws : List Written) → length ks ≤ 2 → length ws ≤ 2 → takesClass (kindAt 0 ks) (classAt 0 ws) && takesClass (kindAt 1 ks) (classAt 1 ws) ≡ takesAll ks ws
+two-take : (ks : List OperandKind) (ws : List Written) → length ks ≤ 2 → length ws ≤ 2 → takesClass (kindAt 0 ks) (classAt 0 ws) && takesClass (kindAt 1 ks) (classAt 1 ws) ≡ takesAll ks ws
 unfolding takesAll kindAt classAt
 two-take [] [] h l = rw nothing-asked
 two-take [] (w ∷ ws) h l = rw (no-place w)
 two-take (k ∷ ks) [] h l = rw (no-operand k)
 two-take (k ∷ ks) (w ∷ ws) h l = ap (λ (b : Bool). takesClass (kindCode k) (classOf w) && b) (one-take ks ws (omega arith) (omega arith)) ∙ ap (λ (b : Bool). b && takesAll ks ws) (class-takes k w)
 
-all-take : (ks : List Kind) (ws : List Written) → length ks ≤ 3 → length ws ≤ 3 → takesClass (kindAt 0 ks) (classAt 0 ws) && (takesClass (kindAt 1 ks) (classAt 1 ws) && takesClass (kindAt 2 ks) (classAt 2 ws)) ≡ takesAll ks ws
+all-take : (ks : List OperandKind) (ws : List Written) → length ks ≤ 3 → length ws ≤ 3 → takesClass (kindAt 0 ks) (classAt 0 ws) && (takesClass (kindAt 1 ks) (classAt 1 ws) && takesClass (kindAt 2 ks) (classAt 2 ws)) ≡ takesAll ks ws
 unfolding takesAll kindAt classAt
 all-take [] ws h l = none-take ws l
 all-take (k ∷ ks) [] h l = rw (no-operand k)
@@ -281,7 +281,7 @@ abbrev pub chosenNumber : Chosen → ℕ
 chosenNumber (taken e) = entryCode e
 chosenNumber untaken = noCode
 
-pub takes-length : (ks : List Kind) (ws : List Written) → takesAll ks ws ≡ true → length ks ≡ length ws
+pub takes-length : (ks : List OperandKind) (ws : List Written) → takesAll ks ws ≡ true → length ks ≡ length ws
 unfolding takesAll
 takes-length [] [] h = refl
 takes-length [] (w ∷ ws) h = absurd (false≢true h)
@@ -340,7 +340,7 @@ module _ (r : List ℕ) (n : ℕ) (k : NumberIs n r) where
       go false y p later = later
 
   -- the entry of a word with its operands, as the code has them
-  pub fitting-told : (text : List ℕ) (o : Operands) (ws : List Written) → RowIs text o ws → fittingBy (codesBy entries n) o ≡ chosenNumber (entryIn entries r ws)
+  pub fitting-told : (text : List ℕ) (o : Operands) (ws : List Written) → OperandRow text o ws → fittingBy (codesBy entries n) o ≡ chosenNumber (entryIn entries r ws)
   unfolding fittingBy classAt
   fitting-told text o [] h = rw h (chosen-from entries [] entries-right (omega arith))
   fitting-told text o (u ∷ []) h = rw (h .0, class-form text (o .first) u (h .1)) (chosen-from entries (u ∷ []) entries-right (omega arith))

@@ -25,9 +25,9 @@ unfoldable pub endsAt : List ℕ → ℕ → Bool
 endsAt text at = endsBy (tokenAt text at)
 
 -- operands by how many there are
-abbrev pub RowIs : List ℕ → Operands → List Written → Type 0
-RowIs text o [] = o .count ≡ 0
-RowIs text o (u ∷ []) = (o .count ≡ 1) × Formed text (o .first) u
-RowIs text o (u ∷ v ∷ []) = (o .count ≡ 2) × (Formed text (o .first) u × Formed text (o .second) v)
-RowIs text o (u ∷ v ∷ w ∷ []) = (o .count ≡ 3) × (Formed text (o .first) u × (Formed text (o .second) v × Formed text (o .third) w))
-RowIs text o (u ∷ v ∷ w ∷ x ∷ ws) = o .count ≡ 4
+abbrev pub OperandRow : List ℕ → Operands → List Written → Type 0
+OperandRow text o [] = o .count ≡ 0
+OperandRow text o (u ∷ []) = (o .count ≡ 1) × Formed text (o .first) u
+OperandRow text o (u ∷ v ∷ []) = (o .count ≡ 2) × (Formed text (o .first) u × Formed text (o .second) v)
+OperandRow text o (u ∷ v ∷ w ∷ []) = (o .count ≡ 3) × (Formed text (o .first) u × (Formed text (o .second) v × Formed text (o .third) w))
+OperandRow text o (u ∷ v ∷ w ∷ x ∷ ws) = o .count ≡ 4

@@ -6,8 +6,8 @@ use Prim.Native.Nat.{ℕ, zero, suc, _+_, _*_, _/_, _-_, _%_, _^_}
 use lib.Dec.{eqb, ltb, leb}
 use lib.ListN.{length}
 use Rattle.ground_rules.specs.Choice.{pick}
-use Rattle.listing_rules.specs.Entries.{Kind, Entry}
-use Rattle.listing_rules.specs.Entries.Kind.{'R, 'G, 'P, 'M, 'byte, 'word, 'bit, 'width, 'short, 'long}
+use Rattle.listing_rules.specs.Entries.{OperandKind, Entry}
+use Rattle.listing_rules.specs.Entries.OperandKind.{'R, 'G, 'P, 'M, 'byte, 'word, 'bit, 'width, 'short, 'long}
 use Rattle.assembly_rules.specs.Operands.{Written}
 use Rattle.assembly_rules.specs.Operands.Written.{register, memory, value, nothing}
 use Rattle.assembler_forms.specs.declared.operands.Form.{Form}
@@ -35,7 +35,7 @@ pub record NumberIs (n : ℕ) (word : List ℕ) : Type 0 where
   pub bytes : inBytes word ≡ true
 
 -- a kind of place by a digit, 0 for none
-abbrev pub kindCode : Kind → ℕ
+abbrev pub kindCode : OperandKind → ℕ
 kindCode 'R = 1
 kindCode 'G = 2
 kindCode 'P = 3
@@ -48,7 +48,7 @@ kindCode 'short = 9
 kindCode 'long = 10
 
 -- so many kinds by as many digits, the first highest
-unfoldable pub kindsCode : ℕ → List Kind → ℕ
+unfoldable pub kindsCode : ℕ → List OperandKind → ℕ
 kindsCode zero ks = 0
 kindsCode (suc n) [] = 0
 kindsCode (suc n) (k ∷ ks) = kindCode k * 16 ^ n + kindsCode n ks

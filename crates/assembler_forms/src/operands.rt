@@ -10,7 +10,7 @@ ghost use Rattle.assembly_rules.specs.Sums.{isWhole};
 ghost use Rattle.assembly_rules.specs.Statements.{operandParts};
 ghost use Rattle.assembly_rules.specs.Operands.{baseNumber, closedMemory, indexedMemory, memoryFrom, operandFrom, operandsFrom};
 ghost use Rattle.assembler_forms.specs.Forms.{pastMark, stopsAt, registerAt, operandTokens, Formed};
-ghost use Rattle.assembler_forms.specs.Rows.{commaAt, endsAt, RowIs};
+ghost use Rattle.assembler_forms.specs.Rows.{commaAt, endsAt, OperandRow};
 
 // A register's number and the place behind it; 9 where none stands there.
 pub(crate) struct Named {
@@ -213,7 +213,7 @@ pub fn ends(text: &[u8], at: usize) -> bool
 
 // The operands from a place up to the line's end.
 pub fn operands_at(text: &[u8], at: usize) -> Operands
-    ensures { λ r. ⌜ RowIs (now (text .entry)) r (operandsFrom (operandParts (tokensOf (drop at (now (text .entry)))))) ⌝ }
+    ensures { λ r. ⌜ OperandRow (now (text .entry)) r (operandsFrom (operandParts (tokensOf (drop at (now (text .entry)))))) ⌝ }
 {
     let none = Form::NoOperand;
     if ends(text, at) {

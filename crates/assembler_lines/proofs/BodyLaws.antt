@@ -25,7 +25,7 @@ use Rattle.assembler_text.specs.Places.{tokenAt}
 use Rattle.assembler_text.proofs.PlaceLaws.{no-tokens-there, mark-tokens}
 use Rattle.assembler_forms.specs.declared.operands.Operands.{Operands}
 use Rattle.assembler_forms.specs.declared.table.Codes.{Codes}
-use Rattle.assembler_forms.specs.Rows.{RowIs}
+use Rattle.assembler_forms.specs.Rows.{OperandRow}
 use Rattle.assembler_forms.specs.Table.{packedWord, inBytes, NumberIs, entryCode, noCode, codesBy, codesIn, fittingBy}
 use Rattle.assembler_forms.proofs.EntryLaws.{eachEntry, rightEntry, entries-right, Right, right-so, takes-length, word-same, chosenNumber, fitting-told, word-told}
 use Rattle.assembler_lines.specs.declared.bodies.Body.the-variants.{Blank, Instruction, Refused}
@@ -87,7 +87,7 @@ pub few-operands : (e : Entry) (ws : List Written) → Among e entries → takes
 few-operands e ws a h = omega (arith, among-right e a .few, takes-length (e .kinds) ws h)
 
 -- at most three operands are shallow as the code has it
-row-low : (text : List ℕ) (o : Operands) (ws : List Written) → length ws ≤ 3 → RowIs text o ws → rowLow o ≡ allShallow ws
+row-low : (text : List ℕ) (o : Operands) (ws : List Written) → length ws ≤ 3 → OperandRow text o ws → rowLow o ≡ allShallow ws
 unfolding rowLow allShallow
 row-low text o [] l h = rw h
 row-low text o (u ∷ []) l h = rw (h .1 .low, h .0)
@@ -126,7 +126,7 @@ module _ (name : List ℕ) (n : ℕ) (k : NumberIs n name) where
       pub says-nothing : codes .0 ≡ noCode → BodyIs text (Refused 30) (statementOf (run name ∷ ts))
       says-nothing z = (says-word ∙ rw (word-told name n k codes c, eq-eqb (codes .0) noCode z), (omega arith, omega arith))
 
-      module _ (some : codes .0 ≡ noCode → ⊥) (o : Operands) (row : RowIs text o (operandsFrom (operandParts ts))) where
+      module _ (some : codes .0 ≡ noCode → ⊥) (o : Operands) (row : OperandRow text o (operandsFrom (operandParts ts))) where
         formed : statementOf (run name ∷ ts) ≡ formedBy (entryIn entries name (operandsFrom (operandParts ts))) (operandsFrom (operandParts ts))
         formed = says-word ∙ rw (word-told name n k codes c, ne-eqb (codes .0) noCode some)
 

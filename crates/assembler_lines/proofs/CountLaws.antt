@@ -18,10 +18,10 @@ use Rattle.assembler_forms.specs.declared.operands.Form.{Form}
 use Rattle.assembler_forms.specs.declared.operands.Form.the-variants.{Register, Memory, Value, NoOperand}
 use Rattle.assembler_forms.specs.declared.operands.Operands.{Operands}
 use Rattle.assembler_forms.specs.Forms.{Formed, writtenForm}
-use Rattle.assembler_forms.specs.Rows.{RowIs}
+use Rattle.assembler_forms.specs.Rows.{OperandRow}
 use Rattle.assembler_forms.specs.Table.{kindsCode, entryCode}
 use Rattle.assembler_forms.proofs.EntryLaws.{eachEntry}
-use Rattle.assembler_lines.specs.Bodies.{InstructionIs}
+use Rattle.assembler_lines.specs.Bodies.{SaysInstruction}
 use Rattle.assembler_lines.specs.Counts.{formOffset, offsetThere, rowOffsets, entrySize}
 use Rattle.assembler_lines.proofs.BodyLaws.{among-passes, few-operands}
 
@@ -48,7 +48,7 @@ no-offsets : offsetsSize [] ≡ 0
 unfolding offsetsSize
 no-offsets = refl
 
-row-offsets : (text : List ℕ) (o : Operands) (ws : List Written) → length ws ≤ 3 → RowIs text o ws → rowOffsets o ≡ offsetsSize ws
+row-offsets : (text : List ℕ) (o : Operands) (ws : List Written) → length ws ≤ 3 → OperandRow text o ws → rowOffsets o ≡ offsetsSize ws
 unfolding rowOffsets
 row-offsets text o [] l h = rw h (sym no-offsets)
 row-offsets text o (u ∷ []) l h = rw (h .0) (omega (arith, offset-form text (o .first) u [] (h .1), no-offsets))
@@ -67,7 +67,7 @@ pub size-refused : (n : ℕ) (s : Statement) → s ≡ refused n → 0 ≡ state
 unfolding statementSize
 size-refused n s e = sym (ap statementSize e)
 
-pub size-instruction : (text : List ℕ) (code : ℕ) (o : Operands) (s : Statement) → InstructionIs text code o s → entrySize code + rowOffsets o ≡ statementSize s
+pub size-instruction : (text : List ℕ) (code : ℕ) (o : Operands) (s : Statement) → SaysInstruction text code o s → entrySize code + rowOffsets o ≡ statementSize s
 unfolding statementSize sizedEntry
 size-instruction text code o s i =
     let e = i .entry in

@@ -15,7 +15,7 @@ use Rattle.assembly_rules.specs.Statements.{headed, headedBy, Statement, operan
 use Rattle.assembly_rules.specs.Statements.Statement.{blank, items, instruction, refused}
 use Rattle.assembler_text.specs.Places.{between, nameAt}
 use Rattle.assembler_forms.specs.declared.operands.Operands.{Operands}
-use Rattle.assembler_forms.specs.Rows.{RowIs}
+use Rattle.assembler_forms.specs.Rows.{OperandRow}
 use Rattle.assembler_forms.specs.Table.{entryCode}
 use Rattle.assembler_lines.specs.declared.bodies.Head.{Head}
 use Rattle.assembler_lines.specs.declared.bodies.Body.{Body}
@@ -49,13 +49,13 @@ pub record ItemsAre (text : List ℕ) (two : Bool) (place size : ℕ) (s : State
   pub low : allLow (operandParts (tokensOf (drop place text))) ≡ true
 
 -- an instruction by its entry's number and its operands
-pub record InstructionIs (text : List ℕ) (code : ℕ) (o : Operands) (s : Statement) : Type 0 where
+pub record SaysInstruction (text : List ℕ) (code : ℕ) (o : Operands) (s : Statement) : Type 0 where
   pub entry : Entry
   pub written : List Written
   pub same : s ≡ instruction entry written
   pub number : code ≡ entryCode entry
   pub listed : Among entry entries
-  pub row : RowIs text o written
+  pub row : OperandRow text o written
   pub fits : takesAll (entry .kinds) written ≡ true
   pub sums : areSums written ≡ true
   pub shallow : allShallow written ≡ true
@@ -63,5 +63,5 @@ pub record InstructionIs (text : List ℕ) (code : ℕ) (o : Operands) (s : Stat
 abbrev pub BodyIs : List ℕ → Body → Statement → Type 0
 BodyIs text Blank s = s ≡ blank
 BodyIs text (Items two place size) s = ItemsAre text two place size s
-BodyIs text (Instruction code o) s = InstructionIs text code o s
+BodyIs text (Instruction code o) s = SaysInstruction text code o s
 BodyIs text (Refused n) s = (s ≡ refused n) × ((30 ≤ n) × (n ≤ 32))

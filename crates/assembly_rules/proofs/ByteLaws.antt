@@ -12,8 +12,8 @@ use Rattle.ground_rules.specs.Choice.{pick}
 use Rattle.instruction_rules.specs.declared.Pair.{Pair}
 use Rattle.listing_rules.specs.Characters.{ascii, sameText}
 use Rattle.listing_rules.specs.Forms.{Operand}
-use Rattle.listing_rules.specs.Entries.{Kind, Entry, entries}
-use Rattle.listing_rules.specs.Entries.Kind.{'R, 'G, 'P, 'M, 'byte, 'word, 'bit, 'width, 'short, 'long}
+use Rattle.listing_rules.specs.Entries.{OperandKind, Entry, entries}
+use Rattle.listing_rules.specs.Entries.OperandKind.{'R, 'G, 'P, 'M, 'byte, 'word, 'bit, 'width, 'short, 'long}
 use Rattle.listing_rules.specs.Back.{digitsIn, rrrIn, mmIn, aaIn, pairFrom}
 use Rattle.assembly_rules.specs.Text.{Token, tokensOf}
 use Rattle.assembly_rules.specs.Text.Token.{run, mark}
@@ -73,7 +73,7 @@ unfolding allOffsets
 offsets-bytes labels [] = no-bytes
 offsets-bytes labels (w ∷ ws) = bytes-append (writtenOffset labels w) _ (offset-bytes labels w) (offsets-bytes labels ws)
 
-number-bytes : (k : Kind) (end n : ℕ) → areBytes (numberBytes k end n) ≡ true
+number-bytes : (k : OperandKind) (end n : ℕ) → areBytes (numberBytes k end n) ≡ true
 number-bytes 'R end n = no-bytes
 number-bytes 'G end n = no-bytes
 number-bytes 'P end n = no-bytes
@@ -85,7 +85,7 @@ number-bytes 'width end n = no-bytes
 number-bytes 'short end n = low-bytes _
 number-bytes 'long end n = two-bytes _
 
-numbers-bytes : (labels : List Label) (end : ℕ) (ks : List Kind) (ws : List Written) → areBytes (allNumbers labels end ks ws) ≡ true
+numbers-bytes : (labels : List Label) (end : ℕ) (ks : List OperandKind) (ws : List Written) → areBytes (allNumbers labels end ks ws) ≡ true
 unfolding allNumbers
 numbers-bytes labels end [] ws = no-bytes
 numbers-bytes labels end (k ∷ ks) [] = no-bytes
@@ -235,7 +235,7 @@ fields-small c d (Operand.memory m a o ∷ os) l k h = let f = both-left (ltb m 
 fields-small c d (Operand.number b ∷ os) l k h = fields-small c d os l k h
 fields-small c d (Operand.digit n ∷ os) l k h = fields-small c d os l k h
 
-listed-memories : (labels : List Label) (ks : List Kind) (ws : List Written) → allSmall ws ≡ true → smallMemories (listedAll labels ks ws) ≡ true
+listed-memories : (labels : List Label) (ks : List OperandKind) (ws : List Written) → allSmall ws ≡ true → smallMemories (listedAll labels ks ws) ≡ true
 unfolding listedAll listedAs allSmall smallMemories smallWritten
 listed-memories labels [] ws h = refl
 listed-memories labels (k ∷ ks) [] h = refl
@@ -254,7 +254,7 @@ listed-memories labels ('long ∷ ks) (value ts ∷ ws) h = listed-memories labe
 listed-memories labels (k ∷ ks) (nothing ∷ ws) h = listed-memories labels ks ws h
 
 -- places without a width, or two widths alone
-isWidth : Kind → Bool
+isWidth : OperandKind → Bool
 isWidth 'R = false
 isWidth 'G = false
 isWidth 'P = false
@@ -266,7 +266,7 @@ isWidth 'width = true
 isWidth 'short = false
 isWidth 'long = false
 
-noWidth : List Kind → Bool
+noWidth : List OperandKind → Bool
 noWidth [] = true
 noWidth (k ∷ ks) = not (isWidth k) && noWidth ks
 
@@ -274,7 +274,7 @@ both-none : (b : Bool) → b && false ≡ false
 both-none true = refl
 both-none false = refl
 
-twoWidths : List Kind → Bool
+twoWidths : List OperandKind → Bool
 twoWidths [] = false
 twoWidths (k ∷ []) = false
 twoWidths (k ∷ l ∷ []) = isWidth k && isWidth l
@@ -284,11 +284,11 @@ or-right : (a b : Bool) → b ≡ true → a || b ≡ true
 or-right true b h = refl
 or-right false b h = h
 
-one-stands : (labels : List Label) (end : ℕ) (k : Kind) (ks : List Kind) (w : Written) (ws : List Written) → allStand labels end (k ∷ ks) (w ∷ ws) ≡ true → (mayStand k end (operandWorth labels w .value) ≡ true) × (allStand labels end ks ws ≡ true)
+one-stands : (labels : List Label) (end : ℕ) (k : OperandKind) (ks : List OperandKind) (w : Written) (ws : List Written) → allStand labels end (k ∷ ks) (w ∷ ws) ≡ true → (mayStand k end (operandWorth labels w .value) ≡ true) × (allStand labels end ks ws ≡ true)
 unfolding allStand
 one-stands labels end k ks w ws h = (both-left (mayStand k end (operandWorth labels w .value)) (allStand labels end ks ws) h, both-right (mayStand k end (operandWorth labels w .value)) (allStand labels end ks ws) h)
 
-listed-plain : (labels : List Label) (end : ℕ) (ks : List Kind) (ws : List Written) → noWidth ks ≡ true → allSmall ws ≡ true → allStand labels end ks ws ≡ true → smallOperands (listedAll labels ks ws) ≡ true
+listed-plain : (labels : List Label) (end : ℕ) (ks : List OperandKind) (ws : List Written) → noWidth ks ≡ true → allSmall ws ≡ true → allStand labels end ks ws ≡ true → smallOperands (listedAll labels ks ws) ≡ true
 unfolding listedAll listedAs allSmall smallOperands smallWritten noWidth isWidth mayStand operandWorth
 listed-plain labels end [] ws n h s = refl
 listed-plain labels end (k ∷ ks) [] n h s = refl
@@ -306,7 +306,7 @@ listed-plain labels end ('width ∷ ks) (value ts ∷ ws) n h s = absurd (false�
 listed-plain labels end ('short ∷ ks) (value ts ∷ ws) n h s = listed-plain labels end ks ws n h (one-stands labels end 'short ks (value ts) ws s .1)
 listed-plain labels end ('long ∷ ks) (value ts ∷ ws) n h s = listed-plain labels end ks ws n h (one-stands labels end 'long ks (value ts) ws s .1)
 
-width-digit : (labels : List Label) (k : Kind) (w : Written) (os : List Operand) → isWidth k ≡ true → takes k w ≡ true → isDigitOperand (listedAs labels k w ∷ os) ≡ true
+width-digit : (labels : List Label) (k : OperandKind) (w : Written) (os : List Operand) → isWidth k ≡ true → takes k w ≡ true → isDigitOperand (listedAs labels k w ∷ os) ≡ true
 unfolding takes listedAs isDigitOperand isWidth
 width-digit labels 'width (value ts) os h t = refl
 width-digit labels 'width (register r) os h t = absurd (false≢true t)
@@ -330,7 +330,7 @@ digit-small os (Operand.memory m a o) h k = absurd (false≢true h)
 digit-small os (Operand.number b) h k = absurd (false≢true h)
 digit-small os (Operand.digit n) h k = rw k
 
-listed-widths : (labels : List Label) (ks : List Kind) (ws : List Written) → twoWidths ks ≡ true → takesAll ks ws ≡ true → smallOperands (listedAll labels ks ws) ≡ true
+listed-widths : (labels : List Label) (ks : List OperandKind) (ws : List Written) → twoWidths ks ≡ true → takesAll ks ws ≡ true → smallOperands (listedAll labels ks ws) ≡ true
 unfolding twoWidths takesAll listedAll
 listed-widths labels [] ws n t = absurd (false≢true n)
 listed-widths labels (k ∷ []) ws n t = absurd (false≢true n)

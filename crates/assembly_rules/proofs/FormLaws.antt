@@ -11,8 +11,8 @@ use lib.ListN.{length}
 use borrow.Author.Tests.{leb-false, lt-leb, eq-eqb, eqb-true, eqb-false, not-true, not-false}
 use Rattle.ground_rules.specs.Choice.{pick}
 use Rattle.listing_rules.specs.Characters.{ascii, sameText}
-use Rattle.listing_rules.specs.Entries.{Kind, Entry, entries}
-use Rattle.listing_rules.specs.Entries.Kind.{'R, 'G, 'P, 'M, 'byte, 'word, 'bit, 'width, 'short, 'long}
+use Rattle.listing_rules.specs.Entries.{OperandKind, Entry, entries}
+use Rattle.listing_rules.specs.Entries.OperandKind.{'R, 'G, 'P, 'M, 'byte, 'word, 'bit, 'width, 'short, 'long}
 use Rattle.assembly_rules.specs.Text.{Token, isComma, cutAt, ahead}
 use Rattle.assembly_rules.specs.Text.Token.{run, mark}
 use Rattle.assembly_rules.specs.Sums.{beginsDigit, isSum, scanFrom, depthOf, mostOpen}
@@ -85,9 +85,9 @@ pub data AllOperands : List (List Token) → List Written → Type 0 where
   noOperand : AllOperands [] []
   oneOperand : {part : List Token} {w : Written} {parts : List (List Token)} {ws : List Written} → OperandOf part w → AllOperands parts ws → AllOperands (part ∷ parts) (w ∷ ws)
 
-pub data AllTake : List Kind → List Written → Type 0 where
+pub data AllTake : List OperandKind → List Written → Type 0 where
   noPlace : AllTake [] []
-  onePlace : {k : Kind} {w : Written} {ks : List Kind} {ws : List Written} → takes k w ≡ true → AllTake ks ws → AllTake (k ∷ ks) (w ∷ ws)
+  onePlace : {k : OperandKind} {w : Written} {ks : List OperandKind} {ws : List Written} → takes k w ≡ true → AllTake ks ws → AllTake (k ∷ ks) (w ∷ ws)
 
 abbrev pub dataWord : Bool → List ℕ
 dataWord two = pick two (ascii "DW") (ascii "DB")
@@ -98,23 +98,23 @@ pub data NoWord : List Token → Type 0 where
   noSuch : (r : List ℕ) (ts : List Token) → ((two : Bool) → r ≡ dataWord two → ⊥) → ((e : Entry) → In e entries → e .word ≡ r → ⊥) → NoWord (run r ∷ ts)
 
 -- the numbers that stand in a line, each with its place: sums, and the offsets of memory
-abbrev pub numberIn : Kind → Written → List (Kind × List Token)
+abbrev pub numberIn : OperandKind → Written → List (OperandKind × List Token)
 numberIn k (register r) = []
 numberIn k (memory mm aa ts) = pick (eqb aa 1) ((k, ts) ∷ []) []
 numberIn k (value ts) = (k, ts) ∷ []
 numberIn k nothing = []
 
-abbrev pub numbersIn : List Kind → List Written → List (Kind × List Token)
+abbrev pub numbersIn : List OperandKind → List Written → List (OperandKind × List Token)
 numbersIn [] ws = []
 numbersIn (k ∷ ks) [] = []
 numbersIn (k ∷ ks) (w ∷ ws) = numberIn k w ++ numbersIn ks ws
 
 -- items stand like data of a byte or a word
-abbrev pub itemsIn : Bool → List (List Token) → List (Kind × List Token)
+abbrev pub itemsIn : Bool → List (List Token) → List (OperandKind × List Token)
 itemsIn two [] = []
 itemsIn two (part ∷ parts) = (pick two 'word 'byte, part) ∷ itemsIn two parts
 
-abbrev pub sumsIn : Statement → List (Kind × List Token)
+abbrev pub sumsIn : Statement → List (OperandKind × List Token)
 sumsIn blank = []
 sumsIn (items two parts) = itemsIn two parts
 sumsIn (instruction e ws) = numbersIn (e .kinds) ws
@@ -122,7 +122,7 @@ sumsIn (refused n) = []
 
 -- each of them is a tree's
 abbrev pub AllTrees : Statement → Type 0
-AllTrees st = (p : Kind × List Token) → In p (sumsIn st) → (s : Sum) × (sumTokens s ≡ p .1)
+AllTrees st = (p : OperandKind × List Token) → In p (sumsIn st) → (s : Sum) × (sumTokens s ≡ p .1)
 
 -- a form: nothing at all; DB or DW with one tree or more; an entry's word with operands that its places take
 pub data FormOf : List Token → Statement → Type 0 where
@@ -131,15 +131,15 @@ pub data FormOf : List Token → Statement → Type 0 where
   coded : (e : Entry) (ts : List Token) (ws : List Written) → In e entries → AllOperands (operandParts ts) ws → AllTake (e .kinds) ws → FormOf (run (e .word) ∷ ts) (instruction e ws)
 
 -- a tree in a form, in its place, of which something holds
-abbrev pub SomeTree : Statement → (Kind → Sum → Type 0) → Type 0
-SomeTree st P = (k : Kind) × ((s : Sum) × (In (k, sumTokens s) (sumsIn st) × P k s))
+abbrev pub SomeTree : Statement → (OperandKind → Sum → Type 0) → Type 0
+SomeTree st P = (k : OperandKind) × ((s : Sum) × (In (k, sumTokens s) (sumsIn st) × P k s))
 
 -- one has more than eight parentheses open at once
 abbrev pub Deep : Statement → Type 0
 Deep st = SomeTree st (λ k s. 8 < sumDepth s)
 
 -- a test of all numbers fails exactly where it fails of a tree
-pub trees-fail : (st : Statement) → AllTrees st → (test : Kind × List Token → Bool) → (every test (sumsIn st) ≡ false) ↔ SomeTree st (λ k s. test (k, sumTokens s) ≡ false)
+pub trees-fail : (st : Statement) → AllTrees st → (test : OperandKind × List Token → Bool) → (every test (sumsIn st) ≡ false) ↔ SomeTree st (λ k s. test (k, sumTokens s) ≡ false)
 trees-fail st trees test = (finds, λ x. every-fails test (sumsIn st) .1 ((x .0, sumTokens (x .1 .0)), x .1 .1))
   where
     finds : every test (sumsIn st) ≡ false → SomeTree st (λ k s. test (k, sumTokens s) ≡ false)
@@ -147,17 +147,17 @@ trees-fail st trees test = (finds, λ x. every-fails test (sumsIn st) .1 ((x .0,
         let x = every-fails test (sumsIn st) .0 h in
         let s = trees (x .0) (x .1 .0) in
         let e : (x .0 .0, sumTokens (s .0)) ≡ x .0 = ap (λ (ts : List Token). (x .0 .0, ts)) (s .1) in
-        (x .0 .0, (s .0, (subst (λ (p : Kind × List Token). In p (sumsIn st)) (sym e) (x .1 .0), ap test e ∙ x .1 .1)))
+        (x .0 .0, (s .0, (subst (λ (p : OperandKind × List Token). In p (sumsIn st)) (sym e) (x .1 .0), ap test e ∙ x .1 .1)))
 
 -- a test of operands one by one is one of the numbers in them, where it holds of a register and of memory without an offset
-module _ (own : Kind → Written → Bool) (test : Kind × List Token → Bool) (f : List Kind → List Written → Bool) (none : f [] [] ≡ true) (one : (k : Kind) (w : Written) (ks : List Kind) (ws : List Written) → f (k ∷ ks) (w ∷ ws) ≡ own k w && f ks ws)
-    (plain : (k : Kind) (r : ℕ) → takes k (register r) ≡ true → own k (register r) ≡ true) (near : (k : Kind) (mm aa : ℕ) → eqb aa 1 ≡ false → isMemoryKind k ≡ true → own k (memory mm aa []) ≡ true)
-    (far : (k : Kind) (mm : ℕ) (ts : List Token) → own k (memory mm 1 ts) ≡ test (k, ts)) (sum : (k : Kind) (ts : List Token) → own k (value ts) ≡ test (k, ts)) where
+module _ (own : OperandKind → Written → Bool) (test : OperandKind × List Token → Bool) (f : List OperandKind → List Written → Bool) (none : f [] [] ≡ true) (one : (k : OperandKind) (w : Written) (ks : List OperandKind) (ws : List Written) → f (k ∷ ks) (w ∷ ws) ≡ own k w && f ks ws)
+    (plain : (k : OperandKind) (r : ℕ) → takes k (register r) ≡ true → own k (register r) ≡ true) (near : (k : OperandKind) (mm aa : ℕ) → eqb aa 1 ≡ false → isMemoryKind k ≡ true → own k (memory mm aa []) ≡ true)
+    (far : (k : OperandKind) (mm : ℕ) (ts : List Token) → own k (memory mm 1 ts) ≡ test (k, ts)) (sum : (k : OperandKind) (ts : List Token) → own k (value ts) ≡ test (k, ts)) where
   and-true : (b : Bool) → b && true ≡ b
   and-true true = refl
   and-true false = refl
 
-  own-every : {part : List Token} {w : Written} → OperandOf part w → (k : Kind) → takes k w ≡ true → own k w ≡ every test (numberIn k w)
+  own-every : {part : List Token} {w : Written} → OperandOf part w → (k : OperandKind) → takes k w ≡ true → own k w ≡ every test (numberIn k w)
   unfolding takes
   own-every (alone n h) k t = plain k n t
   own-every (based mm h) k t = near k mm 0 refl t
@@ -166,13 +166,13 @@ module _ (own : Kind → Written → Bool) (test : Kind × List Token → Bool) 
   own-every (stepped mm h) k t = near k mm 3 refl t
   own-every (summed s) k t = sum k (sumTokens s) ∙ sym (and-true (test (k, sumTokens s)))
 
-  pub operands-every : {parts : List (List Token)} {ks : List Kind} {ws : List Written} → AllOperands parts ws → AllTake ks ws → f ks ws ≡ every test (numbersIn ks ws)
+  pub operands-every : {parts : List (List Token)} {ks : List OperandKind} {ws : List Written} → AllOperands parts ws → AllTake ks ws → f ks ws ≡ every test (numbersIn ks ws)
   operands-every noOperand noPlace = none
   operands-every (oneOperand {w = w} {ws = ws} o os) (onePlace {k = k} {ks = ks} t ts) =
       one k w ks ws ∙ ap (λ (b : Bool). b && f ks ws) (own-every o k t) ∙ ap (λ (b : Bool). every test (numberIn k w) && b) (operands-every os ts) ∙ sym (every-both test (numberIn k w) (numbersIn ks ws))
 
 -- a test of items likewise
-pub items-every : (two : Bool) (test : Kind × List Token → Bool) (f : List (List Token) → Bool) → f [] ≡ true → ((part : List Token) (parts : List (List Token)) → f (part ∷ parts) ≡ test (pick two 'word 'byte, part) && f parts)
+pub items-every : (two : Bool) (test : OperandKind × List Token → Bool) (f : List (List Token) → Bool) → f [] ≡ true → ((part : List Token) (parts : List (List Token)) → f (part ∷ parts) ≡ test (pick two 'word 'byte, part) && f parts)
     → (parts : List (List Token)) → f parts ≡ every test (itemsIn two parts)
 items-every two test f h k [] = h
 items-every two test f h k (part ∷ parts) = k part parts ∙ ap (λ (b : Bool). test (pick two 'word 'byte, part) && b) (items-every two test f h k parts)
@@ -184,20 +184,20 @@ word-exactly es word =
     let s = as-some (λ e. sameText (e .word) word) (λ es. hasWord es word) refl (λ e es. refl) es in
     (λ h. let x = s .0 h in (x .0, (x .1 .0, same-is (x .0 .word) word (x .1 .1))), λ x. s .1 (x .0, (x .1 .0, rw (x .1 .1) (is-same word))))
 
-pub all-take : (ks : List Kind) (ws : List Written) → takesAll ks ws ≡ true → AllTake ks ws
+pub all-take : (ks : List OperandKind) (ws : List Written) → takesAll ks ws ≡ true → AllTake ks ws
 unfolding takesAll
 all-take [] [] h = noPlace
 all-take [] (w ∷ ws) h = absurd (false≢true h)
 all-take (k ∷ ks) [] h = absurd (false≢true h)
 all-take (k ∷ ks) (w ∷ ws) h = onePlace (both-left (takes k w) (takesAll ks ws) h) (all-take ks ws (both-right (takes k w) (takesAll ks ws) h))
 
-take-all : {ks : List Kind} {ws : List Written} → AllTake ks ws → takesAll ks ws ≡ true
+take-all : {ks : List OperandKind} {ws : List Written} → AllTake ks ws → takesAll ks ws ≡ true
 unfolding takesAll
 take-all noPlace = refl
 take-all (onePlace h hs) = rw (h, take-all hs)
 
 -- what a place takes: memory, a register or a number; so no two entries of one word take the same operands
-abbrev pub sortOf : Kind → ℕ
+abbrev pub sortOf : OperandKind → ℕ
 sortOf k = pick (isMemoryKind k) 1 (pick (takesRegister k 0) 0 2)
 
 abbrev pub sortWritten : Written → ℕ
@@ -206,7 +206,7 @@ sortWritten (memory mm aa ts) = 1
 sortWritten (value ts) = 2
 sortWritten nothing = 3
 
-pub takes-sort : (k : Kind) (w : Written) → takes k w ≡ true → sortOf k ≡ sortWritten w
+pub takes-sort : (k : OperandKind) (w : Written) → takes k w ≡ true → sortOf k ≡ sortWritten w
 unfolding takes
 takes-sort k (register r) h =
     (elim k as (λ j. takesRegister j r ≡ true → sortOf j ≡ 0) [
@@ -230,7 +230,7 @@ takes-sort k (value ts) h = go (isMemoryKind k) (takesRegister k 0) h
     go false false h = refl
 takes-sort k nothing h = absurd (false≢true h)
 
-overlap : List Kind → List Kind → Bool
+overlap : List OperandKind → List OperandKind → Bool
 overlap [] [] = true
 overlap [] (j ∷ js) = false
 overlap (k ∷ ks) [] = false
@@ -247,7 +247,7 @@ entries-sole : sole entries ≡ true
 unfolding sole clash overlap entries sameText
 entries-sole = refl
 
-both-take : {ks js : List Kind} {ws : List Written} → AllTake ks ws → AllTake js ws → overlap ks js ≡ true
+both-take : {ks js : List OperandKind} {ws : List Written} → AllTake ks ws → AllTake js ws → overlap ks js ≡ true
 unfolding overlap
 both-take noPlace noPlace = refl
 both-take (onePlace {k = k} {w = w} h hs) (onePlace {k = j} g gs) = rw (eq-eqb (sortOf k) (sortOf j) (takes-sort k w h ∙ sym (takes-sort j w g)), both-take hs gs)
@@ -273,7 +273,7 @@ entry-none (e ∷ es) word ws h =
     rw (not-true (fitting word ws e) (both-left (not (fitting word ws e)) (every (λ e. not (fitting word ws e)) es) h)) (entry-none es word ws (both-right (not (fitting word ws e)) (every (λ e. not (fitting word ws e)) es) h))
 
 -- operands that places take are of some form each, and no other
-operands-all : (ks : List Kind) (parts : List (List Token)) → takesAll ks (operandsFrom parts) ≡ true → AllOperands parts (operandsFrom parts)
+operands-all : (ks : List OperandKind) (parts : List (List Token)) → takesAll ks (operandsFrom parts) ≡ true → AllOperands parts (operandsFrom parts)
 unfolding takesAll operandsFrom takes
 operands-all [] [] h = noOperand
 operands-all [] (part ∷ parts) h = absurd (false≢true h)
@@ -289,28 +289,28 @@ operands-are noOperand = refl
 operands-are (oneOperand {parts = parts} {ws = ws} o os) = rw (operand-is o, operands-are os)
 
 -- how deep the trees are
-lowTree : Kind × List Token → Bool
+lowTree : OperandKind × List Token → Bool
 lowTree p = leb (depthOf (p .1)) mostOpen
 
 low-items : (two : Bool) (parts : List (List Token)) → allLow parts ≡ every lowTree (itemsIn two parts)
 unfolding allLow lowTree
 low-items two = items-every two lowTree allLow refl (λ part parts. refl)
 
-low-operands : {parts : List (List Token)} {ks : List Kind} {ws : List Written} → AllOperands parts ws → AllTake ks ws → allShallow ws ≡ every lowTree (numbersIn ks ws)
+low-operands : {parts : List (List Token)} {ks : List OperandKind} {ws : List Written} → AllOperands parts ws → AllTake ks ws → allShallow ws ≡ every lowTree (numbersIn ks ws)
 unfolding allShallow isShallow lowTree depthOf scanFrom
 low-operands = operands-every (λ k w. isShallow w) lowTree (λ ks ws. allShallow ws) refl (λ k w ks ws. refl) (λ k r t. refl) (λ k mm aa z t. refl) (λ k mm ts. refl) (λ k ts. refl)
 
-coded-trees : {parts : List (List Token)} {ks : List Kind} {ws : List Written} → AllOperands parts ws → AllTake ks ws → (p : Kind × List Token) → In p (numbersIn ks ws) → (s : Sum) × (sumTokens s ≡ p .1)
+coded-trees : {parts : List (List Token)} {ks : List OperandKind} {ws : List Written} → AllOperands parts ws → AllTake ks ws → (p : OperandKind × List Token) → In p (numbersIn ks ws) → (s : Sum) × (sumTokens s ≡ p .1)
 coded-trees noOperand noPlace p m = elim m [ ]
 coded-trees (oneOperand {ws = ws} o os) (onePlace {k = k} {ks = ks} t ts) p m = first o k (numbersIn ks ws) (coded-trees os ts p) m
   where
-    first : {part : List Token} {w : Written} → OperandOf part w → (k : Kind) (rest : List (Kind × List Token)) → (In p rest → (s : Sum) × (sumTokens s ≡ p .1)) → In p (numberIn k w ++ rest) → (s : Sum) × (sumTokens s ≡ p .1)
+    first : {part : List Token} {w : Written} → OperandOf part w → (k : OperandKind) (rest : List (OperandKind × List Token)) → (In p rest → (s : Sum) × (sumTokens s ≡ p .1)) → In p (numberIn k w ++ rest) → (s : Sum) × (sumTokens s ≡ p .1)
     first (alone n h) k rest g m = g m
     first (based mm h) k rest g m = g m
     first (indexed mm h) k rest g m = g m
     first (stepped mm h) k rest g m = g m
-    first (offset mm h s) k rest g m = elim m [ here e ↦ (s, sym (ap (λ (q : Kind × List Token). q .1) e)) | later i ↦ g i ]
-    first (summed s) k rest g m = elim m [ here e ↦ (s, sym (ap (λ (q : Kind × List Token). q .1) e)) | later i ↦ g i ]
+    first (offset mm h s) k rest g m = elim m [ here e ↦ (s, sym (ap (λ (q : OperandKind × List Token). q .1) e)) | later i ↦ g i ]
+    first (summed s) k rest g m = elim m [ here e ↦ (s, sym (ap (λ (q : OperandKind × List Token). q .1) e)) | later i ↦ g i ]
 
 pub form-trees : {body : List Token} {st : Statement} → FormOf body st → AllTrees st
 form-trees empty p m = elim m [ ]

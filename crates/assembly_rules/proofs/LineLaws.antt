@@ -12,8 +12,8 @@ use lib.ListN.{length}
 use borrow.Author.Tests.{ltb-true, ltb-false, leb-true, leb-false, lt-ltb}
 use Rattle.ground_rules.specs.Choice.{pick}
 use Rattle.listing_rules.specs.Characters.{ascii, sameText}
-use Rattle.listing_rules.specs.Entries.{Kind, Entry, entries}
-use Rattle.listing_rules.specs.Entries.Kind.{'R, 'G, 'P, 'M, 'byte, 'word, 'bit, 'width, 'short, 'long}
+use Rattle.listing_rules.specs.Entries.{OperandKind, Entry, entries}
+use Rattle.listing_rules.specs.Entries.OperandKind.{'R, 'G, 'P, 'M, 'byte, 'word, 'bit, 'width, 'short, 'long}
 use Rattle.assembly_rules.specs.declared.Worth.{Worth}
 use Rattle.assembly_rules.specs.Text.{Token, tokensOf}
 use Rattle.assembly_rules.specs.Sums.{indexIn, registerNumber, isRegister, Label, labelWorth, worth, sumWorth}
@@ -54,10 +54,10 @@ standIn labels address (instruction e ws) = allStand labels (address + statement
 standIn labels address (refused n) = true
 
 -- and of the numbers in it
-abbrev knownTree : List Label → Kind × List Token → Bool
+abbrev knownTree : List Label → OperandKind × List Token → Bool
 knownTree labels p = sumWorth labels (p .1) .known
 
-abbrev standTree : List Label → ℕ → Kind × List Token → Bool
+abbrev standTree : List Label → ℕ → OperandKind × List Token → Bool
 standTree labels end p = mayStand (p .0) end (sumWorth labels (p .1) .value)
 
 memory-known : (labels : List Label) (mm aa : ℕ) → eqb aa 1 ≡ false → operandWorth labels (memory mm aa []) ≡ worth 0 true
@@ -72,7 +72,7 @@ form-known labels (coded e ts ws i os take) =
     operands-every (λ k w. operandWorth labels w .known) (knownTree labels) (λ ks ws. namesKnown labels ws) refl (λ k w ks ws. refl) (λ k r t. refl) (λ k mm aa z t. ap (λ (x : Worth). x .known) (memory-known labels mm aa z)) (λ k mm ts. refl) (λ k ts. refl) os take
 
 -- a place that takes no number has none that does not fit
-zero-stands : (end : ℕ) (k : Kind) → (sortOf k ≡ 2 → ⊥) → mayStand k end 0 ≡ true
+zero-stands : (end : ℕ) (k : OperandKind) → (sortOf k ≡ 2 → ⊥) → mayStand k end 0 ≡ true
 unfolding mayStand isByte
 zero-stands end k =
     elim k as (λ j. (sortOf j ≡ 2 → ⊥) → mayStand j end 0 ≡ true) [
@@ -99,7 +99,7 @@ form-stands labels address (coded e ts ws i os take) =
     (λ k r t. zero-stands end k (λ z. absurd (omega (arith, takes-sort k (register r) t)))) (λ k mm aa z t. ap (λ (w : Worth). mayStand k end (w .value)) (memory-known labels mm aa z) ∙ zero-stands end k (λ q. absurd (omega (arith, takes-sort k (memory mm aa []) t)))) (λ k mm ts. refl) (λ k ts. refl) os take
 
 -- trees that are not too deep
-shallow : (st : Statement) → (Deep st → ⊥) → (k : Kind) (s : Sum) → In (k, sumTokens s) (sumsIn st) → sumDepth s ≤ 8
+shallow : (st : Statement) → (Deep st → ⊥) → (k : OperandKind) (s : Sum) → In (k, sumTokens s) (sumsIn st) → sumDepth s ≤ 8
 shallow st n k s m = leb-true (sumDepth s) 8 (holds (leb (sumDepth s) 8) (λ e. n (k, (s, (m, leb-false (sumDepth s) 8 e)))))
 
 -- a tree with an unknown name
@@ -113,7 +113,7 @@ tree-unknown labels s = (
 known-fails : (labels : List Label) {body : List Token} {st : Statement} → FormOf body st → (Deep st → ⊥) → (knownIn labels st ≡ false) ↔ Unknown labels st
 known-fails labels {st = st} f n =
     let t = trees-fail st (form-trees f) (knownTree labels) in
-    let same : (k : Kind) (s : Sum) → In (k, sumTokens s) (sumsIn st) → knownTree labels (k, sumTokens s) ≡ sumKnown labels s = λ k s m. ap (λ (w : Worth). w .known) (tree-worth labels s (shallow st n k s m)) in (
+    let same : (k : OperandKind) (s : Sum) → In (k, sumTokens s) (sumsIn st) → knownTree labels (k, sumTokens s) ≡ sumKnown labels s = λ k s m. ap (λ (w : Worth). w .known) (tree-worth labels s (shallow st n k s m)) in (
       λ h. let x = t .0 (sym (form-known labels f) ∙ h) in (x .0, (x .1 .0, (x .1 .1 .0, tree-unknown labels (x .1 .0) .0 (sym (same (x .0) (x .1 .0) (x .1 .1 .0)) ∙ x .1 .1 .1)))),
       λ x. form-known labels f ∙ t .1 (x .0, (x .1 .0, (x .1 .1 .0, same (x .0) (x .1 .0) (x .1 .1 .0) ∙ tree-unknown labels (x .1 .0) .1 (x .1 .1 .1)))),
     )
@@ -122,8 +122,8 @@ stand-fails : (labels : List Label) (address : ℕ) {body : List Token} {st : St
 stand-fails labels address {st = st} f n =
     let end = address + statementSize st in
     let t = trees-fail st (form-trees f) (standTree labels end) in
-    let same : (k : Kind) (s : Sum) → In (k, sumTokens s) (sumsIn st) → standTree labels end (k, sumTokens s) ≡ mayStand k end (treeValue labels s) = λ k s m. ap (λ (w : Worth). mayStand k end (w .value)) (tree-worth labels s (shallow st n k s m)) in
-    let fit : (k : Kind) (s : Sum) → (mayStand k end (treeValue labels s) ≡ true) ↔ FitsPlace k end (treeValue labels s) = λ k s. fits-exactly k end (treeValue labels s) (mod-lt (sumAdded labels s + (65536 - sumTaken labels s % 65536)) (lit< tt)) in (
+    let same : (k : OperandKind) (s : Sum) → In (k, sumTokens s) (sumsIn st) → standTree labels end (k, sumTokens s) ≡ mayStand k end (treeValue labels s) = λ k s m. ap (λ (w : Worth). mayStand k end (w .value)) (tree-worth labels s (shallow st n k s m)) in
+    let fit : (k : OperandKind) (s : Sum) → (mayStand k end (treeValue labels s) ≡ true) ↔ FitsPlace k end (treeValue labels s) = λ k s. fits-exactly k end (treeValue labels s) (mod-lt (sumAdded labels s + (65536 - sumTaken labels s % 65536)) (lit< tt)) in (
       λ h. let x = t .0 (sym (form-stands labels address f) ∙ h) in (x .0, (x .1 .0, (x .1 .1 .0, λ b. not-both (fit (x .0) (x .1 .0) .1 b) (sym (same (x .0) (x .1 .0) (x .1 .1 .0)) ∙ x .1 .1 .1)))),
       λ x. form-stands labels address f ∙ t .1 (x .0, (x .1 .0, (x .1 .1 .0, same (x .0) (x .1 .0) (x .1 .1 .0) ∙ fails (mayStand (x .0) end (treeValue labels (x .1 .0))) (λ y. x .1 .1 .1 (fit (x .0) (x .1 .0) .0 y))))),
     )

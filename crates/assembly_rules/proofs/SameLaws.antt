@@ -10,7 +10,7 @@ use native.Mathlib.Nat.{add-zero}
 use lib.Dec.{eqb}
 use lib.ListN.{length}
 use Rattle.ground_rules.specs.Choice.{pick}
-use Rattle.listing_rules.specs.Entries.{Kind, Entry}
+use Rattle.listing_rules.specs.Entries.{OperandKind, Entry}
 use Rattle.assembly_rules.specs.Text.{Token, begun, allOf, inFrontOf, begunBy, tokensOf, linesIn}
 use Rattle.assembly_rules.specs.Text.Token.{run}
 use Rattle.assembly_rules.specs.Numbers.{constantOf}
@@ -68,7 +68,7 @@ module _ (labels : List Label) where
     noneSaid : SameSaid [] []
     moreSaid : {s t : Said} {ss ts : List Said} → s .name ≡ t .name → SameStatement (s .statement) (t .statement) → SameSaid ss ts → SameSaid (s ∷ ss) (t ∷ ts)
 
-  operand-same : {w u : Written} → SameWritten w u → (operandWorth labels w ≡ operandWorth labels u) × ((writtenOffset labels w ≡ writtenOffset labels u) × (((k : Kind) → listedAs labels k w ≡ listedAs labels k u) × ((n : ℕ) → secondBytes n w ≡ secondBytes n u)))
+  operand-same : {w u : Written} → SameWritten w u → (operandWorth labels w ≡ operandWorth labels u) × ((writtenOffset labels w ≡ writtenOffset labels u) × (((k : OperandKind) → listedAs labels k w ≡ listedAs labels k u) × ((n : ℕ) → secondBytes n w ≡ secondBytes n u)))
   unfolding operandWorth listedAs
   operand-same (sameRegister r) = (refl, (refl, (λ k. refl, λ n. refl)))
   operand-same (sameMemory mm aa e) = (rw e, (rw e, (λ k. rw e, λ n. refl)))
@@ -87,7 +87,7 @@ module _ (labels : List Label) where
   offsets-same (moreSame (sameMemory mm aa e) more) = let m = offsets-same more in (rw (m .0), rw (e, m .1))
   offsets-same (moreSame (sameValue e) more) = offsets-same more
 
-  places-same : {ws us : List Written} → SameOperands ws us → (end : ℕ) (ks : List Kind)
+  places-same : {ws us : List Written} → SameOperands ws us → (end : ℕ) (ks : List OperandKind)
       → (allStand labels end ks ws ≡ allStand labels end ks us) × ((allNumbers labels end ks ws ≡ allNumbers labels end ks us) × (listedAll labels ks ws ≡ listedAll labels ks us))
   unfolding allStand allNumbers listedAll
   places-same noneSame end [] = (refl, (refl, refl))

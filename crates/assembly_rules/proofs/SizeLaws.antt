@@ -10,8 +10,8 @@ use borrow.Author.Tests.{eqb-false}
 use lib.ListN.{length, length-append}
 use Rattle.ground_rules.specs.Choice.{pick}
 use Rattle.listing_rules.specs.Characters.{ascii, sameText}
-use Rattle.listing_rules.specs.Entries.{Kind, Entry, entries}
-use Rattle.listing_rules.specs.Entries.Kind.{'R, 'G, 'P, 'M, 'byte, 'word, 'bit, 'width, 'short, 'long}
+use Rattle.listing_rules.specs.Entries.{OperandKind, Entry, entries}
+use Rattle.listing_rules.specs.Entries.OperandKind.{'R, 'G, 'P, 'M, 'byte, 'word, 'bit, 'width, 'short, 'long}
 use Rattle.listing_rules.specs.Back.{pairFrom}
 use Rattle.assembly_rules.specs.Text.{Token}
 use Rattle.assembly_rules.specs.Sums.{Label, sumWorth}
@@ -45,7 +45,7 @@ offsets-size labels (memory mm aa ts ∷ ws) = go (eqb aa 1) (offsets-size label
     go true l = omega arith
     go false l = omega arith
 
-pub number-size : (k : Kind) (end n : ℕ) → length (numberBytes k end n) ≡ kindSize k
+pub number-size : (k : OperandKind) (end n : ℕ) → length (numberBytes k end n) ≡ kindSize k
 number-size 'R end n = refl
 number-size 'G end n = refl
 number-size 'P end n = refl
@@ -57,7 +57,7 @@ number-size 'width end n = refl
 number-size 'short end n = refl
 number-size 'long end n = refl
 
-numbers-size : (labels : List Label) (end : ℕ) (ks : List Kind) (ws : List Written) → takesAll ks ws ≡ true → length (allNumbers labels end ks ws) ≡ kindsSize ks
+numbers-size : (labels : List Label) (end : ℕ) (ks : List OperandKind) (ws : List Written) → takesAll ks ws ≡ true → length (allNumbers labels end ks ws) ≡ kindsSize ks
 unfolding allNumbers kindsSize takesAll
 numbers-size labels end [] ws h = refl
 numbers-size labels end (k ∷ ks) [] h = absurd (false≢true h)
@@ -66,7 +66,7 @@ numbers-size labels end (k ∷ ks) (w ∷ ws) h =
     length-append (numberBytes k end (operandWorth labels w .value)) (allNumbers labels end ks ws) ∙ rw (number-size k end (operandWorth labels w .value), later)
 
 -- only MOV M,M has two memory operands, and nothing else
-isMove : List Kind → Bool
+isMove : List OperandKind → Bool
 isMove [] = false
 isMove (k ∷ []) = false
 isMove (k ∷ l ∷ []) = isMemoryKind k && isMemoryKind l
@@ -100,13 +100,13 @@ entries-plain = refl
 pub entry-plain : (es : List Entry) (word : List ℕ) (ws : List Written) (e : Entry) → passEach plainEntry es ≡ true → entryIn es word ws ≡ taken e → (plainEntry e ≡ true) × (takesAll (e .kinds) ws ≡ true)
 entry-plain = entry-tested plainEntry
 
-pair-size : (labels : List Label) (w : ℕ) (k : Kind) (to : Written) → isMemoryKind k ≡ true → takes k to ≡ true → length (secondBytes w to) ≡ 2
+pair-size : (labels : List Label) (w : ℕ) (k : OperandKind) (to : Written) → isMemoryKind k ≡ true → takes k to ≡ true → length (secondBytes w to) ≡ 2
 unfolding takes
 pair-size labels w k (memory mm aa ts) h t = refl
 pair-size labels w k nothing h t = absurd (false≢true t)
 pair-size labels w k (register r) h t = no-register k h t
   where
-    no-register : {A : Type 0} (k : Kind) → isMemoryKind k ≡ true → takesRegister k r ≡ true → A
+    no-register : {A : Type 0} (k : OperandKind) → isMemoryKind k ≡ true → takesRegister k r ≡ true → A
     no-register 'M h t = absurd (false≢true t)
     no-register 'R h t = absurd (false≢true h)
     no-register 'G h t = absurd (false≢true h)
@@ -123,7 +123,7 @@ pair-size labels w k (value ts) h t = no-value (isMemoryKind k) (takesRegister k
     no-value true b h t = absurd (false≢true t)
     no-value false b h t = absurd (false≢true h)
 
-memory-size : (k : Kind) → isMemoryKind k ≡ true → kindSize k ≡ 0
+memory-size : (k : OperandKind) → isMemoryKind k ≡ true → kindSize k ≡ 0
 memory-size 'M h = refl
 memory-size 'R h = refl
 memory-size 'G h = refl
@@ -145,7 +145,7 @@ both-sizes labels to ws = sym (offsets-size labels (to ∷ ws)) ∙ first-offset
     first-offset : (labels : List Label) (to : Written) (ws : List Written) → length (allOffsets labels (to ∷ ws)) ≡ length (writtenOffset labels to) + length (allOffsets labels ws)
     first-offset labels to ws = offsets-one labels to ws ∙ length-append (writtenOffset labels to) (allOffsets labels ws)
 
-move-size : (labels : List Label) (e : Entry) (ks : List Kind) (ws : List Written) → isMove ks ≡ true → takesAll ks ws ≡ true → length (moveBytes labels e ws) ≡ 4 + (offsetsSize ws + kindsSize ks)
+move-size : (labels : List Label) (e : Entry) (ks : List OperandKind) (ws : List Written) → isMove ks ≡ true → takesAll ks ws ≡ true → length (moveBytes labels e ws) ≡ 4 + (offsetsSize ws + kindsSize ks)
 unfolding isMove takesAll moveBytes pairBytes kindsSize
 move-size labels e [] ws h t = absurd (false≢true h)
 move-size labels e (k ∷ []) ws h t = absurd (false≢true h)

@@ -9,8 +9,8 @@ use native.Mathlib.Omega.{arith}
 use native.Mathlib.Nat.{mod-lt}
 use lib.Dec.{eqb, ltb, leb, lit<}
 use borrow.Author.Tests.{ltb-true, leb-true, eqb-true, lt-ltb, le-leb, eq-eqb}
-use Rattle.listing_rules.specs.Entries.{Kind}
-use Rattle.listing_rules.specs.Entries.Kind.{'R, 'G, 'P, 'M, 'byte, 'word, 'bit, 'width, 'short, 'long}
+use Rattle.listing_rules.specs.Entries.{OperandKind}
+use Rattle.listing_rules.specs.Entries.OperandKind.{'R, 'G, 'P, 'M, 'byte, 'word, 'bit, 'width, 'short, 'long}
 use Rattle.assembly_rules.specs.Sums.{Label, labelWorth, worth, worthIn, termOf, sumWithin, mostOpen, sumWorth}
 use Rattle.assembly_rules.specs.Trees.{Sum, Term, sumTokens, sumDepth, sumAdded, sumTaken, sumKnown, termKnown}
 use Rattle.assembly_rules.specs.Trees.Sum.{only, more}
@@ -65,7 +65,7 @@ mutual
 abbrev pub AsByte : ℕ → Type 0
 AsByte v = (v < 256) ⊎ (0xFF80 ≤ v)
 
-abbrev pub FitsPlace : Kind → ℕ → ℕ → Type 0
+abbrev pub FitsPlace : OperandKind → ℕ → ℕ → Type 0
 FitsPlace 'R end v = Unit {0}
 FitsPlace 'G end v = Unit {0}
 FitsPlace 'P end v = Unit {0}
@@ -103,7 +103,7 @@ near-exactly end v l = (
     back : (d : ℕ) → (end + d) % 65536 ≡ v → d < 65536 → reach ≡ d
     back d e k = omega arith
 
-pub fits-exactly : (k : Kind) (end v : ℕ) → v < 65536 → (mayStand k end v ≡ true) ↔ FitsPlace k end v
+pub fits-exactly : (k : OperandKind) (end v : ℕ) → v < 65536 → (mayStand k end v ≡ true) ↔ FitsPlace k end v
 unfolding mayStand
 fits-exactly 'R end v l = (λ h. tt, λ x. refl)
 fits-exactly 'G end v l = (λ h. tt, λ x. refl)

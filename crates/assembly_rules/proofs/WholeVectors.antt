@@ -5,8 +5,8 @@ use mathlib.Core.Path.{_≡_, refl}
 use mathlib.Core.List.{List, [], _∷_}
 use Prim.Native.String.{String}
 use Rattle.listing_rules.specs.Characters.{ascii, sameText}
-use Rattle.listing_rules.specs.Entries.{Kind, entries}
-use Rattle.listing_rules.specs.Entries.Kind.{'R, 'G, 'P}
+use Rattle.listing_rules.specs.Entries.{OperandKind, entries}
+use Rattle.listing_rules.specs.Entries.OperandKind.{'R, 'G, 'P}
 use Rattle.listing_rules.specs.Back.{digitsIn, rrrIn, mmIn, aaIn, pairFrom}
 use Rattle.assembly_rules.specs.Text.{capitalOf, isDigit, isCapital, isRun, isBlank, endsLine, inFrontOf, begunBy, tokensOf, cutAt, linesIn}
 use Rattle.assembly_rules.specs.Numbers.{digitValue, isRadix, radixOf, lastOf, butLast, digitsFrom, constantDigits, constantOf}
@@ -82,7 +82,7 @@ unfolding assembleOf assembledFrom lineNumber labelStands labelsFrom keptWith ma
 addresses-told = (refl, refl, refl, refl)
 
 -- the registers GA GB GC BC TP IX CC MC that R, G and P take
-abbrev takenBy : Kind → List Bool
+abbrev takenBy : OperandKind → List Bool
 takenBy k = takes k (register 0) ∷ takes k (register 1) ∷ takes k (register 2) ∷ takes k (register 3) ∷ takes k (register 4) ∷ takes k (register 5) ∷ takes k (register 6) ∷ takes k (register 7) ∷ []
 
 registers-taken :

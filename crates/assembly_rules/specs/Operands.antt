@@ -6,8 +6,8 @@ use lib.Dec.{eqb, ltb, leb}
 use lib.ListN.{take, drop}
 use Rattle.ground_rules.specs.Choice.{pick}
 use Rattle.listing_rules.specs.Characters.{ascii, sameText}
-use Rattle.listing_rules.specs.Entries.{Kind, Entry}
-use Rattle.listing_rules.specs.Entries.Kind.{'R, 'G, 'P, 'M, 'byte, 'word, 'bit, 'width, 'short, 'long}
+use Rattle.listing_rules.specs.Entries.{OperandKind, Entry}
+use Rattle.listing_rules.specs.Entries.OperandKind.{'R, 'G, 'P, 'M, 'byte, 'word, 'bit, 'width, 'short, 'long}
 use Rattle.assembly_rules.specs.Text.{Token}
 use Rattle.assembly_rules.specs.Text.Token.{run, mark}
 use Rattle.assembly_rules.specs.Sums.{registerNumber, isSum, depthOf, mostOpen}
@@ -77,7 +77,7 @@ operandsFrom [] = []
 operandsFrom (part ∷ parts) = operandFrom part ∷ operandsFrom parts
 
 -- whether a place takes an operand: G is a register but CC, P one that holds a pointer
-abbrev pub takesRegister : Kind → ℕ → Bool
+abbrev pub takesRegister : OperandKind → ℕ → Bool
 takesRegister 'R r = true
 takesRegister 'G r = not (eqb r 6)
 takesRegister 'P r = ltb r 3 || eqb r 4
@@ -90,7 +90,7 @@ takesRegister 'short r = false
 takesRegister 'long r = false
 
 -- a place for memory, and one for a number
-abbrev pub isMemoryKind : Kind → Bool
+abbrev pub isMemoryKind : OperandKind → Bool
 isMemoryKind 'R = false
 isMemoryKind 'G = false
 isMemoryKind 'P = false
@@ -102,13 +102,13 @@ isMemoryKind 'width = false
 isMemoryKind 'short = false
 isMemoryKind 'long = false
 
-unfoldable pub takes : Kind → Written → Bool
+unfoldable pub takes : OperandKind → Written → Bool
 takes k (register r) = takesRegister k r
 takes k (memory mm aa ts) = isMemoryKind k
 takes k (value ts) = not (isMemoryKind k || takesRegister k 0)
 takes k nothing = false
 
-unfoldable pub takesAll : List Kind → List Written → Bool
+unfoldable pub takesAll : List OperandKind → List Written → Bool
 takesAll [] [] = true
 takesAll [] (w ∷ ws) = false
 takesAll (k ∷ ks) [] = false

@@ -9,8 +9,8 @@ use Rattle.ground_rules.specs.Choice.{pick}
 use Rattle.instruction_rules.specs.declared.Pair.{Pair}
 use Rattle.listing_rules.specs.Characters.{ascii, sameText}
 use Rattle.listing_rules.specs.Forms.{Operand, wordBytes}
-use Rattle.listing_rules.specs.Entries.{Kind, Entry, entries}
-use Rattle.listing_rules.specs.Entries.Kind.{'R, 'G, 'P, 'M, 'byte, 'word, 'bit, 'width, 'short, 'long}
+use Rattle.listing_rules.specs.Entries.{OperandKind, Entry, entries}
+use Rattle.listing_rules.specs.Entries.OperandKind.{'R, 'G, 'P, 'M, 'byte, 'word, 'bit, 'width, 'short, 'long}
 use Rattle.listing_rules.specs.Back.{pairFrom}
 use Rattle.assembly_rules.specs.declared.Worth.{Worth}
 use Rattle.assembly_rules.specs.Text.{Token, isComma, cutAt}
@@ -76,7 +76,7 @@ statementOf (run r ∷ ts) =
     (pick (sameText r (ascii "DW")) (itemsFrom true (operandParts ts)) (wordStatement r (operandsFrom (operandParts ts))))
 
 -- the bytes of a number in a place
-abbrev pub kindSize : Kind → ℕ
+abbrev pub kindSize : OperandKind → ℕ
 kindSize 'R = 0
 kindSize 'G = 0
 kindSize 'P = 0
@@ -88,7 +88,7 @@ kindSize 'width = 0
 kindSize 'short = 1
 kindSize 'long = 2
 
-unfoldable pub kindsSize : List Kind → ℕ
+unfoldable pub kindsSize : List OperandKind → ℕ
 kindsSize [] = 0
 kindsSize (k ∷ ks) = kindSize k + kindsSize ks
 
@@ -100,11 +100,11 @@ offsetsSize (memory mm aa ts ∷ ws) = pick (eqb aa 1) 1 0 + offsetsSize ws
 offsetsSize (value ts ∷ ws) = offsetsSize ws
 offsetsSize (nothing ∷ ws) = offsetsSize ws
 
-unfoldable pub memoriesIn : List Kind → ℕ
+unfoldable pub memoriesIn : List OperandKind → ℕ
 memoriesIn [] = 0
 memoriesIn (k ∷ ks) = pick (isMemoryKind k) 1 0 + memoriesIn ks
 
-abbrev pub pairsSize : List Kind → ℕ
+abbrev pub pairsSize : List OperandKind → ℕ
 pairsSize ks = pick (ltb 1 (memoriesIn ks)) 4 2
 
 -- how many bytes a line has, whatever its names are worth
@@ -126,7 +126,7 @@ abbrev pub isNear : ℕ → Bool
 isNear reach = ltb reach 0x80 || leb 0xFF80 reach
 
 -- whether a number may stand in a place; `end` is the address behind the instruction
-unfoldable pub mayStand : Kind → ℕ → ℕ → Bool
+unfoldable pub mayStand : OperandKind → ℕ → ℕ → Bool
 mayStand 'R end n = true
 mayStand 'G end n = true
 mayStand 'P end n = true
@@ -149,7 +149,7 @@ unfoldable pub namesKnown : List Label → List Written → Bool
 namesKnown labels [] = true
 namesKnown labels (w ∷ ws) = operandWorth labels w .known && namesKnown labels ws
 
-unfoldable pub allStand : List Label → ℕ → List Kind → List Written → Bool
+unfoldable pub allStand : List Label → ℕ → List OperandKind → List Written → Bool
 allStand labels end [] ws = true
 allStand labels end (k ∷ ks) [] = true
 allStand labels end (k ∷ ks) (w ∷ ws) = mayStand k end (operandWorth labels w .value) && allStand labels end ks ws
@@ -175,7 +175,7 @@ unfoldable pub pairBytes : Pair → List ℕ
 pairBytes p = (p .rrr * 32 + p .dd * 8 + p .aa * 2 + p .w) ∷ (p .opcode * 4 + p .mm) ∷ []
 
 -- a bit's number or a width
-abbrev pub isDigitKind : Kind → Bool
+abbrev pub isDigitKind : OperandKind → Bool
 isDigitKind 'R = false
 isDigitKind 'G = false
 isDigitKind 'P = false
@@ -188,13 +188,13 @@ isDigitKind 'short = false
 isDigitKind 'long = false
 
 -- an operand as the listing has it
-unfoldable pub listedAs : List Label → Kind → Written → Operand
+unfoldable pub listedAs : List Label → OperandKind → Written → Operand
 listedAs labels k (register r) = Operand.register r
 listedAs labels k (memory mm aa ts) = Operand.memory mm aa (pick (eqb aa 1) (lowByte (sumWorth labels ts .value) ∷ []) [])
 listedAs labels k (value ts) = pick (isDigitKind k) (Operand.digit (sumWorth labels ts .value)) (Operand.number (wordBytes (sumWorth labels ts .value)))
 listedAs labels k nothing = Operand.none
 
-unfoldable pub listedAll : List Label → List Kind → List Written → List Operand
+unfoldable pub listedAll : List Label → List OperandKind → List Written → List Operand
 listedAll labels [] ws = []
 listedAll labels (k ∷ ks) [] = []
 listedAll labels (k ∷ ks) (w ∷ ws) = listedAs labels k w ∷ listedAll labels ks ws
@@ -211,7 +211,7 @@ allOffsets labels [] = []
 allOffsets labels (w ∷ ws) = writtenOffset labels w ++ allOffsets labels ws
 
 -- the bytes of a number in its place: data as it is, a target as its distance
-abbrev pub numberBytes : Kind → ℕ → ℕ → List ℕ
+abbrev pub numberBytes : OperandKind → ℕ → ℕ → List ℕ
 numberBytes 'R end n = []
 numberBytes 'G end n = []
 numberBytes 'P end n = []
@@ -223,7 +223,7 @@ numberBytes 'width end n = []
 numberBytes 'short end n = lowByte (reachTo end n) ∷ []
 numberBytes 'long end n = wordBytes (reachTo end n)
 
-unfoldable pub allNumbers : List Label → ℕ → List Kind → List Written → List ℕ
+unfoldable pub allNumbers : List Label → ℕ → List OperandKind → List Written → List ℕ
 allNumbers labels end [] ws = []
 allNumbers labels end (k ∷ ks) [] = []
 allNumbers labels end (k ∷ ks) (w ∷ ws) = numberBytes k end (operandWorth labels w .value) ++ allNumbers labels end ks ws

@@ -12,7 +12,7 @@ use Rattle.ground_rules.specs.declared.State.{State}
 use Rattle.ground_rules.proofs.OutcomeLaws.{refused, first-some, refused-counts, done-counts}
 use Rattle.ground_rules.specs.Buffers.{Buffers}
 use Rattle.ground_rules.specs.Choice.{pick}
-use Rattle.attention_rules.specs.Attention.{orderTo, orderNumber, orderedChannel, orderedMemory, givenTo, attentionNumber, attentionOf, touchedByAttention, attentionCount}
+use Rattle.attention_rules.specs.Attention.{orderTo, orderNumber, channelAttended, orderedMemory, givenTo, attentionNumber, attentionOf, touchedByAttention, attentionCount}
 use Rattle.attention.specs.Plans.{plannedOf}
 use Rattle.attention_rules.specs.Touched.{commandCount}
 use Rattle.attention_rules.specs.Effects.{channelOrdered, writes, writesOf, writesMade}
@@ -63,8 +63,8 @@ module _ (s : State) (m : Buffers) (channel : ℕ) (free : givenTo s m channel �
       (record { number = n; count = 0; channel = c; writes = writes false false 0 (o .block) (o .pb) c })
 
   settles : (x : Bool) → outcome (left x .number) (withChannel s b (left x .channel)) (writesMade m (left x .writes))
-      ≡ pick x (outcome 0 (withChannel s b (orderedChannel s m b)) (orderedMemory s m b)) (outcome n s m)
-  unfolding left orderedChannel orderedMemory writesMade o c b
+      ≡ pick x (outcome 0 (withChannel s b (channelAttended s m b)) (orderedMemory s m b)) (outcome n s m)
+  unfolding left channelAttended orderedMemory writesMade o c b
   settles true = refl
   settles false = ap (λ (t : State). outcome n t m) (put-back s b)
 

@@ -24,7 +24,7 @@ use Rattle.ground_rules.specs.declared.Held.{Held}
 use Rattle.ground_rules.specs.declared.Held.the-variants.{NoByte, Byte}
 use Rattle.ground_rules.specs.declared.Mode.the-variants.{Running}
 use Rattle.ground_rules.specs.declared.State.{State}
-use Rattle.attention_rules.specs.Attention.{orderTo, orderNumber, orderedChannel, orderedMemory, givenTo, attentionNumber, attentionOf}
+use Rattle.attention_rules.specs.Attention.{orderTo, orderNumber, channelAttended, orderedMemory, givenTo, attentionNumber, attentionOf}
 use Rattle.attention_rules.specs.Blocks.{ccwOf, parameterBlock, orderOf}
 use Rattle.attention_rules.specs.Commands.{commandCoded, isKnown, modeNumber, commandNumber, copied, obeyed, ordered}
 use Rattle.attention_rules.specs.Effects.{started, suspended, resumed, commanded, channelOrdered, writesOf, saved, marked, writesMade}
@@ -52,11 +52,11 @@ by-code (suc (suc (suc (suc (suc (suc (suc (suc k)))))))) h m pb c = absurd (ome
 pub held-by : (s : State) (m : Buffers) (channel : ℕ) → attentionOf s m channel .number ≡ 0
     → channelOf (attentionOf s m channel .state) (isSecond channel) .held
     ≡ heldAfter (channelOf s (isSecond channel) .held) (byteAt m false (blockOf s (isSecond channel)) % 8)
-unfolding orderedChannel channelOrdered orderTo orderOf ccwOf fieldOf withControl
+unfolding channelAttended channelOrdered orderTo orderOf ccwOf fieldOf withControl
 held-by s m channel accepted =
     let b = isSecond channel in
     ap (λ (o : Outcome). channelOf (o .state) b .held) (accepted-order s m channel accepted)
-    ∙ ap (λ (c : Channel). c .held) (put-same s b (orderedChannel s m b))
+    ∙ ap (λ (c : Channel). c .held) (put-same s b (channelAttended s m b))
     ∙ by-code (byteAt m false (blockOf s b) / 2 ^ 0 % 8) (mod-lt (byteAt m false (blockOf s b) / 2 ^ 0) (lit< tt)) m (orderTo s m b .pb) (channelOf s b)
     ∙ ap (λ (n : ℕ). heldAfter (channelOf s b .held) (n % 8)) (div-one (byteAt m false (blockOf s b)))
 
@@ -66,5 +66,5 @@ holdingSeven = withChannel (freshState 0) false (holding (withControl idleChanne
 
 pub pause-holds : let off = attentionOf holdingSeven toSuspend 1 in
     (channelOf (off .state) false .held ≡ Byte 7) × (channelOf (attentionOf (off .state) toResume 1 .state) false ≡ channelOf holdingSeven false)
-unfolding freshState idleChannel attentionOf attentionNumber givenTo givenNumber unless first isChannel withinLimits limitOf sound soundChannel agree fieldsAgree sameFields sameFlag split orderNumber stagesNumber orderStages orderTo orderOf blockOf busyIn channelOf isSecond ccwOf commandCoded fieldOf parameterBlock doublewordAt wordAt byteAt beyondIn indexOf spaceOf allPass touchableAt lentAt span commandNumber isKnown modeNumber isRunning isSuspended others readBy storedBy settled orderedMemory writesMade writesOf saved storePointer marked storeByte orderedChannel channelOrdered commanded started suspended stoppedPsw resumed pointerAt ordered copied obeyed withPsw withBit bitOf withControl withChannel
+unfolding freshState idleChannel attentionOf attentionNumber givenTo givenNumber unless first isChannel withinLimits limitOf sound soundChannel agree fieldsAgree sameFields sameFlag split orderNumber stagesNumber orderStages orderTo orderOf blockOf busyIn channelOf isSecond ccwOf commandCoded fieldOf parameterBlock doublewordAt wordAt byteAt beyondIn indexOf spaceOf allPass touchableAt lentAt span commandNumber isKnown modeNumber isRunning isSuspended others readBy storedBy settled orderedMemory writesMade writesOf saved storePointer marked storeByte channelAttended channelOrdered commanded started suspended stoppedPsw resumed pointerAt ordered copied obeyed withPsw withBit bitOf withControl withChannel
 pause-holds = (refl, refl)

@@ -19,7 +19,7 @@ use Rattle.ground_rules.proofs.ConditionLaws.{step, last, rewritten, first-asso
 use Rattle.ground_rules.proofs.FieldLaws.{told-agree}
 use Rattle.ground_rules.proofs.GivenLaws.{told-powered, given-chain, skip-given}
 use Rattle.ground_rules.specs.Conditions.{Given, TooLong, NotSound, NotPowered, FieldsDisagree, Ready, Beyond}
-use Rattle.attention_rules.specs.Attention.{orderTo, orderNumber, orderedChannel, orderedMemory, givenTo, attentionNumber, attentionOf}
+use Rattle.attention_rules.specs.Attention.{orderTo, orderNumber, channelAttended, orderedMemory, givenTo, attentionNumber, attentionOf}
 use Rattle.attention_rules.specs.Blocks.{orderOf}
 use Rattle.attention_rules.specs.Commands.{codeOf}
 use Rattle.attention_rules.specs.Conditions.{NoChannel, CcwBeyond, OthersBeyond, NoCommand, ResumesOther, StartsRunning, SuspendsOther, codeTo, modeTo, attentionChecks, AttentionAfterGiven, AfterCommand, AfterMode}
@@ -35,7 +35,7 @@ module _ (s : State) (m : Buffers) (channel : ℕ) where
       let o = orderTo s m b in
       let code = codeOf (o .ccw) in
       let mode = channelOf s b .mode in
-      rewritten (settled-number (attentionNumber s m channel) s m (withChannel s b (orderedChannel s m b)) (orderedMemory s m b))
+      rewritten (settled-number (attentionNumber s m channel) s m (withChannel s b (channelAttended s m b)) (orderedMemory s m b))
       (rw (first-zero, first-right, first-assoc, command-chain code mode (field-lt (o .ccw) 0 3), first-assoc, first-assoc, first-assoc)
       (step 12 refl (told-channel channel)
       (given-chain s m
@@ -92,7 +92,7 @@ module _ (s : State) (m : Buffers) (channel : ℕ) where
       let b = isSecond channel in
       let o = orderTo s m b in
       let mode = channelOf s b .mode in
-      rewritten (settled-number (attentionNumber s m channel) s m (withChannel s b (orderedChannel s m b)) (orderedMemory s m b))
+      rewritten (settled-number (attentionNumber s m channel) s m (withChannel s b (channelAttended s m b)) (orderedMemory s m b))
       (rw first-assoc
       (Iff·trans
       (step 12 refl (told-channel channel)

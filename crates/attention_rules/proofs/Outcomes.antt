@@ -16,7 +16,7 @@ use Rattle.ground_rules.specs.declared.State.{State}
 use Rattle.ground_rules.specs.Buffers.{Buffers}
 use Rattle.ground_rules.specs.Places.{allTouchable}
 use Rattle.ground_rules.specs.Choice.{pick}
-use Rattle.attention_rules.specs.Attention.{orderTo, orderNumber, orderedChannel, orderedMemory, givenTo, attentionNumber, attentionOf}
+use Rattle.attention_rules.specs.Attention.{orderTo, orderNumber, channelAttended, orderedMemory, givenTo, attentionNumber, attentionOf}
 use Rattle.attention_rules.specs.Commands.{commandNumber, ordered}
 use Rattle.attention_rules.specs.Effects.{onlyPsw, started, suspended, resumed, commanded, channelOrdered}
 use Rattle.attention_rules.specs.Touched.{others, orderStages}
@@ -58,12 +58,12 @@ ordered-alone m o c = ap (λ (k : Channel). onlyPsw k (ordered (o .ccw) (k .psw)
 module _ (s : State) (m : Buffers) (channel : ℕ) where
   -- what holds of the given state and memories, and of what the order makes of them, holds of an attention's outcome
   pub attention-by : (P : Outcome → Type 0) → P (outcome (attentionNumber s m channel) s m)
-      → P (outcome 0 (withChannel s (isSecond channel) (orderedChannel s m (isSecond channel))) (orderedMemory s m (isSecond channel)))
+      → P (outcome 0 (withChannel s (isSecond channel) (channelAttended s m (isSecond channel))) (orderedMemory s m (isSecond channel)))
       → P (attentionOf s m channel)
   unfolding attentionOf
   attention-by P =
       settled-by P (attentionNumber s m channel) s m
-      (withChannel s (isSecond channel) (orderedChannel s m (isSecond channel))) (orderedMemory s m (isSecond channel))
+      (withChannel s (isSecond channel) (channelAttended s m (isSecond channel))) (orderedMemory s m (isSecond channel))
 
   -- two outcomes that meet the contract are equal
   pub unique : (one two : Outcome) → one ≡ attentionOf s m channel → two ≡ attentionOf s m channel → one ≡ two
@@ -76,29 +76,29 @@ module _ (s : State) (m : Buffers) (channel : ℕ) where
 
   -- an accepted one is what its order makes of them
   pub accepted-order : attentionOf s m channel .number ≡ 0
-      → attentionOf s m channel ≡ outcome 0 (withChannel s (isSecond channel) (orderedChannel s m (isSecond channel))) (orderedMemory s m (isSecond channel))
+      → attentionOf s m channel ≡ outcome 0 (withChannel s (isSecond channel) (channelAttended s m (isSecond channel))) (orderedMemory s m (isSecond channel))
   unfolding attentionOf
   accepted-order e =
       accepted (attentionNumber s m channel) s m
-      (withChannel s (isSecond channel) (orderedChannel s m (isSecond channel))) (orderedMemory s m (isSecond channel))
-      (sym (settled-number (attentionNumber s m channel) s m (withChannel s (isSecond channel) (orderedChannel s m (isSecond channel))) (orderedMemory s m (isSecond channel))) ∙ e)
+      (withChannel s (isSecond channel) (channelAttended s m (isSecond channel))) (orderedMemory s m (isSecond channel))
+      (sym (settled-number (attentionNumber s m channel) s m (withChannel s (isSecond channel) (channelAttended s m (isSecond channel))) (orderedMemory s m (isSecond channel))) ∙ e)
 
   -- no register of the other channel changes
   pub other-channel : channelOf (attentionOf s m channel .state) (not (isSecond channel)) ≡ channelOf s (not (isSecond channel))
   other-channel =
       attention-by (λ (r : Outcome). channelOf (r .state) (not (isSecond channel)) ≡ channelOf s (not (isSecond channel)))
-      refl (put-other s (isSecond channel) (orderedChannel s m (isSecond channel)))
+      refl (put-other s (isSecond channel) (channelAttended s m (isSecond channel)))
 
   -- nor CP, nor the channel that stepped last, nor what the board set up
   pub shared-kept : (attentionOf s m channel .state .cp ≡ s .cp) × (attentionOf s m channel .state .last ≡ s .last) × (attentionOf s m channel .state .board ≡ s .board)
   shared-kept =
       attention-by (λ (r : Outcome). (r .state .cp ≡ s .cp) × (r .state .last ≡ s .last) × (r .state .board ≡ s .board)) (refl, refl, refl)
-      (put-cp s (isSecond channel) (orderedChannel s m (isSecond channel)), put-last s (isSecond channel) (orderedChannel s m (isSecond channel)), put-board s (isSecond channel) (orderedChannel s m (isSecond channel)))
+      (put-cp s (isSecond channel) (channelAttended s m (isSecond channel)), put-last s (isSecond channel) (channelAttended s m (isSecond channel)), put-board s (isSecond channel) (channelAttended s m (isSecond channel)))
 
   -- of the channel itself only TP, PP, PSW, the mode, the armed mark and the held byte can change
   pub registers-kept : channelOf (attentionOf s m channel .state) (isSecond channel)
       ≡ controlledAs (channelOf s (isSecond channel)) (channelOf (attentionOf s m channel .state) (isSecond channel))
-  unfolding orderedChannel withControl
+  unfolding channelAttended withControl
   registers-kept =
       let c = channelOf s (isSecond channel) in
       let o = orderTo s m (isSecond channel) in
@@ -109,7 +109,7 @@ module _ (s : State) (m : Buffers) (channel : ℕ) where
 module _ (s : State) (m : Buffers) (channel : ℕ) (accepted : attentionOf s m channel .number ≡ 0) where
   number-none : attentionNumber s m channel ≡ 0
   unfolding attentionOf
-  number-none = sym (settled-number (attentionNumber s m channel) s m (withChannel s (isSecond channel) (orderedChannel s m (isSecond channel))) (orderedMemory s m (isSecond channel))) ∙ accepted
+  number-none = sym (settled-number (attentionNumber s m channel) s m (withChannel s (isSecond channel) (channelAttended s m (isSecond channel))) (orderedMemory s m (isSecond channel))) ∙ accepted
 
   pub passed-sound : sound s ≡ true
   unfolding attentionNumber givenTo

@@ -27,7 +27,7 @@ use Rattle.ground_rules.proofs.ChoiceLaws.{both-left, both-right}
 use Rattle.ground_rules.specs.Bits.{fieldOf, bitOf, withBit}
 use Rattle.ground_rules.specs.Choice.{pick}
 use Rattle.ground_rules.proofs.ConditionLaws.{first-none-left, first-none-right, unless-none, running-is}
-use Rattle.attention_rules.specs.Attention.{orderTo, orderNumber, orderedChannel, orderedMemory, givenTo, attentionNumber, attentionOf}
+use Rattle.attention_rules.specs.Attention.{orderTo, orderNumber, channelAttended, orderedMemory, givenTo, attentionNumber, attentionOf}
 use Rattle.attention_rules.specs.Blocks.{parameterBlock, orderOf}
 use Rattle.attention_rules.specs.Commands.{isKnown, modeNumber, commandNumber, copied, obeyed, ordered}
 use Rattle.attention_rules.specs.Effects.{onlyPsw, suspended, resumed, commanded, channelOrdered, writesOf, saved, marked, writesMade}
@@ -69,8 +69,8 @@ pointer-same m n t a e = rw (rw add-zero at (e 0 (lit< tt)), e 1 (lit< tt), e 2 
 
 module _ (s : State) (m : Buffers) (b : Bool) where
   suspend-channel : orderTo s m b .command ≡ Suspend
-      → orderedChannel s m b ≡ withControl (channelOf s b) (channelOf s b .tp) (channelOf s b .pp) (ordered (orderTo s m b .ccw) (stoppedPsw (channelOf s b .psw))) Suspended (channelOf s b .armed)
-  unfolding orderedChannel channelOrdered orderTo orderOf commanded suspended withControl parameterBlock
+      → channelAttended s m b ≡ withControl (channelOf s b) (channelOf s b .tp) (channelOf s b .pp) (ordered (orderTo s m b .ccw) (stoppedPsw (channelOf s b .psw))) Suspended (channelOf s b .armed)
+  unfolding channelAttended channelOrdered orderTo orderOf commanded suspended withControl parameterBlock
   suspend-channel e = rw e
 
   suspend-memory : orderTo s m b .command ≡ Suspend → orderedMemory s m b ≡ marked (saved m (channelOf s b .pp) (channelOf s b .tp) (channelOf s b .psw)) (blockOf s b) 0
@@ -87,8 +87,8 @@ module _ (s : State) (m : Buffers) (b : Bool) where
       ∙ both-left (allTouchable m (span false pp 4)) (allTouchable m busy) (sym (all-append (touchableAt m) (span false pp 4) busy) ∙ both)
 
   resume-channel : orderTo s m b .command ≡ Resume
-      → orderedChannel s m b ≡ withControl (channelOf s b) (pointerAt m false (channelOf s b .pp)) (channelOf s b .pp) (ordered (orderTo s m b .ccw) (withPsw (byteAt m false (channelOf s b .pp + 3)) 2 true)) Running (channelOf s b .armed)
-  unfolding orderedChannel channelOrdered orderTo orderOf commanded resumed withControl parameterBlock
+      → channelAttended s m b ≡ withControl (channelOf s b) (pointerAt m false (channelOf s b .pp)) (channelOf s b .pp) (ordered (orderTo s m b .ccw) (withPsw (byteAt m false (channelOf s b .pp + 3)) 2 true)) Running (channelOf s b .armed)
+  unfolding channelAttended channelOrdered orderTo orderOf commanded resumed withControl parameterBlock
   resume-channel e = rw e
 
 -- only a running channel can be suspended
@@ -122,7 +122,7 @@ module _ (s : State) (m : Buffers) (s′ : State) (m′ : Buffers) (channel : �
       let b = isSecond channel in
       p .registers
       ∙ ap (λ (r : Outcome). channelOf (r .state) b) (accepted-order s m channel (p .accepted))
-      ∙ put-same s b (orderedChannel s m b)
+      ∙ put-same s b (channelAttended s m b)
       ∙ suspend-channel s m b (p .suspends)
 
   -- the four bytes that resume reads are those that suspend saved
@@ -162,6 +162,6 @@ module _ (s : State) (m : Buffers) (s′ : State) (m′ : Buffers) (channel : �
   suspend-resume =
       let b = isSecond channel in
       ap (λ (r : Outcome). channelOf (r .state) b) (accepted-order s′ m′ channel (p .accepted′))
-      ∙ put-same s′ b (orderedChannel s′ m′ b)
+      ∙ put-same s′ b (channelAttended s′ m′ b)
       ∙ resume-channel s′ m′ b (p .resumes)
       ∙ rw (between, tp-same, psw-same, ← was-running)

@@ -14,7 +14,7 @@ use Rattle.ground_rules.specs.declared.Channel.{Channel}
 use Rattle.ground_rules.specs.declared.State.{State}
 use Rattle.ground_rules.specs.Buffers.{Buffers, AllBytes, byteAt}
 use Rattle.ground_rules.specs.Values.{wordAt, doublewordAt, pointer, pointerAt}
-use Rattle.attention_rules.specs.Attention.{orderTo, orderedChannel, orderedMemory, attentionNumber, attentionOf}
+use Rattle.attention_rules.specs.Attention.{orderTo, channelAttended, orderedMemory, attentionNumber, attentionOf}
 use Rattle.attention_rules.specs.Blocks.{pointerOf, parameterBlock, orderOf}
 use Rattle.attention_rules.specs.Effects.{started, suspended, resumed, commanded, channelOrdered}
 use Rattle.attention_rules.specs.declared.Command.{Command}
@@ -65,8 +65,8 @@ commanded-control Unknown m pb c = (refl, refl)
 
 module _ (s : State) (m : Buffers) (channel : ℕ) where
   -- so does an order, which changes PSW besides
-  ordered-sound : (b : Bool) → AllBytes m → sound s ≡ true → soundChannel (orderedChannel s m b) ≡ true
-  unfolding orderedChannel channelOrdered orderTo orderOf soundChannel withControl
+  ordered-sound : (b : Bool) → AllBytes m → sound s ≡ true → soundChannel (channelAttended s m b) ≡ true
+  unfolding channelAttended channelOrdered orderTo orderOf soundChannel withControl
   ordered-sound b bytes h = commanded-sound (orderTo s m b .command) m (blockOf s b) (channelOf s b) bytes (sound-channel-of s b h)
 
   -- an accepted attention leaves a sound state, so the next call is not refused by 10
@@ -75,19 +75,19 @@ module _ (s : State) (m : Buffers) (channel : ℕ) where
       let b = isSecond channel in
       let h = passed-sound s m channel e in
       ap (λ (r : Outcome). sound (r .state)) (accepted-order s m channel e)
-      ∙ put-sound s b (orderedChannel s m b) h (ordered-sound b bytes h)
+      ∙ put-sound s b (channelAttended s m b) h (ordered-sound b bytes h)
 
   -- nor does an order
-  ordered-agree : (b : Bool) → agree s ≡ true → fieldsAgree (orderedChannel s m b) ≡ true
-  unfolding orderedChannel channelOrdered orderTo orderOf withControl
+  ordered-agree : (b : Bool) → agree s ≡ true → fieldsAgree (channelAttended s m b) ≡ true
+  unfolding channelAttended channelOrdered orderTo orderOf withControl
   ordered-agree b h =
       let k = commanded-control (orderTo s m b .command) m (orderTo s m b .pb) (channelOf s b) in
-      same-agrees (channelOf s b) (orderedChannel s m b) (k .0) (k .1) (agree-channel-of s b h)
+      same-agrees (channelOf s b) (channelAttended s m b) (k .0) (k .1) (agree-channel-of s b h)
 
   -- so a state that agrees still does after an attention, and the next call is not refused by 14
   pub attention-agree : agree s ≡ true → agree (attentionOf s m channel .state) ≡ true
   unfolding attentionOf
   attention-agree h =
       let b = isSecond channel in
-      settled-state (λ x. agree x ≡ true) (attentionNumber s m channel) s m (withChannel s b (orderedChannel s m b)) (orderedMemory s m b) h
-      (put-agree s b (orderedChannel s m b) h (ordered-agree b h))
+      settled-state (λ x. agree x ≡ true) (attentionNumber s m channel) s m (withChannel s b (channelAttended s m b)) (orderedMemory s m b) h
+      (put-agree s b (channelAttended s m b) h (ordered-agree b h))

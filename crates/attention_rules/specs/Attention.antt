@@ -24,8 +24,8 @@ unfoldable pub orderNumber : Buffers → Order → Mode → ℕ
 orderNumber m o mode = stagesNumber m (orderStages o mode)
 
 -- the channel after the order that its block holds, where that is accepted
-unfoldable pub orderedChannel : State → Buffers → Bool → Channel
-orderedChannel s m second = channelOrdered m (orderTo s m second) (channelOf s second)
+unfoldable pub channelAttended : State → Buffers → Bool → Channel
+channelAttended s m second = channelOrdered m (orderTo s m second) (channelOf s second)
 
 -- both memories after it
 unfoldable pub orderedMemory : State → Buffers → Bool → Buffers
@@ -47,7 +47,7 @@ attentionNumber s m channel =
 unfoldable pub attentionOf : State → Buffers → ℕ → Outcome
 attentionOf s m channel =
     settled (attentionNumber s m channel) s m
-    (withChannel s (isSecond channel) (orderedChannel s m (isSecond channel)))
+    (withChannel s (isSecond channel) (channelAttended s m (isSecond channel)))
     (orderedMemory s m (isSecond channel))
 
 -- the bytes that an attention reads or stores, each access once

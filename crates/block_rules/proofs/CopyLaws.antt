@@ -20,7 +20,7 @@ use Rattle.transfer_rules.specs.Stores.{movedChannel}
 use Rattle.ground_rules.specs.Sums.{sum20}
 use Rattle.block_rules.specs.Premises.{from, into, Plain, Copy}
 use Rattle.block_rules.specs.Rows.{Untouched, Row, start, steps, other}
-use Rattle.block_rules.specs.Stages.{onBy, midway, finished, Held, Within}
+use Rattle.block_rules.specs.Stages.{onBy, midway, finished, RangesHeld, Within}
 use Rattle.block_rules.specs.Totals.{movedAfter, narrow, alone, total}
 use Rattle.block_rules.proofs.CountLaws.{moved-narrow, total-narrow, moved-wide, alone-none, alone-one, moved-zero, moved-le, moved-short}
 use Rattle.block_rules.proofs.HeldLaws.{held-start, copy-one, copy-two, held-left}
@@ -129,7 +129,7 @@ step-two c m p q j es ed b free two lp lp′ lq lq′ =
 -- what is known when j bytes have moved
 pub record Reached (n : ℕ) (c₀ : Channel) (m₀ : Buffers) (j : ℕ) (c : Channel) (m : Buffers) : Type 0 where
   pub channel : c ≡ stage c₀ n j
-  pub bytes : Held (from c₀) (into c₀) n m₀ j m
+  pub bytes : RangesHeld (from c₀) (into c₀) n m₀ j m
 
 -- a step on the way, whole: not refused, the next stage, and one or two bytes more
 pub record Made (n : ℕ) (c₀ : Channel) (m₀ : Buffers) (j : ℕ) (m : Buffers) (s : ℕ) : Type 0 where
@@ -155,13 +155,13 @@ within-then q n m m′ m″ a b =
 
 -- the outcome of a step, given as one equation
 made-of : (n : ℕ) (c₀ : Channel) (m₀ : Buffers) (j : ℕ) (m : Buffers) (s : ℕ) (c : Channel) (m′ : Buffers)
-    → transferOf (midway c₀ n j) m ≡ transferred 0 c m′ → c ≡ stage c₀ n (j + s) → Held (from c₀) (into c₀) n m₀ (j + s) m′ → Within (into c₀) n m m′
+    → transferOf (midway c₀ n j) m ≡ transferred 0 c m′ → c ≡ stage c₀ n (j + s) → RangesHeld (from c₀) (into c₀) n m₀ (j + s) m′ → Within (into c₀) n m m′
     → Made n c₀ m₀ j m s
 made-of n c₀ m₀ j m s c m′ e x h w = record { done = rw e; reached = rw e (record { channel = x; bytes = h }); within = rw e w }
 
 -- the step that moves s bytes when j have moved
 pub made : (n : ℕ) (c₀ : Channel) (m₀ : Buffers) (j : ℕ) (m : Buffers) (s : ℕ) → Copy n c₀ m₀ → stride (midway c₀ n j) ≡ s → j + s ≤ n
-    → Held (from c₀) (into c₀) n m₀ j m → Made n c₀ m₀ j m s
+    → RangesHeld (from c₀) (into c₀) n m₀ j m → Made n c₀ m₀ j m s
 made n c₀ m₀ j m s k e fits h = go (twoMove (midway c₀ n j)) refl
   where
     c : Channel

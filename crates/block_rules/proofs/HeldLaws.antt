@@ -13,10 +13,10 @@ use Rattle.ground_rules.specs.declared.Pointer.{Pointer}
 use Rattle.ground_rules.proofs.ChoiceLaws.{apart}
 use Rattle.block_rules.specs.Premises.{Lent, ShareNone}
 use Rattle.block_rules.specs.Rows.{Left}
-use Rattle.block_rules.specs.Stages.{Held}
+use Rattle.block_rules.specs.Stages.{RangesHeld}
 
 -- at the start none has arrived
-pub held-start : (p q : Pointer) (n : ℕ) (m : Buffers) → Lent m p n → Lent m q n → Held p q n m 0 m
+pub held-start : (p q : Pointer) (n : ℕ) (m : Buffers) → Lent m p n → Lent m q n → RangesHeld p q n m 0 m
 held-start p q n m l k =
     record {
       arrived = λ i h. absurd (not-suc-le-zero h);
@@ -28,7 +28,7 @@ held-start p q n m l k =
 
 -- storing the source's byte j takes j bytes arrived to j + 1
 pub put-one : (p q : Pointer) (n : ℕ) (m₀ : Buffers) (j : ℕ) (m : Buffers) (v : ℕ) → ShareNone p q n → n ≤ 65536 → j < n
-    → v ≡ byteAt m₀ (p .tag) (p .address + j) → Held p q n m₀ j m → Held p q n m₀ (j + 1) (storeByte m (q .tag) (q .address + j) v)
+    → v ≡ byteAt m₀ (p .tag) (p .address + j) → RangesHeld p q n m₀ j m → RangesHeld p q n m₀ (j + 1) (storeByte m (q .tag) (q .address + j) v)
 put-one p q n m₀ j m v apart most short e h =
     record {
       arrived = λ i l. come i l (ℕ-discrete i j);
@@ -50,13 +50,13 @@ put-one p q n m₀ j m v apart most short e h =
 
 -- a store of the source's byte j, read where it stands
 pub copy-one : (p q : Pointer) (n : ℕ) (m₀ : Buffers) (j : ℕ) (m : Buffers) → ShareNone p q n → n ≤ 65536 → j < n
-    → Held p q n m₀ j m → Held p q n m₀ (j + 1) (storeByte m (q .tag) (q .address + j) (byteAt m (p .tag) (p .address + j)))
+    → RangesHeld p q n m₀ j m → RangesHeld p q n m₀ (j + 1) (storeByte m (q .tag) (q .address + j) (byteAt m (p .tag) (p .address + j)))
 copy-one p q n m₀ j m apart most short h = put-one p q n m₀ j m (byteAt m (p .tag) (p .address + j)) apart most short (h .kept j short) h
 
 -- and of the next one too, both being read first
 pub copy-two : (p q : Pointer) (n : ℕ) (m₀ : Buffers) (j : ℕ) (m : Buffers) → ShareNone p q n → n ≤ 65536 → j + 1 < n
-    → Held p q n m₀ j m
-    → Held p q n m₀ (j + 2)
+    → RangesHeld p q n m₀ j m
+    → RangesHeld p q n m₀ (j + 2)
     (storeByte (storeByte m (q .tag) (q .address + j) (byteAt m (p .tag) (p .address + j))) (q .tag) (q .address + (j + 1)) (byteAt m (p .tag) (p .address + (j + 1))))
 copy-two p q n m₀ j m apart most short h =
     let e : j + 1 + 1 ≡ j + 2 = omega arith in
@@ -65,7 +65,7 @@ copy-two p q n m₀ j m apart most short h =
     apart most short (h .kept (j + 1) short) (copy-one p q n m₀ j m apart most (omega arith) h))
 
 -- whoever leaves both ranges alone leaves them so
-pub held-left : (p q : Pointer) (n : ℕ) (m₀ : Buffers) (j : ℕ) (m m′ : Buffers) → j ≤ n → Left p n m m′ → Left q n m m′ → Held p q n m₀ j m → Held p q n m₀ j m′
+pub held-left : (p q : Pointer) (n : ℕ) (m₀ : Buffers) (j : ℕ) (m m′ : Buffers) → j ≤ n → Left p n m m′ → Left q n m m′ → RangesHeld p q n m₀ j m → RangesHeld p q n m₀ j m′
 held-left p q n m₀ j m m′ some l k h =
     record {
       arrived = λ i x. k .bytes i (omega arith) ∙ h .arrived i x;

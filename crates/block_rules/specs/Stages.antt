@@ -40,7 +40,7 @@ finished c n =
 
 -- the ranges of n bytes from p and into q when j bytes have moved, m₀ being memory as it was at the start: the first j bytes of the source have
 -- arrived in order, the others have not, the source is as it was, and all is lent
-pub record Held (p q : Pointer) (n : ℕ) (m₀ : Buffers) (j : ℕ) (m : Buffers) : Type 0 where
+pub record RangesHeld (p q : Pointer) (n : ℕ) (m₀ : Buffers) (j : ℕ) (m : Buffers) : Type 0 where
   pub arrived : (i : ℕ) → i < j → byteAt m (q .tag) (q .address + i) ≡ byteAt m₀ (p .tag) (p .address + i)
   pub waiting : (i : ℕ) → j ≤ i → i < n → byteAt m (q .tag) (q .address + i) ≡ byteAt m₀ (q .tag) (q .address + i)
   pub kept : (i : ℕ) → i < n → byteAt m (p .tag) (p .address + i) ≡ byteAt m₀ (p .tag) (p .address + i)
@@ -63,7 +63,7 @@ pub record Going (n : ℕ) (c₀ : Channel) (m₀ : Buffers) (k : ℕ) (c : Chan
   pub transfers : transferring (c .psw) ≡ true
   pub registers : c ≡ midway c₀ n (movedAfter c₀ n k)
   pub short : movedAfter c₀ n k < n
-  pub bytes : Held (from c₀) (into c₀) n m₀ (movedAfter c₀ n k) m
+  pub bytes : RangesHeld (from c₀) (into c₀) n m₀ (movedAfter c₀ n k) m
   pub done : (transferOf c m) .number ≡ 0
   pub spares : Within (into c₀) n m ((transferOf c m) .memory)
 

@@ -11,7 +11,7 @@ use Rattle.listing_rules.specs.Listings.{TextLine, lineAt, linesOf, allChars, a
 use Rattle.listing_rules.proofs.RowLaws.{count-some, count-there}
 use Rattle.listing_rules.proofs.ListLaws.{lines-next, lines-none, kept-next, kept-none}
 use Rattle.lister.specs.Rows.{Shown}
-use Rattle.lister.specs.declared.listings.Row.{Row}
+use Rattle.lister.specs.declared.listings.ListedRow.{ListedRow}
 
 -- the lines that are still to be written
 abbrev pub ahead : List ℕ → ℕ → List ℕ → ℕ → ℕ → List TextLine
@@ -52,7 +52,7 @@ module _ (part : List ℕ) (first : ℕ) (before text : List ℕ) (at n : ℕ) (
   unfolding keptIn
   going-end h = ended (ap (keptIn (length before - n)) (lines-none (first + at) (drop at part) (ap length (drop-of-length-le part h))))
 
-  module _ (more : at < length part) (row : Row) (s : Shown row (first + at) (drop at part)) where
+  module _ (more : at < length part) (row : ListedRow) (s : Shown row (first + at) (drop at part)) where
     there : length (drop at part) ≡ 0 → ⊥
     there e = omega (arith, e, length-drop at part)
 

@@ -24,7 +24,7 @@ use Rattle.listing_rules.proofs.LineLaws.{line-short, data-short}
 use Rattle.listing_rules.proofs.RowLaws.{whole-at, call-size}
 use Rattle.notation.specs.Writing.{textIn}
 use Rattle.lister.specs.Rows.{Shown}
-use Rattle.lister.specs.declared.listings.Row.{Row}
+use Rattle.lister.specs.declared.listings.ListedRow.{ListedRow}
 
 -- a part from a place to the end
 pub rest-all : (code : List ℕ) (at : ℕ) → take (length code - at) (drop at code) ≡ drop at code
@@ -69,7 +69,7 @@ line-mod bytes x y s to e =
     let p = slotsOf s to in
     rw (filled-mod bytes x y (p .first) e, filled-mod bytes x y (p .second) e, filled-mod bytes x y (p .third) e)
 
-module _ (row : Row) (address : ℕ) (bytes : List ℕ) (i : Item) (item : i ≡ itemOf bytes) (size : row .line .len ≡ length (textIn (row .line))) where
+module _ (row : ListedRow) (address : ℕ) (bytes : List ℕ) (i : Item) (item : i ≡ itemOf bytes) (size : row .line .len ≡ length (textIn (row .line))) where
   -- the row of an instruction
   pub shown-line : (s : Shape) (to : Memory) (n end : ℕ) → i ≡ Whole s to n → isListed s ≡ true → end % 65536 ≡ (address + n) % 65536 → textIn (row .line) ≡ instructionLine bytes end s to → row .count ≡ n → Shown row address bytes
   unfolding lineAt charsOf

@@ -6,10 +6,10 @@ use lib.ListN.{length}
 use Rattle.listing_rules.specs.Items.{itemOf, countOf}
 use Rattle.listing_rules.specs.Listings.{lineAt}
 use Rattle.notation.specs.Writing.{textIn}
-use Rattle.lister.specs.declared.listings.Row.{Row}
+use Rattle.lister.specs.declared.listings.ListedRow.{ListedRow}
 
 -- a row is the line that some bytes begin with
-pub record Shown (row : Row) (address : ℕ) (bytes : List ℕ) : Type 0 where
+pub record Shown (row : ListedRow) (address : ℕ) (bytes : List ℕ) : Type 0 where
   pub chars : textIn (row .line) ≡ lineAt address bytes .chars
   pub size : row .line .len ≡ length (textIn (row .line))
   pub short : row .line .len ≤ 28

@@ -11,13 +11,13 @@ ghost use Rattle.listing_rules.specs.Listings.{listLimit, listing, listingOf};
 ghost use Rattle.lister.specs.Rows.{Shown};
 
 // A line, and how many bytes it lists.
-struct Row {
+struct ListedRow {
     line: Line,
     count: usize,
 }
 
 // The line of what stands at a place; `first` is the address of the part's first byte.
-fn row_at(part: &[u8], first: u32, at: usize) -> Row
+fn row_at(part: &[u8], first: u32, at: usize) -> ListedRow
     requires { ⌜ (at ≤ length (now part)) × (length (now part) ≤ listLimit) ⌝ }
     ensures { λ r. ⌜ Shown r (first + at) (drop at (now (part .entry))) ⌝ }
 {
@@ -28,18 +28,18 @@ fn row_at(part: &[u8], first: u32, at: usize) -> Row
             if lines::listed(shape) {
                 let end = first % 65536 + at as u32 + length;
                 let line = lines::instruction_line(bytes, end, shape, to);
-                return Row { line, count };
+                return ListedRow { line, count };
             }
             let line = lines::data_line(&bytes[..count]);
-            Row { line, count }
+            ListedRow { line, count }
         }
         Item::Byte => {
             let line = lines::data_line(&bytes[..1]);
-            Row { line, count: 1 }
+            ListedRow { line, count: 1 }
         }
         Item::End => {
             let line = lines::data_line(&bytes[..0]);
-            Row { line, count: 0 }
+            ListedRow { line, count: 0 }
         }
     }
 }

@@ -25,8 +25,8 @@ use Rattle.listing_rules.specs.Characters.{ascii, sameText}
 use Rattle.listing_rules.specs.Mnemonics.{isJump, mnemonicOf, isListed}
 use Rattle.listing_rules.specs.Forms.{Operand, slotsOf, filled}
 use Rattle.listing_rules.specs.Forms.Operand.{none, register, memory, number, digit}
-use Rattle.listing_rules.specs.Entries.{Kind, Entry, entry, entries}
-use Rattle.listing_rules.specs.Entries.Kind.{'R, 'G, 'P, 'M, 'byte, 'word, 'bit, 'width, 'short, 'long}
+use Rattle.listing_rules.specs.Entries.{OperandKind, Entry, entry, entries}
+use Rattle.listing_rules.specs.Entries.OperandKind.{'R, 'G, 'P, 'M, 'byte, 'word, 'bit, 'width, 'short, 'long}
 use Rattle.listing_rules.specs.Back.{asked, offered, fitsForm, entryFor, digitsIn, rrrIn, mmIn, aaIn, pairFrom, pairBack, operandsOf}
 use Rattle.listing_rules.proofs.SpellingLaws.{isMark, clean, present, Fair, each}
 

@@ -10,11 +10,11 @@ use Rattle.instruction_rules.specs.declared.Shape.{Shape}
 use Rattle.listing_rules.specs.Characters.{sameText}
 use Rattle.listing_rules.specs.Forms.{Operand, slotsOf, filled}
 use Rattle.listing_rules.specs.Forms.Operand.{none, register, memory, number, digit}
-use Rattle.listing_rules.specs.Entries.{Kind, Entry, entry, entries}
-use Rattle.listing_rules.specs.Entries.Kind.{'R, 'G, 'P, 'M, 'byte, 'word, 'bit, 'width, 'short, 'long}
+use Rattle.listing_rules.specs.Entries.{OperandKind, Entry, entry, entries}
+use Rattle.listing_rules.specs.Entries.OperandKind.{'R, 'G, 'P, 'M, 'byte, 'word, 'bit, 'width, 'short, 'long}
 
 -- what kind of operand fits a place, and what an operand is: 1 register, 2 memory, 3 number, 4 digit
-unfoldable pub asked : Kind → ℕ
+unfoldable pub asked : OperandKind → ℕ
 asked 'R = 1
 asked 'G = 1
 asked 'P = 1
@@ -33,7 +33,7 @@ offered (memory m a o) = 2
 offered (number b) = 3
 offered (digit n) = 4
 
-unfoldable pub fitsForm : List Kind → List Operand → Bool
+unfoldable pub fitsForm : List OperandKind → List Operand → Bool
 fitsForm [] [] = true
 fitsForm [] (o ∷ os) = false
 fitsForm (k ∷ ks) [] = false

@@ -4,23 +4,23 @@ use Prim.Native.Nat.{ℕ}
 use Rattle.listing_rules.specs.Characters.{ascii}
 
 -- what may stand in a place: any register, any but CC, a pointer register; memory; a byte or a word of data; a bit's number, a width; a target that one byte reaches, or two
-pub data Kind : Type 0 where
-  'R 'G 'P : Kind
-  'M : Kind
-  'byte 'word : Kind
-  'bit 'width : Kind
-  'short 'long : Kind
+pub data OperandKind : Type 0 where
+  'R 'G 'P : OperandKind
+  'M : OperandKind
+  'byte 'word : OperandKind
+  'bit 'width : OperandKind
+  'short 'long : OperandKind
 
 -- a word with one of its forms, and the fields of its pair. Those that an operand gives are 0; RRR 4 is TP of JMP and the fixed bit of WID
 pub record Entry : Type 0 where
   pub word : List ℕ
-  pub kinds : List Kind
+  pub kinds : List OperandKind
   pub rrr : ℕ
   pub dd : ℕ
   pub w : ℕ
   pub opcode : ℕ
 
-abbrev pub entry : List ℕ → List Kind → ℕ → ℕ → ℕ → ℕ → Entry
+abbrev pub entry : List ℕ → List OperandKind → ℕ → ℕ → ℕ → ℕ → Entry
 entry word kinds rrr dd w opcode = record { word = word; kinds = kinds; rrr = rrr; dd = dd; w = w; opcode = opcode }
 
 -- every word with every form

@@ -2,7 +2,7 @@
 use mathlib.Core.List.{List}
 use Prim.Native.Nat.{ℕ}
 use Rattle.ground_rules.specs.Buffers.{Buffers}
-use Rattle.state_rules.specs.Calls.{Made, Service, resetMade, powerServed, attentionServed, stepServed, sweepServed}
+use Rattle.state_rules.specs.Calls.{MadeBytes, Service, resetMade, powerServed, attentionServed, stepServed, sweepServed}
 use Rattle.schedule_rules.specs.Reports.{noReport, putOver}
 use Rattle.schedule_rules.specs.declared.ScheduleRow.{ScheduleRow}
 use Rattle.schedule_calls.specs.Calls.{ScheduleService, scheduleServed}
@@ -41,7 +41,7 @@ abbrev pub sweepOnBytes : ℕ → ℕ → List ℕ → Buffers → Called (List 
 sweepOnBytes channel lines b m = servedAs (sweepServed b m channel lines)
 
 -- a reset looks at no memory
-abbrev pub madeAs : Made → Buffers → Called (List ℕ) ℕ
+abbrev pub madeAs : MadeBytes → Buffers → Called (List ℕ) ℕ
 madeAs o m = calledWith (o .answer) (o .bytes) m
 
 abbrev pub resetOnBytes : List ℕ → Buffers → Called (List ℕ) ℕ

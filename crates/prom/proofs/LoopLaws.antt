@@ -21,7 +21,7 @@ use Rattle.prom_rules.proofs.DigitLaws.{digit-below, byte-below, bytes-drop, by
 use Rattle.prom_rules.proofs.FileLaws.{stores-wrap, file-bad, file-end, stored-more, number-more}
 use Rattle.prom_rules.proofs.RecordLaws.{good}
 use Rattle.prom.specs.Parts.{firstLine, Fielded, judgedOf, foundFirst, reachOf}
-use Rattle.prom.specs.declared.Fields.{Fields}
+use Rattle.prom.specs.declared.RecordFields.{RecordFields}
 use Rattle.prom.specs.declared.Judged.{Judged}
 use Rattle.prom.proofs.LineLaws.{othersOf, restOf, first-line, lines-some}
 use Rattle.prom.proofs.PlaceLaws.{judged-more}
@@ -146,7 +146,7 @@ module _ (t : List ℕ) (at : ℕ) (h : at < length t) where
         go (yes e) = e
         go (no e) = sym (ap (λ (f : File). f .number) (here-bad e)) ∙ z
 
-  module _ (e : lineRefusal (firstLine partAt) ≡ 0) (f : Fields) (g : Fielded partAt f) where
+  module _ (e : lineRefusal (firstLine partAt) ≡ 0) (f : RecordFields) (g : Fielded partAt f) where
     next-lines : hexLines (drop at t) ≡ firstLine partAt ∷ hexLines (drop (at + f .next) t)
     next-lines =
         ap hexLines here ∙ g .lines

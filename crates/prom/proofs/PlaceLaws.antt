@@ -16,13 +16,13 @@ use Rattle.ground_rules.specs.Buffers.{Buffers, lentAt}
 use Rattle.ground_rules.specs.Places.{span, allPass, allLent}
 use Rattle.ground_rules.specs.Choice.{pick}
 use Rattle.ground_rules.specs.Sums.{addressOf}
-use Rattle.prom_rules.specs.File.{Store, File, nextLine, storesFrom, storesOf, segmentAfter, startAfter, fileOf}
+use Rattle.prom_rules.specs.File.{FileStore, File, nextLine, storesFrom, storesOf, segmentAfter, startAfter, fileOf}
 use Rattle.prom_rules.specs.Load.{beyondLine}
 use Rattle.prom_rules.specs.Records.{recordOf, hexSize, addressField, typeOf, dataBytes, lineRefusal}
 use Rattle.prom_rules.proofs.FileLaws.{next-some, file-more, data-length}
 use Rattle.prom_rules.proofs.RecordLaws.{good}
 use Rattle.prom.specs.Parts.{placesFrom, reachOf, foundFirst, judgedOf}
-use Rattle.prom.specs.declared.Fields.{Fields}
+use Rattle.prom.specs.declared.RecordFields.{RecordFields}
 
 -- an offset counts mod 65,536
 pub places-wrap : (segment o p n : ℕ) → o % 65536 ≡ p % 65536 → placesFrom segment o n ≡ placesFrom segment p n
@@ -62,7 +62,7 @@ places-spans m segment offset k n e h =
     (ap (allLent m) (places-wrap segment (offset + k) 0 n (omega arith)) ∙ (rw z at (places-span m segment 0 n (omega arith))))
 
 -- a record reaches beyond memory where not all its places are lent
-pub beyond-stores : (m : Buffers) (line segment offset : ℕ) (vs : List ℕ) (ss : List Store)
+pub beyond-stores : (m : Buffers) (line segment offset : ℕ) (vs : List ℕ) (ss : List FileStore)
     → beyondLine m (storesFrom line segment offset vs ++ ss) ≡ pick (allLent m (placesFrom segment offset (length vs))) (beyondLine m ss) line
 unfolding beyondLine storesFrom placesFrom allPass
 beyond-stores m line segment offset [] ss = refl
@@ -75,7 +75,7 @@ beyond-stores m line segment offset (v ∷ vs) ss = go (lentAt m false (addressO
     go false e = refl
 
 -- the first line that does, with one record more
-pub reach-first : (m : Buffers) (before line segment : ℕ) (bytes : List ℕ) (f : Fields) (ss : List Store) → (line ≡ 0 → ⊥)
+pub reach-first : (m : Buffers) (before line segment : ℕ) (bytes : List ℕ) (f : RecordFields) (ss : List FileStore) → (line ≡ 0 → ⊥)
     → f .kind ≡ typeOf bytes → f .offset ≡ addressField bytes → f .size ≡ length (dataBytes bytes)
     → foundFirst before (beyondLine m (storesOf line segment bytes ++ ss)) ≡ foundFirst (foundFirst before (reachOf m line segment f)) (beyondLine m ss)
 unfolding storesOf reachOf foundFirst
@@ -98,7 +98,7 @@ reach-first m before line segment bytes f ss ne kind offset size =
     go false (no e) = simp (ne-eqb before 0 e)
 
 -- a judged file, one good record on
-pub judged-more : (m : Buffers) (before : ℕ) (this : List ℕ) (lines : List (List ℕ)) (segment start line : ℕ) (f : Fields) → lineRefusal this ≡ 0
+pub judged-more : (m : Buffers) (before : ℕ) (this : List ℕ) (lines : List (List ℕ)) (segment start line : ℕ) (f : RecordFields) → lineRefusal this ≡ 0
     → (typeOf (recordOf this) ≡ 1 → ⊥) → f .kind ≡ typeOf (recordOf this) → f .offset ≡ addressField (recordOf this) → f .size ≡ hexSize (recordOf this)
     → judgedOf m before (fileOf (this ∷ lines) segment start line)
     ≡ judgedOf m (foundFirst before (reachOf m (nextLine line) segment f))

@@ -13,7 +13,7 @@ use Rattle.prom_rules.specs.File.{File}
 use Rattle.prom_rules.specs.Load.{beyondLine}
 use Rattle.prom_rules.specs.Records.{hexValue, recordOf, hexSize, addressField, typeOf}
 use Rattle.prom_rules.specs.Text.{beginsLf, hexLines}
-use Rattle.prom.specs.declared.Fields.{Fields}
+use Rattle.prom.specs.declared.RecordFields.{RecordFields}
 use Rattle.prom.specs.declared.Judged.{Judged}
 
 -- the first of some lines, blank where there is none
@@ -43,7 +43,7 @@ endLength [] = 0
 endLength (b ∷ bs) = pick (eqb b 10) 1 2
 
 -- the fields of the good record that a text begins with, and where the next line begins
-pub record Fielded (text : List ℕ) (f : Fields) : Type 0 where
+pub record Fielded (text : List ℕ) (f : RecordFields) : Type 0 where
   pub size : f .size ≡ hexSize (recordOf (firstLine text))
   pub offset : f .offset ≡ addressField (recordOf (firstLine text))
   pub kind : f .kind ≡ typeOf (recordOf (firstLine text))
@@ -58,7 +58,7 @@ placesFrom segment offset (suc n) =
     record { tag = false; address = addressOf (offset % 65536) segment } ∷ placesFrom segment (offset + 1) n
 
 -- the line of a record that reaches beyond memory, 0 where it does not
-unfoldable pub reachOf : Buffers → ℕ → ℕ → Fields → ℕ
+unfoldable pub reachOf : Buffers → ℕ → ℕ → RecordFields → ℕ
 reachOf m line segment f =
     pick (eqb (f .kind) 0) (pick (allLent m (placesFrom segment (f .offset) (f .size))) 0 line) 0
 

@@ -25,7 +25,7 @@ struct Digits {
 }
 
 // The fields of a good record, and how far the next line is.
-struct Fields {
+struct RecordFields {
     size: u32,
     offset: u32,
     kind: u32,
@@ -165,12 +165,12 @@ fn after_end(text: &[u8], at: usize) -> usize
 }
 
 // The fields of the good record that a text begins with.
-fn read_fields(text: &[u8]) -> Fields
+fn read_fields(text: &[u8]) -> RecordFields
     requires { ⌜ lineRefusal (firstLine (now text)) ≡ 0 ⌝ }
     ensures { λ r. ⌜ Fielded (now (text .entry)) r ⌝ }
 {
     let size = pair(text, 1);
-    Fields {
+    RecordFields {
         size,
         offset: word(text, 3),
         kind: pair(text, 7),
@@ -220,7 +220,7 @@ fn row_lent(sys: &[u8], segment: u32, offset: u32, size: u32) -> bool
 }
 
 // The line of the first record that reaches beyond memory: one found before, or this one.
-fn first_beyond(sys: &[u8], before: u32, line: u32, segment: u32, f: Fields) -> u32
+fn first_beyond(sys: &[u8], before: u32, line: u32, segment: u32, f: RecordFields) -> u32
     requires { ⌜ (segment < 65536) × (f .offset < 65536) × (f .size < 65536) ⌝ }
     ensures { λ r. ⌜ r ≡ foundFirst before (reachOf (buffers (now (sys .entry)) []) line segment f) ⌝ }
 {
@@ -306,7 +306,7 @@ fn put(digits: &[u8], sys: &mut [u8], segment: u32, offset: u32)
 }
 
 // What the good record that a text begins with stores.
-fn put_record(text: &[u8], sys: &mut [u8], segment: u32, f: Fields)
+fn put_record(text: &[u8], sys: &mut [u8], segment: u32, f: RecordFields)
     requires { ⌜ (lineRefusal (firstLine (now text)) ≡ 0) × (segment < 65536) × Fielded (now text) f ⌝ }
     ensures { λ r. ⌜ buffers (now (sys .exit)) [] ≡ storeAll (buffers (now (sys .entry)) []) (storesOf 0 segment (recordOf (firstLine (now (text .entry))))) ⌝ }
 {

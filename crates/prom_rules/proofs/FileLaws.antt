@@ -10,7 +10,7 @@ use mathlib.Core.Path.{_≡_, refl, sym, ap, _∙_}
 use native.Mathlib.Omega.{arith}
 use Rattle.ground_rules.specs.Buffers.{Buffers, storeByte}
 use Rattle.ground_rules.specs.Choice.{pick}
-use Rattle.prom_rules.specs.File.{Store, File, file, nextLine, storesFrom, storesOf, segmentAfter, startAfter, storing, fileOf}
+use Rattle.prom_rules.specs.File.{FileStore, File, file, nextLine, storesFrom, storesOf, segmentAfter, startAfter, storing, fileOf}
 use Rattle.prom_rules.specs.Load.{storeAll}
 use Rattle.prom_rules.specs.Records.{recordOf, hexSize, addressField, typeOf, dataBytes, digitsOf, lineRefusal}
 use Rattle.prom_rules.proofs.DigitLaws.{byte-count}
@@ -62,7 +62,7 @@ stores-wrap line segment o p (v ∷ vs) e = rw (e, stores-wrap line segment (o +
 
 -- ---- what is stored does not depend on lines and start address
 
-pub store-append : (m : Buffers) (a b : List Store) → storeAll m (a ++ b) ≡ storeAll (storeAll m a) b
+pub store-append : (m : Buffers) (a b : List FileStore) → storeAll m (a ++ b) ≡ storeAll (storeAll m a) b
 unfolding storeAll
 store-append m [] b = refl
 store-append m (s ∷ a) b = store-append (storeByte m false (s .address) (s .value)) a b

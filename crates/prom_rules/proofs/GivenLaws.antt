@@ -13,8 +13,8 @@ use native.Mathlib.Omega.{arith}
 use Rattle.ground_rules.specs.Buffers.{buffers, spaceOf, limitOf, indexOf, lentAt, withinLimits}
 use Rattle.ground_rules.proofs.ChoiceLaws.{apart, and-true}
 use Rattle.ground_rules.specs.Choice.{pick}
-use Rattle.prom_rules.specs.Conditions.{NotRecord, Second, Third, Decides, NoEnd, Ends, OverLong, FirstBeyond, AllWithin}
-use Rattle.prom_rules.specs.File.{Store, File, file, nextLine, segmentAfter, startAfter, storesFrom, storesOf, fileOf}
+use Rattle.prom_rules.specs.Conditions.{NotRecord, SumRefused, TypeRefused, Decides, NoEnd, Ends, OverLong, FirstBeyond, AllWithin}
+use Rattle.prom_rules.specs.File.{FileStore, File, file, nextLine, segmentAfter, startAfter, storesFrom, storesOf, fileOf}
 use Rattle.prom_rules.specs.Load.{Loading, beyondLine, textFile, loadOf}
 use Rattle.prom_rules.specs.Records.{recordOf, addressField, typeOf, dataBytes, lineRefusal}
 use Rattle.prom_rules.specs.Text.{hexLines}
@@ -113,11 +113,11 @@ file-least (this ∷ lines) segment start before =
 -- ---- what lies beyond
 
 -- every store has a line
-Lined : List Store → Type 0
+Lined : List FileStore → Type 0
 Lined [] = Unit {0}
 Lined (s ∷ ss) = (s .line ≡ 0 → ⊥) × Lined ss
 
-lined-append : (a b : List Store) → Lined a → Lined b → Lined (a ++ b)
+lined-append : (a b : List FileStore) → Lined a → Lined b → Lined (a ++ b)
 unfolding Lined
 lined-append [] b p q = q
 lined-append (s ∷ a) b p q = (p .0, lined-append a b (p .1) q)
@@ -158,7 +158,7 @@ module _ (sys : List ℕ) where
   unfolding lentAt spaceOf indexOf limitOf
   lent-not a h = le-ltb (a % 1048576) (length sys) h
 
-  first-beyond : (ss : List Store) (k : ℕ) → Lined ss → ((beyondLine (buffers sys []) ss ≡ k) × (k ≡ 0 → ⊥)) ↔ FirstBeyond sys ss k
+  first-beyond : (ss : List FileStore) (k : ℕ) → Lined ss → ((beyondLine (buffers sys []) ss ≡ k) × (k ≡ 0 → ⊥)) ↔ FirstBeyond sys ss k
   unfolding Lined beyondLine
   first-beyond [] k l = (λ h. absurd (h .1 (sym (h .0))), λ h. absurd h)
   first-beyond (s ∷ ss) k l = go (decLt (s .address % 1048576) (length sys)) (first-beyond ss k (l .1))
@@ -170,7 +170,7 @@ module _ (sys : List ℕ) where
           rw (lent-not (s .address) (omega arith))
           (λ g. inl (omega arith, sym (g .0)), ⊎-elim (λ g. (sym (g .1), λ z. l .0 (sym (g .1) ∙ z))) (λ g. absurd (h (g .0))))
 
-  none-beyond : (ss : List Store) → Lined ss → (beyondLine (buffers sys []) ss ≡ 0) ↔ AllWithin sys ss
+  none-beyond : (ss : List FileStore) → Lined ss → (beyondLine (buffers sys []) ss ≡ 0) ↔ AllWithin sys ss
   unfolding Lined beyondLine
   none-beyond [] l = (λ h. tt, λ h. refl)
   none-beyond (s ∷ ss) l = go (decLt (s .address % 1048576) (length sys)) (none-beyond ss (l .1))
@@ -192,7 +192,7 @@ module _ (t sys : List ℕ) where
   unfolding withinLimits limitOf
   over e = leb-false (length sys) 1048576 (sym (and-true (leb (length sys) 1048576)) ∙ e)
 
-  abbrev Stored : List Store
+  abbrev Stored : List FileStore
   Stored = textFile t .stores
 
   least : (textFile t .number ≡ 0 → ⊥) → 20 ≤ textFile t .number
@@ -229,11 +229,11 @@ module _ (t sys : List ℕ) where
   pub given-20 : (k : ℕ) → ((loadOf t (buffers sys []) .number ≡ 20) × (loadOf t (buffers sys []) .line ≡ k)) ↔ (¬ (OverLong sys) × Decides NotRecord (hexLines t) 0 k)
   given-20 k = by-line NotRecord 20 k (lit≤ tt) (λ e. omega (arith, e)) line-20
 
-  pub given-21 : (k : ℕ) → ((loadOf t (buffers sys []) .number ≡ 21) × (loadOf t (buffers sys []) .line ≡ k)) ↔ (¬ (OverLong sys) × Decides Second (hexLines t) 0 k)
-  given-21 k = by-line Second 21 k (lit≤ tt) (λ e. omega (arith, e)) line-21
+  pub given-21 : (k : ℕ) → ((loadOf t (buffers sys []) .number ≡ 21) × (loadOf t (buffers sys []) .line ≡ k)) ↔ (¬ (OverLong sys) × Decides SumRefused (hexLines t) 0 k)
+  given-21 k = by-line SumRefused 21 k (lit≤ tt) (λ e. omega (arith, e)) line-21
 
-  pub given-22 : (k : ℕ) → ((loadOf t (buffers sys []) .number ≡ 22) × (loadOf t (buffers sys []) .line ≡ k)) ↔ (¬ (OverLong sys) × Decides Third (hexLines t) 0 k)
-  given-22 k = by-line Third 22 k (lit≤ tt) (λ e. omega (arith, e)) line-22
+  pub given-22 : (k : ℕ) → ((loadOf t (buffers sys []) .number ≡ 22) × (loadOf t (buffers sys []) .line ≡ k)) ↔ (¬ (OverLong sys) × Decides TypeRefused (hexLines t) 0 k)
+  given-22 k = by-line TypeRefused 22 k (lit≤ tt) (λ e. omega (arith, e)) line-22
 
   -- 23 exactly when every line passes; the line is the number of lines
   pub given-23 : (k : ℕ) → ((loadOf t (buffers sys []) .number ≡ 23) × (loadOf t (buffers sys []) .line ≡ k)) ↔ (¬ (OverLong sys) × NoEnd (hexLines t) 0 k)

@@ -8,7 +8,7 @@ use mathlib.Core.Path.{_≡_, refl, sym, ap, subst, _∙_}
 use native.Mathlib.Nat.{add-zero}
 use native.Mathlib.Omega.{arith}
 use Rattle.prom_rules.specs.Conditions.{GoodRecord, Passes}
-use Rattle.prom_rules.specs.File.{Store, File, nextLine, storesFrom, storesOf, segmentAfter, startAfter, fileOf}
+use Rattle.prom_rules.specs.File.{FileStore, File, nextLine, storesFrom, storesOf, segmentAfter, startAfter, fileOf}
 use Rattle.prom_rules.specs.Load.{textFile}
 use Rattle.prom_rules.specs.Records.{recordOf, addressField, typeOf, dataBytes, segmentOf}
 use Rattle.prom_rules.specs.Text.{hexLines}
@@ -33,26 +33,26 @@ abbrev pub DataRecord : List ℕ → Type 0
 DataRecord line = GoodRecord line × (typeOf (recordOf line) ≡ 0)
 
 -- among some stores, in a row, those of a record's data: byte i at v × 16 + ((offset + i) mod 65,536), mod 1,048,576
-pub record StoredUnder (v : ℕ) (bytes : List ℕ) (stores : List Store) : Type 0 where
-  pub earlier : List Store
-  pub row : List Store
-  pub later : List Store
+pub record StoredUnder (v : ℕ) (bytes : List ℕ) (stores : List FileStore) : Type 0 where
+  pub earlier : List FileStore
+  pub row : List FileStore
+  pub later : List FileStore
   pub whole : stores ≡ earlier ++ (row ++ later)
-  pub values : map (λ (s : Store). s .value) row ≡ dataBytes bytes
+  pub values : map (λ (s : FileStore). s .value) row ≡ dataBytes bytes
   pub places : (i : ℕ) → i < length row
-      → getD (map (λ (s : Store). s .address) row) i 0 ≡ (v * 16 + (getD bytes 1 0 * 256 + getD bytes 2 0 + i) % 65536) % 1048576
+      → getD (map (λ (s : FileStore). s .address) row) i 0 ≡ (v * 16 + (getD bytes 1 0 * 256 + getD bytes 2 0 + i) % 65536) % 1048576
 
 -- ---- one record's row
 
 -- its bytes are the data
-row-bytes : (line v o : ℕ) (bytes : List ℕ) → map (λ (s : Store). s .value) (storesFrom line v o bytes) ≡ bytes
+row-bytes : (line v o : ℕ) (bytes : List ℕ) → map (λ (s : FileStore). s .value) (storesFrom line v o bytes) ≡ bytes
 unfolding storesFrom
 row-bytes line v o [] = refl
 row-bytes line v o (b ∷ bytes) = ap (λ (l : List ℕ). b ∷ l) (row-bytes line v (o + 1) bytes)
 
 -- each at its offset
 row-addresses : (line v o p : ℕ) (bytes : List ℕ) → o ≡ p → (i : ℕ) → i < length (storesFrom line v o bytes)
-    → getD (map (λ (s : Store). s .address) (storesFrom line v o bytes)) i 0 ≡ (v * 16 + (p + i) % 65536) % 1048576
+    → getD (map (λ (s : FileStore). s .address) (storesFrom line v o bytes)) i 0 ≡ (v * 16 + (p + i) % 65536) % 1048576
 unfolding storesFrom
 row-addresses line v o p [] e i h = absurd (omega arith)
 row-addresses line v o p (b ∷ bytes) e zero h = ap (λ (n : ℕ). (v * 16 + n % 65536) % 1048576) (e ∙ sym (add-zero p))
@@ -66,7 +66,7 @@ unfolding addressField
 offset-bytes bytes = omega arith
 
 -- a data record's own stores are its row
-first-row : (line v : ℕ) (bytes : List ℕ) (later : List Store) → typeOf bytes ≡ 0 → StoredUnder v bytes (storesOf line v bytes ++ later)
+first-row : (line v : ℕ) (bytes : List ℕ) (later : List FileStore) → typeOf bytes ≡ 0 → StoredUnder v bytes (storesOf line v bytes ++ later)
 unfolding storesOf
 first-row line v bytes later t =
     rw (eq-eqb (typeOf bytes) 0 t)
@@ -80,13 +80,13 @@ first-row line v bytes later t =
     }
 
 -- a row stands there too where more is stored before
-later-row : {v : ℕ} {bytes : List ℕ} {stores : List Store} (before : List Store) → StoredUnder v bytes stores → StoredUnder v bytes (before ++ stores)
+later-row : {v : ℕ} {bytes : List ℕ} {stores : List FileStore} (before : List FileStore) → StoredUnder v bytes stores → StoredUnder v bytes (before ++ stores)
 later-row before s =
     record {
       earlier = before ++ s .earlier;
       row = s .row;
       later = s .later;
-      whole = ap (λ (l : List Store). before ++ l) (s .whole) ∙ sym (append-assoc before (s .earlier) (s .row ++ s .later));
+      whole = ap (λ (l : List FileStore). before ++ l) (s .whole) ∙ sym (append-assoc before (s .earlier) (s .row ++ s .later));
       values = s .values;
       places = s .places;
     }

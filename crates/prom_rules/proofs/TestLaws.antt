@@ -12,7 +12,7 @@ use native.Mathlib.Decide.{ℕ-discrete}
 use native.Mathlib.Omega.{arith}
 use Rattle.ground_rules.proofs.ChoiceLaws.{apart, both-left, both-right, or-false}
 use Rattle.ground_rules.specs.Choice.{pick}
-use Rattle.prom_rules.specs.Conditions.{Hexadecimal, SomeOther, NoColon, NotRecord, WrongSum, Unfit, WrongType, Second, Third, GoodRecord}
+use Rattle.prom_rules.specs.Conditions.{Hexadecimal, SomeOther, NoColon, NotRecord, WrongSum, Unfit, WrongType, SumRefused, TypeRefused, GoodRecord}
 use Rattle.prom_rules.specs.Records.{within, hexValue, allHex, digitsOf, recordOf, hexSize, typeOf, sumOf, isRecord, sumsToZero, fitsType, lineRefusal}
 
 -- a test that holds just where a condition does not
@@ -146,7 +146,7 @@ module _ (line : List ℕ) where
   )
 
   -- 21 just where it is one whose sum is wrong
-  pub line-21 : (lineRefusal line ≡ 21) ↔ Second line
+  pub line-21 : (lineRefusal line ≡ 21) ↔ SumRefused line
   line-21 = (
     λ e. ⊎-elim (λ h. absurd (omega (arith, h .1)))
         (λ h. (h .0, ⊎-elim (λ g. g .0) (λ g. ⊎-elim (λ f. absurd (omega (arith, f .1))) (λ f. absurd (omega (arith, f .1))) (three 21 .0 (g .1))) (two 21 .0 (h .1)))) (one 21 .0 e),
@@ -154,7 +154,7 @@ module _ (line : List ℕ) where
   )
 
   -- 22 just where only its type or length is
-  pub line-22 : (lineRefusal line ≡ 22) ↔ Third line
+  pub line-22 : (lineRefusal line ≡ 22) ↔ TypeRefused line
   line-22 = (
     λ e. ⊎-elim (λ h. absurd (omega (arith, h .1)))
         (λ h. (

@@ -5,7 +5,7 @@ use lib.ListN.{replicate}
 use mathlib.Core.List.{List, [], _∷_, _++_}
 use mathlib.Core.Path.{_≡_, refl}
 use Rattle.ground_rules.specs.Buffers.{buffers, spaceOf, limitOf, indexOf, lentAt, storeByte, withinLimits}
-use Rattle.prom_rules.specs.File.{Store, nextLine, storesFrom, storesOf, segmentAfter, startAfter, fileOf}
+use Rattle.prom_rules.specs.File.{FileStore, nextLine, storesFrom, storesOf, segmentAfter, startAfter, fileOf}
 use Rattle.prom_rules.specs.Load.{Loading, loading, beyondLine, storeAll, textFile, hexPlaced, loadOf}
 use Rattle.prom_rules.specs.Records.{hexValue, allHex, hexBytes, hexSize, addressField, typeOf, dataBytes, segmentOf, startOf, sumOf, isRecord, sumsToZero, fitsType, lineRefusal}
 use Rattle.prom_rules.specs.Text.{beginsLf, inFront, hexLines}
@@ -36,7 +36,7 @@ abbrev refused : ℕ → ℕ → ℕ → Loading
 refused number line n = loading number 0 line (buffers (replicate n 0) [])
 
 -- the addresses of some stores
-addresses : List Store → List ℕ
+addresses : List FileStore → List ℕ
 addresses [] = []
 addresses (s ∷ ss) = s .address ∷ addresses ss
 

@@ -16,7 +16,7 @@ use Rattle.ground_rules.specs.Buffers.{Buffers, buffers, spaceOf, limitOf, inde
 use Rattle.ground_rules.proofs.ChoiceLaws.{both-left, both-right}
 use Rattle.ground_rules.specs.Bytes.{lowByte, highByte}
 use Rattle.ground_rules.specs.Choice.{pick}
-use Rattle.prom_rules.specs.File.{Store, File, file, nextLine, storesFrom, storesOf, segmentAfter, startAfter, storing, fileOf}
+use Rattle.prom_rules.specs.File.{FileStore, File, file, nextLine, storesFrom, storesOf, segmentAfter, startAfter, storing, fileOf}
 use Rattle.prom_rules.specs.Load.{loading, beyondLine, storeAll, textFile, loadOf}
 use Rattle.prom_rules.specs.Records.{hexValue, allHex, hexBytes, recordOf, hexSize, addressField, typeOf, dataBytes, segmentOf, sumOf, isRecord, sumsToZero, fitsType, lineRefusal}
 use Rattle.prom_rules.specs.Text.{inFront, hexLines}
@@ -150,7 +150,7 @@ row-stores m line segment offset (v ∷ vs) h k =
     rw (here, ← next) (row-stores (storeByte m false (segment * 16 + offset) v) line segment (offset + 1) vs (omega arith) (omega arith))
 
 -- and none of them lies beyond where the row is lent
-row-lent : (m : Buffers) (line segment offset : ℕ) (vs : List ℕ) (ss : List Store) → length (m .sys) ≤ 1048576 → offset + length vs ≤ 65536
+row-lent : (m : Buffers) (line segment offset : ℕ) (vs : List ℕ) (ss : List FileStore) → length (m .sys) ≤ 1048576 → offset + length vs ≤ 65536
     → segment * 16 + offset + length vs ≤ length (m .sys) → beyondLine m (storesFrom line segment offset vs ++ ss) ≡ beyondLine m ss
 unfolding beyondLine storesFrom lentAt spaceOf indexOf limitOf
 row-lent m line segment offset [] ss l h k = refl

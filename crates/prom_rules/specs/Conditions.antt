@@ -4,7 +4,7 @@ use lib.ListN.{length}
 use mathlib.Core.List.{List, [], _∷_}
 use mathlib.Core.Logic.{_⊎_}
 use mathlib.Core.Path.{_≡_}
-use Rattle.prom_rules.specs.File.{Store, nextLine}
+use Rattle.prom_rules.specs.File.{FileStore, nextLine}
 use Rattle.prom_rules.specs.Records.{digitsOf, recordOf, hexSize, typeOf, sumOf}
 
 -- a hexadecimal digit, 0-9, A-F or a-f
@@ -42,11 +42,11 @@ abbrev pub WrongType : List ℕ → Type 0
 WrongType line = Unfit (typeOf (recordOf line)) (hexSize (recordOf line))
 
 -- 21 where 20 is not given, 22 where neither is, and a good record where none is
-abbrev pub Second : List ℕ → Type 0
-Second line = ¬ (NotRecord line) × WrongSum line
+abbrev pub SumRefused : List ℕ → Type 0
+SumRefused line = ¬ (NotRecord line) × WrongSum line
 
-abbrev pub Third : List ℕ → Type 0
-Third line = ¬ (NotRecord line) × (¬ (WrongSum line) × WrongType line)
+abbrev pub TypeRefused : List ℕ → Type 0
+TypeRefused line = ¬ (NotRecord line) × (¬ (WrongSum line) × WrongType line)
 
 abbrev pub GoodRecord : List ℕ → Type 0
 GoodRecord line = ¬ (NotRecord line) × (¬ (WrongSum line) × ¬ (WrongType line))
@@ -79,12 +79,12 @@ abbrev pub OverLong : List ℕ → Type 0
 OverLong sys = 1048576 < length sys
 
 -- 2: a byte to be stored lies beyond lent memory, and line k holds the first
-abbrev pub FirstBeyond : List ℕ → List Store → ℕ → Type 0
+abbrev pub FirstBeyond : List ℕ → List FileStore → ℕ → Type 0
 FirstBeyond sys [] k = ⊥
 FirstBeyond sys (s ∷ ss) k =
     ((length sys ≤ s .address % 1048576) × (k ≡ s .line)) ⊎ ((s .address % 1048576 < length sys) × FirstBeyond sys ss k)
 
 -- every byte to be stored is lent
-abbrev pub AllWithin : List ℕ → List Store → Type 0
+abbrev pub AllWithin : List ℕ → List FileStore → Type 0
 AllWithin sys [] = Unit {0}
 AllWithin sys (s ∷ ss) = (s .address % 1048576 < length sys) × AllWithin sys ss

@@ -7,7 +7,7 @@ use Rattle.ground_rules.specs.Sums.{addressOf}
 use Rattle.prom_rules.specs.Records.{recordOf, addressField, typeOf, dataBytes, segmentOf, startOf, lineRefusal}
 
 -- one byte that a file stores: the line that holds it, its address, and the byte
-pub record Store : Type 0 where
+pub record FileStore : Type 0 where
   pub line : ℕ
   pub address : ℕ
   pub value : ℕ
@@ -17,9 +17,9 @@ pub record File : Type 0 where
   pub number : ℕ
   pub line : ℕ
   pub start : ℕ
-  pub stores : List Store
+  pub stores : List FileStore
 
-abbrev pub file : ℕ → ℕ → ℕ → List Store → File
+abbrev pub file : ℕ → ℕ → ℕ → List FileStore → File
 file number line start stores = record { number = number; line = line; start = start; stores = stores }
 
 -- the next line's number; it stays at 2 ^ 32 - 1
@@ -27,13 +27,13 @@ unfoldable pub nextLine : ℕ → ℕ
 nextLine line = pick (ltb line 4294967295) (line + 1) line
 
 -- bytes from an offset on: the offset wraps at 65,536, then the segment is added, mod 1,048,576
-unfoldable pub storesFrom : ℕ → ℕ → ℕ → List ℕ → List Store
+unfoldable pub storesFrom : ℕ → ℕ → ℕ → List ℕ → List FileStore
 storesFrom line segment offset [] = []
 storesFrom line segment offset (v ∷ vs) =
     record { line = line; address = addressOf (offset % 65536) segment; value = v } ∷ storesFrom line segment (offset + 1) vs
 
 -- what a record stores: the data of type 00
-unfoldable pub storesOf : ℕ → ℕ → List ℕ → List Store
+unfoldable pub storesOf : ℕ → ℕ → List ℕ → List FileStore
 storesOf line segment bytes = pick (eqb (typeOf bytes) 0) (storesFrom line segment (addressField bytes) (dataBytes bytes)) []
 
 -- the segment after a record: that of type 02, else as it was
@@ -45,7 +45,7 @@ unfoldable pub startAfter : List ℕ → ℕ → ℕ
 startAfter bytes start = pick (eqb (typeOf bytes) 3) (startOf bytes) start
 
 -- a file with some bytes stored before
-abbrev pub storing : List Store → File → File
+abbrev pub storing : List FileStore → File → File
 storing stores f = file (f .number) (f .line) (f .start) (stores ++ f .stores)
 
 -- the file that some lines are, under a segment, with a start address found so far, after so many lines

@@ -5,7 +5,7 @@ use mathlib.Core.Bool.{false}
 use mathlib.Core.List.{List, [], _∷_}
 use Rattle.ground_rules.specs.Buffers.{Buffers, lentAt, storeByte, withinLimits}
 use Rattle.ground_rules.specs.Choice.{pick}
-use Rattle.prom_rules.specs.File.{Store, File, fileOf}
+use Rattle.prom_rules.specs.File.{FileStore, File, fileOf}
 use Rattle.prom_rules.specs.Text.{hexLines}
 
 -- what the call leaves
@@ -19,14 +19,14 @@ abbrev pub loading : ℕ → ℕ → ℕ → Buffers → Loading
 loading number start line m = record { number = number; start = start; line = line; memory = m }
 
 -- the line of the first byte that lies beyond lent memory; 0 where all are lent
-unfoldable pub beyondLine : Buffers → List Store → ℕ
+unfoldable pub beyondLine : Buffers → List FileStore → ℕ
 beyondLine m [] = 0
 beyondLine m (s ∷ ss) =
     let rest = beyondLine m ss in
     pick (lentAt m false (s .address)) rest (s .line)
 
 -- every byte stored, in order, so that a later one stands
-unfoldable pub storeAll : Buffers → List Store → Buffers
+unfoldable pub storeAll : Buffers → List FileStore → Buffers
 storeAll m [] = m
 storeAll m (s ∷ ss) = storeAll (storeByte m false (s .address) (s .value)) ss
 

@@ -6,7 +6,7 @@ use lib.Dec.{eqb}
 use mathlib.Core.Bool.{Bool, true, false, not, _&&_}
 use mathlib.Core.Path.{_≡_, refl, sym, ap, subst, _∙_}
 use native.Mathlib.Decide.{ℕ-discrete}
-use Rattle.attention_rules.specs.Attention.{givenTo, attentionNumber, attentionOf, orderedChannel as attended, orderedMemory as attendedMemory}
+use Rattle.attention_rules.specs.Attention.{givenTo, attentionNumber, attentionOf, channelAttended as attended, orderedMemory as attendedMemory}
 use Rattle.instruction_rules.specs.Execute.{executeOf}
 use Rattle.ground_rules.proofs.ChannelLaws.{put-same, put-other, last-channel}
 use Rattle.ground_rules.specs.Outcomes.{outcome, unless, first, settled}
@@ -27,12 +27,12 @@ use Rattle.ground_rules.proofs.ChoiceLaws.{and-false, apart}
 use Rattle.transfer_rules.specs.Ends.{externallyEnded}
 use Rattle.transfer_rules.specs.Steps.{transferOf, Transfer as Taken}
 use Rattle.ground_rules.specs.Choice.{pick}
-use Rattle.promises.specs.Calls.{Turn}
+use Rattle.promises.specs.Calls.{HasTurn}
 
 -- ---- this channel's transfer step
 
 -- its turn with XF is its transfer step
-pub turn-is : (b : Bool) (s : State) (m : Buffers) (lines : ℕ) → Turn b s m lines → transferring (channelOf s b .psw) ≡ true → stepOf s m lines ≡ transferStep s m b
+pub turn-is : (b : Bool) (s : State) (m : Buffers) (lines : ℕ) → HasTurn b s m lines → transferring (channelOf s b .psw) ≡ true → stepOf s m lines ≡ transferStep s m b
 unfolding stepOf chosenStep channelStep
 turn-is b s m lines t x = rw (eq-eqb (entryNumber s m lines) 0 (t .entered), t .chosen, x)
 
@@ -152,7 +152,7 @@ choice-not s lines false e = rw (ends-not (s .first) (external lines false) e) (
     go false = ranked-none s (rankOf (s .first) (requested lines false)) (rankOf (s .second) (requested lines true)) false
 
 -- so a step call that is not the channel's turn leaves it alone
-pub step-kept : (b : Bool) (s : State) (m : Buffers) (lines : ℕ) → channelOf s b .fields .externalEnd ≡ 0 → (Turn b s m lines → ⊥)
+pub step-kept : (b : Bool) (s : State) (m : Buffers) (lines : ℕ) → channelOf s b .fields .externalEnd ≡ 0 → (HasTurn b s m lines → ⊥)
     → channelOf ((stepOf s m lines) .state) b ≡ channelOf s b
 unfolding stepOf
 step-kept b s m lines e ne = go (ℕ-discrete (entryNumber s m lines) 0)

@@ -26,7 +26,7 @@ use Rattle.promises.specs.Calls.{Calls, EndsAtCall, begin, transfer, ste
 use Rattle.block_rules.specs.Premises.{Lent}
 use Rattle.block_rules.specs.Rows.{Untouched}
 use Rattle.block_rules.specs.Stages.{Ended}
-use Rattle.promises.specs.Witness.{channelWith, narrowAt, narrowEnd, wideAt, wideEnd, memoryWith, six, bothWith}
+use Rattle.promises.specs.Witness.{runningWith, narrowAt, narrowEnd, wideAt, wideEnd, memoryWith, six, bothWith}
 use Rattle.promises.proofs.MachineLaws.{demand3-calls}
 use Rattle.promises.proofs.WitnessLaws.{narrow-met, transferOpen, narrow-total}
 
@@ -117,7 +117,7 @@ theirs {k} s m s′ m′ r b u e =
 -- what channel 2's steps leave alone
 spared : (a b c d e a′ b′ c′ d′ e′ : ℕ) (io : List ℕ) → Lent (memoryWith (six a′ b′ c′ d′ e′) io) (pointer 16 true) 5
     → Untouched (narrowAt 0 16 5) 5 (memoryWith (six a b c d e) io) (memoryWith (six a′ b′ c′ d′ e′) io)
-unfolding channelWith memoryWith source destination bitOf byteAt beyondIn lentAt spaceOf indexOf limitOf split
+unfolding runningWith memoryWith source destination bitOf byteAt beyondIn lentAt spaceOf indexOf limitOf split
 spared a b c d e a′ b′ c′ d′ e′ io l =
     record {
       fromLeft = record { bytes = five (λ i. _) refl refl refl refl refl; lent = five (λ i. _) refl refl refl refl refl };

@@ -35,7 +35,7 @@ use Rattle.turn_rules.specs.declared.Kind.the-variants.{Instruction as AnInstru
 use Rattle.ground_rules.specs.Bytes.{wordOf}
 use Rattle.ground_rules.specs.Choice.{pick}
 use Rattle.ground_rules.specs.Signs.{extended}
-use Rattle.promises.specs.Calls.{Turn}
+use Rattle.promises.specs.Calls.{HasTurn}
 use Rattle.promises.specs.Cases.{Stand, Executes}
 use Rattle.promises.proofs.StandLaws.{span-touchable, rest-touchable}
 
@@ -113,7 +113,7 @@ immediate-executed work r wide m c code there whole e busy =
 -- ---- its step
 
 -- a channel's turn without XF is its instruction
-pub turn-executes : (b : Bool) (s : State) (m : Buffers) (lines : ℕ) → Turn b s m lines → transferring (channelOf s b .psw) ≡ false → stepOf s m lines ≡ instructionStep s m b
+pub turn-executes : (b : Bool) (s : State) (m : Buffers) (lines : ℕ) → HasTurn b s m lines → transferring (channelOf s b .psw) ≡ false → stepOf s m lines ≡ instructionStep s m b
 unfolding stepOf chosenStep channelStep
 turn-executes b s m lines t x = rw (eq-eqb (entryNumber s m lines) 0 (t .entered), t .chosen, x)
 

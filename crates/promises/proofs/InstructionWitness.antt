@@ -17,7 +17,7 @@ use Rattle.turn_rules.specs.Choosing.{requested, external, endsNow, transferRan
 use Rattle.turn_rules.specs.Step.{entryNumber}
 use Rattle.ground_rules.specs.Bits.{bitOf, fieldOf}
 use Rattle.promises.specs.Cases.{Stand, Executes}
-use Rattle.promises.specs.Witness.{channelWith, bothWith, programAt, bytesFrom}
+use Rattle.promises.specs.Witness.{runningWith, bothWith, programAt, bytesFrom}
 
 module _ (a : ℕ) (code : List ℕ) (fits : a + length code ≤ 1048576) where
   -- memory ends with the bytes
@@ -41,10 +41,10 @@ module _ (a : ℕ) (code : List ℕ) (fits : a + length code ≤ 1048576) where
 
   -- no number refuses the call
   entered : a < 1048576 → entryNumber (programAt a) (bytesFrom a code) 0 ≡ 0
-  unfolding entryNumber givenNumber first unless withinLimits limitOf sound soundChannel agree fieldsAgree sameFields sameFlag split bothWith channelWith idleChannel bitOf fieldOf
+  unfolding entryNumber givenNumber first unless withinLimits limitOf sound soundChannel agree fieldsAgree sameFields sameFlag split bothWith runningWith idleChannel bitOf fieldOf
   entered h = rw (ends, le-leb (a + length code) 1048576 fits, lt-ltb a 1048576 h)
 
   -- and it is channel 1's turn to execute them
   pub executes-met : a < 1048576 → Executes false (programAt a) (bytesFrom a code) 0 code
-  unfolding channelOf bothWith channelWith idleChannel bitOf choiceOf ranked secondWins rankOf transferRank endsNow external requested isRunning split
+  unfolding channelOf bothWith runningWith idleChannel bitOf choiceOf ranked secondWins rankOf transferRank endsNow external requested isRunning split
   executes-met h = record { turn = record { entered = entered h; chosen = refl }; program = refl; there = stand }

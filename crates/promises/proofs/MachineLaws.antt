@@ -16,7 +16,7 @@ use Rattle.turn_rules.specs.declared.Kind.the-variants.{Transfer}
 use Rattle.transfer_rules.proofs.KeptLaws.{only-these}
 use Rattle.ground_rules.specs.Updates.{withTransfer}
 use Rattle.transfer_rules.specs.Steps.{transferOf}
-use Rattle.promises.specs.Calls.{Turn, Calls, Moves, EndsAtCall, begin, transfer, step, attention, host}
+use Rattle.promises.specs.Calls.{HasTurn, Calls, Moves, EndsAtCall, begin, transfer, step, attention, host}
 use Rattle.block_rules.specs.Premises.{into, Copy}
 use Rattle.block_rules.specs.Rows.{Untouched, Row, start, steps, other}
 use Rattle.block_rules.specs.Stages.{Within, Going}
@@ -33,13 +33,13 @@ row-kept (steps {c = c} {m = m} r) =
 row-kept (other r u) = row-kept r
 
 -- its transfer step, for the channel
-pub row-transfer : (b : Bool) (n : ℕ) (c₀ : Channel) (m₀ : Buffers) (k : ℕ) (s : State) (m : Buffers) (lines : ℕ) → Turn b s m lines
+pub row-transfer : (b : Bool) (n : ℕ) (c₀ : Channel) (m₀ : Buffers) (k : ℕ) (s : State) (m : Buffers) (lines : ℕ) → HasTurn b s m lines
     → transferring (channelOf s b .psw) ≡ true → Row n c₀ m₀ k (channelOf s b) m
     → Row n c₀ m₀ (suc k) (channelOf ((stepOf s m lines) .state) b) ((stepOf s m lines) .memory)
 row-transfer b n c₀ m₀ k s m lines t x r = rw (turn-is b s m lines t x, transfer-channel b s m, transfer-memory b s m) (steps r)
 
 -- a step call that is not its turn
-row-step : (b : Bool) (n : ℕ) (c₀ : Channel) (m₀ : Buffers) (k : ℕ) (s : State) (m : Buffers) (lines : ℕ) → c₀ .fields .externalEnd ≡ 0 → (Turn b s m lines → ⊥)
+row-step : (b : Bool) (n : ℕ) (c₀ : Channel) (m₀ : Buffers) (k : ℕ) (s : State) (m : Buffers) (lines : ℕ) → c₀ .fields .externalEnd ≡ 0 → (HasTurn b s m lines → ⊥)
     → Untouched c₀ n m ((stepOf s m lines) .memory) → Row n c₀ m₀ k (channelOf s b) m
     → Row n c₀ m₀ k (channelOf ((stepOf s m lines) .state) b) ((stepOf s m lines) .memory)
 row-step b n c₀ m₀ k s m lines e ne u r = rw (step-kept b s m lines (ap (λ (f : Fields). f .externalEnd) (row-kept r .1) ∙ e) ne) (other r u)
@@ -61,7 +61,7 @@ row-of e (host r u) = other (row-of e r) u
 
 -- a turn on the way is a transfer step that is done
 pub moves : (b : Bool) (n : ℕ) (s₀ : State) (m₀ : Buffers) (k : ℕ) (s : State) (m : Buffers) (lines : ℕ) → Going n (channelOf s₀ b) m₀ k (channelOf s b) m
-    → Turn b s m lines → Moves b n s₀ s m lines
+    → HasTurn b s m lines → Moves b n s₀ s m lines
 moves b n s₀ m₀ k s m lines g t =
     record { done = ap number e; channel = ap channel e; kind = ap kind e; spares = subst (λ (x : Buffers). Within (into (channelOf s₀ b)) n m x) (sym (ap memory e)) (g .spares) }
   where

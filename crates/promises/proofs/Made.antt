@@ -33,7 +33,7 @@ use Rattle.turn_rules.proofs.NumberLaws.{step-ready}
 use Rattle.turn_rules.proofs.OutcomeLaws.{refused, board-kept}
 use Rattle.turn_rules.proofs.SoundLaws.{sound-kept, step-agree}
 use Rattle.turn_rules.specs.Step.{Step, stepOf}
-use Rattle.promises.specs.Made.{MadeIn, Made, MadeOfBytes, NoRow, RowUsesControl}
+use Rattle.promises.specs.Made.{MadeIn, MadeByCalls, MadeOfBytes, NoRow, RowUsesControl}
 use Rattle.promises.specs.Made.MadeIn.{fresh, power, attention, step}
 
 -- ---- sound states
@@ -64,31 +64,31 @@ made-sound (step {s} made m lines) = step-either s m lines (made-sound made)
 -- ---- powered up
 
 -- what is asked of memories may be left out
-pub made-any : {asked : Buffers → Type 0} {s : State} → MadeIn asked s → Made s
+pub made-any : {asked : Buffers → Type 0} {s : State} → MadeIn asked s → MadeByCalls s
 made-any (fresh cp) = fresh cp
 made-any (power s m e) = power s m e
 made-any (attention made m bytes channel) = attention (made-any made) m tt channel
 made-any (step made m lines) = step (made-any made) m lines
 
 -- in any memories every such state is powered up
-pub made-powered : {s : State} → Made s → s .board .powered ≡ true
+pub made-powered : {s : State} → MadeByCalls s → s .board .powered ≡ true
 made-powered (fresh cp) = fresh-powered cp
 made-powered (power s m e) = ap (λ (o : Outcome). o .state .board .powered) (power-accepted s m e) ∙ found-powered m
 made-powered (attention {s} made m bytes channel) = ap (λ (b : Board). b .powered) (shared-kept s m channel .2) ∙ made-powered made
 made-powered (step {s} made m lines) = ap (λ (b : Board). b .powered) (board-kept s m lines) ∙ made-powered made
 
 -- the fields of every such state are those of CC
-pub made-agree : {s : State} → Made s → agree s ≡ true
+pub made-agree : {s : State} → MadeByCalls s → agree s ≡ true
 made-agree (fresh cp) = fresh-agree cp
 made-agree (power s m e) = ap (λ (o : Outcome). agree (o .state)) (power-accepted s m e) ∙ found-agree m
 made-agree (attention {s} made m bytes channel) = attention-agree s m channel (made-agree made)
 made-agree (step {s} made m lines) = step-agree s m lines (made-agree made)
 
 -- so no attention to it and no step of it is 13 or 14
-pub made-attends : {s : State} → Made s → (m : Buffers) (channel : ℕ) → attentionOf s m channel .number ≤ 12
+pub made-attends : {s : State} → MadeByCalls s → (m : Buffers) (channel : ℕ) → attentionOf s m channel .number ≤ 12
 made-attends {s} made m channel = attention-ready s m channel (made-powered made, made-agree made)
 
-pub made-steps : {s : State} → Made s → (m : Buffers) (lines : ℕ) → stepOf s m lines .number ≤ 12
+pub made-steps : {s : State} → MadeByCalls s → (m : Buffers) (lines : ℕ) → stepOf s m lines .number ≤ 12
 made-steps {s} made m lines = step-ready s m lines (made-powered made, made-agree made)
 
 -- ---- 3 and 4 in the rows' own words

@@ -28,12 +28,12 @@ use Rattle.ground_rules.specs.Compare.{matchOf}
 use Rattle.block_rules.specs.Premises.{Plain, Copy}
 use Rattle.block_rules.specs.Rows.{after, EndsAt}
 use Rattle.block_rules.specs.Totals.{narrow, alone, total}
-use Rattle.promises.specs.Witness.{channelWith, narrowAt, narrowEnd, wideAt, wideEnd, memoryWith, six, memoryStart}
+use Rattle.promises.specs.Witness.{runningWith, narrowAt, narrowEnd, wideAt, wideEnd, memoryWith, six, memoryStart}
 use Rattle.block_rules.proofs.Demand3.{demand3}
 
 -- every premise on a channel, both widths 8
 narrow-plain : Plain (narrowAt 0 16 5)
-unfolding channelWith isRunning soundChannel fieldsAgree sameFields sameFlag bitOf fieldOf split
+unfolding runningWith isRunning soundChannel fieldsAgree sameFields sameFlag bitOf fieldOf split
 narrow-plain =
     record {
       runs = refl;
@@ -52,7 +52,7 @@ narrow-plain =
 
 -- and both 16
 wide-plain : Plain (wideAt 8 0 5)
-unfolding channelWith isRunning soundChannel fieldsAgree sameFields sameFlag bitOf fieldOf split
+unfolding runningWith isRunning soundChannel fieldsAgree sameFields sameFlag bitOf fieldOf split
 wide-plain =
     record {
       runs = refl;
@@ -71,7 +71,7 @@ wide-plain =
 
 -- every premise on the start, both widths 8
 pub narrow-met : Copy 5 (narrowAt 0 16 5) memoryStart
-unfolding channelWith memoryWith source destination bitOf span allPass touchableAt lentAt spaceOf indexOf limitOf split
+unfolding runningWith memoryWith source destination bitOf span allPass touchableAt lentAt spaceOf indexOf limitOf split
 narrow-met =
     record {
       plain = narrow-plain;
@@ -85,7 +85,7 @@ narrow-met =
 
 -- and both 16, in one space
 pub wide-met : Copy 5 (wideAt 8 0 5) memoryStart
-unfolding channelWith memoryWith source destination bitOf span allPass touchableAt lentAt spaceOf indexOf limitOf split
+unfolding runningWith memoryWith source destination bitOf span allPass touchableAt lentAt spaceOf indexOf limitOf split
 wide-met =
     record {
       plain = wide-plain;
@@ -99,12 +99,12 @@ wide-met =
 
 -- a transfer step with all that it is made of laid open, so that it computes
 unfoldable pub transferOpen : Channel → Buffers → Transfer
-unfolding channelWith memoryWith transferOf stepBy numberBy stagesBy partOf fetchesApart storesApart fetchPart storePart channelBy memoryBy touchedBy stagesNumber first unless badMode source destination readPlaces also entryOf storedPlaces placesOn allPass touchableAt lentAt spaceOf indexOf limitOf dataOf delivered fetched fetchedSecond twoMove wordSide secondAddress bitOf fieldOf storesTwo cutShort storedSingly firstMeets meetsTmc matchMet movedMemory putOn storeByte byteAt beyondIn movedChannel endedBy endedTP endedPSW movedBy withTransfer gained onward bytesMoved bytesStored bytesCounted countAfter endCode codeIf larger offsetOf withPsw withBit matchOf split
+unfolding runningWith memoryWith transferOf stepBy numberBy stagesBy partOf fetchesApart storesApart fetchPart storePart channelBy memoryBy touchedBy stagesNumber first unless badMode source destination readPlaces also entryOf storedPlaces placesOn allPass touchableAt lentAt spaceOf indexOf limitOf dataOf delivered fetched fetchedSecond twoMove wordSide secondAddress bitOf fieldOf storesTwo cutShort storedSingly firstMeets meetsTmc matchMet movedMemory putOn storeByte byteAt beyondIn movedChannel endedBy endedTP endedPSW movedBy withTransfer gained onward bytesMoved bytesStored bytesCounted countAfter endCode codeIf larger offsetOf withPsw withBit matchOf split
 transferOpen c m = transferOf c m
 
 -- both widths 8: the total is five
 pub narrow-total : total (narrowAt 0 16 5) 5 ≡ 5
-unfolding total narrow channelWith source destination bitOf split
+unfolding total narrow runningWith source destination bitOf split
 narrow-total = refl
 
 -- and five steps, computed, end it
@@ -114,7 +114,7 @@ narrow-run = refl
 
 -- both widths 16 and even: the total is three
 pub wide-total : total (wideAt 8 0 5) 5 ≡ 3
-unfolding total narrow alone channelWith source destination bitOf wordSide split
+unfolding total narrow alone runningWith source destination bitOf wordSide split
 wide-total = refl
 
 -- and three steps, computed, end it

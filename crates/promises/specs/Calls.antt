@@ -16,7 +16,7 @@ use Rattle.block_rules.specs.Stages.{Within, Going, Ended}
 use Rattle.block_rules.specs.Rows.{Untouched}
 
 -- a step call is a channel's turn: none of 12, 11, 10, 13 and 14 refuses it, and the choice falls on that channel
-pub record Turn (second : Bool) (s : State) (m : Buffers) (lines : ℕ) : Type 0 where
+pub record HasTurn (second : Bool) (s : State) (m : Buffers) (lines : ℕ) : Type 0 where
   pub entered : entryNumber s m lines ≡ 0
   pub chosen : choiceOf s lines ≡ Steps second
 
@@ -25,9 +25,9 @@ pub record Turn (second : Bool) (s : State) (m : Buffers) (lines : ℕ) : Type 0
 -- two leave both ranges alone
 pub data Calls (second : Bool) (n : ℕ) (s₀ : State) (m₀ : Buffers) : ℕ → State → Buffers → Type 0 where
   begin : Calls second n s₀ m₀ 0 s₀ m₀
-  transfer : {k : ℕ} {s : State} {m : Buffers} → Calls second n s₀ m₀ k s m → (lines : ℕ) → Turn second s m lines
+  transfer : {k : ℕ} {s : State} {m : Buffers} → Calls second n s₀ m₀ k s m → (lines : ℕ) → HasTurn second s m lines
       → transferring (channelOf s second .psw) ≡ true → Calls second n s₀ m₀ (suc k) ((stepOf s m lines) .state) ((stepOf s m lines) .memory)
-  step : {k : ℕ} {s : State} {m : Buffers} → Calls second n s₀ m₀ k s m → (lines : ℕ) → (Turn second s m lines → ⊥)
+  step : {k : ℕ} {s : State} {m : Buffers} → Calls second n s₀ m₀ k s m → (lines : ℕ) → (HasTurn second s m lines → ⊥)
       → Untouched (channelOf s₀ second) n m ((stepOf s m lines) .memory) → Calls second n s₀ m₀ k ((stepOf s m lines) .state) ((stepOf s m lines) .memory)
   attention : {k : ℕ} {s : State} {m : Buffers} → Calls second n s₀ m₀ k s m → (channel : ℕ) → (channel ≡ channelNumber second → ⊥)
       → Untouched (channelOf s₀ second) n m ((attentionOf s m channel) .memory) → Calls second n s₀ m₀ k ((attentionOf s m channel) .state) ((attentionOf s m channel) .memory)
@@ -43,5 +43,5 @@ pub record Moves (second : Bool) (n : ℕ) (s₀ s : State) (m : Buffers) (lines
 -- the transfer ends at the k-th of the channel's transfer steps, and not before; before, each step call that is its turn is such a step, and done
 pub record EndsAtCall (second : Bool) (n : ℕ) (s₀ : State) (m₀ : Buffers) (k : ℕ) : Type 0 where
   pub before : {j : ℕ} {s : State} {m : Buffers} → Calls second n s₀ m₀ j s m → j < k → Going n (channelOf s₀ second) m₀ j (channelOf s second) m
-  pub turns : {j : ℕ} {s : State} {m : Buffers} → Calls second n s₀ m₀ j s m → j < k → (lines : ℕ) → Turn second s m lines → Moves second n s₀ s m lines
+  pub turns : {j : ℕ} {s : State} {m : Buffers} → Calls second n s₀ m₀ j s m → j < k → (lines : ℕ) → HasTurn second s m lines → Moves second n s₀ s m lines
   pub then : {s : State} {m : Buffers} → Calls second n s₀ m₀ k s m → Ended n (channelOf s₀ second) m₀ (channelOf s second) m

@@ -17,7 +17,7 @@ use Rattle.attention_rules.specs.Attention.{attentionOf}
 use Rattle.transfer_rules.specs.Sides.{source, destination}
 use Rattle.turn_rules.specs.Ranks.{RankThree}
 use Rattle.turn_rules.specs.Step.{stepOf}
-use Rattle.promises.specs.Calls.{Turn, EndsAtCall}
+use Rattle.promises.specs.Calls.{HasTurn, EndsAtCall}
 use Rattle.block_rules.specs.Premises.{from, into, Lent, Copy}
 
 -- ---- bytes, instructions and pointers
@@ -29,7 +29,7 @@ pub record Stand (m : Buffers) (p : Pointer) (bytes : List ℕ) : Type 0 where
 
 -- a step call is a channel's turn to execute, and these bytes stand at its TP
 pub record Executes (second : Bool) (s : State) (m : Buffers) (lines : ℕ) (code : List ℕ) : Type 0 where
-  pub turn : Turn second s m lines
+  pub turn : HasTurn second s m lines
   pub program : transferring (channelOf s second .psw) ≡ false
   pub there : Stand m (channelOf s second .tp) code
 

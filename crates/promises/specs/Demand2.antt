@@ -12,7 +12,7 @@ use Rattle.ground_rules.specs.declared.State.{State}
 use Rattle.ground_rules.specs.Outcomes.{outcome}
 use Rattle.ground_rules.specs.Psw.{transferring}
 use Rattle.ground_rules.specs.States.{channelOf, withChannel, blockOf, busyIn, isSecond, channelNumber}
-use Rattle.attention_rules.specs.Attention.{orderTo, orderedChannel, orderedMemory, attentionOf}
+use Rattle.attention_rules.specs.Attention.{orderTo, channelAttended, orderedMemory, attentionOf}
 use Rattle.attention_rules.specs.Touched.{storedBy}
 use Rattle.transfer_rules.specs.Ends.{externallyEnded}
 use Rattle.transfer_rules.specs.Steps.{transferOf}
@@ -44,7 +44,7 @@ pub record OnlyControl (before after : Channel) : Type 0 where
 pub record AttentionDoes (s : State) (m : Buffers) (channel : ℕ) : Type 0 where
   -- an accepted one does what the order in its channel's block says, to that channel and to memory
   pub obeys : attentionOf s m channel .number ≡ 0
-      → attentionOf s m channel ≡ outcome 0 (withChannel s (isSecond channel) (orderedChannel s m (isSecond channel))) (orderedMemory s m (isSecond channel))
+      → attentionOf s m channel ≡ outcome 0 (withChannel s (isSecond channel) (channelAttended s m (isSecond channel))) (orderedMemory s m (isSecond channel))
   -- no register of the other channel changes
   pub other : (second : Bool) → channel ≡ channelNumber second → channelOf (attentionOf s m channel .state) (not second) ≡ channelOf s (not second)
   -- of its own channel it changes no register but TP, PP, PSW, the mode, the armed mark and the held byte (SheetAttention says which command keeps it)

@@ -24,8 +24,8 @@ pub data MadeIn (asked : Buffers → Type 0) : State → Type 0 where
   step : {s : State} → MadeIn asked s → (m : Buffers) (lines : ℕ) → MadeIn asked (stepOf s m lines .state)
 
 -- in any memories
-abbrev pub Made : State → Type 0
-Made s = MadeIn (λ m. Unit {0}) s
+abbrev pub MadeByCalls : State → Type 0
+MadeByCalls s = MadeIn (λ m. Unit {0}) s
 
 -- in memories of bytes
 abbrev pub MadeOfBytes : State → Type 0

@@ -15,8 +15,8 @@ use Rattle.ground_rules.specs.Cc.{split}
 use Rattle.ground_rules.specs.States.{boardWith, idleChannel}
 
 -- a running channel with these registers and the fields of its CC; the others are 0
-unfoldable pub channelWith : Pointer → Pointer → ℕ → ℕ → ℕ → ℕ → Channel
-channelWith ga gb tp bc cc psw =
+unfoldable pub runningWith : Pointer → Pointer → ℕ → ℕ → ℕ → ℕ → Channel
+runningWith ga gb tp bc cc psw =
     record {
       ga = ga;
       gb = gb;
@@ -36,19 +36,19 @@ channelWith ga gb tp bc cc psw =
 
 -- both widths 8 (PSW 44h: TB and XF), from GA to GB, CC C010h: both sides move on, TBC 10 (offset 4)
 abbrev pub narrowAt : ℕ → ℕ → ℕ → Channel
-narrowAt ga gb bc = channelWith (pointer ga false) (pointer gb true) 256 bc 49168 68
+narrowAt ga gb bc = runningWith (pointer ga false) (pointer gb true) 256 bc 49168 68
 
 -- at its end TP is on by 4 and XF clear
 abbrev pub narrowEnd : Channel
-narrowEnd = channelWith (pointer 5 false) (pointer 21 true) 260 0 49168 4
+narrowEnd = runningWith (pointer 5 false) (pointer 21 true) 260 0 49168 4
 
 -- both widths 16 (PSW 47h), both sides even, from GB to GA, CC C418h: TBC 11 (offset 8)
 abbrev pub wideAt : ℕ → ℕ → ℕ → Channel
-wideAt ga gb bc = channelWith (pointer ga false) (pointer gb false) 512 bc 50200 71
+wideAt ga gb bc = runningWith (pointer ga false) (pointer gb false) 512 bc 50200 71
 
 -- at its end TP is on by 8 and XF clear
 abbrev pub wideEnd : Channel
-wideEnd = channelWith (pointer 13 false) (pointer 5 false) 520 0 50200 7
+wideEnd = runningWith (pointer 13 false) (pointer 5 false) 520 0 50200 7
 
 -- both memories, of which the six bytes from system address 8 and those from I/O address 16 are told
 unfoldable pub memoryWith : List ℕ → List ℕ → Buffers
@@ -69,7 +69,7 @@ bothWith c d last = record { first = c; second = d; cp = 0; last = last; board =
 
 -- channel 1 runs a program at an address of system memory with its registers at 0, channel 2 is idle
 abbrev pub programAt : ℕ → State
-programAt tp = bothWith (channelWith (pointer 0 false) (pointer 0 false) tp 0 0 4) idleChannel true
+programAt tp = bothWith (runningWith (pointer 0 false) (pointer 0 false) tp 0 0 4) idleChannel true
 
 -- zeros up to an address, then these bytes
 abbrev pub bytesFrom : ℕ → List ℕ → Buffers

@@ -8,7 +8,7 @@ use borrow.Author.Tests.{not-true, eqb-true}
 use Rattle.ground_rules.specs.{Bits.fieldOf, Choice.pick}
 use Rattle.instruction_rules.specs.{declared.Memory.Memory, declared.Pair.Pair, declared.Shape.Shape, declared.Shape.the-variants.MovMemory, Pairs.pairOf, Lengths.offsetLength, Lengths.lengthOf}
 use Rattle.instruction_rules.proofs.LengthLaws.{bounded}
-use Rattle.listing_rules.specs.{declared.Slot.Slot, declared.Slot.the-variants.Empty, declared.Slot.the-variants.Name, declared.Slot.the-variants.Place, declared.Slot.the-variants.Number, declared.Slot.the-variants.Target, declared.Slot.the-variants.Digit, Characters.sameText, Mnemonics.isListed, Mnemonics.mnemonicOf, Forms.afterOffset, Forms.slotsOf, Forms.filled, Forms.following, Lines.instructionLine, Entries.Kind, Entries.Entry, Entries.entries}
+use Rattle.listing_rules.specs.{declared.Slot.Slot, declared.Slot.the-variants.Empty, declared.Slot.the-variants.Name, declared.Slot.the-variants.Place, declared.Slot.the-variants.Number, declared.Slot.the-variants.Target, declared.Slot.the-variants.Digit, Characters.sameText, Mnemonics.isListed, Mnemonics.mnemonicOf, Forms.afterOffset, Forms.slotsOf, Forms.filled, Forms.following, Lines.instructionLine, Entries.OperandKind, Entries.Entry, Entries.entries}
 use Rattle.listing_rules.specs.{Items.toOf, Back.pairFrom, Back.pairBack, Back.operandsOf}
 use Rattle.listing_rules.specs.Forms as Forms
 use Rattle.listing_rules.proofs.{SpellingLaws.present, SpellingLaws.marks, SpellingLaws.Fair, SpellingLaws.Bytes, EntryLaws.Known, EntryLaws.known, RowLaws.WholeAt, BackLaws.slotBytes, BackLaws.spread, BackLaws.fill, BackLaws.all-covered, BackLaws.listed, BackLaws.chained, BackLaws.secondPair, BackLaws.second-fields, BackLaws.isMove, BackLaws.other-shape, BackLaws.Pairs, BackLaws.pairs, Unlisting.spoken-line, Unlisting.spoken-free, Unlisting.free}
@@ -46,10 +46,10 @@ no-length (b ∷ l) h = absurd (omega arith)
 
 module _ (labels : List Label) (bytes : List ℕ) (end E : ℕ) where
   -- the places of a line as they are meant, where the instruction ends at E
-  record Told (ks : List Kind) (places : List Slot) (ws : List Written) : Type 0 where
+  record Told (ks : List OperandKind) (places : List Slot) (ws : List Written) : Type 0 where
     parted : Parted (fill bytes end places)
     written : operandsFrom (spokenParts (present (fill bytes end places))) ≡ ws
-    taking : (ls : List Kind) → takesAll ls ws ≡ takesAll ls (draws (present (fill bytes end places)))
+    taking : (ls : List OperandKind) → takesAll ls ws ≡ takesAll ls (draws (present (fill bytes end places)))
     shallow : allShallow ws ≡ true
     known : namesKnown labels ws ≡ true
     stands : allStand labels E ks ws ≡ true
@@ -64,14 +64,14 @@ module _ (labels : List Label) (bytes : List ℕ) (end E : ℕ) where
       record { parted = parted-none (fill bytes end places) (b .text) (b .there); written = rw (b .there); taking = λ ls. rw (b .there); shallow = refl; known = refl; stands = refl; bare = λ n. refl; joined = λ o. b .none; same = rw (b .there) Alike.nothing }
 
   -- offsets and numbers in one more place: where it has a number, none of the later ones is memory
-  join-next : (k : Kind) (ks : List Kind) (v : ℕ) (o os ns here later : List ℕ) → o ++ numberBytes k E v ≡ here → os ++ ns ≡ later → (allFail isMemoryKind ks ≡ true → os ≡ []) → eqb (kindSize k) 0 || allFail isMemoryKind ks ≡ true → (o ++ os) ++ (numberBytes k E v ++ ns) ≡ here ++ later
+  join-next : (k : OperandKind) (ks : List OperandKind) (v : ℕ) (o os ns here later : List ℕ) → o ++ numberBytes k E v ≡ here → os ++ ns ≡ later → (allFail isMemoryKind ks ≡ true → os ≡ []) → eqb (kindSize k) 0 || allFail isMemoryKind ks ≡ true → (o ++ os) ++ (numberBytes k E v ++ ns) ≡ here ++ later
   join-next k ks v o os ns here later p q none h = rw (← p, ← q) (go (eqb (kindSize k) 0) refl h)
     where
       go : (b : Bool) → eqb (kindSize k) 0 ≡ b → b || allFail isMemoryKind ks ≡ true → (o ++ os) ++ (numberBytes k E v ++ ns) ≡ (o ++ numberBytes k E v) ++ (os ++ ns)
       go true e t = rw (no-length (numberBytes k E v) (number-size k E v ∙ eqb-true (kindSize k) 0 e)) (simp (append-assoc, append-nil))
       go false e t = rw (none t) (simp (append-assoc, append-nil))
 
-  told-next : (k : Kind) (ks : List Kind) (a : Slot) (places : List Slot) (w : Written) (ws : List Written) → Meant labels bytes end E k a w → Told ks places ws → Told (k ∷ ks) (a ∷ places) (w ∷ ws)
+  told-next : (k : OperandKind) (ks : List OperandKind) (a : Slot) (places : List Slot) (w : Written) (ws : List Written) → Meant labels bytes end E k a w → Told ks places ws → Told (k ∷ ks) (a ∷ places) (w ∷ ws)
   unfolding fill spread operandsFrom spokenParts draws takesAll allShallow namesKnown allStand allOffsets allNumbers listedAll orderly allFail
   told-next k ks a places w ws m t =
       let o = filled bytes end a in
@@ -88,11 +88,11 @@ module _ (labels : List Label) (bytes : List ℕ) (end E : ℕ) where
         same = rw there (m .same (t .same));
       }
     where
-      both-take : (ls : List Kind) → takesAll ls (w ∷ ws) ≡ takesAll ls (draw (filled bytes end a) ∷ draws (present (fill bytes end places)))
+      both-take : (ls : List OperandKind) → takesAll ls (w ∷ ws) ≡ takesAll ls (draw (filled bytes end a) ∷ draws (present (fill bytes end places)))
       both-take [] = refl
       both-take (l ∷ ls) = rw (m .taking l, t .taking ls)
 
-  told-all : Bytes bytes → E % 65536 ≡ end % 65536 → (ks : List Kind) (places : List Slot) → FairAll places → agreesAll ks places ≡ true → (ws : List Written) × Told ks places ws
+  told-all : Bytes bytes → E % 65536 ≡ end % 65536 → (ks : List OperandKind) (places : List Slot) → FairAll places → agreesAll ks places ≡ true → (ws : List Written) × Told ks places ws
   unfolding FairAll agreesAll
   told-all hb ends [] places f h = ([], told-none places h)
   told-all hb ends (k ∷ ks) [] f h = absurd (false≢true h)

@@ -9,7 +9,7 @@ use borrow.Author.Tests.{eqb-true, lt-ltb}
 use Rattle.ground_rules.specs.{Bytes.lowByte, Choice.pick, Signs.extended}
 use Rattle.instruction_rules.specs.declared.Memory.{Memory}
 use Rattle.listing_rules.specs.{declared.Slot.Slot, declared.Slot.the-variants.Empty, declared.Slot.the-variants.Name, declared.Slot.the-variants.Place, declared.Slot.the-variants.Number, declared.Slot.the-variants.Target, declared.Slot.the-variants.Digit, Characters.sameText, Characters.numberText, Forms.Operand, Forms.targetOf, Forms.wordBytes, Forms.filled, Forms.registerName, Forms.baseName, Forms.modeText, Forms.spelled, Forms.following}
-use Rattle.listing_rules.specs.{Forms.Operand.register, Forms.Operand.memory, Forms.Operand.number, Forms.Operand.digit, Entries.Kind, Entries.Kind.'R, Entries.Kind.'G, Entries.Kind.'P, Entries.Kind.'M, Entries.Kind.'byte, Entries.Kind.'word, Entries.Kind.'bit, Entries.Kind.'width, Entries.Kind.'short, Entries.Kind.'long}
+use Rattle.listing_rules.specs.{Forms.Operand.register, Forms.Operand.memory, Forms.Operand.number, Forms.Operand.digit, Entries.OperandKind, Entries.OperandKind.'R, Entries.OperandKind.'G, Entries.OperandKind.'P, Entries.OperandKind.'M, Entries.OperandKind.'byte, Entries.OperandKind.'word, Entries.OperandKind.'bit, Entries.OperandKind.'width, Entries.OperandKind.'short, Entries.OperandKind.'long}
 use Rattle.listing_rules.proofs.{SpellingLaws.each, SpellingLaws.present, SpellingLaws.Fair, SpellingLaws.Bytes, BackLaws.slotBytes}
 use Rattle.assembly_rules.specs.{Text.capitalOf, Text.isDigit, Text.isCapital, Text.isRun, Text.isBlank, Text.endsLine, Text.Token, Text.Token.run, Text.isComma, Text.inFrontOf, Text.begunBy, Text.tokensOf, Sums.Label, Sums.indexIn, Sums.registerNumber, Sums.scanFrom, Sums.depthOf, Sums.worth, Sums.sumWorth, Operands.Written, Operands.closedMemory, Operands.endedMemory, Operands.indexedMemory, Operands.memoryBehind, Operands.memoryFrom, Operands.operandFrom}
 use Rattle.assembly_rules.specs.{Operands.isMemoryKind, Operands.takesRegister, Operands.takes, Operands.isShallow, Statements.isByte, Statements.reachTo, Statements.isNear, Statements.mayStand, Statements.operandWorth, Statements.isDigitKind, Statements.listedAs, Statements.writtenOffset, Statements.numberBytes}
@@ -91,7 +91,7 @@ target-constant end x =
     subst (Constantly (numberText (wordBytes t))) e (word-constant (t % 256) (t / 256 % 256) (omega arith) (omega arith))
 
 -- a place for a register has no bytes of its own
-register-kind : (k : Kind) (r E : ℕ) → takesRegister k r ≡ true → (mayStand k E 0 ≡ true) × (numberBytes k E 0 ≡ [])
+register-kind : (k : OperandKind) (r E : ℕ) → takesRegister k r ≡ true → (mayStand k E 0 ≡ true) × (numberBytes k E 0 ≡ [])
 unfolding mayStand
 register-kind 'R r E h = (refl, refl)
 register-kind 'G r E h = (refl, refl)
@@ -110,9 +110,9 @@ either-way P false x y = y
 
 module _ (labels : List Label) (bytes : List ℕ) (end E : ℕ) where
   -- an operand as it is meant in its place, under any labels and where the instruction ends at E: it is taken as in the listing, may stand there, and has the bytes of the place
-  pub record Meant (k : Kind) (a : Slot) (w : Written) : Type 0 where
+  pub record Meant (k : OperandKind) (a : Slot) (w : Written) : Type 0 where
     pub heard : Heard (filled bytes end a) w
-    pub taking : (l : Kind) → takes l w ≡ takes l (draw (filled bytes end a))
+    pub taking : (l : OperandKind) → takes l w ≡ takes l (draw (filled bytes end a))
     pub shallow : isShallow w ≡ true
     pub known : operandWorth labels w .known ≡ true
     pub stands : mayStand k E (operandWorth labels w .value) ≡ true
@@ -121,7 +121,7 @@ module _ (labels : List Label) (bytes : List ℕ) (end E : ℕ) where
     pub same : {os ps : List Operand} → Alike os ps → Alike (listedAs labels k w ∷ os) (filled bytes end a ∷ ps)
 
   -- a number
-  valued : (k : Kind) (a : Slot) (v : ℕ) → ((os : List Operand) → present (filled bytes end a ∷ os) ≡ filled bytes end a ∷ present os) → ((m : ℕ) → following m (filled bytes end a) ≡ m ∷ spelled (filled bytes end a)) → draw (filled bytes end a) ≡ Written.value [] → Constantly (spelled (filled bytes end a)) v → mayStand k E v ≡ true → numberBytes k E v ≡ slotBytes bytes a
+  valued : (k : OperandKind) (a : Slot) (v : ℕ) → ((os : List Operand) → present (filled bytes end a ∷ os) ≡ filled bytes end a ∷ present os) → ((m : ℕ) → following m (filled bytes end a) ≡ m ∷ spelled (filled bytes end a)) → draw (filled bytes end a) ≡ Written.value [] → Constantly (spelled (filled bytes end a)) v → mayStand k E v ≡ true → numberBytes k E v ≡ slotBytes bytes a
       → ((os ps : List Operand) → Alike os ps → Alike (pick (isDigitKind k) (digit v) (number (wordBytes v)) ∷ os) (filled bytes end a ∷ ps)) → (w : Written) × Meant k a w
   unfolding allFail opens takes isShallow operandWorth listedAs
   valued k a v there behind drawn c stands nums same =
@@ -139,7 +139,7 @@ module _ (labels : List Label) (bytes : List ℕ) (end E : ℕ) where
         },
       )
 
-  named : (k : Kind) (r : ℕ) → r < 8 → takesRegister k r ≡ true → Meant k (Name r) (Written.register r)
+  named : (k : OperandKind) (r : ℕ) → r < 8 → takesRegister k r ≡ true → Meant k (Name r) (Written.register r)
   unfolding filled draw takes isShallow operandWorth slotBytes listedAs
   named k r f h =
       let t = register-kind k r E h in
@@ -166,7 +166,7 @@ module _ (labels : List Label) (bytes : List ℕ) (end E : ℕ) where
       }
 
   -- a place of a kind, as it is meant
-  pub meant : Bytes bytes → E % 65536 ≡ end % 65536 → (k : Kind) (a : Slot) → Fair a → agrees k a ≡ true → (w : Written) × Meant k a w
+  pub meant : Bytes bytes → E % 65536 ≡ end % 65536 → (k : OperandKind) (a : Slot) → Fair a → agrees k a ≡ true → (w : Written) × Meant k a w
   unfolding Bytes Fair agrees filled draw present following spelled slotBytes mayStand isByte targetOf
   meant hb ends k Empty f h = absurd (false≢true h)
   meant hb ends k (Name r) f h = (Written.register r, named k r f h)

@@ -7,8 +7,8 @@ use lib.{Dec.eqb, Dec.ltb, ListN.getD}
 use borrow.Author.Tests.{not-true, eqb-true, eqb-false}
 use Rattle.ground_rules.specs.{Bits.bitOf, Bits.fieldOf, Choice.pick}
 use Rattle.instruction_rules.specs.{declared.Memory.Memory, declared.Pair.Pair, declared.Shape.Shape, declared.Decoded.the-variants.Instruction, declared.Decoded.the-variants.ControlUsed, Pairs.meets, Pairs.pairOf, Rows.isControl, Table.SummaryRow, Table.table, Reading.fits, Reading.lookup, Reading.decodeOf}
-use Rattle.listing_rules.specs.{declared.Slot.Slot, declared.Slot.the-variants.Empty, declared.Slot.the-variants.Name, declared.Slot.the-variants.Place, declared.Slot.the-variants.Number, declared.Slot.the-variants.Target, declared.Slot.the-variants.Digit, Characters.ascii, Characters.sameText, Mnemonics.isJump, Mnemonics.isListed, Mnemonics.mnemonicOf, Forms.Operand, Forms.afterOffset, Forms.filled, Forms.slotsOf, Back.digitsIn, Back.rrrIn, Entries.Kind}
-use Rattle.listing_rules.specs.{Entries.Entry, Entries.entries, Entries.Kind.'R, Entries.Kind.'G, Entries.Kind.'P, Entries.Kind.'M, Entries.Kind.'byte, Entries.Kind.'word, Entries.Kind.'bit, Entries.Kind.'width, Entries.Kind.'short, Entries.Kind.'long, Back.mmIn, Back.aaIn, Forms.Operand.none, Forms.Operand.register, Forms.Operand.memory, Forms.Operand.number, Forms.Operand.digit}
+use Rattle.listing_rules.specs.{declared.Slot.Slot, declared.Slot.the-variants.Empty, declared.Slot.the-variants.Name, declared.Slot.the-variants.Place, declared.Slot.the-variants.Number, declared.Slot.the-variants.Target, declared.Slot.the-variants.Digit, Characters.ascii, Characters.sameText, Mnemonics.isJump, Mnemonics.isListed, Mnemonics.mnemonicOf, Forms.Operand, Forms.afterOffset, Forms.filled, Forms.slotsOf, Back.digitsIn, Back.rrrIn, Entries.OperandKind}
+use Rattle.listing_rules.specs.{Entries.Entry, Entries.entries, Entries.OperandKind.'R, Entries.OperandKind.'G, Entries.OperandKind.'P, Entries.OperandKind.'M, Entries.OperandKind.'byte, Entries.OperandKind.'word, Entries.OperandKind.'bit, Entries.OperandKind.'width, Entries.OperandKind.'short, Entries.OperandKind.'long, Back.mmIn, Back.aaIn, Forms.Operand.none, Forms.Operand.register, Forms.Operand.memory, Forms.Operand.number, Forms.Operand.digit}
 use Rattle.listing_rules.proofs.{SpellingLaws.present, BackLaws.fill, BackLaws.listed, BackLaws.isMove, EntryLaws.fitting}
 use Rattle.assembly_rules.specs.{Text.capitalOf, Text.capitals, Text.isDigit, Text.isCapital, Text.isRun, Text.endsLine, Operands.isMemoryKind, Operands.takesRegister, Operands.takes, Operands.takesAll, Operands.Chosen, Operands.Chosen.taken, Operands.Chosen.untaken, Operands.entryIn, Operands.hasWord, Statements.kindSize, Statements.memoriesIn, Operands.Written}
 use Rattle.assembly_rules.proofs.{ScanLaws.allFail, WritingLaws.allRun, WritingLaws.both-left, WritingLaws.both-right}
@@ -59,13 +59,13 @@ sketched bytes end (Target at two ∷ places) = numbers _ _ (sketched bytes end 
 sketched bytes end (Digit n ∷ places) = digits n (sketched bytes end places)
 
 -- the entry that is taken
-pub entry-taken : (es : List Entry) (word : List ℕ) (ws vs : List Written) → ((ks : List Kind) → takesAll ks ws ≡ takesAll ks vs) → entryIn es word ws ≡ entryIn es word vs
+pub entry-taken : (es : List Entry) (word : List ℕ) (ws vs : List Written) → ((ks : List OperandKind) → takesAll ks ws ≡ takesAll ks vs) → entryIn es word ws ≡ entryIn es word vs
 unfolding entryIn
 entry-taken [] word ws vs h = refl
 entry-taken (e ∷ es) word ws vs h = rw (h (e .kinds), entry-taken es word ws vs h)
 
 -- the kinds by number
-unfoldable pub kindNumber : Kind → ℕ
+unfoldable pub kindNumber : OperandKind → ℕ
 kindNumber 'R = 0
 kindNumber 'G = 1
 kindNumber 'P = 2
@@ -77,10 +77,10 @@ kindNumber 'width = 7
 kindNumber 'short = 8
 kindNumber 'long = 9
 
-kindAt : ℕ → Kind
+kindAt : ℕ → OperandKind
 kindAt n = getD ('R ∷ 'G ∷ 'P ∷ 'M ∷ 'byte ∷ 'word ∷ 'bit ∷ 'width ∷ 'short ∷ 'long ∷ []) n 'R
 
-kind-back : (k : Kind) → kindAt (kindNumber k) ≡ k
+kind-back : (k : OperandKind) → kindAt (kindNumber k) ≡ k
 unfolding kindAt kindNumber
 kind-back 'R = refl
 kind-back 'G = refl
@@ -93,15 +93,15 @@ kind-back 'width = refl
 kind-back 'short = refl
 kind-back 'long = refl
 
-unfoldable pub sameKind : Kind → Kind → Bool
+unfoldable pub sameKind : OperandKind → OperandKind → Bool
 sameKind k l = eqb (kindNumber k) (kindNumber l)
 
-pub same-kind : (k l : Kind) → sameKind k l ≡ true → k ≡ l
+pub same-kind : (k l : OperandKind) → sameKind k l ≡ true → k ≡ l
 unfolding sameKind
 same-kind k l h = sym (kind-back k) ∙ ap kindAt (eqb-true (kindNumber k) (kindNumber l) h) ∙ kind-back l
 
 -- whether a place is of a kind: a register that it takes, memory, a number of its width, a bit or a width
-unfoldable pub agrees : Kind → Slot → Bool
+unfoldable pub agrees : OperandKind → Slot → Bool
 agrees k Empty = false
 agrees k (Name r) = takesRegister k r
 agrees k (Place m at) = sameKind k 'M
@@ -114,13 +114,13 @@ isNone [] = true
 isNone (o ∷ os) = false
 
 -- places of these kinds, and empty ones behind them
-unfoldable pub agreesAll : List Kind → List Slot → Bool
+unfoldable pub agreesAll : List OperandKind → List Slot → Bool
 agreesAll [] places = isNone (sketch places)
 agreesAll (k ∷ ks) [] = false
 agreesAll (k ∷ ks) (a ∷ places) = agrees k a && agreesAll ks places
 
 -- no memory behind a number
-unfoldable pub orderly : List Kind → Bool
+unfoldable pub orderly : List OperandKind → Bool
 orderly [] = true
 orderly (k ∷ ks) = (eqb (kindSize k) 0 || allFail isMemoryKind ks) && orderly ks
 

@@ -28,7 +28,7 @@ use Rattle.ground_rules.proofs.ConditionLaws.{first-none-right}
 use Rattle.ground_rules.proofs.OutcomeLaws.{settled-number}
 use Rattle.attention_rules.proofs.{Outcomes.accepted-order, Outcomes.other-channel, Outcomes.shared-kept, SoundLaws.attention-agree}
 use Rattle.attention_rules.proofs.Stores as Attended
-use Rattle.attention_rules.specs.Attention.{orderTo, orderNumber, orderedChannel, givenTo, attentionNumber, attentionOf}
+use Rattle.attention_rules.specs.Attention.{orderTo, orderNumber, channelAttended, givenTo, attentionNumber, attentionOf}
 use Rattle.attention_rules.specs.{Commands.commandNumber, Touched.others, Touched.orderStages}
 use Rattle.turn_rules.proofs.OutcomeLaws.{other-kept, cp-kept, board-kept}
 use Rattle.turn_rules.proofs.SoundLaws.{sound-kept, entry-sound, entry-again, entry-agree, limits-kept, step-agree}
@@ -39,7 +39,7 @@ use Rattle.turn_rules.proofs.ChoosingLaws.{by-rank, rank-none, lower-rank-wins,
 use Rattle.turn_rules.specs.Choosing.{requested, noRank, rankOf}
 use Rattle.turn_rules.specs.Ranks.{HasRank, ExternalAt, rankAt}
 use Rattle.ground_rules.proofs.ChoiceLaws.{apart}
-use Rattle.promises.specs.Calls.{Turn, Calls, Moves, EndsAtCall, begin, transfer, step, attention, host}
+use Rattle.promises.specs.Calls.{HasTurn, Calls, Moves, EndsAtCall, begin, transfer, step, attention, host}
 use Rattle.promises_blocks.specs.Joined.{RunsAlone, Through}
 use Rattle.block_rules.specs.Premises.{into, Copy}
 use Rattle.promises.specs.Runs.{none, more}
@@ -73,7 +73,7 @@ module _ (b : Bool) (s : State) (m : Buffers) (lines : ℕ) (a : RunsAlone b s m
   unranked = rank-none (channelOf s (not b)) (requested lines (not b)) .1 (⊎-elim (λ k. still (k .0)) (λ k. still (k .0)))
 
   -- a channel that can step and that no line ends has its turn
-  alone-turn : HasRank (channelOf s b) (requested lines b) → ¬ (ExternalAt s lines b) → Turn b s m lines
+  alone-turn : HasRank (channelOf s b) (requested lines b) → ¬ (ExternalAt s lines b) → HasTurn b s m lines
   alone-turn h ne =
       record {
         entered = a .entered;
@@ -87,7 +87,7 @@ module _ (b : Bool) (s : State) (m : Buffers) (lines : ℕ) (a : RunsAlone b s m
     running = running-is (channelOf s b .mode) runs
 
     -- to execute
-    pub program-turn : transferring (channelOf s b .psw) ≡ false → Turn b s m lines
+    pub program-turn : transferring (channelOf s b .psw) ≡ false → HasTurn b s m lines
     program-turn x = alone-turn (go (channelOf s b .fields .chained) refl) (λ e. apart (sym (e .1) ∙ x))
       where
         go : (z : Bool) → channelOf s b .fields .chained ≡ z → HasRank (channelOf s b) (requested lines b)
@@ -95,12 +95,12 @@ module _ (b : Bool) (s : State) (m : Buffers) (lines : ℕ) (a : RunsAlone b s m
         go false e = inr (running, x, e)
 
     -- and to transfer, unsynchronised and with no external end
-    pub transfer-turn : transferring (channelOf s b .psw) ≡ true → channelOf s b .fields .synchronised ≡ 0 → channelOf s b .fields .externalEnd ≡ 0 → Turn b s m lines
+    pub transfer-turn : transferring (channelOf s b .psw) ≡ true → channelOf s b .fields .synchronised ≡ 0 → channelOf s b .fields .externalEnd ≡ 0 → HasTurn b s m lines
     transfer-turn x y z = alone-turn (inl (running, inl (x, inl y))) (λ e. e .2 z)
 
 -- so has one whose transfer is going on
 pub going-turn : {b : Bool} {n : ℕ} {c₀ : Channel} {m₀ : Buffers} {k : ℕ} {s : State} {m : Buffers} {lines : ℕ} → Copy n c₀ m₀
-    → Going n c₀ m₀ k (channelOf s b) m → RunsAlone b s m lines → Turn b s m lines
+    → Going n c₀ m₀ k (channelOf s b) m → RunsAlone b s m lines → HasTurn b s m lines
 going-turn {b} {n} {c₀} {k = k} {s} {m} {lines} p g a =
     let e = ap (λ (c : Channel). c .fields) (g .registers) ∙ mid-fields c₀ n (movedAfter c₀ n k) in
     transfer-turn b s m lines a (g .runs) (g .transfers) (ap (λ (f : Fields). f .synchronised) e ∙ p .plain .unsynchronised)
@@ -157,9 +157,9 @@ module _ (b : Bool) (s : State) (m : Buffers) where
 
   module _ (e : attentionOf s m (channelNumber b) .number ≡ 0) where
     -- it makes this of its channel
-    pub ordered-channel : channelOf (attentionOf s m (channelNumber b) .state) b ≡ orderedChannel s m b
+    pub ordered-channel : channelOf (attentionOf s m (channelNumber b) .state) b ≡ channelAttended s m b
     ordered-channel =
-        ap (λ (o : Outcome). channelOf (o .state) b) (accepted-order s m (channelNumber b) e) ∙ rw named (put-same s b (orderedChannel s m b))
+        ap (λ (o : Outcome). channelOf (o .state) b) (accepted-order s m (channelNumber b) e) ∙ rw named (put-same s b (channelAttended s m b))
 
     -- where that is sound, the channel is alone as before
     pub alone-attended : {lines : ℕ} → RunsAlone b s m lines → soundChannel (channelOf (attentionOf s m (channelNumber b) .state) b) ≡ true
@@ -167,7 +167,7 @@ module _ (b : Bool) (s : State) (m : Buffers) where
     alone-attended {lines} a h =
         let n = channelNumber b in
         let z = a .entered in
-        let fit = put-sound s b (orderedChannel s m b) (entry-sound s m lines z) (ap soundChannel (sym ordered-channel) ∙ h) in
+        let fit = put-sound s b (channelAttended s m b) (entry-sound s m lines z) (ap soundChannel (sym ordered-channel) ∙ h) in
         record {
           entered =
               entry-next s m lines _ _ z
@@ -179,7 +179,7 @@ module _ (b : Bool) (s : State) (m : Buffers) where
 -- ---- its instruction
 
 -- a turn without XF is the instruction, which is done
-pub instruction-done : (b : Bool) (s : State) (m : Buffers) (lines : ℕ) {c : Channel} {m′ : Buffers} → Turn b s m lines → transferring (channelOf s b .psw) ≡ false
+pub instruction-done : (b : Bool) (s : State) (m : Buffers) (lines : ℕ) {c : Channel} {m′ : Buffers} → HasTurn b s m lines → transferring (channelOf s b .psw) ≡ false
     → executeOf (channelOf s b) (busyIn (blockOf s b)) m ≡ executed 0 c m′ → stepOf s m lines ≡ doneStep s b c m′ Instruction
 unfolding instructionStep settledStep
 instruction-done b s m lines t x e =
@@ -209,7 +209,7 @@ module _ (b : Bool) (n : ℕ) (s₀ : State) (m₀ : Buffers) (lines : ℕ) (p :
     pub fields-on : channelOf (t .state) b .fields ≡ channelOf s₀ b .fields
     fields-on = ap (λ (c : Channel). c .fields) (going-on .registers) ∙ mid-fields (channelOf s₀ b) n (movedAfter (channelOf s₀ b) n k)
 
-    pub turn-on : Turn b (t .state) (t .memory) lines
+    pub turn-on : HasTurn b (t .state) (t .memory) lines
     turn-on = going-turn p going-on (t .alone)
 
     pub moves-on : Moves b n s₀ (t .state) (t .memory) lines

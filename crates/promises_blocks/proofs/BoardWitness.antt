@@ -30,7 +30,7 @@ use Rattle.promises.specs.Cases.{Stand}
 use Rattle.promises_blocks.specs.Image.{put, layoutOf, copyOf, imageIn}
 use Rattle.promises_blocks.specs.Met.{zerosOf, zeros}
 use Rattle.promises_blocks.specs.Powering.{RowPowered, topBytes, boardedImage, RowPoweredMet}
-use Rattle.promises_blocks.specs.Program.{Job, Layout, blockAt, doubleword, programOf, mostBy, Ready, RunCopies}
+use Rattle.promises_blocks.specs.Program.{Job, Layout, blockAt, doubleword, programOf, mostBy, JobReady, RunCopies}
 use Rattle.block_rules.specs.Stages.{Outside}
 use Rattle.promises.proofs.CaseLaws.{pointer-given}
 use Rattle.promises_blocks.proofs.CopyWitness.{zeros-within}

@@ -22,7 +22,7 @@ use Rattle.promises_blocks.specs.Joined.{RunsAlone}
 use Rattle.promises_blocks.specs.Met.{pswOf, copying, zerosOf, zeros, onlyIn, Met, CasesMet}
 use Rattle.block_rules.specs.Premises.{Plain, Copy}
 use Rattle.block_rules.specs.Totals.{total}
-use Rattle.promises.specs.Witness.{channelWith}
+use Rattle.promises.specs.Witness.{runningWith}
 use Rattle.promises_blocks.proofs.AloneLaws.{entered, put-ready, through}
 use Rattle.promises.proofs.CaseLaws.{total-8, total-even, total-odd, total-mixed}
 
@@ -49,12 +49,12 @@ zeros-within = within-of 1048576 (omega arith)
 module _ (from into : ℕ) (fromWide intoWide : Bool) (n : ℕ) (low : from < 1048576) (high : into < 1048576) where
   -- no pointer is past 20 bits
   sound-met : soundChannel (copying from into fromWide intoWide n) ≡ true
-  unfolding copying channelWith soundChannel split
+  unfolding copying runningWith soundChannel split
   sound-met = rw (lt-ltb from 1048576 low, lt-ltb into 1048576 high)
 
   -- every premise on the channel
   plain-met : Plain (copying from into fromWide intoWide n)
-  unfolding copying channelWith isRunning split bitOf fieldOf
+  unfolding copying runningWith isRunning split bitOf fieldOf
   plain-met =
       record {
         runs = refl;
@@ -80,7 +80,7 @@ module _ (from into : ℕ) (fromWide intoWide : Bool) (n : ℕ) (low : from < 10
 -- every premise on the start
 pub copy-met : (from into : ℕ) (fromWide intoWide : Bool) (n : ℕ) → 1 ≤ n → n ≤ 65536 → from + n ≤ into → into + n ≤ 1048576
     → Copy n (copying from into fromWide intoWide n) zeros
-unfolding copying channelWith source destination bitOf indexOf limitOf split
+unfolding copying runningWith source destination bitOf indexOf limitOf split
 copy-met from into fromWide intoWide n some most before fits =
     record {
       plain = plain-met from into fromWide intoWide n (omega arith) (omega arith);
@@ -116,7 +116,7 @@ module _ (b : Bool) (c : Channel) (q : soundChannel c ≡ true) (a : fieldsAgree
 met : {sides : Channel → Type 0} {count steps : ℕ} (b : Bool) (from into : ℕ) (fromWide intoWide : Bool) (n : ℕ) → 1 ≤ n → n ≤ 65536
     → from + n ≤ into → into + n ≤ 1048576 → n % 65536 ≡ count → sides (copying from into fromWide intoWide n)
     → total (copying from into fromWide intoWide n) n ≡ steps → Met sides count steps b
-unfolding copying channelWith split
+unfolding copying runningWith split
 met {sides} b from into fromWide intoWide n some most before fits first such e =
     record {
       state = onlyIn b c;
@@ -147,26 +147,26 @@ met {sides} b from into fromWide intoWide n some most before fits first such e =
 module _ (b : Bool) (n : ℕ) (some : 1 ≤ n) (most : n ≤ 65536) where
   -- both widths 8
   met-8 : Met Both8 (n % 65536) n b
-  unfolding copying channelWith source destination bitOf split
+  unfolding copying runningWith source destination bitOf split
   met-8 = met b 0 65536 false false n some most (omega arith) (omega arith) refl (refl, refl) (total-8 (copying 0 65536 false false n) n (refl, refl) some)
 
   -- both 16 and even
   met-even : Met Both16Even (n % 65536) ((n + 1) / 2) b
-  unfolding copying channelWith source destination bitOf split
+  unfolding copying runningWith source destination bitOf split
   met-even =
       met b 0 65536 true true n some most (omega arith) (omega arith) refl ((refl, refl), refl, refl)
       (total-even (copying 0 65536 true true n) n ((refl, refl), refl, refl) some)
 
   -- both 16 and odd
   met-odd : Met Both16Odd (n % 65536) (1 + n / 2) b
-  unfolding copying channelWith source destination bitOf split
+  unfolding copying runningWith source destination bitOf split
   met-odd =
       met b 1 65537 true true n some most (omega arith) (omega arith) refl ((refl, refl), refl, refl)
       (total-odd (copying 1 65537 true true n) n ((refl, refl), refl, refl) some)
 
   -- from 16 at an odd address into 8
   met-mixed : Met From16OddInto8 (n % 65536) (1 + n / 2) b
-  unfolding copying channelWith source destination bitOf split
+  unfolding copying runningWith source destination bitOf split
   met-mixed =
       met b 1 65537 true false n some most (omega arith) (omega arith) refl (refl, refl, refl)
       (total-mixed (copying 1 65537 true false n) n (refl, refl, refl) some)

@@ -24,7 +24,7 @@ use Rattle.promises.specs.Cases.{Stand}
 use Rattle.promises_blocks.specs.Image.{put, WholeSystem, layoutOf, copyOf, imageIn, ReadyMet}
 use Rattle.promises_blocks.specs.Met.{zerosOf, zeros}
 use Rattle.block_rules.specs.Premises.{Lent}
-use Rattle.promises_blocks.specs.Program.{Job, Layout, systemPlace, fromPlace, intoPlace, blockAt, busyAt, doubleword, programOf, mostBy, mostOf, Ready, RunCopies, runIn, RowMade}
+use Rattle.promises_blocks.specs.Program.{Job, Layout, systemPlace, fromPlace, intoPlace, blockAt, busyAt, doubleword, programOf, mostBy, mostOf, JobReady, RunCopies, runIn, RowMade}
 use Rattle.block_rules.specs.Stages.{Outside}
 use Rattle.promises_blocks.proofs.CopyWitness.{zeros-within}
 use Rattle.promises_blocks.proofs.Showpiece.{fits-exactly, showpiece, row-made}
@@ -201,7 +201,7 @@ module _ (m : Buffers) (whole : WholeSystem m) (fit : ¬ (TooLong m)) (b fromOdd
       (whole-put m₂ 0x10 (doubleword 0x20 0) (whole-put m₁ (blockAt l + 2) (doubleword 0x10 0) (whole-put m (blockAt l) (0x03 ∷ []) whole)))
 
   -- so the image is ready, with the largest limit
-  ready : 1 ≤ n → n ≤ mostOf j → lines < 16 → Ready j l (imageIn m j l) lines 65535
+  ready : 1 ≤ n → n ≤ mostOf j → lines < 16 → JobReady j l (imageIn m j l) lines 65535
   ready some most few =
       let fits : n ≤ 65536 = omega (arith, most, most-low fromWide intoWide) in
       let x = fromPlace j .address in
@@ -245,7 +245,7 @@ module _ (b fromOdd intoOdd fromWide intoWide : Bool) (n : ℕ) (some : 1 ≤ n)
   abbrev image : Buffers
   image = imageIn zeros copied (layoutOf b)
 
-  zeros-ready : Ready copied (layoutOf b) image 0 65535
+  zeros-ready : JobReady copied (layoutOf b) image 0 65535
   zeros-ready =
       ready-met zeros (omega (arith, zeros-whole 1048576)) (told-limits zeros .holds zeros-within) b fromOdd intoOdd fromWide intoWide n 0 some most (lit< tt)
 

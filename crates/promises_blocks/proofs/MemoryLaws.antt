@@ -16,7 +16,7 @@ use Rattle.sweep_rules.specs.Conditions.{RangeLent}
 use Rattle.block_rules.proofs.HeldLaws.{held-start, copy-one}
 use Rattle.turn_rules.proofs.SoundLaws.{limits-kept}
 use Rattle.block_rules.specs.Premises.{Lent, ShareNone}
-use Rattle.block_rules.specs.Stages.{Held, Outside, Within}
+use Rattle.block_rules.specs.Stages.{RangesHeld, Outside, Within}
 use Rattle.sweep_rules.proofs.PassedLaws.{length-most}
 use Rattle.sweep_rules.proofs.RangeLaws.{index-on}
 
@@ -74,7 +74,7 @@ module _ (m : Buffers) (q : Pointer) (n : ℕ) (w : withinLimits m ≡ true) (r 
 
 module _ (m : Buffers) (p q : Pointer) (n : ℕ) (most : n ≤ 65536) (apart : ShareNone p q n) (fl : Lent m p n) (il : Lent m q n) where
   -- when j bytes have been put, just those have arrived
-  pub copied-held : (j : ℕ) → j ≤ n → Held p q n m j (copiedOn m p q j)
+  pub copied-held : (j : ℕ) → j ≤ n → RangesHeld p q n m j (copiedOn m p q j)
   unfolding copiedOn
   copied-held zero h = held-start p q n m fl il
   copied-held (suc j) h = rw add-one at (copy-one p q n m j (copiedOn m p q j) apart most h (copied-held j (omega arith)))

@@ -34,7 +34,7 @@ use Rattle.sweep_rules.specs.Plainly.{plainly}
 use Rattle.sweep_rules.specs.Sweep.{Sweep, sweptTo}
 use Rattle.promises_blocks.proofs.AloneLaws.{going-on, fields-on, turn-on, moves-on, through-next, through}
 use Rattle.promises.proofs.MachineLaws.{demand3-calls}
-use Rattle.promises.specs.Calls.{Turn}
+use Rattle.promises.specs.Calls.{HasTurn}
 use Rattle.promises_blocks.specs.Joined.{RunsAlone, Through}
 
 -- ---- the bytes that one of them touches
@@ -43,7 +43,7 @@ twice : (two : Bool) → accesses two two false ≡ 2 * pick two 2 1
 twice true = refl
 twice false = refl
 
-step-touches : (b : Bool) (s : State) (m : Buffers) (lines : ℕ) → Turn b s m lines → transferring (channelOf s b .psw) ≡ true → (stepOf s m lines) .number ≡ 0
+step-touches : (b : Bool) (s : State) (m : Buffers) (lines : ℕ) → HasTurn b s m lines → transferring (channelOf s b .psw) ≡ true → (stepOf s m lines) .number ≡ 0
     → Block (channelOf s b .fields) → channelOf s b .fields .synchronised ≡ 0 → stepCount s m lines ≡ 2 * stride (channelOf s b)
 unfolding stepCount touchedByStep touchedIn touchedByTransfer
 step-touches b s m lines t x z k free =

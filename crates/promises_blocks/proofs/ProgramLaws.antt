@@ -36,7 +36,7 @@ use Rattle.promises_blocks.specs.Program.{Job, systemPlace, fromPlace, i
 use Rattle.promises.specs.Runs.{DoneSteps, more}
 use Rattle.block_rules.specs.Stages.{onBy}
 use Rattle.block_rules.specs.Totals.{narrow, alone, total, movedAfter}
-use Rattle.promises.specs.Witness.{channelWith}
+use Rattle.promises.specs.Witness.{runningWith}
 use Rattle.promises_blocks.proofs.AloneLaws.{program-turn, alone-next, instruction-done}
 use Rattle.promises_blocks.proofs.Joined.{busy-same}
 use Rattle.promises_blocks.proofs.ProgramSteps.{View, view, viewOf, After, lpdi-ga, lpdi-gb, movi-bc, movi-cc, xfer-arms, wid-begins}
@@ -220,7 +220,7 @@ copier j = copying (fromPlace j .address) (intoPlace j .address) (j .fromWide) (
 -- so they are the job's
 pub total-is : (j : Job) (tp : Pointer) (c : Channel) → viewOf c ≡ begins j tp → fieldsAgree c ≡ true
     → (total c (j .count) ≡ stepsOf j) × ((k : ℕ) → movedAfter c (j .count) k ≡ movedAfter (copier j) (j .count) k)
-unfolding copying channelWith
+unfolding copying runningWith
 total-is j tp c seen a =
     let d = copier j in
     let e = agrees d refl in

@@ -10,7 +10,7 @@ use native.Mathlib.Nat.{add-zero, mod-lt, mod-add-mod}
 use native.Mathlib.Omega.{arith}
 use Rattle.ground_rules.specs.Updates.{withControl}
 use Rattle.attention_rules.proofs.Outcomes.{accepted-order}
-use Rattle.attention_rules.specs.Attention.{orderTo, orderedChannel, orderedMemory, attentionOf}
+use Rattle.attention_rules.specs.Attention.{orderTo, channelAttended, orderedMemory, attentionOf}
 use Rattle.ground_rules.proofs.ChannelLaws.{put-same, put-cp, fresh-sound, named, sound-channel-of, controlled-sound}
 use Rattle.ground_rules.proofs.{BitLaws.bit-same, BitLaws.bit-other, ConditionLaws.told-limits, FieldLaws.blank-agree}
 use Rattle.ground_rules.specs.Conditions.{TooLong}
@@ -205,12 +205,12 @@ module _ {s : State} {b : Bool} {m : Buffers} {lines pb program : ℕ} (a : Runs
 
   -- so it does what the order says
   pub begun : Begun s b m lines program
-  unfolding order orderedChannel channelOrdered commanded started withControl
+  unfolding order channelAttended channelOrdered commanded started withControl
   begun =
-      let is : orderedChannel s m b ≡ channelOrdered m order c = ap (λ (o : Order). channelOrdered m o c) order-is in
+      let is : channelAttended s m b ≡ channelOrdered m order c = ap (λ (o : Order). channelOrdered m o c) order-is in
       let given =
       accepted-order s m (channelNumber b) accepted
-      ∙ ap (λ (x : Bool). outcome 0 (withChannel s x (orderedChannel s m x)) (orderedMemory s m x)) (named b)
+      ∙ ap (λ (x : Bool). outcome 0 (withChannel s x (channelAttended s m x)) (orderedMemory s m x)) (named b)
       ∙ ap₂ (λ (d : Channel) (n : Buffers). outcome 0 (withChannel s b d) n) is memory-is in
       let attended = alone-attended b s m accepted a (ap soundChannel (ordered-channel b s m accepted ∙ is) ∙ sound-is) in
       record {

@@ -38,11 +38,11 @@ use Rattle.promises.specs.Cases.{Stand}
 use Rattle.promises_blocks.specs.Joined.{endOf, Comes, Halted}
 use Rattle.promises_blocks.specs.Met.{copying}
 use Rattle.block_rules.specs.Premises.{from, into, Lent, ShareNone, Copy}
-use Rattle.promises_blocks.specs.Program.{Job, Layout, fromPlace, intoPlace, pbPlace, programPlace, blockAt, busyAt, programOf, haltAt, stepsOf, Ready, BlockMoved, RunCopies, CallCopies, runIn, Showpiece, ShowpieceCall, RowMade, mostBy, FitsExactly}
+use Rattle.promises_blocks.specs.Program.{Job, Layout, fromPlace, intoPlace, pbPlace, programPlace, blockAt, busyAt, programOf, haltAt, stepsOf, JobReady, BlockMoved, RunCopies, CallCopies, runIn, Showpiece, ShowpieceCall, RowMade, mostBy, FitsExactly}
 use Rattle.promises.specs.Runs.{DoneSteps, firstAttention, startChecks, none}
 use Rattle.block_rules.specs.Stages.{onBy, Outside}
 use Rattle.block_rules.specs.Totals.{narrow, total, movedAfter}
-use Rattle.promises.specs.Witness.{channelWith}
+use Rattle.promises.specs.Witness.{runningWith}
 use Rattle.promises.specs.Unique.{CallMeets}
 use Rattle.promises.proofs.Determined.{call-meets}
 use Rattle.run_call.proofs.iop89_run.Kinds as call-kinds
@@ -60,7 +60,7 @@ use Rattle.promises.proofs.StandLaws.{on-index, stand-on, stand-kept}
 apart-back : (t : Bool) (a : ℕ) (u : Bool) (b : ℕ) → Apart t a u b → Apart u b t a
 apart-back t a u b h e x = h (sym e) (sym x)
 
-module _ {j : Job} {l : Layout} {m : Buffers} {lines limit : ℕ} (r : Ready j l m lines limit) where
+module _ {j : Job} {l : Layout} {m : Buffers} {lines limit : ℕ} (r : JobReady j l m lines limit) where
   -- ---- the start
 
   abbrev b : Bool
@@ -280,7 +280,7 @@ showpiece-call j l m lines limit answer sys io r e =
 -- and so of the contract that the prover made of it: what C gets where it passes such an image, its CP and its channel
 pub showpiece-called : (κs : Lfts 2) (a : Dens κs call-kinds.ps) (r : resT call-kinds.r κs .Denot) (e : AtExit (endedOf 2 call-kinds.ps call-kinds.r) κs) → call-reads.Post κs a r e
     → (j : Job) (l : Layout) → a .1 .1 .0 ≡ l .cp → a .1 .1 .1 .0 ≡ channelNumber (l .second)
-    → Ready j l (buffers (now (a .0)) (now (a .1 .0))) (a .1 .1 .1 .1 .0) (a .1 .1 .1 .1 .1 .0)
+    → JobReady j l (buffers (now (a .0)) (now (a .1 .0))) (a .1 .1 .1 .1 .0) (a .1 .1 .1 .1 .1 .0)
     → CallCopies j l (buffers (now (a .0)) (now (a .1 .0))) r (now (e .0)) (now (e .1 .0))
 showpiece-called κs a r e p j l cp channel ready =
     let m = buffers (now (a .0)) (now (a .1 .0)) in
@@ -291,7 +291,7 @@ showpiece-called κs a r e p j l cp channel ready =
     (subst (λ (k : ℕ). CallMeets m (a .1 .1 .0) k lines limit r (now (e .0)) (now (e .1 .0))) channel (call-meets κs a r e p)))
 
 -- with demand 3's row in it, made by fresh, attention and XFER
-pub row-made : (j : Job) (l : Layout) (m : Buffers) (lines limit : ℕ) → Ready j l m lines limit → RowMade j l m lines
+pub row-made : (j : Job) (l : Layout) (m : Buffers) (lines limit : ℕ) → JobReady j l m lines limit → RowMade j l m lines
 row-made j l m lines limit r = row r
 
 -- ---- what fits
@@ -306,7 +306,7 @@ wide-fits c n e most = go (wordSide (source c) || wordSide (destination c)) refl
 
 -- so the widths alone say what fits the largest limit
 sides-fit : (from into : ℕ) (s d : Bool) (n : ℕ) → 1 ≤ n → n ≤ 65536 → (total (copying from into s d n) n + 8 ≤ 65535) ↔ (n ≤ mostBy s d)
-unfolding narrow copying channelWith source destination bitOf
+unfolding narrow copying runningWith source destination bitOf
 sides-fit from into true true n some most = (λ h. most, λ h. omega (arith, wide-fits (copying from into true true n) n refl most))
 sides-fit from into true false n some most = (λ h. most, λ h. omega (arith, wide-fits (copying from into true false n) n refl most))
 sides-fit from into false true n some most = (λ h. most, λ h. omega (arith, wide-fits (copying from into false true n) n refl most))

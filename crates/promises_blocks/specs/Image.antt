@@ -6,7 +6,7 @@ use lib.ListN.{length}
 use Rattle.ground_rules.specs.Choice.{pick}
 use Rattle.ground_rules.specs.Buffers.{Buffers, spaceOf, storeByte}
 use Rattle.ground_rules.specs.Conditions.{TooLong}
-use Rattle.promises_blocks.specs.Program.{Job, Layout, pbPlace, programPlace, blockAt, doubleword, programOf, mostOf, Ready}
+use Rattle.promises_blocks.specs.Program.{Job, Layout, pbPlace, programPlace, blockAt, doubleword, programOf, mostOf, JobReady}
 
 -- bytes stored in system memory, one after the other
 unfoldable pub put : Buffers → ℕ → List ℕ → Buffers
@@ -47,4 +47,4 @@ abbrev pub ReadyMet : Type 0
 ReadyMet =
     (m : Buffers) → WholeSystem m → ¬ (TooLong m) → (second fromOdd intoOdd fromWide intoWide : Bool) (n lines : ℕ)
     → 1 ≤ n → n ≤ mostOf (copyOf fromOdd intoOdd fromWide intoWide n) → lines < 16
-    → Ready (copyOf fromOdd intoOdd fromWide intoWide n) (layoutOf second) (imageIn m (copyOf fromOdd intoOdd fromWide intoWide n) (layoutOf second)) lines 65535
+    → JobReady (copyOf fromOdd intoOdd fromWide intoWide n) (layoutOf second) (imageIn m (copyOf fromOdd intoOdd fromWide intoWide n) (layoutOf second)) lines 65535

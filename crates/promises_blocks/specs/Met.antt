@@ -13,7 +13,7 @@ use Rattle.ground_rules.specs.States.{freshState, channelOf, withChannel}
 use Rattle.promises.specs.Cases.{Both8, Both16Even, Both16Odd, From16OddInto8}
 use Rattle.promises_blocks.specs.Joined.{Through}
 use Rattle.block_rules.specs.Premises.{Copy}
-use Rattle.promises.specs.Witness.{channelWith}
+use Rattle.promises.specs.Witness.{runningWith}
 
 -- PSW of a running program with XF and these widths, source then destination
 abbrev pub pswOf : Bool → Bool → ℕ
@@ -21,7 +21,7 @@ pswOf source destination = 0x44 + pick source 2 0 + pick destination 1 0
 
 -- a transfer of n bytes between two addresses of system memory, from GA to GB, CC C008h: both sides move on, TBC 01 (offset 0)
 unfoldable pub copying : ℕ → ℕ → Bool → Bool → ℕ → Channel
-copying from into fromWide intoWide n = channelWith (pointer from false) (pointer into false) 0 (n % 65536) 0xC008 (pswOf fromWide intoWide)
+copying from into fromWide intoWide n = runningWith (pointer from false) (pointer into false) 0 (n % 65536) 0xC008 (pswOf fromWide intoWide)
 
 -- so many bytes of system memory, at 0
 unfoldable pub zerosOf : ℕ → Buffers

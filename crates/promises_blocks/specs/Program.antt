@@ -111,7 +111,7 @@ stepsOf j = total (copying (fromPlace j .address) (intoPlace j .address) (j .fro
 -- ---- what is asked
 
 -- an image in which the program does its work, whatever else it holds
-pub record Ready (j : Job) (l : Layout) (m : Buffers) (lines limit : ℕ) : Type 0 where
+pub record JobReady (j : Job) (l : Layout) (m : Buffers) (lines limit : ℕ) : Type 0 where
   -- none of 12, 11 and 10 refuses the call
   pub cpFits : l .cp < 1048576
   pub linesFit : lines < 16
@@ -164,7 +164,7 @@ runIn l m lines limit = runOf m (l .cp) (channelNumber (l .second)) lines limit
 
 -- the showpiece: every such image is run so
 abbrev pub Showpiece : Type 0
-Showpiece = (j : Job) (l : Layout) (m : Buffers) (lines limit : ℕ) → Ready j l m lines limit → RunCopies j l m (runIn l m lines limit)
+Showpiece = (j : Job) (l : Layout) (m : Buffers) (lines limit : ℕ) → JobReady j l m lines limit → RunCopies j l m (runIn l m lines limit)
 
 -- and `iop89_run`, called from C with such an image, answers so and leaves the buffers so
 pub record CallCopies (j : Job) (l : Layout) (m : Buffers) (answer : ℕ) (sys io : List ℕ) : Type 0 where
@@ -173,7 +173,7 @@ pub record CallCopies (j : Job) (l : Layout) (m : Buffers) (answer : ℕ) (sys i
 
 abbrev pub ShowpieceCall : Type 0
 ShowpieceCall =
-    (j : Job) (l : Layout) (m : Buffers) (lines limit answer : ℕ) (sys io : List ℕ) → Ready j l m lines limit
+    (j : Job) (l : Layout) (m : Buffers) (lines limit answer : ℕ) (sys io : List ℕ) → JobReady j l m lines limit
     → CallMeets m (l .cp) (channelNumber (l .second)) lines limit answer sys io → CallCopies j l m answer sys io
 
 -- such a run has a row of demand 3 in it that nobody set up: fresh, the attention and six instructions, XFER among them, come to a channel that

@@ -30,7 +30,7 @@ use Rattle.turn_rules.specs.Touched.{stepCount}
 use Rattle.state_rules.proofs.BackLaws.{bytes-are}
 use Rattle.state_rules.proofs.HeldLaws.{HeldFit}
 use Rattle.state_rules.proofs.NumberLaws.{number-part}
-use Rattle.state_rules.specs.Calls.{Made, Service, served, noState, kindNumber, answerFrom, freshMade, powerServed, attentionServed, stepServed}
+use Rattle.state_rules.specs.Calls.{MadeBytes, Service, served, noState, kindNumber, answerFrom, freshMade, powerServed, attentionServed, stepServed}
 use Rattle.state_rules.specs.Layout.{bytesOf, stateIn, isState, stateLength}
 use Rattle.service.proofs.OutcomeLaws.{power-stays, attention-stays}
 use Rattle.promises.proofs.Made.{made-sound, made-any, made-powered, made-agree, made-attends, made-steps}
@@ -70,7 +70,7 @@ fresh-is b cp h = rw h (bytes-are (freshOf cp .state) (fresh-agree cp) (fresh-he
 fresh-stands : (κs : Lfts 1) (a : Dens κs fresh-kinds.ps) (r : resT fresh-kinds.r κs .Denot) (e : AtExit (endedOf 1 fresh-kinds.ps fresh-kinds.r) κs) → fresh-reads.Post κs a r e
     → length (now (a .0)) ≡ stateLength → Stands (now (e .0))
 fresh-stands κs a r e p h =
-    (ap (λ (o : Made). isState (o .bytes)) (p .0) ∙ fresh-is (now (a .0)) (a .1 .0) h, subst MadeOfBytes (sym (p .1 h)) (made-fresh (a .1 .0)))
+    (ap (λ (o : MadeBytes). isState (o .bytes)) (p .0) ∙ fresh-is (now (a .0)) (a .1 .0) h, subst MadeOfBytes (sym (p .1 h)) (made-fresh (a .1 .0)))
 
 -- a done power-up was given a state's length, and found its board
 power-done : (b : List ℕ) (m : Buffers) → powerServed b m .answer % 256 ≡ 0 → (length b ≡ stateLength) × (powerUpOf (stateIn b) m .number ≡ 0)

@@ -19,7 +19,7 @@ use Rattle.ground_rules.specs.States.{channelOf, withChannel, isSecond, isChann
 use Rattle.ground_rules.specs.declared.Channel.{Channel}
 use Rattle.ground_rules.specs.declared.Mode.{Mode}
 use Rattle.ground_rules.specs.declared.State.{State}
-use Rattle.attention_rules.specs.Attention.{orderTo, orderNumber, orderedChannel, orderedMemory, givenTo, attentionNumber, attentionOf, touchedByAttention}
+use Rattle.attention_rules.specs.Attention.{orderTo, orderNumber, channelAttended, orderedMemory, givenTo, attentionNumber, attentionOf, touchedByAttention}
 use Rattle.attention_rules.specs.Blocks.{ccwOf, pointerOf, parameterBlock, orderOf}
 use Rattle.attention_rules.specs.Commands.{commandOf, commandNumber, ordered}
 use Rattle.attention_rules.specs.Effects.{onlyPsw, started, resumed, commanded, channelOrdered, writesOf, saved, marked, writesMade}
@@ -28,7 +28,7 @@ use Rattle.attention_rules.specs.declared.Command.{Command}
 use Rattle.attention_rules.specs.declared.Command.the-variants.{Update, StartLocal, StartSystem, Suspend, Resume, Halt, Unknown}
 use Rattle.attention_rules.specs.declared.Order.{Order}
 use Rattle.promises_counts.specs.Complete.{SameLengths, AgreeOn}
-use Rattle.promises_counts.specs.Lists.{callAnswer, AttentionComplete}
+use Rattle.promises_counts.specs.Lists.{outcomeSeen, AttentionComplete}
 use Rattle.promises_counts.specs.Stores.{Store, storesMade, storePlaces}
 use Rattle.promises_counts.proofs.AgreeLaws.{agree-left, agree-right, agree-at, word-same, doubleword-same, pointer-same, given-same, number-same}
 use Rattle.promises_counts.proofs.TraceLaws.{Traced, complete, settled-told, settled-left, storesAt, four-made}
@@ -211,8 +211,8 @@ module _ (s : State) (channel : ℕ) (m : Buffers) where
     number-is = ap₂ (λ (g k : ℕ). first (first (unless (isChannel channel) 12) g) k) (given-same m n l s) order-number
 
     -- and so is what an accepted one makes of channel and memories
-    channel-same : eqb (commandNumber ((order m) .command) (c .mode)) 0 ≡ true → orderedChannel s n (isSecond channel) ≡ orderedChannel s m (isSecond channel)
-    unfolding orderedChannel channelOrdered
+    channel-same : eqb (commandNumber ((order m) .command) (c .mode)) 0 ≡ true → channelAttended s n (isSecond channel) ≡ channelAttended s m (isSecond channel)
+    unfolding channelAttended channelOrdered
     channel-same e =
         ap (λ (o : Order). channelOrdered n o c) (order-same e)
         ∙ ap (λ (k : Channel). onlyPsw k (ordered ((order m) .ccw) (k .psw))) (commanded-same m n ((order m) .command) ((order m) .block) ((order m) .pb) c (read-after e))
@@ -230,7 +230,7 @@ module _ (s : State) (channel : ℕ) (m : Buffers) where
   answerBy : ℕ → Channel → ℕ × State
   answerBy k ch = pick (eqb k 0) (0, withChannel s (isSecond channel) ch) (k, s)
 
-  told-by : (k : ℕ) (ch : Channel) (o o′ : Buffers) → callAnswer (settled k s o (withChannel s (isSecond channel) ch) o′) ≡ answerBy k ch
+  told-by : (k : ℕ) (ch : Channel) (o o′ : Buffers) → outcomeSeen (settled k s o (withChannel s (isSecond channel) ch) o′) ≡ answerBy k ch
   unfolding answerBy
   told-by k ch o o′ = settled-told k s (withChannel s (isSecond channel) ch) o o′
 
@@ -241,16 +241,16 @@ module _ (s : State) (channel : ℕ) (m : Buffers) where
       eq-eqb (commandNumber ((order m) .command) (c .mode)) 0
       (first-none-left _ _ (first-none-right _ _ (first-none-right _ _ (eqb-true (attentionNumber s m channel) 0 e))))
 
-  told-same : (n : Buffers) → SameLengths m n → AgreeOn (readIn (order m) (c .mode)) m n → callAnswer (attentionOf s n channel) ≡ callAnswer (attentionOf s m channel)
+  told-same : (n : Buffers) → SameLengths m n → AgreeOn (readIn (order m) (c .mode)) m n → outcomeSeen (attentionOf s n channel) ≡ outcomeSeen (attentionOf s m channel)
   unfolding attentionOf answerBy
   told-same n l h =
-      told-by (attentionNumber s n channel) (orderedChannel s n (isSecond channel)) n (orderedMemory s n (isSecond channel))
-      ∙ ap (λ (k : ℕ). answerBy k (orderedChannel s n (isSecond channel))) (number-is n l h)
+      told-by (attentionNumber s n channel) (channelAttended s n (isSecond channel)) n (orderedMemory s n (isSecond channel))
+      ∙ ap (λ (k : ℕ). answerBy k (channelAttended s n (isSecond channel))) (number-is n l h)
       ∙ go (eqb (attentionNumber s m channel) 0) refl
-      ∙ sym (told-by (attentionNumber s m channel) (orderedChannel s m (isSecond channel)) m (orderedMemory s m (isSecond channel)))
+      ∙ sym (told-by (attentionNumber s m channel) (channelAttended s m (isSecond channel)) m (orderedMemory s m (isSecond channel)))
     where
       go : (b : Bool) → eqb (attentionNumber s m channel) 0 ≡ b
-          → answerBy (attentionNumber s m channel) (orderedChannel s n (isSecond channel)) ≡ answerBy (attentionNumber s m channel) (orderedChannel s m (isSecond channel))
+          → answerBy (attentionNumber s m channel) (channelAttended s n (isSecond channel)) ≡ answerBy (attentionNumber s m channel) (channelAttended s m (isSecond channel))
       go true e = ap (answerBy (attentionNumber s m channel)) (channel-same n l h (command-passed e))
       go false e = rw e
 
@@ -258,7 +258,7 @@ module _ (s : State) (channel : ℕ) (m : Buffers) where
       → attentionOf s n channel .memory ≡ storesMade n (pick (eqb (attentionNumber s m channel) 0) (storedIn (order m) c) [])
   unfolding attentionOf storedIn storesMade
   left-same n l h =
-      settled-left (attentionNumber s n channel) s (withChannel s (isSecond channel) (orderedChannel s n (isSecond channel))) n (orderedMemory s n (isSecond channel))
+      settled-left (attentionNumber s n channel) s (withChannel s (isSecond channel) (channelAttended s n (isSecond channel))) n (orderedMemory s n (isSecond channel))
       ∙ ap (λ (k : ℕ). pick (eqb k 0) (orderedMemory s n (isSecond channel)) n) (number-is n l h)
       ∙ go (eqb (attentionNumber s m channel) 0) refl
     where
@@ -266,7 +266,7 @@ module _ (s : State) (channel : ℕ) (m : Buffers) where
       go true e = rw (command-passed e) (memory-same n l h (command-passed e))
       go false e = refl
 
-  pub attention-traced : Traced (readIn (order m) (c .mode)) (writtenIn (order m) (c .mode)) (eqb (attentionNumber s m channel) 0) (λ n. touchedByAttention s n channel) (λ n. callAnswer (attentionOf s n channel)) (λ n. attentionOf s n channel .memory) m
+  pub attention-traced : Traced (readIn (order m) (c .mode)) (writtenIn (order m) (c .mode)) (eqb (attentionNumber s m channel) 0) (λ n. touchedByAttention s n channel) (λ n. outcomeSeen (attentionOf s n channel)) (λ n. attentionOf s n channel .memory) m
   unfolding touchedByAttention
   attention-traced =
       record {

@@ -7,17 +7,17 @@ use Rattle.ground_rules.specs.Buffers.{Buffers, buffers, storeByte}
 use Rattle.ground_rules.specs.States.{idleChannel, boardWith, blockOf, busyIn, isChannel, isSecond, isSuspended}
 use Rattle.ground_rules.specs.{declared.Pointer.Pointer, Places.span, Values.pointer, Values.pointerAt, Values.storePointer, declared.Mode.the-variants.Running}
 use Rattle.ground_rules.specs.{declared.State.State, Outcomes.Outcome, Outcomes.settled, Updates.withControl, Updates.stoppedPsw}
-use Rattle.attention_rules.specs.Attention.{orderTo, orderNumber, orderedChannel, orderedMemory, givenTo, attentionNumber, attentionOf}
+use Rattle.attention_rules.specs.Attention.{orderTo, orderNumber, channelAttended, orderedMemory, givenTo, attentionNumber, attentionOf}
 use Rattle.attention_rules.specs.Commands.{commandCoded, isKnown, modeNumber, commandNumber, copied, obeyed, ordered}
 use Rattle.attention_rules.specs.Effects.{suspended, resumed, commanded, channelOrdered, writesOf, saved, marked, writesMade}
 use Rattle.attention_rules.specs.{Blocks.ccwOf, Blocks.parameterBlock, Blocks.orderOf, Touched.readBy, Touched.storedBy, Touched.others, Touched.orderStages}
 use Rattle.turn_rules.specs.Step.{Step, stepOf}
-use Rattle.promises.{specs.Witness.channelWith, proofs.CallWitness.stepOpen}
+use Rattle.promises.{specs.Witness.runningWith, proofs.CallWitness.stepOpen}
 
 -- channel 1 of a board with CP 8, CCW at 8 and BUSY at 9, that moves two bytes from I/O address 0 on, by bytes, TBC 01; TP is 101h
 abbrev pub moving : Pointer → ℕ → ℕ → State
 moving into pp psw =
-    let c = withControl (channelWith (pointer 0 true) into 0x101 2 0xC008 psw) (pointer 0x101 false) pp psw Running false in
+    let c = withControl (runningWith (pointer 0 true) into 0x101 2 0xC008 psw) (pointer 0x101 false) pp psw Running false in
     record { first = c; second = idleChannel; cp = 8; last = true; board = boardWith true false false false }
 
 -- with destination and PB elsewhere
@@ -26,12 +26,12 @@ usual psw = moving (pointer 2 true) 0 psw
 
 -- an attention to it with this CCW
 noticed : State → Buffers → ℕ → Outcome
-unfolding attentionOf attentionNumber givenTo isChannel isSecond settled orderNumber orderStages orderTo orderOf ccwOf commandCoded parameterBlock commandNumber isKnown modeNumber isSuspended blockOf busyIn others readBy storedBy span orderedMemory writesMade writesOf marked saved storePointer pointerAt orderedChannel channelOrdered commanded suspended resumed ordered copied obeyed withControl stoppedPsw
+unfolding attentionOf attentionNumber givenTo isChannel isSecond settled orderNumber orderStages orderTo orderOf ccwOf commandCoded parameterBlock commandNumber isKnown modeNumber isSuspended blockOf busyIn others readBy storedBy span orderedMemory writesMade writesOf marked saved storePointer pointerAt channelAttended channelOrdered commanded suspended resumed ordered copied obeyed withControl stoppedPsw
 noticed s m ccw = attentionOf s (storeByte m false 8 ccw) 1
 
 -- what its two steps leave, undisturbed, and with a pause between them: CCW 06h, whatever else happens while it is suspended, and this CCW to resume
 pub leave : State → (Buffers → Buffers) → ℕ → Step × Step
-unfolding stepOpen noticed channelWith idleChannel
+unfolding stepOpen noticed runningWith idleChannel
 leave s between ccw =
     let o = stepOf s (buffers (replicate 16 0) (5 ∷ 6 ∷ 0 ∷ 0 ∷ [])) 0 in
     let a = noticed (o .state) (o .memory) 0x06 in

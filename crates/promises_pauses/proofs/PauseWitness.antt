@@ -19,8 +19,8 @@ use Rattle.attention_rules.proofs.Stores.{lengths-kept}
 use Rattle.turn_rules.proofs.{SoundLaws.entry-sound, TouchedLaws.lengths-kept as step-lengths}
 use Rattle.transfer_rules.specs.Sides.{source, destination, wordSide}
 use Rattle.block_rules.specs.{Rows.Left, Stages.midway, Totals.narrow, Totals.alone, Totals.total, Totals.movedAfter}
-use Rattle.promises.{specs.Witness.channelWith, proofs.StandLaws.stand-on}
-use Rattle.promises_blocks.specs.{Joined.RunsAlone, Met.zeros, Met.copying, Program.Job, Program.busyAt, Program.Ready}
+use Rattle.promises.{specs.Witness.runningWith, proofs.StandLaws.stand-on}
+use Rattle.promises_blocks.specs.{Joined.RunsAlone, Met.zeros, Met.copying, Program.Job, Program.busyAt, Program.JobReady}
 use Rattle.promises_blocks.specs.Image.{put, WholeSystem, layoutOf, copyOf, imageIn}
 use Rattle.promises_blocks.proofs.AloneLaws.{going-turn, alone-next, alone-written, accepts, alone-attended}
 use Rattle.promises_blocks.proofs.{CopyWitness.zeros-within, ProgramStart.Starts, ProgramStart.starts-given, ProgramStart.halts-at-once, ProgramSteps.View}
@@ -40,7 +40,7 @@ job = copyOf true true true true 5
 
 module _ (given : Buffers) (full : WholeSystem given) (fit : ¬ (TooLong given)) where
   -- the image is ready for the program
-  ready : Ready job (layoutOf false) (imageIn given job (layoutOf false)) 0 65535
+  ready : JobReady job (layoutOf false) (imageIn given job (layoutOf false)) 0 65535
   ready = ready-met given full fit false true true true true 5 0 (lit≤ tt) (lit≤ tt) (lit< tt)
 
   -- where it has come to: the state and memory
@@ -65,7 +65,7 @@ module _ (given : Buffers) (full : WholeSystem given) (fit : ¬ (TooLong given))
 
   -- the transfer ends at the third of its steps: one byte, two and two
   ends : EndsPaused false 5 s₁ m₁ 3
-  unfolding total narrow alone copying channelWith source destination bitOf wordSide split
+  unfolding total narrow alone copying runningWith source destination bitOf wordSide split
   ends = subst (EndsPaused false 5 s₁ m₁) (total-at ready) (demand13 (copy ready) (program-at ready) far)
 
   -- a row so far from which a call more can be made: the other channel does not run, and all of system memory is lent
@@ -186,7 +186,7 @@ module _ (given : Buffers) (full : WholeSystem given) (fit : ¬ (TooLong given))
       let r = whole-row .calls in
       let tb = program-at ready in
       let e : movedAfter (channelOf s₁ false) 5 2 ≡ 3 =
-      unfold movedAfter narrow alone copying channelWith source destination split wordSide bitOf in moved-at ready 2 in
+      unfold movedAfter narrow alone copying runningWith source destination split wordSide bitOf in moved-at ready 2 in
       let end = ends .then r in
       record { state = _; memory = _; comes = comes ready; program = tb; apart = far; last = _; lastMemory = _; row = r; pauses = refl; moved = e; ended = end }
 

@@ -11,14 +11,14 @@ use Rattle.ground_rules.specs.{declared.State.State, Bits.bitOf, Bits.withBit, 
 use Rattle.ground_rules.specs.{Psw.transferring, Psw.programRunning, Psw.withPsw, Updates.withControl, Updates.withTransfer, Updates.stoppedPsw}
 use Rattle.ground_rules.specs.States.{channelOf, channelNumber, blockOf, busyIn, isRunning}
 use Rattle.ground_rules.proofs.{BitLaws.bit-other, BitLaws.with-bit-back, ChoiceLaws.apart, SpanLaws.apart-right, StoreLaws.same-lent, ChannelLaws.named}
-use Rattle.attention_rules.specs.{declared.Command.Command, declared.Command.the-variants.Suspend, declared.Command.the-variants.Resume, Attention.orderTo, Attention.orderedChannel, Blocks.orderOf, Blocks.parameterBlock, Touched.storedBy, Commands.copied, Commands.obeyed, Commands.ordered, Effects.onlyPsw, Effects.suspended, Effects.commanded, Effects.channelOrdered}
+use Rattle.attention_rules.specs.{declared.Command.Command, declared.Command.the-variants.Suspend, declared.Command.the-variants.Resume, Attention.orderTo, Attention.channelAttended, Blocks.orderOf, Blocks.parameterBlock, Touched.storedBy, Commands.copied, Commands.obeyed, Commands.ordered, Effects.onlyPsw, Effects.suspended, Effects.commanded, Effects.channelOrdered}
 use Rattle.attention_rules.proofs.{Outcomes.refused-nothing, Outcomes.shared-kept, Pauses.suspend-resume, Stores.bytes-kept, Stores.lengths-kept}
 use Rattle.turn_rules.{specs.Choosing.external, specs.Step.stepOf, proofs.ChoosingLaws.chosen-running, proofs.OutcomeLaws.cp-kept}
 use Rattle.block_rules.specs.{Premises.from, Premises.into, Premises.Lent, Premises.Copy, Totals.movedAfter, Totals.total, Stages.midway, Stages.Ended}
 use Rattle.block_rules.{specs.Rows.Left, specs.Rows.Untouched, specs.Rows.Row, specs.Rows.start, specs.Rows.other, proofs.CopyLaws.reached}
 use Rattle.block_rules.proofs.Demand3.{going, ended}
 use Rattle.sweep_rules.specs.{Ranges.placeOf, Sweep.sweepOf}
-use Rattle.promises.specs.Calls.{Turn, Calls, EndsAtCall}
+use Rattle.promises.specs.Calls.{HasTurn, Calls, EndsAtCall}
 use Rattle.promises.proofs.{CallLaws.step-kept, CallLaws.attention-kept, MachineLaws.row-kept, MachineLaws.row-transfer, MachineLaws.moves}
 use Rattle.promises_blocks.{specs.Joined.RunsAlone, specs.Sweeps.SweptRest, proofs.AloneLaws.ordered-channel, proofs.Joined.block-same}
 use Rattle.promises_blocks.proofs.{AloneLaws.going-turn, Sweeps.rest-accepted, Sweeps.rest-swept}
@@ -79,7 +79,7 @@ quiet-same q psw e = rw (q .interrupts, q .limit ∙ sym (e .0), q .ranked ∙ s
 
 -- a quiet suspend does what suspend does, and no more
 pub suspend-only : (b : Bool) (s : State) (m : Buffers) → Quietly b Suspend s m → channelAfter s m b ≡ suspended (channelOf s b)
-unfolding orderedChannel channelOrdered orderTo orderOf commanded suspended withControl
+unfolding channelAttended channelOrdered orderTo orderOf commanded suspended withControl
 suspend-only b s m q =
     ordered-channel b s m (q .accepted) ∙ rw (q .commands, quiet-same q (stoppedPsw (channelOf s b .psw)) (stopped-bits (channelOf s b .psw)))
 
@@ -161,7 +161,7 @@ module _ {b : Bool} {n : ℕ} {s₀ : State} {m₀ : Buffers} (p : Copy n (chann
         omega (arith, o .most)
 
     -- its transfer step
-    seen-transfer : (lines : ℕ) → Turn b s m lines → Seen (suc k) false (stepOf s m lines .state) (stepOf s m lines .memory)
+    seen-transfer : (lines : ℕ) → HasTurn b s m lines → Seen (suc k) false (stepOf s m lines .state) (stepOf s m lines .memory)
     seen-transfer lines t =
         let row = row-transfer b n c₀ m₀ k s m lines t x (rw (o .now) (o .row)) in
         let control = cp-kept s m lines ∙ o .control in
@@ -178,7 +178,7 @@ module _ {b : Bool} {n : ℕ} {s₀ : State} {m₀ : Buffers} (p : Copy n (chann
 
   module _ {k : ℕ} {s : State} {m : Buffers} (o : Seen k true s m) where
     -- suspended it does not run, so no step is its turn
-    waits : (channelOf s b .mode ≡ Suspended) × ((lines : ℕ) → Turn b s m lines → ⊥)
+    waits : (channelOf s b .mode ≡ Suspended) × ((lines : ℕ) → HasTurn b s m lines → ⊥)
     unfolding suspended withControl isRunning
     waits = let e = ap (λ (c : Channel). c .mode) (o .now) in (e, λ lines t. apart (ap isRunning (sym (chosen-running s lines b (inr (t .chosen))) ∙ e)))
 
@@ -243,7 +243,7 @@ module _ {b : Bool} {n : ℕ} {s₀ : State} {m₀ : Buffers} (p : Copy n (chann
   -- short of the total, not suspended, and while the other channel does not run
   module _ {lines k : ℕ} {s : State} {m : Buffers} (r : PausedCalls b n s₀ m₀ k false s m) (h : k < total c₀ n) (a : RunsAlone b s m lines) where
     -- the next step call is the channel's turn
-    pub lone-turn : Turn b s m lines
+    pub lone-turn : HasTurn b s m lines
     lone-turn = going-turn p (demand13 .before r h) a
 
     -- an accepted sweep takes exactly the steps that are left, and leaves what the undisturbed run leaves

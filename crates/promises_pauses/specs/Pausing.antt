@@ -8,8 +8,8 @@ use Rattle.ground_rules.specs.{Psw.programRunning, Psw.loadLimit, Psw.priority,
 use Rattle.attention_rules.specs.declared.Command.the-variants.{Suspend, Resume}
 use Rattle.attention_rules.specs.{declared.Command.Command, Attention.orderTo, Attention.attentionOf}
 use Rattle.turn_rules.specs.Step.{stepOf}
-use Rattle.block_rules.specs.{Premises.from, Premises.into, Rows.Untouched, Totals.movedAfter, Stages.midway, Stages.Held, Stages.Going, Stages.Ended}
-use Rattle.promises.specs.Calls.{Turn, Moves}
+use Rattle.block_rules.specs.{Premises.from, Premises.into, Rows.Untouched, Totals.movedAfter, Stages.midway, Stages.RangesHeld, Stages.Going, Stages.Ended}
+use Rattle.promises.specs.Calls.{HasTurn, Moves}
 use Rattle.promises_blocks.specs.Joined.{Comes}
 use Rattle.promises_sheet.specs.SheetAttention.{outcomeTo, channelAfter}
 
@@ -62,9 +62,9 @@ module _ (second : Bool) (n : ℕ) (s₀ : State) where
     -- a suspend, where XF is set, and a resume, where it is suspended; they ask nothing of ranges. A refused attention to it is the host's, no byte changed
     pub data PausedCalls : ℕ → Bool → State → Buffers → Type 0 where
       begin : PausedCalls 0 false s₀ m₀
-      transfer : {k : ℕ} {s : State} {m : Buffers} → PausedCalls k false s m → (lines : ℕ) → Turn second s m lines
+      transfer : {k : ℕ} {s : State} {m : Buffers} → PausedCalls k false s m → (lines : ℕ) → HasTurn second s m lines
           → transferring (channelOf s second .psw) ≡ true → PausedCalls (suc k) false (stepOf s m lines .state) (stepOf s m lines .memory)
-      step : {k : ℕ} {paused : Bool} {s : State} {m : Buffers} → PausedCalls k paused s m → (lines : ℕ) → (Turn second s m lines → ⊥)
+      step : {k : ℕ} {paused : Bool} {s : State} {m : Buffers} → PausedCalls k paused s m → (lines : ℕ) → (HasTurn second s m lines → ⊥)
           → Spared paused m (stepOf s m lines .memory) → PausedCalls k paused (stepOf s m lines .state) (stepOf s m lines .memory)
       attention : {k : ℕ} {paused : Bool} {s : State} {m : Buffers} → PausedCalls k paused s m → (channel : ℕ) → (channel ≡ channelNumber second → ⊥)
           → Spared paused m (attentionOf s m channel .memory) → PausedCalls k paused (attentionOf s m channel .state) (attentionOf s m channel .memory)
@@ -78,12 +78,12 @@ module _ (second : Bool) (n : ℕ) (s₀ : State) where
     pub record EndsPaused (k : ℕ) : Type 0 where
       -- not suspended: all is as in the undisturbed run, and each step call that is the channel's turn is its transfer step; at the k-th it has ended
       pub before : {j : ℕ} {s : State} {m : Buffers} → PausedCalls j false s m → j < k → Going n c₀ m₀ j (channelOf s second) m
-      pub turns : {j : ℕ} {s : State} {m : Buffers} → PausedCalls j false s m → j < k → (lines : ℕ) → Turn second s m lines → Moves second n s₀ s m lines
+      pub turns : {j : ℕ} {s : State} {m : Buffers} → PausedCalls j false s m → j < k → (lines : ℕ) → HasTurn second s m lines → Moves second n s₀ s m lines
       pub then : {s : State} {m : Buffers} → PausedCalls k false s m → Ended n c₀ m₀ (channelOf s second) m
       -- suspended: the transfer is short of its end, no step call is the channel's, and the bytes that have moved have, and no others
       pub short : {j : ℕ} {s : State} {m : Buffers} → PausedCalls j true s m → j < k
-      pub waits : {j : ℕ} {s : State} {m : Buffers} → PausedCalls j true s m → (channelOf s second .mode ≡ Suspended) × ((lines : ℕ) → Turn second s m lines → ⊥)
-      pub bytes : {j : ℕ} {s : State} {m : Buffers} → PausedCalls j true s m → Held (from c₀) (into c₀) n m₀ (movedAfter c₀ n j) m
+      pub waits : {j : ℕ} {s : State} {m : Buffers} → PausedCalls j true s m → (channelOf s second .mode ≡ Suspended) × ((lines : ℕ) → HasTurn second s m lines → ⊥)
+      pub bytes : {j : ℕ} {s : State} {m : Buffers} → PausedCalls j true s m → RangesHeld (from c₀) (into c₀) n m₀ (movedAfter c₀ n j) m
       -- resumed: the channel is, whole, the one of the undisturbed run after that many steps
       pub back : {j : ℕ} {s : State} {m : Buffers} → PausedCalls j true s m → Quietly second Resume s m
           → channelAfter s m second ≡ midway c₀ n (movedAfter c₀ n j)

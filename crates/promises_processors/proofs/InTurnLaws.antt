@@ -15,7 +15,7 @@ use Rattle.block_rules.specs.Premises.{from, into, Lent}
 use Rattle.block_rules.specs.Rows.{Left}
 use Rattle.block_rules.specs.Stages.{Going, Within}
 use Rattle.promises_blocks.proofs.AloneLaws.{going-turn, alone-next, alone-written}
-use Rattle.promises.specs.Calls.{Turn, Moves}
+use Rattle.promises.specs.Calls.{HasTurn, Moves}
 use Rattle.promises_blocks.specs.Joined.{RunsAlone}
 use Rattle.processor_rules.specs.Calls.{StepAnswer, stepAnswer, stepGives, stepOn}
 use Rattle.processor_rules.specs.Processors.{Memories, buffersOf, ioOf}
@@ -62,7 +62,7 @@ module _ {second : Bool → Bool} {n k : ℕ} {x₀ : Situation} (h : TwoTransfe
     going = ends b .before (w .row) l
 
     -- short of the end the next step of this processor is its transfer step
-    turn : Turn (second b) (stateFor b x) (memoryFor b x) 0
+    turn : HasTurn (second b) (stateFor b x) (memoryFor b x) 0
     turn = going-turn (h .copy b) going (w .alone)
 
     moved : Moves (second b) n (stateFor b x₀) (stateFor b x) (memoryFor b x) 0

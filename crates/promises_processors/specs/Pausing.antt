@@ -9,9 +9,9 @@ use Rattle.ground_rules.specs.States.{channelNumber}
 use Rattle.ground_rules.specs.declared.State.{State}
 use Rattle.attention_rules.specs.declared.Command.the-variants.{Suspend, Resume}
 use Rattle.block_rules.specs.Premises.{from, into}
-use Rattle.block_rules.specs.Stages.{midway, Held, Going, Ended}
+use Rattle.block_rules.specs.Stages.{midway, RangesHeld, Going, Ended}
 use Rattle.block_rules.specs.Totals.{movedAfter}
-use Rattle.promises.specs.Calls.{Turn, Moves}
+use Rattle.promises.specs.Calls.{HasTurn, Moves}
 use Rattle.promises_pauses.specs.Pausing.{Quietly, Spared, PauseStores, blockBytes, busyByte}
 use Rattle.processor_rules.specs.Lifting.{Called}
 use Rattle.promises_processors.specs.Situations.{Situation, stateFor, channelFor, memoryFor, afterStep, afterAttention, afterCall}
@@ -23,10 +23,10 @@ SparedOn which second paused n x₀ x x′ = Spared second n (stateFor which x�
 -- what comes of two processors by calls in a row, as in `ProcessorCalls`, among which the channel may be suspended and resumed
 pub data PausedProcessorCalls (which second : Bool) (n : ℕ) (x₀ : Situation) : ℕ → Bool → Situation → Type 1 where
   begin : PausedProcessorCalls which second n x₀ 0 false x₀
-  transfer : {k : ℕ} {x : Situation} → PausedProcessorCalls which second n x₀ k false x → (lines : ℕ) → Turn second (stateFor which x) (memoryFor which x) lines
+  transfer : {k : ℕ} {x : Situation} → PausedProcessorCalls which second n x₀ k false x → (lines : ℕ) → HasTurn second (stateFor which x) (memoryFor which x) lines
       → transferring (channelFor which second x .psw) ≡ true → PausedProcessorCalls which second n x₀ (suc k) false (afterStep which lines x)
   step : {k : ℕ} {paused : Bool} {x : Situation} → PausedProcessorCalls which second n x₀ k paused x → (lines : ℕ)
-      → (Turn second (stateFor which x) (memoryFor which x) lines → ⊥) → SparedOn which second paused n x₀ x (afterStep which lines x)
+      → (HasTurn second (stateFor which x) (memoryFor which x) lines → ⊥) → SparedOn which second paused n x₀ x (afterStep which lines x)
       → PausedProcessorCalls which second n x₀ k paused (afterStep which lines x)
   attention : {k : ℕ} {paused : Bool} {x : Situation} → PausedProcessorCalls which second n x₀ k paused x → (channel : ℕ) → (channel ≡ channelNumber second → ⊥)
       → SparedOn which second paused n x₀ x (afterAttention which channel x) → PausedProcessorCalls which second n x₀ k paused (afterAttention which channel x)
@@ -47,18 +47,18 @@ pub record EndsPausedOnTwo (which second : Bool) (n : ℕ) (x₀ : Situation) (k
   pub before : {j : ℕ} {x : Situation} → PausedProcessorCalls which second n x₀ j false x → j < k
       → Going n (channelFor which second x₀) (memoryFor which x₀) j (channelFor which second x) (memoryFor which x)
   pub turns : {j : ℕ} {x : Situation} → PausedProcessorCalls which second n x₀ j false x → j < k → (lines : ℕ)
-      → Turn second (stateFor which x) (memoryFor which x) lines → Moves second n (stateFor which x₀) (stateFor which x) (memoryFor which x) lines
+      → HasTurn second (stateFor which x) (memoryFor which x) lines → Moves second n (stateFor which x₀) (stateFor which x) (memoryFor which x) lines
   pub then : {x : Situation} → PausedProcessorCalls which second n x₀ k false x
       → Ended n (channelFor which second x₀) (memoryFor which x₀) (channelFor which second x) (memoryFor which x)
   -- suspended: the transfer is short of its end, no step call is the channel's, and the bytes that have moved have, and no others; resumed, the channel is
   -- the one of the undisturbed run
   pub short : {j : ℕ} {x : Situation} → PausedProcessorCalls which second n x₀ j true x → j < k
   pub waits : {j : ℕ} {x : Situation} → PausedProcessorCalls which second n x₀ j true x → (lines : ℕ)
-      → Turn second (stateFor which x) (memoryFor which x) lines → ⊥
+      → HasTurn second (stateFor which x) (memoryFor which x) lines → ⊥
   pub back : {j : ℕ} {x : Situation} → PausedProcessorCalls which second n x₀ j true x → Quietly second Resume (stateFor which x) (memoryFor which x)
       → channelFor which second (afterAttention which (channelNumber second) x)
       ≡ midway (channelFor which second x₀) n (movedAfter (channelFor which second x₀) n j)
-  pub bytes : {j : ℕ} {x : Situation} → PausedProcessorCalls which second n x₀ j true x → Held (from (channelFor which second x₀)) (into (channelFor which second x₀)) n
+  pub bytes : {j : ℕ} {x : Situation} → PausedProcessorCalls which second n x₀ j true x → RangesHeld (from (channelFor which second x₀)) (into (channelFor which second x₀)) n
       (memoryFor which x₀) (movedAfter (channelFor which second x₀) n j) (memoryFor which x)
   -- suspend changes no byte but PB's first four and BUSY, resume none but BUSY
   pub suspends : {j : ℕ} {x : Situation} → PausedProcessorCalls which second n x₀ j false x → Quietly second Suspend (stateFor which x) (memoryFor which x)

@@ -12,7 +12,7 @@ use Rattle.block_rules.specs.Premises.{from, into, Lent}
 use Rattle.block_rules.specs.Rows.{Left, Untouched}
 use Rattle.block_rules.specs.Stages.{Going, Ended}
 use Rattle.schedule_rules.specs.declared.ScheduleRow.{ScheduleRow}
-use Rattle.promises.specs.Calls.{Turn, Moves}
+use Rattle.promises.specs.Calls.{HasTurn, Moves}
 use Rattle.processor_rules.specs.Calls.{attentionOn, stepOn, resetOn, powerUpOn, sweepOn, scheduleOn}
 use Rattle.processor_rules.specs.Lifting.{Called}
 use Rattle.processor_rules.specs.Processors.{processorNumber}
@@ -27,9 +27,9 @@ Unharmed which second n x₀ x x′ = Untouched (channelFor which second x₀) n
 -- first two leave both ranges alone
 pub data ProcessorCalls (which second : Bool) (n : ℕ) (x₀ : Situation) : ℕ → Situation → Type 1 where
   begin : ProcessorCalls which second n x₀ 0 x₀
-  transfer : {k : ℕ} {x : Situation} → ProcessorCalls which second n x₀ k x → (lines : ℕ) → Turn second (stateFor which x) (memoryFor which x) lines
+  transfer : {k : ℕ} {x : Situation} → ProcessorCalls which second n x₀ k x → (lines : ℕ) → HasTurn second (stateFor which x) (memoryFor which x) lines
       → transferring (channelFor which second x .psw) ≡ true → ProcessorCalls which second n x₀ (suc k) (afterStep which lines x)
-  step : {k : ℕ} {x : Situation} → ProcessorCalls which second n x₀ k x → (lines : ℕ) → (Turn second (stateFor which x) (memoryFor which x) lines → ⊥)
+  step : {k : ℕ} {x : Situation} → ProcessorCalls which second n x₀ k x → (lines : ℕ) → (HasTurn second (stateFor which x) (memoryFor which x) lines → ⊥)
       → Unharmed which second n x₀ x (afterStep which lines x) → ProcessorCalls which second n x₀ k (afterStep which lines x)
   attention : {k : ℕ} {x : Situation} → ProcessorCalls which second n x₀ k x → (channel : ℕ) → (channel ≡ channelNumber second → ⊥)
       → Unharmed which second n x₀ x (afterAttention which channel x) → ProcessorCalls which second n x₀ k (afterAttention which channel x)
@@ -55,7 +55,7 @@ pub record AnyOfSix (which second : Bool) (n : ℕ) (x₀ : Situation) (k : ℕ)
 pub record EndsOnTwo (which second : Bool) (n : ℕ) (x₀ : Situation) (k : ℕ) : Type 1 where
   pub before : {j : ℕ} {x : Situation} → ProcessorCalls which second n x₀ j x → j < k
       → Going n (channelFor which second x₀) (memoryFor which x₀) j (channelFor which second x) (memoryFor which x)
-  pub turns : {j : ℕ} {x : Situation} → ProcessorCalls which second n x₀ j x → j < k → (lines : ℕ) → Turn second (stateFor which x) (memoryFor which x) lines
+  pub turns : {j : ℕ} {x : Situation} → ProcessorCalls which second n x₀ j x → j < k → (lines : ℕ) → HasTurn second (stateFor which x) (memoryFor which x) lines
       → Moves second n (stateFor which x₀) (stateFor which x) (memoryFor which x) lines
   pub then : {x : Situation} → ProcessorCalls which second n x₀ k x
       → Ended n (channelFor which second x₀) (memoryFor which x₀) (channelFor which second x) (memoryFor which x)

@@ -8,7 +8,7 @@ use Rattle.ground_rules.specs.States.{idleChannel}
 use Rattle.ground_rules.specs.declared.Channel.{Channel}
 use Rattle.ground_rules.specs.declared.State.{State}
 use Rattle.block_rules.specs.Stages.{Ended}
-use Rattle.promises.specs.Witness.{channelWith, bothWith}
+use Rattle.promises.specs.Witness.{runningWith, bothWith}
 use Rattle.processor_rules.specs.Processors.{processors, memories}
 use Rattle.promises_processors.specs.InTurn.{inTurn, TwoTransfers, BothEnd}
 use Rattle.promises_processors.specs.Rows.{Unharmed}
@@ -20,7 +20,7 @@ onlyFirst c = bothWith c idleChannel false
 
 -- a channel that is to move five bytes from system address 0 to I/O address 0, by bytes, TBC 01
 abbrev pub fiveBytes : ℕ → ℕ → Channel
-fiveBytes tp psw = channelWith (pointer 0 false) (pointer 0 true) tp 5 0xC008 psw
+fiveBytes tp psw = runningWith (pointer 0 false) (pointer 0 true) tp 5 0xC008 psw
 
 -- the five bytes, and two programs, XFER and WID 8,8 each: processor 1's at 8, processor 2's at 12
 abbrev pub sharedBytes : List ℕ
@@ -53,7 +53,7 @@ pub record TwoAtOnce : Type 1 where
 unfoldable pub harming : Situation
 harming =
     record {
-      both = processors (onlyFirst (fiveBytes 12 0x44)) (onlyFirst (channelWith (pointer 0 true) (pointer 2 false) 0x40 1 0xC008 0x44));
+      both = processors (onlyFirst (fiveBytes 12 0x44)) (onlyFirst (runningWith (pointer 0 true) (pointer 2 false) 0x40 1 0xC008 0x44));
       memory = memories sharedBytes (0 ∷ 0 ∷ 0 ∷ 0 ∷ 0 ∷ []) (9 ∷ []);
     }
 

@@ -13,20 +13,20 @@ use Rattle.ground_rules.specs.Updates.{withControl, stoppedPsw}
 use Rattle.ground_rules.specs.Values.{pointer, pointerAt, storePointer}
 use Rattle.ground_rules.specs.declared.Channel.{Channel}
 use Rattle.ground_rules.specs.declared.State.{State}
-use Rattle.attention_rules.specs.Attention.{orderTo, orderNumber, orderedChannel, orderedMemory, givenTo, attentionNumber, attentionOf}
+use Rattle.attention_rules.specs.Attention.{orderTo, orderNumber, channelAttended, orderedMemory, givenTo, attentionNumber, attentionOf}
 use Rattle.attention_rules.specs.Blocks.{ccwOf, parameterBlock, orderOf}
 use Rattle.attention_rules.specs.Commands.{commandCoded, isKnown, modeNumber, commandNumber, copied, obeyed, ordered}
 use Rattle.attention_rules.specs.Effects.{suspended, resumed, commanded, channelOrdered, writesOf, saved, marked, writesMade}
 use Rattle.attention_rules.specs.Touched.{readBy, storedBy, others, orderStages}
 use Rattle.turn_rules.specs.Step.{Step, stepOf}
-use Rattle.promises.specs.Witness.{channelWith}
+use Rattle.promises.specs.Witness.{runningWith}
 use Rattle.promises.proofs.CallWitness.{stepOpen}
 use Rattle.promises_sheet.specs.SheetBetween.{begin, attends, HalvesApart}
 
 -- channel 1 is to fetch from the device at I/O address 0 and to store at system address 16 (CC 8810h, PSW 45h: the destination alone is 16 bits
 -- wide); its block lies at 8, its parameter block at 0
 abbrev fetcher : Channel
-fetcher = channelWith (pointer 0 true) (pointer 16 false) 256 4 0x8810 0x45
+fetcher = runningWith (pointer 0 true) (pointer 16 false) 256 4 0x8810 0x45
 
 -- beside an idle channel 2
 abbrev fetcherAlone : State
@@ -50,12 +50,12 @@ onAgain = attentionOf (offAgain .state) (storeByte (offAgain .memory) false 8 0x
 
 -- an attention with all that it is made of laid open, so that it computes
 unfoldable attentionOpen : State → Buffers → ℕ → Outcome
-unfolding attentionOf attentionNumber givenTo isChannel isSecond settled orderNumber orderStages orderTo orderOf ccwOf commandCoded parameterBlock commandNumber isKnown modeNumber isSuspended blockOf busyIn others readBy storedBy span orderedMemory writesMade writesOf marked saved storePointer pointerAt orderedChannel channelOrdered commanded suspended resumed ordered copied obeyed withControl stoppedPsw
+unfolding attentionOf attentionNumber givenTo isChannel isSecond settled orderNumber orderStages orderTo orderOf ccwOf commandCoded parameterBlock commandNumber isKnown modeNumber isSuspended blockOf busyIn others readBy storedBy span orderedMemory writesMade writesOf marked saved storePointer pointerAt channelAttended channelOrdered commanded suspended resumed ordered copied obeyed withControl stoppedPsw
 attentionOpen s m channel = attentionOf s m channel
 
 -- both halves are done, with the 7 held over a suspend and a resume
 pub apart-met : HalvesApart false fetcherAlone deviceAndBlock 1 (onAgain .state) (onAgain .memory) 1
-unfolding stepOpen attentionOpen channelWith idleChannel
+unfolding stepOpen attentionOpen runningWith idleChannel
 apart-met = record {
   halves = record {
     due = refl;
@@ -73,5 +73,5 @@ apart-met = record {
 
 -- and TP and PSW are found as they were
 pub apart-found : (channelOf (onAgain .state) false .tp ≡ fetcher .tp) × (channelOf (onAgain .state) false .psw ≡ fetcher .psw)
-unfolding stepOpen attentionOpen channelWith idleChannel
+unfolding stepOpen attentionOpen runningWith idleChannel
 apart-found = (refl, refl)

@@ -18,7 +18,7 @@ use Rattle.turn_rules.specs.declared.Kind.the-variants.{Transfer}
 use Rattle.promises.specs.SheetWords.{bit}
 use Rattle.promises_sheet.specs.SheetTransfer.{halfDue, Transfers}
 use Rattle.promises_sheet.specs.SheetHalves.{Halves}
-use Rattle.promises.specs.Witness.{channelWith, memoryWith, six, memoryStart, bothWith}
+use Rattle.promises.specs.Witness.{runningWith, memoryWith, six, memoryStart, bothWith}
 use Rattle.promises.proofs.CallWitness.{stepOpen}
 
 -- channel 1 beside an idle channel 2, and which of them stepped last
@@ -51,7 +51,7 @@ module _ (c : Channel) (m m′ : Buffers) (byte : ℕ) where
 
 -- four bytes of the device are to go to system address 8
 abbrev fetching : Channel
-fetching = channelWith (pointer 16 true) (pointer 8 false) 256 4 0x8810 0x45
+fetching = runningWith (pointer 16 true) (pointer 8 false) 256 4 0x8810 0x45
 
 -- the device has a 7
 abbrev offered : Buffers
@@ -66,7 +66,7 @@ fetches-met = pair fetching offered offered 7 refl refl refl refl refl refl refl
 
 -- four bytes from system address 0 are to go to the device
 abbrev storing : Channel
-storing = channelWith (pointer 0 false) (pointer 16 true) 256 4 0x5010 0x46
+storing = runningWith (pointer 0 false) (pointer 16 true) 256 4 0x5010 0x46
 
 -- the device got the first byte, a 1
 abbrev taken : Buffers
@@ -79,7 +79,7 @@ stores-met = pair storing memoryStart taken 2 refl refl refl refl refl refl refl
 
 -- the same with TMC 001 and MC FF01h: the first byte matches
 abbrev matching : ℕ → ℕ → ℕ → Channel
-matching from bc psw = withRegister (channelWith (pointer from false) (pointer 16 true) 256 bc 0x5011 psw) 7 0xFF01 false
+matching from bc psw = withRegister (runningWith (pointer from false) (pointer 16 true) 256 bc 0x5011 psw) 7 0xFF01 false
 
 -- so the first store ends the transfer, at offset 0: the source is on by 1, BC is less by 2, and nothing is held
 pub first-meets : stepOf (lone (matching 0 4 0x46) true) memoryStart 1 ≡ stepped 0 (lone (matching 1 2 0x06) false) taken 1 Transfer

@@ -11,7 +11,7 @@ use native.Mathlib.Nat.{add-zero}
 use native.Mathlib.Omega.{arith}
 use Rattle.attention_rules.proofs.Outcomes.{accepted-order, passed-command, passed-others}
 use Rattle.attention_rules.proofs.Pauses.{ordered-else}
-use Rattle.attention_rules.specs.Attention.{orderTo, orderedChannel, orderedMemory}
+use Rattle.attention_rules.specs.Attention.{orderTo, channelAttended, orderedMemory}
 use Rattle.attention_rules.specs.Blocks.{ccwOf, parameterBlock, orderOf}
 use Rattle.attention_rules.specs.Commands.{commandCoded, isKnown, commandNumber, copied, obeyed, ordered}
 use Rattle.attention_rules.specs.Effects.{onlyPsw, started, suspended, resumed, commanded, channelOrdered, writesOf, saved, marked, writesMade}
@@ -180,9 +180,9 @@ module _ (s : State) (b : Bool) where
 
 module _ (b : Bool) (s : State) (m : Buffers) {code : ℕ} (x : Attends b s m code) (k : Command) (coded : commandCoded code ≡ k) where
   -- what it leaves is its order's
-  whole : outcomeTo s m b ≡ outcome 0 (withChannel s b (orderedChannel s m b)) (orderedMemory s m b)
+  whole : outcomeTo s m b ≡ outcome 0 (withChannel s b (channelAttended s m b)) (orderedMemory s m b)
   whole =
-      subst (λ (d : Bool). outcomeTo s m b ≡ outcome 0 (withChannel s d (orderedChannel s m d)) (orderedMemory s m d)) (named b)
+      subst (λ (d : Bool). outcomeTo s m b ≡ outcome 0 (withChannel s d (channelAttended s m d)) (orderedMemory s m d)) (named b)
       (accepted-order s m (channelNumber b) (x .done))
 
   -- the order is the command
@@ -202,10 +202,10 @@ module _ (b : Bool) (s : State) (m : Buffers) {code : ℕ} (x : Attends b s m co
   made = commanded k m pb (channelOf s b)
 
   channel-is : channelAfter s m b ≡ onlyPsw made (ordered (ccwAt s m b) (made .psw))
-  unfolding orderedChannel channelOrdered orderTo orderOf ccwOf pb made
+  unfolding channelAttended channelOrdered orderTo orderOf ccwOf pb made
   channel-is =
       ap (λ (o : Outcome). channelOf (o .state) b) whole
-      ∙ put-same s b (orderedChannel s m b)
+      ∙ put-same s b (channelAttended s m b)
       ∙ rw command-is
       (ap (λ (n : ℕ). onlyPsw made (ordered n (made .psw))) (byte-alike m false (blockOf s b) (blockIn s b) (block-is s b)))
 

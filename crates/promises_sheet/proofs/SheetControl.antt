@@ -32,7 +32,7 @@ use Rattle.ground_rules.specs.Bits.{bitOf, withBit}
 use Rattle.ground_rules.specs.Choice.{pick}
 use Rattle.promises.specs.SheetWords.{bit, registerValues, tagsOf}
 use Rattle.promises_sheet.specs.SheetAttention.{busyPlace}
-use Rattle.promises_sheet.specs.SheetOperands.{Ran, ranChannel, registersAt, pastBy, RegistersLeft, BytesLeft}
+use Rattle.promises_sheet.specs.SheetOperands.{PairRan, ranChannel, registersAt, pastBy, RegistersLeft, BytesLeft}
 use Rattle.promises_sheet.specs.SheetControl.{ControlDone, marksUp, ControlSheet}
 use Rattle.promises.proofs.SheetLaws.{bit-made, bit-kept, lent-alike}
 use Rattle.promises_sheet.proofs.SheetAttention.{busy-is}
@@ -72,7 +72,7 @@ done-left l psw h k′ e = record {
 }
 
 module _ {b : Bool} {s : State} {m : Buffers} {lines : ℕ} where
-  module _ {r op : ℕ} (x : Ran b s m lines r 0 0 0 op 0) (shape : Shape) (small : op < 64) (reads : lookup table (pairWith r 0 0 0 op 0) ≡ Instruction shape) where
+  module _ {r op : ℕ} (x : PairRan b s m lines r 0 0 0 op 0) (shape : Shape) (small : op < 64) (reads : lookup table (pairWith r 0 0 0 op 0) ≡ Instruction shape) where
     -- the channel after it
     control : (psw : ℕ) (mode : Mode) (armed : Bool) {status : ℕ → ℕ} → ((i : ℕ) → bit psw i ≡ status i)
         → deedIn s m b shape .channel ≡ renewed (pastInstruction (channelOf s b) 2) (pastInstruction (channelOf s b) 2 .tp) (pastInstruction (channelOf s b) 2 .ix) psw mode armed

@@ -37,7 +37,7 @@ use Rattle.promises.proofs.InstructionLaws.{decoded, pair-touchable, turn-execu
 use Rattle.promises_codes.proofs.CodeNumbers.{decoder-codes}
 use Rattle.promises_codes.specs.Codes.{numberByCodes}
 use Rattle.promises_sheet.specs.SheetDone.{PairTurn, Free, pairNumber, DoneSheet}
-use Rattle.promises_sheet.specs.SheetOperands.{Ran, codeByte, offsetBytes, ddOf}
+use Rattle.promises_sheet.specs.SheetOperands.{PairRan, codeByte, offsetBytes, ddOf}
 use Rattle.promises_sheet.proofs.SheetMemory.{second-is}
 use Rattle.promises_sheet.proofs.SheetOperands.{pairWith, pair-is, memoryWith, executedIn}
 
@@ -140,7 +140,7 @@ module _ {b : Bool} {s : State} {m : Buffers} {lines r dd aa w op mm : ℕ} (x :
       own ∙ exactly-4 m (channelOf s b) (busyIn (blockOf s b)) .1 (there, (λ n. eqb-false 4 3 refl (ap numberOf (sym e ∙ n)), e))
 
   -- what refuses neither itself nor its second pair is done, where its bytes may be touched
-  does : numberOf (decodedAt m (channelOf s b .tp)) ≡ 0 → ¬ (NoSecondPair (decodedAt m (channelOf s b .tp)) m (channelOf s b)) → Free b s m lines → Ran b s m lines r dd aa w op mm
+  does : numberOf (decodedAt m (channelOf s b .tp)) ≡ 0 → ¬ (NoSecondPair (decodedAt m (channelOf s b .tp)) m (channelOf s b)) → Free b s m lines → PairRan b s m lines r dd aa w op mm
   does z second free = record { executes = x .executes; done = own ∙ zero-only; rrr = x .rrr; two = x .two; mode = x .mode; wide = x .wide; base = x .base }
     where
       zero-only : executedIn s m b .number ≡ 0

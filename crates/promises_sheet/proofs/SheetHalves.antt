@@ -43,7 +43,7 @@ use Rattle.ground_rules.proofs.ChoiceLaws.{apart, both-left}
 use Rattle.ground_rules.specs.Bits.{fieldOf, bitOf}
 use Rattle.ground_rules.specs.Choice.{pick}
 use Rattle.ground_rules.specs.Compare.{matchOf}
-use Rattle.promises.specs.Calls.{Turn}
+use Rattle.promises.specs.Calls.{HasTurn}
 use Rattle.promises.specs.SheetWords.{bit, field}
 use Rattle.promises_sheet.specs.SheetOperands.{ranChannel}
 use Rattle.promises_sheet.specs.SheetTransfer.{fromPointer, intoPointer, fromSecond, intoSecond, firstByte, meetsIn, fetchesTwice, storesTwice, halfDue, Transfers, TransferLeft}
@@ -351,7 +351,7 @@ unfolding stepCount counted touchedByStep touchedIn
 count-is b s m lines t = rw (t .done, t .turn .chosen, on (channelOf s b .psw) (t .on))
 
 -- a done instruction is that of the channel
-ran-channel : (b : Bool) (s : State) (m : Buffers) (lines : ℕ) → Turn b s m lines → bit (channelOf s b .psw) 6 ≡ 0 → (stepOf s m lines) .number ≡ 0
+ran-channel : (b : Bool) (s : State) (m : Buffers) (lines : ℕ) → HasTurn b s m lines → bit (channelOf s b .psw) 6 ≡ 0 → (stepOf s m lines) .number ≡ 0
     → ((executeOf (channelOf s b) (busyIn (blockOf s b)) m) .number ≡ 0) × (ranChannel b s m lines ≡ (executeOf (channelOf s b) (busyIn (blockOf s b)) m) .channel)
 unfolding stepOf chosenStep channelStep instructionStep settledStep
 ran-channel b s m lines t off z = rest (sym (settled-number (e .number) s m b (e .channel) (e .memory) Instruction) ∙ sym (ap (λ (o : Step). o .number) is) ∙ z)

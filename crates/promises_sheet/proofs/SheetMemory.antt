@@ -48,7 +48,7 @@ use Rattle.ground_rules.specs.Bits.{bitOf, withBit}
 use Rattle.ground_rules.specs.Choice.{pick}
 use Rattle.ground_rules.specs.Compare.{matchOf}
 use Rattle.promises.specs.SheetWords.{bit, formOf, tagsOf, tagIn, pointing}
-use Rattle.promises_sheet.specs.SheetOperands.{Ran, ranChannel, codeByte, baseAddress, baseTag, addedBy, operandAddress, offsetBytes, grownBy, rawIn, operandIn, ddOf, displacementIn, whether, worksOf, singlesOf, resultBytes, registersAt, pastBy, jumpedBy, valuePast, RegistersLeft, storedThere, BytesLeft}
+use Rattle.promises_sheet.specs.SheetOperands.{PairRan, ranChannel, codeByte, baseAddress, baseTag, addedBy, operandAddress, offsetBytes, grownBy, rawIn, operandIn, ddOf, displacementIn, whether, worksOf, singlesOf, resultBytes, registersAt, pastBy, jumpedBy, valuePast, RegistersLeft, storedThere, BytesLeft}
 use Rattle.promises_sheet.specs.SheetRegisters.{Goes}
 use Rattle.promises_sheet.specs.SheetMemory.{Stores, pastPair, byteOperand, landed, MemorySheet}
 use Rattle.promises_sheet.proofs.SheetOperands.{pairWith, pair-is, base-is, task-left, deedIn, registers-left, memory-left, places-touchable, memoryWith, place-is, operand-is, grown-left, jumped-left}
@@ -227,7 +227,7 @@ worked-is m c work j works aa w mm k v ha hw hm =
     ∙ ap (λ (e : ℕ). resultTo at (eqb w 1) (workOf work e v)) (operand-is m (baseTag c mm) (operandAddress m c mm aa) (operandAddress m c mm aa) w hw refl)
     ∙ ap (resultTo at (eqb w 1)) (works (operandIn m (baseTag c mm) (operandAddress m c mm aa) w) v)
 
-module _ {b : Bool} {s : State} {m : Buffers} {lines r dd aa w op mm : ℕ} (x : Ran b s m lines r dd aa w op mm) (shape : Shape) (small : op < 64)
+module _ {b : Bool} {s : State} {m : Buffers} {lines r dd aa w op mm : ℕ} (x : PairRan b s m lines r dd aa w op mm) (shape : Shape) (small : op < 64)
     (reads : lookup table (pairWith r dd aa w op mm) ≡ Instruction shape) where
   -- a deed that writes no register and stores bytes
   stores : {tp ix : ℕ} {k : Channel} {bytes : List ℕ} (ch : Change) → RegistersLeft (channelOf s b) k (registersAt (channelOf s b) tp ix) (tagsOf (channelOf s b))
@@ -243,7 +243,7 @@ module _ {b : Bool} {s : State} {m : Buffers} {lines r dd aa w op mm : ℕ} (x :
 
 module _ {b : Bool} {s : State} {m : Buffers} {lines : ℕ} where
   -- MOVP M,P
-  movp : (r aa mm : ℕ) → pointing r ≡ true → Ran b s m lines r 0 aa 1 0x26 mm
+  movp : (r aa mm : ℕ) → pointing r ≡ true → PairRan b s m lines r 0 aa 1 0x26 mm
       → Stores b s m lines mm aa (formOf (valuePast (channelOf s b) (2 + offsetBytes aa) r) (tagIn (channelOf s b) r))
       (pastBy (channelOf s b) (2 + offsetBytes aa)) (grownBy (channelOf s b .ix) aa 3)
   unfolding lookup table deedOf performed movpStoreDeed lengthOf dataLength displacementLength
@@ -261,7 +261,7 @@ module _ {b : Bool} {s : State} {m : Buffers} {lines : ℕ} where
 
   module _ (work : Work) (j : ℕ) (works : (x y : ℕ) → workOf work x y ≡ getD (worksOf x y) j 0) where
     -- MOV, ADD, OR, AND M,R
-    work-register : (r aa w op mm : ℕ) → op < 64 → lookup table (pairWith r 0 aa w op mm) ≡ Instruction (MemoryRegister work r (memoryWith mm aa w)) → Ran b s m lines r 0 aa w op mm
+    work-register : (r aa w op mm : ℕ) → op < 64 → lookup table (pairWith r 0 aa w op mm) ≡ Instruction (MemoryRegister work r (memoryWith mm aa w)) → PairRan b s m lines r 0 aa w op mm
         → Stores b s m lines mm aa
         (resultBytes (getD (worksOf (operandIn m (baseTag (channelOf s b) mm) (operandAddress m (channelOf s b) mm aa) w) (valuePast (channelOf s b) (2 + offsetBytes aa) r)) j 0) w)
         (pastBy (channelOf s b) (2 + offsetBytes aa)) (grownBy (channelOf s b .ix) aa (w + 1))
@@ -280,7 +280,7 @@ module _ {b : Bool} {s : State} {m : Buffers} {lines : ℕ} where
         (result-left m (baseTag c mm) (operandAddress m c mm aa) v w (x .wide))
 
     -- MOVI, ADDI, ORI, ANDI M,I
-    work-data : (aa w op mm : ℕ) → op < 64 → lookup table (pairWith 0 (w + 1) aa w op mm) ≡ Instruction (MemoryImmediate work (memoryWith mm aa w)) → Ran b s m lines 0 (w + 1) aa w op mm
+    work-data : (aa w op mm : ℕ) → op < 64 → lookup table (pairWith 0 (w + 1) aa w op mm) ≡ Instruction (MemoryImmediate work (memoryWith mm aa w)) → PairRan b s m lines 0 (w + 1) aa w op mm
         → Stores b s m lines mm aa
         (resultBytes (getD (worksOf (operandIn m (baseTag (channelOf s b) mm) (operandAddress m (channelOf s b) mm aa) w)
         (operandIn m (channelOf s b .tp .tag) (channelOf s b .tp .address + (2 + offsetBytes aa)) w)) j 0) w)
@@ -301,7 +301,7 @@ module _ {b : Bool} {s : State} {m : Buffers} {lines : ℕ} where
 
   -- NOT, INC, DEC M
   alone : (single : Single) (j aa w op mm : ℕ) → op < 64 → ((a : ℕ) → singleOf single a ≡ getD (singlesOf a) j 0)
-      → lookup table (pairWith 0 0 aa w op mm) ≡ Instruction (MemoryAlone single (memoryWith mm aa w)) → Ran b s m lines 0 0 aa w op mm
+      → lookup table (pairWith 0 0 aa w op mm) ≡ Instruction (MemoryAlone single (memoryWith mm aa w)) → PairRan b s m lines 0 0 aa w op mm
       → Stores b s m lines mm aa
       (resultBytes (getD (singlesOf (operandIn m (baseTag (channelOf s b) mm) (operandAddress m (channelOf s b) mm aa) w)) j 0) w)
       (pastBy (channelOf s b) (2 + offsetBytes aa)) (grownBy (channelOf s b .ix) aa (w + 1))
@@ -321,7 +321,7 @@ module _ {b : Bool} {s : State} {m : Buffers} {lines : ℕ} where
       (result-left m (baseTag c mm) (operandAddress m c mm aa) v w (x .wide))
 
   -- SETB, CLR
-  set-bit : (on : Bool) (r aa op mm : ℕ) → op < 64 → lookup table (pairWith r 0 aa 0 op mm) ≡ Instruction (Bit on r (memoryWith mm aa 0)) → Ran b s m lines r 0 aa 0 op mm
+  set-bit : (on : Bool) (r aa op mm : ℕ) → op < 64 → lookup table (pairWith r 0 aa 0 op mm) ≡ Instruction (Bit on r (memoryWith mm aa 0)) → PairRan b s m lines r 0 aa 0 op mm
       → Stores b s m lines mm aa
       ((byteOperand b s m lines mm aa / 2 ^ (r + 1) * 2 ^ (r + 1) + pick on (2 ^ r) 0 + byteOperand b s m lines mm aa % 2 ^ r) % 256 ∷ [])
       (pastBy (channelOf s b) (2 + offsetBytes aa)) (grownBy (channelOf s b .ix) aa 1)
@@ -341,7 +341,7 @@ module _ {b : Bool} {s : State} {m : Buffers} {lines : ℕ} where
 
   -- jumps on memory
   module _ (shape : Shape) (dd r aa w op mm by : ℕ) (two taken taken′ : Bool) (small : op < 64)
-      (reads : lookup table (pairWith r dd aa w op mm) ≡ Instruction shape) (x : Ran b s m lines r dd aa w op mm) where
+      (reads : lookup table (pairWith r dd aa w op mm) ≡ Instruction shape) (x : PairRan b s m lines r dd aa w op mm) where
     jumps : taken ≡ taken′
         → deedIn s m b shape .channel ≡ jumpedIf taken m (grown (pastInstruction (channelOf s b) (2 + offsetBytes aa + ddOf two)) (memoryWith mm aa w) by) (onward (channelOf s b .tp) (2 + offsetBytes aa)) two
         → changed m (deedIn s m b shape .change) ≡ m
@@ -357,7 +357,7 @@ module _ {b : Bool} {s : State} {m : Buffers} {lines : ℕ} where
 
   -- JZ M, JNZ M
   jump : (z two : Bool) (aa w op mm : ℕ) → op < 64 → lookup table (pairWith 0 (ddOf two) aa w op mm) ≡ Instruction (JumpMemory z (memoryWith mm aa w) two)
-      → Ran b s m lines 0 (ddOf two) aa w op mm
+      → PairRan b s m lines 0 (ddOf two) aa w op mm
       → Goes b s m lines
       (landed b s m lines (whether z (eqb (rawIn m (baseTag (channelOf s b) mm) (operandAddress m (channelOf s b) mm aa) w) 0)) aa two)
       (grownBy (channelOf s b .ix) aa (w + 1))
@@ -379,7 +379,7 @@ module _ {b : Bool} {s : State} {m : Buffers} {lines : ℕ} where
 
   -- a byte that is tested
   module _ (shape : Shape) (test : ℕ → Bool) (r aa op mm : ℕ) (two : Bool) (small : op < 64)
-      (reads : lookup table (pairWith r (ddOf two) aa 0 op mm) ≡ Instruction shape) (x : Ran b s m lines r (ddOf two) aa 0 op mm) where
+      (reads : lookup table (pairWith r (ddOf two) aa 0 op mm) ≡ Instruction shape) (x : PairRan b s m lines r (ddOf two) aa 0 op mm) where
     jump-byte : deedIn s m b shape .channel
         ≡ jumpedIf (test (byteAt m (effective m (pastInstruction (channelOf s b) (2 + pick (eqb aa 1) 1 0 + 0 + (1 + pick two 1 0))) (memoryWith mm aa 0) (channelOf s b .tp) .tag)
         (effective m (pastInstruction (channelOf s b) (2 + pick (eqb aa 1) 1 0 + 0 + (1 + pick two 1 0))) (memoryWith mm aa 0) (channelOf s b .tp) .address))) m
@@ -400,7 +400,7 @@ module _ {b : Bool} {s : State} {m : Buffers} {lines : ℕ} where
 
   -- JMCE, JMCNE
   jump-masked : (equal two : Bool) (aa op mm : ℕ) → op < 64 → lookup table (pairWith 0 (ddOf two) aa 0 op mm) ≡ Instruction (JumpMasked equal (memoryWith mm aa 0) two)
-      → Ran b s m lines 0 (ddOf two) aa 0 op mm
+      → PairRan b s m lines 0 (ddOf two) aa 0 op mm
       → Goes b s m lines
       (landed b s m lines (whether equal (eqb (bitAnd (bitXor (byteOperand b s m lines mm aa) (channelOf s b .mc % 256)) (channelOf s b .mc / 256 % 256)) 0)) aa two)
       (grownBy (channelOf s b .ix) aa 1)
@@ -411,18 +411,18 @@ module _ {b : Bool} {s : State} {m : Buffers} {lines : ℕ} where
 
   -- JBT, JNBT
   jump-bit : (set two : Bool) (r aa op mm : ℕ) → op < 64 → lookup table (pairWith r (ddOf two) aa 0 op mm) ≡ Instruction (JumpBit set r (memoryWith mm aa 0) two)
-      → Ran b s m lines r (ddOf two) aa 0 op mm
+      → PairRan b s m lines r (ddOf two) aa 0 op mm
       → Goes b s m lines (landed b s m lines (whether set (eqb (bit (byteOperand b s m lines mm aa) r) 1)) aa two) (grownBy (channelOf s b .ix) aa 1)
   unfolding deedOf performed jumpBitDeed jumpByteDeed bitOf changed lengthOf dataLength displacementLength
   jump-bit set two r aa op mm small reads x =
       jump-byte (JumpBit set r (memoryWith mm aa 0) two) (λ y. whether set (eqb (bit y r) 1)) r aa op mm two small reads x refl refl
 
   -- TSL
-  tsl-place : (aa mm : ℕ) → Ran b s m lines 0 3 aa 0 0x25 mm → (k : ℕ)
+  tsl-place : (aa mm : ℕ) → PairRan b s m lines 0 3 aa 0 0x25 mm → (k : ℕ)
       → effective m (pastInstruction (channelOf s b) k) (memoryWith mm aa 0) (channelOf s b .tp) ≡ pointer (operandAddress m (channelOf s b) mm aa) (baseTag (channelOf s b) mm)
   tsl-place aa mm x k = place-is m (channelOf s b) k mm aa 0 (x .mode) (x .base)
 
-  tsl-free : (aa mm : ℕ) → byteOperand b s m lines mm aa ≡ 0 → Ran b s m lines 0 3 aa 0 0x25 mm
+  tsl-free : (aa mm : ℕ) → byteOperand b s m lines mm aa ≡ 0 → PairRan b s m lines 0 3 aa 0 0x25 mm
       → Stores b s m lines mm aa (codeByte m (channelOf s b) (2 + offsetBytes aa) % 256 ∷ [])
       (pastBy (channelOf s b) (2 + offsetBytes aa + 2)) (grownBy (channelOf s b .ix) aa 1)
   unfolding lookup table deedOf performed tslDeed lengthOf dataLength displacementLength onward
@@ -442,7 +442,7 @@ module _ {b : Bool} {s : State} {m : Buffers} {lines : ℕ} where
       ∙ ap (resultTo at false) (byte-reduced m (c .tp .tag) (c .tp .address + (2 + offsetBytes aa)))))
       (result-left m (baseTag c mm) (operandAddress m c mm aa) y 0 (lit< tt))
 
-  tsl-taken : (aa mm : ℕ) → ¬ (byteOperand b s m lines mm aa ≡ 0) → Ran b s m lines 0 3 aa 0 0x25 mm
+  tsl-taken : (aa mm : ℕ) → ¬ (byteOperand b s m lines mm aa ≡ 0) → PairRan b s m lines 0 3 aa 0 0x25 mm
       → Goes b s m lines
       (jumpedBy (channelOf s b) (2 + offsetBytes aa + 2) (displacementIn m (channelOf s b) (2 + offsetBytes aa + 1) false))
       (grownBy (channelOf s b .ix) aa 1)
@@ -463,7 +463,7 @@ module _ {b : Bool} {s : State} {m : Buffers} {lines : ℕ} where
 
   -- CALL
   call : (two : Bool) (aa w mm : ℕ) → lookup table (pairWith 4 (ddOf two) aa w 0x27 mm) ≡ Instruction (Call (memoryWith mm aa w) two)
-      → Ran b s m lines 4 (ddOf two) aa w 0x27 mm
+      → PairRan b s m lines 4 (ddOf two) aa w 0x27 mm
       → Stores b s m lines mm aa (formOf (pastPair b s m lines aa (ddOf two)) (channelOf s b .tp .tag))
       (landed b s m lines true aa two) (grownBy (channelOf s b .ix) aa 3)
   unfolding deedOf performed callDeed lengthOf dataLength displacementLength grown pastInstruction renewed onward
@@ -575,7 +575,7 @@ module _ (m : Buffers) (c : Channel) (aa w mm aa₂ mm₂ : ℕ) (ha : aa < 4) (
       (grown-left c (2 + offsetBytes aa + 2) mm aa w (w + 1) ha))
 
 module _ {b : Bool} {s : State} {m : Buffers} {lines : ℕ} where
-  move-between : (aa w mm aa₂ mm₂ : ℕ) → aa₂ < 4 → mm₂ < 4 → Ran b s m lines 0 0 aa w 0x24 mm
+  move-between : (aa w mm aa₂ mm₂ : ℕ) → aa₂ < 4 → mm₂ < 4 → PairRan b s m lines 0 0 aa w 0x24 mm
       → codeByte m (channelOf s b) (2 + offsetBytes aa) ≡ aa₂ * 2 + w → codeByte m (channelOf s b) (2 + offsetBytes aa + 1) ≡ 0x33 * 4 + mm₂
       → RegistersLeft (channelOf s b) (ranChannel b s m lines)
       (registersAt (channelOf s b) (pastPair b s m lines aa (2 + offsetBytes aa₂)) (grownBy (grownBy (channelOf s b .ix) aa (w + 1)) aa₂ (w + 1)))
@@ -632,7 +632,7 @@ memory-sheet b s m lines = record {
     c₀ : Channel
     c₀ = channelOf s b
 
-    works : (k r aa w mm : ℕ) → k < 3 → eqb r 6 ≡ false → Ran b s m lines r 0 aa w (0x34 + k) mm
+    works : (k r aa w mm : ℕ) → k < 3 → eqb r 6 ≡ false → PairRan b s m lines r 0 aa w (0x34 + k) mm
         → Stores b s m lines mm aa
         (resultBytes (getD (worksOf (operandIn m (baseTag (channelOf s b) mm) (operandAddress m (channelOf s b) mm aa) w) (valuePast (channelOf s b) (2 + offsetBytes aa) r)) (1 + k) 0) w)
         (pastBy (channelOf s b) (2 + offsetBytes aa)) (grownBy (channelOf s b .ix) aa (w + 1))
@@ -641,7 +641,7 @@ memory-sheet b s m lines = record {
     works (suc (suc zero)) r aa w mm h ne x = work-register And 3 (λ x y. refl) r aa w 0x36 mm (lit< tt) (rw ne) x
     works (suc (suc (suc k))) r aa w mm h ne x = absurd (omega arith)
 
-    moves : (aa w mm : ℕ) → Ran b s m lines 0 (w + 1) aa w 0x13 mm
+    moves : (aa w mm : ℕ) → PairRan b s m lines 0 (w + 1) aa w 0x13 mm
         → Stores b s m lines mm aa
         (resultBytes (operandIn m (channelOf s b .tp .tag) (channelOf s b .tp .address + (2 + offsetBytes aa)) w) w)
         (pastPair b s m lines aa (w + 1)) (grownBy (channelOf s b .ix) aa (w + 1))
@@ -649,7 +649,7 @@ memory-sheet b s m lines = record {
     moves aa (suc zero) mm x = work-data Mov 0 (λ x y. refl) aa 1 0x13 mm (lit< tt) refl x
     moves aa (suc (suc w)) mm x = let h = x .wide in absurd (omega arith)
 
-    datas : (k aa w mm : ℕ) → k < 3 → Ran b s m lines 0 (w + 1) aa w (0x30 + k) mm
+    datas : (k aa w mm : ℕ) → k < 3 → PairRan b s m lines 0 (w + 1) aa w (0x30 + k) mm
         → Stores b s m lines mm aa
         (resultBytes (getD (worksOf (operandIn m (baseTag (channelOf s b) mm) (operandAddress m (channelOf s b) mm aa) w)
         (operandIn m (channelOf s b .tp .tag) (channelOf s b .tp .address + (2 + offsetBytes aa)) w)) (1 + k) 0) w)
@@ -665,7 +665,7 @@ memory-sheet b s m lines = record {
     datas (suc zero) aa (suc (suc w)) mm h x = let g = x .wide in absurd (omega arith)
     datas (suc (suc zero)) aa (suc (suc w)) mm h x = let g = x .wide in absurd (omega arith)
 
-    alones : (k aa w mm : ℕ) → k < 3 → Ran b s m lines 0 0 aa w (getD (0x37 ∷ 0x3A ∷ 0x3B ∷ []) k 0) mm
+    alones : (k aa w mm : ℕ) → k < 3 → PairRan b s m lines 0 0 aa w (getD (0x37 ∷ 0x3A ∷ 0x3B ∷ []) k 0) mm
         → Stores b s m lines mm aa
         (resultBytes (getD (singlesOf (operandIn m (baseTag (channelOf s b) mm) (operandAddress m (channelOf s b) mm aa) w)) k 0) w)
         (pastBy (channelOf s b) (2 + offsetBytes aa)) (grownBy (channelOf s b .ix) aa (w + 1))
@@ -674,14 +674,14 @@ memory-sheet b s m lines = record {
     alones (suc (suc zero)) aa w mm h x = alone Single.Dec 2 aa w 0x3B mm (lit< tt) (λ a. refl) refl x
     alones (suc (suc (suc k))) aa w mm h x = absurd (omega arith)
 
-    bits : (on : Bool) (r aa mm : ℕ) → Ran b s m lines r 0 aa 0 (pick on 0x3D 0x3E) mm
+    bits : (on : Bool) (r aa mm : ℕ) → PairRan b s m lines r 0 aa 0 (pick on 0x3D 0x3E) mm
         → Stores b s m lines mm aa
         ((byteOperand b s m lines mm aa / 2 ^ (r + 1) * 2 ^ (r + 1) + pick on (2 ^ r) 0 + byteOperand b s m lines mm aa % 2 ^ r) % 256 ∷ [])
         (pastBy (channelOf s b) (2 + offsetBytes aa)) (grownBy (channelOf s b .ix) aa 1)
     bits true r aa mm x = set-bit true r aa 0x3D mm (lit< tt) refl x
     bits false r aa mm x = set-bit false r aa 0x3E mm (lit< tt) refl x
 
-    jumps′ : (z two : Bool) (aa w mm : ℕ) → Ran b s m lines 0 (ddOf two) aa w (pick z 0x39 0x38) mm
+    jumps′ : (z two : Bool) (aa w mm : ℕ) → PairRan b s m lines 0 (ddOf two) aa w (pick z 0x39 0x38) mm
         → Goes b s m lines
         (landed b s m lines (whether z (eqb (rawIn m (baseTag (channelOf s b) mm) (operandAddress m (channelOf s b) mm aa) w) 0)) aa two)
         (grownBy (channelOf s b .ix) aa (w + 1))
@@ -690,7 +690,7 @@ memory-sheet b s m lines = record {
     jumps′ false true aa w mm x = jump false true aa w 0x38 mm (lit< tt) refl x
     jumps′ false false aa w mm x = jump false false aa w 0x38 mm (lit< tt) refl x
 
-    masked : (equal two : Bool) (aa mm : ℕ) → Ran b s m lines 0 (ddOf two) aa 0 (pick equal 0x2C 0x2D) mm
+    masked : (equal two : Bool) (aa mm : ℕ) → PairRan b s m lines 0 (ddOf two) aa 0 (pick equal 0x2C 0x2D) mm
         → Goes b s m lines
         (landed b s m lines (whether equal (eqb (bitAnd (bitXor (byteOperand b s m lines mm aa) (channelOf s b .mc % 256)) (channelOf s b .mc / 256 % 256)) 0)) aa two)
         (grownBy (channelOf s b .ix) aa 1)
@@ -699,7 +699,7 @@ memory-sheet b s m lines = record {
     masked false true aa mm x = jump-masked false true aa 0x2D mm (lit< tt) refl x
     masked false false aa mm x = jump-masked false false aa 0x2D mm (lit< tt) refl x
 
-    tested : (set two : Bool) (r aa mm : ℕ) → Ran b s m lines r (ddOf two) aa 0 (pick set 0x2F 0x2E) mm
+    tested : (set two : Bool) (r aa mm : ℕ) → PairRan b s m lines r (ddOf two) aa 0 (pick set 0x2F 0x2E) mm
         → Goes b s m lines (landed b s m lines (whether set (eqb (bit (byteOperand b s m lines mm aa) r) 1)) aa two) (grownBy (channelOf s b .ix) aa 1)
     tested true true r aa mm x = jump-bit true true r aa 0x2F mm (lit< tt) refl x
     tested true false r aa mm x = jump-bit true false r aa 0x2F mm (lit< tt) refl x

@@ -42,7 +42,7 @@ use Rattle.ground_rules.specs.Bits.{fieldOf, withBit}
 use Rattle.ground_rules.specs.Choice.{pick}
 use Rattle.ground_rules.specs.Signs.{signedOf, extended, displacedBy}
 use Rattle.promises.specs.SheetWords.{bit, wordIn, registerValues, tagsOf, valueIn, tagIn, setValue, setTag}
-use Rattle.promises_sheet.specs.SheetOperands.{Ran, ranChannel, codeByte, baseAddress, baseTag, addedBy, operandAddress, grownBy, operandIn, byByte, byWord, displacementIn, registersAt, pastBy, jumpedBy, RegistersLeft}
+use Rattle.promises_sheet.specs.SheetOperands.{PairRan, ranChannel, codeByte, baseAddress, baseTag, addedBy, operandAddress, grownBy, operandIn, byByte, byWord, displacementIn, registersAt, pastBy, jumpedBy, RegistersLeft}
 use Rattle.promises.proofs.InstructionLaws.{decoded, turn-executes}
 use Rattle.promises.proofs.SheetLaws.{bit-made, bit-kept, byte-alike, word-alike}
 
@@ -72,7 +72,7 @@ executedIn s m b = executeOf (channelOf s b) (busyIn (blockOf s b)) m
 abbrev pub deedIn : State → Buffers → Bool → Shape → Deed
 deedIn s m b shape = deedOf shape m (channelOf s b) (busyIn (blockOf s b))
 
-module _ {b : Bool} {s : State} {m : Buffers} {lines r dd aa w op mm : ℕ} (x : Ran b s m lines r dd aa w op mm) (shape : Shape) (small : op < 64)
+module _ {b : Bool} {s : State} {m : Buffers} {lines r dd aa w op mm : ℕ} (x : PairRan b s m lines r dd aa w op mm) (shape : Shape) (small : op < 64)
     (reads : lookup table (pairWith r dd aa w op mm) ≡ Instruction shape) where
   -- the pair is decoded to the shape
   shape-is : decodedAt m (channelOf s b .tp) ≡ Instruction shape

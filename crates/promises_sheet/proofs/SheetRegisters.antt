@@ -34,7 +34,7 @@ use Rattle.ground_rules.specs.declared.Pointer.{Pointer}
 use Rattle.ground_rules.specs.Bits.{bitOf}
 use Rattle.ground_rules.specs.Choice.{pick}
 use Rattle.promises.specs.SheetWords.{farIn, storedIn, storedTagIn, tagsOf, tagIn, pointing, setValue, setTag}
-use Rattle.promises_sheet.specs.SheetOperands.{Ran, baseTag, operandAddress, offsetBytes, grownBy, operandIn, ddOf, displacementIn, whether, worksOf, singlesOf, registersAt, pastBy, jumpedBy, valuePast, RegistersLeft}
+use Rattle.promises_sheet.specs.SheetOperands.{PairRan, baseTag, operandAddress, offsetBytes, grownBy, operandIn, ddOf, displacementIn, whether, worksOf, singlesOf, registersAt, pastBy, jumpedBy, valuePast, RegistersLeft}
 use Rattle.promises_sheet.specs.SheetRegisters.{Loads, Goes, RegisterSheet}
 use Rattle.promises.proofs.SheetLaws.{far-alike}
 use Rattle.promises_sheet.proofs.SheetOperands.{pairWith, deedIn, registers-left, memory-left, memoryWith, place-is, operand-is, value-is, tag-is, past-left, grown-left, written-left, jumped-left}
@@ -70,7 +70,7 @@ tag-grown : (c : Channel) (n : ℕ) (o : Memory) (by r : ℕ) → r < 8 → tagO
 unfolding grown pastInstruction renewed onward
 tag-grown c n o by r h = tag-is (grown (pastInstruction c n) o by) r h
 
-module _ {b : Bool} {s : State} {m : Buffers} {lines r dd aa w op mm : ℕ} (x : Ran b s m lines r dd aa w op mm) (shape : Shape) (small : op < 64)
+module _ {b : Bool} {s : State} {m : Buffers} {lines r dd aa w op mm : ℕ} (x : PairRan b s m lines r dd aa w op mm) (shape : Shape) (small : op < 64)
     (reads : lookup table (pairWith r dd aa w op mm) ≡ Instruction shape) where
   -- a deed that writes a register and no byte
   loads : {k : Channel} (n : ℕ) {ix : ℕ} (v : ℕ) (tag : Bool) → RegistersLeft (channelOf s b) k (registersAt (channelOf s b) (pastBy (channelOf s b) n) ix) (tagsOf (channelOf s b))
@@ -90,7 +90,7 @@ module _ {b : Bool} {s : State} {m : Buffers} {lines r dd aa w op mm : ℕ} (x :
 
 module _ {b : Bool} {s : State} {m : Buffers} {lines : ℕ} where
   -- LPD
-  lpd : (r aa mm : ℕ) → pointing r ≡ true → Ran b s m lines r 0 aa 1 0x22 mm
+  lpd : (r aa mm : ℕ) → pointing r ≡ true → PairRan b s m lines r 0 aa 1 0x22 mm
       → Loads b s m lines r (farIn m (baseTag (channelOf s b) mm) (operandAddress m (channelOf s b) mm aa)) false
       (2 + offsetBytes aa) (grownBy (channelOf s b .ix) aa 4)
   unfolding lookup table deedOf performed lpdDeed changed lengthOf dataLength displacementLength
@@ -105,7 +105,7 @@ module _ {b : Bool} {s : State} {m : Buffers} {lines : ℕ} where
       refl
 
   -- LPDI
-  lpdi : (r : ℕ) → pointing r ≡ true → Ran b s m lines r 2 0 1 0x02 0
+  lpdi : (r : ℕ) → pointing r ≡ true → PairRan b s m lines r 2 0 1 0x02 0
       → Loads b s m lines r (farIn m (channelOf s b .tp .tag) (channelOf s b .tp .address + 2)) false 6 (channelOf s b .ix)
   unfolding lookup table deedOf performed lpdiDeed changed lengthOf dataLength displacementLength onward
   lpdi r p x =
@@ -116,7 +116,7 @@ module _ {b : Bool} {s : State} {m : Buffers} {lines : ℕ} where
       refl
 
   -- MOVP P,M
-  movp : (r aa mm : ℕ) → pointing r ≡ true → Ran b s m lines r 0 aa 1 0x23 mm
+  movp : (r aa mm : ℕ) → pointing r ≡ true → PairRan b s m lines r 0 aa 1 0x23 mm
       → Loads b s m lines r (storedIn m (baseTag (channelOf s b) mm) (operandAddress m (channelOf s b) mm aa))
       (storedTagIn m (baseTag (channelOf s b) mm) (operandAddress m (channelOf s b) mm aa))
       (2 + offsetBytes aa) (grownBy (channelOf s b .ix) aa 3)
@@ -131,7 +131,7 @@ module _ {b : Bool} {s : State} {m : Buffers} {lines : ℕ} where
       refl
 
   -- MOV R,M
-  move-memory : (r aa w mm : ℕ) → Ran b s m lines r 0 aa w 0x20 mm
+  move-memory : (r aa w mm : ℕ) → PairRan b s m lines r 0 aa w 0x20 mm
       → Loads b s m lines r (operandIn m (baseTag (channelOf s b) mm) (operandAddress m (channelOf s b) mm aa) w) true
       (2 + offsetBytes aa) (grownBy (channelOf s b .ix) aa (w + 1))
   unfolding lookup table deedOf performed registerMemoryDeed registerWritten isMove workOf changed lengthOf dataLength displacementLength
@@ -148,7 +148,7 @@ module _ {b : Bool} {s : State} {m : Buffers} {lines : ℕ} where
 
   -- ADD, OR, AND, NOT R,M
   module _ (work : Work) (j : ℕ) (kept : isMove work ≡ false) (works : (x y : ℕ) → workOf work x y ≡ getD (worksOf x y) j 0) where
-    work-memory : (r aa w op mm : ℕ) → op < 64 → lookup table (pairWith r 0 aa w op mm) ≡ Instruction (RegisterMemory work r (memoryWith mm aa w)) → Ran b s m lines r 0 aa w op mm
+    work-memory : (r aa w op mm : ℕ) → op < 64 → lookup table (pairWith r 0 aa w op mm) ≡ Instruction (RegisterMemory work r (memoryWith mm aa w)) → PairRan b s m lines r 0 aa w op mm
         → Loads b s m lines r
         (getD (worksOf (valuePast (channelOf s b) (2 + offsetBytes aa) r) (operandIn m (baseTag (channelOf s b) mm) (operandAddress m (channelOf s b) mm aa) w)) j 0)
         (tagIn (channelOf s b) r) (2 + offsetBytes aa) (grownBy (channelOf s b .ix) aa (w + 1))
@@ -169,7 +169,7 @@ module _ {b : Bool} {s : State} {m : Buffers} {lines : ℕ} where
 
     -- ADDI, ORI, ANDI R,I
     work-data : (r w op : ℕ) → op < 64 → lookup table (pairWith r (w + 1) 0 w op 0) ≡ Instruction (RegisterImmediate work r (eqb w 1)) → lengthOf (RegisterImmediate work r (eqb w 1)) ≡ 3 + w
-        → Ran b s m lines r (w + 1) 0 w op 0
+        → PairRan b s m lines r (w + 1) 0 w op 0
         → Loads b s m lines r
         (getD (worksOf (valuePast (channelOf s b) (3 + w) r) (operandIn m (channelOf s b .tp .tag) (channelOf s b .tp .address + 2) w)) j 0)
         (tagIn (channelOf s b) r) (3 + w) (channelOf s b .ix)
@@ -188,7 +188,7 @@ module _ {b : Bool} {s : State} {m : Buffers} {lines : ℕ} where
 
   -- MOVI R,I
   move-data : (r w : ℕ) → lookup table (pairWith r (w + 1) 0 w 0x0C 0) ≡ Instruction (RegisterImmediate Mov r (eqb w 1)) → lengthOf (RegisterImmediate Mov r (eqb w 1)) ≡ 3 + w
-      → Ran b s m lines r (w + 1) 0 w 0x0C 0
+      → PairRan b s m lines r (w + 1) 0 w 0x0C 0
       → Loads b s m lines r (operandIn m (channelOf s b .tp .tag) (channelOf s b .tp .address + 2) w) true (3 + w) (channelOf s b .ix)
   unfolding deedOf performed registerImmediateDeed registerWritten isMove workOf changed onward
   move-data r w reads long x =
@@ -201,7 +201,7 @@ module _ {b : Bool} {s : State} {m : Buffers} {lines : ℕ} where
 
   -- NOT, INC, DEC R
   alone : (single : Single) (j r op : ℕ) → op < 64 → ((a : ℕ) → singleOf single a ≡ getD (singlesOf a) j 0)
-      → lookup table (pairWith r 0 0 0 op 0) ≡ Instruction (Register single r) → Ran b s m lines r 0 0 0 op 0
+      → lookup table (pairWith r 0 0 0 op 0) ≡ Instruction (Register single r) → PairRan b s m lines r 0 0 0 op 0
       → Loads b s m lines r (getD (singlesOf (valuePast (channelOf s b) 2 r)) j 0) (tagIn (channelOf s b) r) 2 (channelOf s b .ix)
   unfolding deedOf performed registerDeed changed lengthOf dataLength displacementLength
   alone single j r op small gives reads x =
@@ -213,7 +213,7 @@ module _ {b : Bool} {s : State} {m : Buffers} {lines : ℕ} where
 
   -- JZ R, JNZ R
   jump : (z two : Bool) (r op : ℕ) → op < 64 → lookup table (pairWith r (ddOf two) 0 0 op 0) ≡ Instruction (JumpRegister z r two)
-      → lengthOf (JumpRegister z r two) ≡ 2 + ddOf two → Ran b s m lines r (ddOf two) 0 0 op 0
+      → lengthOf (JumpRegister z r two) ≡ 2 + ddOf two → PairRan b s m lines r (ddOf two) 0 0 op 0
       → Goes b s m lines
       (pick (whether z (eqb (valuePast (channelOf s b) (2 + ddOf two) r % 65536) 0))
       (jumpedBy (channelOf s b) (2 + ddOf two) (displacementIn m (channelOf s b) 2 two))
@@ -246,7 +246,7 @@ register-sheet b s m lines = record {
   jump = jumps;
 }
   where
-    works : (k r aa w mm : ℕ) → k < 4 → eqb r 6 ≡ false → Ran b s m lines r 0 aa w (0x28 + k) mm
+    works : (k r aa w mm : ℕ) → k < 4 → eqb r 6 ≡ false → PairRan b s m lines r 0 aa w (0x28 + k) mm
         → Loads b s m lines r
         (getD (worksOf (valuePast (channelOf s b) (2 + offsetBytes aa) r) (operandIn m (baseTag (channelOf s b) mm) (operandAddress m (channelOf s b) mm aa) w)) (1 + k) 0)
         (tagIn (channelOf s b) r) (2 + offsetBytes aa) (grownBy (channelOf s b .ix) aa (w + 1))
@@ -256,13 +256,13 @@ register-sheet b s m lines = record {
     works (suc (suc (suc zero))) r aa w mm h ne x = work-memory Work.Not 4 refl (λ x y. refl) r aa w 0x2B mm (lit< tt) (rw ne) x
     works (suc (suc (suc (suc k)))) r aa w mm h ne x = absurd (omega arith)
 
-    moves : (r w : ℕ) → Ran b s m lines r (w + 1) 0 w 0x0C 0
+    moves : (r w : ℕ) → PairRan b s m lines r (w + 1) 0 w 0x0C 0
         → Loads b s m lines r (operandIn m (channelOf s b .tp .tag) (channelOf s b .tp .address + 2) w) true (3 + w) (channelOf s b .ix)
     moves r zero x = move-data r 0 refl refl x
     moves r (suc zero) x = move-data r 1 refl refl x
     moves r (suc (suc w)) x = let h = x .wide in absurd (omega arith)
 
-    datas : (k r w : ℕ) → k < 3 → eqb r 6 ≡ false → Ran b s m lines r (w + 1) 0 w (0x08 + k) 0
+    datas : (k r w : ℕ) → k < 3 → eqb r 6 ≡ false → PairRan b s m lines r (w + 1) 0 w (0x08 + k) 0
         → Loads b s m lines r
         (getD (worksOf (valuePast (channelOf s b) (3 + w) r) (operandIn m (channelOf s b .tp .tag) (channelOf s b .tp .address + 2) w)) (1 + k) 0)
         (tagIn (channelOf s b) r) (3 + w) (channelOf s b .ix)
@@ -277,14 +277,14 @@ register-sheet b s m lines = record {
     datas (suc zero) r (suc (suc w)) h ne x = let g = x .wide in absurd (omega arith)
     datas (suc (suc zero)) r (suc (suc w)) h ne x = let g = x .wide in absurd (omega arith)
 
-    alones : (k r : ℕ) → k < 3 → eqb r 6 ≡ false → Ran b s m lines r 0 0 0 (getD (0x0B ∷ 0x0E ∷ 0x0F ∷ []) k 0) 0
+    alones : (k r : ℕ) → k < 3 → eqb r 6 ≡ false → PairRan b s m lines r 0 0 0 (getD (0x0B ∷ 0x0E ∷ 0x0F ∷ []) k 0) 0
         → Loads b s m lines r (getD (singlesOf (valuePast (channelOf s b) 2 r)) k 0) (tagIn (channelOf s b) r) 2 (channelOf s b .ix)
     alones zero r h ne x = alone Single.Not 0 r 0x0B (lit< tt) (λ a. refl) (rw ne) x
     alones (suc zero) r h ne x = alone Single.Inc 1 r 0x0E (lit< tt) (λ a. refl) (rw ne) x
     alones (suc (suc zero)) r h ne x = alone Single.Dec 2 r 0x0F (lit< tt) (λ a. refl) (rw ne) x
     alones (suc (suc (suc k))) r h ne x = absurd (omega arith)
 
-    jumps : (z two : Bool) (r : ℕ) → eqb r 6 ≡ false → Ran b s m lines r (ddOf two) 0 0 (pick z 0x11 0x10) 0
+    jumps : (z two : Bool) (r : ℕ) → eqb r 6 ≡ false → PairRan b s m lines r (ddOf two) 0 0 (pick z 0x11 0x10) 0
         → Goes b s m lines
         (pick (whether z (eqb (valuePast (channelOf s b) (2 + ddOf two) r % 65536) 0))
         (jumpedBy (channelOf s b) (2 + ddOf two) (displacementIn m (channelOf s b) 2 two))

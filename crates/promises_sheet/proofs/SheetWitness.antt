@@ -37,8 +37,8 @@ use Rattle.turn_rules.specs.Step.{settledStep, instructionStep, channelStep, ch
 use Rattle.ground_rules.specs.Signs.{signedOf, displacedBy}
 use Rattle.instruction_rules.specs.RegisterForms.{lpdDeed}
 use Rattle.instruction_rules.specs.JumpForms.{jumpRegisterDeed}
-use Rattle.promises.specs.Witness.{channelWith, bothWith, programAt, bytesFrom}
-use Rattle.promises_sheet.specs.SheetOperands.{Ran, ranChannel}
+use Rattle.promises.specs.Witness.{runningWith, bothWith, programAt, bytesFrom}
+use Rattle.promises_sheet.specs.SheetOperands.{PairRan, ranChannel}
 use Rattle.promises.specs.SheetWords.{registerValues}
 use Rattle.promises_sheet.proofs.SheetRegisters.{register-sheet}
 use Rattle.promises.proofs.InstructionWitness.{executes-met}
@@ -59,24 +59,24 @@ start-leaves = attention-sheet false (freshState 0) started .startLocal start-me
 -- ---- instructions
 
 -- LPD GA,[PP+IX+] at 8, with zeros at 0: PP and IX are 0
-lpd-met : Ran false (programAt 8) (bytesFrom 8 (0x07 ∷ 0x8B ∷ [])) 0 0 0 3 1 0x22 3
-unfolding stepOf entryNumber givenNumber first unless withinLimits limitOf spaceOf indexOf touchableAt lentAt byteAt beyondIn allPass span sound soundChannel agree fieldsAgree sameFields sameFlag split idleChannel channelOf withLast isRunning blockOf channelNumber requested external endsNow transferRank rankOf secondWins ranked choiceOf settledStep busyIn instructionStep channelStep chosenStep fieldOf bitOf decodedAt performed deedOf laterBytes laterFrom deedFrom stagesFrom instructionStages stagesNumber executeNumber executeOf onward renewed usedUp pastInstruction placesOf changed pairOf lookup decodeOf table lengthOf dataLength displacementLength offsetLength effective grown baseOf registerOf byRRR withRegister indexed jumpedIf landing displacementAt displacedBy signedOf lpdDeed jumpRegisterDeed doublewordAt wordAt bothWith channelWith
+lpd-met : PairRan false (programAt 8) (bytesFrom 8 (0x07 ∷ 0x8B ∷ [])) 0 0 0 3 1 0x22 3
+unfolding stepOf entryNumber givenNumber first unless withinLimits limitOf spaceOf indexOf touchableAt lentAt byteAt beyondIn allPass span sound soundChannel agree fieldsAgree sameFields sameFlag split idleChannel channelOf withLast isRunning blockOf channelNumber requested external endsNow transferRank rankOf secondWins ranked choiceOf settledStep busyIn instructionStep channelStep chosenStep fieldOf bitOf decodedAt performed deedOf laterBytes laterFrom deedFrom stagesFrom instructionStages stagesNumber executeNumber executeOf onward renewed usedUp pastInstruction placesOf changed pairOf lookup decodeOf table lengthOf dataLength displacementLength offsetLength effective grown baseOf registerOf byRRR withRegister indexed jumpedIf landing displacementAt displacedBy signedOf lpdDeed jumpRegisterDeed doublewordAt wordAt bothWith runningWith
 lpd-met = record { executes = executes-met 8 (0x07 ∷ 0x8B ∷ []) (lit≤ tt) (lit< tt); done = refl; rrr = lit< tt; two = lit< tt; mode = lit< tt; wide = lit< tt; base = lit< tt }
 
 -- GA is 0 with tag 0, TP 10 and IX 4
 pub lpd-leaves : registerValues (ranChannel false (programAt 8) (bytesFrom 8 (0x07 ∷ 0x8B ∷ [])) 0) ≡ 0 ∷ 0 ∷ 0 ∷ 0 ∷ 10 ∷ 4 ∷ 0 ∷ 0 ∷ []
-unfolding byteAt beyondIn spaceOf indexOf limitOf bothWith channelWith channelOf split
+unfolding byteAt beyondIn spaceOf indexOf limitOf bothWith runningWith channelOf split
 lpd-leaves = register-sheet false (programAt 8) (bytesFrom 8 (0x07 ∷ 0x8B ∷ [])) 0 .lpd 0 3 3 refl lpd-met .0 .values
 
 -- JZ GA at 0 with GA 10000h, of which the low 16 bits are 0; 5 bytes on
 abbrev sixteen : State
-sixteen = bothWith (channelWith (pointer 0x10000 false) (pointer 0 false) 0 0 0 4) idleChannel true
+sixteen = bothWith (runningWith (pointer 0x10000 false) (pointer 0 false) 0 0 0 4) idleChannel true
 
 abbrev jzCode : Buffers
 jzCode = buffers (0x08 ∷ 0x44 ∷ 5 ∷ []) []
 
-jz-met : Ran false sixteen jzCode 0 0 1 0 0 0x11 0
-unfolding stepOf entryNumber givenNumber first unless withinLimits limitOf spaceOf indexOf touchableAt lentAt byteAt beyondIn allPass span sound soundChannel agree fieldsAgree sameFields sameFlag split idleChannel channelOf withLast isRunning blockOf channelNumber requested external endsNow transferRank rankOf secondWins ranked choiceOf settledStep busyIn instructionStep channelStep chosenStep fieldOf bitOf decodedAt performed deedOf laterBytes laterFrom deedFrom stagesFrom instructionStages stagesNumber executeNumber executeOf onward renewed usedUp pastInstruction placesOf changed pairOf lookup decodeOf table lengthOf dataLength displacementLength offsetLength effective grown baseOf registerOf byRRR withRegister indexed jumpedIf landing displacementAt displacedBy signedOf lpdDeed jumpRegisterDeed doublewordAt wordAt bothWith channelWith
+jz-met : PairRan false sixteen jzCode 0 0 1 0 0 0x11 0
+unfolding stepOf entryNumber givenNumber first unless withinLimits limitOf spaceOf indexOf touchableAt lentAt byteAt beyondIn allPass span sound soundChannel agree fieldsAgree sameFields sameFlag split idleChannel channelOf withLast isRunning blockOf channelNumber requested external endsNow transferRank rankOf secondWins ranked choiceOf settledStep busyIn instructionStep channelStep chosenStep fieldOf bitOf decodedAt performed deedOf laterBytes laterFrom deedFrom stagesFrom instructionStages stagesNumber executeNumber executeOf onward renewed usedUp pastInstruction placesOf changed pairOf lookup decodeOf table lengthOf dataLength displacementLength offsetLength effective grown baseOf registerOf byRRR withRegister indexed jumpedIf landing displacementAt displacedBy signedOf lpdDeed jumpRegisterDeed doublewordAt wordAt bothWith runningWith
 jz-met = record {
   executes = record { turn = record { entered = refl; chosen = refl }; program = refl; there = record { lent = lent; read = read } };
   done = refl;
@@ -99,5 +99,5 @@ jz-met = record {
 
 -- it jumps: TP is 3 + 5
 pub jz-leaves : registerValues (ranChannel false sixteen jzCode 0) ≡ 0x10000 ∷ 0 ∷ 0 ∷ 0 ∷ 8 ∷ 0 ∷ 0 ∷ 0 ∷ []
-unfolding byteAt beyondIn spaceOf indexOf limitOf bothWith channelWith channelOf split
+unfolding byteAt beyondIn spaceOf indexOf limitOf bothWith runningWith channelOf split
 jz-leaves = register-sheet false sixteen jzCode 0 .jump true false 0 refl jz-met .0 .values

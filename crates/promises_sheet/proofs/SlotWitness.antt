@@ -30,12 +30,12 @@ use Rattle.turn_rules.specs.Step.{stepped, settledStep, instructionStep, channe
 use Rattle.ground_rules.specs.Bits.{fieldOf, bitOf}
 use Rattle.ground_rules.specs.Signs.{extended}
 use Rattle.turn_rules.specs.declared.Kind.the-variants.{Transfer}
-use Rattle.promises.specs.Witness.{channelWith, bothWith}
+use Rattle.promises.specs.Witness.{runningWith, bothWith}
 use Rattle.promises.proofs.CallWitness.{stepOpen}
 
 -- channel 1 runs at 0 of a space, with GA at 5 of I/O space and BC 1234h
 abbrev running : Bool → State
-running tag = bothWith (withControl (channelWith (pointer 5 true) (pointer 0 false) 0 0x1234 0 4) (pointer 0 tag) 0 4 Running false) idleChannel true
+running tag = bothWith (withControl (runningWith (pointer 5 true) (pointer 0 false) 0 0x1234 0 4) (pointer 0 tag) 0 4 Running false) idleChannel true
 
 -- MOVB BC,[GA] with I/O memory of length 0 is done: FFh, extended by its sign
 abbrev Read : Type 0
@@ -58,7 +58,7 @@ Coded =
 
 -- a transfer of two bytes into empty slots, I/O memory being of length 0: each step moves on and counts as if the byte had been kept, the last ends it (TBC 10, offset 4), and memory stays
 abbrev sweptAway : ℕ → ℕ → ℕ → ℕ → Bool → State
-sweptAway by bc tp psw last = bothWith (channelWith (pointer by false) (pointer (5 + by) true) tp bc 0xC010 psw) idleChannel last
+sweptAway by bc tp psw last = bothWith (runningWith (pointer by false) (pointer (5 + by) true) tp bc 0xC010 psw) idleChannel last
 
 abbrev twoBytes : Buffers
 twoBytes = buffers (1 ∷ 2 ∷ []) []
@@ -69,5 +69,5 @@ unfolding stepOpen idleChannel
 slots-written = (refl, refl)
 
 pub slots-met : Read × Stored × Coded
-unfolding stepOf entryNumber givenNumber first unless withinLimits limitOf spaceOf indexOf touchableAt lentAt byteAt beyondIn storeByte allPass span sound soundChannel agree fieldsAgree sameFields sameFlag split idleChannel channelOf withChannel withLast withControl isRunning blockOf channelNumber requested external endsNow transferRank rankOf secondWins ranked choiceOf settledStep busyIn instructionStep channelStep chosenStep fieldOf bitOf decodedAt performed deedOf laterBytes laterFrom deedFrom stagesFrom instructionStages stagesNumber executeNumber executeOf onward renewed usedUp pastInstruction placesOf changed pairOf lookup decodeOf table lengthOf dataLength displacementLength offsetLength effective grown baseOf registerOf byRRR withRegister indexed operandAt extended isMove workOf registerWritten registerMemoryDeed registerImmediateDeed memoryRegisterDeed memoryWorkDeed workedBack readFirst wordAt bothWith channelWith
+unfolding stepOf entryNumber givenNumber first unless withinLimits limitOf spaceOf indexOf touchableAt lentAt byteAt beyondIn storeByte allPass span sound soundChannel agree fieldsAgree sameFields sameFlag split idleChannel channelOf withChannel withLast withControl isRunning blockOf channelNumber requested external endsNow transferRank rankOf secondWins ranked choiceOf settledStep busyIn instructionStep channelStep chosenStep fieldOf bitOf decodedAt performed deedOf laterBytes laterFrom deedFrom stagesFrom instructionStages stagesNumber executeNumber executeOf onward renewed usedUp pastInstruction placesOf changed pairOf lookup decodeOf table lengthOf dataLength displacementLength offsetLength effective grown baseOf registerOf byRRR withRegister indexed operandAt extended isMove workOf registerWritten registerMemoryDeed registerImmediateDeed memoryRegisterDeed memoryWorkDeed workedBack readFirst wordAt bothWith runningWith
 slots-met = ((refl, refl), refl, (refl, refl, refl))

@@ -46,7 +46,7 @@ use Rattle.ground_rules.proofs.ChoiceLaws.{apart, both-left, both-right}
 use Rattle.ground_rules.specs.Bits.{fieldOf}
 use Rattle.ground_rules.specs.Bytes.{wordOf}
 use Rattle.ground_rules.specs.Choice.{pick}
-use Rattle.promises_sheet.specs.Slots.{SlotIs, SlotsStay, SystemLent, RunsInIo, Slots}
+use Rattle.promises_sheet.specs.Slots.{SlotIs, SlotsStay, SystemLent, RunsInIo, EmptySlots}
 use Rattle.promises.proofs.InstructionLaws.{turn-executes}
 
 -- ---- a byte
@@ -189,7 +189,7 @@ pair-refused b s m lines r h =
 
 -- ---- the promises
 
-pub slots : Slots
+pub slots : EmptySlots
 slots = record {
   byte = slot-is;
   attention = λ s m channel. slots-stay m (attentionOf s m channel .memory) (attended-lengths s m channel);

@@ -22,7 +22,7 @@ use Rattle.promises_sheet.specs.SheetOperands.{ranChannel}
 use Rattle.promises_sheet.specs.SheetTurns.{offsetIn}
 use Rattle.promises_sheet.specs.SheetTransfer.{intoPointer, intoWordSide, twoGo, firstByte, secondByte, meetsIn, singly, storedCount, fetchedCount, maxOf, storesTwice, halfDue, Transfers}
 use Rattle.promises_sheet.specs.SheetHalves.{isNone}
-use Rattle.promises.specs.Witness.{channelWith, memoryWith, six, memoryStart}
+use Rattle.promises.specs.Witness.{runningWith, memoryWith, six, memoryStart}
 
 -- ---- one step
 
@@ -112,7 +112,7 @@ pub record DriverSum (length fetched : ℕ) (c : Channel) : Type 0 where
 -- from system address 0, where 1 to 6 stand, to 8, both sides on by some bytes, CC with both moving on; PSW 46h: source 16, destination 8, TB and XF;
 -- 47h: both 16
 abbrev pub scanAt : ℕ → ℕ → ℕ → ℕ → ℕ → ℕ → Channel
-scanAt by tp bc cc mc psw = withRegister (channelWith (pointer by false) (pointer (8 + by) false) tp bc cc psw) 7 mc false
+scanAt by tp bc cc mc psw = withRegister (runningWith (pointer by false) (pointer (8 + by) false) tp bc cc psw) 7 mc false
 
 -- a transfer step takes one such channel to another, and leaves these bytes at 8
 abbrev pub StepTo : Channel → Channel → List ℕ → Type 0

@@ -14,7 +14,7 @@ use Rattle.ground_rules.specs.declared.State.{State}
 use Rattle.turn_rules.specs.Step.{stepOf}
 use Rattle.promises.specs.SheetWords.{bit, registerValues, tagsOf}
 use Rattle.promises_sheet.specs.SheetAttention.{busyPlace}
-use Rattle.promises_sheet.specs.SheetOperands.{Ran, ranChannel, registersAt, pastBy, BytesLeft}
+use Rattle.promises_sheet.specs.SheetOperands.{PairRan, ranChannel, registersAt, pastBy, BytesLeft}
 
 -- TP is past the pair and no other register changes; PSW bit by bit, mode and mark as given
 pub record ControlDone (before after : Channel) (bits : ℕ → ℕ) (state : Mode) (armed : Bool) : Type 0 where
@@ -45,25 +45,25 @@ module _ (second : Bool) (s : State) (m : Buffers) (lines : ℕ) where
   -- a done instruction of a channel
   pub record ControlSheet : Type 0 where
     -- NOP
-    pub nop : Ran second s m lines 0 0 0 0 0x00 0
+    pub nop : PairRan second s m lines 0 0 0 0 0x00 0
         → Controls (marksUp was) (was .mode) false
         × Still
     -- SINTR: IS, bit 4, is 1 where IC, bit 3, is
-    pub sintr : Ran second s m lines 2 0 0 0 0x00 0
+    pub sintr : PairRan second s m lines 2 0 0 0 0x00 0
         → Controls
         (λ k. pick (eqb (bit (was .psw) 3) 1 && eqb k 4) 1 (marksUp was k)) (was .mode) false
         × Still
     -- XFER sets the mark; with the mark already there it uses it up
-    pub xfer : Ran second s m lines 3 0 0 0 0x00 0
+    pub xfer : PairRan second s m lines 3 0 0 0 0x00 0
         → Controls (marksUp was) (was .mode) (not (was .armed))
         × Still
     -- WID: S, bit 1 of RRR, is bit 1 of PSW, and D, bit 0, is bit 0
-    pub wid : (source destination : Bool) → Ran second s m lines (4 + pick source 2 0 + pick destination 1 0) 0 0 0 0x00 0
+    pub wid : (source destination : Bool) → PairRan second s m lines (4 + pick source 2 0 + pick destination 1 0) 0 0 0 0x00 0
         → Controls
         (λ k. pick (eqb k 0) (pick destination 1 0) (pick (eqb k 1) (pick source 1 0) (marksUp was k))) (was .mode) false
         × Still
     -- HLT: TB, bit 2, and XF, bit 6, are 0 and the channel is idle; its BUSY is 0
-    pub hlt : Ran second s m lines 1 0 0 0 0x12 0
+    pub hlt : PairRan second s m lines 1 0 0 0 0x12 0
         → Controls
         (λ k. pick (eqb k 2 || eqb k 6) 0 (bit (was .psw) k)) Idle false
         × BytesLeft false (busyPlace s second) (0 ∷ []) m ((stepOf s m lines) .memory)

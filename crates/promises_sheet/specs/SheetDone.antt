@@ -13,7 +13,7 @@ use Rattle.instruction_rules.specs.Execute.{touchedByInstruction}
 use Rattle.turn_rules.specs.Step.{stepOf}
 use Rattle.promises.specs.Cases.{Executes}
 use Rattle.promises_codes.specs.Codes.{numberByCodes}
-use Rattle.promises_sheet.specs.SheetOperands.{Ran, codeByte, offsetBytes, ddOf}
+use Rattle.promises_sheet.specs.SheetOperands.{PairRan, codeByte, offsetBytes, ddOf}
 
 -- a step call is a channel's turn to execute, and the pair at TP has these fields, each in its range; whether it is done is not said
 pub record PairTurn (second : Bool) (s : State) (m : Buffers) (lines r dd aa w opcode mm : ℕ) : Type 0 where
@@ -37,11 +37,11 @@ module _ (second : Bool) (s : State) (m : Buffers) (lines : ℕ) where
   pub record DoneSheet : Type 0 where
     -- a pair that the codes take, MOV M,M aside, is done, so that the row of its family tells what it leaves
     pub done : (r dd aa w opcode mm : ℕ) → PairTurn second s m lines r dd aa w opcode mm → pairNumber r dd aa w opcode mm ≡ 0 → ¬ (opcode ≡ 0x24) → Free
-        → Ran second s m lines r dd aa w opcode mm
+        → PairRan second s m lines r dd aa w opcode mm
     -- and so is MOV M,M with a second pair of opcode 33h and the same W, whatever its AA and MM
     pub moveBetween : (aa w mm aa₂ mm₂ : ℕ) → aa₂ < 4 → mm₂ < 4 → PairTurn second s m lines 0 0 aa w 0x24 mm
         → codeByte m (channelOf s second) (2 + offsetBytes aa) ≡ aa₂ * 2 + w → codeByte m (channelOf s second) (2 + offsetBytes aa + 1) ≡ 0x33 * 4 + mm₂ → Free
-        → Ran second s m lines 0 0 aa w 0x24 mm
+        → PairRan second s m lines 0 0 aa w 0x24 mm
     -- a pair that the codes refuse is refused with their number: 3, or 4 where CC is used by anything but MOV or MOVI
     pub refused : (r dd aa w opcode mm : ℕ) → PairTurn second s m lines r dd aa w opcode mm → ¬ (pairNumber r dd aa w opcode mm ≡ 0)
         → (stepOf s m lines) .number ≡ pairNumber r dd aa w opcode mm

@@ -16,7 +16,7 @@ use Rattle.ground_rules.specs.declared.State.{State}
 use Rattle.transfer_rules.specs.Steps.{touchedByTransfer}
 use Rattle.turn_rules.specs.Step.{stepOf}
 use Rattle.turn_rules.specs.Touched.{stepCount}
-use Rattle.promises.specs.Calls.{Turn}
+use Rattle.promises.specs.Calls.{HasTurn}
 use Rattle.block_rules.specs.Stages.{onBy}
 use Rattle.promises.specs.SheetWords.{bit, field}
 use Rattle.promises_sheet.specs.SheetOperands.{ranChannel}
@@ -150,5 +150,5 @@ pub record HalfSheet (second : Bool) (s : State) (m : Buffers) (lines : ℕ) : T
       ((stepOf ((stepOf s m lines) .state) ((stepOf s m lines) .memory) lines′) .memory)
       × (stepCount s m lines + stepCount ((stepOf s m lines) .state) ((stepOf s m lines) .memory) lines′ ≡ 4)
   -- a done instruction leaves nothing held
-  pub executes : Turn second s m lines → bit (channelOf s second .psw) 6 ≡ 0 → (stepOf s m lines) .number ≡ 0
+  pub executes : HasTurn second s m lines → bit (channelOf s second .psw) 6 ≡ 0 → (stepOf s m lines) .number ≡ 0
       → ranChannel second s m lines .held ≡ NoByte

@@ -19,7 +19,7 @@ use Rattle.promises.specs.SheetWords.{bit, wordIn, registerValues, tagsOf}
 -- ---- the call
 
 -- a step call is a channel's turn to execute and is done, and the pair at TP has these fields: RRR, dd, AA, W, opcode, MM (§6.1)
-pub record Ran (second : Bool) (s : State) (m : Buffers) (lines r dd aa w opcode mm : ℕ) : Type 0 where
+pub record PairRan (second : Bool) (s : State) (m : Buffers) (lines r dd aa w opcode mm : ℕ) : Type 0 where
   pub executes : Executes second s m lines ((r * 32 + dd * 8 + aa * 2 + w) ∷ (opcode * 4 + mm) ∷ [])
   pub done : (stepOf s m lines) .number ≡ 0
   pub rrr : r < 8
@@ -62,18 +62,18 @@ abbrev pub grownBy : ℕ → ℕ → ℕ → ℕ
 grownBy ix aa by = getD (ix ∷ ix ∷ ix ∷ (ix + by) % 65536 ∷ []) aa 0
 
 -- a byte and a word in 20 bits, by their signs (§6.9)
-abbrev pub fromByte : ℕ → ℕ
-fromByte x = pick (ltb x 128) x (x + 1048320)
+abbrev pub byteBySign : ℕ → ℕ
+byteBySign x = pick (ltb x 128) x (x + 1048320)
 
-abbrev pub fromWord : ℕ → ℕ
-fromWord x = pick (ltb x 32768) x (x + 983040)
+abbrev pub wordBySign : ℕ → ℕ
+wordBySign x = pick (ltb x 32768) x (x + 983040)
 
 -- the byte or word at a place by W, as it is and in 20 bits
 abbrev pub rawIn : Buffers → Bool → ℕ → ℕ → ℕ
 rawIn m tag a w = getD (byteAt m tag a ∷ wordIn m tag a ∷ []) w 0
 
 abbrev pub operandIn : Buffers → Bool → ℕ → ℕ → ℕ
-operandIn m tag a w = getD (fromByte (byteAt m tag a) ∷ fromWord (wordIn m tag a) ∷ []) w 0
+operandIn m tag a w = getD (byteBySign (byteAt m tag a) ∷ wordBySign (wordIn m tag a) ∷ []) w 0
 
 -- dd of a displacement of two bytes or one: 10 or 01, and so many bytes it has (§6.2)
 abbrev pub ddOf : Bool → ℕ

@@ -16,7 +16,7 @@ use Rattle.ground_rules.specs.declared.Held.the-variants.{NoByte}
 use Rattle.ground_rules.specs.declared.State.{State}
 use Rattle.transfer_rules.specs.Steps.{touchedByTransfer}
 use Rattle.turn_rules.specs.Step.{stepOf}
-use Rattle.promises.specs.Calls.{Turn}
+use Rattle.promises.specs.Calls.{HasTurn}
 use Rattle.promises.specs.SheetWords.{bit, field}
 use Rattle.promises_sheet.specs.SheetOperands.{ranChannel}
 use Rattle.promises_sheet.specs.SheetTurns.{offsetIn}
@@ -151,7 +151,7 @@ pub record TransferLeft (c : Channel) (m : Buffers) (after : Channel) (m′ : Bu
 
 -- a step call is a channel's transfer step, and is done
 pub record Transfers (second : Bool) (s : State) (m : Buffers) (lines : ℕ) : Type 0 where
-  pub turn : Turn second s m lines
+  pub turn : HasTurn second s m lines
   pub on : bit (channelOf s second .psw) 6 ≡ 1
   pub done : (stepOf s m lines) .number ≡ 0
 

@@ -19,7 +19,7 @@ use Rattle.turn_rules.specs.Choosing.{choiceOf}
 use Rattle.turn_rules.specs.Step.{stepOf}
 use Rattle.turn_rules.specs.Touched.{reachedIn}
 use Rattle.run_rules.specs.Run.{runOf}
-use Rattle.promises.specs.Calls.{Turn}
+use Rattle.promises.specs.Calls.{HasTurn}
 use Rattle.promises_sheet.specs.SheetOperands.{codeByte}
 
 -- a byte of I/O space
@@ -49,12 +49,12 @@ SystemLent m (p ∷ ps) = (p .tag ≡ false → lentAt m false (p .address) ≡ 
 
 -- a step call is a channel's turn to execute, and TP is in I/O space
 pub record RunsInIo (second : Bool) (s : State) (m : Buffers) (lines : ℕ) : Type 0 where
-  pub turn : Turn second s m lines
+  pub turn : HasTurn second s m lines
   pub program : transferring (channelOf s second .psw) ≡ false
   pub space : channelOf s second .tp .tag ≡ true
 
 -- the promises about empty slots
-pub record Slots : Type 0 where
+pub record EmptySlots : Type 0 where
   pub byte : (m : Buffers) (a : ℕ) → SlotIs m a
   -- no call fills one
   pub attention : (s : State) (m : Buffers) (channel : ℕ) → SlotsStay m (attentionOf s m channel .memory)

@@ -29,29 +29,29 @@ use Rattle.promises_counts.proofs.AgreeLaws.{agree-self, touchable-same, given-
 use Rattle.promises_counts.proofs.Attention.{readIn, writtenIn, order-same, refused-same, attention-traced}
 use Rattle.promises_counts.proofs.Power.{readIn as powerReadIn, control-same, places-same, power-traced}
 use Rattle.promises_counts.specs.Complete.{SameLengths, AgreeOn}
-use Rattle.promises_counts.specs.Lists.{callAnswer}
+use Rattle.promises_counts.specs.Lists.{outcomeSeen}
 use Rattle.promises_counts.specs.Stores.{storesMade}
 use Rattle.touch_rules.proofs.ToldLaws.{toldUpTo}
 use Rattle.touch_rules.proofs.TouchesLaws.{order-told, powerReads, power-told}
 use Rattle.touch_rules.specs.Told.{Told, toldReads, firstBeyond, toldInStages}
 use Rattle.touch_rules.specs.Touches.{toldByOrder, toldByAttention, toldByPower}
-use Rattle.promises_touches.specs.Words.{placesRead, placesStored, KeepsWord}
+use Rattle.promises_touches.specs.Words.{toldReadPlaces, toldStorePlaces, KeepsWord}
 use Rattle.promises_touches.proofs.WordLaws.{readUpTo, storedUpTo, read-stages, stored-stages, beyond-same, stages-told}
 
 -- a call that is refused alike in all memories that have the same bytes at the told reads, and of which the same is told there
 refused-word : (s : State) (told : Buffers → List Told) (call : Buffers → Outcome) (m : Buffers) (k : ℕ) → ¬ (k ≡ 0)
-    → ((n : Buffers) → SameLengths m n → AgreeOn (placesRead (told m)) m n → (call n ≡ outcome k s n) × (told n ≡ told m))
-    → KeepsWord told (λ n. call n .number) (λ n. callAnswer (call n)) (λ n. call n .memory) m
+    → ((n : Buffers) → SameLengths m n → AgreeOn (toldReadPlaces (told m)) m n → (call n ≡ outcome k s n) × (told n ≡ told m))
+    → KeepsWord told (λ n. call n .number) (λ n. outcomeSeen (call n)) (λ n. call n .memory) m
 unfolding storesMade
 refused-word s told call m k ne f =
-    let here = f m (λ t. refl) (agree-self (placesRead (told m)) m) .0 in
+    let here = f m (λ t. refl) (agree-self (toldReadPlaces (told m)) m) .0 in
     record {
       stores = [];
       placed = λ z. absurd (ne (sym (ap (λ (o : Outcome). o .number) here) ∙ z));
       refused = λ q. refl;
       same = λ n l h. record {
         list = f n l h .1;
-        answered = ap callAnswer (f n l h .0) ∙ sym (ap callAnswer here);
+        answered = ap outcomeSeen (f n l h .0) ∙ sym (ap outcomeSeen here);
         left = ap (λ (o : Outcome). o .memory) (f n l h .0);
       };
     }
@@ -86,7 +86,7 @@ module _ (s : State) (channel : ℕ) where
     order n = orderTo s n (isSecond channel)
 
     abbrev Word : Type 0
-    Word = KeepsWord (λ n. toldByAttention s n channel) (λ n. attentionOf s n channel .number) (λ n. callAnswer (attentionOf s n channel)) (λ n. attentionOf s n channel .memory) m
+    Word = KeepsWord (λ n. toldByAttention s n channel) (λ n. attentionOf s n channel .number) (λ n. outcomeSeen (attentionOf s n channel)) (λ n. attentionOf s n channel .memory) m
 
     given-is : (n : Buffers) → SameLengths m n → givenTo s n channel ≡ givenTo s m channel
     unfolding givenTo
@@ -122,11 +122,11 @@ module _ (s : State) (channel : ℕ) where
       Lead = stage (span false (order m .block) 1) (commandNumber (order m .command) mode) ∷ []
 
       module _ (e : allTouchable m ccw ≡ true) where
-        read-is : placesRead (toldByAttention s m channel) ≡ readIn (order m) mode
+        read-is : toldReadPlaces (toldByAttention s m channel) ≡ readIn (order m) mode
         unfolding readUpTo readIn orderTo orderOf
         read-is = read-stages m (readBy (order m .command) (order m .block) (order m .pb)) (storedBy (order m .command) (order m .block) (order m .pb)) Lead (toldByAttention s m channel) (here ∙ order-told m (order m) mode) ∙ rw e
 
-        stored-is : placesStored (toldByAttention s m channel) ≡ writtenIn (order m) mode
+        stored-is : toldStorePlaces (toldByAttention s m channel) ≡ writtenIn (order m) mode
         unfolding storedUpTo writtenIn orderTo orderOf
         stored-is = stored-stages m (readBy (order m .command) (order m .block) (order m .pb)) (storedBy (order m .command) (order m .block) (order m .pb)) Lead (toldByAttention s m channel) (here ∙ order-told m (order m) mode) ∙ rw e
 
@@ -173,7 +173,7 @@ module _ (s : State) (channel : ℕ) where
 
 module _ (s : State) (m : Buffers) where
   abbrev Powered : Type 0
-  Powered = KeepsWord toldByPower (λ n. powerUpOf s n .number) (λ n. callAnswer (powerUpOf s n)) (λ n. powerUpOf s n .memory) m
+  Powered = KeepsWord toldByPower (λ n. powerUpOf s n .number) (λ n. outcomeSeen (powerUpOf s n)) (λ n. powerUpOf s n .memory) m
 
   too-long : withinLimits m ≡ false → Powered
   unfolding powerUpOf powerNumber toldByPower first unless
@@ -189,11 +189,11 @@ module _ (s : State) (m : Buffers) where
     unfolding toldByPower
     told-here n l = rw (limits-same m n l ∙ e)
 
-    power-read : placesRead (toldByPower m) ≡ powerReadIn m
+    power-read : toldReadPlaces (toldByPower m) ≡ powerReadIn m
     unfolding readUpTo powerReadIn
     power-read = read-stages m (powerReads m) (span false (busyIn (controlOf m)) 1) [] (toldByPower m) (told-here m (λ t. refl) ∙ power-told m)
 
-    power-stored : placesStored (toldByPower m) ≡ span false (busyIn (controlOf m)) 1
+    power-stored : toldStorePlaces (toldByPower m) ≡ span false (busyIn (controlOf m)) 1
     unfolding storedUpTo
     power-stored = stored-stages m (powerReads m) (span false (busyIn (controlOf m)) 1) [] (toldByPower m) (told-here m (λ t. refl) ∙ power-told m)
 

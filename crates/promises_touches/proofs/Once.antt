@@ -39,12 +39,12 @@ use Rattle.turn_rules.specs.declared.Choice.{Choice}
 use Rattle.turn_rules.specs.declared.Choice.the-variants.{Nobody, Ends, Steps}
 use Rattle.promises_counts.proofs.Step.{entry-same}
 use Rattle.promises_counts.specs.Complete.{AgreeOn}
-use Rattle.promises_counts.specs.Lists.{callAnswer, stepAnswer}
+use Rattle.promises_counts.specs.Lists.{outcomeSeen, stepSeen}
 use Rattle.touch_rules.proofs.TouchesLaws.{order-told, powerReads, power-told}
 use Rattle.touch_rules.specs.Told.{Told, toldInStages}
 use Rattle.touch_rules.specs.Touches.{toldByOrder, toldByAttention, toldByPower, toldByTransfer, toldByInstruction, toldByChoice, toldByStep}
 use Rattle.promises_touches.specs.Protocol.{roundOf, Alongside, SameCall, AskedOnce, TableKnown, OnceEnough}
-use Rattle.promises_touches.specs.Words.{placesRead}
+use Rattle.promises_touches.specs.Words.{toldReadPlaces}
 use Rattle.promises_touches.proofs.Attentions.{attention-word, power-word}
 use Rattle.promises_touches.proofs.Protocol.{deed-then, passes, sourceReads, tableRead, whole-reads, table-same}
 use Rattle.promises_touches.proofs.Rounds.{system-byte, round-alongside, round-got, call-same}
@@ -81,7 +81,7 @@ module _ (device have : Buffers) (w : Alongside device have) where
   along : (told : Buffers → List Told) → Alongside device (roundOf told device have)
   along told = round-alongside told device have w
 
-  got : (told : Buffers → List Told) → AgreeOn (placesRead (told have)) device (roundOf told device have)
+  got : (told : Buffers → List Told) → AgreeOn (toldReadPlaces (told have)) device (roundOf told device have)
   got told = round-got told device have w
 
   -- ---- an instruction of a program in system space
@@ -92,7 +92,7 @@ module _ (device have : Buffers) (w : Alongside device have) where
   later-system c NoInstruction e = tt
   later-system c ControlUsed e = tt
 
-  instruction-once : (c : Channel) (busy : ℕ) → c .tp .tag ≡ false → placesRead (toldByInstruction have c busy) ≡ placesRead (toldByInstruction device c busy)
+  instruction-once : (c : Channel) (busy : ℕ) → c .tp .tag ≡ false → toldReadPlaces (toldByInstruction have c busy) ≡ toldReadPlaces (toldByInstruction device c busy)
   instruction-once c busy e =
       let p = passes c busy device in
       let later = laterFrom (decodedAt device (c .tp)) c in
@@ -124,41 +124,41 @@ module _ (device have : Buffers) (w : Alongside device have) where
   part-once FirstStore c h = refl
   part-once (SecondStore byte) c h = refl
 
-  transfer-once : (c : Channel) → TableKnown c → placesRead (toldByTransfer c have) ≡ placesRead (toldByTransfer c device)
+  transfer-once : (c : Channel) → TableKnown c → toldReadPlaces (toldByTransfer c have) ≡ toldReadPlaces (toldByTransfer c device)
   transfer-once c h = go (badMode c) refl
     where
-      go : (b : Bool) → badMode c ≡ b → placesRead (toldByTransfer c have) ≡ placesRead (toldByTransfer c device)
-      go true e = ap placesRead (bad-told c have e) ∙ sym (ap placesRead (bad-told c device e))
+      go : (b : Bool) → badMode c ≡ b → toldReadPlaces (toldByTransfer c have) ≡ toldReadPlaces (toldByTransfer c device)
+      go true e = ap toldReadPlaces (bad-told c have e) ∙ sym (ap toldReadPlaces (bad-told c device e))
       go false e = read-is c have e ∙ part-once (partOf c) c h ∙ sym (read-is c device e)
 
   -- ---- a step
 
-  chosen-once : (s : State) (x : Choice) → OnceEnough x s → placesRead (toldByChoice x s have) ≡ placesRead (toldByChoice x s device)
+  chosen-once : (s : State) (x : Choice) → OnceEnough x s → toldReadPlaces (toldByChoice x s have) ≡ toldReadPlaces (toldByChoice x s device)
   unfolding toldByChoice
   chosen-once s Nobody h = refl
   chosen-once s (Ends b) h = refl
   chosen-once s (Steps b) h =
       ⊎-elim (λ k. rw (k .0) (transfer-once (channelOf s b) (k .1))) (λ k. rw (k .0) (instruction-once (channelOf s b) (busyIn (blockOf s b)) (k .1))) h
 
-  step-reads : (s : State) (lines : ℕ) → OnceEnough (choiceOf s lines) s → placesRead (toldByStep s have lines) ≡ placesRead (toldByStep s device lines)
+  step-reads : (s : State) (lines : ℕ) → OnceEnough (choiceOf s lines) s → toldReadPlaces (toldByStep s have lines) ≡ toldReadPlaces (toldByStep s device lines)
   unfolding toldByStep
   step-reads s lines h =
-      ap (λ (k : ℕ). placesRead (pick (eqb k 0) (toldByChoice (choiceOf s lines) s have) [])) (entry-same s device lines have (w .lengths))
+      ap (λ (k : ℕ). toldReadPlaces (pick (eqb k 0) (toldByChoice (choiceOf s lines) s have) [])) (entry-same s device lines have (w .lengths))
       ∙ go (eqb (entryNumber s device lines) 0)
     where
-      go : (b : Bool) → placesRead (pick b (toldByChoice (choiceOf s lines) s have) []) ≡ placesRead (pick b (toldByChoice (choiceOf s lines) s device) [])
+      go : (b : Bool) → toldReadPlaces (pick b (toldByChoice (choiceOf s lines) s have) []) ≡ toldReadPlaces (pick b (toldByChoice (choiceOf s lines) s device) [])
       go true = chosen-once s (choiceOf s lines) h
       go false = refl
 
   -- one round, in which nothing is fetched that the step does not read
   pub step-once : (s : State) (lines : ℕ) → OnceEnough (choiceOf s lines) s
-      → AskedOnce (λ n. toldByStep s n lines) (λ n. stepOf s n lines .number) (λ n. stepAnswer (stepOf s n lines)) (λ n. stepOf s n lines .memory) device have
+      → AskedOnce (λ n. toldByStep s n lines) (λ n. stepOf s n lines .number) (λ n. stepSeen (stepOf s n lines)) (λ n. stepOf s n lines .memory) device have
   step-once s lines h =
       let r = roundOf (λ n. toldByStep s n lines) device have in
       let e = step-reads s lines h in
       record {
         reads = e;
-        made = call-same (λ n. toldByStep s n lines) (λ n. stepOf s n lines .number) (λ n. stepAnswer (stepOf s n lines)) (λ n. stepOf s n lines .memory) (step-word s lines) device r
+        made = call-same (λ n. toldByStep s n lines) (λ n. stepOf s n lines .number) (λ n. stepSeen (stepOf s n lines)) (λ n. stepOf s n lines .memory) (step-word s lines) device r
             (along (λ n. toldByStep s n lines)) (subst (λ (ps : List Place). AgreeOn ps device r) e (got (λ n. toldByStep s n lines)));
       }
 
@@ -174,7 +174,7 @@ module _ (device have : Buffers) (w : Alongside device have) where
   command-system Halt block pb = tt
   command-system Unknown block pb = tt
 
-  order-system : (o : Order) (mode : Mode) → InSystem (placesRead (toldByOrder device o mode))
+  order-system : (o : Order) (mode : Mode) → InSystem (toldReadPlaces (toldByOrder device o mode))
   unfolding readUpTo
   order-system o mode =
       let reads = readBy (o .command) (o .block) (o .pb) in
@@ -183,23 +183,23 @@ module _ (device have : Buffers) (w : Alongside device have) where
       (system-both (span false (o .block) 1) _ (system-span false (o .block) 1 refl)
       (system-some (allTouchable device (span false (o .block) 1) && eqb (commandNumber (o .command) mode) 0) reads (command-system (o .command) (o .block) (o .pb))))
 
-  attention-system : (s : State) (channel : ℕ) → InSystem (placesRead (toldByAttention s device channel))
-  unfolding toldByAttention placesRead
+  attention-system : (s : State) (channel : ℕ) → InSystem (toldReadPlaces (toldByAttention s device channel))
+  unfolding toldByAttention toldReadPlaces
   attention-system s channel = go (eqb (givenTo s device channel) 0)
     where
-      go : (b : Bool) → InSystem (placesRead (pick b (toldByOrder device (orderTo s device (isSecond channel)) (channelOf s (isSecond channel) .mode)) []))
+      go : (b : Bool) → InSystem (toldReadPlaces (pick b (toldByOrder device (orderTo s device (isSecond channel)) (channelOf s (isSecond channel) .mode)) []))
       go true = order-system (orderTo s device (isSecond channel)) (channelOf s (isSecond channel) .mode)
       go false = tt
 
   -- an attention may be made at once
   pub attention-once : (s : State) (channel : ℕ)
-      → SameCall (λ n. toldByAttention s n channel) (λ n. attentionOf s n channel .number) (λ n. callAnswer (attentionOf s n channel)) (λ n. attentionOf s n channel .memory) device have
+      → SameCall (λ n. toldByAttention s n channel) (λ n. attentionOf s n channel .number) (λ n. outcomeSeen (attentionOf s n channel)) (λ n. attentionOf s n channel .memory) device have
   attention-once s channel =
-      call-same (λ n. toldByAttention s n channel) (λ n. attentionOf s n channel .number) (λ n. callAnswer (attentionOf s n channel)) (λ n. attentionOf s n channel .memory)
-      (attention-word s channel) device have w (system-agree (placesRead (toldByAttention s device channel)) (attention-system s channel))
+      call-same (λ n. toldByAttention s n channel) (λ n. attentionOf s n channel .number) (λ n. outcomeSeen (attentionOf s n channel)) (λ n. attentionOf s n channel .memory)
+      (attention-word s channel) device have w (system-agree (toldReadPlaces (toldByAttention s device channel)) (attention-system s channel))
 
-  power-system : InSystem (placesRead (toldByPower device))
-  unfolding toldByPower placesRead readUpTo
+  power-system : InSystem (toldReadPlaces (toldByPower device))
+  unfolding toldByPower toldReadPlaces readUpTo
   power-system = go (withinLimits device)
     where
       soc : List Place
@@ -214,10 +214,10 @@ module _ (device have : Buffers) (w : Alongside device have) where
           (system-both (span false configurationPlace 4) (soc ++ control) (system-span false configurationPlace 4 refl)
           (system-both soc control (system-span false (configurationOf device) 1 refl) (system-span false (controlPlace device) 4 refl)))
 
-      go : (b : Bool) → InSystem (placesRead (pick b (toldInStages device (powerStages device) (span false (busyIn (controlOf device)) 1)) []))
+      go : (b : Bool) → InSystem (toldReadPlaces (pick b (toldInStages device (powerStages device) (span false (busyIn (controlOf device)) 1)) []))
       go true = subst InSystem (sym (read-stages device (powerReads device) (span false (busyIn (controlOf device)) 1) [] _ (power-told device))) reads
       go false = tt
 
   -- and so may a power-up
-  pub power-once : (s : State) → SameCall toldByPower (λ n. powerUpOf s n .number) (λ n. callAnswer (powerUpOf s n)) (λ n. powerUpOf s n .memory) device have
-  power-once s = call-same toldByPower (λ n. powerUpOf s n .number) (λ n. callAnswer (powerUpOf s n)) (λ n. powerUpOf s n .memory) (power-word s) device have w (system-agree (placesRead (toldByPower device)) power-system)
+  pub power-once : (s : State) → SameCall toldByPower (λ n. powerUpOf s n .number) (λ n. outcomeSeen (powerUpOf s n)) (λ n. powerUpOf s n .memory) device have
+  power-once s = call-same toldByPower (λ n. powerUpOf s n .number) (λ n. outcomeSeen (powerUpOf s n)) (λ n. powerUpOf s n .memory) (power-word s) device have w (system-agree (toldReadPlaces (toldByPower device)) power-system)

@@ -33,10 +33,10 @@ use Rattle.promises_counts.proofs.AgreeLaws.{agree-left, agree-right, touchable
 use Rattle.promises_counts.proofs.Instruction.{decoded-same}
 use Rattle.promises_counts.proofs.Step.{entry-same}
 use Rattle.promises_counts.specs.Complete.{SameLengths, AgreeOn}
-use Rattle.promises_counts.specs.Lists.{stepAnswer}
+use Rattle.promises_counts.specs.Lists.{stepSeen}
 use Rattle.touch_rules.specs.Touches.{toldByTransfer, toldByInstruction, toldByChoice, toldByStep}
 use Rattle.promises_touches.specs.Protocol.{Alongside, AskedFirst, Begins, NextIsRead}
-use Rattle.promises_touches.specs.Words.{placesRead}
+use Rattle.promises_touches.specs.Words.{toldReadPlaces}
 use Rattle.promises_touches.proofs.DeedReads.{ReadsAlike, reads-alike}
 use Rattle.promises_touches.proofs.Instructions.{read-is}
 use Rattle.promises_touches.proofs.Rounds.{InThree, in-three-by, in-three-fixed, asked-first, next-read}
@@ -63,7 +63,7 @@ module _ (c : Channel) (busy : ℕ) where
   readsWith t d u k reads = bytesAt (c .tp) 2 ++ pick (t && eqb (numberOf d) 0) (laterFrom d c ++ pick (u && eqb k 0) reads []) []
 
   reads-are : (n : Buffers) → let d = decodedAt n (c .tp) in
-      placesRead (toldByInstruction n c busy) ≡ readsWith (allTouchable n (bytesAt (c .tp) 2)) d (allTouchable n (laterFrom d c)) (deedFrom d n c busy .second) (deedFrom d n c busy .reads)
+      toldReadPlaces (toldByInstruction n c busy) ≡ readsWith (allTouchable n (bytesAt (c .tp) 2)) d (allTouchable n (laterFrom d c)) (deedFrom d n c busy .second) (deedFrom d n c busy .reads)
   unfolding readsWith readUpTo
   reads-are n = read-is c busy n
 
@@ -77,20 +77,20 @@ module _ (c : Channel) (busy : ℕ) where
     beyondLater : List Place
     beyondLater = pick (allTouchable m (laterFrom d c) && eqb (deedFrom d m c busy .second) 0) (deedFrom d m c busy .reads) []
 
-    whole : placesRead (toldByInstruction m c busy) ≡ (bytesAt (c .tp) 2 ++ pick passes (laterFrom d c) []) ++ pick passes beyondLater []
+    whole : toldReadPlaces (toldByInstruction m c busy) ≡ (bytesAt (c .tp) 2 ++ pick passes (laterFrom d c) []) ++ pick passes beyondLater []
     unfolding readsWith beyondLater
     whole = reads-are m ∙ part-split passes (bytesAt (c .tp) 2) (laterFrom d c) beyondLater
 
     module _ (n : Buffers) (l : SameLengths m n) (h : AgreeOn (bytesAt (c .tp) 2) m n) where
       -- the pair is the same, and whether it passes
-      pair-then : placesRead (toldByInstruction n c busy)
+      pair-then : toldReadPlaces (toldByInstruction n c busy)
           ≡ readsWith (allTouchable m (bytesAt (c .tp) 2)) d (allTouchable m (laterFrom d c)) (deedFrom d n c busy .second) (deedFrom d n c busy .reads)
       pair-then =
           reads-are n
           ∙ ap (λ (x : Decoded). readsWith (allTouchable n (bytesAt (c .tp) 2)) x (allTouchable n (laterFrom x c)) (deedFrom x n c busy .second) (deedFrom x n c busy .reads)) (decoded-same c busy m n h)
           ∙ ap₂ (λ (t u : Bool). readsWith t d u (deedFrom d n c busy .second) (deedFrom d n c busy .reads)) (touchable-same m n l (bytesAt (c .tp) 2)) (touchable-same m n l (laterFrom d c))
 
-      later-then : Begins (bytesAt (c .tp) 2 ++ pick passes (laterFrom d c) []) (placesRead (toldByInstruction n c busy))
+      later-then : Begins (bytesAt (c .tp) 2 ++ pick passes (laterFrom d c) []) (toldReadPlaces (toldByInstruction n c busy))
       unfolding readsWith
       later-then =
           record {
@@ -99,7 +99,7 @@ module _ (c : Channel) (busy : ℕ) where
           }
 
       -- and what the deed reads, where the pair passes
-      pub deed-then : (x : Bool) → passes ≡ x → AgreeOn (pick x (laterFrom d c) []) m n → placesRead (toldByInstruction n c busy) ≡ placesRead (toldByInstruction m c busy)
+      pub deed-then : (x : Bool) → passes ≡ x → AgreeOn (pick x (laterFrom d c) []) m n → toldReadPlaces (toldByInstruction n c busy) ≡ toldReadPlaces (toldByInstruction m c busy)
       unfolding readsWith
       deed-then true e k =
           let a = deed-alike d m n k in
@@ -108,11 +108,11 @@ module _ (c : Channel) (busy : ℕ) where
           ∙ sym (reads-are m)
       deed-then false e k = pair-then ∙ rw e (sym (reads-are m ∙ rw e))
 
-    pair-first : (n : Buffers) → Begins (bytesAt (c .tp) 2) (placesRead (toldByInstruction n c busy))
+    pair-first : (n : Buffers) → Begins (bytesAt (c .tp) 2) (toldReadPlaces (toldByInstruction n c busy))
     unfolding readsWith
     pair-first n = record { rest = _; joined = reads-are n }
 
-    pub instruction-parts : InThree (λ n. placesRead (toldByInstruction n c busy)) m
+    pub instruction-parts : InThree (λ n. toldReadPlaces (toldByInstruction n c busy)) m
     instruction-parts =
         record {
           first = bytesAt (c .tp) 2;
@@ -171,43 +171,43 @@ module _ (c : Channel) (m : Buffers) where
   moved-parts FirstStore = in-three-fixed (firstPlace (source c) ∷ secondPlace (source c) ∷ []) m
   moved-parts (SecondStore byte) = in-three-fixed [] m
 
-  by-mode : (b : Bool) → badMode c ≡ b → InThree (λ n. placesRead (toldByTransfer c n)) m
-  unfolding placesRead
-  by-mode true e = in-three-by (λ n. placesRead (toldByTransfer c n)) (λ n. []) m (λ n l. ap placesRead (bad-told c n e)) (in-three-fixed [] m)
-  by-mode false e = in-three-by (λ n. placesRead (toldByTransfer c n)) (readsBy (partOf c) c) m (λ n l. moved-read c n e) (moved-parts (partOf c))
+  by-mode : (b : Bool) → badMode c ≡ b → InThree (λ n. toldReadPlaces (toldByTransfer c n)) m
+  unfolding toldReadPlaces
+  by-mode true e = in-three-by (λ n. toldReadPlaces (toldByTransfer c n)) (λ n. []) m (λ n l. ap toldReadPlaces (bad-told c n e)) (in-three-fixed [] m)
+  by-mode false e = in-three-by (λ n. toldReadPlaces (toldByTransfer c n)) (readsBy (partOf c) c) m (λ n l. moved-read c n e) (moved-parts (partOf c))
 
-  pub transfer-parts : InThree (λ n. placesRead (toldByTransfer c n)) m
+  pub transfer-parts : InThree (λ n. toldReadPlaces (toldByTransfer c n)) m
   transfer-parts = by-mode (badMode c) refl
 
 -- ---- a step
 
 module _ (s : State) (m : Buffers) where
-  turn-parts : (b x : Bool) → InThree (λ n. placesRead (pick x (toldByTransfer (channelOf s b) n) (toldByInstruction n (channelOf s b) (busyIn (blockOf s b))))) m
+  turn-parts : (b x : Bool) → InThree (λ n. toldReadPlaces (pick x (toldByTransfer (channelOf s b) n) (toldByInstruction n (channelOf s b) (busyIn (blockOf s b))))) m
   turn-parts b true = transfer-parts (channelOf s b) m
   turn-parts b false = instruction-parts (channelOf s b) (busyIn (blockOf s b)) m
 
-  chosen-parts : (x : Choice) → InThree (λ n. placesRead (toldByChoice x s n)) m
-  unfolding toldByChoice placesRead
+  chosen-parts : (x : Choice) → InThree (λ n. toldReadPlaces (toldByChoice x s n)) m
+  unfolding toldByChoice toldReadPlaces
   chosen-parts Nobody = in-three-fixed [] m
   chosen-parts (Ends b) = in-three-fixed [] m
   chosen-parts (Steps b) = turn-parts b (transferring (channelOf s b .psw))
 
-  entered-parts : (lines : ℕ) (b : Bool) → InThree (λ n. placesRead (pick b (toldByChoice (choiceOf s lines) s n) [])) m
-  unfolding placesRead
+  entered-parts : (lines : ℕ) (b : Bool) → InThree (λ n. toldReadPlaces (pick b (toldByChoice (choiceOf s lines) s n) [])) m
+  unfolding toldReadPlaces
   entered-parts lines true = chosen-parts (choiceOf s lines)
   entered-parts lines false = in-three-fixed [] m
 
-  step-parts : (lines : ℕ) → InThree (λ n. placesRead (toldByStep s n lines)) m
+  step-parts : (lines : ℕ) → InThree (λ n. toldReadPlaces (toldByStep s n lines)) m
   unfolding toldByStep
   step-parts lines =
-      in-three-by (λ n. placesRead (toldByStep s n lines)) (λ n. placesRead (pick (eqb (entryNumber s m lines) 0) (toldByChoice (choiceOf s lines) s n) [])) m
-      (λ n l. ap (λ (k : ℕ). placesRead (pick (eqb k 0) (toldByChoice (choiceOf s lines) s n) [])) (entry-same s m lines n l)) (entered-parts lines (eqb (entryNumber s m lines) 0))
+      in-three-by (λ n. toldReadPlaces (toldByStep s n lines)) (λ n. toldReadPlaces (pick (eqb (entryNumber s m lines) 0) (toldByChoice (choiceOf s lines) s n) [])) m
+      (λ n l. ap (λ (k : ℕ). toldReadPlaces (pick (eqb k 0) (toldByChoice (choiceOf s lines) s n) [])) (entry-same s m lines n l)) (entered-parts lines (eqb (entryNumber s m lines) 0))
 
 -- a host that asks before it steps: once the told reads stay, and at the latest after three rounds, its step is the device's
 pub step-asked : (s : State) (lines : ℕ) (device have : Buffers) → Alongside device have
-    → AskedFirst (λ n. toldByStep s n lines) (λ n. stepOf s n lines .number) (λ n. stepAnswer (stepOf s n lines)) (λ n. stepOf s n lines .memory) device have
+    → AskedFirst (λ n. toldByStep s n lines) (λ n. stepOf s n lines .number) (λ n. stepSeen (stepOf s n lines)) (λ n. stepOf s n lines .memory) device have
 step-asked s lines device have w =
-    asked-first (λ n. toldByStep s n lines) (λ n. stepOf s n lines .number) (λ n. stepAnswer (stepOf s n lines)) (λ n. stepOf s n lines .memory)
+    asked-first (λ n. toldByStep s n lines) (λ n. stepOf s n lines .number) (λ n. stepSeen (stepOf s n lines)) (λ n. stepOf s n lines .memory)
     (step-word s lines) device (step-parts s device lines) have w
 
 -- one that asks for each byte fetches nothing that the step on the device does not read

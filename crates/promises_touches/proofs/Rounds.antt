@@ -18,7 +18,7 @@ use Rattle.promises_counts.proofs.AgreeLaws.{agree-self, agree-left}
 use Rattle.promises_counts.specs.Complete.{SameLengths, AgreeOn}
 use Rattle.touch_rules.specs.Told.{Told}
 use Rattle.promises_touches.specs.Protocol.{fetchedAt, fetchedAll, roundOf, Alongside, SameCall, AskedFirst, Begins, NextIsRead}
-use Rattle.promises_touches.specs.Words.{placesRead, placesStored, KeepsWord}
+use Rattle.promises_touches.specs.Words.{toldReadPlaces, toldStorePlaces, KeepsWord}
 
 -- a byte of system space is the same where that is
 pub system-byte : (device have : Buffers) → have .sys ≡ device .sys → (a : ℕ) → byteAt have false a ≡ byteAt device false a
@@ -155,15 +155,15 @@ in-three-fixed ps device =
 module _ (told : Buffers → List Told) (device : Buffers) where
   pub round-alongside : (have : Buffers) → Alongside device have → Alongside device (roundOf told device have)
   unfolding roundOf
-  round-alongside have w = all-alongside device (placesRead (told have)) have w
+  round-alongside have w = all-alongside device (toldReadPlaces (told have)) have w
 
-  pub round-got : (have : Buffers) → Alongside device have → AgreeOn (placesRead (told have)) device (roundOf told device have)
+  pub round-got : (have : Buffers) → Alongside device have → AgreeOn (toldReadPlaces (told have)) device (roundOf told device have)
   unfolding roundOf
-  round-got have w = all-got device (placesRead (told have)) have w
+  round-got have w = all-got device (toldReadPlaces (told have)) have w
 
 module _ {A : Type 0} (told : Buffers → List Told) (number : Buffers → ℕ) (answer : Buffers → A) (after : Buffers → Buffers) (word : (m : Buffers) → KeepsWord told number answer after m) (device : Buffers) where
   -- memories that have the device's bytes at its reads
-  pub call-same : (have : Buffers) → Alongside device have → AgreeOn (placesRead (told device)) device have → SameCall told number answer after device have
+  pub call-same : (have : Buffers) → Alongside device have → AgreeOn (toldReadPlaces (told device)) device have → SameCall told number answer after device have
   call-same have w h =
       let k = word device in
       let q = k .same have (w .lengths) h in
@@ -171,26 +171,26 @@ module _ {A : Type 0} (told : Buffers → List Told) (number : Buffers → ℕ) 
         list = q .list;
         answered = q .answered;
         stores = k .stores;
-        placed = λ z. k .placed z ∙ ap placesStored (sym (q .list));
+        placed = λ z. k .placed z ∙ ap toldStorePlaces (sym (q .list));
         refused = k .refused;
         here = q .left;
-        there = k .same device (λ t. refl) (agree-self (placesRead (told device)) device) .left;
+        there = k .same device (λ t. refl) (agree-self (toldReadPlaces (told device)) device) .left;
       }
 
   -- a round that leaves the told reads
-  list-stays : (have : Buffers) → Alongside device have → placesRead (told (roundOf told device have)) ≡ placesRead (told have) → SameCall told number answer after device (roundOf told device have)
+  list-stays : (have : Buffers) → Alongside device have → toldReadPlaces (told (roundOf told device have)) ≡ toldReadPlaces (told have) → SameCall told number answer after device (roundOf told device have)
   list-stays have w e =
       let r = roundOf told device have in
-      let got : AgreeOn (placesRead (told r)) device r = subst (λ (ps : List Place). AgreeOn ps device r) (sym e) (round-got told device have w) in
-      let back = word r .same device (λ t. sym (round-alongside told device have w .lengths t)) (agree-back (placesRead (told r)) device r got) .list in
-      call-same r (round-alongside told device have w) (subst (λ (ts : List Told). AgreeOn (placesRead ts) device r) (sym back) got)
+      let got : AgreeOn (toldReadPlaces (told r)) device r = subst (λ (ps : List Place). AgreeOn ps device r) (sym e) (round-got told device have w) in
+      let back = word r .same device (λ t. sym (round-alongside told device have w .lengths t)) (agree-back (toldReadPlaces (told r)) device r got) .list in
+      call-same r (round-alongside told device have w) (subst (λ (ts : List Told). AgreeOn (toldReadPlaces ts) device r) (sym back) got)
 
   -- what is begun with is fetched
-  begun : (ps : List Place) (have : Buffers) → Alongside device have → Begins ps (placesRead (told have)) → AgreeOn ps device (roundOf told device have)
+  begun : (ps : List Place) (have : Buffers) → Alongside device have → Begins ps (toldReadPlaces (told have)) → AgreeOn ps device (roundOf told device have)
   begun ps have w b = agree-left device (roundOf told device have) ps (b .rest) (subst (λ (qs : List Place). AgreeOn qs device (roundOf told device have)) (b .joined) (round-got told device have w))
 
   -- three rounds
-  pub asked-first : InThree (λ n. placesRead (told n)) device → (have : Buffers) → Alongside device have → AskedFirst told number answer after device have
+  pub asked-first : InThree (λ n. toldReadPlaces (told n)) device → (have : Buffers) → Alongside device have → AskedFirst told number answer after device have
   asked-first p have w =
       let r₁ = roundOf told device have in
       let w₁ = round-alongside told device have w in
@@ -198,7 +198,7 @@ module _ {A : Type 0} (told : Buffers → List Told) (number : Buffers → ℕ) 
       let r₂ = roundOf told device r₁ in
       let w₂ = round-alongside told device r₁ w₁ in
       let h₂ : AgreeOn (p .first ++ p .second) device r₂ = begun (p .first ++ p .second) r₁ w₁ (p .two r₁ (w₁ .lengths) h₁) in
-      let e : placesRead (told r₂) ≡ placesRead (told device) = p .three r₂ (w₂ .lengths) h₂ ∙ sym (p .all) in
+      let e : toldReadPlaces (told r₂) ≡ toldReadPlaces (told device) = p .three r₂ (w₂ .lengths) h₂ ∙ sym (p .all) in
       record {
         stays = list-stays have w;
         third = e;
@@ -226,12 +226,12 @@ cut-apart (a ∷ ks) xs (b ∷ bs) ys p e =
     (cut-apart ks xs bs ys p (ap (drop 1) e))
 
 -- the next told read is the device's, where those before it are
-pub next-read : (told : Buffers → List Told) (device have : Buffers) → InThree (λ n. placesRead (told n)) have → Alongside device have → NextIsRead told device have
+pub next-read : (told : Buffers → List Told) (device have : Buffers) → InThree (λ n. toldReadPlaces (told n)) have → Alongside device have → NextIsRead told device have
 next-read told device have q w before behind p e h =
     ⊎-elim
-    (λ k. begins-on (before ++ (p ∷ [])) (q .first) (placesRead (told device)) k (q .one device lengths))
+    (λ k. begins-on (before ++ (p ∷ [])) (q .first) (toldReadPlaces (told device)) k (q .one device lengths))
     (λ k. ⊎-elim
-    (λ i. begins-on (before ++ (p ∷ [])) (q .first ++ q .second) (placesRead (told device)) i (q .two device lengths (within (q .first) k)))
+    (λ i. begins-on (before ++ (p ∷ [])) (q .first ++ q .second) (toldReadPlaces (told device)) i (q .two device lengths (within (q .first) k)))
     (λ i. record {
       rest = behind;
       joined = q .three device lengths (within (q .first ++ q .second) i) ∙ sym (q .all) ∙ e ∙ sym (append-assoc before (p ∷ []) behind);

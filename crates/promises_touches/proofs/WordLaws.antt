@@ -14,49 +14,49 @@ use Rattle.promises_counts.proofs.AgreeLaws.{touchable-same}
 use Rattle.promises_counts.specs.Complete.{SameLengths}
 use Rattle.touch_rules.proofs.ToldLaws.{toldUpTo}
 use Rattle.touch_rules.specs.Told.{Told, toldBeyond, toldReads, toldStores, toldApart, firstBeyond, stagesPlaces, stagesReached, toldInStages}
-use Rattle.promises_touches.specs.Words.{placesRead, placesStored}
+use Rattle.promises_touches.specs.Words.{toldReadPlaces, toldStorePlaces}
 
 -- ---- a mark changes neither
 
-pub read-marked : (m : Buffers) (ts : List Told) → placesRead (firstBeyond m ts) ≡ placesRead ts
-unfolding placesRead firstBeyond
+pub read-marked : (m : Buffers) (ts : List Told) → toldReadPlaces (firstBeyond m ts) ≡ toldReadPlaces ts
+unfolding toldReadPlaces firstBeyond
 read-marked m [] = refl
 read-marked m (t ∷ ts) = go (touchableAt m (t .place .tag) (t .place .address)) (read-marked m ts)
   where
-    go : (b : Bool) → placesRead (firstBeyond m ts) ≡ placesRead ts
-        → placesRead (pick b (t ∷ firstBeyond m ts) (toldBeyond t ∷ ts)) ≡ pick (t .store) (placesRead ts) (t .place ∷ placesRead ts)
+    go : (b : Bool) → toldReadPlaces (firstBeyond m ts) ≡ toldReadPlaces ts
+        → toldReadPlaces (pick b (t ∷ firstBeyond m ts) (toldBeyond t ∷ ts)) ≡ pick (t .store) (toldReadPlaces ts) (t .place ∷ toldReadPlaces ts)
     go true e = ap (λ (ps : List Place). pick (t .store) ps (t .place ∷ ps)) e
     go false e = refl
 
-pub stored-marked : (m : Buffers) (ts : List Told) → placesStored (firstBeyond m ts) ≡ placesStored ts
-unfolding placesStored firstBeyond
+pub stored-marked : (m : Buffers) (ts : List Told) → toldStorePlaces (firstBeyond m ts) ≡ toldStorePlaces ts
+unfolding toldStorePlaces firstBeyond
 stored-marked m [] = refl
 stored-marked m (t ∷ ts) = go (touchableAt m (t .place .tag) (t .place .address)) (stored-marked m ts)
   where
-    go : (b : Bool) → placesStored (firstBeyond m ts) ≡ placesStored ts
-        → placesStored (pick b (t ∷ firstBeyond m ts) (toldBeyond t ∷ ts)) ≡ pick (t .store) (t .place ∷ placesStored ts) (placesStored ts)
+    go : (b : Bool) → toldStorePlaces (firstBeyond m ts) ≡ toldStorePlaces ts
+        → toldStorePlaces (pick b (t ∷ firstBeyond m ts) (toldBeyond t ∷ ts)) ≡ pick (t .store) (t .place ∷ toldStorePlaces ts) (toldStorePlaces ts)
     go true e = ap (λ (ps : List Place). pick (t .store) (t .place ∷ ps) ps) e
     go false e = refl
 
 -- ---- reads and stores of a list told stage by stage
 
-reads-front : (ps : List Place) (ts : List Told) → placesRead (toldReads ps ++ ts) ≡ ps ++ placesRead ts
-unfolding placesRead toldReads
+reads-front : (ps : List Place) (ts : List Told) → toldReadPlaces (toldReads ps ++ ts) ≡ ps ++ toldReadPlaces ts
+unfolding toldReadPlaces toldReads
 reads-front [] ts = refl
 reads-front (p ∷ ps) ts = ap (λ (qs : List Place). p ∷ qs) (reads-front ps ts)
 
-stores-none : (ps : List Place) (ts : List Told) → placesStored (toldReads ps ++ ts) ≡ placesStored ts
-unfolding placesStored toldReads
+stores-none : (ps : List Place) (ts : List Told) → toldStorePlaces (toldReads ps ++ ts) ≡ toldStorePlaces ts
+unfolding toldStorePlaces toldReads
 stores-none [] ts = refl
 stores-none (p ∷ ps) ts = stores-none ps ts
 
-reads-none : (ps : List Place) → placesRead (toldStores ps) ≡ []
-unfolding placesRead toldStores
+reads-none : (ps : List Place) → toldReadPlaces (toldStores ps) ≡ []
+unfolding toldReadPlaces toldStores
 reads-none [] = refl
 reads-none (p ∷ ps) = reads-none ps
 
-stores-all : (ps : List Place) → placesStored (toldStores ps) ≡ ps
-unfolding placesStored toldStores
+stores-all : (ps : List Place) → toldStorePlaces (toldStores ps) ≡ ps
+unfolding toldStorePlaces toldStores
 stores-all [] = refl
 stores-all (p ∷ ps) = ap (λ (qs : List Place). p ∷ qs) (stores-all ps)
 
@@ -71,35 +71,35 @@ storedUpTo m [] stores = stores
 storedUpTo m (s ∷ rest) stores = pick (allTouchable m (s .places) && eqb (s .judged) 0) (storedUpTo m rest stores) []
 
 module _ (m : Buffers) (reads stores : List Place) where
-  read-up-to : (ss : List Stage) → placesRead (toldUpTo m ss reads stores) ≡ readUpTo m ss reads
-  unfolding toldUpTo readUpTo placesRead
+  read-up-to : (ss : List Stage) → toldReadPlaces (toldUpTo m ss reads stores) ≡ readUpTo m ss reads
+  unfolding toldUpTo readUpTo toldReadPlaces
   read-up-to [] = reads-front reads (toldStores stores) ∙ ap (λ (ps : List Place). reads ++ ps) (reads-none stores) ∙ append-nil reads
   read-up-to (s ∷ rest) =
       reads-front (s .places) _
       ∙ ap (λ (ps : List Place). s .places ++ ps) (go (allTouchable m (s .places) && eqb (s .judged) 0) ∙ ap (λ (ps : List Place). pick (allTouchable m (s .places) && eqb (s .judged) 0) ps []) (read-up-to rest))
     where
-      go : (b : Bool) → placesRead (pick b (toldUpTo m rest reads stores) []) ≡ pick b (placesRead (toldUpTo m rest reads stores)) []
+      go : (b : Bool) → toldReadPlaces (pick b (toldUpTo m rest reads stores) []) ≡ pick b (toldReadPlaces (toldUpTo m rest reads stores)) []
       go true = refl
       go false = refl
 
-  stored-up-to : (ss : List Stage) → placesStored (toldUpTo m ss reads stores) ≡ storedUpTo m ss stores
-  unfolding toldUpTo storedUpTo placesStored
+  stored-up-to : (ss : List Stage) → toldStorePlaces (toldUpTo m ss reads stores) ≡ storedUpTo m ss stores
+  unfolding toldUpTo storedUpTo toldStorePlaces
   stored-up-to [] = stores-none reads (toldStores stores) ∙ stores-all stores
   stored-up-to (s ∷ rest) =
       stores-none (s .places) _
       ∙ go (allTouchable m (s .places) && eqb (s .judged) 0)
       ∙ ap (λ (ps : List Place). pick (allTouchable m (s .places) && eqb (s .judged) 0) ps []) (stored-up-to rest)
     where
-      go : (b : Bool) → placesStored (pick b (toldUpTo m rest reads stores) []) ≡ pick b (placesStored (toldUpTo m rest reads stores)) []
+      go : (b : Bool) → toldStorePlaces (pick b (toldUpTo m rest reads stores) []) ≡ pick b (toldStorePlaces (toldUpTo m rest reads stores)) []
       go true = refl
       go false = refl
 
   -- with the place marked at which it stops
-  pub read-stages : (ss : List Stage) (ts : List Told) → ts ≡ firstBeyond m (toldUpTo m ss reads stores) → placesRead ts ≡ readUpTo m ss reads
-  read-stages ss ts e = ap placesRead e ∙ read-marked m (toldUpTo m ss reads stores) ∙ read-up-to ss
+  pub read-stages : (ss : List Stage) (ts : List Told) → ts ≡ firstBeyond m (toldUpTo m ss reads stores) → toldReadPlaces ts ≡ readUpTo m ss reads
+  read-stages ss ts e = ap toldReadPlaces e ∙ read-marked m (toldUpTo m ss reads stores) ∙ read-up-to ss
 
-  pub stored-stages : (ss : List Stage) (ts : List Told) → ts ≡ firstBeyond m (toldUpTo m ss reads stores) → placesStored ts ≡ storedUpTo m ss stores
-  stored-stages ss ts e = ap placesStored e ∙ stored-marked m (toldUpTo m ss reads stores) ∙ stored-up-to ss
+  pub stored-stages : (ss : List Stage) (ts : List Told) → ts ≡ firstBeyond m (toldUpTo m ss reads stores) → toldStorePlaces ts ≡ storedUpTo m ss stores
+  stored-stages ss ts e = ap toldStorePlaces e ∙ stored-marked m (toldUpTo m ss reads stores) ∙ stored-up-to ss
 
 -- ---- in memories of the same lengths
 

@@ -10,15 +10,15 @@ use lib.Dec.{eqb, ltb}
 use lib.ListN.{length, getD, replicate}
 use Rattle.ground_rules.specs.Choice.{pick}
 use Rattle.script_text.specs.Text.{untilSame}
-use Rattle.script_text.specs.declared.text.Call.{Call}
-use Rattle.script_text.specs.declared.text.Call.the-variants.{Nothing, Unknown, Make, Put, Set, Attention, Step, Dump, Show, Listing, Load, Reset, PowerUp, Sweep}
+use Rattle.script_text.specs.declared.text.ScriptCall.{ScriptCall}
+use Rattle.script_text.specs.declared.text.ScriptCall.the-variants.{Nothing, Unknown, Make, Put, Set, Attention, Step, Dump, Show, Listing, Load, Reset, PowerUp, Sweep}
 use Rattle.script.specs.Lent.{lentAfter}
 use Rattle.script.specs.Lines.{contentEnd, closesFile, fileFrom, fileEnd}
-use Rattle.script.specs.declared.Lent.{Lent}
+use Rattle.script.specs.declared.LentLengths.{LentLengths}
 
 -- `make` lends as many bytes as it names, and no other call changes what is lent
-pub lends : (lent : Lent)
-    → map (λ (call : Call). lentAfter call lent) (Make 5 6 7 ∷ Nothing ∷ Unknown ∷ Put true 1 ∷ Set 1 2 3 ∷ Attention 1 ∷ Step 1 ∷ Dump ∷ Show true 1 ∷ Listing true 1 2 ∷ Load ∷ Reset ∷ PowerUp ∷ Sweep 1 2 ∷ [])
+pub lends : (lent : LentLengths)
+    → map (λ (call : ScriptCall). lentAfter call lent) (Make 5 6 7 ∷ Nothing ∷ Unknown ∷ Put true 1 ∷ Set 1 2 3 ∷ Attention 1 ∷ Step 1 ∷ Dump ∷ Show true 1 ∷ Listing true 1 2 ∷ Load ∷ Reset ∷ PowerUp ∷ Sweep 1 2 ∷ [])
     ≡ record { sys = 5; io = 6 } ∷ replicate 13 lent
 unfolding lentAfter
 lends lent = refl

@@ -3,7 +3,7 @@ use libc::STDERR_FILENO;
 use libc::STDIN_FILENO;
 use libc::STDOUT_FILENO;
 use script_text::text;
-use script_text::text::Call;
+use script_text::text::ScriptCall;
 ghost use mathlib.Core.Path.{_≡_};
 ghost use mathlib.Core.Bool.{false};
 ghost use Prim.Native.Nat.{_+_, _≤_, _<_, min};
@@ -15,36 +15,36 @@ ghost use Rattle.script.specs.Lent.{lentAfter};
 ghost use Rattle.script.specs.Lines.{contentEnd, closesFile, fileEnd};
 
 // How many bytes of each buffer are lent.
-struct Lent {
+struct LentLengths {
     sys: usize,
     io: usize,
 }
 
 // How many bytes are lent after a call.
-fn lent_after(call: Call, lent: Lent) -> Lent
+fn lent_after(call: ScriptCall, lent: LentLengths) -> LentLengths
     requires { ⌜ Limited call ⌝ }
     requires { ⌜ (lent .sys ≤ 1048577) × (lent .io ≤ 65537) ⌝ }
     ensures { λ r. ⌜ r ≡ lentAfter call lent ⌝ }
     ensures { λ r. ⌜ (r .sys ≤ 1048577) × (r .io ≤ 65537) ⌝ }
 {
     match call {
-        Call::Make(sys, io, _) => Lent {
+        ScriptCall::Make(sys, io, _) => LentLengths {
             sys: sys as usize,
             io: io as usize,
         },
-        Call::Nothing => lent,
-        Call::Unknown => lent,
-        Call::Put(_, _) => lent,
-        Call::Set(_, _, _) => lent,
-        Call::Attention(_) => lent,
-        Call::Step(_) => lent,
-        Call::Dump => lent,
-        Call::Show(_, _) => lent,
-        Call::Listing(_, _, _) => lent,
-        Call::Load => lent,
-        Call::Reset => lent,
-        Call::PowerUp => lent,
-        Call::Sweep(_, _) => lent,
+        ScriptCall::Nothing => lent,
+        ScriptCall::Unknown => lent,
+        ScriptCall::Put(_, _) => lent,
+        ScriptCall::Set(_, _, _) => lent,
+        ScriptCall::Attention(_) => lent,
+        ScriptCall::Step(_) => lent,
+        ScriptCall::Dump => lent,
+        ScriptCall::Show(_, _) => lent,
+        ScriptCall::Listing(_, _, _) => lent,
+        ScriptCall::Load => lent,
+        ScriptCall::Reset => lent,
+        ScriptCall::PowerUp => lent,
+        ScriptCall::Sweep(_, _) => lent,
     }
 }
 
@@ -115,29 +115,29 @@ fn behind(text: &[u8], end: usize) -> usize
 }
 
 // What a call is given of the text, and where the next line starts.
-struct Given {
+struct GivenText {
     from: usize,
     to: usize,
     next: usize,
 }
 
 // What the call of the line from `at` to `content`, which ends at `end`, is given: that line, or the file that follows it.
-fn given_to(text: &[u8], at: usize, content: usize, end: usize, call: Call) -> Given
+fn given_to(text: &[u8], at: usize, content: usize, end: usize, call: ScriptCall) -> GivenText
     requires { ⌜ (at ≤ content) × (content ≤ end) × (end ≤ length (now text)) ⌝ }
     requires { ⌜ at < length (now text) ⌝ }
     ensures { λ r. ⌜ (r .from ≤ r .to) × (r .to ≤ length (now (text .entry))) × (at < r .next) × (r .next ≤ length (now (text .entry))) ⌝ }
 {
     let next = behind(text, end);
-    if let Call::Load = call {
+    if let ScriptCall::Load = call {
         let to = file_end(text, next);
         let last = line_end(text, to);
-        return Given {
+        return GivenText {
             from: next,
             to,
             next: behind(text, last),
         };
     }
-    Given {
+    GivenText {
         from: at,
         to: content,
         next,
@@ -165,12 +165,14 @@ fn say(words: &[u8]) {
 }
 
 // Says which line, counted from 1, was no call, or was shut out.
-fn complain(number: usize, call: Call) {
+fn complain(number: usize, call: ScriptCall) {
     say(b"line ");
     io::print_decimal(STDERR_FILENO, number as u64);
     match call {
-        Call::Put(_, _) => say(b": a byte past the buffer's end\n"),
-        Call::Listing(_, _, _) => say(b": no part of the buffer, or one of more than 1024 bytes\n"),
+        ScriptCall::Put(_, _) => say(b": a byte past the buffer's end\n"),
+        ScriptCall::Listing(_, _, _) => say(
+            b": no part of the buffer, or one of more than 1024 bytes\n",
+        ),
         _ => say(b": no call\n"),
     }
 }
@@ -183,7 +185,7 @@ fn play(text: &[u8], sys: &mut [u8], io: &mut [u8])
     let fresh = machine::states::fresh(0);
     let start = fresh.state;
     let mut state = start;
-    let mut lent = Lent { sys: 0, io: 0 };
+    let mut lent = LentLengths { sys: 0, io: 0 };
     let mut out = [0u8; 32768];
     let mut at: usize = 0;
     let mut number: usize = 1;

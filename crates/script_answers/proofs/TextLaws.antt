@@ -19,8 +19,8 @@ use Rattle.listing_rules.specs.Characters.{ascii}
 use Rattle.prom_rules.specs.Load.{loadOf}
 use Rattle.page.specs.Pages.{page, Behind, Printed}
 use Rattle.page.proofs.PageLaws.{printed, nothing-behind}
-use Rattle.script_text.specs.declared.text.Call.{Call}
-use Rattle.script_text.specs.declared.text.Call.the-variants.{Nothing, Unknown, Make, Put, Set, Attention, Step, Dump, Show, Listing, Load, Reset, PowerUp, Sweep}
+use Rattle.script_text.specs.declared.text.ScriptCall.{ScriptCall}
+use Rattle.script_text.specs.declared.text.ScriptCall.the-variants.{Nothing, Unknown, Make, Put, Set, Attention, Step, Dump, Show, Listing, Load, Reset, PowerUp, Sweep}
 use Rattle.script_lines.proofs.LengthLaws.{answer-short, counted-short, stepped-short, swept-short, loaded-short, dump-short, shown-short}
 use Rattle.script_answers.specs.Machine.{callMade}
 use Rattle.script_answers.specs.Shown.{advancedLine, sweepText, putLine, loadText, callText}
@@ -32,7 +32,7 @@ put-short true = answer-short (ascii "put ") 0
 put-short false = omega arith
 
 -- no call's text is longer than a listing's can be
-pub call-short : (call : Call) (line : List ℕ) (s : State) (m : Buffers) → length (callText call line s m) ≤ 28672
+pub call-short : (call : ScriptCall) (line : List ℕ) (s : State) (m : Buffers) → length (callText call line s m) ≤ 28672
 unfolding callText advancedLine sweepText loadText
 call-short Nothing line s m = omega arith
 call-short Unknown line s m = omega arith
@@ -53,14 +53,14 @@ call-short (Sweep channel lines) line s m =
     omega (arith, swept-short (sweepOf s m channel lines .number) (sweepOf s m channel lines .steps) (sweepOf s m channel lines .count))
 
 -- the text that was written from the start of such a buffer is the call's, whole
-pub shows : {call this : Call} (line : List ℕ) (s : State) (m : Buffers) {before after : List ℕ} {count : ℕ} → call ≡ this → 32768 ≡ length before
+pub shows : {call this : ScriptCall} (line : List ℕ) (s : State) (m : Buffers) {before after : List ℕ} {count : ℕ} → call ≡ this → 32768 ≡ length before
     → Behind (page before 0) (page after count) (callText this line s m) → Printed before after count (callText call line s m)
 shows {call} {this} line s m {before} {after} {count} e n w =
-    subst (λ (x : Call). Printed before after count (callText x line s m)) (sym e)
+    subst (λ (x : ScriptCall). Printed before after count (callText x line s m)) (sym e)
     (printed before after count (callText this line s m) (omega (arith, call-short this line s m)) w)
 
 -- a line that is passed over leaves any buffer as it was
-pub shows-nothing : {call : Call} (line : List ℕ) (s : State) (m : Buffers) (before : List ℕ) → call ≡ Nothing → Printed before before 0 (callText call line s m)
+pub shows-nothing : {call : ScriptCall} (line : List ℕ) (s : State) (m : Buffers) (before : List ℕ) → call ≡ Nothing → Printed before before 0 (callText call line s m)
 unfolding callText
 shows-nothing line s m before e =
-    subst (λ (x : Call). Printed before before 0 (callText x line s m)) (sym e) (printed before before 0 [] (omega arith) (nothing-behind (page before 0)))
+    subst (λ (x : ScriptCall). Printed before before 0 (callText x line s m)) (sym e) (printed before before 0 [] (omega arith) (nothing-behind (page before 0)))

@@ -13,8 +13,8 @@ use Rattle.attention_rules.specs.Power.{powerUpOf}
 use Rattle.turn_rules.specs.Step.{stepOf}
 use Rattle.sweep_rules.specs.Sweep.{sweepOf}
 use Rattle.prom_rules.specs.Load.{loadOf}
-use Rattle.script_text.specs.declared.text.Call.{Call}
-use Rattle.script_text.specs.declared.text.Call.the-variants.{Nothing, Unknown, Make, Put, Set, Attention, Step, Dump, Show, Listing, Load, Reset, PowerUp, Sweep}
+use Rattle.script_text.specs.declared.text.ScriptCall.{ScriptCall}
+use Rattle.script_text.specs.declared.text.ScriptCall.the-variants.{Nothing, Unknown, Make, Put, Set, Attention, Step, Dump, Show, Listing, Load, Reset, PowerUp, Sweep}
 use Rattle.script_text.specs.Text.{spanned, fourthSpan}
 use Rattle.script_text.specs.Registers.{withNamed}
 use Rattle.script_text.specs.Buffers.{bytesWritten, hasRoom}
@@ -64,7 +64,7 @@ unfoldable pub isPart : List ℕ → ℕ → ℕ → Bool
 isPart s at count = pick (leb 1 count) (pick (leb count 1024) (leb (at + count) (length s)) false) false
 
 -- what the call of a line makes of the machine; `line` is its line, for `prom` the file that follows it
-unfoldable pub callPerformed : Call → List ℕ → State → Buffers → Machine
+unfoldable pub callPerformed : ScriptCall → List ℕ → State → Buffers → Machine
 callPerformed Nothing line s m = machine s m
 callPerformed Unknown line s m = machine s m
 callPerformed (Make sys io cp) line s m = remade m cp
@@ -81,7 +81,7 @@ callPerformed PowerUp line s m = machinePowered s m
 callPerformed (Sweep channel lines) line s m = machineSwept s m channel lines
 
 -- whether a line's call was made: no call at all was not, no `put` past its buffer's end, and no `list` of what is no part
-unfoldable pub callMade : Call → List ℕ → Buffers → Bool
+unfoldable pub callMade : ScriptCall → List ℕ → Buffers → Bool
 callMade Nothing line m = true
 callMade Unknown line m = false
 callMade (Make sys io cp) line m = true

@@ -15,8 +15,8 @@ use Rattle.sweep_rules.specs.Sweep.{sweepOf}
 use Rattle.listing_rules.specs.Listings.{linesOf, allChars}
 use Rattle.listing_rules.specs.Characters.{ascii}
 use Rattle.prom_rules.specs.Load.{Loading, loadOf}
-use Rattle.script_text.specs.declared.text.Call.{Call}
-use Rattle.script_text.specs.declared.text.Call.the-variants.{Nothing, Unknown, Make, Put, Set, Attention, Step, Dump, Show, Listing, Load, Reset, PowerUp, Sweep}
+use Rattle.script_text.specs.declared.text.ScriptCall.{ScriptCall}
+use Rattle.script_text.specs.declared.text.ScriptCall.the-variants.{Nothing, Unknown, Make, Put, Set, Attention, Step, Dump, Show, Listing, Load, Reset, PowerUp, Sweep}
 use Rattle.script_lines.specs.Lines.{refusedLine, answerLine, countedLine, steppedLine, sweptLine, loadedLine, dumpText, shownLine}
 use Rattle.script_answers.specs.Machine.{isPart, callMade}
 
@@ -42,7 +42,7 @@ unfoldable pub loadText : Loading → List ℕ
 loadText l = loadedLine (l .number) (l .line) (l .start)
 
 -- the text that the call of a line shows; a line that is passed over shows none
-unfoldable pub callText : Call → List ℕ → State → Buffers → List ℕ
+unfoldable pub callText : ScriptCall → List ℕ → State → Buffers → List ℕ
 callText Nothing line s m = []
 callText Unknown line s m = refusedLine
 callText (Make sys io cp) line s m = answerLine (ascii "make ") (freshOf cp .number)

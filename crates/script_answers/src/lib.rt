@@ -3,7 +3,7 @@ use ground_rules::State;
 use script_text::buffers;
 use script_text::registers;
 use script_text::text;
-use script_text::text::Call;
+use script_text::text::ScriptCall;
 ghost use mathlib.Core.Path.{_≡_};
 ghost use mathlib.Core.Bool.{true};
 ghost use mathlib.Core.List.{[]};
@@ -217,7 +217,7 @@ fn sweep_channel(
 // Makes the call of a line, in the buffers that are lent after it; `line` is its line, for `prom` the file that follows it.
 pub fn perform(
     s: State,
-    call: Call,
+    call: ScriptCall,
     line: &[u8],
     sys: &mut [u8],
     io: &mut [u8],
@@ -228,18 +228,18 @@ pub fn perform(
     ensures { λ r. ⌜ Printed (now (out .entry)) (now (out .exit)) (r .count) (callText call (now (line .entry)) s (lent (sys .entry) (io .entry))) ⌝ }
 {
     match call {
-        Call::Nothing => Performed {
+        ScriptCall::Nothing => Performed {
             state: s,
             made: true,
             count: 0,
         },
-        Call::Unknown => Performed {
+        ScriptCall::Unknown => Performed {
             state: s,
             made: false,
             count: page::append(out, 0, b"?\n"),
         },
-        Call::Make(_, _, cp) => make(cp, sys, io, out),
-        Call::Put(io_space, address) => {
+        ScriptCall::Make(_, _, cp) => make(cp, sys, io, out),
+        ScriptCall::Put(io_space, address) => {
             let made = put(io_space, address, line, sys, io);
             Performed {
                 state: s,
@@ -247,7 +247,7 @@ pub fn perform(
                 count: put_line(out, made),
             }
         }
-        Call::Set(channel, register, value) => {
+        ScriptCall::Set(channel, register, value) => {
             let state = registers::with_register(s, channel, register, value);
             Performed {
                 state,
@@ -255,19 +255,19 @@ pub fn perform(
                 count: script_lines::answer_line(out, 0, b"set ", 0),
             }
         }
-        Call::Attention(channel) => attend(s, channel, sys, io, out),
-        Call::Step(lines) => advance(s, lines, sys, io, out),
-        Call::Dump => Performed {
+        ScriptCall::Attention(channel) => attend(s, channel, sys, io, out),
+        ScriptCall::Step(lines) => advance(s, lines, sys, io, out),
+        ScriptCall::Dump => Performed {
             state: s,
             made: true,
             count: script_lines::dump(out, 0, s, sys, io),
         },
-        Call::Show(io_space, address) => Performed {
+        ScriptCall::Show(io_space, address) => Performed {
             state: s,
             made: true,
             count: show(io_space, address, sys, io, out),
         },
-        Call::Listing(io_space, address, count) => {
+        ScriptCall::Listing(io_space, address, count) => {
             let l = list(io_space, address, count, sys, io, out);
             Performed {
                 state: s,
@@ -275,12 +275,12 @@ pub fn perform(
                 count: l.count,
             }
         }
-        Call::Load => Performed {
+        ScriptCall::Load => Performed {
             state: s,
             made: true,
             count: load(line, sys, out),
         },
-        Call::Reset => {
+        ScriptCall::Reset => {
             let state = machine::states::reset();
             Performed {
                 state,
@@ -288,7 +288,7 @@ pub fn perform(
                 count: script_lines::answer_line(out, 0, b"reset ", 0),
             }
         }
-        Call::PowerUp => wake(s, sys, io, out),
-        Call::Sweep(channel, lines) => sweep_channel(s, channel, lines, sys, io, out),
+        ScriptCall::PowerUp => wake(s, sys, io, out),
+        ScriptCall::Sweep(channel, lines) => sweep_channel(s, channel, lines, sys, io, out),
     }
 }

@@ -9,8 +9,8 @@ use lib.Dec.{ltb}
 use lib.ListN.{replicate}
 use Rattle.ground_rules.specs.Choice.{pick}
 use Rattle.listing_rules.specs.Characters.{ascii}
-use Rattle.script_text.specs.declared.text.Call.{Call}
-use Rattle.script_text.specs.declared.text.Call.the-variants.{Nothing, Unknown, Make, Put, Set, Attention, Step, Dump, Show, Listing, Load, Reset, PowerUp, Sweep}
+use Rattle.script_text.specs.declared.text.ScriptCall.{ScriptCall}
+use Rattle.script_text.specs.declared.text.ScriptCall.the-variants.{Nothing, Unknown, Make, Put, Set, Attention, Step, Dump, Show, Listing, Load, Reset, PowerUp, Sweep}
 use Rattle.ground_rules.specs.Holdings.{isHeldNumber}
 use Rattle.script_text.specs.Buffers.{digestByte, digestFrom, digestOf}
 use Rattle.script_text.specs.Names.{packed, nameOf, 'none, 'make, 'put, 'set, 'ca, 'step, 'dump, 'show, 'list, 'prom, 'reset, 'power, 'sweep, 'ga, 'gb, 'gc, 'tp, 'pp, 'bc, 'ix, 'cc, 'fields, 'mc, 'psw, 'ga-t, 'gb-t, 'gc-t, 'tp-t, 'arm, 'mode, 'held, 'cp, 'last, 'up, 'sysbus, 'soc, 'grant}
@@ -62,7 +62,7 @@ long-names = refl
 -- ---- the calls
 
 -- the call of a line
-abbrev pub said : String → Call
+abbrev pub said : String → ScriptCall
 said text = callOf (ascii text)
 
 -- what each call reads of its line; blanks around and between words do not matter, and what has no word or begins with # is passed over

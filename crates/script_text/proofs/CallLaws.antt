@@ -8,8 +8,8 @@ use borrow.Author.Tests.{leb-true}
 use lib.Dec.{leb, ltb, eqb}
 use lib.ListN.{getD}
 use Rattle.ground_rules.specs.Choice.{pick}
-use Rattle.script_text.specs.declared.text.Call.{Call}
-use Rattle.script_text.specs.declared.text.Call.the-variants.{Nothing, Unknown, Make, Put, Set, Attention, Step, Dump, Show, Listing, Load, Reset, PowerUp, Sweep}
+use Rattle.script_text.specs.declared.text.ScriptCall.{ScriptCall}
+use Rattle.script_text.specs.declared.text.ScriptCall.the-variants.{Nothing, Unknown, Make, Put, Set, Attention, Step, Dump, Show, Listing, Load, Reset, PowerUp, Sweep}
 use Rattle.script_text.specs.declared.text.Words.{Words}
 use Rattle.script_text.specs.Names.{'none, 'make, 'put, 'set, 'ca, 'step, 'dump, 'show, 'list, 'prom, 'reset, 'power, 'sweep}
 use Rattle.script_text.specs.Text.{noNumber, wordsOf}
@@ -17,7 +17,7 @@ use Rattle.script_text.specs.Registers.{fitsRegister}
 use Rattle.script_text.specs.Calls.{only, makeCall, putCall, setCall, attentionCall, stepCall, bareCall, showCall, listCall, sweepCall, callFrom, callOf, Limited}
 
 -- of two calls that keep the limits either one does
-either : (t : Bool) (a b : Call) → Limited a → Limited b → Limited (pick t a b)
+either : (t : Bool) (a b : ScriptCall) → Limited a → Limited b → Limited (pick t a b)
 either true a b p q = p
 either false a b p q = q
 
@@ -54,7 +54,7 @@ step-limited : (lines after : ℕ) → Limited (stepCall lines after)
 unfolding stepCall
 step-limited lines after = either (eqb after 'none) _ Unknown (either (ltb lines noNumber) (Step lines) Unknown tt tt) tt
 
-bare-limited : (call : Call) (after : ℕ) → Limited call → Limited (bareCall call after)
+bare-limited : (call : ScriptCall) (after : ℕ) → Limited call → Limited (bareCall call after)
 unfolding bareCall
 bare-limited call after limited = either (eqb after 'none) call Unknown limited tt
 

@@ -9,7 +9,7 @@ ghost use Rattle.script_text.specs.Text.{digitOf, untilSame, untilOther,
 ghost use Rattle.script_text.specs.Calls.{makeCall, putCall, setCall, attentionCall, stepCall, bareCall, showCall, listCall, sweepCall, callFrom, callOf};
 
 // What a line calls for; nothing where it is passed over, unknown where it is no call.
-pub enum Call {
+pub enum ScriptCall {
     Nothing,
     Unknown,
     Make(u32, u32, u32),
@@ -228,151 +228,151 @@ pub fn fourth_word(line: &[u8]) -> Span
 }
 
 // The call of `make` with its numbers, and the name of the word behind them.
-fn make_call(sys: u64, io: u64, cp: u64, after: u64) -> Call
+fn make_call(sys: u64, io: u64, cp: u64, after: u64) -> ScriptCall
     ensures { λ r. ⌜ r ≡ makeCall sys io cp after ⌝ }
 {
     if after != names::NONE {
-        return Call::Unknown;
+        return ScriptCall::Unknown;
     }
     if 0x10_0001 < sys {
-        return Call::Unknown;
+        return ScriptCall::Unknown;
     }
     if 0x1_0001 < io {
-        return Call::Unknown;
+        return ScriptCall::Unknown;
     }
     if NO_NUMBER <= cp {
-        return Call::Unknown;
+        return ScriptCall::Unknown;
     }
-    Call::Make(sys as u32, io as u32, cp as u32)
+    ScriptCall::Make(sys as u32, io as u32, cp as u32)
 }
 
 // The call of `put`.
-fn put_call(space: u64, address: u64, pairs: bool, after: u64) -> Call
+fn put_call(space: u64, address: u64, pairs: bool, after: u64) -> ScriptCall
     ensures { λ r. ⌜ r ≡ putCall space address pairs after ⌝ }
 {
     if after != names::NONE {
-        return Call::Unknown;
+        return ScriptCall::Unknown;
     }
     if !pairs {
-        return Call::Unknown;
+        return ScriptCall::Unknown;
     }
     if 2 <= space {
-        return Call::Unknown;
+        return ScriptCall::Unknown;
     }
     if NO_NUMBER <= address {
-        return Call::Unknown;
+        return ScriptCall::Unknown;
     }
-    Call::Put(space == 1, address as u32)
+    ScriptCall::Put(space == 1, address as u32)
 }
 
 // The call of `set`.
-fn set_call(channel: u64, register: u64, value: u64, after: u64) -> Call
+fn set_call(channel: u64, register: u64, value: u64, after: u64) -> ScriptCall
     ensures { λ r. ⌜ r ≡ setCall channel register value after ⌝ }
 {
     if after != names::NONE {
-        return Call::Unknown;
+        return ScriptCall::Unknown;
     }
     if NO_NUMBER <= channel {
-        return Call::Unknown;
+        return ScriptCall::Unknown;
     }
     if NO_NUMBER <= value {
-        return Call::Unknown;
+        return ScriptCall::Unknown;
     }
     if !registers::fits(channel as u32, register, value as u32) {
-        return Call::Unknown;
+        return ScriptCall::Unknown;
     }
-    Call::Set(channel as u32, register, value as u32)
+    ScriptCall::Set(channel as u32, register, value as u32)
 }
 
 // The call of `ca`.
-fn attention_call(channel: u64, after: u64) -> Call
+fn attention_call(channel: u64, after: u64) -> ScriptCall
     ensures { λ r. ⌜ r ≡ attentionCall channel after ⌝ }
 {
     if after != names::NONE {
-        return Call::Unknown;
+        return ScriptCall::Unknown;
     }
     if NO_NUMBER <= channel {
-        return Call::Unknown;
+        return ScriptCall::Unknown;
     }
-    Call::Attention(channel as u32)
+    ScriptCall::Attention(channel as u32)
 }
 
 // The call of `step`.
-fn step_call(lines: u64, after: u64) -> Call
+fn step_call(lines: u64, after: u64) -> ScriptCall
     ensures { λ r. ⌜ r ≡ stepCall lines after ⌝ }
 {
     if after != names::NONE {
-        return Call::Unknown;
+        return ScriptCall::Unknown;
     }
     if NO_NUMBER <= lines {
-        return Call::Unknown;
+        return ScriptCall::Unknown;
     }
-    Call::Step(lines as u32)
+    ScriptCall::Step(lines as u32)
 }
 
 // A call of one word.
-fn bare_call(call: Call, after: u64) -> Call
+fn bare_call(call: ScriptCall, after: u64) -> ScriptCall
     ensures { λ r. ⌜ r ≡ bareCall call after ⌝ }
 {
     if after != names::NONE {
-        return Call::Unknown;
+        return ScriptCall::Unknown;
     }
     call
 }
 
 // The call of `show`.
-fn show_call(space: u64, address: u64, after: u64) -> Call
+fn show_call(space: u64, address: u64, after: u64) -> ScriptCall
     ensures { λ r. ⌜ r ≡ showCall space address after ⌝ }
 {
     if after != names::NONE {
-        return Call::Unknown;
+        return ScriptCall::Unknown;
     }
     if 2 <= space {
-        return Call::Unknown;
+        return ScriptCall::Unknown;
     }
     if NO_NUMBER <= address {
-        return Call::Unknown;
+        return ScriptCall::Unknown;
     }
-    Call::Show(space == 1, address as u32)
+    ScriptCall::Show(space == 1, address as u32)
 }
 
 // The call of `list`.
-fn list_call(space: u64, address: u64, length: u64, after: u64) -> Call
+fn list_call(space: u64, address: u64, length: u64, after: u64) -> ScriptCall
     ensures { λ r. ⌜ r ≡ listCall space address length after ⌝ }
 {
     if after != names::NONE {
-        return Call::Unknown;
+        return ScriptCall::Unknown;
     }
     if 2 <= space {
-        return Call::Unknown;
+        return ScriptCall::Unknown;
     }
     if NO_NUMBER <= address {
-        return Call::Unknown;
+        return ScriptCall::Unknown;
     }
     if NO_NUMBER <= length {
-        return Call::Unknown;
+        return ScriptCall::Unknown;
     }
-    Call::Listing(space == 1, address as u32, length as u32)
+    ScriptCall::Listing(space == 1, address as u32, length as u32)
 }
 
 // The call of `sweep`.
-fn sweep_call(channel: u64, lines: u64, after: u64) -> Call
+fn sweep_call(channel: u64, lines: u64, after: u64) -> ScriptCall
     ensures { λ r. ⌜ r ≡ sweepCall channel lines after ⌝ }
 {
     if after != names::NONE {
-        return Call::Unknown;
+        return ScriptCall::Unknown;
     }
     if NO_NUMBER <= channel {
-        return Call::Unknown;
+        return ScriptCall::Unknown;
     }
     if NO_NUMBER <= lines {
-        return Call::Unknown;
+        return ScriptCall::Unknown;
     }
-    Call::Sweep(channel as u32, lines as u32)
+    ScriptCall::Sweep(channel as u32, lines as u32)
 }
 
 // The call that words are.
-fn call_from(w: Words) -> Call
+fn call_from(w: Words) -> ScriptCall
     ensures { λ r. ⌜ r ≡ callFrom w ⌝ }
 {
     let first = w.first;
@@ -382,20 +382,20 @@ fn call_from(w: Words) -> Call
     let fifth = w.fifth;
     let name = first.name;
     match name {
-        names::NONE => Call::Nothing,
+        names::NONE => ScriptCall::Nothing,
         names::MAKE => make_call(second.number, third.number, fourth.number, fifth.name),
         names::PUT => put_call(second.number, third.number, fourth.pairs, fifth.name),
         names::SET => set_call(second.number, third.name, fourth.number, fifth.name),
         names::CA => attention_call(second.number, third.name),
         names::STEP => step_call(second.number, third.name),
-        names::DUMP => bare_call(Call::Dump, second.name),
+        names::DUMP => bare_call(ScriptCall::Dump, second.name),
         names::SHOW => show_call(second.number, third.number, fourth.name),
         names::LIST => list_call(second.number, third.number, fourth.number, fifth.name),
-        names::PROM => bare_call(Call::Load, second.name),
-        names::RESET => bare_call(Call::Reset, second.name),
-        names::POWER => bare_call(Call::PowerUp, second.name),
+        names::PROM => bare_call(ScriptCall::Load, second.name),
+        names::RESET => bare_call(ScriptCall::Reset, second.name),
+        names::POWER => bare_call(ScriptCall::PowerUp, second.name),
         names::SWEEP => sweep_call(second.number, third.number, fourth.name),
-        _ => Call::Unknown,
+        _ => ScriptCall::Unknown,
     }
 }
 
@@ -407,11 +407,11 @@ fn first_byte(line: &[u8]) -> u8
 }
 
 // The call that a line is.
-pub fn call_of(line: &[u8]) -> Call
+pub fn call_of(line: &[u8]) -> ScriptCall
     ensures { λ r. ⌜ r ≡ callOf (now (line .entry)) ⌝ }
 {
     if first_byte(line) == 35 {
-        return Call::Nothing;
+        return ScriptCall::Nothing;
     }
     call_from(words_of(line))
 }

@@ -25,7 +25,7 @@ use Rattle.ground_rules.specs.declared.State.{State}
 use Rattle.attention_rules.proofs.Numbers.{attention-most}
 use Rattle.attention_rules.proofs.Outcomes.{refused-nothing}
 use Rattle.attention_rules.proofs.SoundLaws.{attention-agree}
-use Rattle.attention_rules.specs.Attention.{givenTo, orderedChannel, orderedMemory, attentionNumber, attentionOf, attentionCount}
+use Rattle.attention_rules.specs.Attention.{givenTo, channelAttended, orderedMemory, attentionNumber, attentionOf, attentionCount}
 use Rattle.attention_rules.proofs.PowerNumbers.{power-most}
 use Rattle.attention_rules.proofs.PowerOutcomes.{power-refused, power-accepted, found-agree}
 use Rattle.attention_rules.specs.Power.{foundState, powerUpOf, powerCount}
@@ -120,7 +120,7 @@ attention-agreed : (s : State) (m : Buffers) (channel : ℕ) → attentionOf s m
 unfolding attentionOf attentionNumber givenTo
 attention-agreed s m channel e =
     let b = isSecond channel in
-    given-agree s m (first-none-right _ _ (first-none-left _ _ (sym (settled-number (attentionNumber s m channel) s m (withChannel s b (orderedChannel s m b)) (orderedMemory s m b)) ∙ e)))
+    given-agree s m (first-none-right _ _ (first-none-left _ _ (sym (settled-number (attentionNumber s m channel) s m (withChannel s b (channelAttended s m b)) (orderedMemory s m b)) ∙ e)))
 
 step-agreed : (s : State) (m : Buffers) (lines : ℕ) → stepOf s m lines .number ≡ 0 → agree s ≡ true
 step-agreed s m lines =

@@ -23,7 +23,7 @@ use Rattle.ground_rules.specs.declared.Channel.{Channel}
 use Rattle.ground_rules.specs.declared.Held.{Held}
 use Rattle.ground_rules.specs.declared.Held.the-variants.{NoByte, Byte}
 use Rattle.ground_rules.specs.declared.State.{State}
-use Rattle.attention_rules.specs.Attention.{orderTo, orderedChannel, orderedMemory, attentionNumber, attentionOf}
+use Rattle.attention_rules.specs.Attention.{orderTo, channelAttended, orderedMemory, attentionNumber, attentionOf}
 use Rattle.attention_rules.specs.Effects.{started, suspended, resumed, commanded, channelOrdered}
 use Rattle.attention_rules.specs.declared.Command.{Command}
 use Rattle.attention_rules.specs.declared.Command.the-variants.{Update, StartLocal, StartSystem, Suspend, Resume, Halt, Unknown}
@@ -96,16 +96,16 @@ commanded-held Resume m pb c h = h
 commanded-held Halt m pb c h = tt
 commanded-held Unknown m pb c h = h
 
-ordered-held : (s : State) (m : Buffers) (b : Bool) → HeldFit s → HeldFits (orderedChannel s m b .held)
-unfolding orderedChannel channelOrdered withControl
+ordered-held : (s : State) (m : Buffers) (b : Bool) → HeldFit s → HeldFits (channelAttended s m b .held)
+unfolding channelAttended channelOrdered withControl
 ordered-held s m b h = commanded-held (orderTo s m b .command) m (orderTo s m b .pb) (channelOf s b) (channel-held s b h)
 
 pub attention-held : (s : State) (m : Buffers) (channel : ℕ) → HeldFit s → HeldFit (attentionOf s m channel .state)
 unfolding attentionOf
 attention-held s m channel h =
     let b = isSecond channel in
-    settled-state HeldFit (attentionNumber s m channel) s m (withChannel s b (orderedChannel s m b)) (orderedMemory s m b) h
-    (put-held s b (orderedChannel s m b) h (ordered-held s m b h))
+    settled-state HeldFit (attentionNumber s m channel) s m (withChannel s b (channelAttended s m b)) (orderedMemory s m b) h
+    (put-held s b (channelAttended s m b) h (ordered-held s m b h))
 
 -- ---- a step
 

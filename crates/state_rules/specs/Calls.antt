@@ -42,21 +42,21 @@ abbrev pub noState : List ℕ → Buffers → Service
 noState b m = served 17 b m
 
 -- what a fresh state leaves: no memory is lent to it
-pub record Made : Type 0 where
+pub record MadeBytes : Type 0 where
   pub answer : ℕ
   pub bytes : List ℕ
 
 -- such an outcome
-abbrev pub made : ℕ → List ℕ → Made
+abbrev pub made : ℕ → List ℕ → MadeBytes
 made answer bytes = record { answer = answer; bytes = bytes }
 
 -- a fresh state looks at the length alone
-unfoldable pub freshMade : List ℕ → ℕ → Made
+unfoldable pub freshMade : List ℕ → ℕ → MadeBytes
 freshMade b cp =
     pick (eqb (length b) stateLength) (made (answerFrom (freshOf cp .number) 0 0 0) (bytesOf (freshOf cp .state))) (made 17 b)
 
 -- so does reset, which is refused by nothing else
-unfoldable pub resetMade : List ℕ → Made
+unfoldable pub resetMade : List ℕ → MadeBytes
 resetMade b = pick (eqb (length b) stateLength) (made (answerFrom 0 0 0 0) (bytesOf resetState)) (made 17 b)
 
 -- a call that leaves this of the state that the bytes stand for, and counts so many bytes

@@ -64,11 +64,11 @@ returns-2 c =
     let text = s .args .text .now in
     let h = c .before .before .before .before .before .before .before .before .head in
     let number = number-left (labelsAt text (s .args .places .now) (s .args .addresses .now)) (labelsIn text (s .args .places .now) (s .args .addresses .now) (l .count)) (s .args .first) (l .bytes) (s .args .room) _ (saidBehind text (h .result)) _ (c .before .before .before .before .before .line-number .ensures _ (c .before .before .before .before .before .before .before .body .ensures) (l .bytes)) (c .before .before .before .before .before .before .behind .ensures) (l .inv .1 .1 .1 .0) in
-    let e = sym (l .inv .1 .1 .1 .1 .1) ∙ lines-end text (s .args .places .now) (s .args .addresses .now) (s .args .first) (s .args .room) (l .at) (l .line + 1) (l .count) (l .bytes) (h .result) (h .ensures) _ number (c .before .before .before .before .if1 .left) (said-last text (l .at) _ (c .before .line-end .ensures) (c .if2 .taken)) in
+    let e = sym (l .inv .1 .1 .1 .1 .1) ∙ lines-end text (s .args .places .now) (s .args .addresses .now) (s .args .first) (s .args .room) (l .at) (l .line + 1) (l .count) (l .bytes) (h .result) (h .ensures) _ number (c .before .before .before .before .if1 .left) (said-last text (l .at) _ (c .before .line-stop .ensures) (c .if2 .taken)) in
     record { number = sym (ap (λ (f : Failed). f .number) e); line = λ k. absurd (k refl) }
 
 loop-less : tie.Need-loop-less Inv-loop μ-loop
-loop-less c = let l = c .before .before .before .before .before .before .before .before .before .loop in omega (arith, end-behind (c .before .before .before .before .before .before .before .before .before .before .before .before .before .args .text .now) (l .at), c .before .line-end .ensures, c .if2 .left, l .inv .0)
+loop-less c = let l = c .before .before .before .before .before .before .before .before .before .loop in omega (arith, end-behind (c .before .before .before .before .before .before .before .before .before .before .before .before .before .args .text .now) (l .at), c .before .line-stop .ensures, c .if2 .left, l .inv .0)
 
 loop-again : tie.Need-loop-again Inv-loop μ-loop
 loop-again c =
@@ -78,8 +78,8 @@ loop-again c =
     let h = c .before .before .before .before .before .before .before .before .head in
     let number = number-left (labelsAt text (s .args .places .now) (s .args .addresses .now)) (labelsIn text (s .args .places .now) (s .args .addresses .now) (l .count)) (s .args .first) (l .bytes) (s .args .room) _ (saidBehind text (h .result)) _ (c .before .before .before .before .before .line-number .ensures _ (c .before .before .before .before .before .before .before .body .ensures) (l .bytes)) (c .before .before .before .before .before .before .behind .ensures) (l .inv .1 .1 .1 .0) in
     let sized = c .before .before .size .ensures text _ (c .before .before .before .before .before .before .before .body .ensures) in
-    let g = line-goes text (s .args .places .now) (s .args .addresses .now) (s .args .first) (s .args .room) (l .at) (l .line + 1) (l .count) (l .bytes) (h .result) (h .ensures) _ number (s .pre .0) (l .inv .1 .1 .0) (l .inv .1 .1 .1 .1 .0) (c .before .before .before .before .if1 .left) _ _ _ (said-next text (l .at) _ (c .before .line-end .ensures) (c .if2 .left)) sized (c .before .before .before .and-its .ensures) in
-    (omega (arith, c .if2 .left), (omega (arith, end-behind text (l .at), c .before .line-end .ensures, l .inv .1 .0), (g .inside, (omega (arith, sized, line-inside-room text (s .args .places .now) (s .args .addresses .now) (s .args .first) (s .args .room) (l .at) (l .line + 1) (l .count) (l .bytes) (h .result) (h .ensures) _ number (c .before .before .before .before .if1 .left) (l .inv .1 .1 .1 .0)), (g .all, g .fails ∙ l .inv .1 .1 .1 .1 .1)))))
+    let g = line-goes text (s .args .places .now) (s .args .addresses .now) (s .args .first) (s .args .room) (l .at) (l .line + 1) (l .count) (l .bytes) (h .result) (h .ensures) _ number (s .pre .0) (l .inv .1 .1 .0) (l .inv .1 .1 .1 .1 .0) (c .before .before .before .before .if1 .left) _ _ _ (said-next text (l .at) _ (c .before .line-stop .ensures) (c .if2 .left)) sized (c .before .before .before .and-its .ensures) in
+    (omega (arith, c .if2 .left), (omega (arith, end-behind text (l .at), c .before .line-stop .ensures, l .inv .1 .0), (g .inside, (omega (arith, sized, line-inside-room text (s .args .places .now) (s .args .addresses .now) (s .args .first) (s .args .room) (l .at) (l .line + 1) (l .count) (l .bytes) (h .result) (h .ensures) _ number (c .before .before .before .before .if1 .left) (l .inv .1 .1 .1 .0)), (g .all, g .fails ∙ l .inv .1 .1 .1 .1 .1)))))
 
 pub failed-spec : {M : Type 1} → statement M
 failed-spec = tie.close (tie.spec Inv-loop μ-loop loop-holds (λ c κs. search needs) (λ c κs. search needs) (λ c κs. search needs) (λ c. search needs) line-number-requires returns and-its-requires (λ c κs. search needs) add-bytes (λ c κs. search needs) returns-2 (λ c. search needs) (λ c. search needs) loop-less loop-again)

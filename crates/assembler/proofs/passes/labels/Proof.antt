@@ -40,11 +40,11 @@ returns c =
     let l = c .before .before .before .before .before .before .before .before .before .before .before .before .before .loop in
     let text = s .args .text .now in
     let kept = c .before .before .before .before .before .before .before .before .before .kept in
-    let last = said-last text (l .at) _ (c .before .line-end .ensures) (c .if1 .taken) in
+    let last = said-last text (l .at) _ (c .before .line-stop .ensures) (c .if1 .taken) in
     (kept .ensures .0, (kept .ensures .1 .0, kept .ensures .1 .1 ∙ sym (labels-last text (l .at) _ (c .before .before .before .before .before .before .before .before .before .before .before .before .head .ensures) (labelsIn text (l .places) (l .addresses) (l .count)) (l .address) (l .inv .1 .0) last) ∙ l .inv .1 .1 .1 .1 .1))
 
 loop-less : tie.Need-loop-less Inv-loop μ-loop
-loop-less c = let l = c .before .before .before .before .before .before .before .before .before .before .before .before .before .loop in omega (arith, end-behind (c .before .before .before .before .before .before .before .before .before .before .before .before .before .before .before .before .before .args .text .now) (l .at), c .before .line-end .ensures, c .if1 .left, l .inv .0)
+loop-less c = let l = c .before .before .before .before .before .before .before .before .before .before .before .before .before .loop in omega (arith, end-behind (c .before .before .before .before .before .before .before .before .before .before .before .before .before .before .before .before .before .args .text .now) (l .at), c .before .line-stop .ensures, c .if1 .left, l .inv .0)
 
 loop-again : tie.Need-loop-again Inv-loop μ-loop
 loop-again c =
@@ -52,7 +52,7 @@ loop-again c =
     let l = c .before .before .before .before .before .before .before .before .before .before .before .before .before .loop in
     let text = s .args .text .now in
     let kept = c .before .before .before .before .before .before .before .before .before .kept in
-    let next = said-next text (l .at) _ (c .before .line-end .ensures) (c .if1 .left) in
+    let next = said-next text (l .at) _ (c .before .line-stop .ensures) (c .if1 .left) in
     let size = c .before .before .before .size .ensures text _ (c .before .before .before .before .body .ensures) in
     let more = labels-next text (l .at) _ (c .before .before .before .before .before .before .before .before .before .before .before .before .head .ensures) (labelsIn text (l .places) (l .addresses) (l .count)) (l .address) (l .inv .1 .0) _ _ _ _ next size (kept .ensures .1 .1) (c .before .before .behind .ensures) in
     let address = c .before .before .behind .ensures in

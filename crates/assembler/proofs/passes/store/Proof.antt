@@ -61,11 +61,11 @@ returns c =
     let h = c .before .before .before .before .before .before .before .before .before .head in
     let labels = labelsAt text (s .args .places .now) (s .args .addresses .now) in
     let sized = c .before .before .size .ensures text _ (c .before .before .before .before .before .before .before .before .body .ensures) in
-    let on = line-stored text (l .at) (h .result) (h .ensures) labels (s .args .first) (l .bytes) (bytesFrom labels (s .args .first) 0 (saidFrom text 0)) (s .args .code .now) (l .code) (s .pre .0) (s .pre .1) (l .inv .1) _ sized _ _ _ (said-last text (l .at) _ (c .before .line-end .ensures) (c .if1 .taken)) (c .before .before .before .before .before .before .before .behind .ensures) (c .before .before .before .before .before .put .ensures _ (c .before .before .before .before .before .before .before .before .body .ensures)) in
+    let on = line-stored text (l .at) (h .result) (h .ensures) labels (s .args .first) (l .bytes) (bytesFrom labels (s .args .first) 0 (saidFrom text 0)) (s .args .code .now) (l .code) (s .pre .0) (s .pre .1) (l .inv .1) _ sized _ _ _ (said-last text (l .at) _ (c .before .line-stop .ensures) (c .if1 .taken)) (c .before .before .before .before .before .before .before .behind .ensures) (c .before .before .before .before .before .put .ensures _ (c .before .before .before .before .before .before .before .before .body .ensures)) in
     laid-all labels (s .args .first) _ _ (s .args .code .now) _ _ on
 
 loop-less : tie.Need-loop-less Inv-loop μ-loop
-loop-less c = let l = c .before .before .before .before .before .before .before .before .before .before .loop in omega (arith, end-behind (c .before .before .before .before .before .before .before .before .before .before .before .before .before .before .before .args .text .now) (l .at), c .before .line-end .ensures, c .if1 .left, l .inv .0)
+loop-less c = let l = c .before .before .before .before .before .before .before .before .before .before .loop in omega (arith, end-behind (c .before .before .before .before .before .before .before .before .before .before .before .before .before .before .before .args .text .now) (l .at), c .before .line-stop .ensures, c .if1 .left, l .inv .0)
 
 loop-again : tie.Need-loop-again Inv-loop μ-loop
 loop-again c =
@@ -75,7 +75,7 @@ loop-again c =
     let h = c .before .before .before .before .before .before .before .before .before .head in
     let labels = labelsAt text (s .args .places .now) (s .args .addresses .now) in
     let sized = c .before .before .size .ensures text _ (c .before .before .before .before .before .before .before .before .body .ensures) in
-    let on = line-stored text (l .at) (h .result) (h .ensures) labels (s .args .first) (l .bytes) (bytesFrom labels (s .args .first) 0 (saidFrom text 0)) (s .args .code .now) (l .code) (s .pre .0) (s .pre .1) (l .inv .1) _ sized _ _ _ (said-next text (l .at) _ (c .before .line-end .ensures) (c .if1 .left)) (c .before .before .before .before .before .before .before .behind .ensures) (c .before .before .before .before .before .put .ensures _ (c .before .before .before .before .before .before .before .before .body .ensures)) in
+    let on = line-stored text (l .at) (h .result) (h .ensures) labels (s .args .first) (l .bytes) (bytesFrom labels (s .args .first) 0 (saidFrom text 0)) (s .args .code .now) (l .code) (s .pre .0) (s .pre .1) (l .inv .1) _ sized _ _ _ (said-next text (l .at) _ (c .before .line-stop .ensures) (c .if1 .left)) (c .before .before .before .before .before .before .before .behind .ensures) (c .before .before .before .before .before .put .ensures _ (c .before .before .before .before .before .before .before .before .body .ensures)) in
     (omega (arith, c .if1 .left), on)
 
 pub store-spec : {M : Type 1} → statement M

@@ -10,7 +10,7 @@ use lib.ListN.{length}
 use Rattle.ground_rules.specs.Choice.{pick}
 use Rattle.assembler_text.specs.Places.{stopAt, labelsAt}
 use Rattle.assembler_forms.proofs.RowLaws.{comma-inside}
-use Rattle.assembler_bytes.specs.Laid.{dataAt, SumsAll}
+use Rattle.assembler_bytes.specs.Laid.{dataAt, PartsAreSums}
 use Rattle.assembler_bytes.proofs.DataLaws.{itemsAt, data-none, data-some, ends-inside, numberFrom, number-all, number-none, turn-unknown, turn-last, turn-next}
 use Rattle.assembler_bytes.proofs.data.data_number.Statement.{statement}
 use Rattle.assembler_bytes.proofs.data.data_number.Tie as tie
@@ -18,7 +18,7 @@ use Rattle.assembler_bytes.proofs.data.data_number.Tie as tie
 abbrev Inv-loop : tie.InvT-loop
 Inv-loop text two place places addresses stands₀ at₀ stands at =
     let labels = labelsAt text places addresses in
-    (at ≤ length text) × (SumsAll (dataAt text place) → SumsAll (itemsAt text at) × (numberFrom labels two stands (itemsAt text at) ≡ numberFrom labels two true (dataAt text place)))
+    (at ≤ length text) × (PartsAreSums (dataAt text place) → PartsAreSums (itemsAt text at) × (numberFrom labels two stands (itemsAt text at) ≡ numberFrom labels two true (dataAt text place)))
 
 abbrev μ-loop : tie.MeasureT-loop
 μ-loop text two place places addresses stands₀ at₀ stands at = length text + 1 - at
@@ -34,7 +34,7 @@ loop-holds c =
     let a = c .before .before .before .before .before .args in
     let labels = labelsAt (a .text .now) (a .places .now) (a .addresses .now) in
     let e = data-some (a .text .now) (a .place) (sym (c .before .ends .ensures) ∙ c .if1 .left) in
-    (ends-inside (a .text .now) (a .place) (sym (c .before .ends .ensures) ∙ c .if1 .left), λ g. (subst SumsAll e g, ap (numberFrom labels (a .two) true) (sym e)))
+    (ends-inside (a .text .now) (a .place) (sym (c .before .ends .ensures) ∙ c .if1 .left), λ g. (subst PartsAreSums e g, ap (numberFrom labels (a .two) true) (sym e)))
 
 returns-2 : tie.Need-returns-2 Inv-loop μ-loop
 returns-2 c g address =

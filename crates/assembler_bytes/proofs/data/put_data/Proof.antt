@@ -11,7 +11,7 @@ use Rattle.assembly_rules.specs.Text.{Token}
 use Rattle.assembly_rules.specs.Statements.{itemsBytes}
 use Rattle.assembler_text.specs.Places.{stopAt, labelsAt}
 use Rattle.assembler_forms.proofs.RowLaws.{comma-inside}
-use Rattle.assembler_bytes.specs.Laid.{laidAt, dataAt, SumsAll}
+use Rattle.assembler_bytes.specs.Laid.{laidAt, dataAt, PartsAreSums}
 use Rattle.assembler_bytes.proofs.LaidLaws.{laid-none}
 use Rattle.assembler_bytes.proofs.DataLaws.{itemsAt, data-none, data-some, ends-inside, bytes-none, bytes-last, bytes-next}
 use Rattle.assembler_bytes.proofs.data.put_data.Statement.{statement}
@@ -20,7 +20,7 @@ use Rattle.assembler_bytes.proofs.data.put_data.Tie as tie
 abbrev Inv-loop : tie.InvT-loop
 Inv-loop text two place places addresses code₀ i₀ at₀ code i at =
     let labels = labelsAt text places addresses in
-    (at ≤ length text) × (length code ≡ length code₀) × (SumsAll (dataAt text place) → SumsAll (itemsAt text at) × (laidAt code i (itemsBytes labels two (itemsAt text at)) ≡ laidAt code₀ 0 (itemsBytes labels two (dataAt text place))))
+    (at ≤ length text) × (length code ≡ length code₀) × (PartsAreSums (dataAt text place) → PartsAreSums (itemsAt text at) × (laidAt code i (itemsBytes labels two (itemsAt text at)) ≡ laidAt code₀ 0 (itemsBytes labels two (dataAt text place))))
 
 abbrev μ-loop : tie.MeasureT-loop
 μ-loop text two place places addresses code₀ i₀ at₀ code i at = length text + 1 - at
@@ -36,7 +36,7 @@ loop-holds c =
     let a = c .before .before .before .before .before .before .args in
     let labels = labelsAt (a .text .now) (a .places .now) (a .addresses .now) in
     let e = data-some (a .text .now) (a .place) (sym (c .before .ends .ensures) ∙ c .if1 .left) in
-    (ends-inside (a .text .now) (a .place) (sym (c .before .ends .ensures) ∙ c .if1 .left), refl, λ g. (subst SumsAll e g, ap (λ (ps : List (List Token)). laidAt (a .code .now) 0 (itemsBytes labels (a .two) ps)) (sym e)))
+    (ends-inside (a .text .now) (a .place) (sym (c .before .ends .ensures) ∙ c .if1 .left), refl, λ g. (subst PartsAreSums e g, ap (λ (ps : List (List Token)). laidAt (a .code .now) 0 (itemsBytes labels (a .two) ps)) (sym e)))
 
 returns-2 : tie.Need-returns-2 Inv-loop μ-loop
 returns-2 c g =
