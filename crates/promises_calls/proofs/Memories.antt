@@ -72,11 +72,11 @@ steps-of-bytes (suc left) s m lines done all h =
     (steps-of-bytes left (o .state) (o .memory) lines (done + 1) kept (step-held s m lines all h)) kept
 
 -- a state whose channels have a byte as PSW and hold a byte or nothing, as every run begins with
-abbrev Begins : State → Type 0
-Begins s = ((b : Bool) → channelOf s b .psw < 256) × HeldFit s
+abbrev BytesFit : State → Type 0
+BytesFit s = ((b : Bool) → channelOf s b .psw < 256) × HeldFit s
 
 -- one attention, and steps where it is accepted
-attended-of-bytes : (s : State) (m : Buffers) (channel lines limit : ℕ) → AllBytes m → Begins s → AllBytes (attendedRun (attentionOf s m channel) lines limit .memory)
+attended-of-bytes : (s : State) (m : Buffers) (channel lines limit : ℕ) → AllBytes m → BytesFit s → AllBytes (attendedRun (attentionOf s m channel) lines limit .memory)
 unfolding attendedRun
 attended-of-bytes s m channel lines limit all h =
     let o = attentionOf s m channel in
@@ -84,7 +84,7 @@ attended-of-bytes s m channel lines limit all h =
     either-run (eqb (o .number) 0) (stepsFrom limit (o .state) (o .memory) lines 0) (ran (o .number) 0 (o .memory))
     (steps-of-bytes limit (o .state) (o .memory) lines 0 kept (attention-held s m channel (h .1))) kept
 
-started-of-bytes : (fresh : Made) (m : Buffers) (channel lines limit : ℕ) → AllBytes m → Begins (fresh .state) → AllBytes (startedRun fresh m channel lines limit .memory)
+started-of-bytes : (fresh : Made) (m : Buffers) (channel lines limit : ℕ) → AllBytes m → BytesFit (fresh .state) → AllBytes (startedRun fresh m channel lines limit .memory)
 unfolding startedRun
 started-of-bytes fresh m channel lines limit all h =
     either-run (eqb (fresh .number) 0) (attendedRun (attentionOf (fresh .state) m channel) lines limit) (ran (fresh .number) 0 m)
@@ -92,21 +92,21 @@ started-of-bytes fresh m channel lines limit all h =
 
 -- ---- where a run begins
 
-blank-begins : (cp : ℕ) (set : Board) → Begins (blankState cp set)
+blank-begins : (cp : ℕ) (set : Board) → BytesFit (blankState cp set)
 unfolding idleChannel channelOf
 blank-begins cp set = (λ b. elim b [ true ↦ lit< tt | false ↦ lit< tt ], (tt, tt))
 
-fresh-begins : (cp : ℕ) → Begins (freshOf cp .state)
+fresh-begins : (cp : ℕ) → BytesFit (freshOf cp .state)
 unfolding freshOf freshState
 fresh-begins cp = go (ltb cp 1048576)
   where
-    go : (b : Bool) → Begins ((pick {A = Made} b (record { number = 0; state = freshState cp }) (record { number = 10; state = freshState 0 })) .state)
+    go : (b : Bool) → BytesFit ((pick {A = Made} b (record { number = 0; state = freshState cp }) (record { number = 10; state = freshState 0 })) .state)
     go true = blank-begins cp _
     go false = blank-begins 0 _
 
-power-begins : (m : Buffers) → Begins (powerUpOf resetState m .state)
+power-begins : (m : Buffers) → BytesFit (powerUpOf resetState m .state)
 unfolding powerUpOf foundState resetState
-power-begins m = settled-state Begins (powerNumber m) resetState m (foundState m) (foundMemory m) (blank-begins 0 _) (blank-begins (controlOf m) (boardOf m))
+power-begins m = settled-state BytesFit (powerNumber m) resetState m (foundState m) (foundMemory m) (blank-begins 0 _) (blank-begins (controlOf m) (boardOf m))
 
 -- ---- the runs
 
