@@ -167,11 +167,13 @@ $(PROGRAMS): program-%:
 # The proved library, as an archive for C.
 lib: $(ARCHIVES) $(SHARED) $(SHARED_SERVICE)
 
-# The archive is made again where a file of its crates is not what it was; their list is kept by content.
-$(IOP89_LIB): $(BUILD)/run_call.sums
-	@tools/prove staticlib run_call
-	cp $(TARGET)/staticlib/librun_call.a $@
-	@touch $@
+# An archive is made again where a file of its crates is not what it was; their list is kept by content. The object of
+# both runs stands in both archives, the same, so that either has its calls and a program that links both has it once.
+RUN_CRATES = run_call version_call
+
+$(IOP89_LIB): $(RUN_CRATES:%=$(BUILD)/%.sums)
+	@tools/prove staticlib $(RUN_CRATES)
+	@AR="$(X86_AR)" tools/join-archives $@ $(RUN_CRATES:%=$(TARGET)/staticlib/lib%.a)
 
 # The same as shared objects, whose names have the header's version; each exports its calls alone.
 VERSION := $(shell awk '$$2 == "IOP89_VERSION" { print int($$3 / 100) "." $$3 % 100; exit }' include/iop89.h)
@@ -309,8 +311,8 @@ service-lib: $(SERVICE_LIB)
 
 # Thin crates that hold exported functions alone: what they rest on is not proved again for an archive. All else in an
 # archive is local, so they join into one. The calls of service and schedule_calls are passed on by processor_calls, so that
-# their code stands in it once; sweep and board have objects of their own, which costs some bytes and saves instructions.
-SERVICE_CRATES = processor_calls sweep_call board_call text_calls
+# their code stands in it once; the sweep has an object of its own, which costs some bytes and saves instructions.
+SERVICE_CRATES = processor_calls sweep_call run_call text_calls
 
 $(SERVICE_LIB): $(SERVICE_CRATES:%=$(BUILD)/%.sums)
 	@tools/prove staticlib $(SERVICE_CRATES)

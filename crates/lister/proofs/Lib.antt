@@ -1,3 +1,4 @@
+mod PasteLaws
 pub mod UnusedLaws
 pub mod RowLaws
 pub mod ListLaws

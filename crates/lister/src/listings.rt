@@ -4,11 +4,11 @@ use listing_rules::Item;
 use notation::lines;
 use notation::lines::Line;
 ghost use mathlib.Core.Path.{_≡_};
-ghost use Prim.Native.Nat.{_+_, _≤_};
+ghost use Prim.Native.Nat.{_+_, _<_, _≤_};
 ghost use lib.ListN.{length, take, drop};
 ghost use lib.Seq.{paste};
 ghost use Rattle.listing_rules.specs.Listings.{listLimit, listing, listingOf};
-ghost use Rattle.lister.specs.Rows.{Shown};
+ghost use Rattle.lister.specs.Rows.{Shown, Onward};
 
 // A line, and how many bytes it lists.
 struct ListedRow {
@@ -44,7 +44,50 @@ fn row_at(part: &[u8], first: u32, at: usize) -> ListedRow
     }
 }
 
-// Writes a line from an index on.
+// Two characters of a line, written behind those before them.
+fn two(text: &mut [u8], at: usize, chars: &[u8; 28], i: usize)
+    requires { ⌜ (at + (i + 2) ≤ length (now text)) × (i + 2 ≤ 28) × (i + 2 ≤ length (now chars)) ⌝ }
+    ensures { λ r. ⌜ Onward (now (text .entry)) (now (text .exit)) (now (chars .entry)) at i (i + 2) ⌝ }
+{
+    text[at + i] = chars[i];
+    text[at + i + 1] = chars[i + 1];
+}
+
+// Four of them.
+fn four(text: &mut [u8], at: usize, chars: &[u8; 28], i: usize)
+    requires { ⌜ (at + (i + 4) ≤ length (now text)) × (i + 4 ≤ 28) × (i + 4 ≤ length (now chars)) ⌝ }
+    ensures { λ r. ⌜ Onward (now (text .entry)) (now (text .exit)) (now (chars .entry)) at i (i + 4) ⌝ }
+{
+    two(text, at, chars, i);
+    two(text, at, chars, i + 2);
+}
+
+// Four of them, where so many are left.
+fn four_left(text: &mut [u8], at: usize, chars: &[u8; 28], i: usize, len: usize) -> usize
+    requires { ⌜ (at + len ≤ length (now text)) × (len ≤ 28) × (len ≤ length (now chars)) × (i ≤ len) × (len < i + 8) ⌝ }
+    ensures { λ r. ⌜ Onward (now (text .entry)) (now (text .exit)) (now (chars .entry)) at i r × (r ≤ len) × (len < r + 4) ⌝ }
+{
+    if len - i < 4 {
+        return i;
+    }
+    four(text, at, chars, i);
+    i + 4
+}
+
+// Two of them, where so many are left.
+fn two_left(text: &mut [u8], at: usize, chars: &[u8; 28], i: usize, len: usize) -> usize
+    requires { ⌜ (at + len ≤ length (now text)) × (len ≤ 28) × (len ≤ length (now chars)) × (i ≤ len) × (len < i + 4) ⌝ }
+    ensures { λ r. ⌜ Onward (now (text .entry)) (now (text .exit)) (now (chars .entry)) at i r × (r ≤ len) × (len < r + 2) ⌝ }
+{
+    if len - i < 2 {
+        return i;
+    }
+    two(text, at, chars, i);
+    i + 2
+}
+
+// Writes a line from an index on, eight characters at a time, then what is left: one by one the compiler takes the loop for a
+// copy, and calls a function from outside for it.
 fn place(text: &mut [u8], at: usize, line: Line)
     requires { ⌜ at + line .len ≤ length (now text) ⌝ }
     requires { ⌜ (line .len ≤ 28) × (line .len ≤ length (line .chars)) ⌝ }
@@ -53,9 +96,15 @@ fn place(text: &mut [u8], at: usize, line: Line)
     let chars = line.chars;
     let len = line.len;
     let mut i: usize = 0;
-    while i < len {
-        text[at + i] = chars[i];
-        i += 1;
+    while i + 7 < len {
+        four(text, at, &chars, i);
+        four(text, at, &chars, i + 4);
+        i += 8;
+    }
+    let more = four_left(text, at, &chars, i, len);
+    let last = two_left(text, at, &chars, more, len);
+    if last < len {
+        text[at + last] = chars[last];
     }
 }
 

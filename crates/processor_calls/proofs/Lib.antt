@@ -3,3 +3,4 @@ mod Passing
 mod ContractLaws
 pub mod Theorems
 pub mod Passed
+pub mod Determined

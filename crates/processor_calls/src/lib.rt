@@ -111,6 +111,14 @@ pub extern "C" fn iop89_pair_sweep(
     12
 }
 
+// The version of the service archive: IOP89_VERSION of the header that it was made with.
+#[no_mangle]
+pub extern "C" fn iop89_service_version() -> u32
+    ensures { λ r. ⌜ r ≡ 200 ⌝ }
+{
+    200
+}
+
 // Runs the rows of a schedule on a processor; 12 clears the report too.
 #[no_mangle]
 pub extern "C" fn iop89_pair_schedule(

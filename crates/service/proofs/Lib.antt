@@ -1,2 +1,3 @@
 pub mod TurnLaws
+mod OrderLaws
 pub mod OutcomeLaws

@@ -9,17 +9,19 @@ use native.Mathlib.Decide.{ℕ-discrete}
 use Rattle.ground_rules.specs.Buffers.{Buffers}
 use Rattle.ground_rules.proofs.OutcomeLaws.{refused-counts}
 use Rattle.ground_rules.specs.Outcomes.{counted}
-use Rattle.ground_rules.specs.States.{channelOf, channelNumber}
+use Rattle.ground_rules.proofs.ChannelLaws.{put-same}
+use Rattle.ground_rules.proofs.FieldLaws.{agree-channel-of, last-agree}
+use Rattle.ground_rules.specs.States.{channelOf, channelNumber, withChannel, withLast, agree, fieldsAgree}
 use Rattle.ground_rules.specs.declared.Channel.{Channel}
 use Rattle.ground_rules.specs.declared.State.{State}
 use Rattle.transfer_rules.specs.Ends.{externallyEnded}
+use Rattle.turn_rules.proofs.SoundLaws.{entry-agree, step-agree}
 use Rattle.turn_rules.proofs.StepLaws.{counts-none}
 use Rattle.turn_rules.specs.Choosing.{choiceOf}
 use Rattle.turn_rules.specs.Step.{Step, refusedStep, settledStep, externalStep, chosenStep, entryNumber, stepOf}
 use Rattle.turn_rules.specs.Touched.{touchedIn, touchedByStep, stepCount}
-use Rattle.turn_rules.specs.declared.Kind.the-variants.{External}
 use Rattle.turn_rules.specs.declared.Choice.{Choice}
-use Rattle.turn_rules.specs.declared.Choice.the-variants.{Ends}
+use Rattle.turn_rules.specs.declared.Choice.the-variants.{Ends, Steps}
 use Rattle.state_rules.specs.Calls.{served, answerFrom, kindNumber, stepLeft, stepServed}
 use Rattle.state_rules.specs.Conditions.{Bytes}
 use Rattle.state_rules.specs.Layout.{bytesOf, stateIn, isState}
@@ -61,13 +63,22 @@ pub chosen-step : (s : State) (m : Buffers) (lines : ℕ) (choice : Choice) → 
 unfolding stepOf
 chosen-step s m lines choice z who = rw (eq-eqb (entryNumber s m lines) 0 z, who)
 
--- an external end touches nothing
-pub end-turned : (s o : State) → s ≡ o → (m : Buffers) (second : Bool) (c : Channel) (t : Turn) → c ≡ channelOf o second
-    → t ≡ record { number = 0; count = 0; channel = externallyEnded c; kind = External }
-    → (turned s second t m ≡ chosenStep (Ends second) s m) × (t .count ≡ counted (t .number) (touchedIn (Ends second) s m))
-unfolding chosenStep externalStep settledStep touchedIn
-end-turned s o same m second c t of e =
-    (rw (e, of, same), ap (λ (x : Turn). x .count) e ∙ sym (counts-none (t .number)))
+-- an external end is put and answered
+pub ended-left : (b : List ℕ) (second : Bool) (c : Channel) → c ≡ externallyEnded (channelOf (stateIn b) second) → (x : List ℕ) (r : ℕ) → r ≡ answerFrom 0 (channelNumber second) 3 0
+    → x ≡ bytesOf (done (stateIn b) second c) → stateIn x ≡ done (stateIn b) second c
+    → ((m : Buffers) → served r x m ≡ stepLeft (chosenStep (Ends second) (stateIn b) m) 0) × ((m : Buffers) → stateIn x ≡ chosenStep (Ends second) (stateIn b) m .state)
+unfolding chosenStep externalStep kindNumber
+ended-left b second c is x r e put whole = (λ m. rw (e, put, is), λ m. rw (whole, is))
+
+-- a done turn leaves a channel whose fields are those of its CC
+pub turn-agrees : (s : State) (m : Buffers) (lines : ℕ) (second : Bool) (t : Turn) (m′ : Buffers) → entryNumber s m lines ≡ 0 → choiceOf s lines ≡ Steps second
+    → turned s second t m′ ≡ chosenStep (Steps second) s m → t .number ≡ 0 → fieldsAgree (t .channel) ≡ true
+unfolding settledStep
+turn-agrees s m lines second t m′ z who e done =
+    let is : turned s second t m′ ≡ stepOf s m lines = e ∙ sym (chosen-step s m lines (Steps second) z who) in
+    let left : withLast (withChannel s second (t .channel)) second ≡ stepOf s m lines .state = rw (eq-eqb (t .number) 0 done) at (ap (λ (o : Step). o .state) is) in
+    let agrees : agree (withChannel s second (t .channel)) ≡ true = sym (last-agree (withChannel s second (t .channel)) second) ∙ ap agree left ∙ step-agree s m lines (entry-agree s m lines z) in
+    ap fieldsAgree (sym (put-same s second (t .channel))) ∙ agree-channel-of (withChannel s second (t .channel)) second agrees
 
 module _ (b : List ℕ) (m : Buffers) (h : isState b ≡ true) (lines : ℕ) where
   -- a step of the state is what the call leaves
@@ -97,3 +108,13 @@ module _ (b : List ℕ) (m : Buffers) (h : isState b ≡ true) (lines : ℕ) whe
       let counts : t .count ≡ stepCount s m lines =
       count ∙ rw who (ap (λ (n : ℕ). counted n (touchedIn choice s m)) (sym (turned-number s second t m′) ∙ ap (λ (o : Step). o .number) is)) in
       left-served (turned (stateIn b) second t m′) (t .count) (rw of at is) (rw of at counts) x r m′ a f
+
+  -- that of an external end, which touches nothing
+  pub end-served : (s : State) → s ≡ stateIn b → (second : Bool) → entryNumber s m lines ≡ 0 → choiceOf s lines ≡ Ends second
+      → (x : List ℕ) (r : ℕ) → served r x m ≡ stepLeft (chosenStep (Ends second) (stateIn b) m) 0 → stateIn x ≡ chosenStep (Ends second) (stateIn b) m .state
+      → (served r x m ≡ stepServed b m lines) × (isState b ≡ true → stateIn x ≡ stepOf (stateIn b) m lines .state)
+  unfolding stepCount touchedByStep touchedIn
+  end-served s of second z who x r a f =
+      let chosen : choiceOf (stateIn b) lines ≡ Ends second = ap (λ (y : State). choiceOf y lines) (sym of) ∙ who in
+      let free : entryNumber (stateIn b) m lines ≡ 0 = ap (λ (y : State). entryNumber y m lines) (sym of) ∙ z in
+      left-served (chosenStep (Ends second) (stateIn b) m) 0 (sym (chosen-step (stateIn b) m lines (Ends second) free chosen)) (rw chosen (sym (counts-none (stepOf (stateIn b) m lines .number)))) x r m a f

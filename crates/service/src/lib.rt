@@ -1,6 +1,5 @@
 // The machine call by call for C: a state lives in the caller's bytes, and each call takes it from there and leaves it
 // there.
-use ground_rules::Channel;
 use ground_rules::State;
 use state_bytes::layout;
 use step::Turn;
@@ -10,13 +9,11 @@ ghost use mathlib.Core.Bool.{true};
 ghost use mathlib.Core.Path.{_≡_};
 ghost use lib.ListN.{length};
 ghost use Rattle.ground_rules.specs.Buffers.{Buffers, lent};
-ghost use Rattle.ground_rules.specs.States.{resetState, freshOf};
+ghost use Rattle.ground_rules.specs.States.{resetState, freshOf, agree, fieldsAgree};
 ghost use Rattle.attention_rules.specs.Attention.{attentionOf};
 ghost use Rattle.attention_rules.specs.Power.{powerUpOf};
-ghost use Rattle.transfer_rules.specs.Ends.{externallyEnded};
-ghost use Rattle.turn_rules.specs.Step.{entryNumber, stepOf};
-ghost use Rattle.turn_rules.specs.declared.Kind.the-variants.{External};
-ghost use Rattle.turn_rules.specs.declared.Choice.the-variants.{Steps};
+ghost use Rattle.turn_rules.specs.Step.{entryNumber, chosenStep, stepOf};
+ghost use Rattle.turn_rules.specs.declared.Choice.the-variants.{Ends};
 ghost use Rattle.sweep_rules.specs.Sweep.{sweepOf};
 ghost use Rattle.state_rules.specs.Layout.{stateIn, isState, stateLength};
 ghost use Rattle.state_rules.specs.Calls as Calls;
@@ -88,7 +85,8 @@ pub extern "C" fn iop89_power_up(state: &mut [u8], sys: &mut [u8], io: &mut [u8]
     answer(0, 0, 0, a.count)
 }
 
-// Gives a channel attention.
+// Gives a channel attention. Only that channel is taken from the bytes and put back: as a call of `attention::attention` the
+// whole state was copied four times over, by a function from outside.
 #[no_mangle]
 pub extern "C" fn iop89_attention(
     state: &mut [u8],
@@ -102,10 +100,22 @@ pub extern "C" fn iop89_attention(
     if !layout::is_state(state) {
         return 17;
     }
-    let a = attention::attention(layout::state_in(state), sys, io, channel);
-    let after = a.state;
-    layout::put_state(state, after);
-    answer(a.number, 0, 0, a.count)
+    if !machine::states::is_channel(channel) {
+        return 12;
+    }
+    let s = layout::state_in(state);
+    let given = machine::states::given_number(s, sys, io);
+    if given != 0 {
+        return answer(given, 0, 0, 0);
+    }
+    let second = machine::states::is_second(channel);
+    let block = machine::states::block(s, second);
+    let e = attention::planned(sys, io, block, layout::channel(state, second));
+    let writes = e.writes;
+    attention::effects::write(sys, io, writes);
+    let c = e.channel;
+    layout::put_order(state, second, c);
+    answer(e.number, 0, 0, e.count)
 }
 
 // The refusal of what a step is given; 14 is asked of the bytes. `step::entry_number` says the same, but is not inlined,
@@ -129,22 +139,20 @@ fn entry_number(state: &[u8], s: State, lines: u32, sys: &[u8], io: &[u8]) -> u3
     if layout::agree(state) { 0 } else { 14 }
 }
 
-// The external end of a channel's transfer.
-fn end_turn(c: Channel) -> Turn
-    ensures { λ r. ⌜ r ≡ record { number = 0; count = 0; channel = externallyEnded c; kind = External } ⌝ }
+// The external end of a channel's transfer, put into the bytes.
+fn ended(state: &mut [u8], second: bool) -> u32
+    requires { ⌜ isState (now state) ≡ true ⌝ }
+    ensures left { λ r. ⌜ ((m : Buffers) → served r (now (state .exit)) m ≡ stepLeft (chosenStep (Ends second) (stateIn (now (state .entry))) m) 0) ⌝ }
+    ensures whole { λ r. ⌜ ((m : Buffers) → stateIn (now (state .exit)) ≡ chosenStep (Ends second) (stateIn (now (state .entry))) m .state) ⌝ }
 {
-    let channel = transfer::external_end(c);
-    Turn {
-        number: 0,
-        count: 0,
-        channel,
-        kind: Kind::External,
-    }
+    let c = transfer::external_end(layout::channel(state, second));
+    layout::put_step(state, second, c);
+    answer(0, machine::states::number(second), 3, 0)
 }
 
 // The answer of a channel's step, which is put into the bytes where it is done.
 fn answered(state: &mut [u8], second: bool, t: Turn) -> u32
-    requires { ⌜ (isState (now state) ≡ true) × (¬ (t .number ≡ 0) → t .count ≡ 0) ⌝ }
+    requires { ⌜ (isState (now state) ≡ true) × (agree (stateIn (now state)) ≡ true) × (t .number ≡ 0 → fieldsAgree (t .channel) ≡ true) × (¬ (t .number ≡ 0) → t .count ≡ 0) ⌝ }
     ensures left { λ r. ⌜ ((m : Buffers) → served r (now (state .exit)) m ≡ stepLeft (turned (stateIn (now (state .entry))) second t m) (t .count)) ⌝ }
     ensures whole { λ r. ⌜ ((m : Buffers) → stateIn (now (state .exit)) ≡ turned (stateIn (now (state .entry))) second t m .state) ⌝ }
 {
@@ -153,7 +161,7 @@ fn answered(state: &mut [u8], second: bool, t: Turn) -> u32
     }
     let c = t.channel;
     let kind = t.kind;
-    layout::put_step(state, second, c);
+    layout::put_turn(state, second, c);
     answer(
         0,
         machine::states::number(second),
@@ -179,7 +187,7 @@ pub extern "C" fn iop89_step(state: &mut [u8], sys: &mut [u8], io: &mut [u8], li
     }
     match step::turns::choose(s, lines) {
         Choice::Nobody => answer(1, 0, 0, 0),
-        Choice::Ends(second) => answered(state, second, end_turn(layout::channel(state, second))),
+        Choice::Ends(second) => ended(state, second),
         Choice::Steps(second) => {
             let t = step::channel_turn(s, second, layout::channel(state, second), sys, io);
             answered(state, second, t)

@@ -8,14 +8,19 @@ use ground_rules::Pointer;
 use ground_rules::State;
 ghost use mathlib.Core.Bool.{true};
 ghost use mathlib.Core.Path.{_≡_};
-ghost use Prim.Native.Nat.{_+_, _*_, _<_, _≤_};
-ghost use lib.ListN.{length, getD};
+ghost use Prim.Native.Nat.{_+_, _<_, _≤_};
+ghost use lib.ListN.{length};
 ghost use lib.Seq.{sets};
-ghost use Rattle.ground_rules.specs.Cc.{joined};
+ghost use Rattle.ground_rules.specs.Cc.{joined, split};
+ghost use Rattle.ground_rules.specs.Choice.{pick};
 ghost use Rattle.ground_rules.specs.States as States;
 ghost use Rattle.ground_rules.specs.States.{channelOf, withChannel, withLast, fieldsAgree};
 ghost use Rattle.state_rules.specs.Conditions.{ChannelFits};
-ghost use Rattle.state_rules.specs.Layout.{pointerBytes, pointersBytes, numbersBytes, marksBytes, sidesBytes, endsBytes, channelBytes, boardBytes, bytesOf, pointerIn, fieldsIn, channelIn, boardIn, stateIn, isFields, isBlock, isBoard, isState, stateLength, blockFrom};
+ghost use Rattle.ground_rules.specs.Holdings.{isHeldNumber};
+ghost use Rattle.state_rules.specs.Fields.{littleIn};
+ghost use Rattle.state_bytes.specs.Puts.{frontBytes, agreeingPut};
+ghost use Rattle.state_bytes.specs.Tests.{tagsFit, flagsFit, codesFit};
+ghost use Rattle.state_rules.specs.Layout.{pointerBytes, pointersBytes, numbersBytes, marksBytes, sidesBytes, endsBytes, fieldsBytes, heldBytes, channelBytes, boardBytes, bytesOf, pointerIn, fieldsIn, channelIn, boardIn, stateIn, isFields, isBoard, isState, stateLength, blockFrom};
 
 // Where the block of channel 1 starts.
 const FIRST_AT: usize = 10;
@@ -133,36 +138,47 @@ pub fn channel(bytes: &[u8], second: bool) -> Channel
     channel_in(bytes, block_at(second))
 }
 
-// Whether each field of CC is one.
-fn is_fields(bytes: &[u8], at: usize) -> bool
-    requires { ⌜ at + 10 ≤ length (now bytes) ⌝ }
-    ensures { λ r. ⌜ r ≡ isFields (now (bytes .entry)) at ⌝ }
-{
-    fields::is_flag(bytes, at)
-        & fields::is_flag(bytes, at + 1)
-        & fields::is_flag(bytes, at + 2)
-        & fields::is_code(bytes, at + 3, 4)
-        & fields::is_flag(bytes, at + 4)
-        & fields::is_flag(bytes, at + 5)
-        & fields::is_flag(bytes, at + 6)
-        & fields::is_code(bytes, at + 7, 4)
-        & fields::is_code(bytes, at + 8, 4)
-        & fields::is_code(bytes, at + 9, 8)
-}
-
-// Whether the flags, the mode, the fields and the held number of a block are such.
-fn is_block(bytes: &[u8], at: usize) -> bool
+// Whether the tags and the armed mark of a block are truth values.
+fn tags_fit(bytes: &[u8], at: usize) -> bool
     requires { ⌜ at + 47 ≤ length (now bytes) ⌝ }
-    ensures { λ r. ⌜ r ≡ isBlock (now (bytes .entry)) at ⌝ }
+    ensures { λ r. ⌜ r ≡ tagsFit (now (bytes .entry)) at ⌝ }
 {
     fields::is_flag(bytes, at + 4)
         & fields::is_flag(bytes, at + 9)
         & fields::is_flag(bytes, at + 14)
         & fields::is_flag(bytes, at + 19)
-        & fields::is_mode(bytes, at + 33)
         & fields::is_flag(bytes, at + 34)
-        & is_fields(bytes, at + 35)
-        & machine::holdings::stands(fields::word(bytes, at + 45) as u32)
+}
+
+// Whether the flags of CC are truth values.
+fn flags_fit(bytes: &[u8], at: usize) -> bool
+    requires { ⌜ at + 10 ≤ length (now bytes) ⌝ }
+    ensures { λ r. ⌜ r ≡ flagsFit (now (bytes .entry)) at ⌝ }
+{
+    fields::is_flag(bytes, at)
+        & fields::is_flag(bytes, at + 1)
+        & fields::is_flag(bytes, at + 2)
+        & fields::is_flag(bytes, at + 4)
+        & fields::is_flag(bytes, at + 5)
+        & fields::is_flag(bytes, at + 6)
+}
+
+// Whether SYN, TX and TBC have two bits.
+fn codes_fit(bytes: &[u8], at: usize) -> bool
+    requires { ⌜ at + 10 ≤ length (now bytes) ⌝ }
+    ensures { λ r. ⌜ r ≡ codesFit (now (bytes .entry)) at ⌝ }
+{
+    fields::is_code(bytes, at + 3, 4)
+        & fields::is_code(bytes, at + 7, 4)
+        & fields::is_code(bytes, at + 8, 4)
+}
+
+// Whether a held number is one.
+fn held_fits(bytes: &[u8], at: usize) -> bool
+    requires { ⌜ at + 2 ≤ length (now bytes) ⌝ }
+    ensures { λ r. ⌜ r ≡ isHeldNumber (littleIn 2 (now (bytes .entry)) at) ⌝ }
+{
+    machine::holdings::stands(fields::word(bytes, at) as u32)
 }
 
 // Whether what the board set up is four truth values.
@@ -176,7 +192,8 @@ fn is_board(bytes: &[u8]) -> bool
         & fields::is_flag(bytes, 9)
 }
 
-// Whether bytes are a state.
+// Whether bytes are a state. Those that must be below the same number stand together, of both blocks, so that they are put
+// into one byte by `or` and tested once.
 pub fn is_state(bytes: &[u8]) -> bool
     ensures { λ r. ⌜ r ≡ isState (now (bytes .entry)) ⌝ }
 {
@@ -184,35 +201,28 @@ pub fn is_state(bytes: &[u8]) -> bool
         return false;
     }
     (fields::byte(bytes, 0) == 4)
-        & fields::is_flag(bytes, 5)
-        & is_board(bytes)
-        & is_block(bytes, FIRST_AT)
-        & is_block(bytes, SECOND_AT)
+        & (fields::is_flag(bytes, 5)
+            & is_board(bytes)
+            & (tags_fit(bytes, FIRST_AT) & flags_fit(bytes, FIRST_AT + 35))
+            & (tags_fit(bytes, SECOND_AT) & flags_fit(bytes, SECOND_AT + 35)))
+        & (codes_fit(bytes, FIRST_AT + 35) & codes_fit(bytes, SECOND_AT + 35))
+        & (fields::is_code(bytes, FIRST_AT + 44, 8) & fields::is_code(bytes, SECOND_AT + 44, 8))
+        & (fields::is_mode(bytes, FIRST_AT + 33) & fields::is_mode(bytes, SECOND_AT + 33))
+        & held_fits(bytes, FIRST_AT + 45)
+        & held_fits(bytes, SECOND_AT + 45)
 }
 
-// A number with the byte at an offset put behind it, as a digit of so many values.
-fn behind(above: u32, values: u32, bytes: &[u8], at: usize) -> u32
-    requires { ⌜ (above < 16777216) × (values ≤ 8) × (at < length (now bytes)) ⌝ }
-    ensures is { λ r. ⌜ r ≡ above * values + getD (now (bytes .entry)) at 0 ⌝ }
-    ensures most { λ r. ⌜ r ≤ above * values + 255 ⌝ }
-{
-    above * values + fields::byte(bytes, at) as u32
-}
-
-// The CC that the fields from an offset on make up, its LOCK bit, between the source's and the chained one, at 0.
+// The CC that the fields from an offset on make up, its LOCK bit, between the source's and the chained one, at 0. Four of
+// them at a time are read as one number, and one product puts them side by side from bit 24 on.
 fn joined_in(bytes: &[u8], at: usize) -> u32
     requires { ⌜ (at + 10 ≤ length (now bytes)) × (isFields (now bytes) at ≡ true) ⌝ }
     ensures { λ r. ⌜ r ≡ joined (fieldsIn (now (bytes .entry)) at) ⌝ }
 {
-    let moves = behind(fields::byte(bytes, at) as u32, 2, bytes, at + 1);
-    let translates = behind(moves, 2, bytes, at + 2);
-    let syn = behind(translates, 4, bytes, at + 3);
-    let source = behind(syn, 2, bytes, at + 4);
-    let chained = behind(source, 4, bytes, at + 5);
-    let single = behind(chained, 2, bytes, at + 6);
-    let tx = behind(single, 4, bytes, at + 7);
-    let tbc = behind(tx, 4, bytes, at + 8);
-    behind(tbc, 8, bytes, at + 9)
+    let sides = fields::long(bytes, at) as u64 * 268960769 / 16777216 % 32;
+    let ends = fields::long(bytes, at + 4) as u64 * 537396225 / 16777216 % 64;
+    let count = fields::byte(bytes, at + 8) as u32;
+    let matching = fields::byte(bytes, at + 9) as u32;
+    sides as u32 * 2048 + ends as u32 * 32 + count * 8 + matching
 }
 
 // Whether the fields of a block are those of its CC: they make it up but for its LOCK bit.
@@ -299,19 +309,66 @@ fn put_ends(bytes: &mut [u8], at: usize, f: Fields)
     fields::put(bytes, at + 4, f.matchEnd);
 }
 
-// A channel's block put at an offset; its registers have the widths of their types.
+// All fields of CC put at an offset.
+fn put_fields(bytes: &mut [u8], at: usize, f: Fields)
+    requires { ⌜ at + 10 ≤ length (now bytes) ⌝ }
+    ensures { λ r. ⌜ now (bytes .exit) ≡ sets (now (bytes .entry)) at (fieldsBytes f) ⌝ }
+{
+    put_sides(bytes, at, f);
+    put_ends(bytes, at + 5, f);
+}
+
+// The fields of a CC put at an offset, unless those of the same CC stand there.
+fn put_changed(bytes: &mut [u8], at: usize, same: bool, cc: u16)
+    requires { ⌜ at + 10 ≤ length (now bytes) ⌝ }
+    ensures { λ r. ⌜ now (bytes .exit) ≡ pick same (now (bytes .entry)) (sets (now (bytes .entry)) at (fieldsBytes (split cc))) ⌝ }
+{
+    if !same {
+        put_fields(bytes, at, machine::cc::split(cc));
+    }
+}
+
+// What a channel's block has before the fields of CC put at an offset; its registers have the widths of their types.
+fn put_front(bytes: &mut [u8], at: usize, c: Channel)
+    requires { ⌜ at + 35 ≤ length (now bytes) ⌝ }
+    ensures fits { λ r. ⌜ ChannelFits c ⌝ }
+    ensures put { λ r. ⌜ now (bytes .exit) ≡ sets (now (bytes .entry)) at (frontBytes c) ⌝ }
+{
+    put_pointers(bytes, at, c);
+    put_numbers(bytes, at + 20, c);
+    put_marks(bytes, at + 32, c);
+}
+
+// What a channel holds put at an offset.
+fn put_held(bytes: &mut [u8], at: usize, c: Channel)
+    requires { ⌜ at + 2 ≤ length (now bytes) ⌝ }
+    ensures { λ r. ⌜ now (bytes .exit) ≡ sets (now (bytes .entry)) at (heldBytes c) ⌝ }
+{
+    let held = c.held;
+    fields::put_word(bytes, at, machine::holdings::number(held));
+}
+
+// A channel's block put at an offset.
 fn put_channel(bytes: &mut [u8], at: usize, c: Channel)
     requires { ⌜ at + 47 ≤ length (now bytes) ⌝ }
     ensures fits { λ r. ⌜ ChannelFits c ⌝ }
     ensures put { λ r. ⌜ now (bytes .exit) ≡ sets (now (bytes .entry)) at (channelBytes c) ⌝ }
 {
-    put_pointers(bytes, at, c);
-    put_numbers(bytes, at + 20, c);
-    put_marks(bytes, at + 32, c);
-    put_sides(bytes, at + 35, c.fields);
-    put_ends(bytes, at + 40, c.fields);
-    let held = c.held;
-    fields::put_word(bytes, at + 45, machine::holdings::number(held));
+    put_front(bytes, at, c);
+    put_fields(bytes, at + 35, c.fields);
+    put_held(bytes, at + 45, c);
+}
+
+// The block of a channel whose fields agree with CC put over one whose fields do: they are put where CC changed.
+fn put_agreeing(bytes: &mut [u8], at: usize, c: Channel)
+    requires { ⌜ at + 47 ≤ length (now bytes) ⌝ }
+    ensures fits { λ r. ⌜ ChannelFits c ⌝ }
+    ensures put { λ r. ⌜ now (bytes .exit) ≡ agreeingPut (now (bytes .entry)) at c ⌝ }
+{
+    let same = fields::word(bytes, at + 28) == c.cc;
+    put_front(bytes, at, c);
+    put_changed(bytes, at + 35, same, c.cc);
+    put_held(bytes, at + 45, c);
 }
 
 // What the board set up put at its place.
@@ -339,6 +396,15 @@ pub fn put_state(bytes: &mut [u8], s: State)
     put_channel(bytes, SECOND_AT, s.second);
 }
 
+// What an attention changed put: its channel.
+pub fn put_order(bytes: &mut [u8], second: bool, c: Channel)
+    requires { ⌜ isState (now bytes) ≡ true ⌝ }
+    ensures put { λ r. ⌜ now (bytes .exit) ≡ bytesOf (withChannel (stateIn (now (bytes .entry))) second c) ⌝ }
+    ensures whole { λ r. ⌜ stateIn (now (bytes .exit)) ≡ withChannel (stateIn (now (bytes .entry))) second c ⌝ }
+{
+    put_channel(bytes, block_at(second), c);
+}
+
 // What a done step changed put: its channel, and that it was the last to step.
 pub fn put_step(bytes: &mut [u8], second: bool, c: Channel)
     requires { ⌜ isState (now bytes) ≡ true ⌝ }
@@ -347,4 +413,14 @@ pub fn put_step(bytes: &mut [u8], second: bool, c: Channel)
 {
     fields::put(bytes, 5, fields::flag_byte(second));
     put_channel(bytes, block_at(second), c);
+}
+
+// The same of a step by the channel's turn, where the fields of CC agree before and after it.
+pub fn put_turn(bytes: &mut [u8], second: bool, c: Channel)
+    requires { ⌜ (isState (now bytes) ≡ true) × (States.agree (stateIn (now bytes)) ≡ true) × (fieldsAgree c ≡ true) ⌝ }
+    ensures put { λ r. ⌜ now (bytes .exit) ≡ bytesOf (withLast (withChannel (stateIn (now (bytes .entry))) second c) second) ⌝ }
+    ensures whole { λ r. ⌜ stateIn (now (bytes .exit)) ≡ withLast (withChannel (stateIn (now (bytes .entry))) second c) second ⌝ }
+{
+    put_agreeing(bytes, block_at(second), c);
+    fields::put(bytes, 5, fields::flag_byte(second));
 }

@@ -6,7 +6,8 @@ use lib.Dec.{eqb, ltb}
 use lib.ListN.{length, getD}
 use mathlib.Core.Bool.{Bool, true, _&&_}
 use mathlib.Core.List.{List}
-use mathlib.Core.Path.{_≡_}
+use mathlib.Core.Path.{_≡_, ap, ap₂, _∙_}
+use native.Mathlib.Nat.{add-assoc, add-mul-mod-self-left, mod-eq-of-lt}
 use native.Mathlib.Omega.{arith}
 use Rattle.ground_rules.proofs.ChoiceLaws.{both-left, both-right}
 use Rattle.ground_rules.proofs.ConditionLaws.{Says, says-and}
@@ -63,18 +64,48 @@ widths b at =
 
 -- ---- the CC that they make up
 
--- ten numbers, each behind those before it by the bits of its field; the LOCK bit is left out
-abbrev pub inPlaces : ℕ → ℕ → ℕ → ℕ → ℕ → ℕ → ℕ → ℕ → ℕ → ℕ → ℕ
-inPlaces a b c d e f g h i j = ((((((((a * 2 + b) * 2 + c) * 4 + d) * 2 + e) * 4 + f) * 2 + g) * 4 + h) * 4 + i) * 8 + j
+-- four bytes as one number
+four : (b : List ℕ) (at : ℕ) → littleIn 4 b at ≡ getD b at 0 + 256 * (getD b (at + 1) 0 + 256 * (getD b (at + 2) 0 + 256 * getD b (at + 3) 0))
+unfolding littleIn
+four b at = let e : at + 1 + 1 + 1 ≡ at + 3 = omega arith in let f : at + 1 + 1 ≡ at + 2 = omega arith in rw (e, f) (omega arith)
 
-in-places : (a b c d e f g h i j : ℕ) → d < 4 → h < 4 → i < 4 → j < 8 → inPlaces a b c d e f g h i j ≡ a * 32768 + b * 16384 + c * 8192 + d % 4 * 2048 + e * 1024 + f * 256 + g * 128 + h % 4 * 32 + i % 4 * 8 + j % 8
+-- what stands from bit 24 on, below bits that are left out
+cut : (low is high values : ℕ) → low < 16777216 → is < values → (low + 16777216 * (is + values * high)) / 16777216 % values ≡ is
+cut low is high values l h =
+    ap (λ (n : ℕ). n % values) (quotient low (is + values * high) l) ∙ add-mul-mod-self-left is values high ∙ mod-eq-of-lt h
+  where
+    quotient : (low n : ℕ) → low < 16777216 → (low + 16777216 * n) / 16777216 ≡ n
+    quotient low n l = omega arith
+
+-- a product sets them side by side from bit 24 on: those of a transfer's sides
+sides-by : (a b c d : ℕ) → a < 2 → b < 2 → c < 2 → d < 4 → (a + 256 * (b + 256 * (c + 256 * d))) * 268960769 / 16777216 % 32 ≡ a * 16 + b * 8 + c * 4 + d
+sides-by a b c d p q r t =
+    let apart : (a + 256 * (b + 256 * (c + 256 * d))) * 268960769 ≡ a * 525313 + b * 262400 + c * 65536 + 16777216 * (a * 16 + b * 8 + c * 4 + d + 32 * (b * 128 + c * 32832 + d * 8405024)) = omega arith in
+    ap (λ (n : ℕ). n / 16777216 % 32) apart ∙ cut (a * 525313 + b * 262400 + c * 65536) (a * 16 + b * 8 + c * 4 + d) (b * 128 + c * 32832 + d * 8405024) 32 (omega arith) (omega arith)
+
+-- and the next four, with the LOCK bit between the first two of them
+ends-by : (a b c d : ℕ) → a < 2 → b < 2 → c < 2 → d < 4 → (a + 256 * (b + 256 * (c + 256 * d))) * 537396225 / 16777216 % 64 ≡ a * 32 + b * 8 + c * 4 + d
+ends-by a b c d p q r t =
+    let apart : (a + 256 * (b + 256 * (c + 256 * d))) * 537396225 ≡ a * 525313 + b * 262400 + c * 65536 + 16777216 * (a * 32 + b * 8 + c * 4 + d + 64 * (b * 128 + c * 32800 + d * 8396816)) = omega arith in
+    ap (λ (n : ℕ). n / 16777216 % 64) apart ∙ cut (a * 525313 + b * 262400 + c * 65536) (a * 32 + b * 8 + c * 4 + d) (b * 128 + c * 32800 + d * 8396816) 64 (omega arith) (omega arith)
+
+-- all of them by their worth, the LOCK bit left out
+in-places : (a b c d e f g h i j : ℕ) → d < 4 → h < 4 → i < 4 → j < 8 → (a * 16 + b * 8 + c * 4 + d) * 2048 + (e * 32 + f * 8 + g * 4 + h) * 32 + i * 8 + j ≡ a * 32768 + b * 16384 + c * 8192 + d % 4 * 2048 + e * 1024 + f * 256 + g * 128 + h % 4 * 32 + i % 4 * 8 + j % 8
 in-places a b c d e f g h i j syn tx tbc tmc = omega arith
 
-pub made-up : (b : List ℕ) (at : ℕ) → isFields b at ≡ true → inPlaces (getD b at 0) (getD b (at + 1) 0) (getD b (at + 2) 0) (getD b (at + 3) 0) (getD b (at + 4) 0) (getD b (at + 5) 0) (getD b (at + 6) 0) (getD b (at + 7) 0) (getD b (at + 8) 0) (getD b (at + 9) 0) ≡ joined (fieldsIn b at)
+-- what two products, the byte of TBC and that of TMC come to
+abbrev pub madeOf : List ℕ → ℕ → ℕ
+madeOf b at = littleIn 4 b at * 268960769 / 16777216 % 32 * 2048 + littleIn 4 b (at + 4) * 537396225 / 16777216 % 64 * 32 + getD b (at + 8) 0 * 8 + getD b (at + 9) 0
+
+pub made-up : (b : List ℕ) (at : ℕ) → isFields b at ≡ true → madeOf b at ≡ joined (fieldsIn b at)
 unfolding joined fieldsIn flagIn
 made-up b at f =
     let w = widths b at .holds f in
-    rw (bit-worth (getD b at 0) 32768 (w .0 .0 .0 .0 .0 .0 .0 .0 .0), bit-worth (getD b (at + 1) 0) 16384 (w .0 .0 .0 .0 .0 .0 .0 .0 .1), bit-worth (getD b (at + 2) 0) 8192 (w .0 .0 .0 .0 .0 .0 .0 .1), bit-worth (getD b (at + 4) 0) 1024 (w .0 .0 .0 .0 .0 .1), bit-worth (getD b (at + 5) 0) 256 (w .0 .0 .0 .0 .1), bit-worth (getD b (at + 6) 0) 128 (w .0 .0 .0 .1))
+    let sides = ap (λ (n : ℕ). n * 268960769 / 16777216 % 32) (four b at) ∙ sides-by (getD b at 0) (getD b (at + 1) 0) (getD b (at + 2) 0) (getD b (at + 3) 0) (w .0 .0 .0 .0 .0 .0 .0 .0 .0) (w .0 .0 .0 .0 .0 .0 .0 .0 .1) (w .0 .0 .0 .0 .0 .0 .0 .1) (w .0 .0 .0 .0 .0 .0 .1) in
+    let next : littleIn 4 b (at + 4) ≡ getD b (at + 4) 0 + 256 * (getD b (at + 5) 0 + 256 * (getD b (at + 6) 0 + 256 * getD b (at + 7) 0)) = four b (at + 4) ∙ rw (add-assoc at 4 1, add-assoc at 4 2, add-assoc at 4 3) in
+    let ends = ap (λ (n : ℕ). n * 537396225 / 16777216 % 64) next ∙ ends-by (getD b (at + 4) 0) (getD b (at + 5) 0) (getD b (at + 6) 0) (getD b (at + 7) 0) (w .0 .0 .0 .0 .0 .1) (w .0 .0 .0 .0 .1) (w .0 .0 .0 .1) (w .0 .0 .1) in
+    ap₂ (λ (x y : ℕ). x * 2048 + y * 32 + getD b (at + 8) 0 * 8 + getD b (at + 9) 0) sides ends
+    ∙ rw (bit-worth (getD b at 0) 32768 (w .0 .0 .0 .0 .0 .0 .0 .0 .0), bit-worth (getD b (at + 1) 0) 16384 (w .0 .0 .0 .0 .0 .0 .0 .0 .1), bit-worth (getD b (at + 2) 0) 8192 (w .0 .0 .0 .0 .0 .0 .0 .1), bit-worth (getD b (at + 4) 0) 1024 (w .0 .0 .0 .0 .0 .1), bit-worth (getD b (at + 5) 0) 256 (w .0 .0 .0 .0 .1), bit-worth (getD b (at + 6) 0) 128 (w .0 .0 .0 .1))
     (in-places (getD b at 0) (getD b (at + 1) 0) (getD b (at + 2) 0) (getD b (at + 3) 0) (getD b (at + 4) 0) (getD b (at + 5) 0) (getD b (at + 6) 0) (getD b (at + 7) 0) (getD b (at + 8) 0) (getD b (at + 9) 0) (w .0 .0 .0 .0 .0 .0 .1) (w .0 .0 .1) (w .0 .1) (w .1))
 
 -- so one number says whether a channel's fields are those of its CC

@@ -9,16 +9,16 @@ use native.Mathlib.Omega.{arith}
 use Rattle.ground_rules.proofs.OutcomeLaws.{refused-counts}
 use Rattle.ground_rules.specs.declared.State.{State}
 use Rattle.ground_rules.specs.Buffers.{buffers}
+use Rattle.turn_rules.proofs.SoundLaws.{entry-agree}
 use Rattle.turn_rules.specs.Choosing.{choiceOf}
 use Rattle.turn_rules.specs.Step.{chosenStep, entryNumber}
 use Rattle.turn_rules.specs.declared.Choice.the-variants.{Nobody}
 use Rattle.state_rules.specs.Calls.{answerFrom}
 use Rattle.state_rules.specs.Layout.{stateIn}
-use Rattle.step.specs.declared.Turn.{Turn}
 use Rattle.state_rules.proofs.CallLaws.{state-length, step-none}
 use Rattle.step.proofs.TurnLaws.{turn-steps}
 use Rattle.ground_rules.specs.Outcomes.{counted}
-use Rattle.service.proofs.TurnLaws.{entry-refused, chosen-step, end-turned, refused-served, turn-served}
+use Rattle.service.proofs.TurnLaws.{entry-refused, chosen-step, refused-served, turn-served, turn-agrees, end-served}
 use Rattle.service.proofs.iop89_step.Statement.{statement}
 use Rattle.service.proofs.iop89_step.Tie as tie
 
@@ -42,17 +42,26 @@ returns-2 c =
     refused-served b m (sym (c .before .before .before .before .before .before .before .before .before .is-state .ensures) ∙ not-false _ (c .before .before .before .before .before .before .before .before .if1 .left)) (a .lines) (λ i. omega (arith, c .before .before .before .before .before .before .before .before .before .before .before .before .before .slice-known .given i)) (entryNumber (stateIn b) m (a .lines)) (λ z. c .before .if2 .taken (n ∙ z))
     (entry-refused (stateIn b) m (a .lines) (λ z. c .before .if2 .taken (n ∙ z))) _ (c .answer .ensures ∙ ap (λ (k : ℕ). answerFrom k 0 0 0) n)
 
+ended-requires : tie.Need-ended-requires
+ended-requires c κs = sym (c .before .before .before .before .before .before .before .before .before .before .before .before .before .is-state .ensures) ∙ not-false _ (c .before .before .before .before .before .before .before .before .before .before .before .before .if1 .left)
+
 channel-requires : tie.Need-channel-requires
-channel-requires c κs = state-length _ (sym (c .before .before .before .before .before .before .before .before .before .before .before .before .before .before .is-state .ensures) ∙ not-false _ (c .before .before .before .before .before .before .before .before .before .before .before .before .before .if1 .left))
+channel-requires c κs = state-length _ (sym (c .before .before .before .before .before .before .before .before .before .before .before .before .before .is-state .ensures) ∙ not-false _ (c .before .before .before .before .before .before .before .before .before .before .before .before .if1 .left))
 
 answered-requires : tie.Need-answered-requires
-answered-requires c κs = (sym (c .before .before .before .before .before .before .before .before .before .before .before .before .before .before .before .before .is-state .ensures) ∙ not-false _ (c .before .before .before .before .before .before .before .before .before .before .before .before .before .before .before .if1 .left), λ ne. absurd (ne (ap (λ (t : Turn). t .number) (c .end-turn .ensures))))
-
-channel-requires-2 : tie.Need-channel-requires-2
-channel-requires-2 c κs = state-length _ (sym (c .before .before .before .before .before .before .before .before .before .before .before .before .before .is-state .ensures) ∙ not-false _ (c .before .before .before .before .before .before .before .before .before .before .before .before .if1 .left))
-
-answered-requires-2 : tie.Need-answered-requires-2
-answered-requires-2 c κs = (sym (c .before .before .before .before .before .before .before .before .before .before .before .before .before .before .before .before .before .before .before .before .before .before .is-state .ensures) ∙ not-false _ (c .before .before .before .before .before .before .before .before .before .before .before .before .before .before .before .before .before .before .before .before .before .if1 .left), λ ne. c .before .before .before .before .before .channel-turn .ensures .1 ∙ refused-counts _ _ ne)
+unfolding chosenStep
+answered-requires c κs =
+    let a = c .before .before .before .before .before .before .before .before .before .before .before .before .before .before .before .before .before .before .before .before .before .before .before .before .before .before .before .args in
+    let m = buffers (now (a .sys)) (now (a .io)) in
+    let s = c .before .before .before .before .before .before .before .before .before .before .before .before .before .before .before .before .before .before .before .looked-at in
+    let t = c .before .before .before .before .before .channel-turn in
+    let z = sym (c .before .before .before .before .before .before .before .before .before .before .before .before .before .before .before .entry-number .ensures) ∙ c .before .before .before .before .before .before .before .before .before .before .before .before .before .before .if2 .left in
+    let w = turn-steps (s .result) _ (s .ensures) m _ _ (c .before .before .before .before .before .before .before .before .channel .ensures) (t .result) _ (t .ensures .0) in (
+      sym (c .before .before .before .before .before .before .before .before .before .before .before .before .before .before .before .before .before .before .before .before .before .before .is-state .ensures) ∙ not-false _ (c .before .before .before .before .before .before .before .before .before .before .before .before .before .before .before .before .before .before .before .before .before .if1 .left),
+      entry-agree (stateIn (now (a .state))) m (a .lines) (ap (λ (x : State). entryNumber x m (a .lines)) (sym (s .ensures)) ∙ z),
+      turn-agrees (s .result) m (a .lines) _ (t .result) _ z (sym (c .before .before .before .before .before .before .before .before .before .before .before .before .before .choose .ensures) ∙ c .before .before .before .before .before .before .before .before .before .before .before .second2 .given .1) (w .0),
+      λ ne. t .ensures .1 ∙ refused-counts _ _ ne,
+    )
 
 returns-3 : tie.Need-returns-3
 unfolding chosenStep
@@ -68,13 +77,12 @@ returns-3 c =
 
 returns-4 : tie.Need-returns-4
 returns-4 c =
-    let a = c .before .before .before .before .before .before .before .before .before .before .before .before .before .before .before .before .before .before .before .before .before .before .before .before .args in
+    let a = c .before .before .before .before .before .before .before .before .before .before .before .before .before .before .before .before .before .before .before .before .before .args in
     let m = buffers (now (a .sys)) (now (a .io)) in
-    let s = c .before .before .before .before .before .before .before .before .before .before .before .before .before .before .before .before .looked-at in
-    let left = c .before .before .answered .ensures in
-    let ended = end-turned (s .result) _ (s .ensures) m _ (c .before .before .before .before .channel .result) (c .before .before .before .end-turn .result) (c .before .before .before .before .channel .ensures) (c .before .before .before .end-turn .ensures) in
-    turn-served (now (a .state)) m (sym (c .before .before .before .before .before .before .before .before .before .before .before .before .before .before .before .before .before .before .before .is-state .ensures) ∙ not-false _ (c .before .before .before .before .before .before .before .before .before .before .before .before .before .before .before .before .before .before .if1 .left)) (a .lines) (s .result) (s .ensures) _ _ (c .before .before .before .end-turn .result) m
-    (sym (c .before .before .before .before .before .before .before .before .before .before .before .before .entry-number .ensures) ∙ c .before .before .before .before .before .before .before .before .before .before .before .if2 .left) (sym (c .before .before .before .before .before .before .before .before .before .before .choose .ensures) ∙ c .before .before .before .before .before .before .before .before .second .given .1) (ended .0) (ended .1) _ _ (left .0 m) (left .1 m)
+    let s = c .before .before .before .before .before .before .before .before .before .before .before .before .before .looked-at in
+    let left = c .before .before .ended .ensures in
+    end-served (now (a .state)) m (sym (c .before .before .before .before .before .before .before .before .before .before .before .before .before .before .before .before .is-state .ensures) ∙ not-false _ (c .before .before .before .before .before .before .before .before .before .before .before .before .before .before .before .if1 .left)) (a .lines) (s .result) (s .ensures) _
+    (sym (c .before .before .before .before .before .before .before .before .before .entry-number .ensures) ∙ c .before .before .before .before .before .before .before .before .if2 .left) (sym (c .before .before .before .before .before .before .before .choose .ensures) ∙ c .before .before .before .before .before .second .given .1) _ _ (left .0 m) (left .1 m)
 
 returns-5 : tie.Need-returns-5
 unfolding chosenStep
@@ -83,16 +91,12 @@ returns-5 c =
     let m = buffers (now (a .sys)) (now (a .io)) in
     let s = c .before .before .before .before .before .before .before .before .before .before .before .before .before .before .before .before .before .before .before .before .before .before .looked-at in
     let t = c .before .before .before .before .before .before .before .before .channel-turn in
-    let w = turn-steps (s .result) _ (s .ensures) m _ _ (c .before .before .before .before .before .before .before .before .before .before .before .channel2 .ensures) (t .result) _ (t .ensures .0) in
-    let left = c .before .before .answered2 .ensures in
+    let w = turn-steps (s .result) _ (s .ensures) m _ _ (c .before .before .before .before .before .before .before .before .before .before .before .channel .ensures) (t .result) _ (t .ensures .0) in
+    let left = c .before .before .answered .ensures in
     turn-served (now (a .state)) m (sym (c .before .before .before .before .before .before .before .before .before .before .before .before .before .before .before .before .before .before .before .before .before .before .before .before .before .is-state .ensures) ∙ not-false _ (c .before .before .before .before .before .before .before .before .before .before .before .before .before .before .before .before .before .before .before .before .before .before .before .before .if1 .left)) (a .lines) (s .result) (s .ensures) _ _ (t .result) _
     (sym (c .before .before .before .before .before .before .before .before .before .before .before .before .before .before .before .before .before .before .entry-number .ensures) ∙ c .before .before .before .before .before .before .before .before .before .before .before .before .before .before .before .before .before .if2 .left) (sym (c .before .before .before .before .before .before .before .before .before .before .before .before .before .before .before .before .choose .ensures) ∙ c .before .before .before .before .before .before .before .before .before .before .before .before .before .before .second2 .given .1) (w .0) (t .ensures .1 ∙ ap (counted (t .result .number)) (w .1)) _ _ (left .0 _) (left .1 _)
 
 pub iop89-step-spec : {M : Type 1} → statement M
 iop89-step-spec =
     tie.close
-    (tie.spec (λ c κs. search needs) (λ c. search needs) returns looked-at-requires entry-number-requires (λ c κs. search needs) (λ c. search needs)
-    (λ c. search needs) (λ c. search needs) returns-2 (λ c κs. search needs) (λ c. search needs) (λ c κs. search needs) (λ c. search needs)
-    channel-requires (λ c κs. search needs) answered-requires (λ c. search needs) channel-requires-2 (λ c κs. search needs) answered-requires-2
-    (λ c. search needs) (λ c. search needs) (λ c. search needs) returns-3 (λ c. search needs) (λ c. search needs) (λ c. search needs) returns-4
-    (λ c. search needs) (λ c. search needs) (λ c. search needs) returns-5)
+    (tie.spec (λ c κs. search needs) (λ c. search needs) returns looked-at-requires entry-number-requires (λ c κs. search needs) (λ c. search needs) (λ c. search needs) (λ c. search needs) returns-2 (λ c κs. search needs) (λ c. search needs) (λ c κs. search needs) (λ c. search needs) ended-requires (λ c. search needs) channel-requires (λ c κs. search needs) answered-requires (λ c. search needs) (λ c. search needs) (λ c. search needs) returns-3 (λ c. search needs) (λ c. search needs) (λ c. search needs) returns-4 (λ c. search needs) (λ c. search needs) (λ c. search needs) returns-5)

@@ -3,6 +3,7 @@
 use borrow.Author.Needs.{needs}
 use borrow.Author.Tests.{eq-eqb, ne-eqb}
 use Rattle.state_rules.specs.Layout.{isState}
+use Rattle.state_bytes.proofs.TestLaws.{state-fits}
 use Rattle.state_bytes.proofs.layout.is_state.Statement.{statement}
 use Rattle.state_bytes.proofs.layout.is_state.Tie as tie
 
@@ -11,10 +12,9 @@ unfolding isState
 returns c = rw (ne-eqb _ _ (c .if1 .taken))
 
 returns-2 : tie.Need-returns-2
-unfolding isState
-returns-2 c = simp (eq-eqb _ _ (c .before .before .before .before .before .if1 .left), c .is-block2 .ensures, c .before .is-block .ensures, c .before .before .is-board .ensures, c .before .before .before .is-flag .ensures, c .before .before .before .before .byte .ensures)
+returns-2 c = rw (state-fits _) (simp (eq-eqb _ _ (c .before .before .before .before .before .before .before .before .before .before .before .before .before .before .before .if1 .left), c .held-fits2 .ensures, c .before .held-fits .ensures, c .before .before .is-mode2 .ensures, c .before .before .before .is-mode .ensures, c .before .before .before .before .is-code2 .ensures, c .before .before .before .before .before .is-code .ensures, c .before .before .before .before .before .before .codes-fit2 .ensures, c .before .before .before .before .before .before .before .codes-fit .ensures, c .before .before .before .before .before .before .before .before .flags-fit2 .ensures, c .before .before .before .before .before .before .before .before .before .tags-fit2 .ensures, c .before .before .before .before .before .before .before .before .before .before .flags-fit .ensures, c .before .before .before .before .before .before .before .before .before .before .before .tags-fit .ensures, c .before .before .before .before .before .before .before .before .before .before .before .before .is-board .ensures, c .before .before .before .before .before .before .before .before .before .before .before .before .before .is-flag .ensures, c .before .before .before .before .before .before .before .before .before .before .before .before .before .before .byte .ensures))
 
 pub is-state-spec : {M : Type 1} → statement M
 is-state-spec =
     tie.close
-    (tie.spec returns (λ c κs. search needs) (λ c κs. search needs) (λ c κs. search needs) (λ c κs. search needs) (λ c κs. search needs) returns-2)
+    (tie.spec returns (λ c κs. search needs) (λ c κs. search needs) (λ c κs. search needs) (λ c κs. search needs) (λ c. search needs) (λ c κs. search needs) (λ c κs. search needs) (λ c. search needs) (λ c κs. search needs) (λ c. search needs) (λ c κs. search needs) (λ c. search needs) (λ c κs. search needs) (λ c. search needs) (λ c κs. search needs) (λ c. search needs) (λ c κs. search needs) (λ c. search needs) (λ c κs. search needs) (λ c. search needs) (λ c κs. search needs) (λ c. search needs) (λ c κs. search needs) (λ c. search needs) (λ c κs. search needs) returns-2)

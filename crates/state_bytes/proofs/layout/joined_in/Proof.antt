@@ -1,4 +1,4 @@
--- `state_bytes::layout::joined_in` meets its contract: the bytes stand in the places of their fields.
+-- `state_bytes::layout::joined_in` meets its contract: two products, and what they leave out.
 -- Assumes nothing.
 use borrow.Author.Needs.{needs}
 use denote.Ref.{now}
@@ -7,12 +7,14 @@ use Rattle.state_bytes.proofs.layout.joined_in.Statement.{statement}
 use Rattle.state_bytes.proofs.layout.joined_in.Tie as tie
 
 returns : tie.Need-returns
-returns c = let a = c .before .before .before .before .before .before .before .before .before .before .before in rw (c .behind9 .ensures .0, c .before .behind8 .ensures .0, c .before .before .behind7 .ensures .0, c .before .before .before .behind6 .ensures .0, c .before .before .before .before .behind5 .ensures .0, c .before .before .before .before .before .behind4 .ensures .0, c .before .before .before .before .before .before .behind3 .ensures .0, c .before .before .before .before .before .before .before .behind2 .ensures .0, c .before .before .before .before .before .before .before .before .behind .ensures .0, c .before .before .before .before .before .before .before .before .before .byte .ensures) (made-up (now (a .args .bytes)) (a .args .at) (a .pre .1))
+returns c =
+    let a = c .before .before .before .before .before in
+    rw (c .byte2 .ensures, c .before .byte .ensures, c .before .before .long2 .ensures, c .before .before .before .long .ensures) (made-up (now (a .args .bytes)) (a .args .at) (a .pre .1))
 
 pub joined-in-spec : {M : Type 1} → statement M
 joined-in-spec =
     tie.close
-    (tie.spec (λ c κs. search needs) (λ c. search needs) (λ c. search needs) (λ c κs. search needs) (λ c. search needs) (λ c κs. search needs)
-    (λ c. search needs) (λ c κs. search needs) (λ c. search needs) (λ c κs. search needs) (λ c. search needs) (λ c κs. search needs)
-    (λ c. search needs) (λ c κs. search needs) (λ c. search needs) (λ c κs. search needs) (λ c. search needs) (λ c κs. search needs)
-    (λ c. search needs) (λ c κs. search needs) returns)
+    (tie.spec (λ c κs. search needs) (λ c. search needs) (λ c. search needs) (λ c. search needs) (λ c κs. search needs) (λ c. search needs)
+    (λ c. search needs) (λ c. search needs) (λ c κs. search needs) (λ c. search needs) (λ c. search needs) (λ c κs. search needs)
+    (λ c. search needs) (λ c. search needs) (λ c. search needs) (λ c. search needs) (λ c. search needs) (λ c. search needs) (λ c. search needs)
+    (λ c. search needs) (λ c. search needs) returns)

@@ -3,25 +3,22 @@
 use borrow.Author.Needs.{needs}
 use mathlib.Core.Path.{_∙_}
 use native.Mathlib.Nat.{add-assoc}
-use native.Mathlib.Omega.{arith}
-use Rattle.state_rules.specs.Layout.{fieldsBytes, heldBytes, channelBytes}
-use Rattle.state_rules.proofs.HeldLaws.{held-small, good-fits}
+use Rattle.state_rules.specs.Layout.{fieldsBytes, channelBytes}
 use Rattle.state_rules.proofs.LengthLaws.{length-pointers, length-numbers, length-marks, length-sides, length-fields}
 use Rattle.state_rules.proofs.SetsLaws.{sets-append}
+use Rattle.state_bytes.specs.Puts.{frontBytes}
 use Rattle.state_bytes.proofs.layout.put_channel.Statement.{statement}
 use Rattle.state_bytes.proofs.layout.put_channel.Tie as tie
 
 returns : tie.Need-returns
-unfolding channelBytes fieldsBytes heldBytes
-returns c =
-    let g = c .before .before .before .before .before .before .before .before .before .before .before .before .before .before .before .before .before .before .before .before .before .before .before .before .before .before .good .1 .1 .0 in (
-      record { ga = omega (arith, g .1 .1 .0 .1 .1 .0); gb = omega (arith, g .1 .1 .1 .0 .1 .1 .0); gc = omega (arith, g .1 .1 .1 .1 .0 .1 .1 .0); tp = omega (arith, g .1 .1 .1 .1 .1 .0 .1 .1 .0); pp = omega (arith, g .1 .1 .1 .1 .1 .1 .0); bc = omega (arith, g .1 .1 .1 .1 .1 .1 .1 .0); ix = omega (arith, g .1 .1 .1 .1 .1 .1 .1 .1 .0); cc = omega (arith, g .1 .1 .1 .1 .1 .1 .1 .1 .1 .0); mc = omega (arith, g .1 .1 .1 .1 .1 .1 .1 .1 .1 .1 .0); psw = omega (arith, g .1 .1 .1 .1 .1 .1 .1 .1 .1 .1 .1 .1 .0); held = held-small (c .before .before .before .before .before .before .before .before .before .before .before .before .before .before .before .before .before .before .before .before .before .before .before .before .before .before .args .c .held) (good-fits (c .before .before .before .before .before .before .before .before .before .before .before .before .before .before .before .before .before .before .before .before .before .before .before .before .before .before .args .c .held) _ (g .1 .1 .1 .1 .1 .1 .1 .1 .1 .1 .1 .0)) },
-      c .before .before .put-word .ensures ∙ rw (c .before .before .before .number .ensures, c .before .before .before .before .before .before .before .put-ends .ensures, c .before .before .before .before .before .before .before .before .before .before .before .put-sides .ensures, c .before .before .before .before .before .before .before .before .before .before .before .before .before .before .before .put-marks .ensures, c .before .before .before .before .before .before .before .before .before .before .before .before .before .before .before .before .before .before .before .put-numbers .ensures, c .before .before .before .before .before .before .before .before .before .before .before .before .before .before .before .before .before .before .before .before .before .before .before .put-pointers .ensures) (simp (sets-append, length-pointers, length-numbers, length-marks, length-sides, length-fields, add-assoc)),
-    )
+unfolding channelBytes fieldsBytes frontBytes
+returns c = (
+  c .before .before .before .before .before .before .before .before .before .before .put-front .ensures .0,
+  c .before .before .put-held .ensures ∙ rw (c .before .before .before .before .before .before .put-fields .ensures, c .before .before .before .before .before .before .before .before .before .before .put-front .ensures .1) (simp (sets-append, length-pointers, length-numbers, length-marks, length-sides, length-fields, add-assoc)),
+)
 
 pub put-channel-spec : {M : Type 1} → statement M
 put-channel-spec =
     tie.close
     (tie.spec (λ c κs. search needs) (λ c. search needs) (λ c κs. search needs) (λ c. search needs) (λ c κs. search needs) (λ c. search needs)
-    (λ c κs. search needs) (λ c. search needs) (λ c κs. search needs) (λ c. search needs) (λ c κs. search needs) (λ c κs. search needs)
-    (λ c. search needs) returns)
+    returns)

@@ -1,10 +1,10 @@
--- `board_call::iop89_board` meets its contract.
+-- `run_call::iop89_board` meets its contract.
 -- Assumes nothing.
 use borrow.Author.Needs.{needs}
 use mathlib.Core.Path.{ap}
 use Rattle.run_rules.specs.Run.{Run, answerOf, called}
-use Rattle.board_call.proofs.iop89_board.Statement.{statement}
-use Rattle.board_call.proofs.iop89_board.Tie as tie
+use Rattle.run_call.proofs.iop89_board.Statement.{statement}
+use Rattle.run_call.proofs.iop89_board.Tie as tie
 
 returns : tie.Need-returns
 unfolding answerOf

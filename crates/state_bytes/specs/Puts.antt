@@ -1,0 +1,20 @@
+-- What a done step puts of its channel's block, as the code puts it: the fields of CC only where CC changed.
+use mathlib.Core.List.{List, _++_}
+use Prim.Native.Nat.{ℕ, _+_}
+use lib.Dec.{eqb}
+use lib.Seq.{sets}
+use Rattle.ground_rules.specs.Cc.{split}
+use Rattle.ground_rules.specs.Choice.{pick}
+use Rattle.ground_rules.specs.declared.Channel.{Channel}
+use Rattle.state_rules.specs.Fields.{littleIn}
+use Rattle.state_rules.specs.Layout.{pointersBytes, numbersBytes, marksBytes, fieldsBytes, heldBytes}
+
+-- what a block has before the fields of CC
+unfoldable pub frontBytes : Channel → List ℕ
+frontBytes c = pointersBytes c ++ (numbersBytes c ++ marksBytes c)
+
+-- the bytes with a channel's block put from an offset on, its fields only where another CC stands there
+unfoldable pub agreeingPut : List ℕ → ℕ → Channel → List ℕ
+agreeingPut b at c =
+    let front = sets b at (frontBytes c) in
+    sets (pick (eqb (littleIn 2 b (at + 28)) (c .cc)) front (sets front (at + 35) (fieldsBytes (split (c .cc))))) (at + 45) (heldBytes c)
