@@ -233,6 +233,15 @@ $(BUILD)/stack: host/stack.c $(HEADERS) $(ARCHIVES) | x86-compiler
 stack: $(BUILD)/stack
 	@tools/x86 $(BUILD)/stack examples/*.bin examples/*.asm
 
+# A host without the C library: the archives are linked whole, so that a name which one of them leaves undefined ends the
+# link. ALONE are those that need nothing; the service archive as a whole needs memcpy.
+ALONE = $(IOP89_LIB) $(TARGET)/staticlib/libboard_call.a $(TARGET)/staticlib/libsweep_call.a
+
+alone: x86-compiler $(ARCHIVES)
+	$(X86_CC) $(STRICT) $(CFLAGS) -ffreestanding -nostdlib -static -Iinclude host/alone.c \
+		-Wl,--whole-archive $(ALONE) -Wl,--no-whole-archive -o $(BUILD)/alone
+	@tools/x86 $(BUILD)/alone || { echo "make: the host without the C library ended with $$?" >&2; exit 1; }
+
 $(BUILD)/compare: host/compare.c host/fences.c host/fences.h $(COMMON) $(COMMON_H) $(IOP89_LIB) | x86-compiler
 	$(X86_CC) $(PLAIN) $(STRICT) $(CFLAGS) -Iinclude host/compare.c host/fences.c $(COMMON) $(IOP89_LIB) $(X86_LDFLAGS) -o $@
 
@@ -295,7 +304,7 @@ $(BUILD)/bench: host/bench.c host/emulator.h host/sweep_case.h include/iop89.h i
 
 # ---- The service archive: the machine call by call, and what stands on both archives
 
-.PHONY: service-lib compare-service given-service stack
+.PHONY: service-lib compare-service given-service stack alone
 
 # The proved calls as a second archive; both link into one program.
 service-lib: $(SERVICE_LIB)
