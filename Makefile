@@ -243,6 +243,13 @@ $(BUILD)/stack: host/bench/stack.c $(HEADERS) $(ARCHIVES) | x86-compiler
 stack: $(BUILD)/stack
 	@tools/x86 $(BUILD)/stack examples/*.bin examples/*.asm
 
+# A host without the C library: all objects of both archives are linked, so that a name which one of them leaves undefined
+# ends the link. The run's object stands in both, so one archive is taken in whole and the other for what it has besides.
+alone: x86-compiler host/compare/alone.c $(ARCHIVES)
+	$(X86_CC) $(STRICT) $(CFLAGS) -ffreestanding -nostdlib -static $(INCLUDES) host/compare/alone.c \
+		-Wl,--whole-archive $(SERVICE_LIB) -Wl,--no-whole-archive $(IOP89_LIB) -o $(BUILD)/alone
+	@tools/x86 $(BUILD)/alone || { echo "make: the host without the C library ended with $$?" >&2; exit 1; }
+
 $(BUILD)/compare: host/compare/compare.c $(COMMON) $(COMMON_H) $(IOP89_LIB) | x86-compiler
 	$(X86_CC) $(PLAIN) $(STRICT) $(CFLAGS) $(INCLUDES) $(LINKED) $(X86_LDFLAGS) -o $@
 
@@ -304,7 +311,7 @@ $(BUILD)/bench: host/bench/bench.c host/bench/sweep_case.h host/emulator/emulato
 
 # ---- The service archive: the machine call by call, and what stands on both archives
 
-.PHONY: service-lib compare-service option-service stack
+.PHONY: service-lib compare-service option-service stack alone
 
 # The proved calls as a second archive; both link into one program.
 service-lib: $(SERVICE_LIB)

@@ -10,8 +10,14 @@
 /* Bytes of each buffer in a small run. */
 #define SMALL 4096u
 
-/* Where an image has its control block, parameter block and program. */
-enum { CONTROL_BLOCK = 0, PARAMETER_BLOCK = 0x10, PROGRAM = 0x40 };
+/* Where an image has its control block, parameter block and program, and the program where it stands in I/O space. */
+enum { CONTROL_BLOCK = 0, PARAMETER_BLOCK = 0x10, PROGRAM = 0x40, IO_PROGRAM = 0x400 };
+
+/* The commands that start a program in either space. */
+enum { START_IN_IO = 1, START_IN_SYSTEM = 3 };
+
+/* The high byte of an address behind the end of small I/O memory. */
+enum { EMPTY_SLOT_HIGH = 0x20 };
 
 /* Where the mix has the data that GA points at, and the byte there that its masked compare looks for. */
 enum { MIX_DATA = 0x400, MIX_MATCH_AT = MIX_DATA + 3, MIX_MATCH = 0x2E };
@@ -88,19 +94,41 @@ static const uint8_t mix[] = {
     0x83, 0x8E, 0x0C,                   /*       MOVP  TP,[GC].12: back to after CALL   */
 };
 
-/* A block transfer from 400h to 800h of system space, seven steps before it starts; WID is put in. */
+/* A block transfer from 400h to 800h of system space, seven steps before it starts; WID and CC are put in. */
 static const uint8_t transfer[] = {
     0x11, 0x08, 0x00, 0x00, 0x40, 0x00, /* LPDI GA,0,40H: 400h                       */
     0x31, 0x08, 0x00, 0x00, 0x80, 0x00, /* LPDI GB,0,80H: 800h                       */
     0x71, 0x30, 0x00, 0x80,             /* MOVI BC,8000H: more than any run moves    */
-    0xD1, 0x30, 0x08, 0xC0,             /* MOVI CC,0C008H: both move on, count ends  */
+    0xD1, 0x30, 0x08, 0xC0,             /* MOVI CC,0C008H: another is put in         */
     0x80, 0x00,                         /* WID  8,8: another is put in               */
     0x60, 0x00,                         /* XFER                                      */
     0x00, 0x00,                         /* NOP                                       */
 };
 
-/* Where WID stands in the transfer's program. */
-enum { TRANSFER_WID = 20 };
+/* The same to I/O space; with eight steps before it starts its parts stand where the first has them. */
+static const uint8_t to_port[] = {
+    0x11, 0x08, 0x00, 0x00, 0x40, 0x00, /* LPDI GA,0,40H: 400h                       */
+    0x31, 0x30, 0x00, 0x08,             /* MOVI GB,800H: I/O                         */
+    0x00, 0x00,                         /* NOP                                       */
+    0x71, 0x30, 0x00, 0x80,             /* MOVI BC,8000H: more than any run moves    */
+    0xD1, 0x30, 0x08, 0xC0,             /* MOVI CC,0C008H: another is put in         */
+    0x80, 0x00,                         /* WID  8,8: another is put in               */
+    0x60, 0x00,                         /* XFER                                      */
+    0x00, 0x00,                         /* NOP                                       */
+};
+
+/* Where WID and the high byte of the port's address stand in a transfer's program, and CC in its low byte. */
+enum { TRANSFER_WID = 20, TRANSFER_GB_HIGH = 9, TRANSFER_CC = 18 };
+
+/* CC of a transfer by what it does; both sides move on and the count ends it unless it says otherwise. */
+enum {
+    PLAIN_CC = 0xC008,
+    TRANSLATED_CC = 0xE008,
+    COMPARED_CC = 0xC00D,
+    FROM_CC = 0xC808,
+    TO_CC = 0xD008,
+    PORT_CC = 0x4008,
+};
 
 /* Channel 2's block, its parameter block, and its program beside the mix: a loop of INC IX and JNZ IX. */
 enum { SECOND_BLOCK = 8, SECOND_PARAMETER_BLOCK = 0x20, SECOND_PROGRAM = 0x300 };
@@ -111,28 +139,55 @@ static const uint8_t second_program[] = {0xA0, 0x38, 0xA8, 0x40, 0xFB};
 /* The two lent buffers. */
 static uint8_t sys[IOP89_SYSTEM_LIMIT], io[IOP89_IO_LIMIT];
 
-/* A workload by its name: its program, and the first byte of its WID, or 0 where it is the mix. */
+/* Where code stands: in the middle of a memory, or so that its last byte is the memory's last. */
+enum place { IN_SYSTEM, SYSTEM_END, IN_IO, IO_END };
+
+/* A workload by its name: its program; the first byte of its WID, or 0 where it is no transfer; CC, and the lines that
+ * are up; and where its code stands. */
 struct workload {
     const char *name;
     const uint8_t *program;
     size_t length;
     uint8_t wid;
+    uint16_t cc;
+    uint8_t lines;
+    enum place place;
 };
 
+/* The widths of source and destination as WID has them. */
+enum { WID_8_8 = 0x80, WID_8_16 = 0xA0, WID_16_8 = 0xC0, WID_16_16 = 0xE0 };
+
 static const struct workload workloads[] = {
-    {"mix", mix, sizeof mix, 0},
-    {"both", mix, sizeof mix, 0},
-    {"8/8", transfer, sizeof transfer, 0x80},
-    {"16/16", transfer, sizeof transfer, 0xE0},
-    {"8/16", transfer, sizeof transfer, 0xA0},
-    {"16/8", transfer, sizeof transfer, 0xC0},
-    {"wait", transfer, sizeof transfer, 0x80},
+    {"mix", mix, sizeof mix, 0, 0, 0, IN_SYSTEM},
+    {"both", mix, sizeof mix, 0, 0, 0, IN_SYSTEM},
+    {"8/8", transfer, sizeof transfer, WID_8_8, PLAIN_CC, 0, IN_SYSTEM},
+    {"16/16", transfer, sizeof transfer, WID_16_16, PLAIN_CC, 0, IN_SYSTEM},
+    {"8/16", transfer, sizeof transfer, WID_8_16, PLAIN_CC, 0, IN_SYSTEM},
+    {"16/8", transfer, sizeof transfer, WID_16_8, PLAIN_CC, 0, IN_SYSTEM},
+    {"wait", transfer, sizeof transfer, WID_8_8, FROM_CC, 0, IN_SYSTEM},
+    {"translated", transfer, sizeof transfer, WID_8_8, TRANSLATED_CC, 0, IN_SYSTEM},
+    {"compared-8/8", transfer, sizeof transfer, WID_8_8, COMPARED_CC, 0, IN_SYSTEM},
+    {"compared-16/16", transfer, sizeof transfer, WID_16_16, COMPARED_CC, 0, IN_SYSTEM},
+    {"requested-8/8", transfer, sizeof transfer, WID_8_8, FROM_CC, IOP89_DRQ1, IN_SYSTEM},
+    {"requested-16/16", transfer, sizeof transfer, WID_16_16, FROM_CC, IOP89_DRQ1, IN_SYSTEM},
+    {"two-fetches", transfer, sizeof transfer, WID_8_16, FROM_CC, IOP89_DRQ1, IN_SYSTEM},
+    {"two-stores", transfer, sizeof transfer, WID_16_8, TO_CC, IOP89_DRQ1, IN_SYSTEM},
+    {"port-8/8", to_port, sizeof to_port, WID_8_8, PORT_CC, 0, IN_SYSTEM},
+    {"port-16/16", to_port, sizeof to_port, WID_16_16, PORT_CC, 0, IN_SYSTEM},
+    {"slot-8/8", to_port, sizeof to_port, WID_8_8, PORT_CC, 0, IN_SYSTEM},
+    {"slot-16/16", to_port, sizeof to_port, WID_16_16, PORT_CC, 0, IN_SYSTEM},
+    {"mix-in-io", mix, sizeof mix, 0, 0, 0, IN_IO},
+    {"mix-at-end", mix, sizeof mix, 0, 0, 0, SYSTEM_END},
+    {"two", second_program, sizeof second_program, 0, 0, 0, IN_SYSTEM},
+    {"two-at-end", second_program, sizeof second_program, 0, 0, 0, SYSTEM_END},
+    {"two-in-io", second_program, sizeof second_program, 0, 0, 0, IN_IO},
+    {"two-at-io-end", second_program, sizeof second_program, 0, 0, 0, IO_END},
 };
 
 /* Says how the program is called, and ends it. */
 static _Noreturn void usage(void)
 {
-    fputs("usage: bench proved|plain mix|8/8|16/16|8/16|16/8|both small|full STEPS\n"
+    fputs("usage: bench proved|plain WORKLOAD small|full STEPS\n"
           "       bench swept|stepped within|across|one COUNT\n"
           "       bench scheduled|singly|paired-1|paired-2 both|8/8|16/16|wait ROWS\n"
           "       bench loop TURNS\n",
@@ -157,22 +212,44 @@ static uint32_t number_of(const char *word)
     return (uint32_t)value;
 }
 
-/* Puts a workload's image into system memory. */
-static void make_image(const struct workload *w)
+/* Where a workload's code begins, in the space that it stands in. */
+static size_t code_at(const struct workload *w, size_t sys_len, size_t io_len)
 {
+    switch (w->place) {
+    case SYSTEM_END: return sys_len - w->length;
+    case IN_IO: return IO_PROGRAM;
+    case IO_END: return io_len - w->length;
+    default: return PROGRAM;
+    }
+}
+
+/* Puts a workload's image into memory: its blocks into system memory, its code where it stands. */
+static void make_image(const struct workload *w, size_t sys_len, size_t io_len)
+{
+    bool ports = w->place == IN_IO || w->place == IO_END;
+    size_t at = code_at(w, sys_len, io_len);
+    uint8_t *code = (ports ? io : sys) + at;
     memcpy(sys + CONTROL_BLOCK, control_block, sizeof control_block);
     memcpy(sys + PARAMETER_BLOCK, parameter_block, sizeof parameter_block);
-    memcpy(sys + PROGRAM, w->program, w->length);
-    if (w->wid != 0) sys[PROGRAM + TRANSFER_WID] = w->wid;
+    sys[CONTROL_BLOCK] = ports ? START_IN_IO : START_IN_SYSTEM;
+    sys[PARAMETER_BLOCK] = (uint8_t)at;
+    sys[PARAMETER_BLOCK + 1] = (uint8_t)(at >> 8);
+    sys[PARAMETER_BLOCK + 3] = (uint8_t)(at >> 16 << 4);
+    memcpy(code, w->program, w->length);
     sys[MIX_MATCH_AT] = MIX_MATCH;
+    if (w->wid == 0) return;
+    code[TRANSFER_WID] = w->wid;
+    code[TRANSFER_CC] = (uint8_t)w->cc;
+    code[TRANSFER_CC + 1] = (uint8_t)(w->cc >> 8);
+    if (strncmp(w->name, "slot", 4) == 0) code[TRANSFER_GB_HIGH] = EMPTY_SLOT_HIGH;
 }
 
 /* The answer of the library or of the emulator. */
-static uint32_t run(const char *side, size_t sys_len, size_t io_len, uint32_t limit)
+static uint32_t run(const char *side, size_t sys_len, size_t io_len, uint32_t lines, uint32_t limit)
 {
     struct emu_memory memory = {sys, sys_len, io, io_len};
-    if (strcmp(side, "proved") == 0) return iop89_run(sys, sys_len, io, io_len, CONTROL_BLOCK, 1, 0, limit);
-    if (strcmp(side, "plain") == 0) return emu_run(&memory, CONTROL_BLOCK, 1, 0, limit);
+    if (strcmp(side, "proved") == 0) return iop89_run(sys, sys_len, io, io_len, CONTROL_BLOCK, 1, lines, limit);
+    if (strcmp(side, "plain") == 0) return emu_run(&memory, CONTROL_BLOCK, 1, lines, limit);
     usage();
 }
 
@@ -263,9 +340,6 @@ static bool made(const char *how, const struct sweep_case *c, uint32_t count)
 enum { SCHEDULE_ROWS = 400 };
 static struct iop89_row rows[SCHEDULE_ROWS];
 
-/* CC of a transfer that waits for its source's DRQ, and where the program has CC's high byte. */
-enum { WAITING_CC_HIGH = 0xC8, TRANSFER_CC_HIGH = 19 };
-
 /* The steps that set a transfer up. */
 enum { SETTING_UP = 7 };
 
@@ -279,9 +353,8 @@ static uint32_t step_once(uint8_t *state, uint32_t lines)
 static void make_started(const struct workload *w, uint8_t *state)
 {
     bool both = strcmp(w->name, "both") == 0;
-    make_image(w);
+    make_image(w, SMALL, SMALL);
     if (both) make_second();
-    if (strcmp(w->name, "wait") == 0) sys[PROGRAM + TRANSFER_CC_HIGH] = WAITING_CC_HIGH;
     iop89_fresh(state, IOP89_STATE_LENGTH, CONTROL_BLOCK);
     for (uint32_t channel = 1; channel <= (both ? 2 : 1); channel++)
         (void)iop89_attention(state, IOP89_STATE_LENGTH, sys, SMALL, io, SMALL, channel);
@@ -353,11 +426,12 @@ int main(int count, char **words)
     if (count != 5 || (strcmp(words[3], "small") != 0 && strcmp(words[3], "full") != 0)) usage();
     bool small = strcmp(words[3], "small") == 0;
     uint32_t limit = number_of(words[4]);
-    make_image(workload_of(words[2]));
+    const struct workload *w = workload_of(words[2]);
     size_t sys_len = small ? SMALL : sizeof sys, io_len = small ? SMALL : sizeof io;
+    make_image(w, sys_len, io_len);
     bool both = strcmp(words[2], "both") == 0;
     uint32_t answer = both ? step_both(strcmp(words[1], "proved") == 0, sys_len, io_len, limit)
-                           : run(words[1], sys_len, io_len, limit);
+                           : run(words[1], sys_len, io_len, w->lines, limit);
     if (answer == limit) return 0;
     fprintf(stderr, "bench: number %u after %u steps\n", IOP89_NUMBER(answer), IOP89_STEPS(answer));
     return 1;
