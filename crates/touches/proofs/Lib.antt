@@ -1,0 +1,4 @@
+pub mod TaleLaws
+pub mod AccessLaws
+pub mod InstructionLaws
+pub mod CallLaws
