@@ -5,7 +5,7 @@ use Rattle.ground_rules.specs.Buffers.{buffers}
 use Rattle.touches.proofs.CallLaws.{power-refused, power-fits}
 use Rattle.touches.proofs.power_up.Statement.{statement}
 use Rattle.touches.proofs.power_up.Tie as tie
-use Rattle.touches.specs.Tales.{Tale, tale, untold, toldOn, allAs, foreseenAt, endedAt, foreseen, toldNext, placeAt}
+use Rattle.touches.specs.Tales.{Tale, tale, untold, toldOn, allAs, foreseenAt, endedAt, foreseen, toldNext}
 use borrow.Author.Needs.{needs}
 use borrow.Author.Tests.{eq-eqb, ne-eqb, not-true, not-false}
 use denote.Ref.{now}

@@ -8,7 +8,8 @@ use Rattle.touches.proofs.CallLaws.{sweep-refused, sweep-told}
 use Rattle.touches.proofs.TaleLaws.{two-told, two-beyond, two-judged, two-done, kept, two-plain-told}
 use Rattle.touches.proofs.sweep.Statement.{statement}
 use Rattle.touches.proofs.sweep.Tie as tie
-use Rattle.touches.specs.Tales.{Tale, tale, untold, toldOn, allAs, foreseenAt, endedAt, foreseen, toldNext, placeAt}
+use Rattle.touch_rules.specs.Touches.{pointedPlace}
+use Rattle.touches.specs.Tales.{Tale, tale, untold, toldOn, allAs, foreseenAt, endedAt, foreseen, toldNext}
 use Rattle.touches.specs.Tales.{plainTold}
 use borrow.Author.Needs.{needs}
 use borrow.Author.Tests.{eq-eqb, ne-eqb, not-true, not-false}
@@ -68,8 +69,8 @@ returns-2 c =
     let rest = simp (c .before .before .before .before .before .before .before .before .before .before .before .before .before .channel .ensures, c .before .before .before .before .before .before .before .before .before .before .before .before .before .before .is-second .ensures) at (c .before .before .before .before .before .before .before .before .before .before .before .before .remainder-of .ensures .0) in
     let first = simp (c .before .before .before .before .before .before .before .before .none2 .ensures) at (c .before .before .before .before .before .before .before .one .ensures) in
     rw (c .seen2 .ensures)
-    (ap (foreseenAt 0) (c .before .before .before .one2 .ensures ∙ ap (toldNext true (plainTold true (placeAt (c .before .before .before .before .before .before .before .before .before .before .before .before .remainder-of .result .into)))) first)
-    ∙ two-plain-told (placeAt (c .before .before .before .before .before .before .before .before .before .before .before .before .remainder-of .result .from)) (placeAt (c .before .before .before .before .before .before .before .before .before .before .before .before .remainder-of .result .into)) room
+    (ap (foreseenAt 0) (c .before .before .before .one2 .ensures ∙ ap (toldNext true (plainTold true (pointedPlace (c .before .before .before .before .before .before .before .before .before .before .before .before .remainder-of .result .into)))) first)
+    ∙ two-plain-told (pointedPlace (c .before .before .before .before .before .before .before .before .before .before .before .before .remainder-of .result .from)) (pointedPlace (c .before .before .before .before .before .before .before .before .before .before .before .before .remainder-of .result .into)) room
     ∙ rw rest (sweep-told (a .s) m (a .channel) (a .lines) room (sym (c .before .before .before .before .before .before .before .before .before .before .before .before .before .before .before .before .number .ensures) ∙ c .before .before .before .before .before .before .before .before .before .before .before .before .before .before .before .if1 .left)))
 
 pub sweep-spec : {M : Type 1} → statement M

@@ -6,7 +6,7 @@ use Rattle.ground_rules.specs.States.{busyIn}
 use Rattle.touches.proofs.CallLaws.{turn-transfer, turn-instruction}
 use Rattle.touches.proofs.turn.Statement.{statement}
 use Rattle.touches.proofs.turn.Tie as tie
-use Rattle.touches.specs.Tales.{Tale, tale, untold, toldOn, allAs, foreseenAt, endedAt, foreseen, toldNext, placeAt}
+use Rattle.touches.specs.Tales.{Tale, tale, untold, toldOn, allAs, foreseenAt, endedAt, foreseen, toldNext}
 use borrow.Author.Needs.{needs}
 use borrow.Author.Tests.{eq-eqb, ne-eqb, not-true, not-false}
 use denote.Ref.{now}

@@ -6,7 +6,7 @@ use Rattle.ground_rules.specs.Buffers.{buffers}
 use Rattle.ground_rules.specs.Places.{span}
 use Rattle.touches.proofs.orders.asked.Statement.{statement}
 use Rattle.touches.proofs.orders.asked.Tie as tie
-use Rattle.touches.specs.Tales.{Tale, tale, untold, toldOn, allAs, foreseenAt, endedAt, foreseen, toldNext, placeAt}
+use Rattle.touches.specs.Tales.{Tale, tale, untold, toldOn, allAs, foreseenAt, endedAt, foreseen, toldNext}
 use borrow.Author.Needs.{needs}
 use borrow.Author.Tests.{eq-eqb, ne-eqb, not-true, not-false}
 use denote.Ref.{now}

@@ -9,7 +9,8 @@ use lib.ListN.{length}
 use Rattle.ground_rules.specs.Buffers.{buffers, touchableAt}
 use Rattle.ground_rules.specs.Places.{span}
 use Rattle.ground_rules.specs.Values.{onward}
-use Rattle.touches.specs.Tales.{Tale, tale, placeAt, plainTold, toldNext, toldOn, allAs}
+use Rattle.touch_rules.specs.Touches.{pointedPlace}
+use Rattle.touches.specs.Tales.{Tale, tale, plainTold, toldNext, toldOn, allAs}
 use Rattle.touches.proofs.TaleLaws.{span-more, next-reduced, on-length}
 use Rattle.touches.proofs.tell.span.Statement.{statement}
 use Rattle.touches.proofs.tell.span.Tie as tie
@@ -52,7 +53,7 @@ loop-again c =
     let l = c .before .before .before .before .before .before .before .loop in
     let m = buffers (now (a .sys)) (now (a .io)) in
     let o = c .before .before .one in
-    let there : toldNext (c .before .before .before .touchable .result) (plainTold (a .store) (placeAt (c .before .before .before .before .before .onward .result))) (tale (l .places) (l .next))
+    let there : toldNext (c .before .before .before .touchable .result) (plainTold (a .store) (pointedPlace (c .before .before .before .before .before .onward .result))) (tale (l .places) (l .next))
     ≡ toldNext (touchableAt m (a .p .tag) (a .p .address + l .i)) (plainTold (a .store) (record { tag = a .p .tag; address = a .p .address + l .i })) (tale (l .places) (l .next))
     = rw (c .before .before .before .touchable .ensures, c .before .before .before .before .before .onward .ensures) (next-reduced m (a .store) (a .p .tag) (a .p .address + l .i) (tale (l .places) (l .next))) in (
       omega arith,

@@ -6,7 +6,7 @@ use Rattle.ground_rules.specs.Values.{onward}
 use Rattle.touches.proofs.transfers.ahead.Statement.{statement}
 use Rattle.touches.proofs.transfers.ahead.Tie as tie
 use Rattle.touches.specs.Spots.{movingOf}
-use Rattle.touches.specs.Tales.{Tale, tale, untold, toldOn, allAs, foreseenAt, endedAt, foreseen, toldNext, placeAt}
+use Rattle.touches.specs.Tales.{Tale, tale, untold, toldOn, allAs, foreseenAt, endedAt, foreseen, toldNext}
 use Rattle.transfer.specs.Setups.{setupOf}
 use Rattle.transfer_rules.specs.Reads.{fetched, entryOf, delivered}
 use borrow.Author.Needs.{needs}

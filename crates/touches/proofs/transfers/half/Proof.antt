@@ -6,7 +6,7 @@ use Rattle.ground_rules.specs.declared.Held.the-variants.{NoByte, Byte}
 use Rattle.touches.proofs.transfers.half.Statement.{statement}
 use Rattle.touches.proofs.transfers.half.Tie as tie
 use Rattle.touches.specs.Spots.{spotsOf}
-use Rattle.touches.specs.Tales.{Tale, tale, untold, toldOn, allAs, foreseenAt, endedAt, foreseen, toldNext, placeAt}
+use Rattle.touches.specs.Tales.{Tale, tale, untold, toldOn, allAs, foreseenAt, endedAt, foreseen, toldNext}
 use Rattle.transfer_rules.proofs.PartLaws.{half-fetches, half-stores, fetch-due, store-due}
 use Rattle.transfer_rules.specs.Parts.{fetchPart, storePart}
 use borrow.Author.Needs.{needs}

@@ -7,7 +7,7 @@ use Rattle.touches.proofs.CallLaws.{transfer-bad, transfer-done}
 use Rattle.touches.proofs.transfers.transfer.Statement.{statement}
 use Rattle.touches.proofs.transfers.transfer.Tie as tie
 use Rattle.touches.specs.Spots.{movingOf}
-use Rattle.touches.specs.Tales.{Tale, tale, untold, toldOn, allAs, foreseenAt, endedAt, foreseen, toldNext, placeAt}
+use Rattle.touches.specs.Tales.{Tale, tale, untold, toldOn, allAs, foreseenAt, endedAt, foreseen, toldNext}
 use Rattle.touches.specs.declared.transfers.Moving.{Moving}
 use borrow.Author.Needs.{needs}
 use borrow.Author.Tests.{eq-eqb, ne-eqb, not-true, not-false}

@@ -5,7 +5,7 @@ use Rattle.ground_rules.specs.Buffers.{buffers}
 use Rattle.touches.proofs.transfers.whole.Statement.{statement}
 use Rattle.touches.proofs.transfers.whole.Tie as tie
 use Rattle.touches.specs.Spots.{spotsOf}
-use Rattle.touches.specs.Tales.{Tale, tale, untold, toldOn, allAs, foreseenAt, endedAt, foreseen, toldNext, placeAt}
+use Rattle.touches.specs.Tales.{Tale, tale, untold, toldOn, allAs, foreseenAt, endedAt, foreseen, toldNext}
 use Rattle.transfer.specs.Setups.{setupOf}
 use Rattle.transfer_rules.proofs.PartLaws.{not-half}
 use Rattle.transfer_rules.specs.Reads.{dataOf}
