@@ -319,7 +319,7 @@ service-lib: $(SERVICE_LIB)
 # Thin crates that hold exported functions alone: what they rest on is not proved again for an archive. All else in an
 # archive is local, so they join into one. The calls of service and schedule_calls are passed on by processor_calls, so that
 # their code stands in it once; the sweep has an object of its own, which costs some bytes and saves instructions.
-SERVICE_CRATES = processor_calls sweep_call run_call text_calls
+SERVICE_CRATES = processor_calls sweep_call run_call text_calls touch_calls
 
 $(SERVICE_LIB): $(SERVICE_CRATES:%=$(BUILD)/%.sums)
 	@tools/prove staticlib $(SERVICE_CRATES)

@@ -30,7 +30,7 @@ pub struct Upshot {
 }
 
 // The refusal of what an attention is given: 12, 11, 10, 13, then 14, else 0.
-fn given_number(s: State, sys: &[u8], io: &[u8], channel: u32) -> u32
+pub fn given_number(s: State, sys: &[u8], io: &[u8], channel: u32) -> u32
     ensures { λ r. ⌜ r ≡ givenTo s (lent (sys .entry) (io .entry)) channel ⌝ }
 {
     if !states::is_channel(channel) {

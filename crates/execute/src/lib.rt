@@ -16,7 +16,7 @@ ghost use Rattle.execute.specs.Plan.{laterNumber, planNumber, Planned};
 ghost use Rattle.instruction_rules.specs.Kept.{deedAt};
 
 // Places, the operands that lie there, and what the instructions work out of them.
-mod operands;
+pub mod operands;
 // What an instruction stores.
 mod changes;
 // NOP, SINTR, XFER, WID and HLT.

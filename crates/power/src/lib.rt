@@ -9,20 +9,20 @@ ghost use Rattle.ground_rules.specs.Outcomes.{outcome};
 ghost use Rattle.attention_rules.specs.Power.{configurationOf, controlOf, boardOf, powerPlaces, powerNumber, powerUpOf, powerCount};
 
 // Where SYSBUS stands.
-const SYSBUS_AT: u32 = 0xFFFF6;
+pub const SYSBUS_AT: u32 = 0xFFFF6;
 
 // Where the pointer to the configuration block stands.
-const CONFIGURATION_AT: u32 = 0xFFFF8;
+pub const CONFIGURATION_AT: u32 = 0xFFFF8;
 
 // The configuration block.
-fn configuration(sys: &[u8], io: &[u8]) -> u32
+pub fn configuration(sys: &[u8], io: &[u8]) -> u32
     ensures { λ r. ⌜ r ≡ configurationOf (lent (sys .entry) (io .entry)) ⌝ }
 {
     memory::doubleword(sys, io, false, CONFIGURATION_AT)
 }
 
 // The control block.
-fn control(sys: &[u8], io: &[u8]) -> u32
+pub fn control(sys: &[u8], io: &[u8]) -> u32
     ensures { λ r. ⌜ r ≡ controlOf (lent (sys .entry) (io .entry)) ⌝ }
 {
     memory::doubleword(sys, io, false, words::sum20(configuration(sys, io), 2))

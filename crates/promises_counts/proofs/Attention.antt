@@ -28,7 +28,7 @@ use Rattle.attention_rules.specs.declared.Command.{Command}
 use Rattle.attention_rules.specs.declared.Command.the-variants.{Update, StartLocal, StartSystem, Suspend, Resume, Halt, Unknown}
 use Rattle.attention_rules.specs.declared.Order.{Order}
 use Rattle.promises_counts.specs.Complete.{SameLengths, AgreeOn}
-use Rattle.promises_counts.specs.Lists.{outcomeSeen, AttentionComplete}
+use Rattle.promises_counts.specs.Lists.{outcomeParts, AttentionComplete}
 use Rattle.promises_counts.specs.Stores.{Store, storesMade, storePlaces}
 use Rattle.promises_counts.proofs.AgreeLaws.{agree-left, agree-right, agree-at, word-same, doubleword-same, pointer-same, given-same, number-same}
 use Rattle.promises_counts.proofs.TraceLaws.{Traced, complete, settled-told, settled-left, storesAt, four-made}
@@ -230,7 +230,7 @@ module _ (s : State) (channel : ℕ) (m : Buffers) where
   answerBy : ℕ → Channel → ℕ × State
   answerBy k ch = pick (eqb k 0) (0, withChannel s (isSecond channel) ch) (k, s)
 
-  told-by : (k : ℕ) (ch : Channel) (o o′ : Buffers) → outcomeSeen (settled k s o (withChannel s (isSecond channel) ch) o′) ≡ answerBy k ch
+  told-by : (k : ℕ) (ch : Channel) (o o′ : Buffers) → outcomeParts (settled k s o (withChannel s (isSecond channel) ch) o′) ≡ answerBy k ch
   unfolding answerBy
   told-by k ch o o′ = settled-told k s (withChannel s (isSecond channel) ch) o o′
 
@@ -241,7 +241,7 @@ module _ (s : State) (channel : ℕ) (m : Buffers) where
       eq-eqb (commandNumber ((order m) .command) (c .mode)) 0
       (first-none-left _ _ (first-none-right _ _ (first-none-right _ _ (eqb-true (attentionNumber s m channel) 0 e))))
 
-  told-same : (n : Buffers) → SameLengths m n → AgreeOn (readIn (order m) (c .mode)) m n → outcomeSeen (attentionOf s n channel) ≡ outcomeSeen (attentionOf s m channel)
+  told-same : (n : Buffers) → SameLengths m n → AgreeOn (readIn (order m) (c .mode)) m n → outcomeParts (attentionOf s n channel) ≡ outcomeParts (attentionOf s m channel)
   unfolding attentionOf answerBy
   told-same n l h =
       told-by (attentionNumber s n channel) (channelAttended s n (isSecond channel)) n (orderedMemory s n (isSecond channel))
@@ -266,7 +266,7 @@ module _ (s : State) (channel : ℕ) (m : Buffers) where
       go true e = rw (command-passed e) (memory-same n l h (command-passed e))
       go false e = refl
 
-  pub attention-traced : Traced (readIn (order m) (c .mode)) (writtenIn (order m) (c .mode)) (eqb (attentionNumber s m channel) 0) (λ n. touchedByAttention s n channel) (λ n. outcomeSeen (attentionOf s n channel)) (λ n. attentionOf s n channel .memory) m
+  pub attention-traced : Traced (readIn (order m) (c .mode)) (writtenIn (order m) (c .mode)) (eqb (attentionNumber s m channel) 0) (λ n. touchedByAttention s n channel) (λ n. outcomeParts (attentionOf s n channel)) (λ n. attentionOf s n channel .memory) m
   unfolding touchedByAttention
   attention-traced =
       record {

@@ -17,7 +17,7 @@ use Rattle.ground_rules.specs.States.{boardWith, blankState, busyIn}
 use Rattle.ground_rules.specs.declared.State.{State}
 use Rattle.attention_rules.specs.Power.{sysbusPlace, configurationPlace, configurationOf, controlPlace, controlOf, boardOf, powerPlaces, powerStages, touchedByPower, powerNumber, foundState, foundMemory, powerUpOf}
 use Rattle.promises_counts.specs.Complete.{SameLengths, AgreeOn}
-use Rattle.promises_counts.specs.Lists.{outcomeSeen, PowerComplete}
+use Rattle.promises_counts.specs.Lists.{outcomeParts, PowerComplete}
 use Rattle.promises_counts.specs.Stores.{Store, storesMade, storePlaces}
 use Rattle.promises_counts.proofs.AgreeLaws.{agree-left, agree-right, doubleword-same, limits-same, number-same}
 use Rattle.promises_counts.proofs.TraceLaws.{Traced, complete, settled-told, settled-left, storesAt}
@@ -88,7 +88,7 @@ module _ (m n : Buffers) (l : SameLengths m n) (h : AgreeOn (readIn m) m n) wher
   left-same = ap (λ (a : ℕ). storeByte n false (busyIn a) 0) control-same
 
 module _ (s : State) (m : Buffers) where
-  pub power-traced : Traced (readIn m) (span false (busyIn (controlOf m)) 1) (eqb (powerNumber m) 0) touchedByPower (λ n. outcomeSeen (powerUpOf s n)) (λ n. powerUpOf s n .memory) m
+  pub power-traced : Traced (readIn m) (span false (busyIn (controlOf m)) 1) (eqb (powerNumber m) 0) touchedByPower (λ n. outcomeParts (powerUpOf s n)) (λ n. powerUpOf s n .memory) m
   unfolding touchedByPower powerStages powerUpOf storesMade busyStored storePlaces storesAt span
   power-traced =
       record {

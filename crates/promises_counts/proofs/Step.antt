@@ -29,7 +29,7 @@ use Rattle.turn_rules.specs.declared.Kind.the-variants.{Transfer as TransferKin
 use Rattle.turn_rules.specs.declared.Choice.{Choice}
 use Rattle.turn_rules.specs.declared.Choice.the-variants.{Nobody, Ends, Steps}
 use Rattle.promises_counts.specs.Complete.{SameLengths, AgreeOn}
-use Rattle.promises_counts.specs.Lists.{stepSeen, StepComplete}
+use Rattle.promises_counts.specs.Lists.{stepParts, StepComplete}
 use Rattle.promises_counts.specs.Stores.{storesMade, storePlaces}
 use Rattle.promises_counts.proofs.AgreeLaws.{given-same}
 use Rattle.promises_counts.proofs.Instruction.{readIn, writtenIn, instruction-traced}
@@ -38,11 +38,11 @@ use Rattle.promises_counts.proofs.Transfer.{transfer-traced}
 
 module _ (s : State) (b : Bool) (kind : Kind) where
   -- a channel's own step answers by its number and its channel, whatever the memories are
-  pub told-by : (k : ℕ) (c : Channel) (m m′ n n′ : Buffers) → stepSeen (settledStep k s m b c m′ kind) ≡ stepSeen (settledStep k s n b c n′ kind)
+  pub told-by : (k : ℕ) (c : Channel) (m m′ n n′ : Buffers) → stepParts (settledStep k s m b c m′ kind) ≡ stepParts (settledStep k s n b c n′ kind)
   unfolding settledStep
   told-by k c m m′ n n′ = go (eqb k 0)
     where
-      go : (x : Bool) → stepSeen (pick x (doneStep s b c m′ kind) (refusedStep k s m)) ≡ stepSeen (pick x (doneStep s b c n′ kind) (refusedStep k s n))
+      go : (x : Bool) → stepParts (pick x (doneStep s b c m′ kind) (refusedStep k s m)) ≡ stepParts (pick x (doneStep s b c n′ kind) (refusedStep k s n))
       go true = refl
       go false = refl
 
@@ -59,7 +59,7 @@ module _ (s : State) (b : Bool) (kind : Kind) where
   own-traced : (reads stored : List Place) (done : Bool) (touched : Buffers → List Place) (number : Buffers → ℕ) (channel : Buffers → Channel) (after : Buffers → Buffers) (m : Buffers)
       → ((n : Buffers) → (number n ≡ 0 → ⊥) → after n ≡ n)
       → Traced {A = ℕ × Channel} reads stored done touched (λ n. (number n, channel n)) after m
-      → Traced reads stored done touched (λ n. stepSeen (settledStep (number n) s n b (channel n) (after n) kind)) (λ n. (settledStep (number n) s n b (channel n) (after n) kind) .memory) m
+      → Traced reads stored done touched (λ n. stepParts (settledStep (number n) s n b (channel n) (after n) kind)) (λ n. (settledStep (number n) s n b (channel n) (after n) kind) .memory) m
   own-traced reads stored done touched number channel after m kept t =
       record {
         stores = t .stores;
@@ -67,7 +67,7 @@ module _ (s : State) (b : Bool) (kind : Kind) where
         split = t .split;
         same = λ n l h. record {
           list = t .same n l h .list;
-          told = told-by (number n) (channel n) n (after n) m m ∙ ap (λ (a : ℕ × Channel). stepSeen (settledStep (a .0) s m b (a .1) m kind)) (t .same n l h .told) ∙ told-by (number m) (channel m) m m m (after m);
+          told = told-by (number n) (channel n) n (after n) m m ∙ ap (λ (a : ℕ × Channel). stepParts (settledStep (a .0) s m b (a .1) m kind)) (t .same n l h .told) ∙ told-by (number m) (channel m) m m m (after m);
           left = left-by (number n) (channel n) n (after n) (kept n) ∙ t .same n l h .left;
         };
       }
@@ -102,7 +102,7 @@ module _ (s : State) (m : Buffers) where
 
   turn-traced : (b x : Bool)
       → Traced (turnReads b x) (turnStores b x) (turnDone b x) (λ n. pick x (touchedByTransfer (channelOf s b) n) (touchedByInstruction n (channelOf s b) (busyIn (blockOf s b))))
-      (λ n. stepSeen (pick x (transferStep s n b) (instructionStep s n b))) (λ n. (pick x (transferStep s n b) (instructionStep s n b)) .memory) m
+      (λ n. stepParts (pick x (transferStep s n b) (instructionStep s n b))) (λ n. (pick x (transferStep s n b) (instructionStep s n b)) .memory) m
   unfolding transferStep instructionStep turnReads turnStores turnDone
   turn-traced b true =
       let c = channelOf s b in
@@ -130,7 +130,7 @@ module _ (s : State) (m : Buffers) where
   chosenDone (Ends b) = false
   chosenDone (Steps b) = turnDone b (transferring (channelOf s b .psw))
 
-  chosen-traced : (x : Choice) → Traced (chosenReads x) (chosenStores x) (chosenDone x) (touchedIn x s) (λ n. stepSeen (chosenStep x s n)) (λ n. (chosenStep x s n) .memory) m
+  chosen-traced : (x : Choice) → Traced (chosenReads x) (chosenStores x) (chosenDone x) (touchedIn x s) (λ n. stepParts (chosenStep x s n)) (λ n. (chosenStep x s n) .memory) m
   unfolding touchedIn chosenStep channelStep externalStep chosenReads chosenStores chosenDone
   chosen-traced Nobody = none-traced _ m
   chosen-traced (Ends b) = none-traced _ m
@@ -146,15 +146,15 @@ module _ (s : State) (lines : ℕ) (m : Buffers) where
   stepBy : ℕ → Buffers → Step
   stepBy k n = pick (eqb k 0) (chosenStep (choiceOf s lines) s n) (refusedStep k s n)
 
-  stepped-same : (x : Bool) (t : Traced (chosenReads s m (choiceOf s lines)) (chosenStores s m (choiceOf s lines)) (chosenDone s m (choiceOf s lines)) (touchedIn (choiceOf s lines) s) (λ n. stepSeen (chosenStep (choiceOf s lines) s n)) (λ n. (chosenStep (choiceOf s lines) s n) .memory) m)
+  stepped-same : (x : Bool) (t : Traced (chosenReads s m (choiceOf s lines)) (chosenStores s m (choiceOf s lines)) (chosenDone s m (choiceOf s lines)) (touchedIn (choiceOf s lines) s) (λ n. stepParts (chosenStep (choiceOf s lines) s n)) (λ n. (chosenStep (choiceOf s lines) s n) .memory) m)
       (n : Buffers) → SameLengths m n → AgreeOn (chosenReads s m (choiceOf s lines)) m n
-      → (stepSeen (pick x (chosenStep (choiceOf s lines) s n) (refusedStep (entryNumber s m lines) s n)) ≡ stepSeen (pick x (chosenStep (choiceOf s lines) s m) (refusedStep (entryNumber s m lines) s m)))
+      → (stepParts (pick x (chosenStep (choiceOf s lines) s n) (refusedStep (entryNumber s m lines) s n)) ≡ stepParts (pick x (chosenStep (choiceOf s lines) s m) (refusedStep (entryNumber s m lines) s m)))
       × ((pick x (chosenStep (choiceOf s lines) s n) (refusedStep (entryNumber s m lines) s n)) .memory ≡ storesMade n (pick (pick x (chosenDone s m (choiceOf s lines)) false) (t .stores) []))
   unfolding storesMade
   stepped-same true t n l h = (t .same n l h .told, t .same n l h .left)
   stepped-same false t n l h = (refl, refl)
 
-  step-traced : Traced (chosenReads s m (choiceOf s lines)) (chosenStores s m (choiceOf s lines)) (pick (eqb (entryNumber s m lines) 0) (chosenDone s m (choiceOf s lines)) false) (λ n. touchedByStep s n lines) (λ n. stepSeen (stepOf s n lines)) (λ n. stepOf s n lines .memory) m
+  step-traced : Traced (chosenReads s m (choiceOf s lines)) (chosenStores s m (choiceOf s lines)) (pick (eqb (entryNumber s m lines) 0) (chosenDone s m (choiceOf s lines)) false) (λ n. touchedByStep s n lines) (λ n. stepParts (stepOf s n lines)) (λ n. stepOf s n lines .memory) m
   unfolding touchedByStep stepOf stepBy
   step-traced =
       let t = chosen-traced s m (choiceOf s lines) in
@@ -164,7 +164,7 @@ module _ (s : State) (lines : ℕ) (m : Buffers) where
         split = t .split;
         same = λ n l h. record {
           list = t .same n l h .list;
-          told = ap (λ (k : ℕ). stepSeen (stepBy k n)) (entry-same s m lines n l) ∙ stepped-same (eqb (entryNumber s m lines) 0) t n l h .0;
+          told = ap (λ (k : ℕ). stepParts (stepBy k n)) (entry-same s m lines n l) ∙ stepped-same (eqb (entryNumber s m lines) 0) t n l h .0;
           left = ap (λ (k : ℕ). stepBy k n .memory) (entry-same s m lines n l) ∙ stepped-same (eqb (entryNumber s m lines) 0) t n l h .1;
         };
       }

@@ -15,7 +15,7 @@ use Rattle.ground_rules.specs.Places.{Place, span, ApartFrom}
 use Rattle.ground_rules.specs.Outcomes.{outcome, settled}
 use Rattle.ground_rules.specs.declared.State.{State}
 use Rattle.promises_counts.specs.Complete.{SameLengths, AgreeOn, Complete}
-use Rattle.promises_counts.specs.Lists.{outcomeSeen}
+use Rattle.promises_counts.specs.Lists.{outcomeParts}
 use Rattle.promises_counts.specs.Stores.{Store, storesMade, storePlaces}
 use Rattle.promises_counts.proofs.AgreeLaws.{agree-self, agree-left}
 
@@ -64,11 +64,11 @@ complete {A} {reads} {stored} {done} {touched} {answer} {after} {m} t = go done 
 
 -- ---- what a settled call answers and leaves, by its number
 
-pub settled-told : (k : ℕ) (s s′ : State) (o o′ : Buffers) → outcomeSeen (settled k s o s′ o′) ≡ pick (eqb k 0) (0, s′) (k, s)
+pub settled-told : (k : ℕ) (s s′ : State) (o o′ : Buffers) → outcomeParts (settled k s o s′ o′) ≡ pick (eqb k 0) (0, s′) (k, s)
 unfolding settled
 settled-told k s s′ o o′ = go (eqb k 0)
   where
-    go : (b : Bool) → outcomeSeen (pick b (outcome 0 s′ o′) (outcome k s o)) ≡ pick b (0, s′) (k, s)
+    go : (b : Bool) → outcomeParts (pick b (outcome 0 s′ o′) (outcome k s o)) ≡ pick b (0, s′) (k, s)
     go true = refl
     go false = refl
 

@@ -39,7 +39,7 @@ use Rattle.turn_rules.specs.declared.Choice.{Choice}
 use Rattle.turn_rules.specs.declared.Choice.the-variants.{Nobody, Ends, Steps}
 use Rattle.promises_counts.proofs.Step.{entry-same}
 use Rattle.promises_counts.specs.Complete.{AgreeOn}
-use Rattle.promises_counts.specs.Lists.{outcomeSeen, stepSeen}
+use Rattle.promises_counts.specs.Lists.{outcomeParts, stepParts}
 use Rattle.touch_rules.proofs.TouchesLaws.{order-told, powerReads, power-told}
 use Rattle.touch_rules.specs.Told.{Told, toldInStages}
 use Rattle.touch_rules.specs.Touches.{toldByOrder, toldByAttention, toldByPower, toldByTransfer, toldByInstruction, toldByChoice, toldByStep}
@@ -152,13 +152,13 @@ module _ (device have : Buffers) (w : Alongside device have) where
 
   -- one round, in which nothing is fetched that the step does not read
   pub step-once : (s : State) (lines : ℕ) → OnceEnough (choiceOf s lines) s
-      → AskedOnce (λ n. toldByStep s n lines) (λ n. stepOf s n lines .number) (λ n. stepSeen (stepOf s n lines)) (λ n. stepOf s n lines .memory) device have
+      → AskedOnce (λ n. toldByStep s n lines) (λ n. stepOf s n lines .number) (λ n. stepParts (stepOf s n lines)) (λ n. stepOf s n lines .memory) device have
   step-once s lines h =
       let r = roundOf (λ n. toldByStep s n lines) device have in
       let e = step-reads s lines h in
       record {
         reads = e;
-        made = call-same (λ n. toldByStep s n lines) (λ n. stepOf s n lines .number) (λ n. stepSeen (stepOf s n lines)) (λ n. stepOf s n lines .memory) (step-word s lines) device r
+        made = call-same (λ n. toldByStep s n lines) (λ n. stepOf s n lines .number) (λ n. stepParts (stepOf s n lines)) (λ n. stepOf s n lines .memory) (step-word s lines) device r
             (along (λ n. toldByStep s n lines)) (subst (λ (ps : List Place). AgreeOn ps device r) e (got (λ n. toldByStep s n lines)));
       }
 
@@ -193,9 +193,9 @@ module _ (device have : Buffers) (w : Alongside device have) where
 
   -- an attention may be made at once
   pub attention-once : (s : State) (channel : ℕ)
-      → SameCall (λ n. toldByAttention s n channel) (λ n. attentionOf s n channel .number) (λ n. outcomeSeen (attentionOf s n channel)) (λ n. attentionOf s n channel .memory) device have
+      → SameCall (λ n. toldByAttention s n channel) (λ n. attentionOf s n channel .number) (λ n. outcomeParts (attentionOf s n channel)) (λ n. attentionOf s n channel .memory) device have
   attention-once s channel =
-      call-same (λ n. toldByAttention s n channel) (λ n. attentionOf s n channel .number) (λ n. outcomeSeen (attentionOf s n channel)) (λ n. attentionOf s n channel .memory)
+      call-same (λ n. toldByAttention s n channel) (λ n. attentionOf s n channel .number) (λ n. outcomeParts (attentionOf s n channel)) (λ n. attentionOf s n channel .memory)
       (attention-word s channel) device have w (system-agree (toldReadPlaces (toldByAttention s device channel)) (attention-system s channel))
 
   power-system : InSystem (toldReadPlaces (toldByPower device))
@@ -219,5 +219,5 @@ module _ (device have : Buffers) (w : Alongside device have) where
       go false = tt
 
   -- and so may a power-up
-  pub power-once : (s : State) → SameCall toldByPower (λ n. powerUpOf s n .number) (λ n. outcomeSeen (powerUpOf s n)) (λ n. powerUpOf s n .memory) device have
-  power-once s = call-same toldByPower (λ n. powerUpOf s n .number) (λ n. outcomeSeen (powerUpOf s n)) (λ n. powerUpOf s n .memory) (power-word s) device have w (system-agree (toldReadPlaces (toldByPower device)) power-system)
+  pub power-once : (s : State) → SameCall toldByPower (λ n. powerUpOf s n .number) (λ n. outcomeParts (powerUpOf s n)) (λ n. powerUpOf s n .memory) device have
+  power-once s = call-same toldByPower (λ n. powerUpOf s n .number) (λ n. outcomeParts (powerUpOf s n)) (λ n. powerUpOf s n .memory) (power-word s) device have w (system-agree (toldReadPlaces (toldByPower device)) power-system)

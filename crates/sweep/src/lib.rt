@@ -21,10 +21,10 @@ ghost use Rattle.sweep.specs.Loops.{shifted, laid};
 ghost use Rattle.sweep.specs.Remainders.{remainderOf};
 
 // What a transfer has left: where its bytes come from, where they go, and how many they are.
-struct Remainder {
-    from: Pointer,
-    into: Pointer,
-    bytes: u32,
+pub struct Remainder {
+    pub from: Pointer,
+    pub into: Pointer,
+    pub bytes: u32,
 }
 
 // Bytes of a buffer put elsewhere in it, one after the other.
@@ -73,7 +73,7 @@ fn bytes_to_go(c: Channel) -> u32
 }
 
 // What a channel's transfer has left.
-fn remainder_of(c: Channel) -> Remainder
+pub fn remainder_of(c: Channel) -> Remainder
     ensures { λ r. ⌜ (r ≡ remainderOf c) × (1 ≤ r .bytes) × (r .bytes ≤ 65536) ⌝ }
 {
     let f = c.fields;
@@ -179,7 +179,7 @@ fn sweepable(s: State, sys: &[u8], io: &[u8], second: bool, lines: u32) -> bool
 }
 
 // The refusal of a sweep, 0 for none.
-fn number(s: State, sys: &[u8], io: &[u8], channel: u32, lines: u32) -> u32
+pub fn number(s: State, sys: &[u8], io: &[u8], channel: u32, lines: u32) -> u32
     ensures { λ r. ⌜ r ≡ sweepNumber s (lent (sys .entry) (io .entry)) channel lines ⌝ }
 {
     if !(machine::states::is_channel(channel) & (lines < 16)) {

@@ -5,7 +5,7 @@ ghost use Rattle.transfer_rules.specs.Ends as Ends;
 ghost use Rattle.transfer_rules.specs.Ends.{codeIf, offsetOf, endedBy};
 
 // Whether a byte meets TMC.
-pub(crate) fn meets(tmc: u32, mc: u16, byte: u8) -> bool
+pub fn meets(tmc: u32, mc: u16, byte: u8) -> bool
     ensures { λ r. ⌜ r ≡ Ends.meetsTmc tmc mc byte ⌝ }
 {
     let found = words::matches(byte, mc);

@@ -12,11 +12,11 @@ ghost use Rattle.transfer_rules.specs.Steps.{readsBy, accesses, badMode, transf
 ghost use Rattle.transfer.specs.Moves.{wholeStep, wholeCount, halfStep, halfCount};
 
 // The two sides, and what the channel says of a step.
-mod sides;
+pub mod sides;
 // The bytes read.
 mod reads;
 // The masked compare, the codes of the ends, and what an end does.
-mod ends;
+pub mod ends;
 // The bytes stored, and the channel after.
 mod stores;
 // The halves of a pair of steps.
@@ -25,11 +25,11 @@ mod halves;
 mod moves;
 
 // What a channel says of its transfer before a byte is read.
-struct Setup {
-    source: Side,
-    destination: Side,
-    two: bool,
-    singly: bool,
+pub struct Setup {
+    pub source: Side,
+    pub destination: Side,
+    pub two: bool,
+    pub singly: bool,
 }
 
 // What a half comes to before its channel is written: its number, how many bytes it read and stored, by how many bytes

@@ -35,7 +35,7 @@ pub(crate) fn word(s: Side) -> bool
 }
 
 // The address of a side's second byte.
-pub(crate) fn second(s: Side) -> u32
+pub fn second(s: Side) -> u32
     ensures { λ r. ⌜ r ≡ secondAddress s ⌝ }
 {
     let p = s.pointer;
@@ -61,7 +61,7 @@ pub(crate) fn gained(moves: bool, p: Pointer, by: u32) -> Pointer
 }
 
 // What a channel says of its transfer.
-pub(crate) fn plan(c: Channel) -> Setup
+pub fn plan(c: Channel) -> Setup
     ensures { λ r. ⌜ r ≡ setupOf c ⌝ }
 {
     let f = c.fields;
