@@ -1,5 +1,6 @@
-/* Holds what the header says of a refused call, iop89_cause, to the number that the archive answers and to what another
-   reader of states finds: for each byte of a state every value, for each address one over its limit, for each bit of CC. */
+/* Holds what the header says of a refused call, iop89_cause and iop89_wrong_argument, to the number that the archive answers
+   and to what another reader of states finds: for each byte of a state every value, for each address one over its limit, for
+   each bit of CC, for each argument its borders. */
 #include "iop89_service.h"
 #include "state_bytes.h"
 
@@ -88,6 +89,38 @@ static void test_rest(void)
     expect("a length", 103, 0, cause.at == IOP89_STATE_LENGTH && cause.value == 103 && cause.most == IOP89_STATE_LENGTH);
 }
 
+/* Arguments about their borders: which of them is said to be wrong, beside whether the call that has it answers 12. A step of
+ * two processors has the first and the third, an attention of two the first two, a board's run the last three. */
+static void test_arguments(uint32_t processor, uint32_t channel, uint32_t lines, uint32_t limit)
+{
+    uint8_t one[IOP89_STATE_LENGTH], two[IOP89_STATE_LENGTH];
+    (void)iop89_fresh(one, sizeof one, 0);
+    (void)iop89_fresh(two, sizeof two, 0);
+    iop89_answer step = iop89_pair_step(processor, one, sizeof one, two, sizeof two, sys, sizeof sys, io, sizeof io, io, 0, lines);
+    iop89_answer attention =
+        iop89_pair_attention(processor, one, sizeof one, two, sizeof two, sys, sizeof sys, io, sizeof io, io, 0, channel);
+    iop89_run_answer run = iop89_board(sys, sizeof sys, io, sizeof io, channel, lines, limit);
+    enum iop89_argument of_step = iop89_wrong_argument(processor, 1, lines, 0);
+    enum iop89_argument of_attention = iop89_wrong_argument(processor, channel, 0, 0);
+    enum iop89_argument of_run = iop89_wrong_argument(1, channel, lines, limit);
+    expect("12 of a step", processor, lines, (IOP89_ANSWER_NUMBER(step) == 12) == (of_step != IOP89_NO_ARGUMENT));
+    expect("12 of an attention", processor, channel, (IOP89_ANSWER_NUMBER(attention) == 12) == (of_attention != IOP89_NO_ARGUMENT));
+    expect("12 of a run", channel, lines, (IOP89_NUMBER(run) == 12) == (of_run != IOP89_NO_ARGUMENT));
+    bool first = processor != 1 && processor != 2, second = channel != 1 && channel != 2;
+    expect("which of four", channel, lines,
+           iop89_wrong_argument(processor, channel, lines, limit) ==
+               (first ? IOP89_PROCESSOR : second ? IOP89_CHANNEL : lines > 15 ? IOP89_LINES : limit > 65535 ? IOP89_LIMIT
+                                                                                                           : IOP89_NO_ARGUMENT));
+}
+
+/* Each border of each argument with each of the others. */
+static void test_borders(void)
+{
+    const uint32_t numbers[] = {0, 1, 2, 3, 0xFFFFFFFFu}, lines[] = {0, 15, 16, 0xFFFFFFFFu}, limits[] = {0, 65535, 65536};
+    for (size_t i = 0; i < 5 * 5 * 4 * 3; i++)
+        test_arguments(numbers[i % 5], numbers[i / 5 % 5], lines[i / 25 % 4], limits[i / 100]);
+}
+
 int main(void)
 {
     for (size_t at = 0; at < IOP89_STATE_LENGTH; at++)
@@ -98,6 +131,7 @@ int main(void)
         for (unsigned bit = 0; bit < 16; bit++) test_bit(channel, bit);
     }
     test_rest();
+    test_borders();
     printf("causes: %u told, %u not as they should be\n", tried, wrong);
     return wrong != 0;
 }

@@ -112,6 +112,17 @@ static void print_command(const char *whose, const uint8_t *state, uint32_t chan
            (iop89_cp(state) + 8 * (channel - 1)) & 0xFFFFFu);
 }
 
+/* Prints which argument is none, and what it is. */
+static void print_argument(const char *whose, uint32_t channel, uint32_t lines, uint32_t limit)
+{
+    switch (iop89_wrong_argument(1, channel, lines, limit)) {
+    case IOP89_CHANNEL: printf("%sthe channel, 1 or 2, is %" PRIu32 "\n", whose, channel); break;
+    case IOP89_LINES: printf("%sthe line number, at most 15, is %" PRIu32 "\n", whose, lines); break;
+    case IOP89_LIMIT: printf("%sthe step limit, at most 65535, is %" PRIu32 "\n", whose, limit); break;
+    default: break;
+    }
+}
+
 void tool_print_cause(const char *whose, unsigned number, const uint8_t *state, const struct tool_memory *memory,
                       struct tool_call call)
 {
@@ -121,8 +132,7 @@ void tool_print_cause(const char *whose, unsigned number, const uint8_t *state, 
     else if (number == IOP89_FIELDS_DISAGREE) print_fields(whose, cause);
     else if (number == IOP89_NO_STATE) print_no_state(whose, cause, state);
     else if (number == IOP89_BAD_ARGUMENT)
-        printf("%s%s, is %" PRIu32 "\n", whose,
-               call.kind == TOOL_ATTENTION ? "the channel, 1 or 2" : "the line number, at most 15", call.value);
+        print_argument(whose, call.kind == TOOL_ATTENTION ? call.value : 1, call.kind == TOOL_ATTENTION ? 0 : call.value, 0);
     else if (number == IOP89_BAD_BUFFER)
         printf("%ssystem memory has %zu bytes of at most 1048576, I/O memory %zu of at most 65536\n", whose, memory->sys_len,
                memory->io_len);
@@ -133,8 +143,5 @@ void tool_print_cause(const char *whose, unsigned number, const uint8_t *state, 
 void tool_print_argument(unsigned number, const struct tool_order *order)
 {
     const struct tool_processor *p = &order->of[0];
-    if (number != IOP89_BAD_ARGUMENT) return;
-    if (p->channel[0] != 1 && p->channel[0] != 2) printf("the channel, 1 or 2, is %" PRIu32 "\n", p->channel[0]);
-    if (p->lines.number[0] > IOP89_LINES_LIMIT) printf("the line number, at most 15, is %" PRIu32 "\n", p->lines.number[0]);
-    if (order->limit > IOP89_STEPS_LIMIT) printf("the step limit, at most 65535, is %" PRIu32 "\n", order->limit);
+    if (number == IOP89_BAD_ARGUMENT) print_argument("", p->channel[0], p->lines.number[0], order->limit);
 }

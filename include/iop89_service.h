@@ -372,8 +372,8 @@ static inline const char *iop89_service_words(unsigned number)
 
 /* What refused a call on a state: of 17 the byte of the state, its value, and the most that it may be; of 10 the same of
  * an address of four bytes; of 14 the bits of CC whose fields differ. The channel is 0 where it is about neither, and all
- * is 0 for any other number and for bytes that are a state. A length that is none has `at` IOP89_STATE_LENGTH. What refused
- * a call by 12 are its own arguments, and by 2 an address that the tool iop89 names. */
+ * is 0 for any other number and for bytes that are a state. A length that is none has `at` IOP89_STATE_LENGTH. Which argument
+ * refused a call by 12 iop89_wrong_argument says; the address that refused one by 2 the tool iop89 names. */
 struct iop89_cause {
     unsigned channel;
     size_t at;
