@@ -107,7 +107,7 @@ SCRIPTS_H = $(addprefix host/,writer.h lines.h session.h listing.h hex.h hex_tex
 
 PROGRAMS = program-trace program-script
 
-.PHONY: help run try script demo test lib host install uninstall clean compare compare-scripts compare-traces selftest \
+.PHONY: help run try script demo test lib proved-archives host install uninstall clean compare compare-scripts compare-traces selftest \
 	check-examples check-papers front-door examples bench $(PROGRAMS) compiler x86-compiler count-needs always \
 	given-image given-file given-demo given-cases given-calls given-images given-prefix
 
@@ -156,8 +156,12 @@ given-prefix:
 $(PROGRAMS): program-%:
 	@tools/prove check $*
 
-# The proved library, as an archive for C.
-lib: $(ARCHIVES) $(SHARED) $(SHARED_SERVICE)
+# The proved library, as archives for C and shared objects.
+lib: proved-archives $(ARCHIVES) $(SHARED) $(SHARED_SERVICE)
+
+# What both archives are made of, in one go, so that two are proved at a time.
+proved-archives:
+	@tools/prove staticlib run_call $(SERVICE_CRATES)
 
 # The archive is made again where a file of its crates is not what it was; their list is kept by content.
 $(IOP89_LIB): $(BUILD)/run_call.sums
