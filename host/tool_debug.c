@@ -18,6 +18,7 @@ enum { KEPT = 4096, LINE = 512, WORDS = 4, AROUND = 32 };
 struct kept {
     uint8_t state[IOP89_STATE_LENGTH];
     uint32_t tried, done;
+    uint64_t attended;
     size_t next[TOOL_PORTS];
     unsigned stores;
     struct {
@@ -64,6 +65,7 @@ static void keep(struct session *s, struct tool_call call)
     memcpy(k->next, m->next, sizeof k->next);
     k->tried = m->tried;
     k->done = m->done;
+    k->attended = m->attended;
     k->stores = 0;
     for (unsigned i = 0; i < touched.count; i++) {
         const struct emu_touch *t = &touched.touch[i];
@@ -87,10 +89,39 @@ static bool undo(struct session *s)
     memcpy(m->next, k->next, sizeof m->next);
     m->tried = k->tried;
     m->done = k->done;
+    m->attended = k->attended;
     while (k->stores-- > 0)
         (k->store[k->stores].in_io ? m->memory.io : m->memory.sys)[k->store[k->stores].at] = k->store[k->stores].old;
     printf("back before step %" PRIu32 "\n", m->tried + 1);
     return true;
+}
+
+/* ---- Attentions ---- */
+
+/* Gives an attention, with its CCW where it has one; it can be taken back. */
+static void attend(struct session *s, const struct tool_event *event)
+{
+    struct tool_machine *m = &s->machine;
+    struct tool_call call = {TOOL_ATTENTION, event->channel};
+    uint32_t block = (iop89_cp(m->state) + (event->channel == 2 ? 8u : 0u)) & 0xFFFFFu;
+    bool stores = event->has_ccw && block < m->memory.sys_len;
+    uint8_t old = stores ? m->memory.sys[block] : 0;
+    if (stores) m->memory.sys[block] = (uint8_t)event->ccw;
+    keep(s, call);
+    if (stores) keep_byte(last_kept(s), false, block, old);
+    s->number = tool_give(m, event, false);
+    if (s->number == IOP89_DONE) return;
+    printf("number %u: %s\n", s->number, iop89_service_words(s->number));
+    tool_print_cause("", s->number, m->state, &m->memory, call);
+}
+
+/* Gives those of the order that are due before the next step; answers whether each was accepted. */
+static bool attend_due(struct session *s)
+{
+    const struct tool_event *event;
+    s->number = IOP89_DONE;
+    while (s->number == IOP89_DONE && (event = tool_due(&s->machine, s->machine.tried + 1)) != NULL) attend(s, event);
+    return s->number == IOP89_DONE;
 }
 
 /* ---- Steps ---- */
@@ -101,6 +132,7 @@ static bool step(struct session *s)
     struct tool_machine *m = &s->machine;
     uint8_t before[IOP89_STATE_LENGTH];
     char tail[64];
+    if (!attend_due(s)) return false;
     struct tool_call call = {TOOL_STEPPED, tool_lines_at(&m->order->of[0], m->tried)};
     keep(s, call);
     memcpy(before, m->state, sizeof before);
@@ -115,8 +147,9 @@ static bool step(struct session *s)
         tool_print_waiting("", m->tried, m->state);
         return true;
     }
-    m->tried--;
     s->count--;
+    if (s->number == IOP89_NO_CHANNEL && tool_skip_to_event(m)) return true;
+    m->tried--;
     tool_print_number("", s->number, iop89_service_words(s->number), m->state, &m->memory, m->done);
     if (m->done > 0 || tool_runs(m->state) || s->number != IOP89_NO_CHANNEL)
         tool_print_cause("", s->number, m->state, &m->memory, m->last);
@@ -212,25 +245,20 @@ static bool read_number(const char *word, uint32_t *number)
     return complaint == NULL;
 }
 
-/* Gives an attention, with a CCW where there is one. */
-static void attend(struct session *s, unsigned count, char **words)
+/* Reads a space of this one machine; answers what is wrong with it, or NULL. */
+static const char *read_space(const char *word, struct tool_range *range)
 {
-    struct tool_machine *m = &s->machine;
-    struct tool_call call = {TOOL_ATTENTION, 1};
-    uint32_t ccw = 0;
-    if (count > 1 && !read_number(words[1], &call.value)) return;
-    if (count > 2 && !read_number(words[2], &ccw)) return;
-    uint32_t block = (iop89_cp(m->state) + (call.value == 2 ? 8u : 0u)) & 0xFFFFFu;
-    bool stores = count > 2 && block < m->memory.sys_len;
-    uint8_t old = stores ? m->memory.sys[block] : 0;
-    if (stores) m->memory.sys[block] = (uint8_t)ccw;
-    keep(s, call);
-    if (stores) keep_byte(last_kept(s), false, block, old);
-    m->last = call;
-    s->number = tool_print_attention("", call.value, tool_attend(m->state, &m->memory, call.value));
-    if (s->number == IOP89_DONE) return;
-    printf("number %u: %s\n", s->number, iop89_service_words(s->number));
-    tool_print_cause("", s->number, m->state, &m->memory, call);
+    const char *complaint = tool_read_space(word, &range->in_io, &range->second);
+    return complaint == NULL && range->second ? "no space, sys or io" : complaint;
+}
+
+/* Gives the attention that the words ask for. */
+static void attend_now(struct session *s, unsigned count, char **words)
+{
+    struct tool_event event = {.channel = 1, .has_ccw = count > 2, .place = TOOL_EVENTS};
+    if (count > 1 && !read_number(words[1], &event.channel)) return;
+    if (count > 2 && !read_number(words[2], &event.ccw)) return;
+    attend(s, &event);
 }
 
 /* Sets a break or a watch, or drops all of them. */
@@ -249,7 +277,7 @@ static void set_watch(struct session *s, unsigned count, char **words)
         s->order.watches = 0;
         return;
     }
-    const char *complaint = count < 3 ? "watch SPACE ADDR [N]" : tool_read_space(words[1], &range.in_io);
+    const char *complaint = count < 3 ? "watch SPACE ADDR [N]" : read_space(words[1], &range);
     if (complaint != NULL) printf("%s: %s\n", complaint, words[1]);
     else if (s->order.watches == TOOL_STOPS) puts("more than 16 to watch");
     else if (read_number(words[2], &range.from) && (count < 4 || read_number(words[3], &range.count)))
@@ -260,7 +288,7 @@ static void set_watch(struct session *s, unsigned count, char **words)
 static void show(const struct session *s, unsigned count, char **words)
 {
     struct tool_range range = {0, 16, false, false};
-    const char *complaint = count < 3 ? "memory SPACE ADDR [N]" : tool_read_space(words[1], &range.in_io);
+    const char *complaint = count < 3 ? "memory SPACE ADDR [N]" : read_space(words[1], &range);
     if (complaint != NULL) printf("%s\n", complaint);
     else if (read_number(words[2], &range.from) && (count < 4 || read_number(words[3], &range.count)))
         tool_print_range(range, &s->machine.memory);
@@ -269,7 +297,7 @@ static void show(const struct session *s, unsigned count, char **words)
 /* Sets a register of the shown channel. */
 static void set(struct session *s, const char *word)
 {
-    struct tool_setting setting = {0, IOP89_GA, 0, false};
+    struct tool_setting setting = {0, IOP89_GA, 0, false, false};
     uint8_t *state = s->machine.state;
     const char *complaint = word == NULL ? "set REG=VALUE" : tool_read_setting(word, &setting);
     if (complaint != NULL) {
@@ -325,7 +353,7 @@ static void do_line(struct session *s, unsigned count, char **words)
     else if (strcmp(verb, "registers") == 0) tool_print_registers(s->machine.state);
     else if (strcmp(verb, "memory") == 0) show(s, count, words);
     else if (strcmp(verb, "list") == 0 && (count < 2 || read_number(words[1], &from))) list(s, count < 2 ? NULL : &from);
-    else if (strcmp(verb, "attention") == 0) attend(s, count, words);
+    else if (strcmp(verb, "attention") == 0) attend_now(s, count, words);
     else if (strcmp(verb, "lines") == 0) set_lines(s, count > 1 ? words[1] : NULL);
     else if (strcmp(verb, "set") == 0) set(s, count > 1 ? words[1] : NULL);
     else if (strcmp(verb, "save") == 0 && count > 1)
@@ -402,7 +430,8 @@ enum tool_status tool_debug(const struct tool_order *order)
     } else tool_print_header(&s.order);
     talk(&s);
     if (s.order.diff) tool_print_diff(&s.machine.given, &s.machine.memory);
-    tool_save_all(&s.order, &s.machine.memory, s.machine.state);
+    tool_save_system(&s.order, &s.machine.memory);
+    tool_save_own(&s.order.of[0], &s.machine.memory, s.machine.state);
     enum tool_status status = tool_status_of(s.number, s.machine.state, s.machine.done);
     if (s.script != stdin) fclose(s.script);
     tool_end(&s.machine);

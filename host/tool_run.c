@@ -59,7 +59,8 @@ enum tool_status tool_run(const struct tool_order *order)
     if (order->regs) tool_print_registers(state);
     if (order->diff) tool_print_diff(&before, &memory);
     tool_print_shown(order, &memory);
-    tool_save_all(order, &memory, state);
+    tool_save_system(order, &memory);
+    tool_save_own(&order->of[0], &memory, state);
     tool_free(memory);
     tool_free(before);
     tool_free(again);
@@ -137,17 +138,6 @@ static void trace_line(const struct tool_machine *m, iop89_answer answer)
                 iop89_get(m->state, channel, IOP89_TP));
 }
 
-/* Whether an attention is still to come, which may start what is idle now: its step is the next one tried. */
-static bool skip_to_event(struct tool_machine *m)
-{
-    uint32_t next = UINT32_MAX;
-    for (unsigned i = 0; i < m->order->events; i++)
-        if (m->order->event[i].step > m->tried && m->order->event[i].step < next) next = m->order->event[i].step;
-    if (next > m->order->limit) return false;
-    m->tried = next - 1;
-    return true;
-}
-
 /* Tries one step, and prints its line; answers the number that stops the steps, 0 where they go on. */
 static unsigned step_line(struct tool_machine *m)
 {
@@ -162,7 +152,7 @@ static unsigned step_line(struct tool_machine *m)
         trace_line(m, answer);
     } else if (tool_goes_on(&m->order->of[0], number, m->state)) {
         tool_print_waiting("", m->tried, m->state);
-    } else if (number != IOP89_NO_CHANNEL || !skip_to_event(m)) {
+    } else if (number != IOP89_NO_CHANNEL || !tool_skip_to_event(m)) {
         return number;
     }
     return IOP89_DONE;
@@ -175,7 +165,7 @@ static unsigned step_lines(struct tool_machine *m, bool *stopped)
     unsigned number = IOP89_DONE;
     *stopped = false;
     while (number == IOP89_DONE && !*stopped && m->tried < m->order->limit) {
-        number = tool_give_due(m, false);
+        number = tool_give_due(m, m->tried + 1, false);
         if (number != IOP89_DONE) break;
         if (steps_ahead(m, &spare) > 0) sweep_line(m);
         else number = step_line(m);
@@ -231,7 +221,8 @@ enum tool_status tool_step(const struct tool_order *order)
     enum tool_status status = print_end(&machine, number, stopped);
     if (order->diff) tool_print_diff(&machine.given, &machine.memory);
     tool_print_shown(order, &machine.memory);
-    tool_save_all(order, &machine.memory, machine.state);
+    tool_save_system(order, &machine.memory);
+    tool_save_own(&order->of[0], &machine.memory, machine.state);
     tool_end(&machine);
     return status;
 }
