@@ -99,11 +99,18 @@ X86_NEEDS = tools/need x86_64-linux-gnu-gcc gcc-x86-64-linux-gnu && \
 COUNT_NEEDS = :
 endif
 
+# Headers are found from include/ and, with the name of their folder, from host/.
+INCLUDES = -Iinclude -Ihost
+
+# What a program is made of stands among what it depends on.
+LINKED = $(filter %.c %.o %.a,$^)
+
 # What both comparisons are made of: random cases, the emulator, and the count of what was met.
-COMMON = $(addprefix host/,cases.c programs.c dice.c emulator.c met.c)
-COMMON_H = $(addprefix host/,cases.h programs.h dice.h emulator.h met.h) include/iop89.h
-SCRIPTS = $(addprefix host/,scripts.c writer.c lines.c session.c listing.c hex.c hex_texts.c)
-SCRIPTS_H = $(addprefix host/,writer.h lines.h session.h listing.h hex.h hex_texts.h)
+COMMON = $(addprefix host/compare/,cases.c programs.c dice.c met.c) host/emulator/emulator.c
+COMMON_H = $(addprefix host/compare/,cases.h programs.h dice.h met.h) host/emulator/emulator.h include/iop89.h
+SCRIPTS = $(addprefix host/compare/,scripts.c writer.c lines.c session.c hex_texts.c) \
+	$(addprefix host/emulator/,listing.c hex.c)
+SCRIPTS_H = $(addprefix host/compare/,writer.h lines.h session.h hex_texts.h) $(addprefix host/emulator/,listing.h hex.h)
 
 PROGRAMS = program-trace program-script
 
@@ -219,35 +226,35 @@ x86-compiler:
 
 host: x86-compiler $(BUILD)/example $(BUILD)/compare
 
-$(BUILD)/example: host/example.c host/changes.c host/changes.h include/iop89.h $(IOP89_LIB) | x86-compiler
-	$(X86_CC) $(STRICT) $(CFLAGS) -Iinclude host/example.c host/changes.c $(IOP89_LIB) $(X86_LDFLAGS) -o $@
+$(BUILD)/example: $(addprefix host/examples/,example.c changes.c changes.h) include/iop89.h $(IOP89_LIB) | x86-compiler
+	$(X86_CC) $(STRICT) $(CFLAGS) $(INCLUDES) $(LINKED) $(X86_LDFLAGS) -o $@
 
-$(BUILD)/borders: host/borders.c include/iop89.h $(IOP89_LIB) | x86-compiler
-	$(X86_CC) $(PLAIN) $(subst c11,c99,$(STRICT)) $(CFLAGS) -Iinclude host/borders.c $(IOP89_LIB) $(X86_LDFLAGS) -o $@
+$(BUILD)/borders: host/compare/borders.c include/iop89.h $(IOP89_LIB) | x86-compiler
+	$(X86_CC) $(PLAIN) $(subst c11,c99,$(STRICT)) $(CFLAGS) $(INCLUDES) $(LINKED) $(X86_LDFLAGS) -o $@
 
-$(BUILD)/empty: host/empty.c $(HEADERS) $(SERVICE_LIB) | x86-compiler
-	$(X86_CC) $(PLAIN) $(subst c11,c99,$(STRICT)) $(CFLAGS) -Iinclude host/empty.c $(SERVICE_LIB) $(X86_LDFLAGS) -o $@
+$(BUILD)/empty: host/compare/empty.c $(HEADERS) $(SERVICE_LIB) | x86-compiler
+	$(X86_CC) $(PLAIN) $(subst c11,c99,$(STRICT)) $(CFLAGS) $(INCLUDES) $(LINKED) $(X86_LDFLAGS) -o $@
 
 # Names are bound before main: a first call that is bound on its way takes 3 KiB of stack for the loader.
-$(BUILD)/stack: host/stack.c $(HEADERS) $(ARCHIVES) | x86-compiler
-	$(X86_CC) $(PLAIN) $(STRICT) -D_POSIX_C_SOURCE=200809L $(CFLAGS) -Iinclude host/stack.c $(ARCHIVES) $(X86_LDFLAGS) \
+$(BUILD)/stack: host/bench/stack.c $(HEADERS) $(ARCHIVES) | x86-compiler
+	$(X86_CC) $(PLAIN) $(STRICT) -D_POSIX_C_SOURCE=200809L $(CFLAGS) $(INCLUDES) $(LINKED) $(X86_LDFLAGS) \
 		-Wl,-z,now -pthread -o $@
 
 # How much stack a run and an assembly need, over the files of examples/.
 stack: $(BUILD)/stack
 	@tools/x86 $(BUILD)/stack examples/*.bin examples/*.asm
 
-$(BUILD)/compare: host/compare.c host/fences.c host/fences.h $(COMMON) $(COMMON_H) $(IOP89_LIB) | x86-compiler
-	$(X86_CC) $(PLAIN) $(STRICT) $(CFLAGS) -Iinclude host/compare.c host/fences.c $(COMMON) $(IOP89_LIB) $(X86_LDFLAGS) -o $@
+$(BUILD)/compare: $(addprefix host/compare/,compare.c fences.c fences.h) $(COMMON) $(COMMON_H) $(IOP89_LIB) | x86-compiler
+	$(X86_CC) $(PLAIN) $(STRICT) $(CFLAGS) $(INCLUDES) $(LINKED) $(X86_LDFLAGS) -o $@
 
 # The emulator's own checks, and its side of what the programs print, need no library: they run on the machine at hand.
 $(BUILD)/scripts: $(SCRIPTS) $(SCRIPTS_H) $(COMMON) $(COMMON_H) | compiler
 	@mkdir -p $(BUILD)
-	$(CC) $(STRICT) $(CFLAGS) -Iinclude $(SCRIPTS) $(COMMON) -o $@
+	$(CC) $(STRICT) $(CFLAGS) $(INCLUDES) $(LINKED) -o $@
 
-$(BUILD)/selftest: host/selftest.c host/emulator.c host/emulator.h | compiler
+$(BUILD)/selftest: host/emulator/selftest.c host/emulator/emulator.c host/emulator/emulator.h | compiler
 	@mkdir -p $(BUILD)
-	$(CC) $(STRICT) $(CFLAGS) host/selftest.c host/emulator.c -o $@
+	$(CC) $(STRICT) $(CFLAGS) $(LINKED) -o $@
 
 compare: given-cases x86-compiler $(BUILD)/compare
 	tools/x86 $(BUILD)/compare "$$SEED" "$$CASES"
@@ -289,13 +296,12 @@ count-needs:
 	@$(COUNT_NEEDS)
 
 # What is counted is always compiled at -O2.
-$(BUILD)/emulator.o: host/emulator.c host/emulator.h | x86-compiler
+$(BUILD)/emulator.o: host/emulator/emulator.c host/emulator/emulator.h | x86-compiler
 	@mkdir -p $(BUILD)
-	$(X86_CC) $(STRICT) -O2 -c host/emulator.c -o $@
+	$(X86_CC) $(STRICT) -O2 -c host/emulator/emulator.c -o $@
 
-$(BUILD)/bench: host/bench.c host/emulator.h host/sweep_case.h include/iop89.h include/iop89_service.h $(BUILD)/emulator.o \
-		$(IOP89_LIB) $(SERVICE_LIB)
-	$(X86_CC) $(PLAIN) $(STRICT) -O2 -Iinclude host/bench.c $(BUILD)/emulator.o $(IOP89_LIB) $(SERVICE_LIB) $(X86_LDFLAGS) -o $@
+$(BUILD)/bench: host/bench/bench.c host/bench/sweep_case.h host/emulator/emulator.h $(HEADERS) $(BUILD)/emulator.o $(ARCHIVES)
+	$(X86_CC) $(PLAIN) $(STRICT) -O2 $(INCLUDES) $(LINKED) $(X86_LDFLAGS) -o $@
 
 # ---- The service archive: the machine call by call, and what stands on both archives
 
@@ -314,19 +320,19 @@ $(SERVICE_LIB): $(SERVICE_CRATES:%=$(BUILD)/%.sums)
 	@AR="$(X86_AR)" tools/join-archives $@ $(SERVICE_CRATES:%=$(TARGET)/staticlib/lib%.a)
 
 # What the header says of a refusal beside what the archive answers and what the emulator's reader of states finds.
-$(BUILD)/causes: host/causes.c host/state_bytes.c host/state_bytes.h host/emulator.c host/emulator.h $(HEADERS) $(SERVICE_LIB) | \
-		x86-compiler
-	$(X86_CC) $(STRICT) $(CFLAGS) -Iinclude host/causes.c host/state_bytes.c host/emulator.c $(SERVICE_LIB) $(X86_LDFLAGS) -o $@
+$(BUILD)/causes: host/compare/causes.c $(addprefix host/emulator/,state_bytes.c state_bytes.h emulator.c emulator.h) $(HEADERS) \
+		$(SERVICE_LIB) | x86-compiler
+	$(X86_CC) $(STRICT) $(CFLAGS) $(INCLUDES) $(LINKED) $(X86_LDFLAGS) -o $@
 
 # Random states in bytes, on which calls, sweeps and schedules are compared.
-STATES = $(addprefix host/,states.c state_bytes.c)
-STATES_H = $(addprefix host/,states.h state_bytes.h) include/iop89_service.h
+STATES = host/compare/states.c host/emulator/state_bytes.c
+STATES_H = host/compare/states.h host/emulator/state_bytes.h include/iop89_service.h
 
-COMPARE_SERVICE = $(addprefix host/,compare_service.c fences.c) $(STATES)
-COMPARE_SERVICE_H = host/fences.h $(STATES_H)
+COMPARE_SERVICE = $(addprefix host/compare/,compare_service.c fences.c) $(STATES)
+COMPARE_SERVICE_H = host/compare/fences.h $(STATES_H)
 
 $(BUILD)/compare_service: $(COMPARE_SERVICE) $(COMPARE_SERVICE_H) $(COMMON) $(COMMON_H) $(SERVICE_LIB) | x86-compiler
-	$(X86_CC) $(PLAIN) $(STRICT) $(CFLAGS) -Iinclude $(COMPARE_SERVICE) $(COMMON) $(SERVICE_LIB) $(X86_LDFLAGS) -o $@
+	$(X86_CC) $(PLAIN) $(STRICT) $(CFLAGS) $(INCLUDES) $(LINKED) $(X86_LDFLAGS) -o $@
 
 given-service:
 	@tools/given number SEED && tools/given number SERVICE_CASES
@@ -340,11 +346,11 @@ compare-service: given-service $(BUILD)/compare_service
 given-sweeps:
 	@tools/given number SEED && tools/given number SWEEPS
 
-COMPARE_SWEEP = $(addprefix host/,compare_sweep.c sweeps.c fences.c) $(STATES)
-COMPARE_SWEEP_H = $(addprefix host/,sweeps.h fences.h) $(STATES_H)
+COMPARE_SWEEP = $(addprefix host/compare/,compare_sweep.c sweeps.c fences.c) $(STATES)
+COMPARE_SWEEP_H = $(addprefix host/compare/,sweeps.h fences.h) $(STATES_H)
 
 $(BUILD)/compare_sweep: $(COMPARE_SWEEP) $(COMPARE_SWEEP_H) $(COMMON) $(COMMON_H) $(SERVICE_LIB) | x86-compiler
-	$(X86_CC) $(PLAIN) $(STRICT) $(CFLAGS) -Iinclude $(COMPARE_SWEEP) $(COMMON) $(SERVICE_LIB) $(X86_LDFLAGS) -o $@
+	$(X86_CC) $(PLAIN) $(STRICT) $(CFLAGS) $(INCLUDES) $(LINKED) $(X86_LDFLAGS) -o $@
 
 compare-sweep: given-sweeps $(BUILD)/compare_sweep
 	tools/x86 $(BUILD)/compare_sweep "$$SEED" "$$SWEEPS"
@@ -355,11 +361,11 @@ compare-sweep: given-sweeps $(BUILD)/compare_sweep
 given-pauses:
 	@tools/given number SEED && tools/given number PAUSES
 
-COMPARE_PAUSES = $(addprefix host/,compare_pauses.c pauses.c twin.c sweeps.c fences.c) $(STATES)
-COMPARE_PAUSES_H = $(addprefix host/,pauses.h twin.h sweeps.h fences.h) $(STATES_H)
+COMPARE_PAUSES = $(addprefix host/compare/,compare_pauses.c pauses.c twin.c sweeps.c fences.c) $(STATES)
+COMPARE_PAUSES_H = $(addprefix host/compare/,pauses.h twin.h sweeps.h fences.h) $(STATES_H)
 
 $(BUILD)/compare_pauses: $(COMPARE_PAUSES) $(COMPARE_PAUSES_H) $(COMMON) $(COMMON_H) $(SERVICE_LIB) | x86-compiler
-	$(X86_CC) $(PLAIN) $(STRICT) $(CFLAGS) -Iinclude $(COMPARE_PAUSES) $(COMMON) $(SERVICE_LIB) $(X86_LDFLAGS) -o $@
+	$(X86_CC) $(PLAIN) $(STRICT) $(CFLAGS) $(INCLUDES) $(LINKED) $(X86_LDFLAGS) -o $@
 
 compare-pauses: given-pauses $(BUILD)/compare_pauses
 	tools/x86 $(BUILD)/compare_pauses "$$SEED" "$$PAUSES"
@@ -370,11 +376,11 @@ compare-pauses: given-pauses $(BUILD)/compare_pauses
 given-schedules:
 	@tools/given number SEED && tools/given number SCHEDULES
 
-COMPARE_SCHEDULE = $(addprefix host/,compare_schedule.c schedules.c)
+COMPARE_SCHEDULE = $(addprefix host/compare/,compare_schedule.c schedules.c)
 
-$(BUILD)/compare_schedule: $(COMPARE_SCHEDULE) host/schedules.h $(STATES) $(STATES_H) $(COMMON) $(COMMON_H) $(SERVICE_LIB) | \
-		x86-compiler
-	$(X86_CC) $(PLAIN) $(STRICT) $(CFLAGS) -Iinclude $(COMPARE_SCHEDULE) $(STATES) $(COMMON) $(SERVICE_LIB) $(X86_LDFLAGS) -o $@
+$(BUILD)/compare_schedule: $(COMPARE_SCHEDULE) host/compare/schedules.h $(STATES) $(STATES_H) $(COMMON) $(COMMON_H) \
+		$(SERVICE_LIB) | x86-compiler
+	$(X86_CC) $(PLAIN) $(STRICT) $(CFLAGS) $(INCLUDES) $(LINKED) $(X86_LDFLAGS) -o $@
 
 compare-schedule: given-schedules $(BUILD)/compare_schedule
 	tools/x86 $(BUILD)/compare_schedule "$$SEED" "$$SCHEDULES"
@@ -385,24 +391,22 @@ compare-schedule: given-schedules $(BUILD)/compare_schedule
 given-pairs:
 	@tools/given number SEED && tools/given number PAIRS
 
-COMPARE_PAIR = $(addprefix host/,compare_pair.c processors.c schedules.c fences.c) $(STATES)
-COMPARE_PAIR_H = $(addprefix host/,processors.h schedules.h fences.h) $(STATES_H)
+COMPARE_PAIR = $(addprefix host/compare/,compare_pair.c processors.c schedules.c fences.c) $(STATES)
+COMPARE_PAIR_H = $(addprefix host/compare/,processors.h schedules.h fences.h) $(STATES_H)
 
 $(BUILD)/compare_pair: $(COMPARE_PAIR) $(COMPARE_PAIR_H) $(COMMON) $(COMMON_H) $(SERVICE_LIB) | x86-compiler
-	$(X86_CC) $(PLAIN) $(STRICT) $(CFLAGS) -Iinclude $(COMPARE_PAIR) $(COMMON) $(SERVICE_LIB) $(X86_LDFLAGS) -o $@
+	$(X86_CC) $(PLAIN) $(STRICT) $(CFLAGS) $(INCLUDES) $(LINKED) $(X86_LDFLAGS) -o $@
 
 compare-pair: given-pairs $(BUILD)/compare_pair
 	tools/x86 $(BUILD)/compare_pair "$$SEED" "$$PAIRS"
 
 # ---- The bench tool, over both archives
 
-TOOL = $(addprefix host/,tool.c tool_order.c tool_words.c tool_help.c tool_explain.c tool_memory.c tool_prom.c tool_save.c \
-	tool_show.c tool_cause.c tool_machine.c tool_run.c tool_pair.c tool_schedule.c tool_list.c tool_follow.c tool_asm.c \
-	tool_compare.c tool_debug.c changes.c)
+TOOL = $(wildcard host/tool/*.c) host/examples/changes.c
 # The assembler in C tells which label a refused line means, and the emulator which bytes a step touches; the answers are
 # the archives'.
-TOOL_ASKS = host/assembly.c host/emulator.c host/state_bytes.c
-TOOL_H = $(addprefix host/,tool.h changes.h assembly.h emulator.h state_bytes.h) $(HEADERS)
+TOOL_ASKS = $(addprefix host/emulator/,assembly.c emulator.c state_bytes.c)
+TOOL_H = $(wildcard host/tool/*.h) host/examples/changes.h $(TOOL_ASKS:.c=.h) $(HEADERS)
 
 # readline, where the x86-64 compiler finds it.
 X86_READLINE ?= $(shell echo 'int main(void) { return 0; }' | \
@@ -413,8 +417,8 @@ X86_READLINE ?= $(shell echo 'int main(void) { return 0; }' | \
 tool: $(BUILD)/iop89
 
 $(BUILD)/iop89: $(TOOL) $(TOOL_ASKS) $(TOOL_H) $(ARCHIVES) | x86-compiler
-	$(X86_CC) $(STRICT) $(CFLAGS) -D_POSIX_C_SOURCE=200809L -DEMULATOR_NOTES $(if $(X86_READLINE),-DTOOL_READLINE) -Iinclude \
-		$(TOOL) $(TOOL_ASKS) $(ARCHIVES) $(X86_LDFLAGS) $(if $(X86_READLINE),-lreadline) -o $@
+	$(X86_CC) $(STRICT) $(CFLAGS) -D_POSIX_C_SOURCE=200809L -DEMULATOR_NOTES $(if $(X86_READLINE),-DTOOL_READLINE) $(INCLUDES) \
+		$(LINKED) $(X86_LDFLAGS) $(if $(X86_READLINE),-lreadline) -o $@
 
 # The page for man and the shell's completion, from the text of its help.
 $(BUILD)/iop89.1: $(BUILD)/iop89
@@ -430,8 +434,8 @@ check-tool: $(BUILD)/iop89
 # A host that drives both channels, saves the machine and restores it.
 .PHONY: demo-service
 
-$(BUILD)/both_channels: host/both_channels.c include/iop89.h include/iop89_service.h $(SERVICE_LIB) | x86-compiler
-	$(X86_CC) $(STRICT) $(CFLAGS) -Iinclude host/both_channels.c $(SERVICE_LIB) $(X86_LDFLAGS) -o $@
+$(BUILD)/both_channels: host/examples/both_channels.c $(HEADERS) $(SERVICE_LIB) | x86-compiler
+	$(X86_CC) $(STRICT) $(CFLAGS) $(INCLUDES) $(LINKED) $(X86_LDFLAGS) -o $@
 
 demo-service: $(BUILD)/both_channels
 	tools/x86 $(BUILD)/both_channels
@@ -453,20 +457,20 @@ check-sweep: $(BUILD)/iop89
 
 # ---- PROM files: the proved reader beside one that shares nothing with it
 
-HEX = $(addprefix host/,hex.c hex_texts.c dice.c)
-HEX_H = $(addprefix host/,hex.h hex_texts.h dice.h) include/iop89.h include/iop89_service.h
+HEX = host/emulator/hex.c $(addprefix host/compare/,hex_texts.c dice.c)
+HEX_H = host/emulator/hex.h $(addprefix host/compare/,hex_texts.h dice.h) include/iop89.h include/iop89_service.h
 
 .PHONY: compare-hex bench-hex given-texts
 
 given-texts:
 	@tools/given number SEED && tools/given number TEXTS
 
-$(BUILD)/compare-hex: host/compare_hex.c $(HEX) $(HEX_H) $(SERVICE_LIB) | x86-compiler
-	$(X86_CC) $(PLAIN) $(STRICT) $(CFLAGS) -Iinclude host/compare_hex.c $(HEX) $(SERVICE_LIB) $(X86_LDFLAGS) -o $@
+$(BUILD)/compare-hex: host/compare/compare_hex.c $(HEX) $(HEX_H) $(SERVICE_LIB) | x86-compiler
+	$(X86_CC) $(PLAIN) $(STRICT) $(CFLAGS) $(INCLUDES) $(LINKED) $(X86_LDFLAGS) -o $@
 
 # What is counted is always compiled at -O2.
-$(BUILD)/bench-hex: host/bench_hex.c $(HEX) $(HEX_H) $(SERVICE_LIB) | x86-compiler
-	$(X86_CC) $(PLAIN) $(STRICT) -O2 -Iinclude host/bench_hex.c $(HEX) $(SERVICE_LIB) $(X86_LDFLAGS) -o $@
+$(BUILD)/bench-hex: host/bench/bench_hex.c $(HEX) $(HEX_H) $(SERVICE_LIB) | x86-compiler
+	$(X86_CC) $(PLAIN) $(STRICT) -O2 $(INCLUDES) $(LINKED) $(X86_LDFLAGS) -o $@
 
 # Compares both readers on the files of examples/prom and on random texts.
 compare-hex: given-texts $(BUILD)/compare-hex
@@ -478,24 +482,24 @@ bench-hex: count-needs $(BUILD)/bench-hex
 
 # ---- Listings: the proved lister beside one that shares nothing with it
 
-LISTING = $(addprefix host/,listing.c dice.c)
-LISTING_H = $(addprefix host/,listing.h dice.h) include/iop89.h include/iop89_service.h
+LISTING = host/emulator/listing.c host/compare/dice.c
+LISTING_H = host/emulator/listing.h host/compare/dice.h include/iop89.h include/iop89_service.h
 
 .PHONY: compare-list bench-list given-parts
 
 given-parts:
 	@tools/given number SEED && tools/given number PARTS
 
-$(BUILD)/compare-list: host/compare_list.c $(LISTING) $(LISTING_H) $(SERVICE_LIB) | x86-compiler
-	$(X86_CC) $(PLAIN) $(STRICT) $(CFLAGS) -Iinclude host/compare_list.c $(LISTING) $(SERVICE_LIB) $(X86_LDFLAGS) -o $@
+$(BUILD)/compare-list: host/compare/compare_list.c $(LISTING) $(LISTING_H) $(SERVICE_LIB) | x86-compiler
+	$(X86_CC) $(PLAIN) $(STRICT) $(CFLAGS) $(INCLUDES) $(LINKED) $(X86_LDFLAGS) -o $@
 
 # What is counted is always compiled at -O2.
-$(BUILD)/bench-list: host/bench_list.c $(LISTING) $(LISTING_H) $(SERVICE_LIB) | x86-compiler
-	$(X86_CC) $(PLAIN) $(STRICT) -O2 -Iinclude host/bench_list.c $(LISTING) $(SERVICE_LIB) $(X86_LDFLAGS) -o $@
+$(BUILD)/bench-list: host/bench/bench_list.c $(LISTING) $(LISTING_H) $(SERVICE_LIB) | x86-compiler
+	$(X86_CC) $(PLAIN) $(STRICT) -O2 $(INCLUDES) $(LINKED) $(X86_LDFLAGS) -o $@
 
-# Lists every first pair with rests of every length, random code and the rows of host/notation.txt by both listers.
+# Lists every first pair with rests of every length, random code and the rows of the notation by both listers.
 compare-list: given-parts $(BUILD)/compare-list
-	tools/x86 $(BUILD)/compare-list "$$SEED" "$$PARTS" host/notation.txt
+	tools/x86 $(BUILD)/compare-list "$$SEED" "$$PARTS" host/emulator/notation.txt
 
 # Counts the instructions of both listers for each byte that they list.
 bench-list: count-needs $(BUILD)/bench-list
@@ -503,35 +507,34 @@ bench-list: count-needs $(BUILD)/bench-list
 
 # ---- Assembling: the proved assembler beside one in C that was written from the papers alone
 
-ASSEMBLY = $(addprefix host/,assembly.c listing.c dice.c)
-ASSEMBLY_H = $(addprefix host/,assembly.h listing.h dice.h)
-COMPARE_ASM = $(addprefix host/,compare_asm.c asm_texts.c fences.c) $(ASSEMBLY)
-COMPARE_ASM_H = $(addprefix host/,asm_texts.h fences.h) $(ASSEMBLY_H) include/iop89.h include/iop89_service.h
+ASSEMBLY = $(addprefix host/emulator/,assembly.c listing.c) host/compare/dice.c
+ASSEMBLY_H = $(addprefix host/emulator/,assembly.h listing.h) host/compare/dice.h
+COMPARE_ASM = $(addprefix host/compare/,compare_asm.c asm_texts.c fences.c) $(ASSEMBLY)
+COMPARE_ASM_H = $(addprefix host/compare/,asm_texts.h fences.h) $(ASSEMBLY_H) include/iop89.h include/iop89_service.h
 
 .PHONY: asmtest compare-asm bench-asm given-asm-texts
 
-$(BUILD)/asmtest: host/asmtest.c $(ASSEMBLY) $(ASSEMBLY_H) | compiler
+$(BUILD)/asmtest: host/emulator/asmtest.c $(ASSEMBLY) $(ASSEMBLY_H) | compiler
 	@mkdir -p $(BUILD)
-	$(CC) $(STRICT) $(CFLAGS) host/asmtest.c $(ASSEMBLY) -o $@
+	$(CC) $(STRICT) $(CFLAGS) $(INCLUDES) $(LINKED) -o $@
 
-# Its own checks: the rows of host/notation.txt both ways, the maker's sample, every number and its borders.
+# Its own checks: the rows of host/emulator/notation.txt both ways, the maker's sample, every number and its borders.
 asmtest: $(BUILD)/asmtest
-	$(BUILD)/asmtest host/notation.txt examples/f59.asm
+	$(BUILD)/asmtest host/emulator/notation.txt examples/f59.asm
 
 given-asm-texts:
 	@tools/given number SEED && tools/given number ASM_TEXTS
 
 $(BUILD)/compare-asm: $(COMPARE_ASM) $(COMPARE_ASM_H) $(SERVICE_LIB) | x86-compiler
-	$(X86_CC) $(PLAIN) $(STRICT) $(CFLAGS) -Iinclude $(COMPARE_ASM) $(SERVICE_LIB) $(X86_LDFLAGS) -o $@
+	$(X86_CC) $(PLAIN) $(STRICT) $(CFLAGS) $(INCLUDES) $(LINKED) $(X86_LDFLAGS) -o $@
 
 # What is counted is always compiled at -O2.
-$(BUILD)/bench-asm: host/bench_asm.c $(ASSEMBLY) $(ASSEMBLY_H) include/iop89.h include/iop89_service.h $(SERVICE_LIB) | \
-		x86-compiler
-	$(X86_CC) $(PLAIN) $(STRICT) -O2 -Iinclude host/bench_asm.c $(ASSEMBLY) $(SERVICE_LIB) $(X86_LDFLAGS) -o $@
+$(BUILD)/bench-asm: host/bench/bench_asm.c $(ASSEMBLY) $(ASSEMBLY_H) $(HEADERS) $(SERVICE_LIB) | x86-compiler
+	$(X86_CC) $(PLAIN) $(STRICT) -O2 $(INCLUDES) $(LINKED) $(X86_LDFLAGS) -o $@
 
 # Assembles random texts, texts by hand and the listing of every first pair by both assemblers.
 compare-asm: given-asm-texts $(BUILD)/compare-asm
-	tools/x86 $(BUILD)/compare-asm "$$SEED" "$$ASM_TEXTS" host/notation.txt examples/f59.asm
+	tools/x86 $(BUILD)/compare-asm "$$SEED" "$$ASM_TEXTS" host/emulator/notation.txt examples/f59.asm
 
 # Counts the instructions of both assemblers for each character of text.
 bench-asm: count-needs $(BUILD)/bench-asm
@@ -547,9 +550,8 @@ x86-machine:
 		{ echo "bench-sweep: times say nothing here: this is no x86-64, and an emulator runs the library" >&2; exit 2; }
 
 # What is timed is always compiled at -O2.
-$(BUILD)/bench-sweep: host/bench_sweep.c host/sweep_case.h include/iop89.h include/iop89_service.h $(SERVICE_LIB) | \
-		x86-compiler
-	$(X86_CC) $(PLAIN) $(STRICT) -D_POSIX_C_SOURCE=200809L -O2 -Iinclude host/bench_sweep.c $(SERVICE_LIB) $(X86_LDFLAGS) -o $@
+$(BUILD)/bench-sweep: host/bench/bench_sweep.c host/bench/sweep_case.h $(HEADERS) $(SERVICE_LIB) | x86-compiler
+	$(X86_CC) $(PLAIN) $(STRICT) -D_POSIX_C_SOURCE=200809L -O2 $(INCLUDES) $(LINKED) $(X86_LDFLAGS) -o $@
 
 # Times a sweep of 65,535 and of 65,536 bytes against memcpy, in nine alternating rounds.
 bench-sweep: x86-machine $(BUILD)/bench-sweep

@@ -2,7 +2,7 @@
 #ifndef ASM_TEXTS_H
 #define ASM_TEXTS_H
 
-#include "assembly.h"
+#include "emulator/assembly.h"
 
 /* Room for the longest text. */
 #define ASM_TEXT_ROOM 65536u

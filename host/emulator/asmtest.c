@@ -1,6 +1,6 @@
 /* Hand-thought cases for the assembler in C: the notation's rows, every number, and the borders of each. */
 #include "assembly.h"
-#include "dice.h"
+#include "compare/dice.h"
 #include "listing.h"
 
 #include <stdbool.h>
@@ -746,7 +746,7 @@ static void test_faults(void)
 /* Runs every case and fails if one check did. */
 int main(int argc, char **argv)
 {
-    test_notation(argc > 1 ? argv[1] : "host/notation.txt");
+    test_notation(argc > 1 ? argv[1] : "host/emulator/notation.txt");
     test_sample(argc > 2 ? argv[2] : "examples/f59.asm");
     test_round_trip();
     test_empty();

@@ -1,5 +1,5 @@
 /* Compares the proved reader of hexadecimal files with the independent one, on files that other tools wrote and on random texts: the answer and every lent byte. */
-#include "hex.h"
+#include "emulator/hex.h"
 #include "hex_texts.h"
 #include "iop89_service.h"
 

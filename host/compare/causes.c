@@ -2,7 +2,7 @@
    and to what another reader of states finds: for each byte of a state every value, for each address one over its limit, for
    each bit of CC, for each argument its borders. */
 #include "iop89_service.h"
-#include "state_bytes.h"
+#include "emulator/state_bytes.h"
 
 #include <stdio.h>
 #include <string.h>

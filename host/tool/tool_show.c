@@ -1,5 +1,5 @@
 /* What the bench tool prints of a machine: steps, registers, numbers with where the channels stand, and bytes. */
-#include "changes.h"
+#include "examples/changes.h"
 #include "tool.h"
 
 #include <inttypes.h>

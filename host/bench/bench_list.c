@@ -1,6 +1,6 @@
 /* Lists the same code again and again, by the library or by the independent lister, so that instructions can be counted. */
 #include "iop89_service.h"
-#include "listing.h"
+#include "emulator/listing.h"
 
 #include <stdio.h>
 #include <stdlib.h>

@@ -1,6 +1,6 @@
 /* Reads the hexadecimal text of a 64 KiB image so many times with the proved or the plain reader, for its instructions to be counted; or says how long that text is. */
-#include "hex.h"
-#include "hex_texts.h"
+#include "emulator/hex.h"
+#include "compare/hex_texts.h"
 #include "iop89_service.h"
 
 #include <stdbool.h>

@@ -1,5 +1,5 @@
 /* Why a call was refused, in words: the address that is not lent, the argument, the fields, the byte of a state. */
-#include "state_bytes.h"
+#include "emulator/state_bytes.h"
 #include "tool.h"
 
 #include <inttypes.h>

@@ -1,6 +1,6 @@
 /* Compares the library's assembler with the independent one: number, line, bytes, and every byte beside them. */
 #include "asm_texts.h"
-#include "assembly.h"
+#include "emulator/assembly.h"
 #include "dice.h"
 #include "fences.h"
 #include "iop89_service.h"
@@ -612,7 +612,7 @@ int main(int argc, char **argv)
     proved = fenced(CODE_ROOM);
     untouched = fenced(CODE_ROOM);
     memset(untouched, UNTOUCHED, CODE_ROOM);
-    unsigned rows = check_rows(argc > 3 ? argv[3] : "host/notation.txt");
+    unsigned rows = check_rows(argc > 3 ? argv[3] : "host/emulator/notation.txt");
     unsigned bytes = check_source(argc > 4 ? argv[4] : "examples/f59.asm");
     for (uint64_t i = 0; i < texts; i++) compare_one(seed, i, i < TEXTS_IN_EVERY_ROOM);
     texts_by_hand();

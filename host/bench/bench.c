@@ -1,6 +1,6 @@
 /* One run of a known program by the proved library or by the plain emulator, some sweeps, the rows of a schedule, or steps
  * of one of two processors, for tools/bench to count instructions. */
-#include "emulator.h"
+#include "emulator/emulator.h"
 #include "iop89_service.h"
 #include "sweep_case.h"
 

@@ -1,8 +1,8 @@
 /* Assembles the same text again and again, by the library or by the independent assembler, so that instructions can be
  * counted; or says how long that text is. */
-#include "assembly.h"
+#include "emulator/assembly.h"
 #include "iop89_service.h"
-#include "listing.h"
+#include "emulator/listing.h"
 
 #include <stdbool.h>
 #include <stdio.h>

@@ -2,7 +2,7 @@
 #ifndef MET_H
 #define MET_H
 
-#include "emulator.h"
+#include "emulator/emulator.h"
 
 /* Every number, as a set of bits. */
 #define ALL_NUMBERS ((1u << EMU_NUMBERS) - 1)

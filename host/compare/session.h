@@ -2,9 +2,9 @@
 #ifndef SESSION_H
 #define SESSION_H
 
-#include "emulator.h"
-#include "hex.h"
-#include "listing.h"
+#include "emulator/emulator.h"
+#include "emulator/hex.h"
+#include "emulator/listing.h"
 #include "met.h"
 
 /* The longest text of which calls are made, and the longest buffers that a script can ask for. */

@@ -3,7 +3,7 @@
 #include "states.h"
 
 #include "iop89_service.h"
-#include "state_bytes.h"
+#include "emulator/state_bytes.h"
 
 /* A register's value: any, or one that fits a program. */
 static uint32_t some_value(struct dice *d, const struct run_case *c, enum iop89_register which)

@@ -5,7 +5,7 @@
 
 #include "cases.h"
 #include "iop89_service.h"
-#include "state_bytes.h"
+#include "emulator/state_bytes.h"
 
 /* The most rows of a schedule, and rows of an unknown kind around them, which nobody may read. */
 enum { MOST_ROWS = 200, ROW_FENCE = 8 };

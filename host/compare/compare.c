@@ -1,6 +1,6 @@
 /* Compares the library's run with the independent emulator's over random cases: the answer and every lent byte. */
 #include "cases.h"
-#include "emulator.h"
+#include "emulator/emulator.h"
 #include "fences.h"
 #include "iop89.h"
 #include "met.h"

@@ -5,7 +5,7 @@
 #include "fences.h"
 #include "iop89_service.h"
 #include "met.h"
-#include "state_bytes.h"
+#include "emulator/state_bytes.h"
 #include "states.h"
 
 #include <inttypes.h>

@@ -2,7 +2,7 @@
 #ifndef TOOL_H
 #define TOOL_H
 
-#include "emulator.h"
+#include "emulator/emulator.h"
 #include "iop89_service.h"
 
 #include <stdbool.h>
@@ -313,7 +313,7 @@ void tool_print_count(iop89_answer answer);
 void tool_print_shown(const struct tool_order *order, const struct tool_memory *memory);
 void tool_print_range(struct tool_range range, const struct tool_memory *memory);
 
-/* Prints what changed of system memory and of I/O memory, as host/changes.h shows it. */
+/* Prints what changed of system memory and of I/O memory, as host/examples/changes.h shows it. */
 void tool_print_diff(const struct tool_memory *before, const struct tool_memory *now);
 void tool_print_diff_of(const char *space, uint8_t *before, uint8_t *now, size_t length);
 

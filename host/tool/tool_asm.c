@@ -1,5 +1,5 @@
 /* The bench tool's assembler: a text becomes an image, which is written as it is or as a PROM file, or listed. */
-#include "assembly.h"
+#include "emulator/assembly.h"
 #include "tool.h"
 
 #include <inttypes.h>

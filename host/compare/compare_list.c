@@ -1,7 +1,7 @@
 /* Compares the library's lister with the independent one: answer, text, and every byte of the buffer beside it. */
 #include "dice.h"
 #include "iop89_service.h"
-#include "listing.h"
+#include "emulator/listing.h"
 
 #include <ctype.h>
 #include <inttypes.h>
@@ -208,7 +208,7 @@ int main(int argc, char **argv)
 {
     uint64_t seed = argc > 1 ? strtoull(argv[1], NULL, 10) : 1;
     unsigned parts = argc > 2 ? (unsigned)strtoul(argv[2], NULL, 10) : 2000;
-    const char *path = argc > 3 ? argv[3] : "host/notation.txt";
+    const char *path = argc > 3 ? argv[3] : "host/emulator/notation.txt";
     code = room(CODE_ROOM);
     plain = room(TEXT_ROOM + FENCE);
     proved = room(TEXT_ROOM + FENCE);
