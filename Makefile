@@ -9,6 +9,7 @@ SWEEPS ?= 200000
 PAUSES ?= 20000
 SCHEDULES ?= 200000
 PAIRS ?= 100000
+TOUCHES ?= 1000000
 TEXTS ?= 20000
 PARTS ?= 2000
 ASM_TEXTS ?= 50000
@@ -32,6 +33,7 @@ override SWEEPS := $(value SWEEPS)
 override PAUSES := $(value PAUSES)
 override SCHEDULES := $(value SCHEDULES)
 override PAIRS := $(value PAIRS)
+override TOUCHES := $(value TOUCHES)
 override TEXTS := $(value TEXTS)
 override PARTS := $(value PARTS)
 override ASM_TEXTS := $(value ASM_TEXTS)
@@ -63,7 +65,7 @@ TARGET = $(BUILD)/tree/target
 endif
 
 export CALLER BUILD TARGET INSTALL
-export IMAGE FILE DEMO SEED CASES SERVICE_CASES SWEEPS PAUSES SCHEDULES PAIRS TEXTS PARTS ASM_TEXTS CALLS IMAGES N FROM \
+export IMAGE FILE DEMO SEED CASES SERVICE_CASES SWEEPS PAUSES SCHEDULES PAIRS TOUCHES TEXTS PARTS ASM_TEXTS CALLS IMAGES N FROM \
 	PREFIX DESTDIR
 
 CFLAGS ?= -O2
@@ -214,7 +216,7 @@ $(BUILD)/flags: always
 		if cmp -s $@.$$$$ $@; then rm -f $@.$$$$; else mv $@.$$$$ $@; fi
 
 PROGRAMS_OF_C = causes example borders empty stack compare scripts selftest emulator.o bench compare_service compare_sweep \
-	compare_pauses compare_schedule compare_pair iop89 both_channels compare-hex bench-hex compare-list bench-list asmtest \
+	compare_pauses compare_schedule compare_pair compare_touches compare_bus disk iop89 both_channels compare-hex bench-hex compare-list bench-list asmtest \
 	compare-asm bench-asm bench-sweep
 $(PROGRAMS_OF_C:%=$(BUILD)/%): $(BUILD)/flags
 
@@ -400,13 +402,34 @@ $(BUILD)/compare_pair: $(COMPARE_PAIR) $(COMPARE_PAIR_H) $(COMMON) $(COMMON_H) $
 compare-pair: given-pairs $(BUILD)/compare_pair
 	tools/x86 $(BUILD)/compare_pair "$$SEED" "$$PAIRS"
 
+# What a call touches: what the archive tells before it is made, and what the emulator notes while it works.
+.PHONY: compare-touches given-touches
+
+given-touches:
+	@tools/given number SEED && tools/given number TOUCHES
+
+COMPARE_TOUCHES = $(addprefix host/compare/,compare_touches.c fences.c) $(STATES)
+COMPARE_TOUCHES_H = host/compare/fences.h $(STATES_H)
+
+$(BUILD)/compare_touches: $(COMPARE_TOUCHES) $(COMPARE_TOUCHES_H) $(COMMON) $(COMMON_H) $(SERVICE_LIB) | x86-compiler
+	$(X86_CC) $(PLAIN) $(STRICT) $(CFLAGS) -DEMULATOR_NOTES $(INCLUDES) $(LINKED) $(X86_LDFLAGS) -o $@
+
+# Steps over the card bus beside steps on memory that has the cards' bytes.
+$(BUILD)/compare_bus: host/compare/compare_bus.c host/examples/card_bus.c host/examples/card_bus.h host/compare/fences.c \
+		$(COMPARE_TOUCHES_H) $(STATES) $(COMMON) $(COMMON_H) $(SERVICE_LIB) | x86-compiler
+	$(X86_CC) $(PLAIN) $(STRICT) $(CFLAGS) $(INCLUDES) $(LINKED) $(X86_LDFLAGS) -o $@
+
+compare-touches: given-touches $(BUILD)/compare_touches $(BUILD)/compare_bus
+	tools/x86 $(BUILD)/compare_touches "$$SEED" "$$TOUCHES"
+	tools/x86 $(BUILD)/compare_bus "$$SEED"
+
 # ---- The bench tool, over both archives
 
-TOOL = $(wildcard host/tool/*.c) host/examples/changes.c
-# The assembler in C tells which label a refused line means, and the emulator which bytes a step touches; the answers are
-# the archives'.
+TOOL = $(wildcard host/tool/*.c) $(addprefix host/examples/,changes.c card_bus.c)
+# The assembler in C tells which label a refused line means, and the emulator has the names of fields and of a state's bytes;
+# the answers are the archives'.
 TOOL_ASKS = $(addprefix host/emulator/,assembly.c emulator.c state_bytes.c)
-TOOL_H = $(wildcard host/tool/*.h) host/examples/changes.h $(TOOL_ASKS:.c=.h) $(HEADERS)
+TOOL_H = $(wildcard host/tool/*.h) $(addprefix host/examples/,changes.h card_bus.h) $(TOOL_ASKS:.c=.h) $(HEADERS)
 
 # readline, where the x86-64 compiler finds it.
 X86_READLINE ?= $(shell echo 'int main(void) { return 0; }' | \
@@ -417,7 +440,7 @@ X86_READLINE ?= $(shell echo 'int main(void) { return 0; }' | \
 tool: $(BUILD)/iop89
 
 $(BUILD)/iop89: $(TOOL) $(TOOL_ASKS) $(TOOL_H) $(ARCHIVES) | x86-compiler
-	$(X86_CC) $(STRICT) $(CFLAGS) -D_POSIX_C_SOURCE=200809L -DEMULATOR_NOTES $(if $(X86_READLINE),-DTOOL_READLINE) $(INCLUDES) \
+	$(X86_CC) $(STRICT) $(CFLAGS) -D_POSIX_C_SOURCE=200809L $(if $(X86_READLINE),-DTOOL_READLINE) $(INCLUDES) \
 		$(LINKED) $(X86_LDFLAGS) $(if $(X86_READLINE),-lreadline) -o $@
 
 # The page for man and the shell's completion, from the text of its help.
@@ -439,6 +462,15 @@ $(BUILD)/both_channels: host/examples/both_channels.c $(HEADERS) $(SERVICE_LIB) 
 
 demo-service: $(BUILD)/both_channels
 	tools/x86 $(BUILD)/both_channels
+
+# A disk controller as a card of the bus, and channel programs that read and write its sectors.
+.PHONY: demo-disk
+
+$(BUILD)/disk: host/examples/disk.c host/examples/card_bus.c host/examples/card_bus.h $(HEADERS) $(SERVICE_LIB) | x86-compiler
+	$(X86_CC) $(STRICT) $(CFLAGS) $(INCLUDES) $(LINKED) $(X86_LDFLAGS) -o $@
+
+demo-disk: $(BUILD)/disk
+	tools/x86 $(BUILD)/disk
 
 # ---- The worked example: a sweep next to a marker table, drawn from what the tool shows
 

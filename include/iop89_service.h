@@ -176,6 +176,38 @@ iop89_answer iop89_schedule(uint8_t *state, size_t state_len, const struct iop89
 iop89_run_answer iop89_board(uint8_t *sys, size_t sys_len, uint8_t *io, size_t io_len, uint32_t channel, uint32_t lines,
                              uint32_t limit);
 
+/* ---- What a call touches, told before it is made ---- */
+
+/* The most places that a call has, and the parts of one: where the byte lies, whether in I/O space, whether it is stored, and
+ * whether it is the one at which a call that is refused by 2 stops. */
+#define IOP89_PLACES 11u
+#define IOP89_PLACE_ADDRESS(place) ((place) & 0xFFFFFu)
+#define IOP89_PLACE_IO(place) ((place) >> 20 & 1u)
+#define IOP89_PLACE_STORE(place) ((place) >> 21 & 1u)
+#define IOP89_PLACE_BEYOND(place) ((place) >> 22 & 1u)
+
+iop89_answer iop89_touches_attention(const uint8_t *state, size_t state_len, const uint8_t *sys, size_t sys_len,
+                                     const uint8_t *io, size_t io_len, uint32_t channel, uint32_t *places, size_t room);
+
+iop89_answer iop89_touches_power_up(const uint8_t *state, size_t state_len, const uint8_t *sys, size_t sys_len,
+                                    const uint8_t *io, size_t io_len, uint32_t *places, size_t room);
+
+iop89_answer iop89_touches_step(const uint8_t *state, size_t state_len, const uint8_t *sys, size_t sys_len,
+                                const uint8_t *io, size_t io_len, uint32_t lines, uint32_t *places, size_t room);
+
+iop89_answer iop89_touches_sweep(const uint8_t *state, size_t state_len, const uint8_t *sys, size_t sys_len,
+                                 const uint8_t *io, size_t io_len, uint32_t channel, uint32_t lines, uint32_t *places,
+                                 size_t room);
+
+/* The place told that is beyond, where a call is refused by 2; IOP89_NO_PLACE where none is. */
+#define IOP89_NO_PLACE 0xFFFFFFFFu
+static inline uint32_t iop89_beyond(const uint32_t *places, size_t count)
+{
+    for (size_t i = 0; i < count; i++)
+        if (IOP89_PLACE_BEYOND(places[i]) != 0) return places[i];
+    return IOP89_NO_PLACE;
+}
+
 /* ---- Two processors on one board: one system memory, and each its own state, I/O memory and control block ---- */
 
 /*

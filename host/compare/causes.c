@@ -1,6 +1,6 @@
 /* Holds what the header says of a refused call, iop89_cause and iop89_wrong_argument, to the number that the archive answers
    and to what another reader of states finds: for each byte of a state every value, for each address one over its limit, for
-   each bit of CC, for each argument its borders. */
+   each bit of CC, for each argument its borders; and iop89_beyond to 2, for each length of memory. */
 #include "iop89_service.h"
 #include "emulator/state_bytes.h"
 
@@ -89,6 +89,38 @@ static void test_rest(void)
     expect("a length", 103, 0, cause.at == IOP89_STATE_LENGTH && cause.value == 103 && cause.most == IOP89_STATE_LENGTH);
 }
 
+/* With every length of system memory: what is told to be beyond, beside 2. It lies behind what is lent, and lent up to it,
+ * another byte refuses the call, or none does. */
+static void test_beyond(const uint8_t *state, bool step)
+{
+    uint32_t before = IOP89_NO_PLACE, places[IOP89_PLACES];
+    for (size_t lent = 0; lent <= sizeof sys; lent++) {
+        iop89_answer told = step ? iop89_touches_step(state, IOP89_STATE_LENGTH, sys, lent, io, sizeof io, 0, places, IOP89_PLACES)
+                                 : iop89_touches_attention(state, IOP89_STATE_LENGTH, sys, lent, io, sizeof io, 1, places, IOP89_PLACES);
+        uint32_t place = iop89_beyond(places, IOP89_ANSWER_COUNT(told));
+        bool refused = IOP89_ANSWER_NUMBER(told) == IOP89_BEYOND_MEMORY;
+        expect("2 and a place", lent, place, refused == (place != IOP89_NO_PLACE));
+        if (refused) expect("the place", lent, place, IOP89_PLACE_ADDRESS(place) >= lent && IOP89_PLACE_IO(place) == 0);
+        if (before != IOP89_NO_PLACE && IOP89_PLACE_ADDRESS(before) < lent) expect("lent now", lent, place, place != before);
+        before = place;
+    }
+}
+
+/* That of an attention that starts a channel, and of the channel's first step. */
+static void test_beyond_both(void)
+{
+    uint8_t state[IOP89_STATE_LENGTH];
+    const uint8_t block[] = {3, 0, 16, 0, 0, 0}, program[] = {0x0A, 0x4F, 0x10, 0x55};
+    memcpy(sys, block, sizeof block);
+    memset(sys + 16, 0, 4);
+    sys[16] = 32;
+    memcpy(sys + 32, program, sizeof program);
+    (void)iop89_fresh(state, sizeof state, 0);
+    test_beyond(state, false);
+    (void)iop89_attention(state, sizeof state, sys, sizeof sys, io, sizeof io, 1);
+    test_beyond(state, true);
+}
+
 /* Arguments about their borders: which of them is said to be wrong, beside whether the call that has it answers 12. A step of
  * two processors has the first and the third, an attention of two the first two, a board's run the last three. */
 static void test_arguments(uint32_t processor, uint32_t channel, uint32_t lines, uint32_t limit)
@@ -132,6 +164,7 @@ int main(void)
     }
     test_rest();
     test_borders();
+    test_beyond_both();
     printf("causes: %u told, %u not as they should be\n", tried, wrong);
     return wrong != 0;
 }

@@ -615,9 +615,11 @@ struct place {
     uint32_t offset;
 };
 
-/* An instruction that has been read into its shape. */
+/* An instruction that has been read into its shape; it is known where only the offset byte of its second pair can be what
+ * refuses it. */
 struct instruction {
     const struct row *row;
+    bool known;
     unsigned rrr;
     unsigned bytes;
     struct place place, second;
@@ -1087,6 +1089,7 @@ static void take_second_pair(struct work *w, struct instruction *in)
     if (!has_digits(&second_pair, first, second) || (first & 1u) + 1 != in->bytes) refuse(w, EMU_NO_INSTRUCTION);
     if (w->number != EMU_DONE) return;
     in->second = place_of(first, second);
+    in->known = ASKED;
     take_offset(w, in, &in->second);
 }
 
@@ -1151,7 +1154,8 @@ static void instruction_step(struct work *w)
     struct instruction in;
     bool was_armed = w->ch->armed;
     read_instruction(w, &in);
-    if (w->number != EMU_DONE) return;
+    /* Who asks is told all of the last stage, also behind an offset byte that is not there. */
+    if (w->number != EMU_DONE && !in.known) return;
     w->ch->tp = in.end;
     in.row->act(w, &in);
     if (was_armed && w->ch->mode == EMU_RUNNING) {
@@ -1769,6 +1773,11 @@ static struct emu_swept sweep_soundly(struct emu_state *state, const struct emu_
     if (emu_coverage != NULL) count_swept(ch);
     done.steps = steps_of(ch, bytes_left(ch));
     done.count = 2 * bytes_left(ch);
+    if (ASKED) {
+        note(source_of(ch), EMU_SOURCE, true, false, *cell(memory, source_of(ch)));
+        note(destination_of(ch), EMU_DESTINATION, true, true, *cell(memory, source_of(ch)));
+        return done;
+    }
     move_all(ch, memory);
     end_swept(ch);
     state->last = channel;
