@@ -2,7 +2,7 @@
 #ifndef TOOL_H
 #define TOOL_H
 
-#include "emulator/emulator.h"
+#include "examples/card_bus.h"
 #include "iop89_service.h"
 
 #include <stdbool.h>
@@ -94,7 +94,7 @@ struct tool_order {
     uint32_t system_length, limit;
     uint32_t from, count, first, room;
     const char *second_word, *out, *save, *trace_file, *script;
-    bool source, board, sweep, trace, pair, over, diff, regs, no_header, follow, labels, no_labels;
+    bool source, board, sweep, trace, pair, over, diff, regs, no_header, bus, follow, labels, no_labels;
     bool has_cp, has_first, has_until, has_from;
 };
 
@@ -134,15 +134,18 @@ struct tool_text {
     size_t length;
 };
 
-/* A call on a machine, for what is said of its refusal: which, and its channel or line number. */
-struct tool_call {
-    enum { TOOL_POWER_UP, TOOL_ATTENTION, TOOL_STEPPED } kind;
-    uint32_t value;
+struct tool_machine;
+
+/* A port as a card of the bus: its machine, and its place in the order. */
+struct tool_reader {
+    struct tool_machine *machine;
+    unsigned port;
 };
 
 /* A machine that is stepped: its state and memory, that memory as it was given, how many steps were tried and how many were
- * done, which of the order's attentions were given, the text of each port and how far it was read, the last call, what it
- * touched, and where a trace goes. Of a pair, which of the two it is, 0 or 1, and the other one. */
+ * done, which of the order's attentions were given, the text of each port and how far it was read, its ports on a bus, which
+ * has what the last call touched, that call and its answer, and where a trace goes. Of a pair, which of the two it is, 0 or
+ * 1, and the other one. */
 struct tool_machine {
     const struct tool_order *order;
     uint8_t state[IOP89_STATE_LENGTH];
@@ -151,8 +154,11 @@ struct tool_machine {
     uint64_t attended;
     struct tool_text text[TOOL_PORTS];
     size_t next[TOOL_PORTS];
-    struct tool_call last;
-    struct emu_touches touched;
+    struct tool_reader reader[TOOL_PORTS];
+    struct card card[TOOL_PORTS];
+    struct card_bus bus;
+    struct bus_call last;
+    iop89_answer answer;
     FILE *trace;
     unsigned which;
     struct tool_machine *other;
@@ -259,7 +265,7 @@ uint32_t tool_next_due(const struct tool_order *order, uint32_t behind);
 /* Whether an attention is still to come, which may start what is idle now: its step is the next one tried. */
 bool tool_skip_to_event(struct tool_machine *machine);
 
-/* Tries one step: ports are filled, what it touches is asked, and the step is made. */
+/* Tries one step: what it touches is asked, ports are read, and the step is made. */
 iop89_answer tool_try_step(struct tool_machine *machine, char tail[64]);
 
 /* Whether the next step stops, at an address or at a watched byte that is not what it was: then it says so. */
@@ -273,11 +279,12 @@ bool tool_goes_on(const struct tool_processor *processor, unsigned number, const
 bool tool_runs(const uint8_t *state);
 enum tool_status tool_status_of(unsigned number, const uint8_t *state, uint32_t steps);
 
-/* What a call touches, asked of the emulator that the archive is compared with; nothing is changed. */
-struct emu_touches tool_ask(const uint8_t *state, const struct tool_memory *memory, struct tool_call call);
+/* What stands behind the line of the last step, which the state before it is handed for: its instruction in the listing's
+ * words, or the bytes that it moved and where; nothing where it was refused. */
+void tool_write_tail(char tail[64], const struct tool_machine *machine, const uint8_t *before);
 
-/* What stands behind a step's line: its instruction in the listing's words, or the bytes that it moved and where. */
-void tool_write_tail(char tail[64], const struct emu_touches *touched, const struct tool_memory *memory);
+/* Prints each access of the last call where -bus asks for it: what was read or stored, where, and which byte. */
+void tool_print_bus(const struct tool_machine *machine);
 
 /* ---- What is printed ---- */
 
@@ -289,7 +296,7 @@ void tool_print_header(const struct tool_order *order);
 void tool_print_number(const char *whose, unsigned number, const char *words, const uint8_t *state,
                        const struct tool_memory *memory, uint32_t steps);
 void tool_print_cause(const char *whose, unsigned number, const uint8_t *state, const struct tool_memory *memory,
-                      struct tool_call call);
+                      struct bus_call call);
 void tool_print_argument(unsigned number, const struct tool_order *order);
 void tool_print_never(const char *whose, const uint8_t *state, const struct tool_memory *memory, uint32_t channel);
 void tool_print_waiting(const char *whose, uint32_t number, const uint8_t *state);

@@ -58,40 +58,40 @@ static bool same(const struct side *a, const struct side *b)
 }
 
 /* A byte of memory, or -1 where none is lent. */
-static int byte_at(const struct tool_memory *m, bool in_io, uint32_t at)
+static int byte_at(const struct tool_memory *m, uint32_t place)
 {
-    if (at >= (in_io ? m->io_len : m->sys_len)) return -1;
-    return (in_io ? m->io : m->sys)[at];
+    uint32_t at = IOP89_PLACE_ADDRESS(place);
+    if (at >= (IOP89_PLACE_IO(place) ? m->io_len : m->sys_len)) return -1;
+    return (IOP89_PLACE_IO(place) ? m->io : m->sys)[at];
 }
 
 /* Whether a place has the same byte in both memories, or is lent in one at most. */
-static bool same_byte(const struct side *a, const struct side *b, struct emu_pointer at)
+static bool same_byte(const struct side *a, const struct side *b, uint32_t place)
 {
-    int one = byte_at(&a->machine.memory, at.tag, at.address), two = byte_at(&b->machine.memory, at.tag, at.address);
+    int one = byte_at(&a->machine.memory, place), two = byte_at(&b->machine.memory, place);
     return one == two || one < 0 || two < 0;
 }
 
-/* The first place that the last call of one of them stored to, and that is not the same in both behind it; or NULL. */
-static const struct emu_pointer *apart(const struct side *of, const struct side *a, const struct side *b)
+/* The first place that the last call of one of them stored to, and that is not the same in both behind it. */
+static uint32_t apart(const struct side *of, const struct side *a, const struct side *b)
 {
-    const struct emu_touches *touched = &of->machine.touched;
-    for (unsigned i = 0; of->number == IOP89_DONE && i < touched->count; i++)
-        if (touched->touch[i].stored && !same_byte(a, b, touched->touch[i].at)) return &touched->touch[i].at;
-    return NULL;
+    const struct card_bus *bus = &of->machine.bus;
+    for (unsigned i = bus->reads; of->number == IOP89_DONE && i < bus->touched; i++)
+        if (!same_byte(a, b, bus->place[i])) return bus->place[i];
+    return IOP89_NO_PLACE;
 }
 
 /* Whether both did the same and stored the same bytes; says where they did not. */
 static bool agree(const struct side *a, const struct side *b)
 {
-    const struct emu_pointer *at = apart(a, a, b);
-    if (at == NULL) at = apart(b, a, b);
-    if (same(a, b) && at == NULL) return true;
+    uint32_t at = apart(a, a, b);
+    if (at == IOP89_NO_PLACE) at = apart(b, a, b);
+    if (same(a, b) && at == IOP89_NO_PLACE) return true;
     if (a->machine.tried == 0) puts("different before the first step");
     else printf("different at step %" PRIu32 "\n", a->machine.tried);
-    if (at != NULL)
-        printf("stored at %05" PRIX32 "%s: %02X and %02X\n", at->address, at->tag ? "/io" : "",
-               (unsigned)byte_at(&a->machine.memory, at->tag, at->address),
-               (unsigned)byte_at(&b->machine.memory, at->tag, at->address));
+    if (at != IOP89_NO_PLACE)
+        printf("stored at %05" PRIX32 "%s: %02X and %02X\n", IOP89_PLACE_ADDRESS(at), IOP89_PLACE_IO(at) ? "/io" : "",
+               (unsigned)byte_at(&a->machine.memory, at), (unsigned)byte_at(&b->machine.memory, at));
     return false;
 }
 

@@ -25,7 +25,7 @@ struct kept {
         bool in_io;
         uint32_t at;
         uint8_t old;
-    } store[EMU_TOUCHES + 1];
+    } store[IOP89_PLACES + 1];
 };
 
 /* A session: its order, which breaks and settings are added to, its machine, what can be taken back, and the input. */
@@ -55,25 +55,30 @@ static void keep_byte(struct kept *k, bool in_io, uint32_t at, uint8_t old)
     k->store[k->stores++].old = old;
 }
 
-/* Keeps what the next call would change. */
-static void keep(struct session *s, struct tool_call call)
+/* Keeps the machine as it is before the next call. */
+static void keep(struct session *s)
 {
     struct kept *k = &s->kept[(s->first + s->count) % KEPT];
     struct tool_machine *m = &s->machine;
-    struct emu_touches touched = tool_ask(m->state, &m->memory, call);
     memcpy(k->state, m->state, sizeof k->state);
     memcpy(k->next, m->next, sizeof k->next);
     k->tried = m->tried;
     k->done = m->done;
     k->attended = m->attended;
     k->stores = 0;
-    for (unsigned i = 0; i < touched.count; i++) {
-        const struct emu_touch *t = &touched.touch[i];
-        if (!t->stored || !t->lent) continue;
-        keep_byte(k, t->at.tag, t->at.address, (t->at.tag ? m->memory.io : m->memory.sys)[t->at.address]);
-    }
     if (s->count < KEPT) s->count++;
     else s->first = (s->first + 1) % KEPT;
+}
+
+/* Keeps what stood where the last call touched memory: what it stored over, and what ports gave. */
+static void keep_touched(struct session *s)
+{
+    const struct tool_machine *m = &s->machine;
+    for (unsigned i = 0; i < m->bus.touched; i++) {
+        bool in_io = IOP89_PLACE_IO(m->bus.place[i]) != 0;
+        uint32_t at = IOP89_PLACE_ADDRESS(m->bus.place[i]);
+        if (at < (in_io ? m->memory.io_len : m->memory.sys_len)) keep_byte(last_kept(s), in_io, at, m->bus.before[i]);
+    }
 }
 
 /* Takes the last call back; answers whether there was one. */
@@ -102,17 +107,15 @@ static bool undo(struct session *s)
 static void attend(struct session *s, const struct tool_event *event)
 {
     struct tool_machine *m = &s->machine;
-    struct tool_call call = {TOOL_ATTENTION, event->channel};
     uint32_t block = (iop89_cp(m->state) + (event->channel == 2 ? 8u : 0u)) & 0xFFFFFu;
     bool stores = event->has_ccw && block < m->memory.sys_len;
-    uint8_t old = stores ? m->memory.sys[block] : 0;
-    if (stores) m->memory.sys[block] = (uint8_t)event->ccw;
-    keep(s, call);
-    if (stores) keep_byte(last_kept(s), false, block, old);
+    keep(s);
+    if (stores) keep_byte(last_kept(s), false, block, m->memory.sys[block]);
     s->number = tool_give(m, event, false);
+    keep_touched(s);
     if (s->number == IOP89_DONE) return;
     printf("number %u: %s\n", s->number, iop89_service_words(s->number));
-    tool_print_cause("", s->number, m->state, &m->memory, call);
+    tool_print_cause("", s->number, m->state, &m->memory, m->last);
 }
 
 /* Gives those of the order that are due before the next step; answers whether each was accepted. */
@@ -133,14 +136,15 @@ static bool step(struct session *s)
     uint8_t before[IOP89_STATE_LENGTH];
     char tail[64];
     if (!attend_due(s)) return false;
-    struct tool_call call = {TOOL_STEPPED, tool_lines_at(&m->order->of[0], m->tried)};
-    keep(s, call);
+    keep(s);
     memcpy(before, m->state, sizeof before);
     iop89_answer answer = tool_try_step(m, tail);
+    keep_touched(s);
     s->number = IOP89_ANSWER_NUMBER(answer);
     if (s->number == IOP89_DONE) {
         printf("%" PRIu32, m->tried);
         tool_print_done(answer, before, m->state, tail);
+        tool_print_bus(m);
         return !tool_watch_hit(m) && !tool_stops(m);
     }
     if (tool_goes_on(&m->order->of[0], s->number, m->state)) {
@@ -167,10 +171,8 @@ static void steps(struct session *s, uint32_t count)
 static void next(struct session *s)
 {
     uint32_t left = s->order.limit;
-    while (left-- > 0 && step(s)) {
-        const struct emu_touches *t = &s->machine.touched;
-        if (t->count > 0 && t->touch[0].access == EMU_FIRST_PAIR) return;
-    }
+    while (left-- > 0 && step(s))
+        if (IOP89_ANSWER_KIND(s->machine.answer) == IOP89_INSTRUCTION) return;
 }
 
 /* ---- Looks ---- */

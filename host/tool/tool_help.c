@@ -67,7 +67,8 @@ const struct tool_option tool_options[] = {
     {"-lines", "N,N..", "in turn, one for each step that is tried; where a channel waits, the next one is tried", STEPS},
     {"-lines", "FILE", "the same from a text; a name that begins with a digit is written ./1", STEPS},
     {"-limit", "N", "most steps (1000); under several line numbers, most that are tried", CHANNELS},
-    {"-port", "SPACE ADDR FILE", "the step that reads this byte of sys or io finds the file's next byte there", STEPS},
+    {"-port", "SPACE ADDR FILE", "each read of this byte of sys or io gets the file's next byte", STEPS},
+    {"-bus", "", "a line for each byte that a call reads or stores, in its order, below the call's own", STEP_DEBUG},
     {"-set", "REG=VALUE", "sets a register before the first step: GA=0x60/io, BC=5; 2:BC=5 of channel 2", STEPS},
     {"-until", "ADDR", "stops where TP of a running channel has come to this address", STEP_DEBUG},
     {"-break", "ADDR", "the same, for each of up to 16 addresses", STEP_DEBUG},
@@ -136,8 +137,8 @@ static const char *const notes[] = {
     "asm's FILE has the lines of list, blank ones, and comments behind ;. A line may have a label in front, NAME:, and data "
     "in the place of an instruction: DB bytes, DW words. Where a number stands a sum may, as TABLE-(5+101B). It is "
     "assembled whole, or refused at its first bad line: 30 word, 31 operands, 32 parentheses, 33 label, 34 reach, 35 room.",
-    "Which bytes a step touches, for its line, for ports and for the words of 2, is told by the emulator of host/ that the "
-    "library is compared with; every answer is the library's.",
+    "Which bytes a step touches, for its line, for ports, -watch and -bus and for the words of 2, the library tells before the "
+    "step is made (iop89_touches_step).",
 };
 
 enum { NOTES = sizeof notes / sizeof notes[0], STATUSES = sizeof statuses / sizeof statuses[0] };

@@ -93,21 +93,25 @@ static bool is_own(const struct tool_machine *m, bool second)
     return second == (m->which != 0);
 }
 
-static bool is_in(const struct tool_machine *m, bool in_io, bool second, struct emu_pointer at)
+static bool is_in(const struct tool_machine *m, bool in_io, bool second, uint32_t place)
 {
-    return at.tag == in_io && (!in_io || is_own(m, second));
+    return (IOP89_PLACE_IO(place) != 0) == in_io && (!in_io || is_own(m, second));
 }
 
 /* ---- From the first call on ---- */
 
-/* Gives one attention, with a line unless it is to be quiet. */
+/* Gives one attention over the bus, with a line unless it is to be quiet. */
 static unsigned attend(struct tool_machine *m, uint32_t channel, bool quiet)
 {
-    m->last.kind = TOOL_ATTENTION;
+    m->last.kind = BUS_ATTENTION;
     m->last.value = channel;
-    m->touched = tool_ask(m->state, &m->memory, m->last);
-    iop89_answer answer = attention_of(m, channel);
-    return quiet ? IOP89_ANSWER_NUMBER(answer) : tool_print_attention(tool_whose(m), channel, answer);
+    bus_fetch(&m->bus, m->state, m->last);
+    m->answer = attention_of(m, channel);
+    bus_hand_over(&m->bus, m->answer);
+    if (quiet) return IOP89_ANSWER_NUMBER(m->answer);
+    unsigned number = tool_print_attention(tool_whose(m), channel, m->answer);
+    tool_print_bus(m);
+    return number;
 }
 
 /* Sets the registers that an order asks for; CC with its fields, a pointer with its space. */
@@ -125,6 +129,37 @@ static void set_registers(struct tool_machine *m)
     }
 }
 
+/* What a port gives: the next byte of its text, which a port in system memory has for both of a pair, or, behind its last
+ * one, what memory has. */
+static uint8_t read_port(void *own, uint32_t address)
+{
+    const struct tool_reader *reader = own;
+    struct tool_machine *m = reader->machine;
+    size_t *next = &m->next[reader->port];
+    const struct tool_text *text = &m->text[reader->port];
+    if (*next >= text->length) return (m->order->port[reader->port].in_io ? m->memory.io : m->memory.sys)[address];
+    uint8_t byte = text->bytes[(*next)++];
+    if (m->other != NULL) m->other->next[reader->port] = *next;
+    return byte;
+}
+
+/* Puts the order's ports on the machine's bus; that of the other one's I/O memory has no address here. */
+static void plug(struct tool_machine *m)
+{
+    for (unsigned i = 0; i < m->order->ports; i++) {
+        const struct tool_port *port = &m->order->port[i];
+        bool own = !port->in_io || is_own(m, port->second);
+        struct tool_reader reader = {m, i};
+        m->reader[i] = reader;
+        struct card card = {port->at, own ? 1 : 0, port->in_io, read_port, NULL, &m->reader[i]};
+        m->card[i] = card;
+        m->text[i] = tool_read_text(port->name);
+    }
+    struct card_bus bus = {.sys = m->memory.sys, .io = m->memory.io, .sys_len = m->memory.sys_len, .io_len = m->memory.io_len,
+                           .card = m->card, .cards = m->order->ports};
+    m->bus = bus;
+}
+
 void tool_make(struct tool_machine *m, const struct tool_order *order, unsigned which, struct tool_memory memory)
 {
     memset(m, 0, sizeof *m);
@@ -132,8 +167,8 @@ void tool_make(struct tool_machine *m, const struct tool_order *order, unsigned 
     m->which = which;
     m->memory = memory;
     m->given = tool_copy(memory);
-    m->last.kind = TOOL_POWER_UP;
-    for (unsigned i = 0; i < order->ports; i++) m->text[i] = tool_read_text(order->port[i].name);
+    m->last.kind = BUS_POWER_UP;
+    plug(m);
 }
 
 unsigned tool_begin(struct tool_machine *m)
@@ -212,51 +247,18 @@ bool tool_skip_to_event(struct tool_machine *m)
 
 /* ---- One step ---- */
 
-/* The byte of memory behind a place, or NULL where none is lent. */
-static uint8_t *cell(struct tool_memory *m, bool in_io, uint32_t at)
-{
-    if (at >= (in_io ? m->io_len : m->sys_len)) return NULL;
-    return (in_io ? m->io : m->sys) + at;
-}
-
-/* Puts the next byte of each port that has one left into its place. */
-static void fill_ports(struct tool_machine *m)
-{
-    for (unsigned i = 0; i < m->order->ports; i++) {
-        const struct tool_port *port = &m->order->port[i];
-        uint8_t *byte = port->in_io && !is_own(m, port->second) ? NULL : cell(&m->memory, port->in_io, port->at);
-        if (byte != NULL && m->next[i] < m->text[i].length) *byte = m->text[i].bytes[m->next[i]];
-    }
-}
-
-/* Moves on each port that the step read. */
-static void move_ports(struct tool_machine *m)
-{
-    for (unsigned i = 0; i < m->order->ports; i++) {
-        const struct tool_port *port = &m->order->port[i];
-        bool read = false;
-        for (unsigned k = 0; k < m->touched.count; k++) {
-            const struct emu_touch *t = &m->touched.touch[k];
-            read = read || (!t->stored && is_in(m, port->in_io, port->second, t->at) && t->at.address == port->at);
-        }
-        if (!read || m->next[i] >= m->text[i].length) continue;
-        m->next[i]++;
-        if (m->other != NULL) m->other->next[i] = m->next[i];
-    }
-}
-
 iop89_answer tool_try_step(struct tool_machine *m, char tail[64])
 {
-    m->last.kind = TOOL_STEPPED;
+    uint8_t before[IOP89_STATE_LENGTH];
+    memcpy(before, m->state, sizeof before);
+    m->last.kind = BUS_STEP;
     m->last.value = tool_lines_at(tool_asked(m), m->tried++);
-    fill_ports(m);
-    m->touched = tool_ask(m->state, &m->memory, m->last);
-    tool_write_tail(tail, &m->touched, &m->memory);
-    iop89_answer answer = step_of(m, m->last.value);
-    if (IOP89_ANSWER_NUMBER(answer) != IOP89_DONE) return answer;
-    m->done++;
-    move_ports(m);
-    return answer;
+    bus_fetch(&m->bus, m->state, m->last);
+    m->answer = step_of(m, m->last.value);
+    bus_hand_over(&m->bus, m->answer);
+    m->done += IOP89_ANSWER_NUMBER(m->answer) == IOP89_DONE;
+    tool_write_tail(tail, m, before);
+    return m->answer;
 }
 
 /* ---- Stops and ends ---- */
@@ -282,14 +284,23 @@ bool tool_stops(const struct tool_machine *m)
     return stop;
 }
 
+/* Whether a place is one of those that are watched, and lent. */
+static bool is_watched(const struct tool_machine *m, const struct tool_range *w, uint32_t place)
+{
+    uint32_t at = IOP89_PLACE_ADDRESS(place);
+    bool lent = at < (IOP89_PLACE_IO(place) ? m->memory.io_len : m->memory.sys_len);
+    return lent && is_in(m, w->in_io, w->second, place) && at - w->from < w->count;
+}
+
 bool tool_watch_hit(const struct tool_machine *m)
 {
+    if (IOP89_ANSWER_NUMBER(m->answer) != IOP89_DONE) return false;
     for (unsigned i = 0; i < m->order->watches; i++) {
         const struct tool_range *w = &m->order->watch[i];
-        for (unsigned k = 0; k < m->touched.count; k++) {
-            const struct emu_touch *t = &m->touched.touch[k];
-            if (!t->stored || !t->lent || !is_in(m, w->in_io, w->second, t->at) || t->at.address - w->from >= w->count) continue;
-            printf("%swatch: %05" PRIX32 "%s is %02X\n", tool_whose(m), t->at.address, w->in_io ? "/io" : "", t->byte);
+        for (unsigned k = m->bus.reads; k < m->bus.touched; k++) {
+            if (!is_watched(m, w, m->bus.place[k])) continue;
+            printf("%swatch: %05" PRIX32 "%s is %02X\n", tool_whose(m), IOP89_PLACE_ADDRESS(m->bus.place[k]),
+                   w->in_io ? "/io" : "", m->bus.byte[k]);
             return true;
         }
     }

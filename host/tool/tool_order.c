@@ -204,7 +204,7 @@ static bool *mark_of(struct tool_order *o, const char *option)
         bool *mark;
     } marks[] = {{"-source", &o->source}, {"-board", &o->board},         {"-sweep", &o->sweep},   {"-over", &o->over},
                  {"-diff", &o->diff},     {"-regs", &o->regs},           {"-follow", &o->follow}, {"-labels", &o->labels},
-                 {"-no-labels", &o->no_labels}, {"-no-header", &o->no_header}};
+                 {"-no-labels", &o->no_labels}, {"-no-header", &o->no_header}, {"-bus", &o->bus}};
     for (size_t i = 0; i < sizeof marks / sizeof marks[0]; i++)
         if (strcmp(option, marks[i].name) == 0) return marks[i].mark;
     return NULL;
@@ -334,8 +334,8 @@ static void check_order(struct reader *r)
         tool_usage("-state, which has its own CP, and -board or -cp", NULL);
     if (order->second_word != NULL && !order->pair)
         tool_usage("no -pair, and so no second processor for", order->second_word);
-    if (order->sweep && (order->ports + order->stops + order->watches + order->events > 0 || order->has_until))
-        tool_usage("-sweep goes with none of -port, -watch, -break, -until and -attention", NULL);
+    if (order->sweep && (order->ports + order->stops + order->watches + order->events > 0 || order->has_until || order->bus))
+        tool_usage("-sweep goes with none of -port, -watch, -break, -until, -attention and -bus", NULL);
 }
 
 void tool_read_order(struct tool_order *order, int count, char **words)

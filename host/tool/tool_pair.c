@@ -53,8 +53,11 @@ static unsigned step_line(struct tool_machine *m, uint32_t place)
     memcpy(before, m->state, sizeof before);
     iop89_answer answer = tool_try_step(m, tail);
     unsigned number = IOP89_ANSWER_NUMBER(answer);
-    if (number == IOP89_DONE) printf("%" PRIu32 " P%u", place, 1 + m->which), tool_print_done(answer, before, m->state, tail);
-    else if (tool_goes_on(tool_asked(m), number, m->state)) tool_print_waiting(tool_whose(m), place, m->state);
+    if (number == IOP89_DONE) {
+        printf("%" PRIu32 " P%u", place, 1 + m->which);
+        tool_print_done(answer, before, m->state, tail);
+        tool_print_bus(m);
+    } else if (tool_goes_on(tool_asked(m), number, m->state)) tool_print_waiting(tool_whose(m), place, m->state);
     else return number;
     return IOP89_DONE;
 }

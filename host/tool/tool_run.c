@@ -8,7 +8,7 @@
 
 /* The state that a run leaves behind so many steps: the same calls once more, on a copy of its memory. */
 static void state_behind(const struct tool_order *order, struct tool_memory again, uint32_t steps, uint8_t *state,
-                         struct tool_call *last)
+                         struct bus_call *last)
 {
     (void)iop89_fresh(state, IOP89_STATE_LENGTH, order->of[0].cp);
     if (order->board) {
@@ -18,7 +18,7 @@ static void state_behind(const struct tool_order *order, struct tool_memory agai
     }
     iop89_answer attended = tool_attend(state, &again, order->of[0].channel[0]);
     bool refused = IOP89_ANSWER_NUMBER(attended) != IOP89_DONE;
-    last->kind = refused ? TOOL_ATTENTION : TOOL_STEPPED;
+    last->kind = refused ? BUS_ATTENTION : BUS_STEP;
     last->value = refused ? order->of[0].channel[0] : order->of[0].lines.number[0];
     for (uint32_t i = 0; i < steps; i++) (void)tool_do_step(state, &again, order->of[0].lines.number[0]);
 }
@@ -41,7 +41,7 @@ static iop89_run_answer run(const struct tool_order *order, struct tool_memory *
 enum tool_status tool_run(const struct tool_order *order)
 {
     uint8_t state[IOP89_STATE_LENGTH];
-    struct tool_call last = {TOOL_POWER_UP, 0};
+    struct bus_call last = {BUS_POWER_UP, 0};
     if (order->of[0].channels > 1) tool_usage("run starts one channel", NULL);
     if (order->of[0].lines.count > 1) tool_usage("run takes one line number", NULL);
     struct tool_memory memory = tool_load(order), before = tool_copy(memory), again = tool_copy(memory);
@@ -149,6 +149,7 @@ static unsigned step_line(struct tool_machine *m)
     if (number == IOP89_DONE) {
         printf("%" PRIu32, m->tried);
         tool_print_done(answer, before, m->state, tail);
+        tool_print_bus(m);
         trace_line(m, answer);
     } else if (tool_goes_on(&m->order->of[0], number, m->state)) {
         tool_print_waiting("", m->tried, m->state);
@@ -201,7 +202,10 @@ static enum tool_status print_end(const struct tool_machine *m, unsigned number,
         tool_print_number("", number, iop89_service_words(number), m->state, &m->memory, m->done);
     if (status == TOOL_NEVER)
         tool_print_never("", m->state, &m->memory, order->of[0].channels > 0 ? order->of[0].channel[0] : 0);
-    else tool_print_cause("", number, m->state, &m->memory, m->last);
+    else {
+        if (number != IOP89_DONE) tool_print_bus(m);
+        tool_print_cause("", number, m->state, &m->memory, m->last);
+    }
     if (order->regs) tool_print_registers(m->state);
     return status;
 }
