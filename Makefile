@@ -9,7 +9,7 @@ SWEEPS ?= 200000
 PAUSES ?= 20000
 SCHEDULES ?= 200000
 PAIRS ?= 100000
-TOUCHES ?= 1000000
+TOUCHES ?= 100000
 TEXTS ?= 20000
 PARTS ?= 2000
 ASM_TEXTS ?= 50000
@@ -108,8 +108,9 @@ INCLUDES = -Iinclude -Ihost
 LINKED = $(filter %.c %.o %.a,$^)
 
 # What both comparisons are made of: random cases, the emulator, and the count of what was met.
-COMMON = $(addprefix host/compare/,cases.c programs.c dice.c met.c) host/emulator/emulator.c
-COMMON_H = $(addprefix host/compare/,cases.h programs.h dice.h met.h) host/emulator/emulator.h include/iop89.h
+COMMON = $(addprefix host/compare/,cases.c programs.c random.c coverage.c counts.c options.c lent.c) \
+	$(addprefix host/emulator/,emulator.c state_bytes.c)
+COMMON_H = $(COMMON:.c=.h) $(HEADERS)
 SCRIPTS = $(addprefix host/compare/,scripts.c writer.c lines.c session.c hex_texts.c) \
 	$(addprefix host/emulator/,listing.c hex.c)
 SCRIPTS_H = $(addprefix host/compare/,writer.h lines.h session.h hex_texts.h) $(addprefix host/emulator/,listing.h hex.h)
@@ -118,7 +119,7 @@ PROGRAMS = program-trace program-script
 
 .PHONY: help run try script demo test lib proved-archives host install uninstall clean compare compare-scripts compare-traces selftest \
 	check-examples check-papers front-door examples bench $(PROGRAMS) compiler x86-compiler count-needs always \
-	given-image given-file given-demo given-cases given-calls given-images given-prefix
+	option-image option-file option-demo option-cases option-calls option-images option-prefix
 
 # What is given is tested before anything is proved, and one folder has one proof at a time.
 .NOTPARALLEL:
@@ -127,39 +128,39 @@ help:
 	@cat tools/help.txt
 
 # Runs an image as channel 1 of a fresh machine and prints a line for each done step.
-run: given-image program-trace
+run: option-image program-trace
 	@tools/run-program $(TARGET)/bin/trace IMAGE
 
 # Runs the same sources in seconds, without proving them, and says so.
-try: given-image x86-compiler
+try: option-image x86-compiler
 	@CC="$(X86_CC)" tools/try IMAGE
 
 # Makes the calls of a script and prints their answers; docs/SCRIPT.md has the words.
-script: given-file program-script
+script: option-file program-script
 	@tools/run-program $(TARGET)/bin/script FILE
 
 # Runs the host program on an image, and shows the answer and every byte that changed.
-demo: given-demo x86-compiler $(BUILD)/example
-	@DEMO=$$(tools/given path DEMO); case "$$DEMO" in -*) DEMO=./$$DEMO ;; esac; tools/x86 $(BUILD)/example "$$DEMO"
+demo: option-demo x86-compiler $(BUILD)/example
+	@DEMO=$$(tools/option path DEMO); case "$$DEMO" in -*) DEMO=./$$DEMO ;; esac; tools/x86 $(BUILD)/example "$$DEMO"
 
 test:
 	@.ci/run
 
 # What the variables were given; each says what is wrong with it and ends with 2.
-given-image:
-	@tools/given file IMAGE
-given-file:
-	@tools/given file FILE
-given-demo:
-	@tools/given file DEMO
-given-cases:
-	@tools/given number SEED && tools/given number CASES
-given-calls:
-	@tools/given number SEED && tools/given number CALLS
-given-images:
-	@tools/given number SEED && tools/given number IMAGES
-given-prefix:
-	@tools/given folder PREFIX
+option-image:
+	@tools/option file IMAGE
+option-file:
+	@tools/option file FILE
+option-demo:
+	@tools/option file DEMO
+option-cases:
+	@tools/option number SEED && tools/option number CASES
+option-calls:
+	@tools/option number SEED && tools/option number CALLS
+option-images:
+	@tools/option number SEED && tools/option number IMAGES
+option-prefix:
+	@tools/option folder PREFIX
 
 # A program, proved and linked; nothing is done again where it stands already.
 $(PROGRAMS): program-%:
@@ -196,11 +197,11 @@ $(BUILD)/%.sums: always
 INSTALLED = $(HEADERS) $(ARCHIVES) $(SHARED) $(SHARED_SERVICE) include/iop89.pc.in include/iop89_service.pc.in \
 	$(BUILD)/iop89 $(BUILD)/iop89.1 $(BUILD)/iop89.bash
 
-install: given-prefix $(INSTALLED)
+install: option-prefix $(INSTALLED)
 	@tools/install put $(INSTALLED)
 
 # Takes away what install put there, and nothing else.
-uninstall: given-prefix
+uninstall: option-prefix
 	@tools/install remove $(INSTALLED)
 
 # What was built; the proofs in target/ stay, since they take minutes. A folder that nothing was built in is left alone.
@@ -246,7 +247,7 @@ $(BUILD)/stack: host/bench/stack.c $(HEADERS) $(ARCHIVES) | x86-compiler
 stack: $(BUILD)/stack
 	@tools/x86 $(BUILD)/stack examples/*.bin examples/*.asm
 
-$(BUILD)/compare: $(addprefix host/compare/,compare.c fences.c fences.h) $(COMMON) $(COMMON_H) $(IOP89_LIB) | x86-compiler
+$(BUILD)/compare: host/compare/compare.c $(COMMON) $(COMMON_H) $(IOP89_LIB) | x86-compiler
 	$(X86_CC) $(PLAIN) $(STRICT) $(CFLAGS) $(INCLUDES) $(LINKED) $(X86_LDFLAGS) -o $@
 
 # The emulator's own checks, and its side of what the programs print, need no library: they run on the machine at hand.
@@ -258,13 +259,13 @@ $(BUILD)/selftest: host/emulator/selftest.c host/emulator/emulator.c host/emulat
 	@mkdir -p $(BUILD)
 	$(CC) $(STRICT) $(CFLAGS) $(LINKED) -o $@
 
-compare: given-cases x86-compiler $(BUILD)/compare
+compare: option-cases x86-compiler $(BUILD)/compare
 	tools/x86 $(BUILD)/compare "$$SEED" "$$CASES"
 
-compare-scripts: given-calls compiler program-script $(BUILD)/scripts
+compare-scripts: option-calls compiler program-script $(BUILD)/scripts
 	tools/compare-scripts "$$SEED" "$$CALLS" $(TARGET)/bin/script
 
-compare-traces: given-images compiler program-trace $(BUILD)/scripts
+compare-traces: option-images compiler program-trace $(BUILD)/scripts
 	tools/compare-traces "$$SEED" "$$IMAGES" $(TARGET)/bin/trace
 
 selftest: $(BUILD)/selftest
@@ -307,7 +308,7 @@ $(BUILD)/bench: host/bench/bench.c host/bench/sweep_case.h host/emulator/emulato
 
 # ---- The service archive: the machine call by call, and what stands on both archives
 
-.PHONY: service-lib compare-service given-service stack
+.PHONY: service-lib compare-service option-service stack
 
 # The proved calls as a second archive; both link into one program.
 service-lib: $(SERVICE_LIB)
@@ -326,57 +327,61 @@ $(BUILD)/causes: host/compare/causes.c $(addprefix host/emulator/,state_bytes.c 
 		$(SERVICE_LIB) | x86-compiler
 	$(X86_CC) $(STRICT) $(CFLAGS) $(INCLUDES) $(LINKED) $(X86_LDFLAGS) -o $@
 
-# Random states in bytes, on which calls, sweeps and schedules are compared.
-STATES = host/compare/states.c host/emulator/state_bytes.c
-STATES_H = host/compare/states.h host/emulator/state_bytes.h include/iop89_service.h
+# What every comparison of texts shares: counts, and buffers between fences.
+TEXT_COMMON = $(addprefix host/compare/,counts.c lent.c)
+TEXT_COMMON_H = $(COMMON_H)
 
-COMPARE_SERVICE = $(addprefix host/compare/,compare_service.c fences.c) $(STATES)
-COMPARE_SERVICE_H = host/compare/fences.h $(STATES_H)
+# Random states in bytes, on which calls, sweeps and schedules are compared.
+STATES = host/compare/states.c
+STATES_H = host/compare/states.h
+
+COMPARE_SERVICE = host/compare/compare_service.c $(STATES)
+COMPARE_SERVICE_H = $(STATES_H)
 
 $(BUILD)/compare_service: $(COMPARE_SERVICE) $(COMPARE_SERVICE_H) $(COMMON) $(COMMON_H) $(SERVICE_LIB) | x86-compiler
 	$(X86_CC) $(PLAIN) $(STRICT) $(CFLAGS) $(INCLUDES) $(LINKED) $(X86_LDFLAGS) -o $@
 
-given-service:
-	@tools/given number SEED && tools/given number SERVICE_CASES
+option-service:
+	@tools/option number SEED && tools/option number SERVICE_CASES
 
-compare-service: given-service $(BUILD)/compare_service
+compare-service: option-service $(BUILD)/compare_service
 	tools/x86 $(BUILD)/compare_service "$$SEED" "$$SERVICE_CASES"
 
 # Sweeps three ways: the archive's call, the emulator's own, and plain steps of the archive.
-.PHONY: compare-sweep given-sweeps
+.PHONY: compare-sweep option-sweeps
 
-given-sweeps:
-	@tools/given number SEED && tools/given number SWEEPS
+option-sweeps:
+	@tools/option number SEED && tools/option number SWEEPS
 
-COMPARE_SWEEP = $(addprefix host/compare/,compare_sweep.c sweeps.c fences.c) $(STATES)
-COMPARE_SWEEP_H = $(addprefix host/compare/,sweeps.h fences.h) $(STATES_H)
+COMPARE_SWEEP = $(addprefix host/compare/,compare_sweep.c sweeps.c) $(STATES)
+COMPARE_SWEEP_H = host/compare/sweeps.h $(STATES_H)
 
 $(BUILD)/compare_sweep: $(COMPARE_SWEEP) $(COMPARE_SWEEP_H) $(COMMON) $(COMMON_H) $(SERVICE_LIB) | x86-compiler
 	$(X86_CC) $(PLAIN) $(STRICT) $(CFLAGS) $(INCLUDES) $(LINKED) $(X86_LDFLAGS) -o $@
 
-compare-sweep: given-sweeps $(BUILD)/compare_sweep
+compare-sweep: option-sweeps $(BUILD)/compare_sweep
 	tools/x86 $(BUILD)/compare_sweep "$$SEED" "$$SWEEPS"
 
 # Block transfers with their channel suspended and resumed in the middle: archive and emulator, with pauses and without.
-.PHONY: compare-pauses given-pauses
+.PHONY: compare-pauses option-pauses
 
-given-pauses:
-	@tools/given number SEED && tools/given number PAUSES
+option-pauses:
+	@tools/option number SEED && tools/option number PAUSES
 
-COMPARE_PAUSES = $(addprefix host/compare/,compare_pauses.c pauses.c twin.c sweeps.c fences.c) $(STATES)
-COMPARE_PAUSES_H = $(addprefix host/compare/,pauses.h twin.h sweeps.h fences.h) $(STATES_H)
+COMPARE_PAUSES = $(addprefix host/compare/,compare_pauses.c pauses.c twin.c sweeps.c) $(STATES)
+COMPARE_PAUSES_H = $(addprefix host/compare/,pauses.h twin.h sweeps.h) $(STATES_H)
 
 $(BUILD)/compare_pauses: $(COMPARE_PAUSES) $(COMPARE_PAUSES_H) $(COMMON) $(COMMON_H) $(SERVICE_LIB) | x86-compiler
 	$(X86_CC) $(PLAIN) $(STRICT) $(CFLAGS) $(INCLUDES) $(LINKED) $(X86_LDFLAGS) -o $@
 
-compare-pauses: given-pauses $(BUILD)/compare_pauses
+compare-pauses: option-pauses $(BUILD)/compare_pauses
 	tools/x86 $(BUILD)/compare_pauses "$$SEED" "$$PAUSES"
 
 # Schedules, whole and cut in two: the archive's call, the emulator's own, and single calls of the archive.
-.PHONY: compare-schedule given-schedules
+.PHONY: compare-schedule option-schedules
 
-given-schedules:
-	@tools/given number SEED && tools/given number SCHEDULES
+option-schedules:
+	@tools/option number SEED && tools/option number SCHEDULES
 
 COMPARE_SCHEDULE = $(addprefix host/compare/,compare_schedule.c schedules.c)
 
@@ -384,42 +389,39 @@ $(BUILD)/compare_schedule: $(COMPARE_SCHEDULE) host/compare/schedules.h $(STATES
 		$(SERVICE_LIB) | x86-compiler
 	$(X86_CC) $(PLAIN) $(STRICT) $(CFLAGS) $(INCLUDES) $(LINKED) $(X86_LDFLAGS) -o $@
 
-compare-schedule: given-schedules $(BUILD)/compare_schedule
+compare-schedule: option-schedules $(BUILD)/compare_schedule
 	tools/x86 $(BUILD)/compare_schedule "$$SEED" "$$SCHEDULES"
 
 # Calls on two processors: the archive's, the emulator's, single calls, and the same beside noise in the other's place.
-.PHONY: compare-pair given-pairs
+.PHONY: compare-pair option-pairs
 
-given-pairs:
-	@tools/given number SEED && tools/given number PAIRS
+option-pairs:
+	@tools/option number SEED && tools/option number PAIRS
 
-COMPARE_PAIR = $(addprefix host/compare/,compare_pair.c processors.c schedules.c fences.c) $(STATES)
-COMPARE_PAIR_H = $(addprefix host/compare/,processors.h schedules.h fences.h) $(STATES_H)
+COMPARE_PAIR = $(addprefix host/compare/,compare_pair.c processors.c schedules.c) $(STATES)
+COMPARE_PAIR_H = $(addprefix host/compare/,processors.h schedules.h) $(STATES_H)
 
 $(BUILD)/compare_pair: $(COMPARE_PAIR) $(COMPARE_PAIR_H) $(COMMON) $(COMMON_H) $(SERVICE_LIB) | x86-compiler
 	$(X86_CC) $(PLAIN) $(STRICT) $(CFLAGS) $(INCLUDES) $(LINKED) $(X86_LDFLAGS) -o $@
 
-compare-pair: given-pairs $(BUILD)/compare_pair
+compare-pair: option-pairs $(BUILD)/compare_pair
 	tools/x86 $(BUILD)/compare_pair "$$SEED" "$$PAIRS"
 
 # What a call touches: what the archive tells before it is made, and what the emulator notes while it works.
-.PHONY: compare-touches given-touches
+.PHONY: compare-touches option-touches
 
-given-touches:
-	@tools/given number SEED && tools/given number TOUCHES
+option-touches:
+	@tools/option number SEED && tools/option number TOUCHES
 
-COMPARE_TOUCHES = $(addprefix host/compare/,compare_touches.c fences.c) $(STATES)
-COMPARE_TOUCHES_H = host/compare/fences.h $(STATES_H)
-
-$(BUILD)/compare_touches: $(COMPARE_TOUCHES) $(COMPARE_TOUCHES_H) $(COMMON) $(COMMON_H) $(SERVICE_LIB) | x86-compiler
+$(BUILD)/compare_touches: host/compare/compare_touches.c $(STATES) $(STATES_H) $(COMMON) $(COMMON_H) $(SERVICE_LIB) | x86-compiler
 	$(X86_CC) $(PLAIN) $(STRICT) $(CFLAGS) -DEMULATOR_NOTES $(INCLUDES) $(LINKED) $(X86_LDFLAGS) -o $@
 
 # Steps over the card bus beside steps on memory that has the cards' bytes.
-$(BUILD)/compare_bus: host/compare/compare_bus.c host/examples/card_bus.c host/examples/card_bus.h host/compare/fences.c \
-		$(COMPARE_TOUCHES_H) $(STATES) $(COMMON) $(COMMON_H) $(SERVICE_LIB) | x86-compiler
+$(BUILD)/compare_bus: host/compare/compare_bus.c host/examples/card_bus.c host/examples/card_bus.h $(STATES) $(STATES_H) \
+		$(COMMON) $(COMMON_H) $(SERVICE_LIB) | x86-compiler
 	$(X86_CC) $(PLAIN) $(STRICT) $(CFLAGS) $(INCLUDES) $(LINKED) $(X86_LDFLAGS) -o $@
 
-compare-touches: given-touches $(BUILD)/compare_touches $(BUILD)/compare_bus
+compare-touches: option-touches $(BUILD)/compare_touches $(BUILD)/compare_bus
 	tools/x86 $(BUILD)/compare_touches "$$SEED" "$$TOUCHES"
 	tools/x86 $(BUILD)/compare_bus "$$SEED"
 
@@ -489,15 +491,15 @@ check-sweep: $(BUILD)/iop89
 
 # ---- PROM files: the proved reader beside one that shares nothing with it
 
-HEX = host/emulator/hex.c $(addprefix host/compare/,hex_texts.c dice.c)
-HEX_H = host/emulator/hex.h $(addprefix host/compare/,hex_texts.h dice.h) include/iop89.h include/iop89_service.h
+HEX = host/emulator/hex.c $(addprefix host/compare/,hex_texts.c random.c)
+HEX_H = host/emulator/hex.h $(addprefix host/compare/,hex_texts.h random.h) $(HEADERS)
 
-.PHONY: compare-hex bench-hex given-texts
+.PHONY: compare-hex bench-hex option-texts
 
-given-texts:
-	@tools/given number SEED && tools/given number TEXTS
+option-texts:
+	@tools/option number SEED && tools/option number TEXTS
 
-$(BUILD)/compare-hex: host/compare/compare_hex.c $(HEX) $(HEX_H) $(SERVICE_LIB) | x86-compiler
+$(BUILD)/compare-hex: host/compare/compare_hex.c $(HEX) $(HEX_H) $(TEXT_COMMON) $(TEXT_COMMON_H) $(SERVICE_LIB) | x86-compiler
 	$(X86_CC) $(PLAIN) $(STRICT) $(CFLAGS) $(INCLUDES) $(LINKED) $(X86_LDFLAGS) -o $@
 
 # What is counted is always compiled at -O2.
@@ -505,7 +507,7 @@ $(BUILD)/bench-hex: host/bench/bench_hex.c $(HEX) $(HEX_H) $(SERVICE_LIB) | x86-
 	$(X86_CC) $(PLAIN) $(STRICT) -O2 $(INCLUDES) $(LINKED) $(X86_LDFLAGS) -o $@
 
 # Compares both readers on the files of examples/prom and on random texts.
-compare-hex: given-texts $(BUILD)/compare-hex
+compare-hex: option-texts $(BUILD)/compare-hex
 	tools/x86 $(BUILD)/compare-hex "$$SEED" "$$TEXTS"
 
 # Counts the instructions of both for each byte of text.
@@ -514,15 +516,15 @@ bench-hex: count-needs $(BUILD)/bench-hex
 
 # ---- Listings: the proved lister beside one that shares nothing with it
 
-LISTING = host/emulator/listing.c host/compare/dice.c
-LISTING_H = host/emulator/listing.h host/compare/dice.h include/iop89.h include/iop89_service.h
+LISTING = host/emulator/listing.c host/compare/random.c
+LISTING_H = host/emulator/listing.h host/compare/random.h $(HEADERS)
 
-.PHONY: compare-list bench-list given-parts
+.PHONY: compare-list bench-list option-parts
 
-given-parts:
-	@tools/given number SEED && tools/given number PARTS
+option-parts:
+	@tools/option number SEED && tools/option number PARTS
 
-$(BUILD)/compare-list: host/compare/compare_list.c $(LISTING) $(LISTING_H) $(SERVICE_LIB) | x86-compiler
+$(BUILD)/compare-list: host/compare/compare_list.c $(LISTING) $(LISTING_H) $(TEXT_COMMON) $(TEXT_COMMON_H) $(SERVICE_LIB) | x86-compiler
 	$(X86_CC) $(PLAIN) $(STRICT) $(CFLAGS) $(INCLUDES) $(LINKED) $(X86_LDFLAGS) -o $@
 
 # What is counted is always compiled at -O2.
@@ -530,7 +532,7 @@ $(BUILD)/bench-list: host/bench/bench_list.c $(LISTING) $(LISTING_H) $(SERVICE_L
 	$(X86_CC) $(PLAIN) $(STRICT) -O2 $(INCLUDES) $(LINKED) $(X86_LDFLAGS) -o $@
 
 # Lists every first pair with rests of every length, random code and the rows of the notation by both listers.
-compare-list: given-parts $(BUILD)/compare-list
+compare-list: option-parts $(BUILD)/compare-list
 	tools/x86 $(BUILD)/compare-list "$$SEED" "$$PARTS" host/emulator/notation.txt
 
 # Counts the instructions of both listers for each byte that they list.
@@ -539,12 +541,12 @@ bench-list: count-needs $(BUILD)/bench-list
 
 # ---- Assembling: the proved assembler beside one in C that was written from the papers alone
 
-ASSEMBLY = $(addprefix host/emulator/,assembly.c listing.c) host/compare/dice.c
-ASSEMBLY_H = $(addprefix host/emulator/,assembly.h listing.h) host/compare/dice.h
-COMPARE_ASM = $(addprefix host/compare/,compare_asm.c asm_texts.c fences.c) $(ASSEMBLY)
-COMPARE_ASM_H = $(addprefix host/compare/,asm_texts.h fences.h) $(ASSEMBLY_H) include/iop89.h include/iop89_service.h
+ASSEMBLY = $(addprefix host/emulator/,assembly.c listing.c) host/compare/random.c
+ASSEMBLY_H = $(addprefix host/emulator/,assembly.h listing.h) host/compare/random.h
+COMPARE_ASM = $(addprefix host/compare/,compare_asm.c asm_texts.c) $(TEXT_COMMON) $(ASSEMBLY)
+COMPARE_ASM_H = host/compare/asm_texts.h $(TEXT_COMMON_H) $(ASSEMBLY_H)
 
-.PHONY: asmtest compare-asm bench-asm given-asm-texts
+.PHONY: asmtest compare-asm bench-asm option-asm-texts
 
 $(BUILD)/asmtest: host/emulator/asmtest.c $(ASSEMBLY) $(ASSEMBLY_H) | compiler
 	@mkdir -p $(BUILD)
@@ -554,8 +556,8 @@ $(BUILD)/asmtest: host/emulator/asmtest.c $(ASSEMBLY) $(ASSEMBLY_H) | compiler
 asmtest: $(BUILD)/asmtest
 	$(BUILD)/asmtest host/emulator/notation.txt examples/f59.asm
 
-given-asm-texts:
-	@tools/given number SEED && tools/given number ASM_TEXTS
+option-asm-texts:
+	@tools/option number SEED && tools/option number ASM_TEXTS
 
 $(BUILD)/compare-asm: $(COMPARE_ASM) $(COMPARE_ASM_H) $(SERVICE_LIB) | x86-compiler
 	$(X86_CC) $(PLAIN) $(STRICT) $(CFLAGS) $(INCLUDES) $(LINKED) $(X86_LDFLAGS) -o $@
@@ -565,7 +567,7 @@ $(BUILD)/bench-asm: host/bench/bench_asm.c $(ASSEMBLY) $(ASSEMBLY_H) $(HEADERS) 
 	$(X86_CC) $(PLAIN) $(STRICT) -O2 $(INCLUDES) $(LINKED) $(X86_LDFLAGS) -o $@
 
 # Assembles random texts, texts by hand and the listing of every first pair by both assemblers.
-compare-asm: given-asm-texts $(BUILD)/compare-asm
+compare-asm: option-asm-texts $(BUILD)/compare-asm
 	tools/x86 $(BUILD)/compare-asm "$$SEED" "$$ASM_TEXTS" host/emulator/notation.txt examples/f59.asm
 
 # Counts the instructions of both assemblers for each character of text.
@@ -591,19 +593,19 @@ bench-sweep: x86-machine $(BUILD)/bench-sweep
 
 # ---- Definitions: those that no law reaches, and wrong ones that the laws must refuse
 
-.PHONY: unlawed mutants given-mutants
+.PHONY: unlawed mutants option-mutants
 
 # Definitions that no law reaches, but for those that tools/unlawed.txt excuses; sources alone are read.
 unlawed:
 	@tools/need python3 python3
 	@tools/unlawed
 
-given-mutants:
-	@tools/given number SEED && tools/given number N && tools/given number FROM
+option-mutants:
+	@tools/option number SEED && tools/option number N && tools/option number FROM
 
 # Makes N wrong definitions by small changes, from the FROM-th of the seed on, and prints what refuses each; those that
 # survive are printed too, but for those of tools/mutants.txt. Polite: one process, of the lowest priority.
-mutants: given-mutants
+mutants: option-mutants
 	@tools/need rt
 	@tools/need python3 python3
 	@tools/mutants "$$SEED" "$$N" "$$FROM"

@@ -1,7 +1,7 @@
 /* Random texts for assemblers: programs of every form, jumps at the borders, many labels, loose tokens, and damage. */
 #include "asm_texts.h"
 
-#include "dice.h"
+#include "random.h"
 
 #include <ctype.h>
 #include <stdio.h>
@@ -38,7 +38,7 @@ enum fault {
 
 /* A text as it grows: how it is written, the address of its next byte, its names, and how many are defined. */
 struct maker {
-    struct dice dice;
+    struct random random;
     struct asm_case *c;
     unsigned letters; /* 0 capitals, 1 small, 2 mixed */
     unsigned blanks;  /* 0 none but where one must be, 1 spaces here and there, 2 any */
@@ -83,15 +83,15 @@ static bool in_run(const struct maker *m)
 /* Adds blanks in the text's way; at least one where one must be. */
 static void put_blanks(struct maker *m, bool must)
 {
-    unsigned count = m->blanks == 0 ? 0 : m->blanks == 1 ? chance(&m->dice, 300) : below(&m->dice, 3);
+    unsigned count = m->blanks == 0 ? 0 : m->blanks == 1 ? chance(&m->random, 300) : below(&m->random, 3);
     if (must && count == 0) count = 1;
-    while (count-- > 0) put(m, m->blanks < 2 ? ' ' : (uint8_t) " \t\r "[below(&m->dice, 4)]);
+    while (count-- > 0) put(m, m->blanks < 2 ? ' ' : (uint8_t) " \t\r "[below(&m->random, 4)]);
 }
 
 /* Adds a letter in the text's case, or another character. */
 static void put_letter(struct maker *m, char c)
 {
-    bool lower = m->letters == 1 || (m->letters == 2 && chance(&m->dice, 500));
+    bool lower = m->letters == 1 || (m->letters == 2 && chance(&m->random, 500));
     put(m, (uint8_t)(lower ? tolower(c) : c));
 }
 
@@ -113,8 +113,8 @@ static void put_mark(struct maker *m, char mark)
 static void put_comment(struct maker *m)
 {
     put_mark(m, ';');
-    for (unsigned i = below(&m->dice, 20); i > 0; i--) {
-        uint8_t byte = (uint8_t)(chance(&m->dice, 800) ? 32 + below(&m->dice, 95) : below(&m->dice, 256));
+    for (unsigned i = below(&m->random, 20); i > 0; i--) {
+        uint8_t byte = (uint8_t)(chance(&m->random, 800) ? 32 + below(&m->random, 95) : below(&m->random, 256));
         put(m, byte == '\n' ? ';' : byte);
     }
     met(m, ASM_COMMENT);
@@ -123,8 +123,8 @@ static void put_comment(struct maker *m)
 /* Ends a line, at times with a comment before. */
 static void put_line_end(struct maker *m)
 {
-    bool crlf = m->ends == 1 || (m->ends == 2 && chance(&m->dice, 500));
-    if (chance(&m->dice, 120)) put_comment(m);
+    bool crlf = m->ends == 1 || (m->ends == 2 && chance(&m->random, 500));
+    if (chance(&m->random, 120)) put_comment(m);
     else put_blanks(m, false);
     if (crlf) put(m, '\r');
     put(m, '\n');
@@ -149,7 +149,7 @@ static bool is_taken(const struct maker *m, const char *name, unsigned among)
 static void make_name(struct maker *m, char *name, unsigned length)
 {
     static const char all[] = "ABCDEFGHIJKLMNOPQRSTUVWXYZ_0123456789";
-    for (unsigned i = 0; i < length; i++) name[i] = all[below(&m->dice, i == 0 ? 27 : 37)];
+    for (unsigned i = 0; i < length; i++) name[i] = all[below(&m->random, i == 0 ? 27 : 37)];
     name[length] = '\0';
 }
 
@@ -161,7 +161,7 @@ static void make_names(struct maker *m, unsigned count)
     for (unsigned i = 0; i < count; i++) {
         do {
             unsigned length =
-                chance(&m->dice, 200) ? ASSEMBLY_LABEL_LENGTH : 1 + below(&m->dice, ASSEMBLY_LABEL_LENGTH);
+                chance(&m->random, 200) ? ASSEMBLY_LABEL_LENGTH : 1 + below(&m->random, ASSEMBLY_LABEL_LENGTH);
             make_name(m, m->names[i], length);
         } while (is_taken(m, m->names[i], i));
     }
@@ -197,17 +197,17 @@ static void put_constant(struct maker *m, unsigned value)
         {10, 0, ASM_DECIMAL}, {10, 'D', ASM_DECIMAL_D}, {16, 'H', ASM_HEXADECIMAL},
     };
     char digits[80];
-    unsigned kind = below(&m->dice, sizeof kinds / sizeof kinds[0]), at = sizeof digits - 1;
+    unsigned kind = below(&m->random, sizeof kinds / sizeof kinds[0]), at = sizeof digits - 1;
     uint64_t rest = value & 0xFFFFu;
-    if (chance(&m->dice, 60)) {
-        rest += (uint64_t)(1 + below(&m->dice, 1000000)) << 16;
+    if (chance(&m->random, 60)) {
+        rest += (uint64_t)(1 + below(&m->random, 1000000)) << 16;
         met(m, ASM_PAST_16_BITS);
     }
     digits[at] = '\0';
     if (kinds[kind].letter != 0) digits[--at] = kinds[kind].letter;
     do digits[--at] = "0123456789ABCDEF"[rest % kinds[kind].radix];
     while ((rest /= kinds[kind].radix) > 0);
-    for (unsigned zeros = chance(&m->dice, 200) ? below(&m->dice, 4) : 0; zeros > 0; zeros--) digits[--at] = '0';
+    for (unsigned zeros = chance(&m->random, 200) ? below(&m->random, 4) : 0; zeros > 0; zeros--) digits[--at] = '0';
     if (!isdigit((unsigned char)digits[at])) digits[--at] = '0';
     put_run(m, digits + at);
     met(m, kinds[kind].feature);
@@ -216,7 +216,7 @@ static void put_constant(struct maker *m, unsigned value)
 /* A value that a term may have: small or any. */
 static unsigned any_value(struct maker *m)
 {
-    return below(&m->dice, chance(&m->dice, 600) ? 300 : 65536);
+    return below(&m->random, chance(&m->random, 600) ? 300 : 65536);
 }
 
 static void put_sum(struct maker *m, unsigned value, unsigned depth);
@@ -224,7 +224,7 @@ static void put_sum(struct maker *m, unsigned value, unsigned depth);
 /* Adds a term of this value, with parentheses at times. */
 static void put_term(struct maker *m, unsigned value, unsigned depth)
 {
-    if (depth == 0 || !chance(&m->dice, 120)) {
+    if (depth == 0 || !chance(&m->random, 120)) {
         put_constant(m, value);
         return;
     }
@@ -236,8 +236,8 @@ static void put_term(struct maker *m, unsigned value, unsigned depth)
 /* Adds a term that is a name whose address is known, or any; answers its value. */
 static unsigned put_some_term(struct maker *m, unsigned depth)
 {
-    if (m->defined > 0 && chance(&m->dice, 500)) {
-        unsigned i = below(&m->dice, m->defined);
+    if (m->defined > 0 && chance(&m->random, 500)) {
+        unsigned i = below(&m->random, m->defined);
         put_run(m, m->names[i]);
         met(m, ASM_NAME_KNOWN);
         return m->addresses[i] & 0xFFFFu;
@@ -250,9 +250,9 @@ static unsigned put_some_term(struct maker *m, unsigned depth)
 /* Adds a sum of this value with at most so many parentheses open at once. */
 static void put_sum(struct maker *m, unsigned value, unsigned depth)
 {
-    unsigned terms = chance(&m->dice, 700) ? 1 : 1 + below(&m->dice, MOST_TERMS);
+    unsigned terms = chance(&m->random, 700) ? 1 : 1 + below(&m->random, MOST_TERMS);
     unsigned so_far = 0;
-    bool minus = chance(&m->dice, 80), minus_before = false;
+    bool minus = chance(&m->random, 80), minus_before = false;
     if (minus) {
         put_mark(m, '-');
         met(m, ASM_MINUS_FIRST);
@@ -261,7 +261,7 @@ static void put_sum(struct maker *m, unsigned value, unsigned depth)
         unsigned term = put_some_term(m, depth);
         so_far += minus ? 0u - term : term;
         minus_before |= minus;
-        minus = chance(&m->dice, 500);
+        minus = chance(&m->random, 500);
         put_mark(m, minus ? '-' : '+');
         if (minus_before) met(m, ASM_LEFT_TO_RIGHT);
     }
@@ -275,7 +275,7 @@ static void put_deep_sum(struct maker *m, unsigned value, unsigned depth)
         put_constant(m, value);
         return;
     }
-    unsigned kind = below(&m->dice, 4), term = any_value(m);
+    unsigned kind = below(&m->random, 4), term = any_value(m);
     if (kind == 1) put_mark(m, '-');
     if (kind >= 2) {
         put_constant(m, term);
@@ -293,7 +293,7 @@ static void put_bad_sum(struct maker *m)
                                        "5)",   "()",   "5 H",         "'A'",    "$",   "5+",    "-",
                                        "GA+1", "1+PP", "5 6",         "(5)(6)", "--5", "(1,2)", "5*2",
                                        "1.5",  "9O",   "((((((((((1", "#1",     "1GH", "2-+1",  "1D1"};
-    const char *sum = ONE_OF(&m->dice, sums);
+    const char *sum = ONE_OF(&m->random, sums);
     put_blanks(m, in_run(m));
     while (*sum != '\0') put_letter(m, *sum++);
     met(m, ASM_BAD_SUM);
@@ -304,12 +304,12 @@ static void put_unknown_name(struct maker *m)
 {
     static const char *const names[] = {"FFH", "NOP", "DB", "H", "AX", "MOVI", "ABCDEFGHIJKLM", "_"};
     char name[NAME_ROOM];
-    if (chance(&m->dice, 300)) {
+    if (chance(&m->random, 300)) {
         put_constant(m, any_value(m));
-        put_mark(m, chance(&m->dice, 500) ? '+' : '-');
+        put_mark(m, chance(&m->random, 500) ? '+' : '-');
     }
-    make_name(m, name, 1 + below(&m->dice, 13));
-    put_run(m, chance(&m->dice, 400) ? ONE_OF(&m->dice, names) : name);
+    make_name(m, name, 1 + below(&m->random, 13));
+    put_run(m, chance(&m->random, 400) ? ONE_OF(&m->random, names) : name);
     met(m, ASM_NAME_UNKNOWN);
 }
 
@@ -330,9 +330,9 @@ static void put_value(struct maker *m, unsigned value)
     } else if (fault == FAULT_NAME) {
         put_unknown_name(m);
     } else if (fault == FAULT_DEPTH) {
-        put_deep_sum(m, value, chance(&m->dice, 800) ? ASSEMBLY_DEPTH + 1 : ASSEMBLY_DEPTH + 2 + below(&m->dice, 4));
+        put_deep_sum(m, value, chance(&m->random, 800) ? ASSEMBLY_DEPTH + 1 : ASSEMBLY_DEPTH + 2 + below(&m->random, 4));
         met(m, ASM_DEPTH_9);
-    } else if (chance(&m->dice, 30)) {
+    } else if (chance(&m->random, 30)) {
         put_deep_sum(m, value, ASSEMBLY_DEPTH);
         met(m, ASM_DEPTH_8);
     } else {
@@ -356,38 +356,38 @@ static unsigned byte_value(struct maker *m)
 {
     static const unsigned borders[] = {0, 1, 127, 128, 254, 255, 0xFF80, 0xFF81, 0xFFFE, 0xFFFF};
     static const unsigned beyond[] = {256, 257, 0xFF7F, 0xFF7E, 0x7FFF, 0x8000};
-    if (takes_bad_value(m)) return chance(&m->dice, 800) ? ONE_OF(&m->dice, beyond) : 256 + below(&m->dice, 65152);
-    if (chance(&m->dice, 250)) return ONE_OF(&m->dice, borders);
-    return chance(&m->dice, 800) ? below(&m->dice, 256) : 0xFF80 + below(&m->dice, 128);
+    if (takes_bad_value(m)) return chance(&m->random, 800) ? ONE_OF(&m->random, beyond) : 256 + below(&m->random, 65152);
+    if (chance(&m->random, 250)) return ONE_OF(&m->random, borders);
+    return chance(&m->random, 800) ? below(&m->random, 256) : 0xFF80 + below(&m->random, 128);
 }
 
 /* A width. */
 static unsigned width_value(struct maker *m)
 {
     static const unsigned beyond[] = {0, 1, 7, 9, 15, 17, 24, 32, 0xFFF8, 0x108};
-    if (takes_bad_value(m)) return ONE_OF(&m->dice, beyond);
-    return chance(&m->dice, 500) ? 8 : 16;
+    if (takes_bad_value(m)) return ONE_OF(&m->random, beyond);
+    return chance(&m->random, 500) ? 8 : 16;
 }
 
 /* A bit's number. */
 static unsigned bit_value(struct maker *m)
 {
     static const unsigned beyond[] = {8, 9, 15, 0xFFFF, 0x100, 0x8000};
-    return takes_bad_value(m) ? ONE_OF(&m->dice, beyond) : below(&m->dice, 8);
+    return takes_bad_value(m) ? ONE_OF(&m->random, beyond) : below(&m->random, 8);
 }
 
 /* Adds a word: any value, at times from a name that is still to come. */
 static void put_word(struct maker *m)
 {
-    if (m->defined < m->names_count && chance(&m->dice, 150)) {
-        put_run(m, m->names[m->defined + below(&m->dice, m->names_count - m->defined)]);
+    if (m->defined < m->names_count && chance(&m->random, 150)) {
+        put_run(m, m->names[m->defined + below(&m->random, m->names_count - m->defined)]);
         met(m, ASM_NAME_AHEAD);
-        if (!chance(&m->dice, 300)) return;
-        put_mark(m, chance(&m->dice, 500) ? '+' : '-');
+        if (!chance(&m->random, 300)) return;
+        put_mark(m, chance(&m->random, 500) ? '+' : '-');
         put_term(m, any_value(m), ASSEMBLY_DEPTH);
         return;
     }
-    put_value(m, below(&m->dice, 65536));
+    put_value(m, below(&m->random, 65536));
 }
 
 /* A distance that one byte reaches, or just does not. */
@@ -395,22 +395,22 @@ static unsigned short_distance(struct maker *m)
 {
     static const unsigned borders[] = {0, 127, 0xFF80, 126, 0xFF81};
     static const unsigned beyond[] = {128, 129, 0xFF7F, 0xFF7E, 0x8000, 0x7FFF, 255};
-    if (takes_bad_value(m)) return ONE_OF(&m->dice, beyond);
-    if (chance(&m->dice, 300)) return ONE_OF(&m->dice, borders);
-    return (below(&m->dice, 256) - 128u) & 0xFFFFu;
+    if (takes_bad_value(m)) return ONE_OF(&m->random, beyond);
+    if (chance(&m->random, 300)) return ONE_OF(&m->random, borders);
+    return (below(&m->random, 256) - 128u) & 0xFFFFu;
 }
 
 /* Adds a target of a short word behind which is `end`: by number, by a label that is near, or by the next one. */
 static void put_short_target(struct maker *m, uint32_t end)
 {
-    for (unsigned i = m->defined; m->fault == NO_FAULT && i-- > 0 && chance(&m->dice, 600);) {
+    for (unsigned i = m->defined; m->fault == NO_FAULT && i-- > 0 && chance(&m->random, 600);) {
         unsigned distance = (m->addresses[i] - end) & 0xFFFFu;
         if (distance >= 128 && distance < 0xFF80) continue;
         put_run(m, m->names[i]);
         met(m, ASM_NAME_KNOWN);
         return;
     }
-    if (m->fault == NO_FAULT && m->defined < m->names_count && chance(&m->dice, 250)) {
+    if (m->fault == NO_FAULT && m->defined < m->names_count && chance(&m->random, 250)) {
         put_run(m, m->names[m->defined]);
         met(m, ASM_NAME_AHEAD);
         return;
@@ -424,14 +424,14 @@ static void put_short_target(struct maker *m, uint32_t end)
 static unsigned some_register(struct maker *m, char letter)
 {
     static const unsigned but_cc[] = {0, 1, 2, 3, 4, 5, 7}, pointers[] = {0, 1, 2, 4};
-    return letter == 'G' ? ONE_OF(&m->dice, but_cc) : letter == 'P' ? ONE_OF(&m->dice, pointers) : below(&m->dice, 8);
+    return letter == 'G' ? ONE_OF(&m->random, but_cc) : letter == 'P' ? ONE_OF(&m->random, pointers) : below(&m->random, 8);
 }
 
 /* Adds an operand in memory. */
 static void put_memory(struct maker *m, unsigned mode)
 {
     static const unsigned bases[] = {0, 1, 2, 8};
-    unsigned base = below(&m->dice, 4);
+    unsigned base = below(&m->random, 4);
     m->c->modes[mode]++;
     m->c->bases[base]++;
     put_mark(m, '[');
@@ -494,12 +494,12 @@ static struct plan plan_of(struct maker *m, const struct assembly_form *form)
 {
     struct plan p = {form, form->operands, {0}, 1, 2};
     if (form->operands[0] == 'B' || form->operands[0] == 'W') {
-        p.items = chance(&m->dice, m->next == NO_FAULT ? 500 : 100) ? 1 : 1 + below(&m->dice, MOST_ITEMS);
+        p.items = chance(&m->random, m->next == NO_FAULT ? 500 : 100) ? 1 : 1 + below(&m->random, MOST_ITEMS);
         p.size = form->operands[0] == 'B' ? p.items : 2 * p.items;
         return p;
     }
     for (unsigned i = 0; form->operands[i] != '\0'; i++) {
-        p.modes[i] = below(&m->dice, 4);
+        p.modes[i] = below(&m->random, 4);
         p.size += planned_size(form->operands[i], p.modes[i]);
     }
     return p;
@@ -521,8 +521,8 @@ static void put_operands(struct maker *m, const struct plan *p, uint32_t end)
         }
     }
     if (m->fault != FAULT_OPERAND_MORE) return;
-    if (chance(&m->dice, 800)) put_mark(m, ',');
-    if (chance(&m->dice, 800)) put_operand(m, "RMbb"[below(&m->dice, 4)], below(&m->dice, 4), end);
+    if (chance(&m->random, 800)) put_mark(m, ',');
+    if (chance(&m->random, 800)) put_operand(m, "RMbb"[below(&m->random, 4)], below(&m->random, 4), end);
     met(m, ASM_OPERAND_MORE);
 }
 
@@ -530,8 +530,8 @@ static void put_operands(struct maker *m, const struct plan *p, uint32_t end)
 static void make_near_word(struct maker *m, char *name)
 {
     do {
-        const char *word = ONE_OF(&m->dice, assembly_forms).word;
-        unsigned pick = below(&m->dice, 5);
+        const char *word = ONE_OF(&m->random, assembly_forms).word;
+        unsigned pick = below(&m->random, 5);
         snprintf(name, NAME_ROOM, "%s%s%s", pick == 0 ? "L" : "", word + (pick == 1),
                  pick == 2   ? "B"
                  : pick == 3 ? "I"
@@ -546,12 +546,12 @@ static void put_bad_word(struct maker *m)
     static const char *const words[] = {"EQU", "DS",     "DD",    "ORG",  "STRUC", "SEGMENT", "ENDS", "END",
                                         "GA",  "PUBLIC", "EXTRN", "NAME", "SET",   "5",       "PP",   "0AH"};
     static const char marks[] = "&:,[($'#.-\\/\x80\xFF\x01";
-    unsigned pick = below(&m->dice, 4);
+    unsigned pick = below(&m->random, 4);
     char name[NAME_ROOM];
-    if (pick == 1) make_name(m, name, 1 + below(&m->dice, 12));
+    if (pick == 1) make_name(m, name, 1 + below(&m->random, 12));
     else make_near_word(m, name);
-    if (pick == 0) put_mark(m, marks[below(&m->dice, sizeof marks - 1)]);
-    else put_run(m, pick < 3 ? name : ONE_OF(&m->dice, words));
+    if (pick == 0) put_mark(m, marks[below(&m->random, sizeof marks - 1)]);
+    else put_run(m, pick < 3 ? name : ONE_OF(&m->random, words));
     met(m, ASM_BAD_WORD);
 }
 
@@ -563,7 +563,7 @@ static void put_planned(struct maker *m, struct plan *p)
     if (m->fault == FAULT_WORD) put_bad_word(m);
     else put_run(m, p->form->word);
     if (m->fault == FAULT_OTHER_OPERANDS) {
-        p->letters = ONE_OF(&m->dice, assembly_forms).operands;
+        p->letters = ONE_OF(&m->random, assembly_forms).operands;
         met(m, ASM_OTHER_OPERANDS);
     }
     put_operands(m, p, end);
@@ -576,14 +576,14 @@ static void put_bad_label(struct maker *m)
 {
     char name[NAME_ROOM];
     if (m->fault == FAULT_LONG_LABEL) {
-        make_name(m, name, ASSEMBLY_LABEL_LENGTH + 1 + (chance(&m->dice, 200) ? 2 : 0));
+        make_name(m, name, ASSEMBLY_LABEL_LENGTH + 1 + (chance(&m->random, 200) ? 2 : 0));
         put_label_name(m, name);
         met(m, ASM_LABEL_OF_13);
     } else if (m->fault == FAULT_RESERVED) {
-        put_label_name(m, chance(&m->dice, 500) ? ONE_OF(&m->dice, registers) : ONE_OF(&m->dice, assembly_forms).word);
+        put_label_name(m, chance(&m->random, 500) ? ONE_OF(&m->random, registers) : ONE_OF(&m->random, assembly_forms).word);
         met(m, ASM_LABEL_RESERVED);
     } else {
-        put_label_name(m, m->names[below(&m->dice, m->defined)]);
+        put_label_name(m, m->names[below(&m->random, m->defined)]);
         met(m, ASM_LABEL_TWICE);
     }
 }
@@ -597,17 +597,17 @@ static bool needs_sum(enum fault fault)
 /* A form for the line's fault. */
 static const struct assembly_form *some_form(struct maker *m)
 {
-    const struct assembly_form *form = &ONE_OF(&m->dice, assembly_forms);
+    const struct assembly_form *form = &ONE_OF(&m->random, assembly_forms);
     const char *wanted = m->fault == FAULT_VALUE ? "Bbnsdt" : "BbnsdwWT";
-    if (m->next != NO_FAULT && chance(&m->dice, 200)) wanted = "B";
-    while (needs_sum(m->fault) && strpbrk(form->operands, wanted) == NULL) form = &ONE_OF(&m->dice, assembly_forms);
+    if (m->next != NO_FAULT && chance(&m->random, 200)) wanted = "B";
+    while (needs_sum(m->fault) && strpbrk(form->operands, wanted) == NULL) form = &ONE_OF(&m->random, assembly_forms);
     return form;
 }
 
 /* Any fault. */
 static enum fault some_fault(struct maker *m)
 {
-    return (enum fault)(1 + below(&m->dice, FAULTS - 1));
+    return (enum fault)(1 + below(&m->random, FAULTS - 1));
 }
 
 /* Adds a label before a planned word, at times, or one that is the line's fault. */
@@ -616,7 +616,7 @@ static void put_some_label(struct maker *m, const struct plan *p)
     if (m->fault == FAULT_LONG_LABEL || m->fault == FAULT_RESERVED || (m->fault == FAULT_TWICE && m->defined > 0)) {
         put_bad_label(m);
         take_fault(m);
-    } else if (m->defined < m->names_count && chance(&m->dice, 350)) {
+    } else if (m->defined < m->names_count && chance(&m->random, 350)) {
         put_label(m);
         met(m, strpbrk(p->letters, "BW") != NULL ? ASM_LABEL_BEFORE_DATA : ASM_LABEL_BEFORE_CODE);
     }
@@ -626,7 +626,7 @@ static void put_some_label(struct maker *m, const struct plan *p)
 static void put_word_line(struct maker *m, enum fault fault)
 {
     m->fault = fault;
-    m->next = fault != NO_FAULT && chance(&m->dice, 400) ? some_fault(m) : NO_FAULT;
+    m->next = fault != NO_FAULT && chance(&m->random, 400) ? some_fault(m) : NO_FAULT;
     struct plan p = plan_of(m, some_form(m));
     put_some_label(m, &p);
     put_planned(m, &p);
@@ -638,14 +638,14 @@ static void put_word_line(struct maker *m, enum fault fault)
 /* A first address: near the top of 65,536, low, or any. */
 static uint32_t first_address(struct maker *m)
 {
-    unsigned pick = below(&m->dice, 4);
-    return pick == 0 ? 0xFFFFu - below(&m->dice, 160) : pick == 1 ? below(&m->dice, 160) : (uint32_t)roll(&m->dice);
+    unsigned pick = below(&m->random, 4);
+    return pick == 0 ? 0xFFFFu - below(&m->random, 160) : pick == 1 ? below(&m->random, 160) : (uint32_t)roll(&m->random);
 }
 
 /* Adds a blank line, a comment, or a label alone. */
 static void put_other_line(struct maker *m)
 {
-    unsigned pick = below(&m->dice, 3);
+    unsigned pick = below(&m->random, 3);
     if (pick == 0 && m->defined < m->names_count) {
         put_label(m);
         met(m, ASM_LABEL_ALONE);
@@ -670,7 +670,7 @@ static void put_last_labels(struct maker *m)
 /* Takes the last line's end away, at times. */
 static void open_end(struct maker *m)
 {
-    if (m->c->text_len == 0 || m->c->text[m->c->text_len - 1] != '\n' || !chance(&m->dice, 400)) return;
+    if (m->c->text_len == 0 || m->c->text[m->c->text_len - 1] != '\n' || !chance(&m->random, 400)) return;
     m->c->text_len--;
     met(m, ASM_NO_LAST_LINE_END);
 }
@@ -678,14 +678,14 @@ static void open_end(struct maker *m)
 /* A program: lines of any form, of which none, one or two have a fault. */
 static void make_program(struct maker *m)
 {
-    unsigned lines = 1 + below(&m->dice, MOST_LINES), faults = chance(&m->dice, 550) ? 0 : 1 + chance(&m->dice, 300);
-    make_names(m, below(&m->dice, lines < 10 ? lines + 1 : 10));
+    unsigned lines = 1 + below(&m->random, MOST_LINES), faults = chance(&m->random, 550) ? 0 : 1 + chance(&m->random, 300);
+    make_names(m, below(&m->random, lines < 10 ? lines + 1 : 10));
     for (unsigned left = lines; left > 0; left--) {
-        bool faulty = below(&m->dice, left) < faults || (left == 1 && chance(&m->dice, 50));
+        bool faulty = below(&m->random, left) < faults || (left == 1 && chance(&m->random, 50));
         if (faulty && faults > 0) faults--;
-        if (left == 1 && chance(&m->dice, 500)) put_last_labels(m);
+        if (left == 1 && chance(&m->random, 500)) put_last_labels(m);
         if (faulty) put_word_line(m, some_fault(m));
-        else if (chance(&m->dice, 120)) put_other_line(m);
+        else if (chance(&m->random, 120)) put_other_line(m);
         else put_word_line(m, NO_FAULT);
         put_line_end(m);
     }
@@ -697,7 +697,7 @@ static void make_program(struct maker *m)
 static void put_filler(struct maker *m, unsigned bytes)
 {
     while (bytes > 0) {
-        unsigned now = bytes < 2 || chance(&m->dice, 300) ? 1 : bytes > 40 ? 40 : 2;
+        unsigned now = bytes < 2 || chance(&m->random, 300) ? 1 : bytes > 40 ? 40 : 2;
         if (now == 2) put_run(m, "NOP");
         for (unsigned i = 0; now != 2 && i < now; i++) {
             if (i == 0) put_run(m, "DB");
@@ -712,9 +712,9 @@ static void put_filler(struct maker *m, unsigned bytes)
 /* A form whose target is at one byte, or at two. */
 static const struct assembly_form *jump_form(struct maker *m)
 {
-    const char *letter = chance(&m->dice, 850) ? "t" : "T";
-    const struct assembly_form *form = &ONE_OF(&m->dice, assembly_forms);
-    while (strpbrk(form->operands, letter) == NULL) form = &ONE_OF(&m->dice, assembly_forms);
+    const char *letter = chance(&m->random, 850) ? "t" : "T";
+    const struct assembly_form *form = &ONE_OF(&m->random, assembly_forms);
+    while (strpbrk(form->operands, letter) == NULL) form = &ONE_OF(&m->random, assembly_forms);
     return form;
 }
 
@@ -757,9 +757,9 @@ static void met_distance(struct maker *m, const struct plan *p, int distance, ui
 /* A label that one byte reaches from `end`, at times one that it just does not; -1 where a few tries find none. */
 static int label_in_reach(struct maker *m, uint32_t end)
 {
-    unsigned beyond = chance(&m->dice, 8) ? 4 : 0;
+    unsigned beyond = chance(&m->random, 8) ? 4 : 0;
     for (unsigned tries = 0; tries < 12; tries++) {
-        unsigned i = below(&m->dice, m->names_count), distance = (m->addresses[i] - end + 128 + beyond) & 0xFFFFu;
+        unsigned i = below(&m->random, m->names_count), distance = (m->addresses[i] - end + 128 + beyond) & 0xFFFFu;
         if (distance < 256 + 2 * beyond) return (int)i;
     }
     return -1;
@@ -769,13 +769,13 @@ static int label_in_reach(struct maker *m, uint32_t end)
 static void put_known_jump(struct maker *m, const struct plan *p, uint32_t end)
 {
     bool is_short = strchr(p->letters, 't') != NULL;
-    int label = is_short ? label_in_reach(m, end) : (int)below(&m->dice, m->names_count);
+    int label = is_short ? label_in_reach(m, end) : (int)below(&m->random, m->names_count);
     uint32_t target = label >= 0 ? m->addresses[label] : end + short_distance(m);
     put_run(m, p->form->word);
     for (unsigned i = 0; p->letters[i] != '\0'; i++) {
         if (i > 0) put_mark(m, ',');
         if (tolower(p->letters[i]) != 't') put_operand(m, p->letters[i], p->modes[i], end);
-        else if (label >= 0 && chance(&m->dice, 700)) put_run(m, m->names[label]);
+        else if (label >= 0 && chance(&m->random, 700)) put_run(m, m->names[label]);
         else put_value(m, target);
     }
     met_distance(m, p, (int)((target - end + 0x8000u) & 0xFFFFu) - 0x8000, end);
@@ -787,11 +787,11 @@ static void make_jumps(struct maker *m)
 {
     struct plan plans[MOST_JUMPS];
     bool labelled[MOST_JUMPS];
-    unsigned count = 2 + below(&m->dice, MOST_JUMPS - 1), label = 0;
-    make_names(m, 1 + below(&m->dice, 12));
+    unsigned count = 2 + below(&m->random, MOST_JUMPS - 1), label = 0;
+    make_names(m, 1 + below(&m->random, 12));
     for (unsigned i = 0; i < count; i++) {
         plans[i] = plan_of(m, jump_form(m));
-        labelled[i] = label < m->names_count && (count - i <= m->names_count - label || chance(&m->dice, 200));
+        labelled[i] = label < m->names_count && (count - i <= m->names_count - label || chance(&m->random, 200));
         if (labelled[i]) m->addresses[label++] = m->address;
         m->address += plans[i].size;
     }
@@ -801,7 +801,7 @@ static void make_jumps(struct maker *m)
     label = 0;
     for (unsigned i = 0; i < count; i++) {
         if (labelled[i]) put_label_name(m, m->names[label++]);
-        if (labelled[i] && chance(&m->dice, 300)) put_line_end(m);
+        if (labelled[i] && chance(&m->random, 300)) put_line_end(m);
         put_known_jump(m, &plans[i], m->address += plans[i].size);
         put_line_end(m);
     }
@@ -818,11 +818,11 @@ static void make_border(struct maker *m)
 {
     static const int distances[] = {126, 127, 127, 128, 128, 129, 132, -127, -128, -128, -129, -129, -130, -133};
     struct plan p = plan_of(m, jump_form(m));
-    bool failed = chance(&m->dice, 300);
-    int distance = failed ? 122 + (int)below(&m->dice, 12) : ONE_OF(&m->dice, distances);
-    unsigned before = chance(&m->dice, 500) ? below(&m->dice, 4) : 0;
+    bool failed = chance(&m->random, 300);
+    int distance = failed ? 122 + (int)below(&m->random, 12) : ONE_OF(&m->random, distances);
+    unsigned before = chance(&m->random, 500) ? below(&m->random, 4) : 0;
     unsigned between = distance < 0 ? (unsigned)-distance - p.size : (unsigned)distance;
-    unsigned part = below(&m->dice, between + 1);
+    unsigned part = below(&m->random, between + 1);
     make_names(m, 1);
     char name[NAME_ROOM];
     memcpy(name, m->names[0], sizeof name);
@@ -830,7 +830,7 @@ static void make_border(struct maker *m)
     if (distance < 0) {
         m->address += before;
         put_label(m);
-        if (chance(&m->dice, 500)) put_line_end(m);
+        if (chance(&m->random, 500)) put_line_end(m);
     } else {
         put_jump(m, &p, name);
     }
@@ -846,21 +846,21 @@ static void make_border(struct maker *m)
 /* Labels about as many as may be kept, the last of them used before or behind. */
 static void make_many_labels(struct maker *m)
 {
-    unsigned count = ASSEMBLY_LABELS - 2 + below(&m->dice, 5);
+    unsigned count = ASSEMBLY_LABELS - 2 + below(&m->random, 5);
     make_names(m, count);
-    if (chance(&m->dice, 400)) {
+    if (chance(&m->random, 400)) {
         put_run(m, "DW");
         put_run(m, m->names[count - 1]);
         put_line_end(m);
     }
     for (unsigned i = 0; i < count; i++) {
         put_label(m);
-        if (chance(&m->dice, 200)) put_run(m, "HLT");
+        if (chance(&m->random, 200)) put_run(m, "HLT");
         put_line_end(m);
     }
-    if (chance(&m->dice, 400)) {
+    if (chance(&m->random, 400)) {
         put_run(m, "LJMP");
-        put_run(m, m->names[below(&m->dice, count)]);
+        put_run(m, m->names[below(&m->random, count)]);
     }
     if (count == ASSEMBLY_LABELS) met(m, ASM_LABELS_64);
     if (count == ASSEMBLY_LABELS + 1) met(m, ASM_LABELS_65);
@@ -871,15 +871,15 @@ static void make_tokens(struct maker *m)
 {
     static const char marks[] = "[[]]()++--..,,,,:;'$&";
     make_names(m, 4);
-    for (unsigned lines = 1 + below(&m->dice, 5); lines > 0; lines--) {
-        if (chance(&m->dice, 300)) put_label_name(m, ONE_OF(&m->dice, m->names));
-        if (chance(&m->dice, 800)) put_run(m, ONE_OF(&m->dice, assembly_forms).word);
-        for (unsigned i = below(&m->dice, 10); i > 0; i--) {
-            unsigned pick = below(&m->dice, 10);
-            if (pick < 5) put_mark(m, marks[below(&m->dice, sizeof marks - 1)]);
-            else if (pick < 7) put_run(m, ONE_OF(&m->dice, registers));
+    for (unsigned lines = 1 + below(&m->random, 5); lines > 0; lines--) {
+        if (chance(&m->random, 300)) put_label_name(m, ONE_OF(&m->random, m->names));
+        if (chance(&m->random, 800)) put_run(m, ONE_OF(&m->random, assembly_forms).word);
+        for (unsigned i = below(&m->random, 10); i > 0; i--) {
+            unsigned pick = below(&m->random, 10);
+            if (pick < 5) put_mark(m, marks[below(&m->random, sizeof marks - 1)]);
+            else if (pick < 7) put_run(m, ONE_OF(&m->random, registers));
             else if (pick < 9) put_constant(m, any_value(m));
-            else put_run(m, m->names[below(&m->dice, 4)]);
+            else put_run(m, m->names[below(&m->random, 4)]);
         }
         put_line_end(m);
     }
@@ -920,9 +920,9 @@ static void damage(struct maker *m)
 {
     static const char odd[] = "[]()+-.,:; \t\r\n_GAPX0123456789BDHQO'$";
     if (m->c->text_len == 0) return;
-    size_t at = below(&m->dice, m->c->text_len), behind, from = line_around(m, at, &behind);
-    uint8_t byte = (uint8_t)(chance(&m->dice, 850) ? odd[below(&m->dice, sizeof odd - 1)] : (char)below(&m->dice, 256));
-    enum asm_feature what = (enum asm_feature)(ASM_OTHER_BYTE + below(&m->dice, ASM_CUT_OFF + 1 - ASM_OTHER_BYTE));
+    size_t at = below(&m->random, m->c->text_len), behind, from = line_around(m, at, &behind);
+    uint8_t byte = (uint8_t)(chance(&m->random, 850) ? odd[below(&m->random, sizeof odd - 1)] : (char)below(&m->random, 256));
+    enum asm_feature what = (enum asm_feature)(ASM_OTHER_BYTE + below(&m->random, ASM_CUT_OFF + 1 - ASM_OTHER_BYTE));
     if (what == ASM_OTHER_BYTE) m->c->text[at] = byte;
     if (what == ASM_BYTE_LOST) take_out(m, at, 1);
     if (what == ASM_BYTE_MORE) {
@@ -941,23 +941,23 @@ void make_asm_case(struct asm_case *c, uint64_t seed, uint64_t number)
 {
     static const enum asm_feature letters[] = {ASM_CAPITALS, ASM_SMALL_LETTERS, ASM_MIXED_LETTERS};
     static const enum asm_feature blanks[] = {ASM_TIGHT, ASM_SPACES, ASM_ANY_BLANKS};
-    struct maker m = {.dice = seeded(seed, number), .c = c};
+    struct maker m = {.random = seeded(seed, number), .c = c};
     uint8_t *text = c->text;
     memset(c, 0, sizeof *c);
     c->text = text;
     c->first = m.address = first_address(&m);
-    m.letters = below(&m.dice, 3);
-    m.blanks = below(&m.dice, 3);
-    m.ends = below(&m.dice, 3);
+    m.letters = below(&m.random, 3);
+    m.blanks = below(&m.random, 3);
+    m.ends = below(&m.random, 3);
     met(&m, letters[m.letters]);
     met(&m, blanks[m.blanks]);
-    unsigned pick = below(&m.dice, 100);
+    unsigned pick = below(&m.random, 100);
     if (pick < 60) make_program(&m);
     else if (pick < 78) make_border(&m);
     else if (pick < 87) make_jumps(&m);
     else if (pick < 92) make_many_labels(&m);
     else make_tokens(&m);
-    if (chance(&m.dice, pick < 60 ? 300 : 100)) damage(&m);
+    if (chance(&m.random, pick < 60 ? 300 : 100)) damage(&m);
 }
 
 /* A feature's name, and the number that it must have been met with. */

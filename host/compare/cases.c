@@ -7,13 +7,13 @@
 /* ---- Sizes and arguments ---- */
 
 /* A length of up to most bytes, often a short one. */
-static size_t some_length(struct dice *d, uint32_t most)
+static size_t some_length(struct random *d, uint32_t most)
 {
     return chance(d, 500) ? below(d, most / 8 + 1) : below(d, most + 1);
 }
 
 /* Both buffers' lengths: mostly small, at times any length, the limit, or one under or over it. */
-static void choose_lengths(struct dice *d, struct run_case *c)
+static void choose_lengths(struct random *d, struct run_case *c)
 {
     unsigned kind = below(d, 1000);
     c->sys_len = 256 + some_length(d, 3840);
@@ -42,7 +42,7 @@ static void choose_lengths(struct dice *d, struct run_case *c)
     }
 }
 
-uint32_t choose_cp(struct dice *d, size_t sys_len)
+uint32_t choose_cp(struct random *d, size_t sys_len)
 {
     unsigned kind = below(d, 1000);
     uint32_t end = (uint32_t)sys_len;
@@ -56,7 +56,7 @@ uint32_t choose_cp(struct dice *d, size_t sys_len)
 }
 
 /* Lines for a run; the channel's own EXT, which ends much, is the rarest. */
-static uint32_t choose_lines(struct dice *d, uint32_t channel)
+static uint32_t choose_lines(struct random *d, uint32_t channel)
 {
     uint32_t own = channel == 2 ? 1 : 0, lines = below(d, 16) & ~(5u << own);
     if (chance(d, 700)) lines |= 1u << own;
@@ -65,7 +65,7 @@ static uint32_t choose_lines(struct dice *d, uint32_t channel)
 }
 
 /* A step limit: 0, 1, few, many, the largest. */
-static uint32_t choose_limit(struct dice *d)
+static uint32_t choose_limit(struct random *d)
 {
     unsigned kind = below(d, 1000);
     if (kind < 20) return 0;
@@ -77,7 +77,7 @@ static uint32_t choose_limit(struct dice *d)
 }
 
 /* Spoils arguments, at times several at once, since their refusals have an order. */
-static void spoil(struct dice *d, struct run_case *c)
+static void spoil(struct random *d, struct run_case *c)
 {
     static const uint32_t channels[] = {0, 3, 4, 255, 257, 65537, 65538, 0x80000001, 0xFFFFFFFF};
     static const uint32_t lines[] = {16, 17, 31, 255, 256, 65536, 0x80000000, 0xFFFFFFFF};
@@ -91,7 +91,7 @@ static void spoil(struct dice *d, struct run_case *c)
 }
 
 /* All arguments of a case. */
-static void choose_arguments(struct dice *d, struct run_case *c)
+static void choose_arguments(struct random *d, struct run_case *c)
 {
     choose_lengths(d, c);
     c->cp = choose_cp(d, c->sys_len);
@@ -103,7 +103,7 @@ static void choose_arguments(struct dice *d, struct run_case *c)
 
 /* ---- Bytes ---- */
 
-void fill(struct dice *d, uint8_t *bytes, size_t length)
+void fill(struct random *d, uint8_t *bytes, size_t length)
 {
     unsigned kind = below(d, 4);
     memset(bytes, kind == 1 ? (int)below(d, 256) : 0, length);
@@ -136,14 +136,14 @@ struct placing {
 };
 
 /* A CCW: a start in the wanted space, at times another command, with any upper bits. */
-static uint8_t choose_ccw(struct dice *d, struct placing how)
+static uint8_t choose_ccw(struct random *d, struct placing how)
 {
     uint32_t command = how.in_io ? 1 : 3;
     return (uint8_t)((!how.orderly && chance(d, 60) ? below(d, 8) : command) | below(d, 32) << 3);
 }
 
 /* The parameter block's address: behind the control block, or anywhere in lent memory. */
-static uint32_t choose_pb(struct dice *d, const struct run_case *c, struct placing how)
+static uint32_t choose_pb(struct random *d, const struct run_case *c, struct placing how)
 {
     uint32_t behind = (c->cp & MASK20) + 16 + below(d, 16);
     bool fits = behind + 64 < c->sys_len;
@@ -151,7 +151,7 @@ static uint32_t choose_pb(struct dice *d, const struct run_case *c, struct placi
 }
 
 /* The program's address: behind the parameter block, or anywhere in its space, at times across its top. */
-static uint32_t choose_tp(struct dice *d, const struct run_case *c, struct placing how, uint32_t pb, unsigned length)
+static uint32_t choose_tp(struct random *d, const struct run_case *c, struct placing how, uint32_t pb, unsigned length)
 {
     size_t lent = how.in_io ? c->io_len : c->sys_len;
     bool fits = !how.in_io && pb + 48 + length < lent;
@@ -162,7 +162,7 @@ static uint32_t choose_tp(struct dice *d, const struct run_case *c, struct placi
 }
 
 /* Puts parameter block, program and control block into memory. */
-static void place_image(struct dice *d, struct run_case *c, struct placing how, const struct program *p)
+static void place_image(struct random *d, struct run_case *c, struct placing how, const struct program *p)
 {
     uint8_t block[6] = {choose_ccw(d, how), (uint8_t)below(d, 256), 0, 0, 0, 0};
     uint8_t words[4];
@@ -179,7 +179,7 @@ static void place_image(struct dice *d, struct run_case *c, struct placing how, 
 }
 
 /* The arguments of a case that is about one pair: memory in which a program runs well. */
-static void choose_pair_arguments(struct dice *d, struct run_case *c)
+static void choose_pair_arguments(struct random *d, struct run_case *c)
 {
     c->sys_len = 1024 + below(d, 1024);
     c->io_len = 512 + below(d, 512);
@@ -190,7 +190,7 @@ static void choose_pair_arguments(struct dice *d, struct run_case *c)
 }
 
 /* Puts a program around one first pair into memory, so that it runs well. */
-static void put_pair(struct dice *d, struct run_case *c, unsigned pair)
+static void put_pair(struct random *d, struct run_case *c, unsigned pair)
 {
     static struct program p;
     new_program(&p, d, c->sys_len, c->io_len);
@@ -199,7 +199,7 @@ static void put_pair(struct dice *d, struct run_case *c, unsigned pair)
     place_image(d, c, how, &p);
 }
 
-void put_program(struct dice *d, struct run_case *c)
+void put_program(struct random *d, struct run_case *c)
 {
     static struct program p;
     new_program(&p, d, c->sys_len, c->io_len);
@@ -212,7 +212,7 @@ void put_program(struct dice *d, struct run_case *c)
 
 void make_case(struct run_case *c, uint64_t seed, uint64_t number)
 {
-    struct dice d = seeded(seed, number);
+    struct random d = seeded(seed, number);
     bool about_pair = number % 3 == 0;
     if (about_pair) choose_pair_arguments(&d, c);
     else choose_arguments(&d, c);
@@ -225,14 +225,14 @@ void make_case(struct run_case *c, uint64_t seed, uint64_t number)
 /* ---- Boards ---- */
 
 /* Writes a doubleword pointer to an address at another. */
-static void put_far(struct dice *d, const struct run_case *c, put_byte put_it, uint32_t at, uint32_t to)
+static void put_far(struct random *d, const struct run_case *c, put_byte put_it, uint32_t at, uint32_t to)
 {
     uint8_t bytes[4];
     as_doubleword(d, to & MASK20, bytes);
     for (uint32_t i = 0; i < 4; i++) put_it(c, (at + i) & MASK20, bytes[i]);
 }
 
-void put_board(struct dice *d, const struct run_case *c, put_byte put_it)
+void put_board(struct random *d, const struct run_case *c, put_byte put_it)
 {
     uint32_t block = chance(d, 600) ? 0xFFFF0 - below(d, 64) : choose_cp(d, c->sys_len) & MASK20;
     uint32_t control = chance(d, 800) ? c->cp : choose_cp(d, c->sys_len);
@@ -249,7 +249,7 @@ void put_board(struct dice *d, const struct run_case *c, put_byte put_it)
 enum { LONG_EVERY = 60, COMMAND_EVERY = 10, REFUSED_EVERY = 15, SEARCH_EVERY = 3 };
 
 /* An image's length: mostly enough for a program, at times hardly anything or exactly the limit. */
-static size_t panel_length(struct dice *d, uint64_t number)
+static size_t panel_length(struct random *d, uint64_t number)
 {
     unsigned kind = below(d, 1000);
     size_t over = kind < 500 ? 1 : 1 + below(d, PANEL_ROOM - PANEL_LIMIT);
@@ -260,7 +260,7 @@ static size_t panel_length(struct dice *d, uint64_t number)
 
 size_t make_panel_image(uint8_t sys[PANEL_ROOM], uint64_t seed, uint64_t number)
 {
-    struct dice d = seeded(seed, number);
+    struct random d = seeded(seed, number);
     static struct program p;
     static uint8_t io[PANEL_IO];
     struct run_case c = {sys, io, panel_length(&d, number), sizeof io, 0, 1, 0, 0};

@@ -20,7 +20,7 @@ void make_case(struct run_case *c, uint64_t seed, uint64_t number);
 
 /* Puts a random program with its parameter block into memory that has bytes already, and the block that starts it where
  * the case's channel has it. */
-void put_program(struct dice *d, struct run_case *c);
+void put_program(struct random *d, struct run_case *c);
 
 /* The length from which on a memory can have a board: its last byte is at FFFFBh. */
 enum { BOARD_LENGTH = 0xFFFFC };
@@ -30,7 +30,7 @@ typedef void (*put_byte)(const struct run_case *c, uint32_t address, uint8_t byt
 
 /* Writes a board's bytes: SYSBUS, the pointer to a configuration block, near the top or anywhere, and there SOC and the
  * pointer to the case's control block, at times to another. */
-void put_board(struct dice *d, const struct run_case *c, put_byte put_it);
+void put_board(struct random *d, const struct run_case *c, put_byte put_it);
 
 /* The most that the panel's program reads, room for longer images, and its I/O bytes. */
 enum { PANEL_LIMIT = 4096, PANEL_ROOM = 6000, PANEL_IO = 256 };
@@ -39,9 +39,9 @@ enum { PANEL_LIMIT = 4096, PANEL_ROOM = 6000, PANEL_IO = 256 };
 size_t make_panel_image(uint8_t sys[PANEL_ROOM], uint64_t seed, uint64_t number);
 
 /* Where a control block is: near 0, near the end of lent memory, near the top, anywhere, or no address. */
-uint32_t choose_cp(struct dice *d, size_t sys_len);
+uint32_t choose_cp(struct random *d, size_t sys_len);
 
 /* Fills a buffer with zeros, one byte, random bytes, or mostly zeros. */
-void fill(struct dice *d, uint8_t *bytes, size_t length);
+void fill(struct random *d, uint8_t *bytes, size_t length);
 
 #endif

@@ -1,53 +1,33 @@
 /* Compares the library's run with the independent emulator's over random cases: the answer and every lent byte. */
 #include "cases.h"
 #include "emulator/emulator.h"
-#include "fences.h"
 #include "iop89.h"
-#include "met.h"
+#include "lent.h"
+#include "coverage.h"
+#include "options.h"
 
 #include <inttypes.h>
 #include <signal.h>
 #include <stdlib.h>
 #include <string.h>
-#include <time.h>
 
 /* How many differences are shown in full, and how many bytes of each. */
 enum { SHOWN_DIFFERENCES = 3, SHOWN_BYTES = 16 };
 
-/* Cases after which everything that can be met must have been met. */
-#define CASES_TO_MEET_ALL 200000u
-
-/* Two buffers for one side of the comparison. */
-struct side {
-    uint8_t *sys, *io;
-};
+static const struct comparison comparison = {"compare", "case", "cases", 200000};
 
 /* The case as it was made, and the emulator's and the library's copy of its buffers. */
-static struct side made, emulated, proved;
+static struct machine made, emulated, proved;
 static struct emu_coverage coverage;
 static unsigned long numbers[EMU_NUMBERS];
 static uint64_t seed = 1, current;
 
 /* ---- Running one case ---- */
 
-/* Room for one side. */
-static struct side new_side(void)
+/* Makes a case in a machine's memories. */
+static struct run_case make_in(const struct machine *m, uint64_t number)
 {
-    struct side side = {fenced(CASE_SYSTEM_ROOM), fenced(CASE_IO_ROOM)};
-    return side;
-}
-
-/* Copies a case's lent bytes into the library's buffer, with the fence right behind them. */
-static void lend(uint8_t *to, const uint8_t *from, size_t length)
-{
-    memcpy(to, from, length);
-    fence_behind(to, length);
-}
-
-/* Makes a case in the given side's buffers. */
-static struct run_case make_in(const struct side *side, uint64_t number)
-{
-    struct run_case c = {side->sys, side->io, 0, 0, 0, 0, 0, 0};
+    struct run_case c = {m->memory[SYS], m->memory[IO], 0, 0, 0, 0, 0, 0};
     make_case(&c, seed, number);
     return c;
 }
@@ -55,21 +35,14 @@ static struct run_case make_in(const struct side *side, uint64_t number)
 /* The emulator's answer. */
 static uint32_t run_emulator(const struct run_case *c, uint32_t limit)
 {
-    struct emu_memory memory = {emulated.sys, c->sys_len, emulated.io, c->io_len};
+    struct emu_memory memory = {emulated.memory[SYS], c->sys_len, emulated.memory[IO], c->io_len};
     return emu_run(&memory, c->cp, c->channel, c->lines, limit);
 }
 
 /* The library's answer. */
 static uint32_t run_library(const struct run_case *c, uint32_t limit)
 {
-    return iop89_run(proved.sys, c->sys_len, proved.io, c->io_len, c->cp, c->channel, c->lines, limit);
-}
-
-/* Whether both sides hold the same lent bytes and the library left its fences alone. */
-static bool same_memory(const struct run_case *c)
-{
-    return memcmp(emulated.sys, proved.sys, c->sys_len) == 0 && memcmp(emulated.io, proved.io, c->io_len) == 0 &&
-           fences_stand(proved.sys, c->sys_len) && fences_stand(proved.io, c->io_len);
+    return iop89_run(proved.memory[SYS], c->sys_len, proved.memory[IO], c->io_len, c->cp, c->channel, c->lines, limit);
 }
 
 /* ---- Showing a difference ---- */
@@ -77,13 +50,11 @@ static bool same_memory(const struct run_case *c)
 /* Runs both sides on a case that was made before, under another limit. */
 static bool agrees_at(const struct run_case *c, uint32_t limit, uint32_t *emulator, uint32_t *library)
 {
-    memcpy(emulated.sys, made.sys, c->sys_len);
-    memcpy(emulated.io, made.io, c->io_len);
-    lend(proved.sys, made.sys, c->sys_len);
-    lend(proved.io, made.io, c->io_len);
+    lend_memories(&emulated, &made, LENT_BY(c));
+    lend_memories(&proved, &made, LENT_BY(c));
     *emulator = run_emulator(c, limit);
     *library = run_library(c, limit);
-    return *emulator == *library && same_memory(c);
+    return *emulator == *library && same_memories(&proved, &emulated, LENT_BY(c));
 }
 
 /* The smallest limit at which halving finds the sides to differ, so that its last step is the one to look at. */
@@ -150,7 +121,7 @@ static void print_channel(const struct emu_channel *ch)
 /* Shows the emulator's channel, and the bytes that its pointers reach, before the last step under a limit. */
 static void print_before(const struct run_case *c, uint32_t limit)
 {
-    struct emu_memory m = {made.sys, c->sys_len, made.io, c->io_len};
+    struct emu_memory m = {made.memory[SYS], c->sys_len, made.memory[IO], c->io_len};
     struct emu_state state;
     const struct emu_channel *ch = &state.channel[c->channel == 2];
     print_bytes("block", &m, c->channel == 2 ? c->cp + 8 : c->cp, false, 6);
@@ -178,10 +149,10 @@ static void show_difference(uint64_t number)
            c.sys_len, c.io_len, c.cp, c.channel, c.lines, c.limit, limit);
     print_answer("emulator", emulator);
     print_answer("library", library);
-    print_bytes_apart("system", made.sys, emulated.sys, proved.sys, c.sys_len);
-    print_bytes_apart("io    ", made.io, emulated.io, proved.io, c.io_len);
-    if (!fences_stand(proved.sys, c.sys_len)) puts("  the library stored beside system memory");
-    if (!fences_stand(proved.io, c.io_len)) puts("  the library stored beside I/O memory");
+    print_bytes_apart("system", made.memory[SYS], emulated.memory[SYS], proved.memory[SYS], c.sys_len);
+    print_bytes_apart("io    ", made.memory[IO], emulated.memory[IO], proved.memory[IO], c.io_len);
+    if (!fences_stand(proved.memory[SYS], c.sys_len)) puts("  the library stored beside system memory");
+    if (!fences_stand(proved.memory[IO], c.io_len)) puts("  the library stored beside I/O memory");
     print_before(&c, limit);
 }
 
@@ -197,14 +168,13 @@ static bool agree(uint64_t number)
 {
     struct run_case c = make_in(&emulated, number);
     current = number;
-    lend(proved.sys, emulated.sys, c.sys_len);
-    lend(proved.io, emulated.io, c.io_len);
+    lend_memories(&proved, &emulated, LENT_BY(&c));
     emu_coverage = &coverage;
     uint32_t emulator = run_emulator(&c, c.limit);
     emu_coverage = NULL;
     uint32_t library = run_library(&c, c.limit);
     numbers[IOP89_NUMBER(emulator)]++;
-    return emulator == library && same_memory(&c);
+    return emulator == library && same_memories(&proved, &emulated, LENT_BY(&c));
 }
 
 /* ---- What was met ---- */
@@ -218,44 +188,24 @@ static bool agree(uint64_t number)
 /* The commands that a fresh channel takes. */
 #define FRESH_COMMANDS (1u << 0 | 1u << 1 | 1u << 3 | 1u << 7)
 
-/* ---- The command line ---- */
-
-/* The number in one word of the command line, or the usual one where it is left out. */
-static uint64_t argument(int count, char **words, int at, uint64_t usual)
-{
-    char *end = NULL;
-    if (at >= count) return usual;
-    uint64_t value = strtoull(words[at], &end, 0);
-    if (*words[at] >= '0' && *words[at] <= '9' && *end == '\0' && count <= 4) return value;
-    fputs("usage: compare [SEED [CASES [FIRST]]]\n"
-          "  SEED   any number (1)\n"
-          "  CASES  how many cases (200000)\n"
-          "  FIRST  number of the first case (0)\n",
-          stderr);
-    exit(2);
-}
-
 int main(int count, char **words)
 {
+    struct options o = read_options(&comparison, count, words);
     unsigned long long differences = 0;
-    seed = argument(count, words, 1, 1);
-    uint64_t cases = argument(count, words, 2, CASES_TO_MEET_ALL), first = argument(count, words, 3, 0);
+    seed = o.seed;
     signal(SIGSEGV, on_stop);
     signal(SIGILL, on_stop);
     signal(SIGABRT, on_stop);
-    made = new_side();
-    emulated = new_side();
-    proved = new_side();
-    for (uint64_t i = first; i < first + cases; i++) {
+    made = new_machine();
+    emulated = new_machine();
+    proved = new_machine();
+    for (uint64_t i = o.first; i < o.first + o.cases; i++) {
         if (agree(i)) continue;
         if (differences++ < SHOWN_DIFFERENCES) show_difference(i);
     }
-    printf("seed %" PRIu64 ", %" PRIu64 " cases from %" PRIu64 ", %.1f seconds of processor time\n", seed, cases, first,
-           (double)clock() / CLOCKS_PER_SEC);
+    print_options(&comparison, o);
     print_numbers("answers", numbers, RUN_NUMBERS);
     print_coverage(&coverage, FRESH_COMMANDS);
     print_pairs(&coverage, PAIRS_UNDISTURBED);
-    bool met = all_met(cases, CASES_TO_MEET_ALL, "cases");
-    printf("differences: %llu\n", differences);
-    return differences > 0 || !met ? 1 : 0;
+    return conclude(&comparison, o, differences);
 }

@@ -1,9 +1,10 @@
 /* Compares the library's assembler with the independent one: number, line, bytes, and every byte beside them. */
 #include "asm_texts.h"
 #include "emulator/assembly.h"
-#include "dice.h"
-#include "fences.h"
+#include "counts.h"
+#include "random.h"
 #include "iop89_service.h"
+#include "lent.h"
 
 #include <ctype.h>
 #include <inttypes.h>
@@ -34,7 +35,6 @@ static unsigned long numbers[ASSEMBLY_NUMBERS], where[ASSEMBLY_NUMBERS][PLACES],
 static unsigned long features[ASM_FEATURES], forms[ASSEMBLY_FORMS], modes[4], bases[4], registers[8];
 static unsigned long odd_characters[ODD_PLACES];
 static unsigned long long calls, round_trips, differences;
-static unsigned missing;
 
 /* ---- One text ---- */
 
@@ -125,7 +125,7 @@ static void meet_case(const struct asm_case *c, unsigned number)
 }
 
 /* A room for a text that takes so many bytes in enough of it: enough, just enough, one byte less, less, or none. */
-static size_t some_room(struct dice *d, size_t size)
+static size_t some_room(struct random *d, size_t size)
 {
     unsigned pick = below(d, 100);
     if (pick < 40) return size + below(d, 64);
@@ -139,7 +139,7 @@ static void compare_one(uint64_t seed, uint64_t number, bool every_room)
 {
     char what[64];
     struct asm_case c = {.text = text};
-    struct dice d = seeded(seed + 1, number);
+    struct random d = seeded(seed + 1, number);
     make_asm_case(&c, seed, number);
     text_len = c.text_len;
     snprintf(what, sizeof what, "text %" PRIu64 " of seed %" PRIu64, number, seed);
@@ -168,7 +168,7 @@ static void every_pair(uint64_t seed)
 {
     uint8_t code[10];
     for (uint32_t pair = 0; pair < 65536; pair++) {
-        struct dice d = seeded(seed + 2, pair);
+        struct random d = seeded(seed + 2, pair);
         for (size_t length = 2; length <= sizeof code; length++) {
             size_t at = (pair & 6u) == 2 ? 3 : 2;
             for (size_t i = 2; i < length; i++) code[i] = (uint8_t)below(&d, 256);
@@ -189,7 +189,7 @@ static void random_code(uint64_t seed)
 {
     static uint8_t code[70000];
     for (unsigned i = 0; i <= 500; i++) {
-        struct dice d = seeded(seed + 3, i);
+        struct random d = seeded(seed + 3, i);
         size_t length = i == 500 ? sizeof code : below(&d, i % 10 == 0 ? 4096 : 60);
         for (size_t k = 0; k < length; k++) code[k] = (uint8_t)(below(&d, 256) & (chance(&d, 300) ? 6u : 255u));
         round_trip("random code", code, length, (uint32_t)roll(&d));
@@ -528,13 +528,6 @@ static unsigned check_source(const char *path)
 
 /* ---- What was met ---- */
 
-/* Prints a count, and notes it where nothing was met. */
-static void count(const char *name, unsigned long long n)
-{
-    printf("%12llu  %s%s\n", n, name, n == 0 ? " (NEVER MET)" : "");
-    missing += n == 0;
-}
-
 /* Prints the words with their forms that were assembled. */
 static void report_forms(void)
 {
@@ -545,7 +538,7 @@ static void report_forms(void)
         size_t length = (size_t)snprintf(name, sizeof name, "%s", f->word);
         for (const char *o = f->operands; *o != '\0'; o++)
             length += (size_t)snprintf(name + length, sizeof name - length, "%c%c", o == f->operands ? ' ' : ',', *o);
-        count(name, forms[i]);
+        print_count(name, forms[i]);
     }
 }
 
@@ -556,9 +549,9 @@ static void report_operands(void)
     static const char *const of_bases[4] = {"base GA", "base GB", "base GC", "base PP"};
     static const char *const of_registers[8] = {"GA", "GB", "GC", "BC", "TP", "IX", "CC", "MC"};
     puts("operands, in texts that were done:");
-    for (unsigned i = 0; i < 4; i++) count(of_modes[i], modes[i]);
-    for (unsigned i = 0; i < 4; i++) count(of_bases[i], bases[i]);
-    for (unsigned i = 0; i < 8; i++) count(of_registers[i], registers[i]);
+    for (unsigned i = 0; i < 4; i++) print_count(of_modes[i], modes[i]);
+    for (unsigned i = 0; i < 4; i++) print_count(of_bases[i], bases[i]);
+    for (unsigned i = 0; i < 8; i++) print_count(of_registers[i], registers[i]);
 }
 
 /* Prints the numbers by the places of their lines, and why 33. */
@@ -568,24 +561,24 @@ static void report_numbers(void)
     static const char *const reasons[LABEL_FAULTS] = {"", "too long", "twice", "reserved", "one too many", "unknown"};
     char name[64];
     puts("numbers:");
-    count("0", numbers[ASSEMBLY_DONE]);
+    print_count("0", numbers[ASSEMBLY_DONE]);
     for (unsigned i = ASSEMBLY_BAD_WORD; i < ASSEMBLY_NUMBERS; i++) {
         for (unsigned place = 0; place < PLACES; place++) {
             snprintf(name, sizeof name, "%u %s", i, places[place]);
-            count(name, where[i][place]);
+            print_count(name, where[i][place]);
         }
     }
     puts("labels refused by 33:");
-    for (unsigned i = LABEL_TOO_LONG; i < LABEL_FAULTS; i++) count(reasons[i], faults[i]);
+    for (unsigned i = LABEL_TOO_LONG; i < LABEL_FAULTS; i++) print_count(reasons[i], faults[i]);
 }
 
 /* Prints where characters stood that the notation does not know. */
 static void report_odd(void)
 {
     puts("NUL, control characters and characters past ASCII:");
-    count("30 where a word must stand", odd_characters[ODD_WORD]);
-    count("31 behind a word", odd_characters[ODD_OPERAND]);
-    count("nothing in a comment", odd_characters[ODD_COMMENT]);
+    print_count("30 where a word must stand", odd_characters[ODD_WORD]);
+    print_count("31 behind a word", odd_characters[ODD_OPERAND]);
+    print_count("nothing in a comment", odd_characters[ODD_COMMENT]);
 }
 
 /* Prints what texts held. */
@@ -598,7 +591,7 @@ static void report_features(void)
             snprintf(name, sizeof name, "%2u: %s", asm_feature_number((enum asm_feature)i),
                      asm_feature_name((enum asm_feature)i));
         else snprintf(name, sizeof name, "    %s", asm_feature_name((enum asm_feature)i));
-        count(name, features[i]);
+        print_count(name, features[i]);
     }
 }
 
@@ -626,6 +619,6 @@ int main(int argc, char **argv)
     printf("seed %" PRIu64 ", %" PRIu64 " random texts, %u rows of notation, a source of %u bytes\n", seed, texts, rows,
            bytes);
     printf("%llu listings assembled, %llu texts and rooms compared, %llu differences, %u never met\n", round_trips,
-           calls, differences, missing);
-    return differences != 0 || (missing != 0 && texts >= TEXTS_TO_MEET_ALL) || rows == 0;
+           calls, differences, never_met());
+    return differences != 0 || (never_met() != 0 && texts >= TEXTS_TO_MEET_ALL) || rows == 0;
 }

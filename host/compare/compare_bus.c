@@ -1,19 +1,19 @@
 /* Holds calls over the card bus, with all of I/O space on a card and other bytes than the card's in the host's memory, to the
  * same calls on memory that has the card's bytes: number, state, both memories, and each access of the card in its order. */
-#include "cases.h"
-#include "emulator/state_bytes.h"
+#include "coverage.h"
 #include "examples/card_bus.h"
-#include "fences.h"
-#include "met.h"
+#include "lent.h"
+#include "options.h"
 #include "states.h"
 
 #include <inttypes.h>
 #include <stdlib.h>
 #include <string.h>
-#include <time.h>
 
-/* How many calls meet everything, how many a case has, and how many differences are shown. */
-enum { CALLS_TO_MEET_ALL = 300000, CASE_CALLS = 12, SHOWN = 5 };
+static const struct comparison comparison = {"compare_bus", "row", "rows of twelve steps", 25000};
+
+/* How many steps a row has. */
+enum { ROW_STEPS = 12 };
 
 /* A card that has all of I/O space, and what was asked of it since it was last looked at. */
 struct card_log {
@@ -23,12 +23,8 @@ struct card_log {
     uint8_t byte[2 * IOP89_PLACES];
 };
 
-/* A machine with its own memories. */
-struct side {
-    uint8_t *sys, *io, state[STATE_BYTES];
-};
-
-static struct side plain, bused;
+/* The machine whose memory has the card's bytes, the one over the bus, and its card. */
+static struct machine plain, bused;
 static struct card_log card;
 
 /* ---- The card ---- */
@@ -113,7 +109,7 @@ static void read_ahead(const struct run_case *c, const uint32_t *places, uint8_t
     for (unsigned i = 0; i < 2; i++) {
         uint32_t at = IOP89_PLACE_ADDRESS(places[i]);
         bool in_io = IOP89_PLACE_IO(places[i]) != 0, lent = at < (in_io ? c->io_len : c->sys_len);
-        moved[i] = lent ? (in_io ? plain.io : plain.sys)[at] : 0xFF;
+        moved[i] = lent ? (in_io ? plain.memory[IO] : plain.memory[SYS])[at] : 0xFF;
     }
 }
 
@@ -131,19 +127,19 @@ static bool handed_as_moved(const struct run_case *c, const uint32_t *places, io
 static bool agree_on(const struct run_case *c, uint32_t lines)
 {
     const struct card everything = {0, IOP89_IO_LIMIT, true, read_card, store_card, &card};
-    struct card_bus bus = {.sys = bused.sys, .io = bused.io, .sys_len = c->sys_len, .io_len = c->io_len, .card = &everything,
+    struct card_bus bus = {.sys = bused.memory[SYS], .io = bused.memory[IO], .sys_len = c->sys_len, .io_len = c->io_len, .card = &everything,
                            .cards = 1};
     uint32_t places[IOP89_PLACES] = {0}, stale[IOP89_PLACES] = {0};
-    iop89_answer told = iop89_touches_step(plain.state, STATE_BYTES, plain.sys, c->sys_len, plain.io, c->io_len, lines, places,
+    iop89_answer told = iop89_touches_step(plain.state, STATE_BYTES, plain.memory[SYS], c->sys_len, plain.memory[IO], c->io_len, lines, places,
                                            IOP89_PLACES);
-    iop89_answer first = iop89_touches_step(bused.state, STATE_BYTES, bused.sys, c->sys_len, bused.io, c->io_len, lines, stale,
+    iop89_answer first = iop89_touches_step(bused.state, STATE_BYTES, bused.memory[SYS], c->sys_len, bused.memory[IO], c->io_len, lines, stale,
                                             IOP89_PLACES);
     count_step(c, places, told, told != first || memcmp(places, stale, sizeof places) != 0);
     uint8_t moved[2];
     read_ahead(c, places, moved);
     card.count = 0;
     iop89_answer by_bus = bus_step(&bus, bused.state, lines);
-    iop89_answer by_plain = iop89_step(plain.state, STATE_BYTES, plain.sys, c->sys_len, plain.io, c->io_len, lines);
+    iop89_answer by_plain = iop89_step(plain.state, STATE_BYTES, plain.memory[SYS], c->sys_len, plain.memory[IO], c->io_len, lines);
     return by_bus == by_plain && memcmp(bused.state, plain.state, STATE_BYTES) == 0 && asked_as_told(c, places, told) &&
            handed_as_moved(c, places, told, moved);
 }
@@ -151,18 +147,18 @@ static bool agree_on(const struct run_case *c, uint32_t lines)
 /* ---- One case ---- */
 
 /* Gives the host's I/O memory other bytes than the card's. */
-static void make_stale(struct dice *d, const struct run_case *c, bool all)
+static void make_stale(struct random *d, const struct run_case *c, bool all)
 {
-    for (size_t i = 0; all && i < c->io_len; i++) bused.io[i] = (uint8_t)roll(d);
-    for (unsigned i = 0; !all && c->io_len > 0 && i < 8; i++) bused.io[below(d, c->io_len)] = (uint8_t)roll(d);
+    for (size_t i = 0; all && i < c->io_len; i++) bused.memory[IO][i] = (uint8_t)roll(d);
+    for (unsigned i = 0; !all && c->io_len > 0 && i < 8; i++) bused.memory[IO][below(d, c->io_len)] = (uint8_t)roll(d);
     for (unsigned channel = 1; channel <= 2; channel++) {
         uint32_t tp = iop89_get(plain.state, channel, IOP89_TP) & 0xFFFFu;
-        for (uint32_t i = tp; i < tp + 6 && i < c->io_len; i++) bused.io[i] = (uint8_t)roll(d);
+        for (uint32_t i = tp; i < tp + 6 && i < c->io_len; i++) bused.memory[IO][i] = (uint8_t)roll(d);
     }
 }
 
 /* Changes the state of both. */
-static void change_state(struct dice *d, const struct run_case *c)
+static void change_state(struct random *d, const struct run_case *c)
 {
     uint8_t *s = plain.state;
     static const enum iop89_register tags[] = {IOP89_GA_TAG, IOP89_GB_TAG, IOP89_GC_TAG, IOP89_TP_TAG};
@@ -174,60 +170,37 @@ static void change_state(struct dice *d, const struct run_case *c)
 }
 
 /* Steps of a case in a row, and what they leave. */
-static bool agree(uint64_t seed, uint64_t number)
+static bool agree(uint64_t seed, uint64_t number, bool shown)
 {
-    struct dice d = seeded(seed + 5000011, number);
-    struct run_case c = {plain.sys, plain.io, 0, 0, 0, 0, 0, 0};
+    struct random d = seeded(seed + 5000011, number);
+    struct run_case c = {plain.memory[SYS], plain.memory[IO], 0, 0, 0, 0, 0, 0};
     make_case(&c, seed, number);
     if (c.sys_len > IOP89_SYSTEM_LIMIT || c.io_len > IOP89_IO_LIMIT) return true;
     if (chance(&d, 800)) (void)iop89_fresh(plain.state, STATE_BYTES, c.cp);
     else any_state(&d, &c, plain.state);
-    (void)iop89_attention(plain.state, STATE_BYTES, plain.sys, c.sys_len, plain.io, c.io_len, c.channel);
+    (void)iop89_attention(plain.state, STATE_BYTES, plain.memory[SYS], c.sys_len, plain.memory[IO], c.io_len, c.channel);
     memcpy(bused.state, plain.state, STATE_BYTES);
-    memcpy(bused.sys, plain.sys, c.sys_len);
-    memcpy(card.bytes, plain.io, c.io_len);
-    for (unsigned i = 0; i < CASE_CALLS; i++) {
+    memcpy(bused.memory[SYS], plain.memory[SYS], c.sys_len);
+    memcpy(card.bytes, plain.memory[IO], c.io_len);
+    for (unsigned i = 0; i < ROW_STEPS; i++) {
         make_stale(&d, &c, i == 0);
         if (i > 0) change_state(&d, &c);
-        if (!agree_on(&c, chance(&d, 500) ? 3u : below(&d, 16))) return false;
+        bool same = agree_on(&c, chance(&d, 500) ? 3u : below(&d, 16));
+        if (!same && shown) printf("  step %u\n", i + 1);
+        if (!same) return false;
     }
-    return memcmp(bused.sys, plain.sys, c.sys_len) == 0 && memcmp(card.bytes, plain.io, c.io_len) == 0;
-}
-
-/* ---- The command line ---- */
-
-/* The number in one word of the command line, or the usual one where it is left out. */
-static uint64_t argument(int count, char **words, int at, uint64_t usual)
-{
-    char *end = NULL;
-    if (at >= count) return usual;
-    uint64_t value = strtoull(words[at], &end, 0);
-    if (*words[at] >= '0' && *words[at] <= '9' && *end == '\0' && count <= 3) return value;
-    fputs("usage: compare_bus [SEED [CALLS]]\n", stderr);
-    exit(2);
+    return memcmp(bused.memory[SYS], plain.memory[SYS], c.sys_len) == 0 && memcmp(card.bytes, plain.memory[IO], c.io_len) == 0;
 }
 
 int main(int count, char **words)
 {
-    uint64_t seed = argument(count, words, 1, 1), calls = argument(count, words, 2, CALLS_TO_MEET_ALL);
-    uint64_t cases = (calls + CASE_CALLS - 1) / CASE_CALLS;
-    unsigned long long differences = 0;
-    plain.sys = fenced(CASE_SYSTEM_ROOM), plain.io = fenced(CASE_IO_ROOM);
-    bused.sys = fenced(CASE_SYSTEM_ROOM), bused.io = fenced(CASE_IO_ROOM);
+    struct options o = read_options(&comparison, count, words);
+    plain = new_machine();
+    bused = new_machine();
     card.bytes = fenced(CASE_IO_ROOM);
-    for (uint64_t i = 0; i < cases; i++) {
-        if (agree(seed, i)) continue;
-        if (differences++ < SHOWN) printf("DIFFERENCE in case %" PRIu64 "\n", i);
-    }
-    printf("seed %" PRIu64 ", %" PRIu64 " steps over the bus, %.1f seconds of processor time\n", seed, cases * CASE_CALLS,
-           (double)clock() / CLOCKS_PER_SEC);
-    for (unsigned i = 0; i <= IOP89_BAD_TRANSFER; i++) {
-        char name[120];
-        snprintf(name, sizeof name, "%u %s", i, iop89_service_words(i));
-        print_count(name, numbers[i]);
-    }
-    for (unsigned i = 0; i < THINGS; i++) print_count(thing_names[i], things[i]);
-    bool met = all_met(cases * CASE_CALLS, CALLS_TO_MEET_ALL, "steps");
-    printf("%llu differences\n", differences);
-    return differences > 0 || !met ? 1 : 0;
+    unsigned long long differences = compare_cases(&comparison, o, agree);
+    print_options(&comparison, o);
+    print_numbered("number %u", numbers, 0, IOP89_BAD_TRANSFER);
+    print_table("on the card:", thing_names, things, THINGS);
+    return conclude(&comparison, o, differences);
 }

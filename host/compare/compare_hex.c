@@ -1,17 +1,15 @@
 /* Compares the proved reader of hexadecimal files with the independent one, on files that other tools wrote and on random texts: the answer and every lent byte. */
+#include "counts.h"
 #include "emulator/hex.h"
 #include "hex_texts.h"
 #include "iop89_service.h"
+#include "lent.h"
 
 #include <inttypes.h>
 #include <stdbool.h>
 #include <stdio.h>
 #include <stdlib.h>
 #include <string.h>
-
-/* Bytes beside each buffer lent to the library, which must stay as they are. */
-#define FENCE 64u
-#define FENCE_BYTE 0xC7
 
 /* How many differences are shown, and texts after which everything must have been met. */
 enum { SHOWN_DIFFERENCES = 3, TEXTS_TO_MEET_ALL = 20000 };
@@ -30,9 +28,12 @@ static const struct expected files[] = {
     {"examples/prom/objcopy-linear.hex", {22, 1, 0}, 0},
 };
 
-/* Memory as it is given, and the plain and the proved reader's copy of it; the text, with room for a fence behind. */
-static uint8_t given[HEX_SYSTEM_ROOM], plain[HEX_SYSTEM_ROOM + 2 * FENCE], proved[HEX_SYSTEM_ROOM + 2 * FENCE];
-static uint8_t text[HEX_TEXT_ROOM + FENCE];
+/* Digits behind a text, which a reader that went on would take for its own. */
+enum { DIGITS_BEHIND = 64 };
+
+/* Memory as it is given, and the plain and the proved reader's copy of it; the text, with room for digits behind. */
+static uint8_t given[HEX_SYSTEM_ROOM], *plain, *proved;
+static uint8_t text[HEX_TEXT_ROOM + DIGITS_BEHIND];
 static unsigned long numbers[HEX_NUMBERS], features[HEX_FEATURES];
 
 /* Fills what memory holds before a call. */
@@ -41,28 +42,21 @@ static void fill_given(void)
     for (size_t i = 0; i < sizeof given; i++) given[i] = (uint8_t)(i * 131u >> 3 ^ i);
 }
 
-/* Lends a copy of the given memory, between fences. */
-static uint8_t *lend(uint8_t *room, size_t sys_len)
-{
-    memset(room, FENCE_BYTE, FENCE);
-    memcpy(room + FENCE, given, sys_len);
-    memset(room + FENCE + sys_len, FENCE_BYTE, FENCE);
-    return room + FENCE;
-}
-
 /* Whether two answers and both memories, fences and all, are the same. */
 static bool same(struct hex_answer a, uint64_t b, size_t sys_len)
 {
     return a.number == IOP89_LOAD_NUMBER(b) && a.line == IOP89_LOAD_LINE(b) && a.start == IOP89_LOAD_START(b) &&
-           (b & UINT64_C(0xF0000000)) == 0 && memcmp(plain, proved, sys_len + 2 * FENCE) == 0;
+           (b & UINT64_C(0xF0000000)) == 0 && lent_same(proved, plain, sys_len) && fences_stand(plain, sys_len);
 }
 
 /* Reads one text with both; the answers come back. */
 static bool agree(size_t text_len, size_t sys_len, struct hex_answer *a, uint64_t *b)
 {
-    memset(text + text_len, '0', FENCE);
-    *a = hex_load(text, text_len, lend(plain, sys_len), sys_len);
-    *b = iop89_load(text, text_len, lend(proved, sys_len), sys_len);
+    memset(text + text_len, '0', DIGITS_BEHIND);
+    lend(plain, given, sys_len);
+    lend(proved, given, sys_len);
+    *a = hex_load(text, text_len, plain, sys_len);
+    *b = iop89_load(text, text_len, proved, sys_len);
     return same(*a, *b, sys_len);
 }
 
@@ -102,9 +96,9 @@ static bool check_file(const struct expected *e)
     bool right = agree(length, sys_len, &a, &b);
     if (!right) show(e->path, length, sys_len, a, b);
     right = right && a.number == e->answer.number && a.line == e->answer.line && a.start == e->answer.start;
-    memcpy(plain + FENCE, given, sys_len);
-    if (e->answer.number == HEX_DONE) memcpy(plain + FENCE + e->at, firmware, count);
-    right = right && memcmp(plain, proved, sys_len + 2 * FENCE) == 0;
+    memcpy(plain, given, sys_len);
+    if (e->answer.number == HEX_DONE) memcpy(plain + e->at, firmware, count);
+    right = right && lent_same(proved, plain, sys_len);
     printf("%s: number %u, line %" PRIu32 ", start %05" PRIX32 "%s\n", e->path, IOP89_LOAD_NUMBER(b), IOP89_LOAD_LINE(b), IOP89_LOAD_START(b), right ? "" : " WRONG");
     return right;
 }
@@ -128,25 +122,14 @@ static bool compare_one(uint64_t seed, uint64_t number, bool shown)
     return right;
 }
 
-/* Prints a count; answers whether there was one. */
-static bool count(const char *name, unsigned long n)
+/* Prints what was met. */
+static void print_met(void)
 {
-    printf("%12lu  %s%s\n", n, name, n == 0 ? " (NEVER MET)" : "");
-    return n > 0;
-}
-
-/* Prints what was met; answers whether everything was. */
-static bool print_met(void)
-{
-    static const unsigned given_numbers[] = {HEX_DONE, HEX_BEYOND_MEMORY, HEX_BAD_BUFFER, HEX_NO_RECORD, HEX_BAD_CHECK, HEX_BAD_TYPE, HEX_NO_END};
-    bool all = true;
-    for (size_t i = 0; i < sizeof given_numbers / sizeof given_numbers[0]; i++) {
-        char name[32];
-        snprintf(name, sizeof name, "number %u", given_numbers[i]);
-        all &= count(name, numbers[given_numbers[i]]);
-    }
-    for (unsigned i = 0; i < HEX_FEATURES; i++) all &= count(hex_feature_name((enum hex_feature)i), features[i]);
-    return all;
+    static const unsigned given_numbers[] = {HEX_DONE,      HEX_BEYOND_MEMORY, HEX_BAD_BUFFER, HEX_NO_RECORD,
+                                             HEX_BAD_CHECK, HEX_BAD_TYPE,      HEX_NO_END};
+    for (size_t i = 0; i < sizeof given_numbers / sizeof given_numbers[0]; i++)
+        print_numbered("number %u", &numbers[given_numbers[i]], given_numbers[i], given_numbers[i]);
+    for (unsigned i = 0; i < HEX_FEATURES; i++) print_count(hex_feature_name((enum hex_feature)i), features[i]);
 }
 
 int main(int words_count, char **words)
@@ -154,11 +137,14 @@ int main(int words_count, char **words)
     uint64_t seed = words_count > 1 ? strtoull(words[1], NULL, 10) : 1;
     uint64_t texts = words_count > 2 ? strtoull(words[2], NULL, 10) : TEXTS_TO_MEET_ALL;
     unsigned long differences = 0;
+    plain = fenced(HEX_SYSTEM_ROOM);
+    proved = fenced(HEX_SYSTEM_ROOM);
     fill_given();
     for (size_t i = 0; i < sizeof files / sizeof files[0]; i++) differences += !check_file(&files[i]);
     for (uint64_t i = 0; i < texts; i++) differences += !compare_one(seed, i, differences < SHOWN_DIFFERENCES);
     printf("seed %" PRIu64 ", %" PRIu64 " texts\n", seed, texts);
-    bool met = print_met() || texts < TEXTS_TO_MEET_ALL;
+    print_met();
+    bool met = all_met(texts, TEXTS_TO_MEET_ALL, "texts");
     printf("%lu differences\n", differences);
     return differences > 0 || !met ? 1 : 0;
 }

@@ -1,6 +1,8 @@
 /* Compares the library's lister with the independent one: answer, text, and every byte of the buffer beside it. */
-#include "dice.h"
+#include "counts.h"
+#include "random.h"
 #include "iop89_service.h"
+#include "lent.h"
 #include "emulator/listing.h"
 
 #include <ctype.h>
@@ -10,8 +12,7 @@
 #include <stdlib.h>
 #include <string.h>
 
-/* The bytes behind the text that is lent, and what they hold before a listing. */
-#define FENCE 64u
+/* What the text's bytes are before a listing. */
 #define UNTOUCHED 0xC7
 
 /* The longest part that is listed here, and the most characters that it can have. */
@@ -19,19 +20,8 @@
 #define TEXT_ROOM ((size_t)LISTING_LIMIT * 28u)
 
 static uint8_t *code, *plain, *proved;
-static struct listing_met met;
+static struct listing_coverage met;
 static unsigned long long listings, lines_stopped, resumed, differences;
-static unsigned missing;
-
-static void *room(size_t length)
-{
-    void *bytes = malloc(length);
-    if (bytes == NULL) {
-        fputs("compare_list: out of memory\n", stderr);
-        exit(2);
-    }
-    return bytes;
-}
 
 /* Shows the part and both answers of a difference. */
 static void show(size_t length, uint32_t first, size_t text_len, struct listing a, uint64_t b)
@@ -48,19 +38,21 @@ static void show(size_t length, uint32_t first, size_t text_len, struct listing 
 /* Lists `length` bytes from `at` on by both, and compares the answers and the whole of both buffers. */
 static struct listing both(size_t at, size_t length, uint32_t first, size_t text_len)
 {
-    memset(plain, UNTOUCHED, text_len + FENCE);
-    memset(proved, UNTOUCHED, text_len + FENCE);
+    memset(plain, UNTOUCHED, text_len);
+    memset(proved, UNTOUCHED, text_len);
+    fence_behind(plain, text_len);
+    fence_behind(proved, text_len);
     struct listing a = list_code(code + at, length, first, plain, text_len, &met);
     uint64_t b = iop89_list(code + at, length, first, proved, text_len);
     listings++;
     if (a.characters != IOP89_LIST_CHARACTERS(b) || a.stop != IOP89_LIST_STOP(b) ||
-        memcmp(plain, proved, text_len + FENCE) != 0)
+        !lent_same(proved, plain, text_len) || !fences_stand(plain, text_len))
         show(length, first, text_len, a, b);
     lines_stopped += a.stop < length;
     return a;
 }
 
-static void random_bytes(struct dice *d, size_t from, size_t to)
+static void random_bytes(struct random *d, size_t from, size_t to)
 {
     for (size_t i = from; i < to; i++) code[i] = (uint8_t)below(d, 256);
 }
@@ -69,7 +61,7 @@ static void random_bytes(struct dice *d, size_t from, size_t to)
 static void every_pair(uint64_t seed)
 {
     for (uint32_t pair = 0; pair < 65536; pair++) {
-        struct dice d = seeded(seed, pair);
+        struct random d = seeded(seed, pair);
         for (size_t rest = 0; rest <= 8; rest++) {
             code[0] = (uint8_t)(pair & 255u);
             code[1] = (uint8_t)(pair >> 8u);
@@ -91,7 +83,7 @@ static void every_pair(uint64_t seed)
 static void random_code(uint64_t seed, unsigned count)
 {
     for (unsigned i = 0; i < count; i++) {
-        struct dice d = seeded(seed + 1, i);
+        struct random d = seeded(seed + 1, i);
         size_t length = below(&d, i % 4 == 0 ? 4096 : 40);
         uint32_t first = (uint32_t)roll(&d);
         random_bytes(&d, 0, length);
@@ -113,7 +105,7 @@ static void random_code(uint64_t seed, unsigned count)
 /* Parts at the limit and beyond it. */
 static void long_parts(uint64_t seed)
 {
-    struct dice d = seeded(seed + 2, 0);
+    struct random d = seeded(seed + 2, 0);
     random_bytes(&d, 0, CODE_ROOM);
     both(0, LISTING_LIMIT, 7, TEXT_ROOM);
     for (size_t more = 1; more <= 3; more++) both(0, LISTING_LIMIT + more, 0xFFFFFFFFu, TEXT_ROOM);
@@ -173,12 +165,6 @@ static unsigned check_file(const char *path)
 
 /* ---- What was met ---- */
 
-static void count(const char *name, unsigned long long n)
-{
-    printf("%12llu  %s%s\n", n, name, n == 0 ? " (NEVER MET)" : "");
-    missing += n == 0;
-}
-
 static void report(void)
 {
     static const char *const reasons[DATA_REASONS] = {"no instruction",       "CC used",
@@ -189,19 +175,19 @@ static void report(void)
     static const char *const bases[4] = {"base GA", "base GB", "base GC", "base PP"};
     static const char *const names[8] = {"GA", "GB", "GC", "BC", "TP", "IX", "CC", "MC"};
     puts("lines, by format:");
-    for (unsigned i = 0; i < LISTING_ROWS; i++) count(listing_row_name(i), met.row[i]);
+    for (unsigned i = 0; i < LISTING_ROWS; i++) print_count(listing_row_name(i), met.row[i]);
     puts("DB lines, by reason:");
-    for (unsigned i = 0; i < DATA_REASONS; i++) count(reasons[i], met.data[i]);
+    for (unsigned i = 0; i < DATA_REASONS; i++) print_count(reasons[i], met.data[i]);
     puts("operands:");
-    for (unsigned i = 0; i < 4; i++) count(modes[i], met.mode[i]);
-    for (unsigned i = 0; i < 4; i++) count(bases[i], met.base[i]);
-    for (unsigned i = 0; i < 8; i++) count(names[i], met.registers[i]);
-    count("long words", met.long_words);
-    count("byte words", met.byte_words);
-    count("targets behind the jump", met.backward);
-    count("lines of 28 characters", met.longest);
-    count("listings that stopped for want of room, or at the limit", lines_stopped);
-    count("listings gone on with from their stop", resumed);
+    for (unsigned i = 0; i < 4; i++) print_count(modes[i], met.mode[i]);
+    for (unsigned i = 0; i < 4; i++) print_count(bases[i], met.base[i]);
+    for (unsigned i = 0; i < 8; i++) print_count(names[i], met.registers[i]);
+    print_count("long words", met.long_words);
+    print_count("byte words", met.byte_words);
+    print_count("targets behind the jump", met.backward);
+    print_count("lines of 28 characters", met.longest);
+    print_count("listings that stopped for want of room, or at the limit", lines_stopped);
+    print_count("listings gone on with from their stop", resumed);
 }
 
 int main(int argc, char **argv)
@@ -209,15 +195,15 @@ int main(int argc, char **argv)
     uint64_t seed = argc > 1 ? strtoull(argv[1], NULL, 10) : 1;
     unsigned parts = argc > 2 ? (unsigned)strtoul(argv[2], NULL, 10) : 2000;
     const char *path = argc > 3 ? argv[3] : "host/emulator/notation.txt";
-    code = room(CODE_ROOM);
-    plain = room(TEXT_ROOM + FENCE);
-    proved = room(TEXT_ROOM + FENCE);
+    code = fenced(CODE_ROOM);
+    plain = fenced(TEXT_ROOM);
+    proved = fenced(TEXT_ROOM);
     unsigned rows = check_file(path);
     every_pair(seed);
     random_code(seed, parts);
     long_parts(seed);
     report();
     printf("%u rows of %s, %llu listings compared, %llu differences, %u never met\n", rows, path, listings, differences,
-           missing);
-    return differences != 0 || missing != 0 || rows == 0;
+           never_met());
+    return differences != 0 || never_met() != 0 || rows == 0;
 }

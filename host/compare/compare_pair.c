@@ -1,9 +1,9 @@
 /* Compares calls on two processors of one board: the service archive's beside the emulator's, beside the single call on the
  * named one alone, and beside the same call with noise in the place of the other's state and I/O memory. Answers, reports,
  * states and every lent byte must be the same, and what is the other's must stay. */
-#include "fences.h"
 #include "iop89_service.h"
-#include "met.h"
+#include "coverage.h"
+#include "options.h"
 #include "processors.h"
 #include "schedules.h"
 #include "states.h"
@@ -11,11 +11,11 @@
 #include <inttypes.h>
 #include <stdlib.h>
 #include <string.h>
-#include <time.h>
 
-/* How many rows of calls meet everything, the most calls of one, how many differences are shown, and up to which length
- * memories and noise are compared after each call. */
-enum { ROWS_TO_MEET_ALL = 100000, MOST_CALLS = 40, SHOWN = 5, SMALL = 16384, SMALL_NOISE = 2048 };
+static const struct comparison comparison = {"compare_pair", "row", "rows of calls", 100000};
+
+/* The most calls of a row, and up to which length memories and noise are compared after each call. */
+enum { MOST_CALLS = 40, SMALL = 16384, SMALL_NOISE = 2048 };
 
 /* The ways in which a call is made, each on a board of its own: by the archive's pair; by the pair with noise in the
  * other's place; by the single call; and by the emulator. */
@@ -65,12 +65,10 @@ static void lend_all(const struct processors *p)
     for (enum way way = PAIRED; way < WAYS; way++) {
         struct board *b = &boards[way];
         b->sys_len = p->of[0].sys_len;
-        if (way != PAIRED) memcpy(b->sys, boards[PAIRED].sys, b->sys_len);
-        fence_behind(b->sys, b->sys_len);
+        lend(b->sys, boards[PAIRED].sys, b->sys_len);
         for (unsigned i = 0; i < 2; i++) {
             b->io_len[i] = p->of[i].io_len;
-            if (way != PAIRED) memcpy(b->io[i], boards[PAIRED].io[i], b->io_len[i]);
-            fence_behind(b->io[i], b->io_len[i]);
+            lend(b->io[i], boards[PAIRED].io[i], b->io_len[i]);
         }
     }
 }
@@ -207,7 +205,7 @@ static uint64_t call_emulator(const struct named_call *k, const struct board *b,
 /* ---- Noise ---- */
 
 /* How long noise is as I/O memory: few bytes, none, all, or one byte over the limit. */
-static size_t noise_length(struct dice *d)
+static size_t noise_length(struct random *d)
 {
     unsigned kind = below(d, 1000);
     if (kind < 900) return below(d, SMALL_NOISE);
@@ -215,7 +213,7 @@ static size_t noise_length(struct dice *d)
 }
 
 /* Makes the state of a place noise: any bytes, or any state, whole or broken; at times of another length. */
-static size_t some_noise(struct dice *d, const struct run_case *c, uint8_t *state)
+static size_t some_noise(struct random *d, const struct run_case *c, uint8_t *state)
 {
     for (size_t i = 0; i < STATE_ROOM; i++) state[i] = (uint8_t)roll(d);
     if (chance(d, 700)) any_state(d, c, state);
@@ -224,7 +222,7 @@ static size_t some_noise(struct dice *d, const struct run_case *c, uint8_t *stat
 }
 
 /* The board with noise in each place that the call does not name. */
-static struct board beside_noise(struct dice *d, const struct processors *p, const struct named_call *k)
+static struct board beside_noise(struct random *d, const struct processors *p, const struct named_call *k)
 {
     struct board b = boards[BESIDE];
     for (unsigned i = 0; i < 2; i++) {
@@ -243,14 +241,14 @@ static bool noise_stays(const struct board *b, unsigned i)
 {
     const uint8_t *kept = noise_kept + (b->io[i] - noise_io[i]);
     bool io_stays = b->io_len[i] > SMALL_NOISE || memcmp(b->io[i], kept, b->io_len[i]) == 0;
-    return io_stays && memcmp(noise_state[i], noise_given[i], STATE_ROOM) == 0 && fences_stand(noise_state[i], STATE_ROOM);
+    return io_stays && lent_same(noise_state[i], noise_given[i], STATE_ROOM);
 }
 
 /* Whether all noise of both I/O memories did. */
 static bool all_noise_stays(void)
 {
     for (unsigned i = 0; i < 2; i++)
-        if (memcmp(noise_io[i], noise_kept, NOISE_ROOM) != 0 || !fences_stand(noise_io[i], NOISE_ROOM)) return false;
+        if (!lent_same(noise_io[i], noise_kept, NOISE_ROOM)) return false;
     return true;
 }
 
@@ -430,22 +428,22 @@ static void count_call(const struct named_call *k, const struct processors *p, c
 /* ---- One call ---- */
 
 /* Whether one board's bytes are another's, with their fences: one state, or all the memories. */
-static bool same_state(enum way a, enum way b, unsigned i)
+static bool states_agree(enum way a, enum way b, unsigned i)
 {
-    return memcmp(boards[a].state[i], boards[b].state[i], STATE_ROOM) == 0 && fences_stand(boards[a].state[i], STATE_ROOM);
+    return lent_same(boards[a].state[i], boards[b].state[i], STATE_ROOM);
 }
 
 static bool same_memory(enum way a, enum way b)
 {
     const struct board *x = &boards[a], *y = &boards[b];
-    bool same = memcmp(x->sys, y->sys, x->sys_len) == 0 && fences_stand(x->sys, x->sys_len);
+    bool same = lent_same(x->sys, y->sys, x->sys_len);
     for (unsigned i = 0; i < 2; i++)
-        same = same && memcmp(x->io[i], y->io[i], x->io_len[i]) == 0 && fences_stand(x->io[i], x->io_len[i]);
+        same = same && lent_same(x->io[i], y->io[i], x->io_len[i]);
     return same;
 }
 
 /* Whether every board has the same memories. */
-static bool same_memories(void)
+static bool memories_agree(void)
 {
     return same_memory(PAIRED, EMULATED) && same_memory(PAIRED, SINGLE) && same_memory(BESIDE, PAIRED);
 }
@@ -479,8 +477,8 @@ static bool same_states(const struct named_call *k, const struct board *noise)
 {
     for (unsigned i = 0; i < 2; i++) {
         bool named = k->processor == i + 1;
-        if (!same_state(PAIRED, EMULATED, i) || !same_state(SINGLE, PAIRED, i)) return false;
-        if (named && !same_state(BESIDE, PAIRED, i)) return false;
+        if (!states_agree(PAIRED, EMULATED, i) || !states_agree(SINGLE, PAIRED, i)) return false;
+        if (named && !states_agree(BESIDE, PAIRED, i)) return false;
         if (!named && memcmp(boards[PAIRED].state[i], given[i], STATE_ROOM) != 0) return false;
         if (!named && !noise_stays(noise, i)) return false;
     }
@@ -502,7 +500,7 @@ static void show(const struct named_call *k, const struct board *noise, unsigned
         }
         if (k->processor != i + 1 && !noise_stays(noise, i)) printf("  the noise in place %u was changed\n", i + 1);
     }
-    if (!same_memories()) puts("  the memories differ, or a byte beside them was stored");
+    if (!memories_agree()) puts("  the memories differ, or a byte beside them was stored");
 }
 
 /* The sixteen bytes of the control block of a place's state. */
@@ -515,7 +513,7 @@ static void block_bytes(unsigned i, uint8_t bytes[16])
 }
 
 /* Makes one call in all ways; answers whether they agree. Large memories are compared behind a row's last call. */
-static bool agree_on(struct dice *d, const struct processors *p, const struct named_call *k, unsigned index, bool shown)
+static bool agree_on(struct random *d, const struct processors *p, const struct named_call *k, unsigned index, bool shown)
 {
     static uint8_t io[SMALL];
     uint8_t block[2][16];
@@ -526,7 +524,7 @@ static bool agree_on(struct dice *d, const struct processors *p, const struct na
     if (small) memcpy(io, boards[PAIRED].io[1 - other], own_len);
     block_bytes(other, block[0]);
     make_all(k, &noise);
-    bool same = same_answers(k) && same_states(k, &noise) && (!small || same_memories());
+    bool same = same_answers(k) && same_states(k, &noise) && (!small || memories_agree());
     bool done = number_of(outcomes[PAIRED].answer) == IOP89_DONE;
     if (counting) count_call(k, p, &noise, number_of(outcomes[PAIRED].answer));
     block_bytes(other, block[1]);
@@ -540,7 +538,7 @@ static bool agree_on(struct dice *d, const struct processors *p, const struct na
 /* ---- One row ---- */
 
 /* Writes a command into the block of a processor's channel, and a board's bytes before a power-up. */
-static void put_before(struct dice *d, const struct processors *p, const struct named_call *k, unsigned index)
+static void put_before(struct random *d, const struct processors *p, const struct named_call *k, unsigned index)
 {
     unsigned i = k->processor == 2;
     uint32_t block = (iop89_cp(boards[PAIRED].state[i]) + (k->channel == 2 ? 8 : 0)) & MASK20;
@@ -549,7 +547,7 @@ static void put_before(struct dice *d, const struct processors *p, const struct 
 }
 
 /* Makes both states: mostly the fresh ones of their cases. */
-static void begin(struct dice *d, const struct processors *p)
+static void begin(struct random *d, const struct processors *p)
 {
     for (unsigned i = 0; i < 2; i++) {
         memset(boards[PAIRED].state[i], 0, STATE_ROOM);
@@ -559,7 +557,7 @@ static void begin(struct dice *d, const struct processors *p)
 }
 
 /* Makes one call on states that may be broken, the named one's and the other's, and makes whole again what the call left. */
-static bool agree_broken(struct dice *d, const struct processors *p, const struct named_call *k, unsigned index, bool shown)
+static bool agree_broken(struct random *d, const struct processors *p, const struct named_call *k, unsigned index, bool shown)
 {
     uint8_t whole[2][STATE_BYTES];
     bool broken[2];
@@ -580,7 +578,7 @@ static bool agree_broken(struct dice *d, const struct processors *p, const struc
 /* Makes the calls of a row, one behind the other; answers whether all agree. */
 static bool agree(uint64_t seed, uint64_t number, bool shown)
 {
-    struct dice d = seeded(seed + 8000009, number);
+    struct random d = seeded(seed + 8000009, number);
     struct processors p = {.of = {{.sys = boards[PAIRED].sys, .io = boards[PAIRED].io[0]},
                                   {.sys = boards[PAIRED].sys, .io = boards[PAIRED].io[1]}}};
     bool up[2] = {false, false};
@@ -601,7 +599,7 @@ static bool agree(uint64_t seed, uint64_t number, bool shown)
         bool one_cp = iop89_cp(boards[PAIRED].state[0]) == iop89_cp(boards[PAIRED].state[1]);
         if (counting && up[0] && up[1]) met[one_cp ? MET_BOTH_UP_SAME : MET_BOTH_UP_APART]++;
     }
-    bool same = same_memories() && all_noise_stays();
+    bool same = memories_agree() && all_noise_stays();
     if (!same && shown) puts("  behind the last call: the memories differ, or noise or a byte beside them was stored");
     return same;
 }
@@ -624,11 +622,8 @@ static void print_kind(enum named_kind kind)
     static const char *const none_names[NONES] = {"processor 0", "processor 3", "a larger processor"};
     char name[120];
     for (unsigned i = 0; i < 2; i++) {
-        printf("%s of processor %u, by number:\n", kind_names[kind], i + 1);
-        for (unsigned number = 0; number <= IOP89_NO_STATE; number++) {
-            snprintf(name, sizeof name, "%u %s", number, iop89_service_words(number));
-            if ((answers[kind] >> number & 1u) != 0) print_count(name, numbers[i][kind][number]);
-        }
+        snprintf(name, sizeof name, "%s of processor %u, by number:", kind_names[kind], i + 1);
+        print_answers(name, numbers[i][kind], answers[kind]);
         for (unsigned k = 0; k < BROKENS; k++) {
             snprintf(name, sizeof name, "done, and %s", broken_names[k]);
             print_count(name, beside[i][kind][k]);
@@ -643,12 +638,7 @@ static void print_kind(enum named_kind kind)
 static void print_broken(void)
 {
     char name[60];
-    puts("done, and the other's bytes are no state, by the cause:");
-    for (enum state_fault fault = FAULT_LENGTH; fault < STATE_FAULTS; fault++) {
-        if (fault == FAULT_CHANNEL_1 || fault == FAULT_CHANNEL_2)
-            printf("in the block of channel %u:\n", fault == FAULT_CHANNEL_1 ? 1 : 2);
-        print_count(state_fault_name(fault), faults[fault]);
-    }
+    print_faults("done, and the other's bytes are no state, by the cause:", faults);
     puts("done, and of the other is over 1,048,575:");
     print_count("CP", unsound_cp);
     for (unsigned i = 0; i < 10; i++) {
@@ -667,27 +657,13 @@ static void print_met(void)
 {
     for (enum named_kind kind = NAMED_ATTENTION; kind < NAMED_KINDS; kind++) print_kind(kind);
     print_broken();
-    puts("calls and rows:");
-    for (unsigned i = 0; i < METS; i++) print_count(met_names[i], met[i]);
-}
-
-/* ---- The command line ---- */
-
-/* The number in one word of the command line, or the usual one where it is left out. */
-static uint64_t argument(int count, char **words, int at, uint64_t usual)
-{
-    char *end = NULL;
-    if (at >= count) return usual;
-    uint64_t value = strtoull(words[at], &end, 0);
-    if (*words[at] >= '0' && *words[at] <= '9' && *end == '\0' && count <= 4) return value;
-    fputs("usage: compare_pair [SEED [ROWS [FIRST]]]\n", stderr);
-    exit(2);
+    print_table("calls and rows:", met_names, met, METS);
 }
 
 /* Room for every board and for noise, which is made here once. */
 static void make_room(uint64_t seed)
 {
-    struct dice d = seeded(seed + 9000011, 0);
+    struct random d = seeded(seed + 9000011, 0);
     for (enum way way = PAIRED; way < WAYS; way++) boards[way] = new_board();
     for (size_t i = 0; i < NOISE_ROOM; i++) noise_kept[i] = (uint8_t)roll(&d);
     for (unsigned i = 0; i < 2; i++) {
@@ -697,24 +673,20 @@ static void make_room(uint64_t seed)
     lay_noise();
 }
 
+/* Compares a row; noise that a wrong call spoiled is laid anew. */
+static bool agree_beside(uint64_t seed, uint64_t number, bool shown)
+{
+    bool same = agree(seed, number, shown);
+    if (!same) lay_noise();
+    return same;
+}
+
 int main(int count, char **words)
 {
-    unsigned long long differences = 0;
-    uint64_t seed = argument(count, words, 1, 1), rows = argument(count, words, 2, ROWS_TO_MEET_ALL);
-    uint64_t first = argument(count, words, 3, 0);
-    make_room(seed);
-    for (uint64_t i = first; i < first + rows; i++) {
-        if (agree(seed, i, false)) continue;
-        lay_noise();
-        if (differences++ >= SHOWN) continue;
-        printf("DIFFERENCE in row %" PRIu64 " (again: compare_pair %" PRIu64 " 1 %" PRIu64 ")\n", i, seed, i);
-        agree(seed, i, true);
-        lay_noise();
-    }
-    printf("seed %" PRIu64 ", %" PRIu64 " rows of calls from %" PRIu64 ", %.1f seconds of processor time\n", seed, rows,
-           first, (double)clock() / CLOCKS_PER_SEC);
+    struct options o = read_options(&comparison, count, words);
+    make_room(o.seed);
+    unsigned long long differences = compare_cases(&comparison, o, agree_beside);
+    print_options(&comparison, o);
     print_met();
-    bool all = all_met(rows, ROWS_TO_MEET_ALL, "rows");
-    printf("%llu differences\n", differences);
-    return differences > 0 || !all ? 1 : 0;
+    return conclude(&comparison, o, differences);
 }

@@ -1,20 +1,21 @@
 /* Compares block transfers in the middle of which their channel is suspended and resumed: each by the service archive
  * and by the emulator, with its pauses and without. Archive and emulator must agree after every call; and with its pauses
  * a transfer must come to the end that it has without, in as many of its steps. */
-#include "fences.h"
 #include "iop89_service.h"
-#include "met.h"
+#include "coverage.h"
+#include "options.h"
 #include "pauses.h"
 #include "twin.h"
 
 #include <inttypes.h>
 #include <stdlib.h>
 #include <string.h>
-#include <time.h>
 
-/* How many rows meet everything, how many differences are shown, more calls than a run has, the most bytes that a host
- * writes, and the steps in a row after which the other channel is halted. */
-enum { ROWS_TO_MEET_ALL = 20000, SHOWN = 5, MOST_CALLS = 400000, MOST_WRITTEN = 64, MOST_WAITED = 40 };
+static const struct comparison comparison = {"compare_pauses", "row", "rows", 20000};
+
+/* More calls than a run has, the most bytes that a host writes, and the steps in a row after which the other channel is
+ * halted. */
+enum { MOST_CALLS = 400000, MOST_WRITTEN = 64, MOST_WAITED = 40 };
 
 /* Steps in which a program has set up its transfer, if it has them for itself. */
 enum { SET_UP_STEPS = 400 };
@@ -31,7 +32,7 @@ struct run {
     const char *name;
     struct twin twin;
     const struct row *row;
-    struct dice *d;
+    struct random *d;
     struct spot written[MOST_WRITTEN];
     unsigned writes, waited;
     uint32_t steps;
@@ -45,7 +46,7 @@ static struct run plain = {.name = "without pauses"}, paused = {.name = "with pa
 static uint8_t track[MOST + 1][IOP89_BLOCK_LENGTH];
 
 /* Begins a run with what a machine has. */
-static void begin(struct run *r, const struct row *row, struct dice *d, const struct machine *from)
+static void begin(struct run *r, const struct row *row, struct random *d, const struct machine *from)
 {
     r->row = row;
     r->d = d;
@@ -127,7 +128,7 @@ static const char *const breach_names[BREACHES] = {
     "another priority at the last resume: it stays", "PB's third byte overwritten while suspended: TP is elsewhere",
     "BUSY the first of PB's four bytes: TP is elsewhere", "PB in the destination: its bytes are not the source's"};
 
-static unsigned long met[METS], breached[BREACHES], in_a_row[MOST_PAUSES + 1], sides[64], few[FEW + 1], more, large;
+static unsigned long met[METS], breached[BREACHES], in_a_row[MOST_PAUSES + 1], sides[4][4][4], few[FEW + 1], more, large;
 static unsigned long lines_met[16];
 static bool counting;
 
@@ -168,7 +169,7 @@ static void count_row(const struct row *r)
     count(!r->by_program ? MET_STATE : r->place[OWN_PROGRAM].in_io ? MET_IO_PROGRAM : MET_PROGRAM, true);
     count(r->channel == 1 ? MET_CHANNEL_1 : MET_CHANNEL_2, true);
     count_places(r);
-    sides[16 * wide + 4 * odd + spaces]++;
+    sides[wide][odd][spaces]++;
     in_a_row[r->pauses]++;
     if (r->n <= FEW) few[r->n]++;
     else if (r->n < MOST) more++;
@@ -518,7 +519,7 @@ static void run_both(const struct row *row)
 static bool agree(uint64_t seed, uint64_t number, bool shown)
 {
     struct row row = make_row(given, seed, number);
-    struct dice d = seeded(seed + 5000077, number);
+    struct random d = seeded(seed + 5000077, number);
     counting = !shown && row.breach == NO_BREACH;
     count_row(&row);
     begin(&paused, &row, &d, &given);
@@ -534,75 +535,34 @@ static bool agree(uint64_t seed, uint64_t number, bool shown)
 
 /* ---- What is printed ---- */
 
-/* Prints the counters of the numbers from one to another, each with its number in its name; the first is at index 0. */
-static void print_row(const char *form, const unsigned long counts[], unsigned from, unsigned to)
-{
-    char name[60];
-    for (unsigned i = from; i <= to; i++) {
-        snprintf(name, sizeof name, form, i);
-        print_count(name, counts[i - from]);
-    }
-}
-
 /* Prints what was met from one to before another. */
 static void print_group(const char *heading, enum met from, enum met to)
 {
-    puts(heading);
-    for (unsigned i = from; i < to; i++) print_count(met_names[i], met[i]);
-}
-
-/* Prints the rows by both sides' widths, odd addresses and spaces together. */
-static void print_sides(void)
-{
-    static const char *const ways[3][4] = {
-        {"8 into 8 bits", "16 into 8 bits", "8 into 16 bits", "16 into 16 bits"},
-        {"even into even", "odd into even", "even into odd", "odd into odd"},
-        {"system into system", "I/O into system", "system into I/O", "I/O into I/O"}};
-    char name[80];
-    puts("rows, by sides:");
-    for (unsigned i = 0; i < 64; i++) {
-        snprintf(name, sizeof name, "%s, %s, %s", ways[0][i / 16], ways[1][i / 4 % 4], ways[2][i % 4]);
-        print_count(name, sides[i]);
-    }
+    print_table(heading, met_names + from, met + from, to - from);
 }
 
 /* Prints everything that was met. */
 static void print_met(void)
 {
-    print_sides();
-    print_row("bytes: %u", few + 1, 1, FEW);
+    print_sides("rows, by sides:", sides);
+    print_numbered("bytes: %u", few + 1, 1, FEW);
     print_count("bytes: more, and fewer than 65536", more);
     print_count("bytes: 65536", large);
     print_group("rows:", MET_PROGRAM, MET_BEFORE_FIRST);
-    print_row("pauses in a row: %u", in_a_row + 1, 1, MOST_PAUSES);
+    print_numbered("pauses in a row: %u", in_a_row + 1, 1, MOST_PAUSES);
     print_group("pauses:", MET_BEFORE_FIRST, MET_NO_STEP);
     print_group("while suspended:", MET_NO_STEP, MET_OTHER_BETWEEN);
-    print_row("a step call under line number %u", lines_met, 0, 15);
+    print_numbered("a step call under line number %u", lines_met, 0, 15);
     print_group("while it runs:", MET_OTHER_BETWEEN, MET_SWEPT);
     print_group("sweeps:", MET_SWEPT, METS);
-    puts("rows that break one premise, and differ so:");
-    for (unsigned i = 1; i < BREACHES; i++) print_count(breach_names[i], breached[i]);
-}
-
-/* ---- The command line ---- */
-
-/* The number in one word of the command line, or the usual one where it is left out. */
-static uint64_t argument(int count, char **words, int at, uint64_t usual)
-{
-    char *end = NULL;
-    if (at >= count) return usual;
-    uint64_t value = strtoull(words[at], &end, 0);
-    if (*words[at] >= '0' && *words[at] <= '9' && *end == '\0' && count <= 4) return value;
-    fputs("usage: compare_pauses [SEED [ROWS [FIRST]]]\n", stderr);
-    exit(2);
+    print_table("rows that break one premise, and differ so:", breach_names + 1, breached + 1, BREACHES - 1);
 }
 
 /* Room for all machines, and random bytes in the memories that rows are made in. */
 static void make_room(uint64_t seed)
 {
-    struct dice d = seeded(seed, 0);
-    struct machine m = {fenced(STATE_ROOM), {fenced(CASE_SYSTEM_ROOM), fenced(CASE_IO_ROOM)}};
-    given = m;
+    struct random d = seeded(seed, 0);
+    given = new_machine();
     scatter(&d, given.memory[0], CASE_SYSTEM_ROOM);
     scatter(&d, given.memory[1], CASE_IO_ROOM);
     plain.twin = new_twin();
@@ -611,20 +571,10 @@ static void make_room(uint64_t seed)
 
 int main(int count, char **words)
 {
-    uint64_t seed = argument(count, words, 1, 1), rows = argument(count, words, 2, ROWS_TO_MEET_ALL);
-    uint64_t first = argument(count, words, 3, 0);
-    unsigned long long differences = 0;
-    make_room(seed);
-    for (uint64_t i = first; i < first + rows; i++) {
-        if (agree(seed, i, false)) continue;
-        if (differences++ >= SHOWN) continue;
-        printf("DIFFERENCE in row %" PRIu64 " (again: compare_pauses %" PRIu64 " 1 %" PRIu64 ")\n", i, seed, i);
-        agree(seed, i, true);
-    }
-    printf("seed %" PRIu64 ", %" PRIu64 " rows from %" PRIu64 ", %.1f seconds of processor time\n", seed, rows, first,
-           (double)clock() / CLOCKS_PER_SEC);
+    struct options o = read_options(&comparison, count, words);
+    make_room(o.seed);
+    unsigned long long differences = compare_cases(&comparison, o, agree);
+    print_options(&comparison, o);
     print_met();
-    bool all = all_met(rows, ROWS_TO_MEET_ALL, "rows");
-    printf("%llu differences\n", differences);
-    return differences > 0 || !all ? 1 : 0;
+    return conclude(&comparison, o, differences);
 }

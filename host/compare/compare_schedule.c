@@ -1,6 +1,8 @@
 /* Compares schedules: the service archive's, whole and cut in two, beside the emulator's, and beside the same rows by
  * single calls of the archive. Numbers, reports, states and every lent byte must be the same. */
-#include "met.h"
+#include "lent.h"
+#include "coverage.h"
+#include "options.h"
 #include "schedules.h"
 #include "states.h"
 
@@ -8,24 +10,17 @@
 #include <stddef.h>
 #include <stdlib.h>
 #include <string.h>
-#include <time.h>
 
-/* How many schedules meet everything, how many one machine gets in a row, bytes around a buffer that nobody may touch,
- * room for a state of a wrong length, up to which length memories are compared behind each schedule, and how many
- * differences are shown. */
-enum { SCHEDULES_TO_MEET_ALL = 200000, EACH = 5, FENCE = 16, FENCE_BYTE = 0xA5 };
-enum { STATE_ROOM = 2 * STATE_BYTES, SMALL = 16384, SHOWN = 5 };
+static const struct comparison comparison = {"compare_schedule", "schedule", "schedules", 200000};
+
+/* How many schedules one machine gets in a row, and up to which length memories are compared behind each schedule. */
+enum { EACH = 5, SMALL = 16384 };
 
 /* The ways in which a schedule is made, each on a machine of its own: by the archive whole, cut and call by call, and by
  * the emulator whole and cut. */
 enum way { WHOLE, CUT, SINGLE, EMULATED, EMULATED_CUT, WAYS };
 
 static const char *const way_names[WAYS] = {"archive", "archive, cut", "single calls", "emulator", "emulator, cut"};
-
-/* One way's machine. */
-struct machine {
-    uint8_t *state, *sys, *io;
-};
 
 /* What one way answered: its numbers and its reports, two where the schedule was cut. */
 struct outcome {
@@ -39,35 +34,6 @@ static struct emu_coverage coverage;
 
 /* ---- Buffers ---- */
 
-/* Room with a fence before and behind. */
-static uint8_t *fenced(size_t length)
-{
-    uint8_t *bytes = malloc(length + 2 * FENCE);
-    if (bytes == NULL) {
-        fputs("compare_schedule: out of memory\n", stderr);
-        exit(2);
-    }
-    memset(bytes, FENCE_BYTE, length + 2 * FENCE);
-    return bytes + FENCE;
-}
-
-/* Whether the fences before and behind a buffer are whole. */
-static bool fences_stand(const uint8_t *bytes, size_t length)
-{
-    for (size_t i = 0; i < FENCE; i++)
-        if ((bytes - FENCE)[i] != FENCE_BYTE || bytes[length + i] != FENCE_BYTE) return false;
-    return true;
-}
-
-/* Gives a machine the memories of another, or leaves its own, with fences right behind what is lent. */
-static void lend(const struct run_case *c, enum way from, enum way to)
-{
-    if (from != to) memcpy(machines[to].sys, machines[from].sys, c->sys_len);
-    if (from != to) memcpy(machines[to].io, machines[from].io, c->io_len);
-    memset(machines[to].sys + c->sys_len, FENCE_BYTE, FENCE);
-    memset(machines[to].io + c->io_len, FENCE_BYTE, FENCE);
-}
-
 /* Gives every machine the state of the first. */
 static void share_state(void)
 {
@@ -77,21 +43,19 @@ static void share_state(void)
 /* Puts a byte into the system memory of every machine, if it is lent. */
 static void put_each(const struct run_case *c, uint32_t address, uint8_t byte)
 {
-    for (enum way way = WHOLE; way < WAYS && address < c->sys_len; way++) machines[way].sys[address] = byte;
+    for (enum way way = WHOLE; way < WAYS && address < c->sys_len; way++) machines[way].memory[SYS][address] = byte;
 }
 
-/* Whether a way's state is that of another, also behind its end, with its fences. */
-static bool same_state(enum way a, enum way b)
+/* Whether a way's state is that of another. */
+static bool states_agree(enum way a, enum way b)
 {
-    return memcmp(machines[a].state, machines[b].state, STATE_ROOM) == 0 && fences_stand(machines[a].state, STATE_ROOM);
+    return same_state(&machines[a], &machines[b]);
 }
 
-/* Whether a way's memories are those of another, with their fences. */
-static bool same_memory(const struct run_case *c, enum way a, enum way b)
+/* Whether a way's memories are those of another. */
+static bool memories_agree(const struct run_case *c, enum way a, enum way b)
 {
-    const struct machine *x = &machines[a], *y = &machines[b];
-    return memcmp(x->sys, y->sys, c->sys_len) == 0 && memcmp(x->io, y->io, c->io_len) == 0 &&
-           fences_stand(x->sys, c->sys_len) && fences_stand(x->io, c->io_len);
+    return same_memories(&machines[a], &machines[b], LENT_BY(c));
 }
 
 /* ---- What was met ---- */
@@ -299,7 +263,7 @@ static void add_row(uint64_t *report, uint32_t answer)
 static void attend_singly(const struct run_case *c, const struct schedule *s, uint32_t channel, uint64_t *report)
 {
     const struct machine *m = &machines[SINGLE];
-    uint32_t answer = iop89_attention(m->state, s->state_len, m->sys, c->sys_len, m->io, c->io_len, channel);
+    uint32_t answer = iop89_attention(m->state, s->state_len, m->memory[SYS], c->sys_len, m->memory[IO], c->io_len, channel);
     bool done = IOP89_ANSWER_NUMBER(answer) == IOP89_DONE;
     add_row(report, answer);
     if (counting) refused[0][IOP89_ANSWER_NUMBER(answer)]++;
@@ -328,7 +292,7 @@ static void step_singly(const struct run_case *c, const struct schedule *s, uint
     uint8_t before[STATE_BYTES];
     bool waiting[2] = {waits(m->state, 1, lines), waits(m->state, 2, lines)};
     memcpy(before, m->state, sizeof before);
-    uint32_t answer = iop89_step(m->state, s->state_len, m->sys, c->sys_len, m->io, c->io_len, lines);
+    uint32_t answer = iop89_step(m->state, s->state_len, m->memory[SYS], c->sys_len, m->memory[IO], c->io_len, lines);
     add_row(report, answer);
     for (unsigned channel = 1; channel <= 2; channel++) {
         report[IOP89_REPORT_AT(channel, IOP89_WAITING_ROWS_1)] += waiting[channel - 1];
@@ -347,7 +311,7 @@ static uint32_t by_archive(const struct run_case *c, const struct schedule *s, e
 {
     const struct machine *m = &machines[way];
     clear_report(s, report);
-    return iop89_schedule(m->state, s->state_len, rows_of(s) + from, to - from, m->sys, c->sys_len, m->io, c->io_len,
+    return iop89_schedule(m->state, s->state_len, rows_of(s) + from, to - from, m->memory[SYS], c->sys_len, m->memory[IO], c->io_len,
                           report + WORD_FENCE, report_len);
 }
 
@@ -357,12 +321,12 @@ static uint32_t by_emulator(const struct run_case *c, const struct schedule *s, 
 {
     static struct emu_row rows[MOST_ROWS];
     const struct machine *m = &machines[way];
-    struct emu_memory memory = {m->sys, c->sys_len, m->io, c->io_len};
+    struct emu_memory memory = {m->memory[SYS], c->sys_len, m->memory[IO], c->io_len};
     struct emu_state state;
     struct emu_report r;
     uint32_t number = IOP89_NO_STATE;
     bool good = state_from_bytes(m->state, s->state_len, &state) == FAULT_NONE;
-    memset(&r, good ? FENCE_BYTE : 0, sizeof r);
+    memset(&r, good ? 0xA5 : 0, sizeof r);
     rows_for_emulator(s, from, to, rows);
     if (good) {
         number = emu_schedule(&state, &memory, rows, to - from, &r);
@@ -442,7 +406,7 @@ static bool agree_with_emulator(const struct outcome *o)
     for (unsigned i = 0; i < 2; i++)
         same = same && o[CUT].number[i] == o[EMULATED_CUT].number[i] &&
                same_report(o[CUT].report[i], o[EMULATED_CUT].report[i]);
-    return same && same_state(WHOLE, EMULATED) && same_state(CUT, EMULATED_CUT);
+    return same && states_agree(WHOLE, EMULATED) && states_agree(CUT, EMULATED_CUT);
 }
 
 /* Whether a done schedule is that of the single calls and of its two parts. */
@@ -450,7 +414,7 @@ static bool agree_with_calls(const struct schedule *s, const struct outcome *o)
 {
     return parts_add(&o[CUT], o[WHOLE].report[0], s->report_len) &&
            parts_add(&o[CUT], o[SINGLE].report[0], IOP89_REPORT_LENGTH) && adds_up(o[CUT].report[0], s->cut) &&
-           adds_up(o[CUT].report[1], s->count - s->cut) && same_state(WHOLE, SINGLE) && same_state(WHOLE, CUT);
+           adds_up(o[CUT].report[1], s->count - s->cut) && states_agree(WHOLE, SINGLE) && states_agree(WHOLE, CUT);
 }
 
 /* Shows the words of a report that are not those of another. */
@@ -469,7 +433,7 @@ static void show_machine(const struct run_case *c, enum way a, enum way b)
         if (machines[a].state[i] != machines[b].state[i])
             printf("  state byte %zu: %s %02X, %s %02X\n", i, way_names[a], machines[a].state[i], way_names[b],
                    machines[b].state[i]);
-    if (!same_memory(c, a, b))
+    if (!memories_agree(c, a, b))
         printf("  memory: %s and %s differ, or a byte beside it was stored\n", way_names[a], way_names[b]);
 }
 
@@ -507,10 +471,10 @@ static void count_counts(const struct outcome *parts)
 }
 
 /* Whether memories agree: those of the archive with the emulator's, and of a done schedule in all its ways. */
-static bool memories_agree(const struct run_case *c, bool done)
+static bool all_memories_agree(const struct run_case *c, bool done)
 {
-    bool same = same_memory(c, WHOLE, EMULATED) && same_memory(c, CUT, EMULATED_CUT);
-    return same && (!done || (same_memory(c, SINGLE, WHOLE) && same_memory(c, CUT, WHOLE)));
+    bool same = memories_agree(c, WHOLE, EMULATED) && memories_agree(c, CUT, EMULATED_CUT);
+    return same && (!done || (memories_agree(c, SINGLE, WHOLE) && memories_agree(c, CUT, WHOLE)));
 }
 
 /* Makes one schedule in all ways; answers whether they agree. Large memories are compared behind a machine's last one. */
@@ -526,7 +490,7 @@ static bool agree_on(const struct run_case *c, const struct schedule *s, bool la
     if (counting) count_counts(&outcomes[CUT]);
     bool same = outcomes[WHOLE].number[0] == number && agree_with_emulator(outcomes);
     same = same && (!done || agree_with_calls(s, outcomes)) && memcmp(given.array, s->array, sizeof given.array) == 0;
-    return same && ((!last && c->sys_len + c->io_len > SMALL) || memories_agree(c, done));
+    return same && ((!last && c->sys_len + c->io_len > SMALL) || all_memories_agree(c, done));
 }
 
 /* ---- One machine ---- */
@@ -539,7 +503,7 @@ static uint32_t block_of(uint32_t channel)
 
 /* Changes a machine before a schedule, its state in the first way's bytes: now and then any other, some registers set,
  * channels put into transfers of pairs, and commands in their blocks. */
-static void change(struct dice *d, const struct run_case *c)
+static void change(struct random *d, const struct run_case *c)
 {
     uint8_t *state = machines[WHOLE].state;
     if (chance(d, 120)) any_state(d, c, state);
@@ -552,7 +516,7 @@ static void change(struct dice *d, const struct run_case *c)
 
 /* Makes a machine's state a fresh one with the command of its image, mostly, or any other; a channel in it may be in a
  * transfer of pairs. */
-static void begin(struct dice *d, const struct run_case *c, uint8_t ccw)
+static void begin(struct random *d, const struct run_case *c, uint8_t ccw)
 {
     uint8_t *state = machines[WHOLE].state;
     if (chance(d, 700)) {
@@ -565,7 +529,7 @@ static void begin(struct dice *d, const struct run_case *c, uint8_t ccw)
 }
 
 /* Makes one schedule on a state that may be damaged or have fields that disagree, and which then is made whole again. */
-static bool agree_spoiled(struct dice *d, const struct run_case *c, const struct schedule *s, bool last)
+static bool agree_spoiled(struct random *d, const struct run_case *c, const struct schedule *s, bool last)
 {
     uint8_t whole[STATE_BYTES], given[STATE_BYTES], *state = machines[WHOLE].state;
     bool spoiled = chance(d, 30), parted = chance(d, 60);
@@ -577,8 +541,8 @@ static bool agree_spoiled(struct dice *d, const struct run_case *c, const struct
     bool same = agree_on(c, s, last);
     if ((spoiled || parted) && memcmp(given, state, STATE_BYTES) == 0) memcpy(state, whole, STATE_BYTES);
     if (outcomes[WHOLE].number[0] == IOP89_UNKNOWN_ROW && same && !last) {
-        lend(c, WHOLE, CUT); /* a part of known kinds has run there */
-        lend(c, EMULATED, EMULATED_CUT);
+        lend_memories(&machines[CUT], &machines[WHOLE], LENT_BY(c)); /* a part of known kinds has run there */
+        lend_memories(&machines[EMULATED_CUT], &machines[EMULATED], LENT_BY(c));
     }
     return same;
 }
@@ -587,10 +551,10 @@ static bool agree_spoiled(struct dice *d, const struct run_case *c, const struct
 static bool agree(uint64_t seed, uint64_t first, unsigned schedules, bool shown)
 {
     static struct schedule s;
-    struct dice d = seeded(seed + 5000011, first / EACH);
-    struct run_case c = {machines[WHOLE].sys, machines[WHOLE].io, 0, 0, 0, 0, 0, 0};
+    struct random d = seeded(seed + 5000011, first / EACH);
+    struct run_case c = {machines[WHOLE].memory[SYS], machines[WHOLE].memory[IO], 0, 0, 0, 0, 0, 0};
     make_case(&c, seed, first / EACH);
-    for (enum way way = WHOLE; way < WAYS; way++) lend(&c, WHOLE, way);
+    for (enum way way = WHOLE; way < WAYS; way++) lend_memories(&machines[way], &machines[WHOLE], LENT_BY(&c));
     memset(machines[WHOLE].state, 0, STATE_ROOM);
     iop89_fresh(machines[WHOLE].state, STATE_BYTES, c.cp);
     uint8_t ccw = block_of(c.channel) < c.sys_len ? c.sys[block_of(c.channel)] : 0;
@@ -681,24 +645,6 @@ static unsigned read_layout(void)
 
 /* ---- What is printed ---- */
 
-/* Prints the counters of a table, each with its name. */
-static void print_table(const char *heading, const char *const names[], const unsigned long counts[], unsigned length)
-{
-    puts(heading);
-    for (unsigned i = 0; i < length; i++) print_count(names[i], counts[i]);
-}
-
-/* Prints how often each number of the set was answered. */
-static void print_answers(const char *heading, const unsigned long counts[], unsigned set)
-{
-    char name[120];
-    puts(heading);
-    for (unsigned i = 0; i <= IOP89_NO_STATE; i++) {
-        snprintf(name, sizeof name, "%u %s", i, iop89_service_words(i));
-        if ((set >> i & 1u) != 0) print_count(name, counts[i]);
-    }
-}
-
 /* The numbers that an attention and a step can answer, and those of a step that finds a channel waiting. */
 #define ATTENTION_NUMBERS (1u << 0 | 1u << 2 | 15u << 6 | 31u << 10)
 #define STEP_NUMBERS (63u | 31u << 10)
@@ -716,17 +662,6 @@ static void print_counts(void)
     for (unsigned i = 0; i < 14; i++) {
         snprintf(name, sizeof name, "%s, channel %u", names[i % 7], 1 + i / 7);
         print_count(name, counts[2 + i]);
-    }
-}
-
-/* Prints the lengths of reports. */
-static void print_words(void)
-{
-    char name[40];
-    puts("reports, by their words:");
-    for (unsigned i = 0; i <= MOST_WORDS; i++) {
-        snprintf(name, sizeof name, "%u", i);
-        print_count(name, words[i]);
     }
 }
 
@@ -763,7 +698,8 @@ static void print_met(void)
     print_answers("attention rows, by number:", refused[0], ATTENTION_NUMBERS);
     print_answers("step rows, by number:", refused[1], STEP_NUMBERS);
     print_table("schedules and rows:", met_names, met, METS);
-    print_words();
+    puts("reports, by their words:");
+    print_numbered("%u", words, 0, MOST_WORDS);
     print_stored();
     for (unsigned i = 0; i < 2; i++) {
         printf("step rows that found channel %u waiting, by what became of them:\n", i + 1);
@@ -771,48 +707,24 @@ static void print_met(void)
         print_answers("refused, by number:", waited[i], WAITING_NUMBERS);
         print_table("step rows, by channel's state before them:", near_names, nears[i], NEARS);
     }
-    puts("17, by its cause:");
-    for (enum state_fault fault = FAULT_LENGTH; fault < STATE_FAULTS; fault++) {
-        if (fault == FAULT_CHANNEL_1 || fault == FAULT_CHANNEL_2)
-            printf("17, in the block of channel %u:\n", fault == FAULT_CHANNEL_1 ? 1 : 2);
-        print_count(state_fault_name(fault), faults[fault]);
-    }
+    print_faults("17, by its cause:", faults);
 }
 
-/* ---- The command line ---- */
-
-/* The number in one word of the command line, or the usual one where it is left out. */
-static uint64_t argument(int count, char **words, int at, uint64_t usual)
-{
-    char *end = NULL;
-    if (at >= count) return usual;
-    uint64_t value = strtoull(words[at], &end, 0);
-    if (*words[at] >= '0' && *words[at] <= '9' && *end == '\0' && count <= 4) return value;
-    fputs("usage: compare_schedule [SEED [SCHEDULES [FIRST]]]\n", stderr);
-    exit(2);
-}
-
-/* A machine gets EACH schedules; FIRST is counted from the first of its own. */
+/* A machine gets EACH schedules; the first is counted from the first of its own. */
 int main(int count, char **words)
 {
-    uint64_t seed = argument(count, words, 1, 1), schedules = argument(count, words, 2, SCHEDULES_TO_MEET_ALL);
-    uint64_t first = argument(count, words, 3, 0) / EACH * EACH, end = first + schedules;
-    for (enum way way = WHOLE; way < WAYS; way++) {
-        struct machine m = {fenced(STATE_ROOM), fenced(CASE_SYSTEM_ROOM), fenced(CASE_IO_ROOM)};
-        machines[way] = m;
-    }
+    struct options o = read_options(&comparison, count, words);
+    o.first = o.first / EACH * EACH;
+    for (enum way way = WHOLE; way < WAYS; way++) machines[way] = new_machine();
     unsigned long long differences = 0, in_layout = read_layout();
-    for (uint64_t i = first; i < end; i += EACH) {
+    for (uint64_t i = o.first, end = o.first + o.cases; i < end; i += EACH) {
         unsigned made = end - i < EACH ? (unsigned)(end - i) : EACH;
-        if (agree(seed, i, made, false)) continue;
+        if (agree(o.seed, i, made, false)) continue;
         if (differences++ >= SHOWN) continue;
-        printf("DIFFERENCE (again: compare_schedule %" PRIu64 " %u %" PRIu64 ")\n", seed, made, i);
-        agree(seed, i, made, true);
+        printf("DIFFERENCE (again: compare_schedule %" PRIu64 " %u %" PRIu64 ")\n", o.seed, made, i);
+        agree(o.seed, i, made, true);
     }
-    printf("seed %" PRIu64 ", %" PRIu64 " schedules from %" PRIu64 ", %.1f seconds of processor time\n", seed, schedules,
-           first, (double)clock() / CLOCKS_PER_SEC);
+    print_options(&comparison, o);
     print_met();
-    bool all = all_met(schedules, SCHEDULES_TO_MEET_ALL, "schedules");
-    printf("%llu differences\n", differences + in_layout);
-    return differences + in_layout > 0 || !all ? 1 : 0;
+    return conclude(&comparison, o, differences + in_layout);
 }

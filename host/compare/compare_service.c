@@ -1,21 +1,20 @@
 /* Compares the service archive with the emulator: rows of calls on states in bytes, sound and unsound, with fields that
  * agree with CC or not, with held bytes and without, whole and damaged, with other lines at each step, and runs that a
  * board's power-up begins. */
-#include "cases.h"
-#include "fences.h"
 #include "iop89_service.h"
-#include "met.h"
-#include "emulator/state_bytes.h"
+#include "lent.h"
+#include "coverage.h"
+#include "options.h"
 #include "states.h"
 
 #include <inttypes.h>
 #include <stdlib.h>
 #include <string.h>
-#include <time.h>
 
-/* How many cases meet everything, the most calls of one, room for state bytes of a wrong length, and how many differences
- * are shown. */
-enum { CASES_TO_MEET_ALL = 300000, MOST_CALLS = 60, STATE_ROOM = 2 * STATE_BYTES, SHOWN = 5 };
+static const struct comparison comparison = {"compare_service", "case", "cases", 300000};
+
+/* The most calls of one case. */
+enum { MOST_CALLS = 60 };
 
 enum call_kind { CALL_FRESH, CALL_RESET, CALL_POWER, CALL_ATTENTION, CALL_STEP, CALL_BOARD, CALLS };
 
@@ -27,12 +26,7 @@ struct call {
     uint32_t lines, limit;
 };
 
-/* One side's machine. */
-struct side {
-    uint8_t *sys, *io, *state;
-};
-
-static struct side emulated, proved;
+static struct machine emulated, proved;
 static struct emu_coverage coverage;
 static unsigned long numbers[CALLS][IOP89_NO_STATE + 1], faults[STATE_FAULTS], bytes[BYTES_KINDS][BYTES_COUNTS];
 /* Power-ups of bytes that are no state: refused, done. */
@@ -42,24 +36,10 @@ static const char *const call_names[CALLS] = {"fresh", "reset", "power-up", "att
 
 /* ---- Buffers ---- */
 
-/* Room for one side. */
-static struct side new_side(void)
-{
-    struct side side = {fenced(CASE_SYSTEM_ROOM), fenced(CASE_IO_ROOM), fenced(STATE_ROOM)};
-    return side;
-}
-
-/* Copies lent bytes to the other side, with the fence right behind them. */
-static void lend(uint8_t *to, const uint8_t *from, size_t length)
-{
-    memcpy(to, from, length);
-    fence_behind(to, length);
-}
-
 /* Puts a byte into both sides' memory, if it is lent. */
 static void put_both(const struct run_case *c, uint32_t address, uint8_t byte)
 {
-    if (address < c->sys_len) emulated.sys[address] = proved.sys[address] = byte;
+    if (address < c->sys_len) emulated.memory[SYS][address] = proved.memory[SYS][address] = byte;
 }
 
 /* ---- The two sides of a call ---- */
@@ -101,7 +81,7 @@ static void count_powered(uint32_t number)
 /* The emulator's answer; counts what it met. */
 static uint32_t by_emulator(const struct run_case *c, struct call call)
 {
-    struct emu_memory memory = {emulated.sys, c->sys_len, emulated.io, c->io_len};
+    struct emu_memory memory = {emulated.memory[SYS], c->sys_len, emulated.memory[IO], c->io_len};
     struct emu_state state;
     struct emu_stepped stepped = {0, 0, 0, 0};
     struct emu_answer answer = {0, 0};
@@ -129,7 +109,7 @@ static uint32_t by_emulator(const struct run_case *c, struct call call)
 static void count_bytes(enum call_kind kind, uint32_t answer)
 {
     if (makes_anew(kind)) return;
-    enum met_bytes of = kind == CALL_POWER ? BYTES_OF_POWER_UP : BYTES_OF_ATTENTION;
+    enum coverage_bytes of = kind == CALL_POWER ? BYTES_OF_POWER_UP : BYTES_OF_ATTENTION;
     if (kind == CALL_STEP) of = bytes_of_step("-ITX"[IOP89_ANSWER_KIND(answer)]);
     if (IOP89_ANSWER_NUMBER(answer) != IOP89_DONE) of = BYTES_OF_REFUSED;
     bytes[of][IOP89_ANSWER_COUNT(answer)]++;
@@ -141,12 +121,12 @@ static uint32_t by_archive(const struct run_case *c, struct call call)
     if (call.kind == CALL_FRESH) return iop89_fresh(proved.state, call.state_len, call.argument);
     if (call.kind == CALL_RESET) return iop89_reset(proved.state, call.state_len);
     if (call.kind == CALL_POWER)
-        return iop89_power_up(proved.state, call.state_len, proved.sys, c->sys_len, proved.io, c->io_len);
+        return iop89_power_up(proved.state, call.state_len, proved.memory[SYS], c->sys_len, proved.memory[IO], c->io_len);
     if (call.kind == CALL_BOARD)
-        return iop89_board(proved.sys, c->sys_len, proved.io, c->io_len, call.argument, call.lines, call.limit);
+        return iop89_board(proved.memory[SYS], c->sys_len, proved.memory[IO], c->io_len, call.argument, call.lines, call.limit);
     uint32_t (*made)(uint8_t *, size_t, uint8_t *, size_t, uint8_t *, size_t, uint32_t) =
         call.kind == CALL_ATTENTION ? iop89_attention : iop89_step;
-    return made(proved.state, call.state_len, proved.sys, c->sys_len, proved.io, c->io_len, call.argument);
+    return made(proved.state, call.state_len, proved.memory[SYS], c->sys_len, proved.memory[IO], c->io_len, call.argument);
 }
 
 /* ---- What comes next ---- */
@@ -158,14 +138,14 @@ static void share_state(void)
 }
 
 /* Writes a command into a channel's block, in both memories. */
-static void put_command(struct dice *d, const struct run_case *c, uint32_t channel)
+static void put_command(struct random *d, const struct run_case *c, uint32_t channel)
 {
     uint32_t block = (iop89_cp(proved.state) + (channel == 2 ? 8 : 0)) & MASK20;
     put_both(c, block, some_ccw(d));
 }
 
 /* A call that starts as the board starts, more often where there can be a board; fresh stands for none. */
-static enum call_kind board_call(struct dice *d, const struct run_case *c, unsigned index)
+static enum call_kind board_call(struct random *d, const struct run_case *c, unsigned index)
 {
     bool whole = c->sys_len >= BOARD_LENGTH;
     if (index == 0 && chance(d, whole ? 300 : 15)) return CALL_BOARD;
@@ -174,7 +154,7 @@ static enum call_kind board_call(struct dice *d, const struct run_case *c, unsig
 }
 
 /* The next call; fresh is first more often than not. */
-static struct call next_call(struct dice *d, const struct run_case *c, unsigned index)
+static struct call next_call(struct random *d, const struct run_case *c, unsigned index)
 {
     static const uint32_t odd[] = {0, 3, 4, 16, 17, 255, 257, 65537, 0x80000001, 0xFFFFFFFF};
     static const size_t lengths[] = {0, 1, STATE_BYTES - 1, STATE_BYTES + 1, STATE_ROOM};
@@ -202,19 +182,6 @@ static struct call next_call(struct dice *d, const struct run_case *c, unsigned 
 
 /* ---- One case ---- */
 
-/* Whether both sides' bytes of the state are the same, also behind its end. */
-static bool same_state(void)
-{
-    return memcmp(emulated.state, proved.state, STATE_ROOM) == 0 && fences_stand(proved.state, STATE_ROOM);
-}
-
-/* Whether both sides hold the same lent bytes and the archive left its fences alone. */
-static bool same_memory(const struct run_case *c)
-{
-    return memcmp(emulated.sys, proved.sys, c->sys_len) == 0 && memcmp(emulated.io, proved.io, c->io_len) == 0 &&
-           fences_stand(proved.sys, c->sys_len) && fences_stand(proved.io, c->io_len);
-}
-
 /* Makes one call on both sides; answers whether they agree, and says how where they do not. */
 static bool agree_on(const struct run_case *c, struct call call, unsigned index, bool shown)
 {
@@ -226,7 +193,7 @@ static bool agree_on(const struct run_case *c, struct call call, unsigned index,
     count_anew(call.kind, archive, held);
     numbers[call.kind][call.kind == CALL_BOARD ? IOP89_NUMBER(emulator) : IOP89_ANSWER_NUMBER(emulator)]++;
     count_bytes(call.kind, archive);
-    bool same = emulator == archive && same_state();
+    bool same = emulator == archive && same_state(&proved, &emulated);
     if (same || !shown) return same;
     printf("  call %u, %s %" PRIu32 " on %zu bytes: emulator %05" PRIX32 ", archive %05" PRIX32 "\n", index,
            call_names[call.kind], call.argument, call.state_len, emulator, archive);
@@ -240,12 +207,11 @@ static bool agree_on(const struct run_case *c, struct call call, unsigned index,
  * that it refused. */
 static bool agree(uint64_t seed, uint64_t number, bool shown)
 {
-    struct dice d = seeded(seed + 1000003, number);
-    struct run_case c = {emulated.sys, emulated.io, 0, 0, 0, 0, 0, 0};
+    struct random d = seeded(seed + 1000003, number);
+    struct run_case c = {emulated.memory[SYS], emulated.memory[IO], 0, 0, 0, 0, 0, 0};
     uint8_t whole[STATE_BYTES], given[STATE_BYTES];
     make_case(&c, seed, number);
-    lend(proved.sys, emulated.sys, c.sys_len);
-    lend(proved.io, emulated.io, c.io_len);
+    lend_memories(&proved, &emulated, LENT_BY(&c));
     memset(proved.state, 0, STATE_ROOM);
     memset(emulated.state, 0, STATE_ROOM);
     any_state(&d, &c, proved.state);
@@ -267,7 +233,7 @@ static bool agree(uint64_t seed, uint64_t number, bool shown)
         memcpy(proved.state, whole, STATE_BYTES);
         share_state();
     }
-    bool same = same_memory(&c);
+    bool same = same_memories(&proved, &emulated, LENT_BY(&c));
     if (!same && shown) puts("  the memories differ, or a byte beside them was stored");
     return same;
 }
@@ -310,21 +276,20 @@ static unsigned every_pair(uint64_t seed)
     static const char *const names[3] = {"first pairs that are instructions", "first pairs refused by 3",
                                          "first pairs refused by 4"};
     static const enum emu_number answers[3] = {EMU_DONE, EMU_NO_INSTRUCTION, EMU_CC_USED};
-    struct dice d = seeded(seed + 2000003, 0);
-    struct run_case c = {emulated.sys, emulated.io, PAIR_SYSTEM, PAIR_IO, 0, 1, 0, 0};
+    struct random d = seeded(seed + 2000003, 0);
+    struct run_case c = {emulated.memory[SYS], emulated.memory[IO], PAIR_SYSTEM, PAIR_IO, 0, 1, 0, 0};
     struct call call = {CALL_STEP, 0, STATE_BYTES, 0, 0};
     unsigned differences = 0;
     unsigned long met = 0, before[3];
     for (unsigned i = 0; i < 3; i++) before[i] = numbers[CALL_STEP][answers[i]];
-    fill(&d, emulated.sys, c.sys_len);
-    fill(&d, emulated.io, c.io_len);
-    lend(proved.sys, emulated.sys, c.sys_len);
-    lend(proved.io, emulated.io, c.io_len);
+    fill(&d, emulated.memory[SYS], c.sys_len);
+    fill(&d, emulated.memory[IO], c.io_len);
+    lend_memories(&proved, &emulated, LENT_BY(&c));
     for (uint32_t pair = 0; pair < 65536; pair++) {
         stand_at_pair();
         put_pair(&c, pair);
         bool shown = differences < SHOWN;
-        if (agree_on(&c, call, pair, shown) && same_memory(&c)) continue;
+        if (agree_on(&c, call, pair, shown) && same_memories(&proved, &emulated, LENT_BY(&c))) continue;
         if (shown) printf("DIFFERENCE at the first pair %02X %02X\n", pair & 255u, pair >> 8);
         differences++;
     }
@@ -371,7 +336,7 @@ static unsigned long answered_14(void)
  * bit of one of them changed, which bit 9 alone may be; how many values differ. */
 static unsigned every_cc(void)
 {
-    struct run_case c = {emulated.sys, emulated.io, PAIR_SYSTEM, PAIR_IO, 0, 1, 0, 0};
+    struct run_case c = {emulated.memory[SYS], emulated.memory[IO], PAIR_SYSTEM, PAIR_IO, 0, 1, 0, 0};
     struct call step = {CALL_STEP, 0, STATE_BYTES, 0, 0};
     unsigned differences = 0;
     unsigned long before = answered_14();
@@ -383,7 +348,7 @@ static unsigned every_cc(void)
         iop89_set_cc(proved.state, 2, value);
         share_state();
         for (unsigned bit = 0; bit < 16; bit++) same = agree_apart(&c, value, bit, shown) && same;
-        if (same && same_memory(&c)) continue;
+        if (same && same_memories(&proved, &emulated, LENT_BY(&c))) continue;
         if (shown) printf("DIFFERENCE at CC %04" PRIX32 "\n", value);
         differences++;
     }
@@ -412,14 +377,14 @@ static void stand_in_pair(unsigned channel, bool stores, uint32_t held)
  * for 0, a second for 100h to 1FFh, and 17 for all others; how many differ. */
 static unsigned every_held(void)
 {
-    struct run_case c = {emulated.sys, emulated.io, PAIR_SYSTEM, PAIR_IO, 0, 1, 0, 0};
+    struct run_case c = {emulated.memory[SYS], emulated.memory[IO], PAIR_SYSTEM, PAIR_IO, 0, 1, 0, 0};
     unsigned differences = 0;
     unsigned long before = numbers[CALL_STEP][IOP89_NO_STATE];
     for (uint32_t i = 0; i < 4 * 65536; i++) {
         struct call call = {CALL_STEP, 1 + i % 2, STATE_BYTES, 0, 0};
         bool shown = differences < SHOWN;
         stand_in_pair(1 + i % 2, i / 2 % 2 != 0, i / 4);
-        if (agree_on(&c, call, i, shown) && same_memory(&c)) continue;
+        if (agree_on(&c, call, i, shown) && same_memories(&proved, &emulated, LENT_BY(&c))) continue;
         if (shown) printf("DIFFERENCE at the held number %04" PRIX32 "\n", i / 4);
         differences++;
     }
@@ -434,12 +399,9 @@ static unsigned every_held(void)
 /* Prints how often a call answered each number that it can. */
 static void print_call_numbers(enum call_kind kind, unsigned set)
 {
-    printf("%s, by number:\n", call_names[kind]);
-    for (unsigned i = 0; i <= IOP89_NO_STATE; i++) {
-        char name[120];
-        snprintf(name, sizeof name, "%u %s", i, iop89_service_words(i));
-        if ((set >> i & 1u) != 0) print_count(name, numbers[kind][i]);
-    }
+    char heading[40];
+    snprintf(heading, sizeof heading, "%s, by number:", call_names[kind]);
+    print_answers(heading, numbers[kind], set);
 }
 
 /* The numbers that each call can answer, and the commands that a channel takes. */
@@ -468,12 +430,7 @@ static void print_met(void)
     }
     print_count("power-ups of bytes that are no state, done", powered_none[1]);
     print_count("power-ups of bytes that are no state, refused", powered_none[0]);
-    puts("17, by its cause:");
-    for (enum state_fault fault = FAULT_LENGTH; fault < STATE_FAULTS; fault++) {
-        if (fault == FAULT_CHANNEL_1 || fault == FAULT_CHANNEL_2)
-            printf("17, in the block of channel %u:\n", fault == FAULT_CHANNEL_1 ? 1 : 2);
-        print_count(state_fault_name(fault), faults[fault]);
-    }
+    print_faults("17, by its cause:", faults);
     print_touched(bytes);
     print_fields(&coverage);
     print_coverage(&coverage, COMMANDS);
@@ -492,47 +449,24 @@ static unsigned long long too_long(void)
     size_t over = 0x100001;
     unsigned long long otherwise = 0;
     iop89_fresh(proved.state, STATE_BYTES, 0x12345);
-    otherwise += iop89_attention(proved.state, STATE_BYTES, nowhere, over, proved.io, 0, 1) != IOP89_BAD_BUFFER;
-    otherwise += iop89_step(proved.state, STATE_BYTES, nowhere, over, proved.io, 0, 0) != IOP89_BAD_BUFFER;
-    otherwise += iop89_power_up(proved.state, STATE_BYTES, nowhere, over, proved.io, 0) != IOP89_BAD_BUFFER;
-    otherwise += IOP89_NUMBER(iop89_board(nowhere, over, proved.io, 0, 1, 0, 1)) != IOP89_BAD_BUFFER;
+    otherwise += iop89_attention(proved.state, STATE_BYTES, nowhere, over, proved.memory[IO], 0, 1) != IOP89_BAD_BUFFER;
+    otherwise += iop89_step(proved.state, STATE_BYTES, nowhere, over, proved.memory[IO], 0, 0) != IOP89_BAD_BUFFER;
+    otherwise += iop89_power_up(proved.state, STATE_BYTES, nowhere, over, proved.memory[IO], 0) != IOP89_BAD_BUFFER;
+    otherwise += IOP89_NUMBER(iop89_board(nowhere, over, proved.memory[IO], 0, 1, 0, 1)) != IOP89_BAD_BUFFER;
     return otherwise;
-}
-
-/* ---- The command line ---- */
-
-/* The number in one word of the command line, or the usual one where it is left out. */
-static uint64_t argument(int count, char **words, int at, uint64_t usual)
-{
-    char *end = NULL;
-    if (at >= count) return usual;
-    uint64_t value = strtoull(words[at], &end, 0);
-    if (*words[at] >= '0' && *words[at] <= '9' && *end == '\0' && count <= 4) return value;
-    fputs("usage: compare_service [SEED [CASES [FIRST]]]\n", stderr);
-    exit(2);
 }
 
 int main(int count, char **words)
 {
-    unsigned long long differences = 0;
-    uint64_t seed = argument(count, words, 1, 1), cases = argument(count, words, 2, CASES_TO_MEET_ALL);
-    uint64_t first = argument(count, words, 3, 0);
-    emulated = new_side();
-    proved = new_side();
-    differences += too_long() + every_pair(seed) + every_cc() + every_held();
+    struct options o = read_options(&comparison, count, words);
+    emulated = new_machine();
+    proved = new_machine();
+    unsigned long long differences = too_long() + every_pair(o.seed) + every_cc() + every_held();
     memset(&coverage, 0, sizeof coverage); /* what was met is asked of the rows of calls */
     memset(bytes, 0, sizeof bytes);
     memset(anew, 0, sizeof anew);
-    for (uint64_t i = first; i < first + cases; i++) {
-        if (agree(seed, i, false)) continue;
-        if (differences++ >= SHOWN) continue;
-        printf("DIFFERENCE in case %" PRIu64 " (again: compare_service %" PRIu64 " 1 %" PRIu64 ")\n", i, seed, i);
-        agree(seed, i, true);
-    }
-    printf("seed %" PRIu64 ", %" PRIu64 " cases from %" PRIu64 ", %.1f seconds of processor time\n", seed, cases, first,
-           (double)clock() / CLOCKS_PER_SEC);
+    differences += compare_cases(&comparison, o, agree);
+    print_options(&comparison, o);
     print_met();
-    bool met = all_met(cases, CASES_TO_MEET_ALL, "cases");
-    printf("%llu differences\n", differences);
-    return differences > 0 || !met ? 1 : 0;
+    return conclude(&comparison, o, differences);
 }

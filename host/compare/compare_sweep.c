@@ -1,17 +1,18 @@
 /* Compares sweeps made three ways: by the service archive, by the emulator, and in plain steps of the archive. What they
  * answer, the state and every lent byte must be the same, and a refused sweep changes nothing. */
-#include "fences.h"
 #include "iop89_service.h"
-#include "met.h"
+#include "coverage.h"
+#include "options.h"
 #include "sweeps.h"
 
 #include <inttypes.h>
 #include <stdlib.h>
 #include <string.h>
-#include <time.h>
 
-/* How many sweeps meet everything, more steps than a sweep stands for, and how many differences are shown. */
-enum { SWEEPS_TO_MEET_ALL = 200000, STEP_LIMIT = 70000, SHOWN = 5 };
+static const struct comparison comparison = {"compare_sweep", "sweep", "sweeps", 200000};
+
+/* More steps than a sweep stands for. */
+enum { STEP_LIMIT = 70000 };
 
 /* What the plain steps came to: the number of the last, how many were done, and the sum of their counts. */
 struct plainly {
@@ -22,32 +23,16 @@ struct plainly {
 static struct machine given, emulated, swept, stepped;
 static struct emu_coverage coverage;
 
-/* ---- Buffers ---- */
-
-/* Room for one machine. */
-static struct machine new_machine(void)
+/* Gives a machine what was given. */
+static void lend_given(const struct machine *to, const struct sweep *s)
 {
-    struct machine m = {fenced(STATE_ROOM), {fenced(CASE_SYSTEM_ROOM), fenced(CASE_IO_ROOM)}};
-    return m;
+    lend_machine(to, &given, s->length);
 }
 
-/* Copies what was given to another machine, with fences right behind what is lent. */
-static void lend(const struct machine *to, const struct sweep *s)
-{
-    memcpy(to->state, given.state, STATE_ROOM);
-    for (unsigned i = 0; i < 2; i++) {
-        memcpy(to->memory[i], given.memory[i], s->length[i]);
-        fence_behind(to->memory[i], s->length[i]);
-    }
-}
-
-/* Whether two machines are the same, also behind the state's end, and the second has its fences. */
+/* Whether the second machine is what the first one is, and has its fences. */
 static bool same_machine(const struct machine *a, const struct machine *b, const struct sweep *s)
 {
-    bool same = memcmp(a->state, b->state, STATE_ROOM) == 0 && fences_stand(b->state, STATE_ROOM);
-    for (unsigned i = 0; i < 2 && same; i++)
-        same = memcmp(a->memory[i], b->memory[i], s->length[i]) == 0 && fences_stand(b->memory[i], s->length[i]);
-    return same;
+    return same_state(b, a) && same_memories(b, a, s->length);
 }
 
 /* ---- The three answers ---- */
@@ -260,7 +245,7 @@ static void show(const struct sweep *s, uint64_t emulator, uint64_t archive)
 /* Whether the plain steps came to the sweep's end in its number of steps and with its count. */
 static bool agree_plainly(const struct sweep *s, uint64_t answer, bool shown)
 {
-    lend(&stepped, s);
+    lend_given(&stepped, s);
     struct plainly p = by_steps(s);
     if (!shown) plain++;
     if (!shown && s->n >= MANY) plain_many[s->n - MANY]++;
@@ -281,8 +266,8 @@ static bool changed_nothing(const struct sweep *s, uint64_t answer, bool shown)
 static bool agree(uint64_t seed, uint64_t number, bool shown)
 {
     struct sweep s = make_sweep(given, seed, number);
-    lend(&emulated, &s);
-    lend(&swept, &s);
+    lend_given(&emulated, &s);
+    lend_given(&swept, &s);
     emu_coverage = shown ? NULL : &coverage;
     uint64_t emulator = by_emulator(&s), archive = by_archive(&s);
     emu_coverage = NULL;
@@ -300,7 +285,7 @@ static bool agree(uint64_t seed, uint64_t number, bool shown)
  * and 11, with bits 10, 9, 8 and 2 free. */
 static unsigned every_cc(void)
 {
-    struct dice d = seeded(4000037, 0);
+    struct random d = seeded(4000037, 0);
     struct sweep s = {.given = given, .length = {64, 64}, .state_len = STATE_BYTES, .channel = 1, .n = 7};
     struct range source = {false, 8}, destination = {true, 8};
     unsigned differences = 0, done = 0;
@@ -309,8 +294,8 @@ static unsigned every_cc(void)
     make_state(&d, &s);
     for (uint32_t cc = 0; cc < 65536; cc++) {
         iop89_set_cc(given.state, s.channel, cc);
-        lend(&emulated, &s);
-        lend(&swept, &s);
+        lend_given(&emulated, &s);
+        lend_given(&swept, &s);
         uint64_t emulator = by_emulator(&s), archive = by_archive(&s);
         done += IOP89_SWEEP_NUMBER(archive) == IOP89_DONE;
         if (emulator == archive && same_machine(&emulated, &swept, &s)) continue;
@@ -323,33 +308,15 @@ static unsigned every_cc(void)
 
 /* ---- What is printed ---- */
 
-/* Prints the counters of a table, each with its name. */
-static void print_table(const char *heading, const char *const names[], const unsigned long counts[], unsigned length)
-{
-    puts(heading);
-    for (unsigned i = 0; i < length; i++) print_count(names[i], counts[i]);
-}
-
-/* Prints the counters of the numbers from one to another, each with its number in its name; the first is at index 0. */
-static void print_row(const char *form, const unsigned long counts[], unsigned from, unsigned to)
-{
-    char name[60];
-    for (unsigned i = from; i <= to; i++) {
-        snprintf(name, sizeof name, form, i);
-        print_count(name, counts[i - from]);
-    }
-}
+/* The numbers that a sweep can answer. */
+#define SWEEP_NUMBERS (1u << 0 | 63u << 10 | 1u << 17)
 
 /* Prints the sweeps by number, refusals by what is wrong, by which of two comes first, and 17 by its cause. */
 static void print_refused(void)
 {
     static const unsigned first[] = {17, 12, 11, 10, 13, 14, 15};
     char name[120];
-    puts("sweeps, by number:");
-    for (unsigned i = 0; i <= IOP89_NO_STATE; i++) {
-        snprintf(name, sizeof name, "%u %s", i, iop89_service_words(i));
-        if (i == IOP89_DONE || (i >= IOP89_BAD_POINTER && i != 16)) print_count(name, numbers[i]);
-    }
+    print_answers("sweeps, by number:", numbers, SWEEP_NUMBERS);
     print_count("12 for the channel alone", by_channel);
     print_count("12 for the lines alone", by_lines);
     print_count("11 for system memory alone", by_system);
@@ -362,12 +329,7 @@ static void print_refused(void)
             print_count(name, order[first[i]][first[j]]);
         }
     }
-    puts("17, by its cause:");
-    for (enum state_fault fault = FAULT_LENGTH; fault < STATE_FAULTS; fault++) {
-        if (fault == FAULT_CHANNEL_1 || fault == FAULT_CHANNEL_2)
-            printf("17, in the block of channel %u:\n", fault == FAULT_CHANNEL_1 ? 1 : 2);
-        print_count(state_fault_name(fault), faults[fault]);
-    }
+    print_faults("17, by its cause:", faults);
 }
 
 /* Prints what alone barred sweeps, in each of its ways. */
@@ -375,26 +337,11 @@ static void print_alone(void)
 {
     print_barred(&coverage);
     print_table("of these:", alone_names, alone, ALONES);
-    print_row("under line number %u", ext + 4, 4, 15);
-    print_row("SYN %u", syn + 1, 1, 3);
-    print_row("TX %u", tx + 1, 1, 3);
-    print_row("TMC %u", tmc + 1, 1, 3);
-    print_row("TMC %u", tmc + 5, 5, 7);
-}
-
-/* Prints the done sweeps by both sides' widths, odd addresses and spaces together. */
-static void print_sides(void)
-{
-    static const char *const ways[3][4] = {
-        {"8 into 8 bits", "16 into 8 bits", "8 into 16 bits", "16 into 16 bits"},
-        {"even into even", "odd into even", "even into odd", "odd into odd"},
-        {"system into system", "I/O into system", "system into I/O", "I/O into I/O"}};
-    char name[80];
-    puts("done sweeps, by sides:");
-    for (unsigned i = 0; i < 64; i++) {
-        snprintf(name, sizeof name, "%s, %s, %s", ways[0][i / 16], ways[1][i / 4 % 4], ways[2][i % 4]);
-        print_count(name, coverage.swept[i / 16][i / 4 % 4][i % 4]);
-    }
+    print_numbered("under line number %u", ext + 4, 4, 15);
+    print_numbered("SYN %u", syn + 1, 1, 3);
+    print_numbered("TX %u", tx + 1, 1, 3);
+    print_numbered("TMC %u", tmc + 1, 1, 3);
+    print_numbered("TMC %u", tmc + 5, 5, 7);
 }
 
 /* Prints where the ranges of done sweeps ended. */
@@ -413,55 +360,32 @@ static void print_met(void)
 {
     print_refused();
     print_alone();
-    print_sides();
+    print_sides("done sweeps, by sides:", coverage.swept);
     print_swept(&coverage);
     print_table("done sweeps, by what they were given:", met_names, met, METS);
     print_ends();
-    print_row("TBC %u", tbc + 1, 1, 3);
-    print_row("channel 1 under line number %u", under[0], 0, 3);
-    print_row("channel 2 under line number %u", under[1], 0, 3);
-    print_row("bytes: %u", few + 1, 1, FEW);
+    print_numbered("TBC %u", tbc + 1, 1, 3);
+    print_numbered("channel 1 under line number %u", under[0], 0, 3);
+    print_numbered("channel 2 under line number %u", under[1], 0, 3);
+    print_numbered("bytes: %u", few + 1, 1, FEW);
     print_count("bytes: more, and fewer than 65533", between);
-    print_row("bytes: %u", many, MANY, MOST);
+    print_numbered("bytes: %u", many, MANY, MOST);
     print_count("made in plain steps too", plain);
-    print_row("made in plain steps too, bytes: %u", plain_many, MANY, MOST);
-}
-
-/* ---- The command line ---- */
-
-/* The number in one word of the command line, or the usual one where it is left out. */
-static uint64_t argument(int count, char **words, int at, uint64_t usual)
-{
-    char *end = NULL;
-    if (at >= count) return usual;
-    uint64_t value = strtoull(words[at], &end, 0);
-    if (*words[at] >= '0' && *words[at] <= '9' && *end == '\0' && count <= 4) return value;
-    fputs("usage: compare_sweep [SEED [SWEEPS [FIRST]]]\n", stderr);
-    exit(2);
+    print_numbered("made in plain steps too, bytes: %u", plain_many, MANY, MOST);
 }
 
 int main(int count, char **words)
 {
-    uint64_t seed = argument(count, words, 1, 1), sweeps = argument(count, words, 2, SWEEPS_TO_MEET_ALL);
-    uint64_t first = argument(count, words, 3, 0);
-    struct dice d = seeded(seed, 0);
+    struct options o = read_options(&comparison, count, words);
+    struct random d = seeded(o.seed, 0);
     given = new_machine();
     emulated = new_machine();
     swept = new_machine();
     stepped = new_machine();
-    scatter(&d, given.memory[0], CASE_SYSTEM_ROOM);
-    scatter(&d, given.memory[1], CASE_IO_ROOM);
-    unsigned long long differences = 0, at_cc = every_cc();
-    for (uint64_t i = first; i < first + sweeps; i++) {
-        if (agree(seed, i, false)) continue;
-        if (differences++ >= SHOWN) continue;
-        printf("DIFFERENCE in sweep %" PRIu64 " (again: compare_sweep %" PRIu64 " 1 %" PRIu64 ")\n", i, seed, i);
-        agree(seed, i, true);
-    }
-    printf("seed %" PRIu64 ", %" PRIu64 " sweeps from %" PRIu64 ", %.1f seconds of processor time\n", seed, sweeps,
-           first, (double)clock() / CLOCKS_PER_SEC);
+    scatter(&d, given.memory[SYS], CASE_SYSTEM_ROOM);
+    scatter(&d, given.memory[IO], CASE_IO_ROOM);
+    unsigned long long at_cc = every_cc(), differences = compare_cases(&comparison, o, agree);
+    print_options(&comparison, o);
     print_met();
-    bool all = all_met(sweeps, SWEEPS_TO_MEET_ALL, "sweeps");
-    printf("%llu differences\n", differences + at_cc);
-    return differences + at_cc > 0 || !all ? 1 : 0;
+    return conclude(&comparison, o, differences + at_cc);
 }

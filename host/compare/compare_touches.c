@@ -1,21 +1,20 @@
 /* Compares what the archive tells of a call before it is made with what the emulator notes while it works: number, channel,
  * kind, count, and each place in its order, on random states, whole and damaged; then makes the call, which must answer as
  * was told. */
-#include "cases.h"
-#include "emulator/state_bytes.h"
-#include "fences.h"
+#include "coverage.h"
 #include "iop89_service.h"
-#include "met.h"
+#include "lent.h"
+#include "options.h"
 #include "states.h"
 
 #include <inttypes.h>
 #include <stdlib.h>
 #include <string.h>
-#include <time.h>
 
-/* How many calls meet everything, how many a case has, room for state bytes of a wrong length and for places, what stands
- * where none was told, and how many differences are shown. */
-enum { CALLS_TO_MEET_ALL = 1000000, CASE_CALLS = 12, STATE_ROOM = 2 * STATE_BYTES, PLACE_ROOM = 16, SHOWN = 5 };
+static const struct comparison comparison = {"compare_touches", "row", "rows of twelve calls", 100000};
+
+/* How many calls a row has, room for places, and what stands where none was told. */
+enum { ROW_CALLS = 12, PLACE_ROOM = 16 };
 #define UNTOLD 0xDEADBEEFu
 
 enum call_kind { CALL_ATTENTION, CALL_POWER, CALL_STEP, CALL_SWEEP, CALLS };
@@ -33,7 +32,9 @@ struct told {
     uint32_t answer, place[PLACE_ROOM];
 };
 
-static uint8_t *sys, *io, *state, *sys_behind, *io_behind;
+/* The machine that both look at, and a copy of its memories. */
+static struct machine machine, copy;
+static uint8_t *sys, *io, *state;
 static struct emu_coverage coverage;
 
 /* ---- What was met ---- */
@@ -191,7 +192,7 @@ static void put_byte_in(const struct run_case *c, uint32_t address, uint8_t byte
 }
 
 /* Puts a channel's pointers right before the lent end of system memory, or to high addresses of I/O space. */
-static void to_the_edge(struct dice *d, const struct run_case *c)
+static void to_the_edge(struct random *d, const struct run_case *c)
 {
     static const enum iop89_register pointers[] = {IOP89_GA, IOP89_GB, IOP89_GC, IOP89_TP, IOP89_PP};
     unsigned channel = 1 + below(d, 2);
@@ -204,7 +205,7 @@ static void to_the_edge(struct dice *d, const struct run_case *c)
 }
 
 /* A channel before MOV M,M whose second pair ends where lent memory does, so that its offset byte is beyond. */
-static void cut_second_offset(struct dice *d, const struct run_case *c)
+static void cut_second_offset(struct random *d, const struct run_case *c)
 {
     unsigned channel = 1 + below(d, 2), w = below(d, 2);
     if (c->sys_len < 8 || c->sys_len > MASK20) return;
@@ -228,7 +229,7 @@ static void cut_board(const struct run_case *c)
 }
 
 /* A state that the calls of a case go on from, changed before some of them. */
-static void change_state(struct dice *d, const struct run_case *c)
+static void change_state(struct random *d, const struct run_case *c)
 {
     if (chance(d, 100)) poke_state(d, c, state);
     if (chance(d, 80)) pair_up(d, c, state);
@@ -242,7 +243,7 @@ static void change_state(struct dice *d, const struct run_case *c)
 }
 
 /* The next call: a fresh machine gets its attention first. */
-static struct call next_call(struct dice *d, const struct run_case *c, unsigned index)
+static struct call next_call(struct random *d, const struct run_case *c, unsigned index)
 {
     static const uint32_t odd[] = {0, 3, 16, 255, 0x80000001, 0xFFFFFFFF};
     static const size_t lengths[] = {0, STATE_BYTES - 1, STATE_BYTES + 1, STATE_ROOM};
@@ -293,15 +294,14 @@ static bool agree_on(const struct run_case *c, const struct call *call, unsigned
 /* Makes a case's calls in a row. */
 static bool agree(uint64_t seed, uint64_t number, bool shown)
 {
-    struct dice d = seeded(seed + 3000017, number);
+    struct random d = seeded(seed + 3000017, number);
     struct run_case c = {sys, io, 0, 0, 0, 0, 0, 0};
     make_case(&c, seed, number);
-    fence_behind(sys, c.sys_len);
-    fence_behind(io, c.io_len);
+    lend_memories(&machine, &machine, LENT_BY(&c));
     memset(state, 0, STATE_ROOM);
     if (chance(&d, 700)) iop89_fresh(state, STATE_BYTES, c.cp);
     else any_state(&d, &c, state);
-    for (unsigned i = 0; i < CASE_CALLS; i++) {
+    for (unsigned i = 0; i < ROW_CALLS; i++) {
         if (i > 0) change_state(&d, &c);
         struct call call = next_call(&d, &c, i);
         if (!agree_on(&c, &call, i, shown)) return false;
@@ -318,18 +318,18 @@ static unsigned long long unchanged(uint64_t seed)
 {
     unsigned long long changed = 0;
     for (uint64_t number = 0; number < 300; number++) {
-        struct dice d = seeded(seed + 4000037, number);
+        struct random d = seeded(seed + 4000037, number);
         struct run_case c = {sys, io, 0, 0, 0, 0, 0, 0};
         make_case(&c, seed + 7, number);
         any_state(&d, &c, state);
         block_up(&d, &c, state);
-        memcpy(sys_behind, sys, c.sys_len);
-        memcpy(io_behind, io, c.io_len);
+        lend_memories(&machine, &machine, LENT_BY(&c));
+        lend_machine(&copy, &machine, LENT_BY(&c));
         for (unsigned kind = 0; kind < CALLS; kind++) {
             struct call call = {(enum call_kind)kind, 1 + below(&d, 2), below(&d, 16), STATE_BYTES, IOP89_PLACES};
             (void)by_archive(&c, &call);
         }
-        changed += memcmp(sys_behind, sys, c.sys_len) != 0 || memcmp(io_behind, io, c.io_len) != 0;
+        changed += !same_memories(&machine, &copy, LENT_BY(&c)) || !same_state(&machine, &copy);
     }
     return changed;
 }
@@ -414,38 +414,16 @@ static void print_met(void)
     for (unsigned i = 0; i < THINGS; i++) print_count(thing_names[i], things[i]);
 }
 
-/* ---- The command line ---- */
-
-/* The number in one word of the command line, or the usual one where it is left out. */
-static uint64_t argument(int count, char **words, int at, uint64_t usual)
-{
-    char *end = NULL;
-    if (at >= count) return usual;
-    uint64_t value = strtoull(words[at], &end, 0);
-    if (*words[at] >= '0' && *words[at] <= '9' && *end == '\0' && count <= 4) return value;
-    fputs("usage: compare_touches [SEED [CALLS [FIRST]]]\n", stderr);
-    exit(2);
-}
-
 int main(int count, char **words)
 {
-    uint64_t seed = argument(count, words, 1, 1), calls = argument(count, words, 2, CALLS_TO_MEET_ALL);
-    uint64_t first = argument(count, words, 3, 0), cases = (calls + CASE_CALLS - 1) / CASE_CALLS;
-    sys = fenced(CASE_SYSTEM_ROOM), sys_behind = fenced(CASE_SYSTEM_ROOM);
-    io = fenced(CASE_IO_ROOM), io_behind = fenced(CASE_IO_ROOM);
-    state = fenced(STATE_ROOM);
-    unsigned long long differences = unchanged(seed);
-    if (differences > 0) printf("DIFFERENCE: asking changed memory in %llu cases\n", differences);
-    for (uint64_t i = first; i < first + cases; i++) {
-        if (agree(seed, i, false)) continue;
-        if (differences++ >= SHOWN) continue;
-        printf("DIFFERENCE in case %" PRIu64 " (again: compare_touches %" PRIu64 " 1 %" PRIu64 ")\n", i, seed, i);
-        agree(seed, i, true);
-    }
-    printf("seed %" PRIu64 ", %" PRIu64 " calls from case %" PRIu64 ", %.1f seconds of processor time\n", seed,
-           cases * CASE_CALLS, first, (double)clock() / CLOCKS_PER_SEC);
+    struct options o = read_options(&comparison, count, words);
+    machine = new_machine();
+    copy = new_machine();
+    sys = machine.memory[SYS], io = machine.memory[IO], state = machine.state;
+    unsigned long long differences = unchanged(o.seed);
+    if (differences > 0) printf("DIFFERENCE: asking changed the machine in %llu cases\n", differences);
+    differences += compare_cases(&comparison, o, agree);
+    print_options(&comparison, o);
     print_met();
-    bool met = all_met(cases * CASE_CALLS, CALLS_TO_MEET_ALL, "calls");
-    printf("%llu differences\n", differences);
-    return differences > 0 || !met ? 1 : 0;
+    return conclude(&comparison, o, differences);
 }

@@ -1,13 +1,13 @@
 /* Random hexadecimal texts: records that wrap, overlap and end as they like, and one or two damages. */
 #include "hex_texts.h"
 
-#include "dice.h"
+#include "random.h"
 
 #include <string.h>
 
 /* A text as it grows: its case of digits and its line ends. */
 struct maker {
-    struct dice dice;
+    struct random random;
     struct hex_case *c;
     unsigned style;      /* 0 upper case, 1 lower case, 2 mixed */
     unsigned ends;       /* 0 LF, 1 CR LF, 2 mixed */
@@ -38,7 +38,7 @@ static void put(struct maker *m, uint8_t byte)
 /* Adds a digit in the text's case. */
 static void put_digit(struct maker *m, unsigned value)
 {
-    bool lower = m->style == 1 || (m->style == 2 && chance(&m->dice, 500));
+    bool lower = m->style == 1 || (m->style == 2 && chance(&m->random, 500));
     put(m, (uint8_t)(lower ? "0123456789abcdef" : "0123456789ABCDEF")[value & 15u]);
 }
 
@@ -52,7 +52,7 @@ static void put_byte(struct maker *m, unsigned value)
 /* Adds a line end. */
 static void put_line_end(struct maker *m)
 {
-    bool crlf = m->ends == 1 || (m->ends == 2 && chance(&m->dice, 500));
+    bool crlf = m->ends == 1 || (m->ends == 2 && chance(&m->random, 500));
     if (crlf) put(m, '\r');
     put(m, '\n');
     met(m, crlf ? HEX_CRLF : HEX_LF);
@@ -79,13 +79,13 @@ static void put_record(struct maker *m, unsigned type, uint32_t address, const u
 /* Fills some bytes. */
 static void fill(struct maker *m, uint8_t *data, unsigned length)
 {
-    for (unsigned i = 0; i < length; i++) data[i] = (uint8_t)below(&m->dice, 256);
+    for (unsigned i = 0; i < length; i++) data[i] = (uint8_t)below(&m->random, 256);
 }
 
 /* A length of data: mostly short, at times none or all 255. */
 static unsigned data_length(struct maker *m)
 {
-    unsigned pick = below(&m->dice, 100);
+    unsigned pick = below(&m->random, 100);
     if (pick < 5) {
         met(m, HEX_EMPTY_DATA);
         return 0;
@@ -94,17 +94,17 @@ static unsigned data_length(struct maker *m)
         met(m, HEX_LONGEST_DATA);
         return 255;
     }
-    return 1 + below(&m->dice, 40);
+    return 1 + below(&m->random, 40);
 }
 
 /* An address in a segment: near the end of its 64 KiB, near the last record, or anywhere low or high. */
 static uint32_t data_address(struct maker *m)
 {
-    unsigned pick = below(&m->dice, 100);
-    if (pick < 20) return 0xFFFFu - below(&m->dice, 24);
-    if (pick < 45) return (m->last_place - m->segment * 16 + below(&m->dice, 16)) & 0xFFFFu;
-    if (pick < 85) return below(&m->dice, 512);
-    return below(&m->dice, 65536);
+    unsigned pick = below(&m->random, 100);
+    if (pick < 20) return 0xFFFFu - below(&m->random, 24);
+    if (pick < 45) return (m->last_place - m->segment * 16 + below(&m->random, 16)) & 0xFFFFu;
+    if (pick < 85) return below(&m->random, 512);
+    return below(&m->random, 65536);
 }
 
 /* A data record. */
@@ -125,10 +125,10 @@ static void put_data(struct maker *m)
 /* A record of type 02: low, in the last 64 KiB, or anywhere. */
 static void put_segment(struct maker *m)
 {
-    unsigned pick = below(&m->dice, 100);
-    m->segment = pick < 60 ? below(&m->dice, 64) : pick < 90 ? 0xFFFFu - below(&m->dice, 4096) : below(&m->dice, 65536);
+    unsigned pick = below(&m->random, 100);
+    m->segment = pick < 60 ? below(&m->random, 64) : pick < 90 ? 0xFFFFu - below(&m->random, 4096) : below(&m->random, 65536);
     uint8_t data[2] = {(uint8_t)(m->segment >> 8), (uint8_t)m->segment};
-    uint32_t address = chance(&m->dice, 200) ? 1 + below(&m->dice, 65535) : 0;
+    uint32_t address = chance(&m->random, 200) ? 1 + below(&m->random, 65535) : 0;
     if (address != 0) met(m, HEX_FREE_ADDRESS);
     put_record(m, 2, address, data, 2, 0);
     met(m, HEX_SEGMENT);
@@ -146,7 +146,7 @@ static void put_start(struct maker *m)
 /* Any good record but the end. */
 static void put_good(struct maker *m)
 {
-    unsigned pick = below(&m->dice, 100);
+    unsigned pick = below(&m->random, 100);
     if (pick < 65) put_data(m);
     else if (pick < 88) put_segment(m);
     else put_start(m);
@@ -156,7 +156,7 @@ static void put_good(struct maker *m)
 static void put_behind(struct maker *m)
 {
     static const char *const tails[] = {"\n", "trailer\r\n", ":00000001FF\n", ":0\n\n", "\r", "\032", ":10"};
-    const char *tail = ONE_OF(&m->dice, tails);
+    const char *tail = ONE_OF(&m->random, tails);
     for (; *tail != '\0'; tail++) put(m, (uint8_t)*tail);
     met(m, HEX_TEXT_BEHIND);
 }
@@ -168,12 +168,12 @@ static void put_bad_type(struct maker *m, enum hex_feature feature)
 {
     static const uint8_t types[] = {4, 5, 6, 0x10, 0x20, 0x81, 0xFF};
     uint8_t data[255];
-    unsigned length = below(&m->dice, 6), off = feature == HEX_DAMAGE_TYPE_CHECK ? 1 + below(&m->dice, 255) : 0;
-    unsigned type = feature == HEX_DAMAGE_SIZE ? 1 + below(&m->dice, 3) : ONE_OF(&m->dice, types);
+    unsigned length = below(&m->random, 6), off = feature == HEX_DAMAGE_TYPE_CHECK ? 1 + below(&m->random, 255) : 0;
+    unsigned type = feature == HEX_DAMAGE_SIZE ? 1 + below(&m->random, 3) : ONE_OF(&m->random, types);
     unsigned right = type == 1 ? 0 : type == 2 ? 2 : 4;
     if (feature == HEX_DAMAGE_SIZE && length == right) length++;
     fill(m, data, length);
-    put_record(m, type, below(&m->dice, 65536), data, length, off);
+    put_record(m, type, below(&m->random, 65536), data, length, off);
     put_line_end(m);
 }
 
@@ -192,20 +192,20 @@ static void put_bad(struct maker *m, enum hex_feature feature)
         put_bad_type(m, feature);
         return;
     }
-    unsigned length = below(&m->dice, 20);
+    unsigned length = below(&m->random, 20);
     fill(m, data, length);
-    put_record(m, 0, below(&m->dice, 512), data, length, feature == HEX_DAMAGE_CHECK ? 1 + below(&m->dice, 255) : 0);
-    size_t made = m->c->text_len - from, at = from + below(&m->dice, made);
+    put_record(m, 0, below(&m->random, 512), data, length, feature == HEX_DAMAGE_CHECK ? 1 + below(&m->random, 255) : 0);
+    size_t made = m->c->text_len - from, at = from + below(&m->random, made);
     uint8_t *text = m->c->text;
     if (feature == HEX_DAMAGE_BYTE)
-        text[at] = chance(&m->dice, 500) ? (uint8_t)odd[below(&m->dice, sizeof odd - 1)] : (uint8_t)below(&m->dice, 256);
-    if (feature == HEX_DAMAGE_COLON) text[from] = (uint8_t)odd[below(&m->dice, sizeof odd - 1)];
+        text[at] = chance(&m->random, 500) ? (uint8_t)odd[below(&m->random, sizeof odd - 1)] : (uint8_t)below(&m->random, 256);
+    if (feature == HEX_DAMAGE_COLON) text[from] = (uint8_t)odd[below(&m->random, sizeof odd - 1)];
     if (feature == HEX_DAMAGE_LOST) {
         memmove(text + at, text + at + 1, m->c->text_len - at - 1);
         m->c->text_len--;
     }
-    if (feature == HEX_DAMAGE_ADDED) put_digit(m, below(&m->dice, 16));
-    if (feature == HEX_DAMAGE_TAIL) put(m, (uint8_t) " 0x;"[below(&m->dice, 4)]);
+    if (feature == HEX_DAMAGE_ADDED) put_digit(m, below(&m->random, 16));
+    if (feature == HEX_DAMAGE_TAIL) put(m, (uint8_t) " 0x;"[below(&m->random, 4)]);
     if (feature == HEX_DAMAGE_CR) put(m, '\r');
     if (feature != HEX_DAMAGE_CR) put_line_end(m);
 }
@@ -213,12 +213,12 @@ static void put_bad(struct maker *m, enum hex_feature feature)
 /* Cuts the text off anywhere, or leaves nothing of it. */
 static void cut(struct maker *m)
 {
-    if (chance(&m->dice, 100)) {
+    if (chance(&m->random, 100)) {
         m->c->text_len = 0;
         met(m, HEX_DAMAGE_EMPTY);
         return;
     }
-    m->c->text_len = below(&m->dice, m->c->text_len + 1);
+    m->c->text_len = below(&m->random, m->c->text_len + 1);
     met(m, HEX_DAMAGE_CUT);
 }
 
@@ -227,13 +227,13 @@ static void cut(struct maker *m)
 /* How much memory is lent: little, some, all, or too much. */
 static size_t lent(struct maker *m)
 {
-    unsigned pick = below(&m->dice, 100);
-    if (pick < 3) return below(&m->dice, 64);
-    if (pick < 40) return below(&m->dice, 2048);
-    if (pick < 70) return 65536 + below(&m->dice, 4096);
+    unsigned pick = below(&m->random, 100);
+    if (pick < 3) return below(&m->random, 64);
+    if (pick < 40) return below(&m->random, 2048);
+    if (pick < 70) return 65536 + below(&m->random, 4096);
     if (pick < 72) return HEX_SYSTEM_ROOM;
     if (pick < 90) return 1048576;
-    return 1048576 - below(&m->dice, 64);
+    return 1048576 - below(&m->random, 64);
 }
 
 /* The records, with a bad line before one of them where there is to be one. */
@@ -243,7 +243,7 @@ static void put_records(struct maker *m, unsigned count, unsigned bad_at)
                                              HEX_DAMAGE_COLON, HEX_DAMAGE_CHECK, HEX_DAMAGE_TYPE,  HEX_DAMAGE_SIZE,
                                              HEX_DAMAGE_TYPE_CHECK, HEX_DAMAGE_TAIL, HEX_DAMAGE_CR};
     for (unsigned i = 0; i < count; i++) {
-        if (i == bad_at) put_bad(m, ONE_OF(&m->dice, kinds));
+        if (i == bad_at) put_bad(m, ONE_OF(&m->random, kinds));
         put_good(m);
         put_line_end(m);
     }
@@ -252,19 +252,19 @@ static void put_records(struct maker *m, unsigned count, unsigned bad_at)
 /* The end record, and what follows it. */
 static void put_end(struct maker *m)
 {
-    uint32_t address = chance(&m->dice, 100) ? 1 + below(&m->dice, 65535) : 0;
+    uint32_t address = chance(&m->random, 100) ? 1 + below(&m->random, 65535) : 0;
     if (address != 0) met(m, HEX_FREE_ADDRESS);
     put_record(m, 1, address, NULL, 0, 0);
-    if (chance(&m->dice, 40)) {
-        put(m, (uint8_t) " 0\r"[below(&m->dice, 3)]);
+    if (chance(&m->random, 40)) {
+        put(m, (uint8_t) " 0\r"[below(&m->random, 3)]);
         met(m, HEX_DAMAGE_TAIL);
     }
-    if (chance(&m->dice, 200)) {
+    if (chance(&m->random, 200)) {
         met(m, HEX_NO_LAST_LINE_END);
         return;
     }
     put_line_end(m);
-    if (chance(&m->dice, 300)) put_behind(m);
+    if (chance(&m->random, 300)) put_behind(m);
 }
 
 void make_hex_case(struct hex_case *c, uint64_t seed, uint64_t number)
@@ -272,14 +272,14 @@ void make_hex_case(struct hex_case *c, uint64_t seed, uint64_t number)
     struct maker m = {seeded(seed, number), c, 0, 0, 0, 0, 0, 0, HEX_TEXT_ROOM};
     c->text_len = 0;
     c->sys_len = lent(&m);
-    m.style = below(&m.dice, 3);
-    m.ends = below(&m.dice, 3);
+    m.style = below(&m.random, 3);
+    m.ends = below(&m.random, 3);
     met(&m, m.style == 0 ? HEX_UPPER_CASE : m.style == 1 ? HEX_LOWER_CASE : HEX_MIXED_CASE);
-    unsigned count = 1 + below(&m.dice, MOST_RECORDS);
-    put_records(&m, count, chance(&m.dice, 450) ? below(&m.dice, count) : count);
-    if (chance(&m.dice, 60)) met(&m, HEX_DAMAGE_NO_END);
+    unsigned count = 1 + below(&m.random, MOST_RECORDS);
+    put_records(&m, count, chance(&m.random, 450) ? below(&m.random, count) : count);
+    if (chance(&m.random, 60)) met(&m, HEX_DAMAGE_NO_END);
     else put_end(&m);
-    if (chance(&m.dice, 50)) cut(&m);
+    if (chance(&m.random, 50)) cut(&m);
 }
 
 size_t hex_image(uint8_t *text, const uint8_t *bytes, size_t count, uint32_t address)

@@ -12,7 +12,7 @@
    it is: among the fields of CC to disagree with it, the registers to be set, the counts of a search, the kinds of pairs,
    their bytes not to be lent, what meets a held byte, and what bars a sweep. */
 struct writer {
-    struct dice d;
+    struct random d;
     struct session s;
     FILE *out, *nowhere;
     size_t written;

@@ -39,7 +39,7 @@ uint32_t busy_of(const struct row *r, uint32_t channel)
 }
 
 /* How many bytes are moved: few, some hundred, or all that can be; room for PB where it is to lie among them. */
-static uint32_t some_count(struct dice *d, enum breach breach, bool large)
+static uint32_t some_count(struct random *d, enum breach breach, bool large)
 {
     if (large) return MOST;
     if (chance(d, 20)) return FEW + 1 + below(d, 300);
@@ -47,7 +47,7 @@ static uint32_t some_count(struct dice *d, enum breach breach, bool large)
 }
 
 /* The space and length of everything; a range of all of I/O space leaves no room there. */
-static void choose_spaces(struct dice *d, struct row *r)
+static void choose_spaces(struct random *d, struct row *r)
 {
     static const enum item either[] = {OWN_PROGRAM, OTHER_PROGRAM, SOURCE, DESTINATION};
     const uint32_t lengths[ITEMS] = {CONTROL_BYTES, SAVED_BYTES, SAVED_BYTES, PROGRAM_BYTES, PROGRAM_BYTES,
@@ -61,7 +61,7 @@ static void choose_spaces(struct dice *d, struct row *r)
 }
 
 /* Puts everything behind each other in its space, in any order and often without a gap; lends a few bytes more or none. */
-static void pack(struct dice *d, struct row *r)
+static void pack(struct random *d, struct row *r)
 {
     unsigned order[ITEMS];
     uint32_t end[2] = {below(d, 24), below(d, 24)};
@@ -92,7 +92,7 @@ static void go_up(struct row *r, const struct place *over, uint32_t index)
 }
 
 /* Goes up in system space, mostly so that PB is over the top, or now and then in I/O space. */
-static void choose_tops(struct dice *d, struct row *r, bool whole)
+static void choose_tops(struct random *d, struct row *r, bool whole)
 {
     const struct place *p = &r->place[below(d, ITEMS)];
     if (whole && chance(d, 700)) go_up(r, &r->place[OWN_PB], 1 + below(d, SAVED_BYTES - 1));
@@ -100,7 +100,7 @@ static void choose_tops(struct dice *d, struct row *r, bool whole)
 }
 
 /* Where everything lies, and how much is lent; where a premise is broken PB is on BUSY or in the destination. */
-static void choose_places(struct dice *d, struct row *r, bool large, bool whole)
+static void choose_places(struct random *d, struct row *r, bool large, bool whole)
 {
     r->n = some_count(d, r->breach, large);
     choose_spaces(d, r);
@@ -142,12 +142,12 @@ static void put_all(const struct row *r, const struct place *p, const uint8_t *b
 }
 
 /* Gives a range new bytes. */
-static void renew(struct dice *d, const struct row *r, const struct place *p)
+static void renew(struct random *d, const struct row *r, const struct place *p)
 {
     for (uint32_t i = 0; i < p->length; i++) r->given.memory[p->in_io][address_in(p, i)] = (uint8_t)roll(d);
 }
 
-void as_start(struct dice *d, const struct place *program, uint8_t words[SAVED_BYTES])
+void as_start(struct random *d, const struct place *program, uint8_t words[SAVED_BYTES])
 {
     as_doubleword(d, program->at, words);
     if (!program->in_io) return;
@@ -156,7 +156,7 @@ void as_start(struct dice *d, const struct place *program, uint8_t words[SAVED_B
 }
 
 /* Puts a channel's control block, with the command that starts its program and any upper bits, and PB's words. */
-static void put_start(struct dice *d, const struct row *r, uint32_t channel, const struct place *pb,
+static void put_start(struct random *d, const struct row *r, uint32_t channel, const struct place *pb,
                       const struct place *program)
 {
     uint8_t bytes[6] = {(uint8_t)((program->in_io ? START_IO : START_SYSTEM) | below(d, 32) << 3), (uint8_t)roll(d)};
@@ -169,7 +169,7 @@ static void put_start(struct dice *d, const struct row *r, uint32_t channel, con
 }
 
 /* Writes both programs: the other channel's goes round in the rooms, the channel's own sets the transfer up. */
-static void put_programs(struct dice *d, struct row *r)
+static void put_programs(struct random *d, struct row *r)
 {
     static struct program p;
     const struct place *source = &r->place[SOURCE], *destination = &r->place[DESTINATION];
@@ -191,7 +191,7 @@ static void put_programs(struct dice *d, struct row *r)
 /* ---- States ---- */
 
 /* Stands the other channel at its program, in any mode; where it is suspended PB has what a resume reads. */
-static void stand_other(struct dice *d, const struct row *r)
+static void stand_other(struct random *d, const struct row *r)
 {
     const struct place *program = &r->place[OTHER_PROGRAM];
     uint8_t *state = r->given.state, psw = (uint8_t)(below(d, 256) & ~(uint32_t)EMU_PSW_XF);
@@ -208,7 +208,7 @@ static void stand_other(struct dice *d, const struct row *r)
 }
 
 /* Makes the state in which the channel has the whole transfer before it, with anything else in it that is sound. */
-static void stand(struct dice *d, const struct row *r)
+static void stand(struct random *d, const struct row *r)
 {
     const struct place *source = &r->place[SOURCE], *destination = &r->place[DESTINATION];
     struct sweep s = {.given = r->given, .channel = r->channel, .n = r->n, .source = {source->in_io, source->at}};
@@ -227,7 +227,7 @@ static void stand(struct dice *d, const struct row *r)
 /* ---- Rows ---- */
 
 /* After how many transfer steps the pauses come: often before the first, before the last, or where one is already. */
-static void choose_pauses(struct dice *d, struct row *r)
+static void choose_pauses(struct random *d, struct row *r)
 {
     uint32_t needed = steps_needed(r);
     r->pauses = 1 + below(d, MOST_PAUSES);
@@ -243,7 +243,7 @@ static void choose_pauses(struct dice *d, struct row *r)
 
 struct row make_row(struct machine given, uint64_t seed, uint64_t number)
 {
-    struct dice d = seeded(seed + 5000011, number);
+    struct random d = seeded(seed + 5000011, number);
     struct row r = {.given = given, .channel = 1 + below(&d, 2), .widths = below(&d, 4)};
     bool large = number % LARGE_EVERY == 1, whole = number % WHOLE_EVERY == 2;
     if (number % BREACH_EVERY == 0) r.breach = (enum breach)(1 + number / BREACH_EVERY % (BREACHES - 1));

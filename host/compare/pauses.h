@@ -53,7 +53,7 @@ uint32_t ccw_of(const struct row *r, uint32_t channel);
 uint32_t busy_of(const struct row *r, uint32_t channel);
 
 /* PB's words by which a start finds a program; in I/O space the second counts for nothing. */
-void as_start(struct dice *d, const struct place *program, uint8_t words[SAVED_BYTES]);
+void as_start(struct random *d, const struct place *program, uint8_t words[SAVED_BYTES]);
 
 /* By the documents: how many transfer steps a row's channel needs, and how many bytes have moved after so many. */
 uint32_t steps_needed(const struct row *r);

@@ -13,7 +13,7 @@ bool is_processor(uint32_t processor)
 /* ---- What both are given ---- */
 
 /* How long an I/O memory is beside another: as long, any small length, none, all, or one byte over the limit. */
-static size_t some_io_length(struct dice *d, size_t beside)
+static size_t some_io_length(struct random *d, size_t beside)
 {
     unsigned kind = below(d, 1000);
     if (kind < 150) return beside;
@@ -23,7 +23,7 @@ static size_t some_io_length(struct dice *d, size_t beside)
 }
 
 /* Where the second control block is: the first one, over it, behind it, or anywhere. */
-static uint32_t some_cp(struct dice *d, const struct run_case *first)
+static uint32_t some_cp(struct random *d, const struct run_case *first)
 {
     unsigned kind = below(d, 1000);
     if (kind < 200) return first->cp;
@@ -33,7 +33,7 @@ static uint32_t some_cp(struct dice *d, const struct run_case *first)
 
 void make_processors(struct processors *p, uint64_t seed, uint64_t number)
 {
-    struct dice d = seeded(seed + 7000003, number);
+    struct random d = seeded(seed + 7000003, number);
     struct run_case *first = &p->of[0], *second = &p->of[1];
     uint8_t *io = second->io;
     make_case(first, seed, number);
@@ -51,7 +51,7 @@ void make_processors(struct processors *p, uint64_t seed, uint64_t number)
 /* ---- Calls ---- */
 
 /* What kind of call comes: mostly a step; a power-up more often where there can be a board. */
-static enum named_kind some_kind(struct dice *d, const struct processors *p, unsigned index)
+static enum named_kind some_kind(struct random *d, const struct processors *p, unsigned index)
 {
     unsigned kind = below(d, 1000);
     if (index < 2 && chance(d, 800)) return NAMED_ATTENTION;
@@ -62,7 +62,7 @@ static enum named_kind some_kind(struct dice *d, const struct processors *p, uns
     return kind < 330 ? NAMED_SCHEDULE : NAMED_STEP;
 }
 
-struct named_call next_call(struct dice *d, const struct processors *p, unsigned index)
+struct named_call next_call(struct random *d, const struct processors *p, unsigned index)
 {
     static const uint32_t none[] = {0, 3, 4, 255, 256, 257, 258, 65537, 65538, 0x80000001, 0xFFFFFFFF};
     static const uint32_t odd[] = {0, 3, 4, 16, 17, 255, 257, 65537, 0x80000001, 0xFFFFFFFF};
@@ -83,7 +83,7 @@ struct named_call next_call(struct dice *d, const struct processors *p, unsigned
 
 /* ---- States ---- */
 
-void change_state(struct dice *d, const struct run_case *c, uint8_t *state)
+void change_state(struct random *d, const struct run_case *c, uint8_t *state)
 {
     if (chance(d, 8)) any_state(d, c, state);
     if (chance(d, 60)) poke_state(d, c, state);
@@ -91,7 +91,7 @@ void change_state(struct dice *d, const struct run_case *c, uint8_t *state)
     if (chance(d, 60)) block_up(d, c, state);
 }
 
-void break_state(struct dice *d, uint8_t *state)
+void break_state(struct random *d, uint8_t *state)
 {
     for (unsigned i = chance(d, 800) ? 1 : 2; i > 0; i--) {
         unsigned way = below(d, 4);

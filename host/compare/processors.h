@@ -2,11 +2,7 @@
 #ifndef PROCESSORS_H
 #define PROCESSORS_H
 
-#include "cases.h"
-#include "emulator/state_bytes.h"
-
-/* Room for a state's bytes, also of a wrong length. */
-enum { STATE_ROOM = 2 * STATE_BYTES };
+#include "lent.h"
 
 /* What both processors are given: a case each, with one system memory. */
 struct processors {
@@ -31,12 +27,12 @@ bool is_processor(uint32_t processor);
 void make_processors(struct processors *p, uint64_t seed, uint64_t number);
 
 /* The next call of a row; the first two mostly start a channel of each processor. */
-struct named_call next_call(struct dice *d, const struct processors *p, unsigned index);
+struct named_call next_call(struct random *d, const struct processors *p, unsigned index);
 
 /* Changes a processor's state between calls: some registers, a transfer of pairs or of a block, at times anything. */
-void change_state(struct dice *d, const struct run_case *c, uint8_t *state);
+void change_state(struct random *d, const struct run_case *c, uint8_t *state);
 
 /* Makes a state one that 17, 10, 13 or 14 refuses, at times two of them. */
-void break_state(struct dice *d, uint8_t *state);
+void break_state(struct random *d, uint8_t *state);
 
 #endif

@@ -3,7 +3,7 @@
 
 #include <string.h>
 
-void as_doubleword(struct dice *d, uint32_t address, uint8_t out[4])
+void as_doubleword(struct random *d, uint32_t address, uint8_t out[4])
 {
     uint32_t offset = (chance(d, 500) ? below(d, 65536) & 0xFFF0u : 0) | (address & 15u);
     uint32_t segment = ((address - offset) & MASK20) >> 4;
@@ -13,7 +13,7 @@ void as_doubleword(struct dice *d, uint32_t address, uint8_t out[4])
     out[3] = (uint8_t)(segment >> 8);
 }
 
-void new_program(struct program *p, struct dice *d, size_t sys_len, size_t io_len)
+void new_program(struct program *p, struct random *d, size_t sys_len, size_t io_len)
 {
     p->d = d;
     p->sys_len = sys_len;
@@ -111,20 +111,20 @@ static void begin(struct program *p)
 }
 
 /* A register for RRR: seldom TP, which would jump, or CC, which would be refused. */
-static unsigned some_register(struct dice *d)
+static unsigned some_register(struct random *d)
 {
     unsigned rrr = below(d, 8);
     return (rrr == TP || rrr == CC) && chance(d, 850) ? below(d, 4) : rrr;
 }
 
 /* A pointer for PPP: seldom TP. */
-static unsigned some_pointer(struct dice *d)
+static unsigned some_pointer(struct random *d)
 {
     return chance(d, 40) ? TP : below(d, 3);
 }
 
 /* Chooses all fields. */
-static struct fields choose_fields(struct dice *d)
+static struct fields choose_fields(struct random *d)
 {
     static const uint8_t modes[] = {0, 0, 1, 1, 1, 2, 3, 3};
     struct fields f = {some_register(d), some_pointer(d), ONE_OF(d, modes), below(d, 4),
@@ -299,12 +299,12 @@ static void add_four(struct program *p)
 }
 
 /* A random end code: off in so many of 1,000. */
-static uint32_t end_code(struct dice *d, unsigned off)
+static uint32_t end_code(struct random *d, unsigned off)
 {
     return chance(d, off) ? 0 : 1 + below(d, 3);
 }
 
-uint32_t transfer_cc(struct dice *d)
+uint32_t transfer_cc(struct random *d)
 {
     static const uint8_t syn[] = {0, 0, 0, 0, 0, 0, 1, 1, 2, 2};
     uint32_t cc = below(d, 2) << 10 | below(d, 2) << 9 | below(d, 2) << 8;
@@ -317,31 +317,31 @@ uint32_t transfer_cc(struct dice *d)
     return cc | end_code(d, 500) << 5 | end_code(d, 200) << 3 | below(d, 2) << 2 | end_code(d, 500);
 }
 
-uint32_t transfer_count(struct dice *d)
+uint32_t transfer_count(struct random *d)
 {
     unsigned kind = below(d, 1000);
     return kind < 900 ? 1 + below(d, 24) : kind < 930 ? 0 : below(d, 65536);
 }
 
-uint32_t transfer_mc(struct dice *d)
+uint32_t transfer_mc(struct random *d)
 {
     uint32_t mask = below(d, 256) & below(d, 256);
     return (chance(d, 300) ? below(d, 256) : mask) << 8 | below(d, 256);
 }
 
-uint32_t search_cc(struct dice *d)
+uint32_t search_cc(struct random *d)
 {
     uint32_t cc = (chance(d, 850) ? 1u << 15 : 0) | (chance(d, 850) ? 1u << 14 : 0) | below(d, 2) << 10 | below(d, 2) << 8;
     return cc | end_code(d, 350) << 3 | below(d, 2) << 2 | (1 + below(d, 3));
 }
 
-uint32_t search_count(struct dice *d)
+uint32_t search_count(struct random *d)
 {
     static const uint8_t few[] = {0, 1, 2, 2, 2, 3};
     return ONE_OF(d, few);
 }
 
-uint32_t search_mc(struct dice *d, uint32_t cc)
+uint32_t search_mc(struct random *d, uint32_t cc)
 {
     return chance(d, 800) ? ((cc >> 2 & 1u) != 0 ? 0xFF00u : 0) | below(d, 256) : transfer_mc(d);
 }
@@ -357,7 +357,7 @@ static uint32_t pair_place(struct program *p, bool in_io, unsigned lowest)
 }
 
 /* A CC for pairs: SYN 01 or 10, both sides moving on or not, and each end often. */
-static uint32_t pairs_cc(struct dice *d)
+static uint32_t pairs_cc(struct random *d)
 {
     uint32_t cc = (chance(d, 500) ? 1u : 2u) << 11 | below(d, 4) << 14 | below(d, 8) << 8;
     if (chance(d, 200)) cc |= 1u << 7;

@@ -2,7 +2,7 @@
 #ifndef PROGRAMS_H
 #define PROGRAMS_H
 
-#include "dice.h"
+#include "random.h"
 
 #include <stdbool.h>
 
@@ -19,7 +19,7 @@ struct jump {
 
 /* A program in the making, for memory of these lengths. */
 struct program {
-    struct dice *d;
+    struct random *d;
     size_t sys_len, io_len;
     uint8_t byte[MOST_BYTES];
     unsigned length;
@@ -29,7 +29,7 @@ struct program {
 };
 
 /* Begins an empty program. */
-void new_program(struct program *p, struct dice *d, size_t sys_len, size_t io_len);
+void new_program(struct program *p, struct random *d, size_t sys_len, size_t io_len);
 
 /* A rich program: registers loaded, instructions of all formats, transfers among them, mostly a HLT at the end. */
 void write_rich(struct program *p);
@@ -79,22 +79,22 @@ unsigned write_block(struct program *p, const struct room rooms[2], const struct
 uint32_t some_place(struct program *p, bool in_io);
 
 /* A CC for a transfer: every field by itself, with an end in sight more often than not. */
-uint32_t transfer_cc(struct dice *d);
+uint32_t transfer_cc(struct random *d);
 
 /* A byte count for a transfer: few, 0, or any. */
-uint32_t transfer_count(struct dice *d);
+uint32_t transfer_count(struct random *d);
 
 /* A compare word: few bits compared, so that both answers come. */
-uint32_t transfer_mc(struct dice *d);
+uint32_t transfer_mc(struct random *d);
 
 /* A CC for a search: TMC on, TBC often, no other end. */
-uint32_t search_cc(struct dice *d);
+uint32_t search_cc(struct random *d);
 
 /* A byte count for a search: hardly any or none, mostly the two that end both ways at once. */
-uint32_t search_count(struct dice *d);
+uint32_t search_count(struct random *d);
 
 /* A compare word for a search that mostly ends at its first byte. */
-uint32_t search_mc(struct dice *d, uint32_t cc);
+uint32_t search_mc(struct random *d, uint32_t cc);
 
 /* A channel set up for pairs: a transfer of two bytes under requests, singly on the side that asks for them. */
 struct pairs {
@@ -108,6 +108,6 @@ struct pairs {
 struct pairs some_pairs(struct program *p);
 
 /* Writes an address as offset and segment, one of the many pairs that mean it. */
-void as_doubleword(struct dice *d, uint32_t address, uint8_t out[4]);
+void as_doubleword(struct random *d, uint32_t address, uint8_t out[4]);
 
 #endif

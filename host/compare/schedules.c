@@ -14,7 +14,7 @@ bool row_known(struct iop89_row row)
 }
 
 /* How many rows: mostly few, at times none, many, or as many as can be. */
-static size_t some_rows(struct dice *d)
+static size_t some_rows(struct random *d)
 {
     unsigned kind = below(d, 1000);
     if (kind < 30) return 0;
@@ -26,7 +26,7 @@ static size_t some_rows(struct dice *d)
 }
 
 /* A row: a step under the case's lines or any others, at times an attention; rarely under no lines or to no channel. */
-static struct iop89_row some_row(struct dice *d, const struct run_case *c)
+static struct iop89_row some_row(struct random *d, const struct run_case *c)
 {
     static const uint32_t channels[] = {0, 3, 4, 255, 257, 65537, 65538, 0x80000001, 0xFFFFFFFF};
     static const uint32_t lines[] = {16, 17, 18, 19, 31, 255, 256, 257, 65536, 0x80000000, 0xFFFFFFFF};
@@ -38,7 +38,7 @@ static struct iop89_row some_row(struct dice *d, const struct run_case *c)
 }
 
 /* Makes rows of unknown kind: mostly one, the first, the last or any. */
-static void spoil_rows(struct dice *d, struct schedule *s)
+static void spoil_rows(struct random *d, struct schedule *s)
 {
     static const uint32_t kinds[] = {0, 3, 4, 5, 17, 255, 257, 258, 65537, 65538, 0x80000001, 0x80000002, 0xFFFFFFFF};
     struct iop89_row *rows = s->array + s->start;
@@ -50,14 +50,14 @@ static void spoil_rows(struct dice *d, struct schedule *s)
 }
 
 /* Where a schedule is cut: before the first row, behind the last, or anywhere. */
-static size_t some_cut(struct dice *d, size_t count)
+static size_t some_cut(struct random *d, size_t count)
 {
     unsigned kind = below(d, 1000);
     return kind < 50 ? 0 : kind < 100 ? count : below(d, count + 1);
 }
 
 /* How many words a report has: mostly all, fewer, or more. */
-static size_t some_words(struct dice *d)
+static size_t some_words(struct random *d)
 {
     unsigned kind = below(d, 1000);
     if (kind < 600) return IOP89_REPORT_LENGTH;
@@ -65,7 +65,7 @@ static size_t some_words(struct dice *d)
     return IOP89_REPORT_LENGTH + 1 + below(d, MOST_WORDS - IOP89_REPORT_LENGTH);
 }
 
-void make_schedule(struct dice *d, const struct run_case *c, bool first, struct schedule *s)
+void make_schedule(struct random *d, const struct run_case *c, bool first, struct schedule *s)
 {
     static const size_t lengths[] = {0, 1, STATE_BYTES - 1, STATE_BYTES + 1, 2 * STATE_BYTES};
     memset(s->array, 0xA5, sizeof s->array);

@@ -28,7 +28,7 @@ struct schedule {
 const struct iop89_row *rows_of(const struct schedule *s);
 
 /* Makes a schedule for a case; the first on a state mostly begins with the attention that starts the case's channel. */
-void make_schedule(struct dice *d, const struct run_case *c, bool first, struct schedule *s);
+void make_schedule(struct random *d, const struct run_case *c, bool first, struct schedule *s);
 
 /* Some rows of a schedule as the emulator has them. */
 void rows_for_emulator(const struct schedule *s, size_t from, size_t to, struct emu_row rows[MOST_ROWS]);

@@ -1,6 +1,6 @@
 /* The independent side of two comparisons: random scripts and images, and what the two programs must print for them. */
 #include "cases.h"
-#include "met.h"
+#include "coverage.h"
 #include "session.h"
 #include "writer.h"
 

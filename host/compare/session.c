@@ -359,7 +359,7 @@ static unsigned call_show(struct session *s, const struct text *word, FILE *out)
 }
 
 /* Counts a listing's lines: of instructions, and of data. */
-static void count_listed(struct tally *t, const struct listing_met *met)
+static void count_listed(struct tally *t, const struct listing_coverage *met)
 {
     for (unsigned i = 0; i < LISTING_ROWS; i++) t->listed_instructions += met->row[i];
     for (unsigned i = 0; i < DATA_REASONS; i++) t->listed_data += met->data[i];
@@ -369,7 +369,7 @@ static void count_listed(struct tally *t, const struct listing_met *met)
 static unsigned call_list(struct session *s, const struct text *word, FILE *out)
 {
     static uint8_t text[SCRIPT_LIST_LIMIT * SCRIPT_LIST_LINE];
-    struct listing_met met = {.longest = 0};
+    struct listing_coverage met = {.longest = 0};
     uint32_t space, address, length;
     unsigned lines = 0;
     if (!number(word[1], 1, &space) || !number(word[2], UINT32_MAX, &address)) return 0;

@@ -5,7 +5,7 @@
 #include "emulator/emulator.h"
 #include "emulator/hex.h"
 #include "emulator/listing.h"
-#include "met.h"
+#include "coverage.h"
 
 /* The longest text of which calls are made, and the longest buffers that a script can ask for. */
 #define SCRIPT_LIMIT 1048576u

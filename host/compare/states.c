@@ -6,7 +6,7 @@
 #include "emulator/state_bytes.h"
 
 /* A register's value: any, or one that fits a program. */
-static uint32_t some_value(struct dice *d, const struct run_case *c, enum iop89_register which)
+static uint32_t some_value(struct random *d, const struct run_case *c, enum iop89_register which)
 {
     switch (which) {
     case IOP89_GA: case IOP89_GB: case IOP89_GC: case IOP89_TP: case IOP89_PP:
@@ -24,13 +24,13 @@ static uint32_t some_value(struct dice *d, const struct run_case *c, enum iop89_
 }
 
 /* Sets a register of a channel; CC mostly with its fields. */
-static void set_register(struct dice *d, uint8_t *state, unsigned channel, enum iop89_register which, uint32_t value)
+static void set_register(struct random *d, uint8_t *state, unsigned channel, enum iop89_register which, uint32_t value)
 {
     if (which == IOP89_CC && chance(d, 970)) iop89_set_cc(state, channel, value);
     else iop89_set(state, channel, which, value);
 }
 
-void poke_state(struct dice *d, const struct run_case *c, uint8_t *state)
+void poke_state(struct random *d, const struct run_case *c, uint8_t *state)
 {
     static const enum iop89_register all[] = {IOP89_GA, IOP89_GA_TAG, IOP89_GB, IOP89_GB_TAG, IOP89_GC,  IOP89_GC_TAG,
                                               IOP89_TP, IOP89_TP_TAG, IOP89_PP, IOP89_BC,     IOP89_IX,  IOP89_CC,
@@ -44,7 +44,7 @@ void poke_state(struct dice *d, const struct run_case *c, uint8_t *state)
     if (chance(d, 60)) state[IOP89_AT_POWERED + below(d, 4)] = (uint8_t)below(d, 2);
 }
 
-void pair_up(struct dice *d, const struct run_case *c, uint8_t *state)
+void pair_up(struct random *d, const struct run_case *c, uint8_t *state)
 {
     static struct program p;
     unsigned channel = 1 + below(d, 2);
@@ -62,7 +62,7 @@ void pair_up(struct dice *d, const struct run_case *c, uint8_t *state)
     if (chance(d, 500)) iop89_set(state, channel, IOP89_HELD, some_value(d, c, IOP89_HELD));
 }
 
-void block_up(struct dice *d, const struct run_case *c, uint8_t *state)
+void block_up(struct random *d, const struct run_case *c, uint8_t *state)
 {
     unsigned channel = 1 + below(d, 2);
     uint32_t n = 1 + below(d, 40), source_is_gb = below(d, 2), free_bits = below(d, 65536) & 0x0304u;
@@ -79,7 +79,7 @@ void block_up(struct dice *d, const struct run_case *c, uint8_t *state)
     if (chance(d, 900)) iop89_set(state, 3 - channel, IOP89_MODE, chance(d, 500) ? IOP89_IDLE : IOP89_SUSPENDED);
 }
 
-void any_state(struct dice *d, const struct run_case *c, uint8_t *state)
+void any_state(struct random *d, const struct run_case *c, uint8_t *state)
 {
     static const enum iop89_register pointers[] = {IOP89_GA, IOP89_GB, IOP89_GC, IOP89_TP, IOP89_PP};
     fill(d, state, STATE_BYTES);
@@ -96,7 +96,7 @@ void any_state(struct dice *d, const struct run_case *c, uint8_t *state)
     if (chance(d, 900)) state[IOP89_AT_POWERED] = 1;
 }
 
-void unsound_state(struct dice *d, uint8_t *state)
+void unsound_state(struct random *d, uint8_t *state)
 {
     static const enum iop89_register pointers[] = {IOP89_GA, IOP89_GB, IOP89_GC, IOP89_TP, IOP89_PP};
     uint32_t value = chance(d, 800) ? 1048576 + below(d, 4) : (uint32_t)roll(d) | 1048576u;
@@ -104,7 +104,7 @@ void unsound_state(struct dice *d, uint8_t *state)
     else iop89_set(state, 1 + below(d, 2), ONE_OF(d, pointers), value);
 }
 
-void damage_state(struct dice *d, uint8_t *state)
+void damage_state(struct random *d, uint8_t *state)
 {
     if (chance(d, 100)) {
         fill(d, state, STATE_BYTES);
@@ -120,7 +120,7 @@ void damage_state(struct dice *d, uint8_t *state)
 }
 
 /* Changes a field of CC to another value that it can have, or a bit of CC, in a channel. */
-static void part_once(struct dice *d, uint8_t *state)
+static void part_once(struct random *d, uint8_t *state)
 {
     unsigned channel = 1 + below(d, 2), field = below(d, EMU_FIELDS);
     enum state_fault fault = (enum state_fault)((channel == 1 ? FAULT_FIELDS_1 : FAULT_FIELDS_2) + field);
@@ -130,7 +130,7 @@ static void part_once(struct dice *d, uint8_t *state)
     else state[at] = (uint8_t)((state[at] + 1 + below(d, values - 1)) % values);
 }
 
-void part_fields(struct dice *d, uint8_t *state)
+void part_fields(struct random *d, uint8_t *state)
 {
     static const enum iop89_register pointers[] = {IOP89_GA, IOP89_GB, IOP89_GC, IOP89_TP, IOP89_PP};
     for (unsigned i = chance(d, 800) ? 1 : 2; i > 0; i--) part_once(d, state);
@@ -140,7 +140,7 @@ void part_fields(struct dice *d, uint8_t *state)
     if (chance(d, 100)) iop89_set(state, 1 + below(d, 2), ONE_OF(d, pointers), 1048576 + below(d, 4));
 }
 
-uint8_t some_ccw(struct dice *d)
+uint8_t some_ccw(struct random *d)
 {
     static const uint8_t likely[] = {0, 3, 5, 6, 6, 7};
     uint8_t command = chance(d, 700) ? ONE_OF(d, likely) : (uint8_t)below(d, 8);

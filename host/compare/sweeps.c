@@ -27,7 +27,7 @@ static struct range *flawed_range(struct sweep *s, enum flaw flaw)
 }
 
 /* How many bytes are moved: few, some hundred, or for a large sweep about all that can be; one byte cannot wrap. */
-static uint32_t some_count(struct dice *d, enum flaw flaw, bool large)
+static uint32_t some_count(struct random *d, enum flaw flaw, bool large)
 {
     if (large) return MANY + below(d, 4);
     if (chance(d, 20)) return FEW + 1 + below(d, 300);
@@ -36,7 +36,7 @@ static uint32_t some_count(struct dice *d, enum flaw flaw, bool large)
 
 /* The spaces of both sides: any, but one for ranges that share a byte, mostly I/O for one that wraps, since all of system
  * memory is long, and never I/O for two long ranges. */
-static void choose_spaces(struct dice *d, struct sweep *s, enum flaw flaw)
+static void choose_spaces(struct random *d, struct sweep *s, enum flaw flaw)
 {
     s->source.in_io = chance(d, 500);
     s->destination.in_io = chance(d, 500);
@@ -48,20 +48,20 @@ static void choose_spaces(struct dice *d, struct sweep *s, enum flaw flaw)
 }
 
 /* Where a range alone in its space begins: near 0, and so that all of it fits into I/O space. */
-static uint32_t some_start(struct dice *d, const struct sweep *s, bool in_io)
+static uint32_t some_start(struct random *d, const struct sweep *s, bool in_io)
 {
     return below(d, in_io && s->n >= MANY ? MOST - s->n + 1 : 24);
 }
 
 /* How far behind the lower range's start the higher one's is: next to it, behind a gap, or so that they share bytes. */
-static uint32_t some_distance(struct dice *d, const struct sweep *s, enum flaw flaw)
+static uint32_t some_distance(struct random *d, const struct sweep *s, enum flaw flaw)
 {
     if (flaw == FLAW_SHARED) return chance(d, 500) ? s->n - 1 : below(d, s->n);
     return chance(d, 400) ? s->n : s->n + below(d, 20);
 }
 
 /* Puts both ranges near the start of their spaces; of two in one space the flawed one is the higher. */
-static void choose_starts(struct dice *d, struct sweep *s, enum flaw flaw)
+static void choose_starts(struct random *d, struct sweep *s, enum flaw flaw)
 {
     struct range *higher = flawed_range(s, flaw);
     if (higher == NULL) higher = chance(d, 500) ? &s->source : &s->destination;
@@ -73,7 +73,7 @@ static void choose_starts(struct dice *d, struct sweep *s, enum flaw flaw)
 }
 
 /* Moves the ranges of a space that is lent whole up, mostly to its top, and one of them across it where one is given. */
-static void go_up(struct dice *d, struct sweep *s, bool in_io, uint32_t end, struct range *across)
+static void go_up(struct random *d, struct sweep *s, bool in_io, uint32_t end, struct range *across)
 {
     uint32_t up = space_limits[in_io] - end;
     if (across == NULL && chance(d, 300)) up = below(d, up + 1);
@@ -83,7 +83,7 @@ static void go_up(struct dice *d, struct sweep *s, bool in_io, uint32_t end, str
 }
 
 /* Lends a space: up to the end of its ranges, a few bytes more, one less for a range that ends past it, or whole. */
-static void lend_space(struct dice *d, struct sweep *s, bool in_io, enum flaw flaw)
+static void lend_space(struct random *d, struct sweep *s, bool in_io, enum flaw flaw)
 {
     uint32_t source_end = s->source.in_io == in_io ? s->source.at + s->n : 0;
     uint32_t destination_end = s->destination.in_io == in_io ? s->destination.at + s->n : 0;
@@ -99,7 +99,7 @@ static void lend_space(struct dice *d, struct sweep *s, bool in_io, enum flaw fl
 }
 
 /* The ranges of a transfer, and how much is lent. */
-static void choose_ranges(struct dice *d, struct sweep *s, enum flaw flaw, bool large)
+static void choose_ranges(struct random *d, struct sweep *s, enum flaw flaw, bool large)
 {
     s->n = some_count(d, flaw, large);
     choose_spaces(d, s, flaw);
@@ -111,7 +111,7 @@ static void choose_ranges(struct dice *d, struct sweep *s, enum flaw flaw, bool 
 /* ---- States ---- */
 
 /* A channel with anything in it that is sound; it is not running. */
-static void any_channel(struct dice *d, const struct sweep *s, unsigned channel)
+static void any_channel(struct random *d, const struct sweep *s, unsigned channel)
 {
     static const enum iop89_register pointers[] = {IOP89_GA, IOP89_GB, IOP89_GC, IOP89_TP, IOP89_PP};
     static const enum iop89_register tags[] = {IOP89_GA_TAG, IOP89_GB_TAG, IOP89_GC_TAG, IOP89_TP_TAG, IOP89_ARMED};
@@ -128,14 +128,14 @@ static void any_channel(struct dice *d, const struct sweep *s, unsigned channel)
 }
 
 /* Points a register of the channel at a range; in I/O space the high bits are free. */
-static void point(struct dice *d, const struct sweep *s, bool gb, struct range range)
+static void point(struct random *d, const struct sweep *s, bool gb, struct range range)
 {
     uint32_t high = range.in_io && chance(d, 600) ? below(d, 16) << 16 : 0;
     iop89_set(s->given.state, s->channel, gb ? IOP89_GB : IOP89_GA, range.at | high);
     iop89_set(s->given.state, s->channel, gb ? IOP89_GB_TAG : IOP89_GA_TAG, range.in_io);
 }
 
-void make_state(struct dice *d, const struct sweep *s)
+void make_state(struct random *d, const struct sweep *s)
 {
     uint32_t source_is_gb = below(d, 2), free_bits = below(d, 65536) & 0x0304u, tbc = 1 + below(d, 3);
     memset(s->given.state, 0, STATE_ROOM);
@@ -161,7 +161,7 @@ static void change_cc(const struct sweep *s, uint32_t away, uint32_t there)
 }
 
 /* Makes the channel's transfer fail one of the conditions on lines, channels and fields. */
-static void bar(struct dice *d, struct sweep *s, enum flaw flaw)
+static void bar(struct random *d, struct sweep *s, enum flaw flaw)
 {
     uint32_t psw = iop89_get(s->given.state, s->channel, IOP89_PSW);
     switch (flaw) {
@@ -183,7 +183,7 @@ static void bar(struct dice *d, struct sweep *s, enum flaw flaw)
 }
 
 /* Spoils a byte of the state that only some values may have, mostly by as little as can be, or the length. */
-static void damage(struct dice *d, struct sweep *s)
+static void damage(struct random *d, struct sweep *s)
 {
     static const size_t lengths[] = {0, 1, STATE_BYTES - 1, STATE_BYTES + 1, STATE_ROOM};
     enum state_fault fault = (enum state_fault)(FAULT_LENGTH + below(d, STATE_FAULTS - FAULT_LENGTH));
@@ -197,7 +197,7 @@ static void damage(struct dice *d, struct sweep *s)
 }
 
 /* Makes a sweep one that is refused before its conditions are looked at. */
-static void spoil(struct dice *d, struct sweep *s, enum flaw flaw)
+static void spoil(struct random *d, struct sweep *s, enum flaw flaw)
 {
     static const uint32_t channels[] = {0, 3, 4, 255, 257, 65537, 65538, 0x80000001, 0xFFFFFFFF};
     static const uint32_t lines[] = {16, 17, 20, 31, 255, 256, 65536, 0x80000000, 0xFFFFFFFF};
@@ -218,7 +218,7 @@ static void spoil(struct dice *d, struct sweep *s, enum flaw flaw)
 
 /* ---- Sweeps ---- */
 
-void scatter(struct dice *d, uint8_t *bytes, size_t length)
+void scatter(struct random *d, uint8_t *bytes, size_t length)
 {
     for (size_t i = 0; i < length; i++) bytes[i] = (uint8_t)roll(d);
 }
@@ -234,14 +234,14 @@ unsigned number_of_flaw(enum flaw flaw)
 }
 
 /* A flaw from this one on; system memory that is too long, of which much must be copied, is rare. */
-static enum flaw some_flaw(struct dice *d, enum flaw from)
+static enum flaw some_flaw(struct random *d, enum flaw from)
 {
     enum flaw flaw = (enum flaw)(from + below(d, FLAWS - from));
     return flaw == FLAW_SYSTEM_LENGTH && chance(d, 900) ? FLAW_IO_LENGTH : flaw;
 }
 
 /* No flaw, one or two; a large sweep mostly has none. */
-static void choose_flaws(struct dice *d, struct sweep *s, bool large)
+static void choose_flaws(struct random *d, struct sweep *s, bool large)
 {
     unsigned kind = below(d, 1000);
     if (kind < (large ? 700 : 450)) return;
@@ -253,7 +253,7 @@ static void choose_flaws(struct dice *d, struct sweep *s, bool large)
 }
 
 /* Gives a range new bytes, as far as it is lent. */
-static void renew(struct dice *d, const struct sweep *s, struct range range)
+static void renew(struct random *d, const struct sweep *s, struct range range)
 {
     size_t length = s->length[range.in_io], end = range.at + s->n;
     if (range.at < length) scatter(d, s->given.memory[range.in_io] + range.at, (end < length ? end : length) - range.at);
@@ -261,7 +261,7 @@ static void renew(struct dice *d, const struct sweep *s, struct range range)
 
 struct sweep make_sweep(struct machine given, uint64_t seed, uint64_t number)
 {
-    struct dice d = seeded(seed + 3000017, number);
+    struct random d = seeded(seed + 3000017, number);
     struct sweep s = {.given = given, .state_len = STATE_BYTES, .channel = 1 + below(&d, 2), .lines = below(&d, 4)};
     bool large = number % LARGE_EVERY == 0, to_step = large && number / LARGE_EVERY % PLAIN_EVERY == 0;
     s.plain = !large || to_step;

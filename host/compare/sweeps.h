@@ -3,11 +3,7 @@
 #ifndef SWEEPS_H
 #define SWEEPS_H
 
-#include "cases.h"
-#include "emulator/state_bytes.h"
-
-/* Room for a state's bytes, also of a wrong length. */
-enum { STATE_ROOM = 2 * STATE_BYTES };
+#include "lent.h"
 
 /* The counts of which each is met: few, up to this, and many, from one to the other. */
 enum { FEW = 40, MANY = 65533, MOST = 65536 };
@@ -28,11 +24,6 @@ enum flaw {
 /* The number that answers a flaw. */
 unsigned number_of_flaw(enum flaw flaw);
 
-/* A machine: its state's bytes, and system and I/O memory. */
-struct machine {
-    uint8_t *state, *memory[2];
-};
-
 /* A side of a transfer: its space, and where its range begins there. */
 struct range {
     bool in_io;
@@ -51,13 +42,13 @@ struct sweep {
 };
 
 /* Fills bytes with random ones. */
-void scatter(struct dice *d, uint8_t *bytes, size_t length);
+void scatter(struct random *d, uint8_t *bytes, size_t length);
 
 /* Makes the sweep of this seed and number on a machine whose memories hold random bytes: its state, and new bytes in both
  * ranges. */
 struct sweep make_sweep(struct machine given, uint64_t seed, uint64_t number);
 
 /* Makes the state of a sweep in which its channel has a transfer of its ranges that can be swept. */
-void make_state(struct dice *d, const struct sweep *s);
+void make_state(struct random *d, const struct sweep *s);
 
 #endif

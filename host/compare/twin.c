@@ -1,17 +1,9 @@
 /* Makes every call on the archive's machine and on the emulator's, and compares what both answer and leave. */
 #include "twin.h"
 
-#include "fences.h"
 #include "iop89_service.h"
 
 #include <string.h>
-
-/* Room for one machine. */
-static struct machine new_machine(void)
-{
-    struct machine m = {fenced(STATE_BYTES), {fenced(CASE_SYSTEM_ROOM), fenced(CASE_IO_ROOM)}};
-    return m;
-}
 
 struct twin new_twin(void)
 {
@@ -19,20 +11,10 @@ struct twin new_twin(void)
     return t;
 }
 
-/* Copies one machine to another, with fences right behind what is lent. */
-static void lend(const struct machine *to, const struct machine *from, const size_t length[2])
-{
-    memcpy(to->state, from->state, STATE_BYTES);
-    for (unsigned i = 0; i < 2; i++) {
-        memcpy(to->memory[i], from->memory[i], length[i]);
-        fence_behind(to->memory[i], length[i]);
-    }
-}
-
 void twin_begin(struct twin *t, const struct machine *from, const size_t length[2])
 {
-    lend(&t->archive, from, length);
-    lend(&t->emulator, from, length);
+    lend_machine(&t->archive, from, length);
+    lend_machine(&t->emulator, from, length);
     memset(&t->state, 0, sizeof t->state);
     state_from_bytes(t->emulator.state, STATE_BYTES, &t->state);
     t->length[0] = length[0];
@@ -48,7 +30,7 @@ void twin_amiss(struct twin *t, const char *what)
 
 void twin_compare(struct twin *t)
 {
-    bool stand = fences_stand(t->archive.state, STATE_BYTES);
+    bool stand = fences_stand(t->archive.state, STATE_ROOM);
     for (unsigned i = 0; i < 2; i++) {
         if (memcmp(t->archive.memory[i], t->emulator.memory[i], t->length[i]) != 0)
             twin_amiss(t, "the memories are not the emulator's");
@@ -75,7 +57,7 @@ static void compare_call(struct twin *t, uint64_t archive, uint64_t emulator)
     t->calls++;
     state_to_bytes(&t->state, t->emulator.state);
     if (archive != emulator) twin_amiss(t, "the answer is not the emulator's");
-    if (memcmp(t->archive.state, t->emulator.state, STATE_BYTES) != 0) twin_amiss(t, "the state is not the emulator's");
+    if (!same_state(&t->archive, &t->emulator)) twin_amiss(t, "the state is not the emulator's");
     if (t->at_every_call) twin_compare(t);
 }
 

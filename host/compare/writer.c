@@ -1019,7 +1019,7 @@ struct lengths {
 };
 
 /* Lengths for a machine: mostly small; at times nothing, hardly anything, the limits, and one over each of them. */
-static struct lengths choose_lengths(struct dice *d)
+static struct lengths choose_lengths(struct random *d)
 {
     unsigned kind = below(d, 1000), few = below(d, 80), many = below(d, 1800);
     struct lengths small = {400 + many, many / 2}, tiny = {few, 79 - few}, nothing = {0, 0};

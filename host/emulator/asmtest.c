@@ -1,6 +1,6 @@
 /* Hand-thought cases for the assembler in C: the notation's rows, every number, and the borders of each. */
 #include "assembly.h"
-#include "compare/dice.h"
+#include "compare/random.h"
 #include "listing.h"
 
 #include <stdbool.h>
@@ -170,7 +170,7 @@ static void test_notation(const char *path)
 static void test_round_trip(void)
 {
     unsigned long unlike = 0;
-    struct dice d = seeded(1, 0);
+    struct random d = seeded(1, 0);
     uint8_t given[10];
     for (unsigned pair = 0; pair < 65536; pair++) {
         for (size_t n = 2; n <= sizeof given; n++) {

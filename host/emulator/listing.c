@@ -226,7 +226,7 @@ static void put_number(struct line *line, unsigned value, unsigned digits)
     put(line, 'H');
 }
 
-static void put_memory(struct line *line, struct memory m, struct listing_met *met)
+static void put_memory(struct line *line, struct memory m, struct listing_coverage *met)
 {
     static const char *const bases[4] = {"[GA", "[GB", "[GC", "[PP"};
     static const char *const modes[4] = {"]", "].", "+IX]", "+IX+]"};
@@ -237,7 +237,7 @@ static void put_memory(struct line *line, struct memory m, struct listing_met *m
     met->mode[m.aa]++;
 }
 
-static void put_register(struct line *line, unsigned rrr, struct listing_met *met)
+static void put_register(struct line *line, unsigned rrr, struct listing_coverage *met)
 {
     static const char *const names[8] = {"GA", "GB", "GC", "BC", "TP", "IX", "CC", "MC"};
     put_text(line, names[rrr]);
@@ -246,7 +246,7 @@ static void put_register(struct line *line, unsigned rrr, struct listing_met *me
 
 /* One operand; `n` counts the data listed so far, `end` is the address behind the instruction. */
 static void put_operand(struct line *line, const struct instruction *in, char operand, unsigned *n, uint32_t end,
-                        struct listing_met *met)
+                        struct listing_coverage *met)
 {
     switch (operand) {
     case 'r': put_register(line, in->pair.rrr, met); break;
@@ -267,7 +267,7 @@ static void put_operand(struct line *line, const struct instruction *in, char op
 }
 
 /* The word: L, stem, B, I. */
-static void put_word(struct line *line, const struct instruction *in, struct listing_met *met)
+static void put_word(struct line *line, const struct instruction *in, struct listing_coverage *met)
 {
     const struct format *f = &formats[in->row];
     bool jumps = strpbrk(f->operands, "tj") != NULL, two = jumps && in->pair.dd == 2;
@@ -280,7 +280,7 @@ static void put_word(struct line *line, const struct instruction *in, struct lis
     met->byte_words += byte;
 }
 
-static void put_instruction(struct line *line, const struct instruction *in, uint32_t end, struct listing_met *met)
+static void put_instruction(struct line *line, const struct instruction *in, uint32_t end, struct listing_coverage *met)
 {
     unsigned n = 0;
     put_word(line, in, met);
@@ -305,7 +305,7 @@ static void put_data(struct line *line, const uint8_t *code, unsigned count)
 
 /* The line at a byte, whole; answers how many bytes it lists. */
 static unsigned next_line(const uint8_t *code, size_t length, uint32_t address, struct line *line,
-                          struct listing_met *met)
+                          struct listing_coverage *met)
 {
     struct instruction in;
     enum listing_data why = read_instruction(code, length, &in);
@@ -324,10 +324,10 @@ static unsigned next_line(const uint8_t *code, size_t length, uint32_t address, 
 }
 
 struct listing list_code(const uint8_t *code, size_t code_len, uint32_t first, uint8_t *text, size_t text_len,
-                         struct listing_met *met)
+                         struct listing_coverage *met)
 {
     struct listing done = {0, 0};
-    struct listing_met unseen;
+    struct listing_coverage unseen;
     size_t length = code_len > LISTING_LIMIT ? LISTING_LIMIT : code_len;
     if (met == NULL) {
         memset(&unseen, 0, sizeof unseen);

@@ -24,7 +24,7 @@ enum listing_data {
 };
 
 /* What was met: lines by row, by the operand's mode and base, by L and B, and data by reason. */
-struct listing_met {
+struct listing_coverage {
     unsigned long row[LISTING_ROWS];
     unsigned long data[DATA_REASONS];
     unsigned long mode[4], base[4], registers[8];
@@ -38,7 +38,7 @@ struct listing {
 
 /* Lists a part of memory whose first byte has the address `first`; `met` may be null. */
 struct listing list_code(const uint8_t *code, size_t code_len, uint32_t first, uint8_t *text, size_t text_len,
-                         struct listing_met *met);
+                         struct listing_coverage *met);
 
 /* The name of a row: its word and operands. */
 const char *listing_row_name(unsigned row);

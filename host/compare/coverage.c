@@ -1,14 +1,7 @@
-/* Prints counters of a comparison, each in a line, and keeps count of those that stayed 0. */
-#include "met.h"
+/* Prints what the calls of a comparison met, by the emulator's counters and by their answers. */
+#include "coverage.h"
 
-/* How many things that can be met were not, and how many were that cannot be. */
-static unsigned missing;
-
-void print_count(const char *name, unsigned long count)
-{
-    printf("%12lu  %s%s\n", count, name, count == 0 ? " (NEVER MET)" : "");
-    missing += count == 0;
-}
+#include "iop89_service.h"
 
 void print_numbers(const char *what, const unsigned long counts[EMU_NUMBERS], unsigned set)
 {
@@ -20,7 +13,41 @@ void print_numbers(const char *what, const unsigned long counts[EMU_NUMBERS], un
     }
 }
 
-enum met_bytes bytes_of_step(char kind)
+void print_answers(const char *heading, const unsigned long counts[], unsigned set)
+{
+    char name[120];
+    puts(heading);
+    for (unsigned i = 0; i <= IOP89_NO_STATE; i++) {
+        snprintf(name, sizeof name, "%u %s", i, iop89_service_words(i));
+        if ((set >> i & 1u) != 0) print_count(name, counts[i]);
+    }
+}
+
+void print_faults(const char *heading, const unsigned long counts[STATE_FAULTS])
+{
+    puts(heading);
+    for (enum state_fault fault = FAULT_LENGTH; fault < STATE_FAULTS; fault++) {
+        if (fault == FAULT_CHANNEL_1 || fault == FAULT_CHANNEL_2)
+            printf("in the block of channel %u:\n", fault == FAULT_CHANNEL_1 ? 1 : 2);
+        print_count(state_fault_name(fault), counts[fault]);
+    }
+}
+
+void print_sides(const char *heading, unsigned long counts[4][4][4])
+{
+    static const char *const ways[3][4] = {
+        {"8 into 8 bits", "16 into 8 bits", "8 into 16 bits", "16 into 16 bits"},
+        {"even into even", "odd into even", "even into odd", "odd into odd"},
+        {"system into system", "I/O into system", "system into I/O", "I/O into I/O"}};
+    char name[80];
+    puts(heading);
+    for (unsigned i = 0; i < 64; i++) {
+        snprintf(name, sizeof name, "%s, %s, %s", ways[0][i / 16], ways[1][i / 4 % 4], ways[2][i % 4]);
+        print_count(name, counts[i / 16][i / 4 % 4][i % 4]);
+    }
+}
+
+enum coverage_bytes bytes_of_step(char kind)
 {
     return kind == 'I' ? BYTES_OF_INSTRUCTION : kind == 'T' ? BYTES_OF_TRANSFER : BYTES_OF_EXTERNAL_END;
 }
@@ -45,7 +72,7 @@ void print_touched(unsigned long met[BYTES_KINDS][BYTES_COUNTS])
             bool can_be = (kinds[kind].set >> i & 1u) != 0;
             snprintf(name, sizeof name, "%s, %u%s", kinds[kind].what, i, can_be ? "" : " (CANNOT BE)");
             if (can_be || met[kind][i] > 0) print_count(name, met[kind][i]);
-            missing += !can_be && met[kind][i] > 0;
+            if (!can_be && met[kind][i] > 0) note_impossible();
         }
     }
 }
@@ -183,7 +210,7 @@ static void print_half_sides(const struct emu_coverage *coverage, enum emu_half 
 
 /* Prints which bytes of its own and of the other half were not lent. In a run the bytes of a first half are lent at the
  * second too. */
-static void print_half_bytes(const struct emu_coverage *coverage, enum emu_half half, enum met_pairs what)
+static void print_half_bytes(const struct emu_coverage *coverage, enum emu_half half, enum coverage_pairs what)
 {
     static const char *const names[EMU_PAIR_BYTES] = {"first byte read", "second byte read", "first byte stored",
                                                       "second byte stored"};
@@ -199,7 +226,7 @@ static void print_half_bytes(const struct emu_coverage *coverage, enum emu_half 
     }
 }
 
-void print_pairs(const struct emu_coverage *coverage, enum met_pairs what)
+void print_pairs(const struct emu_coverage *coverage, enum coverage_pairs what)
 {
     for (enum emu_half half = EMU_FIRST_FETCH; half < EMU_HALVES; half++) {
         print_half_ends(coverage, half);
@@ -278,12 +305,4 @@ void print_coverage(const struct emu_coverage *coverage, unsigned commands)
     print_leftovers(coverage, false);
     print_ends(coverage);
     print_slots(coverage);
-}
-
-bool all_met(unsigned long long made, unsigned long long enough, const char *unit)
-{
-    printf("never met: %u", missing);
-    if (made < enough) printf(" (too few %s to ask for all)", unit);
-    putchar('\n');
-    return missing == 0 || made < enough;
 }

@@ -1,14 +1,15 @@
-/* Prints what calls met, and notes what they never met. */
-#ifndef MET_H
-#define MET_H
+/* Prints the coverage of calls: what they met, and what they never met. */
+#ifndef COVERAGE_H
+#define COVERAGE_H
 
-#include "emulator/emulator.h"
+#include "counts.h"
+#include "emulator/state_bytes.h"
 
 /* Every number, as a set of bits. */
 #define ALL_NUMBERS ((1u << EMU_NUMBERS) - 1)
 
 /* What answers how many bytes it read and stored: done calls by what they did, and refused ones. */
-enum met_bytes {
+enum coverage_bytes {
     BYTES_OF_ATTENTION,
     BYTES_OF_POWER_UP,
     BYTES_OF_INSTRUCTION,
@@ -22,32 +23,38 @@ enum met_bytes {
 enum { BYTES_COUNTS = 16 };
 
 /* What a done step of this kind is among them. */
-enum met_bytes bytes_of_step(char kind);
+enum coverage_bytes bytes_of_step(char kind);
 
 /* Prints how often each count was answered that such a call can give, and notes those that it cannot. */
 void print_touched(unsigned long met[BYTES_KINDS][BYTES_COUNTS]);
 
-/* Prints a count, and notes it where nothing was met. */
-void print_count(const char *name, unsigned long count);
-
 /* Prints how often each number was answered of those in the set. */
 void print_numbers(const char *what, const unsigned long counts[EMU_NUMBERS], unsigned set);
+
+/* Prints the same of the service archive's numbers, 0 to 17, each with its words. */
+void print_answers(const char *heading, const unsigned long counts[], unsigned set);
+
+/* Prints the states that 17 refused, by what is wrong with their bytes. */
+void print_faults(const char *heading, const unsigned long counts[STATE_FAULTS]);
+
+/* Prints counts by both sides of a transfer together: their widths, odd addresses and spaces. */
+void print_sides(const char *heading, unsigned long counts[4][4][4]);
 
 /* Prints BC before steps in which the first of two single stores met TMC: whole ones, or first halves of pairs. */
 void print_leftovers(const struct emu_coverage *coverage, bool halves);
 
 /* What a comparison's calls can meet of pairs: halves one after the other and nothing else, as in a run, whose lines and
  * registers stay between them; or all, where registers can be set and attentions given there. */
-enum met_pairs { PAIRS_UNDISTURBED, PAIRS_OF_ANY_KIND };
+enum coverage_pairs { PAIRS_UNDISTURBED, PAIRS_OF_ANY_KIND };
 
 /* Prints the halves of pairs: their ends and sides, and what of their bytes was not lent. */
-void print_pairs(const struct emu_coverage *coverage, enum met_pairs what);
+void print_pairs(const struct emu_coverage *coverage, enum coverage_pairs what);
 
 /* Prints what met a held byte: calls of its channel and of the other one, and refusals. */
 void print_held(const struct emu_coverage *coverage);
 
 /* What makes a state anew. */
-enum met_anew { ANEW_FRESH, ANEW_RESET, ANEW_POWER_UP, ANEWS };
+enum coverage_anew { ANEW_FRESH, ANEW_RESET, ANEW_POWER_UP, ANEWS };
 
 /* Prints how often a state was made anew in the place of one in which a byte was held. */
 void print_anew(const unsigned long met[ANEWS]);
@@ -63,8 +70,5 @@ void print_swept(const struct emu_coverage *coverage);
 
 /* Prints the accepted commands of the set, the rows carried out, and the shapes and ends of transfer steps. */
 void print_coverage(const struct emu_coverage *coverage, unsigned commands);
-
-/* Prints how much was never met; answers true also where there were too few calls to ask for all. */
-bool all_met(unsigned long long made, unsigned long long enough, const char *unit);
 
 #endif

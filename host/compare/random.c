@@ -1,14 +1,14 @@
 /* Random numbers: splitmix64 and what is drawn from it. */
-#include "dice.h"
+#include "random.h"
 
-struct dice seeded(uint64_t seed, uint64_t number)
+struct random seeded(uint64_t seed, uint64_t number)
 {
-    struct dice d = {seed * 0xD1342543DE82EF95u + number};
+    struct random d = {seed * 0xD1342543DE82EF95u + number};
     d.state = roll(&d);
     return d;
 }
 
-uint64_t roll(struct dice *d)
+uint64_t roll(struct random *d)
 {
     uint64_t z = d->state += 0x9E3779B97F4A7C15u;
     z = (z ^ z >> 30) * 0xBF58476D1CE4E5B9u;
@@ -16,12 +16,12 @@ uint64_t roll(struct dice *d)
     return z ^ z >> 31;
 }
 
-uint32_t below(struct dice *d, size_t n)
+uint32_t below(struct random *d, size_t n)
 {
     return (uint32_t)((roll(d) >> 32) * n >> 32);
 }
 
-bool chance(struct dice *d, unsigned in_1000)
+bool chance(struct random *d, unsigned in_1000)
 {
     return below(d, 1000) < in_1000;
 }
