@@ -93,11 +93,12 @@ static void test_rest(void)
  * another byte refuses the call, or none does. */
 static void test_beyond(const uint8_t *state, bool step)
 {
-    uint32_t before = IOP89_NO_PLACE, places[IOP89_PLACES];
+    const size_t n = IOP89_STATE_LENGTH;
+    uint32_t before = IOP89_NO_PLACE, at[IOP89_PLACES];
     for (size_t lent = 0; lent <= sizeof sys; lent++) {
-        iop89_answer told = step ? iop89_touches_step(state, IOP89_STATE_LENGTH, sys, lent, io, sizeof io, 0, places, IOP89_PLACES)
-                                 : iop89_touches_attention(state, IOP89_STATE_LENGTH, sys, lent, io, sizeof io, 1, places, IOP89_PLACES);
-        uint32_t place = iop89_beyond(places, IOP89_ANSWER_COUNT(told));
+        iop89_answer told = step ? iop89_touches_step(state, n, sys, lent, io, sizeof io, 0, at, IOP89_PLACES)
+                                 : iop89_touches_attention(state, n, sys, lent, io, sizeof io, 1, at, IOP89_PLACES);
+        uint32_t place = iop89_beyond(at, IOP89_ANSWER_COUNT(told));
         bool refused = IOP89_ANSWER_NUMBER(told) == IOP89_BEYOND_MEMORY;
         expect("2 and a place", lent, place, refused == (place != IOP89_NO_PLACE));
         if (refused) expect("the place", lent, place, IOP89_PLACE_ADDRESS(place) >= lent && IOP89_PLACE_IO(place) == 0);
@@ -126,23 +127,20 @@ static void test_beyond_both(void)
 static void test_arguments(uint32_t processor, uint32_t channel, uint32_t lines, uint32_t limit)
 {
     uint8_t one[IOP89_STATE_LENGTH], two[IOP89_STATE_LENGTH];
-    (void)iop89_fresh(one, sizeof one, 0);
-    (void)iop89_fresh(two, sizeof two, 0);
-    iop89_answer step = iop89_pair_step(processor, one, sizeof one, two, sizeof two, sys, sizeof sys, io, sizeof io, io, 0, lines);
-    iop89_answer attention =
-        iop89_pair_attention(processor, one, sizeof one, two, sizeof two, sys, sizeof sys, io, sizeof io, io, 0, channel);
-    iop89_run_answer run = iop89_board(sys, sizeof sys, io, sizeof io, channel, lines, limit);
-    enum iop89_argument of_step = iop89_wrong_argument(processor, 1, lines, 0);
-    enum iop89_argument of_attention = iop89_wrong_argument(processor, channel, 0, 0);
-    enum iop89_argument of_run = iop89_wrong_argument(1, channel, lines, limit);
-    expect("12 of a step", processor, lines, (IOP89_ANSWER_NUMBER(step) == 12) == (of_step != IOP89_NO_ARGUMENT));
-    expect("12 of an attention", processor, channel, (IOP89_ANSWER_NUMBER(attention) == 12) == (of_attention != IOP89_NO_ARGUMENT));
-    expect("12 of a run", channel, lines, (IOP89_NUMBER(run) == 12) == (of_run != IOP89_NO_ARGUMENT));
+    const size_t n = IOP89_STATE_LENGTH, length = sizeof sys;
+    (void)iop89_fresh(one, n, 0);
+    (void)iop89_fresh(two, n, 0);
+    unsigned step = IOP89_ANSWER_NUMBER(iop89_pair_step(processor, one, n, two, n, sys, length, io, sizeof io, io, 0, lines));
+    unsigned attention =
+        IOP89_ANSWER_NUMBER(iop89_pair_attention(processor, one, n, two, n, sys, length, io, sizeof io, io, 0, channel));
+    unsigned run = IOP89_NUMBER(iop89_board(sys, length, io, sizeof io, channel, lines, limit));
+    expect("12 of a step", processor, lines, (step == 12) == (iop89_wrong_argument(processor, 1, lines, 0) != 0));
+    expect("12 of attention", processor, channel, (attention == 12) == (iop89_wrong_argument(processor, channel, 0, 0) != 0));
+    expect("12 of a run", channel, lines, (run == 12) == (iop89_wrong_argument(1, channel, lines, limit) != 0));
     bool first = processor != 1 && processor != 2, second = channel != 1 && channel != 2;
-    expect("which of four", channel, lines,
-           iop89_wrong_argument(processor, channel, lines, limit) ==
-               (first ? IOP89_PROCESSOR : second ? IOP89_CHANNEL : lines > 15 ? IOP89_LINES : limit > 65535 ? IOP89_LIMIT
-                                                                                                           : IOP89_NO_ARGUMENT));
+    enum iop89_argument rest = lines > 15 ? IOP89_LINES : limit > 65535 ? IOP89_LIMIT : IOP89_NO_ARGUMENT;
+    enum iop89_argument wanted = first ? IOP89_PROCESSOR : second ? IOP89_CHANNEL : rest;
+    expect("which of four", channel, lines, iop89_wrong_argument(processor, channel, lines, limit) == wanted);
 }
 
 /* Each border of each argument with each of the others. */

@@ -123,23 +123,28 @@ static bool handed_as_moved(const struct run_case *c, const uint32_t *places, io
     return true;
 }
 
+/* What a step of a machine is told to touch. */
+static iop89_answer ask(const struct machine *m, const struct run_case *c, uint32_t lines, uint32_t *places)
+{
+    return iop89_touches_step(m->state, STATE_BYTES, m->memory[SYS], c->sys_len, m->memory[IO], c->io_len, lines, places,
+                              IOP89_PLACES);
+}
+
 /* Makes one step both ways; answers whether they agree. */
 static bool agree_on(const struct run_case *c, uint32_t lines)
 {
     const struct card everything = {0, IOP89_IO_LIMIT, true, read_card, store_card, &card};
-    struct card_bus bus = {.sys = bused.memory[SYS], .io = bused.memory[IO], .sys_len = c->sys_len, .io_len = c->io_len, .card = &everything,
-                           .cards = 1};
+    struct card_bus bus = {.sys = bused.memory[SYS], .io = bused.memory[IO], .sys_len = c->sys_len, .io_len = c->io_len,
+                           .card = &everything, .cards = 1};
     uint32_t places[IOP89_PLACES] = {0}, stale[IOP89_PLACES] = {0};
-    iop89_answer told = iop89_touches_step(plain.state, STATE_BYTES, plain.memory[SYS], c->sys_len, plain.memory[IO], c->io_len, lines, places,
-                                           IOP89_PLACES);
-    iop89_answer first = iop89_touches_step(bused.state, STATE_BYTES, bused.memory[SYS], c->sys_len, bused.memory[IO], c->io_len, lines, stale,
-                                            IOP89_PLACES);
-    count_step(c, places, told, told != first || memcmp(places, stale, sizeof places) != 0);
     uint8_t moved[2];
+    iop89_answer told = ask(&plain, c, lines, places), first = ask(&bused, c, lines, stale);
+    count_step(c, places, told, told != first || memcmp(places, stale, sizeof places) != 0);
     read_ahead(c, places, moved);
     card.count = 0;
     iop89_answer by_bus = bus_step(&bus, bused.state, lines);
-    iop89_answer by_plain = iop89_step(plain.state, STATE_BYTES, plain.memory[SYS], c->sys_len, plain.memory[IO], c->io_len, lines);
+    iop89_answer by_plain =
+        iop89_step(plain.state, STATE_BYTES, plain.memory[SYS], c->sys_len, plain.memory[IO], c->io_len, lines);
     return by_bus == by_plain && memcmp(bused.state, plain.state, STATE_BYTES) == 0 && asked_as_told(c, places, told) &&
            handed_as_moved(c, places, told, moved);
 }

@@ -51,7 +51,7 @@ static const char *const thing_names[THINGS] = {
     "the offset byte of a second pair is beyond", "places are told behind the one that is beyond",
     "a second pair is refused by 3 with its bytes told", "a place is read twice in one transfer step",
     "a place is read and stored", "there is room for some places alone", "there is room for none", "places in I/O space",
-    "places in empty slots", "places in I/O space whose pointer has more than 16 bits", "places on both sides of an address 0"};
+    "places in empty slots", "GA of more than 16 bits in I/O space", "places on both sides of an address 0"};
 static unsigned long things[THINGS];
 
 /* Whether two touches are of one place. */
@@ -111,7 +111,8 @@ static struct told pack(const struct call *call, const struct emu_touches *t, st
         if (is_beyond) count_beyond(t, call->kind, i);
         marked = marked || is_beyond;
         if (i >= call->room) continue;
-        told.place[i] = one->at.address | (one->at.tag ? 1u << 20 : 0) | (one->stored ? 1u << 21 : 0) | (is_beyond ? 1u << 22 : 0);
+        uint32_t marks = (uint32_t)one->at.tag | (uint32_t)one->stored << 1 | (uint32_t)is_beyond << 2;
+        told.place[i] = one->at.address | marks << 20;
     }
     return told;
 }
@@ -201,7 +202,8 @@ static void to_the_edge(struct random *d, const struct run_case *c)
     if (chance(d, 300)) at = MASK20 - below(d, 4);
     iop89_set(state, channel, which, at);
     if (which < IOP89_PP) state[IOP89_AT_CHANNEL(channel) + (size_t)which + 4] = chance(d, 200);
-    for (unsigned i = 1; i <= 2; i++) things[HIGH_BITS_DROPPED] += iop89_get(state, i, IOP89_GA) > 0xFFFF && iop89_get(state, i, IOP89_GA_TAG) != 0;
+    bool high = iop89_get(state, channel, IOP89_GA) > 0xFFFF;
+    things[HIGH_BITS_DROPPED] += high && iop89_get(state, channel, IOP89_GA_TAG) != 0;
 }
 
 /* A channel before MOV M,M whose second pair ends where lent memory does, so that its offset byte is beyond. */
@@ -224,7 +226,8 @@ static void cut_second_offset(struct random *d, const struct run_case *c)
 static void cut_board(const struct run_case *c)
 {
     if (c->sys_len < BOARD_LENGTH || c->sys_len > MASK20) return;
-    uint32_t block = (iop89_bytes(sys, 0xFFFFAu, 2) * 16 + iop89_bytes(sys, 0xFFFF8u, 2)) & MASK20, cp = (uint32_t)c->sys_len - 1;
+    uint32_t block = (iop89_bytes(sys, 0xFFFFAu, 2) * 16 + iop89_bytes(sys, 0xFFFF8u, 2)) & MASK20;
+    uint32_t cp = (uint32_t)c->sys_len - 1;
     if (block + 6 < 0xFFFF6u) iop89_set_bytes(sys, block + 2, 4, (cp & 15u) | (cp >> 4) << 16);
 }
 
@@ -283,8 +286,8 @@ static bool agree_on(const struct run_case *c, const struct call *call, unsigned
     bool made = made_as_told(c, call, archive.answer);
     if (same && stays && made) return true;
     if (!shown) return false;
-    printf("  call %u, %s, channel %" PRIu32 ", lines %" PRIu32 ", %zu bytes of state, %zu and %zu of memory, room %zu%s%s\n", index,
-           call_names[call->kind], call->channel, call->lines, call->state_len, c->sys_len, c->io_len, call->room,
+    printf("  call %u, %s, channel %" PRIu32 ", lines %" PRIu32 ", %zu bytes of state, %zu and %zu of memory, room %zu%s%s\n",
+           index, call_names[call->kind], call->channel, call->lines, call->state_len, c->sys_len, c->io_len, call->room,
            stays ? "" : ", the state was changed", made ? "" : ", the call answers otherwise");
     print_told("emulator", &emulator);
     print_told("archive ", &archive);
@@ -362,9 +365,15 @@ static const unsigned count_sets[CALLS] = {
 
 /* What a byte is read or stored for, in words. */
 static const char *const access_names[EMU_ACCESSES] = {
-    [EMU_FIRST_PAIR] = "the first pair",      [EMU_LATER_CODE] = "later code",     [EMU_READ] = "a byte or word that is read",
-    [EMU_TEST] = "the byte that TSL reads",   [EMU_READ_POINTER] = "a pointer that is read", [EMU_STORE] = "a byte or word that is stored",
-    [EMU_STORE_POINTER] = "a pointer that is stored", [EMU_SOURCE] = "the source",  [EMU_TABLE] = "the entry of a table",
+    [EMU_FIRST_PAIR] = "the first pair",
+    [EMU_LATER_CODE] = "later code",
+    [EMU_READ] = "a byte or word that is read",
+    [EMU_TEST] = "the byte that TSL reads",
+    [EMU_READ_POINTER] = "a pointer that is read",
+    [EMU_STORE] = "a byte or word that is stored",
+    [EMU_STORE_POINTER] = "a pointer that is stored",
+    [EMU_SOURCE] = "the source",
+    [EMU_TABLE] = "the entry of a table",
     [EMU_DESTINATION] = "the destination",
 };
 

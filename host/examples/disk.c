@@ -77,34 +77,51 @@ static void load(const char *name, uint8_t *sys)
     fclose(file);
 }
 
+/* A machine on the bus, and what its steps came to. */
+struct host {
+    uint8_t state[IOP89_STATE_LENGTH], sys[IMAGE], io[IO];
+    struct card controller;
+    struct card_bus bus;
+    unsigned steps, waits, halves;
+};
+
+/* Makes the machine of an image with the sector's number and bytes in its place, and gives it its attention. */
+static void start(struct host *h, const char *name, struct disk *d, uint8_t number, const uint8_t *buffer)
+{
+    const struct card controller = {STATUS, PORTS, true, read_port, store_port, d};
+    memset(h, 0, sizeof *h);
+    load(name, h->sys);
+    h->sys[AT_COUNT] = SECTOR;
+    h->sys[AT_SECTOR] = number;
+    memcpy(h->sys + BUFFER, buffer, SECTOR);
+    h->controller = controller;
+    struct card_bus bus = {.sys = h->sys, .io = h->io, .sys_len = IMAGE, .io_len = IO, .card = &h->controller, .cards = 1};
+    h->bus = bus;
+    d->command = 0;
+    d->spin = SPIN;
+    d->status_reads = d->data_bytes = 0;
+    (void)iop89_fresh(h->state, sizeof h->state, 0);
+    (void)bus_attention(&h->bus, h->state, 1);
+}
+
 /* Runs a program of the channel on one sector until it halts, the buffer's bytes handed in and back; says what happened, and
  * answers whether the program found no error. */
 static bool run(const char *name, struct disk *d, uint8_t number, uint8_t *buffer)
 {
-    uint8_t state[IOP89_STATE_LENGTH], sys[IMAGE], io[IO] = {0};
-    const struct card controller = {STATUS, PORTS, true, read_port, store_port, d};
-    struct card_bus bus = {.sys = sys, .io = io, .sys_len = IMAGE, .io_len = IO, .card = &controller, .cards = 1};
-    unsigned steps = 0, waits = 0, halves = 0;
-    load(name, sys);
-    sys[AT_COUNT] = SECTOR;
-    sys[AT_SECTOR] = number;
-    memcpy(sys + BUFFER, buffer, SECTOR);
-    d->spin = SPIN;
-    d->status_reads = d->data_bytes = 0;
-    d->command = 0;
-    (void)iop89_fresh(state, sizeof state, 0);
-    (void)bus_attention(&bus, state, 1);
-    while (iop89_get(state, 1, IOP89_MODE) == IOP89_RUNNING && steps + waits < 1000) {
-        bool held = iop89_get(state, 1, IOP89_HELD) != 0;
-        iop89_answer answer = bus_step(&bus, state, lines_of(d));
-        if (IOP89_ANSWER_NUMBER(answer) == IOP89_DONE) steps++;
-        else waits++;
-        halves += !held && iop89_get(state, 1, IOP89_HELD) != 0;
+    static struct host h;
+    start(&h, name, d, number, buffer);
+    while (iop89_get(h.state, 1, IOP89_MODE) == IOP89_RUNNING && h.steps + h.waits < 1000) {
+        bool held = iop89_get(h.state, 1, IOP89_HELD) != 0;
+        iop89_answer answer = bus_step(&h.bus, h.state, lines_of(d));
+        if (IOP89_ANSWER_NUMBER(answer) == IOP89_DONE) h.steps++;
+        else h.waits++;
+        h.halves += !held && iop89_get(h.state, 1, IOP89_HELD) != 0;
     }
-    memcpy(buffer, sys + BUFFER, SECTOR);
-    printf("%s, sector %u: %u steps, %u waits, status read %u times, %u bytes, %u held between halves%s\n", name, number, steps,
-           waits, d->status_reads, d->data_bytes, halves, sys[AT_ERROR] == ERROR_MARK ? ", ended by the controller" : "");
-    return sys[AT_ERROR] != ERROR_MARK;
+    bool good = h.sys[AT_ERROR] != ERROR_MARK;
+    memcpy(buffer, h.sys + BUFFER, SECTOR);
+    printf("%s, sector %u: %u steps, %u waits, status read %u times, %u bytes, %u held between halves%s\n", name, number,
+           h.steps, h.waits, d->status_reads, d->data_bytes, h.halves, good ? "" : ", ended by the controller");
+    return good;
 }
 
 int main(void)

@@ -137,8 +137,8 @@ static const char *const notes[] = {
     "asm's FILE has the lines of list, blank ones, and comments behind ;. A line may have a label in front, NAME:, and data "
     "in the place of an instruction: DB bytes, DW words. Where a number stands a sum may, as TABLE-(5+101B). It is "
     "assembled whole, or refused at its first bad line: 30 word, 31 operands, 32 parentheses, 33 label, 34 reach, 35 room.",
-    "Which bytes a step touches, for its line, for ports, -watch and -bus and for the words of 2, the library tells before the "
-    "step is made (iop89_touches_step).",
+    "Which bytes a step touches, for its line, for ports, -watch and -bus and for the words of 2, the library tells before "
+    "the step is made (iop89_touches_step).",
 };
 
 enum { NOTES = sizeof notes / sizeof notes[0], STATUSES = sizeof statuses / sizeof statuses[0] };
