@@ -107,6 +107,25 @@ static void test_beyond(const uint8_t *state, bool step)
     }
 }
 
+/* The example of docs/MACHINE.md §17: MOV [GA].0Ah,[GB].08h of a word, in twelve lent bytes and in eleven. */
+static void test_example(void)
+{
+    static const uint8_t code[12] = {0x03, 0x91, 0x08, 0x03, 0xCC, 0x0A};
+    static const uint32_t wanted[10] = {0, 1, 2, 3, 4, 5, 8, 9, 1u << 21 | 10, 1u << 21 | 11};
+    uint8_t state[IOP89_STATE_LENGTH];
+    uint32_t at[IOP89_PLACES];
+    (void)iop89_fresh(state, sizeof state, 0);
+    iop89_set(state, 1, IOP89_MODE, IOP89_RUNNING);
+    iop89_answer done = iop89_touches_step(state, sizeof state, code, 12, io, sizeof io, 0, at, IOP89_PLACES);
+    expect("the example", 12, IOP89_ANSWER_COUNT(done), IOP89_ANSWER_COUNT(done) == 10 && IOP89_ANSWER_NUMBER(done) == 0);
+    expect("its channel and kind", 12, 0, IOP89_ANSWER_CHANNEL(done) == 1 && IOP89_ANSWER_KIND(done) == IOP89_INSTRUCTION);
+    expect("its places", 12, 0, memcmp(at, wanted, sizeof wanted) == 0);
+    iop89_answer cut = iop89_touches_step(state, sizeof state, code, 11, io, sizeof io, 0, at, IOP89_PLACES);
+    expect("the example cut", 11, IOP89_ANSWER_COUNT(cut), IOP89_ANSWER_COUNT(cut) == 10 && IOP89_ANSWER_NUMBER(cut) == 2);
+    expect("its places", 11, 0, memcmp(at, wanted, 9 * sizeof at[0]) == 0 && at[9] == (wanted[9] | 1u << 22));
+    expect("what is beyond", 11, at[9], iop89_beyond(at, 10) == at[9]);
+}
+
 /* That of an attention that starts a channel, and of the channel's first step. */
 static void test_beyond_both(void)
 {
@@ -163,6 +182,7 @@ int main(void)
     test_rest();
     test_borders();
     test_beyond_both();
+    test_example();
     printf("causes: %u told, %u not as they should be\n", tried, wrong);
     return wrong != 0;
 }
