@@ -34,7 +34,8 @@ struct store {
     uint8_t byte;
 };
 
-/* A copy of the given state that may be dropped, so that a refusal is all or nothing. */
+/* A copy of the given state that may be dropped, so that a refusal is all or nothing. Who asks is told whether an instruction is
+ * known, so that only the offset byte of its second pair can have refused it. */
 struct work {
     struct emu_state state;
     struct emu_channel *ch;
@@ -46,7 +47,7 @@ struct work {
     struct store store[MOST_STORES];
     enum emu_half half;
     unsigned shape, ends, end_offset;
-    bool translated, jumped;
+    bool translated, jumped, known;
     uint8_t in_io[EMU_ACCESSES], empty[EMU_ACCESSES];
 };
 
@@ -615,11 +616,9 @@ struct place {
     uint32_t offset;
 };
 
-/* An instruction that has been read into its shape; it is known where only the offset byte of its second pair can be what
- * refuses it. */
+/* An instruction that has been read into its shape. */
 struct instruction {
     const struct row *row;
-    bool known;
     unsigned rrr;
     unsigned bytes;
     struct place place, second;
@@ -1089,7 +1088,7 @@ static void take_second_pair(struct work *w, struct instruction *in)
     if (!has_digits(&second_pair, first, second) || (first & 1u) + 1 != in->bytes) refuse(w, EMU_NO_INSTRUCTION);
     if (w->number != EMU_DONE) return;
     in->second = place_of(first, second);
-    in->known = ASKED;
+    if (ASKED) w->known = true;
     take_offset(w, in, &in->second);
 }
 
@@ -1155,7 +1154,7 @@ static void instruction_step(struct work *w)
     bool was_armed = w->ch->armed;
     read_instruction(w, &in);
     /* Who asks is told all of the last stage, also behind an offset byte that is not there. */
-    if (w->number != EMU_DONE && !in.known) return;
+    if (w->number != EMU_DONE && !(ASKED && w->known)) return;
     w->ch->tp = in.end;
     in.row->act(w, &in);
     if (was_armed && w->ch->mode == EMU_RUNNING) {
