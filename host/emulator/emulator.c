@@ -132,13 +132,19 @@ static inline void note(struct emu_pointer p, enum emu_access access, bool lent,
     emu_touches->touch[emu_touches->count++] = touch;
 }
 
+/* What a place that is not lent reads as: an empty slot; in system space, where the call is refused, 0 for what is told of it. */
+static inline uint32_t unlent(struct emu_pointer p)
+{
+    return p.tag ? EMPTY_SLOT : 0;
+}
+
 /* Reads n bytes, low byte first, each at its own reduced address. */
 static inline uint32_t read_bytes(struct work *w, struct emu_pointer p, unsigned n, enum emu_access access)
 {
     uint32_t value = 0;
     for (unsigned i = 0; i < n; i++) {
         const uint8_t *c = accessed(w, plus(p, i), access);
-        uint32_t byte = c == NULL ? EMPTY_SLOT : *c;
+        uint32_t byte = c == NULL ? unlent(plus(p, i)) : *c;
         note(plus(p, i), access, c != NULL, false, byte);
         value |= byte << (8 * i);
     }
