@@ -580,7 +580,8 @@ static void put_bad_label(struct maker *m)
         put_label_name(m, name);
         met(m, ASM_LABEL_OF_13);
     } else if (m->fault == FAULT_RESERVED) {
-        put_label_name(m, chance(&m->random, 500) ? ONE_OF(&m->random, registers) : ONE_OF(&m->random, assembly_forms).word);
+        put_label_name(m, chance(&m->random, 500) ? ONE_OF(&m->random, registers)
+                                                  : ONE_OF(&m->random, assembly_forms).word);
         met(m, ASM_LABEL_RESERVED);
     } else {
         put_label_name(m, m->names[below(&m->random, m->defined)]);
@@ -921,7 +922,8 @@ static void damage(struct maker *m)
     static const char odd[] = "[]()+-.,:; \t\r\n_GAPX0123456789BDHQO'$";
     if (m->c->text_len == 0) return;
     size_t at = below(&m->random, m->c->text_len), behind, from = line_around(m, at, &behind);
-    uint8_t byte = (uint8_t)(chance(&m->random, 850) ? odd[below(&m->random, sizeof odd - 1)] : (char)below(&m->random, 256));
+    uint8_t byte = (uint8_t)(chance(&m->random, 850) ? odd[below(&m->random, sizeof odd - 1)]
+                                                     : (char)below(&m->random, 256));
     enum asm_feature what = (enum asm_feature)(ASM_OTHER_BYTE + below(&m->random, ASM_CUT_OFF + 1 - ASM_OTHER_BYTE));
     if (what == ASM_OTHER_BYTE) m->c->text[at] = byte;
     if (what == ASM_BYTE_LOST) take_out(m, at, 1);

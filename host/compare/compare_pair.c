@@ -513,7 +513,8 @@ static void block_bytes(unsigned i, uint8_t bytes[16])
 }
 
 /* Makes one call in all ways; answers whether they agree. Large memories are compared behind a row's last call. */
-static bool agree_on(struct random *d, const struct processors *p, const struct named_call *k, unsigned index, bool shown)
+static bool agree_on(struct random *d, const struct processors *p, const struct named_call *k, unsigned index,
+                     bool shown)
 {
     static uint8_t io[SMALL];
     uint8_t block[2][16];
@@ -557,7 +558,8 @@ static void begin(struct random *d, const struct processors *p)
 }
 
 /* Makes one call on states that may be broken, the named one's and the other's, and makes whole again what the call left. */
-static bool agree_broken(struct random *d, const struct processors *p, const struct named_call *k, unsigned index, bool shown)
+static bool agree_broken(struct random *d, const struct processors *p, const struct named_call *k, unsigned index,
+                         bool shown)
 {
     uint8_t whole[2][STATE_BYTES];
     bool broken[2];

@@ -263,7 +263,8 @@ static void add_row(uint64_t *report, uint32_t answer)
 static void attend_singly(const struct run_case *c, const struct schedule *s, uint32_t channel, uint64_t *report)
 {
     const struct machine *m = &machines[SINGLE];
-    uint32_t answer = iop89_attention(m->state, s->state_len, m->memory[SYS], c->sys_len, m->memory[IO], c->io_len, channel);
+    uint32_t answer = iop89_attention(m->state, s->state_len, m->memory[SYS], c->sys_len, m->memory[IO], c->io_len,
+                                      channel);
     bool done = IOP89_ANSWER_NUMBER(answer) == IOP89_DONE;
     add_row(report, answer);
     if (counting) refused[0][IOP89_ANSWER_NUMBER(answer)]++;
@@ -311,8 +312,8 @@ static uint32_t by_archive(const struct run_case *c, const struct schedule *s, e
 {
     const struct machine *m = &machines[way];
     clear_report(s, report);
-    return iop89_schedule(m->state, s->state_len, rows_of(s) + from, to - from, m->memory[SYS], c->sys_len, m->memory[IO], c->io_len,
-                          report + WORD_FENCE, report_len);
+    return iop89_schedule(m->state, s->state_len, rows_of(s) + from, to - from, m->memory[SYS], c->sys_len,
+                          m->memory[IO], c->io_len, report + WORD_FENCE, report_len);
 }
 
 /* Some rows as one schedule of the emulator. */

@@ -121,12 +121,15 @@ static uint32_t by_archive(const struct run_case *c, struct call call)
     if (call.kind == CALL_FRESH) return iop89_fresh(proved.state, call.state_len, call.argument);
     if (call.kind == CALL_RESET) return iop89_reset(proved.state, call.state_len);
     if (call.kind == CALL_POWER)
-        return iop89_power_up(proved.state, call.state_len, proved.memory[SYS], c->sys_len, proved.memory[IO], c->io_len);
+        return iop89_power_up(proved.state, call.state_len, proved.memory[SYS], c->sys_len, proved.memory[IO],
+                              c->io_len);
     if (call.kind == CALL_BOARD)
-        return iop89_board(proved.memory[SYS], c->sys_len, proved.memory[IO], c->io_len, call.argument, call.lines, call.limit);
+        return iop89_board(proved.memory[SYS], c->sys_len, proved.memory[IO], c->io_len, call.argument, call.lines,
+                           call.limit);
     uint32_t (*made)(uint8_t *, size_t, uint8_t *, size_t, uint8_t *, size_t, uint32_t) =
         call.kind == CALL_ATTENTION ? iop89_attention : iop89_step;
-    return made(proved.state, call.state_len, proved.memory[SYS], c->sys_len, proved.memory[IO], c->io_len, call.argument);
+    return made(proved.state, call.state_len, proved.memory[SYS], c->sys_len, proved.memory[IO], c->io_len,
+                call.argument);
 }
 
 /* ---- What comes next ---- */

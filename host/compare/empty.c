@@ -1,5 +1,5 @@
 /* Gives every call of the service archive NULL for each of its buffers that has no bytes, singly and together, and
-   holds the answers to the header. host/compare/borders.c does the same for iop89_run. The text is C99 and C++ at once, so
+   holds the answers to the header. borders.c does the same for iop89_run. The text is C99 and C++ at once, so
    that the header is compiled as both. */
 #include "iop89_service.h"
 

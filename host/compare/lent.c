@@ -65,5 +65,6 @@ bool same_state(const struct machine *m, const struct machine *other)
 
 bool same_memories(const struct machine *m, const struct machine *other, const size_t length[2])
 {
-    return lent_same(m->memory[SYS], other->memory[SYS], length[SYS]) && lent_same(m->memory[IO], other->memory[IO], length[IO]);
+    return lent_same(m->memory[SYS], other->memory[SYS], length[SYS]) &&
+           lent_same(m->memory[IO], other->memory[IO], length[IO]);
 }

@@ -1,4 +1,4 @@
-/* What is lent to a call: buffers between fences, bytes that nobody may touch, and the machines that are made of them. */
+/* What is lent to a call: buffers between fences, bytes that nobody may touch, and machines that are made of them. */
 #ifndef LENT_H
 #define LENT_H
 

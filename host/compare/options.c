@@ -26,7 +26,8 @@ static uint64_t option(const struct comparison *c, int count, char **words, int 
 
 struct options read_options(const struct comparison *c, int count, char **words)
 {
-    struct options o = {option(c, count, words, 1, 1), option(c, count, words, 2, c->enough), option(c, count, words, 3, 0)};
+    struct options o = {option(c, count, words, 1, 1), option(c, count, words, 2, c->enough),
+                        option(c, count, words, 3, 0)};
     return o;
 }
 
@@ -37,7 +38,8 @@ unsigned long long compare_cases(const struct comparison *c, struct options o,
     for (uint64_t i = o.first; i < o.first + o.cases; i++) {
         if (agree(o.seed, i, false)) continue;
         if (differences++ >= SHOWN) continue;
-        printf("DIFFERENCE in %s %" PRIu64 " (again: %s %" PRIu64 " 1 %" PRIu64 ")\n", c->unit, i, c->program, o.seed, i);
+        printf("DIFFERENCE in %s %" PRIu64 " (again: %s %" PRIu64 " 1 %" PRIu64 ")\n", c->unit, i, c->program, o.seed,
+               i);
         agree(o.seed, i, true);
     }
     return differences;
@@ -45,8 +47,8 @@ unsigned long long compare_cases(const struct comparison *c, struct options o,
 
 void print_options(const struct comparison *c, struct options o)
 {
-    printf("seed %" PRIu64 ", %" PRIu64 " %s from %" PRIu64 ", %.1f seconds of processor time\n", o.seed, o.cases, c->units,
-           o.first, (double)clock() / CLOCKS_PER_SEC);
+    printf("seed %" PRIu64 ", %" PRIu64 " %s from %" PRIu64 ", %.1f seconds of processor time\n", o.seed, o.cases,
+           c->units, o.first, (double)clock() / CLOCKS_PER_SEC);
 }
 
 int conclude(const struct comparison *c, struct options o, unsigned long long differences)

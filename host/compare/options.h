@@ -19,19 +19,19 @@ struct options {
     uint64_t seed, cases, first;
 };
 
-/* Reads [SEED [CASES [FIRST]]], with 1, enough and 0 where they are left out; ends the program where they are no numbers. */
+/* Reads [SEED [CASES [FIRST]]], with 1, enough and 0 where they are left out; ends the program where they are none. */
 struct options read_options(const struct comparison *c, int count, char **words);
 
-/* Compares the cases by `agree`, which shows a case where that is asked; shows the first that differ, and answers how many
- * do. */
+/* Compares the cases by `agree`, which shows a case where that is asked; shows the first that differ, and answers how
+ * many do. */
 unsigned long long compare_cases(const struct comparison *c, struct options o,
                                  bool (*agree)(uint64_t seed, uint64_t number, bool shown));
 
 /* Prints what was asked for and how long it took. */
 void print_options(const struct comparison *c, struct options o);
 
-/* Prints how much was never met and how many cases differ; answers the program's exit status. With fewer cases than enough
- * not all is asked for. */
+/* Prints how much was never met and how many cases differ; answers the program's exit status. With fewer cases than
+ * enough not all is asked for. */
 int conclude(const struct comparison *c, struct options o, unsigned long long differences);
 
 #endif

@@ -1,4 +1,5 @@
-/* Hand-thought cases for the emulator: the paper's twelve, its example, the decoder's counts, and every reading. */
+/* Hand-thought cases for the emulator: the paper's twelve, its example, the decoder's counts, and every reading. Most are
+ * rows of words; what is counted or goes over a range is a loop. */
 #include "emulator.h"
 
 #include <stdlib.h>
@@ -17,6 +18,9 @@ struct rig {
 /* What is, and what a case wants it to be after the call. */
 static struct rig now, want;
 static unsigned long checks, failures;
+
+/* The row that is played, which a failed check shows; NULL where none is. */
+static const char *row;
 
 /* Channel 1 and 2 as they are and as wanted. */
 #define N now.s.channel[0]
@@ -37,7 +41,8 @@ static void check(bool good, const char *what, int line)
     checks++;
     if (good) return;
     failures++;
-    printf("line %d: not so: %s\n", line, what);
+    if (row != NULL) printf("\"%s\": not so: %s\n", row, what);
+    else printf("line %d: not so: %s\n", line, what);
 }
 
 /* ---- The rig ---- */
@@ -58,14 +63,14 @@ static void reset(void)
     N.gc.address = 0x3000;
 }
 
-/* Puts bytes, written in hex, at an address of one memory, wrapping; answers how many. */
+/* Puts bytes, written in hex with blanks or dots between them, at an address of one memory, wrapping; answers how many. */
 static unsigned put(uint8_t *memory, size_t size, uint32_t at, const char *hex)
 {
     unsigned n = 0;
     char *next;
     for (unsigned long byte = strtoul(hex, &next, 16); next != hex; byte = strtoul(hex, &next, 16)) {
         memory[(at + n++) % size] = (uint8_t)byte;
-        hex = next;
+        hex = *next == '.' ? next + 1 : next;
     }
     return n;
 }
@@ -76,7 +81,6 @@ static unsigned io(uint32_t at, const char *hex) { return put(now.io, EMU_IO_LIM
 
 /* Bytes that are wanted after the call, by space. */
 static void want_sys(uint32_t at, const char *hex) { put(want.sys, MIB, at, hex); }
-static void want_io(uint32_t at, const char *hex) { put(want.io, EMU_IO_LIMIT, at, hex); }
 
 /* Wants nothing to change. */
 static void want_same(void)
@@ -129,6 +133,419 @@ static void attend(uint32_t channel, unsigned number, int line)
     check((answer.count == 0) == (number != 0), "bytes where it is accepted", line);
     check_all(line);
 }
+
+/* ---- What rows begin with, and what they want ---- */
+
+/* A board at the top of memory: SYSBUS, the configuration block at FFFD0h, there SOC and CP 500h. */
+static void board(const char *sysbus, const char *soc)
+{
+    reset();
+    sys(0xFFFF6, sysbus);
+    sys(0xFFFF8, "D0 FF 00 F0");
+    sys(0xFFFD0, soc);
+    sys(0xFFFD2, "00 00 50 00");
+    want_same();
+}
+
+/* Powers up and wants this number, state and memory. */
+static void powers(unsigned number, int line)
+{
+    struct emu_answer answer = emu_power_up(&now.s, &now.m);
+    check(answer.number == number, "power-up's number", line);
+    check(answer.count == (number == 0 ? 11u : 0u), "power-up's eleven bytes", line);
+    check_all(line);
+}
+
+/* Sweeps and wants it done, for so many steps and two accesses of each of n bytes. */
+static void swept(uint32_t channel, uint32_t lines, uint32_t steps, uint32_t n, int line)
+{
+    struct emu_swept answer = emu_sweep(&now.s, &now.m, channel, lines);
+    check(answer.number == 0, "sweep done", line);
+    check(answer.steps == steps && answer.count == 2 * n, "steps and bytes of a sweep", line);
+    check_all(line);
+}
+
+/* Sweeps and wants it refused, with nothing changed. */
+static void unswept(unsigned number, uint32_t channel, uint32_t lines, int line)
+{
+    want_same();
+    struct emu_swept answer = emu_sweep(&now.s, &now.m, channel, lines);
+    check(answer.number == number, "number of sweep", line);
+    check(answer.steps == 0 && answer.count == 0, "no steps, no bytes", line);
+    check_all(line);
+}
+
+/* Wants a sweep of n bytes that ended by this offset; the case says which bytes arrive. */
+static void want_swept(uint32_t n, unsigned end)
+{
+    want_same();
+    want.s.last = 1;
+    W.ga.address = (W.ga.address + n) & 0xFFFFF;
+    W.gb.address = (W.gb.address + n) & 0xFFFFF;
+    W.bc = 0;
+    W.psw &= (uint8_t)~EMU_PSW_XF;
+    W.tp.address = (W.tp.address + end) & 0xFFFFF;
+    W.held = EMU_NONE_HELD;
+}
+
+/* Puts a control block with this CCW and PB at 500h for one channel, and wants nothing else. */
+static void block(unsigned channel, unsigned ccw)
+{
+    uint32_t at = now.s.cp + (channel == 2 ? 8 : 0);
+    now.sys[at & 0xFFFFF] = (uint8_t)ccw;
+    sys(at + 2, "00 01 40 00");
+}
+
+/* Channel 1 at 100h of system space, GA at a place of I/O space of which so many bytes are lent. */
+static void slot(uint32_t at, size_t io_len)
+{
+    reset();
+    N.ga = (struct emu_pointer){at, true};
+    now.m.io_len = io_len;
+}
+
+/* Sets channel 1 to a transfer from GA at 1000h to GB at 2000h; the case then says what differs. */
+static void transfer(unsigned widths, unsigned cc, unsigned bc)
+{
+    reset();
+    N.psw = (uint8_t)(EMU_PSW_TB | EMU_PSW_XF | widths);
+    emu_set_cc(&N, (uint16_t)cc);
+    N.bc = (uint16_t)bc;
+    sys(0x1000, "11 22 33 44");
+}
+
+/* Wants a step that moved this many bytes on moving sides and ended by this offset (or went on, if negative). */
+static void want_moved(unsigned bytes, int end)
+{
+    want_same();
+    want.s.last = 1;
+    bool gb = (N.cc & 0x0400) != 0;
+    struct emu_pointer *source = gb ? &W.gb : &W.ga, *destination = gb ? &W.ga : &W.gb;
+    if ((N.cc & 0x4000) != 0) source->address = (source->address + bytes) & 0xFFFFF;
+    if ((N.cc & 0x8000) != 0) destination->address = (destination->address + bytes) & 0xFFFFF;
+    W.bc = (uint16_t)(N.bc - bytes);
+    if (end < 0) return;
+    W.psw &= (uint8_t)~EMU_PSW_XF;
+    W.tp.address = (W.tp.address + (unsigned)end) & 0xFFFFF;
+}
+
+/* Wants a step whose first of two single stores ended it by this offset: one byte stored, two counted. */
+static void want_cut(int end)
+{
+    want_moved(1, end);
+    W.bc = (uint16_t)(N.bc - 2);
+    want_sys(0x2000, "11");
+}
+
+/* Both channels ready for a plain instruction. */
+static void both_ready(void)
+{
+    reset();
+    N2 = N;
+    N2.tp.address = 0x200;
+    sys(0x100, "00 00");
+    sys(0x200, "00 00");
+}
+
+/* The channel that the next step takes, or 0. */
+static unsigned goes(uint32_t lines)
+{
+    struct emu_state s = now.s;
+    struct emu_stepped stepped = emu_step(&s, &now.m, lines);
+    return stepped.number == 0 ? stepped.channel : 0;
+}
+
+/* Wants a half that holds this byte for the other one and changes nothing else. */
+static void want_half(unsigned byte)
+{
+    want_same();
+    want.s.last = 1;
+    W.held = (uint16_t)(EMU_HELD | byte);
+}
+
+/* Wants the second half of a pair, which ended by this offset (or went on, if negative). */
+static void want_pair(int end)
+{
+    want_moved(2, end);
+    W.held = EMU_NONE_HELD;
+}
+
+/* One step of a transfer, and how many bytes it read and stored. */
+static void transfer_counts(unsigned count, int line)
+{
+    struct emu_stepped stepped = emu_step(&now.s, &now.m, 0);
+    check(stepped.number == 0 && stepped.kind == 'T' && stepped.count == count, "a transfer step's bytes", line);
+}
+
+/* ---- Rows: cases in words ---- */
+
+/* A row is one case, or the next call of the case before it, in words that are done from left to right. Numbers are
+ * hexadecimal.
+ *
+ *   reset, fresh           the rig anew; its state made fresh from CP 40h
+ *   transfer=SD,C000,9     a transfer with these widths (- for none), this CC and this BC
+ *   slot=2000,1000         GA at this place of I/O space, of which so many bytes are lent
+ *   block=1,03             the control block of this channel with this CCW
+ *   ready                  both channels ready for a plain instruction
+ *   twins                  channel 2 as channel 1 is
+ *   board=01,01            a board with these bytes for SYSBUS and SOC
+ *   ga=1000  ga=1000/1     a pointer's address; with its tag; ga=/1 is the tag alone, ga+4 adds to the address
+ *   pp bc ix mc cc held    these registers; cc writes its fields too, cc-alone does not, cc-bit turns one bit of it
+ *   psw=TB,XF  psw+P       flags of PSW: just these (- for none), or these besides; psw-XF without
+ *   mode=running  armed=1  2.ga=1000 and so on are channel 2's
+ *   cp last powered        the state's own, and system_wide, io_wide, soc_1; fresh=500 is the fresh state of a CP
+ *   sys_len io_len         how much is lent
+ *   @1000=11.22  #5=33     bytes of system memory, and of I/O memory
+ *   code=08.30.80          an instruction at TP; wants nothing but TP past it
+ *   want                   wants nothing to change
+ *   moved=2  moved=2,4     wants a transfer step of so many bytes, that goes on or ended by this offset
+ *   cut=4  half=11         wants one that a match cut short; a half that holds this byte
+ *   pair  pair=4           wants the second half of a pair, that goes on or ended by this offset
+ *   swept=5,4              wants a sweep of so many bytes that ended by this offset
+ *
+ * Behind one of the last words registers and bytes are what is wanted; bc?7 asks what a register has come to. A row ends
+ * with its call, whose numbers of refusals are decimal:
+ *
+ *   I  T  X  T,2,3         a step of this kind is done; by channel 2 under line number 3
+ *   refused=5  refused=5,3 a step is refused by this number; under these lines
+ *   step  step=1           a step is done, whatever it does; under these lines
+ *   attend=1  attend=1,8   an attention to this channel is accepted; is refused by this number
+ *   attended=1             an attention is accepted, whatever it does
+ *   goes=0,2               under these lines this channel goes next
+ *   counts=4               a transfer step is done, and answers so many bytes
+ *   power=2                power-up answers this number
+ *   sweep=3,5  unswept=15  a sweep of channel 1 is done, in so many steps and bytes; is refused by this number; channel
+ *                          and lines may follow
+ */
+
+/* Whether a word has this name; then what stands behind it and its mark. */
+static const char *named_word(const char *word, const char *name)
+{
+    size_t length = strlen(name);
+    if (strncmp(word, name, length) != 0) return NULL;
+    return word[length] == '\0' ? word + length : strchr("=+-?,", word[length]) != NULL ? word + length + 1 : NULL;
+}
+
+/* The next number of a word, and on behind the comma that ends it. */
+static uint32_t next_number(const char **at)
+{
+    char *end;
+    uint32_t value = (uint32_t)strtoul(*at, &end, 16);
+    *at = *end == ',' ? end + 1 : end;
+    return value;
+}
+
+/* The flag of PSW that a list of names begins with. */
+static uint8_t flag_of(const char *list)
+{
+    static const char *const names[8] = {"D", "S", "TB", "IC", "IS", "LL", "XF", "P"};
+    size_t length = strcspn(list, ",");
+    for (unsigned i = 0; i < 8; i++)
+        if (strlen(names[i]) == length && strncmp(names[i], list, length) == 0) return (uint8_t)(1u << i);
+    check(false, "a flag of PSW", 0);
+    return 0;
+}
+
+/* The flags of PSW in a list of names. */
+static uint8_t flags_of(const char *list)
+{
+    uint8_t flags = 0;
+    for (const char *at = list; *at != '\0' && *at != '-'; at += *at == ',') {
+        flags |= flag_of(at);
+        at += strcspn(at, ",");
+    }
+    return flags;
+}
+
+/* Writes or looks at a pointer, by the mark behind its name. */
+static void pointer_word(struct emu_pointer *p, char mark, const char *value)
+{
+    char *end;
+    uint32_t address = (uint32_t)strtoul(value, &end, 16);
+    if (mark == '?') check(p->address == address && (*end != '/' || p->tag == (end[1] == '1')), "the pointer", 0);
+    else if (mark == '+') p->address = (p->address + address) & 0xFFFFF;
+    else if (end != value) p->address = address;
+    if (mark != '?' && *end == '/') p->tag = end[1] == '1';
+}
+
+/* Writes or looks at a number of 16 bits. */
+static void number_word(uint16_t *to, char mark, const char *value)
+{
+    uint16_t number = (uint16_t)next_number(&value);
+    if (mark == '?') check(*to == number, "the register", 0);
+    else *to = number;
+}
+
+/* Writes PSW, flags of it, or the channel's other things; answers false for a name of none. */
+static bool channel_word(struct emu_channel *c, const char *word)
+{
+    const char *value;
+    if ((value = named_word(word, "psw")) != NULL) {
+        uint8_t flags = flags_of(value);
+        c->psw = word[3] == '+' ? c->psw | flags : word[3] == '-' ? (uint8_t)(c->psw & ~flags) : flags;
+    } else if ((value = named_word(word, "mode")) != NULL) {
+        c->mode = *value == 'i' ? EMU_IDLE : *value == 'r' ? EMU_RUNNING : EMU_SUSPENDED;
+    } else if ((value = named_word(word, "armed")) != NULL) c->armed = *value == '1';
+    else if ((value = named_word(word, "cc-alone")) != NULL) c->cc = (uint16_t)next_number(&value);
+    else if ((value = named_word(word, "cc-bit")) != NULL) c->cc ^= (uint16_t)(1u << next_number(&value));
+    else if ((value = named_word(word, "cc")) != NULL) emu_set_cc(c, (uint16_t)next_number(&value));
+    else if ((value = named_word(word, "pp")) != NULL) c->pp = next_number(&value);
+    else return false;
+    return true;
+}
+
+/* Writes or looks at a register; answers false for a name of none. */
+static bool register_word(struct emu_channel *c, const char *word)
+{
+    struct emu_pointer *pointers[4] = {&c->ga, &c->gb, &c->gc, &c->tp};
+    uint16_t *numbers[4] = {&c->bc, &c->ix, &c->mc, &c->held};
+    static const char *const names[2][4] = {{"ga", "gb", "gc", "tp"}, {"bc", "ix", "mc", "held"}};
+    for (unsigned i = 0; i < 4; i++) {
+        const char *value = named_word(word, names[0][i]);
+        if (value != NULL) return pointer_word(pointers[i], value[-1], value), true;
+        value = named_word(word, names[1][i]);
+        if (value != NULL) return number_word(numbers[i], value[-1], value), true;
+    }
+    return channel_word(c, word);
+}
+
+/* Makes the rig, or what is wanted of it, what a word says; answers false for a word of another kind. */
+static bool rig_word(const char *word)
+{
+    const char *at;
+    if (strcmp(word, "reset") == 0) reset();
+    else if (strcmp(word, "fresh") == 0) emu_fresh(0x40, &now.s);
+    else if (strcmp(word, "ready") == 0) both_ready();
+    else if (strcmp(word, "twins") == 0) N2 = N;
+    else if ((at = named_word(word, "board")) != NULL) {
+        const char bytes[2][3] = {{at[0], at[1], '\0'}, {at[3], at[4], '\0'}};
+        board(bytes[0], bytes[1]);
+    }
+    else if ((at = named_word(word, "block")) != NULL) {
+        unsigned channel = next_number(&at);
+        block(channel, next_number(&at));
+    } else if ((at = named_word(word, "slot")) != NULL) {
+        uint32_t place = next_number(&at);
+        slot(place, next_number(&at));
+    } else if ((at = named_word(word, "transfer")) != NULL) {
+        unsigned widths = (strchr("S", *at) != NULL ? EMU_PSW_S : 0u) | (at[*at == 'S'] == 'D' ? EMU_PSW_D : 0u);
+        at = strchr(at, ',') + 1;
+        unsigned cc = next_number(&at);
+        transfer(widths, cc, next_number(&at));
+    } else return false;
+    return true;
+}
+
+/* Says what is wanted; answers false for a word of another kind. */
+static bool want_word(const char *word)
+{
+    const char *at;
+    if (strcmp(word, "want") == 0) want_same();
+    else if ((at = named_word(word, "code")) != NULL) code(at);
+    else if ((at = named_word(word, "moved")) != NULL) {
+        unsigned bytes = next_number(&at);
+        want_moved(bytes, *at == '\0' ? -1 : (int)next_number(&at));
+    } else if ((at = named_word(word, "cut")) != NULL) want_cut((int)next_number(&at));
+    else if ((at = named_word(word, "half")) != NULL) want_half(next_number(&at));
+    else if ((at = named_word(word, "swept")) != NULL) {
+        uint32_t bytes = next_number(&at);
+        want_swept(bytes, next_number(&at));
+    }
+    else if ((at = named_word(word, "pair")) != NULL) want_pair(*at == '\0' ? -1 : (int)next_number(&at));
+    else return false;
+    return true;
+}
+
+/* Makes a row's sweep and checks it; answers false for a word of another kind. */
+static bool sweep_word(const char *word)
+{
+    const char *at;
+    if ((at = named_word(word, "sweep")) != NULL) {
+        uint32_t steps = next_number(&at), bytes = next_number(&at), channel = *at == '\0' ? 1 : next_number(&at);
+        swept(channel, next_number(&at), steps, bytes, 0);
+    } else if ((at = named_word(word, "unswept")) != NULL) {
+        unsigned number = (unsigned)strtoul(at, NULL, 10);
+        at += strcspn(at, ",");
+        at += *at == ',';
+        uint32_t channel = *at == '\0' ? 1 : next_number(&at);
+        unswept(number, channel, next_number(&at), 0);
+    } else return false;
+    return true;
+}
+
+/* Makes a row's call and checks it; answers false for a word of another kind. */
+static bool call_word(const char *word)
+{
+    const char *at;
+    if (strchr("ITX", *word) != NULL && (word[1] == '\0' || word[1] == ',')) {
+        at = word[1] == ',' ? word + 2 : "1,0";
+        unsigned channel = next_number(&at);
+        done(*word, channel, next_number(&at), 0);
+    } else if ((at = named_word(word, "refused")) != NULL) {
+        unsigned number = (unsigned)strtoul(at, NULL, 10);
+        at += strcspn(at, ",");
+        refused(number, *at == ',' ? (at++, next_number(&at)) : 0, 0);
+    } else if ((at = named_word(word, "step")) != NULL)
+        check(emu_step(&now.s, &now.m, next_number(&at)).number == 0, "step done", 0);
+    else if ((at = named_word(word, "attend")) != NULL) {
+        uint32_t channel = next_number(&at);
+        attend(channel, (unsigned)strtoul(at, NULL, 10), 0);
+    } else if ((at = named_word(word, "attended")) != NULL)
+        check(emu_attention(&now.s, &now.m, next_number(&at)).number == 0, "attention accepted", 0);
+    else if ((at = named_word(word, "goes")) != NULL) {
+        uint32_t lines = next_number(&at);
+        check(goes(lines) == next_number(&at), "the channel that goes", 0);
+    } else if ((at = named_word(word, "counts")) != NULL) transfer_counts(next_number(&at), 0);
+    else if ((at = named_word(word, "power")) != NULL) powers((unsigned)strtoul(at, NULL, 10), 0);
+    else return sweep_word(word);
+    return true;
+}
+
+/* Writes what a word says of state, memory or registers. */
+static bool value_word(struct rig *rig, const char *word)
+{
+    const char *at;
+    if (*word == '@' || *word == '#') {
+        uint32_t place = (uint32_t)strtoul(word + 1, NULL, 16);
+        put(*word == '@' ? rig->sys : rig->io, *word == '@' ? MIB : EMU_IO_LIMIT, place, strchr(word, '=') + 1);
+    } else if ((at = named_word(word, "sys_len")) != NULL) rig->m.sys_len = next_number(&at);
+    else if ((at = named_word(word, "io_len")) != NULL) rig->m.io_len = next_number(&at);
+    else if ((at = named_word(word, "cp")) != NULL) rig->s.cp = next_number(&at);
+    else if ((at = named_word(word, "last")) != NULL) rig->s.last = (uint8_t)next_number(&at);
+    else if ((at = named_word(word, "powered")) != NULL) rig->s.powered = *at == '1';
+    else if ((at = named_word(word, "system_wide")) != NULL) rig->s.system_wide = *at == '1';
+    else if ((at = named_word(word, "io_wide")) != NULL) rig->s.io_wide = *at == '1';
+    else if ((at = named_word(word, "soc_1")) != NULL) rig->s.soc_1 = *at == '1';
+    else if ((at = named_word(word, "fresh")) != NULL) emu_fresh(next_number(&at), &rig->s);
+    else {
+        unsigned second = strncmp(word, "2.", 2) == 0;
+        return register_word(&rig->s.channel[second], word + 2 * second);
+    }
+    return true;
+}
+
+/* Plays a row. */
+static void play_row(const char *text)
+{
+    static char words[512];
+    struct rig *rig = &now;
+    row = text;
+    snprintf(words, sizeof words, "%s", text);
+    for (char *word = strtok(words, " "); word != NULL; word = strtok(NULL, " ")) {
+        if (rig_word(word) || call_word(word)) rig = &now;
+        else if (want_word(word)) rig = &want;
+        else if (!value_word(rig, word)) check(false, word, 0);
+    }
+    row = NULL;
+}
+
+/* Plays rows, of which NULL is behind the last. */
+static void play(const char *const *rows)
+{
+    for (; *rows != NULL; rows++) play_row(*rows);
+}
+
+#define PLAY(...) play((const char *const[]){__VA_ARGS__, NULL})
 
 /* ---- The decoder ---- */
 
@@ -199,6 +616,20 @@ static bool named(unsigned first, unsigned second, const char *name)
     return strcmp(emu_format_name((uint8_t)first, (uint8_t)second), name) == 0;
 }
 
+/* First pairs with the names that they have, of which NULL is behind the last. */
+static void names(const char *const *rows)
+{
+    for (; *rows != NULL; rows++) {
+        char *name;
+        unsigned pair = (unsigned)strtoul(*rows, &name, 16);
+        row = *rows;
+        check(named(pair >> 8, pair & 0xFF, name + 1), "the pair's name", 0);
+    }
+    row = NULL;
+}
+
+#define NAMES(...) names((const char *const[]){__VA_ARGS__, NULL})
+
 /* All 65,536 first pairs. */
 static void test_decoder_counts(void)
 {
@@ -250,51 +681,40 @@ static void test_decoder_by_steps(void)
 /* Pairs that the maker's listings print. */
 static void test_decoder_listings(void)
 {
-    CHECK(named(0x0A, 0x4F, "MOVI M"));
-    CHECK(named(0xB1, 0x30, "MOVI R"));
-    CHECK(named(0x51, 0x30, "MOVI R"));
-    CHECK(named(0xEA, 0xBA, "JNBT"));
-    CHECK(named(0x0A, 0x4E, "MOVI M"));
-    CHECK(named(0x02, 0x93, "MOV M,M"));
-    CHECK(named(0xD1, 0x30, "MOVI R"));
-    CHECK(named(0xA0, 0x00, "WID"));
-    CHECK(named(0x23, 0x8B, "LPD P,M"));
-    CHECK(named(0x60, 0x00, "XFER"));
-    CHECK(named(0x6A, 0xBE, "JBT"));
-    CHECK(named(0xA0, 0x3C, "DEC R"));
-    CHECK(named(0xA8, 0x40, "JNZ R"));
-    CHECK(named(0x40, 0x00, "SINTR"));
-    CHECK(named(0x20, 0x48, "HLT"));
+    NAMES("0A4F MOVI M", "B130 MOVI R", "5130 MOVI R", "EABA JNBT", "0A4E MOVI M", "0293 MOV M,M", "D130 MOVI R",
+          "A000 WID", "238B LPD P,M", "6000 XFER", "6ABE JBT", "A03C DEC R", "A840 JNZ R", "4000 SINTR",
+          "2048 HLT");
 }
 
 /* The readings on instruction codes, name by name. */
 static void test_decoder_readings(void)
 {
-    /* CALL with AA 11 is an instruction, its W is free */
-    CHECK(named(0x8E, 0x9C, "CALL") && named(0x8F, 0x9C, "CALL") && named(0x97, 0x9F, "CALL"));
-    CHECK(named(0x80, 0x9C, "3") && named(0x98, 0x9C, "3") && named(0x08, 0x9C, "3") && named(0xC8, 0x9C, "3"));
-    /* ORI to a register has AA 00 */
-    CHECK(named(0x08, 0x24, "ORI R,I") && named(0x11, 0x24, "ORI R,I"));
-    CHECK(named(0x0A, 0x24, "3") && named(0x0C, 0x24, "3") && named(0x0E, 0x24, "3") && named(0x13, 0x24, "3"));
-    /* JMP's dd agrees with W */
-    CHECK(named(0x88, 0x20, "JMP") && named(0x91, 0x20, "JMP"));
-    CHECK(named(0x90, 0x20, "3") && named(0x89, 0x20, "3") && named(0x98, 0x20, "3") && named(0x80, 0x20, "3"));
-    /* fixed digits count where there is no operand */
-    CHECK(named(0x00, 0x00, "NOP") && named(0x00, 0x01, "3") && named(0x01, 0x00, "3") && named(0x08, 0x00, "3"));
-    CHECK(named(0x20, 0x00, "3") && named(0x02, 0x00, "3") && named(0x41, 0x00, "3") && named(0x60, 0x02, "3"));
-    CHECK(named(0x80, 0x00, "WID") && named(0xC0, 0x00, "WID") && named(0xE0, 0x00, "WID") && named(0xE0, 0x03, "3"));
-    CHECK(named(0x20, 0x49, "3") && named(0x21, 0x48, "3") && named(0x40, 0x48, "3") && named(0x00, 0x48, "3"));
-    CHECK(named(0x11, 0x08, "LPDI P,I") && named(0x11, 0x09, "3") && named(0x10, 0x08, "3") && named(0x09, 0x08, "3"));
-    CHECK(named(0x11, 0x30, "MOVI R") && named(0x11, 0x31, "3") && named(0x08, 0x22, "3") && named(0x08, 0x2B, "3"));
-    /* W is 0 in register forms without it, bit instructions, JMCE, JMCNE, TSL */
-    CHECK(named(0x01, 0x2C, "3") && named(0x01, 0x38, "3") && named(0x01, 0x3C, "3") && named(0x00, 0x2C, "NOT R"));
-    CHECK(named(0x09, 0x40, "3") && named(0x09, 0x44, "3") && named(0x08, 0x40, "JNZ R") && named(0x10, 0x44, "JZ R"));
-    CHECK(named(0x01, 0xF4, "3") && named(0x01, 0xF8, "3") && named(0x00, 0xF4, "SETB") && named(0xE0, 0xF8, "CLR"));
-    CHECK(named(0x09, 0xBC, "3") && named(0x09, 0xB8, "3") && named(0x09, 0xB0, "3") && named(0x09, 0xB4, "3"));
-    CHECK(named(0x19, 0x94, "3") && named(0x18, 0x94, "TSL") && named(0x08, 0x94, "3") && named(0x38, 0x94, "3"));
-    /* W is 1 in LPD, LPDI and MOVP */
-    CHECK(named(0x00, 0x88, "3") && named(0x00, 0x8C, "3") && named(0x00, 0x98, "3"));
-    CHECK(named(0x01, 0x88, "LPD P,M") && named(0x01, 0x8C, "MOVP P,M") && named(0x01, 0x98, "MOVP M,P"));
+    NAMES(
+          /* CALL with AA 11 is an instruction, its W is free */
+          "8E9C CALL", "8F9C CALL", "979F CALL",
+          "809C 3", "989C 3", "089C 3", "C89C 3",
+          /* ORI to a register has AA 00 */
+          "0824 ORI R,I", "1124 ORI R,I",
+          "0A24 3", "0C24 3", "0E24 3", "1324 3",
+          /* JMP's dd agrees with W */
+          "8820 JMP", "9120 JMP",
+          "9020 3", "8920 3", "9820 3", "8020 3",
+          /* fixed digits count where there is no operand */
+          "0000 NOP", "0001 3", "0100 3", "0800 3",
+          "2000 3", "0200 3", "4100 3", "6002 3",
+          "8000 WID", "C000 WID", "E000 WID", "E003 3",
+          "2049 3", "2148 3", "4048 3", "0048 3",
+          "1108 LPDI P,I", "1109 3", "1008 3", "0908 3",
+          "1130 MOVI R", "1131 3", "0822 3", "082B 3",
+          /* W is 0 in register forms without it, bit instructions, JMCE, JMCNE, TSL */
+          "012C 3", "0138 3", "013C 3", "002C NOT R",
+          "0940 3", "0944 3", "0840 JNZ R", "1044 JZ R",
+          "01F4 3", "01F8 3", "00F4 SETB", "E0F8 CLR",
+          "09BC 3", "09B8 3", "09B0 3", "09B4 3",
+          "1994 3", "1894 TSL", "0894 3", "3894 3",
+          /* W is 1 in LPD, LPDI and MOVP */
+          "0088 3", "008C 3", "0098 3",
+          "0188 LPD P,M", "018C MOVP P,M", "0198 MOVP M,P");
     /* PPP 3, 5, 6, 7 is 3, also 6 */
     for (unsigned ppp = 0; ppp < 8; ppp++) {
         bool pointer = ppp == 0 || ppp == 1 || ppp == 2 || ppp == 4;
@@ -303,24 +723,25 @@ static void test_decoder_readings(void)
         CHECK(named(ppp << 5 | 0x01, 0x8C, pointer ? "MOVP P,M" : "3"));
         CHECK(named(ppp << 5 | 0x01, 0x98, pointer ? "MOVP M,P" : "3"));
     }
-    /* opcode 33h as a first pair */
-    CHECK(named(0x00, 0xCC, "3") && named(0x01, 0xCF, "3"));
-    /* uses of CC */
-    CHECK(named(0xC0, 0xA0, "4") && named(0xC1, 0xA4, "4") && named(0xC0, 0xA8, "4") && named(0xC0, 0xAC, "4"));
-    CHECK(named(0xC0, 0xD0, "4") && named(0xC6, 0xD4, "4") && named(0xC0, 0xDB, "4"));
-    CHECK(named(0xC8, 0x20, "4") && named(0xD1, 0x24, "4") && named(0xC8, 0x28, "4"));
-    CHECK(named(0xC0, 0x2C, "4") && named(0xC0, 0x38, "4") && named(0xC0, 0x3C, "4"));
-    CHECK(named(0xC8, 0x40, "4") && named(0xD0, 0x44, "4"));
-    /* no uses of CC */
-    CHECK(named(0xC0, 0x80, "MOV R,M") && named(0xC1, 0x84, "MOV M,R") && named(0xC8, 0x30, "MOVI R"));
-    CHECK(named(0xC0, 0xF4, "SETB") && named(0xC0, 0xF8, "CLR") && named(0xC8, 0xBC, "JBT") && named(0xC8, 0xB8, "JNBT"));
-    /* 3 comes before 4 */
-    CHECK(named(0xC8, 0x3C, "3") && named(0xC1, 0x2C, "3") && named(0xC0, 0x20, "3") && named(0xD0, 0x20, "3"));
-    /* dd where it stands; the fixed 00 of memory forms */
-    CHECK(named(0x00, 0xE4, "3") && named(0x18, 0xE4, "3") && named(0x10, 0xE4, "JZ M") && named(0x09, 0xE0, "JNZ M"));
-    CHECK(named(0x08, 0x80, "3") && named(0x08, 0xE8, "3") && named(0x10, 0xD0, "3") && named(0x20, 0xEC, "3"));
-    CHECK(named(0x20, 0x90, "3") && named(0x08, 0x90, "3") && named(0x20, 0xDC, "3") && named(0x28, 0x4C, "3"));
-    CHECK(named(0x08, 0x4C, "MOVI M") && named(0x10, 0x4C, "3") && named(0x09, 0xC0, "3") && named(0x11, 0xC4, "ORI M,I"));
+    NAMES(
+          /* opcode 33h as a first pair */
+          "00CC 3", "01CF 3",
+          /* uses of CC */
+          "C0A0 4", "C1A4 4", "C0A8 4", "C0AC 4",
+          "C0D0 4", "C6D4 4", "C0DB 4",
+          "C820 4", "D124 4", "C828 4",
+          "C02C 4", "C038 4", "C03C 4",
+          "C840 4", "D044 4",
+          /* no uses of CC */
+          "C080 MOV R,M", "C184 MOV M,R", "C830 MOVI R",
+          "C0F4 SETB", "C0F8 CLR", "C8BC JBT", "C8B8 JNBT",
+          /* 3 comes before 4 */
+          "C83C 3", "C12C 3", "C020 3", "D020 3",
+          /* dd where it stands; the fixed 00 of memory forms */
+          "00E4 3", "18E4 3", "10E4 JZ M", "09E0 JNZ M",
+          "0880 3", "08E8 3", "10D0 3", "20EC 3",
+          "2090 3", "0890 3", "20DC 3", "284C 3",
+          "084C MOVI M", "104C 3", "09C0 3", "11C4 ORI M,I");
 }
 
 /* ---- The paper's twelve cases ---- */
@@ -352,55 +773,23 @@ static unsigned long transfer_steps(unsigned widths, uint32_t from, uint32_t to,
 /* Cases 1 to 12 of the paper's table. */
 static void test_twelve_cases(void)
 {
-    /* 1 */
-    reset();
-    code("08 30 80");
-    W.ga = (struct emu_pointer){0xFFF80, true};
-    DONE('I');
-    /* 2 */
-    reset();
-    code("71 30 34 12");
-    W.bc = 0x1234;
-    DONE('I');
-    /* 3 */
-    reset();
-    code("88 20 FE");
-    W.tp.address = 0x101;
-    DONE('I');
-    /* 4 */
-    reset();
-    N.ga.address = 0;
-    code("08 20 FF");
-    W.ga.address = 0xFFFFF;
-    DONE('I');
-    /* 5 */
-    reset();
-    N.gb = (struct emu_pointer){0x12345, true};
-    code("21 98");
-    want_sys(0x1000, "45 23 18");
-    DONE('I');
-    reset();
-    N.gb = (struct emu_pointer){0x12345, false};
-    code("21 98");
-    want_sys(0x1000, "45 23 10");
-    DONE('I');
-    /* 6 */
-    reset();
-    code("11 08 10 00 FF FF");
-    W.ga.address = 0;
-    DONE('I');
-    /* 7 */
-    reset();
-    N.mc = 0xF041;
-    sys(0x1000, "4F");
-    code("08 B0 10");
-    W.tp.address += 0x10;
-    DONE('I');
-    reset();
-    N.mc = 0xF041;
-    sys(0x1000, "5F");
-    code("08 B0 10");
-    DONE('I');
+    PLAY(
+         /* 1 */
+         "reset code=08.30.80 ga=FFF80/1 I",
+         /* 2 */
+         "reset code=71.30.34.12 bc=1234 I",
+         /* 3 */
+         "reset code=88.20.FE tp=101 I",
+         /* 4 */
+         "reset ga=0 code=08.20.FF ga=FFFFF I",
+         /* 5 */
+         "reset gb=12345/1 code=21.98 @1000=45.23.18 I",
+         "reset gb=12345/0 code=21.98 @1000=45.23.10 I",
+         /* 6 */
+         "reset code=11.08.10.00.FF.FF ga=0 I",
+         /* 7 */
+         "reset mc=F041 @1000=4F code=08.B0.10 tp+10 I",
+         "reset mc=F041 @1000=5F code=08.B0.10 I");
     /* 8 */
     CHECK(transfer_steps(0, 0x1000, 0x2000, 5) == 5);
     CHECK(transfer_steps(3, 0x1000, 0x2000, 5) == 3);
@@ -448,26 +837,6 @@ static void test_fresh(void)
 
 /* ---- Reset and power-up ---- */
 
-/* A board at the top of memory: SYSBUS, the configuration block at FFFD0h, there SOC and CP 500h. */
-static void board(const char *sysbus, const char *soc)
-{
-    reset();
-    sys(0xFFFF6, sysbus);
-    sys(0xFFFF8, "D0 FF 00 F0");
-    sys(0xFFFD0, soc);
-    sys(0xFFFD2, "00 00 50 00");
-    want_same();
-}
-
-/* Powers up and wants this number, state and memory. */
-static void powers(unsigned number, int line)
-{
-    struct emu_answer answer = emu_power_up(&now.s, &now.m);
-    check(answer.number == number, "power-up's number", line);
-    check(answer.count == (number == 0 ? 11u : 0u), "power-up's eleven bytes", line);
-    check_all(line);
-}
-
 /* After reset every attention and step is 13, behind 12, 11 and 10. */
 static void test_reset(void)
 {
@@ -477,19 +846,15 @@ static void test_reset(void)
     emu_reset(&now.s);
     fresh.powered = false;
     CHECK(emu_same_state(&now.s, &fresh));
-    want_same();
-    ATTEND_REFUSED(1, 13);
-    ATTEND_REFUSED(3, 12);
-    REFUSED(13);
-    REFUSED_ON(12, 16);
-    now.m.io_len = EMU_IO_LIMIT + 1;
-    ATTEND_REFUSED(1, 11);
-    REFUSED(11);
-    now.m.io_len = EMU_IO_LIMIT;
-    now.s.cp = 0x100000;
-    want_same();
-    ATTEND_REFUSED(1, 10);
-    REFUSED(10);
+    PLAY(
+         "want attend=1,13",
+         "attend=3,12",
+         "refused=13",
+         "refused=12,10",
+         "io_len=10001 attend=1,11",
+         "refused=11",
+         "io_len=10000 cp=100000 want attend=1,10",
+         "refused=10");
 }
 
 /* What a power-up finds, from any state, and what it stores. */
@@ -512,45 +877,22 @@ static void test_power_up(void)
 /* 11, then 2 for each of the eleven bytes, and nothing changed. */
 static void test_power_up_refusals(void)
 {
-    board("01", "01");
-    now.m.io_len = EMU_IO_LIMIT + 1;
-    powers(11, __LINE__);
-    board("01", "01");
-    now.m.sys_len = 0xFFFFB;
-    powers(2, __LINE__);
-    now.m.sys_len = 0xFFFFC;
-    emu_fresh(0x500, &want.s);
-    want.s.system_wide = want.s.io_wide = true;
-    want_sys(0x501, "00");
-    powers(0, __LINE__);
-    /* SOC, the last byte of CP's pointer, and BUSY just beyond */
-    board("01", "01");
-    sys(0xFFFF8, "FC FF 00 F0");
-    want_same();
-    now.m.sys_len = 0xFFFFC;
-    powers(2, __LINE__);
-    sys(0xFFFF8, "F7 FF 00 F0");
-    want_same();
-    powers(2, __LINE__);
-    board("01", "01");
-    sys(0xFFFD2, "FB FF 00 F0");
-    want_same();
-    now.m.sys_len = 0xFFFFC;
-    powers(2, __LINE__);
+    PLAY(
+         "board=01,01 io_len=10001 power=11",
+         "board=01,01 sys_len=FFFFB power=2",
+         "sys_len=FFFFC want fresh=500 system_wide=1 io_wide=1 @501=00 power=0",
+         /* SOC, the last byte of CP's pointer, and BUSY just beyond */
+         "board=01,01 @FFFF8=FC.FF.00.F0 sys_len=FFFFC want power=2",
+         "@FFFF8=F7.FF.00.F0 want power=2",
+         "board=01,01 @FFFD2=FB.FF.00.F0 sys_len=FFFFC want power=2");
 }
 
 /* Addresses wrap, and every byte is read before BUSY is stored. */
 static void test_power_up_wraps(void)
 {
-    board("01", "02");
-    sys(0xFFFF8, "FE FF 00 F0");
-    sys(0xFFFFE, "02");
-    sys(0, "F7 FF 00 F0");
-    want_same();
-    emu_fresh(0xFFFF7, &want.s);
-    want.s.system_wide = want.s.soc_1 = true;
-    want_sys(0xFFFF8, "00");
-    powers(0, __LINE__);
+    PLAY(
+         "board=01,02 @FFFF8=FE.FF.00.F0 @FFFFE=02 @0=F7.FF.00.F0 want fresh=FFFF7 system_wide=1 soc_1=1 @FFFF8=00 "
+         "power=0");
 }
 
 /* The run with power-up in the place of a CP. */
@@ -574,35 +916,28 @@ static void test_board(void)
 /* 12 before 11 before 10 before all else. */
 static void test_early_order(void)
 {
-    reset();
-    sys(0x40, "00");
-    now.s.cp = 0x100000;
-    now.m.io_len = EMU_IO_LIMIT + 1;
-    REFUSED_ON(12, 16);
-    REFUSED_ON(12, 0xFFFFFFFF);
-    ATTEND_REFUSED(0, 12);
-    ATTEND_REFUSED(3, 12);
-    ATTEND_REFUSED(0xFFFFFFFF, 12);
-    REFUSED_ON(11, 15);
-    ATTEND_REFUSED(1, 11);
-    ATTEND_REFUSED(2, 11);
-    now.m.io_len = EMU_IO_LIMIT;
-    REFUSED(10);
-    ATTEND_REFUSED(1, 10);
-    now.m.sys_len = MIB + 1;
-    REFUSED(11);
-    ATTEND_REFUSED(1, 11);
+    PLAY(
+         "reset @40=00 cp=100000 io_len=10001 refused=12,10",
+         "refused=12,FFFFFFFF",
+         "attend=0,12",
+         "attend=3,12",
+         "attend=FFFFFFFF,12",
+         "refused=11,F",
+         "attend=1,11",
+         "attend=2,11",
+         "io_len=10000 refused=10",
+         "attend=1,10",
+         "sys_len=100001 refused=11",
+         "attend=1,11");
     now.m.sys_len = 0;
     now.m.sys = NULL;
     REFUSED(10);
-    now.s.cp = 0x40;
-    REFUSED(2);
-    ATTEND_REFUSED(1, 2);
-    /* 10 before 1 */
-    emu_fresh(0x40, &now.s);
-    REFUSED(1);
-    N2.gc.address = 0x100000;
-    REFUSED(10);
+    PLAY(
+         "cp=40 refused=2",
+         "attend=1,2",
+         /* 10 before 1 */
+         "fresh refused=1",
+         "2.gc=100000 refused=10");
 }
 
 /* 10 looks at five registers of both channels, whatever their mode. */
@@ -627,101 +962,39 @@ static void test_refusal_10(void)
             }
         }
     }
-    reset();
-    now.s.cp = 0x100000;
-    REFUSED(10);
-    ATTEND_REFUSED(1, 10);
+    PLAY(
+         "reset cp=100000 refused=10",
+         "attend=1,10");
 }
 
 /* ---- Attention ---- */
 
-/* Puts a control block with this CCW and PB at 500h for one channel, and wants nothing else. */
-static void block(unsigned channel, unsigned ccw)
-{
-    uint32_t at = now.s.cp + (channel == 2 ? 8 : 0);
-    now.sys[at & 0xFFFFF] = (uint8_t)ccw;
-    sys(at + 2, "00 01 40 00");
-}
-
 /* Start, in both spaces and on both channels. */
 static void test_start(void)
 {
-    reset();
-    emu_fresh(0x40, &now.s);
-    block(1, 0x01);
-    sys(0x500, "CD AB");
-    want_same();
-    W.pp = 0x500;
-    W.tp = (struct emu_pointer){0x0ABCD, true};
-    W.mode = EMU_RUNNING;
-    W.psw = EMU_PSW_TB;
-    want_sys(0x41, "FF");
-    ATTEND(1);
-    /* channel 2's block is at CP + 8; the doubleword pointer wraps */
-    reset();
-    block(2, 0x03);
-    sys(0x500, "10 00 FF FF");
-    N2.tp.tag = true;
-    N2.armed = true;
-    N2.psw = EMU_PSW_XF | EMU_PSW_S | EMU_PSW_IC | EMU_PSW_IS;
-    want_same();
-    W2.pp = 0x500;
-    W2.tp = (struct emu_pointer){0, false};
-    W2.mode = EMU_RUNNING;
-    W2.psw = EMU_PSW_TB | EMU_PSW_S | EMU_PSW_IC | EMU_PSW_IS;
-    W2.armed = false;
-    want_sys(0x49, "FF");
-    ATTEND(2);
-    /* PB's own address wraps: offset 10h, segment FFFFh */
-    reset();
-    N.mode = EMU_IDLE;
-    sys(0x40, "01 00 10 00 FF FF");
-    sys(0, "34 12");
-    want_same();
-    W.pp = 0;
-    W.tp = (struct emu_pointer){0x1234, true};
-    W.mode = EMU_RUNNING;
-    want_sys(0x41, "FF");
-    ATTEND(1);
-    /* TP's word is not sign-extended */
-    reset();
-    N.mode = EMU_SUSPENDED;
-    N.armed = true;
-    block(1, 0x01);
-    sys(0x500, "FF FF");
-    want_same();
-    W.pp = 0x500;
-    W.tp = (struct emu_pointer){0xFFFF, true};
-    W.mode = EMU_RUNNING;
-    W.armed = false;
-    want_sys(0x41, "FF");
-    ATTEND(1);
-    /* refused while running, even for the other start */
-    reset();
-    block(1, 0x03);
-    ATTEND_REFUSED(1, 8);
-    block(1, 0x01);
-    ATTEND_REFUSED(1, 8);
-    /* the mode alone says that it runs: TB plays no part */
-    N.psw = 0;
-    ATTEND_REFUSED(1, 8);
-    N.mode = EMU_IDLE;
-    N.psw = EMU_PSW_TB;
-    CHECK(emu_attention(&now.s, &now.m, 1).number == 0);
+    PLAY(
+         "reset fresh block=1,01 @500=CD.AB want pp=500 tp=ABCD/1 mode=running psw=TB @41=FF attend=1",
+         /* channel 2's block is at CP + 8; the doubleword pointer wraps */
+         "reset block=2,03 @500=10.00.FF.FF 2.tp=/1 2.armed=1 2.psw=XF,IS,IC,S want 2.pp=500 2.tp=0/0 "
+         "2.mode=running 2.psw=IS,IC,TB,S 2.armed=0 @49=FF attend=2",
+         /* PB's own address wraps: offset 10h, segment FFFFh */
+         "reset mode=idle @40=01.00.10.00.FF.FF @0=34.12 want pp=0 tp=1234/1 mode=running @41=FF attend=1",
+         /* TP's word is not sign-extended */
+         "reset mode=suspended armed=1 block=1,01 @500=FF.FF want pp=500 tp=FFFF/1 mode=running armed=0 @41=FF "
+         "attend=1",
+         /* refused while running, even for the other start */
+         "reset block=1,03 attend=1,8",
+         "block=1,01 attend=1,8",
+         /* the mode alone says that it runs: TB plays no part */
+         "psw=- attend=1,8",
+         "mode=idle psw=TB attended=1");
 }
 
 /* Start reads before BUSY is stored, also where PB is the block itself. */
 static void test_start_overlap(void)
 {
-    reset();
-    N.mode = EMU_IDLE;
-    sys(0x40, "03 12 40 00 00 00");
-    want_same();
-    W.pp = 0x40;
-    W.tp = (struct emu_pointer){0x1203 + 0x400, false};
-    W.mode = EMU_RUNNING;
-    want_sys(0x41, "FF");
-    ATTEND(1);
+    PLAY(
+         "reset mode=idle @40=03.12.40.00.00.00 want pp=40 tp=1603/0 mode=running @41=FF attend=1");
 }
 
 /* The control block wraps at the end of system space, byte by byte. */
@@ -741,80 +1014,28 @@ static void test_block_wraps(void)
     W.mode = EMU_RUNNING;
     want_sys(0xFFFFF, "FF");
     ATTEND(1);
-    /* channel 2's block at CP + 8 wraps as a whole */
-    reset();
-    now.s.cp = 0xFFFFA;
-    N2.mode = EMU_RUNNING;
-    sys(0x2, "07");
-    want_same();
-    W2.mode = EMU_IDLE;
-    want_sys(0x3, "00");
-    ATTEND(2);
-    /* PB wraps: suspend at FFFFEh */
-    reset();
-    block(1, 0x06);
-    N.pp = 0xFFFFE;
-    N.tp = (struct emu_pointer){0x9ABCD, true};
-    want_same();
-    want_sys(0xFFFFE, "CD AB 98 04");
-    want_sys(0x41, "00");
-    W.mode = EMU_SUSPENDED;
-    W.psw = 0;
-    ATTEND(1);
-    block(1, 0x05);
-    want_same();
-    want_sys(0x41, "FF");
-    W.mode = EMU_RUNNING;
-    W.psw = EMU_PSW_TB;
-    ATTEND(1);
+    PLAY(
+         /* channel 2's block at CP + 8 wraps as a whole */
+         "reset cp=FFFFA 2.mode=running @2=07 want 2.mode=idle @3=00 attend=2",
+         /* PB wraps: suspend at FFFFEh */
+         "reset block=1,06 pp=FFFFE tp=9ABCD/1 want @FFFFE=CD.AB.98.04 @41=00 mode=suspended psw=- attend=1",
+         "block=1,05 want @41=FF mode=running psw=TB attend=1");
 }
 
 /* Suspend and resume. */
 static void test_suspend_resume(void)
 {
-    /* the PSW is stored as it was, with TB and XF, before bits 5 and 7 and ICF */
-    reset();
-    block(1, 0xA0 | 0x18 | 0x06);
-    N.psw = EMU_PSW_TB | EMU_PSW_XF | EMU_PSW_IC | EMU_PSW_IS | EMU_PSW_D;
-    N.tp = (struct emu_pointer){0x12345, true};
-    N.armed = true;
-    want_same();
-    want_sys(0x400, "45 23 18 5D");
-    want_sys(0x41, "00");
-    W.mode = EMU_SUSPENDED;
-    W.psw = EMU_PSW_D | EMU_PSW_LOAD_LIMIT | EMU_PSW_PRIORITY;
-    ATTEND(1);
-    /* resume: all eight bits, then TB, then bits 5 and 7, then ICF; XF comes back, the mark stays */
-    block(1, 0x80 | 0x08 | 0x05);
-    want_same();
-    want_sys(0x41, "FF");
-    W.mode = EMU_RUNNING;
-    W.psw = 0x5D & ~EMU_PSW_IS;
-    W.psw |= EMU_PSW_PRIORITY;
-    ATTEND(1);
-    /* resume sets TB and ignores the zeros below the tag */
-    reset();
-    N.mode = EMU_SUSPENDED;
-    N.psw = 0xFF;
-    block(1, 0x05);
-    sys(0x400, "45 23 17 00");
-    want_same();
-    want_sys(0x41, "FF");
-    W.mode = EMU_RUNNING;
-    W.psw = EMU_PSW_TB;
-    W.tp = (struct emu_pointer){0x12345, false};
-    ATTEND(1);
-    /* a resume with priority in the stored byte follows the CCW */
-    reset();
-    N.mode = EMU_SUSPENDED;
-    block(1, 0x20 | 0x05);
-    sys(0x400, "00 00 0F 80");
-    want_same();
-    want_sys(0x41, "FF");
-    W.mode = EMU_RUNNING;
-    W.psw = EMU_PSW_TB | EMU_PSW_LOAD_LIMIT;
-    W.tp = (struct emu_pointer){0, true};
-    ATTEND(1);
+    PLAY(
+         /* the PSW is stored as it was, with TB and XF, before bits 5 and 7 and ICF */
+         "reset block=1,BE psw=XF,IS,IC,TB,D tp=12345/1 armed=1 want @400=45.23.18.5D @41=00 mode=suspended "
+         "psw=P,LL,D attend=1",
+         /* resume: all eight bits, then TB, then bits 5 and 7, then ICF; XF comes back, the mark stays */
+         "block=1,8D want @41=FF mode=running psw=XF,IC,TB,D psw+P attend=1",
+         /* resume sets TB and ignores the zeros below the tag */
+         "reset mode=suspended psw=P,XF,LL,IS,IC,TB,S,D block=1,05 @400=45.23.17.00 want @41=FF mode=running psw=TB "
+         "tp=12345/0 attend=1",
+         /* a resume with priority in the stored byte follows the CCW */
+         "reset mode=suspended block=1,25 @400=00.00.0F.80 want @41=FF mode=running psw=LL,TB tp=0/1 attend=1");
     /* BUSY within PB's four bytes ends as 0 */
     for (unsigned i = 0; i < 4; i++) {
         static const char *const after[4] = {"00 23 18 04", "45 00 18 04", "45 23 00 04", "45 23 18 00"};
@@ -828,30 +1049,12 @@ static void test_suspend_resume(void)
         W.psw = 0;
         ATTEND(1);
     }
-    /* resume reads before BUSY is stored */
-    reset();
-    N.mode = EMU_SUSPENDED;
-    block(1, 0x05);
-    N.pp = 0x41;
-    sys(0x41, "45 23 18 03");
-    want_same();
-    want_sys(0x41, "FF");
-    W.mode = EMU_RUNNING;
-    W.psw = EMU_PSW_TB | EMU_PSW_S | EMU_PSW_D;
-    W.tp = (struct emu_pointer){0x12345, true};
-    ATTEND(1);
-    /* PB is taken at PP, not at the block's pointer, and the channel is the one asked */
-    reset();
-    N2 = N;
-    N2.pp = 0x600;
-    N2.tp.address = 0x54321;
-    block(2, 0x06);
-    want_same();
-    want_sys(0x600, "21 43 50 04");
-    want_sys(0x49, "00");
-    W2.mode = EMU_SUSPENDED;
-    W2.psw = 0;
-    ATTEND(2);
+    PLAY(
+         /* resume reads before BUSY is stored */
+         "reset mode=suspended block=1,05 pp=41 @41=45.23.18.03 want @41=FF mode=running psw=TB,S,D tp=12345/1 "
+         "attend=1",
+         /* PB is taken at PP, not at the block's pointer, and the channel is the one asked */
+         "reset twins 2.pp=600 2.tp=54321 block=2,06 want @600=21.43.50.04 @49=00 2.mode=suspended 2.psw=- attend=2");
 }
 
 /* Commands in modes that do not take them. */
@@ -872,72 +1075,36 @@ static void test_command_refusals(void)
             else CHECK(emu_attention(&now.s, &now.m, 1).number == 0);
         }
     }
-    /* 6 comes before other bytes, and a CCW beyond memory before 6 */
-    reset();
-    block(1, 0x02);
-    now.m.sys_len = 0x41;
-    ATTEND_REFUSED(1, 6);
-    now.m.sys_len = 0x40;
-    ATTEND_REFUSED(1, 2);
-    /* 7, 8 and 9 come before other bytes */
-    now.m.sys_len = 0x41;
-    block(1, 0x05);
-    ATTEND_REFUSED(1, 7);
-    block(1, 0x03);
-    ATTEND_REFUSED(1, 8);
-    N.mode = EMU_IDLE;
-    block(1, 0x06);
-    ATTEND_REFUSED(1, 9);
-    /* CCW bit 6 says nothing */
-    reset();
-    block(1, 0x40);
-    want_same();
-    ATTEND(1);
+    PLAY(
+         /* 6 comes before other bytes, and a CCW beyond memory before 6 */
+         "reset block=1,02 sys_len=41 attend=1,6",
+         "sys_len=40 attend=1,2",
+         /* 7, 8 and 9 come before other bytes */
+         "sys_len=41 block=1,05 attend=1,7",
+         "block=1,03 attend=1,8",
+         "mode=idle block=1,06 attend=1,9",
+         /* CCW bit 6 says nothing */
+         "reset block=1,40 want attend=1");
 }
 
 /* Which bytes an attention needs, to the byte. */
 static void test_attention_bytes(void)
 {
-    /* 000 needs the CCW alone, and neither reads nor stores BUSY */
-    reset();
-    block(1, 0x00);
-    now.m.sys_len = 0x41;
-    want_same();
-    ATTEND(1);
-    /* halt needs BUSY */
-    block(1, 0x07);
-    ATTEND_REFUSED(1, 2);
-    now.m.sys_len = 0x42;
-    want_same();
-    W.mode = EMU_IDLE;
-    W.psw = 0;
-    want_sys(0x41, "00");
-    ATTEND(1);
-    /* start 001: the block's four pointer bytes, PB's first two, BUSY */
-    reset();
-    N.mode = EMU_IDLE;
-    sys(0x40, "01 00 10 00 00 00");
-    now.m.sys_len = 0x45;
-    ATTEND_REFUSED(1, 2);
-    now.m.sys_len = 0x46;
-    CHECK(emu_attention(&now.s, &now.m, 1).number == 0);
-    reset();
-    N.mode = EMU_IDLE;
-    block(1, 0x01);
-    now.m.sys_len = 0x501;
-    ATTEND_REFUSED(1, 2);
-    now.m.sys_len = 0x502;
-    CHECK(emu_attention(&now.s, &now.m, 1).number == 0);
-    /* start 011: PB's first four */
-    reset();
-    N.mode = EMU_IDLE;
-    block(1, 0x03);
-    now.m.sys_len = 0x502;
-    ATTEND_REFUSED(1, 2);
-    now.m.sys_len = 0x503;
-    ATTEND_REFUSED(1, 2);
-    now.m.sys_len = 0x504;
-    CHECK(emu_attention(&now.s, &now.m, 1).number == 0);
+    PLAY(
+         /* 000 needs the CCW alone, and neither reads nor stores BUSY */
+         "reset block=1,00 sys_len=41 want attend=1",
+         /* halt needs BUSY */
+         "block=1,07 attend=1,2",
+         "sys_len=42 want mode=idle psw=- @41=00 attend=1",
+         /* start 001: the block's four pointer bytes, PB's first two, BUSY */
+         "reset mode=idle @40=01.00.10.00.00.00 sys_len=45 attend=1,2",
+         "sys_len=46 attended=1",
+         "reset mode=idle block=1,01 sys_len=501 attend=1,2",
+         "sys_len=502 attended=1",
+         /* start 011: PB's first four */
+         "reset mode=idle block=1,03 sys_len=502 attend=1,2",
+         "sys_len=503 attend=1,2",
+         "sys_len=504 attended=1");
     /* suspend and resume: PB's four at PP and BUSY */
     for (unsigned i = 0; i < 2; i++) {
         reset();
@@ -956,15 +1123,9 @@ static void test_attention_bytes(void)
         now.m.sys_len = 0x42;
         CHECK(emu_attention(&now.s, &now.m, 1).number == 0);
     }
-    /* BUSY that wraps past a short memory's end */
-    reset();
-    now.s.cp = 0xFFFFF;
-    now.sys[0xFFFFF] = 0x07;
-    want_same();
-    W.mode = EMU_IDLE;
-    W.psw = 0;
-    want_sys(0, "00");
-    ATTEND(1);
+    PLAY(
+         /* BUSY that wraps past a short memory's end */
+         "reset cp=FFFFF @FFFFF=07 want mode=idle psw=- @0=00 attend=1");
 }
 
 /* ICF, load limit and priority on a command that does nothing more, and on halt. */
@@ -1006,144 +1167,66 @@ static void test_icf(void)
 /* First bytes, 3, 4, later bytes, the second pair, operands, BUSY. */
 static void test_order_of_tests(void)
 {
-    /* the first two bytes */
-    reset();
-    sys(0x100, "04 04");
-    now.m.sys_len = 0x100;
-    REFUSED(2);
-    now.m.sys_len = 0x101;
-    REFUSED(2);
-    now.m.sys_len = 0x102;
-    REFUSED(3);
-    /* 4 before later bytes */
-    sys(0x100, "C8 20");
-    REFUSED(4);
-    /* 3 before 4 */
-    sys(0x100, "C0 20");
-    REFUSED(3);
-    /* data bytes */
-    sys(0x100, "71 30 34 12");
-    REFUSED(2);
-    now.m.sys_len = 0x103;
-    REFUSED(2);
-    now.m.sys_len = 0x104;
-    CHECK(emu_step(&now.s, &now.m, 0).number == 0);
-    /* displacement bytes count where the jump is not taken */
-    reset();
-    N.bc = 1;
-    sys(0x100, "70 44 00 00");
-    now.m.sys_len = 0x103;
-    REFUSED(2);
-    now.m.sys_len = 0x104;
-    CHECK(emu_step(&now.s, &now.m, 0).number == 0 && N.tp.address == 0x104);
-    /* TSL's displacement counts where the lock is free */
-    reset();
-    N.ga = (struct emu_pointer){0, true};
-    io(0, "00");
-    sys(0x100, "18 94 FF 10");
-    now.m.sys_len = 0x103;
-    REFUSED(2);
+    PLAY(
+         /* the first two bytes */
+         "reset @100=04.04 sys_len=100 refused=2",
+         "sys_len=101 refused=2",
+         "sys_len=102 refused=3",
+         /* 4 before later bytes */
+         "@100=C8.20 refused=4",
+         /* 3 before 4 */
+         "@100=C0.20 refused=3",
+         /* data bytes */
+         "@100=71.30.34.12 refused=2",
+         "sys_len=103 refused=2",
+         "sys_len=104 step",
+         /* displacement bytes count where the jump is not taken */
+         "reset bc=1 @100=70.44.00.00 sys_len=103 refused=2",
+         "sys_len=104 step tp?104",
+         /* TSL's displacement counts where the lock is free */
+         "reset ga=0/1 #0=00 @100=18.94.FF.10 sys_len=103 refused=2");
     now.m.sys_len = 0x104;
     CHECK(emu_step(&now.s, &now.m, 0).number == 0 && now.io[0] == 0xFF);
-    /* offset byte */
-    reset();
-    N.ga.address = 0;
-    sys(0x100, "62 80 01");
-    now.m.sys_len = 0x102;
-    REFUSED(2);
-    now.m.sys_len = 0x103;
-    CHECK(emu_step(&now.s, &now.m, 0).number == 0);
-    /* LPDI's six bytes */
-    reset();
-    sys(0x100, "11 08 00 00 00 00");
-    now.m.sys_len = 0x105;
-    REFUSED(2);
-    now.m.sys_len = 0x106;
-    CHECK(emu_step(&now.s, &now.m, 0).number == 0);
-    /* operand bytes: the last one of each length */
-    reset();
-    sys(0x100, "61 80");
-    N.ga.address = 0x1FF;
-    now.m.sys_len = 0x200;
-    REFUSED(2);
-    sys(0x100, "60 80");
-    CHECK(emu_step(&now.s, &now.m, 0).number == 0);
-    reset();
-    sys(0x100, "21 88");
-    now.m.sys_len = 0x1003;
-    REFUSED(2);
-    sys(0x100, "21 8C");
-    CHECK(emu_step(&now.s, &now.m, 0).number == 0);
-    reset();
-    sys(0x100, "21 98");
-    now.m.sys_len = 0x1002;
-    REFUSED(2);
-    sys(0x100, "88 9C 00");
-    REFUSED(2);
-    now.m.sys_len = 0x1003;
-    CHECK(emu_step(&now.s, &now.m, 0).number == 0);
-    reset();
-    sys(0x100, "88 9C 00");
-    now.m.sys_len = 0x1003;
-    CHECK(emu_step(&now.s, &now.m, 0).number == 0);
-    /* a read beyond memory refuses a jump that could not be judged */
-    reset();
-    sys(0x100, "08 E4 10");
-    now.m.sys_len = 0x1000;
-    REFUSED(2);
-    /* HLT's BUSY */
-    reset();
-    sys(0x100, "20 48");
-    now.s.cp = 0x200;
-    now.m.sys_len = 0x201;
-    REFUSED(2);
-    now.m.sys_len = 0x202;
-    CHECK(emu_step(&now.s, &now.m, 0).number == 0);
-    /* an instruction whose bytes all are beyond memory while the other channel could run: refused all the same */
-    reset();
-    N2 = N;
-    N.psw |= EMU_PSW_PRIORITY;
-    N.tp.address = 0x300;
-    sys(0x100, "00 00");
-    now.m.sys_len = 0x200;
-    REFUSED(2);
+    PLAY(
+         /* offset byte */
+         "reset ga=0 @100=62.80.01 sys_len=102 refused=2",
+         "sys_len=103 step",
+         /* LPDI's six bytes */
+         "reset @100=11.08.00.00.00.00 sys_len=105 refused=2",
+         "sys_len=106 step",
+         /* operand bytes: the last one of each length */
+         "reset @100=61.80 ga=1FF sys_len=200 refused=2",
+         "@100=60.80 step",
+         "reset @100=21.88 sys_len=1003 refused=2",
+         "@100=21.8C step",
+         "reset @100=21.98 sys_len=1002 refused=2",
+         "@100=88.9C.00 refused=2",
+         "sys_len=1003 step",
+         "reset @100=88.9C.00 sys_len=1003 step",
+         /* a read beyond memory refuses a jump that could not be judged */
+         "reset @100=08.E4.10 sys_len=1000 refused=2",
+         /* HLT's BUSY */
+         "reset @100=20.48 cp=200 sys_len=201 refused=2",
+         "sys_len=202 step",
+         /* an instruction whose bytes all are beyond memory while the other channel could run: refused all the same */
+         "reset twins psw+P tp=300 @100=00.00 sys_len=200 refused=2");
 }
 
 /* MOV M,M: its second pair. */
 static void test_second_pair(void)
 {
-    /* a second pair of which one byte is not lent is 2 even if the other is wrong */
-    reset();
-    sys(0x100, "00 90 FF 00");
-    now.m.sys_len = 0x103;
-    REFUSED(2);
-    now.m.sys_len = 0x104;
-    REFUSED(3);
-    sys(0x100, "00 90 00 CC");
-    now.m.sys_len = 0x102;
-    REFUSED(2);
-    /* the first offset byte stands before the second pair */
-    reset();
-    sys(0x100, "02 90 05 00 CD");
-    sys(0x1005, "77");
-    want_same();
-    W.tp.address = 0x105;
-    want.s.last = 1;
-    want_sys(0x2000, "77");
-    DONE('I');
-    reset();
-    sys(0x100, "02 90 05 00 CD");
-    now.m.sys_len = 0x104;
-    REFUSED(2);
-    /* 3 from that pair before its offset byte and before operands */
-    reset();
-    sys(0x100, "00 90 22 CC");
-    now.m.sys_len = 0x104;
-    REFUSED(3);
-    sys(0x100, "00 90 02 CC 01");
-    REFUSED(2);
-    now.m.sys_len = 0x105;
-    REFUSED(2);
+    PLAY(
+         /* a second pair of which one byte is not lent is 2 even if the other is wrong */
+         "reset @100=00.90.FF.00 sys_len=103 refused=2",
+         "sys_len=104 refused=3",
+         "@100=00.90.00.CC sys_len=102 refused=2",
+         /* the first offset byte stands before the second pair */
+         "reset @100=02.90.05.00.CD @1005=77 want tp=105 last=1 @2000=77 I",
+         "reset @100=02.90.05.00.CD sys_len=104 refused=2",
+         /* 3 from that pair before its offset byte and before operands */
+         "reset @100=00.90.22.CC sys_len=104 refused=3",
+         "@100=00.90.02.CC.01 refused=2",
+         "sys_len=105 refused=2");
     /* the second pair's fixed digits and its W */
     static const char *const wrong[] = {"00 90 01 CC", "01 90 00 CC", "00 90 08 CC", "00 90 20 CC", "00 90 80 CC",
                                         "00 90 00 C8", "00 90 00 D0", "00 90 00 90", "00 90 10 CC", "00 90 40 CC"};
@@ -1152,54 +1235,19 @@ static void test_second_pair(void)
         sys(0x100, wrong[i]);
         REFUSED(3);
     }
-    /* words, with source and destination in different spaces and both offsets */
-    reset();
-    N.gb.tag = true;
-    sys(0x1004, "34 12");
-    code("03 90 04 03 CD 06");
-    want_io(0x2006, "34 12");
-    DONE('I');
-    /* the maker's listing: source first */
-    reset();
-    sys(0x408, "99");
-    N.gc = (struct emu_pointer){0xFF00, true};
-    code("02 93 08 02 CE 01");
-    want_io(0xFF01, "99");
-    DONE('I');
-    /* the second address uses the grown IX and may grow it again */
-    reset();
-    N.ix = 4;
-    sys(0x1004, "11 22");
-    code("07 90 07 CD");
-    W.ix = 8;
-    want_sys(0x2006, "11 22");
-    DONE('I');
-    reset();
-    N.ix = 4;
-    sys(0x1004, "33");
-    code("06 90 04 CD");
-    W.ix = 5;
-    want_sys(0x2005, "33");
-    DONE('I');
-    reset();
-    N.ix = 4;
-    sys(0x1004, "33");
-    code("04 90 06 CD");
-    W.ix = 5;
-    want_sys(0x2004, "33");
-    DONE('I');
-    /* overlap: the word is read whole before it is stored */
-    reset();
-    N.gb.address = 0x1001;
-    sys(0x1000, "11 22 33");
-    code("01 90 01 CD");
-    want_sys(0x1000, "11 11 22");
-    DONE('I');
-    /* destination beyond memory */
-    reset();
-    sys(0x100, "01 90 01 CD");
-    now.m.sys_len = 0x2001;
-    REFUSED(2);
+    PLAY(
+         /* words, with source and destination in different spaces and both offsets */
+         "reset gb=/1 @1004=34.12 code=03.90.04.03.CD.06 #2006=34.12 I",
+         /* the maker's listing: source first */
+         "reset @408=99 gc=FF00/1 code=02.93.08.02.CE.01 #FF01=99 I",
+         /* the second address uses the grown IX and may grow it again */
+         "reset ix=4 @1004=11.22 code=07.90.07.CD ix=8 @2006=11.22 I",
+         "reset ix=4 @1004=33 code=06.90.04.CD ix=5 @2005=33 I",
+         "reset ix=4 @1004=33 code=04.90.06.CD ix=5 @2004=33 I",
+         /* overlap: the word is read whole before it is stored */
+         "reset gb=1001 @1000=11.22.33 code=01.90.01.CD @1000=11.11.22 I",
+         /* destination beyond memory */
+         "reset @100=01.90.01.CD sys_len=2001 refused=2");
 }
 
 /* ---- Instructions: addresses ---- */
@@ -1207,257 +1255,86 @@ static void test_second_pair(void)
 /* Wrapping in both spaces, byte by byte. */
 static void test_wrapping(void)
 {
-    /* a word at FFFFh of I/O space has its high byte at 0 */
-    reset();
-    N.ga = (struct emu_pointer){0x3FFFF, true};
-    io(0xFFFF, "34");
-    io(0, "12");
-    code("61 80");
-    W.bc = 0x1234;
-    DONE('I');
-    reset();
-    N.ga = (struct emu_pointer){0x3FFFF, true};
-    N.bc = 0x1234;
-    code("61 84");
-    want_io(0xFFFF, "34 12");
-    DONE('I');
-    /* a word at FFFFFh of system space */
-    reset();
-    N.ga = (struct emu_pointer){0xFFFFF, false};
-    N.bc = 0xBEEF;
-    code("61 84");
-    want_sys(0xFFFFF, "EF BE");
-    DONE('I');
-    /* instruction bytes wrap; TP counts in 20 bits whatever its tag */
-    reset();
-    N.tp.address = 0xFFFFE;
-    code("71 30 34 12");
-    CHECK(W.tp.address == 0x00002);
-    W.bc = 0x1234;
-    DONE('I');
-    reset();
-    N.tp = (struct emu_pointer){0x5FFFE, true};
-    code("71 30 34 12");
-    CHECK(W.tp.address == 0x60002);
-    W.bc = 0x1234;
-    DONE('I');
-    reset();
-    N.tp = (struct emu_pointer){0xFFFFF, true};
-    code("00 00");
-    CHECK(W.tp.address == 0x00001);
-    DONE('I');
-    /* stored pointers wrap */
-    reset();
-    N.ga = (struct emu_pointer){0x0FFFE, true};
-    N.gb = (struct emu_pointer){0x6789A, false};
-    code("21 98");
-    want_io(0xFFFE, "9A 78 60");
-    DONE('I');
-    reset();
-    N.ga = (struct emu_pointer){0xFFFFD, false};
-    sys(0xFFFFD, "10 32 54 76");
-    code("41 88");
-    W.gc = (struct emu_pointer){0x76540 + 0x3210, false};
-    DONE('I');
-    /* base + offset and base + IX count in 20 bits */
-    reset();
-    N.ga.address = 0xFFFF8;
-    sys(0x7, "44");
-    code("62 80 0F");
-    W.bc = 0x44;
-    DONE('I');
-    reset();
-    N.ga.address = 0xFFFF8;
-    N.ix = 0xFFFF;
-    sys(0xFFF7, "45");
-    code("64 80");
-    W.bc = 0x45;
-    DONE('I');
-    /* a short I/O buffer: the 16-bit address counts */
-    reset();
-    N.ga = (struct emu_pointer){0x10000, true};
-    sys(0x100, "60 80");
-    now.m.io_len = 1;
-    CHECK(emu_step(&now.s, &now.m, 0).number == 0 && N.bc == 0x5A);
-    /* PP is always system */
-    reset();
-    N.pp = 0x12345;
-    sys(0x12345, "78 56");
-    code("61 83");
-    W.bc = 0x5678;
-    DONE('I');
-    /* the offset byte is unsigned */
-    reset();
-    sys(0x10FF, "01");
-    code("62 80 FF");
-    W.bc = 1;
-    DONE('I');
+    PLAY(
+         /* a word at FFFFh of I/O space has its high byte at 0 */
+         "reset ga=3FFFF/1 #FFFF=34 #0=12 code=61.80 bc=1234 I",
+         "reset ga=3FFFF/1 bc=1234 code=61.84 #FFFF=34.12 I",
+         /* a word at FFFFFh of system space */
+         "reset ga=FFFFF/0 bc=BEEF code=61.84 @FFFFF=EF.BE I",
+         /* instruction bytes wrap; TP counts in 20 bits whatever its tag */
+         "reset tp=FFFFE code=71.30.34.12 tp?2 bc=1234 I",
+         "reset tp=5FFFE/1 code=71.30.34.12 tp?60002 bc=1234 I",
+         "reset tp=FFFFF/1 code=00.00 tp?1 I",
+         /* stored pointers wrap */
+         "reset ga=FFFE/1 gb=6789A/0 code=21.98 #FFFE=9A.78.60 I",
+         "reset ga=FFFFD/0 @FFFFD=10.32.54.76 code=41.88 gc=79750/0 I",
+         /* base + offset and base + IX count in 20 bits */
+         "reset ga=FFFF8 @7=44 code=62.80.0F bc=44 I",
+         "reset ga=FFFF8 ix=FFFF @FFF7=45 code=64.80 bc=45 I",
+         /* a short I/O buffer: the 16-bit address counts */
+         "reset ga=10000/1 @100=60.80 io_len=1 step bc?5A",
+         /* PP is always system */
+         "reset pp=12345 @12345=78.56 code=61.83 bc=5678 I",
+         /* the offset byte is unsigned */
+         "reset @10FF=01 code=62.80.FF bc=1 I");
 }
 
 /* ---- Empty card slots ---- */
 
-/* Channel 1 at 100h of system space, GA at a place of I/O space of which so many bytes are lent. */
-static void slot(uint32_t at, size_t io_len)
-{
-    reset();
-    N.ga = (struct emu_pointer){at, true};
-    now.m.io_len = io_len;
-}
-
 /* Reads give FFh, byte for byte, at the 16-bit address. */
 static void test_slots_read(void)
 {
-    slot(0x2000, 0x1000);
-    code("60 80");
-    W.bc = 0xFFFF;
-    DONE('I');
-    slot(0x2000, 0);
-    code("61 80");
-    W.bc = 0xFFFF;
-    DONE('I');
-    /* a word over the edge: a lent low byte, FFh above it */
-    slot(0x0FFF, 0x1000);
-    io(0x0FFF, "21");
-    code("61 80");
-    W.bc = 0xFF21;
-    DONE('I');
-    /* a word at FFFFh: FFh below, the byte at 0 above it */
-    slot(0xFFFF, 1);
-    io(0, "43");
-    code("61 80");
-    W.bc = 0x43FF;
-    DONE('I');
-    /* the high four bits of the pointer are dropped before the length counts */
-    slot(0x30800, 0x1000);
-    io(0x800, "34 12");
-    code("61 80");
-    W.bc = 0x1234;
-    DONE('I');
-    /* pointers: LPD of four bytes FFh, MOVP with one lent byte */
-    slot(0x2000, 0x1000);
-    code("41 88");
-    W.gc = (struct emu_pointer){(0xFFFF0 + 0xFFFF) & 0xFFFFF, false};
-    DONE('I');
-    slot(0x0FFF, 0x1000);
-    io(0x0FFF, "12");
-    code("41 8C");
-    W.gc = (struct emu_pointer){0xFFF12, true};
-    DONE('I');
-    /* TSL finds FFh, which is not free, and jumps */
-    slot(0x2000, 0x1000);
-    code("18 94 77 10");
-    W.tp.address += 0x10;
-    DONE('I');
-    /* JZ on a byte, JMCE on FFh */
-    slot(0x2000, 0x1000);
-    code("08 E4 10");
-    DONE('I');
-    slot(0x2000, 0x1000);
-    N.mc = 0xFFFF;
-    code("08 B0 10");
-    W.tp.address += 0x10;
-    DONE('I');
+    PLAY(
+         "slot=2000,1000 code=60.80 bc=FFFF I",
+         "slot=2000,0 code=61.80 bc=FFFF I",
+         /* a word over the edge: a lent low byte, FFh above it */
+         "slot=FFF,1000 #FFF=21 code=61.80 bc=FF21 I",
+         /* a word at FFFFh: FFh below, the byte at 0 above it */
+         "slot=FFFF,1 #0=43 code=61.80 bc=43FF I",
+         /* the high four bits of the pointer are dropped before the length counts */
+         "slot=30800,1000 #800=34.12 code=61.80 bc=1234 I",
+         /* pointers: LPD of four bytes FFh, MOVP with one lent byte */
+         "slot=2000,1000 code=41.88 gc=FFEF/0 I",
+         "slot=FFF,1000 #FFF=12 code=41.8C gc=FFF12/1 I",
+         /* TSL finds FFh, which is not free, and jumps */
+         "slot=2000,1000 code=18.94.77.10 tp+10 I",
+         /* JZ on a byte, JMCE on FFh */
+         "slot=2000,1000 code=08.E4.10 I",
+         "slot=2000,1000 mc=FFFF code=08.B0.10 tp+10 I");
 }
 
 /* Stores vanish, byte for byte; what is read before them is FFh. */
 static void test_slots_store(void)
 {
-    slot(0x2000, 0x1000);
-    N.bc = 0x1234;
-    code("61 84");
-    DONE('I');
-    slot(0x0FFF, 0x1000);
-    N.bc = 0x1234;
-    code("61 84");
-    want_io(0x0FFF, "34");
-    DONE('I');
-    slot(0xFFFF, 1);
-    N.bc = 0x1234;
-    code("61 84");
-    want_io(0, "12");
-    DONE('I');
-    slot(0x0FFE, 0x1000);
-    N.gb = (struct emu_pointer){0x6789A, false};
-    code("21 98");
-    want_io(0x0FFE, "9A 78");
-    DONE('I');
-    /* CALL jumps though its way back is lost */
-    slot(0x2000, 0);
-    code("88 9C 10");
-    W.tp.address += 0x10;
-    DONE('I');
-    /* INC and SETB of a slot; MOV M,M from one and into one */
-    slot(0x2000, 0x1000);
-    code("01 E8");
-    DONE('I');
-    slot(0x2000, 0x1000);
-    code("60 F4");
-    DONE('I');
-    slot(0x2000, 0x1000);
-    code("01 90 01 CD");
-    want_sys(0x2000, "FF FF");
-    DONE('I');
-    slot(0x2000, 0x1000);
-    code("01 91 01 CC");
-    DONE('I');
+    PLAY(
+         "slot=2000,1000 bc=1234 code=61.84 I",
+         "slot=FFF,1000 bc=1234 code=61.84 #FFF=34 I",
+         "slot=FFFF,1 bc=1234 code=61.84 #0=12 I",
+         "slot=FFE,1000 gb=6789A/0 code=21.98 #FFE=9A.78 I",
+         /* CALL jumps though its way back is lost */
+         "slot=2000,0 code=88.9C.10 tp+10 I",
+         /* INC and SETB of a slot; MOV M,M from one and into one */
+         "slot=2000,1000 code=01.E8 I",
+         "slot=2000,1000 code=60.F4 I",
+         "slot=2000,1000 code=01.90.01.CD @2000=FF.FF I",
+         "slot=2000,1000 code=01.91.01.CC I");
 }
 
 /* Code: a first pair with a byte in an empty slot is 3, later bytes are FFh. */
 static void test_slots_code(void)
 {
-    slot(0, 0x1000);
-    N.tp = (struct emu_pointer){0x2000, true};
-    REFUSED(3);
-    slot(0, 0x1000);
-    N.tp = (struct emu_pointer){0x0FFF, true};
-    io(0x0FFF, "71");
-    REFUSED(3);
-    slot(0, 1);
-    N.tp = (struct emu_pointer){0xFFFF, true};
-    io(0, "30");
-    REFUSED(3);
-    slot(0, 0);
-    N.tp = (struct emu_pointer){0, true};
-    REFUSED(3);
-    /* MOVI BC with both bytes of data empty, then with one */
-    slot(0, 0x1000);
-    N.tp = (struct emu_pointer){0x0FFE, true};
-    io(0x0FFE, "71 30");
-    want_same();
-    W.bc = 0xFFFF;
-    W.tp.address = 0x1002;
-    want.s.last = 1;
-    DONE('I');
-    slot(0, 0x1000);
-    N.tp = (struct emu_pointer){0x0FFD, true};
-    io(0x0FFD, "71 30 34");
-    want_same();
-    W.bc = 0xFF34;
-    W.tp.address = 0x1001;
-    want.s.last = 1;
-    DONE('I');
-    /* a displacement of FFh, a second pair of FF FF, an offset byte of FFh */
-    slot(0, 0x1000);
-    N.tp = (struct emu_pointer){0x0FFE, true};
-    io(0x0FFE, "88 20");
-    want_same();
-    W.tp.address = 0x1000;
-    want.s.last = 1;
-    DONE('I');
-    slot(0, 0x1000);
-    N.tp = (struct emu_pointer){0x0FFE, true};
-    io(0x0FFE, "00 90");
-    REFUSED(3);
-    slot(0, 0x1000);
-    N.tp = (struct emu_pointer){0x0FFE, true};
-    N.gb = (struct emu_pointer){0x2000, false};
-    io(0x0FFE, "62 81");
-    sys(0x20FF, "44");
-    want_same();
-    W.bc = 0x44;
-    W.tp.address = 0x1001;
-    want.s.last = 1;
-    DONE('I');
+    PLAY(
+         "slot=0,1000 tp=2000/1 refused=3",
+         "slot=0,1000 tp=FFF/1 #FFF=71 refused=3",
+         "slot=0,1 tp=FFFF/1 #0=30 refused=3",
+         "slot=0,0 tp=0/1 refused=3",
+         /* MOVI BC with both bytes of data empty, then with one */
+         "slot=0,1000 tp=FFE/1 #FFE=71.30 want bc=FFFF tp=1002 last=1 I",
+         "slot=0,1000 tp=FFD/1 #FFD=71.30.34 want bc=FF34 tp=1001 last=1 I",
+         /* a displacement of FFh, a second pair of FF FF, an offset byte of FFh */
+         "slot=0,1000 tp=FFE/1 #FFE=88.20 want tp=1000 last=1 I",
+         "slot=0,1000 tp=FFE/1 #FFE=00.90 refused=3",
+         "slot=0,1000 tp=FFE/1 gb=2000/0 #FFE=62.81 @20FF=44 want bc=44 tp=1001 last=1 I");
 }
 
 /* ---- Instructions: moves and pointers ---- */
@@ -1465,236 +1342,68 @@ static void test_slots_code(void)
 /* MOV, MOVI, LPD, LPDI, MOVP. */
 static void test_moves(void)
 {
-    /* a byte into each kind of register is sign-extended; pointers get tag 1 */
-    reset();
-    sys(0x1000, "80");
-    code("20 80");
-    W.gb = (struct emu_pointer){0xFFF80, true};
-    DONE('I');
-    reset();
-    sys(0x1000, "7F");
-    code("20 80");
-    W.gb = (struct emu_pointer){0x0007F, true};
-    DONE('I');
-    reset();
-    sys(0x1000, "80");
-    code("60 80");
-    W.bc = 0xFF80;
-    DONE('I');
-    reset();
-    sys(0x1000, "00 80");
-    code("41 80");
-    W.gc = (struct emu_pointer){0xF8000, true};
-    DONE('I');
-    reset();
-    sys(0x1000, "FF 7F");
-    code("C1 80");
-    emu_set_cc(&W, 0x7FFF);
-    DONE('I');
-    reset();
-    sys(0x1000, "FF 7F");
-    code("E1 80");
-    W.mc = 0x7FFF;
-    DONE('I');
-    /* MOVI, byte and word, also to CC */
-    reset();
-    code("D1 30 20 88");
-    emu_set_cc(&W, 0x8820);
-    DONE('I');
-    reset();
-    code("C8 30 80");
-    emu_set_cc(&W, 0xFF80);
-    DONE('I');
-    reset();
-    code("E8 30 7F");
-    W.mc = 0x7F;
-    DONE('I');
-    /* writing TP jumps and sets the tag */
-    reset();
-    code("91 30 34 92");
-    W.tp = (struct emu_pointer){0xF9234, true};
-    DONE('I');
-    reset();
-    sys(0x1000, "34 12");
-    code("81 80");
-    W.tp = (struct emu_pointer){0x01234, true};
-    DONE('I');
-    /* TP as an operand is the address past the instruction */
-    reset();
-    code("83 84 02");
-    want_sys(0x1002, "03 01");
-    DONE('I');
-    /* MOV M,R stores the low bits only */
-    reset();
-    N.gb.address = 0xABCDE;
-    code("21 84");
-    want_sys(0x1000, "DE BC");
-    DONE('I');
-    reset();
-    N.gb.address = 0xABCDE;
-    code("20 84");
-    want_sys(0x1000, "DE");
-    DONE('I');
-    reset();
-    emu_set_cc(&N, 0x1234);
-    code("C1 84");
-    want_sys(0x1000, "34 12");
-    DONE('I');
-    /* MOVI M */
-    reset();
-    code("08 4D 99");
-    want_sys(0x2000, "99");
-    DONE('I');
-    reset();
-    code("13 4D 05 99 88");
-    want_sys(0x2005, "99 88");
-    DONE('I');
-    /* LPD and LPDI clear the tag */
-    reset();
-    N.gb.tag = true;
-    sys(0x1000, "05 00 34 12");
-    code("21 88");
-    W.gb = (struct emu_pointer){0x12345, false};
-    DONE('I');
-    reset();
-    N.tp.tag = true;
-    code("91 08 05 00 34 12");
-    W.tp = (struct emu_pointer){0x12345, false};
-    DONE('I');
-    /* MOVP loads the tag and ignores the low three bits */
-    reset();
-    sys(0x1000, "45 23 1F");
-    code("01 8C");
-    W.ga = (struct emu_pointer){0x12345, true};
-    DONE('I');
-    reset();
-    N.gb.tag = true;
-    sys(0x1000, "45 23 F7");
-    code("21 8C");
-    W.gb = (struct emu_pointer){0xF2345, false};
-    DONE('I');
-    /* MOVP TP returns */
-    reset();
-    sys(0x3000, "03 02 98");
-    code("81 8E");
-    W.tp = (struct emu_pointer){0x90203, true};
-    DONE('I');
-    /* MOVP M,TP saves the address past the instruction, with its tag */
-    reset();
-    N.tp = (struct emu_pointer){0x20100, true};
-    code("83 98 01");
-    want_sys(0x1001, "03 01 28");
-    DONE('I');
+    PLAY(
+         /* a byte into each kind of register is sign-extended; pointers get tag 1 */
+         "reset @1000=80 code=20.80 gb=FFF80/1 I",
+         "reset @1000=7F code=20.80 gb=7F/1 I",
+         "reset @1000=80 code=60.80 bc=FF80 I",
+         "reset @1000=00.80 code=41.80 gc=F8000/1 I",
+         "reset @1000=FF.7F code=C1.80 cc=7FFF I",
+         "reset @1000=FF.7F code=E1.80 mc=7FFF I",
+         /* MOVI, byte and word, also to CC */
+         "reset code=D1.30.20.88 cc=8820 I",
+         "reset code=C8.30.80 cc=FF80 I",
+         "reset code=E8.30.7F mc=7F I",
+         /* writing TP jumps and sets the tag */
+         "reset code=91.30.34.92 tp=F9234/1 I",
+         "reset @1000=34.12 code=81.80 tp=1234/1 I",
+         /* TP as an operand is the address past the instruction */
+         "reset code=83.84.02 @1002=03.01 I",
+         /* MOV M,R stores the low bits only */
+         "reset gb=ABCDE code=21.84 @1000=DE.BC I",
+         "reset gb=ABCDE code=20.84 @1000=DE I",
+         "reset cc=1234 code=C1.84 @1000=34.12 I",
+         /* MOVI M */
+         "reset code=08.4D.99 @2000=99 I",
+         "reset code=13.4D.05.99.88 @2005=99.88 I",
+         /* LPD and LPDI clear the tag */
+         "reset gb=/1 @1000=05.00.34.12 code=21.88 gb=12345/0 I",
+         "reset tp=/1 code=91.08.05.00.34.12 tp=12345/0 I",
+         /* MOVP loads the tag and ignores the low three bits */
+         "reset @1000=45.23.1F code=01.8C ga=12345/1 I",
+         "reset gb=/1 @1000=45.23.F7 code=21.8C gb=F2345/0 I",
+         /* MOVP TP returns */
+         "reset @3000=03.02.98 code=81.8E tp=90203/1 I",
+         /* MOVP M,TP saves the address past the instruction, with its tag */
+         "reset tp=20100/1 code=83.98.01 @1001=03.01.28 I");
 }
 
 /* IX and its growth. */
 static void test_index(void)
 {
-    /* AA 10 leaves IX; AA 11 grows it by 1 or 2 */
-    reset();
-    N.ix = 0x10;
-    sys(0x1010, "11 22");
-    code("65 80");
-    W.bc = 0x2211;
-    DONE('I');
-    reset();
-    N.ix = 0x10;
-    sys(0x1010, "11 22");
-    code("67 80");
-    W.bc = 0x2211;
-    W.ix = 0x12;
-    DONE('I');
-    reset();
-    N.ix = 0x10;
-    sys(0x1010, "11");
-    code("66 80");
-    W.bc = 0x11;
-    W.ix = 0x11;
-    DONE('I');
-    /* IX wraps in 16 bits */
-    reset();
-    N.ix = 0xFFFF;
-    sys(0x10FFF, "11 22");
-    code("67 80");
-    W.bc = 0x2211;
-    W.ix = 1;
-    DONE('I');
-    /* growth 3: MOVP both ways, CALL with either W; growth 4: LPD */
-    reset();
-    N.ix = 8;
-    code("27 98");
-    want_sys(0x1008, "00 20 00");
-    W.ix = 11;
-    DONE('I');
-    reset();
-    N.ix = 8;
-    sys(0x1008, "45 23 18");
-    code("27 8C");
-    W.gb = (struct emu_pointer){0x12345, true};
-    W.ix = 11;
-    DONE('I');
-    reset();
-    N.ix = 8;
-    code("8E 9C 10");
-    want_sys(0x1008, "03 01 00");
-    W.tp.address += 0x10;
-    W.ix = 11;
-    DONE('I');
-    reset();
-    N.ix = 8;
-    code("97 9C 00 FF");
-    want_sys(0x1008, "04 01 00");
-    W.tp.address = 0x004;
-    W.ix = 11;
-    DONE('I');
-    reset();
-    N.ix = 8;
-    sys(0x1008, "00 00 00 10");
-    code("27 88");
-    W.gb.address = 0x10000;
-    W.ix = 12;
-    DONE('I');
-    /* MOV IX,[GA+IX+] ends with what was loaded */
-    reset();
-    N.ix = 8;
-    sys(0x1008, "34 12");
-    code("A7 80");
-    W.ix = 0x1234;
-    DONE('I');
-    /* ADD IX,[GA+IX+] ends with the old IX plus the operand */
-    reset();
-    N.ix = 8;
-    sys(0x1008, "00 01");
-    code("A7 A0");
-    W.ix = 0x108;
-    DONE('I');
-    /* NOT IX,[GA+IX+]; AND and OR read the old IX */
-    reset();
-    N.ix = 8;
-    sys(0x1008, "0F");
-    code("A6 AC");
-    W.ix = 0xFFF0;
-    DONE('I');
-    reset();
-    N.ix = 8;
-    sys(0x1008, "01");
-    code("A6 A4");
-    W.ix = 9;
-    DONE('I');
-    /* MOV [GA+IX+],IX stores the old IX; ADD [GA+IX+],IX adds the old IX */
-    reset();
-    N.ix = 8;
-    code("A7 84");
-    want_sys(0x1008, "08 00");
-    W.ix = 10;
-    DONE('I');
-    reset();
-    N.ix = 8;
-    sys(0x1008, "10");
-    code("A6 D0");
-    want_sys(0x1008, "18");
-    W.ix = 9;
-    DONE('I');
+    PLAY(
+         /* AA 10 leaves IX; AA 11 grows it by 1 or 2 */
+         "reset ix=10 @1010=11.22 code=65.80 bc=2211 I",
+         "reset ix=10 @1010=11.22 code=67.80 bc=2211 ix=12 I",
+         "reset ix=10 @1010=11 code=66.80 bc=11 ix=11 I",
+         /* IX wraps in 16 bits */
+         "reset ix=FFFF @10FFF=11.22 code=67.80 bc=2211 ix=1 I",
+         /* growth 3: MOVP both ways, CALL with either W; growth 4: LPD */
+         "reset ix=8 code=27.98 @1008=00.20.00 ix=B I",
+         "reset ix=8 @1008=45.23.18 code=27.8C gb=12345/1 ix=B I",
+         "reset ix=8 code=8E.9C.10 @1008=03.01.00 tp+10 ix=B I",
+         "reset ix=8 code=97.9C.00.FF @1008=04.01.00 tp=4 ix=B I",
+         "reset ix=8 @1008=00.00.00.10 code=27.88 gb=10000 ix=C I",
+         /* MOV IX,[GA+IX+] ends with what was loaded */
+         "reset ix=8 @1008=34.12 code=A7.80 ix=1234 I",
+         /* ADD IX,[GA+IX+] ends with the old IX plus the operand */
+         "reset ix=8 @1008=00.01 code=A7.A0 ix=108 I",
+         /* NOT IX,[GA+IX+]; AND and OR read the old IX */
+         "reset ix=8 @1008=0F code=A6.AC ix=FFF0 I",
+         "reset ix=8 @1008=01 code=A6.A4 ix=9 I",
+         /* MOV [GA+IX+],IX stores the old IX; ADD [GA+IX+],IX adds the old IX */
+         "reset ix=8 code=A7.84 @1008=08.00 ix=A I",
+         "reset ix=8 @1008=10 code=A6.D0 @1008=18 ix=9 I");
     /* instructions without W on a byte grow IX by 1 */
     static const char *const bytes[] = {"0E BC 00", "0E B8 00", "0E B0 00", "0E B4 00", "1E 94 00 00"};
     for (unsigned i = 0; i < sizeof bytes / sizeof bytes[0]; i++) {
@@ -1704,48 +1413,16 @@ static void test_index(void)
         W.ix = 9;
         DONE('I');
     }
-    reset();
-    N.ix = 8;
-    code("06 F4");
-    W.ix = 9;
-    DONE('I');
-    reset();
-    N.ix = 8;
-    code("06 F8");
-    want_sys(0x1008, "A4");
-    W.ix = 9;
-    DONE('I');
-    /* by W in JZ, INC, MOVI and ADDI on memory */
-    reset();
-    N.ix = 8;
-    code("0F E4 10");
-    W.ix = 10;
-    DONE('I');
-    reset();
-    N.ix = 8;
-    code("07 E8");
-    want_sys(0x1008, "A6 A5");
-    W.ix = 10;
-    DONE('I');
-    reset();
-    N.ix = 8;
-    code("17 4C 34 12");
-    want_sys(0x1008, "34 12");
-    W.ix = 10;
-    DONE('I');
-    reset();
-    N.ix = 8;
-    code("0E C0 01");
-    want_sys(0x1008, "A6");
-    W.ix = 9;
-    DONE('I');
-    /* a jump that is not taken grows IX too */
-    reset();
-    N.ix = 8;
-    sys(0x1008, "01");
-    code("0E E4 10");
-    W.ix = 9;
-    DONE('I');
+    PLAY(
+         "reset ix=8 code=06.F4 ix=9 I",
+         "reset ix=8 code=06.F8 @1008=A4 ix=9 I",
+         /* by W in JZ, INC, MOVI and ADDI on memory */
+         "reset ix=8 code=0F.E4.10 ix=A I",
+         "reset ix=8 code=07.E8 @1008=A6.A5 ix=A I",
+         "reset ix=8 code=17.4C.34.12 @1008=34.12 ix=A I",
+         "reset ix=8 code=0E.C0.01 @1008=A6 ix=9 I",
+         /* a jump that is not taken grows IX too */
+         "reset ix=8 @1008=01 code=0E.E4.10 ix=9 I");
 }
 
 /* ---- Instructions: arithmetic and logic ---- */
@@ -1753,244 +1430,65 @@ static void test_index(void)
 /* On registers. */
 static void test_register_arithmetic(void)
 {
-    /* ADD keeps the tag, carries into 20 bits */
-    reset();
-    N.ga = (struct emu_pointer){0x0FFFF, true};
-    code("08 20 01");
-    W.ga.address = 0x10000;
-    DONE('I');
-    reset();
-    N.ga = (struct emu_pointer){0x00000, false};
-    code("11 20 00 80");
-    W.ga.address = 0xF8000;
-    DONE('I');
-    reset();
-    N.ga = (struct emu_pointer){0xFFFFF, true};
-    code("08 20 01");
-    W.ga.address = 0;
-    DONE('I');
-    /* a 16-bit register keeps the low 16 bits */
-    reset();
-    N.bc = 0xFFFF;
-    code("68 20 02");
-    W.bc = 1;
-    DONE('I');
-    reset();
-    N.bc = 0x0010;
-    code("68 20 80");
-    W.bc = 0xFF90;
-    DONE('I');
-    /* logic on all 20 bits with the operand sign-extended; the tag stays */
-    reset();
-    N.ga = (struct emu_pointer){0xABCDE, true};
-    code("08 28 F0");
-    W.ga.address = 0xABCD0;
-    DONE('I');
-    reset();
-    N.ga = (struct emu_pointer){0xABCDE, true};
-    code("08 28 0F");
-    W.ga.address = 0x0000E;
-    DONE('I');
-    reset();
-    N.ga = (struct emu_pointer){0x01234, false};
-    code("08 24 84");
-    W.ga.address = 0xFFFB4;
-    DONE('I');
-    reset();
-    N.gc.address = 0x1234;
-    code("51 24 84 00");
-    W.gc.address = 0x12B4;
-    DONE('I');
-    reset();
-    N.ga = (struct emu_pointer){0x12345, true};
-    code("00 2C");
-    W.ga.address = 0xEDCBA;
-    DONE('I');
-    reset();
-    N.bc = 0x1234;
-    code("60 2C");
-    W.bc = 0xEDCB;
-    DONE('I');
-    /* INC and DEC, wrapping */
-    reset();
-    N.gb = (struct emu_pointer){0xFFFFF, true};
-    code("20 38");
-    W.gb.address = 0;
-    DONE('I');
-    reset();
-    N.gb.address = 0;
-    code("20 3C");
-    W.gb.address = 0xFFFFF;
-    DONE('I');
-    reset();
-    N.mc = 0xFFFF;
-    code("E0 38");
-    W.mc = 0;
-    DONE('I');
-    reset();
-    N.ix = 0;
-    code("A0 3C");
-    W.ix = 0xFFFF;
-    DONE('I');
-    /* from memory, into each kind of register */
-    reset();
-    N.gb = (struct emu_pointer){0x10000, true};
-    sys(0x1000, "FF FF");
-    code("21 A0");
-    W.gb.address = 0x0FFFF;
-    DONE('I');
-    reset();
-    N.gb = (struct emu_pointer){0x10000, false};
-    sys(0x1000, "FF");
-    code("20 A4");
-    W.gb.address = 0xFFFFF;
-    DONE('I');
-    reset();
-    N.gb = (struct emu_pointer){0xABCDE, true};
-    sys(0x1000, "FF 7F");
-    code("21 A8");
-    W.gb.address = 0x03CDE;
-    DONE('I');
-    /* NOT R,M: of the sign-extended operand, and the tag stays */
-    reset();
-    N.gb = (struct emu_pointer){0x12345, false};
-    sys(0x1000, "0F");
-    code("20 AC");
-    W.gb.address = 0xFFFF0;
-    DONE('I');
-    reset();
-    N.gb = (struct emu_pointer){0x12345, true};
-    sys(0x1000, "00 80");
-    code("21 AC");
-    W.gb.address = 0x07FFF;
-    DONE('I');
-    reset();
-    N.gb.tag = true;
-    sys(0x1000, "80");
-    code("20 AC");
-    W.gb.address = 0x0007F;
-    DONE('I');
-    /* TP: INC skips a byte, AND keeps its tag */
-    reset();
-    code("80 38");
-    W.tp.address = 0x103;
-    DONE('I');
-    reset();
-    N.tp = (struct emu_pointer){0x20100, true};
-    code("88 28 F0");
-    W.tp = (struct emu_pointer){0x20100, true};
-    DONE('I');
-    reset();
-    sys(0x1000, "10");
-    code("80 A0");
-    W.tp.address = 0x112;
-    DONE('I');
-    reset();
-    code("80 2C");
-    W.tp.address = 0xFFEFD;
-    DONE('I');
+    PLAY(
+         /* ADD keeps the tag, carries into 20 bits */
+         "reset ga=FFFF/1 code=08.20.01 ga=10000 I",
+         "reset ga=0/0 code=11.20.00.80 ga=F8000 I",
+         "reset ga=FFFFF/1 code=08.20.01 ga=0 I",
+         /* a 16-bit register keeps the low 16 bits */
+         "reset bc=FFFF code=68.20.02 bc=1 I",
+         "reset bc=10 code=68.20.80 bc=FF90 I",
+         /* logic on all 20 bits with the operand sign-extended; the tag stays */
+         "reset ga=ABCDE/1 code=08.28.F0 ga=ABCD0 I",
+         "reset ga=ABCDE/1 code=08.28.0F ga=E I",
+         "reset ga=1234/0 code=08.24.84 ga=FFFB4 I",
+         "reset gc=1234 code=51.24.84.00 gc=12B4 I",
+         "reset ga=12345/1 code=00.2C ga=EDCBA I",
+         "reset bc=1234 code=60.2C bc=EDCB I",
+         /* INC and DEC, wrapping */
+         "reset gb=FFFFF/1 code=20.38 gb=0 I",
+         "reset gb=0 code=20.3C gb=FFFFF I",
+         "reset mc=FFFF code=E0.38 mc=0 I",
+         "reset ix=0 code=A0.3C ix=FFFF I",
+         /* from memory, into each kind of register */
+         "reset gb=10000/1 @1000=FF.FF code=21.A0 gb=FFFF I",
+         "reset gb=10000/0 @1000=FF code=20.A4 gb=FFFFF I",
+         "reset gb=ABCDE/1 @1000=FF.7F code=21.A8 gb=3CDE I",
+         /* NOT R,M: of the sign-extended operand, and the tag stays */
+         "reset gb=12345/0 @1000=0F code=20.AC gb=FFFF0 I",
+         "reset gb=12345/1 @1000=00.80 code=21.AC gb=7FFF I",
+         "reset gb=/1 @1000=80 code=20.AC gb=7F I",
+         /* TP: INC skips a byte, AND keeps its tag */
+         "reset code=80.38 tp=103 I",
+         "reset tp=20100/1 code=88.28.F0 tp=20100/1 I",
+         "reset @1000=10 code=80.A0 tp=112 I",
+         "reset code=80.2C tp=FFEFD I");
 }
 
 /* On memory. */
 static void test_memory_arithmetic(void)
 {
-    reset();
-    sys(0x1000, "FF 00");
-    code("00 E8");
-    want_sys(0x1000, "00 00");
-    DONE('I');
-    reset();
-    sys(0x1000, "FF 00");
-    code("01 E8");
-    want_sys(0x1000, "00 01");
-    DONE('I');
-    reset();
-    sys(0x1000, "00 00");
-    code("01 EC");
-    want_sys(0x1000, "FF FF");
-    DONE('I');
-    reset();
-    sys(0x1000, "00 00");
-    code("00 EC");
-    want_sys(0x1000, "FF 00");
-    DONE('I');
-    reset();
-    sys(0x1000, "0F F0");
-    code("01 DC");
-    want_sys(0x1000, "F0 0F");
-    DONE('I');
-    reset();
-    sys(0x1000, "0F F0");
-    code("00 DC");
-    want_sys(0x1000, "F0 F0");
-    DONE('I');
-    reset();
-    sys(0x1000, "01 01");
-    code("11 C0 FF 00");
-    want_sys(0x1000, "00 02");
-    DONE('I');
-    reset();
-    sys(0x1000, "01 01");
-    code("08 C0 FF");
-    want_sys(0x1000, "00 01");
-    DONE('I');
-    reset();
-    sys(0x1000, "FF FF");
-    code("11 C8 F0 0F");
-    want_sys(0x1000, "F0 0F");
-    DONE('I');
-    reset();
-    sys(0x1000, "01 01");
-    code("08 C4 80");
-    want_sys(0x1000, "81 01");
-    DONE('I');
-    reset();
-    sys(0x1000, "FF 00");
-    N.bc = 0x0101;
-    code("61 D0");
-    want_sys(0x1000, "00 02");
-    DONE('I');
-    reset();
-    sys(0x1000, "F0 0F");
-    N.bc = 0x3C3C;
-    code("61 D8");
-    want_sys(0x1000, "30 0C");
-    DONE('I');
-    reset();
-    sys(0x1000, "F0 0F");
-    N.gb.address = 0xF0C03;
-    code("21 D4");
-    want_sys(0x1000, "F3 0F");
-    DONE('I');
-    reset();
-    sys(0x1000, "F0 0F");
-    N.bc = 0x3C3C;
-    code("60 D8");
-    want_sys(0x1000, "30 0F");
-    DONE('I');
-    reset();
-    sys(0x1000, "F1 0F");
-    code("11 C4 0F 30");
-    want_sys(0x1000, "FF 3F");
-    DONE('I');
-    reset();
-    sys(0x1000, "F0 0F");
-    N.gb.address = 0xF3003;
-    code("21 D4");
-    want_sys(0x1000, "F3 3F");
-    DONE('I');
-    /* in I/O space only the I/O byte changes */
-    reset();
-    N.ga.tag = true;
-    code("00 E8");
-    want_io(0x1000, "5B");
-    DONE('I');
-    /* TP as the register is the address past the instruction */
-    reset();
-    sys(0x1000, "01 00");
-    code("81 D0");
-    want_sys(0x1000, "03 01");
-    DONE('I');
+    PLAY(
+         "reset @1000=FF.00 code=00.E8 @1000=00.00 I",
+         "reset @1000=FF.00 code=01.E8 @1000=00.01 I",
+         "reset @1000=00.00 code=01.EC @1000=FF.FF I",
+         "reset @1000=00.00 code=00.EC @1000=FF.00 I",
+         "reset @1000=0F.F0 code=01.DC @1000=F0.0F I",
+         "reset @1000=0F.F0 code=00.DC @1000=F0.F0 I",
+         "reset @1000=01.01 code=11.C0.FF.00 @1000=00.02 I",
+         "reset @1000=01.01 code=08.C0.FF @1000=00.01 I",
+         "reset @1000=FF.FF code=11.C8.F0.0F @1000=F0.0F I",
+         "reset @1000=01.01 code=08.C4.80 @1000=81.01 I",
+         "reset @1000=FF.00 bc=101 code=61.D0 @1000=00.02 I",
+         "reset @1000=F0.0F bc=3C3C code=61.D8 @1000=30.0C I",
+         "reset @1000=F0.0F gb=F0C03 code=21.D4 @1000=F3.0F I",
+         "reset @1000=F0.0F bc=3C3C code=60.D8 @1000=30.0F I",
+         "reset @1000=F1.0F code=11.C4.0F.30 @1000=FF.3F I",
+         "reset @1000=F0.0F gb=F3003 code=21.D4 @1000=F3.3F I",
+         /* in I/O space only the I/O byte changes */
+         "reset ga=/1 code=00.E8 #1000=5B I",
+         /* TP as the register is the address past the instruction */
+         "reset @1000=01.00 code=81.D0 @1000=03.01 I");
     /* every bit of SETB and CLR, BBB 6 among them */
     for (unsigned bit = 0; bit < 8; bit++) {
         char hex[16];
@@ -2141,61 +1639,22 @@ static void test_jumps(void)
     jump_case("5F", "08 B4 10", true, 0x10);
     jump_case("40", "10 B0 00 01", true, 0x100);
     jump_case("C1", "08 B0 10", false, 0);
-    /* TP that tests to 0 */
-    reset();
-    N.tp.address = 0x0FFFD;
-    code("88 44 10");
-    W.tp.address = 0x10010;
-    DONE('I');
-    /* JMP both ways, and around the end of 20 bits; the tag stays */
-    reset();
-    N.tp = (struct emu_pointer){0xFFFF0, true};
-    code("88 20 7F");
-    W.tp.address = 0x00072;
-    DONE('I');
-    reset();
-    code("91 20 00 80");
-    W.tp.address = 0xF8104;
-    DONE('I');
-    /* CALL stores TP in stored form, then jumps */
-    reset();
-    N.tp = (struct emu_pointer){0x20100, true};
-    code("8A 9D 04 F0");
-    want_sys(0x2004, "04 01 28");
-    W.tp.address = 0x200F4;
-    DONE('I');
-    reset();
-    code("90 9F 00 10");
-    want_sys(0x400, "04 01 00");
-    W.tp.address = 0x1104;
-    DONE('I');
-    /* a displacement of one byte with W 1, and of two with W 0 */
-    reset();
-    code("89 9C 10");
-    want_sys(0x1000, "03 01 00");
-    W.tp.address = 0x113;
-    DONE('I');
-    /* TSL: 0 is replaced, otherwise jump */
-    reset();
-    sys(0x1000, "00");
-    code("18 94 FF FC");
-    want_sys(0x1000, "FF");
-    DONE('I');
-    reset();
-    sys(0x1000, "01");
-    code("18 94 FF FC");
-    W.tp.address = 0x100;
-    DONE('I');
-    reset();
-    sys(0x1005, "00");
-    code("1A 94 05 77 FB");
-    want_sys(0x1005, "77");
-    DONE('I');
-    reset();
-    sys(0x1005, "80");
-    code("1A 94 05 00 FB");
-    W.tp.address = 0x100;
-    DONE('I');
+    PLAY(
+         /* TP that tests to 0 */
+         "reset tp=FFFD code=88.44.10 tp=10010 I",
+         /* JMP both ways, and around the end of 20 bits; the tag stays */
+         "reset tp=FFFF0/1 code=88.20.7F tp=72 I",
+         "reset code=91.20.00.80 tp=F8104 I",
+         /* CALL stores TP in stored form, then jumps */
+         "reset tp=20100/1 code=8A.9D.04.F0 @2004=04.01.28 tp=200F4 I",
+         "reset code=90.9F.00.10 @400=04.01.00 tp=1104 I",
+         /* a displacement of one byte with W 1, and of two with W 0 */
+         "reset code=89.9C.10 @1000=03.01.00 tp=113 I",
+         /* TSL: 0 is replaced, otherwise jump */
+         "reset @1000=00 code=18.94.FF.FC @1000=FF I",
+         "reset @1000=01 code=18.94.FF.FC tp=100 I",
+         "reset @1005=00 code=1A.94.05.77.FB @1005=77 I",
+         "reset @1005=80 code=1A.94.05.00.FB tp=100 I");
 }
 
 /* ---- Instructions: control ---- */
@@ -2203,21 +1662,11 @@ static void test_jumps(void)
 /* NOP, SINTR, WID, HLT. */
 static void test_control(void)
 {
-    reset();
-    code("00 00");
-    DONE('I');
-    reset();
-    code("40 00");
-    DONE('I');
-    reset();
-    N.psw |= EMU_PSW_IC;
-    code("40 00");
-    W.psw |= EMU_PSW_IS;
-    DONE('I');
-    reset();
-    N.psw |= EMU_PSW_IS;
-    code("40 00");
-    DONE('I');
+    PLAY(
+         "reset code=00.00 I",
+         "reset code=40.00 I",
+         "reset psw+IC code=40.00 psw+IS I",
+         "reset psw+IS code=40.00 I");
     for (unsigned sd = 0; sd < 4; sd++) {
         char hex[16];
         reset();
@@ -2227,69 +1676,28 @@ static void test_control(void)
         W.psw = (uint8_t)(EMU_PSW_TB | sd);
         DONE('I');
     }
-    /* HLT: TP past it, BUSY of its own block */
-    reset();
-    N.psw = 0xBF;
-    code("20 48");
-    W.mode = EMU_IDLE;
-    W.psw = 0xBF & ~EMU_PSW_TB;
-    want_sys(0x41, "00");
-    DONE('I');
-    reset();
-    N2 = N;
-    N.mode = EMU_IDLE;
-    sys(0x100, "20 48");
-    want_same();
-    W2.mode = EMU_IDLE;
-    W2.psw = 0;
-    W2.tp.address = 0x102;
-    want.s.last = 2;
-    want_sys(0x49, "00");
-    DONE_ON('I', 2, 0);
-    REFUSED(1);
+    PLAY(
+         /* HLT: TP past it, BUSY of its own block */
+         "reset psw=P,LL,IS,IC,TB,S,D code=20.48 mode=idle psw=P,LL,IS,IC,S,D @41=00 I",
+         "reset twins mode=idle @100=20.48 want 2.mode=idle 2.psw=- 2.tp=102 last=2 @49=00 I,2,0",
+         "refused=1");
 }
 
 /* XFER and the armed mark. */
 static void test_xfer(void)
 {
-    reset();
-    code("60 00");
-    W.armed = true;
-    DONE('I');
-    /* the next instruction sets XF and takes the mark */
-    code("E0 00");
-    W.psw = EMU_PSW_TB | EMU_PSW_XF | 3;
-    W.armed = false;
-    DONE('I');
-    /* a second XFER while armed is the next instruction */
-    reset();
-    N.armed = true;
-    code("60 00");
-    W.psw |= EMU_PSW_XF;
-    W.armed = false;
-    DONE('I');
-    /* HLT: no transfer */
-    reset();
-    N.armed = true;
-    code("20 48");
-    W.armed = false;
-    W.mode = EMU_IDLE;
-    W.psw = 0;
-    want_sys(0x41, "00");
-    DONE('I');
-    /* a refused instruction leaves the mark */
-    reset();
-    N.armed = true;
-    sys(0x100, "04 04");
-    REFUSED(3);
-    /* a jump may follow */
-    reset();
-    N.armed = true;
-    code("88 20 10");
-    W.tp.address += 0x10;
-    W.psw |= EMU_PSW_XF;
-    W.armed = false;
-    DONE('I');
+    PLAY(
+         "reset code=60.00 armed=1 I",
+         /* the next instruction sets XF and takes the mark */
+         "code=E0.00 psw=XF,TB,S,D armed=0 I",
+         /* a second XFER while armed is the next instruction */
+         "reset armed=1 code=60.00 psw+XF armed=0 I",
+         /* HLT: no transfer */
+         "reset armed=1 code=20.48 armed=0 mode=idle psw=- @41=00 I",
+         /* a refused instruction leaves the mark */
+         "reset armed=1 @100=04.04 refused=3",
+         /* a jump may follow */
+         "reset armed=1 code=88.20.10 tp+10 psw+XF armed=0 I");
     /* the mark outlives suspend and resume */
     reset();
     N.armed = true;
@@ -2297,59 +1705,14 @@ static void test_xfer(void)
     CHECK(emu_attention(&now.s, &now.m, 1).number == 0 && N.armed);
     block(1, 0x05);
     CHECK(emu_attention(&now.s, &now.m, 1).number == 0 && N.armed);
-    /* a transfer step and an external end leave the mark alone */
-    reset();
-    N.armed = true;
-    N.psw |= EMU_PSW_XF;
-    emu_set_cc(&N, 0x0020);
-    want_same();
-    want.s.last = 1;
-    W.bc = 0xFFFF;
-    want_sys(0x2000, "A5");
-    DONE('T');
-    want_same();
-    W.psw = EMU_PSW_TB;
-    DONE_ON('X', 1, 4);
-    code("00 00");
-    W.psw |= EMU_PSW_XF;
-    W.armed = false;
-    DONE('I');
+    PLAY(
+         /* a transfer step and an external end leave the mark alone */
+         "reset armed=1 psw+XF cc=20 want last=1 bc=FFFF @2000=A5 T",
+         "want psw=TB X,1,4",
+         "code=00.00 psw+XF armed=0 I");
 }
 
 /* ---- Transfers ---- */
-
-/* Sets channel 1 to a transfer from GA at 1000h to GB at 2000h; the case then says what differs. */
-static void transfer(unsigned widths, unsigned cc, unsigned bc)
-{
-    reset();
-    N.psw = (uint8_t)(EMU_PSW_TB | EMU_PSW_XF | widths);
-    emu_set_cc(&N, (uint16_t)cc);
-    N.bc = (uint16_t)bc;
-    sys(0x1000, "11 22 33 44");
-}
-
-/* Wants a step that moved this many bytes on moving sides and ended by this offset (or went on, if negative). */
-static void want_moved(unsigned bytes, int end)
-{
-    want_same();
-    want.s.last = 1;
-    bool gb = (N.cc & 0x0400) != 0;
-    struct emu_pointer *source = gb ? &W.gb : &W.ga, *destination = gb ? &W.ga : &W.gb;
-    if ((N.cc & 0x4000) != 0) source->address = (source->address + bytes) & 0xFFFFF;
-    if ((N.cc & 0x8000) != 0) destination->address = (destination->address + bytes) & 0xFFFFF;
-    W.bc = (uint16_t)(N.bc - bytes);
-    if (end < 0) return;
-    W.psw &= (uint8_t)~EMU_PSW_XF;
-    W.tp.address = (W.tp.address + (unsigned)end) & 0xFFFFF;
-}
-
-/* Wants a step whose first of two single stores ended it by this offset: one byte stored, two counted. */
-static void want_cut(int end)
-{
-    want_moved(1, end);
-    W.bc = (uint16_t)(N.bc - 2);
-    want_sys(0x2000, "11");
-}
 
 /* Shapes: which bytes move where. */
 static void test_transfer_shapes(void)
@@ -2368,142 +1731,51 @@ static void test_transfer_shapes(void)
         want_sys(0x2000, "11 22");
         DONE('T');
     }
-    /* B/B-W: a byte side that moves on takes a and a + 1, one that does not takes a twice */
-    transfer(EMU_PSW_D, 0xC000, 9);
-    want_moved(2, -1);
-    want_sys(0x2000, "11 22");
-    DONE('T');
-    transfer(EMU_PSW_D, 0x8000, 9);
-    want_moved(2, -1);
-    want_sys(0x2000, "11 11");
-    DONE('T');
-    /* a word side that does not move on takes a and a + 1 each time */
-    transfer(EMU_PSW_D, 0x4000, 9);
-    want_moved(2, -1);
-    want_sys(0x2000, "11 22");
-    DONE('T');
-    want_moved(2, -1);
-    want_sys(0x2000, "33 44");
-    DONE('T');
-    transfer(EMU_PSW_S, 0x8000, 9);
-    want_moved(2, -1);
-    want_sys(0x2000, "11 22");
-    DONE('T');
-    want_moved(2, -1);
-    want_sys(0x2002, "11 22");
-    DONE('T');
-    /* W-B/B to a byte side that does not move: the second byte stays */
-    transfer(EMU_PSW_S, 0x4000, 9);
-    want_moved(2, -1);
-    want_sys(0x2000, "22");
-    DONE('T');
-    /* odd addresses: 16 bits wide but no word side */
-    transfer(3, 0xC000, 9);
-    N.ga.address = 0x1001;
-    N.gb.address = 0x2001;
-    want_moved(1, -1);
-    want_sys(0x2001, "22");
-    DONE('T');
-    transfer(3, 0xC000, 9);
-    N.ga.address = 0x1001;
-    want_moved(2, -1);
-    want_sys(0x2000, "22 33");
-    DONE('T');
-    transfer(3, 0xC000, 9);
-    N.gb.address = 0x2001;
-    want_moved(2, -1);
-    want_sys(0x2001, "11 22");
-    DONE('T');
-    /* source 16 at an odd address that does not move, destination a word side: a twice */
-    transfer(3, 0x8000, 9);
-    N.ga.address = 0x1001;
-    want_moved(2, -1);
-    want_sys(0x2000, "22 22");
-    DONE('T');
-    /* destination 16 at an odd address that does not move */
-    transfer(3, 0x4000, 9);
-    N.gb.address = 0x2001;
-    want_moved(2, -1);
-    want_sys(0x2001, "22");
-    DONE('T');
-    /* source is GB */
-    transfer(0, 0xC400, 9);
-    sys(0x2000, "77");
-    want_moved(1, -1);
-    want_sys(0x1000, "77");
-    DONE('T');
-    transfer(EMU_PSW_S, 0x8400, 9);
-    sys(0x2000, "77 88");
-    want_moved(2, -1);
-    want_sys(0x1000, "77 88");
-    DONE('T');
-    /* spaces by tag; evenness is bit 0 of the 20-bit pointer */
-    transfer(3, 0xC000, 9);
-    N.ga = (struct emu_pointer){0x31000, true};
-    io(0x1000, "66 99");
-    want_moved(2, -1);
-    want_sys(0x2000, "66 99");
-    DONE('T');
-    transfer(0, 0xC000, 9);
-    N.gb.tag = true;
-    want_moved(1, -1);
-    want_io(0x2000, "11");
-    DONE('T');
-    /* pointers wrap; bytes at the end of each space wrap by themselves */
-    transfer(0, 0xC000, 9);
-    N.ga = (struct emu_pointer){0xFFFFF, true};
-    io(0xFFFF, "66");
-    want_moved(1, -1);
-    CHECK(W.ga.address == 0);
-    want_sys(0x2000, "66");
-    DONE('T');
-    transfer(EMU_PSW_D, 0xC000, 9);
-    N.ga = (struct emu_pointer){0x0FFFF, true};
-    io(0xFFFF, "66 77");
-    want_moved(2, -1);
-    CHECK(W.ga.address == 0x10001 && W.ga.tag);
-    want_sys(0x2000, "66 77");
-    DONE('T');
-    transfer(EMU_PSW_D, 0xC000, 9);
-    N.ga.address = 0xFFFFF;
-    sys(0xFFFFF, "66 77");
-    want_moved(2, -1);
-    CHECK(W.ga.address == 1);
-    want_sys(0x2000, "66 77");
-    DONE('T');
-    /* reads come first where the sides overlap */
-    transfer(3, 0xC000, 9);
-    N.gb.address = 0x1001;
-    want_moved(2, -1);
-    want_sys(0x1001, "11 22");
-    DONE('T');
-    transfer(EMU_PSW_D, 0xC000, 9);
-    N.ga.address = 0x1001;
-    N.gb.address = 0x1002;
-    want_moved(2, -1);
-    want_sys(0x1002, "22 33");
-    DONE('T');
+    PLAY(
+         /* B/B-W: a byte side that moves on takes a and a + 1, one that does not takes a twice */
+         "transfer=D,C000,9 moved=2 @2000=11.22 T",
+         "transfer=D,8000,9 moved=2 @2000=11.11 T",
+         /* a word side that does not move on takes a and a + 1 each time */
+         "transfer=D,4000,9 moved=2 @2000=11.22 T",
+         "moved=2 @2000=33.44 T",
+         "transfer=S,8000,9 moved=2 @2000=11.22 T",
+         "moved=2 @2002=11.22 T",
+         /* W-B/B to a byte side that does not move: the second byte stays */
+         "transfer=S,4000,9 moved=2 @2000=22 T",
+         /* odd addresses: 16 bits wide but no word side */
+         "transfer=SD,C000,9 ga=1001 gb=2001 moved=1 @2001=22 T",
+         "transfer=SD,C000,9 ga=1001 moved=2 @2000=22.33 T",
+         "transfer=SD,C000,9 gb=2001 moved=2 @2001=11.22 T",
+         /* source 16 at an odd address that does not move, destination a word side: a twice */
+         "transfer=SD,8000,9 ga=1001 moved=2 @2000=22.22 T",
+         /* destination 16 at an odd address that does not move */
+         "transfer=SD,4000,9 gb=2001 moved=2 @2001=22 T",
+         /* source is GB */
+         "transfer=-,C400,9 @2000=77 moved=1 @1000=77 T",
+         "transfer=S,8400,9 @2000=77.88 moved=2 @1000=77.88 T",
+         /* spaces by tag; evenness is bit 0 of the 20-bit pointer */
+         "transfer=SD,C000,9 ga=31000/1 #1000=66.99 moved=2 @2000=66.99 T",
+         "transfer=-,C000,9 gb=/1 moved=1 #2000=11 T",
+         /* pointers wrap; bytes at the end of each space wrap by themselves */
+         "transfer=-,C000,9 ga=FFFFF/1 #FFFF=66 moved=1 ga?0 @2000=66 T",
+         "transfer=D,C000,9 ga=FFFF/1 #FFFF=66.77 moved=2 ga?10001/1 @2000=66.77 T",
+         "transfer=D,C000,9 ga=FFFFF @FFFFF=66.77 moved=2 ga?1 @2000=66.77 T",
+         /* reads come first where the sides overlap */
+         "transfer=SD,C000,9 gb=1001 moved=2 @1001=11.22 T",
+         "transfer=D,C000,9 ga=1001 gb=1002 moved=2 @1002=22.33 T");
 }
 
 /* The byte count, on and off. */
 static void test_transfer_count(void)
 {
-    /* TBC off: BC falls and wraps, and nothing ends */
-    transfer(0, 0xC000, 1);
-    want_moved(1, -1);
-    want_sys(0x2000, "11");
-    DONE('T');
+    PLAY(
+         /* TBC off: BC falls and wraps, and nothing ends */
+         "transfer=-,C000,1 moved=1 @2000=11 T");
     CHECK(N.bc == 0);
-    want_moved(1, -1);
-    CHECK(W.bc == 0xFFFF);
-    want_sys(0x2001, "22");
-    DONE('T');
-    /* TBC off and BC 1: two bytes all the same */
-    transfer(3, 0xC000, 1);
-    want_moved(2, -1);
-    CHECK(W.bc == 0xFFFF);
-    want_sys(0x2000, "11 22");
-    DONE('T');
+    PLAY(
+         "moved=1 bc?FFFF @2001=22 T",
+         /* TBC off and BC 1: two bytes all the same */
+         "transfer=SD,C000,1 moved=2 bc?FFFF @2000=11.22 T");
     /* TBC on and BC 1: one byte, at each side's address, in every shape */
     for (unsigned widths = 0; widths < 4; widths++) {
         for (unsigned tbc = 1; tbc < 4; tbc++) {
@@ -2513,49 +1785,21 @@ static void test_transfer_count(void)
             DONE('T');
         }
     }
-    /* TBC on and BC 0 moves, and does not end */
-    transfer(0, 0xC008, 0);
-    want_moved(1, -1);
-    want_sys(0x2000, "11");
-    DONE('T');
-    transfer(3, 0xC008, 0);
-    want_moved(2, -1);
-    CHECK(W.bc == 0xFFFE);
-    want_sys(0x2000, "11 22");
-    DONE('T');
-    /* 2 ends with a word, 3 goes on, offset 8 */
-    transfer(3, 0xC018, 2);
-    want_moved(2, 8);
-    want_sys(0x2000, "11 22");
-    DONE('T');
-    transfer(3, 0xC018, 3);
-    want_moved(2, -1);
-    want_sys(0x2000, "11 22");
-    DONE('T');
-    want_moved(1, 8);
-    want_sys(0x2002, "33");
-    DONE('T');
-    /* TP's end offset wraps and keeps the tag */
-    transfer(0, 0xC018, 1);
-    N.tp = (struct emu_pointer){0xFFFFC, true};
-    want_moved(1, 8);
-    CHECK(W.tp.address == 4);
-    want_sys(0x2000, "11");
-    DONE('T');
-    /* TS ends each transfer, offset 0 */
-    transfer(3, 0xC080, 9);
-    want_moved(2, 0);
-    want_sys(0x2000, "11 22");
-    DONE('T');
-    /* TS and TBC: the larger offset */
-    transfer(3, 0xC090, 2);
-    want_moved(2, 4);
-    want_sys(0x2000, "11 22");
-    DONE('T');
-    transfer(3, 0xC090, 4);
-    want_moved(2, 0);
-    want_sys(0x2000, "11 22");
-    DONE('T');
+    PLAY(
+         /* TBC on and BC 0 moves, and does not end */
+         "transfer=-,C008,0 moved=1 @2000=11 T",
+         "transfer=SD,C008,0 moved=2 bc?FFFE @2000=11.22 T",
+         /* 2 ends with a word, 3 goes on, offset 8 */
+         "transfer=SD,C018,2 moved=2,8 @2000=11.22 T",
+         "transfer=SD,C018,3 moved=2 @2000=11.22 T",
+         "moved=1,8 @2002=33 T",
+         /* TP's end offset wraps and keeps the tag */
+         "transfer=-,C018,1 tp=FFFFC/1 moved=1,8 tp?4 @2000=11 T",
+         /* TS ends each transfer, offset 0 */
+         "transfer=SD,C080,9 moved=2,0 @2000=11.22 T",
+         /* TS and TBC: the larger offset */
+         "transfer=SD,C090,2 moved=2,4 @2000=11.22 T",
+         "transfer=SD,C090,4 moved=2,0 @2000=11.22 T");
 }
 
 /* Masked compare. */
@@ -2572,119 +1816,38 @@ static void test_transfer_match(void)
             DONE('T');
         }
     }
-    /* TMC 100 is off; a mask of 0 matches everything */
-    transfer(0, 0xC004, 9);
-    N.mc = 0xFF99;
-    want_moved(1, -1);
-    want_sys(0x2000, "11");
-    DONE('T');
-    transfer(0, 0xC001, 9);
-    N.mc = 0x0099;
-    want_moved(1, 0);
-    want_sys(0x2000, "11");
-    DONE('T');
-    transfer(0, 0xC005, 9);
-    N.mc = 0x0099;
-    want_moved(1, -1);
-    want_sys(0x2000, "11");
-    DONE('T');
-    /* of a stored word only the low byte is looked at */
-    transfer(3, 0xC002, 9);
-    N.mc = 0xFF22;
-    want_moved(2, -1);
-    want_sys(0x2000, "11 22");
-    DONE('T');
-    transfer(3, 0xC002, 9);
-    N.mc = 0xFF11;
-    want_moved(2, 4);
-    want_sys(0x2000, "11 22");
-    DONE('T');
-    transfer(EMU_PSW_D, 0xC002, 9);
-    N.mc = 0xFF22;
-    want_moved(2, -1);
-    want_sys(0x2000, "11 22");
-    DONE('T');
-    transfer(EMU_PSW_D, 0xC006, 9);
-    N.mc = 0xFF22;
-    want_moved(2, 4);
-    want_sys(0x2000, "11 22");
-    DONE('T');
-    /* W-B/B: the first single store meets TMC, the second is not made, BC falls as if it were */
-    transfer(EMU_PSW_S, 0xC002, 9);
-    N.mc = 0xFF11;
-    want_cut(4);
-    CHECK(W.bc == 7);
-    DONE('T');
-    /* the same with the source fixed and with the destination fixed */
-    transfer(EMU_PSW_S, 0x8002, 9);
-    N.mc = 0xFF11;
-    want_cut(4);
-    DONE('T');
-    transfer(EMU_PSW_S, 0x4002, 9);
-    N.mc = 0xFF11;
-    want_cut(4);
-    DONE('T');
-    /* the second single store meets TMC: both made */
-    transfer(EMU_PSW_S, 0xC003, 9);
-    N.mc = 0xFF22;
-    want_moved(2, 8);
-    want_sys(0x2000, "11 22");
-    DONE('T');
-    /* "no match" on the first of two */
-    transfer(EMU_PSW_S, 0xC007, 9);
-    N.mc = 0xFF22;
-    want_cut(8);
-    DONE('T');
-    transfer(EMU_PSW_S, 0xC007, 9);
-    N.mc = 0xFF11;
-    want_moved(2, 8);
-    want_sys(0x2000, "11 22");
-    DONE('T');
-    /* single stores also on a wide destination at an odd address */
-    transfer(3, 0xC001, 9);
-    N.gb.address = 0x2001;
-    N.mc = 0xFF11;
-    want_moved(1, 0);
-    W.bc = 7;
-    want_sys(0x2001, "11");
-    DONE('T');
-    transfer(3, 0xC001, 9);
-    N.gb.address = 0x2001;
-    N.mc = 0xFF22;
-    want_moved(2, 0);
-    want_sys(0x2001, "11 22");
-    DONE('T');
-    /* a single byte forced by BC 1 is matched like any other */
-    transfer(3, 0xC00B, 1);
-    N.mc = 0xFF11;
-    want_moved(1, 8);
-    want_sys(0x2000, "11");
-    DONE('T');
-    transfer(3, 0xC01A, 1);
-    N.mc = 0xFF11;
-    want_moved(1, 8);
-    want_sys(0x2000, "11");
-    DONE('T');
-    /* of several ends the largest offset wins, also over the byte count */
-    transfer(0, 0xC08B, 1);
-    N.mc = 0xFF11;
-    want_moved(1, 8);
-    want_sys(0x2000, "11");
-    DONE('T');
-    transfer(3, 0xC00A, 2);
-    N.mc = 0xFF11;
-    want_moved(2, 4);
-    want_sys(0x2000, "11 22");
-    DONE('T');
-    transfer(EMU_PSW_S, 0xC082, 9);
-    N.mc = 0xFF11;
-    want_cut(4);
-    DONE('T');
-    /* with TX on but no EXT up nothing ends */
-    transfer(0, 0xC060, 9);
-    want_moved(1, -1);
-    want_sys(0x2000, "11");
-    DONE('T');
+    PLAY(
+         /* TMC 100 is off; a mask of 0 matches everything */
+         "transfer=-,C004,9 mc=FF99 moved=1 @2000=11 T",
+         "transfer=-,C001,9 mc=99 moved=1,0 @2000=11 T",
+         "transfer=-,C005,9 mc=99 moved=1 @2000=11 T",
+         /* of a stored word only the low byte is looked at */
+         "transfer=SD,C002,9 mc=FF22 moved=2 @2000=11.22 T",
+         "transfer=SD,C002,9 mc=FF11 moved=2,4 @2000=11.22 T",
+         "transfer=D,C002,9 mc=FF22 moved=2 @2000=11.22 T",
+         "transfer=D,C006,9 mc=FF22 moved=2,4 @2000=11.22 T",
+         /* W-B/B: the first single store meets TMC, the second is not made, BC falls as if it were */
+         "transfer=S,C002,9 mc=FF11 cut=4 bc?7 T",
+         /* the same with the source fixed and with the destination fixed */
+         "transfer=S,8002,9 mc=FF11 cut=4 T",
+         "transfer=S,4002,9 mc=FF11 cut=4 T",
+         /* the second single store meets TMC: both made */
+         "transfer=S,C003,9 mc=FF22 moved=2,8 @2000=11.22 T",
+         /* "no match" on the first of two */
+         "transfer=S,C007,9 mc=FF22 cut=8 T",
+         "transfer=S,C007,9 mc=FF11 moved=2,8 @2000=11.22 T",
+         /* single stores also on a wide destination at an odd address */
+         "transfer=SD,C001,9 gb=2001 mc=FF11 moved=1,0 bc=7 @2001=11 T",
+         "transfer=SD,C001,9 gb=2001 mc=FF22 moved=2,0 @2001=11.22 T",
+         /* a single byte forced by BC 1 is matched like any other */
+         "transfer=SD,C00B,1 mc=FF11 moved=1,8 @2000=11 T",
+         "transfer=SD,C01A,1 mc=FF11 moved=1,8 @2000=11 T",
+         /* of several ends the largest offset wins, also over the byte count */
+         "transfer=-,C08B,1 mc=FF11 moved=1,8 @2000=11 T",
+         "transfer=SD,C00A,2 mc=FF11 moved=2,4 @2000=11.22 T",
+         "transfer=S,C082,9 mc=FF11 cut=4 T",
+         /* with TX on but no EXT up nothing ends */
+         "transfer=-,C060,9 moved=1 @2000=11 T");
 }
 
 /* What BC is where the first of two single stores ends the transfer, matched or (bit 2 of TMC) not matched. */
@@ -2712,62 +1875,25 @@ static void test_transfer_leftover(void)
         CHECK(W.bc == rows[i / 2].after);
         DONE('T');
     }
-    /* TBC on and BC 1: one byte moves, so it is not this case */
-    transfer(EMU_PSW_S, 0xC01A, 1);
-    N.mc = 0xFF11;
-    want_moved(1, 8);
-    CHECK(W.bc == 0);
-    want_sys(0x2000, "11");
-    DONE('T');
-    /* the second of two single stores, and the low byte of a word: both are stored, both count */
-    transfer(EMU_PSW_S, 0xC019, 2);
-    N.mc = 0xFF22;
-    want_moved(2, 8);
-    want_sys(0x2000, "11 22");
-    DONE('T');
-    transfer(3, 0xC019, 2);
-    N.mc = 0xFF11;
-    want_moved(2, 8);
-    want_sys(0x2000, "11 22");
-    DONE('T');
+    PLAY(
+         /* TBC on and BC 1: one byte moves, so it is not this case */
+         "transfer=S,C01A,1 mc=FF11 moved=1,8 bc?0 @2000=11 T",
+         /* the second of two single stores, and the low byte of a word: both are stored, both count */
+         "transfer=S,C019,2 mc=FF22 moved=2,8 @2000=11.22 T",
+         "transfer=SD,C019,2 mc=FF11 moved=2,8 @2000=11.22 T");
 }
 
 /* Translation. */
 static void test_transfer_translate(void)
 {
-    transfer(0, 0xE000, 9);
-    sys(0x3011, "99");
-    want_moved(1, -1);
-    want_sys(0x2000, "99");
-    DONE('T');
-    /* in GC's space, the byte as an unsigned offset, wrapping */
-    transfer(0, 0xE000, 9);
-    N.gc = (struct emu_pointer){0x3FFFF, true};
-    sys(0x1000, "F0");
-    io(0x00EF, "98");
-    want_moved(1, -1);
-    want_sys(0x2000, "98");
-    DONE('T');
-    transfer(0, 0xE000, 9);
-    N.gc.address = 0xFFFFF;
-    sys(0x1000, "F0");
-    sys(0x000EF, "97");
-    want_moved(1, -1);
-    want_sys(0x2000, "97");
-    DONE('T');
-    /* match looks at the translated byte */
-    transfer(0, 0xE002, 9);
-    N.mc = 0xFF99;
-    sys(0x3011, "99");
-    want_moved(1, 4);
-    want_sys(0x2000, "99");
-    DONE('T');
-    transfer(0, 0xE002, 9);
-    N.mc = 0xFF11;
-    sys(0x3011, "99");
-    want_moved(1, -1);
-    want_sys(0x2000, "99");
-    DONE('T');
+    PLAY(
+         "transfer=-,E000,9 @3011=99 moved=1 @2000=99 T",
+         /* in GC's space, the byte as an unsigned offset, wrapping */
+         "transfer=-,E000,9 gc=3FFFF/1 @1000=F0 #EF=98 moved=1 @2000=98 T",
+         "transfer=-,E000,9 gc=FFFFF @1000=F0 @EF=97 moved=1 @2000=97 T",
+         /* match looks at the translated byte */
+         "transfer=-,E002,9 mc=FF99 @3011=99 moved=1,4 @2000=99 T",
+         "transfer=-,E002,9 mc=FF11 @3011=99 moved=1 @2000=99 T");
     /* a 16-bit side is the width bit, whatever the address */
     for (unsigned widths = 1; widths < 4; widths++) {
         transfer(widths, 0xE000, 9);
@@ -2784,131 +1910,50 @@ static void test_transfer_translate(void)
 /* Refusals 5 and 2 of a transfer. */
 static void test_transfer_refusals(void)
 {
-    transfer(0, 0xD800, 9);
-    REFUSED(5);
-    REFUSED_ON(5, 3);
-    now.m.sys_len = 0;
-    REFUSED(5);
-    /* 5 before 2, and not waited for */
-    transfer(3, 0xE000, 9);
-    now.m.sys_len = 0x10;
-    REFUSED(5);
-    /* source, destination, translated byte */
-    transfer(0, 0xC000, 9);
-    now.m.sys_len = 0x1000;
-    REFUSED(2);
-    now.m.sys_len = 0x2000;
-    REFUSED(2);
-    now.m.sys_len = 0x2001;
-    CHECK(emu_step(&now.s, &now.m, 0).number == 0);
-    transfer(0, 0xE000, 9);
-    now.m.sys_len = 0x3011;
-    REFUSED(2);
-    now.m.sys_len = 0x3012;
-    CHECK(emu_step(&now.s, &now.m, 0).number == 0);
-    /* the second byte of a word side */
-    transfer(3, 0xC000, 9);
-    now.m.sys_len = 0x2001;
-    REFUSED(2);
-    transfer(3, 0xC000, 9);
-    N.ga.address = 0x2FFE;
-    now.m.sys_len = 0x2FFF;
-    REFUSED(2);
-    /* both source bytes are tested, also where a match prevents the second store */
-    transfer(EMU_PSW_S, 0xC001, 9);
-    N.ga.address = 0x2FFE;
-    N.mc = 0x0000;
-    now.m.sys_len = 0x2FFF;
-    REFUSED(2);
-    /* a second single store that a match prevents is not tested */
-    transfer(EMU_PSW_S, 0xC001, 9);
-    N.mc = 0xFF11;
-    now.m.sys_len = 0x2001;
-    want_cut(0);
-    DONE('T');
-    transfer(EMU_PSW_S, 0xC001, 9);
-    N.mc = 0xFF12;
-    now.m.sys_len = 0x2001;
-    REFUSED(2);
-    /* a second single store at the same address needs no more */
-    transfer(EMU_PSW_S, 0x4000, 9);
-    now.m.sys_len = 0x2001;
-    want_moved(2, -1);
-    want_sys(0x2000, "22");
-    DONE('T');
-    /* a byte forced by BC 1 needs one byte on each side */
-    transfer(3, 0xC008, 1);
-    now.m.sys_len = 0x2001;
-    want_moved(1, 0);
-    want_sys(0x2000, "11");
-    DONE('T');
+    PLAY(
+         "transfer=-,D800,9 refused=5",
+         "refused=5,3",
+         "sys_len=0 refused=5",
+         /* 5 before 2, and not waited for */
+         "transfer=SD,E000,9 sys_len=10 refused=5",
+         /* source, destination, translated byte */
+         "transfer=-,C000,9 sys_len=1000 refused=2",
+         "sys_len=2000 refused=2",
+         "sys_len=2001 step",
+         "transfer=-,E000,9 sys_len=3011 refused=2",
+         "sys_len=3012 step",
+         /* the second byte of a word side */
+         "transfer=SD,C000,9 sys_len=2001 refused=2",
+         "transfer=SD,C000,9 ga=2FFE sys_len=2FFF refused=2",
+         /* both source bytes are tested, also where a match prevents the second store */
+         "transfer=S,C001,9 ga=2FFE mc=0 sys_len=2FFF refused=2",
+         /* a second single store that a match prevents is not tested */
+         "transfer=S,C001,9 mc=FF11 sys_len=2001 cut=0 T",
+         "transfer=S,C001,9 mc=FF12 sys_len=2001 refused=2",
+         /* a second single store at the same address needs no more */
+         "transfer=S,4000,9 sys_len=2001 moved=2 @2000=22 T",
+         /* a byte forced by BC 1 needs one byte on each side */
+         "transfer=SD,C008,1 sys_len=2001 moved=1,0 @2000=11 T");
 }
 
 /* Transfers out of empty slots and into them: FFh goes, what is stored vanishes, and all else is as ever. */
 static void test_slots_transfer(void)
 {
-    const struct emu_pointer gone = {0x2000, true}, edge = {0x0FFE, true};
-    /* a byte, and a word, out of slots */
-    transfer(0, 0xC000, 9);
-    N.ga = gone;
-    now.m.io_len = 0x1000;
-    want_moved(1, -1);
-    want_sys(0x2000, "FF");
-    DONE('T');
-    transfer(3, 0xC000, 9);
-    N.ga = gone;
-    now.m.io_len = 0;
-    want_moved(2, -1);
-    want_sys(0x2000, "FF FF");
-    DONE('T');
-    /* over the edge */
-    transfer(3, 0xC000, 9);
-    N.ga = edge;
-    now.m.io_len = 0x0FFF;
-    io(0x0FFE, "21");
-    want_moved(2, -1);
-    want_sys(0x2000, "21 FF");
-    DONE('T');
-    /* into slots: BC falls and the match looks at what vanishes */
-    transfer(0, 0xC001, 9);
-    N.gb = gone;
-    N.mc = 0xFF11;
-    now.m.io_len = 0x1000;
-    want_moved(1, 0);
-    DONE('T');
-    transfer(3, 0xC008, 2);
-    N.gb = gone;
-    now.m.io_len = 0x1000;
-    want_moved(2, 0);
-    DONE('T');
-    transfer(3, 0xC000, 9);
-    N.gb = edge;
-    now.m.io_len = 0x0FFF;
-    want_moved(2, -1);
-    want_io(0x0FFE, "11");
-    DONE('T');
-    /* FFh out of a slot meets TMC */
-    transfer(0, 0xC001, 9);
-    N.ga = gone;
-    N.mc = 0xFFFF;
-    now.m.io_len = 0x1000;
-    want_moved(1, 0);
-    want_sys(0x2000, "FF");
-    DONE('T');
-    /* translation: FFh as the index, and an entry in a slot */
-    transfer(0, 0xE000, 9);
-    N.ga = gone;
-    now.m.io_len = 0x1000;
-    sys(0x30FF, "77");
-    want_moved(1, -1);
-    want_sys(0x2000, "77");
-    DONE('T');
-    transfer(0, 0xE000, 9);
-    N.gc = gone;
-    now.m.io_len = 0x1000;
-    want_moved(1, -1);
-    want_sys(0x2000, "FF");
-    DONE('T');
+    PLAY(
+         /* a byte, and a word, out of slots */
+         "transfer=-,C000,9 ga=2000/1 io_len=1000 moved=1 @2000=FF T",
+         "transfer=SD,C000,9 ga=2000/1 io_len=0 moved=2 @2000=FF.FF T",
+         /* over the edge */
+         "transfer=SD,C000,9 ga=FFE/1 io_len=FFF #FFE=21 moved=2 @2000=21.FF T",
+         /* into slots: BC falls and the match looks at what vanishes */
+         "transfer=-,C001,9 gb=2000/1 mc=FF11 io_len=1000 moved=1,0 T",
+         "transfer=SD,C008,2 gb=2000/1 io_len=1000 moved=2,0 T",
+         "transfer=SD,C000,9 gb=FFE/1 io_len=FFF moved=2 #FFE=11 T",
+         /* FFh out of a slot meets TMC */
+         "transfer=-,C001,9 ga=2000/1 mc=FFFF io_len=1000 moved=1,0 @2000=FF T",
+         /* translation: FFh as the index, and an entry in a slot */
+         "transfer=-,E000,9 ga=2000/1 io_len=1000 @30FF=77 moved=1 @2000=77 T",
+         "transfer=-,E000,9 gc=2000/1 io_len=1000 moved=1 @2000=FF T");
 }
 
 /* System space has no empty slots: 2, wherever I/O memory ends. */
@@ -2930,100 +1975,49 @@ static void test_slots_system(void)
 
 /* ---- Which channel steps ---- */
 
-/* Both channels ready for a plain instruction. */
-static void both_ready(void)
-{
-    reset();
-    N2 = N;
-    N2.tp.address = 0x200;
-    sys(0x100, "00 00");
-    sys(0x200, "00 00");
-}
-
-/* The channel that the next step takes, or 0. */
-static unsigned goes(uint32_t lines)
-{
-    struct emu_state s = now.s;
-    struct emu_stepped stepped = emu_step(&s, &now.m, lines);
-    return stepped.number == 0 ? stepped.channel : 0;
-}
-
 /* Ranks, priority, turns. */
 static void test_choice(void)
 {
-    /* turns */
-    both_ready();
-    CHECK(goes(0) == 1);
-    now.s.last = 1;
-    CHECK(goes(0) == 2);
-    /* priority before turns */
-    N.psw |= EMU_PSW_PRIORITY;
-    CHECK(goes(0) == 1);
-    N2.psw |= EMU_PSW_PRIORITY;
-    CHECK(goes(0) == 2);
-    N.psw = EMU_PSW_TB;
-    now.s.last = 2;
-    CHECK(goes(0) == 2);
-    /* rank before priority: chained, transfer */
-    emu_set_cc(&N, 0x0100);
-    CHECK(goes(0) == 1);
-    emu_set_cc(&N, 0);
-    N.psw |= EMU_PSW_XF;
-    CHECK(goes(0) == 1);
-    /* a transfer and a chained program have one rank */
-    emu_set_cc(&N2, 0x0100);
-    CHECK(goes(0) == 2);
-    N2.psw = EMU_PSW_TB;
-    CHECK(goes(0) == 1);
-    now.s.last = 1;
-    CHECK(goes(0) == 2);
-    /* waiting for DRQ: none; each channel has its own DRQ */
-    both_ready();
-    N.psw |= EMU_PSW_XF;
-    emu_set_cc(&N, 0x0800);
-    CHECK(goes(0) == 2);
-    CHECK(goes(2) == 2);
-    CHECK(goes(1) == 1);
-    emu_set_cc(&N, 0x1000);
-    CHECK(goes(0) == 2);
-    CHECK(goes(1) == 1);
-    emu_set_cc(&N, 0x1100);
-    CHECK(goes(0) == 2);
-    N2.mode = EMU_IDLE;
-    REFUSED(1);
-    REFUSED_ON(1, 2);
-    REFUSED_ON(1, 4);
-    both_ready();
-    N2.psw |= EMU_PSW_XF;
-    emu_set_cc(&N2, 0x1000);
-    now.s.last = 1;
-    CHECK(goes(0) == 1);
-    CHECK(goes(1) == 1);
-    CHECK(goes(2) == 2);
-    /* SYN 11 does not wait: it goes, and is refused, and the other channel is not tried */
-    both_ready();
-    N2.psw |= EMU_PSW_XF;
-    emu_set_cc(&N2, 0x1800);
-    REFUSED(5);
-    /* a refused instruction is not tried on the other channel */
-    both_ready();
-    sys(0x100, "04 04");
-    REFUSED(3);
+    PLAY(
+         /* turns */
+         "ready goes=0,1",
+         "last=1 goes=0,2",
+         /* priority before turns */
+         "psw+P goes=0,1",
+         "2.psw+P goes=0,2",
+         "psw=TB last=2 goes=0,2",
+         /* rank before priority: chained, transfer */
+         "cc=100 goes=0,1",
+         "cc=0 psw+XF goes=0,1",
+         /* a transfer and a chained program have one rank */
+         "2.cc=100 goes=0,2",
+         "2.psw=TB goes=0,1",
+         "last=1 goes=0,2",
+         /* waiting for DRQ: none; each channel has its own DRQ */
+         "ready psw+XF cc=800 goes=0,2",
+         "goes=2,2",
+         "goes=1,1",
+         "cc=1000 goes=0,2",
+         "goes=1,1",
+         "cc=1100 goes=0,2",
+         "2.mode=idle refused=1",
+         "refused=1,2",
+         "refused=1,4",
+         "ready 2.psw+XF 2.cc=1000 last=1 goes=0,1",
+         "goes=1,1",
+         "goes=2,2",
+         /* SYN 11 does not wait: it goes, and is refused, and the other channel is not tried */
+         "ready 2.psw+XF 2.cc=1800 refused=5",
+         /* a refused instruction is not tried on the other channel */
+         "ready @100=04.04 refused=3");
     CHECK(now.s.last == 2);
-    /* idle and suspended channels do not run, whatever TB and XF */
-    both_ready();
-    N.mode = EMU_SUSPENDED;
-    CHECK(goes(0) == 2);
-    N2.mode = EMU_IDLE;
-    REFUSED(1);
-    N.psw |= EMU_PSW_XF;
-    emu_set_cc(&N, 0x0020);
-    REFUSED_ON(1, 15);
-    /* a running channel with TB 0 runs */
-    both_ready();
-    N.psw = 0;
-    N2.mode = EMU_IDLE;
-    CHECK(goes(0) == 1);
+    PLAY(
+         /* idle and suspended channels do not run, whatever TB and XF */
+         "ready mode=suspended goes=0,2",
+         "2.mode=idle refused=1",
+         "psw+XF cc=20 refused=1,F",
+         /* a running channel with TB 0 runs */
+         "ready psw=- 2.mode=idle goes=0,1");
 }
 
 /* External ends. */
@@ -3037,60 +2031,23 @@ static void test_external(void)
         W.tp.address += (tx - 1) * 4;
         DONE_ON('X', 1, 4);
     }
-    /* TX 00: EXT says nothing; another channel's EXT says nothing */
-    transfer(0, 0xC000, 9);
-    want_moved(1, -1);
-    want_sys(0x2000, "11");
-    DONE_ON('T', 1, 4);
-    transfer(0, 0xC020, 9);
-    want_moved(1, -1);
-    want_sys(0x2000, "11");
-    DONE_ON('T', 1, 8);
-    /* no XF: EXT says nothing */
-    reset();
-    emu_set_cc(&N, 0x0060);
-    code("00 00");
-    DONE_ON('I', 1, 4);
-    /* it goes first, before priority and DRQ; channel 1 before 2 */
-    transfer(0, 0xC060, 9);
-    N2 = N;
-    N2.tp.address = 0x200;
-    N2.psw |= EMU_PSW_PRIORITY;
-    emu_set_cc(&N2, 0xC040);
-    now.s.last = 1;
-    want_same();
-    W.psw &= (uint8_t)~EMU_PSW_XF;
-    W.tp.address = 0x108;
-    DONE_ON('X', 1, 15);
-    want_same();
-    want.s.last = 2;
-    W2.psw &= (uint8_t)~EMU_PSW_XF;
-    W2.tp.address = 0x204;
-    DONE_ON('X', 2, 15);
-    /* a waiting transfer is ended too */
-    transfer(0, 0xC820, 9);
-    want_same();
-    want.s.last = 1;
-    W.psw &= (uint8_t)~EMU_PSW_XF;
-    DONE_ON('X', 1, 4);
-    /* 5 is not asked, nor is memory */
-    transfer(3, 0xF860, 9);
-    N.tp = (struct emu_pointer){0xFFFFE, true};
-    now.m.sys_len = 0;
-    now.m.io_len = 0;
-    want_same();
-    want.s.last = 1;
-    W.psw &= (uint8_t)~EMU_PSW_XF;
-    W.tp.address = 6;
-    DONE_ON('X', 1, 4);
-    /* 12, 11 and 10 are */
-    transfer(0, 0xC020, 9);
-    REFUSED_ON(12, 20);
-    now.m.io_len = EMU_IO_LIMIT + 1;
-    REFUSED_ON(11, 4);
-    now.m.io_len = 0;
-    N2.pp = 0x100000;
-    REFUSED_ON(10, 4);
+    PLAY(
+         /* TX 00: EXT says nothing; another channel's EXT says nothing */
+         "transfer=-,C000,9 moved=1 @2000=11 T,1,4",
+         "transfer=-,C020,9 moved=1 @2000=11 T,1,8",
+         /* no XF: EXT says nothing */
+         "reset cc=60 code=00.00 I,1,4",
+         /* it goes first, before priority and DRQ; channel 1 before 2 */
+         "transfer=-,C060,9 twins 2.tp=200 2.psw+P 2.cc=C040 last=1 want psw-XF tp=108 X,1,F",
+         "want last=2 2.psw-XF 2.tp=204 X,2,F",
+         /* a waiting transfer is ended too */
+         "transfer=-,C820,9 want last=1 psw-XF X,1,4",
+         /* 5 is not asked, nor is memory */
+         "transfer=SD,F860,9 tp=FFFFE/1 sys_len=0 io_len=0 want last=1 psw-XF tp=6 X,1,4",
+         /* 12, 11 and 10 are */
+         "transfer=-,C020,9 refused=12,14",
+         "io_len=10001 refused=11,4",
+         "io_len=0 2.pp=100000 refused=10,4");
 }
 
 /* ---- The fields of CC ---- */
@@ -3143,58 +2100,37 @@ static void test_refusal_14(void)
         c->cc = emu_fields_value(&c->fields);
         CHECK(emu_attention(&now.s, &now.m, 1).number == 0);
     }
-    /* TMC 100 and 000 disagree, though both are off */
-    reset();
-    sys(0x100, "00 00");
-    emu_set_cc(&N, 0x0004);
-    N.cc = 0;
-    REFUSED(14);
-    ATTEND_REFUSED(2, 14);
+    PLAY(
+         /* TMC 100 and 000 disagree, though both are off */
+         "reset @100=00.00 cc=4 cc-alone=0 refused=14",
+         "attend=2,14");
 }
 
 /* 14 comes behind 12, 11, 10 and 13 and before everything else; power-up, fresh and reset do not ask. */
 static void test_14_in_order(void)
 {
-    reset();
-    N2.cc = 0x8000;
-    now.s.powered = false;
-    now.s.cp = 0x100000;
-    now.m.io_len = EMU_IO_LIMIT + 1;
-    REFUSED_ON(12, 16);
-    ATTEND_REFUSED(3, 12);
-    REFUSED(11);
-    ATTEND_REFUSED(1, 11);
-    now.m.io_len = 0;
-    REFUSED(10);
-    ATTEND_REFUSED(1, 10);
-    now.s.cp = 0x40;
-    REFUSED(13);
-    ATTEND_REFUSED(1, 13);
-    now.s.powered = true;
-    REFUSED(14);
-    ATTEND_REFUSED(1, 14);
-    /* before 2 of the CCW, 6 and 9; before 1, 2 of the code, 3 and 5 */
-    now.m.sys_len = 0;
-    REFUSED(14);
-    ATTEND_REFUSED(1, 14);
-    now.m.sys_len = MIB;
-    sys(0x40, "02");
-    sys(0x48, "06");
-    ATTEND_REFUSED(1, 14);
-    ATTEND_REFUSED(2, 14);
-    sys(0x100, "04 04");
-    REFUSED(14);
-    N.mode = EMU_IDLE;
-    REFUSED(14);
-    transfer(0, 0x1800, 9);
-    N2.cc = 0x8000;
-    REFUSED(14);
-    N2.cc = 0;
-    REFUSED(5);
-    /* an external end asks too */
-    transfer(0, 0x0020, 9);
-    N.cc = 0x0021;
-    REFUSED_ON(14, 4);
+    PLAY(
+         "reset 2.cc-alone=8000 powered=0 cp=100000 io_len=10001 refused=12,10",
+         "attend=3,12",
+         "refused=11",
+         "attend=1,11",
+         "io_len=0 refused=10",
+         "attend=1,10",
+         "cp=40 refused=13",
+         "attend=1,13",
+         "powered=1 refused=14",
+         "attend=1,14",
+         /* before 2 of the CCW, 6 and 9; before 1, 2 of the code, 3 and 5 */
+         "sys_len=0 refused=14",
+         "attend=1,14",
+         "sys_len=100000 @40=02 @48=06 attend=1,14",
+         "attend=2,14",
+         "@100=04.04 refused=14",
+         "mode=idle refused=14",
+         "transfer=-,1800,9 2.cc-alone=8000 refused=14",
+         "2.cc-alone=0 refused=5",
+         /* an external end asks too */
+         "transfer=-,20,9 cc-alone=21 refused=14,4");
     /* power-up from such a state */
     board("00", "00");
     emu_fresh(0x500, &want.s);
@@ -3220,13 +2156,9 @@ static void test_renewed(void)
         DONE('I');
         CHECK(emu_fields_value(&N2.fields) == (0x1234 & 0xFDFF) && N2.cc == 0x1234);
     }
-    /* MOV from CC stores CC itself, bit 9 with it */
-    reset();
-    emu_set_cc(&N, 0);
-    N.cc = 0x0200;
-    code("C1 84");
-    want_sys(0x1000, "00 02");
-    DONE('I');
+    PLAY(
+         /* MOV from CC stores CC itself, bit 9 with it */
+         "reset cc=0 cc-alone=200 code=C1.84 @1000=00.02 I");
     /* the next step goes by what was moved: chained, channel 1 goes again before channel 2 */
     reset();
     N2 = N;
@@ -3381,61 +2313,24 @@ static void test_run(void)
 
 /* ---- One request, one byte: pairs ---- */
 
-/* Wants a half that holds this byte for the other one and changes nothing else. */
-static void want_half(unsigned byte)
-{
-    want_same();
-    want.s.last = 1;
-    W.held = (uint16_t)(EMU_HELD | byte);
-}
-
-/* Wants the second half of a pair, which ended by this offset (or went on, if negative). */
-static void want_pair(int end)
-{
-    want_moved(2, end);
-    W.held = EMU_NONE_HELD;
-}
-
 /* SYN 01: two fetches, and the word is stored with the second. */
 static void test_pair_fetches(void)
 {
-    /* both sides move on: pointers and BC wait for the second half, and so does the word */
-    transfer(EMU_PSW_D, 0xC800, 9);
-    want_half(0x11);
-    DONE_ON('T', 1, 1);
-    want_pair(-1);
-    CHECK(W.ga.address == 0x1002 && W.gb.address == 0x2002 && W.bc == 7);
-    want_sys(0x2000, "11 22");
-    DONE_ON('T', 1, 1);
-    /* the next pair begins with a fetch again */
-    want_half(0x33);
-    DONE_ON('T', 1, 1);
-    want_pair(-1);
-    want_sys(0x2002, "33 44");
-    DONE_ON('T', 1, 1);
-    /* a port that stays is read at both halves, and not again for the byte that is held */
-    transfer(EMU_PSW_D, 0x8800, 9);
-    want_half(0x11);
-    DONE_ON('T', 1, 1);
-    sys(0x1000, "77");
-    want_pair(-1);
-    want_sys(0x2000, "11 77");
-    DONE_ON('T', 1, 1);
-    /* what is held need not be what stands there now */
-    transfer(EMU_PSW_D, 0xC800, 9);
-    N.held = EMU_HELD | 0x99;
-    want_pair(-1);
-    want_sys(0x2000, "99 22");
-    DONE_ON('T', 1, 1);
-    /* a held byte 0 is one */
-    transfer(EMU_PSW_D, 0xC800, 9);
-    sys(0x1000, "00");
-    want_half(0);
-    DONE_ON('T', 1, 1);
-    sys(0x1000, "88");
-    want_pair(-1);
-    want_sys(0x2000, "00 22");
-    DONE_ON('T', 1, 1);
+    PLAY(
+         /* both sides move on: pointers and BC wait for the second half, and so does the word */
+         "transfer=D,C800,9 half=11 T,1,1",
+         "pair ga?1002 gb?2002 bc?7 @2000=11.22 T,1,1",
+         /* the next pair begins with a fetch again */
+         "half=33 T,1,1",
+         "pair @2002=33.44 T,1,1",
+         /* a port that stays is read at both halves, and not again for the byte that is held */
+         "transfer=D,8800,9 half=11 T,1,1",
+         "@1000=77 pair @2000=11.77 T,1,1",
+         /* what is held need not be what stands there now */
+         "transfer=D,C800,9 held=199 pair @2000=99.22 T,1,1",
+         /* a held byte 0 is one */
+         "transfer=D,C800,9 @1000=00 half=0 T,1,1",
+         "@1000=88 pair @2000=00.22 T,1,1");
     /* 16 bits wide at an odd address, moving on or not; the word side may stay */
     for (unsigned moves = 0; moves < 4; moves++) {
         transfer(EMU_PSW_S | EMU_PSW_D, 0x0800 | moves << 14, 9);
@@ -3447,62 +2342,28 @@ static void test_pair_fetches(void)
         DONE_ON('T', 1, 1);
         CHECK(N.ga.address == ((moves & 1) != 0 ? 0x1003 : 0x1001) && N.bc == 7);
     }
-    /* from an I/O port into system memory, the source being GB; and from system memory into I/O memory */
-    transfer(EMU_PSW_D, 0x8C00, 9);
-    N.ga = (struct emu_pointer){0x3000, false};
-    N.gb = (struct emu_pointer){0xF8004, true};
-    io(0x8004, "C1");
-    want_half(0xC1);
-    DONE_ON('T', 1, 1);
-    io(0x8004, "C2");
-    want_pair(-1);
-    want_sys(0x3000, "C1 C2");
-    DONE_ON('T', 1, 1);
-    transfer(EMU_PSW_D, 0xC800, 9);
-    N.gb = (struct emu_pointer){0x20, true};
-    want_half(0x11);
-    DONE_ON('T', 1, 1);
-    want_pair(-1);
-    want_io(0x20, "11 22");
-    DONE_ON('T', 1, 1);
-    /* each byte's place wraps by itself */
-    transfer(EMU_PSW_S | EMU_PSW_D, 0xC800, 9);
-    N.ga.address = 0xFFFFF;
-    sys(0xFFFFF, "D1");
-    sys(0, "D2");
-    want_half(0xD1);
-    DONE_ON('T', 1, 1);
-    want_pair(-1);
-    CHECK(W.ga.address == 1);
-    want_sys(0x2000, "D1 D2");
-    DONE_ON('T', 1, 1);
+    PLAY(
+         /* from an I/O port into system memory, the source being GB; and from system memory into I/O memory */
+         "transfer=D,8C00,9 ga=3000/0 gb=F8004/1 #8004=C1 half=C1 T,1,1",
+         "#8004=C2 pair @3000=C1.C2 T,1,1",
+         "transfer=D,C800,9 gb=20/1 half=11 T,1,1",
+         "pair #20=11.22 T,1,1",
+         /* each byte's place wraps by itself */
+         "transfer=SD,C800,9 ga=FFFFF @FFFFF=D1 @0=D2 half=D1 T,1,1",
+         "pair ga?1 @2000=D1.D2 T,1,1");
 }
 
 /* SYN 10: the word is read with the first of two stores. */
 static void test_pair_stores(void)
 {
-    transfer(EMU_PSW_S, 0xD000, 9);
-    want_half(0x22);
-    want_sys(0x2000, "11");
-    DONE_ON('T', 1, 1);
-    /* the second store has the byte that was read then, not the one that stands there now */
-    sys(0x1001, "77");
-    want_pair(-1);
-    CHECK(W.ga.address == 0x1002 && W.gb.address == 0x2002 && W.bc == 7);
-    want_sys(0x2001, "22");
-    DONE_ON('T', 1, 1);
-    want_half(0x44);
-    want_sys(0x2002, "33");
-    DONE_ON('T', 1, 1);
-    /* a port that stays is stored to twice */
-    transfer(EMU_PSW_S, 0x5000, 9);
-    want_half(0x22);
-    want_sys(0x2000, "11");
-    DONE_ON('T', 1, 1);
-    want_pair(-1);
-    CHECK(W.ga.address == 0x1002 && W.gb.address == 0x2000 && W.bc == 7);
-    want_sys(0x2000, "22");
-    DONE_ON('T', 1, 1);
+    PLAY(
+         "transfer=S,D000,9 half=22 @2000=11 T,1,1",
+         /* the second store has the byte that was read then, not the one that stands there now */
+         "@1001=77 pair ga?1002 gb?2002 bc?7 @2001=22 T,1,1",
+         "half=44 @2002=33 T,1,1",
+         /* a port that stays is stored to twice */
+         "transfer=S,5000,9 half=22 @2000=11 T,1,1",
+         "pair ga?1002 gb?2000 bc?7 @2000=22 T,1,1");
     /* 16 bits wide at an odd address, moving on or not; the word side may stay */
     for (unsigned moves = 0; moves < 4; moves++) {
         transfer(EMU_PSW_S | EMU_PSW_D, 0x1000 | moves << 14, 9);
@@ -3515,22 +2376,12 @@ static void test_pair_stores(void)
         DONE_ON('T', 1, 1);
         CHECK(N.ga.address == ((moves & 1) != 0 ? 0x1002 : 0x1000) && N.bc == 7);
     }
-    /* from system memory to an I/O port, the source being GB */
-    transfer(EMU_PSW_S, 0x5400, 9);
-    N.ga = (struct emu_pointer){0xF8004, true};
-    N.gb = (struct emu_pointer){0x1000, false};
-    want_half(0x22);
-    want_io(0x8004, "11");
-    DONE_ON('T', 1, 1);
-    want_pair(-1);
-    want_io(0x8004, "22");
-    DONE_ON('T', 1, 1);
-    /* what a first half of the other kind held is stored, where the step has become this one */
-    transfer(EMU_PSW_S, 0xD000, 9);
-    N.held = EMU_HELD | 0x99;
-    want_pair(-1);
-    want_sys(0x2001, "99");
-    DONE_ON('T', 1, 1);
+    PLAY(
+         /* from system memory to an I/O port, the source being GB */
+         "transfer=S,5400,9 ga=F8004/1 gb=1000/0 half=22 #8004=11 T,1,1",
+         "pair #8004=22 T,1,1",
+         /* what a first half of the other kind held is stored, where the step has become this one */
+         "transfer=S,D000,9 held=199 pair @2001=99 T,1,1");
 }
 
 /* Each half has a request of its own, is a step of its channel and makes it the last one. */
@@ -3559,16 +2410,10 @@ static void test_pair_requests(void)
         CHECK(N.held == (i < 2 ? 0x111 : 0) && N2.held == (i == 1 || i == 2 ? 0x133 : 0));
     }
     CHECK(now.sys[0x2000] == 0x11 && now.sys[0x2001] == 0x22 && now.sys[0x2002] == 0x33 && now.sys[0x2003] == 0x44);
-    /* channel 2's DRQ is line 2 */
-    transfer(EMU_PSW_D, 0xC800, 9);
-    N2 = N;
-    N.mode = EMU_IDLE;
-    N.held = EMU_HELD | 0x55;
-    REFUSED_ON(1, 1);
-    want_same();
-    want.s.last = 2;
-    W2.held = EMU_HELD | 0x11;
-    DONE_ON('T', 2, 2);
+    PLAY(
+         /* channel 2's DRQ is line 2 */
+         "transfer=D,C800,9 twins mode=idle held=155 refused=1,1",
+         "want last=2 2.held=111 T,2,2");
 }
 
 /* Ends: by count, TS and match at the second half, or at a first store that meets TMC. */
@@ -3601,42 +2446,17 @@ static void test_pair_ends(void)
             DONE_ON('T', 1, 1);
         }
     }
-    /* of a word that came in two fetches the low byte, which is the held one, is looked at */
-    transfer(EMU_PSW_D, 0xC802, 9);
-    N.mc = 0xFF11;
-    want_half(0x11);
-    DONE_ON('T', 1, 1);
-    want_pair(4);
-    want_sys(0x2000, "11 22");
-    DONE_ON('T', 1, 1);
-    transfer(EMU_PSW_D, 0xC802, 9);
-    N.mc = 0xFF22;
-    want_half(0x11);
-    DONE_ON('T', 1, 1);
-    want_pair(-1);
-    want_sys(0x2000, "11 22");
-    DONE_ON('T', 1, 1);
-    transfer(EMU_PSW_D, 0xC806, 9);
-    N.mc = 0xFF22;
-    N.held = EMU_HELD | 0x22;
-    want_pair(-1);
-    want_sys(0x2000, "22 22");
-    DONE_ON('T', 1, 1);
-    transfer(EMU_PSW_D, 0xC806, 9);
-    N.mc = 0xFF22;
-    N.held = EMU_HELD | 0x23;
-    want_pair(4);
-    want_sys(0x2000, "23 22");
-    DONE_ON('T', 1, 1);
-    /* of two stores the second */
-    transfer(EMU_PSW_S, 0xD003, 9);
-    N.mc = 0xFF22;
-    want_half(0x22);
-    want_sys(0x2000, "11");
-    DONE_ON('T', 1, 1);
-    want_pair(8);
-    want_sys(0x2001, "22");
-    DONE_ON('T', 1, 1);
+    PLAY(
+         /* of a word that came in two fetches the low byte, which is the held one, is looked at */
+         "transfer=D,C802,9 mc=FF11 half=11 T,1,1",
+         "pair=4 @2000=11.22 T,1,1",
+         "transfer=D,C802,9 mc=FF22 half=11 T,1,1",
+         "pair @2000=11.22 T,1,1",
+         "transfer=D,C806,9 mc=FF22 held=122 pair @2000=22.22 T,1,1",
+         "transfer=D,C806,9 mc=FF22 held=123 pair=4 @2000=23.22 T,1,1",
+         /* of two stores the second */
+         "transfer=S,D003,9 mc=FF22 half=22 @2000=11 T,1,1",
+         "pair=8 @2001=22 T,1,1");
     /* match, count and TS at a second half: the largest offset */
     for (unsigned syn = 1; syn < 3; syn++) {
         transfer(syn == 1 ? EMU_PSW_D : EMU_PSW_S, 0xC093 | syn << 11, 2);
@@ -3674,12 +2494,9 @@ static void test_pair_cut(void)
         CHECK(W.ga.address == 0x1001 && W.gb.address == 0x2001 && W.bc == rows[i / 2].after && W.held == EMU_NONE_HELD);
         DONE_ON('T', 1, 1);
     }
-    /* the second store is then neither made nor tested, the second fetch is */
-    transfer(EMU_PSW_S, 0xD001, 9);
-    N.mc = 0xFF11;
-    now.m.sys_len = 0x2001;
-    want_cut(0);
-    DONE_ON('T', 1, 1);
+    PLAY(
+         /* the second store is then neither made nor tested, the second fetch is */
+         "transfer=S,D001,9 mc=FF11 sys_len=2001 cut=0 T,1,1");
 }
 
 /* What is no pair is done in one step, under a request or without. */
@@ -3716,14 +2533,9 @@ static void test_pair_never(void)
         memcpy(want.sys + rows[i / 2].to, now.sys + rows[i / 2].from, rows[i / 2].two ? 2 : 1);
         DONE_ON('T', 1, 1);
     }
-    /* translation under a request moves one byte, whatever is held */
-    transfer(0, 0xE800, 9);
-    N.held = EMU_HELD | 0x12;
-    sys(0x3011, "99");
-    want_moved(1, -1);
-    W.held = EMU_NONE_HELD;
-    want_sys(0x2000, "99");
-    DONE_ON('T', 1, 1);
+    PLAY(
+         /* translation under a request moves one byte, whatever is held */
+         "transfer=-,E800,9 held=112 @3011=99 moved=1 held=0 @2000=99 T,1,1");
 }
 
 /* Gives channel 1 an attention with this CCW while it holds 5Ah in this mode, and wants that it then holds so much. */
@@ -3793,29 +2605,16 @@ static void test_held_kept(void)
         struct emu_stepped stepped = emu_step(&now.s, &now.m, i == 2 ? 8 : 0);
         CHECK(stepped.number == 0 && stepped.channel == 2 && stepped.kind == "ITX"[i] && N.held == 0x15A);
     }
-    /* refused: resume, start and suspend in the wrong mode, a start whose bytes are not lent, and steps */
-    transfer(EMU_PSW_D, 0xC800, 9);
-    N.held = EMU_HELD | 0x5A;
-    block(1, 5);
-    ATTEND_REFUSED(1, 7);
-    block(1, 3);
-    ATTEND_REFUSED(1, 8);
-    block(1, 2);
-    ATTEND_REFUSED(1, 6);
-    N.mode = EMU_IDLE;
-    block(1, 6);
-    ATTEND_REFUSED(1, 9);
-    block(1, 3);
-    now.m.sys_len = 0x501;
-    ATTEND_REFUSED(1, 2);
-    reset();
-    N.held = EMU_HELD | 0x5A;
-    sys(0x100, "04 04");
-    REFUSED(3);
-    sys(0x100, "C0 38");
-    REFUSED(4);
-    N.mode = EMU_SUSPENDED;
-    REFUSED(1);
+    PLAY(
+         /* refused: resume, start and suspend in the wrong mode, a start whose bytes are not lent, and steps */
+         "transfer=D,C800,9 held=15A block=1,05 attend=1,7",
+         "block=1,03 attend=1,8",
+         "block=1,02 attend=1,6",
+         "mode=idle block=1,06 attend=1,9",
+         "block=1,03 sys_len=501 attend=1,2",
+         "reset held=15A @100=04.04 refused=3",
+         "@100=C0.38 refused=4",
+         "mode=suspended refused=1");
 }
 
 /* What drops a held byte. */
@@ -3827,28 +2626,11 @@ static void test_held_dropped(void)
         if (mode != EMU_RUNNING) attend_holding(3, (enum emu_mode)mode, 0, __LINE__);
         attend_holding(7, (enum emu_mode)mode, 0, __LINE__);
     }
-    /* an instruction, HLT among them; where the mark becomes XF too */
-    reset();
-    N.held = EMU_HELD | 0x5A;
-    code("00 00");
-    W.held = EMU_NONE_HELD;
-    DONE('I');
-    reset();
-    N.held = EMU_HELD | 0x5A;
-    N.armed = true;
-    code("A0 00");
-    W.held = EMU_NONE_HELD;
-    W.armed = false;
-    W.psw |= EMU_PSW_XF | EMU_PSW_D;
-    DONE('I');
-    reset();
-    N.held = EMU_HELD | 0x5A;
-    code("20 48");
-    W.held = EMU_NONE_HELD;
-    W.mode = EMU_IDLE;
-    W.psw = 0;
-    want_sys(0x41, "00");
-    DONE('I');
+    PLAY(
+         /* an instruction, HLT among them; where the mark becomes XF too */
+         "reset held=15A code=00.00 held=0 I",
+         "reset held=15A armed=1 code=A0.00 held=0 armed=0 psw+XF,D I",
+         "reset held=15A code=20.48 held=0 mode=idle psw=- @41=00 I");
     /* an external end stores nothing and moves neither pointers nor BC, with DRQ up or not */
     for (unsigned i = 0; i < 4; i++) {
         transfer(i % 2 == 0 ? EMU_PSW_D : EMU_PSW_S, (i % 2 == 0 ? 0xC800 : 0xD000) | 0x60, 9);
@@ -3859,23 +2641,12 @@ static void test_held_dropped(void)
         W.tp.address += 8;
         DONE_ON('X', 1, i < 2 ? 4 : 5);
     }
-    /* a pair whose second half comes when one byte is left: that byte goes alone, read anew */
-    transfer(EMU_PSW_D, 0xC818, 9);
-    CHECK(emu_step(&now.s, &now.m, 1).number == 0 && N.held == 0x111);
-    N.bc = 1;
-    sys(0x1000, "77");
-    want_moved(1, 8);
-    W.held = EMU_NONE_HELD;
-    want_sys(0x2000, "77");
-    DONE_ON('T', 1, 1);
-    transfer(EMU_PSW_S, 0xD018, 9);
-    CHECK(emu_step(&now.s, &now.m, 1).number == 0 && N.held == 0x122);
-    N.bc = 1;
-    sys(0x1000, "77");
-    want_moved(1, 8);
-    W.held = EMU_NONE_HELD;
-    want_sys(0x2000, "77");
-    DONE_ON('T', 1, 1);
+    PLAY(
+         /* a pair whose second half comes when one byte is left: that byte goes alone, read anew */
+         "transfer=D,C818,9 step=1 held?111",
+         "bc=1 @1000=77 moved=1,8 held=0 @2000=77 T,1,1",
+         "transfer=S,D018,9 step=1 held?122",
+         "bc=1 @1000=77 moved=1,8 held=0 @2000=77 T,1,1");
     /* nothing is held in a state that is made */
     struct emu_state s;
     memset(&s, 0xFF, sizeof s);
@@ -3914,107 +2685,44 @@ static void test_pair_refusals(void)
             REFUSED_ON(5, 1);
         }
     }
-    /* first fetch: the first source byte and no other */
-    transfer(EMU_PSW_D, 0xC800, 9);
-    now.m.sys_len = 0x1000;
-    REFUSED_ON(2, 1);
-    now.m.sys_len = 0x1001;
-    want_half(0x11);
-    DONE_ON('T', 1, 1);
-    /* second fetch: the second source byte, then both of the word */
-    REFUSED_ON(2, 1);
-    now.m.sys_len = 0x1002;
-    REFUSED_ON(2, 1);
-    now.m.sys_len = 0x2001;
-    REFUSED_ON(2, 1);
-    now.m.sys_len = 0x2002;
-    want_pair(-1);
-    want_sys(0x2000, "11 22");
-    DONE_ON('T', 1, 1);
-    /* it does not ask for the first source byte again */
-    transfer(EMU_PSW_S | EMU_PSW_D, 0xC800, 9);
-    N.ga.address = 0xFFFFF;
-    N.held = EMU_HELD | 0x5A;
-    sys(0, "33");
-    now.m.sys_len = 0x2002;
-    want_pair(-1);
-    want_sys(0x2000, "5A 33");
-    DONE_ON('T', 1, 1);
-    /* first store: both source bytes and the first place */
-    transfer(EMU_PSW_S, 0xD000, 9);
-    N.gb.address = 0x0800;
-    now.m.sys_len = 0x1000;
-    REFUSED_ON(2, 1);
-    now.m.sys_len = 0x1001;
-    REFUSED_ON(2, 1);
-    transfer(EMU_PSW_S, 0xD000, 9);
-    now.m.sys_len = 0x2000;
-    REFUSED_ON(2, 1);
-    now.m.sys_len = 0x2001;
-    want_half(0x22);
-    want_sys(0x2000, "11");
-    DONE_ON('T', 1, 1);
-    /* second store: the second place and no other */
-    REFUSED_ON(2, 1);
-    now.m.sys_len = 0x2002;
-    N.ga.address = 0x3000;
-    want_pair(-1);
-    want_sys(0x2001, "22");
-    DONE_ON('T', 1, 1);
-    transfer(EMU_PSW_S | EMU_PSW_D, 0xD000, 9);
-    N.ga.address = 0x3000;
-    N.gb.address = 0xFFFFF;
-    N.held = EMU_HELD | 0x5A;
-    now.m.sys_len = 1;
-    want_pair(-1);
-    want_sys(0, "5A");
-    DONE_ON('T', 1, 1);
-    /* a byte that ends at the first store asks for the second source byte nevertheless */
-    transfer(EMU_PSW_S, 0xD001, 9);
-    N.ga.address = 0x2FFE;
-    N.mc = 0x0000;
-    now.m.sys_len = 0x2FFF;
-    REFUSED_ON(2, 1);
+    PLAY(
+         /* first fetch: the first source byte and no other */
+         "transfer=D,C800,9 sys_len=1000 refused=2,1",
+         "sys_len=1001 half=11 T,1,1",
+         /* second fetch: the second source byte, then both of the word */
+         "refused=2,1",
+         "sys_len=1002 refused=2,1",
+         "sys_len=2001 refused=2,1",
+         "sys_len=2002 pair @2000=11.22 T,1,1",
+         /* it does not ask for the first source byte again */
+         "transfer=SD,C800,9 ga=FFFFF held=15A @0=33 sys_len=2002 pair @2000=5A.33 T,1,1",
+         /* first store: both source bytes and the first place */
+         "transfer=S,D000,9 gb=800 sys_len=1000 refused=2,1",
+         "sys_len=1001 refused=2,1",
+         "transfer=S,D000,9 sys_len=2000 refused=2,1",
+         "sys_len=2001 half=22 @2000=11 T,1,1",
+         /* second store: the second place and no other */
+         "refused=2,1",
+         "sys_len=2002 ga=3000 pair @2001=22 T,1,1",
+         "transfer=SD,D000,9 ga=3000 gb=FFFFF held=15A sys_len=1 pair @0=5A T,1,1",
+         /* a byte that ends at the first store asks for the second source byte nevertheless */
+         "transfer=S,D001,9 ga=2FFE mc=0 sys_len=2FFF refused=2,1");
 }
 
 /* Pairs from and to empty slots. */
 static void test_pair_slots(void)
 {
-    const struct emu_pointer gone = {0x2000, true};
-    transfer(EMU_PSW_D, 0x8800, 9);
-    N.ga = gone;
-    now.m.io_len = 0x1000;
-    want_half(0xFF);
-    DONE_ON('T', 1, 1);
-    want_pair(-1);
-    want_sys(0x2000, "FF FF");
-    DONE_ON('T', 1, 1);
-    /* into slots: what vanishes is looked at, and counts */
-    transfer(EMU_PSW_D, 0xC801, 9);
-    N.gb = gone;
-    N.mc = 0xFF11;
-    now.m.io_len = 0x1000;
-    want_half(0x11);
-    DONE_ON('T', 1, 1);
-    want_pair(0);
-    DONE_ON('T', 1, 1);
-    transfer(EMU_PSW_S, 0x5000, 9);
-    N.gb = gone;
-    now.m.io_len = 0x1000;
-    want_half(0x22);
-    DONE_ON('T', 1, 1);
-    want_pair(-1);
-    DONE_ON('T', 1, 1);
-    /* a card that is pulled between the halves */
-    transfer(EMU_PSW_D, 0x8800, 9);
-    N.ga = gone;
-    io(0x2000, "31");
-    want_half(0x31);
-    DONE_ON('T', 1, 1);
-    now.m.io_len = 0x2000;
-    want_pair(-1);
-    want_sys(0x2000, "31 FF");
-    DONE_ON('T', 1, 1);
+    PLAY(
+         "transfer=D,8800,9 ga=2000/1 io_len=1000 half=FF T,1,1",
+         "pair @2000=FF.FF T,1,1",
+         /* into slots: what vanishes is looked at, and counts */
+         "transfer=D,C801,9 gb=2000/1 mc=FF11 io_len=1000 half=11 T,1,1",
+         "pair=0 T,1,1",
+         "transfer=S,5000,9 gb=2000/1 io_len=1000 half=22 T,1,1",
+         "pair T,1,1",
+         /* a card that is pulled between the halves */
+         "transfer=D,8800,9 ga=2000/1 #2000=31 half=31 T,1,1",
+         "io_len=2000 pair @2000=31.FF T,1,1");
 }
 
 /* How many bytes each half reads and stores: 1 and 3, or 3 and 1; and 3 for a first store that ends. */
@@ -4089,23 +2797,15 @@ static void test_pair_coverage(void)
     now.m.io_len = 0;
     now.m.sys_len = 0x2001;
     CHECK(emu_step(&now.s, &now.m, 1).number == 0 && emu_step(&now.s, &now.m, 1).number == 2);
-    now.m.sys_len = 0x2002;
-    CHECK(emu_step(&now.s, &now.m, 1).number == 0);
-    transfer(EMU_PSW_S | EMU_PSW_D, 0xD002, 9);
-    N.gb.address = 0x2001;
-    N.mc = 0xFF11;
-    N2.held = EMU_HELD;
-    CHECK(emu_step(&now.s, &now.m, 1).number == 0);
-    N.psw |= EMU_PSW_XF;
-    N.held = EMU_HELD;
-    emu_set_cc(&N, 0xC800);
-    N.ga.address = 0x1000;
-    CHECK(emu_step(&now.s, &now.m, 1).number == 0);
+    PLAY(
+         "sys_len=2002 step=1",
+         "transfer=SD,D002,9 gb=2001 mc=FF11 2.held=100 step=1",
+         "psw+XF held=100 cc=C800 ga=1000 step=1");
     N.held = EMU_HELD;
     emu_set_cc(&N, 0xF800);
     CHECK(emu_step(&now.s, &now.m, 1).number == 5);
-    block(1, 0);
-    CHECK(emu_attention(&now.s, &now.m, 1).number == 0);
+    PLAY(
+         "block=1,00 attended=1");
     emu_coverage = NULL;
     CHECK(c.half_end[EMU_FIRST_FETCH][0] == 1 && c.half_end[EMU_SECOND_FETCH][EMU_END_TS] == 1);
     CHECK(c.half_end[EMU_FIRST_STORE][EMU_END_TMC] == 1 && c.half_end[EMU_FIRST_STORE][0] == 0);
@@ -4293,45 +2993,24 @@ static void test_counts_of_attentions(void)
     CHECK(emu_attention(&now.s, &now.m, 1).number == 2 && emu_attention(&now.s, &now.m, 1).count == 0);
 }
 
-/* One step of a transfer, and how many bytes it read and stored. */
-static void transfer_counts(unsigned count, int line)
-{
-    struct emu_stepped stepped = emu_step(&now.s, &now.m, 0);
-    check(stepped.number == 0 && stepped.kind == 'T' && stepped.count == count, "a transfer step's bytes", line);
-}
-
 /* Transfer steps: one byte, one translated, two, two where a match prevents the second store; and external ends. */
 static void test_counts_of_transfers(void)
 {
     static const unsigned both = EMU_PSW_S | EMU_PSW_D;
-    transfer(0, 0xC008, 9);
-    transfer_counts(2, __LINE__);
-    transfer(0, 0xE008, 9);
-    transfer_counts(3, __LINE__);
-    transfer(both, 0xC008, 9);
-    transfer_counts(4, __LINE__);
-    transfer(both, 0xC008, 1);
-    transfer_counts(2, __LINE__);
-    /* ports that do not move on are taken twice */
-    transfer(EMU_PSW_D, 0x8008, 9);
-    transfer_counts(4, __LINE__);
-    transfer(EMU_PSW_S, 0x4008, 9);
-    transfer_counts(4, __LINE__);
-    /* the first of two single stores meets TMC, the second does, and a word's low byte does */
-    transfer(EMU_PSW_S, 0xC001, 9);
-    N.mc = 0xFF11;
-    transfer_counts(3, __LINE__);
-    transfer(EMU_PSW_S, 0xC001, 9);
-    N.mc = 0xFF22;
-    transfer_counts(4, __LINE__);
-    transfer(both, 0xC001, 9);
-    N.mc = 0xFF11;
-    transfer_counts(4, __LINE__);
-    /* from and to empty slots */
-    transfer(both, 0xC008, 9);
-    N.ga.tag = N.gb.tag = true;
-    now.m.io_len = 0;
-    transfer_counts(4, __LINE__);
+    PLAY(
+         "transfer=-,C008,9 counts=2",
+         "transfer=-,E008,9 counts=3",
+         "transfer=SD,C008,9 counts=4",
+         "transfer=SD,C008,1 counts=2",
+         /* ports that do not move on are taken twice */
+         "transfer=D,8008,9 counts=4",
+         "transfer=S,4008,9 counts=4",
+         /* the first of two single stores meets TMC, the second does, and a word's low byte does */
+         "transfer=S,C001,9 mc=FF11 counts=3",
+         "transfer=S,C001,9 mc=FF22 counts=4",
+         "transfer=SD,C001,9 mc=FF11 counts=4",
+         /* from and to empty slots */
+         "transfer=SD,C008,9 ga=/1 gb=/1 io_len=0 counts=4");
     /* refused: SYN 11, and a byte of the destination beyond what is lent */
     transfer(0, 0xD808, 9);
     CHECK(emu_step(&now.s, &now.m, 0).number == 5 && emu_step(&now.s, &now.m, 0).count == 0);
@@ -4356,13 +3035,10 @@ static void test_coverage(void)
     CHECK(emu_step(&now.s, &now.m, 0).number == 0);
     sys(0x103, "04 04");
     CHECK(emu_step(&now.s, &now.m, 0).number == 3);
-    transfer(EMU_PSW_S, 0xC09A, 9);
-    N.mc = 0xFF11;
-    CHECK(emu_step(&now.s, &now.m, 0).number == 0);
-    transfer(EMU_PSW_S, 0xC060, 9);
-    CHECK(emu_step(&now.s, &now.m, 4).number == 0);
-    block(1, 0x06);
-    CHECK(emu_attention(&now.s, &now.m, 1).number == 0);
+    PLAY(
+         "transfer=S,C09A,9 mc=FF11 step",
+         "transfer=S,C060,9 step=4",
+         "block=1,06 attended=1");
     CHECK(emu_attention(&now.s, &now.m, 1).number == 9);
     N2.cc = 0x0A00;
     CHECK(emu_attention(&now.s, &now.m, 1).number == 14);
@@ -4386,61 +3062,19 @@ static void test_coverage(void)
 
 /* ---- A sweep in one go ---- */
 
-/* Sweeps and wants it done, for so many steps and two accesses of each of n bytes. */
-static void swept(uint32_t channel, uint32_t lines, uint32_t steps, uint32_t n, int line)
-{
-    struct emu_swept answer = emu_sweep(&now.s, &now.m, channel, lines);
-    check(answer.number == 0, "sweep done", line);
-    check(answer.steps == steps && answer.count == 2 * n, "steps and bytes of a sweep", line);
-    check_all(line);
-}
-
-/* Sweeps and wants it refused, with nothing changed. */
-static void unswept(unsigned number, uint32_t channel, uint32_t lines, int line)
-{
-    want_same();
-    struct emu_swept answer = emu_sweep(&now.s, &now.m, channel, lines);
-    check(answer.number == number, "number of sweep", line);
-    check(answer.steps == 0 && answer.count == 0, "no steps, no bytes", line);
-    check_all(line);
-}
-
 #define SWEPT(steps, n) swept(1, 0, (steps), (n), __LINE__)
 #define UNSWEPT(number) unswept((number), 1, 0, __LINE__)
-
-/* Wants a sweep of n bytes that ended by this offset; the case says which bytes arrive. */
-static void want_swept(uint32_t n, unsigned end)
-{
-    want_same();
-    want.s.last = 1;
-    W.ga.address = (W.ga.address + n) & 0xFFFFF;
-    W.gb.address = (W.gb.address + n) & 0xFFFFF;
-    W.bc = 0;
-    W.psw &= (uint8_t)~EMU_PSW_XF;
-    W.tp.address = (W.tp.address + end) & 0xFFFFF;
-    W.held = EMU_NONE_HELD;
-}
 
 /* Sweeps worked out by hand. */
 static void test_sweep_worked(void)
 {
-    /* both sides 16 bits and odd in I/O space, with high bits in both pointers: a lone byte, then two words */
-    transfer(EMU_PSW_S | EMU_PSW_D, 0xC010, 5);
-    N.ga = (struct emu_pointer){0x30011, true};
-    N.gb = (struct emu_pointer){0x50021, true};
-    io(0x0011, "A1 A2 A3 A4 A5 A6");
-    want_swept(5, 4);
-    want_io(0x0021, "A1 A2 A3 A4 A5");
-    CHECK(W.ga.address == 0x30016 && W.gb.address == 0x50026 && W.tp.address == 0x104);
-    SWEPT(3, 5);
-    /* from system space by GB into I/O space by GA, bytes into words: three words and a last byte */
-    transfer(EMU_PSW_D, 0xC408, 7);
-    N.ga = (struct emu_pointer){0x0044, true};
-    N.gb = (struct emu_pointer){0x1001, false};
-    sys(0x1000, "10 11 12 13 14 15 16 17 18");
-    want_swept(7, 0);
-    want_io(0x0044, "11 12 13 14 15 16 17");
-    SWEPT(4, 7);
+    PLAY(
+         /* both sides 16 bits and odd in I/O space, with high bits in both pointers: a lone byte, then two words */
+         "transfer=SD,C010,5 ga=30011/1 gb=50021/1 #11=A1.A2.A3.A4.A5.A6 swept=5,4 #21=A1.A2.A3.A4.A5 ga?30016 "
+         "gb?50026 tp?104 sweep=3,5",
+         /* from system space by GB into I/O space by GA, bytes into words: three words and a last byte */
+         "transfer=D,C408,7 ga=44/1 gb=1001/0 @1000=10.11.12.13.14.15.16.17.18 swept=7,0 #44=11.12.13.14.15.16.17 "
+         "sweep=4,7");
     /* one byte left, for any widths and addresses */
     for (unsigned i = 0; i < 16; i++) {
         transfer(i % 4, 0xC018, 1);
@@ -4450,14 +3084,9 @@ static void test_sweep_worked(void)
         want_sys(0x2000 + i / 8, i / 4 % 2 == 0 ? "11" : "22");
         SWEPT(1, 1);
     }
-    /* TP wraps in 20 bits and keeps its tag, a pointer at the top goes to 0 */
-    transfer(0, 0xC018, 2);
-    N.tp = (struct emu_pointer){0xFFFFC, true};
-    N.gb.address = 0xFFFFE;
-    want_swept(2, 8);
-    want_sys(0xFFFFE, "11 22");
-    CHECK(W.tp.address == 0x00004 && W.gb.address == 0);
-    SWEPT(2, 2);
+    PLAY(
+         /* TP wraps in 20 bits and keeps its tag, a pointer at the top goes to 0 */
+         "transfer=-,C018,2 tp=FFFFC/1 gb=FFFFE swept=2,8 @FFFFE=11.22 tp?4 gb?0 sweep=2,2");
 }
 
 /* The paper's cases 8 to 11, and their neighbours: how many steps a sweep stands for. */
@@ -4523,11 +3152,8 @@ static void test_sweep_all(void)
     want_swept(65536, 0);
     memcpy(want.sys + 0x10001, now.sys + 1, 65536);
     SWEPT(32769, 65536);
-    transfer(both, 0xC008, 0);
-    N.ga.address = 0x00001;
-    N.gb.address = 0x10001;
-    now.m.sys_len = 0x20000;
-    UNSWEPT(15);
+    PLAY(
+         "transfer=SD,C008,0 ga=1 gb=10001 sys_len=20000 unswept=15");
 }
 
 /* What a sweep leaves alone: marks, other bits of the PSW, other registers, the other channel; and what it does not ask. */
@@ -4556,19 +3182,10 @@ static void test_sweep_keeps(void)
         /* with XF clear there is no second one */
         unswept(15, 1, lines, __LINE__);
     }
-    /* without TB, and by channel 2, whose turn it was */
-    transfer(0, 0xC008, 3);
-    N2 = N;
-    N2.psw = EMU_PSW_XF;
-    N.mode = EMU_SUSPENDED;
-    now.s.last = 2;
-    want_same();
-    W2.ga.address += 3;
-    W2.gb.address += 3;
-    W2.bc = 0;
-    W2.psw = 0;
-    want_sys(0x2000, "11 22 33");
-    swept(2, 3, 3, 3, __LINE__);
+    PLAY(
+         /* without TB, and by channel 2, whose turn it was */
+         "transfer=-,C008,3 twins 2.psw=XF mode=suspended last=2 want 2.ga+3 2.gb+3 2.bc=0 2.psw=- @2000=11.22.33 "
+         "sweep=3,3,2,3");
 }
 
 /* Each condition by itself: met, it is swept; failed, it is 15. */
@@ -4602,9 +3219,8 @@ static void test_sweep_bars(void)
     }
     CHECK(wrong == 0);
     CHECK(done_ones == 3 * 2 * 8);
-    transfer(0, 0xC008, 4);
-    N.psw = 0xFF & ~EMU_PSW_XF;
-    UNSWEPT(15);
+    PLAY(
+         "transfer=-,C008,4 psw=P,LL,IS,IC,TB,S,D unswept=15");
 }
 
 /* The fields decide where CC and they agree, and bit 9 of CC is in none. */
@@ -4667,36 +3283,20 @@ static void test_sweep_ranges(void)
 /* 12, 11, 10, 13, 14, 15, in this order. */
 static void test_sweep_order(void)
 {
-    transfer(0, 0xC008, 4);
-    N.psw = 0;
-    N2.cc ^= 1;
-    now.s.powered = false;
-    N2.gc.address = 0x100000;
-    now.m.io_len = EMU_IO_LIMIT + 1;
-    unswept(12, 0, 0, __LINE__);
-    unswept(12, 3, 16, __LINE__);
-    unswept(12, 0xFFFFFFFF, 0, __LINE__);
-    unswept(12, 1, 16, __LINE__);
-    unswept(12, 2, 0xFFFFFFFF, __LINE__);
-    UNSWEPT(11);
-    now.m.io_len = EMU_IO_LIMIT;
-    now.m.sys_len = MIB + 1;
-    unswept(11, 2, 15, __LINE__);
-    now.m.sys_len = MIB;
-    UNSWEPT(10);
-    N2.gc.address = 0;
-    now.s.cp = 0x100000;
-    UNSWEPT(10);
-    now.s.cp = 0;
-    UNSWEPT(13);
-    now.s.powered = true;
-    UNSWEPT(14);
-    N2.cc ^= 1;
-    UNSWEPT(15);
-    N.psw = EMU_PSW_XF;
-    want_swept(4, 0);
-    want_sys(0x2000, "11 22 33 44");
-    SWEPT(4, 4);
+    PLAY(
+         "transfer=-,C008,4 psw=- 2.cc-bit=0 powered=0 2.gc=100000 io_len=10001 unswept=12,0,0",
+         "unswept=12,3,10",
+         "unswept=12,FFFFFFFF,0",
+         "unswept=12,1,10",
+         "unswept=12,2,FFFFFFFF",
+         "unswept=11",
+         "io_len=10000 sys_len=100001 unswept=11,2,F",
+         "sys_len=100000 unswept=10",
+         "2.gc=0 cp=100000 unswept=10",
+         "cp=0 unswept=13",
+         "powered=1 unswept=14",
+         "2.cc-bit=0 unswept=15",
+         "psw=XF swept=4,0 @2000=11.22.33.44 sweep=4,4");
 }
 
 /* Sweeps beside the plain steps of the emulator, over widths, addresses, spaces and counts. */
@@ -5184,7 +3784,8 @@ static void test_processors_shared(void)
     N.mode = EMU_IDLE;
     sys(0x40, "03 00 00 05 00 00");
     sys(0x500, "00 06 00 00");
-    sys(0x600, "1A 97 08 55 10"); /* TSL [PP].8,55H,+10H */
+    /* TSL [PP].8,55H,+10H */
+    sys(0x600, "1A 97 08 55 10");
     sys(0x508, "00");
     put_on_board();
     CHECK(emu_attention_of(&two, 1, 1).number == EMU_DONE && now.sys[0x41] == 0xFF);
