@@ -145,7 +145,7 @@ module _ (m n : Buffers) where
   -- ---- what may be touched of them
 
   module _ (same : SameLengths m n) where
-    touchable-same : (ps : List Place) → allTouchable n ps ≡ allTouchable m ps
+    pub touchable-same : (ps : List Place) → allTouchable n ps ≡ allTouchable m ps
     unfolding allPass touchableAt lentAt
     touchable-same [] = refl
     touchable-same (p ∷ ps) = ap₂ _&&_ (ap (λ (l : ℕ). p .tag || ltb (indexOf (p .tag) (p .address)) l) (same (p .tag))) (touchable-same ps)

@@ -110,20 +110,27 @@ two-places true ws = refl
 two-places false ws = refl
 
 -- what an order reads, in some mode of its channel
-readIn : Order → Mode → List Place
+unfoldable pub readIn : Order → Mode → List Place
 readIn o mode = span false (o .block) 1 ++ pick (eqb (commandNumber (o .command) mode) 0) (readBy (o .command) (o .block) (o .pb)) []
+
+-- the places that it stores to
+unfoldable pub writtenIn : Order → Mode → List Place
+writtenIn o mode = pick (eqb (commandNumber (o .command) mode) 0) (storedBy (o .command) (o .block) (o .pb)) []
 
 -- what it stores
 storedIn : Order → Channel → List Store
 storedIn o c = pick (eqb (commandNumber (o .command) (c .mode)) 0) (commandStores (o .command) (o .block) (o .pb) c) []
 
-read-and-stored : (o : Order) (c : Channel) → touchedByOrder o (c .mode) ≡ readIn o (c .mode) ++ storePlaces (storedIn o c)
-unfolding touchedByOrder stagesTouched orderStages others readIn storedIn
-read-and-stored o c =
+read-and-stored : (o : Order) (mode : Mode) → touchedByOrder o mode ≡ readIn o mode ++ writtenIn o mode
+unfolding touchedByOrder stagesTouched orderStages others readIn writtenIn
+read-and-stored o mode =
+    two-split (span false (o .block) 1) (readBy (o .command) (o .block) (o .pb)) (storedBy (o .command) (o .block) (o .pb)) (eqb (commandNumber (o .command) mode) 0)
+
+stored-places : (o : Order) (c : Channel) → storePlaces (storedIn o c) ≡ writtenIn o (c .mode)
+unfolding storedIn writtenIn
+stored-places o c =
     let x = eqb (commandNumber (o .command) (c .mode)) 0 in
-    two-split (span false (o .block) 1) (readBy (o .command) (o .block) (o .pb)) (storedBy (o .command) (o .block) (o .pb)) x
-    ∙ ap (λ (ps : List Place). readIn o (c .mode) ++ ps)
-    (ap (λ (ps : List Place). pick x ps []) (sym (command-places (o .command) (o .block) (o .pb) c)) ∙ sym (two-places x (commandStores (o .command) (o .block) (o .pb) c)))
+    two-places x (commandStores (o .command) (o .block) (o .pb) c) ∙ ap (λ (ps : List Place). pick x ps []) (command-places (o .command) (o .block) (o .pb) c)
 
 -- a refused command is refused after CCW, wherever PB lies
 refused-list : (o : Order) (mode : Mode) → eqb (commandNumber (o .command) mode) 0 ≡ false → touchedByOrder o mode ≡ span false (o .block) 1 ++ []
@@ -148,7 +155,7 @@ module _ (s : State) (channel : ℕ) (m : Buffers) where
     unfolding readIn span ccwOf orderTo orderOf
     ccw-same = h .0
 
-    command-same : (order n) .command ≡ (order m) .command
+    pub command-same : (order n) .command ≡ (order m) .command
     unfolding orderTo orderOf
     command-same = ap commandOf ccw-same
 
@@ -157,7 +164,7 @@ module _ (s : State) (channel : ℕ) (m : Buffers) where
     read-after e = rw e at (agree-right m n (span false ((order m) .block) 1) (pick (eqb (commandNumber ((order m) .command) (c .mode)) 0) (readBy ((order m) .command) ((order m) .block) ((order m) .pb)) []) h)
 
     -- an accepted command's order is the same
-    order-same : eqb (commandNumber ((order m) .command) (c .mode)) 0 ≡ true → order n ≡ order m
+    pub order-same : eqb (commandNumber ((order m) .command) (c .mode)) 0 ≡ true → order n ≡ order m
     unfolding orderTo orderOf
     order-same e =
         let block = blockOf s (isSecond channel) in
@@ -166,11 +173,11 @@ module _ (s : State) (channel : ℕ) (m : Buffers) where
         (pb-same m n ((order m) .command) ((order m) .block) ((order m) .pb) (c .pp) (read-after e))
 
     -- a refused one's is of the same block and command
-    block-same : (order n) .block ≡ (order m) .block
+    pub block-same : (order n) .block ≡ (order m) .block
     unfolding orderTo orderOf
     block-same = refl
 
-    refused-same : eqb (commandNumber ((order m) .command) (c .mode)) 0 ≡ false → eqb (commandNumber ((order n) .command) (c .mode)) 0 ≡ false
+    pub refused-same : eqb (commandNumber ((order m) .command) (c .mode)) 0 ≡ false → eqb (commandNumber ((order n) .command) (c .mode)) 0 ≡ false
     refused-same e = ap (λ (k : Command). eqb (commandNumber k (c .mode)) 0) command-same ∙ e
 
     -- so list and number are the same
@@ -259,14 +266,13 @@ module _ (s : State) (channel : ℕ) (m : Buffers) where
       go true e = rw (command-passed e) (memory-same n l h (command-passed e))
       go false e = refl
 
-  attention-traced : Traced (λ n. touchedByAttention s n channel) (λ n. callAnswer (attentionOf s n channel)) (λ n. attentionOf s n channel .memory) m
+  pub attention-traced : Traced (readIn (order m) (c .mode)) (writtenIn (order m) (c .mode)) (eqb (attentionNumber s m channel) 0) (λ n. touchedByAttention s n channel) (λ n. callAnswer (attentionOf s n channel)) (λ n. attentionOf s n channel .memory) m
   unfolding touchedByAttention
   attention-traced =
       record {
-        reads = readIn (order m) (c .mode);
         stores = storedIn (order m) c;
-        done = eqb (attentionNumber s m channel) 0;
-        split = read-and-stored (order m) c;
+        placed = stored-places (order m) c;
+        split = read-and-stored (order m) (c .mode);
         same = λ n l h. record { list = list-same n l h; told = told-same n l h; left = left-same n l h };
       }
 

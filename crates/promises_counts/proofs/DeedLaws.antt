@@ -48,7 +48,7 @@ module _ (m n : Buffers) (c : Channel) (tp : Pointer) (k : ℕ) (later : AgreeOn
   -- ---- the instruction's own bytes
 
   -- its offset byte
-  offset-same : (o : Memory) → offsetLength o ≤ k → effective n c o tp ≡ effective m c o tp
+  pub offset-same : (o : Memory) → offsetLength o ≤ k → effective n c o tp ≡ effective m c o tp
   offset-same o fits = effective-same m n c o tp (agree-first m n (onward tp 2) k (offsetLength o) fits later)
 
   -- what follows the offset byte
@@ -121,7 +121,7 @@ module _ (m n : Buffers) (c : Channel) (tp : Pointer) (k : ℕ) (later : AgreeOn
   bit on b o fits reads = rw (offset-same o fits, byte-same m n (effective m c o tp) 1 (lit< tt) reads)
 
   -- MOV M,M: its second pair, then the offset byte of that and the operand
-  second-same : (o : Memory) → offsetLength o + 2 ≤ k → secondAt n tp o ≡ secondAt m tp o
+  pub second-same : (o : Memory) → offsetLength o + 2 ≤ k → secondAt n tp o ≡ secondAt m tp o
   unfolding secondAt
   second-same o fits =
       let pair = after-same o 2 fits in

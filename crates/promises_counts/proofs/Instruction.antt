@@ -160,8 +160,12 @@ three-places false y ws = refl
 
 module _ (c : Channel) (busy : ℕ) (m : Buffers) where
   -- what an instruction reads, d being what its first two bytes are
-  readIn : Decoded → List Place
+  unfoldable pub readIn : Decoded → List Place
   readIn d = bytesAt (c .tp) 2 ++ pick (eqb (numberOf d) 0) (laterFrom d c ++ pick (eqb ((deedFrom d m c busy) .second) 0) ((deedFrom d m c busy) .reads) []) []
+
+  -- the places that it stores to
+  unfoldable pub writtenIn : Decoded → List Place
+  writtenIn d = pick (eqb (numberOf d) 0) (pick (eqb ((deedFrom d m c busy) .second) 0) (placesOf ((deedFrom d m c busy) .change)) []) []
 
   -- what it stores
   storedIn : Decoded → List Store
@@ -173,20 +177,24 @@ module _ (c : Channel) (busy : ℕ) (m : Buffers) where
   change-most NoInstruction = omega arith
   change-most ControlUsed = omega arith
 
-  read-and-stored : (d : Decoded) → stagesTouched (stagesFrom d m c busy) ≡ readIn d ++ storePlaces (storedIn d)
-  unfolding stagesTouched stagesFrom readIn storedIn
+  read-and-stored : (d : Decoded) → stagesTouched (stagesFrom d m c busy) ≡ readIn d ++ writtenIn d
+  unfolding stagesTouched stagesFrom readIn writtenIn
   read-and-stored d =
+      let done = deedFrom d m c busy in
+      three-split (bytesAt (c .tp) 2) (laterFrom d c) (done .reads) (placesOf (done .change)) (eqb (numberOf d) 0) (eqb (done .second) 0)
+
+  stored-places : (d : Decoded) → storePlaces (storedIn d) ≡ writtenIn d
+  unfolding storedIn writtenIn
+  stored-places d =
       let done = deedFrom d m c busy in
       let x = eqb (numberOf d) 0 in
       let y = eqb (done .second) 0 in
-      three-split (bytesAt (c .tp) 2) (laterFrom d c) (done .reads) (placesOf (done .change)) x y
-      ∙ ap (λ (ps : List Place). readIn d ++ ps)
-      (ap (λ (ps : List Place). pick x (pick y ps []) []) (sym (change-places (done .change) (change-most d))) ∙ sym (three-places x y (changeStores (done .change))))
+      three-places x y (changeStores (done .change)) ∙ ap (λ (ps : List Place). pick x (pick y ps []) []) (change-places (done .change) (change-most d))
 
   -- ---- in other memories
 
   module _ (n : Buffers) where
-    decoded-same : AgreeOn (bytesAt (c .tp) 2) m n → decodedAt n (c .tp) ≡ decodedAt m (c .tp)
+    pub decoded-same : AgreeOn (bytesAt (c .tp) 2) m n → decodedAt n (c .tp) ≡ decodedAt m (c .tp)
     unfolding decodedAt
     decoded-same h = ap₂ decodeOf (byte-same m n (c .tp) 2 (lit< tt) h) (byte-on m n (c .tp) 2 1 (lit< tt) h)
 
@@ -202,7 +210,7 @@ module _ (c : Channel) (busy : ℕ) (m : Buffers) where
     deed-same ControlUsed h = refl
 
     module _ (h : AgreeOn (readIn (decodedAt m (c .tp))) m n) where
-      pair-same : decodedAt n (c .tp) ≡ decodedAt m (c .tp)
+      pub pair-same : decodedAt n (c .tp) ≡ decodedAt m (c .tp)
       unfolding readIn
       pair-same =
           let d = decodedAt m (c .tp) in
@@ -210,10 +218,10 @@ module _ (c : Channel) (busy : ℕ) (m : Buffers) where
           (agree-left m n (bytesAt (c .tp) 2)
           (pick (eqb (numberOf d) 0) (laterFrom d c ++ pick (eqb ((deedFrom d m c busy) .second) 0) ((deedFrom d m c busy) .reads) []) []) h)
 
-      done-same : deedFrom (decodedAt n (c .tp)) n c busy ≡ deedFrom (decodedAt m (c .tp)) m c busy
+      pub done-same : deedFrom (decodedAt n (c .tp)) n c busy ≡ deedFrom (decodedAt m (c .tp)) m c busy
       done-same = ap (λ (d : Decoded). deedFrom d n c busy) pair-same ∙ deed-same (decodedAt m (c .tp)) h
 
-      stages-same : instructionStages n c busy ≡ instructionStages m c busy
+      pub stages-same : instructionStages n c busy ≡ instructionStages m c busy
       unfolding instructionStages stagesFrom
       stages-same =
           ap₂ (λ (d : Decoded) (e : Deed). stage (bytesAt (c .tp) 2) (numberOf d) ∷ stage (laterFrom d c) (e .second) ∷ stage (e .reads ++ placesOf (e .change)) 0 ∷ [])
@@ -263,13 +271,12 @@ module _ (c : Channel) (busy : ℕ) (m : Buffers) where
         left = ap₂ (λ (x : ℕ) (y : Deed). settledAs x y n .memory) (instruction-number n h l) (done-same n h) ∙ left-same n (eqb k 0) refl;
       }
 
-  pub instruction-traced : Traced (λ n. touchedByInstruction n c busy) (λ n. instructionAnswer (executeOf c busy n)) (λ n. executeOf c busy n .memory) m
+  pub instruction-traced : Traced (readIn (decodedAt m (c .tp))) (writtenIn (decodedAt m (c .tp))) (eqb (executeNumber m c busy) 0) (λ n. touchedByInstruction n c busy) (λ n. instructionAnswer (executeOf c busy n)) (λ n. executeOf c busy n .memory) m
   unfolding touchedByInstruction instructionStages
   instruction-traced =
       record {
-        reads = readIn (decodedAt m (c .tp));
         stores = storedIn (decodedAt m (c .tp));
-        done = eqb (executeNumber m c busy) 0;
+        placed = stored-places (decodedAt m (c .tp));
         split = read-and-stored (decodedAt m (c .tp));
         same = same;
       }

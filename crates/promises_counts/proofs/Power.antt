@@ -23,15 +23,15 @@ use Rattle.promises_counts.proofs.AgreeLaws.{agree-left, agree-right, d
 use Rattle.promises_counts.proofs.TraceLaws.{Traced, complete, settled-told, settled-left, storesAt}
 
 -- what it reads: SYSBUS, the configuration block's pointer, SOC, the control block's pointer
-readIn : Buffers → List Place
+unfoldable pub readIn : Buffers → List Place
 readIn m = span false sysbusPlace 1 ++ (span false configurationPlace 4 ++ (span false (configurationOf m) 1 ++ span false (controlPlace m) 4))
 
 -- what it stores: BUSY of channel 1
 busyStored : Buffers → List Store
 busyStored m = storesAt false (busyIn (controlOf m)) (0 ∷ [])
 
-read-and-stored : (m : Buffers) → touchedByPower m ≡ readIn m ++ storePlaces (busyStored m)
-unfolding touchedByPower powerStages stagesTouched powerPlaces span readIn busyStored storePlaces storesAt
+read-and-stored : (m : Buffers) → touchedByPower m ≡ readIn m ++ span false (busyIn (controlOf m)) 1
+unfolding touchedByPower powerStages stagesTouched powerPlaces span readIn
 read-and-stored m = refl
 
 module _ (m n : Buffers) (l : SameLengths m n) (h : AgreeOn (readIn m) m n) where
@@ -56,7 +56,7 @@ module _ (m n : Buffers) (l : SameLengths m n) (h : AgreeOn (readIn m) m n) wher
   unfolding configurationOf
   configuration-same = doubleword-same m n false configurationPlace (agree-left m n (span false configurationPlace 4) _ after-sysbus)
 
-  control-same : controlOf n ≡ controlOf m
+  pub control-same : controlOf n ≡ controlOf m
   unfolding controlOf
   control-same =
       ap (λ (a : ℕ). doublewordAt n false (sum20 a 2)) configuration-same
@@ -68,7 +68,7 @@ module _ (m n : Buffers) (l : SameLengths m n) (h : AgreeOn (readIn m) m n) wher
       ap (λ (a : ℕ). boardWith true (bitOf (byteAt n false sysbusPlace) 0) (bitOf (byteAt n false a) 0) (bitOf (byteAt n false a) 1)) configuration-same
       ∙ ap₂ (λ (x y : ℕ). boardWith true (bitOf x 0) (bitOf y 0) (bitOf y 1)) at-sysbus at-soc
 
-  places-same : powerPlaces n ≡ powerPlaces m
+  pub places-same : powerPlaces n ≡ powerPlaces m
   unfolding powerPlaces
   places-same =
       ap₂ (λ (a b : ℕ). span false sysbusPlace 1 ++ (span false configurationPlace 4 ++ (span false a 1 ++ (span false (sum20 a 2) 4 ++ span false (busyIn b) 1)))) configuration-same control-same
@@ -88,13 +88,12 @@ module _ (m n : Buffers) (l : SameLengths m n) (h : AgreeOn (readIn m) m n) wher
   left-same = ap (λ (a : ℕ). storeByte n false (busyIn a) 0) control-same
 
 module _ (s : State) (m : Buffers) where
-  power-traced : Traced touchedByPower (λ n. callAnswer (powerUpOf s n)) (λ n. powerUpOf s n .memory) m
-  unfolding touchedByPower powerStages powerUpOf storesMade
+  pub power-traced : Traced (readIn m) (span false (busyIn (controlOf m)) 1) (eqb (powerNumber m) 0) touchedByPower (λ n. callAnswer (powerUpOf s n)) (λ n. powerUpOf s n .memory) m
+  unfolding touchedByPower powerStages powerUpOf storesMade busyStored storePlaces storesAt span
   power-traced =
       record {
-        reads = readIn m;
         stores = busyStored m;
-        done = eqb (powerNumber m) 0;
+        placed = refl;
         split = read-and-stored m;
         same = λ n l h.
             record {

@@ -27,32 +27,32 @@ pub record SameIn {A : Type 0} (touched : Buffers → List Place) (answer : Buff
   pub told : answer n ≡ answer m
   pub left : after n ≡ storesMade n made
 
--- a call traced: what it reads, what it stores if it is done, and whether it is
-pub record Traced {A : Type 0} (touched : Buffers → List Place) (answer : Buffers → A) (after : Buffers → Buffers) (m : Buffers) : Type 0 where
-  pub reads : List Place
+-- a call traced by the places that it reads, those that it stores to if it is done, and whether it is
+pub record Traced {A : Type 0} (reads stored : List Place) (done : Bool) (touched : Buffers → List Place) (answer : Buffers → A) (after : Buffers → Buffers) (m : Buffers) : Type 0 where
   pub stores : List Store
-  pub done : Bool
-  pub split : touched m ≡ reads ++ storePlaces stores
+  pub placed : storePlaces stores ≡ stored
+  pub split : touched m ≡ reads ++ stored
   pub same : (n : Buffers) → SameLengths m n → AgreeOn reads m n → SameIn touched answer after m (pick done stores []) n
 
 -- a traced call's list is complete; what a refused one would have stored to is looked at like what it reads
-pub complete : {A : Type 0} {touched : Buffers → List Place} {answer : Buffers → A} {after : Buffers → Buffers} {m : Buffers} → Traced touched answer after m → Complete touched answer after m
+pub complete : {A : Type 0} {reads stored : List Place} {done : Bool} {touched : Buffers → List Place} {answer : Buffers → A} {after : Buffers → Buffers} {m : Buffers}
+    → Traced reads stored done touched answer after m → Complete touched answer after m
 unfolding storePlaces
-complete {A} {touched} {answer} {after} {m} t = go (t .done) (t .same)
+complete {A} {reads} {stored} {done} {touched} {answer} {after} {m} t = go done (t .same)
   where
-    go : (b : Bool) → ((n : Buffers) → SameLengths m n → AgreeOn (t .reads) m n → SameIn touched answer after m (pick b (t .stores) []) n) → Complete touched answer after m
+    go : (b : Bool) → ((n : Buffers) → SameLengths m n → AgreeOn reads m n → SameIn touched answer after m (pick b (t .stores) []) n) → Complete touched answer after m
     go true f =
         record {
-          reads = t .reads;
+          reads = reads;
           stores = t .stores;
-          listed = t .split;
+          listed = t .split ∙ ap (λ (ps : List Place). reads ++ ps) (sym (t .placed));
           sameList = λ n l h. f n l h .list;
           sameAnswer = λ n l h. f n l h .told;
           sameStores = λ n l h. f n l h .left;
         }
     go false f =
-        let read : (n : Buffers) → AgreeOn (touched m) m n → AgreeOn (t .reads) m n =
-        λ n h. agree-left m n (t .reads) (storePlaces (t .stores)) (subst (λ (ps : List Place). AgreeOn ps m n) (t .split) h) in
+        let read : (n : Buffers) → AgreeOn (touched m) m n → AgreeOn reads m n =
+        λ n h. agree-left m n reads stored (subst (λ (ps : List Place). AgreeOn ps m n) (t .split) h) in
         record {
           reads = touched m;
           stores = [];

@@ -21,7 +21,9 @@ use Rattle.transfer_rules.proofs.PartLaws.{second-fetch-apart, first-store-apar
 use Rattle.transfer_rules.proofs.StepLaws.{chain-by, outcome-5, two-plain}
 use Rattle.transfer_rules.specs.Halves.{firstPlace, secondPlace, wordWith}
 use Rattle.transfer_rules.specs.Parts.{Part, Whole, FirstFetch, SecondFetch, FirstStore, SecondStore, partOf}
-use Rattle.transfer_rules.specs.Steps.{Transfer, transferred, touchedBy, channelBy, memoryBy, badMode, stagesBy, numberBy, stepBy, touchedByTransfer, transferOf}
+use Rattle.schedule_rules.proofs.StoreLaws.{touched-apart}
+use Rattle.schedule_rules.specs.Counts.{storesBy}
+use Rattle.transfer_rules.specs.Steps.{Transfer, transferred, touchedBy, readsBy, channelBy, memoryBy, badMode, stagesBy, numberBy, stepBy, touchedByTransfer, transferNumber, transferOf}
 use Rattle.transfer_rules.specs.Stores.{firstMeets, storesTwo, movedChannel, putOn, movedMemory, placesOn, storedPlaces}
 use Rattle.promises_counts.specs.Complete.{SameLengths, AgreeOn}
 use Rattle.promises_counts.specs.Lists.{transferAnswer, TransferComplete}
@@ -63,7 +65,7 @@ module _ (c : Channel) (m n : Buffers) where
     unfolding fetched readPlaces
     fetched-same = h .0
 
-    entry-same : entryOf c n ≡ entryOf c m
+    pub entry-same : entryOf c n ≡ entryOf c m
     unfolding entryOf
     entry-same = ap (sum20 (c .gc .address)) fetched-same
 
@@ -90,7 +92,7 @@ module _ (c : Channel) (m n : Buffers) where
         go true k = k .0
         go false k = refl
 
-    data-same : dataOf c n ≡ dataOf c m
+    pub data-same : dataOf c n ≡ dataOf c m
     unfolding dataOf
     data-same = ap₂ (λ (a b : ℕ). record { first = a; second = b }) delivered-same second-same
 
@@ -104,7 +106,7 @@ module _ (c : Channel) (m n : Buffers) where
         ++ storedPlaces c d) entry-same data-same
 
   -- the two bytes that a step without translation reads
-  two-read : twoMove c ≡ true → c .fields .translates ≡ false → AgreeOn (firstPlace (source c) ∷ secondPlace (source c) ∷ []) m n → AgreeOn (readPlaces c m) m n
+  pub two-read : twoMove c ≡ true → c .fields .translates ≡ false → AgreeOn (firstPlace (source c) ∷ secondPlace (source c) ∷ []) m n → AgreeOn (readPlaces c m) m n
   unfolding readPlaces also
   two-read two plain h = go (twoMove c) (c .fields .translates) two plain
     where
@@ -116,14 +118,13 @@ module _ (c : Channel) (m n : Buffers) where
 -- ---- a step of a part
 
 module _ (c : Channel) (m : Buffers) where
-  -- what a part reads and stores, and that nothing else matters to it
+  -- what a part stores, and that nothing but what it reads matters to it
   record Parted (k : Part) : Type 0 where
-    reads : List Place
     stores : List Store
-    split : touchedBy k c m ≡ reads ++ storePlaces stores
-    list : (n : Buffers) → AgreeOn reads m n → touchedBy k c n ≡ touchedBy k c m
-    channel : badMode c ≡ false → (n : Buffers) → AgreeOn reads m n → channelBy k c n ≡ channelBy k c m
-    memory : badMode c ≡ false → (n : Buffers) → AgreeOn reads m n → memoryBy k c n ≡ storesMade n stores
+    placed : storePlaces stores ≡ storesBy k c m
+    list : (n : Buffers) → AgreeOn (readsBy k c m) m n → touchedBy k c n ≡ touchedBy k c m
+    channel : badMode c ≡ false → (n : Buffers) → AgreeOn (readsBy k c m) m n → channelBy k c n ≡ channelBy k c m
+    memory : badMode c ≡ false → (n : Buffers) → AgreeOn (readsBy k c m) m n → memoryBy k c n ≡ storesMade n stores
 
   told-same : (b : Bool) (x : ℕ) (y : Channel) (a a′ n n′ : Buffers)
       → transferAnswer (pick b (transferred 0 y a) (transferred x c n)) ≡ transferAnswer (pick b (transferred 0 y a′) (transferred x c n′))
@@ -137,7 +138,7 @@ module _ (c : Channel) (m : Buffers) where
   left-same false x y a n ws e = refl
 
   module _ (k : Part) (p : Parted k) where
-    number-is : (n : Buffers) → SameLengths m n → AgreeOn (p .reads) m n → numberBy k c n ≡ numberBy k c m
+    number-is : (n : Buffers) → SameLengths m n → AgreeOn (readsBy k c m) m n → numberBy k c n ≡ numberBy k c m
     unfolding numberBy stagesBy
     number-is n l h =
         number-same m n l (stagesBy k c n)
@@ -151,7 +152,7 @@ module _ (c : Channel) (m : Buffers) where
     abbrev Same : Buffers → Type 0
     Same n = SameIn (touchedBy k c) (λ n. transferAnswer (stepBy k c n)) (λ n. stepBy k c n .memory) m (pick (eqb (numberBy k c m) 0) (p .stores) []) n
 
-    same-in : (b : Bool) → badMode c ≡ b → (n : Buffers) → SameLengths m n → AgreeOn (p .reads) m n → Same n
+    same-in : (b : Bool) → badMode c ≡ b → (n : Buffers) → SameLengths m n → AgreeOn (readsBy k c m) m n → Same n
     unfolding stepBy storesMade
     same-in true e n l h =
         record {
@@ -169,17 +170,16 @@ module _ (c : Channel) (m : Buffers) where
               ∙ left-same (eqb x 0) x (channelBy k c n) (memoryBy k c n) n (p .stores) (p .memory e n h);
         }
 
-    part-traced : Traced (touchedBy k c) (λ n. transferAnswer (stepBy k c n)) (λ n. stepBy k c n .memory) m
-    part-traced = record { reads = p .reads; stores = p .stores; done = eqb (numberBy k c m) 0; split = p .split; same = same-in (badMode c) refl }
+    part-traced : Traced (readsBy k c m) (storesBy k c m) (eqb (numberBy k c m) 0) (touchedBy k c) (λ n. transferAnswer (stepBy k c n)) (λ n. stepBy k c n .memory) m
+    part-traced = record { stores = p .stores; placed = p .placed; split = touched-apart k c m; same = same-in (badMode c) refl }
 
   -- ---- each part
 
   whole : Parted Whole
-  unfolding touchedBy storedPlaces channelBy memoryBy movedMemory
+  unfolding touchedBy readsBy storesBy storedPlaces channelBy memoryBy movedMemory
   whole = record {
-    reads = readPlaces c m;
     stores = storesOf c m (storesTwo c (dataOf c m));
-    split = ap (λ (ps : List Place). readPlaces c m ++ ps) (sym (places-of c m (storesTwo c (dataOf c m))));
+    placed = places-of c m (storesTwo c (dataOf c m));
     list = λ n h. touched-same c m n h;
     channel = λ good n h. ap (movedChannel c) (data-same c m n h);
     memory = λ good n h. ap (λ d. putOn (destination c) (storesTwo c d) d n) (data-same c m n h) ∙ made-of c m (storesTwo c (dataOf c m)) n;
@@ -191,22 +191,20 @@ module _ (c : Channel) (m : Buffers) where
   second-again n e = ap (λ (v : ℕ). pick (twoMove c) v 0) e
 
   first-fetch : Parted FirstFetch
-  unfolding touchedBy channelBy memoryBy storePlaces storesMade fetched
+  unfolding touchedBy readsBy storesBy channelBy memoryBy storePlaces storesMade fetched
   first-fetch = record {
-    reads = firstPlace (source c) ∷ [];
     stores = [];
-    split = refl;
+    placed = refl;
     list = λ n h. refl;
     channel = λ good n h. ap (λ (v : ℕ). holding c (Byte v)) (h .0);
     memory = λ good n h. refl;
   }
 
   second-fetch : (byte : ℕ) → partOf c ≡ SecondFetch byte → Parted (SecondFetch byte)
-  unfolding touchedBy channelBy memoryBy placesOn also storePlaces storesMade movedMemory putOn wordWith
+  unfolding touchedBy readsBy storesBy channelBy memoryBy placesOn also storePlaces storesMade movedMemory putOn wordWith
   second-fetch byte e = record {
-    reads = secondPlace (source c) ∷ [];
     stores = record { place = firstPlace (destination c); value = byte } ∷ record { place = secondPlace (destination c); value = fetchedSecond c m } ∷ [];
-    split = refl;
+    placed = refl;
     list = λ n h. refl;
     channel = λ good n h. ap (λ (v : ℕ). movedChannel c (record { first = byte; second = v })) (second-again n (h .0));
     memory = λ good n h.
@@ -215,11 +213,10 @@ module _ (c : Channel) (m : Buffers) where
   }
 
   first-store : partOf c ≡ FirstStore → Parted FirstStore
-  unfolding touchedBy channelBy memoryBy storePlaces storesMade
+  unfolding touchedBy readsBy storesBy channelBy memoryBy storePlaces storesMade
   first-store e = record {
-    reads = firstPlace (source c) ∷ secondPlace (source c) ∷ [];
     stores = record { place = firstPlace (destination c); value = (dataOf c m) .first } ∷ [];
-    split = refl;
+    placed = refl;
     list = λ n h. refl;
     channel = λ good n h. ap₂ (λ d (v : ℕ). pick (firstMeets c d) (movedChannel c d) (holding c (Byte v))) (same good n h) (second-again n (h .1 .0));
     memory = λ good n h. ap (λ d. storeByte n ((destination c) .pointer .tag) ((destination c) .pointer .address) (d .first)) (same good n h);
@@ -232,11 +229,10 @@ module _ (c : Channel) (m : Buffers) where
       same good n h = data-same c m n (two-read c m n two (two-plain c good two) h)
 
   second-store : (byte : ℕ) → Parted (SecondStore byte)
-  unfolding touchedBy channelBy memoryBy storePlaces storesMade
+  unfolding touchedBy readsBy storesBy channelBy memoryBy storePlaces storesMade
   second-store byte = record {
-    reads = [];
     stores = record { place = secondPlace (destination c); value = byte } ∷ [];
-    split = refl;
+    placed = refl;
     list = λ n h. refl;
     channel = λ good n h. refl;
     memory = λ good n h. refl;
@@ -251,8 +247,8 @@ module _ (c : Channel) (m : Buffers) where
 
   -- ---- the step
 
-  pub transfer-traced : Traced (touchedByTransfer c) (λ n. transferAnswer (transferOf c n)) (λ n. transferOf c n .memory) m
-  unfolding touchedByTransfer transferOf
+  pub transfer-traced : Traced (readsBy (partOf c) c m) (storesBy (partOf c) c m) (eqb (transferNumber c m) 0) (touchedByTransfer c) (λ n. transferAnswer (transferOf c n)) (λ n. transferOf c n .memory) m
+  unfolding touchedByTransfer transferOf transferNumber
   transfer-traced = part-traced (partOf c) (parted (partOf c) refl)
 
   -- its list is complete

@@ -1,0 +1,4 @@
+pub mod ToldLaws
+pub mod TouchesLaws
+pub mod PackLaws
+pub mod TellingLaws

@@ -1,0 +1,3 @@
+pub mod Told
+pub mod Touches
+pub mod TouchCalls
