@@ -197,7 +197,7 @@ $(BUILD)/%.sums: always
 INSTALLED = $(HEADERS) $(ARCHIVES) $(SHARED) $(SHARED_SERVICE) include/iop89.pc.in include/iop89_service.pc.in \
 	$(BUILD)/iop89 $(BUILD)/iop89.1 $(BUILD)/iop89.bash
 
-install: option-prefix $(INSTALLED)
+install: option-prefix proved-archives $(INSTALLED)
 	@tools/install put $(INSTALLED)
 
 # Takes away what install put there, and nothing else.
@@ -439,7 +439,7 @@ X86_READLINE ?= $(shell echo 'int main(void) { return 0; }' | \
 
 .PHONY: tool check-tool
 
-tool: $(BUILD)/iop89
+tool: proved-archives $(BUILD)/iop89
 
 $(BUILD)/iop89: $(TOOL) $(TOOL_ASKS) $(TOOL_H) $(ARCHIVES) | x86-compiler
 	$(X86_CC) $(STRICT) $(CFLAGS) -D_POSIX_C_SOURCE=200809L $(if $(X86_READLINE),-DTOOL_READLINE) $(INCLUDES) \
