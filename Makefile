@@ -9,6 +9,7 @@ SWEEPS ?= 200000
 PAUSES ?= 20000
 SCHEDULES ?= 200000
 PAIRS ?= 100000
+TOUCHES ?= 100000
 TEXTS ?= 20000
 PARTS ?= 2000
 ASM_TEXTS ?= 50000
@@ -32,6 +33,7 @@ override SWEEPS := $(value SWEEPS)
 override PAUSES := $(value PAUSES)
 override SCHEDULES := $(value SCHEDULES)
 override PAIRS := $(value PAIRS)
+override TOUCHES := $(value TOUCHES)
 override TEXTS := $(value TEXTS)
 override PARTS := $(value PARTS)
 override ASM_TEXTS := $(value ASM_TEXTS)
@@ -63,7 +65,7 @@ TARGET = $(BUILD)/tree/target
 endif
 
 export CALLER BUILD TARGET INSTALL
-export IMAGE FILE DEMO SEED CASES SERVICE_CASES SWEEPS PAUSES SCHEDULES PAIRS TEXTS PARTS ASM_TEXTS CALLS IMAGES N FROM \
+export IMAGE FILE DEMO SEED CASES SERVICE_CASES SWEEPS PAUSES SCHEDULES PAIRS TOUCHES TEXTS PARTS ASM_TEXTS CALLS IMAGES N FROM \
 	PREFIX DESTDIR
 
 CFLAGS ?= -O2
@@ -115,7 +117,7 @@ SCRIPTS_H = $(addprefix host/compare/,writer.h lines.h session.h hex_texts.h) $(
 
 PROGRAMS = program-trace program-script
 
-.PHONY: help run try script demo test lib host install uninstall clean compare compare-scripts compare-traces selftest \
+.PHONY: help run try script demo test lib proved-archives host install uninstall clean compare compare-scripts compare-traces selftest \
 	check-examples check-papers front-door examples bench $(PROGRAMS) compiler x86-compiler count-needs always \
 	option-image option-file option-demo option-cases option-calls option-images option-prefix
 
@@ -164,8 +166,12 @@ option-prefix:
 $(PROGRAMS): program-%:
 	@tools/prove check $*
 
-# The proved library, as an archive for C.
-lib: $(ARCHIVES) $(SHARED) $(SHARED_SERVICE)
+# The proved library, as archives for C and shared objects.
+lib: proved-archives $(ARCHIVES) $(SHARED) $(SHARED_SERVICE)
+
+# What both archives are made of, in one go, so that two are proved at a time.
+proved-archives:
+	@tools/prove staticlib run_call $(SERVICE_CRATES)
 
 # An archive is made again where a file of its crates is not what it was; their list is kept by content. The object of
 # both runs stands in both archives, the same, so that either has its calls and a program that links both has it once.
@@ -193,7 +199,7 @@ $(BUILD)/%.sums: always
 INSTALLED = $(HEADERS) $(ARCHIVES) $(SHARED) $(SHARED_SERVICE) include/iop89.pc.in include/iop89_service.pc.in \
 	$(BUILD)/iop89 $(BUILD)/iop89.1 $(BUILD)/iop89.bash
 
-install: option-prefix $(INSTALLED)
+install: option-prefix proved-archives $(INSTALLED)
 	@tools/install put $(INSTALLED)
 
 # Takes away what install put there, and nothing else.
@@ -213,7 +219,7 @@ $(BUILD)/flags: always
 		if cmp -s $@.$$$$ $@; then rm -f $@.$$$$; else mv $@.$$$$ $@; fi
 
 PROGRAMS_OF_C = causes example borders empty stack compare scripts selftest emulator.o bench compare_service compare_sweep \
-	compare_pauses compare_schedule compare_pair iop89 both_channels compare-hex bench-hex compare-list bench-list asmtest \
+	compare_pauses compare_schedule compare_pair compare_touches compare_bus disk iop89 both_channels compare-hex bench-hex compare-list bench-list asmtest \
 	compare-asm bench-asm bench-sweep
 $(PROGRAMS_OF_C:%=$(BUILD)/%): $(BUILD)/flags
 
@@ -410,13 +416,31 @@ $(BUILD)/compare_pair: $(COMPARE_PAIR) $(COMPARE_PAIR_H) $(COMMON) $(COMMON_H) $
 compare-pair: option-pairs $(BUILD)/compare_pair
 	tools/x86 $(BUILD)/compare_pair "$$SEED" "$$PAIRS"
 
+# What a call touches: what the archive tells before it is made, and what the emulator notes while it works.
+.PHONY: compare-touches option-touches
+
+option-touches:
+	@tools/option number SEED && tools/option number TOUCHES
+
+$(BUILD)/compare_touches: host/compare/compare_touches.c $(STATES) $(STATES_H) $(COMMON) $(COMMON_H) $(SERVICE_LIB) | x86-compiler
+	$(X86_CC) $(PLAIN) $(STRICT) $(CFLAGS) -DEMULATOR_NOTES $(INCLUDES) $(LINKED) $(X86_LDFLAGS) -o $@
+
+# Steps over the card bus beside steps on memory that has the cards' bytes.
+$(BUILD)/compare_bus: host/compare/compare_bus.c host/examples/card_bus.c host/examples/card_bus.h $(STATES) $(STATES_H) \
+		$(COMMON) $(COMMON_H) $(SERVICE_LIB) | x86-compiler
+	$(X86_CC) $(PLAIN) $(STRICT) $(CFLAGS) $(INCLUDES) $(LINKED) $(X86_LDFLAGS) -o $@
+
+compare-touches: option-touches $(BUILD)/compare_touches $(BUILD)/compare_bus
+	tools/x86 $(BUILD)/compare_touches "$$SEED" "$$TOUCHES"
+	tools/x86 $(BUILD)/compare_bus "$$SEED"
+
 # ---- The bench tool, over both archives
 
-TOOL = $(wildcard host/tool/*.c) host/examples/changes.c
-# The assembler in C tells which label a refused line means, and the emulator which bytes a step touches; the answers are
-# the archives'.
+TOOL = $(wildcard host/tool/*.c) $(addprefix host/examples/,changes.c card_bus.c)
+# The assembler in C tells which label a refused line means, and the emulator has the names of fields and of a state's bytes;
+# the answers are the archives'.
 TOOL_ASKS = $(addprefix host/emulator/,assembly.c emulator.c state_bytes.c)
-TOOL_H = $(wildcard host/tool/*.h) host/examples/changes.h $(TOOL_ASKS:.c=.h) $(HEADERS)
+TOOL_H = $(wildcard host/tool/*.h) $(addprefix host/examples/,changes.h card_bus.h) $(TOOL_ASKS:.c=.h) $(HEADERS)
 
 # readline, where the x86-64 compiler finds it.
 X86_READLINE ?= $(shell echo 'int main(void) { return 0; }' | \
@@ -424,10 +448,10 @@ X86_READLINE ?= $(shell echo 'int main(void) { return 0; }' | \
 
 .PHONY: tool check-tool
 
-tool: $(BUILD)/iop89
+tool: proved-archives $(BUILD)/iop89
 
 $(BUILD)/iop89: $(TOOL) $(TOOL_ASKS) $(TOOL_H) $(ARCHIVES) | x86-compiler
-	$(X86_CC) $(STRICT) $(CFLAGS) -D_POSIX_C_SOURCE=200809L -DEMULATOR_NOTES $(if $(X86_READLINE),-DTOOL_READLINE) $(INCLUDES) \
+	$(X86_CC) $(STRICT) $(CFLAGS) -D_POSIX_C_SOURCE=200809L $(if $(X86_READLINE),-DTOOL_READLINE) $(INCLUDES) \
 		$(LINKED) $(X86_LDFLAGS) $(if $(X86_READLINE),-lreadline) -o $@
 
 # The page for man and the shell's completion, from the text of its help.
@@ -449,6 +473,15 @@ $(BUILD)/both_channels: host/examples/both_channels.c $(HEADERS) $(SERVICE_LIB) 
 
 demo-service: $(BUILD)/both_channels
 	tools/x86 $(BUILD)/both_channels
+
+# A disk controller as a card of the bus, and channel programs that read and write its sectors.
+.PHONY: demo-disk
+
+$(BUILD)/disk: host/examples/disk.c host/examples/card_bus.c host/examples/card_bus.h $(HEADERS) $(SERVICE_LIB) | x86-compiler
+	$(X86_CC) $(STRICT) $(CFLAGS) $(INCLUDES) $(LINKED) $(X86_LDFLAGS) -o $@
+
+demo-disk: $(BUILD)/disk
+	tools/x86 $(BUILD)/disk
 
 # ---- The worked example: a sweep next to a marker table, drawn from what the tool shows
 

@@ -113,6 +113,19 @@ iop89_run_answer iop89_run(uint8_t *sys, size_t sys_len, uint8_t *io, size_t io_
 /* The version of the archive libiop89.a; it is IOP89_VERSION where header and archive belong together. */
 uint32_t iop89_version(void);
 
+/* What 12 looks at, of the calls of iop89_service.h too. */
+enum iop89_argument { IOP89_NO_ARGUMENT = 0, IOP89_PROCESSOR = 1, IOP89_CHANNEL = 2, IOP89_LINES = 3, IOP89_LIMIT = 4 };
+
+/* Which argument refuses a call by 12, the first where several do, or IOP89_NO_ARGUMENT. Of those that a call does not have
+ * one that is good stands in: 1 for the processor and the channel, 0 for the lines and the limit. */
+static inline enum iop89_argument iop89_wrong_argument(uint32_t processor, uint32_t channel, uint32_t lines, uint32_t limit)
+{
+    if (processor != 1u && processor != 2u) return IOP89_PROCESSOR;
+    if (channel != 1u && channel != 2u) return IOP89_CHANNEL;
+    if (lines > IOP89_LINES_LIMIT) return IOP89_LINES;
+    return limit > IOP89_STEPS_LIMIT ? IOP89_LIMIT : IOP89_NO_ARGUMENT;
+}
+
 /* A number in words, those of the calls of iop89_service.h too. */
 static inline const char *iop89_words(unsigned number)
 {

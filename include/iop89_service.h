@@ -176,6 +176,38 @@ iop89_answer iop89_schedule(uint8_t *state, size_t state_len, const struct iop89
 iop89_run_answer iop89_board(uint8_t *sys, size_t sys_len, uint8_t *io, size_t io_len, uint32_t channel, uint32_t lines,
                              uint32_t limit);
 
+/* ---- What a call touches, told before it is made ---- */
+
+/* The most places that a call has, and the parts of one: where the byte lies, whether in I/O space, whether it is stored, and
+ * whether it is the one at which a call that is refused by 2 stops. */
+#define IOP89_PLACES 11u
+#define IOP89_PLACE_ADDRESS(place) ((place) & 0xFFFFFu)
+#define IOP89_PLACE_IO(place) ((place) >> 20 & 1u)
+#define IOP89_PLACE_STORE(place) ((place) >> 21 & 1u)
+#define IOP89_PLACE_BEYOND(place) ((place) >> 22 & 1u)
+
+iop89_answer iop89_touches_attention(const uint8_t *state, size_t state_len, const uint8_t *sys, size_t sys_len,
+                                     const uint8_t *io, size_t io_len, uint32_t channel, uint32_t *places, size_t room);
+
+iop89_answer iop89_touches_power_up(const uint8_t *state, size_t state_len, const uint8_t *sys, size_t sys_len,
+                                    const uint8_t *io, size_t io_len, uint32_t *places, size_t room);
+
+iop89_answer iop89_touches_step(const uint8_t *state, size_t state_len, const uint8_t *sys, size_t sys_len,
+                                const uint8_t *io, size_t io_len, uint32_t lines, uint32_t *places, size_t room);
+
+iop89_answer iop89_touches_sweep(const uint8_t *state, size_t state_len, const uint8_t *sys, size_t sys_len,
+                                 const uint8_t *io, size_t io_len, uint32_t channel, uint32_t lines, uint32_t *places,
+                                 size_t room);
+
+/* The place told that is beyond, where a call is refused by 2; IOP89_NO_PLACE where none is. */
+#define IOP89_NO_PLACE 0xFFFFFFFFu
+static inline uint32_t iop89_beyond(const uint32_t *places, size_t count)
+{
+    for (size_t i = 0; i < count; i++)
+        if (IOP89_PLACE_BEYOND(places[i]) != 0) return places[i];
+    return IOP89_NO_PLACE;
+}
+
 /* ---- Two processors on one board: one system memory, and each its own state, I/O memory and control block ---- */
 
 /*
@@ -372,8 +404,8 @@ static inline const char *iop89_service_words(unsigned number)
 
 /* What refused a call on a state: of 17 the byte of the state, its value, and the most that it may be; of 10 the same of
  * an address of four bytes; of 14 the bits of CC whose fields differ. The channel is 0 where it is about neither, and all
- * is 0 for any other number and for bytes that are a state. A length that is none has `at` IOP89_STATE_LENGTH. What refused
- * a call by 12 are its own arguments, and by 2 an address that the tool iop89 names. */
+ * is 0 for any other number and for bytes that are a state. A length that is none has `at` IOP89_STATE_LENGTH. Which argument
+ * refused a call by 12 iop89_wrong_argument says; the address that refused one by 2 the tool iop89 names. */
 struct iop89_cause {
     unsigned channel;
     size_t at;

@@ -1,5 +1,6 @@
-/* Holds what the header says of a refused call, iop89_cause, to the number that the archive answers and to what another
-   reader of states finds: for each byte of a state every value, for each address one over its limit, for each bit of CC. */
+/* Holds what the header says of a refused call, iop89_cause and iop89_wrong_argument, to the number that the archive answers
+   and to what another reader of states finds: for each byte of a state every value, for each address one over its limit, for
+   each bit of CC, for each argument its borders; and iop89_beyond to 2, for each length of memory. */
 #include "iop89_service.h"
 #include "emulator/state_bytes.h"
 
@@ -88,6 +89,87 @@ static void test_rest(void)
     expect("a length", 103, 0, cause.at == IOP89_STATE_LENGTH && cause.value == 103 && cause.most == IOP89_STATE_LENGTH);
 }
 
+/* With every length of system memory: what is told to be beyond, beside 2. It lies behind what is lent, and lent up to it,
+ * another byte refuses the call, or none does. */
+static void test_beyond(const uint8_t *state, bool step)
+{
+    const size_t n = IOP89_STATE_LENGTH;
+    uint32_t before = IOP89_NO_PLACE, at[IOP89_PLACES];
+    for (size_t lent = 0; lent <= sizeof sys; lent++) {
+        iop89_answer told = step ? iop89_touches_step(state, n, sys, lent, io, sizeof io, 0, at, IOP89_PLACES)
+                                 : iop89_touches_attention(state, n, sys, lent, io, sizeof io, 1, at, IOP89_PLACES);
+        uint32_t place = iop89_beyond(at, IOP89_ANSWER_COUNT(told));
+        bool refused = IOP89_ANSWER_NUMBER(told) == IOP89_BEYOND_MEMORY;
+        expect("2 and a place", lent, place, refused == (place != IOP89_NO_PLACE));
+        if (refused) expect("the place", lent, place, IOP89_PLACE_ADDRESS(place) >= lent && IOP89_PLACE_IO(place) == 0);
+        if (before != IOP89_NO_PLACE && IOP89_PLACE_ADDRESS(before) < lent) expect("lent now", lent, place, place != before);
+        before = place;
+    }
+}
+
+/* The example of docs/MACHINE.md §17: MOV [GA].0Ah,[GB].08h of a word, in twelve lent bytes and in eleven. */
+static void test_example(void)
+{
+    static const uint8_t code[12] = {0x03, 0x91, 0x08, 0x03, 0xCC, 0x0A};
+    static const uint32_t wanted[10] = {0, 1, 2, 3, 4, 5, 8, 9, 1u << 21 | 10, 1u << 21 | 11};
+    uint8_t state[IOP89_STATE_LENGTH];
+    uint32_t at[IOP89_PLACES];
+    (void)iop89_fresh(state, sizeof state, 0);
+    iop89_set(state, 1, IOP89_MODE, IOP89_RUNNING);
+    iop89_answer done = iop89_touches_step(state, sizeof state, code, 12, io, sizeof io, 0, at, IOP89_PLACES);
+    expect("the example", 12, IOP89_ANSWER_COUNT(done), IOP89_ANSWER_COUNT(done) == 10 && IOP89_ANSWER_NUMBER(done) == 0);
+    expect("its channel and kind", 12, 0, IOP89_ANSWER_CHANNEL(done) == 1 && IOP89_ANSWER_KIND(done) == IOP89_INSTRUCTION);
+    expect("its places", 12, 0, memcmp(at, wanted, sizeof wanted) == 0);
+    iop89_answer cut = iop89_touches_step(state, sizeof state, code, 11, io, sizeof io, 0, at, IOP89_PLACES);
+    expect("the example cut", 11, IOP89_ANSWER_COUNT(cut), IOP89_ANSWER_COUNT(cut) == 10 && IOP89_ANSWER_NUMBER(cut) == 2);
+    expect("its places", 11, 0, memcmp(at, wanted, 9 * sizeof at[0]) == 0 && at[9] == (wanted[9] | 1u << 22));
+    expect("what is beyond", 11, at[9], iop89_beyond(at, 10) == at[9]);
+}
+
+/* That of an attention that starts a channel, and of the channel's first step. */
+static void test_beyond_both(void)
+{
+    uint8_t state[IOP89_STATE_LENGTH];
+    const uint8_t block[] = {3, 0, 16, 0, 0, 0}, program[] = {0x0A, 0x4F, 0x10, 0x55};
+    memcpy(sys, block, sizeof block);
+    memset(sys + 16, 0, 4);
+    sys[16] = 32;
+    memcpy(sys + 32, program, sizeof program);
+    (void)iop89_fresh(state, sizeof state, 0);
+    test_beyond(state, false);
+    (void)iop89_attention(state, sizeof state, sys, sizeof sys, io, sizeof io, 1);
+    test_beyond(state, true);
+}
+
+/* Arguments about their borders: which of them is said to be wrong, beside whether the call that has it answers 12. A step of
+ * two processors has the first and the third, an attention of two the first two, a board's run the last three. */
+static void test_arguments(uint32_t processor, uint32_t channel, uint32_t lines, uint32_t limit)
+{
+    uint8_t one[IOP89_STATE_LENGTH], two[IOP89_STATE_LENGTH];
+    const size_t n = IOP89_STATE_LENGTH, length = sizeof sys;
+    (void)iop89_fresh(one, n, 0);
+    (void)iop89_fresh(two, n, 0);
+    unsigned step = IOP89_ANSWER_NUMBER(iop89_pair_step(processor, one, n, two, n, sys, length, io, sizeof io, io, 0, lines));
+    unsigned attention =
+        IOP89_ANSWER_NUMBER(iop89_pair_attention(processor, one, n, two, n, sys, length, io, sizeof io, io, 0, channel));
+    unsigned run = IOP89_NUMBER(iop89_board(sys, length, io, sizeof io, channel, lines, limit));
+    expect("12 of a step", processor, lines, (step == 12) == (iop89_wrong_argument(processor, 1, lines, 0) != 0));
+    expect("12 of attention", processor, channel, (attention == 12) == (iop89_wrong_argument(processor, channel, 0, 0) != 0));
+    expect("12 of a run", channel, lines, (run == 12) == (iop89_wrong_argument(1, channel, lines, limit) != 0));
+    bool first = processor != 1 && processor != 2, second = channel != 1 && channel != 2;
+    enum iop89_argument rest = lines > 15 ? IOP89_LINES : limit > 65535 ? IOP89_LIMIT : IOP89_NO_ARGUMENT;
+    enum iop89_argument wanted = first ? IOP89_PROCESSOR : second ? IOP89_CHANNEL : rest;
+    expect("which of four", channel, lines, iop89_wrong_argument(processor, channel, lines, limit) == wanted);
+}
+
+/* Each border of each argument with each of the others. */
+static void test_borders(void)
+{
+    const uint32_t numbers[] = {0, 1, 2, 3, 0xFFFFFFFFu}, lines[] = {0, 15, 16, 0xFFFFFFFFu}, limits[] = {0, 65535, 65536};
+    for (size_t i = 0; i < 5 * 5 * 4 * 3; i++)
+        test_arguments(numbers[i % 5], numbers[i / 5 % 5], lines[i / 25 % 4], limits[i / 100]);
+}
+
 int main(void)
 {
     for (size_t at = 0; at < IOP89_STATE_LENGTH; at++)
@@ -98,6 +180,9 @@ int main(void)
         for (unsigned bit = 0; bit < 16; bit++) test_bit(channel, bit);
     }
     test_rest();
+    test_borders();
+    test_beyond_both();
+    test_example();
     printf("causes: %u told, %u not as they should be\n", tried, wrong);
     return wrong != 0;
 }

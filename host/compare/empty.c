@@ -136,6 +136,26 @@ static void test_pairs(void)
     expect("pair sweep, nothing", iop89_pair_sweep(2, NONE, NONE, NONE, NONE, NONE, 1, 0), IOP89_NO_STATE);
 }
 
+/* What calls touch: of no state, in no memory, into no places. */
+static void test_touches(void)
+{
+    uint32_t at[IOP89_PLACES];
+    size_t length = sizeof state;
+    prepare(3);
+    expect("attention, told of nothing", iop89_touches_attention(NONE, NONE, NONE, 1, NONE), IOP89_NO_STATE);
+    expect("power-up, told of nothing", iop89_touches_power_up(NONE, NONE, NONE, NONE), IOP89_NO_STATE);
+    expect("step, told of nothing", iop89_touches_step(NONE, NONE, NONE, 0, NONE), IOP89_NO_STATE);
+    expect("sweep, told of nothing", iop89_touches_sweep(NONE, NONE, NONE, 1, 0, NONE), IOP89_NO_STATE);
+    expect("attention, told of no memory", iop89_touches_attention(state, length, NONE, NONE, 1, at, IOP89_PLACES), 0x1002);
+    expect("power-up, told of no memory", iop89_touches_power_up(state, length, NONE, NONE, at, IOP89_PLACES), 0xB002);
+    expect("step, told of no memory", iop89_touches_step(state, length, NONE, NONE, 0, at, IOP89_PLACES), IOP89_NO_CHANNEL);
+    expect("sweep, told of no memory", iop89_touches_sweep(state, length, NONE, NONE, 1, 0, at, IOP89_PLACES),
+           IOP89_NOT_SWEEPABLE);
+    expect("attention, no places", iop89_touches_attention(state, length, sys, sizeof sys, NONE, 1, NONE), 0xA000);
+    expect("attention, told to be done", iop89_attention(state, length, sys, sizeof sys, NONE, 1), 0xA000);
+    expect("step, no places", iop89_touches_step(state, length, sys, sizeof sys, NONE, 0, NONE), 0x2500);
+}
+
 /* Texts: no text, no memory, no code, no room for lines. */
 static void test_texts(void)
 {
@@ -162,6 +182,7 @@ int main(void)
     test_memories();
     test_schedules();
     test_pairs();
+    test_touches();
     test_texts();
     expect("the service archive's version", iop89_service_version(), IOP89_VERSION);
     printf("iop89_service: %u answers, %u not as the header has them\n", tried, wrong);

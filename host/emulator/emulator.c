@@ -34,7 +34,8 @@ struct store {
     uint8_t byte;
 };
 
-/* A copy of the given state that may be dropped, so that a refusal is all or nothing. */
+/* A copy of the given state that may be dropped, so that a refusal is all or nothing. Who asks is told whether an instruction is
+ * known, so that only the offset byte of its second pair can have refused it. */
 struct work {
     struct emu_state state;
     struct emu_channel *ch;
@@ -46,7 +47,7 @@ struct work {
     struct store store[MOST_STORES];
     enum emu_half half;
     unsigned shape, ends, end_offset;
-    bool translated, jumped;
+    bool translated, jumped, known;
     uint8_t in_io[EMU_ACCESSES], empty[EMU_ACCESSES];
 };
 
@@ -131,13 +132,19 @@ static inline void note(struct emu_pointer p, enum emu_access access, bool lent,
     emu_touches->touch[emu_touches->count++] = touch;
 }
 
+/* What a place that is not lent reads as: an empty slot; in system space, where the call is refused, 0 for what is told of it. */
+static inline uint32_t unlent(struct emu_pointer p)
+{
+    return p.tag ? EMPTY_SLOT : 0;
+}
+
 /* Reads n bytes, low byte first, each at its own reduced address. */
 static inline uint32_t read_bytes(struct work *w, struct emu_pointer p, unsigned n, enum emu_access access)
 {
     uint32_t value = 0;
     for (unsigned i = 0; i < n; i++) {
         const uint8_t *c = accessed(w, plus(p, i), access);
-        uint32_t byte = c == NULL ? EMPTY_SLOT : *c;
+        uint32_t byte = c == NULL ? unlent(plus(p, i)) : *c;
         note(plus(p, i), access, c != NULL, false, byte);
         value |= byte << (8 * i);
     }
@@ -1087,6 +1094,7 @@ static void take_second_pair(struct work *w, struct instruction *in)
     if (!has_digits(&second_pair, first, second) || (first & 1u) + 1 != in->bytes) refuse(w, EMU_NO_INSTRUCTION);
     if (w->number != EMU_DONE) return;
     in->second = place_of(first, second);
+    if (ASKED) w->known = true;
     take_offset(w, in, &in->second);
 }
 
@@ -1151,7 +1159,8 @@ static void instruction_step(struct work *w)
     struct instruction in;
     bool was_armed = w->ch->armed;
     read_instruction(w, &in);
-    if (w->number != EMU_DONE) return;
+    /* Who asks is told all of the last stage, also behind an offset byte that is not there. */
+    if (w->number != EMU_DONE && !(ASKED && w->known)) return;
     w->ch->tp = in.end;
     in.row->act(w, &in);
     if (was_armed && w->ch->mode == EMU_RUNNING) {
@@ -1769,6 +1778,11 @@ static struct emu_swept sweep_soundly(struct emu_state *state, const struct emu_
     if (emu_coverage != NULL) count_swept(ch);
     done.steps = steps_of(ch, bytes_left(ch));
     done.count = 2 * bytes_left(ch);
+    if (ASKED) {
+        note(source_of(ch), EMU_SOURCE, true, false, *cell(memory, source_of(ch)));
+        note(destination_of(ch), EMU_DESTINATION, true, true, *cell(memory, source_of(ch)));
+        return done;
+    }
     move_all(ch, memory);
     end_swept(ch);
     state->last = channel;

@@ -258,7 +258,9 @@ struct emu_touch {
     uint8_t byte;
 };
 
-/* The bytes that a call touches, in its order; no call touches as many as have room here. */
+/* The bytes that a call touches, in its order: what it reads, then what it stores. Of a refused call those up to and with the
+ * stage at which it is refused (docs/MACHINE.md §17.3); of a sweep the first of its source and of its destination. No call
+ * touches as many as have room here. */
 enum { EMU_TOUCHES = 24 };
 
 struct emu_touches {

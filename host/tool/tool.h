@@ -2,7 +2,7 @@
 #ifndef TOOL_H
 #define TOOL_H
 
-#include "emulator/emulator.h"
+#include "examples/card_bus.h"
 #include "iop89_service.h"
 
 #include <stdbool.h>
@@ -37,25 +37,27 @@ struct tool_range {
     bool in_io, second;
 };
 
-/* An attention to be given before a step, counted from 1, with its CCW where one is to be stored first. */
+/* An attention to be given before a step, counted from 1, with its CCW where one is to be stored first; of a pair, to which
+ * processor. Its place among those of an order is TOOL_EVENTS where it is of none. */
 struct tool_event {
     uint32_t step, channel, ccw;
-    bool has_ccw;
+    unsigned place;
+    bool has_ccw, second;
 };
 
-/* A byte of a space each read of which takes the next byte of a file. */
+/* A byte of a space each read of which takes the next byte of a file; of I/O memory, whose it is. */
 struct tool_port {
     const char *name;
     uint32_t at;
-    bool in_io;
+    bool in_io, second;
 };
 
-/* A register to be set before the first step; channel 0 is the one that gets attention. */
+/* A register to be set before the first step, of a pair of which processor; channel 0 is the one that gets attention. */
 struct tool_setting {
     unsigned channel;
     enum iop89_register which;
     uint32_t value;
-    bool in_io;
+    bool in_io, second;
 };
 
 /* Line numbers, taken in turn. */
@@ -64,13 +66,13 @@ struct tool_lines {
     size_t count, room;
 };
 
-/* What a command line asks of one processor: its control block, its I/O memory, the channels that get attention, and its
- * line numbers. Of the length UINT32_MAX stands for 256. */
+/* What a command line asks of one processor: its control block, its I/O memory, the channels that get attention, its line
+ * numbers, and the files of its state. Of the length UINT32_MAX stands for 256. */
 struct tool_processor {
     uint32_t channel[TOOL_CHANNELS];
     struct tool_lines lines;
     unsigned channels;
-    const char *io_image;
+    const char *io_image, *state, *save_io, *save_state;
     uint32_t io_length, cp;
 };
 
@@ -91,9 +93,9 @@ struct tool_order {
     unsigned files, ranges, events, ports, stops, watches, settings;
     uint32_t system_length, limit;
     uint32_t from, count, first, room;
-    const char *second_word, *out, *save, *save_io, *save_state, *state, *trace_file, *script;
-    bool source, board, sweep, trace, pair, over, diff, regs, no_header, follow, labels, no_labels;
-    bool has_cp, has_first, has_until, has_channel, has_from;
+    const char *second_word, *out, *save, *trace_file, *script;
+    bool source, board, sweep, trace, pair, over, diff, regs, no_header, bus, follow, labels, no_labels;
+    bool has_cp, has_first, has_until, has_from;
 };
 
 /* A command: its name, its bit in an option's set, what stands behind it, what it does, an example, its function. */
@@ -132,24 +134,34 @@ struct tool_text {
     size_t length;
 };
 
-/* A call on a machine, for what is said of its refusal: which, and its channel or line number. */
-struct tool_call {
-    enum { TOOL_POWER_UP, TOOL_ATTENTION, TOOL_STEPPED } kind;
-    uint32_t value;
+struct tool_machine;
+
+/* A port as a card of the bus: its machine, and its place in the order. */
+struct tool_reader {
+    struct tool_machine *machine;
+    unsigned port;
 };
 
 /* A machine that is stepped: its state and memory, that memory as it was given, how many steps were tried and how many were
- * done, the text of each port and how far it was read, the last call, what it touched, and where a trace goes. */
+ * done, which of the order's attentions were given, the text of each port and how far it was read, its ports on a bus, which
+ * has what the last call touched, that call and its answer, and where a trace goes. Of a pair, which of the two it is, 0 or
+ * 1, and the other one. */
 struct tool_machine {
     const struct tool_order *order;
     uint8_t state[IOP89_STATE_LENGTH];
     struct tool_memory memory, given;
     uint32_t tried, done;
+    uint64_t attended;
     struct tool_text text[TOOL_PORTS];
     size_t next[TOOL_PORTS];
-    struct tool_call last;
-    struct emu_touches touched;
+    struct tool_reader reader[TOOL_PORTS];
+    struct card card[TOOL_PORTS];
+    struct card_bus bus;
+    struct bus_call last;
+    iop89_answer answer;
     FILE *trace;
+    unsigned which;
+    struct tool_machine *other;
 };
 
 /* ---- The end of the program, and words ---- */
@@ -174,9 +186,10 @@ const char *tool_read_number(const char *from, size_t length, uint32_t *number);
 const char *tool_read_lines(const char *from, size_t length, struct tool_lines *lines);
 void tool_add_line(struct tool_lines *lines, uint32_t number);
 
-/* Reads a setting, [CHANNEL:]REGISTER=VALUE[/io], and a space, sys or io; answers what is wrong with it, or NULL. */
+/* Reads a setting, [CHANNEL:]REGISTER=VALUE[/io], and a space, sys, io or io2, the second processor's; answers what is wrong
+ * with it, or NULL. */
 const char *tool_read_setting(const char *word, struct tool_setting *setting);
-const char *tool_read_space(const char *word, bool *in_io);
+const char *tool_read_space(const char *word, bool *in_io, bool *second);
 
 /* ---- Files and memory ---- */
 
@@ -184,7 +197,7 @@ const char *tool_read_space(const char *word, bool *in_io);
 struct tool_text tool_read_text(const char *name);
 
 /* The memory that an order asks for, the files loaded; what the second processor sees of it, with an I/O memory of its
- * own; a copy; and what was taken given back. */
+ * own; a copy; and what was taken given back, of the second one its own. */
 struct tool_memory tool_load(const struct tool_order *order);
 struct tool_memory tool_load_second(const struct tool_order *order, struct tool_memory first);
 struct tool_memory tool_copy(struct tool_memory memory);
@@ -200,8 +213,9 @@ uint32_t tool_each_byte(const char *name, struct tool_text text, void (*put)(voi
 bool tool_is_prom_name(const char *name);
 void tool_save(const char *name, const uint8_t *bytes, size_t length, uint32_t at);
 
-/* Saves what an order asks for of memory and state, and says so. */
-void tool_save_all(const struct tool_order *order, const struct tool_memory *memory, const uint8_t *state);
+/* Saves what an order asks for of system memory, and of one processor's I/O memory and state, and says so. */
+void tool_save_system(const struct tool_order *order, const struct tool_memory *memory);
+void tool_save_own(const struct tool_processor *processor, const struct tool_memory *memory, const uint8_t *state);
 
 /* ---- The commands ---- */
 
@@ -221,21 +235,37 @@ enum tool_status tool_explain(const char *word);
 
 /* ---- The machine ---- */
 
-/* Makes the state that calls begin with, of CP, of a file or by reset and power-up, which it prints; answers its number. */
-unsigned tool_make_state(const struct tool_order *order, uint8_t *state, struct tool_memory *memory);
+/* Makes the state that calls begin with, of CP, of a file or by reset and power-up, which it prints; answers its number. The
+ * board's power-up is the first processor's. */
+unsigned tool_make_state(const struct tool_order *order, unsigned which, uint8_t *state, struct tool_memory *memory);
 
 /* Single calls on one machine. */
 iop89_answer tool_attend(uint8_t *state, struct tool_memory *m, uint32_t channel);
 iop89_answer tool_do_step(uint8_t *state, struct tool_memory *m, uint32_t lines);
 
-/* A machine made and its attentions given, each with a line; the number that refused one of them. And given back. */
-unsigned tool_start(struct tool_machine *machine, const struct tool_order *order, bool quiet);
+/* A machine with its memory and ports, and given back; then its state made, then its attentions given, each with a line, and
+ * its registers set; the number that refused one of them. All of that of one machine alone. */
+void tool_make(struct tool_machine *machine, const struct tool_order *order, unsigned which, struct tool_memory memory);
 void tool_end(struct tool_machine *machine);
+unsigned tool_begin(struct tool_machine *machine);
+unsigned tool_attend_all(struct tool_machine *machine, bool quiet);
+unsigned tool_start(struct tool_machine *machine, const struct tool_order *order, bool quiet);
 
-/* Gives the attentions that are due before the next step; the number that refused one. */
-unsigned tool_give_due(struct tool_machine *machine, bool quiet);
+/* What each of its lines begins with: nothing, or of a pair its processor. And the processor that its order asks for. */
+const char *tool_whose(const struct tool_machine *machine);
+const struct tool_processor *tool_asked(const struct tool_machine *machine);
 
-/* Tries one step: ports are filled, what it touches is asked, and the step is made. */
+/* The first attention that is due before a step and was not given, or NULL; one given, with its CCW; and all that are due
+ * given: the number that refused one. The first step at which one is still to come, behind another, or UINT32_MAX. */
+const struct tool_event *tool_due(const struct tool_machine *machine, uint32_t step);
+unsigned tool_give(struct tool_machine *machine, const struct tool_event *event, bool quiet);
+unsigned tool_give_due(struct tool_machine *machine, uint32_t step, bool quiet);
+uint32_t tool_next_due(const struct tool_order *order, uint32_t behind);
+
+/* Whether an attention is still to come, which may start what is idle now: its step is the next one tried. */
+bool tool_skip_to_event(struct tool_machine *machine);
+
+/* Tries one step: what it touches is asked, ports are read, and the step is made. */
 iop89_answer tool_try_step(struct tool_machine *machine, char tail[64]);
 
 /* Whether the next step stops, at an address or at a watched byte that is not what it was: then it says so. */
@@ -249,11 +279,12 @@ bool tool_goes_on(const struct tool_processor *processor, unsigned number, const
 bool tool_runs(const uint8_t *state);
 enum tool_status tool_status_of(unsigned number, const uint8_t *state, uint32_t steps);
 
-/* What a call touches, asked of the emulator that the archive is compared with; nothing is changed. */
-struct emu_touches tool_ask(const uint8_t *state, const struct tool_memory *memory, struct tool_call call);
+/* What stands behind the line of the last step, which the state before it is handed for: its instruction in the listing's
+ * words, or the bytes that it moved and where; nothing where it was refused. */
+void tool_write_tail(char tail[64], const struct tool_machine *machine, const uint8_t *before);
 
-/* What stands behind a step's line: its instruction in the listing's words, or the bytes that it moved and where. */
-void tool_write_tail(char tail[64], const struct emu_touches *touched, const struct tool_memory *memory);
+/* Prints each access of the last call where -bus asks for it: what was read or stored, where, and which byte. */
+void tool_print_bus(const struct tool_machine *machine);
 
 /* ---- What is printed ---- */
 
@@ -265,7 +296,7 @@ void tool_print_header(const struct tool_order *order);
 void tool_print_number(const char *whose, unsigned number, const char *words, const uint8_t *state,
                        const struct tool_memory *memory, uint32_t steps);
 void tool_print_cause(const char *whose, unsigned number, const uint8_t *state, const struct tool_memory *memory,
-                      struct tool_call call);
+                      struct bus_call call);
 void tool_print_argument(unsigned number, const struct tool_order *order);
 void tool_print_never(const char *whose, const uint8_t *state, const struct tool_memory *memory, uint32_t channel);
 void tool_print_waiting(const char *whose, uint32_t number, const uint8_t *state);
@@ -289,8 +320,9 @@ void tool_print_count(iop89_answer answer);
 void tool_print_shown(const struct tool_order *order, const struct tool_memory *memory);
 void tool_print_range(struct tool_range range, const struct tool_memory *memory);
 
-/* Prints what changed of memory, as host/examples/changes.h shows it. */
+/* Prints what changed of system memory and of I/O memory, as host/examples/changes.h shows it. */
 void tool_print_diff(const struct tool_memory *before, const struct tool_memory *now);
+void tool_print_diff_of(const char *space, uint8_t *before, uint8_t *now, size_t length);
 
 /* ---- Listings ---- */
 

@@ -18,13 +18,14 @@ enum { KEPT = 4096, LINE = 512, WORDS = 4, AROUND = 32 };
 struct kept {
     uint8_t state[IOP89_STATE_LENGTH];
     uint32_t tried, done;
+    uint64_t attended;
     size_t next[TOOL_PORTS];
     unsigned stores;
     struct {
         bool in_io;
         uint32_t at;
         uint8_t old;
-    } store[EMU_TOUCHES + 1];
+    } store[IOP89_PLACES + 1];
 };
 
 /* A session: its order, which breaks and settings are added to, its machine, what can be taken back, and the input. */
@@ -54,24 +55,30 @@ static void keep_byte(struct kept *k, bool in_io, uint32_t at, uint8_t old)
     k->store[k->stores++].old = old;
 }
 
-/* Keeps what the next call would change. */
-static void keep(struct session *s, struct tool_call call)
+/* Keeps the machine as it is before the next call. */
+static void keep(struct session *s)
 {
     struct kept *k = &s->kept[(s->first + s->count) % KEPT];
     struct tool_machine *m = &s->machine;
-    struct emu_touches touched = tool_ask(m->state, &m->memory, call);
     memcpy(k->state, m->state, sizeof k->state);
     memcpy(k->next, m->next, sizeof k->next);
     k->tried = m->tried;
     k->done = m->done;
+    k->attended = m->attended;
     k->stores = 0;
-    for (unsigned i = 0; i < touched.count; i++) {
-        const struct emu_touch *t = &touched.touch[i];
-        if (!t->stored || !t->lent) continue;
-        keep_byte(k, t->at.tag, t->at.address, (t->at.tag ? m->memory.io : m->memory.sys)[t->at.address]);
-    }
     if (s->count < KEPT) s->count++;
     else s->first = (s->first + 1) % KEPT;
+}
+
+/* Keeps what stood where the last call touched memory: what it stored over, and what ports gave. */
+static void keep_touched(struct session *s)
+{
+    const struct tool_machine *m = &s->machine;
+    for (unsigned i = 0; i < m->bus.touched; i++) {
+        bool in_io = IOP89_PLACE_IO(m->bus.place[i]) != 0;
+        uint32_t at = IOP89_PLACE_ADDRESS(m->bus.place[i]);
+        if (at < (in_io ? m->memory.io_len : m->memory.sys_len)) keep_byte(last_kept(s), in_io, at, m->bus.before[i]);
+    }
 }
 
 /* Takes the last call back; answers whether there was one. */
@@ -87,10 +94,37 @@ static bool undo(struct session *s)
     memcpy(m->next, k->next, sizeof m->next);
     m->tried = k->tried;
     m->done = k->done;
+    m->attended = k->attended;
     while (k->stores-- > 0)
         (k->store[k->stores].in_io ? m->memory.io : m->memory.sys)[k->store[k->stores].at] = k->store[k->stores].old;
     printf("back before step %" PRIu32 "\n", m->tried + 1);
     return true;
+}
+
+/* ---- Attentions ---- */
+
+/* Gives an attention, with its CCW where it has one; it can be taken back. */
+static void attend(struct session *s, const struct tool_event *event)
+{
+    struct tool_machine *m = &s->machine;
+    uint32_t block = (iop89_cp(m->state) + (event->channel == 2 ? 8u : 0u)) & 0xFFFFFu;
+    bool stores = event->has_ccw && block < m->memory.sys_len;
+    keep(s);
+    if (stores) keep_byte(last_kept(s), false, block, m->memory.sys[block]);
+    s->number = tool_give(m, event, false);
+    keep_touched(s);
+    if (s->number == IOP89_DONE) return;
+    printf("number %u: %s\n", s->number, iop89_service_words(s->number));
+    tool_print_cause("", s->number, m->state, &m->memory, m->last);
+}
+
+/* Gives those of the order that are due before the next step; answers whether each was accepted. */
+static bool attend_due(struct session *s)
+{
+    const struct tool_event *event;
+    s->number = IOP89_DONE;
+    while (s->number == IOP89_DONE && (event = tool_due(&s->machine, s->machine.tried + 1)) != NULL) attend(s, event);
+    return s->number == IOP89_DONE;
 }
 
 /* ---- Steps ---- */
@@ -101,22 +135,25 @@ static bool step(struct session *s)
     struct tool_machine *m = &s->machine;
     uint8_t before[IOP89_STATE_LENGTH];
     char tail[64];
-    struct tool_call call = {TOOL_STEPPED, tool_lines_at(&m->order->of[0], m->tried)};
-    keep(s, call);
+    if (!attend_due(s)) return false;
+    keep(s);
     memcpy(before, m->state, sizeof before);
     iop89_answer answer = tool_try_step(m, tail);
+    keep_touched(s);
     s->number = IOP89_ANSWER_NUMBER(answer);
     if (s->number == IOP89_DONE) {
         printf("%" PRIu32, m->tried);
         tool_print_done(answer, before, m->state, tail);
+        tool_print_bus(m);
         return !tool_watch_hit(m) && !tool_stops(m);
     }
     if (tool_goes_on(&m->order->of[0], s->number, m->state)) {
         tool_print_waiting("", m->tried, m->state);
         return true;
     }
-    m->tried--;
     s->count--;
+    if (s->number == IOP89_NO_CHANNEL && tool_skip_to_event(m)) return true;
+    m->tried--;
     tool_print_number("", s->number, iop89_service_words(s->number), m->state, &m->memory, m->done);
     if (m->done > 0 || tool_runs(m->state) || s->number != IOP89_NO_CHANNEL)
         tool_print_cause("", s->number, m->state, &m->memory, m->last);
@@ -134,10 +171,8 @@ static void steps(struct session *s, uint32_t count)
 static void next(struct session *s)
 {
     uint32_t left = s->order.limit;
-    while (left-- > 0 && step(s)) {
-        const struct emu_touches *t = &s->machine.touched;
-        if (t->count > 0 && t->touch[0].access == EMU_FIRST_PAIR) return;
-    }
+    while (left-- > 0 && step(s))
+        if (IOP89_ANSWER_KIND(s->machine.answer) == IOP89_INSTRUCTION) return;
 }
 
 /* ---- Looks ---- */
@@ -212,25 +247,20 @@ static bool read_number(const char *word, uint32_t *number)
     return complaint == NULL;
 }
 
-/* Gives an attention, with a CCW where there is one. */
-static void attend(struct session *s, unsigned count, char **words)
+/* Reads a space of this one machine; answers what is wrong with it, or NULL. */
+static const char *read_space(const char *word, struct tool_range *range)
 {
-    struct tool_machine *m = &s->machine;
-    struct tool_call call = {TOOL_ATTENTION, 1};
-    uint32_t ccw = 0;
-    if (count > 1 && !read_number(words[1], &call.value)) return;
-    if (count > 2 && !read_number(words[2], &ccw)) return;
-    uint32_t block = (iop89_cp(m->state) + (call.value == 2 ? 8u : 0u)) & 0xFFFFFu;
-    bool stores = count > 2 && block < m->memory.sys_len;
-    uint8_t old = stores ? m->memory.sys[block] : 0;
-    if (stores) m->memory.sys[block] = (uint8_t)ccw;
-    keep(s, call);
-    if (stores) keep_byte(last_kept(s), false, block, old);
-    m->last = call;
-    s->number = tool_print_attention("", call.value, tool_attend(m->state, &m->memory, call.value));
-    if (s->number == IOP89_DONE) return;
-    printf("number %u: %s\n", s->number, iop89_service_words(s->number));
-    tool_print_cause("", s->number, m->state, &m->memory, call);
+    const char *complaint = tool_read_space(word, &range->in_io, &range->second);
+    return complaint == NULL && range->second ? "no space, sys or io" : complaint;
+}
+
+/* Gives the attention that the words ask for. */
+static void attend_now(struct session *s, unsigned count, char **words)
+{
+    struct tool_event event = {.channel = 1, .has_ccw = count > 2, .place = TOOL_EVENTS};
+    if (count > 1 && !read_number(words[1], &event.channel)) return;
+    if (count > 2 && !read_number(words[2], &event.ccw)) return;
+    attend(s, &event);
 }
 
 /* Sets a break or a watch, or drops all of them. */
@@ -249,7 +279,7 @@ static void set_watch(struct session *s, unsigned count, char **words)
         s->order.watches = 0;
         return;
     }
-    const char *complaint = count < 3 ? "watch SPACE ADDR [N]" : tool_read_space(words[1], &range.in_io);
+    const char *complaint = count < 3 ? "watch SPACE ADDR [N]" : read_space(words[1], &range);
     if (complaint != NULL) printf("%s: %s\n", complaint, words[1]);
     else if (s->order.watches == TOOL_STOPS) puts("more than 16 to watch");
     else if (read_number(words[2], &range.from) && (count < 4 || read_number(words[3], &range.count)))
@@ -260,7 +290,7 @@ static void set_watch(struct session *s, unsigned count, char **words)
 static void show(const struct session *s, unsigned count, char **words)
 {
     struct tool_range range = {0, 16, false, false};
-    const char *complaint = count < 3 ? "memory SPACE ADDR [N]" : tool_read_space(words[1], &range.in_io);
+    const char *complaint = count < 3 ? "memory SPACE ADDR [N]" : read_space(words[1], &range);
     if (complaint != NULL) printf("%s\n", complaint);
     else if (read_number(words[2], &range.from) && (count < 4 || read_number(words[3], &range.count)))
         tool_print_range(range, &s->machine.memory);
@@ -269,7 +299,7 @@ static void show(const struct session *s, unsigned count, char **words)
 /* Sets a register of the shown channel. */
 static void set(struct session *s, const char *word)
 {
-    struct tool_setting setting = {0, IOP89_GA, 0, false};
+    struct tool_setting setting = {0, IOP89_GA, 0, false, false};
     uint8_t *state = s->machine.state;
     const char *complaint = word == NULL ? "set REG=VALUE" : tool_read_setting(word, &setting);
     if (complaint != NULL) {
@@ -325,7 +355,7 @@ static void do_line(struct session *s, unsigned count, char **words)
     else if (strcmp(verb, "registers") == 0) tool_print_registers(s->machine.state);
     else if (strcmp(verb, "memory") == 0) show(s, count, words);
     else if (strcmp(verb, "list") == 0 && (count < 2 || read_number(words[1], &from))) list(s, count < 2 ? NULL : &from);
-    else if (strcmp(verb, "attention") == 0) attend(s, count, words);
+    else if (strcmp(verb, "attention") == 0) attend_now(s, count, words);
     else if (strcmp(verb, "lines") == 0) set_lines(s, count > 1 ? words[1] : NULL);
     else if (strcmp(verb, "set") == 0) set(s, count > 1 ? words[1] : NULL);
     else if (strcmp(verb, "save") == 0 && count > 1)
@@ -402,7 +432,8 @@ enum tool_status tool_debug(const struct tool_order *order)
     } else tool_print_header(&s.order);
     talk(&s);
     if (s.order.diff) tool_print_diff(&s.machine.given, &s.machine.memory);
-    tool_save_all(&s.order, &s.machine.memory, s.machine.state);
+    tool_save_system(&s.order, &s.machine.memory);
+    tool_save_own(&s.order.of[0], &s.machine.memory, s.machine.state);
     enum tool_status status = tool_status_of(s.number, s.machine.state, s.machine.done);
     if (s.script != stdin) fclose(s.script);
     tool_end(&s.machine);

@@ -16,7 +16,8 @@ static const struct {
      "the CCW was 000 or 111; look at the control block's address (-cp, -board), at the channel (-channel) and at where "
      "the file was loaded (-at). Where it waits: -lines 1 for channel 1, 2 for channel 2."},
     {2, "A byte of system space that a call reads or stores lies beyond the memory that was lent. Nothing is changed.",
-     "The address that the tool prints: lend more (-system), or look at the pointer that leads there (-regs)."},
+     "The address that the tool prints: lend more (-system), or look at the pointer that leads there (-regs, -bus). From C, "
+     "iop89_touches_step and iop89_beyond name it."},
     {3, "The bytes at TP are no instruction.", "list around TP: is it data, or was TP loaded with something else?"},
     {4, "CC is used by anything but MOV or MOVI.", "The instruction at TP."},
     {5, "A transfer has SYN 11 in CC, or translates with a 16-bit side.", "The MOVI to CC before XFER, and WID."},
@@ -33,7 +34,7 @@ static const struct {
     {12,
      "An argument that no machine has: a processor or channel that is neither 1 nor 2, a line number over 15, or a step "
      "limit over 65,535.",
-     "The words behind the command; the tool says which, and ends with 2."},
+     "The words behind the command; the tool says which, and ends with 2. From C, iop89_wrong_argument does."},
     {13, "An attention, step or sweep before power-up.", "iop89_power_up after iop89_reset, or iop89_fresh with a CP."},
     {14, "The fields of CC that a state keeps beside it are not those of CC.",
      "Who writes CC into a state's bytes does so by iop89_set_cc; iop89_cause names the bits that differ."},

@@ -149,7 +149,7 @@ enum tool_status tool_follow(const struct tool_order *order)
     uint8_t state[IOP89_STATE_LENGTH];
     if (order->has_from || order->has_first || order->source) tool_usage("-follow with -from, -first or -source", NULL);
     struct tool_memory memory = tool_load(order);
-    unsigned number = tool_make_state(order, state, &memory);
+    unsigned number = tool_make_state(order, 0, state, &memory);
     if (number != IOP89_DONE) {
         printf("number %u: %s\n", number, iop89_service_words(number));
         return TOOL_REFUSED;

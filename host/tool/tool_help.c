@@ -62,13 +62,13 @@ const struct tool_option tool_options[] = {
     {"-board", "", "reset and power-up in its place: the board's bytes at FFFF6h name the control block", IMAGES},
     {"-state", "FILE", "a saved state in its place; attentions only where -channel or -attention asks for them", STEPS},
     {"-channel", "N", "channel that gets attention, 1 or 2 (1); but for run twice: both, in this order", CHANNELS},
-    {"-attention", "N:C[:CCW]", "an attention to channel C before step N, with this CCW stored first",
-     TOOL_STEP | TOOL_COMPARE},
+    {"-attention", "N:C[:CCW]", "an attention to channel C before step N, with this CCW stored first", STEPS},
     {"-lines", "N", "sum of DRQ1 = 1, DRQ2 = 2, EXT1 = 4, EXT2 = 8, held throughout (0)", CHANNELS},
     {"-lines", "N,N..", "in turn, one for each step that is tried; where a channel waits, the next one is tried", STEPS},
     {"-lines", "FILE", "the same from a text; a name that begins with a digit is written ./1", STEPS},
     {"-limit", "N", "most steps (1000); under several line numbers, most that are tried", CHANNELS},
-    {"-port", "SPACE ADDR FILE", "the step that reads this byte of sys or io finds the file's next byte there", STEPS},
+    {"-port", "SPACE ADDR FILE", "each read of this byte of sys or io gets the file's next byte", STEPS},
+    {"-bus", "", "a line for each byte that a call reads or stores, in its order, below the call's own", STEP_DEBUG},
     {"-set", "REG=VALUE", "sets a register before the first step: GA=0x60/io, BC=5; 2:BC=5 of channel 2", STEPS},
     {"-until", "ADDR", "stops where TP of a running channel has come to this address", STEP_DEBUG},
     {"-break", "ADDR", "the same, for each of up to 16 addresses", STEP_DEBUG},
@@ -82,7 +82,12 @@ const struct tool_option tool_options[] = {
     {"-io-image2", "FILE", "what -io-image is", TOOL_STEP},
     {"-channel2", "N", "what -channel is", TOOL_STEP},
     {"-lines2", "N,N..", "what -lines is", TOOL_STEP},
+    {"-state2", "FILE", "what -state is", TOOL_STEP},
+    {"-attention2", "N:C[:CCW]", "what -attention is, and N counts the steps of both", TOOL_STEP},
+    {"-set2", "REG=VALUE", "what -set is; for -port and -watch its I/O memory is the space io2", TOOL_STEP},
     {"-show-io2", "FROM N", "what -show-io is", TOOL_STEP},
+    {"-save-io2", "FILE", "what -save-io is", TOOL_STEP},
+    {"-save-state2", "FILE", "what -save-state is", TOOL_STEP},
     {"-trace", "FILE", "writes the lines of make run, one for each step, to a file", TOOL_STEP},
     {"-trace", "", "a line for each row: its place, the row, its number, and what it did", TOOL_SCHEDULE},
     {"-show", "FROM N", "shows N bytes of system memory from FROM on, as they are at the end", RUN_STEP | TOOL_SCHEDULE},
@@ -132,8 +137,8 @@ static const char *const notes[] = {
     "asm's FILE has the lines of list, blank ones, and comments behind ;. A line may have a label in front, NAME:, and data "
     "in the place of an instruction: DB bytes, DW words. Where a number stands a sum may, as TABLE-(5+101B). It is "
     "assembled whole, or refused at its first bad line: 30 word, 31 operands, 32 parentheses, 33 label, 34 reach, 35 room.",
-    "Which bytes a step touches, for its line, for ports and for the words of 2, is told by the emulator of host/ that the "
-    "library is compared with; every answer is the library's.",
+    "Which bytes a step touches, for its line, for ports, -watch and -bus and for the words of 2, the library tells before "
+    "the step is made (iop89_touches_step).",
 };
 
 enum { NOTES = sizeof notes / sizeof notes[0], STATUSES = sizeof statuses / sizeof statuses[0] };

@@ -53,12 +53,13 @@ static const char *file_of(struct reader *r)
     return value(r, "a file is missing behind");
 }
 
-/* The space behind an option. */
-static bool space_of(struct reader *r)
+/* The space behind an option, and whose it is. */
+static bool space_of(struct reader *r, bool *second)
 {
     bool in_io = false;
-    const char *word = value(r, "a space is missing behind"), *complaint = tool_read_space(word, &in_io);
+    const char *word = value(r, "a space is missing behind"), *complaint = tool_read_space(word, &in_io, second);
     if (complaint != NULL) tool_usage(complaint, word);
+    if (*second && r->order->second_word == NULL) r->order->second_word = word;
     return in_io;
 }
 
@@ -113,7 +114,7 @@ static void add_range(struct reader *r, bool in_io, bool second)
 static void add_watch(struct reader *r)
 {
     struct tool_range *range = &r->order->watch[one_more(&r->order->watches, TOOL_STOPS, "more than 16 to watch")];
-    range->in_io = space_of(r);
+    range->in_io = space_of(r, &range->second);
     range->from = length_of(r);
     range->count = 1;
     if (r->left > 1 && r->words[1][0] >= '0' && r->words[1][0] <= '9') range->count = length_of(r);
@@ -123,17 +124,19 @@ static void add_watch(struct reader *r)
 static void add_port(struct reader *r)
 {
     struct tool_port *port = &r->order->port[one_more(&r->order->ports, TOOL_PORTS, "more than 8 ports")];
-    port->in_io = space_of(r);
+    port->in_io = space_of(r, &port->second);
     port->at = length_of(r);
     port->name = file_of(r);
 }
 
 /* Adds an attention, STEP:CHANNEL[:CCW]. */
-static void add_event(struct reader *r)
+static void add_event(struct reader *r, bool second)
 {
     const char *word = value(r, "an attention is missing behind"), *from = word;
     struct tool_event *event = &r->order->event[one_more(&r->order->events, TOOL_EVENTS, "more than 64 attentions")];
     size_t length = strcspn(from, ":");
+    event->place = r->order->events - 1;
+    event->second = second;
     event->step = number_in(word, from, length);
     if (from[length] != ':') tool_usage("no STEP:CHANNEL", word);
     if (event->step == 0) tool_usage("steps count from 1", word);
@@ -146,12 +149,14 @@ static void add_event(struct reader *r)
 }
 
 /* Adds a setting. */
-static void add_setting(struct reader *r)
+static void add_setting(struct reader *r, bool second)
 {
     const char *word = value(r, "a setting is missing behind");
-    const char *complaint = tool_read_setting(
-        word, &r->order->setting[one_more(&r->order->settings, TOOL_SETTINGS, "more than 32 settings")]);
+    struct tool_setting *setting =
+        &r->order->setting[one_more(&r->order->settings, TOOL_SETTINGS, "more than 32 settings")];
+    const char *complaint = tool_read_setting(word, setting);
     if (complaint != NULL) tool_usage(complaint, word);
+    setting->second = second;
 }
 
 /* Adds a file, with what was said of it. */
@@ -199,7 +204,7 @@ static bool *mark_of(struct tool_order *o, const char *option)
         bool *mark;
     } marks[] = {{"-source", &o->source}, {"-board", &o->board},         {"-sweep", &o->sweep},   {"-over", &o->over},
                  {"-diff", &o->diff},     {"-regs", &o->regs},           {"-follow", &o->follow}, {"-labels", &o->labels},
-                 {"-no-labels", &o->no_labels}, {"-no-header", &o->no_header}};
+                 {"-no-labels", &o->no_labels}, {"-no-header", &o->no_header}, {"-bus", &o->bus}};
     for (size_t i = 0; i < sizeof marks / sizeof marks[0]; i++)
         if (strcmp(option, marks[i].name) == 0) return marks[i].mark;
     return NULL;
@@ -211,9 +216,18 @@ static const char **name_of(struct tool_order *o, const char *option)
     const struct {
         const char *name;
         const char **place;
-    } names[] = {{"-out", &o->out},           {"-save", &o->save},   {"-save-io", &o->save_io},
-                 {"-save-state", &o->save_state}, {"-state", &o->state}, {"-trace", &o->trace_file},
-                 {"-script", &o->script},     {"-io-image", &o->of[0].io_image}, {"-io-image2", &o->of[1].io_image}};
+    } names[] = {{"-out", &o->out},
+                 {"-save", &o->save},
+                 {"-trace", &o->trace_file},
+                 {"-script", &o->script},
+                 {"-io-image", &o->of[0].io_image},
+                 {"-io-image2", &o->of[1].io_image},
+                 {"-state", &o->of[0].state},
+                 {"-state2", &o->of[1].state},
+                 {"-save-io", &o->of[0].save_io},
+                 {"-save-io2", &o->of[1].save_io},
+                 {"-save-state", &o->of[0].save_state},
+                 {"-save-state2", &o->of[1].save_state}};
     for (size_t i = 0; i < sizeof names / sizeof names[0]; i++)
         if (strcmp(option, names[i].name) == 0) return names[i].place;
     return NULL;
@@ -225,7 +239,7 @@ static bool take_more(struct reader *r, const char *option)
     struct tool_order *o = r->order;
     if (strcmp(option, "-lines") == 0) take_lines(&o->of[0], r);
     else if (strcmp(option, "-lines2") == 0) take_lines(&o->of[1], r);
-    else if (strcmp(option, "-channel") == 0) o->has_channel = true, add_channel(&o->of[0], r);
+    else if (strcmp(option, "-channel") == 0) add_channel(&o->of[0], r);
     else if (strcmp(option, "-channel2") == 0) add_channel(&o->of[1], r);
     else if (strcmp(option, "-io") == 0) o->of[0].io_length = length_of(r);
     else if (strcmp(option, "-io2") == 0) o->of[1].io_length = length_of(r);
@@ -234,8 +248,10 @@ static bool take_more(struct reader *r, const char *option)
     else if (strcmp(option, "-show-io2") == 0) add_range(r, true, true);
     else if (strcmp(option, "-watch") == 0) add_watch(r);
     else if (strcmp(option, "-port") == 0) add_port(r);
-    else if (strcmp(option, "-attention") == 0) add_event(r);
-    else if (strcmp(option, "-set") == 0) add_setting(r);
+    else if (strcmp(option, "-attention") == 0) add_event(r, false);
+    else if (strcmp(option, "-attention2") == 0) add_event(r, true);
+    else if (strcmp(option, "-set") == 0) add_setting(r, false);
+    else if (strcmp(option, "-set2") == 0) add_setting(r, true);
     else if (strcmp(option, "-even") == 0) add_file(r, file_of(r), TOOL_EVEN);
     else if (strcmp(option, "-odd") == 0) add_file(r, file_of(r), TOOL_ODD);
     else if (strcmp(option, "-raw") == 0) r->next.form = TOOL_RAW;
@@ -293,11 +309,11 @@ static void check_halves(const struct tool_order *order)
 }
 
 /* Fills in what one processor was not given. */
-static void fill(struct tool_processor *p, bool first, bool attended)
+static void fill(struct tool_processor *p, bool first)
 {
     if (p->io_image != NULL && p->io_length != UINT32_MAX)
         tool_usage(first ? "-io and -io-image" : "-io2 and -io-image2", NULL);
-    if (p->channels == 0 && attended) p->channel[p->channels++] = 1;
+    if (p->channels == 0 && p->state == NULL) p->channel[p->channels++] = 1;
     if (p->lines.count == 0) tool_add_line(&p->lines, 0);
 }
 
@@ -314,12 +330,12 @@ static void check_order(struct reader *r)
     if (order->files == 0) tool_usage("no file", NULL);
     check_halves(order);
     if (order->board && order->has_cp) tool_usage("-board and -cp", NULL);
-    if (order->state != NULL && (order->board || order->has_cp))
+    if (order->of[0].state != NULL && (order->board || order->has_cp))
         tool_usage("-state, which has its own CP, and -board or -cp", NULL);
     if (order->second_word != NULL && !order->pair)
         tool_usage("no -pair, and so no second processor for", order->second_word);
-    if (order->sweep && (order->ports + order->stops + order->watches + order->events > 0 || order->has_until))
-        tool_usage("-sweep goes with none of -port, -watch, -break, -until and -attention", NULL);
+    if (order->sweep && (order->ports + order->stops + order->watches + order->events > 0 || order->has_until || order->bus))
+        tool_usage("-sweep goes with none of -port, -watch, -break, -until, -attention and -bus", NULL);
 }
 
 void tool_read_order(struct tool_order *order, int count, char **words)
@@ -330,6 +346,6 @@ void tool_read_order(struct tool_order *order, int count, char **words)
         else add_file(&r, r.words[0], TOOL_WHOLE);
     }
     check_order(&r);
-    fill(&order->of[0], true, order->state == NULL || order->has_channel);
-    fill(&order->of[1], false, true);
+    fill(&order->of[0], true);
+    fill(&order->of[1], false);
 }

@@ -8,7 +8,7 @@
 
 /* The state that a run leaves behind so many steps: the same calls once more, on a copy of its memory. */
 static void state_behind(const struct tool_order *order, struct tool_memory again, uint32_t steps, uint8_t *state,
-                         struct tool_call *last)
+                         struct bus_call *last)
 {
     (void)iop89_fresh(state, IOP89_STATE_LENGTH, order->of[0].cp);
     if (order->board) {
@@ -18,7 +18,7 @@ static void state_behind(const struct tool_order *order, struct tool_memory agai
     }
     iop89_answer attended = tool_attend(state, &again, order->of[0].channel[0]);
     bool refused = IOP89_ANSWER_NUMBER(attended) != IOP89_DONE;
-    last->kind = refused ? TOOL_ATTENTION : TOOL_STEPPED;
+    last->kind = refused ? BUS_ATTENTION : BUS_STEP;
     last->value = refused ? order->of[0].channel[0] : order->of[0].lines.number[0];
     for (uint32_t i = 0; i < steps; i++) (void)tool_do_step(state, &again, order->of[0].lines.number[0]);
 }
@@ -41,7 +41,7 @@ static iop89_run_answer run(const struct tool_order *order, struct tool_memory *
 enum tool_status tool_run(const struct tool_order *order)
 {
     uint8_t state[IOP89_STATE_LENGTH];
-    struct tool_call last = {TOOL_POWER_UP, 0};
+    struct bus_call last = {BUS_POWER_UP, 0};
     if (order->of[0].channels > 1) tool_usage("run starts one channel", NULL);
     if (order->of[0].lines.count > 1) tool_usage("run takes one line number", NULL);
     struct tool_memory memory = tool_load(order), before = tool_copy(memory), again = tool_copy(memory);
@@ -59,7 +59,8 @@ enum tool_status tool_run(const struct tool_order *order)
     if (order->regs) tool_print_registers(state);
     if (order->diff) tool_print_diff(&before, &memory);
     tool_print_shown(order, &memory);
-    tool_save_all(order, &memory, state);
+    tool_save_system(order, &memory);
+    tool_save_own(&order->of[0], &memory, state);
     tool_free(memory);
     tool_free(before);
     tool_free(again);
@@ -137,17 +138,6 @@ static void trace_line(const struct tool_machine *m, iop89_answer answer)
                 iop89_get(m->state, channel, IOP89_TP));
 }
 
-/* Whether an attention is still to come, which may start what is idle now: its step is the next one tried. */
-static bool skip_to_event(struct tool_machine *m)
-{
-    uint32_t next = UINT32_MAX;
-    for (unsigned i = 0; i < m->order->events; i++)
-        if (m->order->event[i].step > m->tried && m->order->event[i].step < next) next = m->order->event[i].step;
-    if (next > m->order->limit) return false;
-    m->tried = next - 1;
-    return true;
-}
-
 /* Tries one step, and prints its line; answers the number that stops the steps, 0 where they go on. */
 static unsigned step_line(struct tool_machine *m)
 {
@@ -159,10 +149,11 @@ static unsigned step_line(struct tool_machine *m)
     if (number == IOP89_DONE) {
         printf("%" PRIu32, m->tried);
         tool_print_done(answer, before, m->state, tail);
+        tool_print_bus(m);
         trace_line(m, answer);
     } else if (tool_goes_on(&m->order->of[0], number, m->state)) {
         tool_print_waiting("", m->tried, m->state);
-    } else if (number != IOP89_NO_CHANNEL || !skip_to_event(m)) {
+    } else if (number != IOP89_NO_CHANNEL || !tool_skip_to_event(m)) {
         return number;
     }
     return IOP89_DONE;
@@ -175,7 +166,7 @@ static unsigned step_lines(struct tool_machine *m, bool *stopped)
     unsigned number = IOP89_DONE;
     *stopped = false;
     while (number == IOP89_DONE && !*stopped && m->tried < m->order->limit) {
-        number = tool_give_due(m, false);
+        number = tool_give_due(m, m->tried + 1, false);
         if (number != IOP89_DONE) break;
         if (steps_ahead(m, &spare) > 0) sweep_line(m);
         else number = step_line(m);
@@ -211,7 +202,10 @@ static enum tool_status print_end(const struct tool_machine *m, unsigned number,
         tool_print_number("", number, iop89_service_words(number), m->state, &m->memory, m->done);
     if (status == TOOL_NEVER)
         tool_print_never("", m->state, &m->memory, order->of[0].channels > 0 ? order->of[0].channel[0] : 0);
-    else tool_print_cause("", number, m->state, &m->memory, m->last);
+    else {
+        if (number != IOP89_DONE) tool_print_bus(m);
+        tool_print_cause("", number, m->state, &m->memory, m->last);
+    }
     if (order->regs) tool_print_registers(m->state);
     return status;
 }
@@ -231,7 +225,8 @@ enum tool_status tool_step(const struct tool_order *order)
     enum tool_status status = print_end(&machine, number, stopped);
     if (order->diff) tool_print_diff(&machine.given, &machine.memory);
     tool_print_shown(order, &machine.memory);
-    tool_save_all(order, &machine.memory, machine.state);
+    tool_save_system(order, &machine.memory);
+    tool_save_own(&order->of[0], &machine.memory, machine.state);
     tool_end(&machine);
     return status;
 }

@@ -71,11 +71,16 @@ void tool_save(const char *name, const uint8_t *bytes, size_t length, uint32_t a
     printf("%s: %zu byte%s from %05" PRIX32 "\n", name, length, length == 1 ? "" : "s", at);
 }
 
-void tool_save_all(const struct tool_order *order, const struct tool_memory *memory, const uint8_t *state)
+void tool_save_system(const struct tool_order *order, const struct tool_memory *memory)
 {
     if (order->save != NULL) tool_save(order->save, memory->sys, memory->sys_len, 0);
-    if (order->save_io != NULL) tool_save(order->save_io, memory->io, memory->io_len, 0);
-    if (order->save_state == NULL) return;
-    if (tool_is_prom_name(order->save_state)) tool_usage("a state is no PROM file", order->save_state);
-    tool_save(order->save_state, state, IOP89_STATE_LENGTH, 0);
+}
+
+void tool_save_own(const struct tool_processor *processor, const struct tool_memory *memory, const uint8_t *state)
+{
+    const char *name = processor->save_state;
+    if (processor->save_io != NULL) tool_save(processor->save_io, memory->io, memory->io_len, 0);
+    if (name == NULL) return;
+    if (tool_is_prom_name(name)) tool_usage("a state is no PROM file", name);
+    tool_save(name, state, IOP89_STATE_LENGTH, 0);
 }

@@ -246,7 +246,7 @@ enum tool_status tool_schedule(const struct tool_order *order)
     struct tool_order rest = without_rows(order);
     struct rows rows = read_rows(order->file[0].name);
     struct tool_memory memory = tool_load(&rest);
-    unsigned number = tool_make_state(&rest, state, &memory);
+    unsigned number = tool_make_state(&rest, 0, state, &memory);
     if (number == IOP89_DONE) number = run_rows(&rest, &rows, state, &memory, report);
     if (number == IOP89_DONE) print_report(report);
     else print_number(order->file[0].name, &rows, number);

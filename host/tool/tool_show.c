@@ -185,9 +185,14 @@ void tool_print_shown(const struct tool_order *order, const struct tool_memory *
     for (unsigned i = 0; i < order->ranges; i++) tool_print_range(order->shown[i], &memory[order->shown[i].second ? 1 : 0]);
 }
 
+void tool_print_diff_of(const char *space, uint8_t *before, uint8_t *now, size_t length)
+{
+    struct lent lent = {before, now, length};
+    print_changes(space, &lent);
+}
+
 void tool_print_diff(const struct tool_memory *before, const struct tool_memory *now)
 {
-    struct lent sys = {before->sys, now->sys, now->sys_len}, io = {before->io, now->io, now->io_len};
-    print_changes("system memory", &sys);
-    print_changes("I/O memory", &io);
+    tool_print_diff_of("system memory", before->sys, now->sys, now->sys_len);
+    tool_print_diff_of("I/O memory", before->io, now->io, now->io_len);
 }

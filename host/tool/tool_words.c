@@ -101,8 +101,9 @@ const char *tool_read_setting(const char *word, struct tool_setting *setting)
     return "no register: GA, GB, GC, TP, PP, BC, IX, CC, MC or PSW";
 }
 
-const char *tool_read_space(const char *word, bool *in_io)
+const char *tool_read_space(const char *word, bool *in_io, bool *second)
 {
-    *in_io = strcmp(word, "io") == 0;
+    *second = strcmp(word, "io2") == 0;
+    *in_io = *second || strcmp(word, "io") == 0;
     return *in_io || strcmp(word, "sys") == 0 ? NULL : "no space, sys or io";
 }
