@@ -14,7 +14,7 @@ unfoldable pub frontBytes : Channel → List ℕ
 frontBytes c = pointersBytes c ++ (numbersBytes c ++ marksBytes c)
 
 -- the bytes with a channel's block put from an offset on, its fields only where another CC stands there
-unfoldable pub agreeingPut : List ℕ → ℕ → Channel → List ℕ
-agreeingPut b at c =
+unfoldable pub putAgreeing : List ℕ → ℕ → Channel → List ℕ
+putAgreeing b at c =
     let front = sets b at (frontBytes c) in
     sets (pick (eqb (littleIn 2 b (at + 28)) (c .cc)) front (sets front (at + 35) (fieldsBytes (split (c .cc))))) (at + 45) (heldBytes c)

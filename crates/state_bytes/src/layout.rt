@@ -18,7 +18,7 @@ ghost use Rattle.ground_rules.specs.States.{channelOf, withChannel, withLast, f
 ghost use Rattle.state_rules.specs.Conditions.{ChannelFits};
 ghost use Rattle.ground_rules.specs.Holdings.{isHeldNumber};
 ghost use Rattle.state_rules.specs.Fields.{littleIn};
-ghost use Rattle.state_bytes.specs.Puts.{frontBytes, agreeingPut};
+ghost use Rattle.state_bytes.specs.Puts.{frontBytes, putAgreeing};
 ghost use Rattle.state_bytes.specs.Tests.{tagsFit, flagsFit, codesFit};
 ghost use Rattle.state_rules.specs.Layout.{pointerBytes, pointersBytes, numbersBytes, marksBytes, sidesBytes, endsBytes, fieldsBytes, heldBytes, channelBytes, boardBytes, bytesOf, pointerIn, fieldsIn, channelIn, boardIn, stateIn, isFields, isBoard, isState, stateLength, blockFrom};
 
@@ -363,7 +363,7 @@ fn put_channel(bytes: &mut [u8], at: usize, c: Channel)
 fn put_agreeing(bytes: &mut [u8], at: usize, c: Channel)
     requires { ⌜ at + 47 ≤ length (now bytes) ⌝ }
     ensures fits { λ r. ⌜ ChannelFits c ⌝ }
-    ensures put { λ r. ⌜ now (bytes .exit) ≡ agreeingPut (now (bytes .entry)) at c ⌝ }
+    ensures put { λ r. ⌜ now (bytes .exit) ≡ putAgreeing (now (bytes .entry)) at c ⌝ }
 {
     let same = fields::word(bytes, at + 28) == c.cc;
     put_front(bytes, at, c);

@@ -23,7 +23,7 @@ struct Compared {
 }
 
 // What a step does with the bytes: whether two are stored, and the code of its end.
-pub(crate) struct Done {
+pub(crate) struct StoreEnd {
     pub(crate) two: bool,
     pub(crate) code: u32,
 }
@@ -98,13 +98,13 @@ fn end_from(c: Channel, matched: u32, bc: u16) -> u32
 }
 
 // What a step does with the bytes that it read.
-pub(crate) fn finish(c: Channel, p: Setup, d: Data) -> Done
+pub(crate) fn finish(c: Channel, p: Setup, d: Data) -> StoreEnd
     requires { ⌜ p ≡ setupOf c ⌝ }
     ensures { λ r. ⌜ r ≡ record { two = storesTwo c d; code = endCode c d } ⌝ }
 {
     let bc = words::count_down(c.bc, one_or_two(p.two));
     let k = compare(c, p, d);
-    Done {
+    StoreEnd {
         two: k.two,
         code: end_from(c, k.code, bc),
     }

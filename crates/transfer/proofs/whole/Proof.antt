@@ -22,7 +22,7 @@ use Rattle.transfer.specs.declared.Setup.{Setup}
 use Rattle.transfer_rules.specs.declared.Side.{Side}
 use Rattle.transfer.specs.declared.Transferred.{Transferred}
 use Rattle.transfer.specs.declared.reads.Fetched.{Fetched}
-use Rattle.transfer.specs.declared.stores.Done.{Done}
+use Rattle.transfer.specs.declared.stores.StoreEnd.{StoreEnd}
 use Rattle.ground_rules.specs.Choice.{pick}
 use borrow.Author.Needs.{needs}
 use borrow.Author.Tests.{not-true, not-false}
@@ -34,7 +34,7 @@ use Rattle.transfer.proofs.whole.Statement.{statement}
 use Rattle.transfer.proofs.whole.Tie as tie
 
 -- what a step has read and put, as its helpers say it, is what the step reads and stores
-module _ (c : Channel) (m : Buffers) (p : Setup) (f : Fetched) (done : Done) (ep : p ≡ setupOf c) (ef : f ≡ fetchOf c m)
+module _ (c : Channel) (m : Buffers) (p : Setup) (f : Fetched) (done : StoreEnd) (ep : p ≡ setupOf c) (ef : f ≡ fetchOf c m)
     (ed : done ≡ record { two = storesTwo c (f .bytes); code = endCode c (f .bytes) }) where
   reads : f .touchable ≡ allTouchable m (readPlaces c m)
   reads = ap (λ (x : Fetched). x .touchable) ef ∙ fetch-touchable c m
@@ -48,16 +48,16 @@ module _ (c : Channel) (m : Buffers) (p : Setup) (f : Fetched) (done : Done) (ep
 
     -- the channel as it lands
     lands : (by : ℕ) (r : Channel) → by ≡ pick (done .two) 2 1 → r ≡ landedBy c by (done .code) → r ≡ movedChannel c (dataOf c m)
-    lands by r e h = h ∙ ap (λ (n : ℕ). landedBy c n (done .code)) e ∙ ap (λ (x : Done). landedBy c (pick (x .two) 2 1) (x .code)) becomes ∙ landed-whole c (dataOf c m)
+    lands by r e h = h ∙ ap (λ (n : ℕ). landedBy c n (done .code)) e ∙ ap (λ (x : StoreEnd). landedBy c (pick (x .two) 2 1) (x .code)) becomes ∙ landed-whole c (dataOf c m)
 
     places : placesOn (p .destination) (done .two) ≡ storedPlaces c (dataOf c m)
     unfolding setupOf storedPlaces
-    places = ap₂ (λ (s : Side) (b : Bool). placesOn s b) (ap (λ (x : Setup). x .destination) ep) (ap (λ (x : Done). x .two) becomes)
+    places = ap₂ (λ (s : Side) (b : Bool). placesOn s b) (ap (λ (x : Setup). x .destination) ep) (ap (λ (x : StoreEnd). x .two) becomes)
 
     puts : putOn (p .destination) (done .two) (f .bytes) m ≡ movedMemory c (dataOf c m) m
     unfolding setupOf movedMemory
     puts =
-        ap₂ (λ (s : Side) (b : Bool). putOn s b (f .bytes) m) (ap (λ (x : Setup). x .destination) ep) (ap (λ (x : Done). x .two) becomes)
+        ap₂ (λ (s : Side) (b : Bool). putOn s b (f .bytes) m) (ap (λ (x : Setup). x .destination) ep) (ap (λ (x : StoreEnd). x .two) becomes)
         ∙ ap (λ (d : Data). putOn (destination c) (storesTwo c (dataOf c m)) d m) read
 
     all : (b : Bool) → allTouchable m (placesOn (p .destination) (done .two)) ≡ b → allTouchable m (touchedBy Whole c m) ≡ b
@@ -65,7 +65,7 @@ module _ (c : Channel) (m : Buffers) (p : Setup) (f : Fetched) (done : Done) (ep
 
     counts : accesses (p .two) (done .two) (c .fields .translates) ≡ length (touchedBy Whole c m)
     unfolding setupOf
-    counts = ap₂ (λ (x : Setup) (y : Done). accesses (x .two) (y .two) (c .fields .translates)) ep becomes ∙ sym (touched-length c m)
+    counts = ap₂ (λ (x : Setup) (y : StoreEnd). accesses (x .two) (y .two) (c .fields .translates)) ep becomes ∙ sym (touched-length c m)
 
 bad-mode-requires : tie.Need-bad-mode-requires
 bad-mode-requires c κs = c .plan .ensures

@@ -18,7 +18,7 @@ use Rattle.transfer_rules.specs.declared.Data.{Data}
 use Rattle.transfer.specs.declared.Moved.{Moved}
 use Rattle.transfer.specs.declared.Setup.{Setup}
 use Rattle.transfer.specs.declared.reads.Fetched.{Fetched}
-use Rattle.transfer.specs.declared.stores.Done.{Done}
+use Rattle.transfer.specs.declared.stores.StoreEnd.{StoreEnd}
 use Rattle.ground_rules.proofs.ChoiceLaws.{and-true}
 use Rattle.ground_rules.specs.Choice.{pick}
 use borrow.Author.Needs.{needs}
@@ -53,9 +53,9 @@ module _ (c : Channel) (m : Buffers) (p : Setup) (f : Fetched) (ep : p ≡ setup
     unfolding setupOf
     puts y = em ∙ rw y (ap (λ (x : Setup). putOn (x .destination) false (f .bytes) m) ep ∙ ap (λ (d : Data). putOn (destination c) false d m) read)
 
-    module _ (y : b ≡ true) (r : Moved) (done : Done) (k : done ≡ record { two = storesTwo c (f .bytes); code = endCode c (f .bytes) }) where
+    module _ (y : b ≡ true) (r : Moved) (done : StoreEnd) (k : done ≡ record { two = storesTwo c (f .bytes); code = endCode c (f .bytes) }) where
       two : (x : Bool) → done .two ≡ x → storesTwo c (dataOf c m) ≡ x
-      two x n = sym (ap (λ (x : Done). x .two) k ∙ ap (λ (d : Data). storesTwo c d) read) ∙ n
+      two x n = sym (ap (λ (x : StoreEnd). x .two) k ∙ ap (λ (d : Data). storesTwo c d) read) ∙ n
 
       held : done .two ≡ true → r ≡ movedHolding 3 (f .bytes .second) → (leftByMove c r m′ ≡ stepBy FirstStore c m) × (r .count ≡ countBy FirstStore c m)
       unfolding touchedBy
@@ -66,7 +66,7 @@ module _ (c : Channel) (m : Buffers) (p : Setup) (f : Fetched) (ep : p ≡ setup
       gone : done .two ≡ false → r ≡ movedOn 3 1 (done .code) → (leftByMove c r m′ ≡ stepBy FirstStore c m) × (r .count ≡ countBy FirstStore c m)
       unfolding touchedBy
       gone n e =
-          rw (e, ap (λ (x : Done). x .code) k ∙ ap (λ (d : Data). endCode c d) read)
+          rw (e, ap (λ (x : StoreEnd). x .code) k ∙ ap (λ (d : Data). endCode c d) read)
           (goes-left FirstStore c m good (touches ∙ y) m′ (first-store-stores c m good h ∙ sym (puts y)) 3 refl 0 (endCode c (dataOf c m)) (first-store-goes c m good h (two false n)))
 
 fetch-requires : tie.Need-fetch-requires

@@ -19,7 +19,7 @@ use Rattle.transfer.specs.declared.Moved.{Moved}
 use Rattle.transfer.specs.declared.Setup.{Setup}
 use Rattle.transfer_rules.specs.declared.Side.{Side}
 use Rattle.transfer.specs.declared.reads.Seen.{Seen}
-use Rattle.transfer.specs.declared.stores.Done.{Done}
+use Rattle.transfer.specs.declared.stores.StoreEnd.{StoreEnd}
 use Rattle.ground_rules.specs.Choice.{pick}
 use borrow.Author.Needs.{needs}
 use borrow.Author.Tests.{not-true, not-false}
@@ -57,12 +57,12 @@ module _ (c : Channel) (m : Buffers) (p : Setup) (byte next : ℕ) (s : Seen) (e
     unfolding setupOf
     puts f = em ∙ rw f (ap (λ (x : Setup). putOn (x .destination) true (record { first = byte; second = s .byte }) m) ep ∙ ap (λ (d : Data). putOn (destination c) true d m) read)
 
-    gone : b ≡ true → (r : Moved) (done : Done) → r ≡ movedOn 3 2 (done .code)
+    gone : b ≡ true → (r : Moved) (done : StoreEnd) → r ≡ movedOn 3 2 (done .code)
         → done ≡ record { two = storesTwo c (record { first = byte; second = s .byte }); code = endCode c (record { first = byte; second = s .byte }) }
         → (leftByMove c r m′ ≡ stepBy (SecondFetch byte) c m) × (r .count ≡ countBy (SecondFetch byte) c m)
     unfolding touchedBy placesOn also
     gone f r done e k =
-        rw (e, ap (λ (x : Done). x .code) k ∙ ap (λ (d : Data). endCode c d) read)
+        rw (e, ap (λ (x : StoreEnd). x .code) k ∙ ap (λ (d : Data). endCode c d) read)
         (goes-left (SecondFetch byte) c m good (touches ∙ f) m′ (second-fetch-stores c m byte h ∙ sym (puts f)) 3 refl 1 (endCode c (wordWith byte c m)) (second-fetch-goes c m byte h))
 
 returns : tie.Need-returns
