@@ -5,7 +5,7 @@ ghost use Rattle.transfer_rules.specs.Ends as Ends;
 ghost use Rattle.transfer_rules.specs.Ends.{codeIf, offsetOf, endedBy};
 
 // Whether a byte meets TMC.
-pub(crate) fn meets(tmc: u32, mc: u16, byte: u8) -> bool
+pub fn meets(tmc: u32, mc: u16, byte: u8) -> bool
     ensures { λ r. ⌜ r ≡ Ends.meetsTmc tmc mc byte ⌝ }
 {
     let found = words::matches(byte, mc);
@@ -43,7 +43,7 @@ fn offset(code: u32) -> u32
 }
 
 // A channel whose transfer an end of a code ends; code 0 is no end.
-pub(crate) fn ended(c: Channel, code: u32) -> Channel
+pub fn ended(c: Channel, code: u32) -> Channel
     ensures { λ r. ⌜ r ≡ endedBy c code ⌝ }
 {
     if code == 0 {
