@@ -15,12 +15,11 @@ use Rattle.ground_rules.specs.Choice.{pick}
 use Rattle.ground_rules.specs.Buffers.{Buffers, spaceOf}
 use Rattle.ground_rules.specs.Psw.{transferring}
 use Rattle.ground_rules.specs.States.{channelOf, withChannel, withLast, sound, agree, isRunning, blockOf, busyIn}
-use Rattle.ground_rules.specs.Updates.{withTransfer, dropped}
+use Rattle.ground_rules.specs.Updates.{withTransfer}
 use Rattle.ground_rules.specs.declared.Channel.{Channel}
 use Rattle.ground_rules.specs.declared.State.{State}
 use Rattle.transfer_rules.proofs.KeptLaws.{only-these}
 use Rattle.transfer_rules.specs.Ends.{externallyEnded}
-use Rattle.transfer_rules.specs.Parts.{isHalf}
 use Rattle.transfer_rules.specs.Steps.{transferOf}
 use Rattle.turn_rules.proofs.ChoosingLaws.{says-ends, rank-none, first-ends, second-ends, nobody-runs, by-rank}
 use Rattle.turn_rules.proofs.SoundLaws.{done-board, entry-agree, entry-again, limits-kept, sound-kept, step-agree}
@@ -36,9 +35,8 @@ use Rattle.turn_rules.specs.declared.Kind.{Kind}
 use Rattle.turn_rules.specs.declared.Kind.the-variants.{Transfer, Instruction, External}
 use Rattle.run_rules.specs.Run.{Run, ran, stepsFrom}
 use Rattle.run_rules.proofs.RunLaws.{stops, goes, limits}
-use Rattle.panel.specs.Bursts.{Own, own, BurstLeft, burst, burstFrom, moves, transfersOn, rowChannel, countsOut, movesBytes, isPlain, plainOn, executes, executesOn, aloneStep, always, aloneFrom, ranBy, restOf, Rounded}
+use Rattle.panel.specs.Bursts.{Own, own, BurstLeft, burst, burstFrom, moves, transfersOn, executes, executesOn, aloneStep, always, aloneFrom, ranBy, restOf, Rounded}
 use Rattle.panel.specs.declared.bursts.Burst.{Burst}
-use Rattle.panel.proofs.RowLaws.{whole-drops, plain-is, plain-whole, plain-psw, plain-left}
 use Rattle.panel.proofs.BurstLaws.{burst-stops, burst-goes, burst-limit, Phase, Bounds, bounds, joins}
 
 -- ---- whose turn it is
@@ -202,27 +200,11 @@ module _ (busy lines : ℕ) (second : Bool) where
   transfer-phase = record {
     Ready = Due true;
     same = λ c m r. rw (r .0, r .1, r .2);
-    again = λ c m r on.
+    again = λ c m r xf.
         let t = transferOf c m in
-        let xf = both-left (transferring (t .channel .psw)) (not (isHalf (t .channel))) (both-right (not (isHalf c)) (transferring (t .channel .psw) && not (isHalf (t .channel))) on) in
         let mode = ap (λ (x : Channel). x .mode) (only-these c m) in
         let fields = ap (λ (x : Channel). x .fields) (only-these c m) in
         (kept-ends c (t .channel) mode fields (xf ∙ sym (r .2)) ∙ r .0, ap (λ (n : ℕ). eqb n noRank) (kept-rank c (t .channel) mode fields (xf ∙ sym (r .2))) ∙ r .1, xf);
-  }
-
-  -- steps that move bytes within system memory
-  plain-phase : Phase (aloneStep busy lines second) moves plainOn
-  unfolding aloneStep withTransfer
-  plain-phase = record {
-    Ready = λ c. Due true c × (isPlain c ≡ true);
-    same = λ c m r. rw (r .0 .0, r .0 .1, r .0 .2);
-    again = λ c m r on.
-        let t = transferOf c m in
-        let l = plain-left c (r .1) in
-        let xf = ap transferring (plain-psw c m (plain-is c (l .0)) (l .1)) in
-        let mode = ap (λ (x : Channel). x .mode) (only-these c m) in
-        let fields = ap (λ (x : Channel). x .fields) (only-these c m) in
-        ((kept-ends c (t .channel) mode fields xf ∙ r .0 .0, ap (λ (n : ℕ). eqb n noRank) (kept-rank c (t .channel) mode fields xf) ∙ r .0 .1, xf ∙ r .0 .2), on);
   }
 
   -- instructions
@@ -262,51 +244,10 @@ module _ (busy lines : ℕ) (second : Bool) where
         }
 
   module _ (c : Channel) (m : Buffers) (limit done : ℕ) (h : done < limit) where
-    -- a byte that it holds makes no difference to a channel whose next step is whole
-    alone-drops : isHalf c ≡ false → transferring (c .psw) ≡ true → ranBy (aloneFrom busy lines second (limit - done) (dropped c) m done) ≡ ranBy (aloneFrom busy lines second (limit - done) c m done)
-    unfolding aloneStep endsNow rankOf externallyEnded
-    alone-drops f xf = go (limit - done) (omega arith) (endsNow c (external lines second)) refl (eqb (rankOf c (requested lines second)) noRank) refl
-      where
-        -- two steps that differ in the channel of a refused one alone
-        same : (n : ℕ) → 0 < n → (aloneStep busy lines second (dropped c) m .number ≡ aloneStep busy lines second c m .number) → (aloneStep busy lines second (dropped c) m .memory ≡ aloneStep busy lines second c m .memory)
-            → (aloneStep busy lines second c m .number ≡ 0 → aloneStep busy lines second (dropped c) m .channel ≡ aloneStep busy lines second c m .channel)
-            → Dec (aloneStep busy lines second c m .number ≡ 0) → ranBy (aloneFrom busy lines second n (dropped c) m done) ≡ ranBy (aloneFrom busy lines second n c m done)
-        same n h k l j (yes z) =
-            ap ranBy
-            (burst-goes (aloneStep busy lines second) always (dropped c) m done n h (k ∙ z) refl
-            ∙ ap₂ (λ (x : Channel) (y : Buffers). aloneFrom busy lines second (n - 1) x y (done + 1)) (j z) l
-            ∙ sym (burst-goes (aloneStep busy lines second) always c m done n h z refl))
-        same n h k l j (no ne) =
-            ap ranBy (burst-stops (aloneStep busy lines second) always (dropped c) m done n h (λ z. ne (sym k ∙ z)))
-            ∙ ap₂ (λ (x : ℕ) (y : Buffers). ran x done y) k l
-            ∙ sym (ap ranBy (burst-stops (aloneStep busy lines second) always c m done n h ne))
-
-        go : (n : ℕ) → 0 < n → (x : Bool) → endsNow c (external lines second) ≡ x → (y : Bool) → eqb (rankOf c (requested lines second)) noRank ≡ y
-            → ranBy (aloneFrom busy lines second n (dropped c) m done) ≡ ranBy (aloneFrom busy lines second n c m done)
-        go n h true e y g = same n h (rw e) (rw e) (λ z. rw e) (ℕ-discrete (aloneStep busy lines second c m .number) 0)
-        go n h false e true g = same n h (rw (e, g)) (rw (e, g)) (rw (e, g) (λ z. absurd (omega (arith, z)))) (ℕ-discrete (aloneStep busy lines second c m .number) 0)
-        go n h false e false g =
-            let w = whole-drops c m f in
-            same n h (rw (e, g, xf) (w .0)) (rw (e, g, xf) (w .1)) (rw (e, g, xf) (w .2)) (ℕ-discrete (aloneStep busy lines second c m .number) 0)
-
-    pub transfers-round : Due true c → (r : Burst) (m′ : Buffers) → burst (r .number) (r .steps) (r .channel) m′ ≡ burstFrom moves transfersOn (limit - done) (rowChannel c) m done
+    pub transfers-round : Due true c → (r : Burst) (m′ : Buffers) → burst (r .number) (r .steps) (r .channel) m′ ≡ burstFrom moves transfersOn (limit - done) c m done
         → Rounded r busy lines second c m m′ limit done
-    unfolding transfer-phase rowChannel endsNow rankOf
-    transfers-round d r m′ = go (isHalf c) refl
-      where
-        go : (x : Bool) → isHalf c ≡ x → burst (r .number) (r .steps) (r .channel) m′ ≡ burstFrom moves transfersOn (limit - done) (pick x c (dropped c)) m done → Rounded r busy lines second c m m′ limit done
-        go true f e = burst-round c m limit done h moves transfersOn transfer-phase d r m′ e
-        go false f e =
-            let q = burst-round (dropped c) m limit done h moves transfersOn transfer-phase d r m′ e in
-            record { rest = q .rest ∙ alone-drops f (d .2); further = q .further; most = q .most }
-
-    -- so are steps that move bytes within system memory
-    pub plain-round : Due true c → isPlain c ≡ true → (r : Burst) (m′ : Buffers) → burst (r .number) (r .steps) (r .channel) m′ ≡ burstFrom moves plainOn (limit - done) (dropped c) m done
-        → Rounded r busy lines second c m m′ limit done
-    unfolding plain-phase isPlain movesBytes countsOut endsNow rankOf
-    plain-round d e r m′ b =
-        let q = burst-round (dropped c) m limit done h moves plainOn plain-phase (d, e) r m′ b in
-        record { rest = q .rest ∙ alone-drops (plain-whole c m (plain-is c (plain-left c e .0))) (d .2); further = q .further; most = q .most }
+    unfolding transfer-phase
+    transfers-round d = burst-round c m limit done h moves transfersOn transfer-phase d
 
     pub instructions-round : Due false c → (r : Burst) (m′ : Buffers) → burst (r .number) (r .steps) (r .channel) m′ ≡ burstFrom (executes busy) executesOn (limit - done) c m done
         → Rounded r busy lines second c m m′ limit done

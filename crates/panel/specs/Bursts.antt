@@ -1,23 +1,30 @@
 -- Steps of one channel in a row with no choice between them, and the steps of a channel that alone may run.
-use mathlib.Core.Bool.{Bool, true, not, _&&_}
-use Prim.Native.Nat.{ℕ, zero, suc, _+_, _-_, _%_, _<_, _≤_}
+use mathlib.Core.Bool.{Bool, true, false, not, _&&_}
+use Prim.Native.Nat.{ℕ, zero, suc, _+_, _-_, _<_, _≤_}
 use mathlib.Core.Path.{_≡_}
 use lib.Dec.{eqb}
 use Rattle.ground_rules.specs.Choice.{pick}
-use Rattle.ground_rules.specs.Buffers.{Buffers}
+use Rattle.ground_rules.specs.Buffers.{Buffers, byteAt, touchableAt}
 use Rattle.ground_rules.specs.declared.Channel.{Channel}
 use Rattle.ground_rules.specs.Psw.{transferring, destinationWide, sourceWide}
-use Rattle.ground_rules.specs.Sums.{countDown}
+use Rattle.ground_rules.specs.Sums.{sum20, countDown}
 use Rattle.ground_rules.specs.States.{isRunning}
-use Rattle.ground_rules.specs.Updates.{withTransfer, dropped}
+use Rattle.ground_rules.specs.Updates.{withTransfer, holding, dropped}
+use Rattle.ground_rules.specs.declared.Held.{Held}
+use Rattle.ground_rules.specs.declared.Held.the-variants.{NoByte, Byte}
 use Rattle.ground_rules.specs.Values.{pointer}
 use Rattle.transfer_rules.specs.Ends.{externallyEnded}
-use Rattle.transfer_rules.specs.Parts.{isHalf}
-use Rattle.transfer_rules.specs.Steps.{transferOf}
+use Rattle.transfer_rules.specs.Reads.{bytesFetched}
+use Rattle.transfer_rules.specs.Steps.{transferred, transferOf}
+use Rattle.transfer_rules.specs.Stores.{movedBy}
+use Rattle.transfer.specs.Fetches.{seen}
+use Rattle.transfer.specs.declared.Moved.{Moved}
+use Rattle.transfer.specs.declared.reads.Seen.{Seen}
 use Rattle.instruction_rules.specs.Execute.{executeOf}
 use Rattle.turn_rules.specs.Choosing.{requested, external, endsNow, noRank, rankOf}
 use Rattle.run_rules.specs.Run.{Run, ran}
 use Rattle.panel.specs.declared.bursts.Burst.{Burst}
+use Rattle.panel.specs.declared.rows.Places.{Places}
 
 -- what a channel's own step comes to
 pub record Own : Type 0 where
@@ -48,16 +55,12 @@ burstFrom one on (suc left) c m done =
     (pick (on c (o .channel)) rest (burst 0 (done + 1) (o .channel) (o .memory)))
     (burst (o .number) done c (o .memory))
 
--- a transfer step, and whether another follows in the row; a half of a pair is a row of its own
+-- a transfer step, and whether another follows in the row
 abbrev pub moves : Channel → Buffers → Own
 moves c m = let t = transferOf c m in own (t .number) (t .channel) (t .memory)
 
 abbrev pub transfersOn : Channel → Channel → Bool
-transfersOn c after = not (isHalf c) && (transferring (after .psw) && not (isHalf after))
-
--- the channel that a row begins with: a byte that it holds is dropped by its first step, unless a half is due
-unfoldable pub rowChannel : Channel → Channel
-rowChannel c = pick (isHalf c) c (dropped c)
+transfersOn c after = transferring (after .psw)
 
 -- where GB stands, or GA
 abbrev pub standsAt : Channel → Bool → ℕ
@@ -72,24 +75,68 @@ placedAt c source destination bc =
     (pointer (pick (c .fields .sourceIsGB) source destination) (c .gb .tag))
     (c .tp) bc (c .psw))
 
+-- the same channel with what it held
+unfoldable pub keptAt : Channel → ℕ → ℕ → ℕ → Channel
+keptAt c source destination bc = holding (placedAt c source destination bc) (c .held)
+
+-- whether a byte is held, and which
+unfoldable pub isHeld : Held → Bool
+isHeld NoByte = false
+isHeld (Byte byte) = true
+
+unfoldable pub heldByte : Held → ℕ
+heldByte NoByte = 0
+heldByte (Byte byte) = byte
+
+-- a channel as a row carries it: where its sides stand, BC, and what it holds
+unfoldable pub carriedAs : Channel → Places → Channel
+carriedAs c p = holding (placedAt c (p .source) (p .destination) (p .bc)) (pick (p .holds) (Byte (p .byte)) NoByte)
+
+-- what a step makes of a channel before any end: it holds a byte, or its sides go on and BC falls
+unfoldable pub goesTo : Channel → Moved → Channel
+goesTo c m = pick (eqb (m .by) 0) (holding c (Byte (m .byte))) (movedBy c (m .by) (countDown (c .bc) (bytesFetched c)))
+
+-- whether that step ends the transfer
+abbrev pub endsRow : Moved → Bool
+endsRow m = not (eqb (m .by) 0) && not (eqb (m .code) 0)
+
 -- a step of a channel with that BC ends its transfer by count
 unfoldable pub countsOut : Channel → ℕ → Bool
 countsOut c bc = not (eqb (c .fields .countEnd) 0) && eqb (countDown bc 1) 0
 
--- each step moves a byte within system memory that is neither translated nor compared, and ends the transfer by count alone
-unfoldable pub movesBytes : Channel → Bool
-movesBytes c =
+-- each step moves one byte, no mode is refused, TS is off, and nothing is held
+unfoldable pub isNarrow : Channel → Bool
+isNarrow c =
     not (sourceWide (c .psw)) && not (destinationWide (c .psw))
-    && (not (eqb (c .fields .synchronised) 3) && not (c .fields .translates))
-    && (eqb (c .fields .matchEnd % 4) 0 && not (c .fields .singleTransfer))
-    && (not (c .ga .tag) && not (c .gb .tag))
+    && (not (eqb (c .fields .synchronised) 3) && not (c .fields .singleTransfer))
+    && not (isHeld (c .held))
 
--- such a channel, of which the next step does not end the transfer; and whether another such step follows in the row
-unfoldable pub isPlain : Channel → Bool
-isPlain c = movesBytes c && not (countsOut c (c .bc))
+-- how far such steps go, from `from` on: none of them ends the transfer by count
+pub record Reached (c : Channel) (from stop r : ℕ) : Type 0 where
+  pub least : from ≤ r
+  pub most : r ≤ stop
+  pub narrow : from < r → isNarrow c ≡ true
+  pub quiet : (k : ℕ) → k < r - from → countsOut c (countDown (c .bc) k) ≡ false
 
-abbrev pub plainOn : Channel → Channel → Bool
-plainOn c after = isPlain after
+-- the space of the source, and that of the destination
+unfoldable pub sourceTag : Channel → Bool
+sourceTag c = pick (c .fields .sourceIsGB) (c .gb .tag) (c .ga .tag)
+
+unfoldable pub destinationTag : Channel → Bool
+destinationTag c = pick (c .fields .sourceIsGB) (c .ga .tag) (c .gb .tag)
+
+-- the byte at an address of the source, or with translation the one that stands for it, and whether what is read may be touched
+unfoldable pub throughOf : Channel → Buffers → ℕ → Seen
+throughOf c m at =
+    pick (touchableAt m (sourceTag c) at && c .fields .translates)
+    (seen m (c .gc .tag) (sum20 (c .gc .address) (byteAt m (sourceTag c) at)))
+    (seen m (sourceTag c) at)
+
+-- a quiet step of such a channel, where it was one: it moves a byte and does not end the transfer unless the count does; and where it was none, nothing
+pub record Hopped (c : Channel) (s d : ℕ) (r : Bool) (m m′ : Buffers) : Type 0 where
+  pub went : r ≡ true → (bc : ℕ) → countsOut c bc ≡ false
+      → transferOf (keptAt c s d bc) m ≡ transferred 0 (keptAt c (pick (c .fields .sourceMoves) (sum20 s 1) s) (pick (c .fields .destinationMoves) (sum20 d 1) d) (countDown bc 1)) m′
+  pub stayed : r ≡ false → m′ ≡ m
 
 -- an instruction, and whether another follows
 abbrev pub executes : ℕ → Channel → Buffers → Own

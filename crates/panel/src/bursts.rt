@@ -3,50 +3,16 @@ use crate::rows;
 use ground_rules::Channel;
 use run_rules::Ran;
 ghost use mathlib.Core.Path.{_≡_};
-ghost use mathlib.Core.Bool.{true};
 ghost use Prim.Native.Nat.{_-_, _<_, _≤_};
 ghost use Rattle.ground_rules.specs.Buffers.{lent};
-ghost use Rattle.transfer_rules.specs.Parts.{isHalf};
 ghost use Rattle.run_rules.specs.Run.{ran};
-ghost use Rattle.panel.specs.Bursts.{burst, burstFrom, moves, transfersOn, rowChannel, executes, executesOn, aloneRun, Rounded};
+ghost use Rattle.panel.specs.Bursts.{burst, burstFrom, executes, executesOn, aloneRun, Rounded};
 
 // How steps of one channel in a row ended: the number that stopped them, the steps of the run done by then, and the channel.
 pub(crate) struct Burst {
     pub(crate) number: u32,
     pub(crate) steps: u16,
     pub(crate) channel: Channel,
-}
-
-// A half of a pair of transfer steps, which is a row of its own.
-fn half_row(c: Channel, sys: &mut [u8], io: &mut [u8], from: u16, stop: u16) -> Burst
-    requires { ⌜ (from < stop) × (isHalf c ≡ true) ⌝ }
-    ensures { λ r. ⌜ burst (r .number) (r .steps) (r .channel) (lent (sys .exit) (io .exit)) ≡ burstFrom moves transfersOn (stop - from) c (lent (sys .entry) (io .entry)) from ⌝ }
-{
-    let t = transfer::half(c, sys, io);
-    if t.number != 0 {
-        return Burst {
-            number: t.number,
-            steps: from,
-            channel: c,
-        };
-    }
-    let channel = t.channel;
-    Burst {
-        number: 0,
-        steps: from + 1,
-        channel,
-    }
-}
-
-// Transfer steps of a channel until its transfer ends, a half of a pair is due, one is refused, or none is left.
-fn transfers(c: Channel, sys: &mut [u8], io: &mut [u8], from: u16, stop: u16) -> Burst
-    requires { ⌜ from < stop ⌝ }
-    ensures { λ r. ⌜ burst (r .number) (r .steps) (r .channel) (lent (sys .exit) (io .exit)) ≡ burstFrom moves transfersOn (stop - from) (rowChannel c) (lent (sys .entry) (io .entry)) from ⌝ }
-{
-    if transfer::is_half(c) {
-        return half_row(c, sys, io, from, stop);
-    }
-    rows::wholes(c, sys, io, from, stop)
 }
 
 // Instructions of a channel until it stops or starts a transfer, one is refused, or none is left; BUSY is at `busy` of system memory.
@@ -116,10 +82,7 @@ fn turn(
         };
     }
     if machine::psw::transferring(c.psw) {
-        if rows::is_plain(c) {
-            return rows::plain(c, sys, io, done, limit);
-        }
-        return transfers(c, sys, io, done, limit);
+        return rows::row(c, sys, io, done, limit);
     }
     instructions(c, busy, sys, io, done, limit)
 }

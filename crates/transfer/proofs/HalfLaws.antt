@@ -1,11 +1,15 @@
--- The laws of the halves of a pair: what each leaves, from what its code has seen, stored and worked out.
+-- The laws of what a step comes to: what each half of a pair leaves, from what its code has seen, stored and worked out, and the part that is due.
 -- Assumes nothing.
 use Prim.Native.Nat.{ℕ, suc}
 use lib.Dec.{eqb, eqb·suc-zero}
+use borrow.Author.Tests.{ne-eqb}
 use lib.ListN.{length}
 use mathlib.Core.Bool.{Bool, true, false, not, _&&_}
 use mathlib.Core.Path.{_≡_, refl, sym, ap, ap₂, _∙_}
+use Rattle.ground_rules.specs.Outcomes.{counted}
 use Rattle.ground_rules.specs.Updates.{holding}
+use Rattle.transfer.specs.declared.Moved.{Moved}
+use Rattle.transfer.specs.declared.Transferred.{Transferred}
 use Rattle.ground_rules.specs.declared.Channel.{Channel}
 use Rattle.ground_rules.specs.declared.Held.the-variants.{Byte}
 use Rattle.ground_rules.specs.Buffers.{Buffers, touchableAt, byteAt, storeByte}
@@ -13,22 +17,27 @@ use Rattle.ground_rules.specs.Places.{allPass, allTouchable}
 use Rattle.ground_rules.proofs.ChoiceLaws.{apart, and-true}
 use Rattle.ground_rules.specs.Choice.{pick}
 use Rattle.transfer_rules.specs.Halves.{wordWith, secondCode, secondStored}
-use Rattle.transfer.specs.Moves.{movedBeyond, movedHolding, movedOn, landed, leftByMove, wholeStep, halfStep, landedBy}
-use Rattle.transfer_rules.specs.Parts.{Part, Whole, FirstFetch, SecondFetch, FirstStore, SecondStore, fetchesApart, storesApart, isHalf}
+use Rattle.transfer.specs.Moves.{movedRefused, movedHolding, movedOn, landed, leftByMove, landedBy}
+use Rattle.transfer_rules.specs.Parts.{Part, Whole, FirstFetch, SecondFetch, FirstStore, SecondStore, fetchesApart, storesApart, partOf}
 use Rattle.transfer_rules.specs.Reads.{fetched, fetchedSecond, dataOf, readPlaces}
 use Rattle.transfer_rules.specs.Sides.{source, destination, secondAddress, twoMove}
-use Rattle.transfer_rules.specs.Steps.{transferred, touchedBy, channelBy, memoryBy, badMode, stepBy, countBy, transferOf}
+use Rattle.transfer_rules.specs.Steps.{Transfer, transferred, touchedBy, touchedByTransfer, channelBy, memoryBy, badMode, stepBy, countBy, transferOf, transferCount}
 use Rattle.transfer_rules.specs.Stores.{firstMeets, storesTwo, bytesStored, bytesMoved, bytesCounted, countAfter, endCode, movedChannel, putOn, movedMemory, placesOn}
 use Rattle.transfer_rules.specs.declared.Data.{Data}
-use Rattle.transfer_rules.proofs.PartLaws.{fetches-two, word-stored, stores-two, singly-stored, not-half}
-use Rattle.transfer_rules.proofs.StepLaws.{outcome-2, outcome-0, counts-2, counts-0, two-plain}
+use Rattle.transfer_rules.proofs.PartLaws.{fetches-two, word-stored, stores-two, singly-stored}
+use Rattle.transfer_rules.proofs.StepLaws.{outcome-5, outcome-2, outcome-0, counts-5, counts-2, counts-0, two-plain}
 use Rattle.transfer_rules.proofs.TouchLaws.{reads-touchable, places-touchable}
 
--- ---- a half of any kind
+-- ---- a step of any part
+
+-- its mode is bad
+pub bad-left : (k : Part) (c : Channel) (m : Buffers) → badMode c ≡ true → (leftByMove c (movedRefused 5) m ≡ stepBy k c m) × (0 ≡ countBy k c m)
+unfolding leftByMove
+bad-left k c m h = (sym (outcome-5 k c m h), counts-5 k c m h)
 
 module _ (k : Part) (c : Channel) (m : Buffers) (good : badMode c ≡ false) where
   -- a byte may not be touched
-  pub beyond-left : allTouchable m (touchedBy k c m) ≡ false → (leftByMove c movedBeyond m ≡ stepBy k c m) × (0 ≡ countBy k c m)
+  pub beyond-left : allTouchable m (touchedBy k c m) ≡ false → (leftByMove c (movedRefused 2) m ≡ stepBy k c m) × (0 ≡ countBy k c m)
   unfolding leftByMove
   beyond-left l = (sym (outcome-2 k c m good l), counts-2 k c m good l)
 
@@ -45,13 +54,9 @@ module _ (k : Part) (c : Channel) (m : Buffers) (good : badMode c ≡ false) whe
 
 -- ---- a move of all bytes by what is stored of them
 
-landed-moved : (c : Channel) (d : Data) (two : Bool) → storesTwo c d ≡ two → movedChannel c d ≡ landedBy c (pick two 2 1) (endCode c d)
+pub landed-moved : (c : Channel) (d : Data) (two : Bool) → storesTwo c d ≡ two → movedChannel c d ≡ landedBy c (pick two 2 1) (endCode c d)
 unfolding movedChannel landedBy bytesMoved bytesStored countAfter bytesCounted
 landed-moved c d two e = rw e
-
--- the channel of a whole move as it lands
-pub landed-whole : (c : Channel) (d : Data) → landedBy c (pick (storesTwo c d) 2 1) (endCode c d) ≡ movedChannel c d
-landed-whole c d = sym (landed-moved c d (storesTwo c d) refl)
 
 -- ---- the first of two fetches
 
@@ -136,12 +141,26 @@ module _ (c : Channel) (m : Buffers) (byte : ℕ) where
   unfolding channelBy secondStored landedBy
   second-store-goes h = rw (stores-two c h)
 
--- the half that is due is the step
-pub half-is : (c : Channel) (m : Buffers) → isHalf c ≡ true → halfStep c m ≡ transferOf c m
-unfolding halfStep
-half-is c m h = rw h
+-- ---- the part that is due
 
--- a step that is no half is the whole move
-pub whole-is : (c : Channel) (m : Buffers) → isHalf c ≡ false → wholeStep c m ≡ transferOf c m
-unfolding wholeStep transferOf
-whole-is c m h = rw (not-half c h)
+module _ (c : Channel) (r : Moved) (m m′ : Buffers) where
+  -- a step of it is the step
+  pub due-is : (k : Part) → partOf c ≡ k → (leftByMove c r m′ ≡ stepBy k c m) × (r .count ≡ countBy k c m) → (leftByMove c r m′ ≡ transferOf c m) × (r .count ≡ transferCount c m)
+  unfolding transferOf transferCount countBy touchedByTransfer
+  due-is k e h = rw e h
+
+  -- what is left by it, refused or done
+  module _ (e : leftByMove c r m′ ≡ transferOf c m) (n : r .count ≡ transferCount c m) where
+    -- a refused step counts nothing
+    counts-none : (r .number ≡ 0 → ⊥) → transferCount c m ≡ 0
+    unfolding transferCount counted leftByMove
+    counts-none ne = ap (λ (x : ℕ). pick (eqb x 0) (length (touchedByTransfer c m)) 0) (sym (ap (λ (o : Transfer). o .number) e)) ∙ rw (ne-eqb (r .number) 0 ne)
+
+    pub kept-left : (r .number ≡ 0 → ⊥) → (t : Transferred) → t ≡ record { number = r .number; count = 0; channel = c }
+        → (transferred (t .number) (t .channel) m′ ≡ transferOf c m) × (t .count ≡ transferCount c m)
+    unfolding leftByMove
+    kept-left ne t et = rw et (sym (ap (λ (b : Bool). transferred (r .number) (pick b (landed c r) c) m′) (ne-eqb (r .number) 0 ne)) ∙ e, sym (counts-none ne))
+
+    pub done-left : r .number ≡ 0 → (d : Channel) → d ≡ landed c r → (transferred 0 d m′ ≡ transferOf c m) × (r .count ≡ transferCount c m)
+    unfolding leftByMove
+    done-left z d ed = rw ed (sym (ap (λ (x : ℕ). transferred x (pick (eqb x 0) (landed c r) c) m′) z) ∙ e, n)

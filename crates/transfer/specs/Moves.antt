@@ -1,4 +1,4 @@
--- What the parts of the code promise one another: what a half of a pair comes to before its channel is written, the channel that is then written, whole steps and halves by themselves.
+-- What the parts of the code promise one another: what a step comes to before its channel is written, and the channel that is then written.
 use Prim.Native.Nat.{ℕ}
 use lib.Dec.{eqb}
 use Rattle.ground_rules.specs.Choice.{pick}
@@ -9,14 +9,13 @@ use Rattle.ground_rules.specs.declared.Held.the-variants.{Byte}
 use Rattle.ground_rules.specs.Updates.{holding}
 use Rattle.transfer.specs.declared.Moved.{Moved}
 use Rattle.transfer_rules.specs.Stores.{movedBy}
-use Rattle.transfer_rules.specs.Steps.{Transfer, transferred, stepBy, countBy, transferOf, transferCount}
+use Rattle.transfer_rules.specs.Steps.{Transfer, transferred}
 use Rattle.transfer_rules.specs.Ends.{endedBy}
 use Rattle.transfer_rules.specs.Reads.{bytesFetched}
-use Rattle.transfer_rules.specs.Parts.{Whole, isHalf}
 
--- a byte may not be touched
-abbrev pub movedBeyond : Moved
-movedBeyond = record { number = 2; count = 0; by = 0; code = 0; byte = 0 }
+-- refused by a number
+abbrev pub movedRefused : ℕ → Moved
+movedRefused number = record { number = number; count = 0; by = 0; code = 0; byte = 0 }
 
 -- a byte is held
 abbrev pub movedHolding : ℕ → ℕ → Moved
@@ -37,17 +36,3 @@ landed c r = pick (eqb (r .by) 0) (holding c (Byte (r .byte))) (landedBy c (r .b
 -- what is left by it: a refused step leaves the channel as it was
 unfoldable pub leftByMove : Channel → Moved → Buffers → Transfer
 leftByMove c r m = transferred (r .number) (pick (eqb (r .number) 0) (landed c r) c) m
-
--- the whole move in one step, whether that is what is due or not
-unfoldable pub wholeStep : Channel → Buffers → Transfer
-wholeStep c m = stepBy Whole c m
-
-unfoldable pub wholeCount : Channel → Buffers → ℕ
-wholeCount c m = countBy Whole c m
-
--- the half that is due; where none is, nothing
-unfoldable pub halfStep : Channel → Buffers → Transfer
-halfStep c m = pick (isHalf c) (transferOf c m) (transferred 0 c m)
-
-unfoldable pub halfCount : Channel → Buffers → ℕ
-halfCount c m = pick (isHalf c) (transferCount c m) 0

@@ -43,7 +43,7 @@ fn offset(code: u32) -> u32
 }
 
 // A channel whose transfer an end of a code ends; code 0 is no end.
-pub(crate) fn ended(c: Channel, code: u32) -> Channel
+pub fn ended(c: Channel, code: u32) -> Channel
     ensures { λ r. ⌜ r ≡ endedBy c code ⌝ }
 {
     if code == 0 {

@@ -13,7 +13,6 @@ ghost use mathlib.Core.Path.{_≡_};
 ghost use Rattle.ground_rules.specs.Buffers.{lent};
 ghost use Rattle.transfer.specs.Setups.{setupOf};
 ghost use Rattle.transfer_rules.specs.Parts.{fetchesApart, storesApart, isHalf, FirstFetch, SecondFetch, FirstStore, SecondStore};
-ghost use Rattle.transfer.specs.Moves as Moves;
 ghost use Rattle.transfer.specs.Moves.{leftByMove};
 ghost use Rattle.transfer_rules.specs.Steps.{badMode, stepBy, countBy, transferOf, transferCount};
 
@@ -42,7 +41,7 @@ fn first_fetch(c: Channel, p: Setup, sys: &[u8], io: &[u8]) -> Moved
     if there.touchable {
         moves::holds(1, there.byte)
     } else {
-        moves::beyond()
+        moves::refused(2)
     }
 }
 
@@ -56,7 +55,7 @@ fn second_fetch(c: Channel, p: Setup, byte: u8, sys: &mut [u8], io: &mut [u8]) -
     let from = source.pointer;
     let there = reads::see(from.tag, sides::second(source), sys, io);
     if !there.touchable {
-        return moves::beyond();
+        return moves::refused(2);
     }
     let bytes = Data {
         first: byte,
@@ -64,7 +63,7 @@ fn second_fetch(c: Channel, p: Setup, byte: u8, sys: &mut [u8], io: &mut [u8]) -
     };
     let side = p.destination;
     if !stores::put(side, true, bytes, sys, io) {
-        return moves::beyond();
+        return moves::refused(2);
     }
     let done = stores::finish(c, p, bytes);
     moves::goes(3, 2, done.code)
@@ -78,12 +77,12 @@ fn first_store(c: Channel, p: Setup, sys: &mut [u8], io: &mut [u8]) -> Moved
 {
     let fetched = reads::fetch(c, p, sys, io);
     if !fetched.touchable {
-        return moves::beyond();
+        return moves::refused(2);
     }
     let bytes = fetched.bytes;
     let side = p.destination;
     if !stores::put(side, false, bytes, sys, io) {
-        return moves::beyond();
+        return moves::refused(2);
     }
     let done = stores::finish(c, p, bytes);
     if done.two {
@@ -104,7 +103,7 @@ fn second_store(c: Channel, p: Setup, byte: u8, sys: &mut [u8], io: &mut [u8]) -
     if stores::put_one(at.tag, sides::second(side), byte, sys, io) {
         moves::goes(1, 2, stores::second_code(c, byte))
     } else {
-        moves::beyond()
+        moves::refused(2)
     }
 }
 
@@ -126,17 +125,5 @@ pub(crate) fn due(c: Channel, p: Setup, sys: &mut [u8], io: &mut [u8]) -> Moved
             Held::NoByte => first_store(c, p, sys, io),
             Held::Byte(byte) => second_store(c, p, byte, sys, io),
         }
-    }
-}
-
-// The channel that a half leaves: it holds the byte, or its sides go on with BC and the end.
-pub(crate) fn left(c: Channel, p: Setup, m: Moved) -> Channel
-    requires { ⌜ p ≡ setupOf c ⌝ }
-    ensures { λ r. ⌜ r ≡ Moves.landed c m ⌝ }
-{
-    if m.by == 0 {
-        machine::updates::holds(c, Held::Byte(m.byte))
-    } else {
-        stores::landed(c, p, m.by, m.code)
     }
 }

@@ -2,26 +2,28 @@
 use ground_rules::Channel;
 use ground_rules::Held;
 use transfer_rules::Side;
+ghost use mathlib.Core.Bool.{false};
 ghost use mathlib.Core.Path.{_≡_};
 ghost use lib.ListN.{length};
 ghost use Rattle.ground_rules.specs.Buffers.{Buffers, lent};
 ghost use Rattle.transfer.specs.Setups.{setupOf};
 ghost use Rattle.transfer_rules.specs.Ends.{externallyEnded};
-ghost use Rattle.transfer_rules.specs.Parts.{isHalf, partOf};
-ghost use Rattle.transfer_rules.specs.Steps.{readsBy, accesses, badMode, transferred, transferOf, transferCount};
-ghost use Rattle.transfer.specs.Moves.{wholeStep, wholeCount, halfStep, halfCount};
+ghost use Rattle.transfer_rules.specs.Parts.{Whole, partOf};
+ghost use Rattle.transfer_rules.specs.Reads.{bytesFetched};
+ghost use Rattle.transfer_rules.specs.Steps.{readsBy, accesses, badMode, stepBy, countBy, transferred, transferOf, transferCount};
+ghost use Rattle.transfer.specs.Moves.{leftByMove};
 
 // The two sides, and what the channel says of a step.
 pub mod sides;
 // The bytes read.
-mod reads;
+pub mod reads;
 // The masked compare, the codes of the ends, and what an end does.
 pub mod ends;
 // The bytes stored, and the channel after.
-mod stores;
+pub mod stores;
 // The halves of a pair of steps.
 mod halves;
-// What a half comes to.
+// What a step comes to.
 mod moves;
 
 // What a channel says of its transfer before a byte is read.
@@ -32,14 +34,14 @@ pub struct Setup {
     pub singly: bool,
 }
 
-// What a half comes to before its channel is written: its number, how many bytes it read and stored, by how many bytes
+// What a step comes to before its channel is written: its number, how many bytes it read and stored, by how many bytes
 // the sides go on, 0 where a byte is held instead, the code of its end, and the byte that is held.
-struct Moved {
-    number: u32,
-    count: u32,
-    by: u32,
-    code: u32,
-    byte: u8,
+pub struct Moved {
+    pub number: u32,
+    pub count: u32,
+    pub by: u32,
+    pub code: u32,
+    pub byte: u8,
 }
 
 // What a transfer step answers: its number, 0 for done, how many bytes it read and stored, and the channel.
@@ -80,37 +82,42 @@ fn count(two: bool, stored: bool, translated: bool) -> u32
 }
 
 // The whole move in one step.
-pub fn whole(c: Channel, sys: &mut [u8], io: &mut [u8]) -> Transferred
-    ensures left { λ r. ⌜ transferred (r .number) (r .channel) (lent (sys .exit) (io .exit)) ≡ wholeStep c (lent (sys .entry) (io .entry)) ⌝ }
-    ensures count { λ r. ⌜ r .count ≡ wholeCount c (lent (sys .entry) (io .entry)) ⌝ }
+fn whole(c: Channel, p: Setup, sys: &mut [u8], io: &mut [u8]) -> Moved
+    requires { ⌜ (p ≡ setupOf c) × (badMode c ≡ false) ⌝ }
+    ensures left { λ r. ⌜ leftByMove c r (lent (sys .exit) (io .exit)) ≡ stepBy Whole c (lent (sys .entry) (io .entry)) ⌝ }
+    ensures count { λ r. ⌜ r .count ≡ countBy Whole c (lent (sys .entry) (io .entry)) ⌝ }
 {
-    let p = sides::plan(c);
-    if bad_mode(c, p) {
-        return refused(c, 5);
-    }
     let fetched = reads::fetch(c, p, sys, io);
     if !fetched.touchable {
-        return refused(c, 2);
+        return moves::refused(2);
     }
     let bytes = fetched.bytes;
     let done = stores::finish(c, p, bytes);
     let side = p.destination;
     if !stores::put(side, done.two, bytes, sys, io) {
-        return refused(c, 2);
+        return moves::refused(2);
     }
     let f = c.fields;
-    Transferred {
-        number: 0,
-        count: count(p.two, done.two, f.translates),
-        channel: stores::landed(c, p, stores::one_or_two(done.two) as u32, done.code),
-    }
+    moves::goes(
+        count(p.two, done.two, f.translates),
+        stores::one_or_two(done.two) as u32,
+        done.code,
+    )
 }
 
-// Whether a channel's next transfer step is one half of a pair.
-pub fn is_half(c: Channel) -> bool
-    ensures { λ r. ⌜ r ≡ isHalf c ⌝ }
+// The part of a move that is due: a half of a pair, else the whole.
+fn part(c: Channel, p: Setup, sys: &mut [u8], io: &mut [u8]) -> Moved
+    requires { ⌜ p ≡ setupOf c ⌝ }
+    ensures left { λ r. ⌜ leftByMove c r (lent (sys .exit) (io .exit)) ≡ transferOf c (lent (sys .entry) (io .entry)) ⌝ }
+    ensures count { λ r. ⌜ r .count ≡ transferCount c (lent (sys .entry) (io .entry)) ⌝ }
 {
-    halves::apart(c, sides::plan(c))
+    if bad_mode(c, p) {
+        return moves::refused(5);
+    }
+    if halves::apart(c, p) {
+        return halves::due(c, p, sys, io);
+    }
+    whole(c, p, sys, io)
 }
 
 // How many bytes a channel's next transfer step reads: a half its own, a whole one all that move and the translated one.
@@ -132,27 +139,20 @@ pub fn bytes_read(c: Channel) -> u32
     }
 }
 
-// The half of a pair that is due; where none is, nothing.
-pub fn half(c: Channel, sys: &mut [u8], io: &mut [u8]) -> Transferred
-    ensures left { λ r. ⌜ transferred (r .number) (r .channel) (lent (sys .exit) (io .exit)) ≡ halfStep c (lent (sys .entry) (io .entry)) ⌝ }
-    ensures count { λ r. ⌜ r .count ≡ halfCount c (lent (sys .entry) (io .entry)) ⌝ }
+// How many bytes a whole move of a channel fetches from its source.
+pub fn bytes_fetched(c: Channel) -> u16
+    ensures { λ r. ⌜ r ≡ bytesFetched c ⌝ }
 {
     let p = sides::plan(c);
-    if !halves::apart(c, p) {
-        return refused(c, 0);
-    }
-    if bad_mode(c, p) {
-        return refused(c, 5);
-    }
-    let m = halves::due(c, p, sys, io);
-    if m.number != 0 {
-        return refused(c, m.number);
-    }
-    Transferred {
-        number: 0,
-        count: m.count,
-        channel: halves::left(c, p, m),
-    }
+    stores::one_or_two(p.two)
+}
+
+// What one transfer step comes to; its channel is not written yet.
+pub fn comes_to(c: Channel, sys: &mut [u8], io: &mut [u8]) -> Moved
+    ensures left { λ r. ⌜ leftByMove c r (lent (sys .exit) (io .exit)) ≡ transferOf c (lent (sys .entry) (io .entry)) ⌝ }
+    ensures count { λ r. ⌜ r .count ≡ transferCount c (lent (sys .entry) (io .entry)) ⌝ }
+{
+    part(c, sides::plan(c), sys, io)
 }
 
 // One transfer step: a half where one is due, else the whole move.
@@ -160,10 +160,15 @@ pub fn transfer(c: Channel, sys: &mut [u8], io: &mut [u8]) -> Transferred
     ensures left { λ r. ⌜ transferred (r .number) (r .channel) (lent (sys .exit) (io .exit)) ≡ transferOf c (lent (sys .entry) (io .entry)) ⌝ }
     ensures count { λ r. ⌜ r .count ≡ transferCount c (lent (sys .entry) (io .entry)) ⌝ }
 {
-    if is_half(c) {
-        half(c, sys, io)
-    } else {
-        whole(c, sys, io)
+    let p = sides::plan(c);
+    let m = part(c, p, sys, io);
+    if m.number != 0 {
+        return refused(c, m.number);
+    }
+    Transferred {
+        number: 0,
+        count: m.count,
+        channel: moves::left(c, p, m),
     }
 }
 

@@ -1,14 +1,19 @@
-// What a half of a pair comes to before its channel is written: refused, a byte held, or the sides gone on.
+// What a step comes to before its channel is written: refused, a byte held, or the sides gone on; and the channel.
 use crate::Moved;
+use crate::Setup;
+use crate::stores;
+use ground_rules::Channel;
+use ground_rules::Held;
 ghost use mathlib.Core.Path.{_≡_};
 ghost use Rattle.transfer.specs.Moves as Moves;
+ghost use Rattle.transfer.specs.Setups.{setupOf};
 
-// A byte may not be touched.
-pub(crate) fn beyond() -> Moved
-    ensures { λ r. ⌜ r ≡ Moves.movedBeyond ⌝ }
+// Refused by a number.
+pub(crate) fn refused(number: u32) -> Moved
+    ensures { λ r. ⌜ r ≡ Moves.movedRefused number ⌝ }
 {
     Moved {
-        number: 2,
+        number,
         count: 0,
         by: 0,
         code: 0,
@@ -39,5 +44,17 @@ pub(crate) fn goes(count: u32, by: u32, code: u32) -> Moved
         by,
         code,
         byte: 0,
+    }
+}
+
+// The channel that a step leaves: it holds the byte, or its sides go on with BC and the end.
+pub(crate) fn left(c: Channel, p: Setup, m: Moved) -> Channel
+    requires { ⌜ p ≡ setupOf c ⌝ }
+    ensures { λ r. ⌜ r ≡ Moves.landed c m ⌝ }
+{
+    if m.by == 0 {
+        machine::updates::holds(c, Held::Byte(m.byte))
+    } else {
+        stores::landed(c, p, m.by, m.code)
     }
 }

@@ -16,13 +16,13 @@ pub(crate) struct Fetched {
 }
 
 // A byte, and whether a call may touch it.
-pub(crate) struct Seen {
-    pub(crate) byte: u8,
-    pub(crate) touchable: bool,
+pub struct Seen {
+    pub byte: u8,
+    pub touchable: bool,
 }
 
 // The byte at an address, and whether a call may touch it; the space is asked for once.
-pub(crate) fn see(tag: bool, address: u32, sys: &[u8], io: &[u8]) -> Seen
+pub fn see(tag: bool, address: u32, sys: &[u8], io: &[u8]) -> Seen
     ensures { λ r. ⌜ r ≡ seen (lent (sys .entry) (io .entry)) tag address ⌝ }
 {
     if tag {

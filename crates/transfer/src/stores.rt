@@ -134,7 +134,7 @@ pub(crate) fn landed(c: Channel, p: Setup, by: u32, code: u32) -> Channel
 }
 
 // A byte stored where a call may touch it, else nothing; and whether it may. The space is asked for once.
-pub(crate) fn put_one(tag: bool, address: u32, v: u8, sys: &mut [u8], io: &mut [u8]) -> bool
+pub fn put_one(tag: bool, address: u32, v: u8, sys: &mut [u8], io: &mut [u8]) -> bool
     ensures { λ r. ⌜ (r ≡ touchableAt (lent (sys .entry) (io .entry)) tag address) × (lent (sys .exit) (io .exit) ≡ storeByte (lent (sys .entry) (io .entry)) tag address v) ⌝ }
 {
     if tag {

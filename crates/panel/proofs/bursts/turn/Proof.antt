@@ -7,7 +7,7 @@ use mathlib.Core.Path.{sym, ap, _∙_}
 use native.Mathlib.Omega.{arith}
 use Rattle.ground_rules.specs.Buffers.{buffers}
 use Rattle.turn_rules.specs.Choosing.{requested, endsNow, rankOf}
-use Rattle.panel.proofs.AloneLaws.{plain-round, transfers-round, instructions-round, external-round, nobody-round}
+use Rattle.panel.proofs.AloneLaws.{transfers-round, instructions-round, external-round, nobody-round}
 use Rattle.panel.proofs.bursts.turn.Statement.{statement}
 use Rattle.panel.proofs.bursts.turn.Tie as tie
 
@@ -28,35 +28,23 @@ returns-2 c =
     (sym (ap (endsNow (a .c)) (c .before .before .before .before .before .external .ensures)) ∙ sym (c .before .before .before .before .ends-now .ensures) ∙ c .before .before .before .if1 .left)
     (sym (ap (rankOf (a .c)) (c .before .before .request .ensures)) ∙ sym (c .before .rank .ensures) ∙ c .if2 .taken)
 
-plain-requires : tie.Need-plain-requires
-plain-requires c κs = (omega (arith, c .before .before .before .before .before .before .before .before .before .before .before .before .before .before .pre), sym (c .before .before .before .is-plain .ensures) ∙ c .before .before .if4 .taken)
+row-requires : tie.Need-row-requires
+row-requires c κs = (omega (arith, c .before .before .before .before .before .before .before .before .before .before .before .before .pre), sym (c .before .before .before .transferring .ensures) ∙ c .before .before .if3 .taken)
 
 returns-3 : tie.Need-returns-3
 returns-3 c =
-    let a = c .before .before .before .before .before .before .before .before .before .before .before .before .before .before .before .before .before .before .before .args in
-    plain-round (a .busy) (a .lines) (a .second) (a .c) (buffers (now (a .sys)) (now (a .io))) (a .limit) (a .done) (c .before .before .before .before .before .before .before .before .before .before .before .before .before .before .before .before .before .before .before .pre) (
-      sym (ap (endsNow (a .c)) (c .before .before .before .before .before .before .before .before .before .before .before .before .before .before .before .before .external .ensures)) ∙ sym (c .before .before .before .before .before .before .before .before .before .before .before .before .before .before .before .ends-now .ensures) ∙ c .before .before .before .before .before .before .before .before .before .before .before .before .before .before .if1 .left,
-      ne-eqb (rankOf (a .c) (requested (a .lines) (a .second))) 4 (λ z. c .before .before .before .before .before .before .before .before .before .before .before .if2 .left (c .before .before .before .before .before .before .before .before .before .before .before .before .rank .ensures ∙ ap (rankOf (a .c)) (c .before .before .before .before .before .before .before .before .before .before .before .before .before .request .ensures) ∙ z)),
-      sym (c .before .before .before .before .before .before .before .before .before .before .transferring .ensures) ∙ c .before .before .before .before .before .before .before .before .before .if3 .taken,
-    ) (sym (c .before .before .before .before .before .before .before .before .is-plain .ensures) ∙ c .before .before .before .before .before .before .before .if4 .taken) (c .before .before .before .before .plain .result) _ (c .before .before .before .before .plain .ensures)
-
-transfers-requires : tie.Need-transfers-requires
-transfers-requires c κs = c .before .before .before .before .before .before .before .before .before .before .before .before .before .before .pre
-
-returns-4 : tie.Need-returns-4
-returns-4 c =
-    let a = c .before .before .before .before .before .before .before .before .before .before .before .before .before .before .before .before .before .before .before .args in
-    transfers-round (a .busy) (a .lines) (a .second) (a .c) (buffers (now (a .sys)) (now (a .io))) (a .limit) (a .done) (c .before .before .before .before .before .before .before .before .before .before .before .before .before .before .before .before .before .before .before .pre) (
-      sym (ap (endsNow (a .c)) (c .before .before .before .before .before .before .before .before .before .before .before .before .before .before .before .before .external .ensures)) ∙ sym (c .before .before .before .before .before .before .before .before .before .before .before .before .before .before .before .ends-now .ensures) ∙ c .before .before .before .before .before .before .before .before .before .before .before .before .before .before .if1 .left,
-      ne-eqb (rankOf (a .c) (requested (a .lines) (a .second))) 4 (λ z. c .before .before .before .before .before .before .before .before .before .before .before .if2 .left (c .before .before .before .before .before .before .before .before .before .before .before .before .rank .ensures ∙ ap (rankOf (a .c)) (c .before .before .before .before .before .before .before .before .before .before .before .before .before .request .ensures) ∙ z)),
-      sym (c .before .before .before .before .before .before .before .before .before .before .transferring .ensures) ∙ c .before .before .before .before .before .before .before .before .before .if3 .taken,
-    ) (c .before .before .before .before .transfers .result) _ (c .before .before .before .before .transfers .ensures)
+    let a = c .before .before .before .before .before .before .before .before .before .before .before .before .before .before .before .before .before .args in
+    transfers-round (a .busy) (a .lines) (a .second) (a .c) (buffers (now (a .sys)) (now (a .io))) (a .limit) (a .done) (c .before .before .before .before .before .before .before .before .before .before .before .before .before .before .before .before .before .pre) (
+      sym (ap (endsNow (a .c)) (c .before .before .before .before .before .before .before .before .before .before .before .before .before .before .external .ensures)) ∙ sym (c .before .before .before .before .before .before .before .before .before .before .before .before .before .ends-now .ensures) ∙ c .before .before .before .before .before .before .before .before .before .before .before .before .if1 .left,
+      ne-eqb (rankOf (a .c) (requested (a .lines) (a .second))) 4 (λ z. c .before .before .before .before .before .before .before .before .before .if2 .left (c .before .before .before .before .before .before .before .before .before .before .rank .ensures ∙ ap (rankOf (a .c)) (c .before .before .before .before .before .before .before .before .before .before .before .request .ensures) ∙ z)),
+      sym (c .before .before .before .before .before .before .before .before .transferring .ensures) ∙ c .before .before .before .before .before .before .before .if3 .taken,
+    ) (c .before .before .before .before .row .result) _ (c .before .before .before .before .row .ensures)
 
 instructions-requires : tie.Need-instructions-requires
 instructions-requires c κs = omega (arith, c .before .before .before .before .before .before .before .before .before .before .before .before .pre)
 
-returns-5 : tie.Need-returns-5
-returns-5 c =
+returns-4 : tie.Need-returns-4
+returns-4 c =
     let a = c .before .before .before .before .before .before .before .before .before .before .before .before .before .before .before .before .before .args in
     instructions-round (a .busy) (a .lines) (a .second) (a .c) (buffers (now (a .sys)) (now (a .io))) (a .limit) (a .done) (c .before .before .before .before .before .before .before .before .before .before .before .before .before .before .before .before .before .pre) (
       sym (ap (endsNow (a .c)) (c .before .before .before .before .before .before .before .before .before .before .before .before .before .before .external .ensures)) ∙ sym (c .before .before .before .before .before .before .before .before .before .before .before .before .before .ends-now .ensures) ∙ c .before .before .before .before .before .before .before .before .before .before .before .before .if1 .left,
@@ -68,5 +56,4 @@ pub turn-spec : {M : Type 1} → statement M
 turn-spec =
     tie.close
     (tie.spec (λ c κs. search needs) (λ c κs. search needs) add-t11 (λ c κs. search needs) returns (λ c κs. search needs) (λ c κs. search needs) returns-2
-    (λ c κs. search needs) (λ c κs. search needs) plain-requires (λ c. search needs) (λ c. search needs) returns-3 transfers-requires (λ c. search needs)
-    (λ c. search needs) returns-4 instructions-requires (λ c. search needs) (λ c. search needs) returns-5)
+    (λ c κs. search needs) row-requires (λ c. search needs) (λ c. search needs) returns-3 instructions-requires (λ c. search needs) (λ c. search needs) returns-4)

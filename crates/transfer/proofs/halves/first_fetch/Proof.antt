@@ -8,7 +8,7 @@ use Rattle.ground_rules.specs.Buffers.{Buffers, buffers, touchableAt, byteAt, s
 use Rattle.ground_rules.specs.Places.{allTouchable}
 use Rattle.transfer.proofs.HalfLaws.{beyond-left, holds-left, first-fetch-touches, first-fetch-holds}
 use Rattle.transfer.specs.Fetches.{seen}
-use Rattle.transfer.specs.Moves.{movedBeyond, movedHolding, leftByMove}
+use Rattle.transfer.specs.Moves.{movedRefused, movedHolding, leftByMove}
 use Rattle.transfer_rules.specs.Parts.{FirstFetch}
 use Rattle.transfer_rules.specs.Sides.{source, destination, secondAddress}
 use Rattle.transfer.specs.Setups.{setupOf}
@@ -36,7 +36,7 @@ module _ (c : Channel) (m : Buffers) (p : Setup) (s : Seen) (ep : p ≡ setupOf 
   unfolding touchedBy memoryBy
   held t r e = rw e (holds-left FirstFetch c m good (touches true t) m refl 1 refl (s .byte) (first-fetch-holds c m ∙ ap (λ (x : Seen). holding c (Byte (x .byte))) (sym there)))
 
-  lost : s .touchable ≡ false → (r : Moved) → r ≡ movedBeyond → (leftByMove c r m ≡ stepBy FirstFetch c m) × (r .count ≡ countBy FirstFetch c m)
+  lost : s .touchable ≡ false → (r : Moved) → r ≡ movedRefused 2 → (leftByMove c r m ≡ stepBy FirstFetch c m) × (r .count ≡ countBy FirstFetch c m)
   lost t r e = rw e (beyond-left FirstFetch c m good (touches false t))
 
 returns : tie.Need-returns
@@ -47,7 +47,7 @@ returns c = let a = c .before .before .before .before .before .before .before .a
 returns-2 : tie.Need-returns-2
 returns-2 c = let a = c .before .before .before .before .before .before .before .args in
     let m = buffers (now (a .sys)) (now (a .io)) in
-    lost (a .c) m (a .p) (c .before .before .see .result) (c .before .before .before .before .before .before .before .pre .0) (c .before .before .before .before .before .before .before .pre .1) (c .before .before .see .ensures) (c .before .if1 .left) (c .beyond .result) (c .beyond .ensures)
+    lost (a .c) m (a .p) (c .before .before .see .result) (c .before .before .before .before .before .before .before .pre .0) (c .before .before .before .before .before .before .before .pre .1) (c .before .before .see .ensures) (c .before .if1 .left) (c .refused .result) (c .refused .ensures)
 
 pub first-fetch-spec : {M : Type 1} → statement M
 first-fetch-spec =

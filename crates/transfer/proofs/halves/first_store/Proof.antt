@@ -7,7 +7,7 @@ use Rattle.ground_rules.specs.Places.{allTouchable}
 use Rattle.transfer.proofs.FetchLaws.{fetch-touchable, fetch-bytes}
 use Rattle.transfer.proofs.HalfLaws.{beyond-left, holds-left, goes-left, first-store-touches, first-store-stores, first-store-holds, first-store-goes}
 use Rattle.transfer.specs.Fetches.{fetchOf}
-use Rattle.transfer.specs.Moves.{movedBeyond, movedHolding, movedOn, leftByMove}
+use Rattle.transfer.specs.Moves.{movedRefused, movedHolding, movedOn, leftByMove}
 use Rattle.transfer_rules.specs.Parts.{FirstStore, storesApart}
 use Rattle.transfer_rules.specs.Reads.{dataOf, readPlaces}
 use Rattle.transfer_rules.specs.Sides.{source, destination, secondAddress}
@@ -34,7 +34,7 @@ module _ (c : Channel) (m : Buffers) (p : Setup) (f : Fetched) (ep : p ≡ setup
   reads : f .touchable ≡ allTouchable m (readPlaces c m)
   reads = ap (λ (x : Fetched). x .touchable) ef ∙ fetch-touchable c m
 
-  lost : f .touchable ≡ false → (r : Moved) → r ≡ movedBeyond → (leftByMove c r m ≡ stepBy FirstStore c m) × (r .count ≡ countBy FirstStore c m)
+  lost : f .touchable ≡ false → (r : Moved) → r ≡ movedRefused 2 → (leftByMove c r m ≡ stepBy FirstStore c m) × (r .count ≡ countBy FirstStore c m)
   lost t r e = rw e (beyond-left FirstStore c m good (first-store-touches c m good h ∙ rw (sym reads ∙ t)))
 
   module _ (t : f .touchable ≡ true) (b : Bool) (m′ : Buffers) (eb : b ≡ allTouchable m (placesOn (p .destination) false))
@@ -46,7 +46,7 @@ module _ (c : Channel) (m : Buffers) (p : Setup) (f : Fetched) (ep : p ≡ setup
     unfolding setupOf
     touches = first-store-touches c m good h ∙ rw (sym reads ∙ t) (sym (eb ∙ ap (λ (x : Setup). allTouchable m (placesOn (x .destination) false)) ep))
 
-    unplaced : b ≡ false → (r : Moved) → r ≡ movedBeyond → (leftByMove c r m′ ≡ stepBy FirstStore c m) × (r .count ≡ countBy FirstStore c m)
+    unplaced : b ≡ false → (r : Moved) → r ≡ movedRefused 2 → (leftByMove c r m′ ≡ stepBy FirstStore c m) × (r .count ≡ countBy FirstStore c m)
     unplaced n r e = rw (e, em, n) (beyond-left FirstStore c m good (touches ∙ n))
 
     puts : b ≡ true → m′ ≡ putOn (destination c) false (dataOf c m) m
@@ -75,12 +75,12 @@ fetch-requires c κs = (c .before .before .before .before .pre .0, c .before .be
 returns : tie.Need-returns
 returns c = let a = c .before .before .before .before .before .before .before .before .args in
     let m = buffers (now (a .sys)) (now (a .io)) in
-    lost (a .c) m (a .p) (c .before .before .before .fetch .result) (c .before .before .before .before .before .before .before .before .pre .0) (c .before .before .before .before .before .before .before .before .pre .1) (c .before .before .before .before .before .before .before .before .pre .2) (c .before .before .before .fetch .ensures) (not-true _ (c .before .if1 .taken)) (c .beyond .result) (c .beyond .ensures)
+    lost (a .c) m (a .p) (c .before .before .before .fetch .result) (c .before .before .before .before .before .before .before .before .pre .0) (c .before .before .before .before .before .before .before .before .pre .1) (c .before .before .before .before .before .before .before .before .pre .2) (c .before .before .before .fetch .ensures) (not-true _ (c .before .if1 .taken)) (c .refused .result) (c .refused .ensures)
 
 returns-2 : tie.Need-returns-2
 returns-2 c = let a = c .before .before .before .before .before .before .before .before .before .before .before .before .before .before .before .before .before .before .args in
     let m = buffers (now (a .sys)) (now (a .io)) in
-    unplaced (a .c) m (a .p) (c .before .before .before .before .before .before .before .before .before .before .before .before .before .fetch .result) (c .before .before .before .before .before .before .before .before .before .before .before .before .before .before .before .before .before .before .pre .0) (c .before .before .before .before .before .before .before .before .before .before .before .before .before .before .before .before .before .before .pre .1) (c .before .before .before .before .before .before .before .before .before .before .before .before .before .before .before .before .before .before .pre .2) (c .before .before .before .before .before .before .before .before .before .before .before .before .before .fetch .ensures) (not-false _ (c .before .before .before .before .before .before .before .before .before .before .before .if1 .left)) (c .before .before .before .before .before .before .put .result) _ (c .before .before .before .before .before .before .put .ensures .0) (c .before .before .before .before .before .before .put .ensures .1) (not-true _ (c .before .if2 .taken)) (c .beyond2 .result) (c .beyond2 .ensures)
+    unplaced (a .c) m (a .p) (c .before .before .before .before .before .before .before .before .before .before .before .before .before .fetch .result) (c .before .before .before .before .before .before .before .before .before .before .before .before .before .before .before .before .before .before .pre .0) (c .before .before .before .before .before .before .before .before .before .before .before .before .before .before .before .before .before .before .pre .1) (c .before .before .before .before .before .before .before .before .before .before .before .before .before .before .before .before .before .before .pre .2) (c .before .before .before .before .before .before .before .before .before .before .before .before .before .fetch .ensures) (not-false _ (c .before .before .before .before .before .before .before .before .before .before .before .if1 .left)) (c .before .before .before .before .before .before .put .result) _ (c .before .before .before .before .before .before .put .ensures .0) (c .before .before .before .before .before .before .put .ensures .1) (not-true _ (c .before .if2 .taken)) (c .refused2 .result) (c .refused2 .ensures)
 
 returns-3 : tie.Need-returns-3
 returns-3 c = let a = c .before .before .before .before .before .before .before .before .before .before .before .before .before .before .before .before .before .before .before .before .args in

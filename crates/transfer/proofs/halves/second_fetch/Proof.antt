@@ -7,7 +7,7 @@ use Rattle.ground_rules.specs.Places.{allTouchable}
 use Rattle.transfer.proofs.HalfLaws.{beyond-left, goes-left, second-fetch-touches, second-fetch-reads, second-fetch-stores, second-fetch-goes}
 use Rattle.transfer.specs.Fetches.{seen}
 use Rattle.transfer_rules.specs.Halves.{wordWith}
-use Rattle.transfer.specs.Moves.{movedBeyond, movedOn, leftByMove}
+use Rattle.transfer.specs.Moves.{movedRefused, movedOn, leftByMove}
 use Rattle.transfer_rules.specs.Parts.{SecondFetch, fetchesApart}
 use Rattle.transfer_rules.specs.Reads.{also}
 use Rattle.transfer_rules.specs.Sides.{source, destination, secondAddress}
@@ -36,7 +36,7 @@ module _ (c : Channel) (m : Buffers) (p : Setup) (byte next : ℕ) (s : Seen) (e
   unfolding setupOf
   there = es ∙ ap (λ (n : ℕ). seen m (p .source .pointer .tag) n) en ∙ ap (λ (x : Setup). seen m (x .source .pointer .tag) (secondAddress (x .source))) ep
 
-  lost : s .touchable ≡ false → (r : Moved) → r ≡ movedBeyond → (leftByMove c r m ≡ stepBy (SecondFetch byte) c m) × (r .count ≡ countBy (SecondFetch byte) c m)
+  lost : s .touchable ≡ false → (r : Moved) → r ≡ movedRefused 2 → (leftByMove c r m ≡ stepBy (SecondFetch byte) c m) × (r .count ≡ countBy (SecondFetch byte) c m)
   lost t r e = rw e (beyond-left (SecondFetch byte) c m good (second-fetch-touches c m byte ∙ rw (sym (ap (λ (x : Seen). x .touchable) there) ∙ t)))
 
   read : record { first = byte; second = s .byte } ≡ wordWith byte c m
@@ -50,7 +50,7 @@ module _ (c : Channel) (m : Buffers) (p : Setup) (byte next : ℕ) (s : Seen) (e
         second-fetch-touches c m byte
         ∙ rw (sym (ap (λ (x : Seen). x .touchable) there) ∙ t) (sym (eb ∙ ap (λ (x : Setup). allTouchable m (placesOn (x .destination) true)) ep))
 
-    unplaced : b ≡ false → (r : Moved) → r ≡ movedBeyond → (leftByMove c r m′ ≡ stepBy (SecondFetch byte) c m) × (r .count ≡ countBy (SecondFetch byte) c m)
+    unplaced : b ≡ false → (r : Moved) → r ≡ movedRefused 2 → (leftByMove c r m′ ≡ stepBy (SecondFetch byte) c m) × (r .count ≡ countBy (SecondFetch byte) c m)
     unplaced f r e = rw (e, em, f) (beyond-left (SecondFetch byte) c m good (touches ∙ f))
 
     puts : b ≡ true → m′ ≡ putOn (destination c) true (wordWith byte c m) m
@@ -68,12 +68,12 @@ module _ (c : Channel) (m : Buffers) (p : Setup) (byte next : ℕ) (s : Seen) (e
 returns : tie.Need-returns
 returns c = let a = c .before .before .before .before .before .before .before .before .before .before .before .args in
     let m = buffers (now (a .sys)) (now (a .io)) in
-    lost (a .c) m (a .p) (a .byte) (c .before .before .before .before .before .before .second .result) (c .before .before .before .see .result) (c .before .before .before .before .before .before .before .before .before .before .before .pre .0) (c .before .before .before .before .before .before .before .before .before .before .before .pre .1) (c .before .before .before .before .before .before .before .before .before .before .before .pre .2) (c .before .before .before .before .before .before .second .ensures) (c .before .before .before .see .ensures) (not-true _ (c .before .if1 .taken)) (c .beyond .result) (c .beyond .ensures)
+    lost (a .c) m (a .p) (a .byte) (c .before .before .before .before .before .before .second .result) (c .before .before .before .see .result) (c .before .before .before .before .before .before .before .before .before .before .before .pre .0) (c .before .before .before .before .before .before .before .before .before .before .before .pre .1) (c .before .before .before .before .before .before .before .before .before .before .before .pre .2) (c .before .before .before .before .before .before .second .ensures) (c .before .before .before .see .ensures) (not-true _ (c .before .if1 .taken)) (c .refused .result) (c .refused .ensures)
 
 returns-2 : tie.Need-returns-2
 returns-2 c = let a = c .before .before .before .before .before .before .before .before .before .before .before .before .before .before .before .before .before .before .before .before .args in
     let m = buffers (now (a .sys)) (now (a .io)) in
-    unplaced (a .c) m (a .p) (a .byte) (c .before .before .before .before .before .before .before .before .before .before .before .before .before .before .before .second .result) (c .before .before .before .before .before .before .before .before .before .before .before .before .see .result) (c .before .before .before .before .before .before .before .before .before .before .before .before .before .before .before .before .before .before .before .before .pre .0) (c .before .before .before .before .before .before .before .before .before .before .before .before .before .before .before .before .before .before .before .before .pre .1) (c .before .before .before .before .before .before .before .before .before .before .before .before .before .before .before .before .before .before .before .before .pre .2) (c .before .before .before .before .before .before .before .before .before .before .before .before .before .before .before .second .ensures) (c .before .before .before .before .before .before .before .before .before .before .before .before .see .ensures) (not-false _ (c .before .before .before .before .before .before .before .before .before .before .if1 .left)) (c .before .before .before .before .before .before .put .result) _ (c .before .before .before .before .before .before .put .ensures .0) (c .before .before .before .before .before .before .put .ensures .1) (not-true _ (c .before .if2 .taken)) (c .beyond2 .result) (c .beyond2 .ensures)
+    unplaced (a .c) m (a .p) (a .byte) (c .before .before .before .before .before .before .before .before .before .before .before .before .before .before .before .second .result) (c .before .before .before .before .before .before .before .before .before .before .before .before .see .result) (c .before .before .before .before .before .before .before .before .before .before .before .before .before .before .before .before .before .before .before .before .pre .0) (c .before .before .before .before .before .before .before .before .before .before .before .before .before .before .before .before .before .before .before .before .pre .1) (c .before .before .before .before .before .before .before .before .before .before .before .before .before .before .before .before .before .before .before .before .pre .2) (c .before .before .before .before .before .before .before .before .before .before .before .before .before .before .before .second .ensures) (c .before .before .before .before .before .before .before .before .before .before .before .before .see .ensures) (not-false _ (c .before .before .before .before .before .before .before .before .before .before .if1 .left)) (c .before .before .before .before .before .before .put .result) _ (c .before .before .before .before .before .before .put .ensures .0) (c .before .before .before .before .before .before .put .ensures .1) (not-true _ (c .before .if2 .taken)) (c .refused2 .result) (c .refused2 .ensures)
 
 returns-3 : tie.Need-returns-3
 returns-3 c = let a = c .before .before .before .before .before .before .before .before .before .before .before .before .before .before .before .before .before .before .before .before .before .args in

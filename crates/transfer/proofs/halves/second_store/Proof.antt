@@ -6,7 +6,7 @@ use Rattle.ground_rules.specs.Buffers.{Buffers, buffers, touchableAt, byteAt, s
 use Rattle.transfer.proofs.HalfLaws.{beyond-left, goes-left, second-store-touches, second-store-stores, second-store-goes}
 use Rattle.transfer_rules.proofs.TouchLaws.{untouched}
 use Rattle.transfer_rules.specs.Halves.{secondCode}
-use Rattle.transfer.specs.Moves.{movedBeyond, movedOn, leftByMove}
+use Rattle.transfer.specs.Moves.{movedRefused, movedOn, leftByMove}
 use Rattle.transfer_rules.specs.Parts.{SecondStore, storesApart}
 use Rattle.transfer_rules.specs.Sides.{source, destination, secondAddress}
 use Rattle.transfer.specs.Setups.{setupOf}
@@ -37,7 +37,7 @@ module _ (c : Channel) (m : Buffers) (p : Setup) (byte next : ℕ) (b : Bool) (m
       rw (e, k)
       (goes-left (SecondStore byte) c m good (second-store-touches c m byte ∙ sym there ∙ t) m′ (second-store-stores c m byte ∙ sym stored) 1 refl 1 (secondCode c byte) (second-store-goes c m byte h))
 
-  lost : b ≡ false → (r : Moved) → r ≡ movedBeyond → (leftByMove c r m′ ≡ stepBy (SecondStore byte) c m) × (r .count ≡ countBy (SecondStore byte) c m)
+  lost : b ≡ false → (r : Moved) → r ≡ movedRefused 2 → (leftByMove c r m′ ≡ stepBy (SecondStore byte) c m) × (r .count ≡ countBy (SecondStore byte) c m)
   lost t r e =
       rw (e, stored ∙ untouched m ((destination c) .pointer .tag) (secondAddress (destination c)) byte (sym there ∙ t))
       (beyond-left (SecondStore byte) c m good (second-store-touches c m byte ∙ sym there ∙ t))
@@ -50,7 +50,7 @@ returns c = let a = c .before .before .before .before .before .before .before .b
 returns-2 : tie.Need-returns-2
 returns-2 c = let a = c .before .before .before .before .before .before .before .before .before .before .before .before .before .before .args in
     let m = buffers (now (a .sys)) (now (a .io)) in
-    lost (a .c) m (a .p) (a .byte) (c .before .before .before .before .before .before .before .before .before .second .result) (c .before .before .before .before .before .before .put-one .result) _ (c .before .before .before .before .before .before .before .before .before .before .before .before .before .before .pre .0) (c .before .before .before .before .before .before .before .before .before .before .before .before .before .before .pre .1) (c .before .before .before .before .before .before .before .before .before .before .before .before .before .before .pre .2) (c .before .before .before .before .before .before .before .before .before .second .ensures) (c .before .before .before .before .before .before .put-one .ensures .0) (c .before .before .before .before .before .before .put-one .ensures .1) (c .before .if1 .left) (c .beyond .result) (c .beyond .ensures)
+    lost (a .c) m (a .p) (a .byte) (c .before .before .before .before .before .before .before .before .before .second .result) (c .before .before .before .before .before .before .put-one .result) _ (c .before .before .before .before .before .before .before .before .before .before .before .before .before .before .pre .0) (c .before .before .before .before .before .before .before .before .before .before .before .before .before .before .pre .1) (c .before .before .before .before .before .before .before .before .before .before .before .before .before .before .pre .2) (c .before .before .before .before .before .before .before .before .before .second .ensures) (c .before .before .before .before .before .before .put-one .ensures .0) (c .before .before .before .before .before .before .put-one .ensures .1) (c .before .if1 .left) (c .refused .result) (c .refused .ensures)
 
 pub second-store-spec : {M : Type 1} → statement M
 second-store-spec =

@@ -1,10 +1,10 @@
--- `transfer::halves::left` meets its contract.
+-- `transfer::moves::left` meets its contract.
 -- Assumes nothing.
 use Rattle.transfer.specs.Moves.{landed}
 use borrow.Author.Needs.{needs}
 use borrow.Author.Tests.{eq-eqb, ne-eqb}
-use Rattle.transfer.proofs.halves.left.Statement.{statement}
-use Rattle.transfer.proofs.halves.left.Tie as tie
+use Rattle.transfer.proofs.moves.left.Statement.{statement}
+use Rattle.transfer.proofs.moves.left.Tie as tie
 
 returns : tie.Need-returns
 unfolding landed
