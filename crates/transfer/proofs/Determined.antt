@@ -13,6 +13,8 @@ use Rattle.transfer.proofs.transfer.Reads as transfer-reads
 use Rattle.transfer.specs.Moves.{leftByMove}
 use Rattle.transfer.proofs.comes_to.Kinds as comes-to-kinds
 use Rattle.transfer.proofs.comes_to.Reads as comes-to-reads
+use Rattle.transfer.proofs.is_half.Kinds as is-half-kinds
+use Rattle.transfer.proofs.is_half.Reads as is-half-reads
 use Rattle.transfer.proofs.bytes_fetched.Kinds as bytes-fetched-kinds
 use Rattle.transfer.proofs.bytes_fetched.Reads as bytes-fetched-reads
 use Rattle.transfer.proofs.bytes_read.Kinds as bytes-read-kinds
@@ -28,6 +30,10 @@ transfer-determined κs a r q e f p w = (p .0 ∙ sym (w .0), p .1 ∙ sym (w .1
 pub comes-to-determined : (κs : Lfts 2) (a : Dens κs comes-to-kinds.ps) (r q : resT comes-to-kinds.r κs .Denot) (e f : AtExit (endedOf 2 comes-to-kinds.ps comes-to-kinds.r) κs)
     → comes-to-reads.Post κs a r e → comes-to-reads.Post κs a q f → (leftByMove (a .0) r (buffers (now (e .1 .0)) (now (e .1 .1 .0))) ≡ leftByMove (a .0) q (buffers (now (f .1 .0)) (now (f .1 .1 .0)))) × (r .count ≡ q .count)
 comes-to-determined κs a r q e f p w = (p .0 ∙ sym (w .0), p .1 ∙ sym (w .1))
+
+pub is-half-determined : (κs : Lfts 0) (a : Dens κs is-half-kinds.ps) (r q : resT is-half-kinds.r κs .Denot) (e f : AtExit (endedOf 0 is-half-kinds.ps is-half-kinds.r) κs)
+    → is-half-reads.Post κs a r e → is-half-reads.Post κs a q f → r ≡ q
+is-half-determined κs a r q e f p w = p ∙ sym w
 
 pub bytes-fetched-determined : (κs : Lfts 0) (a : Dens κs bytes-fetched-kinds.ps) (r q : resT bytes-fetched-kinds.r κs .Denot) (e f : AtExit (endedOf 0 bytes-fetched-kinds.ps bytes-fetched-kinds.r) κs)
     → bytes-fetched-reads.Post κs a r e → bytes-fetched-reads.Post κs a q f → r ≡ q

@@ -2,7 +2,7 @@
 -- Assumes nothing.
 use Prim.Native.Nat.{ℕ}
 use mathlib.Core.Bool.{Bool, true, false, not}
-use mathlib.Core.Path.{_≡_, refl, sym}
+use mathlib.Core.Path.{_≡_, refl, sym, ap, _∙_}
 use Rattle.ground_rules.specs.declared.Channel.{Channel}
 use Rattle.ground_rules.specs.Buffers.{Buffers, touchableAt, byteAt}
 use Rattle.ground_rules.specs.Places.{allTouchable}
@@ -11,12 +11,21 @@ use Rattle.ground_rules.specs.Choice.{pick}
 use Rattle.ground_rules.specs.Sums.{sum20}
 use Rattle.transfer.specs.Fetches.{beyond, here, fetchOf}
 use Rattle.transfer_rules.specs.Reads.{fetched, fetchedSecond, entryOf, delivered, dataOf, readPlaces}
-use Rattle.transfer_rules.specs.Sides.{source, secondAddress}
+use Rattle.transfer_rules.specs.Sides.{source, wordSide, secondAddress}
 use Rattle.transfer.specs.Setups.{setupOf}
 use Rattle.transfer_rules.specs.Steps.{badMode}
 use Rattle.transfer.specs.declared.Setup.{Setup}
 use Rattle.transfer_rules.proofs.TouchLaws.{reads-touchable}
 use Rattle.transfer_rules.proofs.StepLaws.{two-plain}
+
+-- what a setup says of its sides being word sides is so of these sides
+pub from-word : (c : Channel) (p : Setup) → p ≡ setupOf c → p .fromWord ≡ wordSide (p .source)
+unfolding setupOf
+from-word c p e = ap (λ (x : Setup). x .fromWord) e ∙ sym (ap (λ (x : Setup). wordSide (x .source)) e)
+
+pub into-word : (c : Channel) (p : Setup) → p ≡ setupOf c → p .intoWord ≡ wordSide (p .destination)
+unfolding setupOf
+into-word c p e = ap (λ (x : Setup). x .intoWord) e ∙ sym (ap (λ (x : Setup). wordSide (x .destination)) e)
 
 -- whether what is read may be touched, and what it is where it may
 pub fetch-touchable : (c : Channel) (m : Buffers) → (fetchOf c m) .touchable ≡ allTouchable m (readPlaces c m)

@@ -22,11 +22,10 @@ pub(crate) fn apart(c: Channel, p: Setup) -> bool
     ensures { λ r. ⌜ r ≡ isHalf c ⌝ }
 {
     let f = c.fields;
-    let source = p.source;
     if f.synchronised == 0 {
         return false;
     }
-    ((f.synchronised == 1) & (p.two & !sides::word(source))) | ((f.synchronised == 2) & p.singly)
+    ((f.synchronised == 1) & (p.two & !p.fromWord)) | ((f.synchronised == 2) & p.singly)
 }
 
 // The first of two fetches: its byte is held.
@@ -53,7 +52,7 @@ fn second_fetch(c: Channel, p: Setup, byte: u8, sys: &mut [u8], io: &mut [u8]) -
 {
     let source = p.source;
     let from = source.pointer;
-    let there = reads::see(from.tag, sides::second(source), sys, io);
+    let there = reads::see(from.tag, sides::second_from(p), sys, io);
     if !there.touchable {
         return moves::refused(2);
     }
@@ -61,8 +60,7 @@ fn second_fetch(c: Channel, p: Setup, byte: u8, sys: &mut [u8], io: &mut [u8]) -
         first: byte,
         second: there.byte,
     };
-    let side = p.destination;
-    if !stores::put(side, true, bytes, sys, io) {
+    if !stores::put(p, true, bytes, sys, io) {
         return moves::refused(2);
     }
     let done = stores::finish(c, p, bytes);
@@ -80,8 +78,7 @@ fn first_store(c: Channel, p: Setup, sys: &mut [u8], io: &mut [u8]) -> Moved
         return moves::refused(2);
     }
     let bytes = fetched.bytes;
-    let side = p.destination;
-    if !stores::put(side, false, bytes, sys, io) {
+    if !stores::put(p, false, bytes, sys, io) {
         return moves::refused(2);
     }
     let done = stores::finish(c, p, bytes);
@@ -100,7 +97,7 @@ fn second_store(c: Channel, p: Setup, byte: u8, sys: &mut [u8], io: &mut [u8]) -
 {
     let side = p.destination;
     let at = side.pointer;
-    if stores::put_one(at.tag, sides::second(side), byte, sys, io) {
+    if stores::put_one(at.tag, sides::second_into(p), byte, sys, io) {
         moves::goes(1, 2, stores::second_code(c, byte))
     } else {
         moves::refused(2)

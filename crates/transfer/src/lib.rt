@@ -8,7 +8,7 @@ ghost use lib.ListN.{length};
 ghost use Rattle.ground_rules.specs.Buffers.{Buffers, lent};
 ghost use Rattle.transfer.specs.Setups.{setupOf};
 ghost use Rattle.transfer_rules.specs.Ends.{externallyEnded};
-ghost use Rattle.transfer_rules.specs.Parts.{Whole, partOf};
+ghost use Rattle.transfer_rules.specs.Parts.{Whole, isHalf, partOf};
 ghost use Rattle.transfer_rules.specs.Reads.{bytesFetched};
 ghost use Rattle.transfer_rules.specs.Steps.{readsBy, accesses, badMode, stepBy, countBy, transferred, transferOf, transferCount};
 ghost use Rattle.transfer.specs.Moves.{leftByMove};
@@ -32,6 +32,8 @@ pub struct Setup {
     pub destination: Side,
     pub two: bool,
     pub singly: bool,
+    pub fromWord: bool,
+    pub intoWord: bool,
 }
 
 // What a step comes to before its channel is written: its number, how many bytes it read and stored, by how many bytes
@@ -93,8 +95,7 @@ fn whole(c: Channel, p: Setup, sys: &mut [u8], io: &mut [u8]) -> Moved
     }
     let bytes = fetched.bytes;
     let done = stores::finish(c, p, bytes);
-    let side = p.destination;
-    if !stores::put(side, done.two, bytes, sys, io) {
+    if !stores::put(p, done.two, bytes, sys, io) {
         return moves::refused(2);
     }
     let f = c.fields;
@@ -118,6 +119,13 @@ fn part(c: Channel, p: Setup, sys: &mut [u8], io: &mut [u8]) -> Moved
         return halves::due(c, p, sys, io);
     }
     whole(c, p, sys, io)
+}
+
+// Whether a channel's next transfer step is one half of a pair.
+pub fn is_half(c: Channel) -> bool
+    ensures { λ r. ⌜ r ≡ isHalf c ⌝ }
+{
+    halves::apart(c, sides::plan(c))
 }
 
 // How many bytes a channel's next transfer step reads: a half its own, a whole one all that move and the translated one.

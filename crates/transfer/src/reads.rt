@@ -75,7 +75,7 @@ pub(crate) fn fetch(c: Channel, p: Setup, sys: &[u8], io: &[u8]) -> Fetched
     }
     let first = there.byte;
     if p.two {
-        let next = see(from.tag, crate::sides::second(source), sys, io);
+        let next = see(from.tag, crate::sides::second_from(p), sys, io);
         if !next.touchable {
             return none();
         }

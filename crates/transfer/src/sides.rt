@@ -3,7 +3,10 @@ use crate::Setup;
 use ground_rules::Channel;
 use ground_rules::Pointer;
 use transfer_rules::Side;
+ghost use mathlib.Core.Bool.{_||_};
 ghost use mathlib.Core.Path.{_≡_};
+ghost use Rattle.ground_rules.specs.declared.Channel.{Channel};
+ghost use Rattle.ground_rules.specs.Sums.{sum20};
 ghost use Rattle.ground_rules.specs.Choice.{pick};
 ghost use Rattle.transfer_rules.specs.Sides as Sides;
 ghost use Rattle.transfer_rules.specs.Sides.{wordSide, secondAddress};
@@ -34,16 +37,37 @@ pub(crate) fn word(s: Side) -> bool
     s.wide & !words::bit(p.address, 0)
 }
 
-// The address of a side's second byte.
-pub fn second(s: Side) -> u32
-    ensures { λ r. ⌜ r ≡ secondAddress s ⌝ }
+// The address of a side's second byte, told whether it is a word side.
+fn second_by(s: Side, whole: bool) -> u32
+    ensures { λ r. ⌜ r ≡ pick (whole || s .moves) (sum20 (s .pointer .address) 1) (s .pointer .address) ⌝ }
 {
     let p = s.pointer;
-    if word(s) | s.moves {
+    if whole | s.moves {
         words::sum20(p.address, 1)
     } else {
         p.address
     }
+}
+
+// The address of a side's second byte.
+pub fn second(s: Side) -> u32
+    ensures { λ r. ⌜ r ≡ secondAddress s ⌝ }
+{
+    second_by(s, word(s))
+}
+
+// The address of the source's second byte.
+pub(crate) fn second_from(p: Setup) -> u32
+    ensures { λ r. ⌜ ((c : Channel) → p ≡ setupOf c → r ≡ secondAddress (p .source)) ⌝ }
+{
+    second_by(p.source, p.fromWord)
+}
+
+// The address of the destination's second byte.
+pub(crate) fn second_into(p: Setup) -> u32
+    ensures { λ r. ⌜ ((c : Channel) → p ≡ setupOf c → r ≡ secondAddress (p .destination)) ⌝ }
+{
+    second_by(p.destination, p.intoWord)
 }
 
 // A pointer that goes some bytes on, if it moves.
@@ -75,12 +99,15 @@ pub fn plan(c: Channel) -> Setup
         moves: f.destinationMoves,
         wide: machine::psw::destination_wide(c.psw),
     };
-    let whole = word(destination);
-    let two = (word(source) | whole) & !((f.countEnd != 0) & (c.bc == 1));
+    let intoWord = word(destination);
+    let fromWord = word(source);
+    let two = (fromWord | intoWord) & !((f.countEnd != 0) & (c.bc == 1));
     Setup {
         source,
         destination,
         two,
-        singly: two & !whole,
+        singly: two & !intoWord,
+        fromWord,
+        intoWord,
     }
 }

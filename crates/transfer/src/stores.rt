@@ -3,8 +3,8 @@ use crate::Setup;
 use ground_rules::Channel;
 use ground_rules::Held;
 use transfer_rules::Data;
-use transfer_rules::Side;
 ghost use mathlib.Core.Path.{_≡_};
+ghost use Rattle.ground_rules.specs.declared.Channel.{Channel};
 ghost use Rattle.ground_rules.specs.Choice.{pick};
 ghost use Rattle.ground_rules.specs.Buffers.{lent, touchableAt, storeByte};
 ghost use Rattle.ground_rules.specs.Places.{allTouchable};
@@ -146,21 +146,22 @@ pub fn put_one(tag: bool, address: u32, v: u8, sys: &mut [u8], io: &mut [u8]) ->
     there
 }
 
-// One byte or two stored on a side where each place may be touched, else nothing; and whether it may.
-pub(crate) fn put(s: Side, two: bool, d: Data, sys: &mut [u8], io: &mut [u8]) -> bool
-    ensures { λ r. ⌜ (r ≡ allTouchable (lent (sys .entry) (io .entry)) (placesOn s two)) × (lent (sys .exit) (io .exit) ≡ pick r (putOn s two d (lent (sys .entry) (io .entry))) (lent (sys .entry) (io .entry))) ⌝ }
+// One byte or two stored on the destination where each place may be touched, else nothing; and whether it may.
+pub(crate) fn put(p: Setup, two: bool, d: Data, sys: &mut [u8], io: &mut [u8]) -> bool
+    ensures { λ r. ⌜ ((c : Channel) → p ≡ setupOf c → (r ≡ allTouchable (lent (sys .entry) (io .entry)) (placesOn (p .destination) two)) × (lent (sys .exit) (io .exit) ≡ pick r (putOn (p .destination) two d (lent (sys .entry) (io .entry))) (lent (sys .entry) (io .entry)))) ⌝ }
 {
-    let p = s.pointer;
+    let side = p.destination;
+    let at = side.pointer;
     if two {
-        let next = crate::sides::second(s);
-        if !memory::touchable(sys, io, p.tag, next) {
+        let next = crate::sides::second_into(p);
+        if !memory::touchable(sys, io, at.tag, next) {
             return false;
         }
-        if !put_one(p.tag, p.address, d.first, sys, io) {
+        if !put_one(at.tag, at.address, d.first, sys, io) {
             return false;
         }
-        memory::store_byte(sys, io, p.tag, next, d.second);
+        memory::store_byte(sys, io, at.tag, next, d.second);
         return true;
     }
-    put_one(p.tag, p.address, d.first, sys, io)
+    put_one(at.tag, at.address, d.first, sys, io)
 }

@@ -89,20 +89,20 @@ returns c = let a = c .before .before .before .before .before .before .before .b
     lost (a .c) m (a .p) (c .before .before .before .fetch .result) (c .before .before .before .before .before .before .before .before .pre .0) (c .before .before .before .before .before .before .before .before .pre .1) (c .before .before .before .fetch .ensures) (not-true _ (c .before .if1 .taken)) (c .refused .result) (c .refused .ensures)
 
 returns-2 : tie.Need-returns-2
-returns-2 c = let a = c .before .before .before .before .before .before .before .before .before .before .before .before .before .before .before .before .before .before .before .args in
+returns-2 c = let a = c .before .before .before .before .before .before .before .before .before .before .before .before .before .before .before .before .before .before .args in
     let m = buffers (now (a .sys)) (now (a .io)) in
-    let f = c .before .before .before .before .before .before .before .before .before .before .before .before .before .before .fetch in
-    let done = c .before .before .before .before .before .before .before .before .before .before .finish in
+    let f = c .before .before .before .before .before .before .before .before .before .before .before .before .before .fetch in
+    let done = c .before .before .before .before .before .before .before .before .before .finish in
     let put = c .before .before .before .before .before .before .put in
-    unplaced (a .c) m (a .p) (f .result) (c .before .before .before .before .before .before .before .before .before .before .before .before .before .before .before .before .before .before .before .pre .0) (c .before .before .before .before .before .before .before .before .before .before .before .before .before .before .before .before .before .before .before .pre .1) (f .ensures) (not-false _ (c .before .before .before .before .before .before .before .before .before .before .before .before .if1 .left)) (done .result) (done .ensures) (put .result) _ (put .ensures .0) (put .ensures .1) (not-true _ (c .before .if2 .taken)) (c .refused2 .result) (c .refused2 .ensures)
+    unplaced (a .c) m (a .p) (f .result) (c .before .before .before .before .before .before .before .before .before .before .before .before .before .before .before .before .before .before .pre .0) (c .before .before .before .before .before .before .before .before .before .before .before .before .before .before .before .before .before .before .pre .1) (f .ensures) (not-false _ (c .before .before .before .before .before .before .before .before .before .before .before .if1 .left)) (done .result) (done .ensures) (put .result) _ (put .ensures _ (c .before .before .before .before .before .before .before .before .before .before .before .before .before .before .before .before .before .before .pre .0) .0) (put .ensures _ (c .before .before .before .before .before .before .before .before .before .before .before .before .before .before .before .before .before .before .pre .0) .1) (not-true _ (c .before .if2 .taken)) (c .refused2 .result) (c .refused2 .ensures)
 
 returns-3 : tie.Need-returns-3
-returns-3 c = let a = c .before .before .before .before .before .before .before .before .before .before .before .before .before .before .before .before .before .before .before .before .before .before .args in
+returns-3 c = let a = c .before .before .before .before .before .before .before .before .before .before .before .before .before .before .before .before .before .before .before .before .before .args in
     let m = buffers (now (a .sys)) (now (a .io)) in
-    let f = c .before .before .before .before .before .before .before .before .before .before .before .before .before .before .before .before .before .fetch in
-    let done = c .before .before .before .before .before .before .before .before .before .before .before .before .before .finish in
+    let f = c .before .before .before .before .before .before .before .before .before .before .before .before .before .before .before .before .fetch in
+    let done = c .before .before .before .before .before .before .before .before .before .before .before .before .finish in
     let put = c .before .before .before .before .before .before .before .before .before .put in
-    gone (a .c) m (a .p) (f .result) (c .before .before .before .before .before .before .before .before .before .before .before .before .before .before .before .before .before .before .before .before .before .before .pre .0) (c .before .before .before .before .before .before .before .before .before .before .before .before .before .before .before .before .before .before .before .before .before .before .pre .1) (f .ensures) (not-false _ (c .before .before .before .before .before .before .before .before .before .before .before .before .before .before .before .if1 .left)) (done .result) (done .ensures) (put .result) _ (put .ensures .0) (put .ensures .1) (not-false _ (c .before .before .before .before .if2 .left)) (c .before .before .count .result) (c .before .one-or-two .result) (c .before .before .count .ensures) (c .before .one-or-two .ensures) (c .goes .result) (c .goes .ensures)
+    gone (a .c) m (a .p) (f .result) (c .before .before .before .before .before .before .before .before .before .before .before .before .before .before .before .before .before .before .before .before .before .pre .0) (c .before .before .before .before .before .before .before .before .before .before .before .before .before .before .before .before .before .before .before .before .before .pre .1) (f .ensures) (not-false _ (c .before .before .before .before .before .before .before .before .before .before .before .before .before .before .if1 .left)) (done .result) (done .ensures) (put .result) _ (put .ensures _ (c .before .before .before .before .before .before .before .before .before .before .before .before .before .before .before .before .before .before .before .before .before .pre .0) .0) (put .ensures _ (c .before .before .before .before .before .before .before .before .before .before .before .before .before .before .before .before .before .before .before .before .before .pre .0) .1) (not-false _ (c .before .before .before .before .if2 .left)) (c .before .before .count .result) (c .before .one-or-two .result) (c .before .before .count .ensures) (c .before .one-or-two .ensures) (c .goes .result) (c .goes .ensures)
 
 pub whole-spec : {M : Type 1} → statement M
 whole-spec =

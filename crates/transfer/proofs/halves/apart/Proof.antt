@@ -14,7 +14,7 @@ returns c = rw (c .if1 .taken) refl
 
 returns-2 : tie.Need-returns-2
 unfolding isHalf fetchesApart storesApart setupOf
-returns-2 c = rw (c .before .before .before .word .ensures, c .before .before .before .before .before .before .before .before .before .pre)
+returns-2 c = rw (c .before .before .before .before .before .before .before .before .pre)
 
 pub apart-spec : {M : Type 1} → statement M
-apart-spec = tie.close (tie.spec returns (λ c κs. search needs) returns-2)
+apart-spec = tie.close (tie.spec returns returns-2)

@@ -68,17 +68,17 @@ module _ (c : Channel) (m : Buffers) (p : Setup) (byte next : ℕ) (s : Seen) (e
 returns : tie.Need-returns
 returns c = let a = c .before .before .before .before .before .before .before .before .before .before .before .args in
     let m = buffers (now (a .sys)) (now (a .io)) in
-    lost (a .c) m (a .p) (a .byte) (c .before .before .before .before .before .before .second .result) (c .before .before .before .see .result) (c .before .before .before .before .before .before .before .before .before .before .before .pre .0) (c .before .before .before .before .before .before .before .before .before .before .before .pre .1) (c .before .before .before .before .before .before .before .before .before .before .before .pre .2) (c .before .before .before .before .before .before .second .ensures) (c .before .before .before .see .ensures) (not-true _ (c .before .if1 .taken)) (c .refused .result) (c .refused .ensures)
+    lost (a .c) m (a .p) (a .byte) (c .before .before .before .before .before .before .second-from .result) (c .before .before .before .see .result) (c .before .before .before .before .before .before .before .before .before .before .before .pre .0) (c .before .before .before .before .before .before .before .before .before .before .before .pre .1) (c .before .before .before .before .before .before .before .before .before .before .before .pre .2) (c .before .before .before .before .before .before .second-from .ensures _ (c .before .before .before .before .before .before .before .before .before .before .before .pre .0)) (c .before .before .before .see .ensures) (not-true _ (c .before .if1 .taken)) (c .refused .result) (c .refused .ensures)
 
 returns-2 : tie.Need-returns-2
-returns-2 c = let a = c .before .before .before .before .before .before .before .before .before .before .before .before .before .before .before .before .before .before .before .before .args in
+returns-2 c = let a = c .before .before .before .before .before .before .before .before .before .before .before .before .before .before .before .before .before .before .before .args in
     let m = buffers (now (a .sys)) (now (a .io)) in
-    unplaced (a .c) m (a .p) (a .byte) (c .before .before .before .before .before .before .before .before .before .before .before .before .before .before .before .second .result) (c .before .before .before .before .before .before .before .before .before .before .before .before .see .result) (c .before .before .before .before .before .before .before .before .before .before .before .before .before .before .before .before .before .before .before .before .pre .0) (c .before .before .before .before .before .before .before .before .before .before .before .before .before .before .before .before .before .before .before .before .pre .1) (c .before .before .before .before .before .before .before .before .before .before .before .before .before .before .before .before .before .before .before .before .pre .2) (c .before .before .before .before .before .before .before .before .before .before .before .before .before .before .before .second .ensures) (c .before .before .before .before .before .before .before .before .before .before .before .before .see .ensures) (not-false _ (c .before .before .before .before .before .before .before .before .before .before .if1 .left)) (c .before .before .before .before .before .before .put .result) _ (c .before .before .before .before .before .before .put .ensures .0) (c .before .before .before .before .before .before .put .ensures .1) (not-true _ (c .before .if2 .taken)) (c .refused2 .result) (c .refused2 .ensures)
+    unplaced (a .c) m (a .p) (a .byte) (c .before .before .before .before .before .before .before .before .before .before .before .before .before .before .second-from .result) (c .before .before .before .before .before .before .before .before .before .before .before .see .result) (c .before .before .before .before .before .before .before .before .before .before .before .before .before .before .before .before .before .before .before .pre .0) (c .before .before .before .before .before .before .before .before .before .before .before .before .before .before .before .before .before .before .before .pre .1) (c .before .before .before .before .before .before .before .before .before .before .before .before .before .before .before .before .before .before .before .pre .2) (c .before .before .before .before .before .before .before .before .before .before .before .before .before .before .second-from .ensures _ (c .before .before .before .before .before .before .before .before .before .before .before .before .before .before .before .before .before .before .before .pre .0)) (c .before .before .before .before .before .before .before .before .before .before .before .see .ensures) (not-false _ (c .before .before .before .before .before .before .before .before .before .if1 .left)) (c .before .before .before .before .before .before .put .result) _ (c .before .before .before .before .before .before .put .ensures _ (c .before .before .before .before .before .before .before .before .before .before .before .before .before .before .before .before .before .before .before .pre .0) .0) (c .before .before .before .before .before .before .put .ensures _ (c .before .before .before .before .before .before .before .before .before .before .before .before .before .before .before .before .before .before .before .pre .0) .1) (not-true _ (c .before .if2 .taken)) (c .refused2 .result) (c .refused2 .ensures)
 
 returns-3 : tie.Need-returns-3
-returns-3 c = let a = c .before .before .before .before .before .before .before .before .before .before .before .before .before .before .before .before .before .before .before .before .before .args in
+returns-3 c = let a = c .before .before .before .before .before .before .before .before .before .before .before .before .before .before .before .before .before .before .before .before .args in
     let m = buffers (now (a .sys)) (now (a .io)) in
-    gone (a .c) m (a .p) (a .byte) (c .before .before .before .before .before .before .before .before .before .before .before .before .before .before .before .before .second .result) (c .before .before .before .before .before .before .before .before .before .before .before .before .before .see .result) (c .before .before .before .before .before .before .before .before .before .before .before .before .before .before .before .before .before .before .before .before .before .pre .0) (c .before .before .before .before .before .before .before .before .before .before .before .before .before .before .before .before .before .before .before .before .before .pre .1) (c .before .before .before .before .before .before .before .before .before .before .before .before .before .before .before .before .before .before .before .before .before .pre .2) (c .before .before .before .before .before .before .before .before .before .before .before .before .before .before .before .before .second .ensures) (c .before .before .before .before .before .before .before .before .before .before .before .before .before .see .ensures) (not-false _ (c .before .before .before .before .before .before .before .before .before .before .before .if1 .left)) (c .before .before .before .before .before .before .before .put .result) _ (c .before .before .before .before .before .before .before .put .ensures .0) (c .before .before .before .before .before .before .before .put .ensures .1) (not-false _ (c .before .before .if2 .left)) (c .goes .result) (c .before .finish .result) (c .goes .ensures) (c .before .finish .ensures)
+    gone (a .c) m (a .p) (a .byte) (c .before .before .before .before .before .before .before .before .before .before .before .before .before .before .before .second-from .result) (c .before .before .before .before .before .before .before .before .before .before .before .before .see .result) (c .before .before .before .before .before .before .before .before .before .before .before .before .before .before .before .before .before .before .before .before .pre .0) (c .before .before .before .before .before .before .before .before .before .before .before .before .before .before .before .before .before .before .before .before .pre .1) (c .before .before .before .before .before .before .before .before .before .before .before .before .before .before .before .before .before .before .before .before .pre .2) (c .before .before .before .before .before .before .before .before .before .before .before .before .before .before .before .second-from .ensures _ (c .before .before .before .before .before .before .before .before .before .before .before .before .before .before .before .before .before .before .before .before .pre .0)) (c .before .before .before .before .before .before .before .before .before .before .before .before .see .ensures) (not-false _ (c .before .before .before .before .before .before .before .before .before .before .if1 .left)) (c .before .before .before .before .before .before .before .put .result) _ (c .before .before .before .before .before .before .before .put .ensures _ (c .before .before .before .before .before .before .before .before .before .before .before .before .before .before .before .before .before .before .before .before .pre .0) .0) (c .before .before .before .before .before .before .before .put .ensures _ (c .before .before .before .before .before .before .before .before .before .before .before .before .before .before .before .before .before .before .before .before .pre .0) .1) (not-false _ (c .before .before .if2 .left)) (c .goes .result) (c .before .finish .result) (c .goes .ensures) (c .before .finish .ensures)
 
 pub second-fetch-spec : {M : Type 1} → statement M
 second-fetch-spec =

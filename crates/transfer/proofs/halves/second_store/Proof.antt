@@ -45,12 +45,12 @@ module _ (c : Channel) (m : Buffers) (p : Setup) (byte next : ℕ) (b : Bool) (m
 returns : tie.Need-returns
 returns c = let a = c .before .before .before .before .before .before .before .before .before .before .before .before .before .before .before .args in
     let m = buffers (now (a .sys)) (now (a .io)) in
-    gone (a .c) m (a .p) (a .byte) (c .before .before .before .before .before .before .before .before .before .before .second .result) (c .before .before .before .before .before .before .before .put-one .result) _ (c .before .before .before .before .before .before .before .before .before .before .before .before .before .before .before .pre .0) (c .before .before .before .before .before .before .before .before .before .before .before .before .before .before .before .pre .1) (c .before .before .before .before .before .before .before .before .before .before .before .before .before .before .before .pre .2) (c .before .before .before .before .before .before .before .before .before .before .second .ensures) (c .before .before .before .before .before .before .before .put-one .ensures .0) (c .before .before .before .before .before .before .before .put-one .ensures .1) (c .before .before .if1 .taken) (c .goes .result) (c .before .second-code .result) (c .goes .ensures) (c .before .second-code .ensures)
+    gone (a .c) m (a .p) (a .byte) (c .before .before .before .before .before .before .before .before .before .before .second-into .result) (c .before .before .before .before .before .before .before .put-one .result) _ (c .before .before .before .before .before .before .before .before .before .before .before .before .before .before .before .pre .0) (c .before .before .before .before .before .before .before .before .before .before .before .before .before .before .before .pre .1) (c .before .before .before .before .before .before .before .before .before .before .before .before .before .before .before .pre .2) (c .before .before .before .before .before .before .before .before .before .before .second-into .ensures _ (c .before .before .before .before .before .before .before .before .before .before .before .before .before .before .before .pre .0)) (c .before .before .before .before .before .before .before .put-one .ensures .0) (c .before .before .before .before .before .before .before .put-one .ensures .1) (c .before .before .if1 .taken) (c .goes .result) (c .before .second-code .result) (c .goes .ensures) (c .before .second-code .ensures)
 
 returns-2 : tie.Need-returns-2
 returns-2 c = let a = c .before .before .before .before .before .before .before .before .before .before .before .before .before .before .args in
     let m = buffers (now (a .sys)) (now (a .io)) in
-    lost (a .c) m (a .p) (a .byte) (c .before .before .before .before .before .before .before .before .before .second .result) (c .before .before .before .before .before .before .put-one .result) _ (c .before .before .before .before .before .before .before .before .before .before .before .before .before .before .pre .0) (c .before .before .before .before .before .before .before .before .before .before .before .before .before .before .pre .1) (c .before .before .before .before .before .before .before .before .before .before .before .before .before .before .pre .2) (c .before .before .before .before .before .before .before .before .before .second .ensures) (c .before .before .before .before .before .before .put-one .ensures .0) (c .before .before .before .before .before .before .put-one .ensures .1) (c .before .if1 .left) (c .refused .result) (c .refused .ensures)
+    lost (a .c) m (a .p) (a .byte) (c .before .before .before .before .before .before .before .before .before .second-into .result) (c .before .before .before .before .before .before .put-one .result) _ (c .before .before .before .before .before .before .before .before .before .before .before .before .before .before .pre .0) (c .before .before .before .before .before .before .before .before .before .before .before .before .before .before .pre .1) (c .before .before .before .before .before .before .before .before .before .before .before .before .before .before .pre .2) (c .before .before .before .before .before .before .before .before .before .second-into .ensures _ (c .before .before .before .before .before .before .before .before .before .before .before .before .before .before .pre .0)) (c .before .before .before .before .before .before .put-one .ensures .0) (c .before .before .before .before .before .before .put-one .ensures .1) (c .before .if1 .left) (c .refused .result) (c .refused .ensures)
 
 pub second-store-spec : {M : Type 1} → statement M
 second-store-spec =

@@ -30,8 +30,8 @@ returns-2 c =
     let a = c .before .before .before .before .before .before .before .before .before .before .before .before .before .args in
     c .none2 .ensures
     ∙ sym
-    (second-beyond (a .c) (buffers (now (a .sys)) (now (a .io))) (a .p) (c .before .before .before .before .before .before .before .before .before .before .before .before .before .pre .0) (c .before .before .before .before .second .result)
-    (sym (ap touchable (c .before .before .before .before .before .before .before .before .see .ensures)) ∙ not-false _ (c .before .before .before .before .before .before .if1 .left)) (c .before .before .before .before .before .if2 .taken) (c .before .before .before .before .second .ensures)
+    (second-beyond (a .c) (buffers (now (a .sys)) (now (a .io))) (a .p) (c .before .before .before .before .before .before .before .before .before .before .before .before .before .pre .0) (c .before .before .before .before .second-from .result)
+    (sym (ap touchable (c .before .before .before .before .before .before .before .before .see .ensures)) ∙ not-false _ (c .before .before .before .before .before .before .if1 .left)) (c .before .before .before .before .before .if2 .taken) (c .before .before .before .before .second-from .ensures _ (c .before .before .before .before .before .before .before .before .before .before .before .before .before .pre .0))
     (sym (ap touchable (c .before .before .before .see2 .ensures)) ∙ not-true _ (c .before .if3 .taken)))
 
 returns-3 : tie.Need-returns-3
@@ -40,8 +40,8 @@ returns-3 c =
     c .some .ensures
     ∙ ap (here (c .before .before .before .before .before .before .before .before .see .result .byte)) (ap byte (c .before .before .before .see2 .ensures))
     ∙ sym
-    (both-read (a .c) (buffers (now (a .sys)) (now (a .io))) (a .p) (c .before .before .before .before .before .before .before .before .before .before .before .before .before .pre .0) (c .before .before .before .before .before .before .before .before .see .result .byte) (c .before .before .before .before .second .result) (c .before .before .before .before .before .before .before .before .before .before .before .before .before .pre .1)
-    (sym (ap touchable (c .before .before .before .before .before .before .before .before .see .ensures)) ∙ not-false _ (c .before .before .before .before .before .before .if1 .left)) (ap byte (c .before .before .before .before .before .before .before .before .see .ensures)) (c .before .before .before .before .before .if2 .taken) (c .before .before .before .before .second .ensures)
+    (both-read (a .c) (buffers (now (a .sys)) (now (a .io))) (a .p) (c .before .before .before .before .before .before .before .before .before .before .before .before .before .pre .0) (c .before .before .before .before .before .before .before .before .see .result .byte) (c .before .before .before .before .second-from .result) (c .before .before .before .before .before .before .before .before .before .before .before .before .before .pre .1)
+    (sym (ap touchable (c .before .before .before .before .before .before .before .before .see .ensures)) ∙ not-false _ (c .before .before .before .before .before .before .if1 .left)) (ap byte (c .before .before .before .before .before .before .before .before .see .ensures)) (c .before .before .before .before .before .if2 .taken) (c .before .before .before .before .second-from .ensures _ (c .before .before .before .before .before .before .before .before .before .before .before .before .before .pre .0))
     (sym (ap touchable (c .before .before .before .see2 .ensures)) ∙ not-false _ (c .before .if3 .left)))
 
 returns-4 : tie.Need-returns-4
