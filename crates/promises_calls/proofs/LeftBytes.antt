@@ -51,8 +51,8 @@ use Rattle.promises_calls.specs.LeftBytes.LeftByCalls.{fresh, power, att
 -- ---- one call
 
 -- bytes that are a state which calls make
-abbrev MadeBytes : List ℕ → Type 0
-MadeBytes b = (isState b ≡ true) × MadeOfBytes (stateIn b)
+abbrev BytesMade : List ℕ → Type 0
+BytesMade b = (isState b ≡ true) × MadeOfBytes (stateIn b)
 
 -- the bytes of a fresh state are one
 fresh-held : (cp : ℕ) → HeldFit (freshOf cp .state)
@@ -68,7 +68,7 @@ unfolding freshMade
 fresh-is b cp h = rw h (bytes-are (freshOf cp .state) (fresh-agree cp) (fresh-held cp))
 
 fresh-stands : (κs : Lfts 1) (a : Dens κs fresh-kinds.ps) (r : resT fresh-kinds.r κs .Denot) (e : AtExit (endedOf 1 fresh-kinds.ps fresh-kinds.r) κs) → fresh-reads.Post κs a r e
-    → length (now (a .0)) ≡ stateLength → MadeBytes (now (e .0))
+    → length (now (a .0)) ≡ stateLength → BytesMade (now (e .0))
 fresh-stands κs a r e p h =
     (ap (λ (o : MadeBytes). isState (o .bytes)) (p .0) ∙ fresh-is (now (a .0)) (a .1 .0) h, subst MadeOfBytes (sym (p .1 h)) (made-fresh (a .1 .0)))
 
@@ -89,7 +89,7 @@ power-done b m = go (eqb (length b) stateLength) refl
     go false e z = absurd (eqb-false 17 0 refl z)
 
 power-stands : (κs : Lfts 3) (a : Dens κs power-kinds.ps) (r : resT power-kinds.r κs .Denot) (e : AtExit (endedOf 3 power-kinds.ps power-kinds.r) κs) → power-reads.Post κs a r e
-    → r % 256 ≡ 0 → MadeBytes (now (e .0))
+    → r % 256 ≡ 0 → BytesMade (now (e .0))
 power-stands κs a r e p z =
     let m = buffers (now (a .1 .0)) (now (a .1 .1 .0)) in
     let done : powerServed (now (a .0)) m .answer % 256 ≡ 0 = ap (λ (o : Service). o .answer % 256) (sym (p .0)) ∙ z in
@@ -99,7 +99,7 @@ power-stands κs a r e p z =
     )
 
 attention-stands : (κs : Lfts 3) (a : Dens κs attention-kinds.ps) (r : resT attention-kinds.r κs .Denot) (e : AtExit (endedOf 3 attention-kinds.ps attention-kinds.r) κs) → attention-reads.Post κs a r e
-    → MadeBytes (now (a .0)) → MadeBytes (now (e .0))
+    → BytesMade (now (a .0)) → BytesMade (now (e .0))
 attention-stands κs a r e p h =
     let m = buffers (now (a .1 .0)) (now (a .1 .1 .0)) in (
       ap (λ (o : Service). isState (o .bytes)) (p .0) ∙ attention-stays (now (a .0)) (p .1 .1 .0) m (h .0) (a .1 .1 .1 .0),
@@ -107,7 +107,7 @@ attention-stands κs a r e p h =
     )
 
 step-stands : (κs : Lfts 3) (a : Dens κs step-kinds.ps) (r : resT step-kinds.r κs .Denot) (e : AtExit (endedOf 3 step-kinds.ps step-kinds.r) κs) → step-reads.Post κs a r e
-    → MadeBytes (now (a .0)) → MadeBytes (now (e .0))
+    → BytesMade (now (a .0)) → BytesMade (now (e .0))
 step-stands κs a r e p h =
     (step-leaves κs a r e p (h .0), subst MadeOfBytes (sym (p .1 .0 (h .0))) (made-step (h .1) (buffers (now (a .1 .0)) (now (a .1 .1 .0))) (a .1 .1 .1 .0)))
 
