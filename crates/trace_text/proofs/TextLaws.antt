@@ -2,7 +2,7 @@
 -- Assumes nothing.
 use mathlib.Core.Bool.{Bool, true, false}
 use mathlib.Core.List.{List, [], _∷_, _++_}
-use mathlib.Core.Path.{_≡_, ap}
+use mathlib.Core.Path.{_≡_, refl, ap}
 use Prim.Native.Nat.{ℕ, zero, suc, _+_, _-_, _*_, _≤_, _<_}
 use native.Mathlib.Nat.{not-suc-le-zero}
 use native.Mathlib.Omega.{arith}
@@ -13,7 +13,7 @@ use Rattle.ground_rules.specs.Choice.{pick}
 use Rattle.ground_rules.specs.Buffers.{Buffers}
 use Rattle.ground_rules.specs.declared.State.{State}
 use Rattle.ground_rules.specs.Outcomes.{Outcome}
-use Rattle.ground_rules.specs.States.{freshOf}
+use Rattle.ground_rules.specs.States.{freshOf, channelOf, isSecond}
 use Rattle.attention_rules.specs.Attention.{attentionOf}
 use Rattle.page.specs.Numbers.{hex, decimal, letter}
 use Rattle.page.proofs.NumberLaws.{hex-short, decimal-short}
@@ -84,6 +84,11 @@ few-short left s m done h = omega (arith, steps-short left s m done)
 either-short : (b : Bool) (x y : List ℕ) → length x ≤ 32768 → length y ≤ 32768 → length (pick b x y) ≤ 32768
 either-short true x y h k = h
 either-short false x y h k = k
+
+-- what a step's line shows last is TP of the channel that stepped, as the step left it
+pub shows-tp : (number : ℕ) (o : Step) (tp : ℕ) → channelOf (o .state) (isSecond (o .channel)) .tp .address ≡ tp → stepLine number o ≡ lineOf number (o .channel) (o .kind) tp
+unfolding stepLine
+shows-tp number o tp e = rw e refl
 
 -- the whole text
 pub trace-short : (input : List ℕ) → length (traceOf input) ≤ 32768
