@@ -189,7 +189,7 @@ static _Noreturn void usage(void)
 {
     fputs("usage: bench proved|plain WORKLOAD small|full STEPS\n"
           "       bench swept|stepped within|across|one COUNT\n"
-          "       bench scheduled|singly|paired-1|paired-2 both|8/8|16/16|wait ROWS\n"
+          "       bench scheduled|singly|paired-1|paired-2|asked both|8/8|16/16|wait ROWS\n"
           "       bench loop TURNS\n",
           stderr);
     exit(2);
@@ -377,6 +377,24 @@ static bool row_all(const char *how, const struct workload *w, uint32_t count)
     return report[waits ? IOP89_ROWS_REFUSED : IOP89_ROWS_ACCEPTED] == count;
 }
 
+/* ---- What a step touches, told before it is made ---- */
+
+/* So many steps, what each touches asked before it; whether all were done, or all waited. */
+static bool step_asked(const struct workload *w, uint32_t count)
+{
+    uint8_t state[IOP89_STATE_LENGTH];
+    uint32_t places[IOP89_PLACES], met[2] = {0, 0};
+    bool waits = strcmp(w->name, "wait") == 0;
+    make_started(w, state);
+    for (uint32_t i = 0; i < count; i++) {
+        uint32_t told = iop89_touches_step(state, IOP89_STATE_LENGTH, sys, SMALL, io, SMALL, 0, places, IOP89_PLACES);
+        uint32_t answer = step_once(state, 0);
+        if (IOP89_ANSWER_NUMBER(told) != IOP89_ANSWER_NUMBER(answer)) return false;
+        met[IOP89_ANSWER_NUMBER(answer) == 0 ? 0 : 1]++;
+    }
+    return met[waits ? 1 : 0] == count;
+}
+
 /* ---- Two processors ---- */
 
 /* I/O memory of the other processor. */
@@ -420,6 +438,8 @@ int main(int count, char **words)
     }
     if (count == 4 && (strcmp(words[1], "paired-1") == 0 || strcmp(words[1], "paired-2") == 0))
         return step_paired(words[1][7] == '1' ? 1 : 2, workload_of(words[2]), number_of(words[3])) ? 0 : 1;
+    if (count == 4 && strcmp(words[1], "asked") == 0)
+        return step_asked(workload_of(words[2]), number_of(words[3])) ? 0 : 1;
     if (count == 4 && (strcmp(words[1], "scheduled") == 0 || strcmp(words[1], "singly") == 0))
         return row_all(words[1], workload_of(words[2]), number_of(words[3])) ? 0 : 1;
     if (count == 4) return made(words[1], sweep_of(words[2]), number_of(words[3])) ? 0 : 1;
