@@ -3,6 +3,8 @@
 use ground_rules::State;
 use state_bytes::layout;
 use touches::Outlook;
+use touches::StepOutlook;
+use turn_rules::Choice;
 use turn_rules::Kind;
 ghost use mathlib.Core.Bool.{true};
 ghost use mathlib.Core.Path.{_≡_};
@@ -37,6 +39,14 @@ fn plain(o: Outlook) -> u32
     ensures { λ r. ⌜ r ≡ answerFrom (o .number) 0 0 (o .count) ⌝ }
 {
     answer(o.number, 0, 0, o.count)
+}
+
+// An answer with channel and kind.
+fn whole(o: StepOutlook) -> u32
+    ensures { λ r. ⌜ r ≡ answerFrom (o .number) (o .channel) (Calls.kindNumber (o .kind)) (o .count) ⌝ }
+{
+    let kind = o.kind;
+    answer(o.number, o.channel, kind_number(kind), o.count)
 }
 
 // Tells what an attention would touch.
@@ -112,9 +122,18 @@ pub extern "C" fn iop89_touches_step(
     if number != 0 {
         return answer(number, 0, 0, 0);
     }
-    let o = touches::chosen(s, sys, io, lines, places);
-    let kind = o.kind;
-    answer(o.number, o.channel, kind_number(kind), o.count)
+    match step::turns::choose(s, lines) {
+        Choice::Nobody => answer(1, 0, 0, 0),
+        Choice::Ends(second) => answer(0, machine::states::number(second), 3, 0),
+        Choice::Steps(second) => whole(touches::turn(
+            s,
+            second,
+            layout::channel(state, second),
+            sys,
+            io,
+            places,
+        )),
+    }
 }
 
 // Tells where the two ranges of a sweep begin.

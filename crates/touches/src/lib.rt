@@ -1,8 +1,8 @@
 // What the next call touches, told before it is made: its number, and its places in lent words; the state and both
 // memories are only read.
 use crate::tell::Progress;
+use ground_rules::Channel;
 use ground_rules::State;
-use turn_rules::Choice;
 use turn_rules::Kind;
 ghost use mathlib.Core.List.{List};
 ghost use mathlib.Core.Path.{_≡_};
@@ -10,12 +10,11 @@ ghost use Prim.Native.Nat.{ℕ};
 ghost use lib.Dec.{eqb};
 ghost use Rattle.ground_rules.specs.Buffers.{lent};
 ghost use Rattle.ground_rules.specs.Choice.{pick};
-ghost use Rattle.ground_rules.specs.States.{channelNumber};
+ghost use Rattle.ground_rules.specs.States.{channelOf, channelNumber};
 ghost use Rattle.attention_rules.specs.Attention.{attentionOf};
 ghost use Rattle.attention_rules.specs.Power.{powerNumber};
 ghost use Rattle.sweep_rules.specs.Sweep.{sweepNumber};
-ghost use Rattle.turn_rules.specs.Choosing.{choiceOf};
-ghost use Rattle.turn_rules.specs.Step.{channelStep, chosenStep};
+ghost use Rattle.turn_rules.specs.Step.{channelStep};
 ghost use Rattle.turn_rules.specs.declared.Choice.the-variants.{Steps};
 ghost use Rattle.turn_rules.specs.declared.Kind.the-variants.{Nothing};
 ghost use Rattle.touch_rules.specs.Touches.{toldByAttention, toldByPower, toldByChoice, toldBySweep};
@@ -89,18 +88,6 @@ pub fn power_up(sys: &[u8], io: &[u8], places: &mut [u32]) -> Outlook
     orders::power(places, sys, io)
 }
 
-// A step before which nothing is told.
-fn untouching(number: u32, channel: u32, kind: Kind) -> StepOutlook
-    ensures { λ r. ⌜ r ≡ record { number = number; count = 0; channel = channel; kind = kind } ⌝ }
-{
-    StepOutlook {
-        number,
-        count: 0,
-        channel,
-        kind,
-    }
-}
-
 // A channel's step: where it is done, of the channel and the kind.
 fn by(second: bool, kind: Kind, o: Outlook) -> StepOutlook
     ensures { λ r. ⌜ r ≡ record { number = o .number; count = o .count; channel = pick (eqb (o .number) 0) (channelNumber second) 0; kind = pick (eqb (o .number) 0) kind Nothing } ⌝ }
@@ -121,11 +108,17 @@ fn by(second: bool, kind: Kind, o: Outlook) -> StepOutlook
     }
 }
 
-// The turn of a channel: a transfer step with XF, else an instruction.
-fn turn(s: State, second: bool, sys: &[u8], io: &[u8], places: &mut [u32]) -> StepOutlook
-    ensures { λ r. ⌜ stepSeen r (now (places .exit)) ≡ stepForetold (channelStep s (lent (sys .entry) (io .entry)) second) (toldByChoice (Steps second) s (lent (sys .entry) (io .entry))) (now (places .entry)) ⌝ }
+// The turn of a channel of a state, which the caller takes out of it: a transfer step with XF, else an instruction.
+pub fn turn(
+    s: State,
+    second: bool,
+    c: Channel,
+    sys: &[u8],
+    io: &[u8],
+    places: &mut [u32],
+) -> StepOutlook
+    ensures { λ r. ⌜ (c ≡ channelOf s second → stepSeen r (now (places .exit)) ≡ stepForetold (channelStep s (lent (sys .entry) (io .entry)) second) (toldByChoice (Steps second) s (lent (sys .entry) (io .entry))) (now (places .entry))) ⌝ }
 {
-    let c = machine::states::channel(s, second);
     if machine::psw::transferring(c.psw) {
         return by(
             second,
@@ -139,17 +132,6 @@ fn turn(s: State, second: bool, sys: &[u8], io: &[u8], places: &mut [u32]) -> St
         Kind::Instruction,
         instructions::instruction(places, c, busy, sys, io),
     )
-}
-
-// Tells what a step would touch that is not refused by what it is given.
-pub fn chosen(s: State, sys: &[u8], io: &[u8], lines: u32, places: &mut [u32]) -> StepOutlook
-    ensures { λ r. ⌜ stepSeen r (now (places .exit)) ≡ stepForetold (chosenStep (choiceOf s lines) s (lent (sys .entry) (io .entry))) (toldByChoice (choiceOf s lines) s (lent (sys .entry) (io .entry))) (now (places .entry)) ⌝ }
-{
-    match step::turns::choose(s, lines) {
-        Choice::Nobody => untouching(1, 0, Kind::Nothing),
-        Choice::Ends(second) => untouching(0, machine::states::number(second), Kind::External),
-        Choice::Steps(second) => turn(s, second, sys, io, places),
-    }
 }
 
 // Tells where the two ranges of a sweep begin.

@@ -16,9 +16,6 @@ use mathlib.Core.List.{List, _++_}
 use mathlib.Core.Path.{_≡_, refl, sym, ap, _∙_}
 use native.Mathlib.Omega.{arith}
 
-channel-requires : tie.Need-channel-requires
-channel-requires c κs = search needs
-
 transferring-requires : tie.Need-transferring-requires
 transferring-requires c κs = search needs
 
@@ -32,12 +29,12 @@ same-length : tie.Need-same-length
 same-length c = search needs
 
 returns : tie.Need-returns
-returns c =
-    let a = c .before .before .before .before .before .before .before .before .before .before .before .args in
+returns c = λ e.
+    let a = c .before .before .before .before .before .before .before .before .before .before .args in
     let m = buffers (now (a .sys)) (now (a .io)) in
     rw (c .by .ensures)
-    (turn-transfer (a .s) m (a .second) (now (a .places)) (simp (c .before .before .before .before .before .before .before .channel .ensures) at (sym (c .before .before .before .before .before .before .transferring .ensures) ∙ c .before .before .before .before .before .if1 .taken))
-    (foreseen (c .before .before .before .transfer .result) (c .before .before .before .transfer .last .0)) (simp (c .before .before .before .before .before .before .before .channel .ensures) at (c .before .before .before .transfer .ensures)))
+    (turn-transfer (a .s) m (a .second) (now (a .places)) (simp e at (sym (c .before .before .before .before .before .before .transferring .ensures) ∙ c .before .before .before .before .before .if1 .taken))
+    (foreseen (c .before .before .before .transfer .result) (c .before .before .before .transfer .last .0)) (simp e at (c .before .before .before .transfer .ensures)))
 
 block-requires : tie.Need-block-requires
 block-requires c κs = search needs
@@ -56,18 +53,17 @@ same-length-2 c = search needs
 
 returns-2 : tie.Need-returns-2
 unfolding busyIn
-returns-2 c =
-    let a = c .before .before .before .before .before .before .before .before .before .before .before .before .before .args in
+returns-2 c = λ e.
+    let a = c .before .before .before .before .before .before .before .before .before .before .before .before .args in
     let m = buffers (now (a .sys)) (now (a .io)) in
     rw (c .by2 .ensures)
-    (turn-instruction (a .s) m (a .second) (now (a .places)) (simp (c .before .before .before .before .before .before .before .before .before .channel .ensures) at (sym (c .before .before .before .before .before .before .before .before .transferring .ensures) ∙ c .before .before .before .before .before .before .before .if1 .left))
-    (foreseen (c .before .before .before .instruction .result) (c .before .before .before .instruction .last .0)) (simp (c .before .before .before .before .before .before .before .before .before .channel .ensures, c .before .before .before .before .before .sum20 .ensures, c .before .before .before .before .before .before .block .ensures) at (c .before .before .before .instruction .ensures)))
+    (turn-instruction (a .s) m (a .second) (now (a .places)) (simp e at (sym (c .before .before .before .before .before .before .before .before .transferring .ensures) ∙ c .before .before .before .before .before .before .before .if1 .left))
+    (foreseen (c .before .before .before .instruction .result) (c .before .before .before .instruction .last .0)) (simp (e, c .before .before .before .before .before .sum20 .ensures, c .before .before .before .before .before .before .block .ensures) at (c .before .before .before .instruction .ensures)))
 
 pub turn-spec : {M : Type 1} → statement M
 turn-spec =
     tie.close
     (tie.spec
-    channel-requires
     transferring-requires
     transfer-requires
     by-requires
