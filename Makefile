@@ -171,7 +171,7 @@ lib: proved-archives $(ARCHIVES) $(SHARED) $(SHARED_SERVICE)
 
 # What both archives are made of, in one go, so that two are proved at a time.
 proved-archives:
-	@tools/prove staticlib run_call $(SERVICE_CRATES)
+	@tools/prove staticlib $(RUN_CRATES) $(filter-out $(RUN_CRATES),$(SERVICE_CRATES))
 
 # An archive is made again where a file of its crates is not what it was; their list is kept by content. The object of
 # both runs stands in both archives, the same, so that either has its calls and a program that links both has it once.
