@@ -1,3 +1,7 @@
-pub mod DeedLaws
+pub mod WindowLaws
+pub mod ControlWorks
+pub mod JumpWorks
+pub mod RegisterWorks
+pub mod MemoryWorks
 pub mod CodeLaws
 pub mod Determined

@@ -1,3 +1,5 @@
 pub mod Writes
+pub mod Bytes
+pub mod Findings
 pub mod Effects
 pub mod Plan

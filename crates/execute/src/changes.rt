@@ -1,75 +1,28 @@
-// What an instruction stores: the changes that instructions make, and the one function that makes the stores.
-use crate::operands;
-use ground_rules::Pointer;
-use instruction_rules::Change;
+// What an instruction stores: the lowest bytes of a value at a place.
 ghost use mathlib.Core.Path.{_≡_};
 ghost use Rattle.ground_rules.specs.Choice.{pick};
 ghost use Rattle.ground_rules.specs.Buffers.{lent};
 ghost use Rattle.ground_rules.specs.Places.{allTouchable};
-ghost use Rattle.instruction_rules.specs.Changes as Changes;
-ghost use Rattle.instruction_rules.specs.Changes.{placesOf, changed, byteTo, resultTo, pointerTo};
+ghost use Rattle.ground_rules.specs.Values.{pointer};
+ghost use Rattle.instruction_rules.specs.Changes.{change, placesOf, changed, storedValue};
 
-// No change.
-pub fn nothing() -> Change
-    ensures { λ r. ⌜ r ≡ Changes.nothing ⌝ }
+// The three bytes in which a pointer is stored, as one number.
+pub fn stored_value(address: u32, tag: bool) -> u32
+    ensures { λ r. ⌜ r ≡ storedValue (pointer address tag) ⌝ }
 {
-    Change {
-        count: 0,
-        at: Pointer {
-            address: 0,
-            tag: false,
-        },
-        value: 0,
-    }
+    let low = words::stored_low(address) as u32;
+    let middle = words::stored_middle(address) as u32;
+    let high = words::stored_high(address, tag) as u32;
+    low + middle * 256 + high * 65536
 }
 
-// A byte at a place.
-pub fn byte_to(at: Pointer, v: u8) -> Change
-    ensures { λ r. ⌜ r ≡ byteTo at v ⌝ }
+// The lowest `count` bytes of a value, at most three, stored at a place.
+fn store(count: u32, tag: bool, address: u32, v: u32, sys: &mut [u8], io: &mut [u8])
+    ensures { λ r. ⌜ lent (sys .exit) (io .exit) ≡ changed (lent (sys .entry) (io .entry)) (change count (pointer address tag) v) ⌝ }
 {
-    Change {
-        count: 1,
-        at,
-        value: v as u32,
-    }
-}
-
-// A result at a place, as a byte or a word.
-pub fn result_to(at: Pointer, wide: bool, v: u32) -> Change
-    ensures { λ r. ⌜ r ≡ resultTo at wide v ⌝ }
-{
-    Change {
-        count: operands::size(wide),
-        at,
-        value: v,
-    }
-}
-
-// A pointer in its stored form at a place.
-pub fn pointer_to(at: Pointer, p: Pointer) -> Change
-    ensures { λ r. ⌜ r ≡ pointerTo at p ⌝ }
-{
-    let low = words::stored_low(p.address) as u32;
-    let middle = words::stored_middle(p.address) as u32;
-    let high = words::stored_high(p.address, p.tag) as u32;
-    Change {
-        count: 3,
-        at,
-        value: low + middle * 256 + high * 65536,
-    }
-}
-
-// The stores of a change.
-fn store(change: Change, sys: &mut [u8], io: &mut [u8])
-    ensures { λ r. ⌜ lent (sys .exit) (io .exit) ≡ changed (lent (sys .entry) (io .entry)) change ⌝ }
-{
-    let count = change.count;
     if count == 0 {
         return;
     }
-    let tag = change.at.tag;
-    let address = change.at.address;
-    let v = change.value;
     memory::store_byte(sys, io, tag, address, (v % 256) as u8);
     if count == 1 {
         return;
@@ -93,15 +46,14 @@ fn store(change: Change, sys: &mut [u8], io: &mut [u8])
     );
 }
 
-// A change made where all its places may be touched, else nothing; and whether they may.
-pub fn made(change: Change, sys: &mut [u8], io: &mut [u8]) -> bool
-    ensures told { λ r. ⌜ r ≡ allTouchable (lent (sys .entry) (io .entry)) (placesOf change) ⌝ }
-    ensures stored { λ r. ⌜ lent (sys .exit) (io .exit) ≡ pick r (changed (lent (sys .entry) (io .entry)) change) (lent (sys .entry) (io .entry)) ⌝ }
+// The same where all its places may be touched, else nothing; and whether they may.
+pub fn made(count: u32, tag: bool, address: u32, v: u32, sys: &mut [u8], io: &mut [u8]) -> bool
+    ensures told { λ r. ⌜ r ≡ allTouchable (lent (sys .entry) (io .entry)) (placesOf (change count (pointer address tag) v)) ⌝ }
+    ensures stored { λ r. ⌜ lent (sys .exit) (io .exit) ≡ pick r (changed (lent (sys .entry) (io .entry)) (change count (pointer address tag) v)) (lent (sys .entry) (io .entry)) ⌝ }
 {
-    let at = change.at;
-    if !memory::span_touchable(sys, io, at.tag, at.address, change.count) {
+    if !memory::span_touchable(sys, io, tag, address, count) {
         return false;
     }
-    store(change, sys, io);
+    store(count, tag, address, v, sys, io);
     true
 }

@@ -1,86 +1,93 @@
 // NOP, SINTR, XFER, WID and HLT.
 use crate::Effect;
+use crate::Finding;
 use crate::NO_WRITE;
-use crate::changes;
-use ground_rules::Channel;
-use ground_rules::Pointer;
 use machine::psw;
+ghost use mathlib.Core.Bool.{not};
 ghost use mathlib.Core.Path.{_≡_};
-ghost use Rattle.execute.specs.Effects.{unread};
-ghost use Rattle.instruction_rules.specs.Control.{nopDeed, sintrDeed, xferDeed, widDeed, hltDeed, withStatus};
+ghost use Prim.Native.Nat.{ℕ};
+ghost use Rattle.ground_rules.specs.Buffers.{Buffers};
+ghost use Rattle.ground_rules.specs.declared.Channel.{Channel};
+ghost use Rattle.instruction_rules.specs.declared.Shape.the-variants.{Nop, Sintr, Xfer, Wid, Hlt};
+ghost use Rattle.execute.specs.Effects.{leaving, Works};
 
-// A channel after an instruction that reads and stores nothing.
-pub fn only(c: Channel) -> Effect
-    ensures { λ r. ⌜ r ≡ unread (nopDeed c) ⌝ }
+// What leaves another TP, IX, PSW and mark, having read some bytes of its operand, and nothing else.
+pub fn leaves(tp: u32, ix: u16, psw: u8, armed: bool, reads: u32) -> Effect
+    ensures { λ r. ⌜ r ≡ leaving tp ix psw armed reads ⌝ }
 {
     Effect {
         number: 0,
-        reads: 0,
-        channel: c,
-        change: changes::nothing(),
+        more: 0,
+        reads,
+        tp,
+        ix,
+        psw,
+        halts: false,
+        armed,
         write: NO_WRITE,
+        count: 0,
+        space: false,
+        address: 0,
+        value: 0,
     }
 }
 
 // NOP.
-pub fn nop(c: Channel) -> Effect
-    ensures { λ r. ⌜ r ≡ unread (nopDeed c) ⌝ }
+pub fn nop(f: Finding) -> Effect
+    ensures { λ r. ⌜ ((busy : ℕ) (m : Buffers) (c : Channel) → Works Nop busy f m c r) ⌝ }
 {
-    only(c)
-}
-
-// The channel with another PSW.
-fn with_status(c: Channel, psw: u8) -> Channel
-    ensures { λ r. ⌜ r ≡ withStatus c psw ⌝ }
-{
-    let mut next = c;
-    next.psw = psw;
-    next
+    leaves(f.tp, f.ix, f.psw, false, 0)
 }
 
 // SINTR: IS is set if IC is 1.
-pub fn sintr(c: Channel) -> Effect
-    ensures { λ r. ⌜ r ≡ unread (sintrDeed c) ⌝ }
+pub fn sintr(f: Finding) -> Effect
+    ensures { λ r. ⌜ ((busy : ℕ) (m : Buffers) (c : Channel) → Works Sintr busy f m c r) ⌝ }
 {
-    if psw::interrupt_control(c.psw) {
-        only(with_status(c, psw::with(c.psw, psw::IS, true)))
+    if psw::interrupt_control(f.psw) {
+        leaves(f.tp, f.ix, psw::with(f.psw, psw::IS, true), false, 0)
     } else {
-        only(with_status(c, c.psw))
+        leaves(f.tp, f.ix, f.psw, false, 0)
     }
 }
 
 // XFER: the mark is set, unless XFER itself used one up.
-pub fn xfer(c: Channel, armed: bool) -> Effect
-    ensures { λ r. ⌜ r ≡ unread (xferDeed c armed) ⌝ }
+pub fn xfer(f: Finding) -> Effect
+    ensures { λ r. ⌜ ((busy : ℕ) (m : Buffers) (c : Channel) → Works Xfer busy f m c r) ⌝ }
 {
-    let mut next = c;
-    next.armed = !armed;
-    only(next)
+    leaves(f.tp, f.ix, f.psw, !f.armed, 0)
 }
 
 // WID: the widths of source and destination.
-pub fn wid(c: Channel, source: bool, destination: bool) -> Effect
-    ensures { λ r. ⌜ r ≡ unread (widDeed c source destination) ⌝ }
+pub fn wid(f: Finding, source: bool, destination: bool) -> Effect
+    ensures { λ r. ⌜ ((busy : ℕ) (m : Buffers) (c : Channel) → Works (Wid source destination) busy f m c r) ⌝ }
 {
-    let first = psw::with(c.psw, psw::SOURCE_WIDE, source);
-    only(with_status(c, psw::with(first, psw::DESTINATION_WIDE, destination)))
+    let first = psw::with(f.psw, psw::SOURCE_WIDE, source);
+    leaves(
+        f.tp,
+        f.ix,
+        psw::with(first, psw::DESTINATION_WIDE, destination),
+        false,
+        0,
+    )
 }
 
 // HLT: as the command halt does, with BUSY stored as 0.
-pub fn hlt(c: Channel, busy: u32) -> Effect
-    ensures { λ r. ⌜ r ≡ unread (hltDeed c busy) ⌝ }
+pub fn hlt(f: Finding, busy: u32) -> Effect
+    ensures { λ r. ⌜ ((m : Buffers) (c : Channel) → Works Hlt busy f m c r) ⌝ }
 {
     Effect {
         number: 0,
+        more: 0,
         reads: 0,
-        channel: machine::updates::halted(c),
-        change: changes::byte_to(
-            Pointer {
-                address: busy,
-                tag: false,
-            },
-            0,
-        ),
+        tp: f.tp,
+        ix: f.ix,
+        psw: machine::updates::stopped_psw(f.psw),
+        halts: true,
+        armed: false,
         write: NO_WRITE,
+        count: 1,
+        space: false,
+        address: busy,
+        value: 0,
     }
 }

@@ -1,18 +1,19 @@
 // Instructions that jump.
 use crate::Effect;
+use crate::Finding;
 use crate::NO_WRITE;
 use crate::changes;
 use crate::control;
+use crate::memories;
 use crate::operands;
-use crate::registers;
-use ground_rules::Channel;
-use ground_rules::Pointer;
 use instruction_rules::Memory;
 ghost use mathlib.Core.Path.{_≡_};
-ghost use Rattle.ground_rules.specs.Buffers.{lent};
-ghost use Rattle.execute.specs.Effects.{effectOf, unread};
+ghost use Prim.Native.Nat.{ℕ};
+ghost use Rattle.ground_rules.specs.Buffers.{Buffers};
+ghost use Rattle.ground_rules.specs.declared.Channel.{Channel};
 ghost use Rattle.instruction_rules.specs.JumpForms as Jumps;
-ghost use Rattle.instruction_rules.specs.JumpForms.{jumpRegisterDeed, jumpMemoryDeed, jumpMaskedDeed, jumpBitDeed, tslDeed, callDeed};
+ghost use Rattle.instruction_rules.specs.declared.Shape.the-variants.{JumpRegister, JumpMemory, JumpMasked, JumpBit, Tsl, Call};
+ghost use Rattle.execute.specs.Effects.{leaving, jumping, Works};
 
 // A test, or its opposite.
 fn agrees(wanted: bool, found: bool) -> bool
@@ -22,117 +23,96 @@ fn agrees(wanted: bool, found: bool) -> bool
 }
 
 // JZ and JNZ on a register.
-pub fn jump_register(
-    c: Channel,
-    tp: Pointer,
-    zero: bool,
-    rrr: u32,
-    two: bool,
-    sys: &[u8],
-    io: &[u8],
-) -> Effect
-    ensures { λ r. ⌜ r ≡ unread (jumpRegisterDeed (lent (sys .entry) (io .entry)) c tp zero rrr two) ⌝ }
+pub fn jump_register(f: Finding, zero: bool, rrr: u32, two: bool) -> Effect
+    ensures { λ r. ⌜ ((busy : ℕ) (m : Buffers) (c : Channel) → Works (JumpRegister zero rrr two) busy f m c r) ⌝ }
 {
-    let taken = agrees(zero, machine::registers::value(c, rrr) % 65536 == 0);
-    let mut next = c;
-    next.tp = operands::led(taken, c.tp, memory::onward(tp, 2), two, sys, io);
-    control::only(next)
+    let taken = agrees(zero, f.value % 65536 == 0);
+    control::leaves(
+        operands::led_by(taken, f.tp, f.behind, two),
+        f.ix,
+        f.psw,
+        false,
+        0,
+    )
 }
 
 // JZ and JNZ on a memory operand.
-pub fn jump_memory(
-    c: Channel,
-    tp: Pointer,
-    zero: bool,
-    m: Memory,
-    two: bool,
-    sys: &[u8],
-    io: &[u8],
-) -> Effect
-    ensures { λ r. ⌜ r ≡ effectOf (lent (sys .entry) (io .entry)) (jumpMemoryDeed (lent (sys .entry) (io .entry)) c tp zero m two) ⌝ }
+pub fn jump_memory(f: Finding, zero: bool, o: Memory, two: bool) -> Effect
+    ensures { λ r. ⌜ ((busy : ℕ) (m : Buffers) (c : Channel) → Works (JumpMemory zero o two) busy f m c r) ⌝ }
 {
-    let at = operands::effective(c, m, tp, sys, io);
-    let taken = agrees(zero, operands::operand(at, m.wide, sys, io) == 0);
-    let p = operands::after_pair(tp, m);
-    let mut next = operands::grown_by_size(c, m);
-    next.tp = operands::led(taken, c.tp, p, two, sys, io);
-    registers::after(at, operands::size(m.wide), next, NO_WRITE, sys, io)
+    let taken = agrees(zero, operands::operand_in(f.operand, o.wide) == 0);
+    control::leaves(
+        operands::led_by(taken, f.tp, f.behind, two),
+        operands::grown_by_width(o, f.ix),
+        f.psw,
+        false,
+        operands::size(o.wide),
+    )
+}
+
+// A jump on a byte that was tested.
+fn jump_byte(f: Finding, taken: bool, o: Memory, two: bool) -> Effect
+    ensures { λ r. ⌜ r ≡ jumping f taken o two ⌝ }
+{
+    control::leaves(
+        operands::led_by(taken, f.tp, f.behind, two),
+        operands::grown_ix(o, f.ix, 1),
+        f.psw,
+        false,
+        1,
+    )
 }
 
 // JMCE and JMCNE.
-pub fn jump_masked(
-    c: Channel,
-    tp: Pointer,
-    equal: bool,
-    m: Memory,
-    two: bool,
-    sys: &[u8],
-    io: &[u8],
-) -> Effect
-    ensures { λ r. ⌜ r ≡ effectOf (lent (sys .entry) (io .entry)) (jumpMaskedDeed (lent (sys .entry) (io .entry)) c tp equal m two) ⌝ }
+pub fn jump_masked(f: Finding, equal: bool, o: Memory, two: bool) -> Effect
+    ensures { λ r. ⌜ ((busy : ℕ) (m : Buffers) (c : Channel) → Works (JumpMasked equal o two) busy f m c r) ⌝ }
 {
-    let at = operands::effective(c, m, tp, sys, io);
-    let taken = agrees(equal, words::matches(operands::byte(at, sys, io), c.mc));
-    let p = operands::after_pair(tp, m);
-    let mut next = operands::grown(c, m, 1);
-    next.tp = operands::led(taken, c.tp, p, two, sys, io);
-    registers::after(at, 1, next, NO_WRITE, sys, io)
+    let taken = agrees(equal, words::matches((f.operand % 256) as u8, f.mc));
+    jump_byte(f, taken, o, two)
 }
 
 // JBT and JNBT.
-pub fn jump_bit(
-    c: Channel,
-    tp: Pointer,
-    set: bool,
-    bit: u32,
-    m: Memory,
-    two: bool,
-    sys: &[u8],
-    io: &[u8],
-) -> Effect
-    ensures { λ r. ⌜ r ≡ effectOf (lent (sys .entry) (io .entry)) (jumpBitDeed (lent (sys .entry) (io .entry)) c tp set bit m two) ⌝ }
+pub fn jump_bit(f: Finding, set: bool, bit: u32, o: Memory, two: bool) -> Effect
+    ensures { λ r. ⌜ ((busy : ℕ) (m : Buffers) (c : Channel) → Works (JumpBit set bit o two) busy f m c r) ⌝ }
 {
-    let at = operands::effective(c, m, tp, sys, io);
-    let taken = agrees(set, words::bit(operands::byte(at, sys, io) as u32, bit));
-    let p = operands::after_pair(tp, m);
-    let mut next = operands::grown(c, m, 1);
-    next.tp = operands::led(taken, c.tp, p, two, sys, io);
-    registers::after(at, 1, next, NO_WRITE, sys, io)
+    let taken = agrees(set, words::bit(f.operand % 256, bit));
+    jump_byte(f, taken, o, two)
 }
 
-// TSL.
-pub fn tsl(c: Channel, tp: Pointer, m: Memory, sys: &[u8], io: &[u8]) -> Effect
-    ensures { λ r. ⌜ r ≡ effectOf (lent (sys .entry) (io .entry)) (tslDeed (lent (sys .entry) (io .entry)) c tp m) ⌝ }
+// TSL: the first of its two data bytes is stored, or the second leads on.
+pub fn tsl(f: Finding, o: Memory) -> Effect
+    ensures { λ r. ⌜ ((busy : ℕ) (m : Buffers) (c : Channel) → Works (Tsl o) busy f m c r) ⌝ }
 {
-    let at = operands::effective(c, m, tp, sys, io);
-    let mut next = operands::grown(c, m, 1);
-    let p = operands::after_pair(tp, m);
-    if operands::byte(at, sys, io) == 0 {
-        return Effect {
-            number: operands::read_number(at, 1, sys, io),
-            reads: 1,
-            channel: next,
-            change: changes::byte_to(at, operands::byte(p, sys, io)),
-            write: NO_WRITE,
-        };
+    let ix = operands::grown_ix(o, f.ix, 1);
+    if f.operand % 256 == 0 {
+        return memories::stores(f, ix, 1, 1, f.behind % 256);
     }
-    next.tp = operands::landing(c.tp, memory::onward(p, 1), false, sys, io);
-    registers::after(at, 1, next, NO_WRITE, sys, io)
+    control::leaves(
+        operands::landing_by(f.tp, f.behind / 256, false),
+        ix,
+        f.psw,
+        false,
+        1,
+    )
 }
 
 // CALL.
-pub fn call(c: Channel, tp: Pointer, m: Memory, two: bool, sys: &[u8], io: &[u8]) -> Effect
-    ensures { λ r. ⌜ r ≡ unread (callDeed (lent (sys .entry) (io .entry)) c tp m two) ⌝ }
+pub fn call(f: Finding, o: Memory, two: bool) -> Effect
+    ensures { λ r. ⌜ ((busy : ℕ) (m : Buffers) (c : Channel) → Works (Call o two) busy f m c r) ⌝ }
 {
-    let back = c.tp;
-    let p = operands::after_pair(tp, m);
-    let mut next = operands::grown(c, m, 3);
-    next.tp = operands::landing(back, p, two, sys, io);
     Effect {
         number: 0,
+        more: 0,
         reads: 0,
-        channel: next,
-        change: changes::pointer_to(operands::effective(c, m, tp, sys, io), back),
+        tp: operands::landing_by(f.tp, f.behind, two),
+        ix: operands::grown_ix(o, f.ix, 3),
+        psw: f.psw,
+        halts: false,
+        armed: false,
         write: NO_WRITE,
+        count: 3,
+        space: f.space,
+        address: f.at,
+        value: changes::stored_value(f.tp, f.code),
     }
 }

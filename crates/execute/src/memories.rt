@@ -1,20 +1,28 @@
 // Instructions whose result goes into memory.
 use crate::Effect;
+use crate::Finding;
 use crate::NO_WRITE;
 use crate::changes;
 use crate::operands;
 use ground_rules::Channel;
-use ground_rules::Pointer;
-use instruction_rules::Change;
 use instruction_rules::Memory;
 use instruction_rules::Second;
 use instruction_rules::Single;
 use instruction_rules::Work;
+ghost use lib.Dec.{eqb};
 ghost use mathlib.Core.Path.{_≡_};
-ghost use Rattle.ground_rules.specs.Buffers.{lent};
-ghost use Rattle.execute.specs.Effects.{effectOf, unread};
+ghost use Prim.Native.Nat.{ℕ};
+ghost use Rattle.ground_rules.specs.Buffers.{lent, Buffers, AllBytes};
+ghost use Rattle.ground_rules.specs.Choice.{pick};
 ghost use Rattle.instruction_rules.specs.MemoryForms as MemoryForms;
-ghost use Rattle.instruction_rules.specs.MemoryForms.{workedBack, memoryRegisterDeed, memoryImmediateDeed, memoryAloneDeed, movpStoreDeed, bitWritten, bitDeed, movMemoryDeed};
+ghost use Rattle.instruction_rules.specs.MemoryForms.{movOperandDeed};
+ghost use Rattle.instruction_rules.specs.Operands.{sizeOf};
+ghost use Rattle.instruction_rules.specs.Lengths.{lengthOf};
+ghost use Rattle.instruction_rules.specs.Marks.{pastInstruction};
+ghost use Rattle.instruction_rules.specs.declared.Shape.the-variants.{MemoryRegister, MemoryImmediate, MemoryAlone, MovpStore, MovMemory, Bit};
+ghost use Rattle.execute.specs.Bytes.{operandOfFour, grownIx};
+ghost use Rattle.execute.specs.Findings.{findingOf};
+ghost use Rattle.execute.specs.Effects.{storingThere, workStored, IsDeed, Works};
 
 // The bytes that work reads of a memory operand.
 fn read_first(work: Work, wide: bool) -> u32
@@ -27,163 +35,133 @@ fn read_first(work: Work, wide: bool) -> u32
     }
 }
 
-// What the work of a memory operand and another value stores back.
-fn worked_back(at: Pointer, work: Work, wide: bool, v: u32, sys: &[u8], io: &[u8]) -> Change
-    ensures { λ r. ⌜ r ≡ workedBack (lent (sys .entry) (io .entry)) at work wide v ⌝ }
+// What stores some bytes of a value where its operand lies, having read some there.
+pub fn stores(f: Finding, ix: u16, reads: u32, count: u32, value: u32) -> Effect
+    ensures { λ r. ⌜ r ≡ storingThere f ix reads count value ⌝ }
 {
-    let w = operands::work(work, operands::operand(at, wide, sys, io), v);
-    changes::result_to(at, wide, w)
+    Effect {
+        number: 0,
+        more: 0,
+        reads,
+        tp: f.tp,
+        ix,
+        psw: f.psw,
+        halts: false,
+        armed: false,
+        write: NO_WRITE,
+        count,
+        space: f.space,
+        address: f.at,
+        value,
+    }
+}
+
+// What the work of a memory operand and another value stores back.
+fn worked_back(f: Finding, work: Work, o: Memory, v: u32) -> Effect
+    ensures { λ r. ⌜ r ≡ workStored f work o v ⌝ }
+{
+    let w = operands::work(work, operands::operand_in(f.operand, o.wide), v);
+    stores(
+        f,
+        operands::grown_by_width(o, f.ix),
+        read_first(work, o.wide),
+        operands::size(o.wide),
+        w,
+    )
 }
 
 // MOV, ADD, OR and AND to memory from a register.
-pub fn memory_register(
-    c: Channel,
-    tp: Pointer,
-    work: Work,
-    rrr: u32,
-    m: Memory,
-    sys: &[u8],
-    io: &[u8],
-) -> Effect
-    ensures { λ r. ⌜ r ≡ effectOf (lent (sys .entry) (io .entry)) (memoryRegisterDeed (lent (sys .entry) (io .entry)) c tp work rrr m) ⌝ }
+pub fn memory_register(f: Finding, work: Work, rrr: u32, o: Memory) -> Effect
+    ensures { λ r. ⌜ ((busy : ℕ) (m : Buffers) (c : Channel) → Works (MemoryRegister work rrr o) busy f m c r) ⌝ }
 {
-    let at = operands::effective(c, m, tp, sys, io);
-    let v = machine::registers::value(c, rrr);
-    let n = read_first(work, m.wide);
-    Effect {
-        number: operands::read_number(at, n, sys, io),
-        reads: n,
-        channel: operands::grown_by_size(c, m),
-        change: worked_back(at, work, m.wide, v, sys, io),
-        write: NO_WRITE,
-    }
+    worked_back(f, work, o, f.value)
 }
 
 // MOVI, ADDI, ORI and ANDI to memory.
-pub fn memory_immediate(
-    c: Channel,
-    tp: Pointer,
-    work: Work,
-    m: Memory,
-    sys: &[u8],
-    io: &[u8],
-) -> Effect
-    ensures { λ r. ⌜ r ≡ effectOf (lent (sys .entry) (io .entry)) (memoryImmediateDeed (lent (sys .entry) (io .entry)) c tp work m) ⌝ }
+pub fn memory_immediate(f: Finding, work: Work, o: Memory) -> Effect
+    ensures { λ r. ⌜ ((busy : ℕ) (m : Buffers) (c : Channel) → Works (MemoryImmediate work o) busy f m c r) ⌝ }
 {
-    let at = operands::effective(c, m, tp, sys, io);
-    let v = operands::operand(operands::after_pair(tp, m), m.wide, sys, io);
-    let n = read_first(work, m.wide);
-    Effect {
-        number: operands::read_number(at, n, sys, io),
-        reads: n,
-        channel: operands::grown_by_size(c, m),
-        change: worked_back(at, work, m.wide, v, sys, io),
-        write: NO_WRITE,
-    }
+    worked_back(f, work, o, operands::operand_in(f.behind, o.wide))
 }
 
 // NOT, INC and DEC of a memory operand.
-pub fn memory_alone(
-    c: Channel,
-    tp: Pointer,
-    single: Single,
-    m: Memory,
-    sys: &[u8],
-    io: &[u8],
-) -> Effect
-    ensures { λ r. ⌜ r ≡ effectOf (lent (sys .entry) (io .entry)) (memoryAloneDeed (lent (sys .entry) (io .entry)) c tp single m) ⌝ }
+pub fn memory_alone(f: Finding, single: Single, o: Memory) -> Effect
+    ensures { λ r. ⌜ ((busy : ℕ) (m : Buffers) (c : Channel) → Works (MemoryAlone single o) busy f m c r) ⌝ }
 {
-    let at = operands::effective(c, m, tp, sys, io);
-    let w = operands::single(single, operands::operand(at, m.wide, sys, io));
-    let n = operands::size(m.wide);
-    Effect {
-        number: operands::read_number(at, n, sys, io),
-        reads: n,
-        channel: operands::grown_by_size(c, m),
-        change: changes::result_to(at, m.wide, w),
-        write: NO_WRITE,
-    }
+    let w = operands::single(single, operands::operand_in(f.operand, o.wide));
+    let size = operands::size(o.wide);
+    stores(f, operands::grown_by_width(o, f.ix), size, size, w)
 }
 
 // MOVP from a pointer.
-pub fn movp_store(c: Channel, tp: Pointer, ppp: u32, m: Memory, sys: &[u8], io: &[u8]) -> Effect
-    ensures { λ r. ⌜ r ≡ unread (movpStoreDeed (lent (sys .entry) (io .entry)) c tp ppp m) ⌝ }
+pub fn movp_store(f: Finding, ppp: u32, o: Memory) -> Effect
+    ensures { λ r. ⌜ ((busy : ℕ) (m : Buffers) (c : Channel) → Works (MovpStore ppp o) busy f m c r) ⌝ }
 {
-    let p = Pointer {
-        address: machine::registers::value(c, ppp),
-        tag: machine::registers::tag(c, ppp),
-    };
-    Effect {
-        number: 0,
-        reads: 0,
-        channel: operands::grown(c, m, 3),
-        change: changes::pointer_to(operands::effective(c, m, tp, sys, io), p),
-        write: NO_WRITE,
-    }
-}
-
-// A byte with one bit made 1 or 0.
-fn bit_written(byte: u8, bit: u32, on: bool) -> u32
-    ensures { λ r. ⌜ r ≡ bitWritten byte bit on ⌝ }
-{
-    words::with_bit(byte as u32, bit, on)
+    stores(
+        f,
+        operands::grown_ix(o, f.ix, 3),
+        0,
+        3,
+        changes::stored_value(f.value, f.tag),
+    )
 }
 
 // SETB and CLR.
-pub fn bit(c: Channel, tp: Pointer, on: bool, bit: u32, m: Memory, sys: &[u8], io: &[u8]) -> Effect
-    ensures { λ r. ⌜ r ≡ effectOf (lent (sys .entry) (io .entry)) (bitDeed (lent (sys .entry) (io .entry)) c tp on bit m) ⌝ }
+pub fn bit(f: Finding, on: bool, bit: u32, o: Memory) -> Effect
+    ensures { λ r. ⌜ ((busy : ℕ) (m : Buffers) (c : Channel) → Works (Bit on bit o) busy f m c r) ⌝ }
 {
-    let at = operands::effective(c, m, tp, sys, io);
-    let v = bit_written(operands::byte(at, sys, io), bit, on);
-    Effect {
-        number: operands::read_number(at, 1, sys, io),
-        reads: 1,
-        channel: operands::grown(c, m, 1),
-        change: changes::result_to(at, false, v),
-        write: NO_WRITE,
-    }
+    let v = words::with_bit(f.operand % 256, bit, on);
+    stores(f, operands::grown_ix(o, f.ix, 1), 1, 1, v)
 }
 
-// MOV M,M, its second operand read.
-fn mov_operand(c: Channel, tp: Pointer, m: Memory, q: Memory, sys: &[u8], io: &[u8]) -> Effect
-    ensures { λ r. ⌜ r ≡ effectOf (lent (sys .entry) (io .entry)) (MemoryForms.movOperandDeed (lent (sys .entry) (io .entry)) c tp m q) ⌝ }
+// What AA adds to the base of a second operand.
+fn second_index(q: Memory, ix: u16, offset: u32) -> u32
+    ensures { λ r. ⌜ r ≡ pick (eqb (q .aa) 0) 0 (pick (eqb (q .aa) 1) offset ix) ⌝ }
 {
-    let at = operands::effective(c, m, tp, sys, io);
-    let pair = operands::after_pair(tp, m);
-    let next = operands::grown_by_size(c, m);
-    let to = operands::effective(next, q, pair, sys, io);
+    if q.aa == 0 {
+        return 0;
+    }
+    if q.aa == 1 {
+        return offset;
+    }
+    ix as u32
+}
+
+// MOV M,M, its second operand read; the offset byte of that stands where TP is past the instruction.
+fn mov_operand(f: Finding, c: Channel, o: Memory, q: Memory, sys: &[u8], io: &[u8]) -> Effect
+    ensures { λ r. ⌜ (AllBytes (lent (sys .entry) (io .entry)) → f ≡ findingOf (lent (sys .entry) (io .entry)) c (MovMemory o) (lengthOf (MovMemory o)) → IsDeed (lent (sys .entry) (io .entry)) c f (movOperandDeed (lent (sys .entry) (io .entry)) (pastInstruction c (lengthOf (MovMemory o))) (c .tp) o q) r) ⌝ }
+{
+    let ix = operands::grown_by_width(o, f.ix);
+    let base = machine::registers::base(c, q.mm);
     let n = decode::offset_length(q);
-    let v = operands::operand(at, m.wide, sys, io);
-    let size = operands::size(m.wide);
-    let ok = operands::touchable(memory::onward(pair, 2), n, sys, io)
-        & operands::touchable(at, size, sys, io);
     Effect {
-        number: operands::two_unless(ok),
-        reads: n + size,
-        channel: operands::further(operands::grown_by_size(next, q), n),
-        change: changes::result_to(to, m.wide, v),
+        number: operands::two_unless(memory::span_touchable(sys, io, f.code, f.tp, n)),
+        more: n,
+        reads: operands::size(o.wide),
+        tp: words::sum20(f.tp, n),
+        ix: operands::grown_by_width(q, ix),
+        psw: f.psw,
+        halts: false,
+        armed: false,
         write: NO_WRITE,
+        count: operands::size(o.wide),
+        space: base.tag,
+        address: words::sum20(base.address, second_index(q, ix, f.behind / 65536 % 256)),
+        value: operands::operand_in(f.operand, o.wide),
     }
 }
 
 // MOV M,M.
-pub fn mov_memory(c: Channel, tp: Pointer, m: Memory, sys: &[u8], io: &[u8]) -> Effect
-    ensures { λ r. ⌜ r ≡ effectOf (lent (sys .entry) (io .entry)) (movMemoryDeed (lent (sys .entry) (io .entry)) c tp m) ⌝ }
+pub fn mov_memory(f: Finding, c: Channel, o: Memory, sys: &[u8], io: &[u8]) -> Effect
+    ensures { λ r. ⌜ ((busy : ℕ) → Works (MovMemory o) busy f (lent (sys .entry) (io .entry)) c r) ⌝ }
 {
-    let pair = operands::after_pair(tp, m);
     let second = decode::decode_second(
-        operands::byte(pair, sys, io),
-        operands::byte(memory::onward(pair, 1), sys, io),
-        m.wide,
+        (f.behind % 256) as u8,
+        (f.behind / 256 % 256) as u8,
+        o.wide,
     );
     let Second::Operand(q) = second else {
-        return Effect {
-            number: decode::second_number(second),
-            reads: 0,
-            channel: c,
-            change: changes::nothing(),
-            write: NO_WRITE,
-        };
+        return crate::refused(decode::second_number(second));
     };
-    mov_operand(c, tp, m, q, sys, io)
+    mov_operand(f, c, o, q, sys, io)
 }

@@ -9,22 +9,16 @@ ghost use Rattle.ground_rules.specs.Buffers.{lent};
 ghost use Rattle.ground_rules.specs.Places.{allTouchable};
 ghost use Rattle.ground_rules.specs.Choice.{pick};
 ghost use Rattle.ground_rules.specs.Outcomes.{unless};
-ghost use Rattle.instruction_rules.specs.Marks.{usedUp, pastInstruction};
+ghost use Rattle.instruction_rules.specs.Marks.{usedUp};
 ghost use Rattle.instruction_rules.specs.Operands as Operands;
-ghost use Rattle.instruction_rules.specs.Operands.{byteHere, wordHere, bytesAt, sizeOf, operandAt, workOf, singleOf, isMove, readNumber};
+ghost use Rattle.instruction_rules.specs.Operands.{byteHere, bytesAt, sizeOf, workOf, singleOf, isMove};
+ghost use Rattle.execute.specs.Bytes.{operandOfFour, landingBy, grownIx};
 
 // The byte at a place.
 pub fn byte(p: Pointer, sys: &[u8], io: &[u8]) -> u8
     ensures { λ r. ⌜ r ≡ byteHere (lent (sys .entry) (io .entry)) p ⌝ }
 {
     memory::byte(sys, io, p.tag, p.address)
-}
-
-// The word at a place.
-pub fn word(p: Pointer, sys: &[u8], io: &[u8]) -> u16
-    ensures { λ r. ⌜ r ≡ wordHere (lent (sys .entry) (io .entry)) p ⌝ }
-{
-    memory::word(sys, io, p.tag, p.address)
 }
 
 // Whether n bytes at a place may be touched.
@@ -35,7 +29,7 @@ pub fn touchable(p: Pointer, n: u32, sys: &[u8], io: &[u8]) -> bool
 }
 
 // The PSW once a mark is used up.
-fn used_up(armed: bool, psw: u8) -> u8
+pub fn used_up(armed: bool, psw: u8) -> u8
     ensures { λ r. ⌜ r ≡ usedUp armed psw ⌝ }
 {
     if armed {
@@ -43,23 +37,6 @@ fn used_up(armed: bool, psw: u8) -> u8
     } else {
         psw
     }
-}
-
-// The channel with TP past an instruction of n bytes, and its mark used up.
-pub fn advanced(c: Channel, n: u32) -> Channel
-    ensures { λ r. ⌜ r ≡ pastInstruction c n ⌝ }
-{
-    let psw = used_up(c.armed, c.psw);
-    machine::updates::begun(c, memory::onward(c.tp, n), psw)
-}
-
-// The channel with TP moved on by n more bytes.
-pub fn further(c: Channel, n: u32) -> Channel
-    ensures { λ r. ⌜ r ≡ Operands.further c n ⌝ }
-{
-    let mut next = c;
-    next.tp = memory::onward(c.tp, n);
-    next
 }
 
 // The bytes of a byte or a word.
@@ -102,45 +79,6 @@ pub fn grown(c: Channel, m: Memory, by: u16) -> Channel
         next.ix = std::num::wrapping_add_u16(c.ix, by);
     }
     next
-}
-
-// The operand at a place, sign-extended to 20 bits.
-pub fn operand(p: Pointer, wide: bool, sys: &[u8], io: &[u8]) -> u32
-    ensures { λ r. ⌜ r ≡ operandAt (lent (sys .entry) (io .entry)) p wide ⌝ }
-{
-    if wide {
-        words::extend_word(word(p, sys, io))
-    } else {
-        words::extend_byte(byte(p, sys, io))
-    }
-}
-
-// Where a jump by the displacement at a place leads.
-pub fn landing(tp: Pointer, p: Pointer, two: bool, sys: &[u8], io: &[u8]) -> Pointer
-    ensures { λ r. ⌜ r ≡ Operands.landing (lent (sys .entry) (io .entry)) tp p two ⌝ }
-{
-    if two {
-        Pointer {
-            address: words::displaced_word(tp.address, word(p, sys, io)),
-            tag: tp.tag,
-        }
-    } else {
-        Pointer {
-            address: words::displaced_byte(tp.address, byte(p, sys, io)),
-            tag: tp.tag,
-        }
-    }
-}
-
-// Where TP stands after a jump that is taken or not.
-pub fn led(taken: bool, tp: Pointer, p: Pointer, two: bool, sys: &[u8], io: &[u8]) -> Pointer
-    ensures { λ r. ⌜ r ≡ pick taken (Operands.landing (lent (sys .entry) (io .entry)) tp p two) tp ⌝ }
-{
-    if taken {
-        landing(tp, p, two, sys, io)
-    } else {
-        tp
-    }
 }
 
 // What two operands give.
@@ -198,16 +136,64 @@ pub fn two_unless(ok: bool) -> u32
     if ok { 0 } else { 2 }
 }
 
-// 2 where n bytes at a place may not all be touched, else 0.
-pub fn read_number(p: Pointer, n: u32, sys: &[u8], io: &[u8]) -> u32
-    ensures { λ r. ⌜ r ≡ readNumber (lent (sys .entry) (io .entry)) p n ⌝ }
-{
-    two_unless(touchable(p, n, sys, io))
-}
-
 // Where data or displacement stands: after the pair and its offset byte.
 pub fn after_pair(tp: Pointer, m: Memory) -> Pointer
     ensures { λ r. ⌜ r ≡ Operands.afterPair tp m ⌝ }
 {
     memory::onward(tp, 2 + decode::offset_length(m))
+}
+
+// The operand that four bytes begin with, a byte or a word, sign-extended to 20 bits.
+pub fn operand_in(bytes: u32, wide: bool) -> u32
+    ensures { λ r. ⌜ r ≡ operandOfFour bytes wide ⌝ }
+{
+    if wide {
+        words::extend_word((bytes % 65536) as u16)
+    } else {
+        words::extend_byte((bytes % 256) as u8)
+    }
+}
+
+// Where a jump leads by the displacement that four bytes begin with, of a byte or a word.
+pub fn landing_by(tp: u32, bytes: u32, two: bool) -> u32
+    ensures { λ r. ⌜ r ≡ landingBy tp bytes two ⌝ }
+{
+    if two {
+        words::displaced_word(tp, (bytes % 65536) as u16)
+    } else {
+        words::displaced_byte(tp, (bytes % 256) as u8)
+    }
+}
+
+// Where TP stands after a jump that is taken or not.
+pub fn led_by(taken: bool, tp: u32, bytes: u32, two: bool) -> u32
+    ensures { λ r. ⌜ r ≡ pick taken (landingBy tp bytes two) tp ⌝ }
+{
+    if taken {
+        landing_by(tp, bytes, two)
+    } else {
+        tp
+    }
+}
+
+// IX once an operand of some bytes was used: it grows where AA is 11.
+pub fn grown_ix(m: Memory, ix: u16, by: u16) -> u16
+    ensures { λ r. ⌜ r ≡ grownIx m ix by ⌝ }
+{
+    if m.aa == 3 {
+        std::num::wrapping_add_u16(ix, by)
+    } else {
+        ix
+    }
+}
+
+// The same by the operand's size.
+pub fn grown_by_width(m: Memory, ix: u16) -> u16
+    ensures { λ r. ⌜ r ≡ grownIx m ix (sizeOf (m .wide)) ⌝ }
+{
+    if m.wide {
+        grown_ix(m, ix, 2)
+    } else {
+        grown_ix(m, ix, 1)
+    }
 }

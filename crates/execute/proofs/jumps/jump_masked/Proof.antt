@@ -1,21 +1,14 @@
 -- `execute::jumps::jump_masked` meets its contract.
 -- Assumes nothing.
 use borrow.Author.Needs.{needs}
-use Rattle.ground_rules.proofs.SpanLaws.{span-length}
-use Rattle.ground_rules.specs.Outcomes.{first}
-use Rattle.ground_rules.specs.Updates.{renewed}
-use Rattle.execute.specs.Effects.{effectOf}
-use Rattle.instruction_rules.specs.Operands.{readNumber, effective, grown, jumpedIf}
-use Rattle.instruction_rules.specs.JumpForms.{jumpByteDeed, jumpMaskedDeed}
+use Rattle.execute.proofs.JumpWorks.{works-jump-masked}
 use Rattle.execute.proofs.jumps.jump_masked.Statement.{statement}
 use Rattle.execute.proofs.jumps.jump_masked.Tie as tie
 
 returns : tie.Need-returns
-unfolding jumpMaskedDeed jumpByteDeed jumpedIf grown renewed effectOf first readNumber
-returns c = simp (span-length, c .after .ensures, c .before .led .ensures, c .before .before .grown .ensures, c .before .before .before .after-pair .ensures, c .before .before .before .before .agrees .ensures, c .before .before .before .before .before .matches .ensures, c .before .before .before .before .before .before .byte .ensures, c .before .before .before .before .before .before .before .effective .ensures)
+returns c =
+    let a = c .before .before .before .before .args in
+    λ busy m ch. rw (c .jump-byte .ensures, c .before .agrees .ensures, c .before .before .matches .ensures) (works-jump-masked (a .f) m ch (a .equal) (a .o) (a .two) busy)
 
 pub jump-masked-spec : {M : Type 1} → statement M
-jump-masked-spec =
-    tie.close
-    (tie.spec (λ c κs. search needs) (λ c κs. search needs) (λ c κs. search needs) (λ c κs. search needs) (λ c κs. search needs)
-    (λ c κs. search needs) (λ c κs. search needs) (λ c κs. search needs) returns)
+jump-masked-spec = tie.close (tie.spec (λ c. search needs) (λ c κs. search needs) (λ c κs. search needs) (λ c κs. search needs) returns)

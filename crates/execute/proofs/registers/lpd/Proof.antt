@@ -1,20 +1,12 @@
 -- `execute::registers::lpd` meets its contract.
 -- Assumes nothing.
 use borrow.Author.Needs.{needs}
-use Rattle.ground_rules.proofs.SpanLaws.{span-length}
-use Rattle.ground_rules.specs.Outcomes.{first}
-use Rattle.ground_rules.proofs.PlaceLaws.{after}
-use Rattle.instruction_rules.specs.Operands.{readNumber, effective, grown}
-use Rattle.execute.specs.Effects.{effectOf}
-use Rattle.instruction_rules.specs.RegisterForms.{lpdDeed}
-use Rattle.execute.specs.Writes.{writeMade}
+use Rattle.execute.proofs.RegisterWorks.{works-lpd}
 use Rattle.execute.proofs.registers.lpd.Statement.{statement}
 use Rattle.execute.proofs.registers.lpd.Tie as tie
 
 returns : tie.Need-returns
-unfolding lpdDeed effectOf first readNumber writeMade
-returns c = simp (span-length, c .after .ensures, c .before .to .ensures, c .before .before .grown .ensures, c .before .before .before .doubleword .ensures, c .before .before .before .before .effective .ensures)
+returns c busy m ch = simp (c .writes .ensures, c .before .grown-ix .ensures, c .before .before .address .ensures) (works-lpd _ _ busy m ch _)
 
 pub lpd-spec : {M : Type 1} → statement M
-lpd-spec = tie.close (tie.spec (λ c κs. search needs) (λ c κs. search needs) (λ c κs. search needs) (λ c κs. search needs) (λ c κs. search needs)
-    returns)
+lpd-spec = tie.close (tie.spec (λ c. search needs) (λ c. search needs) (λ c κs. search needs) (λ c κs. search needs) (λ c κs. search needs) returns)

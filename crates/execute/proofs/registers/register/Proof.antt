@@ -1,15 +1,12 @@
 -- `execute::registers::register` meets its contract.
 -- Assumes nothing.
 use borrow.Author.Needs.{needs}
-use Rattle.instruction_rules.specs.RegisterForms.{registerDeed}
-use Rattle.execute.specs.Writes.{writeMade}
+use Rattle.execute.proofs.RegisterWorks.{works-register}
 use Rattle.execute.proofs.registers.register.Statement.{statement}
 use Rattle.execute.proofs.registers.register.Tie as tie
 
 returns : tie.Need-returns
-unfolding registerDeed writeMade
-returns c = simp (c .writing .ensures, c .before .to .ensures, c .before .before .tag .ensures, c .before .before .before .single .ensures, c .before .before .before .before .value .ensures)
+returns c busy m ch = simp (c .writes .ensures, c .before .single .ensures) (works-register _ _ busy m ch _)
 
 pub register-spec : {M : Type 1} → statement M
-register-spec = tie.close (tie.spec (λ c κs. search needs) (λ c κs. search needs) (λ c κs. search needs) (λ c κs. search needs) (λ c κs. search needs)
-    returns)
+register-spec = tie.close (tie.spec (λ c κs. search needs) (λ c κs. search needs) returns)

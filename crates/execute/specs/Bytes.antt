@@ -1,0 +1,36 @@
+-- Bytes at a place as one number, the lowest first, and what instructions take from such a number.
+use Prim.Native.Nat.{ℕ, _+_, _*_, _%_}
+use lib.Dec.{eqb}
+use lib.ListN.{getD}
+use mathlib.Core.Bool.{Bool}
+use mathlib.Core.List.{List}
+use Rattle.ground_rules.specs.Buffers.{Buffers, byteAt}
+use Rattle.ground_rules.specs.Choice.{pick}
+use Rattle.ground_rules.specs.Signs.{signedOf, extended, displacedBy}
+use Rattle.instruction_rules.specs.declared.Memory.{Memory}
+
+-- four bytes of a buffer, and eight
+unfoldable pub fourFrom : List ℕ → ℕ → ℕ
+fourFrom xs at = getD xs at 0 + getD xs (at + 1) 0 * 256 + getD xs (at + 2) 0 * 65536 + getD xs (at + 3) 0 * 16777216
+
+unfoldable pub eightFrom : List ℕ → ℕ → ℕ
+eightFrom xs at = fourFrom xs at + fourFrom xs (at + 4) * 4294967296
+
+-- four bytes at a place, and eight
+unfoldable pub fourAt : Buffers → Bool → ℕ → ℕ
+fourAt m tag address = byteAt m tag address + byteAt m tag (address + 1) * 256 + byteAt m tag (address + 2) * 65536 + byteAt m tag (address + 3) * 16777216
+
+unfoldable pub eightAt : Buffers → Bool → ℕ → ℕ
+eightAt m tag address = fourAt m tag address + fourAt m tag (address + 4) * 4294967296
+
+-- the operand that four bytes begin with, a byte or a word, extended by its sign to 20 bits
+unfoldable pub operandOfFour : ℕ → Bool → ℕ
+operandOfFour bytes wide = pick wide (extended 16 (bytes % 65536)) (extended 8 (bytes % 256))
+
+-- where a jump leads by the displacement that four bytes begin with, of a byte or a word
+unfoldable pub landingBy : ℕ → ℕ → Bool → ℕ
+landingBy tp bytes two = displacedBy tp (pick two (signedOf 16 (bytes % 65536)) (signedOf 8 (bytes % 256)))
+
+-- IX once an operand of some bytes was used: it grows where AA is 11
+unfoldable pub grownIx : Memory → ℕ → ℕ → ℕ
+grownIx o ix by = pick (eqb (o .aa) 3) ((ix + by) % 65536) ix
