@@ -1,6 +1,7 @@
 // One instruction of a channel: fetched, decoded, worked out in numbers, and its one store and its one register write made
 // last.
 use ground_rules::Channel;
+use ground_rules::Done;
 use ground_rules::Held;
 use ground_rules::Mode;
 use ground_rules::Pointer;
@@ -104,13 +105,6 @@ pub struct Effect {
     pub space: bool,
     pub address: u32,
     pub value: u32,
-}
-
-// What an instruction answers: its number, how many bytes it read and stored, and the channel after it.
-pub struct Done {
-    pub number: u32,
-    pub count: u32,
-    pub channel: Channel,
 }
 
 // What an instruction of some shape does with what it finds.

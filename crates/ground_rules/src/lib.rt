@@ -52,6 +52,14 @@ pub struct Channel {
     pub fields: Fields,
 }
 
+// What an instruction or a transfer step answers: its number, 0 for done, how many bytes it read and stored, and the
+// channel after it.
+pub struct Done {
+    pub number: u32,
+    pub count: u32,
+    pub channel: Channel,
+}
+
 // What the board set up: whether the processor is powered up, the physical widths, SYSBUS bit 0 of the system bus and SOC
 // bit 0 of the I/O bus (true = 16 bits), and SOC bit 1.
 pub struct Board {

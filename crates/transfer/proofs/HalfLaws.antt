@@ -9,8 +9,8 @@ use mathlib.Core.Path.{_≡_, refl, sym, ap, ap₂, _∙_}
 use Rattle.ground_rules.specs.Outcomes.{counted}
 use Rattle.ground_rules.specs.Updates.{holding}
 use Rattle.transfer.specs.declared.Moved.{Moved}
-use Rattle.transfer.specs.declared.Transferred.{Transferred}
 use Rattle.ground_rules.specs.declared.Channel.{Channel}
+use Rattle.ground_rules.specs.declared.Done.{Done}
 use Rattle.ground_rules.specs.declared.Held.the-variants.{Byte}
 use Rattle.ground_rules.specs.Buffers.{Buffers, touchableAt, byteAt, storeByte}
 use Rattle.ground_rules.specs.Places.{allPass, allTouchable}
@@ -156,7 +156,7 @@ module _ (c : Channel) (r : Moved) (m m′ : Buffers) where
     unfolding transferCount counted leftByMove
     counts-none ne = ap (λ (x : ℕ). pick (eqb x 0) (length (touchedByTransfer c m)) 0) (sym (ap (λ (o : Transfer). o .number) e)) ∙ rw (ne-eqb (r .number) 0 ne)
 
-    pub kept-left : (r .number ≡ 0 → ⊥) → (t : Transferred) → t ≡ record { number = r .number; count = 0; channel = c }
+    pub kept-left : (r .number ≡ 0 → ⊥) → (t : Done) → t ≡ record { number = r .number; count = 0; channel = c }
         → (transferred (t .number) (t .channel) m′ ≡ transferOf c m) × (t .count ≡ transferCount c m)
     unfolding leftByMove
     kept-left ne t et = rw et (sym (ap (λ (b : Bool). transferred (r .number) (pick b (landed c r) c) m′) (ne-eqb (r .number) 0 ne)) ∙ e, sym (counts-none ne))

@@ -1,5 +1,6 @@
 // One transfer step of a channel, and the external end of a transfer.
 use ground_rules::Channel;
+use ground_rules::Done;
 use ground_rules::Held;
 use transfer_rules::Side;
 ghost use mathlib.Core.Bool.{false};
@@ -46,13 +47,6 @@ pub struct Moved {
     pub byte: u8,
 }
 
-// What a transfer step answers: its number, 0 for done, how many bytes it read and stored, and the channel.
-pub struct Transferred {
-    pub number: u32,
-    pub count: u32,
-    pub channel: Channel,
-}
-
 // Whether the mode of the transfer is refused.
 fn bad_mode(c: Channel, p: Setup) -> bool
     requires { ⌜ p ≡ setupOf c ⌝ }
@@ -65,10 +59,10 @@ fn bad_mode(c: Channel, p: Setup) -> bool
 }
 
 // A step that is refused, or none: the channel as it was.
-fn refused(c: Channel, number: u32) -> Transferred
+fn refused(c: Channel, number: u32) -> Done
     ensures { λ r. ⌜ r ≡ record { number = number; count = 0; channel = c } ⌝ }
 {
-    Transferred {
+    Done {
         number,
         count: 0,
         channel: c,
@@ -164,7 +158,7 @@ pub fn comes_to(c: Channel, sys: &mut [u8], io: &mut [u8]) -> Moved
 }
 
 // One transfer step: a half where one is due, else the whole move.
-pub fn transfer(c: Channel, sys: &mut [u8], io: &mut [u8]) -> Transferred
+pub fn transfer(c: Channel, sys: &mut [u8], io: &mut [u8]) -> Done
     ensures left { λ r. ⌜ transferred (r .number) (r .channel) (lent (sys .exit) (io .exit)) ≡ transferOf c (lent (sys .entry) (io .entry)) ⌝ }
     ensures count { λ r. ⌜ r .count ≡ transferCount c (lent (sys .entry) (io .entry)) ⌝ }
 {
@@ -173,7 +167,7 @@ pub fn transfer(c: Channel, sys: &mut [u8], io: &mut [u8]) -> Transferred
     if m.number != 0 {
         return refused(c, m.number);
     }
-    Transferred {
+    Done {
         number: 0,
         count: m.count,
         channel: moves::left(c, p, m),
