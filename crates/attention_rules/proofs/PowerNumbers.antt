@@ -1,14 +1,13 @@
 -- Each number of a power-up is given exactly under its own condition and no earlier one, whatever the given state is.
 -- Assumes nothing.
 use Prim.Native.Nat.{ℕ, _≤_}
-use borrow.Author.Tests.{eqb-false}
 use mathlib.Core.Bool.{Bool, true, false, _&&_}
 use mathlib.Core.List.{List, [], _∷_, _++_}
-use mathlib.Core.Logic.{_↔_, Iff·trans}
+use mathlib.Core.Logic.{_↔_}
 use mathlib.Core.Path.{_≡_, refl, sym, ap, _∙_}
-use Rattle.ground_rules.proofs.ConditionLaws.{step, last, rewritten, skip, hit, end, never, given-most, told-limits, told-touchable}
+use Rattle.ground_rules.proofs.ConditionLaws.{step, last, rewritten, worded, given-most, told-limits, told-touchable}
 use Rattle.ground_rules.proofs.OutcomeLaws.{settled-number, first-zero, first-right}
-use Rattle.ground_rules.specs.Conditions.{check, Given, TooLong, Beyond}
+use Rattle.ground_rules.specs.Conditions.{Given, Exactly}
 use Rattle.ground_rules.specs.Outcomes.{unless, first}
 use Rattle.ground_rules.specs.Stages.{stage, stagesNumber}
 use Rattle.ground_rules.specs.States.{busyIn}
@@ -75,14 +74,6 @@ module _ (s : State) (m : Buffers) where
   pub power-most : powerUpOf s m .number ≤ 11
   power-most = given-most 11 (powerChecks m) refl ((power-given (powerUpOf s m .number)) .0 refl)
 
-  -- 11: a lent buffer longer than its limit
-  pub powers-11 : (powerUpOf s m .number ≡ 11) ↔ TooLong m
-  powers-11 = Iff·trans (power-given 11) (hit (never 11 (check 2 (Beyond m (powerPlaces m)) ∷ []) refl))
-
-  -- 2: one of the eleven bytes lies beyond lent memory
-  pub powers-2 : (powerUpOf s m .number ≡ 2) ↔ (¬ (TooLong m) × Beyond m (powerPlaces m))
-  powers-2 = Iff·trans (power-given 2) (skip refl (hit (eqb-false 2 0 refl)))
-
-  -- 0: none does
-  pub powers-0 : (powerUpOf s m .number ≡ 0) ↔ (¬ (TooLong m) × ¬ (Beyond m (powerPlaces m)))
-  powers-0 = Iff·trans (power-given 0) (skip refl (end refl refl))
+  -- in words: 11 of a buffer that is too long, 2 of one of the eleven bytes beyond lent memory, 0 of neither
+  pub power-exactly : (n : ℕ) → (powerUpOf s m .number ≡ n) ↔ Exactly (powerChecks m) n
+  power-exactly n = worded (powerChecks m) n (power-given n)

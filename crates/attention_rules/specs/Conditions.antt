@@ -6,7 +6,7 @@ use mathlib.Core.Path.{_≡_}
 use Prim.Native.Nat.{ℕ}
 use Rattle.ground_rules.specs.Buffers.{Buffers}
 use Rattle.ground_rules.specs.Places.{span}
-use Rattle.ground_rules.specs.Conditions.{Check, check, Beyond, givenChecks, AfterGiven}
+use Rattle.ground_rules.specs.Conditions.{Check, check, Beyond, givenChecks}
 use Rattle.ground_rules.specs.States.{channelOf, isSecond, blockOf}
 use Rattle.ground_rules.specs.declared.Mode.{Mode}
 use Rattle.ground_rules.specs.declared.Mode.the-variants.{Running, Suspended}
@@ -51,31 +51,17 @@ codeTo s m channel = codeOf (orderTo s m (isSecond channel) .ccw)
 abbrev pub modeTo : State → ℕ → Mode
 modeTo s channel = channelOf s (isSecond channel) .mode
 
--- the checks of an attention, in their order: 12, those of what it is given, then the order's own
-abbrev pub attentionChecks : State → Buffers → ℕ → List Check
-attentionChecks s m channel =
-    check 12 (NoChannel channel)
-    ∷ givenChecks s m
-    (check 2 (CcwBeyond s m channel)
+-- the order's own checks
+abbrev pub orderChecks : State → Buffers → ℕ → List Check
+orderChecks s m channel =
+    check 2 (CcwBeyond s m channel)
     ∷ check 6 (NoCommand (codeTo s m channel))
     ∷ check 7 (ResumesOther (codeTo s m channel) (modeTo s channel))
     ∷ check 8 (StartsRunning (codeTo s m channel) (modeTo s channel))
     ∷ check 9 (SuspendsOther (codeTo s m channel) (modeTo s channel))
     ∷ check 2 (OthersBeyond s m channel)
-    ∷ [])
+    ∷ []
 
--- a condition that counts where 12, 11, 10, 13 and 14 do not apply
-abbrev pub AttentionAfterGiven : State → Buffers → ℕ → Type 0 → Type 0
-AttentionAfterGiven s m channel next = ¬ (NoChannel channel) × AfterGiven s m next
-
--- a condition that counts where CCW is readable and its command is one, besides
-abbrev pub AfterCommand : State → Buffers → ℕ → Type 0 → Type 0
-AfterCommand s m channel next = ¬ (CcwBeyond s m channel) × (¬ (NoCommand (codeTo s m channel)) × next)
-
--- a condition that counts where the mode fits the command, besides
-abbrev pub AfterMode : State → Buffers → ℕ → Type 0 → Type 0
-AfterMode s m channel next =
-    AfterCommand s m channel
-    (¬ (ResumesOther (codeTo s m channel) (modeTo s channel))
-    × (¬ (StartsRunning (codeTo s m channel) (modeTo s channel))
-    × (¬ (SuspendsOther (codeTo s m channel) (modeTo s channel)) × next)))
+-- the checks of an attention, in their order: 12, those of what it is given, then the order's own
+abbrev pub attentionChecks : State → Buffers → ℕ → List Check
+attentionChecks s m channel = check 12 (NoChannel channel) ∷ givenChecks s m (orderChecks s m channel)

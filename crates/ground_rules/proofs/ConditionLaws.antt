@@ -6,14 +6,14 @@ use lib.Dec.{ltb, leb, eqb, eqb·suc-zero}
 use lib.ListN.{length}
 use mathlib.Core.Bool.{and-assoc, Bool, true, false, not, _&&_, _||_}
 use mathlib.Core.List.{List, [], _∷_, _++_}
-use mathlib.Core.Logic.{⊎-elim, inl, inr, _⊎_, _↔_}
+use mathlib.Core.Logic.{⊎-elim, inl, inr, _⊎_, _↔_, Iff·rfl, Iff·trans}
 use mathlib.Core.Path.{_≡_, refl, sym, ap, _∙_}
 use native.Mathlib.Omega.{arith}
 use Rattle.ground_rules.specs.Buffers.{Buffers, spaceOf, limitOf, indexOf, lentAt, touchableAt, withinLimits}
 use Rattle.ground_rules.specs.Places.{Place, allPass, allTouchable}
 use Rattle.ground_rules.proofs.ChoiceLaws.{apart, both-left, both-right, and-true}
 use Rattle.ground_rules.specs.Choice.{pick}
-use Rattle.ground_rules.specs.Conditions.{Check, check, Given, TooLong, pointersOf, SomePast, NotSound, Beyond}
+use Rattle.ground_rules.specs.Conditions.{Check, check, Given, foreign, InFront, Exactly, TooLong, pointersOf, SomePast, NotSound, Beyond}
 use Rattle.ground_rules.specs.Outcomes.{unless, first}
 use Rattle.ground_rules.specs.States.{soundChannel, sound, isRunning, isSuspended}
 use Rattle.ground_rules.specs.declared.Mode.{Mode}
@@ -40,6 +40,11 @@ step {ok} {A} {rest} {n} {Q} k ne told q = go ok refl
     go : (b : Bool) → ok ≡ b → (first (unless b k) rest ≡ n) ↔ ((A × (n ≡ k)) ⊎ (¬ A × Q))
     go true e = rw (unless-true k, first-zero rest) (λ h. inr (told .holds e, q .0 h), ⊎-elim (λ h. absurd (told .holds e (h .0))) (λ h. q .1 (h .1)))
     go false e = rw (unless-false k, first-some k rest (eqb-false k 0 ne)) (λ h. inl (told .fails e, sym h), ⊎-elim (λ h. sym (h .1)) (λ h. absurd (h .0 (told .fails e))))
+
+-- one refusal more by a choice
+pub picked : {ok : Bool} {A : Type 0} {rest n : ℕ} {Q : Type 0} (k : ℕ) → Told ok A → (rest ≡ n ↔ Q) → (pick ok rest k ≡ n) ↔ ((A × (n ≡ k)) ⊎ (¬ A × Q))
+picked {ok = true} k t q = (λ e. inr (t .holds refl, q .0 e), ⊎-elim (λ h. absurd (t .holds refl (h .0))) (λ h. q .1 (h .1)))
+picked {ok = false} k t q = (λ e. inl (t .fails refl, sym e), ⊎-elim (λ h. sym (h .1)) (λ h. absurd (h .0 (t .fails refl))))
 
 -- the last refusal
 pub last : {ok : Bool} {A : Type 0} (n k : ℕ) → eqb k 0 ≡ false → Told ok A → (unless ok k ≡ n) ↔ Given (check k A ∷ []) n
@@ -68,34 +73,52 @@ pub unless-none : {ok : Bool} (k : ℕ) → eqb k 0 ≡ false → unless ok k �
 unless-none {ok = true} k ne e = refl
 unless-none {ok = false} k ne e = absurd (eqb-false k 0 ne (sym (unless-false k) ∙ e))
 
--- a check with another number must not apply
-pub skip : {A G Q : Type 0} {n k : ℕ} → eqb n k ≡ false → (G ↔ Q) → ((A × (n ≡ k)) ⊎ (¬ A × G)) ↔ (¬ A × Q)
-skip {n = n} {k = k} ne q = (⊎-elim (λ h. absurd (eqb-false n k ne (h .1))) (λ h. (h .0, q .0 (h .1))), λ h. inr (h .0, q .1 (h .1)))
-
--- the check with the number, where no later one has it
-pub hit : {A G : Type 0} {n : ℕ} → ¬ G → ((A × (n ≡ n)) ⊎ (¬ A × G)) ↔ A
-hit h = (⊎-elim (λ g. g .0) (λ g. absurd (h (g .1))), λ a. inl (a, refl))
-
--- the check with the number, where a later one has it too
-pub either : {A G Q : Type 0} {n : ℕ} → (G ↔ Q) → ((A × (n ≡ n)) ⊎ (¬ A × G)) ↔ (A ⊎ (¬ A × Q))
-either q = (⊎-elim (λ g. inl (g .0)) (λ g. inr (g .0, q .0 (g .1))), ⊎-elim (λ a. inl (a, refl)) (λ g. inr (g .0, q .1 (g .1))))
-
--- the last check, with another number
-pub end : {A G : Type 0} {n k : ℕ} → eqb n k ≡ false → G → ((A × (n ≡ k)) ⊎ (¬ A × G)) ↔ ¬ A
-end {n = n} {k = k} ne g = (⊎-elim (λ h. absurd (eqb-false n k ne (h .1))) (λ h. h .0), λ h. inr (h, g))
-
--- whether no check of some has a number
-abbrev pub foreign : ℕ → List Check → Bool
-foreign n [] = not (eqb n 0)
-foreign n (k ∷ ks) = not (eqb n (k .number)) && foreign n ks
-
--- such a number they never give
+-- a number that is none of theirs they never give
 pub never : (n : ℕ) (ks : List Check) → foreign n ks ≡ true → ¬ (Given ks n)
 never n [] h = λ e. eqb-false n 0 (not-true (eqb n 0) h) e
 never n (k ∷ ks) h =
     ⊎-elim
     (λ g. eqb-false n (k .number) (not-true (eqb n (k .number)) (both-left (not (eqb n (k .number))) (foreign n ks) h)) (g .1))
     (λ g. never n ks (both-right (not (eqb n (k .number))) (foreign n ks) h) (g .1))
+
+-- n is given exactly under the words that its checks compute to
+pub exactly : (ks : List Check) (n : ℕ) → Given ks n ↔ Exactly ks n
+exactly [] n = Iff·rfl
+exactly (k ∷ ks) n = go (eqb n (k .number)) refl (foreign n ks) refl (exactly ks n)
+  where
+    go : (has : Bool) → eqb n (k .number) ≡ has → (alone : Bool) → foreign n ks ≡ alone → (Given ks n ↔ Exactly ks n)
+        → Given (k ∷ ks) n ↔ InFront has alone (k .applies) (¬ (k .applies) × Exactly ks n)
+    go true e true f q = (⊎-elim (λ g. g .0) (λ g. absurd (never n ks f (g .1))), λ a. inl (a, eqb-true n (k .number) e))
+    go true e false f q = (
+      ⊎-elim (λ g. inl (g .0)) (λ g. inr (g .0, q .0 (g .1))),
+      ⊎-elim (λ a. inl (a, eqb-true n (k .number) e)) (λ g. inr (g .0, q .1 (g .1))),
+    )
+    go false e alone f q = (
+      ⊎-elim (λ g. absurd (eqb-false n (k .number) e (g .1))) (λ g. (g .0, q .0 (g .1))),
+      λ h. inr (h .0, q .1 (h .1)),
+    )
+
+-- a call that gives a number by its checks gives it under those words
+pub worded : {x : ℕ} (ks : List Check) (n : ℕ) → (x ≡ n ↔ Given ks n) → (x ≡ n ↔ Exactly ks n)
+worded ks n q = Iff·trans q (exactly ks n)
+
+-- a number that is given exactly under a condition has it for its one check
+pub single : {x : ℕ} {A : Type 0} (n : ℕ) → eqb n 0 ≡ false → (x ≡ n ↔ A) → (x ≡ n ↔ Given (check n A ∷ []) n)
+single n ne q = (λ e. inl (q .0 e, refl), ⊎-elim (λ g. q .1 (g .0)) (λ g. absurd (eqb-false n 0 ne (g .1))))
+
+-- behind one check what is said of the later ones may be written another way
+pub later-alike : {A G H : Type 0} {n k : ℕ} → (G ↔ H) → ((A × (n ≡ k)) ⊎ (¬ A × G)) ↔ ((A × (n ≡ k)) ⊎ (¬ A × H))
+later-alike q = (⊎-elim inl (λ h. inr (h .0, q .0 (h .1))), ⊎-elim inl (λ h. inr (h .0, q .1 (h .1))))
+
+-- a number that is none of some checks' is not 0
+foreign-some : (n : ℕ) (ks : List Check) → foreign n ks ≡ true → ¬ (n ≡ 0)
+foreign-some n [] h = eqb-false n 0 (not-true (eqb n 0) h)
+foreign-some n (k ∷ ks) h = foreign-some n ks (both-right (not (eqb n (k .number))) (foreign n ks) h)
+
+-- so it is given by those before them alone
+pub behind : (n : ℕ) (ks ks′ : List Check) → foreign n ks′ ≡ true → Given (ks ++ ks′) n ↔ Given ks n
+behind n [] ks′ h = (λ g. absurd (never n ks′ h g), λ e. absurd (foreign-some n ks′ h e))
+behind n (k ∷ ks) ks′ h = later-alike (behind n ks ks′ h)
 
 -- whether no check of some has a number over k
 abbrev pub upTo : ℕ → List Check → Bool
@@ -109,6 +132,10 @@ given-most k (c ∷ cs) h =
     ⊎-elim
     (λ g. omega (arith, g .1, leb-true (c .number) k (both-left (leb (c .number) k) (upTo k cs) h)))
     (λ g. given-most k cs (both-right (leb (c .number) k) (upTo k cs) h) (g .1))
+
+-- the first check, where those behind it give none so large
+pub first-largest : {x : ℕ} {A : Type 0} (k n : ℕ) (ks : List Check) → upTo k ks ≡ true → k < n → ((x ≡ n) ↔ Given (check n A ∷ ks) n) → (x ≡ n) ↔ A
+first-largest k n ks h l q = (λ e. ⊎-elim (λ g. g .0) (λ g. absurd (omega (arith, l, given-most k ks h (g .1)))) (q .0 e), λ a. q .1 (inl (a, refl)))
 
 -- whichever of two lists is taken
 pub up-to-either : (k : ℕ) (b : Bool) (ks ks′ : List Check) → upTo k ks ≡ true → upTo k ks′ ≡ true → upTo k (pick b ks ks′) ≡ true

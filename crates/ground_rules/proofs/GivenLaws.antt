@@ -1,18 +1,18 @@
 -- The laws of what every attention and step is given: 11, 10, 13 and 14 in front of any chain, what a call knows that none of them refuses, and when the next is not refused either.
 -- Assumes nothing.
 use Prim.Native.Nat.{ℕ}
-use lib.Dec.{eqb}
-use mathlib.Core.Bool.{true, false}
-use mathlib.Core.Logic.{_⊎_, _↔_}
+use mathlib.Core.Bool.{true}
+use mathlib.Core.List.{List}
+use mathlib.Core.Logic.{_↔_}
 use mathlib.Core.Path.{_≡_, refl, sym, ap, _∙_}
 use Rattle.ground_rules.specs.Buffers.{Buffers, withinLimits}
 use Rattle.ground_rules.proofs.ChoiceLaws.{apart}
-use Rattle.ground_rules.specs.Conditions.{TooLong, NotSound, NotPowered, FieldsDisagree, AfterGiven}
+use Rattle.ground_rules.specs.Conditions.{Check, Given, NotPowered, givenChecks}
 use Rattle.ground_rules.specs.Outcomes.{unless, first, givenNumber}
 use Rattle.ground_rules.specs.States.{sound, agree}
 use Rattle.ground_rules.specs.declared.Board.{Board}
 use Rattle.ground_rules.specs.declared.State.{State}
-use Rattle.ground_rules.proofs.ConditionLaws.{Told, step, rewritten, first-assoc, first-none-left, first-none-right, unless-none, skip, told-limits, told-sound}
+use Rattle.ground_rules.proofs.ConditionLaws.{Told, step, rewritten, first-assoc, first-none-left, first-none-right, unless-none, told-limits, told-sound}
 use Rattle.ground_rules.proofs.FieldLaws.{told-agree}
 
 -- ---- 11, 10, 13 and 14 in their order
@@ -20,16 +20,10 @@ use Rattle.ground_rules.proofs.FieldLaws.{told-agree}
 pub told-powered : (s : State) → Told (s .board .powered) (NotPowered s)
 told-powered s = record { holds = λ e h. apart (sym e ∙ h); fails = λ e. e }
 
--- n is given by one of the four, or by what follows them
-abbrev pub GivenOr : State → Buffers → ℕ → Type 0 → Type 0
-GivenOr s m n next =
-    (TooLong m × (n ≡ 11))
-    ⊎ (¬ (TooLong m) × ((NotSound s × (n ≡ 10)) ⊎ (¬ (NotSound s) × ((NotPowered s × (n ≡ 13)) ⊎ (¬ (NotPowered s) × ((FieldsDisagree s × (n ≡ 14)) ⊎ (¬ (FieldsDisagree s) × next)))))))
-
 -- the four in front of a chain
-pub given-chain : (s : State) (m : Buffers) {rest n : ℕ} {Q : Type 0} → (rest ≡ n ↔ Q) → (first (givenNumber s m) rest ≡ n) ↔ GivenOr s m n Q
+pub given-chain : (s : State) (m : Buffers) {rest n : ℕ} (ks : List Check) → (rest ≡ n ↔ Given ks n) → (first (givenNumber s m) rest ≡ n) ↔ Given (givenChecks s m ks) n
 unfolding givenNumber
-given-chain s m {rest} q =
+given-chain s m {rest} ks q =
     let within = unless (withinLimits m) 11 in
     let sounds = unless (sound s) 10 in
     let powered = unless (s .board .powered) 13 in
@@ -38,10 +32,6 @@ given-chain s m {rest} q =
     (first-assoc within (first sounds (first powered agreed)) rest
     ∙ ap (first within) (first-assoc sounds (first powered agreed) rest ∙ ap (first sounds) (first-assoc powered agreed rest)))
     (step 11 refl (told-limits m) (step 10 refl (told-sound s) (step 13 refl (told-powered s) (step 14 refl (told-agree s) q))))
-
--- any other number is given where none of the four applies
-pub skip-given : (s : State) (m : Buffers) {G Q : Type 0} {n : ℕ} → eqb n 11 ≡ false → eqb n 10 ≡ false → eqb n 13 ≡ false → eqb n 14 ≡ false → (G ↔ Q) → GivenOr s m n G ↔ AfterGiven s m Q
-skip-given s m n₁₁ n₁₀ n₁₃ n₁₄ q = skip n₁₁ (skip n₁₀ (skip n₁₃ (skip n₁₄ q)))
 
 -- ---- a call that none of them refuses
 

@@ -1,9 +1,10 @@
--- Which number a call gives (§3.2): checks in their order, and the conditions of 11, 10, 13, 14 and 2, which every attention and step has.
-use mathlib.Core.Bool.{true, false}
+-- Which number a call gives (§3.2): checks in their order, when each number is given by them, and the conditions of 11, 10, 13, 14 and 2, which every attention and step has.
+use mathlib.Core.Bool.{Bool, true, false, not, _&&_}
 use mathlib.Core.List.{List, [], _∷_, _++_}
 use mathlib.Core.Logic.{_⊎_}
 use mathlib.Core.Path.{_≡_}
 use Prim.Native.Nat.{ℕ, _%_, _<_, _≤_}
+use lib.Dec.{eqb}
 use lib.ListN.{length}
 use Rattle.ground_rules.specs.Buffers.{Buffers}
 use Rattle.ground_rules.specs.Places.{Place}
@@ -24,6 +25,22 @@ check number applies = record { number = number; applies = applies }
 abbrev pub Given : List Check → ℕ → Type 0
 Given [] n = n ≡ 0
 Given (k ∷ ks) n = (k .applies × (n ≡ k .number)) ⊎ (¬ (k .applies) × Given ks n)
+
+-- whether n is the number of none of some checks, nor 0, which is given where none applies
+abbrev pub foreign : ℕ → List Check → Bool
+foreign n [] = not (eqb n 0)
+foreign n (k ∷ ks) = not (eqb n (k .number)) && foreign n ks
+
+-- one check more in front of what is said of the later ones: its condition counts where it has the number, and alone where no later one has
+abbrev pub InFront : Bool → Bool → Type 0 → Type 0 → Type 0
+InFront true true applies later = applies
+InFront true false applies later = applies ⊎ later
+InFront false alone applies later = later
+
+-- when n is given, computed from the checks: of a numeral the conditions of the checks that have it, each after the denial of those before it
+abbrev pub Exactly : List Check → ℕ → Type 0
+Exactly [] n = n ≡ 0
+Exactly (k ∷ ks) n = InFront (eqb n (k .number)) (foreign n ks) (k .applies) (¬ (k .applies) × Exactly ks n)
 
 -- 11: a buffer is longer than its limit
 abbrev pub TooLong : Buffers → Type 0
@@ -57,10 +74,6 @@ Ready s = (s .board .powered ≡ true) × (agree s ≡ true)
 -- the checks of what every attention and step is given, in their order, and those after them
 abbrev pub givenChecks : State → Buffers → List Check → List Check
 givenChecks s m next = check 11 (TooLong m) ∷ check 10 (NotSound s) ∷ check 13 (NotPowered s) ∷ check 14 (FieldsDisagree s) ∷ next
-
--- a condition that counts where none of them applies
-abbrev pub AfterGiven : State → Buffers → Type 0 → Type 0
-AfterGiven s m next = ¬ (TooLong m) × (¬ (NotSound s) × (¬ (NotPowered s) × (¬ (FieldsDisagree s) × next)))
 
 -- 2: one of some bytes is of system space and not lent (§1.3); no byte of I/O space counts
 abbrev pub Beyond : Buffers → List Place → Type 0

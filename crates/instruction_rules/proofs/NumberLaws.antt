@@ -35,9 +35,9 @@ use Rattle.instruction_rules.specs.MemoryForms.{memoryWorkDeed, memoryRe
 use Rattle.instruction_rules.specs.Operands.{byteHere, bytesAt, effective, readNumber}
 use Rattle.instruction_rules.specs.Marks.{pastInstruction}
 use Rattle.instruction_rules.specs.RegisterForms.{registerImmediateDeed, registerDeed, registerMemoryDeed, lpdiDeed, lpdDeed, movpLoadDeed}
-use Rattle.ground_rules.proofs.ConditionLaws.{Told, step, last, rewritten, skip, hit, either, end, never, told-true, told-false, told-touchable}
-use Rattle.ground_rules.specs.Conditions.{Beyond, check, Given}
-use Rattle.instruction_rules.specs.Conditions.{NoCode, ControlTouched, LaterBeyond, NoSecondPair, ReadsBeyond, StoresBeyond, checksFrom, instructionChecks, InstructionGiven4, InstructionGiven3, InstructionGiven2, InstructionGiven0}
+use Rattle.ground_rules.proofs.ConditionLaws.{Told, step, last, rewritten, worded, told-true, told-false, told-touchable}
+use Rattle.ground_rules.specs.Conditions.{Beyond, check, Given, Exactly}
+use Rattle.instruction_rules.specs.Conditions.{NoCode, ControlTouched, NoSecondPair, checksFrom, instructionChecks}
 use Rattle.instruction_rules.specs.Execute.{decodedAt, performed, deedOf, laterFrom, deedFrom, stagesFrom, instructionStages, executeNumber, touchedByInstruction, executeOf}
 use Rattle.instruction_rules.proofs.OutcomeLaws.{number-is}
 
@@ -165,36 +165,9 @@ module _ (m : Buffers) (c : Channel) (busy : ℕ) where
   unfolding executeNumber instructionStages
   number-given n = rewritten (number-is c busy m) (given-from (decodedAt m (c .tp)) n)
 
-  both : {A B C : Type 0} → (A ↔ B) → (B ↔ C) → (A ↔ C)
-  both p q = (λ a. q .0 (p .0 a), λ x. p .1 (q .1 x))
-
-  -- 2 exactly where a byte to be read or stored is of system space and beyond lent memory, and no earlier check applies
-  pub exactly-2 : (executeOf c busy m) .number ≡ 2 ↔ InstructionGiven2 (decodedAt m (c .tp)) m c busy
-  exactly-2 = both (number-given 2) (either (skip refl (skip refl (either (skip refl (either (hit (never 2 [] refl))))))))
-
-  -- 3 exactly where the bytes are no instruction, and no earlier check applies
-  pub exactly-3 : (executeOf c busy m) .number ≡ 3 ↔ InstructionGiven3 (decodedAt m (c .tp)) m c busy
-  exactly-3 =
-      both (number-given 3)
-      (skip refl (either (skip refl (skip refl (hit (never 3 (check 2 (ReadsBeyond d m c busy) ∷ check 2 (StoresBeyond d m c busy) ∷ []) refl))))))
-    where
-      d : Decoded
-      d = decodedAt m (c .tp)
-
-  -- 4 exactly where CC is used by anything but MOV or MOVI, and no earlier check applies
-  pub exactly-4 : (executeOf c busy m) .number ≡ 4 ↔ InstructionGiven4 (decodedAt m (c .tp)) m c busy
-  exactly-4 =
-      both (number-given 4)
-      (skip refl
-      (skip refl
-      (hit (never 4 (check 2 (LaterBeyond d m c) ∷ check 3 (NoSecondPair d m c) ∷ check 2 (ReadsBeyond d m c busy) ∷ check 2 (StoresBeyond d m c busy) ∷ []) refl))))
-    where
-      d : Decoded
-      d = decodedAt m (c .tp)
-
-  -- 0 exactly where no check applies
-  pub exactly-0 : (executeOf c busy m) .number ≡ 0 ↔ InstructionGiven0 (decodedAt m (c .tp)) m c busy
-  exactly-0 = both (number-given 0) (skip refl (skip refl (skip refl (skip refl (skip refl (skip refl (end refl refl)))))))
+  -- in words: 2, 3 and 4 where their own condition holds and no earlier one, 0 where none does
+  pub number-exactly : (n : ℕ) → (executeOf c busy m) .number ≡ n ↔ Exactly (instructionChecks m c busy) n
+  number-exactly n = worded (instructionChecks m c busy) n (number-given n)
 
   -- and there is no other number
   pub one-of-four : (((executeOf c busy m) .number ≡ 0) ⊎ ((executeOf c busy m) .number ≡ 2)) ⊎ (((executeOf c busy m) .number ≡ 3) ⊎ ((executeOf c busy m) .number ≡ 4))

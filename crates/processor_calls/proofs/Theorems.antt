@@ -33,14 +33,15 @@ use Rattle.service.proofs.OutcomeLaws.{Kept, power-kept, attention-kept, step-k
 use Rattle.state_rules.specs.Calls.{made, answerFrom, resetMade}
 use Rattle.state_rules.specs.Conditions.{NoState, Bytes, resetChecksOn, powerChecksOn, attentionChecksOn, stepChecksOn, sweepChecksOn}
 use Rattle.state_rules.specs.Layout.{bytesOf, stateIn, isState, stateLength}
-use Rattle.schedule_rules.specs.Conditions.{UnknownIn}
+use Rattle.schedule_rules.specs.Conditions.{scheduleChecks}
 use Rattle.schedule_rules.specs.Reports.{Scheduled, scheduleOf}
 use Rattle.schedule_rules.specs.Rows.{Bench, bench}
 use Rattle.schedule_rules.specs.declared.ScheduleRow.{ScheduleRow}
 use Rattle.schedule_calls.specs.Calls.{scheduleLeft, noSchedule, scheduleServed}
 use Rattle.schedule_calls.specs.Turns.{standing}
 use Rattle.processor_rules.proofs.LiftLaws.{Stays}
-use Rattle.processor_rules.proofs.SixLaws.{schedule-given, schedule-stays}
+use Rattle.processor_rules.proofs.SixLaws.{schedule-stays}
+use Rattle.schedule_rules.proofs.ScheduleLaws.{schedule-given}
 use Rattle.processor_rules.specs.Lifting.{Lifted, liftedTo}
 use Rattle.processor_rules.specs.Processors.{Processors, processors, Memories, memories}
 use Rattle.processor_calls.specs.Calls.{Reported, reported, zerosOver, attentionOnBytes, stepOnBytes, powerUpOnBytes, sweepOnBytes, resetOnBytes, scheduleOnBytes, pairReset, pairPowerUp, pairAttention, pairStep, pairSweep, pairSchedule}
@@ -246,7 +247,7 @@ schedule-goes = goes-to-one schedule-lifted
 
 -- the checks of a schedule on bytes: 17, then 16
 abbrev pub scheduleChecksOn : List ℕ → List ScheduleRow → List Check
-scheduleChecksOn b rows = check 17 (NoState b) ∷ check 16 (UnknownIn rows) ∷ []
+scheduleChecksOn b rows = check 17 (NoState b) ∷ scheduleChecks rows
 
 module _ (words : List ℕ) (rows : List ScheduleRow) (b : List ℕ) (m : Buffers) where
   -- the schedule of the state that the bytes stand for

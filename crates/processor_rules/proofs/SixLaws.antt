@@ -2,13 +2,11 @@
 -- Assumes nothing.
 use Prim.Native.Nat.{ℕ}
 use mathlib.Core.Bool.{Bool, true, false}
-use mathlib.Core.List.{List, [], _∷_}
-use mathlib.Core.Logic.{_↔_}
+use mathlib.Core.List.{List, []}
 use mathlib.Core.Path.{_≡_, refl, sym, ap, _∙_}
 use Rattle.ground_rules.specs.Choice.{pick}
-use Rattle.ground_rules.proofs.ConditionLaws.{last, rewritten}
-use Rattle.ground_rules.specs.Conditions.{check, Given}
-use Rattle.ground_rules.specs.Outcomes.{Outcome, unless}
+use Rattle.ground_rules.proofs.ConditionLaws.{rewritten}
+use Rattle.ground_rules.specs.Outcomes.{Outcome}
 use Rattle.attention_rules.proofs.Numbers.{given-exactly}
 use Rattle.attention_rules.proofs.Outcomes.{refused-nothing}
 use Rattle.attention_rules.specs.Conditions.{attentionChecks}
@@ -24,8 +22,8 @@ use Rattle.sweep_rules.proofs.ConditionLaws.{sweep-given}
 use Rattle.sweep_rules.proofs.PassedLaws.{refused-sweep, number-is}
 use Rattle.sweep_rules.specs.Conditions.{sweepChecks}
 use Rattle.sweep_rules.specs.Sweep.{Sweep}
-use Rattle.schedule_rules.proofs.RowLaws.{told-known}
-use Rattle.schedule_rules.specs.Conditions.{UnknownIn}
+use Rattle.schedule_rules.proofs.ScheduleLaws.{schedule-given}
+use Rattle.schedule_rules.specs.Conditions.{scheduleChecks}
 use Rattle.schedule_rules.specs.Reports.{noReport, allRun, noneRun, scheduleOf}
 use Rattle.schedule_rules.specs.Rows.{Bench, bench, allKnown}
 use Rattle.schedule_rules.specs.declared.ScheduleRow.{ScheduleRow}
@@ -33,16 +31,7 @@ use Rattle.processor_rules.specs.Calls.{CallAnswer, StepAnswer, SweepAns
 use Rattle.processor_rules.specs.Lifts.{SixCalls}
 use Rattle.processor_rules.proofs.LiftLaws.{lifts, lifted-numbers}
 
--- a schedule's number: 16 for a row of no known kind
-pub schedule-given : (p : Bench) (rows : List ScheduleRow) (n : ℕ) → (scheduleOf p rows .number ≡ n) ↔ Given (check 16 (UnknownIn rows) ∷ []) n
-unfolding scheduleOf unless
-schedule-given p rows n = rewritten (chain (allKnown rows)) (last n 16 refl (told-known rows))
-  where
-    chain : (b : Bool) → pick b (allRun p rows) (noneRun p) .number ≡ unless b 16
-    chain true = refl
-    chain false = refl
-
--- one that gives a number leaves the bench
+-- a schedule that gives a number leaves the bench
 pub schedule-stays : (p : Bench) (rows : List ScheduleRow) → ¬ (scheduleOf p rows .number ≡ 0) → scheduleOf p rows .bench ≡ p
 unfolding scheduleOf
 schedule-stays p rows = go (allKnown rows)
@@ -80,7 +69,7 @@ six-calls =
           (ap (λ (o : Sweep). o .state) e, ap (λ (o : Sweep). o .memory) e));
       schedule = λ rows. lifts (scheduleGives rows) (scheduleAnswer 12 noReport);
       scheduleNumbers = λ rows.
-          lifted-numbers (scheduleGives rows) (scheduleAnswer 12 noReport) (λ (a : ScheduleAnswer). a .number) (λ s m. check 16 (UnknownIn rows) ∷ []) refl
+          lifted-numbers (scheduleGives rows) (scheduleAnswer 12 noReport) (λ (a : ScheduleAnswer). a .number) (λ s m. scheduleChecks rows) refl
           (λ s m n. schedule-given (bench s m) rows n)
           (λ s m h. let e = schedule-stays (bench s m) rows h in (ap (λ (x : Bench). x .state) e, ap (λ (x : Bench). x .memory) e));
     }

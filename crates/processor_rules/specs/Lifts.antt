@@ -11,7 +11,7 @@ use Rattle.attention_rules.specs.PowerConditions.{powerChecks}
 use Rattle.turn_rules.specs.Conditions.{stepChecks}
 use Rattle.turn_rules.specs.declared.Kind.the-variants.{Nothing}
 use Rattle.sweep_rules.specs.Conditions.{sweepChecks}
-use Rattle.schedule_rules.specs.Conditions.{UnknownIn}
+use Rattle.schedule_rules.specs.Conditions.{scheduleChecks}
 use Rattle.schedule_rules.specs.Reports.{noReport}
 use Rattle.schedule_rules.specs.declared.ScheduleRow.{ScheduleRow}
 use Rattle.processor_rules.specs.Calls.{CallAnswer, StepAnswer, SweepAnswer, ScheduleAnswer, callAnswer, stepAnswer, sweepAnswer, scheduleAnswer, attentionGives, stepGives, resetGives, powerUpGives, sweepGives, scheduleGives, attentionOn, stepOn, resetOn, powerUpOn, sweepOn, scheduleOn}
@@ -79,4 +79,4 @@ pub record SixCalls : Type 0 where
       → Numbers (λ (a : SweepAnswer). a .number) (λ s m. sweepChecks s m channel lines) (λ p m processor. sweepOn p m processor channel lines)
   pub schedule : (rows : List ScheduleRow) → Lifts (scheduleAnswer 12 noReport) (scheduleGives rows) (λ p m processor. scheduleOn p m processor rows)
   pub scheduleNumbers : (rows : List ScheduleRow)
-      → Numbers (λ (a : ScheduleAnswer). a .number) (λ s m. check 16 (UnknownIn rows) ∷ []) (λ p m processor. scheduleOn p m processor rows)
+      → Numbers (λ (a : ScheduleAnswer). a .number) (λ s m. scheduleChecks rows) (λ p m processor. scheduleOn p m processor rows)

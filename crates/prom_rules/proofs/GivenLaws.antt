@@ -13,7 +13,7 @@ use native.Mathlib.Omega.{arith}
 use Rattle.ground_rules.specs.Buffers.{buffers, spaceOf, limitOf, indexOf, lentAt, withinLimits}
 use Rattle.ground_rules.proofs.ChoiceLaws.{apart, and-true}
 use Rattle.ground_rules.specs.Choice.{pick}
-use Rattle.prom_rules.specs.Conditions.{NotRecord, SumRefused, TypeRefused, Decides, NoEnd, Ends, OverLong, FirstBeyond, AllWithin}
+use Rattle.prom_rules.specs.Conditions.{Decides, NoEnd, Ends, OverLong, FirstBeyond, AllWithin}
 use Rattle.prom_rules.specs.File.{FileStore, File, file, nextLine, segmentAfter, startAfter, storesFrom, storesOf, fileOf}
 use Rattle.prom_rules.specs.Load.{Loading, beyondLine, textFile, loadOf}
 use Rattle.prom_rules.specs.Records.{recordOf, addressField, typeOf, dataBytes, lineRefusal}
@@ -21,7 +21,7 @@ use Rattle.prom_rules.specs.Text.{hexLines}
 use Rattle.prom_rules.proofs.Bounds.{line-most, line-least}
 use Rattle.prom_rules.proofs.FileLaws.{next-some, file-bad, file-end, file-more}
 use Rattle.prom_rules.proofs.LoadLaws.{load-by}
-use Rattle.prom_rules.proofs.TestLaws.{line-20, line-21, line-22, line-0}
+use Rattle.prom_rules.proofs.TestLaws.{line-exactly}
 
 -- ---- the file
 
@@ -44,24 +44,23 @@ abbrev Was : File → ℕ → ℕ → Type 0
 Was f n k = (f .number ≡ n) × (f .line ≡ k)
 
 -- a number that one line gives is the file's where that line decides
-decides : (Kind : List ℕ → Type 0) (n : ℕ) → (n ≡ 0 → ⊥) → (n ≡ 23 → ⊥) → ((line : List ℕ) → (lineRefusal line ≡ n) ↔ Kind line)
-    → (lines : List (List ℕ)) (segment start before k : ℕ) → Was (fileOf lines segment start before) n k ↔ Decides Kind lines before k
+decides : (n : ℕ) → (n ≡ 0 → ⊥) → (n ≡ 23 → ⊥) → (lines : List (List ℕ)) (segment start before k : ℕ) → Was (fileOf lines segment start before) n k ↔ Decides n lines before k
 unfolding fileOf
-decides Kind n ne nn line [] segment start before k = (λ h. absurd (nn (sym (h .0))), λ h. absurd h)
-decides Kind n ne nn line (this ∷ lines) segment start before k =
-    go (way this) (decides Kind n ne nn line lines (segmentAfter (recordOf this) segment) (startAfter (recordOf this) start) (nextLine before) k)
+decides n ne nn [] segment start before k = (λ h. absurd (nn (sym (h .0))), λ h. absurd h)
+decides n ne nn (this ∷ lines) segment start before k =
+    go (way this) (decides n ne nn lines (segmentAfter (recordOf this) segment) (startAfter (recordOf this) start) (nextLine before) k)
   where
-    go : Way this → Was (fileOf lines (segmentAfter (recordOf this) segment) (startAfter (recordOf this) start) (nextLine before)) n k ↔ Decides Kind lines (nextLine before) k
-        → Was (fileOf (this ∷ lines) segment start before) n k ↔ Decides Kind (this ∷ lines) before k
+    go : Way this → Was (fileOf lines (segmentAfter (recordOf this) segment) (startAfter (recordOf this) start) (nextLine before)) n k ↔ Decides n lines (nextLine before) k
+        → Was (fileOf (this ∷ lines) segment start before) n k ↔ Decides n (this ∷ lines) before k
     go (bad e) ih =
         rw (file-bad this lines segment start before e)
-        (λ h. inl (line this .0 (h .0), sym (h .1)), ⊎-elim (λ h. (line this .1 (h .0), sym (h .1))) (λ h. absurd (e (line-0 this .1 (h .0 .0)))))
+        (λ h. inl (line-exactly this n .0 (h .0), sym (h .1)), ⊎-elim (λ h. (line-exactly this n .1 (h .0), sym (h .1))) (λ h. absurd (e (line-exactly this 0 .1 (h .0 .0)))))
     go (end e q) ih =
         rw (file-end this lines segment start before e q)
-        (λ h. absurd (ne (sym (h .0))), ⊎-elim (λ h. absurd (ne (sym (line this .1 (h .0)) ∙ e))) (λ h. absurd (h .0 .1 q)))
+        (λ h. absurd (ne (sym (h .0))), ⊎-elim (λ h. absurd (ne (sym (line-exactly this n .1 (h .0)) ∙ e))) (λ h. absurd (h .0 .1 q)))
     go (on e q) ih =
         rw (file-more this lines segment start before e q)
-        (λ h. inr ((line-0 this .0 e, q), ih .0 h), ⊎-elim (λ h. absurd (ne (sym (line this .1 (h .0)) ∙ e))) (λ h. ih .1 (h .1)))
+        (λ h. inr ((line-exactly this 0 .0 e, q), ih .0 h), ⊎-elim (λ h. absurd (ne (sym (line-exactly this n .1 (h .0)) ∙ e))) (λ h. ih .1 (h .1)))
 
 -- 23 where every line passes
 no-end : (lines : List (List ℕ)) (segment start before k : ℕ) → Was (fileOf lines segment start before) 23 k ↔ NoEnd lines before k
@@ -73,10 +72,10 @@ no-end (this ∷ lines) segment start before k =
     go : Way this → Was (fileOf lines (segmentAfter (recordOf this) segment) (startAfter (recordOf this) start) (nextLine before)) 23 k ↔ NoEnd lines (nextLine before) k
         → Was (fileOf (this ∷ lines) segment start before) 23 k ↔ NoEnd (this ∷ lines) before k
     go (bad e) ih =
-        rw (file-bad this lines segment start before e) (λ h. absurd (omega (arith, h .0, line-most this)), λ h. absurd (e (line-0 this .1 (h .0 .0))))
+        rw (file-bad this lines segment start before e) (λ h. absurd (omega (arith, h .0, line-most this)), λ h. absurd (e (line-exactly this 0 .1 (h .0 .0))))
     go (end e q) ih = rw (file-end this lines segment start before e q) (λ h. absurd (omega (arith, h .0)), λ h. absurd (h .0 .1 q))
     go (on e q) ih =
-        rw (file-more this lines segment start before e q) (λ h. ((line-0 this .0 e, q), ih .0 h), λ h. ih .1 (h .1))
+        rw (file-more this lines segment start before e q) (λ h. ((line-exactly this 0 .0 e, q), ih .0 h), λ h. ih .1 (h .1))
 
 -- none where it reaches its end record
 ends : (lines : List (List ℕ)) (segment start before : ℕ) → (fileOf lines segment start before .number ≡ 0) ↔ Ends lines
@@ -89,11 +88,11 @@ ends (this ∷ lines) segment start before =
         → (fileOf (this ∷ lines) segment start before .number ≡ 0) ↔ Ends (this ∷ lines)
     go (bad e) ih =
         rw (file-bad this lines segment start before e)
-        (λ h. absurd (e h), ⊎-elim (λ h. absurd (e (line-0 this .1 (h .0)))) (λ h. absurd (e (line-0 this .1 (h .0 .0)))))
-    go (end e q) ih = rw (file-end this lines segment start before e q) (λ h. inl (line-0 this .0 e, q), λ h. refl)
+        (λ h. absurd (e h), ⊎-elim (λ h. absurd (e (line-exactly this 0 .1 (h .0)))) (λ h. absurd (e (line-exactly this 0 .1 (h .0 .0)))))
+    go (end e q) ih = rw (file-end this lines segment start before e q) (λ h. inl (line-exactly this 0 .0 e, q), λ h. refl)
     go (on e q) ih =
         rw (file-more this lines segment start before e q)
-        (λ h. inr ((line-0 this .0 e, q), ih .0 h), ⊎-elim (λ h. absurd (q (h .1))) (λ h. ih .1 (h .1)))
+        (λ h. inr ((line-exactly this 0 .0 e, q), ih .0 h), ⊎-elim (λ h. absurd (q (h .1))) (λ h. ih .1 (h .1)))
 
 -- a file's own number is 0 or 20 and more
 file-least : (lines : List (List ℕ)) (segment start before : ℕ) → (fileOf lines segment start before .number ≡ 0 → ⊥) → 20 ≤ fileOf lines segment start before .number
@@ -217,23 +216,14 @@ module _ (t sys : List ℕ) where
       (λ l. (λ q. absurd (omega (arith, q .0)), λ q. absurd (q .0 (over l)))) (λ l ne. (λ q. (within l, q), λ q. q .1))
       (λ l e z. (λ q. absurd (omega (arith, q .0)), λ q. absurd (omega (arith, q .1 .0, e)))) (λ l e z. (λ q. absurd (omega (arith, q .0)), λ q. absurd (omega (arith, q .1 .0, e))))
 
-  by-line : (Kind : List ℕ → Type 0) (n k : ℕ) → 20 ≤ n → (n ≡ 23 → ⊥) → ((line : List ℕ) → (lineRefusal line ≡ n) ↔ Kind line)
-      → ((loadOf t (buffers sys []) .number ≡ n) × (loadOf t (buffers sys []) .line ≡ k)) ↔ (¬ (OverLong sys) × Decides Kind (hexLines t) 0 k)
-  unfolding textFile
-  by-line Kind n k h nn line =
-      let f = of-file n k h in
-      let d = decides Kind n (λ e. omega (arith, e)) nn line (hexLines t) 0 0 0 k in
-      (λ q. let p = f .0 q in (p .0, d .0 (p .1)), λ q. f .1 (q .0, d .1 (q .1)))
-
   -- 20, 21 and 22 exactly when the first record that does not pass is no record, has a wrong sum, or a wrong type; the line is its line
-  pub given-20 : (k : ℕ) → ((loadOf t (buffers sys []) .number ≡ 20) × (loadOf t (buffers sys []) .line ≡ k)) ↔ (¬ (OverLong sys) × Decides NotRecord (hexLines t) 0 k)
-  given-20 k = by-line NotRecord 20 k (lit≤ tt) (λ e. omega (arith, e)) line-20
-
-  pub given-21 : (k : ℕ) → ((loadOf t (buffers sys []) .number ≡ 21) × (loadOf t (buffers sys []) .line ≡ k)) ↔ (¬ (OverLong sys) × Decides SumRefused (hexLines t) 0 k)
-  given-21 k = by-line SumRefused 21 k (lit≤ tt) (λ e. omega (arith, e)) line-21
-
-  pub given-22 : (k : ℕ) → ((loadOf t (buffers sys []) .number ≡ 22) × (loadOf t (buffers sys []) .line ≡ k)) ↔ (¬ (OverLong sys) × Decides TypeRefused (hexLines t) 0 k)
-  given-22 k = by-line TypeRefused 22 k (lit≤ tt) (λ e. omega (arith, e)) line-22
+  pub given-line : (n k : ℕ) → 20 ≤ n → (n ≡ 23 → ⊥)
+      → ((loadOf t (buffers sys []) .number ≡ n) × (loadOf t (buffers sys []) .line ≡ k)) ↔ (¬ (OverLong sys) × Decides n (hexLines t) 0 k)
+  unfolding textFile
+  given-line n k h nn =
+      let f = of-file n k h in
+      let d = decides n (λ e. omega (arith, e)) nn (hexLines t) 0 0 0 k in
+      (λ q. let p = f .0 q in (p .0, d .0 (p .1)), λ q. f .1 (q .0, d .1 (q .1)))
 
   -- 23 exactly when every line passes; the line is the number of lines
   pub given-23 : (k : ℕ) → ((loadOf t (buffers sys []) .number ≡ 23) × (loadOf t (buffers sys []) .line ≡ k)) ↔ (¬ (OverLong sys) × NoEnd (hexLines t) 0 k)

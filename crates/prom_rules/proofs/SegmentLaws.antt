@@ -13,7 +13,7 @@ use Rattle.prom_rules.specs.Load.{textFile}
 use Rattle.prom_rules.specs.Records.{recordOf, addressField, typeOf, dataBytes, segmentOf}
 use Rattle.prom_rules.specs.Text.{hexLines}
 use Rattle.prom_rules.proofs.FileLaws.{file-more}
-use Rattle.prom_rules.proofs.TestLaws.{line-0}
+use Rattle.prom_rules.proofs.TestLaws.{line-exactly}
 
 -- each of some lines is of a kind
 abbrev pub EachLine : (List ℕ → Type 0) → List (List ℕ) → Type 0
@@ -112,14 +112,14 @@ module _ (this : List ℕ) (rest : List (List ℕ)) (d : DataRecord this) where
   one-past : (v w segment start line : ℕ) (one : List ℕ) (lines : List (List ℕ)) → Passes one → segmentAfter (recordOf one) segment ≡ w
       → Under v lines w (startAfter (recordOf one) start) (nextLine line) → Under v (one ∷ lines) segment start line
   one-past v w segment start line one lines p e s =
-      subst (λ (f : File). StoredUnder v (recordOf this) (f .stores)) (sym (file-more one lines segment start line (line-0 one .1 (p .0)) (p .1)))
+      subst (λ (f : File). StoredUnder v (recordOf this) (f .stores)) (sym (file-more one lines segment start line (line-exactly one 0 .1 (p .0)) (p .1)))
       (later-row (storesOf (nextLine line) segment (recordOf one)) (rw e s))
 
   -- under the segment given, where no line before sets one
   under-kept : (v start line : ℕ) (lines : List (List ℕ)) → EachLine KeepsSegment lines → Under v (lines ++ (this ∷ rest)) v start line
   under-kept v start line [] h =
       subst (λ (f : File). StoredUnder v (recordOf this) (f .stores))
-      (sym (file-more this rest v start line (line-0 this .1 (d .0)) (λ z. omega (arith, d .1, z))))
+      (sym (file-more this rest v start line (line-exactly this 0 .1 (d .0)) (λ z. omega (arith, d .1, z))))
       (first-row (nextLine line) v (recordOf this)
       (fileOf rest (segmentAfter (recordOf this) v) (startAfter (recordOf this) start) (nextLine line) .stores) (d .1))
   under-kept v start line (one ∷ lines) h =

@@ -4,6 +4,7 @@ use lib.ListN.{length}
 use mathlib.Core.List.{List, [], _∷_}
 use mathlib.Core.Logic.{_⊎_}
 use mathlib.Core.Path.{_≡_}
+use Rattle.ground_rules.specs.Conditions.{Check, check, Exactly}
 use Rattle.prom_rules.specs.File.{FileStore, nextLine}
 use Rattle.prom_rules.specs.Records.{digitsOf, recordOf, hexSize, typeOf, sumOf}
 
@@ -41,15 +42,13 @@ Unfit kind size = (4 ≤ kind) ⊎ (((kind ≡ 1) × ¬ (size ≡ 0)) ⊎ (((kin
 abbrev pub WrongType : List ℕ → Type 0
 WrongType line = Unfit (typeOf (recordOf line)) (hexSize (recordOf line))
 
--- 21 where 20 is not given, 22 where neither is, and a good record where none is
-abbrev pub SumRefused : List ℕ → Type 0
-SumRefused line = ¬ (NotRecord line) × WrongSum line
+-- the checks of a line, in their order
+abbrev pub lineChecks : List ℕ → List Check
+lineChecks line = check 20 (NotRecord line) ∷ check 21 (WrongSum line) ∷ check 22 (WrongType line) ∷ []
 
-abbrev pub TypeRefused : List ℕ → Type 0
-TypeRefused line = ¬ (NotRecord line) × (¬ (WrongSum line) × WrongType line)
-
+-- a good record: none of them applies
 abbrev pub GoodRecord : List ℕ → Type 0
-GoodRecord line = ¬ (NotRecord line) × (¬ (WrongSum line) × ¬ (WrongType line))
+GoodRecord line = Exactly (lineChecks line) 0
 
 -- a good record of type 01
 abbrev pub EndRecord : List ℕ → Type 0
@@ -59,10 +58,10 @@ EndRecord line = GoodRecord line × (typeOf (recordOf line) ≡ 1)
 abbrev pub Passes : List ℕ → Type 0
 Passes line = GoodRecord line × ¬ (typeOf (recordOf line) ≡ 1)
 
--- line k is the first that does not pass, and it is of a kind; `before` lines stand before
-abbrev pub Decides : (List ℕ → Type 0) → List (List ℕ) → ℕ → ℕ → Type 0
-Decides Kind [] before k = ⊥
-Decides Kind (line ∷ lines) before k = (Kind line × (k ≡ nextLine before)) ⊎ (Passes line × Decides Kind lines (nextLine before) k)
+-- line k is the first that does not pass, and its number is n; `before` lines stand before
+abbrev pub Decides : ℕ → List (List ℕ) → ℕ → ℕ → Type 0
+Decides n [] before k = ⊥
+Decides n (line ∷ lines) before k = (Exactly (lineChecks line) n × (k ≡ nextLine before)) ⊎ (Passes line × Decides n lines (nextLine before) k)
 
 -- 23: every line passes, and k were read
 abbrev pub NoEnd : List (List ℕ) → ℕ → ℕ → Type 0

@@ -4,7 +4,6 @@ use Prim.Native.Nat.{ℕ, _<_}
 use borrow.Author.Tests.{eqb-false}
 use lib.Dec.{lit<}
 use mathlib.Core.Bool.{Bool, true, not}
-use mathlib.Core.Logic.{⊎-elim}
 use mathlib.Core.Path.{_≡_, refl, sym, subst, ap, _∙_}
 use native.Mathlib.Nat.{mod-eq-of-lt}
 use Rattle.attention_rules.proofs.Outcomes.{accepted-order, other-channel, shared-kept, registers-kept}
@@ -27,7 +26,6 @@ use Rattle.ground_rules.specs.declared.Pointer.{Pointer}
 use Rattle.turn_rules.proofs.OutcomeLaws.{done, other-kept, cp-kept, board-kept, last-set, last-kept, chosen-steps}
 use Rattle.turn_rules.proofs.TouchedLaws.{bytes-kept as step-bytes, lengths-kept as step-lengths}
 use Rattle.ground_rules.proofs.BitLaws.{bit-other}
-use Rattle.ground_rules.proofs.ChoiceLaws.{apart}
 use Rattle.ground_rules.proofs.StoredLaws.{address-kept, tag-kept, low-again, middle-again, high-again}
 use Rattle.ground_rules.specs.Bits.{bitOf}
 use Rattle.promises.specs.Demand2.{OnlyControl, AttentionDoes, StepDoes, Demand2}
@@ -67,9 +65,9 @@ attention-does s m channel = record {
 pub step-does : (s : State) (m : Buffers) (lines : ℕ) → StepDoes s m lines
 step-does s m lines = record {
   chosen = chosen-steps s m lines;
-  ends = λ second z e. ⊎-elim (λ h. h) (⊎-elim (λ h. absurd h) (λ h. absurd h)) (rw e at (done s m lines z));
-  moves = λ second z e f. ⊎-elim (λ h. absurd h) (⊎-elim (λ h. h .1) (λ h. apart (sym f ∙ h .0))) (rw e at (done s m lines z));
-  executes = λ second z e f. ⊎-elim (λ h. absurd h) (⊎-elim (λ h. apart (sym (h .0) ∙ f)) (λ h. h .1)) (rw e at (done s m lines z));
+  ends = λ second z e. rw e at (done s m lines z);
+  moves = λ second z e f. rw (e, f) at (done s m lines z);
+  executes = λ second z e f. rw (e, f) at (done s m lines z);
   other = other-kept s m lines;
   controlBlock = cp-kept s m lines;
   board = board-kept s m lines;

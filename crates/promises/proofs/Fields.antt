@@ -6,7 +6,7 @@ use mathlib.Core.Bool.{Bool, true, false}
 use mathlib.Core.List.{[], _∷_}
 use mathlib.Core.Path.{_≡_, refl, sym, ap, _∙_}
 use native.Mathlib.Omega.{arith}
-use Rattle.attention_rules.proofs.Numbers.{gives-0}
+use Rattle.attention_rules.proofs.Numbers.{number-exactly}
 use Rattle.attention_rules.proofs.SoundLaws.{attention-agree}
 use Rattle.ground_rules.proofs.FieldLaws.{agreed, agree-channel-of, blank-agree, fresh-agree, told-agree}
 use Rattle.ground_rules.specs.Cc.{split, sameFlag, sameFields}
@@ -81,7 +81,7 @@ fields-kept = record {
   fresh = λ cp. each _ (fresh-agree cp);
   reset = each resetState (blank-agree 0 (boardWith false false false false));
   power = λ s m e. each _ (ap (λ (o : Outcome). agree (o .state)) (power-accepted s m e) ∙ found-agree m);
-  attention = λ s m channel e. each _ (attention-agree s m channel (told-not (told-agree s) (gives-0 s m channel .0 e .1 .1 .1 .1 .0)));
+  attention = λ s m channel e. each _ (attention-agree s m channel (told-not (told-agree s) (number-exactly s m channel 0 .0 e .1 .1 .1 .1 .0)));
   step = λ s m lines e. each _ (step-agree s m lines (done-agrees s m lines e));
   otherAttended = λ s m channel second e. ap (λ (c : Channel). c .fields) (attention-does s m channel .other second e);
   otherStepped = λ s m lines second e. ap (λ (c : Channel). c .fields) (step-does s m lines .other second e);

@@ -20,7 +20,7 @@ use Rattle.ground_rules.proofs.SpanLaws.{span-system, span-whole}
 use Rattle.ground_rules.specs.Buffers.{Buffers, buffers, spaceOf, limitOf, indexOf, beyondIn, byteAt, storeByte}
 use Rattle.ground_rules.specs.Places.{span, allTouchable}
 use Rattle.ground_rules.specs.Values.{pointer}
-use Rattle.attention_rules.proofs.PowerNumbers.{places-lent, powers-0}
+use Rattle.attention_rules.proofs.PowerNumbers.{places-lent, power-exactly}
 use Rattle.attention_rules.proofs.PowerOutcomes.{power-accepted}
 use Rattle.attention_rules.specs.Power.{sysbusPlace, configurationPlace, configurationOf, controlPlace, controlOf, boardOf, powerPlaces, foundState, foundMemory, powerUpOf}
 use Rattle.ground_rules.specs.Bits.{bitOf}
@@ -155,7 +155,7 @@ module _ (b fromOdd intoOdd fromWide intoWide : Bool) (n : ℕ) where
   kept = rw control (store-same m 1 0 busy-zero)
 
   accepted : (s : State) → powerUpOf s m .number ≡ 0
-  accepted s = powers-0 s m .1 (short, told-touchable m (powerPlaces m) .holds (eleven-whole m (omega (arith, whole-base, lengths false))))
+  accepted s = power-exactly s m 0 .1 (short, (told-touchable m (powerPlaces m) .holds (eleven-whole m (omega (arith, whole-base, lengths false))), refl))
 
   powered : (s : State) → powerUpOf s m ≡ outcome 0 (freshState 0) m
   powered s = power-accepted s m (accepted s) ∙ ap₂ (outcome 0) found kept

@@ -10,11 +10,10 @@ use native.Mathlib.Nat.{add-zero}
 use native.Mathlib.Omega.{arith}
 use Rattle.attention_rules.proofs.Numbers.{given-exactly}
 use Rattle.attention_rules.specs.Attention.{attentionOf}
-use Rattle.attention_rules.specs.Conditions.{NoChannel}
+use Rattle.attention_rules.specs.Conditions.{NoChannel, orderChecks}
 use Rattle.run_rules.proofs.BoardOutcomes.{refused-call, refused-power, accepted-power, number-most, steps-most, answer-is}
-use Rattle.ground_rules.proofs.ConditionLaws.{step, last, told-exactly, told-limits, told-sound, told-touchable}
-use Rattle.ground_rules.proofs.GivenLaws.{GivenOr}
-use Rattle.ground_rules.specs.Conditions.{check, Given, TooLong, NotSound, Beyond}
+use Rattle.ground_rules.proofs.ConditionLaws.{step, last, later-alike, told-exactly, told-limits, told-sound, told-touchable}
+use Rattle.ground_rules.specs.Conditions.{Check, check, Given, TooLong, NotSound, Beyond, givenChecks}
 use Rattle.ground_rules.specs.Outcomes.{Outcome}
 use Rattle.ground_rules.specs.States.{idleChannel, resetState, channelOf, soundChannel, sound, isRunning, busyIn}
 use Rattle.ground_rules.specs.declared.Channel.{Channel}
@@ -28,7 +27,9 @@ use Rattle.attention_rules.proofs.PowerOutcomes.{power-refused, power-accepted,
 use Rattle.attention_rules.specs.Power.{configurationOf, controlPlace, controlOf, boardOf, powerPlaces, foundState, powerUpOf}
 use Rattle.run_rules.specs.Run.{ran, attendedRun, callNumber}
 use Rattle.turn_rules.proofs.NumberLaws.{number-given}
-use Rattle.turn_rules.specs.Conditions.{LinesOver}
+use Rattle.turn_rules.specs.Choosing.{choiceOf}
+use Rattle.turn_rules.specs.Conditions.{LinesOver, chosenChecks}
+use Rattle.turn_rules.specs.Ranks.{NoneRuns}
 use Rattle.ground_rules.proofs.ChoiceLaws.{apart}
 use Rattle.ground_rules.specs.Bits.{bitOf}
 use Rattle.promises.specs.Demand1.{Blank}
@@ -56,9 +57,9 @@ unfolding resetState idleChannel sound soundChannel
 reset-sound = told-sound resetState .holds refl
 
 -- in a chain that has 10, 13 and 14 after 12 and 11, 10 never applies of it and 13 does
-thirteen : {argument G : Type 0} (m : Buffers) (n : ℕ) → ((argument × (n ≡ 12)) ⊎ (¬ argument × GivenOr resetState m n G)) ↔ Given (thirteenAfter argument m) n
+thirteen : (argument : Type 0) (m : Buffers) (n : ℕ) (ks : List Check) → Given (check 12 argument ∷ givenChecks resetState m ks) n ↔ Given (thirteenAfter argument m) n
 unfolding resetState
-thirteen m n = (
+thirteen argument m n ks = (
   ⊎-elim inl (λ h. inr (h .0, ⊎-elim inl (λ k. inr (k .0, ⊎-elim (λ x. absurd (reset-sound (x .0))) (λ x. ⊎-elim (λ y. inl (tt, y .1)) (λ y. absurd (y .0 refl)) (x .1)) (k .1))) (h .1))),
   ⊎-elim inl (λ h. inr (h .0, ⊎-elim inl (λ k. inr (k .0, inr (reset-sound, ⊎-elim (λ y. inl (refl, y .1)) (λ y. absurd (y .0 tt)) (k .1)))) (h .1))),
 )
@@ -67,8 +68,8 @@ pub reset-leaves : ResetLeaves
 unfolding resetState
 reset-leaves = record {
   state = record { channels = λ b. rw (reset-blank b) blank-idle; last = refl; control = refl; up = refl; system = refl; io = refl; third = refl };
-  attention = λ m channel n. Iff·trans (given-exactly resetState m channel n) (thirteen m n);
-  step = λ m lines n. Iff·trans (number-given resetState m lines n) (thirteen m n);
+  attention = λ m channel n. Iff·trans (given-exactly resetState m channel n) (thirteen (NoChannel channel) m n (orderChecks resetState m channel));
+  step = λ m lines n. Iff·trans (number-given resetState m lines n) (thirteen (LinesOver lines) m n (check 1 (NoneRuns resetState lines) ∷ chosenChecks (choiceOf resetState lines) resetState m));
 }
 
 -- ---- power-up
@@ -128,9 +129,6 @@ last-alike k n q = (
   ⊎-elim (λ h. inl (q .0 (h .0), h .1)) (λ h. inr ((λ b. h .0 (q .1 b)), h .1)),
   ⊎-elim (λ h. inl (q .1 (h .0), h .1)) (λ h. inr ((λ a. h .0 (q .0 a)), h .1)),
 )
-
-later-alike : {A : Type 0} {G H : Type 0} {n k : ℕ} → (G ↔ H) → ((A × (n ≡ k)) ⊎ (¬ A × G)) ↔ ((A × (n ≡ k)) ⊎ (¬ A × H))
-later-alike q = (⊎-elim inl (λ h. inr (h .0, q .0 (h .1))), ⊎-elim inl (λ h. inr (h .0, q .1 (h .1))))
 
 found-channels : (m : Buffers) (b : Bool) → channelOf (foundState m) b ≡ idleChannel
 unfolding foundState channelOf

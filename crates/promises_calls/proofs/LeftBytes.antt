@@ -19,12 +19,12 @@ use Rattle.ground_rules.specs.Choice.{pick}
 use Rattle.ground_rules.specs.Outcomes.{Outcome}
 use Rattle.ground_rules.specs.States.{resetState, freshState, freshOf, idleChannel, sound, agree}
 use Rattle.ground_rules.specs.declared.Made.{Made as Fresh}
-use Rattle.attention_rules.proofs.Numbers.{attention-most, gives-10}
+use Rattle.attention_rules.proofs.Numbers.{attention-most, number-exactly}
 use Rattle.attention_rules.proofs.PowerNumbers.{power-most, power-number}
 use Rattle.attention_rules.proofs.SoundLaws.{attention-sound}
 use Rattle.attention_rules.specs.Attention.{attentionOf, attentionCount}
 use Rattle.attention_rules.specs.Power.{powerUpOf, powerCount}
-use Rattle.turn_rules.proofs.NumberLaws.{step-most, exactly-10}
+use Rattle.turn_rules.proofs.NumberLaws.{step-most, entry-exactly}
 use Rattle.turn_rules.specs.Step.{stepOf}
 use Rattle.turn_rules.specs.Touched.{stepCount}
 use Rattle.state_rules.proofs.BackLaws.{bytes-are}
@@ -150,7 +150,7 @@ attention-taken κs a r e p left =
     let channel = a .1 .1 .1 .0 in
     let same : r % 256 ≡ attentionOf s m channel .number = ap (λ (o : Service). o .answer % 256) (p .0) ∙ attention-answer (now (a .0)) m channel (calls-made left .0) in (
       subst (λ (n : ℕ). n ≤ 12) (sym same) (made-attends (made-any (calls-made left .1)) m channel),
-      λ z. told-sound s .holds (calls-sound left) (gives-10 s m channel .0 (sym same ∙ z) .1 .1),
+      λ z. told-sound s .holds (calls-sound left) (number-exactly s m channel 10 .0 (sym same ∙ z) .1 .1),
     )
 
 -- nor is a step
@@ -162,7 +162,7 @@ step-taken κs a r e p left =
     let lines = a .1 .1 .1 .0 in
     let same : r % 256 ≡ stepOf s m lines .number = ap (λ (o : Service). o .answer % 256) (p .0) ∙ step-answer (now (a .0)) m lines (calls-made left .0) in (
       subst (λ (n : ℕ). n ≤ 12) (sym same) (made-steps (made-any (calls-made left .1)) m lines),
-      λ z. told-sound s .holds (calls-sound left) (exactly-10 s m lines .0 (sym same ∙ z) .1 .1),
+      λ z. told-sound s .holds (calls-sound left) (entry-exactly s m lines 10 refl .0 (sym same ∙ z) .1 .1),
     )
 
 -- ---- one attention, to whatever state

@@ -39,7 +39,7 @@ use Rattle.instruction_rules.specs.Execute.{decodedAt, touchedByInstruction, ex
 use Rattle.transfer_rules.proofs.BlockLaws.{word-narrow, one-moves}
 use Rattle.transfer_rules.proofs.CountLaws.{touched-length as moved-length}
 use Rattle.transfer_rules.proofs.PartLaws.{one-whole}
-use Rattle.transfer_rules.proofs.StepLaws.{exactly-0}
+use Rattle.transfer_rules.proofs.StepLaws.{done-mode}
 use Rattle.transfer_rules.specs.Parts.{Part, Whole, FirstFetch, SecondFetch, FirstStore, SecondStore, partOf}
 use Rattle.transfer_rules.specs.Reads.{dataOf, also}
 use Rattle.transfer_rules.specs.Sides.{source, destination, twoMove, storedSingly}
@@ -144,7 +144,7 @@ module _ (c : Channel) (m : Buffers) where
       after false false z h k = apart (sym k)
 
       thin : (source c) .wide || (destination c) .wide ≡ false
-      thin = after (eqb (c .fields .synchronised) 3) (c .fields .translates) ((source c) .wide || (destination c) .wide) ((exactly-0 c m) .0 e .0) t
+      thin = after (eqb (c .fields .synchronised) 3) (c .fields .translates) ((source c) .wide || (destination c) .wide) (done-mode c m e) t
 
   -- where two bytes move nothing is translated
   untranslated : transferOf c m .number ≡ 0 → twoMove c ≡ true → c .fields .translates ≡ false

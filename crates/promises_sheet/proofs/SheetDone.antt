@@ -16,7 +16,7 @@ use Rattle.ground_rules.specs.Choice.{pick}
 use Rattle.ground_rules.specs.Places.{allTouchable}
 use Rattle.ground_rules.specs.States.{channelOf, blockOf, busyIn}
 use Rattle.ground_rules.specs.declared.State.{State}
-use Rattle.instruction_rules.proofs.NumberLaws.{exactly-3, exactly-4, one-of-four, two-where}
+use Rattle.instruction_rules.proofs.NumberLaws.{number-exactly, one-of-four, two-where}
 use Rattle.instruction_rules.specs.Conditions.{PairBeyond, NoSecondPair}
 use Rattle.instruction_rules.specs.Execute.{decodedAt, Executed}
 use Rattle.instruction_rules.specs.MemoryForms.{secondAt}
@@ -135,9 +135,9 @@ module _ {b : Bool} {s : State} {m : Buffers} {lines r dd aa w op mm : ℕ} (x :
   -- what the pair is refused with
   refuses : (d : Decoded) → decodedAt m (channelOf s b .tp) ≡ d → ¬ (numberOf d ≡ 0) → (stepOf s m lines) .number ≡ numberOf d
   refuses (Instruction shape) e ne = absurd (ne refl)
-  refuses NoInstruction e ne = own ∙ exactly-3 m (channelOf s b) (busyIn (blockOf s b)) .1 (there, inl e)
+  refuses NoInstruction e ne = own ∙ number-exactly m (channelOf s b) (busyIn (blockOf s b)) 3 .1 (there, inl e)
   refuses ControlUsed e ne =
-      own ∙ exactly-4 m (channelOf s b) (busyIn (blockOf s b)) .1 (there, (λ n. eqb-false 4 3 refl (ap numberOf (sym e ∙ n)), e))
+      own ∙ number-exactly m (channelOf s b) (busyIn (blockOf s b)) 4 .1 (there, (λ n. eqb-false 4 3 refl (ap numberOf (sym e ∙ n)), e))
 
   -- what refuses neither itself nor its second pair is done, where its bytes may be touched
   does : numberOf (decodedAt m (channelOf s b .tp)) ≡ 0 → ¬ (NoSecondPair (decodedAt m (channelOf s b .tp)) m (channelOf s b)) → Free b s m lines → PairRan b s m lines r dd aa w op mm
@@ -150,8 +150,8 @@ module _ {b : Bool} {s : State} {m : Buffers} {lines r dd aa w op mm : ℕ} (x :
           ⊎-elim
           (⊎-elim (λ e. e) (λ e. apart (sym free ∙ two-where m c busy .0 e)))
           (⊎-elim
-          (λ e. absurd (⊎-elim (λ n. eqb-false 3 0 refl (sym (ap numberOf n) ∙ z)) (λ h. second (h .1 .1 .1)) (exactly-3 m c busy .0 e .1)))
-          (λ e. absurd (eqb-false 4 0 refl (sym (ap numberOf (exactly-4 m c busy .0 e .1 .1)) ∙ z))))
+          (λ e. absurd (⊎-elim (λ n. eqb-false 3 0 refl (sym (ap numberOf n) ∙ z)) (λ h. second (h .1 .1 .1)) (number-exactly m c busy 3 .0 e .1)))
+          (λ e. absurd (eqb-false 4 0 refl (sym (ap numberOf (number-exactly m c busy 4 .0 e .1 .1)) ∙ z))))
           (one-of-four m c busy)
 
   -- CC used

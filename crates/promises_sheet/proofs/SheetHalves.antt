@@ -31,7 +31,7 @@ use Rattle.turn_rules.specs.Step.{Step, doneStep, instructionStep, settledStep,
 use Rattle.turn_rules.specs.Touched.{touchedIn, touchedByStep, stepCount}
 use Rattle.transfer_rules.proofs.MatchLaws.{low-compared}
 use Rattle.transfer_rules.proofs.PartLaws.{fetch-due, store-due, fetches-two, fetches-word, stores-two, stores-singly, word-stored, singly-stored}
-use Rattle.transfer_rules.proofs.StepLaws.{exactly-0, two-plain}
+use Rattle.transfer_rules.proofs.StepLaws.{done-mode, two-plain}
 use Rattle.transfer_rules.specs.Ends.{meetsTmc, codeIf, larger, endedTP, endedPSW, endedBy}
 use Rattle.transfer_rules.specs.Halves.{wordWith, pairCount, secondCode, secondStored}
 use Rattle.transfer_rules.specs.Parts.{Part, Whole, FirstFetch, SecondFetch, FirstStore, SecondStore, fetchesApart, storesApart, fetchPart, storePart, partOf}
@@ -379,7 +379,7 @@ module _ (b : Bool) (s : State) (m : Buffers) (lines lines′ : ℕ) (v : Halves
   fits = done-fields b s m lines (v .first)
 
   good : badMode c ≡ false
-  good = (exactly-0 c m) .0 (done-number b s m lines (v .first)) .0
+  good = done-mode c m (done-number b s m lines (v .first))
 
   -- the whole move, where the second half takes the first to it
   whole-of : (k : Channel) (n : Buffers) (p : Part) → channelOf s₁ b ≡ k → m₁ ≡ n → partOf k ≡ p

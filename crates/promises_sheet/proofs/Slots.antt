@@ -19,7 +19,7 @@ use Rattle.instruction_rules.specs.Table.{SummaryRow, table}
 use Rattle.instruction_rules.specs.Pairs.{pairOf, meets}
 use Rattle.instruction_rules.specs.Rows.{isControl}
 use Rattle.instruction_rules.specs.declared.Decoded.the-variants.{Instruction, NoInstruction, ControlUsed}
-use Rattle.instruction_rules.proofs.NumberLaws.{exactly-3}
+use Rattle.instruction_rules.proofs.NumberLaws.{number-exactly}
 use Rattle.instruction_rules.specs.Conditions.{PairBeyond}
 use Rattle.instruction_rules.specs.Execute.{Executed, decodedAt, executeOf}
 use Rattle.instruction_rules.specs.Operands.{bytesAt}
@@ -185,7 +185,7 @@ pair-refused b s m lines r h =
     let x = executeOf c (busyIn (blockOf s b)) m in
     ap (λ (o : Step). o .number) (turn-executes b s m lines (r .turn) (r .program))
     ∙ settled-number (x .number) s m b (x .channel) (x .memory) Kind.Instruction
-    ∙ exactly-3 m c (busyIn (blockOf s b)) .1 (pair-within m c (r .space), inl (pair-none m (c .tp) (r .space) h))
+    ∙ number-exactly m c (busyIn (blockOf s b)) 3 .1 (pair-within m c (r .space), inl (pair-none m (c .tp) (r .space) h))
 
 -- ---- the promises
 

@@ -9,7 +9,7 @@ use Rattle.ground_rules.specs.Buffers.{buffers, spaceOf, limitOf, indexOf, lent
 use Rattle.ground_rules.specs.States.{boardWith, channelOf, withChannel, withLast, soundChannel, sound, isRunning, fieldsAgree, agree}
 use Rattle.ground_rules.specs.{Cc.split, Cc.sameFlag, Cc.sameFields, Outcomes.unless, Outcomes.first, Outcomes.givenNumber, Psw.withPsw, Stages.stagesNumber}
 use Rattle.ground_rules.specs.{Updates.withTransfer, Bits.fieldOf, Bits.bitOf, Bits.withBit, Compare.matchOf, Places.allPass, Values.pointer, Values.onward}
-use Rattle.attention_rules.proofs.Numbers.{gives-12}
+use Rattle.attention_rules.proofs.Numbers.{number-exactly}
 use Rattle.transfer_rules.specs.{Ends.meetsTmc, Ends.codeIf, Ends.larger, Ends.offsetOf, Ends.endedTP, Ends.endedPSW, Ends.endedBy, Halves.wordWith, Halves.secondStored, Parts.fetchesApart, Parts.storesApart, Parts.fetchPart, Parts.storePart, Parts.partOf}
 use Rattle.transfer_rules.specs.Stores.{movedChannel, movedMemory, firstMeets, matchMet, cutShort, storesTwo, bytesStored, bytesMoved, bytesCounted, countAfter, endCode, movedBy, putOn, placesOn, storedPlaces}
 use Rattle.transfer_rules.specs.Reads.{fetched, fetchedSecond, entryOf, delivered, dataOf, also, readPlaces}
@@ -81,7 +81,7 @@ two-halves = refl
 -- an attention to channel 3 counts over all and for neither channel
 third-channel : (p : Bench) → reportOf p (row 1 3 ∷ []) ≡ 0 ∷ 1 ∷ replicate 14 0
 unfolding countsOpen
-third-channel p = rw (gives-12 (p .state) (p .memory) 3 .1 (λ e. absurd (omega arith), λ e. absurd (omega arith)))
+third-channel p = rw (number-exactly (p .state) (p .memory) 3 12 .1 (λ e. absurd (omega arith), λ e. absurd (omega arith)))
 
 -- a row of kind 3 behind one that could have run: nothing is run, and nothing counted
 unknown-last : scheduleOf fetches (row 2 1 ∷ row 3 1 ∷ []) ≡ record { number = 16; bench = fetches; report = replicate 16 0 }

@@ -9,7 +9,7 @@ use lib.{ListN.length, ListN.getD, Dec.eqb}
 use Rattle.ground_rules.proofs.ChoiceLaws.{both-left, both-right, and-true, and-false}
 use Rattle.ground_rules.proofs.ConditionLaws.{Told, told-true, told-eqb, told-and, told-or, Says, says-eqb, says-or}
 use Rattle.ground_rules.specs.{Outcomes.Outcome, Choice.pick, States.channelNumber, declared.State.State, Buffers.Buffers}
-use Rattle.attention_rules.{proofs.Outcomes.refused-nothing, specs.Attention.attentionOf, proofs.Numbers.gives-12}
+use Rattle.attention_rules.{proofs.Outcomes.refused-nothing, specs.Attention.attentionOf, proofs.Numbers.number-exactly}
 use Rattle.turn_rules.{proofs.OutcomeLaws.refused, specs.Step.Step, specs.Step.stepOf, proofs.OutcomeLaws.by-step}
 use Rattle.schedule_rules.specs.Counts.{RowCount, overRows, onceIf, acceptedAt, refusedAt, isAttentionTo, attendedAt, rejectedAt, isInstruction, isTransfer}
 use Rattle.schedule_rules.specs.Counts.{isExternal, isDone, doneAt, instructionAt, transferAt, endAt, storedAt, waitAt}
@@ -102,7 +102,7 @@ attention-once s m channel = go (eqb channel 1) refl (eqb channel 2) refl
     go true h true k = absurd (omega (arith, eqb-true channel 1 h, eqb-true channel 2 k))
     go true h false k = omega arith
     go false h true k = omega arith
-    go false h false k = rw (gives-12 s m channel .1 (eqb-false channel 1 h, eqb-false channel 2 k))
+    go false h false k = rw (number-exactly s m channel 12 .1 (eqb-false channel 1 h, eqb-false channel 2 k))
 
 -- a step is an instruction, a transfer step or an external end of a channel
 abbrev workOf : Bool → Step → ℕ

@@ -4,15 +4,14 @@ use mathlib.Core.Bool.{Bool, true, false, _&&_, _||_}
 use mathlib.Core.{List.List, List.[], List._∷_, List._++_, List.map, Logic._↔_, Path._≡_, Path.refl, Path.sym, Path.ap, Path.ap₂, Path._∙_}
 use Prim.Native.Nat.{ℕ, _+_, _*_, _≤_}
 use native.Mathlib.Omega.{arith}
-use borrow.Author.Tests.{eqb-false}
 use lib.{Dec.ltb, ListN.length, ListN.getD, ListN.replicate, ListN.take, ListN.drop}
-use Rattle.ground_rules.proofs.{ConditionLaws.told-exactly, ChoiceLaws.both-left, ChoiceLaws.both-right}
-use Rattle.ground_rules.specs.{States.channelOf, Choice.pick}
+use Rattle.ground_rules.proofs.{ConditionLaws.told-exactly, ConditionLaws.picked, ConditionLaws.rewritten, ConditionLaws.worded, ChoiceLaws.both-left, ChoiceLaws.both-right}
+use Rattle.ground_rules.specs.{Conditions.Given, States.channelOf, Choice.pick}
 use Rattle.turn_rules.specs.{Choosing.requested, declared.Kind.Kind}
 use Rattle.schedule_rules.specs.Counts.{RowCount, onceIf, overRows, acceptedAt, refusedAt, isAttentionTo, attendedAt, rejectedAt, isInstruction, isTransfer, isExternal, doneAt, instructionAt, transferAt, storedAt, endAt, waitsForDrq, waitAt}
 use Rattle.schedule_rules.specs.Rows.{Bench, isAttention, isStep, allKnown, rowLeft, rowsLeft}
 use Rattle.schedule_rules.specs.Reports.{channelCounts, allCounts, reportOf, bothReports, allRun, noneRun, scheduleOf, putOver}
-use Rattle.schedule_rules.specs.{Conditions.UnknownIn, declared.ScheduleRow.ScheduleRow}
+use Rattle.schedule_rules.specs.{Conditions.UnknownIn, Conditions.scheduleChecks, declared.ScheduleRow.ScheduleRow}
 use Rattle.schedule_rules.proofs.RowLaws.{once-one, accepted-or-refused, attentions-of, accepted-is, told-known, known-cut, left-cut, over-cut}
 use Rattle.schedule_rules.proofs.StoreLaws.{stored-most, stored-two}
 
@@ -28,16 +27,18 @@ pub unknown-stays : (p : Bench) (rows : List ScheduleRow) → UnknownIn rows →
 unfolding scheduleOf
 unknown-stays p rows u = rw (told-exactly (told-known rows) .1 u)
 
+-- its number is that of its check, else 0
+pub schedule-given : (p : Bench) (rows : List ScheduleRow) (n : ℕ) → (scheduleOf p rows .number ≡ n) ↔ Given (scheduleChecks rows) n
+unfolding scheduleOf
+schedule-given p rows n = rewritten (chain (allKnown rows)) (picked 16 (told-known rows) (sym, sym))
+  where
+    chain : (b : Bool) → pick b (allRun p rows) (noneRun p) .number ≡ pick b 0 16
+    chain true = refl
+    chain false = refl
+
 -- 16 is given exactly then
 pub gives-16 : (p : Bench) (rows : List ScheduleRow) → (scheduleOf p rows .number ≡ 16) ↔ UnknownIn rows
-unfolding scheduleOf
-gives-16 p rows = (
-  elim (allKnown rows) as (λ b. (b ≡ false → UnknownIn rows) → pick b (allRun p rows) (noneRun p) .number ≡ 16 → UnknownIn rows) [
-    | true ↦ λ h e. absurd (eqb-false 0 16 refl e)
-    | false ↦ λ h e. h refl
-  ] (told-exactly (told-known rows) .0),
-  λ u. rw (told-exactly (told-known rows) .1 u),
-)
+gives-16 p rows = worded (scheduleChecks rows) 16 (schedule-given p rows 16)
 
 -- no row leaves everything and counts nothing
 pub none-given : (p : Bench) → scheduleOf p [] ≡ record { number = 0; bench = p; report = replicate 16 0 }

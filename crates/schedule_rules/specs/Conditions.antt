@@ -1,7 +1,7 @@
 -- When 16 is given, and when a row counts for a channel: as an attention, as a done step, as one that found it waiting for its DRQ.
 use mathlib.Core.{Bool.Bool, Bool.true, Bool.false, List.List, List.[], List._∷_, Logic._⊎_, Path._≡_}
 use Prim.Native.Nat.{_<_}
-use Rattle.ground_rules.specs.{Psw.transferring, States.channelOf, States.channelNumber, declared.Mode.the-variants.Running}
+use Rattle.ground_rules.specs.{Conditions.Check, Conditions.check, Psw.transferring, States.channelOf, States.channelNumber, declared.Mode.the-variants.Running}
 use Rattle.turn_rules.specs.{Choosing.requested, Step.stepOf, declared.Kind.Kind}
 use Rattle.schedule_rules.specs.{Rows.Bench, declared.ScheduleRow.ScheduleRow}
 
@@ -9,6 +9,10 @@ use Rattle.schedule_rules.specs.{Rows.Bench, declared.ScheduleRow.Schedu
 abbrev pub UnknownIn : List ScheduleRow → Type 0
 UnknownIn [] = ⊥
 UnknownIn (r ∷ rows) = (¬ (r .kind ≡ 1) × ¬ (r .kind ≡ 2)) ⊎ UnknownIn rows
+
+-- the one check of a schedule
+abbrev pub scheduleChecks : List ScheduleRow → List Check
+scheduleChecks rows = check 16 (UnknownIn rows) ∷ []
 
 -- a row of kind 1 whose value is the channel's number
 abbrev pub AttentionRow : Bool → ScheduleRow → Type 0

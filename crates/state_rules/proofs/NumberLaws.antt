@@ -5,12 +5,12 @@ use lib.Dec.{eqb, ltb}
 use lib.ListN.{length, getD}
 use mathlib.Core.Bool.{and-assoc, Bool, true, false}
 use mathlib.Core.List.{List}
-use mathlib.Core.Logic.{_⊎_, _↔_, inl, inr, ⊎-elim}
+use mathlib.Core.Logic.{_⊎_, _↔_}
 use mathlib.Core.Path.{_≡_, refl, sym, _∙_}
 use native.Mathlib.Omega.{arith}
 use Rattle.ground_rules.specs.Choice.{pick}
 use Rattle.ground_rules.specs.Buffers.{Buffers}
-use Rattle.ground_rules.proofs.ConditionLaws.{Told, told-and, told-or, told-eqb, told-ltb, told-leb, last, rewritten}
+use Rattle.ground_rules.proofs.ConditionLaws.{Told, told-and, told-or, told-eqb, told-ltb, told-leb, picked, last, rewritten, worded, first-largest}
 use Rattle.ground_rules.specs.Conditions.{Given}
 use Rattle.ground_rules.specs.Holdings.{isHeldNumber}
 use Rattle.ground_rules.specs.Outcomes.{unless}
@@ -20,7 +20,8 @@ use Rattle.attention_rules.proofs.Numbers.{given-exactly, attention-most}
 use Rattle.attention_rules.specs.Attention.{attentionOf, attentionCount}
 use Rattle.attention_rules.proofs.PowerNumbers.{power-given, power-most}
 use Rattle.attention_rules.specs.Power.{powerUpOf, powerCount}
-use Rattle.turn_rules.proofs.NumberLaws.{number-given, step-most}
+use Rattle.turn_rules.proofs.NumberLaws.{number-given, step-few, step-most}
+use Rattle.turn_rules.specs.Conditions.{stepChecks}
 use Rattle.turn_rules.specs.Step.{stepOf}
 use Rattle.turn_rules.specs.Touched.{stepCount}
 use Rattle.sweep_rules.proofs.ConditionLaws.{sweep-given}
@@ -116,15 +117,9 @@ told-state b =
     (told-and (told-board b)
     (told-and (told-block b firstAt) (told-block b secondFrom))))))
 
--- a number that is 17 for bytes that are no state, and below 256 otherwise
+-- a number that is 17 for bytes that are no state, and the call's otherwise
 pub told-17 : {A Q : Type 0} (ok : Bool) (n number answer : ℕ) → Told ok A → answer ≡ pick ok number 17 → (number ≡ n ↔ Q) → (answer ≡ n) ↔ ((A × (n ≡ 17)) ⊎ (¬ A × Q))
-told-17 true n number answer t e q = (λ h. inr (t .holds refl, q .0 (sym e ∙ h)), ⊎-elim (λ h. absurd (t .holds refl (h .0))) (λ h. e ∙ q .1 (h .1)))
-told-17 false n number answer t e q = (λ h. inl (t .fails refl, sym h ∙ e), ⊎-elim (λ h. e ∙ sym (h .1)) (λ h. absurd (h .0 (t .fails refl))))
-
--- 17 itself, where the other numbers are below it
-pub exactly-17 : {A : Type 0} (ok : Bool) (number answer : ℕ) → Told ok A → answer ≡ pick ok number 17 → number ≤ 16 → (answer ≡ 17) ↔ A
-exactly-17 true number answer t e small = (λ h. absurd (let f : answer ≡ number = e in omega arith), λ h. absurd (t .holds refl h))
-exactly-17 false number answer t e small = (λ h. t .fails refl, λ h. e)
+told-17 ok n number answer t e q = rewritten e (picked 17 t q)
 
 -- what a call answers, whether its bytes are a state or not
 answer-number : (ok : Bool) (number channel kind count : ℕ) (bytes b : List ℕ) (m′ m : Buffers) → number ≤ 14
@@ -204,14 +199,10 @@ module _ (b : List ℕ) (m : Buffers) where
 
   -- 17 exactly where the bytes are no state
   pub attention-17 : (channel : ℕ) → (attentionServed b m channel .answer % 256 ≡ 17) ↔ NoState b
-  attention-17 channel =
-      exactly-17 (isState b) (attentionOf (stateIn b) m channel .number) (attentionServed b m channel .answer % 256) (told-state b)
-      (attention-number channel) (omega (arith, attention-most (stateIn b) m channel))
+  attention-17 channel = worded (attentionChecksOn b m channel) 17 (attention-given channel 17)
 
   pub step-17 : (lines : ℕ) → (stepServed b m lines .answer % 256 ≡ 17) ↔ NoState b
-  step-17 lines =
-      exactly-17 (isState b) (stepOf (stateIn b) m lines .number) (stepServed b m lines .answer % 256) (told-state b)
-      (step-number lines) (omega (arith, step-most (stateIn b) m lines))
+  step-17 lines = first-largest 14 17 (stepChecks (stateIn b) m lines) (step-few (stateIn b) m lines) (omega arith) (step-given lines 17)
 
 -- ---- a sweep
 
@@ -239,6 +230,4 @@ module _ (b : List ℕ) (m : Buffers) (channel lines : ℕ) where
       (rewritten (number-is (stateIn b) m channel lines) (sweep-given (stateIn b) m channel lines n))
 
   pub sweep-17 : (sweepServed b m channel lines .answer % 256 ≡ 17) ↔ NoState b
-  sweep-17 =
-      exactly-17 (isState b) (sweepOf (stateIn b) m channel lines .number) (sweepServed b m channel lines .answer % 256) (told-state b) sweep-number
-      (omega (arith, sweep-most))
+  sweep-17 = worded (sweepChecksOn b m channel lines) 17 (sweep-given-on 17)

@@ -5,6 +5,7 @@ use borrow.Author.Tests.{leb-true, leb-false}
 use lib.Dec.{leb, ltb}
 use lib.ListN.{length}
 use mathlib.Core.Bool.{Bool, true, false, not, _&&_}
+use mathlib.Core.List.{[], _∷_}
 use mathlib.Core.Logic.{_↔_}
 use mathlib.Core.Path.{_≡_, refl, sym}
 use native.Mathlib.Omega.{arith}
@@ -14,7 +15,7 @@ use Rattle.ground_rules.specs.declared.Pointer.{Pointer}
 use Rattle.ground_rules.proofs.ConditionLaws.{Told, Says, step, last, told-and, told-or, told-ltb, told-eqb, says-true, says-false, says-eqb, says-running, says-not, says-and, says-or}
 use Rattle.ground_rules.proofs.GivenLaws.{given-chain}
 use Rattle.ground_rules.specs.Cc.{sameFlag}
-use Rattle.ground_rules.specs.Conditions.{Given}
+use Rattle.ground_rules.specs.Conditions.{check, Given}
 use Rattle.ground_rules.specs.Psw.{transferring}
 use Rattle.ground_rules.specs.States.{channelOf, isChannel, isSecond}
 use Rattle.ground_rules.specs.declared.Fields.{Fields}
@@ -121,4 +122,4 @@ pub sweep-given : (s : State) (m : Buffers) (channel lines n : ℕ) → (sweepNu
 unfolding sweepNumber
 sweep-given s m channel lines n =
     step 12 refl (told-call channel lines)
-    (given-chain s m (last n 15 refl (told-says (says-sweepable s m (isSecond channel) lines))))
+    (given-chain s m (check 15 (¬ (Sweepable s m (isSecond channel) lines)) ∷ []) (last n 15 refl (told-says (says-sweepable s m (isSecond channel) lines))))

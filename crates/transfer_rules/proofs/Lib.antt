@@ -3,6 +3,7 @@ pub mod PartLaws
 pub mod MatchLaws
 pub mod LeftoverLaws
 pub mod StepLaws
+pub mod NumberLaws
 pub mod CountLaws
 pub mod KeptLaws
 pub mod BlockLaws

@@ -1,4 +1,4 @@
--- The outcome of a transfer step: it is unique, each number comes exactly under its own condition, and a refused step changes nothing.
+-- The outcome of a transfer step: it is unique, its three cases, 2 by the bytes that it would touch, and a refused step changes nothing.
 -- Assumes nothing.
 use borrow.Author.Tests.{eqb-false}
 use Prim.Native.Nat.{ℕ, zero, suc}
@@ -20,7 +20,7 @@ use Rattle.ground_rules.specs.Bits.{bitOf}
 use Rattle.ground_rules.proofs.ChoiceLaws.{apart}
 use Rattle.transfer_rules.specs.Ends.{externallyEnded}
 use Rattle.transfer_rules.specs.Parts.{Part, partOf}
-use Rattle.transfer_rules.specs.Steps.{Transfer, transferred, touchedBy, touchedByTransfer, channelBy, memoryBy, badMode, stagesBy, numberBy, stepBy, countBy, transferStages, TransferGiven5, TransferGiven2, TransferGiven0, transferNumber, transferOf}
+use Rattle.transfer_rules.specs.Steps.{Transfer, transferred, touchedBy, touchedByTransfer, channelBy, memoryBy, badMode, stagesBy, numberBy, stepBy, countBy, transferStages, transferNumber, transferOf}
 use Rattle.transfer_rules.specs.Sides.{source, destination, wordSide, countOn, twoMove}
 
 -- no two outcomes meet the contract of a transfer step
@@ -99,9 +99,9 @@ number-is c m = go (numberBy (partOf c) c m)
 
 -- its three cases: what holds of each outcome under its condition holds of the step
 pub by-number : (c : Channel) (m : Buffers) (P : Transfer → Type 0)
-    → (TransferGiven5 c → P (transferred 5 c m))
-    → (TransferGiven2 c m → P (transferred 2 c m))
-    → (TransferGiven0 c m → P (transferred 0 (channelBy (partOf c) c m) (memoryBy (partOf c) c m)))
+    → (badMode c ≡ true → P (transferred 5 c m))
+    → ((badMode c ≡ false) × (allTouchable m (touchedByTransfer c m) ≡ false) → P (transferred 2 c m))
+    → ((badMode c ≡ false) × (allTouchable m (touchedByTransfer c m) ≡ true) → P (transferred 0 (channelBy (partOf c) c m) (memoryBy (partOf c) c m)))
     → P (transferOf c m)
 unfolding transferOf touchedByTransfer
 by-number c m P p5 p2 p0 = go (badMode c) refl (allTouchable m (touchedByTransfer c m)) refl
@@ -111,17 +111,7 @@ by-number c m P p5 p2 p0 = go (badMode c) refl (allTouchable m (touchedByTransfe
     go false h false e = rw (outcome-2 (partOf c) c m h e) (p2 (h, e))
     go false h true e = rw (outcome-0 (partOf c) c m h e) (p0 (h, e))
 
--- the number is 5 exactly for a bad mode
-pub exactly-5 : (c : Channel) (m : Buffers) → (transferOf c m) .number ≡ 5 ↔ TransferGiven5 c
-unfolding transferOf
-exactly-5 c m = (by-number c m (λ o. o .number ≡ 5 → TransferGiven5 c) (λ g e. g) (λ g e. absurd (eqb-false 2 5 refl e)) (λ g e. absurd (eqb-false 0 5 refl e)), λ g. ap (λ (o : Transfer). o .number) (outcome-5 (partOf c) c m g))
-
--- it is 2 exactly where the mode is right and a byte to be read or stored is of system space and beyond lent memory
-pub exactly-2 : (c : Channel) (m : Buffers) → (transferOf c m) .number ≡ 2 ↔ TransferGiven2 c m
-unfolding transferOf touchedByTransfer
-exactly-2 c m = (by-number c m (λ o. o .number ≡ 2 → TransferGiven2 c m) (λ g e. absurd (eqb-false 5 2 refl e)) (λ g e. g) (λ g e. absurd (eqb-false 0 2 refl e)), λ g. ap (λ (o : Transfer). o .number) (outcome-2 (partOf c) c m (g .0) (g .1)))
-
--- that is, exactly where a byte that the step would touch, up to the stage where it stops, may not be touched
+-- the number is 2 exactly where a byte that the step would touch, up to the stage where it stops, may not be touched
 pub two-touched : (c : Channel) (m : Buffers) → (transferNumber c m ≡ 2) ↔ (allTouchable m (stagesTouched (transferStages c m)) ≡ false)
 unfolding transferNumber numberBy transferStages stagesBy unless
 two-touched c m = two-exactly m (transferStages c m) (other (badMode c), (refl, tt))
@@ -130,16 +120,16 @@ two-touched c m = two-exactly m (transferStages c m) (other (badMode c), (refl, 
     other true = refl
     other false = refl
 
--- it is 0 exactly where neither holds
-pub exactly-0 : (c : Channel) (m : Buffers) → (transferOf c m) .number ≡ 0 ↔ TransferGiven0 c m
-unfolding transferOf touchedByTransfer
-exactly-0 c m = (by-number c m (λ o. o .number ≡ 0 → TransferGiven0 c m) (λ g e. absurd (eqb-false 5 0 refl e)) (λ g e. absurd (eqb-false 2 0 refl e)) (λ g e. g), λ g. ap (λ (o : Transfer). o .number) (outcome-0 (partOf c) c m (g .0) (g .1)))
-
 -- a refused step is the given channel and memories
 pub refused : (c : Channel) (m : Buffers) → ((transferOf c m) .number ≡ 0 → ⊥) → transferOf c m ≡ transferred ((transferOf c m) .number) c m
 refused c m = by-number c m (λ o. (o .number ≡ 0 → ⊥) → o ≡ transferred (o .number) c m) (λ g ne. refl) (λ g ne. refl) (λ g ne. absurd (ne refl))
 
 -- a step that is not refused is what it does
 pub done : (c : Channel) (m : Buffers) → (transferOf c m) .number ≡ 0 → transferOf c m ≡ transferred 0 (channelBy (partOf c) c m) (memoryBy (partOf c) c m)
-unfolding transferOf touchedByTransfer
-done c m e = let g : TransferGiven0 c m = (exactly-0 c m) .0 e in outcome-0 (partOf c) c m (g .0) (g .1)
+done c m =
+    by-number c m (λ o. o .number ≡ 0 → o ≡ transferred 0 (channelBy (partOf c) c m) (memoryBy (partOf c) c m))
+    (λ g e. absurd (eqb-false 5 0 refl e)) (λ g e. absurd (eqb-false 2 0 refl e)) (λ g e. refl)
+
+-- and its mode is none that is refused
+pub done-mode : (c : Channel) (m : Buffers) → (transferOf c m) .number ≡ 0 → badMode c ≡ false
+done-mode c m = by-number c m (λ o. o .number ≡ 0 → badMode c ≡ false) (λ g e. absurd (eqb-false 5 0 refl e)) (λ g e. absurd (eqb-false 2 0 refl e)) (λ g e. g .0)

@@ -5,3 +5,4 @@ pub mod Ends
 pub mod Stores
 pub mod Halves
 pub mod Steps
+pub mod Conditions

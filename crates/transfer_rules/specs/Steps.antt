@@ -1,12 +1,11 @@
 -- One transfer step of a channel: the bytes it touches, its refusals and its outcome (§7).
-use mathlib.Core.Bool.{Bool, true, false, not, _&&_, _||_}
+use mathlib.Core.Bool.{Bool, true, not, _&&_, _||_}
 use mathlib.Core.List.{List, [], _∷_, _++_}
-use mathlib.Core.Path.{_≡_}
 use Prim.Native.Nat.{ℕ, _+_}
 use lib.Dec.{eqb}
 use Rattle.ground_rules.specs.Choice.{pick}
 use Rattle.ground_rules.specs.Buffers.{Buffers, storeByte}
-use Rattle.ground_rules.specs.Places.{Place, allTouchable}
+use Rattle.ground_rules.specs.Places.{Place}
 use Rattle.ground_rules.specs.declared.Channel.{Channel}
 use Rattle.ground_rules.specs.Outcomes.{unless, counted}
 use Rattle.ground_rules.specs.Stages.{Stage, stage, stagesNumber}
@@ -102,15 +101,3 @@ transferOf c m = stepBy (partOf c) c m
 
 unfoldable pub transferCount : Channel → Buffers → ℕ
 transferCount c m = counted (transferOf c m .number) (touchedByTransfer c m)
-
--- when 5 is given: a bad mode
-abbrev pub TransferGiven5 : Channel → Type 0
-TransferGiven5 c = badMode c ≡ true
-
--- when 2 is given: no bad mode, and a byte that the step would touch may not be touched
-abbrev pub TransferGiven2 : Channel → Buffers → Type 0
-TransferGiven2 c m = (badMode c ≡ false) × (allTouchable m (touchedByTransfer c m) ≡ false)
-
--- when 0 is given: neither
-abbrev pub TransferGiven0 : Channel → Buffers → Type 0
-TransferGiven0 c m = (badMode c ≡ false) × (allTouchable m (touchedByTransfer c m) ≡ true)

@@ -19,7 +19,7 @@ use Rattle.ground_rules.specs.Choice.{pick}
 use Rattle.turn_rules.specs.Choosing.{choiceOf}
 use Rattle.turn_rules.specs.declared.Choice.{Choice}
 use Rattle.turn_rules.specs.declared.Choice.the-variants.{Nobody, Ends, Steps}
-use Rattle.turn_rules.specs.Conditions.{OnEnd, OnTransfer, OnInstruction}
+use Rattle.turn_rules.specs.Conditions.{ByChoice}
 use Rattle.turn_rules.specs.Step.{Step, refusedStep, doneStep, settledStep, transferStep, instructionStep, externalStep, channelStep, chosenStep, entryNumber, stepOf}
 use Rattle.turn_rules.specs.declared.Kind.{Kind}
 use Rattle.turn_rules.specs.declared.Kind.the-variants.{Transfer, Instruction, External}
@@ -77,19 +77,21 @@ refused s m lines =
 
 -- a done step is of the channel that was chosen, and its kind is what that channel did
 pub done : (s : State) (m : Buffers) (lines : ℕ) → (stepOf s m lines) .number ≡ 0
-    → OnEnd (choiceOf s lines) s (λ b. stepOf s m lines ≡ doneStep s b (externallyEnded (channelOf s b)) m External)
-    ⊎ (OnTransfer (choiceOf s lines) s (λ b. stepOf s m lines ≡ doneStep s b ((transferOf (channelOf s b) m) .channel) ((transferOf (channelOf s b) m) .memory) Transfer)
-    ⊎ OnInstruction (choiceOf s lines) s (λ b. stepOf s m lines ≡ doneStep s b ((executeOf (channelOf s b) (busyIn (blockOf s b)) m) .channel) ((executeOf (channelOf s b) (busyIn (blockOf s b)) m) .memory) Instruction))
+    → ByChoice (choiceOf s lines) s
+    (λ b. stepOf s m lines ≡ doneStep s b (externallyEnded (channelOf s b)) m External)
+    (λ b. stepOf s m lines ≡ doneStep s b ((transferOf (channelOf s b) m) .channel) ((transferOf (channelOf s b) m) .memory) Transfer)
+    (λ b. stepOf s m lines ≡ doneStep s b ((executeOf (channelOf s b) (busyIn (blockOf s b)) m) .channel) ((executeOf (channelOf s b) (busyIn (blockOf s b)) m) .memory) Instruction)
 done s m lines =
     by-step s m lines
     (λ o. o .number ≡ 0
-    → OnEnd (choiceOf s lines) s (λ b. o ≡ doneStep s b (externallyEnded (channelOf s b)) m External)
-    ⊎ (OnTransfer (choiceOf s lines) s (λ b. o ≡ doneStep s b ((transferOf (channelOf s b) m) .channel) ((transferOf (channelOf s b) m) .memory) Transfer)
-    ⊎ OnInstruction (choiceOf s lines) s (λ b. o ≡ doneStep s b ((executeOf (channelOf s b) (busyIn (blockOf s b)) m) .channel) ((executeOf (channelOf s b) (busyIn (blockOf s b)) m) .memory) Instruction)))
+    → ByChoice (choiceOf s lines) s
+    (λ b. o ≡ doneStep s b (externallyEnded (channelOf s b)) m External)
+    (λ b. o ≡ doneStep s b ((transferOf (channelOf s b) m) .channel) ((transferOf (channelOf s b) m) .memory) Transfer)
+    (λ b. o ≡ doneStep s b ((executeOf (channelOf s b) (busyIn (blockOf s b)) m) .channel) ((executeOf (channelOf s b) (busyIn (blockOf s b)) m) .memory) Instruction))
     (λ k ne e. absurd (ne e))
-    (λ b z e h. inl (rw e refl))
-    (λ b z e f h. inr (inl (rw e (f, refl))))
-    (λ b z e f h. inr (inr (rw e (f, refl))))
+    (λ b z e h. rw e refl)
+    (λ b z e f h. rw (e, f) refl)
+    (λ b z e f h. rw (e, f) refl)
 
 -- the number names the channel
 same-name : (a b : Bool) → channelNumber a ≡ channelNumber b → a ≡ b
