@@ -32,6 +32,7 @@ pairs : (x xs y ys : Bool) → x && xs && (y && ys) ≡ x && y && (xs && ys)
 pairs true xs y ys = swap xs y ys
 pairs false xs y ys = refl
 
+-- of five tests each
 in-pairs : (a b c d e a′ b′ c′ d′ e′ : Bool)
     → a && (b && (c && (d && e))) && (a′ && (b′ && (c′ && (d′ && e′)))) ≡ a && a′ && (b && b′ && (c && c′ && (d && d′ && (e && e′))))
 in-pairs a b c d e a′ b′ c′ d′ e′ =
@@ -67,16 +68,19 @@ fields-fit b at =
     (ap (λ (t : Bool). isFlag b at && (isFlag b (at + 1) && (isFlag b (at + 2) && t)))
     (behind-three (isCode b (at + 3) 4) (isFlag b (at + 4)) (isFlag b (at + 5)) (isFlag b (at + 6)) (isCode b (at + 7) 4 && (isCode b (at + 8) 4 && isCode b (at + 9) 8))))
 
--- a block's truth values, and its TMC, its mode and what it holds
+-- a block's tags, its armed mark and its flags of CC are truth values
 abbrev truths : List ℕ → ℕ → Bool
 truths b at = tagsFit b at && flagsFit b (at + fieldsPlace)
 
+-- its TMC has three bits
 abbrev eight : List ℕ → ℕ → Bool
 eight b at = isCode b (at + fieldsPlace + matchPlace) 8
 
+-- its mode is one
 abbrev mode : List ℕ → ℕ → Bool
 mode b at = isMode b (at + modePlace)
 
+-- a number stands for what it holds
 abbrev held : List ℕ → ℕ → Bool
 held b at = isHeldNumber (littleIn 2 b (at + heldPlace))
 

@@ -14,7 +14,7 @@ use Rattle.ground_rules.specs.declared.Board.{Board}
 use Rattle.ground_rules.specs.declared.Channel.{Channel}
 use Rattle.ground_rules.specs.declared.Fields.{Fields}
 use Rattle.ground_rules.specs.declared.State.{State}
-use Rattle.state_rules.specs.Tables.{PartForm, numberForm, byteForm, codeForm, flagForm, modeForm, heldForm, markForm, TableRow, rowFor, widthBy, placeOf, bytesBy, madeBy, areBy, formBy}
+use Rattle.state_rules.specs.Tables.{PartForm, numberForm, byteForm, codeForm, flagForm, modeForm, heldForm, markForm, TableRow, rowFor, widthBy, partPlace, bytesBy, madeBy, areBy, formBy}
 
 -- ---- a pointer
 
@@ -66,7 +66,7 @@ fieldsRows = sidesRows ++ endsRows
 
 -- where TMC lies among them
 abbrev pub matchPlace : ℕ
-matchPlace = placeOf 9 fieldsRows
+matchPlace = partPlace 9 fieldsRows
 
 -- the bytes of the first
 unfoldable pub sidesBytes : Fields → List ℕ
@@ -147,11 +147,11 @@ channelRows = frontRows ++ (rowFor (λ c. c .fields) fieldsForm ∷ rowFor (λ c
 
 -- where CC lies in it
 abbrev pub ccPlace : ℕ
-ccPlace = placeOf 7 channelRows
+ccPlace = partPlace 7 channelRows
 
 -- where the mode lies
 abbrev pub modePlace : ℕ
-modePlace = placeOf 10 channelRows
+modePlace = partPlace 10 channelRows
 
 -- where the fields of CC start
 abbrev pub fieldsPlace : ℕ
@@ -159,7 +159,7 @@ fieldsPlace = widthBy frontRows
 
 -- where the number of what is held starts
 abbrev pub heldPlace : ℕ
-heldPlace = placeOf 13 channelRows
+heldPlace = partPlace 13 channelRows
 
 -- the bytes of its pointers
 unfoldable pub pointersBytes : Channel → List ℕ
@@ -251,19 +251,19 @@ stateRows =
 
 -- where it is told which channel stepped last
 abbrev pub lastPlace : ℕ
-lastPlace = placeOf 2 stateRows
+lastPlace = partPlace 2 stateRows
 
 -- where what the board set up starts
 abbrev pub boardPlace : ℕ
-boardPlace = placeOf 3 stateRows
+boardPlace = partPlace 3 stateRows
 
 -- where the block of channel 1 starts
 abbrev pub firstAt : ℕ
-firstAt = placeOf 4 stateRows
+firstAt = partPlace 4 stateRows
 
 -- where the block of channel 2 starts
 abbrev pub secondFrom : ℕ
-secondFrom = placeOf 5 stateRows
+secondFrom = partPlace 5 stateRows
 
 -- how many bytes a state has
 abbrev pub stateLength : ℕ

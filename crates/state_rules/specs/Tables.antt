@@ -119,8 +119,8 @@ NoneBy [] b at k = ⊥
 NoneBy (r ∷ rs) b at k = r .form .No b (placeFrom at k) ⊎ NoneBy rs b at (k + r .form .width)
 
 -- where the part that stands behind so many others lies
-abbrev pub placeOf : {A : Type 0} → ℕ → List (TableRow A) → ℕ
-placeOf n rows = widthBy (take n rows)
+abbrev pub partPlace : {A : Type 0} → ℕ → List (TableRow A) → ℕ
+partPlace n rows = widthBy (take n rows)
 
 -- the form of a record, for a table that has it as a part: its bytes, what they stand for and the test of them, each by the record's own table
 abbrev pub formBy : {A : Type 0} → List (TableRow A) → (A → List ℕ) → (List ℕ → ℕ → A) → (List ℕ → ℕ → Bool) → PartForm A
