@@ -13,6 +13,7 @@ use native.Mathlib.Nat.{add-zero}
 use native.Mathlib.Omega.{arith}
 use Rattle.ground_rules.proofs.ConditionLaws.{Told, told-true, told-ltb, told-leb, told-eqb, told-and, told-or}
 use Rattle.ground_rules.proofs.HoldingLaws.{HeldFits, held-back, held-stands, number-back}
+use Rattle.ground_rules.specs.Choice.{pick}
 use Rattle.ground_rules.specs.Holdings.{heldNumber, heldFrom, isHeldNumber}
 use Rattle.ground_rules.specs.States.{boardWith}
 use Rattle.ground_rules.specs.Values.{pointer}
@@ -23,23 +24,13 @@ use Rattle.ground_rules.specs.declared.Held.{Held}
 use Rattle.ground_rules.specs.declared.Mode.{Mode}
 use Rattle.ground_rules.specs.declared.Mode.the-variants.{Idle, Running, Suspended}
 use Rattle.ground_rules.specs.declared.Pointer.{Pointer}
-use Rattle.state_rules.specs.Fields.{littleEnd, littleIn, flagOf, flagIn, isFlag, NoFlag, modeByte, modeIn, isMode, NoMode, isCode, PastWidth, NoHeld}
+use Rattle.state_rules.specs.Fields.{littleEnd, littleIn, flagOf, flagIn, isFlag, modeByte, modeIn, isMode, isCode, NoHeld}
 use Rattle.state_rules.specs.Tables.{numberForm, byteForm, codeForm, flagForm, modeForm, heldForm, markForm}
 use Rattle.state_rules.specs.Layout.{pointerRows, pointerBytes, pointerIn, isPointerAt, pointerForm, fieldsRows, fieldsBytes, fieldsIn, fieldsFromParts, isFields, fieldsForm, channelRows, channelBytes, channelIn, channelFromParts, isBlock, channelForm, boardRows, boardBytes, boardForm, stateRows, version}
 use Rattle.state_rules.proofs.HeldLaws.{held-small}
 use Rattle.state_rules.proofs.LengthLaws.{length-little}
 use Rattle.state_rules.proofs.LittleLaws.{little-behind, little-back, little-forth}
 use Rattle.state_rules.proofs.TableLaws.{cutFrom, Lawful, LawfulRows, tabled}
-
--- ---- one byte
-
--- the byte behind others is the one that was put there
-pub byte-behind : (xs rest : List ℕ) (n at : ℕ) → at ≡ length xs → getD (xs ++ (n ∷ rest)) at 0 ≡ n
-byte-behind xs rest n at e = ap (λ (k : ℕ). getD (xs ++ (n ∷ rest)) k 0) (e ∙ sym (add-zero (length xs))) ∙ getD-append-add xs (n ∷ rest) 0 0
-
--- a byte that was read is the part of one byte there
-pub byte-forth : (b : List ℕ) (at : ℕ) → at + 1 ≤ length b → getD b at 0 ∷ [] ≡ cutFrom b at 1
-byte-forth b at h = let inside : at < length b = omega arith in rw (drop-cons b at 0 inside)
 
 -- ---- numbers
 
@@ -61,132 +52,96 @@ number-lawful width = record {
   coded = λ b at. inl refl;
 }
 
+-- ---- forms of one byte
+
+-- the byte behind others is the one that was put there
+pub byte-behind : (xs rest : List ℕ) (n at : ℕ) → at ≡ length xs → getD (xs ++ (n ∷ rest)) at 0 ≡ n
+byte-behind xs rest n at e = ap (λ (k : ℕ). getD (xs ++ (n ∷ rest)) k 0) (e ∙ sym (add-zero (length xs))) ∙ getD-append-add xs (n ∷ rest) 0 0
+
+-- a byte that was read is the part of one byte there
+pub byte-forth : (b : List ℕ) (at : ℕ) → at + 1 ≤ length b → getD b at 0 ∷ [] ≡ cutFrom b at 1
+byte-forth b at h = let inside : at < length b = omega arith in rw (drop-cons b at 0 inside)
+
+-- one in which a value is a number, and a number a value, is lawful where the two come back from one another
+abbrev pub one-byte : {A : Type 0} (values : ℕ) (code : A → ℕ) (decode : ℕ → A) (test : ℕ → Bool) (Past : ℕ → Type 0) (Ranges : A → Type 0)
+    → ((a : A) → decode (code a) ≡ a)
+    → ((a : A) → Ranges a → test (code a) ≡ true)
+    → ((n : ℕ) → test n ≡ true → code (decode n) ≡ n)
+    → ((n : ℕ) → Told (test n) (Past n))
+    → ((n : ℕ) → (values ≡ 0) ⊎ (test n ≡ ltb n values))
+    → Lawful A (record { width = 1; values = values; bytes = λ a. code a ∷ []; value = λ b at. decode (getD b at 0); is = λ b at. test (getD b at 0); No = λ b at. Past (getD b at 0) })
+one-byte values code decode test Past Ranges back ranges forth told coded = record {
+  Fits = λ a. Unit {0};
+  Ranges = Ranges;
+  long = λ a. refl;
+  back = λ a h xs rest at e. ap decode (byte-behind xs rest (code a) at e) ∙ back a;
+  ranges = λ a h xs rest at e. ap test (byte-behind xs rest (code a) at e) ∙ ranges a h;
+  forth = λ b at byte h f. ap (λ (n : ℕ). n ∷ []) (forth (getD b at 0) f) ∙ byte-forth b at h;
+  told = λ b at. told (getD b at 0);
+  coded = λ b at. coded (getD b at 0);
+}
+
 abbrev pub byte-lawful : Lawful ℕ byteForm
-byte-lawful = record {
-  Fits = λ n. Unit {0};
-  Ranges = λ n. Unit {0};
-  long = λ n. refl;
-  back = λ n h xs rest at e. byte-behind xs rest n at e;
-  ranges = λ n h xs rest at e. refl;
-  forth = λ b at byte h f. byte-forth b at h;
-  told = λ b at. told-true (λ h. h);
-  coded = λ b at. inl refl;
-}
+byte-lawful = one-byte 0 (λ n. n) (λ n. n) (λ n. true) (λ n. ⊥) (λ n. Unit {0}) (λ n. refl) (λ n h. refl) (λ n f. refl) (λ n. told-true (λ h. h)) (λ n. inl refl)
 
--- ---- codes
-
-pub code-ranges : (values n : ℕ) → n < values → (xs rest : List ℕ) (at : ℕ) → at ≡ length xs → isCode (xs ++ (n ∷ rest)) at values ≡ true
+unfoldable pub code-lawful : (values : ℕ) → Lawful ℕ (codeForm values)
 unfolding isCode
-code-ranges values n h xs rest at e = rw (byte-behind xs rest n at e) (lt-ltb n values h)
+code-lawful values =
+    one-byte values (λ n. n) (λ n. n) (λ n. ltb n values) (λ n. values ≤ n) (λ n. n < values) (λ n. refl) (λ n h. lt-ltb n values h) (λ n f. refl) (λ n. told-ltb n values) (λ n. inr refl)
 
-pub code-told : (values : ℕ) (b : List ℕ) (at : ℕ) → Told (isCode b at values) (PastWidth b at values)
-unfolding isCode
-code-told values b at = told-ltb (getD b at 0) values
+-- a truth value comes back from its number, which is below two; so does such a number
+pub flag-back : (on : Bool) → eqb (flagOf on) 1 ≡ on
+unfolding flagOf
+flag-back true = refl
+flag-back false = refl
 
-pub code-coded : (values : ℕ) (b : List ℕ) (at : ℕ) → (values ≡ 0) ⊎ (isCode b at values ≡ ltb (getD b at 0) values)
-unfolding isCode
-code-coded values b at = inr refl
+pub flag-is : (on : Bool) → ltb (flagOf on) 2 ≡ true
+unfolding flagOf
+flag-is true = refl
+flag-is false = refl
 
-abbrev pub code-lawful : (values : ℕ) → Lawful ℕ (codeForm values)
-code-lawful values = record {
-  Fits = λ n. Unit {0};
-  Ranges = λ n. n < values;
-  long = λ n. refl;
-  back = λ n h xs rest at e. byte-behind xs rest n at e;
-  ranges = code-ranges values;
-  forth = λ b at byte h f. byte-forth b at h;
-  told = code-told values;
-  coded = code-coded values;
-}
-
--- ---- truth values
-
-pub flag-behind : (on : Bool) (xs rest : List ℕ) (at : ℕ) → at ≡ length xs → flagIn (xs ++ (flagOf on ∷ rest)) at ≡ on
-unfolding flagIn flagOf
-flag-behind true xs rest at e = rw (byte-behind xs rest 1 at e)
-flag-behind false xs rest at e = rw (byte-behind xs rest 0 at e)
-
-pub flag-ranges : (on : Bool) (xs rest : List ℕ) (at : ℕ) → at ≡ length xs → isFlag (xs ++ (flagOf on ∷ rest)) at ≡ true
-unfolding isFlag flagOf
-flag-ranges true xs rest at e = rw (byte-behind xs rest 1 at e)
-flag-ranges false xs rest at e = rw (byte-behind xs rest 0 at e)
-
--- a byte below two is the truth value that it stands for
-flag-number : (n : ℕ) → n < 2 → flagOf (eqb n 1) ≡ n
+pub flag-number : (n : ℕ) → n < 2 → flagOf (eqb n 1) ≡ n
 unfolding flagOf
 flag-number zero h = refl
 flag-number (suc zero) h = refl
 flag-number (suc (suc n)) h = omega arith
 
-pub flag-forth : (b : List ℕ) (at : ℕ) → at + 1 ≤ length b → isFlag b at ≡ true → flagOf (flagIn b at) ∷ [] ≡ cutFrom b at 1
+unfoldable pub flag-lawful : Lawful Bool flagForm
 unfolding flagIn isFlag
-flag-forth b at h f = rw (flag-number (getD b at 0) (ltb-true (getD b at 0) 2 f)) (byte-forth b at h)
+flag-lawful =
+    one-byte 2 flagOf (λ n. eqb n 1) (λ n. ltb n 2) (λ n. 2 ≤ n) (λ on. Unit {0}) flag-back (λ on h. flag-is on) (λ n f. flag-number n (ltb-true n 2 f)) (λ n. told-ltb n 2) (λ n. inr refl)
 
-pub flag-told : (b : List ℕ) (at : ℕ) → Told (isFlag b at) (NoFlag b at)
-unfolding isFlag
-flag-told b at = told-ltb (getD b at 0) 2
+-- a mode comes back from its number, which is below three; so does such a number
+abbrev pub modeOf : ℕ → Mode
+modeOf n = pick (eqb n 0) Idle (pick (eqb n 1) Running Suspended)
 
-pub flag-coded : (b : List ℕ) (at : ℕ) → (_≡_ {A = ℕ} 2 0) ⊎ (isFlag b at ≡ ltb (getD b at 0) 2)
-unfolding isFlag
-flag-coded b at = inr refl
+pub mode-back : (mode : Mode) → modeOf (modeByte mode) ≡ mode
+unfolding modeByte
+mode-back Idle = refl
+mode-back Running = refl
+mode-back Suspended = refl
 
-abbrev pub flag-lawful : Lawful Bool flagForm
-flag-lawful = record {
-  Fits = λ on. Unit {0};
-  Ranges = λ on. Unit {0};
-  long = λ on. refl;
-  back = λ on h. flag-behind on;
-  ranges = λ on h. flag-ranges on;
-  forth = λ b at byte. flag-forth b at;
-  told = flag-told;
-  coded = flag-coded;
-}
+pub mode-is : (mode : Mode) → ltb (modeByte mode) 3 ≡ true
+unfolding modeByte
+mode-is Idle = refl
+mode-is Running = refl
+mode-is Suspended = refl
 
--- ---- modes
+pub mode-number : (n : ℕ) → n < 3 → modeByte (modeOf n) ≡ n
+unfolding modeByte
+mode-number zero h = refl
+mode-number (suc zero) h = refl
+mode-number (suc (suc zero)) h = refl
+mode-number (suc (suc (suc n))) h = omega arith
 
-pub mode-behind : (mode : Mode) (xs rest : List ℕ) (at : ℕ) → at ≡ length xs → modeIn (xs ++ (modeByte mode ∷ rest)) at ≡ mode
-unfolding modeIn modeByte
-mode-behind Idle xs rest at e = rw (byte-behind xs rest 0 at e)
-mode-behind Running xs rest at e = rw (byte-behind xs rest 1 at e)
-mode-behind Suspended xs rest at e = rw (byte-behind xs rest 2 at e)
+unfoldable pub mode-lawful : Lawful Mode modeForm
+unfolding modeIn isMode
+mode-lawful =
+    one-byte 3 modeByte modeOf (λ n. ltb n 3) (λ n. 3 ≤ n) (λ mode. Unit {0}) mode-back (λ mode h. mode-is mode) (λ n f. mode-number n (ltb-true n 3 f)) (λ n. told-ltb n 3) (λ n. inr refl)
 
-pub mode-ranges : (mode : Mode) (xs rest : List ℕ) (at : ℕ) → at ≡ length xs → isMode (xs ++ (modeByte mode ∷ rest)) at ≡ true
-unfolding isMode modeByte
-mode-ranges Idle xs rest at e = rw (byte-behind xs rest 0 at e)
-mode-ranges Running xs rest at e = rw (byte-behind xs rest 1 at e)
-mode-ranges Suspended xs rest at e = rw (byte-behind xs rest 2 at e)
-
--- a byte below three is the mode that it stands for
-mode-number : (b : List ℕ) (at n : ℕ) → getD b at 0 ≡ n → n < 3 → modeByte (modeIn b at) ≡ n
-unfolding modeIn modeByte
-mode-number b at zero e h = rw e
-mode-number b at (suc zero) e h = rw e
-mode-number b at (suc (suc zero)) e h = rw e
-mode-number b at (suc (suc (suc n))) e h = omega arith
-
-pub mode-forth : (b : List ℕ) (at : ℕ) → at + 1 ≤ length b → isMode b at ≡ true → modeByte (modeIn b at) ∷ [] ≡ cutFrom b at 1
-unfolding isMode
-mode-forth b at h f = rw (mode-number b at (getD b at 0) refl (ltb-true (getD b at 0) 3 f)) (byte-forth b at h)
-
-pub mode-told : (b : List ℕ) (at : ℕ) → Told (isMode b at) (NoMode b at)
-unfolding isMode
-mode-told b at = told-ltb (getD b at 0) 3
-
-pub mode-coded : (b : List ℕ) (at : ℕ) → (_≡_ {A = ℕ} 3 0) ⊎ (isMode b at ≡ ltb (getD b at 0) 3)
-unfolding isMode
-mode-coded b at = inr refl
-
-abbrev pub mode-lawful : Lawful Mode modeForm
-mode-lawful = record {
-  Fits = λ mode. Unit {0};
-  Ranges = λ mode. Unit {0};
-  long = λ mode. refl;
-  back = λ mode h. mode-behind mode;
-  ranges = λ mode h. mode-ranges mode;
-  forth = λ b at byte. mode-forth b at;
-  told = mode-told;
-  coded = mode-coded;
-}
+abbrev pub mark-lawful : (mark : ℕ) → Lawful (Unit {0}) (markForm mark)
+mark-lawful mark =
+    one-byte 0 (λ nothing. mark) (λ n. tt) (λ n. eqb n mark) (λ n. ¬ (n ≡ mark)) (λ nothing. Unit {0}) (λ nothing. refl) (λ nothing h. eq-eqb mark mark refl) (λ n f. sym (eqb-true n mark f)) (λ n. told-eqb n mark) (λ n. inl refl)
 
 -- ---- what is held
 
@@ -206,23 +161,6 @@ held-lawful = record {
   ranges = λ held h xs rest at e. ap isHeldNumber (number-behind 2 (heldNumber held) (held-width held h) xs rest at e) ∙ held-stands held h;
   forth = λ b at byte h f. ap (littleEnd 2) (number-back (littleIn 2 b at) f) ∙ little-forth 2 b at byte h;
   told = held-told;
-  coded = λ b at. inl refl;
-}
-
--- ---- the version
-
-pub mark-forth : (mark : ℕ) (b : List ℕ) (at : ℕ) → at + 1 ≤ length b → eqb (getD b at 0) mark ≡ true → mark ∷ [] ≡ cutFrom b at 1
-mark-forth mark b at h f = ap (λ (n : ℕ). n ∷ []) (sym (eqb-true (getD b at 0) mark f)) ∙ byte-forth b at h
-
-abbrev pub mark-lawful : (mark : ℕ) → Lawful (Unit {0}) (markForm mark)
-mark-lawful mark = record {
-  Fits = λ nothing. Unit {0};
-  Ranges = λ nothing. Unit {0};
-  long = λ nothing. refl;
-  back = λ nothing h xs rest at e. refl;
-  ranges = λ nothing h xs rest at e. eq-eqb _ _ (byte-behind xs rest mark at e);
-  forth = λ b at byte. mark-forth mark b at;
-  told = λ b at. told-eqb (getD b at 0) mark;
   coded = λ b at. inl refl;
 }
 
