@@ -22,7 +22,7 @@ use Rattle.state_rules.proofs.HeldLaws.{HeldFit, attention-held, step-held}
 use Rattle.state_rules.proofs.MemoryLaws.{attention-of-bytes, power-of-bytes, step-of-bytes, sweep-of-bytes}
 use Rattle.state_rules.specs.Calls.{Service, noState, powerServed, attentionServed, stepServed, sweepServed}
 use Rattle.state_rules.specs.Conditions.{Bytes}
-use Rattle.state_rules.specs.Layout.{firstAt, secondFrom, channelIn, stateIn, isState, stateLength}
+use Rattle.state_rules.specs.Layout.{channelIn, stateIn, isState, stateLength}
 
 -- ---- calls on the bytes of a state
 
@@ -34,8 +34,8 @@ either-served false x y p q = q
 -- PSW of each channel is a byte
 state-psw : (b : List ℕ) → Bytes b → (second : Bool) → channelOf (stateIn b) second .psw < 256
 unfolding channelOf stateIn channelIn
-state-psw b byte true = byte (secondFrom + 32)
-state-psw b byte false = byte (firstAt + 32)
+state-psw b byte true = byte _
+state-psw b byte false = byte _
 
 pub power-serves-bytes : (b : List ℕ) (m : Buffers) → AllBytes m → AllBytes (powerServed b m .memory)
 unfolding powerServed

@@ -3,93 +3,111 @@
 use Prim.Native.Nat.{ℕ, _+_}
 use lib.Dec.{eqb}
 use lib.ListN.{length, getD}
-use mathlib.Core.Bool.{Bool, true, false, _&&_}
+use mathlib.Core.Bool.{and-assoc, Bool, true, false, _&&_}
 use mathlib.Core.List.{List}
 use mathlib.Core.Path.{_≡_, refl, ap, ap₂, _∙_}
+use native.Mathlib.Nat.{add-assoc}
+use Rattle.ground_rules.proofs.ChoiceLaws.{and-true}
 use Rattle.ground_rules.specs.Holdings.{isHeldNumber}
 use Rattle.state_rules.specs.Fields.{littleIn, isFlag, isMode, isCode}
-use Rattle.state_rules.specs.Layout.{isFields, isBlock, isBoard, isState, stateLength, version}
+use Rattle.state_rules.specs.Layout.{modePlace, fieldsPlace, heldPlace, matchPlace, lastPlace, firstAt, secondFrom, isPointerAt, isFields, isBlock, isBoard, isState, stateLength, version}
 use Rattle.state_bytes.specs.Tests.{tagsFit, flagsFit, codesFit}
 
 -- ---- the same tests in another order
 
-ten : (a b c d e f g h i j : Bool) → a && b && c && d && e && f && g && h && i && j ≡ a && b && c && e && f && g && (d && h && i) && j
-ten true true true true true true true h i j = refl
-ten true true true true true true false h i j = refl
-ten true true true true true false g h i j = refl
-ten true true true true false f g h i j = refl
-ten true true true false true true true h i j = refl
-ten true true true false true true false h i j = refl
-ten true true true false true false g h i j = refl
-ten true true true false false f g h i j = refl
-ten true true false d e f g h i j = refl
-ten true false c d e f g h i j = refl
-ten false b c d e f g h i j = refl
+-- one test behind the next
+swap : (x y z : Bool) → x && (y && z) ≡ y && (x && z)
+swap true y z = refl
+swap false true z = refl
+swap false false z = refl
 
-seven : (t m a f c w h : Bool) → t && m && a && (f && c && w) && h ≡ t && a && f && c && w && m && h
-seven true true true true true true h = refl
-seven true true true true true false h = refl
-seven true true true true false w h = refl
-seven true true true false c w h = refl
-seven true true false f c w h = refl
-seven true false true true true true h = refl
-seven true false true true true false h = refl
-seven true false true true false w h = refl
-seven true false true false c w h = refl
-seven true false false f c w h = refl
-seven false m a f c w h = refl
+-- behind the next three
+behind-three : (x a b c z : Bool) → x && (a && (b && (c && z))) ≡ a && (b && (c && (x && z)))
+behind-three x a b c z =
+    swap x a (b && (c && z))
+    ∙ ap (λ (t : Bool). a && t) (swap x b (c && z) ∙ ap (λ (t : Bool). b && t) (swap x c z))
 
-thirteen : (v f b g1 c1 t1 m1 h1 g2 c2 t2 m2 h2 : Bool) → v && f && b && (g1 && c1 && t1 && m1 && h1) && (g2 && c2 && t2 && m2 && h2) ≡ v && (f && b && g1 && g2) && (c1 && c2) && (t1 && t2) && (m1 && m2) && h1 && h2
-thirteen true true true true true true true true true true true true h2 = refl
-thirteen true true true true true true true true true true true false h2 = refl
-thirteen true true true true true true true true true true false m2 h2 = refl
-thirteen true true true true true true true true true false t2 m2 h2 = refl
-thirteen true true true true true true true true false c2 t2 m2 h2 = refl
-thirteen true true true true true true true false true true true true h2 = refl
-thirteen true true true true true true true false true true true false h2 = refl
-thirteen true true true true true true true false true true false m2 h2 = refl
-thirteen true true true true true true true false true false t2 m2 h2 = refl
-thirteen true true true true true true true false false c2 t2 m2 h2 = refl
-thirteen true true true true true true false h1 true true true m2 h2 = refl
-thirteen true true true true true true false h1 true true false m2 h2 = refl
-thirteen true true true true true true false h1 true false t2 m2 h2 = refl
-thirteen true true true true true true false h1 false c2 t2 m2 h2 = refl
-thirteen true true true true true false m1 h1 true true t2 m2 h2 = refl
-thirteen true true true true true false m1 h1 true false t2 m2 h2 = refl
-thirteen true true true true true false m1 h1 false c2 t2 m2 h2 = refl
-thirteen true true true true false t1 m1 h1 true c2 t2 m2 h2 = refl
-thirteen true true true true false t1 m1 h1 false c2 t2 m2 h2 = refl
-thirteen true true true false c1 t1 m1 h1 g2 c2 t2 m2 h2 = refl
-thirteen true true false g1 c1 t1 m1 h1 g2 c2 t2 m2 h2 = refl
-thirteen true false b g1 c1 t1 m1 h1 g2 c2 t2 m2 h2 = refl
-thirteen false f b g1 c1 t1 m1 h1 g2 c2 t2 m2 h2 = refl
+-- two rows of tests by pairs
+pairs : (x xs y ys : Bool) → x && xs && (y && ys) ≡ x && y && (xs && ys)
+pairs true xs y ys = swap xs y ys
+pairs false xs y ys = refl
+
+-- of five tests each
+in-pairs : (a b c d e a′ b′ c′ d′ e′ : Bool)
+    → a && (b && (c && (d && e))) && (a′ && (b′ && (c′ && (d′ && e′)))) ≡ a && a′ && (b && b′ && (c && c′ && (d && d′ && (e && e′))))
+in-pairs a b c d e a′ b′ c′ d′ e′ =
+    pairs a (b && (c && (d && e))) a′ (b′ && (c′ && (d′ && e′)))
+    ∙ ap (λ (t : Bool). a && a′ && t)
+    (pairs b (c && (d && e)) b′ (c′ && (d′ && e′))
+    ∙ ap (λ (t : Bool). b && b′ && t) (pairs c (d && e) c′ (d′ && e′) ∙ ap (λ (t : Bool). c && c′ && t) (pairs d e d′ e′)))
+
+-- ---- tests of one kind, joined as the code joins them
+
+pub board-by : (b : List ℕ) → isFlag b 6 && isFlag b 7 && isFlag b 8 && isFlag b 9 ≡ isBoard b
+unfolding isBoard
+board-by b = simp (and-assoc, and-true)
+
+pub tags-by : (b : List ℕ) (at : ℕ) → isFlag b (at + 4) && isFlag b (at + 9) && isFlag b (at + 14) && isFlag b (at + 19) && isFlag b (at + 34) ≡ tagsFit b at
+unfolding tagsFit isPointerAt
+tags-by b at = simp (and-assoc, and-true, add-assoc)
+
+pub flags-by : (b : List ℕ) (at : ℕ) → isFlag b at && isFlag b (at + 1) && isFlag b (at + 2) && isFlag b (at + 4) && isFlag b (at + 5) && isFlag b (at + 6) ≡ flagsFit b at
+unfolding flagsFit
+flags-by b at = simp (and-assoc, and-true)
+
+pub codes-by : (b : List ℕ) (at : ℕ) → isCode b (at + 3) 4 && isCode b (at + 7) 4 && isCode b (at + 8) 4 ≡ codesFit b at
+unfolding codesFit
+codes-by b at = simp (and-assoc, and-true)
 
 -- ---- those of CC, of a block, and of a state
 
-fields-fit : (b : List ℕ) (at : ℕ) → isFields b at ≡ flagsFit b at && codesFit b at && isCode b (at + 9) 8
+fields-fit : (b : List ℕ) (at : ℕ) → isFields b at ≡ flagsFit b at && (codesFit b at && isCode b (at + matchPlace) 8)
 unfolding isFields flagsFit codesFit
 fields-fit b at =
-    ten (isFlag b at) (isFlag b (at + 1)) (isFlag b (at + 2)) (isCode b (at + 3) 4) (isFlag b (at + 4)) (isFlag b (at + 5)) (isFlag b (at + 6)) (isCode b (at + 7) 4) (isCode b (at + 8) 4) (isCode b (at + 9) 8)
+    simp (and-assoc, and-true)
+    (ap (λ (t : Bool). isFlag b at && (isFlag b (at + 1) && (isFlag b (at + 2) && t)))
+    (behind-three (isCode b (at + 3) 4) (isFlag b (at + 4)) (isFlag b (at + 5)) (isFlag b (at + 6)) (isCode b (at + 7) 4 && (isCode b (at + 8) 4 && isCode b (at + 9) 8))))
 
-block-fits : (b : List ℕ) (at : ℕ)
-    → isBlock b at ≡ tagsFit b at && flagsFit b (at + 35) && codesFit b (at + 35) && isCode b (at + 35 + 9) 8 && isMode b (at + 33) && isHeldNumber (littleIn 2 b (at + 45))
+-- a block's tags, its armed mark and its flags of CC are truth values
+abbrev truths : List ℕ → ℕ → Bool
+truths b at = tagsFit b at && flagsFit b (at + fieldsPlace)
+
+-- its TMC has three bits
+abbrev eight : List ℕ → ℕ → Bool
+eight b at = isCode b (at + fieldsPlace + matchPlace) 8
+
+-- its mode is one
+abbrev mode : List ℕ → ℕ → Bool
+mode b at = isMode b (at + modePlace)
+
+-- a number stands for what it holds
+abbrev held : List ℕ → ℕ → Bool
+held b at = isHeldNumber (littleIn 2 b (at + heldPlace))
+
+block-fits : (b : List ℕ) (at : ℕ) → isBlock b at ≡ truths b at && (codesFit b (at + fieldsPlace) && (eight b at && (mode b at && held b at)))
 unfolding isBlock tagsFit
 block-fits b at =
-    let tags = isFlag b (at + 4) && isFlag b (at + 9) && isFlag b (at + 14) && isFlag b (at + 19) in
-    ap (λ (x : Bool). tags && isMode b (at + 33) && isFlag b (at + 34) && x && isHeldNumber (littleIn 2 b (at + 45))) (fields-fit b (at + 35))
-    ∙ seven tags (isMode b (at + 33)) (isFlag b (at + 34)) (flagsFit b (at + 35)) (codesFit b (at + 35)) (isCode b (at + 35 + 9) 8) (isHeldNumber (littleIn 2 b (at + 45)))
+    let tags : Bool → Bool = λ t. isPointerAt b at && (isPointerAt b (at + 5) && (isPointerAt b (at + 10) && (isPointerAt b (at + 15) && t))) in
+    let armed = isFlag b (at + 34) in
+    let flags = flagsFit b (at + fieldsPlace) in
+    let codes = codesFit b (at + fieldsPlace) in
+    simp (fields-fit b (at + fieldsPlace), and-assoc, and-true)
+    (ap tags (behind-three (mode b at) armed flags codes (eight b at && held b at) ∙ ap (λ (t : Bool). armed && (flags && (codes && t))) (swap (mode b at) (eight b at) (held b at))))
 
 pub state-fits : (b : List ℕ)
     → isState b
     ≡ eqb (length b) stateLength && eqb (getD b 0 0) version
-    && (isFlag b 5 && isBoard b && (tagsFit b 10 && flagsFit b 45) && (tagsFit b 57 && flagsFit b 92))
-    && (codesFit b 45 && codesFit b 92)
-    && (isCode b 54 8 && isCode b 101 8)
-    && (isMode b 43 && isMode b 90)
-    && isHeldNumber (littleIn 2 b 55)
-    && isHeldNumber (littleIn 2 b 102)
-unfolding isState
+    && (isFlag b lastPlace && isBoard b && truths b firstAt && truths b secondFrom)
+    && (codesFit b (firstAt + fieldsPlace) && codesFit b (secondFrom + fieldsPlace))
+    && (eight b firstAt && eight b secondFrom)
+    && (mode b firstAt && mode b secondFrom)
+    && held b firstAt
+    && held b secondFrom
+unfolding isState isBoard
 state-fits b =
-    let front = eqb (length b) stateLength && eqb (getD b 0 0) version in
-    ap₂ (λ (x y : Bool). front && isFlag b 5 && isBoard b && x && y) (block-fits b 10) (block-fits b 57)
-    ∙ thirteen front (isFlag b 5) (isBoard b) (tagsFit b 10 && flagsFit b 45) (codesFit b 45) (isCode b 54 8) (isMode b 43) (isHeldNumber (littleIn 2 b 55)) (tagsFit b 57 && flagsFit b 92) (codesFit b 92) (isCode b 101 8) (isMode b 90) (isHeldNumber (littleIn 2 b 102))
+    let front : Bool → Bool = λ t. eqb (length b) stateLength && (eqb (getD b 0 0) version && (isFlag b lastPlace && (isBoard b && t))) in
+    ap (λ (t : Bool). front (isBlock b firstAt && t)) (and-true (isBlock b secondFrom))
+    ∙ ap front
+    (ap₂ _&&_ (block-fits b firstAt) (block-fits b secondFrom)
+    ∙ in-pairs (truths b firstAt) (codesFit b (firstAt + fieldsPlace)) (eight b firstAt) (mode b firstAt) (held b firstAt) (truths b secondFrom) (codesFit b (secondFrom + fieldsPlace)) (eight b secondFrom) (mode b secondFrom) (held b secondFrom))
+    ∙ simp and-assoc

@@ -1,66 +1,71 @@
 -- The fields of CC in bytes: those of a state have their widths, the bytes in their places make up the CC of the fields, and so the test of one number is the test of every field.
 -- Assumes nothing.
 use Prim.Native.Nat.{ℕ, _+_, _*_, _/_, _%_, _<_}
-use borrow.Author.Tests.{ltb-true, ltb-false}
-use lib.Dec.{eqb, ltb}
+use borrow.Author.Tests.{ltb-true}
+use lib.Dec.{eqb}
 use lib.ListN.{length, getD}
-use mathlib.Core.Bool.{Bool, true, _&&_}
+use mathlib.Core.Bool.{true}
 use mathlib.Core.List.{List}
 use mathlib.Core.Path.{_≡_, ap, ap₂, _∙_}
 use native.Mathlib.Nat.{add-assoc, add-mul-mod-self-left, mod-eq-of-lt}
 use native.Mathlib.Omega.{arith}
-use Rattle.ground_rules.proofs.ChoiceLaws.{both-left, both-right}
-use Rattle.ground_rules.proofs.ConditionLaws.{Says, says-and}
+use Rattle.ground_rules.proofs.ChoiceLaws.{both-right}
 use Rattle.ground_rules.proofs.FieldLaws.{bit-worth, same-by-number}
 use Rattle.ground_rules.specs.Cc.{joined, withoutLock}
-use Rattle.ground_rules.specs.Holdings.{isHeldNumber}
 use Rattle.ground_rules.specs.States.{fieldsAgree}
-use Rattle.state_rules.specs.Fields.{littleIn, flagIn, isFlag, isMode, isCode}
-use Rattle.state_rules.specs.Layout.{fieldsIn, channelIn, isFields, isBlock, isBoard, isState, stateLength, version, firstAt, secondFrom}
+use Rattle.state_rules.specs.Fields.{littleIn, flagIn, isFlag, isCode}
+use Rattle.state_rules.specs.Layout.{fieldsRows, channelRows, stateRows, ccPlace, fieldsPlace, fieldsIn, channelIn, isFields, isBlock, isState, stateLength, firstAt, secondFrom}
+use Rattle.state_rules.specs.Tables.{areBy}
+use Rattle.state_rules.proofs.TableLaws.{EachIs, each-is}
 
 -- ---- where a state has them
 
-block-fields : (b : List ℕ) (at : ℕ) → isBlock b at ≡ true → isFields b (at + 35) ≡ true
+block-fields : (b : List ℕ) (at : ℕ) → isBlock b at ≡ true → isFields b (at + fieldsPlace) ≡ true
 unfolding isBlock
-block-fields b at h =
-    let marks = isFlag b (at + 4) && isFlag b (at + 9) && isFlag b (at + 14) && isFlag b (at + 19) && isMode b (at + 33) && isFlag b (at + 34) in
-    both-right marks (isFields b (at + 35)) (both-left (marks && isFields b (at + 35)) (isHeldNumber (littleIn 2 b (at + 45))) h)
+block-fields b at h = each-is channelRows b at 0 h .1 .1 .1 .1 .1 .1 .1 .1 .1 .1 .1 .1 .0
 
--- what a state has before its blocks
-abbrev front : List ℕ → Bool
-front b = eqb (length b) stateLength && eqb (getD b 0 0) version && isFlag b 5 && isBoard b
-
-pub first-fields : (b : List ℕ) → isState b ≡ true → isFields b (firstAt + 35) ≡ true
+-- each part of a state is in its range
+each-part : (b : List ℕ) → isState b ≡ true → EachIs stateRows b 0 0
 unfolding isState
-first-fields b h = block-fields b firstAt (both-right (front b) (isBlock b firstAt) (both-left (front b && isBlock b firstAt) (isBlock b secondFrom) h))
+each-part b h = each-is stateRows b 0 0 (both-right (eqb (length b) stateLength) (areBy stateRows b 0 0) h)
 
-pub second-fields : (b : List ℕ) → isState b ≡ true → isFields b (secondFrom + 35) ≡ true
-unfolding isState
-second-fields b h = block-fields b secondFrom (both-right (front b && isBlock b firstAt) (isBlock b secondFrom) h)
+pub first-fields : (b : List ℕ) → isState b ≡ true → isFields b (firstAt + fieldsPlace) ≡ true
+first-fields b h = block-fields b firstAt (each-part b h .1 .1 .1 .1 .0)
+
+pub second-fields : (b : List ℕ) → isState b ≡ true → isFields b (secondFrom + fieldsPlace) ≡ true
+second-fields b h = block-fields b secondFrom (each-part b h .1 .1 .1 .1 .1 .0)
 
 -- ---- their widths
-
-says-ltb : (a b : ℕ) → Says (ltb a b) (a < b)
-says-ltb a b = record { holds = λ e. ltb-true a b e; fails = λ e h. omega (arith, ltb-false a b e) }
 
 -- each byte is below the number of values that its field has
 abbrev Widths : List ℕ → ℕ → Type 0
 Widths b at =
-    ((((((((((getD b at 0 < 2)
-    × (getD b (at + 1) 0 < 2))
-    × (getD b (at + 2) 0 < 2))
-    × (getD b (at + 3) 0 < 4))
-    × (getD b (at + 4) 0 < 2))
-    × (getD b (at + 5) 0 < 2))
-    × (getD b (at + 6) 0 < 2))
-    × (getD b (at + 7) 0 < 4))
-    × (getD b (at + 8) 0 < 4))
-    × (getD b (at + 9) 0 < 8))
+    (getD b at 0 < 2)
+    × (getD b (at + 1) 0 < 2)
+    × (getD b (at + 2) 0 < 2)
+    × (getD b (at + 3) 0 < 4)
+    × (getD b (at + 4) 0 < 2)
+    × (getD b (at + 5) 0 < 2)
+    × (getD b (at + 6) 0 < 2)
+    × (getD b (at + 7) 0 < 4)
+    × (getD b (at + 8) 0 < 4)
+    × (getD b (at + 9) 0 < 8)
 
-widths : (b : List ℕ) (at : ℕ) → Says (isFields b at) (Widths b at)
+widths : (b : List ℕ) (at : ℕ) → isFields b at ≡ true → Widths b at
 unfolding isFields isFlag isCode
-widths b at =
-    says-and (says-and (says-and (says-and (says-and (says-and (says-and (says-and (says-and (says-ltb (getD b at 0) 2) (says-ltb (getD b (at + 1) 0) 2)) (says-ltb (getD b (at + 2) 0) 2)) (says-ltb (getD b (at + 3) 0) 4)) (says-ltb (getD b (at + 4) 0) 2)) (says-ltb (getD b (at + 5) 0) 2)) (says-ltb (getD b (at + 6) 0) 2)) (says-ltb (getD b (at + 7) 0) 4)) (says-ltb (getD b (at + 8) 0) 4)) (says-ltb (getD b (at + 9) 0) 8)
+widths b at f =
+    let t = each-is fieldsRows b at 0 f in (
+      ltb-true (getD b at 0) 2 (t .0),
+      ltb-true (getD b (at + 1) 0) 2 (t .1 .0),
+      ltb-true (getD b (at + 2) 0) 2 (t .1 .1 .0),
+      ltb-true (getD b (at + 3) 0) 4 (t .1 .1 .1 .0),
+      ltb-true (getD b (at + 4) 0) 2 (t .1 .1 .1 .1 .0),
+      ltb-true (getD b (at + 5) 0) 2 (t .1 .1 .1 .1 .1 .0),
+      ltb-true (getD b (at + 6) 0) 2 (t .1 .1 .1 .1 .1 .1 .0),
+      ltb-true (getD b (at + 7) 0) 4 (t .1 .1 .1 .1 .1 .1 .1 .0),
+      ltb-true (getD b (at + 8) 0) 4 (t .1 .1 .1 .1 .1 .1 .1 .1 .0),
+      ltb-true (getD b (at + 9) 0) 8 (t .1 .1 .1 .1 .1 .1 .1 .1 .1 .0),
+    )
 
 -- ---- the CC that they make up
 
@@ -100,17 +105,17 @@ madeOf b at = littleIn 4 b at * 268960769 / 16777216 % 32 * 2048 + littleIn 4 b 
 pub made-up : (b : List ℕ) (at : ℕ) → isFields b at ≡ true → madeOf b at ≡ joined (fieldsIn b at)
 unfolding joined fieldsIn flagIn
 made-up b at f =
-    let w = widths b at .holds f in
-    let sides = ap (λ (n : ℕ). n * 268960769 / 16777216 % 32) (four b at) ∙ sides-by (getD b at 0) (getD b (at + 1) 0) (getD b (at + 2) 0) (getD b (at + 3) 0) (w .0 .0 .0 .0 .0 .0 .0 .0 .0) (w .0 .0 .0 .0 .0 .0 .0 .0 .1) (w .0 .0 .0 .0 .0 .0 .0 .1) (w .0 .0 .0 .0 .0 .0 .1) in
+    let w = widths b at f in
+    let sides = ap (λ (n : ℕ). n * 268960769 / 16777216 % 32) (four b at) ∙ sides-by (getD b at 0) (getD b (at + 1) 0) (getD b (at + 2) 0) (getD b (at + 3) 0) (w .0) (w .1) (w .2) (w .3) in
     let next : littleIn 4 b (at + 4) ≡ getD b (at + 4) 0 + 256 * (getD b (at + 5) 0 + 256 * (getD b (at + 6) 0 + 256 * getD b (at + 7) 0)) = four b (at + 4) ∙ rw (add-assoc at 4 1, add-assoc at 4 2, add-assoc at 4 3) in
-    let ends = ap (λ (n : ℕ). n * 537396225 / 16777216 % 64) next ∙ ends-by (getD b (at + 4) 0) (getD b (at + 5) 0) (getD b (at + 6) 0) (getD b (at + 7) 0) (w .0 .0 .0 .0 .0 .1) (w .0 .0 .0 .0 .1) (w .0 .0 .0 .1) (w .0 .0 .1) in
+    let ends = ap (λ (n : ℕ). n * 537396225 / 16777216 % 64) next ∙ ends-by (getD b (at + 4) 0) (getD b (at + 5) 0) (getD b (at + 6) 0) (getD b (at + 7) 0) (w .4) (w .5) (w .6) (w .7) in
     ap₂ (λ (x y : ℕ). x * 2048 + y * 32 + getD b (at + 8) 0 * 8 + getD b (at + 9) 0) sides ends
-    ∙ rw (bit-worth (getD b at 0) 32768 (w .0 .0 .0 .0 .0 .0 .0 .0 .0), bit-worth (getD b (at + 1) 0) 16384 (w .0 .0 .0 .0 .0 .0 .0 .0 .1), bit-worth (getD b (at + 2) 0) 8192 (w .0 .0 .0 .0 .0 .0 .0 .1), bit-worth (getD b (at + 4) 0) 1024 (w .0 .0 .0 .0 .0 .1), bit-worth (getD b (at + 5) 0) 256 (w .0 .0 .0 .0 .1), bit-worth (getD b (at + 6) 0) 128 (w .0 .0 .0 .1))
-    (in-places (getD b at 0) (getD b (at + 1) 0) (getD b (at + 2) 0) (getD b (at + 3) 0) (getD b (at + 4) 0) (getD b (at + 5) 0) (getD b (at + 6) 0) (getD b (at + 7) 0) (getD b (at + 8) 0) (getD b (at + 9) 0) (w .0 .0 .0 .0 .0 .0 .1) (w .0 .0 .1) (w .0 .1) (w .1))
+    ∙ rw (bit-worth (getD b at 0) 32768 (w .0), bit-worth (getD b (at + 1) 0) 16384 (w .1), bit-worth (getD b (at + 2) 0) 8192 (w .2), bit-worth (getD b (at + 4) 0) 1024 (w .4), bit-worth (getD b (at + 5) 0) 256 (w .5), bit-worth (getD b (at + 6) 0) 128 (w .6))
+    (in-places (getD b at 0) (getD b (at + 1) 0) (getD b (at + 2) 0) (getD b (at + 3) 0) (getD b (at + 4) 0) (getD b (at + 5) 0) (getD b (at + 6) 0) (getD b (at + 7) 0) (getD b (at + 8) 0) (getD b (at + 9) 0) (w .3) (w .7) (w .8) (w .9))
 
 -- so one number says whether a channel's fields are those of its CC
-pub agrees-by : (b : List ℕ) (at : ℕ) → isFields b (at + 35) ≡ true → littleIn 2 b (at + 28) < 65536 → eqb (joined (fieldsIn b (at + 35))) (withoutLock (littleIn 2 b (at + 28))) ≡ fieldsAgree (channelIn b at)
+pub agrees-by : (b : List ℕ) (at : ℕ) → isFields b (at + fieldsPlace) ≡ true → littleIn 2 b (at + ccPlace) < 65536 → eqb (joined (fieldsIn b (at + fieldsPlace))) (withoutLock (littleIn 2 b (at + ccPlace))) ≡ fieldsAgree (channelIn b at)
 unfolding fieldsAgree channelIn fieldsIn
 agrees-by b at f h =
-    let w = widths b (at + 35) .holds f in
-    same-by-number (fieldsIn b (at + 35)) (littleIn 2 b (at + 28)) (w .0 .0 .0 .0 .0 .0 .1) (w .0 .0 .1) (w .0 .1) (w .1) h
+    let w = widths b (at + fieldsPlace) f in
+    same-by-number (fieldsIn b (at + fieldsPlace)) (littleIn 2 b (at + ccPlace)) (w .3) (w .7) (w .8) (w .9) h

@@ -3,9 +3,9 @@
 use Prim.Native.Nat.{ℕ}
 use borrow.Author.Tests.{eq-eqb, ne-eqb, eqb-true}
 use lib.Dec.{eqb}
-use lib.ListN.{length, getD}
+use lib.ListN.{length}
 use lib.Seq.{sets}
-use mathlib.Core.Bool.{true, false, _&&_}
+use mathlib.Core.Bool.{true, false}
 use mathlib.Core.List.{List}
 use mathlib.Core.Path.{_≡_, sym, ap, _∙_}
 use Rattle.ground_rules.proofs.ChoiceLaws.{apart, both-left}
@@ -20,8 +20,8 @@ use Rattle.attention_rules.proofs.PowerNumbers.{power-number}
 use Rattle.attention_rules.proofs.PowerOutcomes.{power-any, power-same, power-refused}
 use Rattle.attention_rules.specs.Power.{touchedByPower, powerNumber, powerUpOf, powerCount}
 use Rattle.turn_rules.specs.Step.{stepOf}
-use Rattle.state_rules.specs.Fields.{isFlag}
-use Rattle.state_rules.specs.Layout.{bytesOf, stateIn, isBlock, isBoard, isState, stateLength, version, firstAt, secondFrom}
+use Rattle.state_rules.specs.Layout.{stateRows, bytesOf, stateIn, isState, stateLength}
+use Rattle.state_rules.specs.Tables.{areBy}
 use Rattle.state_rules.specs.Calls.{made, served, answerFrom, freshMade, resetMade, outcomeServed, powerServed, attentionServed, stepServed}
 use Rattle.state_rules.proofs.LengthLaws.{length-state}
 use Rattle.state_rules.proofs.SetsLaws.{sets-whole}
@@ -29,13 +29,7 @@ use Rattle.state_rules.proofs.SetsLaws.{sets-whole}
 -- bytes that are a state have its length
 pub state-length : (b : List ℕ) → isState b ≡ true → length b ≡ stateLength
 unfolding isState
-state-length b h =
-    eqb-true (length b) stateLength
-    (both-left (eqb (length b) stateLength) (eqb (getD b 0 0) version)
-    (both-left (eqb (length b) stateLength && eqb (getD b 0 0) version) (isFlag b 5)
-    (both-left (eqb (length b) stateLength && eqb (getD b 0 0) version && isFlag b 5) (isBoard b)
-    (both-left (eqb (length b) stateLength && eqb (getD b 0 0) version && isFlag b 5 && isBoard b) (isBlock b firstAt)
-    (both-left (eqb (length b) stateLength && eqb (getD b 0 0) version && isFlag b 5 && isBoard b && isBlock b firstAt) (isBlock b secondFrom) h)))))
+state-length b h = eqb-true (length b) stateLength (both-left (eqb (length b) stateLength) (areBy stateRows b 0 0) h)
 
 -- a state put into bytes of its length leaves its bytes
 pub put-whole : (b : List ℕ) (s : State) → length b ≡ stateLength → sets b 0 (bytesOf s) ≡ bytesOf s

@@ -1,8 +1,12 @@
 pub mod SetsLaws
 pub mod LengthLaws
 pub mod LittleLaws
-pub mod AgreeLaws
 pub mod HeldLaws
+pub mod TableLaws
+pub mod FormLaws
+pub mod PlaceLaws
+pub mod GroupLaws
+pub mod AgreeLaws
 pub mod MemoryLaws
 pub mod BackLaws
 pub mod CallLaws

@@ -1,18 +1,17 @@
 -- The answer of a call: its parts can be taken out again, and its number is given exactly under its condition, 17 before all others.
 -- Assumes nothing.
-use Prim.Native.Nat.{ℕ, _+_, _/_, _%_, _<_, _≤_}
+use Prim.Native.Nat.{ℕ, _/_, _%_, _<_, _≤_}
 use lib.Dec.{eqb, ltb}
-use lib.ListN.{length, getD}
-use mathlib.Core.Bool.{and-assoc, Bool, true, false}
+use lib.ListN.{length}
+use mathlib.Core.Bool.{Bool, true, false}
 use mathlib.Core.List.{List}
 use mathlib.Core.Logic.{_⊎_, _↔_}
 use mathlib.Core.Path.{_≡_, refl, sym, _∙_}
 use native.Mathlib.Omega.{arith}
 use Rattle.ground_rules.specs.Choice.{pick}
 use Rattle.ground_rules.specs.Buffers.{Buffers}
-use Rattle.ground_rules.proofs.ConditionLaws.{Told, told-and, told-or, told-eqb, told-ltb, told-leb, picked, last, rewritten, worded, first-largest}
+use Rattle.ground_rules.proofs.ConditionLaws.{Told, told-and, told-eqb, told-ltb, picked, last, rewritten, worded, first-largest}
 use Rattle.ground_rules.specs.Conditions.{Given}
-use Rattle.ground_rules.specs.Holdings.{isHeldNumber}
 use Rattle.ground_rules.specs.Outcomes.{unless}
 use Rattle.ground_rules.specs.States.{freshState, resetState, freshOf}
 use Rattle.ground_rules.specs.declared.Made.{Made}
@@ -28,9 +27,10 @@ use Rattle.sweep_rules.proofs.ConditionLaws.{sweep-given}
 use Rattle.sweep_rules.proofs.PassedLaws.{number-is, number-most}
 use Rattle.sweep_rules.specs.Sweep.{sweepOf}
 use Rattle.state_rules.specs.Calls.{made, served, noState, kindNumber, answerFrom, freshMade, resetMade, powerServed, attentionServed, stepServed, sweepAnswerFrom, sweepServed}
-use Rattle.state_rules.specs.Conditions.{NoState, NoFields, NoHeld, NoBlock, NoBoard, freshChecksOn, resetChecksOn, powerChecksOn, attentionChecksOn, stepChecksOn, sweepChecksOn}
-use Rattle.state_rules.specs.Fields.{littleIn, isFlag, isMode, isCode}
-use Rattle.state_rules.specs.Layout.{bytesOf, stateIn, isFields, isBlock, isBoard, isState, stateLength, version, firstAt, secondFrom}
+use Rattle.state_rules.specs.Conditions.{NoState, freshChecksOn, resetChecksOn, powerChecksOn, attentionChecksOn, stepChecksOn, sweepChecksOn}
+use Rattle.state_rules.specs.Layout.{stateRows, bytesOf, stateIn, isState, stateLength}
+use Rattle.state_rules.proofs.FormLaws.{state-laws}
+use Rattle.state_rules.proofs.TableLaws.{told-rows}
 
 -- ---- the parts of an answer
 
@@ -68,54 +68,10 @@ module _ (number steps count : ℕ) (n : number < 256) (k : steps < 16777216) wh
 
 -- ---- 17
 
-told-fields : (b : List ℕ) (at : ℕ) → Told (isFields b at) (NoFields b at)
-unfolding isFields isFlag isCode
-told-fields b at =
-    simp and-assoc
-    (told-and (told-ltb (getD b at 0) 2)
-    (told-and (told-ltb (getD b (at + 1) 0) 2)
-    (told-and (told-ltb (getD b (at + 2) 0) 2)
-    (told-and (told-ltb (getD b (at + 3) 0) 4)
-    (told-and (told-ltb (getD b (at + 4) 0) 2)
-    (told-and (told-ltb (getD b (at + 5) 0) 2)
-    (told-and (told-ltb (getD b (at + 6) 0) 2)
-    (told-and (told-ltb (getD b (at + 7) 0) 4)
-    (told-and (told-ltb (getD b (at + 8) 0) 4) (told-ltb (getD b (at + 9) 0) 8))))))))))
-
-told-held : (b : List ℕ) (at : ℕ) → Told (isHeldNumber (littleIn 2 b at)) (NoHeld b at)
-unfolding isHeldNumber
-told-held b at = let n = littleIn 2 b at in told-or (told-eqb n 0) (told-and (told-leb 256 n) (told-ltb n 512))
-
-told-block : (b : List ℕ) (at : ℕ) → Told (isBlock b at) (NoBlock b at)
-unfolding isBlock isFlag isMode
-told-block b at =
-    simp and-assoc
-    (told-and (told-ltb (getD b (at + 4) 0) 2)
-    (told-and (told-ltb (getD b (at + 9) 0) 2)
-    (told-and (told-ltb (getD b (at + 14) 0) 2)
-    (told-and (told-ltb (getD b (at + 19) 0) 2)
-    (told-and (told-ltb (getD b (at + 33) 0) 3)
-    (told-and (told-ltb (getD b (at + 34) 0) 2)
-    (told-and (told-fields b (at + 35)) (told-held b (at + 45)))))))))
-
-told-board : (b : List ℕ) → Told (isBoard b) (NoBoard b)
-unfolding isBoard isFlag
-told-board b =
-    simp and-assoc
-    (told-and (told-ltb (getD b 6 0) 2)
-    (told-and (told-ltb (getD b 7 0) 2)
-    (told-and (told-ltb (getD b 8 0) 2) (told-ltb (getD b 9 0) 2))))
-
 -- the test of 17 says what its condition says
 pub told-state : (b : List ℕ) → Told (isState b) (NoState b)
-unfolding isState isFlag
-told-state b =
-    simp and-assoc
-    (told-and (told-eqb (length b) stateLength)
-    (told-and (told-eqb (getD b 0 0) version)
-    (told-and (told-ltb (getD b 5 0) 2)
-    (told-and (told-board b)
-    (told-and (told-block b firstAt) (told-block b secondFrom))))))
+unfolding isState
+told-state b = told-and (told-eqb (length b) stateLength) (told-rows stateRows state-laws b 0 0)
 
 -- a number that is 17 for bytes that are no state, and the call's otherwise
 pub told-17 : {A Q : Type 0} (ok : Bool) (n number answer : ℕ) → Told ok A → answer ≡ pick ok number 17 → (number ≡ n ↔ Q) → (answer ≡ n) ↔ ((A × (n ≡ 17)) ⊎ (¬ A × Q))

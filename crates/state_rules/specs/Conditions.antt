@@ -2,7 +2,7 @@
 use mathlib.Core.List.{List, [], _∷_}
 use mathlib.Core.Logic.{_⊎_}
 use mathlib.Core.Path.{_≡_}
-use Prim.Native.Nat.{ℕ, _+_, _<_, _≤_}
+use Prim.Native.Nat.{ℕ, _<_, _≤_}
 use lib.ListN.{length, getD}
 use Rattle.ground_rules.specs.Buffers.{Buffers}
 use Rattle.ground_rules.specs.declared.Pointer.{Pointer}
@@ -14,64 +14,12 @@ use Rattle.attention_rules.specs.Conditions.{attentionChecks as attentionChecks
 use Rattle.attention_rules.specs.PowerConditions.{powerChecks}
 use Rattle.turn_rules.specs.Conditions.{stepChecks as stepChecks}
 use Rattle.sweep_rules.specs.Conditions.{sweepChecks}
-use Rattle.state_rules.specs.Fields.{littleIn}
-use Rattle.state_rules.specs.Layout.{stateIn, stateLength, version, firstAt, secondFrom}
+use Rattle.state_rules.specs.Tables.{NoneBy}
+use Rattle.state_rules.specs.Layout.{stateRows, stateIn, stateLength}
 
--- a byte stands for no truth value
-abbrev pub NoFlag : List ℕ → ℕ → Type 0
-NoFlag b at = 2 ≤ getD b at 0
-
--- a byte stands for no mode
-abbrev pub NoMode : List ℕ → ℕ → Type 0
-NoMode b at = 3 ≤ getD b at 0
-
--- a byte stands for no field of CC that has so many values
-abbrev pub PastWidth : List ℕ → ℕ → ℕ → Type 0
-PastWidth b at values = values ≤ getD b at 0
-
--- a field of CC is out of range
-abbrev pub NoFields : List ℕ → ℕ → Type 0
-NoFields b at =
-    NoFlag b at
-    ⊎ NoFlag b (at + 1)
-    ⊎ NoFlag b (at + 2)
-    ⊎ PastWidth b (at + 3) 4
-    ⊎ NoFlag b (at + 4)
-    ⊎ NoFlag b (at + 5)
-    ⊎ NoFlag b (at + 6)
-    ⊎ PastWidth b (at + 7) 4
-    ⊎ PastWidth b (at + 8) 4
-    ⊎ PastWidth b (at + 9) 8
-
--- two bytes are no held number: neither 0 nor 256 to 511
-abbrev pub NoHeld : List ℕ → ℕ → Type 0
-NoHeld b at = ¬ (littleIn 2 b at ≡ 0) × (littleIn 2 b at < 256 ⊎ 512 ≤ littleIn 2 b at)
-
--- a tag, the mode, the armed mark, a field of CC or the held number of a block is out of range
-abbrev pub NoBlock : List ℕ → ℕ → Type 0
-NoBlock b at =
-    NoFlag b (at + 4)
-    ⊎ NoFlag b (at + 9)
-    ⊎ NoFlag b (at + 14)
-    ⊎ NoFlag b (at + 19)
-    ⊎ NoMode b (at + 33)
-    ⊎ NoFlag b (at + 34)
-    ⊎ NoFields b (at + 35)
-    ⊎ NoHeld b (at + 45)
-
--- a byte of what the board set up is out of range
-abbrev pub NoBoard : List ℕ → Type 0
-NoBoard b = NoFlag b 6 ⊎ NoFlag b 7 ⊎ NoFlag b 8 ⊎ NoFlag b 9
-
--- 17: another length or version, or a mode, flag, field or held number out of range
+-- 17: another length, or a part of the table is out of its range: the version, a flag, the mode, a field of CC or the held number
 abbrev pub NoState : List ℕ → Type 0
-NoState b =
-    ¬ (length b ≡ stateLength)
-    ⊎ ¬ (getD b 0 0 ≡ version)
-    ⊎ NoFlag b 5
-    ⊎ NoBoard b
-    ⊎ NoBlock b firstAt
-    ⊎ NoBlock b secondFrom
+NoState b = ¬ (length b ≡ stateLength) ⊎ NoneBy stateRows b 0 0
 
 -- the checks of a fresh state, which asks only for the length
 abbrev pub freshChecksOn : List ℕ → ℕ → List Check

@@ -1,7 +1,9 @@
--- What one part of a state is in bytes: a number of some width, little end first; a truth value; a mode; a code of CC.
+-- What one part of a state is in bytes: a number of some width, little end first; a truth value; a mode; a code of CC; the number of what is held.
 use mathlib.Core.Bool.{Bool}
 use mathlib.Core.List.{List, [], _∷_}
-use Prim.Native.Nat.{ℕ, zero, suc, _+_, _*_, _/_, _%_}
+use mathlib.Core.Logic.{_⊎_}
+use mathlib.Core.Path.{_≡_}
+use Prim.Native.Nat.{ℕ, zero, suc, _+_, _*_, _/_, _%_, _<_, _≤_}
 use lib.Dec.{eqb, ltb}
 use lib.ListN.{getD}
 use Rattle.ground_rules.specs.Choice.{pick}
@@ -30,6 +32,10 @@ flagIn b at = eqb (getD b at 0) 1
 unfoldable pub isFlag : List ℕ → ℕ → Bool
 isFlag b at = ltb (getD b at 0) 2
 
+-- it stands for none
+abbrev pub NoFlag : List ℕ → ℕ → Type 0
+NoFlag b at = 2 ≤ getD b at 0
+
 -- a mode as a byte
 unfoldable pub modeByte : Mode → ℕ
 modeByte Idle = 0
@@ -44,6 +50,18 @@ modeIn b at = pick (eqb (getD b at 0) 0) Idle (pick (eqb (getD b at 0) 1) Runnin
 unfoldable pub isMode : List ℕ → ℕ → Bool
 isMode b at = ltb (getD b at 0) 3
 
+-- it stands for none
+abbrev pub NoMode : List ℕ → ℕ → Type 0
+NoMode b at = 3 ≤ getD b at 0
+
 -- a byte stands for a field of CC that has so many values (else 17)
 unfoldable pub isCode : List ℕ → ℕ → ℕ → Bool
 isCode b at values = ltb (getD b at 0) values
+
+-- it stands for none
+abbrev pub PastWidth : List ℕ → ℕ → ℕ → Type 0
+PastWidth b at values = values ≤ getD b at 0
+
+-- two bytes are no held number: neither 0 nor 256 to 511
+abbrev pub NoHeld : List ℕ → ℕ → Type 0
+NoHeld b at = ¬ (littleIn 2 b at ≡ 0) × (littleIn 2 b at < 256 ⊎ 512 ≤ littleIn 2 b at)

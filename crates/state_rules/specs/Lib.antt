@@ -1,4 +1,5 @@
 pub mod Fields
+pub mod Tables
 pub mod Layout
 pub mod Calls
 pub mod Conditions

@@ -1,13 +1,12 @@
 -- `state_bytes::layout::is_board` meets its contract.
 -- Assumes nothing.
 use borrow.Author.Needs.{needs}
-use Rattle.state_rules.specs.Layout.{isBoard}
+use Rattle.state_bytes.proofs.TestLaws.{board-by}
 use Rattle.state_bytes.proofs.layout.is_board.Statement.{statement}
 use Rattle.state_bytes.proofs.layout.is_board.Tie as tie
 
 returns : tie.Need-returns
-unfolding isBoard
-returns c = simp (c .is-flag4 .ensures, c .before .is-flag3 .ensures, c .before .before .is-flag2 .ensures, c .before .before .before .is-flag .ensures)
+returns c = rw (c .is-flag4 .ensures, c .before .is-flag3 .ensures, c .before .before .is-flag2 .ensures, c .before .before .before .is-flag .ensures) (board-by _)
 
 pub is-board-spec : {M : Type 1} → statement M
 is-board-spec =

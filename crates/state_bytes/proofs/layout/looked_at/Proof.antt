@@ -1,12 +1,12 @@
 -- `state_bytes::layout::looked_at` meets its contract.
 -- Assumes nothing.
 use borrow.Author.Needs.{needs}
-use Rattle.state_rules.specs.Layout.{stateIn}
+use Rattle.state_rules.specs.Layout.{boardIn, stateIn}
 use Rattle.state_bytes.proofs.layout.looked_at.Statement.{statement}
 use Rattle.state_bytes.proofs.layout.looked_at.Tie as tie
 
 returns : tie.Need-returns
-unfolding stateIn
+unfolding stateIn boardIn
 returns c = rw (c .board-in .ensures, c .before .flag .ensures, c .before .before .long .ensures, c .before .before .before .channel-in2 .ensures, c .before .before .before .before .channel-in .ensures)
 
 pub looked-at-spec : {M : Type 1} → statement M

@@ -2,19 +2,16 @@
 -- Assumes nothing.
 use borrow.Author.Needs.{needs}
 use mathlib.Core.Path.{_∙_}
-use native.Mathlib.Nat.{add-assoc}
-use Rattle.state_rules.specs.Layout.{fieldsBytes, channelBytes}
-use Rattle.state_rules.proofs.LengthLaws.{length-pointers, length-numbers, length-marks, length-sides, length-fields}
-use Rattle.state_rules.proofs.SetsLaws.{sets-append}
+use Rattle.state_rules.proofs.GroupLaws.{channel-put}
 use Rattle.state_bytes.specs.Puts.{frontBytes}
 use Rattle.state_bytes.proofs.layout.put_channel.Statement.{statement}
 use Rattle.state_bytes.proofs.layout.put_channel.Tie as tie
 
 returns : tie.Need-returns
-unfolding channelBytes fieldsBytes frontBytes
+unfolding frontBytes
 returns c = (
   c .before .before .before .before .before .before .before .before .before .before .put-front .ensures .0,
-  c .before .before .put-held .ensures ∙ rw (c .before .before .before .before .before .before .put-fields .ensures, c .before .before .before .before .before .before .before .before .before .before .put-front .ensures .1) (simp (sets-append, length-pointers, length-numbers, length-marks, length-sides, length-fields, add-assoc)),
+  c .before .before .put-held .ensures ∙ rw (c .before .before .before .before .before .before .put-fields .ensures, c .before .before .before .before .before .before .before .before .before .before .put-front .ensures .1) (channel-put _ _ _),
 )
 
 pub put-channel-spec : {M : Type 1} → statement M

@@ -2,15 +2,12 @@
 -- Assumes nothing.
 use borrow.Author.Needs.{needs}
 use mathlib.Core.Path.{_∙_}
-use Rattle.state_rules.specs.Layout.{fieldsBytes}
-use Rattle.state_rules.proofs.LengthLaws.{length-sides}
-use Rattle.state_rules.proofs.SetsLaws.{sets-append}
+use Rattle.state_rules.proofs.GroupLaws.{fields-put}
 use Rattle.state_bytes.proofs.layout.put_fields.Statement.{statement}
 use Rattle.state_bytes.proofs.layout.put_fields.Tie as tie
 
 returns : tie.Need-returns
-unfolding fieldsBytes
-returns c = c .before .before .put-ends .ensures ∙ rw (c .before .before .before .before .before .before .put-sides .ensures) (simp (sets-append, length-sides))
+returns c = c .before .before .put-ends .ensures ∙ rw (c .before .before .before .before .before .before .put-sides .ensures) (fields-put _ _ _)
 
 pub put-fields-spec : {M : Type 1} → statement M
 put-fields-spec =
