@@ -4,3 +4,5 @@
 mod fields;
 // A whole state in bytes.
 pub mod layout;
+// What a step on a state in bytes is given.
+pub mod given;
