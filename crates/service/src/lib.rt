@@ -1,10 +1,10 @@
 // The machine call by call for C: a state lives in the caller's bytes, and each call takes it from there and leaves it
 // there.
+use state_bytes::answers;
 use state_bytes::given;
 use state_bytes::layout;
 use step::Turn;
 use turn_rules::Choice;
-use turn_rules::Kind;
 ghost use mathlib.Core.Bool.{true};
 ghost use mathlib.Core.Path.{_≡_};
 ghost use lib.ListN.{length};
@@ -16,21 +16,8 @@ ghost use Rattle.turn_rules.specs.Step.{chosenStep, stepOf};
 ghost use Rattle.turn_rules.specs.declared.Choice.the-variants.{Ends};
 ghost use Rattle.sweep_rules.specs.Sweep.{sweepOf};
 ghost use Rattle.state_rules.specs.Layout.{stateIn, isState, stateLength};
-ghost use Rattle.state_rules.specs.Calls as Calls;
 ghost use Rattle.step.specs.Turns.{turned};
 ghost use Rattle.state_rules.specs.Calls.{made, served, stepLeft, answerFrom, freshMade, resetMade, powerServed, attentionServed, stepServed, sweepAnswerFrom, sweepServed};
-
-// The number of a step's kind.
-fn kind_number(kind: Kind) -> u32
-    ensures { λ r. ⌜ r ≡ Calls.kindNumber kind ⌝ }
-{
-    match kind {
-        Kind::Nothing => 0,
-        Kind::Instruction => 1,
-        Kind::Transfer => 2,
-        Kind::External => 3,
-    }
-}
 
 // An answer of its four parts.
 fn answer(number: u32, channel: u32, kind: u32, count: u32) -> u32
@@ -144,7 +131,7 @@ fn answered(state: &mut [u8], second: bool, t: Turn) -> u32
     answer(
         0,
         machine::states::number(second),
-        kind_number(kind),
+        answers::kind_number(kind),
         t.count,
     )
 }

@@ -6,3 +6,5 @@ mod fields;
 pub mod layout;
 // What a step on a state in bytes is given.
 pub mod given;
+// What calls on it answer.
+pub mod answers;

@@ -1,28 +1,16 @@
 // What the next call touches, for C: a state lives in the caller's bytes, which are only read, as both memories are; the
 // places are told into the caller's words.
+use state_bytes::answers;
 use state_bytes::given;
 use state_bytes::layout;
 use touches::Outlook;
 use touches::StepOutlook;
 use turn_rules::Choice;
-use turn_rules::Kind;
 ghost use mathlib.Core.Path.{_≡_};
 ghost use Rattle.ground_rules.specs.Buffers.{lent};
 ghost use Rattle.state_rules.specs.Calls as Calls;
 ghost use Rattle.state_rules.specs.Calls.{answerFrom};
 ghost use Rattle.touch_rules.specs.TouchCalls.{telling, touchesAttention, touchesPowerUp, touchesStep, touchesSweep};
-
-// The number of a step's kind.
-fn kind_number(kind: Kind) -> u32
-    ensures { λ r. ⌜ r ≡ Calls.kindNumber kind ⌝ }
-{
-    match kind {
-        Kind::Nothing => 0,
-        Kind::Instruction => 1,
-        Kind::Transfer => 2,
-        Kind::External => 3,
-    }
-}
 
 // An answer of its four parts.
 fn answer(number: u32, channel: u32, kind: u32, count: usize) -> u32
@@ -43,7 +31,7 @@ fn whole(o: StepOutlook) -> u32
     ensures { λ r. ⌜ r ≡ answerFrom (o .number) (o .channel) (Calls.kindNumber (o .kind)) (o .count) ⌝ }
 {
     let kind = o.kind;
-    answer(o.number, o.channel, kind_number(kind), o.count)
+    answer(o.number, o.channel, answers::kind_number(kind), o.count)
 }
 
 // Tells what an attention would touch.
