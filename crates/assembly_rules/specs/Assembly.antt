@@ -1,4 +1,4 @@
--- A whole text assembled: its labels, the first line that a number refuses, and the bytes.
+-- A whole text assembled: its labels, the first line that a number refuses, and the bytes (§14).
 use mathlib.Core.Bool.{Bool, true, not, _&&_, _||_}
 use mathlib.Core.List.{List, [], _∷_, _++_}
 use Prim.Native.Nat.{ℕ, suc, _+_, _%_}
@@ -27,34 +27,34 @@ saidIn (line ∷ lines) = saidBy line ∷ saidIn lines
 abbrev pub mostLabels : ℕ
 mostLabels = 64
 
--- names that are no labels: the words, DB, DW and the registers
+-- names that are no labels: the words, DB, DW and the registers (§14.5)
 unfoldable pub isReserved : List ℕ → Bool
 isReserved name = hasWord entries name || (sameText name (ascii "DB") || (sameText name (ascii "DW") || isRegister name))
 
--- a label is kept unless it is over 12 characters, kept already or reserved, or 64 are kept
+-- a label is kept unless it is over 12 characters, kept already or reserved, or 64 are kept (§14.5)
 unfoldable pub mayKeep : List Label → List ℕ → Bool
 mayKeep kept name = leb (length name) 12 && (not (labelWorth kept name .known) && (not (isReserved name) && ltb (length kept) mostLabels))
 
--- the labels after a line's own, at the address of its first byte
+-- the labels after a line's own, at the address of its first byte (§14.5)
 unfoldable pub keptWith : List Label → ℕ → List ℕ → List Label
 keptWith kept address [] = kept
 keptWith kept address (c ∷ cs) = pick (mayKeep kept (c ∷ cs)) (kept ++ (label (c ∷ cs) address ∷ [])) kept
 
--- all labels that are kept; an address counts mod 65,536
+-- all labels that are kept; an address counts mod 65,536 (§14.5)
 unfoldable pub labelsFrom : List Label → ℕ → List Said → List Label
 labelsFrom kept address [] = kept
 labelsFrom kept address (s ∷ more) = labelsFrom (keptWith kept (address % 65536) (s .name)) (address + statementSize (s .statement)) more
 
--- whether a line's own label is kept, being the first of its name
+-- whether a line's own label is kept, being the first of its name (§14.5)
 unfoldable pub labelStands : List Label → ℕ → List ℕ → Bool
 labelStands kept address [] = true
 labelStands kept address (c ∷ cs) = mayKeep kept (c ∷ cs)
 
--- a line with bytes whose last lies beyond the room
+-- a line with bytes whose last lies beyond the room (§14.6)
 abbrev pub pastRoom : ℕ → ℕ → ℕ → Bool
 pastRoom size before room = ltb 0 size && ltb room (before + size)
 
--- a line's number under all the labels: 30 to 32, 33 for its label or a name, 34, 35 where its last byte lies beyond the room
+-- a line's number under all the labels: 30 to 32, 33 for its label or a name, 34, 35 where its last byte lies beyond the room (§14.6)
 unfoldable pub lineNumber : List Label → List Label → ℕ → ℕ → ℕ → Said → ℕ
 lineNumber labels kept address before room s =
     let n = statementNumber labels address (s .statement) in
@@ -70,7 +70,7 @@ pub record Assembled : Type 0 where
 abbrev pub assembled : ℕ → ℕ → List ℕ → Assembled
 assembled number line bytes = record { number = number; line = line; bytes = bytes }
 
--- the lines from one on: the labels kept before it, its address and number, the bytes before it
+-- the lines from one on: the labels kept before it, its address and number, the bytes before it (§14.6)
 unfoldable pub assembledFrom : List Label → List Label → ℕ → ℕ → ℕ → List ℕ → List Said → Assembled
 assembledFrom labels kept first room line done [] = assembled 0 0 done
 assembledFrom labels kept first room line done (s ∷ more) =
@@ -80,7 +80,7 @@ assembledFrom labels kept first room line done (s ∷ more) =
     (assembledFrom labels (keptWith kept address (s .name)) first room (suc line) (done ++ statementBytes labels address (s .statement)) more)
     (assembled n line [])
 
--- a text assembled from an address into a room
+-- a text assembled from an address into a room (§14)
 unfoldable pub assembleOf : List ℕ → ℕ → ℕ → Assembled
 assembleOf text first room =
     let lines = saidIn (linesIn text) in

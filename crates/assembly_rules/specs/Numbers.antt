@@ -1,4 +1,4 @@
--- Constants: runs that begin with a digit, read in the radix that the last letter tells.
+-- Constants: runs that begin with a digit, read in the radix that the last letter tells (§14.2).
 use mathlib.Core.Bool.{Bool, _&&_, _||_}
 use mathlib.Core.List.{List, [], _∷_}
 use Prim.Native.Nat.{ℕ, _+_, _*_, _-_, _%_}
@@ -12,11 +12,11 @@ use Rattle.assembly_rules.specs.Text.{isDigit}
 unfoldable pub digitValue : ℕ → ℕ
 digitValue c = pick (isDigit c) (c - 48) (pick (leb 65 c && leb c 70) (c - 55) 16)
 
--- B binary, O and Q octal, D decimal, H hexadecimal
+-- B binary, O and Q octal, D decimal, H hexadecimal (§14.2)
 unfoldable pub isRadix : ℕ → Bool
 isRadix c = eqb c 66 || (eqb c 79 || (eqb c 81 || (eqb c 68 || eqb c 72)))
 
--- without such a letter it is decimal
+-- without such a letter it is decimal (§14.2)
 unfoldable pub radixOf : ℕ → ℕ
 radixOf c = pick (eqb c 66) 2 (pick (eqb c 79 || eqb c 81) 8 (pick (eqb c 72) 16 10))
 
@@ -31,7 +31,7 @@ butLast [] = []
 butLast (c ∷ []) = []
 butLast (c ∷ d ∷ cs) = c ∷ butLast (d ∷ cs)
 
--- digits read behind a value so far, mod 65,536; each must be below the radix
+-- digits read behind a value so far, mod 65,536; each must be below the radix (§14.2)
 unfoldable pub digitsFrom : ℕ → ℕ → List ℕ → Constant
 digitsFrom radix value [] = Value value
 digitsFrom radix value (c ∷ cs) =
@@ -41,6 +41,6 @@ digitsFrom radix value (c ∷ cs) =
 unfoldable pub constantDigits : List ℕ → List ℕ
 constantDigits r = pick (isRadix (lastOf r)) (butLast r) r
 
--- the constant that a run is
+-- the constant that a run is (§14.2)
 unfoldable pub constantOf : List ℕ → Constant
 constantOf r = digitsFrom (radixOf (lastOf r)) 0 (constantDigits r)

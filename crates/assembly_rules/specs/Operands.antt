@@ -1,4 +1,4 @@
--- Operands as they are written: registers, memory and sums; which of them a place takes, and the entry of a word with its operands.
+-- Operands as they are written: registers, memory and sums; which of them a place takes, and the entry of a word with its operands (§14.3).
 use mathlib.Core.Bool.{Bool, true, false, not, _&&_, _||_}
 use mathlib.Core.List.{List, [], _∷_}
 use Prim.Native.Nat.{ℕ}
@@ -19,13 +19,13 @@ pub data Written : Type 0 where
   value : List Token → Written
   nothing : Written
 
--- memory from behind its base and ] on: nothing more, or a point and an offset
+-- memory from behind its base and ] on: nothing more, or a point and an offset (§14.3)
 unfoldable pub closedMemory : ℕ → List Token → Written
 closedMemory mm [] = memory mm 0 []
 closedMemory mm (run r ∷ ts) = nothing
 closedMemory mm (mark c ∷ ts) = pick (eqb c 46 && isSum ts) (memory mm 1 ts) nothing
 
--- from behind its base and + IX on: ] or +]
+-- from behind its base and + IX on: ] or +] (§14.3)
 unfoldable pub endedMemory : ℕ → List Token → Written
 endedMemory mm [] = nothing
 endedMemory mm (run r ∷ ts) = nothing
@@ -66,7 +66,7 @@ aloneNumber [] = 9
 abbrev pub sumFrom : List Token → Written
 sumFrom ts = pick (ltb (aloneNumber ts) 8) (register (aloneNumber ts)) (pick (isSum ts) (value ts) nothing)
 
--- what some tokens are as an operand
+-- what some tokens are as an operand (§14.3)
 unfoldable pub operandFrom : List Token → Written
 operandFrom [] = nothing
 operandFrom (run r ∷ ts) = sumFrom (run r ∷ ts)
@@ -76,7 +76,7 @@ unfoldable pub operandsFrom : List (List Token) → List Written
 operandsFrom [] = []
 operandsFrom (part ∷ parts) = operandFrom part ∷ operandsFrom parts
 
--- whether a place takes an operand: G is a register but CC, P one that holds a pointer
+-- whether a place takes an operand: G is a register but CC, P one that holds a pointer (§14.3)
 abbrev pub takesRegister : OperandKind → ℕ → Bool
 takesRegister 'R r = true
 takesRegister 'G r = not (eqb r 6)
@@ -127,7 +127,7 @@ unfoldable pub entryIn : List Entry → List ℕ → List Written → Chosen
 entryIn [] word ws = untaken
 entryIn (e ∷ es) word ws = pick (sameText (e .word) word && takesAll (e .kinds) ws) (taken e) (entryIn es word ws)
 
--- whether no more than eight parentheses are open at once
+-- whether no more than eight parentheses are open at once (§14.2)
 unfoldable pub isShallow : Written → Bool
 isShallow (register r) = true
 isShallow (memory mm aa ts) = leb (depthOf ts) mostOpen

@@ -1,4 +1,4 @@
--- What a line says: its label, and a word with its operands, DB, DW or nothing; how many bytes it has, and which.
+-- What a line says: its label, and a word with its operands, DB, DW or nothing; how many bytes it has, and which (§14).
 use mathlib.Core.Bool.{Bool, true, false, not, _&&_, _||_}
 use mathlib.Core.List.{List, [], _∷_, _++_}
 use Prim.Native.Nat.{ℕ, _+_, _*_, _-_, _%_}
@@ -28,7 +28,7 @@ pub record Headed : Type 0 where
 abbrev pub headed : List ℕ → List Token → Headed
 headed name body = record { name = name; body = body }
 
--- a name and a colon in front are a label
+-- a name and a colon in front are a label (§14.1)
 unfoldable pub headedBy : List Token → Headed
 headedBy [] = headed [] []
 headedBy (mark c ∷ ts) = headed [] (mark c ∷ ts)
@@ -43,7 +43,7 @@ pub data Statement : Type 0 where
   instruction : Entry → List Written → Statement
   refused : ℕ → Statement
 
--- operands stand between commas
+-- operands stand between commas (§14.3)
 abbrev pub operandParts : List Token → List (List Token)
 operandParts [] = []
 operandParts (t ∷ ts) = cutAt isComma (t ∷ ts)
@@ -56,7 +56,7 @@ unfoldable pub allLow : List (List Token) → Bool
 allLow [] = true
 allLow (part ∷ parts) = leb (depthOf part) mostOpen && allLow parts
 
--- DB and DW have one sum or more
+-- DB and DW have one sum or more (§14.3)
 unfoldable pub itemsFrom : Bool → List (List Token) → Statement
 itemsFrom two [] = refused 31
 itemsFrom two (part ∷ parts) = pick (allSums (part ∷ parts)) (pick (allLow (part ∷ parts)) (items two (part ∷ parts)) (refused 32)) (refused 31)
@@ -75,7 +75,7 @@ statementOf (run r ∷ ts) =
     pick (sameText r (ascii "DB")) (itemsFrom false (operandParts ts))
     (pick (sameText r (ascii "DW")) (itemsFrom true (operandParts ts)) (wordStatement r (operandsFrom (operandParts ts))))
 
--- the bytes of a number in a place
+-- the bytes of a number in a place (§14.4)
 abbrev pub kindSize : OperandKind → ℕ
 kindSize 'R = 0
 kindSize 'G = 0
@@ -107,25 +107,25 @@ memoriesIn (k ∷ ks) = pick (isMemoryKind k) 1 0 + memoriesIn ks
 abbrev pub pairsSize : List OperandKind → ℕ
 pairsSize ks = pick (ltb 1 (memoriesIn ks)) 4 2
 
--- how many bytes a line has, whatever its names are worth
+-- how many bytes a line has, whatever its names are worth (§14.4)
 unfoldable pub statementSize : Statement → ℕ
 statementSize blank = 0
 statementSize (items two parts) = pick two 2 1 * length parts
 statementSize (instruction e ws) = pairsSize (e .kinds) + (offsetsSize ws + kindsSize (e .kinds))
 statementSize (refused n) = 0
 
--- a number that one byte holds, signed or not
+-- a number that one byte holds, signed or not (§14.4)
 unfoldable pub isByte : ℕ → Bool
 isByte n = ltb n 256 || leb 0xFF80 n
 
--- how far a target is from an instruction's end, and whether one byte reaches it
+-- how far a target is from an instruction's end, and whether one byte reaches it (§14.4)
 unfoldable pub reachTo : ℕ → ℕ → ℕ
 reachTo end target = (target + 65536 - end % 65536) % 65536
 
 abbrev pub isNear : ℕ → Bool
 isNear reach = ltb reach 0x80 || leb 0xFF80 reach
 
--- whether a number may stand in a place; `end` is the address behind the instruction
+-- whether a number may stand in a place; `end` is the address behind the instruction (§14.4)
 unfoldable pub mayStand : OperandKind → ℕ → ℕ → Bool
 mayStand 'R end n = true
 mayStand 'G end n = true
@@ -162,7 +162,7 @@ unfoldable pub itemsStand : List Label → List (List Token) → Bool
 itemsStand labels [] = true
 itemsStand labels (part ∷ parts) = isByte (sumWorth labels part .value) && itemsStand labels parts
 
--- 30, 31 or 32 as the line itself shows; 33 where a name is unknown; 34 where a number may not stand; `address` is that of the first byte
+-- 30, 31 or 32 as the line itself shows; 33 where a name is unknown; 34 where a number may not stand; `address` is that of the first byte (§14.6)
 unfoldable pub statementNumber : List Label → ℕ → Statement → ℕ
 statementNumber labels address blank = 0
 statementNumber labels address (items two parts) = pick (itemsKnown labels parts) (pick (two || itemsStand labels parts) 0 34) 33
@@ -170,7 +170,7 @@ statementNumber labels address (instruction e ws) =
     pick (namesKnown labels ws) (pick (allStand labels (address + statementSize (instruction e ws)) (e .kinds) ws) 0 34) 33
 statementNumber labels address (refused n) = n
 
--- the bytes of a pair: RRR dd AA W, opcode MM
+-- the bytes of a pair: RRR dd AA W, opcode MM (§6.1)
 unfoldable pub pairBytes : Pair → List ℕ
 pairBytes p = (p .rrr * 32 + p .dd * 8 + p .aa * 2 + p .w) ∷ (p .opcode * 4 + p .mm) ∷ []
 
@@ -210,7 +210,7 @@ unfoldable pub allOffsets : List Label → List Written → List ℕ
 allOffsets labels [] = []
 allOffsets labels (w ∷ ws) = writtenOffset labels w ++ allOffsets labels ws
 
--- the bytes of a number in its place: data as it is, a target as its distance
+-- the bytes of a number in its place: data as it is, a target as its distance (§14.4)
 abbrev pub numberBytes : OperandKind → ℕ → ℕ → List ℕ
 numberBytes 'R end n = []
 numberBytes 'G end n = []
@@ -235,7 +235,7 @@ secondBytes w (memory mm aa ts) = (aa * 2 + w) ∷ (0xCC + mm) ∷ []
 secondBytes w (value ts) = []
 secondBytes w nothing = []
 
--- MOV M,M: the source's pair and offset, then the destination's; its opcode is 33h and W that of the first pair
+-- MOV M,M: the source's pair and offset, then the destination's; its opcode is 33h and W that of the first pair (§14.3)
 unfoldable pub moveBytes : List Label → Entry → List Written → List ℕ
 moveBytes labels e [] = []
 moveBytes labels e (to ∷ ws) =

@@ -1,4 +1,4 @@
--- Sums: which tokens are one, how deep its parentheses go, and what it is worth.
+-- Sums: which tokens are one, how deep its parentheses go, and what it is worth (§14.2).
 use mathlib.Core.Bool.{Bool, true, false, not, _&&_, _||_}
 use mathlib.Core.List.{List, [], _∷_, _++_}
 use Prim.Native.Nat.{ℕ, zero, suc, _+_, _-_, _%_}
@@ -33,7 +33,7 @@ registerNumber r = indexIn registersNamed r
 abbrev pub isRegister : List ℕ → Bool
 isRegister r = ltb (registerNumber r) 9
 
--- a run that begins with a digit is a constant or nothing; any other is a name
+-- a run that begins with a digit is a constant or nothing; any other is a name (§14.2)
 abbrev pub beginsDigit : List ℕ → Bool
 beginsDigit r = isDigit (getD r 0 0)
 
@@ -41,7 +41,7 @@ abbrev pub isValue : Constant → Bool
 isValue (Value v) = true
 isValue NoConstant = false
 
--- what a run may be in a sum: a constant, or a name that is no register
+-- what a run may be in a sum: a constant, or a name that is no register (§14.2)
 unfoldable pub isTerm : List ℕ → Bool
 isTerm r = pick (beginsDigit r) (isValue (constantOf r)) (not (isRegister r))
 
@@ -74,7 +74,7 @@ term? s = pick (s .due) (scan (s .good) (s .opened) (s .most) false false) (noSu
 abbrev pub sign? : Scan → Scan
 sign? s = pick (s .due) (noSum s) (scan (s .good) (s .opened) (s .most) true false)
 
--- a minus also before a sum's first term
+-- a minus also before a sum's first term (§14.2)
 abbrev pub minus? : Scan → Scan
 minus? s = pick (s .due && s .begins) (scan (s .good) (s .opened) (s .most) true false) (sign? s)
 
@@ -101,7 +101,7 @@ scanFrom s (t ∷ ts) = scanFrom (scanned s (roleOf t)) ts
 abbrev pub isWhole : Scan → Bool
 isWhole s = s .good && (not (s .due) && eqb (s .opened) 0)
 
--- whether tokens are a sum, and how many parentheses are open at once
+-- whether tokens are a sum, and how many parentheses are open at once (§14.2)
 unfoldable pub isSum : List Token → Bool
 isSum ts = isWhole (scanFrom scanStart ts)
 
@@ -119,12 +119,12 @@ label name address = record { name = name; address = address }
 abbrev pub worth : ℕ → Bool → Worth
 worth value known = record { value = value; known = known }
 
--- a name is worth its label's address, if it has one
+-- a name is worth its label's address, if it has one (§14.2)
 unfoldable pub labelWorth : List Label → List ℕ → Worth
 labelWorth [] name = worth 0 false
 labelWorth (l ∷ ls) name = pick (sameText (l .name) name) (worth (l .address) true) (labelWorth ls name)
 
--- a worth with another one added, or taken away where the sign is a minus, mod 65,536
+-- a worth with another one added, or taken away where the sign is a minus, mod 65,536 (§14.2)
 unfoldable pub combinedWorth : ℕ → Worth → Worth → Worth
 combinedWorth sign a b =
     worth (pick (eqb sign 45) (a .value % 65536 + 65536 - b .value % 65536) (a .value % 65536 + b .value % 65536) % 65536) (a .known && b .known)
@@ -176,7 +176,7 @@ firstSign ts = pick (beginsMinus ts) 45 43
 abbrev pub pastMinus : List Token → List Token
 pastMinus ts = pick (beginsMinus ts) (drop 1 ts) ts
 
--- a sum whose terms are read by `term`, from left to right
+-- a sum whose terms are read by `term`, from left to right (§14.2)
 unfoldable pub sumWith : (List Token → Read) → List Token → Read
 sumWith term ts = andThen (term (pastMinus ts)) (λ x rest. restWith term (length rest) (combinedWorth (firstSign ts) (worth 0 true) x) rest)
 
@@ -194,7 +194,7 @@ termBy inside labels [] = wrong
 termBy inside labels (run r ∷ ts) = runRead labels r ts
 termBy inside labels (mark c ∷ ts) = pick (eqb c 40) (inside ts) wrong
 
--- one term, of whose parentheses `depth` may be open at once
+-- one term, of whose parentheses `depth` may be open at once (§14.2)
 unfoldable pub termOf : ℕ → List Label → List Token → Read
 termOf zero labels = termBy (λ ts. deep) labels
 termOf (suc depth) labels = termBy (λ ts. andThen (sumWith (termOf depth labels) ts) closeAt) labels
@@ -202,7 +202,7 @@ termOf (suc depth) labels = termBy (λ ts. andThen (sumWith (termOf depth labels
 unfoldable pub sumWithin : ℕ → List Label → List Token → Read
 sumWithin depth labels ts = sumWith (termOf depth labels) ts
 
--- eight parentheses may be open at once
+-- eight parentheses may be open at once (§14.2)
 abbrev pub mostOpen : ℕ
 mostOpen = 8
 
@@ -211,6 +211,6 @@ worthIn (read w ts) = w
 worthIn deep = worth 0 false
 worthIn wrong = worth 0 false
 
--- what the sum that some tokens begin with is worth
+-- what the sum that some tokens begin with is worth (§14.2)
 unfoldable pub sumWorth : List Label → List Token → Worth
 sumWorth labels ts = worthIn (sumWithin mostOpen labels ts)

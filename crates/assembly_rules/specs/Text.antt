@@ -1,11 +1,11 @@
--- The text of an assembly: its lines, and the tokens of a line.
+-- The text of an assembly: its lines, and the tokens of a line (§14.1).
 use mathlib.Core.Bool.{Bool, false, _&&_, _||_}
 use mathlib.Core.List.{List, [], _∷_}
 use Prim.Native.Nat.{ℕ, _-_}
 use lib.Dec.{eqb, leb}
 use Rattle.ground_rules.specs.Choice.{pick}
 
--- small letters count as capitals
+-- small letters count as capitals (§14.1)
 unfoldable pub capitalOf : ℕ → ℕ
 capitalOf c = pick (leb 97 c && leb c 122) (c - 32) c
 
@@ -19,19 +19,19 @@ isDigit c = leb 48 c && leb c 57
 unfoldable pub isCapital : ℕ → Bool
 isCapital c = leb 65 c && leb c 90
 
--- letters, digits and _ make runs
+-- letters, digits and _ make runs (§14.1)
 unfoldable pub isRun : ℕ → Bool
 isRun c = isDigit c || (isCapital (capitalOf c) || eqb c 95)
 
--- space, tab and CR
+-- space, tab and CR (§14.1)
 unfoldable pub isBlank : ℕ → Bool
 isBlank c = eqb c 32 || (eqb c 9 || eqb c 13)
 
--- LF ends a line, and from ; on it is a comment
+-- LF ends a line, and from ; on it is a comment (§14.1)
 unfoldable pub endsLine : ℕ → Bool
 endsLine c = eqb c 10 || eqb c 59
 
--- a token: a run of characters, in capitals, or any other character by itself
+-- a token: a run of characters, in capitals, or any other character by itself (§14.1)
 pub data Token : Type 0 where
   run : List ℕ → Token
   mark : ℕ → Token
@@ -81,7 +81,7 @@ unfoldable pub cutAt : {A : Type 0} → (A → Bool) → List A → List (List A
 cutAt test [] = [] ∷ []
 cutAt test (a ∷ rest) = pick (test a) ([] ∷ cutAt test rest) (ahead a (cutAt test rest))
 
--- the lines of a text: LF ends each, and what follows the last LF is a line too
+-- the lines of a text: LF ends each, and what follows the last LF is a line too (§14.1)
 unfoldable pub linesIn : List ℕ → List (List ℕ)
 linesIn text = cutAt (λ c. eqb c 10) text
 

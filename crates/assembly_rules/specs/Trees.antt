@@ -1,4 +1,4 @@
--- A sum as a tree: constants and names, terms added and taken away, sums in parentheses; its tokens, its depth and its value.
+-- A sum as a tree: constants and names, terms added and taken away, sums in parentheses; its tokens, its depth and its value (§14.2).
 use mathlib.Core.Path.{_≡_}
 use mathlib.Core.Bool.{Bool, true, false, _&&_}
 use mathlib.Core.List.{List, [], _∷_, _++_}

@@ -143,7 +143,7 @@ fn mark_if(sys: &mut [u8], io: &mut [u8], on: bool, block: u32, busy: u8)
     ensures { λ r. ⌜ lent (sys .exit) (io .exit) ≡ pick on (marked (lent (sys .entry) (io .entry)) block busy) (lent (sys .entry) (io .entry)) ⌝ }
 {
     if on {
-        memory::store_byte(sys, io, false, words::sum20(block, 1), busy);
+        memory::store_byte(sys, io, false, machine::states::busy(block), busy);
     }
 }
 

@@ -14,7 +14,7 @@ ghost use Rattle.attention_rules.specs.Touched as Touched;
 fn busy(sys: &[u8], io: &[u8], block: u32) -> bool
     ensures { λ r. ⌜ r ≡ allTouchable (lent (sys .entry) (io .entry)) (span false (busyIn block) 1) ⌝ }
 {
-    memory::span_touchable(sys, io, false, words::sum20(block, 1), 1)
+    memory::span_touchable(sys, io, false, machine::states::busy(block), 1)
 }
 
 // Whether PB's first `count` bytes and BUSY may be touched.

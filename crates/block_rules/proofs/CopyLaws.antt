@@ -7,6 +7,7 @@ use mathlib.Core.Path.{_≡_, refl, sym, ap, _∙_}
 use native.Mathlib.Decide.{decLe, ℕ-discrete}
 use native.Mathlib.Nat.{add-assoc}
 use native.Mathlib.Omega.{arith}
+use Rattle.ground_rules.specs.Values.{onward}
 use Rattle.ground_rules.specs.declared.Channel.{Channel}
 use Rattle.ground_rules.proofs.PlaceLaws.{index-reduced, index-after, touchable-index, byte-index, store-index, byte-reduced, store-reduced}
 use Rattle.ground_rules.proofs.StoreLaws.{lent-touchable, store-length, read-other}
@@ -20,7 +21,7 @@ use Rattle.transfer_rules.specs.Stores.{movedChannel}
 use Rattle.ground_rules.specs.Sums.{sum20}
 use Rattle.block_rules.specs.Premises.{from, into, Plain, Copy}
 use Rattle.block_rules.specs.Rows.{Untouched, Row, start, steps, other}
-use Rattle.block_rules.specs.Stages.{onBy, midway, finished, RangesHeld, Within}
+use Rattle.block_rules.specs.Stages.{midway, finished, RangesHeld, Within}
 use Rattle.block_rules.specs.Totals.{movedAfter, narrow, alone, total}
 use Rattle.block_rules.proofs.CountLaws.{moved-narrow, total-narrow, moved-wide, alone-none, alone-one, moved-zero, moved-le, moved-short}
 use Rattle.block_rules.proofs.HeldLaws.{held-start, copy-one, copy-two, held-left}
@@ -106,20 +107,22 @@ copied-on-two p q j m =
     ∙ ap (storeByte (put1 p q j m) (q .tag) (q .address + (j + 1))) (byte-index m (p .tag) (sum20 (p .address) j + 1) (p .address + (j + 1)) (index-two p j))
 
 -- a step of a channel whose sides are on by j, where one byte moves
-step-one : (c : Channel) (m : Buffers) (p q : Pointer) (j : ℕ) → (source c) .pointer ≡ onBy p j → (destination c) .pointer ≡ onBy q j
+step-one : (c : Channel) (m : Buffers) (p q : Pointer) (j : ℕ) → (source c) .pointer ≡ onward p j → (destination c) .pointer ≡ onward q j
     → Block (c .fields) → c .fields .synchronised ≡ 0 → twoMove c ≡ false
     → lentAt m (p .tag) (p .address + j) ≡ true → lentAt m (q .tag) (q .address + j) ≡ true
     → transferOf c m ≡ transferred 0 (movedChannel c (dataOf c m)) (put1 p q j m)
+unfolding onward
 step-one c m p q j es ed b free one lp lq =
     block-step c m b free one (rw es (touch-on m p j lp)) (rw ed (touch-on m q j lq))
     ∙ ap (transferred 0 (movedChannel c (dataOf c m))) (rw (es, ed) (copied-on p q j m))
 
 -- and one that moves two
-step-two : (c : Channel) (m : Buffers) (p q : Pointer) (j : ℕ) → (source c) .pointer ≡ onBy p j → (destination c) .pointer ≡ onBy q j
+step-two : (c : Channel) (m : Buffers) (p q : Pointer) (j : ℕ) → (source c) .pointer ≡ onward p j → (destination c) .pointer ≡ onward q j
     → Block (c .fields) → c .fields .synchronised ≡ 0 → twoMove c ≡ true
     → lentAt m (p .tag) (p .address + j) ≡ true → lentAt m (p .tag) (p .address + (j + 1)) ≡ true
     → lentAt m (q .tag) (q .address + j) ≡ true → lentAt m (q .tag) (q .address + (j + 1)) ≡ true
     → transferOf c m ≡ transferred 0 (movedChannel c (dataOf c m)) (put2 p q j m)
+unfolding onward
 step-two c m p q j es ed b free two lp lp′ lq lq′ =
     block-step-two c m b free two (rw es (touch-on m p j lp)) (rw es (touch-on-two m p j lp′)) (rw ed (touch-on m q j lq)) (rw ed (touch-on-two m q j lq′))
     ∙ ap (transferred 0 (movedChannel c (dataOf c m))) (rw (es, ed) (copied-on-two p q j m))
@@ -167,10 +170,10 @@ made n c₀ m₀ j m s k e fits h = go (twoMove (midway c₀ n j)) refl
     c : Channel
     c = midway c₀ n j
 
-    es : (source c) .pointer ≡ onBy (from c₀) j
+    es : (source c) .pointer ≡ onward (from c₀) j
     es = rw (mid-source c₀ n j)
 
-    ed : (destination c) .pointer ≡ onBy (into c₀) j
+    ed : (destination c) .pointer ≡ onward (into c₀) j
     ed = rw (mid-destination c₀ n j)
 
     go : (b : Bool) → twoMove (midway c₀ n j) ≡ b → Made n c₀ m₀ j m s

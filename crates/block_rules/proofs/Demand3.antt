@@ -5,6 +5,7 @@ use mathlib.Core.Bool.{true, false}
 use mathlib.Core.Path.{_≡_, refl, sym, subst, _∙_}
 use native.Mathlib.Decide.{decLt}
 use native.Mathlib.Omega.{arith}
+use Rattle.ground_rules.specs.Values.{onward}
 use Rattle.ground_rules.specs.Psw.{transferring, withPsw}
 use Rattle.ground_rules.specs.States.{isRunning}
 use Rattle.ground_rules.specs.declared.Channel.{Channel}
@@ -17,7 +18,7 @@ use Rattle.ground_rules.proofs.BitLaws.{bit-same}
 use Rattle.ground_rules.proofs.ChoiceLaws.{apart}
 use Rattle.block_rules.specs.Premises.{into, Plain, Copy}
 use Rattle.block_rules.specs.Rows.{after, Row, EndsAt, start, steps}
-use Rattle.block_rules.specs.Stages.{onBy, midway, finished, Within, Going, Ended}
+use Rattle.block_rules.specs.Stages.{midway, finished, Within, Going, Ended}
 use Rattle.block_rules.specs.Totals.{movedAfter, total}
 use Rattle.block_rules.proofs.CopyLaws.{Reached, Made, within-then, stage-end, next-made, reached-mid, down, reached}
 use Rattle.block_rules.proofs.CountLaws.{moved-short, moved-all}
@@ -67,7 +68,7 @@ unfolding finished withTransfer withPsw
 end-over c n = bit-same (c .psw) 6 false
 
 -- TP has gained the offset of TBC
-end-tp : (c : Channel) (n : ℕ) → (finished c n) .tp ≡ onBy (c .tp) (offsetOf (c .fields .countEnd))
+end-tp : (c : Channel) (n : ℕ) → (finished c n) .tp ≡ onward (c .tp) (offsetOf (c .fields .countEnd))
 unfolding finished withTransfer
 end-tp c n = refl
 

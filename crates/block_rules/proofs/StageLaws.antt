@@ -7,6 +7,7 @@ use mathlib.Core.Bool.{Bool, true, false, not, _&&_, _||_}
 use mathlib.Core.Path.{_≡_, refl, sym, ap, ap₂, _∙_}
 use native.Mathlib.Decide.{decLt, ℕ-discrete}
 use native.Mathlib.Omega.{arith}
+use Rattle.ground_rules.proofs.PlaceLaws.{onward-twice}
 use Rattle.ground_rules.specs.Psw.{destinationWide, sourceWide, withPsw}
 use Rattle.ground_rules.specs.States.{soundChannel}
 use Rattle.ground_rules.specs.declared.Channel.{Channel}
@@ -26,7 +27,7 @@ use Rattle.ground_rules.specs.Bits.{bitOf}
 use Rattle.ground_rules.specs.Choice.{pick}
 use Rattle.ground_rules.specs.Sums.{countDown}
 use Rattle.block_rules.specs.Premises.{from, into, Plain}
-use Rattle.block_rules.specs.Stages.{onBy, heldOn, midway, finished}
+use Rattle.block_rules.specs.Stages.{heldOn, midway, finished}
 use Rattle.block_rules.specs.Totals.{narrow}
 
 -- the channel when j of n bytes have moved, and at n the end
@@ -36,13 +37,14 @@ stage c n j = pick (ltb j n) (midway c n j) (finished c n)
 -- ---- a pointer on
 
 -- by none
-on-none : (p : Pointer) → p .address < 1048576 → onBy p 0 ≡ p
+on-none : (p : Pointer) → p .address < 1048576 → onward p 0 ≡ p
+unfolding onward
 on-none p h = ap (λ (a : ℕ). pointer a (p .tag)) (omega arith)
 
 -- and by some more
-on-on : (p : Pointer) (j s : ℕ) → gained true (onBy p j) s ≡ onBy p (j + s)
-unfolding gained onward
-on-on p j s = ap (λ (a : ℕ). pointer a (p .tag)) (omega arith)
+on-on : (p : Pointer) (j s : ℕ) → gained true (onward p j) s ≡ onward p (j + s)
+unfolding gained
+on-on p j s = onward-twice p j s
 
 -- a sound channel's GA is of 20 bits
 ga-small : (c : Channel) → soundChannel c ≡ true → c .ga .address < 1048576
@@ -67,14 +69,14 @@ gb-small c h =
 -- ---- the sides
 
 -- the source on the way is on by the bytes moved
-pub mid-source : (c : Channel) (n j : ℕ) → source (midway c n j) ≡ side (onBy (from c) j) ((source c) .moves) ((source c) .wide)
+pub mid-source : (c : Channel) (n j : ℕ) → source (midway c n j) ≡ side (onward (from c) j) ((source c) .moves) ((source c) .wide)
 unfolding source midway withTransfer
-mid-source c n j = ap (λ (p : Pointer). side p (c .fields .sourceMoves) (sourceWide (c .psw))) (pick-under (λ (p : Pointer). onBy p j) (c .fields .sourceIsGB) (c .gb) (c .ga))
+mid-source c n j = ap (λ (p : Pointer). side p (c .fields .sourceMoves) (sourceWide (c .psw))) (pick-under (λ (p : Pointer). onward p j) (c .fields .sourceIsGB) (c .gb) (c .ga))
 
 -- and so is the destination
-pub mid-destination : (c : Channel) (n j : ℕ) → destination (midway c n j) ≡ side (onBy (into c) j) ((destination c) .moves) ((destination c) .wide)
+pub mid-destination : (c : Channel) (n j : ℕ) → destination (midway c n j) ≡ side (onward (into c) j) ((destination c) .moves) ((destination c) .wide)
 unfolding destination midway withTransfer
-mid-destination c n j = ap (λ (p : Pointer). side p (c .fields .destinationMoves) (destinationWide (c .psw))) (pick-under (λ (p : Pointer). onBy p j) (c .fields .sourceIsGB) (c .ga) (c .gb))
+mid-destination c n j = ap (λ (p : Pointer). side p (c .fields .destinationMoves) (destinationWide (c .psw))) (pick-under (λ (p : Pointer). onward p j) (c .fields .sourceIsGB) (c .ga) (c .gb))
 
 -- BC on the way
 pub mid-count : (c : Channel) (n j : ℕ) → (midway c n j) .bc ≡ (n - j) % 65536
@@ -109,15 +111,15 @@ mid-syn c n j k = ap (λ (f : Fields). f .synchronised) (mid-fields c n j) ∙ k
 -- ---- word sides
 
 -- an even way on leaves a side as it was
-word-even-on : (p : Pointer) (mv w : Bool) (j : ℕ) → j % 2 ≡ 0 → wordSide (side (onBy p j) mv w) ≡ wordSide (side p mv w)
-unfolding wordSide bitOf
+word-even-on : (p : Pointer) (mv w : Bool) (j : ℕ) → j % 2 ≡ 0 → wordSide (side (onward p j) mv w) ≡ wordSide (side p mv w)
+unfolding wordSide bitOf onward
 word-even-on p mv w j h =
     let e : (p .address + j) % 1048576 / 1 % 2 ≡ p .address / 1 % 2 = omega arith in
     ap (λ (x : ℕ). w && not (eqb x 1)) e
 
 -- an odd way on turns it
-word-odd-on : (p : Pointer) (mv w : Bool) (j : ℕ) → j % 2 ≡ 1 → wordSide (side (onBy p j) mv w) ≡ (w && bitOf (p .address) 0)
-unfolding wordSide bitOf
+word-odd-on : (p : Pointer) (mv w : Bool) (j : ℕ) → j % 2 ≡ 1 → wordSide (side (onward p j) mv w) ≡ (w && bitOf (p .address) 0)
+unfolding wordSide bitOf onward
 word-odd-on p mv w j h = ap (λ (b : Bool). w && b) (go (ℕ-discrete (p .address / 1 % 2) 1))
   where
     go : Dec (p .address / 1 % 2 ≡ 1) → not (eqb ((p .address + j) % 1048576 / 1 % 2) 1) ≡ eqb (p .address / 1 % 2) 1
@@ -184,10 +186,10 @@ carried-mid c n j s e one two fits most =
     held : NoByte ≡ heldOn c (j + s)
     held = rw (ne-eqb (j + s) 0 (omega arith))
 
-    ga : gained true (onBy (c .ga) j) (stride (midway c n j)) ≡ onBy (c .ga) (j + s)
+    ga : gained true (onward (c .ga) j) (stride (midway c n j)) ≡ onward (c .ga) (j + s)
     ga = rw e (on-on (c .ga) j s)
 
-    gb : gained true (onBy (c .gb) j) (stride (midway c n j)) ≡ onBy (c .gb) (j + s)
+    gb : gained true (onward (c .gb) j) (stride (midway c n j)) ≡ onward (c .gb) (j + s)
     gb = rw e (on-on (c .gb) j s)
 
     bc : countDown ((n - j) % 65536) (stride (midway c n j)) ≡ (n - (j + s)) % 65536
@@ -199,13 +201,13 @@ left-mid c n j s e two fits most = rw (e, mid-count c n j) (omega arith)
 
 -- the end
 ends-mid : (c : Channel) (n : ℕ) → 1 ≤ n → (c .fields .countEnd ≡ 0 → ⊥) → endedBy (midway c n n) (c .fields .countEnd) ≡ finished c n
-unfolding endedBy endedTP endedPSW midway finished withTransfer gained onward
-ends-mid c n some ne = λ i. holding (withTransfer c (onBy (c .ga) n) (onBy (c .gb) n) (tp i) (bc i) (psw i)) (held i)
+unfolding endedBy endedTP endedPSW midway finished withTransfer gained
+ends-mid c n some ne = λ i. holding (withTransfer c (onward (c .ga) n) (onward (c .gb) n) (tp i) (bc i) (psw i)) (held i)
   where
     held : heldOn c n ≡ NoByte
     held = rw (ne-eqb n 0 (omega arith))
 
-    tp : gained (not (eqb (c .fields .countEnd) 0)) (c .tp) (offsetOf (c .fields .countEnd)) ≡ onBy (c .tp) (offsetOf (c .fields .countEnd))
+    tp : gained (not (eqb (c .fields .countEnd) 0)) (c .tp) (offsetOf (c .fields .countEnd)) ≡ onward (c .tp) (offsetOf (c .fields .countEnd))
     tp = rw (ne-eqb (c .fields .countEnd) 0 ne)
 
     psw : pick (eqb (c .fields .countEnd) 0) (c .psw) (withPsw (c .psw) 6 false) ≡ withPsw (c .psw) 6 false

@@ -3,9 +3,8 @@ use mathlib.Core.Bool.{Bool, true, false}
 use mathlib.Core.Path.{_≡_}
 use Prim.Native.Nat.{ℕ, _+_, _-_, _%_, _<_, _≤_}
 use lib.ListN.{length}
-use Rattle.ground_rules.specs.Sums.{sum20}
 use Rattle.ground_rules.specs.declared.Pointer.{Pointer}
-use Rattle.ground_rules.specs.Values.{pointer}
+use Rattle.ground_rules.specs.Values.{onward}
 use Rattle.ground_rules.specs.Buffers.{Buffers, spaceOf, byteAt}
 use Rattle.ground_rules.specs.Places.{Apart}
 use Rattle.ground_rules.specs.declared.Channel.{Channel}
@@ -21,22 +20,18 @@ use Rattle.transfer_rules.specs.Steps.{transferOf}
 use Rattle.block_rules.specs.Premises.{from, into, Lent}
 use Rattle.block_rules.specs.Totals.{movedAfter}
 
--- a pointer on by some bytes
-abbrev pub onBy : Pointer → ℕ → Pointer
-onBy p by = pointer (sum20 (p .address) by) (p .tag)
-
 -- what the channel holds when j bytes have moved: what it held at the start, which the first step drops
 abbrev pub heldOn : Channel → ℕ → HeldByte
 heldOn c j = pick (eqb j 0) (c .held) NoByte
 
 -- the channel when j of n bytes have moved: GA and GB on by j, BC n - j, a held byte dropped, every other register as at the start
 unfoldable pub midway : Channel → ℕ → ℕ → Channel
-midway c n j = holding (withTransfer c (onBy (c .ga) j) (onBy (c .gb) j) (c .tp) ((n - j) % 65536) (c .psw)) (heldOn c j)
+midway c n j = holding (withTransfer c (onward (c .ga) j) (onward (c .gb) j) (c .tp) ((n - j) % 65536) (c .psw)) (heldOn c j)
 
 -- the channel at the end: GA and GB on by n, BC 0, XF clear, TP on by the offset of TBC, nothing held, every other register as at the start
 unfoldable pub finished : Channel → ℕ → Channel
 finished c n =
-    dropped (withTransfer c (onBy (c .ga) n) (onBy (c .gb) n) (onBy (c .tp) (offsetOf (c .fields .countEnd))) 0 (withPsw (c .psw) 6 false))
+    dropped (withTransfer c (onward (c .ga) n) (onward (c .gb) n) (onward (c .tp) (offsetOf (c .fields .countEnd))) 0 (withPsw (c .psw) 6 false))
 
 -- the ranges of n bytes from p and into q when j bytes have moved, m₀ being memory as it was at the start: the first j bytes of the source have
 -- arrived in order, the others have not, the source is as it was, and all is lent
@@ -75,4 +70,4 @@ pub record Ended (n : ℕ) (c₀ : Channel) (m₀ : Buffers) (c : Channel) (m : 
   pub count : c .bc ≡ 0
   pub over : transferring (c .psw) ≡ false
   pub runs : isRunning (c .mode) ≡ true
-  pub pointer : c .tp ≡ onBy (c₀ .tp) (offsetOf (c₀ .fields .countEnd))
+  pub pointer : c .tp ≡ onward (c₀ .tp) (offsetOf (c₀ .fields .countEnd))

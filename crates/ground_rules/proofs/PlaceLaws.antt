@@ -6,12 +6,13 @@ use lib.ListN.{length, getD}
 use lib.Pow.{mod-mod-pow}
 use mathlib.Core.Bool.{Bool, true, false, _||_}
 use mathlib.Core.Path.{_≡_, sym, ap, ap₂, _∙_}
-use native.Mathlib.Nat.{mod-lt, mod-mod, mod-add-mod, add-zero}
+use native.Mathlib.Nat.{mod-lt, mod-mod, mod-add-mod, add-zero, add-assoc}
 use native.Mathlib.Omega.{arith}
 use Rattle.ground_rules.specs.Bytes.{wordOf}
 use Rattle.ground_rules.specs.Buffers.{Buffers, spaceOf, limitOf, indexOf, lentAt, touchableAt, beyondIn, byteAt, storeByte}
 use Rattle.ground_rules.specs.Places.{Apart}
-use Rattle.ground_rules.specs.Values.{wordAt, storeWord}
+use Rattle.ground_rules.specs.Values.{pointer, onward, wordAt, storeWord}
+use Rattle.ground_rules.specs.declared.Pointer.{Pointer}
 
 -- an address lies below its space's limit
 pub index-lt : (t : Bool) (a : ℕ) → indexOf t a < limitOf t
@@ -34,6 +35,11 @@ index-reduced false a = mod-mod a 1048576
 -- and so do the addresses after it
 pub index-after : (t : Bool) (a k : ℕ) → indexOf t (a % 1048576 + k) ≡ indexOf t (a + k)
 index-after t a k = sym (index-reduced t (a % 1048576 + k)) ∙ ap (indexOf t) (mod-add-mod a 1048576 k) ∙ index-reduced t (a + k)
+
+-- a pointer on, and on again
+pub onward-twice : (p : Pointer) (i j : ℕ) → onward (onward p i) j ≡ onward p (i + j)
+unfolding onward
+onward-twice p i j = ap (λ (a : ℕ). pointer a (p .tag)) (mod-add-mod (p .address + i) 1048576 j ∙ ap (λ (a : ℕ). a % 1048576) (add-assoc (p .address) i j))
 
 -- the next address lies next, short of the limit
 pub index-next : (t : Bool) (a n : ℕ) → indexOf t a < n → n < limitOf t → indexOf t (a + 1) ≡ indexOf t a + 1

@@ -1,4 +1,5 @@
 mod PasteLaws
+mod ReaderLaws
 pub mod UnusedLaws
 pub mod RowLaws
 pub mod ListLaws

@@ -1,4 +1,4 @@
--- The way back: the entry of a word with operands, and the first pair that they stand for.
+-- The way back: the entry of a word with operands, and the first pair that they stand for (§14.8).
 use mathlib.Core.Bool.{Bool, true, false, _&&_}
 use mathlib.Core.List.{List, [], _∷_}
 use Prim.Native.Nat.{ℕ, _+_}

@@ -1,4 +1,4 @@
--- The characters of a listing by their ASCII codes.
+-- The characters of a listing by their ASCII codes (§13.1).
 use mathlib.Core.List.{List, [], _∷_, _++_}
 use Prim.Native.Nat.{ℕ, zero, suc, _+_, _/_, _%_}
 use Prim.Native.String.{String, len, charAt}
@@ -32,10 +32,10 @@ unfoldable pub hexDigits : List ℕ → List ℕ
 hexDigits [] = []
 hexDigits (b ∷ bytes) = hexDigits bytes ++ (hexGlyph (b / 16 % 16) ∷ hexGlyph (b % 16) ∷ [])
 
--- a number of one byte or two: 0, its digits, H
+-- a number of one byte or two: 0, its digits, H (§13.1)
 unfoldable pub numberText : List ℕ → List ℕ
 numberText bytes = ascii "0" ++ (hexDigits bytes ++ ascii "H")
 
--- a bit's number or a width, in decimal
+-- a bit's number or a width, in decimal (§13.1)
 unfoldable pub digitText : ℕ → List ℕ
 digitText n = pick (ltb n 10) ((48 + n) ∷ []) ((48 + n / 10 % 10) ∷ (48 + n % 10) ∷ [])

@@ -1,4 +1,4 @@
--- The words with their forms, as data: what may stand behind a word, and the fields that it fixes in the first pair.
+-- The words with their forms, as data: what may stand behind a word, and the fields that it fixes in the first pair (§13.2).
 use mathlib.Core.List.{List, [], _∷_}
 use Prim.Native.Nat.{ℕ}
 use Rattle.listing_rules.specs.Characters.{ascii}
@@ -23,7 +23,7 @@ pub record Entry : Type 0 where
 abbrev pub entry : List ℕ → List OperandKind → ℕ → ℕ → ℕ → ℕ → Entry
 entry word kinds rrr dd w opcode = record { word = word; kinds = kinds; rrr = rrr; dd = dd; w = w; opcode = opcode }
 
--- every word with every form
+-- every word with every form (§13.2)
 unfoldable pub entries : List Entry
 entries =
     --    word, form, RRR, dd, W, opcode

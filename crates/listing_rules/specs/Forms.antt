@@ -1,4 +1,4 @@
--- The operands of the instructions: which places a shape has for them, destination first; what the bytes put there; how that is spelled.
+-- The operands of the instructions: which places a shape has for them, destination first; what the bytes put there; how that is spelled (§13.1).
 use mathlib.Core.Bool.{Bool, true, false}
 use mathlib.Core.List.{List, [], _∷_, _++_}
 use Prim.Native.Nat.{ℕ, _+_, _*_, _/_, _%_}
@@ -29,7 +29,7 @@ widthOf wide = pick wide 16 8
 unfoldable pub afterOffset : Memory → ℕ
 afterOffset m = 2 + offsetLength m
 
--- the places of an instruction's operands, each with where its bytes lie behind the instruction's first; `to` is the operand of the second pair of MOV M,M
+-- the places of an instruction's operands, each with where its bytes lie behind the instruction's first; `to` is the operand of the second pair of MOV M,M (§13.1)
 unfoldable pub slotsOf : Shape → Memory → Slots
 slotsOf Nop to = slots Empty Empty Empty
 slotsOf Sintr to = slots Empty Empty Empty
@@ -67,11 +67,11 @@ pub data Operand : Type 0 where
 abbrev pub dataFrom : List ℕ → ℕ → Bool → List ℕ
 dataFrom bytes at two = getD bytes at 0 ∷ pick two (getD bytes (at + 1) 0 ∷ []) []
 
--- a displacement of one byte or two, sign-extended
+-- a displacement of one byte or two, sign-extended (§6.11)
 abbrev pub reachFrom : List ℕ → ℕ → Bool → ℕ
 reachFrom bytes at two = pick two (extended 16 (wordOf (getD bytes at 0) (getD bytes (at + 1) 0))) (extended 8 (getD bytes at 0))
 
--- the address that a jump goes to, counted from the instruction's end; addresses count mod 65,536
+-- the address that a jump goes to, counted from the instruction's end; addresses count mod 65,536 (§13.1)
 unfoldable pub targetOf : ℕ → ℕ → ℕ
 targetOf end reach = (end + reach) % 65536
 
@@ -88,33 +88,33 @@ filled bytes end (Number at two) = number (dataFrom bytes at two)
 filled bytes end (Target at two) = number (wordBytes (targetOf end (reachFrom bytes at two)))
 filled bytes end (Digit n) = digit n
 
--- the registers, RRR 0 to 6; the last, RRR 7, is MC
+-- the registers, RRR 0 to 6; the last, RRR 7, is MC (§13.1)
 abbrev pub registerNames : List (List ℕ)
 registerNames = ascii "GA" ∷ ascii "GB" ∷ ascii "GC" ∷ ascii "BC" ∷ ascii "TP" ∷ ascii "IX" ∷ ascii "CC" ∷ []
 
 unfoldable pub registerName : ℕ → List ℕ
 registerName rrr = getD registerNames rrr (ascii "MC")
 
--- the bases, MM 0 to 2; the last, MM 3, is PP
+-- the bases, MM 0 to 2; the last, MM 3, is PP (§13.1)
 abbrev pub baseNames : List (List ℕ)
 baseNames = ascii "[GA" ∷ ascii "[GB" ∷ ascii "[GC" ∷ []
 
 unfoldable pub baseName : ℕ → List ℕ
 baseName mm = getD baseNames mm (ascii "[PP")
 
--- AA 0 to 2: base, base with an offset byte, base + IX; the last, AA 3, grows IX
+-- AA 0 to 2: base, base with an offset byte, base + IX; the last, AA 3, grows IX (§13.1)
 abbrev pub modeTexts : List (List ℕ)
 modeTexts = ascii "]" ∷ ascii "]." ∷ ascii "+IX]" ∷ []
 
 unfoldable pub modeText : ℕ → List ℕ
 modeText aa = getD modeTexts aa (ascii "+IX+]")
 
--- an offset byte, unsigned, if there is one
+-- an offset byte, unsigned, if there is one (§13.1)
 abbrev pub offsetText : List ℕ → List ℕ
 offsetText [] = []
 offsetText (b ∷ bytes) = numberText (b ∷ [])
 
--- an operand as it is written
+-- an operand as it is written (§13.1)
 unfoldable pub spelled : Operand → List ℕ
 spelled none = []
 spelled (register rrr) = registerName rrr

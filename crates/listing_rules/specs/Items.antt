@@ -1,4 +1,4 @@
--- What stands at the head of some bytes: a whole instruction, a byte at which none starts, or nothing.
+-- What stands at the head of some bytes: a whole instruction, a byte at which none starts, or nothing (§13.3).
 use mathlib.Core.Bool.{Bool, false}
 use mathlib.Core.List.{List}
 use Prim.Native.Nat.{ℕ, _+_}
@@ -21,7 +21,7 @@ use Rattle.listing_rules.specs.declared.Item.the-variants.{Whole, Byte, 
 abbrev pub nowhere : Memory
 nowhere = record { mm = 0; aa = 0; wide = false }
 
--- what the second pair of MOV M,M is, behind its first pair and that pair's offset byte
+-- what the second pair of MOV M,M is, behind its first pair and that pair's offset byte (§6.5)
 unfoldable pub toOf : List ℕ → Shape → Second
 toOf bytes Nop = Operand nowhere
 toOf bytes Sintr = Operand nowhere
@@ -47,18 +47,18 @@ toOf bytes (JumpMasked equal m two) = Operand nowhere
 toOf bytes (JumpBit set bit m two) = Operand nowhere
 toOf bytes (Bit on bit m) = Operand nowhere
 
--- an instruction with the operand of its second pair, if all its bytes are there
+-- an instruction with the operand of its second pair, if all its bytes are there (§13.3)
 unfoldable pub wholeOf : List ℕ → Shape → Second → Item
 wholeOf bytes shape (Operand to) = pick (ltb (length bytes) (lengthOf shape + offsetLength to)) Byte (Whole shape to (lengthOf shape + offsetLength to))
 wholeOf bytes shape NoSecond = Byte
 
--- an instruction as its first pair shows it, if its bytes up to and with a second pair are there
+-- an instruction as its first pair shows it, if its bytes up to and with a second pair are there (§13.3)
 unfoldable pub readOf : List ℕ → Decoded → Item
 readOf bytes (Instruction shape) = pick (ltb (length bytes) (lengthOf shape)) Byte (wholeOf bytes shape (toOf bytes shape))
 readOf bytes NoInstruction = Byte
 readOf bytes ControlUsed = Byte
 
--- what some bytes begin with
+-- what some bytes begin with (§13.3)
 unfoldable pub itemOf : List ℕ → Item
 itemOf bytes = pick (eqb (length bytes) 0) End (pick (eqb (length bytes) 1) Byte (readOf bytes (decodeOf (getD bytes 0 0) (getD bytes 1 0))))
 

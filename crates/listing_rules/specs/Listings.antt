@@ -1,4 +1,4 @@
--- The listing of a part of memory: its lines, and as many of them as a buffer has room for.
+-- The listing of a part of memory: its lines, and as many of them as a buffer has room for (§13).
 use mathlib.Core.List.{List, [], _∷_, _++_}
 use Prim.Native.Nat.{ℕ, zero, suc, _+_, _-_}
 use lib.Dec.{leb}
@@ -15,7 +15,7 @@ pub record TextLine : Type 0 where
   pub bytes : List ℕ
   pub chars : List ℕ
 
--- the characters of a line; `address` is that of its first byte. CALL with W 0 is listed as data
+-- the characters of a line; `address` is that of its first byte. CALL with W 0 is listed as data (§13.3)
 unfoldable pub charsOf : ℕ → List ℕ → Item → List ℕ
 charsOf address bytes (Whole shape to count) = pick (isListed shape) (instructionLine bytes (address + count) shape to) (dataLine (take count bytes))
 charsOf address bytes Byte = dataLine (take 1 bytes)
@@ -32,7 +32,7 @@ linesBy (suc most) address [] = []
 linesBy (suc most) address (b ∷ bytes) =
     lineAt address (b ∷ bytes) ∷ linesBy most (address + countOf (itemOf (b ∷ bytes))) (drop (countOf (itemOf (b ∷ bytes))) (b ∷ bytes))
 
--- the lines of some bytes: no line lists less than a byte
+-- the lines of some bytes: no line lists less than a byte (§13.1)
 unfoldable pub linesOf : ℕ → List ℕ → List TextLine
 linesOf address bytes = linesBy (length bytes) address bytes
 
@@ -45,12 +45,12 @@ unfoldable pub allBytes : List TextLine → List ℕ
 allBytes [] = []
 allBytes (line ∷ lines) = line .bytes ++ allBytes lines
 
--- the lines before the first that does not fit
+-- the lines before the first that does not fit (§13.4)
 unfoldable pub keptIn : ℕ → List TextLine → List TextLine
 keptIn room [] = []
 keptIn room (line ∷ lines) = pick (leb (length (line .chars)) room) (line ∷ keptIn (room - length (line .chars)) lines) []
 
--- of a longer part so many bytes are listed
+-- of a longer part so many bytes are listed (§13.1)
 abbrev pub listLimit : ℕ
 listLimit = 1048576
 
@@ -63,10 +63,10 @@ pub record Listing : Type 0 where
 abbrev pub listing : ℕ → ℕ → List ℕ → Listing
 listing characters stop buffer = record { characters = characters; stop = stop; buffer = buffer }
 
--- lines written at the start of a buffer, the rest of which stays
+-- lines written at the start of a buffer, the rest of which stays (§13.4)
 unfoldable pub placed : List TextLine → List ℕ → Listing
 placed lines buffer = listing (length (allChars lines)) (length (allBytes lines)) (allChars lines ++ drop (length (allChars lines)) buffer)
 
--- the listing of a part whose first byte has the address `first`
+-- the listing of a part whose first byte has the address `first` (§13.4)
 unfoldable pub listingOf : List ℕ → ℕ → List ℕ → Listing
 listingOf code first buffer = placed (keptIn (length buffer) (linesOf first (take listLimit code))) buffer

@@ -1,4 +1,4 @@
--- The words of the instructions: the stem of the opcode, L in front where the displacement has two bytes, B behind where the operand is a byte, and I for an immediate.
+-- The words of the instructions: the stem of the opcode, L in front where the displacement has two bytes, B behind where the operand is a byte, and I for an immediate (§13.2).
 use mathlib.Core.Bool.{Bool, true, false}
 use mathlib.Core.List.{List, [], _++_}
 use Prim.Native.Nat.{ℕ}
@@ -11,11 +11,11 @@ use Rattle.instruction_rules.specs.declared.Shape.{Shape}
 use Rattle.instruction_rules.specs.declared.Shape.the-variants.{Nop, Sintr, Xfer, Wid, Hlt, Lpdi, RegisterImmediate, Register, JumpRegister, RegisterMemory, MemoryRegister, MemoryImmediate, MemoryAlone, JumpMemory, Lpd, MovpLoad, MovpStore, MovMemory, Tsl, Call, JumpMasked, JumpBit, Bit}
 use Rattle.listing_rules.specs.Characters.{ascii}
 
--- dd 10: a displacement of two bytes is a long transfer
+-- dd 10: a displacement of two bytes is a long transfer (§13.2)
 abbrev pub longMark : Bool → List ℕ
 longMark two = pick two (ascii "L") []
 
--- W 0: the operand is a byte
+-- W 0: the operand is a byte (§13.2)
 abbrev pub byteMark : Bool → List ℕ
 byteMark wide = pick wide [] (ascii "B")
 
@@ -32,7 +32,7 @@ singleStem Single.Not = ascii "NOT"
 singleStem Single.Inc = ascii "INC"
 singleStem Single.Dec = ascii "DEC"
 
--- a jump is an immediate added to TP
+-- a jump is an immediate added to TP (§13.2)
 unfoldable pub isJump : Work → ℕ → Bool
 isJump Work.Mov rrr = false
 isJump Work.Add rrr = eqb rrr 4
@@ -40,7 +40,7 @@ isJump Work.Or rrr = false
 isJump Work.And rrr = false
 isJump Work.Not rrr = false
 
--- the word of an instruction
+-- the word of an instruction (§13.2)
 unfoldable pub mnemonicOf : Shape → List ℕ
 mnemonicOf Nop = ascii "NOP"
 mnemonicOf Sintr = ascii "SINTR"
@@ -66,7 +66,7 @@ mnemonicOf (JumpMasked equal m two) = longMark two ++ pick equal (ascii "JMCE") 
 mnemonicOf (JumpBit set bit m two) = longMark two ++ pick set (ascii "JBT") (ascii "JNBT")
 mnemonicOf (Bit on bit m) = pick on (ascii "SETB") (ascii "CLR")
 
--- every instruction but CALL with W 0 has a line of its own: CALL as a word means W 1
+-- every instruction but CALL with W 0 has a line of its own: CALL as a word means W 1 (§13.3)
 abbrev pub isListed : Shape → Bool
 isListed Nop = true
 isListed Sintr = true

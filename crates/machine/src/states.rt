@@ -12,7 +12,7 @@ ghost use mathlib.Core.Path.{_≡_};
 ghost use Rattle.ground_rules.specs.Buffers.{lent};
 ghost use Rattle.ground_rules.specs.Outcomes.{givenNumber};
 ghost use Rattle.ground_rules.specs.States as States;
-ghost use Rattle.ground_rules.specs.States.{boardWith, idleChannel, blankState, resetState, freshOf, channelOf, withChannel, withLast, soundChannel, fieldsAgree, isRunning, isSuspended, blockOf, isChannel, isSecond, channelNumber};
+ghost use Rattle.ground_rules.specs.States.{boardWith, idleChannel, blankState, resetState, freshOf, channelOf, withChannel, withLast, soundChannel, fieldsAgree, isRunning, isSuspended, blockOf, busyIn, isChannel, isSecond, channelNumber};
 
 // A channel with all at 0 and idle.
 pub fn idle() -> Channel
@@ -175,6 +175,13 @@ pub fn block(s: State, second: bool) -> u32
     ensures { λ r. ⌜ r ≡ blockOf s second ⌝ }
 {
     if second { words::sum20(s.cp, 8) } else { s.cp }
+}
+
+// Where BUSY stands in a channel's block.
+pub fn busy(block: u32) -> u32
+    ensures { λ r. ⌜ r ≡ busyIn block ⌝ }
+{
+    words::sum20(block, 1)
 }
 
 // Whether a number names a channel.

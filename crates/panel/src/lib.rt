@@ -49,7 +49,15 @@ pub(crate) fn start(
         };
     }
     let c = e.channel;
-    bursts::rounds(c, second, words::sum20(block, 1), sys, io, lines, limit)
+    bursts::rounds(
+        c,
+        second,
+        machine::states::busy(block),
+        sys,
+        io,
+        lines,
+        limit,
+    )
 }
 
 // The refusal of what a run is given: 12 for a channel, line number or limit that is none, then 11, else 0.

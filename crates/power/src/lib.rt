@@ -47,7 +47,7 @@ fn board_lent(sys: &[u8], io: &[u8]) -> bool
     ensures { λ r. ⌜ r ≡ allTouchable (lent (sys .entry) (io .entry)) (powerPlaces (lent (sys .entry) (io .entry))) ⌝ }
 {
     let block = configuration(sys, io);
-    let busy = words::sum20(control(sys, io), 1);
+    let busy = machine::states::busy(control(sys, io));
     memory::span_touchable(sys, io, false, SYSBUS_AT, 1)
         & memory::span_touchable(sys, io, false, CONFIGURATION_AT, 4)
         & memory::span_touchable(sys, io, false, block, 1)
@@ -81,7 +81,7 @@ pub fn power_up(s: State, sys: &mut [u8], io: &mut [u8]) -> Answer
     let cp = control(sys, io);
     let board = read_board(sys, io);
     let state = machine::states::blank(cp, board);
-    memory::store_byte(sys, io, false, words::sum20(cp, 1), 0);
+    memory::store_byte(sys, io, false, machine::states::busy(cp), 0);
     Answer {
         number: 0,
         count: 11,

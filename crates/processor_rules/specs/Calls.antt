@@ -1,4 +1,4 @@
--- The calls of one processor as the lifting takes them, and the six calls on two. No rule of the machine stands here.
+-- The calls of one processor as the lifting takes them, and the six calls on two (§16). No rule of the machine stands here.
 use mathlib.Core.List.{List}
 use Prim.Native.Nat.{ℕ}
 use Rattle.ground_rules.specs.Buffers.{Buffers}
@@ -87,26 +87,26 @@ scheduleGives rows s m =
 
 -- ---- the six calls on two processors
 
--- an attention to a channel of a processor
+-- an attention to a channel of a processor (§4)
 unfoldable pub attentionOn : Processors State → Memories → ℕ → ℕ → Lifted State CallAnswer
 attentionOn p m processor channel = lifted (callAnswer 12 0) (attentionGives channel) p m processor
 
--- a step of a processor
+-- a step of a processor (§5)
 unfoldable pub stepOn : Processors State → Memories → ℕ → ℕ → Lifted State StepAnswer
 stepOn p m processor lines = lifted (stepAnswer 12 0 0 Nothing) (stepGives lines) p m processor
 
--- a reset of a processor
+-- a reset of a processor (§2.11)
 unfoldable pub resetOn : Processors State → Memories → ℕ → Lifted State ℕ
 resetOn p m processor = lifted 12 resetGives p m processor
 
--- a power-up of a processor
+-- a power-up of a processor (§4.12)
 unfoldable pub powerUpOn : Processors State → Memories → ℕ → Lifted State CallAnswer
 powerUpOn p m processor = lifted (callAnswer 12 0) powerUpGives p m processor
 
--- a sweep of a channel of a processor
+-- a sweep of a channel of a processor (§7.15)
 unfoldable pub sweepOn : Processors State → Memories → ℕ → ℕ → ℕ → Lifted State SweepAnswer
 sweepOn p m processor channel lines = lifted (sweepAnswer 12 0 0) (sweepGives channel lines) p m processor
 
--- a schedule of a processor
+-- a schedule of a processor (§15)
 unfoldable pub scheduleOn : Processors State → Memories → ℕ → List ScheduleRow → Lifted State ScheduleAnswer
 scheduleOn p m processor rows = lifted (scheduleAnswer 12 noReport) (scheduleGives rows) p m processor

@@ -1,4 +1,5 @@
--- What is promised of a call on two processors, whichever it is: what it leaves alone, what it looks at, what the one named gets, and its numbers.
+-- What is promised of a call on two processors, whichever it is: what it leaves alone, what it looks at, what the one named gets, and its
+-- numbers (§16).
 use mathlib.Core.Bool.{Bool, true, false, not}
 use mathlib.Core.List.{List, [], _∷_}
 use mathlib.Core.Logic.{_↔_}
@@ -22,17 +23,17 @@ use Rattle.processor_rules.specs.Processors.{Processors, processors, Mem
 abbrev pub seenBy : {S A : Type 0} → Bool → Lifted S A → Called S A
 seenBy which o = calledWith (o .answer) (processorOf (o .both) which) (buffersOf (o .memory) which)
 
--- two boards are the same for a processor: its state, system memory and its own I/O memory are
+-- two boards are the same for a processor: its state, system memory and its own I/O memory are (§16.1)
 pub record SameFor {S : Type 0} (which : Bool) (p : Processors S) (m : Memories) (p′ : Processors S) (m′ : Memories) : Type 0 where
   pub state : processorOf p′ which ≡ processorOf p which
   pub memory : buffersOf m′ which ≡ buffersOf m which
 
--- the state and the I/O memory of a processor are left alone
+-- the state and the I/O memory of a processor are left alone (§16.1)
 pub record LeftAlone {S A : Type 0} (which : Bool) (p : Processors S) (m : Memories) (o : Lifted S A) : Type 0 where
   pub state : processorOf (o .both) which ≡ processorOf p which
   pub io : ioOf (o .memory) which ≡ ioOf m which
 
--- 12: the processor is neither 1 nor 2
+-- 12: the processor is neither 1 nor 2 (§16.2)
 abbrev pub NoProcessor : ℕ → Type 0
 NoProcessor processor = ¬ (processor ≡ 1) × ¬ (processor ≡ 2)
 
@@ -51,7 +52,7 @@ pub record Lifts {S A : Type 0} (twelve : A) (call : S → Buffers → Called S 
   -- a number that names none is answered by what stands for 12, and nothing changes
   pub none : (p : Processors S) (m : Memories) (processor : ℕ) → NoProcessor processor → on p m processor ≡ liftedTo twelve p m
 
--- the checks of a call on two processors: 12 for the processor, then the call's own, on the state and the buffers of the one named
+-- the checks of a call on two processors: 12 for the processor, then the call's own, on the state and the buffers of the one named (§16.2)
 abbrev pub checksOn : {S : Type 0} → (S → Buffers → List Check) → Processors S → Memories → ℕ → List Check
 checksOn checks p m processor = check 12 (NoProcessor processor) ∷ checks (processorOf p (processorNamed processor)) (buffersOf m (processorNamed processor))
 

@@ -1,5 +1,5 @@
--- Two processors on one board: one system memory, and for each its own state and I/O memory. A processor is named as a channel is: processor 1 by false,
--- processor 2 by true.
+-- Two processors on one board: one system memory, and for each its own state and I/O memory (§16.1). A processor is named as a channel is: processor 1 by
+-- false, processor 2 by true.
 use mathlib.Core.Bool.{Bool}
 use mathlib.Core.List.{List}
 use Prim.Native.Nat.{ℕ}
@@ -7,7 +7,7 @@ use Rattle.ground_rules.specs.Choice.{pick}
 use Rattle.ground_rules.specs.Buffers.{Buffers, buffers}
 use Rattle.ground_rules.specs.States.{isChannel, isSecond, channelNumber}
 
--- the states of both, each kept in the same way: as registers or as bytes
+-- the states of both, each kept in the same way: as registers or as bytes (§16.1)
 pub record Processors (S : Type 0) : Type 0 where
   pub one : S
   pub two : S
@@ -15,7 +15,7 @@ pub record Processors (S : Type 0) : Type 0 where
 abbrev pub processors : {S : Type 0} → S → S → Processors S
 processors one two = record { one = one; two = two }
 
--- the system memory that both share, and the I/O memory of each
+-- the system memory that both share, and the I/O memory of each (§16.1)
 pub record Memories : Type 0 where
   pub sys : List ℕ
   pub ioOne : List ℕ
@@ -24,7 +24,7 @@ pub record Memories : Type 0 where
 abbrev pub memories : List ℕ → List ℕ → List ℕ → Memories
 memories sys ioOne ioTwo = record { sys = sys; ioOne = ioOne; ioTwo = ioTwo }
 
--- the numbers 1 and 2 name a processor (else 12)
+-- the numbers 1 and 2 name a processor (else 12, §16.2)
 abbrev pub isProcessor : ℕ → Bool
 isProcessor number = isChannel number
 
@@ -48,7 +48,7 @@ withProcessor p which s = processors (pick which (p .one) s) (pick which s (p .t
 unfoldable pub ioOf : Memories → Bool → List ℕ
 ioOf m which = pick which (m .ioTwo) (m .ioOne)
 
--- the two buffers that a processor sees
+-- the two buffers that a processor sees (§16.1)
 unfoldable pub buffersOf : Memories → Bool → Buffers
 buffersOf m which = buffers (m .sys) (ioOf m which)
 

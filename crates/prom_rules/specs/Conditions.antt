@@ -1,4 +1,4 @@
--- When each number is given, in words of lines and records: what makes a line no record, its sum wrong or its type unknown; which record decides; what lies beyond memory.
+-- When each number is given, in words of lines and records: what makes a line no record, its sum wrong or its type unknown; which record decides; what lies beyond memory (§12.3).
 use Prim.Native.Nat.{ℕ, _+_, _*_, _%_, _<_, _≤_}
 use lib.ListN.{length}
 use mathlib.Core.List.{List, [], _∷_}
@@ -8,7 +8,7 @@ use Rattle.ground_rules.specs.Conditions.{Check, check, Exactly}
 use Rattle.prom_rules.specs.File.{FileStore, nextLine}
 use Rattle.prom_rules.specs.Records.{digitsOf, recordOf, hexSize, typeOf, sumOf}
 
--- a hexadecimal digit, 0-9, A-F or a-f
+-- a hexadecimal digit, 0-9, A-F or a-f (§12.1)
 abbrev pub Hexadecimal : ℕ → Type 0
 Hexadecimal b = ((48 ≤ b) × (b ≤ 57)) ⊎ (((65 ≤ b) × (b ≤ 70)) ⊎ ((97 ≤ b) × (b ≤ 102)))
 
@@ -26,11 +26,11 @@ NoColon (b ∷ bs) = ¬ (b ≡ 58)
 abbrev pub OtherCount : List ℕ → Type 0
 OtherCount line = ¬ (length (digitsOf line) ≡ 2 * (hexSize (recordOf line) + 5))
 
--- 20: not a record
+-- 20: not a record (§12.3)
 abbrev pub NotRecord : List ℕ → Type 0
 NotRecord line = NoColon line ⊎ (SomeOther (digitsOf line) ⊎ OtherCount line)
 
--- 21: its bytes do not sum to 0 mod 256
+-- 21: its bytes do not sum to 0 mod 256 (§12.3)
 abbrev pub WrongSum : List ℕ → Type 0
 WrongSum line = ¬ (sumOf (recordOf line) % 256 ≡ 0)
 
@@ -38,7 +38,7 @@ WrongSum line = ¬ (sumOf (recordOf line) % 256 ≡ 0)
 abbrev pub Unfit : ℕ → ℕ → Type 0
 Unfit kind size = (4 ≤ kind) ⊎ (((kind ≡ 1) × ¬ (size ≡ 0)) ⊎ (((kind ≡ 2) × ¬ (size ≡ 2)) ⊎ ((kind ≡ 3) × ¬ (size ≡ 4))))
 
--- 22: another type, or a length that does not fit its type
+-- 22: another type, or a length that does not fit its type (§12.3)
 abbrev pub WrongType : List ℕ → Type 0
 WrongType line = Unfit (typeOf (recordOf line)) (hexSize (recordOf line))
 
@@ -63,7 +63,7 @@ abbrev pub Decides : ℕ → List (List ℕ) → ℕ → ℕ → Type 0
 Decides n [] before k = ⊥
 Decides n (line ∷ lines) before k = (Exactly (lineChecks line) n × (k ≡ nextLine before)) ⊎ (Passes line × Decides n lines (nextLine before) k)
 
--- 23: every line passes, and k were read
+-- 23: every line passes, and k were read (§12.3)
 abbrev pub NoEnd : List (List ℕ) → ℕ → ℕ → Type 0
 NoEnd [] before k = k ≡ before
 NoEnd (line ∷ lines) before k = Passes line × NoEnd lines (nextLine before) k
@@ -73,11 +73,11 @@ abbrev pub Ends : List (List ℕ) → Type 0
 Ends [] = ⊥
 Ends (line ∷ lines) = EndRecord line ⊎ (Passes line × Ends lines)
 
--- 11: system memory is longer than 1,048,576 bytes
+-- 11: system memory is longer than 1,048,576 bytes (§12.3)
 abbrev pub OverLong : List ℕ → Type 0
 OverLong sys = 1048576 < length sys
 
--- 2: a byte to be stored lies beyond lent memory, and line k holds the first
+-- 2: a byte to be stored lies beyond lent memory, and line k holds the first (§12.3)
 abbrev pub FirstBeyond : List ℕ → List FileStore → ℕ → Type 0
 FirstBeyond sys [] k = ⊥
 FirstBeyond sys (s ∷ ss) k =

@@ -1,4 +1,4 @@
--- A file: its records in order, up to the end record or the first bad one, and the bytes that they store.
+-- A file: its records in order, up to the end record or the first bad one, and the bytes that they store (§12.2).
 use Prim.Native.Nat.{ℕ, _+_, _%_}
 use lib.Dec.{eqb, ltb}
 use mathlib.Core.List.{List, [], _∷_, _++_}
@@ -22,25 +22,25 @@ pub record File : Type 0 where
 abbrev pub file : ℕ → ℕ → ℕ → List FileStore → File
 file number line start stores = record { number = number; line = line; start = start; stores = stores }
 
--- the next line's number; it stays at 2 ^ 32 - 1
+-- the next line's number; it stays at 2 ^ 32 - 1 (§12.3)
 unfoldable pub nextLine : ℕ → ℕ
 nextLine line = pick (ltb line 4294967295) (line + 1) line
 
--- bytes from an offset on: the offset wraps at 65,536, then the segment is added, mod 1,048,576
+-- bytes from an offset on: the offset wraps at 65,536, then the segment is added, mod 1,048,576 (§12.2)
 unfoldable pub storesFrom : ℕ → ℕ → ℕ → List ℕ → List FileStore
 storesFrom line segment offset [] = []
 storesFrom line segment offset (v ∷ vs) =
     record { line = line; address = addressOf (offset % 65536) segment; value = v } ∷ storesFrom line segment (offset + 1) vs
 
--- what a record stores: the data of type 00
+-- what a record stores: the data of type 00 (§12.2)
 unfoldable pub storesOf : ℕ → ℕ → List ℕ → List FileStore
 storesOf line segment bytes = pick (eqb (typeOf bytes) 0) (storesFrom line segment (addressField bytes) (dataBytes bytes)) []
 
--- the segment after a record: that of type 02, else as it was
+-- the segment after a record: that of type 02, else as it was (§12.2)
 unfoldable pub segmentAfter : List ℕ → ℕ → ℕ
 segmentAfter bytes segment = pick (eqb (typeOf bytes) 2) (segmentOf bytes) segment
 
--- the start address after a record: that of type 03, else as it was
+-- the start address after a record: that of type 03, else as it was (§12.2)
 unfoldable pub startAfter : List ℕ → ℕ → ℕ
 startAfter bytes start = pick (eqb (typeOf bytes) 3) (startOf bytes) start
 
@@ -48,7 +48,7 @@ startAfter bytes start = pick (eqb (typeOf bytes) 3) (startOf bytes) start
 abbrev pub storing : List FileStore → File → File
 storing stores f = file (f .number) (f .line) (f .start) (stores ++ f .stores)
 
--- the file that some lines are, under a segment, with a start address found so far, after so many lines
+-- the file that some lines are, under a segment, with a start address found so far, after so many lines (§12.3)
 unfoldable pub fileOf : List (List ℕ) → ℕ → ℕ → ℕ → File
 fileOf [] segment start line = file 23 line 0 []
 fileOf (this ∷ lines) segment start line =

@@ -1,4 +1,4 @@
--- The call: a text and lent system memory to a number, a start address, a line, and what memory then holds.
+-- The call: a text and lent system memory to a number, a start address, a line, and what memory then holds (§12.3).
 use Prim.Native.Nat.{ℕ, _+_, _*_}
 use lib.Dec.{eqb}
 use mathlib.Core.Bool.{false}
@@ -18,14 +18,14 @@ pub record Loading : Type 0 where
 abbrev pub loading : ℕ → ℕ → ℕ → Buffers → Loading
 loading number start line m = record { number = number; start = start; line = line; memory = m }
 
--- the line of the first byte that lies beyond lent memory; 0 where all are lent
+-- the line of the first byte that lies beyond lent memory; 0 where all are lent (§12.3)
 unfoldable pub beyondLine : Buffers → List FileStore → ℕ
 beyondLine m [] = 0
 beyondLine m (s ∷ ss) =
     let rest = beyondLine m ss in
     pick (lentAt m false (s .address)) rest (s .line)
 
--- every byte stored, in order, so that a later one stands
+-- every byte stored, in order, so that a later one stands (§12.2)
 unfoldable pub storeAll : Buffers → List FileStore → Buffers
 storeAll m [] = m
 storeAll m (s ∷ ss) = storeAll (storeByte m false (s .address) (s .value)) ss
@@ -34,14 +34,14 @@ storeAll m (s ∷ ss) = storeAll (storeByte m false (s .address) (s .value)) ss
 unfoldable pub textFile : List ℕ → File
 textFile text = fileOf (hexLines text) 0 0 0
 
--- a file that is good, read into memory: 2 where a byte lies beyond
+-- a file that is good, read into memory: 2 where a byte lies beyond (§12.3)
 unfoldable pub hexPlaced : File → Buffers → Loading
 hexPlaced f m =
     let beyond = beyondLine m (f .stores) in
     let done = loading 0 (f .start) 0 (storeAll m (f .stores)) in
     pick (eqb beyond 0) done (loading 2 0 beyond m)
 
--- the whole call: 11, then the file's own number, then 2; with any of them memory is as it was
+-- the whole call: 11, then the file's own number, then 2; with any of them memory is as it was (§12.3)
 unfoldable pub loadOf : List ℕ → Buffers → Loading
 loadOf text m =
     let f = textFile text in

@@ -1,4 +1,4 @@
--- The lines of a text: each ends in LF or in CR LF, the last one also with the text.
+-- The lines of a text: each ends in LF or in CR LF, the last one also with the text (§12.1).
 use Prim.Native.Nat.{ℕ}
 use lib.Dec.{eqb}
 use mathlib.Core.Bool.{Bool, false, _&&_}
@@ -15,7 +15,7 @@ unfoldable pub inFront : ℕ → List (List ℕ) → List (List ℕ)
 inFront b [] = (b ∷ []) ∷ []
 inFront b (line ∷ lines) = (b ∷ line) ∷ lines
 
--- the lines of a text: an LF ends a line, a CR right before it belongs to that end, any other byte is the line's
+-- the lines of a text: an LF ends a line, a CR right before it belongs to that end, any other byte is the line's (§12.1)
 unfoldable pub hexLines : List ℕ → List (List ℕ)
 hexLines [] = []
 hexLines (b ∷ bs) =

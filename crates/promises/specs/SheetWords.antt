@@ -7,6 +7,8 @@ use lib.Dec.{eqb, ltb}
 use lib.ListN.{length, getD, set}
 use Rattle.ground_rules.specs.Choice.{pick}
 use Rattle.ground_rules.specs.Buffers.{Buffers, buffers, indexOf, lentAt, byteAt, storeByte}
+use Rattle.ground_rules.specs.Values.{pointer}
+use Rattle.ground_rules.specs.declared.Pointer.{Pointer}
 use Rattle.ground_rules.specs.Psw.{transferring}
 use Rattle.ground_rules.specs.States.{channelOf, channelNumber}
 use Rattle.ground_rules.specs.declared.Channel.{Channel}
@@ -58,6 +60,10 @@ storedTagIn m tag a = eqb (bit (byteAt m tag (a + 2)) 3) 1
 -- the three bytes of an address with a tag (§1.6)
 abbrev pub formOf : ℕ → Bool → List ℕ
 formOf a tag = a % 256 ∷ a / 256 % 256 ∷ (a / 65536 % 16 * 16 + pick tag 8 0) ∷ []
+
+-- a pointer some bytes on, in the same space (§1.2)
+abbrev pub pointerOn : Pointer → ℕ → Pointer
+pointerOn p n = pointer ((p .address + n) % 1048576) (p .tag)
 
 -- ---- the registers of a channel by RRR (§2.1)
 

@@ -19,7 +19,7 @@ use Rattle.ground_rules.specs.declared.State.{State}
 use Rattle.ground_rules.proofs.SpanLaws.{span-system, span-whole}
 use Rattle.ground_rules.specs.Buffers.{Buffers, buffers, spaceOf, limitOf, indexOf, beyondIn, byteAt, storeByte}
 use Rattle.ground_rules.specs.Places.{span, allTouchable}
-use Rattle.ground_rules.specs.Values.{pointer}
+use Rattle.ground_rules.specs.Values.{pointer, onward}
 use Rattle.attention_rules.proofs.PowerNumbers.{places-lent, power-exactly}
 use Rattle.attention_rules.proofs.PowerOutcomes.{power-accepted}
 use Rattle.attention_rules.specs.Power.{sysbusPlace, configurationPlace, configurationOf, controlPlace, controlOf, boardOf, powerPlaces, foundState, foundMemory, powerUpOf}
@@ -139,11 +139,11 @@ module _ (b fromOdd intoOdd fromWide intoWide : Bool) (n : ℕ) where
   -- ---- what power-up finds
 
   configuration : configurationOf m ≡ 0xFFFF0
-  unfolding configurationOf
+  unfolding configurationOf onward
   configuration = pointer-given m (pointer 0xFFFF8 false) _ (stand-on top 8) (lit< tt)
 
   control : controlOf m ≡ 0
-  unfolding controlOf
+  unfolding controlOf onward
   control = rw configuration (pointer-given m (pointer 0xFFFF2 false) _ (stand-on top 2) (lit< tt))
 
   found : foundState m ≡ freshState 0

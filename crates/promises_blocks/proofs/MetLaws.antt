@@ -8,6 +8,7 @@ use mathlib.Core.Logic.{⊎-elim, inl, inr, _↔_}
 use mathlib.Core.Path.{_≡_, sym, ap, subst, _∙_}
 use native.Mathlib.Decide.{decLe}
 use native.Mathlib.Omega.{arith}
+use Rattle.ground_rules.specs.Values.{onward}
 use Rattle.ground_rules.specs.Buffers.{Buffers, spaceOf, limitOf, indexOf, lentAt, withinLimits}
 use Rattle.ground_rules.specs.declared.Pointer.{Pointer}
 use Rattle.ground_rules.proofs.PlaceLaws.{index-reduced}
@@ -28,7 +29,7 @@ use Rattle.sweep_rules.specs.Ranges.{placeOf}
 use Rattle.sweep_rules.specs.Sweep.{bytesToGo}
 use Rattle.sweep_rules.specs.Conditions.{RangeLent, RangesApart, PlainFields, Sweepable}
 use Rattle.block_rules.specs.Premises.{from, into, Lent, ShareNone, Plain, Copy}
-use Rattle.block_rules.specs.Stages.{onBy, Going}
+use Rattle.block_rules.specs.Stages.{Going}
 use Rattle.block_rules.specs.Totals.{movedAfter}
 use Rattle.block_rules.proofs.StageLaws.{mid-source, mid-destination, mid-count, mid-fields}
 use Rattle.promises_blocks.specs.Joined.{RunsAlone}
@@ -189,6 +190,7 @@ module _ (s : State) (m : Buffers) (b : Bool) (lines : ℕ) (given : givenNumber
 pub rest-sweepable : {b : Bool} {n : ℕ} {c₀ : Channel} {m₀ : Buffers} (lines : ℕ) → Copy n c₀ m₀ → placeOf (from c₀) + n ≤ limitOf (from c₀ .tag)
     → placeOf (into c₀) + n ≤ limitOf (into c₀ .tag) → ((x : Bool) → external lines x ≡ false)
     → (k : ℕ) (s : State) (m : Buffers) → Going n c₀ m₀ k (channelOf s b) m → RunsAlone b s m lines → Sweepable s m b lines
+unfolding onward
 rest-sweepable {b} {n} {c₀} lines p fromWhole intoWhole quiet k s m g a =
     record {
       quiet = quiet;
@@ -207,10 +209,10 @@ rest-sweepable {b} {n} {c₀} lines p fromWhole intoWhole quiet k s m g a =
     j : ℕ
     j = movedAfter c₀ n k
 
-    source-on : from (channelOf s b) ≡ onBy (from c₀) j
+    source-on : from (channelOf s b) ≡ onward (from c₀) j
     source-on = ap from (g .registers) ∙ rw (from, mid-source c₀ n j)
 
-    destination-on : into (channelOf s b) ≡ onBy (into c₀) j
+    destination-on : into (channelOf s b) ≡ onward (into c₀) j
     destination-on = ap into (g .registers) ∙ rw (into, mid-destination c₀ n j)
 
     left : bytesToGo (channelOf s b) ≡ n - j
@@ -218,5 +220,5 @@ rest-sweepable {b} {n} {c₀} lines p fromWhole intoWhole quiet k s m g a =
         let count = ap (λ (c : Channel). c .bc) (g .registers) ∙ mid-count c₀ n j in
         omega (arith, count, to-go (channelOf s b) (omega (arith, count)), g .short, p .most)
 
-    on : (q : Pointer) → placeOf q + n ≤ limitOf (q .tag) → placeOf (onBy q j) ≡ placeOf q + j
+    on : (q : Pointer) → placeOf q + n ≤ limitOf (q .tag) → placeOf (onward q j) ≡ placeOf q + j
     on q h = index-reduced (q .tag) (q .address + j) ∙ index-on (q .tag) (q .address) j (limitOf (q .tag)) (omega (arith, h, g .short)) (omega arith)

@@ -1,6 +1,6 @@
 -- A copying program as it runs: its six instructions one after the other, and the channel with which its transfer begins.
 -- Assumes nothing.
-use Prim.Native.Nat.{ℕ, suc, _+_, _%_}
+use Prim.Native.Nat.{ℕ, suc, _%_}
 use borrow.Author.Tests.{eqb-false}
 use mathlib.Core.Bool.{Bool, true, false}
 use mathlib.Core.Path.{_≡_, refl, sym, ap, ap₂, subst, _∙_}
@@ -8,6 +8,7 @@ use native.Mathlib.Nat.{mod-mod}
 use native.Mathlib.Omega.{arith}
 use Rattle.instruction_rules.proofs.ChannelLaws.{pp-kept}
 use Rattle.instruction_rules.specs.Execute.{Executed}
+use Rattle.ground_rules.proofs.PlaceLaws.{onward-twice}
 use Rattle.ground_rules.proofs.ChannelLaws.{put-same, last-channel}
 use Rattle.ground_rules.proofs.FieldLaws.{agrees, agreed}
 use Rattle.ground_rules.specs.Cc.{split}
@@ -18,7 +19,7 @@ use Rattle.ground_rules.specs.declared.Channel.{Channel}
 use Rattle.ground_rules.specs.declared.Mode.the-variants.{Running}
 use Rattle.ground_rules.specs.declared.State.{State}
 use Rattle.ground_rules.specs.Buffers.{Buffers}
-use Rattle.ground_rules.specs.Values.{pointer}
+use Rattle.ground_rules.specs.Values.{pointer, onward}
 use Rattle.ground_rules.specs.declared.Pointer.{Pointer}
 use Rattle.turn_rules.proofs.OutcomeLaws.{cp-kept}
 use Rattle.turn_rules.specs.Step.{Step, doneStep, stepOf}
@@ -34,7 +35,6 @@ use Rattle.promises_blocks.specs.Met.{pswOf, copying}
 use Rattle.block_rules.specs.Premises.{from, into, Plain}
 use Rattle.promises_blocks.specs.Program.{Job, systemPlace, fromPlace, intoPlace, programOf, haltAt, stepsOf}
 use Rattle.promises.specs.Runs.{DoneSteps, more}
-use Rattle.block_rules.specs.Stages.{onBy}
 use Rattle.block_rules.specs.Totals.{narrow, alone, total, movedAfter}
 use Rattle.promises.specs.Witness.{runningWith}
 use Rattle.promises_blocks.proofs.AloneLaws.{program-turn, alone-next, instruction-done}
@@ -93,18 +93,14 @@ module _ {lines : ℕ} {b : Bool} {s₀ : State} {m : Buffers} where
 word-is : (x : ℕ) → wordOf (lowByte x) (highByte x) ≡ x % 65536
 word-is x = omega arith
 
--- a pointer on twice
-pub on-twice : (p : Pointer) (i j : ℕ) → onBy (onBy p i) j ≡ onBy p (i + j)
-on-twice p i j = ap (λ (a : ℕ). pointer a (p .tag)) (omega arith)
-
--- six times, over the instructions before HLT
-on-all : (p : Pointer) → onBy (onBy (onBy (onBy (onBy (onBy p 6) 6) 4) 4) 2) 2 ≡ onBy p haltAt
+-- a pointer on six times, over the instructions before HLT
+on-all : (p : Pointer) → onward (onward (onward (onward (onward (onward p 6) 6) 4) 4) 2) 2 ≡ onward p haltAt
 on-all p =
-    on-twice (onBy (onBy (onBy (onBy p 6) 6) 4) 4) 2 2
-    ∙ on-twice (onBy (onBy (onBy p 6) 6) 4) 4 4
-    ∙ on-twice (onBy (onBy p 6) 6) 4 8
-    ∙ on-twice (onBy p 6) 6 12
-    ∙ on-twice p 6 18
+    onward-twice (onward (onward (onward (onward p 6) 6) 4) 4) 2 2
+    ∙ onward-twice (onward (onward (onward p 6) 6) 4) 4 4
+    ∙ onward-twice (onward (onward p 6) 6) 4 8
+    ∙ onward-twice (onward p 6) 6 12
+    ∙ onward-twice p 6 18
 
 -- the place that two words in memory give
 pub place-is : (offset segment : ℕ) → pointer (addressOf (wordOf (lowByte offset) (highByte offset)) (wordOf (lowByte segment) (highByte segment))) false ≡ systemPlace offset segment
@@ -121,7 +117,7 @@ begins j tp = view (fromPlace j) (intoPlace j) tp (j .count % 65536) 0xC008 (psw
 
 module _ {lines : ℕ} {b : Bool} {s₀ : State} {m : Buffers} (j : Job) (tp : Pointer) (there : Stand m tp (programOf j)) where
   -- six instructions
-  pub six : Come lines b s₀ m 0 (view (pointer 0 false) (pointer 0 false) tp 0 0 4 Running false) → Come lines b s₀ m 6 (begins j (onBy tp haltAt))
+  pub six : Come lines b s₀ m 0 (view (pointer 0 false) (pointer 0 false) tp 0 0 4 Running false) → Come lines b s₀ m 6 (begins j (onward tp haltAt))
   unfolding programOf isRunning bitOf
   six q₀ =
       let busy = busyIn (blockOf s₀ b) in

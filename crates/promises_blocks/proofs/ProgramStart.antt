@@ -27,7 +27,7 @@ use Rattle.ground_rules.proofs.SpanLaws.{all-append}
 use Rattle.ground_rules.proofs.StoreLaws.{store-lent, read-other}
 use Rattle.ground_rules.specs.Buffers.{Buffers, lentAt, touchableAt, byteAt, storeByte}
 use Rattle.ground_rules.specs.Places.{Apart, span, allPass, allTouchable}
-use Rattle.ground_rules.specs.Values.{wordAt, doublewordAt, pointer}
+use Rattle.ground_rules.specs.Values.{wordAt, doublewordAt, pointer, onward}
 use Rattle.attention_rules.specs.Blocks.{ccwOf, parameterBlock, orderOf}
 use Rattle.attention_rules.specs.Commands.{commandCoded, isKnown, modeNumber, commandNumber, copied, obeyed, ordered}
 use Rattle.attention_rules.specs.Effects.{started, commanded, channelOrdered, writesOf, marked, writesMade}
@@ -38,7 +38,7 @@ use Rattle.ground_rules.specs.Bits.{fieldOf, bitOf, withBit}
 use Rattle.ground_rules.specs.{Bytes.wordOf, States.busyIn, Sums.addressOf}
 use Rattle.turn_rules.proofs.SoundLaws.{entry-sound}
 use Rattle.turn_rules.specs.Step.{Step, entryNumber, stepOf}
-use Rattle.block_rules.specs.{Premises.Lent, Stages.onBy}
+use Rattle.block_rules.specs.Premises.{Lent}
 use Rattle.promises.specs.Cases.{Stand}
 use Rattle.promises_blocks.specs.Joined.{RunsAlone}
 use Rattle.promises_blocks.proofs.AloneLaws.{entered, accepts, ordered-channel, alone-attended}
@@ -141,13 +141,14 @@ doubleword-fits m a = mod-lt (wordAt m false (a + 2) * 16 + wordAt m false a) (l
 -- bytes that stand in the block and at PB say where the program is
 pub starts-given : {m : Buffers} {block pb busy a b c d x y z w : ℕ} {more rest : List ℕ} → Stand m (pointer block false) (0x03 ∷ busy ∷ a ∷ b ∷ c ∷ d ∷ more)
     → Stand m (pointer pb false) (x ∷ y ∷ z ∷ w ∷ rest) → addressOf (wordOf a b) (wordOf c d) ≡ pb → Starts m block pb (addressOf (wordOf x y) (wordOf z w))
+unfolding onward
 starts-given {m} {block} {pb} there task e =
     let on : (i : ℕ) → block + 2 + i ≡ block + (2 + i) = λ i. omega arith in
     record {
       command = ap (byteAt m false) (sym (add-zero block)) ∙ there .read 0 (omega arith);
       commandLent = ap (lentAt m false) (sym (add-zero block)) ∙ there .lent 0 (omega arith);
       busyLent = there .lent 1 (omega arith);
-      parameters = sym (doubleword-reduced m false (block + 2)) ∙ pointer-given m (onBy (pointer block false) 2) _ (stand-on there 2) (omega arith) ∙ e;
+      parameters = sym (doubleword-reduced m false (block + 2)) ∙ pointer-given m (onward (pointer block false) 2) _ (stand-on there 2) (omega arith) ∙ e;
       parametersLent = λ i h. ap (lentAt m false) (on i) ∙ there .lent (2 + i) (omega arith);
       task = pointer-given m (pointer pb false) _ task (omega arith);
       taskLent = λ i h. task .lent i (omega arith);

@@ -41,7 +41,6 @@ use Rattle.ground_rules.specs.Sums.{addressOf}
 use Rattle.promises.specs.Cases.{Stand}
 use Rattle.promises_blocks.specs.Met.{pswOf}
 use Rattle.promises_blocks.specs.Program.{widOf}
-use Rattle.block_rules.specs.Stages.{onBy}
 use Rattle.promises.proofs.CaseLaws.{pointer-given}
 use Rattle.promises.proofs.InstructionLaws.{decoded, pair-touchable, immediateDone, immediate-executed}
 use Rattle.promises.proofs.StandLaws.{stand-on, rest-touchable}
@@ -134,7 +133,7 @@ module _ (m : Buffers) (c : Channel) (busy : ℕ) where
   unfolding changed deedOf performed lpdiDeed placesOf laterBytes span allPass lengthOf dataLength displacementLength onward
   lpdi-executed r there e =
       shape-executed (Lpdi r) there e (rest-touchable there 2 4 (omega arith)) refl refl refl
-      ∙ ap (λ (a : ℕ). executed 0 (loaded (pastInstruction c 6) r a) m) (pointer-given m (onBy (c .tp) 2) _ (stand-on there 2) (omega arith))
+      ∙ ap (λ (a : ℕ). executed 0 (loaded (pastInstruction c 6) r a) m) (pointer-given m (onward (c .tp) 2) _ (stand-on there 2) (omega arith))
 
   -- bytes that stand where TP is known to be
   here : {v : View} {code : List ℕ} → viewOf c ≡ v → Stand m (v .tp) code → Stand m (c .tp) code
@@ -142,14 +141,14 @@ module _ (m : Buffers) (c : Channel) (busy : ℕ) where
 
   module _ {ga gb tp : Pointer} {bc cc psw : ℕ} (s : viewOf c ≡ view ga gb tp bc cc psw Running false) where
     -- TP past an instruction
-    seen-on : (n : ℕ) → viewOf (pastInstruction c n) ≡ view ga gb (onBy tp n) bc cc psw Running false
+    seen-on : (n : ℕ) → viewOf (pastInstruction c n) ≡ view ga gb (onward tp n) bc cc psw Running false
     unfolding pastInstruction renewed onward usedUp
-    seen-on n = ap (λ (v : View). view (v .ga) (v .gb) (onBy (v .tp) n) (v .bc) (v .cc) (usedUp (v .armed) (v .psw)) (v .mode) false) s
+    seen-on n = ap (λ (v : View). view (v .ga) (v .gb) (onward (v .tp) n) (v .bc) (v .cc) (usedUp (v .armed) (v .psw)) (v .mode) false) s
 
     -- LPDI of a register, by what it puts into the view
     lpdi-to : (r : ℕ) (into : Pointer → View → View) {one lo hi lo′ hi′ : ℕ} {rest : List ℕ} → decodeOf one 0x08 ≡ Instruction (Lpdi r)
         → ((d : Channel) (a : ℕ) → viewOf (loaded d r a) ≡ into (pointer (a % 1048576) false) (viewOf d)) → Stand m tp (one ∷ 0x08 ∷ lo ∷ hi ∷ lo′ ∷ hi′ ∷ rest)
-        → After m c busy (into (pointer (addressOf (wordOf lo hi) (wordOf lo′ hi′)) false) (view ga gb (onBy tp 6) bc cc psw Running false)) m
+        → After m c busy (into (pointer (addressOf (wordOf lo hi) (wordOf lo′ hi′)) false) (view ga gb (onward tp 6) bc cc psw Running false)) m
     lpdi-to r into {lo = lo} {hi} {lo′} {hi′} code puts there =
         let address = addressOf (wordOf lo hi) (wordOf lo′ hi′) in
         record {
@@ -163,7 +162,7 @@ module _ (m : Buffers) (c : Channel) (busy : ℕ) where
     -- MOVI of a word to a register, so too
     movi-to : (r : ℕ) (into : ℕ → View → View) {one lo hi : ℕ} {rest : List ℕ} → decodeOf one 0x30 ≡ Instruction (RegisterImmediate Mov r true)
         → ((d : Channel) (a : ℕ) → viewOf (moved d r a) ≡ into (a % 65536) (viewOf d)) → Stand m tp (one ∷ 0x30 ∷ lo ∷ hi ∷ rest)
-        → After m c busy (into (wordOf lo hi % 65536) (view ga gb (onBy tp 4) bc cc psw Running false)) m
+        → After m c busy (into (wordOf lo hi % 65536) (view ga gb (onward tp 4) bc cc psw Running false)) m
     unfolding registerWritten isMove workOf lengthOf dataLength displacementLength
     movi-to r into {one} {lo} {hi} {rest} code puts there =
         record {
@@ -174,49 +173,49 @@ module _ (m : Buffers) (c : Channel) (busy : ℕ) where
 
     -- LPDI GA
     pub lpdi-ga : {lo hi lo′ hi′ : ℕ} {rest : List ℕ} → Stand m tp (0x11 ∷ 0x08 ∷ lo ∷ hi ∷ lo′ ∷ hi′ ∷ rest)
-        → After m c busy (view (pointer (addressOf (wordOf lo hi) (wordOf lo′ hi′)) false) gb (onBy tp 6) bc cc psw Running false) m
+        → After m c busy (view (pointer (addressOf (wordOf lo hi) (wordOf lo′ hi′)) false) gb (onward tp 6) bc cc psw Running false) m
     unfolding withRegister
     lpdi-ga = lpdi-to 0 (λ p v. view p (v .gb) (v .tp) (v .bc) (v .cc) (v .psw) (v .mode) (v .armed)) (lpdi-codes .0) (λ d a. refl)
 
     -- LPDI GB
     pub lpdi-gb : {lo hi lo′ hi′ : ℕ} {rest : List ℕ} → Stand m tp (0x31 ∷ 0x08 ∷ lo ∷ hi ∷ lo′ ∷ hi′ ∷ rest)
-        → After m c busy (view ga (pointer (addressOf (wordOf lo hi) (wordOf lo′ hi′)) false) (onBy tp 6) bc cc psw Running false) m
+        → After m c busy (view ga (pointer (addressOf (wordOf lo hi) (wordOf lo′ hi′)) false) (onward tp 6) bc cc psw Running false) m
     unfolding withRegister
     lpdi-gb = lpdi-to 1 (λ p v. view (v .ga) p (v .tp) (v .bc) (v .cc) (v .psw) (v .mode) (v .armed)) (lpdi-codes .1) (λ d a. refl)
 
     -- MOVI BC
     pub movi-bc : {lo hi : ℕ} {rest : List ℕ} → Stand m tp (0x71 ∷ 0x30 ∷ lo ∷ hi ∷ rest)
-        → After m c busy (view ga gb (onBy tp 4) (wordOf lo hi % 65536) cc psw Running false) m
+        → After m c busy (view ga gb (onward tp 4) (wordOf lo hi % 65536) cc psw Running false) m
     unfolding withRegister
     movi-bc = movi-to 3 (λ x v. view (v .ga) (v .gb) (v .tp) x (v .cc) (v .psw) (v .mode) (v .armed)) (movi-codes .0) (λ d a. refl)
 
     -- MOVI CC
     pub movi-cc : {lo hi : ℕ} {rest : List ℕ} → Stand m tp (0xD1 ∷ 0x30 ∷ lo ∷ hi ∷ rest)
-        → After m c busy (view ga gb (onBy tp 4) bc (wordOf lo hi % 65536) psw Running false) m
+        → After m c busy (view ga gb (onward tp 4) bc (wordOf lo hi % 65536) psw Running false) m
     unfolding withRegister
     movi-cc = movi-to 6 (λ x v. view (v .ga) (v .gb) (v .tp) (v .bc) x (v .psw) (v .mode) (v .armed)) (movi-codes .1) (λ d a. refl)
 
     -- XFER
-    pub xfer-arms : {rest : List ℕ} → Stand m tp (0x60 ∷ 0x00 ∷ rest) → After m c busy (view ga gb (onBy tp 2) bc cc psw Running true) m
+    pub xfer-arms : {rest : List ℕ} → Stand m tp (0x60 ∷ 0x00 ∷ rest) → After m c busy (view ga gb (onward tp 2) bc cc psw Running true) m
     unfolding changed deedOf performed xferDeed markSet placesOf laterBytes allPass lengthOf dataLength displacementLength span pastInstruction renewed onward usedUp
     xfer-arms there =
         record {
           channel = (deedOf Xfer m c busy) .channel;
           step = shape-executed Xfer (here s there) (control-codes .0) refl refl refl refl;
-          seen = ap (λ (v : View). view (v .ga) (v .gb) (onBy (v .tp) 2) (v .bc) (v .cc) (usedUp (v .armed) (v .psw)) (v .mode) (not (v .armed))) s;
+          seen = ap (λ (v : View). view (v .ga) (v .gb) (onward (v .tp) 2) (v .bc) (v .cc) (usedUp (v .armed) (v .psw)) (v .mode) (not (v .armed))) s;
         }
 
   -- WID as the instruction after XFER, of a program with TB alone in PSW: the transfer begins
   pub wid-begins : {ga gb tp : Pointer} {bc cc : ℕ} (source destination : Bool) {rest : List ℕ} → viewOf c ≡ view ga gb tp bc cc 4 Running true
-      → Stand m tp (widOf source destination ∷ 0x00 ∷ rest) → After m c busy (view ga gb (onBy tp 2) bc cc (pswOf source destination) Running false) m
+      → Stand m tp (widOf source destination ∷ 0x00 ∷ rest) → After m c busy (view ga gb (onward tp 2) bc cc (pswOf source destination) Running false) m
   unfolding changed deedOf performed widDeed withStatus placesOf laterBytes allPass lengthOf dataLength displacementLength span pastInstruction renewed onward
   wid-begins {ga} {gb} {tp} {bc} {cc} source destination s there =
       record {
         channel = (deedOf (Wid source destination) m c busy) .channel;
         step = shape-executed (Wid source destination) (here s there) (wid-code source destination) refl refl refl refl;
         seen =
-            ap (λ (v : View). view (v .ga) (v .gb) (onBy (v .tp) 2) (v .bc) (v .cc) (withPsw (withPsw (usedUp (v .armed) (v .psw)) 1 source) 0 destination) (v .mode) false) s
-            ∙ ap (λ (psw : ℕ). view ga gb (onBy tp 2) bc cc psw Running false) (wid-psw source destination);
+            ap (λ (v : View). view (v .ga) (v .gb) (onward (v .tp) 2) (v .bc) (v .cc) (withPsw (withPsw (usedUp (v .armed) (v .psw)) 1 source) 0 destination) (v .mode) false) s
+            ∙ ap (λ (psw : ℕ). view ga gb (onward tp 2) bc cc psw Running false) (wid-psw source destination);
       }
 
   -- HLT: BUSY is 0, and the channel does not run

@@ -23,11 +23,11 @@ use Rattle.ground_rules.specs.Psw.{programRunning}
 use Rattle.ground_rules.specs.States.{freshState, channelOf, withChannel, channelNumber, blockOf, busyIn, fieldsAgree}
 use Rattle.ground_rules.specs.declared.Channel.{Channel}
 use Rattle.ground_rules.specs.declared.State.{State}
-use Rattle.ground_rules.proofs.PlaceLaws.{index-reduced, lent-index, byte-index}
+use Rattle.ground_rules.proofs.PlaceLaws.{onward-twice, index-reduced, lent-index, byte-index}
 use Rattle.ground_rules.proofs.StoreLaws.{store-length, store-lent, read-other}
 use Rattle.ground_rules.specs.Buffers.{Buffers, buffers, indexOf, lentAt, byteAt, storeByte}
 use Rattle.ground_rules.specs.Places.{Apart}
-use Rattle.ground_rules.specs.Values.{pointer}
+use Rattle.ground_rules.specs.Values.{pointer, onward}
 use Rattle.ground_rules.specs.declared.Pointer.{Pointer}
 use Rattle.turn_rules.proofs.SoundLaws.{entry-sound, entry-agree}
 use Rattle.transfer_rules.specs.Ends.{offsetOf}
@@ -40,7 +40,7 @@ use Rattle.promises_blocks.specs.Met.{copying}
 use Rattle.block_rules.specs.Premises.{from, into, Lent, ShareNone, Copy}
 use Rattle.promises_blocks.specs.Program.{Job, Layout, fromPlace, intoPlace, pbPlace, programPlace, blockAt, busyAt, programOf, haltAt, stepsOf, JobReady, BlockMoved, RunCopies, CallCopies, runIn, Showpiece, ShowpieceCall, RowMade, mostBy, FitsExactly}
 use Rattle.promises.specs.Runs.{DoneSteps, firstAttention, startChecks, none}
-use Rattle.block_rules.specs.Stages.{onBy, Outside}
+use Rattle.block_rules.specs.Stages.{Outside}
 use Rattle.block_rules.specs.Totals.{narrow, total, movedAfter}
 use Rattle.promises.specs.Witness.{runningWith}
 use Rattle.promises.specs.Unique.{CallMeets}
@@ -51,7 +51,7 @@ use Rattle.promises_blocks.proofs.AloneLaws.{through}
 use Rattle.promises.proofs.CaseLaws.{pointer-given}
 use Rattle.block_rules.proofs.CountLaws.{total-narrow, total-wide, alone-none, alone-one}
 use Rattle.promises_blocks.proofs.Joined.{busy-same, run-halts}
-use Rattle.promises_blocks.proofs.ProgramLaws.{Come, begins, copier, six, program-runs, from-is, into-is, plain-is, total-is, place-is, on-twice}
+use Rattle.promises_blocks.proofs.ProgramLaws.{Come, begins, copier, six, program-runs, from-is, into-is, plain-is, total-is, place-is}
 use Rattle.promises_blocks.proofs.ProgramStart.{Starts, Begun, begun, fresh-still, fresh-view, fresh-alone}
 use Rattle.promises_blocks.proofs.ProgramSteps.{View, viewOf}
 use Rattle.promises.proofs.StandLaws.{on-index, stand-on, stand-kept}
@@ -106,7 +106,7 @@ module _ {j : Job} {l : Layout} {m : Buffers} {lines limit : ℕ} (r : JobReady 
       stand-kept (r .program) m₀ (λ u a. store-lent m false u (busyAt l) a 255)
       (λ i h. other false (programPlace l .address + i) (apart-back false (programPlace l .address + i) false (busyAt l) (r .busyProgram i h)))
 
-  pub come : Come lines b s₀ m₀ 6 (begins j (onBy (programPlace l) haltAt))
+  pub come : Come lines b s₀ m₀ 6 (begins j (onward (programPlace l) haltAt))
   come =
       six j (programPlace l) there
       (record { state = _; done = none; lonely = start .alone; control = refl; parameters = refl; seen = ap viewOf put ∙ start .seen ∙ fresh-view (l .cp) b _ })
@@ -132,19 +132,19 @@ module _ {j : Job} {l : Layout} {m : Buffers} {lines limit : ℕ} (r : JobReady 
   -- ---- the transfer
 
   pub source-at : from c₁ ≡ fromPlace j
-  source-at = from-is j (onBy (programPlace l) haltAt) c₁ (come .seen) agree₁
+  source-at = from-is j (onward (programPlace l) haltAt) c₁ (come .seen) agree₁
 
   pub destination-at : into c₁ ≡ intoPlace j
-  destination-at = into-is j (onBy (programPlace l) haltAt) c₁ (come .seen) agree₁
+  destination-at = into-is j (onward (programPlace l) haltAt) c₁ (come .seen) agree₁
 
   pub program-at : programRunning (c₁ .psw) ≡ true
-  program-at = program-runs j (onBy (programPlace l) haltAt) c₁ (come .seen) agree₁
+  program-at = program-runs j (onward (programPlace l) haltAt) c₁ (come .seen) agree₁
 
   pub total-at : total c₁ n ≡ stepsOf j
-  total-at = total-is j (onBy (programPlace l) haltAt) c₁ (come .seen) agree₁ .0
+  total-at = total-is j (onward (programPlace l) haltAt) c₁ (come .seen) agree₁ .0
 
   pub moved-at : (k : ℕ) → movedAfter c₁ n k ≡ movedAfter (copier j) n k
-  moved-at = total-is j (onBy (programPlace l) haltAt) c₁ (come .seen) agree₁ .1
+  moved-at = total-is j (onward (programPlace l) haltAt) c₁ (come .seen) agree₁ .1
 
   -- what is lent is lent
   kept : (u : Bool) (a : ℕ) → lentAt m₀ u a ≡ lentAt m u a
@@ -153,7 +153,7 @@ module _ {j : Job} {l : Layout} {m : Buffers} {lines limit : ℕ} (r : JobReady 
   pub copy : Copy n c₁ m₀
   copy =
       record {
-        plain = plain-is j (onBy (programPlace l) haltAt) c₁ (come .seen) agree₁ (sound-channel-of s₁ b (entry-sound s₁ m₀ lines (come .lonely .entered)));
+        plain = plain-is j (onward (programPlace l) haltAt) c₁ (come .seen) agree₁ (sound-channel-of s₁ b (entry-sound s₁ m₀ lines (come .lonely .entered)));
         some = r .some;
         most = r .most;
         count = ap (λ (v : View). v .bc) (come .seen);
@@ -163,20 +163,21 @@ module _ {j : Job} {l : Layout} {m : Buffers} {lines limit : ℕ} (r : JobReady 
       }
 
   -- its end leads to HLT
-  end-is : endOf c₁ ≡ onBy (programPlace l) haltAt
+  end-is : endOf c₁ ≡ onward (programPlace l) haltAt
   unfolding split fieldOf offsetOf
   end-is =
-      ap (λ (f : Fields). onBy (c₁ .tp) (offsetOf (f .countEnd))) (agreed c₁ agree₁)
-      ∙ ap (λ (v : View). onBy (v .tp) (offsetOf (fieldOf (v .cc) 3 2))) (come .seen) ∙ on-twice (programPlace l) haltAt 0
+      ap (λ (f : Fields). onward (c₁ .tp) (offsetOf (f .countEnd))) (agreed c₁ agree₁)
+      ∙ ap (λ (v : View). onward (v .tp) (offsetOf (fieldOf (v .cc) 3 2))) (come .seen) ∙ onward-twice (programPlace l) haltAt 0
 
   halt : Stand m₀ (endOf c₁) (0x20 ∷ 0x48 ∷ [])
   unfolding programOf
   halt = subst (λ (p : Pointer). Stand m₀ p (0x20 ∷ 0x48 ∷ [])) (sym end-is) (stand-on there 24)
 
   halt-kept : (i : ℕ) → i < 2 → Outside (into c₁) n (endOf c₁ .tag) (endOf c₁ .address + i)
+  unfolding onward
   halt-kept i h =
       subst (λ (p : Pointer). Outside (into c₁) n (p .tag) (p .address + i)) (sym end-is)
-      (subst (λ (q : Pointer). Outside q n false (onBy (programPlace l) haltAt .address + i)) (sym destination-at)
+      (subst (λ (q : Pointer). Outside q n false (onward (programPlace l) haltAt .address + i)) (sym destination-at)
       (λ k h′ e x. r .haltKept i h k h′ e (x ∙ on-index (programPlace l) haltAt i)))
 
   -- BUSY

@@ -5,6 +5,7 @@ use mathlib.Core.List.{[], _∷_}
 use mathlib.Core.Path.{_≡_}
 use Prim.Native.Nat.{ℕ, _+_, _<_}
 use lib.ListN.{length}
+use Rattle.ground_rules.specs.Values.{onward}
 use Rattle.ground_rules.specs.Buffers.{Buffers, spaceOf, lentAt, byteAt}
 use Rattle.ground_rules.specs.Places.{Apart}
 use Rattle.ground_rules.specs.declared.Pointer.{Pointer}
@@ -19,7 +20,7 @@ use Rattle.promises.specs.Calls.{Calls}
 use Rattle.promises.specs.Cases.{Stand}
 use Rattle.block_rules.specs.Premises.{from, into, Copy}
 use Rattle.promises.specs.Runs.{DoneSteps, startChecks, firstAttention}
-use Rattle.block_rules.specs.Stages.{onBy, Outside, Within}
+use Rattle.block_rules.specs.Stages.{Outside, Within}
 use Rattle.block_rules.specs.Totals.{total}
 
 -- a channel is alone: none of 12, 11, 10, 13 and 14 refuses a step, and the other channel does not run
@@ -40,7 +41,7 @@ pub record Through (second : Bool) (n : ℕ) (s₀ : State) (m₀ : Buffers) (li
 
 -- where TP is once a transfer has ended by its count
 abbrev pub endOf : Channel → Pointer
-endOf c = onBy (c .tp) (offsetOf (c .fields .countEnd))
+endOf c = onward (c .tp) (offsetOf (c .fields .countEnd))
 
 -- a run comes to a transfer: it is started and its attention accepted, and k done steps lead to a state and a memory in which its channel is alone and
 -- meets demand 3's premises. HLT stands where the transfer's end leads, and is no byte of the destination; its BUSY is lent; the limit lets the

@@ -65,7 +65,7 @@ pbPlace l = systemPlace (l .pbOffset) (l .pbSegment)
 abbrev pub programPlace : Layout → Pointer
 programPlace l = systemPlace (l .programOffset) (l .programSegment)
 
--- the channel's block, at CP or CP + 8, and its BUSY
+-- the channel's block, at CP or CP + 8, and its BUSY, in numbers of its own, so that the run's `busyIn` is held to them
 abbrev pub blockAt : Layout → ℕ
 blockAt l = blockOf (freshState (l .cp)) (l .second)
 

@@ -5,7 +5,7 @@ use lib.Dec.{ltb, leb, eqb, lit<}
 use mathlib.Core.Bool.{Bool, true, false, _&&_, _||_}
 use mathlib.Core.List.{List, [], _∷_, _++_}
 use mathlib.Core.Path.{_≡_, refl, sym, ap, ap₂, subst, _∙_}
-use native.Mathlib.Nat.{add-zero, add-assoc, mod-add-mod, not-suc-le-zero, le-of-suc-le-suc}
+use native.Mathlib.Nat.{add-zero, add-assoc, not-suc-le-zero, le-of-suc-le-suc}
 use native.Mathlib.Omega.{arith}
 use Rattle.ground_rules.specs.Bytes.{wordOf}
 use Rattle.ground_rules.specs.Choice.{pick}
@@ -30,11 +30,6 @@ use Rattle.promises_counts.specs.Complete.{SameLengths, AgreeOn}
 pub agree-self : (ps : List Place) (m : Buffers) → AgreeOn ps m m
 agree-self [] m = tt
 agree-self (p ∷ ps) m = (refl, agree-self ps m)
-
--- a pointer on, and on again
-pub onward-twice : (p : Pointer) (i j : ℕ) → onward (onward p i) j ≡ onward p (i + j)
-unfolding onward
-onward-twice p i j = ap (λ (a : ℕ). pointer a (p .tag)) (mod-add-mod (p .address + i) 1048576 j ∙ ap (λ (a : ℕ). a % 1048576) (add-assoc (p .address) i j))
 
 module _ (m n : Buffers) where
   -- memories that agree on two lists agree on each

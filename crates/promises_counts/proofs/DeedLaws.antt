@@ -6,6 +6,7 @@ use mathlib.Core.Bool.{Bool, true, false}
 use mathlib.Core.List.{List, []}
 use mathlib.Core.Path.{_≡_, refl, ap₂, subst}
 use native.Mathlib.Omega.{arith}
+use Rattle.ground_rules.proofs.PlaceLaws.{onward-twice}
 use Rattle.ground_rules.specs.Bits.{bitOf}
 use Rattle.ground_rules.specs.Choice.{pick}
 use Rattle.ground_rules.specs.Compare.{matchOf}
@@ -33,7 +34,7 @@ use Rattle.instruction_rules.specs.MemoryForms.{readFirst, workedBack, memoryWo
 use Rattle.instruction_rules.specs.JumpForms.{agrees, jumpRegisterDeed, jumpMemoryDeed, jumpByteDeed, jumpMaskedDeed, jumpBitDeed, tslDeed, callDeed}
 use Rattle.instruction_rules.specs.Execute.{performed}
 use Rattle.promises_counts.specs.Complete.{AgreeOn}
-use Rattle.promises_counts.proofs.AgreeLaws.{agree-left, agree-right, agree-part, agree-first, byte-same, byte-on, doubleword-same, pointer-same, operand-same, jumped-same, effective-same, onward-twice}
+use Rattle.promises_counts.proofs.AgreeLaws.{agree-left, agree-right, agree-part, agree-first, byte-same, byte-on, doubleword-same, pointer-same, operand-same, jumped-same, effective-same}
 
 -- a byte or a word is one byte or two
 size-is : (b : Bool) → sizeOf b ≡ oneOrTwo b

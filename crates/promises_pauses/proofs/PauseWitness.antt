@@ -7,7 +7,7 @@ use lib.{Dec.lit<, Dec.lit≤, ListN.length}
 use mathlib.Core.{Bool.Bool, Bool.true, Bool.false, List.List, List.[], List._∷_, List._++_}
 use mathlib.Core.Path.{_≡_, refl, sym, ap, subst, _∙_}
 use native.Mathlib.Omega.{arith}
-use Rattle.ground_rules.specs.{Bits.fieldOf, Bits.bitOf, Bits.withBit, Cc.split, Conditions.TooLong, Outcomes.unless, Outcomes.first, Values.pointer}
+use Rattle.ground_rules.specs.{Bits.fieldOf, Bits.bitOf, Bits.withBit, Cc.split, Conditions.TooLong, Outcomes.unless, Outcomes.first, Values.pointer, Values.onward}
 use Rattle.ground_rules.specs.{declared.Channel.Channel, declared.State.State, Places.span, Places.ApartFrom, Psw.withPsw}
 use Rattle.ground_rules.specs.Buffers.{Buffers, spaceOf, limitOf, indexOf, byteAt, storeByte}
 use Rattle.ground_rules.specs.States.{channelOf, channelNumber, blockOf, busyIn, isRunning, isSuspended, soundChannel}
@@ -154,7 +154,7 @@ module _ (given : Buffers) (full : WholeSystem given) (fit : ¬ (TooLong given))
 
   -- meanwhile the other channel is started, and steps: its program halts
   other-steps : {k : ℕ} → RowSoFar k true → RowSoFar k true
-  unfolding hosted put channelNumber isRunning
+  unfolding hosted put channelNumber isRunning onward
   other-steps w =
       let m = anew w 0x05 in
       let v = hosted w 0x05 in

@@ -22,8 +22,7 @@ use Rattle.promises_sheet.specs.Leftover.{bcLess, opens, closes, fetched
 use Rattle.promises_sheet.specs.SheetOperands.{ranChannel}
 use Rattle.promises_sheet.specs.SheetTransfer.{intoPointer, intoWordSide, intoSecond, fromWordSide, twoGo, firstByte, secondByte, meetsIn, singly, twoStored, storedCount, fetchedCount, countLeft, maxOf, codeOfEnd, halfDue, storesTwice, fetchesTwice, Transfers, TransferLeft}
 use Rattle.promises_sheet.specs.SheetTurns.{offsetIn}
-use Rattle.promises.specs.SheetWords.{bit, field}
-use Rattle.block_rules.specs.Stages.{onBy}
+use Rattle.promises.specs.SheetWords.{bit, field, pointerOn}
 use Rattle.promises.proofs.CallLaws.{attention-kept, not-of}
 use Rattle.promises_sheet.specs.SheetHalves.{isNone, OnlyHeld, pairLess, pairCode, PairLeft, HalfLeft}
 use Rattle.promises_sheet.proofs.SheetHalves.{half-sheet}
@@ -149,16 +148,16 @@ module _ (c : Channel) (m : Buffers) (after : Channel) (m′ : Buffers) (l : Tra
     first-left : FirstLeft c m after m′
     first-left = record {
       bc = bc-by true first-two;
-      ga = l .ga ∙ ap (λ (x : Bool). pick (eqb (bit (c .cc) (pick (eqb (bit (c .cc) 10) 1) 15 14)) 1) (onBy (c .ga) (pick x 2 1)) (c .ga)) first-one;
-      gb = l .gb ∙ ap (λ (x : Bool). pick (eqb (bit (c .cc) (pick (eqb (bit (c .cc) 10) 1) 14 15)) 1) (onBy (c .gb) (pick x 2 1)) (c .gb)) first-one;
+      ga = l .ga ∙ ap (λ (x : Bool). pick (eqb (bit (c .cc) (pick (eqb (bit (c .cc) 10) 1) 15 14)) 1) (pointerOn (c .ga) (pick x 2 1)) (c .ga)) first-one;
+      gb = l .gb ∙ ap (λ (x : Bool). pick (eqb (bit (c .cc) (pick (eqb (bit (c .cc) 10) 1) 14 15)) 1) (pointerOn (c .gb) (pick x 2 1)) (c .gb)) first-one;
       stored = l .stored ∙ ap (λ (x : Bool). pick x
           (storeByte (storeByte m (intoPointer c m .tag) (intoPointer c m .address) (firstByte c m)) (intoPointer c m .tag) (intoSecond c m) (secondByte c m))
           (storeByte m (intoPointer c m .tag) (intoPointer c m .address) (firstByte c m))) first-one;
       over = over-by (ap (λ (n : ℕ). eqb n 0) first-code ∙ first-ends);
       tp = l .tp
-          ∙ ap (λ (n : ℕ). pick (eqb n 0) (c .tp) (onBy (c .tp) (offsetIn n))) first-code
-          ∙ ap (λ (x : Bool). pick x (c .tp) (onBy (c .tp) (offsetIn (codeBy true true)))) first-ends
-          ∙ ap (onBy (c .tp)) first-offset;
+          ∙ ap (λ (n : ℕ). pick (eqb n 0) (c .tp) (pointerOn (c .tp) (offsetIn n))) first-code
+          ∙ ap (λ (x : Bool). pick x (c .tp) (pointerOn (c .tp) (offsetIn (codeBy true true)))) first-ends
+          ∙ ap (pointerOn (c .tp)) first-offset;
     }
 
   -- every other step stores what it fetched
@@ -308,7 +307,7 @@ pair-first c m after m′ half due h first-half =
       gb = l .0 .gb;
       stored = l .1;
       over = pair-over c m 1 true after (l .0) on;
-      tp = l .0 .tp ∙ ap (λ (x : Bool). pick x (c .tp) (onBy (c .tp) (offsetIn (pairCode c m true)))) on ∙ ap (onBy (c .tp)) offset;
+      tp = l .0 .tp ∙ ap (λ (x : Bool). pick x (c .tp) (pointerOn (c .tp) (offsetIn (pairCode c m true)))) on ∙ ap (pointerOn (c .tp)) offset;
     }
   where
     small : field (c .cc) 0 3 % 4 < 4

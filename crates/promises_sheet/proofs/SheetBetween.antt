@@ -19,11 +19,10 @@ use Rattle.ground_rules.specs.declared.Pointer.{Pointer}
 use Rattle.ground_rules.specs.declared.State.{State}
 use Rattle.attention_rules.proofs.Outcomes.{refused-nothing}
 use Rattle.attention_rules.specs.Attention.{attentionOf}
-use Rattle.block_rules.specs.Stages.{onBy}
 use Rattle.turn_rules.proofs.ChoosingLaws.{chosen-running}
 use Rattle.turn_rules.specs.Step.{stepOf}
 use Rattle.promises.specs.Demand2.{OnlyControl}
-use Rattle.promises.specs.SheetWords.{bit}
+use Rattle.promises.specs.SheetWords.{bit, pointerOn}
 use Rattle.promises.proofs.CallLaws.{attention-kept, not-of}
 use Rattle.promises.proofs.Demand2.{attention-does}
 use Rattle.promises_sheet.specs.SheetAttention.{Attends, channelAfter}
@@ -106,10 +105,10 @@ found-again b s₀ _ (step {s = s} r m lines ne) = subst (FoundAgain (channelOf 
 ends-first : (c d : Channel) (m n : Buffers) (held : HeldByte) (byte : ℕ) (after : Channel) → FoundAgain (holding c held) d
     → PairLeft d n 2 (meetsIn d n byte) after → PairOver c m 2 (meetsIn c m byte) (d .tp) (d .psw) (d .mode) after
 ends-first c d m n held byte after k l = record {
-  ga = l .ga ∙ ap₂ (λ (cc : ℕ) (p : Pointer). pick (eqb (bit cc (pick (eqb (bit cc 10) 1) 15 14)) 1) (onBy p 2) p) (k .cc) (k .ga);
-  gb = l .gb ∙ ap₂ (λ (cc : ℕ) (p : Pointer). pick (eqb (bit cc (pick (eqb (bit cc 10) 1) 14 15)) 1) (onBy p 2) p) (k .cc) (k .gb);
+  ga = l .ga ∙ ap₂ (λ (cc : ℕ) (p : Pointer). pick (eqb (bit cc (pick (eqb (bit cc 10) 1) 15 14)) 1) (pointerOn p 2) p) (k .cc) (k .ga);
+  gb = l .gb ∙ ap₂ (λ (cc : ℕ) (p : Pointer). pick (eqb (bit cc (pick (eqb (bit cc 10) 1) 14 15)) 1) (pointerOn p 2) p) (k .cc) (k .gb);
   bc = l .bc ∙ ap (λ (x : ℕ). (x + 65534) % 65536) (k .bc);
-  tp = l .tp ∙ ap (λ (x : ℕ). pick (eqb x 0) (d .tp) (onBy (d .tp) (offsetIn x))) code;
+  tp = l .tp ∙ ap (λ (x : ℕ). pick (eqb x 0) (d .tp) (pointerOn (d .tp) (offsetIn x))) code;
   status = λ j. l .status j ∙ ap (λ (x : ℕ). pick (not (eqb x 0) && eqb j 6) 0 (bit (d .psw) j)) code;
   gc = l .gc ∙ k .gc;
   pp = l .pp ∙ k .pp;

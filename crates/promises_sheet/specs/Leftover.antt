@@ -16,8 +16,7 @@ use Rattle.ground_rules.specs.declared.State.{State}
 use Rattle.attention_rules.specs.Attention.{attentionOf}
 use Rattle.transfer_rules.specs.Steps.{transferred, transferOf}
 use Rattle.turn_rules.specs.Step.{stepOf}
-use Rattle.block_rules.specs.Stages.{onBy}
-use Rattle.promises.specs.SheetWords.{bit, field}
+use Rattle.promises.specs.SheetWords.{bit, field, pointerOn}
 use Rattle.promises_sheet.specs.SheetOperands.{ranChannel}
 use Rattle.promises_sheet.specs.SheetTurns.{offsetIn}
 use Rattle.promises_sheet.specs.SheetTransfer.{intoPointer, intoWordSide, twoGo, firstByte, secondByte, meetsIn, singly, storedCount, fetchedCount, maxOf, storesTwice, halfDue, Transfers}
@@ -38,12 +37,12 @@ firstEnds c m = singly c m && meetsIn c m (firstByte c m)
 -- over, and if BC is now 0 and TBC is on, the count has ended it too and the larger offset counts
 pub record FirstLeft (c : Channel) (m : Buffers) (after : Channel) (m′ : Buffers) : Type 0 where
   pub bc : after .bc ≡ bcLess c 2
-  pub ga : after .ga ≡ pick (eqb (bit (c .cc) (pick (eqb (bit (c .cc) 10) 1) 15 14)) 1) (onBy (c .ga) 1) (c .ga)
-  pub gb : after .gb ≡ pick (eqb (bit (c .cc) (pick (eqb (bit (c .cc) 10) 1) 14 15)) 1) (onBy (c .gb) 1) (c .gb)
+  pub ga : after .ga ≡ pick (eqb (bit (c .cc) (pick (eqb (bit (c .cc) 10) 1) 15 14)) 1) (pointerOn (c .ga) 1) (c .ga)
+  pub gb : after .gb ≡ pick (eqb (bit (c .cc) (pick (eqb (bit (c .cc) 10) 1) 14 15)) 1) (pointerOn (c .gb) 1) (c .gb)
   pub stored : m′ ≡ storeByte m (intoPointer c m .tag) (intoPointer c m .address) (firstByte c m)
   pub over : bit (after .psw) 6 ≡ 0
   pub tp : after .tp
-      ≡ onBy (c .tp) (maxOf c m (offsetIn (field (c .cc) 0 3 % 4)) (pick (eqb (bcLess c 2) 0) (offsetIn (field (c .cc) 3 2)) 0))
+      ≡ pointerOn (c .tp) (maxOf c m (offsetIn (field (c .cc) 0 3 % 4)) (pick (eqb (bcLess c 2) 0) (offsetIn (field (c .cc) 3 2)) 0))
 
 -- a first half of a pair that no match ends: its bytes count when the pair is whole
 abbrev pub opens : Channel → Buffers → Bool

@@ -29,7 +29,7 @@ blockIn s second = pick second (s .cp + 8) (s .cp)
 abbrev pub ccwAt : State → Buffers → Bool → ℕ
 ccwAt s m second = byteAt m false (blockIn s second)
 
--- BUSY its second
+-- BUSY its second: in numbers of the sheet's own, so that it holds `busyIn` to them
 abbrev pub busyPlace : State → Bool → ℕ
 busyPlace s second = blockIn s second + 1
 

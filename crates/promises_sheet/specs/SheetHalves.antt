@@ -17,8 +17,7 @@ use Rattle.transfer_rules.specs.Steps.{touchedByTransfer}
 use Rattle.turn_rules.specs.Step.{stepOf}
 use Rattle.turn_rules.specs.Touched.{stepCount}
 use Rattle.promises.specs.Calls.{HasTurn}
-use Rattle.block_rules.specs.Stages.{onBy}
-use Rattle.promises.specs.SheetWords.{bit, field}
+use Rattle.promises.specs.SheetWords.{bit, field, pointerOn}
 use Rattle.promises_sheet.specs.SheetOperands.{ranChannel}
 use Rattle.promises_sheet.specs.SheetTurns.{offsetIn}
 use Rattle.promises_sheet.specs.SheetTransfer.{placeAt, fromPointer, intoPointer, fromSecond, intoSecond, firstByte, meetsIn, maxOf, fetchesTwice, storesTwice, halfDue, Transfers, TransferLeft}
@@ -60,10 +59,10 @@ pairCode c m met =
 -- a pair is over, its sides on by so many bytes: BC is less by both, nothing is held, and it ends as its code says, from the TP, PSW and mode that its
 -- last half found
 pub record PairOver (c : Channel) (m : Buffers) (by : ℕ) (met : Bool) (task : Pointer) (psw : ℕ) (state : Mode) (after : Channel) : Type 0 where
-  pub ga : after .ga ≡ pick (eqb (bit (c .cc) (pick (eqb (bit (c .cc) 10) 1) 15 14)) 1) (onBy (c .ga) by) (c .ga)
-  pub gb : after .gb ≡ pick (eqb (bit (c .cc) (pick (eqb (bit (c .cc) 10) 1) 14 15)) 1) (onBy (c .gb) by) (c .gb)
+  pub ga : after .ga ≡ pick (eqb (bit (c .cc) (pick (eqb (bit (c .cc) 10) 1) 15 14)) 1) (pointerOn (c .ga) by) (c .ga)
+  pub gb : after .gb ≡ pick (eqb (bit (c .cc) (pick (eqb (bit (c .cc) 10) 1) 14 15)) 1) (pointerOn (c .gb) by) (c .gb)
   pub bc : after .bc ≡ pairLess c
-  pub tp : after .tp ≡ pick (eqb (pairCode c m met) 0) task (onBy task (offsetIn (pairCode c m met)))
+  pub tp : after .tp ≡ pick (eqb (pairCode c m met) 0) task (pointerOn task (offsetIn (pairCode c m met)))
   pub status : (k : ℕ) → bit (after .psw) k ≡ pick (not (eqb (pairCode c m met) 0) && eqb k 6) 0 (bit psw k)
   pub gc : after .gc ≡ c .gc
   pub pp : after .pp ≡ c .pp

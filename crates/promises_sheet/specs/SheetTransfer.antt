@@ -8,7 +8,6 @@ use lib.Dec.{eqb, ltb}
 use Rattle.ground_rules.specs.Choice.{pick}
 use Rattle.ground_rules.specs.Buffers.{Buffers, byteAt, storeByte}
 use Rattle.ground_rules.specs.Places.{Place}
-use Rattle.ground_rules.specs.Values.{pointer}
 use Rattle.ground_rules.specs.declared.Pointer.{Pointer}
 use Rattle.ground_rules.specs.States.{channelOf, agree}
 use Rattle.ground_rules.specs.declared.Channel.{Channel}
@@ -17,7 +16,7 @@ use Rattle.ground_rules.specs.declared.State.{State}
 use Rattle.transfer_rules.specs.Steps.{touchedByTransfer}
 use Rattle.turn_rules.specs.Step.{stepOf}
 use Rattle.promises.specs.Calls.{HasTurn}
-use Rattle.promises.specs.SheetWords.{bit, field}
+use Rattle.promises.specs.SheetWords.{bit, field, pointerOn}
 use Rattle.promises_sheet.specs.SheetOperands.{ranChannel}
 use Rattle.promises_sheet.specs.SheetTurns.{offsetIn}
 
@@ -126,14 +125,14 @@ module _ (c : Channel) (m : Buffers) where
 
   -- a pointer on by the bytes stored
   abbrev pub gainsIn : Bool → Pointer → Pointer
-  gainsIn on p = pick on (pointer ((p .address + storedCount) % 1048576) (p .tag)) p
+  gainsIn on p = pick on (pointerOn p storedCount) p
 
 -- the channel and memory after a transfer step that is no half of a pair
 pub record TransferLeft (c : Channel) (m : Buffers) (after : Channel) (m′ : Buffers) : Type 0 where
   pub ga : after .ga ≡ gainsIn c m (eqb (bit (c .cc) (pick (eqb (bit (c .cc) 10) 1) 15 14)) 1) (c .ga)
   pub gb : after .gb ≡ gainsIn c m (eqb (bit (c .cc) (pick (eqb (bit (c .cc) 10) 1) 14 15)) 1) (c .gb)
   pub bc : after .bc ≡ countLeft c m
-  pub tp : after .tp ≡ pick (eqb (codeOfEnd c m) 0) (c .tp) (pointer ((c .tp .address + offsetIn (codeOfEnd c m)) % 1048576) (c .tp .tag))
+  pub tp : after .tp ≡ pick (eqb (codeOfEnd c m) 0) (c .tp) (pointerOn (c .tp) (offsetIn (codeOfEnd c m)))
   pub status : (k : ℕ) → bit (after .psw) k ≡ pick (not (eqb (codeOfEnd c m) 0) && eqb k 6) 0 (bit (c .psw) k)
   pub gc : after .gc ≡ c .gc
   pub pp : after .pp ≡ c .pp

@@ -2,12 +2,11 @@
 use mathlib.Core.Bool.{Bool, true, false, not, _&&_}
 use mathlib.Core.List.{[], _∷_}
 use mathlib.Core.Path.{_≡_}
-use Prim.Native.Nat.{ℕ, _+_, _/_, _%_}
+use Prim.Native.Nat.{ℕ, _/_, _%_}
 use lib.Dec.{eqb, ltb}
 use lib.ListN.{getD}
 use Rattle.ground_rules.specs.Choice.{pick}
 use Rattle.ground_rules.specs.Buffers.{Buffers}
-use Rattle.ground_rules.specs.Values.{pointer}
 use Rattle.ground_rules.specs.Conditions.{FieldsDisagree}
 use Rattle.ground_rules.specs.States.{channelOf}
 use Rattle.ground_rules.specs.declared.Channel.{Channel}
@@ -19,7 +18,7 @@ use Rattle.turn_rules.specs.declared.Choice.{Choice}
 use Rattle.turn_rules.specs.declared.Choice.the-variants.{Nobody, Ends, Steps}
 use Rattle.turn_rules.specs.Choosing.{choiceOf}
 use Rattle.turn_rules.specs.Step.{stepOf}
-use Rattle.promises.specs.SheetWords.{bit}
+use Rattle.promises.specs.SheetWords.{bit, pointerOn}
 use Rattle.promises_sheet.specs.SheetOperands.{ranChannel}
 
 -- a channel runs
@@ -63,7 +62,7 @@ offsetIn code = getD (0 ∷ 0 ∷ 4 ∷ 8 ∷ []) code 0
 
 -- the channel after an external end (§5.2); a held byte is dropped
 pub record ExternalLeft (before after : Channel) : Type 0 where
-  pub tp : after .tp ≡ pointer ((before .tp .address + offsetIn (before .cc / 32 % 4)) % 1048576) (before .tp .tag)
+  pub tp : after .tp ≡ pointerOn (before .tp) (offsetIn (before .cc / 32 % 4))
   pub status : (k : ℕ) → bit (after .psw) k ≡ pick (eqb k 6) 0 (bit (before .psw) k)
   pub ga : after .ga ≡ before .ga
   pub gb : after .gb ≡ before .gb

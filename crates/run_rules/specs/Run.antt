@@ -42,7 +42,7 @@ unfoldable pub callNumber : Buffers → ℕ → ℕ → ℕ → ℕ
 callNumber m channel lines limit =
     first (unless (isChannel channel && ltb lines 16 && ltb limit 65536) 12) (unless (withinLimits m) 11)
 
--- the whole run
+-- the whole run (§8.2)
 unfoldable pub runOf : Buffers → ℕ → ℕ → ℕ → ℕ → Run
 runOf m cp channel lines limit =
     pick (eqb (callNumber m channel lines limit) 0) (startedRun (freshOf cp) m channel lines limit) (ran (callNumber m channel lines limit) 0 m)

@@ -1,10 +1,10 @@
 // The machine call by call for C: a state lives in the caller's bytes, and each call takes it from there and leaves it
 // there.
-use ground_rules::State;
+use state_bytes::answers;
+use state_bytes::given;
 use state_bytes::layout;
 use step::Turn;
 use turn_rules::Choice;
-use turn_rules::Kind;
 ghost use mathlib.Core.Bool.{true};
 ghost use mathlib.Core.Path.{_≡_};
 ghost use lib.ListN.{length};
@@ -12,25 +12,12 @@ ghost use Rattle.ground_rules.specs.Buffers.{Buffers, lent};
 ghost use Rattle.ground_rules.specs.States.{resetState, freshOf, agree, fieldsAgree};
 ghost use Rattle.attention_rules.specs.Attention.{attentionOf};
 ghost use Rattle.attention_rules.specs.Power.{powerUpOf};
-ghost use Rattle.turn_rules.specs.Step.{entryNumber, chosenStep, stepOf};
+ghost use Rattle.turn_rules.specs.Step.{chosenStep, stepOf};
 ghost use Rattle.turn_rules.specs.declared.Choice.the-variants.{Ends};
 ghost use Rattle.sweep_rules.specs.Sweep.{sweepOf};
 ghost use Rattle.state_rules.specs.Layout.{stateIn, isState, stateLength};
-ghost use Rattle.state_rules.specs.Calls as Calls;
 ghost use Rattle.step.specs.Turns.{turned};
 ghost use Rattle.state_rules.specs.Calls.{made, served, stepLeft, answerFrom, freshMade, resetMade, powerServed, attentionServed, stepServed, sweepAnswerFrom, sweepServed};
-
-// The number of a step's kind.
-fn kind_number(kind: Kind) -> u32
-    ensures { λ r. ⌜ r ≡ Calls.kindNumber kind ⌝ }
-{
-    match kind {
-        Kind::Nothing => 0,
-        Kind::Instruction => 1,
-        Kind::Transfer => 2,
-        Kind::External => 3,
-    }
-}
 
 // An answer of its four parts.
 fn answer(number: u32, channel: u32, kind: u32, count: u32) -> u32
@@ -118,27 +105,6 @@ pub extern "C" fn iop89_attention(
     answer(e.number, 0, 0, e.count)
 }
 
-// The refusal of what a step is given; 14 is asked of the bytes. `step::entry_number` says the same, but is not inlined,
-// since an attention asks it too, and would have the whole state go through memory.
-fn entry_number(state: &[u8], s: State, lines: u32, sys: &[u8], io: &[u8]) -> u32
-    requires { ⌜ (isState (now state) ≡ true) × (s ≡ stateIn (now state)) ⌝ }
-    ensures { λ r. ⌜ r ≡ entryNumber s (lent (sys .entry) (io .entry)) lines ⌝ }
-{
-    if 16 <= lines {
-        return 12;
-    }
-    if !memory::within_limits(sys, io) {
-        return 11;
-    }
-    if !machine::states::sound(s) {
-        return 10;
-    }
-    if !s.board.powered {
-        return 13;
-    }
-    if layout::agree(state) { 0 } else { 14 }
-}
-
 // The external end of a channel's transfer, put into the bytes.
 fn ended(state: &mut [u8], second: bool) -> u32
     requires { ⌜ isState (now state) ≡ true ⌝ }
@@ -165,7 +131,7 @@ fn answered(state: &mut [u8], second: bool, t: Turn) -> u32
     answer(
         0,
         machine::states::number(second),
-        kind_number(kind),
+        answers::kind_number(kind),
         t.count,
     )
 }
@@ -181,7 +147,7 @@ pub extern "C" fn iop89_step(state: &mut [u8], sys: &mut [u8], io: &mut [u8], li
         return 17;
     }
     let s = layout::looked_at(state);
-    let number = entry_number(state, s, lines, sys, io);
+    let number = given::entry_number(state, s, lines, sys, io);
     if number != 0 {
         return answer(number, 0, 0, 0);
     }

@@ -4,3 +4,7 @@
 mod fields;
 // A whole state in bytes.
 pub mod layout;
+// What a step on a state in bytes is given.
+pub mod given;
+// What calls on it answer.
+pub mod answers;

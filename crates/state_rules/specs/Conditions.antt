@@ -1,4 +1,4 @@
--- When 17 is given, the checks of a call in their order, and which states and bytes the two functions between them are inverse on.
+-- When 17 is given, the checks of a call in their order, and which states and bytes the two functions between them are inverse on (§11).
 use mathlib.Core.List.{List, [], _∷_}
 use mathlib.Core.Logic.{_⊎_}
 use mathlib.Core.Path.{_≡_}
@@ -21,19 +21,19 @@ use Rattle.state_rules.specs.Layout.{stateRows, stateIn, stateLength}
 abbrev pub NoState : List ℕ → Type 0
 NoState b = ¬ (length b ≡ stateLength) ⊎ NoneBy stateRows b 0 0
 
--- the checks of a fresh state, which asks only for the length
+-- the checks of a fresh state, which asks only for the length (§11.2)
 abbrev pub freshChecksOn : List ℕ → ℕ → List Check
 freshChecksOn b cp = check 17 (¬ (length b ≡ stateLength)) ∷ check 10 (1048576 ≤ cp) ∷ []
 
--- the check of a reset, which asks for nothing else
+-- the check of a reset, which asks for nothing else (§11.2)
 abbrev pub resetChecksOn : List ℕ → List Check
 resetChecksOn b = check 17 (¬ (length b ≡ stateLength)) ∷ []
 
--- the checks of a power-up, which asks for the length alone too: 17 comes before all others
+-- the checks of a power-up, which asks for the length alone too: 17 comes before all others (§11.2)
 abbrev pub powerChecksOn : List ℕ → Buffers → List Check
 powerChecksOn b m = check 17 (¬ (length b ≡ stateLength)) ∷ powerChecks m
 
--- the checks of an attention, which asks for a state
+-- the checks of an attention, which asks for a state (§11.2)
 abbrev pub attentionChecksOn : List ℕ → Buffers → ℕ → List Check
 attentionChecksOn b m channel = check 17 (NoState b) ∷ attentionChecks (stateIn b) m channel
 

@@ -1,4 +1,4 @@
--- What one part of a state is in bytes: a number of some width, little end first; a truth value; a mode; a code of CC; the number of what is held.
+-- What one part of a state is in bytes: a number of some width, little end first; a truth value; a mode; a code of CC; the number of what is held (§11.1).
 use mathlib.Core.Bool.{Bool}
 use mathlib.Core.List.{List, [], _∷_}
 use mathlib.Core.Logic.{_⊎_}

@@ -79,7 +79,7 @@ pub fn channel_turn(s: State, second: bool, c: Channel, sys: &mut [u8], io: &mut
             kind: Kind::Transfer,
         };
     }
-    let busy = words::sum20(machine::states::block(s, second), 1);
+    let busy = machine::states::busy(machine::states::block(s, second));
     let e = execute::execute(c, busy, sys, io);
     let channel = e.channel;
     Turn {

@@ -9,6 +9,7 @@ use mathlib.Core.Path.{_≡_, refl, ap, _∙_}
 use native.Mathlib.Decide.{ℕ-discrete}
 use native.Mathlib.Nat.{mod-lt}
 use native.Mathlib.Omega.{arith}
+use Rattle.ground_rules.specs.Values.{onward}
 use Rattle.ground_rules.proofs.ChoiceLaws.{both-left, both-right}
 use Rattle.ground_rules.specs.Choice.{pick}
 use Rattle.ground_rules.proofs.StoreLaws.{store-length, read-other}
@@ -23,7 +24,7 @@ use Rattle.ground_rules.specs.declared.State.{State}
 use Rattle.block_rules.proofs.CountLaws.{total-most}
 use Rattle.block_rules.proofs.CopyLaws.{within-then}
 use Rattle.block_rules.specs.Premises.{into}
-use Rattle.block_rules.specs.Stages.{onBy, finished, Within}
+use Rattle.block_rules.specs.Stages.{finished, Within}
 use Rattle.transfer_rules.specs.Ends.{offsetOf}
 use Rattle.turn_rules.proofs.SoundLaws.{done-sound, done-agree, done-board}
 use Rattle.sweep_rules.specs.Copies.{copiedOn}
@@ -32,7 +33,7 @@ use Rattle.sweep_rules.proofs.PassedLaws.{accepted-sweep, refused-sweep
 
 -- a channel at the end of a transfer has pointers of 20 bits where it had them before
 finished-sound : (c : Channel) (n : ℕ) → soundChannel c ≡ true → soundChannel (finished c n) ≡ true
-unfolding finished withTransfer soundChannel
+unfolding finished withTransfer soundChannel onward
 finished-sound c n h =
     let a = ltb (c .ga .address) 1048576 in
     let b = ltb (c .gb .address) 1048576 in
@@ -47,7 +48,7 @@ finished-sound c n h =
       both-right (a && b && d && e) (ltb (c .pp) 1048576) h,
     )
   where
-    small : (p : Pointer) (by : ℕ) → ltb (onBy p by .address) 1048576 ≡ true
+    small : (p : Pointer) (by : ℕ) → ltb (onward p by .address) 1048576 ≡ true
     small p by = lt-ltb ((p .address + by) % 1048576) 1048576 (mod-lt (p .address + by) (lit< tt))
 
 -- and its fields are those of its CC where they were

@@ -19,15 +19,15 @@ use Rattle.turn_rules.specs.Conditions.{LinesOver}
 use Rattle.sweep_rules.specs.Ranges.{placeOf}
 use Rattle.sweep_rules.specs.Sweep.{bytesToGo}
 
--- a range of n bytes is lent and does not wrap
+-- a range of n bytes is lent and does not wrap (§7.15)
 abbrev pub RangeLent : Buffers → Pointer → ℕ → Type 0
 RangeLent m p n = placeOf p + n ≤ length (spaceOf m (p .tag))
 
--- two such ranges share no byte
+-- two such ranges share no byte (§7.15)
 abbrev pub RangesApart : Pointer → Pointer → ℕ → Type 0
 RangesApart p q n = ¬ (p .tag ≡ q .tag) ⊎ ((placeOf p + n ≤ placeOf q) ⊎ (placeOf q + n ≤ placeOf p))
 
--- what is asked of a channel's fields
+-- what is asked of a channel's fields (§7.15)
 pub record PlainFields (f : Fields) : Type 0 where
   -- both sides move on
   pub leaves : f .sourceMoves ≡ true
@@ -41,7 +41,7 @@ pub record PlainFields (f : Fields) : Type 0 where
   pub unended : f .externalEnd ≡ 0
   pub ongoing : f .singleTransfer ≡ false
 
--- all that a sweep asks of channel, lines and memory
+-- all that a sweep asks of channel, lines and memory (§7.15)
 pub record Sweepable (s : State) (m : Buffers) (second : Bool) (lines : ℕ) : Type 0 where
   -- no EXT is up, neither channel's
   pub quiet : (b : Bool) → external lines b ≡ false
@@ -56,11 +56,11 @@ pub record Sweepable (s : State) (m : Buffers) (second : Bool) (lines : ℕ) : T
   pub intoLent : RangeLent m (into (channelOf s second)) (bytesToGo (channelOf s second))
   pub parted : RangesApart (from (channelOf s second)) (into (channelOf s second)) (bytesToGo (channelOf s second))
 
--- 12: the channel is neither 1 nor 2, or the line number is over 15
+-- 12: the channel is neither 1 nor 2, or the line number is over 15 (§3.9)
 abbrev pub BadCall : ℕ → ℕ → Type 0
 BadCall channel lines = (¬ (channel ≡ 1) × ¬ (channel ≡ 2)) ⊎ LinesOver lines
 
--- 12, those of what it is given, then 15
+-- 12, those of what it is given, then 15 (§3.9)
 abbrev pub sweepChecks : State → Buffers → ℕ → ℕ → List Check
 sweepChecks s m channel lines =
     check 12 (BadCall channel lines)

@@ -1,4 +1,4 @@
--- A block of bytes put elsewhere, one byte after the other in ascending order.
+-- A block of bytes put elsewhere, one byte after the other in ascending order (§7.15).
 use Prim.Native.Nat.{ℕ, zero, suc, _+_}
 use Rattle.ground_rules.specs.Buffers.{Buffers, byteAt, storeByte}
 use Rattle.ground_rules.specs.declared.Pointer.{Pointer}

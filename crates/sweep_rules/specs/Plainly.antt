@@ -1,4 +1,4 @@
--- The plain steps that a sweep stands for, by step calls alone: nothing here knows how many they will be.
+-- The plain steps that a sweep stands for, by step calls alone: nothing here knows how many they will be (§7.15).
 use mathlib.Core.Bool.{Bool}
 use Prim.Native.Nat.{ℕ, zero, suc, _+_}
 use lib.Dec.{eqb}

@@ -19,12 +19,12 @@ use Rattle.sweep_rules.specs.Copies.{copiedOn}
 use Rattle.sweep_rules.specs.Ranges.{rangeLent, rangesApart}
 use Rattle.sweep_rules.specs.declared.Swept.{Swept}
 
--- the bytes to go: BC, with 0 as 65,536
+-- the bytes to go: BC, with 0 as 65,536 (§7.15)
 unfoldable pub bytesToGo : Channel → ℕ
 bytesToGo c = pick (eqb (c .bc) 0) 65536 (c .bc)
 
 -- a transfer from block to block, neither synchronised nor translated, that only its byte count ends: both sides move on, SYN 00, TBC on, TMC's low
--- two bits 00, TX 00, TS 0
+-- two bits 00, TX 00, TS 0 (§7.15)
 unfoldable pub plainFields : Fields → Bool
 plainFields f =
     f .sourceMoves
@@ -36,29 +36,29 @@ plainFields f =
     && (eqb (f .externalEnd) 0
     && not (f .singleTransfer)))))))
 
--- the channel runs with XF set, and its transfer is such a one
+-- the channel runs with XF set, and its transfer is such a one (§7.15)
 unfoldable pub plainTransfer : Channel → Bool
 plainTransfer c = isRunning (c .mode) && (transferring (c .psw) && plainFields (c .fields))
 
--- both of its ranges are lent, do not wrap, and share no byte
+-- both of its ranges are lent, do not wrap, and share no byte (§7.15)
 unfoldable pub rangesFit : Channel → Buffers → Bool
 rangesFit c m =
     rangeLent m (from c) (bytesToGo c)
     && (rangeLent m (into c) (bytesToGo c)
     && rangesApart (from c) (into c) (bytesToGo c))
 
--- no EXT is up, neither channel's
+-- no EXT is up, neither channel's (§7.15)
 unfoldable pub noneExternal : ℕ → Bool
 noneExternal lines = not (external lines false) && not (external lines true)
 
--- a channel of a state can be swept: no EXT is up, the other channel does not run, and its transfer and ranges are as above
+-- a channel of a state can be swept: no EXT is up, the other channel does not run, and its transfer and ranges are as above (§7.15)
 unfoldable pub sweepable : State → Buffers → Bool → ℕ → Bool
 sweepable s m second lines =
     noneExternal lines
     && (not (isRunning (channelOf s (not second) .mode))
     && (plainTransfer (channelOf s second) && rangesFit (channelOf s second) m))
 
--- 12 for channel and lines, then what every call is given (11, 10, 13, 14), then 15
+-- 12 for channel and lines, then what every call is given (11, 10, 13, 14), then 15 (§3.9)
 unfoldable pub sweepNumber : State → Buffers → ℕ → ℕ → ℕ
 sweepNumber s m channel lines =
     first (unless (isChannel channel && ltb lines 16) 12) (first (givenNumber s m) (unless (sweepable s m (isSecond channel) lines) 15))
@@ -78,12 +78,12 @@ sweptTo number s m steps count = record { number = number; state = s; memory = m
 abbrev pub sweptWith : Swept → Buffers → Sweep
 sweptWith a m = sweptTo (a .number) (a .state) m (a .steps) (a .count)
 
--- a refused sweep leaves what was given, no step and no byte
+-- a refused sweep leaves what was given, no step and no byte (§3.3)
 abbrev pub refusedSweep : ℕ → State → Buffers → Sweep
 refusedSweep number s m = sweptTo number s m 0 0
 
 -- a done sweep: the bytes copied, the channel at demand 3's end, put back and last to step; the steps are demand 3's total, and each byte is read once
--- and stored once
+-- and stored once (§7.15)
 unfoldable pub doneSweep : State → Buffers → Bool → Sweep
 doneSweep s m second =
     let c = channelOf s second in

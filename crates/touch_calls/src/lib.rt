@@ -1,31 +1,16 @@
 // What the next call touches, for C: a state lives in the caller's bytes, which are only read, as both memories are; the
 // places are told into the caller's words.
-use ground_rules::State;
+use state_bytes::answers;
+use state_bytes::given;
 use state_bytes::layout;
 use touches::Outlook;
 use touches::StepOutlook;
 use turn_rules::Choice;
-use turn_rules::Kind;
-ghost use mathlib.Core.Bool.{true};
 ghost use mathlib.Core.Path.{_≡_};
 ghost use Rattle.ground_rules.specs.Buffers.{lent};
 ghost use Rattle.state_rules.specs.Calls as Calls;
 ghost use Rattle.state_rules.specs.Calls.{answerFrom};
-ghost use Rattle.state_rules.specs.Layout.{stateIn, isState};
-ghost use Rattle.turn_rules.specs.Step.{entryNumber};
 ghost use Rattle.touch_rules.specs.TouchCalls.{telling, touchesAttention, touchesPowerUp, touchesStep, touchesSweep};
-
-// The number of a step's kind.
-fn kind_number(kind: Kind) -> u32
-    ensures { λ r. ⌜ r ≡ Calls.kindNumber kind ⌝ }
-{
-    match kind {
-        Kind::Nothing => 0,
-        Kind::Instruction => 1,
-        Kind::Transfer => 2,
-        Kind::External => 3,
-    }
-}
 
 // An answer of its four parts.
 fn answer(number: u32, channel: u32, kind: u32, count: usize) -> u32
@@ -46,7 +31,7 @@ fn whole(o: StepOutlook) -> u32
     ensures { λ r. ⌜ r ≡ answerFrom (o .number) (o .channel) (Calls.kindNumber (o .kind)) (o .count) ⌝ }
 {
     let kind = o.kind;
-    answer(o.number, o.channel, kind_number(kind), o.count)
+    answer(o.number, o.channel, answers::kind_number(kind), o.count)
 }
 
 // Tells what an attention would touch.
@@ -83,26 +68,6 @@ pub extern "C" fn iop89_touches_power_up(
     plain(touches::power_up(sys, io, places))
 }
 
-// The refusal of what a step is given; 14 is asked of the bytes, so that no field is taken from them for it.
-fn entry_number(state: &[u8], s: State, lines: u32, sys: &[u8], io: &[u8]) -> u32
-    requires { ⌜ (isState (now state) ≡ true) × (s ≡ stateIn (now state)) ⌝ }
-    ensures { λ r. ⌜ r ≡ entryNumber s (lent (sys .entry) (io .entry)) lines ⌝ }
-{
-    if 16 <= lines {
-        return 12;
-    }
-    if !memory::within_limits(sys, io) {
-        return 11;
-    }
-    if !machine::states::sound(s) {
-        return 10;
-    }
-    if !s.board.powered {
-        return 13;
-    }
-    if layout::agree(state) { 0 } else { 14 }
-}
-
 // Tells what a step would touch.
 #[no_mangle]
 pub extern "C" fn iop89_touches_step(
@@ -118,7 +83,7 @@ pub extern "C" fn iop89_touches_step(
         return 17;
     }
     let s = layout::looked_at(state);
-    let number = entry_number(state, s, lines, sys, io);
+    let number = given::entry_number(state, s, lines, sys, io);
     if number != 0 {
         return answer(number, 0, 0, 0);
     }

@@ -1,4 +1,4 @@
--- Places told before a call is made: each with whether the call stores there, and whether it lies beyond the lent end, where the call stops.
+-- Places told before a call is made: each with whether the call stores there, and whether it lies beyond the lent end, where the call stops (§17).
 use mathlib.Core.Bool.{Bool, true, false, _&&_}
 use mathlib.Core.List.{List, [], _∷_, _++_}
 use Prim.Native.Nat.{ℕ, zero, suc, _+_, _-_}
@@ -43,7 +43,7 @@ toldApart reads [] = []
 toldApart zero (p ∷ ps) = toldStore p ∷ toldApart zero ps
 toldApart (suc reads) (p ∷ ps) = toldRead p ∷ toldApart reads ps
 
--- the first that may not be touched, marked; none where all may be
+-- the first that may not be touched, marked; none where all may be (§17.3)
 unfoldable pub firstBeyond : Buffers → List Told → List Told
 firstBeyond m [] = []
 firstBeyond m (t ∷ ts) = pick (touchableAt m (t .place .tag) (t .place .address)) (t ∷ firstBeyond m ts) (toldBeyond t ∷ ts)
@@ -53,16 +53,16 @@ unfoldable pub stagesPlaces : List Stage → List Place
 stagesPlaces [] = []
 stagesPlaces (s ∷ rest) = s .places ++ stagesPlaces rest
 
--- those up to and with the stage where the call stops: a byte of it may not be touched, or what is judged there refuses
+-- those up to and with the stage where the call stops: a byte of it may not be touched, or what is judged there refuses (§17.3)
 unfoldable pub stagesReached : Buffers → List Stage → List Place
 stagesReached m [] = []
 stagesReached m (s ∷ rest) = s .places ++ pick (allTouchable m (s .places) && eqb (s .judged) 0) (stagesReached m rest) []
 
--- what is told of a call in stages whose last places are those that it stores to
+-- what is told of a call in stages whose last places are those that it stores to (§17.2)
 unfoldable pub toldInStages : Buffers → List Stage → List Place → List Told
 toldInStages m stages stores = firstBeyond m (toldApart (length (stagesPlaces stages) - length stores) (stagesReached m stages))
 
--- a told place as one number: where its byte lies in its space in bits 0 to 19, I/O space in bit 20, a store in bit 21, beyond in bit 22
+-- a told place as one number: where its byte lies in its space in bits 0 to 19, I/O space in bit 20, a store in bit 21, beyond in bit 22 (§17.2)
 unfoldable pub toldNumber : Told → ℕ
 toldNumber t =
     indexOf (t .place .tag) (t .place .address)
@@ -70,7 +70,7 @@ toldNumber t =
     + bitWorth (t .store) 2097152
     + bitWorth (t .beyond) 4194304
 
--- lent words after some places were told into them: from the first on, as far as there is room; the words behind stay
+-- lent words after some places were told into them: from the first on, as far as there is room; the words behind stay (§17.4)
 unfoldable pub placesTold : List ℕ → List Told → List ℕ
 placesTold room [] = room
 placesTold [] (t ∷ ts) = []

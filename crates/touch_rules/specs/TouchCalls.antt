@@ -1,5 +1,5 @@
 -- The calls for C that tell what another call touches: each answers the number that the call would answer and how many places it told, and changes nothing
--- but the lent words.
+-- but the lent words (§17).
 use mathlib.Core.List.{List}
 use Prim.Native.Nat.{ℕ}
 use lib.Dec.{eqb}
@@ -24,11 +24,11 @@ pub record Telling : Type 0 where
 abbrev pub telling : ℕ → List ℕ → Telling
 telling answer places = record { answer = answer; places = places }
 
--- the number of the call, its channel and its kind, and some places told; all of them are counted, whether there is room or not
+-- the number of the call, its channel and its kind, and some places told; all of them are counted, whether there is room or not (§17.1)
 unfoldable pub toldAs : ℕ → ℕ → ℕ → List Told → List ℕ → Telling
 toldAs number channel kind ts room = telling (answerFrom number channel kind (length ts)) (placesTold room ts)
 
--- bytes that are no state: 17, and nothing is told
+-- bytes that are no state: 17, and nothing is told (§17.1, §11.2)
 abbrev pub noneTold : List ℕ → Telling
 noneTold room = telling 17 room
 

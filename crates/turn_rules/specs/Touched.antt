@@ -31,7 +31,7 @@ touchedByStep s m lines = touchedIn (choiceOf s lines) s m
 unfoldable pub stepCount : State → Buffers → ℕ → ℕ
 stepCount s m lines = counted (stepOf s m lines .number) (touchedByStep s m lines)
 
--- the bytes of a choice up to the stage where it stops: a bad mode stops a transfer step before its first byte (§3.7)
+-- the bytes of a choice up to the stage where it stops: a bad mode stops a transfer step before its first byte (§3.6)
 unfoldable pub reachedIn : Choice → State → Buffers → List Place
 reachedIn Nobody s m = []
 reachedIn (Ends second) s m = []

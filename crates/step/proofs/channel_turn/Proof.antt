@@ -8,7 +8,6 @@ use Rattle.instruction_rules.specs.Execute.{touchedByInstruction, Executed, exe
 use Rattle.ground_rules.specs.Outcomes.{counted}
 use Rattle.ground_rules.specs.States.{blockOf, busyIn}
 use Rattle.ground_rules.specs.Buffers.{buffers}
-use Rattle.ground_rules.specs.Sums.{sum20}
 use Rattle.transfer_rules.specs.Steps.{touchedByTransfer, transferCount}
 use Rattle.transfer_rules.specs.Steps as Steps
 use Rattle.turn_rules.specs.declared.Kind.the-variants.{Instruction, Transfer}
@@ -28,12 +27,12 @@ returns c =
     )
 
 returns-2 : tie.Need-returns-2
-unfolding turnOf turnTouched executeCount busyIn
+unfolding turnOf turnTouched executeCount
 returns-2 c =
     let a = c .before .before .before .before .before .before .before .before .before .before .before .before .before .before .args in
     let m = buffers (now (a .sys)) (now (a .io)) in
     let flag = sym (c .before .before .before .before .before .before .before .before .before .before .before .transferring .ensures) ∙ c .before .before .before .before .before .before .before .before .before .before .if1 .left in
-    let at = c .before .before .before .before .before .before .before .before .sum20 .ensures ∙ ap (λ (x : ℕ). sum20 x 1) (c .before .before .before .before .before .before .before .before .before .block .ensures) in
+    let at = c .before .before .before .before .before .before .before .before .busy .ensures ∙ ap busyIn (c .before .before .before .before .before .before .before .before .before .block .ensures) in
     let d = c .before .before .before .before .before .execute in
     let e = d .ensures .0 ∙ ap (λ (y : ℕ). executeOf (a .c) y m) at in (
       rw flag (ap (λ (x : Executed). record { number = x .number; channel = x .channel; memory = x .memory; kind = Instruction }) e),

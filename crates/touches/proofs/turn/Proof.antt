@@ -2,7 +2,6 @@
 -- Assumes nothing.
 use Prim.Native.Nat.{ℕ}
 use Rattle.ground_rules.specs.Buffers.{buffers}
-use Rattle.ground_rules.specs.States.{busyIn}
 use Rattle.touches.proofs.CallLaws.{turn-transfer, turn-instruction}
 use Rattle.touches.proofs.turn.Statement.{statement}
 use Rattle.touches.proofs.turn.Tie as tie
@@ -39,8 +38,8 @@ returns c = λ e.
 block-requires : tie.Need-block-requires
 block-requires c κs = search needs
 
-sum20-requires : tie.Need-sum20-requires
-sum20-requires c κs = search needs
+busy-requires : tie.Need-busy-requires
+busy-requires c κs = search needs
 
 instruction-requires : tie.Need-instruction-requires
 instruction-requires c κs = search needs
@@ -52,13 +51,12 @@ same-length-2 : tie.Need-same-length-2
 same-length-2 c = search needs
 
 returns-2 : tie.Need-returns-2
-unfolding busyIn
 returns-2 c = λ e.
     let a = c .before .before .before .before .before .before .before .before .before .before .before .before .args in
     let m = buffers (now (a .sys)) (now (a .io)) in
     rw (c .by2 .ensures)
     (turn-instruction (a .s) m (a .second) (now (a .places)) (simp e at (sym (c .before .before .before .before .before .before .before .before .transferring .ensures) ∙ c .before .before .before .before .before .before .before .if1 .left))
-    (foreseen (c .before .before .before .instruction .result) (c .before .before .before .instruction .last .0)) (simp (e, c .before .before .before .before .before .sum20 .ensures, c .before .before .before .before .before .before .block .ensures) at (c .before .before .before .instruction .ensures)))
+    (foreseen (c .before .before .before .instruction .result) (c .before .before .before .instruction .last .0)) (simp (e, c .before .before .before .before .before .busy .ensures, c .before .before .before .before .before .before .block .ensures) at (c .before .before .before .instruction .ensures)))
 
 pub turn-spec : {M : Type 1} → statement M
 turn-spec =
@@ -70,7 +68,7 @@ turn-spec =
     same-length
     returns
     block-requires
-    sum20-requires
+    busy-requires
     instruction-requires
     by-requires-2
     same-length-2

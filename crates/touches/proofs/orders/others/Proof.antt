@@ -31,8 +31,8 @@ system-requires c κs = search needs
 system-requires-2 : tie.Need-system-requires-2
 system-requires-2 c κs = search needs
 
-sum20-requires-2 : tie.Need-sum20-requires-2
-sum20-requires-2 c κs = search needs
+busy-requires : tie.Need-busy-requires
+busy-requires c κs = search needs
 
 system-requires-3 : tie.Need-system-requires-3
 system-requires-3 c κs = search needs
@@ -53,7 +53,6 @@ same-length : tie.Need-same-length
 same-length c = search needs
 
 returns : tie.Need-returns
-unfolding busyIn
 returns c =
     let a = c .before .before .before .before .before .before .before .before .before .before .before .before .before .before .before .before .before .before .before .before .before .before .before .before .before .args in
     let m = buffers (now (a .sys)) (now (a .io)) in
@@ -67,7 +66,7 @@ returns c =
     let s₁ : tale (c .before .before .before .before .before .before .before .before .before .before .before .before .before .before .span .last .0) (c .before .before .before .before .before .before .before .before .before .before .before .before .before .before .span .result) ≡ toldOn m (allAs false at) x = simp (c .before .before .before .before .before .before .before .before .before .before .before .before .before .before .before .before .before .before .before .system .ensures, c .before .before .before .before .before .before .before .before .before .before .before .before .before .before .before .before .before .before .before .before .sum20 .ensures) at (c .before .before .before .before .before .before .before .before .before .before .before .before .before .before .span .ensures .0) in
     let s₂ : tale (c .before .before .before .before .before .before .before .before .before .before .span2 .last .0) (c .before .before .before .before .before .before .before .before .before .before .span2 .result) ≡ toldOn m (allAs false read) (tale (c .before .before .before .before .before .before .before .before .before .before .before .before .before .before .span .last .0) (c .before .before .before .before .before .before .before .before .before .before .before .before .before .before .span .result)) = simp (c .before .before .before .before .before .before .before .before .before .before .before .before .before .before .before .before .before .before .system2 .ensures) at (c .before .before .before .before .before .before .before .before .before .before .span2 .ensures .0) in
     let s₃ : tale (c .before .before .before .before .before .before .span3 .last .0) (c .before .before .before .before .before .before .span3 .result) ≡ toldOn m (allAs true saved) (tale (c .before .before .before .before .before .before .before .before .before .before .span2 .last .0) (c .before .before .before .before .before .before .before .before .before .before .span2 .result)) = simp (c .before .before .before .before .before .before .before .before .before .before .before .before .before .before .before .before .before .before .system2 .ensures) at (c .before .before .before .before .before .before .span3 .ensures .0) in
-    let s₄ : tale (c .before .before .span4 .last .0) (c .before .before .span4 .result) ≡ toldOn m (allAs true busy) (tale (c .before .before .before .before .before .before .span3 .last .0) (c .before .before .before .before .before .before .span3 .result)) = simp (c .before .before .before .before .before .before .before .before .before .before .before .before .before .before .before .before .system3 .ensures, c .before .before .before .before .before .before .before .before .before .before .before .before .before .before .before .before .before .sum202 .ensures) at (c .before .before .span4 .ensures .0) in
+    let s₄ : tale (c .before .before .span4 .last .0) (c .before .before .span4 .result) ≡ toldOn m (allAs true busy) (tale (c .before .before .before .before .before .before .span3 .last .0) (c .before .before .before .before .before .before .span3 .result)) = simp (c .before .before .before .before .before .before .before .before .before .before .before .before .before .before .before .before .system3 .ensures, c .before .before .before .before .before .before .before .before .before .before .before .before .before .before .before .before .before .busy .ensures) at (c .before .before .span4 .ensures .0) in
     let lists = c .before .before .before .before .before .before .before .before .before .before .before .before .before .before .before .before .before .before .before .before .before .asked .ensures (o .block) (o .pb) in
     s₄
     ∙ ap (toldOn m (allAs true busy)) (s₃ ∙ ap (toldOn m (allAs true saved)) (s₂ ∙ ap (toldOn m (allAs false read)) s₁ ∙ two-told m false at read x))
@@ -83,7 +82,7 @@ others-spec =
     sum20-requires
     system-requires
     system-requires-2
-    sum20-requires-2
+    busy-requires
     system-requires-3
     span-requires
     span-requires-2

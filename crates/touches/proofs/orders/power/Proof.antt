@@ -40,8 +40,8 @@ system-requires-4 c κs = search needs
 control-requires : tie.Need-control-requires
 control-requires c κs = search needs
 
-sum20-requires-2 : tie.Need-sum20-requires-2
-sum20-requires-2 c κs = search needs
+busy-requires : tie.Need-busy-requires
+busy-requires c κs = search needs
 
 system-requires-5 : tie.Need-system-requires-5
 system-requires-5 c κs = search needs
@@ -71,7 +71,6 @@ same-length : tie.Need-same-length
 same-length c = kept _ _ _ _ _ (c .before .before .before .span5 .ensures .0) ∙ kept _ _ _ _ _ (c .before .before .before .before .before .before .before .span4 .ensures .0) ∙ kept _ _ _ _ _ (c .before .before .before .before .before .before .before .before .before .before .before .span3 .ensures .0) ∙ kept _ _ _ _ _ (c .before .before .before .before .before .before .before .before .before .before .before .before .before .before .before .span2 .ensures .0) ∙ kept _ _ _ _ _ (c .before .before .before .before .before .before .before .before .before .before .before .before .before .before .before .before .before .before .before .span .ensures .0)
 
 returns : tie.Need-returns
-unfolding busyIn
 returns c =
     let a = c .before .before .before .before .before .before .before .before .before .before .before .before .before .before .before .before .before .before .before .before .before .before .before .before .before .before .before .before .before .before .before .before .before .before .args in
     let m = buffers (now (a .sys)) (now (a .io)) in
@@ -85,7 +84,7 @@ returns c =
     let s₂ : tale (c .before .before .before .before .before .before .before .before .before .before .before .before .before .before .before .span2 .last .0) (c .before .before .before .before .before .before .before .before .before .before .before .before .before .before .before .span2 .result) ≡ toldOn m (allAs false p₂) (tale (c .before .before .before .before .before .before .before .before .before .before .before .before .before .before .before .before .before .before .before .span .last .0) (c .before .before .before .before .before .before .before .before .before .before .before .before .before .before .before .before .before .before .before .span .result)) = simp (c .before .before .before .before .before .before .before .before .before .before .before .before .before .before .before .before .before .before .before .before .before .before .before .before .before .before .before .before .system2 .ensures) at (c .before .before .before .before .before .before .before .before .before .before .before .before .before .before .before .span2 .ensures .0) in
     let s₃ : tale (c .before .before .before .before .before .before .before .before .before .before .before .span3 .last .0) (c .before .before .before .before .before .before .before .before .before .before .before .span3 .result) ≡ toldOn m (allAs false p₃) (tale (c .before .before .before .before .before .before .before .before .before .before .before .before .before .before .before .span2 .last .0) (c .before .before .before .before .before .before .before .before .before .before .before .before .before .before .before .span2 .result)) = simp (c .before .before .before .before .before .before .before .before .before .before .before .before .before .before .before .before .before .before .before .before .before .before .before .before .before .before .before .system3 .ensures, c .before .before .before .before .before .before .before .before .before .before .before .before .before .before .before .before .before .before .before .before .before .before .before .before .before .before .before .before .before .before .configuration .ensures) at (c .before .before .before .before .before .before .before .before .before .before .before .span3 .ensures .0) in
     let s₄ : tale (c .before .before .before .before .before .before .before .span4 .last .0) (c .before .before .before .before .before .before .before .span4 .result) ≡ toldOn m (allAs false p₄) (tale (c .before .before .before .before .before .before .before .before .before .before .before .span3 .last .0) (c .before .before .before .before .before .before .before .before .before .before .before .span3 .result)) = simp (c .before .before .before .before .before .before .before .before .before .before .before .before .before .before .before .before .before .before .before .before .before .before .before .before .before .system4 .ensures, c .before .before .before .before .before .before .before .before .before .before .before .before .before .before .before .before .before .before .before .before .before .before .before .before .before .before .sum20 .ensures, c .before .before .before .before .before .before .before .before .before .before .before .before .before .before .before .before .before .before .before .before .before .before .before .before .before .before .before .before .before .before .configuration .ensures) at (c .before .before .before .before .before .before .before .span4 .ensures .0) in
-    let s₅ : tale (c .before .before .before .span5 .last .0) (c .before .before .before .span5 .result) ≡ toldOn m (allAs true p₅) (tale (c .before .before .before .before .before .before .before .span4 .last .0) (c .before .before .before .before .before .before .before .span4 .result)) = simp (c .before .before .before .before .before .before .before .before .before .before .before .before .before .before .before .before .before .before .before .before .before .before .system5 .ensures, c .before .before .before .before .before .before .before .before .before .before .before .before .before .before .before .before .before .before .before .before .before .before .before .sum202 .ensures, c .before .before .before .before .before .before .before .before .before .before .before .before .before .before .before .before .before .before .before .before .before .before .before .before .control .ensures) at (c .before .before .before .span5 .ensures .0) in
+    let s₅ : tale (c .before .before .before .span5 .last .0) (c .before .before .before .span5 .result) ≡ toldOn m (allAs true p₅) (tale (c .before .before .before .before .before .before .before .span4 .last .0) (c .before .before .before .before .before .before .before .span4 .result)) = simp (c .before .before .before .before .before .before .before .before .before .before .before .before .before .before .before .before .before .before .before .before .before .before .system5 .ensures, c .before .before .before .before .before .before .before .before .before .before .before .before .before .before .before .before .before .before .before .before .before .before .before .busy .ensures, c .before .before .before .before .before .before .before .before .before .before .before .before .before .before .before .before .before .before .before .before .before .before .before .before .control .ensures) at (c .before .before .before .span5 .ensures .0) in
     c .ended .ensures (c .before .before .before .span5 .last .0)
     ∙ ap endedAt
     (s₅
@@ -105,7 +104,7 @@ power-spec =
     sum20-requires
     system-requires-4
     control-requires
-    sum20-requires-2
+    busy-requires
     system-requires-5
     none-requires
     span-requires

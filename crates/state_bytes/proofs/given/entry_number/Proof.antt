@@ -1,4 +1,4 @@
--- `service::entry_number` meets its contract.
+-- `state_bytes::given::entry_number` meets its contract.
 -- Assumes nothing.
 use borrow.Author.Needs.{needs}
 use borrow.Author.Tests.{lt-ltb, le-ltb, le-leb, lt-leb, not-true, not-false}
@@ -6,8 +6,8 @@ use mathlib.Core.Path.{sym, ap, _∙_}
 use Rattle.ground_rules.specs.Outcomes.{unless, first, givenNumber}
 use Rattle.ground_rules.specs.States.{agree}
 use Rattle.turn_rules.specs.Step.{entryNumber}
-use Rattle.service.proofs.entry_number.Statement.{statement}
-use Rattle.service.proofs.entry_number.Tie as tie
+use Rattle.state_bytes.proofs.given.entry_number.Statement.{statement}
+use Rattle.state_bytes.proofs.given.entry_number.Tie as tie
 
 returns : tie.Need-returns
 unfolding entryNumber first unless

@@ -1,9 +1,9 @@
--- `touch_calls::kind_number` meets its contract.
+-- `state_bytes::answers::kind_number` meets its contract.
 -- Assumes nothing.
 use borrow.Author.Needs.{needs}
 use Rattle.state_rules.specs.Calls.{kindNumber}
-use Rattle.touch_calls.proofs.kind_number.Statement.{statement}
-use Rattle.touch_calls.proofs.kind_number.Tie as tie
+use Rattle.state_bytes.proofs.answers.kind_number.Statement.{statement}
+use Rattle.state_bytes.proofs.answers.kind_number.Tie as tie
 
 returns : tie.Need-returns
 unfolding kindNumber
