@@ -14,13 +14,27 @@ use Rattle.ground_rules.specs.Buffers.{Buffers}
 use Rattle.ground_rules.specs.Choice.{pick}
 use Rattle.attention_rules.specs.Attention.{orderTo, orderNumber, channelAttended, orderedMemory, givenTo, attentionNumber, attentionOf, touchedByAttention, attentionCount}
 use Rattle.attention.specs.Plans.{plannedOf}
+use Rattle.attention.specs.Writes.{writesWith, writesOf, writesMade}
 use Rattle.attention_rules.specs.Touched.{commandCount}
-use Rattle.attention_rules.specs.Effects.{channelOrdered, writes, writesOf, writesMade}
+use Rattle.attention_rules.specs.Effects.{channelOrdered, storedMemory}
 use Rattle.attention.specs.declared.Upshot.{Upshot}
+use Rattle.attention_rules.specs.declared.Command.{Command}
+use Rattle.attention_rules.specs.declared.Command.the-variants.{Update, StartLocal, StartSystem, Suspend, Resume, Halt, Unknown}
 use Rattle.attention_rules.specs.declared.Order.{Order}
 use borrow.Author.Tests.{eq-eqb, ne-eqb}
 use native.Mathlib.Decide.{ℕ-discrete}
 use Rattle.attention_rules.proofs.CountLaws.{touched-length}
+
+-- what is worked out for a command and then written is what it stores
+writes-made : (k : Command) (m : Buffers) (block pb : ℕ) (c : Channel) → writesMade m (writesOf k block pb c) ≡ storedMemory k m block pb c
+unfolding writesMade writesOf storedMemory
+writes-made Update m block pb c = refl
+writes-made StartLocal m block pb c = refl
+writes-made StartSystem m block pb c = refl
+writes-made Suspend m block pb c = refl
+writes-made Resume m block pb c = refl
+writes-made Halt m block pb c = refl
+writes-made Unknown m block pb c = refl
 
 -- what was given is refused: that is the number, it settles the attention, and no byte is counted
 given-first : (s : State) (m : Buffers) (channel : ℕ) → ¬ (givenTo s m channel ≡ 0) → attentionNumber s m channel ≡ givenTo s m channel
@@ -60,12 +74,12 @@ module _ (s : State) (m : Buffers) (channel : ℕ) (free : givenTo s m channel �
   left x =
       pick x
       (record { number = 0; count = commandCount (o .command); channel = channelOrdered m o c; writes = writesOf (o .command) (o .block) (o .pb) c })
-      (record { number = n; count = 0; channel = c; writes = writes false false 0 (o .block) (o .pb) c })
+      (record { number = n; count = 0; channel = c; writes = writesWith false false 0 (o .block) (o .pb) c })
 
   settles : (x : Bool) → outcome (left x .number) (withChannel s b (left x .channel)) (writesMade m (left x .writes))
       ≡ pick x (outcome 0 (withChannel s b (channelAttended s m b)) (orderedMemory s m b)) (outcome n s m)
   unfolding left channelAttended orderedMemory writesMade o c b
-  settles true = refl
+  settles true = ap (outcome 0 (withChannel s b (channelOrdered m o c))) (writes-made (o .command) m (o .block) (o .pb) c)
   settles false = ap (λ (t : State). outcome n t m) (put-back s b)
 
   pub planned-settled : outcome (e .number) (withChannel s (isSecond channel) (e .channel)) (writesMade m (e .writes)) ≡ attentionOf s m channel

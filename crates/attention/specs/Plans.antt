@@ -9,8 +9,9 @@ use Rattle.attention.specs.declared.Upshot.{Upshot}
 use Rattle.attention_rules.specs.declared.Order.{Order}
 use Rattle.attention_rules.specs.Blocks.{orderOf}
 use Rattle.attention_rules.specs.Touched.{commandCount}
-use Rattle.attention_rules.specs.Effects.{channelOrdered, writes, writesOf}
+use Rattle.attention_rules.specs.Effects.{channelOrdered}
 use Rattle.attention_rules.specs.Attention.{orderNumber}
+use Rattle.attention.specs.Writes.{writesWith, writesOf}
 
 -- what the order in a block comes to before anything is stored: refused, it leaves the channel as it is and stores nothing
 unfoldable pub plannedOf : Buffers → ℕ → Channel → Upshot
@@ -19,4 +20,4 @@ plannedOf m block c =
     let number = orderNumber m o (c .mode) in
     pick (eqb number 0)
     (record { number = 0; count = commandCount (o .command); channel = channelOrdered m o c; writes = writesOf (o .command) (o .block) (o .pb) c })
-    (record { number = number; count = 0; channel = c; writes = writes false false 0 (o .block) (o .pb) c })
+    (record { number = number; count = 0; channel = c; writes = writesWith false false 0 (o .block) (o .pb) c })

@@ -1,8 +1,8 @@
 // What an accepted order makes of the channel and of memory.
+use crate::Writes;
 use crate::commands;
 use attention_rules::Command;
 use attention_rules::Order;
-use attention_rules::Writes;
 use ground_rules::Channel;
 use ground_rules::Held;
 use ground_rules::Mode;
@@ -13,7 +13,8 @@ ghost use mathlib.Core.Path.{_≡_};
 ghost use Rattle.ground_rules.specs.Choice.{pick};
 ghost use Rattle.ground_rules.specs.Buffers.{lent};
 ghost use Rattle.attention_rules.specs.Effects as Effects;
-ghost use Rattle.attention_rules.specs.Effects.{channelOrdered, writesOf, saved, marked, writesMade};
+ghost use Rattle.attention_rules.specs.Effects.{channelOrdered, saved, marked};
+ghost use Rattle.attention.specs.Writes.{writesWith, writesOf, writesMade};
 
 // The channel after a start with PB and TP.
 fn started(c: Channel, pp: u32, tp: Pointer) -> Channel
@@ -98,7 +99,7 @@ pub fn channel_ordered(sys: &[u8], io: &[u8], o: Order, c: Channel) -> Channel
 
 // What an order stores, with what it needs for that.
 pub fn writes(o: Order, c: Channel, saves: bool, marks: bool, busy: u8) -> Writes
-    ensures { λ r. ⌜ r ≡ Effects.writes saves marks busy (o .block) (o .pb) c ⌝ }
+    ensures { λ r. ⌜ r ≡ writesWith saves marks busy (o .block) (o .pb) c ⌝ }
 {
     let tp = c.tp;
     Writes {

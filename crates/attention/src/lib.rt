@@ -1,9 +1,9 @@
 // The attention call: the order that a channel's block holds is read, tested, and carried out whole or not at all.
 use attention_rules::Order;
-use attention_rules::Writes;
 use ground_rules::Answer;
 use ground_rules::Channel;
 use ground_rules::Mode;
+use ground_rules::Pointer;
 use ground_rules::State;
 use machine::states;
 ghost use mathlib.Core.Path.{_≡_};
@@ -20,6 +20,17 @@ pub mod blocks;
 pub mod touched;
 // What an accepted order makes of the channel and of memory.
 pub mod effects;
+
+// What an order stores: TP and PSW at PB or not, then BUSY or not.
+pub struct Writes {
+    pub saves: bool,
+    pub pb: u32,
+    pub tp: Pointer,
+    pub psw: u8,
+    pub marks: bool,
+    pub block: u32,
+    pub busy: u8,
+}
 
 // What an order comes to: its number, how many bytes it reads and stores, the channel after it, and what it stores.
 pub struct Upshot {

@@ -21,7 +21,7 @@ use Rattle.ground_rules.specs.Bits.{fieldOf, bitOf, withBit}
 use Rattle.attention_rules.specs.Attention.{orderTo, orderNumber, channelAttended, orderedMemory, givenTo, attentionNumber, attentionOf}
 use Rattle.attention_rules.specs.Blocks.{ccwOf, parameterBlock, orderOf}
 use Rattle.attention_rules.specs.Commands.{commandCoded, isKnown, modeNumber, commandNumber, copied, obeyed, ordered}
-use Rattle.attention_rules.specs.Effects.{started, suspended, resumed, commanded, channelOrdered, writesOf, saved, marked, writesMade}
+use Rattle.attention_rules.specs.Effects.{started, suspended, resumed, commanded, channelOrdered, saved, marked, storedMemory}
 use Rattle.ground_rules.specs.Updates.{withControl, stoppedPsw}
 use Rattle.attention_rules.specs.Pauses.{Pause}
 use Rattle.attention_rules.specs.Touched.{readBy, storedBy, others, orderStages}
@@ -35,7 +35,7 @@ input =
 -- its attention starts channel 1 at 20h of system space, with PB at 10h, TB 1 and BUSY FFh
 pub example-starts : attentionOf (freshState 0) (buffers input []) 1
     ≡ outcome 0 (withChannel (freshState 0) false (withControl idleChannel (pointer 32 false) 16 4 Running false)) (buffers (set input 1 255) [])
-unfolding freshState idleChannel attentionOf attentionNumber givenTo givenNumber unless first isChannel withinLimits limitOf sound soundChannel agree fieldsAgree sameFields sameFlag split orderNumber stagesNumber orderStages orderTo orderOf blockOf busyIn channelOf isSecond ccwOf commandCoded fieldOf parameterBlock doublewordAt wordAt byteAt beyondIn indexOf spaceOf allPass touchableAt lentAt span commandNumber isKnown modeNumber isRunning isSuspended others readBy storedBy settled orderedMemory writesMade writesOf saved storePointer marked storeByte channelAttended channelOrdered commanded started suspended stoppedPsw resumed pointerAt ordered copied obeyed withPsw withBit bitOf withControl withChannel
+unfolding freshState idleChannel attentionOf attentionNumber givenTo givenNumber unless first isChannel withinLimits limitOf sound soundChannel agree fieldsAgree sameFields sameFlag split orderNumber stagesNumber orderStages orderTo orderOf blockOf busyIn channelOf isSecond ccwOf commandCoded fieldOf parameterBlock doublewordAt wordAt byteAt beyondIn indexOf spaceOf allPass touchableAt lentAt span commandNumber isKnown modeNumber isRunning isSuspended others readBy storedBy settled orderedMemory storedMemory saved storePointer marked storeByte channelAttended channelOrdered commanded started suspended stoppedPsw resumed pointerAt ordered copied obeyed withPsw withBit bitOf withControl withChannel
 example-starts = refl
 
 -- a state whose channel 1 runs a transfer at 12345h of I/O space, with PB at 8
@@ -52,7 +52,7 @@ toResume = buffers (5 ∷ 0 ∷ 0 ∷ 0 ∷ 0 ∷ 0 ∷ 0 ∷ 0 ∷ 69 ∷ 35 �
 
 -- so a pause as it is defined can happen
 pub some-pause : Pause running toSuspend (attentionOf running toSuspend 1 .state) toResume 1
-unfolding freshState idleChannel attentionOf attentionNumber givenTo givenNumber unless first isChannel withinLimits limitOf sound soundChannel agree fieldsAgree sameFields sameFlag split orderNumber stagesNumber orderStages orderTo orderOf blockOf busyIn channelOf isSecond ccwOf commandCoded fieldOf parameterBlock doublewordAt wordAt byteAt beyondIn indexOf spaceOf allPass touchableAt lentAt span commandNumber isKnown modeNumber isRunning isSuspended others readBy storedBy settled orderedMemory writesMade writesOf saved storePointer marked storeByte channelAttended channelOrdered commanded started suspended stoppedPsw resumed pointerAt ordered copied obeyed withPsw withBit bitOf withControl withChannel
+unfolding freshState idleChannel attentionOf attentionNumber givenTo givenNumber unless first isChannel withinLimits limitOf sound soundChannel agree fieldsAgree sameFields sameFlag split orderNumber stagesNumber orderStages orderTo orderOf blockOf busyIn channelOf isSecond ccwOf commandCoded fieldOf parameterBlock doublewordAt wordAt byteAt beyondIn indexOf spaceOf allPass touchableAt lentAt span commandNumber isKnown modeNumber isRunning isSuspended others readBy storedBy settled orderedMemory storedMemory saved storePointer marked storeByte channelAttended channelOrdered commanded started suspended stoppedPsw resumed pointerAt ordered copied obeyed withPsw withBit bitOf withControl withChannel
 some-pause = record {
   accepted = refl;
   suspends = refl;

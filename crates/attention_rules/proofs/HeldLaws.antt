@@ -27,7 +27,7 @@ use Rattle.ground_rules.specs.declared.State.{State}
 use Rattle.attention_rules.specs.Attention.{orderTo, orderNumber, channelAttended, orderedMemory, givenTo, attentionNumber, attentionOf}
 use Rattle.attention_rules.specs.Blocks.{ccwOf, parameterBlock, orderOf}
 use Rattle.attention_rules.specs.Commands.{commandCoded, isKnown, modeNumber, commandNumber, copied, obeyed, ordered}
-use Rattle.attention_rules.specs.Effects.{started, suspended, resumed, commanded, channelOrdered, writesOf, saved, marked, writesMade}
+use Rattle.attention_rules.specs.Effects.{started, suspended, resumed, commanded, channelOrdered, saved, marked, storedMemory}
 use Rattle.attention_rules.specs.Touched.{readBy, storedBy, others, orderStages}
 use Rattle.attention_rules.proofs.Cases.{running, toSuspend, toResume}
 use Rattle.attention_rules.proofs.Outcomes.{accepted-order}
@@ -66,5 +66,5 @@ holdingSeven = withChannel (freshState 0) false (holding (withControl idleChanne
 
 pub pause-holds : let off = attentionOf holdingSeven toSuspend 1 in
     (channelOf (off .state) false .held ≡ Byte 7) × (channelOf (attentionOf (off .state) toResume 1 .state) false ≡ channelOf holdingSeven false)
-unfolding freshState idleChannel attentionOf attentionNumber givenTo givenNumber unless first isChannel withinLimits limitOf sound soundChannel agree fieldsAgree sameFields sameFlag split orderNumber stagesNumber orderStages orderTo orderOf blockOf busyIn channelOf isSecond ccwOf commandCoded fieldOf parameterBlock doublewordAt wordAt byteAt beyondIn indexOf spaceOf allPass touchableAt lentAt span commandNumber isKnown modeNumber isRunning isSuspended others readBy storedBy settled orderedMemory writesMade writesOf saved storePointer marked storeByte channelAttended channelOrdered commanded started suspended stoppedPsw resumed pointerAt ordered copied obeyed withPsw withBit bitOf withControl withChannel
+unfolding freshState idleChannel attentionOf attentionNumber givenTo givenNumber unless first isChannel withinLimits limitOf sound soundChannel agree fieldsAgree sameFields sameFlag split orderNumber stagesNumber orderStages orderTo orderOf blockOf busyIn channelOf isSecond ccwOf commandCoded fieldOf parameterBlock doublewordAt wordAt byteAt beyondIn indexOf spaceOf allPass touchableAt lentAt span commandNumber isKnown modeNumber isRunning isSuspended others readBy storedBy settled orderedMemory storedMemory saved storePointer marked storeByte channelAttended channelOrdered commanded started suspended stoppedPsw resumed pointerAt ordered copied obeyed withPsw withBit bitOf withControl withChannel
 pause-holds = (refl, refl)

@@ -30,7 +30,7 @@ use Rattle.ground_rules.proofs.ConditionLaws.{first-none-left, first-none-right
 use Rattle.attention_rules.specs.Attention.{orderTo, orderNumber, channelAttended, orderedMemory, givenTo, attentionNumber, attentionOf}
 use Rattle.attention_rules.specs.Blocks.{parameterBlock, orderOf}
 use Rattle.attention_rules.specs.Commands.{isKnown, modeNumber, commandNumber, copied, obeyed, ordered}
-use Rattle.attention_rules.specs.Effects.{onlyPsw, suspended, resumed, commanded, channelOrdered, writesOf, saved, marked, writesMade}
+use Rattle.attention_rules.specs.Effects.{onlyPsw, suspended, resumed, commanded, channelOrdered, saved, marked, storedMemory}
 use Rattle.ground_rules.specs.Updates.{withControl, stoppedPsw}
 use Rattle.attention_rules.specs.Pauses.{Pause}
 use Rattle.attention_rules.specs.Touched.{readBy, storedBy, others}
@@ -74,7 +74,7 @@ module _ (s : State) (m : Buffers) (b : Bool) where
   suspend-channel e = rw e
 
   suspend-memory : orderTo s m b .command ≡ Suspend → orderedMemory s m b ≡ marked (saved m (channelOf s b .pp) (channelOf s b .tp) (channelOf s b .psw)) (blockOf s b) 0
-  unfolding orderedMemory orderTo orderOf writesMade writesOf parameterBlock
+  unfolding orderedMemory orderTo orderOf storedMemory parameterBlock
   suspend-memory e = rw e
 
   suspend-lent : orderTo s m b .command ≡ Suspend → allTouchable m (others (orderTo s m b)) ≡ true → allLent m (span false (channelOf s b .pp) 4) ≡ true

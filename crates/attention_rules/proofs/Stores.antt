@@ -3,7 +3,7 @@
 use Prim.Native.Nat.{ℕ, _+_, _<_}
 use lib.Dec.{lit<}
 use lib.ListN.{length}
-use mathlib.Core.Bool.{Bool, true, false}
+use mathlib.Core.Bool.{Bool, false}
 use mathlib.Core.List.{List}
 use mathlib.Core.Path.{_≡_, refl, _∙_}
 use native.Mathlib.Nat.{add-zero}
@@ -19,11 +19,10 @@ use Rattle.ground_rules.specs.Values.{storePointer}
 use Rattle.ground_rules.specs.declared.Pointer.{Pointer}
 use Rattle.ground_rules.specs.Stored.{storedLow, storedMiddle, storedHigh}
 use Rattle.attention_rules.specs.Attention.{orderTo, orderedMemory, attentionOf}
-use Rattle.attention_rules.specs.Effects.{writesOf, saved, marked, writesMade}
+use Rattle.attention_rules.specs.Effects.{saved, marked, storedMemory}
 use Rattle.attention_rules.specs.Touched.{storedBy}
 use Rattle.attention_rules.specs.declared.Command.{Command}
 use Rattle.attention_rules.specs.declared.Command.the-variants.{Update, StartLocal, StartSystem, Suspend, Resume, Halt, Unknown}
-use Rattle.attention_rules.specs.declared.Writes.{Writes}
 use Rattle.attention_rules.proofs.Outcomes.{attention-by}
 
 -- what is saved is in PB's first four bytes
@@ -40,29 +39,29 @@ saved-else m pb tp psw t b h =
     ∙ read-other m false pb (storedLow (tp .address)) t b (rw add-zero at (at 0 (lit< tt)))
 
 -- every byte that a command does not store is as it was
-written-else : (k : Command) (m : Buffers) (block pb : ℕ) (c : Channel) (t : Bool) (b : ℕ) → ApartFrom (storedBy k block pb) t b
-    → byteAt (writesMade m (writesOf k block pb c)) t b ≡ byteAt m t b
-unfolding writesMade writesOf storedBy marked span
-written-else Update m block pb c t b h = refl
-written-else StartLocal m block pb c t b h = read-other m false (busyIn block) 255 t b (h .0)
-written-else StartSystem m block pb c t b h = read-other m false (busyIn block) 255 t b (h .0)
-written-else Suspend m block pb c t b h =
+stored-else : (k : Command) (m : Buffers) (block pb : ℕ) (c : Channel) (t : Bool) (b : ℕ) → ApartFrom (storedBy k block pb) t b
+    → byteAt (storedMemory k m block pb c) t b ≡ byteAt m t b
+unfolding storedMemory storedBy marked span
+stored-else Update m block pb c t b h = refl
+stored-else StartLocal m block pb c t b h = read-other m false (busyIn block) 255 t b (h .0)
+stored-else StartSystem m block pb c t b h = read-other m false (busyIn block) 255 t b (h .0)
+stored-else Suspend m block pb c t b h =
     read-other (saved m pb (c .tp) (c .psw)) false (busyIn block) 0 t b (h .1 .1 .1 .1 .0)
     ∙ saved-else m pb (c .tp) (c .psw) t b (h .0, (h .1 .0, (h .1 .1 .0, (h .1 .1 .1 .0, tt))))
-written-else Resume m block pb c t b h = read-other m false (busyIn block) 255 t b (h .0)
-written-else Halt m block pb c t b h = read-other m false (busyIn block) 0 t b (h .0)
-written-else Unknown m block pb c t b h = refl
+stored-else Resume m block pb c t b h = read-other m false (busyIn block) 255 t b (h .0)
+stored-else Halt m block pb c t b h = read-other m false (busyIn block) 0 t b (h .0)
+stored-else Unknown m block pb c t b h = refl
 
 -- no store changes the length of a memory
-written-length : (m : Buffers) (w : Writes) (t : Bool) → length (spaceOf (writesMade m w) t) ≡ length (spaceOf m t)
-unfolding writesMade marked saved storePointer
-written-length m w t = go (w .saves) (w .marks)
-  where
-    go : (x y : Bool) → length (spaceOf (writesMade m (record { saves = x; pb = w .pb; tp = w .tp; psw = w .psw; marks = y; block = w .block; busy = w .busy })) t) ≡ length (spaceOf m t)
-    go true true = simp store-length
-    go true false = simp store-length
-    go false true = simp store-length
-    go false false = refl
+stored-length : (k : Command) (m : Buffers) (block pb : ℕ) (c : Channel) (t : Bool) → length (spaceOf (storedMemory k m block pb c) t) ≡ length (spaceOf m t)
+unfolding storedMemory marked saved storePointer
+stored-length Update m block pb c t = refl
+stored-length StartLocal m block pb c t = simp store-length
+stored-length StartSystem m block pb c t = simp store-length
+stored-length Suspend m block pb c t = simp store-length
+stored-length Resume m block pb c t = simp store-length
+stored-length Halt m block pb c t = simp store-length
+stored-length Unknown m block pb c t = refl
 
 module _ (s : State) (m : Buffers) (channel : ℕ) where
   -- the bytes that the order in a channel's block stores
@@ -74,11 +73,11 @@ module _ (s : State) (m : Buffers) (channel : ℕ) where
   unfolding orderedMemory
   bytes-kept t b h =
       attention-by s m channel (λ (r : Outcome). byteAt (r .memory) t b ≡ byteAt m t b) refl
-      (written-else (orderTo s m (isSecond channel) .command) m _ _ (channelOf s (isSecond channel)) t b h)
+      (stored-else (orderTo s m (isSecond channel) .command) m _ _ (channelOf s (isSecond channel)) t b h)
 
   -- no length changes
   pub lengths-kept : (t : Bool) → length (spaceOf (attentionOf s m channel .memory) t) ≡ length (spaceOf m t)
   unfolding orderedMemory
   lengths-kept t =
       attention-by s m channel (λ (r : Outcome). length (spaceOf (r .memory) t) ≡ length (spaceOf m t)) refl
-      (written-length m _ t)
+      (stored-length (orderTo s m (isSecond channel) .command) m _ _ (channelOf s (isSecond channel)) t)

@@ -13,7 +13,7 @@ use Rattle.ground_rules.specs.declared.State.{State}
 use Rattle.attention_rules.specs.declared.Order.{Order}
 use Rattle.attention_rules.specs.Blocks.{orderOf}
 use Rattle.attention_rules.specs.Touched.{orderStages, touchedByOrder}
-use Rattle.attention_rules.specs.Effects.{channelOrdered, writes, writesOf, writesMade}
+use Rattle.attention_rules.specs.Effects.{channelOrdered, storedMemory}
 
 -- the order that a channel's block holds
 unfoldable pub orderTo : State → Buffers → Bool → Order
@@ -31,7 +31,7 @@ channelAttended s m second = channelOrdered m (orderTo s m second) (channelOf s 
 unfoldable pub orderedMemory : State → Buffers → Bool → Buffers
 orderedMemory s m second =
     let o = orderTo s m second in
-    writesMade m (writesOf (o .command) (o .block) (o .pb) (channelOf s second))
+    storedMemory (o .command) m (o .block) (o .pb) (channelOf s second)
 
 -- the refusal of what it is given: 12, 11, 10, 13, 14
 unfoldable pub givenTo : State → Buffers → ℕ → ℕ

@@ -1,7 +1,6 @@
 -- What an accepted command makes of the channel and of memory (§4.3 to §4.9).
-use mathlib.Core.Bool.{Bool, true, false}
+use mathlib.Core.Bool.{true, false}
 use Prim.Native.Nat.{ℕ, _+_}
-use Rattle.ground_rules.specs.Choice.{pick}
 use Rattle.ground_rules.specs.Buffers.{Buffers, byteAt, storeByte}
 use Rattle.ground_rules.specs.Values.{wordAt, doublewordAt, pointer, pointerAt, storePointer}
 use Rattle.ground_rules.specs.declared.Pointer.{Pointer}
@@ -13,7 +12,6 @@ use Rattle.ground_rules.specs.declared.Mode.the-variants.{Running, Suspended}
 use Rattle.attention_rules.specs.declared.Command.{Command}
 use Rattle.attention_rules.specs.declared.Command.the-variants.{Update, StartLocal, StartSystem, Suspend, Resume, Halt, Unknown}
 use Rattle.attention_rules.specs.declared.Order.{Order}
-use Rattle.attention_rules.specs.declared.Writes.{Writes}
 use Rattle.attention_rules.specs.Commands.{ordered}
 
 -- a channel with another PSW, and no other change
@@ -48,21 +46,6 @@ channelOrdered m o c =
     let k = commanded (o .command) m (o .pb) c in
     onlyPsw k (ordered (o .ccw) (k .psw))
 
--- what an order stores, with what it needs for that: whether TP and PSW are saved in PB; whether BUSY is stored, and as what
-abbrev pub writes : Bool → Bool → ℕ → ℕ → ℕ → Channel → Writes
-writes saves marks busy block pb c =
-    record { saves = saves; pb = pb; tp = c .tp; psw = c .psw; marks = marks; block = block; busy = busy }
-
--- what a command stores: suspend saves; BUSY is FFh after a start and resume, 0 after suspend and halt
-unfoldable pub writesOf : Command → ℕ → ℕ → Channel → Writes
-writesOf Update = writes false false 0
-writesOf StartLocal = writes false true 255
-writesOf StartSystem = writes false true 255
-writesOf Suspend = writes true true 0
-writesOf Resume = writes false true 255
-writesOf Halt = writes false true 0
-writesOf Unknown = writes false false 0
-
 -- TP in its stored form and then PSW, as they were before this command, in PB's first four bytes (§4.6)
 unfoldable pub saved : Buffers → ℕ → Pointer → ℕ → Buffers
 saved m pb tp psw = storeByte (storePointer m false pb tp) false (pb + 3) psw
@@ -71,8 +54,12 @@ saved m pb tp psw = storeByte (storePointer m false pb tp) false (pb + 3) psw
 unfoldable pub marked : Buffers → ℕ → ℕ → Buffers
 marked m block busy = storeByte m false (busyIn block) busy
 
--- memory after those stores: what is saved, then BUSY
-unfoldable pub writesMade : Buffers → Writes → Buffers
-writesMade m w =
-    let n = pick (w .saves) (saved m (w .pb) (w .tp) (w .psw)) m in
-    pick (w .marks) (marked n (w .block) (w .busy)) n
+-- memory after each command: suspend saves; BUSY is FFh after a start and resume, 0 after suspend and halt; 000 stores nothing
+unfoldable pub storedMemory : Command → Buffers → ℕ → ℕ → Channel → Buffers
+storedMemory Update m block pb c = m
+storedMemory StartLocal m block pb c = marked m block 255
+storedMemory StartSystem m block pb c = marked m block 255
+storedMemory Suspend m block pb c = marked (saved m pb (c .tp) (c .psw)) block 0
+storedMemory Resume m block pb c = marked m block 255
+storedMemory Halt m block pb c = marked m block 0
+storedMemory Unknown m block pb c = m

@@ -13,8 +13,8 @@ use Rattle.ground_rules.proofs.PlaceLaws.{index-reduced, index-after, touchable
 use Rattle.ground_rules.proofs.StoreLaws.{lent-touchable, store-length, read-other}
 use Rattle.ground_rules.specs.Buffers.{Buffers, indexOf, lentAt, touchableAt, byteAt, storeByte}
 use Rattle.ground_rules.specs.declared.Pointer.{Pointer}
-use Rattle.transfer_rules.proofs.BlockLaws.{Block, stride, block-step, block-step-two}
-use Rattle.transfer_rules.specs.Reads.{dataOf}
+use Rattle.transfer_rules.proofs.BlockLaws.{Block, block-step, block-step-two}
+use Rattle.transfer_rules.specs.Reads.{bytesFetched, dataOf}
 use Rattle.transfer_rules.specs.Sides.{source, destination, wordSide, twoMove}
 use Rattle.transfer_rules.specs.Steps.{transferred, transferOf}
 use Rattle.transfer_rules.specs.Stores.{movedChannel}
@@ -38,20 +38,20 @@ words-on c n k b short false e l =
     words-odd c n (movedAfter c n k) (let x : alone c ≡ 1 = alone-one c e in omega (arith, moved-wide c n k b)) b e
 
 -- the bytes moved after the next step
-pub moved-next : (c : Channel) (n k : ℕ) → Plain c → 1 ≤ n → n ≤ 65536 → k < total c n → movedAfter c n (suc k) ≡ movedAfter c n k + stride (midway c n (movedAfter c n k))
+pub moved-next : (c : Channel) (n k : ℕ) → Plain c → 1 ≤ n → n ≤ 65536 → k < total c n → movedAfter c n (suc k) ≡ movedAfter c n k + bytesFetched (midway c n (movedAfter c n k))
 moved-next c n k p some most h = go (narrow c) refl (wordSide (source c) || wordSide (destination c)) refl (decLe (alone c) k) (ℕ-discrete (n - movedAfter c n k) 1)
   where
     short : movedAfter c n k < n
     short = moved-short c n k some h
 
-    one : twoMove (midway c n (movedAfter c n k)) ≡ false → movedAfter c n (suc k) ≡ movedAfter c n k + 1 → movedAfter c n (suc k) ≡ movedAfter c n k + stride (midway c n (movedAfter c n k))
+    one : twoMove (midway c n (movedAfter c n k)) ≡ false → movedAfter c n (suc k) ≡ movedAfter c n k + 1 → movedAfter c n (suc k) ≡ movedAfter c n k + bytesFetched (midway c n (movedAfter c n k))
     one x y = rw x y
 
-    two : twoMove (midway c n (movedAfter c n k)) ≡ true → movedAfter c n (suc k) ≡ movedAfter c n k + 2 → movedAfter c n (suc k) ≡ movedAfter c n k + stride (midway c n (movedAfter c n k))
+    two : twoMove (midway c n (movedAfter c n k)) ≡ true → movedAfter c n (suc k) ≡ movedAfter c n k + 2 → movedAfter c n (suc k) ≡ movedAfter c n k + bytesFetched (midway c n (movedAfter c n k))
     two x y = rw x y
 
     go : (b : Bool) → narrow c ≡ b → (w : Bool) → wordSide (source c) || wordSide (destination c) ≡ w → Dec (alone c ≤ k) → Dec (n - movedAfter c n k ≡ 1)
-        → movedAfter c n (suc k) ≡ movedAfter c n k + stride (midway c n (movedAfter c n k))
+        → movedAfter c n (suc k) ≡ movedAfter c n k + bytesFetched (midway c n (movedAfter c n k))
     go true b w e l d = one (narrow-one c n (movedAfter c n k) b) (omega (arith, moved-narrow c n k b, moved-narrow c n (suc k) b, total-narrow c n b))
     go false b true e (yes l) (yes z) = one (words-last c n (movedAfter c n k) p short z) (omega (arith, moved-wide c n k b, moved-wide c n (suc k) b, alone-none c e))
     go false b true e (yes l) (no z) =
@@ -163,7 +163,7 @@ made-of : (n : ℕ) (c₀ : Channel) (m₀ : Buffers) (j : ℕ) (m : Buffers) (s
 made-of n c₀ m₀ j m s c m′ e x h w = record { done = rw e; reached = rw e (record { channel = x; bytes = h }); within = rw e w }
 
 -- the step that moves s bytes when j have moved
-pub made : (n : ℕ) (c₀ : Channel) (m₀ : Buffers) (j : ℕ) (m : Buffers) (s : ℕ) → Copy n c₀ m₀ → stride (midway c₀ n j) ≡ s → j + s ≤ n
+pub made : (n : ℕ) (c₀ : Channel) (m₀ : Buffers) (j : ℕ) (m : Buffers) (s : ℕ) → Copy n c₀ m₀ → bytesFetched (midway c₀ n j) ≡ s → j + s ≤ n
     → RangesHeld (from c₀) (into c₀) n m₀ j m → Made n c₀ m₀ j m s
 made n c₀ m₀ j m s k e fits h = go (twoMove (midway c₀ n j)) refl
   where
@@ -212,9 +212,9 @@ stage-end c n = rw (le-ltb n n (omega arith))
 
 -- the next step after k, short of the total
 pub next-made : (n : ℕ) (c₀ : Channel) (m₀ : Buffers) (k : ℕ) (c : Channel) (m : Buffers) → Copy n c₀ m₀ → k < total c₀ n → Reached n c₀ m₀ (movedAfter c₀ n k) c m
-    → Made n c₀ m₀ (movedAfter c₀ n k) m (stride (midway c₀ n (movedAfter c₀ n k)))
+    → Made n c₀ m₀ (movedAfter c₀ n k) m (bytesFetched (midway c₀ n (movedAfter c₀ n k)))
 next-made n c₀ m₀ k c m p h r =
-    made n c₀ m₀ (movedAfter c₀ n k) m (stride (midway c₀ n (movedAfter c₀ n k))) p refl
+    made n c₀ m₀ (movedAfter c₀ n k) m (bytesFetched (midway c₀ n (movedAfter c₀ n k))) p refl
     (rw (← (moved-next c₀ n k (p .plain) (p .some) (p .most) h)) (moved-le c₀ n (suc k))) (r .bytes)
 
 -- the channel after k, short of the total

@@ -10,7 +10,7 @@ use Rattle.ground_rules.specs.Psw.{transferring, withPsw}
 use Rattle.ground_rules.specs.States.{isRunning}
 use Rattle.ground_rules.specs.declared.Channel.{Channel}
 use Rattle.ground_rules.specs.Buffers.{Buffers}
-use Rattle.transfer_rules.proofs.BlockLaws.{stride}
+use Rattle.transfer_rules.specs.Reads.{bytesFetched}
 use Rattle.transfer_rules.specs.Ends.{offsetOf}
 use Rattle.ground_rules.specs.Updates.{withTransfer}
 use Rattle.transfer_rules.specs.Steps.{transferOf}
@@ -41,7 +41,7 @@ going {n} {c₀} {m₀} {k} {c} {m} p r h = go (reached p r (down k (total c₀ 
     go : Reached n c₀ m₀ (movedAfter c₀ n k) c m → Going n c₀ m₀ k c m
     go x =
         let e : c ≡ midway c₀ n (movedAfter c₀ n k) = reached-mid n c₀ m₀ k c m p h x in
-        let s : Made n c₀ m₀ (movedAfter c₀ n k) m (stride (midway c₀ n (movedAfter c₀ n k))) = next-made n c₀ m₀ k c m p h x in
+        let s : Made n c₀ m₀ (movedAfter c₀ n k) m (bytesFetched (midway c₀ n (movedAfter c₀ n k))) = next-made n c₀ m₀ k c m p h x in
         record {
           runs = rw e (mid-runs c₀ n (movedAfter c₀ n k) (p .plain));
           transfers = rw e (mid-transfers c₀ n (movedAfter c₀ n k) (p .plain));

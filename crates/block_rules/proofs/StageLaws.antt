@@ -15,14 +15,14 @@ use Rattle.ground_rules.specs.declared.Fields.{Fields}
 use Rattle.ground_rules.specs.Buffers.{Buffers}
 use Rattle.ground_rules.specs.Values.{pointer, onward}
 use Rattle.ground_rules.specs.declared.Pointer.{Pointer}
-use Rattle.transfer_rules.proofs.BlockLaws.{Block, stride, remaining, carried, word-narrow, one-moves, last-moves, two-moves, block-going, block-last}
+use Rattle.transfer_rules.proofs.BlockLaws.{Block, carried, word-narrow, one-moves, last-moves, two-moves, block-going, block-last}
 use Rattle.ground_rules.proofs.ChoiceLaws.{pick-under, apart, both-left, both-right}
 use Rattle.transfer_rules.specs.Ends.{offsetOf, endedTP, endedPSW, endedBy}
 use Rattle.ground_rules.specs.Updates.{withTransfer, holding}
 use Rattle.ground_rules.specs.declared.Held.the-variants.{NoByte}
-use Rattle.transfer_rules.specs.Reads.{dataOf}
+use Rattle.transfer_rules.specs.Reads.{bytesFetched, dataOf}
 use Rattle.transfer_rules.specs.Sides.{side, source, destination, wordSide, gained, twoMove}
-use Rattle.transfer_rules.specs.Stores.{movedChannel}
+use Rattle.transfer_rules.specs.Stores.{countAfter, movedChannel}
 use Rattle.ground_rules.specs.Bits.{bitOf}
 use Rattle.ground_rules.specs.Choice.{pick}
 use Rattle.ground_rules.specs.Sums.{countDown}
@@ -178,7 +178,7 @@ words-two c n j h l most ne = two-moves (midway c n j) h (λ e. let x : (n - j) 
 -- ---- the next stage
 
 -- both pointers and BC after the next step
-carried-mid : (c : Channel) (n j s : ℕ) → stride (midway c n j) ≡ s → 1 ≤ s → s ≤ 2 → j + s ≤ n → n ≤ 65536 → carried (midway c n j) ≡ midway c n (j + s)
+carried-mid : (c : Channel) (n j s : ℕ) → bytesFetched (midway c n j) ≡ s → 1 ≤ s → s ≤ 2 → j + s ≤ n → n ≤ 65536 → carried (midway c n j) ≡ midway c n (j + s)
 unfolding carried midway withTransfer
 carried-mid c n j s e one two fits most =
     λ i. holding (withTransfer c (ga i) (gb i) (c .tp) (bc i) (c .psw)) (held i)
@@ -186,17 +186,17 @@ carried-mid c n j s e one two fits most =
     held : NoByte ≡ heldOn c (j + s)
     held = rw (ne-eqb (j + s) 0 (omega arith))
 
-    ga : gained true (onward (c .ga) j) (stride (midway c n j)) ≡ onward (c .ga) (j + s)
+    ga : gained true (onward (c .ga) j) (bytesFetched (midway c n j)) ≡ onward (c .ga) (j + s)
     ga = rw e (on-on (c .ga) j s)
 
-    gb : gained true (onward (c .gb) j) (stride (midway c n j)) ≡ onward (c .gb) (j + s)
+    gb : gained true (onward (c .gb) j) (bytesFetched (midway c n j)) ≡ onward (c .gb) (j + s)
     gb = rw e (on-on (c .gb) j s)
 
-    bc : countDown ((n - j) % 65536) (stride (midway c n j)) ≡ (n - (j + s)) % 65536
+    bc : countDown ((n - j) % 65536) (bytesFetched (midway c n j)) ≡ (n - (j + s)) % 65536
     bc = rw e (omega arith)
 
 -- BC after the next step
-left-mid : (c : Channel) (n j s : ℕ) → stride (midway c n j) ≡ s → s ≤ 2 → j + s ≤ n → n ≤ 65536 → remaining (midway c n j) ≡ (n - (j + s)) % 65536
+left-mid : (c : Channel) (n j s : ℕ) → bytesFetched (midway c n j) ≡ s → s ≤ 2 → j + s ≤ n → n ≤ 65536 → countAfter (midway c n j) ≡ (n - (j + s)) % 65536
 left-mid c n j s e two fits most = rw (e, mid-count c n j) (omega arith)
 
 -- the end
@@ -217,12 +217,12 @@ ends-mid c n some ne = λ i. holding (withTransfer c (onward (c .ga) n) (onward 
     bc = omega arith
 
 -- what the next step makes of the channel
-pub stage-next : (c : Channel) (n j s : ℕ) (m : Buffers) → Plain c → stride (midway c n j) ≡ s → 1 ≤ s → s ≤ 2 → j + s ≤ n → n ≤ 65536
+pub stage-next : (c : Channel) (n j s : ℕ) (m : Buffers) → Plain c → bytesFetched (midway c n j) ≡ s → 1 ≤ s → s ≤ 2 → j + s ≤ n → n ≤ 65536
     → movedChannel (midway c n j) (dataOf (midway c n j) m) ≡ stage c n (j + s)
 unfolding stage
 stage-next c n j s m k e one two fits most = go (decLt (j + s) n)
   where
-    left : remaining (midway c n j) ≡ (n - (j + s)) % 65536
+    left : countAfter (midway c n j) ≡ (n - (j + s)) % 65536
     left = left-mid c n j s e two fits most
 
     next : carried (midway c n j) ≡ midway c n (j + s)

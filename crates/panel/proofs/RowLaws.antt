@@ -28,7 +28,7 @@ use Rattle.transfer_rules.specs.Parts.{Part, Whole, fetchesApart, storesApart, 
 use Rattle.transfer_rules.specs.Reads.{fetched, fetchedSecond, entryOf, delivered, bytesFetched, dataOf, also, readPlaces}
 use Rattle.transfer_rules.specs.Sides.{source, destination, wordSide, gained, twoMove, storedSingly}
 use Rattle.transfer_rules.specs.Steps.{Transfer, transferred, touchedBy, channelBy, memoryBy, badMode, stepBy, transferOf}
-use Rattle.transfer_rules.specs.Stores.{firstMeets, matchMet, storesTwo, bytesStored, bytesMoved, bytesCounted, countAfter, endCode, movedBy, movedChannel, putOn, movedMemory, placesOn, storedPlaces}
+use Rattle.transfer_rules.specs.Stores.{firstMeets, matchMet, storesTwo, bytesStored, countAfter, endCode, movedBy, moveOver, movedChannel, putOn, movedMemory, placesOn, storedPlaces}
 use Rattle.transfer.specs.Fetches.{seen}
 use Rattle.transfer.specs.Moves.{landed, leftByMove, landedBy}
 use Rattle.transfer.specs.declared.Moved.{Moved}
@@ -123,7 +123,7 @@ module _ (c : Channel) (p : Places) (r : Moved) where
 
 module _ (c : Channel) (r : Moved) where
   moved : Channel
-  moved = movedBy c (r .by) (countDown (c .bc) (bytesFetched c))
+  moved = movedBy c (r .by) (countAfter c)
 
   -- the channel that a step leaves: where the row goes on, or that ended
   landed-ends : endsRow r ≡ true → landed c r ≡ endedBy (goesTo c r) (r .code)
@@ -247,8 +247,8 @@ module _ (c : Channel) (m : Buffers) (p : Narrow c) where
   unfolding memoryBy movedMemory putOn storesTwo dataOf
   narrow-memory = rw narrow-two
 
-  narrow-code : meetsTmc (c .fields .matchEnd) (c .mc) (delivered c m) ≡ false → countsOut c (c .bc) ≡ false → endCode c (dataOf c m) ≡ 0
-  unfolding endCode countAfter bytesCounted matchMet firstMeets storedSingly codeIf larger countsOut dataOf
+  narrow-code : meetsTmc (c .fields .matchEnd) (c .mc) (delivered c m) ≡ false → countsOut c (c .bc) ≡ false → endCode c (matchMet c (dataOf c m)) ≡ 0
+  unfolding endCode matchMet firstMeets storedSingly codeIf larger countsOut dataOf
   narrow-code u e = rw (narrow-two, u, p .single) (go (eqb (c .fields .countEnd) 0) refl (eqb (countDown (c .bc) 1) 0) e)
     where
       go : (x : Bool) → eqb (c .fields .countEnd) 0 ≡ x → (y : Bool) → not x && y ≡ false → pick (ltb (pick (ltb 0 (pick y (c .fields .countEnd) 0)) (pick y (c .fields .countEnd) 0) 0) 0) 0 (pick (ltb 0 (pick y (c .fields .countEnd) 0)) (pick y (c .fields .countEnd) 0) 0) ≡ 0
@@ -257,8 +257,8 @@ module _ (c : Channel) (m : Buffers) (p : Narrow c) where
       go false e true f = apart f
 
   narrow-channel : meetsTmc (c .fields .matchEnd) (c .mc) (delivered c m) ≡ false → countsOut c (c .bc) ≡ false → channelBy Whole c m ≡ movedBy c 1 (countDown (c .bc) 1)
-  unfolding channelBy movedChannel bytesMoved bytesStored storesTwo countAfter bytesCounted
-  narrow-channel u e = ap (endedBy (movedBy c (bytesMoved c (dataOf c m)) (countAfter c (dataOf c m)))) (narrow-code u e) ∙ ended-none (movedBy c (bytesMoved c (dataOf c m)) (countAfter c (dataOf c m))) ∙ rw narrow-two
+  unfolding channelBy movedChannel moveOver bytesStored storesTwo
+  narrow-channel u e = ap (endedBy (movedBy c (bytesStored c (dataOf c m)) (countAfter c))) (narrow-code u e) ∙ ended-none (movedBy c (bytesStored c (dataOf c m)) (countAfter c)) ∙ rw narrow-two
 
   narrow-whole : isHalf c ≡ false
   unfolding isHalf fetchesApart storesApart storedSingly

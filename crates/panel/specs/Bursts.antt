@@ -14,9 +14,8 @@ use Rattle.ground_rules.specs.declared.Held.{Held}
 use Rattle.ground_rules.specs.declared.Held.the-variants.{NoByte, Byte}
 use Rattle.ground_rules.specs.Values.{pointer}
 use Rattle.transfer_rules.specs.Ends.{externallyEnded}
-use Rattle.transfer_rules.specs.Reads.{bytesFetched}
 use Rattle.transfer_rules.specs.Steps.{transferred, transferOf}
-use Rattle.transfer_rules.specs.Stores.{movedBy}
+use Rattle.transfer_rules.specs.Stores.{countAfter, movedBy}
 use Rattle.transfer.specs.Fetches.{seen}
 use Rattle.transfer.specs.declared.Moved.{Moved}
 use Rattle.transfer.specs.declared.reads.Seen.{Seen}
@@ -94,7 +93,7 @@ carriedAs c p = holding (placedAt c (p .source) (p .destination) (p .bc)) (pick 
 
 -- what a step makes of a channel before any end: it holds a byte, or its sides go on and BC falls
 unfoldable pub goesTo : Channel → Moved → Channel
-goesTo c m = pick (eqb (m .by) 0) (holding c (Byte (m .byte))) (movedBy c (m .by) (countDown (c .bc) (bytesFetched c)))
+goesTo c m = pick (eqb (m .by) 0) (holding c (Byte (m .byte))) (movedBy c (m .by) (countAfter c))
 
 -- whether that step ends the transfer
 abbrev pub endsRow : Moved → Bool

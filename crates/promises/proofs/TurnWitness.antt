@@ -7,7 +7,7 @@ use mathlib.Core.Path.{_≡_, refl}
 use Rattle.attention_rules.specs.Attention.{orderTo, orderNumber, channelAttended, orderedMemory, givenTo, attentionNumber, attentionOf}
 use Rattle.attention_rules.specs.Blocks.{ccwOf, parameterBlock, orderOf}
 use Rattle.attention_rules.specs.Commands.{commandCoded, isKnown, modeNumber, commandNumber, copied, obeyed, ordered}
-use Rattle.attention_rules.specs.Effects.{started as startedBy, commanded, channelOrdered, writesOf, marked, writesMade}
+use Rattle.attention_rules.specs.Effects.{started as startedBy, commanded, channelOrdered, marked, storedMemory}
 use Rattle.ground_rules.specs.Cc.{split, sameFlag, sameFields}
 use Rattle.ground_rules.specs.Updates.{withControl, renewed}
 use Rattle.attention_rules.specs.Touched.{readBy, storedBy, others, orderStages}
@@ -53,7 +53,7 @@ busy =
 
 -- so the two attentions leave it
 both-started : startedBoth ≡ outcome 0 (both 0x18 0x1C true) busy
-unfolding both program busy freshState idleChannel attentionOf attentionNumber givenTo givenNumber unless first isChannel withinLimits limitOf sound soundChannel agree fieldsAgree sameFields sameFlag split orderNumber stagesNumber orderStages orderTo orderOf blockOf busyIn channelOf isSecond ccwOf commandCoded fieldOf parameterBlock doublewordAt wordAt byteAt beyondIn indexOf spaceOf allPass touchableAt lentAt span commandNumber isKnown modeNumber isRunning others readBy storedBy settled orderedMemory writesMade writesOf marked storeByte channelAttended channelOrdered commanded startedBy ordered copied obeyed withPsw withBit bitOf withControl withChannel
+unfolding both program busy freshState idleChannel attentionOf attentionNumber givenTo givenNumber unless first isChannel withinLimits limitOf sound soundChannel agree fieldsAgree sameFields sameFlag split orderNumber stagesNumber orderStages orderTo orderOf blockOf busyIn channelOf isSecond ccwOf commandCoded fieldOf parameterBlock doublewordAt wordAt byteAt beyondIn indexOf spaceOf allPass touchableAt lentAt span commandNumber isKnown modeNumber isRunning others readBy storedBy settled orderedMemory storedMemory marked storeByte channelAttended channelOrdered commanded startedBy ordered copied obeyed withPsw withBit bitOf withControl withChannel
 both-started = refl
 
 -- wherever they have come to, they are such programs

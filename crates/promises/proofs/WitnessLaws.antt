@@ -21,7 +21,7 @@ use Rattle.transfer_rules.specs.Reads.{fetched, fetchedSecond, entryOf, deliver
 use Rattle.transfer_rules.specs.Sides.{source, destination, wordSide, secondAddress, gained, twoMove, storedSingly}
 use Rattle.transfer_rules.specs.Parts.{fetchesApart, storesApart, fetchPart, storePart, partOf}
 use Rattle.transfer_rules.specs.Steps.{Transfer, transferred, badMode, transferOf, stepBy, numberBy, stagesBy, channelBy, memoryBy, touchedBy}
-use Rattle.transfer_rules.specs.Stores.{movedChannel, movedMemory, firstMeets, matchMet, cutShort, storesTwo, bytesStored, bytesMoved, bytesCounted, countAfter, endCode, movedBy, putOn, placesOn, storedPlaces}
+use Rattle.transfer_rules.specs.Stores.{moveOver, movedChannel, movedMemory, firstMeets, matchMet, cutShort, storesTwo, bytesStored, endCode, movedBy, putOn, placesOn, storedPlaces}
 use Rattle.ground_rules.proofs.ChoiceLaws.{apart}
 use Rattle.ground_rules.specs.Bits.{fieldOf, bitOf, withBit}
 use Rattle.ground_rules.specs.Compare.{matchOf}
@@ -99,7 +99,7 @@ wide-met =
 
 -- a transfer step with all that it is made of laid open, so that it computes
 unfoldable pub transferOpen : Channel → Buffers → Transfer
-unfolding runningWith memoryWith transferOf stepBy numberBy stagesBy partOf fetchesApart storesApart fetchPart storePart channelBy memoryBy touchedBy stagesNumber first unless badMode source destination readPlaces also entryOf storedPlaces placesOn allPass touchableAt lentAt spaceOf indexOf limitOf dataOf delivered fetched fetchedSecond twoMove wordSide secondAddress bitOf fieldOf storesTwo cutShort storedSingly firstMeets meetsTmc matchMet movedMemory putOn storeByte byteAt beyondIn movedChannel endedBy endedTP endedPSW movedBy withTransfer gained onward bytesMoved bytesStored bytesCounted countAfter endCode codeIf larger offsetOf withPsw withBit matchOf split
+unfolding runningWith memoryWith transferOf stepBy numberBy stagesBy partOf fetchesApart storesApart fetchPart storePart channelBy memoryBy touchedBy stagesNumber first unless badMode source destination readPlaces also entryOf storedPlaces placesOn allPass touchableAt lentAt spaceOf indexOf limitOf dataOf delivered fetched fetchedSecond twoMove wordSide secondAddress bitOf fieldOf storesTwo cutShort storedSingly firstMeets meetsTmc matchMet movedMemory putOn storeByte byteAt beyondIn movedChannel moveOver endedBy endedTP endedPSW movedBy withTransfer gained onward bytesStored endCode codeIf larger offsetOf withPsw withBit matchOf split
 transferOpen c m = transferOf c m
 
 -- both widths 8: the total is five

@@ -15,10 +15,10 @@ use Rattle.ground_rules.specs.States.{channelOf, withChannel, withLast, isSecon
 use Rattle.ground_rules.specs.declared.Channel.{Channel}
 use Rattle.ground_rules.specs.declared.Fields.{Fields}
 use Rattle.ground_rules.specs.declared.State.{State}
-use Rattle.transfer_rules.proofs.BlockLaws.{Block, stride, block-stores}
+use Rattle.transfer_rules.proofs.BlockLaws.{Block, block-stores}
 use Rattle.transfer_rules.proofs.CountLaws.{touched-length}
 use Rattle.transfer_rules.proofs.PartLaws.{unsynchronised-whole}
-use Rattle.transfer_rules.specs.Reads.{dataOf}
+use Rattle.transfer_rules.specs.Reads.{bytesFetched, dataOf}
 use Rattle.transfer_rules.specs.Sides.{twoMove}
 use Rattle.transfer_rules.specs.Steps.{accesses, touchedByTransfer}
 use Rattle.block_rules.proofs.CopyLaws.{down, moved-next}
@@ -44,7 +44,7 @@ twice true = refl
 twice false = refl
 
 step-touches : (b : Bool) (s : State) (m : Buffers) (lines : ℕ) → HasTurn b s m lines → transferring (channelOf s b .psw) ≡ true → (stepOf s m lines) .number ≡ 0
-    → Block (channelOf s b .fields) → channelOf s b .fields .synchronised ≡ 0 → stepCount s m lines ≡ 2 * stride (channelOf s b)
+    → Block (channelOf s b .fields) → channelOf s b .fields .synchronised ≡ 0 → stepCount s m lines ≡ 2 * bytesFetched (channelOf s b)
 unfolding stepCount touchedByStep touchedIn touchedByTransfer
 step-touches b s m lines t x z k free =
     let c = channelOf s b in
@@ -128,12 +128,12 @@ module _ (b : Bool) (n : ℕ) (s₀ : State) (m₀ : Buffers) (lines : ℕ) (p :
       let m = t .memory in
       let g = going-on b n s₀ m₀ lines p k h t in
       let moves = moves-on b n s₀ m₀ lines p k h t in
-      let touches : stepCount s m lines ≡ 2 * stride (midway c₀ n (movedAfter c₀ n k)) =
+      let touches : stepCount s m lines ≡ 2 * bytesFetched (midway c₀ n (movedAfter c₀ n k)) =
       step-touches b s m lines (turn-on b n s₀ m₀ lines p k h t) (g .transfers) (moves .done)
       (subst Block (sym (ap (λ (c : Channel). c .fields) (g .registers))) (mid-block c₀ n (movedAfter c₀ n k) (p .plain)))
       (ap (λ (f : Fields). f .synchronised) (fields-on b n s₀ m₀ lines p k h t) ∙ p .plain .unsynchronised)
-      ∙ ap (λ (c : Channel). 2 * stride c) (g .registers) in
-      let more : movedAfter c₀ n (suc k) ≡ movedAfter c₀ n k + stride (midway c₀ n (movedAfter c₀ n k)) = moved-next c₀ n k (p .plain) (p .some) (p .most) h in
+      ∙ ap (λ (c : Channel). 2 * bytesFetched c) (g .registers) in
+      let more : movedAfter c₀ n (suc k) ≡ movedAfter c₀ n k + bytesFetched (midway c₀ n (movedAfter c₀ n k)) = moved-next c₀ n k (p .plain) (p .some) (p .most) h in
       let r : Sweep = plainly left ((stepOf s m lines) .state) ((stepOf s m lines) .memory) b lines in
       let e : suc k + left ≡ k + suc left = omega arith in
       let steps : k + (1 + r .steps) ≡ suc k + r .steps = omega arith in

@@ -30,7 +30,7 @@ use Rattle.ground_rules.specs.Places.{Apart, span, allPass, allTouchable}
 use Rattle.ground_rules.specs.Values.{wordAt, doublewordAt, pointer, onward}
 use Rattle.attention_rules.specs.Blocks.{ccwOf, parameterBlock, orderOf}
 use Rattle.attention_rules.specs.Commands.{commandCoded, isKnown, modeNumber, commandNumber, copied, obeyed, ordered}
-use Rattle.attention_rules.specs.Effects.{started, commanded, channelOrdered, writesOf, marked, writesMade}
+use Rattle.attention_rules.specs.Effects.{started, commanded, channelOrdered, marked, storedMemory}
 use Rattle.attention_rules.specs.Touched.{readBy, storedBy, others}
 use Rattle.attention_rules.specs.declared.Command.the-variants.{StartSystem}
 use Rattle.attention_rules.specs.declared.Order.{Order}
@@ -201,8 +201,8 @@ module _ {s : State} {b : Bool} {m : Buffers} {lines pb program : ℕ} (a : Runs
 
   -- and memory is this
   memory-is : orderedMemory s m b ≡ storeByte m false (block + 1) 255
-  unfolding order orderedMemory writesMade writesOf marked busyIn
-  memory-is = ap (λ (o : Order). writesMade m (writesOf (o .command) (o .block) (o .pb) c)) order-is ∙ store-reduced m false (block + 1) 255
+  unfolding order orderedMemory storedMemory marked busyIn
+  memory-is = ap (λ (o : Order). storedMemory (o .command) m (o .block) (o .pb) c) order-is ∙ store-reduced m false (block + 1) 255
 
   -- so it does what the order says
   pub begun : Begun s b m lines program

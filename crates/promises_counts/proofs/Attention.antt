@@ -22,7 +22,7 @@ use Rattle.ground_rules.specs.declared.State.{State}
 use Rattle.attention_rules.specs.Attention.{orderTo, orderNumber, channelAttended, orderedMemory, givenTo, attentionNumber, attentionOf, touchedByAttention}
 use Rattle.attention_rules.specs.Blocks.{ccwOf, pointerOf, parameterBlock, orderOf}
 use Rattle.attention_rules.specs.Commands.{commandOf, commandNumber, ordered}
-use Rattle.attention_rules.specs.Effects.{onlyPsw, started, resumed, commanded, channelOrdered, writesOf, saved, marked, writesMade}
+use Rattle.attention_rules.specs.Effects.{onlyPsw, started, resumed, commanded, channelOrdered, saved, marked, storedMemory}
 use Rattle.attention_rules.specs.Touched.{readBy, storedBy, others, orderStages, touchedByOrder}
 use Rattle.attention_rules.specs.declared.Command.{Command}
 use Rattle.attention_rules.specs.declared.Command.the-variants.{Update, StartLocal, StartSystem, Suspend, Resume, Halt, Unknown}
@@ -60,8 +60,8 @@ command-places Resume block pb c = refl
 command-places Halt block pb c = refl
 command-places Unknown block pb c = refl
 
-command-made : (k : Command) (block pb : ℕ) (c : Channel) (m : Buffers) → writesMade m (writesOf k block pb c) ≡ storesMade m (commandStores k block pb c)
-unfolding commandStores busyStored storesMade storesAt writesMade writesOf marked saved storePointer
+command-made : (k : Command) (block pb : ℕ) (c : Channel) (m : Buffers) → storedMemory k m block pb c ≡ storesMade m (commandStores k block pb c)
+unfolding commandStores busyStored storesMade storesAt storedMemory marked saved storePointer
 command-made Update block pb c m = refl
 command-made StartLocal block pb c m = refl
 command-made StartSystem block pb c m = refl
@@ -221,7 +221,7 @@ module _ (s : State) (channel : ℕ) (m : Buffers) where
         → orderedMemory s n (isSecond channel) ≡ storesMade n (commandStores ((order m) .command) ((order m) .block) ((order m) .pb) c)
     unfolding orderedMemory
     memory-same e =
-        ap (λ (o : Order). writesMade n (writesOf (o .command) (o .block) (o .pb) c)) (order-same e)
+        ap (λ (o : Order). storedMemory (o .command) n (o .block) (o .pb) c) (order-same e)
         ∙ command-made ((order m) .command) ((order m) .block) ((order m) .pb) c n
 
   -- ---- the attention

@@ -9,7 +9,7 @@ use Rattle.ground_rules.specs.{declared.Pointer.Pointer, Places.span, Values.po
 use Rattle.ground_rules.specs.{declared.State.State, Outcomes.Outcome, Outcomes.settled, Updates.withControl, Updates.stoppedPsw}
 use Rattle.attention_rules.specs.Attention.{orderTo, orderNumber, channelAttended, orderedMemory, givenTo, attentionNumber, attentionOf}
 use Rattle.attention_rules.specs.Commands.{commandCoded, isKnown, modeNumber, commandNumber, copied, obeyed, ordered}
-use Rattle.attention_rules.specs.Effects.{suspended, resumed, commanded, channelOrdered, writesOf, saved, marked, writesMade}
+use Rattle.attention_rules.specs.Effects.{suspended, resumed, commanded, channelOrdered, saved, marked, storedMemory}
 use Rattle.attention_rules.specs.{Blocks.ccwOf, Blocks.parameterBlock, Blocks.orderOf, Touched.readBy, Touched.storedBy, Touched.others, Touched.orderStages}
 use Rattle.turn_rules.specs.Step.{Step, stepOf}
 use Rattle.promises.{specs.Witness.runningWith, proofs.CallWitness.stepOpen}
@@ -26,7 +26,7 @@ usual psw = moving (pointer 2 true) 0 psw
 
 -- an attention to it with this CCW
 noticed : State → Buffers → ℕ → Outcome
-unfolding attentionOf attentionNumber givenTo isChannel isSecond settled orderNumber orderStages orderTo orderOf ccwOf commandCoded parameterBlock commandNumber isKnown modeNumber isSuspended blockOf busyIn others readBy storedBy span orderedMemory writesMade writesOf marked saved storePointer pointerAt channelAttended channelOrdered commanded suspended resumed ordered copied obeyed withControl stoppedPsw
+unfolding attentionOf attentionNumber givenTo isChannel isSecond settled orderNumber orderStages orderTo orderOf ccwOf commandCoded parameterBlock commandNumber isKnown modeNumber isSuspended blockOf busyIn others readBy storedBy span orderedMemory storedMemory marked saved storePointer pointerAt channelAttended channelOrdered commanded suspended resumed ordered copied obeyed withControl stoppedPsw
 noticed s m ccw = attentionOf s (storeByte m false 8 ccw) 1
 
 -- what its two steps leave, undisturbed, and with a pause between them: CCW 06h, whatever else happens while it is suspended, and this CCW to resume

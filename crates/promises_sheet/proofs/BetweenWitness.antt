@@ -16,7 +16,7 @@ use Rattle.ground_rules.specs.declared.State.{State}
 use Rattle.attention_rules.specs.Attention.{orderTo, orderNumber, channelAttended, orderedMemory, givenTo, attentionNumber, attentionOf}
 use Rattle.attention_rules.specs.Blocks.{ccwOf, parameterBlock, orderOf}
 use Rattle.attention_rules.specs.Commands.{commandCoded, isKnown, modeNumber, commandNumber, copied, obeyed, ordered}
-use Rattle.attention_rules.specs.Effects.{suspended, resumed, commanded, channelOrdered, writesOf, saved, marked, writesMade}
+use Rattle.attention_rules.specs.Effects.{suspended, resumed, commanded, channelOrdered, saved, marked, storedMemory}
 use Rattle.attention_rules.specs.Touched.{readBy, storedBy, others, orderStages}
 use Rattle.turn_rules.specs.Step.{Step, stepOf}
 use Rattle.promises.specs.Witness.{runningWith}
@@ -50,7 +50,7 @@ onAgain = attentionOf (offAgain .state) (storeByte (offAgain .memory) false 8 0x
 
 -- an attention with all that it is made of laid open, so that it computes
 unfoldable attentionOpen : State → Buffers → ℕ → Outcome
-unfolding attentionOf attentionNumber givenTo isChannel isSecond settled orderNumber orderStages orderTo orderOf ccwOf commandCoded parameterBlock commandNumber isKnown modeNumber isSuspended blockOf busyIn others readBy storedBy span orderedMemory writesMade writesOf marked saved storePointer pointerAt channelAttended channelOrdered commanded suspended resumed ordered copied obeyed withControl stoppedPsw
+unfolding attentionOf attentionNumber givenTo isChannel isSecond settled orderNumber orderStages orderTo orderOf ccwOf commandCoded parameterBlock commandNumber isKnown modeNumber isSuspended blockOf busyIn others readBy storedBy span orderedMemory storedMemory marked saved storePointer pointerAt channelAttended channelOrdered commanded suspended resumed ordered copied obeyed withControl stoppedPsw
 attentionOpen s m channel = attentionOf s m channel
 
 -- both halves are done, with the 7 held over a suspend and a resume

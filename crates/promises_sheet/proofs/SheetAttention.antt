@@ -14,7 +14,7 @@ use Rattle.attention_rules.proofs.Pauses.{ordered-else}
 use Rattle.attention_rules.specs.Attention.{orderTo, channelAttended, orderedMemory}
 use Rattle.attention_rules.specs.Blocks.{ccwOf, parameterBlock, orderOf}
 use Rattle.attention_rules.specs.Commands.{commandCoded, isKnown, commandNumber, copied, obeyed, ordered}
-use Rattle.attention_rules.specs.Effects.{onlyPsw, started, suspended, resumed, commanded, channelOrdered, writesOf, saved, marked, writesMade}
+use Rattle.attention_rules.specs.Effects.{onlyPsw, started, suspended, resumed, commanded, channelOrdered, saved, marked, storedMemory}
 use Rattle.attention_rules.specs.Touched.{readBy, storedBy, others}
 use Rattle.attention_rules.specs.declared.Command.{Command}
 use Rattle.attention_rules.specs.declared.Command.the-variants.{Update, StartLocal, StartSystem, Suspend, Resume, Halt, Unknown}
@@ -210,7 +210,7 @@ module _ (b : Bool) (s : State) (m : Buffers) {code : ℕ} (x : Attends b s m co
       (ap (λ (n : ℕ). onlyPsw made (ordered n (made .psw))) (byte-alike m false (blockOf s b) (blockIn s b) (block-is s b)))
 
   -- and of memory
-  memory-is : outcomeTo s m b .memory ≡ writesMade m (writesOf k (blockOf s b) pb (channelOf s b))
+  memory-is : outcomeTo s m b .memory ≡ storedMemory k m (blockOf s b) pb (channelOf s b)
   unfolding orderedMemory orderTo orderOf pb
   memory-is = ap (λ (o : Outcome). o .memory) whole ∙ rw command-is
 
@@ -337,7 +337,7 @@ no-command b s m code x coded =
     eqb-false 6 0 refl (rw (command-is b s m x Unknown coded) at z)
 
 pub attention-sheet : (second : Bool) (s : State) (m : Buffers) → AttentionSheet second s m
-unfolding commandCoded commanded started suspended resumed halted stoppedPsw withPsw withControl parameterBlock writesOf writesMade storedBy pointerAt bitOf pb made
+unfolding commandCoded commanded started suspended resumed halted stoppedPsw withPsw withControl parameterBlock storedMemory storedBy pointerAt bitOf pb made
 attention-sheet b s m = record {
   update = λ x. control-left b s m x Update refl refl refl (made-none (channelOf s b .psw)) refl refl refl;
   updateMemory = λ x. memory-is b s m x Update refl;

@@ -33,12 +33,12 @@ use Rattle.transfer_rules.proofs.MatchLaws.{low-compared}
 use Rattle.transfer_rules.proofs.PartLaws.{fetch-due, store-due, fetches-two, fetches-word, stores-two, stores-singly, word-stored, singly-stored}
 use Rattle.transfer_rules.proofs.StepLaws.{done-mode, two-plain}
 use Rattle.transfer_rules.specs.Ends.{meetsTmc, codeIf, larger, endedTP, endedPSW, endedBy}
-use Rattle.transfer_rules.specs.Halves.{wordWith, pairCount, secondCode, secondStored}
+use Rattle.transfer_rules.specs.Halves.{wordWith}
 use Rattle.transfer_rules.specs.Parts.{Part, Whole, FirstFetch, SecondFetch, FirstStore, SecondStore, fetchesApart, storesApart, fetchPart, storePart, partOf}
 use Rattle.transfer_rules.specs.Reads.{fetched, fetchedSecond, entryOf, delivered, dataOf, also}
 use Rattle.transfer_rules.specs.Sides.{source, destination, wordSide, secondAddress, gained, twoMove, storedSingly}
 use Rattle.transfer_rules.specs.Steps.{touchedBy, channelBy, memoryBy, badMode, touchedByTransfer, transferOf}
-use Rattle.transfer_rules.specs.Stores.{firstMeets, matchMet, cutShort, storesTwo, bytesStored, bytesMoved, bytesCounted, countAfter, endFrom, endCode, movedBy, movedChannel, putOn, movedMemory, placesOn}
+use Rattle.transfer_rules.specs.Stores.{firstMeets, matchMet, cutShort, storesTwo, bytesStored, endCode, movedBy, moveOver, movedChannel, putOn, movedMemory, placesOn}
 use Rattle.ground_rules.proofs.ChoiceLaws.{apart, both-left}
 use Rattle.ground_rules.specs.Bits.{fieldOf, bitOf}
 use Rattle.ground_rules.specs.Choice.{pick}
@@ -88,10 +88,6 @@ module _ (c : Channel) (m : Buffers) (h : fieldsAgree c ≡ true) where
 
 -- ---- a pair that is over
 
--- the channel whose sides went on by some bytes of a pair
-abbrev pairEnded : Channel → ℕ → Bool → Channel
-pairEnded c by met = endedBy (movedBy c by (pairCount c)) (endFrom c met (pairCount c))
-
 code-small : (c : Channel) (m : Buffers) (met : Bool) → pairCode c m met < 4
 code-small c m met =
     larger-small _ (pick ts 1 0)
@@ -106,9 +102,9 @@ code-small c m met =
     ts : Bool
     ts = eqb (bit (c .cc) 7) 1
 
-over-left : (c : Channel) (m : Buffers) (by : ℕ) (met : Bool) → PairLeft (agreeing c) m by met (pairEnded (agreeing c) by met)
-unfolding movedBy endedBy endedTP endedPSW larger codeIf source destination split fieldOf bitOf withTransfer gained onward
-over-left c m by met = record {
+over-left : (c : Channel) (m : Buffers) (by : ℕ) (met : Bool) → twoMove (agreeing c) ≡ true → PairLeft (agreeing c) m by met (moveOver (agreeing c) by met)
+unfolding moveOver movedBy endedBy endedTP endedPSW endCode larger codeIf source destination split fieldOf bitOf withTransfer gained onward
+over-left c m by met two = rw two (record {
   ga = first-side (eqb (bit (c .cc) 10) 1) (c .ga) (c .gb) (eqb (bit (c .cc) 15) 1) (eqb (bit (c .cc) 14) 1) by
       ∙ ap (λ (on : Bool). gained on (c .ga) by) (bit-picked (eqb (bit (c .cc) 10) 1) (c .cc) 15 14);
   gb = second-side (eqb (bit (c .cc) 10) 1) (c .ga) (c .gb) (eqb (bit (c .cc) 15) 1) (eqb (bit (c .cc) 14) 1) by
@@ -125,22 +121,22 @@ over-left c m by met = record {
   mode = refl;
   mark = refl;
   held = refl;
-}
+})
 
-pair-left : (c : Channel) (m : Buffers) (by : ℕ) (met : Bool) → fieldsAgree c ≡ true → PairLeft c m by met (pairEnded c by met)
-pair-left c m by met h = by-bits (λ x. PairLeft x m by met (pairEnded x by met)) c h (over-left c m by met)
+pair-left : (c : Channel) (m : Buffers) (by : ℕ) (met : Bool) → fieldsAgree c ≡ true → twoMove c ≡ true → PairLeft c m by met (moveOver c by met)
+pair-left c m by met h = by-bits (λ x. twoMove x ≡ true → PairLeft x m by met (moveOver x by met)) c h (over-left c m by met)
 
 -- a second fetch ends a pair, and so does a first store that meets TMC
 module _ (c : Channel) (m : Buffers) where
-  second-fetched : (byte : ℕ) → fetchesApart c ≡ true → movedChannel c (wordWith byte c m) ≡ pairEnded c 2 (meetsTmc (c .fields .matchEnd) (c .mc) byte)
-  unfolding movedChannel bytesMoved bytesStored countAfter bytesCounted endCode firstMeets wordWith
+  second-fetched : (byte : ℕ) → fetchesApart c ≡ true → movedChannel c (wordWith byte c m) ≡ moveOver c 2 (meetsTmc (c .fields .matchEnd) (c .mc) byte)
+  unfolding movedChannel bytesStored firstMeets wordWith
   second-fetched byte f =
       let d = wordWith byte c m in
-      rw (word-stored c d f, fetches-two c f, low-compared c d (fetches-word c f))
+      rw (word-stored c d f, low-compared c d (fetches-word c f))
 
-  first-met : storesApart c ≡ true → firstMeets c (dataOf c m) ≡ true → movedChannel c (dataOf c m) ≡ pairEnded c 1 true
-  unfolding movedChannel bytesMoved bytesStored countAfter bytesCounted endCode matchMet
-  first-met f k = let d = dataOf c m in rw (singly-stored c d f, stores-two c f, k)
+  first-met : storesApart c ≡ true → firstMeets c (dataOf c m) ≡ true → movedChannel c (dataOf c m) ≡ moveOver c 1 true
+  unfolding movedChannel bytesStored matchMet
+  first-met f k = let d = dataOf c m in rw (singly-stored c d f, k)
 
   -- the second byte of two that move
   second-read : twoMove c ≡ true → fetchedSecond c m ≡ byteAt m ((source c) .pointer .tag) (secondAddress (source c))
@@ -170,7 +166,7 @@ module _ (c : Channel) (m : Buffers) (h : fieldsAgree c ≡ true) where
       none false e = e
 
   half-left : HalfLeft c m (channelBy (partOf c) c m) (memoryBy (partOf c) c m)
-  unfolding channelBy memoryBy fetchPart storePart fetched putOn movedMemory secondStored secondCode wordWith firstMeets
+  unfolding channelBy memoryBy fetchPart storePart fetched putOn movedMemory wordWith firstMeets
   half-left = record {
     firstFetch = λ f n.
         subst (λ (k : Part). OnlyHeld c (channelBy k c m) × (channelBy k c m .held ≡ Byte (byteAt m (fromPointer c m .tag) (fromPointer c m .address))) × (memoryBy k c m ≡ m)) (sym (fetch-part NoByte f n))
@@ -179,7 +175,7 @@ module _ (c : Channel) (m : Buffers) (h : fieldsAgree c ≡ true) where
         let g = fetch-bits c m h ∙ f in
         let d = wordWith byte c m in
         subst (λ (k : Part). PairLeft c m 2 (meetsIn c m byte) (channelBy k c m) × (memoryBy k c m ≡ storeByte (storeByte m (intoPointer c m .tag) (intoPointer c m .address) byte) (intoPointer c m .tag) (intoSecond c m) (byteAt m (fromPointer c m .tag) (fromSecond c m)))) (sym (fetch-part (Byte byte) f n)) (
-          subst (λ (b : Bool). PairLeft c m 2 b (movedChannel c d)) (meets-bits c m h byte) (subst (PairLeft c m 2 (meetsTmc (c .fields .matchEnd) (c .mc) byte)) (sym (second-fetched c m byte g)) (pair-left c m 2 _ h)),
+          subst (λ (b : Bool). PairLeft c m 2 b (movedChannel c d)) (meets-bits c m h byte) (subst (PairLeft c m 2 (meetsTmc (c .fields .matchEnd) (c .mc) byte)) (sym (second-fetched c m byte g)) (pair-left c m 2 _ h (fetches-two c g))),
           word-put byte g,
         );
     firstStore = λ f n k.
@@ -191,10 +187,11 @@ module _ (c : Channel) (m : Buffers) (h : fieldsAgree c ≡ true) where
         let g = store-bits c m h ∙ f in
         subst (λ (k : Part). PairLeft c m 1 true (channelBy k c m) × (memoryBy k c m ≡ storeByte m (intoPointer c m .tag) (intoPointer c m .address) (firstByte c m))) (sym (store-part NoByte f n))
         (subst (λ (b : Bool). PairLeft c m 1 true (stores b) × (one ≡ storeByte m (intoPointer c m .tag) (intoPointer c m .address) (firstByte c m))) (sym (first-meets ∙ k))
-        (subst (PairLeft c m 1 true) (sym (first-met c m g (first-meets ∙ k))) (pair-left c m 1 true h), one-put));
+        (subst (PairLeft c m 1 true) (sym (first-met c m g (first-meets ∙ k))) (pair-left c m 1 true h (stores-two c g)), one-put));
     secondStore = λ byte f n.
+        let met = meetsTmc (c .fields .matchEnd) (c .mc) byte in
         subst (λ (k : Part). PairLeft c m 2 (meetsIn c m byte) (channelBy k c m) × (memoryBy k c m ≡ storeByte m (intoPointer c m .tag) (intoSecond c m) byte)) (sym (store-part (Byte byte) f n)) (
-          subst (λ (b : Bool). PairLeft c m 2 b (secondStored c byte)) (meets-bits c m h byte) (pair-left c m 2 (meetsTmc (c .fields .matchEnd) (c .mc) byte) h),
+          subst (λ (b : Bool). PairLeft c m 2 b (moveOver c 2 met)) (meets-bits c m h byte) (pair-left c m 2 met h (stores-two c (store-bits c m h ∙ f))),
           ap₂ (λ (p : Pointer) (a : ℕ). storeByte m (p .tag) a byte) (into-bits c m h) (into-second-bits c m h),
         );
   }
@@ -253,7 +250,7 @@ module _ (c : Channel) (m : Buffers) (byte : ℕ) where
   taken = holding c (Byte byte)
 
   held-moved : (x y : ℕ) → movedChannel taken (record { first = x; second = y }) ≡ movedChannel c (record { first = x; second = y })
-  unfolding movedChannel movedBy endedBy endedTP endedPSW withTransfer endCode bytesMoved bytesStored bytesCounted countAfter storesTwo cutShort matchMet firstMeets storedSingly twoMove wordSide source destination
+  unfolding movedChannel moveOver movedBy endedBy endedTP endedPSW withTransfer endCode bytesStored storesTwo cutShort matchMet firstMeets storedSingly twoMove wordSide source destination
   held-moved x y = refl
 
   held-memory : (x y : ℕ) (n : Buffers) → movedMemory taken (record { first = x; second = y }) n ≡ movedMemory c (record { first = x; second = y }) n
@@ -272,8 +269,8 @@ module _ (c : Channel) (m : Buffers) (byte : ℕ) where
   unfolding storesApart storedSingly twoMove wordSide source destination
   held-stores = refl
 
-  held-stored : secondStored taken byte ≡ pairEnded c 2 (meetsTmc (c .fields .matchEnd) (c .mc) byte)
-  unfolding secondStored secondCode movedBy endedBy endedTP endedPSW withTransfer source destination
+  held-stored : moveOver taken 2 (meetsTmc (c .fields .matchEnd) (c .mc) byte) ≡ moveOver c 2 (meetsTmc (c .fields .matchEnd) (c .mc) byte)
+  unfolding moveOver movedBy endedBy endedTP endedPSW withTransfer endCode twoMove wordSide source destination
   held-stored = refl
 
 -- the bytes that the two halves of a pair of fetches bring are those of the whole move
@@ -318,9 +315,9 @@ module _ (c : Channel) (m : Buffers) (f : storesApart c ≡ true) (free : fetche
   unfolding storePart
   stores-due = store-due stored-first (Byte (fetchedSecond c m)) (held-fetches c m (fetchedSecond c m) ∙ free) (held-stores c m (fetchedSecond c m) ∙ f) refl
 
-  stores-moved : movedChannel c (dataOf c m) ≡ pairEnded c 2 (meetsTmc (c .fields .matchEnd) (c .mc) (fetchedSecond c m))
-  unfolding movedChannel bytesMoved bytesStored countAfter bytesCounted endCode matchMet dataOf
-  stores-moved = rw (singly-stored c (dataOf c m) f, stores-two c f, stores-singly c f, unmet)
+  stores-moved : movedChannel c (dataOf c m) ≡ moveOver c 2 (meetsTmc (c .fields .matchEnd) (c .mc) (fetchedSecond c m))
+  unfolding movedChannel bytesStored matchMet dataOf
+  stores-moved = rw (singly-stored c (dataOf c m) f, stores-singly c f, unmet)
 
   stores-channel : channelBy (SecondStore (fetchedSecond c m)) stored-first stored-one ≡ movedChannel c (dataOf c m)
   unfolding channelBy
@@ -332,7 +329,7 @@ module _ (c : Channel) (m : Buffers) (f : storesApart c ≡ true) (free : fetche
 
 -- a channel whose sides went on holds nothing
 moved-drops : (c : Channel) (m : Buffers) → movedChannel c (dataOf c m) .held ≡ NoByte
-unfolding movedChannel endedBy movedBy withTransfer
+unfolding movedChannel moveOver endedBy movedBy withTransfer
 moved-drops c m = refl
 
 -- a held byte is not none

@@ -26,7 +26,7 @@ use Rattle.transfer_rules.proofs.PartLaws.{not-half}
 use Rattle.transfer_rules.proofs.StepLaws.{done}
 use Rattle.transfer_rules.specs.Parts.{Part, Whole, fetchesApart, storesApart, isHalf, partOf}
 use Rattle.transfer_rules.specs.Steps.{Transfer as Taken, touchedBy, touchedByTransfer, channelBy, memoryBy, transferOf}
-use Rattle.transfer_rules.specs.Stores.{firstMeets, matchMet, cutShort, storesTwo, bytesStored, bytesMoved, bytesCounted, countAfter, endCode, movedBy, movedChannel, putOn, movedMemory, placesOn, storedPlaces}
+use Rattle.transfer_rules.specs.Stores.{firstMeets, matchMet, cutShort, storesTwo, bytesStored, endCode, movedBy, moveOver, movedChannel, putOn, movedMemory, placesOn, storedPlaces}
 use Rattle.ground_rules.specs.Bits.{fieldOf, bitOf}
 use Rattle.ground_rules.specs.Choice.{pick}
 use Rattle.ground_rules.specs.Compare.{matchOf}
@@ -101,7 +101,7 @@ unfolding gained onward
 gains-is c m on p = refl
 
 moved-left : (c : Channel) (m : Buffers) → TransferLeft (agreeing c) m (movedChannel (agreeing c) (dataOf (agreeing c) m)) (movedMemory (agreeing c) (dataOf (agreeing c) m) m)
-unfolding movedChannel movedBy endedBy endedTP endedPSW endCode larger codeIf matchMet firstMeets cutShort storesTwo storedSingly bytesMoved bytesCounted bytesStored countAfter twoMove wordSide secondAddress source destination dataOf delivered fetched fetchedSecond entryOf meetsTmc matchOf movedMemory putOn split fieldOf bitOf withTransfer
+unfolding movedChannel moveOver movedBy endedBy endedTP endedPSW endCode larger codeIf matchMet firstMeets cutShort storesTwo storedSingly bytesStored twoMove wordSide secondAddress source destination dataOf delivered fetched fetchedSecond entryOf meetsTmc matchOf movedMemory putOn split fieldOf bitOf withTransfer
 moved-left c m = record {
   ga = first-side (eqb (bit (c .cc) 10) 1) (c .ga) (c .gb) (eqb (bit (c .cc) 15) 1) (eqb (bit (c .cc) 14) 1) (storedCount c m)
       ∙ ap (λ (on : Bool). gained on (c .ga) (storedCount c m)) (bit-picked (eqb (bit (c .cc) 10) 1) (c .cc) 15 14) ∙ gains-is c m _ (c .ga);

@@ -10,8 +10,8 @@ use Rattle.ground_rules.specs.States.{boardWith, channelOf, withChannel, withLa
 use Rattle.ground_rules.specs.{Cc.split, Cc.sameFlag, Cc.sameFields, Outcomes.unless, Outcomes.first, Outcomes.givenNumber, Psw.withPsw, Stages.stagesNumber}
 use Rattle.ground_rules.specs.{Updates.withTransfer, Bits.fieldOf, Bits.bitOf, Bits.withBit, Compare.matchOf, Places.allPass, Values.pointer, Values.onward}
 use Rattle.attention_rules.proofs.Numbers.{number-exactly}
-use Rattle.transfer_rules.specs.{Ends.meetsTmc, Ends.codeIf, Ends.larger, Ends.offsetOf, Ends.endedTP, Ends.endedPSW, Ends.endedBy, Halves.wordWith, Halves.secondStored, Parts.fetchesApart, Parts.storesApart, Parts.fetchPart, Parts.storePart, Parts.partOf}
-use Rattle.transfer_rules.specs.Stores.{movedChannel, movedMemory, firstMeets, matchMet, cutShort, storesTwo, bytesStored, bytesMoved, bytesCounted, countAfter, endCode, movedBy, putOn, placesOn, storedPlaces}
+use Rattle.transfer_rules.specs.{Ends.meetsTmc, Ends.codeIf, Ends.larger, Ends.offsetOf, Ends.endedTP, Ends.endedPSW, Ends.endedBy, Halves.wordWith, Parts.fetchesApart, Parts.storesApart, Parts.fetchPart, Parts.storePart, Parts.partOf}
+use Rattle.transfer_rules.specs.Stores.{moveOver, movedChannel, movedMemory, firstMeets, matchMet, cutShort, storesTwo, bytesStored, endCode, movedBy, putOn, placesOn, storedPlaces}
 use Rattle.transfer_rules.specs.Reads.{fetched, fetchedSecond, entryOf, delivered, dataOf, also, readPlaces}
 use Rattle.transfer_rules.specs.Sides.{source, destination, wordSide, secondAddress, gained, twoMove, storedSingly}
 use Rattle.transfer_rules.specs.Steps.{badMode, transferOf, stepBy, numberBy, stagesBy, channelBy, memoryBy, touchedBy}
@@ -55,7 +55,7 @@ never = pairWith 0x9810
 
 -- a report with all that it is made of laid open, so that it computes
 unfoldable reportOpen : Bench → List ScheduleRow → List ℕ
-unfolding countsOpen storesBy waitsForDrq rowLeft stepOf chosenStep channelStep transferStep settledStep choiceOf endsNow external requested rankOf transferRank secondWins ranked isRunning entryNumber givenNumber withinLimits sound soundChannel agree fieldsAgree sameFields sameFlag split channelOf withChannel withLast transferOf stepBy numberBy stagesBy partOf fetchesApart storesApart fetchPart storePart channelBy memoryBy touchedBy stagesNumber first unless badMode source destination readPlaces also entryOf storedPlaces placesOn allPass touchableAt lentAt spaceOf indexOf limitOf dataOf delivered fetched fetchedSecond twoMove wordSide secondAddress bitOf fieldOf storesTwo cutShort storedSingly firstMeets meetsTmc matchMet movedMemory putOn storeByte byteAt beyondIn movedChannel endedBy endedTP endedPSW movedBy withTransfer gained onward bytesMoved bytesStored bytesCounted countAfter endCode codeIf larger offsetOf withPsw withBit matchOf wordWith secondStored
+unfolding countsOpen storesBy waitsForDrq rowLeft stepOf chosenStep channelStep transferStep settledStep choiceOf endsNow external requested rankOf transferRank secondWins ranked isRunning entryNumber givenNumber withinLimits sound soundChannel agree fieldsAgree sameFields sameFlag split channelOf withChannel withLast transferOf stepBy numberBy stagesBy partOf fetchesApart storesApart fetchPart storePart channelBy memoryBy touchedBy stagesNumber first unless badMode source destination readPlaces also entryOf storedPlaces placesOn allPass touchableAt lentAt spaceOf indexOf limitOf dataOf delivered fetched fetchedSecond twoMove wordSide secondAddress bitOf fieldOf storesTwo cutShort storedSingly firstMeets meetsTmc matchMet movedMemory putOn storeByte byteAt beyondIn movedChannel moveOver endedBy endedTP endedPSW movedBy withTransfer gained onward bytesStored endCode codeIf larger offsetOf withPsw withBit matchOf wordWith
 reportOpen p rows = reportOf p rows
 
 -- with no DRQ up nobody steps, and both channels wait

@@ -30,12 +30,11 @@ use Rattle.attention_rules.specs.declared.Command.the-variants.{Update, StartLo
 use Rattle.attention_rules.specs.Power.{foundState}
 use Rattle.transfer_rules.proofs.StepLaws.{by-number}
 use Rattle.transfer_rules.specs.Ends.{endedBy, externallyEnded}
-use Rattle.transfer_rules.specs.Halves.{secondStored}
 use Rattle.transfer_rules.specs.Parts.{Part, Whole, FirstFetch, SecondFetch, FirstStore, SecondStore, partOf}
 use Rattle.transfer_rules.specs.Reads.{fetched, fetchedSecond, dataOf}
 use Rattle.transfer_rules.specs.Sides.{source, secondAddress, twoMove}
 use Rattle.transfer_rules.specs.Steps.{channelBy, transferOf}
-use Rattle.transfer_rules.specs.Stores.{firstMeets, movedBy, movedChannel}
+use Rattle.transfer_rules.specs.Stores.{firstMeets, movedBy, moveOver, movedChannel}
 use Rattle.instruction_rules.proofs.ChannelLaws.{execute-drops}
 use Rattle.instruction_rules.proofs.OutcomeLaws.{refused}
 use Rattle.instruction_rules.specs.Execute.{Executed, executeOf}
@@ -120,7 +119,7 @@ second-small c m all = go (twoMove c)
 
 -- a first half holds such a byte, and no other part holds any
 part-held : (k : Part) (c : Channel) (m : Buffers) → AllBytes m → HeldFits (channelBy k c m .held)
-unfolding channelBy movedChannel secondStored endedBy movedBy withTransfer fetched
+unfolding channelBy movedChannel moveOver endedBy movedBy withTransfer fetched
 part-held Whole c m all = tt
 part-held FirstFetch c m all = all ((source c) .pointer .tag) ((source c) .pointer .address)
 part-held (SecondFetch byte) c m all = tt

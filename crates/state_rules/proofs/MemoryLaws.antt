@@ -16,11 +16,10 @@ use Rattle.ground_rules.specs.declared.Held.the-variants.{NoByte, Byte}
 use Rattle.ground_rules.specs.declared.Pointer.{Pointer}
 use Rattle.ground_rules.specs.declared.State.{State}
 use Rattle.attention_rules.specs.Attention.{orderTo, orderedMemory, attentionNumber, attentionOf}
-use Rattle.attention_rules.specs.Effects.{writesOf, saved, marked, writesMade}
+use Rattle.attention_rules.specs.Effects.{saved, marked, storedMemory}
 use Rattle.attention_rules.specs.Power.{controlOf, powerNumber, foundMemory, powerUpOf}
 use Rattle.attention_rules.specs.declared.Command.{Command}
 use Rattle.attention_rules.specs.declared.Command.the-variants.{Update, StartLocal, StartSystem, Suspend, Resume, Halt, Unknown}
-use Rattle.attention_rules.specs.declared.Writes.{Writes}
 use Rattle.transfer_rules.proofs.StepLaws.{by-number}
 use Rattle.transfer_rules.specs.Halves.{wordWith}
 use Rattle.transfer_rules.specs.Parts.{Part, Whole, FirstFetch, SecondFetch, FirstStore, SecondStore, fetchesApart, storesApart, fetchPart, storePart, partOf}
@@ -55,44 +54,24 @@ settled-bytes number s m s′ m′ all all′ = go (eqb number 0)
 
 -- ---- attention and power-up
 
--- what an order stores are bytes: the pointer's three, PSW and BUSY
-writes-bytes : (m : Buffers) (w : Writes) → AllBytes m → w .psw < 256 → w .busy < 256 → AllBytes (writesMade m w)
-unfolding writesMade saved marked
-writes-bytes m w all psw busy =
-    let n = pick (w .saves) (saved m (w .pb) (w .tp) (w .psw)) m in
-    let saves : AllBytes n = either (w .saves) _ m (store-bytes _ false (w .pb + 3) (w .psw) (stored-bytes m false (w .pb) (w .tp) all) psw) all in
-    either (w .marks) _ n (store-bytes n false (busyIn (w .block)) (w .busy) saves busy) saves
-
--- BUSY is stored as FFh or 0
-busy-small : (k : Command) (block pb : ℕ) (c : Channel) → writesOf k block pb c .busy < 256
-unfolding writesOf
-busy-small Update block pb c = lit< tt
-busy-small StartLocal block pb c = lit< tt
-busy-small StartSystem block pb c = lit< tt
-busy-small Suspend block pb c = lit< tt
-busy-small Resume block pb c = lit< tt
-busy-small Halt block pb c = lit< tt
-busy-small Unknown block pb c = lit< tt
-
--- and PSW as the channel has it
-psw-small : (k : Command) (block pb : ℕ) (c : Channel) → c .psw < 256 → writesOf k block pb c .psw < 256
-unfolding writesOf
-psw-small Update block pb c h = h
-psw-small StartLocal block pb c h = h
-psw-small StartSystem block pb c h = h
-psw-small Suspend block pb c h = h
-psw-small Resume block pb c h = h
-psw-small Halt block pb c h = h
-psw-small Unknown block pb c h = h
+-- what an order stores are bytes: the pointer's three, PSW as the channel has it, and BUSY as FFh or 0
+order-bytes : (k : Command) (m : Buffers) (block pb : ℕ) (c : Channel) → AllBytes m → c .psw < 256 → AllBytes (storedMemory k m block pb c)
+unfolding storedMemory saved marked
+order-bytes Update m block pb c all psw = all
+order-bytes StartLocal m block pb c all psw = store-bytes m false (busyIn block) 255 all (lit< tt)
+order-bytes StartSystem m block pb c all psw = store-bytes m false (busyIn block) 255 all (lit< tt)
+order-bytes Suspend m block pb c all psw =
+    store-bytes _ false (busyIn block) 0 (store-bytes _ false (pb + 3) (c .psw) (stored-bytes m false pb (c .tp) all) psw) (lit< tt)
+order-bytes Resume m block pb c all psw = store-bytes m false (busyIn block) 255 all (lit< tt)
+order-bytes Halt m block pb c all psw = store-bytes m false (busyIn block) 0 all (lit< tt)
+order-bytes Unknown m block pb c all psw = all
 
 pub attention-of-bytes : (s : State) (m : Buffers) (channel : ℕ) → AllBytes m → channelOf s (isSecond channel) .psw < 256 → AllBytes (attentionOf s m channel .memory)
 unfolding attentionOf orderedMemory
 attention-of-bytes s m channel all psw =
     let b = isSecond channel in
     let o = orderTo s m b in
-    let c = channelOf s b in
-    settled-bytes (attentionNumber s m channel) s m _ (orderedMemory s m b) all
-    (writes-bytes m (writesOf (o .command) (o .block) (o .pb) c) all (psw-small (o .command) (o .block) (o .pb) c psw) (busy-small (o .command) (o .block) (o .pb) c))
+    settled-bytes (attentionNumber s m channel) s m _ (orderedMemory s m b) all (order-bytes (o .command) m (o .block) (o .pb) (channelOf s b) all psw)
 
 pub power-of-bytes : (s : State) (m : Buffers) → AllBytes m → AllBytes (powerUpOf s m .memory)
 unfolding powerUpOf foundMemory

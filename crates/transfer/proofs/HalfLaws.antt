@@ -16,13 +16,14 @@ use Rattle.ground_rules.specs.Buffers.{Buffers, touchableAt, byteAt, storeByte}
 use Rattle.ground_rules.specs.Places.{allPass, allTouchable}
 use Rattle.ground_rules.proofs.ChoiceLaws.{apart, and-true}
 use Rattle.ground_rules.specs.Choice.{pick}
-use Rattle.transfer_rules.specs.Halves.{wordWith, secondCode, secondStored}
+use Rattle.transfer_rules.specs.Ends.{meetsTmc}
+use Rattle.transfer_rules.specs.Halves.{wordWith}
 use Rattle.transfer.specs.Moves.{movedRefused, movedHolding, movedOn, landed, leftByMove, landedBy}
 use Rattle.transfer_rules.specs.Parts.{Part, Whole, FirstFetch, SecondFetch, FirstStore, SecondStore, fetchesApart, storesApart, partOf}
 use Rattle.transfer_rules.specs.Reads.{fetched, fetchedSecond, dataOf, readPlaces}
 use Rattle.transfer_rules.specs.Sides.{source, destination, secondAddress, twoMove}
 use Rattle.transfer_rules.specs.Steps.{Transfer, transferred, touchedBy, touchedByTransfer, channelBy, memoryBy, badMode, stepBy, countBy, transferOf, transferCount}
-use Rattle.transfer_rules.specs.Stores.{firstMeets, storesTwo, bytesStored, bytesMoved, bytesCounted, countAfter, endCode, movedChannel, putOn, movedMemory, placesOn}
+use Rattle.transfer_rules.specs.Stores.{firstMeets, matchMet, storesTwo, bytesStored, endCode, moveOver, movedChannel, putOn, movedMemory, placesOn}
 use Rattle.transfer_rules.specs.declared.Data.{Data}
 use Rattle.transfer_rules.proofs.PartLaws.{fetches-two, word-stored, stores-two, singly-stored}
 use Rattle.transfer_rules.proofs.StepLaws.{outcome-5, outcome-2, outcome-0, counts-5, counts-2, counts-0, two-plain}
@@ -54,8 +55,8 @@ module _ (k : Part) (c : Channel) (m : Buffers) (good : badMode c ≡ false) whe
 
 -- ---- a move of all bytes by what is stored of them
 
-pub landed-moved : (c : Channel) (d : Data) (two : Bool) → storesTwo c d ≡ two → movedChannel c d ≡ landedBy c (pick two 2 1) (endCode c d)
-unfolding movedChannel landedBy bytesMoved bytesStored countAfter bytesCounted
+pub landed-moved : (c : Channel) (d : Data) (two : Bool) → storesTwo c d ≡ two → movedChannel c d ≡ landedBy c (pick two 2 1) (endCode c (matchMet c d))
+unfolding movedChannel moveOver landedBy bytesStored
 landed-moved c d two e = rw e
 
 -- ---- the first of two fetches
@@ -82,7 +83,7 @@ module _ (c : Channel) (m : Buffers) (byte : ℕ) where
     unfolding wordWith fetchedSecond
     second-fetch-reads = rw (fetches-two c h)
 
-    pub second-fetch-goes : channelBy (SecondFetch byte) c m ≡ landedBy c 2 (endCode c (wordWith byte c m))
+    pub second-fetch-goes : channelBy (SecondFetch byte) c m ≡ landedBy c 2 (endCode c (matchMet c (wordWith byte c m)))
     unfolding channelBy
     second-fetch-goes = landed-moved c (wordWith byte c m) true (word-stored c (wordWith byte c m) h)
 
@@ -118,7 +119,7 @@ module _ (c : Channel) (m : Buffers) (good : badMode c ≡ false) (h : storesApa
       go false k = refl
 
   -- it meets TMC: the transfer ends here
-  pub first-store-goes : storesTwo c (dataOf c m) ≡ false → channelBy FirstStore c m ≡ landedBy c 1 (endCode c (dataOf c m))
+  pub first-store-goes : storesTwo c (dataOf c m) ≡ false → channelBy FirstStore c m ≡ landedBy c 1 (endCode c (matchMet c (dataOf c m)))
   unfolding channelBy
   first-store-goes e = go (firstMeets c (dataOf c m)) (sym (singly-stored c (dataOf c m) h) ∙ e) ∙ landed-moved c (dataOf c m) false e
     where
@@ -137,9 +138,9 @@ module _ (c : Channel) (m : Buffers) (byte : ℕ) where
   unfolding memoryBy
   second-store-stores = refl
 
-  pub second-store-goes : storesApart c ≡ true → channelBy (SecondStore byte) c m ≡ landedBy c 2 (secondCode c byte)
-  unfolding channelBy secondStored landedBy
-  second-store-goes h = rw (stores-two c h)
+  pub second-store-goes : channelBy (SecondStore byte) c m ≡ landedBy c 2 (endCode c (meetsTmc (c .fields .matchEnd) (c .mc) byte))
+  unfolding channelBy moveOver landedBy
+  second-store-goes = refl
 
 -- ---- the part that is due
 

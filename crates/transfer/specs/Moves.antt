@@ -2,16 +2,14 @@
 use Prim.Native.Nat.{ℕ}
 use lib.Dec.{eqb}
 use Rattle.ground_rules.specs.Choice.{pick}
-use Rattle.ground_rules.specs.Sums.{countDown}
 use Rattle.ground_rules.specs.Buffers.{Buffers}
 use Rattle.ground_rules.specs.declared.Channel.{Channel}
 use Rattle.ground_rules.specs.declared.Held.the-variants.{Byte}
 use Rattle.ground_rules.specs.Updates.{holding}
 use Rattle.transfer.specs.declared.Moved.{Moved}
-use Rattle.transfer_rules.specs.Stores.{movedBy}
+use Rattle.transfer_rules.specs.Stores.{countAfter, movedBy}
 use Rattle.transfer_rules.specs.Steps.{Transfer, transferred}
 use Rattle.transfer_rules.specs.Ends.{endedBy}
-use Rattle.transfer_rules.specs.Reads.{bytesFetched}
 
 -- refused by a number
 abbrev pub movedRefused : ℕ → Moved
@@ -27,7 +25,7 @@ movedOn count by code = record { number = 0; count = count; by = by; code = code
 
 -- the channel with its sides on by some bytes, BC fallen by the bytes fetched, ended by a code
 unfoldable pub landedBy : Channel → ℕ → ℕ → Channel
-landedBy c by code = endedBy (movedBy c by (countDown (c .bc) (bytesFetched c))) code
+landedBy c by code = endedBy (movedBy c by (countAfter c)) code
 
 -- the channel that is written: it holds the byte, or its sides go on with BC and the end
 unfoldable pub landed : Channel → Moved → Channel

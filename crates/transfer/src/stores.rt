@@ -3,16 +3,17 @@ use crate::Setup;
 use ground_rules::Channel;
 use ground_rules::Held;
 use transfer_rules::Data;
+ghost use mathlib.Core.Bool.{true};
 ghost use mathlib.Core.Path.{_≡_};
 ghost use Rattle.ground_rules.specs.declared.Channel.{Channel};
 ghost use Rattle.ground_rules.specs.Choice.{pick};
 ghost use Rattle.ground_rules.specs.Buffers.{lent, touchableAt, storeByte};
 ghost use Rattle.ground_rules.specs.Places.{allTouchable};
 ghost use Rattle.transfer.specs.Setups.{setupOf};
-ghost use Rattle.transfer_rules.specs.Ends.{codeIf, larger};
+ghost use Rattle.transfer_rules.specs.Ends.{meetsTmc, codeIf, larger};
 ghost use Rattle.transfer_rules.specs.Stores.{matchMet, storesTwo, endCode, movedBy, putOn, placesOn};
 ghost use Rattle.transfer.specs.Moves.{landedBy};
-ghost use Rattle.transfer_rules.specs.Halves.{secondCode};
+ghost use Rattle.transfer_rules.specs.Sides.{twoMove};
 ghost use lib.Dec.{eqb};
 ghost use Prim.Native.Nat.{_%_};
 
@@ -100,7 +101,7 @@ fn end_from(c: Channel, matched: u32, bc: u16) -> u32
 // What a step does with the bytes that it read.
 pub(crate) fn finish(c: Channel, p: Setup, d: Data) -> StoreEnd
     requires { ⌜ p ≡ setupOf c ⌝ }
-    ensures { λ r. ⌜ r ≡ record { two = storesTwo c d; code = endCode c d } ⌝ }
+    ensures { λ r. ⌜ r ≡ record { two = storesTwo c d; code = endCode c (matchMet c d) } ⌝ }
 {
     let bc = words::count_down(c.bc, one_or_two(p.two));
     let k = compare(c, p, d);
@@ -110,9 +111,9 @@ pub(crate) fn finish(c: Channel, p: Setup, d: Data) -> StoreEnd
     }
 }
 
-// The code of the end of a second store, whose byte is compared by itself.
+// The code of the end of a second store, whose byte is compared by itself, where two bytes move.
 pub(crate) fn second_code(c: Channel, byte: u8) -> u32
-    ensures { λ r. ⌜ r ≡ secondCode c byte ⌝ }
+    ensures { λ r. ⌜ (twoMove c ≡ true → r ≡ endCode c (meetsTmc (c .fields .matchEnd) (c .mc) byte)) ⌝ }
 {
     let f = c.fields;
     let tmc = f.matchEnd as u32;

@@ -15,15 +15,14 @@ use Rattle.ground_rules.specs.Places.{allTouchable}
 use Rattle.ground_rules.specs.declared.Pointer.{Pointer}
 use Rattle.ground_rules.proofs.ChoiceLaws.{apart, pick-same, and-true, and-false, or-true, pick-under}
 use Rattle.ground_rules.specs.Bits.{bitOf}
-use Rattle.ground_rules.specs.Choice.{pick}
-use Rattle.ground_rules.specs.Sums.{sum20, countDown}
+use Rattle.ground_rules.specs.Sums.{sum20}
 use Rattle.transfer_rules.specs.Ends.{codeIf, larger, endedBy}
 use Rattle.ground_rules.specs.Updates.{withTransfer, dropped}
 use Rattle.transfer_rules.specs.Parts.{Whole}
-use Rattle.transfer_rules.specs.Reads.{fetched, fetchedSecond, delivered, dataOf}
+use Rattle.transfer_rules.specs.Reads.{fetched, fetchedSecond, delivered, bytesFetched, dataOf}
 use Rattle.transfer_rules.specs.Sides.{side, source, destination, wordSide, secondAddress, gained, twoMove}
 use Rattle.transfer_rules.specs.Steps.{transferred, touchedBy, channelBy, memoryBy, badMode, transferOf}
-use Rattle.transfer_rules.specs.Stores.{storesTwo, bytesStored, bytesMoved, bytesCounted, countAfter, endCode, movedBy, movedChannel, putOn, movedMemory, storedPlaces}
+use Rattle.transfer_rules.specs.Stores.{matchMet, storesTwo, bytesStored, countAfter, endCode, movedBy, moveOver, movedChannel, putOn, movedMemory, storedPlaces}
 use Rattle.transfer_rules.specs.declared.Data.{Data}
 use Rattle.transfer_rules.specs.declared.Side.{Side}
 use Rattle.transfer_rules.proofs.KeptLaws.{ga-after, gb-after, ended-none}
@@ -42,17 +41,9 @@ pub record Block (f : Fields) : Type 0 where
   pub ongoing : f .singleTransfer ≡ false
   pub counts : f .countEnd ≡ 0 → ⊥
 
--- the bytes that such a step moves
-abbrev pub stride : Channel → ℕ
-stride c = pick (twoMove c) 2 1
-
--- BC after it
-abbrev pub remaining : Channel → ℕ
-remaining c = countDown (c .bc) (stride c)
-
 -- the channel with both pointers on by the bytes moved, and BC lowered by them; a held byte is dropped
 unfoldable pub carried : Channel → Channel
-carried c = dropped (withTransfer c (gained true (c .ga) (stride c)) (gained true (c .gb) (stride c)) (c .tp) (remaining c) (c .psw))
+carried c = dropped (withTransfer c (gained true (c .ga) (bytesFetched c)) (gained true (c .gb) (bytesFetched c)) (c .tp) (countAfter c) (c .psw))
 
 -- the memory with one byte copied from source to destination, and with the next one too
 abbrev pub copied : Channel → Buffers → Buffers
@@ -103,10 +94,9 @@ two-moves c h ne = rw (h, ne-eqb (c .bc) 1 ne, and-false)
 pub block-stores : (c : Channel) (d : Data) → Block (c .fields) → storesTwo c d ≡ twoMove c
 block-stores c d k = off-stores c d (k .unmatched)
 
--- and all of them count
-block-counts : (c : Channel) (d : Data) → Block (c .fields) → bytesCounted c d ≡ stride c
-unfolding bytesStored
-block-counts c d k = whole-counts c d (off-whole c d (k .unmatched)) ∙ rw (block-stores c d k)
+-- so the bytes fetched are the bytes stored
+block-counts : (c : Channel) (d : Data) → Block (c .fields) → bytesFetched c ≡ bytesStored c d
+block-counts c d k = whole-counts c d (off-whole c d (k .unmatched))
 
 larger-left : (n : ℕ) → larger 0 n ≡ n
 unfolding larger
@@ -118,9 +108,9 @@ unfolding larger
 larger-right n = rw (le-ltb n 0 (omega arith))
 
 -- the step ends exactly where BC becomes 0
-pub block-end : (c : Channel) (d : Data) → Block (c .fields) → endCode c d ≡ codeIf (eqb (remaining c) 0) (c .fields .countEnd)
-unfolding endCode countAfter codeIf
-block-end c d k = rw (off-unmet c d (k .unmatched), block-counts c d k) (ends (c .fields .singleTransfer) (k .ongoing) (codeIf (eqb (remaining c) 0) (c .fields .countEnd)))
+pub block-end : (c : Channel) (d : Data) → Block (c .fields) → endCode c (matchMet c d) ≡ codeIf (eqb (countAfter c) 0) (c .fields .countEnd)
+unfolding endCode codeIf
+block-end c d k = rw (off-unmet c d (k .unmatched)) (ends (c .fields .singleTransfer) (k .ongoing) (codeIf (eqb (countAfter c) 0) (c .fields .countEnd)))
   where
     ends : (single : Bool) → single ≡ false → (n : ℕ) → larger (larger (codeIf false (c .fields .matchEnd % 4)) n) (codeIf single 1) ≡ n
     ends true e n = apart e
@@ -128,45 +118,41 @@ block-end c d k = rw (off-unmet c d (k .unmatched), block-counts c d k) (ends (c
 
 -- ---- the channel
 
-block-stride : (c : Channel) (d : Data) → Block (c .fields) → bytesStored c d ≡ stride c
-unfolding bytesStored
-block-stride c d k = rw (block-stores c d k)
-
-block-moved : (c : Channel) → Block (c .fields) → movedBy c (stride c) (remaining c) ≡ carried c
+block-moved : (c : Channel) → Block (c .fields) → movedBy c (bytesFetched c) (countAfter c) ≡ carried c
 unfolding carried movedBy withTransfer
 block-moved c k =
-    ap₂ (λ (p q : Pointer). dropped (withTransfer c p q (c .tp) (remaining c) (c .psw)))
-    (ga-after c (stride c) (remaining c) ∙ rw (k .from, k .into, pick-same))
-    (gb-after c (stride c) (remaining c) ∙ rw (k .from, k .into, pick-same))
+    ap₂ (λ (p q : Pointer). dropped (withTransfer c p q (c .tp) (countAfter c) (c .psw)))
+    (ga-after c (bytesFetched c) (countAfter c) ∙ rw (k .from, k .into, pick-same))
+    (gb-after c (bytesFetched c) (countAfter c) ∙ rw (k .from, k .into, pick-same))
 
 -- the channel after the step, in one: on by the bytes moved, ended where BC becomes 0
-pub block-channel : (c : Channel) (d : Data) → Block (c .fields) → movedChannel c d ≡ endedBy (carried c) (codeIf (eqb (remaining c) 0) (c .fields .countEnd))
-unfolding movedChannel countAfter bytesMoved bytesCounted
-block-channel c d k = rw (block-end c d k, block-stride c d k, block-moved c k)
+pub block-channel : (c : Channel) (d : Data) → Block (c .fields) → movedChannel c d ≡ endedBy (carried c) (codeIf (eqb (countAfter c) 0) (c .fields .countEnd))
+unfolding movedChannel moveOver
+block-channel c d k = rw (block-end c d k, ← (block-counts c d k), block-moved c k)
 
 -- its source is on by the bytes moved
-pub carried-source : (c : Channel) → source (carried c) ≡ side (gained true ((source c) .pointer) (stride c)) ((source c) .moves) ((source c) .wide)
+pub carried-source : (c : Channel) → source (carried c) ≡ side (gained true ((source c) .pointer) (bytesFetched c)) ((source c) .moves) ((source c) .wide)
 unfolding source carried withTransfer
 carried-source c =
     ap (λ (p : Pointer). side p (c .fields .sourceMoves) (sourceWide (c .psw)))
-    (pick-under (λ (p : Pointer). gained true p (stride c)) (c .fields .sourceIsGB) (c .gb) (c .ga))
+    (pick-under (λ (p : Pointer). gained true p (bytesFetched c)) (c .fields .sourceIsGB) (c .gb) (c .ga))
 
 -- and so is its destination
-pub carried-destination : (c : Channel) → destination (carried c) ≡ side (gained true ((destination c) .pointer) (stride c)) ((destination c) .moves) ((destination c) .wide)
+pub carried-destination : (c : Channel) → destination (carried c) ≡ side (gained true ((destination c) .pointer) (bytesFetched c)) ((destination c) .moves) ((destination c) .wide)
 unfolding destination carried withTransfer
 carried-destination c =
     ap (λ (p : Pointer). side p (c .fields .destinationMoves) (destinationWide (c .psw)))
-    (pick-under (λ (p : Pointer). gained true p (stride c)) (c .fields .sourceIsGB) (c .ga) (c .gb))
+    (pick-under (λ (p : Pointer). gained true p (bytesFetched c)) (c .fields .sourceIsGB) (c .ga) (c .gb))
 
 -- while bytes remain, TP and PSW stay
-pub block-going : (c : Channel) (d : Data) → Block (c .fields) → (remaining c ≡ 0 → ⊥) → movedChannel c d ≡ carried c
+pub block-going : (c : Channel) (d : Data) → Block (c .fields) → (countAfter c ≡ 0 → ⊥) → movedChannel c d ≡ carried c
 unfolding codeIf
-block-going c d k ne = block-channel c d k ∙ rw (ne-eqb (remaining c) 0 ne) (ended-none (carried c))
+block-going c d k ne = block-channel c d k ∙ rw (ne-eqb (countAfter c) 0 ne) (ended-none (carried c))
 
 -- with the last byte TBC ends the transfer
-pub block-last : (c : Channel) (d : Data) → Block (c .fields) → remaining c ≡ 0 → movedChannel c d ≡ endedBy (carried c) (c .fields .countEnd)
+pub block-last : (c : Channel) (d : Data) → Block (c .fields) → countAfter c ≡ 0 → movedChannel c d ≡ endedBy (carried c) (c .fields .countEnd)
 unfolding codeIf
-block-last c d k e = block-channel c d k ∙ rw (eq-eqb (remaining c) 0 e)
+block-last c d k e = block-channel c d k ∙ rw (eq-eqb (countAfter c) 0 e)
 
 -- ---- the memory
 

@@ -22,16 +22,16 @@ use Rattle.ground_rules.proofs.ChoiceLaws.{apart, both-left, both-right, pick-b
 use Rattle.ground_rules.specs.Bits.{bitOf, withBit}
 use Rattle.ground_rules.specs.Choice.{pick}
 use Rattle.ground_rules.specs.Sums.{sum20}
-use Rattle.transfer_rules.specs.Ends.{offsetOf, endedTP, endedPSW, endedBy, externallyEnded}
+use Rattle.transfer_rules.specs.Ends.{meetsTmc, offsetOf, endedTP, endedPSW, endedBy, externallyEnded}
 use Rattle.ground_rules.specs.Updates.{withTransfer, holding, dropped}
 use Rattle.ground_rules.specs.declared.Held.{Held}
 use Rattle.ground_rules.specs.declared.Held.the-variants.{NoByte, Byte}
-use Rattle.transfer_rules.specs.Halves.{wordWith, pairCount, secondCode, secondStored}
+use Rattle.transfer_rules.specs.Halves.{wordWith}
 use Rattle.transfer_rules.specs.Parts.{Part, Whole, FirstFetch, SecondFetch, FirstStore, SecondStore, partOf}
 use Rattle.transfer_rules.specs.Reads.{fetched, fetchedSecond, dataOf, also, readPlaces}
 use Rattle.transfer_rules.specs.Sides.{side, source, destination, secondAddress, gained, sideAfter}
 use Rattle.transfer_rules.specs.Steps.{touchedBy, channelBy, memoryBy, touchedByTransfer, transferOf}
-use Rattle.transfer_rules.specs.Stores.{firstMeets, storesTwo, bytesMoved, countAfter, endCode, movedBy, movedChannel, putOn, movedMemory, placesOn, storedPlaces}
+use Rattle.transfer_rules.specs.Stores.{firstMeets, matchMet, storesTwo, bytesStored, countAfter, endCode, movedBy, moveOver, movedChannel, putOn, movedMemory, placesOn, storedPlaces}
 use Rattle.transfer_rules.specs.declared.Data.{Data}
 use Rattle.transfer_rules.specs.declared.Side.{Side}
 use Rattle.transfer_rules.proofs.PartLaws.{second-fetch-apart, word-stored}
@@ -102,40 +102,36 @@ bytes-kept c m u b h =
 
 -- ---- the channel
 
--- the channel after a move of some bytes with a new BC, ended by a code; a second half is one, and so is a first that a match ends
-abbrev after : Channel → ℕ → ℕ → ℕ → Channel
-after c by bc code = endedBy (movedBy c by bc) code
-
--- what holds of a channel that holds a byte and is otherwise as it was, and of one that moved on, holds of a part's channel
+-- what holds of a channel that holds a byte and is otherwise as it was, and of one whose move is over, holds of a part's channel
 part-by : (P : Channel → Type 0) (c : Channel) (m : Buffers)
     → ((byte : ℕ) → P (holding c (Byte byte)))
-    → ((by bc code : ℕ) → P (after c by bc code))
+    → ((stored : ℕ) (met : Bool) → P (moveOver c stored met))
     → (k : Part) → P (channelBy k c m)
-unfolding channelBy movedChannel secondStored
-part-by P c m held moved Whole = moved (bytesMoved c (dataOf c m)) (countAfter c (dataOf c m)) (endCode c (dataOf c m))
-part-by P c m held moved FirstFetch = held (fetched c m)
-part-by P c m held moved (SecondFetch byte) = let d = wordWith byte c m in moved (bytesMoved c d) (countAfter c d) (endCode c d)
-part-by P c m held moved FirstStore = go (firstMeets c (dataOf c m))
+unfolding channelBy movedChannel
+part-by P c m held over Whole = over (bytesStored c (dataOf c m)) (matchMet c (dataOf c m))
+part-by P c m held over FirstFetch = held (fetched c m)
+part-by P c m held over (SecondFetch byte) = let d = wordWith byte c m in over (bytesStored c d) (matchMet c d)
+part-by P c m held over FirstStore = go (firstMeets c (dataOf c m))
   where
-    go : (b : Bool) → P (pick b (after c (bytesMoved c (dataOf c m)) (countAfter c (dataOf c m)) (endCode c (dataOf c m))) (holding c (Byte (fetchedSecond c m))))
-    go true = moved (bytesMoved c (dataOf c m)) (countAfter c (dataOf c m)) (endCode c (dataOf c m))
+    go : (b : Bool) → P (pick b (moveOver c (bytesStored c (dataOf c m)) (matchMet c (dataOf c m))) (holding c (Byte (fetchedSecond c m))))
+    go true = over (bytesStored c (dataOf c m)) (matchMet c (dataOf c m))
     go false = held (fetchedSecond c m)
-part-by P c m held moved (SecondStore byte) = moved 2 (pairCount c) (secondCode c byte)
+part-by P c m held over (SecondStore byte) = over 2 (meetsTmc (c .fields .matchEnd) (c .mc) byte)
 
--- what holds of the given channel, of one that holds a byte and of one that moved on holds of the one after a step
+-- what holds of the given channel, of one that holds a byte and of one whose move is over holds of the one after a step
 pub step-by : (P : Channel → Type 0) (c : Channel) (m : Buffers) → P c
     → ((byte : ℕ) → P (holding c (Byte byte)))
-    → ((by bc code : ℕ) → P (after c by bc code))
+    → ((stored : ℕ) (met : Bool) → P (moveOver c stored met))
     → P ((transferOf c m) .channel)
-step-by P c m same held moved = by-number c m (λ o. P (o .channel)) (λ g. same) (λ g. same) (λ g. part-by P c m held moved (partOf c))
+step-by P c m same held over = by-number c m (λ o. P (o .channel)) (λ g. same) (λ g. same) (λ g. part-by P c m held over (partOf c))
 
 -- only GA, GB, TP, BC, PSW and the held byte of the channel can change
 pub only-these : (c : Channel) (m : Buffers)
     → (transferOf c m) .channel
     ≡ holding (withTransfer c ((transferOf c m) .channel .ga) ((transferOf c m) .channel .gb) ((transferOf c m) .channel .tp) ((transferOf c m) .channel .bc) ((transferOf c m) .channel .psw)) ((transferOf c m) .channel .held)
-unfolding endedBy movedBy withTransfer
+unfolding moveOver endedBy movedBy withTransfer
 only-these c m =
-    step-by (λ x. x ≡ holding (withTransfer c (x .ga) (x .gb) (x .tp) (x .bc) (x .psw)) (x .held)) c m refl (λ byte. refl) (λ by bc code. refl)
+    step-by (λ x. x ≡ holding (withTransfer c (x .ga) (x .gb) (x .tp) (x .bc) (x .psw)) (x .held)) c m refl (λ byte. refl) (λ stored met. refl)
 
 -- a pointer gains as the side that it is does, whichever side that is
 gained-as : (b s d : Bool) (p q : Pointer) (by : ℕ) → pick b (gained s (pick b p q) by) (gained d (pick b q p) by) ≡ gained (pick b s d) p by
@@ -161,11 +157,11 @@ gained-tag false p n = refl
 -- no tag changes
 pub tags-kept : (c : Channel) (m : Buffers)
     → ((transferOf c m) .channel .ga .tag ≡ c .ga .tag) × ((transferOf c m) .channel .gb .tag ≡ c .gb .tag) × ((transferOf c m) .channel .tp .tag ≡ c .tp .tag)
-unfolding endedBy movedBy withTransfer endedTP
+unfolding moveOver endedBy movedBy withTransfer endedTP
 tags-kept c m =
     step-by (λ x. (x .ga .tag ≡ c .ga .tag) × (x .gb .tag ≡ c .gb .tag) × (x .tp .tag ≡ c .tp .tag)) c m
     (refl, refl, refl) (λ byte. (refl, refl, refl))
-    (λ by bc code. (ap tag (ga-after c by bc) ∙ gained-tag _ (c .ga) by, ap tag (gb-after c by bc) ∙ gained-tag _ (c .gb) by, gained-tag _ (c .tp) _))
+    (λ by met. (ap tag (ga-after c by (countAfter c)) ∙ gained-tag _ (c .ga) by, ap tag (gb-after c by (countAfter c)) ∙ gained-tag _ (c .gb) by, gained-tag _ (c .tp) _))
   where
     tag : Pointer → Bool
     tag p = p .tag
@@ -195,22 +191,22 @@ unfolding endedBy withTransfer endedTP gained onward
 ended-tp c code ne = rw (ne-eqb code 0 ne)
 
 -- a step leaves the source where it was moved on to, as wide as it was
-pub source-after : (c : Channel) (d : Data) → source (movedChannel c d) ≡ side (sideAfter (source c) (bytesMoved c d)) ((source c) .moves) ((source c) .wide)
-unfolding source movedChannel endedBy movedBy withTransfer
+pub source-after : (c : Channel) (d : Data) → source (movedChannel c d) ≡ side (sideAfter (source c) (bytesStored c d)) ((source c) .moves) ((source c) .wide)
+unfolding source movedChannel moveOver endedBy movedBy withTransfer
 source-after c d =
-    let n = bytesMoved c d in
+    let n = bytesStored c d in
     ap₂ (λ (p : Pointer) (w : Bool). side p (c .fields .sourceMoves) w)
     (pick-back (c .fields .sourceIsGB) (sideAfter (source c) n) (sideAfter (destination c) n))
-    (psw-kept (movedBy c n (countAfter c d)) (endCode c d) 1 (eqb-false 1 6 refl))
+    (psw-kept (movedBy c n (countAfter c)) (endCode c (matchMet c d)) 1 (eqb-false 1 6 refl))
 
 -- and so the destination
-pub destination-after : (c : Channel) (d : Data) → destination (movedChannel c d) ≡ side (sideAfter (destination c) (bytesMoved c d)) ((destination c) .moves) ((destination c) .wide)
-unfolding destination movedChannel endedBy movedBy withTransfer
+pub destination-after : (c : Channel) (d : Data) → destination (movedChannel c d) ≡ side (sideAfter (destination c) (bytesStored c d)) ((destination c) .moves) ((destination c) .wide)
+unfolding destination movedChannel moveOver endedBy movedBy withTransfer
 destination-after c d =
-    let n = bytesMoved c d in
+    let n = bytesStored c d in
     ap₂ (λ (p : Pointer) (w : Bool). side p (c .fields .destinationMoves) w)
     (pick-back (c .fields .sourceIsGB) (sideAfter (destination c) n) (sideAfter (source c) n))
-    (psw-kept (movedBy c n (countAfter c d)) (endCode c d) 0 (eqb-false 0 6 refl))
+    (psw-kept (movedBy c n (countAfter c)) (endCode c (matchMet c d)) 0 (eqb-false 0 6 refl))
 
 -- an external end leaves GA, GB and BC alone, and all that a transfer step leaves alone; it drops a held byte
 pub external-kept : (c : Channel) → externallyEnded c ≡ dropped (withTransfer c (c .ga) (c .gb) ((externallyEnded c) .tp) (c .bc) ((externallyEnded c) .psw))
@@ -268,8 +264,8 @@ external-sound c h = ended-sound (dropped c) (c .fields .externalEnd) (held-soun
 
 -- and over a transfer step
 pub transfer-sound : (c : Channel) (m : Buffers) → soundChannel c ≡ true → soundChannel ((transferOf c m) .channel) ≡ true
-unfolding movedBy withTransfer
-transfer-sound c m h = step-by (λ x. soundChannel x ≡ true) c m h (λ byte. held-sound c (Byte byte) h) (λ by bc code. ended-sound (movedBy c by bc) code (held-sound (sides by bc) NoByte (moved by bc)))
+unfolding moveOver movedBy withTransfer
+transfer-sound c m h = step-by (λ x. soundChannel x ≡ true) c m h (λ byte. held-sound c (Byte byte) h) (λ by met. ended-sound (movedBy c by (countAfter c)) (endCode c met) (held-sound (sides by (countAfter c)) NoByte (moved by (countAfter c))))
   where
     sides : ℕ → ℕ → Channel
     sides by bc = withTransfer c ((movedBy c by bc) .ga) ((movedBy c by bc) .gb) (c .tp) bc (c .psw)
@@ -288,5 +284,5 @@ unfolding externallyEnded endedBy withTransfer
 external-agree c = same-agrees c (externallyEnded c) refl refl
 
 pub transfer-agree : (c : Channel) (m : Buffers) → fieldsAgree c ≡ true → fieldsAgree ((transferOf c m) .channel) ≡ true
-unfolding endedBy movedBy withTransfer
-transfer-agree c m h = step-by (λ x. fieldsAgree x ≡ true) c m h (λ byte. same-agrees c (holding c (Byte byte)) refl refl h) (λ by bc code. same-agrees c (after c by bc code) refl refl h)
+unfolding moveOver endedBy movedBy withTransfer
+transfer-agree c m h = step-by (λ x. fieldsAgree x ≡ true) c m h (λ byte. same-agrees c (holding c (Byte byte)) refl refl h) (λ by met. same-agrees c (moveOver c by met) refl refl h)

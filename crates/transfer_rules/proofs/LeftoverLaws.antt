@@ -5,7 +5,7 @@ use lib.Dec.{eqb}
 use lib.ListN.{length}
 use mathlib.Core.Bool.{Bool, true, false, not, _&&_, _||_}
 use mathlib.Core.List.{List}
-use mathlib.Core.Path.{_≡_, refl, sym}
+use mathlib.Core.Path.{_≡_, refl, sym, ap}
 use native.Mathlib.Omega.{arith}
 use Rattle.ground_rules.specs.Updates.{withTransfer}
 use Rattle.ground_rules.specs.declared.Channel.{Channel}
@@ -17,7 +17,7 @@ use Rattle.ground_rules.specs.Sums.{countDown}
 use Rattle.transfer_rules.specs.Ends.{codeIf, larger, endedBy}
 use Rattle.transfer_rules.specs.Reads.{bytesFetched, also, readPlaces}
 use Rattle.transfer_rules.specs.Sides.{source, destination, wordSide, countOn, twoMove, storedSingly}
-use Rattle.transfer_rules.specs.Stores.{firstMeets, matchMet, cutShort, storesTwo, bytesStored, bytesMoved, bytesCounted, countAfter, endCode, movedBy, movedChannel, putOn, movedMemory}
+use Rattle.transfer_rules.specs.Stores.{firstMeets, matchMet, cutShort, storesTwo, bytesStored, endCode, movedBy, moveOver, movedChannel, putOn, movedMemory}
 use Rattle.transfer_rules.specs.declared.Data.{Data}
 
 -- a place more, where a test holds
@@ -52,20 +52,19 @@ cut-sides c d = go (wordSide (source c)) (wordSide (destination c)) (not (countO
     go false true false h = apart (sym h)
     go false false more h = apart (sym h)
 
--- two bytes are fetched
+-- two bytes move
 cut-two : (c : Channel) (d : Data) → cutShort c d ≡ true → twoMove c ≡ true
 unfolding cutShort storedSingly
 cut-two c d h = both-left (twoMove c) (not (wordSide (destination c))) (both-left (storedSingly c) (firstMeets c d) h)
 
--- so BC falls by 2
-pub cut-counts : (c : Channel) (d : Data) → cutShort c d ≡ true → bytesCounted c d ≡ 2
-unfolding bytesCounted
+-- so two are fetched
+pub cut-counts : (c : Channel) (d : Data) → cutShort c d ≡ true → bytesFetched c ≡ 2
 cut-counts c d h = rw (cut-two c d h)
 
--- whatever it was, and whether TBC is on or off
+-- and BC falls by 2, whatever it was, and whether TBC is on or off
 pub cut-bc : (c : Channel) (d : Data) → cutShort c d ≡ true → (movedChannel c d) .bc ≡ countDown (c .bc) 2
-unfolding movedChannel endedBy movedBy withTransfer countAfter
-cut-bc c d h = rw (cut-counts c d h)
+unfolding movedChannel moveOver endedBy movedBy withTransfer
+cut-bc c d h = ap (countDown (c .bc)) (cut-counts c d h)
 
 -- one byte is stored
 pub cut-stores : (c : Channel) (d : Data) → cutShort c d ≡ true → storesTwo c d ≡ false
@@ -78,8 +77,8 @@ unfolding movedMemory putOn
 cut-memory c d m h = rw (cut-stores c d h)
 
 -- and sides that move on gain 1
-pub cut-moves : (c : Channel) (d : Data) → cutShort c d ≡ true → bytesMoved c d ≡ 1
-unfolding bytesMoved bytesStored
+pub cut-moves : (c : Channel) (d : Data) → cutShort c d ≡ true → bytesStored c d ≡ 1
+unfolding bytesStored
 cut-moves c d h = rw (cut-stores c d h)
 
 -- the match ends it, and so does the count where BC is now 0
@@ -88,17 +87,18 @@ unfolding cutShort matchMet
 cut-met c d h = rw (both-right (storedSingly c) (firstMeets c d) h)
 
 pub cut-ends : (c : Channel) (d : Data) → cutShort c d ≡ true
-    → endCode c d ≡ larger (larger (c .fields .matchEnd % 4) (codeIf (eqb (countDown (c .bc) 2) 0) (c .fields .countEnd))) (codeIf (c .fields .singleTransfer) 1)
-unfolding endCode countAfter codeIf
-cut-ends c d h = rw (cut-met c d h, cut-counts c d h)
+    → endCode c (matchMet c d) ≡ larger (larger (c .fields .matchEnd % 4) (codeIf (eqb (countDown (c .bc) 2) 0) (c .fields .countEnd))) (codeIf (c .fields .singleTransfer) 1)
+unfolding endCode codeIf
+cut-ends c d h = rw (cut-met c d h, cut-two c d h)
 
 -- ---- every other step
 
--- BC falls by the bytes stored
-pub whole-counts : (c : Channel) (d : Data) → cutShort c d ≡ false → bytesCounted c d ≡ bytesStored c d
-unfolding bytesCounted bytesStored storesTwo
+-- the bytes fetched are the bytes stored
+pub whole-counts : (c : Channel) (d : Data) → cutShort c d ≡ false → bytesFetched c ≡ bytesStored c d
+unfolding bytesStored storesTwo
 whole-counts c d h = rw (h, and-true)
 
+-- so BC falls by those
 pub whole-bc : (c : Channel) (d : Data) → cutShort c d ≡ false → (movedChannel c d) .bc ≡ countDown (c .bc) (bytesStored c d)
-unfolding movedChannel endedBy movedBy withTransfer countAfter
-whole-bc c d h = rw (whole-counts c d h)
+unfolding movedChannel moveOver endedBy movedBy withTransfer
+whole-bc c d h = ap (countDown (c .bc)) (whole-counts c d h)

@@ -16,7 +16,7 @@ use Rattle.transfer_rules.specs.Parts.{Part, Whole, FirstFetch, SecondFe
 use Rattle.transfer_rules.specs.Ends.{endedBy}
 use Rattle.transfer_rules.specs.Reads.{dataOf}
 use Rattle.transfer_rules.specs.Steps.{channelBy}
-use Rattle.transfer_rules.specs.Stores.{firstMeets, cutShort, storesTwo, movedBy, movedChannel}
+use Rattle.transfer_rules.specs.Stores.{firstMeets, cutShort, storesTwo, movedBy, moveOver, movedChannel}
 use Rattle.transfer_rules.specs.declared.Data.{Data}
 use Rattle.transfer_rules.specs.Sides.{source, destination, wordSide, countOn, twoMove, storedSingly}
 use Rattle.transfer_rules.proofs.LeftoverLaws.{cut-bc}
@@ -176,7 +176,14 @@ not-half c = go (fetchesApart c) (storesApart c)
 -- BC falls by 2 there, as if both bytes had gone, and nothing is held
 pub first-store-met : (c : Channel) (m : Buffers) → partOf c ≡ FirstStore → firstMeets c (dataOf c m) ≡ true
     → (channelBy FirstStore c m .bc ≡ (c .bc + 65534) % 65536) × (channelBy FirstStore c m .held ≡ NoByte)
-unfolding channelBy cutShort movedChannel endedBy movedBy withTransfer
+unfolding channelBy cutShort movedChannel moveOver endedBy movedBy withTransfer
 first-store-met c m e h =
     let cut : cutShort c (dataOf c m) ≡ true = rw (stores-singly c (first-store-apart c e), h) in
     rw h (cut-bc c (dataOf c m) cut, refl)
+
+-- ---- a second store
+
+-- BC falls by 2 there: both bytes of the pair were fetched
+pub second-store-counts : (c : Channel) (m : Buffers) (byte : ℕ) → partOf c ≡ SecondStore byte → channelBy (SecondStore byte) c m .bc ≡ (c .bc + 65534) % 65536
+unfolding channelBy moveOver endedBy movedBy withTransfer
+second-store-counts c m byte e = rw (stores-two c (second-store-apart c byte e))

@@ -14,8 +14,9 @@ use Rattle.ground_rules.specs.declared.Held.the-variants.{Byte}
 use Rattle.transfer_rules.specs.Sides.{source, destination, secondAddress}
 use Rattle.transfer_rules.specs.Parts.{Part, Whole, FirstFetch, SecondFetch, FirstStore, SecondStore, partOf}
 use Rattle.transfer_rules.specs.Reads.{fetched, fetchedSecond, dataOf, readPlaces}
-use Rattle.transfer_rules.specs.Stores.{firstMeets, movedChannel, movedMemory, placesOn, storedPlaces}
-use Rattle.transfer_rules.specs.Halves.{firstPlace, secondPlace, wordWith, secondStored}
+use Rattle.transfer_rules.specs.Ends.{meetsTmc}
+use Rattle.transfer_rules.specs.Stores.{firstMeets, moveOver, movedChannel, movedMemory, placesOn, storedPlaces}
+use Rattle.transfer_rules.specs.Halves.{firstPlace, secondPlace, wordWith}
 
 -- the number, the channel and both memories after a transfer step
 pub record Transfer : Type 0 where
@@ -42,13 +43,13 @@ readsBy (SecondFetch byte) c m = secondPlace (source c) ∷ []
 readsBy FirstStore c m = firstPlace (source c) ∷ secondPlace (source c) ∷ []
 readsBy (SecondStore byte) c m = []
 
--- what a step of a part makes of the channel: a first half holds a byte and changes no other register, unless a match ends it there
+-- what a step of a part makes of the channel: a first half holds a byte and changes no other register, unless a match ends it there; of a second store TMC looks at the byte that was held
 unfoldable pub channelBy : Part → Channel → Buffers → Channel
 channelBy Whole c m = movedChannel c (dataOf c m)
 channelBy FirstFetch c m = holding c (Byte (fetched c m))
 channelBy (SecondFetch byte) c m = movedChannel c (wordWith byte c m)
 channelBy FirstStore c m = pick (firstMeets c (dataOf c m)) (movedChannel c (dataOf c m)) (holding c (Byte (fetchedSecond c m)))
-channelBy (SecondStore byte) c m = secondStored c byte
+channelBy (SecondStore byte) c m = moveOver c 2 (meetsTmc (c .fields .matchEnd) (c .mc) byte)
 
 -- what it stores: a first fetch nothing, a second fetch the word, a first store the first byte, a second store the one that was held
 unfoldable pub memoryBy : Part → Channel → Buffers → Buffers

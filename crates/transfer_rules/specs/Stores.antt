@@ -31,31 +31,20 @@ cutShort c d = storedSingly c && firstMeets c d
 unfoldable pub storesTwo : Channel → Data → Bool
 storesTwo c d = twoMove c && not (cutShort c d)
 
--- the number of bytes stored
+-- the number of bytes stored: 1 where a match prevents the second store
 unfoldable pub bytesStored : Channel → Data → ℕ
 bytesStored c d = pick (storesTwo c d) 2 1
 
--- what a side that moves on gains: the bytes stored, so 1 where a match prevents the second store (§7.9)
-unfoldable pub bytesMoved : Channel → Data → ℕ
-bytesMoved c d = bytesStored c d
+-- BC once a move is over: it falls by the bytes fetched, so by 2 where a match prevents the second store, whether TBC is on or off (§7.9)
+abbrev pub countAfter : Channel → ℕ
+countAfter c = countDown (c .bc) (bytesFetched c)
 
--- what BC falls by: the bytes fetched, so 2 where a match prevents the second store, whether TBC is on or off (§7.9)
-unfoldable pub bytesCounted : Channel → Data → ℕ
-bytesCounted c d = bytesFetched c
-
--- BC after the step
-unfoldable pub countAfter : Channel → Data → ℕ
-countAfter c d = countDown (c .bc) (bytesCounted c d)
-
--- the code of the end: TMC met, or the count now at 0, or TS with offset 0, the largest of those that came; 0 is no end (§7.10)
-abbrev pub endFrom : Channel → Bool → ℕ → ℕ
-endFrom c met count =
+-- the code of its end: TMC met, or the count now at 0, or TS with offset 0, the largest of those that came; 0 is no end (§7.10)
+unfoldable pub endCode : Channel → Bool → ℕ
+endCode c met =
     larger
-    (larger (codeIf met (c .fields .matchEnd % 4)) (codeIf (eqb count 0) (c .fields .countEnd)))
+    (larger (codeIf met (c .fields .matchEnd % 4)) (codeIf (eqb (countAfter c) 0) (c .fields .countEnd)))
     (codeIf (c .fields .singleTransfer) 1)
-
-unfoldable pub endCode : Channel → Data → ℕ
-endCode c d = endFrom c (matchMet c d) (countAfter c d)
 
 -- the channel with its moving sides on by some bytes, and a new BC; whoever moves them on holds nothing more (§7.14)
 unfoldable pub movedBy : Channel → ℕ → ℕ → Channel
@@ -66,9 +55,13 @@ movedBy c by bc =
     (pick (c .fields .sourceIsGB) (sideAfter (source c) by) (sideAfter (destination c) by))
     (c .tp) bc (c .psw))
 
--- the channel after the step
+-- the channel once a move is over: the sides that move on gain the bytes stored, so 1 where a match prevents the second store, BC falls by those fetched, and the largest end that came counts (§7.9, §7.10)
+unfoldable pub moveOver : Channel → ℕ → Bool → Channel
+moveOver c stored met = endedBy (movedBy c stored (countAfter c)) (endCode c met)
+
+-- the same by the bytes read, of which as many are stored as a match allows
 unfoldable pub movedChannel : Channel → Data → Channel
-movedChannel c d = endedBy (movedBy c (bytesMoved c d) (countAfter c d)) (endCode c d)
+movedChannel c d = moveOver c (bytesStored c d) (matchMet c d)
 
 -- one byte or two stored on a side, in order
 unfoldable pub putOn : Side → Bool → Data → Buffers → Buffers

@@ -12,8 +12,8 @@ use Rattle.ground_rules.specs.Outcomes.{outcome, givenNumber}
 use Rattle.ground_rules.specs.States.{channelOf, withChannel, isSecond, blockOf}
 use Rattle.ground_rules.specs.declared.State.{State}
 use Rattle.attention_rules.specs.Attention.{givenTo}
-use Rattle.attention_rules.specs.Effects.{writesMade}
 use Rattle.attention.specs.Plans.{plannedOf}
+use Rattle.attention.specs.Writes.{writesMade}
 use Rattle.attention.proofs.PlanLaws.{planned-settled, planned-counts}
 use Rattle.state_rules.specs.Calls.{answerFrom}
 use Rattle.state_rules.specs.Layout.{bytesOf, stateIn}

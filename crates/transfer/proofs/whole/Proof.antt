@@ -15,7 +15,7 @@ use Rattle.transfer_rules.specs.Reads.{dataOf, readPlaces}
 use Rattle.transfer_rules.specs.Sides.{destination}
 use Rattle.transfer.specs.Setups.{setupOf}
 use Rattle.transfer_rules.specs.Steps.{touchedBy, channelBy, memoryBy, accesses, badMode, stepBy, countBy}
-use Rattle.transfer_rules.specs.Stores.{storesTwo, endCode, putOn, movedMemory, placesOn, storedPlaces}
+use Rattle.transfer_rules.specs.Stores.{matchMet, storesTwo, endCode, putOn, movedMemory, placesOn, storedPlaces}
 use Rattle.transfer_rules.specs.declared.Data.{Data}
 use Rattle.transfer.specs.declared.Moved.{Moved}
 use Rattle.transfer.specs.declared.Setup.{Setup}
@@ -40,13 +40,13 @@ module _ (c : Channel) (m : Buffers) (p : Setup) (f : Fetched) (ep : p ≡ setup
   lost : f .touchable ≡ false → (r : Moved) → r ≡ movedRefused 2 → (leftByMove c r m ≡ stepBy Whole c m) × (r .count ≡ countBy Whole c m)
   lost t r e = rw e (beyond-left Whole c m good (touched-all c m ∙ rw (sym reads ∙ t)))
 
-  module _ (t : f .touchable ≡ true) (done : StoreEnd) (ed : done ≡ record { two = storesTwo c (f .bytes); code = endCode c (f .bytes) }) (b : Bool) (m′ : Buffers)
+  module _ (t : f .touchable ≡ true) (done : StoreEnd) (ed : done ≡ record { two = storesTwo c (f .bytes); code = endCode c (matchMet c (f .bytes)) }) (b : Bool) (m′ : Buffers)
       (eb : b ≡ allTouchable m (placesOn (p .destination) (done .two))) (em : m′ ≡ pick b (putOn (p .destination) (done .two) (f .bytes) m) m) where
     read : f .bytes ≡ dataOf c m
     read = ap (λ (x : Fetched). x .bytes) ef ∙ fetch-bytes c m (sym (ap (λ (x : Fetched). x .touchable) ef) ∙ t)
 
-    becomes : done ≡ record { two = storesTwo c (dataOf c m); code = endCode c (dataOf c m) }
-    becomes = ed ∙ ap (λ (d : Data). record { two = storesTwo c d; code = endCode c d }) read
+    becomes : done ≡ record { two = storesTwo c (dataOf c m); code = endCode c (matchMet c (dataOf c m)) }
+    becomes = ed ∙ ap (λ (d : Data). record { two = storesTwo c d; code = endCode c (matchMet c d) }) read
 
     places : placesOn (p .destination) (done .two) ≡ storedPlaces c (dataOf c m)
     unfolding setupOf storedPlaces
@@ -73,10 +73,10 @@ module _ (c : Channel) (m : Buffers) (p : Setup) (f : Fetched) (ep : p ≡ setup
       unfolding memoryBy
       stored = sym (em ∙ rw y puts)
 
-      goes : (x : Bool) → storesTwo c (dataOf c m) ≡ x → (leftByMove c (movedOn count (pick x 2 1) (endCode c (dataOf c m))) m′ ≡ stepBy Whole c m) × (count ≡ countBy Whole c m)
+      goes : (x : Bool) → storesTwo c (dataOf c m) ≡ x → (leftByMove c (movedOn count (pick x 2 1) (endCode c (matchMet c (dataOf c m)))) m′ ≡ stepBy Whole c m) × (count ≡ countBy Whole c m)
       unfolding channelBy
-      goes true s = goes-left Whole c m good (touches ∙ y) m′ stored count counts 1 (endCode c (dataOf c m)) (landed-moved c (dataOf c m) true s)
-      goes false s = goes-left Whole c m good (touches ∙ y) m′ stored count counts 0 (endCode c (dataOf c m)) (landed-moved c (dataOf c m) false s)
+      goes true s = goes-left Whole c m good (touches ∙ y) m′ stored count counts 1 (endCode c (matchMet c (dataOf c m))) (landed-moved c (dataOf c m) true s)
+      goes false s = goes-left Whole c m good (touches ∙ y) m′ stored count counts 0 (endCode c (matchMet c (dataOf c m))) (landed-moved c (dataOf c m) false s)
 
       gone : (r : Moved) → r ≡ movedOn count by (done .code) → (leftByMove c r m′ ≡ stepBy Whole c m) × (r .count ≡ countBy Whole c m)
       gone r e =

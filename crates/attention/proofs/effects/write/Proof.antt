@@ -2,7 +2,7 @@
 -- Assumes nothing.
 use borrow.Author.Needs.{needs}
 use mathlib.Core.Path.{_∙_}
-use Rattle.attention_rules.specs.Effects.{writesMade}
+use Rattle.attention.specs.Writes.{writesMade}
 use Rattle.attention.proofs.effects.write.Statement.{statement}
 use Rattle.attention.proofs.effects.write.Tie as tie
 

@@ -1,7 +1,7 @@
 -- `attention::effects::writes_of` meets its contract.
 -- Assumes nothing.
 use borrow.Author.Needs.{needs}
-use Rattle.attention_rules.specs.Effects.{writesOf}
+use Rattle.attention.specs.Writes.{writesOf}
 use Rattle.attention.proofs.effects.writes_of.Statement.{statement}
 use Rattle.attention.proofs.effects.writes_of.Tie as tie
 

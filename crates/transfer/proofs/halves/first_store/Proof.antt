@@ -13,7 +13,7 @@ use Rattle.transfer_rules.specs.Reads.{dataOf, readPlaces}
 use Rattle.transfer_rules.specs.Sides.{source, destination, secondAddress}
 use Rattle.transfer.specs.Setups.{setupOf}
 use Rattle.transfer_rules.specs.Steps.{touchedBy, memoryBy, badMode, stepBy, countBy}
-use Rattle.transfer_rules.specs.Stores.{storesTwo, endCode, putOn, placesOn}
+use Rattle.transfer_rules.specs.Stores.{matchMet, storesTwo, endCode, putOn, placesOn}
 use Rattle.transfer_rules.specs.declared.Data.{Data}
 use Rattle.transfer.specs.declared.Moved.{Moved}
 use Rattle.transfer.specs.declared.Setup.{Setup}
@@ -53,7 +53,7 @@ module _ (c : Channel) (m : Buffers) (p : Setup) (f : Fetched) (ep : p ≡ setup
     unfolding setupOf
     puts y = em ∙ rw y (ap (λ (x : Setup). putOn (x .destination) false (f .bytes) m) ep ∙ ap (λ (d : Data). putOn (destination c) false d m) read)
 
-    module _ (y : b ≡ true) (r : Moved) (done : StoreEnd) (k : done ≡ record { two = storesTwo c (f .bytes); code = endCode c (f .bytes) }) where
+    module _ (y : b ≡ true) (r : Moved) (done : StoreEnd) (k : done ≡ record { two = storesTwo c (f .bytes); code = endCode c (matchMet c (f .bytes)) }) where
       two : (x : Bool) → done .two ≡ x → storesTwo c (dataOf c m) ≡ x
       two x n = sym (ap (λ (x : StoreEnd). x .two) k ∙ ap (λ (d : Data). storesTwo c d) read) ∙ n
 
@@ -66,8 +66,8 @@ module _ (c : Channel) (m : Buffers) (p : Setup) (f : Fetched) (ep : p ≡ setup
       gone : done .two ≡ false → r ≡ movedOn 3 1 (done .code) → (leftByMove c r m′ ≡ stepBy FirstStore c m) × (r .count ≡ countBy FirstStore c m)
       unfolding touchedBy
       gone n e =
-          rw (e, ap (λ (x : StoreEnd). x .code) k ∙ ap (λ (d : Data). endCode c d) read)
-          (goes-left FirstStore c m good (touches ∙ y) m′ (first-store-stores c m good h ∙ sym (puts y)) 3 refl 0 (endCode c (dataOf c m)) (first-store-goes c m good h (two false n)))
+          rw (e, ap (λ (x : StoreEnd). x .code) k ∙ ap (λ (d : Data). endCode c (matchMet c d)) read)
+          (goes-left FirstStore c m good (touches ∙ y) m′ (first-store-stores c m good h ∙ sym (puts y)) 3 refl 0 (endCode c (matchMet c (dataOf c m))) (first-store-goes c m good h (two false n)))
 
 fetch-requires : tie.Need-fetch-requires
 fetch-requires c κs = (c .before .before .before .before .pre .0, c .before .before .before .before .pre .1)

@@ -13,7 +13,7 @@ use Rattle.transfer_rules.specs.Reads.{also}
 use Rattle.transfer_rules.specs.Sides.{source, destination, secondAddress}
 use Rattle.transfer.specs.Setups.{setupOf}
 use Rattle.transfer_rules.specs.Steps.{touchedBy, memoryBy, badMode, stepBy, countBy}
-use Rattle.transfer_rules.specs.Stores.{storesTwo, endCode, putOn, placesOn}
+use Rattle.transfer_rules.specs.Stores.{matchMet, storesTwo, endCode, putOn, placesOn}
 use Rattle.transfer_rules.specs.declared.Data.{Data}
 use Rattle.transfer.specs.declared.Moved.{Moved}
 use Rattle.transfer.specs.declared.Setup.{Setup}
@@ -58,12 +58,12 @@ module _ (c : Channel) (m : Buffers) (p : Setup) (byte next : ℕ) (s : Seen) (e
     puts f = em ∙ rw f (ap (λ (x : Setup). putOn (x .destination) true (record { first = byte; second = s .byte }) m) ep ∙ ap (λ (d : Data). putOn (destination c) true d m) read)
 
     gone : b ≡ true → (r : Moved) (done : StoreEnd) → r ≡ movedOn 3 2 (done .code)
-        → done ≡ record { two = storesTwo c (record { first = byte; second = s .byte }); code = endCode c (record { first = byte; second = s .byte }) }
+        → done ≡ record { two = storesTwo c (record { first = byte; second = s .byte }); code = endCode c (matchMet c (record { first = byte; second = s .byte })) }
         → (leftByMove c r m′ ≡ stepBy (SecondFetch byte) c m) × (r .count ≡ countBy (SecondFetch byte) c m)
     unfolding touchedBy placesOn also
     gone f r done e k =
-        rw (e, ap (λ (x : StoreEnd). x .code) k ∙ ap (λ (d : Data). endCode c d) read)
-        (goes-left (SecondFetch byte) c m good (touches ∙ f) m′ (second-fetch-stores c m byte h ∙ sym (puts f)) 3 refl 1 (endCode c (wordWith byte c m)) (second-fetch-goes c m byte h))
+        rw (e, ap (λ (x : StoreEnd). x .code) k ∙ ap (λ (d : Data). endCode c (matchMet c d)) read)
+        (goes-left (SecondFetch byte) c m good (touches ∙ f) m′ (second-fetch-stores c m byte h ∙ sym (puts f)) 3 refl 1 (endCode c (matchMet c (wordWith byte c m))) (second-fetch-goes c m byte h))
 
 returns : tie.Need-returns
 returns c = let a = c .before .before .before .before .before .before .before .before .before .before .before .args in

@@ -4,13 +4,15 @@ use Prim.Native.Nat.{ℕ}
 use Rattle.ground_rules.specs.declared.Channel.{Channel}
 use Rattle.ground_rules.specs.Buffers.{Buffers, buffers, touchableAt, byteAt, storeByte}
 use Rattle.transfer.proofs.HalfLaws.{beyond-left, goes-left, second-store-touches, second-store-stores, second-store-goes}
+use Rattle.transfer_rules.proofs.PartLaws.{stores-two}
 use Rattle.transfer_rules.proofs.TouchLaws.{untouched}
-use Rattle.transfer_rules.specs.Halves.{secondCode}
+use Rattle.transfer_rules.specs.Ends.{meetsTmc}
 use Rattle.transfer.specs.Moves.{movedRefused, movedOn, leftByMove}
 use Rattle.transfer_rules.specs.Parts.{SecondStore, storesApart}
-use Rattle.transfer_rules.specs.Sides.{source, destination, secondAddress}
+use Rattle.transfer_rules.specs.Sides.{source, destination, secondAddress, twoMove}
 use Rattle.transfer.specs.Setups.{setupOf}
 use Rattle.transfer_rules.specs.Steps.{touchedBy, memoryBy, badMode, stepBy, countBy}
+use Rattle.transfer_rules.specs.Stores.{endCode}
 use Rattle.transfer.specs.declared.Moved.{Moved}
 use Rattle.transfer.specs.declared.Setup.{Setup}
 use borrow.Author.Needs.{needs}
@@ -31,11 +33,11 @@ module _ (c : Channel) (m : Buffers) (p : Setup) (byte next : ℕ) (b : Bool) (m
   unfolding setupOf
   stored = em ∙ ap (λ (n : ℕ). storeByte m (p .destination .pointer .tag) n byte) en ∙ ap (λ (x : Setup). storeByte m (x .destination .pointer .tag) (secondAddress (x .destination)) byte) ep
 
-  gone : b ≡ true → (r : Moved) (code : ℕ) → r ≡ movedOn 1 2 code → code ≡ secondCode c byte → (leftByMove c r m′ ≡ stepBy (SecondStore byte) c m) × (r .count ≡ countBy (SecondStore byte) c m)
+  gone : b ≡ true → (r : Moved) (code : ℕ) → r ≡ movedOn 1 2 code → (twoMove c ≡ true → code ≡ endCode c (meetsTmc (c .fields .matchEnd) (c .mc) byte)) → (leftByMove c r m′ ≡ stepBy (SecondStore byte) c m) × (r .count ≡ countBy (SecondStore byte) c m)
   unfolding touchedBy
   gone t r code e k =
-      rw (e, k)
-      (goes-left (SecondStore byte) c m good (second-store-touches c m byte ∙ sym there ∙ t) m′ (second-store-stores c m byte ∙ sym stored) 1 refl 1 (secondCode c byte) (second-store-goes c m byte h))
+      rw (e, k (stores-two c h))
+      (goes-left (SecondStore byte) c m good (second-store-touches c m byte ∙ sym there ∙ t) m′ (second-store-stores c m byte ∙ sym stored) 1 refl 1 (endCode c (meetsTmc (c .fields .matchEnd) (c .mc) byte)) (second-store-goes c m byte))
 
   lost : b ≡ false → (r : Moved) → r ≡ movedRefused 2 → (leftByMove c r m′ ≡ stepBy (SecondStore byte) c m) × (r .count ≡ countBy (SecondStore byte) c m)
   lost t r e =

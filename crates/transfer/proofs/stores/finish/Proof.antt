@@ -2,12 +2,12 @@
 -- Assumes nothing.
 use borrow.Author.Needs.{needs}
 use Rattle.transfer.specs.Setups.{setupOf}
-use Rattle.transfer_rules.specs.Stores.{bytesCounted, countAfter, endCode}
+use Rattle.transfer_rules.specs.Stores.{endCode}
 use Rattle.transfer.proofs.stores.finish.Statement.{statement}
 use Rattle.transfer.proofs.stores.finish.Tie as tie
 
 returns : tie.Need-returns
-unfolding endCode countAfter bytesCounted setupOf
+unfolding endCode setupOf
 returns c = rw (c .end-from .ensures, c .before .compare .ensures, c .before .before .count-down .ensures, c .before .before .before .one-or-two .ensures, c .before .before .before .before .pre)
 
 pub finish-spec : {M : Type 1} → statement M

@@ -1,13 +1,13 @@
 -- `transfer::stores::second_code` meets its contract.
 -- Assumes nothing.
-use Rattle.transfer_rules.specs.Halves.{secondCode}
+use Rattle.transfer_rules.specs.Stores.{endCode}
 use borrow.Author.Needs.{needs}
 use Rattle.transfer.proofs.stores.second_code.Statement.{statement}
 use Rattle.transfer.proofs.stores.second_code.Tie as tie
 
 returns : tie.Need-returns
-unfolding secondCode
-returns c = rw (c .end-from .ensures, c .before .count-down .ensures, c .before .before .code-if .ensures, c .before .before .before .meets .ensures)
+unfolding endCode
+returns c two = rw (c .end-from .ensures, c .before .count-down .ensures, c .before .before .code-if .ensures, c .before .before .before .meets .ensures, two)
 
 pub second-code-spec : {M : Type 1} → statement M
 second-code-spec =
