@@ -241,13 +241,13 @@ $(BUILD)/empty: host/compare/empty.c $(HEADERS) $(SERVICE_LIB) | x86-compiler
 	$(X86_CC) $(PLAIN) $(subst c11,c99,$(STRICT)) $(CFLAGS) $(INCLUDES) $(LINKED) $(X86_LDFLAGS) -o $@
 
 # Names are bound before main: a first call that is bound on its way takes 3 KiB of stack for the loader.
-$(BUILD)/stack: host/bench/stack.c $(HEADERS) $(ARCHIVES) | x86-compiler
+$(BUILD)/stack: host/bench/stack.c host/bench/sweep_case.h $(HEADERS) $(ARCHIVES) | x86-compiler
 	$(X86_CC) $(PLAIN) $(STRICT) -D_POSIX_C_SOURCE=200809L $(CFLAGS) $(INCLUDES) $(LINKED) $(X86_LDFLAGS) \
 		-Wl,-z,now -pthread -o $@
 
-# How much stack a run and an assembly need, over the files of examples/.
+# How much stack each call needs, over the files of examples/, every instruction and every transfer.
 stack: $(BUILD)/stack
-	@tools/x86 $(BUILD)/stack examples/*.bin examples/*.asm
+	@tools/x86 $(BUILD)/stack examples/*.* examples/prom/*.*
 
 # A host without the C library: all objects of both archives are linked, so that a name which one of them leaves undefined
 # ends the link. The run's object stands in both, so one archive is taken in whole and the other for what it has besides.
