@@ -64,14 +64,17 @@ fn settled(number: u32, s: State, second: bool, c: Channel, kind: Kind, count: u
 }
 
 // One step of a channel that has its turn: a transfer step with XF, else an instruction. The channel comes beside the
-// state, since a caller that keeps a state in bytes takes it from there alone.
+// state, since a caller that keeps a state in bytes takes it from there alone. It is handed on by its parts both times, so
+// that the compiler keeps neither in memory.
 pub fn channel_turn(s: State, second: bool, c: Channel, sys: &mut [u8], io: &mut [u8]) -> Turn
     ensures left { λ r. ⌜ taken r (lent (sys .exit) (io .exit)) ≡ turnOf c s (lent (sys .entry) (io .entry)) second ⌝ }
     ensures count { λ r. ⌜ r .count ≡ counted (r .number) (turnTouched c s (lent (sys .entry) (io .entry)) second) ⌝ }
 {
     if machine::psw::transferring(c.psw) {
         let t = transfer::transfer(c, sys, io);
-        let channel = t.channel;
+        let after = t.channel;
+        let held = after.held;
+        let channel = machine::updates::holds(after, held);
         return Turn {
             number: t.number,
             count: t.count,
@@ -81,7 +84,9 @@ pub fn channel_turn(s: State, second: bool, c: Channel, sys: &mut [u8], io: &mut
     }
     let busy = machine::states::busy(machine::states::block(s, second));
     let e = execute::execute(c, busy, sys, io);
-    let channel = e.channel;
+    let after = e.channel;
+    let held = after.held;
+    let channel = machine::updates::holds(after, held);
     Turn {
         number: e.number,
         count: e.count,
