@@ -1,4 +1,4 @@
--- A state as the caller keeps it, 104 bytes: version, CP, the channel that stepped last, what the board set up, then a block of 47 bytes for each channel. A table for each record says its parts in their order, each with its form; all else is computed from the tables.
+-- A state as the caller keeps it, 104 bytes (§11.1): version, CP, the channel that stepped last, what the board set up, then a block of 47 bytes for each channel. A table for each record says its parts in their order, each with its form; all else is computed from the tables.
 use mathlib.Core.Bool.{Bool, _&&_}
 use mathlib.Core.List.{List, [], _∷_, _++_}
 use Prim.Native.Nat.{ℕ}
@@ -215,7 +215,7 @@ channelForm = formBy channelRows channelBytes channelIn isBlock
 
 -- ---- what the board set up
 
--- powered up, SYSBUS bit 0, SOC bit 0 and SOC bit 1, a byte each
+-- powered up, SYSBUS bit 0, SOC bit 0 and SOC bit 1, a byte each (§2.10)
 abbrev pub boardRows : List (TableRow Board)
 boardRows =
     rowFor (λ b. b .powered) flagForm
@@ -238,7 +238,7 @@ boardForm = formBy boardRows boardBytes (λ b at. madeBy boardRows boardWith b a
 abbrev pub version : ℕ
 version = 4
 
--- its version, CP, whether channel 2 was the last to step, what the board set up, and both channels
+-- its version, CP, whether channel 2 was the last to step, what the board set up, and both channels (§11.1)
 abbrev pub stateRows : List (TableRow State)
 stateRows =
     rowFor (λ s. tt) (markForm version)
@@ -293,6 +293,6 @@ stateIn b = madeBy stateRows stateFromParts b 0 0
 unfoldable pub isBoard : List ℕ → Bool
 isBoard b = boardForm .is b boardPlace
 
--- of the right length, and each part is in its range (else 17)
+-- of the right length, and each part is in its range (else 17, §11.1)
 unfoldable pub isState : List ℕ → Bool
 isState b = eqb (length b) stateLength && areBy stateRows b 0 0
