@@ -3,7 +3,7 @@ use crate::Setup;
 use ground_rules::Channel;
 use ground_rules::Held;
 use transfer_rules::Data;
-ghost use mathlib.Core.Bool.{true};
+ghost use mathlib.Core.Bool.{true, _&&_};
 ghost use mathlib.Core.Path.{_≡_};
 ghost use Rattle.ground_rules.specs.declared.Channel.{Channel};
 ghost use Rattle.ground_rules.specs.Choice.{pick};
@@ -93,6 +93,9 @@ fn end_from(c: Channel, matched: u32, bc: u16) -> u32
     ensures { λ r. ⌜ r ≡ larger (larger matched (codeIf (eqb bc 0) (c .fields .countEnd))) (codeIf (c .fields .singleTransfer) 1) ⌝ }
 {
     let f = c.fields;
+    if (bc != 0) & !f.singleTransfer {
+        return matched;
+    }
     let counted = crate::ends::code_if(bc == 0, f.countEnd as u32);
     let single = crate::ends::code_if(f.singleTransfer, 1);
     crate::ends::larger(crate::ends::larger(matched, counted), single)
@@ -147,22 +150,34 @@ pub fn put_one(tag: bool, address: u32, v: u8, sys: &mut [u8], io: &mut [u8]) ->
     there
 }
 
+// Two bytes stored where a call may touch both places, else nothing; and whether it may. The space is asked for once.
+fn put_two(tag: bool, address: u32, next: u32, d: Data, sys: &mut [u8], io: &mut [u8]) -> bool
+    ensures { λ r. ⌜ (r ≡ touchableAt (lent (sys .entry) (io .entry)) tag address && touchableAt (lent (sys .entry) (io .entry)) tag next) × (lent (sys .exit) (io .exit) ≡ pick r (storeByte (storeByte (lent (sys .entry) (io .entry)) tag address (d .first)) tag next (d .second)) (lent (sys .entry) (io .entry))) ⌝ }
+{
+    if tag {
+        memory::store_byte(sys, io, true, address, d.first);
+        memory::store_byte(sys, io, true, next, d.second);
+        return true;
+    }
+    if !memory::lent(sys, io, false, next) {
+        return false;
+    }
+    if !memory::lent(sys, io, false, address) {
+        return false;
+    }
+    memory::store_byte(sys, io, false, address, d.first);
+    memory::store_byte(sys, io, false, next, d.second);
+    true
+}
+
 // One byte or two stored on the destination where each place may be touched, else nothing; and whether it may.
 pub(crate) fn put(p: Setup, two: bool, d: Data, sys: &mut [u8], io: &mut [u8]) -> bool
     ensures { λ r. ⌜ ((c : Channel) → p ≡ setupOf c → (r ≡ allTouchable (lent (sys .entry) (io .entry)) (placesOn (p .destination) two)) × (lent (sys .exit) (io .exit) ≡ pick r (putOn (p .destination) two d (lent (sys .entry) (io .entry))) (lent (sys .entry) (io .entry)))) ⌝ }
 {
     let side = p.destination;
     let at = side.pointer;
-    if two {
-        let next = crate::sides::second_into(p);
-        if !memory::touchable(sys, io, at.tag, next) {
-            return false;
-        }
-        if !put_one(at.tag, at.address, d.first, sys, io) {
-            return false;
-        }
-        memory::store_byte(sys, io, at.tag, next, d.second);
-        return true;
+    if !two {
+        return put_one(at.tag, at.address, d.first, sys, io);
     }
-    put_one(at.tag, at.address, d.first, sys, io)
+    put_two(at.tag, at.address, crate::sides::second_into(p), d, sys, io)
 }
