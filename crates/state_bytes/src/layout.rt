@@ -138,6 +138,16 @@ pub fn channel(bytes: &[u8], second: bool) -> Channel
     channel_in(bytes, block_at(second))
 }
 
+// The same where the fields of CC agree with it: they are worked out of CC, which the compiler does only where they are used.
+pub fn stepping(bytes: &[u8], second: bool) -> Channel
+    requires { ⌜ (isState (now bytes) ≡ true) × (States.agree (stateIn (now bytes)) ≡ true) ⌝ }
+    ensures { λ r. ⌜ r ≡ channelOf (stateIn (now (bytes .entry))) second ⌝ }
+{
+    let mut c = channel_in(bytes, block_at(second));
+    c.fields = machine::cc::split(c.cc);
+    c
+}
+
 // Whether the tags and the armed mark of a block are truth values.
 fn tags_fit(bytes: &[u8], at: usize) -> bool
     requires { ⌜ at + 47 ≤ length (now bytes) ⌝ }
