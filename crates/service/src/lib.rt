@@ -155,7 +155,7 @@ pub extern "C" fn iop89_step(state: &mut [u8], sys: &mut [u8], io: &mut [u8], li
         Choice::Nobody => answer(1, 0, 0, 0),
         Choice::Ends(second) => ended(state, second),
         Choice::Steps(second) => {
-            let t = step::channel_turn(s, second, layout::channel(state, second), sys, io);
+            let t = step::channel_turn(s, second, layout::stepping(state, second), sys, io);
             answered(state, second, t)
         }
     }

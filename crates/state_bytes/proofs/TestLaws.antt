@@ -1,13 +1,14 @@
 -- The tests of a state's bytes in the code's order come to those of the rules.
 -- Assumes nothing.
 use Prim.Native.Nat.{ℕ, _+_}
+use borrow.Author.Tests.{eq-eqb}
 use lib.Dec.{eqb}
 use lib.ListN.{length, getD}
 use mathlib.Core.Bool.{and-assoc, Bool, true, false, _&&_}
 use mathlib.Core.List.{List}
 use mathlib.Core.Path.{_≡_, refl, ap, ap₂, _∙_}
 use native.Mathlib.Nat.{add-assoc}
-use Rattle.ground_rules.proofs.ChoiceLaws.{and-true}
+use Rattle.ground_rules.proofs.ChoiceLaws.{and-true, both-left, both-right}
 use Rattle.ground_rules.specs.Holdings.{isHeldNumber}
 use Rattle.state_rules.specs.Fields.{littleIn, isFlag, isMode, isCode}
 use Rattle.state_rules.specs.Layout.{modePlace, fieldsPlace, heldPlace, matchPlace, lastPlace, firstAt, secondFrom, isPointerAt, isFields, isBlock, isBoard, isState, stateLength, version}
@@ -59,6 +60,11 @@ pub codes-by : (b : List ℕ) (at : ℕ) → isCode b (at + 3) 4 && isCode b (at
 unfolding codesFit
 codes-by b at = simp (and-assoc, and-true)
 
+-- where neither block holds a byte both numbers stand for something
+pub none-held : (x y : ℕ) → eqb x 0 && eqb y 0 ≡ true → isHeldNumber x && isHeldNumber y ≡ true
+unfolding isHeldNumber
+none-held x y h = rw (both-left (eqb x 0) (eqb y 0) h, both-right (eqb x 0) (eqb y 0) h)
+
 -- ---- those of CC, of a block, and of a state
 
 fields-fit : (b : List ℕ) (at : ℕ) → isFields b at ≡ flagsFit b at && (codesFit b at && isCode b (at + matchPlace) 8)
@@ -94,15 +100,20 @@ block-fits b at =
     simp (fields-fit b (at + fieldsPlace), and-assoc, and-true)
     (ap tags (behind-three (mode b at) armed flags codes (eight b at && held b at) ∙ ap (λ (t : Bool). armed && (flags && (codes && t))) (swap (mode b at) (eight b at) (held b at))))
 
-pub state-fits : (b : List ℕ)
-    → isState b
-    ≡ eqb (length b) stateLength && eqb (getD b 0 0) version
+-- every byte but those of what is held is in its range
+abbrev pub formsFit : List ℕ → Bool
+formsFit b =
+    eqb (getD b 0 0) version
     && (isFlag b lastPlace && isBoard b && truths b firstAt && truths b secondFrom)
     && (codesFit b (firstAt + fieldsPlace) && codesFit b (secondFrom + fieldsPlace))
     && (eight b firstAt && eight b secondFrom)
     && (mode b firstAt && mode b secondFrom)
-    && held b firstAt
-    && held b secondFrom
+
+-- so are those, of both blocks
+abbrev bothHeld : List ℕ → Bool
+bothHeld b = held b firstAt && held b secondFrom
+
+state-fits : (b : List ℕ) → isState b ≡ eqb (length b) stateLength && (formsFit b && bothHeld b)
 unfolding isState isBoard
 state-fits b =
     let front : Bool → Bool = λ t. eqb (length b) stateLength && (eqb (getD b 0 0) version && (isFlag b lastPlace && (isBoard b && t))) in
@@ -111,3 +122,7 @@ state-fits b =
     (ap₂ _&&_ (block-fits b firstAt) (block-fits b secondFrom)
     ∙ in-pairs (truths b firstAt) (codesFit b (firstAt + fieldsPlace)) (eight b firstAt) (mode b firstAt) (held b firstAt) (truths b secondFrom) (codesFit b (secondFrom + fieldsPlace)) (eight b secondFrom) (mode b secondFrom) (held b secondFrom))
     ∙ simp and-assoc
+
+-- of so many bytes what is held is asked behind all else
+pub held-last : (b : List ℕ) → length b ≡ stateLength → (fit : Bool) → formsFit b ≡ fit → fit && bothHeld b ≡ isState b
+held-last b e fit h = rw (state-fits b, eq-eqb (length b) stateLength e, h)

@@ -6,7 +6,7 @@ use ground_rules::Channel;
 use ground_rules::Fields;
 use ground_rules::Pointer;
 use ground_rules::State;
-ghost use mathlib.Core.Bool.{true};
+ghost use mathlib.Core.Bool.{true, _&&_};
 ghost use mathlib.Core.Path.{_≡_};
 ghost use Prim.Native.Nat.{_+_, _<_, _≤_};
 ghost use lib.ListN.{length};
@@ -20,7 +20,7 @@ ghost use Rattle.ground_rules.specs.Holdings.{isHeldNumber};
 ghost use Rattle.state_rules.specs.Fields.{littleIn};
 ghost use Rattle.state_bytes.specs.Puts.{frontBytes, putAgreeing};
 ghost use Rattle.state_bytes.specs.Tests.{tagsFit, flagsFit, codesFit};
-ghost use Rattle.state_rules.specs.Layout.{pointerBytes, pointersBytes, numbersBytes, marksBytes, sidesBytes, endsBytes, fieldsBytes, heldBytes, channelBytes, boardBytes, bytesOf, pointerIn, fieldsIn, channelIn, boardIn, stateIn, isFields, isBoard, isState, stateLength, blockFrom};
+ghost use Rattle.state_rules.specs.Layout.{pointerBytes, pointersBytes, numbersBytes, marksBytes, sidesBytes, endsBytes, fieldsBytes, heldBytes, channelBytes, boardBytes, bytesOf, pointerIn, fieldsIn, channelIn, boardIn, stateIn, isFields, isBoard, isState, stateLength, heldPlace, firstAt, secondFrom, blockFrom};
 
 // Where the block of channel 1 starts.
 const FIRST_AT: usize = 10;
@@ -138,6 +138,16 @@ pub fn channel(bytes: &[u8], second: bool) -> Channel
     channel_in(bytes, block_at(second))
 }
 
+// The same where the fields of CC agree with it: they are worked out of CC, which the compiler does only where they are used.
+pub fn stepping(bytes: &[u8], second: bool) -> Channel
+    requires { ⌜ (isState (now bytes) ≡ true) × (States.agree (stateIn (now bytes)) ≡ true) ⌝ }
+    ensures { λ r. ⌜ r ≡ channelOf (stateIn (now (bytes .entry))) second ⌝ }
+{
+    let mut c = channel_in(bytes, block_at(second));
+    c.fields = machine::cc::split(c.cc);
+    c
+}
+
 // Whether the tags and the armed mark of a block are truth values.
 fn tags_fit(bytes: &[u8], at: usize) -> bool
     requires { ⌜ at + 47 ≤ length (now bytes) ⌝ }
@@ -181,6 +191,17 @@ fn held_fits(bytes: &[u8], at: usize) -> bool
     machine::holdings::stands(fields::word(bytes, at) as u32)
 }
 
+// Whether those of both blocks are. Most often neither holds a byte, which is asked first.
+fn both_held_fit(bytes: &[u8]) -> bool
+    requires { ⌜ length (now bytes) ≡ stateLength ⌝ }
+    ensures { λ r. ⌜ r ≡ isHeldNumber (littleIn 2 (now (bytes .entry)) (firstAt + heldPlace)) && isHeldNumber (littleIn 2 (now (bytes .entry)) (secondFrom + heldPlace)) ⌝ }
+{
+    if (fields::word(bytes, FIRST_AT + 45) == 0) & (fields::word(bytes, SECOND_AT + 45) == 0) {
+        return true;
+    }
+    held_fits(bytes, FIRST_AT + 45) & held_fits(bytes, SECOND_AT + 45)
+}
+
 // Whether what the board set up is four truth values.
 fn is_board(bytes: &[u8]) -> bool
     requires { ⌜ 10 ≤ length (now bytes) ⌝ }
@@ -193,23 +214,25 @@ fn is_board(bytes: &[u8]) -> bool
 }
 
 // Whether bytes are a state. Those that must be below the same number stand together, of both blocks, so that they are put
-// into one byte by `or` and tested once.
+// into one byte by `or` and tested once; what is held is asked behind a branch of its own.
 pub fn is_state(bytes: &[u8]) -> bool
     ensures { λ r. ⌜ r ≡ isState (now (bytes .entry)) ⌝ }
 {
     if bytes.len() != 104 {
         return false;
     }
-    (fields::byte(bytes, 0) == 4)
+    let fit = (fields::byte(bytes, 0) == 4)
         & (fields::is_flag(bytes, 5)
             & is_board(bytes)
             & (tags_fit(bytes, FIRST_AT) & flags_fit(bytes, FIRST_AT + 35))
             & (tags_fit(bytes, SECOND_AT) & flags_fit(bytes, SECOND_AT + 35)))
         & (codes_fit(bytes, FIRST_AT + 35) & codes_fit(bytes, SECOND_AT + 35))
         & (fields::is_code(bytes, FIRST_AT + 44, 8) & fields::is_code(bytes, SECOND_AT + 44, 8))
-        & (fields::is_mode(bytes, FIRST_AT + 33) & fields::is_mode(bytes, SECOND_AT + 33))
-        & held_fits(bytes, FIRST_AT + 45)
-        & held_fits(bytes, SECOND_AT + 45)
+        & (fields::is_mode(bytes, FIRST_AT + 33) & fields::is_mode(bytes, SECOND_AT + 33));
+    if !fit {
+        return false;
+    }
+    both_held_fit(bytes)
 }
 
 // The CC that the fields from an offset on make up, its LOCK bit, between the source's and the chained one, at 0. Four of

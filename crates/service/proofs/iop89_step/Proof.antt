@@ -45,8 +45,14 @@ returns-2 c =
 ended-requires : tie.Need-ended-requires
 ended-requires c κs = sym (c .before .before .before .before .before .before .before .before .before .before .before .before .before .is-state .ensures) ∙ not-false _ (c .before .before .before .before .before .before .before .before .before .before .before .before .if1 .left)
 
-channel-requires : tie.Need-channel-requires
-channel-requires c κs = state-length _ (sym (c .before .before .before .before .before .before .before .before .before .before .before .before .before .is-state .ensures) ∙ not-false _ (c .before .before .before .before .before .before .before .before .before .before .before .before .if1 .left))
+stepping-requires : tie.Need-stepping-requires
+stepping-requires c κs =
+    let a = c .before .before .before .before .before .before .before .before .before .before .before .before .before .before .before .before .before .before .args in
+    let m = buffers (now (a .sys)) (now (a .io)) in
+    let z = sym (c .before .before .before .before .before .before .entry-number .ensures) ∙ c .before .before .before .before .before .if2 .left in (
+      sym (c .before .before .before .before .before .before .before .before .before .before .before .before .before .is-state .ensures) ∙ not-false _ (c .before .before .before .before .before .before .before .before .before .before .before .before .if1 .left),
+      entry-agree (stateIn (now (a .state))) m (a .lines) (ap (λ (x : State). entryNumber x m (a .lines)) (sym (c .before .before .before .before .before .before .before .before .before .before .looked-at .ensures)) ∙ z),
+    )
 
 answered-requires : tie.Need-answered-requires
 unfolding chosenStep
@@ -56,7 +62,7 @@ answered-requires c κs =
     let s = c .before .before .before .before .before .before .before .before .before .before .before .before .before .before .before .before .before .before .before .looked-at in
     let t = c .before .before .before .before .before .channel-turn in
     let z = sym (c .before .before .before .before .before .before .before .before .before .before .before .before .before .before .before .entry-number .ensures) ∙ c .before .before .before .before .before .before .before .before .before .before .before .before .before .before .if2 .left in
-    let w = turn-steps (s .result) _ (s .ensures) m _ _ (c .before .before .before .before .before .before .before .before .channel .ensures) (t .result) _ (t .ensures .0) in (
+    let w = turn-steps (s .result) _ (s .ensures) m _ _ (c .before .before .before .before .before .before .before .before .stepping .ensures) (t .result) _ (t .ensures .0) in (
       sym (c .before .before .before .before .before .before .before .before .before .before .before .before .before .before .before .before .before .before .before .before .before .before .is-state .ensures) ∙ not-false _ (c .before .before .before .before .before .before .before .before .before .before .before .before .before .before .before .before .before .before .before .before .before .if1 .left),
       entry-agree (stateIn (now (a .state))) m (a .lines) (ap (λ (x : State). entryNumber x m (a .lines)) (sym (s .ensures)) ∙ z),
       turn-agrees (s .result) m (a .lines) _ (t .result) _ z (sym (c .before .before .before .before .before .before .before .before .before .before .before .before .before .choose .ensures) ∙ c .before .before .before .before .before .before .before .before .before .before .before .second2 .given .1) (w .0),
@@ -91,7 +97,7 @@ returns-5 c =
     let m = buffers (now (a .sys)) (now (a .io)) in
     let s = c .before .before .before .before .before .before .before .before .before .before .before .before .before .before .before .before .before .before .before .before .before .before .looked-at in
     let t = c .before .before .before .before .before .before .before .before .channel-turn in
-    let w = turn-steps (s .result) _ (s .ensures) m _ _ (c .before .before .before .before .before .before .before .before .before .before .before .channel .ensures) (t .result) _ (t .ensures .0) in
+    let w = turn-steps (s .result) _ (s .ensures) m _ _ (c .before .before .before .before .before .before .before .before .before .before .before .stepping .ensures) (t .result) _ (t .ensures .0) in
     let left = c .before .before .answered .ensures in
     turn-served (now (a .state)) m (sym (c .before .before .before .before .before .before .before .before .before .before .before .before .before .before .before .before .before .before .before .before .before .before .before .before .before .is-state .ensures) ∙ not-false _ (c .before .before .before .before .before .before .before .before .before .before .before .before .before .before .before .before .before .before .before .before .before .before .before .before .if1 .left)) (a .lines) (s .result) (s .ensures) _ _ (t .result) _
     (sym (c .before .before .before .before .before .before .before .before .before .before .before .before .before .before .before .before .before .before .entry-number .ensures) ∙ c .before .before .before .before .before .before .before .before .before .before .before .before .before .before .before .before .before .if2 .left) (sym (c .before .before .before .before .before .before .before .before .before .before .before .before .before .before .before .before .choose .ensures) ∙ c .before .before .before .before .before .before .before .before .before .before .before .before .before .before .second2 .given .1) (w .0) (t .ensures .1 ∙ ap (counted (t .result .number)) (w .1)) _ _ (left .0 _) (left .1 _)
@@ -99,4 +105,4 @@ returns-5 c =
 pub iop89-step-spec : {M : Type 1} → statement M
 iop89-step-spec =
     tie.close
-    (tie.spec (λ c κs. search needs) (λ c. search needs) returns looked-at-requires entry-number-requires (λ c κs. search needs) (λ c. search needs) (λ c. search needs) (λ c. search needs) returns-2 (λ c κs. search needs) (λ c. search needs) (λ c κs. search needs) (λ c. search needs) ended-requires (λ c. search needs) channel-requires (λ c κs. search needs) answered-requires (λ c. search needs) (λ c. search needs) (λ c. search needs) returns-3 (λ c. search needs) (λ c. search needs) (λ c. search needs) returns-4 (λ c. search needs) (λ c. search needs) (λ c. search needs) returns-5)
+    (tie.spec (λ c κs. search needs) (λ c. search needs) returns looked-at-requires entry-number-requires (λ c κs. search needs) (λ c. search needs) (λ c. search needs) (λ c. search needs) returns-2 (λ c κs. search needs) (λ c. search needs) (λ c κs. search needs) (λ c. search needs) ended-requires (λ c. search needs) stepping-requires (λ c κs. search needs) answered-requires (λ c. search needs) (λ c. search needs) (λ c. search needs) returns-3 (λ c. search needs) (λ c. search needs) (λ c. search needs) returns-4 (λ c. search needs) (λ c. search needs) (λ c. search needs) returns-5)
