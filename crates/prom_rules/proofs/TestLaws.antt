@@ -14,7 +14,7 @@ use Rattle.ground_rules.proofs.ChoiceLaws.{apart, both-left, both-right, or-fal
 use Rattle.ground_rules.proofs.ConditionLaws.{Told, picked, worded, told-and, told-eqb}
 use Rattle.ground_rules.specs.Choice.{pick}
 use Rattle.ground_rules.specs.Conditions.{Given, Exactly}
-use Rattle.prom_rules.specs.Conditions.{Hexadecimal, SomeOther, NoColon, NotRecord, WrongSum, Unfit, lineChecks}
+use Rattle.prom_rules.specs.Conditions.{Hexadecimal, SomeOther, NoColon, NotRecord, WrongSum, WrongType, Unfit, lineChecks}
 use Rattle.prom_rules.specs.Records.{within, hexValue, allHex, digitsOf, recordOf, hexSize, typeOf, sumOf, isRecord, sumsToZero, fitsType, lineRefusal}
 
 -- ---- 20
@@ -112,3 +112,9 @@ line-given line n = picked 20 (record-test line) (picked 21 (sum-test line) (pic
 -- in words: 20 of no record, 21 of one whose sum is wrong, 22 where only its type or length is, 0 of a good record
 pub line-exactly : (line : List ℕ) (n : ℕ) → (lineRefusal line ≡ n) ↔ Exactly (lineChecks line) n
 line-exactly line n = worded (lineChecks line) n (line-given line n)
+
+-- each of the three numbers in words of its own: a list of checks in another order, or with another condition, is refused here
+pub line-words : (line : List ℕ) → ((lineRefusal line ≡ 20) ↔ NotRecord line)
+    × ((lineRefusal line ≡ 21) ↔ (¬ (NotRecord line) × WrongSum line))
+    × ((lineRefusal line ≡ 22) ↔ (¬ (NotRecord line) × (¬ (WrongSum line) × WrongType line)))
+line-words line = (line-exactly line 20, line-exactly line 21, line-exactly line 22)

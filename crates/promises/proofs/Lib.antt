@@ -10,6 +10,7 @@ pub mod Table
 pub mod WitnessLaws
 pub mod CallWitness
 pub mod RunLaws
+pub mod InWords
 pub mod Demand1
 pub mod PointerLaws
 pub mod PointerWitness
