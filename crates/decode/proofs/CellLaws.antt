@@ -3,12 +3,12 @@
 use mathlib.Core.Path.{_≡_, refl, sym, ap, subst, _∙_}
 use mathlib.Core.Bool.{true}
 use mathlib.Core.List.{List, [], _∷_}
-use Prim.Native.Nat.{ℕ, zero, suc, _+_, _/_, _%_, _≤_, _<_}
+use Prim.Native.Nat.{ℕ, zero, suc, _+_, _*_, _/_, _%_, _^_, _≤_, _<_}
 use native.Mathlib.Nat.{add-zero, zero-add, add-suc, suc-add, le-of-suc-le-suc, not-suc-le-zero}
 use native.Mathlib.Omega.{arith}
 use borrow.Author.Tests.{ltb-true, eq-eqb}
 use lib.Arith.{lt-of-le-ne}
-use lib.Dec.{ltb}
+use lib.Dec.{eqb, ltb, leb}
 use lib.ListN.{length, getD}
 use Rattle.ground_rules.specs.Bits.{fieldOf, bitOf}
 use Rattle.ground_rules.specs.Choice.{pick}
@@ -19,7 +19,7 @@ use Rattle.instruction_rules.specs.declared.Shape.the-variants.{Nop, Sintr, Xfe
 use Rattle.instruction_rules.specs.declared.Decoded.the-variants.{Instruction, NoInstruction}
 use Rattle.instruction_rules.specs.Table.{SummaryRow, table}
 use Rattle.instruction_rules.specs.Reading.{lookup}
-use Rattle.instruction_rules.specs.Lengths.{longCode, pairLength}
+use Rattle.instruction_rules.specs.Lengths.{moreBy, twoBy, offsetBy, longCode, pairLength}
 use Rattle.instruction_rules.proofs.TableLaws.{Avoids, rowsAt, own-rows}
 use Rattle.decode.specs.Cells.{cells, cellOf, controlRows, formRows, cellRows, longCell, cellLength}
 
@@ -38,6 +38,11 @@ from f g i (x ∷ xs) e (suc k) h =
 
 pub at-each : {A : Type 0} (f g : ℕ → ℕ → A) (xs : List ℕ) → atPlaces f 0 xs ≡ atPlaces g 0 xs → (k : ℕ) → k < length xs → f k (getD xs k 0) ≡ g k (getD xs k 0)
 at-each f g xs e k h = subst (λ (m : ℕ). f m (getD xs k 0) ≡ g m (getD xs k 0)) (zero-add k) (from f g 0 xs e k h)
+
+-- the numbers below another, the highest first
+abbrev pub downFrom : ℕ → List ℕ
+downFrom zero = []
+downFrom (suc n) = n ∷ downFrom n
 
 -- the table held against the summary, all 64 opcodes at once
 whole : atPlaces (λ (k cell : ℕ). rowsAt k table) 0 cells ≡ atPlaces cellRows 0 cells
@@ -80,6 +85,22 @@ pub length-by-cell : (first second : ℕ) → pairLength (pairOf first second) �
 unfolding pairLength cellLength
 length-by-cell first second = rw (long-by-cell first second) (omega arith)
 
+-- a field of two bits
+pub two-bits : (x at : ℕ) → fieldOf x at 2 < 4
+unfolding fieldOf
+two-bits x at = omega arith
+
+-- what dd and AA announce, with the pair, by their digits in one number, held against the rule at all sixteen at once
+whole-announced : atPlaces (λ (k x : ℕ). 0x4454445433432232 / 2 ^ (4 * k) % 16) 0 (downFrom 16)
+    ≡ atPlaces (λ (k x : ℕ). 2 + offsetBy (k % 4) + (moreBy (eqb (k / 4) 1) + twoBy (leb 2 (k / 4)))) 0 (downFrom 16)
+whole-announced = refl
+
+pub announced-digit : (dd aa : ℕ) → dd < 4 → aa < 4 → 0x4454445433432232 / 2 ^ (4 * (4 * dd + aa)) % 16 ≡ 2 + offsetBy aa + (moreBy (eqb dd 1) + twoBy (leb 2 dd))
+announced-digit dd aa h k =
+    let low : (4 * dd + aa) % 4 ≡ aa = omega (arith, h, k) in
+    let high : (4 * dd + aa) / 4 ≡ dd = omega (arith, h, k) in
+    rw (low, high) at (at-each (λ (k x : ℕ). 0x4454445433432232 / 2 ^ (4 * k) % 16) (λ (k x : ℕ). 2 + offsetBy (k % 4) + (moreBy (eqb (k / 4) 1) + twoBy (leb 2 (k / 4)))) (downFrom 16) whole-announced (4 * dd + aa) (omega (arith, h, k)))
+
 -- a cell by its first digit
 pub by-form : (p : Pair) (cell n : ℕ) → cell / 16 ≡ n → lookup (cellRows (p .opcode) cell) p ≡ lookup (getD (formRows (p .opcode) (cell % 16)) n []) p
 unfolding cellRows
@@ -89,11 +110,6 @@ past : {A : Type 0} (xs : List A) (n : ℕ) (d : A) → length xs ≤ n → getD
 past [] n d h = refl
 past (x ∷ xs) zero d h = absurd (not-suc-le-zero h)
 past (x ∷ xs) (suc n) d h = past xs n d (le-of-suc-le-suc h)
-
--- the numbers below another, the highest first
-abbrev pub downFrom : ℕ → List ℕ
-downFrom zero = []
-downFrom (suc n) = n ∷ downFrom n
 
 -- a number that is none of those below another is not below it
 pub avoided : (n x : ℕ) → Avoids x (downFrom n) → n ≤ x

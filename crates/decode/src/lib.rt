@@ -11,11 +11,11 @@ use instruction_rules::Memory;
 use instruction_rules::Pair;
 use instruction_rules::Second;
 ghost use mathlib.Core.Path.{_≡_};
-ghost use Prim.Native.Nat.{_+_};
+ghost use Prim.Native.Nat.{_+_, _<_};
 ghost use lib.Dec.{eqb, leb};
 ghost use Rattle.instruction_rules.specs.Pairs.{pairOf};
 ghost use Rattle.instruction_rules.specs.Reading.{decodeOf, numberOf, secondOf, secondNumberOf};
-ghost use Rattle.instruction_rules.specs.Lengths.{moreBy, twoBy, offsetLength, pairLength};
+ghost use Rattle.instruction_rules.specs.Lengths.{moreBy, twoBy, offsetBy, offsetLength, pairLength};
 ghost use Rattle.decode.specs.Cells.{cellLength};
 
 // What the first two bytes of an instruction are, and its length; the table is read once.
@@ -92,18 +92,24 @@ pub fn offset_length(m: Memory) -> u32
     more(m.aa == 1)
 }
 
-// The bytes that dd announces: as many as it says, and two for TSL's 11.
-fn announced(dd: u32) -> u32
-    ensures { λ r. ⌜ r ≡ moreBy (eqb dd 1) + twoBy (leb 2 dd) ⌝ }
+// The bytes of a pair, of its offset byte and of what dd announces, which is as many as it says and two for TSL's 11: a
+// hexadecimal digit for each dd and AA, the lowest for 00 and 00.
+const ANNOUNCED: u64 = 0x4454_4454_3343_2232;
+
+// The bytes of a pair with that dd and AA and of what they announce.
+fn announced(dd: u32, aa: u32) -> u32
+    requires { ⌜ (dd < 4) × (aa < 4) ⌝ }
+    ensures { λ r. ⌜ r ≡ 2 + offsetBy aa + (moreBy (eqb dd 1) + twoBy (leb 2 dd)) ⌝ }
 {
-    if dd < 2 { dd } else { 2 }
+    ((ANNOUNCED >> (4 * (4 * dd + aa))) % 16) as u32
 }
 
 // The bytes of the instruction that a pair begins, by the cell of its opcode.
 fn cell_length(cell: u32, p: Pair) -> u32
+    requires { ⌜ (p .dd < 4) × (p .aa < 4) ⌝ }
     ensures { λ r. ⌜ r ≡ cellLength cell p ⌝ }
 {
-    2 + more(p.aa == 1) + announced(p.dd) + two_more(0xF0 <= cell)
+    announced(p.dd, p.aa) + two_more(0xF0 <= cell)
 }
 
 // The bytes of the instruction that a pair begins; for MOV M,M without the offset byte of its second pair.

@@ -1,3 +1,4 @@
+pub mod PieceLaws
 pub mod WindowLaws
 pub mod ControlWorks
 pub mod JumpWorks

@@ -1,7 +1,7 @@
 -- Bytes at a place as one number, the lowest first, and what instructions take from such a number.
-use Prim.Native.Nat.{ℕ, _+_, _*_, _%_}
-use lib.Dec.{eqb}
-use lib.ListN.{getD}
+use Prim.Native.Nat.{ℕ, _+_, _-_, _*_, _/_, _%_, _^_}
+use lib.Dec.{eqb, ltb}
+use lib.ListN.{length, getD}
 use mathlib.Core.Bool.{Bool}
 use mathlib.Core.List.{List}
 use Rattle.ground_rules.specs.Buffers.{Buffers, byteAt}
@@ -15,6 +15,14 @@ fourFrom xs at = getD xs at 0 + getD xs (at + 1) 0 * 256 + getD xs (at + 2) 0 * 
 
 unfoldable pub eightFrom : List ℕ → ℕ → ℕ
 eightFrom xs at = fourFrom xs at + fourFrom xs (at + 4) * 4294967296
+
+-- how many bytes of a buffer addresses reach, `most` at the most
+unfoldable pub reachable : List ℕ → ℕ → ℕ
+reachable xs most = pick (ltb (length xs) most) (length xs) most
+
+-- eight digits: those of a number without its lowest `by`, and above them the lowest of another
+unfoldable pub overBy : ℕ → ℕ → ℕ → ℕ
+overBy low high by = low / 2 ^ (8 * by) + high * 2 ^ (64 - 8 * by) % 18446744073709551616
 
 -- four bytes at a place, and eight
 unfoldable pub fourAt : Buffers → Bool → ℕ → ℕ

@@ -1,12 +1,25 @@
-// The bytes at a place as one number, the lowest first: in one piece where they are lent and do not wrap, else byte by byte.
+// The bytes at a place as one number, the lowest first: in one piece where they are lent and do not wrap, in two where they
+// go over the end of a buffer, else byte by byte.
 use crate::Window;
 ghost use mathlib.Core.Bool.{true};
 ghost use mathlib.Core.Path.{_≡_};
-ghost use Prim.Native.Nat.{ℕ, _+_, _≤_};
+ghost use Prim.Native.Nat.{ℕ, _+_, _-_, _<_, _≤_};
 ghost use lib.ListN.{length};
 ghost use Rattle.ground_rules.specs.Buffers.{lent, AllBytes};
 ghost use Rattle.ground_rules.specs.Places.{span, allTouchable};
-ghost use Rattle.execute.specs.Bytes.{fourFrom, eightFrom, fourAt, eightAt};
+ghost use Rattle.execute.specs.Bytes.{reachable, overBy, fourFrom, eightFrom, fourAt, eightAt};
+
+// How many bytes of a buffer addresses reach, `most` at the most. It does not hang on a place, so that a place is tested by
+// one comparison.
+fn within(space: &[u8], most: usize) -> usize
+    ensures { λ r. ⌜ r ≡ reachable (now (space .entry)) most ⌝ }
+{
+    if space.len() < most {
+        space.len()
+    } else {
+        most
+    }
+}
 
 // Four bytes of a buffer.
 fn four_of(space: &[u8], at: usize) -> u32
@@ -43,16 +56,57 @@ pub fn four(tag: bool, address: u32, sys: &[u8], io: &[u8]) -> u32
 {
     if tag {
         let at = (address % 65536) as usize;
-        if (at <= 65532) & (at + 4 <= io.len()) {
+        if at + 4 <= within(io, 65536) {
             return four_of(io, at);
         }
     } else {
         let at = (address % 1048576) as usize;
-        if (at <= 1048572) & (at + 4 <= sys.len()) {
+        if at + 4 <= within(sys, 1048576) {
             return four_of(sys, at);
         }
     }
     four_singly(tag, address, sys, io)
+}
+
+// The last bytes of a buffer from `at` to `end`, and behind them the first ones of `high`, eight in all.
+fn over(space: &[u8], at: usize, end: usize, high: u64) -> u64
+    requires { ⌜ (8 ≤ end) × (end ≤ length (now space)) × (at < end) × (end < at + 8) ⌝ }
+    ensures { λ r. ⌜ r ≡ overBy (eightFrom (now (space .entry)) (end - 8)) high (at + 8 - end) ⌝ }
+{
+    let by = (8 * (at + 8 - end)) as u32;
+    (eight_of(space, end - 8) >> by) + (high << (64 - by))
+}
+
+// The eight bytes at a place that are not in one piece.
+fn eight_apart(tag: bool, address: u32, sys: &[u8], io: &[u8]) -> u64
+    ensures { λ r. ⌜ r ≡ eightAt (lent (sys .entry) (io .entry)) tag address ⌝ }
+{
+    if tag {
+        let at = (address % 65536) as usize;
+        let end = within(io, 65536);
+        if (8 <= end) & (at < end) & (end < at + 8) {
+            if at + 8 <= 65536 {
+                return over(io, at, end, 18446744073709551615);
+            }
+            if 65536 <= io.len() {
+                return over(io, at, end, eight_of(io, 0));
+            }
+        }
+    } else {
+        let at = (address % 1048576) as usize;
+        let end = within(sys, 1048576);
+        if (8 <= end) & (at < end) & (end < at + 8) {
+            if at + 8 <= 1048576 {
+                return over(sys, at, end, 0);
+            }
+            if 1048576 <= sys.len() {
+                return over(sys, at, end, eight_of(sys, 0));
+            }
+        }
+    }
+    let low = four_singly(tag, address, sys, io) as u64;
+    let high = four_singly(tag, words::sum20(address, 4), sys, io) as u64;
+    low + high * 4294967296
 }
 
 // The eight bytes at a place.
@@ -63,7 +117,7 @@ pub fn eight(tag: bool, address: u32, sys: &[u8], io: &[u8]) -> Window
 {
     if tag {
         let at = (address % 65536) as usize;
-        if (at <= 65528) & (at + 8 <= io.len()) {
+        if at + 8 <= within(io, 65536) {
             return Window {
                 bytes: eight_of(io, at),
                 near: true,
@@ -71,17 +125,15 @@ pub fn eight(tag: bool, address: u32, sys: &[u8], io: &[u8]) -> Window
         }
     } else {
         let at = (address % 1048576) as usize;
-        if (at <= 1048568) & (at + 8 <= sys.len()) {
+        if at + 8 <= within(sys, 1048576) {
             return Window {
                 bytes: eight_of(sys, at),
                 near: true,
             };
         }
     }
-    let low = four_singly(tag, address, sys, io) as u64;
-    let high = four_singly(tag, words::sum20(address, 4), sys, io) as u64;
     Window {
-        bytes: low + high * 4294967296,
+        bytes: eight_apart(tag, address, sys, io),
         near: false,
     }
 }

@@ -3,8 +3,10 @@
 use ground_rules::Pointer;
 ghost use mathlib.Core.Path.{_≡_};
 ghost use Prim.Native.Nat.{_+_};
-ghost use lib.ListN.{getD, set};
+ghost use lib.Dec.{leb};
+ghost use lib.ListN.{length, getD, set};
 ghost use Rattle.ground_rules.specs.Buffers.{lent, indexOf, lentAt, touchableAt, byteAt, storeByte, withinLimits};
+ghost use Rattle.ground_rules.specs.Choice.{pick};
 ghost use Rattle.ground_rules.specs.Values as Values;
 ghost use Rattle.ground_rules.specs.Values.{wordAt, doublewordAt, pointerAt, storeWord, storeDoubleword, storePointer};
 ghost use Rattle.ground_rules.specs.Places.{span, allLent, allTouchable};
@@ -61,6 +63,18 @@ pub fn lent(sys: &[u8], io: &[u8], tag: bool, address: u32) -> bool
     if tag { at < io.len() } else { at < sys.len() }
 }
 
+// Where a row of bytes may end that is lent: at the end of its buffer, or anywhere if the buffer has `most` bytes, since
+// addresses wrap there. It does not hang on the row, so that many rows are tested by one comparison each.
+fn reach(space: &[u8], most: usize) -> usize
+    ensures { λ r. ⌜ r ≡ pick (leb most (length (now (space .entry)))) 1099511627776 (length (now (space .entry))) ⌝ }
+{
+    if most <= space.len() {
+        1099511627776
+    } else {
+        space.len()
+    }
+}
+
 // Whether `count` bytes in a row are lent, wherever the addresses wrap.
 pub fn span_lent(sys: &[u8], io: &[u8], tag: bool, address: u32, count: u32) -> bool
     ensures { λ r. ⌜ r ≡ allLent (lent (sys .entry) (io .entry)) (span tag address count) ⌝ }
@@ -70,9 +84,9 @@ pub fn span_lent(sys: &[u8], io: &[u8], tag: bool, address: u32, count: u32) -> 
     }
     let end = index(tag, address) + count as usize;
     if tag {
-        (end <= io.len()) | (65536 <= io.len())
+        end <= reach(io, 65536)
     } else {
-        (end <= sys.len()) | (1048576 <= sys.len())
+        end <= reach(sys, 1048576)
     }
 }
 

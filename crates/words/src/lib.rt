@@ -95,26 +95,19 @@ pub fn count_down(count: u16, by: u16) -> u16
     std::num::wrapping_sub_u16(count, by)
 }
 
-// A byte, sign-extended to 20 bits.
+// A byte, sign-extended to 20 bits: its halves change places, and 128 is taken off. So written it is one instruction, which
+// it is not by cases.
 pub fn extend_byte(x: u8) -> u32
     ensures { λ r. ⌜ r ≡ extended 8 x ⌝ }
 {
-    if x < 128 {
-        x as u32
-    } else {
-        x as u32 + 1048320
-    }
+    std::num::wrapping_add_u32((x as u32 + 128) % 256, 4294967168) % 1048576
 }
 
-// A word, sign-extended to 20 bits.
+// A word, sign-extended to 20 bits in the same way.
 pub fn extend_word(x: u16) -> u32
     ensures { λ r. ⌜ r ≡ extended 16 x ⌝ }
 {
-    if x < 32768 {
-        x as u32
-    } else {
-        x as u32 + 983040
-    }
+    std::num::wrapping_add_u32((x as u32 + 32768) % 65536, 4294934528) % 1048576
 }
 
 // The signed displacement of one byte.

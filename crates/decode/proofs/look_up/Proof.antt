@@ -7,9 +7,13 @@ use Rattle.instruction_rules.specs.Pairs.{pairOf}
 use Rattle.instruction_rules.specs.declared.Decoded.{Decoded}
 use Rattle.instruction_rules.specs.Reading.{decodeOf}
 use Rattle.instruction_rules.specs.Lengths.{pairLength}
-use Rattle.decode.proofs.CellLaws.{by-cell, length-by-cell}
+use Rattle.decode.proofs.CellLaws.{by-cell, two-bits, length-by-cell}
 use Rattle.decode.proofs.look_up.Statement.{statement}
 use Rattle.decode.proofs.look_up.Tie as tie
+
+cell-length-requires : tie.Need-cell-length-requires
+unfolding pairOf
+cell-length-requires c κs = rw (c .before .split .ensures) (two-bits (c .before .before .before .args .first) 3, two-bits (c .before .before .before .args .first) 1)
 
 returns : tie.Need-returns
 unfolding decodeOf
@@ -22,4 +26,4 @@ returns c =
 
 pub look-up-spec : {M : Type 1} → statement M
 look-up-spec =
-    tie.close (tie.spec (λ c κs. search needs) (λ c κs. search needs) (λ c κs. search needs) (λ c κs. search needs) returns)
+    tie.close (tie.spec (λ c κs. search needs) (λ c κs. search needs) (λ c κs. search needs) cell-length-requires returns)
