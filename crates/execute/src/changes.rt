@@ -16,13 +16,11 @@ pub fn stored_value(address: u32, tag: bool) -> u32
     low + middle * 256 + high * 65536
 }
 
-// The lowest `count` bytes of a value, at most three, stored at a place.
+// The lowest `count` bytes of a value, one at least and at most three, stored at a place.
 fn store(count: u32, tag: bool, address: u32, v: u32, sys: &mut [u8], io: &mut [u8])
+    requires { ⌜ (count ≡ 0 → ⊥) ⌝ }
     ensures { λ r. ⌜ lent (sys .exit) (io .exit) ≡ changed (lent (sys .entry) (io .entry)) (change count (pointer address tag) v) ⌝ }
 {
-    if count == 0 {
-        return;
-    }
     memory::store_byte(sys, io, tag, address, (v % 256) as u8);
     if count == 1 {
         return;
@@ -46,11 +44,15 @@ fn store(count: u32, tag: bool, address: u32, v: u32, sys: &mut [u8], io: &mut [
     );
 }
 
-// The same where all its places may be touched, else nothing; and whether they may.
+// The lowest `count` bytes of a value, at most three, stored at a place where each may be touched, else nothing; and whether
+// they may. Most instructions store nothing, so that is asked first.
 pub fn made(count: u32, tag: bool, address: u32, v: u32, sys: &mut [u8], io: &mut [u8]) -> bool
     ensures told { λ r. ⌜ r ≡ allTouchable (lent (sys .entry) (io .entry)) (placesOf (change count (pointer address tag) v)) ⌝ }
     ensures stored { λ r. ⌜ lent (sys .exit) (io .exit) ≡ pick r (changed (lent (sys .entry) (io .entry)) (change count (pointer address tag) v)) (lent (sys .entry) (io .entry)) ⌝ }
 {
+    if count == 0 {
+        return true;
+    }
     if !memory::span_touchable(sys, io, tag, address, count) {
         return false;
     }

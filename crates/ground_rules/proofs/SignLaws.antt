@@ -17,28 +17,34 @@ use native.Mathlib.Omega.{arith}
 use Rattle.ground_rules.specs.Choice.{pick}
 use Rattle.ground_rules.specs.Signs.{signedOf, extended, displacedBy}
 
--- x less n + 1, where that is below zero
+-- x less n + 1, below zero and above
 negative : (x n : ℕ) → x ≤ n → pos x +ℤ negsuc n ≡ negsuc (n - x)
 negative x n h = simp (lt-ltb x (suc n) (omega arith)) (ap negsuc (omega arith))
 
--- the lower half of the numbers of k bits stand for themselves
-pub low-is : (k x : ℕ) → x < 2 ^ (k - 1) → k ≤ 32 → toZ w32 x ≡ signedOf k x
-unfolding signedOf
-low-is k x h hk = simp (lt-ltb x (2 ^ (k - 1)) h) (toZ-pos w32 (lt-of-lt-of-le h (pow-mono {j = 31} (omega arith))))
+positive : (x n : ℕ) → suc n ≤ x → pos x +ℤ negsuc n ≡ pos (x - suc n)
+positive x n h = simp (le-ltb x (suc n) h)
 
--- the upper half, less 2 ^ k, is in an i32's range
-pub high-fits : (x n : ℕ) → x ≤ n → n < 2 ^ 31 → SFits w32 (toZ w32 x +ℤ negsuc n)
-high-fits x n h hn =
-    let small : x < 2 ^ 31 = omega arith in
-    rw (toZ-pos w32 small, negative x n h) (record { sfits = omega arith })
+-- numbers of 16 bits have a difference in an i32's range
+pub less-fits : (x n : ℕ) → x < 65536 → n < 65536 → SFits w32 (toZ w32 x +ℤ negsuc n)
+less-fits x n hx hn = let small : x < 2 ^ 31 = omega (arith, hx) in rw (toZ-pos w32 small) (by (decLt x (suc n)))
+  where
+    by : Dec (x < suc n) → SFits w32 (pos x +ℤ negsuc n)
+    by (yes h) = rw (negative x n (omega (arith, h))) (record { sfits = omega arith })
+    by (no h) = rw (positive x n (omega (arith, h))) (record { sfits = omega arith })
 
--- the upper half of the numbers of k bits stands for itself less 2 ^ k
-pub high-is : (k x n : ℕ) → suc n ≡ 2 ^ k → 2 ^ (k - 1) ≤ x → x ≤ n → n < 2 ^ 31 → toZ w32 (ofZ w32 (toZ w32 x +ℤ negsuc n)) ≡ signedOf k x
+-- the numbers of k bits, their halves exchanged, less 2 ^ (k - 1), are what they stand for
+pub halves-less : (k x y n : ℕ) → suc n ≡ 2 ^ (k - 1) → 2 ^ k ≡ 2 ^ (k - 1) * 2 → x < 2 ^ k → y < 65536 → n < 65536
+    → (x < 2 ^ (k - 1) → y ≡ x + 2 ^ (k - 1)) → (2 ^ (k - 1) ≤ x → y + 2 ^ (k - 1) ≡ x) → toZ w32 (ofZ w32 (toZ w32 y +ℤ negsuc n)) ≡ signedOf k x
 unfolding signedOf
-high-is k x n top h hx hn =
-    let small : x < 2 ^ 31 = omega arith in
-    toZ-ofZ (high-fits x n hx hn)
-    ∙ rw (toZ-pos w32 small, negative x n hx, le-ltb x (2 ^ (k - 1)) h) (ap negsuc (omega (arith, top)))
+halves-less k x y n half double hx hy hn low high =
+    let small : y < 2 ^ 31 = omega (arith, hy) in
+    toZ-ofZ (less-fits y n hy hn) ∙ rw (toZ-pos w32 small) (by (decLt x (2 ^ (k - 1))))
+  where
+    by : Dec (x < 2 ^ (k - 1)) → pos y +ℤ negsuc n ≡ pick (ltb x (2 ^ (k - 1))) (pos x) (negsuc (2 ^ k - 1 - x))
+    by (yes h) = rw (lt-ltb x (2 ^ (k - 1)) h, positive y n (omega (arith, low h, half))) (ap pos (omega (arith, low h, half)))
+    by (no h) =
+        let most : 2 ^ (k - 1) ≤ x = omega (arith, h) in
+        rw (le-ltb x (2 ^ (k - 1)) most, negative y n (omega (arith, high most, half, double, hx))) (ap negsuc (omega (arith, high most, half, double, hx)))
 
 -- what k bits stand for fits an i32
 pub signed-fits : (k x : ℕ) → k ≤ 31 → x < 2 ^ k → SFits w32 (signedOf k x)

@@ -151,7 +151,7 @@ pub fn put_one(tag: bool, address: u32, v: u8, sys: &mut [u8], io: &mut [u8]) ->
 }
 
 // Two bytes stored where a call may touch both places, else nothing; and whether it may. The space is asked for once.
-fn put_two(tag: bool, address: u32, next: u32, d: Data, sys: &mut [u8], io: &mut [u8]) -> bool
+pub fn put_two(tag: bool, address: u32, next: u32, d: Data, sys: &mut [u8], io: &mut [u8]) -> bool
     ensures { λ r. ⌜ (r ≡ touchableAt (lent (sys .entry) (io .entry)) tag address && touchableAt (lent (sys .entry) (io .entry)) tag next) × (lent (sys .exit) (io .exit) ≡ pick r (storeByte (storeByte (lent (sys .entry) (io .entry)) tag address (d .first)) tag next (d .second)) (lent (sys .entry) (io .entry))) ⌝ }
 {
     if tag {

@@ -110,22 +110,18 @@ pub fn extend_word(x: u16) -> u32
     std::num::wrapping_add_u32((x as u32 + 32768) % 65536, 4294934528) % 1048576
 }
 
-// The signed displacement of one byte.
+// The signed displacement of one byte, its halves changing places too.
 pub fn displacement_byte(x: u8) -> i32
     ensures { λ r. ⌜ r ≡ signedOf 8 x ⌝ }
 {
-    if x < 128 { x as i32 } else { x as i32 - 256 }
+    ((x as u32 + 128) % 256) as i32 - 128
 }
 
 // The signed displacement of two bytes.
 pub fn displacement_word(x: u16) -> i32
     ensures { λ r. ⌜ r ≡ signedOf 16 x ⌝ }
 {
-    if x < 32768 {
-        x as i32
-    } else {
-        x as i32 - 65536
-    }
+    ((x as u32 + 32768) % 65536) as i32 - 32768
 }
 
 // A pointer moved by a signed displacement.

@@ -1,22 +1,18 @@
 -- `words::displacement_word` meets its contract, by the laws of a signed number at 16 bits.
 -- Assumes nothing.
+use Prim.Native.Nat.{_+_, _%_}
 use borrow.Author.Needs.{needs}
 use mathlib.Core.Path.{refl}
 use native.Mathlib.Omega.{arith}
-use lib.Dec.{lit<, lit≤}
-use Rattle.ground_rules.proofs.SignLaws.{low-is, high-is, high-fits}
+use Rattle.ground_rules.proofs.SignLaws.{less-fits, halves-less}
 use Rattle.words.proofs.displacement_word.Statement.{statement}
 use Rattle.words.proofs.displacement_word.Tie as tie
 
 sub-result : tie.Need-sub-result
-sub-result c = high-fits (c .before .args .x) 65535 (omega arith) (lit< tt)
+sub-result c = less-fits ((c .args .x + 32768) % 65536) 32767 (omega arith) (omega arith)
 
 returns : tie.Need-returns
-returns c = low-is 16 (c .before .args .x) (c .if1 .taken) (lit≤ tt)
-
-returns-2 : tie.Need-returns-2
-returns-2 c = high-is 16 (c .before .args .x) 65535 refl (c .if1 .left) (omega arith) (lit< tt)
+returns c = halves-less 16 (c .args .x) ((c .args .x + 32768) % 65536) 32767 refl refl (omega arith) (omega arith) (omega arith) (λ low. omega (arith, low)) (λ high. omega (arith, high))
 
 pub displacement-word-spec : {M : Type 1} → statement M
-displacement-word-spec =
-    tie.close (tie.spec (λ c. search needs) (λ c. search needs) sub-result returns returns-2)
+displacement-word-spec = tie.close (tie.spec (λ c. search needs) (λ c. search needs) sub-result returns)

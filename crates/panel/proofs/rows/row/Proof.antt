@@ -11,7 +11,7 @@ use Rattle.ground_rules.specs.Buffers.{Buffers, buffers}
 use Rattle.ground_rules.specs.Psw.{transferring}
 use Rattle.ground_rules.specs.declared.Channel.{Channel}
 use Rattle.panel.specs.Bursts.{BurstLeft, burstFrom, moves, transfersOn, keptAt, isHeld, heldByte, carriedAs}
-use Rattle.panel.specs.declared.rows.Hops.{Hops}
+use Rattle.panel.specs.declared.quiet.Hops.{Hops}
 use Rattle.panel.proofs.BurstLaws.{burst-limit}
 use Rattle.panel.proofs.RowLaws.{carried-kept, carried-psw, row-stops, row-ends, row-goes}
 use Rattle.panel.proofs.rows.row.Statement.{statement}
@@ -37,17 +37,17 @@ Inv-loop c sys₀ io₀ from stop p₀ done₀ sys io p done =
 abbrev μ-loop : tie.MeasureT-loop
 μ-loop c sys₀ io₀ from stop p₀ done₀ sys io p done = stop - done
 
-quick-requires : tie.Need-quick-requires Inv-loop μ-loop
-quick-requires c κs = (c .before .before .before .before .pre .0, refl, c .before .before .before .before .pre .1)
+quiet-requires : tie.Need-quiet-requires Inv-loop μ-loop
+quiet-requires c κs = (c .before .before .before .before .pre .0, refl, c .before .before .before .before .pre .1)
 
 loop-holds : tie.Need-loop-holds Inv-loop μ-loop
-loop-holds c = (c .before .before .before .before .before .before .quick .ensures .0, refl, refl, refl)
+loop-holds c = (c .before .before .before .before .before .before .quiet .ensures .0, refl, refl, refl)
 
 same-length : tie.Need-same-length Inv-loop μ-loop
-same-length c = c .before .before .before .before .before .before .before .comes-to .kept .1 .0 ∙ c .before .before .before .before .before .before .before .before .before .before .before .before .loop .inv .1 ∙ c .before .before .before .before .before .before .before .before .before .before .before .before .before .before .before .before .before .before .before .quick .kept .1 .1 .0
+same-length c = c .before .before .before .before .before .before .before .comes-to .kept .1 .0 ∙ c .before .before .before .before .before .before .before .before .before .before .before .before .loop .inv .1 ∙ c .before .before .before .before .before .before .before .before .before .before .before .before .before .before .before .before .before .before .before .quiet .kept .1 .1 .0
 
 same-length-2 : tie.Need-same-length-2 Inv-loop μ-loop
-same-length-2 c = c .before .before .before .before .before .before .before .comes-to .kept .1 .1 .0 ∙ c .before .before .before .before .before .before .before .before .before .before .before .before .loop .inv .2 ∙ c .before .before .before .before .before .before .before .before .before .before .before .before .before .before .before .before .before .before .before .quick .kept .1 .1 .1 .0
+same-length-2 c = c .before .before .before .before .before .before .before .comes-to .kept .1 .1 .0 ∙ c .before .before .before .before .before .before .before .before .before .before .before .before .loop .inv .2 ∙ c .before .before .before .before .before .before .before .before .before .before .before .before .before .before .before .before .before .before .before .quiet .kept .1 .1 .1 .0
 
 returns : tie.Need-returns Inv-loop μ-loop
 returns c =
@@ -56,16 +56,16 @@ returns c =
     rw (c .stood2 .ensures)
     (row-stops (carriedAs (a .c) (l .p)) (c .before .before .before .before .before .before .before .before .before .before .stood .result) (c .before .before .before .before .before .before .before .comes-to .result) (buffers (l .sys) (l .io)) _ (c .before .before .before .before .before .before .before .before .before .before .stood .ensures) (c .before .before .before .before .before .before .before .comes-to .ensures .0) (l .done) (a .stop - l .done) (omega (arith, c .before .before .before .before .before .before .before .before .before .before .before .loop-test .taken)) (c .before .if1 .taken)
     ∙ l .inv .3
-    ∙ start (a .c) (c .before .before .before .before .before .before .before .before .before .before .before .before .before .before .before .before .before .before .before .quick .result) _ _ (c .before .before .before .before .before .before .before .before .before .before .before .before .before .before .is-held .result) (c .before .before .before .before .before .before .before .before .before .before .before .before .before .held-byte .result) (a .from) (a .stop) (c .before .before .before .before .before .before .before .before .before .before .before .before .before .before .is-held .ensures) (c .before .before .before .before .before .before .before .before .before .before .before .before .before .held-byte .ensures) (c .before .before .before .before .before .before .before .before .before .before .before .before .before .before .before .before .before .before .before .quick .ensures .1))
+    ∙ start (a .c) (c .before .before .before .before .before .before .before .before .before .before .before .before .before .before .before .before .before .before .before .quiet .result) _ _ (c .before .before .before .before .before .before .before .before .before .before .before .before .before .before .is-held .result) (c .before .before .before .before .before .before .before .before .before .before .before .before .before .held-byte .result) (a .from) (a .stop) (c .before .before .before .before .before .before .before .before .before .before .before .before .before .before .is-held .ensures) (c .before .before .before .before .before .before .before .before .before .before .before .before .before .held-byte .ensures) (c .before .before .before .before .before .before .before .before .before .before .before .before .before .before .before .before .before .before .before .quiet .ensures .1))
 
 add-done : tie.Need-add-done Inv-loop μ-loop
 add-done c = omega (arith, c .before .before .before .before .before .before .before .before .before .before .before .loop-test .taken, c .before .before .before .before .before .before .before .before .before .before .before .before .before .before .before .before .before .before .before .before .before .before .before .before .fits .stop .fits)
 
 same-length-3 : tie.Need-same-length-3 Inv-loop μ-loop
-same-length-3 c = c .before .before .before .before .before .before .before .before .before .before .before .comes-to .kept .1 .0 ∙ c .before .before .before .before .before .before .before .before .before .before .before .before .before .before .before .before .loop .inv .1 ∙ c .before .before .before .before .before .before .before .before .before .before .before .before .before .before .before .before .before .before .before .before .before .before .before .quick .kept .1 .1 .0
+same-length-3 c = c .before .before .before .before .before .before .before .before .before .before .before .comes-to .kept .1 .0 ∙ c .before .before .before .before .before .before .before .before .before .before .before .before .before .before .before .before .loop .inv .1 ∙ c .before .before .before .before .before .before .before .before .before .before .before .before .before .before .before .before .before .before .before .before .before .before .before .quiet .kept .1 .1 .0
 
 same-length-4 : tie.Need-same-length-4 Inv-loop μ-loop
-same-length-4 c = c .before .before .before .before .before .before .before .before .before .before .before .comes-to .kept .1 .1 .0 ∙ c .before .before .before .before .before .before .before .before .before .before .before .before .before .before .before .before .loop .inv .2 ∙ c .before .before .before .before .before .before .before .before .before .before .before .before .before .before .before .before .before .before .before .before .before .before .before .quick .kept .1 .1 .1 .0
+same-length-4 c = c .before .before .before .before .before .before .before .before .before .before .before .comes-to .kept .1 .1 .0 ∙ c .before .before .before .before .before .before .before .before .before .before .before .before .before .before .before .before .loop .inv .2 ∙ c .before .before .before .before .before .before .before .before .before .before .before .before .before .before .before .before .before .before .before .before .before .before .before .quiet .kept .1 .1 .1 .0
 
 returns-2 : tie.Need-returns-2 Inv-loop μ-loop
 returns-2 c =
@@ -74,7 +74,7 @@ returns-2 c =
     rw (c .ended .ensures)
     (row-ends (carriedAs (a .c) (l .p)) (c .before .before .before .before .before .before .before .before .before .before .before .before .before .before .stood .result) (c .before .before .before .before .before .before .before .before .before .before .before .comes-to .result) (buffers (l .sys) (l .io)) _ (c .before .before .before .before .before .before .before .before .before .before .before .before .before .before .stood .ensures) (c .before .before .before .before .before .before .before .before .before .before .before .comes-to .ensures .0) (l .done) (a .stop - l .done) (omega (arith, c .before .before .before .before .before .before .before .before .before .before .before .before .before .before .before .loop-test .taken)) (c .before .before .before .before .before .if1 .left) (sym (c .before .before .before .ends .ensures) ∙ c .before .before .if2 .taken) (c .before .stood3 .result) (c .before .stood3 .ensures ∙ c .before .before .before .before .next .ensures)
     ∙ l .inv .3
-    ∙ start (a .c) (c .before .before .before .before .before .before .before .before .before .before .before .before .before .before .before .before .before .before .before .before .before .before .before .quick .result) _ _ (c .before .before .before .before .before .before .before .before .before .before .before .before .before .before .before .before .before .before .is-held .result) (c .before .before .before .before .before .before .before .before .before .before .before .before .before .before .before .before .before .held-byte .result) (a .from) (a .stop) (c .before .before .before .before .before .before .before .before .before .before .before .before .before .before .before .before .before .before .is-held .ensures) (c .before .before .before .before .before .before .before .before .before .before .before .before .before .before .before .before .before .held-byte .ensures) (c .before .before .before .before .before .before .before .before .before .before .before .before .before .before .before .before .before .before .before .before .before .before .before .quick .ensures .1))
+    ∙ start (a .c) (c .before .before .before .before .before .before .before .before .before .before .before .before .before .before .before .before .before .before .before .before .before .before .before .quiet .result) _ _ (c .before .before .before .before .before .before .before .before .before .before .before .before .before .before .before .before .before .before .is-held .result) (c .before .before .before .before .before .before .before .before .before .before .before .before .before .before .before .before .before .held-byte .result) (a .from) (a .stop) (c .before .before .before .before .before .before .before .before .before .before .before .before .before .before .before .before .before .before .is-held .ensures) (c .before .before .before .before .before .before .before .before .before .before .before .before .before .before .before .before .before .held-byte .ensures) (c .before .before .before .before .before .before .before .before .before .before .before .before .before .before .before .before .before .before .before .before .before .before .before .quiet .ensures .1))
 
 loop-less : tie.Need-loop-less Inv-loop μ-loop
 loop-less c = omega (arith, c .before .before .before .before .before .before .before .before .before .before .before .before .before .loop-test .taken)
@@ -93,10 +93,10 @@ loop-again c =
     )
 
 same-length-5 : tie.Need-same-length-5 Inv-loop μ-loop
-same-length-5 c = c .before .before .loop .inv .1 ∙ c .before .before .before .before .before .before .before .before .before .quick .kept .1 .1 .0
+same-length-5 c = c .before .before .loop .inv .1 ∙ c .before .before .before .before .before .before .before .before .before .quiet .kept .1 .1 .0
 
 same-length-6 : tie.Need-same-length-6 Inv-loop μ-loop
-same-length-6 c = c .before .before .loop .inv .2 ∙ c .before .before .before .before .before .before .before .before .before .quick .kept .1 .1 .1 .0
+same-length-6 c = c .before .before .loop .inv .2 ∙ c .before .before .before .before .before .before .before .before .before .quiet .kept .1 .1 .1 .0
 
 returns-3 : tie.Need-returns-3 Inv-loop μ-loop
 returns-3 c =
@@ -105,10 +105,10 @@ returns-3 c =
     rw (c .stood4 .ensures)
     (sym (burst-limit moves transfersOn (carriedAs (a .c) (l .p)) (buffers (l .sys) (l .io)) (l .done) (a .stop - l .done) (omega (arith, c .before .loop-test .left)))
     ∙ l .inv .3
-    ∙ start (a .c) (c .before .before .before .before .before .before .before .before .before .quick .result) _ _ (c .before .before .before .before .is-held .result) (c .before .before .before .held-byte .result) (a .from) (a .stop) (c .before .before .before .before .is-held .ensures) (c .before .before .before .held-byte .ensures) (c .before .before .before .before .before .before .before .before .before .quick .ensures .1))
+    ∙ start (a .c) (c .before .before .before .before .before .before .before .before .before .quiet .result) _ _ (c .before .before .before .before .is-held .result) (c .before .before .before .held-byte .result) (a .from) (a .stop) (c .before .before .before .before .is-held .ensures) (c .before .before .before .held-byte .ensures) (c .before .before .before .before .before .before .before .before .before .quiet .ensures .1))
 
 pub row-spec : {M : Type 1} → statement M
 row-spec =
     tie.close
-    (tie.spec Inv-loop μ-loop quick-requires (λ c κs. search needs) (λ c κs. search needs) loop-holds (λ c κs. search needs) (λ c κs. search needs) (λ c κs. search needs) same-length same-length-2 returns (λ c κs. search needs) add-done (λ c κs. search needs) (λ c κs. search needs) (λ c κs. search needs) same-length-3 same-length-4
+    (tie.spec Inv-loop μ-loop quiet-requires (λ c κs. search needs) (λ c κs. search needs) loop-holds (λ c κs. search needs) (λ c κs. search needs) (λ c κs. search needs) same-length same-length-2 returns (λ c κs. search needs) add-done (λ c κs. search needs) (λ c κs. search needs) (λ c κs. search needs) same-length-3 same-length-4
     returns-2 loop-less loop-again (λ c κs. search needs) same-length-5 same-length-6 returns-3)

@@ -1,10 +1,10 @@
--- `panel::rows::through` meets its contract.
+-- `panel::quiet::through` meets its contract.
 -- Assumes nothing.
 use borrow.Author.Needs.{needs}
 use borrow.Author.Tests.{not-true, not-false}
-use Rattle.panel.proofs.RowLaws.{through-plain, through-beyond, through-entry}
-use Rattle.panel.proofs.rows.through.Statement.{statement}
-use Rattle.panel.proofs.rows.through.Tie as tie
+use Rattle.panel.proofs.QuietLaws.{through-plain, through-beyond, through-entry}
+use Rattle.panel.proofs.quiet.through.Statement.{statement}
+use Rattle.panel.proofs.quiet.through.Tie as tie
 
 returns : tie.Need-returns
 returns c = let a = c .before .before .before .before .before .before .before .args in

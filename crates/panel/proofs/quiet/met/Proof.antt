@@ -1,10 +1,10 @@
--- `panel::rows::met` meets its contract.
+-- `panel::quiet::met` meets its contract.
 -- Assumes nothing.
 use borrow.Author.Needs.{needs}
 use borrow.Author.Tests.{eq-eqb}
 use Rattle.transfer_rules.specs.Ends.{meetsTmc}
-use Rattle.panel.proofs.rows.met.Statement.{statement}
-use Rattle.panel.proofs.rows.met.Tie as tie
+use Rattle.panel.proofs.quiet.met.Statement.{statement}
+use Rattle.panel.proofs.quiet.met.Tie as tie
 
 returns : tie.Need-returns
 unfolding meetsTmc

@@ -1,19 +1,20 @@
--- `panel::rows::hop` meets its contract.
+-- `panel::quiet::hop` meets its contract.
 -- Assumes nothing.
 use borrow.Author.Needs.{needs}
 use borrow.Author.Tests.{not-false}
 use denote.Ref.{now}
+use mathlib.Core.Bool.{false}
 use mathlib.Core.Path.{sym, _∙_}
 use Rattle.ground_rules.specs.Buffers.{buffers}
-use Rattle.panel.proofs.RowLaws.{hop-is, hop-none}
-use Rattle.panel.proofs.rows.hop.Statement.{statement}
-use Rattle.panel.proofs.rows.hop.Tie as tie
+use Rattle.panel.proofs.QuietLaws.{hop-is, hop-none}
+use Rattle.panel.proofs.quiet.hop.Statement.{statement}
+use Rattle.panel.proofs.quiet.hop.Tie as tie
 
 returns : tie.Need-returns
-returns c = let a = c .before .before .before .before .before .before .before .before .args in hop-none (a .c) (a .source) (a .destination) (buffers (now (a .sys)) (now (a .io)))
+returns c = let a = c .before .before .before .before .before .before .before .before .args in hop-none false (a .c) (a .source) (a .destination) (buffers (now (a .sys)) (now (a .io)))
 
 returns-2 : tie.Need-returns-2
-returns-2 c = let a = c .before .before .before .before .before .before .before .before .before .before .args in hop-none (a .c) (a .source) (a .destination) (buffers (now (a .sys)) (now (a .io)))
+returns-2 c = let a = c .before .before .before .before .before .before .before .before .before .before .args in hop-none false (a .c) (a .source) (a .destination) (buffers (now (a .sys)) (now (a .io)))
 
 returns-3 : tie.Need-returns-3
 returns-3 c = let a = c .before .before .before .before .before .before .before .before .before .before .before .before .before .before .before .before .before .args in

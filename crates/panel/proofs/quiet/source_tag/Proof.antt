@@ -1,9 +1,9 @@
--- `panel::rows::source_tag` meets its contract.
+-- `panel::quiet::source_tag` meets its contract.
 -- Assumes nothing.
 use borrow.Author.Needs.{needs}
 use Rattle.panel.specs.Bursts.{sourceTag}
-use Rattle.panel.proofs.rows.source_tag.Statement.{statement}
-use Rattle.panel.proofs.rows.source_tag.Tie as tie
+use Rattle.panel.proofs.quiet.source_tag.Statement.{statement}
+use Rattle.panel.proofs.quiet.source_tag.Tie as tie
 
 returns : tie.Need-returns
 unfolding sourceTag

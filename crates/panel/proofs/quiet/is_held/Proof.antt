@@ -1,9 +1,9 @@
--- `panel::rows::is_held` meets its contract.
+-- `panel::quiet::is_held` meets its contract.
 -- Assumes nothing.
 use borrow.Author.Needs.{needs}
 use Rattle.panel.specs.Bursts.{isHeld}
-use Rattle.panel.proofs.rows.is_held.Statement.{statement}
-use Rattle.panel.proofs.rows.is_held.Tie as tie
+use Rattle.panel.proofs.quiet.is_held.Statement.{statement}
+use Rattle.panel.proofs.quiet.is_held.Tie as tie
 
 returns : tie.Need-returns
 unfolding isHeld

@@ -1,9 +1,9 @@
--- `panel::rows::destination_tag` meets its contract.
+-- `panel::quiet::destination_tag` meets its contract.
 -- Assumes nothing.
 use borrow.Author.Needs.{needs}
 use Rattle.panel.specs.Bursts.{destinationTag}
-use Rattle.panel.proofs.rows.destination_tag.Statement.{statement}
-use Rattle.panel.proofs.rows.destination_tag.Tie as tie
+use Rattle.panel.proofs.quiet.destination_tag.Statement.{statement}
+use Rattle.panel.proofs.quiet.destination_tag.Tie as tie
 
 returns : tie.Need-returns
 unfolding destinationTag

@@ -1,8 +1,8 @@
--- `panel::rows::onward` meets its contract.
+-- `panel::quiet::onward` meets its contract.
 -- Assumes nothing.
 use borrow.Author.Needs.{needs}
-use Rattle.panel.proofs.rows.onward.Statement.{statement}
-use Rattle.panel.proofs.rows.onward.Tie as tie
+use Rattle.panel.proofs.quiet.onward.Statement.{statement}
+use Rattle.panel.proofs.quiet.onward.Tie as tie
 
 returns : tie.Need-returns
 returns c = simp (c .sum20 .ensures, c .before .if1 .taken)
