@@ -161,12 +161,11 @@ static uint32_t choose_tp(struct random *d, const struct run_case *c, struct pla
     return below(d, lent > length ? lent - length : lent);
 }
 
-/* Puts parameter block, program and control block into memory. */
-static void place_image(struct random *d, struct run_case *c, struct placing how, const struct program *p)
+/* Puts parameter block, program and control block into memory, the first two at these addresses. */
+static void place_at(struct random *d, struct run_case *c, struct placing how, const struct program *p, uint32_t pb, uint32_t tp)
 {
     uint8_t block[6] = {choose_ccw(d, how), (uint8_t)below(d, 256), 0, 0, 0, 0};
     uint8_t words[4];
-    uint32_t pb = choose_pb(d, c, how), tp = choose_tp(d, c, how, pb, p->length);
     as_doubleword(d, pb, block + 2);
     as_doubleword(d, tp, words);
     if (how.in_io) {
@@ -176,6 +175,13 @@ static void place_image(struct random *d, struct run_case *c, struct placing how
     put_all(c, false, pb, words, how.in_io ? 2 : 4);
     put_all(c, how.in_io, tp, p->byte, p->length);
     put_all(c, false, c->channel == 2 ? c->cp + 8 : c->cp, block, sizeof block);
+}
+
+/* Puts them into memory, at addresses of its own choice. */
+static void place_image(struct random *d, struct run_case *c, struct placing how, const struct program *p)
+{
+    uint32_t pb = choose_pb(d, c, how), tp = choose_tp(d, c, how, pb, p->length);
+    place_at(d, c, how, p, pb, tp);
 }
 
 /* The arguments of a case that is about one pair: memory in which a program runs well. */
@@ -220,6 +226,51 @@ void make_case(struct run_case *c, uint64_t seed, uint64_t number)
     fill(&d, c->io, c->io_len);
     if (about_pair) put_pair(&d, c, (unsigned)(number / 3) & 0xFFFFu);
     else put_program(&d, c);
+}
+
+/* ---- The ends of memory ---- */
+
+/* A length of the memory whose end a program is about: just below the limit or at it, or a short one. */
+static size_t edge_length(struct random *d, enum edge edge, uint32_t limit, uint32_t least)
+{
+    if (edge == EDGE_TOP) return limit;
+    if (edge == EDGE_BOTH) return limit - 1 - below(d, 6);
+    if (edge == EDGE_SHORT) return least == 0 ? 1 + below(d, 7) : least;
+    return least + 8 + below(d, 120);
+}
+
+/* Where the program begins: within the seven bytes before the end or the top, or behind the end. */
+static uint32_t edge_start(struct random *d, enum edge edge, uint32_t limit, size_t length)
+{
+    if (edge == EDGE_TOP) return limit - 1 - below(d, 7);
+    if (edge == EDGE_BOTH) return (uint32_t)length - 1 - below(d, (uint32_t)length + 7 - limit);
+    if (edge == EDGE_SHORT) return below(d, (uint32_t)length);
+    if (edge == EDGE_BEHIND) return (uint32_t)length + below(d, 9);
+    return (uint32_t)length - 1 - below(d, 7);
+}
+
+enum edge make_edge_case(struct run_case *c, uint64_t seed, uint64_t number, bool in_io)
+{
+    struct random d = seeded(seed, number);
+    /* A system memory of fewer than eight bytes starts no program. */
+    enum edge edge = in_io ? (enum edge)(number % EDGES) : (enum edge[]){EDGE_END, EDGE_TOP, EDGE_BOTH, EDGE_BEHIND}[number % 4];
+    uint32_t limit = in_io ? 65536 : 1048576;
+    size_t length = edge_length(&d, edge, limit, in_io ? 0 : 96);
+    uint32_t start = edge_start(&d, edge, limit, length);
+    static struct program p;
+    c->sys_len = in_io ? 192 : length;
+    c->io_len = in_io ? length : 64;
+    c->cp = below(&d, 16);
+    c->channel = 1 + below(&d, 2);
+    c->lines = choose_lines(&d, c->channel);
+    c->limit = 1 + below(&d, 24);
+    fill(&d, c->sys, c->sys_len);
+    fill(&d, c->io, c->io_len);
+    new_program(&p, &d, c->sys_len, c->io_len);
+    if (chance(&d, 200)) write_noise(&p);
+    else write_rich(&p);
+    place_at(&d, c, (struct placing){in_io, true, 0}, &p, c->cp + 32, start);
+    return edge;
 }
 
 /* ---- Boards ---- */

@@ -4,6 +4,8 @@
 
 #include "programs.h"
 
+#include <stdbool.h>
+
 /* Room that each buffer of a case needs: its limit and one byte over. */
 #define CASE_SYSTEM_ROOM 1048577u
 #define CASE_IO_ROOM 65537u
@@ -17,6 +19,13 @@ struct run_case {
 
 /* Fills in the case of this seed and number. Of any 196,608 cases in a row a third hold each first pair once. */
 void make_case(struct run_case *c, uint64_t seed, uint64_t number);
+
+/* How the eight bytes lie from where a program begins: over the end of its memory; over the top of its space, the memory
+ * being whole; over both, the memory ending just below the top; in a memory of fewer than eight; behind the end. */
+enum edge { EDGE_END, EDGE_TOP, EDGE_BOTH, EDGE_SHORT, EDGE_BEHIND, EDGES };
+
+/* Fills in the case of this seed and number in which a program begins so, in system or I/O space; answers how it lies. */
+enum edge make_edge_case(struct run_case *c, uint64_t seed, uint64_t number, bool in_io);
 
 /* Puts a random program with its parameter block into memory that has bytes already, and the block that starts it where
  * the case's channel has it. */

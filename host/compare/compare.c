@@ -22,13 +22,21 @@ static struct emu_coverage coverage;
 static unsigned long numbers[EMU_NUMBERS];
 static uint64_t seed = 1, current;
 
+/* Every so many cases there is one more whose program begins about the end of its memory; which of these are made, if any,
+ * and how the last one lies. */
+enum { CASES_FOR_AN_EDGE = 100 };
+static enum { NO_EDGE, SYSTEM_EDGE, IO_EDGE } about = NO_EDGE;
+static enum edge edge;
+static unsigned long edges[2][EDGES];
+
 /* ---- Running one case ---- */
 
 /* Makes a case in a machine's memories. */
 static struct run_case make_in(const struct machine *m, uint64_t number)
 {
     struct run_case c = {m->memory[SYS], m->memory[IO], 0, 0, 0, 0, 0, 0};
-    make_case(&c, seed, number);
+    if (about == NO_EDGE) make_case(&c, seed, number);
+    else edge = make_edge_case(&c, seed, number, about == IO_EDGE);
     return c;
 }
 
@@ -174,10 +182,37 @@ static bool agree(uint64_t number)
     emu_coverage = NULL;
     uint32_t library = run_library(&c, c.limit);
     numbers[IOP89_NUMBER(emulator)]++;
+    if (about != NO_EDGE) edges[about == IO_EDGE][edge]++;
     return emulator == library && same_memories(&proved, &emulated, LENT_BY(&c));
 }
 
+/* Compares so many cases, shows the first differences, and answers how many there are. */
+static unsigned long long compare_runs(struct options o, uint64_t cases)
+{
+    unsigned long long differences = 0;
+    for (uint64_t i = o.first; i < o.first + cases; i++) {
+        if (agree(i)) continue;
+        if (differences++ < SHOWN_DIFFERENCES) show_difference(i);
+    }
+    return differences;
+}
+
 /* ---- What was met ---- */
+
+/* Prints how the programs lay that began about the end of their memory; a short system memory starts none. */
+static void print_edges(void)
+{
+    static const char *const names[EDGES] = {"over the end of memory", "over the top of a whole memory",
+                                             "over the end and the top", "in a memory of fewer than eight", "behind the end"};
+    char name[80];
+    puts("programs whose first eight bytes lie, in system and in I/O space:");
+    for (unsigned i = 0; i < EDGES; i++) {
+        snprintf(name, sizeof name, "system, %s", names[i]);
+        if (i != EDGE_SHORT) print_count(name, edges[0][i]);
+        snprintf(name, sizeof name, "I/O, %s", names[i]);
+        print_count(name, edges[1][i]);
+    }
+}
 
 /* The numbers that a run can answer: all but 8, 13, 14, 15 and 16, since it starts with idle channels from a CP, every
  * operation that writes CC renews its fields, and it makes no sweep and has no rows. */
@@ -199,13 +234,15 @@ int main(int count, char **words)
     made = new_machine();
     emulated = new_machine();
     proved = new_machine();
-    for (uint64_t i = o.first; i < o.first + o.cases; i++) {
-        if (agree(i)) continue;
-        if (differences++ < SHOWN_DIFFERENCES) show_difference(i);
-    }
+    differences += compare_runs(o, o.cases);
+    about = SYSTEM_EDGE;
+    differences += compare_runs(o, o.cases / CASES_FOR_AN_EDGE);
+    about = IO_EDGE;
+    differences += compare_runs(o, o.cases / CASES_FOR_AN_EDGE);
     print_options(&comparison, o);
     print_numbers("answers", numbers, RUN_NUMBERS);
     print_coverage(&coverage, FRESH_COMMANDS);
     print_pairs(&coverage, PAIRS_UNDISTURBED);
+    print_edges();
     return conclude(&comparison, o, differences);
 }

@@ -1,29 +1,23 @@
 -- The laws of bytes as one number: the digits of four and of eight bytes at a place are those bytes, what instructions take from them is what the rules read there, and bytes in one piece are those of the buffer.
 -- Assumes nothing.
-use Prim.Native.Nat.{ℕ, zero, suc, _+_, _-_, _*_, _/_, _%_, _<_, _≤_}
-use borrow.Author.Tests.{eq-eqb, ne-eqb, leb-true, le-leb}
-use lib.Dec.{eqb, leb}
-use lib.ListN.{length, getD}
-use lib.Seq.{set-getD, getD-set-same}
-use mathlib.Core.Bool.{Bool, true, false, _&&_, _||_}
-use mathlib.Core.List.{List}
-use mathlib.Core.Path.{_≡_, refl, sym, ap, ap₂, _∙_}
-use native.Mathlib.Nat.{add-assoc, add-zero}
+use Prim.Native.Nat.{ℕ, _+_, _-_, _*_, _/_, _%_, _<_}
+use borrow.Author.Tests.{eq-eqb, ne-eqb}
+use lib.Dec.{eqb}
+use mathlib.Core.Bool.{Bool}
+use mathlib.Core.Path.{_≡_, sym, ap, _∙_}
+use native.Mathlib.Nat.{add-assoc}
 use native.Mathlib.Omega.{arith}
-use Rattle.ground_rules.specs.Buffers.{Buffers, spaceOf, limitOf, indexOf, beyondIn, lentAt, byteAt, AllBytes}
+use Rattle.ground_rules.specs.Buffers.{Buffers, byteAt, AllBytes}
 use Rattle.ground_rules.specs.Choice.{pick}
-use Rattle.ground_rules.specs.Places.{span, allPass, allTouchable}
 use Rattle.ground_rules.specs.Stored.{storedAddress, storedTag}
 use Rattle.ground_rules.specs.Sums.{sum20, addressOf}
 use Rattle.ground_rules.specs.Values.{wordAt, doublewordAt, pointer, onward, pointerAt}
 use Rattle.ground_rules.specs.declared.Channel.{Channel}
 use Rattle.ground_rules.specs.declared.Pointer.{Pointer}
-use Rattle.ground_rules.proofs.ChoiceLaws.{both-left, both-right}
 use Rattle.ground_rules.proofs.PlaceLaws.{index-after, byte-index, byte-reduced}
-use Rattle.ground_rules.proofs.SpanLaws.{span-io, span-system, span-tests}
 use Rattle.instruction_rules.specs.Lengths.{offsetBy}
 use Rattle.instruction_rules.specs.Operands.{operandAt, displacementAt, landing}
-use Rattle.execute.specs.Bytes.{fourFrom, eightFrom, fourAt, eightAt, operandOfFour, landingBy}
+use Rattle.execute.specs.Bytes.{fourAt, eightAt, operandOfFour, landingBy}
 use Rattle.execute.specs.Findings.{behindAt, indexNamed}
 
 -- ---- digits of numbers

@@ -12,7 +12,7 @@ use mir.Facts.{toZ-ofZ, toZ-pos}
 use mir.Syntax.{w32}
 use mir.Val.{SFits, toZ, ofZ}
 use native.Mathlib.Decide.{decLt}
-use native.Mathlib.Nat.{mod-eq-of-lt, lt-of-lt-of-le}
+use native.Mathlib.Nat.{mod-eq-of-lt}
 use native.Mathlib.Omega.{arith}
 use Rattle.ground_rules.specs.Choice.{pick}
 use Rattle.ground_rules.specs.Signs.{signedOf, extended, displacedBy}

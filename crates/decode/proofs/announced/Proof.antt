@@ -1,7 +1,6 @@
 -- `decode::announced` meets its contract: its digits are the rule's.
 -- Assumes nothing.
 use borrow.Author.Needs.{needs}
-use native.Mathlib.Omega.{arith}
 use Rattle.decode.proofs.CellLaws.{announced-digit}
 use Rattle.decode.proofs.announced.Statement.{statement}
 use Rattle.decode.proofs.announced.Tie as tie

@@ -1,12 +1,9 @@
 -- `decode::look_up` meets its contract: one cell stands for the rows and gives the length.
 -- Assumes nothing.
 use borrow.Author.Needs.{needs}
-use mathlib.Core.Path.{_≡_, refl, sym, _∙_}
-use Prim.Native.Nat.{ℕ}
+use mathlib.Core.Path.{sym, _∙_}
 use Rattle.instruction_rules.specs.Pairs.{pairOf}
-use Rattle.instruction_rules.specs.declared.Decoded.{Decoded}
 use Rattle.instruction_rules.specs.Reading.{decodeOf}
-use Rattle.instruction_rules.specs.Lengths.{pairLength}
 use Rattle.decode.proofs.CellLaws.{by-cell, two-bits, length-by-cell}
 use Rattle.decode.proofs.look_up.Statement.{statement}
 use Rattle.decode.proofs.look_up.Tie as tie

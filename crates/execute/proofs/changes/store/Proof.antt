@@ -3,7 +3,6 @@
 use borrow.Author.Needs.{needs}
 use denote.Ref.{now}
 use mathlib.Core.Path.{sym, _∙_}
-use Rattle.ground_rules.specs.Sums.{sum20}
 use Rattle.ground_rules.proofs.PlaceLaws.{store-reduced}
 use Rattle.ground_rules.specs.Buffers.{buffers}
 use Rattle.ground_rules.specs.Values.{pointer}

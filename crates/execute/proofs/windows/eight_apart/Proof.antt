@@ -7,7 +7,6 @@ use mathlib.Core.Bool.{Bool, true, false}
 use mathlib.Core.Path.{refl, sym, ap, _∙_}
 use native.Mathlib.Omega.{arith}
 use Rattle.ground_rules.specs.Buffers.{buffers, spaceOf, limitOf, indexOf, beyondIn}
-use Rattle.ground_rules.specs.Sums.{sum20}
 use Rattle.execute.specs.Bytes.{overBy, eightFrom, eightAt}
 use Rattle.execute.proofs.PieceLaws.{reach-length, over-tests, over-end, over-again}
 use Rattle.execute.proofs.WindowLaws.{four-sum}

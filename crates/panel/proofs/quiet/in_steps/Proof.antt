@@ -1,6 +1,5 @@
 -- `panel::quiet::in_steps` meets its contract.
 -- Assumes nothing.
-use borrow.Author.Needs.{needs}
 use Rattle.panel.proofs.quiet.in_steps.Statement.{statement}
 use Rattle.panel.proofs.quiet.in_steps.Tie as tie
 

@@ -2,26 +2,18 @@
 -- Assumes nothing.
 use Prim.Native.Nat.{ℕ, _+_, _-_, _≤_}
 use borrow.Author.Needs.{needs}
-use denote.Ref.{now}
 use lib.ListN.{length}
-use mathlib.Core.Bool.{Bool}
 use mathlib.Core.Path.{_≡_, refl, sym, ap, _∙_}
 use native.Mathlib.Omega.{arith}
 use Rattle.ground_rules.specs.Buffers.{Buffers, buffers}
 use Rattle.ground_rules.specs.Psw.{transferring}
 use Rattle.ground_rules.specs.declared.Channel.{Channel}
-use Rattle.panel.specs.Bursts.{BurstLeft, burstFrom, moves, transfersOn, keptAt, isHeld, heldByte, carriedAs}
-use Rattle.panel.specs.declared.quiet.Hops.{Hops}
+use Rattle.panel.specs.Bursts.{BurstLeft, burstFrom, moves, transfersOn, carriedAs}
 use Rattle.panel.proofs.BurstLaws.{burst-limit}
-use Rattle.panel.proofs.RowLaws.{carried-kept, carried-psw, row-stops, row-ends, row-goes}
+use Rattle.panel.proofs.RowLaws.{carried-psw, row-stops, row-ends, row-goes}
+use Rattle.panel.proofs.QuietLaws.{row-begins}
 use Rattle.panel.proofs.rows.row.Statement.{statement}
 use Rattle.panel.proofs.rows.row.Tie as tie
-
--- the row begins where quiet steps ended
-start : (c : Channel) (q : Hops) (m m₀ : Buffers) (holds : Bool) (byte from stop : ℕ) → holds ≡ isHeld (c .held) → byte ≡ heldByte (c .held)
-    → burstFrom moves transfersOn (stop - q .steps) (keptAt c (q .source) (q .destination) (q .bc)) m (q .steps) ≡ burstFrom moves transfersOn (stop - from) c m₀ from
-    → burstFrom moves transfersOn (stop - q .steps) (carriedAs c (record { source = q .source; destination = q .destination; bc = q .bc; holds = holds; byte = byte })) m (q .steps) ≡ burstFrom moves transfersOn (stop - from) c m₀ from
-start c q m m₀ holds byte from stop eh eb e = ap (λ (x : Channel). burstFrom moves transfersOn (stop - q .steps) x m (q .steps)) (carried-kept c (q .source) (q .destination) (q .bc) holds byte eh eb) ∙ e
 
 -- one step less is left
 again : (n : Channel) (m : Buffers) (stop done : ℕ) (x : BurstLeft) → burstFrom moves transfersOn (stop - done - 1) n m (done + 1) ≡ x → burstFrom moves transfersOn (stop - (done + 1)) n m (done + 1) ≡ x
@@ -56,7 +48,7 @@ returns c =
     rw (c .stood2 .ensures)
     (row-stops (carriedAs (a .c) (l .p)) (c .before .before .before .before .before .before .before .before .before .before .stood .result) (c .before .before .before .before .before .before .before .comes-to .result) (buffers (l .sys) (l .io)) _ (c .before .before .before .before .before .before .before .before .before .before .stood .ensures) (c .before .before .before .before .before .before .before .comes-to .ensures .0) (l .done) (a .stop - l .done) (omega (arith, c .before .before .before .before .before .before .before .before .before .before .before .loop-test .taken)) (c .before .if1 .taken)
     ∙ l .inv .3
-    ∙ start (a .c) (c .before .before .before .before .before .before .before .before .before .before .before .before .before .before .before .before .before .before .before .quiet .result) _ _ (c .before .before .before .before .before .before .before .before .before .before .before .before .before .before .is-held .result) (c .before .before .before .before .before .before .before .before .before .before .before .before .before .held-byte .result) (a .from) (a .stop) (c .before .before .before .before .before .before .before .before .before .before .before .before .before .before .is-held .ensures) (c .before .before .before .before .before .before .before .before .before .before .before .before .before .held-byte .ensures) (c .before .before .before .before .before .before .before .before .before .before .before .before .before .before .before .before .before .before .before .quiet .ensures .1))
+    ∙ row-begins (a .c) (c .before .before .before .before .before .before .before .before .before .before .before .before .before .before .before .before .before .before .before .quiet .result) _ _ (c .before .before .before .before .before .before .before .before .before .before .before .before .before .before .is-held .result) (c .before .before .before .before .before .before .before .before .before .before .before .before .before .held-byte .result) (a .from) (a .stop) (c .before .before .before .before .before .before .before .before .before .before .before .before .before .before .is-held .ensures) (c .before .before .before .before .before .before .before .before .before .before .before .before .before .held-byte .ensures) (c .before .before .before .before .before .before .before .before .before .before .before .before .before .before .before .before .before .before .before .quiet .ensures))
 
 add-done : tie.Need-add-done Inv-loop μ-loop
 add-done c = omega (arith, c .before .before .before .before .before .before .before .before .before .before .before .loop-test .taken, c .before .before .before .before .before .before .before .before .before .before .before .before .before .before .before .before .before .before .before .before .before .before .before .before .fits .stop .fits)
@@ -74,7 +66,7 @@ returns-2 c =
     rw (c .ended .ensures)
     (row-ends (carriedAs (a .c) (l .p)) (c .before .before .before .before .before .before .before .before .before .before .before .before .before .before .stood .result) (c .before .before .before .before .before .before .before .before .before .before .before .comes-to .result) (buffers (l .sys) (l .io)) _ (c .before .before .before .before .before .before .before .before .before .before .before .before .before .before .stood .ensures) (c .before .before .before .before .before .before .before .before .before .before .before .comes-to .ensures .0) (l .done) (a .stop - l .done) (omega (arith, c .before .before .before .before .before .before .before .before .before .before .before .before .before .before .before .loop-test .taken)) (c .before .before .before .before .before .if1 .left) (sym (c .before .before .before .ends .ensures) ∙ c .before .before .if2 .taken) (c .before .stood3 .result) (c .before .stood3 .ensures ∙ c .before .before .before .before .next .ensures)
     ∙ l .inv .3
-    ∙ start (a .c) (c .before .before .before .before .before .before .before .before .before .before .before .before .before .before .before .before .before .before .before .before .before .before .before .quiet .result) _ _ (c .before .before .before .before .before .before .before .before .before .before .before .before .before .before .before .before .before .before .is-held .result) (c .before .before .before .before .before .before .before .before .before .before .before .before .before .before .before .before .before .held-byte .result) (a .from) (a .stop) (c .before .before .before .before .before .before .before .before .before .before .before .before .before .before .before .before .before .before .is-held .ensures) (c .before .before .before .before .before .before .before .before .before .before .before .before .before .before .before .before .before .held-byte .ensures) (c .before .before .before .before .before .before .before .before .before .before .before .before .before .before .before .before .before .before .before .before .before .before .before .quiet .ensures .1))
+    ∙ row-begins (a .c) (c .before .before .before .before .before .before .before .before .before .before .before .before .before .before .before .before .before .before .before .before .before .before .before .quiet .result) _ _ (c .before .before .before .before .before .before .before .before .before .before .before .before .before .before .before .before .before .before .is-held .result) (c .before .before .before .before .before .before .before .before .before .before .before .before .before .before .before .before .before .held-byte .result) (a .from) (a .stop) (c .before .before .before .before .before .before .before .before .before .before .before .before .before .before .before .before .before .before .is-held .ensures) (c .before .before .before .before .before .before .before .before .before .before .before .before .before .before .before .before .before .held-byte .ensures) (c .before .before .before .before .before .before .before .before .before .before .before .before .before .before .before .before .before .before .before .before .before .before .before .quiet .ensures))
 
 loop-less : tie.Need-loop-less Inv-loop μ-loop
 loop-less c = omega (arith, c .before .before .before .before .before .before .before .before .before .before .before .before .before .loop-test .taken)
@@ -105,7 +97,7 @@ returns-3 c =
     rw (c .stood4 .ensures)
     (sym (burst-limit moves transfersOn (carriedAs (a .c) (l .p)) (buffers (l .sys) (l .io)) (l .done) (a .stop - l .done) (omega (arith, c .before .loop-test .left)))
     ∙ l .inv .3
-    ∙ start (a .c) (c .before .before .before .before .before .before .before .before .before .quiet .result) _ _ (c .before .before .before .before .is-held .result) (c .before .before .before .held-byte .result) (a .from) (a .stop) (c .before .before .before .before .is-held .ensures) (c .before .before .before .held-byte .ensures) (c .before .before .before .before .before .before .before .before .before .quiet .ensures .1))
+    ∙ row-begins (a .c) (c .before .before .before .before .before .before .before .before .before .quiet .result) _ _ (c .before .before .before .before .is-held .result) (c .before .before .before .held-byte .result) (a .from) (a .stop) (c .before .before .before .before .is-held .ensures) (c .before .before .before .held-byte .ensures) (c .before .before .before .before .before .before .before .before .before .quiet .ensures))
 
 pub row-spec : {M : Type 1} → statement M
 row-spec =
