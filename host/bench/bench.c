@@ -105,6 +105,17 @@ static const uint8_t transfer[] = {
     0x00, 0x00,                         /* NOP                                       */
 };
 
+/* The same between odd addresses, 401h and 801h: the first step moves one byte, the others two. */
+static const uint8_t odd_transfer[] = {
+    0x11, 0x08, 0x01, 0x00, 0x40, 0x00, /* LPDI GA,1,40H: 401h                       */
+    0x31, 0x08, 0x01, 0x00, 0x80, 0x00, /* LPDI GB,1,80H: 801h                       */
+    0x71, 0x30, 0x00, 0x80,             /* MOVI BC,8000H: more than any run moves    */
+    0xD1, 0x30, 0x08, 0xC0,             /* MOVI CC,0C008H: another is put in         */
+    0x80, 0x00,                         /* WID  8,8: another is put in               */
+    0x60, 0x00,                         /* XFER                                      */
+    0x00, 0x00,                         /* NOP                                       */
+};
+
 /* The same to I/O space; with eight steps before it starts its parts stand where the first has them. */
 static const uint8_t to_port[] = {
     0x11, 0x08, 0x00, 0x00, 0x40, 0x00, /* LPDI GA,0,40H: 400h                       */
@@ -172,6 +183,7 @@ static const struct workload workloads[] = {
     {"requested-16/16", transfer, sizeof transfer, WID_16_16, FROM_CC, IOP89_DRQ1, IN_SYSTEM},
     {"two-fetches", transfer, sizeof transfer, WID_8_16, FROM_CC, IOP89_DRQ1, IN_SYSTEM},
     {"two-stores", transfer, sizeof transfer, WID_16_8, TO_CC, IOP89_DRQ1, IN_SYSTEM},
+    {"odd-16/16", odd_transfer, sizeof odd_transfer, WID_16_16, PLAIN_CC, 0, IN_SYSTEM},
     {"port-8/8", to_port, sizeof to_port, WID_8_8, PORT_CC, 0, IN_SYSTEM},
     {"port-16/16", to_port, sizeof to_port, WID_16_16, PORT_CC, 0, IN_SYSTEM},
     {"slot-8/8", to_port, sizeof to_port, WID_8_8, PORT_CC, 0, IN_SYSTEM},

@@ -9,6 +9,9 @@ ghost use Rattle.ground_rules.specs.Buffers.{lent, AllBytes};
 ghost use Rattle.ground_rules.specs.Places.{span, allTouchable};
 ghost use Rattle.execute.specs.Bytes.{reachable, overBy, fourFrom, eightFrom, fourAt, eightAt};
 
+// Eight bytes of empty slots.
+const EMPTY_SLOTS: u64 = 0xFFFF_FFFF_FFFF_FFFF;
+
 // How many bytes of a buffer addresses reach, `most` at the most. It does not hang on a place, so that a place is tested by
 // one comparison.
 fn within(space: &[u8], most: usize) -> usize
@@ -86,7 +89,7 @@ fn eight_apart(tag: bool, address: u32, sys: &[u8], io: &[u8]) -> u64
         let end = within(io, 65536);
         if (8 <= end) & (at < end) & (end < at + 8) {
             if at + 8 <= 65536 {
-                return over(io, at, end, 18446744073709551615);
+                return over(io, at, end, EMPTY_SLOTS);
             }
             if 65536 <= io.len() {
                 return over(io, at, end, eight_of(io, 0));

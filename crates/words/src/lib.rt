@@ -95,8 +95,8 @@ pub fn count_down(count: u16, by: u16) -> u16
     std::num::wrapping_sub_u16(count, by)
 }
 
-// A byte, sign-extended to 20 bits: its halves change places, and 128 is taken off. So written it is one instruction, which
-// it is not by cases.
+// A byte, sign-extended to 20 bits: the two halves of the numbers change places, and 128 is taken off. The compiler knows
+// this for one instruction.
 pub fn extend_byte(x: u8) -> u32
     ensures { λ r. ⌜ r ≡ extended 8 x ⌝ }
 {
@@ -110,7 +110,7 @@ pub fn extend_word(x: u16) -> u32
     std::num::wrapping_add_u32((x as u32 + 32768) % 65536, 4294934528) % 1048576
 }
 
-// The signed displacement of one byte, its halves changing places too.
+// The signed displacement of one byte, worked out likewise.
 pub fn displacement_byte(x: u8) -> i32
     ensures { λ r. ⌜ r ≡ signedOf 8 x ⌝ }
 {
