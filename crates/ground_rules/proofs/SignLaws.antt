@@ -80,6 +80,18 @@ extended-signed k x h₁ h₂ hx = go (decLt x (2 ^ (k - 1)))
         rw (le-ltb x (2 ^ (k - 1)) large, le-ltb (x + (1048576 - 2 ^ k)) 524288 big)
         (ap negsuc (omega (arith, most, hx)))
 
+-- the numbers of k bits, their halves exchanged, less 2 ^ (k - 1), in 32 bits and then in 20, are extended
+pub halves-extended : (k x y : ℕ) → 2 ^ (k - 1) ≤ 32768 → 2 ^ k ≡ 2 ^ (k - 1) * 2 → x < 2 ^ k
+    → (x < 2 ^ (k - 1) → y ≡ x + 2 ^ (k - 1)) → (2 ^ (k - 1) ≤ x → y + 2 ^ (k - 1) ≡ x) → (y + (4294967296 - 2 ^ (k - 1))) % 4294967296 % 1048576 ≡ extended k x
+unfolding extended
+halves-extended k x y few double hx low high = by (decLt x (2 ^ (k - 1)))
+  where
+    by : Dec (x < 2 ^ (k - 1)) → (y + (4294967296 - 2 ^ (k - 1))) % 4294967296 % 1048576 ≡ pick (ltb x (2 ^ (k - 1))) x (x + (1048576 - 2 ^ k))
+    by (yes h) = rw (lt-ltb x (2 ^ (k - 1)) h) (omega (arith, few, low h, h))
+    by (no h) =
+        let most : 2 ^ (k - 1) ≤ x = omega (arith, h) in
+        rw (le-ltb x (2 ^ (k - 1)) most) (omega (arith, few, double, hx, high most))
+
 -- an extended number is one of 20 bits
 pub extended-lt : (k x : ℕ) → k ≤ 20 → x < 2 ^ k → extended k x < 1048576
 unfolding extended

@@ -205,6 +205,7 @@ fn quick(c: Channel, bc: u16, sys: &mut [u8], io: &mut [u8], from: u16, stop: u1
     let end = reach(c, false, is_narrow(c), bc, from, stop);
     let mut source = stands(c, f.sourceIsGB);
     let mut destination = stands(c, !f.sourceIsGB);
+    // A side goes on by a sum: by one byte, or by none where it stays.
     let from_by = chosen(f.sourceMoves, 1, 0);
     let into_by = chosen(f.destinationMoves, 1, 0);
     let mut done = from;
@@ -291,6 +292,7 @@ fn pairs(c: Channel, bc: u16, sys: &mut [u8], io: &mut [u8], from: u16, stop: u1
     let from_word = word_side_at(machine::psw::source_wide(c.psw), source);
     let into_word = word_side_at(machine::psw::destination_wide(c.psw), destination);
     let end = reach(c, true, is_paired(c, from_word, into_word), bc, from, stop);
+    // By two bytes, or by none.
     let from_by = chosen(f.sourceMoves, 2, 0);
     let into_by = chosen(f.destinationMoves, 2, 0);
     let mut done = from;
